@@ -1,0 +1,6 @@
+pub mod Fronts
+pub mod UsableHeads
+pub mod ReadHeads
+mod ItemReader
+pub mod UniqueSpelling
+mod ShortestHead

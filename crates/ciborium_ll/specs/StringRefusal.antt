@@ -1,0 +1,47 @@
+-- When a string is refused whose head is usable (RFC 8949, sections 3.1 and 3.2.3).
+use Rattle.std.specs.Prelude.{◌≡◌, ℕ, ◌+◌, ◌<◌, ◌≤◌, List, ◌∷◌, ◌++◌, length, IsUtf8}
+use Rattle.ciborium_ll.specs.Bytes.{greatest_offset}
+use Rattle.ciborium_ll.specs.Head.{open_byte, break_byte}
+use Rattle.ciborium_ll.specs.Spells.{AnyBytes, AreParts}
+use Rattle.ciborium_ll.specs.Refusal.{Refusal, io, syntax, HeadRefuses, IsUsable, HeadStands, BeginsWith}
+
+-- the two kinds of string
+pub data StringKind : Type 0 where
+  of_bytes : StringKind
+  of_text : StringKind
+
+-- the major type of a kind
+abbrev pub major_of : StringKind → ℕ
+major_of of_bytes = 2
+major_of of_text = 3
+
+-- what a definite string of a kind may hold
+abbrev pub Allowed : StringKind → List ℕ → Type 0
+Allowed of_bytes payload = AnyBytes payload
+Allowed of_text payload = IsUtf8 payload
+
+-- a definite string at offset p: the bytes end inside its payload, or the payload was read whole and is not UTF-8
+pub data StringRefuses (kind : StringKind) : List ℕ → ℕ → Refusal → Type 0 where
+  ends_early : {b : List ℕ} {p : ℕ} (n k : ℕ) (r : List ℕ) →
+      HeadStands b (major_of kind) n k r → length r < n → StringRefuses kind b p io
+  not_allowed : {b : List ℕ} {p : ℕ} (k : ℕ) (payload r : List ℕ) →
+      HeadStands b (major_of kind) (length payload) k (payload ++ r) → ¬ Allowed kind payload → StringRefuses kind b p (syntax p)
+
+-- a definite string of a kind begins here
+abbrev pub BeginsString : StringKind → List ℕ → Type 0
+BeginsString kind b = (n : ℕ) × (k : ℕ) × (r : List ℕ) × HeadStands b (major_of kind) n k r
+
+-- a part of an open string at offset p: its head refuses, it refuses as a string of the kind, or it is neither such a string
+-- nor the break
+pub data PartRefuses (kind : StringKind) : List ℕ → ℕ → Refusal → Type 0 where
+  no_head : {b : List ℕ} {p : ℕ} {e : Refusal} → HeadRefuses b p e → PartRefuses kind b p e
+  part : {b : List ℕ} {p : ℕ} {e : Refusal} → IsUsable b p → StringRefuses kind b p e → PartRefuses kind b p e
+  other : {b : List ℕ} {p : ℕ} →
+      IsUsable b p → ¬ BeginsString kind b → ¬ BeginsWith break_byte b → PartRefuses kind b p (syntax p)
+
+-- an open string at offset p: behind good parts, which end within the greatest offset, a part refuses
+abbrev pub OpenStringRefuses : StringKind → List ℕ → ℕ → Refusal → Type 0
+OpenStringRefuses kind b p e =
+    (good : List ℕ) × (payloads : List (List ℕ)) × (r : List ℕ) × AreParts (major_of kind) (Allowed kind) good payloads ×
+    (p + 1 + length good ≤ greatest_offset) × (b ≡ open_byte (major_of kind) ∷ (good ++ r)) ×
+    PartRefuses kind r (p + 1 + length good) e

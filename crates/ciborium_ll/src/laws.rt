@@ -1,0 +1,20 @@
+//! What holds of heads and of spellings, whatever the code: each law is the contract of a function
+//! that does nothing.
+
+ghost use Rattle.ciborium_ll.specs.Laws.{NoOtherIsAsShort, NoneBeginsAnother, NoneIsShorter, OneAtFront, OneItem, ShortestIsHead};
+
+/// No spelling of an item is a proper beginning of a spelling of any item, and no bytes spell two
+/// items (RFC 8949, section 3).
+pub fn unique_spelling()
+    ensures prefix_free { NoneBeginsAnother }
+    ensures one_item { OneItem }
+    ensures at_front { OneAtFront }
+{}
+
+/// The shortest head of a major type with an argument is a head of them, none of theirs is
+/// shorter, and no other is as short (RFC 8949, section 4.1).
+pub fn shortest_head()
+    ensures is_head { ShortestIsHead }
+    ensures none_shorter { NoneIsShorter }
+    ensures no_other { NoOtherIsAsShort }
+{}

@@ -1,0 +1,4 @@
+//! The lowest layer of CBOR (RFC 8949): what heads, items and their spellings are.
+#![tactic(auto)]
+
+pub mod laws;

@@ -1,0 +1,133 @@
+-- What writing puts out (RFC 8949, section 4.1; lengths: section 4.2.1).
+use Rattle.std.specs.Prelude.{◌≡◌, ℕ, ◌-◌, ◌^◌, min, ℤ, pos, negsuc, List, [], ◌∷◌, ◌++◌, length, Bool, true, false, if◌then◌else◌, nat_lt, ◌⊎◌}
+use Rattle.ciborium_ll.specs.Head.{shortest_head, initial_byte, open_byte, break_byte}
+use Rattle.ciborium_ll.specs.Item.{Item, unsigned, negative, bytes, text, array, map, tag, simple, float, Items, no_items, item, Pairs, no_pairs, pair, items_count, pairs_count}
+use Rattle.ciborium_value.specs.Tree as tree
+use Rattle.ciborium_value.specs.Tree.{Tree, Trees, TreePairs}
+
+-- ---- the item of a tree
+
+abbrev pub integer_item : ℤ → Item
+integer_item (pos n) = unsigned n
+integer_item (negsuc n) = negative n
+
+abbrev pub boolean_item : Bool → Item
+boolean_item false = simple 20
+boolean_item true = simple 21
+
+abbrev mutual
+  -- every string, array and map is definite, and nothing is folded
+  pub item_of : Tree → Item
+  item_of (tree.integer z) = integer_item z
+  item_of (tree.bytes b) = bytes false b
+  item_of (tree.text b) = text false b
+  item_of (tree.boolean b) = boolean_item b
+  item_of tree.null = simple 22
+  item_of (tree.tag t v) = tag t (item_of v)
+  item_of (tree.array vs) = array false (items_of vs)
+  item_of (tree.map ps) = map false (pairs_of ps)
+
+  pub items_of : Trees → Items
+  items_of tree.no_trees = no_items
+  items_of (tree.tree v vs) = item (item_of v) (items_of vs)
+
+  pub pairs_of : TreePairs → Pairs
+  pairs_of tree.no_tree_pairs = no_pairs
+  pairs_of (tree.tree_pair k v ps) = pair (item_of k) (item_of v) (pairs_of ps)
+
+-- ---- the bytes of an item
+
+-- the parts of an array or map: behind the shortest head with their count, or between an open initial byte and the break
+abbrev pub enclosed : Bool → ℕ → ℕ → List ℕ → List ℕ
+enclosed false major count r = shortest_head major count ++ r
+enclosed true major count r = open_byte major ∷ (r ++ (break_byte ∷ []))
+
+-- a string; an open one as a single part
+abbrev pub string_bytes : Bool → ℕ → List ℕ → List ℕ
+string_bytes false major b = shortest_head major (length b) ++ b
+string_bytes true major b = open_byte major ∷ ((shortest_head major (length b) ++ b) ++ (break_byte ∷ []))
+
+-- a simple value, in one byte where it can be
+abbrev pub simple_bytes : ℕ → List ℕ
+simple_bytes n = if nat_lt n 24 then initial_byte 7 n ∷ [] else 0xf8 ∷ n ∷ []
+
+-- a float by its raw bytes
+abbrev pub float_bytes : List ℕ → List ℕ
+float_bytes raw = if nat_lt (length raw) 3 then 0xf9 ∷ raw else if nat_lt (length raw) 5 then 0xfa ∷ raw else 0xfb ∷ raw
+
+abbrev mutual
+  -- the spelling in which every head is the shortest
+  pub written_bytes : Item → List ℕ
+  written_bytes (unsigned n) = shortest_head 0 n
+  written_bytes (negative n) = shortest_head 1 n
+  written_bytes (bytes open_ b) = string_bytes open_ 2 b
+  written_bytes (text open_ b) = string_bytes open_ 3 b
+  written_bytes (array open_ is) = enclosed open_ 4 (items_count is) (items_bytes is)
+  written_bytes (map open_ ps) = enclosed open_ 5 (pairs_count ps) (pairs_bytes ps)
+  written_bytes (tag t i) = shortest_head 6 t ++ written_bytes i
+  written_bytes (simple n) = simple_bytes n
+  written_bytes (float raw) = float_bytes raw
+
+  pub items_bytes : Items → List ℕ
+  items_bytes no_items = []
+  items_bytes (item i is) = written_bytes i ++ items_bytes is
+
+  pub pairs_bytes : Pairs → List ℕ
+  pairs_bytes no_pairs = []
+  pairs_bytes (pair k v ps) = written_bytes k ++ (written_bytes v ++ pairs_bytes ps)
+
+-- the one shortest definite encoding of a tree
+abbrev pub encoding : Tree → List ℕ
+encoding v = written_bytes (item_of v)
+
+-- the length of the encoding, counted up to the greatest `u64`
+abbrev pub encoded_size : Tree → ℕ
+encoded_size v = min (length (encoding v)) (2 ^ 64 - 1)
+
+-- ---- the items that writing of typed values can put out
+
+abbrev mutual
+  -- no open string, no float, and no simple value but false, true and null; arrays and maps may be open
+  pub IsWritten : Item → Type 0
+  IsWritten (unsigned n) = Unit {0}
+  IsWritten (negative n) = Unit {0}
+  IsWritten (bytes open_ b) = open_ ≡ false
+  IsWritten (text open_ b) = open_ ≡ false
+  IsWritten (array open_ is) = AreWritten is
+  IsWritten (map open_ ps) = PairsAreWritten ps
+  IsWritten (tag t i) = IsWritten i
+  IsWritten (simple n) = (n ≡ 20) ⊎ (n ≡ 21) ⊎ (n ≡ 22)
+  IsWritten (float raw) = ⊥
+
+  pub AreWritten : Items → Type 0
+  AreWritten no_items = Unit {0}
+  AreWritten (item i is) = IsWritten i × AreWritten is
+
+  pub PairsAreWritten : Pairs → Type 0
+  PairsAreWritten no_pairs = Unit {0}
+  PairsAreWritten (pair k v ps) = IsWritten k × IsWritten v × PairsAreWritten ps
+
+-- false, true, and null for every other simple value
+abbrev pub simple_tree : ℕ → Tree
+simple_tree n = if nat_lt n 21 then tree.boolean false else if nat_lt n 22 then tree.boolean true else tree.null
+
+abbrev mutual
+  -- the tree of a written item, nothing folded
+  pub written_tree : Item → Tree
+  written_tree (unsigned n) = tree.integer (pos n)
+  written_tree (negative n) = tree.integer (negsuc n)
+  written_tree (bytes open_ b) = tree.bytes b
+  written_tree (text open_ b) = tree.text b
+  written_tree (array open_ is) = tree.array (written_trees is)
+  written_tree (map open_ ps) = tree.map (written_pairs ps)
+  written_tree (tag t i) = tree.tag t (written_tree i)
+  written_tree (simple n) = simple_tree n
+  written_tree (float raw) = tree.null
+
+  pub written_trees : Items → Trees
+  written_trees no_items = tree.no_trees
+  written_trees (item i is) = tree.tree (written_tree i) (written_trees is)
+
+  pub written_pairs : Pairs → TreePairs
+  written_pairs no_pairs = tree.no_tree_pairs
+  written_pairs (pair k v ps) = tree.tree_pair (written_tree k) (written_tree v) (written_pairs ps)

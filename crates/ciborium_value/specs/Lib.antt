@@ -1,0 +1,11 @@
+pub mod Tree
+pub mod Meaning
+pub mod Nesting
+pub mod Folded
+pub mod Proper
+pub mod Refuses
+pub mod Encoding
+pub mod Canonical
+pub mod Counts
+pub mod Laws
+pub mod Examples

@@ -1,0 +1,29 @@
+-- Trees that a program can hold: Integers within CBOR's range, bytes below 256, UTF-8, and no length or count past the greatest `usize`.
+use Rattle.std.specs.Prelude.{◌≤◌, ℤ, pos, negsuc}
+use Rattle.ciborium_ll.specs.Bytes.{greatest_offset}
+use Rattle.ciborium_ll.specs.Proper.{IsArgument, IsProperBytes, IsProperText}
+use Rattle.ciborium_value.specs.Tree.{Tree, integer, bytes, text, boolean, null, tag, array, map, Trees, no_trees, tree, trees_count, TreePairs, no_tree_pairs, tree_pair, tree_pairs_count}
+
+-- from -2^64 to 2^64 - 1 (RFC 8949, section 3.1)
+abbrev pub IsInRange : ℤ → Type 0
+IsInRange (pos n) = IsArgument n
+IsInRange (negsuc n) = IsArgument n
+
+abbrev mutual
+  pub IsProperTree : Tree → Type 0
+  IsProperTree (integer z) = IsInRange z
+  IsProperTree (bytes b) = IsProperBytes b
+  IsProperTree (text b) = IsProperText b
+  IsProperTree (boolean b) = Unit {0}
+  IsProperTree null = Unit {0}
+  IsProperTree (tag t v) = IsArgument t × IsProperTree v
+  IsProperTree (array vs) = (trees_count vs ≤ greatest_offset) × AreProperTrees vs
+  IsProperTree (map ps) = (tree_pairs_count ps ≤ greatest_offset) × AreProperTreePairs ps
+
+  pub AreProperTrees : Trees → Type 0
+  AreProperTrees no_trees = Unit {0}
+  AreProperTrees (tree v vs) = IsProperTree v × AreProperTrees vs
+
+  pub AreProperTreePairs : TreePairs → Type 0
+  AreProperTreePairs no_tree_pairs = Unit {0}
+  AreProperTreePairs (tree_pair k v ps) = IsProperTree k × IsProperTree v × AreProperTreePairs ps

@@ -1,0 +1,23 @@
+//! What holds of values and their encodings, whatever the code: each law is the contract of a
+//! function that does nothing.
+
+ghost use Rattle.ciborium_value.specs.Examples.{CornerExamples, CountedExamples, FoldingExamples, RefusedExamples, SpelledExamples, WrittenExamples};
+ghost use Rattle.ciborium_value.specs.Laws.{GoodOrRefused, NeverBoth, OneRefusal};
+
+/// All bytes, at every offset and under every limit of levels, begin with a good item or are
+/// refused, never both, and with one refusal alone.
+pub fn good_or_refused()
+    ensures one_of { GoodOrRefused }
+    ensures never_both { NeverBoth }
+    ensures one_refusal { OneRefusal }
+{}
+
+/// What the definitions say of given bytes and trees, after RFC 8949 and its appendix A.
+pub fn worked_examples()
+    ensures spelled { SpelledExamples }
+    ensures folding { FoldingExamples }
+    ensures refused { RefusedExamples }
+    ensures corners { CornerExamples }
+    ensures written { WrittenExamples }
+    ensures counted { CountedExamples }
+{}
