@@ -16,6 +16,7 @@ abbrev pub IsProperText : List ℕ → Type 0
 IsProperText b = IsUtf8 b × IsProperBytes b
 
 abbrev mutual
+  -- an item that memory can hold (section 3)
   pub IsProperItem : Item → Type 0
   IsProperItem (unsigned n) = IsArgument n
   IsProperItem (negative n) = IsArgument n
@@ -27,10 +28,12 @@ abbrev mutual
   IsProperItem (simple n) = (n < 24) ⊎ ((32 ≤ n) × (n < 256))
   IsProperItem (float raw) = AreBytes raw × ((length raw ≡ 2) ⊎ (length raw ≡ 4) ⊎ (length raw ≡ 8))
 
+  -- each item
   pub AreProperItems : Items → Type 0
   AreProperItems no_items = Unit {0}
   AreProperItems (item i is) = IsProperItem i × AreProperItems is
 
+  -- each key and each value
   pub AreProperPairs : Pairs → Type 0
   AreProperPairs no_pairs = Unit {0}
   AreProperPairs (pair k v ps) = IsProperItem k × IsProperItem v × AreProperPairs ps

@@ -14,10 +14,12 @@ abbrev mutual
   node_count (array vs) = suc (trees_node_count vs)
   node_count (map ps) = suc (tree_pairs_node_count ps)
 
+  -- of all of them together
   pub trees_node_count : Trees → ℕ
   trees_node_count no_trees = 0
   trees_node_count (tree v vs) = node_count v + trees_node_count vs
 
+  -- of all keys and values together
   pub tree_pairs_node_count : TreePairs → ℕ
   tree_pairs_node_count no_tree_pairs = 0
   tree_pairs_node_count (tree_pair k v ps) = node_count k + node_count v + tree_pairs_node_count ps
@@ -34,10 +36,12 @@ abbrev mutual
   payload_size (array vs) = trees_payload_size vs
   payload_size (map ps) = tree_pairs_payload_size ps
 
+  -- of all of them together
   pub trees_payload_size : Trees → ℕ
   trees_payload_size no_trees = 0
   trees_payload_size (tree v vs) = payload_size v + trees_payload_size vs
 
+  -- of all keys and values together
   pub tree_pairs_payload_size : TreePairs → ℕ
   tree_pairs_payload_size no_tree_pairs = 0
   tree_pairs_payload_size (tree_pair k v ps) = payload_size k + payload_size v + tree_pairs_payload_size ps

@@ -7,10 +7,12 @@ use Rattle.ciborium_value.specs.Tree.{Tree, Trees, TreePairs}
 
 -- ---- the item of a tree
 
+-- major type 0 or 1 (section 3.1)
 abbrev pub integer_item : ℤ → Item
 integer_item (pos n) = unsigned n
 integer_item (negsuc n) = negative n
 
+-- the simple values of false and true (section 3.3)
 abbrev pub boolean_item : Bool → Item
 boolean_item false = simple 20
 boolean_item true = simple 21
@@ -27,10 +29,12 @@ abbrev mutual
   item_of (tree.array vs) = array false (items_of vs)
   item_of (tree.map ps) = map false (pairs_of ps)
 
+  -- of each tree, in order
   pub items_of : Trees → Items
   items_of tree.no_trees = no_items
   items_of (tree.tree v vs) = item (item_of v) (items_of vs)
 
+  -- of each key and value, in order
   pub pairs_of : TreePairs → Pairs
   pairs_of tree.no_tree_pairs = no_pairs
   pairs_of (tree.tree_pair k v ps) = pair (item_of k) (item_of v) (pairs_of ps)
@@ -68,10 +72,12 @@ abbrev mutual
   written_bytes (simple n) = simple_bytes n
   written_bytes (float raw) = float_bytes raw
 
+  -- of each item, in order
   pub items_bytes : Items → List ℕ
   items_bytes no_items = []
   items_bytes (item i is) = written_bytes i ++ items_bytes is
 
+  -- of each pair, a key before its value
   pub pairs_bytes : Pairs → List ℕ
   pairs_bytes no_pairs = []
   pairs_bytes (pair k v ps) = written_bytes k ++ (written_bytes v ++ pairs_bytes ps)
@@ -99,10 +105,12 @@ abbrev mutual
   IsWritten (simple n) = (n ≡ 20) ⊎ (n ≡ 21) ⊎ (n ≡ 22)
   IsWritten (float raw) = ⊥
 
+  -- each item
   pub AreWritten : Items → Type 0
   AreWritten no_items = Unit {0}
   AreWritten (item i is) = IsWritten i × AreWritten is
 
+  -- each key and each value
   pub PairsAreWritten : Pairs → Type 0
   PairsAreWritten no_pairs = Unit {0}
   PairsAreWritten (pair k v ps) = IsWritten k × IsWritten v × PairsAreWritten ps
@@ -124,10 +132,12 @@ abbrev mutual
   written_tree (simple n) = simple_tree n
   written_tree (float raw) = tree.null
 
+  -- of each item, in order
   pub written_trees : Items → Trees
   written_trees no_items = tree.no_trees
   written_trees (item i is) = tree.tree (written_tree i) (written_trees is)
 
+  -- of each key and value, in order
   pub written_pairs : Pairs → TreePairs
   written_pairs no_pairs = tree.no_tree_pairs
   written_pairs (pair k v ps) = tree.tree_pair (written_tree k) (written_tree v) (written_pairs ps)

@@ -30,10 +30,12 @@ abbrev mutual
   folded (array vs) = option_map array (trees_folded vs)
   folded (map ps) = option_map map (tree_pairs_folded ps)
 
+  -- each tree, where each has one
   pub trees_folded : Trees → Option Trees
   trees_folded no_trees = Some no_trees
   trees_folded (tree v vs) = trees_more (folded v) (trees_folded vs)
 
+  -- each key and value, where each has one
   pub tree_pairs_folded : TreePairs → Option TreePairs
   tree_pairs_folded no_tree_pairs = Some no_tree_pairs
   tree_pairs_folded (tree_pair k v ps) = tree_pairs_more (folded k) (folded v) (tree_pairs_folded ps)

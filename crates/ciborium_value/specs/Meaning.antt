@@ -94,10 +94,12 @@ abbrev mutual
   meaning (item.simple n) = simple_meaning n
   meaning (item.float raw) = None
 
+  -- of each item, where each has one
   pub items_meaning : Items → Option Trees
   items_meaning item.no_items = Some no_trees
   items_meaning (item.item i is) = trees_more (meaning i) (items_meaning is)
 
+  -- of each key and value, where each has one
   pub pairs_meaning : Pairs → Option TreePairs
   pairs_meaning item.no_pairs = Some no_tree_pairs
   pairs_meaning (item.pair k v ps) = tree_pairs_more (meaning k) (meaning v) (pairs_meaning ps)

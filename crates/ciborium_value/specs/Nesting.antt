@@ -37,10 +37,12 @@ abbrev mutual
   nesting (simple n) = 0
   nesting (float raw) = 0
 
+  -- the greatest of the items, or 0
   pub items_nesting : Items → ℕ
   items_nesting no_items = 0
   items_nesting (item i is) = max (nesting i) (items_nesting is)
 
+  -- the greatest of the keys and values, or 0
   pub pairs_nesting : Pairs → ℕ
   pairs_nesting no_pairs = 0
   pairs_nesting (pair k v ps) = max (max (nesting k) (nesting v)) (pairs_nesting ps)

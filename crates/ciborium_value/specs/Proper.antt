@@ -10,6 +10,7 @@ IsInRange (pos n) = IsArgument n
 IsInRange (negsuc n) = IsArgument n
 
 abbrev mutual
+  -- a tree that a program can hold
   pub IsProperTree : Tree → Type 0
   IsProperTree (integer z) = IsInRange z
   IsProperTree (bytes b) = IsProperBytes b
@@ -20,10 +21,12 @@ abbrev mutual
   IsProperTree (array vs) = (trees_count vs ≤ greatest_offset) × AreProperTrees vs
   IsProperTree (map ps) = (tree_pairs_count ps ≤ greatest_offset) × AreProperTreePairs ps
 
+  -- each tree
   pub AreProperTrees : Trees → Type 0
   AreProperTrees no_trees = Unit {0}
   AreProperTrees (tree v vs) = IsProperTree v × AreProperTrees vs
 
+  -- each key and each value
   pub AreProperTreePairs : TreePairs → Type 0
   AreProperTreePairs no_tree_pairs = Unit {0}
   AreProperTreePairs (tree_pair k v ps) = IsProperTree k × IsProperTree v × AreProperTreePairs ps

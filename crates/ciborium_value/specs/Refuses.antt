@@ -59,6 +59,7 @@ pub data Opens (b : List ℕ) (k : ℕ) (r : List ℕ) : Due → Type 0 where
 abbrev pub FoldsAt : ℕ → List ℕ → Type 0
 FoldsAt t r = (is_bignum_tag t ≡ true) × (n : ℕ) × (k : ℕ) × (s : List ℕ) × HeadStands r 2 n k s × (n ≤ 16)
 
+-- the bytes b, whose first is at offset p, refuse with e under the limit l (section 5.3 and appendix F)
 pub data Refuses : List ℕ → ℕ → Limit → Refusal → Type 0 where
   -- no usable head stands here
   no_head : {b : List ℕ} {p : ℕ} {l : Limit} {e : Refusal} → HeadRefuses b p e → Refuses b p l e
