@@ -20,12 +20,15 @@ abbrev pub Allowed : StringKind → List ℕ → Type 0
 Allowed of_bytes payload = AnyBytes payload
 Allowed of_text payload = IsUtf8 payload
 
--- a definite string at offset p: the bytes end inside its payload, or the payload was read whole and is not UTF-8
-pub data StringRefuses (kind : StringKind) : List ℕ → ℕ → Refusal → Type 0 where
-  ends_early : {b : List ℕ} {p : ℕ} (n k : ℕ) (r : List ℕ) →
-      HeadStands b (major_of kind) n k r → length r < n → StringRefuses kind b p io
-  not_allowed : {b : List ℕ} {p : ℕ} (k : ℕ) (payload r : List ℕ) →
-      HeadStands b (major_of kind) (length payload) k (payload ++ r) → ¬ Allowed kind payload → StringRefuses kind b p (syntax p)
+-- what is left refuses as the payload, of n bytes, of a definite string whose head is at offset p: it ends early, or the payload
+-- was read whole and is not UTF-8
+pub data PayloadRefuses (kind : StringKind) (n p : ℕ) : List ℕ → Refusal → Type 0 where
+  ends_early : {r : List ℕ} → length r < n → PayloadRefuses kind n p r io
+  not_allowed : (payload r : List ℕ) → length payload ≡ n → ¬ Allowed kind payload → PayloadRefuses kind n p (payload ++ r) (syntax p)
+
+-- a definite string at offset p: its payload refuses
+abbrev pub StringRefuses : StringKind → List ℕ → ℕ → Refusal → Type 0
+StringRefuses kind b p e = (n : ℕ) × (k : ℕ) × (r : List ℕ) × HeadStands b (major_of kind) n k r × PayloadRefuses kind n p r e
 
 -- a definite string of a kind begins here
 abbrev pub BeginsString : StringKind → List ℕ → Type 0
@@ -39,9 +42,13 @@ pub data PartRefuses (kind : StringKind) : List ℕ → ℕ → Refusal → Type
   other : {b : List ℕ} {p : ℕ} →
       IsUsable b p → ¬ BeginsString kind b → ¬ BeginsWith break_byte b → PartRefuses kind b p (syntax p)
 
--- an open string at offset p: behind good parts, which end within the greatest offset, a part refuses
-abbrev pub OpenStringRefuses : StringKind → List ℕ → ℕ → Refusal → Type 0
-OpenStringRefuses kind b p e =
+-- what is left, from offset p on, refuses as the parts of an open string: behind good parts, which end within the greatest offset,
+-- a part refuses
+abbrev pub PartsRefuse : StringKind → List ℕ → ℕ → Refusal → Type 0
+PartsRefuse kind b p e =
     (good : List ℕ) × (payloads : List (List ℕ)) × (r : List ℕ) × AreParts (major_of kind) (Allowed kind) good payloads ×
-    (p + 1 + length good ≤ greatest_offset) × (b ≡ open_byte (major_of kind) ∷ (good ++ r)) ×
-    PartRefuses kind r (p + 1 + length good) e
+    (p + length good ≤ greatest_offset) × (b ≡ good ++ r) × PartRefuses kind r (p + length good) e
+
+-- an open string at offset p: its parts refuse
+abbrev pub OpenStringRefuses : StringKind → List ℕ → ℕ → Refusal → Type 0
+OpenStringRefuses kind b p e = (r : List ℕ) × (b ≡ open_byte (major_of kind) ∷ r) × PartsRefuse kind r (p + 1) e

@@ -13,7 +13,7 @@ use Rattle.ciborium_value.specs.Nesting.{nesting, items_nesting, pairs_nesting, 
 use Rattle.ciborium_ll.specs.Refusal.{Refusal, syntax, semantic, recursion_limit_exceeded, Float, Break, IsUsable, HeadStands, head_refusal, BeginsWith}
 use Rattle.ciborium_ll.specs.Bytes.{greatest_offset}
 use Rattle.ciborium_value.specs.Refuses.{IsGood, AreGood, Due, exactly, items_until_break, keys_until_break, values_until_break, next_due, due_after, Opens, IsDue, FoldsAt, Refuses}
-use Rattle.ciborium_ll.specs.StringRefusal.{StringKind, of_bytes, of_text, major_of, Allowed, StringRefuses, PartRefuses, OpenStringRefuses, BeginsString}
+use Rattle.ciborium_ll.specs.StringRefusal.{StringKind, of_bytes, of_text, major_of, Allowed, PayloadRefuses, StringRefuses, PartRefuses, OpenStringRefuses, BeginsString}
 use Rattle.ciborium_ll.proofs.Fronts.{Front, nothing, counted, opened, plain, raw, front, front_open}
 use Rattle.ciborium_ll.proofs.UsableHeads.{EachIsByte, bytes_after, stands-front, stands-length, IsStringMajor}
 use Rattle.ciborium_ll.proofs.ReadHeads.{Face, faces}
@@ -63,7 +63,7 @@ rest-bytes b h r e x = bytes_after h r (subst EachIsByte e x)
 
 string-meets : (c : StringKind) (b : List ℕ) (p q n k : ℕ) (r : List ℕ) → HeadStands b (major_of c) n k r → p + k + n ≤ greatest_offset → q ≡ p + k → StringMeets c b p (take n r) (string (major_of c) n r p q)
 string-meets c b p q n k r st fits e =
-    cond_both (ltb (length r) n) _ _ P (λ t. StringRefuses.ends_early n k r st (ltb-true _ _ t))
+    cond_both (ltb (length r) n) _ _ P (λ t. (n, k, r, st, PayloadRefuses.ends_early (ltb-true _ _ t)))
     (λ t. let room : n ≤ length r = ltb-false _ _ t in
     let ly : length (take n r) ≡ n = length-take-le n r room in
     let split : r ≡ take n r ++ drop n r = sym (take-append-drop n r) in
@@ -75,7 +75,13 @@ string-meets c b p q n k r st fits e =
       omega (arith, length-append st.0 (take n r), ly, st.2, e),
       omega arith,
     ))
-    (λ u. StringRefuses.not_allowed k (take n r) (drop n r) (st.0, subst (Head st.0 (major_of c)) (sym ly) st.1, st.2, st.3 ∙ ap (λ (z : List ℕ). st.0 ++ z) split) (λ a. let z = sym u ∙ kind_allowed c (take n r) a in absurd cc)))
+    (λ u. (
+      n,
+      k,
+      r,
+      st,
+      subst (λ z. PayloadRefuses c n p z (syntax p)) (sym split) (PayloadRefuses.not_allowed (take n r) (drop n r) ly (λ a. let z = sym u ∙ kind_allowed c (take n r) a in absurd cc)),
+    )))
   where
     P : Answer → Type 0
     P a = StringMeets c b p (take n r) a
@@ -261,7 +267,7 @@ open-item c b r p l mk (ends x u) e some flat-i spells fault (s, ps, g, f, k, ro
       omega arith,
     )
 open-item c b r p l mk (refused e') e some flat-i spells fault (s, ps, x, g, room, f, pf) =
-    fault e' (s, ps, x, g, room, e ∙ ap (λ (z : List ℕ). (major_of c * 32 + 31) ∷ z) f, pf)
+    fault e' (r, e, (s, ps, x, g, room, f, pf))
 
 key_places : (is : Items) → ((due_after keys_until_break is ≡ keys_until_break) ⊎ (due_after keys_until_break is ≡ values_until_break)) × ((due_after values_until_break is ≡ keys_until_break) ⊎ (due_after values_until_break is ≡ values_until_break))
 key_places no_items = (inl refl, inr refl)

@@ -1,5 +1,6 @@
 -- What refuses at the front is what the reader answers.
 use Rattle.std.proofs.Common.{◌≡◌, ℕ, zero, suc, ◌+◌, ◌-◌, ◌*◌, ◌^◌, ◌<◌, ◌≤◌, cond, ltb, leb, eqb, Bool, true, false, ◌&&◌, List, [], ◌∷◌, ◌++◌, length, Option, Some, None, is_some, refl, sym, ap, ◌∙◌, subst, arith, inl, inr, length-append, append_assoc, lt-ltb, le-ltb, eq-eqb, eqb-true, ltb-true, le-leb, leb-true}
+use Rattle.std.proofs.Common.{take}
 use Rattle.std.proofs.Math.Seq.{take-append_seam}
 use Rattle.std.proofs.lemmas.Str.{IsUtf8-from_is_utf8}
 use Rattle.ciborium_ll.specs.Item.{Items, items_count}
@@ -9,7 +10,7 @@ use Rattle.ciborium_value.specs.Meaning.{big_endian, is_bignum_tag}
 use Rattle.ciborium_ll.specs.Refusal.{Refusal, syntax, semantic, Float, TooLarge, IsUsable, HeadRefuses, HeadStands, BeginsWith}
 use Rattle.ciborium_ll.specs.Bytes.{greatest_offset}
 use Rattle.ciborium_value.specs.Nesting.{Limit}
-use Rattle.ciborium_ll.specs.StringRefusal.{StringKind, of_bytes, of_text, major_of, Allowed, StringRefuses, PartRefuses, OpenStringRefuses, BeginsString}
+use Rattle.ciborium_ll.specs.StringRefusal.{StringKind, of_bytes, of_text, major_of, Allowed, PayloadRefuses, StringRefuses, PartRefuses, OpenStringRefuses, BeginsString}
 use Rattle.ciborium_value.specs.Refuses.{Due, exactly, items_until_break, keys_until_break, values_until_break, next_due, due_after, Opens, IsDue, FoldsAt, Refuses}
 use Rattle.ciborium_ll.proofs.Fronts.{Front, nothing, counted, opened, plain, raw, front, front-simple}
 use Rattle.ciborium_ll.proofs.UsableHeads.{EachIsByte, bytes_after, stands-front, stands-length, IsStringMajor, pass}
@@ -63,16 +64,14 @@ pub kind_below : (c : StringKind) → major_of c < 7
 kind_below of_bytes = omega arith
 kind_below of_text = omega arith
 
-string-refusing : (c : StringKind) → {b : List ℕ} {p : ℕ} {e : Refusal} → StringRefuses c b p e → Refusing (major_of c) b p e
-string-refusing c (StringRefuses.ends_early n k r s h) = (n, k, r, s, λ u. hold _ _ _ (lt-ltb (length r) n h))
-string-refusing c {p} (StringRefuses.not_allowed k y r s h) = (
-  length y,
-  k,
-  y ++ r,
-  s,
-  λ u. pass _ _ _ (le-ltb (length (y ++ r)) (length y) (omega (arith, length-append y r))) ∙
-      pass _ _ _ (ap (allowed (major_of c)) (take-append_seam y r) ∙ not_ok _ (λ t. h (kind_ok c y t))),
-)
+payload-refused : (c : StringKind) {n p : ℕ} {r : List ℕ} {e : Refusal} → PayloadRefuses c n p r e → (u : ℕ) → string (major_of c) n r p u ≡ refused e
+payload-refused c {n} {r = r} (PayloadRefuses.ends_early h) u = hold _ _ _ (lt-ltb (length r) n h)
+payload-refused c {n} {p} (PayloadRefuses.not_allowed y r l h) u =
+    pass _ _ _ (le-ltb (length (y ++ r)) n (omega (arith, l, length-append y r))) ∙
+    pass _ _ _ (ap (λ k. allowed (major_of c) (take k (y ++ r))) (sym l) ∙ ap (allowed (major_of c)) (take-append_seam y r) ∙ not_ok _ (λ t. h (kind_ok c y t)))
+
+string-refusing : (c : StringKind) {b : List ℕ} {p : ℕ} {e : Refusal} → StringRefuses c b p e → Refusing (major_of c) b p e
+string-refusing c (n, k, r, s, f) = (n, k, r, s, payload-refused c f)
 
 string-at : (d p : ℕ) (b : List ℕ) (l : Limit) (m : ℕ) (e : Refusal) → IsStringMajor m → 0 < d → IsUsable b p → Refusing m b p e → read d b p l ≡ refused e
 string-at d p b l m e (inl j) pos h s =
@@ -98,18 +97,16 @@ part-refused k (suc c) pos {b} {q} {e} (PartRefuses.other h x y) bytes =
     checked-none b q _ h ∙ other-refused k b q (pieces c (major_of k)) x y (front b) (faces b q bytes h)
 
 open-refused : (k : StringKind) (d p : ℕ) (b : List ℕ) (l : Limit) (e : Refusal) → IsUsable b p → OpenStringRefuses k b p e → EachIsByte b → 2 * length b < d → read d b p l ≡ refused e
-open-refused k d p b l e h f bytes fuel =
+open-refused k d p b l e h (q, at, (good, payloads, r, parts_of, room, split, f)) bytes fuel =
     let m : ℕ = major_of k in
-    let good : List ℕ = f.0 in
-    let r : List ℕ = f.2 in
-    let wh : b ≡ (m * 32 + 31) ∷ (good ++ r) = f.5 in
+    let wh : b ≡ (m * 32 + 31) ∷ (good ++ r) = at ∙ ap (λ (c : List ℕ). (m * 32 + 31) ∷ c) split in
     let lb : length b ≡ suc (length (good ++ r)) = ap length wh in
     let br : EachIsByte (((m * 32 + 31) ∷ good) ++ r) = subst EachIsByte wh bytes in
     opened-at d p b l m (good ++ r) (omega arith) wh h ∙ chosen k ∙
-    pieces-run m (Allowed k) (kind_below k) (kind_allowed k) (d - 1) f.1 good r (good ++ r) (p + 1) (p + 1 + length good) (refused e) f.3 refl refl f.4 (omega arith)
-    (λ c lc. part-refused k c (omega arith) f.6 (bytes_after ((m * 32 + 31) ∷ good) r br))
+    pieces-run m (Allowed k) (kind_below k) (kind_allowed k) (d - 1) payloads good r (good ++ r) (p + 1) (p + 1 + length good) (refused e) parts_of refl refl room (omega arith)
+    (λ c lc. part-refused k c (omega arith) f (bytes_after ((m * 32 + 31) ∷ good) r br))
   where
-    chosen : (c : StringKind) → opened_item (parts (d - 1)) (pieces (d - 1)) (major_of c) (f.0 ++ f.2) p l ≡ pieces (d - 1) (major_of c) (f.0 ++ f.2) (p + 1)
+    chosen : (c : StringKind) → opened_item (parts (d - 1)) (pieces (d - 1)) (major_of c) (good ++ r) p l ≡ pieces (d - 1) (major_of c) (good ++ r) (p + 1)
     chosen of_bytes = refl
     chosen of_text = refl
 
