@@ -4,3 +4,5 @@ pub mod ReadHeads
 mod ItemReader
 pub mod UniqueSpelling
 mod ShortestHead
+pub mod HeadAnswers
+pub mod Advancing

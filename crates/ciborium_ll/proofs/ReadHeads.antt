@@ -20,7 +20,7 @@ Face b p (plain n r) = (s : List ℕ) × IsSimple s n × (b ≡ s ++ r) × (p + 
 Face b p (raw w r) = (x : ℕ) × (249 ≤ x) × (x ≤ 251) × (b ≡ x ∷ r)
 
 -- the payload length of a string is its head's argument
-payload_length-is : (m a n : ℕ) (b : List ℕ) → a < 28 → argument a b ≡ n → IsStringMajor m → payload_length m a b ≡ n
+pub payload_length-is : (m a n : ℕ) (b : List ℕ) → a < 28 → argument a b ≡ n → IsStringMajor m → payload_length m a b ≡ n
 payload_length-is m a n b lt e (inl s) = ap (λ k. payload_length k a b) s ∙ ap (λ t. cond t (argument a b) 0) (lt-ltb a 28 lt) ∙ e
 payload_length-is m a n b lt e (inr s) = ap (λ k. payload_length k a b) s ∙ ap (λ t. cond t (argument a b) 0) (lt-ltb a 28 lt) ∙ e
 

@@ -98,14 +98,14 @@ argument-information two_bytes n r h = from_be_bytes-to_be_bytes_2 n h
 argument-information four_bytes n r h = from_be_bytes-to_be_bytes_4 n h
 argument-information eight_bytes n r h = from_be_bytes-to_be_bytes_8 n h
 
-unreserved : (m a : ℕ) → a < 28 → is_reserved m a ≡ false
+pub unreserved : (m a : ℕ) → a < 28 → is_reserved m a ≡ false
 unreserved m a h = grind (arith, nat_tests)
 
-not_low : (x : ℕ) (b : List ℕ) → x < 248 → is_low_simple x b ≡ false
+pub not_low : (x : ℕ) (b : List ℕ) → x < 248 → is_low_simple x b ≡ false
 not_low x [] h = refl
 not_low x (y ∷ b) h = ap (λ t. t && ltb y 32) (ne_eqb x 248 (λ e. omega arith))
 
-and_false : (t u : Bool) → u ≡ false → (t && u) ≡ false
+pub and_false : (t u : Bool) → u ≡ false → (t && u) ≡ false
 and_false true u e = e
 and_false false u e = refl
 

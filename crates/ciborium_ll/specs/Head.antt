@@ -71,6 +71,10 @@ break_byte = 0xff
 abbrev pub IsSimple : List ℕ → ℕ → Type 0
 IsSimple b n = ((n < 24) × (b ≡ initial_byte 7 n ∷ [])) ⊎ ((32 ≤ n) × (n < 256) × (b ≡ 0xf8 ∷ n ∷ []))
 
+-- the head of a simple value, in one byte where it can be
+abbrev pub simple_bytes : ℕ → List ℕ
+simple_bytes n = if nat_lt n 24 then initial_byte 7 n ∷ [] else 0xf8 ∷ n ∷ []
+
 -- b is a float of 2, 4 or 8 raw bytes, which belong to its head (section 3.3)
 abbrev pub IsFloat : List ℕ → List ℕ → Type 0
 IsFloat b raw =

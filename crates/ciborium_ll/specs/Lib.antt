@@ -6,3 +6,5 @@ pub mod Proper
 pub mod Refusal
 pub mod StringRefusal
 pub mod Laws
+pub mod Header
+pub mod Reading

@@ -37,6 +37,11 @@ abbrev pub is_low_simple : ℕ → List ℕ → Bool
 is_low_simple first [] = false
 is_low_simple first (second ∷ b) = (first == 0xf8) && nat_lt second 32
 
+-- whether these bytes begin with no well-formed head, whatever follows
+abbrev pub is_ill_formed : List ℕ → Bool
+is_ill_formed [] = false
+is_ill_formed (first ∷ b) = is_reserved (first / 32) (first % 32) || is_low_simple first b
+
 -- the argument that additional information and the bytes behind the initial byte give
 abbrev pub argument : ℕ → List ℕ → ℕ
 argument info b =

@@ -2,3 +2,8 @@
 #![tactic(auto)]
 
 pub mod laws;
+mod header;
+mod parsing;
+mod reading;
+
+pub use header::{Error, Header};

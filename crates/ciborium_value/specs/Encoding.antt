@@ -1,6 +1,6 @@
 -- What writing puts out (RFC 8949, section 4.1; lengths: section 4.2.1).
 use Rattle.std.specs.Prelude.{◌≡◌, ℕ, ◌-◌, ◌^◌, min, ℤ, pos, negsuc, List, [], ◌∷◌, ◌++◌, length, Bool, true, false, if◌then◌else◌, nat_lt, ◌⊎◌}
-use Rattle.ciborium_ll.specs.Head.{shortest_head, initial_byte, open_byte, break_byte}
+use Rattle.ciborium_ll.specs.Head.{shortest_head, simple_bytes, open_byte, break_byte}
 use Rattle.ciborium_ll.specs.Item.{Item, unsigned, negative, bytes, text, array, map, tag, simple, float, Items, no_items, item, Pairs, no_pairs, pair, items_count, pairs_count}
 use Rattle.ciborium_value.specs.Tree as tree
 use Rattle.ciborium_value.specs.Tree.{Tree, Trees, TreePairs}
@@ -50,10 +50,6 @@ enclosed true major count r = open_byte major ∷ (r ++ (break_byte ∷ []))
 abbrev pub string_bytes : Bool → ℕ → List ℕ → List ℕ
 string_bytes false major b = shortest_head major (length b) ++ b
 string_bytes true major b = open_byte major ∷ ((shortest_head major (length b) ++ b) ++ (break_byte ∷ []))
-
--- a simple value, in one byte where it can be
-abbrev pub simple_bytes : ℕ → List ℕ
-simple_bytes n = if nat_lt n 24 then initial_byte 7 n ∷ [] else 0xf8 ∷ n ∷ []
 
 -- a float by its raw bytes
 abbrev pub float_bytes : List ℕ → List ℕ

@@ -1,0 +1,57 @@
+use Rattle.std.proofs.Common.{◌≡◌, ℕ, ◌+◌, ◌-◌, ◌<◌, ◌≤◌, List, ◌++◌, rules, arith, length, take, slice_range, sym, ap, ◌∙◌, subst, le_refl, drop_at, length-take-le, length-append, length-drop, drop}
+use Rattle.std.proofs.lemmas.Slice.{take-put_mid_below}
+use Rattle.std.specs.Io.KnownBytes.{Consumes}
+use Rattle.std.proofs.KnownBytes.{Consumes-trans, Consumes-kept}
+use borrow.Rule.Slice.PartMut.{put_mid, post_of, same_len_mid}
+use lib.Seq.{take-add, take-append-le}
+use Rattle.ciborium_ll.proofs.reading.fill_within.Goals as goal
+
+-- a front that stays, with what follows it, is a longer front
+take-slice_range : (a b : ℕ) (old new : List ℕ) → a ≤ b → take a new ≡ take a old → take a old ++ slice_range new a b ≡ take b new
+take-slice_range a b old new h front =
+    let same : a + (b - a) ≡ b = omega arith in
+    ap (λ l. l ++ slice_range new a b) (sym front) ∙ sym (take-add a (b - a) new) ∙ ap (λ n. take n new) same
+
+slice_range-put_mid : (a k n : ℕ) (xs ys : List ℕ) → a ≤ length xs → n ≤ length ys → slice_range (put_mid a k xs ys) a (a + n) ≡ take n ys
+slice_range-put_mid a k n xs ys within fits =
+    let same : (a + n) - a ≡ n = omega arith in
+    let after = post_of a k xs in
+    ap (take ((a + n) - a)) (drop_at (take a xs) (ys ++ after) a (length-take-le a xs within)) ∙ ap (λ m. take m (ys ++ after)) same ∙ take-append-le n ys after fits
+
+-- what was filled is shorter than the buffer
+shorter : (at k : ℕ) (xs ys : List ℕ) → at ≤ length xs → 0 < length ys → length (take at xs) < length (put_mid at k xs ys)
+shorter at k xs ys within some =
+    omega (arith, length-append (take at xs) (ys ++ post_of at k xs), length-append ys (post_of at k xs), some)
+
+-- room is left before the buffer is full
+room_left : (at : ℕ) (xs ys : List ℕ) → at < length xs → length ys ≡ length (take (length xs - at) (drop at xs)) → 0 < length ys
+room_left at xs ys h same =
+    let rest : length (drop at xs) ≡ length xs - at = length-drop at xs in
+    let fits : length xs - at ≤ length (drop at xs) = omega arith in
+    omega (arith, same, length-take-le (length xs - at) (drop at xs) fits, h)
+
+pub loop-filled-preserved : goal.loop-filled-preserved
+loop-filled-preserved g c =
+    let from = c.loop-filled.filled in
+    let room = length c.loop-filled.buffer - from in
+    let within = c.loop-filled.invariant.within in
+    let part = slice_range-put_mid from room c.in-Ok.n c.loop-filled.buffer c.read.new.buf within c.in-Ok.ensures.bound.0 in
+    let joined = take-slice_range from (from + c.in-Ok.n) c.loop-filled.buffer (put_mid from room c.loop-filled.buffer c.read.new.buf) (omega arith) (take-put_mid_below _ _ _ _ _ (le_refl _) within) in
+    record {
+      within = search rules;
+      counted = omega (arith, c.loop-filled.invariant.counted);
+      taken = subst (Consumes _ _) (ap (λ l. take from c.loop-filled.buffer ++ l) (sym part) ∙ joined) (Consumes-trans _ _ _ _ _ c.loop-filled.invariant.taken c.in-Ok.ensures.bytes.0);
+    }
+
+pub returns-in-Err-clause-bytes : goal.returns-in-Err-clause-bytes
+returns-in-Err-clause-bytes g c =
+    let filled = c.loop-filled.filled in
+    let within = c.loop-filled.invariant.within in (
+      take filled c.loop-filled.buffer,
+      Consumes-kept _ _ _ _ c.loop-filled.invariant.taken c.in-Err.ensures.bytes,
+      (let len = length-take-le filled c.loop-filled.buffer within in omega (arith, len, c.loop-filled.invariant.counted)),
+      (
+        shorter filled (length c.loop-filled.buffer - filled) c.loop-filled.buffer c.read.new.buf within (room_left filled c.loop-filled.buffer c.read.new.buf c.loop-filled-test.true c.read.auto.buf),
+        (let len = same_len_mid filled (length c.loop-filled.buffer - filled) c.loop-filled.buffer c.read.new.buf c.read.auto.buf in omega (arith, len, c.loop-filled.auto.buffer, c.requires)),
+      ),
+    )

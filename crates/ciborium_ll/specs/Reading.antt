@@ -1,0 +1,46 @@
+-- What a call takes from a reader, where the reader's bytes are known, and how offsets count it.
+use Rattle.std.specs.Prelude.{◌≡◌, ℕ, ◌+◌, ◌<◌, ◌≤◌, List, [], length, take, Option, Some, None, Result, Ok, Err}
+use Rattle.std.specs.Io.KnownBytes.{Consumes}
+use Rattle.ciborium_ll.specs.declared.header.Header.{Header}
+use Rattle.ciborium_ll.specs.declared.header.Error.{Error}
+use Rattle.ciborium_ll.specs.declared.header.Error.TheVariants.{Io, Syntax, TooLong, Memory}
+use Rattle.ciborium_ll.specs.Bytes.{greatest_offset}
+use Rattle.ciborium_ll.specs.Header.{SpellsHeader}
+use Rattle.ciborium_ll.specs.Refusal.{Refusal, io, syntax, too_long, head_refusal, HeadRefuses, IsUsable}
+
+-- some bytes are taken between the offsets p and q, and nothing else, and P holds of them
+abbrev pub Advances : Option (List ℕ) → Option (List ℕ) → ℕ → ℕ → (List ℕ → Type 0) → Type 0
+Advances old new p q P = (b : List ℕ) × Consumes old new b × (q ≡ p + length b) × P b
+
+-- an error other than `Io` and `Memory` is a refusal of which P holds
+abbrev pub RefusedBy : {E : Type 0} → Error E → (Refusal → Type 0) → Type 0
+RefusedBy (Io e) P = Unit {0}
+RefusedBy (Syntax p) P = P (syntax p)
+RefusedBy TooLong P = P too_long
+RefusedBy Memory P = Unit {0}
+
+-- every beginning of b, at offset p, ends inside a head: no byte of b can be spared where the head at p is judged
+abbrev pub NoneIsSpare : List ℕ → ℕ → Type 0
+NoneIsSpare b p = (k : ℕ) → k < length b → HeadRefuses (take k b) p io
+
+-- what the bytes taken at offset p are by themselves, where reading a head answers so: the head, or what refuses
+abbrev pub AnswersHead : {E : Type 0} → List ℕ → ℕ → Result Header (Error E) → Type 0
+AnswersHead b p (Ok header) = SpellsHeader b header × IsUsable b p
+AnswersHead b p (Err (Io e)) = HeadRefuses b p io
+AnswersHead b p (Err (Syntax at)) = HeadRefuses b p (syntax at)
+AnswersHead b p (Err TooLong) = HeadRefuses b p too_long
+AnswersHead b p (Err Memory) = ⊥
+
+-- just the bytes that decide the answer are taken
+pub record HeadTaken {E : Type 0} (p : ℕ) (r : Result Header (Error E)) (b : List ℕ) : Type 0 where
+  pub answers : AnswersHead b p r
+  pub needed : NoneIsSpare b p
+
+-- what is taken at offset p where a buffer is filled: all that it then holds, or less at `Io`; nothing where it would pass the
+-- greatest offset
+abbrev pub FillTaken : {E : Type 0} → ℕ → List ℕ → Result (Unit {0}) (Error E) → List ℕ → Type 0
+FillTaken p buffer (Ok u) b = (b ≡ buffer) × (p + length buffer ≤ greatest_offset)
+FillTaken p buffer (Err (Io e)) b = (length b < length buffer) × (p + length buffer ≤ greatest_offset)
+FillTaken p buffer (Err (Syntax at)) b = ⊥
+FillTaken p buffer (Err TooLong) b = (b ≡ []) × (greatest_offset < p + length buffer)
+FillTaken p buffer (Err Memory) b = ⊥

@@ -1,0 +1,98 @@
+//! From the bytes of a head to the head.
+
+ghost use Rattle.std.specs.Prelude.{◌≡◌, ◌+◌, ◌*◌, ◌/◌, ◌%◌, ◌<◌, ◌≤◌, ◌∷◌, List, [], IsTrue, MatchOption, length};
+ghost use Rattle.ciborium_ll.specs.Head.{Width, argument_bytes, capacity, information};
+ghost use Rattle.ciborium_ll.specs.Header.{SpellsHeader};
+ghost use Rattle.ciborium_ll.specs.Refusal.{argument_length, is_ill_formed};
+
+use crate::header::Header;
+
+// How many bytes follow an initial byte with this additional information.
+pub(crate) fn argument_size(information: u8) -> usize
+    ensures { result ≡ argument_length information }
+{
+    match information {
+        24 => 1,
+        25 => 2,
+        26 => 4,
+        27 => 8,
+        _ => 0,
+    }
+}
+
+// The argument of a head.
+fn argument_of(info: u8, bytes: &[u8]) -> u64
+    requires below { info < 28 }
+    requires whole { length bytes.now ≡ argument_length info }
+    ensures { (w : Width) × (result < capacity w) × (info ≡ information w result) × (bytes.now ≡ argument_bytes w result) }
+{
+    match *bytes {
+        [a] => u64::from(a),
+        [a, b] => u64::from(u16::from_be_bytes([a, b])),
+        [a, b, c, d] => u64::from(u32::from_be_bytes([a, b, c, d])),
+        [a, b, c, d, e, f, g, h] => u64::from_be_bytes([a, b, c, d, e, f, g, h]),
+        _ => u64::from(info),
+    }
+}
+
+// The head of an initial byte that no argument follows.
+fn without_argument(first: u8) -> Option<Header>
+    requires { 28 ≤ first % 32 }
+    ensures { MatchOption result (IsTrue (is_ill_formed (first ∷ []))) (λ header. SpellsHeader (first ∷ []) header) }
+{
+    match first {
+        0x5f => Some(Header::Bytes(None)),
+        0x7f => Some(Header::Text(None)),
+        0x9f => Some(Header::Array(None)),
+        0xbf => Some(Header::Map(None)),
+        0xff => Some(Header::Break),
+        _ => None,
+    }
+}
+
+// The simple value or float.
+fn simple_or_float(info: u8, bytes: &[u8]) -> Option<Header>
+    requires below { info < 28 }
+    requires whole { length bytes.now ≡ argument_length info }
+    ensures { MatchOption result (IsTrue (is_ill_formed ((224 + info) ∷ bytes.now))) (λ header. SpellsHeader ((224 + info) ∷ bytes.now) header) }
+{
+    match info {
+        24 => {
+            let number = bytes[0];
+            if number < 32 {
+                None
+            } else {
+                Some(Header::Simple(number))
+            }
+        }
+        25 => Some(Header::Float(2)),
+        26 => Some(Header::Float(4)),
+        27 => Some(Header::Float(8)),
+        _ => Some(Header::Simple(info)),
+    }
+}
+
+// The head that an initial byte and the bytes behind it spell, or none where they are ill-formed.
+pub(crate) fn parsed(first: u8, bytes: &[u8]) -> Option<Header>
+    requires { length bytes.now ≡ argument_length (first % 32) }
+    ensures { MatchOption result (IsTrue (is_ill_formed (first ∷ bytes.now))) (λ header. SpellsHeader (first ∷ bytes.now) header) }
+{
+    let info = first % 32;
+    let major = first / 32;
+    if info >= 28 {
+        return without_argument(first);
+    }
+    if major == 7 {
+        return simple_or_float(info, bytes);
+    }
+    let n = argument_of(info, bytes);
+    Some(match major {
+        0 => Header::Positive(n),
+        1 => Header::Negative(n),
+        2 => Header::Bytes(Some(n as usize)),
+        3 => Header::Text(Some(n as usize)),
+        4 => Header::Array(Some(n as usize)),
+        5 => Header::Map(Some(n as usize)),
+        _ => Header::Tag(n),
+    })
+}
