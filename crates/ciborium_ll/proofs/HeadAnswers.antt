@@ -12,7 +12,7 @@ use Rattle.ciborium_ll.specs.Head.{Width, within, one_byte, two_bytes, four_byte
 use Rattle.ciborium_ll.specs.Header.{SpellsHeader, announced_length}
 use Rattle.ciborium_ll.specs.Reading.{FillTaken, AnswersHead, HeadTaken, NoneIsSpare}
 use Rattle.ciborium_ll.specs.Refusal.{Refusal, io, syntax, too_long, argument_length, is_reserved, is_low_simple, is_ill_formed, payload_length, initial_refusal, head_refusal, HeadRefuses, IsUsable}
-use Rattle.ciborium_ll.proofs.UsableHeads.{pass, low, unreserved, not_low, and_false, information-below, argument-information}
+use Rattle.ciborium_ll.proofs.UsableHeads.{pass, low, unreserved, not_low, and_false, information-below, argument-information, argument_length-information, HeadFits, usable-fits}
 use Rattle.ciborium_ll.proofs.ReadHeads.{payload_length-is}
 
 hold : {A : Type 0} (t : Bool) (x y : A) → t ≡ true → cond t x y ≡ x
@@ -122,6 +122,7 @@ pub record Facts (m a : ℕ) (b : List ℕ) (announced : ℕ) : Type 0 where
   pub fair : is_reserved m a ≡ false
   pub high : is_low_simple (initial_byte m a) b ≡ false
   pub payload : payload_length m a b ≡ announced
+  pub size : length b ≡ argument_length a
 
 -- the bytes of a head begin so
 abbrev pub Begins : List ℕ → ℕ → Type 0
@@ -137,7 +138,7 @@ plain-begins b m n lt none (w, h, e) =
       information w n,
       argument_bytes w n,
       e,
-      record { below = omega arith; fair = unreserved m (information w n) i; high = not_low (initial_byte m (information w n)) (argument_bytes w n) (omega arith); payload = none (information w n) (argument_bytes w n) },
+      record { below = omega arith; fair = unreserved m (information w n) i; high = not_low (initial_byte m (information w n)) (argument_bytes w n) (omega arith); payload = none (information w n) (argument_bytes w n); size = sym (argument_length-information w n h) },
     )
 
 string-begins : (b : List ℕ) (m n : ℕ) → (m ≡ 2) ⊎ (m ≡ 3) → Head b m n → Begins b n
@@ -148,7 +149,7 @@ string-begins b m n kind (w, h, e) =
       information w n,
       argument_bytes w n,
       e,
-      record { below = omega arith; fair = unreserved m (information w n) i; high = not_low (initial_byte m (information w n)) (argument_bytes w n) (omega arith); payload = payload_length-is m (information w n) n (argument_bytes w n) i (argument-whole w n h) kind },
+      record { below = omega arith; fair = unreserved m (information w n) i; high = not_low (initial_byte m (information w n)) (argument_bytes w n) (omega arith); payload = payload_length-is m (information w n) n (argument_bytes w n) i (argument-whole w n h) kind; size = sym (argument_length-information w n h) },
     )
   where
     less : (m ≡ 2) ⊎ (m ≡ 3) → m < 7
@@ -156,7 +157,7 @@ string-begins b m n kind (w, h, e) =
     less (inr e) = omega arith
 
 open-begins : (b : List ℕ) (m : ℕ) → m < 7 → is_reserved m 31 ≡ false → payload_length m 31 [] ≡ 0 → b ≡ initial_byte m 31 ∷ [] → Begins b 0
-open-begins b m lt fair none e = (m, 31, [], e, record { below = omega arith; fair = fair; high = refl; payload = none })
+open-begins b m lt fair none e = (m, 31, [], e, record { below = omega arith; fair = fair; high = refl; payload = none; size = refl })
 
 not_low-float : (x : ℕ) (b : List ℕ) → 248 < x → is_low_simple x b ≡ false
 not_low-float x [] h = refl
@@ -175,13 +176,13 @@ header-begins b (Map (Some n)) s = plain-begins b 5 n (omega arith) (λ a c. ref
 header-begins b (Map None) s = open-begins b 5 (omega arith) refl refl s
 header-begins b (Tag n) s = plain-begins b 6 n (omega arith) (λ a c. refl) s
 header-begins b (Simple n) (inl s) =
-    (7, n, [], s.1, record { below = omega (arith, s.0); fair = grind (arith, nat_tests); high = refl; payload = refl })
+    (7, n, [], s.1, record { below = omega (arith, s.0); fair = grind (arith, nat_tests); high = refl; payload = refl; size = grind (arith, nat_tests) })
 header-begins b (Simple n) (inr s) =
-    (7, 24, n ∷ [], s.2, record { below = omega arith; fair = refl; high = le-ltb n 32 s.0; payload = refl })
-header-begins b (Float size) (raw, (inl s), l) = (7, 25, raw, s.1, record { below = omega arith; fair = refl; high = not_low-float 249 raw (omega arith); payload = refl })
-header-begins b (Float size) (raw, (inr (inl s)), l) = (7, 26, raw, s.1, record { below = omega arith; fair = refl; high = not_low-float 250 raw (omega arith); payload = refl })
-header-begins b (Float size) (raw, (inr (inr s)), l) = (7, 27, raw, s.1, record { below = omega arith; fair = refl; high = not_low-float 251 raw (omega arith); payload = refl })
-header-begins b Break s = (7, 31, [], s, record { below = omega arith; fair = refl; high = refl; payload = refl })
+    (7, 24, n ∷ [], s.2, record { below = omega arith; fair = refl; high = le-ltb n 32 s.0; payload = refl; size = refl })
+header-begins b (Float size) (raw, (inl s), l) = (7, 25, raw, s.1, record { below = omega arith; fair = refl; high = not_low-float 249 raw (omega arith); payload = refl; size = s.0 })
+header-begins b (Float size) (raw, (inr (inl s)), l) = (7, 26, raw, s.1, record { below = omega arith; fair = refl; high = not_low-float 250 raw (omega arith); payload = refl; size = s.0 })
+header-begins b (Float size) (raw, (inr (inr s)), l) = (7, 27, raw, s.1, record { below = omega arith; fair = refl; high = not_low-float 251 raw (omega arith); payload = refl; size = s.0 })
+header-begins b Break s = (7, 31, [], s, record { below = omega arith; fair = refl; high = refl; payload = refl; size = refl })
 
 -- such a head is usable unless its payload would pass the greatest offset
 facts-answer : (m a n p : ℕ) (c : List ℕ) → Facts m a c n → length c ≡ argument_length a → p + 1 + argument_length a ≤ greatest_offset →
@@ -215,3 +216,15 @@ module _ (p x : ℕ) (b : List ℕ) (h : Header) (spelled : SpellsHeader (x ∷ 
     answers = begins-answer x b (announced_length h) p (header-begins (x ∷ b) h spelled) len room ∙ hold _ _ _ (lt-ltb greatest_offset (p + 1 + length b + announced_length h) over);
     needed = whole-spare p x b len room;
   }
+
+-- the payload that a usable head announces fits behind it
+pub header-fits : {E : Type 0} (p : ℕ) (h : Header) (b : List ℕ) → HeadTaken {E = E} p (Ok h) b → p + length b + announced_length h ≤ greatest_offset
+header-fits p h b taken = by (header-begins b h taken.answers.0) taken.answers.1
+  where
+    by : Begins b (announced_length h) → IsUsable b p → p + length b + announced_length h ≤ greatest_offset
+    by (m, a, c, e, f) usable =
+        let x : ℕ = initial_byte m a in
+        let u = usable-fits x c p (subst (λ l. IsUsable l p) e usable) in
+        let v : HeadFits m a c p = subst (λ k. HeadFits m k c p) (mod-mul-add m 32 a f.below) (subst (λ k. HeadFits k (x % 32) c p) (div-mul-add m 32 a f.below) u.2) in
+        let len : length b ≡ suc (length c) = ap length e in
+        omega (arith, v.3, f.payload, f.size, len)

@@ -6,3 +6,5 @@ pub mod UniqueSpelling
 mod ShortestHead
 pub mod HeadAnswers
 pub mod Advancing
+pub mod Payloads
+pub mod OpenStrings

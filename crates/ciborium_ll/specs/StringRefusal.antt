@@ -1,9 +1,9 @@
 -- When a string is refused whose head is usable (RFC 8949, sections 3.1 and 3.2.3).
-use Rattle.std.specs.Prelude.{◌≡◌, ℕ, ◌+◌, ◌<◌, ◌≤◌, List, ◌∷◌, ◌++◌, length, IsUtf8}
+use Rattle.std.specs.Prelude.{◌≡◌, ℕ, ◌+◌, ◌<◌, ◌≤◌, ◌⊎◌, List, ◌∷◌, ◌++◌, length, Option, Some, None, IsUtf8}
 use Rattle.ciborium_ll.specs.Bytes.{greatest_offset}
 use Rattle.ciborium_ll.specs.Head.{open_byte, break_byte}
 use Rattle.ciborium_ll.specs.Spells.{AnyBytes, AreParts}
-use Rattle.ciborium_ll.specs.Refusal.{Refusal, io, syntax, HeadRefuses, IsUsable, HeadStands, BeginsWith}
+use Rattle.ciborium_ll.specs.Refusal.{Refusal, io, syntax, too_long, HeadRefuses, IsUsable, HeadStands, BeginsWith}
 
 -- the two kinds of string
 pub data StringKind : Type 0 where
@@ -52,3 +52,8 @@ PartsRefuse kind b p e =
 -- an open string at offset p: its parts refuse
 abbrev pub OpenStringRefuses : StringKind → List ℕ → ℕ → Refusal → Type 0
 OpenStringRefuses kind b p e = (r : List ℕ) × (b ≡ open_byte (major_of kind) ∷ r) × PartsRefuse kind r (p + 1) e
+
+-- what follows the head at offset p of a string of this length (None: open) refuses, its first byte at offset q
+abbrev pub ContentRefuses : StringKind → Option ℕ → ℕ → List ℕ → ℕ → Refusal → Type 0
+ContentRefuses kind (Some n) p b q e = ((greatest_offset < q + n) × (e ≡ too_long)) ⊎ ((q + n ≤ greatest_offset) × PayloadRefuses kind n p b e)
+ContentRefuses kind None p b q e = PartsRefuse kind b q e

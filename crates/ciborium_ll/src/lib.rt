@@ -5,5 +5,6 @@ pub mod laws;
 mod header;
 mod parsing;
 mod reading;
+mod strings;
 
 pub use header::{Error, Header};

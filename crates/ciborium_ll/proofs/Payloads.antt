@@ -1,0 +1,40 @@
+-- Payloads that are appended piece by piece.
+use Rattle.std.proofs.Common.{◌≡◌, ℕ, ◌+◌, ◌≤◌, List, ◌++◌, length, min, take, Option, Err, refl, ap, ◌∙◌, arith, length-append, length-take-le}
+use Rattle.ciborium_ll.specs.declared.header.Error.{Error}
+use Rattle.ciborium_ll.specs.declared.header.Error.TheVariants.{Io, Syntax, TooLong, Memory}
+use Rattle.ciborium_ll.specs.Bytes.{greatest_offset}
+use Rattle.ciborium_ll.specs.Reading.{Advances, FillTaken}
+use Rattle.ciborium_ll.specs.Strings.{Extends, PiecesTaken}
+use Rattle.ciborium_ll.proofs.Advancing.{Advances-then, Filled}
+
+-- a piece is no longer than what is left
+pub piece-length : (left size : ℕ) (scratch piece : List ℕ) → size ≡ min left (length scratch) → length piece ≡ length (take size scratch) → length piece ≤ left
+piece-length left size scratch piece same len =
+    let fits : size ≤ length scratch = omega arith in
+    let taken : length (take size scratch) ≡ size = length-take-le size scratch fits in
+    omega arith
+
+-- what has been appended before a piece
+abbrev pub Appended : ℕ → ℕ → List ℕ → List ℕ → List ℕ → Type 0
+Appended n left old new b = (new ≡ old ++ b) × (length b + left ≡ n)
+
+refused : {E : Type 0} (n left q : ℕ) (old new piece x y : List ℕ) (e : Error E) → length piece ≤ left → q + left ≤ greatest_offset → Appended n left old new x →
+    FillTaken {E = E} q piece (Err e) y → PiecesTaken {E = E} n (Err e) old new (x ++ y)
+refused n left q old new piece x y (Io e) short below s h = (omega (arith, short, s.1, h.0, length-append x y), (x, s.0))
+refused n left q old new piece x y (Syntax at) short below s h = absurd h
+refused n left q old new piece x y TooLong short below s h = absurd (omega (arith, short, below, h.1))
+refused n left q old new piece x y Memory short below s h = absurd h
+
+-- the reader refused a piece
+pub piece-refused : {E : Type 0} (a b c : Option (List ℕ)) (p q r n left : ℕ) (old new piece : List ℕ) (e : Error E) → length piece ≤ left → q + left ≤ greatest_offset →
+    Advances a b p q (Appended n left old new) → Advances b c q r (FillTaken {E = E} q piece (Err e)) → Advances a c p r (PiecesTaken {E = E} n (Err e) old new)
+piece-refused {E} a b c p q r n left old new piece e short below before now =
+    Advances-then a b c p q r (Appended n left old new) (FillTaken {E = E} q piece (Err e)) (PiecesTaken {E = E} n (Err e) old new)
+    (λ x y s h. refused {E = E} n left q old new piece x y e short below s h) before now
+
+-- the memory for a piece was refused
+pub piece-dropped : (a b c : Option (List ℕ)) (p q r n left : ℕ) (old mid new piece : List ℕ) → length piece ≤ left → new ≡ mid →
+    Advances a b p q (Appended n left old mid) → Advances b c q r (Filled q piece) → Advances a c p r (λ x. (length x ≤ n) × Extends old new)
+piece-dropped a b c p q r n left old mid new piece short same before now =
+    Advances-then a b c p q r (Appended n left old mid) (Filled q piece) (λ x. (length x ≤ n) × Extends old new)
+    (λ x y s h. (omega (arith, short, s.1, ap length h.0, length-append x y), (x, same ∙ s.0))) before now

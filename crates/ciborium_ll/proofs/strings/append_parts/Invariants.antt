@@ -1,0 +1,15 @@
+use Rattle.std.proofs.Common.{◌≡◌, ◌-◌}
+use Rattle.ciborium_ll.specs.Bytes.{greatest_offset}
+use Rattle.ciborium_ll.specs.Strings.{kind_of}
+use Rattle.ciborium_ll.proofs.OpenStrings.{GoodParts}
+use Rattle.ciborium_ll.proofs.strings.append_parts.Given as goal
+
+-- good parts were taken, and their payloads appended
+abbrev pub invariant-parts : goal.invariant-parts
+invariant-parts g l = record {
+  head : l.head ≡ l.count;
+  good : GoodParts (kind_of l.kind) (g.R.Read.remaining l.fn.reader) (g.R.Read.remaining l.reader) l.fn.count l.count l.fn.out.items l.out.items;
+}
+
+abbrev pub decreases-parts : goal.decreases-parts
+decreases-parts g l = greatest_offset - l.count

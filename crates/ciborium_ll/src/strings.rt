@@ -1,0 +1,170 @@
+//! The payloads of strings: appended as they come, tested where they stand.
+
+ghost use Rattle.std.specs.Prelude.{◌≡◌, ◌+◌, ◌<◌, ◌≤◌, ◌++◌, ◌↔◌, IsTrue, List, length, ℕ};
+ghost use Rattle.ciborium_ll.specs.Reading.{Advances};
+ghost use Rattle.ciborium_ll.specs.StringRefusal.{Allowed};
+ghost use Rattle.ciborium_ll.specs.Strings.{IsPart, PartsTaken, PayloadTaken, PiecesTaken, StringTaken, kind_of};
+
+use crate::header::{Error, Header};
+use crate::reading::{fill, read_head};
+use std::io::{self, Read};
+
+// What a string holds.
+#[derive(Clone, Copy)]
+pub(crate) enum Kind {
+    Bytes,
+    Text,
+}
+
+// The scratch of a caller that lends none.
+const OWN_SCRATCH: usize = 64;
+
+// Appends n bytes, in pieces of at most the length of the scratch.
+fn append_pieces<R: Read>(
+    reader: &mut R,
+    count: &mut usize,
+    n: usize,
+    scratch: &mut [u8],
+    out: &mut Vec<u8>,
+) -> Result<(), Error<io::Error>>
+    requires room { 0 < length scratch.old }
+    requires below { count.old + n ≤ usize.MAX }
+    ensures fits { count.new ≤ usize.MAX }
+    ensures bytes { Advances (R.remaining reader.old) (R.remaining reader.new) count.old count.new
+        (PiecesTaken n result out.old.items out.new.items) }
+{
+    let mut left = n;
+    while left > 0 {
+        let size = left.min(scratch.len());
+        let piece = &mut scratch[..size];
+        fill(reader, piece, count)?;
+        if out.extend_from_slice(piece).is_err() {
+            return Err(Error::Memory);
+        }
+        left -= size;
+    }
+    Ok(())
+}
+
+// Appends n bytes, whatever the length of the scratch.
+fn append_bytes<R: Read>(
+    reader: &mut R,
+    count: &mut usize,
+    n: usize,
+    scratch: &mut [u8],
+    out: &mut Vec<u8>,
+) -> Result<(), Error<io::Error>>
+    requires { count.old + n ≤ usize.MAX }
+    ensures fits { count.new ≤ usize.MAX }
+    ensures bytes { Advances (R.remaining reader.old) (R.remaining reader.new) count.old count.new
+        (PiecesTaken n result out.old.items out.new.items) }
+{
+    if scratch.is_empty() {
+        let mut own = [0u8; OWN_SCRATCH];
+        return append_pieces(reader, count, n, &mut own, out);
+    }
+    append_pieces(reader, count, n, scratch, out)
+}
+
+// Whether a string of the kind may hold these bytes.
+fn is_allowed(kind: Kind, payload: &[u8]) -> bool
+    ensures { IsTrue result ↔ Allowed (kind_of kind) payload.now }
+{
+    match kind {
+        Kind::Bytes => true,
+        Kind::Text => str::from_utf8(payload).is_ok(),
+    }
+}
+
+// Appends the payload, of n bytes, of a definite string whose head is at this offset. A refusal
+// takes what was appended of it off again.
+fn append_payload<R: Read>(
+    reader: &mut R,
+    count: &mut usize,
+    kind: Kind,
+    n: usize,
+    head: usize,
+    scratch: &mut [u8],
+    out: &mut Vec<u8>,
+) -> Result<(), Error<io::Error>>
+    requires { count.old + n ≤ usize.MAX }
+    ensures fits { count.new ≤ usize.MAX }
+    ensures bytes { Advances (R.remaining reader.old) (R.remaining reader.new) count.old count.new
+        (λ b. (added : List ℕ) × (out.new.items ≡ out.old.items ++ added) × PayloadTaken (kind_of kind) n head result added b) }
+{
+    let start = out.len();
+    if let Err(e) = append_bytes(reader, count, n, scratch, out) {
+        out.truncate(start);
+        return Err(e);
+    }
+    if !is_allowed(kind, &out[start..]) {
+        out.truncate(start);
+        return Err(Error::Syntax(head));
+    }
+    Ok(())
+}
+
+// What a head is inside an open string.
+enum Part {
+    End,
+    Definite(usize),
+    Other,
+}
+
+fn part_of(kind: Kind, header: Header) -> Part
+    ensures { IsPart (kind_of kind) header result }
+{
+    match (kind, header) {
+        (_, Header::Break) => Part::End,
+        (Kind::Bytes, Header::Bytes(Some(n))) => Part::Definite(n),
+        (Kind::Text, Header::Text(Some(n))) => Part::Definite(n),
+        _ => Part::Other,
+    }
+}
+
+// Appends the payloads of the parts of an open string, to the break.
+fn append_parts<R: Read>(
+    reader: &mut R,
+    count: &mut usize,
+    kind: Kind,
+    scratch: &mut [u8],
+    out: &mut Vec<u8>,
+) -> Result<(), Error<io::Error>>
+    ensures { Advances (R.remaining reader.old) (R.remaining reader.new) count.old count.new
+        (λ b. (added : List ℕ) × (out.new.items ≡ out.old.items ++ added) × PartsTaken (kind_of kind) count.old result added b) }
+{
+    let mut head = *count;
+    'parts: loop {
+        let header = read_head(reader, count)?;
+        match part_of(kind, header) {
+            Part::End => return Ok(()),
+            Part::Definite(n) => append_payload(reader, count, kind, n, head, scratch, out)?,
+            Part::Other => return Err(Error::Syntax(head)),
+        }
+        head = *count;
+    }
+}
+
+/// Appends the payload of the string of this length (`None`: open) whose head is at this offset.
+pub(crate) fn append_string<R: Read>(
+    reader: &mut R,
+    count: &mut usize,
+    kind: Kind,
+    len: Option<usize>,
+    head: usize,
+    scratch: &mut [u8],
+    out: &mut Vec<u8>,
+) -> Result<(), Error<io::Error>>
+    ensures { Advances (R.remaining reader.old) (R.remaining reader.new) count.old count.new
+        (λ b. (added : List ℕ) × (out.new.items ≡ out.old.items ++ added) × StringTaken (kind_of kind) len head count.old result added b) }
+{
+    match len {
+        Some(n) => {
+            if usize::MAX - *count < n {
+                return Err(Error::TooLong);
+            }
+            append_payload(reader, count, kind, n, head, scratch, out)
+        }
+        None => append_parts(reader, count, kind, scratch, out),
+    }
+}
