@@ -8,3 +8,5 @@ pub mod HeadAnswers
 pub mod Advancing
 pub mod Payloads
 pub mod OpenStrings
+pub mod MoreBytes
+pub mod Unread

@@ -9,3 +9,4 @@ pub mod Laws
 pub mod Header
 pub mod Reading
 pub mod Strings
+pub mod Decoding

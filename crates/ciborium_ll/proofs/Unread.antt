@@ -1,0 +1,123 @@
+-- What calls answer, said of all that is unread.
+use Rattle.std.proofs.Common.{◌≡◌, ℕ, ◌+◌, ◌<◌, ◌≤◌, List, [], ◌∷◌, ◌++◌, length, Option, Some, None, Result, Ok, Err, refl, sym, ap, ◌∙◌, subst, arith, append_assoc, length-append, inl, inr, ◌⊎◌}
+use Rattle.std.specs.Io.KnownBytes.{Consumes}
+use Rattle.ciborium_ll.specs.declared.header.Header.{Header}
+use Rattle.ciborium_ll.specs.declared.header.Header.TheVariants as header
+use Rattle.ciborium_ll.specs.declared.header.Error.{Error}
+use Rattle.ciborium_ll.specs.declared.header.Error.TheVariants.{Io, Syntax, TooLong, Memory}
+use Rattle.ciborium_ll.specs.declared.strings.Part.TheVariants.{Other}
+use Rattle.ciborium_ll.specs.Bytes.{greatest_offset}
+use Rattle.ciborium_ll.specs.Head.{Head, break_byte}
+use Rattle.ciborium_ll.specs.Header.{SpellsHeader, announced_length}
+use Rattle.ciborium_ll.specs.Reading.{Advances, RefusedBy, HeadTaken}
+use Rattle.ciborium_ll.specs.Refusal.{Refusal, io, syntax, too_long, HeadRefuses, IsUsable, HeadStands, BeginsWith}
+use Rattle.ciborium_ll.specs.Spells.{AreParts}
+use Rattle.ciborium_ll.specs.StringRefusal.{StringKind, of_bytes, of_text, major_of, Allowed, PayloadRefuses, StringRefuses, BeginsString, PartRefuses, PartsRefuse, ContentRefuses}
+use Rattle.ciborium_ll.specs.Strings.{string_header, IsPart, PayloadTaken, PartTaken, PartsTaken, StringTaken}
+use Rattle.ciborium_ll.proofs.MoreBytes.{refusal-more}
+
+-- what known bytes have left behind those that were taken
+pub known-rest : (b : List ℕ) (new : Option (List ℕ)) (x : List ℕ) → Consumes (Some b) new x → (r : List ℕ) × (new ≡ Some r) × (b ≡ x ++ r)
+known-rest b None x h = absurd h
+known-rest b (Some r) x h = (r, refl, h)
+
+pub rest-of : (old new : Option (List ℕ)) (b x : List ℕ) → old ≡ Some b → Consumes old new x → (r : List ℕ) × (new ≡ Some r) × (b ≡ x ++ r)
+rest-of old new b x e h = known-rest b new x (subst (λ o. Consumes o new x) e h)
+
+-- ---- heads
+
+refused-more : (x r : List ℕ) (p : ℕ) (e : Refusal) → (e ≡ io → ⊥) → HeadRefuses x p e → HeadRefuses (x ++ r) p e
+refused-more x r p e n h = refusal-more x r p (Some e) h (λ k. n (inside k))
+  where
+    inside : Some e ≡ Some io → e ≡ io
+    inside k = cc k
+
+usable-more : (x r : List ℕ) (p : ℕ) → IsUsable x p → IsUsable (x ++ r) p
+usable-more x r p h = refusal-more x r p None h (λ k. apart k)
+  where
+    apart : None ≡ Some io → ⊥
+    apart k = cc
+
+-- bytes of a head that were refused, with what follows
+pub head-refuses : {E : Type 0} (x r b : List ℕ) (p : ℕ) (e : Error E) → HeadTaken {E = E} p (Err e) x → b ≡ x ++ r → RefusedBy e (HeadRefuses b p)
+head-refuses x r b p (Io e) t is = tt
+head-refuses x r b p (Syntax at) t is = subst (λ c. HeadRefuses c p (syntax at)) (sym is) (refused-more x r p (syntax at) (λ k. cc) t.answers)
+head-refuses x r b p TooLong t is = subst (λ c. HeadRefuses c p too_long) (sym is) (refused-more x r p too_long (λ k. cc) t.answers)
+head-refuses x r b p Memory t is = tt
+
+-- what reading a head at the front of b, from offset p on, answers and leaves
+abbrev pub ReadsHead : {E : Type 0} → Option (List ℕ) → List ℕ → ℕ → ℕ → Result Header (Error E) → Type 0
+ReadsHead new b p q (Ok h) = (x : List ℕ) × (r : List ℕ) × SpellsHeader x h × IsUsable b p × (b ≡ x ++ r) × (p ≡ p) × (q ≡ p + length x) × (new ≡ Some r)
+ReadsHead new b p q (Err e) = RefusedBy e (HeadRefuses b p)
+
+pub reads-head : {E : Type 0} (old new : Option (List ℕ)) (b : List ℕ) (p q : ℕ) (result : Result Header (Error E)) → old ≡ Some b →
+    Advances old new p q (HeadTaken {E = E} p result) → ReadsHead {E = E} new b p q result
+reads-head {E} old new b p q (Ok h) e (x, taken, count, t) =
+    let k = rest-of old new b x e taken in
+    (x, k.0, t.answers.0, subst (λ c. IsUsable c p) (sym k.2) (usable-more x k.0 p t.answers.1), k.2, refl, count, k.1)
+reads-head {E} old new b p q (Err f) e (x, taken, count, t) =
+    let k = rest-of old new b x e taken in head-refuses {E = E} x k.0 b p f t k.2
+
+-- ---- strings
+
+-- where a payload was refused, what was left refuses so
+pub payload-refuses : {E : Type 0} (kind : StringKind) (n p : ℕ) (e : Error E) (added x r b : List ℕ) → PayloadTaken {E = E} kind n p (Err e) added x → b ≡ x ++ r →
+    RefusedBy e (PayloadRefuses kind n p b)
+payload-refuses kind n p (Io e) added x r b t is = tt
+payload-refuses kind n p (Syntax at) added x r b t is =
+    subst (λ k. PayloadRefuses kind n p b (syntax k)) (sym t.0) (subst (λ c. PayloadRefuses kind n p c (syntax p)) (sym is) (PayloadRefuses.not_allowed x r t.1 t.2))
+payload-refuses kind n p TooLong added x r b t is = absurd t
+payload-refuses kind n p Memory added x r b t is = tt
+
+-- one refusal in place of another that follows from it
+pub refused-map : {E : Type 0} (e : Error E) (P Q : Refusal → Type 0) → ((f : Refusal) → P f → Q f) → RefusedBy e P → RefusedBy e Q
+refused-map (Io e) P Q f h = tt
+refused-map (Syntax at) P Q f h = f (syntax at) h
+refused-map TooLong P Q f h = f too_long h
+refused-map Memory P Q f h = tt
+
+string-stands : (kind : StringKind) (n : ℕ) (x r b : List ℕ) → SpellsHeader x (string_header kind n) → b ≡ x ++ r → HeadStands b (major_of kind) n (length x) r
+string-stands of_bytes n x r b s is = (x, s, refl, is)
+string-stands of_text n x r b s is = (x, s, refl, is)
+
+-- a string begins here only where its head was read
+string-begun : (kind : StringKind) (x r b : List ℕ) (h : Header) → SpellsHeader x h → b ≡ x ++ r → BeginsString kind b → (n : ℕ) × (h ≡ string_header kind n)
+string-begun kind x r b h s is begun = ?
+
+break-begun : (x r b : List ℕ) (h : Header) → SpellsHeader x h → b ≡ x ++ r → BeginsWith break_byte b → h ≡ header.Break
+break-begun x r b h s is begun = ?
+
+-- where a part was refused, what was left refuses so
+pub part-refuses : {E : Type 0} (kind : StringKind) (p : ℕ) (e : Error E) (x r b : List ℕ) → PartTaken {E = E} kind p e x → b ≡ x ++ r → RefusedBy e (PartRefuses kind b p)
+part-refuses {E} kind p e x r b (inl t) is =
+    refused-map e (HeadRefuses b p) (PartRefuses kind b p) (λ f h. PartRefuses.no_head h) (head-refuses {E = E} x r b p e t is)
+part-refuses {E} kind p e x r b (inr (inl (h, t, other, here))) is =
+    subst (λ k. RefusedBy k (PartRefuses kind b p)) (sym here) (PartRefuses.other (subst (λ c. IsUsable c p) (sym is) (usable-more x r p t.answers.1))
+    (λ begun. let k = string-begun kind x r b h t.answers.0 is begun in other.1 k.0 k.1) (λ begun. other.0 (break-begun x r b h t.answers.0 is begun)))
+part-refuses {E} kind p e x r b (inr (inr (n, s, y, split, t, payload))) is =
+    let whole : b ≡ s ++ (y ++ r) = is ∙ ap (λ (c : List ℕ). c ++ r) split ∙ append_assoc s y r in
+    refused-map e (PayloadRefuses kind n p (y ++ r)) (PartRefuses kind b p)
+    (λ f h. PartRefuses.part (subst (λ c. IsUsable c p) (sym whole) (usable-more s (y ++ r) p t.answers.1)) (n, length s, y ++ r, string-stands kind n s (y ++ r) b t.answers.0 whole, h))
+    (payload-refuses {E = E} kind n p e [] y r (y ++ r) payload refl)
+
+pub parts-refuse : {E : Type 0} (kind : StringKind) (q : ℕ) (e : Error E) (added x r b : List ℕ) → PartsTaken {E = E} kind q (Err e) added x → b ≡ x ++ r → RefusedBy e (PartsRefuse kind b q)
+parts-refuse {E} kind q e added x r b (ps, s, parts, fits, (y, split, part), same) is =
+    refused-map e (PartRefuses kind (y ++ r) (q + length s)) (PartsRefuse kind b q)
+    (λ f h. (s, ps, y ++ r, parts, fits, is ∙ ap (λ (c : List ℕ). c ++ r) split ∙ append_assoc s y r, h))
+    (part-refuses {E = E} kind (q + length s) e y r (y ++ r) part refl)
+
+pub string-refuses : {E : Type 0} (kind : StringKind) (len : Option ℕ) (p q : ℕ) (e : Error E) (added x r b : List ℕ) → StringTaken {E = E} kind len p q (Err e) added x → b ≡ x ++ r →
+    RefusedBy e (ContentRefuses kind len p b q)
+string-refuses {E} kind (Some n) p q (Io e) added x r b (inl t) split = tt
+string-refuses {E} kind (Some n) p q (Syntax at) added x r b (inl (over, is, none, nothing)) split = absurd cc
+string-refuses {E} kind (Some n) p q TooLong added x r b (inl (over, is, none, nothing)) split = inl (over, refl)
+string-refuses {E} kind (Some n) p q Memory added x r b (inl t) split = tt
+string-refuses {E} kind (Some n) p q e added x r b (inr (fits, t)) split =
+    refused-map e (PayloadRefuses kind n p b) (ContentRefuses kind (Some n) p b q) (λ f h. inr (fits, h)) (payload-refuses {E = E} kind n p e added x r b t split)
+string-refuses {E} kind None p q e added x r b t split = parts-refuse {E = E} kind q e added x r b t split
+
+-- the same, where the bytes were known
+pub reads-string : {E : Type 0} (kind : StringKind) (len : Option ℕ) (p q t : ℕ) (old new : Option (List ℕ)) (e : Error E) (b : List ℕ) (A : List ℕ → List ℕ → Type 0) →
+    Advances old new q t (λ x. (added : List ℕ) × A added x × StringTaken {E = E} kind len p q (Err e) added x) → old ≡ Some b → RefusedBy e (ContentRefuses kind len p b q)
+reads-string {E} kind len p q t old new e b A (x, taken, count, (added, h, s)) is =
+    let k = rest-of old new b x is taken in string-refuses {E = E} kind len p q e added x k.0 b s k.2

@@ -1,0 +1,69 @@
+-- What a decoder shows: its reader, the count of bytes read, the head that was pushed back, and where the last head stood.
+use Rattle.std.specs.Prelude.{◌≡◌, ℕ, ◌+◌, List, ◌++◌, length, Option, Some, None, Result, Ok, Err}
+use Rattle.ciborium_ll.specs.declared.header.Header.{Header}
+use Rattle.ciborium_ll.specs.declared.header.Error.{Error}
+use Rattle.ciborium_ll.specs.declared.decoder.Decoder.{Decoder}
+use Rattle.ciborium_ll.specs.Header.{SpellsHeader}
+use Rattle.ciborium_ll.specs.Reading.{Advances, RefusedBy}
+use Rattle.ciborium_ll.specs.Refusal.{HeadRefuses, IsUsable}
+
+-- how many bytes were read, from the offset on at which the decoder began
+abbrev pub count_of : {S : Type 0} → Decoder S → ℕ
+count_of d = d.count
+
+-- the head that was pushed back, with its offset
+abbrev pub pushed_of : {S : Type 0} → Decoder S → Option (Header × ℕ)
+pushed_of d = d.pushed
+
+-- the offset of the head that was pulled last, and before any pull the offset at which the decoder began
+abbrev pub last_of : {S : Type 0} → Decoder S → ℕ
+last_of d = d.last
+
+-- what the decoder's reader has left
+abbrev pub left_of : {S : Type 0} → (S → Option (List ℕ)) → Decoder S → Option (List ℕ)
+left_of remaining d = remaining d.reader.now
+
+-- the decoder holds the reader that it held, so what is left in it is left to the one who lent it
+abbrev pub SameReader : {S : Type 0} → Decoder S → Decoder S → Type 0
+SameReader old new = new.reader.ghost_name ≡ old.reader.ghost_name
+
+-- nothing has been pulled since the reader was lent, at this offset
+pub record Begins {S : Type 0} (d : Decoder S) (lent : S) (offset : ℕ) : Type 0 where
+  pub reader : d.reader.now ≡ lent
+  pub count : d.count ≡ offset
+  pub pushed : d.pushed ≡ None
+  pub last : d.last ≡ offset
+
+-- some bytes are taken from the reader and counted, and nothing else, and P holds of them
+abbrev pub Takes : {S : Type 0} → (S → Option (List ℕ)) → Decoder S → Decoder S → (List ℕ → Type 0) → Type 0
+Takes remaining old new P = Advances (remaining old.reader.now) (remaining new.reader.now) old.count new.count P
+
+-- nothing is read
+abbrev pub IsUnread : {S : Type 0} → Decoder S → Decoder S → Type 0
+IsUnread old new = (new.reader.now ≡ old.reader.now) × (new.count ≡ old.count)
+
+-- the offset of the next head
+abbrev pub next_offset : ℕ → Option (Header × ℕ) → ℕ
+next_offset count None = count
+next_offset count (Some pushed) = pushed.1
+
+abbrev pub offset_of : {S : Type 0} → Decoder S → ℕ
+offset_of d = next_offset d.count d.pushed
+
+-- b is unread, and its first byte is at offset p, where this head was pushed back: its bytes count as unread, and it is usable
+abbrev pub IsAheadBy : {S : Type 0} → (S → Option (List ℕ)) → Decoder S → ℕ → List ℕ → Option (Header × ℕ) → Type 0
+IsAheadBy remaining d p b None = (d.count ≡ p) × (remaining d.reader.now ≡ Some b)
+IsAheadBy remaining d p b (Some pushed) =
+    (pushed.1 ≡ p) × (h : List ℕ) × (r : List ℕ) × SpellsHeader h pushed.0 × IsUsable b p × (b ≡ h ++ r) ×
+    (d.count ≡ p + length h) × (remaining d.reader.now ≡ Some r)
+
+-- b is unread, a head that was pushed back included, and its first byte is at offset p
+abbrev pub IsAhead : {S : Type 0} → (S → Option (List ℕ)) → Decoder S → ℕ → List ℕ → Type 0
+IsAhead remaining d p b = IsAheadBy remaining d p b d.pushed
+
+-- reading the head at the front of b, whose first byte is at offset p, answers so, and leaves what follows it; a refusal is the one
+-- of the definitions
+abbrev pub Pulls : {S E : Type 0} → (S → Option (List ℕ)) → Decoder S → ℕ → List ℕ → Result Header (Error E) → Type 0
+Pulls remaining d p b (Ok header) =
+    (h : List ℕ) × (r : List ℕ) × SpellsHeader h header × IsUsable b p × (b ≡ h ++ r) × (d.last ≡ p) × (d.count ≡ p + length h) × (remaining d.reader.now ≡ Some r)
+Pulls remaining d p b (Err e) = RefusedBy e (HeadRefuses b p)

@@ -1,0 +1,150 @@
+//! A reader of heads.
+
+ghost use Rattle.std.specs.Prelude.{◌≡◌, ◌++◌, IfErr, IfNone, IfOk, IfSome, List, None, Ok, Some, string_bytes, ℕ};
+ghost use Rattle.ciborium_ll.specs.Decoding.{Begins, IsAhead, IsUnread, Pulls, SameReader, Takes, count_of, last_of, left_of, offset_of, pushed_of};
+ghost use Rattle.ciborium_ll.specs.Reading.{FillTaken, HeadTaken, RefusedBy};
+ghost use Rattle.ciborium_ll.specs.StringRefusal.{ContentRefuses, of_bytes, of_text};
+ghost use Rattle.ciborium_ll.specs.Strings.{StringTaken};
+
+use crate::header::{Error, Header};
+use crate::reading::{fill, read_head};
+use crate::strings::{Kind, append_string};
+use std::io::{self, Read};
+
+/// Reads heads and payloads from a reader that it is lent, and counts their bytes.
+///
+/// No byte is read past what a call needs, and none whose offset would pass `usize::MAX`. After a
+/// refusal a beginning of what was to be read has been taken from the reader.
+#[derive(Drop)]
+pub struct Decoder<'a, R> {
+    reader: &'a mut R,
+    count: usize,
+    pushed: Option<(Header, usize)>,
+    last: usize,
+}
+
+impl<'a, R: Read> Decoder<'a, R> {
+    /// A decoder whose offsets begin at 0.
+    pub fn new(reader: &'a mut R) -> Decoder<'a, R>
+        ensures same_reader { result.reader.ghost_name ≡ reader.entry.ghost_name }
+        ensures begins { Begins result reader.old 0 }
+    {
+        Decoder::at(reader, 0)
+    }
+
+    /// A decoder whose offsets begin at the given one.
+    pub fn at(reader: &'a mut R, offset: usize) -> Decoder<'a, R>
+        ensures same_reader { result.reader.ghost_name ≡ reader.entry.ghost_name }
+        ensures begins { Begins result reader.old offset }
+    {
+        Decoder {
+            reader,
+            count: offset,
+            pushed: None,
+            last: offset,
+        }
+    }
+
+    /// The offset of the head that the next `pull` answers: that of the pushed head if there is one,
+    /// else the count of bytes read, from the offset on at which the decoder began.
+    pub fn offset(&self) -> usize
+        ensures { result ≡ offset_of self.now }
+    {
+        match self.pushed {
+            Some((_, offset)) => offset,
+            None => self.count,
+        }
+    }
+
+    /// Gives one head back, with its offset. The next `pull` answers it and reads nothing.
+    pub fn push(&mut self, header: Header, offset: usize)
+        requires { pushed_of self.old ≡ None }
+        ensures same_reader { SameReader self.old self.new }
+        ensures unread { IsUnread self.old self.new }
+        ensures last { last_of self.new ≡ last_of self.old }
+        ensures pushed { pushed_of self.new ≡ Some (header, offset) }
+    {
+        self.pushed = Some((header, offset));
+    }
+
+    /// The head that was pushed back, or else the next one of the reader (RFC 8949, section 3).
+    ///
+    /// # Errors
+    ///
+    /// `Io` where the reader ends or fails inside the head; `Syntax` with the head's offset where it
+    /// is reserved; `TooLong` where the head, or the payload of a definite string that it announces,
+    /// would pass the greatest offset.
+    pub fn pull(&mut self) -> Result<Header, Error<io::Error>>
+        ensures same_reader { SameReader self.old self.new }
+        ensures none_pushed { pushed_of self.new ≡ None }
+
+        // A pushed head is answered and takes nothing.
+        ensures pushed { IfSome (pushed_of self.old) (λ head. (result ≡ Ok head.0) × (last_of self.new ≡ head.1) × IsUnread self.old self.new) }
+
+        // Otherwise just the bytes that decide the answer are taken.
+        ensures taken { IfNone (pushed_of self.old) (Takes R.remaining self.old self.new (HeadTaken (count_of self.old) result)) }
+        ensures last { IfNone (pushed_of self.old) (last_of self.new ≡ count_of self.old) }
+
+        // The same, said of all that is unread.
+        ensures ahead { (b : List ℕ) (p : ℕ) → IsAhead R.remaining self.old p b → Pulls R.remaining self.new p b result }
+    {
+        if let Some((header, offset)) = self.pushed.take() {
+            self.last = offset;
+            return Ok(header);
+        }
+        self.last = self.count;
+        read_head(self.reader, &mut self.count)
+    }
+
+    /// Fills the buffer with the next bytes.
+    ///
+    /// # Errors
+    ///
+    /// `Io` where the reader ends or fails before; `TooLong`, with nothing read, where the bytes
+    /// would pass the greatest offset. What the buffer then holds is open.
+    pub fn read_exact(&mut self, buffer: &mut [u8]) -> Result<(), Error<io::Error>>
+        requires { pushed_of self.old ≡ None }
+        ensures same_reader { SameReader self.old self.new }
+        ensures none_pushed { pushed_of self.new ≡ None }
+        ensures last { last_of self.new ≡ last_of self.old }
+        ensures taken { Takes R.remaining self.old self.new (FillTaken (count_of self.old) buffer.new result) }
+    {
+        fill(self.reader, buffer, &mut self.count)
+    }
+
+    /// Appends the payload of the byte string whose head was pulled last, with the length that the
+    /// head had: `None` is an open string, whose parts are appended up to its break. A scratch of
+    /// any length will do, the empty one too; no answer depends on it.
+    ///
+    /// # Errors
+    ///
+    /// `Io` where the reader ends or fails before the end; `Syntax` with the offset of a head that is
+    /// reserved, or in an open string neither a definite byte string's nor the break; `TooLong` where
+    /// what a head announces would pass the greatest offset; `Memory` where a growth of `out` is
+    /// refused. What was then appended is a beginning of the payload.
+    pub fn bytes_into(
+        &mut self,
+        len: Option<usize>,
+        scratch: &mut [u8],
+        out: &mut Vec<u8>,
+    ) -> Result<(), Error<io::Error>>
+        requires { pushed_of self.old ≡ None }
+        ensures same_reader { SameReader self.old self.new }
+        ensures none_pushed { pushed_of self.new ≡ None }
+        ensures last { last_of self.new ≡ last_of self.old }
+        ensures taken { Takes R.remaining self.old self.new
+            (λ b. (added : List ℕ) × (out.new.items ≡ out.old.items ++ added) × StringTaken of_bytes len (last_of self.old) (count_of self.old) result added b) }
+        ensures refused { (b : List ℕ) → left_of R.remaining self.old ≡ Some b →
+            IfErr result (λ e. RefusedBy e (ContentRefuses of_bytes len (last_of self.old) b (count_of self.old))) }
+    {
+        append_string(
+            self.reader,
+            &mut self.count,
+            Kind::Bytes,
+            len,
+            self.last,
+            scratch,
+            out,
+        )
+    }
+}
