@@ -8,3 +8,4 @@ pub mod StringRefusal
 pub mod Laws
 pub mod Header
 pub mod Reading
+pub mod Writing
