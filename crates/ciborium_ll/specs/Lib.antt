@@ -7,5 +7,6 @@ pub mod Refusal
 pub mod StringRefusal
 pub mod Laws
 pub mod Header
+pub mod HeaderLaws
 pub mod Reading
 pub mod Writing
