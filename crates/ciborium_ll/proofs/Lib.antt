@@ -4,6 +4,8 @@ pub mod ReadHeads
 mod ItemReader
 pub mod UniqueSpelling
 mod ShortestHead
+pub mod OneHeader
+mod HeaderBytes
 pub mod HeadAnswers
 pub mod Advancing
 pub mod Payloads

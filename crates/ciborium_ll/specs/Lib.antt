@@ -7,6 +7,8 @@ pub mod Refusal
 pub mod StringRefusal
 pub mod Laws
 pub mod Header
+pub mod HeaderLaws
 pub mod Reading
 pub mod Strings
 pub mod Decoding
+pub mod Writing

@@ -1,6 +1,7 @@
-//! What holds of heads and of spellings, whatever the code: each law is the contract of a function
+//! What holds of heads, headers and spellings, whatever the code: each law is the contract of a function
 //! that does nothing.
 
+ghost use Rattle.ciborium_ll.specs.HeaderLaws.{HeaderBytesSpell, NoOtherSpellingIsAsShort, NoSpellingIsShorter, OneHeader, OneHeaderAtFront};
 ghost use Rattle.ciborium_ll.specs.Laws.{NoOtherIsAsShort, NoneBeginsAnother, NoneIsShorter, OneAtFront, OneItem, ShortestIsHead};
 
 /// No spelling of an item is a proper beginning of a spelling of any item, and no bytes spell two
@@ -17,4 +18,19 @@ pub fn shortest_head()
     ensures is_head { ShortestIsHead }
     ensures none_shorter { NoneIsShorter }
     ensures no_other { NoOtherIsAsShort }
+{}
+
+/// No bytes spell two headers, and no spelling of a header is a proper beginning of a spelling of
+/// any header (RFC 8949, section 3).
+pub fn one_header()
+    ensures one { OneHeader }
+    ensures at_front { OneHeaderAtFront }
+{}
+
+/// What is written for a header spells it, no spelling of it is shorter, and no other is as short
+/// (RFC 8949, section 4.1).
+pub fn header_bytes_spell()
+    ensures spelled { HeaderBytesSpell }
+    ensures none_shorter { NoSpellingIsShorter }
+    ensures no_other { NoOtherSpellingIsAsShort }
 {}

@@ -1,12 +1,15 @@
-//! The lowest layer of CBOR (RFC 8949): what heads, items and their spellings are.
+//! The lowest layer of CBOR (RFC 8949): heads, strings and offsets over any reader and writer.
 #![tactic(auto)]
 
 mod decoder;
-pub mod laws;
+mod encoder;
 mod header;
+pub mod laws;
 mod parsing;
 mod reading;
 mod strings;
+mod writing;
 
 pub use decoder::Decoder;
+pub use encoder::Encoder;
 pub use header::{Error, Header};
