@@ -1,6 +1,8 @@
 -- What calls answer, said of all that is unread.
-use Rattle.std.proofs.Common.{◌≡◌, ℕ, ◌+◌, ◌<◌, ◌≤◌, List, [], ◌∷◌, ◌++◌, length, Option, Some, None, Result, Ok, Err, refl, sym, ap, ◌∙◌, subst, arith, append_assoc, length-append, inl, inr, ◌⊎◌}
+use Rattle.std.proofs.Common.{◌≡◌, ℕ, ◌+◌, ◌<◌, ◌≤◌, List, [], ◌∷◌, ◌++◌, length, Option, Some, None, Result, Ok, Err, IfErr, refl, sym, ap, ◌∙◌, subst, arith, append_assoc, length-append, inl, inr, ◌⊎◌}
 use Rattle.std.specs.Io.KnownBytes.{Consumes}
+use Rattle.std.specs.Prelude.{IsUtf8}
+use Rattle.std.proofs.lemmas.Str.{IsUtf8-append, IsUtf8-nil}
 use Rattle.ciborium_ll.specs.declared.header.Header.{Header}
 use Rattle.ciborium_ll.specs.declared.header.Header.TheVariants as header
 use Rattle.ciborium_ll.specs.declared.header.Error.{Error}
@@ -9,12 +11,14 @@ use Rattle.ciborium_ll.specs.declared.strings.Part.TheVariants.{Other}
 use Rattle.ciborium_ll.specs.Bytes.{greatest_offset}
 use Rattle.ciborium_ll.specs.Head.{Head, break_byte}
 use Rattle.ciborium_ll.specs.Header.{SpellsHeader, announced_length}
+use Rattle.ciborium_ll.specs.Decoding.{PullsTo}
 use Rattle.ciborium_ll.specs.Reading.{Advances, RefusedBy, HeadTaken}
 use Rattle.ciborium_ll.specs.Refusal.{Refusal, io, syntax, too_long, HeadRefuses, IsUsable, HeadStands, BeginsWith}
-use Rattle.ciborium_ll.specs.Spells.{AreParts}
+use Rattle.ciborium_ll.specs.Spells.{AreParts, joined}
 use Rattle.ciborium_ll.specs.StringRefusal.{StringKind, of_bytes, of_text, major_of, Allowed, PayloadRefuses, StringRefuses, BeginsString, PartRefuses, PartsRefuse, ContentRefuses}
 use Rattle.ciborium_ll.specs.Strings.{string_header, IsPart, PayloadTaken, PartTaken, PartsTaken, StringTaken}
 use Rattle.ciborium_ll.proofs.MoreBytes.{refusal-more}
+use Rattle.ciborium_ll.proofs.OneHeader.{one_header_at_front}
 
 -- what known bytes have left behind those that were taken
 pub known-rest : (b : List ℕ) (new : Option (List ℕ)) (x : List ℕ) → Consumes (Some b) new x → (r : List ℕ) × (new ≡ Some r) × (b ≡ x ++ r)
@@ -23,6 +27,11 @@ known-rest b (Some r) x h = (r, refl, h)
 
 pub rest-of : (old new : Option (List ℕ)) (b x : List ℕ) → old ≡ Some b → Consumes old new x → (r : List ℕ) × (new ≡ Some r) × (b ≡ x ++ r)
 rest-of old new b x e h = known-rest b new x (subst (λ o. Consumes o new x) e h)
+
+-- what reading a head at the front of b, from offset p on, answers and leaves
+abbrev pub ReadsHead : {E : Type 0} → Option (List ℕ) → List ℕ → ℕ → ℕ → Result Header (Error E) → Type 0
+ReadsHead new b p q (Ok h) = (x : List ℕ) × (r : List ℕ) × SpellsHeader x h × IsUsable b p × (b ≡ x ++ r) × (q ≡ p + length x) × (new ≡ Some r)
+ReadsHead new b p q (Err e) = RefusedBy e (HeadRefuses b p)
 
 -- ---- heads
 
@@ -45,18 +54,22 @@ head-refuses x r b p (Syntax at) t is = subst (λ c. HeadRefuses c p (syntax at)
 head-refuses x r b p TooLong t is = subst (λ c. HeadRefuses c p too_long) (sym is) (refused-more x r p too_long (λ k. cc) t.answers)
 head-refuses x r b p Memory t is = tt
 
--- what reading a head at the front of b, from offset p on, answers and leaves
-abbrev pub ReadsHead : {E : Type 0} → Option (List ℕ) → List ℕ → ℕ → ℕ → Result Header (Error E) → Type 0
-ReadsHead new b p q (Ok h) = (x : List ℕ) × (r : List ℕ) × SpellsHeader x h × IsUsable b p × (b ≡ x ++ r) × (p ≡ p) × (q ≡ p + length x) × (new ≡ Some r)
-ReadsHead new b p q (Err e) = RefusedBy e (HeadRefuses b p)
-
 pub reads-head : {E : Type 0} (old new : Option (List ℕ)) (b : List ℕ) (p q : ℕ) (result : Result Header (Error E)) → old ≡ Some b →
     Advances old new p q (HeadTaken {E = E} p result) → ReadsHead {E = E} new b p q result
 reads-head {E} old new b p q (Ok h) e (x, taken, count, t) =
     let k = rest-of old new b x e taken in
-    (x, k.0, t.answers.0, subst (λ c. IsUsable c p) (sym k.2) (usable-more x k.0 p t.answers.1), k.2, refl, count, k.1)
+    (x, k.0, t.answers.0, subst (λ c. IsUsable c p) (sym k.2) (usable-more x k.0 p t.answers.1), k.2, count, k.1)
 reads-head {E} old new b p q (Err f) e (x, taken, count, t) =
     let k = rest-of old new b x e taken in head-refuses {E = E} x k.0 b p f t k.2
+
+-- the same, of a decoder that reads at offset q
+pub pulls-head : {E : Type 0} (old new : Option (List ℕ)) (last count : ℕ) (b : List ℕ) (q p : ℕ) (result : Result Header (Error E)) → (q ≡ p) × (old ≡ Some b) → last ≡ q →
+    Advances old new q count (HeadTaken {E = E} q result) → PullsTo {E = E} last count new p b result
+pulls-head {E} old new last count b q p (Ok h) (at, known) here taken =
+    let r = reads-head {E = E} old new b q count (Ok h) known taken in
+    (r.0, r.1, r.2, subst (IsUsable b) at r.3, r.4, here ∙ at, r.5 ∙ ap (λ k. k + length r.0) at, r.6)
+pulls-head {E} old new last count b q p (Err e) (at, known) here taken =
+    subst (λ k. RefusedBy e (HeadRefuses b k)) at (reads-head {E = E} old new b q count (Err e) known taken)
 
 -- ---- strings
 
@@ -82,10 +95,11 @@ string-stands of_text n x r b s is = (x, s, refl, is)
 
 -- a string begins here only where its head was read
 string-begun : (kind : StringKind) (x r b : List ℕ) (h : Header) → SpellsHeader x h → b ≡ x ++ r → BeginsString kind b → (n : ℕ) × (h ≡ string_header kind n)
-string-begun kind x r b h s is begun = ?
+string-begun of_bytes x r b h s is (n, k, q, (y, head, len, whole)) = (n, (one_header_at_front x y r q h (header.Bytes (Some n)) s head (sym is ∙ whole)).2)
+string-begun of_text x r b h s is (n, k, q, (y, head, len, whole)) = (n, (one_header_at_front x y r q h (header.Text (Some n)) s head (sym is ∙ whole)).2)
 
 break-begun : (x r b : List ℕ) (h : Header) → SpellsHeader x h → b ≡ x ++ r → BeginsWith break_byte b → h ≡ header.Break
-break-begun x r b h s is begun = ?
+break-begun x r b h s is (q, whole) = (one_header_at_front x (break_byte ∷ []) r q h header.Break s refl (sym is ∙ whole)).2
 
 -- where a part was refused, what was left refuses so
 pub part-refuses : {E : Type 0} (kind : StringKind) (p : ℕ) (e : Error E) (x r b : List ℕ) → PartTaken {E = E} kind p e x → b ≡ x ++ r → RefusedBy e (PartRefuses kind b p)
@@ -121,3 +135,35 @@ pub reads-string : {E : Type 0} (kind : StringKind) (len : Option ℕ) (p q t : 
     Advances old new q t (λ x. (added : List ℕ) × A added x × StringTaken {E = E} kind len p q (Err e) added x) → old ≡ Some b → RefusedBy e (ContentRefuses kind len p b q)
 reads-string {E} kind len p q t old new e b A (x, taken, count, (added, h, s)) is =
     let k = rest-of old new b x is taken in string-refuses {E = E} kind len p q e added x k.0 b s k.2
+
+pub refused-string : {E : Type 0} (kind : StringKind) (len : Option ℕ) (p q t : ℕ) (old new : Option (List ℕ)) (result : Result (Unit {0}) (Error E)) (b : List ℕ) (A : List ℕ → List ℕ → Type 0) →
+    Advances old new q t (λ x. (added : List ℕ) × A added x × StringTaken {E = E} kind len p q result added x) → old ≡ Some b → IfErr result (λ e. RefusedBy e (ContentRefuses kind len p b q))
+refused-string {E} kind len p q t old new (Ok u) b A h is = tt
+refused-string {E} kind len p q t old new (Err e) b A h is = reads-string {E = E} kind len p q t old new e b A h is
+
+-- ---- what is appended of a text is UTF-8
+
+joined-utf8 : (ps : List (List ℕ)) (s : List ℕ) → AreParts 3 (Allowed of_text) s ps → IsUtf8 (joined ps)
+joined-utf8 [] s h = IsUtf8-nil
+joined-utf8 (p ∷ ps) s (t, r, (y, head, ok, is), rest, e) = IsUtf8-append p (joined ps) ok (joined-utf8 ps r rest)
+
+utf8-none : (added : List ℕ) → added ≡ [] → IsUtf8 added
+utf8-none added e = subst IsUtf8 (sym e) IsUtf8-nil
+
+payload-utf8 : {E : Type 0} (n p : ℕ) (result : Result (Unit {0}) (Error E)) (added x : List ℕ) → PayloadTaken {E = E} of_text n p result added x → IsUtf8 added
+payload-utf8 n p (Ok u) added x h = subst IsUtf8 (sym h.2) h.1
+payload-utf8 n p (Err (Io e)) added x h = utf8-none added h.1
+payload-utf8 n p (Err (Syntax at)) added x h = utf8-none added h.3
+payload-utf8 n p (Err TooLong) added x h = absurd h
+payload-utf8 n p (Err Memory) added x h = utf8-none added h.1
+
+pub appended-utf8 : {E : Type 0} (len : Option ℕ) (p q : ℕ) (result : Result (Unit {0}) (Error E)) (added x : List ℕ) → StringTaken {E = E} of_text len p q result added x → IsUtf8 added
+appended-utf8 (Some n) p q result added x (inl h) = utf8-none added h.2
+appended-utf8 {E} (Some n) p q result added x (inr h) = payload-utf8 {E = E} n p result added x h.1
+appended-utf8 None p q (Ok u) added x (ps, s, parts, fits, split, same) = subst IsUtf8 (sym same) (joined-utf8 ps s parts)
+appended-utf8 None p q (Err e) added x (ps, s, parts, fits, last, same) = subst IsUtf8 (sym same) (joined-utf8 ps s parts)
+
+-- a text with what was appended
+pub grown-utf8 : {E : Type 0} (len : Option ℕ) (p q t : ℕ) (a b : Option (List ℕ)) (result : Result (Unit {0}) (Error E)) (old new : List ℕ) → IsUtf8 old →
+    Advances a b q t (λ x. (added : List ℕ) × (new ≡ old ++ added) × StringTaken {E = E} of_text len p q result added x) → IsUtf8 new
+grown-utf8 {E} len p q t a b result old new ok (x, taken, count, (added, is, s)) = subst IsUtf8 (sym is) (IsUtf8-append old added ok (appended-utf8 {E = E} len p q result added x s))

@@ -61,9 +61,13 @@ IsAheadBy remaining d p b (Some pushed) =
 abbrev pub IsAhead : {S : Type 0} → (S → Option (List ℕ)) → Decoder S → ℕ → List ℕ → Type 0
 IsAhead remaining d p b = IsAheadBy remaining d p b d.pushed
 
--- reading the head at the front of b, whose first byte is at offset p, answers so, and leaves what follows it; a refusal is the one
--- of the definitions
+-- reading the head at the front of b, whose first byte is at offset p, answers so: then the last head stood there, what follows it
+-- is left, and this many bytes are counted; a refusal is the one of the definitions
+abbrev pub PullsTo : {E : Type 0} → ℕ → ℕ → Option (List ℕ) → ℕ → List ℕ → Result Header (Error E) → Type 0
+PullsTo last count left p b (Ok header) =
+    (h : List ℕ) × (r : List ℕ) × SpellsHeader h header × IsUsable b p × (b ≡ h ++ r) × (last ≡ p) × (count ≡ p + length h) × (left ≡ Some r)
+PullsTo last count left p b (Err e) = RefusedBy e (HeadRefuses b p)
+
+-- the decoder has read so
 abbrev pub Pulls : {S E : Type 0} → (S → Option (List ℕ)) → Decoder S → ℕ → List ℕ → Result Header (Error E) → Type 0
-Pulls remaining d p b (Ok header) =
-    (h : List ℕ) × (r : List ℕ) × SpellsHeader h header × IsUsable b p × (b ≡ h ++ r) × (d.last ≡ p) × (d.count ≡ p + length h) × (remaining d.reader.now ≡ Some r)
-Pulls remaining d p b (Err e) = RefusedBy e (HeadRefuses b p)
+Pulls remaining d p b result = PullsTo d.last d.count (remaining d.reader.now) p b result

@@ -10,6 +10,7 @@ use crate::header::{Error, Header};
 use crate::reading::{fill, read_head};
 use crate::strings::{Kind, append_string};
 use std::io::{self, Read};
+use std::mem;
 
 /// Reads heads and payloads from a reader that it is lent, and counts their bytes.
 ///
@@ -146,5 +147,44 @@ impl<'a, R: Read> Decoder<'a, R> {
             scratch,
             out,
         )
+    }
+
+    /// Appends the payload of the text whose head was pulled last, as `bytes_into` does that of a
+    /// byte string. The payload of a definite text, and each part of an open one, is read whole and
+    /// then tested to be UTF-8.
+    ///
+    /// # Errors
+    ///
+    /// Those of `bytes_into`, with texts in place of byte strings, and `Syntax` with the offset of
+    /// the head of a text or part that is not UTF-8. What was then appended is a beginning of the
+    /// payload.
+    pub fn text_into(
+        &mut self,
+        len: Option<usize>,
+        scratch: &mut [u8],
+        out: &mut String,
+    ) -> Result<(), Error<io::Error>>
+        requires { pushed_of self.old ≡ None }
+        ensures same_reader { SameReader self.old self.new }
+        ensures none_pushed { pushed_of self.new ≡ None }
+        ensures last { last_of self.new ≡ last_of self.old }
+        ensures taken { Takes R.remaining self.old self.new
+            (λ b. (added : List ℕ) × (string_bytes out.new ≡ string_bytes out.old ++ added) × StringTaken of_text len (last_of self.old) (count_of self.old) result added b) }
+        ensures refused { (b : List ℕ) → left_of R.remaining self.old ≡ Some b →
+            IfErr result (λ e. RefusedBy e (ContentRefuses of_text len (last_of self.old) b (count_of self.old))) }
+    {
+        let empty = String::new(*out.allocator());
+        let mut bytes = mem::replace(out, empty).into_bytes();
+        let result = append_string(
+            self.reader,
+            &mut self.count,
+            Kind::Text,
+            len,
+            self.last,
+            scratch,
+            &mut bytes,
+        );
+        *out = unsafe { String::from_utf8_unchecked(bytes) };
+        result
     }
 }
