@@ -1,5 +1,5 @@
 -- What calls answer, said of all that is unread.
-use Rattle.std.proofs.Common.{◌≡◌, ℕ, ◌+◌, ◌<◌, ◌≤◌, List, [], ◌∷◌, ◌++◌, length, Option, Some, None, Result, Ok, Err, IfErr, refl, sym, ap, ◌∙◌, subst, arith, append_assoc, length-append, inl, inr, ◌⊎◌}
+use Rattle.std.proofs.Common.{◌≡◌, ℕ, ◌+◌, ◌<◌, ◌≤◌, List, [], ◌∷◌, ◌++◌, length, Option, Some, None, Result, Ok, Err, IfErr, IfNone, refl, sym, ap, ◌∙◌, subst, arith, append_assoc, length-append, inl, inr, ◌⊎◌}
 use Rattle.std.specs.Io.KnownBytes.{Consumes}
 use Rattle.std.specs.Prelude.{IsUtf8}
 use Rattle.std.proofs.lemmas.Str.{IsUtf8-append, IsUtf8-nil}
@@ -11,7 +11,8 @@ use Rattle.ciborium_ll.specs.declared.strings.Part.TheVariants.{Other}
 use Rattle.ciborium_ll.specs.Bytes.{greatest_offset}
 use Rattle.ciborium_ll.specs.Head.{Head, break_byte}
 use Rattle.ciborium_ll.specs.Header.{SpellsHeader, announced_length}
-use Rattle.ciborium_ll.specs.Decoding.{PullsTo}
+use Rattle.ciborium_ll.specs.declared.decoder.Decoder.{Decoder}
+use Rattle.ciborium_ll.specs.Decoding.{Begins, PullsTo}
 use Rattle.ciborium_ll.specs.Reading.{Advances, RefusedBy, HeadTaken}
 use Rattle.ciborium_ll.specs.Refusal.{Refusal, io, syntax, too_long, HeadRefuses, IsUsable, HeadStands, BeginsWith}
 use Rattle.ciborium_ll.specs.Spells.{AreParts, joined}
@@ -167,3 +168,17 @@ appended-utf8 None p q (Err e) added x (ps, s, parts, fits, last, same) = subst 
 pub grown-utf8 : {E : Type 0} (len : Option ℕ) (p q t : ℕ) (a b : Option (List ℕ)) (result : Result (Unit {0}) (Error E)) (old new : List ℕ) → IsUtf8 old →
     Advances a b q t (λ x. (added : List ℕ) × (new ≡ old ++ added) × StringTaken {E = E} of_text len p q result added x) → IsUtf8 new
 grown-utf8 {E} len p q t a b result old new ok (x, taken, count, (added, is, s)) = subst IsUtf8 (sym is) (IsUtf8-append old added ok (appended-utf8 {E = E} len p q result added x s))
+
+-- ---- a decoder that was just made
+
+-- what the first pull of it takes
+pub first-taken : {S E : Type 0} (remaining : S → Option (List ℕ)) (d new : Decoder S) (lent : S) (p : ℕ) (result : Result Header (Error E)) → Begins d lent p →
+    IfNone d.pushed (Advances (remaining d.reader.now) (remaining new.reader.now) d.count new.count (HeadTaken {E = E} d.count result)) →
+    (b : List ℕ) × Consumes (remaining lent) (remaining new.reader.now) b × HeadTaken {E = E} p result b
+first-taken {S} {E} remaining d new lent p result begins taken =
+    let t : Advances (remaining d.reader.now) (remaining new.reader.now) d.count new.count (HeadTaken {E = E} d.count result) = without d.pushed begins.pushed taken in
+    (t.0, subst (λ r. Consumes (remaining r) (remaining new.reader.now) t.0) begins.reader t.1, subst (λ k. HeadTaken {E = E} k result t.0) begins.count t.3)
+  where
+    without : {A : Type 0} (o : Option A) → o ≡ None → {P : Type 0} → IfNone o P → P
+    without None e h = h
+    without (Some a) e h = absurd cc

@@ -188,3 +188,6 @@ impl<'a, R: Read> Decoder<'a, R> {
         result
     }
 }
+
+#[cfg(test)]
+mod tests;
