@@ -8,18 +8,18 @@ use crate::header::Header;
 use crate::writing;
 use std::io::{self, Write};
 
-/// Writes heads and payloads to a writer that it was lent (RFC 8949, section 3).
+/// Writes heads and payloads to a writer that it is lent (RFC 8949, section 3).
 ///
-/// Each call writes all of its bytes or answers an error, and flushes nothing. An error of the
-/// writer, `Interrupted` too, ends the call and is its answer, and a write that takes nothing is
-/// `WriteZero`. A beginning of the call's bytes, never all of them, then has gone out.
+/// Each call writes all of its bytes or answers an error. The first error of the writer ends the
+/// call and is its answer, `Interrupted` too, and a write that takes nothing is a `WriteZero`.
+/// Nothing is held back, and nothing is flushed.
 #[derive(Drop)]
 pub struct Encoder<'a, W> {
     writer: &'a mut W,
 }
 
 impl<'a, W: Write> Encoder<'a, W> {
-    /// An encoder that writes behind what the writer holds. Nothing is written yet.
+    /// An encoder that writes behind what the writer holds. Making it writes nothing.
     pub fn new(writer: &'a mut W) -> Encoder<'a, W>
         ensures same_writer { (writer_of result).ghost_name ≡ writer.entry.ghost_name }
         ensures unchanged { (writer_of result).now ≡ writer.old }
@@ -29,8 +29,10 @@ impl<'a, W: Write> Encoder<'a, W> {
 
     /// Writes the head in its shortest form (RFC 8949, section 4.1).
     ///
-    /// A float has bytes that its header does not hold, and simple values from 24 to 31 have no
-    /// head (section 3.3): neither may be pushed.
+    /// At an error a proper beginning of the head has gone out, and nothing else.
+    ///
+    /// Two kinds of header may not be pushed: a float, whose raw bytes are not in its `Header`, and
+    /// a simple value from 24 to 31, which has no head (section 3.3).
     pub fn push(&mut self, header: Header) -> io::Result<()>
         requires { IsWritable header }
         ensures same_writer { (writer_of self.new).ghost_name ≡ (writer_of self.old).ghost_name }
@@ -39,7 +41,10 @@ impl<'a, W: Write> Encoder<'a, W> {
         writing::write_head(self.writer, header)
     }
 
-    /// Writes the bytes as they are, such as the payload of a string (RFC 8949, section 3.1).
+    /// Writes the bytes as they are, such as the payload behind a string's head (RFC 8949,
+    /// section 3.1).
+    ///
+    /// At an error a proper beginning of the bytes has gone out, and nothing else.
     pub fn write_all(&mut self, bytes: &[u8]) -> io::Result<()>
         ensures same_writer { (writer_of self.new).ghost_name ≡ (writer_of self.old).ghost_name }
         ensures bytes { Writes (W.contents (writer_of self.old).now) (W.contents (writer_of self.new).now) result bytes.now }

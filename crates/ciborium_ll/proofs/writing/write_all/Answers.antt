@@ -19,5 +19,5 @@ loop-written-preserved g c =
     let rest : length (take (length bytes - at) (drop at bytes)) ≡ length (drop at bytes) = ap length whole in
     record {
       within = omega (arith, rest, len, c.in-Ok.ensures.bound, c.loop-written.invariant.within);
-      out = subst (Appends _ _) (ap (λ l. take at bytes ++ take c.in-Ok.n l) whole ∙ sym (take-add at c.in-Ok.n bytes)) (Appends-trans _ _ _ _ _ c.loop-written.invariant.out c.in-Ok.ensures.bytes);
+      appended = subst (Appends _ _) (ap (λ l. take at bytes ++ take c.in-Ok.n l) whole ∙ sym (take-add at c.in-Ok.n bytes)) (Appends-trans _ _ _ _ _ c.loop-written.invariant.appended c.in-Ok.ensures.bytes);
     }
