@@ -1,7 +1,6 @@
 -- Bytes that are taken in two steps.
-use Rattle.std.proofs.Common.{◌≡◌, ℕ, ◌+◌, ◌≤◌, ◌%◌, List, [], ◌∷◌, ◌++◌, length, get_or, Option, Ok, Err, refl, sym, ap, ◌∙◌, subst, arith, length-append, length-take-le, take}
+use Rattle.std.proofs.Common.{◌≡◌, ℕ, ◌+◌, ◌≤◌, ◌%◌, List, [], ◌∷◌, ◌++◌, length, get_or, Option, Err, refl, sym, ap, ◌∙◌, subst, arith, length-append, length-take-le, take}
 use Rattle.std.proofs.KnownBytes.{Consumes-trans}
-use Rattle.ciborium_ll.specs.declared.header.Header.{Header}
 use Rattle.ciborium_ll.specs.declared.header.Error.{Error}
 use Rattle.ciborium_ll.specs.Bytes.{greatest_offset}
 use Rattle.ciborium_ll.specs.Reading.{Advances, FillTaken, HeadTaken}

@@ -1,6 +1,5 @@
 -- What the bytes of a head say where they were read: one byte, then as many as it asks for.
-use Rattle.std.proofs.Common.{◌≡◌, ℕ, zero, suc, ◌+◌, ◌*◌, ◌/◌, ◌%◌, ◌<◌, ◌≤◌, cond, ltb, eqb, Bool, true, false, ◌&&◌, ◌||◌, List, [], ◌∷◌, ◌++◌, length, take, Option, Some, None, Ok, Err, IsTrue, refl, sym, ap, ◌∙◌, subst, arith, inl, inr, ◌⊎◌, lt-ltb, le-ltb, ne_eqb, append-nil, length-append, get_or}
-use Rattle.std.specs.Io.KnownBytes.{Consumes}
+use Rattle.std.proofs.Common.{◌≡◌, ℕ, zero, suc, ◌+◌, ◌/◌, ◌%◌, ◌<◌, ◌≤◌, cond, ltb, Bool, true, false, ◌&&◌, ◌||◌, List, [], ◌∷◌, length, take, Some, None, Ok, Err, IsTrue, refl, sym, ap, ◌∙◌, subst, arith, inl, inr, ◌⊎◌, lt-ltb, le-ltb, ne_eqb, append-nil}
 use Rattle.std.proofs.lemmas.Bool.Decides.{nat_tests}
 use Rattle.std.proofs.lemmas.Nat.{div-mul-add, mod-mul-add}
 use Rattle.ciborium_ll.specs.declared.header.Header.{Header}
@@ -8,9 +7,9 @@ use Rattle.ciborium_ll.specs.declared.header.Header.TheVariants.{Positive, Negat
 use Rattle.ciborium_ll.specs.declared.header.Error.{Error}
 use Rattle.ciborium_ll.specs.declared.header.Error.TheVariants.{Io, Syntax, TooLong, Memory}
 use Rattle.ciborium_ll.specs.Bytes.{greatest_offset}
-use Rattle.ciborium_ll.specs.Head.{Width, within, one_byte, two_bytes, four_bytes, eight_bytes, capacity, information, argument_bytes, initial_byte, Head}
+use Rattle.ciborium_ll.specs.Head.{Width, capacity, information, argument_bytes, initial_byte, Head}
 use Rattle.ciborium_ll.specs.Header.{SpellsHeader, announced_length}
-use Rattle.ciborium_ll.specs.Reading.{FillTaken, AnswersHead, HeadTaken, NoneIsSpare}
+use Rattle.ciborium_ll.specs.Reading.{FillTaken, HeadTaken, NoneIsSpare}
 use Rattle.ciborium_ll.specs.Refusal.{Refusal, io, syntax, too_long, argument_length, is_reserved, is_low_simple, is_ill_formed, payload_length, initial_refusal, head_refusal, HeadRefuses, IsUsable}
 use Rattle.ciborium_ll.proofs.UsableHeads.{pass, low, unreserved, not_low, and_false, information-below, argument-information, argument_length-information, HeadFits, usable-fits}
 use Rattle.ciborium_ll.proofs.ReadHeads.{payload_length-is}

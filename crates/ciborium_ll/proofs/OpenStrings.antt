@@ -1,5 +1,5 @@
 -- The parts of an open string, one behind the other.
-use Rattle.std.proofs.Common.{◌≡◌, ℕ, ◌+◌, ◌<◌, ◌≤◌, List, [], ◌∷◌, ◌++◌, length, Option, Some, Ok, Err, refl, sym, ap, ◌∙◌, subst, arith, append_assoc, append-nil, length-append, inl, inr}
+use Rattle.std.proofs.Common.{◌≡◌, ℕ, ◌+◌, ◌<◌, ◌≤◌, List, [], ◌∷◌, ◌++◌, length, Option, Ok, Err, refl, sym, ap, ◌∙◌, subst, arith, append_assoc, append-nil, length-append, inl, inr}
 use Rattle.ciborium_ll.specs.declared.header.Header.{Header}
 use Rattle.ciborium_ll.specs.declared.header.Header.TheVariants as header
 use Rattle.ciborium_ll.specs.declared.header.Error.{Error}
@@ -12,7 +12,7 @@ use Rattle.ciborium_ll.specs.Reading.{Advances, HeadTaken}
 use Rattle.ciborium_ll.specs.Spells.{IsDefiniteString, AreParts, joined}
 use Rattle.ciborium_ll.specs.StringRefusal.{StringKind, of_bytes, of_text, major_of, Allowed}
 use Rattle.ciborium_ll.specs.Strings.{string_header, IsPart, PayloadTaken, PartTaken, PartsTaken}
-use Rattle.ciborium_ll.proofs.Advancing.{Advances-then, Advances-map}
+use Rattle.ciborium_ll.proofs.Advancing.{Advances-then}
 use Rattle.ciborium_ll.proofs.UsableHeads.{usable-fits}
 use Rattle.ciborium_ll.proofs.HeadAnswers.{header-fits}
 use Rattle.std.proofs.KnownBytes.{Consumes-nil}

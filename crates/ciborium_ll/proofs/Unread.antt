@@ -1,5 +1,5 @@
 -- What calls answer, said of all that is unread.
-use Rattle.std.proofs.Common.{◌≡◌, ℕ, ◌+◌, ◌<◌, ◌≤◌, List, [], ◌∷◌, ◌++◌, length, Option, Some, None, Result, Ok, Err, IfErr, IfNone, refl, sym, ap, ◌∙◌, subst, arith, append_assoc, length-append, inl, inr, ◌⊎◌}
+use Rattle.std.proofs.Common.{◌≡◌, ℕ, ◌+◌, List, [], ◌∷◌, ◌++◌, length, Option, Some, None, Result, Ok, Err, IfErr, IfNone, refl, sym, ap, ◌∙◌, subst, append_assoc, inl, inr}
 use Rattle.std.specs.Io.KnownBytes.{Consumes}
 use Rattle.std.specs.Prelude.{IsUtf8}
 use Rattle.std.proofs.lemmas.Str.{IsUtf8-append, IsUtf8-nil}
@@ -7,17 +7,15 @@ use Rattle.ciborium_ll.specs.declared.header.Header.{Header}
 use Rattle.ciborium_ll.specs.declared.header.Header.TheVariants as header
 use Rattle.ciborium_ll.specs.declared.header.Error.{Error}
 use Rattle.ciborium_ll.specs.declared.header.Error.TheVariants.{Io, Syntax, TooLong, Memory}
-use Rattle.ciborium_ll.specs.declared.strings.Part.TheVariants.{Other}
-use Rattle.ciborium_ll.specs.Bytes.{greatest_offset}
-use Rattle.ciborium_ll.specs.Head.{Head, break_byte}
-use Rattle.ciborium_ll.specs.Header.{SpellsHeader, announced_length}
+use Rattle.ciborium_ll.specs.Head.{break_byte}
+use Rattle.ciborium_ll.specs.Header.{SpellsHeader}
 use Rattle.ciborium_ll.specs.declared.decoder.Decoder.{Decoder}
 use Rattle.ciborium_ll.specs.Decoding.{Begins, PullsTo}
 use Rattle.ciborium_ll.specs.Reading.{Advances, RefusedBy, HeadTaken}
 use Rattle.ciborium_ll.specs.Refusal.{Refusal, io, syntax, too_long, HeadRefuses, IsUsable, HeadStands, BeginsWith}
 use Rattle.ciborium_ll.specs.Spells.{AreParts, joined}
-use Rattle.ciborium_ll.specs.StringRefusal.{StringKind, of_bytes, of_text, major_of, Allowed, PayloadRefuses, StringRefuses, BeginsString, PartRefuses, PartsRefuse, ContentRefuses}
-use Rattle.ciborium_ll.specs.Strings.{string_header, IsPart, PayloadTaken, PartTaken, PartsTaken, StringTaken}
+use Rattle.ciborium_ll.specs.StringRefusal.{StringKind, of_bytes, of_text, major_of, Allowed, PayloadRefuses, BeginsString, PartRefuses, PartsRefuse, ContentRefuses}
+use Rattle.ciborium_ll.specs.Strings.{string_header, PayloadTaken, PartTaken, PartsTaken, StringTaken}
 use Rattle.ciborium_ll.proofs.MoreBytes.{refusal-more}
 use Rattle.ciborium_ll.proofs.OneHeader.{one_header_at_front}
 

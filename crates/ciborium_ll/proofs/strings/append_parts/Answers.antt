@@ -1,4 +1,4 @@
-use Rattle.std.proofs.Common.{◌≡◌, ◌+◌, ◌≤◌, refl, arith, sym, subst}
+use Rattle.std.proofs.Common.{refl, arith}
 use Rattle.std.proofs.lemmas.Result.{err_from_is_err_and}
 use Rattle.ciborium_ll.proofs.OpenStrings.{parts-none, parts-more, parts-end, parts-refused, part-head-refused, other-refused, payload-fits, payload-refused}
 use Rattle.ciborium_ll.proofs.strings.append_parts.Goals as goal

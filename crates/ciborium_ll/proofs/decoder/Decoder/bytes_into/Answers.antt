@@ -1,4 +1,3 @@
-use Rattle.std.proofs.Common.{◌≡◌, ◌++◌}
 use Rattle.ciborium_ll.specs.StringRefusal.{of_bytes}
 use Rattle.ciborium_ll.proofs.Unread.{refused-string}
 use Rattle.ciborium_ll.proofs.decoder.Decoder.bytes_into.Goals as goal

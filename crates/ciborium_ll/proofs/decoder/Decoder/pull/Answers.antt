@@ -1,4 +1,4 @@
-use Rattle.std.proofs.Common.{◌≡◌, Option, Some, None, refl, sym, ◌∙◌, subst}
+use Rattle.std.proofs.Common.{◌≡◌, None, refl, sym, ◌∙◌, subst}
 use Rattle.ciborium_ll.specs.Decoding.{IsAheadBy}
 use Rattle.ciborium_ll.proofs.Unread.{pulls-head}
 use Rattle.ciborium_ll.proofs.decoder.Decoder.pull.Goals as goal
