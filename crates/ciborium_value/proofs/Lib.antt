@@ -1,3 +1,4 @@
+pub mod Views
 mod Reader
 mod Parts
 mod Steps

@@ -7,5 +7,6 @@ pub mod Refuses
 pub mod Encoding
 pub mod Canonical
 pub mod Counts
+pub mod View
 pub mod Laws
 pub mod Examples
