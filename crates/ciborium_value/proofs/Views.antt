@@ -1,7 +1,9 @@
 -- The tree of a value, variant by variant and along its lists.
-use Rattle.std.proofs.Common.{◌≡◌, ℕ, suc, List, [], ◌∷◌, length, string_bytes, String, Vec, Box, Global, ℤ, Bool, rules, refl, ap}
+use Rattle.std.proofs.Common.{◌≡◌, ℕ, suc, ◌≤◌, List, [], ◌∷◌, length, string_bytes, String, Vec, Box, Global, ℤ, Bool, rules, refl, ap, arith}
 use Rattle.ciborium_value.specs.Tree as trees
-use Rattle.ciborium_value.specs.Tree.{Tree, Trees, TreePairs, trees_count, tree_pairs_count}
+use Rattle.ciborium_value.specs.Tree.{trees_count, tree_pairs_count}
+use Rattle.ciborium_value.specs.Proper.{IsProperTree, AreProperTrees, AreProperTreePairs}
+use Rattle.ciborium_ll.specs.Bytes.{greatest_offset}
 use Rattle.ciborium_value.specs.View.{tree_of, trees_of, tree_pairs_of}
 use Rattle.ciborium_value.specs.declared.value.Value as value
 use Rattle.ciborium_value.specs.declared.value.Value.{Value, the_lemmas}
@@ -41,3 +43,14 @@ trees_count-trees_of (v ∷ vs) = ap suc (trees_count-trees_of vs)
 pub tree_pairs_count-tree_pairs_of : (ps : List (Value × Value)) → tree_pairs_count (tree_pairs_of ps) ≡ length ps
 tree_pairs_count-tree_pairs_of [] = refl
 tree_pairs_count-tree_pairs_of (p ∷ ps) = ap suc (tree_pairs_count-tree_pairs_of ps)
+
+-- ---- proper trees: a walk over a value has this much to show at a list, since no `Vec` is longer than the greatest offset
+
+fits : {A : Type 0} (v : Vec A Global) → length v.items ≤ greatest_offset
+fits v = let ok = v.ok in let small = v.small in omega arith
+
+pub is_proper-Array : (v : Vec Value Global) → AreProperTrees (trees_of v.items) → IsProperTree (tree_of (value.Array v))
+is_proper-Array v each = rw (tree_of-Array v, trees_count-trees_of v.items) (fits v, each)
+
+pub is_proper-Map : (v : Vec (Value × Value) Global) → AreProperTreePairs (tree_pairs_of v.items) → IsProperTree (tree_of (value.Map v))
+is_proper-Map v each = rw (tree_of-Map v, tree_pairs_count-tree_pairs_of v.items) (fits v, each)
