@@ -1,4 +1,6 @@
 pub mod Views
+pub mod Derived
+pub mod OrderedTrees
 mod Reader
 mod Parts
 mod Steps

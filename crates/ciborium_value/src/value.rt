@@ -1,5 +1,7 @@
 //! The tree of a CBOR item in memory.
 
+mod accessors;
+
 use crate::integer::Integer;
 
 /// A CBOR item in memory (RFC 8949, section 3), without floats. Two values are equal where their
