@@ -1,5 +1,6 @@
 pub mod Tree
 pub mod Meaning
+pub mod Number
 pub mod Nesting
 pub mod Folded
 pub mod Proper

@@ -4,7 +4,7 @@ ghost use Rattle.std.specs.Prelude.{◌≡◌, IfOk};
 ghost use Rattle.ciborium_value.specs.View.{tree_of, trees_of, tree_pairs_of};
 
 use crate::value::Value;
-use std::alloc::AllocError;
+use std::alloc::{AllocError, Global};
 
 /// A copy of equal content, or the error where memory was refused.
 impl Clone for Value {
@@ -29,16 +29,16 @@ fn copy(value: &Value) -> Result<Value, AllocError>
             let copied = copy(content)?;
             Ok(Value::Tag(*tag, Box::new(*Box::allocator(content), copied)?))
         }
-        Value::Array(values) => Ok(Value::Array(copy_values(values)?)),
-        Value::Map(pairs) => Ok(Value::Map(copy_pairs(pairs)?)),
+        Value::Array(values) => Ok(Value::Array(copy_values(*values.allocator(), values)?)),
+        Value::Map(pairs) => Ok(Value::Map(copy_pairs(*pairs.allocator(), pairs)?)),
     }
 }
 
 #[cycle(copy)]
-fn copy_values(values: &Vec<Value>) -> Result<Vec<Value>, AllocError>
-    ensures { IfOk result (λ v. trees_of v.items ≡ trees_of values.now.items) }
+pub(crate) fn copy_values(alloc: Global, values: &[Value]) -> Result<Vec<Value>, AllocError>
+    ensures { IfOk result (λ v. trees_of v.items ≡ trees_of values.now) }
 {
-    let mut copies = Vec::new(*values.allocator());
+    let mut copies = Vec::new(alloc);
     for value in values {
         copies.push(copy(value)?)?;
     }
@@ -46,10 +46,13 @@ fn copy_values(values: &Vec<Value>) -> Result<Vec<Value>, AllocError>
 }
 
 #[cycle(copy)]
-fn copy_pairs(pairs: &Vec<(Value, Value)>) -> Result<Vec<(Value, Value)>, AllocError>
-    ensures { IfOk result (λ v. tree_pairs_of v.items ≡ tree_pairs_of pairs.now.items) }
+pub(crate) fn copy_pairs(
+    alloc: Global,
+    pairs: &[(Value, Value)],
+) -> Result<Vec<(Value, Value)>, AllocError>
+    ensures { IfOk result (λ v. tree_pairs_of v.items ≡ tree_pairs_of pairs.now) }
 {
-    let mut copies = Vec::new(*pairs.allocator());
+    let mut copies = Vec::new(alloc);
     for pair in pairs {
         let key = copy(&pair.0)?;
         let value = copy(&pair.1)?;

@@ -1,6 +1,7 @@
 //! The tree of a CBOR item in memory.
 
 mod accessors;
+mod conversions;
 
 use crate::integer::Integer;
 
