@@ -30,11 +30,11 @@ places : (a b r s p : ℕ) → r < p → s < p → ordering_then (nat_cmp a b) (
 places a b r s p l k =
     nat_cmp_is (a * p + r) (b * p + s) _ (by_places (nat_cmp a b) (nat_cmp r s) a b r s p l k (ranked a b _ refl) (ranked r s _ refl))
 
-byte_at-is : (k n : ℕ) → byte_at k n ≡ n / 256 ^ k % 256
+pub byte_at-is : (k n : ℕ) → byte_at k n ≡ n / 256 ^ k % 256
 byte_at-is zero n = sym (ap (λ x. x % 256) (div-one n))
 byte_at-is (suc k) n = refl
 
-power_above : (k : ℕ) → 0 < 256 ^ k
+pub power_above : (k : ℕ) → 0 < 256 ^ k
 power_above zero = lit< tt
 power_above (suc k) = rw (pow-succ' 256 k) (let above = power_above k in omega arith)
 
