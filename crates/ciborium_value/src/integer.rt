@@ -5,6 +5,8 @@ ghost use Rattle.ciborium_ll.specs.Head.{shortest_head};
 ghost use Rattle.ciborium_value.specs.Proper.{IsInRange};
 
 mod conversions;
+#[cfg(test)]
+mod tests;
 
 use std::cmp::Ordering;
 use std::marker::Model;

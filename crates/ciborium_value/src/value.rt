@@ -2,6 +2,8 @@
 
 mod accessors;
 mod conversions;
+#[cfg(test)]
+mod tests;
 
 use crate::integer::Integer;
 
