@@ -65,9 +65,10 @@ impl Value {
         ensures some { IfSome result (λ b. self.old ≡ value.Bytes b.now) }
         ensures none { IfNone result (¬ IsBytes self.old) }
     {
-        match self {
-            Value::Bytes(bytes) => Some(bytes),
-            _ => None,
+        if let Value::Bytes(bytes) = self {
+            Some(bytes)
+        } else {
+            None
         }
     }
 
@@ -107,9 +108,10 @@ impl Value {
         ensures some { IfSome result (λ t. self.old ≡ value.Text t.now) }
         ensures none { IfNone result (¬ IsText self.old) }
     {
-        match self {
-            Value::Text(text) => Some(text),
-            _ => None,
+        if let Value::Text(text) = self {
+            Some(text)
+        } else {
+            None
         }
     }
 
@@ -184,9 +186,10 @@ impl Value {
         ensures some { IfSome result (λ p. IsTagOf self.old p.0.now p.1.now) }
         ensures none { IfNone result (¬ IsTag self.old) }
     {
-        match self {
-            Value::Tag(tag, content) => Some((tag, content)),
-            _ => None,
+        if let Value::Tag(tag, content) = self {
+            Some((tag, content))
+        } else {
+            None
         }
     }
 
@@ -226,9 +229,10 @@ impl Value {
         ensures some { IfSome result (λ vs. self.old ≡ value.Array vs.now) }
         ensures none { IfNone result (¬ IsArray self.old) }
     {
-        match self {
-            Value::Array(values) => Some(values),
-            _ => None,
+        if let Value::Array(values) = self {
+            Some(values)
+        } else {
+            None
         }
     }
 
@@ -268,9 +272,10 @@ impl Value {
         ensures some { IfSome result (λ ps. self.old ≡ value.Map ps.now) }
         ensures none { IfNone result (¬ IsMap self.old) }
     {
-        match self {
-            Value::Map(pairs) => Some(pairs),
-            _ => None,
+        if let Value::Map(pairs) = self {
+            Some(pairs)
+        } else {
+            None
         }
     }
 
