@@ -1,3 +1,8 @@
+pub mod Views
+pub mod Derived
+pub mod OrderedTrees
+pub mod HeadOrder
+pub mod Bignums
 mod Reader
 mod Parts
 mod Steps

@@ -1,5 +1,6 @@
 pub mod Tree
 pub mod Meaning
+pub mod Number
 pub mod Nesting
 pub mod Folded
 pub mod Proper
@@ -7,5 +8,11 @@ pub mod Refuses
 pub mod Encoding
 pub mod Canonical
 pub mod Counts
+pub mod Order
+pub mod Derived
+pub mod View
+pub mod Variants
+pub mod Rows
 pub mod Laws
+pub mod OrderLaws
 pub mod Examples
