@@ -1,3 +1,7 @@
+pub mod Views
+pub mod Derived
+pub mod OrderedTrees
+pub mod HeadOrder
 mod Reader
 mod Parts
 mod Steps

@@ -7,5 +7,11 @@ pub mod Refuses
 pub mod Encoding
 pub mod Canonical
 pub mod Counts
+pub mod Order
+pub mod Derived
+pub mod View
+pub mod Variants
+pub mod Rows
 pub mod Laws
+pub mod OrderLaws
 pub mod Examples

@@ -3,6 +3,7 @@
 
 ghost use Rattle.ciborium_value.specs.Examples.{CornerExamples, CountedExamples, FoldingExamples, RefusedExamples, SpelledExamples, WrittenExamples};
 ghost use Rattle.ciborium_value.specs.Laws.{GoodOrRefused, NeverBoth, OneRefusal};
+ghost use Rattle.ciborium_value.specs.OrderLaws.{EqualAsTrees, EqualityIsEquivalence, OrderedAsTrees, PartlyOrderedAsTrees, TiedWhereEqual, ValuesAreOrdered};
 
 /// All bytes, at every offset and under every limit of levels, begin with a good item or are
 /// refused, never both, and with one refusal alone.
@@ -20,4 +21,15 @@ pub fn worked_examples()
     ensures corners { CornerExamples }
     ensures written { WrittenExamples }
     ensures counted { CountedExamples }
+{}
+
+/// The `==` of `Value` is equality of content, and its `cmp` is the order by variant and then by
+/// content: a total order, which ties equal values alone.
+pub fn order_of_values()
+    ensures equal { EqualAsTrees }
+    ensures equivalence { EqualityIsEquivalence }
+    ensures ordered { OrderedAsTrees }
+    ensures partly_ordered { PartlyOrderedAsTrees }
+    ensures total { ValuesAreOrdered }
+    ensures tied { TiedWhereEqual }
 {}

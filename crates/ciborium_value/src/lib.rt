@@ -1,4 +1,12 @@
 //! The tree of a CBOR item (RFC 8949): what items mean, when bytes are refused, and what is written.
 #![tactic(auto)]
 
+mod clone;
+mod integer;
+mod kind;
 pub mod laws;
+mod value;
+
+pub use integer::{Integer, OutOfRange};
+pub use kind::Kind;
+pub use value::Value;

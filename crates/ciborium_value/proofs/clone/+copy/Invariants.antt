@@ -1,0 +1,9 @@
+use Rattle.std.proofs.Common.{◌≡◌, take, map}
+use Rattle.ciborium_value.specs.View.{tree_of, pair_trees}
+use Rattle.ciborium_value.proofs.clone.+copy.Given as goal
+
+abbrev pub invariant-copy_values-loop-value : goal.invariant-copy_values-loop-value
+invariant-copy_values-loop-value l = map tree_of l.copies.items ≡ map tree_of (take l.value-index l.value-items)
+
+abbrev pub invariant-copy_pairs-loop-pair : goal.invariant-copy_pairs-loop-pair
+invariant-copy_pairs-loop-pair l = map pair_trees l.copies.items ≡ map pair_trees (take l.pair-index l.pair-items)

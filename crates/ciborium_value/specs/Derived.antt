@@ -1,0 +1,20 @@
+-- What the derived `==`, `cmp` and `partial_cmp` of `Value` answer, by the names that the derives give to it.
+use Rattle.std.specs.Prelude.{Bool, Option}
+use Rattle.std.specs.declared.cmp.Ordering.{Ordering}
+use Rattle.ciborium_value.specs.contracts.value.ValueOrd.TheImpl.Laws as order
+use Rattle.ciborium_value.specs.contracts.value.ValuePartialEq.TheImpl.Laws as equality
+use Rattle.ciborium_value.specs.contracts.value.ValuePartialOrd.TheImpl.Laws as partial_order
+use Rattle.ciborium_value.specs.declared.value.Value.{Value}
+use Rattle.ciborium_value.specs.declared.value.Value.TheBlock.{member-Value}
+
+-- `v == w`
+abbrev pub value_eq : Value → Value → Bool
+value_eq = equality.family member-Value
+
+-- `v.cmp(w)`
+abbrev pub value_cmp : Value → Value → Ordering
+value_cmp = order.family member-Value
+
+-- `v.partial_cmp(w)`
+abbrev pub value_partial_cmp : Value → Value → Option Ordering
+value_partial_cmp = partial_order.family member-Value

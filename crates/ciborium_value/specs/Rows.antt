@@ -1,0 +1,22 @@
+-- The types that a `Value` holds, as the logic holds them, for the clauses on what a `&mut` lends.
+use denote.RattleType.{RattleType}
+use denote.Struct.Tuple.{Tuple}
+use Rattle.std.specs.Prelude.{[], ◌∷◌}
+use Rattle.std.specs.Borrow.{u8}
+use Rattle.std.specs.contracts.alloc.Global as global
+use Rattle.std.specs.contracts.vec.Vec as vec
+use Rattle.std.specs.contracts.string.String as string
+use Rattle.std.specs.contracts.impls.GlobalAllocator.TheImpl.{ghosts}
+use Rattle.ciborium_value.specs.contracts.value.Value.{the_row}
+
+abbrev pub bytes_row : RattleType
+bytes_row = vec.the_row u8 global.the_row ghosts
+
+abbrev pub text_row : RattleType
+text_row = string.the_row global.the_row ghosts
+
+abbrev pub array_row : RattleType
+array_row = vec.the_row the_row global.the_row ghosts
+
+abbrev pub map_row : RattleType
+map_row = vec.the_row (Tuple (the_row ∷ the_row ∷ [])) global.the_row ghosts

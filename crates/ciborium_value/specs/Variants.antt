@@ -1,0 +1,50 @@
+-- Which variant a `Value` is.
+use Rattle.std.specs.Prelude.{◌≡◌, ℕ, ℤ, List, Bool, Vec, String, string_bytes, Box}
+use Rattle.std.specs.declared.alloc.Global.{Global}
+use Rattle.ciborium_value.specs.declared.value.Value as value
+use Rattle.ciborium_value.specs.declared.value.Value.{Value}
+use Rattle.ciborium_value.specs.declared.value.Value.TheOpen.{Value-F}
+use Rattle.ciborium_value.specs.declared.value.Value.TheViews.{out-Value}
+
+abbrev pub IsInteger : Value → Type 0
+IsInteger v = (z : ℤ) × (v ≡ value.Integer z)
+
+abbrev pub IsBytes : Value → Type 0
+IsBytes v = (b : Vec ℕ Global) × (v ≡ value.Bytes b)
+
+abbrev pub IsText : Value → Type 0
+IsText v = (s : String Global) × (v ≡ value.Text s)
+
+-- a text of these bytes of UTF-8
+abbrev pub IsTextOf : Value → List ℕ → Type 0
+IsTextOf v b = (s : String Global) × (v ≡ value.Text s) × (b ≡ string_bytes s)
+
+abbrev pub IsBool : Value → Type 0
+IsBool v = (b : Bool) × (v ≡ value.Bool b)
+
+abbrev pub IsTag : Value → Type 0
+IsTag v = (t : ℕ) × (content : Box Value Global) × (v ≡ value.Tag t content)
+
+-- a tag of this number over this content
+abbrev pub IsTagOf : Value → ℕ → Value → Type 0
+IsTagOf v t w = (content : Box Value Global) × (v ≡ value.Tag t content) × (w ≡ content.value)
+
+abbrev pub IsArray : Value → Type 0
+IsArray v = (vs : Vec Value Global) × (v ≡ value.Array vs)
+
+abbrev pub IsMap : Value → Type 0
+IsMap v = (ps : Vec (Value × Value) Global) × (v ≡ value.Map ps)
+
+-- a tag with this number and content in place of its own; other values stay
+abbrev tag_level_with : Value → Value-F Value → ℕ → Value → Value
+tag_level_with v (Value-F.Integer z) t w = v
+tag_level_with v (Value-F.Bytes b) t w = v
+tag_level_with v (Value-F.Text s) t w = v
+tag_level_with v (Value-F.Bool b) t w = v
+tag_level_with v Value-F.Null t w = v
+tag_level_with v (Value-F.Tag u content) t w = value.Tag t (record content { value = w })
+tag_level_with v (Value-F.Array vs) t w = v
+tag_level_with v (Value-F.Map ps) t w = v
+
+abbrev pub tag_with : Value → ℕ → Value → Value
+tag_with v = tag_level_with v (out-Value v)

@@ -1,0 +1,43 @@
+-- The tree of a `Value`: its content, without the capacities of lists and texts.
+use Rattle.std.specs.Prelude.{List, [], ◌∷◌, map, string_bytes, box_value}
+use Rattle.ciborium_value.specs.Tree as trees
+use Rattle.ciborium_value.specs.Tree.{Tree, Trees, TreePairs}
+use Rattle.ciborium_value.specs.declared.value.Value.{Value, fold-Value}
+use Rattle.ciborium_value.specs.declared.value.Value.TheOpen.{Value-F}
+
+-- a list of trees as `Trees`
+abbrev pub trees_from : List Tree → Trees
+trees_from [] = trees.no_trees
+trees_from (v ∷ vs) = trees.tree v (trees_from vs)
+
+-- a list of pairs of trees as `TreePairs`
+abbrev pub tree_pairs_from : List (Tree × Tree) → TreePairs
+tree_pairs_from [] = trees.no_tree_pairs
+tree_pairs_from (p ∷ ps) = trees.tree_pair p.0 p.1 (tree_pairs_from ps)
+
+-- one level, where each value inside is its tree already
+abbrev pub level_tree : Value-F Tree → Tree
+level_tree (Value-F.Integer z) = trees.integer z
+level_tree (Value-F.Bytes b) = trees.bytes b.items
+level_tree (Value-F.Text s) = trees.text (string_bytes s)
+level_tree (Value-F.Bool b) = trees.boolean b
+level_tree Value-F.Null = trees.null
+level_tree (Value-F.Tag t v) = trees.tag t (box_value v)
+level_tree (Value-F.Array vs) = trees.array (trees_from vs.items)
+level_tree (Value-F.Map ps) = trees.map (tree_pairs_from ps.items)
+
+-- the tree of a value
+abbrev pub tree_of : Value → Tree
+tree_of = fold-Value Tree level_tree
+
+-- the trees of a list of values
+abbrev pub trees_of : List Value → Trees
+trees_of vs = trees_from (map tree_of vs)
+
+-- the trees of a key and its value
+abbrev pub pair_trees : Value × Value → Tree × Tree
+pair_trees p = (tree_of p.0, tree_of p.1)
+
+-- the trees of a list of pairs
+abbrev pub tree_pairs_of : List (Value × Value) → TreePairs
+tree_pairs_of ps = tree_pairs_from (map pair_trees ps)

@@ -1,0 +1,59 @@
+//! Copies of values.
+
+ghost use Rattle.std.specs.Prelude.{◌≡◌, IfOk};
+ghost use Rattle.ciborium_value.specs.View.{tree_of, trees_of, tree_pairs_of};
+
+use crate::value::Value;
+use std::alloc::AllocError;
+
+/// A copy of equal content, or the error where memory was refused.
+impl Clone for Value {
+    ghost is_clone = { λ v w. tree_of w ≡ tree_of v };
+
+    fn clone(&self) -> Result<Value, AllocError> {
+        copy(self)
+    }
+}
+
+#[cycle(copy)]
+fn copy(value: &Value) -> Result<Value, AllocError>
+    ensures { IfOk result (λ v. tree_of v ≡ tree_of value.now) }
+{
+    match value {
+        Value::Integer(number) => Ok(Value::Integer(*number)),
+        Value::Bytes(bytes) => Ok(Value::Bytes(bytes.clone()?)),
+        Value::Text(text) => Ok(Value::Text(text.clone()?)),
+        Value::Bool(boolean) => Ok(Value::Bool(*boolean)),
+        Value::Null => Ok(Value::Null),
+        Value::Tag(tag, content) => {
+            let copied = copy(content)?;
+            Ok(Value::Tag(*tag, Box::new(*Box::allocator(content), copied)?))
+        }
+        Value::Array(values) => Ok(Value::Array(copy_values(values)?)),
+        Value::Map(pairs) => Ok(Value::Map(copy_pairs(pairs)?)),
+    }
+}
+
+#[cycle(copy)]
+fn copy_values(values: &Vec<Value>) -> Result<Vec<Value>, AllocError>
+    ensures { IfOk result (λ v. trees_of v.items ≡ trees_of values.now.items) }
+{
+    let mut copies = Vec::new(*values.allocator());
+    for value in values {
+        copies.push(copy(value)?)?;
+    }
+    Ok(copies)
+}
+
+#[cycle(copy)]
+fn copy_pairs(pairs: &Vec<(Value, Value)>) -> Result<Vec<(Value, Value)>, AllocError>
+    ensures { IfOk result (λ v. tree_pairs_of v.items ≡ tree_pairs_of pairs.now.items) }
+{
+    let mut copies = Vec::new(*pairs.allocator());
+    for pair in pairs {
+        let key = copy(&pair.0)?;
+        let value = copy(&pair.1)?;
+        copies.push((key, value))?;
+    }
+    Ok(copies)
+}
