@@ -141,3 +141,6 @@ fn integer_head(number: Integer) -> Header
         Header::Positive(number as u64)
     }
 }
+
+#[cfg(test)]
+mod tests;
