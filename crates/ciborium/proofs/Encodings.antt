@@ -16,6 +16,7 @@ pub encoding-Tag : (w : Value) (t : ℕ) (b : Box Value Global) (v : Value) → 
 encoding-Tag w t b v is content =
     ap (λ x. encoding (tree_of x)) is ∙ ap encoding (tree_of-Tag t b) ∙ ap (λ x. shortest_head 6 t ++ encoding (tree_of x)) (sym content)
 
+-- the counts
 items_count-items_of : (vs : List Value) → items_count (items_of (trees_of vs)) ≡ length vs
 items_count-items_of [] = refl
 items_count-items_of (v ∷ vs) = ap suc (items_count-items_of vs)
@@ -34,6 +35,7 @@ encoding-Map w v n is count =
 
 -- ---- lists
 
+-- one list behind another
 encodings-append : (vs ws : List Value) → encodings (vs ++ ws) ≡ encodings vs ++ encodings ws
 encodings-append [] ws = refl
 encodings-append (v ∷ vs) ws = ap (λ l. encoding (tree_of v) ++ l) (encodings-append vs ws) ∙ sym (append_assoc (encoding (tree_of v)) (encodings vs) (encodings ws))

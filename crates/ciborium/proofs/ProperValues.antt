@@ -12,6 +12,7 @@ use Rattle.ciborium.proofs.Elements.{one_more}
 
 -- ---- lists
 
+-- one list behind another
 AreProperTrees-append : (vs ws : List Value) → AreProperTrees (trees_of vs) → AreProperTrees (trees_of ws) → AreProperTrees (trees_of (vs ++ ws))
 AreProperTrees-append [] ws p q = q
 AreProperTrees-append (v ∷ vs) ws p q = (p.0, AreProperTrees-append vs ws p.1 q)

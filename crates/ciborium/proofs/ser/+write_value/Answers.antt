@@ -1,10 +1,8 @@
-use Rattle.std.proofs.Common.{◌≡◌, ◌<◌, ◌++◌, ℕ, ◌+◌, suc, length, take, drop, sym, ap, ◌∙◌, subst, arith}
+use Rattle.std.proofs.Common.{sym, ap, ◌∙◌, subst}
 use Rattle.std.specs.Io.KnownBytes.{Appends}
 use Rattle.std.proofs.KnownBytes.{Appends-trans}
 use Rattle.std.proofs.lemmas.Result.{on_ok_weaker}
 use Rattle.ciborium_ll.specs.Writing.{Writes}
-use Rattle.ciborium_value.specs.Encoding.{encoding}
-use Rattle.ciborium_value.specs.View.{tree_of}
 use Rattle.ciborium.specs.Writes.{encodings, pair_encodings}
 use Rattle.ciborium.proofs.WritingSteps.{Writes-after, Writes-cut, Writes-cut_after, OnOk-always}
 use Rattle.ciborium.proofs.Encodings.{encoding-Tag, encoding-Array, encoding-Map, encodings-around, pair_encodings-around, encodings-more, pair_encodings-more}
