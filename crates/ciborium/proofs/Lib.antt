@@ -1,0 +1,4 @@
+mod Elements
+mod WritingSteps
+mod Encodings
+mod ProperValues

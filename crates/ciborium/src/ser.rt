@@ -1,0 +1,146 @@
+//! Values to bytes.
+
+ghost use Rattle.std.specs.Prelude.{◌≡◌, ◌<◌, ◌++◌, IfErr, OnOk};
+ghost use Rattle.ciborium_ll.specs.Bytes.{AreBytes};
+ghost use Rattle.ciborium_ll.specs.Header.{IsWritable, header_bytes};
+ghost use Rattle.ciborium_ll.specs.Writing.{Writes, writer_of};
+ghost use Rattle.ciborium_value.specs.Encoding.{encoding};
+ghost use Rattle.ciborium_value.specs.Proper.{IsInRange, IsProperTree, AreProperTrees, AreProperTreePairs};
+ghost use Rattle.ciborium_value.specs.Tree.{integer};
+ghost use Rattle.ciborium_value.specs.View.{tree_of, trees_of, tree_pairs_of};
+ghost use Rattle.ciborium.specs.Errors.{IsIo};
+ghost use Rattle.ciborium.specs.Writes.{encodings, pair_encodings};
+ghost use Rattle.ciborium.specs.declared.ser.Error.TheVariants.{Io};
+
+use ciborium_ll::{Encoder, Header};
+use ciborium_value::{Integer, Kind, Value};
+use std::io::{self, Write};
+
+/// Why writing was refused.
+#[derive(Debug, Drop)]
+pub enum Error<T> {
+    /// The writer failed, or a write took nothing.
+    Io(T),
+    /// A value to be written has no encoding.
+    Value(Kind),
+    /// A growth of memory was refused.
+    Memory,
+}
+
+impl<T> From<T> for Error<T> {
+    ghost from_gives = { λ e f. f ≡ Io e };
+
+    fn from(error: T) -> Error<T> {
+        Error::Io(error)
+    }
+}
+
+/// Writes a value in its one shortest definite encoding: heads in preferred serialization
+/// (RFC 8949, section 4.1), definite lengths, and the pairs of a map in their order, a key before
+/// its value. A tag is written as it stands, a bignum too (section 3.4.3).
+///
+/// The only error is `Io`: the first error of the writer, `Interrupted` too, or a `WriteZero` where
+/// a write takes nothing. A proper beginning of the encoding has then gone out, and nothing else.
+/// Nothing is held back, nothing is flushed, and no memory is taken.
+pub fn into_writer<W: Write>(value: &Value, writer: &mut W) -> Result<(), Error<io::Error>>
+    ensures bytes { Writes (W.contents writer.old) (W.contents writer.new) result (encoding (tree_of value.now)) }
+    ensures refused { IfErr result IsIo }
+    ensures proper { OnOk result (IsProperTree (tree_of value.now)) }
+{
+    let mut encoder = Encoder::new(writer);
+    write_value(&mut encoder, value)?;
+    Ok(())
+}
+
+// Writes the encoding of a value.
+#[cycle(write_value)]
+fn write_value<W: Write>(encoder: &mut Encoder<'_, W>, value: &Value) -> io::Result<()>
+    ensures same_writer { (writer_of encoder.new).ghost_name ≡ (writer_of encoder.old).ghost_name }
+    ensures bytes { Writes (W.contents (writer_of encoder.old).now) (W.contents (writer_of encoder.new).now) result (encoding (tree_of value.now)) }
+    ensures proper { OnOk result (IsProperTree (tree_of value.now)) }
+{
+    match value {
+        Value::Integer(number) => encoder.push(integer_head(*number)),
+        Value::Bytes(bytes) => write_string(encoder, Header::Bytes(Some(bytes.len())), bytes),
+        Value::Text(text) => {
+            write_string(encoder, Header::Text(Some(text.len())), text.as_bytes())
+        }
+        Value::Bool(false) => encoder.push(Header::Simple(20)),
+        Value::Bool(true) => encoder.push(Header::Simple(21)),
+        Value::Null => encoder.push(Header::Simple(22)),
+        Value::Tag(tag, content) => {
+            encoder.push(Header::Tag(*tag))?;
+            write_value(encoder, content)
+        }
+        Value::Array(items) => {
+            encoder.push(Header::Array(Some(items.len())))?;
+            write_items(encoder, items)
+        }
+        Value::Map(pairs) => {
+            encoder.push(Header::Map(Some(pairs.len())))?;
+            write_pairs(encoder, pairs)
+        }
+    }
+}
+
+// Writes the encoding of each value, in order.
+#[cycle(write_value)]
+fn write_items<W: Write>(encoder: &mut Encoder<'_, W>, items: &Vec<Value>) -> io::Result<()>
+    ensures same_writer { (writer_of encoder.new).ghost_name ≡ (writer_of encoder.old).ghost_name }
+    ensures bytes { Writes (W.contents (writer_of encoder.old).now) (W.contents (writer_of encoder.new).now) result (encodings items.now.items) }
+    ensures proper { OnOk result (AreProperTrees (trees_of items.now.items)) }
+{
+    for item in items {
+        write_value(encoder, item)?;
+    }
+    Ok(())
+}
+
+// Writes the encoding of each pair, in order, a key before its value.
+#[cycle(write_value)]
+fn write_pairs<W: Write>(
+    encoder: &mut Encoder<'_, W>,
+    pairs: &Vec<(Value, Value)>,
+) -> io::Result<()>
+    ensures same_writer { (writer_of encoder.new).ghost_name ≡ (writer_of encoder.old).ghost_name }
+    ensures bytes { Writes (W.contents (writer_of encoder.old).now) (W.contents (writer_of encoder.new).now) result (pair_encodings pairs.now.items) }
+    ensures proper { OnOk result (AreProperTreePairs (tree_pairs_of pairs.now.items)) }
+{
+    for pair in pairs {
+        write_value(encoder, &pair.0)?;
+        write_value(encoder, &pair.1)?;
+    }
+    Ok(())
+}
+
+// Writes the head of a string and its payload.
+fn write_string<W: Write>(
+    encoder: &mut Encoder<'_, W>,
+    header: Header,
+    payload: &[u8],
+) -> io::Result<()>
+    requires { IsWritable header }
+    ensures same_writer { (writer_of encoder.new).ghost_name ≡ (writer_of encoder.old).ghost_name }
+    ensures bytes { Writes (W.contents (writer_of encoder.old).now) (W.contents (writer_of encoder.new).now) result (header_bytes header ++ payload.now) }
+    ensures payload { AreBytes payload.now }
+{
+    encoder.push(header)?;
+    encoder.write_all(payload)
+}
+
+// The head that is all of a number.
+fn integer_head(number: Integer) -> Header
+    ensures writable { IsWritable result }
+    ensures head { header_bytes result ≡ encoding (integer number) }
+    ensures in_range { IsInRange number }
+{
+    let number = i128::from(number);
+    if number < 0 {
+        Header::Negative((-1 - number) as u64)
+    } else {
+        Header::Positive(number as u64)
+    }
+}
+
+#[cfg(test)]
+mod tests;
