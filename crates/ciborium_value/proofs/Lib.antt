@@ -10,3 +10,4 @@ mod Refused
 mod Answered
 pub mod Outcome
 mod Examples
+pub mod Stacked
