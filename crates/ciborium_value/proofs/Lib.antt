@@ -3,9 +3,9 @@ pub mod Derived
 pub mod OrderedTrees
 pub mod HeadOrder
 mod Reader
-mod Parts
-mod Steps
-mod Found
+pub mod Parts
+pub mod Steps
+pub mod Found
 mod Refused
 mod Answered
 pub mod Outcome
