@@ -1,0 +1,5 @@
+mod Grown
+mod Paired
+mod Turning
+mod Pulled
+mod Numbers

@@ -1,0 +1,6 @@
+pub mod Reads
+pub mod Around
+pub mod Errors
+pub mod Strings
+pub mod Parts
+pub mod Answers
