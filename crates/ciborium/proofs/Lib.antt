@@ -3,3 +3,7 @@ mod Paired
 mod Turning
 mod Pulled
 mod Numbers
+mod Fronts
+mod Contents
+mod AfterTag
+mod Turned

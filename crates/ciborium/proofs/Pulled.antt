@@ -38,8 +38,8 @@ refused-map errors.RecursionLimitExceeded P Q f a = f _ a
 refused-map errors.Memory P Q f a = tt
 refused-map errors.TooLong P Q f a = f _ a
 
-pub head-read : {S E : Type 0} (remaining : S → Option (List ℕ)) (d : Decoder S) (xs : List ℕ) (p : ℕ) (h : Header) →
-    PullsTo {E = E} d.last d.count (remaining d.reader.now) p xs (Ok h) → IsPulled remaining d h xs p
+pub head-read : {S : Type 0} (remaining : S → Option (List ℕ)) (d : Decoder S) (xs : List ℕ) (p : ℕ) (h : Header) →
+    ((x : List ℕ) × (r : List ℕ) × SpellsHeader x h × IsUsable xs p × (xs ≡ x ++ r) × (d.last ≡ p) × (d.count ≡ p + length x) × (remaining d.reader.now ≡ Some r)) → IsPulled remaining d h xs p
 head-read remaining d xs p h (x, r, spelled, usable, split, last, count, left) = (x, r, spelled, usable, split, last, (count, left))
 
 -- a head has a byte at least
@@ -49,14 +49,17 @@ head-some b h s = by (header-begins b h s)
     by : Rattle.ciborium_ll.proofs.HeadAnswers.Begins b (announced_length h) → 0 < length b
     by (m, a, c, e, f) = let len : length b ≡ suc (length c) = ap length e in omega (arith, len)
 
-pub fewer-heads : {S E : Type 0} (remaining : S → Option (List ℕ)) (d e : Decoder S) (h : Header) (P : (Header × ℕ) → Type 0) → e.pushed ≡ None →
-    IfSome d.pushed (λ head. P head × IsUnread d e) → IfNone d.pushed (Takes remaining d e (HeadTaken {E = E} d.count (Ok h))) → heads_left e < heads_left d
-fewer-heads {S} {E} remaining d e h P none pushed taken = subst (λ o. heads_by (greatest_offset - e.count) o < heads_by (greatest_offset - d.count) d.pushed) (sym none) (by d.pushed pushed taken)
+abbrev pub answered : (E : Type 0) → Header → Result Header (LlError E)
+answered E h = Ok h
+
+pub fewer-heads : (E : Type 0) {S : Type 0} (remaining : S → Option (List ℕ)) (d e : Decoder S) (h : Header) → e.pushed ≡ None →
+    IfSome d.pushed (λ head. (answered E h ≡ answered E head.0) × (e.last ≡ head.1) × IsUnread d e) → IfNone d.pushed (Takes remaining d e (HeadTaken {E = E} d.count (Ok h))) → heads_left e < heads_left d
+fewer-heads E remaining d e h none pushed taken = subst (λ o. heads_by (greatest_offset - e.count) o < heads_by (greatest_offset - d.count) d.pushed) (sym none) (by d.pushed pushed taken)
   where
-    by : (o : Option (Header × ℕ)) → IfSome o (λ head. P head × IsUnread d e) → IfNone o (Takes remaining d e (HeadTaken {E = E} d.count (Ok h))) →
+    by : (o : Option (Header × ℕ)) → IfSome o (λ head. (answered E h ≡ answered E head.0) × (e.last ≡ head.1) × IsUnread d e) → IfNone o (Takes remaining d e (HeadTaken {E = E} d.count (Ok h))) →
         heads_by (greatest_offset - e.count) None < heads_by (greatest_offset - d.count) o
     by None a (b, t, count, u) =
         let some = head-some b h u.answers.0 in
         let fits = header-fits {E = E} d.count h b u in
         omega (arith, some, fits, count)
-    by (Some head) a b = let same : e.count ≡ d.count = a.1.1 in omega (arith, same)
+    by (Some head) a b = let same : e.count ≡ d.count = a.2.1 in omega (arith, same)

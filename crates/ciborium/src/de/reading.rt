@@ -37,7 +37,7 @@ fn turn<R: Read>(
     ensures same_reader { SameReader decoder.old decoder.new }
     ensures fewer { OnOk result (heads_left decoder.new < heads_left decoder.old) }
     ensures rests { IfOk result (λ o. MatchOption o (Unit {0}) (λ _. pushed_of decoder.new ≡ None)) }
-    ensures depth { OnOk result (length (opens_of stack.new) ≤ levels) }
+    ensures depth { IfOk result (λ o. MatchOption o (length (opens_of stack.new) ≤ levels) (λ _. Unit {0})) }
     ensures turn { (xs : List ℕ) (p : ℕ) → IsReading R.remaining decoder.old (opens_of stack.old) levels xs p → Turned R.remaining decoder.new (opens_of stack.new) levels xs p result }
 {
     let offset = decoder.offset();
