@@ -7,3 +7,4 @@ mod Fronts
 mod Contents
 mod AfterTag
 mod Turned
+mod Outcomes
