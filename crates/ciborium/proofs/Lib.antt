@@ -2,3 +2,13 @@ mod Elements
 mod WritingSteps
 mod Encodings
 mod ProperValues
+mod Grown
+mod Paired
+mod Turning
+mod Pulled
+mod Numbers
+mod Fronts
+mod Contents
+mod AfterTag
+mod Turned
+mod Outcomes

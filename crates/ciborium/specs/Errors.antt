@@ -1,9 +1,40 @@
--- Which error came.
-use Rattle.ciborium.specs.declared.ser.Error.{Error}
-use Rattle.ciborium.specs.declared.ser.Error.TheVariants.{Io, Value, Memory}
+-- The refusals of the definitions that the errors of reading stand for.
+use Rattle.std.specs.Prelude.{◌≡◌, ℕ, Option, Some, None, MatchOption}
+use Rattle.ciborium_ll.specs.declared.header.Error.{Error as LlError}
+use Rattle.ciborium_ll.specs.declared.header.Error.TheVariants as ll
+use Rattle.ciborium_ll.specs.Refusal as refusal
+use Rattle.ciborium_ll.specs.Refusal.{Refusal}
+use Rattle.ciborium_value.specs.declared.kind.Kind.{Kind}
+use Rattle.ciborium_value.specs.declared.kind.Kind.TheVariants as kinds
+use Rattle.ciborium.specs.declared.de.error.Error.{Error}
+use Rattle.ciborium.specs.declared.de.error.Error.TheVariants.{Io, Syntax, Semantic, RecursionLimitExceeded, Memory, TooLong}
 
--- the writer's own error
-abbrev pub IsIo : {T : Type 0} → Error T → Type 0
-IsIo (Io e) = Unit {0}
-IsIo (Value kind) = ⊥
-IsIo Memory = ⊥
+-- what an error of the lowest layer becomes
+abbrev pub from_ll : {E : Type 0} → LlError E → Error E
+from_ll (ll.Io e) = Io e
+from_ll (ll.Syntax p) = Syntax p
+from_ll ll.TooLong = TooLong
+from_ll ll.Memory = Memory
+
+-- the kinds that reading a value names
+abbrev pub kind_of : Kind → Option refusal.Kind
+kind_of kinds.Float = Some refusal.Float
+kind_of kinds.Simple = Some refusal.Simple
+kind_of kinds.Break = Some refusal.Break
+kind_of kinds.TooLarge = Some refusal.TooLarge
+kind_of _ = None
+
+-- P holds of a refusal of a kind at an offset, and both are named
+abbrev pub IsNamed : Option ℕ → Option refusal.Kind → (Refusal → Type 0) → Type 0
+IsNamed (Some p) (Some k) P = P (refusal.semantic p k)
+IsNamed (Some p) None P = ⊥
+IsNamed None k P = ⊥
+
+-- an error other than `Io` and `Memory` is a refusal of which P holds
+abbrev pub RefusedBy : {E : Type 0} → Error E → (Refusal → Type 0) → Type 0
+RefusedBy (Io e) P = Unit {0}
+RefusedBy (Syntax p) P = P (refusal.syntax p)
+RefusedBy (Semantic p k) P = IsNamed p (kind_of k) P
+RefusedBy RecursionLimitExceeded P = P refusal.recursion_limit_exceeded
+RefusedBy Memory P = Unit {0}
+RefusedBy TooLong P = P refusal.too_long

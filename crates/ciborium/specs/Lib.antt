@@ -1,2 +1,7 @@
+pub mod Reads
+pub mod Around
 pub mod Errors
+pub mod Strings
+pub mod Parts
+pub mod Answers
 pub mod Writes

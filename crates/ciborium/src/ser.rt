@@ -8,8 +8,7 @@ ghost use Rattle.ciborium_value.specs.Encoding.{encoding};
 ghost use Rattle.ciborium_value.specs.Proper.{IsInRange, IsProperTree, AreProperTrees, AreProperTreePairs};
 ghost use Rattle.ciborium_value.specs.Tree.{integer};
 ghost use Rattle.ciborium_value.specs.View.{tree_of, trees_of, tree_pairs_of};
-ghost use Rattle.ciborium.specs.Errors.{IsIo};
-ghost use Rattle.ciborium.specs.Writes.{encodings, pair_encodings};
+ghost use Rattle.ciborium.specs.Writes.{IsIo, encodings, pair_encodings};
 ghost use Rattle.ciborium.specs.declared.ser.Error.TheVariants.{Io};
 
 use ciborium_ll::{Encoder, Header};

@@ -4,10 +4,11 @@ pub mod OrderedTrees
 pub mod HeadOrder
 pub mod Bignums
 mod Reader
-mod Parts
-mod Steps
-mod Found
+pub mod Parts
+pub mod Steps
+pub mod Found
 mod Refused
 mod Answered
 pub mod Outcome
 mod Examples
+pub mod Stacked

@@ -16,3 +16,5 @@ pub mod Rows
 pub mod Laws
 pub mod OrderLaws
 pub mod Examples
+pub mod Open
+pub mod Stack

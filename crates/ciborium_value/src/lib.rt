@@ -5,6 +5,7 @@ mod clone;
 mod integer;
 mod kind;
 pub mod laws;
+pub mod stack;
 mod value;
 
 pub use integer::{Integer, OutOfRange};

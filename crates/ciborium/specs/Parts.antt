@@ -1,0 +1,100 @@
+-- What stands at the front of what is ahead, with l levels left.
+use Rattle.std.specs.Prelude.{◌≡◌, ℕ, suc, ◌+◌, ◌<◌, ◌≤◌, List, [], ◌∷◌, ◌++◌, length, Option, Some, None, Result, Ok, Err, true}
+use Rattle.ciborium_ll.specs.declared.header.Header.{Header}
+use Rattle.ciborium_ll.specs.declared.header.Header.TheVariants as header
+use Rattle.ciborium_ll.specs.declared.decoder.Decoder.{Decoder}
+use Rattle.ciborium_ll.specs.Bytes.{greatest_offset}
+use Rattle.ciborium_ll.specs.Decoding.{IsAhead}
+use Rattle.ciborium_ll.specs.Head.{break_byte}
+use Rattle.ciborium_ll.specs.Refusal.{HeadRefuses, semantic, TooLarge}
+use Rattle.ciborium_value.specs.declared.kind.Kind.TheVariants as kinds
+use Rattle.ciborium_value.specs.declared.value.Value.{Value}
+use Rattle.ciborium_value.specs.declared.stack.Frame.{Frame}
+use Rattle.ciborium_value.specs.Meaning.{simple_meaning, bignum_meaning, is_bignum_tag}
+use Rattle.ciborium_value.specs.Open.{Open, array, map}
+use Rattle.ciborium_value.specs.Refuses.{Refuses}
+use Rattle.ciborium_value.specs.Stack.{open_of}
+use Rattle.ciborium_value.specs.Tree as trees
+use Rattle.ciborium_value.specs.View.{tree_of}
+use Rattle.ciborium.specs.declared.de.error.Error.{Error}
+use Rattle.ciborium.specs.declared.de.error.Error.TheVariants.{Semantic, RecursionLimitExceeded}
+use Rattle.ciborium.specs.declared.de.parts.Part.{Part}
+use Rattle.ciborium.specs.declared.de.parts.Part.TheVariants.{Whole, Opened, Ended}
+use Rattle.ciborium.specs.Around.{IsInside}
+use Rattle.ciborium.specs.Errors.{RefusedBy}
+use Rattle.ciborium.specs.Reads.{ReadsItem, IsAt, IsPulled, IsBreakAt}
+
+-- how many places follow the first one, of so many in all (None: as many as come before a break)
+abbrev pub IsBehind : Option ℕ → Option ℕ → Type 0
+IsBehind (Some n) (Some k) = n ≡ suc k
+IsBehind (Some n) None = ⊥
+IsBehind None (Some k) = ⊥
+IsBehind None None = Unit {0}
+
+-- what follows the head of an array with this count
+abbrev pub ArrayBegun : {E : Type 0} → Option ℕ → ℕ → Result Part (Error E) → Type 0
+ArrayBegun count l (Ok (Whole v)) = (count ≡ Some 0) × (0 < l) × (tree_of v ≡ trees.array trees.no_trees)
+ArrayBegun count l (Ok (Opened f)) = (0 < l) × (behind : Option ℕ) × (open_of f ≡ array [] behind) × IsBehind count behind
+ArrayBegun count l (Ok Ended) = ⊥
+ArrayBegun count l (Err e) = (l ≡ 0) × (e ≡ RecursionLimitExceeded)
+
+-- what follows the head of a map with this count
+abbrev pub MapBegun : {E : Type 0} → Option ℕ → ℕ → Result Part (Error E) → Type 0
+MapBegun count l (Ok (Whole v)) = (count ≡ Some 0) × (0 < l) × (tree_of v ≡ trees.map trees.no_tree_pairs)
+MapBegun count l (Ok (Opened f)) = (0 < l) × (behind : Option ℕ) × (open_of f ≡ map [] behind None) × IsBehind count behind
+MapBegun count l (Ok Ended) = ⊥
+MapBegun count l (Err e) = (l ≡ 0) × (e ≡ RecursionLimitExceeded)
+
+-- what a simple value at offset p is read as
+abbrev pub SimpleRead : {E : Type 0} → ℕ → ℕ → Result Value (Error E) → Type 0
+SimpleRead n p (Ok v) = simple_meaning n ≡ Some (tree_of v)
+SimpleRead n p (Err e) = (simple_meaning n ≡ None) × (e ≡ Semantic (Some p) kinds.Simple)
+
+-- a container or tag that is open at zs begins at ys
+abbrev pub IsBegun : ℕ → List ℕ → ℕ → Open → List ℕ → ℕ → Type 0
+IsBegun l ys q o zs r = (m : ℕ) × (l ≡ suc m) × IsInside o m ys q zs r
+
+-- xs refuses so, and no break stands at its front
+abbrev pub RefusesNoBreak : {E : Type 0} → Error E → List ℕ → ℕ → ℕ → Type 0
+RefusesNoBreak e xs p l = RefusedBy e (λ r. Refuses xs p (Some l) r × ¬ IsBreakAt xs p)
+
+-- the answer of a call that pulls a head
+abbrev pub HeadRead : {S E : Type 0} → (S → Option (List ℕ)) → Decoder S → List ℕ → ℕ → Result Header (Error E) → Type 0
+HeadRead remaining d xs p (Ok h) = IsPulled remaining d h xs p
+HeadRead remaining d xs p (Err e) = RefusedBy e (HeadRefuses xs p)
+
+-- the answer of a call that reads a part
+abbrev pub PartRead : {S E : Type 0} → (S → Option (List ℕ)) → Decoder S → ℕ → List ℕ → ℕ → Result Part (Error E) → Type 0
+PartRead remaining d l xs p (Ok (Whole v)) = (zs : List ℕ) × (r : ℕ) × ReadsItem l xs p (tree_of v) zs r × IsAhead remaining d r zs
+PartRead remaining d l xs p (Ok (Opened f)) = (zs : List ℕ) × (r : ℕ) × IsBegun l xs p (open_of f) zs r × IsAhead remaining d r zs
+PartRead remaining d l xs p (Ok Ended) = (zs : List ℕ) × (xs ≡ break_byte ∷ zs) × (p < greatest_offset) × IsAhead remaining d (p + 1) zs
+PartRead remaining d l xs p (Err e) = RefusesNoBreak e xs p l
+
+-- a level is left for what was opened
+abbrev pub HasRoom : Part → ℕ → Type 0
+HasRoom (Whole v) l = Unit {0}
+HasRoom (Opened f) l = 0 < l
+HasRoom Ended l = Unit {0}
+
+-- no head is pushed behind a whole value or a break
+abbrev pub Rests : Part → Option (Header × ℕ) → Type 0
+Rests (Whole v) pushed = pushed ≡ None
+Rests (Opened f) pushed = Unit {0}
+Rests Ended pushed = pushed ≡ None
+
+-- what the bytes over which a tag at offset p folds are read as
+abbrev pub IsFolded : {E : Type 0} → ℕ → List ℕ → ℕ → Result Value (Error E) → Type 0
+IsFolded t b p (Ok v) = bignum_meaning t b ≡ Some (tree_of v)
+IsFolded t b p (Err e) = RefusedBy e (λ r. (bignum_meaning t b ≡ None) × (r ≡ semantic p TooLarge))
+
+-- the answer of a call that reads the n bytes over which a tag at offset at folds
+abbrev pub FoldRead : {S E : Type 0} → (S → Option (List ℕ)) → Decoder S → ℕ → ℕ → ℕ → List ℕ → ℕ → Result Value (Error E) → Type 0
+FoldRead remaining d t n at xs p (Ok v) =
+    (b : List ℕ) × (r : List ℕ) × (length b ≡ n) × (bignum_meaning t b ≡ Some (tree_of v)) × (xs ≡ b ++ r) × IsAt remaining d (p + n) r
+FoldRead remaining d t n at xs p (Err e) =
+    p + n ≤ greatest_offset → RefusedBy e (λ f. (b : List ℕ) × (r : List ℕ) × (length b ≡ n) × (bignum_meaning t b ≡ None) × (xs ≡ b ++ r) × (f ≡ semantic at TooLarge))
+
+-- whether a tag folds over what has this header behind it, and over how many bytes
+abbrev pub IsFolding : ℕ → Header → Option ℕ → Type 0
+IsFolding t h None = (n : ℕ) → h ≡ header.Bytes (Some n) → is_bignum_tag t ≡ true → ¬ (n ≤ 16)
+IsFolding t h (Some n) = (h ≡ header.Bytes (Some n)) × (is_bignum_tag t ≡ true) × (n ≤ 16)

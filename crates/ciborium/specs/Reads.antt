@@ -1,0 +1,46 @@
+-- What reading a value takes from known bytes.
+use Rattle.std.specs.Prelude.{◌≡◌, ℕ, ◌+◌, ◌*◌, ◌-◌, ◌<◌, ◌≤◌, List, ◌∷◌, ◌++◌, length, Option, Some, None}
+use Rattle.ciborium_ll.specs.declared.header.Header.{Header}
+use Rattle.ciborium_ll.specs.declared.decoder.Decoder.{Decoder}
+use Rattle.ciborium_ll.specs.Bytes.{greatest_offset}
+use Rattle.ciborium_ll.specs.Head.{break_byte}
+use Rattle.ciborium_ll.specs.Header.{SpellsHeader}
+use Rattle.ciborium_ll.specs.Item.{Item}
+use Rattle.ciborium_ll.specs.Refusal.{IsUsable, BeginsWith}
+use Rattle.ciborium_ll.specs.Spells.{Spells}
+use Rattle.ciborium_ll.specs.Decoding.{IsAhead}
+use Rattle.ciborium_value.specs.Meaning.{meaning}
+use Rattle.ciborium_value.specs.Nesting.{nesting}
+use Rattle.ciborium_value.specs.Tree.{Tree}
+
+-- an item that means v and nests within l levels stands at the front of ys, from offset q on; zs follows it, at offset r
+pub record ReadsItem (l : ℕ) (ys : List ℕ) (q : ℕ) (v : Tree) (zs : List ℕ) (r : ℕ) : Type 0 where
+  pub taken : List ℕ
+  pub what : Item
+  pub spelled : Spells taken what
+  pub means : meaning what ≡ Some v
+  pub nests : nesting what ≤ l
+  pub split : ys ≡ taken ++ zs
+  pub at : r ≡ q + length taken
+  pub fits : r ≤ greatest_offset
+
+-- no head is pushed, xs is left, and its first byte is at offset p
+abbrev pub IsAt : {S : Type 0} → (S → Option (List ℕ)) → Decoder S → ℕ → List ℕ → Type 0
+IsAt remaining d p xs = (d.count ≡ p) × (remaining d.reader.now ≡ Some xs)
+
+-- a head was pulled where xs was ahead from offset p on
+abbrev pub IsPulled : {S : Type 0} → (S → Option (List ℕ)) → Decoder S → Header → List ℕ → ℕ → Type 0
+IsPulled remaining d header xs p =
+    (h : List ℕ) × (r : List ℕ) × SpellsHeader h header × IsUsable xs p × (xs ≡ h ++ r) × (d.last ≡ p) × IsAt remaining d (p + length h) r
+
+-- a break stands at the front and may be read
+abbrev pub IsBreakAt : List ℕ → ℕ → Type 0
+IsBreakAt b p = (p < greatest_offset) × BeginsWith break_byte b
+
+abbrev pub heads_by : ℕ → Option (Header × ℕ) → ℕ
+heads_by n None = 2 * n
+heads_by n (Some h) = 2 * n + 1
+
+-- a bound on the heads that can still be pulled
+abbrev pub heads_left : {S : Type 0} → Decoder S → ℕ
+heads_left d = heads_by (greatest_offset - d.count) d.pushed

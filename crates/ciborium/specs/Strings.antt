@@ -1,0 +1,26 @@
+-- What reading the payload of a string answers.
+use Rattle.std.specs.Prelude.{◌≡◌, ℕ, ◌+◌, ◌≤◌, List, ◌++◌, length, Option, Some, None, Result, Ok, Err}
+use Rattle.ciborium_ll.specs.declared.decoder.Decoder.{Decoder}
+use Rattle.ciborium_ll.specs.Bytes.{greatest_offset}
+use Rattle.ciborium_ll.specs.StringRefusal.{StringKind, of_bytes, of_text, ContentRefuses}
+use Rattle.ciborium_ll.specs.declared.header.Error.{Error as LlError}
+use Rattle.ciborium_ll.specs.Strings.{StringTaken}
+use Rattle.ciborium_value.specs.declared.value.Value.{Value}
+use Rattle.ciborium_value.specs.Tree as trees
+use Rattle.ciborium_value.specs.Tree.{Tree}
+use Rattle.ciborium_value.specs.View.{tree_of}
+use Rattle.ciborium.specs.declared.de.error.Error.{Error}
+use Rattle.ciborium.specs.Errors.{RefusedBy}
+use Rattle.ciborium.specs.Reads.{IsAt}
+
+-- the tree of a string
+abbrev pub string_tree : StringKind → List ℕ → Tree
+string_tree of_bytes b = trees.bytes b
+string_tree of_text b = trees.text b
+
+-- the payload of a string of this length, whose head is at offset at, stands at xs, offset p
+abbrev pub StringRead : {S E : Type 0} → StringKind → (S → Option (List ℕ)) → Decoder S → Option ℕ → ℕ → List ℕ → ℕ → Result Value (Error E) → Type 0
+StringRead {S} {E} kind remaining d len at xs p (Ok v) =
+    (b : List ℕ) × (added : List ℕ) × (r : List ℕ) × StringTaken {E = E} kind len at p (Ok tt) added b × (tree_of v ≡ string_tree kind added) ×
+    (xs ≡ b ++ r) × IsAt remaining d (p + length b) r × (p + length b ≤ greatest_offset)
+StringRead kind remaining d len at xs p (Err e) = RefusedBy e (ContentRefuses kind len at xs p)

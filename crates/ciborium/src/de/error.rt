@@ -1,0 +1,54 @@
+//! Why a read is refused.
+
+ghost use Rattle.std.specs.Prelude.{◌≡◌};
+ghost use Rattle.ciborium.specs.Errors.{from_ll};
+ghost use Rattle.ciborium.specs.declared.de.error.Error.TheVariants.{Io};
+
+use ciborium_value::Kind;
+
+/// Why a read is refused. Offsets count bytes, from where the call began to read.
+#[derive(Debug, Drop)]
+pub enum Error<T> {
+    /// The reader failed, or ended where bytes are needed.
+    Io(T),
+    /// What stands at this offset is not well-formed (RFC 8949, appendix F).
+    Syntax(usize),
+    /// An item is well-formed and not wanted: where it begins, if that is known, and why.
+    Semantic(Option<usize>, Kind),
+    /// An array, a map or a tag nests deeper than the limit.
+    RecursionLimitExceeded,
+    /// A growth of memory was refused.
+    Memory,
+    /// The next bytes would take the offset past `usize::MAX`.
+    TooLong,
+}
+
+impl<T> Error<T> {
+    /// An item that is not wanted, where it begins, if that is known, and why.
+    pub fn semantic(offset: Option<usize>, kind: Kind) -> Error<T>
+        ensures { result ≡ Error.Semantic offset kind }
+    {
+        Error::Semantic(offset, kind)
+    }
+}
+
+impl<T> From<T> for Error<T> {
+    ghost from_gives = { λ e f. f ≡ Io e };
+
+    fn from(error: T) -> Error<T> {
+        Error::Io(error)
+    }
+}
+
+impl<T> From<ciborium_ll::Error<T>> for Error<T> {
+    ghost from_gives = { λ e f. f ≡ from_ll e };
+
+    fn from(error: ciborium_ll::Error<T>) -> Error<T> {
+        match error {
+            ciborium_ll::Error::Io(e) => Error::Io(e),
+            ciborium_ll::Error::Syntax(offset) => Error::Syntax(offset),
+            ciborium_ll::Error::TooLong => Error::TooLong,
+            ciborium_ll::Error::Memory => Error::Memory,
+        }
+    }
+}

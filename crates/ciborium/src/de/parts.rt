@@ -1,0 +1,163 @@
+//! What stands at the front: a value that is whole, the beginning of a container or tag, or a break.
+
+ghost use Rattle.std.specs.Prelude.{◌≡◌, ◌+◌, ◌<◌, ◌≤◌, IfOk, List, None, OnOk, negsuc, ℕ};
+ghost use Rattle.ciborium_ll.specs.Decoding.{IsAhead, SameReader, last_of, pushed_of};
+ghost use Rattle.ciborium.specs.Parts.{ArrayBegun, HasRoom, HeadRead, MapBegun, PartRead, Rests, SimpleRead};
+ghost use Rattle.ciborium.specs.Reads.{IsAt, heads_left};
+ghost use Rattle.ciborium.specs.Strings.{StringRead};
+ghost use Rattle.ciborium_ll.specs.StringRefusal.{of_bytes, of_text};
+
+use crate::de::error::Error;
+use crate::de::tags::tagged;
+use ciborium_ll::{Decoder, Header};
+use ciborium_value::stack::Frame;
+use ciborium_value::{Integer, Kind, Value};
+use std::alloc::Global;
+use std::io::{self, Read};
+
+#[derive(Drop)]
+pub(crate) enum Part {
+    Whole(Value),
+    Opened(Frame),
+    Ended,
+}
+
+/// The next head.
+pub(crate) fn pull<R: Read>(decoder: &mut Decoder<'_, R>) -> Result<Header, Error<io::Error>>
+    ensures same_reader { SameReader decoder.old decoder.new }
+    ensures pushed { pushed_of decoder.new ≡ None }
+    ensures fewer { OnOk result (heads_left decoder.new < heads_left decoder.old) }
+    ensures head { (xs : List ℕ) (p : ℕ) → IsAhead R.remaining decoder.old p xs → HeadRead R.remaining decoder.new xs p result }
+{
+    Ok(decoder.pull()?)
+}
+
+fn begin_array(alloc: Global, count: Option<usize>, levels: usize) -> Result<Part, Error<io::Error>>
+    ensures { ArrayBegun count levels result }
+{
+    if levels == 0 {
+        return Err(Error::RecursionLimitExceeded);
+    }
+    let items = Vec::new(alloc);
+    match count {
+        Some(0) => Ok(Part::Whole(Value::Array(items))),
+        Some(n) => Ok(Part::Opened(Frame::Array {
+            items,
+            behind: Some(n - 1),
+        })),
+        None => Ok(Part::Opened(Frame::Array {
+            items,
+            behind: None,
+        })),
+    }
+}
+
+fn begin_map(alloc: Global, count: Option<usize>, levels: usize) -> Result<Part, Error<io::Error>>
+    ensures { MapBegun count levels result }
+{
+    if levels == 0 {
+        return Err(Error::RecursionLimitExceeded);
+    }
+    let pairs = Vec::new(alloc);
+    match count {
+        Some(0) => Ok(Part::Whole(Value::Map(pairs))),
+        Some(n) => Ok(Part::Opened(Frame::Map {
+            pairs,
+            behind: Some(n - 1),
+            key: None,
+        })),
+        None => Ok(Part::Opened(Frame::Map {
+            pairs,
+            behind: None,
+            key: None,
+        })),
+    }
+}
+
+#[tactic(auto, unfolding(ciborium_value::specs::Meaning::simple_meaning))]
+fn simple(number: u8, offset: usize) -> Result<Value, Error<io::Error>>
+    ensures { SimpleRead number offset result }
+{
+    match number {
+        20 => Ok(Value::Bool(false)),
+        21 => Ok(Value::Bool(true)),
+        22 | 23 => Ok(Value::Null),
+        _ => Err(Error::Semantic(Some(offset), Kind::Simple)),
+    }
+}
+
+/// The number -1 - n.
+pub(crate) fn negative(n: u64) -> Integer
+    ensures { result ≡ negsuc n }
+{
+    match Integer::try_from(-1 - i128::from(n)) {
+        Ok(integer) => integer,
+        Err(_) => unreachable!(),
+    }
+}
+
+// The payload of the byte string whose head was pulled last.
+fn bytes<R: Read>(
+    alloc: Global,
+    decoder: &mut Decoder<'_, R>,
+    scratch: &mut [u8],
+    len: Option<usize>,
+) -> Result<Value, Error<io::Error>>
+    requires { pushed_of decoder.old ≡ None }
+    ensures same_reader { SameReader decoder.old decoder.new }
+    ensures pushed { pushed_of decoder.new ≡ None }
+    ensures fewer { OnOk result (heads_left decoder.new ≤ heads_left decoder.old) }
+    ensures content { (xs : List ℕ) (p : ℕ) → IsAt R.remaining decoder.old p xs → StringRead of_bytes R.remaining decoder.new len (last_of decoder.old) xs p result }
+{
+    let mut out = Vec::new(alloc);
+    decoder.bytes_into(len, scratch, &mut out)?;
+    let _end = decoder.offset();
+    Ok(Value::Bytes(out))
+}
+
+// The payload of the text whose head was pulled last.
+fn text<R: Read>(
+    alloc: Global,
+    decoder: &mut Decoder<'_, R>,
+    scratch: &mut [u8],
+    len: Option<usize>,
+) -> Result<Value, Error<io::Error>>
+    requires { pushed_of decoder.old ≡ None }
+    ensures same_reader { SameReader decoder.old decoder.new }
+    ensures pushed { pushed_of decoder.new ≡ None }
+    ensures fewer { OnOk result (heads_left decoder.new ≤ heads_left decoder.old) }
+    ensures content { (xs : List ℕ) (p : ℕ) → IsAt R.remaining decoder.old p xs → StringRead of_text R.remaining decoder.new len (last_of decoder.old) xs p result }
+{
+    let mut out = String::new(alloc);
+    decoder.text_into(len, scratch, &mut out)?;
+    let _end = decoder.offset();
+    Ok(Value::Text(out))
+}
+
+/// Reads the next part, with this many levels left.
+pub(crate) fn next<R: Read>(
+    alloc: Global,
+    decoder: &mut Decoder<'_, R>,
+    scratch: &mut [u8],
+    levels: usize,
+) -> Result<Part, Error<io::Error>>
+    ensures same_reader { SameReader decoder.old decoder.new }
+    ensures fewer { OnOk result (heads_left decoder.new < heads_left decoder.old) }
+    ensures rests { IfOk result (λ part. Rests part (pushed_of decoder.new)) }
+    ensures room { IfOk result (λ part. HasRoom part levels) }
+    ensures part { (xs : List ℕ) (p : ℕ) → IsAhead R.remaining decoder.old p xs → PartRead R.remaining decoder.new levels xs p result }
+{
+    let offset = decoder.offset();
+    match pull(decoder)? {
+        Header::Positive(n) => Ok(Part::Whole(Value::Integer(Integer::from(n)))),
+        Header::Negative(n) => Ok(Part::Whole(Value::Integer(negative(n)))),
+        Header::Bytes(len) => Ok(Part::Whole(bytes(alloc, decoder, scratch, len)?)),
+        Header::Text(len) => Ok(Part::Whole(text(alloc, decoder, scratch, len)?)),
+        Header::Array(count) => begin_array(alloc, count, levels),
+        Header::Map(count) => begin_map(alloc, count, levels),
+        Header::Tag(tag) => tagged(alloc, decoder, tag, offset, levels),
+        Header::Simple(n) => Ok(Part::Whole(simple(n, offset)?)),
+        Header::Float(_) => Err(Error::Semantic(Some(offset), Kind::Float)),
+        Header::Break => Ok(Part::Ended),
+    }
+}

@@ -1,0 +1,74 @@
+//! The reader of values: one loop over a stack of what is open.
+
+ghost use Rattle.std.specs.Prelude.{◌≡◌, ◌<◌, ◌≤◌, IfErr, IfOk, List, MatchOption, None, Ok, OnOk, Some, length, ℕ};
+ghost use Rattle.ciborium_ll.specs.Decoding.{IsAhead, SameReader, pushed_of};
+ghost use Rattle.ciborium_value.specs.Stack.{opens_of};
+ghost use Rattle.ciborium.specs.Answers.{IsReading, Turned, ValueRead};
+ghost use Rattle.ciborium.specs.Reads.{heads_left};
+
+use crate::de::error::Error;
+use crate::de::parts::{Part, next};
+use ciborium_ll::Decoder;
+use ciborium_value::stack::Stack;
+use ciborium_value::{Kind, Value};
+use std::alloc::{AllocError, Global};
+use std::io::{self, Read};
+
+// A value that was placed, or want of memory.
+fn granted(placed: Result<Option<Value>, AllocError>) -> Result<Option<Value>, Error<io::Error>>
+    ensures ok { IfOk result (λ o. placed ≡ Ok o) }
+    ensures err { IfErr result (λ e. e ≡ Error.Memory) }
+{
+    match placed {
+        Ok(value) => Ok(value),
+        Err(_) => Err(Error::Memory),
+    }
+}
+
+// Reads one part, and answers the value where it is the last.
+fn turn<R: Read>(
+    alloc: Global,
+    decoder: &mut Decoder<'_, R>,
+    scratch: &mut [u8],
+    stack: &mut Stack,
+    levels: usize,
+) -> Result<Option<Value>, Error<io::Error>>
+    requires { length (opens_of stack.old) ≤ levels }
+    ensures same_reader { SameReader decoder.old decoder.new }
+    ensures fewer { OnOk result (heads_left decoder.new < heads_left decoder.old) }
+    ensures rests { IfOk result (λ o. MatchOption o (Unit {0}) (λ _. pushed_of decoder.new ≡ None)) }
+    ensures depth { IfOk result (λ o. MatchOption o (length (opens_of stack.new) ≤ levels) (λ _. Unit {0})) }
+    ensures turn { (xs : List ℕ) (p : ℕ) → IsReading R.remaining decoder.old (opens_of stack.old) levels xs p → Turned R.remaining decoder.new (opens_of stack.new) levels xs p result }
+{
+    let offset = decoder.offset();
+    match next(alloc, decoder, scratch, levels - stack.depth())? {
+        Part::Whole(value) => granted(stack.place(value)),
+        Part::Opened(frame) => match stack.open(frame) {
+            Ok(()) => Ok(None),
+            Err(_) => Err(Error::Memory),
+        },
+        Part::Ended => match stack.close() {
+            Some(value) => granted(stack.place(value)),
+            None => Err(Error::Semantic(Some(offset), Kind::Break)),
+        },
+    }
+}
+
+/// Reads the value ahead, within this many levels.
+pub(crate) fn read_value<R: Read>(
+    alloc: Global,
+    decoder: &mut Decoder<'_, R>,
+    scratch: &mut [u8],
+    levels: usize,
+) -> Result<Value, Error<io::Error>>
+    ensures same_reader { SameReader decoder.old decoder.new }
+    ensures rests { OnOk result (pushed_of decoder.new ≡ None) }
+    ensures value { (xs : List ℕ) (p : ℕ) → IsAhead R.remaining decoder.old p xs → ValueRead R.remaining decoder.new levels xs p result }
+{
+    let mut stack = Stack::new(alloc);
+    'turns: loop {
+        if let Some(value) = turn(alloc, decoder, scratch, &mut stack, levels)? {
+            return Ok(value);
+        }
+    }
+}

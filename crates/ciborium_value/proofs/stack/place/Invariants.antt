@@ -1,0 +1,12 @@
+use Rattle.std.proofs.Common.{◌≡◌, length}
+use Rattle.ciborium_value.specs.Open.{placed}
+use Rattle.ciborium_value.specs.Stack.{opens}
+use Rattle.ciborium_value.specs.View.{tree_of}
+use Rattle.ciborium_value.proofs.stack.place.Given as goal
+
+-- what the value makes of what is open is what the first value makes of what was
+abbrev pub invariant-loop-frame : goal.invariant-loop-frame
+invariant-loop-frame l = placed (opens l.frames.items) (tree_of l.value) ≡ placed (opens l.fn.frames.items) (tree_of l.fn.value)
+
+abbrev pub decreases-loop-frame : goal.decreases-loop-frame
+decreases-loop-frame l = length l.frames.items

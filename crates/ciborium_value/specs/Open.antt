@@ -1,0 +1,56 @@
+-- Containers and tags that are open while a tree is put together, the innermost first.
+use Rattle.std.specs.Prelude.{ℕ, zero, suc, ◌+◌, ◌*◌, List, [], ◌∷◌, ◌++◌, Option, Some, None, option_map}
+use Rattle.ciborium_value.specs.Tree as trees
+use Rattle.ciborium_value.specs.Tree.{Tree}
+use Rattle.ciborium_value.specs.View.{trees_from, tree_pairs_from}
+
+-- a container with its parts so far, how many places follow the one that is filled next (None: as many as come before a break), and
+-- the key that waits for its value; or a tag that waits for its item
+pub data Open : Type 0 where
+  array : List Tree → Option ℕ → Open
+  map : List (Tree × Tree) → Option ℕ → Option Tree → Open
+  tag : ℕ → Open
+
+-- what one more tree makes of it: a whole tree, or it stays open
+pub data Filled : Type 0 where
+  whole : Tree → Filled
+  still : Open → Filled
+
+abbrev pub fill_array : List Tree → Option ℕ → Filled
+fill_array vs (Some zero) = whole (trees.array (trees_from vs))
+fill_array vs (Some (suc n)) = still (array vs (Some n))
+fill_array vs None = still (array vs None)
+
+abbrev pub fill_map : List (Tree × Tree) → Option ℕ → Filled
+fill_map ps (Some zero) = whole (trees.map (tree_pairs_from ps))
+fill_map ps (Some (suc n)) = still (map ps (Some n) None)
+fill_map ps None = still (map ps None None)
+
+abbrev pub fill : Open → Tree → Filled
+fill (array vs behind) v = fill_array (vs ++ v ∷ []) behind
+fill (map ps behind None) v = still (map ps behind (Some v))
+fill (map ps behind (Some k)) v = fill_map (ps ++ (k, v) ∷ []) behind
+fill (tag n) v = whole (trees.tag n v)
+
+-- what one more tree makes of all that is open: the tree that it completes last, or what is still open
+pub data Placed : Type 0 where
+  done : Tree → Placed
+  more : List Open → Placed
+
+abbrev pub placed : List Open → Tree → Placed
+placed [] v = done v
+placed (o ∷ os) v = elim (fill o v) [ whole w ↦ placed os w | still p ↦ more (p ∷ os) ]
+
+-- the tree of a container that a break ends here
+abbrev pub ended : Open → Option Tree
+ended (array vs None) = Some (trees.array (trees_from vs))
+ended (array vs (Some n)) = None
+ended (map ps None None) = Some (trees.map (tree_pairs_from ps))
+ended (map ps None (Some k)) = None
+ended (map ps (Some n) key) = None
+ended (tag n) = None
+
+-- the tree that a break ends, and what is still open around it
+abbrev pub closed : List Open → Option (Tree × List Open)
+closed [] = None
+closed (o ∷ os) = option_map (λ v. (v, os)) (ended o)
