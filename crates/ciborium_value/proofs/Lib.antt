@@ -6,3 +6,4 @@ mod Refused
 mod Answered
 pub mod Outcome
 mod Examples
+pub mod Bounded
