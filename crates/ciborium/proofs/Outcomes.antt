@@ -8,10 +8,12 @@ use Rattle.ciborium_ll.specs.Refusal as refusal
 use Rattle.ciborium_ll.specs.Refusal.{Refusal}
 use Rattle.ciborium_ll.proofs.UniqueSpelling.{one_at_front}
 use Rattle.ciborium_value.specs.declared.value.Value.{Value}
+use Rattle.ciborium_value.specs.Counts.{node_count, payload_size}
 use Rattle.ciborium_value.specs.Meaning.{meaning}
 use Rattle.ciborium_value.specs.Refuses.{IsGood, Refuses}
 use Rattle.ciborium_value.specs.Tree.{Tree}
 use Rattle.ciborium_value.specs.View.{tree_of}
+use Rattle.ciborium_value.proofs.Bounded.{bounded}
 use Rattle.ciborium_value.proofs.Outcome.{never_both}
 use Rattle.ciborium.specs.declared.de.error.Error.{Error}
 use Rattle.ciborium.specs.declared.de.error.Error.TheVariants as errors
@@ -53,6 +55,14 @@ read-within remaining d l xs left (Ok v) rests (zs, r, a, s) e =
     let size : length xs ≡ length a.taken + length zs = ap length a.split ∙ length-append a.taken zs in
     omega (arith, at, fits, size, ap length same)
 read-within remaining d l xs left (Err x) rests a e = tt
+
+pub read-bounded : {S E : Type 0} (remaining : S → Option (List ℕ)) (d : Decoder S) (l : ℕ) (xs left : List ℕ) (x : Result Value (Error E)) → OnOk x (d.pushed ≡ None) → ValueRead remaining d l xs 0 x → remaining d.reader.now ≡ Some left →
+    IfOk x (λ v. node_count (tree_of v) + payload_size (tree_of v) + length left ≤ length xs)
+read-bounded remaining d l xs left (Ok v) rests (zs, r, a, s) e =
+    let same = same-left (remaining d.reader.now) zs left (left-at remaining d r zs rests s) e in
+    let size : length xs ≡ length a.taken + length zs = ap length a.split ∙ length-append a.taken zs in
+    omega (arith, bounded a.what a.taken (tree_of v) a.spelled a.means, size, ap length same)
+read-bounded remaining d l xs left (Err x) rests a e = tt
 
 only-fails : {E : Type 0} (e : Error E) (P : Refusal → Type 0) → ((r : Refusal) → P r → ⊥) → RefusedBy e P → IsFailure e
 only-fails (errors.Io x) P never h = tt

@@ -3,6 +3,7 @@
 ghost use Rattle.std.specs.Prelude.{◌≡◌, ◌+◌, ◌≤◌, ◌++◌, IfErr, IfOk, List, OnOk, Some, length, ℕ};
 ghost use Rattle.ciborium_ll.specs.Bytes.{AreBytes, greatest_offset};
 ghost use Rattle.ciborium_ll.specs.Item.{Item};
+ghost use Rattle.ciborium_value.specs.Counts.{node_count, payload_size};
 ghost use Rattle.ciborium_value.specs.Refuses.{IsGood, Refuses};
 ghost use Rattle.ciborium_value.specs.View.{tree_of};
 ghost use Rattle.ciborium.specs.Answers.{AnswersItem, TakesValue};
@@ -31,6 +32,8 @@ fn read<R: Read>(
     ensures exact { (b s left : List ℕ) (i : Item) → R.remaining reader.old ≡ Some b → AreBytes b → IsGood i (Some limit) s 0 → b ≡ s ++ left →
         AnswersItem i left (R.remaining reader.new) result }
     ensures refused { (b : List ℕ) → R.remaining reader.old ≡ Some b → IfErr result (λ e. RefusedBy e (λ r. Refuses b 0 (Some limit) r)) }
+    ensures bounded { (b left : List ℕ) → R.remaining reader.old ≡ Some b → R.remaining reader.new ≡ Some left →
+        IfOk result (λ v. node_count (tree_of v) + payload_size (tree_of v) + length left ≤ length b) }
     ensures within { (b left : List ℕ) → R.remaining reader.old ≡ Some b → R.remaining reader.new ≡ Some left → OnOk result (length b ≤ length left + greatest_offset) }
 {
     let mut decoder = Decoder::new(reader);
@@ -56,6 +59,8 @@ pub fn from_reader<R: Read>(alloc: Global, reader: &mut R) -> Result<Value, Erro
     ensures exact { (b s left : List ℕ) (i : Item) → R.remaining reader.old ≡ Some b → AreBytes b → IsGood i (Some 256) s 0 → b ≡ s ++ left →
         AnswersItem i left (R.remaining reader.new) result }
     ensures refused { (b : List ℕ) → R.remaining reader.old ≡ Some b → IfErr result (λ e. RefusedBy e (λ r. Refuses b 0 (Some 256) r)) }
+    ensures bounded { (b left : List ℕ) → R.remaining reader.old ≡ Some b → R.remaining reader.new ≡ Some left →
+        IfOk result (λ v. node_count (tree_of v) + payload_size (tree_of v) + length left ≤ length b) }
     ensures within { (b left : List ℕ) → R.remaining reader.old ≡ Some b → R.remaining reader.new ≡ Some left → OnOk result (length b ≤ length left + greatest_offset) }
 {
     let mut scratch = [0u8; 4096];
@@ -73,6 +78,8 @@ pub fn from_reader_with_buffer<R: Read>(
     ensures exact { (b s left : List ℕ) (i : Item) → R.remaining reader.old ≡ Some b → AreBytes b → IsGood i (Some 256) s 0 → b ≡ s ++ left →
         AnswersItem i left (R.remaining reader.new) result }
     ensures refused { (b : List ℕ) → R.remaining reader.old ≡ Some b → IfErr result (λ e. RefusedBy e (λ r. Refuses b 0 (Some 256) r)) }
+    ensures bounded { (b left : List ℕ) → R.remaining reader.old ≡ Some b → R.remaining reader.new ≡ Some left →
+        IfOk result (λ v. node_count (tree_of v) + payload_size (tree_of v) + length left ≤ length b) }
     ensures within { (b left : List ℕ) → R.remaining reader.old ≡ Some b → R.remaining reader.new ≡ Some left → OnOk result (length b ≤ length left + greatest_offset) }
 {
     read(alloc, reader, scratch, 256)
@@ -89,6 +96,8 @@ pub fn from_reader_with_recursion_limit<R: Read>(
     ensures exact { (b s left : List ℕ) (i : Item) → R.remaining reader.old ≡ Some b → AreBytes b → IsGood i (Some limit) s 0 → b ≡ s ++ left →
         AnswersItem i left (R.remaining reader.new) result }
     ensures refused { (b : List ℕ) → R.remaining reader.old ≡ Some b → IfErr result (λ e. RefusedBy e (λ r. Refuses b 0 (Some limit) r)) }
+    ensures bounded { (b left : List ℕ) → R.remaining reader.old ≡ Some b → R.remaining reader.new ≡ Some left →
+        IfOk result (λ v. node_count (tree_of v) + payload_size (tree_of v) + length left ≤ length b) }
     ensures within { (b left : List ℕ) → R.remaining reader.old ≡ Some b → R.remaining reader.new ≡ Some left → OnOk result (length b ≤ length left + greatest_offset) }
 {
     let mut scratch = [0u8; 4096];

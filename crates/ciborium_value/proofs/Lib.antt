@@ -12,3 +12,4 @@ mod Answered
 pub mod Outcome
 mod Examples
 pub mod Stacked
+pub mod Bounded

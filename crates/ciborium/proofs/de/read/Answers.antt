@@ -1,8 +1,9 @@
 use Rattle.std.proofs.Common.{rules, subst, ◌≡◌, ◌+◌, ◌≤◌, IfOk, OnOk, Some, length}
 use Rattle.ciborium_ll.specs.Bytes.{greatest_offset}
+use Rattle.ciborium_value.specs.Counts.{node_count, payload_size}
 use Rattle.ciborium_value.specs.View.{tree_of}
 use Rattle.ciborium.specs.Answers.{TakesValue, AnswersItem}
-use Rattle.ciborium.proofs.Outcomes.{ahead-begin, read-ok, read-exact, read-refused, read-within}
+use Rattle.ciborium.proofs.Outcomes.{ahead-begin, read-ok, read-exact, read-refused, read-within, read-bounded}
 use Rattle.ciborium.proofs.de.read.Goals as goal
 
 pub returns-clause-ok : goal.returns-clause-ok
@@ -29,4 +30,11 @@ returns-clause-within g c b left e =
     let d = c.read_value.new.decoder in
     subst (λ r. g.R.Read.remaining r ≡ Some left → OnOk c.read_value.result (length b ≤ length left + greatest_offset)) {x = d.reader.now} (search rules)
     (read-within g.R.Read.remaining d c.args.limit b left c.read_value.result c.read_value.ensures.rests
+    (c.read_value.ensures.value b 0 (ahead-begin g.R.Read.remaining c.new-decoder.result c.args.reader.now b c.new-decoder.ensures.begins e)))
+
+pub returns-clause-bounded : goal.returns-clause-bounded
+returns-clause-bounded g c b left e =
+    let d = c.read_value.new.decoder in
+    subst (λ r. g.R.Read.remaining r ≡ Some left → IfOk c.read_value.result (λ v. node_count (tree_of v) + payload_size (tree_of v) + length left ≤ length b)) {x = d.reader.now} (search rules)
+    (read-bounded g.R.Read.remaining d c.args.limit b left c.read_value.result c.read_value.ensures.rests
     (c.read_value.ensures.value b 0 (ahead-begin g.R.Read.remaining c.new-decoder.result c.args.reader.now b c.new-decoder.ensures.begins e)))
