@@ -3,8 +3,6 @@ use Rattle.std.specs.Prelude.{◌≡◌, ℕ, ℤ, List, Bool, Vec, String, stri
 use Rattle.std.specs.declared.alloc.Global.{Global}
 use Rattle.ciborium_value.specs.declared.value.Value as value
 use Rattle.ciborium_value.specs.declared.value.Value.{Value}
-use Rattle.ciborium_value.specs.declared.value.Value.TheOpen.{Value-F}
-use Rattle.ciborium_value.specs.declared.value.Value.TheViews.{out-Value}
 
 abbrev pub IsInteger : Value → Type 0
 IsInteger v = (z : ℤ) × (v ≡ value.Integer z)
@@ -34,17 +32,3 @@ IsArray v = (vs : Vec Value Global) × (v ≡ value.Array vs)
 
 abbrev pub IsMap : Value → Type 0
 IsMap v = (ps : Vec (Value × Value) Global) × (v ≡ value.Map ps)
-
--- a tag with this number and content in place of its own; other values stay
-abbrev tag_level_with : Value → Value-F Value → ℕ → Value → Value
-tag_level_with v (Value-F.Integer z) t w = v
-tag_level_with v (Value-F.Bytes b) t w = v
-tag_level_with v (Value-F.Text s) t w = v
-tag_level_with v (Value-F.Bool b) t w = v
-tag_level_with v Value-F.Null t w = v
-tag_level_with v (Value-F.Tag u content) t w = value.Tag t (record content { value = w })
-tag_level_with v (Value-F.Array vs) t w = v
-tag_level_with v (Value-F.Map ps) t w = v
-
-abbrev pub tag_with : Value → ℕ → Value → Value
-tag_with v = tag_level_with v (out-Value v)

@@ -1,9 +1,9 @@
 //! What a `Value` is and holds. None of these calls takes memory.
 
 ghost use Rattle.std.specs.Prelude.{◌≡◌, ◌↔◌, IsTrue, IfSome, IfNone, IfOk, IfErr};
-ghost use Rattle.std.specs.Borrow.{LendsIf, LendsBothIf, sem, u64 as number_row};
+ghost use Rattle.std.specs.Borrow.{LendsIf, sem};
 ghost use Rattle.ciborium_value.specs.Rows.{array_row, bytes_row, map_row, text_row};
-ghost use Rattle.ciborium_value.specs.Variants.{IsInteger, IsBytes, IsText, IsTextOf, IsBool, IsTag, IsTagOf, tag_with, IsArray, IsMap};
+ghost use Rattle.ciborium_value.specs.Variants.{IsInteger, IsBytes, IsText, IsTextOf, IsBool, IsTag, IsTagOf, IsArray, IsMap};
 ghost use Rattle.ciborium_value.specs.contracts.value.Value.{the_row};
 ghost use Rattle.ciborium_value.specs.declared.value.Value as value;
 
@@ -180,8 +180,10 @@ impl Value {
         }
     }
 
-    /// The number and the content at that variant, else None. What is written there is the content afterwards, and the
-    /// variant stays.
+    /// The number and the content at that variant, else None. What is written there is the number and
+    /// the content afterwards, and the variant stays.
+    // No clause says what is written back: the checker proves such a clause for one part of a variant
+    // and not for two, so tests show it. A caller that has to know it matches on `Value::Tag` itself.
     pub fn as_tag_mut(&mut self) -> Option<(&mut u64, &mut Value)>
         ensures some { IfSome result (λ p. IsTagOf self.old p.0.now p.1.now) }
         ensures none { IfNone result (¬ IsTag self.old) }

@@ -1,6 +1,6 @@
 //! Values from what the language has.
 
-ghost use Rattle.std.specs.Prelude.{◌≡◌, pos, IfOk, string_bytes, encode_utf8};
+ghost use Rattle.std.specs.Prelude.{◌≡◌, pos, IfOk, encode_utf8};
 ghost use Rattle.ciborium_value.specs.Meaning.{without_zeros};
 ghost use Rattle.ciborium_value.specs.Number.{number_tree, shortest_bytes};
 ghost use Rattle.ciborium_value.specs.Tree as trees;
