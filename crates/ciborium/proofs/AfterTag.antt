@@ -1,9 +1,8 @@
 -- What stands behind the head of a tag.
-use Rattle.std.proofs.Common.{◌≡◌, ℕ, suc, ◌+◌, ◌-◌, ◌^◌, ◌<◌, ◌≤◌, cond, leb, eqb, Bool, true, false, not, ◌&&◌, List, ◌++◌, length, Option, Some, None, is_some, Result, Ok, Err, refl, sym, ap, ◌∙◌, subst, arith, append_assoc, length-append, eqb-true, leb-true, le-leb, inl}
+use Rattle.std.proofs.Common.{◌≡◌, ℕ, suc, ◌+◌, ◌-◌, ◌^◌, ◌≤◌, cond, leb, eqb, Bool, true, false, not, ◌&&◌, List, ◌++◌, length, Option, Some, None, is_some, Result, Ok, Err, refl, sym, ap, ◌∙◌, subst, arith, append_assoc, length-append, eqb-true, leb-true, le-leb, inl}
 use Rattle.ciborium_ll.specs.declared.header.Header.{Header}
 use Rattle.ciborium_ll.specs.declared.header.Header.TheVariants as header
 use Rattle.ciborium_ll.specs.declared.decoder.Decoder.{Decoder}
-use Rattle.ciborium_ll.specs.Bytes.{greatest_offset}
 use Rattle.ciborium_ll.specs.Decoding.{IsAhead, IsAheadBy, IsUnread, offset_of}
 use Rattle.ciborium_ll.specs.Head.{Head}
 use Rattle.ciborium_ll.specs.Header.{SpellsHeader}
@@ -20,9 +19,7 @@ use Rattle.ciborium_value.specs.Tree.{Tree}
 use Rattle.ciborium_value.specs.View.{tree_of}
 use Rattle.ciborium_value.proofs.Found.{bignum_meaning-some}
 use Rattle.ciborium.specs.declared.de.error.Error.{Error}
-use Rattle.ciborium.specs.declared.de.error.Error.TheVariants.{RecursionLimitExceeded}
 use Rattle.ciborium.specs.Around.{InTag}
-use Rattle.ciborium.specs.Errors.{RefusedBy}
 use Rattle.ciborium.specs.Parts.{HeadRead, FoldRead, IsFolding, IsBegun, RefusesNoBreak}
 use Rattle.ciborium.specs.Reads.{ReadsItem, IsAt, IsPulled, IsBreakAt}
 use Rattle.ciborium.proofs.Contents.{string-room}

@@ -1,12 +1,12 @@
 -- What stands at the front, by its head.
-use Rattle.std.proofs.Common.{◌≡◌, ℕ, suc, ◌+◌, ◌*◌, ◌-◌, ◌/◌, ◌%◌, ◌<◌, ◌≤◌, List, [], ◌∷◌, ◌++◌, length, Option, Some, None, Result, Ok, Err, pos, negsuc, refl, sym, ap, ◌∙◌, subst, arith, append-nil, append_assoc, length-append, inl, inr, false, true}
+use Rattle.std.proofs.Common.{◌≡◌, ℕ, suc, ◌+◌, ◌*◌, ◌-◌, ◌%◌, ◌<◌, ◌≤◌, List, [], ◌∷◌, ◌++◌, length, Option, Some, None, Result, Ok, Err, pos, negsuc, refl, sym, ap, ◌∙◌, subst, arith, append-nil, inl, inr, false}
 use Rattle.std.proofs.lemmas.Nat.{div-mul-add, mod-mul-add}
 use Rattle.ciborium_ll.specs.declared.header.Header.{Header}
 use Rattle.ciborium_ll.specs.declared.header.Header.TheVariants as header
 use Rattle.ciborium_ll.specs.declared.decoder.Decoder.{Decoder}
 use Rattle.ciborium_ll.specs.Bytes.{greatest_offset}
 use Rattle.ciborium_ll.specs.Decoding.{IsAhead, IsAheadBy, offset_of, next_offset}
-use Rattle.ciborium_ll.specs.Head.{initial_byte, open_byte, break_byte}
+use Rattle.ciborium_ll.specs.Head.{initial_byte, break_byte}
 use Rattle.ciborium_ll.specs.Header.{SpellsHeader, announced_length}
 use Rattle.ciborium_ll.specs.Item as item
 use Rattle.ciborium_ll.specs.Refusal.{Refusal, semantic, recursion_limit_exceeded, HeadRefuses, IsUsable, head_refusal, HeadStands, BeginsWith}
@@ -20,16 +20,14 @@ use Rattle.ciborium_value.specs.Refuses.{Refuses, Opens, exactly}
 use Rattle.ciborium_value.specs.Tree as trees
 use Rattle.ciborium_value.specs.Tree.{Tree}
 use Rattle.ciborium_value.specs.View.{tree_of}
-use Rattle.ciborium_value.specs.Stack.{open_of}
 use Rattle.ciborium_value.specs.Open as opened
 use Rattle.ciborium_value.proofs.Steps.{opened-has}
 use Rattle.ciborium.specs.declared.de.error.Error.{Error}
-use Rattle.ciborium.specs.declared.de.error.Error.TheVariants.{RecursionLimitExceeded}
 use Rattle.ciborium.specs.declared.de.parts.Part.{Part}
 use Rattle.ciborium.specs.declared.de.parts.Part.TheVariants.{Whole, Opened, Ended}
 use Rattle.ciborium.specs.Around.{InContainer, IsInside, ContainerStands, IsRoom, array_due, map_due, due_in}
 use Rattle.ciborium.specs.Errors.{RefusedBy}
-use Rattle.ciborium.specs.Parts.{ArrayBegun, MapBegun, IsBehind, PartRead, RefusesNoBreak, IsBegun}
+use Rattle.ciborium.specs.Parts.{ArrayBegun, MapBegun, IsBehind, PartRead, RefusesNoBreak}
 use Rattle.ciborium.specs.Reads.{ReadsItem, IsAt, IsPulled, IsBreakAt}
 use Rattle.ciborium.proofs.Pulled.{refused-map}
 
@@ -204,6 +202,7 @@ array-inside count behind l xs p b r e u = record {
     due (Some n) None e = absurd e
     due None (Some k) e = absurd e
     due None None e = refl
+
     room : (count : Option ℕ) → IsRoom (array_due count) item.no_items
     room (Some n) = omega arith
     room None = tt
@@ -230,6 +229,7 @@ map-inside count behind l xs p b r e u = record {
     due (Some n) None e = absurd e
     due None (Some k) e = absurd e
     due None None e = refl
+
     room : (count : Option ℕ) → IsRoom (map_due count) item.no_items
     room (Some n) = omega arith
     room None = tt

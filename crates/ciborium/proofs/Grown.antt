@@ -1,6 +1,6 @@
 -- One item more behind items in a row.
-use Rattle.std.proofs.Common.{◌≡◌, ℕ, suc, ◌+◌, ◌*◌, ◌-◌, ◌≤◌, List, [], ◌∷◌, ◌++◌, Option, Some, None, option_map, append-nil, refl, sym, ap, ◌∙◌, arith, append_assoc, max}
-use Rattle.ciborium_ll.specs.Item.{Item, Items, no_items, item, items_count}
+use Rattle.std.proofs.Common.{◌≡◌, ℕ, ◌≤◌, List, [], ◌∷◌, ◌++◌, Option, Some, None, option_map, append-nil, refl, sym, ap, ◌∙◌, arith, append_assoc}
+use Rattle.ciborium_ll.specs.Item.{Item, Items, no_items, item}
 use Rattle.ciborium_ll.specs.Spells.{Spells, SpellsItems}
 use Rattle.ciborium_value.specs.Tree as trees
 use Rattle.ciborium_value.specs.Tree.{Tree, Trees}

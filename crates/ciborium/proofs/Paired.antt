@@ -1,5 +1,5 @@
 -- Keys and values in turn are pairs.
-use Rattle.std.proofs.Common.{◌≡◌, ℕ, suc, ◌+◌, ◌*◌, ◌≤◌, List, [], ◌∷◌, ◌++◌, length, Option, Some, None, refl, ap, ◌∙◌, arith}
+use Rattle.std.proofs.Common.{◌≡◌, ℕ, ◌*◌, ◌≤◌, List, [], ◌∷◌, ◌++◌, Option, Some, None, refl, ap, ◌∙◌, arith}
 use Rattle.ciborium_ll.specs.Item.{Items, no_items, item, items_count, Pairs, no_pairs, pair, pairs_count}
 use Rattle.ciborium_ll.specs.Spells.{SpellsItems, SpellsPairs}
 use Rattle.ciborium_value.specs.Tree as trees

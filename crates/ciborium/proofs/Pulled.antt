@@ -1,12 +1,11 @@
 -- Heads that are pulled.
-use Rattle.std.proofs.Common.{◌≡◌, ℕ, suc, ◌+◌, ◌*◌, ◌-◌, ◌<◌, ◌≤◌, List, [], ◌∷◌, ◌++◌, length, Option, Some, None, Result, Ok, Err, IfSome, IfNone, refl, sym, ap, ◌∙◌, subst, arith, length-append, inl, inr}
+use Rattle.std.proofs.Common.{◌≡◌, ℕ, suc, ◌+◌, ◌-◌, ◌<◌, List, ◌++◌, length, Option, Some, None, Result, Ok, IfSome, IfNone, sym, ap, subst, arith}
 use Rattle.ciborium_ll.specs.declared.header.Header.{Header}
-use Rattle.ciborium_ll.specs.declared.header.Header.TheVariants as header
 use Rattle.ciborium_ll.specs.declared.header.Error.{Error as LlError}
 use Rattle.ciborium_ll.specs.declared.header.Error.TheVariants as ll
 use Rattle.ciborium_ll.specs.declared.decoder.Decoder.{Decoder}
 use Rattle.ciborium_ll.specs.Bytes.{greatest_offset}
-use Rattle.ciborium_ll.specs.Decoding.{IsAhead, IsAheadBy, IsUnread, PullsTo, Takes, offset_of, next_offset}
+use Rattle.ciborium_ll.specs.Decoding.{IsUnread, Takes}
 use Rattle.ciborium_ll.specs.Header.{SpellsHeader, announced_length}
 use Rattle.ciborium_ll.specs.Reading as reading
 use Rattle.ciborium_ll.specs.Reading.{HeadTaken}
@@ -15,8 +14,7 @@ use Rattle.ciborium_ll.proofs.HeadAnswers.{header-fits, header-begins}
 use Rattle.ciborium.specs.declared.de.error.Error.{Error}
 use Rattle.ciborium.specs.declared.de.error.Error.TheVariants as errors
 use Rattle.ciborium.specs.Errors.{from_ll, RefusedBy, IsNamed, kind_of}
-use Rattle.ciborium.specs.Parts.{HeadRead}
-use Rattle.ciborium.specs.Reads.{IsAt, IsPulled, heads_by, heads_left}
+use Rattle.ciborium.specs.Reads.{IsPulled, heads_by, heads_left}
 
 -- the error that an error of the lowest layer becomes refuses as it does
 pub refused-from : {E : Type 0} (e : LlError E) (P : Refusal → Type 0) → reading.RefusedBy e P → RefusedBy (from_ll e) P

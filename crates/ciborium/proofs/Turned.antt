@@ -1,14 +1,12 @@
 -- The answers of one turn.
-use Rattle.std.proofs.Common.{◌≡◌, ℕ, zero, suc, ◌+◌, ◌-◌, ◌<◌, ◌≤◌, List, [], ◌∷◌, ◌++◌, length, Option, Some, None, Result, Ok, Err, IfOk, IfErr, OnOk, MatchOption, IsSome, refl, sym, ap, ◌∙◌, subst, arith}
+use Rattle.std.proofs.Common.{◌≡◌, ℕ, zero, suc, ◌+◌, ◌-◌, ◌≤◌, List, [], ◌∷◌, ◌++◌, length, Option, Some, None, Result, Ok, Err, IfOk, IfErr, MatchOption, IsSome, refl, sym, ap, ◌∙◌, subst, arith}
 use Rattle.std.specs.declared.alloc.AllocError.{AllocError}
 use Rattle.ciborium_ll.specs.declared.decoder.Decoder.{Decoder}
-use Rattle.ciborium_ll.specs.Bytes.{greatest_offset}
 use Rattle.ciborium_ll.specs.Decoding.{IsAhead, offset_of}
-use Rattle.ciborium_ll.specs.Head.{break_byte}
-use Rattle.ciborium_ll.specs.Refusal.{Refusal, semantic, Break}
+use Rattle.ciborium_ll.specs.Refusal.{semantic, Break}
 use Rattle.ciborium_value.specs.declared.value.Value.{Value}
 use Rattle.ciborium_value.specs.declared.stack.Frame.{Frame}
-use Rattle.ciborium_value.specs.Open.{Open, array, map, tag, Placed, done, more, placed, closed}
+use Rattle.ciborium_value.specs.Open.{Open, array, map, tag, Placed, more, placed, closed}
 use Rattle.ciborium_value.specs.Refuses.{Refuses}
 use Rattle.ciborium_value.specs.Stack.{open_of, placed_of}
 use Rattle.ciborium_value.specs.Tree as trees
@@ -23,7 +21,7 @@ use Rattle.ciborium.specs.Answers.{IsReading, Turned}
 use Rattle.ciborium.specs.Around.{IsAround, IsPlaced}
 use Rattle.ciborium.specs.Errors.{RefusedBy}
 use Rattle.ciborium.specs.Parts.{PartRead, IsBegun}
-use Rattle.ciborium.specs.Reads.{ReadsItem, IsBreakAt}
+use Rattle.ciborium.specs.Reads.{IsBreakAt}
 use Rattle.ciborium.proofs.Fronts.{offset-at}
 use Rattle.ciborium.proofs.Pulled.{refused-map}
 use Rattle.ciborium.proofs.Turning.{placed-turn, closed-turn, refused-turn, levels-left, EndsHere}
@@ -47,7 +45,6 @@ turn-refused remaining d e os l xs p x answers s =
     refused-map x (λ r. Refuses s.1 s.2 (Some s.0) r × ¬ IsBreakAt s.1 s.2) (λ r. Refuses xs p (Some l) r) (λ r f. refused-turn l xs p os s.0 s.1 s.2 r s.3 f.0 (λ _. f.1)) (answer-here remaining d e os l xs p (Err x) answers s)
 
 -- ---- a value was placed
-
 
 is-turned : {S E : Type 0} (remaining : S → Option (List ℕ)) (e : Decoder S) (after : List Open) (l : ℕ) (xs : List ℕ) (p : ℕ) (given : Result (Option Value) AllocError) (x : Result (Option Value) (Error E)) (os : List Open) (v : Tree) (zs : List ℕ) (r : ℕ) →
     IfOk x (λ o. given ≡ Ok o) → IfErr x (λ e. e ≡ Memory) → IfOk given (λ o. placed_of o after ≡ placed os v) → IsPlaced l xs p (placed os v) zs r → IsAhead remaining e r zs → Turned remaining e after l xs p x

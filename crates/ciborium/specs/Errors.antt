@@ -1,5 +1,5 @@
 -- The refusals of the definitions that the errors of reading stand for.
-use Rattle.std.specs.Prelude.{◌≡◌, ℕ, Option, Some, None, MatchOption}
+use Rattle.std.specs.Prelude.{ℕ, Option, Some, None}
 use Rattle.ciborium_ll.specs.declared.header.Error.{Error as LlError}
 use Rattle.ciborium_ll.specs.declared.header.Error.TheVariants as ll
 use Rattle.ciborium_ll.specs.Refusal as refusal

@@ -9,7 +9,6 @@ use Rattle.ciborium_ll.specs.Head.{break_byte}
 use Rattle.ciborium_ll.specs.Refusal.{HeadRefuses, semantic, TooLarge}
 use Rattle.ciborium_value.specs.declared.kind.Kind.TheVariants as kinds
 use Rattle.ciborium_value.specs.declared.value.Value.{Value}
-use Rattle.ciborium_value.specs.declared.stack.Frame.{Frame}
 use Rattle.ciborium_value.specs.Meaning.{simple_meaning, bignum_meaning, is_bignum_tag}
 use Rattle.ciborium_value.specs.Open.{Open, array, map}
 use Rattle.ciborium_value.specs.Refuses.{Refuses}

@@ -16,10 +16,9 @@ mod tags;
 
 use ciborium_ll::Decoder;
 use ciborium_value::Value;
+pub use error::Error;
 use std::alloc::Global;
 use std::io::{self, Read};
-
-pub use error::Error;
 
 // Reads one value with a decoder of its own.
 fn read<R: Read>(
@@ -103,3 +102,6 @@ pub fn from_reader_with_recursion_limit<R: Read>(
     let mut scratch = [0u8; 4096];
     read(alloc, reader, &mut scratch, limit)
 }
+
+#[cfg(test)]
+mod tests;

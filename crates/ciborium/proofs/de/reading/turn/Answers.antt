@@ -1,10 +1,10 @@
-use Rattle.std.proofs.Common.{rules, ◌-◌, length, ap, ◌∙◌}
+use Rattle.std.proofs.Common.{rules, ◌-◌, length, ap}
 use Rattle.std.proofs.lemmas.Result.{err_from_is_err_and}
 use Rattle.std.specs.declared.io.Error.{Error}
 use Rattle.ciborium_value.specs.Stack.{opens_of}
 use Rattle.ciborium_value.specs.View.{tree_of}
 use Rattle.ciborium.specs.declared.de.parts.Part.TheVariants.{Whole, Opened, Ended}
-use Rattle.ciborium.proofs.Turned.{answers-of, turn-refused, turn-whole, turn-opened, turn-ended, turn-break, depth-placed, depth-closed, Answers}
+use Rattle.ciborium.proofs.Turned.{answers-of, turn-refused, turn-whole, turn-opened, turn-ended, turn-break, depth-placed, depth-closed}
 use Rattle.ciborium.proofs.de.reading.turn.Goals as goal
 
 pub returns-in_err-value-clause-turn : goal.returns-in_err-value-clause-turn

@@ -26,6 +26,6 @@ loop-b-preserved c = record {
       let x = c.loop-b.invariant.value in
       let sum : c.loop-b.n * 256 + c.from.result ≡ 256 * c.loop-b.n + c.from.result = omega arith in
       sum ∙ ap (λ n. 256 * n + c.from.result) x ∙ ap (λ b. 256 * big_endian (take i xs) + b) c.from.ensures ∙ sym (big_endian_behind-more 0 (take i xs) (get_or xs i 0)) ∙
-          ap big_endian (sym (take_more xs i 0 c.loop-b-test.true))
+      ap big_endian (sym (take_more xs i 0 c.loop-b-test.true))
       );
 }
