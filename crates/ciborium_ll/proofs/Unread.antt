@@ -1,5 +1,5 @@
 -- What calls answer, said of all that is unread.
-use Rattle.std.proofs.Common.{◌≡◌, ℕ, ◌+◌, List, [], ◌∷◌, ◌++◌, length, Option, Some, None, Result, Ok, Err, IfErr, IfNone, refl, sym, ap, ◌∙◌, subst, append_assoc, inl, inr}
+use Rattle.std.proofs.Common.{◌≡◌, ℕ, ◌+◌, ◌<◌, List, [], ◌∷◌, ◌++◌, length, Option, Some, None, Result, Ok, Err, IfErr, IfNone, refl, sym, ap, ◌∙◌, subst, append_assoc, append-nil, inl, inr}
 use Rattle.std.specs.Io.KnownBytes.{Consumes}
 use Rattle.std.specs.Prelude.{IsUtf8}
 use Rattle.std.proofs.lemmas.Str.{IsUtf8-append, IsUtf8-nil}
@@ -30,7 +30,7 @@ rest-of old new b x e h = known-rest b new x (subst (λ o. Consumes o new x) e h
 -- what reading a head at the front of b, from offset p on, answers and leaves
 abbrev pub ReadsHead : {E : Type 0} → Option (List ℕ) → List ℕ → ℕ → ℕ → Result Header (Error E) → Type 0
 ReadsHead new b p q (Ok h) = (x : List ℕ) × (r : List ℕ) × SpellsHeader x h × IsUsable b p × (b ≡ x ++ r) × (q ≡ p + length x) × (new ≡ Some r)
-ReadsHead new b p q (Err e) = RefusedBy e (HeadRefuses b p)
+ReadsHead new b p q (Err e) = RefusedBy new e (HeadRefuses b p)
 
 -- ---- heads
 
@@ -46,12 +46,20 @@ usable-more x r p h = refusal-more x r p None h (λ k. apart k)
     apart : None ≡ Some io → ⊥
     apart k = cc
 
+-- a reader that came to its end gave all that was unread
+taken-whole : (x r b : List ℕ) (left : Option (List ℕ)) → b ≡ x ++ r → left ≡ Some r → left ≡ Some [] → b ≡ x
+taken-whole x r b left is rest end = is ∙ ap (λ (l : List ℕ). x ++ l) (inside (sym rest ∙ end)) ∙ append-nil x
+  where
+    inside : Some r ≡ Some [] → r ≡ []
+    inside e = cc e
+
 -- bytes of a head that were refused, with what follows
-pub head-refuses : {E : Type 0} (x r b : List ℕ) (p : ℕ) (e : Error E) → HeadTaken {E = E} p (Err e) x → b ≡ x ++ r → RefusedBy e (HeadRefuses b p)
-head-refuses x r b p (Io e) t is = tt
-head-refuses x r b p (Syntax at) t is = subst (λ c. HeadRefuses c p (syntax at)) (sym is) (refused-more x r p (syntax at) (λ k. cc) t.answers)
-head-refuses x r b p TooLong t is = subst (λ c. HeadRefuses c p too_long) (sym is) (refused-more x r p too_long (λ k. cc) t.answers)
-head-refuses x r b p Memory t is = tt
+pub head-refuses : {E : Type 0} (x r b : List ℕ) (p : ℕ) (left : Option (List ℕ)) (e : Error E) → HeadTaken {E = E} p (Err e) x → b ≡ x ++ r → left ≡ Some r →
+    RefusedBy left e (HeadRefuses b p)
+head-refuses x r b p left (Io e) t is rest = λ end. subst (λ c. HeadRefuses c p io) (sym (taken-whole x r b left is rest end)) t.answers
+head-refuses x r b p left (Syntax at) t is rest = subst (λ c. HeadRefuses c p (syntax at)) (sym is) (refused-more x r p (syntax at) (λ k. cc) t.answers)
+head-refuses x r b p left TooLong t is rest = subst (λ c. HeadRefuses c p too_long) (sym is) (refused-more x r p too_long (λ k. cc) t.answers)
+head-refuses x r b p left Memory t is rest = tt
 
 pub reads-head : {E : Type 0} (old new : Option (List ℕ)) (b : List ℕ) (p q : ℕ) (result : Result Header (Error E)) → old ≡ Some b →
     Advances old new p q (HeadTaken {E = E} p result) → ReadsHead {E = E} new b p q result
@@ -59,7 +67,7 @@ reads-head {E} old new b p q (Ok h) e (x, taken, count, t) =
     let k = rest-of old new b x e taken in
     (x, k.0, t.answers.0, subst (λ c. IsUsable c p) (sym k.2) (usable-more x k.0 p t.answers.1), k.2, count, k.1)
 reads-head {E} old new b p q (Err f) e (x, taken, count, t) =
-    let k = rest-of old new b x e taken in head-refuses {E = E} x k.0 b p f t k.2
+    let k = rest-of old new b x e taken in head-refuses {E = E} x k.0 b p new f t k.2 k.1
 
 -- the same, of a decoder that reads at offset q
 pub pulls-head : {E : Type 0} (old new : Option (List ℕ)) (last count : ℕ) (b : List ℕ) (q p : ℕ) (result : Result Header (Error E)) → (q ≡ p) × (old ≡ Some b) → last ≡ q →
@@ -68,25 +76,26 @@ pulls-head {E} old new last count b q p (Ok h) (at, known) here taken =
     let r = reads-head {E = E} old new b q count (Ok h) known taken in
     (r.0, r.1, r.2, subst (IsUsable b) at r.3, r.4, here ∙ at, r.5 ∙ ap (λ k. k + length r.0) at, r.6)
 pulls-head {E} old new last count b q p (Err e) (at, known) here taken =
-    subst (λ k. RefusedBy e (HeadRefuses b k)) at (reads-head {E = E} old new b q count (Err e) known taken)
+    subst (λ k. RefusedBy new e (HeadRefuses b k)) at (reads-head {E = E} old new b q count (Err e) known taken)
 
 -- ---- strings
 
 -- where a payload was refused, what was left refuses so
-pub payload-refuses : {E : Type 0} (kind : StringKind) (n p : ℕ) (e : Error E) (added x r b : List ℕ) → PayloadTaken {E = E} kind n p (Err e) added x → b ≡ x ++ r →
-    RefusedBy e (PayloadRefuses kind n p b)
-payload-refuses kind n p (Io e) added x r b t is = tt
-payload-refuses kind n p (Syntax at) added x r b t is =
+pub payload-refuses : {E : Type 0} (kind : StringKind) (n p : ℕ) (left : Option (List ℕ)) (e : Error E) (added x r b : List ℕ) → PayloadTaken {E = E} kind n p (Err e) added x →
+    b ≡ x ++ r → left ≡ Some r → RefusedBy left e (PayloadRefuses kind n p b)
+payload-refuses kind n p left (Io e) added x r b t is rest =
+    λ end. PayloadRefuses.ends_early (subst (λ (c : List ℕ). length c < n) (sym (taken-whole x r b left is rest end)) t.0)
+payload-refuses kind n p left (Syntax at) added x r b t is rest =
     subst (λ k. PayloadRefuses kind n p b (syntax k)) (sym t.0) (subst (λ c. PayloadRefuses kind n p c (syntax p)) (sym is) (PayloadRefuses.not_allowed x r t.1 t.2))
-payload-refuses kind n p TooLong added x r b t is = absurd t
-payload-refuses kind n p Memory added x r b t is = tt
+payload-refuses kind n p left TooLong added x r b t is rest = absurd t
+payload-refuses kind n p left Memory added x r b t is rest = tt
 
 -- one refusal in place of another that follows from it
-pub refused-map : {E : Type 0} (e : Error E) (P Q : Refusal → Type 0) → ((f : Refusal) → P f → Q f) → RefusedBy e P → RefusedBy e Q
-refused-map (Io e) P Q f h = tt
-refused-map (Syntax at) P Q f h = f (syntax at) h
-refused-map TooLong P Q f h = f too_long h
-refused-map Memory P Q f h = tt
+pub refused-map : {E : Type 0} (left : Option (List ℕ)) (e : Error E) (P Q : Refusal → Type 0) → ((f : Refusal) → P f → Q f) → RefusedBy left e P → RefusedBy left e Q
+refused-map left (Io e) P Q f h = λ end. f io (h end)
+refused-map left (Syntax at) P Q f h = f (syntax at) h
+refused-map left TooLong P Q f h = f too_long h
+refused-map left Memory P Q f h = tt
 
 string-stands : (kind : StringKind) (n : ℕ) (x r b : List ℕ) → SpellsHeader x (string_header kind n) → b ≡ x ++ r → HeadStands b (major_of kind) n (length x) r
 string-stands of_bytes n x r b s is = (x, s, refl, is)
@@ -101,42 +110,44 @@ break-begun : (x r b : List ℕ) (h : Header) → SpellsHeader x h → b ≡ x +
 break-begun x r b h s is (q, whole) = (one_header_at_front x (break_byte ∷ []) r q h header.Break s refl (sym is ∙ whole)).2
 
 -- where a part was refused, what was left refuses so
-pub part-refuses : {E : Type 0} (kind : StringKind) (p : ℕ) (e : Error E) (x r b : List ℕ) → PartTaken {E = E} kind p e x → b ≡ x ++ r → RefusedBy e (PartRefuses kind b p)
-part-refuses {E} kind p e x r b (inl t) is =
-    refused-map e (HeadRefuses b p) (PartRefuses kind b p) (λ f h. PartRefuses.no_head h) (head-refuses {E = E} x r b p e t is)
-part-refuses {E} kind p e x r b (inr (inl (h, t, other, here))) is =
-    subst (λ k. RefusedBy k (PartRefuses kind b p)) (sym here) (PartRefuses.other (subst (λ c. IsUsable c p) (sym is) (usable-more x r p t.answers.1))
+pub part-refuses : {E : Type 0} (kind : StringKind) (p : ℕ) (left : Option (List ℕ)) (e : Error E) (x r b : List ℕ) → PartTaken {E = E} kind p e x → b ≡ x ++ r →
+    left ≡ Some r → RefusedBy left e (PartRefuses kind b p)
+part-refuses {E} kind p left e x r b (inl t) is rest =
+    refused-map left e (HeadRefuses b p) (PartRefuses kind b p) (λ f h. PartRefuses.no_head h) (head-refuses {E = E} x r b p left e t is rest)
+part-refuses {E} kind p left e x r b (inr (inl (h, t, other, here))) is rest =
+    subst (λ k. RefusedBy left k (PartRefuses kind b p)) (sym here) (PartRefuses.other (subst (λ c. IsUsable c p) (sym is) (usable-more x r p t.answers.1))
     (λ begun. let k = string-begun kind x r b h t.answers.0 is begun in other.1 k.0 k.1) (λ begun. other.0 (break-begun x r b h t.answers.0 is begun)))
-part-refuses {E} kind p e x r b (inr (inr (n, s, y, split, t, payload))) is =
+part-refuses {E} kind p left e x r b (inr (inr (n, s, y, split, t, payload))) is rest =
     let whole : b ≡ s ++ (y ++ r) = is ∙ ap (λ (c : List ℕ). c ++ r) split ∙ append_assoc s y r in
-    refused-map e (PayloadRefuses kind n p (y ++ r)) (PartRefuses kind b p)
+    refused-map left e (PayloadRefuses kind n p (y ++ r)) (PartRefuses kind b p)
     (λ f h. PartRefuses.part (subst (λ c. IsUsable c p) (sym whole) (usable-more s (y ++ r) p t.answers.1)) (n, length s, y ++ r, string-stands kind n s (y ++ r) b t.answers.0 whole, h))
-    (payload-refuses {E = E} kind n p e [] y r (y ++ r) payload refl)
+    (payload-refuses {E = E} kind n p left e [] y r (y ++ r) payload refl rest)
 
-pub parts-refuse : {E : Type 0} (kind : StringKind) (q : ℕ) (e : Error E) (added x r b : List ℕ) → PartsTaken {E = E} kind q (Err e) added x → b ≡ x ++ r → RefusedBy e (PartsRefuse kind b q)
-parts-refuse {E} kind q e added x r b (ps, s, parts, fits, (y, split, part), same) is =
-    refused-map e (PartRefuses kind (y ++ r) (q + length s)) (PartsRefuse kind b q)
+pub parts-refuse : {E : Type 0} (kind : StringKind) (q : ℕ) (left : Option (List ℕ)) (e : Error E) (added x r b : List ℕ) → PartsTaken {E = E} kind q (Err e) added x → b ≡ x ++ r →
+    left ≡ Some r → RefusedBy left e (PartsRefuse kind b q)
+parts-refuse {E} kind q left e added x r b (ps, s, parts, fits, (y, split, part), same) is rest =
+    refused-map left e (PartRefuses kind (y ++ r) (q + length s)) (PartsRefuse kind b q)
     (λ f h. (s, ps, y ++ r, parts, fits, is ∙ ap (λ (c : List ℕ). c ++ r) split ∙ append_assoc s y r, h))
-    (part-refuses {E = E} kind (q + length s) e y r (y ++ r) part refl)
+    (part-refuses {E = E} kind (q + length s) left e y r (y ++ r) part refl rest)
 
-pub string-refuses : {E : Type 0} (kind : StringKind) (len : Option ℕ) (p q : ℕ) (e : Error E) (added x r b : List ℕ) → StringTaken {E = E} kind len p q (Err e) added x → b ≡ x ++ r →
-    RefusedBy e (ContentRefuses kind len p b q)
-string-refuses {E} kind (Some n) p q (Io e) added x r b (inl t) split = tt
-string-refuses {E} kind (Some n) p q (Syntax at) added x r b (inl (over, is, none, nothing)) split = absurd cc
-string-refuses {E} kind (Some n) p q TooLong added x r b (inl (over, is, none, nothing)) split = inl (over, refl)
-string-refuses {E} kind (Some n) p q Memory added x r b (inl t) split = tt
-string-refuses {E} kind (Some n) p q e added x r b (inr (fits, t)) split =
-    refused-map e (PayloadRefuses kind n p b) (ContentRefuses kind (Some n) p b q) (λ f h. inr (fits, h)) (payload-refuses {E = E} kind n p e added x r b t split)
-string-refuses {E} kind None p q e added x r b t split = parts-refuse {E = E} kind q e added x r b t split
+pub string-refuses : {E : Type 0} (kind : StringKind) (len : Option ℕ) (p q : ℕ) (left : Option (List ℕ)) (e : Error E) (added x r b : List ℕ) →
+    StringTaken {E = E} kind len p q (Err e) added x → b ≡ x ++ r → left ≡ Some r → RefusedBy left e (ContentRefuses kind len p b q)
+string-refuses {E} kind (Some n) p q left (Io e) added x r b (inl (over, is, none, nothing)) split rest = absurd cc
+string-refuses {E} kind (Some n) p q left (Syntax at) added x r b (inl (over, is, none, nothing)) split rest = absurd cc
+string-refuses {E} kind (Some n) p q left TooLong added x r b (inl (over, is, none, nothing)) split rest = inl (over, refl)
+string-refuses {E} kind (Some n) p q left Memory added x r b (inl t) split rest = tt
+string-refuses {E} kind (Some n) p q left e added x r b (inr (fits, t)) split rest =
+    refused-map left e (PayloadRefuses kind n p b) (ContentRefuses kind (Some n) p b q) (λ f h. inr (fits, h)) (payload-refuses {E = E} kind n p left e added x r b t split rest)
+string-refuses {E} kind None p q left e added x r b t split rest = parts-refuse {E = E} kind q left e added x r b t split rest
 
 -- the same, where the bytes were known
 pub reads-string : {E : Type 0} (kind : StringKind) (len : Option ℕ) (p q t : ℕ) (old new : Option (List ℕ)) (e : Error E) (b : List ℕ) (A : List ℕ → List ℕ → Type 0) →
-    Advances old new q t (λ x. (added : List ℕ) × A added x × StringTaken {E = E} kind len p q (Err e) added x) → old ≡ Some b → RefusedBy e (ContentRefuses kind len p b q)
+    Advances old new q t (λ x. (added : List ℕ) × A added x × StringTaken {E = E} kind len p q (Err e) added x) → old ≡ Some b → RefusedBy new e (ContentRefuses kind len p b q)
 reads-string {E} kind len p q t old new e b A (x, taken, count, (added, h, s)) is =
-    let k = rest-of old new b x is taken in string-refuses {E = E} kind len p q e added x k.0 b s k.2
+    let k = rest-of old new b x is taken in string-refuses {E = E} kind len p q new e added x k.0 b s k.2 k.1
 
 pub refused-string : {E : Type 0} (kind : StringKind) (len : Option ℕ) (p q t : ℕ) (old new : Option (List ℕ)) (result : Result (Unit {0}) (Error E)) (b : List ℕ) (A : List ℕ → List ℕ → Type 0) →
-    Advances old new q t (λ x. (added : List ℕ) × A added x × StringTaken {E = E} kind len p q result added x) → old ≡ Some b → IfErr result (λ e. RefusedBy e (ContentRefuses kind len p b q))
+    Advances old new q t (λ x. (added : List ℕ) × A added x × StringTaken {E = E} kind len p q result added x) → old ≡ Some b → IfErr result (λ e. RefusedBy new e (ContentRefuses kind len p b q))
 refused-string {E} kind len p q t old new (Ok u) b A h is = tt
 refused-string {E} kind len p q t old new (Err e) b A h is = reads-string {E = E} kind len p q t old new e b A h is
 

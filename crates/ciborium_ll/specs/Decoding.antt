@@ -66,7 +66,7 @@ IsAhead remaining d p b = IsAheadBy remaining d p b d.pushed
 abbrev pub PullsTo : {E : Type 0} → ℕ → ℕ → Option (List ℕ) → ℕ → List ℕ → Result Header (Error E) → Type 0
 PullsTo last count left p b (Ok header) =
     (h : List ℕ) × (r : List ℕ) × SpellsHeader h header × IsUsable b p × (b ≡ h ++ r) × (last ≡ p) × (count ≡ p + length h) × (left ≡ Some r)
-PullsTo last count left p b (Err e) = RefusedBy e (HeadRefuses b p)
+PullsTo last count left p b (Err e) = RefusedBy left e (HeadRefuses b p)
 
 -- the decoder has read so
 abbrev pub Pulls : {S E : Type 0} → (S → Option (List ℕ)) → Decoder S → ℕ → List ℕ → Result Header (Error E) → Type 0

@@ -1,5 +1,5 @@
 -- What a call takes from a reader, where the reader's bytes are known, and how offsets count it.
-use Rattle.std.specs.Prelude.{◌≡◌, ℕ, ◌+◌, ◌<◌, ◌≤◌, List, [], length, take, Option, Result, Ok, Err}
+use Rattle.std.specs.Prelude.{◌≡◌, ℕ, ◌+◌, ◌<◌, ◌≤◌, List, [], length, take, Option, Some, Result, Ok, Err}
 use Rattle.std.specs.Io.KnownBytes.{Consumes}
 use Rattle.ciborium_ll.specs.declared.header.Header.{Header}
 use Rattle.ciborium_ll.specs.declared.header.Error.{Error}
@@ -12,12 +12,13 @@ use Rattle.ciborium_ll.specs.Refusal.{Refusal, io, syntax, too_long, HeadRefuses
 abbrev pub Advances : Option (List ℕ) → Option (List ℕ) → ℕ → ℕ → (List ℕ → Type 0) → Type 0
 Advances old new p q P = (b : List ℕ) × Consumes old new b × (q ≡ p + length b) × P b
 
--- an error other than `Io` and `Memory` is a refusal of which P holds
-abbrev pub RefusedBy : {E : Type 0} → Error E → (Refusal → Type 0) → Type 0
-RefusedBy (Io e) P = Unit {0}
-RefusedBy (Syntax p) P = P (syntax p)
-RefusedBy TooLong P = P too_long
-RefusedBy Memory P = Unit {0}
+-- an error other than `Memory`, of a call that leaves this of the reader, is a refusal of which P holds; `Io` is one where the reader
+-- came to its end
+abbrev pub RefusedBy : {E : Type 0} → Option (List ℕ) → Error E → (Refusal → Type 0) → Type 0
+RefusedBy left (Io e) P = left ≡ Some [] → P io
+RefusedBy left (Syntax p) P = P (syntax p)
+RefusedBy left TooLong P = P too_long
+RefusedBy left Memory P = Unit {0}
 
 -- every beginning of b, at offset p, ends inside a head: no byte of b can be spared where the head at p is judged
 abbrev pub NoneIsSpare : List ℕ → ℕ → Type 0

@@ -136,7 +136,7 @@ impl<'a, R: Read> Decoder<'a, R> {
         ensures taken { Takes R.remaining self.old self.new
             (λ b. (added : List ℕ) × (out.new.items ≡ out.old.items ++ added) × StringTaken of_bytes len (last_of self.old) (count_of self.old) result added b) }
         ensures refused { (b : List ℕ) → left_of R.remaining self.old ≡ Some b →
-            IfErr result (λ e. RefusedBy e (ContentRefuses of_bytes len (last_of self.old) b (count_of self.old))) }
+            IfErr result (λ e. RefusedBy (left_of R.remaining self.new) e (ContentRefuses of_bytes len (last_of self.old) b (count_of self.old))) }
     {
         append_string(
             self.reader,
@@ -171,7 +171,7 @@ impl<'a, R: Read> Decoder<'a, R> {
         ensures taken { Takes R.remaining self.old self.new
             (λ b. (added : List ℕ) × (string_bytes out.new ≡ string_bytes out.old ++ added) × StringTaken of_text len (last_of self.old) (count_of self.old) result added b) }
         ensures refused { (b : List ℕ) → left_of R.remaining self.old ≡ Some b →
-            IfErr result (λ e. RefusedBy e (ContentRefuses of_text len (last_of self.old) b (count_of self.old))) }
+            IfErr result (λ e. RefusedBy (left_of R.remaining self.new) e (ContentRefuses of_text len (last_of self.old) b (count_of self.old))) }
     {
         let empty = String::new(*out.allocator());
         let mut bytes = mem::replace(out, empty).into_bytes();
