@@ -1,5 +1,5 @@
 -- What stands behind the head of a tag.
-use Rattle.std.proofs.Common.{◌≡◌, ℕ, suc, ◌+◌, ◌-◌, ◌^◌, ◌≤◌, cond, leb, eqb, Bool, true, false, not, ◌&&◌, List, ◌++◌, length, Option, Some, None, is_some, Result, Ok, Err, refl, sym, ap, ◌∙◌, subst, arith, append_assoc, length-append, eqb-true, leb-true, le-leb, inl}
+use Rattle.std.proofs.Common.{◌≡◌, ℕ, suc, ◌+◌, ◌-◌, ◌^◌, ◌≤◌, cond, leb, eqb, Bool, true, false, not, ◌&&◌, List, ◌++◌, length, Option, Some, None, is_some, Result, Ok, Err, refl, sym, ap, ◌∙◌, subst, arith, append_assoc, length-append, eqb-true, leb-true, le-leb, inl, inr}
 use Rattle.ciborium_ll.specs.declared.header.Header.{Header}
 use Rattle.ciborium_ll.specs.declared.header.Header.TheVariants as header
 use Rattle.ciborium_ll.specs.declared.decoder.Decoder.{Decoder}
@@ -20,7 +20,8 @@ use Rattle.ciborium_value.specs.View.{tree_of}
 use Rattle.ciborium_value.proofs.Found.{bignum_meaning-some}
 use Rattle.ciborium.specs.declared.de.error.Error.{Error}
 use Rattle.ciborium.specs.Around.{InTag}
-use Rattle.ciborium.specs.Parts.{HeadRead, FoldRead, IsFolding, IsBegun, RefusesNoBreak}
+use Rattle.ciborium_ll.specs.StringRefusal.{PayloadRefuses}
+use Rattle.ciborium.specs.Parts.{HeadRead, FoldRead, FoldRefuses, IsFolding, IsBegun, RefusesNoBreak}
 use Rattle.ciborium.specs.Reads.{ReadsItem, IsAt, IsPulled, IsBreakAt}
 use Rattle.ciborium.proofs.Contents.{string-room}
 use Rattle.ciborium.proofs.Fronts.{Front, front-of, no-break, Got, ahead-at, offset-at}
@@ -43,9 +44,9 @@ no-break-tag remaining d t xs p a = no-break xs p (header.Tag t) a.0 a.1 tt (fro
 behind : {S : Type 0} (remaining : S → Option (List ℕ)) (d : Decoder S) (t : ℕ) (xs : List ℕ) (p : ℕ) → d.pushed ≡ None → (a : IsPulled remaining d (header.Tag t) xs p) → IsAhead remaining d (p + length a.0) a.1
 behind remaining d t xs p pushed a = ahead-at remaining d (p + length a.0) a.1 pushed a.6
 
-pub tag-refused : {S E : Type 0} (remaining : S → Option (List ℕ)) (d e : Decoder S) (t l : ℕ) (xs : List ℕ) (p : ℕ) (x : Error E) → d.pushed ≡ None → PullsSo remaining d e (Err x) → IsPulled remaining d (header.Tag t) xs p → RefusesNoBreak x xs p l
+pub tag-refused : {S E : Type 0} (remaining : S → Option (List ℕ)) (d e : Decoder S) (t l : ℕ) (xs : List ℕ) (p : ℕ) (x : Error E) → d.pushed ≡ None → PullsSo remaining d e (Err x) → IsPulled remaining d (header.Tag t) xs p → RefusesNoBreak (remaining e.reader.now) x xs p l
 tag-refused remaining d e t l xs p x pushed pull a =
-    refused-map x (λ r. HeadRefuses a.1 (p + length a.0) r) (λ r. Refuses xs p (Some l) r × ¬ IsBreakAt xs p)
+    refused-map (remaining e.reader.now) x (λ r. HeadRefuses a.1 (p + length a.0) r) (λ r. Refuses xs p (Some l) r × ¬ IsBreakAt xs p)
     (λ r f. (Refuses.tag_no_head t (length a.0) a.1 a.3 (stands remaining d t xs p a) f, no-break-tag remaining d t xs p a)) (pull a.1 (p + length a.0) (behind remaining d t xs p pushed a))
 
 -- where another header stands, the tag does not fold
@@ -126,12 +127,21 @@ too-large-refuses t l n at xs p h r i s bs zs e here u w big short len is none s
     subst (λ f. Refuses xs p (Some l) f) (sym (same ∙ ap (λ k. semantic k TooLarge) here))
     (Refuses.too_large (length h) (i ++ bs) bs zs u.usable tag (subst (λ z. IsUsable z (p + length h)) split w.usable) (i, subst (Head i 2) (sym len) w.spelled, tt, refl) (omega (arith, len, short)) large.1)
 
+-- what refuses the bytes over which a tag folds refuses the tag
+fold-refuses : (t l n at : ℕ) (xs : List ℕ) (p : ℕ) (h r i s : List ℕ) (e : Refusal) → at ≡ p → Front xs p (header.Tag t) h r → Front r (p + length h) (header.Bytes (Some n)) i s → is_bignum_tag t ≡ true → n ≤ 16 →
+    FoldRefuses t n at s e → Refuses xs p (Some l) e
+fold-refuses t l n at xs p h r i s e here u w big short (inl (early, is)) =
+    let string : HeadStands r 2 n (length i) s = (i, w.spelled, refl, w.split) in
+    subst (λ f. Refuses xs p (Some l) f) (sym is)
+    (Refuses.folding t (length h) r u.usable (h, u.spelled, refl, u.split) w.usable (big, n, length i, s, string, short) (n, length i, s, string, PayloadRefuses.ends_early early))
+fold-refuses t l n at xs p h r i s e here u w big short (inr c) = too-large-refuses t l n at xs p h r i s c.0 c.1 e here u w big short c.2 c.4 c.3 c.5
+
 pub tag-unfolded : {S E : Type 0} (remaining : S → Option (List ℕ)) (d e f : Decoder S) (t l n at : ℕ) (xs : List ℕ) (p : ℕ) (k : Header) (x : Error E) → d.pushed ≡ None → PullsSo {E = E} remaining d e (Ok k) → IsFolding t k (Some n) →
-    FoldsSo {E = E} remaining e f t n at (Err x) → at ≡ p → IsPulled remaining d (header.Tag t) xs p → RefusesNoBreak x xs p l
+    FoldsSo {E = E} remaining e f t n at (Err x) → at ≡ p → IsPulled remaining d (header.Tag t) xs p → RefusesNoBreak (remaining f.reader.now) x xs p l
 tag-unfolded remaining d e f t l n at xs p k x pushed pull folding read here a =
     let b = pull a.1 (p + length a.0) (behind remaining d t xs p pushed a) in
     let u : Front xs p (header.Tag t) a.0 a.1 = front-of remaining d (header.Tag t) (header.Tag t) xs p refl a in
     let w : Front a.1 (p + length a.0) (header.Bytes (Some n)) b.0 b.1 = front-of remaining e k (header.Bytes (Some n)) a.1 (p + length a.0) folding.0 b in
-    refused-map x (λ r. (bs : List ℕ) × (rest : List ℕ) × (length bs ≡ n) × (bignum_meaning t bs ≡ None) × (b.1 ≡ bs ++ rest) × (r ≡ semantic at TooLarge)) (λ r. Refuses xs p (Some l) r × ¬ IsBreakAt xs p)
-    (λ r c. (too-large-refuses t l n at xs p a.0 a.1 b.0 b.1 c.0 c.1 r here u w folding.1 folding.2 c.2 c.4 c.3 c.5, no-break-tag remaining d t xs p a))
+    refused-map (remaining f.reader.now) x (FoldRefuses t n at b.1) (λ r. Refuses xs p (Some l) r × ¬ IsBreakAt xs p)
+    (λ r c. (fold-refuses t l n at xs p a.0 a.1 b.0 b.1 r here u w folding.1 folding.2 c, no-break-tag remaining d t xs p a))
     (read b.1 (p + length a.0 + length b.0) b.6 (string-room 2 n (p + length a.0) a.1 b.0 b.1 (inl refl) w.spelled w.usable w.split))

@@ -137,10 +137,10 @@ got-string E kind remaining d e l len xs p h v pushed is read a =
     (c.2, q, subst (λ t. ReadsItem l xs p t c.2 q) (sym c.4) (string-reads E kind len l d.last xs p a.0 a.1 c.0 c.1 c.2 u c.3 c.5 c.7), ahead-at remaining e q c.2 pushed c.6)
 
 pub string-fault : {S E : Type 0} (kind : StringKind) (remaining : S → Option (List ℕ)) (d e : Decoder S) (l : ℕ) (len : Option ℕ) (xs : List ℕ) (p : ℕ) (h : Header) (x : Error E) → h ≡ header_of kind len →
-    ((ys : List ℕ) (q : ℕ) → IsAt remaining d q ys → RefusedBy x (λ r. ContentRefuses kind len d.last ys q r)) → IsPulled remaining d h xs p → RefusesNoBreak x xs p l
+    ((ys : List ℕ) (q : ℕ) → IsAt remaining d q ys → RefusedBy (remaining e.reader.now) x (λ r. ContentRefuses kind len d.last ys q r)) → IsPulled remaining d h xs p → RefusesNoBreak (remaining e.reader.now) x xs p l
 string-fault kind remaining d e l len xs p h x is read a =
     let u : Front xs p (header_of kind len) a.0 a.1 = front-of remaining d h (header_of kind len) xs p is a in
-    refused-map x (λ r. ContentRefuses kind len d.last a.1 (p + length a.0) r) (λ r. Refuses xs p (Some l) r × ¬ IsBreakAt xs p)
+    refused-map (remaining e.reader.now) x (λ r. ContentRefuses kind len d.last a.1 (p + length a.0) r) (λ r. Refuses xs p (Some l) r × ¬ IsBreakAt xs p)
     (λ r f. (content-refuses kind len l d.last xs p a.0 a.1 r a.5 u f, no-break xs p (header_of kind len) a.0 a.1 (no-break-kind kind len) u))
     (read a.1 (p + length a.0) a.6)
 

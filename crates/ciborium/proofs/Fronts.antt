@@ -70,8 +70,8 @@ apart e i = cc
 pub head-no-break : (xs : List ℕ) (p : ℕ) (e : Refusal) → HeadRefuses xs p e → ¬ IsBreakAt xs p
 head-no-break xs p e f (lt, (s, i)) = apart e (sym (opened-has 7 p s refl lt) ∙ sym (ap (λ (z : List ℕ). head_refusal z p) i) ∙ f)
 
-pub head-refused : {E : Type 0} (e : Error E) (xs : List ℕ) (p l : ℕ) → RefusedBy e (λ r. HeadRefuses xs p r) → RefusesNoBreak e xs p l
-head-refused e xs p l h = refused-map e (λ r. HeadRefuses xs p r) (λ r. Refuses xs p (Some l) r × ¬ IsBreakAt xs p) (λ r f. (Refuses.no_head f, head-no-break xs p r f)) h
+pub head-refused : {E : Type 0} (left : Option (List ℕ)) (e : Error E) (xs : List ℕ) (p l : ℕ) → RefusedBy left e (λ r. HeadRefuses xs p r) → RefusesNoBreak left e xs p l
+head-refused left e xs p l h = refused-map left e (λ r. HeadRefuses xs p r) (λ r. Refuses xs p (Some l) r × ¬ IsBreakAt xs p) (λ r f. (Refuses.no_head f, head-no-break xs p r f)) h
 
 -- ---- values
 
@@ -246,7 +246,7 @@ array-part remaining d l xs p h count (Ok (Opened f)) pushed is a s =
     (a.1, q, (l - 1, less, subst (λ o. IsInside o (l - 1) xs p a.1 q) (sym s.2) (count, array-inside count s.1 (l - 1) xs p a.0 a.1 s.3 u)), ahead-at remaining d q a.1 pushed a.6)
 array-part remaining d l xs p h count (Ok Ended) pushed is a s = absurd s
 array-part remaining d l xs p h count (Err e) pushed is a s =
-    subst (λ z. RefusesNoBreak z xs p l) (sym s.1)
+    subst (λ z. RefusesNoBreak (remaining d.reader.now) z xs p l) (sym s.1)
     (at-head remaining d l xs p h (header.Array count) recursion_limit_exceeded is tt
     (λ b r u. subst (λ n. Refuses xs p (Some n) recursion_limit_exceeded) (sym s.0) (Refuses.no_level (length b) r (array_due count) u.usable (array-opens count xs p b r u))) a)
 
@@ -262,6 +262,6 @@ map-part remaining d l xs p h count (Ok (Opened f)) pushed is a s =
     (a.1, q, (l - 1, less, subst (λ o. IsInside o (l - 1) xs p a.1 q) (sym s.2) (count, map-inside count s.1 (l - 1) xs p a.0 a.1 s.3 u)), ahead-at remaining d q a.1 pushed a.6)
 map-part remaining d l xs p h count (Ok Ended) pushed is a s = absurd s
 map-part remaining d l xs p h count (Err e) pushed is a s =
-    subst (λ z. RefusesNoBreak z xs p l) (sym s.1)
+    subst (λ z. RefusesNoBreak (remaining d.reader.now) z xs p l) (sym s.1)
     (at-head remaining d l xs p h (header.Map count) recursion_limit_exceeded is tt
     (λ b r u. subst (λ n. Refuses xs p (Some n) recursion_limit_exceeded) (sym s.0) (Refuses.no_level (length b) r (map_due count) u.usable (map-opens count xs p b r u))) a)

@@ -39,7 +39,7 @@ pub read-ok : {S E : Type 0} (remaining : S → Option (List ℕ)) (d : Decoder 
 read-ok remaining d l xs (Ok v) rests (zs, r, a, s) = (zs, left-at remaining d r zs rests s, (a.taken, a.what, good-of l xs (tree_of v) zs r a, a.means, a.split))
 read-ok remaining d l xs (Err e) rests a = tt
 
-pub read-refused : {S E : Type 0} (remaining : S → Option (List ℕ)) (d : Decoder S) (l : ℕ) (xs : List ℕ) (x : Result Value (Error E)) → ValueRead remaining d l xs 0 x → IfErr x (λ e. RefusedBy e (λ r. Refuses xs 0 (Some l) r))
+pub read-refused : {S E : Type 0} (remaining : S → Option (List ℕ)) (d : Decoder S) (l : ℕ) (xs : List ℕ) (x : Result Value (Error E)) → ValueRead remaining d l xs 0 x → IfErr x (λ e. RefusedBy (remaining d.reader.now) e (λ r. Refuses xs 0 (Some l) r))
 read-refused remaining d l xs (Ok v) a = tt
 read-refused remaining d l xs (Err e) a = a
 
@@ -64,22 +64,22 @@ read-bounded remaining d l xs left (Ok v) rests (zs, r, a, s) e =
     omega (arith, bounded a.what a.taken (tree_of v) a.spelled a.means, size, ap length same)
 read-bounded remaining d l xs left (Err x) rests a e = tt
 
-only-fails : {E : Type 0} (e : Error E) (P : Refusal → Type 0) → ((r : Refusal) → P r → ⊥) → RefusedBy e P → IsFailure e
-only-fails (errors.Io x) P never h = tt
-only-fails (errors.Syntax p) P never h = never (refusal.syntax p) h
-only-fails (errors.Semantic p k) P never h = named p (kind_of k) h
+only-fails : {E : Type 0} (left : Option (List ℕ)) (e : Error E) (P : Refusal → Type 0) → ((r : Refusal) → P r → ⊥) → RefusedBy left e P → IsFailure e
+only-fails left (errors.Io x) P never h = tt
+only-fails left (errors.Syntax p) P never h = never (refusal.syntax p) h
+only-fails left (errors.Semantic p k) P never h = named p (kind_of k) h
   where
     named : (p : Option ℕ) (k : Option refusal.Kind) → IsNamed p k P → ⊥
     named (Some p) (Some k) h = never (refusal.semantic p k) h
     named (Some p) None h = h
     named None k h = h
-only-fails errors.RecursionLimitExceeded P never h = never refusal.recursion_limit_exceeded h
-only-fails errors.Memory P never h = tt
-only-fails errors.TooLong P never h = never refusal.too_long h
+only-fails left errors.RecursionLimitExceeded P never h = never refusal.recursion_limit_exceeded h
+only-fails left errors.Memory P never h = tt
+only-fails left errors.TooLong P never h = never refusal.too_long h
 
 pub read-exact : {S E : Type 0} (remaining : S → Option (List ℕ)) (d : Decoder S) (l : ℕ) (xs s left : List ℕ) (i : Item) (x : Result Value (Error E)) → OnOk x (d.pushed ≡ None) → ValueRead remaining d l xs 0 x → AreBytes xs → IsGood i (Some l) s 0 → xs ≡ s ++ left →
     AnswersItem i left (remaining d.reader.now) x
 read-exact remaining d l xs s left i (Ok v) rests (zs, r, a, at) bytes good split =
     let same = one_at_front s a.taken left zs i a.what good.0 a.spelled (sym split ∙ a.split) in
     (ap meaning same.2 ∙ a.means, left-at remaining d r zs rests at ∙ ap (λ z. Some z) (sym same.1))
-read-exact remaining d l xs s left i (Err e) rests a bytes good split = only-fails e (λ r. Refuses xs 0 (Some l) r) (λ r. never_both xs 0 (Some l) r bytes (s, i, left, good, split)) a
+read-exact remaining d l xs s left i (Err e) rests a bytes good split = only-fails (remaining d.reader.now) e (λ r. Refuses xs 0 (Some l) r) (λ r. never_both xs 0 (Some l) r bytes (s, i, left, good, split)) a

@@ -17,24 +17,24 @@ use Rattle.ciborium.specs.Errors.{from_ll, RefusedBy, IsNamed, kind_of}
 use Rattle.ciborium.specs.Reads.{IsPulled, heads_by, heads_left}
 
 -- the error that an error of the lowest layer becomes refuses as it does
-pub refused-from : {E : Type 0} (e : LlError E) (P : Refusal → Type 0) → reading.RefusedBy e P → RefusedBy (from_ll e) P
-refused-from (ll.Io e) P h = tt
-refused-from (ll.Syntax p) P h = h
-refused-from ll.TooLong P h = h
-refused-from ll.Memory P h = tt
+pub refused-from : {E : Type 0} (left : Option (List ℕ)) (e : LlError E) (P : Refusal → Type 0) → reading.RefusedBy left e P → RefusedBy left (from_ll e) P
+refused-from left (ll.Io e) P h = h
+refused-from left (ll.Syntax p) P h = h
+refused-from left ll.TooLong P h = h
+refused-from left ll.Memory P h = tt
 
-pub refused-map : {E : Type 0} (e : Error E) (P Q : Refusal → Type 0) → ((r : Refusal) → P r → Q r) → RefusedBy e P → RefusedBy e Q
-refused-map (errors.Io x) P Q f a = tt
-refused-map (errors.Syntax p) P Q f a = f _ a
-refused-map (errors.Semantic p k) P Q f a = named p (kind_of k) a
+pub refused-map : {E : Type 0} (left : Option (List ℕ)) (e : Error E) (P Q : Refusal → Type 0) → ((r : Refusal) → P r → Q r) → RefusedBy left e P → RefusedBy left e Q
+refused-map left (errors.Io x) P Q f a = λ end. f _ (a end)
+refused-map left (errors.Syntax p) P Q f a = f _ a
+refused-map left (errors.Semantic p k) P Q f a = named p (kind_of k) a
   where
     named : (p : Option ℕ) (k : Option Rattle.ciborium_ll.specs.Refusal.Kind) → IsNamed p k P → IsNamed p k Q
     named (Some p) (Some k) a = f _ a
     named (Some p) None a = a
     named None k a = a
-refused-map errors.RecursionLimitExceeded P Q f a = f _ a
-refused-map errors.Memory P Q f a = tt
-refused-map errors.TooLong P Q f a = f _ a
+refused-map left errors.RecursionLimitExceeded P Q f a = f _ a
+refused-map left errors.Memory P Q f a = tt
+refused-map left errors.TooLong P Q f a = f _ a
 
 pub head-read : {S : Type 0} (remaining : S → Option (List ℕ)) (d : Decoder S) (xs : List ℕ) (p : ℕ) (h : Header) →
     ((x : List ℕ) × (r : List ℕ) × SpellsHeader x h × IsUsable xs p × (xs ≡ x ++ r) × (d.last ≡ p) × (d.count ≡ p + length x) × (remaining d.reader.now ≡ Some r)) → IsPulled remaining d h xs p

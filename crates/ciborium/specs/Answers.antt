@@ -1,7 +1,7 @@
 -- What reading a value answers.
 use Rattle.std.specs.Prelude.{◌≡◌, ℕ, List, ◌++◌, Option, Some, None, Result, Ok, Err}
 use Rattle.ciborium_ll.specs.declared.decoder.Decoder.{Decoder}
-use Rattle.ciborium_ll.specs.Decoding.{IsAhead}
+use Rattle.ciborium_ll.specs.Decoding.{IsAhead, left_of}
 use Rattle.ciborium_ll.specs.Item.{Item}
 use Rattle.ciborium_value.specs.declared.value.Value.{Value}
 use Rattle.ciborium_value.specs.Meaning.{meaning}
@@ -22,13 +22,13 @@ IsReading remaining d os l xs p = (m : ℕ) × (zs : List ℕ) × (r : ℕ) × I
 -- the answer of a call that reads a value
 abbrev pub ValueRead : {S E : Type 0} → (S → Option (List ℕ)) → Decoder S → ℕ → List ℕ → ℕ → Result Value (Error E) → Type 0
 ValueRead remaining d l xs p (Ok v) = (zs : List ℕ) × (r : ℕ) × ReadsItem l xs p (tree_of v) zs r × IsAhead remaining d r zs
-ValueRead remaining d l xs p (Err e) = RefusedBy e (Refuses xs p (Some l))
+ValueRead remaining d l xs p (Err e) = RefusedBy (left_of remaining d) e (Refuses xs p (Some l))
 
 -- the answer of one turn of the loop
 abbrev pub Turned : {S E : Type 0} → (S → Option (List ℕ)) → Decoder S → List Open → ℕ → List ℕ → ℕ → Result (Option Value) (Error E) → Type 0
 Turned remaining d os l xs p (Ok None) = IsReading remaining d os l xs p
 Turned remaining d os l xs p (Ok (Some v)) = (zs : List ℕ) × (r : ℕ) × ReadsItem l xs p (tree_of v) zs r × IsAhead remaining d r zs
-Turned remaining d os l xs p (Err e) = RefusedBy e (Refuses xs p (Some l))
+Turned remaining d os l xs p (Err e) = RefusedBy (left_of remaining d) e (Refuses xs p (Some l))
 
 -- b begins with a good item within l levels that means v, and left is what follows it
 abbrev pub ReadsValue : List ℕ → ℕ → Tree → List ℕ → Type 0

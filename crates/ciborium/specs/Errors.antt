@@ -1,5 +1,5 @@
 -- The refusals of the definitions that the errors of reading stand for.
-use Rattle.std.specs.Prelude.{ℕ, Option, Some, None}
+use Rattle.std.specs.Prelude.{◌≡◌, ℕ, List, [], Option, Some, None}
 use Rattle.ciborium_ll.specs.declared.header.Error.{Error as LlError}
 use Rattle.ciborium_ll.specs.declared.header.Error.TheVariants as ll
 use Rattle.ciborium_ll.specs.Refusal as refusal
@@ -30,11 +30,12 @@ IsNamed (Some p) (Some k) P = P (refusal.semantic p k)
 IsNamed (Some p) None P = ⊥
 IsNamed None k P = ⊥
 
--- an error other than `Io` and `Memory` is a refusal of which P holds
-abbrev pub RefusedBy : {E : Type 0} → Error E → (Refusal → Type 0) → Type 0
-RefusedBy (Io e) P = Unit {0}
-RefusedBy (Syntax p) P = P (refusal.syntax p)
-RefusedBy (Semantic p k) P = IsNamed p (kind_of k) P
-RefusedBy RecursionLimitExceeded P = P refusal.recursion_limit_exceeded
-RefusedBy Memory P = Unit {0}
-RefusedBy TooLong P = P refusal.too_long
+-- an error other than `Memory`, of a call that leaves this of the reader, is a refusal of which P holds; `Io` is one where the reader
+-- came to its end
+abbrev pub RefusedBy : {E : Type 0} → Option (List ℕ) → Error E → (Refusal → Type 0) → Type 0
+RefusedBy left (Io e) P = left ≡ Some [] → P refusal.io
+RefusedBy left (Syntax p) P = P (refusal.syntax p)
+RefusedBy left (Semantic p k) P = IsNamed p (kind_of k) P
+RefusedBy left RecursionLimitExceeded P = P refusal.recursion_limit_exceeded
+RefusedBy left Memory P = Unit {0}
+RefusedBy left TooLong P = P refusal.too_long

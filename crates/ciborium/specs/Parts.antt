@@ -1,12 +1,12 @@
 -- What stands at the front of what is ahead, with l levels left.
-use Rattle.std.specs.Prelude.{◌≡◌, ℕ, suc, ◌+◌, ◌<◌, ◌≤◌, List, [], ◌∷◌, ◌++◌, length, Option, Some, None, Result, Ok, Err, true}
+use Rattle.std.specs.Prelude.{◌≡◌, ℕ, suc, ◌+◌, ◌<◌, ◌≤◌, ◌⊎◌, List, [], ◌∷◌, ◌++◌, length, Option, Some, None, Result, Ok, Err, true}
 use Rattle.ciborium_ll.specs.declared.header.Header.{Header}
 use Rattle.ciborium_ll.specs.declared.header.Header.TheVariants as header
 use Rattle.ciborium_ll.specs.declared.decoder.Decoder.{Decoder}
 use Rattle.ciborium_ll.specs.Bytes.{greatest_offset}
-use Rattle.ciborium_ll.specs.Decoding.{IsAhead}
+use Rattle.ciborium_ll.specs.Decoding.{IsAhead, left_of}
 use Rattle.ciborium_ll.specs.Head.{break_byte}
-use Rattle.ciborium_ll.specs.Refusal.{HeadRefuses, semantic, TooLarge}
+use Rattle.ciborium_ll.specs.Refusal.{Refusal, HeadRefuses, io, semantic, TooLarge}
 use Rattle.ciborium_value.specs.declared.kind.Kind.TheVariants as kinds
 use Rattle.ciborium_value.specs.declared.value.Value.{Value}
 use Rattle.ciborium_value.specs.Meaning.{simple_meaning, bignum_meaning, is_bignum_tag}
@@ -16,7 +16,7 @@ use Rattle.ciborium_value.specs.Stack.{open_of}
 use Rattle.ciborium_value.specs.Tree as trees
 use Rattle.ciborium_value.specs.View.{tree_of}
 use Rattle.ciborium.specs.declared.de.error.Error.{Error}
-use Rattle.ciborium.specs.declared.de.error.Error.TheVariants.{Semantic, RecursionLimitExceeded}
+use Rattle.ciborium.specs.declared.de.error.Error.TheVariants.{Semantic, RecursionLimitExceeded, Memory}
 use Rattle.ciborium.specs.declared.de.parts.Part.{Part}
 use Rattle.ciborium.specs.declared.de.parts.Part.TheVariants.{Whole, Opened, Ended}
 use Rattle.ciborium.specs.Around.{IsInside}
@@ -54,20 +54,20 @@ abbrev pub IsBegun : ℕ → List ℕ → ℕ → Open → List ℕ → ℕ → 
 IsBegun l ys q o zs r = (m : ℕ) × (l ≡ suc m) × IsInside o m ys q zs r
 
 -- xs refuses so, and no break stands at its front
-abbrev pub RefusesNoBreak : {E : Type 0} → Error E → List ℕ → ℕ → ℕ → Type 0
-RefusesNoBreak e xs p l = RefusedBy e (λ r. Refuses xs p (Some l) r × ¬ IsBreakAt xs p)
+abbrev pub RefusesNoBreak : {E : Type 0} → Option (List ℕ) → Error E → List ℕ → ℕ → ℕ → Type 0
+RefusesNoBreak left e xs p l = RefusedBy left e (λ r. Refuses xs p (Some l) r × ¬ IsBreakAt xs p)
 
 -- the answer of a call that pulls a head
 abbrev pub HeadRead : {S E : Type 0} → (S → Option (List ℕ)) → Decoder S → List ℕ → ℕ → Result Header (Error E) → Type 0
 HeadRead remaining d xs p (Ok h) = IsPulled remaining d h xs p
-HeadRead remaining d xs p (Err e) = RefusedBy e (HeadRefuses xs p)
+HeadRead remaining d xs p (Err e) = RefusedBy (left_of remaining d) e (HeadRefuses xs p)
 
 -- the answer of a call that reads a part
 abbrev pub PartRead : {S E : Type 0} → (S → Option (List ℕ)) → Decoder S → ℕ → List ℕ → ℕ → Result Part (Error E) → Type 0
 PartRead remaining d l xs p (Ok (Whole v)) = (zs : List ℕ) × (r : ℕ) × ReadsItem l xs p (tree_of v) zs r × IsAhead remaining d r zs
 PartRead remaining d l xs p (Ok (Opened f)) = (zs : List ℕ) × (r : ℕ) × IsBegun l xs p (open_of f) zs r × IsAhead remaining d r zs
 PartRead remaining d l xs p (Ok Ended) = (zs : List ℕ) × (xs ≡ break_byte ∷ zs) × (p < greatest_offset) × IsAhead remaining d (p + 1) zs
-PartRead remaining d l xs p (Err e) = RefusesNoBreak e xs p l
+PartRead remaining d l xs p (Err e) = RefusesNoBreak (left_of remaining d) e xs p l
 
 -- a level is left for what was opened
 abbrev pub HasRoom : Part → ℕ → Type 0
@@ -84,14 +84,19 @@ Rests Ended pushed = pushed ≡ None
 -- what the bytes over which a tag at offset p folds are read as
 abbrev pub IsFolded : {E : Type 0} → ℕ → List ℕ → ℕ → Result Value (Error E) → Type 0
 IsFolded t b p (Ok v) = bignum_meaning t b ≡ Some (tree_of v)
-IsFolded t b p (Err e) = RefusedBy e (λ r. (bignum_meaning t b ≡ None) × (r ≡ semantic p TooLarge))
+IsFolded t b p (Err e) = (e ≡ Memory) ⊎ ((bignum_meaning t b ≡ None) × (e ≡ Semantic (Some p) kinds.TooLarge))
+
+-- the n bytes at the front of xs, over which a tag at offset p folds, are refused: they end early, or their number is too large
+abbrev pub FoldRefuses : ℕ → ℕ → ℕ → List ℕ → Refusal → Type 0
+FoldRefuses t n p xs e =
+    ((length xs < n) × (e ≡ io))
+    ⊎ ((b : List ℕ) × (r : List ℕ) × (length b ≡ n) × (bignum_meaning t b ≡ None) × (xs ≡ b ++ r) × (e ≡ semantic p TooLarge))
 
 -- the answer of a call that reads the n bytes over which a tag at offset at folds
 abbrev pub FoldRead : {S E : Type 0} → (S → Option (List ℕ)) → Decoder S → ℕ → ℕ → ℕ → List ℕ → ℕ → Result Value (Error E) → Type 0
 FoldRead remaining d t n at xs p (Ok v) =
     (b : List ℕ) × (r : List ℕ) × (length b ≡ n) × (bignum_meaning t b ≡ Some (tree_of v)) × (xs ≡ b ++ r) × IsAt remaining d (p + n) r
-FoldRead remaining d t n at xs p (Err e) =
-    p + n ≤ greatest_offset → RefusedBy e (λ f. (b : List ℕ) × (r : List ℕ) × (length b ≡ n) × (bignum_meaning t b ≡ None) × (xs ≡ b ++ r) × (f ≡ semantic at TooLarge))
+FoldRead remaining d t n at xs p (Err e) = p + n ≤ greatest_offset → RefusedBy (left_of remaining d) e (FoldRefuses t n at xs)
 
 -- whether a tag folds over what has this header behind it, and over how many bytes
 abbrev pub IsFolding : ℕ → Header → Option ℕ → Type 0

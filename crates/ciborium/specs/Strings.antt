@@ -2,6 +2,7 @@
 use Rattle.std.specs.Prelude.{◌≡◌, ℕ, ◌+◌, ◌≤◌, List, ◌++◌, length, Option, Result, Ok, Err}
 use Rattle.ciborium_ll.specs.declared.decoder.Decoder.{Decoder}
 use Rattle.ciborium_ll.specs.Bytes.{greatest_offset}
+use Rattle.ciborium_ll.specs.Decoding.{left_of}
 use Rattle.ciborium_ll.specs.StringRefusal.{StringKind, of_bytes, of_text, ContentRefuses}
 use Rattle.ciborium_ll.specs.Strings.{StringTaken}
 use Rattle.ciborium_value.specs.declared.value.Value.{Value}
@@ -22,4 +23,4 @@ abbrev pub StringRead : {S E : Type 0} → StringKind → (S → Option (List �
 StringRead {S} {E} kind remaining d len at xs p (Ok v) =
     (b : List ℕ) × (added : List ℕ) × (r : List ℕ) × StringTaken {E = E} kind len at p (Ok tt) added b × (tree_of v ≡ string_tree kind added) ×
     (xs ≡ b ++ r) × IsAt remaining d (p + length b) r × (p + length b ≤ greatest_offset)
-StringRead kind remaining d len at xs p (Err e) = RefusedBy e (ContentRefuses kind len at xs p)
+StringRead kind remaining d len at xs p (Err e) = RefusedBy (left_of remaining d) e (ContentRefuses kind len at xs p)

@@ -30,7 +30,7 @@ fn read<R: Read>(
     ensures ok { (b : List ℕ) → R.remaining reader.old ≡ Some b → IfOk result (λ v. TakesValue b limit (tree_of v) (R.remaining reader.new)) }
     ensures exact { (b s left : List ℕ) (i : Item) → R.remaining reader.old ≡ Some b → AreBytes b → IsGood i (Some limit) s 0 → b ≡ s ++ left →
         AnswersItem i left (R.remaining reader.new) result }
-    ensures refused { (b : List ℕ) → R.remaining reader.old ≡ Some b → IfErr result (λ e. RefusedBy e (λ r. Refuses b 0 (Some limit) r)) }
+    ensures refused { (b : List ℕ) → R.remaining reader.old ≡ Some b → IfErr result (λ e. RefusedBy (R.remaining reader.new) e (λ r. Refuses b 0 (Some limit) r)) }
     ensures bounded { (b left : List ℕ) → R.remaining reader.old ≡ Some b → R.remaining reader.new ≡ Some left →
         IfOk result (λ v. node_count (tree_of v) + payload_size (tree_of v) + length left ≤ length b) }
     ensures within { (b left : List ℕ) → R.remaining reader.old ≡ Some b → R.remaining reader.new ≡ Some left → OnOk result (length b ≤ length left + greatest_offset) }
@@ -57,7 +57,7 @@ pub fn from_reader<R: Read>(alloc: Global, reader: &mut R) -> Result<Value, Erro
     ensures ok { (b : List ℕ) → R.remaining reader.old ≡ Some b → IfOk result (λ v. TakesValue b 256 (tree_of v) (R.remaining reader.new)) }
     ensures exact { (b s left : List ℕ) (i : Item) → R.remaining reader.old ≡ Some b → AreBytes b → IsGood i (Some 256) s 0 → b ≡ s ++ left →
         AnswersItem i left (R.remaining reader.new) result }
-    ensures refused { (b : List ℕ) → R.remaining reader.old ≡ Some b → IfErr result (λ e. RefusedBy e (λ r. Refuses b 0 (Some 256) r)) }
+    ensures refused { (b : List ℕ) → R.remaining reader.old ≡ Some b → IfErr result (λ e. RefusedBy (R.remaining reader.new) e (λ r. Refuses b 0 (Some 256) r)) }
     ensures bounded { (b left : List ℕ) → R.remaining reader.old ≡ Some b → R.remaining reader.new ≡ Some left →
         IfOk result (λ v. node_count (tree_of v) + payload_size (tree_of v) + length left ≤ length b) }
     ensures within { (b left : List ℕ) → R.remaining reader.old ≡ Some b → R.remaining reader.new ≡ Some left → OnOk result (length b ≤ length left + greatest_offset) }
@@ -76,7 +76,7 @@ pub fn from_reader_with_buffer<R: Read>(
     ensures ok { (b : List ℕ) → R.remaining reader.old ≡ Some b → IfOk result (λ v. TakesValue b 256 (tree_of v) (R.remaining reader.new)) }
     ensures exact { (b s left : List ℕ) (i : Item) → R.remaining reader.old ≡ Some b → AreBytes b → IsGood i (Some 256) s 0 → b ≡ s ++ left →
         AnswersItem i left (R.remaining reader.new) result }
-    ensures refused { (b : List ℕ) → R.remaining reader.old ≡ Some b → IfErr result (λ e. RefusedBy e (λ r. Refuses b 0 (Some 256) r)) }
+    ensures refused { (b : List ℕ) → R.remaining reader.old ≡ Some b → IfErr result (λ e. RefusedBy (R.remaining reader.new) e (λ r. Refuses b 0 (Some 256) r)) }
     ensures bounded { (b left : List ℕ) → R.remaining reader.old ≡ Some b → R.remaining reader.new ≡ Some left →
         IfOk result (λ v. node_count (tree_of v) + payload_size (tree_of v) + length left ≤ length b) }
     ensures within { (b left : List ℕ) → R.remaining reader.old ≡ Some b → R.remaining reader.new ≡ Some left → OnOk result (length b ≤ length left + greatest_offset) }
@@ -94,7 +94,7 @@ pub fn from_reader_with_recursion_limit<R: Read>(
     ensures ok { (b : List ℕ) → R.remaining reader.old ≡ Some b → IfOk result (λ v. TakesValue b limit (tree_of v) (R.remaining reader.new)) }
     ensures exact { (b s left : List ℕ) (i : Item) → R.remaining reader.old ≡ Some b → AreBytes b → IsGood i (Some limit) s 0 → b ≡ s ++ left →
         AnswersItem i left (R.remaining reader.new) result }
-    ensures refused { (b : List ℕ) → R.remaining reader.old ≡ Some b → IfErr result (λ e. RefusedBy e (λ r. Refuses b 0 (Some limit) r)) }
+    ensures refused { (b : List ℕ) → R.remaining reader.old ≡ Some b → IfErr result (λ e. RefusedBy (R.remaining reader.new) e (λ r. Refuses b 0 (Some limit) r)) }
     ensures bounded { (b left : List ℕ) → R.remaining reader.old ≡ Some b → R.remaining reader.new ≡ Some left →
         IfOk result (λ v. node_count (tree_of v) + payload_size (tree_of v) + length left ≤ length b) }
     ensures within { (b left : List ℕ) → R.remaining reader.old ≡ Some b → R.remaining reader.new ≡ Some left → OnOk result (length b ≤ length left + greatest_offset) }

@@ -1,8 +1,10 @@
-use Rattle.std.proofs.Common.{rules, subst, ◌≡◌, ◌+◌, ◌≤◌, IfOk, OnOk, Some, length}
+use Rattle.std.proofs.Common.{rules, subst, ◌≡◌, ◌+◌, ◌≤◌, IfErr, IfOk, OnOk, Some, length}
 use Rattle.ciborium_ll.specs.Bytes.{greatest_offset}
 use Rattle.ciborium_value.specs.Counts.{node_count, payload_size}
 use Rattle.ciborium_value.specs.View.{tree_of}
 use Rattle.ciborium.specs.Answers.{TakesValue, AnswersItem}
+use Rattle.ciborium.specs.Errors.{RefusedBy}
+use Rattle.ciborium_value.specs.Refuses.{Refuses}
 use Rattle.ciborium.proofs.Outcomes.{ahead-begin, read-ok, read-exact, read-refused, read-within, read-bounded}
 use Rattle.ciborium.proofs.de.read.Goals as goal
 
@@ -22,8 +24,10 @@ returns-clause-exact g c b s left i e bytes good split =
 
 pub returns-clause-refused : goal.returns-clause-refused
 returns-clause-refused g c b e =
-    read-refused g.R.Read.remaining c.read_value.new.decoder c.args.limit b c.read_value.result
-    (c.read_value.ensures.value b 0 (ahead-begin g.R.Read.remaining c.new-decoder.result c.args.reader.now b c.new-decoder.ensures.begins e))
+    let d = c.read_value.new.decoder in
+    subst (λ r. IfErr c.read_value.result (λ x. RefusedBy (g.R.Read.remaining r) x (λ f. Refuses b 0 (Some c.args.limit) f))) {x = d.reader.now} (search rules)
+    (read-refused g.R.Read.remaining d c.args.limit b c.read_value.result
+    (c.read_value.ensures.value b 0 (ahead-begin g.R.Read.remaining c.new-decoder.result c.args.reader.now b c.new-decoder.ensures.begins e)))
 
 pub returns-clause-within : goal.returns-clause-within
 returns-clause-within g c b left e =

@@ -16,7 +16,7 @@ use Rattle.ciborium.proofs.de.parts.next.Goals as goal
 pub returns-in_err-n-clause-part : goal.returns-in_err-n-clause-part
 returns-in_err-n-clause-part g c xs p s =
     let exit = err_from_is_err_and c.from_residual.result c.from_residual.ensures.1 in
-    rw (exit.1, exit.2) (head-refused c.in_err-n.field-0.0 xs p c.args.levels (c.in_err-n.ensures.head xs p s))
+    rw (exit.1, exit.2) (head-refused (g.R.Read.remaining c.pull.new.decoder.reader.now) c.in_err-n.field-0.0 xs p c.args.levels (c.in_err-n.ensures.head xs p s))
 
 pub returns-in-Positive-clause-part : goal.returns-in-Positive-clause-part
 returns-in-Positive-clause-part g c xs p s =

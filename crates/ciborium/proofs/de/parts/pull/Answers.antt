@@ -7,7 +7,7 @@ use Rattle.ciborium.proofs.de.parts.pull.Goals as goal
 pub returns-in_err-pull-clause-head : goal.returns-in_err-pull-clause-head
 returns-in_err-pull-clause-head g c xs p s =
     let exit = err_from_is_err_and c.from_residual.result c.from_residual.ensures.1 in
-    rw (exit.1, exit.2) (refused-from c.in_err-pull.field-0.0 (λ r. HeadRefuses xs p r) (c.in_err-pull.ensures.ahead xs p s))
+    rw (exit.1, exit.2) (refused-from (g.R.Read.remaining c.pull.new.self.reader.now) c.in_err-pull.field-0.0 (λ r. HeadRefuses xs p r) (c.in_err-pull.ensures.ahead xs p s))
 
 pub returns-clause-fewer : goal.returns-clause-fewer
 returns-clause-fewer g c = fewer-heads Error g.R.Read.remaining c.args.decoder.now c.pull.new.self c.in_ok-pull.field-0 c.pull.ensures.none_pushed c.in_ok-pull.ensures.pushed c.in_ok-pull.ensures.taken
