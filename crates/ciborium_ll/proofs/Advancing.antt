@@ -1,6 +1,7 @@
 -- Bytes that are taken in two steps.
-use Rattle.std.proofs.Common.{◌≡◌, ℕ, ◌+◌, ◌≤◌, ◌%◌, List, [], ◌∷◌, ◌++◌, length, get_or, Option, Err, refl, sym, ap, ◌∙◌, subst, arith, length-append, length-take-le, take}
+use Rattle.std.proofs.Common.{◌≡◌, ℕ, ◌+◌, ◌≤◌, ◌%◌, List, [], ◌∷◌, ◌++◌, length, get_or, Option, Result, Err, refl, sym, ap, ◌∙◌, subst, arith, length-append}
 use Rattle.std.proofs.KnownBytes.{Consumes-trans}
+use Rattle.ciborium_ll.specs.declared.header.Header.{Header}
 use Rattle.ciborium_ll.specs.declared.header.Error.{Error}
 use Rattle.ciborium_ll.specs.Bytes.{greatest_offset}
 use Rattle.ciborium_ll.specs.Reading.{Advances, FillTaken, HeadTaken}
@@ -27,17 +28,6 @@ single [] h = absurd (omega (arith, h))
 single (x ∷ []) h = refl
 single (x ∷ y ∷ ys) h = absurd (omega (arith, h))
 
--- no argument is longer than 8 bytes
-argument_length-le : (info : ℕ) → argument_length info ≤ 8
-argument_length-le info = grind arith
-
--- the part of the room is as long as the argument
-pub room-length : (size info : ℕ) (buffer room : List ℕ) → length room ≡ 8 → size ≡ argument_length info → length buffer ≡ length (take size room) → length buffer ≡ argument_length info
-room-length size info buffer room eight same len =
-    let below = argument_length-le info in
-    let fits : size ≤ length room = omega arith in
-    len ∙ length-take-le size room fits ∙ same
-
 -- ---- an initial byte, and what is read behind it
 
 -- a buffer was filled at offset p
@@ -47,27 +37,26 @@ Filled p buffer b = (b ≡ buffer) × (p + length buffer ≤ greatest_offset)
 pub second-offset : (a b : Option (List ℕ)) (p q : ℕ) (first : List ℕ) → length first ≡ 1 → Advances a b p q (Filled p first) → q ≡ p + 1
 second-offset a b p q first one before = let len : length before.0 ≡ length first = ap length before.3.0 in omega (arith, before.2, len, one)
 
-module _ (a b c : Option (List ℕ)) (p q r : ℕ) (first bytes : List ℕ) (one : length first ≡ 1) (before : Advances a b p q (Filled p first)) where
-  abbrev initial : ℕ
-  initial = get_or first 0 0
+-- a head behind its initial byte
+pub head-behind : (E : Type 0) (a b c : Option (List ℕ)) (p q r : ℕ) (first : List ℕ) (result : Result Header (Error E)) → length first ≡ 1 → Advances a b p q (Filled p first) →
+    Advances b c q r (λ y. HeadTaken {E = E} p result (get_or first 0 0 ∷ y)) → Advances a c p r (HeadTaken {E = E} p result)
+head-behind E a b c p q r first result one =
+    Advances-then a b c p q r (Filled p first) (λ y. HeadTaken {E = E} p result (get_or first 0 0 ∷ y)) (HeadTaken {E = E} p result)
+    (λ x y e h. subst (λ l. HeadTaken {E = E} p result (l ++ y)) (sym (e.0 ∙ single first one)) h)
 
-  -- where both reads end
-  pub head-end : Advances b c q r (Filled q bytes) → (r ≡ p + 1 + length bytes) × (r ≤ greatest_offset)
-  head-end second =
-      let at = second-offset a b p q first one before in
-      let len : length second.0 ≡ length bytes = ap length second.3.0 in
-      (omega (arith, at, len, second.2), omega (arith, at, len, second.2, second.3.1))
+module _ (b c : Option (List ℕ)) (p q r initial : ℕ) (bytes : List ℕ) where
+  -- the argument was refused
+  pub argument-fails : {E : Type 0} (e : Error E) → q ≡ p + 1 → q ≤ greatest_offset → length bytes ≡ argument_length (initial % 32) → Advances b c q r (FillTaken {E = E} q bytes (Err e)) →
+      Advances b c q r (λ y. HeadTaken {E = E} p (Err e) (initial ∷ y))
+  argument-fails {E} e at fits len =
+      Advances-map b c q r (FillTaken {E = E} q bytes (Err e)) (λ y. HeadTaken {E = E} p (Err e) (initial ∷ y))
+      (λ y h. argument-refused {E = E} p initial bytes y e (omega (arith, at, fits)) len (subst (λ n. FillTaken {E = E} n bytes (Err e) y) at h))
 
-  -- the head was read whole
-  pub head-whole : Advances b c q r (Filled q bytes) → (P : List ℕ → Type 0) → P (initial ∷ bytes) → Advances a c p r P
-  head-whole second P h =
-      Advances-then a b c p q r (Filled p first) (Filled q bytes) P
-      (λ x y e f. subst P (sym (ap (λ l. l ++ y) (e.0 ∙ single first one) ∙ ap (λ l. initial ∷ l) f.0)) h) before second
+  -- it was read whole
+  pub argument-whole : (E : Type 0) (result : Result Header (Error E)) → Advances b c q r (Filled q bytes) → HeadTaken {E = E} p result (initial ∷ bytes) →
+      Advances b c q r (λ y. HeadTaken {E = E} p result (initial ∷ y))
+  argument-whole E result second h =
+      Advances-map b c q r (Filled q bytes) (λ y. HeadTaken {E = E} p result (initial ∷ y)) (λ y f. subst (λ l. HeadTaken {E = E} p result (initial ∷ l)) (sym f.0) h) second
 
-  -- its argument was refused
-  pub head-refused : {E : Type 0} (e : Error E) → length bytes ≡ argument_length (initial % 32) → Advances b c q r (FillTaken {E = E} q bytes (Err e)) → Advances a c p r (HeadTaken {E = E} p (Err e))
-  head-refused {E} e len second =
-      Advances-then a b c p q r (Filled p first) (FillTaken {E = E} q bytes (Err e)) (HeadTaken {E = E} p (Err e))
-      (λ x y f h. let room : p + 1 ≤ greatest_offset = omega (arith, before.3.1, one) in
-      subst (λ l. HeadTaken {E = E} p (Err e) (l ++ y)) (sym (f.0 ∙ single first one)) (argument-refused {E = E} p initial bytes y e room len (subst (λ n. FillTaken {E = E} n bytes (Err e) y) (second-offset a b p q first one before) h)))
-      before second
+  pub argument-end : q ≡ p + 1 → Advances b c q r (Filled q bytes) → (r ≡ p + 1 + length bytes) × (r ≤ greatest_offset)
+  argument-end at second = let len : length second.0 ≡ length bytes = ap length second.3.0 in (omega (arith, at, len, second.2), omega (arith, at, len, second.2, second.3.1))

@@ -7,20 +7,8 @@ ghost use Rattle.ciborium_ll.specs.Refusal.{argument_length, is_ill_formed};
 
 use crate::header::Header;
 
-// How many bytes follow an initial byte with this additional information.
-pub(crate) fn argument_size(information: u8) -> usize
-    ensures { result ≡ argument_length information }
-{
-    match information {
-        24 => 1,
-        25 => 2,
-        26 => 4,
-        27 => 8,
-        _ => 0,
-    }
-}
-
 // The argument of a head.
+#[inline(always)]
 fn argument_of(info: u8, bytes: &[u8]) -> u64
     requires below { info < 28 }
     requires whole { length bytes.now ≡ argument_length info }
@@ -36,6 +24,7 @@ fn argument_of(info: u8, bytes: &[u8]) -> u64
 }
 
 // The head of an initial byte that no argument follows.
+#[inline(always)]
 fn without_argument(first: u8) -> Option<Header>
     requires { 28 ≤ first % 32 }
     ensures { MatchOption result (IsTrue (is_ill_formed (first ∷ []))) (λ header. SpellsHeader (first ∷ []) header) }
@@ -51,6 +40,7 @@ fn without_argument(first: u8) -> Option<Header>
 }
 
 // The simple value or float.
+#[inline(always)]
 fn simple_or_float(info: u8, bytes: &[u8]) -> Option<Header>
     requires below { info < 28 }
     requires whole { length bytes.now ≡ argument_length info }
@@ -73,6 +63,7 @@ fn simple_or_float(info: u8, bytes: &[u8]) -> Option<Header>
 }
 
 // The head that an initial byte and the bytes behind it spell, or none where they are ill-formed.
+#[inline(always)]
 pub(crate) fn parsed(first: u8, bytes: &[u8]) -> Option<Header>
     requires { length bytes.now ≡ argument_length (first % 32) }
     ensures { MatchOption result (IsTrue (is_ill_formed (first ∷ bytes.now))) (λ header. SpellsHeader (first ∷ bytes.now) header) }

@@ -1,15 +1,20 @@
 //! Reads by loops of the crate's own, which no device can hold up.
+//!
+//! An `io::Error` is large, and so is a result that may hold one: inlined, none is moved on the way
+//! of a head.
 
-ghost use Rattle.std.specs.Prelude.{◌≡◌, ◌+◌, ◌≤◌, length};
+ghost use Rattle.std.specs.Prelude.{◌≡◌, ◌+◌, ◌≤◌, ◌%◌, ◌∷◌, length};
 ghost use Rattle.ciborium_ll.specs.Header.{announced_length};
+ghost use Rattle.ciborium_ll.specs.Refusal.{argument_length};
 ghost use Rattle.ciborium_ll.specs.Reading.{Advances, FillTaken, HeadTaken};
 
 use crate::header::{Error, Header};
-use crate::parsing::{argument_size, parsed};
+use crate::parsing::parsed;
 use std::io::{self, ErrorKind, Read};
 
 // Fills the buffer, which does not pass the greatest offset. A read of nothing or a fault of the
 // device ends it.
+#[inline(always)]
 fn fill_within<R: Read>(
     reader: &mut R,
     buffer: &mut [u8],
@@ -34,6 +39,7 @@ fn fill_within<R: Read>(
 }
 
 // Fills the buffer, and reads nothing where that would pass the greatest offset.
+#[inline(always)]
 pub(crate) fn fill<R: Read>(
     reader: &mut R,
     buffer: &mut [u8],
@@ -58,7 +64,33 @@ fn payload_size(header: Header) -> usize
     }
 }
 
-// Reads the head at the front.
+// Reads the argument behind the initial byte of the head at this offset.
+#[inline(always)]
+fn read_argument<R: Read>(
+    reader: &mut R,
+    count: &mut usize,
+    start: usize,
+    initial: u8,
+    argument: &mut [u8],
+) -> Result<Header, Error<io::Error>>
+    requires behind { count.old ≡ start + 1 }
+    requires whole { length argument.old ≡ argument_length (initial % 32) }
+    ensures fits { count.new ≤ usize.MAX }
+    ensures head { Advances (R.remaining reader.old) (R.remaining reader.new) count.old count.new (λ b. HeadTaken start result (initial ∷ b)) }
+{
+    fill(reader, argument, count)?;
+    let Some(header) = parsed(initial, argument) else {
+        return Err(Error::Syntax(start));
+    };
+    if usize::MAX - *count < payload_size(header) {
+        return Err(Error::TooLong);
+    }
+    Ok(header)
+}
+
+// Reads the head at the front. A branch for each width lets the processor run ahead of the byte that
+// names it.
+#[inline(always)]
 pub(crate) fn read_head<R: Read>(
     reader: &mut R,
     count: &mut usize,
@@ -69,15 +101,12 @@ pub(crate) fn read_head<R: Read>(
     let start = *count;
     let mut first = [0u8; 1];
     fill(reader, &mut first, count)?;
-    let size = argument_size(first[0] % 32);
-    let mut room = [0u8; 8];
-    let argument = &mut room[..size];
-    fill(reader, argument, count)?;
-    let Some(header) = parsed(first[0], argument) else {
-        return Err(Error::Syntax(start));
-    };
-    if usize::MAX - *count < payload_size(header) {
-        return Err(Error::TooLong);
+    let initial = first[0];
+    match initial % 32 {
+        24 => read_argument(reader, count, start, initial, &mut [0; 1]),
+        25 => read_argument(reader, count, start, initial, &mut [0; 2]),
+        26 => read_argument(reader, count, start, initial, &mut [0; 4]),
+        27 => read_argument(reader, count, start, initial, &mut [0; 8]),
+        _ => read_argument(reader, count, start, initial, &mut []),
     }
-    Ok(header)
 }
