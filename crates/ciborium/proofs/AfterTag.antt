@@ -10,11 +10,11 @@ use Rattle.ciborium_ll.specs.Item as item
 use Rattle.ciborium_ll.specs.Refusal.{Refusal, semantic, TooLarge, recursion_limit_exceeded, HeadRefuses, IsUsable, HeadStands}
 use Rattle.ciborium_ll.proofs.OneHeader.{one_header_at_front}
 use Rattle.ciborium_value.specs.declared.value.Value.{Value}
-use Rattle.ciborium_value.specs.declared.stack.Frame.TheVariants as frame
+use Rattle.ciborium_value.specs.declared.stack.Opening.TheVariants as opening
 use Rattle.ciborium_value.specs.Meaning.{meaning, tag_meaning, folding_bytes, bignum_meaning, is_bignum_tag, big_endian}
 use Rattle.ciborium_value.specs.Nesting.{nesting, tag_nesting}
 use Rattle.ciborium_value.specs.Refuses.{Refuses, FoldsAt}
-use Rattle.ciborium_value.specs.Stack.{open_of}
+use Rattle.ciborium_value.specs.Stack.{opened}
 use Rattle.ciborium_value.specs.Tree.{Tree}
 use Rattle.ciborium_value.specs.View.{tree_of}
 use Rattle.ciborium_value.proofs.Found.{bignum_meaning-some}
@@ -61,7 +61,7 @@ tag-no-level E remaining d e t l xs p k pushed pull other none a =
     (subst (λ n. Refuses xs p (Some n) recursion_limit_exceeded) (sym none) (Refuses.no_tag_level t (length a.0) a.1 a.3 (stands remaining d t xs p a) b.3 (folds-not t k b.0 a.1 b.1 other b.2 b.4)), no-break-tag remaining d t xs p a)
 
 pub tag-opened : (E : Type 0) {S : Type 0} (remaining : S → Option (List ℕ)) (d e f : Decoder S) (t l at : ℕ) (xs : List ℕ) (p : ℕ) (k : Header) → d.pushed ≡ None → PullsSo {E = E} remaining d e (Ok k) → IsFolding t k None → (l ≡ 0 → ⊥) →
-    at ≡ offset_of d → IsUnread e f → f.pushed ≡ Some (k, at) → IsPulled remaining d (header.Tag t) xs p → (zs : List ℕ) × (r : ℕ) × IsBegun l xs p (open_of (frame.Tag t)) zs r × IsAhead remaining f r zs
+    at ≡ offset_of d → IsUnread e f → f.pushed ≡ Some (k, at) → IsPulled remaining d (header.Tag t) xs p → (zs : List ℕ) × (r : ℕ) × IsBegun l xs p (opened (opening.Tag t)) zs r × IsAhead remaining f r zs
 tag-opened E remaining d e f t l at xs p k pushed pull other some here stays back a =
     let ahead = behind remaining d t xs p pushed a in
     let b = pull a.1 (p + length a.0) ahead in

@@ -5,10 +5,10 @@ use Rattle.ciborium_ll.specs.declared.decoder.Decoder.{Decoder}
 use Rattle.ciborium_ll.specs.Decoding.{IsAhead, offset_of}
 use Rattle.ciborium_ll.specs.Refusal.{semantic, Break}
 use Rattle.ciborium_value.specs.declared.value.Value.{Value}
-use Rattle.ciborium_value.specs.declared.stack.Frame.{Frame}
+use Rattle.ciborium_value.specs.declared.stack.Opening.{Opening}
 use Rattle.ciborium_value.specs.Open.{Open, array, map, tag, Placed, more, placed, closed}
 use Rattle.ciborium_value.specs.Refuses.{Refuses}
-use Rattle.ciborium_value.specs.Stack.{open_of, placed_of}
+use Rattle.ciborium_value.specs.Stack.{opened, placed_of}
 use Rattle.ciborium_value.specs.Tree as trees
 use Rattle.ciborium_value.specs.Tree.{Tree}
 use Rattle.ciborium_value.specs.View.{tree_of, trees_from, tree_pairs_from}
@@ -63,11 +63,11 @@ turn-whole {E} remaining d e os after l xs p v given x answers ok err is s =
 
 -- ---- a container or tag was opened
 
-pub turn-opened : (E : Type 0) {S : Type 0} (remaining : S → Option (List ℕ)) (d e : Decoder S) (os after : List Open) (l : ℕ) (xs : List ℕ) (p : ℕ) (f : Frame) → Answers {E = E} remaining d e (l - length os) (Ok (Opened f)) → after ≡ open_of f ∷ os →
+pub turn-opened : (E : Type 0) {S : Type 0} (remaining : S → Option (List ℕ)) (d e : Decoder S) (os after : List Open) (l : ℕ) (xs : List ℕ) (p : ℕ) (f : Opening) → Answers {E = E} remaining d e (l - length os) (Ok (Opened f)) → after ≡ opened f ∷ os →
     IsReading remaining d os l xs p → IsReading remaining e after l xs p
 turn-opened E remaining d e os after l xs p f answers is s =
     let a = answer-here {E = E} remaining d e os l xs p (Ok (Opened f)) answers s in
-    let b : IsBegun s.0 s.1 s.2 (open_of f) a.0 a.1 = a.2 in
+    let b : IsBegun s.0 s.1 s.2 (opened f) a.0 a.1 = a.2 in
     (b.0, a.0, a.1, subst (λ us. IsAround l xs p us b.0 a.0 a.1) (sym is) (s.1, s.2, subst (λ n. IsAround l xs p os n s.1 s.2) b.1 s.3, b.2), a.3)
 
 -- ---- a break

@@ -12,7 +12,7 @@ use Rattle.ciborium_value.specs.declared.value.Value.{Value}
 use Rattle.ciborium_value.specs.Meaning.{simple_meaning, bignum_meaning, is_bignum_tag}
 use Rattle.ciborium_value.specs.Open.{Open, array, map}
 use Rattle.ciborium_value.specs.Refuses.{Refuses}
-use Rattle.ciborium_value.specs.Stack.{open_of}
+use Rattle.ciborium_value.specs.Stack.{opened}
 use Rattle.ciborium_value.specs.Tree as trees
 use Rattle.ciborium_value.specs.View.{tree_of}
 use Rattle.ciborium.specs.declared.de.error.Error.{Error}
@@ -33,14 +33,14 @@ IsBehind None None = Unit {0}
 -- what follows the head of an array with this count
 abbrev pub ArrayBegun : {E : Type 0} → Option ℕ → ℕ → Result Part (Error E) → Type 0
 ArrayBegun count l (Ok (Whole v)) = (count ≡ Some 0) × (0 < l) × (tree_of v ≡ trees.array trees.no_trees)
-ArrayBegun count l (Ok (Opened f)) = (0 < l) × (behind : Option ℕ) × (open_of f ≡ array [] behind) × IsBehind count behind
+ArrayBegun count l (Ok (Opened f)) = (0 < l) × (behind : Option ℕ) × (opened f ≡ array [] behind) × IsBehind count behind
 ArrayBegun count l (Ok Ended) = ⊥
 ArrayBegun count l (Err e) = (l ≡ 0) × (e ≡ RecursionLimitExceeded)
 
 -- what follows the head of a map with this count
 abbrev pub MapBegun : {E : Type 0} → Option ℕ → ℕ → Result Part (Error E) → Type 0
 MapBegun count l (Ok (Whole v)) = (count ≡ Some 0) × (0 < l) × (tree_of v ≡ trees.map trees.no_tree_pairs)
-MapBegun count l (Ok (Opened f)) = (0 < l) × (behind : Option ℕ) × (open_of f ≡ map [] behind None) × IsBehind count behind
+MapBegun count l (Ok (Opened f)) = (0 < l) × (behind : Option ℕ) × (opened f ≡ map [] behind None) × IsBehind count behind
 MapBegun count l (Ok Ended) = ⊥
 MapBegun count l (Err e) = (l ≡ 0) × (e ≡ RecursionLimitExceeded)
 
@@ -65,7 +65,7 @@ HeadRead remaining d xs p (Err e) = RefusedBy (left_of remaining d) e (HeadRefus
 -- the answer of a call that reads a part
 abbrev pub PartRead : {S E : Type 0} → (S → Option (List ℕ)) → Decoder S → ℕ → List ℕ → ℕ → Result Part (Error E) → Type 0
 PartRead remaining d l xs p (Ok (Whole v)) = (zs : List ℕ) × (r : ℕ) × ReadsItem l xs p (tree_of v) zs r × IsAhead remaining d r zs
-PartRead remaining d l xs p (Ok (Opened f)) = (zs : List ℕ) × (r : ℕ) × IsBegun l xs p (open_of f) zs r × IsAhead remaining d r zs
+PartRead remaining d l xs p (Ok (Opened f)) = (zs : List ℕ) × (r : ℕ) × IsBegun l xs p (opened f) zs r × IsAhead remaining d r zs
 PartRead remaining d l xs p (Ok Ended) = (zs : List ℕ) × (xs ≡ break_byte ∷ zs) × (p < greatest_offset) × IsAhead remaining d (p + 1) zs
 PartRead remaining d l xs p (Err e) = RefusesNoBreak (left_of remaining d) e xs p l
 

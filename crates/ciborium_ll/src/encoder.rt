@@ -33,6 +33,7 @@ impl<'a, W: Write> Encoder<'a, W> {
     ///
     /// Two kinds of header may not be pushed: a float, whose raw bytes are not in its `Header`, and
     /// a simple value from 24 to 31, which has no head (section 3.3).
+    #[inline(always)]
     pub fn push(&mut self, header: Header) -> io::Result<()>
         requires { IsWritable header }
         ensures same_writer { (writer_of self.new).ghost_name ≡ (writer_of self.old).ghost_name }
@@ -45,6 +46,7 @@ impl<'a, W: Write> Encoder<'a, W> {
     /// section 3.1).
     ///
     /// At an error a proper beginning of the bytes has gone out, and nothing else.
+    #[inline(always)]
     pub fn write_all(&mut self, bytes: &[u8]) -> io::Result<()>
         ensures same_writer { (writer_of self.new).ghost_name ≡ (writer_of self.old).ghost_name }
         ensures bytes { Writes (W.contents (writer_of self.old).now) (W.contents (writer_of self.new).now) result bytes.now }

@@ -1,6 +1,6 @@
 //! Writes by a loop of the crate's own, which no device can hold up.
 
-ghost use Rattle.std.specs.Prelude.{◌≡◌, ◌+◌, ◌*◌, ◌<◌, ◌≤◌, length};
+ghost use Rattle.std.specs.Prelude.{◌≡◌, ◌+◌, ◌*◌, ◌<◌, ◌≤◌, length, take};
 ghost use Rattle.ciborium_ll.specs.Head.{shortest_head, simple_bytes};
 ghost use Rattle.ciborium_ll.specs.Header.{IsWritable, counted_bytes, header_bytes};
 ghost use Rattle.ciborium_ll.specs.Writing.{Writes};
@@ -9,6 +9,7 @@ use crate::header::Header;
 use std::io::{self, ErrorKind, Write};
 
 // Writes the bytes, and flushes nothing. A write of nothing or a fault of the device ends it.
+#[inline(always)]
 pub(crate) fn write_all<W: Write>(writer: &mut W, bytes: &[u8]) -> io::Result<()>
     ensures { Writes (W.contents writer.old) (W.contents writer.new) result bytes.now }
 {
@@ -23,67 +24,88 @@ pub(crate) fn write_all<W: Write>(writer: &mut W, bytes: &[u8]) -> io::Result<()
     Ok(())
 }
 
-// Writes the shortest head of a major type with an argument.
+// The bytes of a head, with zeros behind them, and how many they are.
+type HeadBytes = ([u8; 9], usize);
+
+// The shortest head of a major type with an argument.
+#[inline(always)]
 #[tactic(auto, unfolding(crate::specs::Head::shortest_head))]
-fn write_argument<W: Write>(writer: &mut W, major: u8, argument: u64) -> io::Result<()>
+fn with_argument(major: u8, argument: u64) -> HeadBytes
     requires { major < 7 }
-    ensures { Writes (W.contents writer.old) (W.contents writer.new) result (shortest_head major argument) }
+    ensures size { result.1 ≤ 9 }
+    ensures bytes { take result.1 result.0 ≡ shortest_head major argument }
 {
     let initial = major * 32;
     if argument < 24 {
-        return write_all(writer, &[initial + argument as u8]);
+        return ([initial + argument as u8, 0, 0, 0, 0, 0, 0, 0, 0], 1);
     }
     if argument < 0x100 {
-        return write_all(writer, &[initial + 24, argument as u8]);
+        return ([initial + 24, argument as u8, 0, 0, 0, 0, 0, 0, 0], 2);
     }
     if argument < 0x1_0000 {
         let [a, b] = (argument as u16).to_be_bytes();
-        return write_all(writer, &[initial + 25, a, b]);
+        return ([initial + 25, a, b, 0, 0, 0, 0, 0, 0], 3);
     }
     if argument < 0x1_0000_0000 {
         let [a, b, c, d] = (argument as u32).to_be_bytes();
-        return write_all(writer, &[initial + 26, a, b, c, d]);
+        return ([initial + 26, a, b, c, d, 0, 0, 0, 0], 5);
     }
     let [a, b, c, d, e, f, g, h] = argument.to_be_bytes();
-    write_all(writer, &[initial + 27, a, b, c, d, e, f, g, h])
+    ([initial + 27, a, b, c, d, e, f, g, h], 9)
 }
 
-// Writes the shortest head with a length or count, or the initial byte of an open item.
-fn write_counted<W: Write>(writer: &mut W, major: u8, count: Option<usize>) -> io::Result<()>
+// The head of a string, array or map, open where it has no count.
+#[inline(always)]
+fn with_count(major: u8, count: Option<usize>) -> HeadBytes
     requires { major < 7 }
-    ensures { Writes (W.contents writer.old) (W.contents writer.new) result (counted_bytes major count) }
+    ensures size { result.1 ≤ 9 }
+    ensures bytes { take result.1 result.0 ≡ counted_bytes major count }
 {
     match count {
-        Some(n) => write_argument(writer, major, n as u64),
-        None => write_all(writer, &[major * 32 + 31]),
+        Some(n) => with_argument(major, n as u64),
+        None => ([major * 32 + 31, 0, 0, 0, 0, 0, 0, 0, 0], 1),
     }
 }
 
-// Writes the shortest head of a simple value.
-fn write_simple<W: Write>(writer: &mut W, number: u8) -> io::Result<()>
-    ensures { Writes (W.contents writer.old) (W.contents writer.new) result (simple_bytes number) }
+// The head of a simple value.
+#[inline(always)]
+fn simple(number: u8) -> HeadBytes
+    ensures size { result.1 ≤ 9 }
+    ensures bytes { take result.1 result.0 ≡ simple_bytes number }
 {
     if number < 24 {
-        return write_all(writer, &[0xe0 + number]);
+        return ([0xe0 + number, 0, 0, 0, 0, 0, 0, 0, 0], 1);
     }
-    write_all(writer, &[0xf8, number])
+    ([0xf8, number, 0, 0, 0, 0, 0, 0, 0], 2)
 }
 
-// Writes the shortest head.
+// The shortest head that the header has.
+#[inline(always)]
+fn head(header: Header) -> HeadBytes
+    requires { IsWritable header }
+    ensures size { result.1 ≤ 9 }
+    ensures bytes { take result.1 result.0 ≡ header_bytes header }
+{
+    match header {
+        Header::Positive(n) => with_argument(0, n),
+        Header::Negative(n) => with_argument(1, n),
+        Header::Bytes(n) => with_count(2, n),
+        Header::Text(n) => with_count(3, n),
+        Header::Array(n) => with_count(4, n),
+        Header::Map(n) => with_count(5, n),
+        Header::Tag(n) => with_argument(6, n),
+        Header::Simple(n) => simple(n),
+        Header::Float(_) => unreachable!(),
+        Header::Break => ([0xff, 0, 0, 0, 0, 0, 0, 0, 0], 1),
+    }
+}
+
+// Writes the head in its shortest form, in one write where the writer takes it whole.
+#[inline(always)]
 pub(crate) fn write_head<W: Write>(writer: &mut W, header: Header) -> io::Result<()>
     requires { IsWritable header }
     ensures { Writes (W.contents writer.old) (W.contents writer.new) result (header_bytes header) }
 {
-    match header {
-        Header::Positive(n) => write_argument(writer, 0, n),
-        Header::Negative(n) => write_argument(writer, 1, n),
-        Header::Bytes(n) => write_counted(writer, 2, n),
-        Header::Text(n) => write_counted(writer, 3, n),
-        Header::Array(n) => write_counted(writer, 4, n),
-        Header::Map(n) => write_counted(writer, 5, n),
-        Header::Tag(n) => write_argument(writer, 6, n),
-        Header::Simple(n) => write_simple(writer, n),
-        Header::Float(_) => unreachable!(),
-        Header::Break => write_all(writer, &[0xff]),
-    }
+    let (bytes, size) = head(header);
+    write_all(writer, &bytes[..size])
 }

@@ -1,13 +1,13 @@
 -- What a stack of open containers shows.
-use Rattle.std.specs.Prelude.{List, map, reverse, Option, Some, None, option_map}
+use Rattle.std.specs.Prelude.{List, [], map, reverse, Option, Some, None, option_map}
 use Rattle.ciborium_value.specs.Open as open_
 use Rattle.ciborium_value.specs.Open.{Open, Filled, Placed}
 use Rattle.ciborium_value.specs.View.{tree_of, pair_trees}
 use Rattle.ciborium_value.specs.declared.value.Value.{Value}
 use Rattle.ciborium_value.specs.declared.stack.Frame.{Frame}
 use Rattle.ciborium_value.specs.declared.stack.Frame.TheVariants as frame
-use Rattle.ciborium_value.specs.declared.stack.Filled.{Filled as FilledFrame}
-use Rattle.ciborium_value.specs.declared.stack.Filled.TheVariants.{Whole, Still}
+use Rattle.ciborium_value.specs.declared.stack.Opening.{Opening}
+use Rattle.ciborium_value.specs.declared.stack.Opening.TheVariants as opening
 use Rattle.ciborium_value.specs.declared.stack.Stack.{Stack}
 
 -- what a frame holds
@@ -24,9 +24,16 @@ opens frames = map open_of (reverse frames)
 abbrev pub opens_of : Stack → List Open
 opens_of stack = opens stack.frames.items
 
-abbrev pub filled_of : FilledFrame → Filled
-filled_of (Whole v) = open_.whole (tree_of v)
-filled_of (Still f) = open_.still (open_of f)
+-- what stands open when a container or tag begins
+abbrev pub opened : Opening → Open
+opened (opening.Array behind) = open_.array [] behind
+opened (opening.Map behind) = open_.map [] behind None
+opened (opening.Tag n) = open_.tag n
+
+-- the answer of a call that fills what is open, with what it then is
+abbrev pub filled_of : Option Value → Open → Filled
+filled_of (Some v) o = open_.whole (tree_of v)
+filled_of None o = open_.still o
 
 -- the answer of a call that places a value, with what is open afterwards
 abbrev pub placed_of : Option Value → List Open → Placed

@@ -1,112 +1,131 @@
 //! The containers and tags that are open while a value is put together.
 
-ghost use Rattle.std.specs.Prelude.{◌≡◌, ◌∷◌, [], IfOk, List, MatchOption, None, OnOk, Some, length, option_map};
-ghost use Rattle.ciborium_value.specs.Open.{closed, ended, fill, placed};
-ghost use Rattle.ciborium_value.specs.Stack.{filled_of, open_of, opens, opens_of, placed_of};
-ghost use Rattle.ciborium_value.specs.View.{tree_of};
+ghost use Rattle.std.specs.Prelude.{◌≡◌, ◌∷◌, [], IfOk, List, MatchOption, None, OnOk, Some, length, map, option_map};
+ghost use Rattle.ciborium_value.specs.Open.{array, closed, ended, fill, map as open_map, placed};
+ghost use Rattle.ciborium_value.specs.Stack.{filled_of, open_of, opened, opens, opens_of, placed_of};
+ghost use Rattle.ciborium_value.specs.View.{pair_trees, tree_of};
 
 use crate::value::Value;
 use std::alloc::{AllocError, Global};
+use std::mem;
 
-/// A container or tag that is open. `behind` says how many items or pairs follow the one that is
-/// read now; with `None` as many as come before a break.
+/// A container or tag that begins. `behind` says how many items or pairs follow the first; with
+/// `None` as many as come before a break.
+#[derive(Clone, Copy)]
+pub enum Opening {
+    /// An array.
+    Array { behind: Option<usize> },
+    /// A map.
+    Map { behind: Option<usize> },
+    /// A tag that waits for its item.
+    Tag(u64),
+}
+
+// A container or tag that is open: what is in it so far, and how many items or pairs follow the one
+// that is read now.
 #[derive(Drop)]
-pub enum Frame {
-    /// An array with its items so far.
+enum Frame {
     Array {
         items: Vec<Value>,
         behind: Option<usize>,
     },
-    /// A map with its pairs so far, and the key that waits for its value.
+    // The key waits for its value.
     Map {
         pairs: Vec<(Value, Value)>,
         behind: Option<usize>,
         key: Option<Value>,
     },
-    /// A tag that waits for its item.
     Tag(u64),
 }
 
-// What became of a frame that was given a value.
-#[derive(Drop)]
-enum Filled {
-    Whole(Value),
-    Still(Frame),
-}
-
-fn fill_array(
-    mut items: Vec<Value>,
-    behind: Option<usize>,
-    value: Value,
-) -> Result<Filled, AllocError>
-    ensures { IfOk result (λ f. filled_of f ≡ fill (open_of (Frame.Array items behind)) (tree_of value)) }
+fn begin(alloc: Global, opening: Opening) -> Frame
+    ensures { open_of result ≡ opened opening }
 {
-    items.push(value)?;
-    Ok(match behind {
-        Some(0) => Filled::Whole(Value::Array(items)),
-        Some(n) => Filled::Still(Frame::Array {
-            items,
-            behind: Some(n - 1),
-        }),
-        None => Filled::Still(Frame::Array {
-            items,
-            behind: None,
-        }),
-    })
-}
-
-fn fill_map(
-    mut pairs: Vec<(Value, Value)>,
-    behind: Option<usize>,
-    key: Option<Value>,
-    value: Value,
-) -> Result<Filled, AllocError>
-    ensures { IfOk result (λ f. filled_of f ≡ fill (open_of (Frame.Map pairs behind key)) (tree_of value)) }
-{
-    let Some(key) = key else {
-        return Ok(Filled::Still(Frame::Map {
-            pairs,
+    match opening {
+        Opening::Array { behind } => Frame::Array {
+            items: Vec::new(alloc),
             behind,
-            key: Some(value),
-        }));
-    };
-    pairs.push((key, value))?;
-    Ok(match behind {
-        Some(0) => Filled::Whole(Value::Map(pairs)),
-        Some(n) => Filled::Still(Frame::Map {
-            pairs,
-            behind: Some(n - 1),
+        },
+        Opening::Map { behind } => Frame::Map {
+            pairs: Vec::new(alloc),
+            behind,
             key: None,
-        }),
-        None => Filled::Still(Frame::Map {
-            pairs,
-            behind: None,
-            key: None,
-        }),
-    })
-}
-
-fn fill(alloc: Global, frame: Frame, value: Value) -> Result<Filled, AllocError>
-    ensures { IfOk result (λ f. filled_of f ≡ fill (open_of frame) (tree_of value)) }
-{
-    match frame {
-        Frame::Array { items, behind } => fill_array(items, behind, value),
-        Frame::Map { pairs, behind, key } => fill_map(pairs, behind, key, value),
-        Frame::Tag(tag) => Ok(Filled::Whole(Value::Tag(tag, Box::new(alloc, value)?))),
+        },
+        Opening::Tag(tag) => Frame::Tag(tag),
     }
 }
 
-// Gives a value to the innermost frame, and each value that this completes to the next one.
+// Puts a value into an array. Answers the array where this was its last item.
+#[inline(always)]
+fn fill_array(
+    alloc: Global,
+    items: &mut Vec<Value>,
+    behind: &mut Option<usize>,
+    value: Value,
+) -> Result<Option<Value>, AllocError>
+    ensures { IfOk result (λ r. filled_of r (array (map tree_of items.new.items) behind.new) ≡ fill (array (map tree_of items.old.items) behind.old) (tree_of value)) }
+{
+    items.push(value)?;
+    match *behind {
+        Some(0) => Ok(Some(Value::Array(mem::replace(items, Vec::new(alloc))))),
+        Some(n) => {
+            *behind = Some(n - 1);
+            Ok(None)
+        }
+        None => Ok(None),
+    }
+}
+
+// Puts a key or value into a map. Answers the map where this was its last value.
+#[inline(always)]
+fn fill_map(
+    alloc: Global,
+    pairs: &mut Vec<(Value, Value)>,
+    behind: &mut Option<usize>,
+    key: &mut Option<Value>,
+    value: Value,
+) -> Result<Option<Value>, AllocError>
+    ensures { IfOk result (λ r. filled_of r (open_map (map pair_trees pairs.new.items) behind.new (option_map tree_of key.new)) ≡
+        fill (open_map (map pair_trees pairs.old.items) behind.old (option_map tree_of key.old)) (tree_of value)) }
+{
+    let Some(key) = mem::replace(key, None) else {
+        *key = Some(value);
+        return Ok(None);
+    };
+    pairs.push((key, value))?;
+    match *behind {
+        Some(0) => Ok(Some(Value::Map(mem::replace(pairs, Vec::new(alloc))))),
+        Some(n) => {
+            *behind = Some(n - 1);
+            Ok(None)
+        }
+        None => Ok(None),
+    }
+}
+
+// Puts a value into a frame. Answers what it completes.
+#[inline(always)]
+fn fill(alloc: Global, frame: &mut Frame, value: Value) -> Result<Option<Value>, AllocError>
+    ensures { IfOk result (λ r. filled_of r (open_of frame.new) ≡ fill (open_of frame.old) (tree_of value)) }
+{
+    match frame {
+        Frame::Array { items, behind } => fill_array(alloc, items, behind, value),
+        Frame::Map { pairs, behind, key } => fill_map(alloc, pairs, behind, key, value),
+        Frame::Tag(tag) => Ok(Some(Value::Tag(*tag, Box::new(alloc, value)?))),
+    }
+}
+
+// Puts a value into the innermost frame, and each value that this completes into the next one.
 fn place(alloc: Global, frames: &mut Vec<Frame>, value: Value) -> Result<Option<Value>, AllocError>
     ensures { IfOk result (λ r. placed_of r (opens frames.new.items) ≡ placed (opens frames.old.items) (tree_of value)) }
 {
     let mut value = value;
-    while let Some(frame) = frames.pop() {
+    while let Some(frame) = frames.last_mut() {
         match fill(alloc, frame, value)? {
-            Filled::Whole(whole) => value = whole,
-            Filled::Still(frame) => {
-                frames.push(frame)?;
-                return Ok(None);
+            None => return Ok(None),
+            Some(whole) => {
+                value = whole;
+                frames.pop();
             }
         }
     }
@@ -157,10 +176,10 @@ impl Stack {
     }
 
     /// Opens a container or tag inside those that are open. Refused, they are as they were.
-    pub fn open(&mut self, frame: Frame) -> Result<(), AllocError>
-        ensures { OnOk result (opens_of self.new ≡ open_of frame ∷ opens_of self.old) }
+    pub fn open(&mut self, opening: Opening) -> Result<(), AllocError>
+        ensures { OnOk result (opens_of self.new ≡ opened opening ∷ opens_of self.old) }
     {
-        self.frames.push(frame)?;
+        self.frames.push(begin(self.alloc, opening))?;
         Ok(())
     }
 

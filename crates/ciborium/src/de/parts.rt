@@ -10,7 +10,7 @@ ghost use Rattle.ciborium_ll.specs.StringRefusal.{of_bytes, of_text};
 use crate::de::error::Error;
 use crate::de::tags::tagged;
 use ciborium_ll::{Decoder, Header};
-use ciborium_value::stack::Frame;
+use ciborium_value::stack::Opening;
 use ciborium_value::{Integer, Kind, Value};
 use std::alloc::Global;
 use std::io::{self, Read};
@@ -18,7 +18,7 @@ use std::io::{self, Read};
 #[derive(Drop)]
 pub(crate) enum Part {
     Whole(Value),
-    Opened(Frame),
+    Opened(Opening),
     Ended,
 }
 
@@ -38,17 +38,12 @@ fn begin_array(alloc: Global, count: Option<usize>, levels: usize) -> Result<Par
     if levels == 0 {
         return Err(Error::RecursionLimitExceeded);
     }
-    let items = Vec::new(alloc);
     match count {
-        Some(0) => Ok(Part::Whole(Value::Array(items))),
-        Some(n) => Ok(Part::Opened(Frame::Array {
-            items,
+        Some(0) => Ok(Part::Whole(Value::Array(Vec::new(alloc)))),
+        Some(n) => Ok(Part::Opened(Opening::Array {
             behind: Some(n - 1),
         })),
-        None => Ok(Part::Opened(Frame::Array {
-            items,
-            behind: None,
-        })),
+        None => Ok(Part::Opened(Opening::Array { behind: None })),
     }
 }
 
@@ -58,19 +53,12 @@ fn begin_map(alloc: Global, count: Option<usize>, levels: usize) -> Result<Part,
     if levels == 0 {
         return Err(Error::RecursionLimitExceeded);
     }
-    let pairs = Vec::new(alloc);
     match count {
-        Some(0) => Ok(Part::Whole(Value::Map(pairs))),
-        Some(n) => Ok(Part::Opened(Frame::Map {
-            pairs,
+        Some(0) => Ok(Part::Whole(Value::Map(Vec::new(alloc)))),
+        Some(n) => Ok(Part::Opened(Opening::Map {
             behind: Some(n - 1),
-            key: None,
         })),
-        None => Ok(Part::Opened(Frame::Map {
-            pairs,
-            behind: None,
-            key: None,
-        })),
+        None => Ok(Part::Opened(Opening::Map { behind: None })),
     }
 }
 

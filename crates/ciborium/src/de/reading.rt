@@ -43,7 +43,7 @@ fn turn<R: Read>(
     let offset = decoder.offset();
     match next(alloc, decoder, scratch, levels - stack.depth())? {
         Part::Whole(value) => granted(stack.place(value)),
-        Part::Opened(frame) => match stack.open(frame) {
+        Part::Opened(opening) => match stack.open(opening) {
             Ok(()) => Ok(None),
             Err(_) => Err(Error::Memory),
         },

@@ -12,7 +12,7 @@ ghost use Rattle.ciborium.specs.Reads.{IsAt, IsPulled, heads_left};
 use crate::de::error::Error;
 use crate::de::parts::{Part, negative, pull};
 use ciborium_ll::{Decoder, Header};
-use ciborium_value::stack::Frame;
+use ciborium_value::stack::Opening;
 use ciborium_value::{Integer, Kind, Value};
 use std::alloc::{AllocError, Global};
 use std::io::{self, Read};
@@ -135,5 +135,5 @@ pub(crate) fn tagged<R: Read>(
         return Err(Error::RecursionLimitExceeded);
     }
     decoder.push(next, at);
-    Ok(Part::Opened(Frame::Tag(tag)))
+    Ok(Part::Opened(Opening::Tag(tag)))
 }

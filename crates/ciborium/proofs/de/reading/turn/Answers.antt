@@ -24,8 +24,8 @@ returns-in-Whole-clause-turn g c xs p s =
 
 pub returns-in-Ok-clause-turn : goal.returns-in-Ok-clause-turn
 returns-in-Ok-clause-turn g c xs p s =
-    turn-opened Error g.R.Read.remaining c.args.decoder.now c.next.new.decoder (opens_of c.args.stack.now) (opens_of c.open.new.self) c.args.levels xs p c.in-Opened.frame
-    (answers-of Error g.R.Read.remaining c.args.decoder.now c.next.new.decoder (c.args.levels - c.depth.result) (c.args.levels - length (opens_of c.args.stack.now)) c.in_ok-value.field-0 (Opened c.in-Opened.frame)
+    turn-opened Error g.R.Read.remaining c.args.decoder.now c.next.new.decoder (opens_of c.args.stack.now) (opens_of c.open.new.self) c.args.levels xs p c.in-Opened.opening
+    (answers-of Error g.R.Read.remaining c.args.decoder.now c.next.new.decoder (c.args.levels - c.depth.result) (c.args.levels - length (opens_of c.args.stack.now)) c.in_ok-value.field-0 (Opened c.in-Opened.opening)
     (ap (λ n. c.args.levels - n) c.depth.ensures) c.in-Opened.is c.in_ok-value.ensures.part) c.in-Ok.ensures s
 
 pub returns-in-Some-clause-depth : goal.returns-in-Some-clause-depth
