@@ -53,6 +53,7 @@ pub fn into_writer<W: Write>(value: &Value, writer: &mut W) -> Result<(), Error<
 
 // Writes the encoding of a value.
 #[cycle(write_value)]
+#[inline(always)]
 fn write_value<W: Write>(encoder: &mut Encoder<'_, W>, value: &Value) -> io::Result<()>
     ensures same_writer { (writer_of encoder.new).ghost_name ≡ (writer_of encoder.old).ghost_name }
     ensures bytes { Writes (W.contents (writer_of encoder.old).now) (W.contents (writer_of encoder.new).now) result (encoding (tree_of value.now)) }
@@ -113,6 +114,7 @@ fn write_pairs<W: Write>(
 }
 
 // Writes the head of a string and its payload.
+#[inline(always)]
 fn write_string<W: Write>(
     encoder: &mut Encoder<'_, W>,
     header: Header,
@@ -128,6 +130,7 @@ fn write_string<W: Write>(
 }
 
 // The head that is all of a number.
+#[inline(always)]
 fn integer_head(number: Integer) -> Header
     ensures writable { IsWritable result }
     ensures head { header_bytes result ≡ encoding (integer number) }

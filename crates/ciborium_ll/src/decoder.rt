@@ -75,6 +75,7 @@ impl<'a, R: Read> Decoder<'a, R> {
     /// `Io` where the reader ends or fails inside the head; `Syntax` with the head's offset where it
     /// is reserved; `TooLong` where the head, or the payload of a definite string that it announces,
     /// would pass the greatest offset.
+    #[inline(always)]
     pub fn pull(&mut self) -> Result<Header, Error<io::Error>>
         ensures same_reader { SameReader self.old self.new }
         ensures none_pushed { pushed_of self.new ≡ None }

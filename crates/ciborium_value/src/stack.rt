@@ -55,7 +55,8 @@ fn begin(alloc: Global, opening: Opening) -> Frame
     }
 }
 
-// Puts a value into an array. Answers the array where this was its last item.
+// Puts a value into an array. Answers the array where this was its last item: room is made for no
+// more then.
 #[inline(always)]
 fn fill_array(
     alloc: Global,
@@ -65,6 +66,9 @@ fn fill_array(
 ) -> Result<Option<Value>, AllocError>
     ensures { IfOk result (λ r. filled_of r (array (map tree_of items.new.items) behind.new) ≡ fill (array (map tree_of items.old.items) behind.old) (tree_of value)) }
 {
+    if let Some(0) = *behind {
+        items.reserve_exact(1)?;
+    }
     items.push(value)?;
     match *behind {
         Some(0) => Ok(Some(Value::Array(mem::replace(items, Vec::new(alloc))))),
@@ -76,7 +80,8 @@ fn fill_array(
     }
 }
 
-// Puts a key or value into a map. Answers the map where this was its last value.
+// Puts a key or value into a map. Answers the map where this was its last value: room is made for
+// no more then.
 #[inline(always)]
 fn fill_map(
     alloc: Global,
@@ -92,6 +97,9 @@ fn fill_map(
         *key = Some(value);
         return Ok(None);
     };
+    if let Some(0) = *behind {
+        pairs.reserve_exact(1)?;
+    }
     pairs.push((key, value))?;
     match *behind {
         Some(0) => Ok(Some(Value::Map(mem::replace(pairs, Vec::new(alloc))))),
@@ -116,6 +124,7 @@ fn fill(alloc: Global, frame: &mut Frame, value: Value) -> Result<Option<Value>,
 }
 
 // Puts a value into the innermost frame, and each value that this completes into the next one.
+#[inline(always)]
 fn place(alloc: Global, frames: &mut Vec<Frame>, value: Value) -> Result<Option<Value>, AllocError>
     ensures { IfOk result (λ r. placed_of r (opens frames.new.items) ≡ placed (opens frames.old.items) (tree_of value)) }
 {
@@ -185,6 +194,7 @@ impl Stack {
 
     /// Puts a value where one is due. Answers the value that it completes last, where nothing is
     /// open any more. Refused, what was open is given up.
+    #[inline(always)]
     pub fn place(&mut self, value: Value) -> Result<Option<Value>, AllocError>
         ensures { IfOk result (λ r. placed_of r (opens_of self.new) ≡ placed (opens_of self.old) (tree_of value)) }
     {

@@ -23,6 +23,7 @@ pub(crate) enum Part {
 }
 
 /// The next head.
+#[inline(always)]
 pub(crate) fn pull<R: Read>(decoder: &mut Decoder<'_, R>) -> Result<Header, Error<io::Error>>
     ensures same_reader { SameReader decoder.old decoder.new }
     ensures pushed { pushed_of decoder.new ≡ None }
@@ -32,6 +33,7 @@ pub(crate) fn pull<R: Read>(decoder: &mut Decoder<'_, R>) -> Result<Header, Erro
     Ok(decoder.pull()?)
 }
 
+#[inline(always)]
 fn begin_array(alloc: Global, count: Option<usize>, levels: usize) -> Result<Part, Error<io::Error>>
     ensures { ArrayBegun count levels result }
 {
@@ -47,6 +49,7 @@ fn begin_array(alloc: Global, count: Option<usize>, levels: usize) -> Result<Par
     }
 }
 
+#[inline(always)]
 fn begin_map(alloc: Global, count: Option<usize>, levels: usize) -> Result<Part, Error<io::Error>>
     ensures { MapBegun count levels result }
 {
@@ -63,6 +66,7 @@ fn begin_map(alloc: Global, count: Option<usize>, levels: usize) -> Result<Part,
 }
 
 #[tactic(auto, unfolding(ciborium_value::specs::Meaning::simple_meaning))]
+#[inline(always)]
 fn simple(number: u8, offset: usize) -> Result<Value, Error<io::Error>>
     ensures { SimpleRead number offset result }
 {
@@ -75,6 +79,7 @@ fn simple(number: u8, offset: usize) -> Result<Value, Error<io::Error>>
 }
 
 /// The number -1 - n.
+#[inline(always)]
 pub(crate) fn negative(n: u64) -> Integer
     ensures { result ≡ negsuc n }
 {
@@ -123,6 +128,7 @@ fn text<R: Read>(
 }
 
 /// Reads the next part, with this many levels left.
+#[inline(always)]
 pub(crate) fn next<R: Read>(
     alloc: Global,
     decoder: &mut Decoder<'_, R>,

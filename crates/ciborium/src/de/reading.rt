@@ -15,6 +15,7 @@ use std::alloc::{AllocError, Global};
 use std::io::{self, Read};
 
 // A value that was placed, or want of memory.
+#[inline(always)]
 fn granted(placed: Result<Option<Value>, AllocError>) -> Result<Option<Value>, Error<io::Error>>
     ensures ok { IfOk result (λ o. placed ≡ Ok o) }
     ensures err { IfErr result (λ e. e ≡ Error.Memory) }
@@ -26,6 +27,7 @@ fn granted(placed: Result<Option<Value>, AllocError>) -> Result<Option<Value>, E
 }
 
 // Reads one part, and answers the value where it is the last.
+#[inline(always)]
 fn turn<R: Read>(
     alloc: Global,
     decoder: &mut Decoder<'_, R>,
