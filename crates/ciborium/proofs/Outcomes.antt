@@ -15,6 +15,8 @@ use Rattle.ciborium_value.specs.Tree.{Tree}
 use Rattle.ciborium_value.specs.View.{tree_of}
 use Rattle.ciborium_value.proofs.Bounded.{bounded}
 use Rattle.ciborium_value.proofs.Outcome.{never_both}
+use Rattle.ciborium_value.proofs.ProperMeanings.{proper_meaning, split-bytes}
+use Rattle.ciborium_value.specs.Proper.{IsProperTree}
 use Rattle.ciborium.specs.declared.de.error.Error.{Error}
 use Rattle.ciborium.specs.declared.de.error.Error.TheVariants as errors
 use Rattle.ciborium.specs.Answers.{ValueRead, TakesValue, AnswersItem, IsFailure}
@@ -63,6 +65,13 @@ read-bounded remaining d l xs left (Ok v) rests (zs, r, a, s) e =
     let size : length xs ≡ length a.taken + length zs = ap length a.split ∙ length-append a.taken zs in
     omega (arith, bounded a.what a.taken (tree_of v) a.spelled a.means, size, ap length same)
 read-bounded remaining d l xs left (Err x) rests a e = tt
+
+pub read-proper : {S E : Type 0} (remaining : S → Option (List ℕ)) (d : Decoder S) (l : ℕ) (xs : List ℕ) (x : Result Value (Error E)) → ValueRead remaining d l xs 0 x → AreBytes xs → IfOk x (λ v. IsProperTree (tree_of v))
+read-proper remaining d l xs (Ok v) (zs, r, a, s) bytes =
+    let at = a.at in
+    let fits = a.fits in
+    proper_meaning a.what a.taken (tree_of v) a.spelled (split-bytes xs a.taken zs a.split bytes).0 (omega (arith, at, fits)) a.means
+read-proper remaining d l xs (Err e) a bytes = tt
 
 only-fails : {E : Type 0} (left : Option (List ℕ)) (e : Error E) (P : Refusal → Type 0) → ((r : Refusal) → P r → ⊥) → RefusedBy left e P → IsFailure e
 only-fails left (errors.Io x) P never h = tt

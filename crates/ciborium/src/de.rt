@@ -4,6 +4,7 @@ ghost use Rattle.std.specs.Prelude.{◌≡◌, ◌+◌, ◌≤◌, ◌++◌, IfE
 ghost use Rattle.ciborium_ll.specs.Bytes.{AreBytes, greatest_offset};
 ghost use Rattle.ciborium_ll.specs.Item.{Item};
 ghost use Rattle.ciborium_value.specs.Counts.{node_count, payload_size};
+ghost use Rattle.ciborium_value.specs.Proper.{IsProperTree};
 ghost use Rattle.ciborium_value.specs.Refuses.{IsGood, Refuses};
 ghost use Rattle.ciborium_value.specs.View.{tree_of};
 ghost use Rattle.ciborium.specs.Answers.{AnswersItem, TakesValue};
@@ -33,6 +34,7 @@ fn read<R: Read>(
     ensures refused { (b : List ℕ) → R.remaining reader.old ≡ Some b → IfErr result (λ e. RefusedBy (R.remaining reader.new) e (λ r. Refuses b 0 (Some limit) r)) }
     ensures bounded { (b left : List ℕ) → R.remaining reader.old ≡ Some b → R.remaining reader.new ≡ Some left →
         IfOk result (λ v. node_count (tree_of v) + payload_size (tree_of v) + length left ≤ length b) }
+    ensures proper { (b : List ℕ) → R.remaining reader.old ≡ Some b → AreBytes b → IfOk result (λ v. IsProperTree (tree_of v)) }
     ensures within { (b left : List ℕ) → R.remaining reader.old ≡ Some b → R.remaining reader.new ≡ Some left → OnOk result (length b ≤ length left + greatest_offset) }
 {
     let mut decoder = Decoder::new(reader);
@@ -60,6 +62,7 @@ pub fn from_reader<R: Read>(alloc: Global, reader: &mut R) -> Result<Value, Erro
     ensures refused { (b : List ℕ) → R.remaining reader.old ≡ Some b → IfErr result (λ e. RefusedBy (R.remaining reader.new) e (λ r. Refuses b 0 (Some 256) r)) }
     ensures bounded { (b left : List ℕ) → R.remaining reader.old ≡ Some b → R.remaining reader.new ≡ Some left →
         IfOk result (λ v. node_count (tree_of v) + payload_size (tree_of v) + length left ≤ length b) }
+    ensures proper { (b : List ℕ) → R.remaining reader.old ≡ Some b → AreBytes b → IfOk result (λ v. IsProperTree (tree_of v)) }
     ensures within { (b left : List ℕ) → R.remaining reader.old ≡ Some b → R.remaining reader.new ≡ Some left → OnOk result (length b ≤ length left + greatest_offset) }
 {
     let mut scratch = [0u8; 4096];
@@ -79,6 +82,7 @@ pub fn from_reader_with_buffer<R: Read>(
     ensures refused { (b : List ℕ) → R.remaining reader.old ≡ Some b → IfErr result (λ e. RefusedBy (R.remaining reader.new) e (λ r. Refuses b 0 (Some 256) r)) }
     ensures bounded { (b left : List ℕ) → R.remaining reader.old ≡ Some b → R.remaining reader.new ≡ Some left →
         IfOk result (λ v. node_count (tree_of v) + payload_size (tree_of v) + length left ≤ length b) }
+    ensures proper { (b : List ℕ) → R.remaining reader.old ≡ Some b → AreBytes b → IfOk result (λ v. IsProperTree (tree_of v)) }
     ensures within { (b left : List ℕ) → R.remaining reader.old ≡ Some b → R.remaining reader.new ≡ Some left → OnOk result (length b ≤ length left + greatest_offset) }
 {
     read(alloc, reader, scratch, 256)
@@ -97,6 +101,7 @@ pub fn from_reader_with_recursion_limit<R: Read>(
     ensures refused { (b : List ℕ) → R.remaining reader.old ≡ Some b → IfErr result (λ e. RefusedBy (R.remaining reader.new) e (λ r. Refuses b 0 (Some limit) r)) }
     ensures bounded { (b left : List ℕ) → R.remaining reader.old ≡ Some b → R.remaining reader.new ≡ Some left →
         IfOk result (λ v. node_count (tree_of v) + payload_size (tree_of v) + length left ≤ length b) }
+    ensures proper { (b : List ℕ) → R.remaining reader.old ≡ Some b → AreBytes b → IfOk result (λ v. IsProperTree (tree_of v)) }
     ensures within { (b left : List ℕ) → R.remaining reader.old ≡ Some b → R.remaining reader.new ≡ Some left → OnOk result (length b ≤ length left + greatest_offset) }
 {
     let mut scratch = [0u8; 4096];

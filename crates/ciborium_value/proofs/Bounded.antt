@@ -69,7 +69,7 @@ parts-longer m Allowed (y ∷ ys) r h =
     let lj : length (joined (y ∷ ys)) ≡ length y + length (joined ys) = length-append y (joined ys) in
     omega (arith, rest, lr, ls, lj)
 
-string-longer : (o : Bool) (m : ℕ) (Allowed : List ℕ → Type 0) (s y : List ℕ) → IsString o m Allowed s y → length y < length s
+pub string-longer : (o : Bool) (m : ℕ) (Allowed : List ℕ → Type 0) (s y : List ℕ) → IsString o m Allowed s y → length y < length s
 string-longer false m Allowed s y h =
     let l : length s ≡ length h.0 + length y = ap length h.3 ∙ length-append h.0 y in
     let pos = head-length h.0 m (length y) h.1 in
@@ -99,7 +99,7 @@ either-short : (t : Bool) (a b : List ℕ) (n : ℕ) → length a ≤ n → leng
 either-short true a b n h k = h
 either-short false a b n h k = k
 
-zeros-shorter : (b : List ℕ) → length (without_zeros b) ≤ length b
+pub zeros-shorter : (b : List ℕ) → length (without_zeros b) ≤ length b
 zeros-shorter [] = omega arith
 zeros-shorter (b ∷ bs) =
     let rest = zeros-shorter bs in
@@ -138,7 +138,7 @@ simple-fits n m h =
 
 -- ---- items
 
-enclosed-shorter : (o : Bool) (m n : ℕ) (s r : List ℕ) → Encloses o m n s r → length r < length s
+pub enclosed-shorter : (o : Bool) (m n : ℕ) (s r : List ℕ) → Encloses o m n s r → length r < length s
 enclosed-shorter false m n s r h =
     let l : length s ≡ length h.0 + length r = ap length h.2 ∙ length-append h.0 r in
     let pos = head-length h.0 m n h.1 in

@@ -13,3 +13,4 @@ pub mod Outcome
 mod Examples
 pub mod Stacked
 pub mod Bounded
+pub mod ProperMeanings

@@ -5,7 +5,7 @@ use Rattle.ciborium_value.specs.View.{tree_of}
 use Rattle.ciborium.specs.Answers.{TakesValue, AnswersItem}
 use Rattle.ciborium.specs.Errors.{RefusedBy}
 use Rattle.ciborium_value.specs.Refuses.{Refuses}
-use Rattle.ciborium.proofs.Outcomes.{ahead-begin, read-ok, read-exact, read-refused, read-within, read-bounded}
+use Rattle.ciborium.proofs.Outcomes.{ahead-begin, read-ok, read-exact, read-refused, read-within, read-bounded, read-proper}
 use Rattle.ciborium.proofs.de.read.Goals as goal
 
 pub returns-clause-ok : goal.returns-clause-ok
@@ -42,3 +42,8 @@ returns-clause-bounded g c b left e =
     subst (λ r. g.R.Read.remaining r ≡ Some left → IfOk c.read_value.result (λ v. node_count (tree_of v) + payload_size (tree_of v) + length left ≤ length b)) {x = d.reader.now} (search rules)
     (read-bounded g.R.Read.remaining d c.args.limit b left c.read_value.result c.read_value.ensures.rests
     (c.read_value.ensures.value b 0 (ahead-begin g.R.Read.remaining c.new-decoder.result c.args.reader.now b c.new-decoder.ensures.begins e)))
+
+pub returns-clause-proper : goal.returns-clause-proper
+returns-clause-proper g c b e bytes =
+    read-proper g.R.Read.remaining c.read_value.new.decoder c.args.limit b c.read_value.result
+    (c.read_value.ensures.value b 0 (ahead-begin g.R.Read.remaining c.new-decoder.result c.args.reader.now b c.new-decoder.ensures.begins e)) bytes
