@@ -12,3 +12,4 @@ mod Contents
 mod AfterTag
 mod Turned
 mod Outcomes
+mod OneAnswer

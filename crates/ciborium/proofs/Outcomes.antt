@@ -73,7 +73,7 @@ read-proper remaining d l xs (Ok v) (zs, r, a, s) bytes =
     proper_meaning a.what a.taken (tree_of v) a.spelled (split-bytes xs a.taken zs a.split bytes).0 (omega (arith, at, fits)) a.means
 read-proper remaining d l xs (Err e) a bytes = tt
 
-only-fails : {E : Type 0} (left : Option (List ℕ)) (e : Error E) (P : Refusal → Type 0) → ((r : Refusal) → P r → ⊥) → RefusedBy left e P → IsFailure e
+pub only-fails : {E : Type 0} (left : Option (List ℕ)) (e : Error E) (P : Refusal → Type 0) → ((r : Refusal) → P r → ⊥) → RefusedBy left e P → IsFailure e
 only-fails left (errors.Io x) P never h = tt
 only-fails left (errors.Syntax p) P never h = never (refusal.syntax p) h
 only-fails left (errors.Semantic p k) P never h = named p (kind_of k) h

@@ -5,3 +5,4 @@ pub mod Strings
 pub mod Parts
 pub mod Answers
 pub mod Writes
+pub mod AnswerLaws
