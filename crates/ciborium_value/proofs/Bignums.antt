@@ -24,10 +24,10 @@ not_zero : (b : ℕ) → (suc b == 0) ≡ false
 not_zero b = grind (arith, nat_tests)
 
 -- a first byte that is no zero stays
-stays : (b : ℕ) (bs : List ℕ) → without_zeros (suc b ∷ bs) ≡ suc b ∷ bs
+pub stays : (b : ℕ) (bs : List ℕ) → without_zeros (suc b ∷ bs) ≡ suc b ∷ bs
 stays b bs = rw (not_zero b) refl
 
-zeros_hold_nothing : (bs : List ℕ) → big_endian (without_zeros bs) ≡ big_endian bs
+pub zeros_hold_nothing : (bs : List ℕ) → big_endian (without_zeros bs) ≡ big_endian bs
 unfolding big_endian_behind
 zeros_hold_nothing [] = refl
 zeros_hold_nothing (zero ∷ bs) = zeros_hold_nothing bs

@@ -3,6 +3,8 @@ pub mod Derived
 pub mod OrderedTrees
 pub mod HeadOrder
 pub mod Bignums
+pub mod Folding
+pub mod Written
 mod Reader
 pub mod Parts
 pub mod Steps

@@ -2,6 +2,7 @@
 //! function that does nothing.
 
 ghost use Rattle.ciborium_value.specs.Examples.{CornerExamples, CountedExamples, FoldingExamples, RefusedExamples, SpelledExamples, WrittenExamples};
+ghost use Rattle.ciborium_value.specs.FoldingLaws.{EncodingIsGood, FoldsOnce, WrittenMeansFolded};
 ghost use Rattle.ciborium_value.specs.Laws.{GoodOrRefused, NeverBoth, OneRefusal};
 ghost use Rattle.ciborium_value.specs.Number.{BytesHoldNumber, NoLeadingZeros};
 ghost use Rattle.ciborium_value.specs.OrderLaws.{EqualAsTrees, EqualityIsEquivalence, OrderedAsTrees, PartlyOrderedAsTrees, TiedWhereEqual, ValuesAreOrdered};
@@ -12,6 +13,14 @@ pub fn good_or_refused()
     ensures one_of { GoodOrRefused }
     ensures never_both { NeverBoth }
     ensures one_refusal { OneRefusal }
+{}
+
+/// What is written for a tree means the folded tree, and folding twice is folding once. So a tree that
+/// a program can hold, and that folds, is read back as the folded tree (RFC 8949, section 3.4.3).
+pub fn meaning_of_written_is_folded()
+    ensures meaning { WrittenMeansFolded }
+    ensures once { FoldsOnce }
+    ensures read_back { EncodingIsGood }
 {}
 
 /// What the definitions say of given bytes and trees, after RFC 8949 and its appendix A.
