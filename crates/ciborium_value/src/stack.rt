@@ -1,6 +1,6 @@
 //! The containers and tags that are open while a value is put together.
 
-ghost use Rattle.std.specs.Prelude.{◌≡◌, ◌∷◌, [], IfOk, List, MatchOption, None, OnOk, Some, length, map, option_map};
+ghost use Rattle.std.specs.Prelude.{◌≡◌, ◌∷◌, [], IfOk, List, MatchOption, None, OnErr, OnOk, Some, drop, length, map, option_map};
 ghost use Rattle.ciborium_value.specs.Open.{array, closed, ended, fill, map as open_map, placed};
 ghost use Rattle.ciborium_value.specs.Stack.{filled_of, open_of, opened, opens, opens_of, placed_of};
 ghost use Rattle.ciborium_value.specs.View.{pair_trees, tree_of};
@@ -186,7 +186,8 @@ impl Stack {
 
     /// Opens a container or tag inside those that are open. Refused, they are as they were.
     pub fn open(&mut self, opening: Opening) -> Result<(), AllocError>
-        ensures { OnOk result (opens_of self.new ≡ opened opening ∷ opens_of self.old) }
+        ensures ok { OnOk result (opens_of self.new ≡ opened opening ∷ opens_of self.old) }
+        ensures err { OnErr result (opens_of self.new ≡ opens_of self.old) }
     {
         self.frames.push(begin(self.alloc, opening))?;
         Ok(())
@@ -204,7 +205,7 @@ impl Stack {
     /// Ends the innermost container at a break and takes it off, if a break may stand there. `None`
     /// gives up the innermost.
     pub fn close(&mut self) -> Option<Value>
-        ensures { MatchOption result (closed (opens_of self.old) ≡ None) (λ v. closed (opens_of self.old) ≡ Some (tree_of v, opens_of self.new)) }
+        ensures { MatchOption result ((closed (opens_of self.old) ≡ None) × (opens_of self.new ≡ drop 1 (opens_of self.old))) (λ v. closed (opens_of self.old) ≡ Some (tree_of v, opens_of self.new)) }
     {
         match self.frames.pop() {
             Some(frame) => end(frame),

@@ -26,7 +26,7 @@ pub returns-in-Ok-clause-turn : goal.returns-in-Ok-clause-turn
 returns-in-Ok-clause-turn g c xs p s =
     turn-opened Error g.R.Read.remaining c.args.decoder.now c.next.new.decoder (opens_of c.args.stack.now) (opens_of c.open.new.self) c.args.levels xs p c.in-Opened.opening
     (answers-of Error g.R.Read.remaining c.args.decoder.now c.next.new.decoder (c.args.levels - c.depth.result) (c.args.levels - length (opens_of c.args.stack.now)) c.in_ok-value.field-0 (Opened c.in-Opened.opening)
-    (ap (λ n. c.args.levels - n) c.depth.ensures) c.in-Opened.is c.in_ok-value.ensures.part) c.in-Ok.ensures s
+    (ap (λ n. c.args.levels - n) c.depth.ensures) c.in-Opened.is c.in_ok-value.ensures.part) c.in-Ok.ensures.ok s
 
 pub returns-in-Some-clause-depth : goal.returns-in-Some-clause-depth
 returns-in-Some-clause-depth g c =
@@ -43,4 +43,4 @@ pub returns-in-None-clause-turn : goal.returns-in-None-clause-turn
 returns-in-None-clause-turn g c xs p s =
     turn-break Error g.R.Read.remaining c.args.decoder.now c.next.new.decoder (opens_of c.args.stack.now) c.args.levels xs p c.offset-offset.result
     (answers-of Error g.R.Read.remaining c.args.decoder.now c.next.new.decoder (c.args.levels - c.depth.result) (c.args.levels - length (opens_of c.args.stack.now)) c.in_ok-value.field-0 Ended
-    (ap (λ n. c.args.levels - n) c.depth.ensures) c.in-Ended.is c.in_ok-value.ensures.part) c.in-None.ensures c.offset-offset.ensures s
+    (ap (λ n. c.args.levels - n) c.depth.ensures) c.in-Ended.is c.in_ok-value.ensures.part) c.in-None.ensures.0 c.offset-offset.ensures s
