@@ -5,6 +5,8 @@ pub mod de;
 pub mod laws;
 pub mod ll;
 pub mod ser;
+pub mod value;
 
 pub use de::{from_reader, from_reader_with_buffer, from_reader_with_recursion_limit};
 pub use ser::into_writer;
+pub use value::Value;

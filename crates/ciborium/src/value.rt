@@ -1,0 +1,3 @@
+//! The tree of an item in memory, passed on.
+
+pub use ciborium_value::{Integer, Kind, OutOfRange, Value};
