@@ -1,5 +1,10 @@
 //! The command line: which words are right, and the loop over the lines of the input.
 
+ghost use Rattle.std.specs.Prelude.{◌≡◌, ◌≤◌, ℕ, MatchOption, map, string_bytes};
+ghost use Rattle.std.specs.Option.{SomeIff};
+ghost use Rattle.std.specs.Str.Parse.{digits_value};
+ghost use Rattle.cbor.specs.Words.{AreWrong, AskToRead, IsLimit};
+
 use crate::line::answer_line;
 use std::alloc::{AllocError, Global};
 use std::io::{BufRead, BufReader, ErrorKind, Read, Write};
@@ -48,7 +53,11 @@ pub fn run<R: Read, W: Write, E: Write>(
     input: &mut R,
     output: &mut W,
     errors: &mut E,
-) -> u8 {
+) -> u8
+    ensures wrong { AreWrong (map string_bytes words.now) →
+        (result ≡ 2) × (R.remaining input.new ≡ R.remaining input.old) × (W.contents output.new ≡ W.contents output.old) }
+    ensures right { (limit : ℕ) → AskToRead (map string_bytes words.now) limit → result ≤ 1 }
+{
     let Some(limit) = limit_of(words) else {
         report(errors, "usage: cbor read [limit] | cbor sort\n");
         return 2;
@@ -64,7 +73,9 @@ pub fn run<R: Read, W: Write, E: Write>(
 }
 
 // The limit of levels that the words name, or none where they are wrong.
-fn limit_of(words: &[String]) -> Option<usize> {
+fn limit_of(words: &[String]) -> Option<usize>
+    ensures { MatchOption result (AreWrong (map string_bytes words.now)) (λ n. AskToRead (map string_bytes words.now) n) }
+{
     match words {
         [command] if command.as_str() == "read" => Some(DEFAULT_LIMIT),
         [command, limit] if command.as_str() == "read" => parse_limit(limit.as_str()),
@@ -72,9 +83,11 @@ fn limit_of(words: &[String]) -> Option<usize> {
     }
 }
 
-// The number of one or more digits, if it is a `usize`. No sign stands before it.
-fn parse_limit(text: &str) -> Option<usize> {
-    if !text.bytes().all(|byte| byte.is_ascii_digit()) {
+// The number of one digit or more, if it is a `usize`. No sign stands before it.
+fn parse_limit(text: &str) -> Option<usize>
+    ensures { SomeIff result (IsLimit text.now) (digits_value 10 text.now) }
+{
+    if text.starts_with('+') {
         return None;
     }
     text.parse().ok()
