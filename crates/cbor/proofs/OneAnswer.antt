@@ -13,7 +13,7 @@ use Rattle.ciborium_value.specs.Refuses.{IsGood}
 use Rattle.ciborium_value.specs.Tree.{Tree}
 use Rattle.ciborium_value.proofs.Outcome.{good_or_refused, never_both, one_refusal}
 use Rattle.cbor.specs.Laws.{IsAnswered, OneAnswer}
-use Rattle.cbor.specs.Line.{BytesAnswer, good, trailing, refused, LineAnswer, tree_text, trailing_text, refusal_text}
+use Rattle.cbor.specs.Line.{BytesAnswer, good, trailing, refused, tree_text, trailing_text, refusal_text}
 
 -- hex stands for bytes
 decoded-bytes : (line b : List ℕ) → decode_of line ≡ Ok b → AreBytes b

@@ -126,16 +126,19 @@ fn answers_lines(rt: HostRuntime) -> Result<(), Fail> {
 fn answers_a_line_longer_than_its_buffer(rt: HostRuntime) -> Result<(), Fail> {
     let words = words(&rt, &["read"])?;
     let mut line = String::from_str(rt.alloc(), "5a00004e20")?;
+    let mut answer = String::from_str(rt.alloc(), "ok 594e20")?;
     for _ in 0..20_000 {
         line.push_str("a7")?;
+        answer.push_str("a7")?;
     }
-    line.push('\n')?;
+    answer.push('\n')?;
     let mut input = line.as_bytes();
     let mut output = Vec::new(rt.alloc());
     let mut errors = Vec::new(rt.alloc());
-    assert_eq!(rt; run(rt.alloc(), &words, &mut input, &mut output, &mut errors), 0);
-    let mut answer = String::from_str(rt.alloc(), "ok 594e20")?;
-    answer.push_str(&line.as_str()[10..])?;
+    assert_eq!(rt;
+        run(rt.alloc(), &words, &mut input, &mut output, &mut errors),
+        0
+    );
     assert_eq!(rt; output.as_slice(), answer.as_bytes());
     Ok(())
 }
@@ -268,7 +271,10 @@ fn tells_a_fault_of_the_output(rt: HostRuntime) -> Result<(), Fail> {
         let mut errors = Vec::new(rt.alloc());
         let ended = run(rt.alloc(), &words, &mut input, &mut output, &mut errors);
         assert_eq!(rt; ended, 1, "{room}");
-        assert!(rt; b"ok 00\nok 6161\n".starts_with(output.held.as_slice()), "{room}");
+        assert!(rt;
+            b"ok 00\nok 6161\n".starts_with(output.held.as_slice()),
+            "{room}"
+        );
         assert_eq!(rt; errors.as_slice(), b"output failed\n".as_slice(), "{room}");
     }
     Ok(())
@@ -284,6 +290,9 @@ fn ends_where_nothing_can_be_told(rt: HostRuntime) -> Result<(), Fail> {
         room: 0,
         flush_fails: true,
     };
-    assert_eq!(rt; run(rt.alloc(), &words, &mut input, &mut output, &mut errors), 2);
+    assert_eq!(rt;
+        run(rt.alloc(), &words, &mut input, &mut output, &mut errors),
+        2
+    );
     Ok(())
 }

@@ -1,8 +1,8 @@
-use Rattle.std.proofs.Common.{string_bytes, length, refl, sym, ◌∙◌}
-use Rattle.ciborium_ll.specs.Refusal.{io, syntax, semantic, too_long, recursion_limit_exceeded}
+use Rattle.std.proofs.Common.{Some, string_bytes, length, refl, sym, ap, ◌∙◌}
+use Rattle.ciborium_ll.specs.Refusal.{io, syntax, too_long, recursion_limit_exceeded}
 use Rattle.ciborium_value.specs.View.{tree_of}
 use Rattle.cbor.specs.Line.{tree_text, trailing_text, refusal_text}
-use Rattle.cbor.proofs.Answering.{answered, whole-answer, trailing-answer, refused-answer, named-kind, names-offset, semantic-answer}
+use Rattle.cbor.proofs.Answering.{answered, whole-answer, trailing-answer, refused-answer, nothing-left, named-kind, names-offset, semantic-answer}
 use Rattle.ciborium.specs.Errors.{kind_of}
 use Rattle.cbor.proofs.line.answer_bytes.Goals as goal
 
@@ -33,7 +33,12 @@ returns-in-Ok-2 c =
     (trailing-answer c.args.bytes.now c.args.limit (tree_of c.in-Ok.value) left took (sym c.is_empty.ensures ∙ c.if-is_empty.false)) c.format.ensures.ok
 
 pub returns-in-Err-Io : goal.returns-in-Err-Io
-returns-in-Err-Io c = ?
+returns-in-Err-Io c =
+    let arm = c.in-Err-Io in
+    let h = rw arm.field-0-is at arm.ensures.refused c.args.bytes.now refl in
+    let left = c.from_reader_with_recursion_limit.new.reader.now in
+    answered string_bytes c.args.bytes.now c.args.limit (refusal_text io) c.from_str.result
+    (refused-answer c.args.bytes.now c.args.limit io (h (ap Some (nothing-left left (sym c.if-is_empty-2.ensures))))) c.from_str.ensures.ok
 
 pub returns-in-Err-Syntax : goal.returns-in-Err-Syntax
 returns-in-Err-Syntax c =
