@@ -27,3 +27,10 @@ two-words text (w ∷ (v ∷ [])) command limit r below least e f is h =
     two-texts (text w) (text v) r (ap text (sym e) ∙ is)
     (subst (λ (t : List ℕ). SomeIff r (IsLimit t) (digits_value 10 t)) (ap text f) h)
 two-words text (w ∷ (v ∷ (u ∷ ws))) command limit r below least e f is h = absurd (omega arith)
+
+-- words ask for one limit
+pub one-limit : (words : List (List ℕ)) (m n : ℕ) → AskToRead words m → AskToRead words n → m ≡ n
+one-limit [] m n p q = absurd p
+one-limit (command ∷ []) m n p q = p.1 ∙ sym q.1
+one-limit (command ∷ (limit ∷ [])) m n p q = p.2 ∙ sym q.2
+one-limit (command ∷ (first ∷ (second ∷ others))) m n p q = absurd p

@@ -12,8 +12,8 @@ use std::{env, io};
 
 fn main(rt: HostRuntime) -> ExitCode {
     let alloc = rt.alloc();
-    // Arguments that are no text are wrong ones, as none are.
-    let words = words(&rt).unwrap_or(Vec::new(alloc));
+    // Arguments that cannot be read are wrong ones, as none are.
+    let words = arguments(&rt).unwrap_or(Vec::new(alloc));
     ExitCode::from(run::run(
         alloc,
         &words,
@@ -24,6 +24,6 @@ fn main(rt: HostRuntime) -> ExitCode {
 }
 
 // The arguments without the program's name.
-fn words(rt: &HostRuntime) -> io::Result<Vec<String>> {
+fn arguments(rt: &HostRuntime) -> io::Result<Vec<String>> {
     Ok(env::args(rt)?.skip(1).collect(rt.alloc())?)
 }

@@ -1,19 +1,24 @@
 //! The command line: which words are right, and the loop over the lines of the input.
 
-ghost use Rattle.std.specs.Prelude.{◌≡◌, ◌≤◌, ℕ, MatchOption, map, string_bytes};
+ghost use Rattle.std.specs.Prelude.{◌≡◌, ◌<◌, ◌≤◌, ◌++◌, ◌∷◌, ℕ, IfOk, IsTrue, List, MatchOption, Some, [], length, map, string_bytes};
 ghost use Rattle.std.specs.Option.{SomeIff};
 ghost use Rattle.std.specs.Str.Parse.{digits_value};
+ghost use Rattle.std.specs.Bool.{MatchBool};
+ghost use Rattle.std.specs.Io.BufRead.{drop_through, strip_last};
+ghost use Rattle.std.specs.Io.Buffered.{reader_remaining};
+ghost use Rattle.cbor.specs.Line.{LineAnswer};
+ghost use Rattle.cbor.specs.Lines.{AreAnswered, IsOkAnswer, first_line};
 ghost use Rattle.cbor.specs.Words.{AreWrong, AskToRead, IsLimit};
 
 use crate::line::answer_line;
 use std::alloc::{AllocError, Global};
-use std::io::{BufRead, BufReader, ErrorKind, Read, Write};
+use std::io::{BufRead, BufReader, Read, Write};
 
 // The levels that are allowed where no limit is named.
 const DEFAULT_LIMIT: usize = 256;
 
 // What ends a run early.
-#[derive(Clone, Copy, Debug, PartialEq, Eq)]
+#[derive(Clone, Copy, Debug)]
 enum Fault {
     // The input could not be read.
     Input,
@@ -30,12 +35,6 @@ impl Fault {
             Fault::Output => "output failed\n",
             Fault::Memory => "memory\n",
         }
-    }
-}
-
-impl From<AllocError> for Fault {
-    fn from(_error: AllocError) -> Fault {
-        Fault::Memory
     }
 }
 
@@ -57,6 +56,8 @@ pub fn run<R: Read, W: Write, E: Write>(
     ensures wrong { AreWrong (map string_bytes words.now) →
         (result ≡ 2) × (R.remaining input.new ≡ R.remaining input.old) × (W.contents output.new ≡ W.contents output.old) }
     ensures right { (limit : ℕ) → AskToRead (map string_bytes words.now) limit → result ≤ 1 }
+    ensures answered { (limit : ℕ) (b w : List ℕ) → AskToRead (map string_bytes words.now) limit → R.remaining input.old ≡ Some b →
+        W.contents output.old ≡ Some w → result ≡ 0 → AreAnswered limit b w (W.contents output.new) }
 {
     let Some(limit) = limit_of(words) else {
         report(errors, "usage: cbor read [limit] | cbor sort\n");
@@ -105,27 +106,34 @@ fn read<R: Read, W: Write>(
     limit: usize,
     input: &mut R,
     output: &mut W,
-) -> Result<bool, Fault> {
+) -> Result<bool, Fault>
+    ensures { (b w : List ℕ) → R.remaining input.old ≡ Some b → W.contents output.old ≡ Some w →
+        IfOk result (λ all. IsTrue all → AreAnswered limit b w (W.contents output.new)) }
+{
     let answered = answer_lines(alloc, limit, input, output);
-    match output.flush() {
-        Err(_) if answered.is_ok() => Err(Fault::Output),
-        _ => answered,
+    if output.flush().is_err() && answered.is_ok() {
+        return Err(Fault::Output);
     }
+    answered
 }
 
+// The same, without the flush.
 fn answer_lines<R: Read, W: Write>(
     alloc: Global,
     limit: usize,
     input: &mut R,
     output: &mut W,
-) -> Result<bool, Fault> {
-    let Ok(mut input) = BufReader::new(alloc, input) else {
+) -> Result<bool, Fault>
+    ensures { (b w : List ℕ) → R.remaining input.old ≡ Some b → W.contents output.old ≡ Some w →
+        IfOk result (λ all. IsTrue all → AreAnswered limit b w (W.contents output.new)) }
+{
+    let Ok(mut reader) = BufReader::new(alloc, input) else {
         return Err(Fault::Memory);
     };
     let mut line = Vec::new(alloc);
     let mut all_items = true;
-    for _ in 0..u64::MAX {
-        if !read_line(&mut input, &mut line)? {
+    'lines: for _ in 0..u64::MAX {
+        if !read_line(&mut reader, &mut line)? {
             return Ok(all_items);
         }
         let is_item = write_answer(alloc, &line, limit, output)?;
@@ -134,44 +142,33 @@ fn answer_lines<R: Read, W: Write>(
     Err(Fault::Input)
 }
 
-// Reads a line, without the line feed and carriage return at its end, or says that none is left.
-fn read_line<R: BufRead>(input: &mut R, line: &mut Vec<u8>) -> Result<bool, Fault> {
+// Reads a line, without the line feed and a carriage return at its end, or says that none is left.
+fn read_line<R: Read>(input: &mut BufReader<R>, line: &mut Vec<u8>) -> Result<bool, Fault>
+    ensures { (b : List ℕ) → reader_remaining R.remaining input.old ≡ Some b → IfOk result (λ read. MatchBool read
+        ((0 < length b) × (line.new.items ≡ first_line b) × (reader_remaining R.remaining input.new ≡ Some (drop_through 10 b)))
+        (b ≡ [])) }
+{
     line.clear();
-    if !read_to_line_feed(input, line)? {
-        return Ok(false);
+    match input.read_until(b'\n', line) {
+        Ok(0) => Ok(false),
+        Ok(_) => {
+            drop_last(line, b'\n');
+            drop_last(line, b'\r');
+            Ok(true)
+        }
+        // Bytes that no memory was left to hold are still in the buffer.
+        Err(_) if !input.buffer().is_empty() => Err(Fault::Memory),
+        Err(_) => Err(Fault::Input),
     }
-    if line.last() == Some(&b'\r') {
-        line.pop();
-    }
-    Ok(true)
 }
 
-// Appends what stands before the next line feed, which is taken too, or before the end, or says that
-// the input has ended.
-fn read_to_line_feed<R: BufRead>(input: &mut R, line: &mut Vec<u8>) -> Result<bool, Fault> {
-    for _ in 0..u64::MAX {
-        let ahead = match input.fill_buf() {
-            Ok(ahead) => ahead,
-            Err(error) if error.kind() == ErrorKind::Interrupted => continue,
-            Err(_) => return Err(Fault::Input),
-        };
-        if ahead.is_empty() {
-            return Ok(!line.is_empty());
-        }
-        match ahead.iter().position(|byte| *byte == b'\n') {
-            Some(end) => {
-                line.extend_from_slice(&ahead[..end])?;
-                input.consume(end + 1);
-                return Ok(true);
-            }
-            None => {
-                let taken = ahead.len();
-                line.extend_from_slice(ahead)?;
-                input.consume(taken);
-            }
-        }
+// Drops the last byte, if it is this one.
+fn drop_last(line: &mut Vec<u8>, byte: u8)
+    ensures { line.new.items ≡ strip_last byte line.old.items }
+{
+    if line.last() == Some(&byte) {
+        line.pop();
     }
-    Err(Fault::Input)
 }
 
 // Writes the answer to a line, and says whether the line is an item.
@@ -180,22 +177,26 @@ fn write_answer<W: Write>(
     line: &[u8],
     limit: usize,
     output: &mut W,
-) -> Result<bool, Fault> {
-    let (is_item, written) = match line_of_answer(alloc, line, limit) {
-        Ok(answer) => (
-            answer.as_str().starts_with("ok "),
-            output.write_all(answer.as_bytes()),
-        ),
-        Err(AllocError) => (false, output.write_all(b"memory\n")),
+) -> Result<bool, Fault>
+    ensures { (w : List ℕ) → W.contents output.old ≡ Some w → IfOk result (λ is_item. IsTrue is_item →
+        (answer : List ℕ) × LineAnswer line.now limit answer × IsOkAnswer answer × (W.contents output.new ≡ Some (w ++ (answer ++ (10 ∷ []))))) }
+{
+    let Ok(answer) = line_of_answer(alloc, line, limit) else {
+        return match output.write_all(b"memory\n") {
+            Ok(()) => Ok(false),
+            Err(_) => Err(Fault::Output),
+        };
     };
-    match written {
-        Ok(()) => Ok(is_item),
+    match output.write_all(answer.as_bytes()) {
+        Ok(()) => Ok(answer.as_bytes().starts_with(b"ok ")),
         Err(_) => Err(Fault::Output),
     }
 }
 
 // The answer to a line, and a line feed.
-fn line_of_answer(alloc: Global, line: &[u8], limit: usize) -> Result<String, AllocError> {
+fn line_of_answer(alloc: Global, line: &[u8], limit: usize) -> Result<String, AllocError>
+    ensures { IfOk result (λ text. (answer : List ℕ) × LineAnswer line.now limit answer × (string_bytes text ≡ answer ++ (10 ∷ []))) }
+{
     let mut answer = answer_line(alloc, line, limit)?;
     answer.push('\n')?;
     Ok(answer)
