@@ -1,0 +1,4 @@
+pub mod Answering
+pub mod AnsweredLines
+pub mod AskedWords
+pub mod OneAnswer

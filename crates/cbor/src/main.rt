@@ -1,0 +1,29 @@
+//! `cbor read` answers lines of hex: which bytes are a CBOR item (RFC 8949), and its one shortest
+//! encoding.
+#![tactic(auto)]
+
+mod laws;
+mod line;
+mod run;
+
+use std::io::Lock;
+use std::process::ExitCode;
+use std::{env, io};
+
+fn main(rt: HostRuntime) -> ExitCode {
+    let alloc = rt.alloc();
+    // Arguments that cannot be read are wrong ones, as none are.
+    let words = arguments(&rt).unwrap_or(Vec::new(alloc));
+    ExitCode::from(run::run(
+        alloc,
+        &words,
+        &mut rt.stdin().lock(),
+        &mut rt.stdout().lock(),
+        &mut rt.stderr().lock(),
+    ))
+}
+
+// The arguments without the program's name.
+fn arguments(rt: &HostRuntime) -> io::Result<Vec<String>> {
+    Ok(env::args(rt)?.skip(1).collect(rt.alloc())?)
+}
