@@ -1,12 +1,9 @@
 -- Known bytes and a limit leave one answer.
-use Rattle.std.proofs.Common.{◌≡◌, ℕ, ◌⊎◌, List, ◌++◌, Option, Some, None, option_map, Result, Ok, Err, sym, ap, ◌∙◌, inl, inr, refl}
+use Rattle.std.proofs.Common.{◌≡◌, ℕ, ◌⊎◌, List, Option, Some, None, option_map, Ok, Err, sym, ap, ◌∙◌, inl, inr, refl}
 use Rattle.std.specs.declared.io.Error.{Error as IoError}
-use Rattle.ciborium_ll.specs.Bytes.{AreBytes}
 use Rattle.ciborium_ll.specs.Refusal as refusal
 use Rattle.ciborium_ll.specs.Refusal.{Refusal}
 use Rattle.ciborium_ll.proofs.UniqueSpelling.{one_at_front}
-use Rattle.ciborium_value.specs.declared.kind.Kind.{Kind}
-use Rattle.ciborium_value.specs.declared.value.Value.{Value}
 use Rattle.ciborium_value.specs.Meaning.{meaning}
 use Rattle.ciborium_value.specs.Refuses.{Refuses}
 use Rattle.ciborium_value.specs.Tree.{Tree}
@@ -15,7 +12,7 @@ use Rattle.ciborium_value.proofs.Outcome.{never_both, one_refusal}
 use Rattle.ciborium.specs.declared.de.error.Error.{Error}
 use Rattle.ciborium.specs.declared.de.error.Error.TheVariants as errors
 use Rattle.ciborium.specs.AnswerLaws.{refusal_of, OneAnswer}
-use Rattle.ciborium.specs.Answers.{ReadsValue, TakesValue, IsFailure}
+use Rattle.ciborium.specs.Answers.{IsFailure}
 use Rattle.ciborium.specs.Errors.{RefusedBy, IsNamed, kind_of}
 use Rattle.ciborium.proofs.Outcomes.{only-fails}
 

@@ -1,9 +1,9 @@
 -- What bytes within the greatest offset mean is a tree that a program can hold.
-use Rattle.std.proofs.Common.{◌≡◌, ℕ, suc, ◌+◌, ◌*◌, ◌^◌, ◌<◌, ◌≤◌, cond, ltb, leb, eqb, Bool, true, false, ◌||◌, List, [], ◌∷◌, ◌++◌, length, Option, Some, None, refl, ap, ◌∙◌, subst, sym, arith, length-append, IsUtf8, option_map, pos, negsuc, ltb-true}
+use Rattle.std.proofs.Common.{◌≡◌, ℕ, ◌+◌, ◌*◌, ◌^◌, ◌<◌, ◌≤◌, cond, ltb, leb, eqb, Bool, true, false, ◌||◌, List, [], ◌∷◌, ◌++◌, length, Option, Some, None, refl, ap, ◌∙◌, subst, sym, arith, length-append, IsUtf8, option_map, pos, negsuc, ltb-true}
 use Rattle.std.proofs.lemmas.Str.{IsUtf8-append, IsUtf8-nil}
 use Rattle.std.proofs.lemmas.List.Elements.{All-append, All-nil, All-from_recursion, recursion_from_All}
 use Rattle.ciborium_ll.specs.Bytes.{AreBytes, greatest_offset}
-use Rattle.ciborium_ll.specs.Head.{Width, within, one_byte, two_bytes, four_bytes, eight_bytes, Head}
+use Rattle.ciborium_ll.specs.Head.{within, one_byte, two_bytes, four_bytes, eight_bytes, Head}
 use Rattle.ciborium_ll.specs.Item.{Item, unsigned, negative, bytes, text, array, map, tag, simple, float, Items, no_items, item, items_count, Pairs, no_pairs, pair, pairs_count}
 use Rattle.ciborium_ll.specs.Proper.{IsArgument, IsProperBytes}
 use Rattle.ciborium_ll.specs.Spells.{AnyBytes, AreParts, joined, IsString, Encloses, Spells, SpellsItems, SpellsPairs}
