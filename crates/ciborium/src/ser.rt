@@ -1,6 +1,6 @@
 //! Values to bytes.
 
-ghost use Rattle.std.specs.Prelude.{◌≡◌, ◌<◌, ◌++◌, IfErr, OnOk};
+ghost use Rattle.std.specs.Prelude.{◌≡◌, ◌<◌, ◌++◌, IfErr, IsSome, OnErr, OnOk};
 ghost use Rattle.ciborium_ll.specs.Bytes.{AreBytes};
 ghost use Rattle.ciborium_ll.specs.Header.{IsWritable, header_bytes};
 ghost use Rattle.ciborium_ll.specs.Writing.{Writes, writer_of};
@@ -47,51 +47,122 @@ pub fn into_writer<W: Write>(value: &Value, writer: &mut W) -> Result<(), Error<
     ensures proper { OnOk result (IsProperTree (tree_of value.now)) }
 {
     let mut encoder = Encoder::new(writer);
-    write_value(&mut encoder, value)?;
-    Ok(())
+    let mut failure = None;
+    match write_value(&mut encoder, value, &mut failure) {
+        Ok(()) => Ok(()),
+        Err(Failed) => match failure {
+            Some(error) => Err(Error::Io(error)),
+            None => unreachable!(),
+        },
+    }
+}
+
+// The writer has failed, and its error is kept aside: it is large, and a result that held it would be
+// moved at every level.
+struct Failed;
+
+// Writes a head.
+#[inline(always)]
+fn push<W: Write>(
+    encoder: &mut Encoder<'_, W>,
+    header: Header,
+    failure: &mut Option<io::Error>,
+) -> Result<(), Failed>
+    requires { IsWritable header }
+    ensures same_writer { (writer_of encoder.new).ghost_name ≡ (writer_of encoder.old).ghost_name }
+    ensures bytes { Writes (W.contents (writer_of encoder.old).now) (W.contents (writer_of encoder.new).now) result (header_bytes header) }
+    ensures kept { OnErr result (IsSome failure.new) }
+{
+    match encoder.push(header) {
+        Ok(()) => Ok(()),
+        Err(error) => {
+            *failure = Some(error);
+            Err(Failed)
+        }
+    }
+}
+
+// Writes bytes as they are.
+#[inline(always)]
+fn write_all<W: Write>(
+    encoder: &mut Encoder<'_, W>,
+    bytes: &[u8],
+    failure: &mut Option<io::Error>,
+) -> Result<(), Failed>
+    ensures same_writer { (writer_of encoder.new).ghost_name ≡ (writer_of encoder.old).ghost_name }
+    ensures bytes { Writes (W.contents (writer_of encoder.old).now) (W.contents (writer_of encoder.new).now) result bytes.now }
+    ensures kept { OnErr result (IsSome failure.new) }
+{
+    match encoder.write_all(bytes) {
+        Ok(()) => Ok(()),
+        Err(error) => {
+            *failure = Some(error);
+            Err(Failed)
+        }
+    }
 }
 
 // Writes the encoding of a value.
 #[cycle(write_value)]
 #[inline(always)]
-fn write_value<W: Write>(encoder: &mut Encoder<'_, W>, value: &Value) -> io::Result<()>
+fn write_value<W: Write>(
+    encoder: &mut Encoder<'_, W>,
+    value: &Value,
+    failure: &mut Option<io::Error>,
+) -> Result<(), Failed>
     ensures same_writer { (writer_of encoder.new).ghost_name ≡ (writer_of encoder.old).ghost_name }
     ensures bytes { Writes (W.contents (writer_of encoder.old).now) (W.contents (writer_of encoder.new).now) result (encoding (tree_of value.now)) }
+    ensures kept { OnErr result (IsSome failure.new) }
     ensures proper { OnOk result (IsProperTree (tree_of value.now)) }
 {
     match value {
-        Value::Integer(number) => encoder.push(integer_head(*number)),
-        Value::Bytes(bytes) => write_string(encoder, Header::Bytes(Some(bytes.len())), bytes),
+        Value::Integer(number) => push(encoder, integer_head(*number), failure),
+        Value::Bytes(bytes) => write_string(
+            encoder,
+            Header::Bytes(Some(bytes.len())),
+            bytes,
+            failure,
+        ),
         Value::Text(text) => {
-            write_string(encoder, Header::Text(Some(text.len())), text.as_bytes())
+            write_string(
+                encoder,
+                Header::Text(Some(text.len())),
+                text.as_bytes(),
+                failure,
+            )
         }
-        Value::Bool(false) => encoder.push(Header::Simple(20)),
-        Value::Bool(true) => encoder.push(Header::Simple(21)),
-        Value::Null => encoder.push(Header::Simple(22)),
+        Value::Bool(false) => push(encoder, Header::Simple(20), failure),
+        Value::Bool(true) => push(encoder, Header::Simple(21), failure),
+        Value::Null => push(encoder, Header::Simple(22), failure),
         Value::Tag(tag, content) => {
-            encoder.push(Header::Tag(*tag))?;
-            write_value(encoder, content)
+            push(encoder, Header::Tag(*tag), failure)?;
+            write_value(encoder, content, failure)
         }
         Value::Array(items) => {
-            encoder.push(Header::Array(Some(items.len())))?;
-            write_items(encoder, items)
+            push(encoder, Header::Array(Some(items.len())), failure)?;
+            write_items(encoder, items, failure)
         }
         Value::Map(pairs) => {
-            encoder.push(Header::Map(Some(pairs.len())))?;
-            write_pairs(encoder, pairs)
+            push(encoder, Header::Map(Some(pairs.len())), failure)?;
+            write_pairs(encoder, pairs, failure)
         }
     }
 }
 
 // Writes the encoding of each value, in order.
 #[cycle(write_value)]
-fn write_items<W: Write>(encoder: &mut Encoder<'_, W>, items: &Vec<Value>) -> io::Result<()>
+fn write_items<W: Write>(
+    encoder: &mut Encoder<'_, W>,
+    items: &Vec<Value>,
+    failure: &mut Option<io::Error>,
+) -> Result<(), Failed>
     ensures same_writer { (writer_of encoder.new).ghost_name ≡ (writer_of encoder.old).ghost_name }
     ensures bytes { Writes (W.contents (writer_of encoder.old).now) (W.contents (writer_of encoder.new).now) result (encodings items.now.items) }
+    ensures kept { OnErr result (IsSome failure.new) }
     ensures proper { OnOk result (AreProperTrees (trees_of items.now.items)) }
 {
     for item in items {
-        write_value(encoder, item)?;
+        write_value(encoder, item, failure)?;
     }
     Ok(())
 }
@@ -101,14 +172,16 @@ fn write_items<W: Write>(encoder: &mut Encoder<'_, W>, items: &Vec<Value>) -> io
 fn write_pairs<W: Write>(
     encoder: &mut Encoder<'_, W>,
     pairs: &Vec<(Value, Value)>,
-) -> io::Result<()>
+    failure: &mut Option<io::Error>,
+) -> Result<(), Failed>
     ensures same_writer { (writer_of encoder.new).ghost_name ≡ (writer_of encoder.old).ghost_name }
     ensures bytes { Writes (W.contents (writer_of encoder.old).now) (W.contents (writer_of encoder.new).now) result (pair_encodings pairs.now.items) }
+    ensures kept { OnErr result (IsSome failure.new) }
     ensures proper { OnOk result (AreProperTreePairs (tree_pairs_of pairs.now.items)) }
 {
     for pair in pairs {
-        write_value(encoder, &pair.0)?;
-        write_value(encoder, &pair.1)?;
+        write_value(encoder, &pair.0, failure)?;
+        write_value(encoder, &pair.1, failure)?;
     }
     Ok(())
 }
@@ -119,14 +192,16 @@ fn write_string<W: Write>(
     encoder: &mut Encoder<'_, W>,
     header: Header,
     payload: &[u8],
-) -> io::Result<()>
+    failure: &mut Option<io::Error>,
+) -> Result<(), Failed>
     requires { IsWritable header }
     ensures same_writer { (writer_of encoder.new).ghost_name ≡ (writer_of encoder.old).ghost_name }
     ensures bytes { Writes (W.contents (writer_of encoder.old).now) (W.contents (writer_of encoder.new).now) result (header_bytes header ++ payload.now) }
+    ensures kept { OnErr result (IsSome failure.new) }
     ensures payload { AreBytes payload.now }
 {
-    encoder.push(header)?;
-    encoder.write_all(payload)
+    push(encoder, header, failure)?;
+    write_all(encoder, payload, failure)
 }
 
 // The head that is all of a number.

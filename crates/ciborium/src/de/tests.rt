@@ -303,3 +303,16 @@ fn values_nest_within_256_levels(rt: HostRuntime) -> Result<(), Fail> {
     assert_eq!(rt; reason_of(error), Reason::Nesting);
     Ok(())
 }
+
+// Under `rt try --test --fail-alloc N` the growth with this number is refused.
+#[test]
+fn a_refused_growth_is_memory(rt: HostRuntime) -> Result<(), Fail> {
+    let mut reader: &[u8] = &[
+        0xbf, 0x61, 0x61, 0x01, 0x61, 0x62, 0x9f, 0x02, 0x03, 0xff, 0xff,
+    ];
+    match from_reader(rt.alloc(), &mut reader) {
+        Ok(value) => assert!(rt; matches!(value.as_map(), Some(pairs) if pairs.len() == 2)),
+        Err(error) => assert_eq!(rt; reason_of(error), Reason::Memory),
+    }
+    Ok(())
+}
