@@ -122,6 +122,101 @@ fn answers_lines(rt: HostRuntime) -> Result<(), Fail> {
     Ok(())
 }
 
+// The items of RFC 8949, appendix A, that hold no float and are in the one shortest definite encoding.
+const SHORTEST: [&str; 44] = [
+    "00",
+    "01",
+    "0a",
+    "17",
+    "1818",
+    "1819",
+    "1864",
+    "1903e8",
+    "1a000f4240",
+    "1b000000e8d4a51000",
+    "1bffffffffffffffff",
+    "c249010000000000000000",
+    "3bffffffffffffffff",
+    "c349010000000000000000",
+    "20",
+    "29",
+    "3863",
+    "3903e7",
+    "f4",
+    "f5",
+    "f6",
+    "c074323031332d30332d32315432303a30343a30305a",
+    "c11a514b67b0",
+    "d74401020304",
+    "d818456449455446",
+    "d82076687474703a2f2f7777772e6578616d706c652e636f6d",
+    "40",
+    "4401020304",
+    "60",
+    "6161",
+    "6449455446",
+    "62225c",
+    "62c3bc",
+    "63e6b0b4",
+    "64f0908591",
+    "80",
+    "83010203",
+    "8301820203820405",
+    "98190102030405060708090a0b0c0d0e0f101112131415161718181819",
+    "a0",
+    "a201020304",
+    "a26161016162820203",
+    "826161a161626163",
+    "a56161614161626142616361436164614461656145",
+];
+
+// The others without floats and unassigned simple values, and the shortest definite encoding.
+const OPEN: [(&str, &str); 12] = [
+    ("f7", "f6"),
+    ("5f42010243030405ff", "450102030405"),
+    ("7f657374726561646d696e67ff", "6973747265616d696e67"),
+    ("9fff", "80"),
+    ("9f018202039f0405ffff", "8301820203820405"),
+    ("9f01820203820405ff", "8301820203820405"),
+    ("83018202039f0405ff", "8301820203820405"),
+    ("83019f0203ff820405", "8301820203820405"),
+    (
+        "9f0102030405060708090a0b0c0d0e0f101112131415161718181819ff",
+        "98190102030405060708090a0b0c0d0e0f101112131415161718181819",
+    ),
+    ("bf61610161629f0203ffff", "a26161016162820203"),
+    ("826161bf61626163ff", "826161a161626163"),
+    ("bf6346756ef563416d7421ff", "a26346756ef563416d7421"),
+];
+
+fn answered(rt: &HostRuntime, line: &str) -> Result<Vec<u8>, Fail> {
+    let words = words(rt, &["read"])?;
+    let mut input = line.as_bytes();
+    let mut output = Vec::new(rt.alloc());
+    let mut errors = Vec::new(rt.alloc());
+    let _status = run(rt.alloc(), &words, &mut input, &mut output, &mut errors);
+    Ok(output)
+}
+
+#[test]
+fn answers_the_items_of_the_standard(rt: HostRuntime) -> Result<(), Fail> {
+    for item in SHORTEST {
+        let answer = format!(in rt.alloc(); "ok {item}\n")?;
+        assert_eq!(rt; answered(&rt, item)?.as_slice(), answer.as_bytes());
+    }
+    for (item, encoding) in OPEN {
+        let answer = format!(in rt.alloc(); "ok {encoding}\n")?;
+        assert_eq!(rt; answered(&rt, item)?.as_slice(), answer.as_bytes());
+    }
+    for item in ["f0", "f8ff"] {
+        assert_eq!(rt;
+            answered(&rt, item)?.as_slice(),
+            b"semantic 0 simple\n".as_slice()
+        );
+    }
+    Ok(())
+}
+
 #[test]
 fn answers_a_line_longer_than_its_buffer(rt: HostRuntime) -> Result<(), Fail> {
     let words = words(&rt, &["read"])?;

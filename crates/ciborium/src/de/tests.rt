@@ -62,7 +62,7 @@ fn written(rt: &HostRuntime, value: &Value) -> Result<Vec<u8>, Fail> {
 }
 
 // Bytes, a limit of levels, and the encoding of what they mean.
-const ITEMS: [(&[u8], usize, &[u8]); 26] = [
+const ITEMS: [(&[u8], usize, &[u8]); 30] = [
     (&[0x00], 0, &[0x00]),
     (&[0x1b, 0, 0, 0, 0, 0, 0, 0, 0x17], 0, &[0x17]),
     (&[0x38, 0x18], 0, &[0x38, 0x18]),
@@ -82,6 +82,38 @@ const ITEMS: [(&[u8], usize, &[u8]); 26] = [
         &[0xc2, 0x49, 1, 0, 0, 0, 0, 0, 0, 0, 0],
     ),
     (&[0xc2, 0x5f, 0x41, 0x01, 0xff], 1, &[0xc2, 0x41, 0x01]),
+    (
+        &[
+            0xc2, 0x50, 0x80, 0, 0, 0, 0, 0, 0, 0, 0, 0, 0, 0, 0, 0, 0, 0,
+        ],
+        0,
+        &[
+            0xc2, 0x50, 0x80, 0, 0, 0, 0, 0, 0, 0, 0, 0, 0, 0, 0, 0, 0, 0,
+        ],
+    ),
+    (
+        &[
+            0xc2, 0x51, 0, 0, 0, 0, 0, 0, 0, 0, 0, 0, 0, 0, 0, 0, 0, 0, 0,
+        ],
+        1,
+        &[
+            0xc2, 0x51, 0, 0, 0, 0, 0, 0, 0, 0, 0, 0, 0, 0, 0, 0, 0, 0, 0,
+        ],
+    ),
+    (
+        &[
+            0xc2, 0x54, 0, 0, 0, 0, 0, 0, 0, 0, 0, 0, 0, 0, 0, 0, 0, 0, 0, 0, 0, 1,
+        ],
+        1,
+        &[
+            0xc2, 0x54, 0, 0, 0, 0, 0, 0, 0, 0, 0, 0, 0, 0, 0, 0, 0, 0, 0, 0, 0, 1,
+        ],
+    ),
+    (
+        &[0x9f, 0x01, 0x82, 0x02, 0x03, 0x9f, 0x04, 0x05, 0xff, 0xff],
+        2,
+        &[0x83, 0x01, 0x82, 0x02, 0x03, 0x82, 0x04, 0x05],
+    ),
     (&[0xc1, 0xc2, 0x41, 0x05], 1, &[0xc1, 0x05]),
     (&[0x5f, 0xff], 0, &[0x40]),
     (&[0x7f, 0x60, 0xff], 0, &[0x60]),
@@ -114,7 +146,7 @@ const ITEMS: [(&[u8], usize, &[u8]); 26] = [
 ];
 
 // Bytes, a limit of levels, and why they are refused.
-const REFUSED: [(&[u8], usize, Reason); 33] = [
+const REFUSED: [(&[u8], usize, Reason); 40] = [
     (&[], 9, Reason::Io(ErrorKind::UnexpectedEof)),
     (&[0x1e], 9, Reason::Syntax(0)),
     (&[0x83, 0x01, 0x1f, 0x03], 9, Reason::Syntax(2)),
@@ -180,6 +212,39 @@ const REFUSED: [(&[u8], usize, Reason); 33] = [
         &[0x5b, 255, 255, 255, 255, 255, 255, 255, 255],
         9,
         Reason::TooLong,
+    ),
+    (
+        &[0x9b, 0x80, 0, 0, 0, 0, 0, 0, 0],
+        9,
+        Reason::Io(ErrorKind::UnexpectedEof),
+    ),
+    (
+        &[0xbb, 0x80, 0, 0, 0, 0, 0, 0, 0, 0x01, 0x02],
+        9,
+        Reason::Io(ErrorKind::UnexpectedEof),
+    ),
+    (
+        &[0x5b, 255, 255, 255, 255, 255, 255, 255, 0xf6],
+        9,
+        Reason::Io(ErrorKind::UnexpectedEof),
+    ),
+    (
+        &[0x5b, 255, 255, 255, 255, 255, 255, 255, 0xf7],
+        9,
+        Reason::TooLong,
+    ),
+    (
+        &[0x81, 0x5b, 255, 255, 255, 255, 255, 255, 255, 0xf6],
+        9,
+        Reason::TooLong,
+    ),
+    (&[0x5f], 9, Reason::Io(ErrorKind::UnexpectedEof)),
+    (
+        &[
+            0xc2, 0x51, 0, 0, 0, 0, 0, 0, 0, 0, 0, 0, 0, 0, 0, 0, 0, 0, 0,
+        ],
+        0,
+        Reason::Nesting,
     ),
     (&[0x5f, 0x5f, 0x41, 0x01, 0xff, 0xff], 9, Reason::Syntax(1)),
     (&[0x5f, 0xf7, 0xff], 9, Reason::Syntax(1)),
@@ -301,6 +366,26 @@ fn values_nest_within_256_levels(rt: HostRuntime) -> Result<(), Fail> {
         return Err("read".into());
     };
     assert_eq!(rt; reason_of(error), Reason::Nesting);
+    let mut reader = deeper.as_slice();
+    assert!(rt; from_reader_with_recursion_limit(rt.alloc(), &mut reader, usize::MAX).is_ok());
+    Ok(())
+}
+
+#[test]
+fn open_levels_are_counted_up_to_any_limit(rt: HostRuntime) -> Result<(), Fail> {
+    let mut bytes = Vec::new(rt.alloc());
+    bytes.resize(100000, 0x81)?;
+    for (limit, reason) in [
+        (100000, Reason::Io(ErrorKind::UnexpectedEof)),
+        (99999, Reason::Nesting),
+    ] {
+        let mut reader = bytes.as_slice();
+        let answer = from_reader_with_recursion_limit(rt.alloc(), &mut reader, limit);
+        let Err(error) = answer else {
+            return Err("read".into());
+        };
+        assert_eq!(rt; reason_of(error), reason);
+    }
     Ok(())
 }
 
