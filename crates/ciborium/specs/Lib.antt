@@ -6,3 +6,6 @@ pub mod Parts
 pub mod Answers
 pub mod Writes
 pub mod AnswerLaws
+pub mod Heads
+pub mod Visits
+pub mod EncodingLaws

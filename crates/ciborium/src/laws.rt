@@ -1,6 +1,7 @@
 //! The laws of the library: those of reading, and those passed on from the crates that prove them.
 
 ghost use Rattle.ciborium.specs.AnswerLaws.{OneAnswer};
+ghost use Rattle.ciborium.specs.EncodingLaws.{EncodingSpells, HeadsRise, OneTree, OthersAreLonger};
 
 pub use ciborium_ll::laws::{header_bytes_spell, one_header, shortest_head, unique_spelling};
 pub use ciborium_value::laws::{
@@ -14,4 +15,14 @@ pub use ciborium_value::laws::{
 /// or on which of the calls was made.
 pub fn one_answer()
     ensures { OneAnswer }
+{}
+
+/// A tree that a program can hold has an encoding of its own, which is the one shortest spelling of
+/// its item with definite strings, arrays and maps. The shortest heads of one major type rise
+/// bytewise with their numbers (RFC 8949, sections 4.1 and 4.2.1).
+pub fn encoding_is_shortest()
+    ensures one_tree { OneTree }
+    ensures spells { EncodingSpells }
+    ensures others { OthersAreLonger }
+    ensures heads { HeadsRise }
 {}

@@ -1,3 +1,5 @@
-//! The tree of an item in memory, passed on.
+//! Values, passed on, and their canonical order.
+
+pub mod canonical;
 
 pub use ciborium_value::{Integer, Kind, OutOfRange, Value};

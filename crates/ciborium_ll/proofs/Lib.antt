@@ -3,7 +3,7 @@ pub mod UsableHeads
 pub mod ReadHeads
 mod ItemReader
 pub mod UniqueSpelling
-mod ShortestHead
+pub mod ShortestHead
 pub mod OneHeader
 mod HeaderBytes
 pub mod HeadAnswers

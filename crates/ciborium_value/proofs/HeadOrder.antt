@@ -26,7 +26,7 @@ by_places Equal Equal a b r s p l k h m = rw h (omega (arith, m))
 by_places Equal Greater a b r s p l k h m = rw h (omega (arith, m))
 
 -- the high place decides, and then the low one
-places : (a b r s p : ℕ) → r < p → s < p → ordering_then (nat_cmp a b) (nat_cmp r s) ≡ nat_cmp (a * p + r) (b * p + s)
+pub places : (a b r s p : ℕ) → r < p → s < p → ordering_then (nat_cmp a b) (nat_cmp r s) ≡ nat_cmp (a * p + r) (b * p + s)
 places a b r s p l k =
     nat_cmp_is (a * p + r) (b * p + s) _ (by_places (nat_cmp a b) (nat_cmp r s) a b r s p l k (ranked a b _ refl) (ranked r s _ refl))
 
@@ -49,7 +49,7 @@ bytes_in_order (suc k) n m =
     (places (n / p % 256) (m / p % 256) (n % p) (m % p) p (mod_below n p above) (mod_below m p above))
 
 -- the same for numbers that the length holds
-arguments_in_order : (k n m : ℕ) → n < 256 ^ k → m < 256 ^ k → slice_cmp nat_cmp (bytes_high_first k n) (bytes_high_first k m) ≡ nat_cmp n m
+pub arguments_in_order : (k n m : ℕ) → n < 256 ^ k → m < 256 ^ k → slice_cmp nat_cmp (bytes_high_first k n) (bytes_high_first k m) ≡ nat_cmp n m
 arguments_in_order k n m h l = bytes_in_order k n m ∙ rw (mod-eq_of_lt h, mod-eq_of_lt l) refl
 
 -- ---- heads
@@ -90,7 +90,7 @@ in_order four_bytes four_bytes b c n m h l = wide b c 26 (bytes_high_first 4 n) 
 in_order eight_bytes eight_bytes b c n m h l = wide b c 27 (bytes_high_first 8 n) (bytes_high_first 8 m) n m (lit< tt) (arguments_in_order 8 n m h l)
 in_order f g b c n m h l = refl
 
-narrowest-holds : (n : ℕ) → n < 2 ^ 64 → n < capacity (narrowest n)
+pub narrowest-holds : (n : ℕ) → n < 2 ^ 64 → n < capacity (narrowest n)
 narrowest-holds n h = grind (arith, capacity, narrowest)
 
 pub integers_in_order : (b c : Bool) (n m : ℕ) → n < 2 ^ 64 → m < 2 ^ 64 →

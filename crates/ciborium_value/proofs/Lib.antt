@@ -1,6 +1,7 @@
 pub mod Views
 pub mod Derived
 pub mod OrderedTrees
+pub mod CanonicalValues
 pub mod HeadOrder
 pub mod Bignums
 pub mod Folding

@@ -70,11 +70,11 @@ mutual
 
 -- ---- the item of a proper tree is proper
 
-items_count-items_of : (vs : Trees) → items_count (items_of vs) ≡ trees_count vs
+pub items_count-items_of : (vs : Trees) → items_count (items_of vs) ≡ trees_count vs
 items_count-items_of trees.no_trees = refl
 items_count-items_of (trees.tree v vs) = ap suc (items_count-items_of vs)
 
-pairs_count-pairs_of : (ps : TreePairs) → pairs_count (pairs_of ps) ≡ tree_pairs_count ps
+pub pairs_count-pairs_of : (ps : TreePairs) → pairs_count (pairs_of ps) ≡ tree_pairs_count ps
 pairs_count-pairs_of trees.no_tree_pairs = refl
 pairs_count-pairs_of (trees.tree_pair k v ps) = ap suc (pairs_count-pairs_of ps)
 

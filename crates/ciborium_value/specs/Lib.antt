@@ -19,3 +19,4 @@ pub mod OrderLaws
 pub mod Examples
 pub mod Open
 pub mod Stack
+pub mod CanonicalValues

@@ -1,0 +1,38 @@
+-- Of values that a program holds, the order of canonical values is the canonical order.
+use Rattle.std.proofs.Common.{◌≡◌, refl, sym, ◌∙◌, Ordering, Less, Equal, Greater, nat_cmp}
+use Rattle.std.specs.Cmp.Lexicographic.{slice_cmp}
+use Rattle.std.specs.Ordering.{ordering_then}
+use Rattle.ciborium_value.specs.Canonical.{canonical_order}
+use Rattle.ciborium_value.specs.CanonicalValues.{canonical_value_cmp}
+use Rattle.ciborium_value.specs.Derived.{value_cmp}
+use Rattle.ciborium_value.specs.Encoding.{encoding, encoded_size}
+use Rattle.ciborium_value.specs.Proper.{IsProperTree}
+use Rattle.ciborium_value.specs.Tree.{Tree}
+use Rattle.ciborium_value.specs.View.{tree_of}
+use Rattle.ciborium_value.specs.declared.value.Value.{Value}
+use Rattle.ciborium_value.proofs.Derived.{value_cmp-is}
+use Rattle.ciborium_value.proofs.OrderedTrees.{tied_where_equal}
+use Rattle.ciborium.proofs.TreeEncodings.{tied_encodings}
+use Rattle.ciborium.proofs.EncodingLaws.{one_tree}
+
+-- a first order whose ties are those of the second decides
+first_decides : (o p : Ordering) → (o ≡ Equal → p ≡ Equal) → o ≡ ordering_then o p
+first_decides Less p h = refl
+first_decides Equal p h = sym (h refl)
+first_decides Greater p h = refl
+
+second_tied : (o p : Ordering) → ordering_then o p ≡ Equal → p ≡ Equal
+second_tied Less p e = absurd cc
+second_tied Equal p e = e
+second_tied Greater p e = absurd cc
+
+-- proper trees that the canonical order ties are one
+canonical_order-tied : (v w : Tree) → IsProperTree v → IsProperTree w → canonical_order v w ≡ Equal → v ≡ w
+canonical_order-tied v w h k e =
+    one_tree v w h k (tied_encodings v w (second_tied (nat_cmp (encoded_size v) (encoded_size w)) (slice_cmp nat_cmp (encoding v) (encoding w)) e))
+
+-- of values that a program holds it is the canonical order
+pub canonical_value_cmp-is : (v w : Value) (o : Ordering) → IsProperTree (tree_of v) → IsProperTree (tree_of w) → o ≡ canonical_order (tree_of v) (tree_of w) → o ≡ canonical_value_cmp v w
+canonical_value_cmp-is v w o h k e =
+    e ∙ first_decides (canonical_order (tree_of v) (tree_of w)) (value_cmp v w)
+    (λ t. value_cmp-is v w ∙ (tied_where_equal (tree_of v) (tree_of w)).1 (canonical_order-tied (tree_of v) (tree_of w) h k t))

@@ -1,0 +1,21 @@
+use Rattle.std.proofs.Common.{sym, ap, ◌∙◌, nat_cmp}
+use Rattle.std.proofs.lemmas.Cmp.{tied_itself, nat_cmp_total}
+use Rattle.ciborium_value.specs.Encoding.{encoding, encoded_size}
+use Rattle.ciborium.proofs.SideBySide.{all_same}
+use Rattle.ciborium.proofs.VisitCounts.{both_walks-most, both_walks-all}
+use Rattle.ciborium.proofs.value.canonical.cmp_value_counted.Goals as goal
+
+pub returns-in-Equal-clause-at_most_twice : goal.returns-in-Equal-clause-at_most_twice
+returns-in-Equal-clause-at_most_twice c =
+    both_walks-most _ _ _ _ _ _ c.compare-order.new.visits.in_range c.measure-left_size.ensures.visits c.measure-right_size.ensures.visits c.compare-order.ensures.visits
+
+pub returns-in-Equal-clause-twice_where_equal : goal.returns-in-Equal-clause-twice_where_equal
+returns-in-Equal-clause-twice_where_equal c e =
+    both_walks-all _ _ _ _ _ _ c.measure-left_size.ensures.visits c.measure-right_size.ensures.visits c.compare-order.ensures.visits
+    (c.compare-order.ensures.order ∙ sym (all_same _ _ (ap encoding e)))
+
+pub returns-in_default-clause-twice_where_equal : goal.returns-in_default-clause-twice_where_equal
+returns-in_default-clause-twice_where_equal c e =
+    let left = c.measure-left_size.result in
+    let same = c.measure-left_size.ensures.size ∙ ap encoded_size e ∙ sym c.measure-right_size.ensures.size in
+    absurd (c.in_default.not-Equal (c.cmp.ensures ∙ ap (nat_cmp left) (sym same) ∙ tied_itself nat_cmp_total left))
