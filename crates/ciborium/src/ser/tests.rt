@@ -55,7 +55,7 @@ fn new_device(
 
 fn written(rt: &HostRuntime, value: &Value) -> Result<Vec<u8>, Fail> {
     let mut out = Vec::new(rt.alloc());
-    into_writer(value, &mut out).map_err(|_| "refused")?;
+    into_writer(value, &mut out)?;
     Ok(out)
 }
 
@@ -119,7 +119,7 @@ const NUMBERS: [(i128, &[u8]); 16] = [
 #[test]
 fn numbers_have_the_shortest_heads(rt: HostRuntime) -> Result<(), Fail> {
     for (number, bytes) in NUMBERS {
-        let integer = Integer::try_from(number).map_err(|_| "out of range")?;
+        let integer = Integer::try_from(number)?;
         let out = written(&rt, &Value::Integer(integer))?;
         assert_eq!(rt; out.as_slice(), bytes, "at {number}");
     }
@@ -232,7 +232,7 @@ fn the_first_error_of_the_writer_is_the_answer(rt: HostRuntime) -> Result<(), Fa
 #[test]
 fn short_writes_put_out_all(rt: HostRuntime) -> Result<(), Fail> {
     let mut device = new_device(&rt, 1, 9, None);
-    into_writer(&map_of_two(&rt)?, &mut device).map_err(|_| "refused")?;
+    into_writer(&map_of_two(&rt)?, &mut device)?;
     assert_eq!(rt; device.held.as_slice(), MAP_OF_TWO.as_slice());
     assert_eq!(rt; device.writes, 9);
     assert_eq!(rt; device.flushes, 0);
@@ -243,8 +243,8 @@ fn short_writes_put_out_all(rt: HostRuntime) -> Result<(), Fail> {
 #[test]
 fn a_writer_keeps_what_it_holds(rt: HostRuntime) -> Result<(), Fail> {
     let mut out = [0x01].to_vec(rt.alloc())?;
-    into_writer(&Value::Null, &mut out).map_err(|_| "refused")?;
-    into_writer(&Value::Bool(true), &mut out).map_err(|_| "refused")?;
+    into_writer(&Value::Null, &mut out)?;
+    into_writer(&Value::Bool(true), &mut out)?;
     assert_eq!(rt; out.as_slice(), [0x01, 0xf6, 0xf5].as_slice());
     Ok(())
 }

@@ -1,156 +1,102 @@
 use super::{CanonicalValue, cmp_value, cmp_value_counted};
 use crate::de::from_reader;
+use crate::ser::into_writer;
 use ciborium_value::Value;
 use std::alloc::{AllocError, Global};
 use std::cmp::Ordering;
 use std::test::Fail;
 
-fn array(alloc: Global, numbers: &[i8]) -> Result<Value, AllocError> {
+// 10, -1, -2, -3, -4, false, 100, -100, -200, "z", [-1], -300, "aa" and [100].
+const NUMBERS: [&[u8]; 14] = [
+    b"\x0a",
+    b"\x20",
+    b"\x21",
+    b"\x22",
+    b"\x23",
+    b"\xf4",
+    b"\x18\x64",
+    b"\x38\x63",
+    b"\x38\xc7",
+    b"\x61\x7a",
+    b"\x81\x20",
+    b"\x39\x01\x2b",
+    b"\x62\x61\x61",
+    b"\x81\x18\x64",
+];
+
+// 10, false, -200, "z", 256, "aa", [100], and tags 2 over "a" and 1 over "aaaa".
+const TAGS: [&[u8]; 9] = [
+    b"\x0a",
+    b"\xf4",
+    b"\x38\xc7",
+    b"\x61\x7a",
+    b"\x19\x01\x00",
+    b"\x62\x61\x61",
+    b"\x81\x18\x64",
+    b"\xc2\x61\x61",
+    b"\xc1\x64\x61\x61\x61\x61",
+];
+
+// Arrays of two, that differ where a head of one byte stands against one of two.
+const ARRAYS: [&[u8]; 4] = [
+    b"\x82\x01\x61\x61",
+    b"\x82\x18\x18\x60",
+    b"\x82\x60\x18\x18",
+    b"\x82\x61\x61\x01",
+];
+
+// A byte string, a text, an array and a map of five bytes each.
+const MAJOR_TYPES: [&[u8]; 4] = [
+    b"\x44\x01\x02\x03\x04",
+    b"\x64\x61\x61\x61\x61",
+    b"\x84\x01\x02\x03\x04",
+    b"\xa2\x01\x02\x03\x04",
+];
+
+// Reads the encodings from last to first, beginning at one of them, and sorts what they mean.
+fn sorted(alloc: Global, encodings: &[&[u8]], first: usize) -> Result<Vec<CanonicalValue>, Fail> {
     let mut values = Vec::new(alloc);
-    for number in numbers {
-        values.push(Value::from(*number))?;
+    for encoding in encodings
+        .iter()
+        .rev()
+        .cycle()
+        .skip(first)
+        .take(encodings.len())
+    {
+        let mut reader = *encoding;
+        values.push(CanonicalValue::from(from_reader(alloc, &mut reader)?))?;
     }
-    Ok(Value::from(values))
-}
-
-fn tagged(alloc: Global, tag: u64, text: &str) -> Result<Value, AllocError> {
-    Ok(Value::Tag(tag, Box::new(alloc, Value::from_text(alloc, text)?)?))
-}
-
-fn read(rt: &HostRuntime, bytes: &[u8]) -> Result<Value, Fail> {
-    let mut reader = bytes;
-    let value: Value = from_reader(rt.alloc(), &mut reader).map_err(|_| "refused")?;
-    Ok(value)
-}
-
-#[test]
-fn numbers_texts_and_arrays(rt: HostRuntime) -> Result<(), Fail> {
-    let alloc = rt.alloc();
-    let mut values = vec![in alloc;
-        Value::from_text(alloc, "aa")?,
-        Value::from(-300i16),
-        Value::from(-4i8),
-        array(alloc, &[100])?,
-        Value::from(-200i16),
-        Value::from(-2i8),
-        Value::from_text(alloc, "z")?,
-        Value::from(10u8),
-        array(alloc, &[-1])?,
-        Value::from(-3i8),
-        Value::from(100u8),
-        Value::Bool(false),
-        Value::from(-100i8),
-        Value::from(-1i8),
-    ]?;
-    values.sort_by(|left, right| cmp_value(left, right))?;
-    let sorted = vec![in alloc;
-        Value::from(10u8),
-        Value::from(-1i8),
-        Value::from(-2i8),
-        Value::from(-3i8),
-        Value::from(-4i8),
-        Value::Bool(false),
-        Value::from(100u8),
-        Value::from(-100i8),
-        Value::from(-200i16),
-        Value::from_text(alloc, "z")?,
-        array(alloc, &[-1])?,
-        Value::from(-300i16),
-        Value::from_text(alloc, "aa")?,
-        array(alloc, &[100])?,
-    ]?;
-    assert_eq!(rt; values, sorted);
-    Ok(())
-}
-
-#[test]
-fn tags(rt: HostRuntime) -> Result<(), Fail> {
-    let alloc = rt.alloc();
-    let mut values = vec![in alloc;
-        CanonicalValue::from(Value::from(-200i16)),
-        CanonicalValue::from(Value::from(256u16)),
-        CanonicalValue::from(Value::from_text(alloc, "z")?),
-        CanonicalValue::from(tagged(alloc, 1, "aaaa")?),
-        CanonicalValue::from(tagged(alloc, 2, "a")?),
-        CanonicalValue::from(Value::from(10u8)),
-        CanonicalValue::from(array(alloc, &[100])?),
-        CanonicalValue::from(Value::from_text(alloc, "aa")?),
-        CanonicalValue::from(Value::Bool(false)),
-    ]?;
     values.sort()?;
-    let sorted = vec![in alloc;
-        CanonicalValue::from(Value::from(10u8)),
-        CanonicalValue::from(Value::Bool(false)),
-        CanonicalValue::from(Value::from(-200i16)),
-        CanonicalValue::from(Value::from_text(alloc, "z")?),
-        CanonicalValue::from(Value::from(256u16)),
-        CanonicalValue::from(Value::from_text(alloc, "aa")?),
-        CanonicalValue::from(array(alloc, &[100])?),
-        CanonicalValue::from(tagged(alloc, 2, "a")?),
-        CanonicalValue::from(tagged(alloc, 1, "aaaa")?),
-    ]?;
-    assert_eq!(rt; values, sorted);
-    Ok(())
-}
-
-// Reads the encodings, and sorts them.
-fn sorted(rt: &HostRuntime, encodings: &[&[u8]]) -> Result<Vec<Value>, Fail> {
-    let mut values = Vec::new(rt.alloc());
-    for encoding in encodings {
-        values.push(read(rt, encoding)?)?;
-    }
-    values.sort_by(|left, right| cmp_value(left, right))?;
     Ok(values)
 }
 
 #[test]
-fn encodings_of_four_bytes(rt: HostRuntime) -> Result<(), Fail> {
-    let values = sorted(
-        &rt,
-        &[
-            b"\x82\x61\x61\x01",
-            b"\x82\x60\x18\x18",
-            b"\x82\x18\x18\x60",
-            b"\x82\x01\x61\x61",
-        ],
-    )?;
-    let in_order = vec![in rt.alloc();
-        read(&rt, b"\x82\x01\x61\x61")?,
-        read(&rt, b"\x82\x18\x18\x60")?,
-        read(&rt, b"\x82\x60\x18\x18")?,
-        read(&rt, b"\x82\x61\x61\x01")?,
-    ]?;
-    assert_eq!(rt; values, in_order);
+fn encodings_in_order(rt: HostRuntime) -> Result<(), Fail> {
+    let tables: [&[&[u8]]; 4] = [&NUMBERS, &TAGS, &ARRAYS, &MAJOR_TYPES];
+    for encodings in tables {
+        for first in 0..encodings.len() {
+            let values = sorted(rt.alloc(), encodings, first)?;
+            assert_eq!(rt; values.len(), encodings.len());
+            for (value, encoding) in values.into_iter().zip(encodings) {
+                let mut written = Vec::new(rt.alloc());
+                into_writer(&Value::from(value), &mut written)?;
+                assert_eq!(rt; written.as_slice(), *encoding);
+            }
+        }
+    }
     Ok(())
 }
 
-#[test]
-fn encodings_of_five_bytes(rt: HostRuntime) -> Result<(), Fail> {
-    let values = sorted(
-        &rt,
-        &[
-            b"\xa2\x01\x02\x03\x04",
-            b"\x84\x01\x02\x03\x04",
-            b"\x64\x61\x61\x61\x61",
-            b"\x44\x01\x02\x03\x04",
-        ],
-    )?;
-    let in_order = vec![in rt.alloc();
-        read(&rt, b"\x44\x01\x02\x03\x04")?,
-        read(&rt, b"\x64\x61\x61\x61\x61")?,
-        read(&rt, b"\x84\x01\x02\x03\x04")?,
-        read(&rt, b"\xa2\x01\x02\x03\x04")?,
-    ]?;
-    assert_eq!(rt; values, in_order);
-    Ok(())
+// [1]
+fn array_of_one(alloc: Global) -> Result<Value, AllocError> {
+    Value::from_values(alloc, &[Value::from(1u8)])
 }
 
 #[test]
 fn visits(rt: HostRuntime) -> Result<(), Fail> {
-    let alloc = rt.alloc();
-    let one = array(alloc, &[1])?;
-    let same = array(alloc, &[1])?;
-    assert_eq!(rt; cmp_value_counted(&one, &same), (Ordering::Equal, 8));
+    let array = array_of_one(rt.alloc())?;
+    let same = array_of_one(rt.alloc())?;
+    assert_eq!(rt; cmp_value_counted(&array, &same), (Ordering::Equal, 8));
     assert_eq!(rt;
         cmp_value_counted(&Value::Null, &Value::Null),
         (Ordering::Equal, 4)
@@ -163,9 +109,12 @@ fn visits(rt: HostRuntime) -> Result<(), Fail> {
 
 #[test]
 fn canonical_values(rt: HostRuntime) -> Result<(), Fail> {
-    let canonical = CanonicalValue::from(array(rt.alloc(), &[1, 2])?);
+    let array = array_of_one(rt.alloc())?;
+    let canonical = CanonicalValue::from(array_of_one(rt.alloc())?);
     let copy = canonical.clone()?;
     assert!(rt; copy == canonical);
-    assert_eq!(rt; Value::from(copy), array(rt.alloc(), &[1, 2])?);
+    let back = Value::from(copy);
+    assert_eq!(rt; back, array);
+    assert_eq!(rt; cmp_value(&back, &array), Ordering::Equal);
     Ok(())
 }
