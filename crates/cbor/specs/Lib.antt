@@ -1,4 +1,5 @@
 pub mod Line
 pub mod Laws
 pub mod Lines
+pub mod Sorted
 pub mod Words

@@ -5,6 +5,7 @@
 mod laws;
 mod line;
 mod run;
+mod sort;
 
 use std::io::Lock;
 use std::process::ExitCode;
