@@ -1,5 +1,5 @@
 //! `cbor read` answers lines of hex: which bytes are a CBOR item (RFC 8949), and its one shortest
-//! encoding.
+//! encoding. `cbor sort` writes the encodings of all lines in the canonical order.
 #![tactic(auto)]
 
 mod laws;

@@ -29,7 +29,7 @@ enum Fault {
     Input,
     // An answer could not be written.
     Output,
-    // No memory was left to hold a line.
+    // No memory was left to hold a line, or the list to sort.
     Memory,
 }
 
