@@ -1,5 +1,5 @@
 -- One more line is read and answered.
-use Rattle.std.proofs.Common.{◌≡◌, ℕ, ◌<◌, List, [], ◌∷◌, ◌++◌, length, Bool, true, false, Option, Some, None, Result, Ok, Err, IfOk, IsTrue, refl, sym, ap, subst, ◌∙◌, append_assoc, append-nil}
+use Rattle.std.proofs.Common.{◌≡◌, ℕ, ◌<◌, List, [], ◌∷◌, ◌++◌, length, Bool, true, false, Option, Some, None, IsTrue, refl, sym, ap, subst, ◌∙◌, append_assoc, append-nil}
 use Rattle.std.specs.Bool.{MatchBool}
 use Rattle.std.specs.declared.io.buffered.BufReader.{BufReader}
 use Rattle.std.specs.Io.BufRead.{drop_through}
@@ -50,13 +50,11 @@ none-left limit b w left next held line more (rest, out, e, a, f) read m =
     let h = subst (λ (v : Bool). MatchBool v ((0 < length rest) × (line ≡ first_line rest) × (next ≡ Some (drop_through 10 rest))) (rest ≡ [])) m (read rest e) in
     (out, subst (λ (r : List ℕ). Answered limit b r out) h a, f)
 
-still : (held now : Option (List ℕ)) (xs : List ℕ) → Keeps held now → held ≡ Some xs → now ≡ Some xs
+pub still : (held now : Option (List ℕ)) (xs : List ℕ) → Keeps held now → held ≡ Some xs → now ≡ Some xs
 still None now xs k e = absurd cc
 still (Some ys) None xs k e = absurd k
 still (Some ys) (Some zs) xs k e = cc
 
 -- a flush keeps them
-pub held-still : {E : Type 0} (limit : ℕ) (b w : List ℕ) (held now : Option (List ℕ)) (r : Result Bool E) → Keeps held now →
-    IfOk r (λ all. IsTrue all → AreAnswered limit b w held) → IfOk r (λ all. IsTrue all → AreAnswered limit b w now)
-held-still limit b w held now (Ok all) k h = λ t. let a = h t in (a.0, a.1, still held now (w ++ a.0) k a.2)
-held-still limit b w held now (Err x) k h = tt
+pub held-still : (limit : ℕ) (b w : List ℕ) (held now : Option (List ℕ)) → Keeps held now → AreAnswered limit b w held → AreAnswered limit b w now
+held-still limit b w held now k (out, a, e) = (out, a, still held now (w ++ out) k e)

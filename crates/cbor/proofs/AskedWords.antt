@@ -1,8 +1,7 @@
 -- What one word, or two, ask for.
-use Rattle.std.proofs.Common.{◌≡◌, ℕ, ◌<◌, ◌≤◌, List, [], ◌∷◌, length, get_or, map, codes, Option, Some, None, MatchOption, refl, sym, subst, ◌∙◌, ap, arith}
-use Rattle.std.specs.Option.{SomeIff}
+use Rattle.std.proofs.Common.{◌≡◌, ℕ, ◌<◌, ◌≤◌, List, [], ◌∷◌, length, get_or, map, codes, refl, sym, subst, ◌∙◌, ap, arith}
 use Rattle.std.specs.Str.Parse.{digits_value}
-use Rattle.cbor.specs.Words.{AreWrong, AskToRead, IsLimit}
+use Rattle.cbor.specs.Words.{AskToRead, AskToSort, IsLimit}
 
 -- `read` alone
 pub one-word : {S : Type 0} (text : S → List ℕ) (words : List S) (command : S) → length words < 2 → 1 ≤ length words → command ≡ get_or words 0 command →
@@ -11,22 +10,34 @@ one-word text [] command below least e is = absurd (omega arith)
 one-word text (w ∷ []) command below least e is = (ap text (sym e) ∙ is, refl)
 one-word text (w ∷ (v ∷ ws)) command below least e is = absurd (omega arith)
 
--- a limit that is a number, or is none
-two-texts : (command limit : List ℕ) (r : Option ℕ) → command ≡ codes "read" → SomeIff r (IsLimit limit) (digits_value 10 limit) →
-    MatchOption r (AreWrong (command ∷ (limit ∷ []))) (λ n. AskToRead (command ∷ (limit ∷ [])) n)
-two-texts command limit None is h = λ n asked. h asked.1
-two-texts command limit (Some n) is h = (is, h.0, h.1)
+-- `sort` alone
+pub one-sort : {S : Type 0} (text : S → List ℕ) (words : List S) (command : S) → length words < 2 → 1 ≤ length words → command ≡ get_or words 0 command →
+    text command ≡ codes "sort" → AskToSort (map text words)
+one-sort text [] command below least e is = absurd (omega arith)
+one-sort text (w ∷ []) command below least e is = ap (λ (t : List ℕ). t ∷ []) (ap text (sym e) ∙ is)
+one-sort text (w ∷ (v ∷ ws)) command below least e is = absurd (omega arith)
 
 -- `read` and a limit
-pub two-words : {S : Type 0} (text : S → List ℕ) (words : List S) (command limit : S) (r : Option ℕ) → length words < 3 → 2 ≤ length words →
-    command ≡ get_or words 0 command → limit ≡ get_or words 1 limit → text command ≡ codes "read" → SomeIff r (IsLimit (text limit)) (digits_value 10 (text limit)) →
-    MatchOption r (AreWrong (map text words)) (λ n. AskToRead (map text words) n)
-two-words text [] command limit r below least e f is h = absurd (omega arith)
-two-words text (w ∷ []) command limit r below least e f is h = absurd (omega arith)
-two-words text (w ∷ (v ∷ [])) command limit r below least e f is h =
-    two-texts (text w) (text v) r (ap text (sym e) ∙ is)
-    (subst (λ (t : List ℕ). SomeIff r (IsLimit t) (digits_value 10 t)) (ap text f) h)
-two-words text (w ∷ (v ∷ (u ∷ ws))) command limit r below least e f is h = absurd (omega arith)
+pub two-words : {S : Type 0} (text : S → List ℕ) (words : List S) (command limit : S) (n : ℕ) → length words < 3 → 2 ≤ length words →
+    command ≡ get_or words 0 command → limit ≡ get_or words 1 limit → text command ≡ codes "read" → IsLimit (text limit) → n ≡ digits_value 10 (text limit) →
+    AskToRead (map text words) n
+two-words text [] command limit n below least e f is h same = absurd (omega arith)
+two-words text (w ∷ []) command limit n below least e f is h same = absurd (omega arith)
+two-words text (w ∷ (v ∷ [])) command limit n below least e f is h same =
+    (ap text (sym e) ∙ is, subst IsLimit (ap text f) h, same ∙ ap (digits_value 10) (ap text f))
+two-words text (w ∷ (v ∷ (u ∷ ws))) command limit n below least e f is h same = absurd (omega arith)
+
+-- words do not ask for both
+pub not-both : (words : List (List ℕ)) (n : ℕ) → AskToRead words n → AskToSort words → ⊥
+not-both [] n asked sorts = absurd asked
+not-both (command ∷ []) n asked sorts =
+    let same : command ≡ codes "sort" = ap (λ (xs : List (List ℕ)). get_or xs 0 []) sorts in
+    let first : 114 ≡ 115 = ap (λ (xs : List ℕ). get_or xs 0 0) (sym asked.0 ∙ same) in
+    omega (arith, first)
+not-both (command ∷ (limit ∷ [])) n asked sorts =
+    let count : 2 ≡ 1 = ap (λ (xs : List (List ℕ)). length xs) sorts in
+    omega (arith, count)
+not-both (command ∷ (first ∷ (second ∷ others))) n asked sorts = absurd asked
 
 -- words ask for one limit
 pub one-limit : (words : List (List ℕ)) (m n : ℕ) → AskToRead words m → AskToRead words n → m ≡ n

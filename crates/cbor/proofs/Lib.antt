@@ -1,4 +1,7 @@
 pub mod Answering
 pub mod AnsweredLines
 pub mod AskedWords
+pub mod MeantLines
 pub mod OneAnswer
+pub mod SortedValues
+pub mod WrittenLines

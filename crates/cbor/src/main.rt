@@ -1,10 +1,11 @@
 //! `cbor read` answers lines of hex: which bytes are a CBOR item (RFC 8949), and its one shortest
-//! encoding.
+//! encoding. `cbor sort` writes the encodings of all lines in the canonical order.
 #![tactic(auto)]
 
 mod laws;
 mod line;
 mod run;
+mod sort;
 
 use std::io::Lock;
 use std::process::ExitCode;

@@ -1,16 +1,21 @@
-//! The command line: which words are right, and the loop over the lines of the input.
+//! The command line: which words are right, what they ask for, and the loop that answers lines.
 
-ghost use Rattle.std.specs.Prelude.{◌≡◌, ◌<◌, ◌≤◌, ◌++◌, ◌∷◌, ℕ, IfOk, IsTrue, List, MatchOption, Some, [], length, map, string_bytes};
+ghost use Rattle.std.specs.Prelude.{◌≡◌, ◌<◌, ◌≤◌, ◌++◌, ◌∷◌, ℕ, IfOk, IsTrue, List, MatchOption, Ok, Some, [], length, map, string_bytes, true};
 ghost use Rattle.std.specs.Option.{SomeIff};
 ghost use Rattle.std.specs.Str.Parse.{digits_value};
 ghost use Rattle.std.specs.Bool.{MatchBool};
 ghost use Rattle.std.specs.Io.BufRead.{drop_through, strip_last};
 ghost use Rattle.std.specs.Io.Buffered.{reader_remaining};
+ghost use Rattle.std.specs.Io.KnownBytes.{Keeps};
 ghost use Rattle.cbor.specs.Line.{LineAnswer};
 ghost use Rattle.cbor.specs.Lines.{AreAnswered, IsOkAnswer, first_line};
-ghost use Rattle.cbor.specs.Words.{AreWrong, AskToRead, IsLimit};
+ghost use Rattle.cbor.specs.SortedLines.{AreSortedLines};
+ghost use Rattle.cbor.specs.Words.{AreWrong, AskFor, AskToRead, AskToSort, IsLimit};
+
+mod sorting;
 
 use crate::line::answer_line;
+use sorting::sort_lines;
 use std::alloc::{AllocError, Global};
 use std::io::{BufRead, BufReader, Read, Write};
 
@@ -24,8 +29,14 @@ enum Fault {
     Input,
     // An answer could not be written.
     Output,
-    // No memory was left to hold a line.
+    // No memory was left to hold a line, or the list to sort.
     Memory,
+}
+
+impl From<AllocError> for Fault {
+    fn from(_: AllocError) -> Fault {
+        Fault::Memory
+    }
 }
 
 impl Fault {
@@ -38,14 +49,24 @@ impl Fault {
     }
 }
 
+// What the words ask for: to answer lines within so many levels, or to sort them.
+#[derive(Clone, Copy, Debug)]
+enum Command {
+    Read(usize),
+    Sort,
+}
+
 /// Does what the words say, which are the program's arguments without its name, and returns the exit
 /// status. `read` answers each line of hex of the input by a line on the output, within 256 levels,
 /// and `read LIMIT` within that many; a line whose answer is refused memory is answered `memory`.
+/// `sort` reads all lines within 256 levels, and then writes the encodings of their items in lower-case
+/// hex, a line each, in the canonical order. At the first line that is no item it only writes `line`,
+/// the number of that line, counted from 1, a colon and the answer to it.
 ///
-/// The status is 0 where every line is answered `ok`, and 1 where one is not. It is 2 for any other
-/// words: the usage is then written to `errors`, and input and output are left alone. Where the input
-/// or the output fails, or memory to hold a line is refused, the run ends with status 1, and
-/// `errors` names the first such fault.
+/// The status is 0 where every line is an item, and 1 where one is not. It is 2 for any other words:
+/// the usage is then written to `errors`, and input and output are left alone. Where the input or the
+/// output fails, or memory to hold a line or the list to sort is refused, the run ends with status 1,
+/// and `errors` names the first such fault.
 pub fn run<R: Read, W: Write, E: Write>(
     alloc: Global,
     words: &[String],
@@ -56,30 +77,39 @@ pub fn run<R: Read, W: Write, E: Write>(
     ensures wrong { AreWrong (map string_bytes words.now) →
         (result ≡ 2) × (R.remaining input.new ≡ R.remaining input.old) × (W.contents output.new ≡ W.contents output.old) }
     ensures right { (limit : ℕ) → AskToRead (map string_bytes words.now) limit → result ≤ 1 }
+    ensures right_to_sort { AskToSort (map string_bytes words.now) → result ≤ 1 }
     ensures answered { (limit : ℕ) (b w : List ℕ) → AskToRead (map string_bytes words.now) limit → R.remaining input.old ≡ Some b →
         W.contents output.old ≡ Some w → result ≡ 0 → AreAnswered limit b w (W.contents output.new) }
+    ensures sorted { (b w : List ℕ) → AskToSort (map string_bytes words.now) → R.remaining input.old ≡ Some b →
+        W.contents output.old ≡ Some w → result ≡ 0 → AreSortedLines 256 b w (W.contents output.new) }
 {
-    let Some(limit) = limit_of(words) else {
-        report(errors, "usage: cbor read [limit] | cbor sort\n");
-        return 2;
-    };
-    match read(alloc, limit, input, output) {
-        Ok(true) => 0,
-        Ok(false) => 1,
-        Err(fault) => {
-            report(errors, fault.message());
-            1
+    match command_of(words) {
+        Some(Command::Read(limit)) => {
+            let answered = answer_lines(alloc, limit, input, output);
+            finish(answered, output, errors)
+        }
+        Some(Command::Sort) => {
+            let sorted = sort_lines(alloc, DEFAULT_LIMIT, input, output);
+            finish(sorted, output, errors)
+        }
+        None => {
+            report(errors, "usage: cbor read [limit] | cbor sort\n");
+            2
         }
     }
 }
 
-// The limit of levels that the words name, or none where they are wrong.
-fn limit_of(words: &[String]) -> Option<usize>
-    ensures { MatchOption result (AreWrong (map string_bytes words.now)) (λ n. AskToRead (map string_bytes words.now) n) }
+// What the words ask for, or none where they are wrong.
+fn command_of(words: &[String]) -> Option<Command>
+    ensures { MatchOption result (AreWrong (map string_bytes words.now)) (λ command. AskFor (map string_bytes words.now) command) }
 {
     match words {
-        [command] if command.as_str() == "read" => Some(DEFAULT_LIMIT),
-        [command, limit] if command.as_str() == "read" => parse_limit(limit.as_str()),
+        [command] if command.as_str() == "read" => Some(Command::Read(DEFAULT_LIMIT)),
+        [command] if command.as_str() == "sort" => Some(Command::Sort),
+        [command, limit] if command.as_str() == "read" => {
+            let limit = parse_limit(limit.as_str())?;
+            Some(Command::Read(limit))
+        }
         _ => None,
     }
 }
@@ -100,24 +130,29 @@ fn report<E: Write>(errors: &mut E, message: &str) {
     let _ = errors.flush();
 }
 
-// Answers the lines of the input, and says whether each is an item.
-fn read<R: Read, W: Write>(
-    alloc: Global,
-    limit: usize,
-    input: &mut R,
-    output: &mut W,
-) -> Result<bool, Fault>
-    ensures { (b w : List ℕ) → R.remaining input.old ≡ Some b → W.contents output.old ≡ Some w →
-        IfOk result (λ all. IsTrue all → AreAnswered limit b w (W.contents output.new)) }
+// Flushes the output and names the first fault: the status of a run that found each line to be an
+// item, or one that is not, or a fault.
+fn finish<W: Write, E: Write>(all_items: Result<bool, Fault>, output: &mut W, errors: &mut E) -> u8
+    ensures status { result ≤ 1 }
+    ensures items { result ≡ 0 → all_items ≡ Ok true }
+    ensures kept { Keeps (W.contents output.old) (W.contents output.new) }
 {
-    let answered = answer_lines(alloc, limit, input, output);
-    if output.flush().is_err() && answered.is_ok() {
-        return Err(Fault::Output);
+    let flushed = output.flush();
+    match all_items {
+        Err(fault) => {
+            report(errors, fault.message());
+            1
+        }
+        Ok(_) if flushed.is_err() => {
+            report(errors, Fault::Output.message());
+            1
+        }
+        Ok(true) => 0,
+        Ok(false) => 1,
     }
-    answered
 }
 
-// The same, without the flush.
+// Answers the lines of the input, and says whether each is an item.
 fn answer_lines<R: Read, W: Write>(
     alloc: Global,
     limit: usize,

@@ -4,6 +4,8 @@ use std::alloc::AllocError;
 use std::io::{self, ErrorKind, Read, Write};
 use std::test::Fail;
 
+mod sorting;
+
 // Gives its bytes, at most so many a read, after a read that is interrupted, and then ends or fails.
 #[derive(Drop)]
 struct Source<'a> {
@@ -283,9 +285,8 @@ fn allows_256_levels(rt: HostRuntime) -> Result<(), Fail> {
     Ok(())
 }
 
-const WRONG_WORDS: [&[&str]; 13] = [
+const WRONG_WORDS: [&[&str]; 17] = [
     &[],
-    &["sort"],
     &["write"],
     &["READ"],
     &["read "],
@@ -297,6 +298,11 @@ const WRONG_WORDS: [&[&str]; 13] = [
     &["read", "\u{661}"],
     &["read", "1", "2"],
     &["sort", "1"],
+    &["sort", "x"],
+    &["sort", ""],
+    &["sort", "sort"],
+    &["SORT"],
+    &["sort "],
 ];
 
 #[test]
