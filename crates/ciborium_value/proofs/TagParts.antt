@@ -56,6 +56,7 @@ Tag t c = at enum k (t, (c, tt))
 pub tag_with : (t : ℕ) (box : B.Denot) (x : ℕ) (w : R.Denot) → Tag x (with_value box w) ≡ with_tag (Tag t box) x w
 tag_with t box x w = sym (ap (λ (z : Value-F R.Denot). level_with_tag z (Tag t box) x w) (outs-Tag t box))
 
+-- the position of a tag
 pub tags : (a : Denots (rows_of members)) → tag_of the_type (at enum k a) ≡ k
 tags v i = tag (variants the_type) (intoss enum.parts (enum.beta (choose enum.parts k v) i))
 

@@ -1,4 +1,4 @@
-use Rattle.std.proofs.Common.{◌≡◌, List, [], ◌∷◌, ℕ, sym, ap, ◌∙◌, subst, lit<}
+use Rattle.std.proofs.Common.{List, [], ◌∷◌, sym, ap, ◌∙◌, subst, lit<}
 use Rattle.std.specs.Box.{with_value}
 use Rattle.std.specs.Prelude.{All, IfNone, map, slice_index_or}
 use Rattle.ciborium_value.proofs.TagParts.{tag_with}
