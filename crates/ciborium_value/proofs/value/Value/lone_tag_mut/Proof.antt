@@ -28,7 +28,7 @@ use mathlib.Core.List.{◌++◌}
 use mir.Syntax.{Ty, Local, local, ty_unit, named}
 use mir.Val.{Val, vptr, vstruct, vcons, vnil, of_list, has_ty, WT}
 use native.Mathlib.Nat.{zero-add}
-use types.ByLocal.{alloc_all, pass_all, free_all, through, sets, get, get_in, look_at, lands_as, is as equals}
+use types.ByLocal.{alloc_all, pass_all, free_all, through, sets, get, get_in, look_at, lands_as, is}
 use types.Kit.{frame, ‵, raw, ◌⊛◌, some, later, ◌$◌, ◌∵◌, !, qed, done, move, keep, drop, use0, use1, use2, split, split3, join, fsplit, fjoin, pick, await, rewrite, suffices, group}
 use types.Match.{live}
 use types.Part.{whole, sub}
@@ -62,8 +62,8 @@ val None = live 0 vnil
 val (Some p) = live 1 (vcons (vstruct (vcons (vptr p.0.ref_ptr.0 p.0.ref_ptr.1) (vcons (vptr p.1.ref_ptr.0 p.1.ref_ptr.1) vnil))) vnil)
 
 val_is : (κs : Lfts 1) (r : Option (MutBor ℕ × MutBor R.Denot)) (v : Val) → Is (Out κs) r (v ∷ []) → v ≡ val r
-val_is κs None v is = ap only is.1.0 ∙ ap (λ (us : List Val). live 0 (of_list us)) is.1.1.1.0
-val_is κs (Some p) v is = ap only is.1.0 ∙ ap (λ (us : List Val). live 1 (of_list us)) (is.1.1.1.0 ∙ ap (λ (us : List Val). us ++ []) (is.1.1.1.1.0.1.0 ∙ (λ i. vstruct (of_list (is.1.1.1.1.0.1.1.0.0 i ++ (is.1.1.1.1.0.1.1.1.0.0 i ++ []))) ∷ [])))
+val_is κs None v shape = ap only shape.1.0 ∙ ap (λ (us : List Val). live 0 (of_list us)) shape.1.1.1.0
+val_is κs (Some p) v shape = ap only shape.1.0 ∙ ap (λ (us : List Val). live 1 (of_list us)) (shape.1.1.1.0 ∙ ap (λ (us : List Val). us ++ []) (shape.1.1.1.1.0.1.0 ∙ (λ i. vstruct (of_list (shape.1.1.1.1.0.1.1.0.0 i ++ (shape.1.1.1.1.0.1.1.1.0.0 i ++ []))) ∷ [])))
 
 abbrev first_type : List Local → Ty
 first_type [] = ty_unit
@@ -87,7 +87,7 @@ lone_tag_mut_spec 𝓤 𝓛 𝓜 𝓡 wired =
     fsplit ! $ fsplit ! $ drop ! $ pure_l ! (room R (length xs)) (λ rm. fsplit ! $
     -- [obs; the borrow; the token]
     enter ! _ _ _ _ _ $ alloc_all ! (λ l. pass_all ! refl ((tt, (tt, (record { fits = rm.0 }, tt))), tt) $
-    sets ! (equals ! (bin ! (get_in ! (fld ! refl (stop !)) (sub ! 0 refl (whole !))) (lit ! tt) tt) (ap (λ (k : ℕ). vptr b k) (zero-add o))) refl (tt, tt) $
+    sets ! (is ! (bin ! (get_in ! (fld ! refl (stop !)) (sub ! 0 refl (whole !))) (lit ! tt) tt) (ap (λ (k : ℕ). vptr b k) (zero-add o))) refl (tt, tt) $
     sets ! (addr ! (through ! refl (stop !))) refl (tt, tt) $
     rewrite ! 0 (λ (zs : List R.Denot). ‵ (fobs γ ((coded_list R.coded).code zs))) (heres_id R xs ∙ is_one) refl $
     rewrite ! 1 (λ (k : ℕ). ‵ (fbor κ (Body (Arr (mem R) k) b o γ))) one refl $ group ! 3 $
@@ -101,8 +101,8 @@ lone_tag_mut_spec 𝓤 𝓛 𝓜 𝓡 wired =
     calls_at ! (framed 𝓤 𝓛.H 𝓜 𝓣) G (met 𝓤 𝓛 𝓜 𝓡 (code.calls-ciborium_value::value::Value::as_tag_mut 𝓡.env wired)) z (and_then ! (get ! refl) (no_more !)) (λ v.
     use1 𝓛 (later (some (λ (r : Option (MutBor ℕ × MutBor R.Denot)). ((‵ (flft κ q) ⊛ ‵ ftrue) ⊛ ‵ ((Out κs).own_val r (v ∷ []))) ⊛
     some (λ (ws : Unit {0} × Unit {0}). ‵ (lasts g.ended κs (lent, tt) ws) ⊛ ‵ (LendsTag lent r) ⊛ raw (fact 𝓤 (IfSome r (λ p. IsTagOf x p.0.now p.1.now))) ⊛ raw (fact 𝓤 (IfNone r (IsTag x → ⊥))))))) (id⊢ 𝓤 _) $
-    await ! tt $ pick ! (λ r. split ! $ split ! $ split ! $ move ! (2 ∷ []) $ peeks ! (Out κs) (Is (Out κs)) (shows 𝓛 (Out κs)) r (v ∷ []) (λ is.
-    let word = val_is κs r v is in rewrite ! 0 (λ (u : Val). ‵ ((Out κs).own_val r (u ∷ []))) word refl $
+    await ! tt $ pick ! (λ r. split ! $ split ! $ split ! $ move ! (2 ∷ []) $ peeks ! (Out κs) (Is (Out κs)) (shows 𝓛 (Out κs)) r (v ∷ []) (λ shape.
+    let word = val_is κs r v shape in rewrite ! 0 (λ (u : Val). ‵ ((Out κs).own_val r (u ∷ []))) word refl $
     move ! (3 ∷ []) $ pick ! (λ ws. split3 ! $ drop ! $ move ! (1 ∷ []) $ split ! $ heard ! _ (λ of_tag. heard ! _ (λ no_tag. move ! (4 ∷ 0 ∷ []) $
     use2 𝓛 (‵ (follows_both_if (Array R 0) u64 R γ (ghost_names_of r) (λ t w. with_tag x t w ∷ []) (x ∷ [])))
     (within_both 𝓛 (Array R 0) R u64 R (with_tag x) x (λ w. w ∷ []) γ δ (ghost_names_of r)) $
