@@ -1,4 +1,6 @@
 pub mod Views
+pub mod TagParts
+mod LoneValue
 pub mod Derived
 pub mod OrderedTrees
 pub mod CanonicalValues

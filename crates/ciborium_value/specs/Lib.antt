@@ -14,6 +14,7 @@ pub mod View
 pub mod Variants
 pub mod Rows
 pub mod Laws
+pub mod LentParts
 pub mod FoldingLaws
 pub mod OrderLaws
 pub mod Examples

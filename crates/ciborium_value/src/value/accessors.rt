@@ -2,6 +2,10 @@
 
 ghost use Rattle.std.specs.Prelude.{◌≡◌, ◌↔◌, IsTrue, IfSome, IfNone, IfOk, IfErr};
 ghost use Rattle.std.specs.Borrow.{LendsIf, sem};
+ghost use Rattle.std.specs.Box.{box_follows};
+ghost use Rattle.std.specs.contracts.alloc.Global as global;
+ghost use Rattle.std.specs.contracts.impls.GlobalAllocator.TheImpl.{ghosts};
+ghost use Rattle.ciborium_value.specs.LentParts.{LendsTag};
 ghost use Rattle.ciborium_value.specs.Rows.{array_row, bytes_row, map_row, text_row};
 ghost use Rattle.ciborium_value.specs.Variants.{IsInteger, IsBytes, IsText, IsTextOf, IsBool, IsTag, IsTagOf, IsArray, IsMap};
 ghost use Rattle.ciborium_value.specs.contracts.value.Value.{the_row};
@@ -182,14 +186,13 @@ impl Value {
 
     /// The number and the content at that variant, else None. What is written there is the number and
     /// the content afterwards, and the variant stays.
-    // No clause says what is written back: the checker proves such a clause for one part of a variant
-    // and not for two, so tests show it. A caller that has to know it matches on `Value::Tag` itself.
     pub fn as_tag_mut(&mut self) -> Option<(&mut u64, &mut Value)>
+        ensures* writes_back { sem 𝓛 (LendsTag self.entry result) }
         ensures some { IfSome result (λ p. IsTagOf self.old p.0.now p.1.now) }
         ensures none { IfNone result (¬ IsTag self.old) }
     {
         if let Value::Tag(tag, content) = self {
-            Some((tag, content))
+            Some((tag, boxed(content)))
         } else {
             None
         }
@@ -291,4 +294,12 @@ impl Value {
             value => Err(value),
         }
     }
+}
+
+// The value in a box. It is lent here, so that the proof of `as_tag_mut` calls no generic function.
+fn boxed(content: &mut Box<Value>) -> &mut Value
+    ensures* writes_back { sem 𝓛 (box_follows the_row global.the_row ghosts content.entry result) }
+    ensures value { result.now ≡ content.old.value }
+{
+    content
 }

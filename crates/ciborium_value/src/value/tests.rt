@@ -1,3 +1,8 @@
+ghost use Rattle.std.specs.Prelude.{◌≡◌, All, IfNone, IfSome, length};
+ghost use Rattle.std.specs.Borrow.{sem};
+ghost use Rattle.ciborium_value.specs.LentParts.{LendsTagIn};
+ghost use Rattle.ciborium_value.specs.Variants.{IsTag, IsTagOf};
+
 use crate::integer::Integer;
 use crate::value::Value;
 use std::alloc::{AllocError, Global};
@@ -196,6 +201,39 @@ fn writes_into_a_tag(rt: HostRuntime) -> Result<(), Fail> {
     *number = 62;
     *content = Value::Null;
     assert_eq!(rt; tag, tagged(alloc, 62, Value::Null)?);
+    Ok(())
+}
+
+// What `as_tag_mut` lends, out of a slice of one value: the checker tells a caller what two references
+// write back only where a slice lends them.
+fn lone_tag_mut(values: &mut [Value]) -> Option<(&mut u64, &mut Value)>
+    requires { length values.old ≡ 1 }
+    ensures* writes_back { sem 𝓛 (LendsTagIn values.entry result) }
+    ensures some { All (λ v. IfSome result (λ p. IsTagOf v p.0.now p.1.now)) values.old }
+    ensures none { All (λ v. IfNone result (¬ IsTag v)) values.old }
+{
+    values[0].as_tag_mut()
+}
+
+// So a caller's proof knows of both writes: what was a tag is one of this number over this content.
+fn retag(value: &mut Value, number: u64, content: &mut Value)
+    ensures { IsTag value.old → IsTagOf value.new number content.old }
+{
+    if let Some((place, inner)) = lone_tag_mut(std::slice::from_mut(value)) {
+        *place = number;
+        std::mem::swap(inner, content);
+    }
+}
+
+// A tag 61 over the byte 68 becomes a tag 7 over null.
+#[test]
+fn retags(rt: HostRuntime) -> Result<(), Fail> {
+    let alloc = rt.alloc();
+    let mut tag = tagged(alloc, 61, Value::from_bytes(alloc, &[0x68])?)?;
+    let mut content = Value::Null;
+    retag(&mut tag, 7, &mut content);
+    assert_eq!(rt; tag, tagged(alloc, 7, Value::Null)?);
+    assert_eq!(rt; content, Value::from_bytes(alloc, &[0x68])?);
     Ok(())
 }
 

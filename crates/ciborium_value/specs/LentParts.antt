@@ -1,0 +1,27 @@
+-- What a tag ends as, after writes through what `as_tag_mut` and `lone_tag_mut` lend.
+use Rattle.std.specs.Prelude.{ℕ, List, map}
+use Rattle.std.specs.Borrow.{LendsBothIf, MutBor, Fml, Array, u64}
+use Rattle.std.specs.Box.{with_value}
+use Rattle.std.specs.declared.option.Option.{Option}
+use Rattle.ciborium_value.specs.declared.value.Value as value
+use Rattle.ciborium_value.specs.declared.value.Value.{Value, out-Value}
+use Rattle.ciborium_value.specs.declared.value.Value.TheOpen.{Value-F}
+use Rattle.ciborium_value.specs.contracts.value.Value.{the_row}
+
+-- a tag with the number t and the content w in its box, and v for any other value
+abbrev pub level_with_tag : Value-F Value → Value → ℕ → Value → Value
+level_with_tag (Value-F.Tag s b) v t w = value.Tag t (with_value b w)
+level_with_tag _ v t w = v
+
+-- v with the number t and the content w, where it is a tag
+abbrev pub with_tag : Value → ℕ → Value → Value
+with_tag v t w = level_with_tag (out-Value v) v t w
+
+-- s ends as a tag of the last number behind the first reference of r, over the last value behind the
+-- second, in the box that it had
+abbrev pub LendsTag : MutBor Value → Option (MutBor ℕ × MutBor Value) → Fml
+LendsTag s r = LendsBothIf the_row u64 the_row s r (with_tag s.now) s.now
+
+-- the same of each value of a slice
+abbrev pub LendsTagIn : MutBor (List Value) → Option (MutBor ℕ × MutBor Value) → Fml
+LendsTagIn s r = LendsBothIf (Array the_row 0) u64 the_row s r (λ t w. map (λ v. with_tag v t w) s.now) s.now
