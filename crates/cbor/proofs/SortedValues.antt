@@ -1,20 +1,16 @@
 -- What a sort by the canonical order ensures.
 use Rattle.std.proofs.Common.{◌≡◌, ◌<◌, List, [], ◌∷◌, length, get_or, map, Bool, Greater, is_lt, true, false, sym, ap, ◌∙◌, arith}
-use Rattle.std.proofs.lemmas.Cmp.{nat_cmp_total, nat_list_cmp_total, then_total, on_total}
 use Rattle.std.proofs.lemmas.List.{get_or-map, length-map}
 use Rattle.std.proofs.lemmas.List.Sorted.{ranks_by, sorted_far}
-use Rattle.std.specs.Cmp.{IsStrictWeakOrder, IsTotalOrder}
+use Rattle.std.specs.Cmp.{IsStrictWeakOrder}
 use Rattle.std.specs.List.Sorted.{IsSortedBy}
 use Rattle.std.specs.Ordering.{ordering_reverse}
 use Rattle.ciborium_value.specs.Canonical.{canonical_order}
-use Rattle.ciborium_value.specs.Encoding.{encoding, encoded_size}
 use Rattle.ciborium_value.specs.Tree.{Tree}
 use Rattle.ciborium_value.specs.View.{tree_of}
 use Rattle.ciborium_value.specs.declared.value.Value.{Value}
+use Rattle.ciborium_value.proofs.CanonicalValues.{canonical_order_total}
 use Rattle.cbor.specs.Sorted.{AreSorted}
-
-canonical_order_total : IsTotalOrder canonical_order
-canonical_order_total = then_total (on_total encoded_size nat_cmp_total) (on_total encoding nat_list_cmp_total)
 
 -- the test by which values are sorted
 abbrev pub stands_before : Value → Value → Bool

@@ -10,6 +10,7 @@ ghost use Rattle.std.specs.Io.KnownBytes.{Keeps};
 ghost use Rattle.cbor.specs.Line.{LineAnswer};
 ghost use Rattle.cbor.specs.Lines.{AreAnswered, IsOkAnswer, first_line};
 ghost use Rattle.cbor.specs.SortedLines.{AreSortedLines};
+ghost use Rattle.cbor.specs.declared.run.Fault.TheVariants.{Memory};
 ghost use Rattle.cbor.specs.Words.{AreWrong, AskFor, AskToRead, AskToSort, IsLimit};
 
 mod sorting;
@@ -34,6 +35,8 @@ enum Fault {
 }
 
 impl From<AllocError> for Fault {
+    ghost from_gives = { λ _ fault. fault ≡ Memory };
+
     fn from(_: AllocError) -> Fault {
         Fault::Memory
     }

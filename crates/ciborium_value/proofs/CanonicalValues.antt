@@ -13,7 +13,7 @@ use Rattle.ciborium_value.proofs.Derived.{value_cmp-is, value_cmp_total}
 use Rattle.ciborium_value.proofs.OrderedTrees.{tied_where_equal}
 use Rattle.ciborium_value.specs.CanonicalValues.{canonical_value_cmp}
 
-canonical_order_total : IsTotalOrder canonical_order
+pub canonical_order_total : IsTotalOrder canonical_order
 canonical_order_total = then_total (on_total encoded_size nat_cmp_total) (on_total encoding nat_list_cmp_total)
 
 pub canonical_value_cmp_total : IsTotalOrder canonical_value_cmp
