@@ -6,7 +6,8 @@ use Rattle.std.specs.FinMap.{nat_cmp-IsAntisymmetric}
 use Rattle.std.specs.Int.{bytes_high_first}
 use Rattle.std.specs.Ordering.{ordering_then}
 use Rattle.ciborium_ll.specs.Head.{Width, within, one_byte, two_bytes, four_bytes, eight_bytes, capacity, information, argument_bytes, narrowest, shortest_head}
-use Rattle.ciborium_value.proofs.HeadOrder.{places, arguments_in_order, narrowest-holds}
+use Rattle.ciborium_ll.proofs.ShortestHead.{narrowest-holds}
+use Rattle.ciborium_ll.proofs.HeadOrder.{places, arguments_in_order}
 
 -- ---- lists of which none is a proper beginning of the other
 

@@ -1,11 +1,14 @@
 -- What reading a value answers.
-use Rattle.std.specs.Prelude.{◌≡◌, ℕ, List, ◌++◌, Option, Some, None, Result, Ok, Err}
+use Rattle.std.specs.Prelude.{◌≡◌, ℕ, ◌+◌, ◌≤◌, List, ◌++◌, length, Option, Some, None, Result, Ok, Err, IfErr, IfOk, OnOk}
+use Rattle.ciborium_ll.specs.Bytes.{AreBytes, greatest_offset}
 use Rattle.ciborium_ll.specs.declared.decoder.Decoder.{Decoder}
 use Rattle.ciborium_ll.specs.Decoding.{IsAhead, left_of}
 use Rattle.ciborium_ll.specs.Item.{Item}
 use Rattle.ciborium_value.specs.declared.value.Value.{Value}
+use Rattle.ciborium_value.specs.Counts.{node_count, payload_size}
 use Rattle.ciborium_value.specs.Meaning.{meaning}
 use Rattle.ciborium_value.specs.Open.{Open}
+use Rattle.ciborium_value.specs.Proper.{IsProperTree}
 use Rattle.ciborium_value.specs.Refuses.{IsGood, Refuses}
 use Rattle.ciborium_value.specs.Tree.{Tree}
 use Rattle.ciborium_value.specs.View.{tree_of}
@@ -48,3 +51,31 @@ IsFailure _ = ⊥
 abbrev pub AnswersItem : {E : Type 0} → Item → List ℕ → Option (List ℕ) → Result Value (Error E) → Type 0
 AnswersItem i left after (Ok v) = (meaning i ≡ Some (tree_of v)) × (after ≡ Some left)
 AnswersItem i left after (Err e) = IsFailure e
+
+-- ---- the clauses of a call that reads one value within l levels: what the reader held before it, what it is left with, and the answer
+
+-- at Ok just a good item was taken, and the answer is its meaning
+abbrev pub TakesItem : {E : Type 0} → Option (List ℕ) → ℕ → Option (List ℕ) → Result Value (Error E) → Type 0
+TakesItem before l after r = (b : List ℕ) → before ≡ Some b → IfOk r (λ v. TakesValue b l (tree_of v) after)
+
+-- a good item at the front is taken and its meaning answered, unless the call failed
+abbrev pub AnswersGoodItem : {E : Type 0} → Option (List ℕ) → ℕ → Option (List ℕ) → Result Value (Error E) → Type 0
+AnswersGoodItem before l after r =
+    (b s left : List ℕ) (i : Item) → before ≡ Some b → AreBytes b → IsGood i (Some l) s 0 → b ≡ s ++ left → AnswersItem i left after r
+
+-- an error is the refusal of what the reader held
+abbrev pub RefusesBytes : {E : Type 0} → Option (List ℕ) → ℕ → Option (List ℕ) → Result Value (Error E) → Type 0
+RefusesBytes before l after r = (b : List ℕ) → before ≡ Some b → IfErr r (λ e. RefusedBy after e (λ f. Refuses b 0 (Some l) f))
+
+-- the values and payload bytes of the answer are no more than the bytes taken
+abbrev pub HoldsNoMore : {E : Type 0} → Option (List ℕ) → Option (List ℕ) → Result Value (Error E) → Type 0
+HoldsNoMore before after r =
+    (b left : List ℕ) → before ≡ Some b → after ≡ Some left → IfOk r (λ v. node_count (tree_of v) + payload_size (tree_of v) + length left ≤ length b)
+
+-- the answer is a tree that memory can hold
+abbrev pub AnswersProper : {E : Type 0} → Option (List ℕ) → Result Value (Error E) → Type 0
+AnswersProper before r = (b : List ℕ) → before ≡ Some b → AreBytes b → IfOk r (λ v. IsProperTree (tree_of v))
+
+-- no more bytes were taken than there are offsets
+abbrev pub TakesWithin : {E : Type 0} → Option (List ℕ) → Option (List ℕ) → Result Value (Error E) → Type 0
+TakesWithin before after r = (b left : List ℕ) → before ≡ Some b → after ≡ Some left → OnOk r (length b ≤ length left + greatest_offset)

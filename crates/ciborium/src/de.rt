@@ -1,14 +1,6 @@
 //! Bytes to values.
 
-ghost use Rattle.std.specs.Prelude.{◌≡◌, ◌+◌, ◌≤◌, ◌++◌, IfErr, IfOk, List, OnOk, Some, length, ℕ};
-ghost use Rattle.ciborium_ll.specs.Bytes.{AreBytes, greatest_offset};
-ghost use Rattle.ciborium_ll.specs.Item.{Item};
-ghost use Rattle.ciborium_value.specs.Counts.{node_count, payload_size};
-ghost use Rattle.ciborium_value.specs.Proper.{IsProperTree};
-ghost use Rattle.ciborium_value.specs.Refuses.{IsGood, Refuses};
-ghost use Rattle.ciborium_value.specs.View.{tree_of};
-ghost use Rattle.ciborium.specs.Answers.{AnswersItem, TakesValue};
-ghost use Rattle.ciborium.specs.Errors.{RefusedBy};
+ghost use Rattle.ciborium.specs.Answers.{AnswersGoodItem, AnswersProper, HoldsNoMore, RefusesBytes, TakesItem, TakesWithin};
 
 mod error;
 mod parts;
@@ -28,14 +20,12 @@ fn read<R: Read>(
     scratch: &mut [u8],
     limit: usize,
 ) -> Result<Value, Error<io::Error>>
-    ensures ok { (b : List ℕ) → R.remaining reader.old ≡ Some b → IfOk result (λ v. TakesValue b limit (tree_of v) (R.remaining reader.new)) }
-    ensures exact { (b s left : List ℕ) (i : Item) → R.remaining reader.old ≡ Some b → AreBytes b → IsGood i (Some limit) s 0 → b ≡ s ++ left →
-        AnswersItem i left (R.remaining reader.new) result }
-    ensures refused { (b : List ℕ) → R.remaining reader.old ≡ Some b → IfErr result (λ e. RefusedBy (R.remaining reader.new) e (λ r. Refuses b 0 (Some limit) r)) }
-    ensures bounded { (b left : List ℕ) → R.remaining reader.old ≡ Some b → R.remaining reader.new ≡ Some left →
-        IfOk result (λ v. node_count (tree_of v) + payload_size (tree_of v) + length left ≤ length b) }
-    ensures proper { (b : List ℕ) → R.remaining reader.old ≡ Some b → AreBytes b → IfOk result (λ v. IsProperTree (tree_of v)) }
-    ensures within { (b left : List ℕ) → R.remaining reader.old ≡ Some b → R.remaining reader.new ≡ Some left → OnOk result (length b ≤ length left + greatest_offset) }
+    ensures ok { TakesItem (R.remaining reader.old) limit (R.remaining reader.new) result }
+    ensures exact { AnswersGoodItem (R.remaining reader.old) limit (R.remaining reader.new) result }
+    ensures refused { RefusesBytes (R.remaining reader.old) limit (R.remaining reader.new) result }
+    ensures bounded { HoldsNoMore (R.remaining reader.old) (R.remaining reader.new) result }
+    ensures proper { AnswersProper (R.remaining reader.old) result }
+    ensures within { TakesWithin (R.remaining reader.old) (R.remaining reader.new) result }
 {
     let mut decoder = Decoder::new(reader);
     reading::read_value(alloc, &mut decoder, scratch, limit)
@@ -56,14 +46,12 @@ fn read<R: Read>(
 /// where the item would pass the greatest offset; `Memory` where a growth was refused. A beginning
 /// of the item has then been taken from the reader.
 pub fn from_reader<R: Read>(alloc: Global, reader: &mut R) -> Result<Value, Error<io::Error>>
-    ensures ok { (b : List ℕ) → R.remaining reader.old ≡ Some b → IfOk result (λ v. TakesValue b 256 (tree_of v) (R.remaining reader.new)) }
-    ensures exact { (b s left : List ℕ) (i : Item) → R.remaining reader.old ≡ Some b → AreBytes b → IsGood i (Some 256) s 0 → b ≡ s ++ left →
-        AnswersItem i left (R.remaining reader.new) result }
-    ensures refused { (b : List ℕ) → R.remaining reader.old ≡ Some b → IfErr result (λ e. RefusedBy (R.remaining reader.new) e (λ r. Refuses b 0 (Some 256) r)) }
-    ensures bounded { (b left : List ℕ) → R.remaining reader.old ≡ Some b → R.remaining reader.new ≡ Some left →
-        IfOk result (λ v. node_count (tree_of v) + payload_size (tree_of v) + length left ≤ length b) }
-    ensures proper { (b : List ℕ) → R.remaining reader.old ≡ Some b → AreBytes b → IfOk result (λ v. IsProperTree (tree_of v)) }
-    ensures within { (b left : List ℕ) → R.remaining reader.old ≡ Some b → R.remaining reader.new ≡ Some left → OnOk result (length b ≤ length left + greatest_offset) }
+    ensures ok { TakesItem (R.remaining reader.old) 256 (R.remaining reader.new) result }
+    ensures exact { AnswersGoodItem (R.remaining reader.old) 256 (R.remaining reader.new) result }
+    ensures refused { RefusesBytes (R.remaining reader.old) 256 (R.remaining reader.new) result }
+    ensures bounded { HoldsNoMore (R.remaining reader.old) (R.remaining reader.new) result }
+    ensures proper { AnswersProper (R.remaining reader.old) result }
+    ensures within { TakesWithin (R.remaining reader.old) (R.remaining reader.new) result }
 {
     let mut scratch = [0u8; 4096];
     read(alloc, reader, &mut scratch, 256)
@@ -76,14 +64,12 @@ pub fn from_reader_with_buffer<R: Read>(
     reader: &mut R,
     scratch: &mut [u8],
 ) -> Result<Value, Error<io::Error>>
-    ensures ok { (b : List ℕ) → R.remaining reader.old ≡ Some b → IfOk result (λ v. TakesValue b 256 (tree_of v) (R.remaining reader.new)) }
-    ensures exact { (b s left : List ℕ) (i : Item) → R.remaining reader.old ≡ Some b → AreBytes b → IsGood i (Some 256) s 0 → b ≡ s ++ left →
-        AnswersItem i left (R.remaining reader.new) result }
-    ensures refused { (b : List ℕ) → R.remaining reader.old ≡ Some b → IfErr result (λ e. RefusedBy (R.remaining reader.new) e (λ r. Refuses b 0 (Some 256) r)) }
-    ensures bounded { (b left : List ℕ) → R.remaining reader.old ≡ Some b → R.remaining reader.new ≡ Some left →
-        IfOk result (λ v. node_count (tree_of v) + payload_size (tree_of v) + length left ≤ length b) }
-    ensures proper { (b : List ℕ) → R.remaining reader.old ≡ Some b → AreBytes b → IfOk result (λ v. IsProperTree (tree_of v)) }
-    ensures within { (b left : List ℕ) → R.remaining reader.old ≡ Some b → R.remaining reader.new ≡ Some left → OnOk result (length b ≤ length left + greatest_offset) }
+    ensures ok { TakesItem (R.remaining reader.old) 256 (R.remaining reader.new) result }
+    ensures exact { AnswersGoodItem (R.remaining reader.old) 256 (R.remaining reader.new) result }
+    ensures refused { RefusesBytes (R.remaining reader.old) 256 (R.remaining reader.new) result }
+    ensures bounded { HoldsNoMore (R.remaining reader.old) (R.remaining reader.new) result }
+    ensures proper { AnswersProper (R.remaining reader.old) result }
+    ensures within { TakesWithin (R.remaining reader.old) (R.remaining reader.new) result }
 {
     read(alloc, reader, scratch, 256)
 }
@@ -95,14 +81,12 @@ pub fn from_reader_with_recursion_limit<R: Read>(
     reader: &mut R,
     limit: usize,
 ) -> Result<Value, Error<io::Error>>
-    ensures ok { (b : List ℕ) → R.remaining reader.old ≡ Some b → IfOk result (λ v. TakesValue b limit (tree_of v) (R.remaining reader.new)) }
-    ensures exact { (b s left : List ℕ) (i : Item) → R.remaining reader.old ≡ Some b → AreBytes b → IsGood i (Some limit) s 0 → b ≡ s ++ left →
-        AnswersItem i left (R.remaining reader.new) result }
-    ensures refused { (b : List ℕ) → R.remaining reader.old ≡ Some b → IfErr result (λ e. RefusedBy (R.remaining reader.new) e (λ r. Refuses b 0 (Some limit) r)) }
-    ensures bounded { (b left : List ℕ) → R.remaining reader.old ≡ Some b → R.remaining reader.new ≡ Some left →
-        IfOk result (λ v. node_count (tree_of v) + payload_size (tree_of v) + length left ≤ length b) }
-    ensures proper { (b : List ℕ) → R.remaining reader.old ≡ Some b → AreBytes b → IfOk result (λ v. IsProperTree (tree_of v)) }
-    ensures within { (b left : List ℕ) → R.remaining reader.old ≡ Some b → R.remaining reader.new ≡ Some left → OnOk result (length b ≤ length left + greatest_offset) }
+    ensures ok { TakesItem (R.remaining reader.old) limit (R.remaining reader.new) result }
+    ensures exact { AnswersGoodItem (R.remaining reader.old) limit (R.remaining reader.new) result }
+    ensures refused { RefusesBytes (R.remaining reader.old) limit (R.remaining reader.new) result }
+    ensures bounded { HoldsNoMore (R.remaining reader.old) (R.remaining reader.new) result }
+    ensures proper { AnswersProper (R.remaining reader.old) result }
+    ensures within { TakesWithin (R.remaining reader.old) (R.remaining reader.new) result }
 {
     let mut scratch = [0u8; 4096];
     read(alloc, reader, &mut scratch, limit)

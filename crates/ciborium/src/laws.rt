@@ -5,8 +5,8 @@ ghost use Rattle.ciborium.specs.EncodingLaws.{EncodingSpells, HeadsRise, OneTree
 
 pub use ciborium_ll::laws::{header_bytes_spell, one_header, shortest_head, unique_spelling};
 pub use ciborium_value::laws::{
-    bytes_of_bignums, good_or_refused, meaning_of_written_is_folded, order_of_values,
-    worked_examples,
+    bytes_of_bignums, good_or_refused, meaning_of_written_is_folded, order_of_integers,
+    order_of_values, worked_examples,
 };
 
 /// Whatever meets the clauses of the reading calls is one answer for the same bytes and limit: the

@@ -2,4 +2,5 @@
 
 pub mod canonical;
 
+pub use canonical::CanonicalValue;
 pub use ciborium_value::{Integer, Kind, OutOfRange, Value};

@@ -4,6 +4,7 @@ pub mod ReadHeads
 mod ItemReader
 pub mod UniqueSpelling
 pub mod ShortestHead
+pub mod HeadOrder
 pub mod OneHeader
 mod HeaderBytes
 pub mod HeadAnswers

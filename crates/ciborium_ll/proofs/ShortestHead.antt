@@ -4,7 +4,7 @@ use Rattle.ciborium_ll.specs.Head.{Width, within, one_byte, two_bytes, four_byte
 use Rattle.ciborium_ll.specs.Laws.{ShortestIsHead, NoneIsShorter, NoOtherIsAsShort}
 
 -- the narrowest width holds its number
-narrowest-holds : (n : ℕ) → n < 2 ^ 64 → n < capacity (narrowest n)
+pub narrowest-holds : (n : ℕ) → n < 2 ^ 64 → n < capacity (narrowest n)
 narrowest-holds n h = grind (arith, capacity, narrowest)
 
 -- no width that holds a number is narrower

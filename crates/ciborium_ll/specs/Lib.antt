@@ -3,6 +3,7 @@ pub mod Head
 pub mod Item
 pub mod Spells
 pub mod Proper
+pub mod Integer
 pub mod Refusal
 pub mod StringRefusal
 pub mod Laws

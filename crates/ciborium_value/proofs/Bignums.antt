@@ -6,7 +6,7 @@ use Rattle.std.proofs.lemmas.Bool.Decides.{nat_tests}
 use lib.Arith.{mod-mul}
 use Rattle.ciborium_value.specs.Meaning.{big_endian_behind, big_endian, without_zeros}
 use Rattle.ciborium_value.specs.Number.{shortest_bytes, BytesHoldNumber, NoLeadingZeros}
-use Rattle.ciborium_value.proofs.HeadOrder.{byte_at-is, power_above}
+use Rattle.ciborium_ll.proofs.HeadOrder.{byte_at-is, power_above}
 
 one_more : (m d r p : ℕ) → (256 * m + d) * p + r ≡ m * (256 * p) + (d * p + r)
 one_more m d r p = omega (arith, add-mul (256 * m) d p, mul_assoc 256 m p, mul_left_comm 256 m p)

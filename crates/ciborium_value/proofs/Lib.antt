@@ -3,8 +3,8 @@ pub mod TagParts
 mod LoneValue
 pub mod Derived
 pub mod OrderedTrees
+mod OrderedIntegers
 pub mod CanonicalValues
-pub mod HeadOrder
 pub mod Bignums
 pub mod Folding
 pub mod Written

@@ -2,25 +2,17 @@
 use Rattle.std.proofs.Common.{◌≡◌, ℕ, suc, ◌^◌, ◌<◌, ◌≤◌, Bool, true, false, List, [], ◌∷◌, ◌++◌, length, is_some, refl, sym, ap, ◌∙◌, lit<, arith, ◌⊎◌, inl, inr, pos, negsuc, IsUtf8, append-nil}
 use Rattle.std.proofs.lemmas.Bool.Decides.{nat_tests}
 use Rattle.ciborium_ll.specs.Bytes.{greatest_offset}
-use Rattle.ciborium_ll.specs.Head.{capacity, narrowest, shortest_head, simple_bytes, IsSimple, IsFloat}
+use Rattle.ciborium_ll.specs.Head.{shortest_head, simple_bytes, IsSimple, IsFloat}
 use Rattle.ciborium_ll.specs.Item.{Item, unsigned, negative, bytes, text, array, map, tag, simple, float, Items, no_items, item, items_count, Pairs, no_pairs, pair, pairs_count}
 use Rattle.ciborium_ll.specs.Proper.{IsProperItem, AreProperItems, AreProperPairs}
 use Rattle.ciborium_ll.specs.Spells.{AnyBytes, IsDefiniteString, IsString, Encloses, Spells, SpellsItems, SpellsPairs}
-use Rattle.ciborium_ll.specs.Laws.{ShortestIsHead}
+use Rattle.ciborium_ll.proofs.ShortestHead.{shortest_is_head}
 use Rattle.ciborium_value.specs.Encoding.{item_of, items_of, pairs_of, enclosed, string_bytes, float_bytes, written_bytes, items_bytes, pairs_bytes}
 use Rattle.ciborium_value.specs.FoldingLaws.{EncodingIsGood}
 use Rattle.ciborium_value.specs.Proper.{IsProperTree, AreProperTrees, AreProperTreePairs}
 use Rattle.ciborium_value.specs.Tree as trees
 use Rattle.ciborium_value.specs.Tree.{Tree, Trees, TreePairs, trees_count, tree_pairs_count}
 use Rattle.ciborium_value.proofs.Folding.{written_means_folded}
-
--- the narrowest width holds its number
-narrowest-holds : (n : ℕ) → n < 2 ^ 64 → n < capacity (narrowest n)
-narrowest-holds n h = grind (arith, capacity, narrowest)
-
-shortest_is_head : ShortestIsHead
-unfolding shortest_head
-shortest_is_head major n h = (narrowest n, narrowest-holds n h, refl)
 
 -- ---- strings, containers, simple values and floats
 

@@ -1,8 +1,10 @@
 -- What holds of the order of values.
-use Rattle.std.specs.Prelude.{◌≡◌, ◌↔◌, IsTrue, Some}
+use Rattle.std.specs.Prelude.{◌≡◌, ◌↔◌, ℤ, IsTrue, Some}
 use Rattle.std.specs.declared.cmp.Ordering.TheVariants.{Equal}
 use Rattle.std.specs.Cmp.{IsTotalOrder, IsEquivalence}
-use Rattle.ciborium_value.specs.Tree.{Tree}
+use Rattle.ciborium_ll.specs.Integer.{integer_order}
+use Rattle.ciborium_value.specs.Canonical.{canonical_order}
+use Rattle.ciborium_value.specs.Tree.{Tree, integer}
 use Rattle.ciborium_value.specs.View.{tree_of}
 use Rattle.ciborium_value.specs.Order.{tree_cmp}
 use Rattle.ciborium_value.specs.Derived.{value_eq, value_cmp, value_partial_cmp}
@@ -30,3 +32,7 @@ ValuesAreOrdered = IsTotalOrder value_cmp
 -- a value is equal to itself; equality goes both ways, and is transitive
 abbrev pub EqualityIsEquivalence : Type 0
 EqualityIsEquivalence = IsEquivalence value_eq
+
+-- the canonical order of two numbers is that of them as trees
+abbrev pub IntegersAsTrees : Type 0
+IntegersAsTrees = (z y : ℤ) → integer_order z y ≡ canonical_order (integer z) (integer y)

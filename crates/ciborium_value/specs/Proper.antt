@@ -1,13 +1,9 @@
 -- Trees that a program can hold: Integers within CBOR's range, bytes below 256, UTF-8, and no length or count past the greatest `usize`.
-use Rattle.std.specs.Prelude.{◌≤◌, ℤ, pos, negsuc}
+use Rattle.std.specs.Prelude.{◌≤◌}
 use Rattle.ciborium_ll.specs.Bytes.{greatest_offset}
+use Rattle.ciborium_ll.specs.Integer.{IsInRange}
 use Rattle.ciborium_ll.specs.Proper.{IsArgument, IsProperBytes, IsProperText}
 use Rattle.ciborium_value.specs.Tree.{Tree, integer, bytes, text, boolean, null, tag, array, map, Trees, no_trees, tree, trees_count, TreePairs, no_tree_pairs, tree_pair, tree_pairs_count}
-
--- from -2^64 to 2^64 - 1 (RFC 8949, section 3.1)
-abbrev pub IsInRange : ℤ → Type 0
-IsInRange (pos n) = IsArgument n
-IsInRange (negsuc n) = IsArgument n
 
 abbrev mutual
   -- a tree that a program can hold

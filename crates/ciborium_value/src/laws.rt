@@ -5,7 +5,7 @@ ghost use Rattle.ciborium_value.specs.Examples.{CornerExamples, CountedExamples,
 ghost use Rattle.ciborium_value.specs.FoldingLaws.{EncodingIsGood, FoldsOnce, WrittenMeansFolded};
 ghost use Rattle.ciborium_value.specs.Laws.{GoodOrRefused, NeverBoth, OneRefusal};
 ghost use Rattle.ciborium_value.specs.Number.{BytesHoldNumber, NoLeadingZeros};
-ghost use Rattle.ciborium_value.specs.OrderLaws.{EqualAsTrees, EqualityIsEquivalence, OrderedAsTrees, PartlyOrderedAsTrees, TiedWhereEqual, ValuesAreOrdered};
+ghost use Rattle.ciborium_value.specs.OrderLaws.{EqualAsTrees, EqualityIsEquivalence, IntegersAsTrees, OrderedAsTrees, PartlyOrderedAsTrees, TiedWhereEqual, ValuesAreOrdered};
 
 /// All bytes, at every offset and under every limit of levels, begin with a good item or are
 /// refused, never both, and with one refusal alone.
@@ -49,4 +49,10 @@ pub fn order_of_values()
 pub fn bytes_of_bignums()
     ensures number { BytesHoldNumber }
     ensures shortest { NoLeadingZeros }
+{}
+
+/// The canonical order of two numbers, which `Integer::canonical_cmp` answers, is the canonical order
+/// of them as trees (RFC 8949, section 4.2.3; RFC 7049, section 3.9).
+pub fn order_of_integers()
+    ensures { IntegersAsTrees }
 {}

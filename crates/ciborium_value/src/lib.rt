@@ -2,12 +2,11 @@
 #![tactic(auto)]
 
 mod clone;
-mod integer;
 mod kind;
 pub mod laws;
 pub mod stack;
 mod value;
 
-pub use integer::{Integer, OutOfRange};
+pub use ciborium_ll::{Integer, OutOfRange};
 pub use kind::Kind;
 pub use value::Value;

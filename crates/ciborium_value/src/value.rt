@@ -5,7 +5,7 @@ mod conversions;
 #[cfg(test)]
 mod tests;
 
-use crate::integer::Integer;
+use ciborium_ll::Integer;
 
 /// A CBOR item in memory (RFC 8949, section 3), without floats. Two values are equal where their
 /// variants and contents are. They are ordered by the variant, as declared, and then by content.

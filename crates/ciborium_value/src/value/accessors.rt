@@ -11,8 +11,8 @@ ghost use Rattle.ciborium_value.specs.Variants.{IsInteger, IsBytes, IsText, IsTe
 ghost use Rattle.ciborium_value.specs.contracts.value.Value.{the_row};
 ghost use Rattle.ciborium_value.specs.declared.value.Value as value;
 
-use crate::integer::Integer;
 use crate::value::Value;
+use ciborium_ll::Integer;
 
 impl Value {
     /// True exactly at an integer.

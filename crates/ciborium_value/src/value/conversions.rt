@@ -8,8 +8,8 @@ ghost use Rattle.ciborium_value.specs.View.{tree_of, trees_of, tree_pairs_of};
 ghost use Rattle.ciborium_value.specs.declared.value.Value as value;
 
 use crate::clone::{copy_pairs, copy_values};
-use crate::integer::Integer;
 use crate::value::Value;
+use ciborium_ll::Integer;
 use std::alloc::{AllocError, Global};
 use std::convert::TryFrom;
 

@@ -3,8 +3,8 @@ ghost use Rattle.std.specs.Borrow.{sem};
 ghost use Rattle.ciborium_value.specs.LentParts.{LendsTagIn};
 ghost use Rattle.ciborium_value.specs.Variants.{IsTag, IsTagOf};
 
-use crate::integer::Integer;
 use crate::value::Value;
+use ciborium_ll::Integer;
 use std::alloc::{AllocError, Global};
 use std::test::Fail;
 

@@ -1,6 +1,7 @@
-use super::{CanonicalValue, cmp_value, cmp_value_counted};
+use super::{cmp_value, cmp_value_counted};
 use crate::de::from_reader;
 use crate::ser::into_writer;
+use crate::value::CanonicalValue;
 use ciborium_value::Value;
 use std::alloc::{AllocError, Global};
 use std::cmp::Ordering;

@@ -3,7 +3,7 @@
 ghost use Rattle.std.specs.Prelude.{◌≡◌, pos, ◌≤ℤ◌, unsigned_abs, FitsSigned};
 ghost use Rattle.std.specs.Int.{w8, w16, w32, w64, FitsUnsigned};
 ghost use Rattle.std.specs.Result.{OkIff};
-ghost use Rattle.ciborium_value.specs.Proper.{IsInRange};
+ghost use Rattle.ciborium_ll.specs.Integer.{IsInRange};
 
 use crate::integer::{Integer, OutOfRange};
 use std::convert::TryFrom;

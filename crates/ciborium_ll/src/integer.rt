@@ -2,7 +2,7 @@
 
 ghost use Rattle.std.specs.Prelude.{◌≡◌, ℤ, length};
 ghost use Rattle.ciborium_ll.specs.Head.{shortest_head};
-ghost use Rattle.ciborium_value.specs.Proper.{IsInRange};
+ghost use Rattle.ciborium_ll.specs.Integer.{IsInRange};
 
 mod conversions;
 #[cfg(test)]
@@ -33,8 +33,7 @@ pub struct OutOfRange;
 
 impl Integer {
     ghost use Rattle.std.specs.Int.{complement_if};
-    ghost use Rattle.ciborium_value.specs.Canonical.{canonical_order};
-    ghost use Rattle.ciborium_value.specs.Tree.{integer};
+    ghost use Rattle.ciborium_ll.specs.Integer.{integer_order};
 
     const LEAST: i128 = -(1 << 64);
 
@@ -43,7 +42,7 @@ impl Integer {
     /// The order of map keys: the shorter encoding first, and of two of one size the one with the
     /// first lower byte (RFC 8949, section 4.2.3; RFC 7049, section 3.9). It takes no memory.
     pub fn canonical_cmp(&self, other: &Integer) -> Ordering
-        ensures { result ≡ canonical_order (integer self.now) (integer other.now) }
+        ensures { result ≡ integer_order self.now other.now }
     {
         let (negative, argument) = self.head();
         let (other_negative, other_argument) = other.head();
@@ -66,7 +65,7 @@ impl Integer {
 }
 
 /// How many bytes the shortest head with this argument has (section 4.1).
-#[tactic(auto, unfolding(ciborium_ll::specs::Head::shortest_head))]
+#[tactic(auto, unfolding(crate::specs::Head::shortest_head))]
 fn head_size(argument: u64) -> u8
     ensures { result ≡ length (shortest_head 0 argument) }
 {

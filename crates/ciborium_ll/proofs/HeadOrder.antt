@@ -1,5 +1,5 @@
 -- The canonical order of two integers, by their heads: the shorter head, then the lower major type, then the lower argument.
-use Rattle.std.proofs.Common.{◌≡◌, ℕ, zero, suc, ◌+◌, ◌*◌, ◌/◌, ◌%◌, ◌^◌, ◌<◌, List, length, Bool, true, false, min, refl, sym, ap, ◌∙◌, arith, Ordering, Less, Equal, Greater, nat_cmp, lit<, [], ◌∷◌, ◌-◌}
+use Rattle.std.proofs.Common.{◌≡◌, ℕ, zero, suc, ◌+◌, ◌*◌, ◌/◌, ◌%◌, ◌^◌, ◌<◌, List, length, Bool, true, false, refl, sym, ap, ◌∙◌, arith, Ordering, Less, Equal, Greater, nat_cmp, lit<, [], ◌∷◌}
 use Rattle.std.proofs.Math.Nat.{mul_comm, div-one, mod-one, mod-eq_of_lt, pow-succ'}
 use Rattle.std.proofs.lemmas.Nat.{mul-add-lt, mod_below}
 use Rattle.std.proofs.lemmas.Cmp.{ranked, tied_itself, nat_cmp_total}
@@ -9,8 +9,8 @@ use Rattle.std.specs.Int.{byte_at, bytes_high_first, complement_if}
 use Rattle.std.specs.Ordering.{MatchOrdering, ordering_then, bool_cmp}
 use lib.Arith.{mod-mul}
 use Rattle.ciborium_ll.specs.Head.{Width, within, one_byte, two_bytes, four_bytes, eight_bytes, capacity, head_in, narrowest, shortest_head, initial_byte}
-use Rattle.ciborium_value.specs.Tree.{integer}
-use Rattle.ciborium_value.specs.Canonical.{canonical_order}
+use Rattle.ciborium_ll.proofs.ShortestHead.{narrowest-holds}
+use Rattle.ciborium_ll.specs.Integer.{integer_order}
 
 -- ---- big-endian bytes
 
@@ -78,7 +78,7 @@ wide : (b c : Bool) (i : ℕ) (x y : List ℕ) (n m : ℕ) → i < 32 → slice_
 wide b c i x y n m h e = rw (first_bytes_in_order b c i i h h, tied_itself nat_cmp_total i, then_equal (bool_cmp b c), e) refl
 
 abbrev size_and_bytes : List ℕ → List ℕ → Ordering
-size_and_bytes x y = ordering_then (nat_cmp (min (length x) (2 ^ 64 - 1)) (min (length y) (2 ^ 64 - 1))) (slice_cmp nat_cmp x y)
+size_and_bytes x y = ordering_then (nat_cmp (length x) (length y)) (slice_cmp nat_cmp x y)
 
 in_order : (f g : Width) (b c : Bool) (n m : ℕ) → n < capacity f → m < capacity g →
     size_and_bytes (head_in f (major b) n) (head_in g (major c) m)
@@ -90,11 +90,8 @@ in_order four_bytes four_bytes b c n m h l = wide b c 26 (bytes_high_first 4 n) 
 in_order eight_bytes eight_bytes b c n m h l = wide b c 27 (bytes_high_first 8 n) (bytes_high_first 8 m) n m (lit< tt) (arguments_in_order 8 n m h l)
 in_order f g b c n m h l = refl
 
-pub narrowest-holds : (n : ℕ) → n < 2 ^ 64 → n < capacity (narrowest n)
-narrowest-holds n h = grind (arith, capacity, narrowest)
-
 pub integers_in_order : (b c : Bool) (n m : ℕ) → n < 2 ^ 64 → m < 2 ^ 64 →
-    canonical_order (integer (complement_if b n)) (integer (complement_if c m))
+    integer_order (complement_if b n) (complement_if c m)
     ≡ ordering_then (ordering_then (nat_cmp (length (shortest_head 0 n)) (length (shortest_head 0 m))) (bool_cmp b c)) (nat_cmp n m)
 unfolding shortest_head
 integers_in_order true true n m h l = in_order (narrowest n) (narrowest m) true true n m (narrowest-holds n h) (narrowest-holds m l)

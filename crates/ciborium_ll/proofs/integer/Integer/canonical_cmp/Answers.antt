@@ -1,6 +1,6 @@
 use Rattle.std.proofs.Common.{◌<◌, ◌^◌, sym, arith}
-use Rattle.ciborium_value.proofs.HeadOrder.{integers_in_order}
-use Rattle.ciborium_value.proofs.integer.Integer.canonical_cmp.Goals as goal
+use Rattle.ciborium_ll.proofs.HeadOrder.{integers_in_order}
+use Rattle.ciborium_ll.proofs.integer.Integer.canonical_cmp.Goals as goal
 
 pub returns : goal.returns
 returns c =
