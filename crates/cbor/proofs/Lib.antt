@@ -2,6 +2,6 @@ pub mod Answering
 pub mod AnsweredLines
 pub mod AskedWords
 pub mod MeantLines
-pub mod OneAnswer
+pub mod OneLineAnswer
 pub mod SortedValues
 pub mod WrittenLines

@@ -6,7 +6,7 @@ use Rattle.std.specs.Io.BufRead.{drop_through}
 use Rattle.std.specs.Io.KnownBytes.{Keeps}
 use Rattle.ciborium_value.specs.Tree.{Tree}
 use Rattle.ciborium_value.specs.View.{tree_of}
-use Rattle.ciborium_value.specs.declared.value.Value.{Value}
+use Rattle.ciborium_value.specs.declared.tree.Value.{Value}
 use Rattle.cbor.specs.Lines.{first_line}
 use Rattle.cbor.specs.Read.{LineMeans}
 use Rattle.cbor.specs.SortedLines as lines

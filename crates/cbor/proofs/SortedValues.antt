@@ -8,8 +8,8 @@ use Rattle.std.specs.Ordering.{ordering_reverse}
 use Rattle.ciborium_value.specs.Canonical.{canonical_order}
 use Rattle.ciborium_value.specs.Tree.{Tree}
 use Rattle.ciborium_value.specs.View.{tree_of}
-use Rattle.ciborium_value.specs.declared.value.Value.{Value}
-use Rattle.ciborium_value.proofs.CanonicalValues.{canonical_order_total}
+use Rattle.ciborium_value.specs.declared.tree.Value.{Value}
+use Rattle.ciborium_value.proofs.TotalOrders.{canonical_order_total}
 use Rattle.cbor.specs.Sorted.{AreSorted}
 
 -- the test by which values are sorted

@@ -4,7 +4,7 @@ use Rattle.std.proofs.lemmas.List.{flat_map_more, map_more}
 use Rattle.std.specs.Io.KnownBytes.{Appends}
 use Rattle.ciborium_value.specs.Tree.{Tree}
 use Rattle.ciborium_value.specs.View.{tree_of}
-use Rattle.ciborium_value.specs.declared.value.Value.{Value}
+use Rattle.ciborium_value.specs.declared.tree.Value.{Value}
 use Rattle.cbor.specs.SortedLines.{hex_line}
 
 -- what known bytes become

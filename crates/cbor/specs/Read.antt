@@ -1,16 +1,14 @@
 -- What is read from a line.
-use Rattle.std.specs.Prelude.{◌≡◌, ℕ, List, Some, MatchResult}
+use Rattle.std.specs.Prelude.{ℕ, List, Some, MatchResult}
 use Rattle.hex.specs.Hex.{decode_of}
-use Rattle.ciborium_ll.specs.Item.{Item}
-use Rattle.ciborium_value.specs.Meaning.{meaning}
-use Rattle.ciborium_value.specs.Refuses.{IsGood}
+use Rattle.ciborium_value.specs.Refuses.{IsReadAs}
 use Rattle.ciborium_value.specs.Tree.{Tree}
 use Rattle.cbor.specs.Line.{BytesAnswer, LineAnswer}
 use Rattle.cbor.specs.Lines.{IsOkAnswer}
 
 -- all of b is one good item within so many levels, and means v
 abbrev pub BytesMean : List ℕ → ℕ → Tree → Type 0
-BytesMean b limit v = (i : Item) × IsGood i (Some limit) b 0 × (meaning i ≡ Some v)
+BytesMean b limit v = IsReadAs b 0 (Some limit) v
 
 -- a line is the hex of such bytes
 abbrev pub LineMeans : List ℕ → ℕ → Tree → Type 0

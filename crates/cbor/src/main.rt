@@ -2,8 +2,8 @@
 //! encoding. `cbor sort` writes the encodings of all lines in the canonical order.
 #![tactic(auto)]
 
-mod laws;
 mod line;
+mod line_laws;
 mod run;
 mod sort;
 

@@ -9,7 +9,7 @@ use Rattle.ciborium_ll.specs.Header.{SpellsHeader}
 use Rattle.ciborium_ll.specs.Item as item
 use Rattle.ciborium_ll.specs.Refusal.{Refusal, semantic, TooLarge, recursion_limit_exceeded, HeadRefuses, IsUsable, HeadStands}
 use Rattle.ciborium_ll.proofs.OneHeader.{one_header_at_front}
-use Rattle.ciborium_value.specs.declared.value.Value.{Value}
+use Rattle.ciborium_value.specs.declared.tree.Value.{Value}
 use Rattle.ciborium_value.specs.declared.stack.Opening.TheVariants as opening
 use Rattle.ciborium_value.specs.Meaning.{meaning, tag_meaning, folding_bytes, bignum_meaning, is_bignum_tag, big_endian}
 use Rattle.ciborium_value.specs.Nesting.{nesting, tag_nesting}

@@ -9,7 +9,7 @@ use Rattle.ciborium_value.specs.Encoding.{encoding, encoded_size}
 use Rattle.ciborium_value.specs.Proper.{IsProperTree}
 use Rattle.ciborium_value.specs.Tree.{Tree}
 use Rattle.ciborium_value.specs.View.{tree_of}
-use Rattle.ciborium_value.specs.declared.value.Value.{Value}
+use Rattle.ciborium_value.specs.declared.tree.Value.{Value}
 use Rattle.ciborium_value.proofs.Derived.{value_cmp-is}
 use Rattle.ciborium_value.proofs.OrderedTrees.{tied_where_equal}
 use Rattle.ciborium.proofs.TreeEncodings.{tied_encodings}

@@ -15,8 +15,8 @@ use Rattle.ciborium_ll.specs.Strings.{StringTaken}
 use Rattle.ciborium_ll.proofs.ReadHeads.{payload_length-is}
 use Rattle.ciborium_ll.proofs.UsableHeads.{usable-fits, HeadFits, information-below, argument-information, argument_length-information}
 use Rattle.ciborium_ll.proofs.Unread.{rest-of}
-use Rattle.ciborium_value.specs.declared.value.Value.{Value}
-use Rattle.ciborium_value.specs.declared.value.Value.TheVariants as value
+use Rattle.ciborium_value.specs.declared.tree.Value.{Value}
+use Rattle.ciborium_value.specs.declared.tree.Value.TheVariants as value
 use Rattle.ciborium_value.specs.Tree as trees
 use Rattle.ciborium_value.proofs.Views.{tree_of-Text}
 use Rattle.ciborium_value.specs.Refuses.{Refuses}

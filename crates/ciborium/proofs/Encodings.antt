@@ -4,8 +4,8 @@ use Rattle.ciborium_ll.specs.Head.{shortest_head}
 use Rattle.ciborium_ll.specs.Item.{items_count, pairs_count}
 use Rattle.ciborium_value.specs.Encoding.{encoding, items_of, pairs_of}
 use Rattle.ciborium_value.specs.View.{tree_of, trees_of, tree_pairs_of}
-use Rattle.ciborium_value.specs.declared.value.Value as value
-use Rattle.ciborium_value.specs.declared.value.Value.{Value}
+use Rattle.ciborium_value.specs.declared.tree.Value as value
+use Rattle.ciborium_value.specs.declared.tree.Value.{Value}
 use Rattle.ciborium_value.proofs.Views.{tree_of-Tag, tree_of-Array, tree_of-Map}
 use Rattle.ciborium.specs.Writes.{encodings, pair_encodings}
 use Rattle.ciborium.proofs.Elements.{around, one_more}

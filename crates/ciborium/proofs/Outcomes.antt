@@ -7,7 +7,7 @@ use Rattle.ciborium_ll.specs.Item.{Item}
 use Rattle.ciborium_ll.specs.Refusal as refusal
 use Rattle.ciborium_ll.specs.Refusal.{Refusal}
 use Rattle.ciborium_ll.proofs.UniqueSpelling.{one_at_front}
-use Rattle.ciborium_value.specs.declared.value.Value.{Value}
+use Rattle.ciborium_value.specs.declared.tree.Value.{Value}
 use Rattle.ciborium_value.specs.Counts.{node_count, payload_size}
 use Rattle.ciborium_value.specs.Meaning.{meaning}
 use Rattle.ciborium_value.specs.Refuses.{IsGood, Refuses}

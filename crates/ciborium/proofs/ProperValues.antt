@@ -5,8 +5,8 @@ use Rattle.ciborium_ll.specs.Bytes.{AreBytes}
 use Rattle.ciborium_ll.specs.Proper.{IsProperBytes}
 use Rattle.ciborium_value.specs.Proper.{AreProperTrees, AreProperTreePairs, IsProperTree}
 use Rattle.ciborium_value.specs.View.{tree_of, trees_of, tree_pairs_of}
-use Rattle.ciborium_value.specs.declared.value.Value as value
-use Rattle.ciborium_value.specs.declared.value.Value.{Value}
+use Rattle.ciborium_value.specs.declared.tree.Value as value
+use Rattle.ciborium_value.specs.declared.tree.Value.{Value}
 use Rattle.ciborium_value.proofs.Views.{tree_of-Bytes, tree_of-Text, is_proper-Array, is_proper-Map}
 use Rattle.ciborium.proofs.Elements.{one_more}
 

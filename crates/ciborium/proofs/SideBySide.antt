@@ -9,10 +9,10 @@ use Rattle.ciborium_value.specs.Proper.{IsProperTree, AreProperTrees, AreProperT
 use Rattle.ciborium_value.specs.Tree as trees
 use Rattle.ciborium_value.specs.Tree.{Tree}
 use Rattle.ciborium_value.specs.View.{tree_of, trees_of, tree_pairs_of}
-use Rattle.ciborium_value.specs.declared.value.Value as value
-use Rattle.ciborium_value.specs.declared.value.Value.{Value, the_lemmas}
-use Rattle.ciborium_value.specs.declared.value.Value.TheOpen.{Value-F}
-use Rattle.ciborium_value.specs.declared.value.Value.TheViews.{out-Value, roll-Value}
+use Rattle.ciborium_value.specs.declared.tree.Value as value
+use Rattle.ciborium_value.specs.declared.tree.Value.{Value, the_lemmas}
+use Rattle.ciborium_value.specs.declared.tree.Value.TheOpen.{Value-F}
+use Rattle.ciborium_value.specs.declared.tree.Value.TheViews.{out-Value, roll-Value}
 use Rattle.ciborium_value.proofs.Views.{tree_of-Integer, tree_of-Bool, tree_of-Null, tree_of-Array, tree_of-Map}
 use Rattle.ciborium.specs.Heads.{major_of, argument_of, content_bytes, head_order}
 use Rattle.ciborium.specs.Writes.{encodings, pair_encodings}

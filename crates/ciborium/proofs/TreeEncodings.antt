@@ -10,8 +10,8 @@ use Rattle.ciborium_value.specs.Encoding.{encoding, encoded_size, item_of, items
 use Rattle.ciborium_value.specs.Proper.{IsProperTree}
 use Rattle.ciborium_value.specs.Tree.{Tree, integer, bytes, text, boolean, null, tag, array, map}
 use Rattle.ciborium_value.specs.View.{tree_of}
-use Rattle.ciborium_value.specs.declared.value.Value as value
-use Rattle.ciborium_value.specs.declared.value.Value.{Value}
+use Rattle.ciborium_value.specs.declared.tree.Value as value
+use Rattle.ciborium_value.specs.declared.tree.Value.{Value}
 use Rattle.ciborium_value.proofs.Views.{tree_of-Integer, tree_of-Bytes, tree_of-Text, tree_of-Bool, tree_of-Null, tree_of-Tag, tree_of-Array, tree_of-Map, trees_count-trees_of, tree_pairs_count-tree_pairs_of}
 use Rattle.ciborium_value.proofs.Written.{written_spells, IsProperItem-item_of, items_count-items_of, pairs_count-pairs_of}
 use Rattle.ciborium.specs.Heads.{major_of, argument_of, content_bytes, head_order}

@@ -4,7 +4,7 @@ use Rattle.std.specs.declared.alloc.AllocError.{AllocError}
 use Rattle.ciborium_ll.specs.declared.decoder.Decoder.{Decoder}
 use Rattle.ciborium_ll.specs.Decoding.{IsAhead, offset_of}
 use Rattle.ciborium_ll.specs.Refusal.{semantic, Break}
-use Rattle.ciborium_value.specs.declared.value.Value.{Value}
+use Rattle.ciborium_value.specs.declared.tree.Value.{Value}
 use Rattle.ciborium_value.specs.declared.stack.Opening.{Opening}
 use Rattle.ciborium_value.specs.Open.{Open, array, map, tag, Placed, more, placed, closed}
 use Rattle.ciborium_value.specs.Refuses.{Refuses}

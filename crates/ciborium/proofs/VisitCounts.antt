@@ -4,7 +4,7 @@ use Rattle.std.specs.Ordering.{is_ne}
 use Rattle.ciborium_value.specs.Counts.{node_count, trees_node_count, tree_pairs_node_count}
 use Rattle.ciborium_value.specs.Tree.{Tree}
 use Rattle.ciborium_value.specs.View.{tree_of, trees_of, tree_pairs_of}
-use Rattle.ciborium_value.specs.declared.value.Value.{Value}
+use Rattle.ciborium_value.specs.declared.tree.Value.{Value}
 use Rattle.ciborium.specs.Visits.{AddsVisits, AddsAtMost, both_node_count, counted}
 use Rattle.ciborium.proofs.Elements.{one_more}
 use Rattle.ciborium.proofs.SideBySide.{tied}

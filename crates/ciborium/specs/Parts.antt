@@ -8,7 +8,7 @@ use Rattle.ciborium_ll.specs.Decoding.{IsAhead, left_of}
 use Rattle.ciborium_ll.specs.Head.{break_byte}
 use Rattle.ciborium_ll.specs.Refusal.{Refusal, HeadRefuses, io, semantic, TooLarge}
 use Rattle.ciborium_value.specs.declared.kind.Kind.TheVariants as kinds
-use Rattle.ciborium_value.specs.declared.value.Value.{Value}
+use Rattle.ciborium_value.specs.declared.tree.Value.{Value}
 use Rattle.ciborium_value.specs.Meaning.{simple_meaning, bignum_meaning, is_bignum_tag}
 use Rattle.ciborium_value.specs.Open.{Open, array, map}
 use Rattle.ciborium_value.specs.Refuses.{Refuses}

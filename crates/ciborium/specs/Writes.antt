@@ -2,7 +2,7 @@
 use Rattle.std.specs.Prelude.{ℕ, List}
 use Rattle.ciborium_value.specs.Encoding.{items_of, pairs_of, items_bytes, pairs_bytes}
 use Rattle.ciborium_value.specs.View.{trees_of, tree_pairs_of}
-use Rattle.ciborium_value.specs.declared.value.Value.{Value as TreeValue}
+use Rattle.ciborium_value.specs.declared.tree.Value.{Value as TreeValue}
 use Rattle.ciborium.specs.declared.ser.Error.{Error}
 use Rattle.ciborium.specs.declared.ser.Error.TheVariants.{Io, Value, Memory}
 

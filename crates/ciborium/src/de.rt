@@ -2,9 +2,9 @@
 
 ghost use Rattle.ciborium.specs.Answers.{AnswersGoodItem, AnswersProper, HoldsNoMore, RefusesBytes, TakesItem, TakesWithin};
 
+mod building;
 mod error;
 mod parts;
-mod reading;
 mod tags;
 
 use ciborium_ll::Decoder;
@@ -28,7 +28,7 @@ fn read<R: Read>(
     ensures within { TakesWithin (R.remaining reader.old) (R.remaining reader.new) result }
 {
     let mut decoder = Decoder::new(reader);
-    reading::read_value(alloc, &mut decoder, scratch, limit)
+    building::read_value(alloc, &mut decoder, scratch, limit)
 }
 
 /// Reads one value: just the bytes of the item at the front, of any width and form, open ones too

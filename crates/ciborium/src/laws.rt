@@ -3,8 +3,10 @@
 ghost use Rattle.ciborium.specs.AnswerLaws.{OneAnswer};
 ghost use Rattle.ciborium.specs.EncodingLaws.{EncodingSpells, HeadsRise, OneTree, OthersAreLonger};
 
-pub use ciborium_ll::laws::{header_bytes_spell, one_header, shortest_head, unique_spelling};
-pub use ciborium_value::laws::{
+pub use ciborium_ll::spelling_laws::{
+    header_bytes_spell, one_header, shortest_head, unique_spelling,
+};
+pub use ciborium_value::tree_laws::{
     bytes_of_bignums, good_or_refused, meaning_of_written_is_folded, order_of_integers,
     order_of_values, worked_examples,
 };

@@ -5,7 +5,7 @@ use Rattle.std.proofs.Math.Seq.{take-append_seam, drop-append_seam}
 use Rattle.ciborium_ll.specs.Head.{Head, IsSimple, IsFloat}
 use Rattle.ciborium_ll.specs.Item.{Item, unsigned, negative, bytes, text, array, map, tag, simple, float, Items, no_items, item, Pairs, no_pairs, pair, items_count, pairs_count}
 use Rattle.ciborium_ll.specs.Spells.{AnyBytes, AreParts, joined, IsString, Spells, SpellsItems, SpellsPairs}
-use Rattle.ciborium_ll.proofs.Fronts.{Front, nothing, counted, opened, plain, raw, front, front_open, front-head, front-simple, head-length}
+use Rattle.ciborium_ll.proofs.FrontHeads.{Front, nothing, counted, opened, plain, raw, front, front_open, front-head, front-simple, head-length}
 
 abbrev pub Parse : Type 0 → Type 0
 Parse A = List ℕ → Option (A × List ℕ)

@@ -1,4 +1,4 @@
-pub mod Fronts
+pub mod FrontHeads
 pub mod UsableHeads
 pub mod ReadHeads
 mod ItemReader

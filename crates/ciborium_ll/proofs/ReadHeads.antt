@@ -8,7 +8,7 @@ use Rattle.std.proofs.lemmas.Nat.{be_bytes_2, be_bytes_4, be_bytes_8}
 use Rattle.ciborium_ll.specs.Head.{Width, within, one_byte, two_bytes, four_bytes, eight_bytes, information, argument_bytes, head_in, IsSimple, capacity}
 use Rattle.ciborium_ll.specs.Refusal.{io, too_long, argument_length, is_reserved, argument, payload_length, IsUsable, HeadStands}
 use Rattle.ciborium_ll.specs.Bytes.{greatest_offset}
-use Rattle.ciborium_ll.proofs.Fronts.{Front, nothing, counted, opened, plain, raw, front_number, front_other, front_in, front}
+use Rattle.ciborium_ll.proofs.FrontHeads.{Front, nothing, counted, opened, plain, raw, front_number, front_other, front_in, front}
 use Rattle.ciborium_ll.proofs.UsableHeads.{EachIsByte, byte_at, take_bytes, usable-fits, HeadFits, low, IsStringMajor, argument_length-information}
 
 -- what is known of the bytes where this head was read

@@ -7,7 +7,7 @@ use Rattle.std.proofs.lemmas.Nat.{div-mul-add, mod-mul-add, from_be_bytes-to_be_
 use Rattle.ciborium_ll.specs.Head.{Width, within, one_byte, two_bytes, four_bytes, eight_bytes, information, argument_bytes, head_in, capacity}
 use Rattle.ciborium_ll.specs.Refusal.{Refusal, syntax, too_long, argument_length, is_reserved, is_low_simple, argument, payload_length, initial_refusal, IsUsable, HeadStands}
 use Rattle.ciborium_ll.specs.Bytes.{greatest_offset}
-use Rattle.ciborium_ll.proofs.Fronts.{counted, front, front-head}
+use Rattle.ciborium_ll.proofs.FrontHeads.{counted, front, front-head}
 
 abbrev pub EachIsByte : List ℕ → Type 0
 EachIsByte [] = Unit {0}

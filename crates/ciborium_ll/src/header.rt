@@ -1,6 +1,7 @@
 //! Heads as values, and why a call is refused.
 
-ghost use Rattle.std.specs.Prelude.{◌≡◌};
+ghost use Rattle.std.specs.Prelude.{◌≡◌, length, ℕ};
+ghost use Rattle.ciborium_ll.specs.Head.{shortest_head};
 ghost use Rattle.ciborium_ll.specs.declared.header.Error.TheVariants.{Io};
 
 /// The head of a data item (RFC 8949, section 3), or a break.
@@ -51,5 +52,25 @@ impl<T> From<T> for Error<T> {
 
     fn from(error: T) -> Error<T> {
         Error::Io(error)
+    }
+}
+
+/// How many bytes the shortest head with this argument has, whatever its major type (RFC 8949,
+/// section 4.1).
+#[inline(always)]
+#[tactic(auto, unfolding(crate::specs::Head::shortest_head))]
+pub fn head_size(argument: u64) -> u64
+    ensures { (major : ℕ) → result ≡ length (shortest_head major argument) }
+{
+    if argument < 24 {
+        1
+    } else if argument < 1 << 8 {
+        2
+    } else if argument < 1 << 16 {
+        3
+    } else if argument < 1 << 32 {
+        5
+    } else {
+        9
     }
 }

@@ -1,13 +1,13 @@
 //! The whole numbers that CBOR's major types 0 and 1 hold (RFC 8949, section 3.1).
 
-ghost use Rattle.std.specs.Prelude.{◌≡◌, ℤ, length};
-ghost use Rattle.ciborium_ll.specs.Head.{shortest_head};
+ghost use Rattle.std.specs.Prelude.{◌≡◌, ℤ};
 ghost use Rattle.ciborium_ll.specs.Integer.{IsInRange};
 
-mod conversions;
 #[cfg(test)]
 mod tests;
+mod widths;
 
+use crate::header::head_size;
 use std::cmp::Ordering;
 use std::marker::Model;
 
@@ -52,8 +52,10 @@ impl Integer {
             .then(argument.cmp(&other_argument))
     }
 
-    /// Whether the number is negative, and the argument of its head: n for n, or for -1 - n.
-    fn head(self) -> (bool, u64)
+    /// Whether the number is negative, and the argument of its head: n for the number n, of major type
+    /// 0, and n for the number -1 - n, of major type 1 (RFC 8949, section 3.1).
+    #[inline(always)]
+    pub fn head(self) -> (bool, u64)
         ensures { complement_if result.0 result.1 ≡ self }
     {
         if self.number < 0 {
@@ -62,22 +64,15 @@ impl Integer {
             (false, self.number as u64)
         }
     }
-}
 
-/// How many bytes the shortest head with this argument has (section 4.1).
-#[tactic(auto, unfolding(crate::specs::Head::shortest_head))]
-fn head_size(argument: u64) -> u8
-    ensures { result ≡ length (shortest_head 0 argument) }
-{
-    if argument < 24 {
-        1
-    } else if argument < 1 << 8 {
-        2
-    } else if argument < 1 << 16 {
-        3
-    } else if argument < 1 << 32 {
-        5
-    } else {
-        9
+    /// The number whose head has this argument: the number n, or where it is negative -1 - n.
+    #[inline(always)]
+    pub fn from_head(negative: bool, argument: u64) -> Integer
+        ensures { result ≡ complement_if negative argument }
+    {
+        let number = argument as i128;
+        Integer {
+            number: if negative { -1 - number } else { number },
+        }
     }
 }

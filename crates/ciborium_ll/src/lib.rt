@@ -6,13 +6,15 @@ mod decoder;
 mod encoder;
 mod header;
 mod integer;
-pub mod laws;
 mod parsing;
 mod reading;
+pub mod simple;
+pub mod spelling_laws;
 mod strings;
+pub mod tag;
 mod writing;
 
 pub use decoder::Decoder;
 pub use encoder::Encoder;
-pub use header::{Error, Header};
+pub use header::{Error, Header, head_size};
 pub use integer::{Integer, OutOfRange};

@@ -14,7 +14,7 @@ use Rattle.ciborium_ll.specs.Refusal.{Refusal, syntax, semantic, recursion_limit
 use Rattle.ciborium_ll.specs.Bytes.{greatest_offset}
 use Rattle.ciborium_value.specs.Refuses.{IsGood, AreGood, Due, exactly, items_until_break, keys_until_break, values_until_break, next_due, due_after, Opens, IsDue, FoldsAt, Refuses}
 use Rattle.ciborium_ll.specs.StringRefusal.{StringKind, of_bytes, of_text, major_of, Allowed, PayloadRefuses, StringRefuses, PartRefuses, OpenStringRefuses, BeginsString}
-use Rattle.ciborium_ll.proofs.Fronts.{Front, nothing, counted, opened, plain, raw, front, front_open}
+use Rattle.ciborium_ll.proofs.FrontHeads.{Front, nothing, counted, opened, plain, raw, front, front_open}
 use Rattle.ciborium_ll.proofs.UsableHeads.{EachIsByte, bytes_after, stands-front, stands-length, IsStringMajor}
 use Rattle.ciborium_ll.proofs.ReadHeads.{Face, faces}
 use Rattle.ciborium_value.proofs.Reader.{Answer, ends, refused, checked, and_then, past, allowed, string, piece, pieces, levels, break_at, end_at, or_end, folding, payload, is_too_large, bignum, tagged, counted_item, opened_item, item_at, read, parts}

@@ -6,7 +6,7 @@ use Rattle.ciborium_ll.specs.Item.{Item, unsigned, negative, bytes, text, array,
 use Rattle.ciborium_ll.specs.Spells.{AnyBytes, AreParts, joined, IsString, Encloses, Spells, SpellsItems, SpellsPairs}
 use Rattle.ciborium_value.specs.Meaning.{meaning, items_meaning, pairs_meaning, trees_more, tree_pairs_more, simple_meaning, big_endian, is_bignum_tag, bignum_meaning, unsigned_bignum, negative_bignum, without_zeros, folding_bytes, short_string, tag_meaning}
 use Rattle.ciborium_value.specs.Counts.{node_count, payload_size, trees_node_count, trees_payload_size, tree_pairs_node_count, tree_pairs_payload_size}
-use Rattle.ciborium_ll.proofs.Fronts.{head-length}
+use Rattle.ciborium_ll.proofs.FrontHeads.{head-length}
 use Rattle.ciborium_value.proofs.Found.{spells-pos}
 
 -- ---- what fits into n bytes: a tree, trees, pairs of trees, and the payload of a string with its head

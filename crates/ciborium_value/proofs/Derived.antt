@@ -8,13 +8,13 @@ use denote.Hole.Compared.{compared_is}
 use Rattle.ciborium_value.specs.Derived.{value_eq, value_cmp, value_partial_cmp}
 use Rattle.ciborium_value.specs.Order.{tree_cmp, trees_cmp, tree_pairs_cmp}
 use Rattle.ciborium_value.specs.View.{tree_of, trees_of, tree_pairs_of}
-use Rattle.ciborium_value.specs.contracts.value.ValueOrd.TheImpl.{the_step}
-use Rattle.ciborium_value.specs.contracts.value.ValueOrd.TheImpl.Laws.{local, unfolded, matches_eq-law, matches_partial_cmp-law, total-law}
-use Rattle.ciborium_value.specs.declared.value.Value.TheBlock.{the_members, the_depth, the_family, member-Value}
-use Rattle.ciborium_value.specs.declared.value.Value.{Value, the_lemmas}
-use Rattle.ciborium_value.specs.declared.value.Value.TheOpen.{Value-F}
-use Rattle.ciborium_value.specs.declared.value.Value.TheViews.{out-Value, roll-Value}
-use Rattle.ciborium_value.specs.declared.value.Value.TheFolds.{map-Value, ind-Value}
+use Rattle.ciborium_value.specs.contracts.tree.ValueOrd.TheImpl.{the_step}
+use Rattle.ciborium_value.specs.contracts.tree.ValueOrd.TheImpl.Laws.{local, unfolded, matches_eq-law, matches_partial_cmp-law, total-law}
+use Rattle.ciborium_value.specs.declared.tree.Value.TheBlock.{the_members, the_depth, the_family, member-Value}
+use Rattle.ciborium_value.specs.declared.tree.Value.{Value, the_lemmas}
+use Rattle.ciborium_value.specs.declared.tree.Value.TheOpen.{Value-F}
+use Rattle.ciborium_value.specs.declared.tree.Value.TheViews.{out-Value, roll-Value}
+use Rattle.ciborium_value.specs.declared.tree.Value.TheFolds.{map-Value, ind-Value}
 
 cmp_unfolded : (v w : Value) → value_cmp v w ≡ unfolded v w
 cmp_unfolded = compared_is the_members the_family the_depth Ordering Equal the_step local member-Value

@@ -13,7 +13,7 @@ use Rattle.ciborium_value.specs.Nesting.{nesting, items_nesting, pairs_nesting, 
 use Rattle.ciborium_ll.specs.Refusal.{is_reserved, semantic, Break, IsUsable, HeadStands}
 use Rattle.ciborium_ll.specs.Bytes.{greatest_offset}
 use Rattle.ciborium_value.specs.Refuses.{IsGood, AreGood, Due, exactly, items_until_break, keys_until_break, values_until_break, next_due, due_after}
-use Rattle.ciborium_ll.proofs.Fronts.{counted, plain, front, front_open, front-simple, front-head, head-length}
+use Rattle.ciborium_ll.proofs.FrontHeads.{counted, plain, front, front_open, front-simple, front-head, head-length}
 use Rattle.ciborium_ll.proofs.UsableHeads.{stands-usable, stands-front, stands-length, IsStringMajor, pass}
 use Rattle.ciborium_value.proofs.Reader.{Answer, ends, refused, and_then, past, allowed, string, pieces, levels, break_at, end_at, or_end, short, folding, payload, is_too_large, bignum, tagged, counted_item, opened_item, read, parts}
 use Rattle.ciborium_value.proofs.Parts.{first-good, rest-good, mapped-some, within-zero, flat, flat-Spells, flat-meaning, flat-nesting, flat-count, flat-after, after-left, after-items, lower, levels-below}

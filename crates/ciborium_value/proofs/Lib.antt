@@ -4,7 +4,7 @@ mod LoneValue
 pub mod Derived
 pub mod OrderedTrees
 mod OrderedIntegers
-pub mod CanonicalValues
+pub mod TotalOrders
 pub mod Bignums
 pub mod Folding
 pub mod Written

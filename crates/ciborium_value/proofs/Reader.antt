@@ -6,7 +6,7 @@ use Rattle.ciborium_ll.specs.Refusal.{Refusal, io, syntax, semantic, recursion_l
 use Rattle.ciborium_ll.specs.Bytes.{greatest_offset}
 use Rattle.ciborium_value.specs.Nesting.{Limit}
 use Rattle.ciborium_value.specs.Refuses.{Due, exactly, items_until_break, keys_until_break, values_until_break, next_due}
-use Rattle.ciborium_ll.proofs.Fronts.{Front, nothing, counted, opened, plain, raw, front}
+use Rattle.ciborium_ll.proofs.FrontHeads.{Front, nothing, counted, opened, plain, raw, front}
 
 pub data Answer : Type 0 where
   -- what is left, and its offset

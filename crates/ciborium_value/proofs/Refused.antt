@@ -12,7 +12,7 @@ use Rattle.ciborium_ll.specs.Bytes.{greatest_offset}
 use Rattle.ciborium_value.specs.Nesting.{Limit}
 use Rattle.ciborium_ll.specs.StringRefusal.{StringKind, of_bytes, of_text, major_of, Allowed, PayloadRefuses, StringRefuses, PartRefuses, OpenStringRefuses, BeginsString}
 use Rattle.ciborium_value.specs.Refuses.{Due, exactly, items_until_break, keys_until_break, values_until_break, next_due, due_after, Opens, IsDue, FoldsAt, Refuses}
-use Rattle.ciborium_ll.proofs.Fronts.{Front, nothing, counted, opened, plain, raw, front, front-simple}
+use Rattle.ciborium_ll.proofs.FrontHeads.{Front, nothing, counted, opened, plain, raw, front, front-simple}
 use Rattle.ciborium_ll.proofs.UsableHeads.{EachIsByte, bytes_after, stands-front, stands-length, IsStringMajor, pass}
 use Rattle.ciborium_ll.proofs.ReadHeads.{Face, faces}
 use Rattle.ciborium_value.proofs.Reader.{Answer, ends, refused, and_then, past, allowed, string, piece, pieces, levels, break_at, end_at, or_end, short, folding, payload, is_too_large, bignum, tagged, counted_item, opened_item, item_at, read, parts}

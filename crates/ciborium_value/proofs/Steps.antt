@@ -7,7 +7,7 @@ use Rattle.ciborium_ll.specs.Spells.{AreParts}
 use Rattle.ciborium_ll.specs.Refusal.{Refusal, head_refusal, IsUsable, HeadRefuses, HeadStands, argument_length, is_reserved, is_low_simple, payload_length}
 use Rattle.ciborium_ll.specs.Bytes.{greatest_offset}
 use Rattle.ciborium_value.specs.Nesting.{Limit}
-use Rattle.ciborium_ll.proofs.Fronts.{Front, counted, opened, front, front_open}
+use Rattle.ciborium_ll.proofs.FrontHeads.{Front, counted, opened, front, front_open}
 use Rattle.ciborium_ll.proofs.UsableHeads.{HeadFits, low, fits-usable, stands-usable, stands-front, stands-length, pass}
 use Rattle.ciborium_value.proofs.Reader.{Answer, ends, refused, checked, and_then, past, allowed, string, piece, pieces, counted_item, opened_item, item_at, read, parts}
 

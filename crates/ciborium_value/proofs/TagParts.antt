@@ -32,11 +32,11 @@ use Rattle.std.specs.Box.{with_value}
 use Rattle.std.specs.contracts.alloc.Global as global
 use Rattle.std.specs.contracts.boxed.Box as box
 use Rattle.std.specs.contracts.impls.GlobalAllocator.TheImpl.{ghosts}
-use Rattle.ciborium_value.proofs.value.Value.TheLaws.{the_alike, the_loose}
+use Rattle.ciborium_value.proofs.tree.Value.TheLaws.{the_alike, the_loose}
 use Rattle.ciborium_value.specs.LentParts.{with_tag, level_with_tag}
-use Rattle.ciborium_value.specs.contracts.value.Value.{enum, the_type, the_row as R}
-use Rattle.ciborium_value.specs.declared.value.Value.TheOpen.{Value-F}
-use Rattle.ciborium_value.specs.declared.value.Value.TheViews.{outs-Tag}
+use Rattle.ciborium_value.specs.contracts.tree.Value.{enum, the_type, the_row as R}
+use Rattle.ciborium_value.specs.declared.tree.Value.TheOpen.{Value-F}
+use Rattle.ciborium_value.specs.declared.tree.Value.TheViews.{outs-Tag}
 
 -- a box of a value
 abbrev pub B : RattleType

@@ -13,7 +13,7 @@ use Rattle.ciborium_value.specs.Folded.{folded}
 use Rattle.ciborium_value.specs.Encoding.{encoding, encoded_size, written_bytes, written_tree}
 use Rattle.ciborium_value.specs.Counts.{node_count, payload_size}
 use Rattle.ciborium_value.specs.Canonical.{canonical_order}
-use Rattle.ciborium_value.specs.Refuses.{IsGood, Refuses}
+use Rattle.ciborium_value.specs.Refuses.{IsReadAs, Refuses}
 
 -- ---- bytes in hexadecimal
 
@@ -35,10 +35,6 @@ hex digits = bytes_of (codes digits)
 -- the bytes spell an item that means the tree
 abbrev pub Means : List ℕ → Tree → Type 0
 Means b v = (i : Item) × Spells b i × (meaning i ≡ Some v)
-
--- the bytes are a good item from offset p on, under a limit, and it means the tree
-abbrev pub IsReadAt : List ℕ → ℕ → ℕ → Tree → Type 0
-IsReadAt b p l v = (i : Item) × IsGood i (Some l) b p × (meaning i ≡ Some v)
 
 -- the limit where none is named
 abbrev pub default_limit : ℕ
@@ -104,10 +100,10 @@ pub record SpelledExamples : Type 0 where
 
 -- bignums (RFC 8949, section 3.4.3)
 pub record FoldingExamples : Type 0 where
-  pub empty_is_zero : IsReadAt (hex "c240") 0 0 (unsigned 0)
-  pub empty_is_minus_one : IsReadAt (hex "c340") 0 0 (negative 0)
-  pub one : IsReadAt (hex "c24101") 0 0 (unsigned 1)
-  pub zeros_are_dropped : IsReadAt (hex "c24a00010000000000000000") 0 0 (tag 2 (bytes (0x01 ∷ replicate 8 0)))
+  pub empty_is_zero : IsReadAs (hex "c240") 0 (Some 0) (unsigned 0)
+  pub empty_is_minus_one : IsReadAs (hex "c340") 0 (Some 0) (negative 0)
+  pub one : IsReadAs (hex "c24101") 0 (Some 0) (unsigned 1)
+  pub zeros_are_dropped : IsReadAs (hex "c24a00010000000000000000") 0 (Some 0) (tag 2 (bytes (0x01 ∷ replicate 8 0)))
   pub open_stays : Means (hex "c25f4101ff") (tag 2 (bytes (0x01 ∷ [])))
   pub too_large_has_none : meaning (item.tag 3 (item.bytes false two_to_127)) ≡ None
   pub unsigned_has : meaning (item.tag 2 (item.bytes false two_to_127)) ≡ Some (tag 2 (bytes two_to_127))
@@ -149,10 +145,10 @@ pub record CornerExamples : Type 0 where
   pub reserved_at_the_last : Refuses (hex "1e") (greatest_offset - 1) (Some default_limit) (syntax (greatest_offset - 1))
   -- a break is read as far as it fits
   pub break_over : Refuses (hex "9f01ff") (greatest_offset - 2) (Some default_limit) too_long
-  pub break_fits : IsReadAt (hex "9f01ff") (greatest_offset - 3) default_limit (array_of_one (unsigned 1))
+  pub break_fits : IsReadAs (hex "9f01ff") (greatest_offset - 3) (Some default_limit) (array_of_one (unsigned 1))
   -- what is empty ends at the greatest offset; a tag needs one byte more
-  pub empty_array_at_the_last : IsReadAt (hex "80") (greatest_offset - 1) default_limit (array no_trees)
-  pub empty_bytes_at_the_last : IsReadAt (hex "40") (greatest_offset - 1) default_limit (bytes [])
+  pub empty_array_at_the_last : IsReadAs (hex "80") (greatest_offset - 1) (Some default_limit) (array no_trees)
+  pub empty_bytes_at_the_last : IsReadAs (hex "40") (greatest_offset - 1) (Some default_limit) (bytes [])
   pub tag_at_the_last : Refuses (hex "c1") (greatest_offset - 1) (Some default_limit) too_long
   -- a bignum's payload is judged before its number
   pub large_bignum_over : Refuses (0xc3 ∷ 0x50 ∷ two_to_127) (greatest_offset - 17) (Some default_limit) too_long

@@ -3,10 +3,10 @@ use Rattle.std.specs.Prelude.{ℕ, List, map}
 use Rattle.std.specs.Borrow.{LendsBothIf, MutBor, Fml, Array, u64}
 use Rattle.std.specs.Box.{with_value}
 use Rattle.std.specs.declared.option.Option.{Option}
-use Rattle.ciborium_value.specs.declared.value.Value as value
-use Rattle.ciborium_value.specs.declared.value.Value.{Value, out-Value}
-use Rattle.ciborium_value.specs.declared.value.Value.TheOpen.{Value-F}
-use Rattle.ciborium_value.specs.contracts.value.Value.{the_row}
+use Rattle.ciborium_value.specs.declared.tree.Value as value
+use Rattle.ciborium_value.specs.declared.tree.Value.{Value, out-Value}
+use Rattle.ciborium_value.specs.declared.tree.Value.TheOpen.{Value-F}
+use Rattle.ciborium_value.specs.contracts.tree.Value.{the_row}
 
 -- a tag with the number t and the content w in its box, and v for any other value
 abbrev pub level_with_tag : Value-F Value → Value → ℕ → Value → Value

@@ -8,7 +8,7 @@ use Rattle.ciborium_value.specs.Tree.{Tree, integer}
 use Rattle.ciborium_value.specs.View.{tree_of}
 use Rattle.ciborium_value.specs.Order.{tree_cmp}
 use Rattle.ciborium_value.specs.Derived.{value_eq, value_cmp, value_partial_cmp}
-use Rattle.ciborium_value.specs.declared.value.Value.{Value}
+use Rattle.ciborium_value.specs.declared.tree.Value.{Value}
 
 -- values are equal where their trees are
 abbrev pub EqualAsTrees : Type 0

@@ -9,10 +9,15 @@ use Rattle.ciborium_ll.specs.Refusal.{Float, Simple, Break, TooLarge, Refusal, s
 use Rattle.ciborium_ll.specs.StringRefusal.{StringKind, of_bytes, StringRefuses, OpenStringRefuses}
 use Rattle.ciborium_value.specs.Meaning.{meaning, items_meaning, simple_meaning, big_endian, is_bignum_tag}
 use Rattle.ciborium_value.specs.Nesting.{Limit, IsWithin, IsOneLess, nesting, items_nesting}
+use Rattle.ciborium_value.specs.Tree.{Tree}
 
 -- s spells a good item at offset p: it has a meaning, nests within the limit, and ends within the greatest offset
 abbrev pub IsGood : Item → Limit → List ℕ → ℕ → Type 0
 IsGood i l s p = Spells s i × IsSome (meaning i) × IsWithin l (nesting i) × (p + length s ≤ greatest_offset)
+
+-- s, whose first byte is at offset p, is read as v: it spells a good item that means v
+abbrev pub IsReadAs : List ℕ → ℕ → Limit → Tree → Type 0
+IsReadAs s p l v = (i : Item) × IsGood i l s p × (meaning i ≡ Some v)
 
 -- s spells good items in a row
 abbrev pub AreGood : Items → Limit → List ℕ → ℕ → Type 0

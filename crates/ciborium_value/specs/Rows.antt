@@ -7,7 +7,7 @@ use Rattle.std.specs.contracts.alloc.Global as global
 use Rattle.std.specs.contracts.vec.Vec as vec
 use Rattle.std.specs.contracts.string.String as string
 use Rattle.std.specs.contracts.impls.GlobalAllocator.TheImpl.{ghosts}
-use Rattle.ciborium_value.specs.contracts.value.Value.{the_row}
+use Rattle.ciborium_value.specs.contracts.tree.Value.{the_row}
 
 abbrev pub bytes_row : RattleType
 bytes_row = vec.the_row u8 global.the_row ghosts

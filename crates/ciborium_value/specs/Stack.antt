@@ -3,7 +3,7 @@ use Rattle.std.specs.Prelude.{List, [], map, reverse, Option, Some, None, option
 use Rattle.ciborium_value.specs.Open as open_
 use Rattle.ciborium_value.specs.Open.{Open, Filled, Placed}
 use Rattle.ciborium_value.specs.View.{tree_of, pair_trees}
-use Rattle.ciborium_value.specs.declared.value.Value.{Value}
+use Rattle.ciborium_value.specs.declared.tree.Value.{Value}
 use Rattle.ciborium_value.specs.declared.stack.Frame.{Frame}
 use Rattle.ciborium_value.specs.declared.stack.Frame.TheVariants as frame
 use Rattle.ciborium_value.specs.declared.stack.Opening.{Opening}

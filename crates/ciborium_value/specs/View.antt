@@ -2,8 +2,8 @@
 use Rattle.std.specs.Prelude.{List, [], ◌∷◌, map, string_bytes, box_value}
 use Rattle.ciborium_value.specs.Tree as trees
 use Rattle.ciborium_value.specs.Tree.{Tree, Trees, TreePairs}
-use Rattle.ciborium_value.specs.declared.value.Value.{Value, fold-Value}
-use Rattle.ciborium_value.specs.declared.value.Value.TheOpen.{Value-F}
+use Rattle.ciborium_value.specs.declared.tree.Value.{Value, fold-Value}
+use Rattle.ciborium_value.specs.declared.tree.Value.TheOpen.{Value-F}
 
 -- a list of trees as `Trees`
 abbrev pub trees_from : List Tree → Trees

@@ -3,7 +3,7 @@
 ghost use Rattle.std.specs.Prelude.{◌≡◌, IfOk};
 ghost use Rattle.ciborium_value.specs.View.{tree_of, trees_of, tree_pairs_of};
 
-use crate::value::Value;
+use crate::tree::Value;
 use std::alloc::{AllocError, Global};
 
 /// A copy of equal content, or the error where memory was refused.

@@ -3,10 +3,10 @@
 
 mod clone;
 mod kind;
-pub mod laws;
 pub mod stack;
-mod value;
+mod tree;
+pub mod tree_laws;
 
 pub use ciborium_ll::{Integer, OutOfRange};
 pub use kind::Kind;
-pub use value::Value;
+pub use tree::Value;

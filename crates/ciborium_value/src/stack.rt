@@ -5,7 +5,7 @@ ghost use Rattle.ciborium_value.specs.Open.{array, closed, ended, fill, map as o
 ghost use Rattle.ciborium_value.specs.Stack.{filled_of, open_of, opened, opens, opens_of, placed_of};
 ghost use Rattle.ciborium_value.specs.View.{pair_trees, tree_of};
 
-use crate::value::Value;
+use crate::tree::Value;
 use std::alloc::{AllocError, Global};
 use std::mem;
 

@@ -19,13 +19,13 @@ ghost use Rattle.ciborium_value.specs.Encoding.{encoding, encoded_size};
 ghost use Rattle.ciborium_value.specs.Proper.{IsProperTree, AreProperTrees, AreProperTreePairs};
 ghost use Rattle.ciborium_value.specs.Tree.{integer};
 ghost use Rattle.ciborium_value.specs.View.{tree_of, trees_of, tree_pairs_of};
-ghost use Rattle.ciborium_value.specs.contracts.value.Value as value_row;
-ghost use Rattle.ciborium_value.specs.declared.value.Value as values;
+ghost use Rattle.ciborium_value.specs.contracts.tree.Value as value_row;
+ghost use Rattle.ciborium_value.specs.declared.tree.Value as values;
 ghost use Rattle.ciborium_value.proofs.Derived.{value_eq_equivalence};
 ghost use Rattle.ciborium_value.specs.CanonicalValues.{canonical_value_cmp};
 ghost use Rattle.ciborium.specs.Heads.{major_of, argument_of, head_order};
 ghost use Rattle.ciborium.specs.Visits.{AddsVisits, AddsAtMost, counted, both_node_count};
-ghost use Rattle.ciborium_value.proofs.CanonicalValues.{canonical_value_cmp_total, canonical_value_matches_eq};
+ghost use Rattle.ciborium_value.proofs.TotalOrders.{canonical_value_cmp_total, canonical_value_matches_eq};
 ghost use Rattle.ciborium.specs.Writes.{encodings, pair_encodings};
 
 use ciborium_value::{Integer, Value};

@@ -2,7 +2,7 @@ use Rattle.std.proofs.Common.{◌≡◌, List, drop, length, map, rules, subst, 
 use Rattle.std.proofs.lemmas.Fn.{always_returns_same}
 use Rattle.std.proofs.lemmas.List.{take_at}
 use Rattle.ciborium_value.specs.View.{tree_of}
-use Rattle.ciborium_value.specs.declared.value.Value.{Value}
+use Rattle.ciborium_value.specs.declared.tree.Value.{Value}
 use Rattle.cbor.specs.Sorted.{AreSorted}
 use Rattle.cbor.proofs.SortedValues.{sorted-trees, stands_before, stands_before-orders}
 use Rattle.cbor.proofs.sort.sort_values.Goals as goal

@@ -1,6 +1,6 @@
 use Rattle.std.proofs.Common.{◌≡◌, ◌<◌, ◌≤◌, length, get_or, rules, refl, sym, ap, ◌∙◌, subst, arith}
 use Rattle.std.proofs.lemmas.List.{take_all}
-use Rattle.ciborium_value.specs.declared.value.Value.{the_lemmas}
+use Rattle.ciborium_value.specs.declared.tree.Value.{the_lemmas}
 use Rattle.ciborium.specs.Writes.{encodings, pair_encodings}
 use Rattle.ciborium.proofs.VisitCounts.{items_visits-differ, items_visits-same, keys_visits-differ, values_visits-differ, pairs_visits-same}
 use Rattle.ciborium.proofs.SideBySide.{different_heads, contents_decide, alone_tied, as_many_items, as_many_pairs, items_proper, pairs_proper, item_proper, pair_proper, items_differ, items_same, all_same, keys_differ, values_differ, pairs_same}

@@ -1,5 +1,0 @@
-use Rattle.cbor.proofs.OneAnswer.{is_answered, one_answer}
-use Rattle.cbor.proofs.laws.line_answer.Goals as goal
-
-pub returns : goal.returns
-returns c = record { answered = is_answered; one = one_answer }

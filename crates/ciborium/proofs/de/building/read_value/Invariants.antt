@@ -1,0 +1,16 @@
+use Rattle.std.proofs.Common.{◌≡◌, ℕ, ◌≤◌, List, length}
+use Rattle.ciborium_ll.specs.Decoding.{IsAhead}
+use Rattle.ciborium_value.specs.Stack.{opens_of}
+use Rattle.ciborium.specs.Answers.{IsReading}
+use Rattle.ciborium.specs.Reads.{heads_left}
+use Rattle.ciborium.proofs.de.building.read_value.Given as goal
+
+abbrev pub invariant-turns : goal.invariant-turns
+invariant-turns g l = record {
+  same_reader : l.decoder.reader.ghost_name ≡ l.initial.decoder.reader.ghost_name;
+  depth : length (opens_of l.stack) ≤ l.levels;
+  reading : (xs : List ℕ) (p : ℕ) → IsAhead g.R.Read.remaining l.initial.decoder p xs → IsReading g.R.Read.remaining l.decoder (opens_of l.stack) l.levels xs p;
+}
+
+abbrev pub decreases-turns : goal.decreases-turns
+decreases-turns g l = heads_left l.decoder

@@ -1,5 +1,0 @@
-use Rattle.ciborium_value.proofs.Bignums.{bytes_hold_number, no_leading_zeros}
-use Rattle.ciborium_value.proofs.laws.bytes_of_bignums.Goals as goal
-
-pub returns : goal.returns
-returns c = record { number = bytes_hold_number; shortest = no_leading_zeros }

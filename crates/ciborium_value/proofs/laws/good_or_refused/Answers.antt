@@ -1,5 +1,0 @@
-use Rattle.ciborium_value.proofs.Outcome.{good_or_refused, never_both, one_refusal}
-use Rattle.ciborium_value.proofs.laws.good_or_refused.Goals as goal
-
-pub returns : goal.returns
-returns c = record { one_of = good_or_refused; never_both = never_both; one_refusal = one_refusal }

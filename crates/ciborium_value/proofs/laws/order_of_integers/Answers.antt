@@ -1,5 +1,0 @@
-use Rattle.ciborium_value.proofs.OrderedIntegers.{integers_as_trees}
-use Rattle.ciborium_value.proofs.laws.order_of_integers.Goals as goal
-
-pub returns : goal.returns
-returns c = integers_as_trees

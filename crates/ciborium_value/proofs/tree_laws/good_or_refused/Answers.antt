@@ -1,0 +1,5 @@
+use Rattle.ciborium_value.proofs.Outcome.{good_or_refused, never_both, one_refusal}
+use Rattle.ciborium_value.proofs.tree_laws.good_or_refused.Goals as goal
+
+pub returns : goal.returns
+returns c = record { one_of = good_or_refused; never_both = never_both; one_refusal = one_refusal }

@@ -1,0 +1,305 @@
+//! What a `Value` is and holds. None of these calls takes memory.
+
+ghost use Rattle.std.specs.Prelude.{◌≡◌, ◌↔◌, IsTrue, IfSome, IfNone, IfOk, IfErr};
+ghost use Rattle.std.specs.Borrow.{LendsIf, sem};
+ghost use Rattle.std.specs.Box.{box_follows};
+ghost use Rattle.std.specs.contracts.alloc.Global as global;
+ghost use Rattle.std.specs.contracts.impls.GlobalAllocator.TheImpl.{ghosts};
+ghost use Rattle.ciborium_value.specs.LentParts.{LendsTag};
+ghost use Rattle.ciborium_value.specs.Rows.{array_row, bytes_row, map_row, text_row};
+ghost use Rattle.ciborium_value.specs.Variants.{IsInteger, IsBytes, IsText, IsTextOf, IsBool, IsTag, IsTagOf, IsArray, IsMap};
+ghost use Rattle.ciborium_value.specs.contracts.tree.Value.{the_row};
+ghost use Rattle.ciborium_value.specs.declared.tree.Value as value;
+
+use crate::tree::Value;
+use ciborium_ll::Integer;
+
+impl Value {
+    /// True exactly at an integer.
+    pub fn is_integer(&self) -> bool
+        ensures { IsTrue result ↔ IsInteger self.now }
+    {
+        matches!(self, Value::Integer(_))
+    }
+
+    /// The number at that variant, else None.
+    pub fn as_integer(&self) -> Option<Integer>
+        ensures some { IfSome result (λ z. self.now ≡ value.Integer z) }
+        ensures none { IfNone result (¬ IsInteger self.now) }
+    {
+        match self {
+            Value::Integer(number) => Some(*number),
+            _ => None,
+        }
+    }
+
+    /// The number at that variant, else the value itself as the error.
+    pub fn into_integer(self) -> Result<Integer, Value>
+        ensures ok { IfOk result (λ z. self ≡ value.Integer z) }
+        ensures err { IfErr result (λ v. (v ≡ self) × ¬ IsInteger self) }
+    {
+        match self {
+            Value::Integer(number) => Ok(number),
+            value => Err(value),
+        }
+    }
+
+    /// True exactly at a byte string.
+    pub fn is_bytes(&self) -> bool
+        ensures { IsTrue result ↔ IsBytes self.now }
+    {
+        matches!(self, Value::Bytes(_))
+    }
+
+    /// The bytes at that variant, else None.
+    pub fn as_bytes(&self) -> Option<&Vec<u8>>
+        ensures some { IfSome result (λ b. self.now ≡ value.Bytes b.now) }
+        ensures none { IfNone result (¬ IsBytes self.now) }
+    {
+        match self {
+            Value::Bytes(bytes) => Some(bytes),
+            _ => None,
+        }
+    }
+
+    /// The bytes at that variant, else None. What is written there is the content afterwards, and the
+    /// variant stays.
+    pub fn as_bytes_mut(&mut self) -> Option<&mut Vec<u8>>
+        ensures* writes_back { sem 𝓛 (LendsIf the_row bytes_row self.entry result value.Bytes self.old) }
+        ensures some { IfSome result (λ b. self.old ≡ value.Bytes b.now) }
+        ensures none { IfNone result (¬ IsBytes self.old) }
+    {
+        if let Value::Bytes(bytes) = self {
+            Some(bytes)
+        } else {
+            None
+        }
+    }
+
+    /// The bytes at that variant, else the value itself as the error.
+    pub fn into_bytes(self) -> Result<Vec<u8>, Value>
+        ensures ok { IfOk result (λ b. self ≡ value.Bytes b) }
+        ensures err { IfErr result (λ v. (v ≡ self) × ¬ IsBytes self) }
+    {
+        match self {
+            Value::Bytes(bytes) => Ok(bytes),
+            value => Err(value),
+        }
+    }
+
+    /// True exactly at a text.
+    pub fn is_text(&self) -> bool
+        ensures { IsTrue result ↔ IsText self.now }
+    {
+        matches!(self, Value::Text(_))
+    }
+
+    /// The text at that variant, else None.
+    pub fn as_text(&self) -> Option<&str>
+        ensures some { IfSome result (λ t. IsTextOf self.now t.now) }
+        ensures none { IfNone result (¬ IsText self.now) }
+    {
+        match self {
+            Value::Text(text) => Some(text),
+            _ => None,
+        }
+    }
+
+    /// The text at that variant, else None. What is written there is the content afterwards, and the
+    /// variant stays.
+    pub fn as_text_mut(&mut self) -> Option<&mut String>
+        ensures* writes_back { sem 𝓛 (LendsIf the_row text_row self.entry result value.Text self.old) }
+        ensures some { IfSome result (λ t. self.old ≡ value.Text t.now) }
+        ensures none { IfNone result (¬ IsText self.old) }
+    {
+        if let Value::Text(text) = self {
+            Some(text)
+        } else {
+            None
+        }
+    }
+
+    /// The text at that variant, else the value itself as the error.
+    pub fn into_text(self) -> Result<String, Value>
+        ensures ok { IfOk result (λ t. self ≡ value.Text t) }
+        ensures err { IfErr result (λ v. (v ≡ self) × ¬ IsText self) }
+    {
+        match self {
+            Value::Text(text) => Ok(text),
+            value => Err(value),
+        }
+    }
+
+    /// True exactly at false and true.
+    pub fn is_bool(&self) -> bool
+        ensures { IsTrue result ↔ IsBool self.now }
+    {
+        matches!(self, Value::Bool(_))
+    }
+
+    /// False or true at that variant, else None.
+    pub fn as_bool(&self) -> Option<bool>
+        ensures some { IfSome result (λ b. self.now ≡ value.Bool b) }
+        ensures none { IfNone result (¬ IsBool self.now) }
+    {
+        match self {
+            Value::Bool(boolean) => Some(*boolean),
+            _ => None,
+        }
+    }
+
+    /// False or true at that variant, else the value itself as the error.
+    pub fn into_bool(self) -> Result<bool, Value>
+        ensures ok { IfOk result (λ b. self ≡ value.Bool b) }
+        ensures err { IfErr result (λ v. (v ≡ self) × ¬ IsBool self) }
+    {
+        match self {
+            Value::Bool(boolean) => Ok(boolean),
+            value => Err(value),
+        }
+    }
+
+    /// True exactly at null.
+    pub fn is_null(&self) -> bool
+        ensures { IsTrue result ↔ (self.now ≡ value.Null) }
+    {
+        matches!(self, Value::Null)
+    }
+
+    /// True exactly at a tag.
+    pub fn is_tag(&self) -> bool
+        ensures { IsTrue result ↔ IsTag self.now }
+    {
+        matches!(self, Value::Tag(_, _))
+    }
+
+    /// The number and the content at that variant, else None.
+    pub fn as_tag(&self) -> Option<(u64, &Value)>
+        ensures some { IfSome result (λ p. IsTagOf self.now p.0 p.1.now) }
+        ensures none { IfNone result (¬ IsTag self.now) }
+    {
+        match self {
+            Value::Tag(tag, content) => Some((*tag, content)),
+            _ => None,
+        }
+    }
+
+    /// The number and the content at that variant, else None. What is written there is the number and
+    /// the content afterwards, and the variant stays.
+    pub fn as_tag_mut(&mut self) -> Option<(&mut u64, &mut Value)>
+        ensures* writes_back { sem 𝓛 (LendsTag self.entry result) }
+        ensures some { IfSome result (λ p. IsTagOf self.old p.0.now p.1.now) }
+        ensures none { IfNone result (¬ IsTag self.old) }
+    {
+        if let Value::Tag(tag, content) = self {
+            Some((tag, boxed(content)))
+        } else {
+            None
+        }
+    }
+
+    /// The number and the content at that variant, else the value itself as the error.
+    pub fn into_tag(self) -> Result<(u64, Box<Value>), Value>
+        ensures ok { IfOk result (λ p. self ≡ value.Tag p.0 p.1) }
+        ensures err { IfErr result (λ v. (v ≡ self) × ¬ IsTag self) }
+    {
+        match self {
+            Value::Tag(tag, content) => Ok((tag, content)),
+            value => Err(value),
+        }
+    }
+
+    /// True exactly at an array.
+    pub fn is_array(&self) -> bool
+        ensures { IsTrue result ↔ IsArray self.now }
+    {
+        matches!(self, Value::Array(_))
+    }
+
+    /// The items at that variant, else None.
+    pub fn as_array(&self) -> Option<&Vec<Value>>
+        ensures some { IfSome result (λ vs. self.now ≡ value.Array vs.now) }
+        ensures none { IfNone result (¬ IsArray self.now) }
+    {
+        match self {
+            Value::Array(values) => Some(values),
+            _ => None,
+        }
+    }
+
+    /// The items at that variant, else None. What is written there is the content afterwards, and the
+    /// variant stays.
+    pub fn as_array_mut(&mut self) -> Option<&mut Vec<Value>>
+        ensures* writes_back { sem 𝓛 (LendsIf the_row array_row self.entry result value.Array self.old) }
+        ensures some { IfSome result (λ vs. self.old ≡ value.Array vs.now) }
+        ensures none { IfNone result (¬ IsArray self.old) }
+    {
+        if let Value::Array(values) = self {
+            Some(values)
+        } else {
+            None
+        }
+    }
+
+    /// The items at that variant, else the value itself as the error.
+    pub fn into_array(self) -> Result<Vec<Value>, Value>
+        ensures ok { IfOk result (λ vs. self ≡ value.Array vs) }
+        ensures err { IfErr result (λ v. (v ≡ self) × ¬ IsArray self) }
+    {
+        match self {
+            Value::Array(values) => Ok(values),
+            value => Err(value),
+        }
+    }
+
+    /// True exactly at a map.
+    pub fn is_map(&self) -> bool
+        ensures { IsTrue result ↔ IsMap self.now }
+    {
+        matches!(self, Value::Map(_))
+    }
+
+    /// The pairs at that variant, else None.
+    pub fn as_map(&self) -> Option<&Vec<(Value, Value)>>
+        ensures some { IfSome result (λ ps. self.now ≡ value.Map ps.now) }
+        ensures none { IfNone result (¬ IsMap self.now) }
+    {
+        match self {
+            Value::Map(pairs) => Some(pairs),
+            _ => None,
+        }
+    }
+
+    /// The pairs at that variant, else None. What is written there is the content afterwards, and the
+    /// variant stays.
+    pub fn as_map_mut(&mut self) -> Option<&mut Vec<(Value, Value)>>
+        ensures* writes_back { sem 𝓛 (LendsIf the_row map_row self.entry result value.Map self.old) }
+        ensures some { IfSome result (λ ps. self.old ≡ value.Map ps.now) }
+        ensures none { IfNone result (¬ IsMap self.old) }
+    {
+        if let Value::Map(pairs) = self {
+            Some(pairs)
+        } else {
+            None
+        }
+    }
+
+    /// The pairs at that variant, else the value itself as the error.
+    pub fn into_map(self) -> Result<Vec<(Value, Value)>, Value>
+        ensures ok { IfOk result (λ ps. self ≡ value.Map ps) }
+        ensures err { IfErr result (λ v. (v ≡ self) × ¬ IsMap self) }
+    {
+        match self {
+            Value::Map(pairs) => Ok(pairs),
+            value => Err(value),
+        }
+    }
+}
+
+// The value in a box. It is lent here, so that the proof of `as_tag_mut` calls no generic function.
+fn boxed(content: &mut Box<Value>) -> &mut Value
+    ensures* writes_back { sem 𝓛 (box_follows the_row global.the_row ghosts content.entry result) }
+    ensures value { result.now ≡ content.old.value }
+{
+    content
+}
