@@ -1,6 +1,7 @@
 -- Bytes that are taken in two steps.
-use Rattle.std.proofs.Common.{◌≡◌, ℕ, ◌+◌, ◌≤◌, ◌%◌, List, [], ◌∷◌, ◌++◌, length, get_or, Option, Result, Err, refl, sym, ap, ◌∙◌, subst, arith, length-append}
+use Rattle.std.proofs.Common.{◌≡◌, ℕ, ◌+◌, ◌<◌, ◌≤◌, ◌%◌, List, [], ◌∷◌, ◌++◌, length, get_or, Option, Result, Err, refl, sym, ap, ◌∙◌, subst, arith, length-append}
 use Rattle.std.proofs.KnownBytes.{Consumes-trans}
+use Rattle.std.proofs.lemmas.List.Elements.{All-append}
 use Rattle.ciborium_ll.specs.declared.header.Header.{Header}
 use Rattle.ciborium_ll.specs.declared.header.Error.{Error}
 use Rattle.ciborium_ll.specs.Bytes.{greatest_offset}
@@ -16,11 +17,12 @@ Advances-then a b c p q r P Q S join first second = (
   Consumes-trans a b c first.0 second.0 first.1 second.1,
   omega (arith, first.2, second.2, length-append first.0 second.0),
   join first.0 second.0 first.3 second.3,
+  All-append (λ x. x < 256) first.0 second.0 first.4 second.4,
 )
 
 -- the same bytes, of which more holds
 pub Advances-map : (a b : Option (List ℕ)) (p q : ℕ) (P Q : List ℕ → Type 0) → ((x : List ℕ) → P x → Q x) → Advances a b p q P → Advances a b p q Q
-Advances-map a b p q P Q f (x, taken, count, h) = (x, taken, count, f x h)
+Advances-map a b p q P Q f (x, taken, count, h, bytes) = (x, taken, count, f x h, bytes)
 
 -- a list of one element
 pub single : (xs : List ℕ) → length xs ≡ 1 → xs ≡ get_or xs 0 0 ∷ []

@@ -61,7 +61,7 @@ parts-more {E} kind a b c d p q r t n old mid new h is (ps, s, parts, was, taken
     let spelled : Head head.0 (major_of kind) (length body) = subst (Head head.0 (major_of kind)) (sym payload.3.2.0) (string-head kind head.0 n (subst (SpellsHeader head.0) is head.3.answers.0)) in
     let whole : Advances b d q t (λ x. x ≡ head.0 ++ body) =
     Advances-then b c d q r t (λ x. x ≡ head.0) (λ x. x ≡ body) (λ x. x ≡ head.0 ++ body)
-    (λ x y e f. ap (λ (l : List ℕ). l ++ y) e ∙ ap (λ (l : List ℕ). head.0 ++ l) f) (head.0, head.1, head.2, refl) (body, payload.1, payload.2, refl) in (
+    (λ x y e f. ap (λ (l : List ℕ). l ++ y) e ∙ ap (λ (l : List ℕ). head.0 ++ l) f) (head.0, head.1, head.2, refl, head.4) (body, payload.1, payload.2, refl, payload.4) in (
       ps ++ body ∷ [],
       s ++ (head.0 ++ body),
       AreParts-more (major_of kind) (Allowed kind) ps s (head.0 ++ body) body parts (head.0, spelled, payload.3.2.1, refl),
@@ -82,7 +82,7 @@ parts-end {E} kind a b c p q r old mid h is (ps, s, parts, was, taken, below) he
     (λ x y e f. let same : x ++ y ≡ s ++ break_byte ∷ [] = ap (λ (l : List ℕ). l ++ y) e ∙ ap (λ (l : List ℕ). s ++ l) f in
     let len : length (x ++ y) ≡ length (s ++ break_byte ∷ []) = ap length same in
     (joined ps, was, (ps, s, parts, omega (arith, at, fits, end, len), same, refl)))
-    taken (head.0, head.1, head.2, broken)
+    taken (head.0, head.1, head.2, broken, head.4)
 
 -- a refusal behind some parts
 pub parts-refused : {E : Type 0} (kind : StringKind) (a b c : Option (List ℕ)) (p q r : ℕ) (old mid new : List ℕ) (e : Error E) → GoodParts kind a b p q old mid → new ≡ mid →
@@ -114,21 +114,21 @@ payload-refused {E} kind b c d k q r t n mid new h e here is head payload =
       payload.3.1 ∙ ap (λ (l : List ℕ). mid ++ l) none.0 ∙ append-nil mid,
       Advances-then b c d q r t (HeadTaken {E = E} q (Ok h)) (λ x. PayloadTaken {E = E} kind n q (Err e) [] x) (PartTaken {E = E} kind q e)
           (λ x y f g. inr (inr (n, x, y, refl, subst (λ k. HeadTaken {E = E} q (Ok k) x) is f, g)))
-          head (payload.0, payload.1, payload.2, none.1),
+          head (payload.0, payload.1, payload.2, none.1, payload.4),
     )
 
 -- before the first part
 pub parts-none : (kind : StringKind) (a : Option (List ℕ)) (p : ℕ) (old : List ℕ) → p ≤ greatest_offset → GoodParts kind a a p p old old
-parts-none kind a p old fits = ([], [], refl, sym (append-nil old), ([], Consumes-nil a, omega arith, refl), fits)
+parts-none kind a p old fits = ([], [], refl, sym (append-nil old), ([], Consumes-nil a, omega arith, refl, λ k d h. absurd (omega (arith, h))), fits)
 
 -- a head that is no part's
 pub other-refused : {E : Type 0} (kind : StringKind) (b c : Option (List ℕ)) (k q r : ℕ) (h : Header) → k ≡ q → IsPart kind h Other → Advances b c q r (HeadTaken {E = E} q (Ok h)) →
     Advances b c q r (PartTaken {E = E} kind q (Syntax k))
-other-refused {E} kind b c k q r h here other head = (head.0, head.1, head.2, inr (inl (h, head.3, other, ap Syntax here)))
+other-refused {E} kind b c k q r h here other head = (head.0, head.1, head.2, inr (inl (h, head.3, other, ap Syntax here)), head.4)
 
 -- a head that was refused
 pub part-head-refused : {E : Type 0} (kind : StringKind) (b c : Option (List ℕ)) (q r : ℕ) (e : Error E) → Advances b c q r (HeadTaken {E = E} q (Err e)) → Advances b c q r (PartTaken {E = E} kind q e)
-part-head-refused {E} kind b c q r e head = (head.0, head.1, head.2, inl head.3)
+part-head-refused {E} kind b c q r e head = (head.0, head.1, head.2, inl head.3, head.4)
 
 -- the payload of a part fits behind its head
 pub payload-fits : {E : Type 0} (kind : StringKind) (b c : Option (List ℕ)) (q r n : ℕ) (h : Header) → h ≡ string_header kind n → Advances b c q r (HeadTaken {E = E} q (Ok h)) → r + n ≤ greatest_offset

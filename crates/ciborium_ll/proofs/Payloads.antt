@@ -1,5 +1,5 @@
 -- Payloads that are appended piece by piece.
-use Rattle.std.proofs.Common.{◌≡◌, ℕ, ◌+◌, ◌≤◌, List, ◌++◌, length, min, take, Option, Err, ap, ◌∙◌, arith, length-append, length-take-le}
+use Rattle.std.proofs.Common.{◌≡◌, ℕ, ◌+◌, ◌-◌, ◌≤◌, List, ◌++◌, length, min, take, Option, Err, sym, ap, ◌∙◌, arith, append_assoc, length-append, length-take-le}
 use Rattle.ciborium_ll.specs.declared.header.Error.{Error}
 use Rattle.ciborium_ll.specs.declared.header.Error.TheVariants.{Io, Syntax, TooLong, Memory}
 use Rattle.ciborium_ll.specs.Bytes.{greatest_offset}
@@ -14,6 +14,13 @@ piece-length left size scratch piece same len =
     let taken : length (take size scratch) ≡ size = length-take-le size scratch fits in
     omega arith
 
+-- a piece has the size that was chosen
+pub piece-size : (left size : ℕ) (scratch piece : List ℕ) → size ≡ min left (length scratch) → length piece ≡ length (take size scratch) → (size ≤ left) × (length piece ≡ size)
+piece-size left size scratch piece same len =
+    let fits : size ≤ length scratch = omega arith in
+    let taken : length (take size scratch) ≡ size = length-take-le size scratch fits in
+    (omega arith, omega arith)
+
 -- what has been appended before a piece
 abbrev pub Appended : ℕ → ℕ → List ℕ → List ℕ → List ℕ → Type 0
 Appended n left old new b = (new ≡ old ++ b) × (length b + left ≡ n)
@@ -24,6 +31,13 @@ refused n left q old new piece x y (Io e) short below s h = (omega (arith, short
 refused n left q old new piece x y (Syntax at) short below s h = absurd h
 refused n left q old new piece x y TooLong short below s h = absurd (omega (arith, short, below, h.1))
 refused n left q old new piece x y Memory short below s h = absurd h
+
+-- a piece was taken and appended
+pub piece-taken : (a b c : Option (List ℕ)) (p q r n left size : ℕ) (old mid new piece : List ℕ) → size ≤ left → length piece ≡ size → new ≡ mid ++ piece →
+    Advances a b p q (Appended n left old mid) → Advances b c q r (Filled q piece) → Advances a c p r (Appended n (left - size) old new)
+piece-taken a b c p q r n left size old mid new piece short len more before now =
+    Advances-then a b c p q r (Appended n left old mid) (Filled q piece) (Appended n (left - size) old new)
+    (λ x y s h. (more ∙ ap (λ l. l ++ piece) s.0 ∙ append_assoc old x piece ∙ ap (λ l. old ++ (x ++ l)) (sym h.0), omega (arith, short, len, s.1, ap length h.0, length-append x y))) before now
 
 -- the reader refused a piece
 pub piece-refused : {E : Type 0} (a b c : Option (List ℕ)) (p q r n left : ℕ) (old new piece : List ℕ) (e : Error E) → length piece ≤ left → q + left ≤ greatest_offset →

@@ -63,10 +63,10 @@ head-refuses x r b p left Memory t is rest = tt
 
 pub reads-head : {E : Type 0} (old new : Option (List ℕ)) (b : List ℕ) (p q : ℕ) (result : Result Header (Error E)) → old ≡ Some b →
     Advances old new p q (HeadTaken {E = E} p result) → ReadsHead {E = E} new b p q result
-reads-head {E} old new b p q (Ok h) e (x, taken, count, t) =
+reads-head {E} old new b p q (Ok h) e (x, taken, count, t, bytes) =
     let k = rest-of old new b x e taken in
     (x, k.0, t.answers.0, subst (λ c. IsUsable c p) (sym k.2) (usable-more x k.0 p t.answers.1), k.2, count, k.1)
-reads-head {E} old new b p q (Err f) e (x, taken, count, t) =
+reads-head {E} old new b p q (Err f) e (x, taken, count, t, bytes) =
     let k = rest-of old new b x e taken in head-refuses {E = E} x k.0 b p new f t k.2 k.1
 
 -- the same, of a decoder that reads at offset q
@@ -143,7 +143,7 @@ string-refuses {E} kind None p q left e added x r b t split rest = parts-refuse 
 -- the same, where the bytes were known
 pub reads-string : {E : Type 0} (kind : StringKind) (len : Option ℕ) (p q t : ℕ) (old new : Option (List ℕ)) (e : Error E) (b : List ℕ) (A : List ℕ → List ℕ → Type 0) →
     Advances old new q t (λ x. (added : List ℕ) × A added x × StringTaken {E = E} kind len p q (Err e) added x) → old ≡ Some b → RefusedBy new e (ContentRefuses kind len p b q)
-reads-string {E} kind len p q t old new e b A (x, taken, count, (added, h, s)) is =
+reads-string {E} kind len p q t old new e b A (x, taken, count, (added, h, s), bytes) is =
     let k = rest-of old new b x is taken in string-refuses {E = E} kind len p q new e added x k.0 b s k.2 k.1
 
 pub refused-string : {E : Type 0} (kind : StringKind) (len : Option ℕ) (p q t : ℕ) (old new : Option (List ℕ)) (result : Result (Unit {0}) (Error E)) (b : List ℕ) (A : List ℕ → List ℕ → Type 0) →
@@ -176,7 +176,7 @@ appended-utf8 None p q (Err e) added x (ps, s, parts, fits, last, same) = subst 
 -- a text with what was appended
 pub grown-utf8 : {E : Type 0} (len : Option ℕ) (p q t : ℕ) (a b : Option (List ℕ)) (result : Result (Unit {0}) (Error E)) (old new : List ℕ) → IsUtf8 old →
     Advances a b q t (λ x. (added : List ℕ) × (new ≡ old ++ added) × StringTaken {E = E} of_text len p q result added x) → IsUtf8 new
-grown-utf8 {E} len p q t a b result old new ok (x, taken, count, (added, is, s)) = subst IsUtf8 (sym is) (IsUtf8-append old added ok (appended-utf8 {E = E} len p q result added x s))
+grown-utf8 {E} len p q t a b result old new ok (x, taken, count, (added, is, s), bytes) = subst IsUtf8 (sym is) (IsUtf8-append old added ok (appended-utf8 {E = E} len p q result added x s))
 
 -- ---- a decoder that was just made
 

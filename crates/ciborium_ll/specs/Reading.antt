@@ -4,13 +4,13 @@ use Rattle.std.specs.Io.KnownBytes.{Consumes}
 use Rattle.ciborium_ll.specs.declared.header.Header.{Header}
 use Rattle.ciborium_ll.specs.declared.header.Error.{Error}
 use Rattle.ciborium_ll.specs.declared.header.Error.TheVariants.{Io, Syntax, TooLong, Memory}
-use Rattle.ciborium_ll.specs.Bytes.{greatest_offset}
+use Rattle.ciborium_ll.specs.Bytes.{AreBytes, greatest_offset}
 use Rattle.ciborium_ll.specs.Header.{SpellsHeader}
 use Rattle.ciborium_ll.specs.Refusal.{Refusal, io, syntax, too_long, HeadRefuses, IsUsable}
 
--- some bytes are taken between the offsets p and q, and nothing else, and P holds of them
+-- some bytes are taken between the offsets p and q, and nothing else, and P holds of them; each is below 256
 abbrev pub Advances : Option (List ℕ) → Option (List ℕ) → ℕ → ℕ → (List ℕ → Type 0) → Type 0
-Advances old new p q P = (b : List ℕ) × Consumes old new b × (q ≡ p + length b) × P b
+Advances old new p q P = (b : List ℕ) × Consumes old new b × (q ≡ p + length b) × P b × AreBytes b
 
 -- an error other than `Memory`, of a call that leaves this of the reader, is a refusal of which P holds; `Io` is one where the reader
 -- came to its end

@@ -1,10 +1,7 @@
 //! A reader of heads.
 
-ghost use Rattle.std.specs.Prelude.{◌≡◌, ◌++◌, IfErr, IfNone, IfOk, IfSome, List, None, Ok, Some, string_bytes, ℕ};
-ghost use Rattle.ciborium_ll.specs.Decoding.{Begins, IsAhead, IsUnread, Pulls, SameReader, Takes, count_of, last_of, left_of, offset_of, pushed_of};
-ghost use Rattle.ciborium_ll.specs.Reading.{FillTaken, HeadTaken, RefusedBy};
-ghost use Rattle.ciborium_ll.specs.StringRefusal.{ContentRefuses, of_bytes, of_text};
-ghost use Rattle.ciborium_ll.specs.Strings.{StringTaken};
+ghost use Rattle.std.specs.Prelude.{◌≤◌};
+ghost use Rattle.ciborium_ll.specs.Bytes.{greatest_offset};
 
 use crate::header::{Error, Header};
 use crate::reading::{fill, read_head};
@@ -22,9 +19,16 @@ pub struct Decoder<'a, R> {
     count: usize,
     pushed: Option<(Header, usize)>,
     last: usize,
+    ghost fits: { count ≤ greatest_offset },
 }
 
 impl<'a, R: Read> Decoder<'a, R> {
+    ghost use Rattle.std.specs.Prelude.{◌≡◌, ◌++◌, IfErr, IfNone, IfOk, IfSome, List, None, Ok, Some, string_bytes, ℕ};
+    ghost use Rattle.ciborium_ll.specs.Decoding.{Begins, IsAhead, IsUnread, Pulls, SameReader, Takes, count_of, last_of, left_of, offset_of, pushed_of};
+    ghost use Rattle.ciborium_ll.specs.Reading.{FillTaken, HeadTaken, RefusedBy};
+    ghost use Rattle.ciborium_ll.specs.StringRefusal.{ContentRefuses, of_bytes, of_text};
+    ghost use Rattle.ciborium_ll.specs.Strings.{StringTaken};
+
     /// A decoder whose offsets begin at 0.
     pub fn new(reader: &'a mut R) -> Decoder<'a, R>
         ensures same_reader { result.reader.ghost_name ≡ reader.entry.ghost_name }

@@ -130,7 +130,8 @@ fn append_parts<R: Read>(
     scratch: &mut [u8],
     out: &mut Vec<u8>,
 ) -> Result<(), Error<io::Error>>
-    ensures { Advances (R.remaining reader.old) (R.remaining reader.new) count.old count.new
+    ensures fits { count.new ≤ usize.MAX }
+    ensures bytes { Advances (R.remaining reader.old) (R.remaining reader.new) count.old count.new
         (λ b. (added : List ℕ) × (out.new.items ≡ out.old.items ++ added) × PartsTaken (kind_of kind) count.old result added b) }
 {
     let mut head = *count;
@@ -155,7 +156,8 @@ pub(crate) fn append_string<R: Read>(
     scratch: &mut [u8],
     out: &mut Vec<u8>,
 ) -> Result<(), Error<io::Error>>
-    ensures { Advances (R.remaining reader.old) (R.remaining reader.new) count.old count.new
+    ensures fits { count.new ≤ usize.MAX }
+    ensures bytes { Advances (R.remaining reader.old) (R.remaining reader.new) count.old count.new
         (λ b. (added : List ℕ) × (out.new.items ≡ out.old.items ++ added) × StringTaken (kind_of kind) len head count.old result added b) }
 {
     match len {

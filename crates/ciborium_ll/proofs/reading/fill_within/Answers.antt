@@ -4,6 +4,9 @@ use Rattle.std.specs.Io.KnownBytes.{Consumes}
 use Rattle.std.proofs.KnownBytes.{Consumes-trans, Consumes-kept}
 use borrow.Rule.Slice.PartMut.{put_mid, post_of, same_len_mid}
 use lib.Seq.{take-add, take-append-le}
+use Rattle.std.proofs.Common.{get_or, Fits, w8}
+use Rattle.std.proofs.lemmas.List.Elements.{All-from_get_or, All-take}
+use Rattle.ciborium_ll.specs.Bytes.{AreBytes}
 use Rattle.ciborium_ll.proofs.reading.fill_within.Goals as goal
 
 -- a front that stays, with what follows it, is a longer front
@@ -30,6 +33,10 @@ room_left at xs ys h same =
     let fits : length xs - at ≤ length (drop at xs) = omega arith in
     omega (arith, same, length-take-le (length xs - at) (drop at xs) fits, h)
 
+-- a buffer of bytes holds bytes
+are_bytes : (xs : List ℕ) → ((i : ℕ) → Fits w8 (get_or xs i 0)) → AreBytes xs
+are_bytes xs fits = All-from_get_or (λ x. x < 256) xs 0 (λ i h. let f = fits i in omega (arith, f))
+
 pub loop-filled-preserved : goal.loop-filled-preserved
 loop-filled-preserved g c =
     let from = c.loop-filled.filled in
@@ -41,6 +48,7 @@ loop-filled-preserved g c =
       within = search rules;
       counted = omega (arith, c.loop-filled.invariant.counted);
       taken = subst (Consumes _ _) (ap (λ l. take from c.loop-filled.buffer ++ l) (sym part) ∙ joined) (Consumes-trans _ _ _ _ _ c.loop-filled.invariant.taken c.in-Ok.ensures.bytes.0);
+      bytes = All-take (λ x. x < 256) (from + c.in-Ok.n) _ (are_bytes _ c.type_inv.buffer);
     }
 
 pub returns-in-Err-clause-bytes : goal.returns-in-Err-clause-bytes
@@ -54,4 +62,5 @@ returns-in-Err-clause-bytes g c =
         shorter filled (length c.loop-filled.buffer - filled) c.loop-filled.buffer c.read.new.buf within (room_left filled c.loop-filled.buffer c.read.new.buf c.loop-filled-test.true c.read.auto.buf),
         (let len = same_len_mid filled (length c.loop-filled.buffer - filled) c.loop-filled.buffer c.read.new.buf c.read.auto.buf in omega (arith, len, c.loop-filled.auto.buffer, c.requires)),
       ),
+      c.loop-filled.invariant.bytes,
     )

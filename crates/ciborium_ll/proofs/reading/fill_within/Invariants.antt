@@ -1,5 +1,6 @@
 use Rattle.std.proofs.Common.{length, take, ◌+◌, ◌-◌, ◌≡◌, ◌≤◌}
 use Rattle.std.specs.Io.KnownBytes.{Consumes}
+use Rattle.ciborium_ll.specs.Bytes.{AreBytes}
 use Rattle.ciborium_ll.proofs.reading.fill_within.Given as goal
 
 -- the bytes taken stand at the front of the buffer
@@ -8,6 +9,7 @@ invariant-loop-filled g l = record {
   within : l.filled ≤ length l.buffer;
   counted : l.count ≡ l.fn.count + l.filled;
   taken : Consumes (g.R.Read.remaining l.fn.reader) (g.R.Read.remaining l.reader) (take l.filled l.buffer);
+  bytes : AreBytes (take l.filled l.buffer);
 }
 
 abbrev pub decreases-loop-filled : goal.decreases-loop-filled
