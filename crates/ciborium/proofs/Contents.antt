@@ -145,12 +145,12 @@ string-fault kind remaining d e l len xs p h x is read a =
     (read a.1 (p + length a.0) a.6)
 
 -- a text that was appended to an empty one
-pub text-read : (E : Type 0) {S : Type 0} (remaining : S → Option (List ℕ)) (d e : Decoder S) (len : Option ℕ) (xs : List ℕ) (p n : ℕ) (old out : String Global) → string_bytes old ≡ [] → e.pushed ≡ None → n ≡ offset_of e → n ≤ greatest_offset →
+pub text-read : (E : Type 0) {S : Type 0} (remaining : S → Option (List ℕ)) (d e : Decoder S) (len : Option ℕ) (xs : List ℕ) (p : ℕ) (old out : String Global) → string_bytes old ≡ [] → e.pushed ≡ None →
     Takes remaining d e (λ b. (added : List ℕ) × (string_bytes out ≡ string_bytes old ++ added) × StringTaken {E = E} of_text len d.last d.count (Ok tt) added b) → IsAt remaining d p xs →
     StringRead {S = S} {E = E} of_text remaining e len d.last xs p (Ok (value.Text out))
-text-read E remaining d e len xs p n old out none pushed offset less (x, taken, count, (added, is, s)) at =
+text-read E remaining d e len xs p old out none pushed (x, taken, count, (added, is, s), bytes) at =
     let k = rest-of (remaining d.reader.now) (remaining e.reader.now) xs x at.1 taken in
-    let here : n ≡ e.count = offset ∙ ap (next_offset e.count) pushed in
+    let less = e.fits in
     let start : d.count ≡ p = at.0 in (
       x,
       added,
@@ -159,5 +159,5 @@ text-read E remaining d e len xs p n old out none pushed offset less (x, taken, 
       tree_of-Text out ∙ ap trees.text (is ∙ ap (λ (z : List ℕ). z ++ added) none),
       k.2,
       (count ∙ ap (λ q. q + length x) start, k.1),
-      omega (arith, here, less, count, start),
+      omega (arith, less, count, start),
     )

@@ -5,9 +5,10 @@ use Rattle.std.proofs.lemmas.Bool.Decides.{nat_tests}
 use Rattle.std.proofs.Math.Nat.{eq-or-lt_of_le}
 use Rattle.std.specs.Cmp.Lexicographic.{slice_cmp}
 use Rattle.std.specs.Ordering.{ordering_then}
+use Rattle.ciborium_ll.specs.Bytes.{AreBytes}
 use Rattle.ciborium_ll.specs.Head.{Head, shortest_head, IsSimple, simple_bytes}
 use Rattle.ciborium_ll.specs.Item.{items_count, pairs_count}
-use Rattle.ciborium_ll.specs.Spells.{AnyBytes, IsDefiniteString, Encloses, Spells, SpellsItems, SpellsPairs}
+use Rattle.ciborium_ll.specs.Spells.{IsDefiniteString, Encloses, Spells, SpellsItems, SpellsPairs}
 use Rattle.ciborium_ll.proofs.ShortestHead.{none_is_shorter, no_other_is_as_short}
 use Rattle.ciborium_ll.proofs.UniqueSpelling.{one_item}
 use Rattle.ciborium_value.specs.Encoding.{item_of, items_of, pairs_of, encoding, items_bytes, pairs_bytes, written_tree, written_trees, written_pairs}
@@ -85,7 +86,7 @@ mutual
   others_longer : (v : Tree) (s : List ℕ) → Spells s (item_of v) → IsOrLonger (encoding v) s
   others_longer (integer (pos n)) s h = head_longer 0 n s h
   others_longer (integer (negsuc n)) s h = head_longer 1 n s h
-  others_longer (bytes b) s h = string_longer 2 AnyBytes s b h
+  others_longer (bytes b) s h = string_longer 2 AreBytes s b h
   others_longer (text b) s h = string_longer 3 IsUtf8 s b h
   others_longer (boolean false) s h = simple_longer 20 s (omega arith) h
   others_longer (boolean true) s h = simple_longer 21 s (omega arith) h

@@ -17,5 +17,7 @@ mod Fronts
 mod Contents
 mod AfterTag
 mod Turned
+mod WhateverFollows
 mod Outcomes
+mod KnownReaders
 mod OneAnswer

@@ -10,7 +10,7 @@ use Rattle.ciborium_value.specs.Refuses.{Refuses}
 use Rattle.ciborium_value.specs.View.{tree_of}
 use Rattle.ciborium.specs.declared.de.error.Error.{Error}
 use Rattle.ciborium.specs.declared.de.error.Error.TheVariants.{Io, Syntax, Semantic, RecursionLimitExceeded, Memory, TooLong}
-use Rattle.ciborium.specs.Answers.{TakesValue, IsFailure}
+use Rattle.ciborium.specs.Answers.{TakesValue, IsFailed}
 use Rattle.ciborium.specs.Errors.{RefusedBy, kind_of}
 
 -- what the clauses of a call say of its answer: b were the known bytes, within l levels, and this is left of them
@@ -23,9 +23,9 @@ abbrev pub semantic_of : Option ℕ → Kind → Option Refusal
 semantic_of (Some p) k = option_map (refusal.semantic p) (kind_of k)
 semantic_of None k = None
 
--- the refusal that an error names, where it is no failure
+-- the refusal that an error names: `Io` is one where the reader came to its end
 abbrev pub refusal_of : Error IoError → Option Refusal
-refusal_of (Io e) = None
+refusal_of (Io e) = Some refusal.io
 refusal_of (Syntax p) = Some (refusal.syntax p)
 refusal_of (Semantic p k) = semantic_of p k
 refusal_of RecursionLimitExceeded = Some refusal.recursion_limit_exceeded
@@ -35,9 +35,9 @@ refusal_of TooLong = Some refusal.too_long
 -- two answers are alike, with what is left behind each: the same tree and the same bytes, or the same refusal; or a call failed
 abbrev pub AreAlike : Option (List ℕ) → Result Value (Error IoError) → Option (List ℕ) → Result Value (Error IoError) → Type 0
 AreAlike left (Ok v) right (Ok w) = (tree_of v ≡ tree_of w) × (left ≡ right)
-AreAlike left (Ok v) right (Err f) = IsFailure f
-AreAlike left (Err e) right (Ok w) = IsFailure e
-AreAlike left (Err e) right (Err f) = IsFailure e ⊎ IsFailure f ⊎ (refusal_of e ≡ refusal_of f)
+AreAlike left (Ok v) right (Err f) = IsFailed right f
+AreAlike left (Err e) right (Ok w) = IsFailed left e
+AreAlike left (Err e) right (Err f) = IsFailed left e ⊎ IsFailed right f ⊎ (refusal_of e ≡ refusal_of f)
 
 -- any two answers for the same bytes and limit are alike
 abbrev pub OneAnswer : Type 0

@@ -1,5 +1,6 @@
 -- What reading a value answers.
-use Rattle.std.specs.Prelude.{◌≡◌, ℕ, ◌+◌, ◌≤◌, List, ◌++◌, length, Option, Some, None, Result, Ok, Err, IfErr, IfOk, OnOk}
+use Rattle.std.specs.Prelude.{◌≡◌, ℕ, ◌+◌, ◌≤◌, List, [], ◌++◌, length, Option, Some, None, Result, Ok, Err, IfErr, IfOk}
+use Rattle.std.specs.Io.KnownBytes.{Consumes}
 use Rattle.ciborium_ll.specs.Bytes.{AreBytes, greatest_offset}
 use Rattle.ciborium_ll.specs.declared.decoder.Decoder.{Decoder}
 use Rattle.ciborium_ll.specs.Decoding.{IsAhead, left_of}
@@ -9,7 +10,7 @@ use Rattle.ciborium_value.specs.Counts.{node_count, payload_size}
 use Rattle.ciborium_value.specs.Meaning.{meaning}
 use Rattle.ciborium_value.specs.Open.{Open}
 use Rattle.ciborium_value.specs.Proper.{IsProperTree}
-use Rattle.ciborium_value.specs.Refuses.{IsGood, Refuses}
+use Rattle.ciborium_value.specs.Refuses.{IsGood, IsReadAs, Refuses}
 use Rattle.ciborium_value.specs.Tree.{Tree}
 use Rattle.ciborium_value.specs.View.{tree_of}
 use Rattle.ciborium.specs.declared.de.error.Error.{Error}
@@ -33,26 +34,32 @@ Turned remaining d os l xs p (Ok None) = IsReading remaining d os l xs p
 Turned remaining d os l xs p (Ok (Some v)) = (zs : List ℕ) × (r : ℕ) × ReadsItem l xs p (tree_of v) zs r × IsAhead remaining d r zs
 Turned remaining d os l xs p (Err e) = RefusedBy (left_of remaining d) e (Refuses xs p (Some l))
 
--- b begins with a good item within l levels that means v, and left is what follows it
-abbrev pub ReadsValue : List ℕ → ℕ → Tree → List ℕ → Type 0
-ReadsValue b l v left = (s : List ℕ) × (i : Item) × IsGood i (Some l) s 0 × (meaning i ≡ Some v) × (b ≡ s ++ left)
-
--- of the bytes b just such an item was taken
+-- of the bytes b just those of one good item within l levels were taken, which means v
 abbrev pub TakesValue : List ℕ → ℕ → Tree → Option (List ℕ) → Type 0
-TakesValue b l v after = (left : List ℕ) × (after ≡ Some left) × ReadsValue b l v left
+TakesValue b l v after = (s : List ℕ) × (left : List ℕ) × IsReadAs s 0 (Some l) v × (b ≡ s ++ left) × (after ≡ Some left)
 
--- the reader failed, or memory was wanting
-abbrev pub IsFailure : {E : Type 0} → Error E → Type 0
-IsFailure (Io e) = Unit {0}
-IsFailure Memory = Unit {0}
-IsFailure _ = ⊥
+-- the reader failed before its end, or memory was refused: at its end `Io` is a refusal of the definitions
+abbrev pub IsFailed : {E : Type 0} → Option (List ℕ) → Error E → Type 0
+IsFailed left (Io e) = ¬ (left ≡ Some [])
+IsFailed left Memory = Unit {0}
+IsFailed left _ = ⊥
 
 -- the good item i stood at the front, and left followed it: it was taken, and its meaning is the answer, or the call failed
 abbrev pub AnswersItem : {E : Type 0} → Item → List ℕ → Option (List ℕ) → Result Value (Error E) → Type 0
 AnswersItem i left after (Ok v) = (meaning i ≡ Some (tree_of v)) × (after ≡ Some left)
-AnswersItem i left after (Err e) = IsFailure e
+AnswersItem i left after (Err e) = IsFailed after e
 
 -- ---- the clauses of a call that reads one value within l levels: what the reader held before it, what it is left with, and the answer
+
+-- what the bytes s are that were taken, where the answer is so: a good item that means it; or refused so, whatever follows them
+abbrev pub IsTakenAs : {E : Type 0} → List ℕ → ℕ → Result Value (Error E) → Type 0
+IsTakenAs s l (Ok v) = IsReadAs s 0 (Some l) (tree_of v)
+IsTakenAs s l (Err e) = (c : List ℕ) → RefusedBy (Some c) e (Refuses (s ++ c) 0 (Some l))
+
+-- some bytes were taken, a beginning of those that are known, and no more than there are offsets; and so they are
+abbrev pub TakesBytes : {E : Type 0} → Option (List ℕ) → ℕ → Option (List ℕ) → Result Value (Error E) → Type 0
+TakesBytes before l after r =
+    (s : List ℕ) × Consumes before after s × (length s ≤ greatest_offset) × IsTakenAs s l r × AreBytes s
 
 -- at Ok just a good item was taken, and the answer is its meaning
 abbrev pub TakesItem : {E : Type 0} → Option (List ℕ) → ℕ → Option (List ℕ) → Result Value (Error E) → Type 0
@@ -61,11 +68,11 @@ TakesItem before l after r = (b : List ℕ) → before ≡ Some b → IfOk r (λ
 -- a good item at the front is taken and its meaning answered, unless the call failed
 abbrev pub AnswersGoodItem : {E : Type 0} → Option (List ℕ) → ℕ → Option (List ℕ) → Result Value (Error E) → Type 0
 AnswersGoodItem before l after r =
-    (b s left : List ℕ) (i : Item) → before ≡ Some b → AreBytes b → IsGood i (Some l) s 0 → b ≡ s ++ left → AnswersItem i left after r
+    (b s left : List ℕ) (i : Item) → before ≡ Some b → IsGood i (Some l) s 0 → b ≡ s ++ left → AnswersItem i left after r
 
 -- an error is the refusal of what the reader held
 abbrev pub RefusesBytes : {E : Type 0} → Option (List ℕ) → ℕ → Option (List ℕ) → Result Value (Error E) → Type 0
-RefusesBytes before l after r = (b : List ℕ) → before ≡ Some b → IfErr r (λ e. RefusedBy after e (λ f. Refuses b 0 (Some l) f))
+RefusesBytes before l after r = (b : List ℕ) → before ≡ Some b → IfErr r (λ e. RefusedBy after e (Refuses b 0 (Some l)))
 
 -- the values and payload bytes of the answer are no more than the bytes taken
 abbrev pub HoldsNoMore : {E : Type 0} → Option (List ℕ) → Option (List ℕ) → Result Value (Error E) → Type 0
@@ -73,9 +80,9 @@ HoldsNoMore before after r =
     (b left : List ℕ) → before ≡ Some b → after ≡ Some left → IfOk r (λ v. node_count (tree_of v) + payload_size (tree_of v) + length left ≤ length b)
 
 -- the answer is a tree that memory can hold
-abbrev pub AnswersProper : {E : Type 0} → Option (List ℕ) → Result Value (Error E) → Type 0
-AnswersProper before r = (b : List ℕ) → before ≡ Some b → AreBytes b → IfOk r (λ v. IsProperTree (tree_of v))
+abbrev pub AnswersProper : {E : Type 0} → Result Value (Error E) → Type 0
+AnswersProper r = IfOk r (λ v. IsProperTree (tree_of v))
 
--- no more bytes were taken than there are offsets
-abbrev pub TakesWithin : {E : Type 0} → Option (List ℕ) → Option (List ℕ) → Result Value (Error E) → Type 0
-TakesWithin before after r = (b left : List ℕ) → before ≡ Some b → after ≡ Some left → OnOk r (length b ≤ length left + greatest_offset)
+-- no more bytes were taken than there are offsets, whatever the answer
+abbrev pub TakesWithin : Option (List ℕ) → Option (List ℕ) → Type 0
+TakesWithin before after = (b left : List ℕ) → before ≡ Some b → after ≡ Some left → length b ≤ length left + greatest_offset

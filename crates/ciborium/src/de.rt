@@ -1,6 +1,6 @@
 //! Bytes to values.
 
-ghost use Rattle.ciborium.specs.Answers.{AnswersGoodItem, AnswersProper, HoldsNoMore, RefusesBytes, TakesItem, TakesWithin};
+ghost use Rattle.ciborium.specs.Answers.{AnswersGoodItem, AnswersProper, HoldsNoMore, RefusesBytes, TakesBytes, TakesItem, TakesWithin};
 
 mod building;
 mod error;
@@ -13,6 +13,12 @@ pub use error::Error;
 use std::alloc::Global;
 use std::io::{self, Read};
 
+/// The levels within which a value is read where no limit is named.
+pub const RECURSION_LIMIT: usize = 256;
+
+// The size of the scratch where none is lent.
+const SCRATCH_SIZE: usize = 4096;
+
 // Reads one value with a decoder of its own.
 fn read<R: Read>(
     alloc: Global,
@@ -20,12 +26,13 @@ fn read<R: Read>(
     scratch: &mut [u8],
     limit: usize,
 ) -> Result<Value, Error<io::Error>>
+    ensures taken { TakesBytes (R.remaining reader.old) limit (R.remaining reader.new) result }
     ensures ok { TakesItem (R.remaining reader.old) limit (R.remaining reader.new) result }
     ensures exact { AnswersGoodItem (R.remaining reader.old) limit (R.remaining reader.new) result }
     ensures refused { RefusesBytes (R.remaining reader.old) limit (R.remaining reader.new) result }
     ensures bounded { HoldsNoMore (R.remaining reader.old) (R.remaining reader.new) result }
-    ensures proper { AnswersProper (R.remaining reader.old) result }
-    ensures within { TakesWithin (R.remaining reader.old) (R.remaining reader.new) result }
+    ensures proper { AnswersProper result }
+    ensures within { TakesWithin (R.remaining reader.old) (R.remaining reader.new) }
 {
     let mut decoder = Decoder::new(reader);
     building::read_value(alloc, &mut decoder, scratch, limit)
@@ -46,15 +53,16 @@ fn read<R: Read>(
 /// where the item would pass the greatest offset; `Memory` where a growth was refused. A beginning
 /// of the item has then been taken from the reader.
 pub fn from_reader<R: Read>(alloc: Global, reader: &mut R) -> Result<Value, Error<io::Error>>
+    ensures taken { TakesBytes (R.remaining reader.old) 256 (R.remaining reader.new) result }
     ensures ok { TakesItem (R.remaining reader.old) 256 (R.remaining reader.new) result }
     ensures exact { AnswersGoodItem (R.remaining reader.old) 256 (R.remaining reader.new) result }
     ensures refused { RefusesBytes (R.remaining reader.old) 256 (R.remaining reader.new) result }
     ensures bounded { HoldsNoMore (R.remaining reader.old) (R.remaining reader.new) result }
-    ensures proper { AnswersProper (R.remaining reader.old) result }
-    ensures within { TakesWithin (R.remaining reader.old) (R.remaining reader.new) result }
+    ensures proper { AnswersProper result }
+    ensures within { TakesWithin (R.remaining reader.old) (R.remaining reader.new) }
 {
-    let mut scratch = [0u8; 4096];
-    read(alloc, reader, &mut scratch, 256)
+    let mut scratch = [0u8; SCRATCH_SIZE];
+    read(alloc, reader, &mut scratch, RECURSION_LIMIT)
 }
 
 /// Reads one value as `from_reader` does, with a scratch for strings of the caller's. Any length
@@ -64,14 +72,15 @@ pub fn from_reader_with_buffer<R: Read>(
     reader: &mut R,
     scratch: &mut [u8],
 ) -> Result<Value, Error<io::Error>>
+    ensures taken { TakesBytes (R.remaining reader.old) 256 (R.remaining reader.new) result }
     ensures ok { TakesItem (R.remaining reader.old) 256 (R.remaining reader.new) result }
     ensures exact { AnswersGoodItem (R.remaining reader.old) 256 (R.remaining reader.new) result }
     ensures refused { RefusesBytes (R.remaining reader.old) 256 (R.remaining reader.new) result }
     ensures bounded { HoldsNoMore (R.remaining reader.old) (R.remaining reader.new) result }
-    ensures proper { AnswersProper (R.remaining reader.old) result }
-    ensures within { TakesWithin (R.remaining reader.old) (R.remaining reader.new) result }
+    ensures proper { AnswersProper result }
+    ensures within { TakesWithin (R.remaining reader.old) (R.remaining reader.new) }
 {
-    read(alloc, reader, scratch, 256)
+    read(alloc, reader, scratch, RECURSION_LIMIT)
 }
 
 /// Reads one value as `from_reader` does, within this many levels. At limit 0 no array, map or tag
@@ -81,14 +90,15 @@ pub fn from_reader_with_recursion_limit<R: Read>(
     reader: &mut R,
     limit: usize,
 ) -> Result<Value, Error<io::Error>>
+    ensures taken { TakesBytes (R.remaining reader.old) limit (R.remaining reader.new) result }
     ensures ok { TakesItem (R.remaining reader.old) limit (R.remaining reader.new) result }
     ensures exact { AnswersGoodItem (R.remaining reader.old) limit (R.remaining reader.new) result }
     ensures refused { RefusesBytes (R.remaining reader.old) limit (R.remaining reader.new) result }
     ensures bounded { HoldsNoMore (R.remaining reader.old) (R.remaining reader.new) result }
-    ensures proper { AnswersProper (R.remaining reader.old) result }
-    ensures within { TakesWithin (R.remaining reader.old) (R.remaining reader.new) result }
+    ensures proper { AnswersProper result }
+    ensures within { TakesWithin (R.remaining reader.old) (R.remaining reader.new) }
 {
-    let mut scratch = [0u8; 4096];
+    let mut scratch = [0u8; SCRATCH_SIZE];
     read(alloc, reader, &mut scratch, limit)
 }
 

@@ -4,7 +4,8 @@ use Rattle.std.specs.Prelude.{IsUtf8}
 use Rattle.std.proofs.Math.Seq.{take-append_seam, drop-append_seam}
 use Rattle.ciborium_ll.specs.Head.{Head, IsSimple, IsFloat}
 use Rattle.ciborium_ll.specs.Item.{Item, unsigned, negative, bytes, text, array, map, tag, simple, float, Items, no_items, item, Pairs, no_pairs, pair, items_count, pairs_count}
-use Rattle.ciborium_ll.specs.Spells.{AnyBytes, AreParts, joined, IsString, Spells, SpellsItems, SpellsPairs}
+use Rattle.ciborium_ll.specs.Bytes.{AreBytes}
+use Rattle.ciborium_ll.specs.Spells.{AreParts, joined, IsString, Spells, SpellsItems, SpellsPairs}
 use Rattle.ciborium_ll.proofs.FrontHeads.{Front, nothing, counted, opened, plain, raw, front, front_open, front-head, front-simple, head-length}
 
 abbrev pub Parse : Type 0 → Type 0
@@ -159,14 +160,14 @@ parts-again m Allowed (p ∷ ps) (suc k) b x lt le s =
     ap (λ (t : List ℕ). parse_map (λ z. t ++ z) (parts k (r ++ (255 ∷ x)))) (take-append_seam p (r ++ (255 ∷ x))) ∙
     ap (parse_map (λ z. p ++ z)) (parts-again m Allowed ps k r x lt shorter s.3)
 
-string-again : (d : ℕ) (o : Bool) (p b x : List ℕ) → 0 < d → IsString o 2 AnyBytes b p → read d (b ++ x) ≡ found (bytes o p) x
+string-again : (d : ℕ) (o : Bool) (p b x : List ℕ) → 0 < d → IsString o 2 AreBytes b p → read d (b ++ x) ≡ found (bytes o p) x
 string-again d false p b x h s =
     read_is d (b ++ x) h ∙ ap (item_at (read (d - 1)) (d - 1)) (front-counted b s.0 p x 2 (length p) (omega arith) s.1 s.3) ∙ taken (bytes false) p x
 string-again d true p b x h s =
     let r = s.1 in
     let room : length r < length (r ++ (255 ∷ x)) = omega (arith, length-append r (255 ∷ x)) in
     read_is d (b ++ x) h ∙ ap (item_at (read (d - 1)) (d - 1)) (front-opened b r x 2 s.4) ∙
-    ap (parse_map (bytes true)) (parts-again 2 AnyBytes s.0 (length (r ++ (255 ∷ x))) r x (omega arith) room s.2) ∙ ap (λ (t : List ℕ). found (bytes true t) x) (sym s.3)
+    ap (parse_map (bytes true)) (parts-again 2 AreBytes s.0 (length (r ++ (255 ∷ x))) r x (omega arith) room s.2) ∙ ap (λ (t : List ℕ). found (bytes true t) x) (sym s.3)
 
 text-again : (d : ℕ) (o : Bool) (p b x : List ℕ) → 0 < d → IsString o 3 IsUtf8 b p → read d (b ++ x) ≡ found (text o p) x
 text-again d false p b x h s =

@@ -38,6 +38,16 @@ pub record Begins {S : Type 0} (d : Decoder S) (lent : S) (offset : ℕ) : Type 
 abbrev pub Takes : {S : Type 0} → (S → Option (List ℕ)) → Decoder S → Decoder S → (List ℕ → Type 0) → Type 0
 Takes remaining old new P = Advances (remaining old.reader.now) (remaining new.reader.now) old.count new.count P
 
+-- the decoder, as it stands where just u is left of its reader
+abbrev pub with_left : {S : Type 0} → Decoder S → List ℕ → Decoder (List ℕ)
+with_left d u =
+    record { reader = record { ref_ptr = d.reader.ref_ptr; ghost_name = d.reader.ghost_name; now = u }; count = d.count; pushed = d.pushed; last = d.last; fits = d.fits }
+
+-- some bytes are taken from the reader and counted, and nothing else; P holds of the decoder before and after, whatever follows
+-- those bytes. So it is said of a reader whose bytes nobody knows, too.
+abbrev pub TakesBeforeAny : {S : Type 0} → (S → Option (List ℕ)) → Decoder S → Decoder S → (Decoder (List ℕ) → Decoder (List ℕ) → Type 0) → Type 0
+TakesBeforeAny remaining old new P = Takes remaining old new (λ b. (c : List ℕ) → P (with_left old (b ++ c)) (with_left new c))
+
 -- nothing is read
 abbrev pub IsUnread : {S : Type 0} → Decoder S → Decoder S → Type 0
 IsUnread old new = (new.reader.now ≡ old.reader.now) × (new.count ≡ old.count)

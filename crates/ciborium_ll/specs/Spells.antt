@@ -1,11 +1,8 @@
 -- Which byte lists spell an item, from the first byte to the last (RFC 8949, sections 3.1 to 3.3).
 use Rattle.std.specs.Prelude.{◌≡◌, ℕ, List, [], ◌∷◌, ◌++◌, length, Bool, true, false, IsUtf8}
+use Rattle.ciborium_ll.specs.Bytes.{AreBytes}
 use Rattle.ciborium_ll.specs.Head.{Head, open_byte, break_byte, IsSimple, IsFloat}
 use Rattle.ciborium_ll.specs.Item.{Item, unsigned, negative, bytes, text, array, map, tag, simple, float, Items, no_items, item, Pairs, no_pairs, pair, items_count, pairs_count}
-
--- a byte string holds any bytes
-abbrev pub AnyBytes : List ℕ → Type 0
-AnyBytes payload = Unit {0}
 
 -- a definite string of a major type: a head with the payload's length, then an allowed payload (section 3.1)
 abbrev pub IsDefiniteString : ℕ → (List ℕ → Type 0) → List ℕ → List ℕ → Type 0
@@ -44,7 +41,7 @@ abbrev mutual
   pub Spells : List ℕ → Item → Type 0
   Spells b (unsigned n) = Head b 0 n
   Spells b (negative n) = Head b 1 n
-  Spells b (bytes open_ payload) = IsString open_ 2 AnyBytes b payload
+  Spells b (bytes open_ payload) = IsString open_ 2 AreBytes b payload
   Spells b (text open_ payload) = IsString open_ 3 IsUtf8 b payload
   Spells b (array open_ is) = (r : List ℕ) × SpellsItems r is × Encloses open_ 4 (items_count is) b r
   Spells b (map open_ ps) = (r : List ℕ) × SpellsPairs r ps × Encloses open_ 5 (pairs_count ps) b r

@@ -1,8 +1,8 @@
 -- When a string is refused whose head is usable (RFC 8949, sections 3.1 and 3.2.3).
 use Rattle.std.specs.Prelude.{◌≡◌, ℕ, ◌+◌, ◌<◌, ◌≤◌, ◌⊎◌, List, ◌∷◌, ◌++◌, length, Option, Some, None, IsUtf8}
-use Rattle.ciborium_ll.specs.Bytes.{greatest_offset}
+use Rattle.ciborium_ll.specs.Bytes.{AreBytes, greatest_offset}
 use Rattle.ciborium_ll.specs.Head.{open_byte, break_byte}
-use Rattle.ciborium_ll.specs.Spells.{AnyBytes, AreParts}
+use Rattle.ciborium_ll.specs.Spells.{AreParts}
 use Rattle.ciborium_ll.specs.Refusal.{Refusal, io, syntax, too_long, HeadRefuses, IsUsable, HeadStands, BeginsWith}
 
 -- the two kinds of string
@@ -17,7 +17,7 @@ major_of of_text = 3
 
 -- what a definite string of a kind may hold
 abbrev pub Allowed : StringKind → List ℕ → Type 0
-Allowed of_bytes payload = AnyBytes payload
+Allowed of_bytes payload = AreBytes payload
 Allowed of_text payload = IsUtf8 payload
 
 -- what is left refuses as the payload, of n bytes, of a definite string whose head is at offset p: it ends early, or the payload

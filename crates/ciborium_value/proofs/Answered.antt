@@ -15,7 +15,7 @@ use Rattle.ciborium_ll.specs.Bytes.{greatest_offset}
 use Rattle.ciborium_value.specs.Refuses.{IsGood, AreGood, Due, exactly, items_until_break, keys_until_break, values_until_break, next_due, due_after, Opens, IsDue, FoldsAt, Refuses}
 use Rattle.ciborium_ll.specs.StringRefusal.{StringKind, of_bytes, of_text, major_of, Allowed, PayloadRefuses, StringRefuses, PartRefuses, OpenStringRefuses, BeginsString}
 use Rattle.ciborium_ll.proofs.FrontHeads.{Front, nothing, counted, opened, plain, raw, front, front_open}
-use Rattle.ciborium_ll.proofs.UsableHeads.{EachIsByte, bytes_after, stands-front, stands-length, IsStringMajor}
+use Rattle.ciborium_ll.proofs.UsableHeads.{EachIsByte, bytes_after, take_bytes, stands-front, stands-length, IsStringMajor}
 use Rattle.ciborium_ll.proofs.ReadHeads.{Face, faces}
 use Rattle.ciborium_value.proofs.Reader.{Answer, ends, refused, checked, and_then, past, allowed, string, piece, pieces, levels, break_at, end_at, or_end, folding, payload, is_too_large, bignum, tagged, counted_item, opened_item, item_at, read, parts}
 use Rattle.ciborium_value.proofs.Parts.{within-zero, raise, some-mapped, more-good, none-good, flat, Spells-flat, meaning-flat, flat-nesting, flat-count, after-left, after-items, pairs-open, pairs-counted}
@@ -61,8 +61,8 @@ rest-bytes b h r e x = bytes_after h r (subst EachIsByte e x)
 
 -- ---- strings
 
-string-meets : (c : StringKind) (b : List ℕ) (p q n k : ℕ) (r : List ℕ) → HeadStands b (major_of c) n k r → p + k + n ≤ greatest_offset → q ≡ p + k → StringMeets c b p (take n r) (string (major_of c) n r p q)
-string-meets c b p q n k r st fits e =
+string-meets : (c : StringKind) (b : List ℕ) (p q n k : ℕ) (r : List ℕ) → EachIsByte b → HeadStands b (major_of c) n k r → p + k + n ≤ greatest_offset → q ≡ p + k → StringMeets c b p (take n r) (string (major_of c) n r p q)
+string-meets c b p q n k r bytes st fits e =
     cond_both (ltb (length r) n) _ _ P (λ t. (n, k, r, st, PayloadRefuses.ends_early (ltb-true _ _ t)))
     (λ t. let room : n ≤ length r = ltb-false _ _ t in
     let ly : length (take n r) ≡ n = length-take-le n r room in
@@ -70,7 +70,7 @@ string-meets c b p q n k r st fits e =
     cond_both (allowed (major_of c) (take n r)) _ _ P
     (λ u. (
       st.0 ++ take n r,
-      (st.0, subst (Head st.0 (major_of c)) (sym ly) st.1, kind_ok c (take n r) u, refl),
+      (st.0, subst (Head st.0 (major_of c)) (sym ly) st.1, kind_ok c (take n r) (take_bytes n r (rest-bytes b st.0 r st.3 bytes)) u, refl),
       st.3 ∙ ap (λ (z : List ℕ). st.0 ++ z) split ∙ sym (append_assoc st.0 (take n r) (drop n r)),
       omega (arith, length-append st.0 (take n r), ly, st.2, e),
       omega arith,
@@ -138,7 +138,7 @@ module _ (k : StringKind) where
       (λ t. let j = eqb-true z m t in
       let st : HeadStands b m n f.1 r = subst (λ j. HeadStands b j n f.1 r) j f.2 in
       after-part d b (take n r) q (string m n r q (past q b r)) has room bytes
-      (string-meets k b q (past q b r) n f.1 r st (f.4 (subst IsStringMajor (sym j) (kind_major k))) (omega (arith, stands-length b m n f.1 r st))) rec)
+      (string-meets k b q (past q b r) n f.1 r bytes st (f.4 (subst IsStringMajor (sym j) (kind_major k))) (omega (arith, stands-length b m n f.1 r st))) rec)
       (λ t. here b q (syntax q) room (PartRefuses.other has
       (string-begins k b (counted z n r) e (λ n' r' g. eqb-false z m t (major_of (counted z n r) (counted m n' r') g)))
       (break-begins b (counted z n r) e (λ r' g. absurd cc))))
@@ -466,7 +466,7 @@ tag-meets d rec b r t p k l has st bytes fuel =
     let done : read d r (p + k) l ≡ a = counted-at d (p + k) (p + k + F.2) r l 2 n F.2 x (omega (arith, lb)) (omega arith) F.5 i refl in
     let y : payload (front r) ≡ take n x = ap payload F.4 in
     let small : length (take n x) ≤ 16 = omega (arith, length-take n x, F.6) in
-    let sm : StringMeets of_bytes r (p + k) (take n x) a = string-meets of_bytes r (p + k) (p + k + F.2) n F.2 x F.5 F.7 refl in
+    let sm : StringMeets of_bytes r (p + k) (take n x) a = string-meets of_bytes r (p + k) (p + k + F.2) n F.2 x br F.5 F.7 refl in
     subst (λ w. Meets b p l (bignum t w p (read d r (p + k) l))) (sym y) (subst (λ w. Meets b p l (bignum t (take n x) p w)) (sym done)
     (folded-meets b st.0 r (take n x) t p k l a has st i F.0.0 small F.0 sm)))
     (λ z. let unfolds : FoldsAt t r → ⊥ = (λ f. let c = sym z ∙ folds-front t r f in cc) in
@@ -487,10 +487,10 @@ module _ (d : ℕ) (rec : (b : List ℕ) (p : ℕ) (l : Limit) → EachIsByte b 
   counted-meets (suc zero) n k r lt st fits sf = head-item b p (p + k) k l r 1 n (negative n) st (λ s h. h) refl refl fits refl
   counted-meets (suc (suc zero)) n k r lt st fits sf =
       string-item of_bytes b (take n r) p l (cbor.bytes false (take n r)) (string 2 n r p (p + k)) (λ s h. h) refl refl (λ e f. Refuses.string of_bytes has f)
-      (string-meets of_bytes b p (p + k) n k r st (sf (inl refl)) refl)
+      (string-meets of_bytes b p (p + k) n k r bytes st (sf (inl refl)) refl)
   counted-meets (suc (suc (suc zero))) n k r lt st fits sf =
       string-item of_text b (take n r) p l (cbor.text false (take n r)) (string 3 n r p (p + k)) (λ s h. h) refl refl (λ e f. Refuses.string of_text has f)
-      (string-meets of_text b p (p + k) n k r st (sf (inr refl)) refl)
+      (string-meets of_text b p (p + k) n k r bytes st (sf (inr refl)) refl)
   counted-meets (suc (suc (suc (suc zero)))) n k r lt st fits sf =
       let lb = stands-length b 4 n k r st in
       container-meets d b r p k l (exactly n) (λ m. recs (exactly n) r (p + k) m fits (rest-bytes b st.0 r st.3 bytes) (omega (arith, lb))) has (Opens.array n st)

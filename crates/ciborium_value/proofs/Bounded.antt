@@ -2,8 +2,9 @@
 use Rattle.std.proofs.Common.{◌≡◌, ℕ, suc, ◌+◌, ◌^◌, ◌<◌, ◌≤◌, cond, ltb, leb, eqb, Bool, true, false, ◌||◌, List, [], ◌∷◌, ◌++◌, length, Option, Some, None, ap, ◌∙◌, subst, arith, length-append, IsUtf8, option_map, pos, negsuc}
 use Rattle.ciborium_value.specs.Tree as trees
 use Rattle.ciborium_value.specs.Tree.{Tree, Trees, TreePairs}
+use Rattle.ciborium_ll.specs.Bytes.{AreBytes}
 use Rattle.ciborium_ll.specs.Item.{Item, unsigned, negative, bytes, text, array, map, tag, simple, float, Items, no_items, item, items_count, Pairs, no_pairs, pair, pairs_count}
-use Rattle.ciborium_ll.specs.Spells.{AnyBytes, AreParts, joined, IsString, Encloses, Spells, SpellsItems, SpellsPairs}
+use Rattle.ciborium_ll.specs.Spells.{AreParts, joined, IsString, Encloses, Spells, SpellsItems, SpellsPairs}
 use Rattle.ciborium_value.specs.Meaning.{meaning, items_meaning, pairs_meaning, trees_more, tree_pairs_more, simple_meaning, big_endian, is_bignum_tag, bignum_meaning, unsigned_bignum, negative_bignum, without_zeros, folding_bytes, short_string, tag_meaning}
 use Rattle.ciborium_value.specs.Counts.{node_count, payload_size, trees_node_count, trees_payload_size, tree_pairs_node_count, tree_pairs_payload_size}
 use Rattle.ciborium_ll.proofs.FrontHeads.{head-length}
@@ -84,7 +85,7 @@ string-longer true m Allowed s y h =
 short-fits : (i : Item) (s : List ℕ) → Spells s i → PayloadFits (length s) (short_string i)
 short-fits (unsigned n) s h = tt
 short-fits (negative n) s h = tt
-short-fits (bytes false y) s h = payload-chosen (leb (length y) 16) (Some y) (length s) (string-longer false 2 AnyBytes s y h)
+short-fits (bytes false y) s h = payload-chosen (leb (length y) 16) (Some y) (length s) (string-longer false 2 AreBytes s y h)
 short-fits (bytes true y) s h = tt
 short-fits (text o y) s h = tt
 short-fits (array o is) s h = tt
@@ -152,7 +153,7 @@ mutual
   item-fits : (i : Item) (s : List ℕ) → Spells s i → Fits (length s) (meaning i)
   item-fits (unsigned n) s h = let pos = spells-pos (unsigned n) s h in omega (arith, pos)
   item-fits (negative n) s h = let pos = spells-pos (negative n) s h in omega (arith, pos)
-  item-fits (bytes o y) s h = let l = string-longer o 2 AnyBytes s y h in omega (arith, l)
+  item-fits (bytes o y) s h = let l = string-longer o 2 AreBytes s y h in omega (arith, l)
   item-fits (text o y) s h = let l = string-longer o 3 IsUtf8 s y h in omega (arith, l)
   item-fits (array o is) s h =
       array-fits (items_meaning is) (length h.0) (length s) (items-fit is h.0 h.1) (enclosed-shorter o 4 (items_count is) s h.0 h.2)

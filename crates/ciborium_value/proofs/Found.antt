@@ -7,11 +7,11 @@ use Rattle.ciborium_value.specs.Tree as trees
 use Rattle.ciborium_ll.specs.Head.{Head, IsSimple}
 use Rattle.ciborium_ll.specs.Item.{Item, unsigned, negative, bytes, text, array, map, tag, simple, float, Items, no_items, item, items_count, pairs_count}
 use Rattle.ciborium_value.specs.Tree.{Tree}
-use Rattle.ciborium_ll.specs.Spells.{AnyBytes, IsString, Encloses, Spells, SpellsItems}
+use Rattle.ciborium_ll.specs.Spells.{IsString, Encloses, Spells, SpellsItems}
 use Rattle.ciborium_value.specs.Meaning.{meaning, items_meaning, pairs_meaning, simple_meaning, big_endian, is_bignum_tag, bignum_meaning, unsigned_bignum, negative_bignum, without_zeros, folding_bytes, short_string, tag_meaning}
 use Rattle.ciborium_value.specs.Nesting.{nesting, items_nesting, pairs_nesting, tag_nesting, Limit, IsWithin, IsOneLess}
 use Rattle.ciborium_ll.specs.Refusal.{is_reserved, semantic, Break, IsUsable, HeadStands}
-use Rattle.ciborium_ll.specs.Bytes.{greatest_offset}
+use Rattle.ciborium_ll.specs.Bytes.{AreBytes, greatest_offset}
 use Rattle.ciborium_value.specs.Refuses.{IsGood, AreGood, Due, exactly, items_until_break, keys_until_break, values_until_break, next_due, due_after}
 use Rattle.ciborium_ll.proofs.FrontHeads.{counted, plain, front, front_open, front-simple, front-head, head-length}
 use Rattle.ciborium_ll.proofs.UsableHeads.{stands-usable, stands-front, stands-length, IsStringMajor, pass}
@@ -32,7 +32,7 @@ encloses-pos true m n s r h = let l : length s ≡ suc (length (r ++ (255 ∷ []
 pub spells-pos : (i : Item) (s : List ℕ) → Spells s i → 0 < length s
 spells-pos (unsigned n) s h = head-length s 0 n h
 spells-pos (negative n) s h = head-length s 1 n h
-spells-pos (bytes o y) s h = string_of-pos o 2 AnyBytes s y h
+spells-pos (bytes o y) s h = string_of-pos o 2 AreBytes s y h
 spells-pos (text o y) s h = string_of-pos o 3 IsUtf8 s y h
 spells-pos (array o is) s h = encloses-pos o 4 (items_count is) s h.0 h.2
 spells-pos (map o ps) s h = encloses-pos o 5 (pairs_count ps) s h.0 h.2
@@ -413,7 +413,7 @@ mutual
   read-good zero i s x b p q l g e k fuel = let never : ⊥ = omega arith in absurd never
   read-good (suc d) (unsigned n) s x b p q l g e k fuel = heads-good d p q s x b l 0 n (omega arith) g.0 e k (omega (arith, g.3))
   read-good (suc d) (negative n) s x b p q l g e k fuel = heads-good d p q s x b l 1 n (omega arith) g.0 e k (omega (arith, g.3))
-  read-good (suc d) (bytes o y) s x b p q l g e k fuel = string_read 2 AnyBytes (inl refl) (λ t h. refl) d p q o y s x b l g.0 e k (omega (arith, g.3)) (omega arith)
+  read-good (suc d) (bytes o y) s x b p q l g e k fuel = string_read 2 AreBytes (inl refl) (λ t h. refl) d p q o y s x b l g.0 e k (omega (arith, g.3)) (omega arith)
   read-good (suc d) (text o y) s x b p q l g e k fuel = string_read 3 IsUtf8 (inr refl) utf8_allowed d p q o y s x b l g.0 e k (omega (arith, g.3)) (omega arith)
   read-good (suc d) (array false is) s x b p q l g e k fuel =
       let w = lower l (items_nesting is) g.2 in

@@ -14,6 +14,7 @@ pub mod Steps
 pub mod Found
 mod Refused
 mod Answered
+pub mod GoodBytes
 pub mod Outcome
 mod Examples
 pub mod Stacked

@@ -6,7 +6,7 @@ use Rattle.ciborium_ll.specs.Bytes.{AreBytes, greatest_offset}
 use Rattle.ciborium_ll.specs.Head.{within, one_byte, two_bytes, four_bytes, eight_bytes, Head}
 use Rattle.ciborium_ll.specs.Item.{Item, unsigned, negative, bytes, text, array, map, tag, simple, float, Items, no_items, item, items_count, Pairs, no_pairs, pair, pairs_count}
 use Rattle.ciborium_ll.specs.Proper.{IsArgument, IsProperBytes}
-use Rattle.ciborium_ll.specs.Spells.{AnyBytes, AreParts, joined, IsString, Encloses, Spells, SpellsItems, SpellsPairs}
+use Rattle.ciborium_ll.specs.Spells.{AreParts, joined, IsString, Encloses, Spells, SpellsItems, SpellsPairs}
 use Rattle.ciborium_value.specs.Meaning.{meaning, items_meaning, pairs_meaning, trees_more, tree_pairs_more, simple_meaning, big_endian, is_bignum_tag, bignum_meaning, unsigned_bignum, negative_bignum, without_zeros, folding_bytes, short_string, tag_meaning}
 use Rattle.ciborium_value.specs.Proper.{IsProperTree, AreProperTrees, AreProperTreePairs}
 use Rattle.ciborium_value.specs.Tree as trees
@@ -114,7 +114,7 @@ chosen-proper false o h = tt
 short-proper : (i : Item) (s : List ℕ) → Spells s i → AreBytes s → length s ≤ greatest_offset → ProperBytes (short_string i)
 short-proper (unsigned n) s h k fits = tt
 short-proper (negative n) s h k fits = tt
-short-proper (bytes false y) s h k fits = chosen-proper (leb (length y) 16) (Some y) (string-proper false 2 AnyBytes s y h k fits)
+short-proper (bytes false y) s h k fits = chosen-proper (leb (length y) 16) (Some y) (string-proper false 2 AreBytes s y h k fits)
 short-proper (bytes true y) s h k fits = tt
 short-proper (text o y) s h k fits = tt
 short-proper (array o is) s h k fits = tt
@@ -168,7 +168,7 @@ mutual
   item-proper : (i : Item) (s : List ℕ) → Spells s i → AreBytes s → length s ≤ greatest_offset → Proper (meaning i)
   item-proper (unsigned n) s h k fits = head-argument s 0 n h
   item-proper (negative n) s h k fits = head-argument s 1 n h
-  item-proper (bytes o y) s h k fits = string-proper o 2 AnyBytes s y h k fits
+  item-proper (bytes o y) s h k fits = string-proper o 2 AreBytes s y h k fits
   item-proper (text o y) s h k fits = (text-utf8 o s y h, string-proper o 3 IsUtf8 s y h k fits)
   item-proper (array o is) s h k fits =
       let less = enclosed-shorter o 4 (items_count is) s h.0 h.2 in

@@ -4,11 +4,13 @@ use Rattle.std.proofs.Common.{take}
 use Rattle.std.proofs.Math.Seq.{take-append_seam}
 use Rattle.std.proofs.lemmas.Str.{IsUtf8-from_is_utf8}
 use Rattle.ciborium_ll.specs.Item.{Items, items_count}
-use Rattle.ciborium_ll.specs.Spells.{AnyBytes, IsDefiniteString}
+use Rattle.ciborium_ll.specs.Spells.{IsDefiniteString}
 use Rattle.ciborium_ll.specs.Head.{IsSimple}
 use Rattle.ciborium_value.specs.Meaning.{big_endian, is_bignum_tag}
 use Rattle.ciborium_ll.specs.Refusal.{Refusal, syntax, semantic, Float, TooLarge, IsUsable, HeadRefuses, HeadStands, BeginsWith}
-use Rattle.ciborium_ll.specs.Bytes.{greatest_offset}
+use Rattle.std.specs.List.{AllByRecursion}
+use Rattle.std.proofs.lemmas.List.Elements.{All-from_recursion}
+use Rattle.ciborium_ll.specs.Bytes.{AreBytes, greatest_offset}
 use Rattle.ciborium_value.specs.Nesting.{Limit}
 use Rattle.ciborium_ll.specs.StringRefusal.{StringKind, of_bytes, of_text, major_of, Allowed, PayloadRefuses, StringRefuses, PartRefuses, OpenStringRefuses, BeginsString}
 use Rattle.ciborium_value.specs.Refuses.{Due, exactly, items_until_break, keys_until_break, values_until_break, next_due, due_after, Opens, IsDue, FoldsAt, Refuses}
@@ -40,6 +42,9 @@ head-refused (suc d) p b l e pos h = checked-some b p _ e h
 
 -- ---- strings
 
+rest-bytes : (b h r : List ℕ) → b ≡ h ++ r → EachIsByte b → EachIsByte r
+rest-bytes b h r e x = bytes_after h r (subst EachIsByte e x)
+
 -- the head of a string that refuses, and what reading it answers
 abbrev Refusing : ℕ → List ℕ → ℕ → Refusal → Type 0
 Refusing m b p e = (n : ℕ) × (k : ℕ) × (r : List ℕ) × HeadStands b m n k r × ((u : ℕ) → string m n r p u ≡ refused e)
@@ -48,9 +53,17 @@ not_ok : (t : Bool) → (t ≡ true → ⊥) → t ≡ false
 not_ok true h = absurd (h refl)
 not_ok false h = refl
 
-pub kind_ok : (c : StringKind) (t : List ℕ) → allowed (major_of c) t ≡ true → Allowed c t
-kind_ok of_bytes t h = tt
-kind_ok of_text t h = IsUtf8-from_is_utf8 t h
+pub bytes_again : (b : List ℕ) → EachIsByte b → AllByRecursion (λ n. n < 256) b
+bytes_again [] h = tt
+bytes_again (x ∷ b) h = (h.0, bytes_again b h.1)
+
+front_bytes : (s r : List ℕ) → EachIsByte (s ++ r) → EachIsByte s
+front_bytes [] r h = tt
+front_bytes (x ∷ s) r h = (h.0, front_bytes s r h.1)
+
+pub kind_ok : (c : StringKind) (t : List ℕ) → EachIsByte t → allowed (major_of c) t ≡ true → Allowed c t
+kind_ok of_bytes t bytes h = All-from_recursion (λ n. n < 256) t (bytes_again t bytes)
+kind_ok of_text t bytes h = IsUtf8-from_is_utf8 t h
 
 pub kind_allowed : (c : StringKind) (t : List ℕ) → Allowed c t → allowed (major_of c) t ≡ true
 kind_allowed of_bytes t h = refl
@@ -64,14 +77,14 @@ pub kind_below : (c : StringKind) → major_of c < 7
 kind_below of_bytes = omega arith
 kind_below of_text = omega arith
 
-payload-refused : (c : StringKind) {n p : ℕ} {r : List ℕ} {e : Refusal} → PayloadRefuses c n p r e → (u : ℕ) → string (major_of c) n r p u ≡ refused e
-payload-refused c {n} {r = r} (PayloadRefuses.ends_early h) u = hold _ _ _ (lt-ltb (length r) n h)
-payload-refused c {n} {p} (PayloadRefuses.not_allowed y r l h) u =
+payload-refused : (c : StringKind) {n p : ℕ} {r : List ℕ} {e : Refusal} → PayloadRefuses c n p r e → EachIsByte r → (u : ℕ) → string (major_of c) n r p u ≡ refused e
+payload-refused c {n} {r = r} (PayloadRefuses.ends_early h) bytes u = hold _ _ _ (lt-ltb (length r) n h)
+payload-refused c {n} {p} (PayloadRefuses.not_allowed y r l h) bytes u =
     pass _ _ _ (le-ltb (length (y ++ r)) n (omega (arith, l, length-append y r))) ∙
-    pass _ _ _ (ap (λ k. allowed (major_of c) (take k (y ++ r))) (sym l) ∙ ap (allowed (major_of c)) (take-append_seam y r) ∙ not_ok _ (λ t. h (kind_ok c y t)))
+    pass _ _ _ (ap (λ k. allowed (major_of c) (take k (y ++ r))) (sym l) ∙ ap (allowed (major_of c)) (take-append_seam y r) ∙ not_ok _ (λ t. h (kind_ok c y (front_bytes y r bytes) t)))
 
-string-refusing : (c : StringKind) {b : List ℕ} {p : ℕ} {e : Refusal} → StringRefuses c b p e → Refusing (major_of c) b p e
-string-refusing c (n, k, r, s, f) = (n, k, r, s, payload-refused c f)
+string-refusing : (c : StringKind) {b : List ℕ} {p : ℕ} {e : Refusal} → StringRefuses c b p e → EachIsByte b → Refusing (major_of c) b p e
+string-refusing c {b} (n, k, r, s, f) bytes = (n, k, r, s, payload-refused c f (rest-bytes b s.0 r s.3 bytes))
 
 string-at : (d p : ℕ) (b : List ℕ) (l : Limit) (m : ℕ) (e : Refusal) → IsStringMajor m → 0 < d → IsUsable b p → Refusing m b p e → read d b p l ≡ refused e
 string-at d p b l m e (inl j) pos h s =
@@ -90,7 +103,7 @@ part-refused : (k : StringKind) (c : ℕ) → 0 < c → {b : List ℕ} {q : ℕ}
 part-refused k zero pos f bytes = let never : ⊥ = omega arith in absurd never
 part-refused k (suc c) pos {b} {q} {e} (PartRefuses.no_head h) bytes = checked-some b q _ e h
 part-refused k (suc c) pos {b} {q} {e} (PartRefuses.part h s) bytes =
-    let t = string-refusing k s in
+    let t = string-refusing k s bytes in
     checked-none b q _ h ∙ ap (piece (pieces c (major_of k)) (major_of k) b q) (stands-front b (major_of k) t.0 t.1 t.2 (kind_below k) t.3) ∙ hold _ _ _ (eq-eqb (major_of k) (major_of k) refl) ∙
     ap (and_then (pieces c (major_of k))) (t.4 (past q b t.2))
 part-refused k (suc c) pos {b} {q} {e} (PartRefuses.other h x y) bytes =
@@ -191,16 +204,13 @@ not_folds t r p bytes h x = not_ok _ (λ e. let a = and_true _ _ e in x (of (fro
 tag-at : (d p t k : ℕ) (b r : List ℕ) (l : Limit) → 0 < d → IsUsable b p → HeadStands b 6 t k r → read d b p l ≡ tagged (read (d - 1)) t r p (p + k) l
 tag-at d p t k b r l pos h s = counted-at d p (p + k) b l 6 t k r pos (omega arith) s h refl
 
-rest-bytes : (b h r : List ℕ) → b ≡ h ++ r → EachIsByte b → EachIsByte r
-rest-bytes b h r e x = bytes_after h r (subst EachIsByte e x)
-
 opens-bytes : (b r : List ℕ) (k : ℕ) (w : Due) → Opens b k r w → EachIsByte b → EachIsByte r
 opens-bytes b r k w (Opens.array n s) x = rest-bytes b s.0 r s.3 x
 opens-bytes b r k w (Opens.open_array e f) x = rest-bytes b (159 ∷ []) r f x
 opens-bytes b r k w (Opens.map n s) x = rest-bytes b s.0 r s.3 x
 opens-bytes b r k w (Opens.open_map e f) x = rest-bytes b (191 ∷ []) r f x
 
-large-refused : (d p k : ℕ) (b s y r : List ℕ) (l : Limit) → 0 < d → 1 < d → IsUsable b p → HeadStands b 6 3 k (s ++ r) → IsUsable (s ++ r) (p + k) → IsDefiniteString 2 AnyBytes s y → length y ≤ 16 → 2 ^ 127 ≤ big_endian y → read d b p l ≡ refused (semantic p TooLarge)
+large-refused : (d p k : ℕ) (b s y r : List ℕ) (l : Limit) → 0 < d → 1 < d → IsUsable b p → HeadStands b 6 3 k (s ++ r) → IsUsable (s ++ r) (p + k) → IsDefiniteString 2 AreBytes s y → length y ≤ 16 → 2 ^ 127 ≤ big_endian y → read d b p l ≡ refused (semantic p TooLarge)
 large-refused d p k b s y r l pos pos2 h st i str small large =
     let j : ℕ = length str.0 in
     let is : HeadStands (s ++ r) 2 (length y) j (y ++ r) = (str.0, str.1, refl, ap (λ (c : List ℕ). c ++ r) str.3 ∙ append_assoc str.0 y r) in
@@ -213,7 +223,7 @@ large-refused d p k b s y r l pos pos2 h st i str small large =
 
 pub refusal-read : {b : List ℕ} {p : ℕ} {l : Limit} {e : Refusal} → Refuses b p l e → EachIsByte b → (d : ℕ) → 2 * length b < d → read d b p l ≡ refused e
 refusal-read {b} {p} {l} {e} (Refuses.no_head h) bytes d fuel = head-refused d p b l e (omega arith) h
-refusal-read {b} {p} {l} {e} (Refuses.string c h s) bytes d fuel = string-at d p b l (major_of c) e (kind_major c) (omega arith) h (string-refusing c s)
+refusal-read {b} {p} {l} {e} (Refuses.string c h s) bytes d fuel = string-at d p b l (major_of c) e (kind_major c) (omega arith) h (string-refusing c s bytes)
 refusal-read {b} {p} {l} {e} (Refuses.open_string c h s) bytes d fuel = open-refused c d p b l e h s bytes fuel
 refusal-read {p} {l} (Refuses.float {x} {b = b} h lo hi) bytes d fuel = float-refused d p x b l (omega arith) h lo hi
 refusal-read {b} {p} {l} {e} (Refuses.simple s n r h is none f) bytes d fuel =
@@ -232,7 +242,7 @@ refusal-read {b} {p} {l} {e} (Refuses.tag_no_head t k r h s f) bytes d fuel =
 refusal-read {b} {p} {l} {e} (Refuses.folding t k r h s i fo f) bytes d fuel =
     let z = stands-length b 6 t k r s in
     tag-at d p t k b r l (omega arith) h s ∙ checked-none r (p + k) _ i ∙ hold _ _ _ (folds-front t r fo) ∙
-    ap (bignum t (payload (front r)) p) (string-at (d - 1) (p + k) r l 2 e (inl refl) (omega (arith, z)) i (string-refusing of_bytes f))
+    ap (bignum t (payload (front r)) p) (string-at (d - 1) (p + k) r l 2 e (inl refl) (omega (arith, z)) i (string-refusing of_bytes f (rest-bytes b s.0 r s.3 bytes)))
 refusal-read {b} {p} {l} {e} (Refuses.too_large k s y r h st i str small large) bytes d fuel =
     let z = stands-length b 6 3 k (s ++ r) st in large-refused d p k b s y r l (omega arith) (omega (arith, z)) h st i str small large
 refusal-read {b} {p} {l} {e} (Refuses.no_tag_level t k r h s i x) bytes d fuel =

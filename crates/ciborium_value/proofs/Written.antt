@@ -1,11 +1,11 @@
 -- What is written for an item spells it.
-use Rattle.std.proofs.Common.{◌≡◌, ℕ, suc, ◌^◌, ◌<◌, ◌≤◌, Bool, true, false, List, [], ◌∷◌, ◌++◌, length, is_some, refl, sym, ap, ◌∙◌, lit<, arith, ◌⊎◌, inl, inr, pos, negsuc, IsUtf8, append-nil}
+use Rattle.std.proofs.Common.{◌≡◌, ℕ, suc, ◌<◌, ◌≤◌, Bool, true, false, List, [], ◌∷◌, ◌++◌, length, is_some, refl, sym, ap, ◌∙◌, lit<, arith, ◌⊎◌, inl, inr, pos, negsuc, IsUtf8, append-nil}
 use Rattle.std.proofs.lemmas.Bool.Decides.{nat_tests}
-use Rattle.ciborium_ll.specs.Bytes.{greatest_offset}
+use Rattle.ciborium_ll.specs.Bytes.{AreBytes, greatest_offset}
 use Rattle.ciborium_ll.specs.Head.{shortest_head, simple_bytes, IsSimple, IsFloat}
 use Rattle.ciborium_ll.specs.Item.{Item, unsigned, negative, bytes, text, array, map, tag, simple, float, Items, no_items, item, items_count, Pairs, no_pairs, pair, pairs_count}
 use Rattle.ciborium_ll.specs.Proper.{IsProperItem, AreProperItems, AreProperPairs}
-use Rattle.ciborium_ll.specs.Spells.{AnyBytes, IsDefiniteString, IsString, Encloses, Spells, SpellsItems, SpellsPairs}
+use Rattle.ciborium_ll.specs.Spells.{IsDefiniteString, IsString, Encloses, Spells, SpellsItems, SpellsPairs}
 use Rattle.ciborium_ll.proofs.ShortestHead.{shortest_is_head}
 use Rattle.ciborium_value.specs.Encoding.{item_of, items_of, pairs_of, enclosed, string_bytes, float_bytes, written_bytes, items_bytes, pairs_bytes}
 use Rattle.ciborium_value.specs.FoldingLaws.{EncodingIsGood}
@@ -43,7 +43,7 @@ mutual
   pub written_spells : (i : Item) → IsProperItem i → Spells (written_bytes i) i
   written_spells (unsigned n) h = shortest_is_head 0 n h
   written_spells (negative n) h = shortest_is_head 1 n h
-  written_spells (bytes open_ b) h = string_written open_ 2 AnyBytes b tt h.1
+  written_spells (bytes open_ b) h = string_written open_ 2 AreBytes b h.0 h.1
   written_spells (text open_ b) h = string_written open_ 3 IsUtf8 b h.0 h.1.1
   written_spells (array open_ is) h = (items_bytes is, items_written is h.1, parts_enclosed open_ 4 (items_count is) (items_bytes is) h.0)
   written_spells (map open_ ps) h = (pairs_bytes ps, pairs_written ps h.1, parts_enclosed open_ 5 (pairs_count ps) (pairs_bytes ps) h.0)

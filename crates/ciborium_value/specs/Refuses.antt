@@ -1,10 +1,10 @@
 -- When bytes are refused as a value, and with what (RFC 8949, section 5.3 and appendix F; the order of faults is this library's).
 -- The bytes are all that is left to read. The first is at offset p, and l is the limit of levels there.
 use Rattle.std.specs.Prelude.{◌≡◌, ℕ, ◌+◌, ◌-◌, ◌*◌, ◌^◌, ◌<◌, ◌≤◌, List, ◌∷◌, ◌++◌, length, true, Some, None, IsSome}
-use Rattle.ciborium_ll.specs.Bytes.{greatest_offset}
+use Rattle.ciborium_ll.specs.Bytes.{AreBytes, greatest_offset}
 use Rattle.ciborium_ll.specs.Head.{open_byte, break_byte, IsSimple}
 use Rattle.ciborium_ll.specs.Item.{Item, Items, no_items, item}
-use Rattle.ciborium_ll.specs.Spells.{AnyBytes, IsDefiniteString, Spells, SpellsItems}
+use Rattle.ciborium_ll.specs.Spells.{IsDefiniteString, Spells, SpellsItems}
 use Rattle.ciborium_ll.specs.Refusal.{Float, Simple, Break, TooLarge, Refusal, semantic, recursion_limit_exceeded, HeadRefuses, IsUsable, HeadStands, BeginsWith}
 use Rattle.ciborium_ll.specs.StringRefusal.{StringKind, of_bytes, StringRefuses, OpenStringRefuses}
 use Rattle.ciborium_value.specs.Meaning.{meaning, items_meaning, simple_meaning, big_endian, is_bignum_tag}
@@ -90,7 +90,7 @@ pub data Refuses : List ℕ → ℕ → Limit → Refusal → Type 0 where
   folding : {b : List ℕ} {p : ℕ} {l : Limit} {e : Refusal} (t k : ℕ) (r : List ℕ) →
       IsUsable b p → HeadStands b 6 t k r → IsUsable r (p + k) → FoldsAt t r → StringRefuses of_bytes r (p + k) e → Refuses b p l e
   too_large : {b : List ℕ} {p : ℕ} {l : Limit} (k : ℕ) (s payload r : List ℕ) →
-      IsUsable b p → HeadStands b 6 3 k (s ++ r) → IsUsable (s ++ r) (p + k) → IsDefiniteString 2 AnyBytes s payload →
+      IsUsable b p → HeadStands b 6 3 k (s ++ r) → IsUsable (s ++ r) (p + k) → IsDefiniteString 2 AreBytes s payload →
       length payload ≤ 16 → 2 ^ 127 ≤ big_endian payload → Refuses b p l (semantic p TooLarge)
   -- a tag that does not fold: no level is left, or with a level its item refuses
   no_tag_level : {b : List ℕ} {p : ℕ} (t k : ℕ) (r : List ℕ) →

@@ -1,7 +1,7 @@
 //! The reader of values: one loop over a stack of what is open.
 
 ghost use Rattle.std.specs.Prelude.{◌≡◌, ◌<◌, ◌≤◌, IfErr, IfOk, List, MatchOption, None, Ok, OnOk, Some, length, ℕ};
-ghost use Rattle.ciborium_ll.specs.Decoding.{IsAhead, SameReader, pushed_of};
+ghost use Rattle.ciborium_ll.specs.Decoding.{IsAhead, SameReader, TakesBeforeAny, pushed_of};
 ghost use Rattle.ciborium_value.specs.Stack.{opens_of};
 ghost use Rattle.ciborium.specs.Answers.{IsReading, Turned, ValueRead};
 ghost use Rattle.ciborium.specs.Reads.{heads_left};
@@ -40,7 +40,9 @@ fn turn<R: Read>(
     ensures fewer { OnOk result (heads_left decoder.new < heads_left decoder.old) }
     ensures rests { IfOk result (λ o. MatchOption o (Unit {0}) (λ _. pushed_of decoder.new ≡ None)) }
     ensures depth { IfOk result (λ o. MatchOption o (length (opens_of stack.new) ≤ levels) (λ _. Unit {0})) }
-    ensures turn { (xs : List ℕ) (p : ℕ) → IsReading R.remaining decoder.old (opens_of stack.old) levels xs p → Turned R.remaining decoder.new (opens_of stack.new) levels xs p result }
+    ensures turn { TakesBeforeAny R.remaining decoder.old decoder.new
+        (λ d e. (xs : List ℕ) (p : ℕ) → IsReading Some d (opens_of stack.old) levels xs p →
+            Turned Some e (opens_of stack.new) levels xs p result) }
 {
     let offset = decoder.offset();
     match next(alloc, decoder, scratch, levels - stack.depth())? {
@@ -65,7 +67,8 @@ pub(crate) fn read_value<R: Read>(
 ) -> Result<Value, Error<io::Error>>
     ensures same_reader { SameReader decoder.old decoder.new }
     ensures rests { OnOk result (pushed_of decoder.new ≡ None) }
-    ensures value { (xs : List ℕ) (p : ℕ) → IsAhead R.remaining decoder.old p xs → ValueRead R.remaining decoder.new levels xs p result }
+    ensures value { TakesBeforeAny R.remaining decoder.old decoder.new
+        (λ d e. (xs : List ℕ) (p : ℕ) → IsAhead Some d p xs → ValueRead Some e levels xs p result) }
 {
     let mut stack = Stack::new(alloc);
     'turns: loop {

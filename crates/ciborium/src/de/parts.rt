@@ -1,7 +1,7 @@
 //! What stands at the front: a value that is whole, the beginning of a container or tag, or a break.
 
-ghost use Rattle.std.specs.Prelude.{◌≡◌, ◌+◌, ◌<◌, ◌≤◌, IfOk, List, None, OnOk, negsuc, ℕ};
-ghost use Rattle.ciborium_ll.specs.Decoding.{IsAhead, SameReader, last_of, pushed_of};
+ghost use Rattle.std.specs.Prelude.{◌≡◌, ◌+◌, ◌<◌, ◌≤◌, IfOk, List, None, OnOk, Some, ℕ};
+ghost use Rattle.ciborium_ll.specs.Decoding.{IsAhead, SameReader, TakesBeforeAny, last_of, pushed_of};
 ghost use Rattle.ciborium.specs.Parts.{ArrayBegun, HasRoom, HeadRead, MapBegun, PartRead, Rests, SimpleRead};
 ghost use Rattle.ciborium.specs.Reads.{IsAt, heads_left};
 ghost use Rattle.ciborium.specs.Strings.{StringRead};
@@ -28,7 +28,8 @@ pub(crate) fn pull<R: Read>(decoder: &mut Decoder<'_, R>) -> Result<Header, Erro
     ensures same_reader { SameReader decoder.old decoder.new }
     ensures pushed { pushed_of decoder.new ≡ None }
     ensures fewer { OnOk result (heads_left decoder.new < heads_left decoder.old) }
-    ensures head { (xs : List ℕ) (p : ℕ) → IsAhead R.remaining decoder.old p xs → HeadRead R.remaining decoder.new xs p result }
+    ensures head { TakesBeforeAny R.remaining decoder.old decoder.new
+        (λ d e. (xs : List ℕ) (p : ℕ) → IsAhead Some d p xs → HeadRead Some e xs p result) }
 {
     Ok(decoder.pull()?)
 }
@@ -100,11 +101,12 @@ fn bytes<R: Read>(
     ensures same_reader { SameReader decoder.old decoder.new }
     ensures pushed { pushed_of decoder.new ≡ None }
     ensures fewer { OnOk result (heads_left decoder.new ≤ heads_left decoder.old) }
-    ensures content { (xs : List ℕ) (p : ℕ) → IsAt R.remaining decoder.old p xs → StringRead of_bytes R.remaining decoder.new len (last_of decoder.old) xs p result }
+    ensures content { TakesBeforeAny R.remaining decoder.old decoder.new
+        (λ d e. (xs : List ℕ) (p : ℕ) → IsAt Some d p xs →
+            StringRead of_bytes Some e len (last_of decoder.old) xs p result) }
 {
     let mut out = Vec::new(alloc);
     decoder.bytes_into(len, scratch, &mut out)?;
-    let _end = decoder.offset();
     Ok(Value::Bytes(out))
 }
 
@@ -119,11 +121,12 @@ fn text<R: Read>(
     ensures same_reader { SameReader decoder.old decoder.new }
     ensures pushed { pushed_of decoder.new ≡ None }
     ensures fewer { OnOk result (heads_left decoder.new ≤ heads_left decoder.old) }
-    ensures content { (xs : List ℕ) (p : ℕ) → IsAt R.remaining decoder.old p xs → StringRead of_text R.remaining decoder.new len (last_of decoder.old) xs p result }
+    ensures content { TakesBeforeAny R.remaining decoder.old decoder.new
+        (λ d e. (xs : List ℕ) (p : ℕ) → IsAt Some d p xs →
+            StringRead of_text Some e len (last_of decoder.old) xs p result) }
 {
     let mut out = String::new(alloc);
     decoder.text_into(len, scratch, &mut out)?;
-    let _end = decoder.offset();
     Ok(Value::Text(out))
 }
 
@@ -139,7 +142,8 @@ pub(crate) fn next<R: Read>(
     ensures fewer { OnOk result (heads_left decoder.new < heads_left decoder.old) }
     ensures rests { IfOk result (λ part. Rests part (pushed_of decoder.new)) }
     ensures room { IfOk result (λ part. HasRoom part levels) }
-    ensures part { (xs : List ℕ) (p : ℕ) → IsAhead R.remaining decoder.old p xs → PartRead R.remaining decoder.new levels xs p result }
+    ensures part { TakesBeforeAny R.remaining decoder.old decoder.new
+        (λ d e. (xs : List ℕ) (p : ℕ) → IsAhead Some d p xs → PartRead Some e levels xs p result) }
 {
     let offset = decoder.offset();
     match pull(decoder)? {

@@ -1,7 +1,7 @@
 //! Tags: those that fold, and those that are opened.
 
-ghost use Rattle.std.specs.Prelude.{◌≡◌, ◌+◌, ◌<◌, ◌≤◌, IfOk, List, None, OnOk, length, true, ℕ};
-ghost use Rattle.ciborium_ll.specs.Decoding.{SameReader, pushed_of};
+ghost use Rattle.std.specs.Prelude.{◌≡◌, ◌+◌, ◌<◌, ◌≤◌, IfOk, List, None, OnOk, Some, length, true, ℕ};
+ghost use Rattle.ciborium_ll.specs.Decoding.{SameReader, TakesBeforeAny, pushed_of};
 ghost use Rattle.ciborium_ll.specs.declared.header.Header.TheVariants as header;
 ghost use Rattle.ciborium_value.specs.Meaning.{big_endian, is_bignum_tag, without_zeros};
 ghost use Rattle.ciborium_value.specs.Tree as trees;
@@ -102,7 +102,8 @@ fn folded<R: Read>(
     ensures same_reader { SameReader decoder.old decoder.new }
     ensures pushed { pushed_of decoder.new ≡ None }
     ensures fewer { OnOk result (heads_left decoder.new ≤ heads_left decoder.old) }
-    ensures fold { (xs : List ℕ) (p : ℕ) → IsAt R.remaining decoder.old p xs → FoldRead R.remaining decoder.new tag n offset xs p result }
+    ensures fold { TakesBeforeAny R.remaining decoder.old decoder.new
+        (λ d e. (xs : List ℕ) (p : ℕ) → IsAt Some d p xs → FoldRead Some e tag n offset xs p result) }
 {
     let mut room = [0u8; 16];
     let payload = &mut room[..n];
@@ -124,7 +125,9 @@ pub(crate) fn tagged<R: Read>(
     ensures fewer { OnOk result (heads_left decoder.new ≤ heads_left decoder.old) }
     ensures rests { IfOk result (λ part. Rests part (pushed_of decoder.new)) }
     ensures room { IfOk result (λ part. HasRoom part levels) }
-    ensures part { (xs : List ℕ) (p : ℕ) → IsPulled R.remaining decoder.old (header.Tag tag) xs p → offset ≡ p → PartRead R.remaining decoder.new levels xs p result }
+    ensures part { TakesBeforeAny R.remaining decoder.old decoder.new
+        (λ d e. (xs : List ℕ) (p : ℕ) → IsPulled Some d (header.Tag tag) xs p → offset ≡ p →
+            PartRead Some e levels xs p result) }
 {
     let at = decoder.offset();
     let next = pull(decoder)?;

@@ -1,5 +1,5 @@
-use Rattle.std.proofs.Common.{◌≡◌, ℕ, ◌≤◌, List, length}
-use Rattle.ciborium_ll.specs.Decoding.{IsAhead}
+use Rattle.std.proofs.Common.{◌≡◌, ℕ, ◌≤◌, List, Some, length}
+use Rattle.ciborium_ll.specs.Decoding.{IsAhead, TakesBeforeAny}
 use Rattle.ciborium_value.specs.Stack.{opens_of}
 use Rattle.ciborium.specs.Answers.{IsReading}
 use Rattle.ciborium.specs.Reads.{heads_left}
@@ -9,7 +9,7 @@ abbrev pub invariant-turns : goal.invariant-turns
 invariant-turns g l = record {
   same_reader : l.decoder.reader.ghost_name ≡ l.initial.decoder.reader.ghost_name;
   depth : length (opens_of l.stack) ≤ l.levels;
-  reading : (xs : List ℕ) (p : ℕ) → IsAhead g.R.Read.remaining l.initial.decoder p xs → IsReading g.R.Read.remaining l.decoder (opens_of l.stack) l.levels xs p;
+  reading : TakesBeforeAny g.R.Read.remaining l.initial.decoder l.decoder (λ d e. (xs : List ℕ) (p : ℕ) → IsAhead Some d p xs → IsReading Some e (opens_of l.stack) l.levels xs p);
 }
 
 abbrev pub decreases-turns : goal.decreases-turns

@@ -1,10 +1,24 @@
-use Rattle.std.proofs.Common.{arith}
+use Rattle.std.proofs.Common.{◌≡◌, ◌++◌, Some, refl, string_bytes}
+use Rattle.std.proofs.lemmas.Result.{err_from_is_err_and}
 use Rattle.std.specs.declared.io.Error.{Error}
+use Rattle.ciborium_ll.specs.StringRefusal.{of_text}
+use Rattle.ciborium_ll.specs.Decoding.{with_left}
 use Rattle.ciborium.proofs.Contents.{text-read}
+use Rattle.ciborium.proofs.WhateverFollows.{string-refused}
 use Rattle.ciborium.proofs.de.parts.text.Goals as goal
 
 pub returns-clause-content : goal.returns-clause-content
-returns-clause-content g c xs p at =
-    let less = c.offset-end.type_inv in
-    text-read Error g.R.Read.remaining c.args.decoder.now c.text_into.new.self c.args.len xs p c.offset-end.result c.new-out.result c.text_into.new.out
-    c.new-out.ensures.bytes c.text_into.ensures.none_pushed c.offset-end.ensures (omega (arith, less)) c.in_ok-text_into.ensures.taken at
+returns-clause-content g c =
+    let t = c.in_ok-text_into.ensures.taken in (
+      t.0,
+      t.1,
+      t.2,
+      λ z xs p at. text-read Error Some (with_left c.args.decoder.now (t.0 ++ z)) (with_left c.text_into.new.self z) c.args.len xs p c.new-out.result c.text_into.new.out
+          c.new-out.ensures.bytes c.text_into.ensures.none_pushed (t.0, refl, t.2, t.3, t.4) at, t.4,
+    )
+
+pub returns-in_err-text_into-clause-content : goal.returns-in_err-text_into-clause-content
+returns-in_err-text_into-clause-content g c =
+    let exit = err_from_is_err_and c.from_residual.result c.from_residual.ensures.1 in
+    rw (exit.1, exit.2) (string-refused Error g.R.Read.remaining c.args.decoder.now c.text_into.new.self of_text c.args.len c.in_err-text_into.field-0.0
+    (λ added y. string_bytes c.text_into.new.out ≡ string_bytes c.new-out.result ++ added) c.in_err-text_into.ensures.taken)

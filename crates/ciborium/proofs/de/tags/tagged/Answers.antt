@@ -1,33 +1,64 @@
-use Rattle.std.proofs.Common.{subst}
+use Rattle.std.proofs.Common.{◌++◌, Some, Ok, Err, refl, subst}
 use Rattle.std.proofs.lemmas.Result.{err_from_is_err_and}
 use Rattle.std.specs.declared.io.Error.{Error}
+use Rattle.ciborium_ll.specs.Decoding.{IsUnread}
 use Rattle.ciborium.specs.Parts.{IsFolding}
-use Rattle.ciborium.proofs.AfterTag.{tag-refused, tag-no-level, tag-opened, tag-folded, tag-unfolded}
+use Rattle.ciborium_ll.specs.Decoding.{with_left}
+use Rattle.ciborium.proofs.AfterTag.{PullsSo, FoldsSo, tag-refused, tag-no-level, tag-opened, tag-folded, tag-unfolded}
+use Rattle.ciborium.proofs.WhateverFollows.{so-both, so-unread}
 use Rattle.ciborium.proofs.de.tags.tagged.Goals as goal
 
 pub returns-in_err-next-clause-part : goal.returns-in_err-next-clause-part
-returns-in_err-next-clause-part g c xs p a here =
+returns-in_err-next-clause-part g c =
     let exit = err_from_is_err_and c.from_residual.result c.from_residual.ensures.1 in
-    rw (exit.1, exit.2) (tag-refused g.R.Read.remaining c.args.decoder.now c.pull.new.decoder c.args.tag c.args.levels xs p c.in_err-next.field-0.0 c.requires c.in_err-next.ensures.head a)
+    let t = c.in_err-next.ensures.head in
+    rw (exit.1, exit.2) (t.0, t.1, t.2, λ z xs p a here. tag-refused Some (with_left c.args.decoder.now (t.0 ++ z)) (with_left c.pull.new.decoder z) c.args.tag c.args.levels xs p c.in_err-next.field-0.0 c.requires (t.3 z) a, t.4)
 
 pub returns-in_err-folded-clause-part : goal.returns-in_err-folded-clause-part
-returns-in_err-folded-clause-part g c xs p a here =
+returns-in_err-folded-clause-part g c =
     let exit = err_from_is_err_and c.from_residual-in_err-folded.result c.from_residual-in_err-folded.ensures.1 in
-    rw (exit.1, exit.2) (tag-unfolded g.R.Read.remaining c.args.decoder.now c.pull.new.decoder c.folded.new.decoder c.args.tag c.args.levels c.in-Some.n c.args.offset xs p c.in_ok-next.next c.in_err-folded.field-0.0
-    c.requires c.in_ok-next.ensures.head c.in-Some.ensures c.in_err-folded.ensures.fold here a)
+    let t = so-both g.R.Read.remaining c.args.decoder.now c.pull.new.decoder c.folded.new.decoder (λ d e. PullsSo {E = Error} Some d e (Ok c.in_ok-next.next))
+    (λ d e. FoldsSo {E = Error} Some d e c.args.tag c.in-Some.n c.args.offset (Err c.in_err-folded.field-0.0)) c.in_ok-next.ensures.head c.in_err-folded.ensures.fold in
+    rw (exit.1, exit.2) (
+      t.0,
+      t.1,
+      t.2,
+      λ z xs p a here. let m = t.3 z in
+          tag-unfolded Some (with_left c.args.decoder.now (t.0 ++ z)) (with_left c.pull.new.decoder m.0) (with_left c.folded.new.decoder z) c.args.tag c.args.levels c.in-Some.n c.args.offset xs p c.in_ok-next.next c.in_err-folded.field-0.0
+          c.requires m.1 c.in-Some.ensures m.2 here a, t.4,
+    )
 
 pub returns-in-Some-clause-part : goal.returns-in-Some-clause-part
-returns-in-Some-clause-part g c xs p a here =
-    tag-folded Error g.R.Read.remaining c.args.decoder.now c.pull.new.decoder c.folded.new.decoder c.args.tag c.args.levels c.in-Some.n c.args.offset xs p c.in_ok-next.next c.in_ok-folded.field-0
-    c.requires c.folded.ensures.pushed c.in_ok-next.ensures.head c.in-Some.ensures c.in_ok-folded.ensures.fold a
+returns-in-Some-clause-part g c =
+    let t = so-both g.R.Read.remaining c.args.decoder.now c.pull.new.decoder c.folded.new.decoder (λ d e. PullsSo {E = Error} Some d e (Ok c.in_ok-next.next))
+    (λ d e. FoldsSo {E = Error} Some d e c.args.tag c.in-Some.n c.args.offset (Ok c.in_ok-folded.field-0)) c.in_ok-next.ensures.head c.in_ok-folded.ensures.fold in (
+      t.0,
+      t.1,
+      t.2,
+      λ z xs p a here. let m = t.3 z in
+          tag-folded Error Some (with_left c.args.decoder.now (t.0 ++ z)) (with_left c.pull.new.decoder m.0) (with_left c.folded.new.decoder z) c.args.tag c.args.levels c.in-Some.n c.args.offset xs p c.in_ok-next.next c.in_ok-folded.field-0
+          c.requires c.folded.ensures.pushed m.1 c.in-Some.ensures m.2 a, t.4,
+    )
 
 pub returns-then-levels-eq0-clause-part : goal.returns-then-levels-eq0-clause-part
-returns-then-levels-eq0-clause-part g c xs p a here =
-    tag-no-level Error g.R.Read.remaining c.args.decoder.now c.pull.new.decoder c.args.tag c.args.levels xs p c.in_ok-next.next
-    c.requires c.in_ok-next.ensures.head (subst (λ o. IsFolding c.args.tag c.in_ok-next.next o) c.in_default.is c.folding.ensures) c.if-levels-eq0.true a
+returns-then-levels-eq0-clause-part g c =
+    let t = c.in_ok-next.ensures.head in (
+      t.0,
+      t.1,
+      t.2,
+      λ z xs p a here. tag-no-level Error Some (with_left c.args.decoder.now (t.0 ++ z)) (with_left c.pull.new.decoder z) c.args.tag c.args.levels xs p c.in_ok-next.next
+          c.requires (t.3 z) (subst (λ o. IsFolding c.args.tag c.in_ok-next.next o) c.in_default.is c.folding.ensures) c.if-levels-eq0.true a, t.4,
+    )
 
 pub returns-clause-part : goal.returns-clause-part
-returns-clause-part g c xs p a here =
-    tag-opened Error g.R.Read.remaining c.args.decoder.now c.pull.new.decoder c.push.new.self c.args.tag c.args.levels c.offset-at.result xs p c.in_ok-next.next
-    c.requires c.in_ok-next.ensures.head (subst (λ o. IsFolding c.args.tag c.in_ok-next.next o) c.in_default.is c.folding.ensures) c.if-levels-eq0.false c.offset-at.ensures
-    c.push.ensures.unread c.push.ensures.pushed a
+returns-clause-part g c =
+    let t = so-both g.R.Read.remaining c.args.decoder.now c.pull.new.decoder c.push.new.self (λ d e. PullsSo {E = Error} Some d e (Ok c.in_ok-next.next)) (λ d e. IsUnread d e)
+    c.in_ok-next.ensures.head (so-unread g.R.Read.remaining c.pull.new.decoder c.push.new.self (λ d e. IsUnread d e) c.push.ensures.unread (λ u. (refl, c.push.ensures.unread.1))) in (
+      t.0,
+      t.1,
+      t.2,
+      λ z xs p a here. let m = t.3 z in
+          tag-opened Error Some (with_left c.args.decoder.now (t.0 ++ z)) (with_left c.pull.new.decoder m.0) (with_left c.push.new.self z) c.args.tag c.args.levels c.offset-at.result xs p c.in_ok-next.next
+          c.requires m.1 (subst (λ o. IsFolding c.args.tag c.in_ok-next.next o) c.in_default.is c.folding.ensures) c.if-levels-eq0.false c.offset-at.ensures
+          m.2 c.push.ensures.pushed a, t.4,
+    )

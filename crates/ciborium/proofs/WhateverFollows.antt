@@ -1,0 +1,120 @@
+-- What is said of a decoder whatever follows the bytes that it takes.
+use Rattle.std.proofs.Common.{◌≡◌, ℕ, ◌<◌, ◌≤◌, List, [], ◌++◌, Option, Some, None, Result, Ok, Err, OnOk, IfSome, IfNone, refl, sym, ap, ◌∙◌, subst, arith, append_assoc, append-nil, length-append}
+use Rattle.std.specs.Io.KnownBytes.{Consumes}
+use Rattle.std.proofs.KnownBytes.{Consumes-nil, Consumes-trans}
+use Rattle.std.proofs.lemmas.List.Elements.{All-append}
+use Rattle.ciborium_ll.specs.declared.header.Header.{Header}
+use Rattle.ciborium_ll.specs.declared.header.Error.{Error as LlError}
+use Rattle.ciborium_ll.specs.declared.decoder.Decoder.{Decoder}
+use Rattle.ciborium_ll.specs.Decoding.{Begins, IsAhead, IsAheadBy, IsUnread, Pulls, PullsTo, Takes, TakesBeforeAny, with_left}
+use Rattle.ciborium_ll.specs.Bytes.{AreBytes, greatest_offset}
+use Rattle.ciborium_ll.specs.Reading as reading
+use Rattle.ciborium_ll.specs.Reading.{HeadTaken}
+use Rattle.ciborium_ll.specs.StringRefusal.{StringKind, ContentRefuses}
+use Rattle.ciborium_ll.specs.Strings.{StringTaken}
+use Rattle.ciborium_ll.proofs.Unread.{pulls-head, reads-string}
+use Rattle.ciborium_value.specs.declared.tree.Value.{Value}
+use Rattle.ciborium.specs.declared.de.error.Error.{Error}
+use Rattle.ciborium_value.specs.Refuses.{IsGood}
+use Rattle.ciborium_value.specs.View.{tree_of}
+use Rattle.ciborium.specs.Answers.{IsTakenAs, TakesBytes, ValueRead}
+use Rattle.ciborium.specs.Errors.{from_ll}
+use Rattle.ciborium.specs.Reads.{IsAt}
+use Rattle.ciborium.specs.Strings.{StringRead}
+use Rattle.ciborium.proofs.Fronts.{ahead-at}
+use Rattle.ciborium.proofs.Outcomes.{left-at, good-of}
+use Rattle.ciborium.proofs.Pulled.{refused-from}
+
+no-bytes : AreBytes []
+no-bytes k d h = absurd (omega (arith, h))
+
+module _ {S : Type 0} (remaining : S → Option (List ℕ)) where
+  -- what holds of the bytes that are taken holds whatever follows them
+  pub so-takes : (a b : Decoder S) (W : List ℕ → Type 0) → Takes remaining a b W → TakesBeforeAny remaining a b (λ d e. Takes Some d e W)
+  so-takes a b W (x, taken, count, h, bytes) = (x, taken, count, λ c. (x, refl, count, h, bytes), bytes)
+
+  pub so-map : (a b : Decoder S) (P Q : Decoder (List ℕ) → Decoder (List ℕ) → Type 0) → ((u v : List ℕ) → P (with_left a u) (with_left b v) → Q (with_left a u) (with_left b v)) → TakesBeforeAny remaining a b P → TakesBeforeAny remaining a b Q
+  so-map a b P Q f (x, taken, count, h, bytes) = (x, taken, count, λ c. f (x ++ c) c (h c), bytes)
+
+  -- one step behind another
+  pub so-then : (a b c : Decoder S) (P Q R : Decoder (List ℕ) → Decoder (List ℕ) → Type 0) → ((u v w : List ℕ) → P (with_left a u) (with_left b v) → Q (with_left b v) (with_left c w) → R (with_left a u) (with_left c w)) →
+      TakesBeforeAny remaining a b P → TakesBeforeAny remaining b c Q → TakesBeforeAny remaining a c R
+  so-then a b c P Q R join (x, taken, count, h, low) (y, more, sum, k, low_more) = (
+    x ++ y,
+    Consumes-trans (remaining a.reader.now) (remaining b.reader.now) (remaining c.reader.now) x y taken more,
+    omega (arith, count, sum, length-append x y),
+    λ z. subst (λ u. R (with_left a u) (with_left c z)) (sym (append_assoc x y z)) (join (x ++ (y ++ z)) (y ++ z) z (h (y ++ z)) (k z)),
+    All-append (λ n. n < 256) x y low low_more,
+  )
+
+  -- the same, with what was left between them
+  pub so-both : (a b c : Decoder S) (P Q : Decoder (List ℕ) → Decoder (List ℕ) → Type 0) → TakesBeforeAny remaining a b P → TakesBeforeAny remaining b c Q →
+      TakesBeforeAny remaining a c (λ d f. (v : List ℕ) × P d (with_left b v) × Q (with_left b v) f)
+  so-both a b c P Q = so-then a b c P Q (λ d f. (v : List ℕ) × P d (with_left b v) × Q (with_left b v) f) (λ u v w h k. (v, h, k))
+
+  -- nothing is read
+  pub so-unread : (a b : Decoder S) (P : Decoder (List ℕ) → Decoder (List ℕ) → Type 0) → IsUnread a b → ((u : List ℕ) → P (with_left a u) (with_left b u)) → TakesBeforeAny remaining a b P
+  so-unread a b P unread h =
+      ([], subst (λ s. Consumes (remaining a.reader.now) (remaining s) []) (sym unread.0) (Consumes-nil (remaining a.reader.now)), (let same = unread.1 in omega (arith, same)), λ c. h c, no-bytes)
+
+-- a head that was pulled
+pub head-pulled : {S : Type 0} (E : Type 0) (remaining : S → Option (List ℕ)) (a b : Decoder S) (result : Result Header (LlError E)) →
+    IfSome a.pushed (λ head. (result ≡ Ok head.0) × (b.last ≡ head.1) × IsUnread a b) → IfNone a.pushed (Takes remaining a b (HeadTaken {E = E} a.count result)) → IfNone a.pushed (b.last ≡ a.count) →
+    TakesBeforeAny remaining a b (λ d e. (xs : List ℕ) (p : ℕ) → IsAhead Some d p xs → Pulls {E = E} Some e p xs result)
+head-pulled {S} E remaining a b result pushed taken last = by a.pushed pushed taken last
+  where
+    by : (o : Option (Header × ℕ)) → IfSome o (λ head. (result ≡ Ok head.0) × (b.last ≡ head.1) × IsUnread a b) → IfNone o (Takes remaining a b (HeadTaken {E = E} a.count result)) → IfNone o (b.last ≡ a.count) →
+        Takes remaining a b (λ x. (c : List ℕ) (xs : List ℕ) (p : ℕ) → IsAheadBy Some (with_left a (x ++ c)) p xs o → Pulls {E = E} Some (with_left b c) p xs result)
+    by None h (x, consumed, count, t, bytes) here =
+        (x, consumed, count, λ c xs p s. pulls-head {E = E} (Some (x ++ c)) (Some c) b.last b.count xs a.count p result s here (x, refl, count, t, bytes), bytes)
+    by (Some head) (same, here, unread) t l = (
+      [],
+      subst (λ s. Consumes (remaining a.reader.now) (remaining s) []) (sym unread.0) (Consumes-nil (remaining a.reader.now)),
+      (let is = unread.1 in omega (arith, is)),
+      λ c xs p s. subst (λ r. PullsTo {E = E} b.last b.count (Some c) p xs r) (sym same) (s.1, s.2, s.3, s.4, s.5, here ∙ s.0, unread.1 ∙ s.6, s.7),
+      no-bytes,
+    )
+
+-- what the lowest layer's `pull` answers
+abbrev pub PullsAll : {E : Type 0} → Decoder (List ℕ) → Decoder (List ℕ) → Result Header (LlError E) → Type 0
+PullsAll {E} d e x = (xs : List ℕ) (p : ℕ) → IsAhead Some d p xs → Pulls {E = E} Some e p xs x
+
+-- what the calls that read a string answer
+abbrev pub StringSo : {E : Type 0} → StringKind → Option ℕ → ℕ → Decoder (List ℕ) → Decoder (List ℕ) → Result Value (Error E) → Type 0
+StringSo {E} kind len at d e x = (xs : List ℕ) (p : ℕ) → IsAt Some d p xs → StringRead {S = List ℕ} {E = E} kind Some e len at xs p x
+
+-- a string that was refused
+pub string-refused : (E : Type 0) {S : Type 0} (remaining : S → Option (List ℕ)) (a b : Decoder S) (kind : StringKind) (len : Option ℕ) (x : LlError E) (A : List ℕ → List ℕ → Type 0) →
+    Takes remaining a b (λ y. (added : List ℕ) × A added y × StringTaken {E = E} kind len a.last a.count (Err x) added y) → TakesBeforeAny remaining a b (λ d e. StringSo {E = E} kind len a.last d e (Err (from_ll x)))
+string-refused E remaining a b kind len x A (y, taken, count, h, bytes) = (
+  y,
+  taken,
+  count,
+  λ c xs p s. refused-from (Some c) x (λ f. ContentRefuses kind len a.last xs p f)
+      (subst (λ q. reading.RefusedBy (Some c) x (λ f. ContentRefuses kind len a.last xs q f)) s.0 (reads-string {E = E} kind len a.last a.count b.count (Some (y ++ c)) (Some c) x xs A (y, refl, count, h, bytes) s.1)),
+  bytes,
+)
+
+-- ---- what was taken of a reader
+
+-- what reading a value answers
+abbrev pub ValueSo : {E : Type 0} → ℕ → Decoder (List ℕ) → Decoder (List ℕ) → Result Value (Error E) → Type 0
+ValueSo {E} l d e x = (xs : List ℕ) (p : ℕ) → IsAhead Some d p xs → ValueRead {S = List ℕ} {E = E} Some e l xs p x
+
+pub taken-as : (E : Type 0) {S : Type 0} (remaining : S → Option (List ℕ)) (a b : Decoder S) (lent : S) (l : ℕ) (x : Result Value (Error E)) → Begins a lent 0 → OnOk x (b.pushed ≡ None) →
+    TakesBeforeAny remaining a b (λ d e. ValueSo {E = E} l d e x) → TakesBytes {E = E} (remaining lent) l (remaining b.reader.now) x
+taken-as E {S} remaining a b lent l x begins rests (s, taken, count, h, bytes) =
+    let zero : a.count ≡ 0 = begins.count in
+    let less = b.fits in
+    (s, subst (λ r. Consumes (remaining r) (remaining b.reader.now) s) begins.reader taken, omega (arith, count, zero, less), found x rests (λ c. h c (s ++ c) 0 (ahead-at Some (with_left a (s ++ c)) 0 (s ++ c) begins.pushed (begins.count, refl))), bytes)
+  where
+    same-rest : (u v : List ℕ) → Some u ≡ Some v → u ≡ v
+    same-rest u v e = cc
+
+    found : (x : Result Value (Error E)) → OnOk x (b.pushed ≡ None) → ((c : List ℕ) → ValueRead {S = List ℕ} {E = E} Some (with_left b c) l (s ++ c) 0 x) → IsTakenAs {E = E} s l x
+    found (Ok v) rests f =
+        let (zs, r, reads, at) = f [] in
+        let left : [] ≡ zs = same-rest [] zs (left-at Some (with_left b []) r zs rests at) in
+        let whole : reads.taken ≡ s = sym (append-nil reads.taken) ∙ ap (λ (z : List ℕ). reads.taken ++ z) left ∙ sym reads.split ∙ append-nil s in
+        (reads.what, subst (λ z. IsGood reads.what (Some l) z 0) whole (good-of l (s ++ []) (tree_of v) zs r reads), reads.means)
+    found (Err e) rests f = f
