@@ -3,6 +3,7 @@ use Rattle.std.proofs.Common.{◌≡◌, ℕ, suc, ◌+◌, ◌-◌, ◌^◌, �
 use Rattle.ciborium_ll.specs.declared.header.Header.{Header}
 use Rattle.ciborium_ll.specs.declared.header.Header.TheVariants as header
 use Rattle.ciborium_ll.specs.declared.decoder.Decoder.{Decoder}
+use Rattle.ciborium_ll.specs.Bytes.{AreBytes}
 use Rattle.ciborium_ll.specs.Decoding.{IsAhead, IsAheadBy, IsUnread, offset_of}
 use Rattle.ciborium_ll.specs.Head.{Head}
 use Rattle.ciborium_ll.specs.Header.{SpellsHeader}
@@ -77,15 +78,15 @@ tag-opened E remaining d e f t l at xs p k pushed pull other some here stays bac
 folds-is : (t : ℕ) (bs : List ℕ) → is_bignum_tag t ≡ true → length bs ≤ 16 → folding_bytes t (item.bytes false bs) ≡ Some bs
 folds-is t bs e lt = ap (λ x. cond x (cond (leb (length bs) 16) (Some bs) None) None) e ∙ ap (λ x. cond x (Some bs) None) (le-leb (length bs) 16 lt)
 
-fold-reads : (t l n : ℕ) (xs : List ℕ) (p : ℕ) (h r i s bs zs : List ℕ) (v : Tree) → Front xs p (header.Tag t) h r → Front r (p + length h) (header.Bytes (Some n)) i s → is_bignum_tag t ≡ true → n ≤ 16 → length bs ≡ n → s ≡ bs ++ zs →
+fold-reads : (t l n : ℕ) (xs : List ℕ) (p : ℕ) (h r i s bs zs : List ℕ) (v : Tree) → Front xs p (header.Tag t) h r → Front r (p + length h) (header.Bytes (Some n)) i s → is_bignum_tag t ≡ true → n ≤ 16 → length bs ≡ n → AreBytes bs → s ≡ bs ++ zs →
     bignum_meaning t bs ≡ Some v → ReadsItem l xs p v zs (p + length h + length i + n)
-fold-reads t l n xs p h r i s bs zs v u w big short len e means =
+fold-reads t l n xs p h r i s bs zs v u w big short len low e means =
     let folding : folding_bytes t (item.bytes false bs) ≡ Some bs = folds-is t bs big (omega arith) in
     let flat : nesting (item.tag t (item.bytes false bs)) ≡ 0 = ap (λ f. tag_nesting f 0) folding in
     record {
       taken = h ++ (i ++ bs);
       what = item.tag t (item.bytes false bs);
-      spelled = (h, i ++ bs, u.spelled, (i, subst (Head i 2) (sym len) w.spelled, tt, refl), refl);
+      spelled = (h, i ++ bs, u.spelled, (i, subst (Head i 2) (sym len) w.spelled, low, refl), refl);
       means = ap (λ f. tag_meaning t f (meaning (item.bytes false bs))) folding ∙ means;
       nests = omega (arith, flat);
       split = u.split ∙ ap (λ (z : List ℕ). h ++ z) (w.split ∙ ap (λ (z : List ℕ). i ++ z) e ∙ sym (append_assoc i bs zs)) ∙ sym (append_assoc h (i ++ bs) zs);
@@ -101,7 +102,7 @@ tag-folded E remaining d e f t l n at xs p k v pushed last pull folding read a =
     let w : Front a.1 (p + length a.0) (header.Bytes (Some n)) b.0 b.1 = front-of remaining e k (header.Bytes (Some n)) a.1 (p + length a.0) folding.0 b in
     let c = read b.1 (p + length a.0 + length b.0) b.6 in
     let q : ℕ = p + length a.0 + length b.0 + n in
-    (c.1, q, fold-reads t l n xs p a.0 a.1 b.0 b.1 c.0 c.1 (tree_of v) u w folding.1 folding.2 c.2 c.4 c.3, ahead-at remaining f q c.1 last c.5)
+    (c.1, q, fold-reads t l n xs p a.0 a.1 b.0 b.1 c.0 c.1 (tree_of v) u w folding.1 folding.2 c.2 c.3 c.5 c.4, ahead-at remaining f q c.1 last c.6)
 
 both-true : (t u : Bool) → (t && u) ≡ true → (t ≡ true) × (u ≡ true)
 both-true true u h = (refl, h)
@@ -119,13 +120,13 @@ too-large t b big none =
     (eqb-true t 3 both.0, leb-true (2 ^ 127) (big_endian b) both.1)
 
 too-large-refuses : (t l n at : ℕ) (xs : List ℕ) (p : ℕ) (h r i s bs zs : List ℕ) (e : Refusal) → at ≡ p → Front xs p (header.Tag t) h r → Front r (p + length h) (header.Bytes (Some n)) i s → is_bignum_tag t ≡ true → n ≤ 16 → length bs ≡ n →
-    s ≡ bs ++ zs → bignum_meaning t bs ≡ None → e ≡ semantic at TooLarge → Refuses xs p (Some l) e
-too-large-refuses t l n at xs p h r i s bs zs e here u w big short len is none same =
+    AreBytes bs → s ≡ bs ++ zs → bignum_meaning t bs ≡ None → e ≡ semantic at TooLarge → Refuses xs p (Some l) e
+too-large-refuses t l n at xs p h r i s bs zs e here u w big short len low is none same =
     let large = too-large t bs big none in
     let split : r ≡ (i ++ bs) ++ zs = w.split ∙ ap (λ (z : List ℕ). i ++ z) is ∙ sym (append_assoc i bs zs) in
     let tag : HeadStands xs 6 3 (length h) ((i ++ bs) ++ zs) = subst (λ k. HeadStands xs 6 k (length h) ((i ++ bs) ++ zs)) large.0 (subst (λ z. HeadStands xs 6 t (length h) z) split (h, u.spelled, refl, u.split)) in
     subst (λ f. Refuses xs p (Some l) f) (sym (same ∙ ap (λ k. semantic k TooLarge) here))
-    (Refuses.too_large (length h) (i ++ bs) bs zs u.usable tag (subst (λ z. IsUsable z (p + length h)) split w.usable) (i, subst (Head i 2) (sym len) w.spelled, tt, refl) (omega (arith, len, short)) large.1)
+    (Refuses.too_large (length h) (i ++ bs) bs zs u.usable tag (subst (λ z. IsUsable z (p + length h)) split w.usable) (i, subst (Head i 2) (sym len) w.spelled, low, refl) (omega (arith, len, short)) large.1)
 
 -- what refuses the bytes over which a tag folds refuses the tag
 fold-refuses : (t l n at : ℕ) (xs : List ℕ) (p : ℕ) (h r i s : List ℕ) (e : Refusal) → at ≡ p → Front xs p (header.Tag t) h r → Front r (p + length h) (header.Bytes (Some n)) i s → is_bignum_tag t ≡ true → n ≤ 16 →
@@ -134,7 +135,7 @@ fold-refuses t l n at xs p h r i s e here u w big short (inl (early, is)) =
     let string : HeadStands r 2 n (length i) s = (i, w.spelled, refl, w.split) in
     subst (λ f. Refuses xs p (Some l) f) (sym is)
     (Refuses.folding t (length h) r u.usable (h, u.spelled, refl, u.split) w.usable (big, n, length i, s, string, short) (n, length i, s, string, PayloadRefuses.ends_early early))
-fold-refuses t l n at xs p h r i s e here u w big short (inr c) = too-large-refuses t l n at xs p h r i s c.0 c.1 e here u w big short c.2 c.4 c.3 c.5
+fold-refuses t l n at xs p h r i s e here u w big short (inr c) = too-large-refuses t l n at xs p h r i s c.0 c.1 e here u w big short c.2 c.3 c.5 c.4 c.6
 
 pub tag-unfolded : {S E : Type 0} (remaining : S → Option (List ℕ)) (d e f : Decoder S) (t l n at : ℕ) (xs : List ℕ) (p : ℕ) (k : Header) (x : Error E) → d.pushed ≡ None → PullsSo {E = E} remaining d e (Ok k) → IsFolding t k (Some n) →
     FoldsSo {E = E} remaining e f t n at (Err x) → at ≡ p → IsPulled remaining d (header.Tag t) xs p → RefusesNoBreak (remaining f.reader.now) x xs p l

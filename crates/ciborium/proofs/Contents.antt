@@ -1,11 +1,11 @@
 -- Strings behind their heads.
-use Rattle.std.proofs.Common.{String, Global, string_bytes, ◌≡◌, ℕ, suc, ◌+◌, ◌%◌, ◌<◌, ◌≤◌, ◌⊎◌, List, [], ◌∷◌, ◌++◌, length, Option, Some, None, Ok, refl, sym, ap, ◌∙◌, subst, arith, append_assoc, length-append, inl, inr, false, true}
+use Rattle.std.proofs.Common.{◌≡◌, ℕ, suc, ◌+◌, ◌%◌, ◌<◌, ◌≤◌, ◌⊎◌, List, [], ◌∷◌, ◌++◌, length, Option, Some, None, Ok, refl, sym, ap, ◌∙◌, subst, arith, append_assoc, length-append, inl, inr, false, true}
 use Rattle.std.proofs.lemmas.Nat.{div-mul-add, mod-mul-add}
 use Rattle.ciborium_ll.specs.declared.header.Header.{Header}
 use Rattle.ciborium_ll.specs.declared.header.Header.TheVariants as header
 use Rattle.ciborium_ll.specs.declared.decoder.Decoder.{Decoder}
 use Rattle.ciborium_ll.specs.Bytes.{greatest_offset}
-use Rattle.ciborium_ll.specs.Decoding.{Takes, offset_of, next_offset}
+use Rattle.ciborium_ll.specs.Decoding.{Takes}
 use Rattle.ciborium_ll.specs.Head.{Head, information, argument_bytes, initial_byte, open_byte, break_byte}
 use Rattle.ciborium_ll.specs.Header.{SpellsHeader, IsCounted}
 use Rattle.ciborium_ll.specs.Item as item
@@ -16,11 +16,7 @@ use Rattle.ciborium_ll.proofs.ReadHeads.{payload_length-is}
 use Rattle.ciborium_ll.proofs.UsableHeads.{usable-fits, HeadFits, information-below, argument-information, argument_length-information}
 use Rattle.ciborium_ll.proofs.Unread.{rest-of}
 use Rattle.ciborium_value.specs.declared.tree.Value.{Value}
-use Rattle.ciborium_value.specs.declared.tree.Value.TheVariants as value
-use Rattle.ciborium_value.specs.Tree as trees
-use Rattle.ciborium_value.proofs.Views.{tree_of-Text}
 use Rattle.ciborium_value.specs.Refuses.{Refuses}
-use Rattle.ciborium_value.specs.Tree.{Tree}
 use Rattle.ciborium_value.specs.View.{tree_of}
 use Rattle.ciborium.specs.declared.de.error.Error.{Error}
 use Rattle.ciborium.specs.Errors.{RefusedBy}
@@ -50,7 +46,7 @@ definite-reads : (kind : StringKind) (l n : ℕ) (xs : List ℕ) (p : ℕ) (b r 
 definite-reads of_bytes l n xs p b r bs added zs u size ok same e f = record {
   taken = b ++ bs;
   what = item.bytes false added;
-  spelled = (b, subst (Head b 2) (sym size ∙ ap length (sym same)) u.spelled, tt, ap (λ (z : List ℕ). b ++ z) (sym same));
+  spelled = (b, subst (Head b 2) (sym size ∙ ap length (sym same)) u.spelled, subst (Allowed of_bytes) (sym same) ok, ap (λ (z : List ℕ). b ++ z) (sym same));
   means = refl;
   nests = omega arith;
   split = u.split ∙ ap (λ (z : List ℕ). b ++ z) e ∙ sym (append_assoc b bs zs);
@@ -144,19 +140,19 @@ string-fault kind remaining d e l len xs p h x is read a =
     (λ r f. (content-refuses kind len l d.last xs p a.0 a.1 r a.5 u f, no-break xs p (header_of kind len) a.0 a.1 (no-break-kind kind len) u))
     (read a.1 (p + length a.0) a.6)
 
--- a text that was appended to an empty one
-pub text-read : (E : Type 0) {S : Type 0} (remaining : S → Option (List ℕ)) (d e : Decoder S) (len : Option ℕ) (xs : List ℕ) (p : ℕ) (old out : String Global) → string_bytes old ≡ [] → e.pushed ≡ None →
-    Takes remaining d e (λ b. (added : List ℕ) × (string_bytes out ≡ string_bytes old ++ added) × StringTaken {E = E} of_text len d.last d.count (Ok tt) added b) → IsAt remaining d p xs →
-    StringRead {S = S} {E = E} of_text remaining e len d.last xs p (Ok (value.Text out))
-text-read E remaining d e len xs p old out none pushed (x, taken, count, (added, is, s), bytes) at =
+-- a string that was appended to an empty one
+pub string-read : (E : Type 0) {S : Type 0} (kind : StringKind) (remaining : S → Option (List ℕ)) (d e : Decoder S) (len : Option ℕ) (xs : List ℕ) (p : ℕ) (old new : List ℕ) (v : Value) → old ≡ [] → tree_of v ≡ string_tree kind new →
+    Takes remaining d e (λ b. (added : List ℕ) × (new ≡ old ++ added) × StringTaken {E = E} kind len d.last d.count (Ok tt) added b) → IsAt remaining d p xs →
+    StringRead {S = S} {E = E} kind remaining e len d.last xs p (Ok v)
+string-read E kind remaining d e len xs p old new v none tree (x, taken, count, (added, is, s), bytes) at =
     let k = rest-of (remaining d.reader.now) (remaining e.reader.now) xs x at.1 taken in
     let less = e.fits in
     let start : d.count ≡ p = at.0 in (
       x,
       added,
       k.0,
-      subst (λ q. StringTaken {E = E} of_text len d.last q (Ok tt) added x) start s,
-      tree_of-Text out ∙ ap trees.text (is ∙ ap (λ (z : List ℕ). z ++ added) none),
+      subst (λ q. StringTaken {E = E} kind len d.last q (Ok tt) added x) start s,
+      tree ∙ ap (string_tree kind) (is ∙ ap (λ (z : List ℕ). z ++ added) none),
       k.2,
       (count ∙ ap (λ q. q + length x) start, k.1),
       omega (arith, less, count, start),

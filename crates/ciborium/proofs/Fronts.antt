@@ -23,8 +23,8 @@ use Rattle.ciborium_value.specs.View.{tree_of}
 use Rattle.ciborium_value.specs.Open as opened
 use Rattle.ciborium_value.proofs.Steps.{opened-has}
 use Rattle.ciborium.specs.declared.de.error.Error.{Error}
-use Rattle.ciborium.specs.declared.de.parts.Part.{Part}
-use Rattle.ciborium.specs.declared.de.parts.Part.TheVariants.{Whole, Opened, Ended}
+use Rattle.ciborium.specs.declared.de.front.Part.{Part}
+use Rattle.ciborium.specs.declared.de.front.Part.TheVariants.{Whole, Opened, Ended}
 use Rattle.ciborium.specs.Around.{InContainer, IsInside, ContainerStands, IsRoom, array_due, map_due, due_in}
 use Rattle.ciborium.specs.Errors.{RefusedBy}
 use Rattle.ciborium.specs.Parts.{ArrayBegun, MapBegun, IsBehind, PartRead, RefusesNoBreak}

@@ -1,6 +1,5 @@
 -- What is known of a reader whose bytes are known, from what holds of every reader.
 use Rattle.std.proofs.Common.{◌≡◌, ℕ, ◌+◌, ◌≤◌, List, [], ◌∷◌, ◌++◌, length, Option, Some, Result, Ok, Err, IfOk, IfErr, refl, sym, ap, ◌∙◌, subst, arith, length-append, append-nil, inl, inr, ◌⊎◌}
-use Rattle.std.specs.Io.KnownBytes.{Consumes}
 use Rattle.ciborium_ll.specs.Bytes.{AreBytes, greatest_offset}
 use Rattle.ciborium_ll.specs.Item.{Item}
 use Rattle.ciborium_ll.specs.Refusal as refusal
@@ -9,7 +8,6 @@ use Rattle.ciborium_ll.proofs.Unread.{rest-of}
 use Rattle.ciborium_ll.proofs.UniqueSpelling.{one_at_front}
 use Rattle.ciborium_value.specs.declared.tree.Value.{Value}
 use Rattle.ciborium_value.specs.Counts.{node_count, payload_size}
-use Rattle.ciborium_value.specs.Laws.{BeginsGood}
 use Rattle.ciborium_value.specs.Meaning.{meaning}
 use Rattle.ciborium_value.specs.Proper.{IsProperTree}
 use Rattle.ciborium_value.specs.Refuses.{IsGood, Refuses}
@@ -47,11 +45,11 @@ either-begins (a ∷ t) (b ∷ s) x y e = longer (either-begins t s x y (tails e
 fails : {E : Type 0} (l : ℕ) (after : Option (List ℕ)) (t c : List ℕ) (e : Error E) → ((z : List ℕ) → RefusedBy (Some z) e (λ r. Refuses (t ++ z) 0 (Some l) r)) →
     ((r : Refusal) → Refuses (t ++ c) 0 (Some l) r → ⊥) → (after ≡ Some [] → Refuses (t ++ []) 0 (Some l) refusal.io → ⊥) → IsFailed after e
 fails l after t c (errors.Io x) h never ended = λ end. ended end (h [] refl)
-fails l after t c (errors.Syntax p) h never ended = only-fails (Some c) (errors.Syntax p) (λ r. Refuses (t ++ c) 0 (Some l) r) never (h c)
-fails l after t c (errors.Semantic p k) h never ended = only-fails (Some c) (errors.Semantic p k) (λ r. Refuses (t ++ c) 0 (Some l) r) never (h c)
-fails l after t c errors.RecursionLimitExceeded h never ended = only-fails (Some c) errors.RecursionLimitExceeded (λ r. Refuses (t ++ c) 0 (Some l) r) never (h c)
+fails {E} l after t c (errors.Syntax p) h never ended = only-fails {E = E} (Some c) (errors.Syntax p) (λ r. Refuses (t ++ c) 0 (Some l) r) never (h c)
+fails {E} l after t c (errors.Semantic p k) h never ended = only-fails {E = E} (Some c) (errors.Semantic p k) (λ r. Refuses (t ++ c) 0 (Some l) r) never (h c)
+fails {E} l after t c errors.RecursionLimitExceeded h never ended = only-fails {E = E} (Some c) errors.RecursionLimitExceeded (λ r. Refuses (t ++ c) 0 (Some l) r) never (h c)
 fails l after t c errors.Memory h never ended = tt
-fails l after t c errors.TooLong h never ended = only-fails (Some c) errors.TooLong (λ r. Refuses (t ++ c) 0 (Some l) r) never (h c)
+fails {E} l after t c errors.TooLong h never ended = only-fails {E = E} (Some c) errors.TooLong (λ r. Refuses (t ++ c) 0 (Some l) r) never (h c)
 
 -- bytes that begin with a good item are refused in no way
 good-not-refused : (l : ℕ) (s x z : List ℕ) (i : Item) (r : Refusal) → IsGood i (Some l) s 0 → z ≡ s ++ x → AreBytes z → Refuses z 0 (Some l) r → ⊥

@@ -56,7 +56,7 @@ fewer-heads E remaining d e h none pushed taken = subst (λ o. heads_by (greates
   where
     by : (o : Option (Header × ℕ)) → IfSome o (λ head. (answered E h ≡ answered E head.0) × (e.last ≡ head.1) × IsUnread d e) → IfNone o (Takes remaining d e (HeadTaken {E = E} d.count (Ok h))) →
         heads_by (greatest_offset - e.count) None < heads_by (greatest_offset - d.count) o
-    by None a (b, t, count, u) =
+    by None a (b, t, count, u, bytes) =
         let some = head-some b h u.answers.0 in
         let fits = header-fits {E = E} d.count h b u in
         omega (arith, some, fits, count)

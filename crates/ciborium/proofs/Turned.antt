@@ -15,8 +15,8 @@ use Rattle.ciborium_value.specs.View.{tree_of, trees_from, tree_pairs_from}
 use Rattle.ciborium_value.proofs.Steps.{opened-has}
 use Rattle.ciborium.specs.declared.de.error.Error.{Error}
 use Rattle.ciborium.specs.declared.de.error.Error.TheVariants.{Memory}
-use Rattle.ciborium.specs.declared.de.parts.Part.{Part}
-use Rattle.ciborium.specs.declared.de.parts.Part.TheVariants.{Whole, Opened, Ended}
+use Rattle.ciborium.specs.declared.de.front.Part.{Part}
+use Rattle.ciborium.specs.declared.de.front.Part.TheVariants.{Whole, Opened, Ended}
 use Rattle.ciborium.specs.Answers.{IsReading, Turned}
 use Rattle.ciborium.specs.Around.{IsAround, IsPlaced}
 use Rattle.ciborium.specs.Errors.{RefusedBy}

@@ -3,7 +3,7 @@ use Rattle.std.specs.Prelude.{◌≡◌, ℕ, suc, ◌+◌, ◌<◌, ◌≤◌, 
 use Rattle.ciborium_ll.specs.declared.header.Header.{Header}
 use Rattle.ciborium_ll.specs.declared.header.Header.TheVariants as header
 use Rattle.ciborium_ll.specs.declared.decoder.Decoder.{Decoder}
-use Rattle.ciborium_ll.specs.Bytes.{greatest_offset}
+use Rattle.ciborium_ll.specs.Bytes.{AreBytes, greatest_offset}
 use Rattle.ciborium_ll.specs.Decoding.{IsAhead, left_of}
 use Rattle.ciborium_ll.specs.Head.{break_byte}
 use Rattle.ciborium_ll.specs.Refusal.{Refusal, HeadRefuses, io, semantic, TooLarge}
@@ -17,8 +17,8 @@ use Rattle.ciborium_value.specs.Tree as trees
 use Rattle.ciborium_value.specs.View.{tree_of}
 use Rattle.ciborium.specs.declared.de.error.Error.{Error}
 use Rattle.ciborium.specs.declared.de.error.Error.TheVariants.{Semantic, RecursionLimitExceeded, Memory}
-use Rattle.ciborium.specs.declared.de.parts.Part.{Part}
-use Rattle.ciborium.specs.declared.de.parts.Part.TheVariants.{Whole, Opened, Ended}
+use Rattle.ciborium.specs.declared.de.front.Part.{Part}
+use Rattle.ciborium.specs.declared.de.front.Part.TheVariants.{Whole, Opened, Ended}
 use Rattle.ciborium.specs.Around.{IsInside}
 use Rattle.ciborium.specs.Errors.{RefusedBy}
 use Rattle.ciborium.specs.Reads.{ReadsItem, IsAt, IsPulled, IsBreakAt}
@@ -90,12 +90,12 @@ IsFolded t b p (Err e) = (e ≡ Memory) ⊎ ((bignum_meaning t b ≡ None) × (e
 abbrev pub FoldRefuses : ℕ → ℕ → ℕ → List ℕ → Refusal → Type 0
 FoldRefuses t n p xs e =
     ((length xs < n) × (e ≡ io))
-    ⊎ ((b : List ℕ) × (r : List ℕ) × (length b ≡ n) × (bignum_meaning t b ≡ None) × (xs ≡ b ++ r) × (e ≡ semantic p TooLarge))
+    ⊎ ((b : List ℕ) × (r : List ℕ) × (length b ≡ n) × AreBytes b × (bignum_meaning t b ≡ None) × (xs ≡ b ++ r) × (e ≡ semantic p TooLarge))
 
 -- the answer of a call that reads the n bytes over which a tag at offset at folds
 abbrev pub FoldRead : {S E : Type 0} → (S → Option (List ℕ)) → Decoder S → ℕ → ℕ → ℕ → List ℕ → ℕ → Result Value (Error E) → Type 0
 FoldRead remaining d t n at xs p (Ok v) =
-    (b : List ℕ) × (r : List ℕ) × (length b ≡ n) × (bignum_meaning t b ≡ Some (tree_of v)) × (xs ≡ b ++ r) × IsAt remaining d (p + n) r
+    (b : List ℕ) × (r : List ℕ) × (length b ≡ n) × AreBytes b × (bignum_meaning t b ≡ Some (tree_of v)) × (xs ≡ b ++ r) × IsAt remaining d (p + n) r
 FoldRead remaining d t n at xs p (Err e) = p + n ≤ greatest_offset → RefusedBy (left_of remaining d) e (FoldRefuses t n at xs)
 
 -- whether a tag folds over what has this header behind it, and over how many bytes

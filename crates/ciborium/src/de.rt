@@ -4,6 +4,7 @@ ghost use Rattle.ciborium.specs.Answers.{AnswersGoodItem, AnswersProper, HoldsNo
 
 mod building;
 mod error;
+mod front;
 mod parts;
 mod tags;
 

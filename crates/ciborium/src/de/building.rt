@@ -7,7 +7,8 @@ ghost use Rattle.ciborium.specs.Answers.{IsReading, Turned, ValueRead};
 ghost use Rattle.ciborium.specs.Reads.{heads_left};
 
 use crate::de::error::Error;
-use crate::de::parts::{Part, next};
+use crate::de::front::Part;
+use crate::de::parts::next;
 use ciborium_ll::Decoder;
 use ciborium_value::stack::Stack;
 use ciborium_value::{Kind, Value};
@@ -42,7 +43,7 @@ fn turn<R: Read>(
     ensures depth { IfOk result (λ o. MatchOption o (length (opens_of stack.new) ≤ levels) (λ _. Unit {0})) }
     ensures turn { TakesBeforeAny R.remaining decoder.old decoder.new
         (λ d e. (xs : List ℕ) (p : ℕ) → IsReading Some d (opens_of stack.old) levels xs p →
-            Turned Some e (opens_of stack.new) levels xs p result) }
+        Turned Some e (opens_of stack.new) levels xs p result) }
 {
     let offset = decoder.offset();
     match next(alloc, decoder, scratch, levels - stack.depth())? {

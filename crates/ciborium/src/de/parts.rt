@@ -1,4 +1,5 @@
-//! What stands at the front: a value that is whole, the beginning of a container or tag, or a break.
+//! The part that stands at the front: a value that is whole, the beginning of a container or tag, or a
+//! break.
 
 ghost use Rattle.std.specs.Prelude.{◌≡◌, ◌+◌, ◌<◌, ◌≤◌, IfOk, List, None, OnOk, Some, ℕ};
 ghost use Rattle.ciborium_ll.specs.Decoding.{IsAhead, SameReader, TakesBeforeAny, last_of, pushed_of};
@@ -8,31 +9,13 @@ ghost use Rattle.ciborium.specs.Strings.{StringRead};
 ghost use Rattle.ciborium_ll.specs.StringRefusal.{of_bytes, of_text};
 
 use crate::de::error::Error;
-use crate::de::tags::tagged;
-use ciborium_ll::{Decoder, Header};
+use crate::de::front::{Part, pull};
+use crate::de::tags::read_tag;
+use ciborium_ll::{Decoder, Header, simple};
 use ciborium_value::stack::Opening;
 use ciborium_value::{Integer, Kind, Value};
 use std::alloc::Global;
 use std::io::{self, Read};
-
-#[derive(Drop)]
-pub(crate) enum Part {
-    Whole(Value),
-    Opened(Opening),
-    Ended,
-}
-
-/// The next head.
-#[inline(always)]
-pub(crate) fn pull<R: Read>(decoder: &mut Decoder<'_, R>) -> Result<Header, Error<io::Error>>
-    ensures same_reader { SameReader decoder.old decoder.new }
-    ensures pushed { pushed_of decoder.new ≡ None }
-    ensures fewer { OnOk result (heads_left decoder.new < heads_left decoder.old) }
-    ensures head { TakesBeforeAny R.remaining decoder.old decoder.new
-        (λ d e. (xs : List ℕ) (p : ℕ) → IsAhead Some d p xs → HeadRead Some e xs p result) }
-{
-    Ok(decoder.pull()?)
-}
 
 #[inline(always)]
 fn begin_array(alloc: Global, count: Option<usize>, levels: usize) -> Result<Part, Error<io::Error>>
@@ -68,30 +51,19 @@ fn begin_map(alloc: Global, count: Option<usize>, levels: usize) -> Result<Part,
 
 #[tactic(auto, unfolding(ciborium_value::specs::Meaning::simple_meaning))]
 #[inline(always)]
-fn simple(number: u8, offset: usize) -> Result<Value, Error<io::Error>>
+fn read_simple(number: u8, offset: usize) -> Result<Value, Error<io::Error>>
     ensures { SimpleRead number offset result }
 {
     match number {
-        20 => Ok(Value::Bool(false)),
-        21 => Ok(Value::Bool(true)),
-        22 | 23 => Ok(Value::Null),
+        simple::FALSE => Ok(Value::Bool(false)),
+        simple::TRUE => Ok(Value::Bool(true)),
+        simple::NULL | simple::UNDEFINED => Ok(Value::Null),
         _ => Err(Error::Semantic(Some(offset), Kind::Simple)),
     }
 }
 
-/// The number -1 - n.
-#[inline(always)]
-pub(crate) fn negative(n: u64) -> Integer
-    ensures { result ≡ negsuc n }
-{
-    match Integer::try_from(-1 - i128::from(n)) {
-        Ok(integer) => integer,
-        Err(_) => unreachable!(),
-    }
-}
-
 // The payload of the byte string whose head was pulled last.
-fn bytes<R: Read>(
+fn read_bytes<R: Read>(
     alloc: Global,
     decoder: &mut Decoder<'_, R>,
     scratch: &mut [u8],
@@ -103,7 +75,7 @@ fn bytes<R: Read>(
     ensures fewer { OnOk result (heads_left decoder.new ≤ heads_left decoder.old) }
     ensures content { TakesBeforeAny R.remaining decoder.old decoder.new
         (λ d e. (xs : List ℕ) (p : ℕ) → IsAt Some d p xs →
-            StringRead of_bytes Some e len (last_of decoder.old) xs p result) }
+        StringRead of_bytes Some e len (last_of decoder.old) xs p result) }
 {
     let mut out = Vec::new(alloc);
     decoder.bytes_into(len, scratch, &mut out)?;
@@ -111,7 +83,7 @@ fn bytes<R: Read>(
 }
 
 // The payload of the text whose head was pulled last.
-fn text<R: Read>(
+fn read_text<R: Read>(
     alloc: Global,
     decoder: &mut Decoder<'_, R>,
     scratch: &mut [u8],
@@ -123,7 +95,7 @@ fn text<R: Read>(
     ensures fewer { OnOk result (heads_left decoder.new ≤ heads_left decoder.old) }
     ensures content { TakesBeforeAny R.remaining decoder.old decoder.new
         (λ d e. (xs : List ℕ) (p : ℕ) → IsAt Some d p xs →
-            StringRead of_text Some e len (last_of decoder.old) xs p result) }
+        StringRead of_text Some e len (last_of decoder.old) xs p result) }
 {
     let mut out = String::new(alloc);
     decoder.text_into(len, scratch, &mut out)?;
@@ -148,13 +120,13 @@ pub(crate) fn next<R: Read>(
     let offset = decoder.offset();
     match pull(decoder)? {
         Header::Positive(n) => Ok(Part::Whole(Value::Integer(Integer::from(n)))),
-        Header::Negative(n) => Ok(Part::Whole(Value::Integer(negative(n)))),
-        Header::Bytes(len) => Ok(Part::Whole(bytes(alloc, decoder, scratch, len)?)),
-        Header::Text(len) => Ok(Part::Whole(text(alloc, decoder, scratch, len)?)),
+        Header::Negative(n) => Ok(Part::Whole(Value::Integer(Integer::from_head(true, n)))),
+        Header::Bytes(len) => Ok(Part::Whole(read_bytes(alloc, decoder, scratch, len)?)),
+        Header::Text(len) => Ok(Part::Whole(read_text(alloc, decoder, scratch, len)?)),
         Header::Array(count) => begin_array(alloc, count, levels),
         Header::Map(count) => begin_map(alloc, count, levels),
-        Header::Tag(tag) => tagged(alloc, decoder, tag, offset, levels),
-        Header::Simple(n) => Ok(Part::Whole(simple(n, offset)?)),
+        Header::Tag(tag) => read_tag(alloc, decoder, tag, offset, levels),
+        Header::Simple(n) => Ok(Part::Whole(read_simple(n, offset)?)),
         Header::Float(_) => Err(Error::Semantic(Some(offset), Kind::Float)),
         Header::Break => Ok(Part::Ended),
     }

@@ -10,7 +10,8 @@ ghost use Rattle.ciborium.specs.Parts.{FoldRead, HasRoom, IsFolded, IsFolding, P
 ghost use Rattle.ciborium.specs.Reads.{IsAt, IsPulled, heads_left};
 
 use crate::de::error::Error;
-use crate::de::parts::{Part, negative, pull};
+use crate::de::front::{Part, pull};
+use ciborium_ll::tag::{BIGNEG, BIGPOS};
 use ciborium_ll::{Decoder, Header};
 use ciborium_value::stack::Opening;
 use ciborium_value::{Integer, Kind, Value};
@@ -18,12 +19,12 @@ use std::alloc::{AllocError, Global};
 use std::io::{self, Read};
 
 // The length of the byte string over which the tag folds (RFC 8949, section 3.4.3).
-fn folding(tag: u64, header: Header) -> Option<usize>
+fn find_folding(tag: u64, header: Header) -> Option<usize>
     ensures { IsFolding tag header result }
 {
     match header {
         Header::Bytes(Some(n)) => {
-            if n <= 16 && (tag == 2 || tag == 3) {
+            if n <= 16 && (tag == BIGPOS || tag == BIGNEG) {
                 Some(n)
             } else {
                 None
@@ -74,12 +75,12 @@ fn fold(alloc: Global, tag: u64, payload: &[u8], offset: usize) -> Result<Value,
     let n = number(payload);
     if n < 1 << 64 {
         let small = n as u64;
-        if tag == 2 {
+        if tag == BIGPOS {
             return Ok(Value::Integer(Integer::from(small)));
         }
-        return Ok(Value::Integer(negative(small)));
+        return Ok(Value::Integer(Integer::from_head(true, small)));
     }
-    if tag == 3 && n >= 1 << 127 {
+    if tag == BIGNEG && n >= 1 << 127 {
         return Err(Error::Semantic(Some(offset), Kind::TooLarge));
     }
     match tag_over(alloc, tag, significant(payload)) {
@@ -89,7 +90,7 @@ fn fold(alloc: Global, tag: u64, payload: &[u8], offset: usize) -> Result<Value,
 }
 
 // Reads the n bytes over which a tag at this offset folds, and folds it.
-fn folded<R: Read>(
+fn read_folded<R: Read>(
     alloc: Global,
     decoder: &mut Decoder<'_, R>,
     tag: u64,
@@ -113,7 +114,7 @@ fn folded<R: Read>(
 
 /// Reads what stands behind the head of a tag, which was pulled: what it folds over, or the next
 /// head, which is given back.
-pub(crate) fn tagged<R: Read>(
+pub(crate) fn read_tag<R: Read>(
     alloc: Global,
     decoder: &mut Decoder<'_, R>,
     tag: u64,
@@ -127,12 +128,12 @@ pub(crate) fn tagged<R: Read>(
     ensures room { IfOk result (λ part. HasRoom part levels) }
     ensures part { TakesBeforeAny R.remaining decoder.old decoder.new
         (λ d e. (xs : List ℕ) (p : ℕ) → IsPulled Some d (header.Tag tag) xs p → offset ≡ p →
-            PartRead Some e levels xs p result) }
+        PartRead Some e levels xs p result) }
 {
     let at = decoder.offset();
     let next = pull(decoder)?;
-    if let Some(n) = folding(tag, next) {
-        return Ok(Part::Whole(folded(alloc, decoder, tag, n, offset)?));
+    if let Some(n) = find_folding(tag, next) {
+        return Ok(Part::Whole(read_folded(alloc, decoder, tag, n, offset)?));
     }
     if levels == 0 {
         return Err(Error::RecursionLimitExceeded);

@@ -40,7 +40,8 @@ turns-preserved g c = record {
         t.1,
         t.2,
         λ z xs p s. let m = t.3 z in
-            subst (λ o. Turned {E = IoError} Some (with_left c.turn.new.decoder z) (opens_of c.turn.new.stack) c.args.levels xs p (Ok o)) c.in_default.is (m.2 xs p (m.1 xs p s)), t.4,
+            subst (λ o. Turned {E = IoError} Some (with_left c.turn.new.decoder z) (opens_of c.turn.new.stack) c.args.levels xs p (Ok o)) c.in_default.is (m.2 xs p (m.1 xs p s)),
+        t.4,
       )
       );
 }
@@ -53,7 +54,8 @@ returns-in-Some-clause-value g c =
       t.1,
       t.2,
       λ z xs p s. let m = t.3 z in
-          subst (λ o. Turned {E = IoError} Some (with_left c.turn.new.decoder z) (opens_of c.turn.new.stack) c.args.levels xs p (Ok o)) c.in-Some.is (m.2 xs p (m.1 xs p s)), t.4,
+          subst (λ o. Turned {E = IoError} Some (with_left c.turn.new.decoder z) (opens_of c.turn.new.stack) c.args.levels xs p (Ok o)) c.in-Some.is (m.2 xs p (m.1 xs p s)),
+      t.4,
     )
 
 pub returns-in_err-value-clause-value : goal.returns-in_err-value-clause-value

@@ -3,7 +3,7 @@ use Rattle.std.proofs.lemmas.Result.{err_from_is_err_and}
 use Rattle.std.specs.declared.io.Error.{Error}
 use Rattle.ciborium_value.specs.Stack.{opens_of}
 use Rattle.ciborium_value.specs.View.{tree_of}
-use Rattle.ciborium.specs.declared.de.parts.Part.TheVariants.{Whole, Opened, Ended}
+use Rattle.ciborium.specs.declared.de.front.Part.TheVariants.{Whole, Opened, Ended}
 use Rattle.ciborium_ll.specs.Decoding.{with_left}
 use Rattle.ciborium.proofs.Turned.{Answers, answers-of, turn-refused, turn-whole, turn-opened, turn-ended, turn-break, depth-placed, depth-closed}
 use Rattle.ciborium.proofs.de.building.turn.Goals as goal
@@ -26,7 +26,8 @@ returns-in-Whole-clause-turn g c =
       t.2,
       λ z xs p s. turn-whole Some (with_left c.args.decoder.now (t.0 ++ z)) (with_left c.next.new.decoder z) (opens_of c.args.stack.now) (opens_of c.place.new.self) c.args.levels xs p c.in-Whole.value c.place.result c.granted.result
           (answers-of Error Some (with_left c.args.decoder.now (t.0 ++ z)) (with_left c.next.new.decoder z) (c.args.levels - c.depth.result) (c.args.levels - length (opens_of c.args.stack.now)) c.in_ok-value.field-0 (Whole c.in-Whole.value)
-          (ap (λ n. c.args.levels - n) c.depth.ensures) c.in-Whole.is (t.3 z)) c.granted.ensures.ok c.granted.ensures.err c.place.ensures s, t.4,
+          (ap (λ n. c.args.levels - n) c.depth.ensures) c.in-Whole.is (t.3 z)) c.granted.ensures.ok c.granted.ensures.err c.place.ensures s,
+      t.4,
     )
 
 pub returns-in-Ok-clause-turn : goal.returns-in-Ok-clause-turn
@@ -37,7 +38,8 @@ returns-in-Ok-clause-turn g c =
       t.2,
       λ z xs p s. turn-opened Error Some (with_left c.args.decoder.now (t.0 ++ z)) (with_left c.next.new.decoder z) (opens_of c.args.stack.now) (opens_of c.open.new.self) c.args.levels xs p c.in-Opened.opening
           (answers-of Error Some (with_left c.args.decoder.now (t.0 ++ z)) (with_left c.next.new.decoder z) (c.args.levels - c.depth.result) (c.args.levels - length (opens_of c.args.stack.now)) c.in_ok-value.field-0 (Opened c.in-Opened.opening)
-          (ap (λ n. c.args.levels - n) c.depth.ensures) c.in-Opened.is (t.3 z)) c.in-Ok.ensures.ok s, t.4,
+          (ap (λ n. c.args.levels - n) c.depth.ensures) c.in-Opened.is (t.3 z)) c.in-Ok.ensures.ok s,
+      t.4,
     )
 
 pub returns-in-Some-clause-depth : goal.returns-in-Some-clause-depth
@@ -53,7 +55,8 @@ returns-in-Some-clause-turn g c =
       t.2,
       λ z xs p s. turn-ended Some (with_left c.args.decoder.now (t.0 ++ z)) (with_left c.next.new.decoder z) (opens_of c.args.stack.now) (opens_of c.close.new.self) (opens_of c.place-in-Some.new.self) c.args.levels xs p c.in-Some.value c.place-in-Some.result c.granted-in-Some.result
           (answers-of Error Some (with_left c.args.decoder.now (t.0 ++ z)) (with_left c.next.new.decoder z) (c.args.levels - c.depth.result) (c.args.levels - length (opens_of c.args.stack.now)) c.in_ok-value.field-0 Ended
-          (ap (λ n. c.args.levels - n) c.depth.ensures) c.in-Ended.is (t.3 z)) c.in-Some.ensures c.granted-in-Some.ensures.ok c.granted-in-Some.ensures.err c.place-in-Some.ensures s, t.4,
+          (ap (λ n. c.args.levels - n) c.depth.ensures) c.in-Ended.is (t.3 z)) c.in-Some.ensures c.granted-in-Some.ensures.ok c.granted-in-Some.ensures.err c.place-in-Some.ensures s,
+      t.4,
     )
 
 pub returns-in-None-clause-turn : goal.returns-in-None-clause-turn
@@ -64,5 +67,6 @@ returns-in-None-clause-turn g c =
       t.2,
       λ z xs p s. turn-break Error Some (with_left c.args.decoder.now (t.0 ++ z)) (with_left c.next.new.decoder z) (opens_of c.args.stack.now) c.args.levels xs p c.offset-offset.result
           (answers-of Error Some (with_left c.args.decoder.now (t.0 ++ z)) (with_left c.next.new.decoder z) (c.args.levels - c.depth.result) (c.args.levels - length (opens_of c.args.stack.now)) c.in_ok-value.field-0 Ended
-          (ap (λ n. c.args.levels - n) c.depth.ensures) c.in-Ended.is (t.3 z)) c.in-None.ensures.0 c.offset-offset.ensures s, t.4,
+          (ap (λ n. c.args.levels - n) c.depth.ensures) c.in-Ended.is (t.3 z)) c.in-None.ensures.0 c.offset-offset.ensures s,
+      t.4,
     )

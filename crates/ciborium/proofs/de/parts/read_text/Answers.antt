@@ -3,9 +3,10 @@ use Rattle.std.proofs.lemmas.Result.{err_from_is_err_and}
 use Rattle.std.specs.declared.io.Error.{Error}
 use Rattle.ciborium_ll.specs.StringRefusal.{of_text}
 use Rattle.ciborium_ll.specs.Decoding.{with_left}
-use Rattle.ciborium.proofs.Contents.{text-read}
+use Rattle.ciborium_value.proofs.Views.{tree_of-Text}
+use Rattle.ciborium.proofs.Contents.{string-read}
 use Rattle.ciborium.proofs.WhateverFollows.{string-refused}
-use Rattle.ciborium.proofs.de.parts.text.Goals as goal
+use Rattle.ciborium.proofs.de.parts.read_text.Goals as goal
 
 pub returns-clause-content : goal.returns-clause-content
 returns-clause-content g c =
@@ -13,8 +14,9 @@ returns-clause-content g c =
       t.0,
       t.1,
       t.2,
-      λ z xs p at. text-read Error Some (with_left c.args.decoder.now (t.0 ++ z)) (with_left c.text_into.new.self z) c.args.len xs p c.new-out.result c.text_into.new.out
-          c.new-out.ensures.bytes c.text_into.ensures.none_pushed (t.0, refl, t.2, t.3, t.4) at, t.4,
+      λ z xs p at. string-read Error of_text Some (with_left c.args.decoder.now (t.0 ++ z)) (with_left c.text_into.new.self z) c.args.len xs p (string_bytes c.new-out.result) (string_bytes c.text_into.new.out) _
+          c.new-out.ensures.bytes (tree_of-Text c.text_into.new.out) (t.0, refl, t.2, t.3, t.4) at,
+      t.4,
     )
 
 pub returns-in_err-text_into-clause-content : goal.returns-in_err-text_into-clause-content

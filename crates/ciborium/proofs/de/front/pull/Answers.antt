@@ -7,7 +7,7 @@ use Rattle.ciborium_ll.specs.Decoding.{with_left}
 use Rattle.ciborium.proofs.AfterTag.{PullsSo}
 use Rattle.ciborium.proofs.WhateverFollows.{so-map, head-pulled, PullsAll}
 use Rattle.ciborium.proofs.Pulled.{refused-from, head-read, fewer-heads}
-use Rattle.ciborium.proofs.de.parts.pull.Goals as goal
+use Rattle.ciborium.proofs.de.front.pull.Goals as goal
 
 pub returns-in_err-pull-clause-head : goal.returns-in_err-pull-clause-head
 returns-in_err-pull-clause-head g c =

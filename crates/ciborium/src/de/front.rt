@@ -1,0 +1,35 @@
+//! What stands at the front, and its head.
+
+ghost use Rattle.std.specs.Prelude.{◌≡◌, ◌<◌, List, None, OnOk, Some, ℕ};
+ghost use Rattle.ciborium_ll.specs.Decoding.{IsAhead, SameReader, TakesBeforeAny, pushed_of};
+ghost use Rattle.ciborium.specs.Parts.{HeadRead};
+ghost use Rattle.ciborium.specs.Reads.{heads_left};
+
+use crate::de::error::Error;
+use ciborium_ll::{Decoder, Header};
+use ciborium_value::Value;
+use ciborium_value::stack::Opening;
+use std::io::{self, Read};
+
+/// A part of what is read.
+#[derive(Drop)]
+pub(crate) enum Part {
+    /// A value that is whole.
+    Whole(Value),
+    /// The beginning of an array, a map or a tag.
+    Opened(Opening),
+    /// A break.
+    Ended,
+}
+
+/// The next head.
+#[inline(always)]
+pub(crate) fn pull<R: Read>(decoder: &mut Decoder<'_, R>) -> Result<Header, Error<io::Error>>
+    ensures same_reader { SameReader decoder.old decoder.new }
+    ensures pushed { pushed_of decoder.new ≡ None }
+    ensures fewer { OnOk result (heads_left decoder.new < heads_left decoder.old) }
+    ensures head { TakesBeforeAny R.remaining decoder.old decoder.new
+        (λ d e. (xs : List ℕ) (p : ℕ) → IsAhead Some d p xs → HeadRead Some e xs p result) }
+{
+    Ok(decoder.pull()?)
+}
