@@ -5,6 +5,7 @@ pub mod Derived
 pub mod OrderedTrees
 mod OrderedIntegers
 pub mod TotalOrders
+pub mod BigEndian
 pub mod Bignums
 pub mod Folding
 pub mod Written

@@ -1,5 +1,5 @@
 -- What writing puts out (RFC 8949, section 4.1; lengths: section 4.2.1).
-use Rattle.std.specs.Prelude.{◌≡◌, ℕ, ◌-◌, ◌^◌, min, ℤ, pos, negsuc, List, [], ◌∷◌, ◌++◌, length, Bool, true, false, if◌then◌else◌, nat_lt, ◌⊎◌}
+use Rattle.std.specs.Prelude.{ℕ, ◌-◌, ◌^◌, min, ℤ, pos, negsuc, List, [], ◌∷◌, ◌++◌, length, Bool, true, false, if◌then◌else◌, nat_lt}
 use Rattle.ciborium_ll.specs.Head.{shortest_head, simple_bytes, open_byte, break_byte}
 use Rattle.ciborium_ll.specs.Item.{Item, unsigned, negative, bytes, text, array, map, tag, simple, float, Items, no_items, item, Pairs, no_pairs, pair, items_count, pairs_count}
 use Rattle.ciborium_value.specs.Tree as tree
@@ -86,30 +86,7 @@ encoding v = written_bytes (item_of v)
 abbrev pub encoded_size : Tree → ℕ
 encoded_size v = min (length (encoding v)) (2 ^ 64 - 1)
 
--- ---- the items that writing of typed values can put out
-
-abbrev mutual
-  -- no open string, no float, and no simple value but false, true and null; arrays and maps may be open
-  pub IsWritten : Item → Type 0
-  IsWritten (unsigned n) = Unit {0}
-  IsWritten (negative n) = Unit {0}
-  IsWritten (bytes open_ b) = open_ ≡ false
-  IsWritten (text open_ b) = open_ ≡ false
-  IsWritten (array open_ is) = AreWritten is
-  IsWritten (map open_ ps) = PairsAreWritten ps
-  IsWritten (tag t i) = IsWritten i
-  IsWritten (simple n) = (n ≡ 20) ⊎ (n ≡ 21) ⊎ (n ≡ 22)
-  IsWritten (float raw) = ⊥
-
-  -- each item
-  pub AreWritten : Items → Type 0
-  AreWritten no_items = Unit {0}
-  AreWritten (item i is) = IsWritten i × AreWritten is
-
-  -- each key and each value
-  pub PairsAreWritten : Pairs → Type 0
-  PairsAreWritten no_pairs = Unit {0}
-  PairsAreWritten (pair k v ps) = IsWritten k × IsWritten v × PairsAreWritten ps
+-- ---- the tree of an item that was written
 
 -- false, true, and null for every other simple value
 abbrev pub simple_tree : ℕ → Tree

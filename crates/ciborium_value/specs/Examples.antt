@@ -33,8 +33,8 @@ hex digits = bytes_of (codes digits)
 -- ---- what the examples say
 
 -- the bytes spell an item that means the tree
-abbrev pub Means : List ℕ → Tree → Type 0
-Means b v = (i : Item) × Spells b i × (meaning i ≡ Some v)
+abbrev pub HasMeaning : List ℕ → Tree → Type 0
+HasMeaning b v = (i : Item) × Spells b i × (meaning i ≡ Some v)
 
 -- the limit where none is named
 abbrev pub default_limit : ℕ
@@ -88,14 +88,14 @@ two_to_127 = 0x80 ∷ replicate 15 0
 
 -- every width, open forms (RFC 8949, sections 3.1 to 3.3 and appendix A)
 pub record SpelledExamples : Type 0 where
-  pub zero : Means (hex "00") (unsigned 0)
-  pub zero_in_a_wide_head : Means (hex "1800") (unsigned 0)
-  pub least_integer : Means (hex "3bffffffffffffffff") (negative (2 ^ 64 - 1))
-  pub open_arrays : Means (hex "9f018202039f0405ffff") nested_arrays
-  pub definite_arrays : Means (hex "8301820203820405") nested_arrays
-  pub open_map : Means (hex "bf61610161629f0203ffff") nested_map
-  pub open_bytes : Means (hex "5f42010243030405ff") (bytes (hex "0102030405"))
-  pub undefined : Means (hex "f7") null
+  pub zero : HasMeaning (hex "00") (unsigned 0)
+  pub zero_in_a_wide_head : HasMeaning (hex "1800") (unsigned 0)
+  pub least_integer : HasMeaning (hex "3bffffffffffffffff") (negative (2 ^ 64 - 1))
+  pub open_arrays : HasMeaning (hex "9f018202039f0405ffff") nested_arrays
+  pub definite_arrays : HasMeaning (hex "8301820203820405") nested_arrays
+  pub open_map : HasMeaning (hex "bf61610161629f0203ffff") nested_map
+  pub open_bytes : HasMeaning (hex "5f42010243030405ff") (bytes (hex "0102030405"))
+  pub undefined : HasMeaning (hex "f7") null
   pub null_is_written : encoding null ≡ hex "f6"
 
 -- bignums (RFC 8949, section 3.4.3)
@@ -104,7 +104,7 @@ pub record FoldingExamples : Type 0 where
   pub empty_is_minus_one : IsReadAs (hex "c340") 0 (Some 0) (negative 0)
   pub one : IsReadAs (hex "c24101") 0 (Some 0) (unsigned 1)
   pub zeros_are_dropped : IsReadAs (hex "c24a00010000000000000000") 0 (Some 0) (tag 2 (bytes (0x01 ∷ replicate 8 0)))
-  pub open_stays : Means (hex "c25f4101ff") (tag 2 (bytes (0x01 ∷ [])))
+  pub open_stays : HasMeaning (hex "c25f4101ff") (tag 2 (bytes (0x01 ∷ [])))
   pub too_large_has_none : meaning (item.tag 3 (item.bytes false two_to_127)) ≡ None
   pub unsigned_has : meaning (item.tag 2 (item.bytes false two_to_127)) ≡ Some (tag 2 (bytes two_to_127))
   pub in_a_tree : folded (array_of_one (tag 2 (bytes (0x01 ∷ [])))) ≡ Some (array_of_one (unsigned 1))

@@ -1,5 +1,5 @@
 -- The tree that an item means, or none (RFC 8949, sections 3.1 to 3.4; bignums: section 3.4.3).
-use Rattle.std.specs.Prelude.{ℕ, ◌+◌, ◌*◌, ◌^◌, List, [], ◌∷◌, length, Bool, true, false, if◌then◌else◌, ◌||◌, ◌==◌, nat_lt, nat_le, pos, negsuc, Option, Some, None, IsSome, option_map}
+use Rattle.std.specs.Prelude.{ℕ, ◌+◌, ◌*◌, ◌^◌, List, [], ◌∷◌, length, Bool, true, false, if◌then◌else◌, ◌||◌, ◌==◌, nat_lt, nat_le, pos, negsuc, Option, Some, None, option_map}
 use Rattle.ciborium_ll.specs.Item as item
 use Rattle.ciborium_ll.specs.Item.{Item, Items, Pairs}
 use Rattle.ciborium_value.specs.Tree.{Tree, integer, bytes, text, boolean, null, tag, array, map, Trees, no_trees, tree, TreePairs, no_tree_pairs, tree_pair}
@@ -52,10 +52,6 @@ short_string (item.float raw) = None
 -- the bytes over which a tag folds: tag 2 or 3 over a definite byte string of at most 16 bytes
 abbrev pub folding_bytes : ℕ → Item → Option (List ℕ)
 folding_bytes t i = if is_bignum_tag t then short_string i else None
-
--- the tag folds over the item
-abbrev pub Folds : ℕ → Item → Type 0
-Folds t i = IsSome (folding_bytes t i)
 
 -- what a tag means: a number over the bytes on which it folds, else the tag over what its item means
 abbrev pub tag_meaning : ℕ → Option (List ℕ) → Option Tree → Option Tree

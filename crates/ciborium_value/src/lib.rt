@@ -1,6 +1,7 @@
-//! The tree of a CBOR item (RFC 8949): what items mean, when bytes are refused, and what is written.
+//! The tree of a CBOR item (RFC 8949): what items mean, when bytes are refused, what is written.
 #![tactic(auto)]
 
+pub mod bignum;
 mod clone;
 mod kind;
 pub mod stack;

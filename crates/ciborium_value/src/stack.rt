@@ -1,8 +1,10 @@
 //! The containers and tags that are open while a value is put together.
 
-ghost use Rattle.std.specs.Prelude.{◌≡◌, ◌∷◌, [], IfOk, List, MatchOption, None, OnErr, OnOk, Some, drop, length, map, option_map};
+ghost use Rattle.std.specs.Prelude.{◌≡◌, ◌∷◌, [], IfOk, List, MatchOption, None, OnErr, OnOk, Some};
+ghost use Rattle.std.specs.Prelude.{drop, length, map, option_map};
 ghost use Rattle.ciborium_value.specs.Open.{array, closed, ended, fill, map as open_map, placed};
-ghost use Rattle.ciborium_value.specs.Stack.{filled_of, open_of, opened, opens, opens_of, placed_of};
+ghost use Rattle.ciborium_value.specs.Stack.{filled_of, open_of, opened, opens, opens_of};
+ghost use Rattle.ciborium_value.specs.Stack.{placed_of};
 ghost use Rattle.ciborium_value.specs.View.{pair_trees, tree_of};
 
 use crate::tree::Value;
@@ -64,7 +66,8 @@ fn fill_array(
     behind: &mut Option<usize>,
     value: Value,
 ) -> Result<Option<Value>, AllocError>
-    ensures { IfOk result (λ r. filled_of r (array (map tree_of items.new.items) behind.new) ≡ fill (array (map tree_of items.old.items) behind.old) (tree_of value)) }
+    ensures { IfOk result (λ r. filled_of r (array (map tree_of items.new.items) behind.new) ≡
+        fill (array (map tree_of items.old.items) behind.old) (tree_of value)) }
 {
     if let Some(0) = *behind {
         items.reserve_exact(1)?;
@@ -90,8 +93,10 @@ fn fill_map(
     key: &mut Option<Value>,
     value: Value,
 ) -> Result<Option<Value>, AllocError>
-    ensures { IfOk result (λ r. filled_of r (open_map (map pair_trees pairs.new.items) behind.new (option_map tree_of key.new)) ≡
-        fill (open_map (map pair_trees pairs.old.items) behind.old (option_map tree_of key.old)) (tree_of value)) }
+    ensures { IfOk result (λ r. filled_of r
+        (open_map (map pair_trees pairs.new.items) behind.new (option_map tree_of key.new)) ≡ fill
+        (open_map (map pair_trees pairs.old.items) behind.old (option_map tree_of key.old))
+        (tree_of value)) }
 {
     let Some(key) = mem::replace(key, None) else {
         *key = Some(value);
@@ -114,7 +119,8 @@ fn fill_map(
 // Puts a value into a frame. Answers what it completes.
 #[inline(always)]
 fn fill(alloc: Global, frame: &mut Frame, value: Value) -> Result<Option<Value>, AllocError>
-    ensures { IfOk result (λ r. filled_of r (open_of frame.new) ≡ fill (open_of frame.old) (tree_of value)) }
+    ensures { IfOk result (λ r. filled_of r (open_of frame.new) ≡
+        fill (open_of frame.old) (tree_of value)) }
 {
     match frame {
         Frame::Array { items, behind } => fill_array(alloc, items, behind, value),
@@ -126,7 +132,8 @@ fn fill(alloc: Global, frame: &mut Frame, value: Value) -> Result<Option<Value>,
 // Puts a value into the innermost frame, and each value that this completes into the next one.
 #[inline(always)]
 fn place(alloc: Global, frames: &mut Vec<Frame>, value: Value) -> Result<Option<Value>, AllocError>
-    ensures { IfOk result (λ r. placed_of r (opens frames.new.items) ≡ placed (opens frames.old.items) (tree_of value)) }
+    ensures { IfOk result (λ r. placed_of r (opens frames.new.items) ≡
+        placed (opens frames.old.items) (tree_of value)) }
 {
     let mut value = value;
     while let Some(frame) = frames.last_mut() {
@@ -197,7 +204,8 @@ impl Stack {
     /// open any more. Refused, what was open is given up.
     #[inline(always)]
     pub fn place(&mut self, value: Value) -> Result<Option<Value>, AllocError>
-        ensures { IfOk result (λ r. placed_of r (opens_of self.new) ≡ placed (opens_of self.old) (tree_of value)) }
+        ensures { IfOk result (λ r. placed_of r (opens_of self.new) ≡
+            placed (opens_of self.old) (tree_of value)) }
     {
         place(self.alloc, &mut self.frames, value)
     }
@@ -205,7 +213,10 @@ impl Stack {
     /// Ends the innermost container at a break and takes it off, if a break may stand there. `None`
     /// gives up the innermost.
     pub fn close(&mut self) -> Option<Value>
-        ensures { MatchOption result ((closed (opens_of self.old) ≡ None) × (opens_of self.new ≡ drop 1 (opens_of self.old))) (λ v. closed (opens_of self.old) ≡ Some (tree_of v, opens_of self.new)) }
+        ensures { MatchOption result
+            ((closed (opens_of self.old) ≡ None) ×
+            (opens_of self.new ≡ drop 1 (opens_of self.old)))
+            (λ v. closed (opens_of self.old) ≡ Some (tree_of v, opens_of self.new)) }
     {
         match self.frames.pop() {
             Some(frame) => end(frame),

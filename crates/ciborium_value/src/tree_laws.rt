@@ -1,11 +1,15 @@
 //! What holds of values and their encodings, whatever the code: each law is the contract of a
 //! function that does nothing.
 
-ghost use Rattle.ciborium_value.specs.Examples.{CornerExamples, CountedExamples, FoldingExamples, RefusedExamples, SpelledExamples, WrittenExamples};
+ghost use Rattle.ciborium_value.specs.Examples.{CornerExamples, CountedExamples, FoldingExamples};
+ghost use Rattle.ciborium_value.specs.Examples.{RefusedExamples, SpelledExamples, WrittenExamples};
 ghost use Rattle.ciborium_value.specs.FoldingLaws.{EncodingIsGood, FoldsOnce, WrittenMeansFolded};
 ghost use Rattle.ciborium_value.specs.Laws.{GoodOrRefused, NeverBoth, OneRefusal};
 ghost use Rattle.ciborium_value.specs.Number.{BytesHoldNumber, NoLeadingZeros};
-ghost use Rattle.ciborium_value.specs.OrderLaws.{EqualAsTrees, EqualityIsEquivalence, IntegersAsTrees, OrderedAsTrees, PartlyOrderedAsTrees, TiedWhereEqual, ValuesAreOrdered};
+ghost use Rattle.ciborium_value.specs.OrderLaws.{EqualAsTrees, EqualityIsEquivalence};
+ghost use Rattle.ciborium_value.specs.OrderLaws.{IntegersAsTrees, OrderedAsTrees};
+ghost use Rattle.ciborium_value.specs.OrderLaws.{PartlyOrderedAsTrees, TiedWhereEqual};
+ghost use Rattle.ciborium_value.specs.OrderLaws.{ValuesAreOrdered};
 
 /// All bytes, at every offset and under every limit of levels, begin with a good item or are
 /// refused, never both, and with one refusal alone.
@@ -15,8 +19,9 @@ pub fn good_or_refused()
     ensures one_refusal { OneRefusal }
 {}
 
-/// What is written for a tree means the folded tree, and folding twice is folding once. So a tree that
-/// a program can hold, and that folds, is read back as the folded tree (RFC 8949, section 3.4.3).
+/// What is written for a tree means the folded tree, and folding twice is folding once. So a tree
+/// that a program can hold, and that folds, is read back as the folded tree (RFC 8949, section
+/// 3.4.3).
 pub fn meaning_of_written_is_folded()
     ensures meaning { WrittenMeansFolded }
     ensures once { FoldsOnce }
@@ -51,8 +56,8 @@ pub fn bytes_of_bignums()
     ensures shortest { NoLeadingZeros }
 {}
 
-/// The canonical order of two numbers, which `Integer::canonical_cmp` answers, is the canonical order
-/// of them as trees (RFC 8949, section 4.2.3; RFC 7049, section 3.9).
+/// The canonical order of two numbers, which `Integer::canonical_cmp` answers, is the canonical
+/// order of them as trees (RFC 8949, section 4.2.3; RFC 7049, section 3.9).
 pub fn order_of_integers()
     ensures { IntegersAsTrees }
 {}

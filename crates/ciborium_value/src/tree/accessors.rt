@@ -7,7 +7,8 @@ ghost use Rattle.std.specs.contracts.alloc.Global as global;
 ghost use Rattle.std.specs.contracts.impls.GlobalAllocator.TheImpl.{ghosts};
 ghost use Rattle.ciborium_value.specs.LentParts.{LendsTag};
 ghost use Rattle.ciborium_value.specs.Rows.{array_row, bytes_row, map_row, text_row};
-ghost use Rattle.ciborium_value.specs.Variants.{IsInteger, IsBytes, IsText, IsTextOf, IsBool, IsTag, IsTagOf, IsArray, IsMap};
+ghost use Rattle.ciborium_value.specs.Variants.{IsArray, IsBool, IsBytes, IsInteger, IsMap};
+ghost use Rattle.ciborium_value.specs.Variants.{IsTag, IsTagOf, IsText, IsTextOf};
 ghost use Rattle.ciborium_value.specs.contracts.tree.Value.{the_row};
 ghost use Rattle.ciborium_value.specs.declared.tree.Value as value;
 
@@ -62,10 +63,11 @@ impl Value {
         }
     }
 
-    /// The bytes at that variant, else None. What is written there is the content afterwards, and the
-    /// variant stays.
+    /// The bytes at that variant, else None. What is written there is the content afterwards, and
+    /// the variant stays.
     pub fn as_bytes_mut(&mut self) -> Option<&mut Vec<u8>>
-        ensures* writes_back { sem 𝓛 (LendsIf the_row bytes_row self.entry result value.Bytes self.old) }
+        ensures* writes_back { sem 𝓛
+            (LendsIf the_row bytes_row self.entry result value.Bytes self.old) }
         ensures some { IfSome result (λ b. self.old ≡ value.Bytes b.now) }
         ensures none { IfNone result (¬ IsBytes self.old) }
     {
@@ -105,10 +107,11 @@ impl Value {
         }
     }
 
-    /// The text at that variant, else None. What is written there is the content afterwards, and the
-    /// variant stays.
+    /// The text at that variant, else None. What is written there is the content afterwards, and
+    /// the variant stays.
     pub fn as_text_mut(&mut self) -> Option<&mut String>
-        ensures* writes_back { sem 𝓛 (LendsIf the_row text_row self.entry result value.Text self.old) }
+        ensures* writes_back { sem 𝓛
+            (LendsIf the_row text_row self.entry result value.Text self.old) }
         ensures some { IfSome result (λ t. self.old ≡ value.Text t.now) }
         ensures none { IfNone result (¬ IsText self.old) }
     {
@@ -184,8 +187,8 @@ impl Value {
         }
     }
 
-    /// The number and the content at that variant, else None. What is written there is the number and
-    /// the content afterwards, and the variant stays.
+    /// The number and the content at that variant, else None. What is written there is the number
+    /// and the content afterwards, and the variant stays.
     pub fn as_tag_mut(&mut self) -> Option<(&mut u64, &mut Value)>
         ensures* writes_back { sem 𝓛 (LendsTag self.entry result) }
         ensures some { IfSome result (λ p. IsTagOf self.old p.0.now p.1.now) }
@@ -227,10 +230,11 @@ impl Value {
         }
     }
 
-    /// The items at that variant, else None. What is written there is the content afterwards, and the
-    /// variant stays.
+    /// The items at that variant, else None. What is written there is the content afterwards, and
+    /// the variant stays.
     pub fn as_array_mut(&mut self) -> Option<&mut Vec<Value>>
-        ensures* writes_back { sem 𝓛 (LendsIf the_row array_row self.entry result value.Array self.old) }
+        ensures* writes_back { sem 𝓛
+            (LendsIf the_row array_row self.entry result value.Array self.old) }
         ensures some { IfSome result (λ vs. self.old ≡ value.Array vs.now) }
         ensures none { IfNone result (¬ IsArray self.old) }
     {
@@ -270,10 +274,11 @@ impl Value {
         }
     }
 
-    /// The pairs at that variant, else None. What is written there is the content afterwards, and the
-    /// variant stays.
+    /// The pairs at that variant, else None. What is written there is the content afterwards, and
+    /// the variant stays.
     pub fn as_map_mut(&mut self) -> Option<&mut Vec<(Value, Value)>>
-        ensures* writes_back { sem 𝓛 (LendsIf the_row map_row self.entry result value.Map self.old) }
+        ensures* writes_back { sem 𝓛
+            (LendsIf the_row map_row self.entry result value.Map self.old) }
         ensures some { IfSome result (λ ps. self.old ≡ value.Map ps.now) }
         ensures none { IfNone result (¬ IsMap self.old) }
     {

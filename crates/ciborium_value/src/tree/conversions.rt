@@ -1,15 +1,16 @@
 //! Values from what the language has.
 
 ghost use Rattle.std.specs.Prelude.{◌≡◌, pos, IfOk, encode_utf8};
-ghost use Rattle.ciborium_value.specs.Meaning.{without_zeros};
 ghost use Rattle.ciborium_value.specs.Number.{number_tree, shortest_bytes};
 ghost use Rattle.ciborium_value.specs.Tree as trees;
 ghost use Rattle.ciborium_value.specs.View.{tree_of, trees_of, tree_pairs_of};
 ghost use Rattle.ciborium_value.specs.declared.tree.Value as value;
 
+use crate::bignum::{tag_over, without_leading_zeros};
 use crate::clone::{copy_pairs, copy_values};
 use crate::tree::Value;
 use ciborium_ll::Integer;
+use ciborium_ll::tag::{BIGNEG, BIGPOS};
 use std::alloc::{AllocError, Global};
 use std::convert::TryFrom;
 
@@ -143,7 +144,8 @@ impl From<Vec<(Value, Value)>> for Value {
 
 // ---- with memory
 
-/// Each call leaves its arguments as they were, and answers the error only where memory was refused.
+/// Each call leaves its arguments as they were, and answers the error only where memory was
+/// refused.
 impl Value {
     /// The integer, where it is below 2^64. A greater number is tag 2 over its bytes, the most
     /// significant first, without leading zeros (RFC 8949, section 3.4.3).
@@ -152,20 +154,20 @@ impl Value {
     {
         match Integer::try_from(number) {
             Ok(number) => Ok(Value::Integer(number)),
-            Err(_) => bignum(alloc, 2, number),
+            Err(_) => tag_number(alloc, BIGPOS, number),
         }
     }
 
-    /// The integer, where it is from -2^64 to 2^64 - 1. A greater number is tag 2 over its bytes, and
-    /// a lower one tag 3 over those of n for -1 - n, the most significant first, without leading
-    /// zeros (section 3.4.3).
+    /// The integer, where it is from -2^64 to 2^64 - 1. A greater number is tag 2 over its bytes,
+    /// and a lower one tag 3 over those of n for -1 - n, the most significant first, without
+    /// leading zeros (section 3.4.3).
     pub fn from_i128(alloc: Global, number: i128) -> Result<Value, AllocError>
         ensures { IfOk result (λ v. tree_of v ≡ number_tree number) }
     {
         match Integer::try_from(number) {
             Ok(number) => Ok(Value::Integer(number)),
-            Err(_) if number < 0 => bignum(alloc, 3, (-1 - number) as u128),
-            Err(_) => bignum(alloc, 2, number as u128),
+            Err(_) if number < 0 => tag_number(alloc, BIGNEG, (-1 - number) as u128),
+            Err(_) => tag_number(alloc, BIGPOS, number as u128),
         }
     }
 
@@ -211,21 +213,10 @@ impl Value {
     }
 }
 
-/// The tag over the bytes of the number, without leading zeros.
-fn bignum(alloc: Global, tag: u64, number: u128) -> Result<Value, AllocError>
+// The tag over the bytes of the number, without leading zeros.
+#[tactic(auto, unfolding(crate::specs::Number::shortest_bytes))]
+fn tag_number(alloc: Global, tag: u64, number: u128) -> Result<Value, AllocError>
     ensures { IfOk result (λ v. tree_of v ≡ trees.tag tag (trees.bytes (shortest_bytes number))) }
 {
-    let all = number.to_be_bytes();
-    let bytes = Value::from_bytes(alloc, significant(&all))?;
-    Ok(Value::Tag(tag, Box::new(alloc, bytes)?))
-}
-
-/// The bytes behind the leading zeros.
-fn significant(bytes: &[u8]) -> &[u8]
-    ensures { result.now ≡ without_zeros bytes.now }
-{
-    match bytes {
-        [0, rest @ ..] => significant(rest),
-        _ => bytes,
-    }
+    tag_over(alloc, tag, without_leading_zeros(&number.to_be_bytes()))
 }

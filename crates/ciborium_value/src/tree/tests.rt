@@ -20,35 +20,40 @@ fn tagged(alloc: Global, tag: u64, content: Value) -> Result<Value, AllocError> 
     Ok(Value::Tag(tag, Box::new(alloc, content)?))
 }
 
+// values in their order
+fn ascending(alloc: Global) -> Result<Vec<Value>, AllocError> {
+    let values = vec![in alloc;
+        Value::from(1000u16),
+        Value::from_bytes(alloc, &[])?,
+        Value::from_text(alloc, "")?,
+        Value::Bool(false),
+        Value::Null,
+        tagged(alloc, 1, Value::Null)?,
+        tagged(alloc, 2, Value::from(0u8))?,
+        array(alloc, &[1, 2])?,
+        array(alloc, &[2])?,
+        Value::Map(Vec::new(alloc)),
+    ]?;
+    Ok(values)
+}
+
 #[test]
 fn order_by_variant_and_content(rt: HostRuntime) -> Result<(), Fail> {
-    let alloc = rt.alloc();
-    let mut values = vec![in alloc;
-        Value::Map(Vec::new(alloc)),
-        array(alloc, &[2])?,
-        array(alloc, &[1, 2])?,
-        tagged(alloc, 2, Value::from(0u8))?,
-        tagged(alloc, 1, Value::Null)?,
-        Value::Null,
-        Value::Bool(false),
-        Value::from_text(alloc, "")?,
-        Value::from_bytes(alloc, &[])?,
-        Value::from(1000u16),
-    ]?;
-    values.sort()?;
-    let sorted = vec![in alloc;
-        Value::from(1000u16),
-        Value::from_bytes(alloc, &[])?,
-        Value::from_text(alloc, "")?,
-        Value::Bool(false),
-        Value::Null,
-        tagged(alloc, 1, Value::Null)?,
-        tagged(alloc, 2, Value::from(0u8))?,
-        array(alloc, &[1, 2])?,
-        array(alloc, &[2])?,
-        Value::Map(Vec::new(alloc)),
-    ]?;
-    assert_eq!(rt; values, sorted);
+    let values = ascending(rt.alloc())?;
+    for (place, value) in values.iter().enumerate() {
+        for (other_place, other) in values.iter().enumerate() {
+            assert_eq!(rt;
+                value.cmp(other),
+                place.cmp(&other_place),
+                "{value:?} and {other:?}"
+            );
+            assert_eq!(rt;
+                value == other,
+                place == other_place,
+                "{value:?} and {other:?}"
+            );
+        }
+    }
     Ok(())
 }
 
@@ -128,63 +133,61 @@ fn accessors_answer_by_variant(rt: HostRuntime) -> Result<(), Fail> {
     Ok(())
 }
 
-#[test]
-fn scalars(rt: HostRuntime) {
-    let seven = Integer::from(7u8);
-    assert_eq!(rt; Value::from(seven).as_integer(), Some(seven));
-    assert_eq!(rt; Value::from(seven).into_integer(), Ok(seven));
-    assert_eq!(rt; Value::from(true).as_bool(), Some(true));
-    assert_eq!(rt; Value::from(true).into_bool(), Ok(true));
-    assert_eq!(rt; Value::Bool(true).into_text(), Err(Value::Bool(true)));
+// What the `into_` call for this variant answers, as a value again. Null has no such call.
+fn converted(value: Value, variant: usize) -> Result<Value, Value> {
+    match variant {
+        0 => Ok(Value::from(value.into_integer()?)),
+        1 => Ok(Value::from(value.into_bytes()?)),
+        2 => Ok(Value::from(value.into_text()?)),
+        3 => Ok(Value::from(value.into_bool()?)),
+        4 => Err(value),
+        5 => {
+            let (tag, content) = value.into_tag()?;
+            Ok(Value::Tag(tag, content))
+        }
+        6 => Ok(Value::from(value.into_array()?)),
+        _ => Ok(Value::from(value.into_map()?)),
+    }
 }
 
 #[test]
-fn strings(rt: HostRuntime) -> Result<(), Fail> {
+fn conversions_answer_by_variant(rt: HostRuntime) -> Result<(), Fail> {
+    for (place, value) in each_variant(rt.alloc())?.iter().enumerate() {
+        for variant in 0..8 {
+            let converts = variant == place && variant != 4;
+            match converted(value.clone()?, variant) {
+                Ok(same) => assert!(rt; converts && same == *value, "at {value:?}"),
+                Err(same) => assert!(rt; !converts && same == *value, "at {value:?}"),
+            }
+        }
+    }
+    Ok(())
+}
+
+#[test]
+fn contents(rt: HostRuntime) -> Result<(), Fail> {
     let alloc = rt.alloc();
-    let bytes = Value::from_bytes(alloc, &[1, 2])?;
-    assert_eq!(rt;
-        bytes.as_bytes().ok_or("bytes")?.as_slice(),
-        [1, 2].as_slice()
-    );
-    let bytes = bytes.into_bytes().ok().ok_or("bytes")?;
-    assert_eq!(rt; bytes.as_slice(), [1, 2].as_slice());
-    let text = Value::from_text(alloc, "a")?;
-    assert_eq!(rt; text.as_text(), Some("a"));
-    assert_eq!(rt; text.into_text().ok().ok_or("a text")?.as_str(), "a");
+    let seven = Integer::from(7u8);
+    assert_eq!(rt; Value::from(seven).as_integer(), Some(seven));
+    assert_eq!(rt; Value::from(true).as_bool(), Some(true));
+    assert_eq!(rt; Value::from_text(alloc, "a")?.as_text(), Some("a"));
     assert_eq!(rt;
         Value::from_char(alloc, '\u{fc}')?.as_text(),
         Some("\u{fc}")
     );
-    Ok(())
-}
-
-#[test]
-fn tags(rt: HostRuntime) -> Result<(), Fail> {
-    let tag = tagged(rt.alloc(), 61, Value::Null)?;
-    let (number, content) = tag.as_tag().ok_or("a tag")?;
-    assert_eq!(rt; number, 61);
-    assert!(rt; content.is_null());
-    let (number, content) = tag.into_tag().ok().ok_or("a tag")?;
-    assert_eq!(rt; number, 61);
-    assert!(rt; content.is_null());
-    Ok(())
-}
-
-#[test]
-fn lists(rt: HostRuntime) -> Result<(), Fail> {
-    let alloc = rt.alloc();
-    let values = Value::from_values(alloc, &[Value::Null])?;
     assert_eq!(rt;
-        values.as_array().ok_or("an array")?.as_slice(),
-        [Value::Null].as_slice()
+        tagged(alloc, 61, Value::Null)?.as_tag(),
+        Some((61, &Value::Null))
     );
-    let values = values.into_array().ok().ok_or("an array")?;
-    assert_eq!(rt; values.as_slice(), [Value::Null].as_slice());
-    let pair = [(Value::Null, Value::Bool(true))];
-    let pairs = Value::from_pairs(alloc, &pair)?;
-    assert_eq!(rt; pairs.as_map().ok_or("a map")?.as_slice(), pair.as_slice());
-    let pairs = pairs.into_map().ok().ok_or("a map")?;
-    assert_eq!(rt; pairs.as_slice(), pair.as_slice());
+    let bytes = vec![in alloc; 1, 2]?;
+    assert_eq!(rt; Value::from_bytes(alloc, &bytes)?.as_bytes(), Some(&bytes));
+    let values = vec![in alloc; Value::Null]?;
+    assert_eq!(rt;
+        Value::from_values(alloc, &values)?.as_array(),
+        Some(&values)
+    );
+    let pairs = vec![in alloc; (Value::Null, Value::Bool(true))]?;
+    assert_eq!(rt; Value::from_pairs(alloc, &pairs)?.as_map(), Some(&pairs));
     Ok(())
 }
 
@@ -204,8 +207,8 @@ fn writes_into_a_tag(rt: HostRuntime) -> Result<(), Fail> {
     Ok(())
 }
 
-// What `as_tag_mut` lends, out of a slice of one value: the checker tells a caller what two references
-// write back only where a slice lends them.
+// What `as_tag_mut` lends, out of a slice of one value: the checker tells a caller what two
+// references write back only where a slice lends them.
 fn lone_tag_mut(values: &mut [Value]) -> Option<(&mut u64, &mut Value)>
     requires { length values.old ≡ 1 }
     ensures* writes_back { sem 𝓛 (LendsTagIn values.entry result) }
@@ -253,63 +256,46 @@ fn writes_into_strings_and_lists(rt: HostRuntime) -> Result<(), Fail> {
 }
 
 #[test]
-fn from_numbers(rt: HostRuntime) {
+fn numbers(rt: HostRuntime) {
     let five = Value::Integer(Integer::from(5u8));
-    assert_eq!(rt; Value::from(5u8), five);
-    assert_eq!(rt; Value::from(5u16), five);
-    assert_eq!(rt; Value::from(5u32), five);
-    assert_eq!(rt; Value::from(5u64), five);
-    assert_eq!(rt; Value::from(5i8), five);
-    assert_eq!(rt; Value::from(5i16), five);
-    assert_eq!(rt; Value::from(5i32), five);
-    assert_eq!(rt; Value::from(5i64), five);
-    assert_eq!(rt; Value::from(Integer::from(5u8)), five);
-    assert_eq!(rt; Value::from(false), Value::Bool(false));
-}
-
-#[test]
-fn from_owned(rt: HostRuntime) -> Result<(), Fail> {
-    let alloc = rt.alloc();
-    let text = String::from_str(alloc, "a")?;
-    assert_eq!(rt; Value::from(text).as_text(), Some("a"));
-    let bytes = vec![in alloc; 1u8, 2]?;
-    assert_eq!(rt; Value::from(bytes), Value::from_bytes(alloc, &[1, 2])?);
-    let values = vec![in alloc; Value::Null]?;
-    assert_eq!(rt;
-        Value::from(values),
-        Value::from_values(alloc, &[Value::Null])?
-    );
-    let pairs = vec![in alloc; (Value::Null, Value::Bool(true))]?;
-    let copied = Value::from_pairs(alloc, &[(Value::Null, Value::Bool(true))])?;
-    assert_eq!(rt; Value::from(pairs), copied);
-    Ok(())
-}
-
-fn bignum(alloc: Global, tag: u64, bytes: &[u8]) -> Result<Value, AllocError> {
-    tagged(alloc, tag, Value::from_bytes(alloc, bytes)?)
+    let values = [
+        Value::from(5u8),
+        Value::from(5u16),
+        Value::from(5u32),
+        Value::from(5u64),
+        Value::from(5i8),
+        Value::from(5i16),
+        Value::from(5i32),
+        Value::from(5i64),
+        Value::from(Integer::from(5u8)),
+    ];
+    for value in &values {
+        assert_eq!(rt; *value, five);
+    }
 }
 
 // RFC 8949, section 3.4.3: a bignum's bytes have no leading zeros.
 #[test]
-fn bignums(rt: HostRuntime) -> Result<(), Fail> {
+fn large_numbers(rt: HostRuntime) -> Result<(), Fail> {
     let alloc = rt.alloc();
     let all = [0xffu8; 16];
-    let mut low = [0xffu8; 16];
+    let mut low = all;
     low[0] = 0x7f;
     let nine = [1u8, 0, 0, 0, 0, 0, 0, 0, 0];
-    assert_eq!(rt;
-        Value::from_u128(alloc, u128::MAX)?,
-        bignum(alloc, 2, &all)?
-    );
-    assert_eq!(rt;
-        Value::from_i128(alloc, i128::MAX)?,
-        bignum(alloc, 2, &low)?
-    );
-    assert_eq!(rt;
-        Value::from_i128(alloc, i128::MIN)?,
-        bignum(alloc, 3, &low)?
-    );
-    assert_eq!(rt; Value::from_u128(alloc, 1 << 64)?, bignum(alloc, 2, &nine)?);
+    for (number, bytes) in [(u128::MAX, all.as_slice()), (1 << 64, nine.as_slice())] {
+        let bytes = Value::from_bytes(alloc, bytes)?;
+        assert_eq!(rt;
+            Value::from_u128(alloc, number)?.as_tag(),
+            Some((2, &bytes))
+        );
+    }
+    for (number, tag) in [(i128::MAX, 2), (i128::MIN, 3)] {
+        let bytes = Value::from_bytes(alloc, &low)?;
+        assert_eq!(rt;
+            Value::from_i128(alloc, number)?.as_tag(),
+            Some((tag, &bytes))
+        );
+    }
     Ok(())
 }
 
@@ -320,9 +306,10 @@ fn small_numbers(rt: HostRuntime) -> Result<(), Fail> {
         Value::from_u128(alloc, (1 << 64) - 1)?,
         Value::from(u64::MAX)
     );
-    assert_eq!(rt; Value::from_i128(alloc, -5)?, Value::from(-5i8));
-    let edge = Value::from_i128(alloc, -(1i128 << 64))?;
-    assert_eq!(rt; edge.as_integer().map(i128::from), Some(-(1i128 << 64)));
+    for number in [-5i128, -(1 << 64)] {
+        let integer = Value::from_i128(alloc, number)?.as_integer();
+        assert_eq!(rt; integer.map(i128::from), Some(number));
+    }
     Ok(())
 }
 

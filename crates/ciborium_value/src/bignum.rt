@@ -1,0 +1,83 @@
+//! Bignums: tag 2 over the bytes of a number n, and tag 3 over those of n for -1 - n, the most
+//! significant first (RFC 8949, section 3.4.3).
+
+#[cfg(test)]
+mod tests;
+
+ghost use Rattle.std.specs.Prelude.{◌≡◌, ◌≤◌, IfErr, IfOk, None, Some, length, true};
+ghost use Rattle.ciborium_value.specs.Meaning.{big_endian, bignum_meaning, is_bignum_tag};
+ghost use Rattle.ciborium_value.specs.Meaning.{without_zeros};
+ghost use Rattle.ciborium_value.specs.Tree as trees;
+ghost use Rattle.ciborium_value.specs.View.{tree_of};
+ghost use Rattle.ciborium_value.specs.declared.bignum.FoldError.TheVariants.{TooLarge};
+
+use crate::tree::Value;
+use ciborium_ll::Integer;
+use ciborium_ll::tag::BIGNEG;
+use std::alloc::{AllocError, Global};
+
+/// A bignum's tag folds over a definite byte string of at most this many bytes.
+pub const GREATEST_FOLDED_SIZE: usize = 16;
+
+/// Why a bignum's tag folds to no value.
+#[derive(Clone, Copy, Debug, PartialEq, Eq)]
+pub enum FoldError {
+    /// The number is negative, and no `i128` holds it.
+    TooLarge,
+    /// Memory was refused.
+    Memory,
+}
+
+/// The bytes behind the leading zeros. This takes no memory.
+pub fn without_leading_zeros(bytes: &[u8]) -> &[u8]
+    ensures { result.now ≡ without_zeros bytes.now }
+{
+    let mut rest = bytes;
+    while let [0, tail @ ..] = rest {
+        rest = tail;
+    }
+    rest
+}
+
+/// The tag over a byte string, with a copy of the bytes.
+pub fn tag_over(alloc: Global, tag: u64, bytes: &[u8]) -> Result<Value, AllocError>
+    ensures { IfOk result (λ v. tree_of v ≡ trees.tag tag (trees.bytes bytes.now)) }
+{
+    let content = Value::Bytes(Vec::from_slice(alloc, bytes)?);
+    Ok(Value::Tag(tag, Box::new(alloc, content)?))
+}
+
+/// What tag 2 or 3 over these bytes means: the integer, where it is in range, else the tag over the
+/// bytes without leading zeros. A negative number that no `i128` holds means nothing.
+#[tactic(auto, unfolding(crate::specs::Meaning::bignum_meaning))]
+pub fn fold(alloc: Global, tag: u64, bytes: &[u8]) -> Result<Value, FoldError>
+    requires tag { is_bignum_tag tag ≡ true }
+    requires short { length bytes.now ≤ 16 }
+    ensures ok { IfOk result (λ v. bignum_meaning tag bytes.now ≡ Some (tree_of v)) }
+    ensures err { IfErr result (λ e. e ≡ TooLarge → bignum_meaning tag bytes.now ≡ None) }
+{
+    let number = read_number(bytes);
+    if number < 1 << 64 {
+        let integer = Integer::from_head(tag == BIGNEG, number as u64);
+        return Ok(Value::Integer(integer));
+    }
+    if tag == BIGNEG && number >= 1 << 127 {
+        return Err(FoldError::TooLarge);
+    }
+    match tag_over(alloc, tag, without_leading_zeros(bytes)) {
+        Ok(value) => Ok(value),
+        Err(AllocError) => Err(FoldError::Memory),
+    }
+}
+
+// The big-endian number of at most 16 bytes.
+fn read_number(bytes: &[u8]) -> u128
+    requires { length bytes.now ≤ 16 }
+    ensures { result ≡ big_endian bytes.now }
+{
+    let mut number: u128 = 0;
+    for byte in bytes {
+        number = number * 256 + u128::from(*byte);
+    }
+    number
+}
