@@ -3,7 +3,7 @@
 ghost use Rattle.std.specs.Prelude.{◌≡◌, ◌<◌, ◌++◌, IfErr, IsSome, OnErr, OnOk};
 ghost use Rattle.ciborium_ll.specs.Bytes.{AreBytes};
 ghost use Rattle.ciborium_ll.specs.Header.{IsWritable, header_bytes};
-ghost use Rattle.ciborium_ll.specs.Writing.{Writes, writer_of};
+ghost use Rattle.ciborium_ll.specs.Writing.{Puts, SameWriter, Writes};
 ghost use Rattle.ciborium_value.specs.Encoding.{encoding};
 ghost use Rattle.ciborium_ll.specs.Integer.{IsInRange};
 ghost use Rattle.ciborium_value.specs.Proper.{IsProperTree, AreProperTrees, AreProperTreePairs};
@@ -12,7 +12,7 @@ ghost use Rattle.ciborium_value.specs.View.{tree_of, trees_of, tree_pairs_of};
 ghost use Rattle.ciborium.specs.Writes.{IsIo, encodings, pair_encodings};
 ghost use Rattle.ciborium.specs.declared.ser.Error.TheVariants.{Io};
 
-use ciborium_ll::{Encoder, Header};
+use ciborium_ll::{Encoder, Header, simple};
 use ciborium_value::{Integer, Kind, Value};
 use std::io::{self, Write};
 
@@ -70,8 +70,8 @@ fn push<W: Write>(
     failure: &mut Option<io::Error>,
 ) -> Result<(), Failed>
     requires { IsWritable header }
-    ensures same_writer { (writer_of encoder.new).ghost_name ≡ (writer_of encoder.old).ghost_name }
-    ensures bytes { Writes (W.contents (writer_of encoder.old).now) (W.contents (writer_of encoder.new).now) result (header_bytes header) }
+    ensures same_writer { SameWriter encoder.old encoder.new }
+    ensures bytes { Puts W.contents encoder.old encoder.new result (header_bytes header) }
     ensures kept { OnErr result (IsSome failure.new) }
 {
     match encoder.push(header) {
@@ -90,8 +90,8 @@ fn write_all<W: Write>(
     bytes: &[u8],
     failure: &mut Option<io::Error>,
 ) -> Result<(), Failed>
-    ensures same_writer { (writer_of encoder.new).ghost_name ≡ (writer_of encoder.old).ghost_name }
-    ensures bytes { Writes (W.contents (writer_of encoder.old).now) (W.contents (writer_of encoder.new).now) result bytes.now }
+    ensures same_writer { SameWriter encoder.old encoder.new }
+    ensures bytes { Puts W.contents encoder.old encoder.new result bytes.now }
     ensures kept { OnErr result (IsSome failure.new) }
 {
     match encoder.write_all(bytes) {
@@ -111,8 +111,8 @@ fn write_value<W: Write>(
     value: &Value,
     failure: &mut Option<io::Error>,
 ) -> Result<(), Failed>
-    ensures same_writer { (writer_of encoder.new).ghost_name ≡ (writer_of encoder.old).ghost_name }
-    ensures bytes { Writes (W.contents (writer_of encoder.old).now) (W.contents (writer_of encoder.new).now) result (encoding (tree_of value.now)) }
+    ensures same_writer { SameWriter encoder.old encoder.new }
+    ensures bytes { Puts W.contents encoder.old encoder.new result (encoding (tree_of value.now)) }
     ensures kept { OnErr result (IsSome failure.new) }
     ensures proper { OnOk result (IsProperTree (tree_of value.now)) }
 {
@@ -132,9 +132,9 @@ fn write_value<W: Write>(
                 failure,
             )
         }
-        Value::Bool(false) => push(encoder, Header::Simple(20), failure),
-        Value::Bool(true) => push(encoder, Header::Simple(21), failure),
-        Value::Null => push(encoder, Header::Simple(22), failure),
+        Value::Bool(false) => push(encoder, Header::Simple(simple::FALSE), failure),
+        Value::Bool(true) => push(encoder, Header::Simple(simple::TRUE), failure),
+        Value::Null => push(encoder, Header::Simple(simple::NULL), failure),
         Value::Tag(tag, content) => {
             push(encoder, Header::Tag(*tag), failure)?;
             write_value(encoder, content, failure)
@@ -157,8 +157,8 @@ fn write_items<W: Write>(
     items: &Vec<Value>,
     failure: &mut Option<io::Error>,
 ) -> Result<(), Failed>
-    ensures same_writer { (writer_of encoder.new).ghost_name ≡ (writer_of encoder.old).ghost_name }
-    ensures bytes { Writes (W.contents (writer_of encoder.old).now) (W.contents (writer_of encoder.new).now) result (encodings items.now.items) }
+    ensures same_writer { SameWriter encoder.old encoder.new }
+    ensures bytes { Puts W.contents encoder.old encoder.new result (encodings items.now.items) }
     ensures kept { OnErr result (IsSome failure.new) }
     ensures proper { OnOk result (AreProperTrees (trees_of items.now.items)) }
 {
@@ -175,8 +175,8 @@ fn write_pairs<W: Write>(
     pairs: &Vec<(Value, Value)>,
     failure: &mut Option<io::Error>,
 ) -> Result<(), Failed>
-    ensures same_writer { (writer_of encoder.new).ghost_name ≡ (writer_of encoder.old).ghost_name }
-    ensures bytes { Writes (W.contents (writer_of encoder.old).now) (W.contents (writer_of encoder.new).now) result (pair_encodings pairs.now.items) }
+    ensures same_writer { SameWriter encoder.old encoder.new }
+    ensures bytes { Puts W.contents encoder.old encoder.new result (pair_encodings pairs.now.items) }
     ensures kept { OnErr result (IsSome failure.new) }
     ensures proper { OnOk result (AreProperTreePairs (tree_pairs_of pairs.now.items)) }
 {
@@ -196,8 +196,8 @@ fn write_string<W: Write>(
     failure: &mut Option<io::Error>,
 ) -> Result<(), Failed>
     requires { IsWritable header }
-    ensures same_writer { (writer_of encoder.new).ghost_name ≡ (writer_of encoder.old).ghost_name }
-    ensures bytes { Writes (W.contents (writer_of encoder.old).now) (W.contents (writer_of encoder.new).now) result (header_bytes header ++ payload.now) }
+    ensures same_writer { SameWriter encoder.old encoder.new }
+    ensures bytes { Puts W.contents encoder.old encoder.new result (header_bytes header ++ payload.now) }
     ensures kept { OnErr result (IsSome failure.new) }
     ensures payload { AreBytes payload.now }
 {
@@ -212,11 +212,9 @@ fn integer_head(number: Integer) -> Header
     ensures head { header_bytes result ≡ encoding (integer number) }
     ensures in_range { IsInRange number }
 {
-    let number = i128::from(number);
-    if number < 0 {
-        Header::Negative((-1 - number) as u64)
-    } else {
-        Header::Positive(number as u64)
+    match number.head() {
+        (true, argument) => Header::Negative(argument),
+        (false, argument) => Header::Positive(argument),
     }
 }
 

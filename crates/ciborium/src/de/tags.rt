@@ -3,9 +3,7 @@
 ghost use Rattle.std.specs.Prelude.{◌≡◌, ◌+◌, ◌<◌, ◌≤◌, IfOk, List, None, OnOk, Some, length, true, ℕ};
 ghost use Rattle.ciborium_ll.specs.Decoding.{SameReader, TakesBeforeAny, pushed_of};
 ghost use Rattle.ciborium_ll.specs.declared.header.Header.TheVariants as header;
-ghost use Rattle.ciborium_value.specs.Meaning.{big_endian, is_bignum_tag, without_zeros};
-ghost use Rattle.ciborium_value.specs.Tree as trees;
-ghost use Rattle.ciborium_value.specs.View.{tree_of};
+ghost use Rattle.ciborium_value.specs.Meaning.{is_bignum_tag};
 ghost use Rattle.ciborium.specs.Parts.{FoldRead, HasRoom, IsFolded, IsFolding, PartRead, Rests};
 ghost use Rattle.ciborium.specs.Reads.{IsAt, IsPulled, heads_left};
 
@@ -13,9 +11,10 @@ use crate::de::error::Error;
 use crate::de::front::{Part, pull};
 use ciborium_ll::tag::{BIGNEG, BIGPOS};
 use ciborium_ll::{Decoder, Header};
+use ciborium_value::bignum::{self, FoldError, GREATEST_FOLDED_SIZE};
 use ciborium_value::stack::Opening;
-use ciborium_value::{Integer, Kind, Value};
-use std::alloc::{AllocError, Global};
+use ciborium_value::{Kind, Value};
+use std::alloc::Global;
 use std::io::{self, Read};
 
 // The length of the byte string over which the tag folds (RFC 8949, section 3.4.3).
@@ -24,7 +23,7 @@ fn find_folding(tag: u64, header: Header) -> Option<usize>
 {
     match header {
         Header::Bytes(Some(n)) => {
-            if n <= 16 && (tag == BIGPOS || tag == BIGNEG) {
+            if n <= GREATEST_FOLDED_SIZE && (tag == BIGPOS || tag == BIGNEG) {
                 Some(n)
             } else {
                 None
@@ -34,58 +33,16 @@ fn find_folding(tag: u64, header: Header) -> Option<usize>
     }
 }
 
-// The big-endian number of at most 16 bytes.
-fn number(bytes: &[u8]) -> u128
-    requires { length bytes.now ≤ 16 }
-    ensures { result ≡ big_endian bytes.now }
-{
-    let mut n: u128 = 0;
-    for b in bytes {
-        n = n * 256 + u128::from(*b);
-    }
-    n
-}
-
-// The bytes behind the leading zeros.
-fn significant(bytes: &[u8]) -> &[u8]
-    ensures { result.now ≡ without_zeros bytes.now }
-{
-    let mut rest = bytes;
-    while let [0, tail @ ..] = rest {
-        rest = tail;
-    }
-    rest
-}
-
-// The tag over the bytes.
-fn tag_over(alloc: Global, tag: u64, bytes: &[u8]) -> Result<Value, AllocError>
-    ensures { IfOk result (λ v. tree_of v ≡ trees.tag tag (trees.bytes bytes.now)) }
-{
-    let content = Value::Bytes(Vec::from_slice(alloc, bytes)?);
-    Ok(Value::Tag(tag, Box::new(alloc, content)?))
-}
-
 // What a tag at this offset means that folds over these bytes.
-#[tactic(auto, unfolding(ciborium_value::specs::Meaning::bignum_meaning))]
 fn fold(alloc: Global, tag: u64, payload: &[u8], offset: usize) -> Result<Value, Error<io::Error>>
     requires tag { is_bignum_tag tag ≡ true }
     requires short { length payload.now ≤ 16 }
     ensures { IsFolded tag payload.now offset result }
 {
-    let n = number(payload);
-    if n < 1 << 64 {
-        let small = n as u64;
-        if tag == BIGPOS {
-            return Ok(Value::Integer(Integer::from(small)));
-        }
-        return Ok(Value::Integer(Integer::from_head(true, small)));
-    }
-    if tag == BIGNEG && n >= 1 << 127 {
-        return Err(Error::Semantic(Some(offset), Kind::TooLarge));
-    }
-    match tag_over(alloc, tag, significant(payload)) {
+    match bignum::fold(alloc, tag, payload) {
         Ok(value) => Ok(value),
-        Err(_) => Err(Error::Memory),
+        Err(FoldError::TooLarge) => Err(Error::Semantic(Some(offset), Kind::TooLarge)),
+        Err(FoldError::Memory) => Err(Error::Memory),
     }
 }
 
@@ -106,7 +63,7 @@ fn read_folded<R: Read>(
     ensures fold { TakesBeforeAny R.remaining decoder.old decoder.new
         (λ d e. (xs : List ℕ) (p : ℕ) → IsAt Some d p xs → FoldRead Some e tag n offset xs p result) }
 {
-    let mut room = [0u8; 16];
+    let mut room = [0u8; GREATEST_FOLDED_SIZE];
     let payload = &mut room[..n];
     decoder.read_exact(payload)?;
     fold(alloc, tag, payload, offset)

@@ -28,6 +28,7 @@ ghost use Rattle.ciborium.specs.Visits.{AddsVisits, AddsAtMost, counted, both_no
 ghost use Rattle.ciborium_value.proofs.TotalOrders.{canonical_value_cmp_total, canonical_value_matches_eq};
 ghost use Rattle.ciborium.specs.Writes.{encodings, pair_encodings};
 
+use ciborium_ll::{head_size, simple};
 use ciborium_value::{Integer, Value};
 use std::alloc::AllocError;
 use std::cmp::Ordering;
@@ -206,15 +207,15 @@ fn visit(value: &Value, visits: &mut Visits) -> Head
         },
         Value::Bool(false) => Head {
             major: 7,
-            argument: 20,
+            argument: simple::FALSE as u64,
         },
         Value::Bool(true) => Head {
             major: 7,
-            argument: 21,
+            argument: simple::TRUE as u64,
         },
         Value::Null => Head {
             major: 7,
-            argument: 22,
+            argument: simple::NULL as u64,
         },
     }
 }
@@ -225,17 +226,10 @@ fn integer_head(number: Integer) -> Head
     ensures major { result.major ≡ major_of (integer number) }
     ensures argument { result.argument ≡ argument_of (integer number) }
 {
-    let number = i128::from(number);
-    if number < 0 {
-        Head {
-            major: 1,
-            argument: (-1 - number) as u64,
-        }
-    } else {
-        Head {
-            major: 0,
-            argument: number as u64,
-        }
+    let (negative, argument) = number.head();
+    Head {
+        major: if negative { 1 } else { 0 },
+        argument,
     }
 }
 
@@ -248,25 +242,6 @@ fn compare_heads(left: &Value, right: &Value, visits: &mut Visits) -> Ordering
     visit(left, visits).cmp(&visit(right, visits))
 }
 
-// How many bytes a head has (RFC 8949, section 3).
-#[inline(always)]
-#[tactic(auto, unfolding(ciborium_ll::specs::Head::shortest_head))]
-fn head_size(head: Head) -> u64
-    ensures { result ≡ length (shortest_head head.major head.argument) }
-{
-    if head.argument < 24 {
-        1
-    } else if head.argument < 1 << 8 {
-        2
-    } else if head.argument < 1 << 16 {
-        3
-    } else if head.argument < 1 << 32 {
-        5
-    } else {
-        9
-    }
-}
-
 // ---- sizes
 
 // The size of a value's encoding, counted up to `u64::MAX`.
@@ -276,7 +251,7 @@ fn measure(value: &Value, visits: &mut Visits) -> u64
     ensures visits { AddsVisits (node_count (tree_of value.now)) visits.old.count visits.new.count }
     ensures proper { IsProperTree (tree_of value.now) }
 {
-    let head = head_size(visit(value, visits));
+    let head = head_size(visit(value, visits).argument);
     match value {
         Value::Integer(_) | Value::Bool(_) | Value::Null => head,
         Value::Bytes(bytes) => head.saturating_add(payload_size(bytes)),

@@ -13,21 +13,21 @@ measure-returns-in-Text-clause-proper t c = is_proper-Text _ _ _ c.in-Text.is c.
 
 pub measure-returns-in-Integer-2-clause-size : goal.measure-returns-in-Integer-2-clause-size
 measure-returns-in-Integer-2-clause-size t c =
-    encoded_size-head _ _ _ _ c.visit.ensures.major c.visit.ensures.argument c.head_size-head.ensures c.head_size-head.type_inv (content_bytes-none _ c.in-Integer.is)
+    encoded_size-head _ _ _ _ c.visit.ensures.major c.visit.ensures.argument (c.head_size-head.ensures c.visit.result.major) c.head_size-head.type_inv (content_bytes-none _ c.in-Integer.is)
 
 pub measure-returns-in-Integer-3-clause-size : goal.measure-returns-in-Integer-3-clause-size
 measure-returns-in-Integer-3-clause-size t c =
-    encoded_size-head _ _ _ _ c.visit.ensures.major c.visit.ensures.argument c.head_size-head.ensures c.head_size-head.type_inv (content_bytes-none _ c.in-Integer.is)
+    encoded_size-head _ _ _ _ c.visit.ensures.major c.visit.ensures.argument (c.head_size-head.ensures c.visit.result.major) c.head_size-head.type_inv (content_bytes-none _ c.in-Integer.is)
 
 pub measure-returns-in-Array-clause-size : goal.measure-returns-in-Array-clause-size
 measure-returns-in-Array-clause-size t c =
     let behind = ap (λ b. counted (length b)) (content_bytes-Array _ _ c.in-Array.is) in
-    encoded_size-is _ _ _ _ _ _ c.visit.ensures.major c.visit.ensures.argument c.head_size-head.ensures (c.measure_items.ensures.size ∙ sym behind) c.saturating_add-in-Array.ensures
+    encoded_size-is _ _ _ _ _ _ c.visit.ensures.major c.visit.ensures.argument (c.head_size-head.ensures c.visit.result.major) (c.measure_items.ensures.size ∙ sym behind) c.saturating_add-in-Array.ensures
 
 pub measure-returns-in-Map-clause-size : goal.measure-returns-in-Map-clause-size
 measure-returns-in-Map-clause-size t c =
     let behind = ap (λ b. counted (length b)) (content_bytes-Map _ _ c.in-Map.is) in
-    encoded_size-is _ _ _ _ _ _ c.visit.ensures.major c.visit.ensures.argument c.head_size-head.ensures (c.measure_pairs.ensures.size ∙ sym behind) c.saturating_add-in-Map.ensures
+    encoded_size-is _ _ _ _ _ _ c.visit.ensures.major c.visit.ensures.argument (c.head_size-head.ensures c.visit.result.major) (c.measure_pairs.ensures.size ∙ sym behind) c.saturating_add-in-Map.ensures
 
 pub measure_items-loop-item-preserved : goal.measure_items-loop-item-preserved
 measure_items-loop-item-preserved t c =
