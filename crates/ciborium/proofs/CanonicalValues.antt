@@ -1,5 +1,5 @@
 -- Of values that a program holds, the order of canonical values is the canonical order.
-use Rattle.std.proofs.Common.{◌≡◌, refl, sym, ◌∙◌, Ordering, Less, Equal, Greater, nat_cmp}
+use Rattle.std.proofs.Common.{◌≡◌, refl, sym, ap, ◌∙◌, Ordering, Less, Equal, Greater, nat_cmp}
 use Rattle.std.specs.Cmp.Lexicographic.{slice_cmp}
 use Rattle.std.specs.Ordering.{ordering_then}
 use Rattle.ciborium_value.specs.Canonical.{canonical_order}
@@ -12,6 +12,9 @@ use Rattle.ciborium_value.specs.View.{tree_of}
 use Rattle.ciborium_value.specs.declared.tree.Value.{Value}
 use Rattle.ciborium_value.proofs.Derived.{value_cmp-is}
 use Rattle.ciborium_value.proofs.OrderedTrees.{tied_where_equal}
+use Rattle.ciborium.specs.CanonicalLaws.{IsCanonical, TiesEqualOnes}
+use Rattle.ciborium_value.proofs.TotalOrders.{canonical_order_total}
+use Rattle.std.proofs.lemmas.Cmp.{tied_itself}
 use Rattle.ciborium.proofs.TreeEncodings.{tied_encodings}
 use Rattle.ciborium.proofs.EncodingLaws.{one_tree}
 
@@ -36,3 +39,12 @@ pub canonical_value_cmp-is : (v w : Value) (o : Ordering) → IsProperTree (tree
 canonical_value_cmp-is v w o h k e =
     e ∙ first_decides (canonical_order (tree_of v) (tree_of w)) (value_cmp v w)
     (λ t. value_cmp-is v w ∙ (tied_where_equal (tree_of v) (tree_of w)).1 (canonical_order-tied (tree_of v) (tree_of w) h k t))
+
+pub is_canonical : IsCanonical
+is_canonical v w h k = sym (canonical_value_cmp-is v w (canonical_order (tree_of v) (tree_of w)) h k refl)
+
+pub ties_equal_ones : TiesEqualOnes
+ties_equal_ones v w h k = (
+  λ e. canonical_order-tied (tree_of v) (tree_of w) h k (sym (is_canonical v w h k) ∙ e),
+  λ e. is_canonical v w h k ∙ ap (canonical_order (tree_of v)) (sym e) ∙ tied_itself canonical_order_total (tree_of v),
+)

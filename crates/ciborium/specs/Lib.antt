@@ -9,3 +9,4 @@ pub mod AnswerLaws
 pub mod Heads
 pub mod Visits
 pub mod EncodingLaws
+pub mod CanonicalLaws

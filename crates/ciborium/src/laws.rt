@@ -1,6 +1,7 @@
 //! The laws of the library: those of reading, and those passed on from the crates that prove them.
 
 ghost use Rattle.ciborium.specs.AnswerLaws.{OneAnswer};
+ghost use Rattle.ciborium.specs.CanonicalLaws.{IsCanonical, IsTotal, TiesEqualOnes};
 ghost use Rattle.ciborium.specs.EncodingLaws.{EncodingSpells, HeadsRise, OneTree, OthersAreLonger};
 
 pub use ciborium_ll::spelling_laws::{
@@ -13,8 +14,8 @@ pub use ciborium_value::tree_laws::{
 
 /// Whatever meets the clauses of the reading calls is one answer for the same bytes and limit: the
 /// same tree with the same bytes left, or the same refusal, unless the reader failed or memory was
-/// refused. So no answer depends on the scratch, on the pieces in which the reader gives its bytes,
-/// or on which of the calls was made.
+/// refused. At the reader's end `Io` is a refusal like the others, and no failure. So no answer depends
+/// on the scratch, on the pieces in which the reader gives its bytes, or on which of the calls was made.
 pub fn one_answer()
     ensures { OneAnswer }
 {}
@@ -27,4 +28,13 @@ pub fn encoding_is_shortest()
     ensures spells { EncodingSpells }
     ensures others { OthersAreLonger }
     ensures heads { HeadsRise }
+{}
+
+/// The order of `CanonicalValue`, which `<`, `max` and the sorts of the library take from its `Ord`, is
+/// the canonical one for any two values that a program holds (RFC 8949, section 4.2.3). It is total,
+/// and of such values it ties equal ones alone.
+pub fn order_of_canonical_values()
+    ensures canonical { IsCanonical }
+    ensures total { IsTotal }
+    ensures ties { TiesEqualOnes }
 {}
