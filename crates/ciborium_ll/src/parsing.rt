@@ -64,7 +64,7 @@ fn simple_or_float(info: u8, bytes: &[u8]) -> Option<Header>
 
 // The head that an initial byte and the bytes behind it spell, or none where they are ill-formed.
 #[inline(always)]
-pub(crate) fn parsed(first: u8, bytes: &[u8]) -> Option<Header>
+pub(crate) fn parse_head(first: u8, bytes: &[u8]) -> Option<Header>
     requires { length bytes.now ≡ argument_length (first % 32) }
     ensures { MatchOption result (IsTrue (is_ill_formed (first ∷ bytes.now))) (λ header. SpellsHeader (first ∷ bytes.now) header) }
 {

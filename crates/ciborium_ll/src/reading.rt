@@ -9,7 +9,7 @@ ghost use Rattle.ciborium_ll.specs.Refusal.{argument_length};
 ghost use Rattle.ciborium_ll.specs.Reading.{Advances, FillTaken, HeadTaken};
 
 use crate::header::{Error, Header};
-use crate::parsing::parsed;
+use crate::parsing::parse_head;
 use std::io::{self, ErrorKind, Read};
 
 // Fills the buffer, which does not pass the greatest offset. A read of nothing or a fault of the
@@ -79,7 +79,7 @@ fn read_argument<R: Read>(
     ensures head { Advances (R.remaining reader.old) (R.remaining reader.new) count.old count.new (λ b. HeadTaken start result (initial ∷ b)) }
 {
     fill(reader, argument, count)?;
-    let Some(header) = parsed(initial, argument) else {
+    let Some(header) = parse_head(initial, argument) else {
         return Err(Error::Syntax(start));
     };
     if usize::MAX - *count < payload_size(header) {

@@ -15,15 +15,15 @@ use ciborium_value::{Kind, Value};
 use std::alloc::{AllocError, Global};
 use std::io::{self, Read};
 
-// A value that was placed, or want of memory.
+// Passes on what was placed, or that memory was refused.
 #[inline(always)]
-fn granted(placed: Result<Option<Value>, AllocError>) -> Result<Option<Value>, Error<io::Error>>
+fn pass_on(placed: Result<Option<Value>, AllocError>) -> Result<Option<Value>, Error<io::Error>>
     ensures ok { IfOk result (λ o. placed ≡ Ok o) }
     ensures err { IfErr result (λ e. e ≡ Error.Memory) }
 {
     match placed {
         Ok(value) => Ok(value),
-        Err(_) => Err(Error::Memory),
+        Err(AllocError) => Err(Error::Memory),
     }
 }
 
@@ -47,13 +47,13 @@ fn turn<R: Read>(
 {
     let offset = decoder.offset();
     match next(alloc, decoder, scratch, levels - stack.depth())? {
-        Part::Whole(value) => granted(stack.place(value)),
+        Part::Whole(value) => pass_on(stack.place(value)),
         Part::Opened(opening) => match stack.open(opening) {
             Ok(()) => Ok(None),
             Err(_) => Err(Error::Memory),
         },
         Part::Ended => match stack.close() {
-            Some(value) => granted(stack.place(value)),
+            Some(value) => pass_on(stack.place(value)),
             None => Err(Error::Semantic(Some(offset), Kind::Break)),
         },
     }

@@ -16,7 +16,7 @@ returns-in_err-value-clause-turn g c =
 
 pub returns-in-Whole-clause-depth : goal.returns-in-Whole-clause-depth
 returns-in-Whole-clause-depth g c =
-    depth-placed c.place.result c.granted.result (opens_of c.args.stack.now) (opens_of c.place.new.self) (tree_of c.in-Whole.value) c.args.levels c.granted.ensures.ok c.place.ensures c.requires
+    depth-placed c.place.result c.pass_on.result (opens_of c.args.stack.now) (opens_of c.place.new.self) (tree_of c.in-Whole.value) c.args.levels c.pass_on.ensures.ok c.place.ensures c.requires
 
 pub returns-in-Whole-clause-turn : goal.returns-in-Whole-clause-turn
 returns-in-Whole-clause-turn g c =
@@ -24,9 +24,9 @@ returns-in-Whole-clause-turn g c =
       t.0,
       t.1,
       t.2,
-      λ z xs p s. turn-whole Some (with_left c.args.decoder.now (t.0 ++ z)) (with_left c.next.new.decoder z) (opens_of c.args.stack.now) (opens_of c.place.new.self) c.args.levels xs p c.in-Whole.value c.place.result c.granted.result
+      λ z xs p s. turn-whole Some (with_left c.args.decoder.now (t.0 ++ z)) (with_left c.next.new.decoder z) (opens_of c.args.stack.now) (opens_of c.place.new.self) c.args.levels xs p c.in-Whole.value c.place.result c.pass_on.result
           (answers-of Error Some (with_left c.args.decoder.now (t.0 ++ z)) (with_left c.next.new.decoder z) (c.args.levels - c.depth.result) (c.args.levels - length (opens_of c.args.stack.now)) c.in_ok-value.field-0 (Whole c.in-Whole.value)
-          (ap (λ n. c.args.levels - n) c.depth.ensures) c.in-Whole.is (t.3 z)) c.granted.ensures.ok c.granted.ensures.err c.place.ensures s,
+          (ap (λ n. c.args.levels - n) c.depth.ensures) c.in-Whole.is (t.3 z)) c.pass_on.ensures.ok c.pass_on.ensures.err c.place.ensures s,
       t.4,
     )
 
@@ -44,7 +44,7 @@ returns-in-Ok-clause-turn g c =
 
 pub returns-in-Some-clause-depth : goal.returns-in-Some-clause-depth
 returns-in-Some-clause-depth g c =
-    depth-placed c.place-in-Some.result c.granted-in-Some.result (opens_of c.close.new.self) (opens_of c.place-in-Some.new.self) (tree_of c.in-Some.value) c.args.levels c.granted-in-Some.ensures.ok c.place-in-Some.ensures
+    depth-placed c.place-in-Some.result c.pass_on-in-Some.result (opens_of c.close.new.self) (opens_of c.place-in-Some.new.self) (tree_of c.in-Some.value) c.args.levels c.pass_on-in-Some.ensures.ok c.place-in-Some.ensures
     (depth-closed (opens_of c.args.stack.now) (opens_of c.close.new.self) (tree_of c.in-Some.value) c.args.levels c.in-Some.ensures c.requires)
 
 pub returns-in-Some-clause-turn : goal.returns-in-Some-clause-turn
@@ -53,9 +53,9 @@ returns-in-Some-clause-turn g c =
       t.0,
       t.1,
       t.2,
-      λ z xs p s. turn-ended Some (with_left c.args.decoder.now (t.0 ++ z)) (with_left c.next.new.decoder z) (opens_of c.args.stack.now) (opens_of c.close.new.self) (opens_of c.place-in-Some.new.self) c.args.levels xs p c.in-Some.value c.place-in-Some.result c.granted-in-Some.result
+      λ z xs p s. turn-ended Some (with_left c.args.decoder.now (t.0 ++ z)) (with_left c.next.new.decoder z) (opens_of c.args.stack.now) (opens_of c.close.new.self) (opens_of c.place-in-Some.new.self) c.args.levels xs p c.in-Some.value c.place-in-Some.result c.pass_on-in-Some.result
           (answers-of Error Some (with_left c.args.decoder.now (t.0 ++ z)) (with_left c.next.new.decoder z) (c.args.levels - c.depth.result) (c.args.levels - length (opens_of c.args.stack.now)) c.in_ok-value.field-0 Ended
-          (ap (λ n. c.args.levels - n) c.depth.ensures) c.in-Ended.is (t.3 z)) c.in-Some.ensures c.granted-in-Some.ensures.ok c.granted-in-Some.ensures.err c.place-in-Some.ensures s,
+          (ap (λ n. c.args.levels - n) c.depth.ensures) c.in-Ended.is (t.3 z)) c.in-Some.ensures c.pass_on-in-Some.ensures.ok c.pass_on-in-Some.ensures.err c.place-in-Some.ensures s,
       t.4,
     )
 
