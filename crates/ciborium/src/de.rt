@@ -28,12 +28,6 @@ fn read<R: Read>(
     limit: usize,
 ) -> Result<Value, Error<io::Error>>
     ensures taken { TakesBytes (R.remaining reader.old) limit (R.remaining reader.new) result }
-    ensures ok { TakesItem (R.remaining reader.old) limit (R.remaining reader.new) result }
-    ensures exact { AnswersGoodItem (R.remaining reader.old) limit (R.remaining reader.new) result }
-    ensures refused { RefusesBytes (R.remaining reader.old) limit (R.remaining reader.new) result }
-    ensures bounded { HoldsNoMore (R.remaining reader.old) (R.remaining reader.new) result }
-    ensures proper { AnswersProper result }
-    ensures within { TakesWithin (R.remaining reader.old) (R.remaining reader.new) }
 {
     let mut decoder = Decoder::new(reader);
     building::read_value(alloc, &mut decoder, scratch, limit)
