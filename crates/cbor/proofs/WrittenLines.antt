@@ -8,14 +8,15 @@ use Rattle.ciborium_value.specs.declared.tree.Value.{Value}
 use Rattle.cbor.specs.SortedLines.{hex_line}
 
 -- what known bytes become
-grown : (held now : Option (List ℕ)) (xs bytes : List ℕ) → held ≡ Some xs → Appends held now bytes → now ≡ Some (xs ++ bytes)
+pub grown : (held now : Option (List ℕ)) (xs bytes : List ℕ) → held ≡ Some xs → Appends held now bytes → now ≡ Some (xs ++ bytes)
 grown None now xs bytes e a = absurd cc
 grown (Some ys) None xs bytes e a = absurd a
 grown (Some ys) (Some zs) xs bytes e a =
     let same : ys ≡ xs = cc in
     ap Some (a ∙ ap (λ (s : List ℕ). s ++ bytes) same)
 
-wrote : {E : Type 0} (held now : Option (List ℕ)) (r : Result (Unit {0}) E) (bytes : List ℕ) → OnOk r (Appends held now bytes) → is_err r ≡ false → Appends held now bytes
+-- a call that wrote, and did not fail
+pub wrote : {E : Type 0} (held now : Option (List ℕ)) (r : Result (Unit {0}) E) (bytes : List ℕ) → OnOk r (Appends held now bytes) → is_err r ≡ false → Appends held now bytes
 wrote held now (Ok u) bytes a e = a
 wrote held now (Err x) bytes a e = absurd cc
 

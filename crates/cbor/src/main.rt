@@ -2,10 +2,16 @@
 //! encoding. `cbor sort` writes the encodings of all lines in the canonical order.
 #![tactic(auto)]
 
-mod line;
+mod answer;
+mod answering;
+mod fault;
+mod items;
 mod line_laws;
+mod lines;
 mod run;
-mod sort;
+mod sorting;
+#[cfg(test)]
+mod test_devices;
 
 use std::io::Lock;
 use std::process::ExitCode;
