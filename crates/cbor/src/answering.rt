@@ -2,8 +2,6 @@
 
 ghost use Rattle.std.specs.Prelude.{◌≡◌, ◌++◌, ℕ, IfErr, IfOk, IsTrue, List, Some, string_bytes};
 ghost use Rattle.ciborium_value.specs.Tree.{Tree};
-ghost use Rattle.hex.specs.Hex.{encode_lower};
-ghost use Rattle.ciborium_value.specs.Encoding.{encoding};
 ghost use Rattle.cbor.specs.Answer.{IsAnsweredBy, IsDigitsOf, IsRefused, LineMeans};
 ghost use Rattle.cbor.specs.Line.{LineAnswer};
 ghost use Rattle.cbor.specs.Lines.{AreAnswered, ok_line};
