@@ -1,5 +1,5 @@
 -- What a line means, or why it is refused, and the text that answers it.
-use Rattle.std.proofs.Common.{◌≡◌, ◌≢◌, ℕ, List, ◌∷◌, [], ◌++◌, get_or, true, false, Option, Some, Result, Ok, Err, IfErr, IfOk, IsErr, MatchResult, codes, refl, sym, ap, ◌∙◌, subst, arith}
+use Rattle.std.proofs.Common.{◌≡◌, ◌≢◌, ℕ, List, ◌++◌, get_or, true, false, Some, Result, Ok, Err, IfErr, IfOk, IsErr, MatchResult, codes, refl, sym, ap, ◌∙◌, subst, arith}
 use Rattle.hex.specs.Hex.{decode_of}
 use Rattle.hex.specs.declared.error.FromHexError.{FromHexError}
 use Rattle.ciborium_ll.specs.Refusal.{io, syntax, too_long, semantic, recursion_limit_exceeded}
@@ -9,10 +9,9 @@ use Rattle.cbor.specs.declared.answer.Answer.{Answer}
 use Rattle.cbor.specs.declared.answer.Answer.TheVariants as answers
 use Rattle.cbor.specs.declared.answer.Refusal.{Refusal}
 use Rattle.cbor.specs.declared.answer.Refusal.TheVariants.{Hex, Trailing, Io, Syntax, Semantic, Nesting, TooLong, Memory}
-use Rattle.cbor.specs.Answer.{AreRefused, IsAnsweredBy, IsRefused, LineMeans, answer_text, is_item, is_memory, kind_of_reason, refused_text}
+use Rattle.cbor.specs.Answer.{AreRefused, IsAnsweredBy, IsRefused, answer_text, is_memory, kind_of_reason, refused_text}
 use Rattle.cbor.specs.Laws.{ItemIsAnswered, RefusalIsAnswered, RefusedMeansNothing}
 use Rattle.cbor.specs.Line.{HasAnswer, LineAnswer, good, hex_text, refused, trailing, trailing_text, tree_text}
-use Rattle.cbor.specs.Lines.{ok_line}
 use Rattle.cbor.proofs.OneLineAnswer.{one_answer}
 
 -- what refuses the bytes of a line refuses the line
@@ -100,10 +99,3 @@ pub answered-by-text : {T E : Type 0} (text : T → List ℕ) (line : List ℕ) 
     IsAnsweredBy line limit a → IfOk r (λ t. text t ≡ answer_text a) → IfOk r (λ t. LineAnswer line limit (text t))
 answered-by-text text line limit a (Ok t) m h same = subst (λ (s : List ℕ). LineAnswer line limit s) (sym same) (text-answers line limit a m h)
 answered-by-text text line limit a (Err x) m h same = tt
-
--- the text of the answer to an item is written behind w
-pub item-written : (line : List ℕ) (limit : ℕ) (a : Answer) (w : List ℕ) (now : Option (List ℕ)) → IsAnsweredBy line limit a → is_item a ≡ true →
-    now ≡ Some (w ++ (answer_text a ++ (10 ∷ []))) → (v : Tree) × LineMeans line limit v × (now ≡ Some (w ++ ok_line v))
-item-written line limit (answers.Item digits) w now (v, means, same) item e =
-    (v, means, e ∙ ap (λ (t : List ℕ). Some (w ++ ((codes "ok " ++ t) ++ (10 ∷ [])))) same)
-item-written line limit (answers.Refused e) w now h item f = absurd cc

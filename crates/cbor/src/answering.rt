@@ -9,7 +9,7 @@ ghost use Rattle.cbor.specs.Lines.{AreAnswered, ok_line};
 use crate::answer::{Answer, Refusal};
 use crate::fault::Fault;
 use crate::items::{encode_to_hex, read_item};
-use crate::lines::read_line;
+use crate::lines::{read_line, write_text};
 use std::alloc::{AllocError, Global};
 use std::io::{BufReader, Read, Write};
 
@@ -73,9 +73,13 @@ fn write_answer<W: Write>(
         × (W.contents output.new ≡ Some (w ++ ok_line v))) }
 {
     let answer = judge_line(alloc, line, limit);
-    if writeln!(output, "{answer}").is_err() {
-        return Err(Fault::Output);
-    }
+    let Ok(text) = format!(in alloc; "{answer}\n") else {
+        return match writeln!(output, "{}", Refusal::Memory) {
+            Ok(()) => Ok(false),
+            Err(_) => Err(Fault::Output),
+        };
+    };
+    write_text(text.as_str(), output)?;
     Ok(answer.is_item())
 }
 

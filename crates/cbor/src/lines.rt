@@ -1,13 +1,13 @@
-//! The lines of an input.
+//! The lines of an input, and texts on an output.
 
-ghost use Rattle.std.specs.Prelude.{◌≡◌, ◌<◌, ℕ, IfOk, List, Some, [], length};
+ghost use Rattle.std.specs.Prelude.{◌≡◌, ◌<◌, ℕ, ◌++◌, IfOk, List, OnOk, Some, [], length};
 ghost use Rattle.std.specs.Bool.{MatchBool};
 ghost use Rattle.std.specs.Io.BufRead.{drop_through, strip_last};
 ghost use Rattle.std.specs.Io.Buffered.{reader_remaining};
 ghost use Rattle.cbor.specs.Lines.{first_line};
 
 use crate::fault::Fault;
-use std::io::{BufRead, BufReader, Read};
+use std::io::{BufRead, BufReader, Read, Write};
 
 /// Reads a line, without the line feed and a carriage return at its end, or says that none is left.
 ///
@@ -33,6 +33,21 @@ pub fn read_line<R: Read>(input: &mut BufReader<R>, line: &mut Vec<u8>) -> Resul
         Err(_) if !input.buffer().is_empty() => Err(Fault::Memory),
         Err(_) => Err(Fault::Input),
     }
+}
+
+/// Writes a text whole.
+///
+/// # Errors
+///
+/// `Output` where the output fails.
+pub fn write_text<W: Write>(text: &str, output: &mut W) -> Result<(), Fault>
+    ensures { (w : List ℕ) → W.contents output.old ≡ Some w →
+        OnOk result (W.contents output.new ≡ Some (w ++ text.now)) }
+{
+    if output.write_all(text.as_bytes()).is_err() {
+        return Err(Fault::Output);
+    }
+    Ok(())
 }
 
 // Drops the last byte, if it is this one.

@@ -11,7 +11,7 @@ ghost use Rattle.cbor.specs.SortedLines.{AreSortedLines, hex_line};
 use crate::answer::Refusal;
 use crate::fault::Fault;
 use crate::items::{encode_to_hex, read_item};
-use crate::lines::read_line;
+use crate::lines::{read_line, write_text};
 use ciborium::value::canonical::cmp_value;
 use ciborium_value::Value;
 use std::alloc::{AllocError, Global};
@@ -110,15 +110,14 @@ fn write_values<W: Write>(alloc: Global, values: &[Value], output: &mut W) -> Re
         (W.contents output.new ≡ Some (w ++ flat_map hex_line (map tree_of values.now))) }
 {
     for value in values {
-        let digits = encode_to_hex(alloc, value)?;
-        if writeln!(output, "{digits}").is_err() {
-            return Err(Fault::Output);
-        }
+        let mut line = encode_to_hex(alloc, value)?;
+        line.push('\n')?;
+        write_text(line.as_str(), output)?;
     }
     Ok(())
 }
 
-// Writes which line is no item, and why.
+// Writes which line is no item, and why. It takes no memory, since that may be what was refused.
 fn write_refusal<W: Write>(number: u64, refusal: Refusal, output: &mut W) -> Result<(), Fault> {
     if writeln!(output, "line {number}: {refusal}").is_err() {
         return Err(Fault::Output);
