@@ -20,7 +20,7 @@ use std::{env, io};
 fn main(rt: HostRuntime) -> ExitCode {
     let alloc = rt.alloc();
     // Arguments that cannot be read are wrong ones, as none are.
-    let words = arguments(&rt).unwrap_or(Vec::new(alloc));
+    let words = read_arguments(&rt).unwrap_or(Vec::new(alloc));
     ExitCode::from(run::run(
         alloc,
         &words,
@@ -30,7 +30,7 @@ fn main(rt: HostRuntime) -> ExitCode {
     ))
 }
 
-// The arguments without the program's name.
-fn arguments(rt: &HostRuntime) -> io::Result<Vec<String>> {
+// Reads the arguments without the program's name.
+fn read_arguments(rt: &HostRuntime) -> io::Result<Vec<String>> {
     Ok(env::args(rt)?.skip(1).collect(rt.alloc())?)
 }
