@@ -1,7 +1,9 @@
-pub mod Answering
 pub mod AnsweredLines
 pub mod AskedWords
+pub mod HexDigits
+pub mod JudgedLines
 pub mod MeantLines
 pub mod OneLineAnswer
+pub mod ReadBytes
 pub mod SortedValues
 pub mod WrittenLines

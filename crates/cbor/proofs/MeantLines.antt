@@ -7,19 +7,19 @@ use Rattle.std.specs.Io.KnownBytes.{Keeps}
 use Rattle.ciborium_value.specs.Tree.{Tree}
 use Rattle.ciborium_value.specs.View.{tree_of}
 use Rattle.ciborium_value.specs.declared.tree.Value.{Value}
-use Rattle.cbor.specs.Lines.{first_line}
-use Rattle.cbor.specs.Read.{LineMeans}
-use Rattle.cbor.specs.SortedLines as lines
-use Rattle.cbor.specs.SortedLines.{AreSortedLines, Meant, hex_line}
+use Rattle.cbor.specs.Answer.{LineMeans}
+use Rattle.cbor.specs.Lines as lines
+use Rattle.cbor.specs.Lines.{AreMeant, first_line}
+use Rattle.cbor.specs.SortedLines.{AreSortedLines, hex_line}
 use Rattle.cbor.proofs.AnsweredLines.{LineIsRead, still}
 
 -- the rest of b is left, and the lines before it mean these trees
-abbrev pub AreMeant : ℕ → List ℕ → Option (List ℕ) → List Tree → Type 0
-AreMeant limit b left trees = (rest : List ℕ) × (left ≡ Some rest) × Meant limit b rest trees
+abbrev pub AreRead : List ℕ → ℕ → Option (List ℕ) → List Tree → Type 0
+AreRead b limit left trees = (rest : List ℕ) × (left ≡ Some rest) × AreMeant b limit rest trees
 
 -- no line is read yet
-pub none-meant : (limit : ℕ) (b : List ℕ) (left : Option (List ℕ)) (values : List Value) → left ≡ Some b → values ≡ [] → AreMeant limit b left (map tree_of values)
-none-meant limit b left values e f = (b, e, subst (λ (vs : List Value). Meant limit b b (map tree_of vs)) (sym f) lines.none)
+pub none-read : (b : List ℕ) (limit : ℕ) (left : Option (List ℕ)) (values : List Value) → left ≡ Some b → values ≡ [] → AreRead b limit left (map tree_of values)
+none-read b limit left values e f = (b, e, subst (λ (vs : List Value). AreMeant b limit b (map tree_of vs)) (sym f) lines.none)
 
 -- a push that did not fail
 pub pushed : {X E : Type 0} (r : Result (Unit {0}) E) (new old : List X) (x : X) → new ≡ (if is_ok r then old ++ (x ∷ []) else old) → is_err r ≡ false →
@@ -28,22 +28,22 @@ pushed (Ok u) new old x e ok = e
 pushed (Err y) new old x e ok = absurd cc
 
 -- one more line is an item, and its value is pushed
-pub one-more-meant : (limit : ℕ) (b : List ℕ) (left next : Option (List ℕ)) (values kept : List Value) (value : Value) (line shown : List ℕ) (more : Bool) →
-    AreMeant limit b left (map tree_of values) → LineIsRead left next line more → more ≡ true → shown ≡ line → LineMeans shown limit (tree_of value) →
-    kept ≡ values ++ (value ∷ []) → AreMeant limit b next (map tree_of kept)
-one-more-meant limit b left next values kept value line shown more (rest, e, a) read m same means push =
+pub one-more-read : (b : List ℕ) (limit : ℕ) (left next : Option (List ℕ)) (values kept : List Value) (value : Value) (line shown : List ℕ) (more : Bool) →
+    AreRead b limit left (map tree_of values) → LineIsRead left next line more → more ≡ true → shown ≡ line → LineMeans shown limit (tree_of value) →
+    kept ≡ values ++ (value ∷ []) → AreRead b limit next (map tree_of kept)
+one-more-read b limit left next values kept value line shown more (rest, e, a) read m same means push =
     let h = subst (λ (v : Bool). MatchBool v ((0 < length rest) × (line ≡ first_line rest) × (next ≡ Some (drop_through 10 rest))) (rest ≡ [])) m (read rest e) in
     let item = lines.line rest (map tree_of values) (tree_of value) a h.0 (subst (λ (l : List ℕ). LineMeans l limit (tree_of value)) (same ∙ h.1) means) in
     let trees : map tree_of kept ≡ map tree_of values ++ (tree_of value ∷ []) = ap (map tree_of) push ∙ map_push tree_of values value in
-    (drop_through 10 rest, h.2, subst (λ (ts : List Tree). Meant limit b (drop_through 10 rest) ts) (sym trees) item)
+    (drop_through 10 rest, h.2, subst (λ (ts : List Tree). AreMeant b limit (drop_through 10 rest) ts) (sym trees) item)
 
 -- no line is left
-pub all-meant : (limit : ℕ) (b : List ℕ) (left next : Option (List ℕ)) (trees : List Tree) (line : List ℕ) (more : Bool) → AreMeant limit b left trees →
-    LineIsRead left next line more → more ≡ false → Meant limit b [] trees
-all-meant limit b left next trees line more (rest, e, a) read m =
+pub all-read : (b : List ℕ) (limit : ℕ) (left next : Option (List ℕ)) (trees : List Tree) (line : List ℕ) (more : Bool) → AreRead b limit left trees →
+    LineIsRead left next line more → more ≡ false → AreMeant b limit [] trees
+all-read b limit left next trees line more (rest, e, a) read m =
     let h = subst (λ (v : Bool). MatchBool v ((0 < length rest) × (line ≡ first_line rest) × (next ≡ Some (drop_through 10 rest))) (rest ≡ [])) m (read rest e) in
-    subst (λ (r : List ℕ). Meant limit b r trees) h a
+    subst (λ (r : List ℕ). AreMeant b limit r trees) h a
 
 -- what a flush keeps
-pub sorted-still : (limit : ℕ) (b w : List ℕ) (held now : Option (List ℕ)) → Keeps held now → AreSortedLines limit b w held → AreSortedLines limit b w now
-sorted-still limit b w held now k (came, sorted, meant, moved, up, e) = (came, sorted, meant, moved, up, still held now (w ++ flat_map hex_line sorted) k e)
+pub sorted-still : (b : List ℕ) (limit : ℕ) (w : List ℕ) (held now : Option (List ℕ)) → Keeps held now → AreSortedLines b limit w held → AreSortedLines b limit w now
+sorted-still b limit w held now k (came, sorted, meant, moved, up, e) = (came, sorted, meant, moved, up, still held now (w ++ flat_map hex_line sorted) k e)

@@ -1,7 +1,7 @@
+pub mod Answer
 pub mod Line
 pub mod Laws
 pub mod Lines
-pub mod Read
 pub mod Sorted
 pub mod SortedLines
 pub mod Words

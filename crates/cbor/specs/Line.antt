@@ -31,16 +31,20 @@ tree_text v = codes "ok " ++ encode_lower (encoding v)
 abbrev pub trailing_text : ℕ → List ℕ
 trailing_text n = codes "trailing " ++ decimal n
 
--- the text answers the bytes b, within so many levels (RFC 8949, section 5.3)
-pub data BytesAnswer (b : List ℕ) (limit : ℕ) (answer : List ℕ) : Type 0 where
+-- the answer to a line that is not an even number of hex digits
+abbrev pub hex_text : List ℕ
+hex_text = codes "hex"
+
+-- the bytes b have this answer, within so many levels (RFC 8949, section 5.3)
+pub data HasAnswer (b : List ℕ) (limit : ℕ) (answer : List ℕ) : Type 0 where
   -- all of b is a good item
-  good : (i : Item) (v : Tree) → IsGood i (Some limit) b 0 → meaning i ≡ Some v → answer ≡ tree_text v → BytesAnswer b limit answer
+  good : (i : Item) (v : Tree) → IsGood i (Some limit) b 0 → meaning i ≡ Some v → answer ≡ tree_text v → HasAnswer b limit answer
   -- a good item is at the front, and more bytes follow it
   trailing : (s r : List ℕ) (i : Item) → IsGood i (Some limit) s 0 → b ≡ s ++ r → 0 < length r →
-      answer ≡ trailing_text (length r) → BytesAnswer b limit answer
+      answer ≡ trailing_text (length r) → HasAnswer b limit answer
   -- b is refused
-  refused : (e : Refusal) → Refuses b 0 (Some limit) e → answer ≡ refusal_text e → BytesAnswer b limit answer
+  refused : (e : Refusal) → Refuses b 0 (Some limit) e → answer ≡ refusal_text e → HasAnswer b limit answer
 
 -- the text answers a line: its bytes, or `hex` where it is not an even number of hex digits
 abbrev pub LineAnswer : List ℕ → ℕ → List ℕ → Type 0
-LineAnswer line limit answer = MatchResult (decode_of line) (λ b. BytesAnswer b limit answer) (λ _. answer ≡ codes "hex")
+LineAnswer line limit answer = MatchResult (decode_of line) (λ b. HasAnswer b limit answer) (λ _. answer ≡ hex_text)

@@ -1,10 +1,16 @@
-//! What holds of the answers to lines, whatever the code: the law is the contract of a function that
-//! does nothing.
+//! What holds of the answers to lines, whatever the code: the law is the contract of a function
+//! that does nothing.
 
-ghost use Rattle.cbor.specs.Laws.{IsAnswered, OneAnswer};
+ghost use Rattle.cbor.specs.Laws.{IsAnswered, ItemIsAnswered, OneAnswer};
+ghost use Rattle.cbor.specs.Laws.{RefusalIsAnswered, RefusedMeansNothing};
 
-/// Each line has an answer, within any number of levels, and one answer alone.
+/// Each line has an answer, within any number of levels, and one answer alone. That of a line which
+/// means a tree is the tree's text, and that of a line which is refused is the refusal's. No line
+/// that is refused means a tree.
 pub fn line_answer()
     ensures answered { IsAnswered }
     ensures one { OneAnswer }
+    ensures item { ItemIsAnswered }
+    ensures refusal { RefusalIsAnswered }
+    ensures nothing { RefusedMeansNothing }
 {}

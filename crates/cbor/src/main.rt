@@ -2,10 +2,16 @@
 //! encoding. `cbor sort` writes the encodings of all lines in the canonical order.
 #![tactic(auto)]
 
-mod line;
+mod answer;
+mod answering;
+mod fault;
+mod items;
 mod line_laws;
+mod lines;
 mod run;
-mod sort;
+mod sorting;
+#[cfg(test)]
+mod test_devices;
 
 use std::io::Lock;
 use std::process::ExitCode;
@@ -14,7 +20,7 @@ use std::{env, io};
 fn main(rt: HostRuntime) -> ExitCode {
     let alloc = rt.alloc();
     // Arguments that cannot be read are wrong ones, as none are.
-    let words = arguments(&rt).unwrap_or(Vec::new(alloc));
+    let words = read_arguments(&rt).unwrap_or(Vec::new(alloc));
     ExitCode::from(run::run(
         alloc,
         &words,
@@ -24,7 +30,7 @@ fn main(rt: HostRuntime) -> ExitCode {
     ))
 }
 
-// The arguments without the program's name.
-fn arguments(rt: &HostRuntime) -> io::Result<Vec<String>> {
+// Reads the arguments without the program's name.
+fn read_arguments(rt: &HostRuntime) -> io::Result<Vec<String>> {
     Ok(env::args(rt)?.skip(1).collect(rt.alloc())?)
 }

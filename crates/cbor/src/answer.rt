@@ -1,0 +1,120 @@
+//! The answer to a line, an item or why it is none, and its text.
+
+ghost use Rattle.std.specs.Prelude.{◌≡◌, Some};
+ghost use Rattle.cbor.specs.Answer.{answer_text, is_item, is_memory, kind_of_reason, refused_text};
+ghost use Rattle.cbor.specs.Line.{kind_text};
+ghost use Rattle.cbor.specs.declared.answer.Refusal.TheVariants.{Memory};
+
+use std::alloc::AllocError;
+use std::fmt;
+
+/// The answer to a line.
+#[derive(Debug, Drop)]
+pub enum Answer {
+    /// The line is an item. This is its encoding in lower-case hex.
+    Item(String),
+    /// The line is no item, or memory was refused.
+    Refused(Refusal),
+}
+
+/// Why a line is no item.
+#[derive(Clone, Copy, Debug)]
+pub enum Refusal {
+    /// The line is not an even number of hex digits.
+    Hex,
+    /// So many bytes follow the item at the front.
+    Trailing(usize),
+    /// The bytes end inside an item.
+    Io,
+    /// What stands at this offset is not well-formed.
+    Syntax(usize),
+    /// The item at this offset has no meaning, for this reason.
+    Semantic(usize, Reason),
+    /// An array, a map or a tag nests deeper than the limit.
+    Nesting,
+    /// The item would pass the greatest offset.
+    TooLong,
+    /// Memory was refused, and the line may be an item.
+    Memory,
+}
+
+/// Why an item has no meaning.
+#[derive(Clone, Copy, Debug)]
+pub enum Reason {
+    /// It is a float.
+    Float,
+    /// It is a simple value that is not assigned.
+    Simple,
+    /// It is a break out of place.
+    Break,
+    /// It is a bignum past its bounds.
+    TooLarge,
+}
+
+impl Answer {
+    /// Whether the line is an item.
+    pub fn is_item(&self) -> bool
+        ensures { result ≡ is_item self.now }
+    {
+        match self {
+            Answer::Item(_) => true,
+            Answer::Refused(_) => false,
+        }
+    }
+
+    /// Whether memory was refused, so that the line is left without an answer.
+    pub fn is_memory(&self) -> bool
+        ensures { result ≡ is_memory self.now }
+    {
+        matches!(self, Answer::Refused(Refusal::Memory))
+    }
+}
+
+impl From<AllocError> for Refusal {
+    ghost from_gives = { λ _ refusal. refusal ≡ Memory };
+
+    fn from(_: AllocError) -> Refusal {
+        Refusal::Memory
+    }
+}
+
+impl fmt::Display for Answer {
+    ghost output = { λ answer. Some (answer_text answer) };
+
+    fn fmt<W: fmt::Write>(&self, f: &mut fmt::Formatter<W>) -> fmt::Result {
+        match self {
+            Answer::Item(digits) => write!(f, "ok {digits}"),
+            Answer::Refused(refusal) => write!(f, "{refusal}"),
+        }
+    }
+}
+
+impl fmt::Display for Refusal {
+    ghost output = { λ refusal. Some (refused_text refusal) };
+
+    fn fmt<W: fmt::Write>(&self, f: &mut fmt::Formatter<W>) -> fmt::Result {
+        match self {
+            Refusal::Hex => f.write_str("hex"),
+            Refusal::Trailing(count) => write!(f, "trailing {count}"),
+            Refusal::Io => f.write_str("io"),
+            Refusal::Syntax(offset) => write!(f, "syntax {offset}"),
+            Refusal::Semantic(offset, reason) => write!(f, "semantic {offset} {reason}"),
+            Refusal::Nesting => f.write_str("nesting"),
+            Refusal::TooLong => f.write_str("toolong"),
+            Refusal::Memory => f.write_str("memory"),
+        }
+    }
+}
+
+impl fmt::Display for Reason {
+    ghost output = { λ reason. Some (kind_text (kind_of_reason reason)) };
+
+    fn fmt<W: fmt::Write>(&self, f: &mut fmt::Formatter<W>) -> fmt::Result {
+        match self {
+            Reason::Float => f.write_str("float"),
+            Reason::Simple => f.write_str("simple"),
+            Reason::Break => f.write_str("break"),
+            Reason::TooLarge => f.write_str("toolarge"),
+        }
+    }
+}

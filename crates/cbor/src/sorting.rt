@@ -1,0 +1,129 @@
+//! Lines that are sorted: every one is read before anything is written.
+
+ghost use Rattle.std.specs.Prelude.{◌≡◌, ◌++◌, ◌≤◌, ℕ, IfOk, IsOk, IsTrue, List, OnOk, Some, []};
+ghost use Rattle.std.specs.Prelude.{IsPermutation, map, vec_len};
+ghost use Rattle.std.specs.List.{flat_map};
+ghost use Rattle.ciborium_value.specs.View.{tree_of};
+ghost use Rattle.cbor.specs.Lines.{AreMeant};
+ghost use Rattle.cbor.specs.Sorted.{AreSorted};
+ghost use Rattle.cbor.specs.SortedLines.{AreSortedLines, hex_line};
+
+use crate::answer::Refusal;
+use crate::fault::Fault;
+use crate::items::{encode_to_hex, read_item};
+use crate::lines::{read_line, write_text};
+use ciborium::value::canonical::cmp_value;
+use ciborium_value::Value;
+use std::alloc::{AllocError, Global};
+use std::io::{BufReader, Read, Write};
+
+// Why the lines are not sorted.
+#[derive(Debug)]
+enum Unsorted {
+    // The line of this number, counted from 1, is the first that is no item.
+    Line(u64, Refusal),
+    // The lines could not be read.
+    Fault(Fault),
+}
+
+impl From<Fault> for Unsorted {
+    fn from(fault: Fault) -> Unsorted {
+        Unsorted::Fault(fault)
+    }
+}
+
+/// Writes the encodings of the items of the lines in lower-case hex, a line each, in the canonical
+/// order, or which line is the first that is no item within this many levels, and says whether each
+/// is one.
+///
+/// # Errors
+///
+/// The first fault: the input or the output fails, or memory is refused for a line or for the list.
+pub fn sort_lines<R: Read, W: Write>(
+    alloc: Global,
+    input: &mut R,
+    limit: usize,
+    output: &mut W,
+) -> Result<bool, Fault>
+    ensures { (b w : List ℕ) → R.remaining input.old ≡ Some b → W.contents output.old ≡ Some w →
+        IfOk result (λ all. IsTrue all → AreSortedLines b limit w (W.contents output.new)) }
+{
+    match read_values(alloc, input, limit) {
+        Ok(values) => {
+            let sorted = sort_values(alloc, values)?;
+            write_values(alloc, &sorted, output)?;
+            Ok(true)
+        }
+        Err(Unsorted::Line(number, refusal)) => {
+            write_refusal(number, refusal, output)?;
+            Ok(false)
+        }
+        Err(Unsorted::Fault(fault)) => Err(fault),
+    }
+}
+
+/// The values given, each as often as given, in the canonical order, which is that of `cmp_value`.
+/// They are moved and never copied, by O(n log n) comparisons.
+///
+/// # Errors
+///
+/// `AllocError` where memory is refused to move more than 20 values through: room for as many
+/// again. The values are then given up.
+pub fn sort_values(alloc: Global, mut values: Vec<Value>) -> Result<Vec<Value>, AllocError>
+    ensures permutation { IfOk result (λ sorted. IsPermutation values.items sorted.items) }
+    ensures sorted { IfOk result (λ sorted. AreSorted (map tree_of sorted.items)) }
+    ensures succeeds { vec_len values ≤ 20 → IsOk result }
+{
+    values.as_mut_slice().sort_by(alloc, cmp_value)?;
+    Ok(values)
+}
+
+// The values of the lines of the input, or why there are none.
+fn read_values<R: Read>(alloc: Global, input: &mut R, limit: usize) -> Result<Vec<Value>, Unsorted>
+    ensures { (b : List ℕ) → R.remaining input.old ≡ Some b →
+        IfOk result (λ values. AreMeant b limit [] (map tree_of values.items)) }
+{
+    let Ok(mut reader) = BufReader::new(alloc, input) else {
+        return Err(Unsorted::Fault(Fault::Memory));
+    };
+    let mut line = Vec::new(alloc);
+    let mut values = Vec::new(alloc);
+    'lines: for number in 1..u64::MAX {
+        if !read_line(&mut reader, &mut line)? {
+            return Ok(values);
+        }
+        match read_item(alloc, &line, limit) {
+            Ok(value) => {
+                if values.push(value).is_err() {
+                    return Err(Unsorted::Fault(Fault::Memory));
+                }
+            }
+            Err(refusal) => return Err(Unsorted::Line(number, refusal)),
+        }
+    }
+    Err(Unsorted::Fault(Fault::Input))
+}
+
+// Writes the encodings of the values in hex, a line each.
+fn write_values<W: Write>(alloc: Global, values: &[Value], output: &mut W) -> Result<(), Fault>
+    ensures { (w : List ℕ) → W.contents output.old ≡ Some w → OnOk result
+        (W.contents output.new ≡ Some (w ++ flat_map hex_line (map tree_of values.now))) }
+{
+    for value in values {
+        let mut line = encode_to_hex(alloc, value)?;
+        line.push('\n')?;
+        write_text(line.as_str(), output)?;
+    }
+    Ok(())
+}
+
+// Writes which line is no item, and why. It takes no memory, since that may be what was refused.
+fn write_refusal<W: Write>(number: u64, refusal: Refusal, output: &mut W) -> Result<(), Fault> {
+    if writeln!(output, "line {number}: {refusal}").is_err() {
+        return Err(Fault::Output);
+    }
+    Ok(())
+}
+
+#[cfg(test)]
+mod tests;

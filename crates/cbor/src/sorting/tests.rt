@@ -1,0 +1,104 @@
+// Values and lines that are sorted from any order.
+use super::sort_values;
+use crate::test_devices::run_on_text;
+use ciborium_value::Value;
+use std::alloc::{AllocError, Global};
+use std::test::Fail;
+
+#[test]
+fn sorts_by_the_size_and_then_the_bytes(rt: HostRuntime) -> Result<(), Fail> {
+    let alloc = rt.alloc();
+    let values = vec![in alloc;
+        Value::from(256u16),
+        Value::from_text(alloc, "z")?,
+        Value::from(false),
+        Value::from(-200i16),
+        Value::from(10u8),
+        Value::from(false),
+    ]?;
+    let sorted = vec![in alloc;
+        Value::from(10u8),
+        Value::from(false),
+        Value::from(false),
+        Value::from(-200i16),
+        Value::from_text(alloc, "z")?,
+        Value::from(256u16),
+    ]?;
+    assert!(rt; sort_values(alloc, values)? == sorted);
+    Ok(())
+}
+
+// Encodings in the canonical order, of numbers, texts, arrays, tags and containers of one size.
+const IN_ORDER: [&[&str]; 5] = [
+    &[
+        "0a", "20", "21", "22", "23", "f4", "1864", "3863", "38c7", "617a", "8120", "39012b",
+        "626161", "811864",
+    ],
+    &[
+        "0a",
+        "f4",
+        "38c7",
+        "617a",
+        "190100",
+        "626161",
+        "811864",
+        "c26161",
+        "c16461616161",
+    ],
+    &["38c7", "617a", "190100"],
+    &["82016161", "82181860", "82601818", "82616101"],
+    &["4401020304", "6461616161", "8401020304", "a201020304"],
+];
+
+// The lines from this one on and around, from last to first where they are to be turned.
+fn reorder(
+    alloc: Global,
+    lines: &[&str],
+    start: usize,
+    is_turned: bool,
+) -> Result<String, AllocError> {
+    let mut text = String::new(alloc);
+    for offset in 0..lines.len() {
+        let index = start.wrapping_add(offset) % lines.len();
+        let line = if is_turned {
+            lines[lines.len() - 1 - index]
+        } else {
+            lines[index]
+        };
+        text.push_str(line)?;
+        text.push('\n')?;
+    }
+    Ok(text)
+}
+
+#[test]
+fn sorts_from_any_order(rt: HostRuntime) -> Result<(), Fail> {
+    for lines in IN_ORDER {
+        let sorted = reorder(rt.alloc(), lines, 0, false)?;
+        for start in 0..lines.len() {
+            for is_turned in [false, true] {
+                let text = reorder(rt.alloc(), lines, start, is_turned)?;
+                let ended = run_on_text(rt.alloc(), &["sort"], text.as_str())?;
+                assert_eq!(rt; ended.output.as_slice(), sorted.as_bytes(), "{text}");
+                assert_eq!(rt; ended.status, 0, "{text}");
+            }
+        }
+    }
+    Ok(())
+}
+
+// More lines than a sort takes in place.
+#[test]
+fn sorts_many_lines(rt: HostRuntime) -> Result<(), Fail> {
+    let mut text = String::new(rt.alloc());
+    let mut sorted = String::new(rt.alloc());
+    for number in 0..1000u64 {
+        let scattered = number * 7 % 1000;
+        writeln!(text, "1a0001{scattered:04}")?;
+        writeln!(sorted, "1a0001{number:04}")?;
+    }
+    let ended = run_on_text(rt.alloc(), &["sort"], text.as_str())?;
+    assert_eq!(rt; ended.status, 0);
+    assert_eq!(rt; ended.output.as_slice(), sorted.as_bytes());
+    Ok(())
+}

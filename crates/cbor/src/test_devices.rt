@@ -1,0 +1,127 @@
+//! An input and an output that may fail, and a run of the program on them.
+use crate::run::run;
+use std::alloc::{AllocError, Global};
+use std::io::{self, ErrorKind, Read, Write};
+
+/// Gives its bytes, at most so many a read, after a read that is interrupted, and then ends or
+/// fails.
+#[derive(Drop)]
+pub struct Source<'a> {
+    bytes: &'a [u8],
+    most: usize,
+    fault: Option<ErrorKind>,
+    reads: usize,
+}
+
+impl<'a> Source<'a> {
+    /// A source of these bytes, at most so many a read, that ends by this fault.
+    pub fn new(bytes: &'a [u8], most: usize, fault: Option<ErrorKind>) -> Source<'a> {
+        Source {
+            bytes,
+            most,
+            fault,
+            reads: 0,
+        }
+    }
+
+    /// How often it was read.
+    pub fn reads(&self) -> usize {
+        self.reads
+    }
+}
+
+impl<'a> Read for Source<'a> {
+    fn read(&mut self, buffer: &mut [u8]) -> io::Result<usize> {
+        let number = self.reads;
+        self.reads = number.saturating_add(1);
+        if number == 0 {
+            return Err(io::Error::from(ErrorKind::Interrupted));
+        }
+        if self.bytes.is_empty()
+            && let Some(kind) = self.fault
+        {
+            return Err(io::Error::from(kind));
+        }
+        let taken = self.bytes.len().min(self.most).min(buffer.len());
+        buffer[..taken].copy_from_slice(&self.bytes[..taken]);
+        self.bytes = &self.bytes[taken..];
+        Ok(taken)
+    }
+}
+
+/// Holds so many bytes, and fails where there is room for no more, or where it is flushed.
+#[derive(Drop)]
+pub struct Device {
+    held: Vec<u8>,
+    room: usize,
+    flush_fails: bool,
+}
+
+impl Device {
+    /// An empty device with room for so many bytes.
+    pub fn new(alloc: Global, room: usize, flush_fails: bool) -> Device {
+        Device {
+            held: Vec::new(alloc),
+            room,
+            flush_fails,
+        }
+    }
+}
+
+impl Write for Device {
+    fn write(&mut self, buffer: &[u8]) -> io::Result<usize> {
+        let taken = buffer.len().min(self.room);
+        if taken == 0 {
+            return Err(io::Error::from(ErrorKind::StorageFull));
+        }
+        self.held.extend_from_slice(&buffer[..taken])?;
+        self.room -= taken;
+        Ok(taken)
+    }
+
+    fn flush(&mut self) -> io::Result<()> {
+        if self.flush_fails {
+            return Err(io::Error::from(ErrorKind::BrokenPipe));
+        }
+        Ok(())
+    }
+}
+
+/// The status that a run ended with, and what it wrote.
+#[derive(Drop)]
+pub struct Ended {
+    pub status: u8,
+    pub output: Vec<u8>,
+    pub errors: Vec<u8>,
+}
+
+/// Runs the program with these words.
+pub fn run_on(
+    alloc: Global,
+    texts: &[&str],
+    input: &mut Source<'_>,
+    mut output: Device,
+) -> Result<Ended, AllocError> {
+    let mut words = Vec::new(alloc);
+    for text in texts {
+        words.push(String::from_str(alloc, text)?)?;
+    }
+    let mut errors = Vec::new(alloc);
+    let status = run(alloc, &words, input, &mut output, &mut errors);
+    Ok(Ended {
+        status,
+        output: output.held,
+        errors,
+    })
+}
+
+/// Runs the program with these words on a text, where nothing fails.
+pub fn run_on_text(alloc: Global, texts: &[&str], text: &str) -> Result<Ended, AllocError> {
+    let mut input = Source::new(text.as_bytes(), usize::MAX, None);
+    run_on(
+        alloc,
+        texts,
+        &mut input,
+        Device::new(alloc, usize::MAX, false),
+    )
+}
