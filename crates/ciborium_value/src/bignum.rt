@@ -4,7 +4,7 @@
 #[cfg(test)]
 mod tests;
 
-ghost use Rattle.std.specs.Prelude.{◌≡◌, ◌≤◌, IfErr, IfOk, None, Some, length, true};
+ghost use Rattle.std.specs.Prelude.{◌≡◌, ◌^◌, ◌≤◌, IfErr, IfOk, None, Some, length, true};
 ghost use Rattle.ciborium_value.specs.Meaning.{big_endian, bignum_meaning, is_bignum_tag};
 ghost use Rattle.ciborium_value.specs.Meaning.{without_zeros};
 ghost use Rattle.ciborium_value.specs.Tree as trees;
@@ -48,13 +48,15 @@ pub fn tag_over(alloc: Global, tag: u64, bytes: &[u8]) -> Result<Value, AllocErr
 }
 
 /// What tag 2 or 3 over these bytes means: the integer, where it is in range, else the tag over the
-/// bytes without leading zeros. A negative number that no `i128` holds means nothing.
+/// bytes without leading zeros. A negative number that no `i128` holds means nothing. An integer
+/// takes no memory.
 #[tactic(auto, unfolding(crate::specs::Meaning::bignum_meaning))]
 pub fn fold(alloc: Global, tag: u64, bytes: &[u8]) -> Result<Value, FoldError>
     requires tag { is_bignum_tag tag ≡ true }
     requires short { length bytes.now ≤ 16 }
     ensures ok { IfOk result (λ v. bignum_meaning tag bytes.now ≡ Some (tree_of v)) }
-    ensures err { IfErr result (λ e. e ≡ TooLarge → bignum_meaning tag bytes.now ≡ None) }
+    ensures too_large { IfErr result (λ e. e ≡ TooLarge → bignum_meaning tag bytes.now ≡ None) }
+    ensures large { IfErr result (λ e. 2 ^ 64 ≤ big_endian bytes.now) }
 {
     let number = read_number(bytes);
     if number < 1 << 64 {

@@ -195,7 +195,7 @@ impl Value {
         ensures none { IfNone result (¬ IsTag self.old) }
     {
         if let Value::Tag(tag, content) = self {
-            Some((tag, boxed(content)))
+            Some((tag, lend_content(content)))
         } else {
             None
         }
@@ -302,7 +302,7 @@ impl Value {
 }
 
 // The value in a box. It is lent here, so that the proof of `as_tag_mut` calls no generic function.
-fn boxed(content: &mut Box<Value>) -> &mut Value
+fn lend_content(content: &mut Box<Value>) -> &mut Value
     ensures* writes_back { sem 𝓛 (box_follows the_row global.the_row ghosts content.entry result) }
     ensures value { result.now ≡ content.old.value }
 {

@@ -44,12 +44,12 @@ use Rattle.std.specs.declared.option.Option.TheVariants.{None, Some}
 use Rattle.ciborium_value.proofs.TagParts.{B, Tag, tag_with, tags, lends_two, then₂}
 use Rattle.ciborium_value.proofs.tree.Value.as_tag_mut.Code as code
 use Rattle.ciborium_value.proofs.tree.Value.as_tag_mut.Statement.{statement}
-use Rattle.ciborium_value.proofs.tree.accessors.boxed.Met.{met}
+use Rattle.ciborium_value.proofs.tree.accessors.lend_content.Met.{met}
 use Rattle.ciborium_value.specs.LentParts.{with_tag}
 use Rattle.ciborium_value.specs.Variants.{IsTag, IsTagOf}
 use Rattle.ciborium_value.specs.contracts.tree.Value.{the_type, the_row as R, enum}
 use Rattle.ciborium_value.specs.contracts.tree.Value.as_tag_mut as f
-use Rattle.ciborium_value.specs.contracts.tree.accessors.boxed as g
+use Rattle.ciborium_value.specs.contracts.tree.accessors.lend_content as g
 
 abbrev none_val : Val
 none_val = vstruct (vcons (vint w8 0) vnil)
@@ -119,7 +119,7 @@ as_tag_mut_spec 𝓤 𝓛 𝓜 𝓡 wired =
           let lent : MutBor B.Denot = record { ref_ptr = (b, o + 16); ghost_name = γs.1; now = box } in
           let z : G.Ghost = ((κs, qs, tt, (lent, tt), (vptr b (o + 16) ∷ [], tt)), tt) in
           nothing ! $ move ! (1 ∷ 0 ∷ []) $ join ! $ nothing ! $ move ! (2 ∷ 0 ∷ []) $ join ! $ join ! $ nothing ! $ move ! (1 ∷ 0 ∷ []) $ use2 𝓛 (raw (G.pre z)) (id⊢ 𝓤 _) $
-          calls_at ! (framed 𝓤 𝓛.H 𝓜 𝓣) G (met 𝓤 𝓛 𝓜 𝓡 (code.calls-ciborium_value::tree::accessors::boxed 𝓡.env wired)) z (and_then ! (get ! refl) (no_more !)) (λ v.
+          calls_at ! (framed 𝓤 𝓛.H 𝓜 𝓣) G (met 𝓤 𝓛 𝓜 𝓡 (code.calls-ciborium_value::tree::accessors::lend_content 𝓡.env wired)) z (and_then ! (get ! refl) (no_more !)) (λ v.
           use1 𝓛 (later (some (λ (r : MutBor R.Denot). ((‵ (flft κ q) ⊛ ‵ ftrue) ⊛ ‵ ((MutRef (named 0) κ R).own_val r (v ∷ []))) ⊛
           some (λ (ws : Unit {0} × Unit {0}). ‵ (lasts g.ended κs (lent, tt) ws) ⊛ ‵ (follows B R γs.1 r.ghost_name (with_value box)) ⊛ raw (fact 𝓤 (r.now ≡ box.value)))))) (id⊢ 𝓤 _) $
           await ! tt $ pick ! (λ r. split ! $ split ! $ split ! $ move ! (2 ∷ []) $ fsplit ! $ feq_l ! (λ is_ref. move ! (3 ∷ []) $ pick ! (λ ws. split3 ! $ drop ! $ move ! (1 ∷ []) $ heard ! _ (λ same.
