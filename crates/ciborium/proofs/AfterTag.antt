@@ -30,11 +30,11 @@ use Rattle.ciborium.proofs.Pulled.{refused-map}
 
 -- what `pull` answers behind the tag
 abbrev pub PullsSo : {S E : Type 0} → (S → Option (List ℕ)) → Decoder S → Decoder S → Result Header (Error E) → Type 0
-PullsSo remaining d e x = (xs : List ℕ) (p : ℕ) → IsAhead remaining d p xs → HeadRead remaining e xs p x
+PullsSo remaining d e x = (xs : List ℕ) (p : ℕ) → IsAhead remaining d xs p → HeadRead remaining e xs p x
 
 -- what `folded` answers
 abbrev pub FoldsSo : {S E : Type 0} → (S → Option (List ℕ)) → Decoder S → Decoder S → ℕ → ℕ → ℕ → Result Value (Error E) → Type 0
-FoldsSo remaining d e t n at x = (xs : List ℕ) (p : ℕ) → IsAt remaining d p xs → FoldRead remaining e t n at xs p x
+FoldsSo remaining d e t n at x = (xs : List ℕ) (p : ℕ) → IsAt remaining d xs p → FoldRead remaining e t n at xs p x
 
 stands : {S : Type 0} (remaining : S → Option (List ℕ)) (d : Decoder S) (t : ℕ) (xs : List ℕ) (p : ℕ) (a : IsPulled remaining d (header.Tag t) xs p) → HeadStands xs 6 t (length a.0) a.1
 stands remaining d t xs p a = (a.0, a.2, refl, a.4)
@@ -42,7 +42,7 @@ stands remaining d t xs p a = (a.0, a.2, refl, a.4)
 no-break-tag : {S : Type 0} (remaining : S → Option (List ℕ)) (d : Decoder S) (t : ℕ) (xs : List ℕ) (p : ℕ) → IsPulled remaining d (header.Tag t) xs p → ¬ IsBreakAt xs p
 no-break-tag remaining d t xs p a = no-break xs p (header.Tag t) a.0 a.1 tt (front-of remaining d (header.Tag t) (header.Tag t) xs p refl a)
 
-behind : {S : Type 0} (remaining : S → Option (List ℕ)) (d : Decoder S) (t : ℕ) (xs : List ℕ) (p : ℕ) → d.pushed ≡ None → (a : IsPulled remaining d (header.Tag t) xs p) → IsAhead remaining d (p + length a.0) a.1
+behind : {S : Type 0} (remaining : S → Option (List ℕ)) (d : Decoder S) (t : ℕ) (xs : List ℕ) (p : ℕ) → d.pushed ≡ None → (a : IsPulled remaining d (header.Tag t) xs p) → IsAhead remaining d a.1 (p + length a.0)
 behind remaining d t xs p pushed a = ahead-at remaining d (p + length a.0) a.1 pushed a.6
 
 pub tag-refused : {S E : Type 0} (remaining : S → Option (List ℕ)) (d e : Decoder S) (t l : ℕ) (xs : List ℕ) (p : ℕ) (x : Error E) → d.pushed ≡ None → PullsSo remaining d e (Err x) → IsPulled remaining d (header.Tag t) xs p → RefusesNoBreak (remaining e.reader.now) x xs p l
@@ -62,7 +62,7 @@ tag-no-level E remaining d e t l xs p k pushed pull other none a =
     (subst (λ n. Refuses xs p (Some n) recursion_limit_exceeded) (sym none) (Refuses.no_tag_level t (length a.0) a.1 a.3 (stands remaining d t xs p a) b.3 (folds-not t k b.0 a.1 b.1 other b.2 b.4)), no-break-tag remaining d t xs p a)
 
 pub tag-opened : (E : Type 0) {S : Type 0} (remaining : S → Option (List ℕ)) (d e f : Decoder S) (t l at : ℕ) (xs : List ℕ) (p : ℕ) (k : Header) → d.pushed ≡ None → PullsSo {E = E} remaining d e (Ok k) → IsFolding t k None → (l ≡ 0 → ⊥) →
-    at ≡ offset_of d → IsUnread e f → f.pushed ≡ Some (k, at) → IsPulled remaining d (header.Tag t) xs p → (zs : List ℕ) × (r : ℕ) × IsBegun l xs p (opened (opening.Tag t)) zs r × IsAhead remaining f r zs
+    at ≡ offset_of d → IsUnread e f → f.pushed ≡ Some (k, at) → IsPulled remaining d (header.Tag t) xs p → (zs : List ℕ) × (r : ℕ) × IsBegun l xs p (opened (opening.Tag t)) zs r × IsAhead remaining f zs r
 tag-opened E remaining d e f t l at xs p k pushed pull other some here stays back a =
     let ahead = behind remaining d t xs p pushed a in
     let b = pull a.1 (p + length a.0) ahead in
@@ -70,8 +70,8 @@ tag-opened E remaining d e f t l at xs p k pushed pull other some here stays bac
     let place : at ≡ r = here ∙ offset-at remaining d r a.1 ahead in
     let less : l ≡ suc (l - 1) = omega (arith, some) in
     let tag : InTag xs p t a.1 r = record { size = length a.0; usable = a.3; head = stands remaining d t xs p a; next_usable = b.3; folds_not = folds-not t k b.0 a.1 b.1 other b.2 b.4; at = refl } in
-    let is : IsAheadBy remaining f r a.1 (Some (k, at)) = (place, b.0, b.1, b.2, b.3, b.4, (stays.1 ∙ b.6.0), (ap remaining stays.0 ∙ b.6.1)) in
-    (a.1, r, (l - 1, less, tag), subst (λ o. IsAheadBy remaining f r a.1 o) (sym back) is)
+    let is : IsAheadBy remaining f a.1 r (Some (k, at)) = (place, b.0, b.1, b.2, b.3, b.4, (stays.1 ∙ b.6.0), (ap remaining stays.0 ∙ b.6.1)) in
+    (a.1, r, (l - 1, less, tag), subst (λ o. IsAheadBy remaining f a.1 r o) (sym back) is)
 
 -- ---- a tag that folds
 

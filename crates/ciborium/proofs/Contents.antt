@@ -125,7 +125,7 @@ content-refuses kind None l at xs p b r e here u refuses =
 -- ---- answers
 
 pub got-string : (E : Type 0) {S : Type 0} (kind : StringKind) (remaining : S → Option (List ℕ)) (d e : Decoder S) (l : ℕ) (len : Option ℕ) (xs : List ℕ) (p : ℕ) (h : Header) (v : Value) → e.pushed ≡ None → h ≡ header_of kind len →
-    ((ys : List ℕ) (q : ℕ) → IsAt remaining d q ys → StringRead {S = S} {E = E} kind remaining e len d.last ys q (Ok v)) → IsPulled remaining d h xs p → Got remaining e l xs p (tree_of v)
+    ((ys : List ℕ) (q : ℕ) → IsAt remaining d ys q → StringRead {S = S} {E = E} kind remaining e len d.last ys q (Ok v)) → IsPulled remaining d h xs p → Got remaining e l xs p (tree_of v)
 got-string E kind remaining d e l len xs p h v pushed is read a =
     let u : Front xs p (header_of kind len) a.0 a.1 = front-of remaining d h (header_of kind len) xs p is a in
     let c = read a.1 (p + length a.0) a.6 in
@@ -133,7 +133,7 @@ got-string E kind remaining d e l len xs p h v pushed is read a =
     (c.2, q, subst (λ t. ReadsItem l xs p t c.2 q) (sym c.4) (string-reads E kind len l d.last xs p a.0 a.1 c.0 c.1 c.2 u c.3 c.5 c.7), ahead-at remaining e q c.2 pushed c.6)
 
 pub string-fault : {S E : Type 0} (kind : StringKind) (remaining : S → Option (List ℕ)) (d e : Decoder S) (l : ℕ) (len : Option ℕ) (xs : List ℕ) (p : ℕ) (h : Header) (x : Error E) → h ≡ header_of kind len →
-    ((ys : List ℕ) (q : ℕ) → IsAt remaining d q ys → RefusedBy (remaining e.reader.now) x (λ r. ContentRefuses kind len d.last ys q r)) → IsPulled remaining d h xs p → RefusesNoBreak (remaining e.reader.now) x xs p l
+    ((ys : List ℕ) (q : ℕ) → IsAt remaining d ys q → RefusedBy (remaining e.reader.now) x (λ r. ContentRefuses kind len d.last ys q r)) → IsPulled remaining d h xs p → RefusesNoBreak (remaining e.reader.now) x xs p l
 string-fault kind remaining d e l len xs p h x is read a =
     let u : Front xs p (header_of kind len) a.0 a.1 = front-of remaining d h (header_of kind len) xs p is a in
     refused-map (remaining e.reader.now) x (λ r. ContentRefuses kind len d.last a.1 (p + length a.0) r) (λ r. Refuses xs p (Some l) r × ¬ IsBreakAt xs p)
@@ -142,7 +142,7 @@ string-fault kind remaining d e l len xs p h x is read a =
 
 -- a string that was appended to an empty one
 pub string-read : (E : Type 0) {S : Type 0} (kind : StringKind) (remaining : S → Option (List ℕ)) (d e : Decoder S) (len : Option ℕ) (xs : List ℕ) (p : ℕ) (old new : List ℕ) (v : Value) → old ≡ [] → tree_of v ≡ string_tree kind new →
-    Takes remaining d e (λ b. (added : List ℕ) × (new ≡ old ++ added) × StringTaken {E = E} kind len d.last d.count (Ok tt) added b) → IsAt remaining d p xs →
+    Takes remaining d e (λ b. (added : List ℕ) × (new ≡ old ++ added) × StringTaken {E = E} kind len d.last d.count (Ok tt) added b) → IsAt remaining d xs p →
     StringRead {S = S} {E = E} kind remaining e len d.last xs p (Ok v)
 string-read E kind remaining d e len xs p old new v none tree (x, taken, count, (added, is, s), bytes) at =
     let k = rest-of (remaining d.reader.now) (remaining e.reader.now) xs x at.1 taken in

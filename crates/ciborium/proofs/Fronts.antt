@@ -77,15 +77,15 @@ head-refused left e xs p l h = refused-map left e (λ r. HeadRefuses xs p r) (λ
 
 -- a value that means t stands at xs, and the decoder stands behind it
 abbrev pub Got : {S : Type 0} → (S → Option (List ℕ)) → Decoder S → ℕ → List ℕ → ℕ → Tree → Type 0
-Got remaining d l xs p t = (zs : List ℕ) × (r : ℕ) × ReadsItem l xs p t zs r × IsAhead remaining d r zs
+Got remaining d l xs p t = (zs : List ℕ) × (r : ℕ) × ReadsItem l xs p t zs r × IsAhead remaining d zs r
 
-pub ahead-at : {S : Type 0} (remaining : S → Option (List ℕ)) (d : Decoder S) (p : ℕ) (xs : List ℕ) → d.pushed ≡ None → IsAt remaining d p xs → IsAhead remaining d p xs
-ahead-at remaining d p xs e a = subst (λ o. IsAheadBy remaining d p xs o) (sym e) a
+pub ahead-at : {S : Type 0} (remaining : S → Option (List ℕ)) (d : Decoder S) (p : ℕ) (xs : List ℕ) → d.pushed ≡ None → IsAt remaining d xs p → IsAhead remaining d xs p
+ahead-at remaining d p xs e a = subst (λ o. IsAheadBy remaining d xs p o) (sym e) a
 
-pub offset-at : {S : Type 0} (remaining : S → Option (List ℕ)) (d : Decoder S) (p : ℕ) (xs : List ℕ) → IsAhead remaining d p xs → offset_of d ≡ p
+pub offset-at : {S : Type 0} (remaining : S → Option (List ℕ)) (d : Decoder S) (p : ℕ) (xs : List ℕ) → IsAhead remaining d xs p → offset_of d ≡ p
 offset-at {S} remaining d p xs = by d.pushed
   where
-    by : (o : Option (Header × ℕ)) → IsAheadBy remaining d p xs o → next_offset d.count o ≡ p
+    by : (o : Option (Header × ℕ)) → IsAheadBy remaining d xs p o → next_offset d.count o ≡ p
     by None s = s.0
     by (Some k) s = s.0
 
@@ -133,12 +133,12 @@ got-leaf {S} remaining d l xs p h k t u pushed same is reads a =
     (a.1, p + length a.0, subst (λ v. ReadsItem l xs p v a.1 (p + length a.0)) (sym same) (reads a.0 a.1 (front-of remaining d h k xs p is a)), ahead-at remaining d (p + length a.0) a.1 pushed a.6)
 
 pub got-break : {S : Type 0} (remaining : S → Option (List ℕ)) (d : Decoder S) (xs : List ℕ) (p : ℕ) (h : Header) → d.pushed ≡ None → h ≡ header.Break → IsPulled remaining d h xs p →
-    (zs : List ℕ) × (xs ≡ break_byte ∷ zs) × (p < greatest_offset) × IsAhead remaining d (p + 1) zs
+    (zs : List ℕ) × (xs ≡ break_byte ∷ zs) × (p < greatest_offset) × IsAhead remaining d zs (p + 1)
 got-break {S} remaining d xs p h pushed is a =
     let u : Front xs p header.Break a.0 a.1 = front-of remaining d h header.Break xs p is a in
     let size : length a.0 ≡ 1 = ap length u.spelled in
     let fit = front-fits xs p header.Break a.0 a.1 u in
-    (a.1, u.split ∙ ap (λ (z : List ℕ). z ++ a.1) u.spelled, omega (arith, size, fit), ahead-at remaining d (p + 1) a.1 pushed (subst (λ n. IsAt remaining d (p + n) a.1) size a.6))
+    (a.1, u.split ∙ ap (λ (z : List ℕ). z ++ a.1) u.spelled, omega (arith, size, fit), ahead-at remaining d (p + 1) a.1 pushed (subst (λ n. IsAt remaining d a.1 (p + n)) size a.6))
 
 -- what the head that was pulled refuses
 pub at-head : {S : Type 0} (remaining : S → Option (List ℕ)) (d : Decoder S) (l : ℕ) (xs : List ℕ) (p : ℕ) (h k : Header) (e : Refusal) → h ≡ k → IsNoBreak k →

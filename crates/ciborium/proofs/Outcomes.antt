@@ -13,8 +13,8 @@ use Rattle.ciborium.specs.Answers.{IsFailed}
 use Rattle.ciborium.specs.Errors.{RefusedBy, IsNamed, kind_of}
 use Rattle.ciborium.specs.Reads.{ReadsItem, IsAt}
 
-pub left-at : {S : Type 0} (remaining : S → Option (List ℕ)) (d : Decoder S) (r : ℕ) (zs : List ℕ) → d.pushed ≡ None → IsAhead remaining d r zs → remaining d.reader.now ≡ Some zs
-left-at remaining d r zs rests a = let at : IsAt remaining d r zs = subst (λ o. IsAheadBy remaining d r zs o) rests a in at.1
+pub left-at : {S : Type 0} (remaining : S → Option (List ℕ)) (d : Decoder S) (r : ℕ) (zs : List ℕ) → d.pushed ≡ None → IsAhead remaining d zs r → remaining d.reader.now ≡ Some zs
+left-at remaining d r zs rests a = let at : IsAt remaining d zs r = subst (λ o. IsAheadBy remaining d zs r o) rests a in at.1
 
 some-tree : (m : Option Tree) (v : Tree) → m ≡ Some v → IsSome m
 some-tree None v e = absurd cc

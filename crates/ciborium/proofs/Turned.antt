@@ -28,7 +28,7 @@ use Rattle.ciborium.proofs.Turning.{placed-turn, closed-turn, refused-turn, leve
 
 -- what `next` answers, wherever the decoder stands
 abbrev pub Answers : {S E : Type 0} → (S → Option (List ℕ)) → Decoder S → Decoder S → ℕ → Result Part (Error E) → Type 0
-Answers remaining d e l x = (xs : List ℕ) (p : ℕ) → IsAhead remaining d p xs → PartRead remaining e l xs p x
+Answers remaining d e l x = (xs : List ℕ) (p : ℕ) → IsAhead remaining d xs p → PartRead remaining e l xs p x
 
 pub answers-of : (E : Type 0) {S : Type 0} (remaining : S → Option (List ℕ)) (d e : Decoder S) (n l : ℕ) (y z : Part) → n ≡ l → y ≡ z → Answers {E = E} remaining d e n (Ok y) → Answers {E = E} remaining d e l (Ok z)
 answers-of E remaining d e n l y z same is a xs p s = subst (λ x. PartRead {E = E} remaining e l xs p (Ok x)) is (subst (λ m. PartRead {E = E} remaining e m xs p (Ok y)) same (a xs p s))
@@ -47,7 +47,7 @@ turn-refused remaining d e os l xs p x answers s =
 -- ---- a value was placed
 
 is-turned : {S E : Type 0} (remaining : S → Option (List ℕ)) (e : Decoder S) (after : List Open) (l : ℕ) (xs : List ℕ) (p : ℕ) (given : Result (Option Value) AllocError) (x : Result (Option Value) (Error E)) (os : List Open) (v : Tree) (zs : List ℕ) (r : ℕ) →
-    IfOk x (λ o. given ≡ Ok o) → IfErr x (λ e. e ≡ Memory) → IfOk given (λ o. placed_of o after ≡ placed os v) → IsPlaced l xs p (placed os v) zs r → IsAhead remaining e r zs → Turned remaining e after l xs p x
+    IfOk x (λ o. given ≡ Ok o) → IfErr x (λ e. e ≡ Memory) → IfOk given (λ o. placed_of o after ≡ placed os v) → IsPlaced l xs p (placed os v) zs r → IsAhead remaining e zs r → Turned remaining e after l xs p x
 is-turned remaining e after l xs p given (Ok None) os v zs r ok err is a s =
     let b : IsPlaced l xs p (more after) zs r = subst (λ (x : Placed). IsPlaced l xs p x zs r) (sym (subst (λ g. IfOk g (λ o. placed_of o after ≡ placed os v)) ok is)) a in
     (b.0, zs, r, b.1, s)
@@ -130,5 +130,5 @@ depth-closed (map ps (Some n) key ∷ os) us v l e room = absurd cc
 
 -- ---- the beginning
 
-pub begin : {S : Type 0} (remaining : S → Option (List ℕ)) (d : Decoder S) (os : List Open) (l : ℕ) (xs : List ℕ) (p : ℕ) → os ≡ [] → IsAhead remaining d p xs → IsReading remaining d os l xs p
+pub begin : {S : Type 0} (remaining : S → Option (List ℕ)) (d : Decoder S) (os : List Open) (l : ℕ) (xs : List ℕ) (p : ℕ) → os ≡ [] → IsAhead remaining d xs p → IsReading remaining d os l xs p
 begin remaining d os l xs p none s = (l, xs, p, subst (λ us. IsAround l xs p us l xs p) (sym none) (refl, refl, refl), s)

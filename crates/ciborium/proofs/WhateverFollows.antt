@@ -60,28 +60,28 @@ module _ {S : Type 0} (remaining : S → Option (List ℕ)) where
 -- a head that was pulled
 pub head-pulled : {S : Type 0} (E : Type 0) (remaining : S → Option (List ℕ)) (a b : Decoder S) (result : Result Header (LlError E)) →
     IfSome a.pushed (λ head. (result ≡ Ok head.0) × (b.last ≡ head.1) × IsUnread a b) → IfNone a.pushed (Takes remaining a b (HeadTaken {E = E} a.count result)) → IfNone a.pushed (b.last ≡ a.count) →
-    TakesBeforeAny remaining a b (λ d e. (xs : List ℕ) (p : ℕ) → IsAhead Some d p xs → Pulls {E = E} Some e p xs result)
+    TakesBeforeAny remaining a b (λ d e. (xs : List ℕ) (p : ℕ) → IsAhead Some d xs p → Pulls {E = E} Some e xs p result)
 head-pulled {S} E remaining a b result pushed taken last = by a.pushed pushed taken last
   where
     by : (o : Option (Header × ℕ)) → IfSome o (λ head. (result ≡ Ok head.0) × (b.last ≡ head.1) × IsUnread a b) → IfNone o (Takes remaining a b (HeadTaken {E = E} a.count result)) → IfNone o (b.last ≡ a.count) →
-        Takes remaining a b (λ x. (c : List ℕ) (xs : List ℕ) (p : ℕ) → IsAheadBy Some (with_left a (x ++ c)) p xs o → Pulls {E = E} Some (with_left b c) p xs result)
+        Takes remaining a b (λ x. (c : List ℕ) (xs : List ℕ) (p : ℕ) → IsAheadBy Some (with_left a (x ++ c)) xs p o → Pulls {E = E} Some (with_left b c) xs p result)
     by None h (x, consumed, count, t, bytes) here =
         (x, consumed, count, λ c xs p s. pulls-head {E = E} (Some (x ++ c)) (Some c) b.last b.count xs a.count p result s here (x, refl, count, t, bytes), bytes)
     by (Some head) (same, here, unread) t l = (
       [],
       subst (λ s. Consumes (remaining a.reader.now) (remaining s) []) (sym unread.0) (Consumes-nil (remaining a.reader.now)),
       (let is = unread.1 in omega (arith, is)),
-      λ c xs p s. subst (λ r. PullsTo {E = E} b.last b.count (Some c) p xs r) (sym same) (s.1, s.2, s.3, s.4, s.5, here ∙ s.0, unread.1 ∙ s.6, s.7),
+      λ c xs p s. subst (λ r. PullsTo {E = E} b.last b.count (Some c) xs p r) (sym same) (s.1, s.2, s.3, s.4, s.5, here ∙ s.0, unread.1 ∙ s.6, s.7),
       no-bytes,
     )
 
 -- what the lowest layer's `pull` answers
 abbrev pub PullsAll : {E : Type 0} → Decoder (List ℕ) → Decoder (List ℕ) → Result Header (LlError E) → Type 0
-PullsAll {E} d e x = (xs : List ℕ) (p : ℕ) → IsAhead Some d p xs → Pulls {E = E} Some e p xs x
+PullsAll {E} d e x = (xs : List ℕ) (p : ℕ) → IsAhead Some d xs p → Pulls {E = E} Some e xs p x
 
 -- what the calls that read a string answer
 abbrev pub StringSo : {E : Type 0} → StringKind → Option ℕ → ℕ → Decoder (List ℕ) → Decoder (List ℕ) → Result Value (Error E) → Type 0
-StringSo {E} kind len at d e x = (xs : List ℕ) (p : ℕ) → IsAt Some d p xs → StringRead {S = List ℕ} {E = E} kind Some e len at xs p x
+StringSo {E} kind len at d e x = (xs : List ℕ) (p : ℕ) → IsAt Some d xs p → StringRead {S = List ℕ} {E = E} kind Some e len at xs p x
 
 -- a string that was refused
 pub string-refused : (E : Type 0) {S : Type 0} (remaining : S → Option (List ℕ)) (a b : Decoder S) (kind : StringKind) (len : Option ℕ) (x : LlError E) (A : List ℕ → List ℕ → Type 0) →
@@ -99,7 +99,7 @@ string-refused E remaining a b kind len x A (y, taken, count, h, bytes) = (
 
 -- what reading a value answers
 abbrev pub ValueSo : {E : Type 0} → ℕ → Decoder (List ℕ) → Decoder (List ℕ) → Result Value (Error E) → Type 0
-ValueSo {E} l d e x = (xs : List ℕ) (p : ℕ) → IsAhead Some d p xs → ValueRead {S = List ℕ} {E = E} Some e l xs p x
+ValueSo {E} l d e x = (xs : List ℕ) (p : ℕ) → IsAhead Some d xs p → ValueRead {S = List ℕ} {E = E} Some e l xs p x
 
 pub taken-as : (E : Type 0) {S : Type 0} (remaining : S → Option (List ℕ)) (a b : Decoder S) (lent : S) (l : ℕ) (x : Result Value (Error E)) → Begins a lent 0 → OnOk x (b.pushed ≡ None) →
     TakesBeforeAny remaining a b (λ d e. ValueSo {E = E} l d e x) → TakesBytes {E = E} (remaining lent) l (remaining b.reader.now) x

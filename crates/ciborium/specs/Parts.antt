@@ -64,9 +64,9 @@ HeadRead remaining d xs p (Err e) = RefusedBy (left_of remaining d) e (HeadRefus
 
 -- the answer of a call that reads a part
 abbrev pub PartRead : {S E : Type 0} → (S → Option (List ℕ)) → Decoder S → ℕ → List ℕ → ℕ → Result Part (Error E) → Type 0
-PartRead remaining d l xs p (Ok (Whole v)) = (zs : List ℕ) × (r : ℕ) × ReadsItem l xs p (tree_of v) zs r × IsAhead remaining d r zs
-PartRead remaining d l xs p (Ok (Opened f)) = (zs : List ℕ) × (r : ℕ) × IsBegun l xs p (opened f) zs r × IsAhead remaining d r zs
-PartRead remaining d l xs p (Ok Ended) = (zs : List ℕ) × (xs ≡ break_byte ∷ zs) × (p < greatest_offset) × IsAhead remaining d (p + 1) zs
+PartRead remaining d l xs p (Ok (Whole v)) = (zs : List ℕ) × (r : ℕ) × ReadsItem l xs p (tree_of v) zs r × IsAhead remaining d zs r
+PartRead remaining d l xs p (Ok (Opened f)) = (zs : List ℕ) × (r : ℕ) × IsBegun l xs p (opened f) zs r × IsAhead remaining d zs r
+PartRead remaining d l xs p (Ok Ended) = (zs : List ℕ) × (xs ≡ break_byte ∷ zs) × (p < greatest_offset) × IsAhead remaining d zs (p + 1)
 PartRead remaining d l xs p (Err e) = RefusesNoBreak (left_of remaining d) e xs p l
 
 -- a level is left for what was opened
@@ -95,7 +95,7 @@ FoldRefuses t n p xs e =
 -- the answer of a call that reads the n bytes over which a tag at offset at folds
 abbrev pub FoldRead : {S E : Type 0} → (S → Option (List ℕ)) → Decoder S → ℕ → ℕ → ℕ → List ℕ → ℕ → Result Value (Error E) → Type 0
 FoldRead remaining d t n at xs p (Ok v) =
-    (b : List ℕ) × (r : List ℕ) × (length b ≡ n) × AreBytes b × (bignum_meaning t b ≡ Some (tree_of v)) × (xs ≡ b ++ r) × IsAt remaining d (p + n) r
+    (b : List ℕ) × (r : List ℕ) × (length b ≡ n) × AreBytes b × (bignum_meaning t b ≡ Some (tree_of v)) × (xs ≡ b ++ r) × IsAt remaining d r (p + n)
 FoldRead remaining d t n at xs p (Err e) = p + n ≤ greatest_offset → RefusedBy (left_of remaining d) e (FoldRefuses t n at xs)
 
 -- whether a tag folds over what has this header behind it, and over how many bytes

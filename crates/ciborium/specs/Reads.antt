@@ -24,13 +24,13 @@ pub record ReadsItem (l : ℕ) (ys : List ℕ) (q : ℕ) (v : Tree) (zs : List �
   pub fits : r ≤ greatest_offset
 
 -- no head is pushed, xs is left, and its first byte is at offset p
-abbrev pub IsAt : {S : Type 0} → (S → Option (List ℕ)) → Decoder S → ℕ → List ℕ → Type 0
-IsAt remaining d p xs = (d.count ≡ p) × (remaining d.reader.now ≡ Some xs)
+abbrev pub IsAt : {S : Type 0} → (S → Option (List ℕ)) → Decoder S → List ℕ → ℕ → Type 0
+IsAt remaining d xs p = (d.count ≡ p) × (remaining d.reader.now ≡ Some xs)
 
 -- a head was pulled where xs was ahead from offset p on
 abbrev pub IsPulled : {S : Type 0} → (S → Option (List ℕ)) → Decoder S → Header → List ℕ → ℕ → Type 0
 IsPulled remaining d header xs p =
-    (h : List ℕ) × (r : List ℕ) × SpellsHeader h header × IsUsable xs p × (xs ≡ h ++ r) × (d.last ≡ p) × IsAt remaining d (p + length h) r
+    (h : List ℕ) × (r : List ℕ) × SpellsHeader h header × IsUsable xs p × (xs ≡ h ++ r) × (d.last ≡ p) × IsAt remaining d r (p + length h)
 
 -- a break stands at the front and may be read
 abbrev pub IsBreakAt : List ℕ → ℕ → Type 0

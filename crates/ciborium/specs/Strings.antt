@@ -22,5 +22,5 @@ string_tree of_text b = trees.text b
 abbrev pub StringRead : {S E : Type 0} → StringKind → (S → Option (List ℕ)) → Decoder S → Option ℕ → ℕ → List ℕ → ℕ → Result Value (Error E) → Type 0
 StringRead {S} {E} kind remaining d len at xs p (Ok v) =
     (b : List ℕ) × (added : List ℕ) × (r : List ℕ) × StringTaken {E = E} kind len at p (Ok tt) added b × (tree_of v ≡ string_tree kind added) ×
-    (xs ≡ b ++ r) × IsAt remaining d (p + length b) r × (p + length b ≤ greatest_offset)
+    (xs ≡ b ++ r) × IsAt remaining d r (p + length b) × (p + length b ≤ greatest_offset)
 StringRead kind remaining d len at xs p (Err e) = RefusedBy (left_of remaining d) e (ContentRefuses kind len at xs p)

@@ -71,7 +71,7 @@ reads-head {E} old new b p q (Err f) e (x, taken, count, t, bytes) =
 
 -- the same, of a decoder that reads at offset q
 pub pulls-head : {E : Type 0} (old new : Option (List ℕ)) (last count : ℕ) (b : List ℕ) (q p : ℕ) (result : Result Header (Error E)) → (q ≡ p) × (old ≡ Some b) → last ≡ q →
-    Advances old new q count (HeadTaken {E = E} q result) → PullsTo {E = E} last count new p b result
+    Advances old new q count (HeadTaken {E = E} q result) → PullsTo {E = E} last count new b p result
 pulls-head {E} old new last count b q p (Ok h) (at, known) here taken =
     let r = reads-head {E = E} old new b q count (Ok h) known taken in
     (r.0, r.1, r.2, subst (IsUsable b) at r.3, r.4, here ∙ at, r.5 ∙ ap (λ k. k + length r.0) at, r.6)

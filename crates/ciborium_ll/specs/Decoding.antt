@@ -61,23 +61,23 @@ abbrev pub offset_of : {S : Type 0} → Decoder S → ℕ
 offset_of d = next_offset d.count d.pushed
 
 -- b is unread, and its first byte is at offset p, where this head was pushed back: its bytes count as unread, and it is usable
-abbrev pub IsAheadBy : {S : Type 0} → (S → Option (List ℕ)) → Decoder S → ℕ → List ℕ → Option (Header × ℕ) → Type 0
-IsAheadBy remaining d p b None = (d.count ≡ p) × (remaining d.reader.now ≡ Some b)
-IsAheadBy remaining d p b (Some pushed) =
+abbrev pub IsAheadBy : {S : Type 0} → (S → Option (List ℕ)) → Decoder S → List ℕ → ℕ → Option (Header × ℕ) → Type 0
+IsAheadBy remaining d b p None = (d.count ≡ p) × (remaining d.reader.now ≡ Some b)
+IsAheadBy remaining d b p (Some pushed) =
     (pushed.1 ≡ p) × (h : List ℕ) × (r : List ℕ) × SpellsHeader h pushed.0 × IsUsable b p × (b ≡ h ++ r) ×
     (d.count ≡ p + length h) × (remaining d.reader.now ≡ Some r)
 
 -- b is unread, a head that was pushed back included, and its first byte is at offset p
-abbrev pub IsAhead : {S : Type 0} → (S → Option (List ℕ)) → Decoder S → ℕ → List ℕ → Type 0
-IsAhead remaining d p b = IsAheadBy remaining d p b d.pushed
+abbrev pub IsAhead : {S : Type 0} → (S → Option (List ℕ)) → Decoder S → List ℕ → ℕ → Type 0
+IsAhead remaining d b p = IsAheadBy remaining d b p d.pushed
 
 -- reading the head at the front of b, whose first byte is at offset p, answers so: then the last head stood there, what follows it
 -- is left, and this many bytes are counted; a refusal is the one of the definitions
-abbrev pub PullsTo : {E : Type 0} → ℕ → ℕ → Option (List ℕ) → ℕ → List ℕ → Result Header (Error E) → Type 0
-PullsTo last count left p b (Ok header) =
+abbrev pub PullsTo : {E : Type 0} → ℕ → ℕ → Option (List ℕ) → List ℕ → ℕ → Result Header (Error E) → Type 0
+PullsTo last count left b p (Ok header) =
     (h : List ℕ) × (r : List ℕ) × SpellsHeader h header × IsUsable b p × (b ≡ h ++ r) × (last ≡ p) × (count ≡ p + length h) × (left ≡ Some r)
-PullsTo last count left p b (Err e) = RefusedBy left e (HeadRefuses b p)
+PullsTo last count left b p (Err e) = RefusedBy left e (HeadRefuses b p)
 
 -- the decoder has read so
-abbrev pub Pulls : {S E : Type 0} → (S → Option (List ℕ)) → Decoder S → ℕ → List ℕ → Result Header (Error E) → Type 0
-Pulls remaining d p b result = PullsTo d.last d.count (remaining d.reader.now) p b result
+abbrev pub Pulls : {S E : Type 0} → (S → Option (List ℕ)) → Decoder S → List ℕ → ℕ → Result Header (Error E) → Type 0
+Pulls remaining d b p result = PullsTo d.last d.count (remaining d.reader.now) b p result

@@ -1,12 +1,12 @@
 -- What a call takes from a reader, where the reader's bytes are known, and how offsets count it.
-use Rattle.std.specs.Prelude.{◌≡◌, ℕ, ◌+◌, ◌<◌, ◌≤◌, List, [], length, take, Option, Some, Result, Ok, Err}
+use Rattle.std.specs.Prelude.{◌≡◌, ℕ, ◌+◌, ◌<◌, ◌≤◌, List, [], length, take, Option, Some, MatchOption, IsTrue, Result, Ok, Err}
 use Rattle.std.specs.Io.KnownBytes.{Consumes}
 use Rattle.ciborium_ll.specs.declared.header.Header.{Header}
 use Rattle.ciborium_ll.specs.declared.header.Error.{Error}
 use Rattle.ciborium_ll.specs.declared.header.Error.TheVariants.{Io, Syntax, TooLong, Memory}
 use Rattle.ciborium_ll.specs.Bytes.{AreBytes, greatest_offset}
 use Rattle.ciborium_ll.specs.Header.{SpellsHeader}
-use Rattle.ciborium_ll.specs.Refusal.{Refusal, io, syntax, too_long, HeadRefuses, IsUsable}
+use Rattle.ciborium_ll.specs.Refusal.{Refusal, is_ill_formed, io, syntax, too_long, HeadRefuses, IsUsable}
 
 -- some bytes are taken between the offsets p and q, and nothing else, and P holds of them; each is below 256
 abbrev pub Advances : Option (List ℕ) → Option (List ℕ) → ℕ → ℕ → (List ℕ → Type 0) → Type 0
@@ -19,6 +19,10 @@ RefusedBy left (Io e) P = left ≡ Some [] → P io
 RefusedBy left (Syntax p) P = P (syntax p)
 RefusedBy left TooLong P = P too_long
 RefusedBy left Memory P = Unit {0}
+
+-- what the bytes of a whole head are parsed as: the header that they spell, or none where they are ill-formed
+abbrev pub IsParsed : List ℕ → Option Header → Type 0
+IsParsed b header = MatchOption header (IsTrue (is_ill_formed b)) (SpellsHeader b)
 
 -- every beginning of b, at offset p, ends inside a head: no byte of b can be spared where the head at p is judged
 abbrev pub NoneIsSpare : List ℕ → ℕ → Type 0

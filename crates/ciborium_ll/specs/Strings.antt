@@ -34,6 +34,10 @@ IsPart kind h Other = (h ≢ header.Break) × ((n : ℕ) → h ≢ string_header
 abbrev pub Extends : List ℕ → List ℕ → Type 0
 Extends old new = (added : List ℕ) × (new ≡ old ++ added)
 
+-- bytes were put behind old ones, and P holds of them and of the bytes taken
+abbrev pub Grows : List ℕ → List ℕ → (List ℕ → List ℕ → Type 0) → List ℕ → Type 0
+Grows old new P b = (added : List ℕ) × (new ≡ old ++ added) × P added b
+
 -- where n bytes are appended as they come: at Ok they were taken and appended, refused fewer were or memory was wanting
 abbrev pub PiecesTaken : {E : Type 0} → ℕ → Result (Unit {0}) (Error E) → List ℕ → List ℕ → List ℕ → Type 0
 PiecesTaken n (Ok u) old new b = (length b ≡ n) × (new ≡ old ++ b)

@@ -23,11 +23,13 @@ pub struct Decoder<'a, R> {
 }
 
 impl<'a, R: Read> Decoder<'a, R> {
-    ghost use Rattle.std.specs.Prelude.{◌≡◌, ◌++◌, IfErr, IfNone, IfOk, IfSome, List, None, Ok, Some, string_bytes, ℕ};
-    ghost use Rattle.ciborium_ll.specs.Decoding.{Begins, IsAhead, IsUnread, Pulls, SameReader, Takes, count_of, last_of, left_of, offset_of, pushed_of};
+    ghost use Rattle.std.specs.Prelude.{◌≡◌, IfErr, IfNone, IfSome, List, None, Ok, Some, ℕ};
+    ghost use Rattle.std.specs.Prelude.{string_bytes};
+    ghost use Rattle.ciborium_ll.specs.Decoding.{Begins, IsAhead, IsUnread, Pulls, SameReader, Takes};
+    ghost use Rattle.ciborium_ll.specs.Decoding.{count_of, last_of, left_of, offset_of, pushed_of};
     ghost use Rattle.ciborium_ll.specs.Reading.{FillTaken, HeadTaken, RefusedBy};
     ghost use Rattle.ciborium_ll.specs.StringRefusal.{ContentRefuses, of_bytes, of_text};
-    ghost use Rattle.ciborium_ll.specs.Strings.{StringTaken};
+    ghost use Rattle.ciborium_ll.specs.Strings.{Grows, StringTaken};
 
     /// A decoder whose offsets begin at 0.
     pub fn new(reader: &'a mut R) -> Decoder<'a, R>
@@ -50,8 +52,8 @@ impl<'a, R: Read> Decoder<'a, R> {
         }
     }
 
-    /// The offset of the head that the next `pull` answers: that of the pushed head if there is one,
-    /// else the count of bytes read, from the offset on at which the decoder began.
+    /// The offset of the head that the next `pull` answers: that of the pushed head if there is
+    /// one, else the count of bytes read, from the offset on at which the decoder began.
     pub fn offset(&self) -> usize
         ensures { result ≡ offset_of self.now }
     {
@@ -76,23 +78,26 @@ impl<'a, R: Read> Decoder<'a, R> {
     ///
     /// # Errors
     ///
-    /// `Io` where the reader ends or fails inside the head; `Syntax` with the head's offset where it
-    /// is reserved; `TooLong` where the head, or the payload of a definite string that it announces,
-    /// would pass the greatest offset.
+    /// `Io` where the reader ends or fails inside the head; `Syntax` with the head's offset where
+    /// it is reserved; `TooLong` where the head, or the payload of a definite string that it
+    /// announces, would pass the greatest offset.
     #[inline(always)]
     pub fn pull(&mut self) -> Result<Header, Error<io::Error>>
         ensures same_reader { SameReader self.old self.new }
         ensures none_pushed { pushed_of self.new ≡ None }
 
         // A pushed head is answered and takes nothing.
-        ensures pushed { IfSome (pushed_of self.old) (λ head. (result ≡ Ok head.0) × (last_of self.new ≡ head.1) × IsUnread self.old self.new) }
+        ensures pushed { IfSome (pushed_of self.old) (λ head.
+            (result ≡ Ok head.0) × (last_of self.new ≡ head.1) × IsUnread self.old self.new) }
 
         // Otherwise just the bytes that decide the answer are taken.
-        ensures taken { IfNone (pushed_of self.old) (Takes R.remaining self.old self.new (HeadTaken (count_of self.old) result)) }
+        ensures taken { IfNone (pushed_of self.old)
+            (Takes R.remaining self.old self.new (HeadTaken (count_of self.old) result)) }
         ensures last { IfNone (pushed_of self.old) (last_of self.new ≡ count_of self.old) }
 
         // The same, said of all that is unread.
-        ensures ahead { (b : List ℕ) (p : ℕ) → IsAhead R.remaining self.old p b → Pulls R.remaining self.new p b result }
+        ensures ahead { (b : List ℕ) (p : ℕ) → IsAhead R.remaining self.old b p →
+            Pulls R.remaining self.new b p result }
     {
         if let Some((header, offset)) = self.pushed.take() {
             self.last = offset;
@@ -113,7 +118,8 @@ impl<'a, R: Read> Decoder<'a, R> {
         ensures same_reader { SameReader self.old self.new }
         ensures none_pushed { pushed_of self.new ≡ None }
         ensures last { last_of self.new ≡ last_of self.old }
-        ensures taken { Takes R.remaining self.old self.new (FillTaken (count_of self.old) buffer.new result) }
+        ensures taken { Takes R.remaining self.old self.new
+            (FillTaken (count_of self.old) buffer.new result) }
     {
         fill(self.reader, buffer, &mut self.count)
     }
@@ -124,10 +130,10 @@ impl<'a, R: Read> Decoder<'a, R> {
     ///
     /// # Errors
     ///
-    /// `Io` where the reader ends or fails before the end; `Syntax` with the offset of a head that is
-    /// reserved, or in an open string neither a definite byte string's nor the break; `TooLong` where
-    /// what a head announces would pass the greatest offset; `Memory` where a growth of `out` is
-    /// refused. What was then appended is a beginning of the payload.
+    /// `Io` where the reader ends or fails before the end; `Syntax` with the offset of a head that
+    /// is reserved, or in an open string neither a definite byte string's nor the break; `TooLong`
+    /// where what a head announces would pass the greatest offset; `Memory` where a growth of `out`
+    /// is refused. What was then appended is a beginning of the payload.
     pub fn bytes_into(
         &mut self,
         len: Option<usize>,
@@ -139,9 +145,11 @@ impl<'a, R: Read> Decoder<'a, R> {
         ensures none_pushed { pushed_of self.new ≡ None }
         ensures last { last_of self.new ≡ last_of self.old }
         ensures taken { Takes R.remaining self.old self.new
-            (λ b. (added : List ℕ) × (out.new.items ≡ out.old.items ++ added) × StringTaken of_bytes len (last_of self.old) (count_of self.old) result added b) }
+            (Grows out.old.items out.new.items
+            (StringTaken of_bytes len (last_of self.old) (count_of self.old) result)) }
         ensures refused { (b : List ℕ) → left_of R.remaining self.old ≡ Some b →
-            IfErr result (λ e. RefusedBy (left_of R.remaining self.new) e (ContentRefuses of_bytes len (last_of self.old) b (count_of self.old))) }
+            IfErr result (λ e. RefusedBy (left_of R.remaining self.new) e
+            (ContentRefuses of_bytes len (last_of self.old) b (count_of self.old))) }
     {
         append_string(
             self.reader,
@@ -174,9 +182,11 @@ impl<'a, R: Read> Decoder<'a, R> {
         ensures none_pushed { pushed_of self.new ≡ None }
         ensures last { last_of self.new ≡ last_of self.old }
         ensures taken { Takes R.remaining self.old self.new
-            (λ b. (added : List ℕ) × (string_bytes out.new ≡ string_bytes out.old ++ added) × StringTaken of_text len (last_of self.old) (count_of self.old) result added b) }
+            (Grows (string_bytes out.old) (string_bytes out.new)
+            (StringTaken of_text len (last_of self.old) (count_of self.old) result)) }
         ensures refused { (b : List ℕ) → left_of R.remaining self.old ≡ Some b →
-            IfErr result (λ e. RefusedBy (left_of R.remaining self.new) e (ContentRefuses of_text len (last_of self.old) b (count_of self.old))) }
+            IfErr result (λ e. RefusedBy (left_of R.remaining self.new) e
+            (ContentRefuses of_text len (last_of self.old) b (count_of self.old))) }
     {
         let empty = String::new(*out.allocator());
         let mut bytes = mem::replace(out, empty).into_bytes();
@@ -189,6 +199,7 @@ impl<'a, R: Read> Decoder<'a, R> {
             scratch,
             &mut bytes,
         );
+        // SAFETY: `out` held UTF-8, and each part that was appended to it is UTF-8 by itself.
         *out = unsafe { String::from_utf8_unchecked(bytes) };
         result
     }

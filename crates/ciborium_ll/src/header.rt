@@ -6,7 +6,8 @@ ghost use Rattle.ciborium_ll.specs.declared.header.Error.TheVariants.{Io};
 
 /// The head of a data item (RFC 8949, section 3), or a break.
 ///
-/// A length or count of `None` opens a string, array or map of indefinite length, which a break ends.
+/// A length or count of `None` opens a string, array or map of indefinite length, which a break
+/// ends.
 #[derive(Clone, Copy, Debug, PartialEq, Eq)]
 pub enum Header {
     /// The number n (major type 0).
@@ -26,7 +27,8 @@ pub enum Header {
     /// A simple value, below 24 or from 32 on (major type 7): false is 20, true 21, null 22 and
     /// undefined 23.
     Simple(u8),
-    /// A float of 2, 4 or 8 bytes (major type 7). The bytes belong to the head and were read with it.
+    /// A float of 2, 4 or 8 bytes (major type 7). The bytes belong to the head and were read with
+    /// it.
     Float(u8),
     /// The end of an open string, array or map.
     Break,

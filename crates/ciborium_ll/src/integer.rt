@@ -52,8 +52,8 @@ impl Integer {
             .then(argument.cmp(&other_argument))
     }
 
-    /// Whether the number is negative, and the argument of its head: n for the number n, of major type
-    /// 0, and n for the number -1 - n, of major type 1 (RFC 8949, section 3.1).
+    /// Whether the number is negative, and the argument of its head: n for the number n, of major
+    /// type 0, and n for the number -1 - n, of major type 1 (RFC 8949, section 3.1).
     #[inline(always)]
     pub fn head(self) -> (bool, u64)
         ensures { complement_if result.0 result.1 ≡ self }

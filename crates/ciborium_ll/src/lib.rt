@@ -1,5 +1,5 @@
-//! The lowest layer of CBOR (RFC 8949): heads, strings and offsets over any reader and writer, and the
-//! numbers that one head holds.
+//! The lowest layer of CBOR (RFC 8949): heads, strings and offsets over any reader and writer, and
+//! the numbers that one head holds.
 #![tactic(auto)]
 
 mod decoder;

@@ -1,9 +1,9 @@
 //! From the bytes of a head to the head.
 
-ghost use Rattle.std.specs.Prelude.{◌≡◌, ◌+◌, ◌*◌, ◌/◌, ◌%◌, ◌<◌, ◌≤◌, ◌∷◌, List, [], IsTrue, MatchOption, length};
+ghost use Rattle.std.specs.Prelude.{◌≡◌, ◌+◌, ◌*◌, ◌/◌, ◌%◌, ◌<◌, ◌≤◌, ◌∷◌, List, [], length};
 ghost use Rattle.ciborium_ll.specs.Head.{Width, argument_bytes, capacity, information};
-ghost use Rattle.ciborium_ll.specs.Header.{SpellsHeader};
-ghost use Rattle.ciborium_ll.specs.Refusal.{argument_length, is_ill_formed};
+ghost use Rattle.ciborium_ll.specs.Reading.{IsParsed};
+ghost use Rattle.ciborium_ll.specs.Refusal.{argument_length};
 
 use crate::header::Header;
 
@@ -12,7 +12,8 @@ use crate::header::Header;
 fn argument_of(info: u8, bytes: &[u8]) -> u64
     requires below { info < 28 }
     requires whole { length bytes.now ≡ argument_length info }
-    ensures { (w : Width) × (result < capacity w) × (info ≡ information w result) × (bytes.now ≡ argument_bytes w result) }
+    ensures { (w : Width) × (result < capacity w) × (info ≡ information w result) ×
+        (bytes.now ≡ argument_bytes w result) }
 {
     match *bytes {
         [a] => u64::from(a),
@@ -27,7 +28,7 @@ fn argument_of(info: u8, bytes: &[u8]) -> u64
 #[inline(always)]
 fn without_argument(first: u8) -> Option<Header>
     requires { 28 ≤ first % 32 }
-    ensures { MatchOption result (IsTrue (is_ill_formed (first ∷ []))) (λ header. SpellsHeader (first ∷ []) header) }
+    ensures { IsParsed (first ∷ []) result }
 {
     match first {
         0x5f => Some(Header::Bytes(None)),
@@ -44,7 +45,7 @@ fn without_argument(first: u8) -> Option<Header>
 fn simple_or_float(info: u8, bytes: &[u8]) -> Option<Header>
     requires below { info < 28 }
     requires whole { length bytes.now ≡ argument_length info }
-    ensures { MatchOption result (IsTrue (is_ill_formed ((224 + info) ∷ bytes.now))) (λ header. SpellsHeader ((224 + info) ∷ bytes.now) header) }
+    ensures { IsParsed ((224 + info) ∷ bytes.now) result }
 {
     match info {
         24 => {
@@ -66,7 +67,7 @@ fn simple_or_float(info: u8, bytes: &[u8]) -> Option<Header>
 #[inline(always)]
 pub(crate) fn parse_head(first: u8, bytes: &[u8]) -> Option<Header>
     requires { length bytes.now ≡ argument_length (first % 32) }
-    ensures { MatchOption result (IsTrue (is_ill_formed (first ∷ bytes.now))) (λ header. SpellsHeader (first ∷ bytes.now) header) }
+    ensures { IsParsed (first ∷ bytes.now) result }
 {
     let info = first % 32;
     let major = first / 32;

@@ -22,7 +22,8 @@ fn fill_within<R: Read>(
 ) -> Result<(), Error<io::Error>>
     requires { count.old + length buffer.old ≤ usize.MAX }
     ensures fits { count.new ≤ usize.MAX }
-    ensures bytes { Advances (R.remaining reader.old) (R.remaining reader.new) count.old count.new (FillTaken count.old buffer.new result) }
+    ensures bytes { Advances (R.remaining reader.old) (R.remaining reader.new) count.old count.new
+        (FillTaken count.old buffer.new result) }
 {
     let mut filled = 0;
     while filled < buffer.len() {
@@ -46,7 +47,8 @@ pub(crate) fn fill<R: Read>(
     count: &mut usize,
 ) -> Result<(), Error<io::Error>>
     ensures fits { count.new ≤ usize.MAX }
-    ensures bytes { Advances (R.remaining reader.old) (R.remaining reader.new) count.old count.new (FillTaken count.old buffer.new result) }
+    ensures bytes { Advances (R.remaining reader.old) (R.remaining reader.new) count.old count.new
+        (FillTaken count.old buffer.new result) }
 {
     if usize::MAX - *count < buffer.len() {
         return Err(Error::TooLong);
@@ -76,7 +78,8 @@ fn read_argument<R: Read>(
     requires behind { count.old ≡ start + 1 }
     requires whole { length argument.old ≡ argument_length (initial % 32) }
     ensures fits { count.new ≤ usize.MAX }
-    ensures head { Advances (R.remaining reader.old) (R.remaining reader.new) count.old count.new (λ b. HeadTaken start result (initial ∷ b)) }
+    ensures head { Advances (R.remaining reader.old) (R.remaining reader.new) count.old count.new
+        (λ b. HeadTaken start result (initial ∷ b)) }
 {
     fill(reader, argument, count)?;
     let Some(header) = parse_head(initial, argument) else {
@@ -88,15 +91,16 @@ fn read_argument<R: Read>(
     Ok(header)
 }
 
-// Reads the head at the front. A branch for each width lets the processor run ahead of the byte that
-// names it.
+// Reads the head at the front. A branch for each width lets the processor run ahead of the byte
+// that names it.
 #[inline(always)]
 pub(crate) fn read_head<R: Read>(
     reader: &mut R,
     count: &mut usize,
 ) -> Result<Header, Error<io::Error>>
     ensures fits { count.new ≤ usize.MAX }
-    ensures head { Advances (R.remaining reader.old) (R.remaining reader.new) count.old count.new (HeadTaken count.old result) }
+    ensures head { Advances (R.remaining reader.old) (R.remaining reader.new) count.old count.new
+        (HeadTaken count.old result) }
 {
     let start = *count;
     let mut first = [0u8; 1];

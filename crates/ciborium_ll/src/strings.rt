@@ -3,7 +3,8 @@
 ghost use Rattle.std.specs.Prelude.{◌≡◌, ◌+◌, ◌<◌, ◌≤◌, ◌++◌, ◌↔◌, IsTrue, List, length, ℕ};
 ghost use Rattle.ciborium_ll.specs.Reading.{Advances};
 ghost use Rattle.ciborium_ll.specs.StringRefusal.{Allowed};
-ghost use Rattle.ciborium_ll.specs.Strings.{IsPart, PartsTaken, PayloadTaken, PiecesTaken, StringTaken, kind_of};
+ghost use Rattle.ciborium_ll.specs.Strings.{Grows, IsPart, PartsTaken, PayloadTaken, PiecesTaken};
+ghost use Rattle.ciborium_ll.specs.Strings.{StringTaken, kind_of};
 
 use crate::header::{Error, Header};
 use crate::reading::{fill, read_head};
@@ -90,7 +91,7 @@ fn append_payload<R: Read>(
     requires { count.old + n ≤ usize.MAX }
     ensures fits { count.new ≤ usize.MAX }
     ensures bytes { Advances (R.remaining reader.old) (R.remaining reader.new) count.old count.new
-        (λ b. (added : List ℕ) × (out.new.items ≡ out.old.items ++ added) × PayloadTaken (kind_of kind) n head result added b) }
+        (Grows out.old.items out.new.items (PayloadTaken (kind_of kind) n head result)) }
 {
     let start = out.len();
     if let Err(e) = append_bytes(reader, count, n, scratch, out) {
@@ -132,7 +133,7 @@ fn append_parts<R: Read>(
 ) -> Result<(), Error<io::Error>>
     ensures fits { count.new ≤ usize.MAX }
     ensures bytes { Advances (R.remaining reader.old) (R.remaining reader.new) count.old count.new
-        (λ b. (added : List ℕ) × (out.new.items ≡ out.old.items ++ added) × PartsTaken (kind_of kind) count.old result added b) }
+        (Grows out.old.items out.new.items (PartsTaken (kind_of kind) count.old result)) }
 {
     let mut head = *count;
     'parts: loop {
@@ -158,7 +159,8 @@ pub(crate) fn append_string<R: Read>(
 ) -> Result<(), Error<io::Error>>
     ensures fits { count.new ≤ usize.MAX }
     ensures bytes { Advances (R.remaining reader.old) (R.remaining reader.new) count.old count.new
-        (λ b. (added : List ℕ) × (out.new.items ≡ out.old.items ++ added) × StringTaken (kind_of kind) len head count.old result added b) }
+        (Grows out.old.items out.new.items
+        (StringTaken (kind_of kind) len head count.old result)) }
 {
     match len {
         Some(n) => {

@@ -69,7 +69,7 @@ pub(crate) fn read_value<R: Read>(
     ensures same_reader { SameReader decoder.old decoder.new }
     ensures rests { OnOk result (pushed_of decoder.new ≡ None) }
     ensures value { TakesBeforeAny R.remaining decoder.old decoder.new
-        (λ d e. (xs : List ℕ) (p : ℕ) → IsAhead Some d p xs → ValueRead Some e levels xs p result) }
+        (λ d e. (xs : List ℕ) (p : ℕ) → IsAhead Some d xs p → ValueRead Some e levels xs p result) }
 {
     let mut stack = Stack::new(alloc);
     'turns: loop {

@@ -74,7 +74,7 @@ fn read_bytes<R: Read>(
     ensures pushed { pushed_of decoder.new ≡ None }
     ensures fewer { OnOk result (heads_left decoder.new ≤ heads_left decoder.old) }
     ensures content { TakesBeforeAny R.remaining decoder.old decoder.new
-        (λ d e. (xs : List ℕ) (p : ℕ) → IsAt Some d p xs →
+        (λ d e. (xs : List ℕ) (p : ℕ) → IsAt Some d xs p →
         StringRead of_bytes Some e len (last_of decoder.old) xs p result) }
 {
     let mut out = Vec::new(alloc);
@@ -94,7 +94,7 @@ fn read_text<R: Read>(
     ensures pushed { pushed_of decoder.new ≡ None }
     ensures fewer { OnOk result (heads_left decoder.new ≤ heads_left decoder.old) }
     ensures content { TakesBeforeAny R.remaining decoder.old decoder.new
-        (λ d e. (xs : List ℕ) (p : ℕ) → IsAt Some d p xs →
+        (λ d e. (xs : List ℕ) (p : ℕ) → IsAt Some d xs p →
         StringRead of_text Some e len (last_of decoder.old) xs p result) }
 {
     let mut out = String::new(alloc);
@@ -115,7 +115,7 @@ pub(crate) fn next<R: Read>(
     ensures rests { IfOk result (λ part. Rests part (pushed_of decoder.new)) }
     ensures room { IfOk result (λ part. HasRoom part levels) }
     ensures part { TakesBeforeAny R.remaining decoder.old decoder.new
-        (λ d e. (xs : List ℕ) (p : ℕ) → IsAhead Some d p xs → PartRead Some e levels xs p result) }
+        (λ d e. (xs : List ℕ) (p : ℕ) → IsAhead Some d xs p → PartRead Some e levels xs p result) }
 {
     let offset = decoder.offset();
     match pull(decoder)? {

@@ -61,7 +61,7 @@ fn read_folded<R: Read>(
     ensures pushed { pushed_of decoder.new ≡ None }
     ensures fewer { OnOk result (heads_left decoder.new ≤ heads_left decoder.old) }
     ensures fold { TakesBeforeAny R.remaining decoder.old decoder.new
-        (λ d e. (xs : List ℕ) (p : ℕ) → IsAt Some d p xs → FoldRead Some e tag n offset xs p result) }
+        (λ d e. (xs : List ℕ) (p : ℕ) → IsAt Some d xs p → FoldRead Some e tag n offset xs p result) }
 {
     let mut room = [0u8; GREATEST_FOLDED_SIZE];
     let payload = &mut room[..n];

@@ -15,7 +15,7 @@ use Rattle.ciborium.proofs.de.building.read_value.Goals as goal
 
 -- reading has come so far
 abbrev Reading : List Open → ℕ → Decoder (List ℕ) → Decoder (List ℕ) → Type 0
-Reading os l d e = (xs : List ℕ) (p : ℕ) → IsAhead Some d p xs → IsReading Some e os l xs p
+Reading os l d e = (xs : List ℕ) (p : ℕ) → IsAhead Some d xs p → IsReading Some e os l xs p
 
 -- a turn goes on
 abbrev Turns : List Open → List Open → ℕ → Result (Option Value) (Error IoError) → Decoder (List ℕ) → Decoder (List ℕ) → Type 0
