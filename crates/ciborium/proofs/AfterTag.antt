@@ -19,6 +19,7 @@ use Rattle.ciborium_value.specs.Stack.{opened}
 use Rattle.ciborium_value.specs.Tree.{Tree}
 use Rattle.ciborium_value.specs.View.{tree_of}
 use Rattle.ciborium_value.proofs.Found.{bignum_meaning-some}
+use Rattle.ciborium.proofs.ItemsRead.{item-read}
 use Rattle.ciborium.specs.declared.de.error.Error.{Error}
 use Rattle.ciborium.specs.Around.{InTag}
 use Rattle.ciborium_ll.specs.StringRefusal.{PayloadRefuses}
@@ -83,16 +84,7 @@ fold-reads : (t l n : ℕ) (xs : List ℕ) (p : ℕ) (h r i s bs zs : List ℕ) 
 fold-reads t l n xs p h r i s bs zs v u w big short len low e means =
     let folding : folding_bytes t (item.bytes false bs) ≡ Some bs = folds-is t bs big (omega arith) in
     let flat : nesting (item.tag t (item.bytes false bs)) ≡ 0 = ap (λ f. tag_nesting f 0) folding in
-    record {
-      taken = h ++ (i ++ bs);
-      what = item.tag t (item.bytes false bs);
-      spelled = (h, i ++ bs, u.spelled, (i, subst (Head i 2) (sym len) w.spelled, low, refl), refl);
-      means = ap (λ f. tag_meaning t f (meaning (item.bytes false bs))) folding ∙ means;
-      nests = omega (arith, flat);
-      split = u.split ∙ ap (λ (z : List ℕ). h ++ z) (w.split ∙ ap (λ (z : List ℕ). i ++ z) e ∙ sym (append_assoc i bs zs)) ∙ sym (append_assoc h (i ++ bs) zs);
-      at = omega (arith, length-append h (i ++ bs), length-append i bs, len);
-      fits = string-room 2 n (p + length h) r i s (inl refl) w.spelled w.usable w.split;
-    }
+    item-read (h ++ (i ++ bs)) (item.tag t (item.bytes false bs)) ((h, i ++ bs, u.spelled, (i, subst (Head i 2) (sym len) w.spelled, low, refl), refl)) (ap (λ f. tag_meaning t f (meaning (item.bytes false bs))) folding ∙ means) (omega (arith, flat)) (u.split ∙ ap (λ (z : List ℕ). h ++ z) (w.split ∙ ap (λ (z : List ℕ). i ++ z) e ∙ sym (append_assoc i bs zs)) ∙ sym (append_assoc h (i ++ bs) zs)) (omega (arith, length-append h (i ++ bs), length-append i bs, len)) (string-room 2 n (p + length h) r i s (inl refl) w.spelled w.usable w.split)
 
 pub tag-folded : (E : Type 0) {S : Type 0} (remaining : S → Option (List ℕ)) (d e f : Decoder S) (t l n at : ℕ) (xs : List ℕ) (p : ℕ) (k : Header) (v : Value) → d.pushed ≡ None → f.pushed ≡ None → PullsSo {E = E} remaining d e (Ok k) → IsFolding t k (Some n) →
     FoldsSo {E = E} remaining e f t n at (Ok v) → IsPulled remaining d (header.Tag t) xs p → Got remaining f l xs p (tree_of v)

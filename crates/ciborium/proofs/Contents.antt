@@ -18,6 +18,7 @@ use Rattle.ciborium_ll.proofs.Unread.{rest-of}
 use Rattle.ciborium_value.specs.declared.tree.Value.{Value}
 use Rattle.ciborium_value.specs.Refuses.{Refuses}
 use Rattle.ciborium_value.specs.View.{tree_of}
+use Rattle.ciborium.proofs.ItemsRead.{item-read}
 use Rattle.ciborium.specs.declared.de.error.Error.{Error}
 use Rattle.ciborium.specs.Errors.{RefusedBy}
 use Rattle.ciborium.specs.Parts.{RefusesNoBreak}
@@ -43,26 +44,8 @@ no-break-kind of_text len = tt
 
 definite-reads : (kind : StringKind) (l n : ℕ) (xs : List ℕ) (p : ℕ) (b r bs added zs : List ℕ) → Front xs p (header_of kind (Some n)) b r → length bs ≡ n → Allowed kind bs → added ≡ bs →
     r ≡ bs ++ zs → p + length b + length bs ≤ greatest_offset → ReadsItem l xs p (string_tree kind added) zs (p + length b + length bs)
-definite-reads of_bytes l n xs p b r bs added zs u size ok same e f = record {
-  taken = b ++ bs;
-  what = item.bytes false added;
-  spelled = (b, subst (Head b 2) (sym size ∙ ap length (sym same)) u.spelled, subst (Allowed of_bytes) (sym same) ok, ap (λ (z : List ℕ). b ++ z) (sym same));
-  means = refl;
-  nests = omega arith;
-  split = u.split ∙ ap (λ (z : List ℕ). b ++ z) e ∙ sym (append_assoc b bs zs);
-  at = omega (arith, length-append b bs);
-  fits = f;
-}
-definite-reads of_text l n xs p b r bs added zs u size ok same e f = record {
-  taken = b ++ bs;
-  what = item.text false added;
-  spelled = (b, subst (Head b 3) (sym size ∙ ap length (sym same)) u.spelled, subst (Allowed of_text) (sym same) ok, ap (λ (z : List ℕ). b ++ z) (sym same));
-  means = refl;
-  nests = omega arith;
-  split = u.split ∙ ap (λ (z : List ℕ). b ++ z) e ∙ sym (append_assoc b bs zs);
-  at = omega (arith, length-append b bs);
-  fits = f;
-}
+definite-reads of_bytes l n xs p b r bs added zs u size ok same e f = item-read (b ++ bs) (item.bytes false added) ((b, subst (Head b 2) (sym size ∙ ap length (sym same)) u.spelled, subst (Allowed of_bytes) (sym same) ok, ap (λ (z : List ℕ). b ++ z) (sym same))) refl (omega arith) (u.split ∙ ap (λ (z : List ℕ). b ++ z) e ∙ sym (append_assoc b bs zs)) (omega (arith, length-append b bs)) f
+definite-reads of_text l n xs p b r bs added zs u size ok same e f = item-read (b ++ bs) (item.text false added) ((b, subst (Head b 3) (sym size ∙ ap length (sym same)) u.spelled, subst (Allowed of_text) (sym same) ok, ap (λ (z : List ℕ). b ++ z) (sym same))) refl (omega arith) (u.split ∙ ap (λ (z : List ℕ). b ++ z) e ∙ sym (append_assoc b bs zs)) (omega (arith, length-append b bs)) f
 
 open-split : (xs : List ℕ) (x : ℕ) (b r bs good zs : List ℕ) → xs ≡ b ++ r → b ≡ x ∷ [] → r ≡ bs ++ zs → bs ≡ good ++ break_byte ∷ [] → xs ≡ (x ∷ (good ++ (break_byte ∷ []))) ++ zs
 open-split xs x b r bs good zs e f g h = e ∙ ap (λ (z : List ℕ). z ++ r) f ∙ ap (λ (z : List ℕ). x ∷ z) (g ∙ ap (λ (z : List ℕ). z ++ zs) h)
@@ -71,26 +54,8 @@ string-reads : (E : Type 0) (kind : StringKind) (len : Option ℕ) (l at : ℕ) 
     StringTaken {E = E} kind len at (p + length b) (Ok tt) added bs → r ≡ bs ++ zs → p + length b + length bs ≤ greatest_offset → ReadsItem l xs p (string_tree kind added) zs (p + length b + length bs)
 string-reads E kind (Some n) l at xs p b r bs added zs u (inl (over, never, none, nothing)) e f = absurd cc
 string-reads E kind (Some n) l at xs p b r bs added zs u (inr (within, (size, ok, same))) e f = definite-reads kind l n xs p b r bs added zs u size ok same e f
-string-reads E of_bytes None l at xs p b r bs added zs u (payloads, good, parts, room, split, same) e f = record {
-  taken = open_byte 2 ∷ (good ++ (break_byte ∷ []));
-  what = item.bytes true added;
-  spelled = (payloads, good, parts, same, refl);
-  means = refl;
-  nests = omega arith;
-  split = open-split xs (open_byte 2) b r bs good zs u.split u.spelled e split;
-  at = (let x : length b ≡ 1 = ap length u.spelled in let y : length bs ≡ length (good ++ (break_byte ∷ [])) = ap length split in omega (arith, x, y));
-  fits = f;
-}
-string-reads E of_text None l at xs p b r bs added zs u (payloads, good, parts, room, split, same) e f = record {
-  taken = open_byte 3 ∷ (good ++ (break_byte ∷ []));
-  what = item.text true added;
-  spelled = (payloads, good, parts, same, refl);
-  means = refl;
-  nests = omega arith;
-  split = open-split xs (open_byte 3) b r bs good zs u.split u.spelled e split;
-  at = (let x : length b ≡ 1 = ap length u.spelled in let y : length bs ≡ length (good ++ (break_byte ∷ [])) = ap length split in omega (arith, x, y));
-  fits = f;
-}
+string-reads E of_bytes None l at xs p b r bs added zs u (payloads, good, parts, room, split, same) e f = item-read (open_byte 2 ∷ (good ++ (break_byte ∷ []))) (item.bytes true added) (payloads, good, parts, same, refl) refl (omega arith) (open-split xs (open_byte 2) b r bs good zs u.split u.spelled e split) ((let x : length b ≡ 1 = ap length u.spelled in let y : length bs ≡ length (good ++ (break_byte ∷ [])) = ap length split in omega (arith, x, y))) f
+string-reads E of_text None l at xs p b r bs added zs u (payloads, good, parts, room, split, same) e f = item-read (open_byte 3 ∷ (good ++ (break_byte ∷ []))) (item.text true added) (payloads, good, parts, same, refl) refl (omega arith) (open-split xs (open_byte 3) b r bs good zs u.split u.spelled e split) ((let x : length b ≡ 1 = ap length u.spelled in let y : length bs ≡ length (good ++ (break_byte ∷ [])) = ap length split in omega (arith, x, y))) f
 
 -- ---- what was refused
 

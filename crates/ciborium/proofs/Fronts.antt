@@ -22,6 +22,7 @@ use Rattle.ciborium_value.specs.Tree.{Tree}
 use Rattle.ciborium_value.specs.View.{tree_of}
 use Rattle.ciborium_value.specs.Open as opened
 use Rattle.ciborium_value.proofs.Steps.{opened-has}
+use Rattle.ciborium.proofs.ItemsRead.{item-read}
 use Rattle.ciborium.specs.declared.de.error.Error.{Error}
 use Rattle.ciborium.specs.declared.de.front.Part.{Part}
 use Rattle.ciborium.specs.declared.de.front.Part.TheVariants.{Whole, Opened, Ended}
@@ -91,39 +92,21 @@ offset-at {S} remaining d p xs = by d.pushed
 
 pub positive-reads : (l n : ℕ) (xs : List ℕ) (p : ℕ) (b r : List ℕ) → Front xs p (header.Positive n) b r → ReadsItem l xs p (trees.integer (pos n)) r (p + length b)
 positive-reads l n xs p b r u =
-    record { taken = b; what = item.unsigned n; spelled = u.spelled; means = refl; nests = omega arith; split = u.split; at = refl; fits = front-fits xs p _ b r u }
+    item-read b (item.unsigned n) u.spelled refl (omega arith) u.split refl (front-fits xs p _ b r u)
 
 pub negative-reads : (l n : ℕ) (xs : List ℕ) (p : ℕ) (b r : List ℕ) → Front xs p (header.Negative n) b r → ReadsItem l xs p (trees.integer (negsuc n)) r (p + length b)
 negative-reads l n xs p b r u =
-    record { taken = b; what = item.negative n; spelled = u.spelled; means = refl; nests = omega arith; split = u.split; at = refl; fits = front-fits xs p _ b r u }
+    item-read b (item.negative n) u.spelled refl (omega arith) u.split refl (front-fits xs p _ b r u)
 
 pub simple-reads : (l n : ℕ) (xs : List ℕ) (p : ℕ) (b r : List ℕ) (t : Tree) → simple_meaning n ≡ Some t → Front xs p (header.Simple n) b r → ReadsItem l xs p t r (p + length b)
 simple-reads l n xs p b r t e u =
-    record { taken = b; what = item.simple n; spelled = u.spelled; means = e; nests = omega arith; split = u.split; at = refl; fits = front-fits xs p _ b r u }
+    item-read b (item.simple n) u.spelled e (omega arith) u.split refl (front-fits xs p _ b r u)
 
 empty-array : (l : ℕ) (xs : List ℕ) (p : ℕ) (b r : List ℕ) → 0 < l → Front xs p (header.Array (Some 0)) b r → ReadsItem l xs p (trees.array trees.no_trees) r (p + length b)
-empty-array l xs p b r lt u = record {
-  taken = b;
-  what = item.array false item.no_items;
-  spelled = ([], refl, (b, u.spelled, sym (append-nil b)));
-  means = refl;
-  nests = omega arith;
-  split = u.split;
-  at = refl;
-  fits = front-fits xs p _ b r u;
-}
+empty-array l xs p b r lt u = item-read b (item.array false item.no_items) (([], refl, (b, u.spelled, sym (append-nil b)))) refl (omega arith) u.split refl (front-fits xs p _ b r u)
 
 empty-map : (l : ℕ) (xs : List ℕ) (p : ℕ) (b r : List ℕ) → 0 < l → Front xs p (header.Map (Some 0)) b r → ReadsItem l xs p (trees.map trees.no_tree_pairs) r (p + length b)
-empty-map l xs p b r lt u = record {
-  taken = b;
-  what = item.map false item.no_pairs;
-  spelled = ([], refl, (b, u.spelled, sym (append-nil b)));
-  means = refl;
-  nests = omega arith;
-  split = u.split;
-  at = refl;
-  fits = front-fits xs p _ b r u;
-}
+empty-map l xs p b r lt u = item-read b (item.map false item.no_pairs) (([], refl, (b, u.spelled, sym (append-nil b)))) refl (omega arith) u.split refl (front-fits xs p _ b r u)
 
 -- ---- answers
 

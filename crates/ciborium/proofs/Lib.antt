@@ -10,6 +10,7 @@ mod CanonicalValues
 mod ProperValues
 mod Grown
 mod Paired
+mod ItemsRead
 mod Turning
 mod Pulled
 mod Numbers

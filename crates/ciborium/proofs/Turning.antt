@@ -17,6 +17,7 @@ use Rattle.ciborium_value.specs.Tree as trees
 use Rattle.ciborium_value.specs.Tree.{Tree, Trees}
 use Rattle.ciborium_value.specs.View.{trees_from, tree_pairs_from}
 use Rattle.ciborium_value.proofs.Parts.{then, then-after, then-count, after-left, after-items}
+use Rattle.ciborium.proofs.ItemsRead.{item-read, end-fits}
 use Rattle.ciborium.specs.Around.{in_turn, due_in, array_due, map_due, ContainerStands, IsRoom, InContainer, InTag, IsInside, IsAround, IsPlaced}
 use Rattle.ciborium.specs.Reads.{ReadsItem, IsBreakAt}
 use Rattle.ciborium.proofs.Grown.{then-Spells, then-nesting, then-meaning}
@@ -48,16 +49,16 @@ one-more : (major : ℕ) (count : Option ℕ) (start now : Due) (l : ℕ) (ys : 
 one-more major count start now l ys q vs v zs r us s open_ a i = record {
   size = a.size;
   good = a.good ++ i.taken;
-  items = then a.items i.what;
+  items = then a.items i.read.0;
   usable = a.usable;
   head = container-on major ys count a.size (a.good ++ zs) ((a.good ++ i.taken) ++ us) (ap (λ (z : List ℕ). a.good ++ z) i.split ∙ sym (append_assoc a.good i.taken us)) a.head;
-  spelled = then-Spells a.items i.what a.good i.taken a.spelled i.spelled;
-  means = then-meaning a.items i.what vs v a.means i.means;
-  nests = then-nesting a.items i.what l a.nests i.nests;
-  due = then-after a.items i.what start ∙ ap next_due a.due;
-  room = room-more start now a.items i.what a.due open_ a.room;
+  spelled = then-Spells a.items i.read.0 a.good i.taken a.spelled i.read.1.0;
+  means = then-meaning a.items i.read.0 vs v a.means i.read.2;
+  nests = then-nesting a.items i.read.0 l a.nests i.read.1.2;
+  due = then-after a.items i.read.0 start ∙ ap next_due a.due;
+  room = room-more start now a.items i.read.0 a.due open_ a.room;
   at = (let x = a.at in let y = i.at in omega (arith, length-append a.good i.taken));
-  fits = i.fits;
+  fits = (end-fits i);
 }
 
 -- the same container, with what is due and its parts written otherwise
@@ -115,16 +116,7 @@ array-whole None l ys q vs us s a = absurd (never-counts a.items a.due)
 array-whole (Some n) l ys q vs us s a =
     let all : items_count a.items ≡ n = all-there n a.items a.due a.room in
     let nests = a.nests in
-    record {
-      taken = a.head.0 ++ a.good;
-      what = item.array false a.items;
-      spelled = (a.good, a.spelled, (a.head.0, subst (Head a.head.0 4) (sym all) a.head.1, refl));
-      means = ap (option_map trees.array) a.means;
-      nests = omega (arith, nests);
-      split = counted-split 4 n a.size q s ys a.good us a.head a.at;
-      at = counted-end 4 n a.size q s ys a.good us a.head a.at;
-      fits = a.fits;
-    }
+    item-read (a.head.0 ++ a.good) (item.array false a.items) ((a.good, a.spelled, (a.head.0, subst (Head a.head.0 4) (sym all) a.head.1, refl))) (ap (option_map trees.array) a.means) (omega (arith, nests)) (counted-split 4 n a.size q s ys a.good us a.head a.at) (counted-end 4 n a.size q s ys a.good us a.head a.at) a.fits
 
 array-ended : (count : Option ℕ) (l : ℕ) (ys : List ℕ) (q : ℕ) (vs : List Tree) (zs : List ℕ) (r : ℕ) (us : List ℕ) → InContainer 4 count (array_due count) items_until_break l ys q vs zs r →
     zs ≡ break_byte ∷ us → r < greatest_offset → ReadsItem (suc l) ys q (trees.array (trees_from vs)) us (r + 1)
@@ -132,16 +124,7 @@ array-ended (Some n) l ys q vs zs r us a e f = absurd (never-breaks n a.items it
 array-ended None l ys q vs zs r us a e f =
     let nests = a.nests in
     let at : r ≡ q + 1 + length a.good = a.at ∙ ap (λ k. q + k + length a.good) a.head.0 in
-    record {
-      taken = open_byte 4 ∷ (a.good ++ (break_byte ∷ []));
-      what = item.array true a.items;
-      spelled = (a.good, a.spelled, refl);
-      means = ap (option_map trees.array) a.means;
-      nests = omega (arith, nests);
-      split = open-split 4 q r ys a.good zs us a.head.1 e at;
-      at = open-end 4 q r ys a.good zs us a.head.1 e at;
-      fits = omega (arith, f);
-    }
+    item-read (open_byte 4 ∷ (a.good ++ (break_byte ∷ []))) (item.array true a.items) (a.good, a.spelled, refl) (ap (option_map trees.array) a.means) (omega (arith, nests)) (open-split 4 q r ys a.good zs us a.head.1 e at) (open-end 4 q r ys a.good zs us a.head.1 e at) (omega (arith, f))
 
 map-whole : (count : Option ℕ) (l : ℕ) (ys : List ℕ) (q : ℕ) (ps : List (Tree × Tree)) (us : List ℕ) (s : ℕ) → InContainer 5 count (map_due count) (exactly 0) l ys q (in_turn ps None) us s →
     ReadsItem (suc l) ys q (trees.map (tree_pairs_from ps)) us s
@@ -151,16 +134,7 @@ map-whole (Some n) l ys q ps us s a =
     let all : items_count a.items ≡ 2 * n = all-there (2 * n) a.items a.due a.room in
     let count : pairs_count (paired a.items) ≡ n = (let twice = pairs.2 in omega (arith, twice, all)) in
     let nests : pairs_nesting (paired a.items) ≤ l = paired-nesting a.items l a.nests in
-    record {
-      taken = a.head.0 ++ a.good;
-      what = item.map false (paired a.items);
-      spelled = (a.good, pairs.0, (a.head.0, subst (Head a.head.0 5) (sym count) a.head.1, refl));
-      means = ap (option_map trees.map) pairs.1;
-      nests = omega (arith, nests);
-      split = counted-split 5 n a.size q s ys a.good us a.head a.at;
-      at = counted-end 5 n a.size q s ys a.good us a.head a.at;
-      fits = a.fits;
-    }
+    item-read (a.head.0 ++ a.good) (item.map false (paired a.items)) ((a.good, pairs.0, (a.head.0, subst (Head a.head.0 5) (sym count) a.head.1, refl))) (ap (option_map trees.map) pairs.1) (omega (arith, nests)) (counted-split 5 n a.size q s ys a.good us a.head a.at) (counted-end 5 n a.size q s ys a.good us a.head a.at) a.fits
 
 map-ended : (count : Option ℕ) (l : ℕ) (ys : List ℕ) (q : ℕ) (ps : List (Tree × Tree)) (zs : List ℕ) (r : ℕ) (us : List ℕ) → InContainer 5 count (map_due count) keys_until_break l ys q (in_turn ps None) zs r →
     zs ≡ break_byte ∷ us → r < greatest_offset → ReadsItem (suc l) ys q (trees.map (tree_pairs_from ps)) us (r + 1)
@@ -169,16 +143,7 @@ map-ended None l ys q ps zs r us a e f =
     let pairs = paired-is a.items ps a.good a.spelled a.means in
     let nests : pairs_nesting (paired a.items) ≤ l = paired-nesting a.items l a.nests in
     let at : r ≡ q + 1 + length a.good = a.at ∙ ap (λ k. q + k + length a.good) a.head.0 in
-    record {
-      taken = open_byte 5 ∷ (a.good ++ (break_byte ∷ []));
-      what = item.map true (paired a.items);
-      spelled = (a.good, pairs.0, refl);
-      means = ap (option_map trees.map) pairs.1;
-      nests = omega (arith, nests);
-      split = open-split 5 q r ys a.good zs us a.head.1 e at;
-      at = open-end 5 q r ys a.good zs us a.head.1 e at;
-      fits = omega (arith, f);
-    }
+    item-read (open_byte 5 ∷ (a.good ++ (break_byte ∷ []))) (item.map true (paired a.items)) (a.good, pairs.0, refl) (ap (option_map trees.map) pairs.1) (omega (arith, nests)) (open-split 5 q r ys a.good zs us a.head.1 e at) (open-end 5 q r ys a.good zs us a.head.1 e at) (omega (arith, f))
 
 -- ---- a tag with its item
 
@@ -212,20 +177,11 @@ folds-not t zs taken us (item.float p) never s e = cond-nothing (is_bignum_tag t
 
 tag-whole : (l : ℕ) (ys : List ℕ) (q t : ℕ) (v : Tree) (zs : List ℕ) (r : ℕ) (us : List ℕ) (s : ℕ) → InTag ys q t zs r → ReadsItem l zs r v us s → ReadsItem (suc l) ys q (trees.tag t v) us s
 tag-whole l ys q t v zs r us s a i =
-    let never = folds-not t zs i.taken us i.what a.folds_not i.spelled i.split in
-    let deep : nesting (item.tag t i.what) ≡ suc (nesting i.what) = ap (λ f. tag_nesting f (nesting i.what)) never in
-    let nests = i.nests in
+    let never = folds-not t zs i.taken us i.read.0 a.folds_not i.read.1.0 i.split in
+    let deep : nesting (item.tag t i.read.0) ≡ suc (nesting i.read.0) = ap (λ f. tag_nesting f (nesting i.read.0)) never in
+    let nests = i.read.1.2 in
     let head = a.head in
-    record {
-      taken = head.0 ++ i.taken;
-      what = item.tag t i.what;
-      spelled = (head.0, i.taken, head.1, i.spelled, refl);
-      means = ap (λ f. tag_meaning t f (meaning i.what)) never ∙ ap (option_map (trees.tag t)) i.means;
-      nests = omega (arith, nests, deep);
-      split = head.3 ∙ ap (λ (z : List ℕ). head.0 ++ z) i.split ∙ sym (append_assoc head.0 i.taken us);
-      at = (let x = a.at in let y = i.at in let z = head.2 in omega (arith, length-append head.0 i.taken));
-      fits = i.fits;
-    }
+    item-read (head.0 ++ i.taken) (item.tag t i.read.0) (head.0, i.taken, head.1, i.read.1.0, refl) (ap (λ f. tag_meaning t f (meaning i.read.0)) never ∙ ap (option_map (trees.tag t)) i.read.2) (omega (arith, nests, deep)) (head.3 ∙ ap (λ (z : List ℕ). head.0 ++ z) i.split ∙ sym (append_assoc head.0 i.taken us)) ((let x = a.at in let y = i.at in let z = head.2 in omega (arith, length-append head.0 i.taken))) (end-fits i)
 
 -- ---- a value is placed
 

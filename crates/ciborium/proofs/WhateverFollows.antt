@@ -15,14 +15,14 @@ use Rattle.ciborium_ll.specs.Strings.{StringTaken}
 use Rattle.ciborium_ll.proofs.Unread.{pulls-head, reads-string}
 use Rattle.ciborium_value.specs.declared.tree.Value.{Value}
 use Rattle.ciborium.specs.declared.de.error.Error.{Error}
-use Rattle.ciborium_value.specs.Refuses.{IsGood}
+use Rattle.ciborium_value.specs.Refuses.{IsReadAs}
 use Rattle.ciborium_value.specs.View.{tree_of}
 use Rattle.ciborium.specs.Answers.{IsTakenAs, TakesBytes, ValueRead}
 use Rattle.ciborium.specs.Errors.{from_ll}
 use Rattle.ciborium.specs.Reads.{IsAt}
 use Rattle.ciborium.specs.Strings.{StringRead}
 use Rattle.ciborium.proofs.Fronts.{ahead-at}
-use Rattle.ciborium.proofs.Outcomes.{left-at, good-of}
+use Rattle.ciborium.proofs.Outcomes.{left-at}
 use Rattle.ciborium.proofs.Pulled.{refused-from}
 
 no-bytes : AreBytes []
@@ -116,5 +116,5 @@ taken-as E {S} remaining a b lent l x begins rests (s, taken, count, h, bytes) =
         let (zs, r, reads, at) = f [] in
         let left : [] ≡ zs = same-rest [] zs (left-at Some (with_left b []) r zs rests at) in
         let whole : reads.taken ≡ s = sym (append-nil reads.taken) ∙ ap (λ (z : List ℕ). reads.taken ++ z) left ∙ sym reads.split ∙ append-nil s in
-        (reads.what, subst (λ z. IsGood reads.what (Some l) z 0) whole (good-of l (s ++ []) (tree_of v) zs r reads), reads.means)
+        subst (λ z. IsReadAs z 0 (Some l) (tree_of v)) whole reads.read
     found (Err e) rests f = f

@@ -1,27 +1,20 @@
 -- What reading a value takes from known bytes.
-use Rattle.std.specs.Prelude.{◌≡◌, ℕ, ◌+◌, ◌*◌, ◌-◌, ◌<◌, ◌≤◌, List, ◌++◌, length, Option, Some, None}
+use Rattle.std.specs.Prelude.{◌≡◌, ℕ, ◌+◌, ◌*◌, ◌-◌, ◌<◌, List, ◌++◌, length, Option, Some, None}
 use Rattle.ciborium_ll.specs.declared.header.Header.{Header}
 use Rattle.ciborium_ll.specs.declared.decoder.Decoder.{Decoder}
 use Rattle.ciborium_ll.specs.Bytes.{greatest_offset}
 use Rattle.ciborium_ll.specs.Head.{break_byte}
 use Rattle.ciborium_ll.specs.Header.{SpellsHeader}
-use Rattle.ciborium_ll.specs.Item.{Item}
 use Rattle.ciborium_ll.specs.Refusal.{IsUsable, BeginsWith}
-use Rattle.ciborium_ll.specs.Spells.{Spells}
-use Rattle.ciborium_value.specs.Meaning.{meaning}
-use Rattle.ciborium_value.specs.Nesting.{nesting}
+use Rattle.ciborium_value.specs.Refuses.{IsReadAs}
 use Rattle.ciborium_value.specs.Tree.{Tree}
 
--- an item that means v and nests within l levels stands at the front of ys, from offset q on; zs follows it, at offset r
+-- ys, whose first byte is at offset q, begins with an item that is read as v within l levels; zs follows it, at offset r
 pub record ReadsItem (l : ℕ) (ys : List ℕ) (q : ℕ) (v : Tree) (zs : List ℕ) (r : ℕ) : Type 0 where
   pub taken : List ℕ
-  pub what : Item
-  pub spelled : Spells taken what
-  pub means : meaning what ≡ Some v
-  pub nests : nesting what ≤ l
+  pub read : IsReadAs taken q (Some l) v
   pub split : ys ≡ taken ++ zs
   pub at : r ≡ q + length taken
-  pub fits : r ≤ greatest_offset
 
 -- no head is pushed, xs is left, and its first byte is at offset p
 abbrev pub IsAt : {S : Type 0} → (S → Option (List ℕ)) → Decoder S → List ℕ → ℕ → Type 0
