@@ -1,6 +1,7 @@
 //! Bytes to values.
 
-ghost use Rattle.ciborium.specs.Answers.{AnswersGoodItem, AnswersProper, HoldsNoMore, RefusesBytes, TakesBytes, TakesItem, TakesWithin};
+ghost use Rattle.ciborium.specs.Answers.{AnswersGoodItem, AnswersProper, HoldsNoMore, RefusesBytes};
+ghost use Rattle.ciborium.specs.Answers.{TakesBytes, TakesItem, TakesWithin};
 
 mod building;
 mod error;
@@ -43,8 +44,8 @@ fn read<R: Read>(
 ///
 /// `Io` where the reader ends or fails inside the item; `Syntax` with the offset of a head or text
 /// that is not well-formed; `Semantic` with the offset of an item and why it has no value here (a
-/// float, a simple value that is not assigned, a break out of place, a bignum that no `i128` holds);
-/// `RecursionLimitExceeded` where an array, map or tag stands where no level is left; `TooLong`
+/// float, a simple value that is not assigned, a break out of place, a bignum that no `i128`
+/// holds); `RecursionLimitExceeded` where an array, map or tag stands where no level is left; `TooLong`
 /// where the item would pass the greatest offset; `Memory` where a growth was refused. A beginning
 /// of the item has then been taken from the reader.
 pub fn from_reader<R: Read>(alloc: Global, reader: &mut R) -> Result<Value, Error<io::Error>>
@@ -80,6 +81,9 @@ pub fn from_reader_with_buffer<R: Read>(
 
 /// Reads one value as `from_reader` does, within this many levels. At limit 0 no array, map or tag
 /// is read, save a tag that is an integer.
+///
+/// Reading itself takes no stack for a level. But writing, cloning, comparing and dropping a value
+/// go as deep as it nests, so choose a limit that the stack of the caller can bear.
 pub fn from_reader_with_recursion_limit<R: Read>(
     alloc: Global,
     reader: &mut R,

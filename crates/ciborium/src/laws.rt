@@ -1,4 +1,4 @@
-//! The laws of the library: those of reading, and those passed on from the crates that prove them.
+//! The laws of the library: its own, and those re-exported from the crates that prove them.
 
 ghost use Rattle.ciborium.specs.AnswerLaws.{OneAnswer};
 ghost use Rattle.ciborium.specs.CanonicalLaws.{IsCanonical, IsTotal, TiesEqualOnes};
@@ -14,8 +14,9 @@ pub use ciborium_value::tree_laws::{
 
 /// Whatever meets the clauses of the reading calls is one answer for the same bytes and limit: the
 /// same tree with the same bytes left, or the same refusal, unless the reader failed or memory was
-/// refused. At the reader's end `Io` is a refusal like the others, and no failure. So no answer depends
-/// on the scratch, on the pieces in which the reader gives its bytes, or on which of the calls was made.
+/// refused. At the reader's end `Io` is a refusal like the others, and no failure. So no answer
+/// depends on the scratch, on the pieces in which the reader gives its bytes, or on which of the
+/// calls was made.
 pub fn one_answer()
     ensures { OneAnswer }
 {}
@@ -30,9 +31,9 @@ pub fn encoding_is_shortest()
     ensures heads { HeadsRise }
 {}
 
-/// The order of `CanonicalValue`, which `<`, `max` and the sorts of the library take from its `Ord`, is
-/// the canonical one for any two values that a program holds (RFC 8949, section 4.2.3). It is total,
-/// and of such values it ties equal ones alone.
+/// The order of `CanonicalValue`, which `<`, `max` and the sorts of the library take from its `Ord`,
+/// is the canonical one for any two values that a program holds (RFC 8949, section 4.2.3). It is
+/// total, and of such values it ties equal ones alone.
 pub fn order_of_canonical_values()
     ensures canonical { IsCanonical }
     ensures total { IsTotal }

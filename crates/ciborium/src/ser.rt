@@ -43,7 +43,8 @@ impl<T> From<T> for Error<T> {
 /// a write takes nothing. A proper beginning of the encoding has then gone out, and nothing else.
 /// Nothing is held back, nothing is flushed, and no memory is taken.
 pub fn into_writer<W: Write>(value: &Value, writer: &mut W) -> Result<(), Error<io::Error>>
-    ensures bytes { Writes (W.contents writer.old) (W.contents writer.new) result (encoding (tree_of value.now)) }
+    ensures bytes { Writes (W.contents writer.old) (W.contents writer.new) result
+        (encoding (tree_of value.now)) }
     ensures refused { IfErr result IsIo }
     ensures proper { OnOk result (IsProperTree (tree_of value.now)) }
 {
@@ -58,8 +59,8 @@ pub fn into_writer<W: Write>(value: &Value, writer: &mut W) -> Result<(), Error<
     }
 }
 
-// The writer has failed, and its error is kept aside: it is large, and a result that held it would be
-// moved at every level.
+// The writer has failed, and its error is kept aside: it is large, and a result that held it would
+// be moved at every level.
 struct Failed;
 
 // Writes a head.
@@ -176,7 +177,8 @@ fn write_pairs<W: Write>(
     failure: &mut Option<io::Error>,
 ) -> Result<(), Failed>
     ensures same_writer { SameWriter encoder.old encoder.new }
-    ensures bytes { Puts W.contents encoder.old encoder.new result (pair_encodings pairs.now.items) }
+    ensures bytes { Puts W.contents encoder.old encoder.new result
+        (pair_encodings pairs.now.items) }
     ensures kept { OnErr result (IsSome failure.new) }
     ensures proper { OnOk result (AreProperTreePairs (tree_pairs_of pairs.now.items)) }
 {
@@ -197,7 +199,8 @@ fn write_string<W: Write>(
 ) -> Result<(), Failed>
     requires { IsWritable header }
     ensures same_writer { SameWriter encoder.old encoder.new }
-    ensures bytes { Puts W.contents encoder.old encoder.new result (header_bytes header ++ payload.now) }
+    ensures bytes { Puts W.contents encoder.old encoder.new result
+        (header_bytes header ++ payload.now) }
     ensures kept { OnErr result (IsSome failure.new) }
     ensures payload { AreBytes payload.now }
 {

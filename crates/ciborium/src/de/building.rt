@@ -1,6 +1,7 @@
 //! The reader of values: one loop over a stack of what is open.
 
-ghost use Rattle.std.specs.Prelude.{◌≡◌, ◌<◌, ◌≤◌, IfErr, IfOk, List, MatchOption, None, Ok, OnOk, Some, length, ℕ};
+ghost use Rattle.std.specs.Prelude.{◌≡◌, ◌<◌, ◌≤◌, IfErr, IfOk, List, MatchOption, None};
+ghost use Rattle.std.specs.Prelude.{Ok, OnOk, Some, length, ℕ};
 ghost use Rattle.ciborium_ll.specs.Decoding.{IsAhead, SameReader, TakesBeforeAny, pushed_of};
 ghost use Rattle.ciborium_value.specs.Stack.{opens_of};
 ghost use Rattle.ciborium.specs.Answers.{IsReading, Turned, ValueRead};
@@ -39,8 +40,10 @@ fn turn<R: Read>(
     requires { length (opens_of stack.old) ≤ levels }
     ensures same_reader { SameReader decoder.old decoder.new }
     ensures fewer { OnOk result (heads_left decoder.new < heads_left decoder.old) }
-    ensures rests { IfOk result (λ o. MatchOption o (Unit {0}) (λ _. pushed_of decoder.new ≡ None)) }
-    ensures depth { IfOk result (λ o. MatchOption o (length (opens_of stack.new) ≤ levels) (λ _. Unit {0})) }
+    ensures rests { IfOk result (λ o.
+        MatchOption o (Unit {0}) (λ _. pushed_of decoder.new ≡ None)) }
+    ensures depth { IfOk result (λ o.
+        MatchOption o (length (opens_of stack.new) ≤ levels) (λ _. Unit {0})) }
     ensures turn { TakesBeforeAny R.remaining decoder.old decoder.new
         (λ d e. (xs : List ℕ) (p : ℕ) → IsReading Some d (opens_of stack.old) levels xs p →
         Turned Some e (opens_of stack.new) levels xs p result) }

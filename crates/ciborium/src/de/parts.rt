@@ -1,9 +1,10 @@
-//! The part that stands at the front: a value that is whole, the beginning of a container or tag, or a
-//! break.
+//! The part that stands at the front: a value that is whole, the beginning of a container or tag,
+//! or a break.
 
 ghost use Rattle.std.specs.Prelude.{◌≡◌, ◌+◌, ◌<◌, ◌≤◌, IfOk, List, None, OnOk, Some, ℕ};
-ghost use Rattle.ciborium_ll.specs.Decoding.{IsAhead, SameReader, TakesBeforeAny, last_of, pushed_of};
-ghost use Rattle.ciborium.specs.Parts.{ArrayBegun, HasRoom, HeadRead, MapBegun, PartRead, Rests, SimpleRead};
+ghost use Rattle.ciborium_ll.specs.Decoding.{IsAhead, SameReader, TakesBeforeAny};
+ghost use Rattle.ciborium_ll.specs.Decoding.{last_of, pushed_of};
+ghost use Rattle.ciborium.specs.Parts.{ArrayBegun, HasRoom, MapBegun, PartRead, Rests, SimpleRead};
 ghost use Rattle.ciborium.specs.Reads.{IsAt, heads_left};
 ghost use Rattle.ciborium.specs.Strings.{StringRead};
 ghost use Rattle.ciborium_ll.specs.StringRefusal.{of_bytes, of_text};

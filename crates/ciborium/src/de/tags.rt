@@ -1,6 +1,6 @@
 //! Tags: those that fold, and those that are opened.
 
-ghost use Rattle.std.specs.Prelude.{◌≡◌, ◌+◌, ◌<◌, ◌≤◌, IfOk, List, None, OnOk, Some, length, true, ℕ};
+ghost use Rattle.std.specs.Prelude.{◌≡◌, ◌≤◌, IfOk, List, None, OnOk, Some, length, true, ℕ};
 ghost use Rattle.ciborium_ll.specs.Decoding.{SameReader, TakesBeforeAny, pushed_of};
 ghost use Rattle.ciborium_ll.specs.declared.header.Header.TheVariants as header;
 ghost use Rattle.ciborium_value.specs.Meaning.{is_bignum_tag};
@@ -61,7 +61,8 @@ fn read_folded<R: Read>(
     ensures pushed { pushed_of decoder.new ≡ None }
     ensures fewer { OnOk result (heads_left decoder.new ≤ heads_left decoder.old) }
     ensures fold { TakesBeforeAny R.remaining decoder.old decoder.new
-        (λ d e. (xs : List ℕ) (p : ℕ) → IsAt Some d xs p → FoldRead Some e tag n offset xs p result) }
+        (λ d e. (xs : List ℕ) (p : ℕ) → IsAt Some d xs p →
+        FoldRead Some e tag n offset xs p result) }
 {
     let mut room = [0u8; GREATEST_FOLDED_SIZE];
     let payload = &mut room[..n];

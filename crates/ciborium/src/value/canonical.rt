@@ -1,11 +1,12 @@
 //! The canonical order of values: the shorter encoding first, and of two of one size the one with
 //! the first lower byte (RFC 8949, section 4.2.3; RFC 7049, section 3.9).
 //!
-//! A comparison measures each value once, by a walk over its tree. Where the sizes are equal, it walks
-//! over both trees side by side, head against head and payload against payload, up to the first that
-//! differ: no encoding is a proper beginning of another. No bytes are made, and no memory is taken.
+//! A comparison measures each value once, by a walk over its tree. Where the sizes are equal, it
+//! walks over both trees side by side, head against head and payload against payload, up to the
+//! first that differ: no encoding is a proper beginning of another. No bytes are made, and no memory
+//! is taken.
 
-ghost use Rattle.std.specs.Prelude.{◌≡◌, ◌↔◌, IsTrue, refl, ◌+◌, ◌*◌, ◌^◌, ◌<◌, ◌≤◌, length, vec_len};
+ghost use Rattle.std.specs.Prelude.{◌≡◌, ◌↔◌, ◌+◌, ◌*◌, ◌^◌, IsTrue, refl, ◌<◌, ◌≤◌, length, vec_len};
 ghost use Rattle.std.specs.Cmp.Lexicographic.{slice_cmp};
 ghost use Rattle.std.specs.Cmp.{partial_equiv_from_equiv, partial_order_from_agreeing_total};
 ghost use Rattle.std.specs.Coded.{codes};
@@ -25,7 +26,8 @@ ghost use Rattle.ciborium_value.proofs.Derived.{value_eq_equivalence};
 ghost use Rattle.ciborium_value.specs.CanonicalValues.{canonical_value_cmp};
 ghost use Rattle.ciborium.specs.Heads.{major_of, argument_of, head_order};
 ghost use Rattle.ciborium.specs.Visits.{AddsVisits, AddsAtMost, counted, both_node_count};
-ghost use Rattle.ciborium_value.proofs.TotalOrders.{canonical_value_cmp_total, canonical_value_matches_eq};
+ghost use Rattle.ciborium_value.proofs.TotalOrders.{canonical_value_cmp_total};
+ghost use Rattle.ciborium_value.proofs.TotalOrders.{canonical_value_matches_eq};
 ghost use Rattle.ciborium.specs.Writes.{encodings, pair_encodings};
 
 use ciborium_ll::{head_size, simple};
@@ -34,8 +36,8 @@ use std::alloc::AllocError;
 use std::cmp::Ordering;
 use std::marker::Model;
 
-/// The canonical order of two values, which is that of their encodings: the shorter first, and of two
-/// of one size the one with the first lower byte (RFC 8949, section 4.2.3). It takes no memory.
+/// The canonical order of two values, which is that of their encodings: the shorter first, and of
+/// two of one size the one with the first lower byte (RFC 8949, section 4.2.3). It takes no memory.
 pub fn cmp_value(left: &Value, right: &Value) -> Ordering
     ensures order { result ≡ canonical_order (tree_of left.now) (tree_of right.now) }
     ensures left_proper { IsProperTree (tree_of left.now) }
@@ -44,13 +46,14 @@ pub fn cmp_value(left: &Value, right: &Value) -> Ordering
     cmp_value_counted(left, right).0
 }
 
-/// The canonical order of two values as `cmp_value` finds it, and how many visits that took, counted
-/// up to `u64::MAX`. A visit is one entry of the walk at one node of one value.
+/// The canonical order of two values as `cmp_value` finds it, and how many visits that took,
+/// counted up to `u64::MAX`. A visit is one entry of the walk at one node of one value.
 pub fn cmp_value_counted(left: &Value, right: &Value) -> (Ordering, u64)
     ensures order { result.0 ≡ canonical_order (tree_of left.now) (tree_of right.now) }
     ensures at_least_once { counted (both_node_count (tree_of left.now) (tree_of right.now)) ≤ result.1 }
     ensures at_most_twice { result.1 ≤ counted (2 * both_node_count (tree_of left.now) (tree_of right.now)) }
-    ensures twice_where_equal { tree_of left.now ≡ tree_of right.now → result.1 ≡ counted (2 * both_node_count (tree_of left.now) (tree_of right.now)) }
+    ensures twice_where_equal { tree_of left.now ≡ tree_of right.now →
+        result.1 ≡ counted (2 * both_node_count (tree_of left.now) (tree_of right.now)) }
     ensures left_proper { IsProperTree (tree_of left.now) }
     ensures right_proper { IsProperTree (tree_of right.now) }
 {
@@ -64,7 +67,8 @@ pub fn cmp_value_counted(left: &Value, right: &Value) -> (Ordering, u64)
     (order, visits.count)
 }
 
-/// A value whose order is the canonical one, as of a map key. Two are equal where their contents are.
+/// A value whose order is the canonical one, as of a map key. Two are equal where their contents
+/// are.
 #[derive(Debug, Drop)]
 pub struct CanonicalValue {
     value: Value,
@@ -131,7 +135,8 @@ impl Eq for CanonicalValue {
 impl PartialOrd for CanonicalValue {
     ghost partial_cmp = { as_partial_cmp canonical_value_cmp };
 
-    ghost laws = { partial_order_from_agreeing_total canonical_value_cmp canonical_value_cmp_total (λ v w. refl) canonical_value_matches_eq };
+    ghost laws = { partial_order_from_agreeing_total canonical_value_cmp canonical_value_cmp_total
+        (λ v w. refl) canonical_value_matches_eq };
 
     fn partial_cmp(&self, other: &CanonicalValue) -> Option<Ordering>
         ensures gives { result ≡ Some (canonical_value_cmp self.now other.now) }
@@ -266,7 +271,8 @@ fn measure(value: &Value, visits: &mut Visits) -> u64
 #[cycle(measure)]
 fn measure_items(items: &Vec<Value>, visits: &mut Visits) -> u64
     ensures size { result ≡ counted (length (encodings items.now.items)) }
-    ensures visits { AddsVisits (trees_node_count (trees_of items.now.items)) visits.old.count visits.new.count }
+    ensures visits { AddsVisits (trees_node_count (trees_of items.now.items))
+        visits.old.count visits.new.count }
     ensures proper { AreProperTrees (trees_of items.now.items) }
 {
     let mut size: u64 = 0;
@@ -280,7 +286,8 @@ fn measure_items(items: &Vec<Value>, visits: &mut Visits) -> u64
 #[cycle(measure)]
 fn measure_pairs(pairs: &Vec<(Value, Value)>, visits: &mut Visits) -> u64
     ensures size { result ≡ counted (length (pair_encodings pairs.now.items)) }
-    ensures visits { AddsVisits (tree_pairs_node_count (tree_pairs_of pairs.now.items)) visits.old.count visits.new.count }
+    ensures visits { AddsVisits (tree_pairs_node_count (tree_pairs_of pairs.now.items))
+        visits.old.count visits.new.count }
     ensures proper { AreProperTreePairs (tree_pairs_of pairs.now.items) }
 {
     let mut size: u64 = 0;
@@ -307,8 +314,10 @@ fn payload_size(payload: &[u8]) -> u64
 fn compare(left: &Value, right: &Value, visits: &mut Visits) -> Ordering
     requires left_proper { IsProperTree (tree_of left.now) }
     requires right_proper { IsProperTree (tree_of right.now) }
-    ensures order { result ≡ slice_cmp nat_cmp (encoding (tree_of left.now)) (encoding (tree_of right.now)) }
-    ensures visits { AddsAtMost (both_node_count (tree_of left.now) (tree_of right.now)) result visits.old.count visits.new.count }
+    ensures order { result ≡ slice_cmp nat_cmp
+        (encoding (tree_of left.now)) (encoding (tree_of right.now)) }
+    ensures visits { AddsAtMost (both_node_count (tree_of left.now) (tree_of right.now)) result
+        visits.old.count visits.new.count }
 {
     let order = compare_heads(left, right, visits);
     if order.is_ne() {
@@ -330,8 +339,11 @@ fn compare_items(left: &Vec<Value>, right: &Vec<Value>, visits: &mut Visits) -> 
     requires as_many { vec_len left.now ≡ vec_len right.now }
     requires left_proper { AreProperTrees (trees_of left.now.items) }
     requires right_proper { AreProperTrees (trees_of right.now.items) }
-    ensures order { result ≡ slice_cmp nat_cmp (encodings left.now.items) (encodings right.now.items) }
-    ensures visits { AddsAtMost (trees_node_count (trees_of left.now.items) + trees_node_count (trees_of right.now.items)) result visits.old.count visits.new.count }
+    ensures order { result ≡ slice_cmp nat_cmp
+        (encodings left.now.items) (encodings right.now.items) }
+    ensures visits { AddsAtMost
+        (trees_node_count (trees_of left.now.items) + trees_node_count (trees_of right.now.items))
+        result visits.old.count visits.new.count }
 {
     for (index, item) in left.iter().enumerate() {
         let order = compare(item, &right[index], visits);
@@ -352,8 +364,12 @@ fn compare_pairs(
     requires as_many { vec_len left.now ≡ vec_len right.now }
     requires left_proper { AreProperTreePairs (tree_pairs_of left.now.items) }
     requires right_proper { AreProperTreePairs (tree_pairs_of right.now.items) }
-    ensures order { result ≡ slice_cmp nat_cmp (pair_encodings left.now.items) (pair_encodings right.now.items) }
-    ensures visits { AddsAtMost (tree_pairs_node_count (tree_pairs_of left.now.items) + tree_pairs_node_count (tree_pairs_of right.now.items)) result visits.old.count visits.new.count }
+    ensures order { result ≡ slice_cmp nat_cmp
+        (pair_encodings left.now.items) (pair_encodings right.now.items) }
+    ensures visits { AddsAtMost
+        (tree_pairs_node_count (tree_pairs_of left.now.items)
+        + tree_pairs_node_count (tree_pairs_of right.now.items))
+        result visits.old.count visits.new.count }
 {
     for (index, pair) in left.iter().enumerate() {
         let other = &right[index];
