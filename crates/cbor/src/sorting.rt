@@ -7,6 +7,7 @@ ghost use Rattle.ciborium_value.specs.View.{tree_of};
 ghost use Rattle.cbor.specs.Lines.{AreMeant};
 ghost use Rattle.cbor.specs.Sorted.{AreSorted};
 ghost use Rattle.cbor.specs.SortedLines.{AreSortedLines, hex_line};
+ghost use Rattle.cbor.specs.declared.sorting.Unsorted.TheVariants.{Unread};
 
 use crate::answer::Refusal;
 use crate::fault::Fault;
@@ -23,12 +24,14 @@ enum Unsorted {
     // The line of this number, counted from 1, is the first that is no item.
     Line(u64, Refusal),
     // The lines could not be read.
-    Fault(Fault),
+    Unread(Fault),
 }
 
 impl From<Fault> for Unsorted {
+    ghost from_gives = { λ fault unsorted. unsorted ≡ Unread fault };
+
     fn from(fault: Fault) -> Unsorted {
-        Unsorted::Fault(fault)
+        Unsorted::Unread(fault)
     }
 }
 
@@ -58,7 +61,7 @@ pub fn sort_lines<R: Read, W: Write>(
             write_refusal(number, refusal, output)?;
             Ok(false)
         }
-        Err(Unsorted::Fault(fault)) => Err(fault),
+        Err(Unsorted::Unread(fault)) => Err(fault),
     }
 }
 
@@ -84,7 +87,7 @@ fn read_values<R: Read>(alloc: Global, input: &mut R, limit: usize) -> Result<Ve
         IfOk result (λ values. AreMeant b limit [] (map tree_of values.items)) }
 {
     let Ok(mut reader) = BufReader::new(alloc, input) else {
-        return Err(Unsorted::Fault(Fault::Memory));
+        return Err(Unsorted::Unread(Fault::Memory));
     };
     let mut line = Vec::new(alloc);
     let mut values = Vec::new(alloc);
@@ -95,13 +98,13 @@ fn read_values<R: Read>(alloc: Global, input: &mut R, limit: usize) -> Result<Ve
         match read_item(alloc, &line, limit) {
             Ok(value) => {
                 if values.push(value).is_err() {
-                    return Err(Unsorted::Fault(Fault::Memory));
+                    return Err(Unsorted::Unread(Fault::Memory));
                 }
             }
             Err(refusal) => return Err(Unsorted::Line(number, refusal)),
         }
     }
-    Err(Unsorted::Fault(Fault::Input))
+    Err(Unsorted::Unread(Fault::Input))
 }
 
 // Writes the encodings of the values in hex, a line each.
