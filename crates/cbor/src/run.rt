@@ -12,11 +12,9 @@ ghost use Rattle.cbor.specs.Words.{AreWrong, AskFor, AskToRead, AskToSort, IsLim
 use crate::answering::answer_lines;
 use crate::fault::Fault;
 use crate::sorting::sort_lines;
+use ciborium::de::RECURSION_LIMIT;
 use std::alloc::Global;
 use std::io::{Read, Write};
-
-// The levels that are allowed where no limit is named.
-const DEFAULT_LIMIT: usize = 256;
 
 // What the words ask for: to answer lines within so many levels, or to sort them.
 #[derive(Clone, Copy, Debug)]
@@ -63,7 +61,7 @@ pub fn run<R: Read, W: Write, E: Write>(
             finish(answered, output, errors)
         }
         Some(Command::Sort) => {
-            let sorted = sort_lines(alloc, input, DEFAULT_LIMIT, output);
+            let sorted = sort_lines(alloc, input, RECURSION_LIMIT, output);
             finish(sorted, output, errors)
         }
         None => {
@@ -79,7 +77,7 @@ fn judge_words(words: &[String]) -> Option<Command>
         (λ command. AskFor (map string_bytes words.now) command) }
 {
     match words {
-        [command] if command.as_str() == "read" => Some(Command::Read(DEFAULT_LIMIT)),
+        [command] if command.as_str() == "read" => Some(Command::Read(RECURSION_LIMIT)),
         [command] if command.as_str() == "sort" => Some(Command::Sort),
         [command, limit] if command.as_str() == "read" => {
             let limit = parse_limit(limit.as_str())?;

@@ -45,9 +45,9 @@ fn read<R: Read>(
 /// `Io` where the reader ends or fails inside the item; `Syntax` with the offset of a head or text
 /// that is not well-formed; `Semantic` with the offset of an item and why it has no value here (a
 /// float, a simple value that is not assigned, a break out of place, a bignum that no `i128`
-/// holds); `RecursionLimitExceeded` where an array, map or tag stands where no level is left; `TooLong`
-/// where the item would pass the greatest offset; `Memory` where a growth was refused. A beginning
-/// of the item has then been taken from the reader.
+/// holds); `RecursionLimitExceeded` where an array, map or tag stands where no level is left;
+/// `TooLong` where the item would pass the greatest offset; `Memory` where a growth was refused. A
+/// beginning of the item has then been taken from the reader.
 pub fn from_reader<R: Read>(alloc: Global, reader: &mut R) -> Result<Value, Error<io::Error>>
     ensures taken { TakesBytes (R.remaining reader.old) 256 (R.remaining reader.new) result }
     ensures ok { TakesItem (R.remaining reader.old) 256 (R.remaining reader.new) result }

@@ -31,8 +31,8 @@ pub fn encoding_is_shortest()
     ensures heads { HeadsRise }
 {}
 
-/// The order of `CanonicalValue`, which `<`, `max` and the sorts of the library take from its `Ord`,
-/// is the canonical one for any two values that a program holds (RFC 8949, section 4.2.3). It is
+/// The order of `CanonicalValue`, which `<`, `max` and the library's sorts take from its `Ord`, is
+/// the canonical one for any two values that a program holds (RFC 8949, section 4.2.3). It is
 /// total, and of such values it ties equal ones alone.
 pub fn order_of_canonical_values()
     ensures canonical { IsCanonical }

@@ -25,7 +25,8 @@ pub struct Decoder<'a, R> {
 impl<'a, R: Read> Decoder<'a, R> {
     ghost use Rattle.std.specs.Prelude.{◌≡◌, IfErr, IfNone, IfSome, List, None, Ok, Some, ℕ};
     ghost use Rattle.std.specs.Prelude.{string_bytes};
-    ghost use Rattle.ciborium_ll.specs.Decoding.{Begins, IsAhead, IsUnread, Pulls, SameReader, Takes};
+    ghost use Rattle.ciborium_ll.specs.Decoding.{Begins, IsAhead, IsUnread, Pulls, Takes};
+    ghost use Rattle.ciborium_ll.specs.Decoding.{SameReader};
     ghost use Rattle.ciborium_ll.specs.Decoding.{count_of, last_of, left_of, offset_of, pushed_of};
     ghost use Rattle.ciborium_ll.specs.Reading.{FillTaken, HeadTaken, RefusedBy};
     ghost use Rattle.ciborium_ll.specs.StringRefusal.{ContentRefuses, of_bytes, of_text};

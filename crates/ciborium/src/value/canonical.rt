@@ -3,10 +3,11 @@
 //!
 //! A comparison measures each value once, by a walk over its tree. Where the sizes are equal, it
 //! walks over both trees side by side, head against head and payload against payload, up to the
-//! first that differ: no encoding is a proper beginning of another. No bytes are made, and no memory
-//! is taken.
+//! first that differ: no encoding is a proper beginning of another. No bytes are made, and no
+//! memory is taken.
 
-ghost use Rattle.std.specs.Prelude.{◌≡◌, ◌↔◌, ◌+◌, ◌*◌, ◌^◌, IsTrue, refl, ◌<◌, ◌≤◌, length, vec_len};
+ghost use Rattle.std.specs.Prelude.{◌≡◌, ◌↔◌, ◌+◌, ◌*◌, ◌^◌, ◌<◌, ◌≤◌, IsTrue, refl, length};
+ghost use Rattle.std.specs.Prelude.{vec_len};
 ghost use Rattle.std.specs.Cmp.Lexicographic.{slice_cmp};
 ghost use Rattle.std.specs.Cmp.{partial_equiv_from_equiv, partial_order_from_agreeing_total};
 ghost use Rattle.std.specs.Coded.{codes};
@@ -50,8 +51,10 @@ pub fn cmp_value(left: &Value, right: &Value) -> Ordering
 /// counted up to `u64::MAX`. A visit is one entry of the walk at one node of one value.
 pub fn cmp_value_counted(left: &Value, right: &Value) -> (Ordering, u64)
     ensures order { result.0 ≡ canonical_order (tree_of left.now) (tree_of right.now) }
-    ensures at_least_once { counted (both_node_count (tree_of left.now) (tree_of right.now)) ≤ result.1 }
-    ensures at_most_twice { result.1 ≤ counted (2 * both_node_count (tree_of left.now) (tree_of right.now)) }
+    ensures at_least_once { counted (both_node_count (tree_of left.now) (tree_of right.now))
+        ≤ result.1 }
+    ensures at_most_twice { result.1 ≤
+        counted (2 * both_node_count (tree_of left.now) (tree_of right.now)) }
     ensures twice_where_equal { tree_of left.now ≡ tree_of right.now →
         result.1 ≡ counted (2 * both_node_count (tree_of left.now) (tree_of right.now)) }
     ensures left_proper { IsProperTree (tree_of left.now) }
