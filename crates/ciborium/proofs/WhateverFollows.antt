@@ -29,10 +29,6 @@ no-bytes : AreBytes []
 no-bytes k d h = absurd (omega (arith, h))
 
 module _ {S : Type 0} (remaining : S → Option (List ℕ)) where
-  -- what holds of the bytes that are taken holds whatever follows them
-  pub so-takes : (a b : Decoder S) (W : List ℕ → Type 0) → Takes remaining a b W → TakesBeforeAny remaining a b (λ d e. Takes Some d e W)
-  so-takes a b W (x, taken, count, h, bytes) = (x, taken, count, λ c. (x, refl, count, h, bytes), bytes)
-
   pub so-map : (a b : Decoder S) (P Q : Decoder (List ℕ) → Decoder (List ℕ) → Type 0) → ((u v : List ℕ) → P (with_left a u) (with_left b v) → Q (with_left a u) (with_left b v)) → TakesBeforeAny remaining a b P → TakesBeforeAny remaining a b Q
   so-map a b P Q f (x, taken, count, h, bytes) = (x, taken, count, λ c. f (x ++ c) c (h c), bytes)
 

@@ -1,4 +1,4 @@
-//! Values, passed on, and their canonical order.
+//! Values, re-exported, and their canonical order.
 
 pub mod canonical;
 

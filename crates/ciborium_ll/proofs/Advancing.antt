@@ -36,9 +36,6 @@ single (x ∷ y ∷ ys) h = absurd (omega (arith, h))
 abbrev pub Filled : ℕ → List ℕ → List ℕ → Type 0
 Filled p buffer b = (b ≡ buffer) × (p + length buffer ≤ greatest_offset)
 
-pub second-offset : (a b : Option (List ℕ)) (p q : ℕ) (first : List ℕ) → length first ≡ 1 → Advances a b p q (Filled p first) → q ≡ p + 1
-second-offset a b p q first one before = let len : length before.0 ≡ length first = ap length before.3.0 in omega (arith, before.2, len, one)
-
 -- a head behind its initial byte
 pub head-behind : (E : Type 0) (a b c : Option (List ℕ)) (p q r : ℕ) (first : List ℕ) (result : Result Header (Error E)) → length first ≡ 1 → Advances a b p q (Filled p first) →
     Advances b c q r (λ y. HeadTaken {E = E} p result (get_or first 0 0 ∷ y)) → Advances a c p r (HeadTaken {E = E} p result)

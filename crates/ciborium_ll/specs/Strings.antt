@@ -38,7 +38,7 @@ Extends old new = (added : List ℕ) × (new ≡ old ++ added)
 abbrev pub Grows : List ℕ → List ℕ → (List ℕ → List ℕ → Type 0) → List ℕ → Type 0
 Grows old new P b = (added : List ℕ) × (new ≡ old ++ added) × P added b
 
--- where n bytes are appended as they come: at Ok they were taken and appended, refused fewer were or memory was wanting
+-- where n bytes are appended as they come: at Ok they were taken and appended, refused fewer were, or memory was refused
 abbrev pub PiecesTaken : {E : Type 0} → ℕ → Result (Unit {0}) (Error E) → List ℕ → List ℕ → List ℕ → Type 0
 PiecesTaken n (Ok u) old new b = (length b ≡ n) × (new ≡ old ++ b)
 PiecesTaken n (Err (Io e)) old new b = (length b < n) × Extends old new
