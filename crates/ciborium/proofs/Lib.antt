@@ -13,7 +13,6 @@ mod Paired
 mod ItemsRead
 mod Turning
 mod Pulled
-mod Numbers
 mod Fronts
 mod Contents
 mod AfterTag
