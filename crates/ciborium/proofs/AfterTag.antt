@@ -21,9 +21,9 @@ use Rattle.ciborium_value.specs.View.{tree_of}
 use Rattle.ciborium_value.proofs.Found.{bignum_meaning-some}
 use Rattle.ciborium.proofs.ItemsRead.{item-read}
 use Rattle.ciborium.specs.declared.de.error.Error.{Error}
-use Rattle.ciborium.specs.Around.{InTag}
+use Rattle.ciborium.specs.Around.{IsInTag}
 use Rattle.ciborium_ll.specs.StringRefusal.{PayloadRefuses}
-use Rattle.ciborium.specs.Parts.{HeadRead, FoldRead, FoldRefuses, IsFolding, IsBegun, RefusesNoBreak}
+use Rattle.ciborium.specs.Parts.{IsHeadRead, IsFoldRead, FoldRefuses, IsFolding, IsBegun, RefusesNoBreak}
 use Rattle.ciborium.specs.Reads.{ReadsItem, IsAt, IsPulled, IsBreakAt}
 use Rattle.ciborium.proofs.Contents.{string-room}
 use Rattle.ciborium.proofs.Fronts.{Front, front-of, no-break, Got, ahead-at, offset-at}
@@ -31,11 +31,11 @@ use Rattle.ciborium.proofs.Pulled.{refused-map}
 
 -- what `pull` answers behind the tag
 abbrev pub PullsSo : {S E : Type 0} → (S → Option (List ℕ)) → Decoder S → Decoder S → Result Header (Error E) → Type 0
-PullsSo remaining d e x = (xs : List ℕ) (p : ℕ) → IsAhead remaining d xs p → HeadRead remaining e xs p x
+PullsSo remaining d e x = (xs : List ℕ) (p : ℕ) → IsAhead remaining d xs p → IsHeadRead remaining e xs p x
 
 -- what `folded` answers
 abbrev pub FoldsSo : {S E : Type 0} → (S → Option (List ℕ)) → Decoder S → Decoder S → ℕ → ℕ → ℕ → Result Value (Error E) → Type 0
-FoldsSo remaining d e t n at x = (xs : List ℕ) (p : ℕ) → IsAt remaining d xs p → FoldRead remaining e t n at xs p x
+FoldsSo remaining d e t n at x = (xs : List ℕ) (p : ℕ) → IsAt remaining d xs p → IsFoldRead remaining e t n at xs p x
 
 stands : {S : Type 0} (remaining : S → Option (List ℕ)) (d : Decoder S) (t : ℕ) (xs : List ℕ) (p : ℕ) (a : IsPulled remaining d (header.Tag t) xs p) → HeadStands xs 6 t (length a.0) a.1
 stands remaining d t xs p a = (a.0, a.2, refl, a.4)
@@ -70,7 +70,7 @@ tag-opened E remaining d e f t l at xs p k pushed pull other some here stays bac
     let r : ℕ = p + length a.0 in
     let place : at ≡ r = here ∙ offset-at remaining d r a.1 ahead in
     let less : l ≡ suc (l - 1) = omega (arith, some) in
-    let tag : InTag xs p t a.1 r = record { size = length a.0; usable = a.3; head = stands remaining d t xs p a; next_usable = b.3; folds_not = folds-not t k b.0 a.1 b.1 other b.2 b.4; at = refl } in
+    let tag : IsInTag xs p t a.1 r = record { size = length a.0; usable = a.3; head = stands remaining d t xs p a; next_usable = b.3; folds_not = folds-not t k b.0 a.1 b.1 other b.2 b.4; at = refl } in
     let is : IsAheadBy remaining f a.1 r (Some (k, at)) = (place, b.0, b.1, b.2, b.3, b.4, (stays.1 ∙ b.6.0), (ap remaining stays.0 ∙ b.6.1)) in
     (a.1, r, (l - 1, less, tag), subst (λ o. IsAheadBy remaining f a.1 r o) (sym back) is)
 

@@ -26,9 +26,9 @@ use Rattle.ciborium.proofs.ItemsRead.{item-read}
 use Rattle.ciborium.specs.declared.de.error.Error.{Error}
 use Rattle.ciborium.specs.declared.de.front.Part.{Part}
 use Rattle.ciborium.specs.declared.de.front.Part.TheVariants.{Whole, Opened, Ended}
-use Rattle.ciborium.specs.Around.{InContainer, IsInside, ContainerStands, IsRoom, array_due, map_due, due_in}
+use Rattle.ciborium.specs.Around.{IsInContainer, IsInside, ContainerStands, IsRoom, array_due, map_due, due_in}
 use Rattle.ciborium.specs.Errors.{RefusedBy}
-use Rattle.ciborium.specs.Parts.{ArrayBegun, MapBegun, IsBehind, PartRead, RefusesNoBreak}
+use Rattle.ciborium.specs.Parts.{IsArrayBegun, IsMapBegun, IsBehind, IsPartRead, RefusesNoBreak}
 use Rattle.ciborium.specs.Reads.{ReadsItem, IsAt, IsPulled, IsBreakAt}
 use Rattle.ciborium.proofs.Pulled.{refused-map}
 
@@ -164,7 +164,7 @@ map-opens (Some n) xs p b r u = Opens.map n (b, u.spelled, refl, u.split)
 map-opens None xs p b r u = Opens.open_map (ap length u.spelled) (u.split ∙ ap (λ (z : List ℕ). z ++ r) u.spelled)
 
 array-inside : (count behind : Option ℕ) (l : ℕ) (xs : List ℕ) (p : ℕ) (b r : List ℕ) → IsBehind count behind → Front xs p (header.Array count) b r →
-    InContainer 4 count (array_due count) (due_in (opened.array [] behind)) l xs p [] r (p + length b)
+    IsInContainer 4 count (array_due count) (due_in (opened.array [] behind)) l xs p [] r (p + length b)
 array-inside count behind l xs p b r e u = record {
   size = length b;
   good = [];
@@ -191,7 +191,7 @@ array-inside count behind l xs p b r e u = record {
     room None = tt
 
 map-inside : (count behind : Option ℕ) (l : ℕ) (xs : List ℕ) (p : ℕ) (b r : List ℕ) → IsBehind count behind → Front xs p (header.Map count) b r →
-    InContainer 5 count (map_due count) (due_in (opened.map [] behind None)) l xs p [] r (p + length b)
+    IsInContainer 5 count (map_due count) (due_in (opened.map [] behind None)) l xs p [] r (p + length b)
 map-inside count behind l xs p b r e u = record {
   size = length b;
   good = [];
@@ -218,7 +218,7 @@ map-inside count behind l xs p b r e u = record {
     room None = tt
 
 pub array-part : {S E : Type 0} (remaining : S → Option (List ℕ)) (d : Decoder S) (l : ℕ) (xs : List ℕ) (p : ℕ) (h : Header) (count : Option ℕ) (x : Result Part (Error E)) → d.pushed ≡ None → h ≡ header.Array count →
-    IsPulled remaining d h xs p → ArrayBegun count l x → PartRead remaining d l xs p x
+    IsPulled remaining d h xs p → IsArrayBegun count l x → IsPartRead remaining d l xs p x
 array-part remaining d l xs p h count (Ok (Whole v)) pushed is a s =
     got-leaf remaining d l xs p h (header.Array (Some 0)) (trees.array trees.no_trees) (tree_of v) pushed s.2 (is ∙ ap header.Array s.0) (λ b r u. empty-array l xs p b r s.1 u) a
 array-part remaining d l xs p h count (Ok (Opened f)) pushed is a s =
@@ -234,7 +234,7 @@ array-part remaining d l xs p h count (Err e) pushed is a s =
     (λ b r u. subst (λ n. Refuses xs p (Some n) recursion_limit_exceeded) (sym s.0) (Refuses.no_level (length b) r (array_due count) u.usable (array-opens count xs p b r u))) a)
 
 pub map-part : {S E : Type 0} (remaining : S → Option (List ℕ)) (d : Decoder S) (l : ℕ) (xs : List ℕ) (p : ℕ) (h : Header) (count : Option ℕ) (x : Result Part (Error E)) → d.pushed ≡ None → h ≡ header.Map count →
-    IsPulled remaining d h xs p → MapBegun count l x → PartRead remaining d l xs p x
+    IsPulled remaining d h xs p → IsMapBegun count l x → IsPartRead remaining d l xs p x
 map-part remaining d l xs p h count (Ok (Whole v)) pushed is a s =
     got-leaf remaining d l xs p h (header.Map (Some 0)) (trees.map trees.no_tree_pairs) (tree_of v) pushed s.2 (is ∙ ap header.Map s.0) (λ b r u. empty-map l xs p b r s.1 u) a
 map-part remaining d l xs p h count (Ok (Opened f)) pushed is a s =

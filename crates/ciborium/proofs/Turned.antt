@@ -17,10 +17,10 @@ use Rattle.ciborium.specs.declared.de.error.Error.{Error}
 use Rattle.ciborium.specs.declared.de.error.Error.TheVariants.{Memory}
 use Rattle.ciborium.specs.declared.de.front.Part.{Part}
 use Rattle.ciborium.specs.declared.de.front.Part.TheVariants.{Whole, Opened, Ended}
-use Rattle.ciborium.specs.Answers.{IsReading, Turned}
+use Rattle.ciborium.specs.Answers.{IsReading, IsTurned}
 use Rattle.ciborium.specs.Around.{IsAround, IsPlaced}
 use Rattle.ciborium.specs.Errors.{RefusedBy}
-use Rattle.ciborium.specs.Parts.{PartRead, IsBegun}
+use Rattle.ciborium.specs.Parts.{IsPartRead, IsBegun}
 use Rattle.ciborium.specs.Reads.{IsBreakAt}
 use Rattle.ciborium.proofs.Fronts.{offset-at}
 use Rattle.ciborium.proofs.Pulled.{refused-map}
@@ -28,16 +28,16 @@ use Rattle.ciborium.proofs.Turning.{placed-turn, closed-turn, refused-turn, leve
 
 -- what `next` answers, wherever the decoder stands
 abbrev pub Answers : {S E : Type 0} → (S → Option (List ℕ)) → Decoder S → Decoder S → ℕ → Result Part (Error E) → Type 0
-Answers remaining d e l x = (xs : List ℕ) (p : ℕ) → IsAhead remaining d xs p → PartRead remaining e l xs p x
+Answers remaining d e l x = (xs : List ℕ) (p : ℕ) → IsAhead remaining d xs p → IsPartRead remaining e l xs p x
 
 pub answers-of : (E : Type 0) {S : Type 0} (remaining : S → Option (List ℕ)) (d e : Decoder S) (n l : ℕ) (y z : Part) → n ≡ l → y ≡ z → Answers {E = E} remaining d e n (Ok y) → Answers {E = E} remaining d e l (Ok z)
-answers-of E remaining d e n l y z same is a xs p s = subst (λ x. PartRead {E = E} remaining e l xs p (Ok x)) is (subst (λ m. PartRead {E = E} remaining e m xs p (Ok y)) same (a xs p s))
+answers-of E remaining d e n l y z same is a xs p s = subst (λ x. IsPartRead {E = E} remaining e l xs p (Ok x)) is (subst (λ m. IsPartRead {E = E} remaining e m xs p (Ok y)) same (a xs p s))
 
 left : (l : ℕ) (xs : List ℕ) (p : ℕ) (os : List Open) (m : ℕ) (zs : List ℕ) (r : ℕ) → IsAround l xs p os m zs r → l - length os ≡ m
 left l xs p os m zs r a = omega (arith, levels-left l xs p os m zs r a)
 
-answer-here : {S E : Type 0} (remaining : S → Option (List ℕ)) (d e : Decoder S) (os : List Open) (l : ℕ) (xs : List ℕ) (p : ℕ) (x : Result Part (Error E)) → Answers remaining d e (l - length os) x → (s : IsReading remaining d os l xs p) → PartRead remaining e s.0 s.1 s.2 x
-answer-here remaining d e os l xs p x answers s = subst (λ m. PartRead remaining e m s.1 s.2 x) (left l xs p os s.0 s.1 s.2 s.3) (answers s.1 s.2 s.4)
+answer-here : {S E : Type 0} (remaining : S → Option (List ℕ)) (d e : Decoder S) (os : List Open) (l : ℕ) (xs : List ℕ) (p : ℕ) (x : Result Part (Error E)) → Answers remaining d e (l - length os) x → (s : IsReading remaining d os l xs p) → IsPartRead remaining e s.0 s.1 s.2 x
+answer-here remaining d e os l xs p x answers s = subst (λ m. IsPartRead remaining e m s.1 s.2 x) (left l xs p os s.0 s.1 s.2 s.3) (answers s.1 s.2 s.4)
 
 pub turn-refused : {S E : Type 0} (remaining : S → Option (List ℕ)) (d e : Decoder S) (os : List Open) (l : ℕ) (xs : List ℕ) (p : ℕ) (x : Error E) → Answers remaining d e (l - length os) (Err x) → IsReading remaining d os l xs p →
     RefusedBy (remaining e.reader.now) x (λ r. Refuses xs p (Some l) r)
@@ -47,7 +47,7 @@ turn-refused remaining d e os l xs p x answers s =
 -- ---- a value was placed
 
 is-turned : {S E : Type 0} (remaining : S → Option (List ℕ)) (e : Decoder S) (after : List Open) (l : ℕ) (xs : List ℕ) (p : ℕ) (given : Result (Option Value) AllocError) (x : Result (Option Value) (Error E)) (os : List Open) (v : Tree) (zs : List ℕ) (r : ℕ) →
-    IfOk x (λ o. given ≡ Ok o) → IfErr x (λ e. e ≡ Memory) → IfOk given (λ o. placed_of o after ≡ placed os v) → IsPlaced l xs p (placed os v) zs r → IsAhead remaining e zs r → Turned remaining e after l xs p x
+    IfOk x (λ o. given ≡ Ok o) → IfErr x (λ e. e ≡ Memory) → IfOk given (λ o. placed_of o after ≡ placed os v) → IsPlaced l xs p (placed os v) zs r → IsAhead remaining e zs r → IsTurned remaining e after l xs p x
 is-turned remaining e after l xs p given (Ok None) os v zs r ok err is a s =
     let b : IsPlaced l xs p (more after) zs r = subst (λ (x : Placed). IsPlaced l xs p x zs r) (sym (subst (λ g. IfOk g (λ o. placed_of o after ≡ placed os v)) ok is)) a in
     (b.0, zs, r, b.1, s)
@@ -56,7 +56,7 @@ is-turned remaining e after l xs p given (Ok (Some w)) os v zs r ok err is a s =
 is-turned remaining e after l xs p given (Err x) os v zs r ok err is a s = subst (λ z. RefusedBy (remaining e.reader.now) z (λ r. Refuses xs p (Some l) r)) (sym err) tt
 
 pub turn-whole : {S E : Type 0} (remaining : S → Option (List ℕ)) (d e : Decoder S) (os after : List Open) (l : ℕ) (xs : List ℕ) (p : ℕ) (v : Value) (given : Result (Option Value) AllocError) (x : Result (Option Value) (Error E)) →
-    Answers {E = E} remaining d e (l - length os) (Ok (Whole v)) → IfOk x (λ o. given ≡ Ok o) → IfErr x (λ e. e ≡ Memory) → IfOk given (λ o. placed_of o after ≡ placed os (tree_of v)) → IsReading remaining d os l xs p → Turned remaining e after l xs p x
+    Answers {E = E} remaining d e (l - length os) (Ok (Whole v)) → IfOk x (λ o. given ≡ Ok o) → IfErr x (λ e. e ≡ Memory) → IfOk given (λ o. placed_of o after ≡ placed os (tree_of v)) → IsReading remaining d os l xs p → IsTurned remaining e after l xs p x
 turn-whole {E} remaining d e os after l xs p v given x answers ok err is s =
     let a = answer-here {E = E} remaining d e os l xs p (Ok (Whole v)) answers s in
     is-turned remaining e after l xs p given x os (tree_of v) a.0 a.1 ok err is (placed-turn l xs p os s.0 s.1 s.2 (tree_of v) a.0 a.1 s.3 a.2) a.3
@@ -74,7 +74,7 @@ turn-opened E remaining d e os after l xs p f answers is s =
 
 pub turn-ended : {S E : Type 0} (remaining : S → Option (List ℕ)) (d e : Decoder S) (os between after : List Open) (l : ℕ) (xs : List ℕ) (p : ℕ) (v : Value) (given : Result (Option Value) AllocError) (x : Result (Option Value) (Error E)) →
     Answers {E = E} remaining d e (l - length os) (Ok Ended) → closed os ≡ Some (tree_of v, between) → IfOk x (λ o. given ≡ Ok o) → IfErr x (λ e. e ≡ Memory) → IfOk given (λ o. placed_of o after ≡ placed between (tree_of v)) →
-    IsReading remaining d os l xs p → Turned remaining e after l xs p x
+    IsReading remaining d os l xs p → IsTurned remaining e after l xs p x
 turn-ended {E} remaining d e os between after l xs p v given x answers ends ok err is s =
     let a = answer-here {E = E} remaining d e os l xs p (Ok Ended) answers s in
     is-turned remaining e after l xs p given x between (tree_of v) a.0 (s.2 + 1) ok err is (closed-turn l xs p os between s.0 s.1 s.2 (tree_of v) a.0 s.3 ends a.1 a.2) a.3

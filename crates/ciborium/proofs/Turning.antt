@@ -18,7 +18,7 @@ use Rattle.ciborium_value.specs.Tree.{Tree, Trees}
 use Rattle.ciborium_value.specs.View.{trees_from, tree_pairs_from}
 use Rattle.ciborium_value.proofs.Parts.{then, then-after, then-count, after-left, after-items}
 use Rattle.ciborium.proofs.ItemsRead.{item-read, end-fits}
-use Rattle.ciborium.specs.Around.{in_turn, due_in, array_due, map_due, ContainerStands, IsRoom, InContainer, InTag, IsInside, IsAround, IsPlaced}
+use Rattle.ciborium.specs.Around.{in_turn, due_in, array_due, map_due, ContainerStands, IsRoom, IsInContainer, IsInTag, IsInside, IsAround, IsPlaced}
 use Rattle.ciborium.specs.Reads.{ReadsItem, IsBreakAt}
 use Rattle.ciborium.proofs.Grown.{then-Spells, then-nesting, then-meaning}
 use Rattle.ciborium.proofs.Paired.{paired, paired-is, paired-nesting, in_turn-key, in_turn-value}
@@ -45,7 +45,7 @@ room-more keys_until_break now is j e open_ room = tt
 room-more values_until_break now is j e open_ room = tt
 
 one-more : (major : ℕ) (count : Option ℕ) (start now : Due) (l : ℕ) (ys : List ℕ) (q : ℕ) (vs : List Tree) (v : Tree) (zs : List ℕ) (r : ℕ) (us : List ℕ) (s : ℕ) → IsOpenStill now →
-    InContainer major count start now l ys q vs zs r → ReadsItem l zs r v us s → InContainer major count start (next_due now) l ys q (vs ++ v ∷ []) us s
+    IsInContainer major count start now l ys q vs zs r → ReadsItem l zs r v us s → IsInContainer major count start (next_due now) l ys q (vs ++ v ∷ []) us s
 one-more major count start now l ys q vs v zs r us s open_ a i = record {
   size = a.size;
   good = a.good ++ i.taken;
@@ -63,9 +63,9 @@ one-more major count start now l ys q vs v zs r us s open_ a i = record {
 
 -- the same container, with what is due and its parts written otherwise
 recast : (major : ℕ) (count : Option ℕ) (start now later : Due) (l : ℕ) (ys : List ℕ) (q : ℕ) (vs ws : List Tree) (zs : List ℕ) (r : ℕ) → now ≡ later → vs ≡ ws →
-    InContainer major count start now l ys q vs zs r → InContainer major count start later l ys q ws zs r
+    IsInContainer major count start now l ys q vs zs r → IsInContainer major count start later l ys q ws zs r
 recast major count start now later l ys q vs ws zs r e f a =
-    subst (λ d. InContainer major count start d l ys q ws zs r) e (subst (λ us. InContainer major count start now l ys q us zs r) f a)
+    subst (λ d. IsInContainer major count start d l ys q ws zs r) e (subst (λ us. IsInContainer major count start now l ys q us zs r) f a)
 
 -- ---- a container is whole
 
@@ -110,7 +110,7 @@ module _ (major q r : ℕ) (ys good zs us : List ℕ) (opens : ys ≡ open_byte 
   open-end : r + 1 ≡ q + length (open_byte major ∷ (good ++ (break_byte ∷ [])))
   open-end = omega (arith, at, length-append good (break_byte ∷ []))
 
-array-whole : (count : Option ℕ) (l : ℕ) (ys : List ℕ) (q : ℕ) (vs : List Tree) (us : List ℕ) (s : ℕ) → InContainer 4 count (array_due count) (exactly 0) l ys q vs us s →
+array-whole : (count : Option ℕ) (l : ℕ) (ys : List ℕ) (q : ℕ) (vs : List Tree) (us : List ℕ) (s : ℕ) → IsInContainer 4 count (array_due count) (exactly 0) l ys q vs us s →
     ReadsItem (suc l) ys q (trees.array (trees_from vs)) us s
 array-whole None l ys q vs us s a = absurd (never-counts a.items a.due)
 array-whole (Some n) l ys q vs us s a =
@@ -118,7 +118,7 @@ array-whole (Some n) l ys q vs us s a =
     let nests = a.nests in
     item-read (a.head.0 ++ a.good) (item.array false a.items) ((a.good, a.spelled, (a.head.0, subst (Head a.head.0 4) (sym all) a.head.1, refl))) (ap (option_map trees.array) a.means) (omega (arith, nests)) (counted-split 4 n a.size q s ys a.good us a.head a.at) (counted-end 4 n a.size q s ys a.good us a.head a.at) a.fits
 
-array-ended : (count : Option ℕ) (l : ℕ) (ys : List ℕ) (q : ℕ) (vs : List Tree) (zs : List ℕ) (r : ℕ) (us : List ℕ) → InContainer 4 count (array_due count) items_until_break l ys q vs zs r →
+array-ended : (count : Option ℕ) (l : ℕ) (ys : List ℕ) (q : ℕ) (vs : List Tree) (zs : List ℕ) (r : ℕ) (us : List ℕ) → IsInContainer 4 count (array_due count) items_until_break l ys q vs zs r →
     zs ≡ break_byte ∷ us → r < greatest_offset → ReadsItem (suc l) ys q (trees.array (trees_from vs)) us (r + 1)
 array-ended (Some n) l ys q vs zs r us a e f = absurd (never-breaks n a.items items_until_break a.due refl)
 array-ended None l ys q vs zs r us a e f =
@@ -126,7 +126,7 @@ array-ended None l ys q vs zs r us a e f =
     let at : r ≡ q + 1 + length a.good = a.at ∙ ap (λ k. q + k + length a.good) a.head.0 in
     item-read (open_byte 4 ∷ (a.good ++ (break_byte ∷ []))) (item.array true a.items) (a.good, a.spelled, refl) (ap (option_map trees.array) a.means) (omega (arith, nests)) (open-split 4 q r ys a.good zs us a.head.1 e at) (open-end 4 q r ys a.good zs us a.head.1 e at) (omega (arith, f))
 
-map-whole : (count : Option ℕ) (l : ℕ) (ys : List ℕ) (q : ℕ) (ps : List (Tree × Tree)) (us : List ℕ) (s : ℕ) → InContainer 5 count (map_due count) (exactly 0) l ys q (in_turn ps None) us s →
+map-whole : (count : Option ℕ) (l : ℕ) (ys : List ℕ) (q : ℕ) (ps : List (Tree × Tree)) (us : List ℕ) (s : ℕ) → IsInContainer 5 count (map_due count) (exactly 0) l ys q (in_turn ps None) us s →
     ReadsItem (suc l) ys q (trees.map (tree_pairs_from ps)) us s
 map-whole None l ys q ps us s a = absurd ((keys-or-values a.items).0 a.due)
 map-whole (Some n) l ys q ps us s a =
@@ -136,7 +136,7 @@ map-whole (Some n) l ys q ps us s a =
     let nests : pairs_nesting (paired a.items) ≤ l = paired-nesting a.items l a.nests in
     item-read (a.head.0 ++ a.good) (item.map false (paired a.items)) ((a.good, pairs.0, (a.head.0, subst (Head a.head.0 5) (sym count) a.head.1, refl))) (ap (option_map trees.map) pairs.1) (omega (arith, nests)) (counted-split 5 n a.size q s ys a.good us a.head a.at) (counted-end 5 n a.size q s ys a.good us a.head a.at) a.fits
 
-map-ended : (count : Option ℕ) (l : ℕ) (ys : List ℕ) (q : ℕ) (ps : List (Tree × Tree)) (zs : List ℕ) (r : ℕ) (us : List ℕ) → InContainer 5 count (map_due count) keys_until_break l ys q (in_turn ps None) zs r →
+map-ended : (count : Option ℕ) (l : ℕ) (ys : List ℕ) (q : ℕ) (ps : List (Tree × Tree)) (zs : List ℕ) (r : ℕ) (us : List ℕ) → IsInContainer 5 count (map_due count) keys_until_break l ys q (in_turn ps None) zs r →
     zs ≡ break_byte ∷ us → r < greatest_offset → ReadsItem (suc l) ys q (trees.map (tree_pairs_from ps)) us (r + 1)
 map-ended (Some n) l ys q ps zs r us a e f = absurd (never-breaks-keys (2 * n) a.items keys_until_break a.due refl)
 map-ended None l ys q ps zs r us a e f =
@@ -175,7 +175,7 @@ folds-not t zs taken us (item.tag n i) never s e = cond-nothing (is_bignum_tag t
 folds-not t zs taken us (item.simple n) never s e = cond-nothing (is_bignum_tag t)
 folds-not t zs taken us (item.float p) never s e = cond-nothing (is_bignum_tag t)
 
-tag-whole : (l : ℕ) (ys : List ℕ) (q t : ℕ) (v : Tree) (zs : List ℕ) (r : ℕ) (us : List ℕ) (s : ℕ) → InTag ys q t zs r → ReadsItem l zs r v us s → ReadsItem (suc l) ys q (trees.tag t v) us s
+tag-whole : (l : ℕ) (ys : List ℕ) (q t : ℕ) (v : Tree) (zs : List ℕ) (r : ℕ) (us : List ℕ) (s : ℕ) → IsInTag ys q t zs r → ReadsItem l zs r v us s → ReadsItem (suc l) ys q (trees.tag t v) us s
 tag-whole l ys q t v zs r us s a i =
     let never = folds-not t zs i.taken us i.read.0 a.folds_not i.read.1.0 i.split in
     let deep : nesting (item.tag t i.read.0) ≡ suc (nesting i.read.0) = ap (λ f. tag_nesting f (nesting i.read.0)) never in
@@ -333,7 +333,7 @@ map-opens b (Some n) k r h = Opens.map n h
 map-opens b None k r h = Opens.open_map h.0 h.1
 
 part-refuses : (major : ℕ) (count : Option ℕ) (start now : Due) (l : ℕ) (ys : List ℕ) (q : ℕ) (vs : List Tree) (zs : List ℕ) (r : ℕ) (e : Refusal) →
-    ((k : ℕ) (s : List ℕ) → ContainerStands major ys count k s → Opens ys k s start) → InContainer major count start now l ys q vs zs r → IsDue now zs r → Refuses zs r (Some l) e → Refuses ys q (Some (suc l)) e
+    ((k : ℕ) (s : List ℕ) → ContainerStands major ys count k s → Opens ys k s start) → IsInContainer major count start now l ys q vs zs r → IsDue now zs r → Refuses zs r (Some l) e → Refuses ys q (Some (suc l)) e
 part-refuses major count start now l ys q vs zs r e opens a due f =
     let good : AreGood a.items (Some l) a.good (q + a.size) = (a.spelled, some-IsSome (items_meaning a.items) (trees_from vs) a.means, a.nests, (let x = a.at in let y = a.fits in omega (arith, x, y))) in
     Refuses.part a.size start a.good a.items zs (Some l) a.usable (opens a.size (a.good ++ zs) a.head) refl good

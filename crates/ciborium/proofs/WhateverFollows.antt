@@ -9,18 +9,18 @@ use Rattle.ciborium_ll.specs.declared.decoder.Decoder.{Decoder}
 use Rattle.ciborium_ll.specs.Decoding.{Begins, IsAhead, IsAheadBy, IsUnread, Pulls, PullsTo, Takes, TakesBeforeAny, with_left}
 use Rattle.ciborium_ll.specs.Bytes.{AreBytes}
 use Rattle.ciborium_ll.specs.Reading as reading
-use Rattle.ciborium_ll.specs.Reading.{HeadTaken}
+use Rattle.ciborium_ll.specs.Reading.{IsHeadTaken}
 use Rattle.ciborium_ll.specs.StringRefusal.{StringKind, ContentRefuses}
-use Rattle.ciborium_ll.specs.Strings.{StringTaken}
+use Rattle.ciborium_ll.specs.Strings.{IsStringTaken}
 use Rattle.ciborium_ll.proofs.Unread.{pulls-head, reads-string}
 use Rattle.ciborium_value.specs.declared.tree.Value.{Value}
 use Rattle.ciborium.specs.declared.de.error.Error.{Error}
 use Rattle.ciborium_value.specs.Refuses.{IsReadAs}
 use Rattle.ciborium_value.specs.View.{tree_of}
-use Rattle.ciborium.specs.Answers.{IsTakenAs, TakesBytes, ValueRead}
+use Rattle.ciborium.specs.Answers.{IsTakenAs, TakesBytes, IsValueRead}
 use Rattle.ciborium.specs.Errors.{from_ll}
 use Rattle.ciborium.specs.Reads.{IsAt}
-use Rattle.ciborium.specs.Strings.{StringRead}
+use Rattle.ciborium.specs.Strings.{IsStringRead}
 use Rattle.ciborium.proofs.Fronts.{ahead-at}
 use Rattle.ciborium.proofs.Outcomes.{left-at}
 use Rattle.ciborium.proofs.Pulled.{refused-from}
@@ -55,11 +55,11 @@ module _ {S : Type 0} (remaining : S → Option (List ℕ)) where
 
 -- a head that was pulled
 pub head-pulled : {S : Type 0} (E : Type 0) (remaining : S → Option (List ℕ)) (a b : Decoder S) (result : Result Header (LlError E)) →
-    IfSome a.pushed (λ head. (result ≡ Ok head.0) × (b.last ≡ head.1) × IsUnread a b) → IfNone a.pushed (Takes remaining a b (HeadTaken {E = E} a.count result)) → IfNone a.pushed (b.last ≡ a.count) →
+    IfSome a.pushed (λ head. (result ≡ Ok head.0) × (b.last ≡ head.1) × IsUnread a b) → IfNone a.pushed (Takes remaining a b (IsHeadTaken {E = E} a.count result)) → IfNone a.pushed (b.last ≡ a.count) →
     TakesBeforeAny remaining a b (λ d e. (xs : List ℕ) (p : ℕ) → IsAhead Some d xs p → Pulls {E = E} Some e xs p result)
 head-pulled {S} E remaining a b result pushed taken last = by a.pushed pushed taken last
   where
-    by : (o : Option (Header × ℕ)) → IfSome o (λ head. (result ≡ Ok head.0) × (b.last ≡ head.1) × IsUnread a b) → IfNone o (Takes remaining a b (HeadTaken {E = E} a.count result)) → IfNone o (b.last ≡ a.count) →
+    by : (o : Option (Header × ℕ)) → IfSome o (λ head. (result ≡ Ok head.0) × (b.last ≡ head.1) × IsUnread a b) → IfNone o (Takes remaining a b (IsHeadTaken {E = E} a.count result)) → IfNone o (b.last ≡ a.count) →
         Takes remaining a b (λ x. (c : List ℕ) (xs : List ℕ) (p : ℕ) → IsAheadBy Some (with_left a (x ++ c)) xs p o → Pulls {E = E} Some (with_left b c) xs p result)
     by None h (x, consumed, count, t, bytes) here =
         (x, consumed, count, λ c xs p s. pulls-head {E = E} (Some (x ++ c)) (Some c) b.last b.count xs a.count p result s here (x, refl, count, t, bytes), bytes)
@@ -77,11 +77,11 @@ PullsAll {E} d e x = (xs : List ℕ) (p : ℕ) → IsAhead Some d xs p → Pulls
 
 -- what the calls that read a string answer
 abbrev pub StringSo : {E : Type 0} → StringKind → Option ℕ → ℕ → Decoder (List ℕ) → Decoder (List ℕ) → Result Value (Error E) → Type 0
-StringSo {E} kind len at d e x = (xs : List ℕ) (p : ℕ) → IsAt Some d xs p → StringRead {S = List ℕ} {E = E} kind Some e len at xs p x
+StringSo {E} kind len at d e x = (xs : List ℕ) (p : ℕ) → IsAt Some d xs p → IsStringRead {S = List ℕ} {E = E} kind Some e len at xs p x
 
 -- a string that was refused
 pub string-refused : (E : Type 0) {S : Type 0} (remaining : S → Option (List ℕ)) (a b : Decoder S) (kind : StringKind) (len : Option ℕ) (x : LlError E) (A : List ℕ → List ℕ → Type 0) →
-    Takes remaining a b (λ y. (added : List ℕ) × A added y × StringTaken {E = E} kind len a.last a.count (Err x) added y) → TakesBeforeAny remaining a b (λ d e. StringSo {E = E} kind len a.last d e (Err (from_ll x)))
+    Takes remaining a b (λ y. (added : List ℕ) × A added y × IsStringTaken {E = E} kind len a.last a.count (Err x) added y) → TakesBeforeAny remaining a b (λ d e. StringSo {E = E} kind len a.last d e (Err (from_ll x)))
 string-refused E remaining a b kind len x A (y, taken, count, h, bytes) = (
   y,
   taken,
@@ -95,7 +95,7 @@ string-refused E remaining a b kind len x A (y, taken, count, h, bytes) = (
 
 -- what reading a value answers
 abbrev pub ValueSo : {E : Type 0} → ℕ → Decoder (List ℕ) → Decoder (List ℕ) → Result Value (Error E) → Type 0
-ValueSo {E} l d e x = (xs : List ℕ) (p : ℕ) → IsAhead Some d xs p → ValueRead {S = List ℕ} {E = E} Some e l xs p x
+ValueSo {E} l d e x = (xs : List ℕ) (p : ℕ) → IsAhead Some d xs p → IsValueRead {S = List ℕ} {E = E} Some e l xs p x
 
 pub taken-as : (E : Type 0) {S : Type 0} (remaining : S → Option (List ℕ)) (a b : Decoder S) (lent : S) (l : ℕ) (x : Result Value (Error E)) → Begins a lent 0 → OnOk x (b.pushed ≡ None) →
     TakesBeforeAny remaining a b (λ d e. ValueSo {E = E} l d e x) → TakesBytes {E = E} (remaining lent) l (remaining b.reader.now) x
@@ -107,7 +107,7 @@ taken-as E {S} remaining a b lent l x begins rests (s, taken, count, h, bytes) =
     same-rest : (u v : List ℕ) → Some u ≡ Some v → u ≡ v
     same-rest u v e = cc
 
-    found : (x : Result Value (Error E)) → OnOk x (b.pushed ≡ None) → ((c : List ℕ) → ValueRead {S = List ℕ} {E = E} Some (with_left b c) l (s ++ c) 0 x) → IsTakenAs {E = E} s l x
+    found : (x : Result Value (Error E)) → OnOk x (b.pushed ≡ None) → ((c : List ℕ) → IsValueRead {S = List ℕ} {E = E} Some (with_left b c) l (s ++ c) 0 x) → IsTakenAs {E = E} s l x
     found (Ok v) rests f =
         let (zs, r, reads, at) = f [] in
         let left : [] ≡ zs = same-rest [] zs (left-at Some (with_left b []) r zs rests at) in

@@ -24,15 +24,15 @@ abbrev pub IsReading : {S : Type 0} → (S → Option (List ℕ)) → Decoder S 
 IsReading remaining d os l xs p = (m : ℕ) × (zs : List ℕ) × (r : ℕ) × IsAround l xs p os m zs r × IsAhead remaining d zs r
 
 -- the answer of a call that reads a value
-abbrev pub ValueRead : {S E : Type 0} → (S → Option (List ℕ)) → Decoder S → ℕ → List ℕ → ℕ → Result Value (Error E) → Type 0
-ValueRead remaining d l xs p (Ok v) = (zs : List ℕ) × (r : ℕ) × ReadsItem l xs p (tree_of v) zs r × IsAhead remaining d zs r
-ValueRead remaining d l xs p (Err e) = RefusedBy (left_of remaining d) e (Refuses xs p (Some l))
+abbrev pub IsValueRead : {S E : Type 0} → (S → Option (List ℕ)) → Decoder S → ℕ → List ℕ → ℕ → Result Value (Error E) → Type 0
+IsValueRead remaining d l xs p (Ok v) = (zs : List ℕ) × (r : ℕ) × ReadsItem l xs p (tree_of v) zs r × IsAhead remaining d zs r
+IsValueRead remaining d l xs p (Err e) = RefusedBy (left_of remaining d) e (Refuses xs p (Some l))
 
 -- the answer of one turn of the loop
-abbrev pub Turned : {S E : Type 0} → (S → Option (List ℕ)) → Decoder S → List Open → ℕ → List ℕ → ℕ → Result (Option Value) (Error E) → Type 0
-Turned remaining d os l xs p (Ok None) = IsReading remaining d os l xs p
-Turned remaining d os l xs p (Ok (Some v)) = (zs : List ℕ) × (r : ℕ) × ReadsItem l xs p (tree_of v) zs r × IsAhead remaining d zs r
-Turned remaining d os l xs p (Err e) = RefusedBy (left_of remaining d) e (Refuses xs p (Some l))
+abbrev pub IsTurned : {S E : Type 0} → (S → Option (List ℕ)) → Decoder S → List Open → ℕ → List ℕ → ℕ → Result (Option Value) (Error E) → Type 0
+IsTurned remaining d os l xs p (Ok None) = IsReading remaining d os l xs p
+IsTurned remaining d os l xs p (Ok (Some v)) = (zs : List ℕ) × (r : ℕ) × ReadsItem l xs p (tree_of v) zs r × IsAhead remaining d zs r
+IsTurned remaining d os l xs p (Err e) = RefusedBy (left_of remaining d) e (Refuses xs p (Some l))
 
 -- of the bytes b just those of one good item within l levels were taken, which means v
 abbrev pub TakesValue : List ℕ → ℕ → Tree → Option (List ℕ) → Type 0

@@ -51,7 +51,7 @@ IsRoom keys_until_break is = Unit {0}
 IsRoom values_until_break is = Unit {0}
 
 -- a container begins at ys, offset q; vs are the values of its parts so far, keys and values in turn, each within l levels; now is due
-pub record InContainer (major : ℕ) (count : Option ℕ) (start now : Due) (l : ℕ) (ys : List ℕ) (q : ℕ) (vs : List Tree) (zs : List ℕ) (r : ℕ) : Type 0 where
+pub record IsInContainer (major : ℕ) (count : Option ℕ) (start now : Due) (l : ℕ) (ys : List ℕ) (q : ℕ) (vs : List Tree) (zs : List ℕ) (r : ℕ) : Type 0 where
   pub size : ℕ
   pub good : List ℕ
   pub items : Items
@@ -66,7 +66,7 @@ pub record InContainer (major : ℕ) (count : Option ℕ) (start now : Due) (l :
   pub fits : r ≤ greatest_offset
 
 -- a tag that does not fold begins at ys, offset q, and its item is due at zs
-pub record InTag (ys : List ℕ) (q : ℕ) (t : ℕ) (zs : List ℕ) (r : ℕ) : Type 0 where
+pub record IsInTag (ys : List ℕ) (q : ℕ) (t : ℕ) (zs : List ℕ) (r : ℕ) : Type 0 where
   pub size : ℕ
   pub usable : IsUsable ys q
   pub head : HeadStands ys 6 t size zs
@@ -77,10 +77,10 @@ pub record InTag (ys : List ℕ) (q : ℕ) (t : ℕ) (zs : List ℕ) (r : ℕ) :
 -- what begins at ys is open at zs
 abbrev pub IsInside : Open → ℕ → List ℕ → ℕ → List ℕ → ℕ → Type 0
 IsInside (array vs behind) l ys q zs r =
-    (count : Option ℕ) × InContainer 4 count (array_due count) (due_in (array vs behind)) l ys q vs zs r
+    (count : Option ℕ) × IsInContainer 4 count (array_due count) (due_in (array vs behind)) l ys q vs zs r
 IsInside (map ps behind key) l ys q zs r =
-    (count : Option ℕ) × InContainer 5 count (map_due count) (due_in (map ps behind key)) l ys q (in_turn ps key) zs r
-IsInside (tag t) l ys q zs r = InTag ys q t zs r
+    (count : Option ℕ) × IsInContainer 5 count (map_due count) (due_in (map ps behind key)) l ys q (in_turn ps key) zs r
+IsInside (tag t) l ys q zs r = IsInTag ys q t zs r
 
 -- all that is open, the innermost first
 abbrev pub IsAround : ℕ → List ℕ → ℕ → List Open → ℕ → List ℕ → ℕ → Type 0

@@ -31,23 +31,23 @@ IsBehind None (Some k) = ⊥
 IsBehind None None = Unit {0}
 
 -- what follows the head of an array with this count
-abbrev pub ArrayBegun : {E : Type 0} → Option ℕ → ℕ → Result Part (Error E) → Type 0
-ArrayBegun count l (Ok (Whole v)) = (count ≡ Some 0) × (0 < l) × (tree_of v ≡ trees.array trees.no_trees)
-ArrayBegun count l (Ok (Opened f)) = (0 < l) × (behind : Option ℕ) × (opened f ≡ array [] behind) × IsBehind count behind
-ArrayBegun count l (Ok Ended) = ⊥
-ArrayBegun count l (Err e) = (l ≡ 0) × (e ≡ RecursionLimitExceeded)
+abbrev pub IsArrayBegun : {E : Type 0} → Option ℕ → ℕ → Result Part (Error E) → Type 0
+IsArrayBegun count l (Ok (Whole v)) = (count ≡ Some 0) × (0 < l) × (tree_of v ≡ trees.array trees.no_trees)
+IsArrayBegun count l (Ok (Opened f)) = (0 < l) × (behind : Option ℕ) × (opened f ≡ array [] behind) × IsBehind count behind
+IsArrayBegun count l (Ok Ended) = ⊥
+IsArrayBegun count l (Err e) = (l ≡ 0) × (e ≡ RecursionLimitExceeded)
 
 -- what follows the head of a map with this count
-abbrev pub MapBegun : {E : Type 0} → Option ℕ → ℕ → Result Part (Error E) → Type 0
-MapBegun count l (Ok (Whole v)) = (count ≡ Some 0) × (0 < l) × (tree_of v ≡ trees.map trees.no_tree_pairs)
-MapBegun count l (Ok (Opened f)) = (0 < l) × (behind : Option ℕ) × (opened f ≡ map [] behind None) × IsBehind count behind
-MapBegun count l (Ok Ended) = ⊥
-MapBegun count l (Err e) = (l ≡ 0) × (e ≡ RecursionLimitExceeded)
+abbrev pub IsMapBegun : {E : Type 0} → Option ℕ → ℕ → Result Part (Error E) → Type 0
+IsMapBegun count l (Ok (Whole v)) = (count ≡ Some 0) × (0 < l) × (tree_of v ≡ trees.map trees.no_tree_pairs)
+IsMapBegun count l (Ok (Opened f)) = (0 < l) × (behind : Option ℕ) × (opened f ≡ map [] behind None) × IsBehind count behind
+IsMapBegun count l (Ok Ended) = ⊥
+IsMapBegun count l (Err e) = (l ≡ 0) × (e ≡ RecursionLimitExceeded)
 
 -- what a simple value at offset p is read as
-abbrev pub SimpleRead : {E : Type 0} → ℕ → ℕ → Result Value (Error E) → Type 0
-SimpleRead n p (Ok v) = simple_meaning n ≡ Some (tree_of v)
-SimpleRead n p (Err e) = (simple_meaning n ≡ None) × (e ≡ Semantic (Some p) kinds.Simple)
+abbrev pub IsSimpleRead : {E : Type 0} → ℕ → ℕ → Result Value (Error E) → Type 0
+IsSimpleRead n p (Ok v) = simple_meaning n ≡ Some (tree_of v)
+IsSimpleRead n p (Err e) = (simple_meaning n ≡ None) × (e ≡ Semantic (Some p) kinds.Simple)
 
 -- a container or tag that is open at zs begins at ys
 abbrev pub IsBegun : ℕ → List ℕ → ℕ → Open → List ℕ → ℕ → Type 0
@@ -58,16 +58,16 @@ abbrev pub RefusesNoBreak : {E : Type 0} → Option (List ℕ) → Error E → L
 RefusesNoBreak left e xs p l = RefusedBy left e (λ r. Refuses xs p (Some l) r × ¬ IsBreakAt xs p)
 
 -- the answer of a call that pulls a head
-abbrev pub HeadRead : {S E : Type 0} → (S → Option (List ℕ)) → Decoder S → List ℕ → ℕ → Result Header (Error E) → Type 0
-HeadRead remaining d xs p (Ok h) = IsPulled remaining d h xs p
-HeadRead remaining d xs p (Err e) = RefusedBy (left_of remaining d) e (HeadRefuses xs p)
+abbrev pub IsHeadRead : {S E : Type 0} → (S → Option (List ℕ)) → Decoder S → List ℕ → ℕ → Result Header (Error E) → Type 0
+IsHeadRead remaining d xs p (Ok h) = IsPulled remaining d h xs p
+IsHeadRead remaining d xs p (Err e) = RefusedBy (left_of remaining d) e (HeadRefuses xs p)
 
 -- the answer of a call that reads a part
-abbrev pub PartRead : {S E : Type 0} → (S → Option (List ℕ)) → Decoder S → ℕ → List ℕ → ℕ → Result Part (Error E) → Type 0
-PartRead remaining d l xs p (Ok (Whole v)) = (zs : List ℕ) × (r : ℕ) × ReadsItem l xs p (tree_of v) zs r × IsAhead remaining d zs r
-PartRead remaining d l xs p (Ok (Opened f)) = (zs : List ℕ) × (r : ℕ) × IsBegun l xs p (opened f) zs r × IsAhead remaining d zs r
-PartRead remaining d l xs p (Ok Ended) = (zs : List ℕ) × (xs ≡ break_byte ∷ zs) × (p < greatest_offset) × IsAhead remaining d zs (p + 1)
-PartRead remaining d l xs p (Err e) = RefusesNoBreak (left_of remaining d) e xs p l
+abbrev pub IsPartRead : {S E : Type 0} → (S → Option (List ℕ)) → Decoder S → ℕ → List ℕ → ℕ → Result Part (Error E) → Type 0
+IsPartRead remaining d l xs p (Ok (Whole v)) = (zs : List ℕ) × (r : ℕ) × ReadsItem l xs p (tree_of v) zs r × IsAhead remaining d zs r
+IsPartRead remaining d l xs p (Ok (Opened f)) = (zs : List ℕ) × (r : ℕ) × IsBegun l xs p (opened f) zs r × IsAhead remaining d zs r
+IsPartRead remaining d l xs p (Ok Ended) = (zs : List ℕ) × (xs ≡ break_byte ∷ zs) × (p < greatest_offset) × IsAhead remaining d zs (p + 1)
+IsPartRead remaining d l xs p (Err e) = RefusesNoBreak (left_of remaining d) e xs p l
 
 -- a level is left for what was opened
 abbrev pub HasRoom : Part → ℕ → Type 0
@@ -93,10 +93,10 @@ FoldRefuses t n p xs e =
     ⊎ ((b : List ℕ) × (r : List ℕ) × (length b ≡ n) × AreBytes b × (bignum_meaning t b ≡ None) × (xs ≡ b ++ r) × (e ≡ semantic p TooLarge))
 
 -- the answer of a call that reads the n bytes over which a tag at offset at folds
-abbrev pub FoldRead : {S E : Type 0} → (S → Option (List ℕ)) → Decoder S → ℕ → ℕ → ℕ → List ℕ → ℕ → Result Value (Error E) → Type 0
-FoldRead remaining d t n at xs p (Ok v) =
+abbrev pub IsFoldRead : {S E : Type 0} → (S → Option (List ℕ)) → Decoder S → ℕ → ℕ → ℕ → List ℕ → ℕ → Result Value (Error E) → Type 0
+IsFoldRead remaining d t n at xs p (Ok v) =
     (b : List ℕ) × (r : List ℕ) × (length b ≡ n) × AreBytes b × (bignum_meaning t b ≡ Some (tree_of v)) × (xs ≡ b ++ r) × IsAt remaining d r (p + n)
-FoldRead remaining d t n at xs p (Err e) = p + n ≤ greatest_offset → RefusedBy (left_of remaining d) e (FoldRefuses t n at xs)
+IsFoldRead remaining d t n at xs p (Err e) = p + n ≤ greatest_offset → RefusedBy (left_of remaining d) e (FoldRefuses t n at xs)
 
 -- whether a tag folds over what has this header behind it, and over how many bytes
 abbrev pub IsFolding : ℕ → Header → Option ℕ → Type 0

@@ -4,7 +4,7 @@ use Rattle.ciborium_ll.specs.declared.decoder.Decoder.{Decoder}
 use Rattle.ciborium_ll.specs.Bytes.{greatest_offset}
 use Rattle.ciborium_ll.specs.Decoding.{left_of}
 use Rattle.ciborium_ll.specs.StringRefusal.{StringKind, of_bytes, of_text, ContentRefuses}
-use Rattle.ciborium_ll.specs.Strings.{StringTaken}
+use Rattle.ciborium_ll.specs.Strings.{IsStringTaken}
 use Rattle.ciborium_value.specs.declared.tree.Value.{Value}
 use Rattle.ciborium_value.specs.Tree as trees
 use Rattle.ciborium_value.specs.Tree.{Tree}
@@ -19,8 +19,8 @@ string_tree of_bytes b = trees.bytes b
 string_tree of_text b = trees.text b
 
 -- the payload of a string of this length, whose head is at offset at, stands at xs, offset p
-abbrev pub StringRead : {S E : Type 0} → StringKind → (S → Option (List ℕ)) → Decoder S → Option ℕ → ℕ → List ℕ → ℕ → Result Value (Error E) → Type 0
-StringRead {S} {E} kind remaining d len at xs p (Ok v) =
-    (b : List ℕ) × (added : List ℕ) × (r : List ℕ) × StringTaken {E = E} kind len at p (Ok tt) added b × (tree_of v ≡ string_tree kind added) ×
+abbrev pub IsStringRead : {S E : Type 0} → StringKind → (S → Option (List ℕ)) → Decoder S → Option ℕ → ℕ → List ℕ → ℕ → Result Value (Error E) → Type 0
+IsStringRead {S} {E} kind remaining d len at xs p (Ok v) =
+    (b : List ℕ) × (added : List ℕ) × (r : List ℕ) × IsStringTaken {E = E} kind len at p (Ok tt) added b × (tree_of v ≡ string_tree kind added) ×
     (xs ≡ b ++ r) × IsAt remaining d r (p + length b) × (p + length b ≤ greatest_offset)
-StringRead kind remaining d len at xs p (Err e) = RefusedBy (left_of remaining d) e (ContentRefuses kind len at xs p)
+IsStringRead kind remaining d len at xs p (Err e) = RefusedBy (left_of remaining d) e (ContentRefuses kind len at xs p)

@@ -5,7 +5,7 @@ use Rattle.std.proofs.lemmas.List.Elements.{All-append}
 use Rattle.ciborium_ll.specs.declared.header.Header.{Header}
 use Rattle.ciborium_ll.specs.declared.header.Error.{Error}
 use Rattle.ciborium_ll.specs.Bytes.{greatest_offset}
-use Rattle.ciborium_ll.specs.Reading.{Advances, FillTaken, HeadTaken}
+use Rattle.ciborium_ll.specs.Reading.{Advances, IsFillTaken, IsHeadTaken}
 use Rattle.ciborium_ll.specs.Refusal.{argument_length}
 use Rattle.ciborium_ll.proofs.HeadAnswers.{argument-refused}
 
@@ -38,24 +38,24 @@ Filled p buffer b = (b ≡ buffer) × (p + length buffer ≤ greatest_offset)
 
 -- a head behind its initial byte
 pub head-behind : (E : Type 0) (a b c : Option (List ℕ)) (p q r : ℕ) (first : List ℕ) (result : Result Header (Error E)) → length first ≡ 1 → Advances a b p q (Filled p first) →
-    Advances b c q r (λ y. HeadTaken {E = E} p result (get_or first 0 0 ∷ y)) → Advances a c p r (HeadTaken {E = E} p result)
+    Advances b c q r (λ y. IsHeadTaken {E = E} p result (get_or first 0 0 ∷ y)) → Advances a c p r (IsHeadTaken {E = E} p result)
 head-behind E a b c p q r first result one =
-    Advances-then a b c p q r (Filled p first) (λ y. HeadTaken {E = E} p result (get_or first 0 0 ∷ y)) (HeadTaken {E = E} p result)
-    (λ x y e h. subst (λ l. HeadTaken {E = E} p result (l ++ y)) (sym (e.0 ∙ single first one)) h)
+    Advances-then a b c p q r (Filled p first) (λ y. IsHeadTaken {E = E} p result (get_or first 0 0 ∷ y)) (IsHeadTaken {E = E} p result)
+    (λ x y e h. subst (λ l. IsHeadTaken {E = E} p result (l ++ y)) (sym (e.0 ∙ single first one)) h)
 
 module _ (b c : Option (List ℕ)) (p q r initial : ℕ) (bytes : List ℕ) where
   -- the argument was refused
-  pub argument-fails : {E : Type 0} (e : Error E) → q ≡ p + 1 → q ≤ greatest_offset → length bytes ≡ argument_length (initial % 32) → Advances b c q r (FillTaken {E = E} q bytes (Err e)) →
-      Advances b c q r (λ y. HeadTaken {E = E} p (Err e) (initial ∷ y))
+  pub argument-fails : {E : Type 0} (e : Error E) → q ≡ p + 1 → q ≤ greatest_offset → length bytes ≡ argument_length (initial % 32) → Advances b c q r (IsFillTaken {E = E} q bytes (Err e)) →
+      Advances b c q r (λ y. IsHeadTaken {E = E} p (Err e) (initial ∷ y))
   argument-fails {E} e at fits len =
-      Advances-map b c q r (FillTaken {E = E} q bytes (Err e)) (λ y. HeadTaken {E = E} p (Err e) (initial ∷ y))
-      (λ y h. argument-refused {E = E} p initial bytes y e (omega (arith, at, fits)) len (subst (λ n. FillTaken {E = E} n bytes (Err e) y) at h))
+      Advances-map b c q r (IsFillTaken {E = E} q bytes (Err e)) (λ y. IsHeadTaken {E = E} p (Err e) (initial ∷ y))
+      (λ y h. argument-refused {E = E} p initial bytes y e (omega (arith, at, fits)) len (subst (λ n. IsFillTaken {E = E} n bytes (Err e) y) at h))
 
   -- it was read whole
-  pub argument-whole : (E : Type 0) (result : Result Header (Error E)) → Advances b c q r (Filled q bytes) → HeadTaken {E = E} p result (initial ∷ bytes) →
-      Advances b c q r (λ y. HeadTaken {E = E} p result (initial ∷ y))
+  pub argument-whole : (E : Type 0) (result : Result Header (Error E)) → Advances b c q r (Filled q bytes) → IsHeadTaken {E = E} p result (initial ∷ bytes) →
+      Advances b c q r (λ y. IsHeadTaken {E = E} p result (initial ∷ y))
   argument-whole E result second h =
-      Advances-map b c q r (Filled q bytes) (λ y. HeadTaken {E = E} p result (initial ∷ y)) (λ y f. subst (λ l. HeadTaken {E = E} p result (initial ∷ l)) (sym f.0) h) second
+      Advances-map b c q r (Filled q bytes) (λ y. IsHeadTaken {E = E} p result (initial ∷ y)) (λ y f. subst (λ l. IsHeadTaken {E = E} p result (initial ∷ l)) (sym f.0) h) second
 
   pub argument-end : q ≡ p + 1 → Advances b c q r (Filled q bytes) → (r ≡ p + 1 + length bytes) × (r ≤ greatest_offset)
   argument-end at second = let len : length second.0 ≡ length bytes = ap length second.3.0 in (omega (arith, at, len, second.2), omega (arith, at, len, second.2, second.3.1))

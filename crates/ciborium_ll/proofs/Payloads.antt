@@ -3,8 +3,8 @@ use Rattle.std.proofs.Common.{◌≡◌, ℕ, ◌+◌, ◌-◌, ◌≤◌, List,
 use Rattle.ciborium_ll.specs.declared.header.Error.{Error}
 use Rattle.ciborium_ll.specs.declared.header.Error.TheVariants.{Io, Syntax, TooLong, Memory}
 use Rattle.ciborium_ll.specs.Bytes.{greatest_offset}
-use Rattle.ciborium_ll.specs.Reading.{Advances, FillTaken}
-use Rattle.ciborium_ll.specs.Strings.{Extends, PiecesTaken}
+use Rattle.ciborium_ll.specs.Reading.{Advances, IsFillTaken}
+use Rattle.ciborium_ll.specs.Strings.{Extends, IsPiecesTaken}
 use Rattle.ciborium_ll.proofs.Advancing.{Advances-then, Filled}
 
 -- a piece is no longer than what is left
@@ -26,7 +26,7 @@ abbrev pub Appended : ℕ → ℕ → List ℕ → List ℕ → List ℕ → Typ
 Appended n left old new b = (new ≡ old ++ b) × (length b + left ≡ n)
 
 refused : {E : Type 0} (n left q : ℕ) (old new piece x y : List ℕ) (e : Error E) → length piece ≤ left → q + left ≤ greatest_offset → Appended n left old new x →
-    FillTaken {E = E} q piece (Err e) y → PiecesTaken {E = E} n (Err e) old new (x ++ y)
+    IsFillTaken {E = E} q piece (Err e) y → IsPiecesTaken {E = E} n (Err e) old new (x ++ y)
 refused n left q old new piece x y (Io e) short below s h = (omega (arith, short, s.1, h.0, length-append x y), (x, s.0))
 refused n left q old new piece x y (Syntax at) short below s h = absurd h
 refused n left q old new piece x y TooLong short below s h = absurd (omega (arith, short, below, h.1))
@@ -41,9 +41,9 @@ piece-taken a b c p q r n left size old mid new piece short len more before now 
 
 -- the reader refused a piece
 pub piece-refused : {E : Type 0} (a b c : Option (List ℕ)) (p q r n left : ℕ) (old new piece : List ℕ) (e : Error E) → length piece ≤ left → q + left ≤ greatest_offset →
-    Advances a b p q (Appended n left old new) → Advances b c q r (FillTaken {E = E} q piece (Err e)) → Advances a c p r (PiecesTaken {E = E} n (Err e) old new)
+    Advances a b p q (Appended n left old new) → Advances b c q r (IsFillTaken {E = E} q piece (Err e)) → Advances a c p r (IsPiecesTaken {E = E} n (Err e) old new)
 piece-refused {E} a b c p q r n left old new piece e short below before now =
-    Advances-then a b c p q r (Appended n left old new) (FillTaken {E = E} q piece (Err e)) (PiecesTaken {E = E} n (Err e) old new)
+    Advances-then a b c p q r (Appended n left old new) (IsFillTaken {E = E} q piece (Err e)) (IsPiecesTaken {E = E} n (Err e) old new)
     (λ x y s h. refused {E = E} n left q old new piece x y e short below s h) before now
 
 -- the memory for a piece was refused

@@ -28,9 +28,9 @@ impl<'a, R: Read> Decoder<'a, R> {
     ghost use Rattle.ciborium_ll.specs.Decoding.{Begins, IsAhead, IsUnread, Pulls, Takes};
     ghost use Rattle.ciborium_ll.specs.Decoding.{SameReader};
     ghost use Rattle.ciborium_ll.specs.Decoding.{count_of, last_of, left_of, offset_of, pushed_of};
-    ghost use Rattle.ciborium_ll.specs.Reading.{FillTaken, HeadTaken, RefusedBy};
+    ghost use Rattle.ciborium_ll.specs.Reading.{IsFillTaken, IsHeadTaken, RefusedBy};
     ghost use Rattle.ciborium_ll.specs.StringRefusal.{ContentRefuses, of_bytes, of_text};
-    ghost use Rattle.ciborium_ll.specs.Strings.{Grows, StringTaken};
+    ghost use Rattle.ciborium_ll.specs.Strings.{Grows, IsStringTaken};
 
     /// A decoder whose offsets begin at 0.
     pub fn new(reader: &'a mut R) -> Decoder<'a, R>
@@ -93,7 +93,7 @@ impl<'a, R: Read> Decoder<'a, R> {
 
         // Otherwise just the bytes that decide the answer are taken.
         ensures taken { IfNone (pushed_of self.old)
-            (Takes R.remaining self.old self.new (HeadTaken (count_of self.old) result)) }
+            (Takes R.remaining self.old self.new (IsHeadTaken (count_of self.old) result)) }
         ensures last { IfNone (pushed_of self.old) (last_of self.new ≡ count_of self.old) }
 
         // The same, said of all that is unread.
@@ -120,7 +120,7 @@ impl<'a, R: Read> Decoder<'a, R> {
         ensures none_pushed { pushed_of self.new ≡ None }
         ensures last { last_of self.new ≡ last_of self.old }
         ensures taken { Takes R.remaining self.old self.new
-            (FillTaken (count_of self.old) buffer.new result) }
+            (IsFillTaken (count_of self.old) buffer.new result) }
     {
         fill(self.reader, buffer, &mut self.count)
     }
@@ -147,7 +147,7 @@ impl<'a, R: Read> Decoder<'a, R> {
         ensures last { last_of self.new ≡ last_of self.old }
         ensures taken { Takes R.remaining self.old self.new
             (Grows out.old.items out.new.items
-            (StringTaken of_bytes len (last_of self.old) (count_of self.old) result)) }
+            (IsStringTaken of_bytes len (last_of self.old) (count_of self.old) result)) }
         ensures refused { (b : List ℕ) → left_of R.remaining self.old ≡ Some b →
             IfErr result (λ e. RefusedBy (left_of R.remaining self.new) e
             (ContentRefuses of_bytes len (last_of self.old) b (count_of self.old))) }
@@ -184,7 +184,7 @@ impl<'a, R: Read> Decoder<'a, R> {
         ensures last { last_of self.new ≡ last_of self.old }
         ensures taken { Takes R.remaining self.old self.new
             (Grows (string_bytes out.old) (string_bytes out.new)
-            (StringTaken of_text len (last_of self.old) (count_of self.old) result)) }
+            (IsStringTaken of_text len (last_of self.old) (count_of self.old) result)) }
         ensures refused { (b : List ℕ) → left_of R.remaining self.old ≡ Some b →
             IfErr result (λ e. RefusedBy (left_of R.remaining self.new) e
             (ContentRefuses of_text len (last_of self.old) b (count_of self.old))) }

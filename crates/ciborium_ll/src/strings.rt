@@ -3,8 +3,8 @@
 ghost use Rattle.std.specs.Prelude.{◌≡◌, ◌+◌, ◌<◌, ◌≤◌, ◌++◌, ◌↔◌, IsTrue, List, length, ℕ};
 ghost use Rattle.ciborium_ll.specs.Reading.{Advances};
 ghost use Rattle.ciborium_ll.specs.StringRefusal.{Allowed};
-ghost use Rattle.ciborium_ll.specs.Strings.{Grows, IsPart, PartsTaken, PayloadTaken, PiecesTaken};
-ghost use Rattle.ciborium_ll.specs.Strings.{StringTaken, kind_of};
+ghost use Rattle.ciborium_ll.specs.Strings.{Grows, IsPart, IsPartsTaken, IsPayloadTaken};
+ghost use Rattle.ciborium_ll.specs.Strings.{IsPiecesTaken, IsStringTaken, kind_of};
 
 use crate::header::{Error, Header};
 use crate::reading::{fill, read_head};
@@ -32,7 +32,7 @@ fn append_pieces<R: Read>(
     requires below { count.old + n ≤ usize.MAX }
     ensures fits { count.new ≤ usize.MAX }
     ensures bytes { Advances (R.remaining reader.old) (R.remaining reader.new) count.old count.new
-        (PiecesTaken n result out.old.items out.new.items) }
+        (IsPiecesTaken n result out.old.items out.new.items) }
 {
     let mut left = n;
     while left > 0 {
@@ -58,7 +58,7 @@ fn append_bytes<R: Read>(
     requires { count.old + n ≤ usize.MAX }
     ensures fits { count.new ≤ usize.MAX }
     ensures bytes { Advances (R.remaining reader.old) (R.remaining reader.new) count.old count.new
-        (PiecesTaken n result out.old.items out.new.items) }
+        (IsPiecesTaken n result out.old.items out.new.items) }
 {
     if scratch.is_empty() {
         let mut own = [0u8; OWN_SCRATCH];
@@ -91,7 +91,7 @@ fn append_payload<R: Read>(
     requires { count.old + n ≤ usize.MAX }
     ensures fits { count.new ≤ usize.MAX }
     ensures bytes { Advances (R.remaining reader.old) (R.remaining reader.new) count.old count.new
-        (Grows out.old.items out.new.items (PayloadTaken (kind_of kind) n head result)) }
+        (Grows out.old.items out.new.items (IsPayloadTaken (kind_of kind) n head result)) }
 {
     let start = out.len();
     if let Err(e) = append_bytes(reader, count, n, scratch, out) {
@@ -133,7 +133,7 @@ fn append_parts<R: Read>(
 ) -> Result<(), Error<io::Error>>
     ensures fits { count.new ≤ usize.MAX }
     ensures bytes { Advances (R.remaining reader.old) (R.remaining reader.new) count.old count.new
-        (Grows out.old.items out.new.items (PartsTaken (kind_of kind) count.old result)) }
+        (Grows out.old.items out.new.items (IsPartsTaken (kind_of kind) count.old result)) }
 {
     let mut head = *count;
     'parts: loop {
@@ -160,7 +160,7 @@ pub(crate) fn append_string<R: Read>(
     ensures fits { count.new ≤ usize.MAX }
     ensures bytes { Advances (R.remaining reader.old) (R.remaining reader.new) count.old count.new
         (Grows out.old.items out.new.items
-        (StringTaken (kind_of kind) len head count.old result)) }
+        (IsStringTaken (kind_of kind) len head count.old result)) }
 {
     match len {
         Some(n) => {

@@ -4,7 +4,7 @@ ghost use Rattle.std.specs.Prelude.{◌≡◌, ◌<◌, ◌≤◌, IfErr, IfOk, 
 ghost use Rattle.std.specs.Prelude.{Ok, OnOk, Some, length, ℕ};
 ghost use Rattle.ciborium_ll.specs.Decoding.{IsAhead, SameReader, TakesBeforeAny, pushed_of};
 ghost use Rattle.ciborium_value.specs.Stack.{opens_of};
-ghost use Rattle.ciborium.specs.Answers.{IsReading, Turned, ValueRead};
+ghost use Rattle.ciborium.specs.Answers.{IsReading, IsTurned, IsValueRead};
 ghost use Rattle.ciborium.specs.Reads.{heads_left};
 
 use crate::de::error::Error;
@@ -46,7 +46,7 @@ fn turn<R: Read>(
         MatchOption o (length (opens_of stack.new) ≤ levels) (λ _. Unit {0})) }
     ensures turn { TakesBeforeAny R.remaining decoder.old decoder.new
         (λ d e. (xs : List ℕ) (p : ℕ) → IsReading Some d (opens_of stack.old) levels xs p →
-        Turned Some e (opens_of stack.new) levels xs p result) }
+        IsTurned Some e (opens_of stack.new) levels xs p result) }
 {
     let offset = decoder.offset();
     match next(alloc, decoder, scratch, levels - stack.depth())? {
@@ -72,7 +72,8 @@ pub(crate) fn read_value<R: Read>(
     ensures same_reader { SameReader decoder.old decoder.new }
     ensures rests { OnOk result (pushed_of decoder.new ≡ None) }
     ensures value { TakesBeforeAny R.remaining decoder.old decoder.new
-        (λ d e. (xs : List ℕ) (p : ℕ) → IsAhead Some d xs p → ValueRead Some e levels xs p result) }
+        (λ d e. (xs : List ℕ) (p : ℕ) → IsAhead Some d xs p →
+        IsValueRead Some e levels xs p result) }
 {
     let mut stack = Stack::new(alloc);
     'turns: loop {

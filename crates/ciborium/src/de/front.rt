@@ -2,7 +2,7 @@
 
 ghost use Rattle.std.specs.Prelude.{◌≡◌, ◌<◌, List, None, OnOk, Some, ℕ};
 ghost use Rattle.ciborium_ll.specs.Decoding.{IsAhead, SameReader, TakesBeforeAny, pushed_of};
-ghost use Rattle.ciborium.specs.Parts.{HeadRead};
+ghost use Rattle.ciborium.specs.Parts.{IsHeadRead};
 ghost use Rattle.ciborium.specs.Reads.{heads_left};
 
 use crate::de::error::Error;
@@ -29,7 +29,7 @@ pub(crate) fn pull<R: Read>(decoder: &mut Decoder<'_, R>) -> Result<Header, Erro
     ensures pushed { pushed_of decoder.new ≡ None }
     ensures fewer { OnOk result (heads_left decoder.new < heads_left decoder.old) }
     ensures head { TakesBeforeAny R.remaining decoder.old decoder.new
-        (λ d e. (xs : List ℕ) (p : ℕ) → IsAhead Some d xs p → HeadRead Some e xs p result) }
+        (λ d e. (xs : List ℕ) (p : ℕ) → IsAhead Some d xs p → IsHeadRead Some e xs p result) }
 {
     Ok(decoder.pull()?)
 }

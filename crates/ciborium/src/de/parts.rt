@@ -4,9 +4,10 @@
 ghost use Rattle.std.specs.Prelude.{◌≡◌, ◌+◌, ◌<◌, ◌≤◌, IfOk, List, None, OnOk, Some, ℕ};
 ghost use Rattle.ciborium_ll.specs.Decoding.{IsAhead, SameReader, TakesBeforeAny};
 ghost use Rattle.ciborium_ll.specs.Decoding.{last_of, pushed_of};
-ghost use Rattle.ciborium.specs.Parts.{ArrayBegun, HasRoom, MapBegun, PartRead, Rests, SimpleRead};
+ghost use Rattle.ciborium.specs.Parts.{HasRoom, IsArrayBegun, IsMapBegun, IsPartRead};
+ghost use Rattle.ciborium.specs.Parts.{IsSimpleRead, Rests};
 ghost use Rattle.ciborium.specs.Reads.{IsAt, heads_left};
-ghost use Rattle.ciborium.specs.Strings.{StringRead};
+ghost use Rattle.ciborium.specs.Strings.{IsStringRead};
 ghost use Rattle.ciborium_ll.specs.StringRefusal.{of_bytes, of_text};
 
 use crate::de::error::Error;
@@ -20,7 +21,7 @@ use std::io::{self, Read};
 
 #[inline(always)]
 fn begin_array(alloc: Global, count: Option<usize>, levels: usize) -> Result<Part, Error<io::Error>>
-    ensures { ArrayBegun count levels result }
+    ensures { IsArrayBegun count levels result }
 {
     if levels == 0 {
         return Err(Error::RecursionLimitExceeded);
@@ -36,7 +37,7 @@ fn begin_array(alloc: Global, count: Option<usize>, levels: usize) -> Result<Par
 
 #[inline(always)]
 fn begin_map(alloc: Global, count: Option<usize>, levels: usize) -> Result<Part, Error<io::Error>>
-    ensures { MapBegun count levels result }
+    ensures { IsMapBegun count levels result }
 {
     if levels == 0 {
         return Err(Error::RecursionLimitExceeded);
@@ -53,7 +54,7 @@ fn begin_map(alloc: Global, count: Option<usize>, levels: usize) -> Result<Part,
 #[tactic(auto, unfolding(ciborium_value::specs::Meaning::simple_meaning))]
 #[inline(always)]
 fn read_simple(number: u8, offset: usize) -> Result<Value, Error<io::Error>>
-    ensures { SimpleRead number offset result }
+    ensures { IsSimpleRead number offset result }
 {
     match number {
         simple::FALSE => Ok(Value::Bool(false)),
@@ -76,7 +77,7 @@ fn read_bytes<R: Read>(
     ensures fewer { OnOk result (heads_left decoder.new ≤ heads_left decoder.old) }
     ensures content { TakesBeforeAny R.remaining decoder.old decoder.new
         (λ d e. (xs : List ℕ) (p : ℕ) → IsAt Some d xs p →
-        StringRead of_bytes Some e len (last_of decoder.old) xs p result) }
+        IsStringRead of_bytes Some e len (last_of decoder.old) xs p result) }
 {
     let mut out = Vec::new(alloc);
     decoder.bytes_into(len, scratch, &mut out)?;
@@ -96,7 +97,7 @@ fn read_text<R: Read>(
     ensures fewer { OnOk result (heads_left decoder.new ≤ heads_left decoder.old) }
     ensures content { TakesBeforeAny R.remaining decoder.old decoder.new
         (λ d e. (xs : List ℕ) (p : ℕ) → IsAt Some d xs p →
-        StringRead of_text Some e len (last_of decoder.old) xs p result) }
+        IsStringRead of_text Some e len (last_of decoder.old) xs p result) }
 {
     let mut out = String::new(alloc);
     decoder.text_into(len, scratch, &mut out)?;
@@ -116,7 +117,8 @@ pub(crate) fn next<R: Read>(
     ensures rests { IfOk result (λ part. Rests part (pushed_of decoder.new)) }
     ensures room { IfOk result (λ part. HasRoom part levels) }
     ensures part { TakesBeforeAny R.remaining decoder.old decoder.new
-        (λ d e. (xs : List ℕ) (p : ℕ) → IsAhead Some d xs p → PartRead Some e levels xs p result) }
+        (λ d e. (xs : List ℕ) (p : ℕ) → IsAhead Some d xs p →
+        IsPartRead Some e levels xs p result) }
 {
     let offset = decoder.offset();
     match pull(decoder)? {

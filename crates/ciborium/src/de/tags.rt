@@ -4,7 +4,7 @@ ghost use Rattle.std.specs.Prelude.{◌≡◌, ◌≤◌, IfOk, List, None, OnOk
 ghost use Rattle.ciborium_ll.specs.Decoding.{SameReader, TakesBeforeAny, pushed_of};
 ghost use Rattle.ciborium_ll.specs.declared.header.Header.TheVariants as header;
 ghost use Rattle.ciborium_value.specs.Meaning.{is_bignum_tag};
-ghost use Rattle.ciborium.specs.Parts.{FoldRead, HasRoom, IsFolded, IsFolding, PartRead, Rests};
+ghost use Rattle.ciborium.specs.Parts.{IsFoldRead, HasRoom, IsFolded, IsFolding, IsPartRead, Rests};
 ghost use Rattle.ciborium.specs.Reads.{IsAt, IsPulled, heads_left};
 
 use crate::de::error::Error;
@@ -62,7 +62,7 @@ fn read_folded<R: Read>(
     ensures fewer { OnOk result (heads_left decoder.new ≤ heads_left decoder.old) }
     ensures fold { TakesBeforeAny R.remaining decoder.old decoder.new
         (λ d e. (xs : List ℕ) (p : ℕ) → IsAt Some d xs p →
-        FoldRead Some e tag n offset xs p result) }
+        IsFoldRead Some e tag n offset xs p result) }
 {
     let mut room = [0u8; GREATEST_FOLDED_SIZE];
     let payload = &mut room[..n];
@@ -86,7 +86,7 @@ pub(crate) fn read_tag<R: Read>(
     ensures room { IfOk result (λ part. HasRoom part levels) }
     ensures part { TakesBeforeAny R.remaining decoder.old decoder.new
         (λ d e. (xs : List ℕ) (p : ℕ) → IsPulled Some d (header.Tag tag) xs p → offset ≡ p →
-        PartRead Some e levels xs p result) }
+        IsPartRead Some e levels xs p result) }
 {
     let at = decoder.offset();
     let next = pull(decoder)?;

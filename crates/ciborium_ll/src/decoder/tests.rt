@@ -2,7 +2,7 @@
 // time, and that fail.
 ghost use Rattle.std.specs.Prelude.{List, ℕ};
 ghost use Rattle.std.specs.Io.KnownBytes.{Consumes};
-ghost use Rattle.ciborium_ll.specs.Reading.{HeadTaken};
+ghost use Rattle.ciborium_ll.specs.Reading.{IsHeadTaken};
 
 use super::*;
 use std::alloc::{AllocError, Global};
@@ -304,7 +304,7 @@ fn errors_from_the_device(rt: HostRuntime) {
 
 // A local decoder leaves to its caller what it did not read.
 fn first_head<R: Read>(reader: &mut R) -> Result<Header, Error<io::Error>>
-    ensures { (b : List ℕ) × Consumes (R.remaining reader.old) (R.remaining reader.new) b × HeadTaken 0 result b }
+    ensures { (b : List ℕ) × Consumes (R.remaining reader.old) (R.remaining reader.new) b × IsHeadTaken 0 result b }
 {
     let mut decoder = Decoder::new(reader);
     decoder.pull()

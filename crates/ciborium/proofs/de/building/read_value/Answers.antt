@@ -7,7 +7,7 @@ use Rattle.ciborium_value.specs.declared.tree.Value.{Value}
 use Rattle.ciborium_value.specs.Open.{Open}
 use Rattle.ciborium_value.specs.Stack.{opens_of}
 use Rattle.ciborium.specs.declared.de.error.Error.{Error}
-use Rattle.ciborium.specs.Answers.{IsReading, Turned}
+use Rattle.ciborium.specs.Answers.{IsReading, IsTurned}
 use Rattle.ciborium_ll.specs.Decoding.{with_left}
 use Rattle.ciborium.proofs.WhateverFollows.{so-unread, so-both}
 use Rattle.ciborium.proofs.Turned.{begin}
@@ -19,7 +19,7 @@ Reading os l d e = (xs : List ℕ) (p : ℕ) → IsAhead Some d xs p → IsReadi
 
 -- a turn goes on
 abbrev Turns : List Open → List Open → ℕ → Result (Option Value) (Error IoError) → Decoder (List ℕ) → Decoder (List ℕ) → Type 0
-Turns os us l x d e = (xs : List ℕ) (p : ℕ) → IsReading Some d os l xs p → Turned Some e us l xs p x
+Turns os us l x d e = (xs : List ℕ) (p : ℕ) → IsReading Some d os l xs p → IsTurned Some e us l xs p x
 
 pub turns-init : goal.turns-init
 turns-init g c = record {
@@ -40,7 +40,7 @@ turns-preserved g c = record {
         t.1,
         t.2,
         λ z xs p s. let m = t.3 z in
-            subst (λ o. Turned {E = IoError} Some (with_left c.turn.new.decoder z) (opens_of c.turn.new.stack) c.args.levels xs p (Ok o)) c.in_default.is (m.2 xs p (m.1 xs p s)),
+            subst (λ o. IsTurned {E = IoError} Some (with_left c.turn.new.decoder z) (opens_of c.turn.new.stack) c.args.levels xs p (Ok o)) c.in_default.is (m.2 xs p (m.1 xs p s)),
         t.4,
       )
       );
@@ -54,7 +54,7 @@ returns-in-Some-clause-value g c =
       t.1,
       t.2,
       λ z xs p s. let m = t.3 z in
-          subst (λ o. Turned {E = IoError} Some (with_left c.turn.new.decoder z) (opens_of c.turn.new.stack) c.args.levels xs p (Ok o)) c.in-Some.is (m.2 xs p (m.1 xs p s)),
+          subst (λ o. IsTurned {E = IoError} Some (with_left c.turn.new.decoder z) (opens_of c.turn.new.stack) c.args.levels xs p (Ok o)) c.in-Some.is (m.2 xs p (m.1 xs p s)),
       t.4,
     )
 

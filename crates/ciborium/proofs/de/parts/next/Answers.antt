@@ -8,7 +8,7 @@ use Rattle.ciborium_ll.specs.StringRefusal.{of_bytes, of_text}
 use Rattle.ciborium_value.specs.Tree as trees
 use Rattle.ciborium_value.specs.View.{tree_of}
 use Rattle.ciborium_value.proofs.Views.{tree_of-Integer}
-use Rattle.ciborium.specs.Parts.{PartRead}
+use Rattle.ciborium.specs.Parts.{IsPartRead}
 use Rattle.ciborium.specs.Reads.{IsPulled}
 use Rattle.ciborium_ll.specs.Decoding.{with_left}
 use Rattle.ciborium.proofs.AfterTag.{PullsSo}
@@ -162,7 +162,7 @@ returns-in-Break-clause-part g c =
 pub returns-in-Tag-clause-part : goal.returns-in-Tag-clause-part
 returns-in-Tag-clause-part g c =
     let t = so-both g.R.Read.remaining c.args.decoder.now c.pull.new.decoder c.read_tag.new.decoder (λ d e. PullsSo {E = Error} Some d e (Ok c.in_ok-n.field-0))
-    (λ d e. (xs : List ℕ) (p : ℕ) → IsPulled Some d (header.Tag c.in-Tag.tag) xs p → c.offset-offset.result ≡ p → PartRead {E = Error} Some e c.args.levels xs p c.read_tag.result) c.in_ok-n.ensures.head c.read_tag.ensures.part in (
+    (λ d e. (xs : List ℕ) (p : ℕ) → IsPulled Some d (header.Tag c.in-Tag.tag) xs p → c.offset-offset.result ≡ p → IsPartRead {E = Error} Some e c.args.levels xs p c.read_tag.result) c.in_ok-n.ensures.head c.read_tag.ensures.part in (
       t.0,
       t.1,
       t.2,
