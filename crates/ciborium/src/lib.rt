@@ -1,10 +1,14 @@
 //! CBOR (RFC 8949), whose every promise is a machine-checked contract.
 #![tactic(auto)]
 
+#[cfg(test)]
+mod callers;
 pub mod de;
 pub mod laws;
 pub mod ll;
 pub mod ser;
+#[cfg(test)]
+mod small_devices;
 pub mod value;
 
 pub use de::{from_reader, from_reader_with_buffer, from_reader_with_recursion_limit};

@@ -1,61 +1,42 @@
+// Values in the canonical order, by sorts, by `<` and by `max`, and counts of visits.
 use super::{cmp_value, cmp_value_counted};
-use crate::de::from_reader;
-use crate::ser::into_writer;
+use crate::callers::{bytes_of, only_item};
+use crate::small_devices::decode_hex;
 use crate::value::CanonicalValue;
 use ciborium_value::Value;
 use std::alloc::{AllocError, Global};
 use std::cmp::Ordering;
 use std::test::Fail;
 
-// 10, -1, -2, -3, -4, false, 100, -100, -200, "z", [-1], -300, "aa" and [100].
-const NUMBERS: [&[u8]; 14] = [
-    b"\x0a",
-    b"\x20",
-    b"\x21",
-    b"\x22",
-    b"\x23",
-    b"\xf4",
-    b"\x18\x64",
-    b"\x38\x63",
-    b"\x38\xc7",
-    b"\x61\x7a",
-    b"\x81\x20",
-    b"\x39\x01\x2b",
-    b"\x62\x61\x61",
-    b"\x81\x18\x64",
+// Encodings in the canonical order (RFC 7049, section 3.9, and RFC 8949, section 4.2.3).
+const IN_ORDER: [&[&str]; 5] = [
+    // 10, -1, false, 100, "z", [-1], "aa" and [100].
+    &["0a", "20", "f4", "1864", "617a", "8120", "626161", "811864"],
+    // 10, -1, -2, -3, -4, false, 100, -100, -200, "z", [-1], -300, "aa" and [100].
+    &[
+        "0a", "20", "21", "22", "23", "f4", "1864", "3863", "38c7", "617a", "8120", "39012b",
+        "626161", "811864",
+    ],
+    // 10, false, -200, "z", 256, "aa", [100], and tags 2 over "a" and 1 over "aaaa".
+    &[
+        "0a",
+        "f4",
+        "38c7",
+        "617a",
+        "190100",
+        "626161",
+        "811864",
+        "c26161",
+        "c16461616161",
+    ],
+    // Arrays of two, that differ where a head of one byte stands against one of two.
+    &["82016161", "82181860", "82601818", "82616101"],
+    // A byte string, a text, an array and a map of five bytes each.
+    &["4401020304", "6461616161", "8401020304", "a201020304"],
 ];
 
-// 10, false, -200, "z", 256, "aa", [100], and tags 2 over "a" and 1 over "aaaa".
-const TAGS: [&[u8]; 9] = [
-    b"\x0a",
-    b"\xf4",
-    b"\x38\xc7",
-    b"\x61\x7a",
-    b"\x19\x01\x00",
-    b"\x62\x61\x61",
-    b"\x81\x18\x64",
-    b"\xc2\x61\x61",
-    b"\xc1\x64\x61\x61\x61\x61",
-];
-
-// Arrays of two, that differ where a head of one byte stands against one of two.
-const ARRAYS: [&[u8]; 4] = [
-    b"\x82\x01\x61\x61",
-    b"\x82\x18\x18\x60",
-    b"\x82\x60\x18\x18",
-    b"\x82\x61\x61\x01",
-];
-
-// A byte string, a text, an array and a map of five bytes each.
-const MAJOR_TYPES: [&[u8]; 4] = [
-    b"\x44\x01\x02\x03\x04",
-    b"\x64\x61\x61\x61\x61",
-    b"\x84\x01\x02\x03\x04",
-    b"\xa2\x01\x02\x03\x04",
-];
-
-// Reads the encodings from last to first, beginning at one of them, and sorts what they mean.
-fn sorted(alloc: Global, encodings: &[&[u8]], first: usize) -> Result<Vec<CanonicalValue>, Fail> {
+// Reads the encodings from last to first, beginning at one of them.
+fn read_all(alloc: Global, encodings: &[&str], first: usize) -> Result<Vec<CanonicalValue>, Fail> {
     let mut values = Vec::new(alloc);
     for encoding in encodings
         .iter()
@@ -64,26 +45,41 @@ fn sorted(alloc: Global, encodings: &[&[u8]], first: usize) -> Result<Vec<Canoni
         .skip(first)
         .take(encodings.len())
     {
-        let mut reader = *encoding;
-        values.push(CanonicalValue::from(from_reader(alloc, &mut reader)?))?;
+        let bytes = decode_hex(alloc, encoding)?;
+        let value = only_item(alloc, &bytes).ok_or("no item")?;
+        values.push(CanonicalValue::from(value))?;
     }
-    values.sort()?;
     Ok(values)
 }
 
 #[test]
-fn encodings_in_order(rt: HostRuntime) -> Result<(), Fail> {
-    let tables: [&[&[u8]]; 4] = [&NUMBERS, &TAGS, &ARRAYS, &MAJOR_TYPES];
-    for encodings in tables {
+fn sorts_give_the_canonical_order(rt: HostRuntime) -> Result<(), Fail> {
+    for encodings in IN_ORDER {
         for first in 0..encodings.len() {
-            let values = sorted(rt.alloc(), encodings, first)?;
+            let mut values = read_all(rt.alloc(), encodings, first)?;
+            values.sort()?;
             assert_eq!(rt; values.len(), encodings.len());
             for (value, encoding) in values.into_iter().zip(encodings) {
-                let mut written = Vec::new(rt.alloc());
-                into_writer(&Value::from(value), &mut written)?;
-                assert_eq!(rt; written.as_slice(), *encoding);
+                let expected = decode_hex(rt.alloc(), encoding)?;
+                assert_eq!(rt; bytes_of(rt.alloc(), &Value::from(value)), Some(expected));
             }
         }
+    }
+    Ok(())
+}
+
+// A table that is read from last to first falls: of two values in a row the later is less.
+#[test]
+fn operators_give_the_canonical_order(rt: HostRuntime) -> Result<(), Fail> {
+    for encodings in IN_ORDER {
+        let falling = read_all(rt.alloc(), encodings, 0)?;
+        for values in falling.windows(2) {
+            assert!(rt; values[1] < values[0]);
+            assert!(rt; !(values[0] < values[1]));
+        }
+        let greatest = falling.iter().max();
+        assert!(rt; greatest == falling.first());
+        assert!(rt; falling.iter().min() == falling.last());
     }
     Ok(())
 }

@@ -1,0 +1,101 @@
+//! Small callers of the library, as a user writes them, each with a contract of its own.
+ghost use Rattle.std.specs.Prelude.{◌≡◌, Any, IfSome, Some, Vec, codes, pos};
+ghost use Rattle.std.specs.declared.alloc.Global.{Global};
+ghost use Rattle.ciborium_value.specs.Encoding.{encoding};
+ghost use Rattle.ciborium_value.specs.Refuses.{IsReadAs};
+ghost use Rattle.ciborium_value.specs.Tree.{integer, text};
+ghost use Rattle.ciborium_value.specs.View.{tree_of};
+ghost use Rattle.ciborium_value.specs.declared.tree.Value as value;
+
+use crate::small_devices::decode_hex;
+use crate::{Value, from_reader, into_writer};
+use std::alloc::Global;
+use std::convert::TryFrom;
+use std::test::Fail;
+
+/// The one item that all of the bytes are.
+pub fn only_item(alloc: Global, bytes: &[u8]) -> Option<Value>
+    ensures { IfSome result (λ v. IsReadAs bytes.now 0 (Some 256) (tree_of v)) }
+{
+    let mut rest = bytes;
+    let value = from_reader(alloc, &mut rest).ok()?;
+    if rest.is_empty() { Some(value) } else { None }
+}
+
+/// The bytes of a value.
+pub fn bytes_of(alloc: Global, value: &Value) -> Option<Vec<u8>>
+    ensures { IfSome result (λ bytes. bytes.items ≡ encoding (tree_of value.now)) }
+{
+    let mut bytes = Vec::new(alloc);
+    into_writer(value, &mut bytes).ok()?;
+    Some(bytes)
+}
+
+/// The version that a message names: the number behind a text "version" of a map.
+pub fn version(message: &Value) -> Option<u8>
+    ensures { IfSome result (λ n.
+        (pairs : Vec (Value × Value) Global) × (message.now ≡ value.Map pairs) × Any
+        (λ pair. (tree_of pair.0 ≡ text (codes "version")) × (tree_of pair.1 ≡ integer (pos n)))
+        pairs.items) }
+{
+    for (key, field) in message.as_map()? {
+        if let Some(number) = version_in(key, field) {
+            return Some(number);
+        }
+    }
+    None
+}
+
+// The number behind a key, where that is the text "version".
+fn version_in(key: &Value, field: &Value) -> Option<u8>
+    ensures { IfSome result (λ n.
+        (tree_of key.now ≡ text (codes "version")) × (tree_of field.now ≡ integer (pos n))) }
+{
+    if key.as_text() == Some("version") {
+        u8::try_from(field.as_integer()?).ok()
+    } else {
+        None
+    }
+}
+
+// Bytes, and whether they are one item and nothing else.
+const ITEMS: [(&str, bool); 4] = [
+    ("820161ff", false),
+    ("83010203", true),
+    ("8301020304", false),
+    ("", false),
+];
+
+#[test]
+fn only_items(rt: HostRuntime) -> Result<(), Fail> {
+    for (text, is_item) in ITEMS {
+        let bytes = decode_hex(rt.alloc(), text)?;
+        let item = only_item(rt.alloc(), &bytes);
+        assert_eq!(rt; item.is_some(), is_item, "{text}");
+        if let Some(value) = item {
+            assert_eq!(rt; bytes_of(rt.alloc(), &value), Some(bytes), "{text}");
+        }
+    }
+    Ok(())
+}
+
+// Messages, and the versions that they name: {"a": 1, "version": 2}, {"version": 256},
+// {"version": "2"}, {h'76657273696f6e': 2}, {} and [2].
+const MESSAGES: [(&str, Option<u8>); 6] = [
+    ("a26161016776657273696f6e02", Some(2)),
+    ("a16776657273696f6e190100", None),
+    ("a16776657273696f6e6132", None),
+    ("a14776657273696f6e02", None),
+    ("a0", None),
+    ("8102", None),
+];
+
+#[test]
+fn versions(rt: HostRuntime) -> Result<(), Fail> {
+    for (text, expected) in MESSAGES {
+        let bytes = decode_hex(rt.alloc(), text)?;
+        let message = only_item(rt.alloc(), &bytes).ok_or("no item")?;
+        assert_eq!(rt; version(&message), expected, "{text}");
+    }
+    Ok(())
+}
