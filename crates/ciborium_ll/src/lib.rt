@@ -9,6 +9,8 @@ mod integer;
 mod parsing;
 mod reading;
 pub mod simple;
+#[cfg(test)]
+mod slow_devices;
 pub mod spelling_laws;
 mod strings;
 pub mod tag;

@@ -1,300 +1,222 @@
-// Rows at the greatest offset and of strings, through readers that give all at once or one byte at a
-// time, and that fail.
+// Rows of heads and strings, by any scratch and from readers that give few bytes at a time or fail.
 ghost use Rattle.std.specs.Prelude.{List, ℕ};
 ghost use Rattle.std.specs.Io.KnownBytes.{Consumes};
 ghost use Rattle.ciborium_ll.specs.Reading.{IsHeadTaken};
 
 use super::*;
-use std::alloc::{AllocError, Global};
+use crate::slow_devices::{Source, decode_hex};
+use std::alloc::Global;
 use std::io::ErrorKind;
+use std::test::Fail;
 
-// Gives one byte a read.
-#[derive(Drop)]
-struct Slow<'a> {
-    bytes: &'a [u8],
-}
+const MOST: usize = usize::MAX;
 
-impl<'a> Read for Slow<'a> {
-    fn read(&mut self, buffer: &mut [u8]) -> io::Result<usize> {
-        let Some((first, rest)) = self.bytes.split_first() else {
-            return Ok(0);
-        };
-        if buffer.is_empty() {
-            return Ok(0);
-        }
-        buffer[0] = *first;
-        self.bytes = rest;
-        Ok(1)
-    }
-}
-
-// Gives one byte a read, and fails at one of them.
-#[derive(Drop)]
-struct Failing<'a> {
-    bytes: &'a [u8],
-    reads_left: usize,
-    kind: ErrorKind,
-}
-
-impl<'a> Read for Failing<'a> {
-    fn read(&mut self, buffer: &mut [u8]) -> io::Result<usize> {
-        if self.reads_left == 0 {
-            return Err(io::Error::from(self.kind));
-        }
-        self.reads_left -= 1;
-        let Some((first, rest)) = self.bytes.split_first() else {
-            return Ok(0);
-        };
-        if buffer.is_empty() {
-            return Ok(0);
-        }
-        buffer[0] = *first;
-        self.bytes = rest;
-        Ok(1)
-    }
-}
-
-// What a head at the front, and the payload behind it, are read as.
+// A head, the payload behind it where it begins a string, and the offset behind both.
 #[derive(Debug, PartialEq, Drop)]
-enum Found {
-    Head(Header, usize),
-    Payload(Vec<u8>, usize),
+struct Front {
+    header: Header,
+    payload: Vec<u8>,
+    end: usize,
+}
+
+// Reads a head, and a payload where it begins a string.
+fn read_front<R: Read>(
+    alloc: Global,
+    reader: &mut R,
+    offset: usize,
+    scratch: &mut [u8],
+) -> Result<Front, Error<io::Error>> {
+    let mut decoder = Decoder::at(reader, offset);
+    let header = decoder.pull()?;
+    let payload = match header {
+        Header::Bytes(len) => {
+            let mut bytes = Vec::new(alloc);
+            decoder.bytes_into(len, scratch, &mut bytes)?;
+            bytes
+        }
+        Header::Text(len) => {
+            let mut text = String::new(alloc);
+            decoder.text_into(len, scratch, &mut text)?;
+            text.into_bytes()
+        }
+        _ => Vec::new(alloc),
+    };
+    Ok(Front {
+        header,
+        payload,
+        end: decoder.offset(),
+    })
+}
+
+// Why a front is refused.
+#[derive(Clone, Copy, Debug, PartialEq)]
+enum Reason {
     Io(ErrorKind),
     Syntax(usize),
     TooLong,
     Memory,
-    Differs,
 }
 
-fn refusal(error: Error<io::Error>) -> Found {
+const ENDED: Reason = Reason::Io(ErrorKind::UnexpectedEof);
+
+fn reason_of(error: Error<io::Error>) -> Reason {
     match error {
-        Error::Io(e) => Found::Io(e.kind()),
-        Error::Syntax(offset) => Found::Syntax(offset),
-        Error::TooLong => Found::TooLong,
-        Error::Memory => Found::Memory,
+        Error::Io(e) => Reason::Io(e.kind()),
+        Error::Syntax(offset) => Reason::Syntax(offset),
+        Error::TooLong => Reason::TooLong,
+        Error::Memory => Reason::Memory,
     }
 }
 
-// Reads the head, and a payload where it begins a string.
-fn read_front<R: Read>(alloc: Global, reader: &mut R, offset: usize, scratch: &mut [u8]) -> Found {
-    let mut decoder = Decoder::at(reader, offset);
-    let header = match decoder.pull() {
-        Ok(header) => header,
-        Err(e) => return refusal(e),
-    };
-    match header {
-        Header::Bytes(len) => {
-            let mut bytes = Vec::new(alloc);
-            match decoder.bytes_into(len, scratch, &mut bytes) {
-                Ok(()) => Found::Payload(bytes, decoder.offset()),
-                Err(e) => refusal(e),
-            }
-        }
-        Header::Text(len) => {
-            let mut text = String::new(alloc);
-            match decoder.text_into(len, scratch, &mut text) {
-                Ok(()) => Found::Payload(text.into_bytes(), decoder.offset()),
-                Err(e) => refusal(e),
-            }
-        }
-        header => Found::Head(header, decoder.offset()),
-    }
-}
-
-// The answer from a slice, which must not depend on the scratch, nor on how the reader cuts its
-// bytes.
-fn agreed(alloc: Global, bytes: &[u8], offset: usize) -> Found {
-    let mut slice = bytes;
-    let answer = read_front(alloc, &mut slice, offset, &mut []);
-    let mut slice = bytes;
-    let with_one = read_front(alloc, &mut slice, offset, &mut [0; 1]);
-    let mut slice = bytes;
-    let with_many = read_front(alloc, &mut slice, offset, &mut [0; 4096]);
-    let mut slow = Slow { bytes };
-    let slowly = read_front(alloc, &mut slow, offset, &mut [0; 2]);
-    if with_one == answer && with_many == answer && slowly == answer {
-        answer
-    } else {
-        Found::Differs
-    }
-}
-
-const MOST: usize = usize::MAX;
+// All of the bytes, the offset of the first, and what they are: a head and its payload.
+const FRONTS: [(&str, usize, Header, &str); 20] = [
+    ("17", 0, Header::Positive(23), ""),
+    ("1800", 0, Header::Positive(0), ""),
+    ("190100", 0, Header::Positive(256), ""),
+    ("1a00010000", 0, Header::Positive(65536), ""),
+    ("3bffffffffffffffff", 0, Header::Negative(u64::MAX), ""),
+    ("83", 0, Header::Array(Some(3)), ""),
+    ("9f", 0, Header::Array(None), ""),
+    ("b818", 0, Header::Map(Some(24)), ""),
+    ("bf", 0, Header::Map(None), ""),
+    ("d820", 0, Header::Tag(32), ""),
+    ("f820", 0, Header::Simple(32), ""),
+    ("fa47c35000", 0, Header::Float(4), ""),
+    ("ff", 0, Header::Break, ""),
+    ("5f42010243030405ff", 0, Header::Bytes(None), "0102030405"),
+    (
+        "7f657374726561646d696e67ff",
+        0,
+        Header::Text(None),
+        "73747265616d696e67",
+    ),
+    ("5fff", 0, Header::Bytes(None), ""),
+    ("7f60ff", 0, Header::Text(None), ""),
+    ("00", MOST - 1, Header::Positive(0), ""),
+    ("43010203", MOST - 4, Header::Bytes(Some(3)), "010203"),
+    ("6161", MOST - 2, Header::Text(Some(1)), "61"),
+];
 
 #[test]
-fn heads_near_the_greatest_offset(rt: HostRuntime) {
-    assert_eq!(rt; agreed(rt.alloc(), &[0x00], MOST), Found::TooLong);
-    assert_eq!(rt;
-        agreed(rt.alloc(), &[0x00], MOST - 1),
-        Found::Head(Header::Positive(0), MOST)
-    );
-    assert_eq!(rt; agreed(rt.alloc(), &[0x18, 0x00], MOST - 1), Found::TooLong);
-    assert_eq!(rt;
-        agreed(rt.alloc(), &[0x43, 0x01, 0x02, 0x03], MOST - 3),
-        Found::TooLong
-    );
-    let mut none_read: &[u8] = &[0x00];
-    assert_eq!(rt;
-        read_front(rt.alloc(), &mut none_read, MOST, &mut []),
-        Found::TooLong
-    );
-    assert_eq!(rt; none_read.len(), 1);
-    let mut one_read: &[u8] = &[0x18, 0x00];
-    assert_eq!(rt;
-        read_front(rt.alloc(), &mut one_read, MOST - 1, &mut []),
-        Found::TooLong
-    );
-    assert_eq!(rt; one_read.len(), 1);
-}
-
-#[test]
-fn strings_near_the_greatest_offset(rt: HostRuntime) -> Result<(), AllocError> {
-    let payload = vec![in rt.alloc(); 1, 2, 3]?;
-    assert_eq!(rt;
-        agreed(rt.alloc(), &[0x43, 0x01, 0x02, 0x03], MOST - 4),
-        Found::Payload(payload, MOST)
-    );
-    let text = vec![in rt.alloc(); b'a']?;
-    assert_eq!(rt;
-        agreed(rt.alloc(), &[0x61, 0x61], MOST - 2),
-        Found::Payload(text, MOST)
-    );
-    let long = [0x5b, 0xff, 0xff, 0xff, 0xff, 0xff, 0xff, 0xff, 0xf6];
-    assert_eq!(rt;
-        agreed(rt.alloc(), &long, 0),
-        Found::Io(ErrorKind::UnexpectedEof)
-    );
-    let longer = [0x5b, 0xff, 0xff, 0xff, 0xff, 0xff, 0xff, 0xff, 0xf7];
-    assert_eq!(rt; agreed(rt.alloc(), &longer, 0), Found::TooLong);
-    Ok(())
-}
-
-#[test]
-fn open_strings(rt: HostRuntime) -> Result<(), AllocError> {
-    let joined = vec![in rt.alloc(); 1, 2, 3, 4, 5]?;
-    let parts = [0x5f, 0x42, 0x01, 0x02, 0x43, 0x03, 0x04, 0x05, 0xff];
-    assert_eq!(rt; agreed(rt.alloc(), &parts, 0), Found::Payload(joined, 9));
-    let streaming = String::from_str(rt.alloc(), "streaming")?.into_bytes();
-    let text = [
-        0x7f, 0x65, b's', b't', b'r', b'e', b'a', 0x64, b'm', b'i', b'n', b'g', 0xff,
-    ];
-    assert_eq!(rt; agreed(rt.alloc(), &text, 0), Found::Payload(streaming, 13));
-    assert_eq!(rt;
-        agreed(rt.alloc(), &[0x5f, 0xff], 0),
-        Found::Payload(Vec::new(rt.alloc()), 2)
-    );
-    assert_eq!(rt;
-        agreed(rt.alloc(), &[0x7f, 0x60, 0xff], 0),
-        Found::Payload(Vec::new(rt.alloc()), 3)
-    );
-    Ok(())
-}
-
-#[test]
-fn refused_strings(rt: HostRuntime) {
-    let rows: [(&[u8], Found); 8] = [
-        (&[0x5f, 0x5f, 0x41, 0x01, 0xff, 0xff], Found::Syntax(1)),
-        (&[0x5f, 0xf7, 0xff], Found::Syntax(1)),
-        (&[0x7f, 0x61, 0x61, 0x41, 0x01, 0xff], Found::Syntax(3)),
-        (&[0x7f, 0x62, 0xc3, 0x28, 0xff], Found::Syntax(1)),
-        (&[0x7f, 0x61, 0xc3, 0x61, 0xbc, 0xff], Found::Syntax(1)),
-        (&[0x62, 0xc3, 0x28], Found::Syntax(0)),
-        (&[0x62, 0xc3], Found::Io(ErrorKind::UnexpectedEof)),
-        (
-            &[0x5f, 0x5b, 0xff, 0xff, 0xff, 0xff, 0xff, 0xff, 0xff, 0xff],
-            Found::TooLong,
-        ),
-    ];
-    for (bytes, want) in rows {
-        assert!(rt; agreed(rt.alloc(), bytes, 0) == want);
-    }
-}
-
-#[test]
-fn heads(rt: HostRuntime) {
-    let rows: [(&[u8], Header); 13] = [
-        (&[0x17], Header::Positive(23)),
-        (&[0x18, 0x00], Header::Positive(0)),
-        (&[0x19, 0x01, 0x00], Header::Positive(256)),
-        (&[0x1a, 0x00, 0x01, 0x00, 0x00], Header::Positive(65536)),
-        (
-            &[0x3b, 0xff, 0xff, 0xff, 0xff, 0xff, 0xff, 0xff, 0xff],
-            Header::Negative(u64::MAX),
-        ),
-        (&[0x83], Header::Array(Some(3))),
-        (&[0x9f], Header::Array(None)),
-        (&[0xb8, 0x18], Header::Map(Some(24))),
-        (&[0xbf], Header::Map(None)),
-        (&[0xd8, 0x20], Header::Tag(32)),
-        (&[0xf8, 0x20], Header::Simple(32)),
-        (&[0xfa, 0x47, 0xc3, 0x50, 0x00], Header::Float(4)),
-        (&[0xff], Header::Break),
-    ];
-    for (bytes, want) in rows {
-        assert!(rt; agreed(rt.alloc(), bytes, 0) == Found::Head(want, bytes.len()));
-    }
-    for reserved in [0x1c, 0x1f, 0x3d, 0x3f, 0x5e, 0xdf, 0xfc] {
-        assert_eq!(rt; agreed(rt.alloc(), &[reserved], 0), Found::Syntax(0));
-    }
-    assert_eq!(rt; agreed(rt.alloc(), &[0xf8, 0x1f], 0), Found::Syntax(0));
-    assert_eq!(rt;
-        agreed(rt.alloc(), &[], 0),
-        Found::Io(ErrorKind::UnexpectedEof)
-    );
-    assert_eq!(rt;
-        agreed(rt.alloc(), &[0x19, 0x01], 0),
-        Found::Io(ErrorKind::UnexpectedEof)
-    );
-}
-
-#[test]
-fn a_fault_of_the_reader_is_the_answer(rt: HostRuntime) -> Result<(), AllocError> {
-    let bytes = [0x7f, 0x62, b'a', b'b', 0x78, 0x01, b'c', 0xff];
-    for kind in [ErrorKind::Interrupted, ErrorKind::ConnectionReset] {
-        for reads in 0..bytes.len() {
-            let mut reader = Failing {
-                bytes: &bytes,
-                reads_left: reads,
-                kind,
-            };
-            let answer = read_front(rt.alloc(), &mut reader, 0, &mut [0; 4]);
-            assert_eq!(rt; answer, Found::Io(kind), "at read {reads}");
-        }
-        let mut reader = Failing {
-            bytes: &bytes,
-            reads_left: bytes.len(),
-            kind,
+fn fronts_are_read(rt: HostRuntime) -> Result<(), Fail> {
+    let alloc = rt.alloc();
+    let mut page = [0; 4096];
+    for (text, offset, header, payload) in FRONTS {
+        let bytes = decode_hex(alloc, text)?;
+        let front = Front {
+            header,
+            payload: decode_hex(alloc, payload)?,
+            end: offset.saturating_add(bytes.len()),
         };
-        let joined = vec![in rt.alloc(); b'a', b'b', b'c']?;
-        let answer = read_front(rt.alloc(), &mut reader, 0, &mut [0; 4]);
-        assert_eq!(rt; answer, Found::Payload(joined, 8));
+        for size in [0, 1, 4096] {
+            let mut reader = bytes.as_slice();
+            let found = read_front(alloc, &mut reader, offset, &mut page[..size])?;
+            assert_eq!(rt; found, front, "{text} with a scratch of {size}");
+        }
+        let mut slow = Source::new(&bytes, 1, None);
+        let found = read_front(alloc, &mut slow, offset, &mut page[..2])?;
+        assert_eq!(rt; found, front, "{text} by single bytes");
+    }
+    Ok(())
+}
+
+// Bytes, the offset of the first, why they are refused, and how many of them are then left.
+const REFUSED: [(&str, usize, Reason, usize); 23] = [
+    ("", 0, ENDED, 0),
+    ("1901", 0, ENDED, 0),
+    ("62c3", 0, ENDED, 0),
+    ("5bfffffffffffffff6", 0, ENDED, 0),
+    ("1c", 0, Reason::Syntax(0), 0),
+    ("1f", 0, Reason::Syntax(0), 0),
+    ("3d", 0, Reason::Syntax(0), 0),
+    ("3f", 0, Reason::Syntax(0), 0),
+    ("5e", 0, Reason::Syntax(0), 0),
+    ("df", 0, Reason::Syntax(0), 0),
+    ("fc", 0, Reason::Syntax(0), 0),
+    ("f81f", 0, Reason::Syntax(0), 0),
+    ("62c328", 0, Reason::Syntax(0), 0),
+    ("5f5f4101ffff", 0, Reason::Syntax(1), 4),
+    ("5ff7ff", 0, Reason::Syntax(1), 1),
+    ("7f61614101ff", 0, Reason::Syntax(3), 2),
+    ("7f62c328ff", 0, Reason::Syntax(1), 1),
+    ("7f61c361bcff", 0, Reason::Syntax(1), 3),
+    ("5bfffffffffffffff7", 0, Reason::TooLong, 0),
+    ("5f5bffffffffffffffff", 0, Reason::TooLong, 0),
+    ("00", MOST, Reason::TooLong, 1),
+    ("1800", MOST - 1, Reason::TooLong, 1),
+    ("43010203", MOST - 3, Reason::TooLong, 3),
+];
+
+#[test]
+fn faults_are_named_where_they_stand(rt: HostRuntime) -> Result<(), Fail> {
+    let alloc = rt.alloc();
+    let mut page = [0; 4096];
+    for (text, offset, reason, left) in REFUSED {
+        let bytes = decode_hex(alloc, text)?;
+        for size in [0, 1, 4096] {
+            let mut reader = bytes.as_slice();
+            let found = read_front(alloc, &mut reader, offset, &mut page[..size]);
+            assert_eq!(rt;
+                found.err().map(reason_of),
+                Some(reason),
+                "{text} with {size}"
+            );
+            assert_eq!(rt; reader.len(), left, "{text} with {size}");
+        }
+        let mut slow = Source::new(&bytes, 1, None);
+        let found = read_front(alloc, &mut slow, offset, &mut page[..2]);
+        assert_eq!(rt;
+            found.err().map(reason_of),
+            Some(reason),
+            "{text} by single bytes"
+        );
     }
     Ok(())
 }
 
 #[test]
-fn pushed_heads_and_exact_reads(rt: HostRuntime) {
+fn a_fault_of_the_reader_is_the_answer(rt: HostRuntime) -> Result<(), Fail> {
+    let bytes = decode_hex(rt.alloc(), "7f626162780163ff")?;
+    for kind in [ErrorKind::Interrupted, ErrorKind::ConnectionReset] {
+        for at in 0..bytes.len() {
+            let mut reader = Source::new(&bytes, 1, Some((at, kind)));
+            let found = read_front(rt.alloc(), &mut reader, 0, &mut [0; 4]);
+            assert_eq!(rt;
+                found.err().map(reason_of),
+                Some(Reason::Io(kind)),
+                "at read {at}"
+            );
+        }
+        let mut reader = Source::new(&bytes, 1, Some((bytes.len(), kind)));
+        let found = read_front(rt.alloc(), &mut reader, 0, &mut [0; 4])?;
+        assert_eq!(rt; found.payload.as_slice(), b"abc".as_slice());
+        assert_eq!(rt; found.end, 8);
+    }
+    Ok(())
+}
+
+#[test]
+fn pushed_heads_and_exact_reads(rt: HostRuntime) -> Result<(), Fail> {
     let mut reader: &[u8] = &[0x83, 0x01, 0x02, 0x03, 0x04];
     let mut decoder = Decoder::new(&mut reader);
     assert_eq!(rt; decoder.offset(), 0);
-    let header = decoder.pull().expect(&rt, "a head");
+    let header = decoder.pull()?;
     decoder.push(header, 0);
     assert_eq!(rt; decoder.offset(), 0);
-    assert_eq!(rt; decoder.pull().ok(), Some(Header::Array(Some(3))));
+    assert_eq!(rt; decoder.pull()?, Header::Array(Some(3)));
     assert_eq!(rt; decoder.offset(), 1);
     let mut two = [0; 2];
-    assert!(rt; decoder.read_exact(&mut two).is_ok());
+    decoder.read_exact(&mut two)?;
     assert_eq!(rt; two, [1, 2]);
     assert_eq!(rt; decoder.offset(), 3);
-    let mut three = [0; 3];
-    match decoder.read_exact(&mut three) {
-        Err(Error::Io(e)) => assert_eq!(rt; e.kind(), ErrorKind::UnexpectedEof),
-        _ => assert!(rt; false),
-    }
+    let refused = decoder.read_exact(&mut [0; 3]);
+    assert_eq!(rt; refused.err().map(reason_of), Some(ENDED));
+
     let mut reader: &[u8] = &[0x01, 0x02];
-    let mut decoder = Decoder::at(&mut reader, MOST - 1);
-    assert!(rt; matches!(decoder.read_exact(&mut two), Err(Error::TooLong)));
+    let refused = Decoder::at(&mut reader, MOST - 1).read_exact(&mut two);
+    assert_eq!(rt; refused.err().map(reason_of), Some(Reason::TooLong));
     assert_eq!(rt; reader.len(), 2);
+    Ok(())
 }
 
 #[test]
@@ -304,15 +226,17 @@ fn errors_from_the_device(rt: HostRuntime) {
 
 // A local decoder leaves to its caller what it did not read.
 fn first_head<R: Read>(reader: &mut R) -> Result<Header, Error<io::Error>>
-    ensures { (b : List ℕ) × Consumes (R.remaining reader.old) (R.remaining reader.new) b × IsHeadTaken 0 result b }
+    ensures { (b : List ℕ) ×
+        Consumes (R.remaining reader.old) (R.remaining reader.new) b × IsHeadTaken 0 result b }
 {
     let mut decoder = Decoder::new(reader);
     decoder.pull()
 }
 
 #[test]
-fn a_local_decoder_leaves_the_rest(rt: HostRuntime) {
+fn a_local_decoder_leaves_the_rest(rt: HostRuntime) -> Result<(), Fail> {
     let mut reader: &[u8] = &[0x18, 0x20, 0x07];
-    assert_eq!(rt; first_head(&mut reader).ok(), Some(Header::Positive(32)));
+    assert_eq!(rt; first_head(&mut reader)?, Header::Positive(32));
     assert_eq!(rt; reader.len(), 1);
+    Ok(())
 }

@@ -3,18 +3,22 @@ use std::cmp::Ordering;
 use std::convert::TryFrom;
 use std::test::Fail;
 
+const GREATEST: i128 = (1 << 64) - 1;
+
+// Numbers, and whether they are in the range (RFC 8949, section 3.1).
+const RANGE: [(i128, bool); 7] = [
+    (0, true),
+    (GREATEST, true),
+    (GREATEST + 1, false),
+    (-GREATEST - 1, true),
+    (-GREATEST - 2, false),
+    (i128::MIN, false),
+    (i128::MAX, false),
+];
+
 #[test]
 fn range(rt: HostRuntime) {
-    let greatest = 1i128 << 64;
-    for (number, fits) in [
-        (0, true),
-        (greatest - 1, true),
-        (greatest, false),
-        (-greatest, true),
-        (-greatest - 1, false),
-        (i128::MIN, false),
-        (i128::MAX, false),
-    ] {
+    for (number, fits) in RANGE {
         let integer = Integer::try_from(number);
         assert_eq!(rt; integer.is_ok(), fits, "at {number}");
         assert_eq!(rt; integer.map(i128::from).unwrap_or(number), number);
@@ -26,20 +30,26 @@ fn range(rt: HostRuntime) {
 #[test]
 fn from_each_width(rt: HostRuntime) {
     let five = Integer::from(5u64);
-    assert_eq!(rt; Integer::from(5u8), five);
-    assert_eq!(rt; Integer::from(5u16), five);
-    assert_eq!(rt; Integer::from(5u32), five);
-    assert_eq!(rt; Integer::from(5usize), five);
+    let fives = [
+        Integer::from(5u8),
+        Integer::from(5u16),
+        Integer::from(5u32),
+        Integer::from(5usize),
+    ];
+    assert!(rt; fives == [five; 4]);
     let least = Integer::from(-5i64);
-    assert_eq!(rt; Integer::from(-5i8), least);
-    assert_eq!(rt; Integer::from(-5i16), least);
-    assert_eq!(rt; Integer::from(-5i32), least);
-    assert_eq!(rt; Integer::from(-5isize), least);
+    let leasts = [
+        Integer::from(-5i8),
+        Integer::from(-5i16),
+        Integer::from(-5i32),
+        Integer::from(-5isize),
+    ];
+    assert!(rt; leasts == [least; 4]);
     assert_eq!(rt; i128::from(least), -5);
 }
 
 #[test]
-fn to_each_width(rt: HostRuntime) -> Result<(), Fail> {
+fn to_each_width(rt: HostRuntime) {
     let five = Integer::from(5u8);
     assert_eq!(rt; u8::try_from(five), Ok(5));
     assert_eq!(rt; u16::try_from(five), Ok(5));
@@ -56,6 +66,26 @@ fn to_each_width(rt: HostRuntime) -> Result<(), Fail> {
     assert_eq!(rt; u8::try_from(Integer::from(256u16)), Err(OutOfRange));
     assert_eq!(rt; i64::try_from(Integer::from(1u64 << 63)), Err(OutOfRange));
     assert_eq!(rt; u128::try_from(Integer::from(-1i8)), Err(OutOfRange));
+}
+
+// Numbers, whether they are negative, and the arguments of their heads (RFC 8949, section 3.1).
+const HEADS: [(i128, bool, u64); 3] = [
+    (-200, true, 199),
+    (GREATEST, false, u64::MAX),
+    (-GREATEST - 1, true, u64::MAX),
+];
+
+#[test]
+fn heads(rt: HostRuntime) -> Result<(), Fail> {
+    for (number, negative, argument) in HEADS {
+        let integer = Integer::try_from(number)?;
+        assert_eq!(rt; integer.head(), (negative, argument), "at {number}");
+        assert_eq!(rt;
+            Integer::from_head(negative, argument),
+            integer,
+            "at {number}"
+        );
+    }
     Ok(())
 }
 
@@ -74,7 +104,7 @@ fn canonical_order(rt: HostRuntime) -> Result<(), Fail> {
 }
 
 #[test]
-fn numeric_order_and_hash(rt: HostRuntime) -> Result<(), Fail> {
+fn numeric_order_and_copies(rt: HostRuntime) -> Result<(), Fail> {
     assert!(rt; Integer::from(-1i8) < Integer::from(0u8));
     let copy = Integer::from(3u8).clone()?;
     assert_eq!(rt; copy.cmp(&Integer::from(2u8)), Ordering::Greater);
