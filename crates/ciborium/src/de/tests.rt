@@ -18,7 +18,7 @@ enum Reason {
 
 const ENDED: Reason = Reason::Io(ErrorKind::UnexpectedEof);
 
-fn reason_of(error: Error<io::Error>) -> Reason {
+fn name_reason(error: Error<io::Error>) -> Reason {
     match error {
         Error::Io(e) => Reason::Io(e.kind()),
         Error::Syntax(offset) => Reason::Syntax(offset),
@@ -169,7 +169,7 @@ fn faults_are_named_where_they_stand(rt: HostRuntime) -> Result<(), Fail> {
         let bytes = decode_hex(rt.alloc(), text)?;
         let mut reader = bytes.as_slice();
         let answer = from_reader_with_recursion_limit(rt.alloc(), &mut reader, limit);
-        assert_eq!(rt; answer.err().map(reason_of), Some(reason), "{text}");
+        assert_eq!(rt; answer.err().map(name_reason), Some(reason), "{text}");
     }
     Ok(())
 }
@@ -182,7 +182,7 @@ fn a_fault_of_the_reader_is_the_answer(rt: HostRuntime) -> Result<(), Fail> {
             let mut reader = Source::new(&bytes, 1, Some((at, kind)));
             let answer = from_reader(rt.alloc(), &mut reader);
             assert_eq!(rt;
-                answer.err().map(reason_of),
+                answer.err().map(name_reason),
                 Some(Reason::Io(kind)),
                 "at read {at}"
             );
@@ -215,7 +215,7 @@ fn levels_are_counted_up_to_any_limit(rt: HostRuntime) -> Result<(), Fail> {
             None => from_reader(rt.alloc(), &mut reader),
         };
         assert_eq!(rt;
-            answer.err().map(reason_of),
+            answer.err().map(name_reason),
             reason,
             "{levels} within {limit:?}"
         );
@@ -229,7 +229,7 @@ fn a_refused_growth_is_memory(rt: HostRuntime) -> Result<(), Fail> {
     let mut reader: &[u8] = b"\xbf\x61\x61\x01\x61\x62\x9f\x02\x03\xff\xff";
     match from_reader(rt.alloc(), &mut reader) {
         Ok(value) => assert!(rt; matches!(value.as_map(), Some(pairs) if pairs.len() == 2)),
-        Err(error) => assert_eq!(rt; reason_of(error), Reason::Memory),
+        Err(error) => assert_eq!(rt; name_reason(error), Reason::Memory),
     }
     Ok(())
 }

@@ -38,24 +38,24 @@ fn numbers_have_the_shortest_heads(rt: HostRuntime) -> Result<(), Fail> {
     Ok(())
 }
 
-fn pair_of(alloc: Global, first: u8, second: u8) -> Result<Value, AllocError> {
+fn make_pair(alloc: Global, first: u8, second: u8) -> Result<Value, AllocError> {
     Value::from_values(alloc, &[Value::from(first), Value::from(second)])
 }
 
 // {"a": 1, "b": [2, 3]}
-fn map_of_two(alloc: Global) -> Result<Value, AllocError> {
+fn make_map(alloc: Global) -> Result<Value, AllocError> {
     let one = (Value::from_text(alloc, "a")?, Value::from(1u8));
-    let other = (Value::from_text(alloc, "b")?, pair_of(alloc, 2, 3)?);
+    let other = (Value::from_text(alloc, "b")?, make_pair(alloc, 2, 3)?);
     Value::from_pairs(alloc, &[one, other])
 }
 
 // Values and their encodings (RFC 8949, section 3). A bignum's tag stays.
-fn values(alloc: Global) -> Result<Vec<(Value, &'static str)>, AllocError> {
+fn make_values(alloc: Global) -> Result<Vec<(Value, &'static str)>, AllocError> {
     let magnitude = Box::new(alloc, Value::from_bytes(alloc, &[1])?)?;
     let items = [
         Value::from(1u8),
-        pair_of(alloc, 2, 3)?,
-        pair_of(alloc, 4, 5)?,
+        make_pair(alloc, 2, 3)?,
+        make_pair(alloc, 4, 5)?,
     ];
     let values = vec![in alloc;
         (Value::from(false), "f4"),
@@ -64,7 +64,7 @@ fn values(alloc: Global) -> Result<Vec<(Value, &'static str)>, AllocError> {
         (Value::from_bytes(alloc, &[1, 2, 3, 4])?, "4401020304"),
         (Value::from_text(alloc, "a")?, "6161"),
         (Value::Tag(2, magnitude), "c24101"),
-        (map_of_two(alloc)?, "a26161016162820203"),
+        (make_map(alloc)?, "a26161016162820203"),
         (Value::from_values(alloc, &items)?, "8301820203820405"),
     ]?;
     Ok(values)
@@ -72,7 +72,7 @@ fn values(alloc: Global) -> Result<Vec<(Value, &'static str)>, AllocError> {
 
 #[test]
 fn values_have_one_encoding(rt: HostRuntime) -> Result<(), Fail> {
-    for (value, encoding) in values(rt.alloc())? {
+    for (value, encoding) in make_values(rt.alloc())? {
         let expected = decode_hex(rt.alloc(), encoding)?;
         assert_eq!(rt; bytes_of(rt.alloc(), &value), Some(expected), "{encoding}");
     }
@@ -92,7 +92,7 @@ fn a_long_array_is_definite(rt: HostRuntime) -> Result<(), Fail> {
 }
 
 // The kind of the writer's error; none where the answer is another.
-fn io_kind(answer: Result<(), Error<io::Error>>) -> Option<ErrorKind> {
+fn take_io_kind(answer: Result<(), Error<io::Error>>) -> Option<ErrorKind> {
     match answer {
         Err(Error::Io(error)) => Some(error.kind()),
         _ => None,
@@ -103,7 +103,7 @@ fn io_kind(answer: Result<(), Error<io::Error>>) -> Option<ErrorKind> {
 fn a_write_of_nothing_is_an_error(rt: HostRuntime) -> Result<(), Fail> {
     let mut sink = Sink::new(rt.alloc(), 5, 3, None);
     let answer = into_writer(&Value::from_text(rt.alloc(), "aaaa")?, &mut sink);
-    assert_eq!(rt; io_kind(answer), Some(ErrorKind::WriteZero));
+    assert_eq!(rt; take_io_kind(answer), Some(ErrorKind::WriteZero));
     assert_eq!(rt; sink.held, decode_hex(rt.alloc(), "646161")?);
     assert_eq!(rt; sink.flushes, 0);
     Ok(())
@@ -111,12 +111,12 @@ fn a_write_of_nothing_is_an_error(rt: HostRuntime) -> Result<(), Fail> {
 
 #[test]
 fn the_first_error_of_the_writer_is_the_answer(rt: HostRuntime) -> Result<(), Fail> {
-    let value = map_of_two(rt.alloc())?;
+    let value = make_map(rt.alloc())?;
     let bytes = decode_hex(rt.alloc(), "a26161016162820203")?;
     for kind in [ErrorKind::Interrupted, ErrorKind::BrokenPipe] {
         for at in 0..bytes.len() {
             let mut sink = Sink::new(rt.alloc(), 1, 9, Some((at, kind)));
-            assert_eq!(rt; io_kind(into_writer(&value, &mut sink)), Some(kind));
+            assert_eq!(rt; take_io_kind(into_writer(&value, &mut sink)), Some(kind));
             assert_eq!(rt; Some(sink.held.as_slice()), bytes.get(..at));
             assert_eq!(rt; (sink.writes, sink.flushes), (at + 1, 0));
         }
@@ -141,5 +141,5 @@ fn a_writer_keeps_what_it_holds(rt: HostRuntime) -> Result<(), Fail> {
 #[test]
 fn an_error_of_the_writer_is_io(rt: HostRuntime) {
     let error = Error::from(io::Error::from(ErrorKind::BrokenPipe));
-    assert_eq!(rt; io_kind(Err(error)), Some(ErrorKind::BrokenPipe));
+    assert_eq!(rt; take_io_kind(Err(error)), Some(ErrorKind::BrokenPipe));
 }

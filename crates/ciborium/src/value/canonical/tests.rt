@@ -77,22 +77,21 @@ fn operators_give_the_canonical_order(rt: HostRuntime) -> Result<(), Fail> {
             assert!(rt; values[1] < values[0]);
             assert!(rt; !(values[0] < values[1]));
         }
-        let greatest = falling.iter().max();
-        assert!(rt; greatest == falling.first());
+        assert!(rt; falling.iter().max() == falling.first());
         assert!(rt; falling.iter().min() == falling.last());
     }
     Ok(())
 }
 
 // [1]
-fn array_of_one(alloc: Global) -> Result<Value, AllocError> {
+fn make_array(alloc: Global) -> Result<Value, AllocError> {
     Value::from_values(alloc, &[Value::from(1u8)])
 }
 
 #[test]
-fn visits(rt: HostRuntime) -> Result<(), Fail> {
-    let array = array_of_one(rt.alloc())?;
-    let same = array_of_one(rt.alloc())?;
+fn visits_are_counted(rt: HostRuntime) -> Result<(), Fail> {
+    let array = make_array(rt.alloc())?;
+    let same = make_array(rt.alloc())?;
     assert_eq!(rt; cmp_value_counted(&array, &same), (Ordering::Equal, 8));
     assert_eq!(rt;
         cmp_value_counted(&Value::Null, &Value::Null),
@@ -105,9 +104,9 @@ fn visits(rt: HostRuntime) -> Result<(), Fail> {
 }
 
 #[test]
-fn canonical_values(rt: HostRuntime) -> Result<(), Fail> {
-    let array = array_of_one(rt.alloc())?;
-    let canonical = CanonicalValue::from(array_of_one(rt.alloc())?);
+fn a_copy_is_equal(rt: HostRuntime) -> Result<(), Fail> {
+    let array = make_array(rt.alloc())?;
+    let canonical = CanonicalValue::from(make_array(rt.alloc())?);
     let copy = canonical.clone()?;
     assert!(rt; copy == canonical);
     let back = Value::from(copy);
