@@ -47,9 +47,14 @@ pub fn tag_over(alloc: Global, tag: u64, bytes: &[u8]) -> Result<Value, AllocErr
     Ok(Value::Tag(tag, Box::new(alloc, content)?))
 }
 
-/// What tag 2 or 3 over these bytes means: the integer, where it is in range, else the tag over the
-/// bytes without leading zeros. A negative number that no `i128` holds means nothing. An integer
-/// takes no memory.
+/// What tag 2 or 3 over at most 16 bytes means: the integer, where it is in range, else the tag over
+/// the bytes without leading zeros (RFC 8949, section 3.4.3). An integer takes no memory. Another
+/// tag, or more bytes, do not fold and may not be handed in.
+///
+/// # Errors
+///
+/// `TooLarge` where the number is negative and no `i128` holds it; `Memory` where a growth was
+/// refused.
 #[tactic(auto, unfolding(crate::specs::Meaning::bignum_meaning))]
 pub fn fold(alloc: Global, tag: u64, bytes: &[u8]) -> Result<Value, FoldError>
     requires tag { is_bignum_tag tag ≡ true }
