@@ -21,3 +21,5 @@ mod Examples
 pub mod Stacked
 pub mod Bounded
 pub mod ProperMeanings
+pub mod Standing
+pub mod Progress

@@ -21,3 +21,6 @@ pub mod Examples
 pub mod Open
 pub mod Stack
 pub mod CanonicalValues
+pub mod WrittenItems
+pub mod Places
+pub mod Sinks

@@ -2,12 +2,18 @@
 #![tactic(auto)]
 
 pub mod bignum;
+mod byte_buf;
 mod clone;
 mod kind;
+mod serialize;
+mod sink;
 pub mod stack;
 mod tree;
 pub mod tree_laws;
 
+pub use byte_buf::ByteBuf;
 pub use ciborium_ll::{Integer, OutOfRange};
 pub use kind::Kind;
+pub use serialize::Serialize;
+pub use sink::Sink;
 pub use tree::Value;

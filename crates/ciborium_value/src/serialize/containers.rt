@@ -1,0 +1,100 @@
+//! Lists, tuples and maps.
+
+ghost use Rattle.std.specs.Prelude.{◌∷◌, ◌⊎◌, [], map};
+ghost use Rattle.ciborium_value.specs.Places.{dictionary, sequence};
+ghost use Rattle.ciborium_value.specs.Sinks.{container_of, in_turn};
+
+use super::Serialize;
+use crate::sink::Sink;
+use std::collections::BTreeMap;
+
+/// A definite array of the items.
+impl<T: Serialize> Serialize for Vec<T> {
+    ghost written = { λ v. container_of sequence (map T.written v.items) };
+
+    ghost takes_memory = { T.takes_memory };
+
+    fn serialize<S: Sink>(&self, sink: &mut S) -> Result<(), S::Error> {
+        sink.begin_array(Some(self.len()))?;
+        for item in self {
+            item.serialize(sink)?;
+        }
+        sink.end(Some(self.len()))
+    }
+}
+
+/// A definite array of the one.
+impl<A: Serialize> Serialize for (A,) {
+    ghost written = { λ t. container_of sequence (A.written t.0 ∷ []) };
+
+    ghost takes_memory = { A.takes_memory };
+
+    fn serialize<S: Sink>(&self, sink: &mut S) -> Result<(), S::Error> {
+        sink.begin_array(Some(1))?;
+        self.0.serialize(sink)?;
+        sink.end(Some(1))
+    }
+}
+
+/// A definite array of the two.
+impl<A: Serialize, B: Serialize> Serialize for (A, B) {
+    ghost written = { λ t. container_of sequence (A.written t.0 ∷ B.written t.1 ∷ []) };
+
+    ghost takes_memory = { A.takes_memory ⊎ B.takes_memory };
+
+    fn serialize<S: Sink>(&self, sink: &mut S) -> Result<(), S::Error> {
+        sink.begin_array(Some(2))?;
+        self.0.serialize(sink)?;
+        self.1.serialize(sink)?;
+        sink.end(Some(2))
+    }
+}
+
+/// A definite array of the three.
+impl<A: Serialize, B: Serialize, C: Serialize> Serialize for (A, B, C) {
+    ghost written = { λ t. container_of sequence
+        (A.written t.0 ∷ B.written t.1 ∷ C.written t.2 ∷ []) };
+
+    ghost takes_memory = { A.takes_memory ⊎ B.takes_memory ⊎ C.takes_memory };
+
+    fn serialize<S: Sink>(&self, sink: &mut S) -> Result<(), S::Error> {
+        sink.begin_array(Some(3))?;
+        self.0.serialize(sink)?;
+        self.1.serialize(sink)?;
+        self.2.serialize(sink)?;
+        sink.end(Some(3))
+    }
+}
+
+/// A definite array of the four.
+impl<A: Serialize, B: Serialize, C: Serialize, D: Serialize> Serialize for (A, B, C, D) {
+    ghost written = { λ t. container_of sequence
+        (A.written t.0 ∷ B.written t.1 ∷ C.written t.2 ∷ D.written t.3 ∷ []) };
+
+    ghost takes_memory = { A.takes_memory ⊎ B.takes_memory ⊎ C.takes_memory ⊎ D.takes_memory };
+
+    fn serialize<S: Sink>(&self, sink: &mut S) -> Result<(), S::Error> {
+        sink.begin_array(Some(4))?;
+        self.0.serialize(sink)?;
+        self.1.serialize(sink)?;
+        self.2.serialize(sink)?;
+        self.3.serialize(sink)?;
+        sink.end(Some(4))
+    }
+}
+
+/// A definite map, in the order of its keys.
+impl<K: Serialize + Ord, V: Serialize> Serialize for BTreeMap<K, V> {
+    ghost written = { λ m. container_of dictionary (in_turn K.written V.written m.entries) };
+
+    ghost takes_memory = { K.takes_memory ⊎ V.takes_memory };
+
+    fn serialize<S: Sink>(&self, sink: &mut S) -> Result<(), S::Error> {
+        sink.begin_map(Some(self.len()))?;
+        for (key, value) in self {
+            key.serialize(sink)?;
+            value.serialize(sink)?;
+        }
+        sink.end(Some(self.len()))
+    }
+}

@@ -1,0 +1,39 @@
+//! Values.
+
+ghost use Rattle.std.specs.Prelude.{Ok};
+ghost use Rattle.ciborium_value.specs.Encoding.{item_of};
+ghost use Rattle.ciborium_value.specs.View.{tree_of};
+
+use super::Serialize;
+use crate::sink::Sink;
+use crate::tree::Value;
+
+/// The definite item of the value, nothing folded. No memory is taken.
+impl Serialize for Value {
+    ghost written = { λ v. Ok (item_of (tree_of v)) };
+
+    ghost takes_memory = { ⊥ };
+
+    fn serialize<S: Sink>(&self, sink: &mut S) -> Result<(), S::Error> {
+        match self {
+            Value::Integer(number) => sink.integer(i128::from(*number)),
+            Value::Bytes(bytes) => sink.bytes(bytes),
+            Value::Text(text) => sink.text(text),
+            Value::Bool(boolean) => sink.boolean(*boolean),
+            Value::Null => sink.null(),
+            Value::Tag(tag, content) => {
+                sink.tag(*tag)?;
+                content.serialize(sink)
+            }
+            Value::Array(items) => items.serialize(sink),
+            Value::Map(pairs) => {
+                sink.begin_map(Some(pairs.len()))?;
+                for pair in pairs {
+                    pair.0.serialize(sink)?;
+                    pair.1.serialize(sink)?;
+                }
+                sink.end(Some(pairs.len()))
+            }
+        }
+    }
+}

@@ -1,0 +1,126 @@
+//! What values are written to.
+
+ghost use Rattle.std.specs.Prelude.{◌≡◌, IfErr, OnErr, OnOk, negsuc, pos, false};
+ghost use Rattle.ciborium_ll.specs.Item as item;
+ghost use Rattle.ciborium_value.specs.Encoding.{boolean_item};
+ghost use Rattle.ciborium_value.specs.Places.{Out, Place, dictionary, sequence};
+ghost use Rattle.ciborium_value.specs.Sinks.{Adds, Begins, Breaks, BreaksBegin, BreaksEnd, BreaksTag};
+ghost use Rattle.ciborium_value.specs.Sinks.{CanEnd, Cause, Ends, IsGranted, IsOutside, IsReady};
+ghost use Rattle.ciborium_value.specs.Sinks.{Tags, memory, number_item, value};
+
+use crate::kind::Kind;
+
+/// Where an item is written, part by part: to bytes, or into a tree.
+///
+/// A sink takes one item, as a container of announced length 1 would that no `end` closes. Each call
+/// adds what it says where the sink stands; that is allowed where the innermost container has room,
+/// and `end` where it is complete. At an error a proper beginning of what the call adds went out,
+/// and nothing else.
+pub trait Sink {
+    /// Why a call is refused.
+    type Error: Drop;
+
+    // The places at which the sink stands.
+    ghost stands_at: { Self → Place → Type 0 };
+
+    // The bytes that are out, where they are known.
+    ghost out: { Self → Out };
+
+    // Whether it takes memory.
+    ghost takes_memory: { Type 0 };
+
+    // Why it refused.
+    ghost cause: { Self.Error → Cause };
+
+    /// Adds a number: one head where that holds it, from -2^64 to 2^64 - 1, else tag 2 or 3 over
+    /// its bytes without leading zeros (RFC 8949, sections 3.1 and 3.4.3).
+    fn integer(&mut self, number: i128) -> Result<(), Self::Error>
+        requires { IsReady stands_at self.old }
+        ensures ok { OnOk result (Adds stands_at self.old self.new (number_item number)) }
+        ensures cause { IfErr result (λ e. IsOutside (cause e)) }
+        ensures memory { IfErr result (λ e. IsGranted (cause e) takes_memory) }
+        ensures err { OnErr result (Breaks stands_at out self.old self.new (number_item number)) };
+
+    /// Adds a number, as `integer` does.
+    fn unsigned(&mut self, number: u128) -> Result<(), Self::Error>
+        requires { IsReady stands_at self.old }
+        ensures ok { OnOk result (Adds stands_at self.old self.new (number_item (pos number))) }
+        ensures cause { IfErr result (λ e. IsOutside (cause e)) }
+        ensures memory { IfErr result (λ e. IsGranted (cause e) takes_memory) }
+        ensures err { OnErr result
+            (Breaks stands_at out self.old self.new (number_item (pos number))) };
+
+    /// Adds false or true (section 3.3).
+    fn boolean(&mut self, boolean: bool) -> Result<(), Self::Error>
+        requires { IsReady stands_at self.old }
+        ensures ok { OnOk result (Adds stands_at self.old self.new (boolean_item boolean)) }
+        ensures cause { IfErr result (λ e. IsOutside (cause e)) }
+        ensures memory { IfErr result (λ e. IsGranted (cause e) takes_memory) }
+        ensures err { OnErr result (Breaks stands_at out self.old self.new (boolean_item boolean)) };
+
+    /// Adds null (section 3.3).
+    fn null(&mut self) -> Result<(), Self::Error>
+        requires { IsReady stands_at self.old }
+        ensures ok { OnOk result (Adds stands_at self.old self.new (item.simple 22)) }
+        ensures cause { IfErr result (λ e. IsOutside (cause e)) }
+        ensures memory { IfErr result (λ e. IsGranted (cause e) takes_memory) }
+        ensures err { OnErr result (Breaks stands_at out self.old self.new (item.simple 22)) };
+
+    /// Adds a definite text (section 3.1).
+    fn text(&mut self, text: &str) -> Result<(), Self::Error>
+        requires { IsReady stands_at self.old }
+        ensures ok { OnOk result (Adds stands_at self.old self.new (item.text false text.now)) }
+        ensures cause { IfErr result (λ e. IsOutside (cause e)) }
+        ensures memory { IfErr result (λ e. IsGranted (cause e) takes_memory) }
+        ensures err { OnErr result
+            (Breaks stands_at out self.old self.new (item.text false text.now)) };
+
+    /// Adds a definite byte string (section 3.1).
+    fn bytes(&mut self, bytes: &[u8]) -> Result<(), Self::Error>
+        requires { IsReady stands_at self.old }
+        ensures ok { OnOk result (Adds stands_at self.old self.new (item.bytes false bytes.now)) }
+        ensures cause { IfErr result (λ e. IsOutside (cause e)) }
+        ensures memory { IfErr result (λ e. IsGranted (cause e) takes_memory) }
+        ensures err { OnErr result
+            (Breaks stands_at out self.old self.new (item.bytes false bytes.now)) };
+
+    /// Adds the tag of the next item (section 3.4).
+    fn tag(&mut self, tag: u64) -> Result<(), Self::Error>
+        requires { IsReady stands_at self.old }
+        ensures ok { OnOk result (Tags stands_at self.old self.new tag) }
+        ensures cause { IfErr result (λ e. IsOutside (cause e)) }
+        ensures memory { IfErr result (λ e. IsGranted (cause e) takes_memory) }
+        ensures err { OnErr result (BreaksTag stands_at out self.old self.new tag) };
+
+    /// Begins an array of so many items; with `None` an open one (section 3.2.2).
+    fn begin_array(&mut self, items: Option<usize>) -> Result<(), Self::Error>
+        requires { IsReady stands_at self.old }
+        ensures ok { OnOk result (Begins stands_at sequence self.old self.new items) }
+        ensures cause { IfErr result (λ e. IsOutside (cause e)) }
+        ensures memory { IfErr result (λ e. IsGranted (cause e) takes_memory) }
+        ensures err { OnErr result (BreaksBegin stands_at out sequence self.old self.new items) };
+
+    /// Begins a map of so many pairs; with `None` an open one. Each key is added before its value.
+    fn begin_map(&mut self, pairs: Option<usize>) -> Result<(), Self::Error>
+        requires { IsReady stands_at self.old }
+        ensures ok { OnOk result (Begins stands_at dictionary self.old self.new pairs) }
+        ensures cause { IfErr result (λ e. IsOutside (cause e)) }
+        ensures memory { IfErr result (λ e. IsGranted (cause e) takes_memory) }
+        ensures err { OnErr result (BreaksBegin stands_at out dictionary self.old self.new pairs) };
+
+    /// Ends the innermost container, which was begun with this count.
+    fn end(&mut self, count: Option<usize>) -> Result<(), Self::Error>
+        requires { CanEnd stands_at self.old count }
+        ensures ok { OnOk result (Ends stands_at self.old self.new count) }
+        ensures cause { IfErr result (λ e. IsOutside (cause e)) }
+        ensures memory { IfErr result (λ e. IsGranted (cause e) takes_memory) }
+        ensures err { OnErr result (BreaksEnd stands_at out self.old self.new count) };
+
+    /// The error for a value that has no item, for an implementation of `Serialize` to answer.
+    fn refuse(&self, kind: Kind) -> Self::Error
+        ensures { cause result ≡ value kind };
+
+    /// The error for a growth that an implementation of `Serialize` was refused.
+    fn memory(&self) -> Self::Error
+        ensures { cause result ≡ memory };
+}
