@@ -23,3 +23,4 @@ pub mod Bounded
 pub mod ProperMeanings
 pub mod Standing
 pub mod Progress
+pub mod WrittenValues

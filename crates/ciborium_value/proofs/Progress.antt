@@ -162,6 +162,15 @@ next_part f xs k x lt is =
 pub no_part : {A : Type 0} (f : A → Named) (xs : List A) (k : ℕ) → length xs ≤ k → map f (drop k xs) ≡ []
 no_part f xs k le = ap (map f) (drop_all k xs le)
 
+pub next_pair : {A B : Type 0} (f : A → Named) (g : B → Named) (es : List (A × B)) (k : ℕ) (e : A × B) → k < length es → e ≡ get_or es k e →
+    in_turn f g (drop k es) ≡ f e.0 ∷ g e.1 ∷ in_turn f g (drop (k + 1) es)
+next_pair f g es k e lt is =
+    let same : suc k ≡ k + 1 = omega arith in
+    ap (in_turn f g) (drop-cons es k e lt ∙ ap (λ y. y ∷ drop (suc k) es) (sym is) ∙ ap (λ j. e ∷ drop j es) same)
+
+pub no_pair : {A B : Type 0} (f : A → Named) (g : B → Named) (es : List (A × B)) (k : ℕ) → length es ≤ k → in_turn f g (drop k es) ≡ []
+no_pair f g es k le = ap (in_turn f g) (drop_all k es le)
+
 -- ---- a tag and its content
 
 module _ {S : Type 0} (StandsAt : S → Place → Type 0) (out : S → Out) (old : S) (t : ℕ) where

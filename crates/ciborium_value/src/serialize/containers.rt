@@ -1,7 +1,8 @@
 //! Lists, tuples and maps.
 
-ghost use Rattle.std.specs.Prelude.{◌∷◌, ◌⊎◌, [], map};
+ghost use Rattle.std.specs.Prelude.{◌∷◌, ◌⊎◌, [], IfErr, OnErr, OnOk, map};
 ghost use Rattle.ciborium_value.specs.Places.{dictionary, sequence};
+ghost use Rattle.ciborium_value.specs.Sinks.{AddsNamed, BreaksNamed, IsGranted, IsOwed, IsReady};
 ghost use Rattle.ciborium_value.specs.Sinks.{container_of, in_turn};
 
 use super::Serialize;
@@ -97,4 +98,27 @@ impl<K: Serialize + Ord, V: Serialize> Serialize for BTreeMap<K, V> {
         }
         sink.end(Some(self.len()))
     }
+}
+
+// Adds a definite map of the pairs, in their order.
+pub(super) fn serialize_pairs<K: Serialize, V: Serialize, S: Sink>(
+    pairs: &Vec<(K, V)>,
+    sink: &mut S,
+) -> Result<(), S::Error>
+    requires { IsReady S.stands_at sink.old }
+    ensures ok { OnOk result (AddsNamed S.stands_at sink.old sink.new
+        (container_of dictionary (in_turn K.written V.written pairs.now.items))) }
+    ensures cause { IfErr result (λ e. IsOwed (S.cause e)
+        (container_of dictionary (in_turn K.written V.written pairs.now.items))) }
+    ensures memory { IfErr result (λ e. IsGranted (S.cause e)
+        (S.takes_memory ⊎ (K.takes_memory ⊎ V.takes_memory))) }
+    ensures err { OnErr result (BreaksNamed S.stands_at S.out sink.old sink.new
+        (container_of dictionary (in_turn K.written V.written pairs.now.items))) }
+{
+    sink.begin_map(Some(pairs.len()))?;
+    for pair in pairs {
+        pair.0.serialize(sink)?;
+        pair.1.serialize(sink)?;
+    }
+    sink.end(Some(pairs.len()))
 }

@@ -5,6 +5,7 @@ ghost use Rattle.ciborium_value.specs.Encoding.{item_of};
 ghost use Rattle.ciborium_value.specs.View.{tree_of};
 
 use super::Serialize;
+use super::containers::serialize_pairs;
 use crate::sink::Sink;
 use crate::tree::Value;
 
@@ -26,14 +27,7 @@ impl Serialize for Value {
                 content.serialize(sink)
             }
             Value::Array(items) => items.serialize(sink),
-            Value::Map(pairs) => {
-                sink.begin_map(Some(pairs.len()))?;
-                for pair in pairs {
-                    pair.0.serialize(sink)?;
-                    pair.1.serialize(sink)?;
-                }
-                sink.end(Some(pairs.len()))
-            }
+            Value::Map(pairs) => serialize_pairs(pairs, sink),
         }
     }
 }

@@ -1,0 +1,52 @@
+-- What a `Value` names, level by level.
+use Rattle.std.proofs.Common.{◌≡◌, ℕ, suc, ◌+◌, ◌<◌, ◌≤◌, true, false, List, [], ◌∷◌, map, length, drop, drop-cons, get_or, Option, Some, None, Result, Ok, Err, Vec, Box, Global, refl, sym, ◌∙◌, ap, arith}
+use Rattle.std.proofs.lemmas.List.{drop_all}
+use Rattle.ciborium_ll.specs.Item as item
+use Rattle.ciborium_ll.specs.Item.{Item}
+use Rattle.ciborium_value.specs.Encoding.{item_of, items_of, pairs_of}
+use Rattle.ciborium_value.specs.Places.{sequence, dictionary, items_from, pairs_from}
+use Rattle.ciborium_value.specs.Sinks.{Named, and_then, all_named, contained, container_of, in_turn, tag_of}
+use Rattle.ciborium_value.specs.View.{tree_of, trees_of, tree_pairs_of}
+use Rattle.ciborium_value.specs.declared.tree.Value as value
+use Rattle.ciborium_value.specs.declared.tree.Value.{Value}
+use Rattle.ciborium_value.proofs.Views.{tree_of-Tag, tree_of-Array, tree_of-Map}
+
+-- the item that a value names
+abbrev pub named_value : Value → Named
+named_value v = Ok (item_of (tree_of v))
+
+-- each of a list, and each key and value of a list of pairs
+abbrev items : List Value → List Item
+items [] = []
+items (v ∷ vs) = item_of (tree_of v) ∷ items vs
+
+abbrev pair_items : List (Value × Value) → List Item
+pair_items [] = []
+pair_items (p ∷ ps) = item_of (tree_of p.0) ∷ item_of (tree_of p.1) ∷ pair_items ps
+
+all-items : (vs : List Value) → all_named (map named_value vs) ≡ Ok (items vs)
+all-items [] = refl
+all-items (v ∷ vs) = ap (and_then (named_value v)) (all-items vs)
+
+all-pair_items : (ps : List (Value × Value)) → all_named (in_turn named_value named_value ps) ≡ Ok (pair_items ps)
+all-pair_items [] = refl
+all-pair_items (p ∷ ps) = ap (λ r. and_then (named_value p.0) (and_then (named_value p.1) r)) (all-pair_items ps)
+
+from-items : (vs : List Value) → items_from (items vs) ≡ items_of (trees_of vs)
+from-items [] = refl
+from-items (v ∷ vs) = ap (item.item (item_of (tree_of v))) (from-items vs)
+
+from-pair_items : (ps : List (Value × Value)) → pairs_from (pair_items ps) ≡ pairs_of (tree_pairs_of ps)
+from-pair_items [] = refl
+from-pair_items (p ∷ ps) = ap (item.pair (item_of (tree_of p.0)) (item_of (tree_of p.1))) (from-pair_items ps)
+
+pub named-Array : (v : Value) (vs : Vec Value Global) → v ≡ value.Array vs → container_of sequence (map named_value vs.items) ≡ named_value v
+named-Array v vs is =
+    ap (contained sequence) (all-items vs.items) ∙ ap (λ l. Ok (item.array false l)) (from-items vs.items) ∙ ap (λ t. Ok (item_of t)) (sym (ap tree_of is ∙ tree_of-Array vs))
+
+pub named-Map : (v : Value) (ps : Vec (Value × Value) Global) → v ≡ value.Map ps → container_of dictionary (in_turn named_value named_value ps.items) ≡ named_value v
+named-Map v ps is =
+    ap (contained dictionary) (all-pair_items ps.items) ∙ ap (λ l. Ok (item.map false l)) (from-pair_items ps.items) ∙ ap (λ t. Ok (item_of t)) (sym (ap tree_of is ∙ tree_of-Map ps))
+
+pub named-Tag : (v : Value) (t : ℕ) (content : Box Value Global) → v ≡ value.Tag t content → tag_of t (named_value content.value) ≡ named_value v
+named-Tag v t content is = ap (λ t. Ok (item_of t)) (sym (ap tree_of is ∙ tree_of-Tag t content))
