@@ -24,3 +24,5 @@ pub mod ProperMeanings
 pub mod Standing
 pub mod Progress
 pub mod WrittenValues
+pub mod Growing
+pub mod TreeSinkSteps

@@ -1,10 +1,10 @@
 -- A definite container that is written part by part, whatever the sink.
-use Rattle.std.proofs.Common.{◌≡◌, ℕ, ◌+◌, suc, map, ◌<◌, ◌≤◌, true, false, List, [], ◌∷◌, ◌++◌, length, Option, Some, None, Result, Ok, Err, OnErr, IfErr, IsErrAnd, refl, sym, ◌∙◌, ap, subst, append_assoc, append-nil, arith, length-append, drop, drop-cons, get_or}
+use Rattle.std.proofs.Common.{◌≡◌, ℕ, ◌+◌, suc, map, ◌<◌, ◌≤◌, false, List, [], ◌∷◌, ◌++◌, length, Some, Result, Ok, Err, OnErr, IfErr, IsErrAnd, refl, sym, ◌∙◌, ap, subst, append_assoc, append-nil, arith, length-append, drop, drop-cons, get_or}
 use Rattle.std.proofs.lemmas.List.{drop_all}
 use Rattle.ciborium_ll.specs.Item as item
 use Rattle.ciborium_ll.specs.Item.{Item}
-use Rattle.ciborium_value.specs.Places.{Shape, sequence, dictionary, size_of, container, Place, within, tagged, HasRoom, added, IsFull, IsCutBetween, Out}
-use Rattle.ciborium_value.specs.Sinks.{Named, and_then, all_named, contained, container_of, in_turn, tag_of, Cause, value, memory, device, IsOwed, IsReady, Adds, Begins, Tags, CanEnd, Ends, Breaks, BreaksBegin, BreaksTag, BreaksEnd, AddsNamed, BreaksNamed}
+use Rattle.ciborium_value.specs.Places.{Shape, size_of, container, Place, within, tagged, HasRoom, added, Out}
+use Rattle.ciborium_value.specs.Sinks.{Named, and_then, all_named, contained, container_of, in_turn, tag_of, Cause, value, memory, device, IsOwed, IsReady, Begins, Tags, CanEnd, Ends, Breaks, BreaksBegin, BreaksTag, BreaksEnd, AddsNamed, BreaksNamed}
 use Rattle.ciborium_value.specs.declared.kind.Kind.{Kind}
 use Rattle.ciborium_value.proofs.Standing.{IsBefore, before_itself, before_within, before_full, before_tagged, tagged_before, cut_wider}
 
@@ -70,9 +70,9 @@ module _ {S : Type 0} (StandsAt : S → Place → Type 0) (out : S → Out) (s :
   named_by : (new : S) → ((is : List Item) → all_named parts ≡ Ok is → Breaks StandsAt out old new (container s false is)) → BreaksNamed StandsAt out old new (container_of s parts)
   named_by new h = by (all_named parts) h
     where
-    by : (r : Result (List Item) Kind) → ((is : List Item) → r ≡ Ok is → Breaks StandsAt out old new (container s false is)) → BreaksNamed StandsAt out old new (contained s r)
-    by (Ok is) h = h is refl
-    by (Err k) h = tt
+      by : (r : Result (List Item) Kind) → ((is : List Item) → r ≡ Ok is → Breaks StandsAt out old new (container s false is)) → BreaksNamed StandsAt out old new (contained s r)
+      by (Ok is) h = h is refl
+      by (Err k) h = tt
 
   pub owes_begin : (new : S) (m : ℕ) → m ≡ n → length parts ≡ size_of s n → Begins StandsAt s old new (Some m) → Owes StandsAt s n parts old new parts
   owes_begin new m same size h = record { done = []; split = refl; size = size; inside = subst (λ k. Begins StandsAt s old new (Some k)) same h }
@@ -80,7 +80,7 @@ module _ {S : Type 0} (StandsAt : S → Place → Type 0) (out : S → Out) (s :
   pub owes_broken_begin : (new : S) (m : ℕ) → m ≡ n → length parts ≡ size_of s n → BreaksBegin StandsAt out s old new (Some m) → BreaksNamed StandsAt out old new (container_of s parts)
   owes_broken_begin new m same size h = named_by new (λ is e p st room.
       cut_wider (out new) p p (within s (Some n) [] p) _ (before_itself p) refl (before_full p s (Some n) [] is (length-named parts is e ∙ size))
-        (subst (λ k. BreaksBegin StandsAt out s old new (Some k)) same h p st room))
+      (subst (λ k. BreaksBegin StandsAt out s old new (Some k)) same h p st room))
 
   pub owes_ready : (mid : S) (x : Named) (rest : List Named) → IsReady StandsAt old → Owes StandsAt s n parts old mid (x ∷ rest) → IsReady StandsAt mid
   owes_ready mid x rest h w =
@@ -110,7 +110,7 @@ module _ {S : Type 0} (StandsAt : S → Place → Type 0) (out : S → Out) (s :
       let q : Place = within s (Some n) w.done p in
       let broken : Breaks StandsAt out mid new b.0 = subst (BreaksNamed StandsAt out mid new) b.2 h in
       let last : IsBefore (added q b.0) (added p (container s false is)) =
-          subst (λ l. IsBefore (added q b.0) (added p (container s false l))) (sym whole) (before_full p s (Some n) (w.done ++ b.0 ∷ []) b.1 l) in
+      subst (λ l. IsBefore (added q b.0) (added p (container s false l))) (sym whole) (before_full p s (Some n) (w.done ++ b.0 ∷ []) b.1 l) in
       cut_wider (out new) p q (added q b.0) _ (before_within p s (Some n) w.done) refl last (broken q (w.inside p st room) (omega (arith, simp length-append at l))))
 
   pub owes_owed : (mid : S) (x : Named) (rest : List Named) (cause : Cause) → Owes StandsAt s n parts old mid (x ∷ rest) → IsOwed cause x → IsOwed cause (container_of s parts)
@@ -121,9 +121,9 @@ module _ {S : Type 0} (StandsAt : S → Place → Type 0) (out : S → Out) (s :
   oks-named : (mid : S) (w : Owes StandsAt s n parts old mid []) → all_named parts ≡ Ok w.done
   oks-named mid w = ap all_named (w.split ∙ append-nil (oks w.done)) ∙ each w.done
     where
-    each : (is : List Item) → all_named (oks is) ≡ Ok is
-    each [] = refl
-    each (i ∷ is) = ap (and_then (Ok i)) (each is)
+      each : (is : List Item) → all_named (oks is) ≡ Ok is
+      each [] = refl
+      each (i ∷ is) = ap (and_then (Ok i)) (each is)
 
   full : (mid : S) (w : Owes StandsAt s n parts old mid []) → length w.done ≡ size_of s n
   full mid w = length-named parts w.done (oks-named mid w) ∙ w.size
@@ -134,13 +134,13 @@ module _ {S : Type 0} (StandsAt : S → Place → Type 0) (out : S → Out) (s :
   pub owes_ends : (mid new : S) (m : ℕ) → m ≡ n → Owes StandsAt s n parts old mid [] → Ends StandsAt mid new (Some m) → AddsNamed StandsAt old new (container_of s parts)
   owes_ends mid new m same w h =
       subst (AddsNamed StandsAt old new) (ap (contained s) (sym (oks-named mid w)))
-        (λ p st room. h (within s (Some n) w.done p) (w.inside p st room) (ap Some (sym same), full mid w))
+      (λ p st room. h (within s (Some n) w.done p) (w.inside p st room) (ap Some (sym same), full mid w))
 
   pub owes_broken_end : (mid new : S) (m : ℕ) → m ≡ n → Owes StandsAt s n parts old mid [] → BreaksEnd StandsAt out mid new (Some m) → BreaksNamed StandsAt out old new (container_of s parts)
   owes_broken_end mid new m same w h =
       subst (BreaksNamed StandsAt out old new) (ap (contained s) (sym (oks-named mid w)))
-        (λ p st room. cut_wider (out new) p (within s (Some n) w.done p) _ _ (before_within p s (Some n) w.done) refl (before_itself _)
-          (h (within s (Some n) w.done p) (w.inside p st room) (ap Some (sym same), full mid w)))
+      (λ p st room. cut_wider (out new) p (within s (Some n) w.done p) _ _ (before_within p s (Some n) w.done) refl (before_itself _)
+      (h (within s (Some n) w.done p) (w.inside p st room) (ap Some (sym same), full mid w)))
 
 -- ---- how many parts there are
 

@@ -1,12 +1,11 @@
 -- Places of a sink and the bytes that are out at them.
-use Rattle.std.proofs.Common.{◌≡◌, ℕ, zero, suc, ◌+◌, ◌<◌, List, [], ◌∷◌, ◌++◌, length, Option, Some, None, refl, sym, ◌∙◌, ap, subst, append_assoc, append-nil, arith, length-append}
+use Rattle.std.proofs.Common.{◌≡◌, ℕ, zero, suc, ◌+◌, List, [], ◌∷◌, ◌++◌, length, Option, Some, None, refl, sym, ◌∙◌, ap, append_assoc, append-nil, arith}
 use Rattle.std.specs.Borrow.{GName}
 use Rattle.ciborium_ll.specs.Head.{shortest_head, open_byte, break_byte}
 use Rattle.ciborium_ll.specs.Item as item
 use Rattle.ciborium_ll.specs.Item.{Item, Items, Pairs, items_count, pairs_count}
-use Rattle.ciborium_ll.specs.Proper.{IsArgument}
 use Rattle.ciborium_value.specs.Encoding.{written_bytes, items_bytes, pairs_bytes}
-use Rattle.ciborium_value.specs.Places.{Shape, sequence, dictionary, size_of, items_from, pairs_from, container, begin_bytes, end_bytes, is_open, Place, top, within, tagged, HasRoom, added, ended, IsFull, bytes_at, writer_at, IsBeginning, IsProperBeginning, Out, IsOutOf, IsOutAt, IsOutBetween, IsCutBetween}
+use Rattle.ciborium_value.specs.Places.{Shape, sequence, dictionary, items_from, pairs_from, container, begin_bytes, end_bytes, is_open, Place, top, within, tagged, added, ended, IsFull, bytes_at, writer_at, IsBeginning, IsProperBeginning, Out, IsOutBetween, IsCutBetween}
 
 -- ---- the bytes of items in a row
 
@@ -51,8 +50,8 @@ bytes_at-added (top name before done) i = ap (λ b. before ++ b) (items_bytes-on
 bytes_at-added (within s n done around) i =
     ap (λ b. bytes_at around ++ (begin_bytes s n ++ b)) (items_bytes-one done i) ∙ regroup (bytes_at around) (begin_bytes s n) (items_bytes (items_from done)) (written_bytes i)
   where
-  regroup : (a b c d : List ℕ) → a ++ (b ++ (c ++ d)) ≡ (a ++ (b ++ c)) ++ d
-  regroup a b c d = simp append_assoc
+    regroup : (a b c d : List ℕ) → a ++ (b ++ (c ++ d)) ≡ (a ++ (b ++ c)) ++ d
+    regroup a b c d = simp append_assoc
 bytes_at-added (tagged t p) i = bytes_at-added p (item.tag t i) ∙ sym (append_assoc (bytes_at p) (shortest_head 6 t) (written_bytes i))
 
 pub bytes_at-within : (p : Place) (s : Shape) (n : Option ℕ) → bytes_at (within s n [] p) ≡ bytes_at p ++ begin_bytes s n
@@ -68,8 +67,8 @@ unfolding bytes_at
 bytes_at-ended s n done p h =
     bytes_at-added p (container s (is_open n) done) ∙ ap (λ b. bytes_at p ++ b) (bytes-container s n done h) ∙ regroup (bytes_at p) (begin_bytes s n) (items_bytes (items_from done)) (end_bytes n)
   where
-  regroup : (a b c d : List ℕ) → a ++ (b ++ (c ++ d)) ≡ (a ++ (b ++ c)) ++ d
-  regroup a b c d = simp append_assoc
+    regroup : (a b c d : List ℕ) → a ++ (b ++ (c ++ d)) ≡ (a ++ (b ++ c)) ++ d
+    regroup a b c d = simp append_assoc
 
 pub bytes_at-top : (name : Option GName) (before : List ℕ) → bytes_at (top name before []) ≡ before
 unfolding bytes_at
@@ -107,15 +106,16 @@ tagged_before p t i = (written_bytes i, bytes_at-added (tagged t p) i)
 -- inside a container that will be full
 pub before_full : (p : Place) (s : Shape) (n : Option ℕ) (done rest : List Item) → IsFull s n (done ++ rest) → IsBefore (within s n done p) (added p (container s (is_open n) (done ++ rest)))
 unfolding bytes_at
-before_full p s n done rest h =
-    ( items_bytes (items_from rest) ++ end_bytes n
-    , bytes_at-added p (container s (is_open n) (done ++ rest))
+before_full p s n done rest h = (
+  items_bytes (items_from rest) ++ end_bytes n,
+  bytes_at-added p (container s (is_open n) (done ++ rest))
       ∙ ap (λ b. bytes_at p ++ b) (bytes-container s n (done ++ rest) h)
       ∙ ap (λ b. bytes_at p ++ (begin_bytes s n ++ (b ++ end_bytes n))) (items_bytes-append done rest)
-      ∙ regroup (bytes_at p) (begin_bytes s n) (items_bytes (items_from done)) (items_bytes (items_from rest)) (end_bytes n))
+      ∙ regroup (bytes_at p) (begin_bytes s n) (items_bytes (items_from done)) (items_bytes (items_from rest)) (end_bytes n),
+)
   where
-  regroup : (a b c d e : List ℕ) → a ++ (b ++ ((c ++ d) ++ e)) ≡ (a ++ (b ++ c)) ++ (d ++ e)
-  regroup a b c d e = simp append_assoc
+    regroup : (a b c d e : List ℕ) → a ++ (b ++ ((c ++ d) ++ e)) ≡ (a ++ (b ++ c)) ++ (d ++ e)
+    regroup a b c d e = simp append_assoc
 
 -- ---- what is out, between two places that lie further apart
 

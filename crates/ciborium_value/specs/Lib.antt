@@ -24,3 +24,4 @@ pub mod CanonicalValues
 pub mod WrittenItems
 pub mod Places
 pub mod Sinks
+pub mod TreeSinks

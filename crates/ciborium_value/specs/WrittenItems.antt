@@ -1,5 +1,5 @@
 -- The items that typed writing writes, and what holds of their bytes (RFC 8949, sections 3.1 to 3.3 and 4.1).
-use Rattle.std.specs.Prelude.{◌≡◌, ℕ, ◌≤◌, ◌<◌, List, Bool, true, false}
+use Rattle.std.specs.Prelude.{◌≡◌, ℕ, ◌≤◌, ◌<◌, Bool, true, false}
 use Rattle.ciborium_ll.specs.Bytes.{greatest_offset}
 use Rattle.ciborium_ll.specs.Item.{Item, unsigned, negative, bytes, text, array, map, tag, simple, float, Items, no_items, item, Pairs, no_pairs, pair, items_count, pairs_count}
 use Rattle.ciborium_ll.specs.Proper.{IsArgument, IsProperBytes, IsProperText}

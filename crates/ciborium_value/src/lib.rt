@@ -6,6 +6,7 @@ mod byte_buf;
 mod clone;
 mod kind;
 mod serialize;
+pub mod serialized;
 mod sink;
 pub mod stack;
 mod tree;

@@ -1,10 +1,10 @@
 -- A map is written entry by entry, each key before its value.
-use Rattle.std.proofs.Common.{◌≡◌, ◌∷◌, [], ap, length, subst, sym, rules}
+use Rattle.std.proofs.Common.{◌≡◌, length, subst, rules}
 use Rattle.std.proofs.lemmas.Result.{on_ok_weaker, on_err_weaker}
 use Rattle.std.proofs.lemmas.Map.Iter.{rest_more, rest_all}
 use Rattle.std.specs.Map.Iter.{deref_pair}
 use Rattle.ciborium_value.specs.Places.{dictionary}
-use Rattle.ciborium_value.specs.Sinks.{AddsNamed, BreaksNamed, IsOwed, container_of, in_turn}
+use Rattle.ciborium_value.specs.Sinks.{IsOwed, container_of, in_turn}
 use Rattle.ciborium_value.proofs.Progress.{exits, on_err, Owes, owes_begin, owes_broken_begin, owes_ready, owes_more, owes_broken, owes_owed, owes_can_end, owes_ends, owes_broken_end, length-in_turn}
 use Rattle.ciborium_value.proofs.serialize.containers.BTreeMapSerialize.serialize.Goals as goal
 
@@ -20,7 +20,7 @@ loop-key-init g c =
     let parts = in_turn g.K.Serialize.written g.V.Serialize.written es in
     let same : es ≡ c.into_iter-key-iterator.result = search rules in
     subst (λ l. Owes g.S.Sink.stands_at dictionary (length es) parts c.args.sink.now c.begin_map.new.self (in_turn g.K.Serialize.written g.V.Serialize.written l)) same
-      (owes_begin g.S.Sink.stands_at g.S.Sink.out dictionary (length es) parts c.args.sink.now _ c.len.result c.len.ensures.len (length-in_turn g.K.Serialize.written g.V.Serialize.written es) c.in_ok-begin_map.ensures.ok)
+    (owes_begin g.S.Sink.stands_at g.S.Sink.out dictionary (length es) parts c.args.sink.now _ c.len.result c.len.ensures.len (length-in_turn g.K.Serialize.written g.V.Serialize.written es) c.in_ok-begin_map.ensures.ok)
 
 pub serialize-requires : goal.serialize-requires
 serialize-requires g c =
@@ -37,7 +37,7 @@ returns-in_err-serialize-clause-cause g c =
     let next = rest_more deref_pair c.loop-key.key-iterator c.next.new.self c.next.result (c.in-Some.key, c.in-Some.value) c.in-Some.is c.next.ensures.steps in
     let here = subst (λ l. Owes g.S.Sink.stands_at dictionary (length es) parts c.args.sink.now c.loop-key.sink (in_turn g.K.Serialize.written g.V.Serialize.written l)) next c.loop-key.invariant in
     exits _ c.in_err-serialize.field-0.0 (λ e. IsOwed (g.S.Sink.cause e) (container_of dictionary parts)) c.from_residual-in_err-serialize.ensures.1
-      (owes_owed g.S.Sink.stands_at g.S.Sink.out dictionary (length es) parts c.args.sink.now _ _ _ (g.S.Sink.cause c.in_err-serialize.field-0.0) here c.in_err-serialize.ensures.cause)
+    (owes_owed g.S.Sink.stands_at g.S.Sink.out dictionary (length es) parts c.args.sink.now _ _ _ (g.S.Sink.cause c.in_err-serialize.field-0.0) here c.in_err-serialize.ensures.cause)
 
 pub returns-in_err-serialize-clause-err : goal.returns-in_err-serialize-clause-err
 returns-in_err-serialize-clause-err g c =
@@ -64,7 +64,7 @@ returns-in_err-serialize-2-clause-cause g c =
     let here = subst (λ l. Owes g.S.Sink.stands_at dictionary (length es) parts c.args.sink.now c.loop-key.sink (in_turn g.K.Serialize.written g.V.Serialize.written l)) next c.loop-key.invariant in
     let between = owes_more g.S.Sink.stands_at g.S.Sink.out dictionary (length es) parts c.args.sink.now _ _ _ _ here c.in_ok-serialize.ensures.ok in
     exits _ c.in_err-serialize-2.field-0.0 (λ e. IsOwed (g.S.Sink.cause e) (container_of dictionary parts)) c.from_residual-in_err-serialize-2.ensures.1
-      (owes_owed g.S.Sink.stands_at g.S.Sink.out dictionary (length es) parts c.args.sink.now _ _ _ (g.S.Sink.cause c.in_err-serialize-2.field-0.0) between c.in_err-serialize-2.ensures.cause)
+    (owes_owed g.S.Sink.stands_at g.S.Sink.out dictionary (length es) parts c.args.sink.now _ _ _ (g.S.Sink.cause c.in_err-serialize-2.field-0.0) between c.in_err-serialize-2.ensures.cause)
 
 pub returns-in_err-serialize-2-clause-err : goal.returns-in_err-serialize-2-clause-err
 returns-in_err-serialize-2-clause-err g c =

@@ -1,5 +1,5 @@
 -- A list is written item by item.
-use Rattle.std.proofs.Common.{map, drop, length, subst, rules}
+use Rattle.std.proofs.Common.{map, length, subst, rules}
 use Rattle.std.proofs.lemmas.Result.{on_ok_weaker, on_err_weaker}
 use Rattle.ciborium_value.specs.Places.{sequence}
 use Rattle.ciborium_value.specs.Sinks.{AddsNamed, BreaksNamed, IsOwed, container_of}
@@ -31,8 +31,8 @@ returns-in_err-serialize-clause-cause g c =
     let parts = map f xs in
     let here = subst (Owes g.S.Sink.stands_at sequence (length xs) parts c.args.sink.now c.loop-item.sink) (next_part f xs c.loop-item.item-index _ c.loop-item-test.true c.item-item.is) c.loop-item.invariant in
     exits _ c.in_err-serialize.field-0.0 _ c.from_residual-in_err-serialize.ensures.1
-      (subst (λ l. IsOwed (g.S.Sink.cause c.in_err-serialize.field-0.0) (container_of sequence (map f l))) c.deref-item-items.ensures.value
-        (owes_owed g.S.Sink.stands_at g.S.Sink.out sequence (length xs) parts c.args.sink.now _ _ _ (g.S.Sink.cause c.in_err-serialize.field-0.0) here c.in_err-serialize.ensures.cause))
+    (subst (λ l. IsOwed (g.S.Sink.cause c.in_err-serialize.field-0.0) (container_of sequence (map f l))) c.deref-item-items.ensures.value
+    (owes_owed g.S.Sink.stands_at g.S.Sink.out sequence (length xs) parts c.args.sink.now _ _ _ (g.S.Sink.cause c.in_err-serialize.field-0.0) here c.in_err-serialize.ensures.cause))
 
 pub returns-in_err-serialize-clause-err : goal.returns-in_err-serialize-clause-err
 returns-in_err-serialize-clause-err g c =
@@ -41,7 +41,7 @@ returns-in_err-serialize-clause-err g c =
     let parts = map f xs in
     let here = subst (Owes g.S.Sink.stands_at sequence (length xs) parts c.args.sink.now c.loop-item.sink) (next_part f xs c.loop-item.item-index _ c.loop-item-test.true c.item-item.is) c.loop-item.invariant in
     on_err _ (subst (λ l. BreaksNamed g.S.Sink.stands_at g.S.Sink.out c.args.sink.now c.serialize.new.sink (container_of sequence (map f l))) c.deref-item-items.ensures.value
-      (owes_broken g.S.Sink.stands_at g.S.Sink.out sequence (length xs) parts c.args.sink.now _ _ _ _ here c.in_err-serialize.ensures.err))
+    (owes_broken g.S.Sink.stands_at g.S.Sink.out sequence (length xs) parts c.args.sink.now _ _ _ _ here c.in_err-serialize.ensures.err))
 
 pub loop-item-preserved : goal.loop-item-preserved
 loop-item-preserved g c =
@@ -66,7 +66,7 @@ returns-clause-ok g c =
     let parts = map f xs in
     let all = subst (Owes g.S.Sink.stands_at sequence (length xs) parts c.args.sink.now c.loop-item.sink) (no_part f xs c.loop-item.item-index c.loop-item-test.false) c.loop-item.invariant in
     on_ok_weaker _ (λ h. subst (λ l. AddsNamed g.S.Sink.stands_at c.args.sink.now c.end.new.self (container_of sequence (map f l))) c.deref-item-items.ensures.value
-      (owes_ends g.S.Sink.stands_at g.S.Sink.out sequence (length xs) parts c.args.sink.now _ _ c.len-2.result (search rules) all h)) c.end.ensures.ok
+    (owes_ends g.S.Sink.stands_at g.S.Sink.out sequence (length xs) parts c.args.sink.now _ _ c.len-2.result (search rules) all h)) c.end.ensures.ok
 
 pub returns-clause-err : goal.returns-clause-err
 returns-clause-err g c =
@@ -75,4 +75,4 @@ returns-clause-err g c =
     let parts = map f xs in
     let all = subst (Owes g.S.Sink.stands_at sequence (length xs) parts c.args.sink.now c.loop-item.sink) (no_part f xs c.loop-item.item-index c.loop-item-test.false) c.loop-item.invariant in
     on_err_weaker _ (λ h. subst (λ l. BreaksNamed g.S.Sink.stands_at g.S.Sink.out c.args.sink.now c.end.new.self (container_of sequence (map f l))) c.deref-item-items.ensures.value
-      (owes_broken_end g.S.Sink.stands_at g.S.Sink.out sequence (length xs) parts c.args.sink.now _ _ c.len-2.result (search rules) all h)) c.end.ensures.err
+    (owes_broken_end g.S.Sink.stands_at g.S.Sink.out sequence (length xs) parts c.args.sink.now _ _ c.len-2.result (search rules) all h)) c.end.ensures.err

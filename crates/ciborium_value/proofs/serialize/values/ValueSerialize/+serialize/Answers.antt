@@ -9,13 +9,13 @@ use Rattle.ciborium_value.proofs.serialize.values.ValueSerialize.+serialize.Goal
 pub returns-in_err-tag-in-Tag-clause-err : goal.returns-in_err-tag-in-Tag-clause-err
 returns-in_err-tag-in-Tag-clause-err g t c =
     on_err _ (subst (BreaksNamed g.S.Sink.stands_at g.S.Sink.out c.args.sink.now c.tag.new.self) (named-Tag _ _ _ c.in-Tag.is)
-      (tag_broken_head g.S.Sink.stands_at g.S.Sink.out c.args.sink.now c.in-Tag.tag _ (named_value c.in-Tag.content.value) c.in_err-tag-in-Tag.ensures.err))
+    (tag_broken_head g.S.Sink.stands_at g.S.Sink.out c.args.sink.now c.in-Tag.tag _ (named_value c.in-Tag.content.value) c.in_err-tag-in-Tag.ensures.err))
 
 pub returns-in_ok-tag-in-Tag-clause-err : goal.returns-in_ok-tag-in-Tag-clause-err
 returns-in_ok-tag-in-Tag-clause-err g t c =
     on_err_weaker _ (λ h. subst (BreaksNamed g.S.Sink.stands_at g.S.Sink.out c.args.sink.now c.serialize.new.sink) (named-Tag _ _ _ c.in-Tag.is)
-      (tag_broken g.S.Sink.stands_at g.S.Sink.out c.args.sink.now c.in-Tag.tag _ _ (named_value c.in-Tag.content.value) c.in_ok-tag-in-Tag.ensures.ok
-        (subst (λ v. BreaksNamed g.S.Sink.stands_at g.S.Sink.out c.tag.new.self c.serialize.new.sink (named_value v)) c.deref-in-Tag.ensures h))) c.serialize.ensures.err
+    (tag_broken g.S.Sink.stands_at g.S.Sink.out c.args.sink.now c.in-Tag.tag _ _ (named_value c.in-Tag.content.value) c.in_ok-tag-in-Tag.ensures.ok
+    (subst (λ v. BreaksNamed g.S.Sink.stands_at g.S.Sink.out c.tag.new.self c.serialize.new.sink (named_value v)) c.deref-in-Tag.ensures h))) c.serialize.ensures.err
 
 pub returns-in-Array-clause-ok : goal.returns-in-Array-clause-ok
 returns-in-Array-clause-ok g t c = on_ok_weaker _ (subst (AddsNamed g.S.Sink.stands_at c.args.sink.now c.serialize-in-Array.new.sink) (named-Array _ _ c.in-Array.is)) c.serialize-in-Array.ensures.ok

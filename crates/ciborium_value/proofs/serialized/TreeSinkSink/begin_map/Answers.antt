@@ -1,0 +1,12 @@
+use Rattle.std.proofs.Common.{ap, ◌∙◌, rules}
+use Rattle.ciborium_value.specs.Places.{dictionary}
+use Rattle.ciborium_value.specs.Tree.{map}
+use Rattle.ciborium_value.specs.View.{tree_pairs_of}
+use Rattle.ciborium_value.proofs.TreeSinkSteps.{put_begins}
+use Rattle.ciborium_value.proofs.Views.{tree_of-Map}
+use Rattle.ciborium_value.proofs.serialized.TreeSinkSink.begin_map.Goals as goal
+
+-- a container of nothing is whole at once
+pub returns-in-Some-eq0-clause-ok : goal.returns-in-Some-eq0-clause-ok
+returns-in-Some-eq0-clause-ok c =
+    put_begins c.put.result c.args.self.now c.put.new.self dictionary c.args.pairs _ (search rules) (tree_of-Map c.new.result ∙ ap (λ l. map (tree_pairs_of l)) c.new.ensures.items) c.put.ensures.ok

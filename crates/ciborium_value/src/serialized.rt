@@ -1,0 +1,172 @@
+//! Values as what is written to.
+
+ghost use Rattle.std.specs.Prelude.{◌≡◌, ◌∷◌, IfErr, IfOk, OnOk};
+ghost use Rattle.ciborium_value.specs.Open.{placed};
+ghost use Rattle.ciborium_value.specs.Sinks.{Cause, IsOwed, memory};
+ghost use Rattle.ciborium_value.specs.Stack.{opened, opens_of};
+ghost use Rattle.ciborium_value.specs.TreeSinks.{IsBuiltAt, IsTreeOf, cause_of, no_out, state_of};
+ghost use Rattle.ciborium_value.specs.View.{tree_of};
+ghost use Rattle.ciborium_value.specs.declared.serialized.Error.TheVariants.{Memory};
+
+use crate::kind::Kind;
+use crate::serialize::Serialize;
+use crate::sink::Sink;
+use crate::stack::{Opening, Stack};
+use crate::tree::Value;
+use std::alloc::{AllocError, Global};
+
+/// Why a value is not made from, or not read as, a value of another type.
+#[derive(Clone, Copy, Debug, PartialEq, Eq)]
+pub enum Error {
+    /// A part is refused for this reason.
+    Custom(Kind),
+    /// Memory was refused.
+    Memory,
+}
+
+impl From<AllocError> for Error {
+    ghost from_gives = { λ e f. f ≡ Memory };
+
+    fn from(_: AllocError) -> Error {
+        Error::Memory
+    }
+}
+
+impl Value {
+    /// The tree of the item that the value writes: an open array or map becomes a definite one, and
+    /// nothing is folded.
+    ///
+    /// # Errors
+    ///
+    /// `Custom` where the value has no item, with the kind that it names; `Memory` where a growth
+    /// was refused. The value is left as it was.
+    pub fn serialized<T: Serialize>(alloc: Global, value: &T) -> Result<Value, Error>
+        ensures ok { IfOk result (IsTreeOf (T.written value.now)) }
+        ensures refused { IfErr result (λ e. IsOwed (cause_of e) (T.written value.now)) }
+    {
+        let mut sink = TreeSink {
+            stack: Stack::new(alloc),
+            whole: None,
+            alloc,
+        };
+        value.serialize(&mut sink)?;
+        match sink.whole.take() {
+            Some(value) => Ok(value),
+            None => unreachable!(),
+        }
+    }
+}
+
+// What is open, or the tree once it is whole.
+#[derive(Drop)]
+struct TreeSink {
+    stack: Stack,
+    whole: Option<Value>,
+    alloc: Global,
+}
+
+impl TreeSink {
+    // Puts a value where one is due.
+    fn put(&mut self, value: Value) -> Result<(), Error>
+        ensures ok { OnOk result
+            (state_of self.new ≡ placed (opens_of self.old.stack) (tree_of value)) }
+        ensures memory { IfErr result (λ e. cause_of e ≡ memory) }
+    {
+        self.whole = self.stack.place(value)?;
+        Ok(())
+    }
+
+    // Opens a container or tag.
+    fn open(&mut self, opening: Opening) -> Result<(), Error>
+        ensures open { OnOk result
+            (opens_of self.new.stack ≡ opened opening ∷ opens_of self.old.stack) }
+        ensures whole { OnOk result (self.new.whole ≡ self.old.whole) }
+        ensures memory { IfErr result (λ e. cause_of e ≡ memory) }
+    {
+        self.stack.open(opening)?;
+        Ok(())
+    }
+}
+
+impl Sink for TreeSink {
+    type Error = Error;
+
+    ghost stands_at = { IsBuiltAt };
+
+    ghost out = { no_out };
+
+    ghost takes_memory = { Unit {0} };
+
+    ghost cause = { cause_of };
+
+    fn integer(&mut self, number: i128) -> Result<(), Error> {
+        let value = Value::from_i128(self.alloc, number)?;
+        self.put(value)
+    }
+
+    fn unsigned(&mut self, number: u128) -> Result<(), Error> {
+        let value = Value::from_u128(self.alloc, number)?;
+        self.put(value)
+    }
+
+    fn boolean(&mut self, boolean: bool) -> Result<(), Error> {
+        self.put(Value::Bool(boolean))
+    }
+
+    fn null(&mut self) -> Result<(), Error> {
+        self.put(Value::Null)
+    }
+
+    fn text(&mut self, text: &str) -> Result<(), Error> {
+        let value = Value::from_text(self.alloc, text)?;
+        self.put(value)
+    }
+
+    fn bytes(&mut self, bytes: &[u8]) -> Result<(), Error> {
+        let value = Value::from_bytes(self.alloc, bytes)?;
+        self.put(value)
+    }
+
+    fn tag(&mut self, tag: u64) -> Result<(), Error> {
+        self.open(Opening::Tag(tag))
+    }
+
+    fn begin_array(&mut self, items: Option<usize>) -> Result<(), Error> {
+        match items {
+            Some(0) => self.put(Value::Array(Vec::new(self.alloc))),
+            Some(n) => self.open(Opening::Array {
+                behind: Some(n - 1),
+            }),
+            None => self.open(Opening::Array { behind: None }),
+        }
+    }
+
+    fn begin_map(&mut self, pairs: Option<usize>) -> Result<(), Error> {
+        match pairs {
+            Some(0) => self.put(Value::Map(Vec::new(self.alloc))),
+            Some(n) => self.open(Opening::Map {
+                behind: Some(n - 1),
+            }),
+            None => self.open(Opening::Map { behind: None }),
+        }
+    }
+
+    // What was announced is whole with its last part; only a break ends an open container.
+    fn end(&mut self, count: Option<usize>) -> Result<(), Error> {
+        match count {
+            Some(_) => Ok(()),
+            None => match self.stack.close() {
+                Some(value) => self.put(value),
+                None => unreachable!(),
+            },
+        }
+    }
+
+    fn refuse(&self, kind: Kind) -> Error {
+        Error::Custom(kind)
+    }
+
+    fn memory(&self) -> Error {
+        Error::Memory
+    }
+}
