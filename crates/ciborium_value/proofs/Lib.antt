@@ -26,3 +26,4 @@ pub mod Progress
 pub mod WrittenValues
 pub mod Growing
 pub mod TreeSinkSteps
+pub mod ReadBack

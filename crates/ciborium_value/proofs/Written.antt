@@ -16,7 +16,7 @@ use Rattle.ciborium_value.proofs.Folding.{written_means_folded}
 
 -- ---- strings, containers, simple values and floats
 
-string_written : (open_ : Bool) (major : ℕ) (Allowed : List ℕ → Type 0) (b : List ℕ) → Allowed b → length b ≤ greatest_offset →
+pub string_written : (open_ : Bool) (major : ℕ) (Allowed : List ℕ → Type 0) (b : List ℕ) → Allowed b → length b ≤ greatest_offset →
     IsString open_ major Allowed (string_bytes open_ major b) b
 string_written false major Allowed b h fits = (shortest_head major (length b), shortest_is_head major (length b) (omega arith), h, refl)
 string_written true major Allowed b h fits =
@@ -24,11 +24,11 @@ string_written true major Allowed b h fits =
     let part : IsDefiniteString major Allowed s b = (shortest_head major (length b), shortest_is_head major (length b) (omega arith), h, refl) in
     (b ∷ [], s, (s, [], part, refl, sym (append-nil s)), sym (append-nil b), refl)
 
-parts_enclosed : (open_ : Bool) (major count : ℕ) (r : List ℕ) → count ≤ greatest_offset → Encloses open_ major count (enclosed open_ major count r) r
+pub parts_enclosed : (open_ : Bool) (major count : ℕ) (r : List ℕ) → count ≤ greatest_offset → Encloses open_ major count (enclosed open_ major count r) r
 parts_enclosed false major count r fits = (shortest_head major count, shortest_is_head major count (omega arith), refl)
 parts_enclosed true major count r fits = refl
 
-simple_written : (n : ℕ) → (n < 24) ⊎ ((32 ≤ n) × (n < 256)) → IsSimple (simple_bytes n) n
+pub simple_written : (n : ℕ) → (n < 24) ⊎ ((32 ≤ n) × (n < 256)) → IsSimple (simple_bytes n) n
 simple_written n (inl h) = inl (h, grind (arith, nat_tests))
 simple_written n (inr h) = let least : 32 ≤ n = h.0 in inr (least, h.1, grind (arith, nat_tests))
 

@@ -4,9 +4,11 @@ use Rattle.ciborium_ll.specs.Bytes.{greatest_offset}
 use Rattle.ciborium_ll.specs.Item.{Item, unsigned, negative, bytes, text, array, map, tag, simple, float, Items, no_items, item, Pairs, no_pairs, pair, items_count, pairs_count}
 use Rattle.ciborium_ll.specs.Proper.{IsArgument, IsProperBytes, IsProperText}
 use Rattle.ciborium_ll.specs.Spells.{Spells}
-use Rattle.ciborium_value.specs.Encoding.{written_bytes, written_tree}
+use Rattle.ciborium_value.specs.Encoding.{item_of, written_bytes, written_tree}
 use Rattle.ciborium_value.specs.Folded.{folded}
 use Rattle.ciborium_value.specs.Meaning.{meaning}
+use Rattle.ciborium_value.specs.Proper.{IsProperTree}
+use Rattle.ciborium_value.specs.Tree.{Tree}
 
 -- a count that a head announces; an open container announces none
 abbrev pub IsAnnounced : Bool → ℕ → Type 0
@@ -43,3 +45,11 @@ WrittenSpells = (i : Item) → IsWritten i → Spells (written_bytes i) i
 -- and it means the folding of its tree
 abbrev pub WrittenTreeFolds : Type 0
 WrittenTreeFolds = (i : Item) → IsWritten i → meaning i ≡ folded (written_tree i)
+
+-- the item of a tree is written as that tree
+abbrev pub TreeIsWrittenAsItself : Type 0
+TreeIsWrittenAsItself = (v : Tree) → written_tree (item_of v) ≡ v
+
+-- and a tree whose item can be written is one that a program can hold
+abbrev pub WrittenTreeIsProper : Type 0
+WrittenTreeIsProper = (v : Tree) → IsWritten (item_of v) → IsProperTree v

@@ -10,6 +10,8 @@ ghost use Rattle.ciborium_value.specs.OrderLaws.{EqualAsTrees, EqualityIsEquival
 ghost use Rattle.ciborium_value.specs.OrderLaws.{IntegersAsTrees, OrderedAsTrees};
 ghost use Rattle.ciborium_value.specs.OrderLaws.{PartlyOrderedAsTrees, TiedWhereEqual};
 ghost use Rattle.ciborium_value.specs.OrderLaws.{ValuesAreOrdered};
+ghost use Rattle.ciborium_value.specs.WrittenItems.{TreeIsWrittenAsItself, WrittenSpells};
+ghost use Rattle.ciborium_value.specs.WrittenItems.{WrittenTreeFolds, WrittenTreeIsProper};
 
 /// All bytes, at every offset and under every limit of levels, begin with a good item or are
 /// refused, never both, and with one refusal alone.
@@ -60,4 +62,14 @@ pub fn bytes_of_bignums()
 /// order of them as trees (RFC 8949, section 4.2.3; RFC 7049, section 3.9).
 pub fn order_of_integers()
     ensures { IntegersAsTrees }
+{}
+
+/// The bytes of every item that typed writing writes spell it, and it means the folding of its tree.
+/// So what was written is read back as the folding of what `Value::serialized` makes. A value is
+/// made into itself.
+pub fn written_reads_back()
+    ensures spells { WrittenSpells }
+    ensures folds { WrittenTreeFolds }
+    ensures itself { TreeIsWrittenAsItself }
+    ensures proper { WrittenTreeIsProper }
 {}
