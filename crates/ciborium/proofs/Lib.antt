@@ -21,3 +21,5 @@ mod WhateverFollows
 mod Outcomes
 mod KnownReaders
 mod OneAnswer
+mod WrittenPlaces
+mod ByteSinks

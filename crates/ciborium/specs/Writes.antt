@@ -1,16 +1,66 @@
--- What writing a value answers, and the bytes that stand behind the head of an array or map.
-use Rattle.std.specs.Prelude.{ℕ, List}
-use Rattle.ciborium_value.specs.Encoding.{items_of, pairs_of, items_bytes, pairs_bytes}
+-- What writing answers, and where the sink over a writer stands.
+use Rattle.std.specs.Prelude.{ℕ, List, Option, Some, None, Result, Ok, Err, IsErr}
+use Rattle.std.specs.Borrow.{GName}
+use Rattle.ciborium_ll.specs.Writing.{Writes}
+use Rattle.ciborium_value.specs.Encoding.{items_of, pairs_of, items_bytes, pairs_bytes, written_bytes}
+use Rattle.ciborium_value.specs.Places.{Place, Out, IsOutAt, IsWrittenPlace}
+use Rattle.ciborium_value.specs.Sinks.{Named, Cause, value, memory, device}
 use Rattle.ciborium_value.specs.View.{trees_of, tree_pairs_of}
+use Rattle.ciborium_value.specs.WrittenItems.{IsWritten}
 use Rattle.ciborium_value.specs.declared.tree.Value.{Value as TreeValue}
 use Rattle.ciborium.specs.declared.ser.Error.{Error}
 use Rattle.ciborium.specs.declared.ser.Error.TheVariants.{Io, Value, Memory}
+use Rattle.ciborium.specs.declared.ser.byte_sink.ByteSink.{ByteSink}
+use Rattle.ciborium.specs.declared.ser.byte_sink.Refusal.{Refusal}
+use Rattle.ciborium.specs.declared.ser.byte_sink.Refusal.TheVariants as refusal
 
 -- the error is the writer's own
 abbrev pub IsIo : {T : Type 0} → Error T → Type 0
 IsIo (Io e) = Unit {0}
 IsIo (Value kind) = ⊥
 IsIo Memory = ⊥
+
+-- why writing was refused
+abbrev pub cause_of : {T : Type 0} → Error T → Cause
+cause_of (Io e) = device
+cause_of (Value kind) = value kind
+cause_of Memory = memory
+
+-- the bytes of the item that a value names: all at `Ok`, a proper beginning of them at `Err`, and nothing else. A value that names
+-- none is never written
+abbrev pub WritesNamed : {E : Type 0} → Option (List ℕ) → Option (List ℕ) → Result (Unit {0}) E → Named → Type 0
+WritesNamed old new result (Ok i) = Writes old new result (written_bytes i)
+WritesNamed old new result (Err kind) = IsErr result
+
+-- the item that is named can be written
+abbrev pub IsNamedWritten : Named → Type 0
+IsNamedWritten (Ok i) = IsWritten i
+IsNamedWritten (Err kind) = ⊥
+
+-- ---- the sink over a writer
+
+abbrev pub named_out : GName → Option (List ℕ) → Out
+named_out name None = None
+named_out name (Some bs) = Some (name, bs)
+
+-- the writer's bytes, where they are known
+abbrev pub out_of : {W : Type 0} → (W → Option (List ℕ)) → ByteSink W → Out
+out_of contents s = named_out s.writer.ghost_name (contents s.writer.now)
+
+-- the bytes go out: all at `Ok`, and at `Err` a proper beginning of them
+abbrev pub PutsOut : {W E : Type 0} → (W → Option (List ℕ)) → ByteSink W → ByteSink W → Result (Unit {0}) E → List ℕ → Type 0
+PutsOut contents old new result bytes = Writes (contents old.writer.now) (contents new.writer.now) result bytes
+
+-- just the bytes of the place are out, and they can be written
+abbrev pub IsOutFor : {W : Type 0} → (W → Option (List ℕ)) → ByteSink W → Place → Type 0
+IsOutFor contents s p = IsOutAt (out_of contents s) p × IsWrittenPlace p
+
+abbrev pub refusal_cause : Refusal → Cause
+refusal_cause refusal.Io = device
+refusal_cause (refusal.Value kind) = value kind
+refusal_cause refusal.Memory = memory
+
+-- ---- lists of values
 
 -- the encoding of each value, in order
 abbrev pub encodings : List TreeValue → List ℕ

@@ -8,10 +8,14 @@ use Rattle.ciborium_value.specs.declared.kind.Kind.{Kind}
 
 -- ---- what values name
 
--- the item of a number: major type 0 or 1 where one head holds it, else tag 2 or 3 over its bytes (RFC 8949, section 3.4.3)
+-- a tag over the bytes of a number, without leading zeros (RFC 8949, section 3.4.3)
+abbrev pub bignum_item : ℕ → ℕ → Item
+bignum_item t n = item.tag t (item.bytes false (shortest_bytes n))
+
+-- the item of a number: major type 0 or 1 where one head holds it, else tag 2 or 3
 abbrev pub number_item : ℤ → Item
-number_item (pos n) = if nat_lt n (2 ^ 64) then item.unsigned n else item.tag 2 (item.bytes false (shortest_bytes n))
-number_item (negsuc n) = if nat_lt n (2 ^ 64) then item.negative n else item.tag 3 (item.bytes false (shortest_bytes n))
+number_item (pos n) = if nat_lt n (2 ^ 64) then item.unsigned n else bignum_item 2 n
+number_item (negsuc n) = if nat_lt n (2 ^ 64) then item.negative n else bignum_item 3 n
 
 -- what a value names: the item that it writes, or the kind with which it is refused
 abbrev pub Named : Type 0

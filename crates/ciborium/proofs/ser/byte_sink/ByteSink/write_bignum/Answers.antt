@@ -1,0 +1,26 @@
+use Rattle.std.proofs.Common.{◌≡◌, ◌≤◌, ◌++◌, length, refl, ap, ◌∙◌, subst, rules}
+use Rattle.std.proofs.lemmas.Result.{on_ok_weaker}
+use Rattle.ciborium_ll.specs.Bytes.{AreBytes, greatest_offset}
+use Rattle.ciborium_ll.specs.Head.{shortest_head}
+use Rattle.ciborium_ll.specs.Proper.{IsProperBytes}
+use Rattle.ciborium_ll.specs.Writing.{Writes}
+use Rattle.ciborium_value.specs.Meaning.{without_zeros}
+use Rattle.ciborium_value.specs.Number.{shortest_bytes}
+use Rattle.ciborium_value.specs.Sinks.{bignum_item}
+use Rattle.ciborium_value.specs.WrittenItems.{IsWritten}
+use Rattle.ciborium.proofs.ByteSinks.{shortest-is}
+use Rattle.ciborium.proofs.WritingSteps.{Writes-after}
+use Rattle.ciborium.proofs.ser.byte_sink.ByteSink.write_bignum.Goals as goal
+
+pub returns-clause-bytes : goal.returns-clause-bytes
+returns-clause-bytes g c =
+    let payload : c.without_leading_zeros-bytes.result.now ≡ shortest_bytes c.args.number = c.without_leading_zeros-bytes.ensures ∙ (ap without_zeros c.to_be_bytes-bytes.ensures ∙ shortest-is c.args.number) in
+    subst (λ l. Writes (g.W.Write.contents c.args.self.now.writer.now) (g.W.Write.contents c.write_string.new.self.writer.now) c.write_string.result (shortest_head 6 c.args.tag ++ (shortest_head 2 (length l) ++ l))) payload
+      (Writes-after _ _ _ _ _ _ c.in_ok-push.ensures.bytes c.write_string.ensures.bytes)
+
+pub returns-clause-written : goal.returns-clause-written
+returns-clause-written g c =
+    let payload : c.without_leading_zeros-bytes.result.now ≡ shortest_bytes c.args.number = c.without_leading_zeros-bytes.ensures ∙ (ap without_zeros c.to_be_bytes-bytes.ensures ∙ shortest-is c.args.number) in
+    let small : length c.without_leading_zeros-bytes.result.now ≤ greatest_offset = search rules in
+    let written : AreBytes c.without_leading_zeros-bytes.result.now → IsWritten (bignum_item c.args.tag c.args.number) = λ h. (c.ranges.tag.fits, (refl, subst IsProperBytes payload (h, small))) in
+    on_ok_weaker _ written c.write_string.ensures.payload

@@ -1,0 +1,9 @@
+use Rattle.ciborium.proofs.WritingSteps.{Writes-after, OnOk-always}
+use Rattle.ciborium.proofs.ByteSinks.{fitting_bytes}
+use Rattle.ciborium.proofs.ser.byte_sink.ByteSink.write_string.Goals as goal
+
+pub returns-clause-bytes : goal.returns-clause-bytes
+returns-clause-bytes g c = Writes-after _ _ _ _ _ _ c.in_ok-push.ensures.bytes c.write_all.ensures.bytes
+
+pub returns-clause-payload : goal.returns-clause-payload
+returns-clause-payload g c = OnOk-always _ _ (fitting_bytes _ c.type_inv.payload)
