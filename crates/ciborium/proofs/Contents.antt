@@ -51,7 +51,7 @@ open-split : (xs : List ℕ) (x : ℕ) (b r bs good zs : List ℕ) → xs ≡ b 
 open-split xs x b r bs good zs e f g h = e ∙ ap (λ (z : List ℕ). z ++ r) f ∙ ap (λ (z : List ℕ). x ∷ z) (g ∙ ap (λ (z : List ℕ). z ++ zs) h)
 
 string-reads : (E : Type 0) (kind : StringKind) (len : Option ℕ) (l at : ℕ) (xs : List ℕ) (p : ℕ) (b r bs added zs : List ℕ) → Front xs p (header_of kind len) b r →
-    IsStringTaken {E = E} kind len at (p + length b) (Ok tt) added bs → r ≡ bs ++ zs → p + length b + length bs ≤ greatest_offset → ReadsItem l xs p (string_tree kind added) zs (p + length b + length bs)
+    IsStringTaken {E = E} kind len at bs (p + length b) (Ok tt) added → r ≡ bs ++ zs → p + length b + length bs ≤ greatest_offset → ReadsItem l xs p (string_tree kind added) zs (p + length b + length bs)
 string-reads E kind (Some n) l at xs p b r bs added zs u (inl (over, never, none, nothing)) e f = absurd cc
 string-reads E kind (Some n) l at xs p b r bs added zs u (inr (within, (size, ok, same))) e f = definite-reads kind l n xs p b r bs added zs u size ok same e f
 string-reads E of_bytes None l at xs p b r bs added zs u (payloads, good, parts, room, split, same) e f = item-read (open_byte 2 ∷ (good ++ (break_byte ∷ []))) (item.bytes true added) (payloads, good, parts, same, refl) refl (omega arith) (open-split xs (open_byte 2) b r bs good zs u.split u.spelled e split) ((let x : length b ≡ 1 = ap length u.spelled in let y : length bs ≡ length (good ++ (break_byte ∷ [])) = ap length split in omega (arith, x, y))) f
@@ -107,7 +107,7 @@ string-fault kind remaining d e l len xs p h x is read a =
 
 -- a string that was appended to an empty one
 pub string-read : (E : Type 0) {S : Type 0} (kind : StringKind) (remaining : S → Option (List ℕ)) (d e : Decoder S) (len : Option ℕ) (xs : List ℕ) (p : ℕ) (old new : List ℕ) (v : Value) → old ≡ [] → tree_of v ≡ string_tree kind new →
-    Takes remaining d e (λ b. (added : List ℕ) × (new ≡ old ++ added) × IsStringTaken {E = E} kind len d.last d.count (Ok tt) added b) → IsAt remaining d xs p →
+    Takes remaining d e (λ b. (added : List ℕ) × (new ≡ old ++ added) × IsStringTaken {E = E} kind len d.last b d.count (Ok tt) added) → IsAt remaining d xs p →
     IsStringRead {S = S} {E = E} kind remaining e len d.last xs p (Ok v)
 string-read E kind remaining d e len xs p old new v none tree (x, taken, count, (added, is, s), bytes) at =
     let k = rest-of (remaining d.reader.now) (remaining e.reader.now) xs x at.1 taken in
@@ -116,7 +116,7 @@ string-read E kind remaining d e len xs p old new v none tree (x, taken, count, 
       x,
       added,
       k.0,
-      subst (λ q. IsStringTaken {E = E} kind len d.last q (Ok tt) added x) start s,
+      subst (λ q. IsStringTaken {E = E} kind len d.last x q (Ok tt) added) start s,
       tree ∙ ap (string_tree kind) (is ∙ ap (λ (z : List ℕ). z ++ added) none),
       k.2,
       (count ∙ ap (λ q. q + length x) start, k.1),

@@ -51,10 +51,10 @@ abbrev pub answered : (E : Type 0) → Header → Result Header (LlError E)
 answered E h = Ok h
 
 pub fewer-heads : (E : Type 0) {S : Type 0} (remaining : S → Option (List ℕ)) (d e : Decoder S) (h : Header) → e.pushed ≡ None →
-    IfSome d.pushed (λ head. (answered E h ≡ answered E head.0) × (e.last ≡ head.1) × IsUnread d e) → IfNone d.pushed (Takes remaining d e (IsHeadTaken {E = E} d.count (Ok h))) → heads_left e < heads_left d
+    IfSome d.pushed (λ head. (answered E h ≡ answered E head.0) × (e.last ≡ head.1) × IsUnread d e) → IfNone d.pushed (Takes remaining d e (λ x. IsHeadTaken {E = E} x d.count (Ok h))) → heads_left e < heads_left d
 fewer-heads E remaining d e h none pushed taken = subst (λ o. heads_by (greatest_offset - e.count) o < heads_by (greatest_offset - d.count) d.pushed) (sym none) (by d.pushed pushed taken)
   where
-    by : (o : Option (Header × ℕ)) → IfSome o (λ head. (answered E h ≡ answered E head.0) × (e.last ≡ head.1) × IsUnread d e) → IfNone o (Takes remaining d e (IsHeadTaken {E = E} d.count (Ok h))) →
+    by : (o : Option (Header × ℕ)) → IfSome o (λ head. (answered E h ≡ answered E head.0) × (e.last ≡ head.1) × IsUnread d e) → IfNone o (Takes remaining d e (λ x. IsHeadTaken {E = E} x d.count (Ok h))) →
         heads_by (greatest_offset - e.count) None < heads_by (greatest_offset - d.count) o
     by None a (b, t, count, u, bytes) =
         let some = head-some b h u.answers.0 in

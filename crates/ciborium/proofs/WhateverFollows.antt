@@ -55,11 +55,11 @@ module _ {S : Type 0} (remaining : S → Option (List ℕ)) where
 
 -- a head that was pulled
 pub head-pulled : {S : Type 0} (E : Type 0) (remaining : S → Option (List ℕ)) (a b : Decoder S) (result : Result Header (LlError E)) →
-    IfSome a.pushed (λ head. (result ≡ Ok head.0) × (b.last ≡ head.1) × IsUnread a b) → IfNone a.pushed (Takes remaining a b (IsHeadTaken {E = E} a.count result)) → IfNone a.pushed (b.last ≡ a.count) →
+    IfSome a.pushed (λ head. (result ≡ Ok head.0) × (b.last ≡ head.1) × IsUnread a b) → IfNone a.pushed (Takes remaining a b (λ x. IsHeadTaken {E = E} x a.count result)) → IfNone a.pushed (b.last ≡ a.count) →
     TakesBeforeAny remaining a b (λ d e. (xs : List ℕ) (p : ℕ) → IsAhead Some d xs p → Pulls {E = E} Some e xs p result)
 head-pulled {S} E remaining a b result pushed taken last = by a.pushed pushed taken last
   where
-    by : (o : Option (Header × ℕ)) → IfSome o (λ head. (result ≡ Ok head.0) × (b.last ≡ head.1) × IsUnread a b) → IfNone o (Takes remaining a b (IsHeadTaken {E = E} a.count result)) → IfNone o (b.last ≡ a.count) →
+    by : (o : Option (Header × ℕ)) → IfSome o (λ head. (result ≡ Ok head.0) × (b.last ≡ head.1) × IsUnread a b) → IfNone o (Takes remaining a b (λ x. IsHeadTaken {E = E} x a.count result)) → IfNone o (b.last ≡ a.count) →
         Takes remaining a b (λ x. (c : List ℕ) (xs : List ℕ) (p : ℕ) → IsAheadBy Some (with_left a (x ++ c)) xs p o → Pulls {E = E} Some (with_left b c) xs p result)
     by None h (x, consumed, count, t, bytes) here =
         (x, consumed, count, λ c xs p s. pulls-head {E = E} (Some (x ++ c)) (Some c) b.last b.count xs a.count p result s here (x, refl, count, t, bytes), bytes)
@@ -81,7 +81,7 @@ StringSo {E} kind len at d e x = (xs : List ℕ) (p : ℕ) → IsAt Some d xs p 
 
 -- a string that was refused
 pub string-refused : (E : Type 0) {S : Type 0} (remaining : S → Option (List ℕ)) (a b : Decoder S) (kind : StringKind) (len : Option ℕ) (x : LlError E) (A : List ℕ → List ℕ → Type 0) →
-    Takes remaining a b (λ y. (added : List ℕ) × A added y × IsStringTaken {E = E} kind len a.last a.count (Err x) added y) → TakesBeforeAny remaining a b (λ d e. StringSo {E = E} kind len a.last d e (Err (from_ll x)))
+    Takes remaining a b (λ y. (added : List ℕ) × A added y × IsStringTaken {E = E} kind len a.last y a.count (Err x) added) → TakesBeforeAny remaining a b (λ d e. StringSo {E = E} kind len a.last d e (Err (from_ll x)))
 string-refused E remaining a b kind len x A (y, taken, count, h, bytes) = (
   y,
   taken,

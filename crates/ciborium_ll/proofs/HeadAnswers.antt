@@ -59,7 +59,7 @@ no-spare p k lt = absurd (omega arith)
 
 -- ---- the first byte
 
-pub first-refused : {E : Type 0} (p : ℕ) (buffer b : List ℕ) (e : Error E) → length buffer ≡ 1 → IsFillTaken p buffer (Err e) b → IsHeadTaken p (Err e) b
+pub first-refused : {E : Type 0} (p : ℕ) (buffer b : List ℕ) (e : Error E) → length buffer ≡ 1 → IsFillTaken b p buffer (Err e) → IsHeadTaken b p (Err e)
 first-refused p buffer [] (Io e) one h = record { answers = empty-io p (omega arith); needed = no-spare p }
 first-refused p buffer (x ∷ b) (Io e) one h = absurd (omega (arith, h.0, one))
 first-refused p buffer b (Syntax at) one h = absurd h
@@ -72,7 +72,7 @@ first-refused p buffer b Memory one h = absurd h
 -- ---- the argument
 
 pub argument-refused : {E : Type 0} (p x : ℕ) (buffer b : List ℕ) (e : Error E) → p + 1 ≤ greatest_offset → length buffer ≡ argument_length (x % 32) →
-    IsFillTaken (p + 1) buffer (Err e) b → IsHeadTaken p (Err e) (x ∷ b)
+    IsFillTaken b (p + 1) buffer (Err e) → IsHeadTaken (x ∷ b) p (Err e)
 argument-refused p x buffer b (Io e) first len h =
     let room : p + 1 + argument_length (x % 32) ≤ greatest_offset = omega (arith, h.1, len) in
     record { answers = short-io x b p (omega (arith, h.0, len)) room; needed = none-spare x b p (omega arith) (omega (arith, h.0, len)) (λ z. room) }
@@ -92,7 +92,7 @@ module _ (p x : ℕ) (b : List ℕ) (len : length b ≡ argument_length (x % 32)
   whole-spare = none-spare x b p (omega arith) (omega arith) (λ z. room)
 
   -- a head that is ill-formed
-  pub ill-formed : {E : Type 0} → IsTrue (is_ill_formed (x ∷ b)) → IsHeadTaken {E = E} p (Err (Syntax p)) (x ∷ b)
+  pub ill-formed : {E : Type 0} → IsTrue (is_ill_formed (x ∷ b)) → IsHeadTaken {E = E} (x ∷ b) p (Err (Syntax p))
   ill-formed h = record { answers = by (is_low_simple x b) refl; needed = whole-spare }
     where
       some_follows : is_low_simple x b ≡ true → 0 < argument_length (x % 32)
@@ -204,20 +204,20 @@ begins-answer x b n p (m, a, c, e, f) len room =
     ap (λ k. cond (ltb greatest_offset (p + 1 + k + n)) (Some too_long) None) (sym (len ∙ size))
 
 module _ (p x : ℕ) (b : List ℕ) (h : Header) (spelled : SpellsHeader (x ∷ b) h) (len : length b ≡ argument_length (x % 32)) (room : p + 1 + argument_length (x % 32) ≤ greatest_offset) where
-  pub usable-head : {E : Type 0} → p + 1 + length b + announced_length h ≤ greatest_offset → IsHeadTaken {E = E} p (Ok h) (x ∷ b)
+  pub usable-head : {E : Type 0} → p + 1 + length b + announced_length h ≤ greatest_offset → IsHeadTaken {E = E} (x ∷ b) p (Ok h)
   usable-head fits = record {
     answers = (spelled, begins-answer x b (announced_length h) p (header-begins (x ∷ b) h spelled) len room ∙ pass _ _ _ (le-ltb greatest_offset (p + 1 + length b + announced_length h) fits));
     needed = whole-spare p x b len room;
   }
 
-  pub long-head : {E : Type 0} → greatest_offset < p + 1 + length b + announced_length h → IsHeadTaken {E = E} p (Err TooLong) (x ∷ b)
+  pub long-head : {E : Type 0} → greatest_offset < p + 1 + length b + announced_length h → IsHeadTaken {E = E} (x ∷ b) p (Err TooLong)
   long-head over = record {
     answers = begins-answer x b (announced_length h) p (header-begins (x ∷ b) h spelled) len room ∙ hold _ _ _ (lt-ltb greatest_offset (p + 1 + length b + announced_length h) over);
     needed = whole-spare p x b len room;
   }
 
 -- the payload that a usable head announces fits behind it
-pub header-fits : {E : Type 0} (p : ℕ) (h : Header) (b : List ℕ) → IsHeadTaken {E = E} p (Ok h) b → p + length b + announced_length h ≤ greatest_offset
+pub header-fits : {E : Type 0} (p : ℕ) (h : Header) (b : List ℕ) → IsHeadTaken {E = E} b p (Ok h) → p + length b + announced_length h ≤ greatest_offset
 header-fits p h b taken = by (header-begins b h taken.answers.0) taken.answers.1
   where
     by : Begins b (announced_length h) → IsUsable b p → p + length b + announced_length h ≤ greatest_offset

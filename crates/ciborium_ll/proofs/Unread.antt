@@ -54,7 +54,7 @@ taken-whole x r b left is rest end = is ∙ ap (λ (l : List ℕ). x ++ l) (insi
     inside e = cc e
 
 -- bytes of a head that were refused, with what follows
-pub head-refuses : {E : Type 0} (x r b : List ℕ) (p : ℕ) (left : Option (List ℕ)) (e : Error E) → IsHeadTaken {E = E} p (Err e) x → b ≡ x ++ r → left ≡ Some r →
+pub head-refuses : {E : Type 0} (x r b : List ℕ) (p : ℕ) (left : Option (List ℕ)) (e : Error E) → IsHeadTaken {E = E} x p (Err e) → b ≡ x ++ r → left ≡ Some r →
     RefusedBy left e (HeadRefuses b p)
 head-refuses x r b p left (Io e) t is rest = λ end. subst (λ c. HeadRefuses c p io) (sym (taken-whole x r b left is rest end)) t.answers
 head-refuses x r b p left (Syntax at) t is rest = subst (λ c. HeadRefuses c p (syntax at)) (sym is) (refused-more x r p (syntax at) (λ k. cc) t.answers)
@@ -62,7 +62,7 @@ head-refuses x r b p left TooLong t is rest = subst (λ c. HeadRefuses c p too_l
 head-refuses x r b p left Memory t is rest = tt
 
 pub reads-head : {E : Type 0} (old new : Option (List ℕ)) (b : List ℕ) (p q : ℕ) (result : Result Header (Error E)) → old ≡ Some b →
-    Advances old new p q (IsHeadTaken {E = E} p result) → ReadsHead {E = E} new b p q result
+    Advances old new p q (λ x. IsHeadTaken {E = E} x p result) → ReadsHead {E = E} new b p q result
 reads-head {E} old new b p q (Ok h) e (x, taken, count, t, bytes) =
     let k = rest-of old new b x e taken in
     (x, k.0, t.answers.0, subst (λ c. IsUsable c p) (sym k.2) (usable-more x k.0 p t.answers.1), k.2, count, k.1)
@@ -71,7 +71,7 @@ reads-head {E} old new b p q (Err f) e (x, taken, count, t, bytes) =
 
 -- the same, of a decoder that reads at offset q
 pub pulls-head : {E : Type 0} (old new : Option (List ℕ)) (last count : ℕ) (b : List ℕ) (q p : ℕ) (result : Result Header (Error E)) → (q ≡ p) × (old ≡ Some b) → last ≡ q →
-    Advances old new q count (IsHeadTaken {E = E} q result) → PullsTo {E = E} last count new b p result
+    Advances old new q count (λ x. IsHeadTaken {E = E} x q result) → PullsTo {E = E} last count new b p result
 pulls-head {E} old new last count b q p (Ok h) (at, known) here taken =
     let r = reads-head {E = E} old new b q count (Ok h) known taken in
     (r.0, r.1, r.2, subst (IsUsable b) at r.3, r.4, here ∙ at, r.5 ∙ ap (λ k. k + length r.0) at, r.6)
@@ -81,7 +81,7 @@ pulls-head {E} old new last count b q p (Err e) (at, known) here taken =
 -- ---- strings
 
 -- where a payload was refused, what was left refuses so
-pub payload-refuses : {E : Type 0} (kind : StringKind) (n p : ℕ) (left : Option (List ℕ)) (e : Error E) (added x r b : List ℕ) → IsPayloadTaken {E = E} kind n p (Err e) added x →
+pub payload-refuses : {E : Type 0} (kind : StringKind) (n p : ℕ) (left : Option (List ℕ)) (e : Error E) (added x r b : List ℕ) → IsPayloadTaken {E = E} kind n p x (Err e) added →
     b ≡ x ++ r → left ≡ Some r → RefusedBy left e (PayloadRefuses kind n p b)
 payload-refuses kind n p left (Io e) added x r b t is rest =
     λ end. PayloadRefuses.ends_early (subst (λ (c : List ℕ). length c < n) (sym (taken-whole x r b left is rest end)) t.0)
@@ -110,7 +110,7 @@ break-begun : (x r b : List ℕ) (h : Header) → SpellsHeader x h → b ≡ x +
 break-begun x r b h s is (q, whole) = (one_header_at_front x (break_byte ∷ []) r q h header.Break s refl (sym is ∙ whole)).2
 
 -- where a part was refused, what was left refuses so
-pub part-refuses : {E : Type 0} (kind : StringKind) (p : ℕ) (left : Option (List ℕ)) (e : Error E) (x r b : List ℕ) → IsPartTaken {E = E} kind p e x → b ≡ x ++ r →
+pub part-refuses : {E : Type 0} (kind : StringKind) (p : ℕ) (left : Option (List ℕ)) (e : Error E) (x r b : List ℕ) → IsPartTaken {E = E} kind x p e → b ≡ x ++ r →
     left ≡ Some r → RefusedBy left e (PartRefuses kind b p)
 part-refuses {E} kind p left e x r b (inl t) is rest =
     refused-map left e (HeadRefuses b p) (PartRefuses kind b p) (λ f h. PartRefuses.no_head h) (head-refuses {E = E} x r b p left e t is rest)
@@ -123,7 +123,7 @@ part-refuses {E} kind p left e x r b (inr (inr (n, s, y, split, t, payload))) is
     (λ f h. PartRefuses.part (subst (λ c. IsUsable c p) (sym whole) (usable-more s (y ++ r) p t.answers.1)) (n, length s, y ++ r, string-stands kind n s (y ++ r) b t.answers.0 whole, h))
     (payload-refuses {E = E} kind n p left e [] y r (y ++ r) payload refl rest)
 
-pub parts-refuse : {E : Type 0} (kind : StringKind) (q : ℕ) (left : Option (List ℕ)) (e : Error E) (added x r b : List ℕ) → IsPartsTaken {E = E} kind q (Err e) added x → b ≡ x ++ r →
+pub parts-refuse : {E : Type 0} (kind : StringKind) (q : ℕ) (left : Option (List ℕ)) (e : Error E) (added x r b : List ℕ) → IsPartsTaken {E = E} kind x q (Err e) added → b ≡ x ++ r →
     left ≡ Some r → RefusedBy left e (PartsRefuse kind b q)
 parts-refuse {E} kind q left e added x r b (ps, s, parts, fits, (y, split, part), same) is rest =
     refused-map left e (PartRefuses kind (y ++ r) (q + length s)) (PartsRefuse kind b q)
@@ -131,7 +131,7 @@ parts-refuse {E} kind q left e added x r b (ps, s, parts, fits, (y, split, part)
     (part-refuses {E = E} kind (q + length s) left e y r (y ++ r) part refl rest)
 
 pub string-refuses : {E : Type 0} (kind : StringKind) (len : Option ℕ) (p q : ℕ) (left : Option (List ℕ)) (e : Error E) (added x r b : List ℕ) →
-    IsStringTaken {E = E} kind len p q (Err e) added x → b ≡ x ++ r → left ≡ Some r → RefusedBy left e (ContentRefuses kind len p b q)
+    IsStringTaken {E = E} kind len p x q (Err e) added → b ≡ x ++ r → left ≡ Some r → RefusedBy left e (ContentRefuses kind len p b q)
 string-refuses {E} kind (Some n) p q left (Io e) added x r b (inl (over, is, none, nothing)) split rest = absurd cc
 string-refuses {E} kind (Some n) p q left (Syntax at) added x r b (inl (over, is, none, nothing)) split rest = absurd cc
 string-refuses {E} kind (Some n) p q left TooLong added x r b (inl (over, is, none, nothing)) split rest = inl (over, refl)
@@ -142,12 +142,12 @@ string-refuses {E} kind None p q left e added x r b t split rest = parts-refuse 
 
 -- the same, where the bytes were known
 pub reads-string : {E : Type 0} (kind : StringKind) (len : Option ℕ) (p q t : ℕ) (old new : Option (List ℕ)) (e : Error E) (b : List ℕ) (A : List ℕ → List ℕ → Type 0) →
-    Advances old new q t (λ x. (added : List ℕ) × A added x × IsStringTaken {E = E} kind len p q (Err e) added x) → old ≡ Some b → RefusedBy new e (ContentRefuses kind len p b q)
+    Advances old new q t (λ x. (added : List ℕ) × A added x × IsStringTaken {E = E} kind len p x q (Err e) added) → old ≡ Some b → RefusedBy new e (ContentRefuses kind len p b q)
 reads-string {E} kind len p q t old new e b A (x, taken, count, (added, h, s), bytes) is =
     let k = rest-of old new b x is taken in string-refuses {E = E} kind len p q new e added x k.0 b s k.2 k.1
 
 pub refused-string : {E : Type 0} (kind : StringKind) (len : Option ℕ) (p q t : ℕ) (old new : Option (List ℕ)) (result : Result (Unit {0}) (Error E)) (b : List ℕ) (A : List ℕ → List ℕ → Type 0) →
-    Advances old new q t (λ x. (added : List ℕ) × A added x × IsStringTaken {E = E} kind len p q result added x) → old ≡ Some b → IfErr result (λ e. RefusedBy new e (ContentRefuses kind len p b q))
+    Advances old new q t (λ x. (added : List ℕ) × A added x × IsStringTaken {E = E} kind len p x q result added) → old ≡ Some b → IfErr result (λ e. RefusedBy new e (ContentRefuses kind len p b q))
 refused-string {E} kind len p q t old new (Ok u) b A h is = tt
 refused-string {E} kind len p q t old new (Err e) b A h is = reads-string {E = E} kind len p q t old new e b A h is
 
@@ -160,14 +160,14 @@ joined-utf8 (p ∷ ps) s (t, r, (y, head, ok, is), rest, e) = IsUtf8-append p (j
 utf8-none : (added : List ℕ) → added ≡ [] → IsUtf8 added
 utf8-none added e = subst IsUtf8 (sym e) IsUtf8-nil
 
-payload-utf8 : {E : Type 0} (n p : ℕ) (result : Result (Unit {0}) (Error E)) (added x : List ℕ) → IsPayloadTaken {E = E} of_text n p result added x → IsUtf8 added
+payload-utf8 : {E : Type 0} (n p : ℕ) (result : Result (Unit {0}) (Error E)) (added x : List ℕ) → IsPayloadTaken {E = E} of_text n p x result added → IsUtf8 added
 payload-utf8 n p (Ok u) added x h = subst IsUtf8 (sym h.2) h.1
 payload-utf8 n p (Err (Io e)) added x h = utf8-none added h.1
 payload-utf8 n p (Err (Syntax at)) added x h = utf8-none added h.3
 payload-utf8 n p (Err TooLong) added x h = absurd h
 payload-utf8 n p (Err Memory) added x h = utf8-none added h.1
 
-pub appended-utf8 : {E : Type 0} (len : Option ℕ) (p q : ℕ) (result : Result (Unit {0}) (Error E)) (added x : List ℕ) → IsStringTaken {E = E} of_text len p q result added x → IsUtf8 added
+pub appended-utf8 : {E : Type 0} (len : Option ℕ) (p q : ℕ) (result : Result (Unit {0}) (Error E)) (added x : List ℕ) → IsStringTaken {E = E} of_text len p x q result added → IsUtf8 added
 appended-utf8 (Some n) p q result added x (inl h) = utf8-none added h.2
 appended-utf8 {E} (Some n) p q result added x (inr h) = payload-utf8 {E = E} n p result added x h.1
 appended-utf8 None p q (Ok u) added x (ps, s, parts, fits, split, same) = subst IsUtf8 (sym same) (joined-utf8 ps s parts)
@@ -175,18 +175,18 @@ appended-utf8 None p q (Err e) added x (ps, s, parts, fits, last, same) = subst 
 
 -- a text with what was appended
 pub grown-utf8 : {E : Type 0} (len : Option ℕ) (p q t : ℕ) (a b : Option (List ℕ)) (result : Result (Unit {0}) (Error E)) (old new : List ℕ) → IsUtf8 old →
-    Advances a b q t (λ x. (added : List ℕ) × (new ≡ old ++ added) × IsStringTaken {E = E} of_text len p q result added x) → IsUtf8 new
+    Advances a b q t (λ x. (added : List ℕ) × (new ≡ old ++ added) × IsStringTaken {E = E} of_text len p x q result added) → IsUtf8 new
 grown-utf8 {E} len p q t a b result old new ok (x, taken, count, (added, is, s), bytes) = subst IsUtf8 (sym is) (IsUtf8-append old added ok (appended-utf8 {E = E} len p q result added x s))
 
 -- ---- a decoder that was just made
 
 -- what the first pull of it takes
 pub first-taken : {S E : Type 0} (remaining : S → Option (List ℕ)) (d new : Decoder S) (lent : S) (p : ℕ) (result : Result Header (Error E)) → Begins d lent p →
-    IfNone d.pushed (Advances (remaining d.reader.now) (remaining new.reader.now) d.count new.count (IsHeadTaken {E = E} d.count result)) →
-    (b : List ℕ) × Consumes (remaining lent) (remaining new.reader.now) b × IsHeadTaken {E = E} p result b
+    IfNone d.pushed (Advances (remaining d.reader.now) (remaining new.reader.now) d.count new.count (λ x. IsHeadTaken {E = E} x d.count result)) →
+    (b : List ℕ) × Consumes (remaining lent) (remaining new.reader.now) b × IsHeadTaken {E = E} b p result
 first-taken {S} {E} remaining d new lent p result begins taken =
-    let t : Advances (remaining d.reader.now) (remaining new.reader.now) d.count new.count (IsHeadTaken {E = E} d.count result) = without d.pushed begins.pushed taken in
-    (t.0, subst (λ r. Consumes (remaining r) (remaining new.reader.now) t.0) begins.reader t.1, subst (λ k. IsHeadTaken {E = E} k result t.0) begins.count t.3)
+    let t : Advances (remaining d.reader.now) (remaining new.reader.now) d.count new.count (λ x. IsHeadTaken {E = E} x d.count result) = without d.pushed begins.pushed taken in
+    (t.0, subst (λ r. Consumes (remaining r) (remaining new.reader.now) t.0) begins.reader t.1, subst (λ k. IsHeadTaken {E = E} t.0 k result) begins.count t.3)
   where
     without : {A : Type 0} (o : Option A) → o ≡ None → {P : Type 0} → IfNone o P → P
     without None e h = h

@@ -93,7 +93,7 @@ impl<'a, R: Read> Decoder<'a, R> {
 
         // Otherwise just the bytes that decide the answer are taken.
         ensures taken { IfNone (pushed_of self.old)
-            (Takes R.remaining self.old self.new (IsHeadTaken (count_of self.old) result)) }
+            (Takes R.remaining self.old self.new (λ b. IsHeadTaken b (count_of self.old) result)) }
         ensures last { IfNone (pushed_of self.old) (last_of self.new ≡ count_of self.old) }
 
         // The same, said of all that is unread.
@@ -120,7 +120,7 @@ impl<'a, R: Read> Decoder<'a, R> {
         ensures none_pushed { pushed_of self.new ≡ None }
         ensures last { last_of self.new ≡ last_of self.old }
         ensures taken { Takes R.remaining self.old self.new
-            (IsFillTaken (count_of self.old) buffer.new result) }
+            (λ b. IsFillTaken b (count_of self.old) buffer.new result) }
     {
         fill(self.reader, buffer, &mut self.count)
     }
@@ -146,8 +146,8 @@ impl<'a, R: Read> Decoder<'a, R> {
         ensures none_pushed { pushed_of self.new ≡ None }
         ensures last { last_of self.new ≡ last_of self.old }
         ensures taken { Takes R.remaining self.old self.new
-            (Grows out.old.items out.new.items
-            (IsStringTaken of_bytes len (last_of self.old) (count_of self.old) result)) }
+            (λ b. Grows out.old.items out.new.items
+            (IsStringTaken of_bytes len (last_of self.old) b (count_of self.old) result)) }
         ensures refused { (b : List ℕ) → left_of R.remaining self.old ≡ Some b →
             IfErr result (λ e. RefusedBy (left_of R.remaining self.new) e
             (ContentRefuses of_bytes len (last_of self.old) b (count_of self.old))) }
@@ -183,8 +183,8 @@ impl<'a, R: Read> Decoder<'a, R> {
         ensures none_pushed { pushed_of self.new ≡ None }
         ensures last { last_of self.new ≡ last_of self.old }
         ensures taken { Takes R.remaining self.old self.new
-            (Grows (string_bytes out.old) (string_bytes out.new)
-            (IsStringTaken of_text len (last_of self.old) (count_of self.old) result)) }
+            (λ b. Grows (string_bytes out.old) (string_bytes out.new)
+            (IsStringTaken of_text len (last_of self.old) b (count_of self.old) result)) }
         ensures refused { (b : List ℕ) → left_of R.remaining self.old ≡ Some b →
             IfErr result (λ e. RefusedBy (left_of R.remaining self.new) e
             (ContentRefuses of_text len (last_of self.old) b (count_of self.old))) }
