@@ -9,21 +9,21 @@ use Rattle.ciborium_ll.specs.Decoding.{IsUnread, Takes}
 use Rattle.ciborium_ll.specs.Header.{SpellsHeader, announced_length}
 use Rattle.ciborium_ll.specs.Reading as reading
 use Rattle.ciborium_ll.specs.Reading.{IsHeadTaken}
-use Rattle.ciborium_ll.specs.Refusal.{Refusal, HeadRefuses, IsUsable, BeginsWith, argument_length}
+use Rattle.ciborium_ll.specs.Refusal.{Refusal, HeadRefuses, IsUsable, IsAtFront, argument_length}
 use Rattle.ciborium_ll.proofs.HeadAnswers.{header-fits, header-begins}
 use Rattle.ciborium.specs.declared.de.error.Error.{Error}
 use Rattle.ciborium.specs.declared.de.error.Error.TheVariants as errors
-use Rattle.ciborium.specs.Errors.{from_ll, RefusedBy, IsNamed, kind_of}
+use Rattle.ciborium.specs.Errors.{from_ll, IsRefusedBy, IsNamed, kind_of}
 use Rattle.ciborium.specs.Reads.{IsPulled, heads_by, heads_left}
 
 -- the error that an error of the lowest layer becomes refuses as it does
-pub refused-from : {E : Type 0} (left : Option (List ℕ)) (e : LlError E) (P : Refusal → Type 0) → reading.RefusedBy left e P → RefusedBy left (from_ll e) P
+pub refused-from : {E : Type 0} (left : Option (List ℕ)) (e : LlError E) (P : Refusal → Type 0) → reading.IsRefusedBy left e P → IsRefusedBy left (from_ll e) P
 refused-from left (ll.Io e) P h = h
 refused-from left (ll.Syntax p) P h = h
 refused-from left ll.TooLong P h = h
 refused-from left ll.Memory P h = tt
 
-pub refused-map : {E : Type 0} (left : Option (List ℕ)) (e : Error E) (P Q : Refusal → Type 0) → ((r : Refusal) → P r → Q r) → RefusedBy left e P → RefusedBy left e Q
+pub refused-map : {E : Type 0} (left : Option (List ℕ)) (e : Error E) (P Q : Refusal → Type 0) → ((r : Refusal) → P r → Q r) → IsRefusedBy left e P → IsRefusedBy left e Q
 refused-map left (errors.Io x) P Q f a = λ end. f _ (a end)
 refused-map left (errors.Syntax p) P Q f a = f _ a
 refused-map left (errors.Semantic p k) P Q f a = named p (kind_of k) a

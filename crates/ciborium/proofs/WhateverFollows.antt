@@ -6,7 +6,7 @@ use Rattle.std.proofs.lemmas.List.Elements.{All-append}
 use Rattle.ciborium_ll.specs.declared.header.Header.{Header}
 use Rattle.ciborium_ll.specs.declared.header.Error.{Error as LlError}
 use Rattle.ciborium_ll.specs.declared.decoder.Decoder.{Decoder}
-use Rattle.ciborium_ll.specs.Decoding.{Begins, IsAhead, IsAheadBy, IsUnread, Pulls, PullsTo, Takes, TakesBeforeAny, with_left}
+use Rattle.ciborium_ll.specs.Decoding.{HasBegun, IsAhead, IsAheadBy, IsUnread, Pulls, PullsTo, Takes, TakesBeforeAny, with_left}
 use Rattle.ciborium_ll.specs.Bytes.{AreBytes}
 use Rattle.ciborium_ll.specs.Reading as reading
 use Rattle.ciborium_ll.specs.Reading.{IsHeadTaken}
@@ -87,7 +87,7 @@ string-refused E remaining a b kind len x A (y, taken, count, h, bytes) = (
   taken,
   count,
   λ c xs p s. refused-from (Some c) x (λ f. ContentRefuses kind len a.last xs p f)
-      (subst (λ q. reading.RefusedBy (Some c) x (λ f. ContentRefuses kind len a.last xs q f)) s.0 (reads-string {E = E} kind len a.last a.count b.count (Some (y ++ c)) (Some c) x xs A (y, refl, count, h, bytes) s.1)),
+      (subst (λ q. reading.IsRefusedBy (Some c) x (λ f. ContentRefuses kind len a.last xs q f)) s.0 (reads-string {E = E} kind len a.last a.count b.count (Some (y ++ c)) (Some c) x xs A (y, refl, count, h, bytes) s.1)),
   bytes,
 )
 
@@ -97,7 +97,7 @@ string-refused E remaining a b kind len x A (y, taken, count, h, bytes) = (
 abbrev pub ValueSo : {E : Type 0} → ℕ → Decoder (List ℕ) → Decoder (List ℕ) → Result Value (Error E) → Type 0
 ValueSo {E} l d e x = (xs : List ℕ) (p : ℕ) → IsAhead Some d xs p → IsValueRead {S = List ℕ} {E = E} Some e l xs p x
 
-pub taken-as : (E : Type 0) {S : Type 0} (remaining : S → Option (List ℕ)) (a b : Decoder S) (lent : S) (l : ℕ) (x : Result Value (Error E)) → Begins a lent 0 → OnOk x (b.pushed ≡ None) →
+pub taken-as : (E : Type 0) {S : Type 0} (remaining : S → Option (List ℕ)) (a b : Decoder S) (lent : S) (l : ℕ) (x : Result Value (Error E)) → HasBegun a lent 0 → OnOk x (b.pushed ≡ None) →
     TakesBeforeAny remaining a b (λ d e. ValueSo {E = E} l d e x) → TakesBytes {E = E} (remaining lent) l (remaining b.reader.now) x
 taken-as E {S} remaining a b lent l x begins rests (s, taken, count, h, bytes) =
     let zero : a.count ≡ 0 = begins.count in

@@ -3,7 +3,7 @@
 ghost use Rattle.std.specs.Prelude.{◌≡◌, ◌<◌, ◌++◌, IfErr, IsSome, OnErr, OnOk};
 ghost use Rattle.ciborium_ll.specs.Bytes.{AreBytes};
 ghost use Rattle.ciborium_ll.specs.Header.{IsWritable, header_bytes};
-ghost use Rattle.ciborium_ll.specs.Writing.{Puts, SameWriter, Writes};
+ghost use Rattle.ciborium_ll.specs.Writing.{HasSameWriter, Puts, Writes};
 ghost use Rattle.ciborium_value.specs.Encoding.{encoding};
 ghost use Rattle.ciborium_ll.specs.Integer.{IsInRange};
 ghost use Rattle.ciborium_value.specs.Proper.{IsProperTree, AreProperTrees, AreProperTreePairs};
@@ -71,7 +71,7 @@ fn push<W: Write>(
     failure: &mut Option<io::Error>,
 ) -> Result<(), Failed>
     requires { IsWritable header }
-    ensures same_writer { SameWriter encoder.old encoder.new }
+    ensures same_writer { HasSameWriter encoder.old encoder.new }
     ensures bytes { Puts W.contents encoder.old encoder.new result (header_bytes header) }
     ensures kept { OnErr result (IsSome failure.new) }
 {
@@ -91,7 +91,7 @@ fn write_all<W: Write>(
     bytes: &[u8],
     failure: &mut Option<io::Error>,
 ) -> Result<(), Failed>
-    ensures same_writer { SameWriter encoder.old encoder.new }
+    ensures same_writer { HasSameWriter encoder.old encoder.new }
     ensures bytes { Puts W.contents encoder.old encoder.new result bytes.now }
     ensures kept { OnErr result (IsSome failure.new) }
 {
@@ -112,7 +112,7 @@ fn write_value<W: Write>(
     value: &Value,
     failure: &mut Option<io::Error>,
 ) -> Result<(), Failed>
-    ensures same_writer { SameWriter encoder.old encoder.new }
+    ensures same_writer { HasSameWriter encoder.old encoder.new }
     ensures bytes { Puts W.contents encoder.old encoder.new result (encoding (tree_of value.now)) }
     ensures kept { OnErr result (IsSome failure.new) }
     ensures proper { OnOk result (IsProperTree (tree_of value.now)) }
@@ -158,7 +158,7 @@ fn write_items<W: Write>(
     items: &Vec<Value>,
     failure: &mut Option<io::Error>,
 ) -> Result<(), Failed>
-    ensures same_writer { SameWriter encoder.old encoder.new }
+    ensures same_writer { HasSameWriter encoder.old encoder.new }
     ensures bytes { Puts W.contents encoder.old encoder.new result (encodings items.now.items) }
     ensures kept { OnErr result (IsSome failure.new) }
     ensures proper { OnOk result (AreProperTrees (trees_of items.now.items)) }
@@ -176,7 +176,7 @@ fn write_pairs<W: Write>(
     pairs: &Vec<(Value, Value)>,
     failure: &mut Option<io::Error>,
 ) -> Result<(), Failed>
-    ensures same_writer { SameWriter encoder.old encoder.new }
+    ensures same_writer { HasSameWriter encoder.old encoder.new }
     ensures bytes { Puts W.contents encoder.old encoder.new result
         (pair_encodings pairs.now.items) }
     ensures kept { OnErr result (IsSome failure.new) }
@@ -198,7 +198,7 @@ fn write_string<W: Write>(
     failure: &mut Option<io::Error>,
 ) -> Result<(), Failed>
     requires { IsWritable header }
-    ensures same_writer { SameWriter encoder.old encoder.new }
+    ensures same_writer { HasSameWriter encoder.old encoder.new }
     ensures bytes { Puts W.contents encoder.old encoder.new result
         (header_bytes header ++ payload.now) }
     ensures kept { OnErr result (IsSome failure.new) }

@@ -7,7 +7,7 @@ use Rattle.ciborium_ll.specs.declared.header.Header.TheVariants.{Positive, Negat
 use Rattle.ciborium_ll.specs.declared.header.Error.{Error}
 use Rattle.ciborium_ll.specs.declared.header.Error.TheVariants.{Io, Syntax, TooLong, Memory}
 use Rattle.ciborium_ll.specs.Bytes.{greatest_offset}
-use Rattle.ciborium_ll.specs.Head.{Width, capacity, information, argument_bytes, initial_byte, Head}
+use Rattle.ciborium_ll.specs.Head.{Width, capacity, information, argument_bytes, initial_byte, IsHead}
 use Rattle.ciborium_ll.specs.Header.{SpellsHeader, announced_length}
 use Rattle.ciborium_ll.specs.Reading.{IsFillTaken, IsHeadTaken, NoneIsSpare}
 use Rattle.ciborium_ll.specs.Refusal.{Refusal, io, syntax, too_long, argument_length, is_reserved, is_low_simple, is_ill_formed, payload_length, initial_refusal, head_refusal, HeadRefuses, IsUsable}
@@ -130,7 +130,7 @@ Begins b announced = (m : ℕ) × (a : ℕ) × (c : List ℕ) × (b ≡ initial_
 argument-whole : (w : Width) (n : ℕ) → n < capacity w → Rattle.ciborium_ll.specs.Refusal.argument (information w n) (argument_bytes w n) ≡ n
 argument-whole w n h = ap (Rattle.ciborium_ll.specs.Refusal.argument (information w n)) (sym (append-nil (argument_bytes w n))) ∙ argument-information w n [] h
 
-plain-begins : (b : List ℕ) (m n : ℕ) → m < 7 → ((a : ℕ) (c : List ℕ) → payload_length m a c ≡ 0) → Head b m n → Begins b 0
+plain-begins : (b : List ℕ) (m n : ℕ) → m < 7 → ((a : ℕ) (c : List ℕ) → payload_length m a c ≡ 0) → IsHead b m n → Begins b 0
 plain-begins b m n lt none (w, h, e) =
     let i = information-below w n h in (
       m,
@@ -140,7 +140,7 @@ plain-begins b m n lt none (w, h, e) =
       record { below = omega arith; fair = unreserved m (information w n) i; high = not_low (initial_byte m (information w n)) (argument_bytes w n) (omega arith); payload = none (information w n) (argument_bytes w n); size = sym (argument_length-information w n h) },
     )
 
-string-begins : (b : List ℕ) (m n : ℕ) → (m ≡ 2) ⊎ (m ≡ 3) → Head b m n → Begins b n
+string-begins : (b : List ℕ) (m n : ℕ) → (m ≡ 2) ⊎ (m ≡ 3) → IsHead b m n → Begins b n
 string-begins b m n kind (w, h, e) =
     let i = information-below w n h in
     let lt : m < 7 = less kind in (

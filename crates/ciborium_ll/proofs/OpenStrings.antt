@@ -6,11 +6,11 @@ use Rattle.ciborium_ll.specs.declared.header.Error.{Error}
 use Rattle.ciborium_ll.specs.declared.header.Error.TheVariants.{Io, Syntax, TooLong, Memory}
 use Rattle.ciborium_ll.specs.declared.strings.Part.TheVariants.{Other}
 use Rattle.ciborium_ll.specs.Bytes.{greatest_offset}
-use Rattle.ciborium_ll.specs.Head.{Head, break_byte}
+use Rattle.ciborium_ll.specs.Head.{IsHead, break_byte}
 use Rattle.ciborium_ll.specs.Header.{SpellsHeader, announced_length}
 use Rattle.ciborium_ll.specs.Reading.{Advances, IsHeadTaken}
 use Rattle.ciborium_ll.specs.Spells.{IsDefiniteString, AreParts, joined}
-use Rattle.ciborium_ll.specs.StringRefusal.{StringKind, of_bytes, of_text, major_of, Allowed}
+use Rattle.ciborium_ll.specs.StringRefusal.{StringKind, of_bytes, of_text, major_of, IsAllowed}
 use Rattle.ciborium_ll.specs.Strings.{string_header, IsPart, IsPayloadTaken, IsPartTaken, IsPartsTaken}
 use Rattle.ciborium_ll.proofs.Advancing.{Advances-then}
 use Rattle.ciborium_ll.proofs.UsableHeads.{usable-fits}
@@ -33,21 +33,21 @@ joined-more (q ∷ ps) p = ap (λ (c : List ℕ). q ++ c) (joined-more ps p) ∙
 -- good parts were taken between the offsets p and q, and their payloads appended
 abbrev pub GoodParts : StringKind → Option (List ℕ) → Option (List ℕ) → ℕ → ℕ → List ℕ → List ℕ → Type 0
 GoodParts kind a b p q old new =
-    (payloads : List (List ℕ)) × (s : List ℕ) × AreParts (major_of kind) (Allowed kind) s payloads × (new ≡ old ++ joined payloads) ×
+    (payloads : List (List ℕ)) × (s : List ℕ) × AreParts (major_of kind) (IsAllowed kind) s payloads × (new ≡ old ++ joined payloads) ×
     Advances a b p q (λ x. x ≡ s) × (q ≤ greatest_offset)
 
-string-head : (kind : StringKind) (h : List ℕ) (n : ℕ) → SpellsHeader h (string_header kind n) → Head h (major_of kind) n
+string-head : (kind : StringKind) (h : List ℕ) (n : ℕ) → SpellsHeader h (string_header kind n) → IsHead h (major_of kind) n
 string-head of_bytes h n s = s
 string-head of_text h n s = s
 
 -- a payload of n bytes was taken and appended
 abbrev pub WholePayload : StringKind → ℕ → List ℕ → List ℕ → Type 0
-WholePayload kind n b added = (length b ≡ n) × Allowed kind b × (added ≡ b)
+WholePayload kind n b added = (length b ≡ n) × IsAllowed kind b × (added ≡ b)
 
 -- all parts were taken and appended, from offset p on
 abbrev pub WholeParts : StringKind → List ℕ → ℕ → List ℕ → Type 0
 WholeParts kind b p added =
-    (payloads : List (List ℕ)) × (s : List ℕ) × AreParts (major_of kind) (Allowed kind) s payloads × (p + length b ≤ greatest_offset) ×
+    (payloads : List (List ℕ)) × (s : List ℕ) × AreParts (major_of kind) (IsAllowed kind) s payloads × (p + length b ≤ greatest_offset) ×
     (b ≡ s ++ break_byte ∷ []) × (added ≡ joined payloads)
 
 -- a part was taken
@@ -58,13 +58,13 @@ parts-more {E} kind a b c d p q r t n old mid new h is (ps, s, parts, was, taken
     let body : List ℕ = payload.0 in
     let added : List ℕ = payload.3.0 in
     let same : added ≡ body = payload.3.2.2 in
-    let spelled : Head head.0 (major_of kind) (length body) = subst (Head head.0 (major_of kind)) (sym payload.3.2.0) (string-head kind head.0 n (subst (SpellsHeader head.0) is head.3.answers.0)) in
+    let spelled : IsHead head.0 (major_of kind) (length body) = subst (IsHead head.0 (major_of kind)) (sym payload.3.2.0) (string-head kind head.0 n (subst (SpellsHeader head.0) is head.3.answers.0)) in
     let whole : Advances b d q t (λ x. x ≡ head.0 ++ body) =
     Advances-then b c d q r t (λ x. x ≡ head.0) (λ x. x ≡ body) (λ x. x ≡ head.0 ++ body)
     (λ x y e f. ap (λ (l : List ℕ). l ++ y) e ∙ ap (λ (l : List ℕ). head.0 ++ l) f) (head.0, head.1, head.2, refl, head.4) (body, payload.1, payload.2, refl, payload.4) in (
       ps ++ body ∷ [],
       s ++ (head.0 ++ body),
-      AreParts-more (major_of kind) (Allowed kind) ps s (head.0 ++ body) body parts (head.0, spelled, payload.3.2.1, refl),
+      AreParts-more (major_of kind) (IsAllowed kind) ps s (head.0 ++ body) body parts (head.0, spelled, payload.3.2.1, refl),
       payload.3.1 ∙ ap (λ (l : List ℕ). l ++ added) was ∙ append_assoc old (joined ps) added ∙ ap (λ (l : List ℕ). old ++ (joined ps ++ l)) same ∙ ap (λ (l : List ℕ). old ++ l) (sym (joined-more ps body)),
       Advances-then a b d p q t (λ x. x ≡ s) (λ x. x ≡ head.0 ++ body) (λ x. x ≡ s ++ (head.0 ++ body)) (λ x y e f. ap (λ (l : List ℕ). l ++ y) e ∙ ap (λ (l : List ℕ). s ++ l) f) taken whole,
       fits,

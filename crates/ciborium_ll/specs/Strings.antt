@@ -12,7 +12,7 @@ use Rattle.ciborium_ll.specs.Bytes.{greatest_offset}
 use Rattle.ciborium_ll.specs.Head.{break_byte}
 use Rattle.ciborium_ll.specs.Reading.{IsHeadTaken}
 use Rattle.ciborium_ll.specs.Spells.{AreParts, joined}
-use Rattle.ciborium_ll.specs.StringRefusal.{StringKind, of_bytes, of_text, major_of, Allowed}
+use Rattle.ciborium_ll.specs.StringRefusal.{StringKind, of_bytes, of_text, major_of, IsAllowed}
 
 -- the kind that the code names
 abbrev pub kind_of : Kind → StringKind
@@ -49,9 +49,9 @@ IsPiecesTaken n b (Err Memory) old new = (length b ≤ n) × Extends old new
 -- b is taken where the payload, of n bytes, of a definite string is appended whose head is at offset p: all of it is added, or
 -- nothing
 abbrev pub IsPayloadTaken : {E : Type 0} → StringKind → ℕ → ℕ → List ℕ → Result (Unit {0}) (Error E) → List ℕ → Type 0
-IsPayloadTaken kind n p b (Ok u) added = (length b ≡ n) × Allowed kind b × (added ≡ b)
+IsPayloadTaken kind n p b (Ok u) added = (length b ≡ n) × IsAllowed kind b × (added ≡ b)
 IsPayloadTaken kind n p b (Err (Io e)) added = (length b < n) × (added ≡ [])
-IsPayloadTaken kind n p b (Err (Syntax at)) added = (at ≡ p) × (length b ≡ n) × ¬ Allowed kind b × (added ≡ [])
+IsPayloadTaken kind n p b (Err (Syntax at)) added = (at ≡ p) × (length b ≡ n) × ¬ IsAllowed kind b × (added ≡ [])
 IsPayloadTaken kind n p b (Err TooLong) added = ⊥
 IsPayloadTaken kind n p b (Err Memory) added = (length b ≤ n) × (added ≡ [])
 
@@ -65,10 +65,10 @@ IsPartTaken {E} kind b p e =
 -- b is taken at offset p, where the parts of an open string are appended: good parts, and then the break, or a part that is refused
 abbrev pub IsPartsTaken : {E : Type 0} → StringKind → List ℕ → ℕ → Result (Unit {0}) (Error E) → List ℕ → Type 0
 IsPartsTaken kind b p (Ok u) added =
-    (payloads : List (List ℕ)) × (s : List ℕ) × AreParts (major_of kind) (Allowed kind) s payloads × (p + length b ≤ greatest_offset) ×
+    (payloads : List (List ℕ)) × (s : List ℕ) × AreParts (major_of kind) (IsAllowed kind) s payloads × (p + length b ≤ greatest_offset) ×
     (b ≡ s ++ break_byte ∷ []) × (added ≡ joined payloads)
 IsPartsTaken kind b p (Err e) added =
-    (payloads : List (List ℕ)) × (s : List ℕ) × AreParts (major_of kind) (Allowed kind) s payloads × (p + length s ≤ greatest_offset) ×
+    (payloads : List (List ℕ)) × (s : List ℕ) × AreParts (major_of kind) (IsAllowed kind) s payloads × (p + length s ≤ greatest_offset) ×
     ((r : List ℕ) × (b ≡ s ++ r) × IsPartTaken kind r (p + length s) e) × (added ≡ joined payloads)
 
 -- b is taken at offset q, where the payload of a string of this length (None: open) is appended, whose head is at offset p

@@ -2,7 +2,7 @@
 
 ghost use Rattle.std.specs.Prelude.{◌≡◌, ◌+◌, ◌<◌, ◌≤◌, ◌++◌, ◌↔◌, IsTrue, List, length, ℕ};
 ghost use Rattle.ciborium_ll.specs.Reading.{Advances};
-ghost use Rattle.ciborium_ll.specs.StringRefusal.{Allowed};
+ghost use Rattle.ciborium_ll.specs.StringRefusal.{IsAllowed};
 ghost use Rattle.ciborium_ll.specs.Strings.{Grows, IsPart, IsPartsTaken, IsPayloadTaken};
 ghost use Rattle.ciborium_ll.specs.Strings.{IsPiecesTaken, IsStringTaken, kind_of};
 
@@ -69,7 +69,7 @@ fn append_bytes<R: Read>(
 
 // Whether a string of the kind may hold these bytes.
 fn is_allowed(kind: Kind, payload: &[u8]) -> bool
-    ensures { IsTrue result ↔ Allowed (kind_of kind) payload.now }
+    ensures { IsTrue result ↔ IsAllowed (kind_of kind) payload.now }
 {
     match kind {
         Kind::Bytes => true,
