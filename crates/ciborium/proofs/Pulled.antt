@@ -58,6 +58,6 @@ fewer-heads E remaining d e h none pushed taken = subst (λ o. heads_by (greates
         heads_by (greatest_offset - e.count) None < heads_by (greatest_offset - d.count) o
     by None a (b, t, count, u, bytes) =
         let some = head-some b h u.answers.0 in
-        let fits = header-fits {E = E} d.count h b u in
+        let fits = header-fits {E = E} b d.count h u in
         omega (arith, some, fits, count)
     by (Some head) a b = let same : e.count ≡ d.count = a.2.1 in omega (arith, same)

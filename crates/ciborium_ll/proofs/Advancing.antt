@@ -49,7 +49,7 @@ module _ (b c : Option (List ℕ)) (p q r initial : ℕ) (bytes : List ℕ) wher
       Advances b c q r (λ y. IsHeadTaken {E = E} (initial ∷ y) p (Err e))
   argument-fails {E} e at fits len =
       Advances-map b c q r (λ x. IsFillTaken {E = E} x q bytes (Err e)) (λ y. IsHeadTaken {E = E} (initial ∷ y) p (Err e))
-      (λ y h. argument-refused {E = E} p initial bytes y e (omega (arith, at, fits)) len (subst (λ n. IsFillTaken {E = E} y n bytes (Err e)) at h))
+      (λ y h. argument-refused {E = E} initial y p bytes e (omega (arith, at, fits)) len (subst (λ n. IsFillTaken {E = E} y n bytes (Err e)) at h))
 
   -- it was read whole
   pub argument-whole : (E : Type 0) (result : Result Header (Error E)) → Advances b c q r (λ x. Filled x q bytes) → IsHeadTaken {E = E} (initial ∷ bytes) p result →

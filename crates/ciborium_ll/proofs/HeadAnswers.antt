@@ -59,35 +59,35 @@ no-spare p k lt = absurd (omega arith)
 
 -- ---- the first byte
 
-pub first-refused : {E : Type 0} (p : ℕ) (buffer b : List ℕ) (e : Error E) → length buffer ≡ 1 → IsFillTaken b p buffer (Err e) → IsHeadTaken b p (Err e)
-first-refused p buffer [] (Io e) one h = record { answers = empty-io p (omega arith); needed = no-spare p }
-first-refused p buffer (x ∷ b) (Io e) one h = absurd (omega (arith, h.0, one))
-first-refused p buffer b (Syntax at) one h = absurd h
-first-refused p buffer b TooLong one h =
+pub first-refused : {E : Type 0} (b : List ℕ) (p : ℕ) (buffer : List ℕ) (e : Error E) → length buffer ≡ 1 → IsFillTaken b p buffer (Err e) → IsHeadTaken b p (Err e)
+first-refused [] p buffer (Io e) one h = record { answers = empty-io p (omega arith); needed = no-spare p }
+first-refused (x ∷ b) p buffer (Io e) one h = absurd (omega (arith, h.0, one))
+first-refused b p buffer (Syntax at) one h = absurd h
+first-refused b p buffer TooLong one h =
     let over : greatest_offset ≤ p = omega (arith, h.1, one) in
     let none : HeadRefuses [] p too_long = pass _ _ _ (le-ltb p greatest_offset over) in
     record { answers = subst (λ c. HeadRefuses c p too_long) (sym h.0) none; needed = subst (λ c. NoneIsSpare c p) (sym h.0) (no-spare p) }
-first-refused p buffer b Memory one h = absurd h
+first-refused b p buffer Memory one h = absurd h
 
 -- ---- the argument
 
-pub argument-refused : {E : Type 0} (p x : ℕ) (buffer b : List ℕ) (e : Error E) → p + 1 ≤ greatest_offset → length buffer ≡ argument_length (x % 32) →
+pub argument-refused : {E : Type 0} (x : ℕ) (b : List ℕ) (p : ℕ) (buffer : List ℕ) (e : Error E) → p + 1 ≤ greatest_offset → length buffer ≡ argument_length (x % 32) →
     IsFillTaken b (p + 1) buffer (Err e) → IsHeadTaken (x ∷ b) p (Err e)
-argument-refused p x buffer b (Io e) first len h =
+argument-refused x b p buffer (Io e) first len h =
     let room : p + 1 + argument_length (x % 32) ≤ greatest_offset = omega (arith, h.1, len) in
     record { answers = short-io x b p (omega (arith, h.0, len)) room; needed = none-spare x b p (omega arith) (omega (arith, h.0, len)) (λ z. room) }
-argument-refused p x buffer b (Syntax at) first len h = absurd h
-argument-refused p x buffer b TooLong first len h =
+argument-refused x b p buffer (Syntax at) first len h = absurd h
+argument-refused x b p buffer TooLong first len h =
     let over : greatest_offset < p + 1 + argument_length (x % 32) = omega (arith, h.1, len) in
     let alone : HeadRefuses (x ∷ []) p too_long =
     behind-first x [] p (omega arith) (and_false _ _ refl) ∙ pass _ _ _ (unreserved-long (x / 32) (x % 32) (omega arith)) ∙ hold _ _ _ (lt-ltb greatest_offset (p + 1 + argument_length (x % 32)) over) in
     let spare : NoneIsSpare (x ∷ []) p = none-spare x [] p (omega arith) (omega arith) (λ z. absurd (omega arith)) in
     record { answers = subst (λ c. HeadRefuses (x ∷ c) p too_long) (sym h.0) alone; needed = subst (λ c. NoneIsSpare (x ∷ c) p) (sym h.0) spare }
-argument-refused p x buffer b Memory first len h = absurd h
+argument-refused x b p buffer Memory first len h = absurd h
 
 -- ---- a whole head
 
-module _ (p x : ℕ) (b : List ℕ) (len : length b ≡ argument_length (x % 32)) (room : p + 1 + argument_length (x % 32) ≤ greatest_offset) where
+module _ (x : ℕ) (b : List ℕ) (p : ℕ) (len : length b ≡ argument_length (x % 32)) (room : p + 1 + argument_length (x % 32) ≤ greatest_offset) where
   whole-spare : NoneIsSpare (x ∷ b) p
   whole-spare = none-spare x b p (omega arith) (omega arith) (λ z. room)
 
@@ -203,22 +203,22 @@ begins-answer x b n p (m, a, c, e, f) len room =
     ap (λ (d : List ℕ). head_refusal d p) e ∙ facts-answer m a n p c f here (omega arith) ∙
     ap (λ k. cond (ltb greatest_offset (p + 1 + k + n)) (Some too_long) None) (sym (len ∙ size))
 
-module _ (p x : ℕ) (b : List ℕ) (h : Header) (spelled : SpellsHeader (x ∷ b) h) (len : length b ≡ argument_length (x % 32)) (room : p + 1 + argument_length (x % 32) ≤ greatest_offset) where
+module _ (x : ℕ) (b : List ℕ) (p : ℕ) (h : Header) (spelled : SpellsHeader (x ∷ b) h) (len : length b ≡ argument_length (x % 32)) (room : p + 1 + argument_length (x % 32) ≤ greatest_offset) where
   pub usable-head : {E : Type 0} → p + 1 + length b + announced_length h ≤ greatest_offset → IsHeadTaken {E = E} (x ∷ b) p (Ok h)
   usable-head fits = record {
     answers = (spelled, begins-answer x b (announced_length h) p (header-begins (x ∷ b) h spelled) len room ∙ pass _ _ _ (le-ltb greatest_offset (p + 1 + length b + announced_length h) fits));
-    needed = whole-spare p x b len room;
+    needed = whole-spare x b p len room;
   }
 
   pub long-head : {E : Type 0} → greatest_offset < p + 1 + length b + announced_length h → IsHeadTaken {E = E} (x ∷ b) p (Err TooLong)
   long-head over = record {
     answers = begins-answer x b (announced_length h) p (header-begins (x ∷ b) h spelled) len room ∙ hold _ _ _ (lt-ltb greatest_offset (p + 1 + length b + announced_length h) over);
-    needed = whole-spare p x b len room;
+    needed = whole-spare x b p len room;
   }
 
 -- the payload that a usable head announces fits behind it
-pub header-fits : {E : Type 0} (p : ℕ) (h : Header) (b : List ℕ) → IsHeadTaken {E = E} b p (Ok h) → p + length b + announced_length h ≤ greatest_offset
-header-fits p h b taken = by (header-begins b h taken.answers.0) taken.answers.1
+pub header-fits : {E : Type 0} (b : List ℕ) (p : ℕ) (h : Header) → IsHeadTaken {E = E} b p (Ok h) → p + length b + announced_length h ≤ greatest_offset
+header-fits b p h taken = by (header-begins b h taken.answers.0) taken.answers.1
   where
     by : Begins b (announced_length h) → IsUsable b p → p + length b + announced_length h ≤ greatest_offset
     by (m, a, c, e, f) usable =

@@ -133,7 +133,7 @@ part-head-refused {E} kind b c q r e head = (head.0, head.1, head.2, inl head.3,
 -- the payload of a part fits behind its head
 pub payload-fits : {E : Type 0} (kind : StringKind) (b c : Option (List ℕ)) (q r n : ℕ) (h : Header) → h ≡ string_header kind n → Advances b c q r (λ x. IsHeadTaken {E = E} x q (Ok h)) → r + n ≤ greatest_offset
 payload-fits {E} kind b c q r n h is head =
-    let fits = header-fits {E = E} q (string_header kind n) head.0 (subst (λ k. IsHeadTaken {E = E} head.0 q (Ok k)) is head.3) in omega (arith, fits, announced kind, head.2)
+    let fits = header-fits {E = E} head.0 q (string_header kind n) (subst (λ k. IsHeadTaken {E = E} head.0 q (Ok k)) is head.3) in omega (arith, fits, announced kind, head.2)
   where
     announced : (k : StringKind) → announced_length (string_header k n) ≡ n
     announced of_bytes = refl

@@ -110,41 +110,41 @@ break-begun : (x r b : List ℕ) (h : Header) → SpellsHeader x h → b ≡ x +
 break-begun x r b h s is (q, whole) = (one_header_at_front x (break_byte ∷ []) r q h header.Break s refl (sym is ∙ whole)).2
 
 -- where a part was refused, what was left refuses so
-pub part-refuses : {E : Type 0} (kind : StringKind) (p : ℕ) (left : Option (List ℕ)) (e : Error E) (x r b : List ℕ) → IsPartTaken {E = E} kind x p e → b ≡ x ++ r →
+pub part-refuses : {E : Type 0} (kind : StringKind) (x r b : List ℕ) (p : ℕ) (left : Option (List ℕ)) (e : Error E) → IsPartTaken {E = E} kind x p e → b ≡ x ++ r →
     left ≡ Some r → IsRefusedBy left e (PartRefuses kind b p)
-part-refuses {E} kind p left e x r b (inl t) is rest =
+part-refuses {E} kind x r b p left e (inl t) is rest =
     refused-map left e (HeadRefuses b p) (PartRefuses kind b p) (λ f h. PartRefuses.no_head h) (head-refuses {E = E} x r b p left e t is rest)
-part-refuses {E} kind p left e x r b (inr (inl (h, t, other, here))) is rest =
+part-refuses {E} kind x r b p left e (inr (inl (h, t, other, here))) is rest =
     subst (λ k. IsRefusedBy left k (PartRefuses kind b p)) (sym here) (PartRefuses.other (subst (λ c. IsUsable c p) (sym is) (usable-more x r p t.answers.1))
     (λ begun. let k = string-begun kind x r b h t.answers.0 is begun in other.1 k.0 k.1) (λ begun. other.0 (break-begun x r b h t.answers.0 is begun)))
-part-refuses {E} kind p left e x r b (inr (inr (n, s, y, split, t, payload))) is rest =
+part-refuses {E} kind x r b p left e (inr (inr (n, s, y, split, t, payload))) is rest =
     let whole : b ≡ s ++ (y ++ r) = is ∙ ap (λ (c : List ℕ). c ++ r) split ∙ append_assoc s y r in
     refused-map left e (PayloadRefuses kind n p (y ++ r)) (PartRefuses kind b p)
     (λ f h. PartRefuses.part (subst (λ c. IsUsable c p) (sym whole) (usable-more s (y ++ r) p t.answers.1)) (n, length s, y ++ r, string-stands kind n s (y ++ r) b t.answers.0 whole, h))
     (payload-refuses {E = E} kind n p left e [] y r (y ++ r) payload refl rest)
 
-pub parts-refuse : {E : Type 0} (kind : StringKind) (q : ℕ) (left : Option (List ℕ)) (e : Error E) (added x r b : List ℕ) → IsPartsTaken {E = E} kind x q (Err e) added → b ≡ x ++ r →
+pub parts-refuse : {E : Type 0} (kind : StringKind) (x r b : List ℕ) (q : ℕ) (left : Option (List ℕ)) (e : Error E) (added : List ℕ) → IsPartsTaken {E = E} kind x q (Err e) added → b ≡ x ++ r →
     left ≡ Some r → IsRefusedBy left e (PartsRefuse kind b q)
-parts-refuse {E} kind q left e added x r b (ps, s, parts, fits, (y, split, part), same) is rest =
+parts-refuse {E} kind x r b q left e added (ps, s, parts, fits, (y, split, part), same) is rest =
     refused-map left e (PartRefuses kind (y ++ r) (q + length s)) (PartsRefuse kind b q)
     (λ f h. (s, ps, y ++ r, parts, fits, is ∙ ap (λ (c : List ℕ). c ++ r) split ∙ append_assoc s y r, h))
-    (part-refuses {E = E} kind (q + length s) left e y r (y ++ r) part refl rest)
+    (part-refuses {E = E} kind y r (y ++ r) (q + length s) left e part refl rest)
 
-pub string-refuses : {E : Type 0} (kind : StringKind) (len : Option ℕ) (p q : ℕ) (left : Option (List ℕ)) (e : Error E) (added x r b : List ℕ) →
+pub string-refuses : {E : Type 0} (kind : StringKind) (len : Option ℕ) (p : ℕ) (x r b : List ℕ) (q : ℕ) (left : Option (List ℕ)) (e : Error E) (added : List ℕ) →
     IsStringTaken {E = E} kind len p x q (Err e) added → b ≡ x ++ r → left ≡ Some r → IsRefusedBy left e (ContentRefuses kind len p b q)
-string-refuses {E} kind (Some n) p q left (Io e) added x r b (inl (over, is, none, nothing)) split rest = absurd cc
-string-refuses {E} kind (Some n) p q left (Syntax at) added x r b (inl (over, is, none, nothing)) split rest = absurd cc
-string-refuses {E} kind (Some n) p q left TooLong added x r b (inl (over, is, none, nothing)) split rest = inl (over, refl)
-string-refuses {E} kind (Some n) p q left Memory added x r b (inl t) split rest = tt
-string-refuses {E} kind (Some n) p q left e added x r b (inr (fits, t)) split rest =
+string-refuses {E} kind (Some n) p x r b q left (Io e) added (inl (over, is, none, nothing)) split rest = absurd cc
+string-refuses {E} kind (Some n) p x r b q left (Syntax at) added (inl (over, is, none, nothing)) split rest = absurd cc
+string-refuses {E} kind (Some n) p x r b q left TooLong added (inl (over, is, none, nothing)) split rest = inl (over, refl)
+string-refuses {E} kind (Some n) p x r b q left Memory added (inl t) split rest = tt
+string-refuses {E} kind (Some n) p x r b q left e added (inr (fits, t)) split rest =
     refused-map left e (PayloadRefuses kind n p b) (ContentRefuses kind (Some n) p b q) (λ f h. inr (fits, h)) (payload-refuses {E = E} kind n p left e added x r b t split rest)
-string-refuses {E} kind None p q left e added x r b t split rest = parts-refuse {E = E} kind q left e added x r b t split rest
+string-refuses {E} kind None p x r b q left e added t split rest = parts-refuse {E = E} kind x r b q left e added t split rest
 
 -- the same, where the bytes were known
 pub reads-string : {E : Type 0} (kind : StringKind) (len : Option ℕ) (p q t : ℕ) (old new : Option (List ℕ)) (e : Error E) (b : List ℕ) (A : List ℕ → List ℕ → Type 0) →
     Advances old new q t (λ x. (added : List ℕ) × A added x × IsStringTaken {E = E} kind len p x q (Err e) added) → old ≡ Some b → IsRefusedBy new e (ContentRefuses kind len p b q)
 reads-string {E} kind len p q t old new e b A (x, taken, count, (added, h, s), bytes) is =
-    let k = rest-of old new b x is taken in string-refuses {E = E} kind len p q new e added x k.0 b s k.2 k.1
+    let k = rest-of old new b x is taken in string-refuses {E = E} kind len p x k.0 b q new e added s k.2 k.1
 
 pub refused-string : {E : Type 0} (kind : StringKind) (len : Option ℕ) (p q t : ℕ) (old new : Option (List ℕ)) (result : Result (Unit {0}) (Error E)) (b : List ℕ) (A : List ℕ → List ℕ → Type 0) →
     Advances old new q t (λ x. (added : List ℕ) × A added x × IsStringTaken {E = E} kind len p x q result added) → old ≡ Some b → IfErr result (λ e. IsRefusedBy new e (ContentRefuses kind len p b q))
