@@ -7,7 +7,7 @@ use Rattle.std.specs.Io.BufRead.{drop_through}
 use Rattle.std.specs.Io.KnownBytes.{Keeps}
 use Rattle.std.specs.Io.Buffered.{reader_remaining, reader_inner, reader_buffer, reader_capacity}
 use Rattle.ciborium_value.specs.Tree.{Tree}
-use Rattle.cbor.specs.Answer.{LineMeans}
+use Rattle.cbor.specs.Answer.{IsMeant}
 use Rattle.cbor.specs.Lines as lines
 use Rattle.cbor.specs.Lines.{AreAnswered, AreMeant, first_line, ok_line}
 
@@ -30,7 +30,7 @@ LineIsRead left next line more = (xs : List ℕ) → left ≡ Some xs → MatchB
 
 abbrev pub AnswerIsWritten : List ℕ → ℕ → Option (List ℕ) → Option (List ℕ) → Bool → Type 0
 AnswerIsWritten line limit held now is_item = (ys : List ℕ) → held ≡ Some ys → IsTrue is_item →
-    (v : Tree) × LineMeans line limit v × (now ≡ Some (ys ++ ok_line v))
+    (v : Tree) × IsMeant line limit v × (now ≡ Some (ys ++ ok_line v))
 
 -- one more line is answered
 pub one-more : (b : List ℕ) (limit : ℕ) (w : List ℕ) (left next held now : Option (List ℕ)) (line shown : List ℕ) (more is_item : Bool) → IsLeft b limit w left held →
@@ -41,7 +41,7 @@ one-more b limit w left next held now line shown more is_item (rest, trees, e, a
       drop_through 10 rest,
       trees ++ (t.0 ∷ []),
       h.2,
-      lines.line rest trees t.0 a h.0 (subst (λ (l : List ℕ). LineMeans l limit t.0) (same ∙ h.1) t.1),
+      lines.line rest trees t.0 a h.0 (subst (λ (l : List ℕ). IsMeant l limit t.0) (same ∙ h.1) t.1),
       t.2 ∙ ap Some (flat_map_more ok_line w trees t.0),
     )
 

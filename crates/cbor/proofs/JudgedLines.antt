@@ -11,7 +11,7 @@ use Rattle.cbor.specs.declared.answer.Refusal.{Refusal}
 use Rattle.cbor.specs.declared.answer.Refusal.TheVariants.{Hex, Trailing, Io, Syntax, Semantic, Nesting, TooLong, Memory}
 use Rattle.cbor.specs.Answer.{AreRefused, IsAnsweredBy, IsRefused, answer_text, is_memory, kind_of_reason, refused_text}
 use Rattle.cbor.specs.Laws.{ItemIsAnswered, RefusalIsAnswered, RefusedMeansNothing}
-use Rattle.cbor.specs.Line.{HasAnswer, LineAnswer, good, hex_text, refused, trailing, trailing_text, tree_text}
+use Rattle.cbor.specs.Line.{HasAnswer, IsLineAnswer, good, hex_text, refused, trailing, trailing_text, tree_text}
 use Rattle.cbor.proofs.OneLineAnswer.{one_answer}
 
 -- what refuses the bytes of a line refuses the line
@@ -53,7 +53,7 @@ hex-answer (Ok b) limit h = absurd cc
 hex-answer (Err e) limit h = refl
 
 -- the answer to the bytes of a line answers it
-of-bytes : (line b : List ℕ) (limit : ℕ) (answer : List ℕ) → decode_of line ≡ Ok b → HasAnswer b limit answer → LineAnswer line limit answer
+of-bytes : (line b : List ℕ) (limit : ℕ) (answer : List ℕ) → decode_of line ≡ Ok b → HasAnswer b limit answer → IsLineAnswer line limit answer
 of-bytes line b limit answer d h = subst (λ (r : Result (List ℕ) FromHexError). MatchResult r (λ s. HasAnswer s limit answer) (λ _. answer ≡ hex_text)) (sym d) h
 
 pub refusal_is_answered : RefusalIsAnswered
@@ -90,12 +90,12 @@ not-memory : (e : Refusal) → is_memory (answers.Refused e) ≡ false → e ≡
 not-memory e m same = let no : true ≡ false = ap (λ (r : Refusal). is_memory (answers.Refused r)) (sym same) ∙ m in cc
 
 -- the text of an answer other than `memory` answers the line
-text-answers : (line : List ℕ) (limit : ℕ) (a : Answer) → is_memory a ≡ false → IsAnsweredBy line limit a → LineAnswer line limit (answer_text a)
+text-answers : (line : List ℕ) (limit : ℕ) (a : Answer) → is_memory a ≡ false → IsAnsweredBy line limit a → IsLineAnswer line limit (answer_text a)
 text-answers line limit (answers.Item digits) m (v, means, same) =
     item-answer (decode_of line) limit v (answer_text (answers.Item digits)) means (ap (λ (t : List ℕ). codes "ok " ++ t) same)
 text-answers line limit (answers.Refused e) m h = refusal_is_answered line limit e (λ same. absurd (not-memory e m same)) h
 
 pub answered-by-text : {T E : Type 0} (text : T → List ℕ) (line : List ℕ) (limit : ℕ) (a : Answer) (r : Result T E) → is_memory a ≡ false →
-    IsAnsweredBy line limit a → IfOk r (λ t. text t ≡ answer_text a) → IfOk r (λ t. LineAnswer line limit (text t))
-answered-by-text text line limit a (Ok t) m h same = subst (λ (s : List ℕ). LineAnswer line limit s) (sym same) (text-answers line limit a m h)
+    IsAnsweredBy line limit a → IfOk r (λ t. text t ≡ answer_text a) → IfOk r (λ t. IsLineAnswer line limit (text t))
+answered-by-text text line limit a (Ok t) m h same = subst (λ (s : List ℕ). IsLineAnswer line limit s) (sym same) (text-answers line limit a m h)
 answered-by-text text line limit a (Err x) m h same = tt

@@ -7,7 +7,7 @@ use Rattle.std.specs.Io.KnownBytes.{Keeps}
 use Rattle.ciborium_value.specs.Tree.{Tree}
 use Rattle.ciborium_value.specs.View.{tree_of}
 use Rattle.ciborium_value.specs.declared.tree.Value.{Value}
-use Rattle.cbor.specs.Answer.{LineMeans}
+use Rattle.cbor.specs.Answer.{IsMeant}
 use Rattle.cbor.specs.Lines as lines
 use Rattle.cbor.specs.Lines.{AreMeant, first_line}
 use Rattle.cbor.specs.SortedLines.{AreSortedLines, hex_line}
@@ -29,11 +29,11 @@ pushed (Err y) new old x e ok = absurd cc
 
 -- one more line is an item, and its value is pushed
 pub one-more-read : (b : List ℕ) (limit : ℕ) (left next : Option (List ℕ)) (values kept : List Value) (value : Value) (line shown : List ℕ) (more : Bool) →
-    AreRead b limit left (map tree_of values) → LineIsRead left next line more → more ≡ true → shown ≡ line → LineMeans shown limit (tree_of value) →
+    AreRead b limit left (map tree_of values) → LineIsRead left next line more → more ≡ true → shown ≡ line → IsMeant shown limit (tree_of value) →
     kept ≡ values ++ (value ∷ []) → AreRead b limit next (map tree_of kept)
 one-more-read b limit left next values kept value line shown more (rest, e, a) read m same means push =
     let h = subst (λ (v : Bool). MatchBool v ((0 < length rest) × (line ≡ first_line rest) × (next ≡ Some (drop_through 10 rest))) (rest ≡ [])) m (read rest e) in
-    let item = lines.line rest (map tree_of values) (tree_of value) a h.0 (subst (λ (l : List ℕ). LineMeans l limit (tree_of value)) (same ∙ h.1) means) in
+    let item = lines.line rest (map tree_of values) (tree_of value) a h.0 (subst (λ (l : List ℕ). IsMeant l limit (tree_of value)) (same ∙ h.1) means) in
     let trees : map tree_of kept ≡ map tree_of values ++ (tree_of value ∷ []) = ap (map tree_of) push ∙ map_push tree_of values value in
     (drop_through 10 rest, h.2, subst (λ (ts : List Tree). AreMeant b limit (drop_through 10 rest) ts) (sym trees) item)
 

@@ -7,7 +7,7 @@ use Rattle.hex.proofs.HexLemmas.{decode_of-ok}
 use Rattle.ciborium_ll.specs.Bytes.{AreBytes}
 use Rattle.ciborium_ll.specs.Item.{Item}
 use Rattle.ciborium_ll.proofs.UniqueSpelling.{one_at_front, one_item}
-use Rattle.ciborium_value.specs.Laws.{BeginsGood}
+use Rattle.ciborium_value.specs.Laws.{HasGoodItem}
 use Rattle.ciborium_value.specs.Meaning.{meaning}
 use Rattle.ciborium_value.specs.Refuses.{IsGood}
 use Rattle.ciborium_value.specs.Tree.{Tree}
@@ -49,7 +49,7 @@ is_answered line limit = answered-by (decode_of line) limit (λ b e. decoded-byt
 
 -- a beginning that is a good item
 abbrev Begins : List ℕ → ℕ → Type 0
-Begins b limit = BeginsGood b 0 (Some limit)
+Begins b limit = HasGoodItem b 0 (Some limit)
 
 all-begins : (b : List ℕ) (limit : ℕ) (i : Item) → IsGood i (Some limit) b 0 → Begins b limit
 all-begins b limit i g = (b, i, [], g, sym (append-nil b))

@@ -15,8 +15,8 @@ use Rattle.cbor.specs.declared.answer.Refusal.TheVariants.{Hex, Trailing, Io, Sy
 use Rattle.cbor.specs.Line.{hex_text, refusal_text, trailing_text}
 
 -- a line is the hex of bytes that are one good item within so many levels, and mean v
-abbrev pub LineMeans : List ℕ → ℕ → Tree → Type 0
-LineMeans line limit v = MatchResult (decode_of line) (λ b. IsReadAs b 0 (Some limit) v) (λ _. ⊥)
+abbrev pub IsMeant : List ℕ → ℕ → Tree → Type 0
+IsMeant line limit v = MatchResult (decode_of line) (λ b. IsReadAs b 0 (Some limit) v) (λ _. ⊥)
 
 -- the kind that a reason is
 abbrev pub kind_of_reason : Reason → refusal.Kind
@@ -75,7 +75,7 @@ is_memory (answers.Refused other) = false
 
 -- a line is an item, of whose encoding these are the digits in lower case
 abbrev pub IsDigitsOf : List ℕ → ℕ → List ℕ → Type 0
-IsDigitsOf line limit digits = (v : Tree) × LineMeans line limit v × (digits ≡ encode_lower (encoding v))
+IsDigitsOf line limit digits = (v : Tree) × IsMeant line limit v × (digits ≡ encode_lower (encoding v))
 
 -- an answer says what holds of a line
 abbrev pub IsAnsweredBy : List ℕ → ℕ → Answer → Type 0

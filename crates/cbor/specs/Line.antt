@@ -46,5 +46,5 @@ pub data HasAnswer (b : List ℕ) (limit : ℕ) (answer : List ℕ) : Type 0 whe
   refused : (e : Refusal) → Refuses b 0 (Some limit) e → answer ≡ refusal_text e → HasAnswer b limit answer
 
 -- the text answers a line: its bytes, or `hex` where it is not an even number of hex digits
-abbrev pub LineAnswer : List ℕ → ℕ → List ℕ → Type 0
-LineAnswer line limit answer = MatchResult (decode_of line) (λ b. HasAnswer b limit answer) (λ _. answer ≡ hex_text)
+abbrev pub IsLineAnswer : List ℕ → ℕ → List ℕ → Type 0
+IsLineAnswer line limit answer = MatchResult (decode_of line) (λ b. HasAnswer b limit answer) (λ _. answer ≡ hex_text)

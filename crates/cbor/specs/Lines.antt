@@ -3,7 +3,7 @@ use Rattle.std.specs.Prelude.{◌≡◌, ℕ, ◌<◌, List, [], ◌∷◌, ◌+
 use Rattle.std.specs.List.{flat_map}
 use Rattle.std.specs.Io.BufRead.{first_piece, drop_through, strip_last}
 use Rattle.ciborium_value.specs.Tree.{Tree}
-use Rattle.cbor.specs.Answer.{LineMeans}
+use Rattle.cbor.specs.Answer.{IsMeant}
 use Rattle.cbor.specs.Line.{tree_text}
 
 -- the first line of b: what stands before the first line feed, or all of b, without one carriage return at its end
@@ -13,7 +13,7 @@ first_line b = strip_last 13 (first_piece 10 b)
 -- of the input b the rest is left: each line before it is an item within so many levels, and they mean these trees, in order
 pub data AreMeant (b : List ℕ) (limit : ℕ) : List ℕ → List Tree → Type 0 where
   none : AreMeant b limit b []
-  line : (rest : List ℕ) (trees : List Tree) (tree : Tree) → AreMeant b limit rest trees → 0 < length rest → LineMeans (first_line rest) limit tree →
+  line : (rest : List ℕ) (trees : List Tree) (tree : Tree) → AreMeant b limit rest trees → 0 < length rest → IsMeant (first_line rest) limit tree →
       AreMeant b limit (drop_through 10 rest) (trees ++ (tree ∷ []))
 
 -- the answer to a tree, and a line feed

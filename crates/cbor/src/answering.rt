@@ -2,8 +2,8 @@
 
 ghost use Rattle.std.specs.Prelude.{◌≡◌, ◌++◌, ℕ, IfErr, IfOk, IsTrue, List, Some, string_bytes};
 ghost use Rattle.ciborium_value.specs.Tree.{Tree};
-ghost use Rattle.cbor.specs.Answer.{IsAnsweredBy, IsDigitsOf, IsRefused, LineMeans};
-ghost use Rattle.cbor.specs.Line.{LineAnswer};
+ghost use Rattle.cbor.specs.Answer.{IsAnsweredBy, IsDigitsOf, IsMeant, IsRefused};
+ghost use Rattle.cbor.specs.Line.{IsLineAnswer};
 ghost use Rattle.cbor.specs.Lines.{AreAnswered, ok_line};
 
 use crate::answer::{Answer, Refusal};
@@ -22,7 +22,7 @@ use std::io::{BufReader, Read, Write};
 ///
 /// `AllocError` where memory is refused.
 pub fn answer_line(alloc: Global, line: &[u8], limit: usize) -> Result<String, AllocError>
-    ensures { IfOk result (λ answer. LineAnswer line.now limit (string_bytes answer)) }
+    ensures { IfOk result (λ answer. IsLineAnswer line.now limit (string_bytes answer)) }
 {
     let answer = judge_line(alloc, line, limit);
     if answer.is_memory() {
@@ -69,7 +69,7 @@ fn write_answer<W: Write>(
     output: &mut W,
 ) -> Result<bool, Fault>
     ensures { (w : List ℕ) → W.contents output.old ≡ Some w →
-        IfOk result (λ is_item. IsTrue is_item → (v : Tree) × LineMeans line.now limit v
+        IfOk result (λ is_item. IsTrue is_item → (v : Tree) × IsMeant line.now limit v
         × (W.contents output.new ≡ Some (w ++ ok_line v))) }
 {
     let answer = judge_line(alloc, line, limit);

@@ -6,7 +6,7 @@ ghost use Rattle.ciborium_value.specs.Encoding.{encoding};
 ghost use Rattle.ciborium_value.specs.Refuses.{IsReadAs};
 ghost use Rattle.ciborium_value.specs.View.{tree_of};
 ghost use Rattle.ciborium.specs.Errors.{kind_of};
-ghost use Rattle.cbor.specs.Answer.{AreRefused, IsRefused, LineMeans, kind_of_reason};
+ghost use Rattle.cbor.specs.Answer.{AreRefused, IsMeant, IsRefused, kind_of_reason};
 
 use crate::answer::{Reason, Refusal};
 use ciborium::de::{Error, from_reader_with_recursion_limit};
@@ -21,7 +21,7 @@ use std::alloc::{AllocError, Global};
 ///
 /// Why the line is no item, or `Memory` where memory was refused.
 pub fn read_item(alloc: Global, line: &[u8], limit: usize) -> Result<Value, Refusal>
-    ensures item { IfOk result (λ value. LineMeans line.now limit (tree_of value)) }
+    ensures item { IfOk result (λ value. IsMeant line.now limit (tree_of value)) }
     ensures refused { IfErr result (λ refusal. IsRefused line.now limit refusal) }
 {
     match hex::decode(alloc, line) {

@@ -5,16 +5,16 @@ use Rattle.ciborium_ll.specs.declared.header.Header.TheVariants as header
 use Rattle.ciborium_ll.specs.declared.decoder.Decoder.{Decoder}
 use Rattle.ciborium_ll.specs.Bytes.{AreBytes}
 use Rattle.ciborium_ll.specs.Decoding.{IsAhead, IsAheadBy, IsUnread, offset_of}
-use Rattle.ciborium_ll.specs.Head.{Head}
+use Rattle.ciborium_ll.specs.Head.{IsHead}
 use Rattle.ciborium_ll.specs.Header.{SpellsHeader}
 use Rattle.ciborium_ll.specs.Item as item
-use Rattle.ciborium_ll.specs.Refusal.{Refusal, semantic, TooLarge, recursion_limit_exceeded, HeadRefuses, IsUsable, HeadStands}
+use Rattle.ciborium_ll.specs.Refusal.{Refusal, semantic, TooLarge, recursion_limit_exceeded, HeadRefuses, IsUsable, HasHead}
 use Rattle.ciborium_ll.proofs.OneHeader.{one_header_at_front}
 use Rattle.ciborium_value.specs.declared.tree.Value.{Value}
 use Rattle.ciborium_value.specs.declared.stack.Opening.TheVariants as opening
 use Rattle.ciborium_value.specs.Meaning.{meaning, tag_meaning, folding_bytes, bignum_meaning, is_bignum_tag, big_endian}
 use Rattle.ciborium_value.specs.Nesting.{nesting, tag_nesting}
-use Rattle.ciborium_value.specs.Refuses.{Refuses, FoldsAt}
+use Rattle.ciborium_value.specs.Refuses.{Refuses, IsFoldingAt}
 use Rattle.ciborium_value.specs.Stack.{opened}
 use Rattle.ciborium_value.specs.Tree.{Tree}
 use Rattle.ciborium_value.specs.View.{tree_of}
@@ -37,7 +37,7 @@ PullsSo remaining d e x = (xs : List ℕ) (p : ℕ) → IsAhead remaining d xs p
 abbrev pub FoldsSo : {S E : Type 0} → (S → Option (List ℕ)) → Decoder S → Decoder S → ℕ → ℕ → ℕ → Result Value (Error E) → Type 0
 FoldsSo remaining d e t n at x = (xs : List ℕ) (p : ℕ) → IsAt remaining d xs p → IsFoldRead remaining e t n at xs p x
 
-stands : {S : Type 0} (remaining : S → Option (List ℕ)) (d : Decoder S) (t : ℕ) (xs : List ℕ) (p : ℕ) (a : IsPulled remaining d (header.Tag t) xs p) → HeadStands xs 6 t (length a.0) a.1
+stands : {S : Type 0} (remaining : S → Option (List ℕ)) (d : Decoder S) (t : ℕ) (xs : List ℕ) (p : ℕ) (a : IsPulled remaining d (header.Tag t) xs p) → HasHead xs 6 t (length a.0) a.1
 stands remaining d t xs p a = (a.0, a.2, refl, a.4)
 
 no-break-tag : {S : Type 0} (remaining : S → Option (List ℕ)) (d : Decoder S) (t : ℕ) (xs : List ℕ) (p : ℕ) → IsPulled remaining d (header.Tag t) xs p → ¬ IsBreakAt xs p
@@ -52,7 +52,7 @@ tag-refused remaining d e t l xs p x pushed pull a =
     (λ r f. (Refuses.tag_no_head t (length a.0) a.1 a.3 (stands remaining d t xs p a) f, no-break-tag remaining d t xs p a)) (pull a.1 (p + length a.0) (behind remaining d t xs p pushed a))
 
 -- where another header stands, the tag does not fold
-folds-not : (t : ℕ) (k : Header) (h r s : List ℕ) → IsFolding t k None → SpellsHeader h k → r ≡ h ++ s → ¬ FoldsAt t r
+folds-not : (t : ℕ) (k : Header) (h r s : List ℕ) → IsFolding t k None → SpellsHeader h k → r ≡ h ++ s → ¬ IsFoldingAt t r
 folds-not t k h r s none spelled split (big, n, size, z, (y, head, len, is), small) =
     none n (one_header_at_front h y s z k (header.Bytes (Some n)) spelled head (sym split ∙ is)).2 big small
 
@@ -84,7 +84,7 @@ fold-reads : (t l n : ℕ) (xs : List ℕ) (p : ℕ) (h r i s bs zs : List ℕ) 
 fold-reads t l n xs p h r i s bs zs v u w big short len low e means =
     let folding : folding_bytes t (item.bytes false bs) ≡ Some bs = folds-is t bs big (omega arith) in
     let flat : nesting (item.tag t (item.bytes false bs)) ≡ 0 = ap (λ f. tag_nesting f 0) folding in
-    item-read (h ++ (i ++ bs)) (item.tag t (item.bytes false bs)) ((h, i ++ bs, u.spelled, (i, subst (Head i 2) (sym len) w.spelled, low, refl), refl)) (ap (λ f. tag_meaning t f (meaning (item.bytes false bs))) folding ∙ means) (omega (arith, flat)) (u.split ∙ ap (λ (z : List ℕ). h ++ z) (w.split ∙ ap (λ (z : List ℕ). i ++ z) e ∙ sym (append_assoc i bs zs)) ∙ sym (append_assoc h (i ++ bs) zs)) (omega (arith, length-append h (i ++ bs), length-append i bs, len)) (string-room 2 n (p + length h) r i s (inl refl) w.spelled w.usable w.split)
+    item-read (h ++ (i ++ bs)) (item.tag t (item.bytes false bs)) ((h, i ++ bs, u.spelled, (i, subst (IsHead i 2) (sym len) w.spelled, low, refl), refl)) (ap (λ f. tag_meaning t f (meaning (item.bytes false bs))) folding ∙ means) (omega (arith, flat)) (u.split ∙ ap (λ (z : List ℕ). h ++ z) (w.split ∙ ap (λ (z : List ℕ). i ++ z) e ∙ sym (append_assoc i bs zs)) ∙ sym (append_assoc h (i ++ bs) zs)) (omega (arith, length-append h (i ++ bs), length-append i bs, len)) (string-room 2 n (p + length h) r i s (inl refl) w.spelled w.usable w.split)
 
 pub tag-folded : (E : Type 0) {S : Type 0} (remaining : S → Option (List ℕ)) (d e f : Decoder S) (t l n at : ℕ) (xs : List ℕ) (p : ℕ) (k : Header) (v : Value) → d.pushed ≡ None → f.pushed ≡ None → PullsSo {E = E} remaining d e (Ok k) → IsFolding t k (Some n) →
     FoldsSo {E = E} remaining e f t n at (Ok v) → IsPulled remaining d (header.Tag t) xs p → Got remaining f l xs p (tree_of v)
@@ -116,15 +116,15 @@ too-large-refuses : (t l n at : ℕ) (xs : List ℕ) (p : ℕ) (h r i s bs zs : 
 too-large-refuses t l n at xs p h r i s bs zs e here u w big short len low is none same =
     let large = too-large t bs big none in
     let split : r ≡ (i ++ bs) ++ zs = w.split ∙ ap (λ (z : List ℕ). i ++ z) is ∙ sym (append_assoc i bs zs) in
-    let tag : HeadStands xs 6 3 (length h) ((i ++ bs) ++ zs) = subst (λ k. HeadStands xs 6 k (length h) ((i ++ bs) ++ zs)) large.0 (subst (λ z. HeadStands xs 6 t (length h) z) split (h, u.spelled, refl, u.split)) in
+    let tag : HasHead xs 6 3 (length h) ((i ++ bs) ++ zs) = subst (λ k. HasHead xs 6 k (length h) ((i ++ bs) ++ zs)) large.0 (subst (λ z. HasHead xs 6 t (length h) z) split (h, u.spelled, refl, u.split)) in
     subst (λ f. Refuses xs p (Some l) f) (sym (same ∙ ap (λ k. semantic k TooLarge) here))
-    (Refuses.too_large (length h) (i ++ bs) bs zs u.usable tag (subst (λ z. IsUsable z (p + length h)) split w.usable) (i, subst (Head i 2) (sym len) w.spelled, low, refl) (omega (arith, len, short)) large.1)
+    (Refuses.too_large (length h) (i ++ bs) bs zs u.usable tag (subst (λ z. IsUsable z (p + length h)) split w.usable) (i, subst (IsHead i 2) (sym len) w.spelled, low, refl) (omega (arith, len, short)) large.1)
 
 -- what refuses the bytes over which a tag folds refuses the tag
 fold-refuses : (t l n at : ℕ) (xs : List ℕ) (p : ℕ) (h r i s : List ℕ) (e : Refusal) → at ≡ p → Front xs p (header.Tag t) h r → Front r (p + length h) (header.Bytes (Some n)) i s → is_bignum_tag t ≡ true → n ≤ 16 →
     FoldRefuses t n at s e → Refuses xs p (Some l) e
 fold-refuses t l n at xs p h r i s e here u w big short (inl (early, is)) =
-    let string : HeadStands r 2 n (length i) s = (i, w.spelled, refl, w.split) in
+    let string : HasHead r 2 n (length i) s = (i, w.spelled, refl, w.split) in
     subst (λ f. Refuses xs p (Some l) f) (sym is)
     (Refuses.folding t (length h) r u.usable (h, u.spelled, refl, u.split) w.usable (big, n, length i, s, string, short) (n, length i, s, string, PayloadRefuses.ends_early early))
 fold-refuses t l n at xs p h r i s e here u w big short (inr c) = too-large-refuses t l n at xs p h r i s c.0 c.1 e here u w big short c.2 c.3 c.5 c.4 c.6

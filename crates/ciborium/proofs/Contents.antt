@@ -6,11 +6,11 @@ use Rattle.ciborium_ll.specs.declared.header.Header.TheVariants as header
 use Rattle.ciborium_ll.specs.declared.decoder.Decoder.{Decoder}
 use Rattle.ciborium_ll.specs.Bytes.{greatest_offset}
 use Rattle.ciborium_ll.specs.Decoding.{Takes}
-use Rattle.ciborium_ll.specs.Head.{Head, information, argument_bytes, initial_byte, open_byte, break_byte}
+use Rattle.ciborium_ll.specs.Head.{IsHead, information, argument_bytes, initial_byte, open_byte, break_byte}
 use Rattle.ciborium_ll.specs.Header.{SpellsHeader, IsCounted}
 use Rattle.ciborium_ll.specs.Item as item
 use Rattle.ciborium_ll.specs.Refusal.{Refusal, IsUsable, argument_length, payload_length}
-use Rattle.ciborium_ll.specs.StringRefusal.{StringKind, of_bytes, of_text, major_of, Allowed, ContentRefuses, PayloadRefuses, PartsRefuse}
+use Rattle.ciborium_ll.specs.StringRefusal.{StringKind, of_bytes, of_text, major_of, IsAllowed, ContentRefuses, PayloadRefuses, PartsRefuse}
 use Rattle.ciborium_ll.specs.Strings.{IsStringTaken}
 use Rattle.ciborium_ll.proofs.ReadHeads.{payload_length-is}
 use Rattle.ciborium_ll.proofs.UsableHeads.{usable-fits, HeadFits, information-below, argument-information, argument_length-information}
@@ -20,7 +20,7 @@ use Rattle.ciborium_value.specs.Refuses.{Refuses}
 use Rattle.ciborium_value.specs.View.{tree_of}
 use Rattle.ciborium.proofs.ItemsRead.{item-read}
 use Rattle.ciborium.specs.declared.de.error.Error.{Error}
-use Rattle.ciborium.specs.Errors.{RefusedBy}
+use Rattle.ciborium.specs.Errors.{IsRefusedBy}
 use Rattle.ciborium.specs.Parts.{RefusesNoBreak}
 use Rattle.ciborium.specs.Reads.{ReadsItem, IsAt, IsPulled, IsBreakAt}
 use Rattle.ciborium.specs.Strings.{string_tree, IsStringRead}
@@ -42,16 +42,16 @@ no-break-kind of_text len = tt
 
 -- ---- what was read
 
-definite-reads : (kind : StringKind) (l n : ℕ) (xs : List ℕ) (p : ℕ) (b r bs added zs : List ℕ) → Front xs p (header_of kind (Some n)) b r → length bs ≡ n → Allowed kind bs → added ≡ bs →
+definite-reads : (kind : StringKind) (l n : ℕ) (xs : List ℕ) (p : ℕ) (b r bs added zs : List ℕ) → Front xs p (header_of kind (Some n)) b r → length bs ≡ n → IsAllowed kind bs → added ≡ bs →
     r ≡ bs ++ zs → p + length b + length bs ≤ greatest_offset → ReadsItem l xs p (string_tree kind added) zs (p + length b + length bs)
-definite-reads of_bytes l n xs p b r bs added zs u size ok same e f = item-read (b ++ bs) (item.bytes false added) ((b, subst (Head b 2) (sym size ∙ ap length (sym same)) u.spelled, subst (Allowed of_bytes) (sym same) ok, ap (λ (z : List ℕ). b ++ z) (sym same))) refl (omega arith) (u.split ∙ ap (λ (z : List ℕ). b ++ z) e ∙ sym (append_assoc b bs zs)) (omega (arith, length-append b bs)) f
-definite-reads of_text l n xs p b r bs added zs u size ok same e f = item-read (b ++ bs) (item.text false added) ((b, subst (Head b 3) (sym size ∙ ap length (sym same)) u.spelled, subst (Allowed of_text) (sym same) ok, ap (λ (z : List ℕ). b ++ z) (sym same))) refl (omega arith) (u.split ∙ ap (λ (z : List ℕ). b ++ z) e ∙ sym (append_assoc b bs zs)) (omega (arith, length-append b bs)) f
+definite-reads of_bytes l n xs p b r bs added zs u size ok same e f = item-read (b ++ bs) (item.bytes false added) ((b, subst (IsHead b 2) (sym size ∙ ap length (sym same)) u.spelled, subst (IsAllowed of_bytes) (sym same) ok, ap (λ (z : List ℕ). b ++ z) (sym same))) refl (omega arith) (u.split ∙ ap (λ (z : List ℕ). b ++ z) e ∙ sym (append_assoc b bs zs)) (omega (arith, length-append b bs)) f
+definite-reads of_text l n xs p b r bs added zs u size ok same e f = item-read (b ++ bs) (item.text false added) ((b, subst (IsHead b 3) (sym size ∙ ap length (sym same)) u.spelled, subst (IsAllowed of_text) (sym same) ok, ap (λ (z : List ℕ). b ++ z) (sym same))) refl (omega arith) (u.split ∙ ap (λ (z : List ℕ). b ++ z) e ∙ sym (append_assoc b bs zs)) (omega (arith, length-append b bs)) f
 
 open-split : (xs : List ℕ) (x : ℕ) (b r bs good zs : List ℕ) → xs ≡ b ++ r → b ≡ x ∷ [] → r ≡ bs ++ zs → bs ≡ good ++ break_byte ∷ [] → xs ≡ (x ∷ (good ++ (break_byte ∷ []))) ++ zs
 open-split xs x b r bs good zs e f g h = e ∙ ap (λ (z : List ℕ). z ++ r) f ∙ ap (λ (z : List ℕ). x ∷ z) (g ∙ ap (λ (z : List ℕ). z ++ zs) h)
 
 string-reads : (E : Type 0) (kind : StringKind) (len : Option ℕ) (l at : ℕ) (xs : List ℕ) (p : ℕ) (b r bs added zs : List ℕ) → Front xs p (header_of kind len) b r →
-    IsStringTaken {E = E} kind len at (p + length b) (Ok tt) added bs → r ≡ bs ++ zs → p + length b + length bs ≤ greatest_offset → ReadsItem l xs p (string_tree kind added) zs (p + length b + length bs)
+    IsStringTaken {E = E} kind len at bs (p + length b) (Ok tt) added → r ≡ bs ++ zs → p + length b + length bs ≤ greatest_offset → ReadsItem l xs p (string_tree kind added) zs (p + length b + length bs)
 string-reads E kind (Some n) l at xs p b r bs added zs u (inl (over, never, none, nothing)) e f = absurd cc
 string-reads E kind (Some n) l at xs p b r bs added zs u (inr (within, (size, ok, same))) e f = definite-reads kind l n xs p b r bs added zs u size ok same e f
 string-reads E of_bytes None l at xs p b r bs added zs u (payloads, good, parts, room, split, same) e f = item-read (open_byte 2 ∷ (good ++ (break_byte ∷ []))) (item.bytes true added) (payloads, good, parts, same, refl) refl (omega arith) (open-split xs (open_byte 2) b r bs good zs u.split u.spelled e split) ((let x : length b ≡ 1 = ap length u.spelled in let y : length bs ≡ length (good ++ (break_byte ∷ [])) = ap length split in omega (arith, x, y))) f
@@ -60,7 +60,7 @@ string-reads E of_text None l at xs p b r bs added zs u (payloads, good, parts, 
 -- ---- what was refused
 
 -- the payload that a usable head announces fits behind it
-pub string-room : (m n p : ℕ) (xs b r : List ℕ) → (m ≡ 2) ⊎ (m ≡ 3) → Head b m n → IsUsable xs p → xs ≡ b ++ r → p + length b + n ≤ greatest_offset
+pub string-room : (m n p : ℕ) (xs b r : List ℕ) → (m ≡ 2) ⊎ (m ≡ 3) → IsHead b m n → IsUsable xs p → xs ≡ b ++ r → p + length b + n ≤ greatest_offset
 string-room m n p xs b r kind (w, h, i) u e =
     let a : ℕ = information w n in
     let c : List ℕ = argument_bytes w n in
@@ -98,7 +98,7 @@ got-string E kind remaining d e l len xs p h v pushed is read a =
     (c.2, q, subst (λ t. ReadsItem l xs p t c.2 q) (sym c.4) (string-reads E kind len l d.last xs p a.0 a.1 c.0 c.1 c.2 u c.3 c.5 c.7), ahead-at remaining e q c.2 pushed c.6)
 
 pub string-fault : {S E : Type 0} (kind : StringKind) (remaining : S → Option (List ℕ)) (d e : Decoder S) (l : ℕ) (len : Option ℕ) (xs : List ℕ) (p : ℕ) (h : Header) (x : Error E) → h ≡ header_of kind len →
-    ((ys : List ℕ) (q : ℕ) → IsAt remaining d ys q → RefusedBy (remaining e.reader.now) x (λ r. ContentRefuses kind len d.last ys q r)) → IsPulled remaining d h xs p → RefusesNoBreak (remaining e.reader.now) x xs p l
+    ((ys : List ℕ) (q : ℕ) → IsAt remaining d ys q → IsRefusedBy (remaining e.reader.now) x (λ r. ContentRefuses kind len d.last ys q r)) → IsPulled remaining d h xs p → RefusesNoBreak (remaining e.reader.now) x xs p l
 string-fault kind remaining d e l len xs p h x is read a =
     let u : Front xs p (header_of kind len) a.0 a.1 = front-of remaining d h (header_of kind len) xs p is a in
     refused-map (remaining e.reader.now) x (λ r. ContentRefuses kind len d.last a.1 (p + length a.0) r) (λ r. Refuses xs p (Some l) r × ¬ IsBreakAt xs p)
@@ -107,7 +107,7 @@ string-fault kind remaining d e l len xs p h x is read a =
 
 -- a string that was appended to an empty one
 pub string-read : (E : Type 0) {S : Type 0} (kind : StringKind) (remaining : S → Option (List ℕ)) (d e : Decoder S) (len : Option ℕ) (xs : List ℕ) (p : ℕ) (old new : List ℕ) (v : Value) → old ≡ [] → tree_of v ≡ string_tree kind new →
-    Takes remaining d e (λ b. (added : List ℕ) × (new ≡ old ++ added) × IsStringTaken {E = E} kind len d.last d.count (Ok tt) added b) → IsAt remaining d xs p →
+    Takes remaining d e (λ b. (added : List ℕ) × (new ≡ old ++ added) × IsStringTaken {E = E} kind len d.last b d.count (Ok tt) added) → IsAt remaining d xs p →
     IsStringRead {S = S} {E = E} kind remaining e len d.last xs p (Ok v)
 string-read E kind remaining d e len xs p old new v none tree (x, taken, count, (added, is, s), bytes) at =
     let k = rest-of (remaining d.reader.now) (remaining e.reader.now) xs x at.1 taken in
@@ -116,7 +116,7 @@ string-read E kind remaining d e len xs p old new v none tree (x, taken, count, 
       x,
       added,
       k.0,
-      subst (λ q. IsStringTaken {E = E} kind len d.last q (Ok tt) added x) start s,
+      subst (λ q. IsStringTaken {E = E} kind len d.last x q (Ok tt) added) start s,
       tree ∙ ap (string_tree kind) (is ∙ ap (λ (z : List ℕ). z ++ added) none),
       k.2,
       (count ∙ ap (λ q. q + length x) start, k.1),

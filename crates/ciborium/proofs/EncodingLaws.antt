@@ -6,9 +6,9 @@ use Rattle.std.proofs.Math.Nat.{eq-or-lt_of_le}
 use Rattle.std.specs.Cmp.Lexicographic.{slice_cmp}
 use Rattle.std.specs.Ordering.{ordering_then}
 use Rattle.ciborium_ll.specs.Bytes.{AreBytes}
-use Rattle.ciborium_ll.specs.Head.{Head, shortest_head, IsSimple, simple_bytes}
+use Rattle.ciborium_ll.specs.Head.{IsHead, shortest_head, IsSimple, simple_bytes}
 use Rattle.ciborium_ll.specs.Item.{items_count, pairs_count}
-use Rattle.ciborium_ll.specs.Spells.{IsDefiniteString, Encloses, Spells, SpellsItems, SpellsPairs}
+use Rattle.ciborium_ll.specs.Spells.{IsDefiniteString, IsContainer, Spells, SpellsItems, SpellsPairs}
 use Rattle.ciborium_ll.proofs.ShortestHead.{none_is_shorter, no_other_is_as_short}
 use Rattle.ciborium_ll.proofs.UniqueSpelling.{one_item}
 use Rattle.ciborium_value.specs.Encoding.{item_of, items_of, pairs_of, encoding, items_bytes, pairs_bytes, written_tree, written_trees, written_pairs}
@@ -63,18 +63,18 @@ joined_longer a b s t (inl h) (inr k) = inr (omega (arith, ap length h, k, lengt
 joined_longer a b s t (inr h) (inl k) = inr (omega (arith, h, ap length k, length-append a b, length-append s t))
 joined_longer a b s t (inr h) (inr k) = inr (omega (arith, h, k, length-append a b, length-append s t))
 
-head_longer : (major n : ℕ) (s : List ℕ) → Head s major n → IsOrLonger (shortest_head major n) s
+head_longer : (major n : ℕ) (s : List ℕ) → IsHead s major n → IsOrLonger (shortest_head major n) s
 head_longer major n s h = by_length (eq-or-lt_of_le (none_is_shorter s major n h))
   where
     by_length : (length (shortest_head major n) ≡ length s) ⊎ (length (shortest_head major n) < length s) → IsOrLonger (shortest_head major n) s
     by_length (inl same) = inl (no_other_is_as_short s major n h (omega (arith, same)))
     by_length (inr long) = inr long
 
-string_longer : (major : ℕ) (Allowed : List ℕ → Type 0) (s b : List ℕ) → IsDefiniteString major Allowed s b → IsOrLonger (shortest_head major (length b) ++ b) s
-string_longer major Allowed s b (h, spelled, allowed, e) =
+string_longer : (major : ℕ) (IsAllowed : List ℕ → Type 0) (s b : List ℕ) → IsDefiniteString major IsAllowed s b → IsOrLonger (shortest_head major (length b) ++ b) s
+string_longer major IsAllowed s b (h, spelled, allowed, e) =
     subst (IsOrLonger (shortest_head major (length b) ++ b)) (sym e) (joined_longer (shortest_head major (length b)) b h b (head_longer major (length b) h spelled) (inl refl))
 
-enclosed_longer : (major count : ℕ) (s r b : List ℕ) → Encloses false major count s r → IsOrLonger b r → IsOrLonger (shortest_head major count ++ b) s
+enclosed_longer : (major count : ℕ) (s r b : List ℕ) → IsContainer false major count s r → IsOrLonger b r → IsOrLonger (shortest_head major count ++ b) s
 enclosed_longer major count s r b (h, spelled, e) parts =
     subst (IsOrLonger (shortest_head major count ++ b)) (sym e) (joined_longer (shortest_head major count) b h r (head_longer major count h spelled) parts)
 

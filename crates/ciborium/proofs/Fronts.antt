@@ -9,14 +9,14 @@ use Rattle.ciborium_ll.specs.Decoding.{IsAhead, IsAheadBy, offset_of, next_offse
 use Rattle.ciborium_ll.specs.Head.{initial_byte, break_byte}
 use Rattle.ciborium_ll.specs.Header.{SpellsHeader, announced_length}
 use Rattle.ciborium_ll.specs.Item as item
-use Rattle.ciborium_ll.specs.Refusal.{Refusal, semantic, recursion_limit_exceeded, HeadRefuses, IsUsable, head_refusal, HeadStands, BeginsWith}
+use Rattle.ciborium_ll.specs.Refusal.{Refusal, semantic, recursion_limit_exceeded, HeadRefuses, IsUsable, head_refusal, HasHead, IsAtFront}
 use Rattle.ciborium_ll.specs.Refusal as refusal
 use Rattle.ciborium_ll.proofs.HeadAnswers.{header-begins}
 use Rattle.ciborium_ll.proofs.HeadAnswers as answers
 use Rattle.ciborium_ll.proofs.UsableHeads.{usable-fits, HeadFits}
 use Rattle.ciborium_ll.proofs.OneHeader.{one_header_at_front}
 use Rattle.ciborium_value.specs.Meaning.{simple_meaning}
-use Rattle.ciborium_value.specs.Refuses.{Refuses, Opens, exactly}
+use Rattle.ciborium_value.specs.Refuses.{Refuses, HasOpening, exactly}
 use Rattle.ciborium_value.specs.Tree as trees
 use Rattle.ciborium_value.specs.Tree.{Tree}
 use Rattle.ciborium_value.specs.View.{tree_of}
@@ -26,8 +26,8 @@ use Rattle.ciborium.proofs.ItemsRead.{item-read}
 use Rattle.ciborium.specs.declared.de.error.Error.{Error}
 use Rattle.ciborium.specs.declared.de.front.Part.{Part}
 use Rattle.ciborium.specs.declared.de.front.Part.TheVariants.{Whole, Opened, Ended}
-use Rattle.ciborium.specs.Around.{IsInContainer, IsInside, ContainerStands, IsRoom, array_due, map_due, due_in}
-use Rattle.ciborium.specs.Errors.{RefusedBy}
+use Rattle.ciborium.specs.Around.{IsInContainer, IsInside, HasContainerHead, IsRoom, array_due, map_due, due_in}
+use Rattle.ciborium.specs.Errors.{IsRefusedBy}
 use Rattle.ciborium.specs.Parts.{IsArrayBegun, IsMapBegun, IsBehind, IsPartRead, RefusesNoBreak}
 use Rattle.ciborium.specs.Reads.{ReadsItem, IsAt, IsPulled, IsBreakAt}
 use Rattle.ciborium.proofs.Pulled.{refused-map}
@@ -71,7 +71,7 @@ apart e i = cc
 pub head-no-break : (xs : List ℕ) (p : ℕ) (e : Refusal) → HeadRefuses xs p e → ¬ IsBreakAt xs p
 head-no-break xs p e f (lt, (s, i)) = apart e (sym (opened-has 7 p s refl lt) ∙ sym (ap (λ (z : List ℕ). head_refusal z p) i) ∙ f)
 
-pub head-refused : {E : Type 0} (left : Option (List ℕ)) (e : Error E) (xs : List ℕ) (p l : ℕ) → RefusedBy left e (λ r. HeadRefuses xs p r) → RefusesNoBreak left e xs p l
+pub head-refused : {E : Type 0} (left : Option (List ℕ)) (e : Error E) (xs : List ℕ) (p l : ℕ) → IsRefusedBy left e (λ r. HeadRefuses xs p r) → RefusesNoBreak left e xs p l
 head-refused left e xs p l h = refused-map left e (λ r. HeadRefuses xs p r) (λ r. Refuses xs p (Some l) r × ¬ IsBreakAt xs p) (λ r f. (Refuses.no_head f, head-no-break xs p r f)) h
 
 -- ---- values
@@ -147,21 +147,21 @@ float-refuses l size xs p b r u = by u.spelled
 
 -- ---- arrays and maps
 
-array-stands : (count : Option ℕ) (xs : List ℕ) (p : ℕ) (b r : List ℕ) → Front xs p (header.Array count) b r → ContainerStands 4 xs count (length b) r
+array-stands : (count : Option ℕ) (xs : List ℕ) (p : ℕ) (b r : List ℕ) → Front xs p (header.Array count) b r → HasContainerHead 4 xs count (length b) r
 array-stands (Some n) xs p b r u = (b, u.spelled, refl, u.split)
 array-stands None xs p b r u = (ap length u.spelled, u.split ∙ ap (λ (z : List ℕ). z ++ r) u.spelled)
 
-map-stands : (count : Option ℕ) (xs : List ℕ) (p : ℕ) (b r : List ℕ) → Front xs p (header.Map count) b r → ContainerStands 5 xs count (length b) r
+map-stands : (count : Option ℕ) (xs : List ℕ) (p : ℕ) (b r : List ℕ) → Front xs p (header.Map count) b r → HasContainerHead 5 xs count (length b) r
 map-stands (Some n) xs p b r u = (b, u.spelled, refl, u.split)
 map-stands None xs p b r u = (ap length u.spelled, u.split ∙ ap (λ (z : List ℕ). z ++ r) u.spelled)
 
-array-opens : (count : Option ℕ) (xs : List ℕ) (p : ℕ) (b r : List ℕ) → Front xs p (header.Array count) b r → Opens xs (length b) r (array_due count)
-array-opens (Some n) xs p b r u = Opens.array n (b, u.spelled, refl, u.split)
-array-opens None xs p b r u = Opens.open_array (ap length u.spelled) (u.split ∙ ap (λ (z : List ℕ). z ++ r) u.spelled)
+array-opens : (count : Option ℕ) (xs : List ℕ) (p : ℕ) (b r : List ℕ) → Front xs p (header.Array count) b r → HasOpening xs (length b) r (array_due count)
+array-opens (Some n) xs p b r u = HasOpening.array n (b, u.spelled, refl, u.split)
+array-opens None xs p b r u = HasOpening.open_array (ap length u.spelled) (u.split ∙ ap (λ (z : List ℕ). z ++ r) u.spelled)
 
-map-opens : (count : Option ℕ) (xs : List ℕ) (p : ℕ) (b r : List ℕ) → Front xs p (header.Map count) b r → Opens xs (length b) r (map_due count)
-map-opens (Some n) xs p b r u = Opens.map n (b, u.spelled, refl, u.split)
-map-opens None xs p b r u = Opens.open_map (ap length u.spelled) (u.split ∙ ap (λ (z : List ℕ). z ++ r) u.spelled)
+map-opens : (count : Option ℕ) (xs : List ℕ) (p : ℕ) (b r : List ℕ) → Front xs p (header.Map count) b r → HasOpening xs (length b) r (map_due count)
+map-opens (Some n) xs p b r u = HasOpening.map n (b, u.spelled, refl, u.split)
+map-opens None xs p b r u = HasOpening.open_map (ap length u.spelled) (u.split ∙ ap (λ (z : List ℕ). z ++ r) u.spelled)
 
 array-inside : (count behind : Option ℕ) (l : ℕ) (xs : List ℕ) (p : ℕ) (b r : List ℕ) → IsBehind count behind → Front xs p (header.Array count) b r →
     IsInContainer 4 count (array_due count) (due_in (opened.array [] behind)) l xs p [] r (p + length b)

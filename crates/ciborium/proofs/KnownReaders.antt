@@ -19,7 +19,7 @@ use Rattle.ciborium_value.proofs.ProperMeanings.{proper_meaning}
 use Rattle.ciborium.specs.declared.de.error.Error.{Error}
 use Rattle.ciborium.specs.declared.de.error.Error.TheVariants as errors
 use Rattle.ciborium.specs.Answers.{AnswersItem, IsFailed, TakesBytes, TakesValue}
-use Rattle.ciborium.specs.Errors.{RefusedBy}
+use Rattle.ciborium.specs.Errors.{IsRefusedBy}
 use Rattle.ciborium.proofs.Outcomes.{only-fails}
 
 inside : (u v : List ℕ) → Some u ≡ Some v → u ≡ v
@@ -42,7 +42,7 @@ either-begins (a ∷ t) (b ∷ s) x y e = longer (either-begins t s x y (tails e
     longer (inr (r, h)) = inr (r, let same = heads e in cc)
 
 -- an error of bytes t that cannot be refused, neither with c behind them nor where the reader ends behind them, is a failure
-fails : {E : Type 0} (l : ℕ) (after : Option (List ℕ)) (t c : List ℕ) (e : Error E) → ((z : List ℕ) → RefusedBy (Some z) e (λ r. Refuses (t ++ z) 0 (Some l) r)) →
+fails : {E : Type 0} (l : ℕ) (after : Option (List ℕ)) (t c : List ℕ) (e : Error E) → ((z : List ℕ) → IsRefusedBy (Some z) e (λ r. Refuses (t ++ z) 0 (Some l) r)) →
     ((r : Refusal) → Refuses (t ++ c) 0 (Some l) r → ⊥) → (after ≡ Some [] → Refuses (t ++ []) 0 (Some l) refusal.io → ⊥) → IsFailed after e
 fails l after t c (errors.Io x) h never ended = λ end. ended end (h [] refl)
 fails {E} l after t c (errors.Syntax p) h never ended = only-fails {E = E} (Some c) (errors.Syntax p) (λ r. Refuses (t ++ c) 0 (Some l) r) never (h c)
@@ -65,11 +65,11 @@ module _ {E : Type 0} (l : ℕ) (old new : Option (List ℕ)) (b : List ℕ) (kn
   ok-of (Ok v) (s, taken, fits, read, bytes) = let k = rest-of old new b s known taken in (s, k.0, read, k.2, k.1)
   ok-of (Err e) t = tt
 
-  pub refused-of : (x : Result Value (Error E)) → TakesBytes {E = E} old l new x → IfErr x (λ e. RefusedBy new e (λ r. Refuses b 0 (Some l) r))
+  pub refused-of : (x : Result Value (Error E)) → TakesBytes {E = E} old l new x → IfErr x (λ e. IsRefusedBy new e (λ r. Refuses b 0 (Some l) r))
   refused-of (Ok v) t = tt
   refused-of (Err e) (s, taken, fits, h, bytes) =
       let k = rest-of old new b s known taken in
-      subst (λ o. RefusedBy o e (λ r. Refuses b 0 (Some l) r)) (sym k.1) (subst (λ z. RefusedBy (Some k.0) e (λ r. Refuses z 0 (Some l) r)) (sym k.2) (h k.0))
+      subst (λ o. IsRefusedBy o e (λ r. Refuses b 0 (Some l) r)) (sym k.1) (subst (λ z. IsRefusedBy (Some k.0) e (λ r. Refuses z 0 (Some l) r)) (sym k.2) (h k.0))
 
   pub within-of : (left : List ℕ) (x : Result Value (Error E)) → new ≡ Some left → TakesBytes {E = E} old l new x → length b ≤ length left + greatest_offset
   within-of left x e (s, taken, fits, h, bytes) =

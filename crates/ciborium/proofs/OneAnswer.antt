@@ -13,11 +13,11 @@ use Rattle.ciborium.specs.declared.de.error.Error.{Error}
 use Rattle.ciborium.specs.declared.de.error.Error.TheVariants as errors
 use Rattle.ciborium.specs.AnswerLaws.{refusal_of, OneAnswer}
 use Rattle.ciborium.specs.Answers.{IsFailed}
-use Rattle.ciborium.specs.Errors.{RefusedBy, IsNamed, kind_of}
+use Rattle.ciborium.specs.Errors.{IsRefusedBy, IsNamed, kind_of}
 use Rattle.ciborium.proofs.Outcomes.{only-fails}
 
 -- an error is a failure, or names a refusal of which P holds
-names : (left : Option (List ℕ)) (e : Error IoError) (P : Refusal → Type 0) → RefusedBy left e P → IsFailed left e ⊎ ((r : Refusal) × (refusal_of e ≡ Some r) × P r)
+names : (left : Option (List ℕ)) (e : Error IoError) (P : Refusal → Type 0) → IsRefusedBy left e P → IsFailed left e ⊎ ((r : Refusal) × (refusal_of e ≡ Some r) × P r)
 names None (errors.Io x) P h = inl (λ end. absurd cc)
 names (Some []) (errors.Io x) P h = inr (refusal.io, refl, h refl)
 names (Some (n ∷ r)) (errors.Io x) P h = inl (λ end. absurd cc)

@@ -7,13 +7,13 @@ use Rattle.ciborium_ll.specs.Refusal.{Refusal}
 use Rattle.ciborium.specs.declared.de.error.Error.{Error}
 use Rattle.ciborium.specs.declared.de.error.Error.TheVariants as errors
 use Rattle.ciborium.specs.Answers.{IsFailed}
-use Rattle.ciborium.specs.Errors.{RefusedBy, IsNamed, kind_of}
+use Rattle.ciborium.specs.Errors.{IsRefusedBy, IsNamed, kind_of}
 use Rattle.ciborium.specs.Reads.{IsAt}
 
 pub left-at : {S : Type 0} (remaining : S → Option (List ℕ)) (d : Decoder S) (r : ℕ) (zs : List ℕ) → d.pushed ≡ None → IsAhead remaining d zs r → remaining d.reader.now ≡ Some zs
 left-at remaining d r zs rests a = let at : IsAt remaining d zs r = subst (λ o. IsAheadBy remaining d zs r o) rests a in at.1
 
-pub only-fails : {E : Type 0} (left : Option (List ℕ)) (e : Error E) (P : Refusal → Type 0) → ((r : Refusal) → P r → ⊥) → RefusedBy left e P → IsFailed left e
+pub only-fails : {E : Type 0} (left : Option (List ℕ)) (e : Error E) (P : Refusal → Type 0) → ((r : Refusal) → P r → ⊥) → IsRefusedBy left e P → IsFailed left e
 only-fails left (errors.Io x) P never h = λ end. never refusal.io (h end)
 only-fails left (errors.Syntax p) P never h = never (refusal.syntax p) h
 only-fails left (errors.Semantic p k) P never h = named p (kind_of k) h

@@ -9,21 +9,21 @@ use Rattle.ciborium_ll.specs.Decoding.{IsUnread, Takes}
 use Rattle.ciborium_ll.specs.Header.{SpellsHeader, announced_length}
 use Rattle.ciborium_ll.specs.Reading as reading
 use Rattle.ciborium_ll.specs.Reading.{IsHeadTaken}
-use Rattle.ciborium_ll.specs.Refusal.{Refusal, HeadRefuses, IsUsable, BeginsWith, argument_length}
+use Rattle.ciborium_ll.specs.Refusal.{Refusal, HeadRefuses, IsUsable, IsAtFront, argument_length}
 use Rattle.ciborium_ll.proofs.HeadAnswers.{header-fits, header-begins}
 use Rattle.ciborium.specs.declared.de.error.Error.{Error}
 use Rattle.ciborium.specs.declared.de.error.Error.TheVariants as errors
-use Rattle.ciborium.specs.Errors.{from_ll, RefusedBy, IsNamed, kind_of}
+use Rattle.ciborium.specs.Errors.{from_ll, IsRefusedBy, IsNamed, kind_of}
 use Rattle.ciborium.specs.Reads.{IsPulled, heads_by, heads_left}
 
 -- the error that an error of the lowest layer becomes refuses as it does
-pub refused-from : {E : Type 0} (left : Option (List ℕ)) (e : LlError E) (P : Refusal → Type 0) → reading.RefusedBy left e P → RefusedBy left (from_ll e) P
+pub refused-from : {E : Type 0} (left : Option (List ℕ)) (e : LlError E) (P : Refusal → Type 0) → reading.IsRefusedBy left e P → IsRefusedBy left (from_ll e) P
 refused-from left (ll.Io e) P h = h
 refused-from left (ll.Syntax p) P h = h
 refused-from left ll.TooLong P h = h
 refused-from left ll.Memory P h = tt
 
-pub refused-map : {E : Type 0} (left : Option (List ℕ)) (e : Error E) (P Q : Refusal → Type 0) → ((r : Refusal) → P r → Q r) → RefusedBy left e P → RefusedBy left e Q
+pub refused-map : {E : Type 0} (left : Option (List ℕ)) (e : Error E) (P Q : Refusal → Type 0) → ((r : Refusal) → P r → Q r) → IsRefusedBy left e P → IsRefusedBy left e Q
 refused-map left (errors.Io x) P Q f a = λ end. f _ (a end)
 refused-map left (errors.Syntax p) P Q f a = f _ a
 refused-map left (errors.Semantic p k) P Q f a = named p (kind_of k) a
@@ -51,13 +51,13 @@ abbrev pub answered : (E : Type 0) → Header → Result Header (LlError E)
 answered E h = Ok h
 
 pub fewer-heads : (E : Type 0) {S : Type 0} (remaining : S → Option (List ℕ)) (d e : Decoder S) (h : Header) → e.pushed ≡ None →
-    IfSome d.pushed (λ head. (answered E h ≡ answered E head.0) × (e.last ≡ head.1) × IsUnread d e) → IfNone d.pushed (Takes remaining d e (IsHeadTaken {E = E} d.count (Ok h))) → heads_left e < heads_left d
+    IfSome d.pushed (λ head. (answered E h ≡ answered E head.0) × (e.last ≡ head.1) × IsUnread d e) → IfNone d.pushed (Takes remaining d e (λ x. IsHeadTaken {E = E} x d.count (Ok h))) → heads_left e < heads_left d
 fewer-heads E remaining d e h none pushed taken = subst (λ o. heads_by (greatest_offset - e.count) o < heads_by (greatest_offset - d.count) d.pushed) (sym none) (by d.pushed pushed taken)
   where
-    by : (o : Option (Header × ℕ)) → IfSome o (λ head. (answered E h ≡ answered E head.0) × (e.last ≡ head.1) × IsUnread d e) → IfNone o (Takes remaining d e (IsHeadTaken {E = E} d.count (Ok h))) →
+    by : (o : Option (Header × ℕ)) → IfSome o (λ head. (answered E h ≡ answered E head.0) × (e.last ≡ head.1) × IsUnread d e) → IfNone o (Takes remaining d e (λ x. IsHeadTaken {E = E} x d.count (Ok h))) →
         heads_by (greatest_offset - e.count) None < heads_by (greatest_offset - d.count) o
     by None a (b, t, count, u, bytes) =
         let some = head-some b h u.answers.0 in
-        let fits = header-fits {E = E} d.count h b u in
+        let fits = header-fits {E = E} b d.count h u in
         omega (arith, some, fits, count)
     by (Some head) a b = let same : e.count ≡ d.count = a.2.1 in omega (arith, same)

@@ -19,7 +19,7 @@ use Rattle.ciborium.specs.declared.de.front.Part.{Part}
 use Rattle.ciborium.specs.declared.de.front.Part.TheVariants.{Whole, Opened, Ended}
 use Rattle.ciborium.specs.Answers.{IsReading, IsTurned}
 use Rattle.ciborium.specs.Around.{IsAround, IsPlaced}
-use Rattle.ciborium.specs.Errors.{RefusedBy}
+use Rattle.ciborium.specs.Errors.{IsRefusedBy}
 use Rattle.ciborium.specs.Parts.{IsPartRead, IsBegun}
 use Rattle.ciborium.specs.Reads.{IsBreakAt}
 use Rattle.ciborium.proofs.Fronts.{offset-at}
@@ -40,7 +40,7 @@ answer-here : {S E : Type 0} (remaining : S → Option (List ℕ)) (d e : Decode
 answer-here remaining d e os l xs p x answers s = subst (λ m. IsPartRead remaining e m s.1 s.2 x) (left l xs p os s.0 s.1 s.2 s.3) (answers s.1 s.2 s.4)
 
 pub turn-refused : {S E : Type 0} (remaining : S → Option (List ℕ)) (d e : Decoder S) (os : List Open) (l : ℕ) (xs : List ℕ) (p : ℕ) (x : Error E) → Answers remaining d e (l - length os) (Err x) → IsReading remaining d os l xs p →
-    RefusedBy (remaining e.reader.now) x (λ r. Refuses xs p (Some l) r)
+    IsRefusedBy (remaining e.reader.now) x (λ r. Refuses xs p (Some l) r)
 turn-refused remaining d e os l xs p x answers s =
     refused-map (remaining e.reader.now) x (λ r. Refuses s.1 s.2 (Some s.0) r × ¬ IsBreakAt s.1 s.2) (λ r. Refuses xs p (Some l) r) (λ r f. refused-turn l xs p os s.0 s.1 s.2 r s.3 f.0 (λ _. f.1)) (answer-here remaining d e os l xs p (Err x) answers s)
 
@@ -53,7 +53,7 @@ is-turned remaining e after l xs p given (Ok None) os v zs r ok err is a s =
     (b.0, zs, r, b.1, s)
 is-turned remaining e after l xs p given (Ok (Some w)) os v zs r ok err is a s =
     (zs, r, subst (λ (x : Placed). IsPlaced l xs p x zs r) (sym (subst (λ g. IfOk g (λ o. placed_of o after ≡ placed os v)) ok is)) a, s)
-is-turned remaining e after l xs p given (Err x) os v zs r ok err is a s = subst (λ z. RefusedBy (remaining e.reader.now) z (λ r. Refuses xs p (Some l) r)) (sym err) tt
+is-turned remaining e after l xs p given (Err x) os v zs r ok err is a s = subst (λ z. IsRefusedBy (remaining e.reader.now) z (λ r. Refuses xs p (Some l) r)) (sym err) tt
 
 pub turn-whole : {S E : Type 0} (remaining : S → Option (List ℕ)) (d e : Decoder S) (os after : List Open) (l : ℕ) (xs : List ℕ) (p : ℕ) (v : Value) (given : Result (Option Value) AllocError) (x : Result (Option Value) (Error E)) →
     Answers {E = E} remaining d e (l - length os) (Ok (Whole v)) → IfOk x (λ o. given ≡ Ok o) → IfErr x (λ e. e ≡ Memory) → IfOk given (λ o. placed_of o after ≡ placed os (tree_of v)) → IsReading remaining d os l xs p → IsTurned remaining e after l xs p x

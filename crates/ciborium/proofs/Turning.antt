@@ -3,30 +3,30 @@ use Rattle.std.proofs.Common.{◌≡◌, ℕ, zero, suc, ◌+◌, ◌*◌, ◌-�
 use Rattle.std.specs.Prelude.{nat_le}
 use Rattle.std.proofs.Common.{leb-true}
 use Rattle.ciborium_ll.specs.Bytes.{greatest_offset}
-use Rattle.ciborium_ll.specs.Head.{Head, open_byte, break_byte, initial_byte, information, argument_bytes}
+use Rattle.ciborium_ll.specs.Head.{IsHead, open_byte, break_byte, initial_byte, information, argument_bytes}
 use Rattle.ciborium_ll.proofs.UsableHeads.{information-below}
 use Rattle.ciborium_ll.specs.Item.{Item, Items, no_items, items_count, Pairs, pairs_count}
 use Rattle.ciborium_ll.specs.Item as item
-use Rattle.ciborium_ll.specs.Refusal.{Refusal, IsUsable, HeadStands, BeginsWith}
+use Rattle.ciborium_ll.specs.Refusal.{Refusal, IsUsable, HasHead, IsAtFront}
 use Rattle.ciborium_ll.specs.Spells.{Spells}
 use Rattle.ciborium_value.specs.Meaning.{meaning, items_meaning, tag_meaning, folding_bytes, is_bignum_tag}
 use Rattle.ciborium_value.specs.Nesting.{nesting, tag_nesting, pairs_nesting}
 use Rattle.ciborium_value.specs.Open.{Open, array, map, tag, placed, closed}
-use Rattle.ciborium_value.specs.Refuses.{Refuses, AreGood, Opens, Due, exactly, items_until_break, keys_until_break, values_until_break, next_due, due_after, IsDue, FoldsAt}
+use Rattle.ciborium_value.specs.Refuses.{Refuses, AreGood, HasOpening, Due, exactly, items_until_break, keys_until_break, values_until_break, next_due, due_after, IsDue, IsFoldingAt}
 use Rattle.ciborium_value.specs.Tree as trees
 use Rattle.ciborium_value.specs.Tree.{Tree, Trees}
 use Rattle.ciborium_value.specs.View.{trees_from, tree_pairs_from}
 use Rattle.ciborium_value.proofs.Parts.{then, then-after, then-count, after-left, after-items}
 use Rattle.ciborium.proofs.ItemsRead.{item-read, end-fits}
-use Rattle.ciborium.specs.Around.{in_turn, due_in, array_due, map_due, ContainerStands, IsRoom, IsInContainer, IsInTag, IsInside, IsAround, IsPlaced}
+use Rattle.ciborium.specs.Around.{in_turn, due_in, array_due, map_due, HasContainerHead, IsRoom, IsInContainer, IsInTag, IsInside, IsAround, IsPlaced}
 use Rattle.ciborium.specs.Reads.{ReadsItem, IsBreakAt}
 use Rattle.ciborium.proofs.Grown.{then-Spells, then-nesting, then-meaning}
 use Rattle.ciborium.proofs.Paired.{paired, paired-is, paired-nesting, in_turn-key, in_turn-value}
 
 -- ---- one item more in a container
 
-container-on : (major : ℕ) (b : List ℕ) (count : Option ℕ) (k : ℕ) (r s : List ℕ) → r ≡ s → ContainerStands major b count k r → ContainerStands major b count k s
-container-on major b count k r s e h = subst (ContainerStands major b count k) e h
+container-on : (major : ℕ) (b : List ℕ) (count : Option ℕ) (k : ℕ) (r s : List ℕ) → r ≡ s → HasContainerHead major b count k r → HasContainerHead major b count k s
+container-on major b count k r s e h = subst (HasContainerHead major b count k) e h
 
 -- something is due: for a count, at least one
 abbrev pub IsOpenStill : Due → Type 0
@@ -95,7 +95,7 @@ keys-or-values no_items = (λ e. cc, λ e. cc)
 keys-or-values (item.item i is) = let k = keys-or-values is in (k.1, k.0)
 
 -- the bytes of a container with a count
-module _ (major n size q r : ℕ) (ys good us : List ℕ) (stands : HeadStands ys major n size (good ++ us)) (at : r ≡ q + size + length good) where
+module _ (major n size q r : ℕ) (ys good us : List ℕ) (stands : HasHead ys major n size (good ++ us)) (at : r ≡ q + size + length good) where
   counted-split : ys ≡ (stands.0 ++ good) ++ us
   counted-split = stands.3 ∙ sym (append_assoc stands.0 good us)
 
@@ -116,7 +116,7 @@ array-whole None l ys q vs us s a = absurd (never-counts a.items a.due)
 array-whole (Some n) l ys q vs us s a =
     let all : items_count a.items ≡ n = all-there n a.items a.due a.room in
     let nests = a.nests in
-    item-read (a.head.0 ++ a.good) (item.array false a.items) ((a.good, a.spelled, (a.head.0, subst (Head a.head.0 4) (sym all) a.head.1, refl))) (ap (option_map trees.array) a.means) (omega (arith, nests)) (counted-split 4 n a.size q s ys a.good us a.head a.at) (counted-end 4 n a.size q s ys a.good us a.head a.at) a.fits
+    item-read (a.head.0 ++ a.good) (item.array false a.items) ((a.good, a.spelled, (a.head.0, subst (IsHead a.head.0 4) (sym all) a.head.1, refl))) (ap (option_map trees.array) a.means) (omega (arith, nests)) (counted-split 4 n a.size q s ys a.good us a.head a.at) (counted-end 4 n a.size q s ys a.good us a.head a.at) a.fits
 
 array-ended : (count : Option ℕ) (l : ℕ) (ys : List ℕ) (q : ℕ) (vs : List Tree) (zs : List ℕ) (r : ℕ) (us : List ℕ) → IsInContainer 4 count (array_due count) items_until_break l ys q vs zs r →
     zs ≡ break_byte ∷ us → r < greatest_offset → ReadsItem (suc l) ys q (trees.array (trees_from vs)) us (r + 1)
@@ -134,7 +134,7 @@ map-whole (Some n) l ys q ps us s a =
     let all : items_count a.items ≡ 2 * n = all-there (2 * n) a.items a.due a.room in
     let count : pairs_count (paired a.items) ≡ n = (let twice = pairs.2 in omega (arith, twice, all)) in
     let nests : pairs_nesting (paired a.items) ≤ l = paired-nesting a.items l a.nests in
-    item-read (a.head.0 ++ a.good) (item.map false (paired a.items)) ((a.good, pairs.0, (a.head.0, subst (Head a.head.0 5) (sym count) a.head.1, refl))) (ap (option_map trees.map) pairs.1) (omega (arith, nests)) (counted-split 5 n a.size q s ys a.good us a.head a.at) (counted-end 5 n a.size q s ys a.good us a.head a.at) a.fits
+    item-read (a.head.0 ++ a.good) (item.map false (paired a.items)) ((a.good, pairs.0, (a.head.0, subst (IsHead a.head.0 5) (sym count) a.head.1, refl))) (ap (option_map trees.map) pairs.1) (omega (arith, nests)) (counted-split 5 n a.size q s ys a.good us a.head a.at) (counted-end 5 n a.size q s ys a.good us a.head a.at) a.fits
 
 map-ended : (count : Option ℕ) (l : ℕ) (ys : List ℕ) (q : ℕ) (ps : List (Tree × Tree)) (zs : List ℕ) (r : ℕ) (us : List ℕ) → IsInContainer 5 count (map_due count) keys_until_break l ys q (in_turn ps None) zs r →
     zs ≡ break_byte ∷ us → r < greatest_offset → ReadsItem (suc l) ys q (trees.map (tree_pairs_from ps)) us (r + 1)
@@ -162,7 +162,7 @@ folds-short t p never = by (is_bignum_tag t) (nat_le (length p) 16) never (leb-t
     by true false f g = refl
     by true true f g = absurd (f refl (g refl))
 
-folds-not : (t : ℕ) (zs taken us : List ℕ) (i : Item) → ¬ FoldsAt t zs → Spells taken i → zs ≡ taken ++ us → folding_bytes t i ≡ None
+folds-not : (t : ℕ) (zs taken us : List ℕ) (i : Item) → ¬ IsFoldingAt t zs → Spells taken i → zs ≡ taken ++ us → folding_bytes t i ≡ None
 folds-not t zs taken us (item.unsigned n) never s e = cond-nothing (is_bignum_tag t)
 folds-not t zs taken us (item.negative n) never s e = cond-nothing (is_bignum_tag t)
 folds-not t zs taken us (item.bytes true p) never s e = cond-nothing (is_bignum_tag t)
@@ -324,16 +324,16 @@ is-due (map ps None None) os ys q h = λ lt begins. h refl (lt, begins)
 is-due (map ps None (Some k)) os ys q h = tt
 is-due (tag t) os ys q h = omega arith
 
-array-opens : (b : List ℕ) (count : Option ℕ) (k : ℕ) (r : List ℕ) → ContainerStands 4 b count k r → Opens b k r (array_due count)
-array-opens b (Some n) k r h = Opens.array n h
-array-opens b None k r h = Opens.open_array h.0 h.1
+array-opens : (b : List ℕ) (count : Option ℕ) (k : ℕ) (r : List ℕ) → HasContainerHead 4 b count k r → HasOpening b k r (array_due count)
+array-opens b (Some n) k r h = HasOpening.array n h
+array-opens b None k r h = HasOpening.open_array h.0 h.1
 
-map-opens : (b : List ℕ) (count : Option ℕ) (k : ℕ) (r : List ℕ) → ContainerStands 5 b count k r → Opens b k r (map_due count)
-map-opens b (Some n) k r h = Opens.map n h
-map-opens b None k r h = Opens.open_map h.0 h.1
+map-opens : (b : List ℕ) (count : Option ℕ) (k : ℕ) (r : List ℕ) → HasContainerHead 5 b count k r → HasOpening b k r (map_due count)
+map-opens b (Some n) k r h = HasOpening.map n h
+map-opens b None k r h = HasOpening.open_map h.0 h.1
 
 part-refuses : (major : ℕ) (count : Option ℕ) (start now : Due) (l : ℕ) (ys : List ℕ) (q : ℕ) (vs : List Tree) (zs : List ℕ) (r : ℕ) (e : Refusal) →
-    ((k : ℕ) (s : List ℕ) → ContainerStands major ys count k s → Opens ys k s start) → IsInContainer major count start now l ys q vs zs r → IsDue now zs r → Refuses zs r (Some l) e → Refuses ys q (Some (suc l)) e
+    ((k : ℕ) (s : List ℕ) → HasContainerHead major ys count k s → HasOpening ys k s start) → IsInContainer major count start now l ys q vs zs r → IsDue now zs r → Refuses zs r (Some l) e → Refuses ys q (Some (suc l)) e
 part-refuses major count start now l ys q vs zs r e opens a due f =
     let good : AreGood a.items (Some l) a.good (q + a.size) = (a.spelled, some-IsSome (items_meaning a.items) (trees_from vs) a.means, a.nests, (let x = a.at in let y = a.fits in omega (arith, x, y))) in
     Refuses.part a.size start a.good a.items zs (Some l) a.usable (opens a.size (a.good ++ zs) a.head) refl good
@@ -341,7 +341,7 @@ part-refuses major count start now l ys q vs zs r e opens a due f =
     (subst (λ n. Refuses zs n (Some l) e) a.at f)
 
 -- a head of another major type than 7 is no break
-pub not-break : (m n : ℕ) (h b r : List ℕ) → m < 7 → Head h m n → b ≡ h ++ r → ¬ BeginsWith break_byte b
+pub not-break : (m n : ℕ) (h b r : List ℕ) → m < 7 → IsHead h m n → b ≡ h ++ r → ¬ IsAtFront break_byte b
 not-break m n h b r lt (w, holds, is) split (s, begins) =
     let info = information-below w n holds in
     let same : initial_byte m (information w n) ∷ (argument_bytes w n ++ r) ≡ break_byte ∷ s = sym (split ∙ ap (λ (z : List ℕ). z ++ r) is) ∙ begins in
@@ -352,11 +352,11 @@ same-first : (x y : ℕ) (r s : List ℕ) → x ∷ r ≡ y ∷ s → x ≡ y
 same-first x y r s e = cc e
 
 -- an open container is none either
-open-no-break : (m : ℕ) (b r : List ℕ) → m < 7 → b ≡ open_byte m ∷ r → ¬ BeginsWith break_byte b
+open-no-break : (m : ℕ) (b r : List ℕ) → m < 7 → b ≡ open_byte m ∷ r → ¬ IsAtFront break_byte b
 open-no-break m b r lt e (s, begins) = let first = same-first (open_byte m) break_byte r s (sym e ∙ begins) in absurd (omega (arith, first, lt))
 
 -- a container or tag does not begin with a break
-container-begins : (o : Open) (l : ℕ) (ys : List ℕ) (q : ℕ) (zs : List ℕ) (r : ℕ) → IsInside o l ys q zs r → ¬ BeginsWith break_byte ys
+container-begins : (o : Open) (l : ℕ) (ys : List ℕ) (q : ℕ) (zs : List ℕ) (r : ℕ) → IsInside o l ys q zs r → ¬ IsAtFront break_byte ys
 container-begins (array vs b) l ys q zs r (None, c) begins = open-no-break 4 ys (c.good ++ zs) (omega arith) c.head.1 begins
 container-begins (array vs b) l ys q zs r (Some n, c) begins = not-break 4 n c.head.0 ys (c.good ++ zs) (omega arith) c.head.1 c.head.3 begins
 container-begins (map ps b k) l ys q zs r (None, c) begins = open-no-break 5 ys (c.good ++ zs) (omega arith) c.head.1 begins

@@ -6,7 +6,7 @@ use Rattle.std.proofs.lemmas.List.Elements.{All-append}
 use Rattle.ciborium_ll.specs.declared.header.Header.{Header}
 use Rattle.ciborium_ll.specs.declared.header.Error.{Error as LlError}
 use Rattle.ciborium_ll.specs.declared.decoder.Decoder.{Decoder}
-use Rattle.ciborium_ll.specs.Decoding.{Begins, IsAhead, IsAheadBy, IsUnread, Pulls, PullsTo, Takes, TakesBeforeAny, with_left}
+use Rattle.ciborium_ll.specs.Decoding.{HasBegun, IsAhead, IsAheadBy, IsUnread, Pulls, PullsTo, Takes, TakesBeforeAny, with_left}
 use Rattle.ciborium_ll.specs.Bytes.{AreBytes}
 use Rattle.ciborium_ll.specs.Reading as reading
 use Rattle.ciborium_ll.specs.Reading.{IsHeadTaken}
@@ -55,11 +55,11 @@ module _ {S : Type 0} (remaining : S → Option (List ℕ)) where
 
 -- a head that was pulled
 pub head-pulled : {S : Type 0} (E : Type 0) (remaining : S → Option (List ℕ)) (a b : Decoder S) (result : Result Header (LlError E)) →
-    IfSome a.pushed (λ head. (result ≡ Ok head.0) × (b.last ≡ head.1) × IsUnread a b) → IfNone a.pushed (Takes remaining a b (IsHeadTaken {E = E} a.count result)) → IfNone a.pushed (b.last ≡ a.count) →
+    IfSome a.pushed (λ head. (result ≡ Ok head.0) × (b.last ≡ head.1) × IsUnread a b) → IfNone a.pushed (Takes remaining a b (λ x. IsHeadTaken {E = E} x a.count result)) → IfNone a.pushed (b.last ≡ a.count) →
     TakesBeforeAny remaining a b (λ d e. (xs : List ℕ) (p : ℕ) → IsAhead Some d xs p → Pulls {E = E} Some e xs p result)
 head-pulled {S} E remaining a b result pushed taken last = by a.pushed pushed taken last
   where
-    by : (o : Option (Header × ℕ)) → IfSome o (λ head. (result ≡ Ok head.0) × (b.last ≡ head.1) × IsUnread a b) → IfNone o (Takes remaining a b (IsHeadTaken {E = E} a.count result)) → IfNone o (b.last ≡ a.count) →
+    by : (o : Option (Header × ℕ)) → IfSome o (λ head. (result ≡ Ok head.0) × (b.last ≡ head.1) × IsUnread a b) → IfNone o (Takes remaining a b (λ x. IsHeadTaken {E = E} x a.count result)) → IfNone o (b.last ≡ a.count) →
         Takes remaining a b (λ x. (c : List ℕ) (xs : List ℕ) (p : ℕ) → IsAheadBy Some (with_left a (x ++ c)) xs p o → Pulls {E = E} Some (with_left b c) xs p result)
     by None h (x, consumed, count, t, bytes) here =
         (x, consumed, count, λ c xs p s. pulls-head {E = E} (Some (x ++ c)) (Some c) b.last b.count xs a.count p result s here (x, refl, count, t, bytes), bytes)
@@ -81,13 +81,13 @@ StringSo {E} kind len at d e x = (xs : List ℕ) (p : ℕ) → IsAt Some d xs p 
 
 -- a string that was refused
 pub string-refused : (E : Type 0) {S : Type 0} (remaining : S → Option (List ℕ)) (a b : Decoder S) (kind : StringKind) (len : Option ℕ) (x : LlError E) (A : List ℕ → List ℕ → Type 0) →
-    Takes remaining a b (λ y. (added : List ℕ) × A added y × IsStringTaken {E = E} kind len a.last a.count (Err x) added y) → TakesBeforeAny remaining a b (λ d e. StringSo {E = E} kind len a.last d e (Err (from_ll x)))
+    Takes remaining a b (λ y. (added : List ℕ) × A added y × IsStringTaken {E = E} kind len a.last y a.count (Err x) added) → TakesBeforeAny remaining a b (λ d e. StringSo {E = E} kind len a.last d e (Err (from_ll x)))
 string-refused E remaining a b kind len x A (y, taken, count, h, bytes) = (
   y,
   taken,
   count,
   λ c xs p s. refused-from (Some c) x (λ f. ContentRefuses kind len a.last xs p f)
-      (subst (λ q. reading.RefusedBy (Some c) x (λ f. ContentRefuses kind len a.last xs q f)) s.0 (reads-string {E = E} kind len a.last a.count b.count (Some (y ++ c)) (Some c) x xs A (y, refl, count, h, bytes) s.1)),
+      (subst (λ q. reading.IsRefusedBy (Some c) x (λ f. ContentRefuses kind len a.last xs q f)) s.0 (reads-string {E = E} kind len a.last a.count b.count (Some (y ++ c)) (Some c) x xs A (y, refl, count, h, bytes) s.1)),
   bytes,
 )
 
@@ -97,7 +97,7 @@ string-refused E remaining a b kind len x A (y, taken, count, h, bytes) = (
 abbrev pub ValueSo : {E : Type 0} → ℕ → Decoder (List ℕ) → Decoder (List ℕ) → Result Value (Error E) → Type 0
 ValueSo {E} l d e x = (xs : List ℕ) (p : ℕ) → IsAhead Some d xs p → IsValueRead {S = List ℕ} {E = E} Some e l xs p x
 
-pub taken-as : (E : Type 0) {S : Type 0} (remaining : S → Option (List ℕ)) (a b : Decoder S) (lent : S) (l : ℕ) (x : Result Value (Error E)) → Begins a lent 0 → OnOk x (b.pushed ≡ None) →
+pub taken-as : (E : Type 0) {S : Type 0} (remaining : S → Option (List ℕ)) (a b : Decoder S) (lent : S) (l : ℕ) (x : Result Value (Error E)) → HasBegun a lent 0 → OnOk x (b.pushed ≡ None) →
     TakesBeforeAny remaining a b (λ d e. ValueSo {E = E} l d e x) → TakesBytes {E = E} (remaining lent) l (remaining b.reader.now) x
 taken-as E {S} remaining a b lent l x begins rests (s, taken, count, h, bytes) =
     let zero : a.count ≡ 0 = begins.count in

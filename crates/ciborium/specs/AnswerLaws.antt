@@ -11,12 +11,12 @@ use Rattle.ciborium_value.specs.View.{tree_of}
 use Rattle.ciborium.specs.declared.de.error.Error.{Error}
 use Rattle.ciborium.specs.declared.de.error.Error.TheVariants.{Io, Syntax, Semantic, RecursionLimitExceeded, Memory, TooLong}
 use Rattle.ciborium.specs.Answers.{TakesValue, IsFailed}
-use Rattle.ciborium.specs.Errors.{RefusedBy, kind_of}
+use Rattle.ciborium.specs.Errors.{IsRefusedBy, kind_of}
 
 -- what the clauses of a call say of its answer: b were the known bytes, within l levels, and this is left of them
 abbrev pub IsAnswer : List ℕ → ℕ → Option (List ℕ) → Result Value (Error IoError) → Type 0
 IsAnswer b l left (Ok v) = TakesValue b l (tree_of v) left
-IsAnswer b l left (Err e) = RefusedBy left e (λ r. Refuses b 0 (Some l) r)
+IsAnswer b l left (Err e) = IsRefusedBy left e (λ r. Refuses b 0 (Some l) r)
 
 -- the refusal of a kind at an offset
 abbrev pub semantic_of : Option ℕ → Kind → Option Refusal

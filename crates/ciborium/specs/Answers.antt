@@ -16,7 +16,7 @@ use Rattle.ciborium_value.specs.View.{tree_of}
 use Rattle.ciborium.specs.declared.de.error.Error.{Error}
 use Rattle.ciborium.specs.declared.de.error.Error.TheVariants.{Io, Memory}
 use Rattle.ciborium.specs.Around.{IsAround}
-use Rattle.ciborium.specs.Errors.{RefusedBy}
+use Rattle.ciborium.specs.Errors.{IsRefusedBy}
 use Rattle.ciborium.specs.Reads.{ReadsItem}
 
 -- a value within l levels is being read at xs, offset p: this is open, and the decoder stands inside it
@@ -26,13 +26,13 @@ IsReading remaining d os l xs p = (m : ℕ) × (zs : List ℕ) × (r : ℕ) × I
 -- the answer of a call that reads a value
 abbrev pub IsValueRead : {S E : Type 0} → (S → Option (List ℕ)) → Decoder S → ℕ → List ℕ → ℕ → Result Value (Error E) → Type 0
 IsValueRead remaining d l xs p (Ok v) = (zs : List ℕ) × (r : ℕ) × ReadsItem l xs p (tree_of v) zs r × IsAhead remaining d zs r
-IsValueRead remaining d l xs p (Err e) = RefusedBy (left_of remaining d) e (Refuses xs p (Some l))
+IsValueRead remaining d l xs p (Err e) = IsRefusedBy (left_of remaining d) e (Refuses xs p (Some l))
 
 -- the answer of one turn of the loop
 abbrev pub IsTurned : {S E : Type 0} → (S → Option (List ℕ)) → Decoder S → List Open → ℕ → List ℕ → ℕ → Result (Option Value) (Error E) → Type 0
 IsTurned remaining d os l xs p (Ok None) = IsReading remaining d os l xs p
 IsTurned remaining d os l xs p (Ok (Some v)) = (zs : List ℕ) × (r : ℕ) × ReadsItem l xs p (tree_of v) zs r × IsAhead remaining d zs r
-IsTurned remaining d os l xs p (Err e) = RefusedBy (left_of remaining d) e (Refuses xs p (Some l))
+IsTurned remaining d os l xs p (Err e) = IsRefusedBy (left_of remaining d) e (Refuses xs p (Some l))
 
 -- of the bytes b just those of one good item within l levels were taken, which means v
 abbrev pub TakesValue : List ℕ → ℕ → Tree → Option (List ℕ) → Type 0
@@ -54,7 +54,7 @@ AnswersItem i left after (Err e) = IsFailed after e
 -- what the bytes s are that were taken, where the answer is so: a good item that means it; or refused so, whatever follows them
 abbrev pub IsTakenAs : {E : Type 0} → List ℕ → ℕ → Result Value (Error E) → Type 0
 IsTakenAs s l (Ok v) = IsReadAs s 0 (Some l) (tree_of v)
-IsTakenAs s l (Err e) = (c : List ℕ) → RefusedBy (Some c) e (Refuses (s ++ c) 0 (Some l))
+IsTakenAs s l (Err e) = (c : List ℕ) → IsRefusedBy (Some c) e (Refuses (s ++ c) 0 (Some l))
 
 -- some bytes were taken, a beginning of those that are known, and no more than there are offsets; and so they are
 abbrev pub TakesBytes : {E : Type 0} → Option (List ℕ) → ℕ → Option (List ℕ) → Result Value (Error E) → Type 0
@@ -72,7 +72,7 @@ AnswersGoodItem before l after r =
 
 -- an error is the refusal of what the reader held
 abbrev pub RefusesBytes : {E : Type 0} → Option (List ℕ) → ℕ → Option (List ℕ) → Result Value (Error E) → Type 0
-RefusesBytes before l after r = (b : List ℕ) → before ≡ Some b → IfErr r (λ e. RefusedBy after e (Refuses b 0 (Some l)))
+RefusesBytes before l after r = (b : List ℕ) → before ≡ Some b → IfErr r (λ e. IsRefusedBy after e (Refuses b 0 (Some l)))
 
 -- the values and payload bytes of the answer are no more than the bytes taken
 abbrev pub HoldsNoMore : {E : Type 0} → Option (List ℕ) → Option (List ℕ) → Result Value (Error E) → Type 0

@@ -3,12 +3,12 @@ use Rattle.std.specs.Prelude.{◌≡◌, ℕ, suc, ◌+◌, ◌*◌, ◌≤◌, 
 use Rattle.ciborium_ll.specs.Bytes.{greatest_offset}
 use Rattle.ciborium_ll.specs.Head.{open_byte}
 use Rattle.ciborium_ll.specs.Item.{Items, items_count}
-use Rattle.ciborium_ll.specs.Refusal.{IsUsable, HeadStands}
+use Rattle.ciborium_ll.specs.Refusal.{IsUsable, HasHead}
 use Rattle.ciborium_ll.specs.Spells.{SpellsItems}
 use Rattle.ciborium_value.specs.Meaning.{items_meaning}
 use Rattle.ciborium_value.specs.Nesting.{items_nesting}
 use Rattle.ciborium_value.specs.Open.{Open, array, map, tag, Placed, done, more}
-use Rattle.ciborium_value.specs.Refuses.{Due, exactly, items_until_break, keys_until_break, values_until_break, due_after, FoldsAt}
+use Rattle.ciborium_value.specs.Refuses.{Due, exactly, items_until_break, keys_until_break, values_until_break, due_after, IsFoldingAt}
 use Rattle.ciborium_value.specs.Tree.{Tree}
 use Rattle.ciborium_value.specs.View.{trees_from}
 use Rattle.ciborium.specs.Reads.{ReadsItem}
@@ -39,9 +39,9 @@ map_due (Some n) = exactly (2 * n)
 map_due None = keys_until_break
 
 -- the head of a container with this count, of k bytes, stands at the front, and r follows it
-abbrev pub ContainerStands : ℕ → List ℕ → Option ℕ → ℕ → List ℕ → Type 0
-ContainerStands major b (Some n) k r = HeadStands b major n k r
-ContainerStands major b None k r = (k ≡ 1) × (b ≡ open_byte major ∷ r)
+abbrev pub HasContainerHead : ℕ → List ℕ → Option ℕ → ℕ → List ℕ → Type 0
+HasContainerHead major b (Some n) k r = HasHead b major n k r
+HasContainerHead major b None k r = (k ≡ 1) × (b ≡ open_byte major ∷ r)
 
 -- no more items than are due
 abbrev pub IsRoom : Due → Items → Type 0
@@ -56,7 +56,7 @@ pub record IsInContainer (major : ℕ) (count : Option ℕ) (start now : Due) (l
   pub good : List ℕ
   pub items : Items
   pub usable : IsUsable ys q
-  pub head : ContainerStands major ys count size (good ++ zs)
+  pub head : HasContainerHead major ys count size (good ++ zs)
   pub spelled : SpellsItems good items
   pub means : items_meaning items ≡ Some (trees_from vs)
   pub nests : items_nesting items ≤ l
@@ -69,9 +69,9 @@ pub record IsInContainer (major : ℕ) (count : Option ℕ) (start now : Due) (l
 pub record IsInTag (ys : List ℕ) (q : ℕ) (t : ℕ) (zs : List ℕ) (r : ℕ) : Type 0 where
   pub size : ℕ
   pub usable : IsUsable ys q
-  pub head : HeadStands ys 6 t size zs
+  pub head : HasHead ys 6 t size zs
   pub next_usable : IsUsable zs r
-  pub folds_not : ¬ FoldsAt t zs
+  pub folds_not : ¬ IsFoldingAt t zs
   pub at : r ≡ q + size
 
 -- what begins at ys is open at zs

@@ -32,10 +32,10 @@ IsNamed None k P = ⊥
 
 -- an error other than `Memory`, of a call that leaves this of the reader, is a refusal of which P holds; `Io` is one where the reader
 -- came to its end
-abbrev pub RefusedBy : {E : Type 0} → Option (List ℕ) → Error E → (Refusal → Type 0) → Type 0
-RefusedBy left (Io e) P = left ≡ Some [] → P refusal.io
-RefusedBy left (Syntax p) P = P (refusal.syntax p)
-RefusedBy left (Semantic p k) P = IsNamed p (kind_of k) P
-RefusedBy left RecursionLimitExceeded P = P refusal.recursion_limit_exceeded
-RefusedBy left Memory P = Unit {0}
-RefusedBy left TooLong P = P refusal.too_long
+abbrev pub IsRefusedBy : {E : Type 0} → Option (List ℕ) → Error E → (Refusal → Type 0) → Type 0
+IsRefusedBy left (Io e) P = left ≡ Some [] → P refusal.io
+IsRefusedBy left (Syntax p) P = P (refusal.syntax p)
+IsRefusedBy left (Semantic p k) P = IsNamed p (kind_of k) P
+IsRefusedBy left RecursionLimitExceeded P = P refusal.recursion_limit_exceeded
+IsRefusedBy left Memory P = Unit {0}
+IsRefusedBy left TooLong P = P refusal.too_long

@@ -20,7 +20,7 @@ use Rattle.ciborium.specs.declared.de.error.Error.TheVariants.{Semantic, Recursi
 use Rattle.ciborium.specs.declared.de.front.Part.{Part}
 use Rattle.ciborium.specs.declared.de.front.Part.TheVariants.{Whole, Opened, Ended}
 use Rattle.ciborium.specs.Around.{IsInside}
-use Rattle.ciborium.specs.Errors.{RefusedBy}
+use Rattle.ciborium.specs.Errors.{IsRefusedBy}
 use Rattle.ciborium.specs.Reads.{ReadsItem, IsAt, IsPulled, IsBreakAt}
 
 -- how many places follow the first one, of so many in all (None: as many as come before a break)
@@ -55,12 +55,12 @@ IsBegun l ys q o zs r = (m : ℕ) × (l ≡ suc m) × IsInside o m ys q zs r
 
 -- xs refuses so, and no break stands at its front
 abbrev pub RefusesNoBreak : {E : Type 0} → Option (List ℕ) → Error E → List ℕ → ℕ → ℕ → Type 0
-RefusesNoBreak left e xs p l = RefusedBy left e (λ r. Refuses xs p (Some l) r × ¬ IsBreakAt xs p)
+RefusesNoBreak left e xs p l = IsRefusedBy left e (λ r. Refuses xs p (Some l) r × ¬ IsBreakAt xs p)
 
 -- the answer of a call that pulls a head
 abbrev pub IsHeadRead : {S E : Type 0} → (S → Option (List ℕ)) → Decoder S → List ℕ → ℕ → Result Header (Error E) → Type 0
 IsHeadRead remaining d xs p (Ok h) = IsPulled remaining d h xs p
-IsHeadRead remaining d xs p (Err e) = RefusedBy (left_of remaining d) e (HeadRefuses xs p)
+IsHeadRead remaining d xs p (Err e) = IsRefusedBy (left_of remaining d) e (HeadRefuses xs p)
 
 -- the answer of a call that reads a part
 abbrev pub IsPartRead : {S E : Type 0} → (S → Option (List ℕ)) → Decoder S → ℕ → List ℕ → ℕ → Result Part (Error E) → Type 0
@@ -76,10 +76,10 @@ HasRoom (Opened f) l = 0 < l
 HasRoom Ended l = Unit {0}
 
 -- no head is pushed behind a whole value or a break
-abbrev pub Rests : Part → Option (Header × ℕ) → Type 0
-Rests (Whole v) pushed = pushed ≡ None
-Rests (Opened f) pushed = Unit {0}
-Rests Ended pushed = pushed ≡ None
+abbrev pub IsAtRest : Part → Option (Header × ℕ) → Type 0
+IsAtRest (Whole v) pushed = pushed ≡ None
+IsAtRest (Opened f) pushed = Unit {0}
+IsAtRest Ended pushed = pushed ≡ None
 
 -- what the bytes over which a tag at offset p folds are read as
 abbrev pub IsFolded : {E : Type 0} → ℕ → List ℕ → ℕ → Result Value (Error E) → Type 0
@@ -96,7 +96,7 @@ FoldRefuses t n p xs e =
 abbrev pub IsFoldRead : {S E : Type 0} → (S → Option (List ℕ)) → Decoder S → ℕ → ℕ → ℕ → List ℕ → ℕ → Result Value (Error E) → Type 0
 IsFoldRead remaining d t n at xs p (Ok v) =
     (b : List ℕ) × (r : List ℕ) × (length b ≡ n) × AreBytes b × (bignum_meaning t b ≡ Some (tree_of v)) × (xs ≡ b ++ r) × IsAt remaining d r (p + n)
-IsFoldRead remaining d t n at xs p (Err e) = p + n ≤ greatest_offset → RefusedBy (left_of remaining d) e (FoldRefuses t n at xs)
+IsFoldRead remaining d t n at xs p (Err e) = p + n ≤ greatest_offset → IsRefusedBy (left_of remaining d) e (FoldRefuses t n at xs)
 
 -- whether a tag folds over what has this header behind it, and over how many bytes
 abbrev pub IsFolding : ℕ → Header → Option ℕ → Type 0

@@ -5,7 +5,7 @@ use Rattle.ciborium_ll.specs.declared.decoder.Decoder.{Decoder}
 use Rattle.ciborium_ll.specs.Bytes.{greatest_offset}
 use Rattle.ciborium_ll.specs.Head.{break_byte}
 use Rattle.ciborium_ll.specs.Header.{SpellsHeader}
-use Rattle.ciborium_ll.specs.Refusal.{IsUsable, BeginsWith}
+use Rattle.ciborium_ll.specs.Refusal.{IsUsable, IsAtFront}
 use Rattle.ciborium_value.specs.Refuses.{IsReadAs}
 use Rattle.ciborium_value.specs.Tree.{Tree}
 
@@ -27,7 +27,7 @@ IsPulled remaining d header xs p =
 
 -- a break stands at the front and may be read
 abbrev pub IsBreakAt : List ℕ → ℕ → Type 0
-IsBreakAt b p = (p < greatest_offset) × BeginsWith break_byte b
+IsBreakAt b p = (p < greatest_offset) × IsAtFront break_byte b
 
 abbrev pub heads_by : ℕ → Option (Header × ℕ) → ℕ
 heads_by n None = 2 * n

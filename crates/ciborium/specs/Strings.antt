@@ -10,7 +10,7 @@ use Rattle.ciborium_value.specs.Tree as trees
 use Rattle.ciborium_value.specs.Tree.{Tree}
 use Rattle.ciborium_value.specs.View.{tree_of}
 use Rattle.ciborium.specs.declared.de.error.Error.{Error}
-use Rattle.ciborium.specs.Errors.{RefusedBy}
+use Rattle.ciborium.specs.Errors.{IsRefusedBy}
 use Rattle.ciborium.specs.Reads.{IsAt}
 
 -- the tree of a string
@@ -21,6 +21,6 @@ string_tree of_text b = trees.text b
 -- the payload of a string of this length, whose head is at offset at, stands at xs, offset p
 abbrev pub IsStringRead : {S E : Type 0} → StringKind → (S → Option (List ℕ)) → Decoder S → Option ℕ → ℕ → List ℕ → ℕ → Result Value (Error E) → Type 0
 IsStringRead {S} {E} kind remaining d len at xs p (Ok v) =
-    (b : List ℕ) × (added : List ℕ) × (r : List ℕ) × IsStringTaken {E = E} kind len at p (Ok tt) added b × (tree_of v ≡ string_tree kind added) ×
+    (b : List ℕ) × (added : List ℕ) × (r : List ℕ) × IsStringTaken {E = E} kind len at b p (Ok tt) added × (tree_of v ≡ string_tree kind added) ×
     (xs ≡ b ++ r) × IsAt remaining d r (p + length b) × (p + length b ≤ greatest_offset)
-IsStringRead kind remaining d len at xs p (Err e) = RefusedBy (left_of remaining d) e (ContentRefuses kind len at xs p)
+IsStringRead kind remaining d len at xs p (Err e) = IsRefusedBy (left_of remaining d) e (ContentRefuses kind len at xs p)

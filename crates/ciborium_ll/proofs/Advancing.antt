@@ -32,30 +32,30 @@ single (x ∷ y ∷ ys) h = absurd (omega (arith, h))
 
 -- ---- an initial byte, and what is read behind it
 
--- a buffer was filled at offset p
-abbrev pub Filled : ℕ → List ℕ → List ℕ → Type 0
-Filled p buffer b = (b ≡ buffer) × (p + length buffer ≤ greatest_offset)
+-- b was taken at offset p, and fills a buffer
+abbrev pub Filled : List ℕ → ℕ → List ℕ → Type 0
+Filled b p buffer = (b ≡ buffer) × (p + length buffer ≤ greatest_offset)
 
 -- a head behind its initial byte
-pub head-behind : (E : Type 0) (a b c : Option (List ℕ)) (p q r : ℕ) (first : List ℕ) (result : Result Header (Error E)) → length first ≡ 1 → Advances a b p q (Filled p first) →
-    Advances b c q r (λ y. IsHeadTaken {E = E} p result (get_or first 0 0 ∷ y)) → Advances a c p r (IsHeadTaken {E = E} p result)
+pub head-behind : (E : Type 0) (a b c : Option (List ℕ)) (p q r : ℕ) (first : List ℕ) (result : Result Header (Error E)) → length first ≡ 1 → Advances a b p q (λ x. Filled x p first) →
+    Advances b c q r (λ y. IsHeadTaken {E = E} (get_or first 0 0 ∷ y) p result) → Advances a c p r (λ x. IsHeadTaken {E = E} x p result)
 head-behind E a b c p q r first result one =
-    Advances-then a b c p q r (Filled p first) (λ y. IsHeadTaken {E = E} p result (get_or first 0 0 ∷ y)) (IsHeadTaken {E = E} p result)
-    (λ x y e h. subst (λ l. IsHeadTaken {E = E} p result (l ++ y)) (sym (e.0 ∙ single first one)) h)
+    Advances-then a b c p q r (λ x. Filled x p first) (λ y. IsHeadTaken {E = E} (get_or first 0 0 ∷ y) p result) (λ x. IsHeadTaken {E = E} x p result)
+    (λ x y e h. subst (λ l. IsHeadTaken {E = E} (l ++ y) p result) (sym (e.0 ∙ single first one)) h)
 
 module _ (b c : Option (List ℕ)) (p q r initial : ℕ) (bytes : List ℕ) where
   -- the argument was refused
-  pub argument-fails : {E : Type 0} (e : Error E) → q ≡ p + 1 → q ≤ greatest_offset → length bytes ≡ argument_length (initial % 32) → Advances b c q r (IsFillTaken {E = E} q bytes (Err e)) →
-      Advances b c q r (λ y. IsHeadTaken {E = E} p (Err e) (initial ∷ y))
+  pub argument-fails : {E : Type 0} (e : Error E) → q ≡ p + 1 → q ≤ greatest_offset → length bytes ≡ argument_length (initial % 32) → Advances b c q r (λ x. IsFillTaken {E = E} x q bytes (Err e)) →
+      Advances b c q r (λ y. IsHeadTaken {E = E} (initial ∷ y) p (Err e))
   argument-fails {E} e at fits len =
-      Advances-map b c q r (IsFillTaken {E = E} q bytes (Err e)) (λ y. IsHeadTaken {E = E} p (Err e) (initial ∷ y))
-      (λ y h. argument-refused {E = E} p initial bytes y e (omega (arith, at, fits)) len (subst (λ n. IsFillTaken {E = E} n bytes (Err e) y) at h))
+      Advances-map b c q r (λ x. IsFillTaken {E = E} x q bytes (Err e)) (λ y. IsHeadTaken {E = E} (initial ∷ y) p (Err e))
+      (λ y h. argument-refused {E = E} initial y p bytes e (omega (arith, at, fits)) len (subst (λ n. IsFillTaken {E = E} y n bytes (Err e)) at h))
 
   -- it was read whole
-  pub argument-whole : (E : Type 0) (result : Result Header (Error E)) → Advances b c q r (Filled q bytes) → IsHeadTaken {E = E} p result (initial ∷ bytes) →
-      Advances b c q r (λ y. IsHeadTaken {E = E} p result (initial ∷ y))
+  pub argument-whole : (E : Type 0) (result : Result Header (Error E)) → Advances b c q r (λ x. Filled x q bytes) → IsHeadTaken {E = E} (initial ∷ bytes) p result →
+      Advances b c q r (λ y. IsHeadTaken {E = E} (initial ∷ y) p result)
   argument-whole E result second h =
-      Advances-map b c q r (Filled q bytes) (λ y. IsHeadTaken {E = E} p result (initial ∷ y)) (λ y f. subst (λ l. IsHeadTaken {E = E} p result (initial ∷ l)) (sym f.0) h) second
+      Advances-map b c q r (λ x. Filled x q bytes) (λ y. IsHeadTaken {E = E} (initial ∷ y) p result) (λ y f. subst (λ l. IsHeadTaken {E = E} (initial ∷ l) p result) (sym f.0) h) second
 
-  pub argument-end : q ≡ p + 1 → Advances b c q r (Filled q bytes) → (r ≡ p + 1 + length bytes) × (r ≤ greatest_offset)
+  pub argument-end : q ≡ p + 1 → Advances b c q r (λ x. Filled x q bytes) → (r ≡ p + 1 + length bytes) × (r ≤ greatest_offset)
   argument-end at second = let len : length second.0 ≡ length bytes = ap length second.3.0 in (omega (arith, at, len, second.2), omega (arith, at, len, second.2, second.3.1))

@@ -3,7 +3,7 @@ use Rattle.std.proofs.Common.{◌≡◌, ℕ, suc, ◌+◌, ◌*◌, ◌/◌, �
 use Rattle.std.specs.Int.{to_be_bytes, from_be_bytes, w16, w32, w64}
 use Rattle.std.proofs.lemmas.Bool.{lt-ltb}
 use Rattle.std.proofs.lemmas.Nat.{div-mul-add, mod-mul-add, from_be_bytes-to_be_bytes_2, from_be_bytes-to_be_bytes_4, from_be_bytes-to_be_bytes_8}
-use Rattle.ciborium_ll.specs.Head.{Width, within, one_byte, two_bytes, four_bytes, eight_bytes, argument_bytes, head_in, Head, capacity}
+use Rattle.ciborium_ll.specs.Head.{Width, within, one_byte, two_bytes, four_bytes, eight_bytes, argument_bytes, head_in, IsHead, capacity}
 
 pub data Front : Type 0 where
   nothing : Front
@@ -46,10 +46,10 @@ front-head_in two_bytes m n bs k h = below_31 m 25 (to_be_bytes w16 n ++ bs) (om
 front-head_in four_bytes m n bs k h = below_31 m 26 (to_be_bytes w32 n ++ bs) (omega arith) k ∙ ap (λ v. counted m v bs) (from_be_bytes-to_be_bytes_4 n h)
 front-head_in eight_bytes m n bs k h = below_31 m 27 (to_be_bytes w64 n ++ bs) (omega arith) k ∙ ap (λ v. counted m v bs) (from_be_bytes-to_be_bytes_8 n h)
 
-pub front-head : (b : List ℕ) (m n : ℕ) (bs : List ℕ) → m < 7 → Head b m n → front (b ++ bs) ≡ counted m n bs
+pub front-head : (b : List ℕ) (m n : ℕ) (bs : List ℕ) → m < 7 → IsHead b m n → front (b ++ bs) ≡ counted m n bs
 front-head b m n bs k h = ap (λ c. front (c ++ bs)) h.2 ∙ front-head_in h.0 m n bs k h.1
 
-pub head-length : (b : List ℕ) (m n : ℕ) → Head b m n → 0 < length b
+pub head-length : (b : List ℕ) (m n : ℕ) → IsHead b m n → 0 < length b
 head-length b m n h = let more : length b ≡ suc (length (argument_bytes h.0 n)) = ap length h.2 in omega (arith, more)
 
 pub front-simple : (n : ℕ) (bs : List ℕ) → n < 24 → front ((224 + n) ∷ bs) ≡ plain n bs

@@ -7,7 +7,7 @@ use Rattle.ciborium_ll.specs.declared.header.Header.TheVariants.{Positive, Negat
 use Rattle.ciborium_ll.specs.declared.header.Error.{Error}
 use Rattle.ciborium_ll.specs.declared.header.Error.TheVariants.{Io, Syntax, TooLong, Memory}
 use Rattle.ciborium_ll.specs.Bytes.{greatest_offset}
-use Rattle.ciborium_ll.specs.Head.{Width, capacity, information, argument_bytes, initial_byte, Head}
+use Rattle.ciborium_ll.specs.Head.{Width, capacity, information, argument_bytes, initial_byte, IsHead}
 use Rattle.ciborium_ll.specs.Header.{SpellsHeader, announced_length}
 use Rattle.ciborium_ll.specs.Reading.{IsFillTaken, IsHeadTaken, NoneIsSpare}
 use Rattle.ciborium_ll.specs.Refusal.{Refusal, io, syntax, too_long, argument_length, is_reserved, is_low_simple, is_ill_formed, payload_length, initial_refusal, head_refusal, HeadRefuses, IsUsable}
@@ -59,40 +59,40 @@ no-spare p k lt = absurd (omega arith)
 
 -- ---- the first byte
 
-pub first-refused : {E : Type 0} (p : ℕ) (buffer b : List ℕ) (e : Error E) → length buffer ≡ 1 → IsFillTaken p buffer (Err e) b → IsHeadTaken p (Err e) b
-first-refused p buffer [] (Io e) one h = record { answers = empty-io p (omega arith); needed = no-spare p }
-first-refused p buffer (x ∷ b) (Io e) one h = absurd (omega (arith, h.0, one))
-first-refused p buffer b (Syntax at) one h = absurd h
-first-refused p buffer b TooLong one h =
+pub first-refused : {E : Type 0} (b : List ℕ) (p : ℕ) (buffer : List ℕ) (e : Error E) → length buffer ≡ 1 → IsFillTaken b p buffer (Err e) → IsHeadTaken b p (Err e)
+first-refused [] p buffer (Io e) one h = record { answers = empty-io p (omega arith); needed = no-spare p }
+first-refused (x ∷ b) p buffer (Io e) one h = absurd (omega (arith, h.0, one))
+first-refused b p buffer (Syntax at) one h = absurd h
+first-refused b p buffer TooLong one h =
     let over : greatest_offset ≤ p = omega (arith, h.1, one) in
     let none : HeadRefuses [] p too_long = pass _ _ _ (le-ltb p greatest_offset over) in
     record { answers = subst (λ c. HeadRefuses c p too_long) (sym h.0) none; needed = subst (λ c. NoneIsSpare c p) (sym h.0) (no-spare p) }
-first-refused p buffer b Memory one h = absurd h
+first-refused b p buffer Memory one h = absurd h
 
 -- ---- the argument
 
-pub argument-refused : {E : Type 0} (p x : ℕ) (buffer b : List ℕ) (e : Error E) → p + 1 ≤ greatest_offset → length buffer ≡ argument_length (x % 32) →
-    IsFillTaken (p + 1) buffer (Err e) b → IsHeadTaken p (Err e) (x ∷ b)
-argument-refused p x buffer b (Io e) first len h =
+pub argument-refused : {E : Type 0} (x : ℕ) (b : List ℕ) (p : ℕ) (buffer : List ℕ) (e : Error E) → p + 1 ≤ greatest_offset → length buffer ≡ argument_length (x % 32) →
+    IsFillTaken b (p + 1) buffer (Err e) → IsHeadTaken (x ∷ b) p (Err e)
+argument-refused x b p buffer (Io e) first len h =
     let room : p + 1 + argument_length (x % 32) ≤ greatest_offset = omega (arith, h.1, len) in
     record { answers = short-io x b p (omega (arith, h.0, len)) room; needed = none-spare x b p (omega arith) (omega (arith, h.0, len)) (λ z. room) }
-argument-refused p x buffer b (Syntax at) first len h = absurd h
-argument-refused p x buffer b TooLong first len h =
+argument-refused x b p buffer (Syntax at) first len h = absurd h
+argument-refused x b p buffer TooLong first len h =
     let over : greatest_offset < p + 1 + argument_length (x % 32) = omega (arith, h.1, len) in
     let alone : HeadRefuses (x ∷ []) p too_long =
     behind-first x [] p (omega arith) (and_false _ _ refl) ∙ pass _ _ _ (unreserved-long (x / 32) (x % 32) (omega arith)) ∙ hold _ _ _ (lt-ltb greatest_offset (p + 1 + argument_length (x % 32)) over) in
     let spare : NoneIsSpare (x ∷ []) p = none-spare x [] p (omega arith) (omega arith) (λ z. absurd (omega arith)) in
     record { answers = subst (λ c. HeadRefuses (x ∷ c) p too_long) (sym h.0) alone; needed = subst (λ c. NoneIsSpare (x ∷ c) p) (sym h.0) spare }
-argument-refused p x buffer b Memory first len h = absurd h
+argument-refused x b p buffer Memory first len h = absurd h
 
 -- ---- a whole head
 
-module _ (p x : ℕ) (b : List ℕ) (len : length b ≡ argument_length (x % 32)) (room : p + 1 + argument_length (x % 32) ≤ greatest_offset) where
+module _ (x : ℕ) (b : List ℕ) (p : ℕ) (len : length b ≡ argument_length (x % 32)) (room : p + 1 + argument_length (x % 32) ≤ greatest_offset) where
   whole-spare : NoneIsSpare (x ∷ b) p
   whole-spare = none-spare x b p (omega arith) (omega arith) (λ z. room)
 
   -- a head that is ill-formed
-  pub ill-formed : {E : Type 0} → IsTrue (is_ill_formed (x ∷ b)) → IsHeadTaken {E = E} p (Err (Syntax p)) (x ∷ b)
+  pub ill-formed : {E : Type 0} → IsTrue (is_ill_formed (x ∷ b)) → IsHeadTaken {E = E} (x ∷ b) p (Err (Syntax p))
   ill-formed h = record { answers = by (is_low_simple x b) refl; needed = whole-spare }
     where
       some_follows : is_low_simple x b ≡ true → 0 < argument_length (x % 32)
@@ -130,7 +130,7 @@ Begins b announced = (m : ℕ) × (a : ℕ) × (c : List ℕ) × (b ≡ initial_
 argument-whole : (w : Width) (n : ℕ) → n < capacity w → Rattle.ciborium_ll.specs.Refusal.argument (information w n) (argument_bytes w n) ≡ n
 argument-whole w n h = ap (Rattle.ciborium_ll.specs.Refusal.argument (information w n)) (sym (append-nil (argument_bytes w n))) ∙ argument-information w n [] h
 
-plain-begins : (b : List ℕ) (m n : ℕ) → m < 7 → ((a : ℕ) (c : List ℕ) → payload_length m a c ≡ 0) → Head b m n → Begins b 0
+plain-begins : (b : List ℕ) (m n : ℕ) → m < 7 → ((a : ℕ) (c : List ℕ) → payload_length m a c ≡ 0) → IsHead b m n → Begins b 0
 plain-begins b m n lt none (w, h, e) =
     let i = information-below w n h in (
       m,
@@ -140,7 +140,7 @@ plain-begins b m n lt none (w, h, e) =
       record { below = omega arith; fair = unreserved m (information w n) i; high = not_low (initial_byte m (information w n)) (argument_bytes w n) (omega arith); payload = none (information w n) (argument_bytes w n); size = sym (argument_length-information w n h) },
     )
 
-string-begins : (b : List ℕ) (m n : ℕ) → (m ≡ 2) ⊎ (m ≡ 3) → Head b m n → Begins b n
+string-begins : (b : List ℕ) (m n : ℕ) → (m ≡ 2) ⊎ (m ≡ 3) → IsHead b m n → Begins b n
 string-begins b m n kind (w, h, e) =
     let i = information-below w n h in
     let lt : m < 7 = less kind in (
@@ -203,22 +203,22 @@ begins-answer x b n p (m, a, c, e, f) len room =
     ap (λ (d : List ℕ). head_refusal d p) e ∙ facts-answer m a n p c f here (omega arith) ∙
     ap (λ k. cond (ltb greatest_offset (p + 1 + k + n)) (Some too_long) None) (sym (len ∙ size))
 
-module _ (p x : ℕ) (b : List ℕ) (h : Header) (spelled : SpellsHeader (x ∷ b) h) (len : length b ≡ argument_length (x % 32)) (room : p + 1 + argument_length (x % 32) ≤ greatest_offset) where
-  pub usable-head : {E : Type 0} → p + 1 + length b + announced_length h ≤ greatest_offset → IsHeadTaken {E = E} p (Ok h) (x ∷ b)
+module _ (x : ℕ) (b : List ℕ) (p : ℕ) (h : Header) (spelled : SpellsHeader (x ∷ b) h) (len : length b ≡ argument_length (x % 32)) (room : p + 1 + argument_length (x % 32) ≤ greatest_offset) where
+  pub usable-head : {E : Type 0} → p + 1 + length b + announced_length h ≤ greatest_offset → IsHeadTaken {E = E} (x ∷ b) p (Ok h)
   usable-head fits = record {
     answers = (spelled, begins-answer x b (announced_length h) p (header-begins (x ∷ b) h spelled) len room ∙ pass _ _ _ (le-ltb greatest_offset (p + 1 + length b + announced_length h) fits));
-    needed = whole-spare p x b len room;
+    needed = whole-spare x b p len room;
   }
 
-  pub long-head : {E : Type 0} → greatest_offset < p + 1 + length b + announced_length h → IsHeadTaken {E = E} p (Err TooLong) (x ∷ b)
+  pub long-head : {E : Type 0} → greatest_offset < p + 1 + length b + announced_length h → IsHeadTaken {E = E} (x ∷ b) p (Err TooLong)
   long-head over = record {
     answers = begins-answer x b (announced_length h) p (header-begins (x ∷ b) h spelled) len room ∙ hold _ _ _ (lt-ltb greatest_offset (p + 1 + length b + announced_length h) over);
-    needed = whole-spare p x b len room;
+    needed = whole-spare x b p len room;
   }
 
 -- the payload that a usable head announces fits behind it
-pub header-fits : {E : Type 0} (p : ℕ) (h : Header) (b : List ℕ) → IsHeadTaken {E = E} p (Ok h) b → p + length b + announced_length h ≤ greatest_offset
-header-fits p h b taken = by (header-begins b h taken.answers.0) taken.answers.1
+pub header-fits : {E : Type 0} (b : List ℕ) (p : ℕ) (h : Header) → IsHeadTaken {E = E} b p (Ok h) → p + length b + announced_length h ≤ greatest_offset
+header-fits b p h taken = by (header-begins b h taken.answers.0) taken.answers.1
   where
     by : Begins b (announced_length h) → IsUsable b p → p + length b + announced_length h ≤ greatest_offset
     by (m, a, c, e, f) usable =

@@ -2,7 +2,7 @@
 use Rattle.std.proofs.Common.{◌≡◌, ℕ, suc, ◌<◌, ◌≤◌, ◌⊎◌, cond, List, [], ◌∷◌, length, Option, Some, None, refl, sym, ap, ◌∙◌, inl, inr, arith, lt-ltb, le-ltb}
 use Rattle.ciborium_ll.specs.declared.header.Header.{Header}
 use Rattle.ciborium_ll.specs.declared.header.Header.TheVariants.{Positive, Negative, Bytes, Text, Array, Map, Tag, Simple, Float, Break}
-use Rattle.ciborium_ll.specs.Head.{initial_byte, Head, shortest_head, IsSimple, simple_bytes, IsFloat}
+use Rattle.ciborium_ll.specs.Head.{initial_byte, IsHead, shortest_head, IsSimple, simple_bytes, IsFloat}
 use Rattle.ciborium_ll.specs.Header.{IsCounted, counted_bytes, header_bytes, SpellsHeader, IsProperCount}
 use Rattle.ciborium_ll.specs.HeaderLaws.{HeaderBytesSpell, NoSpellingIsShorter, NoOtherSpellingIsAsShort}
 use Rattle.ciborium_ll.proofs.ShortestHead.{shortest_is_head, none_is_shorter, no_other_is_as_short}
@@ -40,7 +40,7 @@ Least written b = (length written ≤ length b) × (length b ≤ length written 
 least-itself : (written b : List ℕ) → b ≡ written → Least written b
 least-itself written b e = (let l : length b ≡ length written = ap length e in omega arith, λ h. e)
 
-least-head : (b : List ℕ) (m n : ℕ) → Head b m n → Least (shortest_head m n) b
+least-head : (b : List ℕ) (m n : ℕ) → IsHead b m n → Least (shortest_head m n) b
 least-head b m n s = (none_is_shorter b m n s, no_other_is_as_short b m n s)
 
 least-counted : (b : List ℕ) (m : ℕ) (n : Option ℕ) → IsCounted b m n → Least (counted_bytes m n) b

@@ -2,7 +2,7 @@
 use Rattle.std.proofs.Common.{◌≡◌, ℕ, zero, suc, ◌+◌, ◌-◌, ◌*◌, ◌<◌, ◌≤◌, cond, eqb, Bool, true, false, List, [], ◌∷◌, ◌++◌, length, take, drop, Option, Some, None, option_map, option_and_then, refl, sym, ap, ◌∙◌, arith, inl, inr, append_assoc, length-append}
 use Rattle.std.specs.Prelude.{IsUtf8}
 use Rattle.std.proofs.Math.Seq.{take-append_seam, drop-append_seam}
-use Rattle.ciborium_ll.specs.Head.{Head, IsSimple, IsFloat}
+use Rattle.ciborium_ll.specs.Head.{IsHead, IsSimple, IsFloat}
 use Rattle.ciborium_ll.specs.Item.{Item, unsigned, negative, bytes, text, array, map, tag, simple, float, Items, no_items, item, Pairs, no_pairs, pair, items_count, pairs_count}
 use Rattle.ciborium_ll.specs.Bytes.{AreBytes}
 use Rattle.ciborium_ll.specs.Spells.{AreParts, joined, IsString, Spells, SpellsItems, SpellsPairs}
@@ -130,7 +130,7 @@ weight-pos (simple n) = omega arith
 weight-pos (float r) = omega arith
 
 -- a head h stands before q
-front-counted : (b h q x : List ℕ) (m n : ℕ) → m < 7 → Head h m n → b ≡ h ++ q → front (b ++ x) ≡ counted m n (q ++ x)
+front-counted : (b h q x : List ℕ) (m n : ℕ) → m < 7 → IsHead h m n → b ≡ h ++ q → front (b ++ x) ≡ counted m n (q ++ x)
 front-counted b h q x m n k s e = ap (λ (c : List ℕ). front (c ++ x)) e ∙ ap front (append_assoc h q x) ∙ front-head h m n (q ++ x) k s
 
 front-opened : (b q x : List ℕ) (m : ℕ) → b ≡ (m * 32 + 31) ∷ (q ++ (255 ∷ [])) → front (b ++ x) ≡ opened m (q ++ (255 ∷ x))
@@ -143,11 +143,11 @@ read-break d x h = read_is d (255 ∷ x) h ∙ ap (item_at (read (d - 1)) (d - 1
 taken : (c : List ℕ → Item) (p x : List ℕ) → found (c (take (length p) (p ++ x))) (drop (length p) (p ++ x)) ≡ found (c p) x
 taken c p x = ap (λ (t : List ℕ). found (c t) (drop (length p) (p ++ x))) (take-append_seam p x) ∙ ap (found (c p)) (drop-append_seam p x)
 
-parts-again : (m : ℕ) (Allowed : List ℕ → Type 0) (ps : List (List ℕ)) (k : ℕ) (b x : List ℕ) → m < 7 → length b < k → AreParts m Allowed b ps → parts k (b ++ (255 ∷ x)) ≡ found (joined ps) x
-parts-again m Allowed [] zero b x lt le s = let never : ⊥ = omega arith in absurd never
-parts-again m Allowed [] (suc k) b x lt le s = ap (λ (c : List ℕ). part_in (parts k) (front (c ++ (255 ∷ x)))) s ∙ ap (part_in (parts k)) (front_open 7 x)
-parts-again m Allowed (p ∷ ps) zero b x lt le s = let never : ⊥ = omega arith in absurd never
-parts-again m Allowed (p ∷ ps) (suc k) b x lt le s =
+parts-again : (m : ℕ) (IsAllowed : List ℕ → Type 0) (ps : List (List ℕ)) (k : ℕ) (b x : List ℕ) → m < 7 → length b < k → AreParts m IsAllowed b ps → parts k (b ++ (255 ∷ x)) ≡ found (joined ps) x
+parts-again m IsAllowed [] zero b x lt le s = let never : ⊥ = omega arith in absurd never
+parts-again m IsAllowed [] (suc k) b x lt le s = ap (λ (c : List ℕ). part_in (parts k) (front (c ++ (255 ∷ x)))) s ∙ ap (part_in (parts k)) (front_open 7 x)
+parts-again m IsAllowed (p ∷ ps) zero b x lt le s = let never : ⊥ = omega arith in absurd never
+parts-again m IsAllowed (p ∷ ps) (suc k) b x lt le s =
     let q = s.0 in
     let r = s.1 in
     let str = s.2 in
@@ -158,7 +158,7 @@ parts-again m Allowed (p ∷ ps) (suc k) b x lt le s =
     ap (part_in (parts k)) at ∙
     ap (λ (t : List ℕ). parse_map (λ z. take (length p) (p ++ (r ++ (255 ∷ x))) ++ z) (parts k t)) (drop-append_seam p (r ++ (255 ∷ x))) ∙
     ap (λ (t : List ℕ). parse_map (λ z. t ++ z) (parts k (r ++ (255 ∷ x)))) (take-append_seam p (r ++ (255 ∷ x))) ∙
-    ap (parse_map (λ z. p ++ z)) (parts-again m Allowed ps k r x lt shorter s.3)
+    ap (parse_map (λ z. p ++ z)) (parts-again m IsAllowed ps k r x lt shorter s.3)
 
 string-again : (d : ℕ) (o : Bool) (p b x : List ℕ) → 0 < d → IsString o 2 AreBytes b p → read d (b ++ x) ≡ found (bytes o p) x
 string-again d false p b x h s =

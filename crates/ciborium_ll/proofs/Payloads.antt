@@ -23,10 +23,10 @@ piece-size left size scratch piece same len =
 
 -- what has been appended before a piece
 abbrev pub Appended : ℕ → ℕ → List ℕ → List ℕ → List ℕ → Type 0
-Appended n left old new b = (new ≡ old ++ b) × (length b + left ≡ n)
+Appended n left b old new = (new ≡ old ++ b) × (length b + left ≡ n)
 
-refused : {E : Type 0} (n left q : ℕ) (old new piece x y : List ℕ) (e : Error E) → length piece ≤ left → q + left ≤ greatest_offset → Appended n left old new x →
-    IsFillTaken {E = E} q piece (Err e) y → IsPiecesTaken {E = E} n (Err e) old new (x ++ y)
+refused : {E : Type 0} (n left q : ℕ) (old new piece x y : List ℕ) (e : Error E) → length piece ≤ left → q + left ≤ greatest_offset → Appended n left x old new →
+    IsFillTaken {E = E} y q piece (Err e) → IsPiecesTaken {E = E} n (x ++ y) (Err e) old new
 refused n left q old new piece x y (Io e) short below s h = (omega (arith, short, s.1, h.0, length-append x y), (x, s.0))
 refused n left q old new piece x y (Syntax at) short below s h = absurd h
 refused n left q old new piece x y TooLong short below s h = absurd (omega (arith, short, below, h.1))
@@ -34,21 +34,21 @@ refused n left q old new piece x y Memory short below s h = absurd h
 
 -- a piece was taken and appended
 pub piece-taken : (a b c : Option (List ℕ)) (p q r n left size : ℕ) (old mid new piece : List ℕ) → size ≤ left → length piece ≡ size → new ≡ mid ++ piece →
-    Advances a b p q (Appended n left old mid) → Advances b c q r (Filled q piece) → Advances a c p r (Appended n (left - size) old new)
+    Advances a b p q (λ x. Appended n left x old mid) → Advances b c q r (λ x. Filled x q piece) → Advances a c p r (λ x. Appended n (left - size) x old new)
 piece-taken a b c p q r n left size old mid new piece short len more before now =
-    Advances-then a b c p q r (Appended n left old mid) (Filled q piece) (Appended n (left - size) old new)
+    Advances-then a b c p q r (λ x. Appended n left x old mid) (λ x. Filled x q piece) (λ x. Appended n (left - size) x old new)
     (λ x y s h. (more ∙ ap (λ l. l ++ piece) s.0 ∙ append_assoc old x piece ∙ ap (λ l. old ++ (x ++ l)) (sym h.0), omega (arith, short, len, s.1, ap length h.0, length-append x y))) before now
 
 -- the reader refused a piece
 pub piece-refused : {E : Type 0} (a b c : Option (List ℕ)) (p q r n left : ℕ) (old new piece : List ℕ) (e : Error E) → length piece ≤ left → q + left ≤ greatest_offset →
-    Advances a b p q (Appended n left old new) → Advances b c q r (IsFillTaken {E = E} q piece (Err e)) → Advances a c p r (IsPiecesTaken {E = E} n (Err e) old new)
+    Advances a b p q (λ x. Appended n left x old new) → Advances b c q r (λ x. IsFillTaken {E = E} x q piece (Err e)) → Advances a c p r (λ x. IsPiecesTaken {E = E} n x (Err e) old new)
 piece-refused {E} a b c p q r n left old new piece e short below before now =
-    Advances-then a b c p q r (Appended n left old new) (IsFillTaken {E = E} q piece (Err e)) (IsPiecesTaken {E = E} n (Err e) old new)
+    Advances-then a b c p q r (λ x. Appended n left x old new) (λ x. IsFillTaken {E = E} x q piece (Err e)) (λ x. IsPiecesTaken {E = E} n x (Err e) old new)
     (λ x y s h. refused {E = E} n left q old new piece x y e short below s h) before now
 
 -- the memory for a piece was refused
 pub piece-dropped : (a b c : Option (List ℕ)) (p q r n left : ℕ) (old mid new piece : List ℕ) → length piece ≤ left → new ≡ mid →
-    Advances a b p q (Appended n left old mid) → Advances b c q r (Filled q piece) → Advances a c p r (λ x. (length x ≤ n) × Extends old new)
+    Advances a b p q (λ x. Appended n left x old mid) → Advances b c q r (λ x. Filled x q piece) → Advances a c p r (λ x. (length x ≤ n) × Extends old new)
 piece-dropped a b c p q r n left old mid new piece short same before now =
-    Advances-then a b c p q r (Appended n left old mid) (Filled q piece) (λ x. (length x ≤ n) × Extends old new)
+    Advances-then a b c p q r (λ x. Appended n left x old mid) (λ x. Filled x q piece) (λ x. (length x ≤ n) × Extends old new)
     (λ x y s h. (omega (arith, short, s.1, ap length h.0, length-append x y), (x, same ∙ s.0))) before now

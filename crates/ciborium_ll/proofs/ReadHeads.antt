@@ -6,7 +6,7 @@ use Rattle.std.proofs.lemmas.Bool.Decides.{nat_tests}
 use Rattle.std.proofs.lemmas.List.{length-take-le}
 use Rattle.std.proofs.lemmas.Nat.{be_bytes_2, be_bytes_4, be_bytes_8}
 use Rattle.ciborium_ll.specs.Head.{Width, within, one_byte, two_bytes, four_bytes, eight_bytes, information, argument_bytes, head_in, IsSimple, capacity}
-use Rattle.ciborium_ll.specs.Refusal.{io, too_long, argument_length, is_reserved, argument, payload_length, IsUsable, HeadStands}
+use Rattle.ciborium_ll.specs.Refusal.{io, too_long, argument_length, is_reserved, argument, payload_length, IsUsable, HasHead}
 use Rattle.ciborium_ll.specs.Bytes.{greatest_offset}
 use Rattle.ciborium_ll.proofs.FrontHeads.{Front, nothing, counted, opened, plain, raw, front_number, front_other, front_in, front}
 use Rattle.ciborium_ll.proofs.UsableHeads.{EachIsByte, byte_at, take_bytes, usable-fits, HeadFits, low, IsStringMajor, argument_length-information}
@@ -14,7 +14,7 @@ use Rattle.ciborium_ll.proofs.UsableHeads.{EachIsByte, byte_at, take_bytes, usab
 -- what is known of the bytes where this head was read
 abbrev pub Face : List ℕ → ℕ → Front → Type 0
 Face b p nothing = ⊥
-Face b p (counted m n r) = (m < 7) × (k : ℕ) × HeadStands b m n k r × (p + k ≤ greatest_offset) × (IsStringMajor m → p + k + n ≤ greatest_offset)
+Face b p (counted m n r) = (m < 7) × (k : ℕ) × HasHead b m n k r × (p + k ≤ greatest_offset) × (IsStringMajor m → p + k + n ≤ greatest_offset)
 Face b p (opened m r) = (b ≡ (m * 32 + 31) ∷ r) × (m < 8) × (m ≢ 0) × (m ≢ 1) × (m ≢ 6) × (p < greatest_offset)
 Face b p (plain n r) = (s : List ℕ) × IsSimple s n × (b ≡ s ++ r) × (p + length s ≤ greatest_offset)
 Face b p (raw w r) = (x : ℕ) × (249 ≤ x) × (x ≤ 251) × (b ≡ x ∷ r)

@@ -5,7 +5,7 @@ use Rattle.std.proofs.lemmas.Bool.{cond_both}
 use Rattle.std.proofs.lemmas.Bool.Decides.{nat_tests}
 use Rattle.std.proofs.lemmas.Nat.{div-mul-add, mod-mul-add, from_be_bytes-to_be_bytes_2, from_be_bytes-to_be_bytes_4, from_be_bytes-to_be_bytes_8}
 use Rattle.ciborium_ll.specs.Head.{Width, within, one_byte, two_bytes, four_bytes, eight_bytes, information, argument_bytes, head_in, capacity}
-use Rattle.ciborium_ll.specs.Refusal.{Refusal, syntax, too_long, argument_length, is_reserved, is_low_simple, argument, payload_length, initial_refusal, IsUsable, HeadStands}
+use Rattle.ciborium_ll.specs.Refusal.{Refusal, syntax, too_long, argument_length, is_reserved, is_low_simple, argument, payload_length, initial_refusal, IsUsable, HasHead}
 use Rattle.ciborium_ll.specs.Bytes.{greatest_offset}
 use Rattle.ciborium_ll.proofs.FrontHeads.{counted, front, front-head}
 
@@ -147,16 +147,16 @@ head_in-usable f m n p r lt h room string =
     ) in
     fits-usable x b p (omega arith) (and_false _ _ (not_low x b (omega arith))) (subst (λ k. HeadFits k (x % 32) b p) (sym d) (subst (λ k. HeadFits m k b p) (sym a) u))
 
-pub stands-usable : (b : List ℕ) (m n k p : ℕ) (r : List ℕ) → m < 7 → HeadStands b m n k r → p + k ≤ greatest_offset → (IsStringMajor m → p + k + n ≤ greatest_offset) → IsUsable b p
+pub stands-usable : (b : List ℕ) (m n k p : ℕ) (r : List ℕ) → m < 7 → HasHead b m n k r → p + k ≤ greatest_offset → (IsStringMajor m → p + k + n ≤ greatest_offset) → IsUsable b p
 stands-usable b m n k p r lt s room string =
     let f = s.1.0 in
     let l : k ≡ suc (length (argument_bytes f n)) = sym s.2 ∙ ap length s.1.2 in
     subst (λ c. IsUsable c p) (sym (s.3 ∙ ap (λ (h : List ℕ). h ++ r) s.1.2)) (head_in-usable f m n p r lt s.1.1 (omega arith) (λ t. let q = string t in omega (arith, q, l)))
 
-pub stands-front : (b : List ℕ) (m n k : ℕ) (r : List ℕ) → m < 7 → HeadStands b m n k r → front b ≡ counted m n r
+pub stands-front : (b : List ℕ) (m n k : ℕ) (r : List ℕ) → m < 7 → HasHead b m n k r → front b ≡ counted m n r
 stands-front b m n k r lt s = ap front s.3 ∙ front-head s.0 m n r lt s.1
 
-pub stands-length : (b : List ℕ) (m n k : ℕ) (r : List ℕ) → HeadStands b m n k r → (length b ≡ k + length r) × (0 < k)
+pub stands-length : (b : List ℕ) (m n k : ℕ) (r : List ℕ) → HasHead b m n k r → (length b ≡ k + length r) × (0 < k)
 stands-length b m n k r s =
     let l : length b ≡ length s.0 + length r = ap length s.3 ∙ length-append s.0 r in
     let j : length s.0 ≡ suc (length (argument_bytes s.1.0 n)) = ap length s.1.2 in

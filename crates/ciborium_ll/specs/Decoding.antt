@@ -4,7 +4,7 @@ use Rattle.ciborium_ll.specs.declared.header.Header.{Header}
 use Rattle.ciborium_ll.specs.declared.header.Error.{Error}
 use Rattle.ciborium_ll.specs.declared.decoder.Decoder.{Decoder}
 use Rattle.ciborium_ll.specs.Header.{SpellsHeader}
-use Rattle.ciborium_ll.specs.Reading.{Advances, RefusedBy}
+use Rattle.ciborium_ll.specs.Reading.{Advances, IsRefusedBy}
 use Rattle.ciborium_ll.specs.Refusal.{HeadRefuses, IsUsable}
 
 -- how many bytes were read, from the offset on at which the decoder began
@@ -24,11 +24,11 @@ abbrev pub left_of : {S : Type 0} → (S → Option (List ℕ)) → Decoder S �
 left_of remaining d = remaining d.reader.now
 
 -- the decoder holds the reader that it held, so what is left in it is left to the one who lent it
-abbrev pub SameReader : {S : Type 0} → Decoder S → Decoder S → Type 0
-SameReader old new = new.reader.ghost_name ≡ old.reader.ghost_name
+abbrev pub HasSameReader : {S : Type 0} → Decoder S → Decoder S → Type 0
+HasSameReader old new = new.reader.ghost_name ≡ old.reader.ghost_name
 
 -- nothing has been pulled since the reader was lent, at this offset
-pub record Begins {S : Type 0} (d : Decoder S) (lent : S) (offset : ℕ) : Type 0 where
+pub record HasBegun {S : Type 0} (d : Decoder S) (lent : S) (offset : ℕ) : Type 0 where
   pub reader : d.reader.now ≡ lent
   pub count : d.count ≡ offset
   pub pushed : d.pushed ≡ None
@@ -76,7 +76,7 @@ IsAhead remaining d b p = IsAheadBy remaining d b p d.pushed
 abbrev pub PullsTo : {E : Type 0} → ℕ → ℕ → Option (List ℕ) → List ℕ → ℕ → Result Header (Error E) → Type 0
 PullsTo last count left b p (Ok header) =
     (h : List ℕ) × (r : List ℕ) × SpellsHeader h header × IsUsable b p × (b ≡ h ++ r) × (last ≡ p) × (count ≡ p + length h) × (left ≡ Some r)
-PullsTo last count left b p (Err e) = RefusedBy left e (HeadRefuses b p)
+PullsTo last count left b p (Err e) = IsRefusedBy left e (HeadRefuses b p)
 
 -- the decoder has read so
 abbrev pub Pulls : {S E : Type 0} → (S → Option (List ℕ)) → Decoder S → List ℕ → ℕ → Result Header (Error E) → Type 0

@@ -43,8 +43,8 @@ abbrev pub head_in : Width → ℕ → ℕ → List ℕ
 head_in w major n = initial_byte major (information w n) ∷ argument_bytes w n
 
 -- b is one of the at most five heads of a major type with argument n
-abbrev pub Head : List ℕ → ℕ → ℕ → Type 0
-Head b major n = (w : Width) × (n < capacity w) × (b ≡ head_in w major n)
+abbrev pub IsHead : List ℕ → ℕ → ℕ → Type 0
+IsHead b major n = (w : Width) × (n < capacity w) × (b ≡ head_in w major n)
 
 -- the narrowest width that holds n
 abbrev pub narrowest : ℕ → Width

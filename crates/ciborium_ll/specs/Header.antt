@@ -2,12 +2,12 @@
 use Rattle.std.specs.Prelude.{◌≡◌, ℕ, ◌<◌, ◌≤◌, ◌⊎◌, List, [], ◌∷◌, length, Option, Some, None}
 use Rattle.ciborium_ll.specs.declared.header.Header.{Header}
 use Rattle.ciborium_ll.specs.declared.header.Header.TheVariants.{Positive, Negative, Bytes, Text, Array, Map, Tag, Simple, Float, Break}
-use Rattle.ciborium_ll.specs.Head.{Head, shortest_head, open_byte, break_byte, IsSimple, simple_bytes, IsFloat}
+use Rattle.ciborium_ll.specs.Head.{IsHead, shortest_head, open_byte, break_byte, IsSimple, simple_bytes, IsFloat}
 use Rattle.ciborium_ll.specs.Proper.{IsArgument}
 
 -- b is a head of the major type with this length or count, or the initial byte of an open item
 abbrev pub IsCounted : List ℕ → ℕ → Option ℕ → Type 0
-IsCounted b major (Some n) = Head b major n
+IsCounted b major (Some n) = IsHead b major n
 IsCounted b major None = b ≡ open_byte major ∷ []
 
 -- b is a float of so many raw bytes
@@ -16,13 +16,13 @@ IsFloatOf b size = (raw : List ℕ) × IsFloat b raw × (length raw ≡ size)
 
 -- the whole byte list b spells the head
 abbrev pub SpellsHeader : List ℕ → Header → Type 0
-SpellsHeader b (Positive n) = Head b 0 n
-SpellsHeader b (Negative n) = Head b 1 n
+SpellsHeader b (Positive n) = IsHead b 0 n
+SpellsHeader b (Negative n) = IsHead b 1 n
 SpellsHeader b (Bytes n) = IsCounted b 2 n
 SpellsHeader b (Text n) = IsCounted b 3 n
 SpellsHeader b (Array n) = IsCounted b 4 n
 SpellsHeader b (Map n) = IsCounted b 5 n
-SpellsHeader b (Tag n) = Head b 6 n
+SpellsHeader b (Tag n) = IsHead b 6 n
 SpellsHeader b (Simple n) = IsSimple b n
 SpellsHeader b (Float size) = IsFloatOf b size
 SpellsHeader b Break = b ≡ break_byte ∷ []

@@ -1,6 +1,6 @@
 -- What holds of heads and of spellings (RFC 8949, sections 3 and 4.1).
 use Rattle.std.specs.Prelude.{◌≡◌, ℕ, ◌≤◌, List, [], ◌++◌, length}
-use Rattle.ciborium_ll.specs.Head.{Head, shortest_head}
+use Rattle.ciborium_ll.specs.Head.{IsHead, shortest_head}
 use Rattle.ciborium_ll.specs.Item.{Item}
 use Rattle.ciborium_ll.specs.Proper.{IsArgument}
 use Rattle.ciborium_ll.specs.Spells.{Spells}
@@ -19,12 +19,12 @@ OneAtFront = (a b x y : List ℕ) (i j : Item) → Spells a i → Spells b j →
 
 -- the shortest head is a head
 abbrev pub ShortestIsHead : Type 0
-ShortestIsHead = (major n : ℕ) → IsArgument n → Head (shortest_head major n) major n
+ShortestIsHead = (major n : ℕ) → IsArgument n → IsHead (shortest_head major n) major n
 
 -- no head of the same major type and argument is shorter
 abbrev pub NoneIsShorter : Type 0
-NoneIsShorter = (b : List ℕ) (major n : ℕ) → Head b major n → length (shortest_head major n) ≤ length b
+NoneIsShorter = (b : List ℕ) (major n : ℕ) → IsHead b major n → length (shortest_head major n) ≤ length b
 
 -- no other head of the same major type and argument is as short
 abbrev pub NoOtherIsAsShort : Type 0
-NoOtherIsAsShort = (b : List ℕ) (major n : ℕ) → Head b major n → length b ≤ length (shortest_head major n) → b ≡ shortest_head major n
+NoOtherIsAsShort = (b : List ℕ) (major n : ℕ) → IsHead b major n → length b ≤ length (shortest_head major n) → b ≡ shortest_head major n

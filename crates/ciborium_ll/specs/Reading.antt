@@ -14,11 +14,11 @@ Advances old new p q P = (b : List ℕ) × Consumes old new b × (q ≡ p + leng
 
 -- an error other than `Memory`, of a call that leaves this of the reader, is a refusal of which P holds; `Io` is one where the reader
 -- came to its end
-abbrev pub RefusedBy : {E : Type 0} → Option (List ℕ) → Error E → (Refusal → Type 0) → Type 0
-RefusedBy left (Io e) P = left ≡ Some [] → P io
-RefusedBy left (Syntax p) P = P (syntax p)
-RefusedBy left TooLong P = P too_long
-RefusedBy left Memory P = Unit {0}
+abbrev pub IsRefusedBy : {E : Type 0} → Option (List ℕ) → Error E → (Refusal → Type 0) → Type 0
+IsRefusedBy left (Io e) P = left ≡ Some [] → P io
+IsRefusedBy left (Syntax p) P = P (syntax p)
+IsRefusedBy left TooLong P = P too_long
+IsRefusedBy left Memory P = Unit {0}
 
 -- what the bytes of a whole head are parsed as: the header that they spell, or none where they are ill-formed
 abbrev pub IsParsed : List ℕ → Option Header → Type 0
@@ -36,16 +36,16 @@ AnswersHead b p (Err (Syntax at)) = HeadRefuses b p (syntax at)
 AnswersHead b p (Err TooLong) = HeadRefuses b p too_long
 AnswersHead b p (Err Memory) = ⊥
 
--- just the bytes that decide the answer are taken
-pub record IsHeadTaken {E : Type 0} (p : ℕ) (r : Result Header (Error E)) (b : List ℕ) : Type 0 where
+-- b are the bytes taken at offset p, where reading a head answers so: just those that decide the answer
+pub record IsHeadTaken {E : Type 0} (b : List ℕ) (p : ℕ) (r : Result Header (Error E)) : Type 0 where
   pub answers : AnswersHead b p r
   pub needed : NoneIsSpare b p
 
--- what is taken at offset p where a buffer is filled: all that it then holds, or less at `Io`; nothing where it would pass the
+-- b is taken at offset p where a buffer is filled: all that it then holds, or less at `Io`; nothing where it would pass the
 -- greatest offset
-abbrev pub IsFillTaken : {E : Type 0} → ℕ → List ℕ → Result (Unit {0}) (Error E) → List ℕ → Type 0
-IsFillTaken p buffer (Ok u) b = (b ≡ buffer) × (p + length buffer ≤ greatest_offset)
-IsFillTaken p buffer (Err (Io e)) b = (length b < length buffer) × (p + length buffer ≤ greatest_offset)
-IsFillTaken p buffer (Err (Syntax at)) b = ⊥
-IsFillTaken p buffer (Err TooLong) b = (b ≡ []) × (greatest_offset < p + length buffer)
-IsFillTaken p buffer (Err Memory) b = ⊥
+abbrev pub IsFillTaken : {E : Type 0} → List ℕ → ℕ → List ℕ → Result (Unit {0}) (Error E) → Type 0
+IsFillTaken b p buffer (Ok u) = (b ≡ buffer) × (p + length buffer ≤ greatest_offset)
+IsFillTaken b p buffer (Err (Io e)) = (length b < length buffer) × (p + length buffer ≤ greatest_offset)
+IsFillTaken b p buffer (Err (Syntax at)) = ⊥
+IsFillTaken b p buffer (Err TooLong) = (b ≡ []) × (greatest_offset < p + length buffer)
+IsFillTaken b p buffer (Err Memory) = ⊥

@@ -2,7 +2,7 @@
 use Rattle.std.specs.Prelude.{◌≡◌, ℕ, ◌+◌, ◌/◌, ◌%◌, List, [], ◌∷◌, ◌++◌, length, Bool, false, if◌then◌else◌, ◌==◌, ◌&&◌, ◌||◌, nat_lt, nat_le, slice_index, take, Option, Some, None}
 use Rattle.std.specs.Int.{from_be_bytes, w16, w32, w64}
 use Rattle.ciborium_ll.specs.Bytes.{greatest_offset}
-use Rattle.ciborium_ll.specs.Head.{Head}
+use Rattle.ciborium_ll.specs.Head.{IsHead}
 
 -- why a well-formed item, or a break, has no meaning where it stands
 pub data Kind : Type 0 where
@@ -81,9 +81,9 @@ abbrev pub IsUsable : List ℕ → ℕ → Type 0
 IsUsable b p = head_refusal b p ≡ None
 
 -- a head of a major type with argument n, of k bytes, stands at the front of b, and r follows it
-abbrev pub HeadStands : List ℕ → ℕ → ℕ → ℕ → List ℕ → Type 0
-HeadStands b major n k r = (h : List ℕ) × Head h major n × (length h ≡ k) × (b ≡ h ++ r)
+abbrev pub HasHead : List ℕ → ℕ → ℕ → ℕ → List ℕ → Type 0
+HasHead b major n k r = (h : List ℕ) × IsHead h major n × (length h ≡ k) × (b ≡ h ++ r)
 
 -- x stands at the front
-abbrev pub BeginsWith : ℕ → List ℕ → Type 0
-BeginsWith x b = (r : List ℕ) × (b ≡ x ∷ r)
+abbrev pub IsAtFront : ℕ → List ℕ → Type 0
+IsAtFront x b = (r : List ℕ) × (b ≡ x ∷ r)

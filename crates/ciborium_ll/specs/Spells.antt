@@ -1,18 +1,18 @@
 -- Which byte lists spell an item, from the first byte to the last (RFC 8949, sections 3.1 to 3.3).
 use Rattle.std.specs.Prelude.{◌≡◌, ℕ, List, [], ◌∷◌, ◌++◌, length, Bool, true, false, IsUtf8}
 use Rattle.ciborium_ll.specs.Bytes.{AreBytes}
-use Rattle.ciborium_ll.specs.Head.{Head, open_byte, break_byte, IsSimple, IsFloat}
+use Rattle.ciborium_ll.specs.Head.{IsHead, open_byte, break_byte, IsSimple, IsFloat}
 use Rattle.ciborium_ll.specs.Item.{Item, unsigned, negative, bytes, text, array, map, tag, simple, float, Items, no_items, item, Pairs, no_pairs, pair, items_count, pairs_count}
 
 -- a definite string of a major type: a head with the payload's length, then an allowed payload (section 3.1)
 abbrev pub IsDefiniteString : ℕ → (List ℕ → Type 0) → List ℕ → List ℕ → Type 0
-IsDefiniteString major Allowed b payload = (h : List ℕ) × Head h major (length payload) × Allowed payload × (b ≡ h ++ payload)
+IsDefiniteString major IsAllowed b payload = (h : List ℕ) × IsHead h major (length payload) × IsAllowed payload × (b ≡ h ++ payload)
 
 -- definite strings of a major type in a row, with these payloads, each allowed by itself (section 3.2.3)
 abbrev pub AreParts : ℕ → (List ℕ → Type 0) → List ℕ → List (List ℕ) → Type 0
-AreParts major Allowed b [] = b ≡ []
-AreParts major Allowed b (payload ∷ payloads) =
-    (s : List ℕ) × (r : List ℕ) × IsDefiniteString major Allowed s payload × AreParts major Allowed r payloads × (b ≡ s ++ r)
+AreParts major IsAllowed b [] = b ≡ []
+AreParts major IsAllowed b (payload ∷ payloads) =
+    (s : List ℕ) × (r : List ℕ) × IsDefiniteString major IsAllowed s payload × AreParts major IsAllowed r payloads × (b ≡ s ++ r)
 
 -- lists joined in order
 abbrev pub joined : List (List ℕ) → List ℕ
@@ -21,31 +21,31 @@ joined (p ∷ ps) = p ++ joined ps
 
 -- an open string of a major type: its initial byte, parts whose payloads joined are this one, and the break (section 3.2.3)
 abbrev pub IsOpenString : ℕ → (List ℕ → Type 0) → List ℕ → List ℕ → Type 0
-IsOpenString major Allowed b payload =
-    (payloads : List (List ℕ)) × (r : List ℕ) × AreParts major Allowed r payloads × (payload ≡ joined payloads) ×
+IsOpenString major IsAllowed b payload =
+    (payloads : List (List ℕ)) × (r : List ℕ) × AreParts major IsAllowed r payloads × (payload ≡ joined payloads) ×
     (b ≡ open_byte major ∷ (r ++ (break_byte ∷ [])))
 
 -- a string of a major type, definite or open
 abbrev pub IsString : Bool → ℕ → (List ℕ → Type 0) → List ℕ → List ℕ → Type 0
-IsString false major Allowed b payload = IsDefiniteString major Allowed b payload
-IsString true major Allowed b payload = IsOpenString major Allowed b payload
+IsString false major IsAllowed b payload = IsDefiniteString major IsAllowed b payload
+IsString true major IsAllowed b payload = IsOpenString major IsAllowed b payload
 
--- b encloses the parts r of an array or map: behind a head with their count (section 3.1), or between an open initial byte and
--- the break (section 3.2.2)
-abbrev pub Encloses : Bool → ℕ → ℕ → List ℕ → List ℕ → Type 0
-Encloses false major count b r = (h : List ℕ) × Head h major count × (b ≡ h ++ r)
-Encloses true major count b r = b ≡ open_byte major ∷ (r ++ (break_byte ∷ []))
+-- b is an array or map with the parts r: behind a head with their count (section 3.1), or between an open initial byte and the
+-- break (section 3.2.2)
+abbrev pub IsContainer : Bool → ℕ → ℕ → List ℕ → List ℕ → Type 0
+IsContainer false major count b r = (h : List ℕ) × IsHead h major count × (b ≡ h ++ r)
+IsContainer true major count b r = b ≡ open_byte major ∷ (r ++ (break_byte ∷ []))
 
 abbrev mutual
   -- b spells the item
   pub Spells : List ℕ → Item → Type 0
-  Spells b (unsigned n) = Head b 0 n
-  Spells b (negative n) = Head b 1 n
+  Spells b (unsigned n) = IsHead b 0 n
+  Spells b (negative n) = IsHead b 1 n
   Spells b (bytes open_ payload) = IsString open_ 2 AreBytes b payload
   Spells b (text open_ payload) = IsString open_ 3 IsUtf8 b payload
-  Spells b (array open_ is) = (r : List ℕ) × SpellsItems r is × Encloses open_ 4 (items_count is) b r
-  Spells b (map open_ ps) = (r : List ℕ) × SpellsPairs r ps × Encloses open_ 5 (pairs_count ps) b r
-  Spells b (tag n i) = (h : List ℕ) × (r : List ℕ) × Head h 6 n × Spells r i × (b ≡ h ++ r)
+  Spells b (array open_ is) = (r : List ℕ) × SpellsItems r is × IsContainer open_ 4 (items_count is) b r
+  Spells b (map open_ ps) = (r : List ℕ) × SpellsPairs r ps × IsContainer open_ 5 (pairs_count ps) b r
+  Spells b (tag n i) = (h : List ℕ) × (r : List ℕ) × IsHead h 6 n × Spells r i × (b ≡ h ++ r)
   Spells b (simple n) = IsSimple b n
   Spells b (float raw) = IsFloat b raw
 

@@ -3,7 +3,7 @@ use Rattle.std.specs.Prelude.{◌≡◌, ℕ, ◌+◌, ◌<◌, ◌≤◌, ◌�
 use Rattle.ciborium_ll.specs.Bytes.{AreBytes, greatest_offset}
 use Rattle.ciborium_ll.specs.Head.{open_byte, break_byte}
 use Rattle.ciborium_ll.specs.Spells.{AreParts}
-use Rattle.ciborium_ll.specs.Refusal.{Refusal, io, syntax, too_long, HeadRefuses, IsUsable, HeadStands, BeginsWith}
+use Rattle.ciborium_ll.specs.Refusal.{Refusal, io, syntax, too_long, HeadRefuses, IsUsable, HasHead, IsAtFront}
 
 -- the two kinds of string
 pub data StringKind : Type 0 where
@@ -16,23 +16,23 @@ major_of of_bytes = 2
 major_of of_text = 3
 
 -- what a definite string of a kind may hold
-abbrev pub Allowed : StringKind → List ℕ → Type 0
-Allowed of_bytes payload = AreBytes payload
-Allowed of_text payload = IsUtf8 payload
+abbrev pub IsAllowed : StringKind → List ℕ → Type 0
+IsAllowed of_bytes payload = AreBytes payload
+IsAllowed of_text payload = IsUtf8 payload
 
 -- what is left refuses as the payload, of n bytes, of a definite string whose head is at offset p: it ends early, or the payload
 -- was read whole and is not UTF-8
 pub data PayloadRefuses (kind : StringKind) (n p : ℕ) : List ℕ → Refusal → Type 0 where
   ends_early : {r : List ℕ} → length r < n → PayloadRefuses kind n p r io
-  not_allowed : (payload r : List ℕ) → length payload ≡ n → ¬ Allowed kind payload → PayloadRefuses kind n p (payload ++ r) (syntax p)
+  not_allowed : (payload r : List ℕ) → length payload ≡ n → ¬ IsAllowed kind payload → PayloadRefuses kind n p (payload ++ r) (syntax p)
 
 -- a definite string at offset p: its payload refuses
 abbrev pub StringRefuses : StringKind → List ℕ → ℕ → Refusal → Type 0
-StringRefuses kind b p e = (n : ℕ) × (k : ℕ) × (r : List ℕ) × HeadStands b (major_of kind) n k r × PayloadRefuses kind n p r e
+StringRefuses kind b p e = (n : ℕ) × (k : ℕ) × (r : List ℕ) × HasHead b (major_of kind) n k r × PayloadRefuses kind n p r e
 
 -- a definite string of a kind begins here
-abbrev pub BeginsString : StringKind → List ℕ → Type 0
-BeginsString kind b = (n : ℕ) × (k : ℕ) × (r : List ℕ) × HeadStands b (major_of kind) n k r
+abbrev pub HasStringHead : StringKind → List ℕ → Type 0
+HasStringHead kind b = (n : ℕ) × (k : ℕ) × (r : List ℕ) × HasHead b (major_of kind) n k r
 
 -- a part of an open string at offset p: its head refuses, it refuses as a string of the kind, or it is neither such a string
 -- nor the break
@@ -40,13 +40,13 @@ pub data PartRefuses (kind : StringKind) : List ℕ → ℕ → Refusal → Type
   no_head : {b : List ℕ} {p : ℕ} {e : Refusal} → HeadRefuses b p e → PartRefuses kind b p e
   part : {b : List ℕ} {p : ℕ} {e : Refusal} → IsUsable b p → StringRefuses kind b p e → PartRefuses kind b p e
   other : {b : List ℕ} {p : ℕ} →
-      IsUsable b p → ¬ BeginsString kind b → ¬ BeginsWith break_byte b → PartRefuses kind b p (syntax p)
+      IsUsable b p → ¬ HasStringHead kind b → ¬ IsAtFront break_byte b → PartRefuses kind b p (syntax p)
 
 -- what is left, from offset p on, refuses as the parts of an open string: behind good parts, which end within the greatest offset,
 -- a part refuses
 abbrev pub PartsRefuse : StringKind → List ℕ → ℕ → Refusal → Type 0
 PartsRefuse kind b p e =
-    (good : List ℕ) × (payloads : List (List ℕ)) × (r : List ℕ) × AreParts (major_of kind) (Allowed kind) good payloads ×
+    (good : List ℕ) × (payloads : List (List ℕ)) × (r : List ℕ) × AreParts (major_of kind) (IsAllowed kind) good payloads ×
     (p + length good ≤ greatest_offset) × (b ≡ good ++ r) × PartRefuses kind r (p + length good) e
 
 -- an open string at offset p: its parts refuse

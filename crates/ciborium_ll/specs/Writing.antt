@@ -14,8 +14,8 @@ abbrev pub writer_of : {W : Type 0} → Encoder W → MutBor W
 writer_of encoder = encoder.writer
 
 -- the encoder holds the writer that it held, so what is written stays with the one who lent it
-abbrev pub SameWriter : {W : Type 0} → Encoder W → Encoder W → Type 0
-SameWriter old new = new.writer.ghost_name ≡ old.writer.ghost_name
+abbrev pub HasSameWriter : {W : Type 0} → Encoder W → Encoder W → Type 0
+HasSameWriter old new = new.writer.ghost_name ≡ old.writer.ghost_name
 
 -- an encoder writes so
 abbrev pub Puts : {W E : Type 0} → (W → Option (List ℕ)) → Encoder W → Encoder W → Result (Unit {0}) E → List ℕ → Type 0

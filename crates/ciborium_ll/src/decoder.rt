@@ -25,17 +25,17 @@ pub struct Decoder<'a, R> {
 impl<'a, R: Read> Decoder<'a, R> {
     ghost use Rattle.std.specs.Prelude.{◌≡◌, IfErr, IfNone, IfSome, List, None, Ok, Some, ℕ};
     ghost use Rattle.std.specs.Prelude.{string_bytes};
-    ghost use Rattle.ciborium_ll.specs.Decoding.{Begins, IsAhead, IsUnread, Pulls, Takes};
-    ghost use Rattle.ciborium_ll.specs.Decoding.{SameReader};
+    ghost use Rattle.ciborium_ll.specs.Decoding.{HasBegun, HasSameReader, IsAhead, IsUnread};
+    ghost use Rattle.ciborium_ll.specs.Decoding.{Pulls, Takes};
     ghost use Rattle.ciborium_ll.specs.Decoding.{count_of, last_of, left_of, offset_of, pushed_of};
-    ghost use Rattle.ciborium_ll.specs.Reading.{IsFillTaken, IsHeadTaken, RefusedBy};
+    ghost use Rattle.ciborium_ll.specs.Reading.{IsFillTaken, IsHeadTaken, IsRefusedBy};
     ghost use Rattle.ciborium_ll.specs.StringRefusal.{ContentRefuses, of_bytes, of_text};
     ghost use Rattle.ciborium_ll.specs.Strings.{Grows, IsStringTaken};
 
     /// A decoder whose offsets begin at 0.
     pub fn new(reader: &'a mut R) -> Decoder<'a, R>
         ensures same_reader { result.reader.ghost_name ≡ reader.entry.ghost_name }
-        ensures begins { Begins result reader.old 0 }
+        ensures begins { HasBegun result reader.old 0 }
     {
         Decoder::at(reader, 0)
     }
@@ -43,7 +43,7 @@ impl<'a, R: Read> Decoder<'a, R> {
     /// A decoder whose offsets begin at the given one.
     pub fn at(reader: &'a mut R, offset: usize) -> Decoder<'a, R>
         ensures same_reader { result.reader.ghost_name ≡ reader.entry.ghost_name }
-        ensures begins { Begins result reader.old offset }
+        ensures begins { HasBegun result reader.old offset }
     {
         Decoder {
             reader,
@@ -67,7 +67,7 @@ impl<'a, R: Read> Decoder<'a, R> {
     /// Gives one head back, with its offset. The next `pull` answers it and reads nothing.
     pub fn push(&mut self, header: Header, offset: usize)
         requires { pushed_of self.old ≡ None }
-        ensures same_reader { SameReader self.old self.new }
+        ensures same_reader { HasSameReader self.old self.new }
         ensures unread { IsUnread self.old self.new }
         ensures last { last_of self.new ≡ last_of self.old }
         ensures pushed { pushed_of self.new ≡ Some (header, offset) }
@@ -84,7 +84,7 @@ impl<'a, R: Read> Decoder<'a, R> {
     /// announces, would pass the greatest offset.
     #[inline(always)]
     pub fn pull(&mut self) -> Result<Header, Error<io::Error>>
-        ensures same_reader { SameReader self.old self.new }
+        ensures same_reader { HasSameReader self.old self.new }
         ensures none_pushed { pushed_of self.new ≡ None }
 
         // A pushed head is answered and takes nothing.
@@ -93,7 +93,7 @@ impl<'a, R: Read> Decoder<'a, R> {
 
         // Otherwise just the bytes that decide the answer are taken.
         ensures taken { IfNone (pushed_of self.old)
-            (Takes R.remaining self.old self.new (IsHeadTaken (count_of self.old) result)) }
+            (Takes R.remaining self.old self.new (λ b. IsHeadTaken b (count_of self.old) result)) }
         ensures last { IfNone (pushed_of self.old) (last_of self.new ≡ count_of self.old) }
 
         // The same, said of all that is unread.
@@ -116,11 +116,11 @@ impl<'a, R: Read> Decoder<'a, R> {
     /// would pass the greatest offset. What the buffer then holds is open.
     pub fn read_exact(&mut self, buffer: &mut [u8]) -> Result<(), Error<io::Error>>
         requires { pushed_of self.old ≡ None }
-        ensures same_reader { SameReader self.old self.new }
+        ensures same_reader { HasSameReader self.old self.new }
         ensures none_pushed { pushed_of self.new ≡ None }
         ensures last { last_of self.new ≡ last_of self.old }
         ensures taken { Takes R.remaining self.old self.new
-            (IsFillTaken (count_of self.old) buffer.new result) }
+            (λ b. IsFillTaken b (count_of self.old) buffer.new result) }
     {
         fill(self.reader, buffer, &mut self.count)
     }
@@ -142,14 +142,14 @@ impl<'a, R: Read> Decoder<'a, R> {
         out: &mut Vec<u8>,
     ) -> Result<(), Error<io::Error>>
         requires { pushed_of self.old ≡ None }
-        ensures same_reader { SameReader self.old self.new }
+        ensures same_reader { HasSameReader self.old self.new }
         ensures none_pushed { pushed_of self.new ≡ None }
         ensures last { last_of self.new ≡ last_of self.old }
         ensures taken { Takes R.remaining self.old self.new
-            (Grows out.old.items out.new.items
-            (IsStringTaken of_bytes len (last_of self.old) (count_of self.old) result)) }
+            (λ b. Grows out.old.items out.new.items
+            (IsStringTaken of_bytes len (last_of self.old) b (count_of self.old) result)) }
         ensures refused { (b : List ℕ) → left_of R.remaining self.old ≡ Some b →
-            IfErr result (λ e. RefusedBy (left_of R.remaining self.new) e
+            IfErr result (λ e. IsRefusedBy (left_of R.remaining self.new) e
             (ContentRefuses of_bytes len (last_of self.old) b (count_of self.old))) }
     {
         append_string(
@@ -179,14 +179,14 @@ impl<'a, R: Read> Decoder<'a, R> {
         out: &mut String,
     ) -> Result<(), Error<io::Error>>
         requires { pushed_of self.old ≡ None }
-        ensures same_reader { SameReader self.old self.new }
+        ensures same_reader { HasSameReader self.old self.new }
         ensures none_pushed { pushed_of self.new ≡ None }
         ensures last { last_of self.new ≡ last_of self.old }
         ensures taken { Takes R.remaining self.old self.new
-            (Grows (string_bytes out.old) (string_bytes out.new)
-            (IsStringTaken of_text len (last_of self.old) (count_of self.old) result)) }
+            (λ b. Grows (string_bytes out.old) (string_bytes out.new)
+            (IsStringTaken of_text len (last_of self.old) b (count_of self.old) result)) }
         ensures refused { (b : List ℕ) → left_of R.remaining self.old ≡ Some b →
-            IfErr result (λ e. RefusedBy (left_of R.remaining self.new) e
+            IfErr result (λ e. IsRefusedBy (left_of R.remaining self.new) e
             (ContentRefuses of_text len (last_of self.old) b (count_of self.old))) }
     {
         let empty = String::new(*out.allocator());

@@ -2,7 +2,7 @@
 
 ghost use Rattle.std.specs.Prelude.{◌≡◌};
 ghost use Rattle.ciborium_ll.specs.Header.{IsWritable, header_bytes};
-ghost use Rattle.ciborium_ll.specs.Writing.{Puts, SameWriter, writer_of};
+ghost use Rattle.ciborium_ll.specs.Writing.{HasSameWriter, Puts, writer_of};
 
 use crate::header::Header;
 use crate::writing;
@@ -36,7 +36,7 @@ impl<'a, W: Write> Encoder<'a, W> {
     #[inline(always)]
     pub fn push(&mut self, header: Header) -> io::Result<()>
         requires { IsWritable header }
-        ensures same_writer { SameWriter self.old self.new }
+        ensures same_writer { HasSameWriter self.old self.new }
         ensures bytes { Puts W.contents self.old self.new result (header_bytes header) }
     {
         writing::write_head(self.writer, header)
@@ -48,7 +48,7 @@ impl<'a, W: Write> Encoder<'a, W> {
     /// At an error a proper beginning of the bytes has gone out, and nothing else.
     #[inline(always)]
     pub fn write_all(&mut self, bytes: &[u8]) -> io::Result<()>
-        ensures same_writer { SameWriter self.old self.new }
+        ensures same_writer { HasSameWriter self.old self.new }
         ensures bytes { Puts W.contents self.old self.new result bytes.now }
     {
         writing::write_all(self.writer, bytes)

@@ -23,7 +23,7 @@ fn fill_within<R: Read>(
     requires { count.old + length buffer.old ≤ usize.MAX }
     ensures fits { count.new ≤ usize.MAX }
     ensures bytes { Advances (R.remaining reader.old) (R.remaining reader.new) count.old count.new
-        (IsFillTaken count.old buffer.new result) }
+        (λ b. IsFillTaken b count.old buffer.new result) }
 {
     let mut filled = 0;
     while filled < buffer.len() {
@@ -48,7 +48,7 @@ pub(crate) fn fill<R: Read>(
 ) -> Result<(), Error<io::Error>>
     ensures fits { count.new ≤ usize.MAX }
     ensures bytes { Advances (R.remaining reader.old) (R.remaining reader.new) count.old count.new
-        (IsFillTaken count.old buffer.new result) }
+        (λ b. IsFillTaken b count.old buffer.new result) }
 {
     if usize::MAX - *count < buffer.len() {
         return Err(Error::TooLong);
@@ -79,7 +79,7 @@ fn read_argument<R: Read>(
     requires whole { length argument.old ≡ argument_length (initial % 32) }
     ensures fits { count.new ≤ usize.MAX }
     ensures head { Advances (R.remaining reader.old) (R.remaining reader.new) count.old count.new
-        (λ b. IsHeadTaken start result (initial ∷ b)) }
+        (λ b. IsHeadTaken (initial ∷ b) start result) }
 {
     fill(reader, argument, count)?;
     let Some(header) = parse_head(initial, argument) else {
@@ -100,7 +100,7 @@ pub(crate) fn read_head<R: Read>(
 ) -> Result<Header, Error<io::Error>>
     ensures fits { count.new ≤ usize.MAX }
     ensures head { Advances (R.remaining reader.old) (R.remaining reader.new) count.old count.new
-        (IsHeadTaken count.old result) }
+        (λ b. IsHeadTaken b count.old result) }
 {
     let start = *count;
     let mut first = [0u8; 1];

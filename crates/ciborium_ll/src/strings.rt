@@ -2,7 +2,7 @@
 
 ghost use Rattle.std.specs.Prelude.{◌≡◌, ◌+◌, ◌<◌, ◌≤◌, ◌++◌, ◌↔◌, IsTrue, List, length, ℕ};
 ghost use Rattle.ciborium_ll.specs.Reading.{Advances};
-ghost use Rattle.ciborium_ll.specs.StringRefusal.{Allowed};
+ghost use Rattle.ciborium_ll.specs.StringRefusal.{IsAllowed};
 ghost use Rattle.ciborium_ll.specs.Strings.{Grows, IsPart, IsPartsTaken, IsPayloadTaken};
 ghost use Rattle.ciborium_ll.specs.Strings.{IsPiecesTaken, IsStringTaken, kind_of};
 
@@ -32,7 +32,7 @@ fn append_pieces<R: Read>(
     requires below { count.old + n ≤ usize.MAX }
     ensures fits { count.new ≤ usize.MAX }
     ensures bytes { Advances (R.remaining reader.old) (R.remaining reader.new) count.old count.new
-        (IsPiecesTaken n result out.old.items out.new.items) }
+        (λ b. IsPiecesTaken n b result out.old.items out.new.items) }
 {
     let mut left = n;
     while left > 0 {
@@ -58,7 +58,7 @@ fn append_bytes<R: Read>(
     requires { count.old + n ≤ usize.MAX }
     ensures fits { count.new ≤ usize.MAX }
     ensures bytes { Advances (R.remaining reader.old) (R.remaining reader.new) count.old count.new
-        (IsPiecesTaken n result out.old.items out.new.items) }
+        (λ b. IsPiecesTaken n b result out.old.items out.new.items) }
 {
     if scratch.is_empty() {
         let mut own = [0u8; OWN_SCRATCH];
@@ -69,7 +69,7 @@ fn append_bytes<R: Read>(
 
 // Whether a string of the kind may hold these bytes.
 fn is_allowed(kind: Kind, payload: &[u8]) -> bool
-    ensures { IsTrue result ↔ Allowed (kind_of kind) payload.now }
+    ensures { IsTrue result ↔ IsAllowed (kind_of kind) payload.now }
 {
     match kind {
         Kind::Bytes => true,
@@ -91,7 +91,8 @@ fn append_payload<R: Read>(
     requires { count.old + n ≤ usize.MAX }
     ensures fits { count.new ≤ usize.MAX }
     ensures bytes { Advances (R.remaining reader.old) (R.remaining reader.new) count.old count.new
-        (Grows out.old.items out.new.items (IsPayloadTaken (kind_of kind) n head result)) }
+        (λ b. Grows out.old.items out.new.items
+        (IsPayloadTaken (kind_of kind) n head b result)) }
 {
     let start = out.len();
     if let Err(e) = append_bytes(reader, count, n, scratch, out) {
@@ -133,7 +134,8 @@ fn append_parts<R: Read>(
 ) -> Result<(), Error<io::Error>>
     ensures fits { count.new ≤ usize.MAX }
     ensures bytes { Advances (R.remaining reader.old) (R.remaining reader.new) count.old count.new
-        (Grows out.old.items out.new.items (IsPartsTaken (kind_of kind) count.old result)) }
+        (λ b. Grows out.old.items out.new.items
+        (IsPartsTaken (kind_of kind) b count.old result)) }
 {
     let mut head = *count;
     'parts: loop {
@@ -159,8 +161,8 @@ pub(crate) fn append_string<R: Read>(
 ) -> Result<(), Error<io::Error>>
     ensures fits { count.new ≤ usize.MAX }
     ensures bytes { Advances (R.remaining reader.old) (R.remaining reader.new) count.old count.new
-        (Grows out.old.items out.new.items
-        (IsStringTaken (kind_of kind) len head count.old result)) }
+        (λ b. Grows out.old.items out.new.items
+        (IsStringTaken (kind_of kind) len head b count.old result)) }
 {
     match len {
         Some(n) => {

@@ -4,16 +4,16 @@ use Rattle.std.proofs.lemmas.Bool.{cond_both, eqb-false}
 use Rattle.std.proofs.lemmas.List.{length-take-le, length-take}
 use Rattle.ciborium_ll.specs.Item as cbor
 use Rattle.ciborium_value.specs.Tree as trees
-use Rattle.ciborium_ll.specs.Head.{Head}
+use Rattle.ciborium_ll.specs.Head.{IsHead}
 use Rattle.ciborium_ll.specs.Item.{Item, unsigned, negative, Items, no_items, item, items_count, pairs_count}
 use Rattle.ciborium_value.specs.Tree.{Tree}
 use Rattle.ciborium_ll.specs.Spells.{IsDefiniteString, AreParts, joined, IsOpenString, Spells, SpellsItems}
 use Rattle.ciborium_value.specs.Meaning.{meaning, items_meaning, pairs_meaning, simple_meaning, big_endian, is_bignum_tag, folding_bytes, short_string, tag_meaning}
 use Rattle.ciborium_value.specs.Nesting.{nesting, items_nesting, pairs_nesting, tag_nesting, Limit, IsWithin, IsOneLess}
-use Rattle.ciborium_ll.specs.Refusal.{Refusal, syntax, semantic, recursion_limit_exceeded, Float, Break, IsUsable, HeadStands, head_refusal, BeginsWith}
+use Rattle.ciborium_ll.specs.Refusal.{Refusal, syntax, semantic, recursion_limit_exceeded, Float, Break, IsUsable, HasHead, head_refusal, IsAtFront}
 use Rattle.ciborium_ll.specs.Bytes.{greatest_offset}
-use Rattle.ciborium_value.specs.Refuses.{IsGood, AreGood, Due, exactly, items_until_break, keys_until_break, values_until_break, next_due, due_after, Opens, IsDue, FoldsAt, Refuses}
-use Rattle.ciborium_ll.specs.StringRefusal.{StringKind, of_bytes, of_text, major_of, Allowed, PayloadRefuses, StringRefuses, PartRefuses, OpenStringRefuses, BeginsString}
+use Rattle.ciborium_value.specs.Refuses.{IsGood, AreGood, Due, exactly, items_until_break, keys_until_break, values_until_break, next_due, due_after, HasOpening, IsDue, IsFoldingAt, Refuses}
+use Rattle.ciborium_ll.specs.StringRefusal.{StringKind, of_bytes, of_text, major_of, IsAllowed, PayloadRefuses, StringRefuses, PartRefuses, OpenStringRefuses, HasStringHead}
 use Rattle.ciborium_ll.proofs.FrontHeads.{Front, nothing, counted, opened, plain, raw, front, front_open}
 use Rattle.ciborium_ll.proofs.UsableHeads.{EachIsByte, bytes_after, take_bytes, stands-front, stands-length, IsStringMajor}
 use Rattle.ciborium_ll.proofs.ReadHeads.{Face, faces}
@@ -40,11 +40,11 @@ PartsMeet w b p l (refused e) =
     (s : List ℕ) × (is : Items) × (r : List ℕ) × AreGood is l s p × IsDue (due_after w is) r (p + length s) × Refuses r (p + length s) l e × (b ≡ s ++ r)
 
 abbrev PiecesMeet : StringKind → List ℕ → ℕ → Answer → Type 0
-PiecesMeet c b q (ends r u) = (s : List ℕ) × (ps : List (List ℕ)) × AreParts (major_of c) (Allowed c) s ps × (b ≡ s ++ (255 ∷ r)) × (u ≡ q + length s + 1) × (u ≤ greatest_offset)
-PiecesMeet c b q (refused e) = (s : List ℕ) × (ps : List (List ℕ)) × (r : List ℕ) × AreParts (major_of c) (Allowed c) s ps × (q + length s ≤ greatest_offset) × (b ≡ s ++ r) × PartRefuses c r (q + length s) e
+PiecesMeet c b q (ends r u) = (s : List ℕ) × (ps : List (List ℕ)) × AreParts (major_of c) (IsAllowed c) s ps × (b ≡ s ++ (255 ∷ r)) × (u ≡ q + length s + 1) × (u ≤ greatest_offset)
+PiecesMeet c b q (refused e) = (s : List ℕ) × (ps : List (List ℕ)) × (r : List ℕ) × AreParts (major_of c) (IsAllowed c) s ps × (q + length s ≤ greatest_offset) × (b ≡ s ++ r) × PartRefuses c r (q + length s) e
 
 abbrev StringMeets : StringKind → List ℕ → ℕ → List ℕ → Answer → Type 0
-StringMeets c b p y (ends x u) = (s : List ℕ) × IsDefiniteString (major_of c) (Allowed c) s y × (b ≡ s ++ x) × (u ≡ p + length s) × (u ≤ greatest_offset)
+StringMeets c b p y (ends x u) = (s : List ℕ) × IsDefiniteString (major_of c) (IsAllowed c) s y × (b ≡ s ++ x) × (u ≡ p + length s) × (u ≤ greatest_offset)
 StringMeets c b p y (refused e) = StringRefuses c b p e
 
 checked-meets : (P : Answer → Type 0) (o : Option Refusal) (a : Answer) → ((e : Refusal) → o ≡ Some e → P (refused e)) → (o ≡ None → P a) → P (checked o a)
@@ -61,7 +61,7 @@ rest-bytes b h r e x = bytes_after h r (subst EachIsByte e x)
 
 -- ---- strings
 
-string-meets : (c : StringKind) (b : List ℕ) (p q n k : ℕ) (r : List ℕ) → EachIsByte b → HeadStands b (major_of c) n k r → p + k + n ≤ greatest_offset → q ≡ p + k → StringMeets c b p (take n r) (string (major_of c) n r p q)
+string-meets : (c : StringKind) (b : List ℕ) (p q n k : ℕ) (r : List ℕ) → EachIsByte b → HasHead b (major_of c) n k r → p + k + n ≤ greatest_offset → q ≡ p + k → StringMeets c b p (take n r) (string (major_of c) n r p q)
 string-meets c b p q n k r bytes st fits e =
     cond_both (ltb (length r) n) _ _ P (λ t. (n, k, r, st, PayloadRefuses.ends_early (ltb-true _ _ t)))
     (λ t. let room : n ≤ length r = ltb-false _ _ t in
@@ -70,7 +70,7 @@ string-meets c b p q n k r bytes st fits e =
     cond_both (allowed (major_of c) (take n r)) _ _ P
     (λ u. (
       st.0 ++ take n r,
-      (st.0, subst (Head st.0 (major_of c)) (sym ly) st.1, kind_ok c (take n r) (take_bytes n r (rest-bytes b st.0 r st.3 bytes)) u, refl),
+      (st.0, subst (IsHead st.0 (major_of c)) (sym ly) st.1, kind_ok c (take n r) (take_bytes n r (rest-bytes b st.0 r st.3 bytes)) u, refl),
       st.3 ∙ ap (λ (z : List ℕ). st.0 ++ z) split ∙ sym (append_assoc st.0 (take n r) (drop n r)),
       omega (arith, length-append st.0 (take n r), ly, st.2, e),
       omega arith,
@@ -88,10 +88,10 @@ string-meets c b p q n k r bytes st fits e =
 
 -- ---- the parts of an open string
 
-string-begins : (c : StringKind) (b : List ℕ) (f : Front) → front b ≡ f → ((n : ℕ) (r : List ℕ) → f ≡ counted (major_of c) n r → ⊥) → BeginsString c b → ⊥
+string-begins : (c : StringKind) (b : List ℕ) (f : Front) → front b ≡ f → ((n : ℕ) (r : List ℕ) → f ≡ counted (major_of c) n r → ⊥) → HasStringHead c b → ⊥
 string-begins c b f e h s = h s.0 s.2 (sym e ∙ stands-front b (major_of c) s.0 s.1 s.2 (kind_below c) s.3)
 
-break-begins : (b : List ℕ) (f : Front) → front b ≡ f → ((r : List ℕ) → f ≡ opened 7 r → ⊥) → BeginsWith 255 b → ⊥
+break-begins : (b : List ℕ) (f : Front) → front b ≡ f → ((r : List ℕ) → f ≡ opened 7 r → ⊥) → IsAtFront 255 b → ⊥
 break-begins b f e h s = h s.0 (sym e ∙ ap front s.1 ∙ front_open 7 s.0)
 
 module _ (k : StringKind) where
@@ -106,7 +106,7 @@ module _ (k : StringKind) where
   here b q e h f = ([], [], b, refl, omega arith, refl, subst (λ u. PartRefuses k b u e) (omega arith) f)
 
   -- a good part stands before more
-  before : (b s y x : List ℕ) (q u : ℕ) (a : Answer) → IsDefiniteString m (Allowed k) s y → b ≡ s ++ x → u ≡ q + length s → PM x u a → PM b q a
+  before : (b s y x : List ℕ) (q u : ℕ) (a : Answer) → IsDefiniteString m (IsAllowed k) s y → b ≡ s ++ x → u ≡ q + length s → PM x u a → PM b q a
   before b s y x q u (ends r v) str e i (t, ps, g, f, j, room) =
       (s ++ t, y ∷ ps, (s, t, str, g, refl), e ∙ ap (λ (c : List ℕ). s ++ c) f ∙ sym (append_assoc s t (255 ∷ r)), omega (arith, length-append s t), room)
   before b s y x q u (refused e') str e i (t, ps, r, g, room, f, fault) = (
@@ -136,7 +136,7 @@ module _ (k : StringKind) where
   piece-meets d b q has room bytes rec (counted z n r) e f =
       cond_both (eqb z m) _ _ (PM b q)
       (λ t. let j = eqb-true z m t in
-      let st : HeadStands b m n f.1 r = subst (λ j. HeadStands b j n f.1 r) j f.2 in
+      let st : HasHead b m n f.1 r = subst (λ j. HasHead b j n f.1 r) j f.2 in
       after-part d b (take n r) q (string m n r q (past q b r)) has room bytes
       (string-meets k b q (past q b r) n f.1 r bytes st (f.4 (subst IsStringMajor (sym j) (kind_major k))) (omega (arith, stands-length b m n f.1 r st))) rec)
       (λ t. here b q (syntax q) room (PartRefuses.other has
@@ -175,7 +175,7 @@ abbrev EndMeets : Due → List ℕ → ℕ → Option (List ℕ × ℕ) → Type
 EndMeets w b p None = IsDue w b p
 EndMeets w b p (Some e) = (t : List ℕ) × IsEnd w t × (b ≡ t ++ e.0) × (e.1 ≡ p + length t) × (e.1 ≤ greatest_offset)
 
-break-meets : (w : Due) (b : List ℕ) (p : ℕ) → ((p < greatest_offset → BeginsWith 255 b → ⊥) → EndMeets w b p None) → ((r : List ℕ) → b ≡ 255 ∷ r → p < greatest_offset → EndMeets w b p (Some (r, p + 1))) → EndMeets w b p (break_at b p)
+break-meets : (w : Due) (b : List ℕ) (p : ℕ) → ((p < greatest_offset → IsAtFront 255 b → ⊥) → EndMeets w b p None) → ((r : List ℕ) → b ≡ 255 ∷ r → p < greatest_offset → EndMeets w b p (Some (r, p + 1))) → EndMeets w b p (break_at b p)
 break-meets w [] p f g = f (λ h k. let z = k.1 in absurd cc)
 break-meets w (x ∷ b) p f g =
     cond_both (ltb p greatest_offset && eqb x 255) _ _ (EndMeets w (x ∷ b) p)
@@ -249,14 +249,14 @@ ended-or w b p l (Some x) a h (t, end, e, k, z) f = ([], no_items, t, none-good 
 
 -- ---- items
 
-string-item : (c : StringKind) (b y : List ℕ) (p : ℕ) (l : Limit) (i : Item) (a : Answer) → ((s : List ℕ) → IsDefiniteString (major_of c) (Allowed c) s y → Spells s i) → IsSome (meaning i) → nesting i ≡ 0 →
+string-item : (c : StringKind) (b y : List ℕ) (p : ℕ) (l : Limit) (i : Item) (a : Answer) → ((s : List ℕ) → IsDefiniteString (major_of c) (IsAllowed c) s y → Spells s i) → IsSome (meaning i) → nesting i ≡ 0 →
     ((e : Refusal) → StringRefuses c b p e → Refuses b p l e) → StringMeets c b p y a → Meets b p l a
 string-item c b y p l i (ends x u) spells some flat-i fault sm =
     (sm.0, i, (spells sm.0 sm.1, some, subst (IsWithin l) (sym flat-i) (within-zero l), omega (arith, sm.3, sm.4)), sm.2, sm.3)
 string-item c b y p l i (refused e) spells some flat-i fault sm = fault e sm
 
 open-item : (c : StringKind) (b r : List ℕ) (p : ℕ) (l : Limit) (mk : List ℕ → Item) (a : Answer) → b ≡ (major_of c * 32 + 31) ∷ r → ((y : List ℕ) → IsSome (meaning (mk y))) → ((y : List ℕ) → nesting (mk y) ≡ 0) →
-    ((s y : List ℕ) → IsOpenString (major_of c) (Allowed c) s y → Spells s (mk y)) → ((e : Refusal) → OpenStringRefuses c b p e → Refuses b p l e) → PiecesMeet c r (p + 1) a → Meets b p l a
+    ((s y : List ℕ) → IsOpenString (major_of c) (IsAllowed c) s y → Spells s (mk y)) → ((e : Refusal) → OpenStringRefuses c b p e → Refuses b p l e) → PiecesMeet c r (p + 1) a → Meets b p l a
 open-item c b r p l mk (ends x u) e some flat-i spells fault (s, ps, g, f, k, room) =
     let h : List ℕ = (major_of c * 32 + 31) ∷ (s ++ (255 ∷ [])) in
     let ls : length (s ++ (255 ∷ [])) ≡ length s + 1 = length-append s (255 ∷ []) in (
@@ -273,8 +273,8 @@ key_places : (is : Items) → ((due_after keys_until_break is ≡ keys_until_bre
 key_places no_items = (inl refl, inr refl)
 key_places (item i is) = let z = key_places is in (z.1, z.0)
 
-opens-more : {b r s : List ℕ} {k : ℕ} {w : Due} → Opens b k r w → r ≡ s → Opens b k s w
-opens-more {b} {r} {s} {k} {w} o e = subst (λ c. Opens b k c w) e o
+opens-more : {b r s : List ℕ} {k : ℕ} {w : Due} → HasOpening b k r w → r ≡ s → HasOpening b k s w
+opens-more {b} {r} {s} {k} {w} o e = subst (λ c. HasOpening b k c w) e o
 
 counted-count : (is : Items) (n : ℕ) (t : List ℕ) → items_count is ≤ n → IsEnd (due_after (exactly n) is) t → (items_count is ≡ n) × (t ≡ [])
 counted-count is n t h e =
@@ -285,18 +285,18 @@ within-eq : (l : Limit) (m n : ℕ) → m ≡ n → IsWithin l m → IsWithin l 
 within-eq l m n e h = subst (IsWithin l) e h
 
 -- a container whose parts ended
-container-ends : (b r x : List ℕ) (p k q : ℕ) (l m : Limit) (w : Due) → Opens b k r w → IsOneLess l m → PartsMeet w r (p + k) m (ends x q) → Meets b p l (ends x q)
-container-ends b r x p k q l m w (Opens.array n st) onel (s, is, t, g, room, end, e, f, z) =
+container-ends : (b r x : List ℕ) (p k q : ℕ) (l m : Limit) (w : Due) → HasOpening b k r w → IsOneLess l m → PartsMeet w r (p + k) m (ends x q) → Meets b p l (ends x q)
+container-ends b r x p k q l m w (HasOpening.array n st) onel (s, is, t, g, room, end, e, f, z) =
     let c = counted-count is n t room end in
     let h : List ℕ = st.0 in
     let lt : length t ≡ 0 = ap length c.1 in (
       h ++ s,
       cbor.array false is,
-      ((s, g.0, (h, subst (Head h 4) (sym c.0) st.1, refl)), some-mapped trees.array (items_meaning is) g.1, raise l m (items_nesting is) onel g.2, omega (arith, length-append h s, st.2)),
+      ((s, g.0, (h, subst (IsHead h 4) (sym c.0) st.1, refl)), some-mapped trees.array (items_meaning is) g.1, raise l m (items_nesting is) onel g.2, omega (arith, length-append h s, st.2)),
       st.3 ∙ ap (λ (c : List ℕ). h ++ c) (e ∙ ap (λ (c : List ℕ). s ++ (c ++ x)) c.1) ∙ sym (append_assoc h s x),
       omega (arith, length-append h s, st.2),
     )
-container-ends b r x p k q l m w (Opens.open_array k1 st) onel (s, is, t, g, room, end, e, f, z) =
+container-ends b r x p k q l m w (HasOpening.open_array k1 st) onel (s, is, t, g, room, end, e, f, z) =
     let c : t ≡ 255 ∷ [] = subst (λ w. IsEnd w t) (after-items is) end in
     let lt : length t ≡ 1 = ap length c in
     let h : List ℕ = 159 ∷ (s ++ (255 ∷ [])) in
@@ -307,7 +307,7 @@ container-ends b r x p k q l m w (Opens.open_array k1 st) onel (s, is, t, g, roo
       st ∙ ap (λ (c : List ℕ). 159 ∷ c) (e ∙ ap (λ (c : List ℕ). s ++ (c ++ x)) c ∙ sym (append_assoc s (255 ∷ []) x)),
       omega arith,
     )
-container-ends b r x p k q l m w (Opens.map n st) onel (s, is, t, g, room, end, e, f, z) =
+container-ends b r x p k q l m w (HasOpening.map n st) onel (s, is, t, g, room, end, e, f, z) =
     let c = counted-count is (2 * n) t room end in
     let ps = pairs-counted is n c.0 in
     let cn : pairs_count ps.0 ≡ n = (let a = flat-count ps.0 in let d : items_count (flat ps.0) ≡ items_count is = ap items_count ps.1 in omega (arith, a, d, c.0)) in
@@ -316,7 +316,7 @@ container-ends b r x p k q l m w (Opens.map n st) onel (s, is, t, g, room, end, 
       h ++ s,
       cbor.map false ps.0,
       (
-        (s, Spells-flat ps.0 s (subst (SpellsItems s) (sym ps.1) g.0), (h, subst (Head h 5) (sym cn) st.1, refl)),
+        (s, Spells-flat ps.0 s (subst (SpellsItems s) (sym ps.1) g.0), (h, subst (IsHead h 5) (sym cn) st.1, refl)),
         some-mapped trees.map (pairs_meaning ps.0) (meaning-flat ps.0 (ap (λ is. is_some (items_meaning is)) ps.1 ∙ g.1)),
         raise l m (pairs_nesting ps.0) onel (within-eq m _ _ (ap items_nesting (sym ps.1) ∙ flat-nesting ps.0) g.2),
         omega (arith, length-append h s, st.2),
@@ -324,7 +324,7 @@ container-ends b r x p k q l m w (Opens.map n st) onel (s, is, t, g, room, end, 
       st.3 ∙ ap (λ (c : List ℕ). h ++ c) (e ∙ ap (λ (c : List ℕ). s ++ (c ++ x)) c.1) ∙ sym (append_assoc h s x),
       omega (arith, length-append h s, st.2),
     )
-container-ends b r x p k q l m w (Opens.open_map k1 st) onel (s, is, t, g, room, end, e, f, z) = by ((key_places is).0)
+container-ends b r x p k q l m w (HasOpening.open_map k1 st) onel (s, is, t, g, room, end, e, f, z) = by ((key_places is).0)
   where
     by : (due_after keys_until_break is ≡ keys_until_break) ⊎ (due_after keys_until_break is ≡ values_until_break) → Meets b p l (ends x q)
     by (inr v) = absurd (subst (λ w. IsEnd w t) v end)
@@ -346,7 +346,7 @@ container-ends b r x p k q l m w (Opens.open_map k1 st) onel (s, is, t, g, room,
           omega arith,
         )
 
-container-answer : (b r : List ℕ) (p k : ℕ) (l m : Limit) (w : Due) (a : Answer) → IsUsable b p → Opens b k r w → IsOneLess l m → PartsMeet w r (p + k) m a → Meets b p l a
+container-answer : (b r : List ℕ) (p k : ℕ) (l m : Limit) (w : Due) (a : Answer) → IsUsable b p → HasOpening b k r w → IsOneLess l m → PartsMeet w r (p + k) m a → Meets b p l a
 container-answer b r p k l m w (ends x q) has o onel pm = container-ends b r x p k q l m w o onel pm
 container-answer b r p k l m w (refused e) has o onel (s, is, x, g, come, fault, f) =
     Refuses.part k w s is x m has (opens-more o f) onel g come fault
@@ -354,7 +354,7 @@ container-answer b r p k l m w (refused e) has o onel (s, is, x, g, come, fault,
 PartsAt : ℕ → Type 0
 PartsAt d = (w : Due) (b : List ℕ) (p : ℕ) (l : Limit) → p ≤ greatest_offset → EachIsByte b → 2 * length b + 1 < d → PartsMeet w b p l (parts d w b p l)
 
-container-meets : (d : ℕ) (b r : List ℕ) (p k : ℕ) (l : Limit) (w : Due) → ((m : Limit) → PartsMeet w r (p + k) m (parts d w r (p + k) m)) → IsUsable b p → Opens b k r w → Meets b p l (levels l (parts d w r (p + k)))
+container-meets : (d : ℕ) (b r : List ℕ) (p k : ℕ) (l : Limit) (w : Due) → ((m : Limit) → PartsMeet w r (p + k) m (parts d w r (p + k) m)) → IsUsable b p → HasOpening b k r w → Meets b p l (levels l (parts d w r (p + k)))
 container-meets d b r p k l w rec has o =
     levels-meet l (parts d w r (p + k)) (Meets b p l)
     (λ z. subst (λ j. Refuses b p j recursion_limit_exceeded) (sym z) (Refuses.no_level k r w has o))
@@ -374,13 +374,13 @@ and_true true u h = (refl, h)
 and_true false u h = absurd cc
 
 -- a folding tag over a string that was read
-folded-meets : (b h r y : List ℕ) (t p k : ℕ) (l : Limit) (a : Answer) → IsUsable b p → HeadStands b 6 t k r → IsUsable r (p + k) → is_bignum_tag t ≡ true → length y ≤ 16 → FoldsAt t r → StringMeets of_bytes r (p + k) y a → Meets b p l (bignum t y p a)
+folded-meets : (b h r y : List ℕ) (t p k : ℕ) (l : Limit) (a : Answer) → IsUsable b p → HasHead b 6 t k r → IsUsable r (p + k) → is_bignum_tag t ≡ true → length y ≤ 16 → IsFoldingAt t r → StringMeets of_bytes r (p + k) y a → Meets b p l (bignum t y p a)
 folded-meets b h r y t p k l (refused e) has st i big small fo sm = Refuses.folding t k r has st i fo sm
 folded-meets b h r y t p k l (ends x u) has st i big small fo (s, str, e, f, room) =
     cond_both (is_too_large t y) _ _ (Meets b p l)
     (λ z. let a = and_true _ _ z in
     let three : t ≡ 3 = eqb-true t 3 a.0 in
-    Refuses.too_large k s y x has (subst (λ j. HeadStands b 6 j k (s ++ x)) three (subst (λ c. HeadStands b 6 t k c) e st)) (subst (λ c. IsUsable c (p + k)) e i) str small (leb-true (2 ^ 127) (big_endian y) a.1))
+    Refuses.too_large k s y x has (subst (λ j. HasHead b 6 j k (s ++ x)) three (subst (λ c. HasHead b 6 t k c) e st)) (subst (λ c. IsUsable c (p + k)) e i) str small (leb-true (2 ^ 127) (big_endian y) a.1))
     (λ z. let over : folding_bytes t (cbor.bytes false y) ≡ Some y = ap (λ v. cond v (cond (leb (length y) 16) (Some y) None) None) big ∙ ap (λ v. cond v (Some y) None) (le-leb (length y) 16 small) in
     let some : is_some (tag_meaning t (folding_bytes t (cbor.bytes false y)) (meaning (cbor.bytes false y))) ≡ true = ap (λ v. is_some (tag_meaning t v (meaning (cbor.bytes false y)))) over ∙ bignum_meaning-some t y big ∙ not_large _ z in
     let none : tag_nesting (folding_bytes t (cbor.bytes false y)) 0 ≡ 0 = ap (λ v. tag_nesting v 0) over in
@@ -392,7 +392,7 @@ folded-meets b h r y t p k l (ends x u) has st i big small fo (s, str, e, f, roo
       omega (arith, length-append g s, f, st.2),
     ))
 
-short-folds : (i : Item) (s x r : List ℕ) (t : ℕ) (y : List ℕ) → Spells s i → r ≡ s ++ x → is_bignum_tag t ≡ true → short_string i ≡ Some y → FoldsAt t r
+short-folds : (i : Item) (s x r : List ℕ) (t : ℕ) (y : List ℕ) → Spells s i → r ≡ s ++ x → is_bignum_tag t ≡ true → short_string i ≡ Some y → IsFoldingAt t r
 short-folds (unsigned n) s x r t y h e b f = absurd cc
 short-folds (negative n) s x r t y h e b f = absurd cc
 short-folds (cbor.bytes false z) s x r t y h e b f =
@@ -409,7 +409,7 @@ short-folds (cbor.tag n i) s x r t y h e b f = absurd cc
 short-folds (cbor.simple n) s x r t y h e b f = absurd cc
 short-folds (cbor.float z) s x r t y h e b f = absurd cc
 
-folds-none : (t : ℕ) (i : Item) (s x r : List ℕ) → Spells s i → r ≡ s ++ x → (FoldsAt t r → ⊥) → folding_bytes t i ≡ None
+folds-none : (t : ℕ) (i : Item) (s x r : List ℕ) → Spells s i → r ≡ s ++ x → (IsFoldingAt t r → ⊥) → folding_bytes t i ≡ None
 folds-none t i s x r h e f = by (is_bignum_tag t) refl (short_string i) refl
   where
     by : (u : Bool) → is_bignum_tag t ≡ u → (o : Option (List ℕ)) → short_string i ≡ o → cond u o None ≡ None
@@ -417,7 +417,7 @@ folds-none t i s x r h e f = by (is_bignum_tag t) refl (short_string i) refl
     by true b (Some y) g = absurd (f (short-folds i s x r t y h e b g))
     by false b o g = refl
 
-tagged-meets : (b r : List ℕ) (t p k : ℕ) (l m : Limit) (a : Answer) → IsUsable b p → HeadStands b 6 t k r → IsUsable r (p + k) → (FoldsAt t r → ⊥) → IsOneLess l m → Meets r (p + k) m a → Meets b p l a
+tagged-meets : (b r : List ℕ) (t p k : ℕ) (l m : Limit) (a : Answer) → IsUsable b p → HasHead b 6 t k r → IsUsable r (p + k) → (IsFoldingAt t r → ⊥) → IsOneLess l m → Meets r (p + k) m a → Meets b p l a
 tagged-meets b r t p k l m (refused e) has st i x onel f = Refuses.tagged t k r m has st i x onel f
 tagged-meets b r t p k l m (ends z q) has st i x onel (s, j, g, e, f) =
     let none : folding_bytes t j ≡ None = folds-none t j s z r g.0 e x in
@@ -438,13 +438,13 @@ not_short : (t : Bool) → (t && false) ≡ true → ⊥
 not_short true e = cc
 not_short false e = cc
 
-folding-folds : (t : ℕ) (r : List ℕ) (q : ℕ) (f : Front) → Face r q f → folding t f ≡ true → FoldsAt t r × (n : ℕ) × (k : ℕ) × (z : List ℕ) × (f ≡ counted 2 n z) × HeadStands r 2 n k z × (n ≤ 16) × (q + k + n ≤ greatest_offset)
+folding-folds : (t : ℕ) (r : List ℕ) (q : ℕ) (f : Front) → Face r q f → folding t f ≡ true → IsFoldingAt t r × (n : ℕ) × (k : ℕ) × (z : List ℕ) × (f ≡ counted 2 n z) × HasHead r 2 n k z × (n ≤ 16) × (q + k + n ≤ greatest_offset)
 folding-folds t r q nothing face e = absurd face
 folding-folds t r q (counted m n z) face e =
     let a = and_true _ _ e in
     let c = and_true _ _ a.1 in
     let two : m ≡ 2 = eqb-true m 2 c.0 in
-    let st : HeadStands r 2 n face.1 z = subst (λ j. HeadStands r j n face.1 z) two face.2 in
+    let st : HasHead r 2 n face.1 z = subst (λ j. HasHead r j n face.1 z) two face.2 in
     ((a.0, n, face.1, z, st, leb-true n 16 c.1), n, face.1, z, ap (λ j. counted j n z) two, st, leb-true n 16 c.1, face.4 (inl two))
 folding-folds t r q (opened m z) face e = absurd (not_short _ e)
 folding-folds t r q (plain n z) face e = absurd (not_short _ e)
@@ -453,7 +453,7 @@ folding-folds t r q (raw w z) face e = absurd (not_short _ e)
 MeetsAt : ℕ → Type 0
 MeetsAt d = (b : List ℕ) (p : ℕ) (l : Limit) → EachIsByte b → 2 * length b < d → Meets b p l (read d b p l)
 
-tag-meets : (d : ℕ) → ((b : List ℕ) (p : ℕ) (l : Limit) → EachIsByte b → 2 * length b < d → Meets b p l (read d b p l)) → (b r : List ℕ) (t p k : ℕ) (l : Limit) → IsUsable b p → HeadStands b 6 t k r → EachIsByte b → 2 * length b ≤ d → Meets b p l (tagged (read d) t r p (p + k) l)
+tag-meets : (d : ℕ) → ((b : List ℕ) (p : ℕ) (l : Limit) → EachIsByte b → 2 * length b < d → Meets b p l (read d b p l)) → (b r : List ℕ) (t p k : ℕ) (l : Limit) → IsUsable b p → HasHead b 6 t k r → EachIsByte b → 2 * length b ≤ d → Meets b p l (tagged (read d) t r p (p + k) l)
 tag-meets d rec b r t p k l has st bytes fuel =
     let lb = stands-length b 6 t k r st in
     let br : EachIsByte r = rest-bytes b st.0 r st.3 bytes in
@@ -469,20 +469,20 @@ tag-meets d rec b r t p k l has st bytes fuel =
     let sm : StringMeets of_bytes r (p + k) (take n x) a = string-meets of_bytes r (p + k) (p + k + F.2) n F.2 x br F.5 F.7 refl in
     subst (λ w. Meets b p l (bignum t w p (read d r (p + k) l))) (sym y) (subst (λ w. Meets b p l (bignum t (take n x) p w)) (sym done)
     (folded-meets b st.0 r (take n x) t p k l a has st i F.0.0 small F.0 sm)))
-    (λ z. let unfolds : FoldsAt t r → ⊥ = (λ f. let c = sym z ∙ folds-front t r f in cc) in
+    (λ z. let unfolds : IsFoldingAt t r → ⊥ = (λ f. let c = sym z ∙ folds-front t r f in cc) in
     levels-meet l (read d r (p + k)) (Meets b p l) (λ e. subst (λ j. Refuses b p j recursion_limit_exceeded) (sym e) (Refuses.no_tag_level t k r has st i unfolds))
     (λ m onel. tagged-meets b r t p k l m (read d r (p + k) m) has st i unfolds onel (rec r (p + k) m br (omega (arith, lb))))))
 
 -- ---- every item
 
-head-item : (b : List ℕ) (p q k : ℕ) (l : Limit) (r : List ℕ) (m n : ℕ) (i : Item) → HeadStands b m n k r → ((s : List ℕ) → Head s m n → Spells s i) → IsSome (meaning i) → nesting i ≡ 0 → p + k ≤ greatest_offset → q ≡ p + k → Meets b p l (ends r q)
+head-item : (b : List ℕ) (p q k : ℕ) (l : Limit) (r : List ℕ) (m n : ℕ) (i : Item) → HasHead b m n k r → ((s : List ℕ) → IsHead s m n → Spells s i) → IsSome (meaning i) → nesting i ≡ 0 → p + k ≤ greatest_offset → q ≡ p + k → Meets b p l (ends r q)
 head-item b p q k l r m n i st spells some flat-i fits e =
     (st.0, i, (spells st.0 st.1, some, subst (IsWithin l) (sym flat-i) (within-zero l), omega (arith, st.2)), st.3, omega (arith, st.2))
 
 module _ (d : ℕ) (rec : (b : List ℕ) (p : ℕ) (l : Limit) → EachIsByte b → 2 * length b < d → Meets b p l (read d b p l))
     (recs : (w : Due) (b : List ℕ) (p : ℕ) (l : Limit) → p ≤ greatest_offset → EachIsByte b → 2 * length b + 1 < d → PartsMeet w b p l (parts d w b p l))
     (b : List ℕ) (p : ℕ) (l : Limit) (has : IsUsable b p) (bytes : EachIsByte b) (fuel : 2 * length b ≤ d) where
-  counted-meets : (m n k : ℕ) (r : List ℕ) → m < 7 → HeadStands b m n k r → p + k ≤ greatest_offset → (IsStringMajor m → p + k + n ≤ greatest_offset) → Meets b p l (counted_item (read d) (parts d) m n r p (p + k) l)
+  counted-meets : (m n k : ℕ) (r : List ℕ) → m < 7 → HasHead b m n k r → p + k ≤ greatest_offset → (IsStringMajor m → p + k + n ≤ greatest_offset) → Meets b p l (counted_item (read d) (parts d) m n r p (p + k) l)
   counted-meets zero n k r lt st fits sf = head-item b p (p + k) k l r 0 n (unsigned n) st (λ s h. h) refl refl fits refl
   counted-meets (suc zero) n k r lt st fits sf = head-item b p (p + k) k l r 1 n (negative n) st (λ s h. h) refl refl fits refl
   counted-meets (suc (suc zero)) n k r lt st fits sf =
@@ -493,10 +493,10 @@ module _ (d : ℕ) (rec : (b : List ℕ) (p : ℕ) (l : Limit) → EachIsByte b 
       (string-meets of_text b p (p + k) n k r bytes st (sf (inr refl)) refl)
   counted-meets (suc (suc (suc (suc zero)))) n k r lt st fits sf =
       let lb = stands-length b 4 n k r st in
-      container-meets d b r p k l (exactly n) (λ m. recs (exactly n) r (p + k) m fits (rest-bytes b st.0 r st.3 bytes) (omega (arith, lb))) has (Opens.array n st)
+      container-meets d b r p k l (exactly n) (λ m. recs (exactly n) r (p + k) m fits (rest-bytes b st.0 r st.3 bytes) (omega (arith, lb))) has (HasOpening.array n st)
   counted-meets (suc (suc (suc (suc (suc zero))))) n k r lt st fits sf =
       let lb = stands-length b 5 n k r st in
-      container-meets d b r p k l (exactly (2 * n)) (λ m. recs (exactly (2 * n)) r (p + k) m fits (rest-bytes b st.0 r st.3 bytes) (omega (arith, lb))) has (Opens.map n st)
+      container-meets d b r p k l (exactly (2 * n)) (λ m. recs (exactly (2 * n)) r (p + k) m fits (rest-bytes b st.0 r st.3 bytes) (omega (arith, lb))) has (HasOpening.map n st)
   counted-meets (suc (suc (suc (suc (suc (suc zero)))))) n k r lt st fits sf = tag-meets d rec b r n p k l has st bytes fuel
   counted-meets (suc (suc (suc (suc (suc (suc (suc m))))))) n k r lt st fits sf = let never : ⊥ = omega arith in absurd never
 
@@ -513,10 +513,10 @@ module _ (d : ℕ) (rec : (b : List ℕ) (p : ℕ) (l : Limit) → EachIsByte b 
       (pieces-meet of_text d r (p + 1) (omega arith) (rest-bytes b (127 ∷ []) r e bytes) (omega arith))
   opened-meets (suc (suc (suc (suc zero)))) r e lt a0 a1 a6 room =
       let lb : length b ≡ suc (length r) = ap length e in
-      container-meets d b r p 1 l items_until_break (λ m. recs items_until_break r (p + 1) m (omega arith) (rest-bytes b (159 ∷ []) r e bytes) (omega arith)) has (Opens.open_array refl e)
+      container-meets d b r p 1 l items_until_break (λ m. recs items_until_break r (p + 1) m (omega arith) (rest-bytes b (159 ∷ []) r e bytes) (omega arith)) has (HasOpening.open_array refl e)
   opened-meets (suc (suc (suc (suc (suc zero))))) r e lt a0 a1 a6 room =
       let lb : length b ≡ suc (length r) = ap length e in
-      container-meets d b r p 1 l keys_until_break (λ m. recs keys_until_break r (p + 1) m (omega arith) (rest-bytes b (191 ∷ []) r e bytes) (omega arith)) has (Opens.open_map refl e)
+      container-meets d b r p 1 l keys_until_break (λ m. recs keys_until_break r (p + 1) m (omega arith) (rest-bytes b (191 ∷ []) r e bytes) (omega arith)) has (HasOpening.open_map refl e)
   opened-meets (suc (suc (suc (suc (suc (suc zero)))))) r e lt a0 a1 a6 room = absurd (a6 refl)
   opened-meets (suc (suc (suc (suc (suc (suc (suc zero))))))) r e lt a0 a1 a6 room =
       subst (λ c. Refuses c p l (semantic p Break)) (sym e) (Refuses.break (subst (λ c. IsUsable c p) e has))

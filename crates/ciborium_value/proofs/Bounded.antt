@@ -4,7 +4,7 @@ use Rattle.ciborium_value.specs.Tree as trees
 use Rattle.ciborium_value.specs.Tree.{Tree, Trees, TreePairs}
 use Rattle.ciborium_ll.specs.Bytes.{AreBytes}
 use Rattle.ciborium_ll.specs.Item.{Item, unsigned, negative, bytes, text, array, map, tag, simple, float, Items, no_items, item, items_count, Pairs, no_pairs, pair, pairs_count}
-use Rattle.ciborium_ll.specs.Spells.{AreParts, joined, IsString, Encloses, Spells, SpellsItems, SpellsPairs}
+use Rattle.ciborium_ll.specs.Spells.{AreParts, joined, IsString, IsContainer, Spells, SpellsItems, SpellsPairs}
 use Rattle.ciborium_value.specs.Meaning.{meaning, items_meaning, pairs_meaning, trees_more, tree_pairs_more, simple_meaning, big_endian, is_bignum_tag, bignum_meaning, unsigned_bignum, negative_bignum, without_zeros, folding_bytes, short_string, tag_meaning}
 use Rattle.ciborium_value.specs.Counts.{node_count, payload_size, trees_node_count, trees_payload_size, tree_pairs_node_count, tree_pairs_payload_size}
 use Rattle.ciborium_ll.proofs.FrontHeads.{head-length}
@@ -61,25 +61,25 @@ more_pairs-fit (Some v) (Some w) (Some ps) i j k n f g h e = omega (arith, f, g,
 
 -- ---- strings
 
-parts-longer : (m : ℕ) (Allowed : List ℕ → Type 0) (ys : List (List ℕ)) (r : List ℕ) → AreParts m Allowed r ys → length (joined ys) ≤ length r
-parts-longer m Allowed [] r h = omega arith
-parts-longer m Allowed (y ∷ ys) r h =
-    let rest = parts-longer m Allowed ys h.1 h.3 in
+parts-longer : (m : ℕ) (IsAllowed : List ℕ → Type 0) (ys : List (List ℕ)) (r : List ℕ) → AreParts m IsAllowed r ys → length (joined ys) ≤ length r
+parts-longer m IsAllowed [] r h = omega arith
+parts-longer m IsAllowed (y ∷ ys) r h =
+    let rest = parts-longer m IsAllowed ys h.1 h.3 in
     let lr : length r ≡ length h.0 + length h.1 = ap length h.4 ∙ length-append h.0 h.1 in
     let ls : length h.0 ≡ length h.2.0 + length y = ap length h.2.3 ∙ length-append h.2.0 y in
     let lj : length (joined (y ∷ ys)) ≡ length y + length (joined ys) = length-append y (joined ys) in
     omega (arith, rest, lr, ls, lj)
 
-pub string-longer : (o : Bool) (m : ℕ) (Allowed : List ℕ → Type 0) (s y : List ℕ) → IsString o m Allowed s y → length y < length s
-string-longer false m Allowed s y h =
+pub string-longer : (o : Bool) (m : ℕ) (IsAllowed : List ℕ → Type 0) (s y : List ℕ) → IsString o m IsAllowed s y → length y < length s
+string-longer false m IsAllowed s y h =
     let l : length s ≡ length h.0 + length y = ap length h.3 ∙ length-append h.0 y in
     let pos = head-length h.0 m (length y) h.1 in
     omega (arith, l, pos)
-string-longer true m Allowed s y h =
+string-longer true m IsAllowed s y h =
     let l : length s ≡ suc (length (h.1 ++ (255 ∷ []))) = ap length h.4 in
     let lr : length (h.1 ++ (255 ∷ [])) ≡ length h.1 + 1 = length-append h.1 (255 ∷ []) in
     let ly : length y ≡ length (joined h.0) = ap length h.3 in
-    let rest = parts-longer m Allowed h.0 h.1 h.2 in
+    let rest = parts-longer m IsAllowed h.0 h.1 h.2 in
     omega (arith, l, lr, ly, rest)
 
 short-fits : (i : Item) (s : List ℕ) → Spells s i → PayloadFits (length s) (short_string i)
@@ -139,7 +139,7 @@ simple-fits n m h =
 
 -- ---- items
 
-pub enclosed-shorter : (o : Bool) (m n : ℕ) (s r : List ℕ) → Encloses o m n s r → length r < length s
+pub enclosed-shorter : (o : Bool) (m n : ℕ) (s r : List ℕ) → IsContainer o m n s r → length r < length s
 enclosed-shorter false m n s r h =
     let l : length s ≡ length h.0 + length r = ap length h.2 ∙ length-append h.0 r in
     let pos = head-length h.0 m n h.1 in

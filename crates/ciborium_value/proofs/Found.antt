@@ -4,13 +4,13 @@ use Rattle.std.proofs.Math.Seq.{take-append_seam}
 use Rattle.std.proofs.lemmas.Bool.Decides.{nat_tests}
 use Rattle.std.proofs.lemmas.Str.{is_utf8-from_IsUtf8}
 use Rattle.ciborium_value.specs.Tree as trees
-use Rattle.ciborium_ll.specs.Head.{Head, IsSimple}
+use Rattle.ciborium_ll.specs.Head.{IsHead, IsSimple}
 use Rattle.ciborium_ll.specs.Item.{Item, unsigned, negative, bytes, text, array, map, tag, simple, float, Items, no_items, item, items_count, pairs_count}
 use Rattle.ciborium_value.specs.Tree.{Tree}
-use Rattle.ciborium_ll.specs.Spells.{IsString, Encloses, Spells, SpellsItems}
+use Rattle.ciborium_ll.specs.Spells.{IsString, IsContainer, Spells, SpellsItems}
 use Rattle.ciborium_value.specs.Meaning.{meaning, items_meaning, pairs_meaning, simple_meaning, big_endian, is_bignum_tag, bignum_meaning, unsigned_bignum, negative_bignum, without_zeros, folding_bytes, short_string, tag_meaning}
 use Rattle.ciborium_value.specs.Nesting.{nesting, items_nesting, pairs_nesting, tag_nesting, Limit, IsWithin, IsOneLess}
-use Rattle.ciborium_ll.specs.Refusal.{is_reserved, semantic, Break, IsUsable, HeadStands}
+use Rattle.ciborium_ll.specs.Refusal.{is_reserved, semantic, Break, IsUsable, HasHead}
 use Rattle.ciborium_ll.specs.Bytes.{AreBytes, greatest_offset}
 use Rattle.ciborium_value.specs.Refuses.{IsGood, AreGood, Due, exactly, items_until_break, keys_until_break, values_until_break, next_due, due_after}
 use Rattle.ciborium_ll.proofs.FrontHeads.{counted, plain, front, front_open, front-simple, front-head, head-length}
@@ -19,12 +19,12 @@ use Rattle.ciborium_value.proofs.Reader.{Answer, ends, refused, and_then, past, 
 use Rattle.ciborium_value.proofs.Parts.{first-good, rest-good, mapped-some, within-zero, flat, flat-Spells, flat-meaning, flat-nesting, flat-count, flat-after, after-left, after-items, lower, levels-below}
 use Rattle.ciborium_value.proofs.Steps.{hold, opened-has, simple-has, checked-none, read-head, read-counted, read-opened, ended-has, string-good, pieces-run, pieces-break}
 
-string_of-pos : (o : Bool) (m : ℕ) (Allowed : List ℕ → Type 0) (s y : List ℕ) → IsString o m Allowed s y → 0 < length s
-string_of-pos false m Allowed s y h =
+string_of-pos : (o : Bool) (m : ℕ) (IsAllowed : List ℕ → Type 0) (s y : List ℕ) → IsString o m IsAllowed s y → 0 < length s
+string_of-pos false m IsAllowed s y h =
     let l : length s ≡ length h.0 + length y = ap length h.3 ∙ length-append h.0 y in omega (arith, l, head-length h.0 m (length y) h.1)
-string_of-pos true m Allowed s y h = let l : length s ≡ suc (length (h.1 ++ (255 ∷ []))) = ap length h.4 in omega (arith, l)
+string_of-pos true m IsAllowed s y h = let l : length s ≡ suc (length (h.1 ++ (255 ∷ []))) = ap length h.4 in omega (arith, l)
 
-encloses-pos : (o : Bool) (m n : ℕ) (s r : List ℕ) → Encloses o m n s r → 0 < length s
+encloses-pos : (o : Bool) (m n : ℕ) (s r : List ℕ) → IsContainer o m n s r → 0 < length s
 encloses-pos false m n s r h =
     let l : length s ≡ length h.0 + length r = ap length h.2 ∙ length-append h.0 r in omega (arith, l, head-length h.0 m n h.1)
 encloses-pos true m n s r h = let l : length s ≡ suc (length (r ++ (255 ∷ []))) = ap length h in omega (arith, l)
@@ -46,7 +46,7 @@ spells-pos (float r) s (inr (inr h)) = let l : length s ≡ suc (length r) = ap 
 
 -- ---- a head before r stands before what follows too
 
-stands-on : (s h r x b : List ℕ) (m n : ℕ) → Head h m n → s ≡ h ++ r → b ≡ s ++ x → HeadStands b m n (length h) (r ++ x)
+stands-on : (s h r x b : List ℕ) (m n : ℕ) → IsHead h m n → s ≡ h ++ r → b ≡ s ++ x → HasHead b m n (length h) (r ++ x)
 stands-on s h r x b m n k e f = (h, k, refl, f ∙ ap (λ (c : List ℕ). c ++ x) e ∙ append_assoc h r x)
 
 opens-on : (s r x b : List ℕ) (m : ℕ) → s ≡ (m * 32 + 31) ∷ (r ++ (255 ∷ [])) → b ≡ s ++ x → b ≡ (m * 32 + 31) ∷ (r ++ (255 ∷ x))
@@ -58,16 +58,16 @@ simple_high n h = grind (arith, nat_tests)
 
 -- ---- scalars and strings
 
-heads-good : (d p q : ℕ) (s x b : List ℕ) (l : Limit) (m n : ℕ) → m < 2 → Head s m n → b ≡ s ++ x → q ≡ p + length s → q ≤ greatest_offset → read (suc d) b p l ≡ ends x q
+heads-good : (d p q : ℕ) (s x b : List ℕ) (l : Limit) (m n : ℕ) → m < 2 → IsHead s m n → b ≡ s ++ x → q ≡ p + length s → q ≤ greatest_offset → read (suc d) b p l ≡ ends x q
 heads-good d p q s x b l zero n lt h e k room =
-    let st : HeadStands b 0 n (length s) x = (s, h, refl, e) in
+    let st : HasHead b 0 n (length s) x = (s, h, refl, e) in
     read-counted d p q b l 0 n (length s) x (omega arith) st (stands-usable b 0 n (length s) p x (omega arith) st (omega arith) (λ z. absurd (none z))) k
   where
     none : IsStringMajor 0 → ⊥
     none (inl e) = omega arith
     none (inr e) = omega arith
 heads-good d p q s x b l (suc zero) n lt h e k room =
-    let st : HeadStands b 1 n (length s) x = (s, h, refl, e) in
+    let st : HasHead b 1 n (length s) x = (s, h, refl, e) in
     read-counted d p q b l 1 n (length s) x (omega arith) st (stands-usable b 1 n (length s) p x (omega arith) st (omega arith) (λ z. absurd (none z))) k
   where
     none : IsStringMajor 1 → ⊥
@@ -78,10 +78,10 @@ heads-good d p q s x b l (suc (suc m)) n lt h e k room = let never : ⊥ = omega
 pub utf8_allowed : (t : List ℕ) → IsUtf8 t → allowed 3 t ≡ true
 utf8_allowed t h = is_utf8-from_IsUtf8 t h
 
-pub string_read : (m : ℕ) (Allowed : List ℕ → Type 0) → IsStringMajor m → ((t : List ℕ) → Allowed t → allowed m t ≡ true) →
-    (d p q : ℕ) (o : Bool) (y s x b : List ℕ) (l : Limit) → IsString o m Allowed s y → b ≡ s ++ x → q ≡ p + length s → q ≤ greatest_offset → length b < suc d → read (suc d) b p l ≡ ends x q
-string_read m Allowed is ok d p q false y s x b l h e k room fuel =
-    let st : HeadStands b m (length y) (length h.0) (y ++ x) = stands-on s h.0 y x b m (length y) h.1 h.3 e in
+pub string_read : (m : ℕ) (IsAllowed : List ℕ → Type 0) → IsStringMajor m → ((t : List ℕ) → IsAllowed t → allowed m t ≡ true) →
+    (d p q : ℕ) (o : Bool) (y s x b : List ℕ) (l : Limit) → IsString o m IsAllowed s y → b ≡ s ++ x → q ≡ p + length s → q ≤ greatest_offset → length b < suc d → read (suc d) b p l ≡ ends x q
+string_read m IsAllowed is ok d p q false y s x b l h e k room fuel =
+    let st : HasHead b m (length y) (length h.0) (y ++ x) = stands-on s h.0 y x b m (length y) h.1 h.3 e in
     let ls : length s ≡ length h.0 + length y = ap length h.3 ∙ length-append h.0 y in
     let has : IsUsable b p = stands-usable b m (length y) (length h.0) p (y ++ x) (less is) st (omega arith) (λ z. omega arith) in
     let at : past p b (y ++ x) + length y ≡ q = omega (arith, stands-length b m (length y) (length h.0) (y ++ x) st, ls, k) in
@@ -95,7 +95,7 @@ string_read m Allowed is ok d p q false y s x b l h e k room fuel =
     chosen : IsStringMajor m → (u : ℕ) → counted_item (read d) (parts d) m (length y) (y ++ x) p u l ≡ string m (length y) (y ++ x) p u
     chosen (inl e) u = ap (λ k. counted_item (read d) (parts d) k (length y) (y ++ x) p u l) e ∙ ap (λ k. string k (length y) (y ++ x) p u) (sym e)
     chosen (inr e) u = ap (λ k. counted_item (read d) (parts d) k (length y) (y ++ x) p u l) e ∙ ap (λ k. string k (length y) (y ++ x) p u) (sym e)
-string_read m Allowed is ok d p q true y s x b l h e k room fuel =
+string_read m IsAllowed is ok d p q true y s x b l h e k room fuel =
     let r : List ℕ = h.1 in
     let w : b ≡ (m * 32 + 31) ∷ (r ++ (255 ∷ x)) = opens-on s r x b m h.4 e in
     let ls : length s ≡ suc (length (r ++ (255 ∷ []))) = ap length h.4 in
@@ -103,7 +103,7 @@ string_read m Allowed is ok d p q true y s x b l h e k room fuel =
     let lb : length b ≡ suc (length (r ++ (255 ∷ x))) = ap length w in
     let has : IsUsable b p = subst (λ c. IsUsable c p) (sym w) (opened-has m p (r ++ (255 ∷ x)) (free is) (omega arith)) in
     read-opened d p b l m (r ++ (255 ∷ x)) w has ∙ chosen is ∙
-    pieces-run m Allowed (less is) ok d h.0 r (255 ∷ x) (r ++ (255 ∷ x)) (p + 1) (p + 1 + length r) (ends x q) h.2 refl refl (omega arith) (omega arith)
+    pieces-run m IsAllowed (less is) ok d h.0 r (255 ∷ x) (r ++ (255 ∷ x)) (p + 1) (p + 1 + length r) (ends x q) h.2 refl refl (omega arith) (omega arith)
     (λ c lt. pieces-break m c (p + 1 + length r) q x (omega arith) (omega arith) (omega arith))
   where
     less : IsStringMajor m → m < 7
@@ -125,7 +125,7 @@ short-front : (i : Item) (s x b : List ℕ) → Spells s i → b ≡ s ++ x → 
 short-front (unsigned n) s x b h e y f = absurd cc
 short-front (negative n) s x b h e y f = absurd cc
 short-front (bytes false z) s x b h e y f =
-    let st : HeadStands b 2 (length z) (length h.0) (z ++ x) = stands-on s h.0 z x b 2 (length z) h.1 h.3 e in
+    let st : HasHead b 2 (length z) (length h.0) (z ++ x) = stands-on s h.0 z x b 2 (length z) h.1 h.3 e in
     let g : front b ≡ counted 2 (length z) (z ++ x) = stands-front b 2 (length z) (length h.0) (z ++ x) (omega arith) st in
     let k = taken (leb (length z) 16) f in
     (ap short g ∙ k.0, ap payload g ∙ take-append_seam z x ∙ k.1)
@@ -141,7 +141,7 @@ short-front (tag n i) s x b h e y f = absurd cc
 short-front (simple n) s x b h e y f = absurd cc
 short-front (float r) s x b h e y f = absurd cc
 
-short-counted : (s h r x b : List ℕ) (m n : ℕ) → m < 7 → Head h m n → s ≡ h ++ r → b ≡ s ++ x → short (front b) ≡ (eqb m 2 && leb n 16)
+short-counted : (s h r x b : List ℕ) (m n : ℕ) → m < 7 → IsHead h m n → s ≡ h ++ r → b ≡ s ++ x → short (front b) ≡ (eqb m 2 && leb n 16)
 short-counted s h r x b m n lt k e f = ap short (stands-front b m n (length h) (r ++ x) lt (stands-on s h r x b m n k e f))
 
 short-opened : (s r x b : List ℕ) (m : ℕ) → s ≡ (m * 32 + 31) ∷ (r ++ (255 ∷ [])) → b ≡ s ++ x → short (front b) ≡ false
@@ -261,11 +261,11 @@ abbrev RunsAt : ℕ → Type 0
 RunsAt d = (is : Items) (w : Due) (s x b : List ℕ) (p q : ℕ) (l : Limit) (a : Answer) → AreGood is l s p → b ≡ s ++ x → q ≡ p + length s → IsRoom w is →
     2 * length b + 1 < d → ((c : ℕ) → 2 * length x + 1 < c → parts c (due_after w is) x q l ≡ a) → parts d w b p l ≡ a
 
-counted-container : (d : ℕ) → RunsAt d → (p q : ℕ) (b s x h r : List ℕ) (l m : Limit) (j k n : ℕ) (is : Items) → j < 7 → (IsStringMajor j → ⊥) → Head h j k → s ≡ h ++ r → SpellsItems r is → IsSome (items_meaning is) →
+counted-container : (d : ℕ) → RunsAt d → (p q : ℕ) (b s x h r : List ℕ) (l m : Limit) (j k n : ℕ) (is : Items) → j < 7 → (IsStringMajor j → ⊥) → IsHead h j k → s ≡ h ++ r → SpellsItems r is → IsSome (items_meaning is) →
     IsWithin m (items_nesting is) → IsOneLess l m → items_count is ≡ n → ((u : ℕ) → counted_item (read d) (parts d) j k (r ++ x) p u l ≡ levels l (parts d (exactly n) (r ++ x) u)) →
     b ≡ s ++ x → q ≡ p + length s → q ≤ greatest_offset → 2 * length b < suc d → read (suc d) b p l ≡ ends x q
 counted-container d run p q b s x h r l m j k n is lt nos hd e all some within onel count chosen f g room fuel =
-    let st : HeadStands b j k (length h) (r ++ x) = stands-on s h r x b j k hd e f in
+    let st : HasHead b j k (length h) (r ++ x) = stands-on s h r x b j k hd e f in
     let ls : length s ≡ length h + length r = ap length e ∙ length-append h r in
     let lb = stands-length b j k (length h) (r ++ x) st in
     let u : ℕ = p + length h in
@@ -353,7 +353,7 @@ tag-read d rd t i s x b p q l g e k fuel = by (folding_bytes t i) refl
     u : ℕ
     u = p + length g.0.0
 
-    st : HeadStands b 6 t (length g.0.0) (g.0.1 ++ x)
+    st : HasHead b 6 t (length g.0.0) (g.0.1 ++ x)
     st = stands-on s g.0.0 g.0.1 x b 6 t g.0.2 g.0.4 e
 
     ls : length s ≡ length g.0.0 + length g.0.1

@@ -6,10 +6,10 @@ use Rattle.std.proofs.lemmas.List.Elements.{All-append, All-nil, All-from_recurs
 use Rattle.std.proofs.lemmas.Nat.{mod_below}
 use lib.Utf8.{next, scalar, scalars, scalar_cases, encode, encodes}
 use Rattle.ciborium_ll.specs.Bytes.{AreBytes}
-use Rattle.ciborium_ll.specs.Head.{Head, IsSimple, within, one_byte, two_bytes, four_bytes, eight_bytes, head_in}
+use Rattle.ciborium_ll.specs.Head.{IsHead, IsSimple, within, one_byte, two_bytes, four_bytes, eight_bytes, head_in}
 use Rattle.ciborium_ll.specs.Item as item
 use Rattle.ciborium_ll.specs.Item.{Item, Items, Pairs, items_count, pairs_count}
-use Rattle.ciborium_ll.specs.Spells.{AreParts, IsString, Encloses, Spells, SpellsItems, SpellsPairs}
+use Rattle.ciborium_ll.specs.Spells.{AreParts, IsString, IsContainer, Spells, SpellsItems, SpellsPairs}
 use Rattle.ciborium_value.specs.Meaning.{meaning, items_meaning, pairs_meaning, tag_meaning, is_bignum_tag, trees_more, tree_pairs_more}
 use Rattle.ciborium_value.specs.Nesting.{Limit}
 use Rattle.ciborium_value.specs.Refuses.{IsGood}
@@ -17,7 +17,7 @@ use Rattle.ciborium_value.specs.Tree.{Tree, Trees, TreePairs, tag, array, map}
 
 -- ---- heads
 
-head_bytes : (b : List ℕ) (m n : ℕ) → m < 7 → Head b m n → AreBytes b
+head_bytes : (b : List ℕ) (m n : ℕ) → m < 7 → IsHead b m n → AreBytes b
 head_bytes b m n small (within, lt, e) = subst AreBytes (sym e) (All-from_recursion (λ x. x < 256) (head_in within m n) (omega (arith, small, lt), tt))
 head_bytes b m n small (one_byte, lt, e) = subst AreBytes (sym e) (All-from_recursion (λ x. x < 256) (head_in one_byte m n) (omega (arith, small), (lt, tt)))
 head_bytes b m n small (two_bytes, lt, e) = subst AreBytes (sym e) (All-from_recursion (λ x. x < 256) (head_in two_bytes m n) (omega (arith, small), (low 256, (mod_below n 256 (omega arith), tt))))
@@ -75,21 +75,21 @@ utf8_bytes b (cs, h) = subst AreBytes h.1 (text_bytes cs h.0)
 
 -- ---- strings
 
-parts_bytes : (m : ℕ) (Allowed : List ℕ → Type 0) → m < 7 → ((y : List ℕ) → Allowed y → AreBytes y) → (ys : List (List ℕ)) (r : List ℕ) → AreParts m Allowed r ys → AreBytes r
-parts_bytes m Allowed small ok [] r e = subst AreBytes (sym e) (All-nil (λ x. x < 256))
-parts_bytes m Allowed small ok (y ∷ ys) r (s, t, (h, head, is_ok, is), rest, e) =
-    subst AreBytes (sym e) (All-append (λ x. x < 256) s t (subst AreBytes (sym is) (All-append (λ x. x < 256) h y (head_bytes h m (length y) small head) (ok y is_ok))) (parts_bytes m Allowed small ok ys t rest))
+parts_bytes : (m : ℕ) (IsAllowed : List ℕ → Type 0) → m < 7 → ((y : List ℕ) → IsAllowed y → AreBytes y) → (ys : List (List ℕ)) (r : List ℕ) → AreParts m IsAllowed r ys → AreBytes r
+parts_bytes m IsAllowed small ok [] r e = subst AreBytes (sym e) (All-nil (λ x. x < 256))
+parts_bytes m IsAllowed small ok (y ∷ ys) r (s, t, (h, head, is_ok, is), rest, e) =
+    subst AreBytes (sym e) (All-append (λ x. x < 256) s t (subst AreBytes (sym is) (All-append (λ x. x < 256) h y (head_bytes h m (length y) small head) (ok y is_ok))) (parts_bytes m IsAllowed small ok ys t rest))
 
 broken_bytes : (r : List ℕ) (x : ℕ) → x < 256 → AreBytes r → AreBytes (x ∷ (r ++ 255 ∷ []))
 broken_bytes r x low bytes =
     All-append (λ n. n < 256) (x ∷ []) (r ++ 255 ∷ []) (All-from_recursion (λ n. n < 256) (x ∷ []) (low, tt))
     (All-append (λ n. n < 256) r (255 ∷ []) bytes (All-from_recursion (λ n. n < 256) (255 ∷ []) (omega arith, tt)))
 
-string_bytes : (o : Bool) (m : ℕ) (Allowed : List ℕ → Type 0) → m < 7 → ((y : List ℕ) → Allowed y → AreBytes y) → (s y : List ℕ) → IsString o m Allowed s y → AreBytes s
-string_bytes false m Allowed small ok s y (h, head, is_ok, is) = subst AreBytes (sym is) (All-append (λ x. x < 256) h y (head_bytes h m (length y) small head) (ok y is_ok))
-string_bytes true m Allowed small ok s y (ys, r, parts, same, is) = subst AreBytes (sym is) (broken_bytes r (m * 32 + 31) (omega (arith, small)) (parts_bytes m Allowed small ok ys r parts))
+string_bytes : (o : Bool) (m : ℕ) (IsAllowed : List ℕ → Type 0) → m < 7 → ((y : List ℕ) → IsAllowed y → AreBytes y) → (s y : List ℕ) → IsString o m IsAllowed s y → AreBytes s
+string_bytes false m IsAllowed small ok s y (h, head, is_ok, is) = subst AreBytes (sym is) (All-append (λ x. x < 256) h y (head_bytes h m (length y) small head) (ok y is_ok))
+string_bytes true m IsAllowed small ok s y (ys, r, parts, same, is) = subst AreBytes (sym is) (broken_bytes r (m * 32 + 31) (omega (arith, small)) (parts_bytes m IsAllowed small ok ys r parts))
 
-enclosed_bytes : (o : Bool) (m n : ℕ) → m < 7 → (s r : List ℕ) → Encloses o m n s r → AreBytes r → AreBytes s
+enclosed_bytes : (o : Bool) (m n : ℕ) → m < 7 → (s r : List ℕ) → IsContainer o m n s r → AreBytes r → AreBytes s
 enclosed_bytes false m n small s r (h, head, is) bytes = subst AreBytes (sym is) (All-append (λ x. x < 256) h r (head_bytes h m n small head) bytes)
 enclosed_bytes true m n small s r is bytes = subst AreBytes (sym is) (broken_bytes r (m * 32 + 31) (omega (arith, small)) bytes)
 

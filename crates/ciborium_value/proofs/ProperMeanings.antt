@@ -3,10 +3,10 @@ use Rattle.std.proofs.Common.{◌≡◌, ℕ, ◌+◌, ◌*◌, ◌^◌, ◌<◌
 use Rattle.std.proofs.lemmas.Str.{IsUtf8-append, IsUtf8-nil}
 use Rattle.std.proofs.lemmas.List.Elements.{All-append, All-nil, All-from_recursion, recursion_from_All}
 use Rattle.ciborium_ll.specs.Bytes.{AreBytes, greatest_offset}
-use Rattle.ciborium_ll.specs.Head.{within, one_byte, two_bytes, four_bytes, eight_bytes, Head}
+use Rattle.ciborium_ll.specs.Head.{within, one_byte, two_bytes, four_bytes, eight_bytes, IsHead}
 use Rattle.ciborium_ll.specs.Item.{Item, unsigned, negative, bytes, text, array, map, tag, simple, float, Items, no_items, item, items_count, Pairs, no_pairs, pair, pairs_count}
 use Rattle.ciborium_ll.specs.Proper.{IsArgument, IsProperBytes}
-use Rattle.ciborium_ll.specs.Spells.{AreParts, joined, IsString, Encloses, Spells, SpellsItems, SpellsPairs}
+use Rattle.ciborium_ll.specs.Spells.{AreParts, joined, IsString, IsContainer, Spells, SpellsItems, SpellsPairs}
 use Rattle.ciborium_value.specs.Meaning.{meaning, items_meaning, pairs_meaning, trees_more, tree_pairs_more, simple_meaning, big_endian, is_bignum_tag, bignum_meaning, unsigned_bignum, negative_bignum, without_zeros, folding_bytes, short_string, tag_meaning}
 use Rattle.ciborium_value.specs.Proper.{IsProperTree, AreProperTrees, AreProperTreePairs}
 use Rattle.ciborium_value.specs.Tree as trees
@@ -75,7 +75,7 @@ split-bytes b x y e h = parts-bytes x y (subst AreBytes e h)
 tail-bytes : (n : ℕ) (x : List ℕ) → AreBytes (n ∷ x) → AreBytes x
 tail-bytes n x h = All-from_recursion (λ n. n < 256) x (recursion_from_All (λ n. n < 256) (n ∷ x) h).1
 
-head-argument : (b : List ℕ) (m n : ℕ) → Head b m n → IsArgument n
+head-argument : (b : List ℕ) (m n : ℕ) → IsHead b m n → IsArgument n
 head-argument b m n (within, lt, e) = omega (arith, lt)
 head-argument b m n (one_byte, lt, e) = omega (arith, lt)
 head-argument b m n (two_bytes, lt, e) = omega (arith, lt)
@@ -84,20 +84,20 @@ head-argument b m n (eight_bytes, lt, e) = lt
 
 -- ---- strings
 
-joined-bytes : (m : ℕ) (Allowed : List ℕ → Type 0) (ys : List (List ℕ)) (r : List ℕ) → AreParts m Allowed r ys → AreBytes r → AreBytes (joined ys)
-joined-bytes m Allowed [] r h k = All-nil (λ n. n < 256)
-joined-bytes m Allowed (y ∷ ys) r (s, t, (h, head, ok, is), rest, e) k =
+joined-bytes : (m : ℕ) (IsAllowed : List ℕ → Type 0) (ys : List (List ℕ)) (r : List ℕ) → AreParts m IsAllowed r ys → AreBytes r → AreBytes (joined ys)
+joined-bytes m IsAllowed [] r h k = All-nil (λ n. n < 256)
+joined-bytes m IsAllowed (y ∷ ys) r (s, t, (h, head, ok, is), rest, e) k =
     let both = split-bytes r s t e k in
-    All-append (λ n. n < 256) y (joined ys) (split-bytes s h y is both.0).1 (joined-bytes m Allowed ys t rest both.1)
+    All-append (λ n. n < 256) y (joined ys) (split-bytes s h y is both.0).1 (joined-bytes m IsAllowed ys t rest both.1)
 
-string-bytes : (o : Bool) (m : ℕ) (Allowed : List ℕ → Type 0) (s y : List ℕ) → IsString o m Allowed s y → AreBytes s → AreBytes y
-string-bytes false m Allowed s y (h, head, ok, is) k = (split-bytes s h y is k).1
-string-bytes true m Allowed s y (ys, r, parts, same, is) k =
+string-bytes : (o : Bool) (m : ℕ) (IsAllowed : List ℕ → Type 0) (s y : List ℕ) → IsString o m IsAllowed s y → AreBytes s → AreBytes y
+string-bytes false m IsAllowed s y (h, head, ok, is) k = (split-bytes s h y is k).1
+string-bytes true m IsAllowed s y (ys, r, parts, same, is) k =
     let inner = tail-bytes (m * 32 + 31) (r ++ 255 ∷ []) (subst AreBytes is k) in
-    subst AreBytes (sym same) (joined-bytes m Allowed ys r parts (parts-bytes r (255 ∷ []) inner).0)
+    subst AreBytes (sym same) (joined-bytes m IsAllowed ys r parts (parts-bytes r (255 ∷ []) inner).0)
 
-string-proper : (o : Bool) (m : ℕ) (Allowed : List ℕ → Type 0) (s y : List ℕ) → IsString o m Allowed s y → AreBytes s → length s ≤ greatest_offset → IsProperBytes y
-string-proper o m Allowed s y h k fits = let longer = string-longer o m Allowed s y h in (string-bytes o m Allowed s y h k, omega (arith, longer, fits))
+string-proper : (o : Bool) (m : ℕ) (IsAllowed : List ℕ → Type 0) (s y : List ℕ) → IsString o m IsAllowed s y → AreBytes s → length s ≤ greatest_offset → IsProperBytes y
+string-proper o m IsAllowed s y h k fits = let longer = string-longer o m IsAllowed s y h in (string-bytes o m IsAllowed s y h k, omega (arith, longer, fits))
 
 joined-utf8 : (ps : List (List ℕ)) (s : List ℕ) → AreParts 3 IsUtf8 s ps → IsUtf8 (joined ps)
 joined-utf8 [] s h = IsUtf8-nil
@@ -160,7 +160,7 @@ simple-proper n =
 
 -- ---- items
 
-enclosed-bytes : (o : Bool) (m n : ℕ) (s r : List ℕ) → Encloses o m n s r → AreBytes s → AreBytes r
+enclosed-bytes : (o : Bool) (m n : ℕ) (s r : List ℕ) → IsContainer o m n s r → AreBytes s → AreBytes r
 enclosed-bytes false m n s r (h, head, is) k = (split-bytes s h r is k).1
 enclosed-bytes true m n s r is k = (parts-bytes r (255 ∷ []) (tail-bytes (m * 32 + 31) (r ++ 255 ∷ []) (subst AreBytes is k))).0
 

@@ -3,7 +3,7 @@ use Rattle.std.proofs.Common.{◌≡◌, ℕ, zero, suc, ◌+◌, ◌-◌, ◌<�
 use Rattle.ciborium_ll.specs.Bytes.{AreBytes}
 use Rattle.ciborium_ll.specs.Head.{shortest_head}
 use Rattle.ciborium_ll.specs.Item.{Item, unsigned, negative, bytes, text, array, map, tag, simple, float, Items, no_items, item, items_count, Pairs, no_pairs, pair, pairs_count}
-use Rattle.ciborium_ll.specs.Spells.{Spells, SpellsItems, SpellsPairs, Encloses}
+use Rattle.ciborium_ll.specs.Spells.{Spells, SpellsItems, SpellsPairs, IsContainer}
 use Rattle.ciborium_ll.proofs.ShortestHead.{shortest_is_head}
 use Rattle.ciborium_value.specs.Encoding.{item_of, items_of, pairs_of, enclosed, written_bytes, items_bytes, pairs_bytes, written_tree, written_trees, written_pairs, simple_tree}
 use Rattle.ciborium_value.specs.Folded.{folded, trees_folded, tree_pairs_folded, short_bytes, tree_folding_bytes}
@@ -16,7 +16,7 @@ use Rattle.ciborium_value.proofs.Written.{string_written, parts_enclosed, simple
 
 -- ---- it spells the item
 
-enclosed_as_announced : (open_ : Bool) (major count : ℕ) (r : List ℕ) → IsAnnounced open_ count → Encloses open_ major count (enclosed open_ major count r) r
+enclosed_as_announced : (open_ : Bool) (major count : ℕ) (r : List ℕ) → IsAnnounced open_ count → IsContainer open_ major count (enclosed open_ major count r) r
 enclosed_as_announced false major count r fits = parts_enclosed false major count r fits
 enclosed_as_announced true major count r fits = refl
 

@@ -7,13 +7,13 @@ use Rattle.ciborium_ll.specs.Item.{Items, items_count}
 use Rattle.ciborium_ll.specs.Spells.{IsDefiniteString}
 use Rattle.ciborium_ll.specs.Head.{IsSimple}
 use Rattle.ciborium_value.specs.Meaning.{big_endian, is_bignum_tag}
-use Rattle.ciborium_ll.specs.Refusal.{Refusal, syntax, semantic, Float, TooLarge, IsUsable, HeadRefuses, HeadStands, BeginsWith}
+use Rattle.ciborium_ll.specs.Refusal.{Refusal, syntax, semantic, Float, TooLarge, IsUsable, HeadRefuses, HasHead, IsAtFront}
 use Rattle.std.specs.List.{AllByRecursion}
 use Rattle.std.proofs.lemmas.List.Elements.{All-from_recursion}
 use Rattle.ciborium_ll.specs.Bytes.{AreBytes, greatest_offset}
 use Rattle.ciborium_value.specs.Nesting.{Limit}
-use Rattle.ciborium_ll.specs.StringRefusal.{StringKind, of_bytes, of_text, major_of, Allowed, PayloadRefuses, StringRefuses, PartRefuses, OpenStringRefuses, BeginsString}
-use Rattle.ciborium_value.specs.Refuses.{Due, exactly, items_until_break, keys_until_break, values_until_break, next_due, due_after, Opens, IsDue, FoldsAt, Refuses}
+use Rattle.ciborium_ll.specs.StringRefusal.{StringKind, of_bytes, of_text, major_of, IsAllowed, PayloadRefuses, StringRefuses, PartRefuses, OpenStringRefuses, HasStringHead}
+use Rattle.ciborium_value.specs.Refuses.{Due, exactly, items_until_break, keys_until_break, values_until_break, next_due, due_after, HasOpening, IsDue, IsFoldingAt, Refuses}
 use Rattle.ciborium_ll.proofs.FrontHeads.{Front, nothing, counted, opened, plain, raw, front, front-simple}
 use Rattle.ciborium_ll.proofs.UsableHeads.{EachIsByte, bytes_after, stands-front, stands-length, IsStringMajor, pass}
 use Rattle.ciborium_ll.proofs.ReadHeads.{Face, faces}
@@ -22,7 +22,7 @@ use Rattle.ciborium_value.proofs.Parts.{after-left, levels-below}
 use Rattle.ciborium_value.proofs.Steps.{hold, checked-none, checked-some, read-head, read-counted, read-opened, string-good, pieces-run}
 use Rattle.ciborium_value.proofs.Found.{IsRoom, parts-run, utf8_allowed}
 
-pub counted-at : (d p q : ℕ) (b : List ℕ) (l : Limit) (m n k : ℕ) (r : List ℕ) → 0 < d → m < 7 → HeadStands b m n k r → IsUsable b p → q ≡ p + k →
+pub counted-at : (d p q : ℕ) (b : List ℕ) (l : Limit) (m n k : ℕ) (r : List ℕ) → 0 < d → m < 7 → HasHead b m n k r → IsUsable b p → q ≡ p + k →
     read d b p l ≡ counted_item (read (d - 1)) (parts (d - 1)) m n r p q l
 counted-at zero p q b l m n k r pos lt s h e = let never : ⊥ = omega arith in absurd never
 counted-at (suc d) p q b l m n k r pos lt s h e =
@@ -47,7 +47,7 @@ rest-bytes b h r e x = bytes_after h r (subst EachIsByte e x)
 
 -- the head of a string that refuses, and what reading it answers
 abbrev Refusing : ℕ → List ℕ → ℕ → Refusal → Type 0
-Refusing m b p e = (n : ℕ) × (k : ℕ) × (r : List ℕ) × HeadStands b m n k r × ((u : ℕ) → string m n r p u ≡ refused e)
+Refusing m b p e = (n : ℕ) × (k : ℕ) × (r : List ℕ) × HasHead b m n k r × ((u : ℕ) → string m n r p u ≡ refused e)
 
 not_ok : (t : Bool) → (t ≡ true → ⊥) → t ≡ false
 not_ok true h = absurd (h refl)
@@ -61,11 +61,11 @@ front_bytes : (s r : List ℕ) → EachIsByte (s ++ r) → EachIsByte s
 front_bytes [] r h = tt
 front_bytes (x ∷ s) r h = (h.0, front_bytes s r h.1)
 
-pub kind_ok : (c : StringKind) (t : List ℕ) → EachIsByte t → allowed (major_of c) t ≡ true → Allowed c t
+pub kind_ok : (c : StringKind) (t : List ℕ) → EachIsByte t → allowed (major_of c) t ≡ true → IsAllowed c t
 kind_ok of_bytes t bytes h = All-from_recursion (λ n. n < 256) t (bytes_again t bytes)
 kind_ok of_text t bytes h = IsUtf8-from_is_utf8 t h
 
-pub kind_allowed : (c : StringKind) (t : List ℕ) → Allowed c t → allowed (major_of c) t ≡ true
+pub kind_allowed : (c : StringKind) (t : List ℕ) → IsAllowed c t → allowed (major_of c) t ≡ true
 kind_allowed of_bytes t h = refl
 kind_allowed of_text t h = utf8_allowed t h
 
@@ -92,9 +92,9 @@ string-at d p b l m e (inl j) pos h s =
 string-at d p b l m e (inr j) pos h s =
     counted-at d p (p + s.1) b l m s.0 s.1 s.2 pos (omega arith) s.3 h refl ∙ ap (λ k. counted_item (read (d - 1)) (parts (d - 1)) k s.0 s.2 p (p + s.1) l) j ∙ ap (λ k. string k s.0 s.2 p (p + s.1)) (sym j) ∙ s.4 (p + s.1)
 
-other-refused : (c : StringKind) (b : List ℕ) (q : ℕ) (more : List ℕ → ℕ → Answer) → (BeginsString c b → ⊥) → (BeginsWith 255 b → ⊥) → (f : Front) → Face b q f → piece more (major_of c) b q f ≡ refused (syntax q)
+other-refused : (c : StringKind) (b : List ℕ) (q : ℕ) (more : List ℕ → ℕ → Answer) → (HasStringHead c b → ⊥) → (IsAtFront 255 b → ⊥) → (f : Front) → Face b q f → piece more (major_of c) b q f ≡ refused (syntax q)
 other-refused c b q more x y nothing f = absurd f
-other-refused c b q more x y (counted k n r) f = pass _ _ _ (not_ok _ (λ t. x (n, f.1, r, subst (λ j. HeadStands b j n f.1 r) (eqb-true k (major_of c) t) f.2)))
+other-refused c b q more x y (counted k n r) f = pass _ _ _ (not_ok _ (λ t. x (n, f.1, r, subst (λ j. HasHead b j n f.1 r) (eqb-true k (major_of c) t) f.2)))
 other-refused c b q more x y (opened k r) f = pass _ _ _ (not_ok _ (λ t. y (r, f.0 ∙ ap (λ j. (j * 32 + 31) ∷ r) (eqb-true k 7 t))))
 other-refused c b q more x y (plain n r) f = refl
 other-refused c b q more x y (raw w r) f = refl
@@ -116,7 +116,7 @@ open-refused k d p b l e h (q, at, (good, payloads, r, parts_of, room, split, f)
     let lb : length b ≡ suc (length (good ++ r)) = ap length wh in
     let br : EachIsByte (((m * 32 + 31) ∷ good) ++ r) = subst EachIsByte wh bytes in
     opened-at d p b l m (good ++ r) (omega arith) wh h ∙ chosen k ∙
-    pieces-run m (Allowed k) (kind_below k) (kind_allowed k) (d - 1) payloads good r (good ++ r) (p + 1) (p + 1 + length good) (refused e) parts_of refl refl room (omega arith)
+    pieces-run m (IsAllowed k) (kind_below k) (kind_allowed k) (d - 1) payloads good r (good ++ r) (p + 1) (p + 1 + length good) (refused e) parts_of refl refl room (omega arith)
     (λ c lc. part-refused k c (omega arith) f (bytes_after ((m * 32 + 31) ∷ good) r br))
   where
     chosen : (c : StringKind) → opened_item (parts (d - 1)) (pieces (d - 1)) (major_of c) (good ++ r) p l ≡ pieces (d - 1) (major_of c) (good ++ r) (p + 1)
@@ -143,13 +143,13 @@ simple-front s n r (inr h) = ap (λ (c : List ℕ). front (c ++ r)) h.2
 
 -- ---- containers
 
-opens-read : (d p k : ℕ) (b r : List ℕ) (w : Due) (l : Limit) → 0 < d → IsUsable b p → Opens b k r w → (read d b p l ≡ levels l (parts (d - 1) w r (p + k))) × (length b ≡ k + length r) × (0 < k)
-opens-read d p k b r w l pos h (Opens.array n s) = let z = stands-length b 4 n k r s in (counted-at d p (p + k) b l 4 n k r pos (omega arith) s h refl, z.0, z.1)
-opens-read d p k b r w l pos h (Opens.open_array e f) = (opened-at d p b l 4 r pos f h ∙ ap (λ u. levels l (parts (d - 1) items_until_break r u)) (omega arith), ap length f ∙ omega arith, omega arith)
-opens-read d p k b r w l pos h (Opens.map n s) = let z = stands-length b 5 n k r s in (counted-at d p (p + k) b l 5 n k r pos (omega arith) s h refl, z.0, z.1)
-opens-read d p k b r w l pos h (Opens.open_map e f) = (opened-at d p b l 5 r pos f h ∙ ap (λ u. levels l (parts (d - 1) keys_until_break r u)) (omega arith), ap length f ∙ omega arith, omega arith)
+opens-read : (d p k : ℕ) (b r : List ℕ) (w : Due) (l : Limit) → 0 < d → IsUsable b p → HasOpening b k r w → (read d b p l ≡ levels l (parts (d - 1) w r (p + k))) × (length b ≡ k + length r) × (0 < k)
+opens-read d p k b r w l pos h (HasOpening.array n s) = let z = stands-length b 4 n k r s in (counted-at d p (p + k) b l 4 n k r pos (omega arith) s h refl, z.0, z.1)
+opens-read d p k b r w l pos h (HasOpening.open_array e f) = (opened-at d p b l 4 r pos f h ∙ ap (λ u. levels l (parts (d - 1) items_until_break r u)) (omega arith), ap length f ∙ omega arith, omega arith)
+opens-read d p k b r w l pos h (HasOpening.map n s) = let z = stands-length b 5 n k r s in (counted-at d p (p + k) b l 5 n k r pos (omega arith) s h refl, z.0, z.1)
+opens-read d p k b r w l pos h (HasOpening.open_map e f) = (opened-at d p b l 5 r pos f h ∙ ap (λ u. levels l (parts (d - 1) keys_until_break r u)) (omega arith), ap length f ∙ omega arith, omega arith)
 
-no-break : (b : List ℕ) (p : ℕ) → (p < greatest_offset → BeginsWith 255 b → ⊥) → break_at b p ≡ None
+no-break : (b : List ℕ) (p : ℕ) → (p < greatest_offset → IsAtFront 255 b → ⊥) → break_at b p ≡ None
 no-break [] p h = refl
 no-break (x ∷ b) p h = by (ltb p greatest_offset) (eqb x 255) (λ e f. h (ltb-true p greatest_offset e) (b, ap (λ y. y ∷ b) (eqb-true x 255 f)))
   where
@@ -182,7 +182,7 @@ parts-refused (suc c) w b p l e pos h f =
 
 -- ---- tags
 
-pub folds-front : (t : ℕ) (r : List ℕ) → FoldsAt t r → folding t (front r) ≡ true
+pub folds-front : (t : ℕ) (r : List ℕ) → IsFoldingAt t r → folding t (front r) ≡ true
 folds-front t r f =
     ap (λ g. folding t g) (stands-front r 2 f.1 f.2 f.3 (omega arith) f.4) ∙ ap (λ u. u && leb f.1 16) f.0 ∙ le-leb f.1 16 f.5
 
@@ -190,30 +190,30 @@ and_true : (t u : Bool) → (t && u) ≡ true → (t ≡ true) × (u ≡ true)
 and_true true u h = (refl, h)
 and_true false u h = absurd cc
 
-not_folds : (t : ℕ) (r : List ℕ) (p : ℕ) → EachIsByte r → IsUsable r p → (FoldsAt t r → ⊥) → folding t (front r) ≡ false
+not_folds : (t : ℕ) (r : List ℕ) (p : ℕ) → EachIsByte r → IsUsable r p → (IsFoldingAt t r → ⊥) → folding t (front r) ≡ false
 not_folds t r p bytes h x = not_ok _ (λ e. let a = and_true _ _ e in x (of (front r) (faces r p bytes h) a.0 a.1))
   where
-    of : (f : Front) → Face r p f → is_bignum_tag t ≡ true → short f ≡ true → FoldsAt t r
+    of : (f : Front) → Face r p f → is_bignum_tag t ≡ true → short f ≡ true → IsFoldingAt t r
     of nothing f b s = absurd f
-    of (counted m n z) f b s = let a = and_true _ _ s in (b, n, f.1, z, subst (λ j. HeadStands r j n f.1 z) (eqb-true m 2 a.0) f.2, leb-true n 16 a.1)
+    of (counted m n z) f b s = let a = and_true _ _ s in (b, n, f.1, z, subst (λ j. HasHead r j n f.1 z) (eqb-true m 2 a.0) f.2, leb-true n 16 a.1)
     of (opened m z) f b s = absurd cc
     of (plain n z) f b s = absurd cc
     of (raw w z) f b s = absurd cc
 
 -- what a tag's item is read from
-tag-at : (d p t k : ℕ) (b r : List ℕ) (l : Limit) → 0 < d → IsUsable b p → HeadStands b 6 t k r → read d b p l ≡ tagged (read (d - 1)) t r p (p + k) l
+tag-at : (d p t k : ℕ) (b r : List ℕ) (l : Limit) → 0 < d → IsUsable b p → HasHead b 6 t k r → read d b p l ≡ tagged (read (d - 1)) t r p (p + k) l
 tag-at d p t k b r l pos h s = counted-at d p (p + k) b l 6 t k r pos (omega arith) s h refl
 
-opens-bytes : (b r : List ℕ) (k : ℕ) (w : Due) → Opens b k r w → EachIsByte b → EachIsByte r
-opens-bytes b r k w (Opens.array n s) x = rest-bytes b s.0 r s.3 x
-opens-bytes b r k w (Opens.open_array e f) x = rest-bytes b (159 ∷ []) r f x
-opens-bytes b r k w (Opens.map n s) x = rest-bytes b s.0 r s.3 x
-opens-bytes b r k w (Opens.open_map e f) x = rest-bytes b (191 ∷ []) r f x
+opens-bytes : (b r : List ℕ) (k : ℕ) (w : Due) → HasOpening b k r w → EachIsByte b → EachIsByte r
+opens-bytes b r k w (HasOpening.array n s) x = rest-bytes b s.0 r s.3 x
+opens-bytes b r k w (HasOpening.open_array e f) x = rest-bytes b (159 ∷ []) r f x
+opens-bytes b r k w (HasOpening.map n s) x = rest-bytes b s.0 r s.3 x
+opens-bytes b r k w (HasOpening.open_map e f) x = rest-bytes b (191 ∷ []) r f x
 
-large-refused : (d p k : ℕ) (b s y r : List ℕ) (l : Limit) → 0 < d → 1 < d → IsUsable b p → HeadStands b 6 3 k (s ++ r) → IsUsable (s ++ r) (p + k) → IsDefiniteString 2 AreBytes s y → length y ≤ 16 → 2 ^ 127 ≤ big_endian y → read d b p l ≡ refused (semantic p TooLarge)
+large-refused : (d p k : ℕ) (b s y r : List ℕ) (l : Limit) → 0 < d → 1 < d → IsUsable b p → HasHead b 6 3 k (s ++ r) → IsUsable (s ++ r) (p + k) → IsDefiniteString 2 AreBytes s y → length y ≤ 16 → 2 ^ 127 ≤ big_endian y → read d b p l ≡ refused (semantic p TooLarge)
 large-refused d p k b s y r l pos pos2 h st i str small large =
     let j : ℕ = length str.0 in
-    let is : HeadStands (s ++ r) 2 (length y) j (y ++ r) = (str.0, str.1, refl, ap (λ (c : List ℕ). c ++ r) str.3 ∙ append_assoc str.0 y r) in
+    let is : HasHead (s ++ r) 2 (length y) j (y ++ r) = (str.0, str.1, refl, ap (λ (c : List ℕ). c ++ r) str.3 ∙ append_assoc str.0 y r) in
     let fr : front (s ++ r) ≡ counted 2 (length y) (y ++ r) = stands-front (s ++ r) 2 (length y) j (y ++ r) (omega arith) is in
     let done : read (d - 1) (s ++ r) (p + k) l ≡ ends r (p + k + j + length y) =
     counted-at (d - 1) (p + k) (p + k + j) (s ++ r) l 2 (length y) j (y ++ r) (omega arith) (omega arith) is i refl ∙ string-good 2 (length y) (p + k) (p + k + j) y (y ++ r) r refl refl refl in

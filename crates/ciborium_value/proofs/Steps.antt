@@ -4,7 +4,7 @@ use Rattle.std.proofs.Math.Seq.{take-append_seam, drop-append_seam}
 use Rattle.std.proofs.lemmas.Nat.{div-mul-add, mod-mul-add}
 use Rattle.std.proofs.lemmas.Bool.Decides.{nat_tests}
 use Rattle.ciborium_ll.specs.Spells.{AreParts}
-use Rattle.ciborium_ll.specs.Refusal.{Refusal, head_refusal, IsUsable, HeadRefuses, HeadStands, argument_length, is_reserved, is_low_simple, payload_length}
+use Rattle.ciborium_ll.specs.Refusal.{Refusal, head_refusal, IsUsable, HeadRefuses, HasHead, argument_length, is_reserved, is_low_simple, payload_length}
 use Rattle.ciborium_ll.specs.Bytes.{greatest_offset}
 use Rattle.ciborium_value.specs.Nesting.{Limit}
 use Rattle.ciborium_ll.proofs.FrontHeads.{Front, counted, opened, front, front_open}
@@ -60,11 +60,11 @@ checked-some b p a e h = ap (λ o. checked o a) h
 pub read-head : (d p : ℕ) (b : List ℕ) (l : Limit) (f : Front) → IsUsable b p → front b ≡ f → read (suc d) b p l ≡ item_at (read d) (parts d) (pieces d) b p l f
 read-head d p b l f h e = checked-none b p _ h ∙ ap (item_at (read d) (parts d) (pieces d) b p l) e
 
-pub past-stands : (b : List ℕ) (m n k p q : ℕ) (r : List ℕ) → HeadStands b m n k r → q ≡ p + k → past p b r ≡ q
+pub past-stands : (b : List ℕ) (m n k p q : ℕ) (r : List ℕ) → HasHead b m n k r → q ≡ p + k → past p b r ≡ q
 past-stands b m n k p q r s e = omega (arith, stands-length b m n k r s)
 
 -- a usable head with an argument
-pub read-counted : (d p q : ℕ) (b : List ℕ) (l : Limit) (m n k : ℕ) (r : List ℕ) → m < 7 → HeadStands b m n k r → IsUsable b p → q ≡ p + k →
+pub read-counted : (d p q : ℕ) (b : List ℕ) (l : Limit) (m n k : ℕ) (r : List ℕ) → m < 7 → HasHead b m n k r → IsUsable b p → q ≡ p + k →
     read (suc d) b p l ≡ counted_item (read d) (parts d) m n r p q l
 read-counted d p q b l m n k r lt s h e =
     read-head d p b l (counted m n r) h (stands-front b m n k r lt s) ∙ ap (λ z. counted_item (read d) (parts d) m n r p z l) (past-stands b m n k p q r s e)
@@ -88,21 +88,21 @@ string-good m n p q y r x e k h =
     pass _ _ _ (le-ltb (length r) n (omega arith)) ∙ hold _ _ _ (ap (allowed m) t ∙ h) ∙ ap (λ (c : List ℕ). ends c (q + n)) u
 
 -- the good parts of an open string, and what is answered after them
-pub pieces-run : (m : ℕ) (Allowed : List ℕ → Type 0) → m < 7 → ((t : List ℕ) → Allowed t → allowed m t ≡ true) →
-    (d : ℕ) (ps : List (List ℕ)) (s x b : List ℕ) (q u : ℕ) (a : Answer) → AreParts m Allowed s ps → b ≡ s ++ x → u ≡ q + length s → u ≤ greatest_offset → length b < d →
+pub pieces-run : (m : ℕ) (IsAllowed : List ℕ → Type 0) → m < 7 → ((t : List ℕ) → IsAllowed t → allowed m t ≡ true) →
+    (d : ℕ) (ps : List (List ℕ)) (s x b : List ℕ) (q u : ℕ) (a : Answer) → AreParts m IsAllowed s ps → b ≡ s ++ x → u ≡ q + length s → u ≤ greatest_offset → length b < d →
     ((c : ℕ) → length x < c → pieces c m x u ≡ a) → pieces d m b q ≡ a
-pieces-run m Allowed lt ok d [] s x b q u a g e k room fuel then =
+pieces-run m IsAllowed lt ok d [] s x b q u a g e k room fuel then =
     let same : b ≡ x = e ∙ ap (λ (c : List ℕ). c ++ x) g in
     let l : length b ≡ length x = ap length same in
     let none : length s ≡ 0 = ap length g in
     ap (λ (c : List ℕ). pieces d m c q) same ∙ ap (pieces d m x) (omega arith) ∙ then d (omega arith)
-pieces-run m Allowed lt ok zero (y ∷ ps) s x b q u a g e k room fuel then = let never : ⊥ = omega arith in absurd never
-pieces-run m Allowed lt ok (suc d) (y ∷ ps) s x b q u a g e k room fuel then =
+pieces-run m IsAllowed lt ok zero (y ∷ ps) s x b q u a g e k room fuel then = let never : ⊥ = omega arith in absurd never
+pieces-run m IsAllowed lt ok (suc d) (y ∷ ps) s x b q u a g e k room fuel then =
     let w = g.2 in
     let h : List ℕ = w.0 in
     let r : List ℕ = y ++ (g.1 ++ x) in
     let is : b ≡ h ++ r = e ∙ ap (λ (c : List ℕ). c ++ x) (g.4 ∙ ap (λ (c : List ℕ). c ++ g.1) w.3) ∙ append_assoc (h ++ y) g.1 x ∙ append_assoc h y (g.1 ++ x) in
-    let st : HeadStands b m (length y) (length h) r = (h, w.1, refl, is) in
+    let st : HasHead b m (length y) (length h) r = (h, w.1, refl, is) in
     let l1 : length s ≡ length g.0 + length g.1 = ap length g.4 ∙ length-append g.0 g.1 in
     let l2 : length g.0 ≡ length h + length y = ap length w.3 ∙ length-append h y in
     let l3 = stands-length b m (length y) (length h) r st in
@@ -111,7 +111,7 @@ pieces-run m Allowed lt ok (suc d) (y ∷ ps) s x b q u a g e k room fuel then =
     checked-none b q _ has ∙ ap (piece (pieces d m) m b q) (stands-front b m (length y) (length h) r lt st) ∙
     hold _ _ _ (eq-eqb m m refl) ∙
     ap (and_then (pieces d m)) (string-good m (length y) q (past q b r) y r (g.1 ++ x) refl refl (ok y w.2)) ∙
-    pieces-run m Allowed lt ok d ps g.1 x (g.1 ++ x) (past q b r + length y) u a g.3 refl (omega arith) room (omega arith) then
+    pieces-run m IsAllowed lt ok d ps g.1 x (g.1 ++ x) (past q b r + length y) u a g.3 refl (omega arith) room (omega arith) then
 
 -- the break that ends an open string
 pub pieces-break : (m d q u : ℕ) (x : List ℕ) → 0 < d → q < greatest_offset → u ≡ q + 1 → pieces d m (255 ∷ x) q ≡ ends x u

@@ -5,7 +5,7 @@ use Rattle.ciborium_ll.specs.Bytes.{AreBytes, greatest_offset}
 use Rattle.ciborium_ll.specs.Head.{shortest_head, simple_bytes, IsSimple, IsFloat}
 use Rattle.ciborium_ll.specs.Item.{Item, unsigned, negative, bytes, text, array, map, tag, simple, float, Items, no_items, item, items_count, Pairs, no_pairs, pair, pairs_count}
 use Rattle.ciborium_ll.specs.Proper.{IsProperItem, AreProperItems, AreProperPairs}
-use Rattle.ciborium_ll.specs.Spells.{IsDefiniteString, IsString, Encloses, Spells, SpellsItems, SpellsPairs}
+use Rattle.ciborium_ll.specs.Spells.{IsDefiniteString, IsString, IsContainer, Spells, SpellsItems, SpellsPairs}
 use Rattle.ciborium_ll.proofs.ShortestHead.{shortest_is_head}
 use Rattle.ciborium_value.specs.Encoding.{item_of, items_of, pairs_of, enclosed, string_bytes, float_bytes, written_bytes, items_bytes, pairs_bytes}
 use Rattle.ciborium_value.specs.FoldingLaws.{EncodingIsGood}
@@ -16,15 +16,15 @@ use Rattle.ciborium_value.proofs.Folding.{written_means_folded}
 
 -- ---- strings, containers, simple values and floats
 
-pub string_written : (open_ : Bool) (major : ℕ) (Allowed : List ℕ → Type 0) (b : List ℕ) → Allowed b → length b ≤ greatest_offset →
-    IsString open_ major Allowed (string_bytes open_ major b) b
-string_written false major Allowed b h fits = (shortest_head major (length b), shortest_is_head major (length b) (omega arith), h, refl)
-string_written true major Allowed b h fits =
+pub string_written : (open_ : Bool) (major : ℕ) (IsAllowed : List ℕ → Type 0) (b : List ℕ) → IsAllowed b → length b ≤ greatest_offset →
+    IsString open_ major IsAllowed (string_bytes open_ major b) b
+string_written false major IsAllowed b h fits = (shortest_head major (length b), shortest_is_head major (length b) (omega arith), h, refl)
+string_written true major IsAllowed b h fits =
     let s : List ℕ = shortest_head major (length b) ++ b in
-    let part : IsDefiniteString major Allowed s b = (shortest_head major (length b), shortest_is_head major (length b) (omega arith), h, refl) in
+    let part : IsDefiniteString major IsAllowed s b = (shortest_head major (length b), shortest_is_head major (length b) (omega arith), h, refl) in
     (b ∷ [], s, (s, [], part, refl, sym (append-nil s)), sym (append-nil b), refl)
 
-pub parts_enclosed : (open_ : Bool) (major count : ℕ) (r : List ℕ) → count ≤ greatest_offset → Encloses open_ major count (enclosed open_ major count r) r
+pub parts_enclosed : (open_ : Bool) (major count : ℕ) (r : List ℕ) → count ≤ greatest_offset → IsContainer open_ major count (enclosed open_ major count r) r
 parts_enclosed false major count r fits = (shortest_head major count, shortest_is_head major count (omega arith), refl)
 parts_enclosed true major count r fits = refl
 

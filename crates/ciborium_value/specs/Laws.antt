@@ -7,16 +7,16 @@ use Rattle.ciborium_value.specs.Nesting.{Limit}
 use Rattle.ciborium_value.specs.Refuses.{IsGood, Refuses}
 
 -- some beginning of b, whose first byte is at offset p, is a good item
-abbrev pub BeginsGood : List ℕ → ℕ → Limit → Type 0
-BeginsGood b p l = (s : List ℕ) × (i : Item) × (r : List ℕ) × IsGood i l s p × (b ≡ s ++ r)
+abbrev pub HasGoodItem : List ℕ → ℕ → Limit → Type 0
+HasGoodItem b p l = (s : List ℕ) × (i : Item) × (r : List ℕ) × IsGood i l s p × (b ≡ s ++ r)
 
 -- all bytes begin with a good item, or something refuses them
 abbrev pub GoodOrRefused : Type 0
-GoodOrRefused = (b : List ℕ) (p : ℕ) (l : Limit) → AreBytes b → BeginsGood b p l ⊎ ((e : Refusal) × Refuses b p l e)
+GoodOrRefused = (b : List ℕ) (p : ℕ) (l : Limit) → AreBytes b → HasGoodItem b p l ⊎ ((e : Refusal) × Refuses b p l e)
 
 -- never both
 abbrev pub NeverBoth : Type 0
-NeverBoth = (b : List ℕ) (p : ℕ) (l : Limit) (e : Refusal) → AreBytes b → BeginsGood b p l → ¬ Refuses b p l e
+NeverBoth = (b : List ℕ) (p : ℕ) (l : Limit) (e : Refusal) → AreBytes b → HasGoodItem b p l → ¬ Refuses b p l e
 
 -- and with one refusal alone
 abbrev pub OneRefusal : Type 0

@@ -5,7 +5,7 @@ use Rattle.ciborium_ll.specs.Bytes.{AreBytes, greatest_offset}
 use Rattle.ciborium_ll.specs.Head.{open_byte, break_byte, IsSimple}
 use Rattle.ciborium_ll.specs.Item.{Item, Items, no_items, item}
 use Rattle.ciborium_ll.specs.Spells.{IsDefiniteString, Spells, SpellsItems}
-use Rattle.ciborium_ll.specs.Refusal.{Float, Simple, Break, TooLarge, Refusal, semantic, recursion_limit_exceeded, HeadRefuses, IsUsable, HeadStands, BeginsWith}
+use Rattle.ciborium_ll.specs.Refusal.{Float, Simple, Break, TooLarge, Refusal, semantic, recursion_limit_exceeded, HeadRefuses, IsUsable, HasHead, IsAtFront}
 use Rattle.ciborium_ll.specs.StringRefusal.{StringKind, of_bytes, StringRefuses, OpenStringRefuses}
 use Rattle.ciborium_value.specs.Meaning.{meaning, items_meaning, simple_meaning, big_endian, is_bignum_tag}
 use Rattle.ciborium_value.specs.Nesting.{Limit, IsWithin, IsOneLess, nesting, items_nesting}
@@ -49,20 +49,20 @@ due_after w (item i is) = due_after (next_due w) is
 -- an item is due at offset p before the bytes r: the container is not complete, and no break that may be read ends it
 abbrev pub IsDue : Due → List ℕ → ℕ → Type 0
 IsDue (exactly n) r p = 0 < n
-IsDue items_until_break r p = p < greatest_offset → ¬ BeginsWith break_byte r
-IsDue keys_until_break r p = p < greatest_offset → ¬ BeginsWith break_byte r
+IsDue items_until_break r p = p < greatest_offset → ¬ IsAtFront break_byte r
+IsDue keys_until_break r p = p < greatest_offset → ¬ IsAtFront break_byte r
 IsDue values_until_break r p = Unit {0}
 
 -- b begins with the head of an array or map, of k bytes, behind which r is left and this is due
-pub data Opens (b : List ℕ) (k : ℕ) (r : List ℕ) : Due → Type 0 where
-  array : (n : ℕ) → HeadStands b 4 n k r → Opens b k r (exactly n)
-  open_array : k ≡ 1 → b ≡ open_byte 4 ∷ r → Opens b k r items_until_break
-  map : (n : ℕ) → HeadStands b 5 n k r → Opens b k r (exactly (2 * n))
-  open_map : k ≡ 1 → b ≡ open_byte 5 ∷ r → Opens b k r keys_until_break
+pub data HasOpening (b : List ℕ) (k : ℕ) (r : List ℕ) : Due → Type 0 where
+  array : (n : ℕ) → HasHead b 4 n k r → HasOpening b k r (exactly n)
+  open_array : k ≡ 1 → b ≡ open_byte 4 ∷ r → HasOpening b k r items_until_break
+  map : (n : ℕ) → HasHead b 5 n k r → HasOpening b k r (exactly (2 * n))
+  open_map : k ≡ 1 → b ≡ open_byte 5 ∷ r → HasOpening b k r keys_until_break
 
 -- a tag folds over what begins here: the head of a definite byte string of at most 16 bytes
-abbrev pub FoldsAt : ℕ → List ℕ → Type 0
-FoldsAt t r = (is_bignum_tag t ≡ true) × (n : ℕ) × (k : ℕ) × (s : List ℕ) × HeadStands r 2 n k s × (n ≤ 16)
+abbrev pub IsFoldingAt : ℕ → List ℕ → Type 0
+IsFoldingAt t r = (is_bignum_tag t ≡ true) × (n : ℕ) × (k : ℕ) × (s : List ℕ) × HasHead r 2 n k s × (n ≤ 16)
 
 -- the bytes b, whose first is at offset p, refuse with e under the limit l (section 5.3 and appendix F)
 pub data Refuses : List ℕ → ℕ → Limit → Refusal → Type 0 where
@@ -79,22 +79,22 @@ pub data Refuses : List ℕ → ℕ → Limit → Refusal → Type 0 where
   break : {p : ℕ} {b : List ℕ} {l : Limit} → IsUsable (break_byte ∷ b) p → Refuses (break_byte ∷ b) p l (semantic p Break)
   -- an array or map with no level left; with a level, the item behind good ones refuses where it is due
   no_level : {b : List ℕ} {p : ℕ} (k : ℕ) (r : List ℕ) (w : Due) →
-      IsUsable b p → Opens b k r w → Refuses b p (Some 0) recursion_limit_exceeded
+      IsUsable b p → HasOpening b k r w → Refuses b p (Some 0) recursion_limit_exceeded
   part : {b : List ℕ} {p : ℕ} {l : Limit} {e : Refusal} (k : ℕ) (w : Due) (good : List ℕ) (is : Items) (r : List ℕ) (below : Limit) →
-      IsUsable b p → Opens b k (good ++ r) w → IsOneLess l below → AreGood is below good (p + k) →
+      IsUsable b p → HasOpening b k (good ++ r) w → IsOneLess l below → AreGood is below good (p + k) →
       IsDue (due_after w is) r (p + k + length good) → Refuses r (p + k + length good) below e → Refuses b p l e
   -- a tag: the next head refuses, before anything else is judged
   tag_no_head : {b : List ℕ} {p : ℕ} {l : Limit} {e : Refusal} (t k : ℕ) (r : List ℕ) →
-      IsUsable b p → HeadStands b 6 t k r → HeadRefuses r (p + k) e → Refuses b p l e
+      IsUsable b p → HasHead b 6 t k r → HeadRefuses r (p + k) e → Refuses b p l e
   -- a tag that folds: its string refuses, or its number is too large
   folding : {b : List ℕ} {p : ℕ} {l : Limit} {e : Refusal} (t k : ℕ) (r : List ℕ) →
-      IsUsable b p → HeadStands b 6 t k r → IsUsable r (p + k) → FoldsAt t r → StringRefuses of_bytes r (p + k) e → Refuses b p l e
+      IsUsable b p → HasHead b 6 t k r → IsUsable r (p + k) → IsFoldingAt t r → StringRefuses of_bytes r (p + k) e → Refuses b p l e
   too_large : {b : List ℕ} {p : ℕ} {l : Limit} (k : ℕ) (s payload r : List ℕ) →
-      IsUsable b p → HeadStands b 6 3 k (s ++ r) → IsUsable (s ++ r) (p + k) → IsDefiniteString 2 AreBytes s payload →
+      IsUsable b p → HasHead b 6 3 k (s ++ r) → IsUsable (s ++ r) (p + k) → IsDefiniteString 2 AreBytes s payload →
       length payload ≤ 16 → 2 ^ 127 ≤ big_endian payload → Refuses b p l (semantic p TooLarge)
   -- a tag that does not fold: no level is left, or with a level its item refuses
   no_tag_level : {b : List ℕ} {p : ℕ} (t k : ℕ) (r : List ℕ) →
-      IsUsable b p → HeadStands b 6 t k r → IsUsable r (p + k) → ¬ FoldsAt t r → Refuses b p (Some 0) recursion_limit_exceeded
+      IsUsable b p → HasHead b 6 t k r → IsUsable r (p + k) → ¬ IsFoldingAt t r → Refuses b p (Some 0) recursion_limit_exceeded
   tagged : {b : List ℕ} {p : ℕ} {l : Limit} {e : Refusal} (t k : ℕ) (r : List ℕ) (below : Limit) →
-      IsUsable b p → HeadStands b 6 t k r → IsUsable r (p + k) → ¬ FoldsAt t r → IsOneLess l below →
+      IsUsable b p → HasHead b 6 t k r → IsUsable r (p + k) → ¬ IsFoldingAt t r → IsOneLess l below →
       Refuses r (p + k) below e → Refuses b p l e

@@ -47,9 +47,9 @@ pub fn tag_over(alloc: Global, tag: u64, bytes: &[u8]) -> Result<Value, AllocErr
     Ok(Value::Tag(tag, Box::new(alloc, content)?))
 }
 
-/// What tag 2 or 3 over at most 16 bytes means: the integer, where it is in range, else the tag over
-/// the bytes without leading zeros (RFC 8949, section 3.4.3). An integer takes no memory. Another
-/// tag, or more bytes, do not fold and may not be handed in.
+/// What tag 2 or 3 over at most 16 bytes means: the integer, where it is in range, else the tag
+/// over the bytes without leading zeros (RFC 8949, section 3.4.3). An integer takes no memory.
+/// Another tag, or more bytes, do not fold and may not be handed in.
 ///
 /// # Errors
 ///

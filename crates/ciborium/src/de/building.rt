@@ -2,7 +2,7 @@
 
 ghost use Rattle.std.specs.Prelude.{◌≡◌, ◌<◌, ◌≤◌, IfErr, IfOk, List, MatchOption, None};
 ghost use Rattle.std.specs.Prelude.{Ok, OnOk, Some, length, ℕ};
-ghost use Rattle.ciborium_ll.specs.Decoding.{IsAhead, SameReader, TakesBeforeAny, pushed_of};
+ghost use Rattle.ciborium_ll.specs.Decoding.{HasSameReader, IsAhead, TakesBeforeAny, pushed_of};
 ghost use Rattle.ciborium_value.specs.Stack.{opens_of};
 ghost use Rattle.ciborium.specs.Answers.{IsReading, IsTurned, IsValueRead};
 ghost use Rattle.ciborium.specs.Reads.{heads_left};
@@ -38,7 +38,7 @@ fn turn<R: Read>(
     levels: usize,
 ) -> Result<Option<Value>, Error<io::Error>>
     requires { length (opens_of stack.old) ≤ levels }
-    ensures same_reader { SameReader decoder.old decoder.new }
+    ensures same_reader { HasSameReader decoder.old decoder.new }
     ensures fewer { OnOk result (heads_left decoder.new < heads_left decoder.old) }
     ensures rests { IfOk result (λ o.
         MatchOption o (Unit {0}) (λ _. pushed_of decoder.new ≡ None)) }
@@ -69,7 +69,7 @@ pub(crate) fn read_value<R: Read>(
     scratch: &mut [u8],
     levels: usize,
 ) -> Result<Value, Error<io::Error>>
-    ensures same_reader { SameReader decoder.old decoder.new }
+    ensures same_reader { HasSameReader decoder.old decoder.new }
     ensures rests { OnOk result (pushed_of decoder.new ≡ None) }
     ensures value { TakesBeforeAny R.remaining decoder.old decoder.new
         (λ d e. (xs : List ℕ) (p : ℕ) → IsAhead Some d xs p →

@@ -1,7 +1,7 @@
 //! What stands at the front, and its head.
 
 ghost use Rattle.std.specs.Prelude.{◌≡◌, ◌<◌, List, None, OnOk, Some, ℕ};
-ghost use Rattle.ciborium_ll.specs.Decoding.{IsAhead, SameReader, TakesBeforeAny, pushed_of};
+ghost use Rattle.ciborium_ll.specs.Decoding.{HasSameReader, IsAhead, TakesBeforeAny, pushed_of};
 ghost use Rattle.ciborium.specs.Parts.{IsHeadRead};
 ghost use Rattle.ciborium.specs.Reads.{heads_left};
 
@@ -25,7 +25,7 @@ pub(crate) enum Part {
 /// The next head.
 #[inline(always)]
 pub(crate) fn pull<R: Read>(decoder: &mut Decoder<'_, R>) -> Result<Header, Error<io::Error>>
-    ensures same_reader { SameReader decoder.old decoder.new }
+    ensures same_reader { HasSameReader decoder.old decoder.new }
     ensures pushed { pushed_of decoder.new ≡ None }
     ensures fewer { OnOk result (heads_left decoder.new < heads_left decoder.old) }
     ensures head { TakesBeforeAny R.remaining decoder.old decoder.new

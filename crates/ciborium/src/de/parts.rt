@@ -2,10 +2,10 @@
 //! or a break.
 
 ghost use Rattle.std.specs.Prelude.{◌≡◌, ◌+◌, ◌<◌, ◌≤◌, IfOk, List, None, OnOk, Some, ℕ};
-ghost use Rattle.ciborium_ll.specs.Decoding.{IsAhead, SameReader, TakesBeforeAny};
+ghost use Rattle.ciborium_ll.specs.Decoding.{HasSameReader, IsAhead, TakesBeforeAny};
 ghost use Rattle.ciborium_ll.specs.Decoding.{last_of, pushed_of};
 ghost use Rattle.ciborium.specs.Parts.{HasRoom, IsArrayBegun, IsMapBegun, IsPartRead};
-ghost use Rattle.ciborium.specs.Parts.{IsSimpleRead, Rests};
+ghost use Rattle.ciborium.specs.Parts.{IsAtRest, IsSimpleRead};
 ghost use Rattle.ciborium.specs.Reads.{IsAt, heads_left};
 ghost use Rattle.ciborium.specs.Strings.{IsStringRead};
 ghost use Rattle.ciborium_ll.specs.StringRefusal.{of_bytes, of_text};
@@ -72,7 +72,7 @@ fn read_bytes<R: Read>(
     len: Option<usize>,
 ) -> Result<Value, Error<io::Error>>
     requires { pushed_of decoder.old ≡ None }
-    ensures same_reader { SameReader decoder.old decoder.new }
+    ensures same_reader { HasSameReader decoder.old decoder.new }
     ensures pushed { pushed_of decoder.new ≡ None }
     ensures fewer { OnOk result (heads_left decoder.new ≤ heads_left decoder.old) }
     ensures content { TakesBeforeAny R.remaining decoder.old decoder.new
@@ -92,7 +92,7 @@ fn read_text<R: Read>(
     len: Option<usize>,
 ) -> Result<Value, Error<io::Error>>
     requires { pushed_of decoder.old ≡ None }
-    ensures same_reader { SameReader decoder.old decoder.new }
+    ensures same_reader { HasSameReader decoder.old decoder.new }
     ensures pushed { pushed_of decoder.new ≡ None }
     ensures fewer { OnOk result (heads_left decoder.new ≤ heads_left decoder.old) }
     ensures content { TakesBeforeAny R.remaining decoder.old decoder.new
@@ -112,9 +112,9 @@ pub(crate) fn next<R: Read>(
     scratch: &mut [u8],
     levels: usize,
 ) -> Result<Part, Error<io::Error>>
-    ensures same_reader { SameReader decoder.old decoder.new }
+    ensures same_reader { HasSameReader decoder.old decoder.new }
     ensures fewer { OnOk result (heads_left decoder.new < heads_left decoder.old) }
-    ensures rests { IfOk result (λ part. Rests part (pushed_of decoder.new)) }
+    ensures rests { IfOk result (λ part. IsAtRest part (pushed_of decoder.new)) }
     ensures room { IfOk result (λ part. HasRoom part levels) }
     ensures part { TakesBeforeAny R.remaining decoder.old decoder.new
         (λ d e. (xs : List ℕ) (p : ℕ) → IsAhead Some d xs p →

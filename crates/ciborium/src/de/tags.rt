@@ -1,10 +1,11 @@
 //! Tags: those that fold, and those that are opened.
 
 ghost use Rattle.std.specs.Prelude.{◌≡◌, ◌≤◌, IfOk, List, None, OnOk, Some, length, true, ℕ};
-ghost use Rattle.ciborium_ll.specs.Decoding.{SameReader, TakesBeforeAny, pushed_of};
+ghost use Rattle.ciborium_ll.specs.Decoding.{HasSameReader, TakesBeforeAny, pushed_of};
 ghost use Rattle.ciborium_ll.specs.declared.header.Header.TheVariants as header;
 ghost use Rattle.ciborium_value.specs.Meaning.{is_bignum_tag};
-ghost use Rattle.ciborium.specs.Parts.{IsFoldRead, HasRoom, IsFolded, IsFolding, IsPartRead, Rests};
+ghost use Rattle.ciborium.specs.Parts.{HasRoom, IsAtRest, IsFoldRead, IsFolded, IsFolding};
+ghost use Rattle.ciborium.specs.Parts.{IsPartRead};
 ghost use Rattle.ciborium.specs.Reads.{IsAt, IsPulled, heads_left};
 
 use crate::de::error::Error;
@@ -57,7 +58,7 @@ fn read_folded<R: Read>(
     requires tag { is_bignum_tag tag ≡ true }
     requires short { n ≤ 16 }
     requires pushed { pushed_of decoder.old ≡ None }
-    ensures same_reader { SameReader decoder.old decoder.new }
+    ensures same_reader { HasSameReader decoder.old decoder.new }
     ensures pushed { pushed_of decoder.new ≡ None }
     ensures fewer { OnOk result (heads_left decoder.new ≤ heads_left decoder.old) }
     ensures fold { TakesBeforeAny R.remaining decoder.old decoder.new
@@ -80,9 +81,9 @@ pub(crate) fn read_tag<R: Read>(
     levels: usize,
 ) -> Result<Part, Error<io::Error>>
     requires { pushed_of decoder.old ≡ None }
-    ensures same_reader { SameReader decoder.old decoder.new }
+    ensures same_reader { HasSameReader decoder.old decoder.new }
     ensures fewer { OnOk result (heads_left decoder.new ≤ heads_left decoder.old) }
-    ensures rests { IfOk result (λ part. Rests part (pushed_of decoder.new)) }
+    ensures rests { IfOk result (λ part. IsAtRest part (pushed_of decoder.new)) }
     ensures room { IfOk result (λ part. HasRoom part levels) }
     ensures part { TakesBeforeAny R.remaining decoder.old decoder.new
         (λ d e. (xs : List ℕ) (p : ℕ) → IsPulled Some d (header.Tag tag) xs p → offset ≡ p →

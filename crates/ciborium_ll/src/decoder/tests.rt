@@ -227,7 +227,7 @@ fn errors_from_the_device(rt: HostRuntime) {
 // A local decoder leaves to its caller what it did not read.
 fn first_head<R: Read>(reader: &mut R) -> Result<Header, Error<io::Error>>
     ensures { (b : List ℕ) ×
-        Consumes (R.remaining reader.old) (R.remaining reader.new) b × IsHeadTaken 0 result b }
+        Consumes (R.remaining reader.old) (R.remaining reader.new) b × IsHeadTaken b 0 result }
 {
     let mut decoder = Decoder::new(reader);
     decoder.pull()
