@@ -23,3 +23,4 @@ mod KnownReaders
 mod OneAnswer
 mod WrittenPlaces
 mod ByteSinks
+mod RisingKeys

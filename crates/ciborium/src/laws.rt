@@ -1,15 +1,23 @@
 //! The laws of the library: its own, and those re-exported from the crates that prove them.
 
+ghost use Rattle.std.specs.Prelude.{◌≡◌, length};
+ghost use Rattle.ciborium_value.specs.Places.{dictionary};
+ghost use Rattle.ciborium_value.specs.Sinks.{container_of, in_turn, named_value};
 ghost use Rattle.ciborium.specs.AnswerLaws.{OneAnswer};
-ghost use Rattle.ciborium.specs.CanonicalLaws.{IsCanonical, IsTotal, TiesEqualOnes};
+ghost use Rattle.ciborium.specs.CanonicalLaws.{IsCanonical, IsTotal, RiseCanonically, TiesEqualOnes};
 ghost use Rattle.ciborium.specs.EncodingLaws.{EncodingSpells, HeadsRise, OneTree, OthersAreLonger};
+ghost use Rattle.ciborium.specs.Writes.{IsNamedWritten};
+
+use crate::value::CanonicalValue;
+use ciborium_value::Serialize;
+use std::collections::BTreeMap;
 
 pub use ciborium_ll::spelling_laws::{
     header_bytes_spell, one_header, shortest_head, unique_spelling,
 };
 pub use ciborium_value::tree_laws::{
     bytes_of_bignums, good_or_refused, meaning_of_written_is_folded, order_of_integers,
-    order_of_values, worked_examples,
+    order_of_values, worked_examples, written_reads_back,
 };
 
 /// Whatever meets the clauses of the reading calls is one answer for the same bytes and limit: the
@@ -30,6 +38,17 @@ pub fn encoding_is_shortest()
     ensures others { OthersAreLonger }
     ensures heads { HeadsRise }
 {}
+
+/// A map that is keyed by `CanonicalValue` is written with keys that strictly rise in the canonical
+/// order (RFC 8949, section 4.2.3), wherever it is written at all: that its item can be written is
+/// what `into_writer` says at `Ok`. The call counts the entries, which takes no memory.
+pub fn canonical_keys_rise<V: Serialize>(map: &BTreeMap<CanonicalValue, V>) -> usize
+    ensures rise { IsNamedWritten (container_of dictionary
+        (in_turn named_value V.written map.now.entries)) → RiseCanonically map.now.entries }
+    ensures count { result ≡ length map.now.entries }
+{
+    map.len()
+}
 
 /// The order of `CanonicalValue`, which `<`, `max` and the library's sorts take from its `Ord`, is
 /// the canonical one for any two values that a program holds (RFC 8949, section 4.2.3). It is

@@ -2,9 +2,12 @@
 use Rattle.std.specs.Prelude.{◌≡◌, ℕ, ℤ, pos, negsuc, ◌^◌, List, [], ◌∷◌, if◌then◌else◌, nat_lt, Option, Some, None, Result, Ok, Err, false}
 use Rattle.ciborium_ll.specs.Item as item
 use Rattle.ciborium_ll.specs.Item.{Item}
+use Rattle.ciborium_value.specs.Encoding.{item_of}
 use Rattle.ciborium_value.specs.Number.{shortest_bytes}
 use Rattle.ciborium_value.specs.Places.{Shape, Place, within, tagged, HasRoom, added, ended, IsComplete, IsCutBetween, Out, container}
+use Rattle.ciborium_value.specs.View.{tree_of}
 use Rattle.ciborium_value.specs.declared.kind.Kind.{Kind}
+use Rattle.ciborium_value.specs.declared.tree.Value.{Value}
 
 -- ---- what values name
 
@@ -54,6 +57,10 @@ tag_of t (Err k) = Err k
 abbrev pub option_of : {A : Type 0} → (A → Named) → Option A → Named
 option_of f None = Ok (item.simple 22)
 option_of f (Some x) = f x
+
+-- the item of a `Value`
+abbrev pub named_value : Value → Named
+named_value v = Ok (item_of (tree_of v))
 
 -- ---- why a sink refused
 

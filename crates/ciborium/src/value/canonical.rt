@@ -19,6 +19,7 @@ ghost use Rattle.ciborium_value.specs.Counts.{node_count, trees_node_count, tree
 ghost use Rattle.ciborium_value.specs.Derived.{value_eq};
 ghost use Rattle.ciborium_value.specs.Encoding.{encoding, encoded_size};
 ghost use Rattle.ciborium_value.specs.Proper.{IsProperTree, AreProperTrees, AreProperTreePairs};
+ghost use Rattle.ciborium_value.specs.Sinks.{named_value};
 ghost use Rattle.ciborium_value.specs.Tree.{integer};
 ghost use Rattle.ciborium_value.specs.View.{tree_of, trees_of, tree_pairs_of};
 ghost use Rattle.ciborium_value.specs.contracts.tree.Value as value_row;
@@ -32,7 +33,7 @@ ghost use Rattle.ciborium_value.proofs.TotalOrders.{canonical_value_matches_eq};
 ghost use Rattle.ciborium.specs.Writes.{encodings, pair_encodings};
 
 use ciborium_ll::{head_size, simple};
-use ciborium_value::{Integer, Value};
+use ciborium_value::{Integer, Serialize, Sink, Value};
 use std::alloc::AllocError;
 use std::cmp::Ordering;
 use std::marker::Model;
@@ -113,6 +114,17 @@ impl Clone for CanonicalValue {
         Ok(CanonicalValue {
             value: self.value.clone()?,
         })
+    }
+}
+
+/// The definite item of the value, nothing folded. No memory is taken.
+impl Serialize for CanonicalValue {
+    ghost written = { named_value };
+
+    ghost takes_memory = { ⊥ };
+
+    fn serialize<S: Sink>(&self, sink: &mut S) -> Result<(), S::Error> {
+        self.value.serialize(sink)
     }
 }
 

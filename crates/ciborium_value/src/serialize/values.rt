@@ -1,8 +1,6 @@
 //! Values.
 
-ghost use Rattle.std.specs.Prelude.{Ok};
-ghost use Rattle.ciborium_value.specs.Encoding.{item_of};
-ghost use Rattle.ciborium_value.specs.View.{tree_of};
+ghost use Rattle.ciborium_value.specs.Sinks.{named_value};
 
 use super::Serialize;
 use super::containers::serialize_pairs;
@@ -11,7 +9,7 @@ use crate::tree::Value;
 
 /// The definite item of the value, nothing folded. No memory is taken.
 impl Serialize for Value {
-    ghost written = { λ v. Ok (item_of (tree_of v)) };
+    ghost written = { named_value };
 
     ghost takes_memory = { ⊥ };
 

@@ -1,9 +1,9 @@
 -- A value is written level by level.
 use Rattle.std.proofs.Common.{IfErr, subst}
 use Rattle.std.proofs.lemmas.Result.{on_ok_weaker, on_err_weaker}
-use Rattle.ciborium_value.specs.Sinks.{AddsNamed, BreaksNamed, IsOwed}
+use Rattle.ciborium_value.specs.Sinks.{AddsNamed, BreaksNamed, IsOwed, named_value}
 use Rattle.ciborium_value.proofs.Progress.{on_err, tag_broken, tag_broken_head}
-use Rattle.ciborium_value.proofs.WrittenValues.{named_value, named-Tag, named-Array, named-Map}
+use Rattle.ciborium_value.proofs.WrittenValues.{named-Tag, named-Array, named-Map}
 use Rattle.ciborium_value.proofs.serialize.values.ValueSerialize.+serialize.Goals as goal
 
 pub returns-in_err-tag-in-Tag-clause-err : goal.returns-in_err-tag-in-Tag-clause-err
