@@ -47,6 +47,6 @@ rising (v ∷ vs) proper h = (below_all v vs proper.0 proper.1 h.0, rising vs pr
 pub canonical-keys : {A : Type 0} (f : A → Named) (es : List (Value × A)) → IsStrictlySortedBy canonical_value_cmp (keys_of es) → IsNamedWritten (container_of dictionary (in_turn named_value f es)) → RiseCanonically es
 canonical-keys f es h w = by (all_named (in_turn named_value f es)) refl w
   where
-  by : (r : Result (List Item) Kind) → all_named (in_turn named_value f es) ≡ r → IsNamedWritten (contained dictionary r) → RiseCanonically es
+  by : (r : Result (List Item) Kind) → all_named (in_turn named_value f es) ≡ r → IsNamedWritten (contained dictionary false r) → RiseCanonically es
   by (Err k) e w = absurd w
   by (Ok is) e w = rising (keys_of es) (proper_keys f es is e w.1) h

@@ -1,9 +1,9 @@
 -- A definite container that is written part by part, whatever the sink.
-use Rattle.std.proofs.Common.{◌≡◌, ℕ, ◌+◌, suc, map, ◌<◌, ◌≤◌, false, List, [], ◌∷◌, ◌++◌, length, Some, Result, Ok, Err, OnErr, IfErr, IsErrAnd, refl, sym, ◌∙◌, ap, subst, append_assoc, append-nil, arith, length-append, drop, drop-cons, get_or}
+use Rattle.std.proofs.Common.{◌≡◌, ℕ, ◌+◌, suc, map, ◌<◌, ◌≤◌, false, List, [], ◌∷◌, ◌++◌, length, Option, Some, None, Result, Ok, Err, OnErr, IfErr, IsErrAnd, refl, sym, ◌∙◌, ap, subst, append_assoc, append-nil, arith, length-append, drop, drop-cons, get_or}
 use Rattle.std.proofs.lemmas.List.{drop_all}
 use Rattle.ciborium_ll.specs.Item as item
 use Rattle.ciborium_ll.specs.Item.{Item}
-use Rattle.ciborium_value.specs.Places.{Shape, size_of, container, Place, within, tagged, HasRoom, added, Out}
+use Rattle.ciborium_value.specs.Places.{Shape, sequence, dictionary, size_of, container, Place, within, tagged, HasRoom, added, is_open, IsWhole, IsFull, IsCutBetween, Out}
 use Rattle.ciborium_value.specs.Sinks.{Named, and_then, all_named, contained, container_of, in_turn, tag_of, Cause, value, memory, device, IsOwed, IsReady, Begins, Tags, CanEnd, Ends, Breaks, BreaksBegin, BreaksTag, BreaksEnd, AddsNamed, BreaksNamed}
 use Rattle.ciborium_value.specs.declared.kind.Kind.{Kind}
 use Rattle.ciborium_value.proofs.Standing.{IsBefore, before_itself, before_within, before_full, before_tagged, tagged_before, cut_wider}
@@ -59,88 +59,101 @@ length-named (x ∷ parts) is h =
     let a = and_then_is x (all_named parts) is h in
     ap length a.4 ∙ ap suc (length-named parts a.1 a.3)
 
--- ---- a container of n that began at old: the parts that are left to write at new
-pub record Owes {S : Type 0} (StandsAt : S → Place → Type 0) (s : Shape) (n : ℕ) (parts : List Named) (old new : S) (rest : List Named) : Type 0 where
+-- ---- a container that was begun with n at old: the parts that are left to write at new
+
+-- as many parts as were announced, or whole pairs in an open map
+abbrev pub IsSized : Shape → Option ℕ → List Named → Type 0
+IsSized s None parts = IsWhole s (length parts)
+IsSized s (Some n) parts = length parts ≡ size_of s n
+
+pub record Owes {S : Type 0} (StandsAt : S → Place → Type 0) (s : Shape) (n : Option ℕ) (parts : List Named) (old new : S) (rest : List Named) : Type 0 where
   pub done : List Item
   pub split : parts ≡ oks done ++ rest
-  pub size : length parts ≡ size_of s n
-  pub inside : (p : Place) → StandsAt old p → HasRoom p → StandsAt new (within s (Some n) done p)
+  pub size : IsSized s n parts
+  pub inside : (p : Place) → StandsAt old p → HasRoom p → StandsAt new (within s n done p)
 
-module _ {S : Type 0} (StandsAt : S → Place → Type 0) (out : S → Out) (s : Shape) (n : ℕ) (parts : List Named) (old : S) where
-  named_by : (new : S) → ((is : List Item) → all_named parts ≡ Ok is → Breaks StandsAt out old new (container s false is)) → BreaksNamed StandsAt out old new (container_of s parts)
+-- where parts are left there is room
+room_for : (s : Shape) (n : Option ℕ) (parts : List Named) (done : List Item) (x : Named) (rest : List Named) (p : Place) → IsSized s n parts → parts ≡ oks done ++ x ∷ rest → HasRoom (within s n done p)
+room_for s None parts done x rest p size split = tt
+room_for s (Some n) parts done x rest p size split =
+    let l : length (oks done ++ x ∷ rest) ≡ size_of s n = ap length (sym split) ∙ size in
+    let k : length (oks done) ≡ length done = length-oks done in
+    omega (arith, k, simp length-append at l)
+
+-- all parts make it full
+full_of : (s : Shape) (n : Option ℕ) (parts : List Named) (is : List Item) → IsSized s n parts → length is ≡ length parts → IsFull s n is
+full_of sequence None parts is size same = tt
+full_of dictionary None parts is size same = (size.0, same ∙ size.1)
+full_of s (Some n) parts is size same = same ∙ size
+
+module _ {S : Type 0} (StandsAt : S → Place → Type 0) (out : S → Out) (s : Shape) (n : Option ℕ) (parts : List Named) (old : S) where
+  named_by : (new : S) → ((is : List Item) → all_named parts ≡ Ok is → Breaks StandsAt out old new (container s (is_open n) is)) → BreaksNamed StandsAt out old new (contained s (is_open n) (all_named parts))
   named_by new h = by (all_named parts) h
     where
-      by : (r : Result (List Item) Kind) → ((is : List Item) → r ≡ Ok is → Breaks StandsAt out old new (container s false is)) → BreaksNamed StandsAt out old new (contained s r)
-      by (Ok is) h = h is refl
-      by (Err k) h = tt
+    by : (r : Result (List Item) Kind) → ((is : List Item) → r ≡ Ok is → Breaks StandsAt out old new (container s (is_open n) is)) → BreaksNamed StandsAt out old new (contained s (is_open n) r)
+    by (Ok is) h = h is refl
+    by (Err k) h = tt
 
-  pub owes_begin : (new : S) (m : ℕ) → m ≡ n → length parts ≡ size_of s n → Begins StandsAt s old new (Some m) → Owes StandsAt s n parts old new parts
-  owes_begin new m same size h = record { done = []; split = refl; size = size; inside = subst (λ k. Begins StandsAt s old new (Some k)) same h }
+  pub owes_begin : (new : S) (m : Option ℕ) → m ≡ n → IsSized s n parts → Begins StandsAt s old new m → Owes StandsAt s n parts old new parts
+  owes_begin new m same size h = record { done = []; split = refl; size = size; inside = subst (Begins StandsAt s old new) same h }
 
-  pub owes_broken_begin : (new : S) (m : ℕ) → m ≡ n → length parts ≡ size_of s n → BreaksBegin StandsAt out s old new (Some m) → BreaksNamed StandsAt out old new (container_of s parts)
+  pub owes_broken_begin : (new : S) (m : Option ℕ) → m ≡ n → IsSized s n parts → BreaksBegin StandsAt out s old new m → BreaksNamed StandsAt out old new (contained s (is_open n) (all_named parts))
   owes_broken_begin new m same size h = named_by new (λ is e p st room.
-      cut_wider (out new) p p (within s (Some n) [] p) _ (before_itself p) refl (before_full p s (Some n) [] is (length-named parts is e ∙ size))
-      (subst (λ k. BreaksBegin StandsAt out s old new (Some k)) same h p st room))
+      cut_wider (out new) p p (within s n [] p) _ (before_itself p) refl (before_full p s n [] is (full_of s n parts is size (length-named parts is e)))
+        (subst (BreaksBegin StandsAt out s old new) same h p st room))
 
   pub owes_ready : (mid : S) (x : Named) (rest : List Named) → IsReady StandsAt old → Owes StandsAt s n parts old mid (x ∷ rest) → IsReady StandsAt mid
-  owes_ready mid x rest h w =
-      let l : length (oks w.done ++ x ∷ rest) ≡ size_of s n = ap length (sym w.split) ∙ w.size in
-      let k : length (oks w.done) ≡ length w.done = length-oks w.done in
-      (within s (Some n) w.done h.0, w.inside h.0 h.1 h.2, omega (arith, k, simp length-append at l))
+  owes_ready mid x rest h w = (within s n w.done h.0, w.inside h.0 h.1 h.2, room_for s n parts w.done x rest h.0 w.size w.split)
 
   pub owes_more : (mid new : S) (x : Named) (rest : List Named) → Owes StandsAt s n parts old mid (x ∷ rest) → AddsNamed StandsAt mid new x → Owes StandsAt s n parts old new rest
   owes_more mid new (Err k) rest w h = absurd h
-  owes_more mid new (Ok i) rest w h =
-      let l : length (oks w.done ++ Ok i ∷ rest) ≡ size_of s n = ap length (sym w.split) ∙ w.size in
-      let k : length (oks w.done) ≡ length w.done = length-oks w.done in
-      record {
-        done = w.done ++ i ∷ [];
-        split = w.split ∙ sym (oks-snoc w.done i rest);
-        size = w.size;
-        inside = λ p st room. h (within s (Some n) w.done p) (w.inside p st room) (omega (arith, k, simp length-append at l));
-      }
+  owes_more mid new (Ok i) rest w h = record {
+    done = w.done ++ i ∷ [];
+    split = w.split ∙ sym (oks-snoc w.done i rest);
+    size = w.size;
+    inside = λ p st room. h (within s n w.done p) (w.inside p st room) (room_for s n parts w.done (Ok i) rest p w.size w.split);
+  }
 
-  pub owes_broken : (mid new : S) (x : Named) (rest : List Named) → Owes StandsAt s n parts old mid (x ∷ rest) → BreaksNamed StandsAt out mid new x → BreaksNamed StandsAt out old new (container_of s parts)
+  pub owes_broken : (mid new : S) (x : Named) (rest : List Named) → Owes StandsAt s n parts old mid (x ∷ rest) → BreaksNamed StandsAt out mid new x → BreaksNamed StandsAt out old new (contained s (is_open n) (all_named parts))
   owes_broken mid new x rest w h = named_by new (λ is e p st room.
       let a = named_after w.done (x ∷ rest) is (ap all_named (sym w.split) ∙ e) in
       let b = and_then_is x (all_named rest) a.0 a.1 in
-      let len : length is ≡ size_of s n = length-named parts is e ∙ w.size in
-      let whole : is ≡ (w.done ++ b.0 ∷ []) ++ b.1 = a.2 ∙ ap (λ l. w.done ++ l) b.4 ∙ sym (append_assoc w.done (b.0 ∷ []) b.1) in
-      let l : length ((w.done ++ b.0 ∷ []) ++ b.1) ≡ size_of s n = ap length (sym whole) ∙ len in
-      let q : Place = within s (Some n) w.done p in
+      let same : is ≡ (w.done ++ b.0 ∷ []) ++ b.1 = a.2 ∙ ap (λ l. w.done ++ l) b.4 ∙ sym (append_assoc w.done (b.0 ∷ []) b.1) in
+      let full : IsFull s n ((w.done ++ b.0 ∷ []) ++ b.1) = full_of s n parts ((w.done ++ b.0 ∷ []) ++ b.1) w.size (ap length (sym same) ∙ length-named parts is e) in
+      let q : Place = within s n w.done p in
       let broken : Breaks StandsAt out mid new b.0 = subst (BreaksNamed StandsAt out mid new) b.2 h in
-      let last : IsBefore (added q b.0) (added p (container s false is)) =
-      subst (λ l. IsBefore (added q b.0) (added p (container s false l))) (sym whole) (before_full p s (Some n) (w.done ++ b.0 ∷ []) b.1 l) in
-      cut_wider (out new) p q (added q b.0) _ (before_within p s (Some n) w.done) refl last (broken q (w.inside p st room) (omega (arith, simp length-append at l))))
+      let last : IsBefore (added q b.0) (added p (container s (is_open n) is)) =
+          subst (λ l. IsBefore (added q b.0) (added p (container s (is_open n) l))) (sym same) (before_full p s n (w.done ++ b.0 ∷ []) b.1 full) in
+      cut_wider (out new) p q (added q b.0) _ (before_within p s n w.done) refl last (broken q (w.inside p st room) (room_for s n parts w.done x rest p w.size w.split)))
 
-  pub owes_owed : (mid : S) (x : Named) (rest : List Named) (cause : Cause) → Owes StandsAt s n parts old mid (x ∷ rest) → IsOwed cause x → IsOwed cause (container_of s parts)
-  owes_owed mid x rest (value k) w h = ap (contained s) (ap all_named (w.split ∙ ap (λ y. oks w.done ++ y ∷ rest) h) ∙ refused_at w.done rest k)
+  pub owes_owed : (mid : S) (x : Named) (rest : List Named) (cause : Cause) → Owes StandsAt s n parts old mid (x ∷ rest) → IsOwed cause x → IsOwed cause (contained s (is_open n) (all_named parts))
+  owes_owed mid x rest (value k) w h = ap (contained s (is_open n)) (ap all_named (w.split ∙ ap (λ y. oks w.done ++ y ∷ rest) h) ∙ refused_at w.done rest k)
   owes_owed mid x rest memory w h = tt
   owes_owed mid x rest device w h = tt
 
   oks-named : (mid : S) (w : Owes StandsAt s n parts old mid []) → all_named parts ≡ Ok w.done
   oks-named mid w = ap all_named (w.split ∙ append-nil (oks w.done)) ∙ each w.done
     where
-      each : (is : List Item) → all_named (oks is) ≡ Ok is
-      each [] = refl
-      each (i ∷ is) = ap (and_then (Ok i)) (each is)
+    each : (is : List Item) → all_named (oks is) ≡ Ok is
+    each [] = refl
+    each (i ∷ is) = ap (and_then (Ok i)) (each is)
 
-  full : (mid : S) (w : Owes StandsAt s n parts old mid []) → length w.done ≡ size_of s n
-  full mid w = length-named parts w.done (oks-named mid w) ∙ w.size
+  full : (mid : S) (w : Owes StandsAt s n parts old mid []) → IsFull s n w.done
+  full mid w = full_of s n parts w.done w.size (length-named parts w.done (oks-named mid w))
 
-  pub owes_can_end : (mid : S) (m : ℕ) → m ≡ n → IsReady StandsAt old → Owes StandsAt s n parts old mid [] → CanEnd StandsAt mid (Some m)
-  owes_can_end mid m same h w = (within s (Some n) w.done h.0, w.inside h.0 h.1 h.2, (ap Some (sym same), full mid w))
+  pub owes_can_end : (mid : S) (m : Option ℕ) → m ≡ n → IsReady StandsAt old → Owes StandsAt s n parts old mid [] → CanEnd StandsAt mid m
+  owes_can_end mid m same h w = (within s n w.done h.0, w.inside h.0 h.1 h.2, (sym same, full mid w))
 
-  pub owes_ends : (mid new : S) (m : ℕ) → m ≡ n → Owes StandsAt s n parts old mid [] → Ends StandsAt mid new (Some m) → AddsNamed StandsAt old new (container_of s parts)
+  pub owes_ends : (mid new : S) (m : Option ℕ) → m ≡ n → Owes StandsAt s n parts old mid [] → Ends StandsAt mid new m → AddsNamed StandsAt old new (contained s (is_open n) (all_named parts))
   owes_ends mid new m same w h =
-      subst (AddsNamed StandsAt old new) (ap (contained s) (sym (oks-named mid w)))
-      (λ p st room. h (within s (Some n) w.done p) (w.inside p st room) (ap Some (sym same), full mid w))
+      subst (AddsNamed StandsAt old new) (ap (contained s (is_open n)) (sym (oks-named mid w)))
+        (λ p st room. h (within s n w.done p) (w.inside p st room) (sym same, full mid w))
 
-  pub owes_broken_end : (mid new : S) (m : ℕ) → m ≡ n → Owes StandsAt s n parts old mid [] → BreaksEnd StandsAt out mid new (Some m) → BreaksNamed StandsAt out old new (container_of s parts)
+  pub owes_broken_end : (mid new : S) (m : Option ℕ) → m ≡ n → Owes StandsAt s n parts old mid [] → BreaksEnd StandsAt out mid new m → BreaksNamed StandsAt out old new (contained s (is_open n) (all_named parts))
   owes_broken_end mid new m same w h =
-      subst (BreaksNamed StandsAt out old new) (ap (contained s) (sym (oks-named mid w)))
-      (λ p st room. cut_wider (out new) p (within s (Some n) w.done p) _ _ (before_within p s (Some n) w.done) refl (before_itself _)
-      (h (within s (Some n) w.done p) (w.inside p st room) (ap Some (sym same), full mid w)))
+      subst (BreaksNamed StandsAt out old new) (ap (contained s (is_open n)) (sym (oks-named mid w)))
+        (λ p st room. cut_wider (out new) p (within s n w.done p) _ _ (before_within p s n w.done) refl (before_itself _)
+          (h (within s n w.done p) (w.inside p st room) (sym same, full mid w)))
 
 -- ---- how many parts there are
 

@@ -37,11 +37,11 @@ from-pair_items (p ∷ ps) = ap (item.pair (item_of (tree_of p.0)) (item_of (tre
 
 pub named-Array : (v : Value) (vs : Vec Value Global) → v ≡ value.Array vs → container_of sequence (map named_value vs.items) ≡ named_value v
 named-Array v vs is =
-    ap (contained sequence) (all-items vs.items) ∙ ap (λ l. Ok (item.array false l)) (from-items vs.items) ∙ ap (λ t. Ok (item_of t)) (sym (ap tree_of is ∙ tree_of-Array vs))
+    ap (contained sequence false) (all-items vs.items) ∙ ap (λ l. Ok (item.array false l)) (from-items vs.items) ∙ ap (λ t. Ok (item_of t)) (sym (ap tree_of is ∙ tree_of-Array vs))
 
 pub named-Map : (v : Value) (ps : Vec (Value × Value) Global) → v ≡ value.Map ps → container_of dictionary (in_turn named_value named_value ps.items) ≡ named_value v
 named-Map v ps is =
-    ap (contained dictionary) (all-pair_items ps.items) ∙ ap (λ l. Ok (item.map false l)) (from-pair_items ps.items) ∙ ap (λ t. Ok (item_of t)) (sym (ap tree_of is ∙ tree_of-Map ps))
+    ap (contained dictionary false) (all-pair_items ps.items) ∙ ap (λ l. Ok (item.map false l)) (from-pair_items ps.items) ∙ ap (λ t. Ok (item_of t)) (sym (ap tree_of is ∙ tree_of-Map ps))
 
 pub named-Tag : (v : Value) (t : ℕ) (content : Box Value Global) → v ≡ value.Tag t content → tag_of t (named_value content.value) ≡ named_value v
 named-Tag v t content is = ap (λ t. Ok (item_of t)) (sym (ap tree_of is ∙ tree_of-Tag t content))

@@ -1,5 +1,5 @@
 -- The words of the contracts of `Sink` and `Serialize`.
-use Rattle.std.specs.Prelude.{◌≡◌, ℕ, ℤ, pos, negsuc, ◌^◌, List, [], ◌∷◌, if◌then◌else◌, nat_lt, Option, Some, None, Result, Ok, Err, false}
+use Rattle.std.specs.Prelude.{Bool, true, ◌≡◌, ℕ, ℤ, pos, negsuc, ◌^◌, List, [], ◌∷◌, if◌then◌else◌, nat_lt, Option, Some, None, Result, Ok, Err, false}
 use Rattle.ciborium_ll.specs.Item as item
 use Rattle.ciborium_ll.specs.Item.{Item}
 use Rattle.ciborium_value.specs.Encoding.{item_of}
@@ -35,13 +35,17 @@ abbrev pub all_named : List Named → Result (List Item) Kind
 all_named [] = Ok []
 all_named (x ∷ xs) = and_then x (all_named xs)
 
-abbrev pub contained : Shape → Result (List Item) Kind → Named
-contained s (Ok is) = Ok (container s false is)
-contained s (Err k) = Err k
+abbrev pub contained : Shape → Bool → Result (List Item) Kind → Named
+contained s open_ (Ok is) = Ok (container s open_ is)
+contained s open_ (Err k) = Err k
 
 -- the definite container of what its parts name, or the first refusal among them
 abbrev pub container_of : Shape → List Named → Named
-container_of s parts = contained s (all_named parts)
+container_of s parts = contained s false (all_named parts)
+
+-- the same container, open
+abbrev pub open_container_of : Shape → List Named → Named
+open_container_of s parts = contained s true (all_named parts)
 
 -- what the entries of a map name, keys and values in turn
 abbrev pub in_turn : {A B : Type 0} → (A → Named) → (B → Named) → List (A × B) → List Named

@@ -1,4 +1,4 @@
-use Rattle.std.proofs.Common.{drop, length}
+use Rattle.std.proofs.Common.{Some, drop, length}
 use Rattle.ciborium_value.specs.Places.{dictionary}
 use Rattle.ciborium_value.specs.Sinks.{in_turn}
 use Rattle.ciborium_value.proofs.Progress.{Owes}
@@ -6,4 +6,4 @@ use Rattle.ciborium_value.proofs.serialize.containers.serialize_pairs.Given as g
 
 -- the pairs from here on are left
 abbrev pub invariant-loop-pair : goal.invariant-loop-pair
-invariant-loop-pair g l = Owes g.S.Sink.stands_at dictionary (length l.pair-items) (in_turn g.K.Serialize.written g.V.Serialize.written l.pair-items) l.fn.sink l.sink (in_turn g.K.Serialize.written g.V.Serialize.written (drop l.pair-index l.pair-items))
+invariant-loop-pair g l = Owes g.S.Sink.stands_at dictionary (Some (length l.pair-items)) (in_turn g.K.Serialize.written g.V.Serialize.written l.pair-items) l.fn.sink l.sink (in_turn g.K.Serialize.written g.V.Serialize.written (drop l.pair-index l.pair-items))
