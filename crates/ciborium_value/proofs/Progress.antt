@@ -1,11 +1,14 @@
 -- A definite container that is written part by part, whatever the sink.
-use Rattle.std.proofs.Common.{◌≡◌, ℕ, ◌+◌, suc, map, ◌<◌, ◌≤◌, false, List, [], ◌∷◌, ◌++◌, length, Option, Some, None, Result, Ok, Err, OnErr, IfErr, IsErrAnd, refl, sym, ◌∙◌, ap, subst, append_assoc, append-nil, arith, length-append, drop, drop-cons, get_or}
+use Rattle.std.proofs.Common.{Bool, true, cond, nat_le, ◌≡◌, ℕ, ◌+◌, suc, map, ◌<◌, ◌≤◌, false, List, [], ◌∷◌, ◌++◌, length, Option, Some, None, Result, Ok, Err, OnErr, IfErr, IsErrAnd, refl, sym, ◌∙◌, ap, subst, append_assoc, append-nil, arith, length-append, drop, drop-cons, get_or}
 use Rattle.std.proofs.lemmas.List.{drop_all}
 use Rattle.ciborium_ll.specs.Item as item
 use Rattle.ciborium_ll.specs.Item.{Item}
 use Rattle.ciborium_value.specs.Places.{Shape, sequence, dictionary, size_of, container, Place, within, tagged, HasRoom, added, is_open, IsWhole, IsFull, IsCutBetween, Out}
+use Rattle.ciborium_value.specs.Progress.{oks, IsSized, Owes, field_count, record_of}
 use Rattle.ciborium_value.specs.Sinks.{Named, and_then, all_named, contained, container_of, in_turn, tag_of, Cause, value, memory, device, IsOwed, IsReady, Begins, Tags, CanEnd, Ends, Breaks, BreaksBegin, BreaksTag, BreaksEnd, AddsNamed, BreaksNamed}
 use Rattle.ciborium_value.specs.declared.kind.Kind.{Kind}
+use Rattle.ciborium_value.specs.declared.kind.Kind.TheVariants.{Other}
+use Rattle.ciborium_ll.specs.Bytes.{greatest_offset}
 use Rattle.ciborium_value.proofs.Standing.{IsBefore, before_itself, before_within, before_full, before_tagged, tagged_before, cut_wider}
 
 -- ---- results
@@ -20,11 +23,6 @@ exits (Ok x) e P h k = tt
 exits (Err y) e P h k = subst P (sym h) k
 
 -- ---- parts that name their items
-
--- each of the first parts names an item
-abbrev pub oks : List Item → List Named
-oks [] = []
-oks (i ∷ is) = Ok i ∷ oks is
 
 oks-snoc : (done : List Item) (i : Item) (rest : List Named) → oks (done ++ i ∷ []) ++ rest ≡ oks done ++ Ok i ∷ rest
 oks-snoc [] i rest = refl
@@ -59,18 +57,7 @@ length-named (x ∷ parts) is h =
     let a = and_then_is x (all_named parts) is h in
     ap length a.4 ∙ ap suc (length-named parts a.1 a.3)
 
--- ---- a container that was begun with n at old: the parts that are left to write at new
-
--- as many parts as were announced, or whole pairs in an open map
-abbrev pub IsSized : Shape → Option ℕ → List Named → Type 0
-IsSized s None parts = IsWhole s (length parts)
-IsSized s (Some n) parts = length parts ≡ size_of s n
-
-pub record Owes {S : Type 0} (StandsAt : S → Place → Type 0) (s : Shape) (n : Option ℕ) (parts : List Named) (old new : S) (rest : List Named) : Type 0 where
-  pub done : List Item
-  pub split : parts ≡ oks done ++ rest
-  pub size : IsSized s n parts
-  pub inside : (p : Place) → StandsAt old p → HasRoom p → StandsAt new (within s n done p)
+-- ---- a container that was begun
 
 -- where parts are left there is room
 room_for : (s : Shape) (n : Option ℕ) (parts : List Named) (done : List Item) (x : Named) (rest : List Named) (p : Place) → IsSized s n parts → parts ≡ oks done ++ x ∷ rest → HasRoom (within s n done p)
@@ -165,6 +152,16 @@ pub length-in_turn : {A B : Type 0} (f : A → Named) (g : B → Named) (es : Li
 length-in_turn f g [] = refl
 length-in_turn f g (e ∷ es) = let h = length-in_turn f g es in omega (arith, h)
 
+some_is : (a b : ℕ) → Some a ≡ Some b → b ≡ a
+some_is a b e = cc
+
+-- a count that a head announces is that of the fields
+pub field_counted : (n count : ℕ) → field_count n ≡ Some count → (count ≡ n) × ((parts : List Named) → container_of dictionary parts ≡ record_of n parts)
+field_counted n count h = by (nat_le n greatest_offset) h
+  where
+  by : (b : Bool) → cond b (Some n) None ≡ Some count → (count ≡ n) × ((parts : List Named) → container_of dictionary parts ≡ cond b (container_of dictionary parts) (Err Other))
+  by true e = (some_is n count e, λ parts. refl)
+  by false e = cc
 -- ---- what is left of a list from place k on
 
 pub next_part : {A : Type 0} (f : A → Named) (xs : List A) (k : ℕ) (x : A) → k < length xs → x ≡ get_or xs k x → map f (drop k xs) ≡ f x ∷ map f (drop (k + 1) xs)

@@ -24,4 +24,5 @@ pub mod CanonicalValues
 pub mod WrittenItems
 pub mod Places
 pub mod Sinks
+pub mod Progress
 pub mod TreeSinks

@@ -4,6 +4,7 @@
 pub mod bignum;
 mod byte_buf;
 mod clone;
+mod fields;
 mod kind;
 mod serialize;
 pub mod serialized;
@@ -14,6 +15,7 @@ pub mod tree_laws;
 
 pub use byte_buf::ByteBuf;
 pub use ciborium_ll::{Integer, OutOfRange};
+pub use fields::{Field, Fields, NoField};
 pub use kind::Kind;
 pub use serialize::Serialize;
 pub use sink::Sink;

@@ -1,0 +1,56 @@
+-- How far a container is written, part by part, whatever the sink.
+use Rattle.std.specs.Prelude.{◌≡◌, ℕ, List, [], ◌∷◌, ◌++◌, length, Option, Some, None, Ok, Err, nat_le, if◌then◌else◌}
+use Rattle.ciborium_ll.specs.Bytes.{greatest_offset}
+use Rattle.ciborium_ll.specs.Item.{Item}
+use Rattle.ciborium_value.specs.Places.{Shape, dictionary, size_of, Place, within, HasRoom, is_open, IsWhole, Out}
+use Rattle.ciborium_value.specs.Sinks.{Named, all_named, contained, container_of, Cause, value, memory, device, IsReady, BreaksNamed}
+use Rattle.ciborium_value.specs.declared.kind.Kind.TheVariants.{Other}
+
+-- each of the first parts names an item
+abbrev pub oks : List Item → List Named
+oks [] = []
+oks (i ∷ is) = Ok i ∷ oks is
+
+-- as many parts as were announced, or whole pairs in an open map
+abbrev pub IsSized : Shape → Option ℕ → List Named → Type 0
+IsSized s None parts = IsWhole s (length parts)
+IsSized s (Some n) parts = length parts ≡ size_of s n
+
+-- a container that was begun with n at old: the parts that are left to write at new
+pub record Owes {S : Type 0} (StandsAt : S → Place → Type 0) (s : Shape) (n : Option ℕ) (parts : List Named) (old new : S) (rest : List Named) : Type 0 where
+  pub done : List Item
+  pub split : parts ≡ oks done ++ rest
+  pub size : IsSized s n parts
+  pub inside : (p : Place) → StandsAt old p → HasRoom p → StandsAt new (within s n done p)
+
+-- ---- the fields of a struct, inside a map that was begun
+
+-- a map that was begun can take these parts
+abbrev pub CanTake : {S : Type 0} → (S → Place → Type 0) → S → List Named → Type 0
+CanTake {S} StandsAt s parts =
+    (n : Option ℕ) × (whole : List Named) × (old : S) × (rest : List Named) × IsReady StandsAt old × Owes StandsAt dictionary n whole old s (parts ++ rest)
+
+-- they are written, and what was left behind them is left
+abbrev pub TakesAll : {S : Type 0} → (S → Place → Type 0) → S → S → List Named → Type 0
+TakesAll {S} StandsAt old new parts =
+    (n : Option ℕ) (whole : List Named) (begun : S) (rest : List Named) → Owes StandsAt dictionary n whole begun old (parts ++ rest) → Owes StandsAt dictionary n whole begun new rest
+
+-- refused: a proper beginning of the map is out
+abbrev pub BreaksAll : {S : Type 0} → (S → Place → Type 0) → (S → Out) → S → S → List Named → Type 0
+BreaksAll {S} StandsAt out old new parts =
+    (n : Option ℕ) (whole : List Named) (begun : S) (rest : List Named) → Owes StandsAt dictionary n whole begun old (parts ++ rest) →
+    BreaksNamed StandsAt out begun new (contained dictionary (is_open n) (all_named whole))
+
+-- a refusal for a value is the first among the parts
+abbrev pub IsOwedAmong : Cause → List Named → Type 0
+IsOwedAmong (value k) parts = all_named parts ≡ Err k
+IsOwedAmong memory parts = Unit {0}
+IsOwedAmong device parts = Unit {0}
+
+-- a count of fields that a head can announce
+abbrev pub field_count : ℕ → Option ℕ
+field_count n = if nat_le n greatest_offset then Some n else None
+
+-- the definite map of so many fields
+abbrev pub record_of : ℕ → List Named → Named
+record_of n parts = if nat_le n greatest_offset then container_of dictionary parts else Err Other
