@@ -24,3 +24,4 @@ mod OneAnswer
 mod WrittenPlaces
 mod ByteSinks
 mod RisingKeys
+mod OwnTypes

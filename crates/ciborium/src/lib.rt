@@ -8,6 +8,8 @@ pub mod laws;
 pub mod ll;
 pub mod ser;
 #[cfg(test)]
+mod own_types;
+#[cfg(test)]
 mod small_devices;
 pub mod value;
 

@@ -9,7 +9,7 @@ use byte_sink::{ByteSink, Refusal};
 use ciborium_value::Kind;
 use std::io::{self, Write};
 
-pub use ciborium_value::{Serialize, Sink};
+pub use ciborium_value::{Field, Fields, NoField, Serialize, Sink};
 
 mod byte_sink;
 

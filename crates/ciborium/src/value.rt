@@ -3,4 +3,5 @@
 pub mod canonical;
 
 pub use canonical::CanonicalValue;
-pub use ciborium_value::{Integer, Kind, OutOfRange, Value};
+pub use ciborium_value::serialized::Error;
+pub use ciborium_value::{ByteBuf, Integer, Kind, OutOfRange, Value};

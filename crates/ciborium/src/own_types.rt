@@ -1,0 +1,108 @@
+//! Types of a user's own, each with the item that it writes, as a user gives them.
+ghost use Rattle.std.specs.Prelude.{◌∷◌, ◌%◌, Err, Ok, [], codes, if◌then◌else◌, map, nat_eq, pos};
+ghost use Rattle.std.specs.Prelude.{string_bytes};
+ghost use Rattle.ciborium_value.specs.Places.{dictionary, sequence};
+ghost use Rattle.ciborium_value.specs.Sinks.{fields_of, in_turn, named_text, number_item};
+ghost use Rattle.ciborium_value.specs.Sinks.{open_container_of};
+ghost use Rattle.ciborium_value.specs.declared.kind.Kind.TheVariants.{Other};
+ghost use Rattle.ciborium.specs.declared.own_types.Figure.TheVariants.{Circle, Point};
+
+use crate::ser::{Field, NoField, Serialize, Sink};
+use crate::value::Kind;
+use std::collections::BTreeMap;
+
+/// A struct: a map by names.
+#[derive(Debug, Drop)]
+pub struct Message {
+    pub version: u8,
+    pub body: String,
+}
+
+impl Serialize for Message {
+    ghost written = { λ m. fields_of ((codes "version", Ok (number_item (pos m.version))) ∷
+        (codes "body", named_text (string_bytes m.body)) ∷ []) };
+
+    ghost takes_memory = { ⊥ };
+
+    fn serialize<S: Sink>(&self, sink: &mut S) -> Result<(), S::Error> {
+        Field("version", &self.version, Field("body", &self.body, NoField)).serialize(sink)
+    }
+}
+
+/// An enum: the name of the variant, and where it has data a map from that name to them.
+#[derive(Debug, Drop)]
+pub enum Figure {
+    Point,
+    Circle(u8),
+}
+
+impl Serialize for Figure {
+    ghost written = { elim [
+        Point ↦ named_text (codes "Point")
+        | Circle r ↦ fields_of ((codes "Circle", Ok (number_item (pos r))) ∷ []) ] };
+
+    ghost takes_memory = { ⊥ };
+
+    fn serialize<S: Sink>(&self, sink: &mut S) -> Result<(), S::Error> {
+        match self {
+            Figure::Point => "Point".serialize(sink),
+            Figure::Circle(radius) => Field("Circle", radius, NoField).serialize(sink),
+        }
+    }
+}
+
+/// An even number. An odd one has no item.
+#[derive(Debug, Drop)]
+pub struct Even(pub u8);
+
+impl Serialize for Even {
+    ghost written = { λ e. if nat_eq (e.0 % 2) 0 then Ok (number_item (pos e.0)) else Err Other };
+
+    ghost takes_memory = { ⊥ };
+
+    fn serialize<S: Sink>(&self, sink: &mut S) -> Result<(), S::Error> {
+        if self.0 % 2 == 0 {
+            self.0.serialize(sink)
+        } else {
+            Err(sink.refuse(Kind::Other))
+        }
+    }
+}
+
+/// Numbers in an open array.
+#[derive(Debug, Drop)]
+pub struct Open(pub Vec<u8>);
+
+impl Serialize for Open {
+    ghost written = { λ o. open_container_of sequence (map (λ n. Ok (number_item (pos n))) o.0.items) };
+
+    ghost takes_memory = { ⊥ };
+
+    fn serialize<S: Sink>(&self, sink: &mut S) -> Result<(), S::Error> {
+        sink.begin_array(None)?;
+        for number in &self.0 {
+            number.serialize(sink)?;
+        }
+        sink.end(None)
+    }
+}
+
+/// A map that is begun without a count.
+#[derive(Debug, Drop)]
+pub struct OpenMap(pub BTreeMap<u8, u8>);
+
+impl Serialize for OpenMap {
+    ghost written = { λ m. open_container_of dictionary
+        (in_turn (λ n. Ok (number_item (pos n))) (λ n. Ok (number_item (pos n))) m.0.entries) };
+
+    ghost takes_memory = { ⊥ };
+
+    fn serialize<S: Sink>(&self, sink: &mut S) -> Result<(), S::Error> {
+        sink.begin_map(None)?;
+        for (key, value) in &self.0 {
+            key.serialize(sink)?;
+            value.serialize(sink)?;
+        }
+        sink.end(None)
+    }
+}
