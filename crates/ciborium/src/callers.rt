@@ -1,16 +1,26 @@
 //! Small callers of the library, as a user writes them, each with a contract of its own.
-ghost use Rattle.std.specs.Prelude.{◌≡◌, Any, IfSome, Some, Vec, codes, pos};
+ghost use Rattle.std.specs.Prelude.{◌≡◌, Any, IfSome, OnOk, Some, Vec, codes, false, pos};
+ghost use Rattle.std.specs.Prelude.{string_bytes};
 ghost use Rattle.std.specs.declared.alloc.Global.{Global};
-ghost use Rattle.ciborium_value.specs.Encoding.{encoding};
+ghost use Rattle.ciborium_ll.specs.Item as item;
+ghost use Rattle.ciborium_value.specs.Encoding.{encoding, written_bytes};
 ghost use Rattle.ciborium_value.specs.Refuses.{IsReadAs};
+ghost use Rattle.ciborium_value.specs.Sinks.{number_item};
 ghost use Rattle.ciborium_value.specs.Tree.{integer, text};
 ghost use Rattle.ciborium_value.specs.View.{tree_of};
 ghost use Rattle.ciborium_value.specs.declared.tree.Value as value;
+ghost use Rattle.ciborium.specs.CanonicalLaws.{RiseCanonically};
 
+use crate::laws::canonical_keys_rise;
+use crate::own_types::Message;
+use crate::ser::Error;
 use crate::small_devices::decode_hex;
+use crate::value::CanonicalValue;
 use crate::{Value, from_reader, into_writer};
 use std::alloc::Global;
+use std::collections::BTreeMap;
 use std::convert::TryFrom;
+use std::io::{self, Write};
 use std::test::Fail;
 
 /// The one item that all of the bytes are.
@@ -29,6 +39,30 @@ pub fn bytes_of(alloc: Global, value: &Value) -> Option<Vec<u8>>
     let mut bytes = Vec::new(alloc);
     into_writer(value, &mut bytes).ok()?;
     Some(bytes)
+}
+
+/// The bytes of a message, a struct of the caller's own.
+pub fn bytes_of_message(alloc: Global, message: &Message) -> Option<Vec<u8>>
+    ensures { IfSome result (λ bytes. bytes.items ≡ written_bytes (item.map false
+        (item.pair (item.text false (codes "version")) (number_item (pos message.now.version))
+        (item.pair (item.text false (codes "body"))
+        (item.text false (string_bytes message.now.body)) item.no_pairs)))) }
+{
+    let mut bytes = Vec::new(alloc);
+    into_writer(message, &mut bytes).ok()?;
+    Some(bytes)
+}
+
+/// Writes a store, whose keys then strictly rise in the canonical order.
+pub fn save<W: Write>(
+    store: &BTreeMap<CanonicalValue, Value>,
+    writer: &mut W,
+) -> Result<(), Error<io::Error>>
+    ensures { OnOk result (RiseCanonically store.now.entries) }
+{
+    into_writer(store, writer)?;
+    canonical_keys_rise(store);
+    Ok(())
 }
 
 /// The version that a message names: the number behind a text "version" of a map.

@@ -11,6 +11,8 @@ pub mod ser;
 mod own_types;
 #[cfg(test)]
 mod small_devices;
+#[cfg(test)]
+mod typed_tests;
 pub mod value;
 
 pub use de::{from_reader, from_reader_with_buffer, from_reader_with_recursion_limit};
