@@ -127,9 +127,9 @@ impl<'a, W: Write> ByteSink<'a, W> {
         ensures written { OnOk result (IsWritten (bignum_item tag number)) }
     {
         let bytes = number.to_be_bytes();
-        let bytes = without_leading_zeros(&bytes);
+        let shortest = without_leading_zeros(&bytes);
         self.push(Header::Tag(tag))?;
-        self.write_string(Header::Bytes(Some(bytes.len())), bytes)
+        self.write_string(Header::Bytes(Some(shortest.len())), shortest)
     }
 }
 

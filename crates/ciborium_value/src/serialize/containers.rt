@@ -16,11 +16,12 @@ impl<T: Serialize> Serialize for Vec<T> {
     ghost takes_memory = { T.takes_memory };
 
     fn serialize<S: Sink>(&self, sink: &mut S) -> Result<(), S::Error> {
-        sink.begin_array(Some(self.len()))?;
+        let count = Some(self.len());
+        sink.begin_array(count)?;
         for item in self {
             item.serialize(sink)?;
         }
-        sink.end(Some(self.len()))
+        sink.end(count)
     }
 }
 
@@ -91,12 +92,13 @@ impl<K: Serialize + Ord, V: Serialize> Serialize for BTreeMap<K, V> {
     ghost takes_memory = { K.takes_memory ⊎ V.takes_memory };
 
     fn serialize<S: Sink>(&self, sink: &mut S) -> Result<(), S::Error> {
-        sink.begin_map(Some(self.len()))?;
+        let entries = Some(self.len());
+        sink.begin_map(entries)?;
         for (key, value) in self {
             key.serialize(sink)?;
             value.serialize(sink)?;
         }
-        sink.end(Some(self.len()))
+        sink.end(entries)
     }
 }
 
@@ -115,10 +117,11 @@ pub(super) fn serialize_pairs<K: Serialize, V: Serialize, S: Sink>(
     ensures err { OnErr result (BreaksNamed S.stands_at S.out sink.old sink.new
         (container_of dictionary (in_turn K.written V.written pairs.now.items))) }
 {
-    sink.begin_map(Some(pairs.len()))?;
+    let count = Some(pairs.len());
+    sink.begin_map(count)?;
     for pair in pairs {
         pair.0.serialize(sink)?;
         pair.1.serialize(sink)?;
     }
-    sink.end(Some(pairs.len()))
+    sink.end(count)
 }

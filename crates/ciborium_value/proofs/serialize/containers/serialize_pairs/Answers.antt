@@ -83,7 +83,7 @@ end-requires g c =
     let ps = c.deref-pair-items.result.now in
     let parts = in_turn g.K.Serialize.written g.V.Serialize.written ps in
     let all = subst (Owes g.S.Sink.stands_at dictionary (Some (length ps)) parts c.args.sink.now c.loop-pair.sink) (no_pair g.K.Serialize.written g.V.Serialize.written ps c.loop-pair.pair-index c.loop-pair-test.false) c.loop-pair.invariant in
-    owes_can_end g.S.Sink.stands_at g.S.Sink.out dictionary (Some (length ps)) parts c.args.sink.now _ (Some c.len-2.result) (ap Some (search rules)) c.requires all
+    owes_can_end g.S.Sink.stands_at g.S.Sink.out dictionary (Some (length ps)) parts c.args.sink.now _ (Some c.len.result) (ap Some (search rules)) c.requires all
 
 pub returns-clause-ok : goal.returns-clause-ok
 returns-clause-ok g c =
@@ -91,7 +91,7 @@ returns-clause-ok g c =
     let parts = in_turn g.K.Serialize.written g.V.Serialize.written ps in
     let all = subst (Owes g.S.Sink.stands_at dictionary (Some (length ps)) parts c.args.sink.now c.loop-pair.sink) (no_pair g.K.Serialize.written g.V.Serialize.written ps c.loop-pair.pair-index c.loop-pair-test.false) c.loop-pair.invariant in
     on_ok_weaker _ (λ h. subst (λ l. AddsNamed g.S.Sink.stands_at c.args.sink.now c.end.new.self (container_of dictionary (in_turn g.K.Serialize.written g.V.Serialize.written l))) c.deref-pair-items.ensures.value
-    (owes_ends g.S.Sink.stands_at g.S.Sink.out dictionary (Some (length ps)) parts c.args.sink.now _ _ (Some c.len-2.result) (ap Some (search rules)) all h)) c.end.ensures.ok
+    (owes_ends g.S.Sink.stands_at g.S.Sink.out dictionary (Some (length ps)) parts c.args.sink.now _ _ (Some c.len.result) (ap Some (search rules)) all h)) c.end.ensures.ok
 
 pub returns-clause-err : goal.returns-clause-err
 returns-clause-err g c =
@@ -99,4 +99,4 @@ returns-clause-err g c =
     let parts = in_turn g.K.Serialize.written g.V.Serialize.written ps in
     let all = subst (Owes g.S.Sink.stands_at dictionary (Some (length ps)) parts c.args.sink.now c.loop-pair.sink) (no_pair g.K.Serialize.written g.V.Serialize.written ps c.loop-pair.pair-index c.loop-pair-test.false) c.loop-pair.invariant in
     on_err_weaker _ (λ h. subst (λ l. BreaksNamed g.S.Sink.stands_at g.S.Sink.out c.args.sink.now c.end.new.self (container_of dictionary (in_turn g.K.Serialize.written g.V.Serialize.written l))) c.deref-pair-items.ensures.value
-    (owes_broken_end g.S.Sink.stands_at g.S.Sink.out dictionary (Some (length ps)) parts c.args.sink.now _ _ (Some c.len-2.result) (ap Some (search rules)) all h)) c.end.ensures.err
+    (owes_broken_end g.S.Sink.stands_at g.S.Sink.out dictionary (Some (length ps)) parts c.args.sink.now _ _ (Some c.len.result) (ap Some (search rules)) all h)) c.end.ensures.err

@@ -91,7 +91,7 @@ end-requires g c =
     let parts = in_turn g.K.Serialize.written g.V.Serialize.written es in
     let none = rest_all deref_pair c.loop-key.key-iterator c.next.new.self c.next.result c.in-None.is c.next.ensures.steps in
     let all = subst (λ l. Owes g.S.Sink.stands_at dictionary (Some (length es)) parts c.args.sink.now c.loop-key.sink (in_turn g.K.Serialize.written g.V.Serialize.written l)) none c.loop-key.invariant in
-    owes_can_end g.S.Sink.stands_at g.S.Sink.out dictionary (Some (length es)) parts c.args.sink.now _ (Some c.len-2.result) (ap Some c.len-2.ensures.len) c.requires all
+    owes_can_end g.S.Sink.stands_at g.S.Sink.out dictionary (Some (length es)) parts c.args.sink.now _ (Some c.len.result) (ap Some c.len.ensures.len) c.requires all
 
 pub returns-clause-ok : goal.returns-clause-ok
 returns-clause-ok g c =
@@ -99,7 +99,7 @@ returns-clause-ok g c =
     let parts = in_turn g.K.Serialize.written g.V.Serialize.written es in
     let none = rest_all deref_pair c.loop-key.key-iterator c.next.new.self c.next.result c.in-None.is c.next.ensures.steps in
     let all = subst (λ l. Owes g.S.Sink.stands_at dictionary (Some (length es)) parts c.args.sink.now c.loop-key.sink (in_turn g.K.Serialize.written g.V.Serialize.written l)) none c.loop-key.invariant in
-    on_ok_weaker _ (λ h. owes_ends g.S.Sink.stands_at g.S.Sink.out dictionary (Some (length es)) parts c.args.sink.now _ _ (Some c.len-2.result) (ap Some c.len-2.ensures.len) all h) c.end.ensures.ok
+    on_ok_weaker _ (λ h. owes_ends g.S.Sink.stands_at g.S.Sink.out dictionary (Some (length es)) parts c.args.sink.now _ _ (Some c.len.result) (ap Some c.len.ensures.len) all h) c.end.ensures.ok
 
 pub returns-clause-err : goal.returns-clause-err
 returns-clause-err g c =
@@ -107,4 +107,4 @@ returns-clause-err g c =
     let parts = in_turn g.K.Serialize.written g.V.Serialize.written es in
     let none = rest_all deref_pair c.loop-key.key-iterator c.next.new.self c.next.result c.in-None.is c.next.ensures.steps in
     let all = subst (λ l. Owes g.S.Sink.stands_at dictionary (Some (length es)) parts c.args.sink.now c.loop-key.sink (in_turn g.K.Serialize.written g.V.Serialize.written l)) none c.loop-key.invariant in
-    on_err_weaker _ (λ h. owes_broken_end g.S.Sink.stands_at g.S.Sink.out dictionary (Some (length es)) parts c.args.sink.now _ _ (Some c.len-2.result) (ap Some c.len-2.ensures.len) all h) c.end.ensures.err
+    on_err_weaker _ (λ h. owes_broken_end g.S.Sink.stands_at g.S.Sink.out dictionary (Some (length es)) parts c.args.sink.now _ _ (Some c.len.result) (ap Some c.len.ensures.len) all h) c.end.ensures.err

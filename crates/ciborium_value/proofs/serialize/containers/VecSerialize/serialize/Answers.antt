@@ -58,7 +58,7 @@ end-requires g c =
     let f = g.T.Serialize.written in
     let parts = map f xs in
     let all = subst (Owes g.S.Sink.stands_at sequence (Some (length xs)) parts c.args.sink.now c.loop-item.sink) (no_part f xs c.loop-item.item-index c.loop-item-test.false) c.loop-item.invariant in
-    owes_can_end g.S.Sink.stands_at g.S.Sink.out sequence (Some (length xs)) parts c.args.sink.now _ (Some c.len-2.result) (ap Some (search rules)) c.requires all
+    owes_can_end g.S.Sink.stands_at g.S.Sink.out sequence (Some (length xs)) parts c.args.sink.now _ (Some c.len.result) (ap Some (search rules)) c.requires all
 
 pub returns-clause-ok : goal.returns-clause-ok
 returns-clause-ok g c =
@@ -67,7 +67,7 @@ returns-clause-ok g c =
     let parts = map f xs in
     let all = subst (Owes g.S.Sink.stands_at sequence (Some (length xs)) parts c.args.sink.now c.loop-item.sink) (no_part f xs c.loop-item.item-index c.loop-item-test.false) c.loop-item.invariant in
     on_ok_weaker _ (λ h. subst (λ l. AddsNamed g.S.Sink.stands_at c.args.sink.now c.end.new.self (container_of sequence (map f l))) c.deref-item-items.ensures.value
-    (owes_ends g.S.Sink.stands_at g.S.Sink.out sequence (Some (length xs)) parts c.args.sink.now _ _ (Some c.len-2.result) (ap Some (search rules)) all h)) c.end.ensures.ok
+    (owes_ends g.S.Sink.stands_at g.S.Sink.out sequence (Some (length xs)) parts c.args.sink.now _ _ (Some c.len.result) (ap Some (search rules)) all h)) c.end.ensures.ok
 
 pub returns-clause-err : goal.returns-clause-err
 returns-clause-err g c =
@@ -76,4 +76,4 @@ returns-clause-err g c =
     let parts = map f xs in
     let all = subst (Owes g.S.Sink.stands_at sequence (Some (length xs)) parts c.args.sink.now c.loop-item.sink) (no_part f xs c.loop-item.item-index c.loop-item-test.false) c.loop-item.invariant in
     on_err_weaker _ (λ h. subst (λ l. BreaksNamed g.S.Sink.stands_at g.S.Sink.out c.args.sink.now c.end.new.self (container_of sequence (map f l))) c.deref-item-items.ensures.value
-    (owes_broken_end g.S.Sink.stands_at g.S.Sink.out sequence (Some (length xs)) parts c.args.sink.now _ _ (Some c.len-2.result) (ap Some (search rules)) all h)) c.end.ensures.err
+    (owes_broken_end g.S.Sink.stands_at g.S.Sink.out sequence (Some (length xs)) parts c.args.sink.now _ _ (Some c.len.result) (ap Some (search rules)) all h)) c.end.ensures.err
