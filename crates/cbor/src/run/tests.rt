@@ -1,11 +1,13 @@
 // Lines and their answers, words that are right and wrong, limits, and faults.
 use super::run;
-use crate::test_devices::{Device, Source, run_on, run_on_text};
+use crate::test_devices::{Device, Ended, Source, run_on, run_on_text};
+use std::alloc::Global;
 use std::io::ErrorKind;
+use std::process::Abort;
 use std::test::Fail;
 
 // The words, what is read, what is written for it, and the status.
-const RUNS: [(&[&str], &str, &str, u8); 39] = [
+const RUNS: &[(&[&str], &str, &str, u8)] = &[
     (
         &["read"],
         "1800\n3bffffffffffffffff\n6161\n1e\nf93c00\n0001\n",
@@ -88,16 +90,21 @@ const RUNS: [(&[&str], &str, &str, u8); 39] = [
     ),
 ];
 
+// Holds a run to its status, and to what it wrote.
+fn expect_end(rt: &impl Abort, ended: &Ended, status: u8, output: &[u8], errors: &str, what: &str) {
+    assert_eq!(rt; ended.status, status, "{what}");
+    assert_eq!(rt; ended.output.as_slice(), output, "{what}");
+    assert_eq!(rt; ended.errors.as_slice(), errors.as_bytes(), "{what}");
+}
+
 #[test]
 fn writes_what_is_meant(rt: HostRuntime) -> Result<(), Fail> {
-    for (words, input, output, status) in RUNS {
+    for &(words, input, output, status) in RUNS {
         for most in [1, 3, usize::MAX] {
             let mut source = Source::new(input.as_bytes(), most, None);
             let device = Device::new(rt.alloc(), usize::MAX, false);
             let ended = run_on(rt.alloc(), words, &mut source, device)?;
-            assert_eq!(rt; ended.output.as_slice(), output.as_bytes(), "{input}");
-            assert_eq!(rt; ended.status, status, "{input}");
-            assert!(rt; ended.errors.is_empty(), "{input}");
+            expect_end(&rt, &ended, status, output.as_bytes(), "", input);
         }
     }
     Ok(())
@@ -105,7 +112,7 @@ fn writes_what_is_meant(rt: HostRuntime) -> Result<(), Fail> {
 
 // The items of RFC 8949, appendix A, that hold no float and are in the one shortest definite
 // encoding.
-const SHORTEST: [&str; 44] = [
+const SHORTEST: &[&str] = &[
     "00",
     "01",
     "0a",
@@ -153,7 +160,7 @@ const SHORTEST: [&str; 44] = [
 ];
 
 // The others without floats and unassigned simple values, and the shortest definite encoding.
-const OPEN: [(&str, &str); 12] = [
+const OPEN: &[(&str, &str)] = &[
     ("f7", "f6"),
     ("5f42010243030405ff", "450102030405"),
     ("7f657374726561646d696e67ff", "6973747265616d696e67"),
@@ -172,23 +179,27 @@ const OPEN: [(&str, &str); 12] = [
 ];
 
 // Those with an unassigned simple value.
-const UNASSIGNED: [&str; 2] = ["f0", "f8ff"];
+const UNASSIGNED: &[&str] = &["f0", "f8ff"];
+
+// Holds the answer to an item to this encoding.
+fn expect_encoding(rt: &impl Abort, alloc: Global, item: &str, encoding: &str) -> Result<(), Fail> {
+    let answer = format!(in alloc; "ok {encoding}\n")?;
+    let ended = run_on_text(alloc, &["read"], item)?;
+    expect_end(rt, &ended, 0, answer.as_bytes(), "", item);
+    Ok(())
+}
 
 #[test]
 fn answers_the_items_of_the_standard(rt: HostRuntime) -> Result<(), Fail> {
     for item in SHORTEST {
-        let answer = format!(in rt.alloc(); "ok {item}\n")?;
-        let ended = run_on_text(rt.alloc(), &["read"], item)?;
-        assert_eq!(rt; ended.output.as_slice(), answer.as_bytes());
+        expect_encoding(&rt, rt.alloc(), item, item)?;
     }
     for (item, encoding) in OPEN {
-        let answer = format!(in rt.alloc(); "ok {encoding}\n")?;
-        let ended = run_on_text(rt.alloc(), &["read"], item)?;
-        assert_eq!(rt; ended.output.as_slice(), answer.as_bytes());
+        expect_encoding(&rt, rt.alloc(), item, encoding)?;
     }
     for item in UNASSIGNED {
         let ended = run_on_text(rt.alloc(), &["read"], item)?;
-        assert_eq!(rt; ended.output.as_slice(), b"semantic 0 simple\n".as_slice());
+        expect_end(&rt, &ended, 1, b"semantic 0 simple\n", "", item);
     }
     Ok(())
 }
@@ -203,8 +214,7 @@ fn answers_a_line_longer_than_its_buffer(rt: HostRuntime) -> Result<(), Fail> {
     }
     answer.push('\n')?;
     let ended = run_on_text(rt.alloc(), &["read"], line.as_str())?;
-    assert_eq!(rt; ended.status, 0);
-    assert_eq!(rt; ended.output.as_slice(), answer.as_bytes());
+    expect_end(&rt, &ended, 0, answer.as_bytes(), "", "a long line");
     Ok(())
 }
 
@@ -231,7 +241,7 @@ fn allows_256_levels(rt: HostRuntime) -> Result<(), Fail> {
     Ok(())
 }
 
-const WRONG_WORDS: [&[&str]; 17] = [
+const WRONG_WORDS: &[&[&str]] = &[
     &[],
     &["write"],
     &["READ"],
@@ -257,13 +267,9 @@ fn refuses_wrong_words(rt: HostRuntime) -> Result<(), Fail> {
         let mut source = Source::new(b"00\n", 1, None);
         let device = Device::new(rt.alloc(), usize::MAX, false);
         let ended = run_on(rt.alloc(), words, &mut source, device)?;
-        assert_eq!(rt; ended.status, 2);
+        let usage = "usage: cbor read [limit] | cbor sort\n";
+        expect_end(&rt, &ended, 2, b"", usage, "wrong words");
         assert_eq!(rt; source.reads(), 0);
-        assert!(rt; ended.output.is_empty());
-        assert_eq!(rt;
-            ended.errors.as_slice(),
-            b"usage: cbor read [limit] | cbor sort\n".as_slice()
-        );
     }
     Ok(())
 }
@@ -288,13 +294,7 @@ fn tells_a_fault_of_the_input(rt: HostRuntime) -> Result<(), Fail> {
                 let mut source = Source::new(input.as_bytes(), most, Some(kind));
                 let device = Device::new(rt.alloc(), usize::MAX, flush_fails);
                 let ended = run_on(rt.alloc(), &[command], &mut source, device)?;
-                assert_eq!(rt; ended.status, 1, "{input}");
-                assert_eq!(rt; ended.output.as_slice(), output.as_bytes(), "{input}");
-                assert_eq!(rt;
-                    ended.errors.as_slice(),
-                    b"input failed\n".as_slice(),
-                    "{input}"
-                );
+                expect_end(&rt, &ended, 1, output.as_bytes(), "input failed\n", input);
             }
         }
     }
@@ -315,16 +315,9 @@ fn tells_a_fault_of_the_output(rt: HostRuntime) -> Result<(), Fail> {
             let mut source = Source::new(input.as_bytes(), usize::MAX, None);
             let device = Device::new(rt.alloc(), room, room == 20);
             let ended = run_on(rt.alloc(), &[command], &mut source, device)?;
-            assert_eq!(rt; ended.status, 1, "{room}");
-            assert!(rt;
-                output.as_bytes().starts_with(ended.output.as_slice()),
-                "{room}"
-            );
-            assert_eq!(rt;
-                ended.errors.as_slice(),
-                b"output failed\n".as_slice(),
-                "{room}"
-            );
+            let held = ended.output.as_slice();
+            assert!(rt; output.as_bytes().starts_with(held), "{room}");
+            expect_end(&rt, &ended, 1, held, "output failed\n", input);
         }
     }
     Ok(())

@@ -3,6 +3,7 @@ use super::{Error, from_reader, from_reader_with_buffer, from_reader_with_recurs
 use crate::callers::bytes_of;
 use crate::small_devices::{Source, decode_hex};
 use ciborium_value::Kind;
+use std::alloc::Global;
 use std::io::{self, ErrorKind};
 use std::test::Fail;
 
@@ -30,7 +31,7 @@ fn name_reason(error: Error<io::Error>) -> Reason {
 }
 
 // Bytes, a limit of levels, and the encoding of what they mean.
-const ITEMS: [(&str, usize, &str); 31] = [
+const ITEMS: &[(&str, usize, &str)] = &[
     ("00", 0, "00"),
     ("1b0000000000000017", 0, "17"),
     ("3818", 0, "3818"),
@@ -77,7 +78,7 @@ const ITEMS: [(&str, usize, &str); 31] = [
 ];
 
 // Bytes, a limit of levels, and why they are refused.
-const REFUSED: [(&str, usize, Reason); 41] = [
+const REFUSED: &[(&str, usize, Reason)] = &[
     ("", 9, ENDED),
     ("1e", 9, Reason::Syntax(0)),
     ("83011f03", 9, Reason::Syntax(2)),
@@ -129,43 +130,59 @@ const REFUSED: [(&str, usize, Reason); 41] = [
     ("5f5bffffffffffffffff", 9, Reason::TooLong),
 ];
 
-// What follows an item stays unread, whatever the scratch and however the reader cuts its bytes.
+// The encoding of the item at the front of the bytes, and the bytes behind it: read with a scratch
+// of this size, or else within the limit.
+fn encode_front(
+    alloc: Global,
+    bytes: &[u8],
+    limit: usize,
+    size: Option<usize>,
+) -> Result<Vec<u8>, Fail> {
+    let mut rest = bytes;
+    let value = match size {
+        Some(size) => {
+            let mut scratch = Vec::new(alloc);
+            scratch.resize(size, 0)?;
+            from_reader_with_buffer(alloc, &mut rest, &mut scratch)?
+        }
+        None => from_reader_with_recursion_limit(alloc, &mut rest, limit)?,
+    };
+    let mut encoding = bytes_of(alloc, &value).ok_or("no encoding")?;
+    encoding.extend_from_slice(rest)?;
+    Ok(encoding)
+}
+
+// What follows an item stays unread, whatever the scratch.
 #[test]
 fn items_mean_their_values(rt: HostRuntime) -> Result<(), Fail> {
-    let alloc = rt.alloc();
-    let mut page = [0u8; 4096];
-    for (text, limit, encoding) in ITEMS {
-        let encoding = Some(decode_hex(alloc, encoding)?);
-        let mut bytes = decode_hex(alloc, text)?;
+    for &(text, limit, encoding) in ITEMS {
+        let mut bytes = decode_hex(rt.alloc(), text)?;
         bytes.push(0x04)?;
-        for size in [0, 1, 4096] {
-            let mut reader = bytes.as_slice();
-            let value = from_reader_with_buffer(alloc, &mut reader, &mut page[..size])?;
-            assert_eq!(rt;
-                bytes_of(alloc, &value),
-                encoding,
-                "{text} with a scratch of {size}"
-            );
-            assert_eq!(rt;
-                reader,
-                [0x04].as_slice(),
-                "{text} with a scratch of {size}"
-            );
+        let mut expected = decode_hex(rt.alloc(), encoding)?;
+        expected.push(0x04)?;
+        for size in [Some(0), Some(1), Some(4096), None] {
+            let answer = encode_front(rt.alloc(), &bytes, limit, size)?;
+            assert_eq!(rt; answer, expected, "{text} with a scratch of {size:?}");
         }
-        let mut reader = bytes.as_slice();
-        let value = from_reader_with_recursion_limit(alloc, &mut reader, limit)?;
-        assert_eq!(rt; bytes_of(alloc, &value), encoding, "{text}");
-        assert_eq!(rt; reader, [0x04].as_slice(), "{text}");
+    }
+    Ok(())
+}
+
+#[test]
+fn items_are_read_byte_by_byte(rt: HostRuntime) -> Result<(), Fail> {
+    for &(text, limit, encoding) in ITEMS {
+        let bytes = decode_hex(rt.alloc(), text)?;
+        let expected = decode_hex(rt.alloc(), encoding)?;
         let mut slow = Source::new(&bytes, 1, None);
-        let value = from_reader_with_recursion_limit(alloc, &mut slow, limit)?;
-        assert_eq!(rt; bytes_of(alloc, &value), encoding, "{text} by single bytes");
+        let value = from_reader_with_recursion_limit(rt.alloc(), &mut slow, limit)?;
+        assert_eq!(rt; bytes_of(rt.alloc(), &value), Some(expected), "{text}");
     }
     Ok(())
 }
 
 #[test]
 fn faults_are_named_where_they_stand(rt: HostRuntime) -> Result<(), Fail> {
-    for (text, limit, reason) in REFUSED {
+    for &(text, limit, reason) in REFUSED {
         let bytes = decode_hex(rt.alloc(), text)?;
         let mut reader = bytes.as_slice();
         let answer = from_reader_with_recursion_limit(rt.alloc(), &mut reader, limit);

@@ -1,15 +1,16 @@
 // Values in the canonical order, by sorts, by `<` and by `max`, and counts of visits.
 use super::{cmp_value, cmp_value_counted};
-use crate::callers::{bytes_of, only_item};
+use crate::callers::only_item;
+use crate::into_writer;
 use crate::small_devices::decode_hex;
 use crate::value::CanonicalValue;
 use ciborium_value::Value;
-use std::alloc::{AllocError, Global};
+use std::alloc::Global;
 use std::cmp::Ordering;
 use std::test::Fail;
 
 // Encodings in the canonical order (RFC 7049, section 3.9, and RFC 8949, section 4.2.3).
-const IN_ORDER: [&[&str]; 5] = [
+const IN_ORDER: &[&[&str]] = &[
     // 10, -1, false, 100, "z", [-1], "aa" and [100].
     &["0a", "20", "f4", "1864", "617a", "8120", "626161", "811864"],
     // 10, -1, -2, -3, -4, false, 100, -100, -200, "z", [-1], -300, "aa" and [100].
@@ -35,34 +36,49 @@ const IN_ORDER: [&[&str]; 5] = [
     &["4401020304", "6461616161", "8401020304", "a201020304"],
 ];
 
+// Reads an encoding.
+fn read_value(alloc: Global, encoding: &str) -> Result<Value, Fail> {
+    let bytes = decode_hex(alloc, encoding)?;
+    Ok(only_item(alloc, &bytes).ok_or("no item")?)
+}
+
 // Reads the encodings from last to first, beginning at one of them.
 fn read_all(alloc: Global, encodings: &[&str], first: usize) -> Result<Vec<CanonicalValue>, Fail> {
     let mut values = Vec::new(alloc);
-    for encoding in encodings
-        .iter()
-        .rev()
-        .cycle()
-        .skip(first)
-        .take(encodings.len())
-    {
-        let bytes = decode_hex(alloc, encoding)?;
-        let value = only_item(alloc, &bytes).ok_or("no item")?;
+    for offset in 0..encodings.len() {
+        let index = first.wrapping_add(offset) % encodings.len();
+        let value = read_value(alloc, encodings[encodings.len() - 1 - index])?;
         values.push(CanonicalValue::from(value))?;
     }
     Ok(values)
 }
 
+// The bytes that all of these name.
+fn decode_all(alloc: Global, encodings: &[&str]) -> Result<Vec<u8>, Fail> {
+    let mut text = String::new(alloc);
+    for encoding in encodings {
+        text.push_str(encoding)?;
+    }
+    decode_hex(alloc, text.as_str())
+}
+
+// The encodings of all of these values.
+fn encode_all(alloc: Global, values: Vec<CanonicalValue>) -> Result<Vec<u8>, Fail> {
+    let mut bytes = Vec::new(alloc);
+    for value in values {
+        into_writer(&Value::from(value), &mut bytes)?;
+    }
+    Ok(bytes)
+}
+
 #[test]
 fn sorts_give_the_canonical_order(rt: HostRuntime) -> Result<(), Fail> {
-    for encodings in IN_ORDER {
+    for &encodings in IN_ORDER {
+        let expected = decode_all(rt.alloc(), encodings)?;
         for first in 0..encodings.len() {
             let mut values = read_all(rt.alloc(), encodings, first)?;
             values.sort()?;
-            assert_eq!(rt; values.len(), encodings.len());
-            for (value, encoding) in values.into_iter().zip(encodings) {
-                let expected = decode_hex(rt.alloc(), encoding)?;
-                assert_eq!(rt; bytes_of(rt.alloc(), &Value::from(value)), Some(expected));
-            }
+            assert_eq!(rt; encode_all(rt.alloc(), values)?, expected);
         }
     }
     Ok(())
@@ -83,34 +99,33 @@ fn operators_give_the_canonical_order(rt: HostRuntime) -> Result<(), Fail> {
     Ok(())
 }
 
-// [1]
-fn make_array(alloc: Global) -> Result<Value, AllocError> {
-    Value::from_values(alloc, &[Value::from(1u8)])
-}
+// Two encodings, the order of their values, and the least and the most visits that it takes.
+const VISITS: &[(&str, &str, Ordering, u64, u64)] = &[
+    ("8101", "8101", Ordering::Equal, 8, 8),
+    ("f6", "f6", Ordering::Equal, 4, 4),
+    ("01", "190100", Ordering::Less, 2, 4),
+];
 
 #[test]
 fn visits_are_counted(rt: HostRuntime) -> Result<(), Fail> {
-    let array = make_array(rt.alloc())?;
-    let same = make_array(rt.alloc())?;
-    assert_eq!(rt; cmp_value_counted(&array, &same), (Ordering::Equal, 8));
-    assert_eq!(rt;
-        cmp_value_counted(&Value::Null, &Value::Null),
-        (Ordering::Equal, 4)
-    );
-    let (order, visits) = cmp_value_counted(&Value::from(1u8), &Value::from(256u16));
-    assert_eq!(rt; order, Ordering::Less);
-    assert!(rt; 2 <= visits && visits <= 4);
+    for &(left, right, expected, least, most) in VISITS {
+        let left = read_value(rt.alloc(), left)?;
+        let right = read_value(rt.alloc(), right)?;
+        let (order, visits) = cmp_value_counted(&left, &right);
+        assert_eq!(rt; order, expected);
+        assert!(rt; least <= visits && visits <= most);
+    }
     Ok(())
 }
 
 #[test]
 fn a_copy_is_equal(rt: HostRuntime) -> Result<(), Fail> {
-    let array = make_array(rt.alloc())?;
-    let canonical = CanonicalValue::from(make_array(rt.alloc())?);
+    let array = read_value(rt.alloc(), "8101")?;
+    let canonical = CanonicalValue::from(read_value(rt.alloc(), "8101")?);
     let copy = canonical.clone()?;
     assert!(rt; copy == canonical);
     let back = Value::from(copy);
-    assert_eq!(rt; back, array);
+    assert!(rt; back == array);
     assert_eq!(rt; cmp_value(&back, &array), Ordering::Equal);
     Ok(())
 }

@@ -6,3 +6,6 @@ returns-in-Some c =
     let test = rw c.in-Some.is at c.in-Some.n-test in
     let some : c.in-Some.n ≡ 0 → ⊥ = test.1 in
     (omega arith, Some (c.in-Some.n - 1), search rules, rw c.in-Some.is (omega arith))
+
+pub returns-in-None : goal.returns-in-None
+returns-in-None c = search rules
