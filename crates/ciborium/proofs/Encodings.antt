@@ -1,37 +1,10 @@
 -- The encodings of values with parts, and of lists of values.
-use Rattle.std.proofs.Common.{◌≡◌, ℕ, suc, ◌+◌, ◌<◌, List, [], ◌∷◌, ◌++◌, length, take, drop, get_or, Vec, vec_len, Box, Global, refl, sym, ap, ◌∙◌, append_assoc, append-nil}
-use Rattle.ciborium_ll.specs.Head.{shortest_head}
-use Rattle.ciborium_ll.specs.Item.{items_count, pairs_count}
-use Rattle.ciborium_value.specs.Encoding.{encoding, items_of, pairs_of}
-use Rattle.ciborium_value.specs.View.{tree_of, trees_of, tree_pairs_of}
-use Rattle.ciborium_value.specs.declared.tree.Value as value
+use Rattle.std.proofs.Common.{◌≡◌, ℕ, suc, ◌+◌, ◌<◌, List, [], ◌∷◌, ◌++◌, length, take, drop, get_or, refl, sym, ap, ◌∙◌, append_assoc, append-nil}
+use Rattle.ciborium_value.specs.Encoding.{encoding}
+use Rattle.ciborium_value.specs.View.{tree_of}
 use Rattle.ciborium_value.specs.declared.tree.Value.{Value}
-use Rattle.ciborium_value.proofs.Views.{tree_of-Tag, tree_of-Array, tree_of-Map}
 use Rattle.ciborium.specs.Writes.{encodings, pair_encodings}
 use Rattle.ciborium.proofs.Elements.{around, one_more}
-
--- ---- the encoding of each variant with parts
-
-pub encoding-Tag : (w : Value) (t : ℕ) (b : Box Value Global) (v : Value) → w ≡ value.Tag t b → v ≡ b.value → encoding (tree_of w) ≡ shortest_head 6 t ++ encoding (tree_of v)
-encoding-Tag w t b v is content =
-    ap (λ x. encoding (tree_of x)) is ∙ ap encoding (tree_of-Tag t b) ∙ ap (λ x. shortest_head 6 t ++ encoding (tree_of x)) (sym content)
-
--- the counts
-items_count-items_of : (vs : List Value) → items_count (items_of (trees_of vs)) ≡ length vs
-items_count-items_of [] = refl
-items_count-items_of (v ∷ vs) = ap suc (items_count-items_of vs)
-
-pairs_count-pairs_of : (ps : List (Value × Value)) → pairs_count (pairs_of (tree_pairs_of ps)) ≡ length ps
-pairs_count-pairs_of [] = refl
-pairs_count-pairs_of (p ∷ ps) = ap suc (pairs_count-pairs_of ps)
-
-pub encoding-Array : (w : Value) (v : Vec Value Global) (n : ℕ) → w ≡ value.Array v → n ≡ vec_len v → encoding (tree_of w) ≡ shortest_head 4 n ++ encodings v.items
-encoding-Array w v n is count =
-    ap (λ x. encoding (tree_of x)) is ∙ ap encoding (tree_of-Array v) ∙ ap (λ k. shortest_head 4 k ++ encodings v.items) (items_count-items_of v.items ∙ sym (count ∙ v.ok.0))
-
-pub encoding-Map : (w : Value) (v : Vec (Value × Value) Global) (n : ℕ) → w ≡ value.Map v → n ≡ vec_len v → encoding (tree_of w) ≡ shortest_head 5 n ++ pair_encodings v.items
-encoding-Map w v n is count =
-    ap (λ x. encoding (tree_of x)) is ∙ ap encoding (tree_of-Map v) ∙ ap (λ k. shortest_head 5 k ++ pair_encodings v.items) (pairs_count-pairs_of v.items ∙ sym (count ∙ v.ok.0))
 
 -- ---- lists
 

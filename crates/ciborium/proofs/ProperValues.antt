@@ -7,7 +7,7 @@ use Rattle.ciborium_value.specs.Proper.{AreProperTrees, AreProperTreePairs, IsPr
 use Rattle.ciborium_value.specs.View.{tree_of, trees_of, tree_pairs_of}
 use Rattle.ciborium_value.specs.declared.tree.Value as value
 use Rattle.ciborium_value.specs.declared.tree.Value.{Value}
-use Rattle.ciborium_value.proofs.Views.{tree_of-Bytes, tree_of-Text, is_proper-Array, is_proper-Map}
+use Rattle.ciborium_value.proofs.Views.{tree_of-Bytes, tree_of-Text}
 use Rattle.ciborium.proofs.Elements.{one_more}
 
 -- ---- lists
@@ -46,9 +46,3 @@ is_proper-Bytes w v b is payload bytes short =
 pub is_proper-Text : (w : Value) (s : String Global) (b : List ℕ) → w ≡ value.Text s → b ≡ string_bytes s → AreBytes b → length b < 2 ^ 64 → IsProperTree (tree_of w)
 is_proper-Text w s b is payload bytes short =
     subst IsProperTree (sym (ap tree_of is ∙ tree_of-Text s)) (IsUtf8-string_bytes s, are_proper b (string_bytes s) payload bytes short)
-
-pub is_proper-items : (w : Value) (v : Vec Value Global) → w ≡ value.Array v → AreProperTrees (trees_of v.items) → IsProperTree (tree_of w)
-is_proper-items w v is each = subst (λ x. IsProperTree (tree_of x)) (sym is) (is_proper-Array v each)
-
-pub is_proper-pairs : (w : Value) (v : Vec (Value × Value) Global) → w ≡ value.Map v → AreProperTreePairs (tree_pairs_of v.items) → IsProperTree (tree_of w)
-is_proper-pairs w v is each = subst (λ x. IsProperTree (tree_of x)) (sym is) (is_proper-Map v each)

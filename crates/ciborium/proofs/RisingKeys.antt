@@ -1,5 +1,5 @@
 -- The keys of a map by canonical values rise in the canonical order.
-use Rattle.std.proofs.Common.{false, Less, ◌≡◌, ◌<◌, suc, List, [], ◌∷◌, length, map, Result, Ok, Err, refl, sym, ◌∙◌, ap, subst}
+use Rattle.std.proofs.Common.{false, Less, ◌≡◌, List, [], ◌∷◌, map, Result, Ok, Err, refl, sym, ◌∙◌, ap, subst}
 use Rattle.std.specs.List.Sorted.{IsStrictlySortedBy}
 use Rattle.std.specs.List.{AllByRecursion}
 use Rattle.std.specs.Map.{keys_of}

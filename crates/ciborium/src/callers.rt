@@ -1,17 +1,20 @@
 //! Small callers of the library, as a user writes them, each with a contract of its own.
-ghost use Rattle.std.specs.Prelude.{◌≡◌, Any, IfSome, OnOk, Some, Vec, codes, false, pos};
+ghost use Rattle.std.specs.Prelude.{◌≡◌, Any, IfErr, IfSome, OnOk, Some, Vec, codes, false, pos};
 ghost use Rattle.std.specs.Prelude.{string_bytes};
 ghost use Rattle.std.specs.declared.alloc.Global.{Global};
 ghost use Rattle.ciborium_ll.specs.Item as item;
 ghost use Rattle.ciborium_value.specs.Encoding.{encoding, written_bytes};
+ghost use Rattle.ciborium_ll.specs.Writing.{Writes};
+ghost use Rattle.ciborium_value.specs.Proper.{IsProperTree};
 ghost use Rattle.ciborium_value.specs.Refuses.{IsReadAs};
 ghost use Rattle.ciborium_value.specs.Sinks.{number_item};
 ghost use Rattle.ciborium_value.specs.Tree.{integer, text};
 ghost use Rattle.ciborium_value.specs.View.{tree_of};
 ghost use Rattle.ciborium_value.specs.declared.tree.Value as value;
 ghost use Rattle.ciborium.specs.CanonicalLaws.{RiseCanonically};
+ghost use Rattle.ciborium.specs.Writes.{IsIo};
 
-use crate::laws::canonical_keys_rise;
+use crate::laws::{canonical_keys_rise, written_reads_back};
 use crate::own_types::Message;
 use crate::ser::Error;
 use crate::small_devices::decode_hex;
@@ -39,6 +42,17 @@ pub fn bytes_of(alloc: Global, value: &Value) -> Option<Vec<u8>>
     let mut bytes = Vec::new(alloc);
     into_writer(value, &mut bytes).ok()?;
     Some(bytes)
+}
+
+/// Writes a value: its encoding or a proper beginning of it, and the only error is the writer's.
+pub fn write_value<W: Write>(value: &Value, writer: &mut W) -> Result<(), Error<io::Error>>
+    ensures bytes { Writes (W.contents writer.old) (W.contents writer.new) result
+        (encoding (tree_of value.now)) }
+    ensures refused { IfErr result IsIo }
+    ensures proper { OnOk result (IsProperTree (tree_of value.now)) }
+{
+    written_reads_back();
+    into_writer(value, writer)
 }
 
 /// The bytes of a message, a struct of the caller's own.

@@ -1,5 +1,5 @@
 //! Rows of typed writing: to bytes and into a tree.
-use crate::callers::{bytes_of_message, only_item, save};
+use crate::callers::{bytes_of_message, only_item, save, write_value};
 use crate::into_writer;
 use crate::own_types::{Even, Figure, Message, Open, OpenMap};
 use crate::ser::{self, Serialize};
@@ -175,7 +175,7 @@ fn a_deep_value_is_made_into_itself(rt: HostRuntime) -> Result<(), Fail> {
     let magnitude = Box::new(rt.alloc(), Value::from_bytes(rt.alloc(), &[0, 1])?)?;
     let folding = Value::Tag(2, magnitude);
     let mut bytes = Vec::new(rt.alloc());
-    into_writer(&folding, &mut bytes)?;
+    write_value(&folding, &mut bytes)?;
     assert_eq!(rt; bytes, decode_hex(rt.alloc(), "c2420001")?);
     assert_eq!(rt; Value::serialized(rt.alloc(), &folding)?, folding);
     Ok(())

@@ -3,7 +3,7 @@ use Rattle.std.proofs.Common.{Bool, true, cond, nat_le, ◌≡◌, ℕ, ◌+◌,
 use Rattle.std.proofs.lemmas.List.{drop_all}
 use Rattle.ciborium_ll.specs.Item as item
 use Rattle.ciborium_ll.specs.Item.{Item}
-use Rattle.ciborium_value.specs.Places.{Shape, sequence, dictionary, size_of, container, Place, within, tagged, HasRoom, added, is_open, IsWhole, IsFull, IsCutBetween, Out}
+use Rattle.ciborium_value.specs.Places.{Shape, sequence, dictionary, size_of, container, Place, within, tagged, HasRoom, added, is_open, IsFull, Out}
 use Rattle.ciborium_value.specs.Progress.{oks, IsSized, Owes, field_count, record_of}
 use Rattle.ciborium_value.specs.Sinks.{Named, and_then, all_named, contained, container_of, in_turn, tag_of, Cause, value, memory, device, IsOwed, IsReady, Begins, Tags, CanEnd, Ends, Breaks, BreaksBegin, BreaksTag, BreaksEnd, AddsNamed, BreaksNamed}
 use Rattle.ciborium_value.specs.declared.kind.Kind.{Kind}
@@ -184,13 +184,6 @@ no_pair f g es k le = ap (in_turn f g) (drop_all k es le)
 -- ---- a tag and its content
 
 module _ {S : Type 0} (StandsAt : S → Place → Type 0) (out : S → Out) (old : S) (t : ℕ) where
-  pub tag_ready : (mid : S) → IsReady StandsAt old → Tags StandsAt old mid t → IsReady StandsAt mid
-  tag_ready mid h k = (tagged t h.0, k h.0 h.1 h.2, h.2)
-
-  pub tag_adds : (mid new : S) (r : Named) → Tags StandsAt old mid t → AddsNamed StandsAt mid new r → AddsNamed StandsAt old new (tag_of t r)
-  tag_adds mid new (Ok i) k h = λ p st room. h (tagged t p) (k p st room) room
-  tag_adds mid new (Err e) k h = absurd h
-
   pub tag_broken : (mid new : S) (r : Named) → Tags StandsAt old mid t → BreaksNamed StandsAt out mid new r → BreaksNamed StandsAt out old new (tag_of t r)
   tag_broken mid new (Ok i) k h = λ p st room. cut_wider (out new) p (tagged t p) (added p (item.tag t i)) (added p (item.tag t i)) (before_tagged p t) refl (before_itself _) (h (tagged t p) (k p st room) room)
   tag_broken mid new (Err e) k h = tt
@@ -198,8 +191,3 @@ module _ {S : Type 0} (StandsAt : S → Place → Type 0) (out : S → Out) (old
   pub tag_broken_head : (new : S) (r : Named) → BreaksTag StandsAt out old new t → BreaksNamed StandsAt out old new (tag_of t r)
   tag_broken_head new (Ok i) h = λ p st room. cut_wider (out new) p p (tagged t p) (added p (item.tag t i)) (before_itself _) refl (tagged_before p t i) (h p st room)
   tag_broken_head new (Err e) h = tt
-
-pub tag_owed : (t : ℕ) (cause : Cause) (r : Named) → IsOwed cause r → IsOwed cause (tag_of t r)
-tag_owed t (value k) r h = ap (tag_of t) h
-tag_owed t memory r h = tt
-tag_owed t device r h = tt

@@ -4,7 +4,7 @@ use Rattle.ciborium_ll.specs.Item as item
 use Rattle.ciborium_ll.specs.Item.{Item}
 use Rattle.ciborium_value.specs.Encoding.{item_of, items_of, pairs_of}
 use Rattle.ciborium_value.specs.Places.{sequence, dictionary, items_from, pairs_from}
-use Rattle.ciborium_value.specs.Sinks.{Named, and_then, all_named, contained, container_of, in_turn, named_value, tag_of}
+use Rattle.ciborium_value.specs.Sinks.{and_then, all_named, contained, container_of, in_turn, named_value, tag_of}
 use Rattle.ciborium_value.specs.View.{tree_of, trees_of, tree_pairs_of}
 use Rattle.ciborium_value.specs.declared.tree.Value as value
 use Rattle.ciborium_value.specs.declared.tree.Value.{Value}
