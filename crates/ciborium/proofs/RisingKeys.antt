@@ -31,8 +31,8 @@ proper_keys f (e ∷ es) is h w =
     let same : item_of (tree_of e.0) ≡ a.0 = ok_is (item_of (tree_of e.0)) a.0 a.2 in
     (written_tree_is_proper (tree_of e.0) (subst IsWritten (sym same) parts.0), proper_keys f es b.1 b.3 parts.2)
   where
-  ok_is : (i j : Item) → ◌≡◌ {A = Named} (Ok i) (Ok j) → i ≡ j
-  ok_is i j h = cc
+    ok_is : (i j : Item) → ◌≡◌ {A = Named} (Ok i) (Ok j) → i ≡ j
+    ok_is i j h = cc
 
 below_all : (v : Value) (ws : List Value) → IsProperTree (tree_of v) → AllByRecursion (λ w. IsProperTree (tree_of w)) ws → AllByRecursion (λ w. canonical_value_cmp v w ≡ Less) ws →
     AllByRecursion (λ t. canonical_order (tree_of v) t ≡ Less) (map tree_of ws)
@@ -47,6 +47,6 @@ rising (v ∷ vs) proper h = (below_all v vs proper.0 proper.1 h.0, rising vs pr
 pub canonical-keys : {A : Type 0} (f : A → Named) (es : List (Value × A)) → IsStrictlySortedBy canonical_value_cmp (keys_of es) → IsNamedWritten (container_of dictionary (in_turn named_value f es)) → RiseCanonically es
 canonical-keys f es h w = by (all_named (in_turn named_value f es)) refl w
   where
-  by : (r : Result (List Item) Kind) → all_named (in_turn named_value f es) ≡ r → IsNamedWritten (contained dictionary false r) → RiseCanonically es
-  by (Err k) e w = absurd w
-  by (Ok is) e w = rising (keys_of es) (proper_keys f es is e w.1) h
+    by : (r : Result (List Item) Kind) → all_named (in_turn named_value f es) ≡ r → IsNamedWritten (contained dictionary false r) → RiseCanonically es
+    by (Err k) e w = absurd w
+    by (Ok is) e w = rising (keys_of es) (proper_keys f es is e w.1) h

@@ -9,16 +9,15 @@ ghost use Rattle.ciborium.specs.EncodingLaws.{EncodingSpells, HeadsRise, OneTree
 ghost use Rattle.ciborium.specs.Writes.{IsNamedWritten};
 
 use crate::value::CanonicalValue;
-use ciborium_value::Serialize;
-use std::collections::BTreeMap;
-
 pub use ciborium_ll::spelling_laws::{
     header_bytes_spell, one_header, shortest_head, unique_spelling,
 };
+use ciborium_value::Serialize;
 pub use ciborium_value::tree_laws::{
     bytes_of_bignums, good_or_refused, meaning_of_written_is_folded, order_of_integers,
     order_of_values, worked_examples, written_reads_back,
 };
+use std::collections::BTreeMap;
 
 /// Whatever meets the clauses of the reading calls is one answer for the same bytes and limit: the
 /// same tree with the same bytes left, or the same refusal, unless the reader failed or memory was

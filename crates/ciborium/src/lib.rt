@@ -6,9 +6,9 @@ mod callers;
 pub mod de;
 pub mod laws;
 pub mod ll;
-pub mod ser;
 #[cfg(test)]
 mod own_types;
+pub mod ser;
 #[cfg(test)]
 mod small_devices;
 #[cfg(test)]

@@ -38,8 +38,9 @@ pub enum Figure {
 
 impl Serialize for Figure {
     ghost written = { elim [
-        Point ↦ named_text (codes "Point")
-        | Circle r ↦ fields_of ((codes "Circle", Ok (number_item (pos r))) ∷ []) ] };
+      | Point ↦ named_text (codes "Point")
+      | Circle r ↦ fields_of ((codes "Circle", Ok (number_item (pos r))) ∷ [])
+    ] };
 
     ghost takes_memory = { ⊥ };
 

@@ -46,8 +46,18 @@ fn scalars(rt: HostRuntime) -> Result<(), Fail> {
     check(alloc, &Some(1u8), "01", "01")?;
     check(alloc, &'\u{fc}', "62c3bc", "62c3bc")?;
     check(alloc, &"a", "6161", "6161")?;
-    check(alloc, &String::from_str(alloc, "\u{fc}")?, "62c3bc", "62c3bc")?;
-    check(alloc, &ByteBuf(decode_hex(alloc, "0102")?), "420102", "420102")?;
+    check(
+        alloc,
+        &String::from_str(alloc, "\u{fc}")?,
+        "62c3bc",
+        "62c3bc",
+    )?;
+    check(
+        alloc,
+        &ByteBuf(decode_hex(alloc, "0102")?),
+        "420102",
+        "420102",
+    )?;
     check(alloc, &&2u8, "02", "02")?;
     Ok(())
 }
@@ -59,12 +69,22 @@ fn numbers(rt: HostRuntime) -> Result<(), Fail> {
     check(alloc, &24u8, "1818", "1818")?;
     check(alloc, &256u16, "190100", "190100")?;
     check(alloc, &65536u32, "1a00010000", "1a00010000")?;
-    check(alloc, &4294967296u64, "1b0000000100000000", "1b0000000100000000")?;
+    check(
+        alloc,
+        &4294967296u64,
+        "1b0000000100000000",
+        "1b0000000100000000",
+    )?;
     check(alloc, &23usize, "17", "17")?;
     check(alloc, &-24i8, "37", "37")?;
     check(alloc, &-257i16, "390100", "390100")?;
     check(alloc, &-65537i32, "3a00010000", "3a00010000")?;
-    check(alloc, &-4294967297i64, "3b0000000100000000", "3b0000000100000000")?;
+    check(
+        alloc,
+        &-4294967297i64,
+        "3b0000000100000000",
+        "3b0000000100000000",
+    )?;
     check(alloc, &-1isize, "20", "20")?;
     check(alloc, &1u128, "01", "01")?;
     check(alloc, &-1i128, "20", "20")?;
@@ -94,7 +114,12 @@ fn containers(rt: HostRuntime) -> Result<(), Fail> {
     check(alloc, &make_map(alloc, pairs)?, "a220000100", "a220000100")?;
     let pairs = vec![in alloc; (3u8, 4u8), (1, 2)]?;
     check(alloc, &make_map(alloc, pairs)?, "a201020304", "a201020304")?;
-    check(alloc, &make_map(alloc, Vec::<(u8, u8)>::new(alloc))?, "a0", "a0")?;
+    check(
+        alloc,
+        &make_map(alloc, Vec::<(u8, u8)>::new(alloc))?,
+        "a0",
+        "a0",
+    )?;
     Ok(())
 }
 
@@ -108,12 +133,20 @@ fn own_types(rt: HostRuntime) -> Result<(), Fail> {
     check(alloc, &map, "bf0102ff", "a10102")?;
     check(alloc, &Even(2), "02", "02")?;
     check(alloc, &Figure::Point, "65506f696e74", "65506f696e74")?;
-    check(alloc, &Figure::Circle(7), "a166436972636c6507", "a166436972636c6507")?;
+    check(
+        alloc,
+        &Figure::Circle(7),
+        "a166436972636c6507",
+        "a166436972636c6507",
+    )?;
     let body = String::from_str(alloc, "a")?;
     let message = Message { version: 2, body };
     let bytes = "a26776657273696f6e0264626f64796161";
     check(alloc, &message, bytes, bytes)?;
-    assert_eq!(rt; bytes_of_message(alloc, &message), Some(decode_hex(alloc, bytes)?));
+    assert_eq!(rt;
+        bytes_of_message(alloc, &message),
+        Some(decode_hex(alloc, bytes)?)
+    );
     Ok(())
 }
 
@@ -129,7 +162,10 @@ fn find_kind(answer: Result<(), ser::Error<io::Error>>) -> Option<Kind> {
 fn a_value_without_an_item_is_refused(rt: HostRuntime) -> Result<(), Fail> {
     let alloc = rt.alloc();
     let mut bytes = Vec::new(alloc);
-    assert_eq!(rt; find_kind(into_writer(&(1u8, Even(3)), &mut bytes)), Some(Kind::Other));
+    assert_eq!(rt;
+        find_kind(into_writer(&(1u8, Even(3)), &mut bytes)),
+        Some(Kind::Other)
+    );
     let answer = Value::serialized(alloc, &(1u8, Even(3)));
     assert_eq!(rt; answer, Err(Error::Custom(Kind::Other)));
     Ok(())

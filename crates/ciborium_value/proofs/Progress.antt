@@ -77,9 +77,9 @@ module _ {S : Type 0} (StandsAt : S → Place → Type 0) (out : S → Out) (s :
   named_by : (new : S) → ((is : List Item) → all_named parts ≡ Ok is → Breaks StandsAt out old new (container s (is_open n) is)) → BreaksNamed StandsAt out old new (contained s (is_open n) (all_named parts))
   named_by new h = by (all_named parts) h
     where
-    by : (r : Result (List Item) Kind) → ((is : List Item) → r ≡ Ok is → Breaks StandsAt out old new (container s (is_open n) is)) → BreaksNamed StandsAt out old new (contained s (is_open n) r)
-    by (Ok is) h = h is refl
-    by (Err k) h = tt
+      by : (r : Result (List Item) Kind) → ((is : List Item) → r ≡ Ok is → Breaks StandsAt out old new (container s (is_open n) is)) → BreaksNamed StandsAt out old new (contained s (is_open n) r)
+      by (Ok is) h = h is refl
+      by (Err k) h = tt
 
   pub owes_begin : (new : S) (m : Option ℕ) → m ≡ n → IsSized s n parts → Begins StandsAt s old new m → Owes StandsAt s n parts old new parts
   owes_begin new m same size h = record { done = []; split = refl; size = size; inside = subst (Begins StandsAt s old new) same h }
@@ -87,7 +87,7 @@ module _ {S : Type 0} (StandsAt : S → Place → Type 0) (out : S → Out) (s :
   pub owes_broken_begin : (new : S) (m : Option ℕ) → m ≡ n → IsSized s n parts → BreaksBegin StandsAt out s old new m → BreaksNamed StandsAt out old new (contained s (is_open n) (all_named parts))
   owes_broken_begin new m same size h = named_by new (λ is e p st room.
       cut_wider (out new) p p (within s n [] p) _ (before_itself p) refl (before_full p s n [] is (full_of s n parts is size (length-named parts is e)))
-        (subst (BreaksBegin StandsAt out s old new) same h p st room))
+      (subst (BreaksBegin StandsAt out s old new) same h p st room))
 
   pub owes_ready : (mid : S) (x : Named) (rest : List Named) → IsReady StandsAt old → Owes StandsAt s n parts old mid (x ∷ rest) → IsReady StandsAt mid
   owes_ready mid x rest h w = (within s n w.done h.0, w.inside h.0 h.1 h.2, room_for s n parts w.done x rest h.0 w.size w.split)
@@ -110,7 +110,7 @@ module _ {S : Type 0} (StandsAt : S → Place → Type 0) (out : S → Out) (s :
       let q : Place = within s n w.done p in
       let broken : Breaks StandsAt out mid new b.0 = subst (BreaksNamed StandsAt out mid new) b.2 h in
       let last : IsBefore (added q b.0) (added p (container s (is_open n) is)) =
-          subst (λ l. IsBefore (added q b.0) (added p (container s (is_open n) l))) (sym same) (before_full p s n (w.done ++ b.0 ∷ []) b.1 full) in
+      subst (λ l. IsBefore (added q b.0) (added p (container s (is_open n) l))) (sym same) (before_full p s n (w.done ++ b.0 ∷ []) b.1 full) in
       cut_wider (out new) p q (added q b.0) _ (before_within p s n w.done) refl last (broken q (w.inside p st room) (room_for s n parts w.done x rest p w.size w.split)))
 
   pub owes_owed : (mid : S) (x : Named) (rest : List Named) (cause : Cause) → Owes StandsAt s n parts old mid (x ∷ rest) → IsOwed cause x → IsOwed cause (contained s (is_open n) (all_named parts))
@@ -121,9 +121,9 @@ module _ {S : Type 0} (StandsAt : S → Place → Type 0) (out : S → Out) (s :
   oks-named : (mid : S) (w : Owes StandsAt s n parts old mid []) → all_named parts ≡ Ok w.done
   oks-named mid w = ap all_named (w.split ∙ append-nil (oks w.done)) ∙ each w.done
     where
-    each : (is : List Item) → all_named (oks is) ≡ Ok is
-    each [] = refl
-    each (i ∷ is) = ap (and_then (Ok i)) (each is)
+      each : (is : List Item) → all_named (oks is) ≡ Ok is
+      each [] = refl
+      each (i ∷ is) = ap (and_then (Ok i)) (each is)
 
   full : (mid : S) (w : Owes StandsAt s n parts old mid []) → IsFull s n w.done
   full mid w = full_of s n parts w.done w.size (length-named parts w.done (oks-named mid w))
@@ -134,13 +134,13 @@ module _ {S : Type 0} (StandsAt : S → Place → Type 0) (out : S → Out) (s :
   pub owes_ends : (mid new : S) (m : Option ℕ) → m ≡ n → Owes StandsAt s n parts old mid [] → Ends StandsAt mid new m → AddsNamed StandsAt old new (contained s (is_open n) (all_named parts))
   owes_ends mid new m same w h =
       subst (AddsNamed StandsAt old new) (ap (contained s (is_open n)) (sym (oks-named mid w)))
-        (λ p st room. h (within s n w.done p) (w.inside p st room) (sym same, full mid w))
+      (λ p st room. h (within s n w.done p) (w.inside p st room) (sym same, full mid w))
 
   pub owes_broken_end : (mid new : S) (m : Option ℕ) → m ≡ n → Owes StandsAt s n parts old mid [] → BreaksEnd StandsAt out mid new m → BreaksNamed StandsAt out old new (contained s (is_open n) (all_named parts))
   owes_broken_end mid new m same w h =
       subst (BreaksNamed StandsAt out old new) (ap (contained s (is_open n)) (sym (oks-named mid w)))
-        (λ p st room. cut_wider (out new) p (within s n w.done p) _ _ (before_within p s n w.done) refl (before_itself _)
-          (h (within s n w.done p) (w.inside p st room) (sym same, full mid w)))
+      (λ p st room. cut_wider (out new) p (within s n w.done p) _ _ (before_within p s n w.done) refl (before_itself _)
+      (h (within s n w.done p) (w.inside p st room) (sym same, full mid w)))
 
 -- ---- how many parts there are
 
@@ -159,9 +159,10 @@ some_is a b e = cc
 pub field_counted : (n count : ℕ) → field_count n ≡ Some count → (count ≡ n) × ((parts : List Named) → container_of dictionary parts ≡ record_of n parts)
 field_counted n count h = by (nat_le n greatest_offset) h
   where
-  by : (b : Bool) → cond b (Some n) None ≡ Some count → (count ≡ n) × ((parts : List Named) → container_of dictionary parts ≡ cond b (container_of dictionary parts) (Err Other))
-  by true e = (some_is n count e, λ parts. refl)
-  by false e = cc
+    by : (b : Bool) → cond b (Some n) None ≡ Some count → (count ≡ n) × ((parts : List Named) → container_of dictionary parts ≡ cond b (container_of dictionary parts) (Err Other))
+    by true e = (some_is n count e, λ parts. refl)
+    by false e = cc
+
 -- ---- what is left of a list from place k on
 
 pub next_part : {A : Type 0} (f : A → Named) (xs : List A) (k : ℕ) (x : A) → k < length xs → x ≡ get_or xs k x → map f (drop k xs) ≡ f x ∷ map f (drop (k + 1) xs)

@@ -15,7 +15,7 @@ pub returns-in_err-serialize-clause-err : goal.returns-in_err-serialize-clause-e
 returns-in_err-serialize-clause-err g c =
     let parts : List Named = Ok (item.text false c.args.self.now.0.now) ∷ g.V.Serialize.written c.args.self.now.1.now ∷ g.R.Fields.parts c.args.self.now.2 in
     let broken : BreaksAll g.S.Sink.stands_at g.S.Sink.out c.args.sink.now c.serialize.new.sink parts =
-        λ n whole begun rest w. owes_broken g.S.Sink.stands_at g.S.Sink.out dictionary n whole begun _ _ _ _ w c.in_err-serialize.ensures.err in
+    λ n whole begun rest w. owes_broken g.S.Sink.stands_at g.S.Sink.out dictionary n whole begun _ _ _ _ w c.in_err-serialize.ensures.err in
     on_err _ broken
 
 pub serialize-requires-2 : goal.serialize-requires-2
@@ -27,7 +27,7 @@ pub returns-in_err-serialize-2-clause-err : goal.returns-in_err-serialize-2-clau
 returns-in_err-serialize-2-clause-err g c =
     let parts : List Named = Ok (item.text false c.args.self.now.0.now) ∷ g.V.Serialize.written c.args.self.now.1.now ∷ g.R.Fields.parts c.args.self.now.2 in
     let broken : BreaksAll g.S.Sink.stands_at g.S.Sink.out c.args.sink.now c.serialize-2.new.sink parts =
-        λ n whole begun rest w. owes_broken g.S.Sink.stands_at g.S.Sink.out dictionary n whole begun _ _ _ _ (owes_more g.S.Sink.stands_at g.S.Sink.out dictionary n whole begun _ _ _ _ w c.in_ok-serialize.ensures.ok) c.in_err-serialize-2.ensures.err in
+    λ n whole begun rest w. owes_broken g.S.Sink.stands_at g.S.Sink.out dictionary n whole begun _ _ _ _ (owes_more g.S.Sink.stands_at g.S.Sink.out dictionary n whole begun _ _ _ _ w c.in_ok-serialize.ensures.ok) c.in_err-serialize-2.ensures.err in
     on_err _ broken
 
 pub write_fields-requires : goal.write_fields-requires
@@ -40,12 +40,12 @@ pub returns-clause-ok : goal.returns-clause-ok
 returns-clause-ok g c =
     let parts : List Named = Ok (item.text false c.args.self.now.0.now) ∷ g.V.Serialize.written c.args.self.now.1.now ∷ g.R.Fields.parts c.args.self.now.2 in
     let taken : TakesAll g.S.Sink.stands_at c.serialize-2.new.sink c.write_fields.new.sink (g.R.Fields.parts c.args.self.now.2) → TakesAll g.S.Sink.stands_at c.args.sink.now c.write_fields.new.sink parts =
-        λ h n whole begun rest w. h n whole begun rest (owes_more g.S.Sink.stands_at g.S.Sink.out dictionary n whole begun _ _ _ _ (owes_more g.S.Sink.stands_at g.S.Sink.out dictionary n whole begun _ _ _ _ w c.in_ok-serialize.ensures.ok) c.in_ok-serialize-2.ensures.ok) in
+    λ h n whole begun rest w. h n whole begun rest (owes_more g.S.Sink.stands_at g.S.Sink.out dictionary n whole begun _ _ _ _ (owes_more g.S.Sink.stands_at g.S.Sink.out dictionary n whole begun _ _ _ _ w c.in_ok-serialize.ensures.ok) c.in_ok-serialize-2.ensures.ok) in
     on_ok_weaker _ taken c.write_fields.ensures.ok
 
 pub returns-clause-err : goal.returns-clause-err
 returns-clause-err g c =
     let parts : List Named = Ok (item.text false c.args.self.now.0.now) ∷ g.V.Serialize.written c.args.self.now.1.now ∷ g.R.Fields.parts c.args.self.now.2 in
     let broken : BreaksAll g.S.Sink.stands_at g.S.Sink.out c.serialize-2.new.sink c.write_fields.new.sink (g.R.Fields.parts c.args.self.now.2) → BreaksAll g.S.Sink.stands_at g.S.Sink.out c.args.sink.now c.write_fields.new.sink parts =
-        λ h n whole begun rest w. h n whole begun rest (owes_more g.S.Sink.stands_at g.S.Sink.out dictionary n whole begun _ _ _ _ (owes_more g.S.Sink.stands_at g.S.Sink.out dictionary n whole begun _ _ _ _ w c.in_ok-serialize.ensures.ok) c.in_ok-serialize-2.ensures.ok) in
+    λ h n whole begun rest w. h n whole begun rest (owes_more g.S.Sink.stands_at g.S.Sink.out dictionary n whole begun _ _ _ _ (owes_more g.S.Sink.stands_at g.S.Sink.out dictionary n whole begun _ _ _ _ w c.in_ok-serialize.ensures.ok) c.in_ok-serialize-2.ensures.ok) in
     on_err_weaker _ broken c.write_fields.ensures.err
