@@ -4,7 +4,8 @@ ghost use Rattle.std.specs.Prelude.{◌≡◌, length};
 ghost use Rattle.ciborium_value.specs.Places.{dictionary};
 ghost use Rattle.ciborium_value.specs.Sinks.{container_of, in_turn, named_value};
 ghost use Rattle.ciborium.specs.AnswerLaws.{OneAnswer};
-ghost use Rattle.ciborium.specs.CanonicalLaws.{IsCanonical, IsTotal, RiseCanonically, TiesEqualOnes};
+ghost use Rattle.ciborium.specs.CanonicalLaws.{IsCanonical, IsTotal, RiseCanonically};
+ghost use Rattle.ciborium.specs.CanonicalLaws.{TiesEqualOnes};
 ghost use Rattle.ciborium.specs.EncodingLaws.{EncodingSpells, HeadsRise, OneTree, OthersAreLonger};
 ghost use Rattle.ciborium.specs.Writes.{IsNamedWritten};
 

@@ -75,7 +75,8 @@ impl Serialize for Even {
 pub struct Open(pub Vec<u8>);
 
 impl Serialize for Open {
-    ghost written = { λ o. open_container_of sequence (map (λ n. Ok (number_item (pos n))) o.0.items) };
+    ghost written = { λ o. open_container_of sequence
+        (map (λ n. Ok (number_item (pos n))) o.0.items) };
 
     ghost takes_memory = { ⊥ };
 

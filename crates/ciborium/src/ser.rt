@@ -42,8 +42,8 @@ impl<T> From<T> for Error<T> {
 ///
 /// `Io` is the first error of the writer, `Interrupted` too, or a `WriteZero` where a write takes
 /// nothing. `Value` is the kind that a value without an item names, and `Memory` comes only from a
-/// type that takes memory. Where there is an item, a proper beginning of its bytes has gone out, and
-/// nothing else. A `Value` has an item and takes no memory: its only error is `Io`.
+/// type that takes memory. Where there is an item, a proper beginning of its bytes has gone out,
+/// and nothing else. A `Value` has an item and takes no memory: its only error is `Io`.
 pub fn into_writer<T: Serialize, W: Write>(
     value: &T,
     writer: &mut W,

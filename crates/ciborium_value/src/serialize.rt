@@ -1,7 +1,8 @@
 //! What is written.
 
 ghost use Rattle.std.specs.Prelude.{◌⊎◌, IfErr, OnErr, OnOk};
-ghost use Rattle.ciborium_value.specs.Sinks.{AddsNamed, BreaksNamed, IsGranted, IsOwed, IsReady, Named};
+ghost use Rattle.ciborium_value.specs.Sinks.{AddsNamed, BreaksNamed, IsGranted, IsOwed, IsReady};
+ghost use Rattle.ciborium_value.specs.Sinks.{Named};
 
 use crate::sink::Sink;
 
@@ -20,8 +21,9 @@ pub trait Serialize {
 
     /// Adds the value's item to the sink.
     ///
-    /// At `Ok` exactly that item was added. A value without an item is refused with its kind, and no
-    /// other value for itself. Where there is an item, a proper beginning of it went out at an error.
+    /// At `Ok` exactly that item was added. A value without an item is refused with its kind, and
+    /// no other value for itself. Where there is an item, a proper beginning of it went out at an
+    /// error.
     fn serialize<S: Sink>(&self, sink: &mut S) -> Result<(), S::Error>
         requires { IsReady S.stands_at sink.old }
         ensures ok { OnOk result (AddsNamed S.stands_at sink.old sink.new (written self.now)) }

@@ -4,7 +4,8 @@ ghost use Rattle.std.specs.Prelude.{◌≡◌, IfErr, OnErr, OnOk, negsuc, pos, 
 ghost use Rattle.ciborium_ll.specs.Item as item;
 ghost use Rattle.ciborium_value.specs.Encoding.{boolean_item};
 ghost use Rattle.ciborium_value.specs.Places.{Out, Place, dictionary, sequence};
-ghost use Rattle.ciborium_value.specs.Sinks.{Adds, Begins, Breaks, BreaksBegin, BreaksEnd, BreaksTag};
+ghost use Rattle.ciborium_value.specs.Sinks.{Adds, Begins, Breaks, BreaksBegin, BreaksEnd};
+ghost use Rattle.ciborium_value.specs.Sinks.{BreaksTag};
 ghost use Rattle.ciborium_value.specs.Sinks.{CanEnd, Cause, Ends, IsGranted, IsOutside, IsReady};
 ghost use Rattle.ciborium_value.specs.Sinks.{Tags, memory, number_item, value};
 
@@ -12,10 +13,10 @@ use crate::kind::Kind;
 
 /// Where an item is written, part by part: to bytes, or into a tree.
 ///
-/// A sink takes one item, as a container of announced length 1 would that no `end` closes. Each call
-/// adds what it says where the sink stands; that is allowed where the innermost container has room,
-/// and `end` where it is complete. At an error a proper beginning of what the call adds went out,
-/// and nothing else.
+/// A sink takes one item, as a container of announced length 1 would that no `end` closes. Each
+/// call adds what it says where the sink stands; that is allowed where the innermost container has
+/// room, and `end` where it is complete. At an error a proper beginning of what the call adds went
+/// out, and nothing else.
 pub trait Sink {
     /// Why a call is refused.
     type Error: Drop;
@@ -56,7 +57,8 @@ pub trait Sink {
         ensures ok { OnOk result (Adds stands_at self.old self.new (boolean_item boolean)) }
         ensures cause { IfErr result (λ e. IsOutside (cause e)) }
         ensures memory { IfErr result (λ e. IsGranted (cause e) takes_memory) }
-        ensures err { OnErr result (Breaks stands_at out self.old self.new (boolean_item boolean)) };
+        ensures err { OnErr result
+            (Breaks stands_at out self.old self.new (boolean_item boolean)) };
 
     /// Adds null (section 3.3).
     fn null(&mut self) -> Result<(), Self::Error>

@@ -64,9 +64,9 @@ pub fn order_of_integers()
     ensures { IntegersAsTrees }
 {}
 
-/// The bytes of every item that typed writing writes spell it, and it means the folding of its tree.
-/// So what was written is read back as the folding of what `Value::serialized` makes. A value is
-/// made into itself.
+/// The bytes of every item that typed writing writes spell it, and it means the folding of its
+/// tree. So what was written is read back as the folding of what `Value::serialized` makes. A value
+/// is made into itself.
 pub fn written_reads_back()
     ensures spells { WrittenSpells }
     ensures folds { WrittenTreeFolds }
