@@ -107,5 +107,13 @@ pub(crate) fn write_head<W: Write>(writer: &mut W, header: Header) -> io::Result
     ensures { Writes (W.contents writer.old) (W.contents writer.new) result (header_bytes header) }
 {
     let (bytes, size) = head(header);
-    write_all(writer, &bytes[..size])
+    // A write of a size that is known here is a store; one of any size would be a call that copies.
+    match size {
+        1 => write_all(writer, &bytes[..1]),
+        2 => write_all(writer, &bytes[..2]),
+        3 => write_all(writer, &bytes[..3]),
+        5 => write_all(writer, &bytes[..5]),
+        9 => write_all(writer, &bytes),
+        size => write_all(writer, &bytes[..size]),
+    }
 }
