@@ -11,7 +11,7 @@ ghost use Rattle.ciborium.specs.Writes.{IsOutFor, PutsOut, out_of, refusal_cause
 ghost use Rattle.ciborium.specs.declared.ser.byte_sink.Refusal.TheVariants.{Io};
 
 use ciborium_ll::tag::{BIGNEG, BIGPOS};
-use ciborium_ll::{Encoder, Header, simple};
+use ciborium_ll::{Encoder, Failed, Header, simple};
 use ciborium_value::bignum::without_leading_zeros;
 use ciborium_value::{Integer, Kind, Sink};
 use std::convert::TryFrom;
@@ -63,12 +63,9 @@ impl<'a, W: Write> ByteSink<'a, W> {
             (header_bytes header) }
         ensures io { IfErr result (λ e. e ≡ Io) }
     {
-        match Encoder::new(self.writer).push(header) {
+        match Encoder::new(self.writer).push_keeping(header, &mut self.failure) {
             Ok(()) => Ok(()),
-            Err(error) => {
-                self.failure = Some(error);
-                Err(Refusal::Io)
-            }
+            Err(Failed) => Err(Refusal::Io),
         }
     }
 
@@ -79,12 +76,9 @@ impl<'a, W: Write> ByteSink<'a, W> {
         ensures bytes { PutsOut W.contents self.old self.new result bytes.now }
         ensures io { IfErr result (λ e. e ≡ Io) }
     {
-        match Encoder::new(self.writer).write_all(bytes) {
+        match Encoder::new(self.writer).write_all_keeping(bytes, &mut self.failure) {
             Ok(()) => Ok(()),
-            Err(error) => {
-                self.failure = Some(error);
-                Err(Refusal::Io)
-            }
+            Err(Failed) => Err(Refusal::Io),
         }
     }
 
