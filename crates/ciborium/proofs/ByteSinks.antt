@@ -40,8 +40,8 @@ out_grows (Some n) g g' (Some x) (Some y) from bs same h k =
     let p = out_is g n x from k in
     ap (λ l. Some (g', l)) (h ∙ ap (λ l. l ++ bs) p.1) ∙ ap (λ m. Some (m, from ++ bs)) (same ∙ p.0)
   where
-  out_is : (g n : GName) (x from : List ℕ) → ◌≡◌ {A = Option (GName × List ℕ)} (Some (g, x)) (Some (n, from)) → (g ≡ n) × (x ≡ from)
-  out_is g n x from h = let e : ◌≡◌ {A = GName × List ℕ} (g, x) (n, from) = cc in (ap (λ p. p.0) e, ap (λ p. p.1) e)
+    out_is : (g n : GName) (x from : List ℕ) → ◌≡◌ {A = Option (GName × List ℕ)} (Some (g, x)) (Some (n, from)) → (g ≡ n) × (x ≡ from)
+    out_is g n x from h = let e : ◌≡◌ {A = GName × List ℕ} (g, x) (n, from) = cc in (ap (λ p. p.0) e, ap (λ p. p.1) e)
 
 -- a beginning of the bytes, and not all of them
 cut_at : (k : ℕ) (bs : List ℕ) → k < length bs → IsProperBeginning (take k bs) bs
@@ -52,11 +52,12 @@ cut_at (suc k) (b ∷ bs) h = let r = cut_at k bs (omega (arith, h)) in (r.0, r.
 out_cut : (w : Option GName) (g g' : GName) (a b : Option (List ℕ)) (from bs : List ℕ) (k : ℕ) → k < length bs → g' ≡ g → Appends a b (take k bs) → IsOutOf w (named_out g a) from → IsOutBetween w (named_out g' b) from (from ++ bs)
 out_cut None g g' a b from bs k lt same h o = tt
 out_cut (Some n) g g' a b from bs k lt same h o =
-    let c = cut_at k bs lt in
-    ( from ++ take k bs
-    , out_grows (Some n) g g' a b from (take k bs) same h o
-    , (take k bs, refl)
-    , (c.0, c.1, ap (λ l. from ++ l) c.2 ∙ sym (append_assoc from (take k bs) (c.0 ∷ c.1))))
+    let c = cut_at k bs lt in (
+      from ++ take k bs,
+      out_grows (Some n) g g' a b from (take k bs) same h o,
+      (take k bs, refl),
+      (c.0, c.1, ap (λ l. from ++ l) c.2 ∙ sym (append_assoc from (take k bs) (c.0 ∷ c.1))),
+    )
 
 module _ {W E : Type 0} (contents : W → Option (List ℕ)) (s t : ByteSink W) (same : t.writer.ghost_name ≡ s.writer.ghost_name) where
   -- from one place to another that adds these bytes
@@ -64,7 +65,7 @@ module _ {W E : Type 0} (contents : W → Option (List ℕ)) (s t : ByteSink W) 
   goes (Err e) bs p q w b st h = tt
   goes (Ok u) bs p q w b st h =
       subst (λ x. IsOutOf x (out_of contents t) (bytes_at q)) (sym w)
-        (subst (IsOutOf (writer_at p) (out_of contents t)) (sym b) (out_grows (writer_at p) _ _ _ _ (bytes_at p) bs same h st))
+      (subst (IsOutOf (writer_at p) (out_of contents t)) (sym b) (out_grows (writer_at p) _ _ _ _ (bytes_at p) bs same h st))
 
   stops : (r : Result (Unit {0}) E) (bs : List ℕ) (p q : Place) → bytes_at q ≡ bytes_at p ++ bs → IsOutAt (out_of contents s) p → PutsOut contents s t r bs → OnErr r (IsCutBetween (out_of contents t) p q)
   stops (Ok u) bs p q b st h = tt
@@ -106,23 +107,24 @@ module _ {W E : Type 0} (contents : W → Option (List ℕ)) (s t : ByteSink W) 
   ends (Err e) n h = tt
   ends (Ok u) n h = by
     where
-    by : (p : Place) → IsOutFor contents s p → IsComplete p n → IsOutFor contents t (ended p)
-    by (top name before is) st full = absurd full
-    by (tagged m p) st full = absurd full
-    by (within k m is around) st full =
-        ( goes (Ok u) (end_bytes n) (within k m is around) _ (writer_at-added around (container k (is_open m) is))
-            (bytes_at-ended k m is around full.1 ∙ ap (λ e. bytes_at (within k m is around) ++ end_bytes e) full.0) st.0 h
-        , written-added around (container k (is_open m) is) st.1.2 (written-container k m is st.1.0 st.1.1 full.1))
+      by : (p : Place) → IsOutFor contents s p → IsComplete p n → IsOutFor contents t (ended p)
+      by (top name before is) st full = absurd full
+      by (tagged m p) st full = absurd full
+      by (within k m is around) st full = (
+        goes (Ok u) (end_bytes n) (within k m is around) _ (writer_at-added around (container k (is_open m) is))
+            (bytes_at-ended k m is around full.1 ∙ ap (λ e. bytes_at (within k m is around) ++ end_bytes e) full.0) st.0 h,
+        written-added around (container k (is_open m) is) st.1.2 (written-container k m is st.1.0 st.1.1 full.1),
+      )
 
   pub breaks_end : (r : Result (Unit {0}) E) (n : Option ℕ) → PutsOut contents s t r (end_bytes n) → OnErr r (BreaksEnd (IsOutFor contents) (out_of contents) s t n)
   breaks_end (Ok u) n h = tt
   breaks_end (Err e) n h = by
     where
-    by : (p : Place) → IsOutFor contents s p → IsComplete p n → IsCutBetween (out_of contents t) p (ended p)
-    by (top name before is) st full = absurd full
-    by (tagged m p) st full = absurd full
-    by (within k m is around) st full =
-        stops (Err e) (end_bytes n) (within k m is around) _
+      by : (p : Place) → IsOutFor contents s p → IsComplete p n → IsCutBetween (out_of contents t) p (ended p)
+      by (top name before is) st full = absurd full
+      by (tagged m p) st full = absurd full
+      by (within k m is around) st full =
+          stops (Err e) (end_bytes n) (within k m is around) _
           (bytes_at-ended k m is around full.1 ∙ ap (λ e. bytes_at (within k m is around) ++ end_bytes e) full.0) st.0 h
 
 Appends-nothing : (a : Option (List ℕ)) → Appends a a []
@@ -219,7 +221,7 @@ module _ {W : Type 0} (contents : W → Option (List ℕ)) where
         let at = at_top (out_of contents s) in
         let k : IsOutOf (writer_at (added p i)) (out_of contents t) (bytes_at (added p i)) = (h p (at.0, at.1) at.2).0 in
         all_back (contents s.writer.now) s.writer.ghost_name t.writer.ghost_name t.writer.now x (written_bytes i) back
-          (subst (λ r. IsOutOf r (out_of contents t) (bytes_at p ++ written_bytes i)) (writer_at-added p i) (subst (IsOutOf (writer_at (added p i)) (out_of contents t)) (bytes_at-added p i) k))
+        (subst (λ r. IsOutOf r (out_of contents t) (bytes_at p ++ written_bytes i)) (writer_at-added p i) (subst (IsOutOf (writer_at (added p i)) (out_of contents t)) (bytes_at-added p i) k))
 
     pub wrote_part : (E : Type 0) (e : E) (n : Named) → (s.writer.ghost_name ≡ t.writer.ghost_name → x ≡ t.writer.now) → BreaksNamed (IsOutFor contents) (out_of contents) s t n → WritesNamed {E = E} (contents s.writer.now) (contents x) (Err e) n
     wrote_part E e (Err k) back h = refl
@@ -228,17 +230,17 @@ module _ {W : Type 0} (contents : W → Option (List ℕ)) where
         let at = at_top (out_of contents s) in
         let k : IsCutBetween (out_of contents t) p (added p i) = h p (at.0, at.1) at.2 in
         part_back (contents s.writer.now) s.writer.ghost_name t.writer.ghost_name t.writer.now x (written_bytes i) (written_some i) back
-          (subst (IsOutBetween (writer_at p) (out_of contents t) (bytes_at p)) (bytes_at-added p i) k)
+        (subst (IsOutBetween (writer_at p) (out_of contents t) (bytes_at p)) (bytes_at-added p i) k)
 
     pub named_written : (n : Named) → AddsNamed (IsOutFor contents) s t n → IsNamedWritten n
     named_written (Err k) h = absurd h
     named_written (Ok i) h = by (out_of contents s) refl
       where
-      by : (o : Out) → out_of contents s ≡ o → IsWritten i
-      by None e = (h (top None [] []) (subst (λ o. IsOutAt o (top None [] [])) (sym e) tt, tt) (lit< tt)).1.0
-      by (Some o) e =
-          let at = at_top (Some o) in
-          (h (top (Some o.0) o.1 []) (subst (λ o'. IsOutAt o' (top (Some o.0) o.1 [])) (sym e) at.0, tt) (lit< tt)).1.0
+        by : (o : Out) → out_of contents s ≡ o → IsWritten i
+        by None e = (h (top None [] []) (subst (λ o. IsOutAt o (top None [] [])) (sym e) tt, tt) (lit< tt)).1.0
+        by (Some o) e =
+            let at = at_top (Some o) in
+            (h (top (Some o.0) o.1 []) (subst (λ o'. IsOutAt o' (top (Some o.0) o.1 [])) (sym e) at.0, tt) (lit< tt)).1.0
 
   pub begins_ready : (s : ByteSink W) → IsReady (IsOutFor contents) s
   begins_ready s = let at = at_top (out_of contents s) in (top_of (out_of contents s), (at.0, at.1), at.2)

@@ -7,9 +7,8 @@ ghost use Rattle.ciborium.specs.declared.ser.Error.TheVariants.{Io};
 
 use byte_sink::{ByteSink, Refusal};
 use ciborium_value::Kind;
-use std::io::{self, Write};
-
 pub use ciborium_value::{Serialize, Sink};
+use std::io::{self, Write};
 
 mod byte_sink;
 

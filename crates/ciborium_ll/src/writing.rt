@@ -102,8 +102,15 @@ fn head(header: Header) -> HeadBytes
     ensures bytes { take result.1 result.0 ≡ header_bytes header }
 {
     match header {
-        Header::Positive(n) => with_argument(0, n),
-        Header::Negative(n) => with_argument(1, n),
+        // One arm, so that a sign that changes from number to number is no jump.
+        Header::Positive(n) | Header::Negative(n) => {
+            let major = if matches!(header, Header::Negative(_)) {
+                1
+            } else {
+                0
+            };
+            with_argument(major, n)
+        }
         Header::Bytes(n) => with_count(2, n),
         Header::Text(n) => with_count(3, n),
         Header::Array(n) => with_count(4, n),

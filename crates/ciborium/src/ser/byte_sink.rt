@@ -106,10 +106,7 @@ impl<'a, W: Write> ByteSink<'a, W> {
         ensures written { OnOk result (IsWritten (integer_item number)) }
         ensures in_range { IsInRange number }
     {
-        match number.head() {
-            (true, argument) => self.push(Header::Negative(argument)),
-            (false, argument) => self.push(Header::Positive(argument)),
-        }
+        self.push(integer_head(number))
     }
 
     // Writes a bignum: the tag over the bytes of the number, without leading zeros.
@@ -124,6 +121,20 @@ impl<'a, W: Write> ByteSink<'a, W> {
         let bytes = without_leading_zeros(&bytes);
         self.push(Header::Tag(tag))?;
         self.write_string(Header::Bytes(Some(bytes.len())), bytes)
+    }
+}
+
+// The head that is all of a number.
+#[inline(always)]
+fn integer_head(number: Integer) -> Header
+    ensures writable { IsWritable result }
+    ensures head { header_bytes result ≡ written_bytes (integer_item number) }
+    ensures written { IsWritten (integer_item number) }
+    ensures in_range { IsInRange number }
+{
+    match number.head() {
+        (true, argument) => Header::Negative(argument),
+        (false, argument) => Header::Positive(argument),
     }
 }
 

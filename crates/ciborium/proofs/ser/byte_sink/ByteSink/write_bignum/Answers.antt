@@ -16,7 +16,7 @@ pub returns-clause-bytes : goal.returns-clause-bytes
 returns-clause-bytes g c =
     let payload : c.without_leading_zeros-bytes.result.now ≡ shortest_bytes c.args.number = c.without_leading_zeros-bytes.ensures ∙ (ap without_zeros c.to_be_bytes-bytes.ensures ∙ shortest-is c.args.number) in
     subst (λ l. Writes (g.W.Write.contents c.args.self.now.writer.now) (g.W.Write.contents c.write_string.new.self.writer.now) c.write_string.result (shortest_head 6 c.args.tag ++ (shortest_head 2 (length l) ++ l))) payload
-      (Writes-after _ _ _ _ _ _ c.in_ok-push.ensures.bytes c.write_string.ensures.bytes)
+    (Writes-after _ _ _ _ _ _ c.in_ok-push.ensures.bytes c.write_string.ensures.bytes)
 
 pub returns-clause-written : goal.returns-clause-written
 returns-clause-written g c =
