@@ -4,7 +4,7 @@ ghost use Rattle.std.specs.Prelude.{◌≡◌, ◌++◌, IfErr, OnOk};
 ghost use Rattle.ciborium_ll.specs.Bytes.{AreBytes};
 ghost use Rattle.ciborium_ll.specs.Header.{IsWritable, header_bytes};
 ghost use Rattle.ciborium_ll.specs.Integer.{IsInRange};
-ghost use Rattle.ciborium_value.specs.Encoding.{integer_item, written_bytes};
+ghost use Rattle.ciborium_value.specs.Encoding.{boolean_item, integer_item, written_bytes};
 ghost use Rattle.ciborium_value.specs.Sinks.{bignum_item};
 ghost use Rattle.ciborium_value.specs.WrittenItems.{IsWritten};
 ghost use Rattle.ciborium.specs.Writes.{IsOutFor, PutsOut, out_of, refusal_cause};
@@ -138,6 +138,19 @@ fn integer_head(number: Integer) -> Header
     }
 }
 
+// The head that is all of a boolean.
+#[inline(always)]
+fn boolean_head(boolean: bool) -> Header
+    ensures writable { IsWritable result }
+    ensures head { header_bytes result ≡ written_bytes (boolean_item boolean) }
+    ensures written { IsWritten (boolean_item boolean) }
+{
+    match boolean {
+        false => Header::Simple(simple::FALSE),
+        true => Header::Simple(simple::TRUE),
+    }
+}
+
 impl<W: Write> Sink for ByteSink<'_, W> {
     type Error = Refusal;
 
@@ -168,10 +181,7 @@ impl<W: Write> Sink for ByteSink<'_, W> {
 
     #[inline(always)]
     fn boolean(&mut self, boolean: bool) -> Result<(), Refusal> {
-        match boolean {
-            false => self.push(Header::Simple(simple::FALSE)),
-            true => self.push(Header::Simple(simple::TRUE)),
-        }
+        self.push(boolean_head(boolean))
     }
 
     #[inline(always)]
