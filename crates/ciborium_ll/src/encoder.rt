@@ -1,11 +1,11 @@
 //! Heads and bytes to a writer.
 
-ghost use Rattle.std.specs.Prelude.{◌≡◌};
+ghost use Rattle.std.specs.Prelude.{◌≡◌, IsSome, OnErr};
 ghost use Rattle.ciborium_ll.specs.Header.{IsWritable, header_bytes};
 ghost use Rattle.ciborium_ll.specs.Writing.{HasSameWriter, Puts, writer_of};
 
 use crate::header::Header;
-use crate::writing;
+use crate::writing::{self, Failed};
 use std::io::{self, Write};
 
 /// Writes heads and payloads to a writer that it is lent (RFC 8949, section 3).
@@ -39,7 +39,14 @@ impl<'a, W: Write> Encoder<'a, W> {
         ensures same_writer { HasSameWriter self.old self.new }
         ensures bytes { Puts W.contents self.old self.new result (header_bytes header) }
     {
-        writing::write_head(self.writer, header)
+        let mut failure = None;
+        match self.push_keeping(header, &mut failure) {
+            Ok(()) => Ok(()),
+            Err(Failed) => match failure {
+                Some(error) => Err(error),
+                None => unreachable!(),
+            },
+        }
     }
 
     /// Writes the bytes as they are, such as the payload behind a string's head (RFC 8949,
@@ -51,7 +58,44 @@ impl<'a, W: Write> Encoder<'a, W> {
         ensures same_writer { HasSameWriter self.old self.new }
         ensures bytes { Puts W.contents self.old self.new result bytes.now }
     {
-        writing::write_all(self.writer, bytes)
+        let mut failure = None;
+        match self.write_all_keeping(bytes, &mut failure) {
+            Ok(()) => Ok(()),
+            Err(Failed) => match failure {
+                Some(error) => Err(error),
+                None => unreachable!(),
+            },
+        }
+    }
+
+    /// `push`, with the error kept in `failure`. An `io::Error` is large: this answer is not, for a
+    /// caller that writes many heads.
+    #[inline(always)]
+    pub fn push_keeping(
+        &mut self,
+        header: Header,
+        failure: &mut Option<io::Error>,
+    ) -> Result<(), Failed>
+        requires { IsWritable header }
+        ensures same_writer { HasSameWriter self.old self.new }
+        ensures bytes { Puts W.contents self.old self.new result (header_bytes header) }
+        ensures kept { OnErr result (IsSome failure.new) }
+    {
+        writing::write_head(self.writer, header, failure)
+    }
+
+    /// `write_all`, with the error kept in `failure`.
+    #[inline(always)]
+    pub fn write_all_keeping(
+        &mut self,
+        bytes: &[u8],
+        failure: &mut Option<io::Error>,
+    ) -> Result<(), Failed>
+        ensures same_writer { HasSameWriter self.old self.new }
+        ensures bytes { Puts W.contents self.old self.new result bytes.now }
+        ensures kept { OnErr result (IsSome failure.new) }
+    {
+        writing::write_all(self.writer, bytes, failure)
     }
 }
 

@@ -20,3 +20,4 @@ pub use decoder::Decoder;
 pub use encoder::Encoder;
 pub use header::{Error, Header, head_size};
 pub use integer::{Integer, OutOfRange};
+pub use writing::Failed;

@@ -1,6 +1,6 @@
 //! Writes by a loop of the crate's own, which no device can hold up.
 
-ghost use Rattle.std.specs.Prelude.{◌≡◌, ◌+◌, ◌*◌, ◌<◌, ◌≤◌, length, take};
+ghost use Rattle.std.specs.Prelude.{◌≡◌, ◌+◌, ◌*◌, ◌<◌, ◌≤◌, IsSome, OnErr, length, take};
 ghost use Rattle.ciborium_ll.specs.Head.{shortest_head, simple_bytes};
 ghost use Rattle.ciborium_ll.specs.Header.{IsWritable, counted_bytes, header_bytes};
 ghost use Rattle.ciborium_ll.specs.Writing.{Writes};
@@ -8,17 +8,32 @@ ghost use Rattle.ciborium_ll.specs.Writing.{Writes};
 use crate::header::Header;
 use std::io::{self, ErrorKind, Write};
 
-// Writes the bytes, and flushes nothing. A write of nothing or a fault of the device ends it.
+// A call failed, and the error was put where the caller said.
+pub struct Failed;
+
+// Writes the bytes, and flushes nothing. A write of nothing or a fault of the device ends it, and
+// its error is put into `failure`: it is large, and an answer that held it would be moved each time.
 #[inline(always)]
-pub(crate) fn write_all<W: Write>(writer: &mut W, bytes: &[u8]) -> io::Result<()>
-    ensures { Writes (W.contents writer.old) (W.contents writer.new) result bytes.now }
+pub(crate) fn write_all<W: Write>(
+    writer: &mut W,
+    bytes: &[u8],
+    failure: &mut Option<io::Error>,
+) -> Result<(), Failed>
+    ensures bytes { Writes (W.contents writer.old) (W.contents writer.new) result bytes.now }
+    ensures kept { OnErr result (IsSome failure.new) }
 {
     let mut written = 0;
     while written < bytes.len() {
         match writer.write(&bytes[written..]) {
-            Ok(0) => return Err(io::Error::from(ErrorKind::WriteZero)),
+            Ok(0) => {
+                *failure = Some(io::Error::from(ErrorKind::WriteZero));
+                return Err(Failed);
+            }
             Ok(n) => written += n,
-            Err(e) => return Err(e),
+            Err(e) => {
+                *failure = Some(e);
+                return Err(Failed);
+            }
         }
     }
     Ok(())
@@ -87,8 +102,15 @@ fn head(header: Header) -> HeadBytes
     ensures bytes { take result.1 result.0 ≡ header_bytes header }
 {
     match header {
-        Header::Positive(n) => with_argument(0, n),
-        Header::Negative(n) => with_argument(1, n),
+        // One arm, so that a sign that changes from number to number is no jump.
+        Header::Positive(n) | Header::Negative(n) => {
+            let major = if matches!(header, Header::Negative(_)) {
+                1
+            } else {
+                0
+            };
+            with_argument(major, n)
+        }
         Header::Bytes(n) => with_count(2, n),
         Header::Text(n) => with_count(3, n),
         Header::Array(n) => with_count(4, n),
@@ -102,10 +124,24 @@ fn head(header: Header) -> HeadBytes
 
 // Writes the head in its shortest form, in one write where the writer takes it whole.
 #[inline(always)]
-pub(crate) fn write_head<W: Write>(writer: &mut W, header: Header) -> io::Result<()>
+pub(crate) fn write_head<W: Write>(
+    writer: &mut W,
+    header: Header,
+    failure: &mut Option<io::Error>,
+) -> Result<(), Failed>
     requires { IsWritable header }
-    ensures { Writes (W.contents writer.old) (W.contents writer.new) result (header_bytes header) }
+    ensures bytes { Writes (W.contents writer.old) (W.contents writer.new) result
+        (header_bytes header) }
+    ensures kept { OnErr result (IsSome failure.new) }
 {
     let (bytes, size) = head(header);
-    write_all(writer, &bytes[..size])
+    // A write of a size that is known here is a store; one of any size would be a call that copies.
+    match size {
+        1 => write_all(writer, &bytes[..1], failure),
+        2 => write_all(writer, &bytes[..2], failure),
+        3 => write_all(writer, &bytes[..3], failure),
+        5 => write_all(writer, &bytes[..5], failure),
+        9 => write_all(writer, &bytes, failure),
+        size => write_all(writer, &bytes[..size], failure),
+    }
 }

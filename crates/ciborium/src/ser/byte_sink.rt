@@ -4,14 +4,14 @@ ghost use Rattle.std.specs.Prelude.{◌≡◌, ◌++◌, IfErr, OnOk};
 ghost use Rattle.ciborium_ll.specs.Bytes.{AreBytes};
 ghost use Rattle.ciborium_ll.specs.Header.{IsWritable, header_bytes};
 ghost use Rattle.ciborium_ll.specs.Integer.{IsInRange};
-ghost use Rattle.ciborium_value.specs.Encoding.{integer_item, written_bytes};
+ghost use Rattle.ciborium_value.specs.Encoding.{boolean_item, integer_item, written_bytes};
 ghost use Rattle.ciborium_value.specs.Sinks.{bignum_item};
 ghost use Rattle.ciborium_value.specs.WrittenItems.{IsWritten};
 ghost use Rattle.ciborium.specs.Writes.{IsOutFor, PutsOut, out_of, refusal_cause};
 ghost use Rattle.ciborium.specs.declared.ser.byte_sink.Refusal.TheVariants.{Io};
 
 use ciborium_ll::tag::{BIGNEG, BIGPOS};
-use ciborium_ll::{Encoder, Header, simple};
+use ciborium_ll::{Encoder, Failed, Header, simple};
 use ciborium_value::bignum::without_leading_zeros;
 use ciborium_value::{Integer, Kind, Sink};
 use std::convert::TryFrom;
@@ -63,12 +63,9 @@ impl<'a, W: Write> ByteSink<'a, W> {
             (header_bytes header) }
         ensures io { IfErr result (λ e. e ≡ Io) }
     {
-        match Encoder::new(self.writer).push(header) {
+        match Encoder::new(self.writer).push_keeping(header, &mut self.failure) {
             Ok(()) => Ok(()),
-            Err(error) => {
-                self.failure = Some(error);
-                Err(Refusal::Io)
-            }
+            Err(Failed) => Err(Refusal::Io),
         }
     }
 
@@ -79,12 +76,9 @@ impl<'a, W: Write> ByteSink<'a, W> {
         ensures bytes { PutsOut W.contents self.old self.new result bytes.now }
         ensures io { IfErr result (λ e. e ≡ Io) }
     {
-        match Encoder::new(self.writer).write_all(bytes) {
+        match Encoder::new(self.writer).write_all_keeping(bytes, &mut self.failure) {
             Ok(()) => Ok(()),
-            Err(error) => {
-                self.failure = Some(error);
-                Err(Refusal::Io)
-            }
+            Err(Failed) => Err(Refusal::Io),
         }
     }
 
@@ -112,10 +106,7 @@ impl<'a, W: Write> ByteSink<'a, W> {
         ensures written { OnOk result (IsWritten (integer_item number)) }
         ensures in_range { IsInRange number }
     {
-        match number.head() {
-            (true, argument) => self.push(Header::Negative(argument)),
-            (false, argument) => self.push(Header::Positive(argument)),
-        }
+        self.push(integer_head(number))
     }
 
     // Writes a bignum: the tag over the bytes of the number, without leading zeros.
@@ -130,6 +121,33 @@ impl<'a, W: Write> ByteSink<'a, W> {
         let shortest = without_leading_zeros(&bytes);
         self.push(Header::Tag(tag))?;
         self.write_string(Header::Bytes(Some(shortest.len())), shortest)
+    }
+}
+
+// The head that is all of a number.
+#[inline(always)]
+fn integer_head(number: Integer) -> Header
+    ensures writable { IsWritable result }
+    ensures head { header_bytes result ≡ written_bytes (integer_item number) }
+    ensures written { IsWritten (integer_item number) }
+    ensures in_range { IsInRange number }
+{
+    match number.head() {
+        (true, argument) => Header::Negative(argument),
+        (false, argument) => Header::Positive(argument),
+    }
+}
+
+// The head that is all of a boolean.
+#[inline(always)]
+fn boolean_head(boolean: bool) -> Header
+    ensures writable { IsWritable result }
+    ensures head { header_bytes result ≡ written_bytes (boolean_item boolean) }
+    ensures written { IsWritten (boolean_item boolean) }
+{
+    match boolean {
+        false => Header::Simple(simple::FALSE),
+        true => Header::Simple(simple::TRUE),
     }
 }
 
@@ -163,10 +181,7 @@ impl<W: Write> Sink for ByteSink<'_, W> {
 
     #[inline(always)]
     fn boolean(&mut self, boolean: bool) -> Result<(), Refusal> {
-        match boolean {
-            false => self.push(Header::Simple(simple::FALSE)),
-            true => self.push(Header::Simple(simple::TRUE)),
-        }
+        self.push(boolean_head(boolean))
     }
 
     #[inline(always)]

@@ -1,9 +1,9 @@
-//! Lists, tuples and maps.
+//! Lists, tuples, maps and tags.
 
 ghost use Rattle.std.specs.Prelude.{◌∷◌, ◌⊎◌, [], IfErr, OnErr, OnOk, map};
 ghost use Rattle.ciborium_value.specs.Places.{dictionary, sequence};
 ghost use Rattle.ciborium_value.specs.Sinks.{AddsNamed, BreaksNamed, IsGranted, IsOwed, IsReady};
-ghost use Rattle.ciborium_value.specs.Sinks.{container_of, in_turn};
+ghost use Rattle.ciborium_value.specs.Sinks.{container_of, in_turn, tag_of};
 
 use super::Serialize;
 use crate::sink::Sink;
@@ -124,4 +124,22 @@ pub(super) fn serialize_pairs<K: Serialize, V: Serialize, S: Sink>(
         pair.1.serialize(sink)?;
     }
     sink.end(count)
+}
+
+// Adds the content under a tag.
+pub(super) fn serialize_tagged<T: Serialize, S: Sink>(
+    tag: u64,
+    content: &T,
+    sink: &mut S,
+) -> Result<(), S::Error>
+    requires { IsReady S.stands_at sink.old }
+    ensures ok { OnOk result (AddsNamed S.stands_at sink.old sink.new
+        (tag_of tag (T.written content.now))) }
+    ensures cause { IfErr result (λ e. IsOwed (S.cause e) (tag_of tag (T.written content.now))) }
+    ensures memory { IfErr result (λ e. IsGranted (S.cause e) (S.takes_memory ⊎ T.takes_memory)) }
+    ensures err { OnErr result (BreaksNamed S.stands_at S.out sink.old sink.new
+        (tag_of tag (T.written content.now))) }
+{
+    sink.tag(tag)?;
+    content.serialize(sink)
 }

@@ -15,6 +15,7 @@ impl Serialize for bool {
 
     ghost takes_memory = { ⊥ };
 
+    #[inline(always)]
     fn serialize<S: Sink>(&self, sink: &mut S) -> Result<(), S::Error> {
         sink.boolean(*self)
     }
@@ -26,6 +27,7 @@ impl Serialize for () {
 
     ghost takes_memory = { ⊥ };
 
+    #[inline(always)]
     fn serialize<S: Sink>(&self, sink: &mut S) -> Result<(), S::Error> {
         sink.null()
     }
@@ -37,6 +39,7 @@ impl Serialize for char {
 
     ghost takes_memory = { ⊥ };
 
+    #[inline(always)]
     fn serialize<S: Sink>(&self, sink: &mut S) -> Result<(), S::Error> {
         let mut room = [0; 4];
         sink.text(self.encode_utf8(&mut room))
@@ -49,6 +52,7 @@ impl Serialize for &str {
 
     ghost takes_memory = { ⊥ };
 
+    #[inline(always)]
     fn serialize<S: Sink>(&self, sink: &mut S) -> Result<(), S::Error> {
         sink.text(self)
     }
@@ -60,6 +64,7 @@ impl Serialize for String {
 
     ghost takes_memory = { ⊥ };
 
+    #[inline(always)]
     fn serialize<S: Sink>(&self, sink: &mut S) -> Result<(), S::Error> {
         sink.text(self)
     }
@@ -71,6 +76,7 @@ impl Serialize for ByteBuf {
 
     ghost takes_memory = { ⊥ };
 
+    #[inline(always)]
     fn serialize<S: Sink>(&self, sink: &mut S) -> Result<(), S::Error> {
         sink.bytes(&self.0)
     }
@@ -82,6 +88,7 @@ impl<T: Serialize> Serialize for &T {
 
     ghost takes_memory = { T.takes_memory };
 
+    #[inline(always)]
     fn serialize<S: Sink>(&self, sink: &mut S) -> Result<(), S::Error> {
         (**self).serialize(sink)
     }
@@ -93,6 +100,7 @@ impl<T: Serialize> Serialize for Option<T> {
 
     ghost takes_memory = { T.takes_memory };
 
+    #[inline(always)]
     fn serialize<S: Sink>(&self, sink: &mut S) -> Result<(), S::Error> {
         match self {
             Some(content) => content.serialize(sink),

@@ -3,7 +3,7 @@
 ghost use Rattle.ciborium_value.specs.Sinks.{named_value};
 
 use super::Serialize;
-use super::containers::serialize_pairs;
+use super::containers::{serialize_pairs, serialize_tagged};
 use crate::sink::Sink;
 use crate::tree::Value;
 
@@ -13,6 +13,7 @@ impl Serialize for Value {
 
     ghost takes_memory = { ⊥ };
 
+    #[inline(always)]
     fn serialize<S: Sink>(&self, sink: &mut S) -> Result<(), S::Error> {
         match self {
             Value::Integer(number) => sink.integer(i128::from(*number)),
@@ -20,10 +21,7 @@ impl Serialize for Value {
             Value::Text(text) => sink.text(text),
             Value::Bool(boolean) => sink.boolean(*boolean),
             Value::Null => sink.null(),
-            Value::Tag(tag, content) => {
-                sink.tag(*tag)?;
-                content.serialize(sink)
-            }
+            Value::Tag(tag, content) => serialize_tagged(*tag, &**content, sink),
             Value::Array(items) => items.serialize(sink),
             Value::Map(pairs) => serialize_pairs(pairs, sink),
         }
