@@ -8,7 +8,7 @@ ghost use Rattle.ciborium_ll.specs.Writing.{Writes};
 use crate::header::Header;
 use std::io::{self, ErrorKind, Write};
 
-// A call failed, and the error was put where the caller said.
+/// A call failed, and put the error where its caller said.
 pub struct Failed;
 
 // Writes the bytes, and flushes nothing. A write of nothing or a fault of the device ends it, and
