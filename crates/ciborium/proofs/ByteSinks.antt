@@ -1,5 +1,5 @@
 -- The steps of the sink over a writer, and what it hands back.
-use Rattle.std.proofs.Common.{Bool, true, false, cond, nat_lt, ◌≡◌, ℕ, zero, suc, ◌+◌, ◌<◌, List, [], ◌∷◌, ◌++◌, length, take, Option, Some, None, Result, Ok, Err, OnOk, OnErr, get_or, refl, sym, ◌∙◌, ap, subst, append_assoc, append-nil, arith, lit<, length-append}
+use Rattle.std.proofs.Common.{◌≡◌, ℕ, zero, suc, ◌+◌, ◌<◌, List, [], ◌∷◌, ◌++◌, length, take, Option, Some, None, Result, Ok, Err, OnOk, OnErr, get_or, refl, sym, ◌∙◌, ap, subst, append_assoc, append-nil, arith, lit<, length-append}
 use Rattle.std.proofs.lemmas.Grind.{get_or_default_zero}
 use Rattle.std.specs.Borrow.{GName}
 use Rattle.std.specs.Io.KnownBytes.{Appends}
@@ -7,16 +7,16 @@ use mir.Syntax.{w8}
 use mir.Val.{Fits as IsHeld}
 use Rattle.ciborium_ll.specs.Bytes.{AreBytes}
 use Rattle.ciborium_ll.specs.Head.{shortest_head}
-use Rattle.ciborium_ll.specs.Item.{Item, unsigned, negative, bytes, text, array, map, tag, simple, float, items_count, pairs_count}
+use Rattle.ciborium_ll.specs.Item.{Item}
 use Rattle.ciborium_ll.specs.Proper.{IsArgument}
-use Rattle.ciborium_value.specs.Encoding.{written_bytes, enclosed, string_bytes, items_bytes, pairs_bytes}
+use Rattle.ciborium_value.specs.Encoding.{written_bytes}
 use Rattle.std.specs.Int.{to_be_bytes, w128}
 use Rattle.ciborium_value.specs.Meaning.{without_zeros}
 use Rattle.ciborium_value.specs.Number.{shortest_bytes}
 use Rattle.ciborium_value.specs.Places.{Shape, container, begin_bytes, end_bytes, is_open, Place, top, within, tagged, HasRoom, added, ended, IsComplete, IsWrittenPlace, Fits, bytes_at, writer_at, Out, IsOutOf, IsOutAt, IsOutBetween, IsCutBetween, IsProperBeginning}
 use Rattle.ciborium_value.specs.Sinks.{Named, IsReady, Adds, Begins, Tags, Ends, Breaks, BreaksBegin, BreaksTag, BreaksEnd, AddsNamed, BreaksNamed}
 use Rattle.ciborium_value.specs.WrittenItems.{IsWritten}
-use Rattle.ciborium_value.proofs.Standing.{bytes_at-added, bytes_at-within, bytes_at-tagged, bytes_at-ended, bytes_at-top, writer_at-added}
+use Rattle.ciborium_value.proofs.Standing.{bytes_at-added, bytes_at-within, bytes_at-tagged, bytes_at-ended, bytes_at-top, writer_at-added, written_some}
 use Rattle.ciborium.specs.Writes.{WritesNamed, IsNamedWritten, named_out, out_of, PutsOut, IsOutFor}
 use Rattle.ciborium.specs.declared.ser.byte_sink.ByteSink.{ByteSink}
 use Rattle.ciborium.proofs.WrittenPlaces.{written-added, written-container}
@@ -135,38 +135,6 @@ Appends-nothing (Some a) = sym (append-nil a)
 pub ends_silently : {W : Type 0} (contents : W → Option (List ℕ)) (s : ByteSink W) (n : Option ℕ) (m : ℕ) → n ≡ Some m → Ends (IsOutFor contents) s s n
 ends_silently contents s n m is =
     ends {E = Unit {0}} contents s s refl (Ok tt) n (subst (λ k. PutsOut {E = Unit {0}} contents s s (Ok tt) (end_bytes k)) (sym is) (Appends-nothing (contents s.writer.now)))
-
--- ---- no item has an empty spelling
-
-head_some : (major n : ℕ) (rest : List ℕ) → 0 < length (shortest_head major n ++ rest)
-unfolding shortest_head
-head_some major n rest = omega arith
-
-enclosed_some : (open_ : Bool) (major count : ℕ) (r : List ℕ) → 0 < length (enclosed open_ major count r)
-enclosed_some false major count r = head_some major count r
-enclosed_some true major count r = omega arith
-
-string_some : (open_ : Bool) (major : ℕ) (b : List ℕ) → 0 < length (string_bytes open_ major b)
-string_some false major b = head_some major (length b) b
-string_some true major b = omega arith
-
-lone_head_some : (major n : ℕ) → 0 < length (shortest_head major n)
-lone_head_some major n = subst (λ l. 0 < length l) (append-nil (shortest_head major n)) (head_some major n [])
-
-chosen_some : (c : Bool) (a b : List ℕ) → 0 < length a → 0 < length b → 0 < length (cond c a b)
-chosen_some true a b h k = h
-chosen_some false a b h k = k
-
-written_some : (i : Item) → 0 < length (written_bytes i)
-written_some (unsigned n) = lone_head_some 0 n
-written_some (negative n) = lone_head_some 1 n
-written_some (bytes open_ b) = string_some open_ 2 b
-written_some (text open_ b) = string_some open_ 3 b
-written_some (array open_ is) = enclosed_some open_ 4 (items_count is) (items_bytes is)
-written_some (map open_ ps) = enclosed_some open_ 5 (pairs_count ps) (pairs_bytes ps)
-written_some (tag t i) = head_some 6 t (written_bytes i)
-written_some (simple n) = chosen_some (nat_lt n 24) _ _ (lit< tt) (lit< tt)
-written_some (float raw) = chosen_some (nat_lt (length raw) 3) _ _ (omega arith) (chosen_some (nat_lt (length raw) 5) _ _ (omega arith) (omega arith))
 
 -- ---- the top
 

@@ -70,6 +70,23 @@ impl Serialize for Even {
     }
 }
 
+/// A text that is copied before it is written, which takes memory.
+#[derive(Debug, Drop)]
+pub struct Copied(pub String);
+
+impl Serialize for Copied {
+    ghost written = { λ c. named_text (string_bytes c.0) };
+
+    ghost takes_memory = { Unit {0} };
+
+    fn serialize<S: Sink>(&self, sink: &mut S) -> Result<(), S::Error> {
+        match self.0.clone() {
+            Ok(copy) => copy.serialize(sink),
+            Err(_) => Err(sink.memory()),
+        }
+    }
+}
+
 /// Numbers in an open array.
 #[derive(Debug, Drop)]
 pub struct Open(pub Vec<u8>);

@@ -1,7 +1,7 @@
 //! Rows of typed writing: to bytes and into a tree.
 use crate::callers::{bytes_of_message, only_item, save, write_value};
 use crate::into_writer;
-use crate::own_types::{Even, Figure, Message, Open, OpenMap};
+use crate::own_types::{Copied, Even, Figure, Message, Open, OpenMap};
 use crate::ser::{self, Serialize};
 use crate::small_devices::{Sink, decode_hex};
 use crate::value::{ByteBuf, CanonicalValue, Error, Kind, Value};
@@ -132,6 +132,12 @@ fn own_types(rt: HostRuntime) -> Result<(), Fail> {
     let map = OpenMap(make_map(alloc, vec![in alloc; (1u8, 2u8)]?)?);
     check(alloc, &map, "bf0102ff", "a10102")?;
     check(alloc, &Even(2), "02", "02")?;
+    check(
+        alloc,
+        &Copied(String::from_str(alloc, "a")?),
+        "6161",
+        "6161",
+    )?;
     check(alloc, &Figure::Point, "65506f696e74", "65506f696e74")?;
     check(
         alloc,

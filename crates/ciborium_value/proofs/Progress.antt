@@ -3,13 +3,13 @@ use Rattle.std.proofs.Common.{Bool, true, cond, nat_le, ◌≡◌, ℕ, ◌+◌,
 use Rattle.std.proofs.lemmas.List.{drop_all}
 use Rattle.ciborium_ll.specs.Item as item
 use Rattle.ciborium_ll.specs.Item.{Item}
-use Rattle.ciborium_value.specs.Places.{Shape, sequence, dictionary, size_of, container, Place, within, tagged, HasRoom, added, is_open, IsFull, Out}
+use Rattle.ciborium_value.specs.Places.{Shape, sequence, dictionary, size_of, container, Place, within, tagged, HasRoom, added, is_open, IsFull, IsOutAt, Out}
 use Rattle.ciborium_value.specs.Progress.{oks, IsSized, Owes, field_count, record_of}
 use Rattle.ciborium_value.specs.Sinks.{Named, and_then, all_named, contained, container_of, in_turn, tag_of, Cause, value, memory, device, IsOwed, IsReady, Begins, Tags, CanEnd, Ends, Breaks, BreaksBegin, BreaksTag, BreaksEnd, AddsNamed, BreaksNamed}
 use Rattle.ciborium_value.specs.declared.kind.Kind.{Kind}
 use Rattle.ciborium_value.specs.declared.kind.Kind.TheVariants.{Other}
 use Rattle.ciborium_ll.specs.Bytes.{greatest_offset}
-use Rattle.ciborium_value.proofs.Standing.{IsBefore, before_itself, before_within, before_full, before_tagged, tagged_before, cut_wider}
+use Rattle.ciborium_value.proofs.Standing.{IsBefore, before_itself, before_within, before_full, before_tagged, tagged_before, cut_nothing, cut_wider}
 
 -- ---- results
 
@@ -181,6 +181,12 @@ next_pair f g es k e lt is =
 
 pub no_pair : {A B : Type 0} (f : A → Named) (g : B → Named) (es : List (A × B)) (k : ℕ) → length es ≤ k → in_turn f g (drop k es) ≡ []
 no_pair f g es k le = ap (in_turn f g) (drop_all k es le)
+
+-- ---- a refusal before anything was written
+
+pub broken_before : {S : Type 0} (StandsAt : S → Place → Type 0) (out : S → Out) (s : S) (n : Named) → ((s : S) (p : Place) → StandsAt s p → IsOutAt (out s) p) → BreaksNamed StandsAt out s s n
+broken_before StandsAt out s (Err k) shows = tt
+broken_before StandsAt out s (Ok i) shows = λ p st room. cut_nothing (out s) p i (shows s p st)
 
 -- ---- a tag and its content
 

@@ -1,11 +1,11 @@
 -- Places of a sink and the bytes that are out at them.
-use Rattle.std.proofs.Common.{◌≡◌, ℕ, zero, suc, ◌+◌, List, [], ◌∷◌, ◌++◌, length, Option, Some, None, refl, sym, ◌∙◌, ap, append_assoc, append-nil, arith}
+use Rattle.std.proofs.Common.{Bool, true, false, cond, nat_lt, lit<, ◌≡◌, ℕ, zero, suc, ◌+◌, List, [], ◌∷◌, ◌++◌, length, ◌<◌, Option, Some, None, refl, sym, ◌∙◌, ap, subst, append_assoc, append-nil, arith}
 use Rattle.std.specs.Borrow.{GName}
 use Rattle.ciborium_ll.specs.Head.{shortest_head, open_byte, break_byte}
 use Rattle.ciborium_ll.specs.Item as item
 use Rattle.ciborium_ll.specs.Item.{Item, Items, Pairs, items_count, pairs_count}
-use Rattle.ciborium_value.specs.Encoding.{written_bytes, items_bytes, pairs_bytes}
-use Rattle.ciborium_value.specs.Places.{Shape, sequence, dictionary, items_from, pairs_from, container, begin_bytes, end_bytes, is_open, Place, top, within, tagged, added, ended, IsFull, bytes_at, writer_at, IsBeginning, IsProperBeginning, Out, IsOutBetween, IsCutBetween}
+use Rattle.ciborium_value.specs.Encoding.{written_bytes, items_bytes, pairs_bytes, enclosed, string_bytes}
+use Rattle.ciborium_value.specs.Places.{Shape, sequence, dictionary, items_from, pairs_from, container, begin_bytes, end_bytes, is_open, Place, top, within, tagged, added, ended, IsFull, bytes_at, writer_at, IsBeginning, IsProperBeginning, Out, IsOutOf, IsOutAt, IsOutBetween, IsCutBetween}
 
 -- ---- the bytes of items in a row
 
@@ -128,3 +128,50 @@ out_wider (Some n) (Some m) out a a' b' b same h k l =
 
 pub cut_wider : (out : Out) (p p' q' q : Place) → IsBefore p p' → writer_at p' ≡ writer_at p → IsBefore q' q → IsCutBetween out p' q' → IsCutBetween out p q
 cut_wider out p p' q' q h same k b = out_wider (writer_at p) (writer_at p') out _ _ _ _ same h k b
+
+-- ---- no item has an empty spelling
+
+head_some : (major n : ℕ) (rest : List ℕ) → 0 < length (shortest_head major n ++ rest)
+unfolding shortest_head
+head_some major n rest = omega arith
+
+enclosed_some : (open_ : Bool) (major count : ℕ) (r : List ℕ) → 0 < length (enclosed open_ major count r)
+enclosed_some false major count r = head_some major count r
+enclosed_some true major count r = omega arith
+
+string_some : (open_ : Bool) (major : ℕ) (b : List ℕ) → 0 < length (string_bytes open_ major b)
+string_some false major b = head_some major (length b) b
+string_some true major b = omega arith
+
+lone_head_some : (major n : ℕ) → 0 < length (shortest_head major n)
+lone_head_some major n = subst (λ l. 0 < length l) (append-nil (shortest_head major n)) (head_some major n [])
+
+chosen_some : (c : Bool) (a b : List ℕ) → 0 < length a → 0 < length b → 0 < length (cond c a b)
+chosen_some true a b h k = h
+chosen_some false a b h k = k
+
+pub written_some : (i : Item) → 0 < length (written_bytes i)
+written_some (item.unsigned n) = lone_head_some 0 n
+written_some (item.negative n) = lone_head_some 1 n
+written_some (item.bytes open_ b) = string_some open_ 2 b
+written_some (item.text open_ b) = string_some open_ 3 b
+written_some (item.array open_ is) = enclosed_some open_ 4 (items_count is) (items_bytes is)
+written_some (item.map open_ ps) = enclosed_some open_ 5 (pairs_count ps) (pairs_bytes ps)
+written_some (item.tag t i) = head_some 6 t (written_bytes i)
+written_some (item.simple n) = chosen_some (nat_lt n 24) _ _ (lit< tt) (lit< tt)
+written_some (item.float raw) = chosen_some (nat_lt (length raw) 3) _ _ (omega arith) (chosen_some (nat_lt (length raw) 5) _ _ (omega arith) (omega arith))
+
+-- ---- nothing of an item is out
+
+split : (b : List ℕ) → 0 < length b → (c : ℕ) × (rest : List ℕ) × (b ≡ c ∷ rest)
+split [] h = absurd (omega (arith, h))
+split (c ∷ rest) h = (c, rest, refl)
+
+pub cut_nothing : (out : Out) (p : Place) (i : Item) → IsOutAt out p → IsCutBetween out p (added p i)
+cut_nothing out p i h = by (writer_at p) h
+  where
+    by : (w : Option GName) → IsOutOf w out (bytes_at p) → IsOutBetween w out (bytes_at p) (bytes_at (added p i))
+    by None h = tt
+    by (Some name) h =
+        let s = split (written_bytes i) (written_some i) in
+        (bytes_at p, h, ([], sym (append-nil (bytes_at p))), (s.0, s.1, bytes_at-added p i ∙ ap (λ b. bytes_at p ++ b) s.2))

@@ -1,10 +1,11 @@
 -- What a sink over a tree has built at a place.
+use Rattle.std.proofs.Common.{sym, subst}
 use Rattle.std.specs.Prelude.{◌≡◌, ℕ, zero, suc, List, [], ◌∷◌, Option, Some, None, Ok, Err}
 use Rattle.ciborium_ll.specs.Item.{Item}
 use Rattle.ciborium_value.specs.Encoding.{written_tree}
 use Rattle.ciborium_value.specs.Open as open_
 use Rattle.ciborium_value.specs.Open.{Placed, done, more, placed}
-use Rattle.ciborium_value.specs.Places.{Shape, sequence, dictionary, Place, top, within, tagged, HasRoom, writer_at, Out}
+use Rattle.ciborium_value.specs.Places.{Shape, sequence, dictionary, Place, top, within, tagged, HasRoom, writer_at, bytes_at, Out, IsOutOf, IsOutAt}
 use Rattle.ciborium_value.specs.Sinks.{Named, Cause, value, memory}
 use Rattle.ciborium_value.specs.Stack.{opens_of, placed_of}
 use Rattle.ciborium_value.specs.Tree as trees
@@ -66,6 +67,9 @@ IsBuiltAt s p = (writer_at p ≡ None) × IsSound p × (state_of s ≡ built p)
 -- a tree has no bytes out
 abbrev pub no_out : TreeSink → Out
 no_out s = None
+
+pub nothing_shown : (s : TreeSink) (p : Place) → IsBuiltAt s p → IsOutAt (no_out s) p
+nothing_shown s p h = subst (λ w. IsOutOf w None (bytes_at p)) (sym h.0) tt
 
 abbrev pub cause_of : Error → Cause
 cause_of (Custom k) = value k

@@ -4,7 +4,8 @@ ghost use Rattle.std.specs.Prelude.{◌≡◌, ◌∷◌, IfErr, IfOk, OnOk};
 ghost use Rattle.ciborium_value.specs.Open.{placed};
 ghost use Rattle.ciborium_value.specs.Sinks.{Cause, IsOwed, memory};
 ghost use Rattle.ciborium_value.specs.Stack.{opened, opens_of};
-ghost use Rattle.ciborium_value.specs.TreeSinks.{IsBuiltAt, IsTreeOf, cause_of, no_out, state_of};
+ghost use Rattle.ciborium_value.specs.TreeSinks.{IsBuiltAt, IsTreeOf, cause_of, no_out, nothing_shown};
+ghost use Rattle.ciborium_value.specs.TreeSinks.{state_of};
 ghost use Rattle.ciborium_value.specs.View.{tree_of};
 ghost use Rattle.ciborium_value.specs.declared.serialized.Error.TheVariants.{Memory};
 
@@ -98,6 +99,8 @@ impl Sink for TreeSink {
     ghost takes_memory = { Unit {0} };
 
     ghost cause = { cause_of };
+
+    ghost shows = { nothing_shown };
 
     fn integer(&mut self, number: i128) -> Result<(), Error> {
         let value = Value::from_i128(self.alloc, number)?;

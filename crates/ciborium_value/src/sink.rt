@@ -3,7 +3,7 @@
 ghost use Rattle.std.specs.Prelude.{◌≡◌, IfErr, OnErr, OnOk, negsuc, pos, false};
 ghost use Rattle.ciborium_ll.specs.Item as item;
 ghost use Rattle.ciborium_value.specs.Encoding.{boolean_item};
-ghost use Rattle.ciborium_value.specs.Places.{Out, Place, dictionary, sequence};
+ghost use Rattle.ciborium_value.specs.Places.{IsOutAt, Out, Place, dictionary, sequence};
 ghost use Rattle.ciborium_value.specs.Sinks.{Adds, Begins, Breaks, BreaksBegin, BreaksEnd};
 ghost use Rattle.ciborium_value.specs.Sinks.{BreaksTag};
 ghost use Rattle.ciborium_value.specs.Sinks.{CanEnd, Cause, Ends, IsGranted, IsOutside, IsReady};
@@ -125,4 +125,7 @@ pub trait Sink {
     /// The error for a growth that an implementation of `Serialize` was refused.
     fn memory(&self) -> Self::Error
         ensures { cause result ≡ memory };
+
+    // Where the bytes are known, just those of the place are out.
+    ghost shows: { (sink : Self) (p : Place) → stands_at sink p → IsOutAt (out sink) p };
 }

@@ -162,6 +162,8 @@ impl<W: Write> Sink for ByteSink<'_, W> {
 
     ghost cause = { refusal_cause };
 
+    ghost shows = { λ s p at. at.0 };
+
     #[inline(always)]
     fn integer(&mut self, number: i128) -> Result<(), Refusal> {
         match Integer::try_from(number) {
