@@ -2,8 +2,8 @@
 ghost use Rattle.std.specs.Prelude.{◌∷◌, ◌%◌, Err, Ok, [], codes, if◌then◌else◌, map, nat_eq, pos};
 ghost use Rattle.std.specs.Prelude.{string_bytes};
 ghost use Rattle.ciborium_value.specs.Places.{dictionary, sequence};
-ghost use Rattle.ciborium_value.specs.Sinks.{fields_of, in_turn, named_text, number_item};
-ghost use Rattle.ciborium_value.specs.Sinks.{open_container_of};
+ghost use Rattle.ciborium_value.specs.Sinks.{container_of, fields_of, in_turn, named_text};
+ghost use Rattle.ciborium_value.specs.Sinks.{number_item, open_container_of};
 ghost use Rattle.ciborium_value.specs.declared.kind.Kind.TheVariants.{Other};
 ghost use Rattle.ciborium.specs.declared.own_types.Figure.TheVariants.{Circle, Point};
 
@@ -26,6 +26,24 @@ impl Serialize for Message {
 
     fn serialize<S: Sink>(&self, sink: &mut S) -> Result<(), S::Error> {
         Field("version", &self.version, Field("body", &self.body, NoField)).serialize(sink)
+    }
+}
+
+/// A struct: an array of its fields.
+#[derive(Debug, Drop)]
+pub struct Position {
+    pub x: i16,
+    pub name: String,
+}
+
+impl Serialize for Position {
+    ghost written = { λ p. container_of sequence
+        (Ok (number_item p.x) ∷ named_text (string_bytes p.name) ∷ []) };
+
+    ghost takes_memory = { ⊥ };
+
+    fn serialize<S: Sink>(&self, sink: &mut S) -> Result<(), S::Error> {
+        (&self.x, &self.name).serialize(sink)
     }
 }
 

@@ -1,7 +1,7 @@
 //! Rows of typed writing: to bytes and into a tree.
 use crate::callers::{bytes_of_message, only_item, save, write_value};
 use crate::into_writer;
-use crate::own_types::{Copied, Even, Figure, Message, Open, OpenMap};
+use crate::own_types::{Copied, Even, Figure, Message, Open, OpenMap, Position};
 use crate::ser::{self, Serialize};
 use crate::small_devices::{Sink, decode_hex};
 use crate::value::{ByteBuf, CanonicalValue, Error, Kind, Value};
@@ -138,6 +138,8 @@ fn own_types(rt: HostRuntime) -> Result<(), Fail> {
         "6161",
         "6161",
     )?;
+    let name = String::from_str(alloc, "a")?;
+    check(alloc, &Position { x: -1, name }, "82206161", "82206161")?;
     check(alloc, &Figure::Point, "65506f696e74", "65506f696e74")?;
     check(
         alloc,
