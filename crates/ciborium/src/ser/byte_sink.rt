@@ -1,6 +1,6 @@
 //! A writer as what is written to.
 
-ghost use Rattle.std.specs.Prelude.{◌≡◌, ◌++◌, IfErr, OnOk};
+ghost use Rattle.std.specs.Prelude.{◌≡◌, ◌++◌, IfErr, IfSome, OnOk};
 ghost use Rattle.ciborium_ll.specs.Bytes.{AreBytes};
 ghost use Rattle.ciborium_ll.specs.Header.{IsWritable, header_bytes};
 ghost use Rattle.ciborium_ll.specs.Integer.{IsInRange};
@@ -46,7 +46,8 @@ impl<'a, W: Write> ByteSink<'a, W> {
 
     // The error that the writer gave. There is one wherever a call was refused as `Io`.
     pub(super) fn take_failure(&mut self) -> io::Error
-        ensures { self.new.writer ≡ self.old.writer }
+        ensures given { IfSome self.old.failure (λ error. result ≡ error) }
+        ensures writer { self.new.writer ≡ self.old.writer }
     {
         match self.failure.take() {
             Some(error) => error,

@@ -23,7 +23,7 @@ pub returns-in-Err-Io-clause-bytes : goal.returns-in-Err-Io-clause-bytes
 returns-in-Err-Io-clause-bytes g c =
     let held = c.writer-in-Err-Io-1.given in
     subst (λ w. WritesNamed {E = Error IoError} (g.W.Write.contents w) (g.W.Write.contents held.0) (Err (Io c.take_failure.result)) (g.T.Serialize.written c.args.value.now)) c.new-sink.ensures.unchanged
-    (wrote_part g.W.Write.contents c.new-sink.result c.serialize.new.sink held.0 (Error IoError) (Io c.take_failure.result) (g.T.Serialize.written c.args.value.now) (λ e. held.1 (sym c.new-sink.ensures.same_writer ∙ (e ∙ ap (λ w. w.ghost_name) (sym c.take_failure.ensures))) ∙ ap (λ w. w.now) c.take_failure.ensures) c.in-Err-Io.ensures.err)
+    (wrote_part g.W.Write.contents c.new-sink.result c.serialize.new.sink held.0 (Error IoError) (Io c.take_failure.result) (g.T.Serialize.written c.args.value.now) (λ e. held.1 (sym c.new-sink.ensures.same_writer ∙ (e ∙ ap (λ w. w.ghost_name) (sym c.take_failure.ensures.writer))) ∙ ap (λ w. w.now) c.take_failure.ensures.writer) c.in-Err-Io.ensures.err)
 
 pub returns-in-Err-Memory-clause-bytes : goal.returns-in-Err-Memory-clause-bytes
 returns-in-Err-Memory-clause-bytes g c =
