@@ -12,7 +12,8 @@ use std::io::{self, ErrorKind, Write};
 pub struct Failed;
 
 // Writes the bytes, and flushes nothing. A write of nothing or a fault of the device ends it, and
-// its error is put into `failure`: it is large, and an answer that held it would be moved each time.
+// its error is put into `failure`: it is large, and an answer that held it would be moved each
+// time.
 #[inline(always)]
 pub(crate) fn write_all<W: Write>(
     writer: &mut W,

@@ -4,8 +4,8 @@ ghost use Rattle.std.specs.Prelude.{◌≡◌, ◌∷◌, IfErr, IfOk, OnOk};
 ghost use Rattle.ciborium_value.specs.Open.{placed};
 ghost use Rattle.ciborium_value.specs.Sinks.{Cause, IsOwed, memory};
 ghost use Rattle.ciborium_value.specs.Stack.{opened, opens_of};
-ghost use Rattle.ciborium_value.specs.TreeSinks.{IsBuiltAt, IsTreeOf, cause_of, no_out, nothing_shown};
-ghost use Rattle.ciborium_value.specs.TreeSinks.{state_of};
+ghost use Rattle.ciborium_value.specs.TreeSinks.{IsBuiltAt, IsTreeOf, cause_of, no_out};
+ghost use Rattle.ciborium_value.specs.TreeSinks.{nothing_shown, state_of};
 ghost use Rattle.ciborium_value.specs.View.{tree_of};
 ghost use Rattle.ciborium_value.specs.declared.serialized.Error.TheVariants.{Memory};
 
