@@ -55,6 +55,7 @@ impl<'a, R: Read> Decoder<'a, R> {
 
     /// The offset of the head that the next `pull` answers: that of the pushed head if there is
     /// one, else the count of bytes read, from the offset on at which the decoder began.
+    #[inline(always)]
     pub fn offset(&self) -> usize
         ensures { result ≡ offset_of self.now }
     {
@@ -65,6 +66,7 @@ impl<'a, R: Read> Decoder<'a, R> {
     }
 
     /// Gives one head back, with its offset. The next `pull` answers it and reads nothing.
+    #[inline(always)]
     pub fn push(&mut self, header: Header, offset: usize)
         requires { pushed_of self.old ≡ None }
         ensures same_reader { HasSameReader self.old self.new }
@@ -73,6 +75,17 @@ impl<'a, R: Read> Decoder<'a, R> {
         ensures pushed { pushed_of self.new ≡ Some (header, offset) }
     {
         self.pushed = Some((header, offset));
+    }
+
+    /// Drops the head that was pushed back, if there is one.
+    #[inline(always)]
+    pub fn forget(&mut self)
+        ensures same_reader { HasSameReader self.old self.new }
+        ensures unread { IsUnread self.old self.new }
+        ensures last { last_of self.new ≡ last_of self.old }
+        ensures none_pushed { pushed_of self.new ≡ None }
+    {
+        self.pushed = None;
     }
 
     /// The head that was pushed back, or else the next one of the reader (RFC 8949, section 3).
@@ -114,6 +127,7 @@ impl<'a, R: Read> Decoder<'a, R> {
     ///
     /// `Io` where the reader ends or fails before; `TooLong`, with nothing read, where the bytes
     /// would pass the greatest offset. What the buffer then holds is open.
+    #[inline(always)]
     pub fn read_exact(&mut self, buffer: &mut [u8]) -> Result<(), Error<io::Error>>
         requires { pushed_of self.old ≡ None }
         ensures same_reader { HasSameReader self.old self.new }
@@ -135,6 +149,7 @@ impl<'a, R: Read> Decoder<'a, R> {
     /// is reserved, or in an open string neither a definite byte string's nor the break; `TooLong`
     /// where what a head announces would pass the greatest offset; `Memory` where a growth of `out`
     /// is refused. What was then appended is a beginning of the payload.
+    #[inline(always)]
     pub fn bytes_into(
         &mut self,
         len: Option<usize>,
@@ -172,6 +187,7 @@ impl<'a, R: Read> Decoder<'a, R> {
     /// Those of `bytes_into`, with texts in place of byte strings, and `Syntax` with the offset of
     /// the head of a text or part that is not UTF-8. What was then appended is a beginning of the
     /// payload.
+    #[inline(always)]
     pub fn text_into(
         &mut self,
         len: Option<usize>,

@@ -57,6 +57,7 @@ pub(crate) fn fill<R: Read>(
 }
 
 // How many bytes of payload a definite string's head announces.
+#[inline(always)]
 fn payload_size(header: Header) -> usize
     ensures { result ≡ announced_length header }
 {
@@ -91,8 +92,23 @@ fn read_argument<R: Read>(
     Ok(header)
 }
 
-// Reads the head at the front. A branch for each width lets the processor run ahead of the byte
-// that names it.
+// How many bytes of argument follow an initial byte with this additional information.
+#[tactic(auto, unfolding(crate::specs::Refusal::argument_length))]
+#[inline(always)]
+fn argument_size(info: u8) -> usize
+    ensures length { result ≡ argument_length info }
+    ensures at_most { result ≤ 8 }
+{
+    match info {
+        24 => 1,
+        25 => 2,
+        26 => 4,
+        27 => 8,
+        _ => 0,
+    }
+}
+
+// Reads the head at the front.
 #[inline(always)]
 pub(crate) fn read_head<R: Read>(
     reader: &mut R,
@@ -106,11 +122,10 @@ pub(crate) fn read_head<R: Read>(
     let mut first = [0u8; 1];
     fill(reader, &mut first, count)?;
     let initial = first[0];
-    match initial % 32 {
-        24 => read_argument(reader, count, start, initial, &mut [0; 1]),
-        25 => read_argument(reader, count, start, initial, &mut [0; 2]),
-        26 => read_argument(reader, count, start, initial, &mut [0; 4]),
-        27 => read_argument(reader, count, start, initial, &mut [0; 8]),
-        _ => read_argument(reader, count, start, initial, &mut []),
+    let size = argument_size(initial % 32);
+    if size == 0 {
+        return read_argument(reader, count, start, initial, &mut []);
     }
+    let mut room = [0u8; 8];
+    read_argument(reader, count, start, initial, &mut room[..size])
 }

@@ -21,6 +21,7 @@ pub(crate) enum Kind {
 const OWN_SCRATCH: usize = 64;
 
 // Appends n bytes, in pieces of at most the length of the scratch.
+#[inline(always)]
 fn append_pieces<R: Read>(
     reader: &mut R,
     count: &mut usize,
@@ -48,6 +49,7 @@ fn append_pieces<R: Read>(
 }
 
 // Appends n bytes, whatever the length of the scratch.
+#[inline(always)]
 fn append_bytes<R: Read>(
     reader: &mut R,
     count: &mut usize,
@@ -68,6 +70,7 @@ fn append_bytes<R: Read>(
 }
 
 // Whether a string of the kind may hold these bytes.
+#[inline(always)]
 fn is_allowed(kind: Kind, payload: &[u8]) -> bool
     ensures { IsTrue result ↔ IsAllowed (kind_of kind) payload.now }
 {
@@ -79,6 +82,7 @@ fn is_allowed(kind: Kind, payload: &[u8]) -> bool
 
 // Appends the payload, of n bytes, of a definite string whose head is at this offset. A refusal
 // takes what was appended of it off again.
+#[inline(always)]
 fn append_payload<R: Read>(
     reader: &mut R,
     count: &mut usize,
@@ -125,6 +129,7 @@ fn part_of(kind: Kind, header: Header) -> Part
 }
 
 // Appends the payloads of the parts of an open string, to the break.
+#[inline(never)]
 fn append_parts<R: Read>(
     reader: &mut R,
     count: &mut usize,
@@ -150,6 +155,7 @@ fn append_parts<R: Read>(
 }
 
 /// Appends the payload of the string of this length (`None`: open) whose head is at this offset.
+#[inline(always)]
 pub(crate) fn append_string<R: Read>(
     reader: &mut R,
     count: &mut usize,

@@ -205,6 +205,9 @@ fn pushed_heads_and_exact_reads(rt: HostRuntime) -> Result<(), Fail> {
     assert_eq!(rt; decoder.offset(), 0);
     assert_eq!(rt; decoder.pull()?, Header::Array(Some(3)));
     assert_eq!(rt; decoder.offset(), 1);
+    decoder.push(Header::Break, 9);
+    decoder.forget();
+    assert_eq!(rt; decoder.offset(), 1);
     let mut two = [0; 2];
     decoder.read_exact(&mut two)?;
     assert_eq!(rt; two, [1, 2]);
