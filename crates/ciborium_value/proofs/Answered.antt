@@ -409,7 +409,7 @@ short-folds (cbor.tag n i) s x r t y h e b f = absurd cc
 short-folds (cbor.simple n) s x r t y h e b f = absurd cc
 short-folds (cbor.float z) s x r t y h e b f = absurd cc
 
-folds-none : (t : ℕ) (i : Item) (s x r : List ℕ) → Spells s i → r ≡ s ++ x → (IsFoldingAt t r → ⊥) → folding_bytes t i ≡ None
+pub folds-none : (t : ℕ) (i : Item) (s x r : List ℕ) → Spells s i → r ≡ s ++ x → (IsFoldingAt t r → ⊥) → folding_bytes t i ≡ None
 folds-none t i s x r h e f = by (is_bignum_tag t) refl (short_string i) refl
   where
     by : (u : Bool) → is_bignum_tag t ≡ u → (o : Option (List ℕ)) → short_string i ≡ o → cond u o None ≡ None

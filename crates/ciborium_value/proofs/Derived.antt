@@ -1,64 +1,14 @@
 -- The derived comparisons of `Value` are those of the trees.
-use Rattle.std.proofs.Common.{◌≡◌, List, [], ◌∷◌, rules, refl, sym, ap, ◌∙◌, subst, Equal, Ordering, map, Some, is_eq, Bool}
-use Rattle.std.specs.Cmp.Lexicographic.{slice_cmp}
+use Rattle.std.proofs.Common.{◌≡◌, sym, ap, ◌∙◌, subst, Some, is_eq, Bool}
 use Rattle.std.specs.Cmp.{IsTotalOrder, IsEquivalence}
-use Rattle.std.specs.Ordering.{ordering_then, eq_by_cmp}
+use Rattle.std.specs.Ordering.{eq_by_cmp}
 use Rattle.std.proofs.lemmas.Cmp.{eq_by_cmp_equiv}
-use denote.Hole.Compared.{compared_is}
 use Rattle.ciborium_value.specs.Derived.{value_eq, value_cmp, value_partial_cmp}
-use Rattle.ciborium_value.specs.Order.{tree_cmp, trees_cmp, tree_pairs_cmp}
-use Rattle.ciborium_value.specs.View.{tree_of, trees_of, tree_pairs_of}
-use Rattle.ciborium_value.specs.contracts.tree.ValueOrd.TheImpl.{the_step}
-use Rattle.ciborium_value.specs.contracts.tree.ValueOrd.TheImpl.Laws.{local, unfolded, matches_eq-law, matches_partial_cmp-law, total-law}
-use Rattle.ciborium_value.specs.declared.tree.Value.TheBlock.{the_members, the_depth, the_family, member-Value}
-use Rattle.ciborium_value.specs.declared.tree.Value.{Value, the_lemmas}
-use Rattle.ciborium_value.specs.declared.tree.Value.TheOpen.{Value-F}
-use Rattle.ciborium_value.specs.declared.tree.Value.TheViews.{out-Value, roll-Value}
-use Rattle.ciborium_value.specs.declared.tree.Value.TheFolds.{map-Value, ind-Value}
-
-cmp_unfolded : (v w : Value) → value_cmp v w ≡ unfolded v w
-cmp_unfolded = compared_is the_members the_family the_depth Ordering Equal the_step local member-Value
-
--- against every other value the answer is that of the trees
-abbrev IsOfTrees : Value → Type 0
-IsOfTrees v = (w : Value) → value_cmp v w ≡ tree_cmp (tree_of v) (tree_of w)
-
--- a value inside, of which this is known
-abbrev Known : Type 0
-Known = (v : Value) × IsOfTrees v
-
-values_agree : (es : List Known) (ws : List Value) → slice_cmp value_cmp (map (λ e. e.0) es) ws ≡ trees_cmp (trees_of (map (λ e. e.0) es)) (trees_of ws)
-values_agree [] [] = refl
-values_agree [] (w ∷ ws) = refl
-values_agree (e ∷ es) [] = refl
-values_agree (e ∷ es) (w ∷ ws) = rw (e.1, values_agree es ws)
-
-abbrev pair_cmp : Value × Value → Value × Value → Ordering
-pair_cmp p q = ordering_then (value_cmp p.0 q.0) (value_cmp p.1 q.1)
-
-abbrev pair_of : Known × Known → Value × Value
-pair_of e = (e.0.0, e.1.0)
-
-pairs_agree : (es : List (Known × Known)) (ws : List (Value × Value)) → slice_cmp pair_cmp (map pair_of es) ws ≡ tree_pairs_cmp (tree_pairs_of (map pair_of es)) (tree_pairs_of ws)
-pairs_agree [] [] = refl
-pairs_agree [] (w ∷ ws) = refl
-pairs_agree (e ∷ es) [] = refl
-pairs_agree (e ∷ es) (w ∷ ws) = rw (e.0.1, e.1.1, pairs_agree es ws)
-
-abbrev bare : Value-F Known → Value-F Value
-bare y = map-Value Known Value (λ e. e.0) y
-
-level_agrees : (y : Value-F Known) (z : Value-F Value) → value_cmp (roll-Value (bare y)) (roll-Value z) ≡ tree_cmp (tree_of (roll-Value (bare y))) (tree_of (roll-Value z))
-level_agrees (Value-F.Array vs) (Value-F.Array ws) = let e = values_agree vs.items ws.items in cmp_unfolded _ _ ∙ search (rules, the_lemmas, e)
-level_agrees (Value-F.Map vs) (Value-F.Map ws) = let e = pairs_agree vs.items ws.items in cmp_unfolded _ _ ∙ search (rules, the_lemmas, e)
-level_agrees (Value-F.Tag t v) (Value-F.Tag u w) = let e = v.value.1 w.value in cmp_unfolded _ _ ∙ search (rules, the_lemmas, e)
-level_agrees (Value-F.Text x) (Value-F.Text z) = cmp_unfolded _ _ ∙ search (rules, the_lemmas)
-level_agrees y z = cmp_unfolded _ _ ∙ search (rules, the_lemmas)
-
-pub value_cmp-is : (v w : Value) → value_cmp v w ≡ tree_cmp (tree_of v) (tree_of w)
-value_cmp-is = ind-Value IsOfTrees (λ x y is w.
-    let Agrees : Value-F Value → Value → Type 0 = λ t u. value_cmp (roll-Value t) u ≡ tree_cmp (tree_of (roll-Value t)) (tree_of u) in
-    subst (Agrees x) (search (rules, the_lemmas)) (subst (λ t. Agrees t (roll-Value (out-Value w))) is (level_agrees y (out-Value w))))
+use Rattle.ciborium_value.specs.DerivedOrder.{value_cmp-is}
+use Rattle.ciborium_value.specs.Order.{tree_cmp}
+use Rattle.ciborium_value.specs.View.{tree_of}
+use Rattle.ciborium_value.specs.contracts.tree.ValueOrd.TheImpl.Laws.{matches_eq-law, matches_partial_cmp-law, total-law}
+use Rattle.ciborium_value.specs.declared.tree.Value.{Value}
 
 pub value_eq-is : (v w : Value) → value_eq v w ≡ is_eq (tree_cmp (tree_of v) (tree_of w))
 value_eq-is v w = matches_eq-law v w ∙ ap is_eq (value_cmp-is v w)

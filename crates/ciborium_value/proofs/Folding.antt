@@ -10,7 +10,7 @@ use Rattle.ciborium_value.proofs.Bignums.{stays, zeros_hold_nothing, no_zeros_tw
 -- ---- what is written means the folded tree
 
 -- a tag folds over the item of a tree as it folds over the tree
-short_string-item_of : (v : Tree) → short_string (item_of v) ≡ short_bytes v
+pub short_string-item_of : (v : Tree) → short_string (item_of v) ≡ short_bytes v
 short_string-item_of (integer (pos n)) = refl
 short_string-item_of (integer (negsuc n)) = refl
 short_string-item_of (bytes b) = refl

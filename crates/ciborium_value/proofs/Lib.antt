@@ -14,7 +14,7 @@ pub mod Parts
 pub mod Steps
 pub mod Found
 mod Refused
-mod Answered
+pub mod Answered
 pub mod GoodBytes
 pub mod Outcome
 mod Examples
@@ -27,3 +27,7 @@ pub mod WrittenValues
 pub mod Growing
 pub mod TreeSinkSteps
 pub mod ReadBack
+pub mod TreeReading
+pub mod FoldedCopies
+pub mod Sequences
+pub mod Dictionaries

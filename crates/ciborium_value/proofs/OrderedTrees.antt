@@ -9,7 +9,8 @@ use Rattle.ciborium_value.specs.Order.{tree_cmp, trees_cmp, tree_pairs_cmp}
 use Rattle.ciborium_value.specs.OrderLaws.{TiedWhereEqual, EqualAsTrees, OrderedAsTrees, PartlyOrderedAsTrees}
 use Rattle.ciborium_value.specs.Derived.{value_eq}
 use Rattle.ciborium_value.specs.View.{tree_of}
-use Rattle.ciborium_value.proofs.Derived.{value_eq-is, value_cmp-is, value_partial_cmp-is}
+use Rattle.ciborium_value.proofs.Derived.{value_eq-is, value_partial_cmp-is}
+use Rattle.ciborium_value.specs.DerivedOrder.{value_cmp-is}
 
 both_tied : (o p : Ordering) → ordering_then o p ≡ Equal → (o ≡ Equal) × (p ≡ Equal)
 both_tied Less p e = absurd cc

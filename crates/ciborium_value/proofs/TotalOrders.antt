@@ -9,7 +9,8 @@ use Rattle.ciborium_value.specs.Encoding.{encoding, encoded_size}
 use Rattle.ciborium_value.specs.View.{tree_of}
 use Rattle.ciborium_value.specs.contracts.tree.ValueOrd.TheImpl.Laws.{matches_eq-law}
 use Rattle.ciborium_value.specs.declared.tree.Value.{Value}
-use Rattle.ciborium_value.proofs.Derived.{value_cmp-is, value_cmp_total}
+use Rattle.ciborium_value.proofs.Derived.{value_cmp_total}
+use Rattle.ciborium_value.specs.DerivedOrder.{value_cmp-is}
 use Rattle.ciborium_value.proofs.OrderedTrees.{tied_where_equal}
 use Rattle.ciborium_value.specs.CanonicalValues.{canonical_value_cmp}
 

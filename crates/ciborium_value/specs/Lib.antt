@@ -26,3 +26,15 @@ pub mod Places
 pub mod Sinks
 pub mod Progress
 pub mod TreeSinks
+pub mod Taken
+pub mod Ahead
+pub mod Sources
+pub mod Steady
+pub mod TakenParts
+pub mod Sequences
+pub mod KeyOrders
+pub mod SteadyParts
+pub mod Readings
+pub mod TreeSources
+pub mod FoldedCopies
+pub mod DerivedOrder

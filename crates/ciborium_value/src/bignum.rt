@@ -4,11 +4,14 @@
 #[cfg(test)]
 mod tests;
 
-ghost use Rattle.std.specs.Prelude.{◌≡◌, ◌^◌, ◌≤◌, IfErr, IfOk, None, Some, length, true};
+ghost use Rattle.std.specs.Prelude.{◌≡◌, ◌^◌, ◌≤◌, IfErr, IfOk, MatchOption, None, Some};
+ghost use Rattle.std.specs.Prelude.{length, true};
 ghost use Rattle.ciborium_value.specs.Meaning.{big_endian, bignum_meaning, is_bignum_tag};
 ghost use Rattle.ciborium_value.specs.Meaning.{without_zeros};
+ghost use Rattle.ciborium_value.specs.Taken.{gives, magnitude, refuses};
 ghost use Rattle.ciborium_value.specs.Tree as trees;
 ghost use Rattle.ciborium_value.specs.View.{tree_of};
+ghost use Rattle.ciborium_value.specs.declared.kind.Kind.TheVariants as kinds;
 ghost use Rattle.ciborium_value.specs.declared.bignum.FoldError.TheVariants.{TooLarge};
 
 use crate::tree::Value;
@@ -75,6 +78,18 @@ pub fn fold(alloc: Global, tag: u64, bytes: &[u8]) -> Result<Value, FoldError>
         Ok(value) => Ok(value),
         Err(AllocError) => Err(FoldError::Memory),
     }
+}
+
+/// The number of the bytes, or `None` where more than 16 stand behind the leading zeros.
+pub fn find_magnitude(bytes: &[u8]) -> Option<u128>
+    ensures { MatchOption result (magnitude bytes.now ≡ refuses kinds.TooLarge)
+        (λ n. magnitude bytes.now ≡ gives n) }
+{
+    let significant = without_leading_zeros(bytes);
+    if significant.len() > GREATEST_FOLDED_SIZE {
+        return None;
+    }
+    Some(read_number(significant))
 }
 
 // The big-endian number of at most 16 bytes.

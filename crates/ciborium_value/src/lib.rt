@@ -4,19 +4,24 @@
 pub mod bignum;
 mod byte_buf;
 mod clone;
+mod deserialize;
+mod deserialized;
 mod fields;
 mod kind;
 mod serialize;
 pub mod serialized;
 mod sink;
+mod source;
 pub mod stack;
 mod tree;
 pub mod tree_laws;
 
 pub use byte_buf::ByteBuf;
 pub use ciborium_ll::{Integer, OutOfRange};
+pub use deserialize::{Deserialize, Key};
 pub use fields::{Field, Fields, NoField};
 pub use kind::Kind;
 pub use serialize::Serialize;
 pub use sink::Sink;
+pub use source::Source;
 pub use tree::Value;

@@ -1,0 +1,13 @@
+-- Leading zeros hold nothing.
+use Rattle.std.proofs.Common.{◌≡◌, ℕ, ◌≤◌, List, length, leb, le-leb, leb-true, cond, true, ap, ◌∙◌, subst, sym, arith, refl}
+use Rattle.ciborium_value.specs.Meaning.{big_endian, without_zeros}
+use Rattle.ciborium_value.specs.Taken.{magnitude, gives, refuses}
+use Rattle.ciborium_value.specs.declared.kind.Kind.TheVariants as kinds
+use Rattle.ciborium_value.proofs.Bignums.{zeros_hold_nothing}
+use Rattle.ciborium_value.proofs.bignum.find_magnitude.Goals as goal
+
+pub returns : goal.returns
+returns c =
+    let short : length (without_zeros c.args.bytes.now) ≤ 16 = subst (λ b. length b ≤ 16) c.without_leading_zeros-significant.ensures (omega (arith, c.if-significant-gt-GREATEST_FOLDED_SIZE.false)) in
+    ap (λ v. cond v (gives (big_endian c.args.bytes.now)) (refuses kinds.TooLarge)) (le-leb (length (without_zeros c.args.bytes.now)) 16 short) ∙
+    ap gives (sym (zeros_hold_nothing c.args.bytes.now) ∙ (sym (ap big_endian c.without_leading_zeros-significant.ensures) ∙ sym c.read_number.ensures))

@@ -1,0 +1,16 @@
+use Rattle.std.proofs.Common.{◌+◌, ◌≤◌}
+use Rattle.ciborium_value.specs.Sequences.{TakesOwed}
+use Rattle.ciborium_value.proofs.Sequences.{Follows, IsInside, dropped}
+use Rattle.ciborium_value.proofs.deserialize.sequences.drop_rest.Given as goal
+
+-- the items that are left decide, since the others were values
+abbrev pub invariant-loop-source : goal.invariant-loop-source
+invariant-loop-source g l = record {
+  inside : Follows (IsInside g.S.Source.stands_before g.S.Source.seq_stands l.fn.source l.fn.seq dropped)
+      (IsInside g.S.Source.stands_before g.S.Source.seq_stands l.source l.seq dropped);
+  owed : TakesOwed g.S.Source.is_unread g.S.Source.owes l.fn.source l.source l.fn.seq l.seq;
+  less : g.S.Source.left l.source + g.S.Source.seq_left l.seq ≤ g.S.Source.left l.fn.source + g.S.Source.seq_left l.fn.seq;
+}
+
+abbrev pub decreases-loop-source : goal.decreases-loop-source
+decreases-loop-source g l = g.S.Source.left l.source + g.S.Source.seq_left l.seq

@@ -1,0 +1,13 @@
+-- What the value makes is what the trees that still come make of what is open.
+use Rattle.std.proofs.Common.{◌≡◌, [], ◌∷◌}
+use Rattle.ciborium_value.specs.FoldedCopies.{copied, path_trees, nodes_of}
+use Rattle.ciborium_value.specs.Open.{more}
+use Rattle.ciborium_value.specs.Stack.{opens_of}
+use Rattle.ciborium_value.specs.View.{tree_of}
+use Rattle.ciborium_value.proofs.deserialized.folding.fold_value.Given as goal
+
+abbrev pub invariant-values : goal.invariant-values
+invariant-values l = copied (more (opens_of l.stack)) (path_trees l.path.items) ≡ copied (more []) (tree_of l.fn.value ∷ [])
+
+abbrev pub decreases-values : goal.decreases-values
+decreases-values l = nodes_of (path_trees l.path.items)

@@ -1,0 +1,41 @@
+-- Where a source stands: before an item or after one, and what follows in the containers that are open around it.
+use Rattle.std.specs.Prelude.{ℕ, List}
+use Rattle.std.specs.Borrow.{GName}
+use Rattle.ciborium_ll.specs.Item.{Item}
+use Rattle.ciborium_value.specs.Nesting.{Limit}
+use Rattle.ciborium_value.specs.Taken.{deeper}
+
+-- how the parts of a container come: so many, up to a break, or as the bytes of a byte string
+pub data Form : Type 0 where
+  counted : Form
+  until_break : Form
+  of_bytes : Form
+
+-- what follows an item
+pub data Rest : Type 0 where
+  -- what the reader of this name has left
+  bottom : GName → List ℕ → Rest
+  -- the items left of an array or byte string
+  parts : Form → List Item → Rest → Rest
+  -- the pairs left of a map: a key or the end is due
+  pairs : Form → List (Item × Item) → Rest → Rest
+  -- a value is due, and then these pairs
+  entry : Item → Form → List (Item × Item) → Rest → Rest
+
+-- a source stands before an item, or after one
+pub data Ahead : Type 0 where
+  item : Item → Rest → Ahead
+  after : Rest → Ahead
+
+-- where it stands once an item was read: before the value that is due, if one is
+abbrev pub past : Rest → Ahead
+past (bottom name b) = after (bottom name b)
+past (parts form is f) = after (parts form is f)
+past (pairs form ps f) = after (pairs form ps f)
+past (entry v form ps f) = item v (pairs form ps f)
+
+-- the levels left inside a container of this form: a byte string costs none
+abbrev pub inside : Form → Limit → Limit
+inside counted l = deeper l
+inside until_break l = deeper l
+inside of_bytes l = l

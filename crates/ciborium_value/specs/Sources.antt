@@ -1,0 +1,131 @@
+-- The words of the contracts of `Source` and `Deserialize`.
+use Rattle.std.specs.Prelude.{◌≡◌, ℕ, Bool, true, false, List, [], ◌∷◌, ◌++◌, IsTrue, Result, Ok, Err}
+use Rattle.ciborium_ll.specs.Item.{Item}
+use Rattle.ciborium_ll.specs.Spells.{Spells}
+use Rattle.ciborium_value.specs.Ahead.{Ahead, Rest, Form, item, after, parts, pairs, entry, past, inside}
+use Rattle.ciborium_value.specs.Nesting.{Limit}
+use Rattle.ciborium_value.specs.Places.{Shape, sequence, dictionary}
+use Rattle.ciborium_value.specs.Taken.{Outcome, gives, refuses, nests, Taken, taken_seq, taken_pairs, is_null}
+use Rattle.ciborium_value.specs.declared.kind.Kind.{Kind}
+
+-- ---- why a source refused
+
+-- a kind, no level left, bytes that spell no item, want of memory, or the device: its failure, its end, or offsets that end
+pub data Fault : Type 0 where
+  of_kind : Kind → Fault
+  of_nesting : Fault
+  of_syntax : Fault
+  of_memory : Fault
+  of_device : Fault
+
+-- an item that gives this outcome is refused for this, or for what it does not decide
+abbrev pub IsFaultOf : {A : Type 0} → Fault → Outcome A → Type 0
+IsFaultOf (of_kind k) o = o ≡ refuses k
+IsFaultOf of_nesting o = o ≡ nests
+IsFaultOf of_syntax o = ⊥
+IsFaultOf of_memory o = Unit {0}
+IsFaultOf of_device o = Unit {0}
+
+-- refused for what no item decides
+abbrev pub IsOutside : Fault → Type 0
+IsOutside (of_kind k) = ⊥
+IsOutside of_nesting = ⊥
+IsOutside of_syntax = ⊥
+IsOutside of_memory = Unit {0}
+IsOutside of_device = Unit {0}
+
+-- want of memory comes only from those that take memory
+abbrev pub IsGranted : Fault → Bool → Type 0
+IsGranted (of_kind k) takes_memory = Unit {0}
+IsGranted of_nesting takes_memory = Unit {0}
+IsGranted of_syntax takes_memory = Unit {0}
+IsGranted of_memory takes_memory = IsTrue takes_memory
+IsGranted of_device takes_memory = Unit {0}
+
+-- an answer by what counts of it
+abbrev pub read_as : {A B E : Type 0} → (A → B) → Result A E → Result B E
+read_as f (Ok v) = Ok (f v)
+read_as f (Err e) = Err e
+
+-- ---- what a call does at an item
+
+module _ {S : Type 0} (StandsBefore : S → Limit → Ahead → Type 0) where
+  -- the answer is what the item gives, and the source stands past it
+  abbrev pub Takes : {A : Type 0} → S → S → Taken A → A → Type 0
+  Takes old new taken v = (l : Limit) (i : Item) (f : Rest) → StandsBefore old l (item i f) → (taken l i ≡ gives v) × StandsBefore new l (past f)
+
+  -- it is refused only where the item is, and for that
+  abbrev pub Refuses : {A : Type 0} → S → Taken A → Fault → Type 0
+  Refuses old taken fault = (l : Limit) (i : Item) (f : Rest) → StandsBefore old l (item i f) → IsFaultOf fault (taken l i)
+
+  -- the answer says whether the item is null, and the source stands before it still
+  abbrev pub Tells : S → S → Bool → Type 0
+  Tells old new answer = (l : Limit) (i : Item) (f : Rest) → StandsBefore old l (item i f) → (answer ≡ is_null i) × StandsBefore new l (item i f)
+
+  -- no item is to blame
+  abbrev pub RefusesToTell : S → Fault → Type 0
+  RefusesToTell old fault = (l : Limit) (i : Item) (f : Rest) → StandsBefore old l (item i f) → IsOutside fault
+
+-- ---- what is read of a container
+
+module _ {S Q : Type 0} (StandsBefore : S → Limit → Ahead → Type 0) (SeqStands : Q → Limit → Rest → Type 0) where
+  -- a sequence was entered
+  abbrev pub Enters : S → S → Q → Type 0
+  Enters old new q = (l : Limit) (i : Item) (f : Rest) → StandsBefore old l (item i f) →
+      (form : Form) × (is : List Item) × (taken_seq l i ≡ gives (inside form l, is)) × StandsBefore new (inside form l) (after (parts form is f)) × SeqStands q l (parts form is f)
+
+  -- a map was entered
+  abbrev pub EntersMap : S → S → Q → Type 0
+  EntersMap old new q = (l : Limit) (i : Item) (f : Rest) → StandsBefore old l (item i f) →
+      (form : Form) × (ps : List (Item × Item)) × (taken_pairs l i ≡ gives (inside form l, ps)) × StandsBefore new (inside form l) (after (pairs form ps f)) × SeqStands q l (pairs form ps f)
+
+  -- a further item, or a further key, is ahead
+  abbrev pub GoesOn : S → S → Q → Q → Type 0
+  GoesOn old new q q' = ((l : Limit) (form : Form) (is : List Item) (f : Rest) → StandsBefore old (inside form l) (after (parts form is f)) → SeqStands q l (parts form is f) →
+      (i : Item) × (js : List Item) × (is ≡ i ∷ js) × StandsBefore new (inside form l) (item i (parts form js f)) × SeqStands q' l (parts form js f))
+      × ((l : Limit) (form : Form) (ps : List (Item × Item)) (f : Rest) → StandsBefore old (inside form l) (after (pairs form ps f)) → SeqStands q l (pairs form ps f) →
+      (k : Item) × (v : Item) × (qs : List (Item × Item)) × (ps ≡ (k, v) ∷ qs) × StandsBefore new (inside form l) (item k (entry v form qs f)) × SeqStands q' l (pairs form qs f))
+
+  -- nothing is left of the container, and the source stands past it
+  abbrev pub Leaves : S → S → Q → Type 0
+  Leaves old new q = ((l : Limit) (form : Form) (is : List Item) (f : Rest) → StandsBefore old (inside form l) (after (parts form is f)) → SeqStands q l (parts form is f) →
+      (is ≡ []) × StandsBefore new l (past f))
+      × ((l : Limit) (form : Form) (ps : List (Item × Item)) (f : Rest) → StandsBefore old (inside form l) (after (pairs form ps f)) → SeqStands q l (pairs form ps f) →
+      (ps ≡ []) × StandsBefore new l (past f))
+
+  -- no part and no end is to blame
+  abbrev pub RefusesNext : S → Q → Fault → Type 0
+  RefusesNext old q fault = ((l : Limit) (form : Form) (is : List Item) (f : Rest) → StandsBefore old (inside form l) (after (parts form is f)) → SeqStands q l (parts form is f) → IsOutside fault)
+      × ((l : Limit) (form : Form) (ps : List (Item × Item)) (f : Rest) → StandsBefore old (inside form l) (after (pairs form ps f)) → SeqStands q l (pairs form ps f) → IsOutside fault)
+
+-- ---- what was taken where the unread bytes are known, whatever they are
+
+-- an item is spelled at the front of b, and z follows it
+abbrev pub HasItem : List ℕ → List ℕ → Type 0
+HasItem b z = (i : Item) × (s : List ℕ) × Spells s i × (b ≡ s ++ z)
+
+-- the next part of a container is at the front of b, and z follows it: an item, or in a map a key and its value
+abbrev pub HasPart : Shape → List ℕ → List ℕ → Type 0
+HasPart sequence b z = HasItem b z
+HasPart dictionary b z = (c : List ℕ) × HasItem b c × HasItem c z
+
+-- of the bytes that were unread these are left, and P says how
+abbrev pub TakesTo : {S : Type 0} → (S → List ℕ → Type 0) → S → S → (List ℕ → List ℕ → Type 0) → Type 0
+TakesTo IsUnread old new P = (b : List ℕ) → IsUnread old b → (u : List ℕ) × IsUnread new u × P b u
+
+-- an item stood there and was taken
+abbrev pub TakesItem : {S : Type 0} → (S → List ℕ → Type 0) → S → S → Type 0
+TakesItem IsUnread old new = TakesTo IsUnread old new HasItem
+
+-- nothing was taken
+abbrev pub TakesNothing : {S : Type 0} → (S → List ℕ → Type 0) → S → S → Type 0
+TakesNothing IsUnread old new = TakesTo IsUnread old new (λ b u. u ≡ b)
+
+module _ {Q : Type 0} (Owes : Q → Shape → List ℕ → List ℕ → Type 0) where
+  -- a further part is ahead, and less is owed behind it
+  abbrev pub OwesLess : Q → Q → List ℕ → List ℕ → Type 0
+  OwesLess q q' c u = (s : Shape) (b z : List ℕ) → Owes q s b c → HasPart s u z → Owes q' s b z
+
+  -- nothing more is owed: the container stood there, and was taken
+  abbrev pub OwesNothing : Q → List ℕ → List ℕ → Type 0
+  OwesNothing q c z = (s : Shape) (b : List ℕ) → Owes q s b c → HasItem b z

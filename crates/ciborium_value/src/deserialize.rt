@@ -1,0 +1,45 @@
+//! What is read.
+
+ghost use Rattle.std.specs.Prelude.{◌≡◌, ◌<◌, IfErr, IfOk, IfSome, OnOk};
+ghost use Rattle.ciborium_value.specs.Readings.{Reading};
+ghost use Rattle.ciborium_value.specs.Sources.{IsGranted, Refuses, Takes, TakesItem, read_as};
+
+use crate::source::Source;
+use std::alloc::Global;
+
+mod maps;
+mod numbers;
+mod scalars;
+mod sequences;
+mod values;
+
+/// A value that is read from one item.
+pub trait Deserialize: Sized + Drop {
+    // What counts of a value: its capacities do not.
+    ghost Content: { Type 0 };
+
+    // What an item gives, and what reading takes.
+    ghost reading: { Reading Self Content };
+
+    /// Takes the item that the source stands before.
+    ///
+    /// At `Ok` the value is what the item gives, and just the item was taken. Refused with a kind,
+    /// or for nesting, only where the item is.
+    fn deserialize<S: Source>(alloc: Global, source: &mut S) -> Result<Self, S::Error>
+        ensures ok { IfOk result
+            (λ v. Takes S.stands_before source.old source.new reading.taken (reading.content v)) }
+        ensures refused { IfErr result
+            (λ e. Refuses S.stands_before source.old reading.taken (S.cause e)) }
+        ensures memory { IfErr result (λ e. IsGranted (S.cause e) reading.takes_memory) }
+        ensures whole { IfSome reading.whole (λ tree. S.reads source.old source.new
+            (read_as (λ v. tree (reading.content v)) result)) }
+        ensures took { OnOk result (TakesItem S.is_unread source.old source.new) }
+        ensures less { OnOk result (S.left source.new < S.left source.old) };
+}
+
+/// A type whose values can be the keys of a map that is read: its order is one of what counts.
+pub trait Key: Deserialize + Ord {
+    // Values compare as their contents do.
+    ghost orders: { (a b : Self) → Self.cmp a b ≡
+        Self.reading.order (Self.reading.content a) (Self.reading.content b) };
+}

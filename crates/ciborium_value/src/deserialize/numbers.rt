@@ -1,0 +1,270 @@
+//! Numbers.
+
+ghost use Rattle.std.specs.Prelude.{◌+◌, ◌<◌, ◌^◌, ◌≤◌, IfErr, IfOk, OnOk, false, ℕ, ℤ, refl};
+ghost use Rattle.ciborium_value.specs.Readings.{IsWithin, below, within};
+ghost use Rattle.ciborium_value.specs.Sources.{IsGranted, Refuses, Takes, TakesItem};
+
+use super::{Deserialize, Key};
+use crate::kind::Kind;
+use crate::source::Source;
+use std::alloc::Global;
+
+// A number from 0 to the greatest.
+#[inline(always)]
+fn unsigned<S: Source>(source: &mut S, greatest: u128) -> Result<u128, S::Error>
+    ensures ok { IfOk result
+        (λ n. Takes S.stands_before source.old source.new (below (greatest + 1)).taken n) }
+    ensures refused { IfErr result
+        (λ e. Refuses S.stands_before source.old (below (greatest + 1)).taken (S.cause e)) }
+    ensures memory { IfErr result (λ e. IsGranted (S.cause e) false) }
+    ensures took { OnOk result (TakesItem S.is_unread source.old source.new) }
+    ensures less { OnOk result (S.left source.new < S.left source.old) }
+    ensures fits { IfOk result (λ n. n ≤ greatest) }
+{
+    let (negative, n) = source.integer()?;
+    if negative || n > greatest {
+        return Err(source.refuse(Kind::Range));
+    }
+    Ok(n)
+}
+
+// A number n or -1 - n, for n from 0 to the greatest.
+#[inline(always)]
+fn signed<S: Source>(source: &mut S, greatest: u128) -> Result<i128, S::Error>
+    requires { greatest < 2 ^ 127 }
+    ensures ok { IfOk result
+        (λ n. Takes S.stands_before source.old source.new (within (greatest + 1)).taken n) }
+    ensures refused { IfErr result
+        (λ e. Refuses S.stands_before source.old (within (greatest + 1)).taken (S.cause e)) }
+    ensures memory { IfErr result (λ e. IsGranted (S.cause e) false) }
+    ensures took { OnOk result (TakesItem S.is_unread source.old source.new) }
+    ensures less { OnOk result (S.left source.new < S.left source.old) }
+    ensures fits { IfOk result (IsWithin (greatest + 1)) }
+{
+    let (negative, n) = source.integer()?;
+    if n > greatest {
+        return Err(source.refuse(Kind::Range));
+    }
+    let number = n as i128;
+    if negative {
+        Ok(-1 - number)
+    } else {
+        Ok(number)
+    }
+}
+
+/// A number below 2^8, as `Source::integer` reads it. One that is negative or too great is refused
+/// as `Range`.
+impl Deserialize for u8 {
+    ghost Content = { ℕ };
+
+    ghost reading = { below (2 ^ 8) };
+
+    #[inline(always)]
+    fn deserialize<S: Source>(_alloc: Global, source: &mut S) -> Result<u8, S::Error> {
+        let number = unsigned(source, u128::from(u8::MAX))?;
+        Ok(number as u8)
+    }
+}
+
+impl Key for u8 {
+    ghost orders = { λ a b. refl };
+}
+
+/// A number below 2^16, as `Source::integer` reads it. One that is negative or too great is refused
+/// as `Range`.
+impl Deserialize for u16 {
+    ghost Content = { ℕ };
+
+    ghost reading = { below (2 ^ 16) };
+
+    #[inline(always)]
+    fn deserialize<S: Source>(_alloc: Global, source: &mut S) -> Result<u16, S::Error> {
+        let number = unsigned(source, u128::from(u16::MAX))?;
+        Ok(number as u16)
+    }
+}
+
+impl Key for u16 {
+    ghost orders = { λ a b. refl };
+}
+
+/// A number below 2^32, as `Source::integer` reads it. One that is negative or too great is refused
+/// as `Range`.
+impl Deserialize for u32 {
+    ghost Content = { ℕ };
+
+    ghost reading = { below (2 ^ 32) };
+
+    #[inline(always)]
+    fn deserialize<S: Source>(_alloc: Global, source: &mut S) -> Result<u32, S::Error> {
+        let number = unsigned(source, u128::from(u32::MAX))?;
+        Ok(number as u32)
+    }
+}
+
+impl Key for u32 {
+    ghost orders = { λ a b. refl };
+}
+
+/// A number below 2^64, as `Source::integer` reads it. One that is negative or too great is refused
+/// as `Range`.
+impl Deserialize for u64 {
+    ghost Content = { ℕ };
+
+    ghost reading = { below (2 ^ 64) };
+
+    #[inline(always)]
+    fn deserialize<S: Source>(_alloc: Global, source: &mut S) -> Result<u64, S::Error> {
+        let number = unsigned(source, u128::from(u64::MAX))?;
+        Ok(number as u64)
+    }
+}
+
+impl Key for u64 {
+    ghost orders = { λ a b. refl };
+}
+
+/// A number below 2^128, as `Source::integer` reads it. One that is negative or too great is
+/// refused as `Range`.
+impl Deserialize for u128 {
+    ghost Content = { ℕ };
+
+    ghost reading = { below (2 ^ 128) };
+
+    #[inline(always)]
+    fn deserialize<S: Source>(_alloc: Global, source: &mut S) -> Result<u128, S::Error> {
+        let number = unsigned(source, u128::MAX)?;
+        Ok(number)
+    }
+}
+
+impl Key for u128 {
+    ghost orders = { λ a b. refl };
+}
+
+/// A number below 2^64, as `Source::integer` reads it. One that is negative or too great is refused
+/// as `Range`.
+impl Deserialize for usize {
+    ghost Content = { ℕ };
+
+    ghost reading = { below (2 ^ 64) };
+
+    #[inline(always)]
+    fn deserialize<S: Source>(_alloc: Global, source: &mut S) -> Result<usize, S::Error> {
+        let number = unsigned(source, usize::MAX as u128)?;
+        Ok(number as usize)
+    }
+}
+
+impl Key for usize {
+    ghost orders = { λ a b. refl };
+}
+
+/// A number from -2^7 to 2^7 - 1, as `Source::integer` reads it. Another number is refused as
+/// `Range`.
+impl Deserialize for i8 {
+    ghost Content = { ℤ };
+
+    ghost reading = { within (2 ^ 7) };
+
+    #[inline(always)]
+    fn deserialize<S: Source>(_alloc: Global, source: &mut S) -> Result<i8, S::Error> {
+        let number = signed(source, i8::MAX as u128)?;
+        Ok(number as i8)
+    }
+}
+
+impl Key for i8 {
+    ghost orders = { λ a b. refl };
+}
+
+/// A number from -2^15 to 2^15 - 1, as `Source::integer` reads it. Another number is refused as
+/// `Range`.
+impl Deserialize for i16 {
+    ghost Content = { ℤ };
+
+    ghost reading = { within (2 ^ 15) };
+
+    #[inline(always)]
+    fn deserialize<S: Source>(_alloc: Global, source: &mut S) -> Result<i16, S::Error> {
+        let number = signed(source, i16::MAX as u128)?;
+        Ok(number as i16)
+    }
+}
+
+impl Key for i16 {
+    ghost orders = { λ a b. refl };
+}
+
+/// A number from -2^31 to 2^31 - 1, as `Source::integer` reads it. Another number is refused as
+/// `Range`.
+impl Deserialize for i32 {
+    ghost Content = { ℤ };
+
+    ghost reading = { within (2 ^ 31) };
+
+    #[inline(always)]
+    fn deserialize<S: Source>(_alloc: Global, source: &mut S) -> Result<i32, S::Error> {
+        let number = signed(source, i32::MAX as u128)?;
+        Ok(number as i32)
+    }
+}
+
+impl Key for i32 {
+    ghost orders = { λ a b. refl };
+}
+
+/// A number from -2^63 to 2^63 - 1, as `Source::integer` reads it. Another number is refused as
+/// `Range`.
+impl Deserialize for i64 {
+    ghost Content = { ℤ };
+
+    ghost reading = { within (2 ^ 63) };
+
+    #[inline(always)]
+    fn deserialize<S: Source>(_alloc: Global, source: &mut S) -> Result<i64, S::Error> {
+        let number = signed(source, i64::MAX as u128)?;
+        Ok(number as i64)
+    }
+}
+
+impl Key for i64 {
+    ghost orders = { λ a b. refl };
+}
+
+/// A number from -2^127 to 2^127 - 1, as `Source::integer` reads it. Another number is refused as
+/// `Range`.
+impl Deserialize for i128 {
+    ghost Content = { ℤ };
+
+    ghost reading = { within (2 ^ 127) };
+
+    #[inline(always)]
+    fn deserialize<S: Source>(_alloc: Global, source: &mut S) -> Result<i128, S::Error> {
+        let number = signed(source, i128::MAX as u128)?;
+        Ok(number)
+    }
+}
+
+impl Key for i128 {
+    ghost orders = { λ a b. refl };
+}
+
+/// A number from -2^63 to 2^63 - 1, as `Source::integer` reads it. Another number is refused as
+/// `Range`.
+impl Deserialize for isize {
+    ghost Content = { ℤ };
+
+    ghost reading = { within (2 ^ 63) };
+
+    #[inline(always)]
+    fn deserialize<S: Source>(_alloc: Global, source: &mut S) -> Result<isize, S::Error> {
+        let number = signed(source, isize::MAX as u128)?;
+        Ok(number as isize)
+    }
+}
+
+impl Key for isize {
+    ghost orders = { λ a b. refl };
+}

@@ -1,0 +1,170 @@
+//! Lists and tuples.
+
+ghost use Rattle.std.specs.Prelude.{◌+◌, ◌<◌, ◌≤◌, IfErr, IfOk, List, OnOk};
+ghost use Rattle.ciborium_value.specs.KeyOrders.{ordering_then-same, slice_cmp-map};
+ghost use Rattle.ciborium_value.specs.Readings.{list_of, tuple1_of, tuple2_of, tuple3_of};
+ghost use Rattle.ciborium_value.specs.Readings.{tuple4_of};
+ghost use Rattle.ciborium_value.specs.Sequences.{DropsRest, RefusesPart, RefusesRest};
+ghost use Rattle.ciborium_value.specs.Sequences.{TakesOwed, TakesPart, TakesRest};
+
+use super::{Deserialize, Key};
+use crate::kind::Kind;
+use crate::source::Source;
+use std::alloc::Global;
+
+// The next part, which must be there.
+#[inline(always)]
+fn part<T: Deserialize, S: Source>(
+    alloc: Global,
+    source: &mut S,
+    seq: &mut S::Seq,
+) -> Result<T, S::Error>
+    ensures ok { IfOk result (λ v. TakesPart S.stands_before S.seq_stands
+        source.old source.new seq.old seq.new T.reading.taken (T.reading.content v)) }
+    ensures refused { IfErr result (λ e. RefusesPart S.stands_before S.seq_stands
+        source.old seq.old T.reading.taken (S.cause e)) }
+    ensures took { OnOk result
+        (TakesOwed S.is_unread S.owes source.old source.new seq.old seq.new) }
+    ensures less { OnOk result (S.left source.new + S.seq_left seq.new
+        < S.left source.old + S.seq_left seq.old) }
+{
+    if !source.next(seq)? {
+        return Err(source.refuse(Kind::Length));
+    }
+    let value = T::deserialize(alloc, source)?;
+    Ok(value)
+}
+
+// Reads what is left of a sequence as values, which are dropped.
+#[inline(always)]
+fn drop_rest<S: Source>(alloc: Global, source: &mut S, seq: &mut S::Seq) -> Result<(), S::Error>
+    ensures ok { OnOk result
+        (DropsRest S.stands_before S.seq_stands source.old source.new seq.old) }
+    ensures refused { IfErr result
+        (λ e. RefusesRest S.stands_before S.seq_stands source.old seq.old (S.cause e)) }
+    ensures took { OnOk result (TakesRest S.is_unread S.owes source.old source.new seq.old) }
+    ensures less { OnOk result (S.left source.new ≤ S.left source.old + S.seq_left seq.old) }
+{
+    while source.next(seq)? {
+        drop(source.value(alloc)?);
+    }
+    Ok(())
+}
+
+/// The items of an array, or of a byte string its bytes. Skips tags; refused as `Array` where
+/// another item stands.
+impl<T: Deserialize> Deserialize for Vec<T> {
+    ghost Content = { List T.Content };
+
+    ghost reading = { list_of (λ v. v.items) T.reading };
+
+    fn deserialize<S: Source>(alloc: Global, source: &mut S) -> Result<Vec<T>, S::Error> {
+        let mut seq = source.begin_seq(alloc)?;
+        let mut values = Vec::new(alloc);
+        while source.next(&mut seq)? {
+            let value = T::deserialize(alloc, source)?;
+            match values.push(value) {
+                Ok(()) => {}
+                Err(_) => return Err(source.memory()),
+            }
+        }
+        Ok(values)
+    }
+}
+
+impl<T: Key> Key for Vec<T> {
+    ghost orders = { λ a b.
+        slice_cmp-map T.cmp T.reading.order T.reading.content T.orders a.items b.items };
+}
+
+/// The first item of an array, or of a byte string its first byte. Skips tags; none is refused as
+/// `Length`, further ones are read as values and dropped, and where another item stands it is
+/// refused as `Array`.
+impl<A: Deserialize> Deserialize for (A,) {
+    ghost Content = { A.Content };
+
+    ghost reading = { tuple1_of (λ t. t.0) A.reading };
+
+    fn deserialize<S: Source>(alloc: Global, source: &mut S) -> Result<(A,), S::Error> {
+        let mut seq = source.begin_seq(alloc)?;
+        let first = part::<A, S>(alloc, source, &mut seq)?;
+        drop_rest(alloc, source, &mut seq)?;
+        Ok((first,))
+    }
+}
+
+impl<A: Key> Key for (A,) {
+    ghost orders = { λ a b. A.orders a.0 b.0 };
+}
+
+/// The first two items of an array, or of a byte string its first two bytes. Skips tags; fewer
+/// items are refused as `Length`, further ones are read as values and dropped, and where another
+/// item stands it is refused as `Array`.
+impl<A: Deserialize, B: Deserialize> Deserialize for (A, B) {
+    ghost Content = { A.Content × B.Content };
+
+    ghost reading = { tuple2_of A.reading B.reading };
+
+    fn deserialize<S: Source>(alloc: Global, source: &mut S) -> Result<(A, B), S::Error> {
+        let mut seq = source.begin_seq(alloc)?;
+        let first = part::<A, S>(alloc, source, &mut seq)?;
+        let second = part::<B, S>(alloc, source, &mut seq)?;
+        drop_rest(alloc, source, &mut seq)?;
+        Ok((first, second))
+    }
+}
+
+impl<A: Key, B: Key> Key for (A, B) {
+    ghost orders = { λ a b. ordering_then-same (A.orders a.0 b.0) (B.orders a.1 b.1) };
+}
+
+/// The first three items of an array, or of a byte string its first three bytes. Skips tags; fewer
+/// items are refused as `Length`, further ones are read as values and dropped, and where another
+/// item stands it is refused as `Array`.
+impl<A: Deserialize, B: Deserialize, C: Deserialize> Deserialize for (A, B, C) {
+    ghost Content = { A.Content × B.Content × C.Content };
+
+    ghost reading = { tuple3_of A.reading B.reading C.reading };
+
+    fn deserialize<S: Source>(alloc: Global, source: &mut S) -> Result<(A, B, C), S::Error> {
+        let mut seq = source.begin_seq(alloc)?;
+        let first = part::<A, S>(alloc, source, &mut seq)?;
+        let second = part::<B, S>(alloc, source, &mut seq)?;
+        let third = part::<C, S>(alloc, source, &mut seq)?;
+        drop_rest(alloc, source, &mut seq)?;
+        Ok((first, second, third))
+    }
+}
+
+impl<A: Key, B: Key, C: Key> Key for (A, B, C) {
+    ghost orders = { λ a b. ordering_then-same
+        (ordering_then-same (A.orders a.0 b.0) (B.orders a.1 b.1))
+        (C.orders a.2 b.2) };
+}
+
+/// The first four items of an array, or of a byte string its first four bytes. Skips tags; fewer
+/// items are refused as `Length`, further ones are read as values and dropped, and where another
+/// item stands it is refused as `Array`.
+impl<A: Deserialize, B: Deserialize, C: Deserialize, D: Deserialize> Deserialize for (A, B, C, D) {
+    ghost Content = { A.Content × B.Content × C.Content × D.Content };
+
+    ghost reading = { tuple4_of A.reading B.reading C.reading D.reading };
+
+    fn deserialize<S: Source>(alloc: Global, source: &mut S) -> Result<(A, B, C, D), S::Error> {
+        let mut seq = source.begin_seq(alloc)?;
+        let first = part::<A, S>(alloc, source, &mut seq)?;
+        let second = part::<B, S>(alloc, source, &mut seq)?;
+        let third = part::<C, S>(alloc, source, &mut seq)?;
+        let fourth = part::<D, S>(alloc, source, &mut seq)?;
+        drop_rest(alloc, source, &mut seq)?;
+        Ok((first, second, third, fourth))
+    }
+}
+
+impl<A: Key, B: Key, C: Key, D: Key> Key for (A, B, C, D) {
+    ghost orders = { λ a b. ordering_then-same
+        (ordering_then-same
+        (ordering_then-same (A.orders a.0 b.0) (B.orders a.1 b.1))
+        (C.orders a.2 b.2))
+        (D.orders a.3 b.3) };
+}

@@ -1,0 +1,29 @@
+//! Whatever item is ahead.
+
+ghost use Rattle.ciborium_value.specs.DerivedOrder.{value_cmp-is};
+ghost use Rattle.ciborium_value.specs.Readings.{whole_of};
+ghost use Rattle.ciborium_value.specs.Tree.{Tree};
+ghost use Rattle.ciborium_value.specs.View.{tree_of};
+
+use super::{Deserialize, Key};
+use crate::source::Source;
+use crate::tree::Value;
+use std::alloc::Global;
+
+/// Whatever item is ahead: its meaning, bignums folded. Refused as `Float` or `Simple` where it
+/// holds a float or a simple value that has no meaning, and as `TooLarge` where a bignum is too
+/// great (RFC 8949, section 3.4.3).
+impl Deserialize for Value {
+    ghost Content = { Tree };
+
+    ghost reading = { whole_of tree_of };
+
+    #[inline(always)]
+    fn deserialize<S: Source>(alloc: Global, source: &mut S) -> Result<Value, S::Error> {
+        source.value(alloc)
+    }
+}
+
+impl Key for Value {
+    ghost orders = { value_cmp-is };
+}

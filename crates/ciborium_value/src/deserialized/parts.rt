@@ -1,0 +1,178 @@
+//! What is found at a value, behind its tags.
+
+ghost use Rattle.std.specs.Prelude.{◌≡◌, ◌≤◌, IfErr, IfOk, MatchOption, None, chars, false, map};
+ghost use Rattle.std.specs.Prelude.{string_bytes};
+ghost use Rattle.ciborium_value.specs.Sources.{IsFaultOf, IsGranted};
+ghost use Rattle.ciborium_value.specs.Taken as taken;
+ghost use Rattle.ciborium_value.specs.Taken.{bignum_of, gives, refuses, take_each, taken_boolean};
+ghost use Rattle.ciborium_value.specs.Taken.{taken_byte, taken_bytes, taken_character};
+ghost use Rattle.ciborium_value.specs.Taken.{taken_integer, taken_text, taken_unit};
+ghost use Rattle.ciborium_value.specs.TreeSources.{fault_of, value_item, weight};
+ghost use Rattle.ciborium_value.specs.declared.kind.Kind.TheVariants as kinds;
+
+use crate::bignum::find_magnitude;
+use crate::kind::Kind;
+use crate::serialized::Error;
+use crate::tree::Value;
+use ciborium_ll::tag::{BIGNEG, BIGPOS};
+use std::alloc::Global;
+
+// A value without its leading tags.
+pub(super) fn skip_tags(value: &Value) -> &Value
+    ensures item { value_item result.now ≡ taken.untagged (value_item value.now) }
+    ensures less { weight result.now ≤ weight value.now }
+{
+    let mut bare = value;
+    while let Value::Tag(_, content) = bare {
+        bare = content;
+    }
+    bare
+}
+
+// The number of a bignum's bytes.
+fn find_bignum(value: &Value) -> Result<u128, Error>
+    ensures ok { IfOk result (λ n. bignum_of (value_item value.now) ≡ gives n) }
+    ensures refused { IfErr result (λ e. IsFaultOf (fault_of e) (bignum_of (value_item value.now))) }
+    ensures memory { IfErr result (λ e. IsGranted (fault_of e) false) }
+{
+    match value {
+        Value::Bytes(bytes) => match find_magnitude(bytes) {
+            Some(number) => Ok(number),
+            None => Err(Error::Custom(Kind::TooLarge)),
+        },
+        _ => Err(Error::Custom(Kind::Bytes)),
+    }
+}
+
+// The number of a value.
+pub(super) fn find_number(value: &Value) -> Result<(bool, u128), Error>
+    ensures ok { IfOk result (λ v. taken_integer None (value_item value.now) ≡ gives v) }
+    ensures refused { IfErr result
+        (λ e. IsFaultOf (fault_of e) (taken_integer None (value_item value.now))) }
+    ensures memory { IfErr result (λ e. IsGranted (fault_of e) false) }
+{
+    let mut inner = value;
+    'tags: loop {
+        match inner {
+            Value::Integer(number) => {
+                let (negative, argument) = number.head();
+                return Ok((negative, u128::from(argument)));
+            }
+            Value::Tag(tag, content) => {
+                if *tag == BIGPOS || *tag == BIGNEG {
+                    let number = find_bignum(content)?;
+                    return Ok((*tag == BIGNEG, number));
+                }
+                inner = content;
+            }
+            _ => return Err(Error::Custom(Kind::Integer)),
+        }
+    }
+}
+
+pub(super) fn find_boolean(value: &Value) -> Result<bool, Error>
+    ensures ok { IfOk result (λ v. taken_boolean None (value_item value.now) ≡ gives v) }
+    ensures refused { IfErr result
+        (λ e. IsFaultOf (fault_of e) (taken_boolean None (value_item value.now))) }
+    ensures memory { IfErr result (λ e. IsGranted (fault_of e) false) }
+{
+    match skip_tags(value) {
+        Value::Bool(boolean) => Ok(*boolean),
+        _ => Err(Error::Custom(Kind::Bool)),
+    }
+}
+
+pub(super) fn find_null(value: &Value) -> Result<(), Error>
+    ensures ok { IfOk result (λ v. taken_unit None (value_item value.now) ≡ gives v) }
+    ensures refused { IfErr result
+        (λ e. IsFaultOf (fault_of e) (taken_unit None (value_item value.now))) }
+    ensures memory { IfErr result (λ e. IsGranted (fault_of e) false) }
+{
+    match skip_tags(value) {
+        Value::Null => Ok(()),
+        _ => Err(Error::Custom(Kind::Unit)),
+    }
+}
+
+pub(super) fn find_character(value: &Value) -> Result<char, Error>
+    ensures ok { IfOk result (λ v. taken_character None (value_item value.now) ≡ gives v) }
+    ensures refused { IfErr result
+        (λ e. IsFaultOf (fault_of e) (taken_character None (value_item value.now))) }
+    ensures memory { IfErr result (λ e. IsGranted (fault_of e) false) }
+{
+    let Value::Text(text) = skip_tags(value) else {
+        return Err(Error::Custom(Kind::Char));
+    };
+    match lone_character(text) {
+        Some(character) => Ok(character),
+        None => Err(Error::Custom(Kind::Char)),
+    }
+}
+
+pub(super) fn copy_text(alloc: Global, value: &Value) -> Result<String, Error>
+    ensures ok { IfOk result (λ v. taken_text None (value_item value.now) ≡ gives (string_bytes v)) }
+    ensures refused { IfErr result
+        (λ e. IsFaultOf (fault_of e) (taken_text None (value_item value.now))) }
+{
+    match skip_tags(value) {
+        Value::Text(text) => Ok(String::from_str(alloc, text)?),
+        _ => Err(Error::Custom(Kind::Text)),
+    }
+}
+
+// A number from 0 to 255.
+fn find_byte(value: &Value) -> Result<u8, Error>
+    ensures ok { IfOk result (λ v. taken_byte None (value_item value.now) ≡ gives v) }
+    ensures refused { IfErr result
+        (λ e. IsFaultOf (fault_of e) (taken_byte None (value_item value.now))) }
+{
+    let (negative, number) = find_number(value)?;
+    if negative || number > 255 {
+        return Err(Error::Custom(Kind::Range));
+    }
+    Ok(number as u8)
+}
+
+fn copy_bytes_of(alloc: Global, values: &[Value]) -> Result<Vec<u8>, Error>
+    ensures ok { IfOk result
+        (λ v. take_each (taken_byte None) (map value_item values.now) ≡ gives v.items) }
+    ensures refused { IfErr result
+        (λ e. IsFaultOf (fault_of e) (take_each (taken_byte None) (map value_item values.now))) }
+{
+    let mut bytes = Vec::new(alloc);
+    for value in values {
+        let byte = find_byte(value)?;
+        match bytes.push(byte) {
+            Ok(()) => {}
+            Err(_) => return Err(Error::Memory),
+        }
+    }
+    Ok(bytes)
+}
+
+pub(super) fn copy_bytes(alloc: Global, value: &Value) -> Result<Vec<u8>, Error>
+    ensures ok { IfOk result (λ v. taken_bytes None (value_item value.now) ≡ gives v.items) }
+    ensures refused { IfErr result
+        (λ e. IsFaultOf (fault_of e) (taken_bytes None (value_item value.now))) }
+{
+    match skip_tags(value) {
+        Value::Bytes(bytes) => Ok(Vec::from_slice(alloc, bytes)?),
+        Value::Array(values) => copy_bytes_of(alloc, values),
+        _ => Err(Error::Custom(Kind::Bytes)),
+    }
+}
+
+// The character of a text that has just one.
+fn lone_character(text: &str) -> Option<char>
+    ensures { MatchOption result (taken.lone_character (chars text.now) ≡ refuses kinds.Char)
+        (λ c. taken.lone_character (chars text.now) ≡ gives c) }
+{
+    let mut characters = text.chars();
+    match characters.next() {
+        Some(first) => match characters.next() {
+            Some(_) => None,
+            None => Some(first),
+        },
+        None => None,
+    }
+}

@@ -1,0 +1,163 @@
+//! What values are read from.
+
+ghost use Rattle.std.specs.Prelude.{◌≡◌, ◌+◌, ◌<◌, ◌≤◌, IfErr, IfOk, List, MatchBool, OnOk, Result};
+ghost use Rattle.std.specs.Prelude.{false, string_bytes, ℕ};
+ghost use Rattle.ciborium_value.specs.Ahead.{Ahead, Rest};
+ghost use Rattle.ciborium_value.specs.Nesting.{Limit};
+ghost use Rattle.ciborium_value.specs.Places.{Shape, dictionary, sequence};
+ghost use Rattle.ciborium_value.specs.Sources.{Enters, EntersMap, Fault, GoesOn, IsGranted, Leaves};
+ghost use Rattle.ciborium_value.specs.Sources.{OwesLess, OwesNothing, Refuses, RefusesNext};
+ghost use Rattle.ciborium_value.specs.Sources.{RefusesToTell, Takes, TakesItem, TakesNothing};
+ghost use Rattle.ciborium_value.specs.Sources.{TakesTo, Tells, of_kind, of_memory, read_as};
+ghost use Rattle.ciborium_value.specs.Taken.{taken_boolean, taken_bytes, taken_character};
+ghost use Rattle.ciborium_value.specs.Taken.{taken_integer, taken_pairs, taken_seq, taken_text};
+ghost use Rattle.ciborium_value.specs.Taken.{taken_unit, taken_value};
+ghost use Rattle.ciborium_value.specs.Tree.{Tree};
+ghost use Rattle.ciborium_value.specs.View.{tree_of};
+
+use crate::kind::Kind;
+use crate::tree::Value;
+use std::alloc::Global;
+
+/// Where an item is read from, part by part: from bytes, or from a tree.
+///
+/// A source stands before one item. Each call takes what it says, or is refused: with a kind where
+/// the item is another one, for nesting where a container is entered and no level is left, and from
+/// bytes where no item stands there or the reader fails. Calls that skip tags skip any number of
+/// them, at no cost of levels (RFC 8949, section 3.4).
+pub trait Source {
+    /// Why a call is refused.
+    type Error: Drop;
+
+    /// What is left of a container that is being read.
+    type Seq: Drop;
+
+    // The levels that are left, and what the source stands before.
+    ghost stands_before: { Self → Limit → Ahead → Type 0 };
+
+    // The levels to give back behind the container, and what is left of it.
+    ghost seq_stands: { Self.Seq → Limit → Rest → Type 0 };
+
+    // How much can still be read, at most: an item that is read lowers it.
+    ghost left: { Self → ℕ };
+
+    ghost seq_left: { Self.Seq → ℕ };
+
+    // These bytes are unread, where they are known.
+    ghost is_unread: { Self → List ℕ → Type 0 };
+
+    // The first bytes began with a container, which is read up to the second.
+    ghost owes: { Self.Seq → Shape → List ℕ → List ℕ → Type 0 };
+
+    // What a call of `value` did and answered.
+    ghost reads: { Self → Self → Result Tree Self.Error → Type 0 };
+
+    // Why it refused.
+    ghost cause: { Self.Error → Fault };
+
+    /// A number: whether it is negative, and n for n or -1 - n. Skips tags other than 2 and 3; takes
+    /// an integer, or tag 2 or 3 over a byte string, definite or open, of at most 16 bytes behind
+    /// its leading zeros (sections 3.1 and 3.4.3). Refused as `TooLarge` where there are more, as
+    /// `Bytes` where another item stands under the tag, else as `Integer`.
+    fn integer(&mut self) -> Result<(bool, u128), Self::Error>
+        ensures ok { IfOk result (λ v. Takes stands_before self.old self.new taken_integer v) }
+        ensures refused { IfErr result (λ e. Refuses stands_before self.old taken_integer (cause e)) }
+        ensures memory { IfErr result (λ e. IsGranted (cause e) false) }
+        ensures took { OnOk result (TakesItem is_unread self.old self.new) }
+        ensures less { OnOk result (left self.new < left self.old) };
+
+    /// False or true (section 3.3). Skips tags; refused as `Bool`.
+    fn boolean(&mut self) -> Result<bool, Self::Error>
+        ensures ok { IfOk result (λ v. Takes stands_before self.old self.new taken_boolean v) }
+        ensures refused { IfErr result (λ e. Refuses stands_before self.old taken_boolean (cause e)) }
+        ensures memory { IfErr result (λ e. IsGranted (cause e) false) }
+        ensures took { OnOk result (TakesItem is_unread self.old self.new) }
+        ensures less { OnOk result (left self.new < left self.old) };
+
+    /// Null or undefined (section 3.3). Skips tags; refused as `Unit`.
+    fn unit(&mut self) -> Result<(), Self::Error>
+        ensures ok { IfOk result (λ v. Takes stands_before self.old self.new taken_unit v) }
+        ensures refused { IfErr result (λ e. Refuses stands_before self.old taken_unit (cause e)) }
+        ensures memory { IfErr result (λ e. IsGranted (cause e) false) }
+        ensures took { OnOk result (TakesItem is_unread self.old self.new) }
+        ensures less { OnOk result (left self.new < left self.old) };
+
+    /// The one character of a definite text. Skips tags; refused as `Char`.
+    fn character(&mut self) -> Result<char, Self::Error>
+        ensures ok { IfOk result (λ v. Takes stands_before self.old self.new taken_character v) }
+        ensures refused { IfErr result (λ e. Refuses stands_before self.old taken_character (cause e)) }
+        ensures memory { IfErr result (λ e. IsGranted (cause e) false) }
+        ensures took { OnOk result (TakesItem is_unread self.old self.new) }
+        ensures less { OnOk result (left self.new < left self.old) };
+
+    /// A text, definite or open (section 3.1). Skips tags; refused as `Text`.
+    fn text(&mut self, alloc: Global) -> Result<String, Self::Error>
+        ensures ok { IfOk result (λ v. Takes stands_before self.old self.new taken_text (string_bytes v)) }
+        ensures refused { IfErr result (λ e. Refuses stands_before self.old taken_text (cause e)) }
+        ensures took { OnOk result (TakesItem is_unread self.old self.new) }
+        ensures less { OnOk result (left self.new < left self.old) };
+
+    /// The bytes of a byte string, definite or open (section 3.1); or, with a level, of an array
+    /// of numbers, each as `integer` reads it, from 0 to 255, else refused as `Range`. Skips tags;
+    /// another item is refused as `Bytes`.
+    fn bytes(&mut self, alloc: Global) -> Result<Vec<u8>, Self::Error>
+        ensures ok { IfOk result (λ v. Takes stands_before self.old self.new taken_bytes v.items) }
+        ensures refused { IfErr result (λ e. Refuses stands_before self.old taken_bytes (cause e)) }
+        ensures took { OnOk result (TakesItem is_unread self.old self.new) }
+        ensures less { OnOk result (left self.new < left self.old) };
+
+    /// Whether the item ahead is null or undefined, under no tag. It is not taken.
+    fn null_ahead(&mut self) -> Result<bool, Self::Error>
+        ensures ok { IfOk result (λ b. Tells stands_before self.old self.new b) }
+        ensures refused { IfErr result (λ e. RefusesToTell stands_before self.old (cause e)) }
+        ensures memory { IfErr result (λ e. IsGranted (cause e) false) }
+        ensures took { OnOk result (TakesNothing is_unread self.old self.new) }
+        ensures less { OnOk result (left self.new ≤ left self.old) };
+
+    /// Enters an array, which takes a level; or a byte string, whose bytes are then its items, as
+    /// integers, without one. Skips tags; another item is refused as `Array`.
+    fn begin_seq(&mut self, alloc: Global) -> Result<Self::Seq, Self::Error>
+        ensures ok { IfOk result (λ q. Enters stands_before seq_stands self.old self.new q) }
+        ensures refused { IfErr result (λ e. Refuses stands_before self.old taken_seq (cause e)) }
+        ensures took { IfOk result (λ q. TakesTo is_unread self.old self.new (owes q sequence)) }
+        ensures less { IfOk result (λ q. left self.new + seq_left q < left self.old) };
+
+    /// Enters a map, which takes a level. Skips tags; another item is refused as `Map`.
+    fn begin_map(&mut self) -> Result<Self::Seq, Self::Error>
+        ensures ok { IfOk result (λ q. EntersMap stands_before seq_stands self.old self.new q) }
+        ensures refused { IfErr result (λ e. Refuses stands_before self.old taken_pairs (cause e)) }
+        ensures memory { IfErr result (λ e. IsGranted (cause e) false) }
+        ensures took { IfOk result (λ q. TakesTo is_unread self.old self.new (owes q dictionary)) }
+        ensures less { IfOk result (λ q. left self.new + seq_left q < left self.old) };
+
+    /// Whether a further item, or a further key, is ahead. A map's value is read right behind its
+    /// key. At `false` the container is left, its break taken and its level given back.
+    fn next(&mut self, seq: &mut Self::Seq) -> Result<bool, Self::Error>
+        ensures ok { IfOk result (λ b. MatchBool b
+            (GoesOn stands_before seq_stands self.old self.new seq.old seq.new)
+            (Leaves stands_before seq_stands self.old self.new seq.old)) }
+        ensures refused { IfErr result
+            (λ e. RefusesNext stands_before seq_stands self.old seq.old (cause e)) }
+        ensures memory { IfErr result (λ e. IsGranted (cause e) false) }
+        ensures took { IfOk result (λ b. MatchBool b
+            (TakesTo is_unread self.old self.new (OwesLess owes seq.old seq.new))
+            (TakesTo is_unread self.old self.new (OwesNothing owes seq.old))) }
+        ensures less { OnOk result
+            (left self.new + seq_left seq.new ≤ left self.old + seq_left seq.old) };
+
+    /// Whatever item is ahead, as a `Value`: its meaning, bignums folded (section 3.4.3).
+    fn value(&mut self, alloc: Global) -> Result<Value, Self::Error>
+        ensures ok { IfOk result (λ v. Takes stands_before self.old self.new taken_value (tree_of v)) }
+        ensures refused { IfErr result (λ e. Refuses stands_before self.old taken_value (cause e)) }
+        ensures reads { reads self.old self.new (read_as tree_of result) }
+        ensures took { OnOk result (TakesItem is_unread self.old self.new) }
+        ensures less { OnOk result (left self.new < left self.old) };
+
+    /// The error for an item that is not wanted, for an implementation of `Deserialize` to answer.
+    fn refuse(&self, kind: Kind) -> Self::Error
+        ensures { cause result ≡ of_kind kind };
+
+    /// The error for a growth that an implementation of `Deserialize` was refused.
+    fn memory(&self) -> Self::Error
+        ensures { cause result ≡ of_memory };
+}
