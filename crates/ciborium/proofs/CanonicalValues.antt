@@ -10,7 +10,7 @@ use Rattle.ciborium_value.specs.Proper.{IsProperTree}
 use Rattle.ciborium_value.specs.Tree.{Tree}
 use Rattle.ciborium_value.specs.View.{tree_of}
 use Rattle.ciborium_value.specs.declared.tree.Value.{Value}
-use Rattle.ciborium_value.proofs.Derived.{value_cmp-is}
+use Rattle.ciborium_value.specs.DerivedOrder.{value_cmp-is}
 use Rattle.ciborium_value.proofs.OrderedTrees.{tied_where_equal}
 use Rattle.ciborium.specs.CanonicalLaws.{IsCanonical, TiesEqualOnes}
 use Rattle.ciborium_value.proofs.TotalOrders.{canonical_order_total}

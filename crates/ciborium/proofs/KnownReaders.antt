@@ -6,19 +6,18 @@ use Rattle.ciborium_ll.specs.Refusal as refusal
 use Rattle.ciborium_ll.specs.Refusal.{Refusal}
 use Rattle.ciborium_ll.proofs.Unread.{rest-of}
 use Rattle.ciborium_ll.proofs.UniqueSpelling.{one_at_front}
-use Rattle.ciborium_value.specs.declared.tree.Value.{Value}
+use Rattle.ciborium_value.specs.Tree.{Tree}
 use Rattle.ciborium_value.specs.Counts.{node_count, payload_size}
 use Rattle.ciborium_value.specs.Meaning.{meaning}
 use Rattle.ciborium_value.specs.Proper.{IsProperTree}
 use Rattle.ciborium_value.specs.Refuses.{IsGood, Refuses}
-use Rattle.ciborium_value.specs.View.{tree_of}
 use Rattle.ciborium_value.proofs.Bounded.{bounded}
 use Rattle.ciborium_value.proofs.GoodBytes.{good_bytes}
 use Rattle.ciborium_value.proofs.Outcome.{never_both}
 use Rattle.ciborium_value.proofs.ProperMeanings.{proper_meaning}
 use Rattle.ciborium.specs.declared.de.error.Error.{Error}
 use Rattle.ciborium.specs.declared.de.error.Error.TheVariants as errors
-use Rattle.ciborium.specs.Answers.{AnswersItem, IsFailed, TakesBytes, TakesValue}
+use Rattle.ciborium.specs.Answers.{AnswersItem, IsFailed, ReadsWhole, TakesBytes, TakesValue}
 use Rattle.ciborium.specs.Errors.{IsRefusedBy}
 use Rattle.ciborium.proofs.Outcomes.{only-fails}
 
@@ -56,28 +55,28 @@ good-not-refused : (l : ℕ) (s x z : List ℕ) (i : Item) (r : Refusal) → IsG
 good-not-refused l s x z i r good split bytes = never_both z 0 (Some l) r bytes (s, i, x, good, split)
 
 -- the answer is a tree that memory can hold
-pub proper-of : {E : Type 0} (l : ℕ) (old new : Option (List ℕ)) (x : Result Value (Error E)) → TakesBytes {E = E} old l new x → IfOk x (λ v. IsProperTree (tree_of v))
-proper-of l old new (Ok v) (s, taken, fits, (i, good, means), bytes) = proper_meaning i s (tree_of v) good.0 bytes fits means
+pub proper-of : {E : Type 0} (l : ℕ) (old new : Option (List ℕ)) (x : Result Tree (Error E)) → TakesBytes {E = E} old l new x → IfOk x (λ v. IsProperTree v)
+proper-of l old new (Ok v) (s, taken, fits, (i, good, means), bytes) = proper_meaning i s v good.0 bytes fits means
 proper-of l old new (Err e) t = tt
 
 module _ {E : Type 0} (l : ℕ) (old new : Option (List ℕ)) (b : List ℕ) (known : old ≡ Some b) where
-  pub ok-of : (x : Result Value (Error E)) → TakesBytes {E = E} old l new x → IfOk x (λ v. TakesValue b l (tree_of v) new)
+  pub ok-of : (x : Result Tree (Error E)) → TakesBytes {E = E} old l new x → IfOk x (λ v. TakesValue b l v new)
   ok-of (Ok v) (s, taken, fits, read, bytes) = let k = rest-of old new b s known taken in (s, k.0, read, k.2, k.1)
   ok-of (Err e) t = tt
 
-  pub refused-of : (x : Result Value (Error E)) → TakesBytes {E = E} old l new x → IfErr x (λ e. IsRefusedBy new e (λ r. Refuses b 0 (Some l) r))
+  pub refused-of : (x : Result Tree (Error E)) → TakesBytes {E = E} old l new x → IfErr x (λ e. IsRefusedBy new e (λ r. Refuses b 0 (Some l) r))
   refused-of (Ok v) t = tt
   refused-of (Err e) (s, taken, fits, h, bytes) =
       let k = rest-of old new b s known taken in
       subst (λ o. IsRefusedBy o e (λ r. Refuses b 0 (Some l) r)) (sym k.1) (subst (λ z. IsRefusedBy (Some k.0) e (λ r. Refuses z 0 (Some l) r)) (sym k.2) (h k.0))
 
-  pub within-of : (left : List ℕ) (x : Result Value (Error E)) → new ≡ Some left → TakesBytes {E = E} old l new x → length b ≤ length left + greatest_offset
+  pub within-of : (left : List ℕ) (x : Result Tree (Error E)) → new ≡ Some left → TakesBytes {E = E} old l new x → length b ≤ length left + greatest_offset
   within-of left x e (s, taken, fits, h, bytes) =
       let k = rest-of old new b s known taken in
       let same : k.0 ≡ left = inside k.0 left (sym k.1 ∙ e) in
       omega (arith, fits, ap length k.2, length-append s k.0, ap length same)
 
-  pub exact-of : (x : Result Value (Error E)) (s left : List ℕ) (i : Item) → IsGood i (Some l) s 0 → b ≡ s ++ left → TakesBytes {E = E} old l new x → AnswersItem i left new x
+  pub exact-of : (x : Result Tree (Error E)) (s left : List ℕ) (i : Item) → IsGood i (Some l) s 0 → b ≡ s ++ left → TakesBytes {E = E} old l new x → AnswersItem i left new x
   exact-of (Ok v) s left i good split (t, taken, fits, (j, fine, means), bytes) =
       let k = rest-of old new b t known taken in
       let same = one_at_front s t left k.0 i j good.0 fine.0 (sym split ∙ k.2) in
@@ -95,9 +94,21 @@ module _ {E : Type 0} (l : ℕ) (old new : Option (List ℕ)) (b : List ℕ) (kn
       by (inl (r, is)) = fails l new t r e h (λ f. good-not-refused l s [] (t ++ r) i f good (sym is ∙ sym (append-nil s)) (subst AreBytes is (good_bytes i s (Some l) 0 good))) ended
       by (inr (r, is)) = fails l new t [] e h (λ f. good-not-refused l s r (t ++ []) i f good (append-nil t ∙ is) (subst AreBytes (sym (append-nil t)) bytes)) ended
 
-  pub bounded-of : (left : List ℕ) (x : Result Value (Error E)) → new ≡ Some left → TakesBytes {E = E} old l new x → IfOk x (λ v. node_count (tree_of v) + payload_size (tree_of v) + length left ≤ length b)
+  pub bounded-of : (left : List ℕ) (x : Result Tree (Error E)) → new ≡ Some left → TakesBytes {E = E} old l new x → IfOk x (λ v. node_count v + payload_size v + length left ≤ length b)
   bounded-of left (Err x) e t = tt
   bounded-of left (Ok v) e (s, taken, fits, (i, good, means), bytes) =
       let k = rest-of old new b s known taken in
       let same : k.0 ≡ left = inside k.0 left (sym k.1 ∙ e) in
-      omega (arith, bounded i s (tree_of v) good.0 means, ap length k.2, length-append s k.0, ap length same)
+      omega (arith, bounded i s v good.0 means, ap length k.2, length-append s k.0, ap length same)
+
+-- all that is said of a call follows from what it takes
+pub whole-of : {E : Type 0} (l : ℕ) (old new : Option (List ℕ)) (x : Result Tree (Error E)) → TakesBytes {E = E} old l new x → ReadsWhole old l new x
+whole-of l old new x t = record {
+  taken = t;
+  ok = λ b e. ok-of l old new b e x t;
+  exact = λ b s left i e good split. exact-of l old new b e x s left i good split t;
+  refused = λ b e. refused-of l old new b e x t;
+  bounded = λ b left e known. bounded-of l old new b e left x known t;
+  proper = proper-of l old new x t;
+  within = λ b left e known. within-of l old new b e left x known t;
+}

@@ -25,3 +25,21 @@ mod WrittenPlaces
 mod ByteSinks
 mod RisingKeys
 mod OwnTypes
+mod FrontReads
+mod ItemHeads
+mod SkippedTags
+mod ReadDigits
+mod SpelledStrings
+mod StringPayloads
+mod OpenNumbers
+mod BareScalars
+pub mod SourcesAgree
+mod EnteredContainers
+mod NextParts
+mod LoneCharacters
+mod ByteItems
+mod NullAhead
+mod ValuesGiven
+mod ValueFaults
+mod WholeValues
+mod HandedReaders

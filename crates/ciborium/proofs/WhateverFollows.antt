@@ -13,11 +13,12 @@ use Rattle.ciborium_ll.specs.Reading.{IsHeadTaken}
 use Rattle.ciborium_ll.specs.StringRefusal.{StringKind, ContentRefuses}
 use Rattle.ciborium_ll.specs.Strings.{IsStringTaken}
 use Rattle.ciborium_ll.proofs.Unread.{pulls-head, reads-string}
+use Rattle.ciborium_value.specs.Tree.{Tree}
 use Rattle.ciborium_value.specs.declared.tree.Value.{Value}
+use Rattle.ciborium_value.specs.View.{tree_of}
 use Rattle.ciborium.specs.declared.de.error.Error.{Error}
 use Rattle.ciborium_value.specs.Refuses.{IsReadAs}
-use Rattle.ciborium_value.specs.View.{tree_of}
-use Rattle.ciborium.specs.Answers.{IsTakenAs, TakesBytes, IsValueRead}
+use Rattle.ciborium.specs.Answers.{IsTakenAs, TakesBytes, IsTreeRead}
 use Rattle.ciborium.specs.Errors.{from_ll}
 use Rattle.ciborium.specs.Reads.{IsAt}
 use Rattle.ciborium.specs.Strings.{IsStringRead}
@@ -94,11 +95,11 @@ string-refused E remaining a b kind len x A (y, taken, count, h, bytes) = (
 -- ---- what was taken of a reader
 
 -- what reading a value answers
-abbrev pub ValueSo : {E : Type 0} → ℕ → Decoder (List ℕ) → Decoder (List ℕ) → Result Value (Error E) → Type 0
-ValueSo {E} l d e x = (xs : List ℕ) (p : ℕ) → IsAhead Some d xs p → IsValueRead {S = List ℕ} {E = E} Some e l xs p x
+abbrev pub TreeSo : {E : Type 0} → ℕ → Decoder (List ℕ) → Decoder (List ℕ) → Result Tree (Error E) → Type 0
+TreeSo {E} l d e x = (xs : List ℕ) (p : ℕ) → IsAhead Some d xs p → IsTreeRead {S = List ℕ} {E = E} Some e l xs p x
 
-pub taken-as : (E : Type 0) {S : Type 0} (remaining : S → Option (List ℕ)) (a b : Decoder S) (lent : S) (l : ℕ) (x : Result Value (Error E)) → HasBegun a lent 0 → OnOk x (b.pushed ≡ None) →
-    TakesBeforeAny remaining a b (λ d e. ValueSo {E = E} l d e x) → TakesBytes {E = E} (remaining lent) l (remaining b.reader.now) x
+pub taken-as : (E : Type 0) {S : Type 0} (remaining : S → Option (List ℕ)) (a b : Decoder S) (lent : S) (l : ℕ) (x : Result Tree (Error E)) → HasBegun a lent 0 → OnOk x (b.pushed ≡ None) →
+    TakesBeforeAny remaining a b (λ d e. TreeSo {E = E} l d e x) → TakesBytes {E = E} (remaining lent) l (remaining b.reader.now) x
 taken-as E {S} remaining a b lent l x begins rests (s, taken, count, h, bytes) =
     let zero : a.count ≡ 0 = begins.count in
     let less = b.fits in
@@ -107,10 +108,10 @@ taken-as E {S} remaining a b lent l x begins rests (s, taken, count, h, bytes) =
     same-rest : (u v : List ℕ) → Some u ≡ Some v → u ≡ v
     same-rest u v e = cc
 
-    found : (x : Result Value (Error E)) → OnOk x (b.pushed ≡ None) → ((c : List ℕ) → IsValueRead {S = List ℕ} {E = E} Some (with_left b c) l (s ++ c) 0 x) → IsTakenAs {E = E} s l x
+    found : (x : Result Tree (Error E)) → OnOk x (b.pushed ≡ None) → ((c : List ℕ) → IsTreeRead {S = List ℕ} {E = E} Some (with_left b c) l (s ++ c) 0 x) → IsTakenAs {E = E} s l x
     found (Ok v) rests f =
         let (zs, r, reads, at) = f [] in
         let left : [] ≡ zs = same-rest [] zs (left-at Some (with_left b []) r zs rests at) in
         let whole : reads.taken ≡ s = sym (append-nil reads.taken) ∙ ap (λ (z : List ℕ). reads.taken ++ z) left ∙ sym reads.split ∙ append-nil s in
-        subst (λ z. IsReadAs z 0 (Some l) (tree_of v)) whole reads.read
+        subst (λ z. IsReadAs z 0 (Some l) v) whole reads.read
     found (Err e) rests f = f

@@ -45,44 +45,60 @@ IsFailed left Memory = Unit {0}
 IsFailed left _ = ⊥
 
 -- the good item i stood at the front, and left followed it: it was taken, and its meaning is the answer, or the call failed
-abbrev pub AnswersItem : {E : Type 0} → Item → List ℕ → Option (List ℕ) → Result Value (Error E) → Type 0
-AnswersItem i left after (Ok v) = (meaning i ≡ Some (tree_of v)) × (after ≡ Some left)
+abbrev pub AnswersItem : {E : Type 0} → Item → List ℕ → Option (List ℕ) → Result Tree (Error E) → Type 0
+AnswersItem i left after (Ok v) = (meaning i ≡ Some v) × (after ≡ Some left)
 AnswersItem i left after (Err e) = IsFailed after e
 
 -- ---- the clauses of a call that reads one value within l levels: what the reader held before it, what it is left with, and the answer
+-- by its tree
 
 -- what the bytes s are that were taken, where the answer is so: a good item that means it; or refused so, whatever follows them
-abbrev pub IsTakenAs : {E : Type 0} → List ℕ → ℕ → Result Value (Error E) → Type 0
-IsTakenAs s l (Ok v) = IsReadAs s 0 (Some l) (tree_of v)
+abbrev pub IsTakenAs : {E : Type 0} → List ℕ → ℕ → Result Tree (Error E) → Type 0
+IsTakenAs s l (Ok v) = IsReadAs s 0 (Some l) v
 IsTakenAs s l (Err e) = (c : List ℕ) → IsRefusedBy (Some c) e (Refuses (s ++ c) 0 (Some l))
 
 -- some bytes were taken, a beginning of those that are known, and no more than there are offsets; and so they are
-abbrev pub TakesBytes : {E : Type 0} → Option (List ℕ) → ℕ → Option (List ℕ) → Result Value (Error E) → Type 0
+abbrev pub TakesBytes : {E : Type 0} → Option (List ℕ) → ℕ → Option (List ℕ) → Result Tree (Error E) → Type 0
 TakesBytes before l after r =
     (s : List ℕ) × Consumes before after s × (length s ≤ greatest_offset) × IsTakenAs s l r × AreBytes s
 
 -- at Ok just a good item was taken, and the answer is its meaning
-abbrev pub TakesItem : {E : Type 0} → Option (List ℕ) → ℕ → Option (List ℕ) → Result Value (Error E) → Type 0
-TakesItem before l after r = (b : List ℕ) → before ≡ Some b → IfOk r (λ v. TakesValue b l (tree_of v) after)
+abbrev pub TakesItem : {E : Type 0} → Option (List ℕ) → ℕ → Option (List ℕ) → Result Tree (Error E) → Type 0
+TakesItem before l after r = (b : List ℕ) → before ≡ Some b → IfOk r (λ v. TakesValue b l v after)
 
 -- a good item at the front is taken and its meaning answered, unless the call failed
-abbrev pub AnswersGoodItem : {E : Type 0} → Option (List ℕ) → ℕ → Option (List ℕ) → Result Value (Error E) → Type 0
+abbrev pub AnswersGoodItem : {E : Type 0} → Option (List ℕ) → ℕ → Option (List ℕ) → Result Tree (Error E) → Type 0
 AnswersGoodItem before l after r =
     (b s left : List ℕ) (i : Item) → before ≡ Some b → IsGood i (Some l) s 0 → b ≡ s ++ left → AnswersItem i left after r
 
 -- an error is the refusal of what the reader held
-abbrev pub RefusesBytes : {E : Type 0} → Option (List ℕ) → ℕ → Option (List ℕ) → Result Value (Error E) → Type 0
+abbrev pub RefusesBytes : {E : Type 0} → Option (List ℕ) → ℕ → Option (List ℕ) → Result Tree (Error E) → Type 0
 RefusesBytes before l after r = (b : List ℕ) → before ≡ Some b → IfErr r (λ e. IsRefusedBy after e (Refuses b 0 (Some l)))
 
 -- the values and payload bytes of the answer are no more than the bytes taken
-abbrev pub HoldsNoMore : {E : Type 0} → Option (List ℕ) → Option (List ℕ) → Result Value (Error E) → Type 0
+abbrev pub HoldsNoMore : {E : Type 0} → Option (List ℕ) → Option (List ℕ) → Result Tree (Error E) → Type 0
 HoldsNoMore before after r =
-    (b left : List ℕ) → before ≡ Some b → after ≡ Some left → IfOk r (λ v. node_count (tree_of v) + payload_size (tree_of v) + length left ≤ length b)
+    (b left : List ℕ) → before ≡ Some b → after ≡ Some left → IfOk r (λ v. node_count v + payload_size v + length left ≤ length b)
 
 -- the answer is a tree that memory can hold
-abbrev pub AnswersProper : {E : Type 0} → Result Value (Error E) → Type 0
-AnswersProper r = IfOk r (λ v. IsProperTree (tree_of v))
+abbrev pub AnswersProper : {E : Type 0} → Result Tree (Error E) → Type 0
+AnswersProper r = IfOk r (λ v. IsProperTree v)
 
 -- no more bytes were taken than there are offsets, whatever the answer
 abbrev pub TakesWithin : Option (List ℕ) → Option (List ℕ) → Type 0
 TakesWithin before after = (b left : List ℕ) → before ≡ Some b → after ≡ Some left → length b ≤ length left + greatest_offset
+
+-- all of this
+pub record ReadsWhole {E : Type 0} (before : Option (List ℕ)) (l : ℕ) (after : Option (List ℕ)) (r : Result Tree (Error E)) : Type 0 where
+  pub taken : TakesBytes before l after r
+  pub ok : TakesItem before l after r
+  pub exact : AnswersGoodItem before l after r
+  pub refused : RefusesBytes before l after r
+  pub bounded : HoldsNoMore before after r
+  pub proper : AnswersProper r
+  pub within : TakesWithin before after
+
+-- the answer of a call that reads a value, by its tree
+abbrev pub IsTreeRead : {S E : Type 0} → (S → Option (List ℕ)) → Decoder S → ℕ → List ℕ → ℕ → Result Tree (Error E) → Type 0
+IsTreeRead remaining d l xs p (Ok v) = (zs : List ℕ) × (r : ℕ) × ReadsItem l xs p v zs r × IsAhead remaining d zs r
+IsTreeRead remaining d l xs p (Err e) = IsRefusedBy (left_of remaining d) e (Refuses xs p (Some l))

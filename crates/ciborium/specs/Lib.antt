@@ -10,3 +10,9 @@ pub mod Heads
 pub mod Visits
 pub mod EncodingLaws
 pub mod CanonicalLaws
+pub mod Unread
+pub mod ItemReads
+pub mod Skips
+pub mod StringContents
+pub mod ByteSources
+pub mod TypedReads

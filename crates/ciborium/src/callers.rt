@@ -8,9 +8,12 @@ ghost use Rattle.ciborium_ll.specs.Writing.{Writes};
 ghost use Rattle.ciborium_value.specs.Proper.{IsProperTree};
 ghost use Rattle.ciborium_value.specs.Refuses.{IsReadAs};
 ghost use Rattle.ciborium_value.specs.Sinks.{number_item};
+ghost use Rattle.ciborium_value.specs.Sources.{read_as};
 ghost use Rattle.ciborium_value.specs.Tree.{integer, text};
 ghost use Rattle.ciborium_value.specs.View.{tree_of};
 ghost use Rattle.ciborium_value.specs.declared.tree.Value as value;
+ghost use Rattle.ciborium.specs.Answers.{AnswersGoodItem, AnswersProper, HoldsNoMore};
+ghost use Rattle.ciborium.specs.Answers.{RefusesBytes, TakesBytes, TakesItem, TakesWithin};
 ghost use Rattle.ciborium.specs.CanonicalLaws.{RiseCanonically};
 ghost use Rattle.ciborium.specs.Writes.{IsIo};
 
@@ -19,12 +22,34 @@ use crate::own_types::Message;
 use crate::ser::Error;
 use crate::small_devices::decode_hex;
 use crate::value::CanonicalValue;
-use crate::{Value, from_reader, into_writer};
+use crate::{Value, de, from_reader, from_reader_with_recursion_limit, into_writer};
 use std::alloc::Global;
 use std::collections::BTreeMap;
 use std::convert::TryFrom;
-use std::io::{self, Write};
+use std::io::{self, Read, Write};
 use std::test::Fail;
+
+/// Reads a value within this many levels, and says of it all that is said of reading a `Value`.
+pub fn read_value<R: Read>(
+    alloc: Global,
+    reader: &mut R,
+    limit: usize,
+) -> Result<Value, de::Error<io::Error>>
+    ensures taken { TakesBytes (R.remaining reader.old) limit (R.remaining reader.new)
+        (read_as tree_of result) }
+    ensures ok { TakesItem (R.remaining reader.old) limit (R.remaining reader.new)
+        (read_as tree_of result) }
+    ensures exact { AnswersGoodItem (R.remaining reader.old) limit (R.remaining reader.new)
+        (read_as tree_of result) }
+    ensures refused { RefusesBytes (R.remaining reader.old) limit (R.remaining reader.new)
+        (read_as tree_of result) }
+    ensures bounded { HoldsNoMore (R.remaining reader.old) (R.remaining reader.new)
+        (read_as tree_of result) }
+    ensures proper { AnswersProper (read_as tree_of result) }
+    ensures within { TakesWithin (R.remaining reader.old) (R.remaining reader.new) }
+{
+    from_reader_with_recursion_limit(alloc, reader, limit)
+}
 
 /// The one item that all of the bytes are.
 pub fn only_item(alloc: Global, bytes: &[u8]) -> Option<Value>

@@ -1,16 +1,21 @@
 //! Bytes to values.
 
-ghost use Rattle.ciborium.specs.Answers.{AnswersGoodItem, AnswersProper, HoldsNoMore, RefusesBytes};
-ghost use Rattle.ciborium.specs.Answers.{TakesBytes, TakesItem, TakesWithin};
+ghost use Rattle.std.specs.Prelude.{IfErr, IfSome, Some};
+ghost use Rattle.ciborium_value.specs.Sources.{IsGranted, read_as};
+ghost use Rattle.ciborium.specs.Answers.{ReadsWhole};
+ghost use Rattle.ciborium.specs.ByteSources.{cause_of};
+ghost use Rattle.ciborium.specs.TypedReads.{RefusesTaken, TakesGiven};
 
 mod building;
+mod byte_source;
 mod error;
 mod front;
 mod parts;
 mod tags;
 
+use byte_source::ByteSource;
 use ciborium_ll::Decoder;
-use ciborium_value::Value;
+pub use ciborium_value::{Deserialize, Key, Source};
 pub use error::Error;
 use std::alloc::Global;
 use std::io::{self, Read};
@@ -21,41 +26,63 @@ pub const RECURSION_LIMIT: usize = 256;
 // The size of the scratch where none is lent.
 const SCRATCH_SIZE: usize = 4096;
 
-// Reads one value with a decoder of its own.
-fn read<R: Read>(
+// Reads one value from a source of its own.
+fn read<T: Deserialize, R: Read>(
     alloc: Global,
     reader: &mut R,
     scratch: &mut [u8],
     limit: usize,
-) -> Result<Value, Error<io::Error>>
-    ensures taken { TakesBytes (R.remaining reader.old) limit (R.remaining reader.new) result }
+) -> Result<T, Error<io::Error>>
+    // Where an item stands at the front: just it was taken, and the answer is what it gives; or it
+    // is refused as the item is.
+    ensures ok { TakesGiven (Some limit) T.reading.taken (R.remaining reader.old)
+        (R.remaining reader.new) (read_as T.reading.content result) }
+    ensures refused { RefusesTaken (Some limit) T.reading.taken (R.remaining reader.old)
+        (read_as T.reading.content result) }
+    ensures memory { IfErr result (λ e. IsGranted (cause_of e) T.reading.takes_memory) }
+    // Where reading is one call of `value`, whatever the bytes.
+    ensures value { IfSome T.reading.whole (λ tree. ReadsWhole (R.remaining reader.old) limit
+        (R.remaining reader.new) (read_as (λ v. tree (T.reading.content v)) result)) }
 {
-    let mut decoder = Decoder::new(reader);
-    building::read_value(alloc, &mut decoder, scratch, limit)
+    let mut source = ByteSource {
+        decoder: Decoder::new(reader),
+        pending: None,
+        levels: limit,
+        scratch,
+    };
+    T::deserialize(alloc, &mut source)
 }
 
-/// Reads one value: just the bytes of the item at the front, of any width and form, open ones too
-/// (RFC 8949, section 3). Integers, texts, byte strings, booleans, null and undefined (both are
-/// `Null`), arrays, maps with every pair in order, and tags; tag 2 or 3 over a definite byte string
-/// of at most 16 bytes is an integer where it is one (section 3.4.3). Arrays, maps and tags nest
-/// within 256 levels.
+/// Reads one value of any type that is `Deserialize`: just the bytes of the item at the front, of any
+/// width and form, open ones too (RFC 8949, section 3). What an item gives is the type's to say; it
+/// is the same from bytes and from a tree. As a `Value`: integers, texts, byte strings, booleans,
+/// null and undefined (both are `Null`), arrays, maps with every pair in order, and tags; tag 2 or 3
+/// over a definite byte string of at most 16 bytes is an integer where it is one (section 3.4.3).
+/// Arrays, maps and tags nest within 256 levels.
 ///
 /// # Errors
 ///
 /// `Io` where the reader ends or fails inside the item; `Syntax` with the offset of a head or text
-/// that is not well-formed; `Semantic` with the offset of an item and why it has no value here (a
-/// float, a simple value that is not assigned, a break out of place, a bignum that no `i128`
-/// holds); `RecursionLimitExceeded` where an array, map or tag stands where no level is left;
+/// that is not well-formed; `Semantic` with why the item is not one of the type, and the offset of
+/// the head that was looked at, behind skipped tags, where a call of the source refused it (in a
+/// `Value` a float, a simple value that is not assigned, a break out of place, a bignum that no
+/// `i128` holds); `RecursionLimitExceeded` where an array, map or tag stands where no level is left;
 /// `TooLong` where the item would pass the greatest offset; `Memory` where a growth was refused. A
 /// beginning of the item has then been taken from the reader.
-pub fn from_reader<R: Read>(alloc: Global, reader: &mut R) -> Result<Value, Error<io::Error>>
-    ensures taken { TakesBytes (R.remaining reader.old) 256 (R.remaining reader.new) result }
-    ensures ok { TakesItem (R.remaining reader.old) 256 (R.remaining reader.new) result }
-    ensures exact { AnswersGoodItem (R.remaining reader.old) 256 (R.remaining reader.new) result }
-    ensures refused { RefusesBytes (R.remaining reader.old) 256 (R.remaining reader.new) result }
-    ensures bounded { HoldsNoMore (R.remaining reader.old) (R.remaining reader.new) result }
-    ensures proper { AnswersProper result }
-    ensures within { TakesWithin (R.remaining reader.old) (R.remaining reader.new) }
+pub fn from_reader<T: Deserialize, R: Read>(
+    alloc: Global,
+    reader: &mut R,
+) -> Result<T, Error<io::Error>>
+    // Where an item stands at the front: just it was taken, and the answer is what it gives; or it
+    // is refused as the item is.
+    ensures ok { TakesGiven (Some 256) T.reading.taken (R.remaining reader.old)
+        (R.remaining reader.new) (read_as T.reading.content result) }
+    ensures refused { RefusesTaken (Some 256) T.reading.taken (R.remaining reader.old)
+        (read_as T.reading.content result) }
+    ensures memory { IfErr result (λ e. IsGranted (cause_of e) T.reading.takes_memory) }
+    // Where reading is one call of `value`, whatever the bytes.
+    ensures value { IfSome T.reading.whole (λ tree. ReadsWhole (R.remaining reader.old) 256
+        (R.remaining reader.new) (read_as (λ v. tree (T.reading.content v)) result)) }
 {
     let mut scratch = [0u8; SCRATCH_SIZE];
     read(alloc, reader, &mut scratch, RECURSION_LIMIT)
@@ -63,43 +90,49 @@ pub fn from_reader<R: Read>(alloc: Global, reader: &mut R) -> Result<Value, Erro
 
 /// Reads one value as `from_reader` does, with a scratch for strings of the caller's. Any length
 /// will do, the empty one too; no answer depends on it.
-pub fn from_reader_with_buffer<R: Read>(
+pub fn from_reader_with_buffer<T: Deserialize, R: Read>(
     alloc: Global,
     reader: &mut R,
     scratch: &mut [u8],
-) -> Result<Value, Error<io::Error>>
-    ensures taken { TakesBytes (R.remaining reader.old) 256 (R.remaining reader.new) result }
-    ensures ok { TakesItem (R.remaining reader.old) 256 (R.remaining reader.new) result }
-    ensures exact { AnswersGoodItem (R.remaining reader.old) 256 (R.remaining reader.new) result }
-    ensures refused { RefusesBytes (R.remaining reader.old) 256 (R.remaining reader.new) result }
-    ensures bounded { HoldsNoMore (R.remaining reader.old) (R.remaining reader.new) result }
-    ensures proper { AnswersProper result }
-    ensures within { TakesWithin (R.remaining reader.old) (R.remaining reader.new) }
+) -> Result<T, Error<io::Error>>
+    // Where an item stands at the front: just it was taken, and the answer is what it gives; or it
+    // is refused as the item is.
+    ensures ok { TakesGiven (Some 256) T.reading.taken (R.remaining reader.old)
+        (R.remaining reader.new) (read_as T.reading.content result) }
+    ensures refused { RefusesTaken (Some 256) T.reading.taken (R.remaining reader.old)
+        (read_as T.reading.content result) }
+    ensures memory { IfErr result (λ e. IsGranted (cause_of e) T.reading.takes_memory) }
+    // Where reading is one call of `value`, whatever the bytes.
+    ensures value { IfSome T.reading.whole (λ tree. ReadsWhole (R.remaining reader.old) 256
+        (R.remaining reader.new) (read_as (λ v. tree (T.reading.content v)) result)) }
 {
     read(alloc, reader, scratch, RECURSION_LIMIT)
 }
 
 /// Reads one value as `from_reader` does, within this many levels. At limit 0 no array, map or tag
-/// is read, save a tag that is an integer.
+/// is read as a `Value`, save a tag that is an integer.
 ///
-/// Reading itself takes no stack for a level. But writing, cloning, comparing and dropping a value
+/// Reading a `Value` takes no stack for a level. But writing, cloning, comparing and dropping a value
 /// go as deep as it nests, so choose a limit that the stack of the caller can bear.
-pub fn from_reader_with_recursion_limit<R: Read>(
+pub fn from_reader_with_recursion_limit<T: Deserialize, R: Read>(
     alloc: Global,
     reader: &mut R,
     limit: usize,
-) -> Result<Value, Error<io::Error>>
-    ensures taken { TakesBytes (R.remaining reader.old) limit (R.remaining reader.new) result }
-    ensures ok { TakesItem (R.remaining reader.old) limit (R.remaining reader.new) result }
-    ensures exact { AnswersGoodItem (R.remaining reader.old) limit (R.remaining reader.new) result }
-    ensures refused { RefusesBytes (R.remaining reader.old) limit (R.remaining reader.new) result }
-    ensures bounded { HoldsNoMore (R.remaining reader.old) (R.remaining reader.new) result }
-    ensures proper { AnswersProper result }
-    ensures within { TakesWithin (R.remaining reader.old) (R.remaining reader.new) }
+) -> Result<T, Error<io::Error>>
+    // Where an item stands at the front: just it was taken, and the answer is what it gives; or it
+    // is refused as the item is.
+    ensures ok { TakesGiven (Some limit) T.reading.taken (R.remaining reader.old)
+        (R.remaining reader.new) (read_as T.reading.content result) }
+    ensures refused { RefusesTaken (Some limit) T.reading.taken (R.remaining reader.old)
+        (read_as T.reading.content result) }
+    ensures memory { IfErr result (λ e. IsGranted (cause_of e) T.reading.takes_memory) }
+    // Where reading is one call of `value`, whatever the bytes.
+    ensures value { IfSome T.reading.whole (λ tree. ReadsWhole (R.remaining reader.old) limit
+        (R.remaining reader.new) (read_as (λ v. tree (T.reading.content v)) result)) }
 {
     let mut scratch = [0u8; SCRATCH_SIZE];
     read(alloc, reader, &mut scratch, limit)
 }
 
 #[cfg(test)]
-mod tests;
+pub(crate) mod tests;

@@ -7,17 +7,18 @@ ghost use Rattle.ciborium.specs.AnswerLaws.{OneAnswer};
 ghost use Rattle.ciborium.specs.CanonicalLaws.{IsCanonical, IsTotal, RiseCanonically};
 ghost use Rattle.ciborium.specs.CanonicalLaws.{TiesEqualOnes};
 ghost use Rattle.ciborium.specs.EncodingLaws.{EncodingSpells, HeadsRise, OneTree, OthersAreLonger};
+ghost use Rattle.ciborium.specs.TypedReads.{SourcesAgree};
 ghost use Rattle.ciborium.specs.Writes.{IsNamedWritten};
 
 use crate::value::CanonicalValue;
 pub use ciborium_ll::spelling_laws::{
     header_bytes_spell, one_header, shortest_head, unique_spelling,
 };
-use ciborium_value::Serialize;
 pub use ciborium_value::tree_laws::{
     bytes_of_bignums, good_or_refused, meaning_of_written_is_folded, order_of_integers,
     order_of_values, worked_examples, written_reads_back,
 };
+use ciborium_value::{Deserialize, Serialize};
 use std::collections::BTreeMap;
 
 /// Whatever meets the clauses of the reading calls is one answer for the same bytes and limit: the
@@ -57,4 +58,13 @@ pub fn order_of_canonical_values()
     ensures canonical { IsCanonical }
     ensures total { IsTotal }
     ensures ties { TiesEqualOnes }
+{}
+
+/// Each type is read as one function of the item: `deserialized` from a value, and `from_reader`
+/// from its encoding, give the same value or are refused with the same kind. Reading bytes may be
+/// refused for nesting, which reading a tree never is, or as too long; want of memory and faults of
+/// the reader apart. It rests on what the type's `reading` shows of itself: a limit decides nothing
+/// but nesting.
+pub fn sources_agree<T: Deserialize>()
+    ensures { SourcesAgree T.reading.taken }
 {}

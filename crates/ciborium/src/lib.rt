@@ -8,6 +8,8 @@ pub mod laws;
 pub mod ll;
 #[cfg(test)]
 mod own_types;
+#[cfg(test)]
+mod reading_tests;
 pub mod ser;
 #[cfg(test)]
 mod small_devices;

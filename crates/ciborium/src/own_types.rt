@@ -1,14 +1,18 @@
-//! Types of a user's own, each with the item that it writes, as a user gives them.
+//! Types of a user's own, each with the item that it writes, or with what it reads of an item, as a
+//! user gives them.
 ghost use Rattle.std.specs.Prelude.{◌∷◌, ◌%◌, Err, Ok, [], codes, if◌then◌else◌, map, nat_eq, pos};
-ghost use Rattle.std.specs.Prelude.{string_bytes};
+ghost use Rattle.std.specs.Prelude.{nat_le, string_bytes, ℕ};
 ghost use Rattle.ciborium_value.specs.Places.{dictionary, sequence};
+ghost use Rattle.ciborium_value.specs.Readings.{below, such_that, tuple2_of};
 ghost use Rattle.ciborium_value.specs.Sinks.{container_of, fields_of, in_turn, named_text};
 ghost use Rattle.ciborium_value.specs.Sinks.{number_item, open_container_of};
-ghost use Rattle.ciborium_value.specs.declared.kind.Kind.TheVariants.{Other};
+ghost use Rattle.ciborium_value.specs.declared.kind.Kind.TheVariants.{Other, Range};
 ghost use Rattle.ciborium.specs.declared.own_types.Figure.TheVariants.{Circle, Point};
 
+use crate::de::{Deserialize, Source};
 use crate::ser::{Field, NoField, Serialize, Sink};
 use crate::value::Kind;
+use std::alloc::Global;
 use std::collections::BTreeMap;
 
 /// A struct: a map by names.
@@ -141,5 +145,27 @@ impl Serialize for OpenMap {
             value.serialize(sink)?;
         }
         sink.end(None)
+    }
+}
+
+/// Two numbers that do not fall, as an array. Others are refused as out of range.
+#[derive(Debug, Drop, PartialEq)]
+pub struct Span {
+    pub start: u8,
+    pub end: u8,
+}
+
+impl Deserialize for Span {
+    ghost Content = { ℕ × ℕ };
+
+    ghost reading = { such_that (λ s. (s.start, s.end))
+        (tuple2_of (below 256) (below 256)) (λ p. nat_le p.0 p.1) Range };
+
+    fn deserialize<S: Source>(alloc: Global, source: &mut S) -> Result<Span, S::Error> {
+        let (start, end) = <(u8, u8)>::deserialize(alloc, source)?;
+        if start > end {
+            return Err(source.refuse(Kind::Range));
+        }
+        Ok(Span { start, end })
     }
 }

@@ -71,6 +71,7 @@ pub(crate) fn read_value<R: Read>(
 ) -> Result<Value, Error<io::Error>>
     ensures same_reader { HasSameReader decoder.old decoder.new }
     ensures rests { OnOk result (pushed_of decoder.new ≡ None) }
+    ensures fewer { OnOk result (heads_left decoder.new < heads_left decoder.old) }
     ensures value { TakesBeforeAny R.remaining decoder.old decoder.new
         (λ d e. (xs : List ℕ) (p : ℕ) → IsAhead Some d xs p →
         IsValueRead Some e levels xs p result) }

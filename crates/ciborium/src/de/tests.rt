@@ -2,13 +2,13 @@
 use super::{Error, from_reader, from_reader_with_buffer, from_reader_with_recursion_limit};
 use crate::callers::bytes_of;
 use crate::small_devices::{Source, decode_hex};
-use ciborium_value::Kind;
+use ciborium_value::{Kind, Value};
 use std::alloc::Global;
 use std::io::{self, ErrorKind};
 use std::test::Fail;
 
 #[derive(Clone, Copy, Debug, PartialEq, Eq)]
-enum Reason {
+pub(crate) enum Reason {
     Io(ErrorKind),
     Syntax(usize),
     Semantic(Option<usize>, Kind),
@@ -17,9 +17,12 @@ enum Reason {
     TooLong,
 }
 
-const ENDED: Reason = Reason::Io(ErrorKind::UnexpectedEof);
+// What reading a value answers.
+type Answer = Result<Value, Error<io::Error>>;
 
-fn name_reason(error: Error<io::Error>) -> Reason {
+pub(crate) const ENDED: Reason = Reason::Io(ErrorKind::UnexpectedEof);
+
+pub(crate) fn name_reason(error: Error<io::Error>) -> Reason {
     match error {
         Error::Io(e) => Reason::Io(e.kind()),
         Error::Syntax(offset) => Reason::Syntax(offset),
@@ -185,7 +188,7 @@ fn faults_are_named_where_they_stand(rt: HostRuntime) -> Result<(), Fail> {
     for &(text, limit, reason) in REFUSED {
         let bytes = decode_hex(rt.alloc(), text)?;
         let mut reader = bytes.as_slice();
-        let answer = from_reader_with_recursion_limit(rt.alloc(), &mut reader, limit);
+        let answer: Answer = from_reader_with_recursion_limit(rt.alloc(), &mut reader, limit);
         assert_eq!(rt; answer.err().map(name_reason), Some(reason), "{text}");
     }
     Ok(())
@@ -197,7 +200,7 @@ fn a_fault_of_the_reader_is_the_answer(rt: HostRuntime) -> Result<(), Fail> {
     for kind in [ErrorKind::Interrupted, ErrorKind::Other] {
         for at in 0..bytes.len() {
             let mut reader = Source::new(&bytes, 1, Some((at, kind)));
-            let answer = from_reader(rt.alloc(), &mut reader);
+            let answer: Answer = from_reader(rt.alloc(), &mut reader);
             assert_eq!(rt;
                 answer.err().map(name_reason),
                 Some(Reason::Io(kind)),
@@ -205,7 +208,7 @@ fn a_fault_of_the_reader_is_the_answer(rt: HostRuntime) -> Result<(), Fail> {
             );
         }
         let mut reader = Source::new(&bytes, 1, Some((bytes.len(), kind)));
-        let _value = from_reader(rt.alloc(), &mut reader)?;
+        let _value: Value = from_reader(rt.alloc(), &mut reader)?;
     }
     Ok(())
 }
@@ -227,7 +230,7 @@ fn levels_are_counted_up_to_any_limit(rt: HostRuntime) -> Result<(), Fail> {
         bytes.resize(levels, 0x81)?;
         bytes.extend_from_slice(innermost)?;
         let mut reader = bytes.as_slice();
-        let answer = match limit {
+        let answer: Answer = match limit {
             Some(limit) => from_reader_with_recursion_limit(rt.alloc(), &mut reader, limit),
             None => from_reader(rt.alloc(), &mut reader),
         };
@@ -244,7 +247,8 @@ fn levels_are_counted_up_to_any_limit(rt: HostRuntime) -> Result<(), Fail> {
 #[test]
 fn a_refused_growth_is_memory(rt: HostRuntime) -> Result<(), Fail> {
     let mut reader: &[u8] = b"\xbf\x61\x61\x01\x61\x62\x9f\x02\x03\xff\xff";
-    match from_reader(rt.alloc(), &mut reader) {
+    let answer: Answer = from_reader(rt.alloc(), &mut reader);
+    match answer {
         Ok(value) => assert!(rt; matches!(value.as_map(), Some(pairs) if pairs.len() == 2)),
         Err(error) => assert_eq!(rt; name_reason(error), Reason::Memory),
     }

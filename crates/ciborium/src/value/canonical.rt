@@ -20,12 +20,14 @@ ghost use Rattle.ciborium_value.specs.Derived.{value_eq};
 ghost use Rattle.ciborium_value.specs.Encoding.{encoding, encoded_size};
 ghost use Rattle.ciborium_value.specs.Proper.{IsProperTree, AreProperTrees, AreProperTreePairs};
 ghost use Rattle.ciborium_value.specs.Sinks.{named_value};
-ghost use Rattle.ciborium_value.specs.Tree.{integer};
+ghost use Rattle.ciborium_value.specs.Readings.{whole_by};
+ghost use Rattle.ciborium_value.specs.Tree.{Tree, integer};
 ghost use Rattle.ciborium_value.specs.View.{tree_of, trees_of, tree_pairs_of};
 ghost use Rattle.ciborium_value.specs.contracts.tree.Value as value_row;
 ghost use Rattle.ciborium_value.specs.declared.tree.Value as values;
 ghost use Rattle.ciborium_value.proofs.Derived.{value_eq_equivalence};
-ghost use Rattle.ciborium_value.specs.CanonicalValues.{canonical_value_cmp};
+ghost use Rattle.ciborium_value.specs.CanonicalValues.{canonical_tree_cmp, canonical_value_cmp};
+ghost use Rattle.ciborium_value.specs.CanonicalValues.{canonical_value_cmp-trees};
 ghost use Rattle.ciborium.specs.Heads.{major_of, argument_of, head_order};
 ghost use Rattle.ciborium.specs.Visits.{AddsVisits, AddsAtMost, counted, both_node_count};
 ghost use Rattle.ciborium_value.proofs.TotalOrders.{canonical_value_cmp_total};
@@ -33,8 +35,8 @@ ghost use Rattle.ciborium_value.proofs.TotalOrders.{canonical_value_matches_eq};
 ghost use Rattle.ciborium.specs.Writes.{encodings, pair_encodings};
 
 use ciborium_ll::{head_size, simple};
-use ciborium_value::{Integer, Serialize, Sink, Value};
-use std::alloc::AllocError;
+use ciborium_value::{Deserialize, Integer, Key, Serialize, Sink, Source, Value};
+use std::alloc::{AllocError, Global};
 use std::cmp::Ordering;
 use std::marker::Model;
 
@@ -126,6 +128,22 @@ impl Serialize for CanonicalValue {
     fn serialize<S: Sink>(&self, sink: &mut S) -> Result<(), S::Error> {
         self.value.serialize(sink)
     }
+}
+
+/// Whatever item is ahead, as `Value` reads it.
+impl Deserialize for CanonicalValue {
+    ghost Content = { Tree };
+
+    ghost reading = { whole_by canonical_tree_cmp tree_of };
+
+    fn deserialize<S: Source>(alloc: Global, source: &mut S) -> Result<CanonicalValue, S::Error> {
+        let value = source.value(alloc)?;
+        Ok(CanonicalValue { value })
+    }
+}
+
+impl Key for CanonicalValue {
+    ghost orders = { canonical_value_cmp-trees };
 }
 
 /// Equality of content.

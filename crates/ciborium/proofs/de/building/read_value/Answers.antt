@@ -1,4 +1,4 @@
-use Rattle.std.proofs.Common.{◌∙◌, ◌≤◌, ℕ, List, length, refl, rules, Some, Ok, Err, Result, Option, subst, MatchOption}
+use Rattle.std.proofs.Common.{◌∙◌, arith, ◌≤◌, ℕ, List, length, refl, rules, Some, Ok, Err, Result, Option, subst, MatchOption}
 use Rattle.std.proofs.lemmas.Result.{err_from_is_err_and}
 use Rattle.std.specs.declared.io.Error.{Error as IoError}
 use Rattle.ciborium_ll.specs.declared.decoder.Decoder.{Decoder}
@@ -25,6 +25,7 @@ pub turns-init : goal.turns-init
 turns-init g c = record {
   same_reader = refl;
   depth = search rules;
+  fewer = omega arith;
   reading = so-unread g.R.Read.remaining c.args.decoder.now c.args.decoder.now (Reading (opens_of c.new-stack.result) c.args.levels) (refl, refl)
       (λ u xs p s. begin Some (with_left c.args.decoder.now u) (opens_of c.new-stack.result) c.args.levels xs p c.new-stack.ensures s);
 }
@@ -33,6 +34,7 @@ pub turns-preserved : goal.turns-preserved
 turns-preserved g c = record {
   same_reader = c.in_ok-value.ensures.same_reader ∙ c.turns.invariant.same_reader;
   depth = subst (λ o. MatchOption o (length (opens_of c.turn.new.stack) ≤ c.args.levels) (λ _. Unit {0})) c.in_default.is c.in_ok-value.ensures.depth;
+  fewer = omega (arith, c.in_ok-value.ensures.fewer, c.turns.invariant.fewer);
   reading = (
       let t = so-both g.R.Read.remaining c.args.decoder.now c.turns.decoder c.turn.new.decoder (Reading (opens_of c.turns.stack) c.args.levels)
       (Turns (opens_of c.turns.stack) (opens_of c.turn.new.stack) c.args.levels (Ok c.in_ok-value.field-0)) c.turns.invariant.reading c.in_ok-value.ensures.turn in (

@@ -9,6 +9,7 @@ abbrev pub invariant-turns : goal.invariant-turns
 invariant-turns g l = record {
   same_reader : l.decoder.reader.ghost_name ≡ l.initial.decoder.reader.ghost_name;
   depth : length (opens_of l.stack) ≤ l.levels;
+  fewer : heads_left l.decoder ≤ heads_left l.initial.decoder;
   reading : TakesBeforeAny g.R.Read.remaining l.initial.decoder l.decoder (λ d e. (xs : List ℕ) (p : ℕ) → IsAhead Some d xs p → IsReading Some e (opens_of l.stack) l.levels xs p);
 }
 

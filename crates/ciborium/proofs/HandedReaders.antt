@@ -1,0 +1,71 @@
+-- From a source that was begun on a lent reader to the reader.
+use Rattle.std.proofs.Common.{◌≡◌, ℕ, ◌≤◌, List, [], ◌∷◌, ◌++◌, length, Option, Some, None, Result, Ok, Err, IfOk, IfErr, IfSome, refl, sym, ap, ◌∙◌, subst, append-nil, arith}
+use Rattle.std.specs.Io.KnownBytes.{Consumes}
+use Rattle.ciborium_ll.specs.declared.decoder.Decoder.{Decoder}
+use Rattle.ciborium_ll.specs.Bytes.{greatest_offset}
+use Rattle.ciborium_ll.specs.Decoding.{HasBegun, with_left}
+use Rattle.ciborium_value.specs.Ahead.{bottom}
+use Rattle.ciborium_value.specs.Nesting.{Limit}
+use Rattle.ciborium_value.specs.Refuses.{IsReadAs}
+use Rattle.ciborium_value.specs.Sources.{Fault, Refuses, Takes, TakesItem, read_as}
+use Rattle.ciborium_value.specs.Taken.{Taken}
+use Rattle.ciborium_value.specs.Tree.{Tree}
+use Rattle.ciborium.specs.declared.de.byte_source.ByteSource.{ByteSource}
+use Rattle.ciborium.specs.declared.de.error.Error.{Error}
+use Rattle.ciborium.specs.Answers.{IsTreeRead, IsTakenAs, TakesBytes}
+use Rattle.ciborium.specs.ByteSources.{IsUnread, IsUnreadBy, ReadsValue, StandsBefore}
+use Rattle.ciborium.specs.TypedReads.{IsFaultAhead, TakesGiving}
+use Rattle.ciborium.proofs.Fronts.{ahead-at}
+use Rattle.ciborium.proofs.Outcomes.{left-at}
+
+module _ {S A : Type 0} (remaining : S → Option (List ℕ)) (old : ByteSource S) (taken : Taken A) (b : List ℕ) (front : IsUnread remaining old b) where
+  -- just the item at the front was taken, and the reader that was lent has what follows it
+  pub handed-ok : (new : ByteSource S) (v : A) (x : S) → (old.decoder.reader.ghost_name ≡ new.decoder.reader.ghost_name → x ≡ new.decoder.reader.now) → TakesItem (IsUnread remaining) old new → Takes (StandsBefore remaining) old new taken v →
+      TakesGiving (Some old.levels) taken b v (remaining x)
+  handed-ok new v x back took takes =
+      let (z, un, (i, s, sp, e)) = took b front in
+      let (give, (z', un', fits, lv, none)) = takes (Some old.levels) i (bottom old.decoder.reader.ghost_name z) (b, front, (s, z, sp, (refl, refl), e), refl, tt) in
+      let left : remaining new.decoder.reader.now ≡ Some z' = subst (λ o. IsUnreadBy remaining new.decoder o z') none un' in
+      (i, s, z, sp, e, give, ap remaining (back fits.1) ∙ left ∙ ap Some fits.0)
+
+  pub handed-refused : (fault : Fault) → Refuses (StandsBefore remaining) old taken fault → IsFaultAhead (Some old.levels) taken b fault
+  handed-refused fault h i s z sp e = h (Some old.levels) i (bottom old.decoder.reader.ghost_name z) (b, front, (s, z, sp, (refl, refl), e), refl, tt)
+
+-- ---- where reading is one call of `value`
+
+same-rest : (u v : List ℕ) → Some u ≡ Some v → u ≡ v
+same-rest u v e = cc
+
+pub handed-whole : (E : Type 0) {S : Type 0} (remaining : S → Option (List ℕ)) (old new : ByteSource S) (lent x : S) (r : Result Tree (Error E)) → HasBegun old.decoder lent 0 → old.pending ≡ None → (old.decoder.reader.ghost_name ≡ new.decoder.reader.ghost_name → x ≡ new.decoder.reader.now) → ReadsValue remaining old new r →
+    TakesBytes {E = E} (remaining lent) old.levels (remaining x) r
+handed-whole E {S} remaining old new lent x r begins none back reads =
+    let (s, taken, count, h, bytes) = reads.1 none in
+    let zero : old.decoder.count ≡ 0 = begins.count in
+    let less = new.decoder.fits in
+    let after : remaining x ≡ remaining new.decoder.reader.now = ap remaining (back (sym reads.0)) in
+    (s, subst (λ o. Consumes (remaining lent) o s) (sym after) (subst (λ y. Consumes (remaining y) (remaining new.decoder.reader.now) s) begins.reader taken), omega (arith, count, zero, less), found s r (λ c. h c (s ++ c) 0 (ahead-at Some (with_left old.decoder (s ++ c)) 0 (s ++ c) begins.pushed (begins.count, refl))), bytes)
+  where
+    found : (s : List ℕ) (r : Result Tree (Error E)) → ((c : List ℕ) → IsTreeRead {S = List ℕ} {E = E} Some (with_left new.decoder c) old.levels (s ++ c) 0 r) → IsTakenAs {E = E} s old.levels r
+    found s (Ok v) f =
+        let (zs, q, item, at) = f [] in
+        let left : [] ≡ zs = same-rest [] zs (left-at Some (with_left new.decoder []) q zs new.unpushed at) in
+        let whole : item.taken ≡ s = sym (append-nil item.taken) ∙ ap (λ (z : List ℕ). item.taken ++ z) left ∙ sym item.split ∙ append-nil s in
+        subst (λ z. IsReadAs z 0 (Some old.levels) v) whole item.read
+    found s (Err e) f = f
+
+pub err-map : {T E : Type 0} {P Q : E → Type 0} (r : Result T E) → IfErr r P → ((v : E) → P v → Q v) → IfErr r Q
+err-map (Ok v) p f = tt
+err-map (Err e) p f = f e p
+
+pub some-map : {A : Type 0} {P Q : A → Type 0} (o : Option A) → IfSome o P → ((v : A) → P v → Q v) → IfSome o Q
+some-map (Some v) p f = f v p
+some-map None p f = tt
+
+-- an error stays what it is where an answer is looked at by what counts of it
+pub err-as : {A B E : Type 0} (f : A → B) (r : Result A E) (P : E → Type 0) → IfErr r P → IfErr (read_as f r) P
+err-as f (Ok v) P h = tt
+err-as f (Err e) P h = h
+
+pub ok-as : {A B E : Type 0} (f : A → B) (r : Result A E) (P : B → Type 0) → IfOk r (λ v. P (f v)) → IfOk (read_as f r) P
+ok-as f (Ok v) P h = h
+ok-as f (Err e) P h = tt

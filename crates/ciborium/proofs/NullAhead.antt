@@ -1,0 +1,54 @@
+-- A head that is looked at and not taken.
+use Rattle.std.proofs.Common.{◌≡◌, ℕ, Bool, false, List, ◌++◌, Option, Some, refl, sym, ap, ◌∙◌, subst, append_assoc}
+use Rattle.ciborium_ll.specs.declared.header.Header.{Header}
+use Rattle.ciborium_ll.specs.declared.header.Header.TheVariants as header
+use Rattle.ciborium_ll.specs.Header.{SpellsHeader}
+use Rattle.ciborium_ll.specs.Item as items
+use Rattle.ciborium_ll.specs.Item.{Item, unsigned, negative, bytes, text, array, tag, simple, float}
+use Rattle.ciborium_value.specs.Sources.{Fault, RefusesToTell, TakesNothing, Tells}
+use Rattle.ciborium_value.specs.Taken.{is_null, is_null_simple}
+use Rattle.ciborium.specs.declared.de.byte_source.ByteSource.{ByteSource}
+use Rattle.ciborium.specs.ByteSources.{IsUnread, StandsBefore}
+use Rattle.ciborium.specs.ItemReads.{TakesHead, DeniesHead}
+use Rattle.ciborium.specs.Unread.{IsRest}
+use Rattle.ciborium.proofs.ItemHeads.{header_of, first-head, same-head}
+
+pub null-simple : (h : Header) (n : ℕ) → h ≡ header.Simple n → (i : Item) → header_of i ≡ h → is_null_simple n ≡ is_null i
+null-simple h n is i e = by i (e ∙ is)
+  where
+    by : (i : Item) → header_of i ≡ header.Simple n → is_null_simple n ≡ is_null i
+    by (unsigned m) e = cc
+    by (negative m) e = cc
+    by (bytes o b) e = cc
+    by (text o b) e = cc
+    by (array o b) e = cc
+    by (items.map o b) e = cc
+    by (tag t b) e = cc
+    by (simple m) e = let same : n ≡ m = cc in ap is_null_simple same
+    by (float raw) e = cc
+
+pub null-other : (h : Header) → ((n : ℕ) → h ≡ header.Simple n → ⊥) → (i : Item) → header_of i ≡ h → false ≡ is_null i
+null-other h p (unsigned m) e = refl
+null-other h p (negative m) e = refl
+null-other h p (bytes o b) e = refl
+null-other h p (text o b) e = refl
+null-other h p (array o b) e = refl
+null-other h p (items.map o b) e = refl
+null-other h p (tag t b) e = refl
+null-other h p (simple m) e = absurd (p m (sym e))
+null-other h p (float raw) e = refl
+
+module _ {S : Type 0} (remaining : S → Option (List ℕ)) (old mid new : ByteSource S) (h : Header) (took : TakesHead (IsUnread remaining) old mid h)
+    (back : (b x y : List ℕ) → IsUnread remaining old b → SpellsHeader x h → b ≡ x ++ y → IsUnread remaining mid y → IsUnread remaining new b) where
+  pub tells : (answer : Bool) → new.decoder.reader.ghost_name ≡ old.decoder.reader.ghost_name → new.levels ≡ old.levels → ((i : Item) → header_of i ≡ h → answer ≡ is_null i) → Tells (StandsBefore remaining) old new answer
+  tells answer name levels said l i f (b, u, (s, r, sp, rest, e), is, ahead) =
+      let (x, y, hd, g, un) = took b u in
+      (said i (same-head s r x y i h sp hd (sym e ∙ g)).0, (b, back b x y u hd g un, (s, r, sp, subst (λ n. IsRest n r f) (sym name) rest, e), is ∙ ap Some (sym levels), tt))
+
+  pub takes-nothing : TakesNothing (IsUnread remaining) old new
+  takes-nothing b u = let (x, y, hd, g, un) = took b u in (b, back b x y u hd g un, refl)
+
+pub refuses-to-tell : {S : Type 0} (remaining : S → Option (List ℕ)) (old : ByteSource S) (fault : Fault) → DeniesHead (IsUnread remaining) old fault → RefusesToTell (StandsBefore remaining) old fault
+refuses-to-tell remaining old fault denied l i f (b, u, (s, r, sp, rest, e), is, ahead) =
+    let (x, y, hd, g) = first-head s i sp in
+    denied b x (y ++ r) (header_of i) u hd (e ∙ ap (λ (k : List ℕ). k ++ r) g ∙ append_assoc x y r)

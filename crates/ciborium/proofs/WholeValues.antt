@@ -1,0 +1,134 @@
+-- The value ahead, read whole.
+use Rattle.std.proofs.Common.{◌≡◌, ℕ, Bool, true, false, List, ◌++◌, Option, Some, None, Result, Ok, Err, refl, sym, ap, ◌∙◌, subst, eqb, eqb-true, ◌||◌, ℤ, pos}
+use Rattle.ciborium_ll.specs.declared.header.Header.{Header}
+use Rattle.ciborium_ll.specs.declared.header.Header.TheVariants as header
+use Rattle.ciborium_ll.specs.declared.decoder.Decoder.{Decoder}
+use Rattle.ciborium_ll.specs.Decoding.{IsAhead, IsAheadBy, TakesBeforeAny, next_offset, with_left}
+use Rattle.ciborium_ll.specs.Header.{SpellsHeader}
+use Rattle.ciborium_ll.specs.Item.{Item, unsigned, simple}
+use Rattle.ciborium_ll.specs.Spells.{Spells}
+use Rattle.ciborium_ll.proofs.Unread.{rest-of}
+use Rattle.ciborium_value.specs.declared.kind.Kind.{Kind}
+use Rattle.ciborium_value.specs.declared.kind.Kind.TheVariants as kinds
+use Rattle.ciborium_value.specs.declared.tree.Value.{Value}
+use Rattle.ciborium_value.specs.Meaning.{simple_meaning}
+use Rattle.ciborium_value.specs.Nesting.{Limit}
+use Rattle.ciborium_value.specs.Refuses.{Refuses}
+use Rattle.ciborium_value.specs.Sources.{IsFaultOf, of_kind}
+use Rattle.ciborium_value.specs.Taken.{gives, of_meaning, taken_value}
+use Rattle.ciborium_value.specs.Tree as trees
+use Rattle.ciborium_value.specs.Tree.{Tree}
+use Rattle.ciborium_value.specs.View.{tree_of}
+use Rattle.ciborium.specs.declared.de.error.Error.{Error}
+use Rattle.ciborium.specs.declared.de.error.Error.TheVariants as errors
+use Rattle.ciborium.specs.Answers.{IsValueRead}
+use Rattle.ciborium.specs.ByteSources.{StandsFor, is_portable, IsUnreadBy, cause_of}
+use Rattle.ciborium.specs.Errors.{IsRefusedBy, IsNamed, kind_of}
+use Rattle.ciborium.proofs.ValueFaults.{value-faults}
+use Rattle.ciborium.proofs.ValuesGiven.{value-gives}
+
+null-22 : simple_meaning 22 ≡ Some trees.null
+unfolding simple_meaning
+null-22 = refl
+
+null-23 : simple_meaning 23 ≡ Some trees.null
+unfolding simple_meaning
+null-23 = refl
+
+null-meaning : (n : ℕ) → is_portable (header.Simple n) ≡ true → simple_meaning n ≡ Some trees.null
+null-meaning n h = by (eqb n 22) (eqb n 23) h (eqb-true n 22) (eqb-true n 23)
+  where
+    by : (u v : Bool) → (u || v) ≡ true → (u ≡ true → n ≡ 22) → (v ≡ true → n ≡ 23) → simple_meaning n ≡ Some trees.null
+    by true v h f g = ap simple_meaning (f refl) ∙ null-22
+    by false v h f g = ap simple_meaning (g h) ∙ null-23
+
+pub portable-null : (h : Header) (n : ℕ) → h ≡ header.Simple n → is_portable (header.Simple n) ≡ true → StandsFor h trees.null
+portable-null h n is stands s hd = (simple n, subst (SpellsHeader s) is hd, λ l. ap (of_meaning kinds.Simple) (null-meaning n stands))
+
+pub portable-number : (h : Header) (n : ℕ) (z : ℤ) → h ≡ header.Positive n → z ≡ pos n → StandsFor h (trees.integer z)
+portable-number h n z is e s hd = (unsigned n, subst (SpellsHeader s) is hd, λ l. ap (λ k. gives (trees.integer k)) (sym e))
+
+-- a pending head stands in the bytes
+abbrev pub IsReal : Option (Header × ℕ) → Type 0
+IsReal None = Unit {0}
+IsReal (Some h) = is_portable h.0 ≡ false
+
+-- the head that was pushed, or none, and what is unread with it
+pub ahead-by : {S : Type 0} (remaining : S → Option (List ℕ)) (d e : Decoder S) (pending : Option (Header × ℕ)) (b : List ℕ) → IsReal pending → e.pushed ≡ pending → e.reader.now ≡ d.reader.now → e.count ≡ d.count →
+    IsUnreadBy remaining d pending b → IsAhead remaining e b (next_offset d.count pending)
+ahead-by remaining d e None b real pushed same count u = subst (λ o. IsAheadBy remaining e b d.count o) (sym pushed) (count, ap remaining same ∙ u)
+ahead-by remaining d e (Some h) b real pushed same count (x, y, hd, f, left, counted) =
+    let k = counted real in
+    subst (λ o. IsAheadBy remaining e b h.1 o) (sym pushed) (refl, x, y, hd, k.0, f, count ∙ k.1, ap remaining same ∙ left)
+
+-- ---- from a decoder whatever follows what it takes, to one whose bytes are known
+
+module _ {S : Type 0} (remaining : S → Option (List ℕ)) where
+  known-left : (d : Decoder S) (b : List ℕ) (p : ℕ) (o : Option (Header × ℕ)) → IsAheadBy remaining d b p o → (u : List ℕ) × (remaining d.reader.now ≡ Some u)
+  known-left d b p None (count, e) = (b, e)
+  known-left d b p (Some h) (at, x, r, sp, usable, split, count, e) = (r, e)
+
+  ahead-from : (d : Decoder S) (u b : List ℕ) (p : ℕ) (o : Option (Header × ℕ)) → remaining d.reader.now ≡ Some u → IsAheadBy remaining d b p o → IsAheadBy Some (with_left d u) b p o
+  ahead-from d u b p None left (count, e) = (count, sym left ∙ e)
+  ahead-from d u b p (Some h) left (at, x, r, sp, usable, split, count, e) = (at, x, r, sp, usable, split, count, sym left ∙ e)
+
+  ahead-to : (d : Decoder S) (u b : List ℕ) (p : ℕ) (o : Option (Header × ℕ)) → remaining d.reader.now ≡ Some u → IsAheadBy Some (with_left d u) b p o → IsAheadBy remaining d b p o
+  ahead-to d u b p None left (count, e) = (count, left ∙ e)
+  ahead-to d u b p (Some h) left (at, x, r, sp, usable, split, count, e) = (at, x, r, sp, usable, split, count, left ∙ e)
+
+  read-to : (E : Type 0) (e : Decoder S) (c : List ℕ) (l : ℕ) (b : List ℕ) (p : ℕ) (x : Result Value (Error E)) → remaining e.reader.now ≡ Some c → IsValueRead {S = List ℕ} {E = E} Some (with_left e c) l b p x → IsValueRead {E = E} remaining e l b p x
+  read-to E e c l b p (Ok v) left (zs, r, item, ahead) = (zs, r, item, ahead-to e c zs r e.pushed left ahead)
+  read-to E e c l b p (Err x) left h = subst (λ o. IsRefusedBy o x (Refuses b p (Some l))) (sym left) h
+
+  pub known-read : (E : Type 0) (d e : Decoder S) (l : ℕ) (x : Result Value (Error E)) → TakesBeforeAny remaining d e (λ f g. (xs : List ℕ) (q : ℕ) → IsAhead Some f xs q → IsValueRead {S = List ℕ} {E = E} Some g l xs q x) →
+      (b : List ℕ) (p : ℕ) → IsAhead remaining d b p → IsValueRead {E = E} remaining e l b p x
+  known-read E d e l x (s, taken, count, h, small) b p ahead =
+      let (u, known) = known-left d b p d.pushed ahead in
+      let (c, left, split) = rest-of (remaining d.reader.now) (remaining e.reader.now) u s known taken in
+      read-to E e c l b p x left (h c b p (ahead-from d (s ++ c) b p d.pushed (known ∙ ap Some split) ahead))
+
+-- the value that was read is what the item there gives
+pub whole-reads : (E : Type 0) {S : Type 0} (remaining : S → Option (List ℕ)) (d : Decoder S) (l p : ℕ) (b : List ℕ) (v : Value) → d.pushed ≡ None → IsValueRead {E = E} remaining d l b p (Ok v) →
+    (i : Item) × (s : List ℕ) × (z : List ℕ) × Spells s i × (b ≡ s ++ z) × (taken_value (Some l) i ≡ gives (tree_of v)) × (remaining d.reader.now ≡ Some z)
+whole-reads E remaining d l p b v none (z, r, item, ahead) =
+    let at : IsAheadBy remaining d z r None = subst (λ o. IsAheadBy remaining d z r o) none ahead in
+    let (i, good, means) = item.read in
+    (i, item.taken, z, good.0, item.split, value-gives i (Some l) (tree_of v) means good.2, at.1)
+
+-- an error is what the item there is refused for
+pub whole-faults : {E : Type 0} (left : Option (List ℕ)) (e : Error E) (l p : ℕ) (b s z : List ℕ) (i : Item) → Spells s i → b ≡ s ++ z → IsRefusedBy left e (λ r. Refuses b p (Some l) r) → IsFaultOf (cause_of e) (taken_value (Some l) i)
+whole-faults left (errors.Io x) l p b s z i sp f h = tt
+whole-faults left (errors.Syntax q) l p b s z i sp f h = value-faults h i s z sp f
+whole-faults left (errors.Semantic None k) l p b s z i sp f h = absurd h
+whole-faults left (errors.Semantic (Some q) k) l p b s z i sp f h = by k h
+  where
+    by : (k : Kind) → IsNamed (Some q) (kind_of k) (λ r. Refuses b p (Some l) r) → IsFaultOf (of_kind k) (taken_value (Some l) i)
+    by kinds.Float h = value-faults h i s z sp f
+    by kinds.Simple h = value-faults h i s z sp f
+    by kinds.Break h = value-faults h i s z sp f
+    by kinds.TooLarge h = value-faults h i s z sp f
+    by kinds.Integer h = absurd h
+    by kinds.Bool h = absurd h
+    by kinds.Unit h = absurd h
+    by kinds.Text h = absurd h
+    by kinds.Char h = absurd h
+    by kinds.Bytes h = absurd h
+    by kinds.Array h = absurd h
+    by kinds.Map h = absurd h
+    by kinds.Name h = absurd h
+    by kinds.Variant h = absurd h
+    by kinds.Range h = absurd h
+    by kinds.Tag h = absurd h
+    by kinds.Length h = absurd h
+    by kinds.Other h = absurd h
+whole-faults left errors.RecursionLimitExceeded l p b s z i sp f h = value-faults h i s z sp f
+whole-faults left errors.Memory l p b s z i sp f h = tt
+whole-faults left errors.TooLong l p b s z i sp f h = tt
+
+-- a head that stands for an item is that item
+pub portable-reads : {S : Type 0} (remaining : S → Option (List ℕ)) (d : Decoder S) (pending : Option (Header × ℕ)) (h : Header) (p : ℕ) (b : List ℕ) (v : Tree) (l : Limit) → pending ≡ Some (h, p) → StandsFor h v → IsUnreadBy remaining d pending b →
+    (i : Item) × (s : List ℕ) × (z : List ℕ) × Spells s i × (b ≡ s ++ z) × (taken_value l i ≡ gives v) × (remaining d.reader.now ≡ Some z)
+portable-reads remaining d pending h p b v l is for u =
+    let (x, y, hd, e, left, counted) = subst (λ o. IsUnreadBy remaining d o b) is u in
+    let (i, sp, give) = for x hd in
+    (i, x, y, sp, e, give l, left)

@@ -1,0 +1,58 @@
+use Rattle.std.proofs.Common.{None, Some, Ok, Err, refl, sym, ◌∙◌, subst}
+use Rattle.std.proofs.lemmas.Result.{err_from_is_err_and}
+use Rattle.std.specs.declared.io.Error.{Error}
+use Rattle.ciborium_ll.specs.Decoding.{next_offset}
+use Rattle.ciborium_value.specs.View.{tree_of}
+use Rattle.ciborium.specs.ByteSources.{IsUnreadBy}
+use Rattle.ciborium.proofs.WholeValues.{ahead-by, known-read, portable-reads, whole-faults, whole-reads}
+use Rattle.ciborium.proofs.de.byte_source.ByteSource.read_whole_value.Goals as goal
+
+pub returns-in-Some-portable_value-clause-ok : goal.returns-in-Some-portable_value-clause-ok
+returns-in-Some-portable_value-clause-ok g c b u =
+    let d = c.args.self.now.decoder in
+    let (i, s, z, sp, e, give, left) = portable-reads g.R.Read.remaining d c.args.self.now.pending c.in-Some.header c.in-Some.offset b (tree_of c.in-Some-portable_value.value) (Some c.args.self.now.levels) (sym c.take.ensures.value ∙ c.in-Some.is) c.in-Some-portable_value.ensures u in
+    (i, s, z, sp, e, give, subst (λ o. IsUnreadBy g.R.Read.remaining d o z) (sym c.take.ensures.after) left)
+
+pub returns-in_ok-value-in-None-portable_value-clause-ok : goal.returns-in_ok-value-in-None-portable_value-clause-ok
+returns-in_ok-value-in-None-portable_value-clause-ok g c b u =
+    let d = c.args.self.now.decoder in
+    let f = c.read_unpushed.new.decoder in
+    let pending = Some (c.in-Some.header, c.in-Some.offset) in
+    let value = c.in_ok-value-in-None-portable_value.value in
+    let done = c.in_ok-value-in-None-portable_value.ensures in
+    let ahead = ahead-by g.R.Read.remaining d c.push.new.self pending b c.in-None-portable_value.ensures c.push.ensures.pushed c.push.ensures.unread.0 c.push.ensures.unread.1 (subst (λ o. IsUnreadBy g.R.Read.remaining d o b) (sym c.take.ensures.value ∙ c.in-Some.is) u) in
+    let (i, s, z, sp, e, give, left) = whole-reads Error g.R.Read.remaining f c.args.self.now.levels (next_offset d.count pending) b value done.rests
+    (known-read g.R.Read.remaining Error c.push.new.self f c.args.self.now.levels (Ok value) done.value b (next_offset d.count pending) ahead) in
+    (i, s, z, sp, e, give, subst (λ o. IsUnreadBy g.R.Read.remaining f o z) (sym c.take.ensures.after) left)
+
+pub returns-in_ok-value-in-None-clause-ok : goal.returns-in_ok-value-in-None-clause-ok
+returns-in_ok-value-in-None-clause-ok g c b u =
+    let d = c.args.self.now.decoder in
+    let f = c.read_unpushed-in-None.new.decoder in
+    let value = c.in_ok-value-in-None.value in
+    let done = c.in_ok-value-in-None.ensures in
+    let ahead = ahead-by g.R.Read.remaining d d None b tt c.args.self.now.unpushed refl refl (subst (λ o. IsUnreadBy g.R.Read.remaining d o b) (sym c.take.ensures.value ∙ c.in-None.is) u) in
+    let (i, s, z, sp, e, give, left) = whole-reads Error g.R.Read.remaining f c.args.self.now.levels d.count b value done.rests (known-read g.R.Read.remaining Error d f c.args.self.now.levels (Ok value) done.value b d.count ahead) in
+    (i, s, z, sp, e, give, subst (λ o. IsUnreadBy g.R.Read.remaining f o z) (sym c.take.ensures.after) left)
+
+pub returns-in_err-value-in-None-portable_value-clause-denied : goal.returns-in_err-value-in-None-portable_value-clause-denied
+returns-in_err-value-in-None-portable_value-clause-denied g c =
+    let exit = err_from_is_err_and c.from_residual.result c.from_residual.ensures.1 in
+    let d = c.args.self.now.decoder in
+    let f = c.read_unpushed.new.decoder in
+    let pending = Some (c.in-Some.header, c.in-Some.offset) in
+    let error = c.in_err-value-in-None-portable_value.field-0.0 in
+    rw (exit.1, exit.2) (λ b s z i u sp e.
+    let ahead = ahead-by g.R.Read.remaining d c.push.new.self pending b c.in-None-portable_value.ensures c.push.ensures.pushed c.push.ensures.unread.0 c.push.ensures.unread.1 (subst (λ o. IsUnreadBy g.R.Read.remaining d o b) (sym c.take.ensures.value ∙ c.in-Some.is) u) in
+    whole-faults (g.R.Read.remaining f.reader.now) error c.args.self.now.levels (next_offset d.count pending) b s z i sp e
+    (known-read g.R.Read.remaining Error c.push.new.self f c.args.self.now.levels (Err error) c.in_err-value-in-None-portable_value.ensures.value b (next_offset d.count pending) ahead))
+
+pub returns-in_err-value-in-None-clause-denied : goal.returns-in_err-value-in-None-clause-denied
+returns-in_err-value-in-None-clause-denied g c =
+    let exit = err_from_is_err_and c.from_residual-in_err-value-in-None.result c.from_residual-in_err-value-in-None.ensures.1 in
+    let d = c.args.self.now.decoder in
+    let f = c.read_unpushed-in-None.new.decoder in
+    let error = c.in_err-value-in-None.field-0.0 in
+    rw (exit.1, exit.2) (λ b s z i u sp e.
+    let ahead = ahead-by g.R.Read.remaining d d None b tt c.args.self.now.unpushed refl refl (subst (λ o. IsUnreadBy g.R.Read.remaining d o b) (sym c.take.ensures.value ∙ c.in-None.is) u) in
+    whole-faults (g.R.Read.remaining f.reader.now) error c.args.self.now.levels d.count b s z i sp e (known-read g.R.Read.remaining Error d f c.args.self.now.levels (Err error) c.in_err-value-in-None.ensures.value b d.count ahead))

@@ -1,0 +1,7 @@
+use Rattle.ciborium_value.specs.Taken.{taken_boolean}
+use Rattle.ciborium.proofs.ByteItems.{ok-map, takes-read}
+use Rattle.ciborium.proofs.de.byte_source.source.ByteSourceSource.boolean.Goals as goal
+
+pub returns-clause-ok : goal.returns-clause-ok
+returns-clause-ok g c =
+    ok-map c.read_boolean.result c.read_boolean.ensures.pending c.read_boolean.ensures.ok (λ none v k. takes-read g.R.Read.remaining c.args.self.now c.read_boolean.new.self taken_boolean v c.read_boolean.ensures.same_reader c.read_boolean.ensures.levels none k)

@@ -1,0 +1,7 @@
+use Rattle.ciborium_value.specs.Taken.{taken_unit}
+use Rattle.ciborium.proofs.ByteItems.{ok-map, takes-read}
+use Rattle.ciborium.proofs.de.byte_source.source.ByteSourceSource.unit.Goals as goal
+
+pub returns-clause-ok : goal.returns-clause-ok
+returns-clause-ok g c =
+    ok-map c.read_unit.result c.read_unit.ensures.pending c.read_unit.ensures.ok (λ none v k. takes-read g.R.Read.remaining c.args.self.now c.read_unit.new.self taken_unit v c.read_unit.ensures.same_reader c.read_unit.ensures.levels none k)

@@ -1,0 +1,30 @@
+-- What a call reads at the front of unread bytes: a head, or an item and what is taken from it.
+use Rattle.std.specs.Prelude.{◌≡◌, ℕ, List, ◌++◌}
+use Rattle.ciborium_ll.specs.declared.header.Header.{Header}
+use Rattle.ciborium_ll.specs.Header.{SpellsHeader}
+use Rattle.ciborium_ll.specs.Item.{Item}
+use Rattle.ciborium_ll.specs.Spells.{Spells}
+use Rattle.ciborium_value.specs.Nesting.{Limit}
+use Rattle.ciborium_value.specs.Sources.{Fault, IsFaultOf, IsOutside}
+use Rattle.ciborium_value.specs.Taken.{Taken, gives}
+
+module _ {S : Type 0} (IsUnread : S → List ℕ → Type 0) where
+  -- a head stood there, and was taken
+  abbrev pub TakesHead : S → S → Header → Type 0
+  TakesHead old new h = (b : List ℕ) → IsUnread old b → (x : List ℕ) × (y : List ℕ) × SpellsHeader x h × (b ≡ x ++ y) × IsUnread new y
+
+  -- where a head stands it is refused for what no head decides
+  abbrev pub DeniesHead : S → Fault → Type 0
+  DeniesHead old fault = (b x y : List ℕ) (h : Header) → IsUnread old b → SpellsHeader x h → b ≡ x ++ y → IsOutside fault
+
+  -- an item stood there, was taken and gives this
+  abbrev pub Reads : {A : Type 0} → S → S → Limit → Taken A → A → Type 0
+  Reads old new l taken v = (b : List ℕ) → IsUnread old b → (i : Item) × (s : List ℕ) × (z : List ℕ) × Spells s i × (b ≡ s ++ z) × (taken l i ≡ gives v) × IsUnread new z
+
+  -- where an item stands it is refused only where the item is, and for that
+  abbrev pub Denies : {A : Type 0} → S → Limit → Taken A → Fault → Type 0
+  Denies old l taken fault = (b s z : List ℕ) (i : Item) → IsUnread old b → Spells s i → b ≡ s ++ z → IsFaultOf fault (taken l i)
+
+  -- where an item stands it is refused for what no item decides
+  abbrev pub DeniesItem : S → Fault → Type 0
+  DeniesItem old fault = (b s z : List ℕ) (i : Item) → IsUnread old b → Spells s i → b ≡ s ++ z → IsOutside fault

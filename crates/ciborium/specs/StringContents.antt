@@ -1,0 +1,66 @@
+-- What is read behind the head of a string: its payload, or the number that its bytes make.
+use Rattle.std.specs.Prelude.{◌≡◌, ℕ, ◌+◌, ◌*◌, ◌^◌, Bool, true, false, List, [], ◌∷◌, ◌++◌, length, Option, Some, None, if◌then◌else◌, nat_lt}
+use Rattle.ciborium_ll.specs.declared.header.Header.{Header}
+use Rattle.ciborium_ll.specs.declared.header.Header.TheVariants as header
+use Rattle.ciborium_ll.specs.Bytes.{AreBytes}
+use Rattle.ciborium_ll.specs.Header.{SpellsHeader}
+use Rattle.ciborium_ll.specs.Item.{Item, bytes, text}
+use Rattle.ciborium_ll.specs.Spells.{Spells, AreParts, joined}
+use Rattle.ciborium_ll.specs.StringRefusal.{StringKind, of_bytes, of_text}
+use Rattle.ciborium_value.specs.Sources.{Fault, IsOutside}
+
+-- the head of a string of this length (None: open)
+abbrev pub head_of : StringKind → Option ℕ → Header
+head_of of_bytes len = header.Bytes len
+head_of of_text len = header.Text len
+
+abbrev pub is_open : Option ℕ → Bool
+is_open (Some n) = false
+is_open None = true
+
+-- the string with this payload
+abbrev pub string_item : StringKind → Option ℕ → List ℕ → Item
+string_item of_bytes len b = bytes (is_open len) b
+string_item of_text len b = text (is_open len) b
+
+-- c, behind any head of the string, makes the string with this payload
+abbrev pub IsContent : StringKind → Option ℕ → List ℕ → List ℕ → Type 0
+IsContent kind len c payload = (x : List ℕ) → SpellsHeader x (head_of kind len) → Spells (x ++ c) (string_item kind len payload)
+
+-- the number so far and one byte more, where 128 bits hold it
+abbrev pub one_digit_more : Option ℕ → ℕ → Option ℕ
+one_digit_more None b = None
+one_digit_more (Some n) b = if nat_lt n (2 ^ 120) then Some (n * 256 + b) else None
+
+abbrev pub digits_of : Option ℕ → List ℕ → Option ℕ
+digits_of o [] = o
+digits_of o (b ∷ bs) = digits_of (one_digit_more o b) bs
+
+-- P holds of what was unread, and Q of what is
+module _ (P Q : List ℕ → Type 0) where
+  -- these bytes were taken
+  abbrev pub TakesJust : List ℕ → Type 0
+  TakesJust b = (y : List ℕ) → P y → (z : List ℕ) × (y ≡ b ++ z) × Q z
+
+  -- the payload was taken
+  abbrev pub TakesContent : StringKind → Option ℕ → List ℕ → Type 0
+  TakesContent kind len payload = (y : List ℕ) → P y → (c : List ℕ) × (z : List ℕ) × IsContent kind len c payload × (y ≡ c ++ z) × Q z
+
+  -- n bytes were taken, which make the number start this one
+  abbrev pub TakesDigits : ℕ → Option ℕ → Option ℕ → Type 0
+  TakesDigits n start v = (y : List ℕ) → P y → (c : List ℕ) × (z : List ℕ) × (length c ≡ n) × AreBytes c × (v ≡ digits_of start c) × (y ≡ c ++ z) × Q z
+
+  -- the payload of a byte string was taken, which makes this number
+  abbrev pub TakesNumber : Option ℕ → Option ℕ → Type 0
+  TakesNumber len v =
+      (y : List ℕ) → P y → (payload : List ℕ) × (c : List ℕ) × (z : List ℕ) × IsContent of_bytes len c payload × (v ≡ digits_of (Some 0) payload) × AreBytes payload × (y ≡ c ++ z) × Q z
+
+  -- of an open byte string some parts were taken, which make this number
+  abbrev pub TakesParts : Option ℕ → Type 0
+  TakesParts v =
+      (y : List ℕ) → P y → (ps : List (List ℕ)) × (c : List ℕ) × (z : List ℕ) × AreParts 2 AreBytes c ps × (v ≡ digits_of (Some 0) (joined ps)) × AreBytes (joined ps) × (y ≡ c ++ z) × Q z
+
+-- where a string with this head is spelled, it is refused for what the string does not decide
+abbrev pub DeniesContent : (List ℕ → Type 0) → StringKind → Option ℕ → Fault → Type 0
+DeniesContent P kind len fault =
+    (y x s z payload : List ℕ) → P y → SpellsHeader x (head_of kind len) → Spells s (string_item kind len payload) → x ++ y ≡ s ++ z → IsOutside fault

@@ -1,0 +1,53 @@
+-- How the bytes that a source has unread spell what it stands before.
+use Rattle.std.specs.Prelude.{◌≡◌, ℕ, List, [], ◌∷◌, ◌++◌, length, Option, Some, None}
+use Rattle.std.specs.Borrow.{GName}
+use Rattle.ciborium_ll.specs.Head.{break_byte}
+use Rattle.ciborium_ll.specs.Item.{Item}
+use Rattle.ciborium_ll.specs.Spells.{Spells}
+use Rattle.ciborium_value.specs.Ahead.{Ahead, Rest, Form, counted, until_break, of_bytes, bottom, parts, pairs, entry, item, after}
+
+-- a key and its value, in the bytes
+abbrev pub SpellsPair : List ℕ → Item × Item → Type 0
+SpellsPair b p = (s : List ℕ) × (t : List ℕ) × Spells s p.0 × Spells t p.1 × (b ≡ s ++ t)
+
+-- what ends a container of this form in the bytes
+abbrev pub ending : Form → List ℕ
+ending counted = []
+ending until_break = break_byte ∷ []
+ending of_bytes = []
+
+-- how the parts come where the head has this count (None: open)
+abbrev pub form_of : Option ℕ → Form
+form_of (Some n) = counted
+form_of None = until_break
+
+-- so many parts, where they are counted
+abbrev pub HasCount : {X : Type 0} → Option ℕ → List X → Type 0
+HasCount (Some n) xs = length xs ≡ n
+HasCount None xs = Unit {0}
+
+module _ {X : Type 0} (SpellsPart : List ℕ → X → Type 0) where
+  -- each part in turn
+  abbrev pub AreSpelled : List ℕ → List X → Type 0
+  AreSpelled b [] = b ≡ []
+  AreSpelled b (x ∷ xs) = (s : List ℕ) × (r : List ℕ) × SpellsPart s x × AreSpelled r xs × (b ≡ s ++ r)
+
+  -- the parts left of a container of this form; the bytes of a byte string are read before its parts are
+  abbrev pub AreLeft : Form → List ℕ → List X → Type 0
+  AreLeft counted b xs = AreSpelled b xs
+  AreLeft until_break b xs = AreSpelled b xs
+  AreLeft of_bytes b xs = b ≡ []
+
+module _ (name : GName) where
+  -- b is this rest, in the reader of this name
+  abbrev pub IsRest : List ℕ → Rest → Type 0
+  IsRest b (bottom m r) = (b ≡ r) × (m ≡ name)
+  IsRest b (parts form is f) = (s : List ℕ) × (r : List ℕ) × AreLeft Spells form s is × IsRest r f × (b ≡ s ++ (ending form ++ r))
+  IsRest b (pairs form ps f) = (s : List ℕ) × (r : List ℕ) × AreLeft SpellsPair form s ps × IsRest r f × (b ≡ s ++ (ending form ++ r))
+  IsRest b (entry v form ps f) =
+      (t : List ℕ) × (c : List ℕ) × Spells t v × ((s : List ℕ) × (r : List ℕ) × AreLeft SpellsPair form s ps × IsRest r f × (c ≡ s ++ (ending form ++ r))) × (b ≡ t ++ c)
+
+  -- b is what a source stands before
+  abbrev pub Fits : List ℕ → Ahead → Type 0
+  Fits b (item i f) = (s : List ℕ) × (r : List ℕ) × Spells s i × IsRest r f × (b ≡ s ++ r)
+  Fits b (after f) = IsRest b f

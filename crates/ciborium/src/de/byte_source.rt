@@ -1,0 +1,48 @@
+//! A reader as what values are read from.
+
+ghost use Rattle.std.specs.Prelude.{◌≡◌, None};
+ghost use Rattle.ciborium_ll.specs.Decoding.{pushed_of};
+
+use ciborium_ll::{Decoder, Header};
+use std::vec;
+
+mod byte_lists;
+mod characters;
+mod containers;
+mod heads;
+mod numbers;
+mod scalars;
+mod source;
+mod strings;
+mod values;
+
+// Reads each head and payload as it comes. A head that was looked at and not taken is pending, with
+// its offset; so is one that stands for what is not in the bytes, as a byte of a byte string that
+// is read as numbers.
+#[derive(Drop)]
+pub(crate) struct ByteSource<'a, R> {
+    pub(crate) decoder: Decoder<'a, R>,
+    pub(crate) pending: Option<(Header, usize)>,
+    pub(crate) levels: usize,
+    pub(crate) scratch: &'a mut [u8],
+    ghost unpushed: { pushed_of decoder ≡ None },
+}
+
+// How many items or pairs are left; or any number, up to a break; or the bytes of a byte string.
+#[derive(Drop)]
+pub(crate) enum Left {
+    Counted(usize),
+    Open,
+    Bytes(vec::IntoIter<u8>),
+}
+
+// What is left of a container, the levels to give back behind it, and where it began.
+#[derive(Drop)]
+pub(crate) struct ByteSeq {
+    pub(crate) left: Left,
+    pub(crate) levels: usize,
+    pub(crate) offset: usize,
+}
+
+#[cfg(test)]
+mod tests;

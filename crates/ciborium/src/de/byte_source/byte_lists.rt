@@ -1,0 +1,90 @@
+//! Bytes, of a byte string or of an array of numbers.
+
+ghost use Rattle.std.specs.Prelude.{◌≡◌, ◌+◌, ◌<◌, ◌≤◌, IfErr, IfOk, List, OnOk, ℕ};
+ghost use Rattle.ciborium_ll.specs.Decoding.{HasSameReader};
+ghost use Rattle.ciborium_value.specs.Places.{sequence};
+ghost use Rattle.ciborium_value.specs.Sources.{HasItem, IsFaultOf, Refuses, Takes, TakesItem};
+ghost use Rattle.ciborium_value.specs.Sources.{TakesTo};
+ghost use Rattle.ciborium_value.specs.Taken.{gives, number_below, take_each, taken_byte};
+ghost use Rattle.ciborium_value.specs.Taken.{taken_bytes};
+ghost use Rattle.ciborium.specs.ByteSources.{IsUnread, Owes, ReadsRest, RefusesRest, StandsBefore};
+ghost use Rattle.ciborium.specs.ByteSources.{cause_of, seq_left, weight_left};
+
+use crate::de::byte_source::{ByteSeq, ByteSource};
+use crate::de::error::Error;
+use ciborium_ll::Header;
+use ciborium_value::Kind;
+use std::alloc::Global;
+use std::io::{self, Read};
+
+// The byte that a number at this offset is.
+#[inline(always)]
+fn to_byte(number: (bool, u128), offset: usize) -> Result<u8, Error<io::Error>>
+    ensures ok { IfOk result (λ byte. number_below 256 number ≡ gives byte) }
+    ensures refused { IfErr result (λ e. IsFaultOf (cause_of e) (number_below 256 number)) }
+{
+    let (is_negative, n) = number;
+    if is_negative {
+        return Err(Error::Semantic(Some(offset), Kind::Range));
+    }
+    if n > 255 {
+        return Err(Error::Semantic(Some(offset), Kind::Range));
+    }
+    Ok(n as u8)
+}
+
+impl<'a, R: Read> ByteSource<'a, R> {
+    // The items that are left of a sequence, each a number that is a byte.
+    #[inline(never)]
+    fn read_byte_items(&mut self, alloc: Global, seq: ByteSeq) -> Result<Vec<u8>, Error<io::Error>>
+        ensures same_reader { HasSameReader self.old.decoder self.new.decoder }
+        ensures ok { IfOk result (λ v. ReadsRest R.remaining self.old self.new seq
+            (λ l is. take_each (taken_byte l) is) v.items) }
+        ensures refused { IfErr result (λ e. RefusesRest R.remaining self.old seq
+            (λ l is. take_each (taken_byte l) is) (cause_of e)) }
+        ensures took { OnOk result (TakesTo (IsUnread R.remaining) self.old self.new
+            (λ c z. (b : List ℕ) → Owes seq sequence b c → HasItem b z)) }
+        ensures fewer { OnOk result
+            (weight_left self.new ≤ weight_left self.old + seq_left seq) }
+    {
+        let mut left = seq;
+        let mut bytes = Vec::new(alloc);
+        'items: loop {
+            let goes_on = self.next_part(&mut left)?;
+            if !goes_on {
+                return Ok(bytes);
+            }
+            let (number, offset) = self.read_integer()?;
+            let byte = to_byte(number, offset)?;
+            match bytes.push(byte) {
+                Ok(()) => {}
+                Err(_) => return Err(Error::Memory),
+            }
+        }
+    }
+
+    #[inline(always)]
+    pub(crate) fn read_bytes(&mut self, alloc: Global) -> Result<Vec<u8>, Error<io::Error>>
+        ensures same_reader { HasSameReader self.old.decoder self.new.decoder }
+        ensures ok { IfOk result (λ v.
+            Takes (StandsBefore R.remaining) self.old self.new taken_bytes v.items) }
+        ensures refused { IfErr result (λ e.
+            Refuses (StandsBefore R.remaining) self.old taken_bytes (cause_of e)) }
+        ensures took { OnOk result (TakesItem (IsUnread R.remaining) self.old self.new) }
+        ensures fewer { OnOk result (weight_left self.new < weight_left self.old) }
+    {
+        let (header, offset) = self.bare_head(false)?;
+        match header {
+            Header::Bytes(len) => {
+                let bytes = self.bytes_content(alloc, len)?;
+                Ok(bytes)
+            }
+            Header::Array(count) => {
+                let seq = self.enter(count, offset)?;
+                let bytes = self.read_byte_items(alloc, seq)?;
+                Ok(bytes)
+            }
+            _ => Err(Error::Semantic(Some(offset), Kind::Bytes)),
+        }
+    }
+}

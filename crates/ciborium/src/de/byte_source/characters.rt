@@ -1,0 +1,74 @@
+//! Characters.
+
+ghost use Rattle.std.specs.Prelude.{◌≡◌, ◌<◌, IfErr, IfOk, IsUtf8, None, OnOk, Some, chars, false};
+ghost use Rattle.ciborium_ll.specs.Decoding.{HasSameReader};
+ghost use Rattle.ciborium_value.specs.Sources.{IsFaultOf, IsGranted};
+ghost use Rattle.ciborium_value.specs.Taken.{gives, lone_character, taken_character};
+ghost use Rattle.ciborium.specs.ByteSources.{IsUnread, cause_of, weight_left};
+ghost use Rattle.ciborium.specs.ItemReads.{Denies, Reads};
+
+use crate::de::byte_source::ByteSource;
+use crate::de::error::Error;
+use ciborium_ll::Header;
+use ciborium_value::Kind;
+use std::io::{self, Read};
+use std::str;
+
+// How many bytes a character takes in UTF-8, at most.
+const GREATEST_CHARACTER_SIZE: usize = 4;
+
+// The one character of the payload of a text at this offset.
+fn only_character(payload: &[u8], offset: usize) -> Result<char, Error<io::Error>>
+    ensures utf8 { OnOk result (IsUtf8 payload.now) }
+    ensures ok { IfOk result (λ c. lone_character (chars payload.now) ≡ gives c) }
+    ensures refused { IfErr result (λ e.
+        IsUtf8 payload.now → IsFaultOf (cause_of e) (lone_character (chars payload.now))) }
+    ensures memory { IfErr result (λ e. IsGranted (cause_of e) false) }
+{
+    match str::from_utf8(payload) {
+        Ok(text) => {
+            let mut characters = text.chars();
+            match characters.next() {
+                Some(first) => match characters.next() {
+                    Some(_) => Err(Error::Semantic(Some(offset), Kind::Char)),
+                    None => Ok(first),
+                },
+                None => Err(Error::Semantic(Some(offset), Kind::Char)),
+            }
+        }
+        Err(_) => Err(Error::Syntax(offset)),
+    }
+}
+
+impl<'a, R: Read> ByteSource<'a, R> {
+    /// The one character of a definite text. A text that is longer than any character is not read.
+    pub(crate) fn read_character(&mut self) -> Result<char, Error<io::Error>>
+        ensures same_reader { HasSameReader self.old.decoder self.new.decoder }
+        ensures levels { self.new.levels ≡ self.old.levels }
+        ensures pending { OnOk result (self.new.pending ≡ None) }
+        ensures fewer { OnOk result (weight_left self.new < weight_left self.old) }
+        ensures ok { IfOk result (λ v. Reads (IsUnread R.remaining) self.old self.new
+            (Some self.old.levels) taken_character v) }
+        ensures denied { IfErr result (λ e. Denies (IsUnread R.remaining) self.old
+            (Some self.old.levels) taken_character (cause_of e)) }
+        ensures memory { IfErr result (λ e. IsGranted (cause_of e) false) }
+    {
+        let (header, offset) = self.bare_head(false)?;
+        match header {
+            Header::Text(len) => match len {
+                Some(n) => {
+                    if n > GREATEST_CHARACTER_SIZE {
+                        return Err(Error::Semantic(Some(offset), Kind::Char));
+                    }
+                    let mut room = [0u8; GREATEST_CHARACTER_SIZE];
+                    let payload = &mut room[..n];
+                    self.fill(payload)?;
+                    let character = only_character(payload, offset)?;
+                    Ok(character)
+                }
+                None => Err(Error::Semantic(Some(offset), Kind::Char)),
+            },
+            _ => Err(Error::Semantic(Some(offset), Kind::Char)),
+        }
+    }
+}

@@ -1,0 +1,164 @@
+//! Containers: how they are entered, and their parts in turn.
+
+ghost use Rattle.std.specs.Prelude.{◌≡◌, ◌≢◌, ◌+◌, ◌-◌, ◌<◌, ◌≤◌, IfErr, IfOk, MatchBool, None};
+ghost use Rattle.std.specs.Prelude.{OnErr, OnOk, Some, false};
+ghost use Rattle.ciborium_ll.specs.Decoding.{HasSameReader};
+ghost use Rattle.ciborium_value.specs.Sources.{GoesOn, IsGranted, Leaves, OwesLess, OwesNothing};
+ghost use Rattle.ciborium_value.specs.Sources.{RefusesNext, TakesTo};
+ghost use Rattle.ciborium_value.specs.Taken.{gives, taken_pairs, taken_seq};
+ghost use Rattle.ciborium.specs.ByteSources.{IsUnread, OpensItems, OpensPairs, Owes, SeqStands};
+ghost use Rattle.ciborium.specs.ByteSources.{StandsBefore, cause_of, left_of, seq_left};
+ghost use Rattle.ciborium.specs.ByteSources.{weight_left};
+ghost use Rattle.ciborium.specs.ItemReads.{Denies};
+
+use crate::de::byte_source::{ByteSeq, ByteSource, Left};
+use crate::de::error::Error;
+use ciborium_ll::Header;
+use ciborium_value::Kind;
+use std::alloc::Global;
+use std::io::{self, Read};
+
+impl<'a, R: Read> ByteSource<'a, R> {
+    /// Takes a level for the container at this offset with so many parts (`None`: open).
+    #[inline(always)]
+    pub(crate) fn enter(
+        &mut self,
+        count: Option<usize>,
+        offset: usize,
+    ) -> Result<ByteSeq, Error<io::Error>>
+        ensures decoder { self.new.decoder ≡ self.old.decoder }
+        ensures pending { self.new.pending ≡ self.old.pending }
+        ensures some { OnOk result (self.old.levels ≢ 0) }
+        ensures levels { OnOk result (self.new.levels ≡ self.old.levels - 1) }
+        ensures left { IfOk result (λ q. q.left ≡ left_of count) }
+        ensures back { IfOk result (λ q. q.levels ≡ self.old.levels) }
+        ensures none { OnErr result (self.old.levels ≡ 0) }
+        ensures err { IfErr result (λ e. e ≡ Error.RecursionLimitExceeded) }
+    {
+        let levels = self.levels;
+        if levels == 0 {
+            return Err(Error::RecursionLimitExceeded);
+        }
+        self.levels = levels - 1;
+        match count {
+            Some(n) => Ok(ByteSeq {
+                left: Left::Counted(n),
+                levels,
+                offset,
+            }),
+            None => Ok(ByteSeq {
+                left: Left::Open,
+                levels,
+                offset,
+            }),
+        }
+    }
+
+    #[inline(always)]
+    pub(crate) fn open_seq(&mut self, alloc: Global) -> Result<ByteSeq, Error<io::Error>>
+        ensures same_reader { HasSameReader self.old.decoder self.new.decoder }
+        ensures levels { IfOk result (λ q. q.levels ≡ self.old.levels) }
+        ensures pending { OnOk result (self.new.pending ≡ None) }
+        ensures fewer { IfOk result
+            (λ q. weight_left self.new + seq_left q < weight_left self.old) }
+        ensures ok { IfOk result (OpensItems R.remaining self.old self.new taken_seq
+            (λ l is. gives (l, is))) }
+        ensures denied { IfErr result (λ e. Denies (IsUnread R.remaining) self.old
+            (Some self.old.levels) taken_seq (cause_of e)) }
+    {
+        let (header, offset) = self.bare_head(false)?;
+        match header {
+            Header::Array(count) => {
+                let seq = self.enter(count, offset)?;
+                Ok(seq)
+            }
+            Header::Bytes(len) => {
+                let levels = self.levels;
+                let bytes = self.bytes_content(alloc, len)?;
+                Ok(ByteSeq {
+                    left: Left::Bytes(bytes.into_iter()),
+                    levels,
+                    offset,
+                })
+            }
+            _ => Err(Error::Semantic(Some(offset), Kind::Array)),
+        }
+    }
+
+    #[inline(always)]
+    pub(crate) fn open_map(&mut self) -> Result<ByteSeq, Error<io::Error>>
+        ensures same_reader { HasSameReader self.old.decoder self.new.decoder }
+        ensures levels { IfOk result (λ q. q.levels ≡ self.old.levels) }
+        ensures pending { OnOk result (self.new.pending ≡ None) }
+        ensures fewer { IfOk result
+            (λ q. weight_left self.new + seq_left q < weight_left self.old) }
+        ensures ok { IfOk result (OpensPairs R.remaining self.old self.new taken_pairs
+            (λ l ps. gives (l, ps))) }
+        ensures denied { IfErr result (λ e. Denies (IsUnread R.remaining) self.old
+            (Some self.old.levels) taken_pairs (cause_of e)) }
+        ensures memory { IfErr result (λ e. IsGranted (cause_of e) false) }
+    {
+        let (header, offset) = self.bare_head(false)?;
+        match header {
+            Header::Map(count) => {
+                let seq = self.enter(count, offset)?;
+                Ok(seq)
+            }
+            _ => Err(Error::Semantic(Some(offset), Kind::Map)),
+        }
+    }
+
+    /// Whether a further item or pair is ahead; the container is left where none is.
+    #[inline(always)]
+    pub(crate) fn next_part(&mut self, seq: &mut ByteSeq) -> Result<bool, Error<io::Error>>
+        ensures same_reader { HasSameReader self.old.decoder self.new.decoder }
+        ensures ok { IfOk result (λ b. MatchBool b
+            (GoesOn (StandsBefore R.remaining) SeqStands self.old self.new seq.old seq.new)
+            (Leaves (StandsBefore R.remaining) SeqStands self.old self.new seq.old)) }
+        ensures refused { IfErr result (λ e.
+            RefusesNext (StandsBefore R.remaining) SeqStands self.old seq.old (cause_of e)) }
+        ensures memory { IfErr result (λ e. IsGranted (cause_of e) false) }
+        ensures took { IfOk result (λ b. MatchBool b
+            (TakesTo (IsUnread R.remaining) self.old self.new (OwesLess Owes seq.old seq.new))
+            (TakesTo (IsUnread R.remaining) self.old self.new (OwesNothing Owes seq.old))) }
+        ensures fewer { OnOk result
+            (weight_left self.new + seq_left seq.new ≤ weight_left self.old + seq_left seq.old) }
+    {
+        match &mut seq.left {
+            Left::Counted(n) => {
+                if *n == 0 {
+                    self.levels = seq.levels;
+                    return Ok(false);
+                }
+                *n -= 1;
+                Ok(true)
+            }
+            Left::Open => {
+                let (header, offset) = self.next_head()?;
+                match header {
+                    Header::Break => {
+                        self.levels = seq.levels;
+                        Ok(false)
+                    }
+                    _ => {
+                        self.pending = Some((header, offset));
+                        Ok(true)
+                    }
+                }
+            }
+            Left::Bytes(bytes) => {
+                // The byte before was not read.
+                if self.pending.is_some() {
+                    return Err(Error::Semantic(None, Kind::Other));
+                }
+                match bytes.next() {
+                    Some(byte) => {
+                        self.pending = Some((Header::Positive(u64::from(byte)), seq.offset));
+                        Ok(true)
+                    }
+                    None => Ok(false),
+                }
+            }
+        }
+    }
+}

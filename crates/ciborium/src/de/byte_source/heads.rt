@@ -1,0 +1,83 @@
+//! The next head, as it comes or behind tags.
+
+ghost use Rattle.std.specs.Prelude.{◌≡◌, ◌+◌, ◌≤◌, IfErr, IfOk, None, OnOk, false};
+ghost use Rattle.ciborium_ll.specs.Decoding.{HasSameReader};
+ghost use Rattle.ciborium_value.specs.Sources.{IsGranted};
+ghost use Rattle.ciborium.specs.ByteSources.{CountsHead, IsUnread, bytes_weight, cause_of, weight};
+ghost use Rattle.ciborium.specs.ByteSources.{weight_left};
+ghost use Rattle.ciborium.specs.ItemReads.{DeniesHead, DeniesItem, TakesHead};
+ghost use Rattle.ciborium.specs.Skips.{IsBare, IsEndTag, TakesBare};
+
+use crate::de::byte_source::ByteSource;
+use crate::de::error::Error;
+use ciborium_ll::Header;
+use ciborium_ll::tag::{BIGNEG, BIGPOS};
+use ciborium_value::Kind;
+use std::io::{self, Read};
+
+// Whether a tag is not skipped: that of a bignum, where numbers are wanted.
+#[inline(always)]
+fn is_end_tag(numbers: bool, tag: u64) -> bool
+    ensures { IsEndTag numbers tag result }
+{
+    numbers && (tag == BIGPOS || tag == BIGNEG)
+}
+
+impl<'a, R: Read> ByteSource<'a, R> {
+    /// The next head, and its offset.
+    #[inline(always)]
+    pub(crate) fn next_head(&mut self) -> Result<(Header, usize), Error<io::Error>>
+        ensures same_reader { HasSameReader self.old.decoder self.new.decoder }
+        ensures levels { self.new.levels ≡ self.old.levels }
+        ensures pending { self.new.pending ≡ None }
+        ensures fewer { IfOk result
+            (λ h. bytes_weight self.new + weight h.0 ≤ weight_left self.old) }
+        ensures head { IfOk result
+            (λ h. TakesHead (IsUnread R.remaining) self.old self.new h.0) }
+        ensures counted { IfOk result (CountsHead (IsUnread R.remaining) self.old self.new) }
+        ensures denied { IfErr result
+            (λ e. DeniesHead (IsUnread R.remaining) self.old (cause_of e)) }
+        ensures memory { IfErr result (λ e. IsGranted (cause_of e) false) }
+    {
+        if let Some(pending) = self.pending.take() {
+            return Ok(pending);
+        }
+        let offset = self.decoder.offset();
+        let header = self.decoder.pull()?;
+        Ok((header, offset))
+    }
+
+    /// The head behind any number of tags, and its offset. Where numbers are wanted, the tag of a
+    /// bignum is such a head.
+    ///
+    /// # Errors
+    ///
+    /// `Semantic` with `Break` where a break stands there.
+    #[inline(always)]
+    pub(crate) fn bare_head(&mut self, numbers: bool) -> Result<(Header, usize), Error<io::Error>>
+        ensures same_reader { HasSameReader self.old.decoder self.new.decoder }
+        ensures levels { self.new.levels ≡ self.old.levels }
+        ensures pending { OnOk result (self.new.pending ≡ None) }
+        ensures fewer { IfOk result
+            (λ h. bytes_weight self.new + weight h.0 ≤ weight_left self.old) }
+        ensures bare { IfOk result (λ h. IsBare numbers h.0) }
+        ensures head { IfOk result
+            (λ h. TakesBare (IsUnread R.remaining) self.old self.new numbers h.0) }
+        ensures denied { IfErr result
+            (λ e. DeniesItem (IsUnread R.remaining) self.old (cause_of e)) }
+        ensures memory { IfErr result (λ e. IsGranted (cause_of e) false) }
+    {
+        'tags: loop {
+            let (header, offset) = self.next_head()?;
+            match header {
+                Header::Tag(tag) => {
+                    if is_end_tag(numbers, tag) {
+                        return Ok((header, offset));
+                    }
+                }
+                Header::Break => return Err(Error::Semantic(Some(offset), Kind::Break)),
+                _ => return Ok((header, offset)),
+            }
+        }
+    }
+}

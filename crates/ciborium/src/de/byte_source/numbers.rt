@@ -1,0 +1,160 @@
+//! Numbers: integers, and bignums that are read byte by byte.
+
+ghost use Rattle.std.specs.Prelude.{◌≡◌, ◌∷◌, ◌<◌, ◌≤◌, [], IfErr, IfOk, None, OnOk, Some, false};
+ghost use Rattle.ciborium_ll.specs.Decoding.{HasSameReader};
+ghost use Rattle.ciborium_ll.specs.StringRefusal.{of_bytes};
+ghost use Rattle.ciborium_value.specs.Sources.{IsGranted, IsOutside};
+ghost use Rattle.ciborium_value.specs.Taken.{taken_bignum, taken_integer};
+ghost use Rattle.ciborium.specs.ByteSources.{IsUnread, bytes_weight, cause_of, weight_left};
+ghost use Rattle.ciborium.specs.ItemReads.{Denies, Reads};
+ghost use Rattle.ciborium.specs.StringContents.{DeniesContent, TakesDigits, TakesNumber};
+ghost use Rattle.ciborium.specs.StringContents.{one_digit_more};
+
+use crate::de::byte_source::ByteSource;
+use crate::de::error::Error;
+use ciborium_ll::Header;
+use ciborium_ll::tag::BIGNEG;
+use ciborium_value::Kind;
+use std::io::{self, Read};
+
+// The number with one byte more, or none where 128 bits do not hold it.
+#[inline(always)]
+fn with_digit(number: Option<u128>, byte: u8) -> Option<u128>
+    ensures { result ≡ one_digit_more number byte }
+{
+    match number {
+        Some(n) => {
+            if n < 1 << 120 {
+                Some(n * 256 + u128::from(byte))
+            } else {
+                None
+            }
+        }
+        None => None,
+    }
+}
+
+#[inline(always)]
+fn only_byte(room: &[u8; 1]) -> u8
+    ensures { room.now ≡ result ∷ [] }
+{
+    room[0]
+}
+
+impl<'a, R: Read> ByteSource<'a, R> {
+    // The number with the next bytes, `len` of them, as its further digits.
+    fn read_digits(
+        &mut self,
+        len: usize,
+        start: Option<u128>,
+    ) -> Result<Option<u128>, Error<io::Error>>
+        requires { self.old.pending ≡ None }
+        ensures same_reader { HasSameReader self.old.decoder self.new.decoder }
+        ensures levels { self.new.levels ≡ self.old.levels }
+        ensures pending { self.new.pending ≡ None }
+        ensures fewer { OnOk result (bytes_weight self.new ≤ bytes_weight self.old) }
+        ensures ok { IfOk result (λ number. TakesDigits (IsUnread R.remaining self.old)
+            (IsUnread R.remaining self.new) len start number) }
+        ensures outside { IfErr result (λ e. IsOutside (cause_of e)) }
+        ensures memory { IfErr result (λ e. IsGranted (cause_of e) false) }
+    {
+        let mut number = start;
+        let mut left = len;
+        while left > 0 {
+            let mut room = [0u8; 1];
+            self.decoder.read_exact(&mut room)?;
+            let _end = self.decoder.offset();
+            number = with_digit(number, only_byte(&room));
+            left -= 1;
+        }
+        Ok(number)
+    }
+
+    // The number that the byte string makes whose head was taken last. It is read whole, also where
+    // 128 bits do not hold it.
+    fn read_number(&mut self, len: Option<usize>) -> Result<Option<u128>, Error<io::Error>>
+        requires { self.old.pending ≡ None }
+        ensures same_reader { HasSameReader self.old.decoder self.new.decoder }
+        ensures levels { self.new.levels ≡ self.old.levels }
+        ensures pending { self.new.pending ≡ None }
+        ensures fewer { OnOk result (bytes_weight self.new ≤ bytes_weight self.old) }
+        ensures ok { IfOk result (λ number. TakesNumber (IsUnread R.remaining self.old)
+            (IsUnread R.remaining self.new) len number) }
+        ensures denied { IfErr result
+            (λ e. DeniesContent (IsUnread R.remaining self.old) of_bytes len (cause_of e)) }
+        ensures memory { IfErr result (λ e. IsGranted (cause_of e) false) }
+    {
+        match len {
+            Some(n) => {
+                let number = self.read_digits(n, Some(0))?;
+                Ok(number)
+            }
+            None => {
+                let mut number = Some(0u128);
+                'parts: loop {
+                    let (header, offset) = self.next_head()?;
+                    match header {
+                        Header::Break => return Ok(number),
+                        Header::Bytes(part) => match part {
+                            Some(n) => number = self.read_digits(n, number)?,
+                            None => return Err(Error::Syntax(offset)),
+                        },
+                        _ => return Err(Error::Syntax(offset)),
+                    }
+                }
+            }
+        }
+    }
+
+    // The number under the tag of a bignum, which was taken last and stands at this offset.
+    #[inline(never)]
+    fn read_bignum(&mut self, tag_offset: usize) -> Result<u128, Error<io::Error>>
+        ensures same_reader { HasSameReader self.old.decoder self.new.decoder }
+        ensures levels { self.new.levels ≡ self.old.levels }
+        ensures pending { OnOk result (self.new.pending ≡ None) }
+        ensures fewer { OnOk result (weight_left self.new ≤ weight_left self.old) }
+        ensures ok { IfOk result
+            (λ n. Reads (IsUnread R.remaining) self.old self.new None taken_bignum n) }
+        ensures denied { IfErr result
+            (λ e. Denies (IsUnread R.remaining) self.old None taken_bignum (cause_of e)) }
+        ensures memory { IfErr result (λ e. IsGranted (cause_of e) false) }
+    {
+        let (header, offset) = self.next_head()?;
+        match header {
+            Header::Bytes(len) => {
+                let number = self.read_number(len)?;
+                match number {
+                    Some(n) => Ok(n),
+                    None => Err(Error::Semantic(Some(tag_offset), Kind::TooLarge)),
+                }
+            }
+            Header::Break => Err(Error::Semantic(Some(offset), Kind::Break)),
+            _ => Err(Error::Semantic(Some(offset), Kind::Bytes)),
+        }
+    }
+
+    /// A number, and the offset of its head or, for a bignum, of the tag of it.
+    #[inline(always)]
+    pub(crate) fn read_integer(&mut self) -> Result<((bool, u128), usize), Error<io::Error>>
+        ensures same_reader { HasSameReader self.old.decoder self.new.decoder }
+        ensures levels { self.new.levels ≡ self.old.levels }
+        ensures pending { OnOk result (self.new.pending ≡ None) }
+        ensures fewer { OnOk result (weight_left self.new < weight_left self.old) }
+        ensures ok { IfOk result (λ v. Reads (IsUnread R.remaining) self.old self.new
+            (Some self.old.levels) taken_integer v.0) }
+        ensures denied { IfErr result (λ e. Denies (IsUnread R.remaining) self.old
+            (Some self.old.levels) taken_integer (cause_of e)) }
+        ensures memory { IfErr result (λ e. IsGranted (cause_of e) false) }
+    {
+        let (header, offset) = self.bare_head(true)?;
+        match header {
+            Header::Positive(n) => Ok(((false, u128::from(n)), offset)),
+            Header::Negative(n) => Ok(((true, u128::from(n)), offset)),
+            Header::Tag(tag) => {
+                let n = self.read_bignum(offset)?;
+                Ok(((tag == BIGNEG, n), offset))
+            }
+            _ => Err(Error::Semantic(Some(offset), Kind::Integer)),
+        }
+    }
+}

@@ -1,0 +1,75 @@
+//! Booleans and null.
+
+ghost use Rattle.std.specs.Prelude.{◌≡◌, ◌<◌, IfErr, IfOk, None, OnOk, Some, false};
+ghost use Rattle.ciborium_ll.specs.Decoding.{HasSameReader};
+ghost use Rattle.ciborium_value.specs.Sources.{IsGranted};
+ghost use Rattle.ciborium_value.specs.Taken.{is_null_simple, taken_boolean, taken_unit};
+ghost use Rattle.ciborium.specs.ByteSources.{IsUnread, cause_of, weight_left};
+ghost use Rattle.ciborium.specs.ItemReads.{Denies, Reads};
+
+use crate::de::byte_source::ByteSource;
+use crate::de::error::Error;
+use ciborium_ll::{Header, simple};
+use ciborium_value::Kind;
+use std::io::{self, Read};
+
+/// Whether a simple value is null or undefined.
+#[inline(always)]
+pub(crate) fn is_null(number: u8) -> bool
+    ensures { result ≡ is_null_simple number }
+{
+    number == simple::NULL || number == simple::UNDEFINED
+}
+
+impl<'a, R: Read> ByteSource<'a, R> {
+    #[inline(always)]
+    pub(crate) fn read_boolean(&mut self) -> Result<bool, Error<io::Error>>
+        ensures same_reader { HasSameReader self.old.decoder self.new.decoder }
+        ensures levels { self.new.levels ≡ self.old.levels }
+        ensures pending { OnOk result (self.new.pending ≡ None) }
+        ensures fewer { OnOk result (weight_left self.new < weight_left self.old) }
+        ensures ok { IfOk result (λ v. Reads (IsUnread R.remaining) self.old self.new
+            (Some self.old.levels) taken_boolean v) }
+        ensures denied { IfErr result (λ e. Denies (IsUnread R.remaining) self.old
+            (Some self.old.levels) taken_boolean (cause_of e)) }
+        ensures memory { IfErr result (λ e. IsGranted (cause_of e) false) }
+    {
+        let (header, offset) = self.bare_head(false)?;
+        match header {
+            Header::Simple(number) => {
+                if number == simple::FALSE {
+                    return Ok(false);
+                }
+                if number == simple::TRUE {
+                    return Ok(true);
+                }
+                Err(Error::Semantic(Some(offset), Kind::Bool))
+            }
+            _ => Err(Error::Semantic(Some(offset), Kind::Bool)),
+        }
+    }
+
+    #[inline(always)]
+    pub(crate) fn read_unit(&mut self) -> Result<(), Error<io::Error>>
+        ensures same_reader { HasSameReader self.old.decoder self.new.decoder }
+        ensures levels { self.new.levels ≡ self.old.levels }
+        ensures pending { OnOk result (self.new.pending ≡ None) }
+        ensures fewer { OnOk result (weight_left self.new < weight_left self.old) }
+        ensures ok { IfOk result (λ v. Reads (IsUnread R.remaining) self.old self.new
+            (Some self.old.levels) taken_unit v) }
+        ensures denied { IfErr result (λ e. Denies (IsUnread R.remaining) self.old
+            (Some self.old.levels) taken_unit (cause_of e)) }
+        ensures memory { IfErr result (λ e. IsGranted (cause_of e) false) }
+    {
+        let (header, offset) = self.bare_head(false)?;
+        match header {
+            Header::Simple(number) => {
+                if is_null(number) {
+                    return Ok(());
+                }
+                Err(Error::Semantic(Some(offset), Kind::Unit))
+            }
+            _ => Err(Error::Semantic(Some(offset), Kind::Unit)),
+        }
+    }
+}

@@ -1,0 +1,114 @@
+//! The calls of a source.
+
+ghost use Rattle.ciborium.specs.ByteSources.{IsUnread, Owes, ReadsValue, SeqStands, StandsBefore};
+ghost use Rattle.ciborium.specs.ByteSources.{cause_of, seq_left, weight_left};
+
+use crate::de::byte_source::scalars::is_null;
+use crate::de::byte_source::{ByteSeq, ByteSource};
+use crate::de::error::Error;
+use ciborium_ll::Header;
+use ciborium_value::{Kind, Source, Value};
+use std::alloc::Global;
+use std::io::{self, Read};
+
+impl<'a, R: Read> Source for ByteSource<'a, R> {
+    type Error = Error<io::Error>;
+
+    type Seq = ByteSeq;
+
+    ghost stands_before = { StandsBefore R.remaining };
+
+    ghost seq_stands = { SeqStands };
+
+    ghost left = { weight_left };
+
+    ghost seq_left = { seq_left };
+
+    ghost is_unread = { IsUnread R.remaining };
+
+    ghost owes = { Owes };
+
+    ghost reads = { ReadsValue R.remaining };
+
+    ghost cause = { cause_of };
+
+    #[inline(always)]
+    fn integer(&mut self) -> Result<(bool, u128), Error<io::Error>> {
+        let (number, _) = self.read_integer()?;
+        Ok(number)
+    }
+
+    #[inline(always)]
+    fn boolean(&mut self) -> Result<bool, Error<io::Error>> {
+        self.read_boolean()
+    }
+
+    #[inline(always)]
+    fn unit(&mut self) -> Result<(), Error<io::Error>> {
+        self.read_unit()
+    }
+
+    #[inline(always)]
+    fn character(&mut self) -> Result<char, Error<io::Error>> {
+        self.read_character()
+    }
+
+    #[inline(always)]
+    fn text(&mut self, alloc: Global) -> Result<String, Error<io::Error>> {
+        self.read_text(alloc)
+    }
+
+    #[inline(always)]
+    fn bytes(&mut self, alloc: Global) -> Result<Vec<u8>, Error<io::Error>> {
+        self.read_bytes(alloc)
+    }
+
+    #[inline(always)]
+    fn null_ahead(&mut self) -> Result<bool, Error<io::Error>> {
+        let (header, offset) = self.next_head()?;
+        match header {
+            Header::Simple(number) => {
+                self.pending = Some((Header::Simple(number), offset));
+                Ok(is_null(number))
+            }
+            Header::Positive(n) => {
+                self.pending = Some((Header::Positive(n), offset));
+                Ok(false)
+            }
+            _ => {
+                self.pending = Some((header, offset));
+                Ok(false)
+            }
+        }
+    }
+
+    #[inline(always)]
+    fn begin_seq(&mut self, alloc: Global) -> Result<ByteSeq, Error<io::Error>> {
+        self.open_seq(alloc)
+    }
+
+    #[inline(always)]
+    fn begin_map(&mut self) -> Result<ByteSeq, Error<io::Error>> {
+        self.open_map()
+    }
+
+    #[inline(always)]
+    fn next(&mut self, seq: &mut ByteSeq) -> Result<bool, Error<io::Error>> {
+        self.next_part(seq)
+    }
+
+    #[inline(always)]
+    fn value(&mut self, alloc: Global) -> Result<Value, Error<io::Error>> {
+        self.read_whole_value(alloc)
+    }
+
+    #[inline(always)]
+    fn refuse(&self, kind: Kind) -> Error<io::Error> {
+        Error::Semantic(None, kind)
+    }
+
+    #[inline(always)]
+    fn memory(&self) -> Error<io::Error> {
+        Error::Memory
+    }
+}

@@ -1,0 +1,105 @@
+//! Strings.
+
+ghost use Rattle.std.specs.Prelude.{◌≡◌, ◌+◌, ◌<◌, ◌≤◌, IfErr, IfOk, None, OnOk, Some, length};
+ghost use Rattle.std.specs.Prelude.{false, string_bytes};
+ghost use Rattle.ciborium_ll.specs.Decoding.{HasSameReader};
+ghost use Rattle.ciborium_ll.specs.StringRefusal.{of_bytes, of_text};
+ghost use Rattle.ciborium_value.specs.Sources.{IsGranted, IsOutside};
+ghost use Rattle.ciborium_value.specs.Taken.{taken_text};
+ghost use Rattle.ciborium.specs.ByteSources.{IsUnread, bytes_weight, cause_of, weight_left};
+ghost use Rattle.ciborium.specs.ItemReads.{Denies, Reads};
+ghost use Rattle.ciborium.specs.StringContents.{DeniesContent, TakesContent, TakesJust};
+
+use crate::de::byte_source::ByteSource;
+use crate::de::error::Error;
+use ciborium_ll::Header;
+use ciborium_value::Kind;
+use std::alloc::Global;
+use std::io::{self, Read};
+
+impl<'a, R: Read> ByteSource<'a, R> {
+    /// Fills the buffer with the next bytes.
+    pub(crate) fn fill(&mut self, buffer: &mut [u8]) -> Result<(), Error<io::Error>>
+        requires { self.old.pending ≡ None }
+        ensures same_reader { HasSameReader self.old.decoder self.new.decoder }
+        ensures levels { self.new.levels ≡ self.old.levels }
+        ensures pending { self.new.pending ≡ None }
+        ensures fewer { OnOk result (bytes_weight self.new ≤ bytes_weight self.old) }
+        ensures ok { OnOk result
+            (TakesJust (IsUnread R.remaining self.old) (IsUnread R.remaining self.new) buffer.new) }
+        ensures outside { IfErr result (λ e. IsOutside (cause_of e)) }
+        ensures memory { IfErr result (λ e. IsGranted (cause_of e) false) }
+    {
+        self.decoder.read_exact(buffer)?;
+        let _end = self.decoder.offset();
+        Ok(())
+    }
+
+    /// The payload of the byte string whose head was taken last.
+    #[inline(always)]
+    pub(crate) fn bytes_content(
+        &mut self,
+        alloc: Global,
+        len: Option<usize>,
+    ) -> Result<Vec<u8>, Error<io::Error>>
+        requires { self.old.pending ≡ None }
+        ensures same_reader { HasSameReader self.old.decoder self.new.decoder }
+        ensures levels { self.new.levels ≡ self.old.levels }
+        ensures pending { self.new.pending ≡ None }
+        ensures fewer { IfOk result
+            (λ v. bytes_weight self.new + length v.items ≤ bytes_weight self.old) }
+        ensures ok { IfOk result (λ v. TakesContent (IsUnread R.remaining self.old)
+            (IsUnread R.remaining self.new) of_bytes len v.items) }
+        ensures denied { IfErr result
+            (λ e. DeniesContent (IsUnread R.remaining self.old) of_bytes len (cause_of e)) }
+    {
+        let mut out = Vec::new(alloc);
+        self.decoder.bytes_into(len, self.scratch, &mut out)?;
+        let _end = self.decoder.offset();
+        Ok(out)
+    }
+
+    // The payload of the text whose head was taken last.
+    #[inline(always)]
+    fn text_content(
+        &mut self,
+        alloc: Global,
+        len: Option<usize>,
+    ) -> Result<String, Error<io::Error>>
+        requires { self.old.pending ≡ None }
+        ensures same_reader { HasSameReader self.old.decoder self.new.decoder }
+        ensures levels { self.new.levels ≡ self.old.levels }
+        ensures pending { self.new.pending ≡ None }
+        ensures fewer { OnOk result (bytes_weight self.new ≤ bytes_weight self.old) }
+        ensures ok { IfOk result (λ v. TakesContent (IsUnread R.remaining self.old)
+            (IsUnread R.remaining self.new) of_text len (string_bytes v)) }
+        ensures denied { IfErr result
+            (λ e. DeniesContent (IsUnread R.remaining self.old) of_text len (cause_of e)) }
+    {
+        let mut out = String::new(alloc);
+        self.decoder.text_into(len, self.scratch, &mut out)?;
+        let _end = self.decoder.offset();
+        Ok(out)
+    }
+
+    #[inline(always)]
+    pub(crate) fn read_text(&mut self, alloc: Global) -> Result<String, Error<io::Error>>
+        ensures same_reader { HasSameReader self.old.decoder self.new.decoder }
+        ensures levels { self.new.levels ≡ self.old.levels }
+        ensures pending { OnOk result (self.new.pending ≡ None) }
+        ensures fewer { OnOk result (weight_left self.new < weight_left self.old) }
+        ensures ok { IfOk result (λ v. Reads (IsUnread R.remaining) self.old self.new
+            (Some self.old.levels) taken_text (string_bytes v)) }
+        ensures denied { IfErr result (λ e. Denies (IsUnread R.remaining) self.old
+            (Some self.old.levels) taken_text (cause_of e)) }
+    {
+        let (header, offset) = self.bare_head(false)?;
+        match header {
+            Header::Text(len) => {
+                let text = self.text_content(alloc, len)?;
+                Ok(text)
+            }
+            _ => Err(Error::Semantic(Some(offset), Kind::Text)),
+        }
+    }
+}

@@ -1,0 +1,91 @@
+//! The value ahead, of any shape.
+
+ghost use Rattle.std.specs.Prelude.{◌≡◌, ◌<◌, IfErr, IfOk, List, MatchOption, None, OnOk, Some};
+ghost use Rattle.std.specs.Prelude.{false, ℕ};
+ghost use Rattle.ciborium_ll.specs.Decoding.{HasSameReader, IsAhead, TakesBeforeAny, pushed_of};
+ghost use Rattle.ciborium_value.specs.Sources.{read_as};
+ghost use Rattle.ciborium_value.specs.Taken.{taken_value};
+ghost use Rattle.ciborium_value.specs.View.{tree_of};
+ghost use Rattle.ciborium.specs.Answers.{IsValueRead};
+ghost use Rattle.ciborium.specs.ByteSources.{IsUnread, ReadsValue, StandsFor, cause_of};
+ghost use Rattle.ciborium.specs.ByteSources.{is_portable, weight_left};
+ghost use Rattle.ciborium.specs.ItemReads.{Denies, Reads};
+ghost use Rattle.ciborium.specs.Reads.{heads_left};
+
+use crate::de::building::read_value;
+use crate::de::byte_source::ByteSource;
+use crate::de::byte_source::scalars::is_null;
+use crate::de::error::Error;
+use ciborium_ll::{Decoder, Header};
+use ciborium_value::{Integer, Value};
+use std::alloc::Global;
+use std::io::{self, Read};
+
+// The value of a head that means the same wherever it stands.
+fn portable_value(header: Header) -> Option<Value>
+    ensures { MatchOption result (is_portable header ≡ false)
+        (λ v. StandsFor header (tree_of v)) }
+{
+    match header {
+        Header::Positive(n) => Some(Value::Integer(Integer::from(n))),
+        Header::Simple(number) => {
+            if is_null(number) {
+                return Some(Value::Null);
+            }
+            None
+        }
+        _ => None,
+    }
+}
+
+// Reads the value ahead, and leaves no head pushed.
+fn read_unpushed<R: Read>(
+    alloc: Global,
+    decoder: &mut Decoder<'_, R>,
+    scratch: &mut [u8],
+    levels: usize,
+) -> Result<Value, Error<io::Error>>
+    ensures same_reader { HasSameReader decoder.old decoder.new }
+    ensures rests { pushed_of decoder.new ≡ None }
+    ensures fewer { OnOk result (heads_left decoder.new < heads_left decoder.old) }
+    ensures value { TakesBeforeAny R.remaining decoder.old decoder.new
+        (λ d e. (xs : List ℕ) (p : ℕ) → IsAhead Some d xs p →
+        IsValueRead Some e levels xs p result) }
+{
+    match read_value(alloc, decoder, scratch, levels) {
+        Ok(value) => Ok(value),
+        Err(error) => {
+            decoder.forget();
+            Err(error)
+        }
+    }
+}
+
+impl<'a, R: Read> ByteSource<'a, R> {
+    pub(crate) fn read_whole_value(&mut self, alloc: Global) -> Result<Value, Error<io::Error>>
+        ensures same_reader { HasSameReader self.old.decoder self.new.decoder }
+        ensures levels { self.new.levels ≡ self.old.levels }
+        ensures pending { OnOk result (self.new.pending ≡ None) }
+        ensures fewer { OnOk result (weight_left self.new < weight_left self.old) }
+        ensures ok { IfOk result (λ v. Reads (IsUnread R.remaining) self.old self.new
+            (Some self.old.levels) taken_value (tree_of v)) }
+        ensures denied { IfErr result (λ e. Denies (IsUnread R.remaining) self.old
+            (Some self.old.levels) taken_value (cause_of e)) }
+        ensures reads { ReadsValue R.remaining self.old self.new (read_as tree_of result) }
+    {
+        match self.pending.take() {
+            Some((header, offset)) => match portable_value(header) {
+                Some(value) => Ok(value),
+                None => {
+                    self.decoder.push(header, offset);
+                    let value = read_unpushed(alloc, &mut self.decoder, self.scratch, self.levels)?;
+                    Ok(value)
+                }
+            },
+            None => {
+                let value = read_unpushed(alloc, &mut self.decoder, self.scratch, self.levels)?;
+                Ok(value)
+            }
+        }
+    }
+}
