@@ -37,7 +37,7 @@ fn read_bytes(alloc: Global, bytes: &[u8], limit: usize) -> Result<Value, Refusa
     ensures refused { IfErr result (λ refusal. AreRefused bytes.now limit refusal) }
 {
     let mut rest = bytes;
-    match from_reader_with_recursion_limit(alloc, &mut rest, limit) {
+    match from_reader_with_recursion_limit::<Value, &[u8]>(alloc, &mut rest, limit) {
         Ok(value) if rest.is_empty() => Ok(value),
         Ok(_) => Err(Refusal::Trailing(rest.len())),
         Err(Error::Io(_)) if rest.is_empty() => Err(Refusal::Io),

@@ -8,28 +8,28 @@ use Rattle.cbor.proofs.items.read_bytes.Goals as goal
 pub classify_kind-requires : goal.classify_kind-requires
 classify_kind-requires c =
     let arm = c.in-Err-Semantic-Some-default in
-    let h = rw arm.field-0-is at arm.ensures.refused c.args.bytes.now refl in
+    let h = rw arm.field-0-is at arm.ensures.value.refused c.args.bytes.now refl in
     named-kind arm.field-0-0 arm.offset (kind_of arm.kind) _ arm.field-0-0-is h
 
 pub unreachable-requires : goal.unreachable-requires
 unreachable-requires c =
     let arm = c.in-Err-Semantic-None-default in
-    let h = rw arm.field-0-is at arm.ensures.refused c.args.bytes.now refl in
+    let h = rw arm.field-0-is at arm.ensures.value.refused c.args.bytes.now refl in
     names-offset arm.field-0-0 (kind_of arm.field-0-1) _ arm.field-0-0-is h
 
 pub returns-in-Err-Io-clause-refused : goal.returns-in-Err-Io-clause-refused
 returns-in-Err-Io-clause-refused c =
     let arm = c.in-Err-Io in
-    let h = rw arm.field-0-is at arm.ensures.refused c.args.bytes.now refl in
+    let h = rw arm.field-0-is at arm.ensures.value.refused c.args.bytes.now refl in
     h (ap Some (nothing-left c.from_reader_with_recursion_limit.new.reader.now (sym c.if-is_empty-2.ensures)))
 
 pub returns-in-Err-Syntax-clause-refused : goal.returns-in-Err-Syntax-clause-refused
-returns-in-Err-Syntax-clause-refused c = let arm = c.in-Err-Syntax in rw arm.field-0-is at arm.ensures.refused c.args.bytes.now refl
+returns-in-Err-Syntax-clause-refused c = let arm = c.in-Err-Syntax in rw arm.field-0-is at arm.ensures.value.refused c.args.bytes.now refl
 
 pub returns-in-Err-Semantic-Some-default-clause-refused : goal.returns-in-Err-Semantic-Some-default-clause-refused
 returns-in-Err-Semantic-Some-default-clause-refused c =
     let arm = c.in-Err-Semantic-Some-default in
-    let h = rw arm.field-0-is at arm.ensures.refused c.args.bytes.now refl in
+    let h = rw arm.field-0-is at arm.ensures.value.refused c.args.bytes.now refl in
     let refuses =
     named-refusal arm.field-0-0 arm.offset (kind_of arm.kind) (kind_of_reason c.classify_kind.result) (λ e. Refuses c.args.bytes.now 0 (Some c.args.limit) e)
     arm.field-0-0-is c.classify_kind.ensures h in
@@ -38,7 +38,7 @@ returns-in-Err-Semantic-Some-default-clause-refused c =
 pub returns-in-Err-RecursionLimitExceeded-clause-refused : goal.returns-in-Err-RecursionLimitExceeded-clause-refused
 returns-in-Err-RecursionLimitExceeded-clause-refused c =
     let arm = c.in-Err-RecursionLimitExceeded in
-    rw arm.field-0-is at arm.ensures.refused c.args.bytes.now refl
+    rw arm.field-0-is at arm.ensures.value.refused c.args.bytes.now refl
 
 pub returns-in-Err-TooLong-clause-refused : goal.returns-in-Err-TooLong-clause-refused
-returns-in-Err-TooLong-clause-refused c = let arm = c.in-Err-TooLong in rw arm.field-0-is at arm.ensures.refused c.args.bytes.now refl
+returns-in-Err-TooLong-clause-refused c = let arm = c.in-Err-TooLong in rw arm.field-0-is at arm.ensures.value.refused c.args.bytes.now refl
