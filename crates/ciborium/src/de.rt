@@ -53,11 +53,11 @@ fn read<T: Deserialize, R: Read>(
     T::deserialize(alloc, &mut source)
 }
 
-/// Reads one value of any type that is `Deserialize`: just the bytes of the item at the front, of any
-/// width and form, open ones too (RFC 8949, section 3). What an item gives is the type's to say; it
-/// is the same from bytes and from a tree. As a `Value`: integers, texts, byte strings, booleans,
-/// null and undefined (both are `Null`), arrays, maps with every pair in order, and tags; tag 2 or 3
-/// over a definite byte string of at most 16 bytes is an integer where it is one (section 3.4.3).
+/// Reads one value of any type that is `Deserialize`: just the bytes of the item at the front, of
+/// any width and form, open ones too (RFC 8949, section 3). What an item gives is the type's to say;
+/// it is the same from bytes and from a tree. As a `Value`: integers, texts, byte strings, booleans,
+/// null and undefined (both are `Null`), arrays, maps with every pair in order, and tags; tag 2 or
+/// 3 over a definite byte string of at most 16 bytes is an integer where it is one (section 3.4.3).
 /// Arrays, maps and tags nest within 256 levels.
 ///
 /// # Errors
@@ -66,9 +66,9 @@ fn read<T: Deserialize, R: Read>(
 /// that is not well-formed; `Semantic` with why the item is not one of the type, and the offset of
 /// the head that was looked at, behind skipped tags, where a call of the source refused it (in a
 /// `Value` a float, a simple value that is not assigned, a break out of place, a bignum that no
-/// `i128` holds); `RecursionLimitExceeded` where an array, map or tag stands where no level is left;
-/// `TooLong` where the item would pass the greatest offset; `Memory` where a growth was refused. A
-/// beginning of the item has then been taken from the reader.
+/// `i128` holds); `RecursionLimitExceeded` where an array, map or tag stands where no level is
+/// left; `TooLong` where the item would pass the greatest offset; `Memory` where a growth was
+/// refused. A beginning of the item has then been taken from the reader.
 pub fn from_reader<T: Deserialize, R: Read>(
     alloc: Global,
     reader: &mut R,
@@ -112,8 +112,8 @@ pub fn from_reader_with_buffer<T: Deserialize, R: Read>(
 /// Reads one value as `from_reader` does, within this many levels. At limit 0 no array, map or tag
 /// is read as a `Value`, save a tag that is an integer.
 ///
-/// Reading a `Value` takes no stack for a level. But writing, cloning, comparing and dropping a value
-/// go as deep as it nests, so choose a limit that the stack of the caller can bear.
+/// Reading a `Value` takes no stack for a level. But writing, cloning, comparing and dropping a
+/// value go as deep as it nests, so choose a limit that the stack of the caller can bear.
 pub fn from_reader_with_recursion_limit<T: Deserialize, R: Read>(
     alloc: Global,
     reader: &mut R,

@@ -55,13 +55,14 @@ pub trait Source {
     // Why it refused.
     ghost cause: { Self.Error → Fault };
 
-    /// A number: whether it is negative, and n for n or -1 - n. Skips tags other than 2 and 3; takes
-    /// an integer, or tag 2 or 3 over a byte string, definite or open, of at most 16 bytes behind
+    /// A number: whether it is negative, and n for n or -1 - n. Skips tags other than 2 and 3;
+    /// takes an integer, or tag 2 or 3 over a byte string, definite or open, of at most 16 bytes behind
     /// its leading zeros (sections 3.1 and 3.4.3). Refused as `TooLarge` where there are more, as
     /// `Bytes` where another item stands under the tag, else as `Integer`.
     fn integer(&mut self) -> Result<(bool, u128), Self::Error>
         ensures ok { IfOk result (λ v. Takes stands_before self.old self.new taken_integer v) }
-        ensures refused { IfErr result (λ e. Refuses stands_before self.old taken_integer (cause e)) }
+        ensures refused { IfErr result
+            (λ e. Refuses stands_before self.old taken_integer (cause e)) }
         ensures memory { IfErr result (λ e. IsGranted (cause e) false) }
         ensures took { OnOk result (TakesItem is_unread self.old self.new) }
         ensures less { OnOk result (left self.new < left self.old) };
@@ -69,7 +70,8 @@ pub trait Source {
     /// False or true (section 3.3). Skips tags; refused as `Bool`.
     fn boolean(&mut self) -> Result<bool, Self::Error>
         ensures ok { IfOk result (λ v. Takes stands_before self.old self.new taken_boolean v) }
-        ensures refused { IfErr result (λ e. Refuses stands_before self.old taken_boolean (cause e)) }
+        ensures refused { IfErr result
+            (λ e. Refuses stands_before self.old taken_boolean (cause e)) }
         ensures memory { IfErr result (λ e. IsGranted (cause e) false) }
         ensures took { OnOk result (TakesItem is_unread self.old self.new) }
         ensures less { OnOk result (left self.new < left self.old) };
@@ -85,14 +87,16 @@ pub trait Source {
     /// The one character of a definite text. Skips tags; refused as `Char`.
     fn character(&mut self) -> Result<char, Self::Error>
         ensures ok { IfOk result (λ v. Takes stands_before self.old self.new taken_character v) }
-        ensures refused { IfErr result (λ e. Refuses stands_before self.old taken_character (cause e)) }
+        ensures refused { IfErr result
+            (λ e. Refuses stands_before self.old taken_character (cause e)) }
         ensures memory { IfErr result (λ e. IsGranted (cause e) false) }
         ensures took { OnOk result (TakesItem is_unread self.old self.new) }
         ensures less { OnOk result (left self.new < left self.old) };
 
     /// A text, definite or open (section 3.1). Skips tags; refused as `Text`.
     fn text(&mut self, alloc: Global) -> Result<String, Self::Error>
-        ensures ok { IfOk result (λ v. Takes stands_before self.old self.new taken_text (string_bytes v)) }
+        ensures ok { IfOk result
+            (λ v. Takes stands_before self.old self.new taken_text (string_bytes v)) }
         ensures refused { IfErr result (λ e. Refuses stands_before self.old taken_text (cause e)) }
         ensures took { OnOk result (TakesItem is_unread self.old self.new) }
         ensures less { OnOk result (left self.new < left self.old) };
@@ -147,7 +151,8 @@ pub trait Source {
 
     /// Whatever item is ahead, as a `Value`: its meaning, bignums folded (section 3.4.3).
     fn value(&mut self, alloc: Global) -> Result<Value, Self::Error>
-        ensures ok { IfOk result (λ v. Takes stands_before self.old self.new taken_value (tree_of v)) }
+        ensures ok { IfOk result
+            (λ v. Takes stands_before self.old self.new taken_value (tree_of v)) }
         ensures refused { IfErr result (λ e. Refuses stands_before self.old taken_value (cause e)) }
         ensures reads { reads self.old self.new (read_as tree_of result) }
         ensures took { OnOk result (TakesItem is_unread self.old self.new) }

@@ -32,7 +32,8 @@ pub(super) fn skip_tags(value: &Value) -> &Value
 // The number of a bignum's bytes.
 fn find_bignum(value: &Value) -> Result<u128, Error>
     ensures ok { IfOk result (λ n. bignum_of (value_item value.now) ≡ gives n) }
-    ensures refused { IfErr result (λ e. IsFaultOf (fault_of e) (bignum_of (value_item value.now))) }
+    ensures refused { IfErr result
+        (λ e. IsFaultOf (fault_of e) (bignum_of (value_item value.now))) }
     ensures memory { IfErr result (λ e. IsGranted (fault_of e) false) }
 {
     match value {
@@ -110,7 +111,8 @@ pub(super) fn find_character(value: &Value) -> Result<char, Error>
 }
 
 pub(super) fn copy_text(alloc: Global, value: &Value) -> Result<String, Error>
-    ensures ok { IfOk result (λ v. taken_text None (value_item value.now) ≡ gives (string_bytes v)) }
+    ensures ok { IfOk result
+        (λ v. taken_text None (value_item value.now) ≡ gives (string_bytes v)) }
     ensures refused { IfErr result
         (λ e. IsFaultOf (fault_of e) (taken_text None (value_item value.now))) }
 {
