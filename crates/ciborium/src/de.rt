@@ -54,11 +54,11 @@ fn read<T: Deserialize, R: Read>(
 }
 
 /// Reads one value of any type that is `Deserialize`: just the bytes of the item at the front, of
-/// any width and form, open ones too (RFC 8949, section 3). What an item gives is the type's to say;
-/// it is the same from bytes and from a tree. As a `Value`: integers, texts, byte strings, booleans,
-/// null and undefined (both are `Null`), arrays, maps with every pair in order, and tags; tag 2 or
-/// 3 over a definite byte string of at most 16 bytes is an integer where it is one (section 3.4.3).
-/// Arrays, maps and tags nest within 256 levels.
+/// any width and form, open ones too (RFC 8949, section 3). What an item gives is the type's to
+/// say; it is the same from bytes and from a tree. As a `Value`: integers, texts, byte strings,
+/// booleans, null and undefined (both are `Null`), arrays, maps with every pair in order, and
+/// tags; tag 2 or 3 over a definite byte string of at most 16 bytes is an integer where it is one
+/// (section 3.4.3). Arrays, maps and tags nest within 256 levels.
 ///
 /// # Errors
 ///

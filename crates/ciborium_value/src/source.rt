@@ -56,9 +56,9 @@ pub trait Source {
     ghost cause: { Self.Error → Fault };
 
     /// A number: whether it is negative, and n for n or -1 - n. Skips tags other than 2 and 3;
-    /// takes an integer, or tag 2 or 3 over a byte string, definite or open, of at most 16 bytes behind
-    /// its leading zeros (sections 3.1 and 3.4.3). Refused as `TooLarge` where there are more, as
-    /// `Bytes` where another item stands under the tag, else as `Integer`.
+    /// takes an integer, or tag 2 or 3 over a byte string, definite or open, of at most 16 bytes
+    /// behind its leading zeros (sections 3.1 and 3.4.3). Refused as `TooLarge` where there are
+    /// more, as `Bytes` where another item stands under the tag, else as `Integer`.
     fn integer(&mut self) -> Result<(bool, u128), Self::Error>
         ensures ok { IfOk result (λ v. Takes stands_before self.old self.new taken_integer v) }
         ensures refused { IfErr result
