@@ -113,7 +113,8 @@ impl<'a, R: Read> Decoder<'a, R> {
         ensures ahead { (b : List ℕ) (p : ℕ) → IsAhead R.remaining self.old b p →
             Pulls R.remaining self.new b p result }
     {
-        if let Some((header, offset)) = self.pushed.take() {
+        if let Some((header, offset)) = self.pushed {
+            self.forget();
             self.last = offset;
             return Ok(header);
         }

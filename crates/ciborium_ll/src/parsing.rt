@@ -74,17 +74,15 @@ pub(crate) fn parse_head(first: u8, bytes: &[u8]) -> Option<Header>
     if info >= 28 {
         return without_argument(first);
     }
-    if major == 7 {
-        return simple_or_float(info, bytes);
-    }
     let n = argument_of(info, bytes);
-    Some(match major {
-        0 => Header::Positive(n),
-        1 => Header::Negative(n),
-        2 => Header::Bytes(Some(n as usize)),
-        3 => Header::Text(Some(n as usize)),
-        4 => Header::Array(Some(n as usize)),
-        5 => Header::Map(Some(n as usize)),
-        _ => Header::Tag(n),
-    })
+    match major {
+        0 => Some(Header::Positive(n)),
+        1 => Some(Header::Negative(n)),
+        2 => Some(Header::Bytes(Some(n as usize))),
+        3 => Some(Header::Text(Some(n as usize))),
+        4 => Some(Header::Array(Some(n as usize))),
+        5 => Some(Header::Map(Some(n as usize))),
+        6 => Some(Header::Tag(n)),
+        _ => simple_or_float(info, bytes),
+    }
 }

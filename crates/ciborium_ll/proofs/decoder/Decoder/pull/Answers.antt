@@ -1,10 +1,10 @@
-use Rattle.std.proofs.Common.{◌≡◌, None, refl, sym, ◌∙◌, subst}
+use Rattle.std.proofs.Common.{◌≡◌, None, refl, subst}
 use Rattle.ciborium_ll.specs.Decoding.{IsAheadBy}
 use Rattle.ciborium_ll.proofs.Unread.{pulls-head}
 use Rattle.ciborium_ll.proofs.decoder.Decoder.pull.Goals as goal
 
 pub returns-clause-ahead : goal.returns-clause-ahead
 returns-clause-ahead g c b p h =
-    let none : c.args.self.now.pushed ≡ None = sym c.take.ensures.value ∙ c.in_default.is in
+    let none : c.args.self.now.pushed ≡ None = c.in_default.is in
     let unread : IsAheadBy g.R.Read.remaining c.args.self.now b p None = subst (IsAheadBy g.R.Read.remaining c.args.self.now b p) none h in
     pulls-head _ _ _ _ b _ p _ unread refl c.read_head.ensures.head
