@@ -21,6 +21,8 @@ pub data Rest : Type 0 where
   pairs : Form → List (Item × Item) → Rest → Rest
   -- a value is due, and then these pairs
   entry : Item → Form → List (Item × Item) → Rest → Rest
+  -- a level is to be given back: that of a tag or a variant
+  held : Rest → Rest
 
 -- a source stands before an item, or after one
 pub data Ahead : Type 0 where
@@ -33,6 +35,7 @@ past (bottom name b) = after (bottom name b)
 past (parts form is f) = after (parts form is f)
 past (pairs form ps f) = after (pairs form ps f)
 past (entry v form ps f) = item v (pairs form ps f)
+past (held f) = after (held f)
 
 -- the levels left inside a container of this form: a byte string costs none
 abbrev pub inside : Form → Limit → Limit

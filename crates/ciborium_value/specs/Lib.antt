@@ -35,6 +35,9 @@ pub mod Sequences
 pub mod KeyOrders
 pub mod SteadyParts
 pub mod Readings
+pub mod TagReadings
+pub mod VariantReadings
+pub mod StructReadings
 pub mod TreeSources
 pub mod FoldedCopies
 pub mod DerivedOrder

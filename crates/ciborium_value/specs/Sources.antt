@@ -2,10 +2,10 @@
 use Rattle.std.specs.Prelude.{◌≡◌, ℕ, Bool, true, false, List, [], ◌∷◌, ◌++◌, IsTrue, Result, Ok, Err}
 use Rattle.ciborium_ll.specs.Item.{Item}
 use Rattle.ciborium_ll.specs.Spells.{Spells}
-use Rattle.ciborium_value.specs.Ahead.{Ahead, Rest, Form, item, after, parts, pairs, entry, past, inside}
+use Rattle.ciborium_value.specs.Ahead.{Ahead, Rest, Form, item, after, parts, pairs, entry, held, past, inside}
 use Rattle.ciborium_value.specs.Nesting.{Limit}
 use Rattle.ciborium_value.specs.Places.{Shape, sequence, dictionary}
-use Rattle.ciborium_value.specs.Taken.{Outcome, gives, refuses, nests, Taken, taken_seq, taken_pairs, is_null}
+use Rattle.ciborium_value.specs.Taken.{Outcome, gives, refuses, nests, Taken, taken_seq, taken_pairs, is_null, deeper}
 use Rattle.ciborium_value.specs.declared.kind.Kind.{Kind}
 
 -- ---- why a source refused
@@ -98,6 +98,18 @@ module _ {S Q : Type 0} (StandsBefore : S → Limit → Ahead → Type 0) (SeqSt
   RefusesNext old q fault = ((l : Limit) (form : Form) (is : List Item) (f : Rest) → StandsBefore old (inside form l) (after (parts form is f)) → SeqStands q l (parts form is f) → IsOutside fault)
       × ((l : Limit) (form : Form) (ps : List (Item × Item)) (f : Rest) → StandsBefore old (inside form l) (after (pairs form ps f)) → SeqStands q l (pairs form ps f) → IsOutside fault)
 
+-- ---- levels that are held
+
+module _ {S V : Type 0} (StandsBefore : S → Limit → Ahead → Type 0) (LevelStands : V → Limit → Rest → Type 0) where
+  -- the answer and the item that is ahead now are what was taken, with a level that this one gives back
+  abbrev pub Holds : {A : Type 0} → S → S → Taken (A × Item) → A → V → Type 0
+  Holds old new taken v level = (l : Limit) (i : Item) (f : Rest) → StandsBefore old l (item i f) →
+      (j : Item) × (taken l i ≡ gives (v, j)) × StandsBefore new (deeper l) (item j (held f)) × LevelStands level l f
+
+  -- the level was given back behind that item
+  abbrev pub GivesBack : S → S → V → Type 0
+  GivesBack old new level = (l : Limit) (f : Rest) → StandsBefore old (deeper l) (after (held f)) → LevelStands level l f → StandsBefore new l (past f)
+
 -- ---- what was taken where the unread bytes are known, whatever they are
 
 -- an item is spelled at the front of b, and z follows it
@@ -120,6 +132,10 @@ TakesItem IsUnread old new = TakesTo IsUnread old new HasItem
 -- nothing was taken
 abbrev pub TakesNothing : {S : Type 0} → (S → List ℕ → Type 0) → S → S → Type 0
 TakesNothing IsUnread old new = TakesTo IsUnread old new (λ b u. u ≡ b)
+
+-- an item at the front of u completes one at the front of b, with the same end
+abbrev pub Completes : List ℕ → List ℕ → Type 0
+Completes b u = (z : List ℕ) → HasItem u z → HasItem b z
 
 module _ {Q : Type 0} (Owes : Q → Shape → List ℕ → List ℕ → Type 0) where
   -- a further part is ahead, and less is owed behind it

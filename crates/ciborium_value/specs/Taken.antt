@@ -1,6 +1,7 @@
 -- What the calls of a source take from an item within a limit: a value, a refusal of a kind, or nesting where no level is left.
 use Rattle.std.specs.Prelude.{◌≡◌, ℕ, zero, suc, ℤ, pos, negsuc, Bool, true, false, List, [], ◌∷◌, length, map, chars, Option, Some, None, if◌then◌else◌, ◌||◌, ◌==◌, nat_le, nat_lt}
 use Rattle.std.specs.Int.{complement_if}
+use Rattle.std.specs.Str.{is_utf8}
 use Rattle.ciborium_ll.specs.Item as items
 use Rattle.ciborium_ll.specs.Item.{Item, Items, Pairs, unsigned, negative, bytes, text, array, tag, simple, float}
 use Rattle.ciborium_value.specs.Meaning.{big_endian, without_zeros, is_bignum_tag, folding_bytes, bignum_meaning, simple_meaning}
@@ -26,6 +27,11 @@ abbrev pub then_take : {A B : Type 0} → Outcome A → (A → Outcome B) → Ou
 then_take (gives v) f = f v
 then_take (refuses k) f = refuses k
 then_take nests f = nests
+
+abbrev pub outcome_map : {A B : Type 0} → (A → B) → Outcome A → Outcome B
+outcome_map f (gives v) = gives (f v)
+outcome_map f (refuses k) = refuses k
+outcome_map f nests = nests
 
 -- one before others
 abbrev pub and_take : {A : Type 0} → Outcome A → Outcome (List A) → Outcome (List A)
@@ -273,12 +279,65 @@ bare_pairs l (float raw) = refuses kinds.Map
 abbrev pub taken_pairs : Taken (Limit × List (Item × Item))
 taken_pairs l i = bare_pairs l (untagged i)
 
--- ---- whatever is ahead, as a tree
+-- ---- names, tags and variants
 
-abbrev pub outcome_map : {A B : Type 0} → (A → B) → Outcome A → Outcome B
-outcome_map f (gives v) = gives (f v)
-outcome_map f (refuses k) = refuses k
-outcome_map f nests = nests
+abbrev pub bare_name : Item → Outcome (List ℕ)
+bare_name (unsigned n) = refuses kinds.Name
+bare_name (negative n) = refuses kinds.Name
+bare_name (bytes open_ b) = if is_utf8 b then gives b else refuses kinds.Name
+bare_name (text open_ b) = gives b
+bare_name (array open_ is) = refuses kinds.Name
+bare_name (items.map open_ ps) = refuses kinds.Name
+bare_name (tag t i) = refuses kinds.Name
+bare_name (simple n) = refuses kinds.Name
+bare_name (float raw) = refuses kinds.Name
+
+-- a text, or a byte string that is UTF-8 once its parts are joined, by its bytes
+abbrev pub taken_name : Taken (List ℕ)
+taken_name l i = bare_name (untagged i)
+
+-- the outermost tag, if there is one, and what it stands before (section 3.4)
+abbrev pub outer_tag : Item → Option ℕ × Item
+outer_tag (unsigned n) = (None, unsigned n)
+outer_tag (negative n) = (None, negative n)
+outer_tag (bytes open_ b) = (None, bytes open_ b)
+outer_tag (text open_ b) = (None, text open_ b)
+outer_tag (array open_ is) = (None, array open_ is)
+outer_tag (items.map open_ ps) = (None, items.map open_ ps)
+outer_tag (tag t i) = (Some t, i)
+outer_tag (simple n) = (None, simple n)
+outer_tag (float raw) = (None, float raw)
+
+-- the same, with a level, tag or none
+abbrev pub taken_outer_tag : Taken (Option ℕ × Item)
+taken_outer_tag l i = within_level l (gives (outer_tag i))
+
+-- one pair: its key as a name, with a level, and its value
+abbrev pub lone_pair : Limit → Pairs → Outcome (List ℕ × Item)
+lone_pair l items.no_pairs = refuses kinds.Variant
+lone_pair l (items.pair k v items.no_pairs) = within_level l (outcome_map (λ name. (name, v)) (taken_name (deeper l) k))
+lone_pair l (items.pair k v (items.pair k' v' ps)) = refuses kinds.Variant
+
+abbrev pub definite_pair : Limit → Bool → Pairs → Outcome (List ℕ × Item)
+definite_pair l false ps = lone_pair l ps
+definite_pair l true ps = refuses kinds.Variant
+
+abbrev pub bare_variant : Limit → Item → Outcome (List ℕ × Item)
+bare_variant l (unsigned n) = refuses kinds.Variant
+bare_variant l (negative n) = refuses kinds.Variant
+bare_variant l (bytes open_ b) = refuses kinds.Variant
+bare_variant l (text open_ b) = within_level l (gives (b, simple 22))
+bare_variant l (array open_ is) = refuses kinds.Variant
+bare_variant l (items.map open_ ps) = definite_pair l open_ ps
+bare_variant l (tag t i) = refuses kinds.Variant
+bare_variant l (simple n) = refuses kinds.Variant
+bare_variant l (float raw) = refuses kinds.Variant
+
+-- a text, which names a variant and stands for null as its data; or a definite map of one pair, a name and the data
+abbrev pub taken_variant : Taken (List ℕ × Item)
+taken_variant l i = bare_variant l (untagged i)
+
+-- ---- whatever is ahead, as a tree
 
 -- what there is, else a refusal of the kind
 abbrev pub of_meaning : {A : Type 0} → Kind → Option A → Outcome A

@@ -1,8 +1,8 @@
 -- Where a source over a tree stands.
 use Rattle.std.specs.Prelude.{◌≡◌, ℕ, ◌+◌, List, [], ◌∷◌, map, length, Option, Some, None, Bool}
 use Rattle.std.specs.Borrow.{Bor}
-use Rattle.ciborium_ll.specs.Item.{Item, unsigned}
-use Rattle.ciborium_value.specs.Ahead.{Ahead, Rest, item, after, bottom, parts, pairs, entry}
+use Rattle.ciborium_ll.specs.Item.{Item, simple, unsigned}
+use Rattle.ciborium_value.specs.Ahead.{Ahead, Rest, item, after, bottom, parts, pairs, entry, held}
 use Rattle.ciborium_value.specs.Counts.{node_count, payload_size, trees_node_count, trees_payload_size, tree_pairs_node_count, tree_pairs_payload_size}
 use Rattle.ciborium_value.specs.Encoding.{item_of}
 use Rattle.ciborium_value.specs.Nesting.{Limit}
@@ -13,6 +13,7 @@ use Rattle.ciborium_value.specs.declared.deserialized.Pending.{Pending}
 use Rattle.ciborium_value.specs.declared.deserialized.Pending.TheVariants as pending
 use Rattle.ciborium_value.specs.declared.deserialized.Left.{Left}
 use Rattle.ciborium_value.specs.declared.deserialized.Left.TheVariants as left
+use Rattle.ciborium_value.specs.declared.deserialized.TreeLevel.{TreeLevel}
 use Rattle.ciborium_value.specs.declared.deserialized.TreeSeq.{TreeSeq}
 use Rattle.ciborium_value.specs.declared.deserialized.TreeSource.{TreeSource}
 use Rattle.ciborium_value.specs.declared.serialized.Error.{Error}
@@ -31,6 +32,7 @@ abbrev pub IsPending : Pending → Item → Type 0
 IsPending pending.Nothing i = ⊥
 IsPending (pending.Whole v) i = value_item v.now ≡ i
 IsPending (pending.Byte n) i = unsigned n ≡ i
+IsPending pending.Null i = simple 22 ≡ i
 
 abbrev pub IsValue : Option (Bor Value) → Item → Type 0
 IsValue None i = ⊥
@@ -47,6 +49,7 @@ IsDue due (bottom name b) = Unit {0}
 IsDue due (parts form is f) = Unit {0}
 IsDue due (pairs form ps f) = Unit {0}
 IsDue due (entry v form ps f) = IsValue due v
+IsDue due (held f) = Unit {0}
 
 abbrev pub IsAhead : TreeSource → Ahead → Type 0
 IsAhead s (item i f) = IsPending s.ahead i × IsDue s.due f
@@ -61,18 +64,21 @@ AreItems vs (bottom name b) = ⊥
 AreItems vs (parts form is f) = map value_item vs ≡ is
 AreItems vs (pairs form ps f) = ⊥
 AreItems vs (entry v form ps f) = ⊥
+AreItems vs (held f) = ⊥
 
 abbrev pub AreBytesOf : List ℕ → Rest → Type 0
 AreBytesOf bs (bottom name b) = ⊥
 AreBytesOf bs (parts form is f) = map unsigned bs ≡ is
 AreBytesOf bs (pairs form ps f) = ⊥
 AreBytesOf bs (entry v form ps f) = ⊥
+AreBytesOf bs (held f) = ⊥
 
 abbrev pub ArePairs : List (Value × Value) → Rest → Type 0
 ArePairs qs (bottom name b) = ⊥
 ArePairs qs (parts form is f) = ⊥
 ArePairs qs (pairs form ps f) = map pair_items qs ≡ ps
 ArePairs qs (entry v form ps f) = ⊥
+ArePairs qs (held f) = ⊥
 
 -- what is left of a container
 abbrev pub IsLeftOf : Left → Rest → Type 0
@@ -86,9 +92,14 @@ behind (bottom name b) = bottom name b
 behind (parts form is f) = f
 behind (pairs form ps f) = f
 behind (entry v form ps f) = f
+behind (held f) = f
 
 abbrev pub IsTreeSeqAt : TreeSeq → Limit → Rest → Type 0
 IsTreeSeqAt q l f = (l ≡ None) × IsLeftOf q.left f × IsDue q.due (behind f)
+
+-- a level of a tag or a variant
+abbrev pub IsTreeLevelAt : TreeLevel → Limit → Rest → Type 0
+IsTreeLevelAt level l f = (l ≡ None) × IsDue level.due f
 
 -- ---- how much can still be read
 
@@ -100,6 +111,7 @@ abbrev pub pending_weight : Pending → ℕ
 pending_weight pending.Nothing = 0
 pending_weight (pending.Whole v) = weight v.now
 pending_weight (pending.Byte n) = 1
+pending_weight pending.Null = 1
 
 abbrev pub due_weight : Option (Bor Value) → ℕ
 due_weight None = 0
@@ -115,6 +127,9 @@ left_weight (left.Pairs qs) = tree_pairs_node_count (tree_pairs_of qs.now) + tre
 
 abbrev pub seq_weight : TreeSeq → ℕ
 seq_weight q = left_weight q.left + due_weight q.due
+
+abbrev pub level_weight : TreeLevel → ℕ
+level_weight level = due_weight level.due
 
 -- ---- why it refused
 

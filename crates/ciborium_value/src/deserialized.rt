@@ -3,8 +3,9 @@
 ghost use Rattle.std.specs.Prelude.{◌≡◌, IfErr, IfOk, None};
 ghost use Rattle.ciborium_value.specs.Sources.{IsFaultOf, IsGranted};
 ghost use Rattle.ciborium_value.specs.Taken.{gives};
-ghost use Rattle.ciborium_value.specs.TreeSources.{IsTreeAt, IsTreeSeqAt, fault_of, seq_weight};
-ghost use Rattle.ciborium_value.specs.TreeSources.{pending_due, source_weight, value_item};
+ghost use Rattle.ciborium_value.specs.TreeSources.{IsTreeAt, IsTreeLevelAt, IsTreeSeqAt};
+ghost use Rattle.ciborium_value.specs.TreeSources.{fault_of, level_weight, pending_due, seq_weight};
+ghost use Rattle.ciborium_value.specs.TreeSources.{source_weight, value_item};
 
 use crate::deserialize::Deserialize;
 use crate::kind::Kind;
@@ -20,7 +21,8 @@ mod parts;
 
 use folding::fold_value;
 use parts::{
-    copy_bytes, copy_text, find_boolean, find_character, find_null, find_number, skip_tags,
+    copy_bytes, copy_name, copy_text, find_boolean, find_character, find_lone_pair, find_null,
+    find_number, skip_tags,
 };
 
 impl Value {
@@ -46,12 +48,14 @@ impl Value {
     }
 }
 
-// What is read next: a value, or a byte of a byte string that is read as a sequence.
+// What is read next: a value; a byte of a byte string that is read as a sequence; or the null that
+// is the data of a variant which is a text.
 #[derive(Drop)]
 pub(crate) enum Pending<'a> {
     Nothing,
     Whole(&'a Value),
     Byte(u8),
+    Null,
 }
 
 // A source over a tree.
@@ -77,6 +81,12 @@ pub(crate) struct TreeSeq<'a> {
     due: Option<&'a Value>,
 }
 
+// The value that is due behind the content of a tag or a variant.
+#[derive(Drop)]
+pub(crate) struct TreeLevel<'a> {
+    due: Option<&'a Value>,
+}
+
 impl<'a> TreeSource<'a> {
     // What is ahead; the value that is due comes next.
     fn take(&mut self) -> Pending<'a>
@@ -97,13 +107,19 @@ impl<'a> Source for TreeSource<'a> {
 
     type Seq = TreeSeq<'a>;
 
+    type Level = TreeLevel<'a>;
+
     ghost stands_before = { IsTreeAt };
 
     ghost seq_stands = { IsTreeSeqAt };
 
+    ghost level_stands = { IsTreeLevelAt };
+
     ghost left = { source_weight };
 
     ghost seq_left = { seq_weight };
+
+    ghost level_left = { level_weight };
 
     ghost is_unread = { λ source b. ⊥ };
 
@@ -117,7 +133,7 @@ impl<'a> Source for TreeSource<'a> {
         match self.take() {
             Pending::Whole(value) => find_number(value),
             Pending::Byte(byte) => Ok((false, u128::from(byte))),
-            Pending::Nothing => Err(Error::Custom(Kind::Integer)),
+            _ => Err(Error::Custom(Kind::Integer)),
         }
     }
 
@@ -131,6 +147,7 @@ impl<'a> Source for TreeSource<'a> {
     fn unit(&mut self) -> Result<(), Error> {
         match self.take() {
             Pending::Whole(value) => find_null(value),
+            Pending::Null => Ok(()),
             _ => Err(Error::Custom(Kind::Unit)),
         }
     }
@@ -156,11 +173,70 @@ impl<'a> Source for TreeSource<'a> {
         }
     }
 
+    fn name(&mut self, alloc: Global) -> Result<String, Error> {
+        match self.take() {
+            Pending::Whole(value) => copy_name(alloc, value),
+            _ => Err(Error::Custom(Kind::Name)),
+        }
+    }
+
     fn null_ahead(&mut self) -> Result<bool, Error> {
         match self.ahead {
             Pending::Whole(value) => Ok(value.is_null()),
+            Pending::Null => Ok(true),
             _ => Ok(false),
         }
+    }
+
+    fn begin_tag(&mut self) -> Result<(Option<u64>, TreeLevel<'a>), Error> {
+        let level = TreeLevel {
+            due: self.due.take(),
+        };
+        let Pending::Whole(value) = self.ahead else {
+            return Ok((None, level));
+        };
+        match value {
+            Value::Tag(tag, content) => {
+                self.ahead = Pending::Whole(content);
+                Ok((Some(*tag), level))
+            }
+            _ => Ok((None, level)),
+        }
+    }
+
+    fn end_tag(&mut self, level: TreeLevel<'a>) {
+        self.due = level.due;
+        let _ = self.take();
+    }
+
+    fn begin_variant(&mut self, alloc: Global) -> Result<(String, TreeLevel<'a>), Error> {
+        let level = TreeLevel {
+            due: self.due.take(),
+        };
+        let Pending::Whole(value) = self.ahead else {
+            return Err(Error::Custom(Kind::Variant));
+        };
+        match skip_tags(value) {
+            Value::Text(text) => {
+                let name = String::from_str(alloc, text)?;
+                self.ahead = Pending::Null;
+                Ok((name, level))
+            }
+            Value::Map(pairs) => match find_lone_pair(pairs) {
+                Some((key, data)) => {
+                    let name = copy_name(alloc, key)?;
+                    self.ahead = Pending::Whole(data);
+                    Ok((name, level))
+                }
+                None => Err(Error::Custom(Kind::Variant)),
+            },
+            _ => Err(Error::Custom(Kind::Variant)),
+        }
+    }
+
+    fn end_variant(&mut self, level: TreeLevel<'a>) {
+        self.due = level.due;
+        let _ = self.take();
     }
 
     fn begin_seq(&mut self, _alloc: Global) -> Result<TreeSeq<'a>, Error> {
@@ -234,6 +310,7 @@ impl<'a> Source for TreeSource<'a> {
         match self.take() {
             Pending::Whole(value) => fold_value(alloc, value),
             Pending::Byte(byte) => Ok(Value::Integer(Integer::from(byte))),
+            Pending::Null => Ok(Value::Null),
             Pending::Nothing => Err(Error::Custom(Kind::Other)),
         }
     }

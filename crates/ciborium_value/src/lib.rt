@@ -15,6 +15,7 @@ mod source;
 pub mod stack;
 mod tree;
 pub mod tree_laws;
+mod wanted;
 
 pub use byte_buf::ByteBuf;
 pub use ciborium_ll::{Integer, OutOfRange};
@@ -25,3 +26,4 @@ pub use serialize::Serialize;
 pub use sink::Sink;
 pub use source::Source;
 pub use tree::Value;
+pub use wanted::{Wanted, WantedFields, read_fields, required};

@@ -5,13 +5,15 @@ ghost use Rattle.std.specs.Prelude.{false, string_bytes, ℕ};
 ghost use Rattle.ciborium_value.specs.Ahead.{Ahead, Rest};
 ghost use Rattle.ciborium_value.specs.Nesting.{Limit};
 ghost use Rattle.ciborium_value.specs.Places.{Shape, dictionary, sequence};
-ghost use Rattle.ciborium_value.specs.Sources.{Enters, EntersMap, Fault, GoesOn, IsGranted, Leaves};
-ghost use Rattle.ciborium_value.specs.Sources.{OwesLess, OwesNothing, Refuses, RefusesNext};
-ghost use Rattle.ciborium_value.specs.Sources.{RefusesToTell, Takes, TakesItem, TakesNothing};
-ghost use Rattle.ciborium_value.specs.Sources.{TakesTo, Tells, of_kind, of_memory, read_as};
+ghost use Rattle.ciborium_value.specs.Sources.{Completes, Enters, EntersMap, Fault, GivesBack};
+ghost use Rattle.ciborium_value.specs.Sources.{GoesOn, Holds, IsGranted, Leaves, OwesLess};
+ghost use Rattle.ciborium_value.specs.Sources.{OwesNothing, Refuses, RefusesNext, RefusesToTell};
+ghost use Rattle.ciborium_value.specs.Sources.{Takes, TakesItem, TakesNothing, TakesTo, Tells};
+ghost use Rattle.ciborium_value.specs.Sources.{of_kind, of_memory, read_as};
 ghost use Rattle.ciborium_value.specs.Taken.{taken_boolean, taken_bytes, taken_character};
-ghost use Rattle.ciborium_value.specs.Taken.{taken_integer, taken_pairs, taken_seq, taken_text};
-ghost use Rattle.ciborium_value.specs.Taken.{taken_unit, taken_value};
+ghost use Rattle.ciborium_value.specs.Taken.{taken_integer, taken_name, taken_outer_tag};
+ghost use Rattle.ciborium_value.specs.Taken.{taken_pairs, taken_seq, taken_text, taken_unit};
+ghost use Rattle.ciborium_value.specs.Taken.{taken_value, taken_variant};
 ghost use Rattle.ciborium_value.specs.Tree.{Tree};
 ghost use Rattle.ciborium_value.specs.View.{tree_of};
 
@@ -32,16 +34,24 @@ pub trait Source {
     /// What is left of a container that is being read.
     type Seq: Drop;
 
+    /// A level that a tag or a variant took, to be given back behind its content.
+    type Level: Drop;
+
     // The levels that are left, and what the source stands before.
     ghost stands_before: { Self → Limit → Ahead → Type 0 };
 
     // The levels to give back behind the container, and what is left of it.
     ghost seq_stands: { Self.Seq → Limit → Rest → Type 0 };
 
+    // The levels to give back behind the content of a tag or a variant, and what follows it.
+    ghost level_stands: { Self.Level → Limit → Rest → Type 0 };
+
     // How much can still be read, at most: an item that is read lowers it.
     ghost left: { Self → ℕ };
 
     ghost seq_left: { Self.Seq → ℕ };
+
+    ghost level_left: { Self.Level → ℕ };
 
     // These bytes are unread, where they are known.
     ghost is_unread: { Self → List ℕ → Type 0 };
@@ -110,6 +120,15 @@ pub trait Source {
         ensures took { OnOk result (TakesItem is_unread self.old self.new) }
         ensures less { OnOk result (left self.new < left self.old) };
 
+    /// A name: a text, or a byte string that is UTF-8 once its parts are joined, each definite or
+    /// open (section 3.1). Skips tags; refused as `Name`.
+    fn name(&mut self, alloc: Global) -> Result<String, Self::Error>
+        ensures ok { IfOk result
+            (λ v. Takes stands_before self.old self.new taken_name (string_bytes v)) }
+        ensures refused { IfErr result (λ e. Refuses stands_before self.old taken_name (cause e)) }
+        ensures took { OnOk result (TakesItem is_unread self.old self.new) }
+        ensures less { OnOk result (left self.new < left self.old) };
+
     /// Whether the item ahead is null or undefined, under no tag. It is not taken.
     fn null_ahead(&mut self) -> Result<bool, Self::Error>
         ensures ok { IfOk result (λ b. Tells stands_before self.old self.new b) }
@@ -117,6 +136,41 @@ pub trait Source {
         ensures memory { IfErr result (λ e. IsGranted (cause e) false) }
         ensures took { OnOk result (TakesNothing is_unread self.old self.new) }
         ensures less { OnOk result (left self.new ≤ left self.old) };
+
+    /// The tag of the item ahead, if it has one (section 3.4), that of a bignum too; the source then
+    /// stands before what is under it. Takes a level, tag or none, for `end_tag` to give back.
+    fn begin_tag(&mut self) -> Result<(Option<u64>, Self::Level), Self::Error>
+        ensures ok { IfOk result (λ p. Holds stands_before level_stands self.old self.new
+            taken_outer_tag p.0 p.1) }
+        ensures refused { IfErr result
+            (λ e. Refuses stands_before self.old taken_outer_tag (cause e)) }
+        ensures memory { IfErr result (λ e. IsGranted (cause e) false) }
+        ensures took { OnOk result (TakesTo is_unread self.old self.new Completes) }
+        ensures less { IfOk result (λ p. left self.new + level_left p.1 ≤ left self.old) };
+
+    /// Gives the level of a tag back, once the item under it was read.
+    fn end_tag(&mut self, level: Self::Level)
+        ensures ok { GivesBack stands_before level_stands self.old self.new level }
+        ensures took { TakesNothing is_unread self.old self.new }
+        ensures less { left self.new ≤ left self.old + level_left level };
+
+    /// The name of a variant: a text, definite or open, whose data is then a null ahead; or the
+    /// key, as `name` reads it, of a definite map of one pair, whose value is then ahead. Takes a
+    /// level in both cases, for `end_variant` to give back. Skips tags; another item is refused as
+    /// `Variant`.
+    fn begin_variant(&mut self, alloc: Global) -> Result<(String, Self::Level), Self::Error>
+        ensures ok { IfOk result (λ p. Holds stands_before level_stands self.old self.new
+            taken_variant (string_bytes p.0) p.1) }
+        ensures refused { IfErr result
+            (λ e. Refuses stands_before self.old taken_variant (cause e)) }
+        ensures took { OnOk result (TakesTo is_unread self.old self.new Completes) }
+        ensures less { IfOk result (λ p. left self.new + level_left p.1 ≤ left self.old) };
+
+    /// Gives the level of a variant back, once its data was read.
+    fn end_variant(&mut self, level: Self::Level)
+        ensures ok { GivesBack stands_before level_stands self.old self.new level }
+        ensures took { TakesNothing is_unread self.old self.new }
+        ensures less { left self.new ≤ left self.old + level_left level };
 
     /// Enters an array, which takes a level; or a byte string, whose bytes are then its items, as
     /// integers, without one. Skips tags; another item is refused as `Array`.

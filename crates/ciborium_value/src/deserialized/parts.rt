@@ -1,13 +1,17 @@
 //! What is found at a value, behind its tags.
 
-ghost use Rattle.std.specs.Prelude.{◌≡◌, ◌≤◌, IfErr, IfOk, MatchOption, None, chars, false, map};
-ghost use Rattle.std.specs.Prelude.{string_bytes};
+ghost use Rattle.std.specs.Prelude.{◌≡◌, ◌+◌, ◌<◌, ◌≤◌, IfErr, IfNone, IfOk, IfSome, MatchOption};
+ghost use Rattle.std.specs.Prelude.{None, chars, false, map, string_bytes};
+ghost use Rattle.ciborium_value.specs.Counts.{tree_pairs_node_count, tree_pairs_payload_size};
+ghost use Rattle.ciborium_value.specs.Encoding.{pairs_of};
 ghost use Rattle.ciborium_value.specs.Sources.{IsFaultOf, IsGranted};
 ghost use Rattle.ciborium_value.specs.Taken as taken;
-ghost use Rattle.ciborium_value.specs.Taken.{bignum_of, gives, refuses, take_each, taken_boolean};
-ghost use Rattle.ciborium_value.specs.Taken.{taken_byte, taken_bytes, taken_character};
-ghost use Rattle.ciborium_value.specs.Taken.{taken_integer, taken_text, taken_unit};
+ghost use Rattle.ciborium_value.specs.Taken.{bignum_of, gives, outcome_map, refuses, take_each};
+ghost use Rattle.ciborium_value.specs.Taken.{taken_boolean, taken_byte, taken_bytes};
+ghost use Rattle.ciborium_value.specs.Taken.{taken_character, taken_integer, taken_name};
+ghost use Rattle.ciborium_value.specs.Taken.{taken_text, taken_unit};
 ghost use Rattle.ciborium_value.specs.TreeSources.{fault_of, value_item, weight};
+ghost use Rattle.ciborium_value.specs.View.{tree_pairs_of};
 ghost use Rattle.ciborium_value.specs.declared.kind.Kind.TheVariants as kinds;
 
 use crate::bignum::find_magnitude;
@@ -119,6 +123,40 @@ pub(super) fn copy_text(alloc: Global, value: &Value) -> Result<String, Error>
     match skip_tags(value) {
         Value::Text(text) => Ok(String::from_str(alloc, text)?),
         _ => Err(Error::Custom(Kind::Text)),
+    }
+}
+
+pub(super) fn copy_name(alloc: Global, value: &Value) -> Result<String, Error>
+    ensures ok { IfOk result
+        (λ v. taken_name None (value_item value.now) ≡ gives (string_bytes v)) }
+    ensures refused { IfErr result
+        (λ e. IsFaultOf (fault_of e) (taken_name None (value_item value.now))) }
+{
+    match skip_tags(value) {
+        Value::Text(text) => Ok(String::from_str(alloc, text)?),
+        Value::Bytes(bytes) => match str::from_utf8(bytes) {
+            Ok(text) => Ok(String::from_str(alloc, text)?),
+            Err(_) => Err(Error::Custom(Kind::Name)),
+        },
+        _ => Err(Error::Custom(Kind::Name)),
+    }
+}
+
+// The one pair of a map that has just one.
+pub(super) fn find_lone_pair(pairs: &[(Value, Value)]) -> Option<(&Value, &Value)>
+    ensures none { IfNone result (taken.lone_pair None (pairs_of (tree_pairs_of pairs.now))
+        ≡ refuses kinds.Variant) }
+    ensures some { IfSome result (λ p. taken.lone_pair None (pairs_of (tree_pairs_of pairs.now))
+        ≡ outcome_map (λ name. (name, value_item p.1.now)) (taken_name None (value_item p.0.now))) }
+    ensures less { IfSome result (λ p. weight p.1.now
+        < tree_pairs_node_count (tree_pairs_of pairs.now)
+        + tree_pairs_payload_size (tree_pairs_of pairs.now)) }
+{
+    let ((key, value), rest) = pairs.split_first()?;
+    if rest.is_empty() {
+        Some((key, value))
+    } else {
+        None
     }
 }
 

@@ -1,0 +1,20 @@
+use Rattle.std.proofs.Common.{◌≡◌, ◌+◌, ◌<◌}
+use Rattle.ciborium_value.specs.Places.{dictionary}
+use Rattle.ciborium_value.specs.Sources.{TakesTo}
+use Rattle.ciborium_value.specs.StructReadings.{taken_fields}
+use Rattle.ciborium_value.proofs.Sequences.{Follows, IsBefore}
+use Rattle.ciborium_value.proofs.NamedFields.{IsInsideFields}
+use Rattle.ciborium_value.proofs.wanted.read_fields.Given as goal
+
+-- the pairs that were read are in the fields, and the others are left
+abbrev pub invariant-loop-seq : goal.invariant-loop-seq
+invariant-loop-seq g l = record {
+  names : g.F.WantedFields.fields l.fields ≡ g.F.WantedFields.fields l.fn.fields;
+  inside : Follows (IsBefore g.S.Source.stands_before l.fn.source (taken_fields (g.F.WantedFields.fields l.fn.fields) (g.F.WantedFields.content l.fn.fields)))
+      (IsInsideFields g.S.Source.stands_before g.S.Source.seq_stands (g.F.WantedFields.fields l.fn.fields) l.source l.seq (g.F.WantedFields.content l.fields));
+  owed : TakesTo g.S.Source.is_unread l.fn.source l.source (g.S.Source.owes l.seq dictionary);
+  less : g.S.Source.left l.source + g.S.Source.seq_left l.seq < g.S.Source.left l.fn.source;
+}
+
+abbrev pub decreases-loop-seq : goal.decreases-loop-seq
+decreases-loop-seq g l = g.S.Source.left l.source + g.S.Source.seq_left l.seq

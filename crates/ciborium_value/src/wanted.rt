@@ -1,0 +1,135 @@
+//! A struct from a map by names, for implementations of `Deserialize`.
+
+ghost use Rattle.std.specs.Prelude.{◌≡◌, ◌<◌, IfErr, IfOk, None, OnOk, Option, Some};
+ghost use Rattle.std.specs.Option.{option_map};
+ghost use Rattle.ciborium_value.specs.Sources.{Refuses, Takes, TakesItem, of_kind};
+ghost use Rattle.ciborium_value.specs.StructReadings.{FieldsTaken, field_taken};
+ghost use Rattle.ciborium_value.specs.StructReadings.{no_field_taken, taken_fields};
+ghost use Rattle.ciborium_value.specs.declared.kind.Kind.TheVariants.{Other};
+
+use crate::deserialize::Deserialize;
+use crate::fields::NoField;
+use crate::kind::Kind;
+use crate::source::Source;
+use std::alloc::Global;
+
+/// A field by its name, what was read of it so far, and the fields behind it: a `Wanted` again, or
+/// `NoField`. They are read by `read_fields`, at first with nothing that was read of them:
+///
+///     let mut fields = Wanted("version", None, Wanted("body", None, NoField));
+///     read_fields(alloc, source, &mut fields)?;
+///     let Wanted(_, version, Wanted(_, body, NoField)) = fields;
+#[derive(Debug, Drop)]
+pub struct Wanted<'a, V, R>(pub &'a str, pub Option<V>, pub R);
+
+/// Fields in a row: a `Wanted`, or `NoField`.
+pub trait WantedFields: Drop {
+    // What counts of what was read of them.
+    ghost Content: { Type 0 };
+
+    ghost content: { Self → Content };
+
+    // What an item gives them under a name, onto what was read.
+    ghost fields: { Self → FieldsTaken Content };
+
+    /// Reads the item that the source stands before, which stands under this name: as the type of
+    /// the first field of the name, in the place of what was read of it, or else as a value, which
+    /// is dropped. Refused where the item is.
+    fn read_field<S: Source>(
+        &mut self,
+        name: &str,
+        alloc: Global,
+        source: &mut S,
+    ) -> Result<(), S::Error>
+        ensures names { OnOk result (fields self.new ≡ fields self.old) }
+        ensures ok { OnOk result (Takes S.stands_before source.old source.new
+            ((fields self.old).taken name.now (content self.old)) (content self.new)) }
+        ensures refused { IfErr result (λ e. Refuses S.stands_before source.old
+            ((fields self.old).taken name.now (content self.old)) (S.cause e)) }
+        ensures took { OnOk result (TakesItem S.is_unread source.old source.new) }
+        ensures less { OnOk result (S.left source.new < S.left source.old) };
+}
+
+impl WantedFields for NoField {
+    ghost Content = { Unit {0} };
+
+    ghost content = { λ _. tt };
+
+    ghost fields = { λ _. no_field_taken };
+
+    fn read_field<S: Source>(
+        &mut self,
+        _name: &str,
+        alloc: Global,
+        source: &mut S,
+    ) -> Result<(), S::Error> {
+        drop(source.value(alloc)?);
+        Ok(())
+    }
+}
+
+impl<V: Deserialize, R: WantedFields> WantedFields for Wanted<'_, V, R> {
+    ghost Content = { Option V.Content × R.Content };
+
+    ghost content = { λ w. (option_map V.reading.content w.1, R.content w.2) };
+
+    ghost fields = { λ w. field_taken w.0.now V.reading.taken V.reading.steady (R.fields w.2) };
+
+    fn read_field<S: Source>(
+        &mut self,
+        name: &str,
+        alloc: Global,
+        source: &mut S,
+    ) -> Result<(), S::Error> {
+        if name == self.0 {
+            let value = V::deserialize(alloc, source)?;
+            self.1 = Some(value);
+            return Ok(());
+        }
+        self.2.read_field(name, alloc, source)
+    }
+}
+
+/// Reads a map by the names that are its keys, each as `Source::name` reads it: what stands under
+/// the name of a field as its type, where of a repeated name the last one counts, and what stands
+/// under another as a value, which is dropped. Skips tags. A field that does not come stays as it
+/// was.
+///
+/// # Errors
+///
+/// Refused as `Map` where another item stands, as `Name` where a key is no name, for nesting where
+/// no level is left, and where what stands under a name is.
+pub fn read_fields<F: WantedFields, S: Source>(
+    alloc: Global,
+    source: &mut S,
+    fields: &mut F,
+) -> Result<(), S::Error>
+    ensures ok { OnOk result (Takes S.stands_before source.old source.new
+        (taken_fields (F.fields fields.old) (F.content fields.old)) (F.content fields.new)) }
+    ensures refused { IfErr result (λ e. Refuses S.stands_before source.old
+        (taken_fields (F.fields fields.old) (F.content fields.old)) (S.cause e)) }
+    ensures took { OnOk result (TakesItem S.is_unread source.old source.new) }
+    ensures less { OnOk result (S.left source.new < S.left source.old) }
+{
+    let mut seq = source.begin_map()?;
+    while source.next(&mut seq)? {
+        let name = source.name(alloc)?;
+        fields.read_field(&name, alloc, source)?;
+    }
+    Ok(())
+}
+
+/// What was read of a field that must be there.
+///
+/// # Errors
+///
+/// Refused as `Other` where nothing was.
+pub fn required<T: Drop, S: Source>(source: &S, field: Option<T>) -> Result<T, S::Error>
+    ensures found { IfOk result (λ v. field ≡ Some v) }
+    ensures missing { IfErr result (λ e. (field ≡ None) × (S.cause e ≡ of_kind Other)) }
+{
+    match field {
+        Some(value) => Ok(value),
+        None => Err(source.refuse(Kind::Other)),
+    }
+}
