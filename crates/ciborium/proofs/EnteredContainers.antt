@@ -17,8 +17,9 @@ use Rattle.ciborium_value.specs.Taken.{Outcome, Taken, gives, refuses, nests, un
 use Rattle.ciborium_value.specs.declared.kind.Kind.TheVariants as kinds
 use Rattle.ciborium.specs.declared.de.byte_source.ByteSource.{ByteSource}
 use Rattle.ciborium.specs.declared.de.byte_source.ByteSeq.{ByteSeq}
+use Rattle.ciborium.specs.declared.de.byte_source.Left.{Left}
 use Rattle.ciborium.specs.declared.de.byte_source.Left.TheVariants as left
-use Rattle.ciborium.specs.ByteSources.{IsUnread, IsUnreadBy, StandsBefore, SeqStands, HoldsItems, HoldsPairs, Owes, LeftOwes, OwesParts, OpensItems, OpensPairs, left_of}
+use Rattle.ciborium.specs.ByteSources.{IsUnread, IsUnreadBy, StandsBefore, SeqStands, HoldsItems, HoldsPairs, Owes, LeftOwes, OwesParts, OpensItems, OpensPairs, HasBytes, left_of}
 use Rattle.ciborium.specs.Skips.{under, AreSkipped, IsBare, TakesBare, Opens}
 use Rattle.ciborium.specs.StringContents.{TakesContent, is_open}
 use Rattle.ciborium.specs.Unread.{AreSpelled, AreLeft, SpellsPair, IsRest, ending, form_of, HasCount}
@@ -31,7 +32,7 @@ pub within-is : {A : Type 0} (n : ℕ) (o : Outcome A) → n ≢ 0 → within_le
 within-is zero o h = absurd (h refl)
 within-is (suc n) o h = refl
 
-deeper-is : (n : ℕ) → n ≢ 0 → deeper (Some n) ≡ Some (n - 1)
+pub deeper-is : (n : ℕ) → n ≢ 0 → deeper (Some n) ≡ Some (n - 1)
 deeper-is zero h = absurd (h refl)
 deeper-is (suc n) h = ap Some (omega arith)
 
@@ -134,7 +135,7 @@ pairs-held q None e xs h = subst (λ k. HoldsPairs k (form_of None) xs) (sym e) 
 abbrev pub IsEntered : {S : Type 0} → ByteSource S → ByteSource S → Option ℕ → ByteSeq → Type 0
 IsEntered mid new count q = (new.decoder ≡ mid.decoder) × (new.pending ≡ mid.pending) × (mid.levels ≢ 0) × (new.levels ≡ mid.levels - 1) × (q.left ≡ left_of count)
 
-same-unread : {S : Type 0} (remaining : S → Option (List ℕ)) (mid new : ByteSource S) → new.decoder ≡ mid.decoder → new.pending ≡ mid.pending → (y : List ℕ) → IsUnread remaining mid y → IsUnread remaining new y
+pub same-unread : {S : Type 0} (remaining : S → Option (List ℕ)) (mid new : ByteSource S) → new.decoder ≡ mid.decoder → new.pending ≡ mid.pending → (y : List ℕ) → IsUnread remaining mid y → IsUnread remaining new y
 same-unread remaining mid new e f y u = subst (λ d. IsUnreadBy remaining d new.pending y) (sym e) (subst (λ o. IsUnreadBy remaining mid.decoder o y) (sym f) u)
 
 module _ {S : Type 0} (remaining : S → Option (List ℕ)) (old mid new : ByteSource S) (count : Option ℕ) (q : ByteSeq) (same : mid.levels ≡ old.levels) (is : IsEntered mid new count q) where
@@ -159,6 +160,11 @@ seq-given m some ts i xs (o, js, is, all) = ap (bare_seq (Some m)) (untagged-und
 
 pub pairs-given : (m : ℕ) → m ≢ 0 → (ts : List ℕ) (i : Item) (xs : List (Item × Item)) → HasPairs i xs → taken_pairs (Some m) (under ts i) ≡ gives (deeper (Some m), xs)
 pairs-given m some ts i xs (o, js, is, all) = ap (bare_pairs (Some m)) (untagged-under ts i ∙ ap untagged is) ∙ within-is m _ some ∙ ap (λ z. gives (deeper (Some m), z)) all
+
+pub bytes-had : (k : Left) (P : List ℕ → Type 0) → HasBytes k P → (v : _) × (k ≡ left.Bytes v) × P (into_iter_items v)
+bytes-had (left.Counted n) P h = absurd h
+bytes-had left.Open P h = absurd h
+bytes-had (left.Bytes v) P h = (v, refl, h)
 
 -- the bytes of a byte string that was read whole
 pub bytes-entered : {S : Type 0} (remaining : S → Option (List ℕ)) (old mid new : ByteSource S) (q : ByteSeq) (v : _) (len : Option ℕ) (payload : List ℕ) → q.left ≡ left.Bytes v → into_iter_items v ≡ payload → new.levels ≡ old.levels →

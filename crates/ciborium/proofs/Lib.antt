@@ -43,3 +43,6 @@ mod ValuesGiven
 mod ValueFaults
 mod WholeValues
 mod HandedReaders
+mod HeldLevels
+mod NamedVariants
+mod ArrayItems

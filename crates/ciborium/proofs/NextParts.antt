@@ -9,7 +9,7 @@ use Rattle.ciborium_ll.specs.Item.{Item, unsigned}
 use Rattle.ciborium_ll.specs.Spells.{Spells}
 use Rattle.ciborium_ll.proofs.OneHeader.{one_header_at_front}
 use Rattle.ciborium_ll.proofs.UniqueSpelling.{one_at_front}
-use Rattle.ciborium_value.specs.Ahead.{Form, Rest, bottom, parts, pairs, entry, item, past, inside}
+use Rattle.ciborium_value.specs.Ahead.{Form, Rest, bottom, parts, pairs, entry, held, item, past, inside}
 use Rattle.ciborium_value.specs.Nesting.{Limit}
 use Rattle.ciborium_value.specs.Places.{Shape, sequence, dictionary}
 use Rattle.ciborium_value.specs.Sources.{Fault, HasItem, HasPart, GoesOn, Leaves, RefusesNext, OwesLess, OwesNothing}
@@ -26,12 +26,14 @@ fits-past name b (bottom m r) h = h
 fits-past name b (parts form is f) h = h
 fits-past name b (pairs form ps f) h = h
 fits-past name b (entry v form ps f) h = h
+fits-past name b (held f) h = h
 
 pub none-past : (p : Option (Header × ℕ)) → p ≡ None → (f : Rest) → HasNoneBehind p (past f)
 none-past p e (bottom m r) = e
 none-past p e (parts form is f) = e
 none-past p e (pairs form ps f) = e
 none-past p e (entry v form ps f) = tt
+none-past p e (held f) = e
 
 -- ---- the parts left, by what stands at the front
 

@@ -10,7 +10,7 @@ use Rattle.ciborium_ll.specs.Header.{SpellsHeader}
 use Rattle.ciborium_ll.specs.Item.{Item, unsigned}
 use Rattle.ciborium_ll.specs.Refusal.{IsUsable}
 use Rattle.ciborium_ll.specs.Spells.{Spells}
-use Rattle.ciborium_value.specs.Ahead.{Ahead, Rest, Form, bottom, parts, pairs, entry, item, after, of_bytes, past, inside}
+use Rattle.ciborium_value.specs.Ahead.{Ahead, Rest, Form, bottom, parts, pairs, entry, held, item, after, of_bytes, past, inside}
 use Rattle.ciborium_value.specs.Nesting.{Limit}
 use Rattle.ciborium_value.specs.Places.{Shape, sequence, dictionary}
 use Rattle.ciborium_value.specs.Sources.{Fault, of_kind, of_nesting, of_syntax, of_memory, of_device, HasItem, IsFaultOf}
@@ -19,6 +19,7 @@ use Rattle.ciborium_value.specs.Tree.{Tree}
 use Rattle.ciborium.specs.declared.de.error.Error.{Error}
 use Rattle.ciborium.specs.declared.de.error.Error.TheVariants.{Io, Syntax, Semantic, RecursionLimitExceeded, Memory, TooLong}
 use Rattle.ciborium.specs.declared.de.byte_source.ByteSource.{ByteSource}
+use Rattle.ciborium.specs.declared.de.byte_source.ByteLevel.{ByteLevel}
 use Rattle.ciborium.specs.declared.de.byte_source.ByteSeq.{ByteSeq}
 use Rattle.ciborium.specs.declared.de.byte_source.Left.{Left}
 use Rattle.ciborium.specs.declared.de.byte_source.Left.TheVariants as left
@@ -86,9 +87,18 @@ HoldsRest q (bottom name b) = ⊥
 HoldsRest q (parts form is f) = HoldsItems q form is
 HoldsRest q (pairs form ps f) = HoldsPairs q form ps
 HoldsRest q (entry v form ps f) = ⊥
+HoldsRest q (held f) = ⊥
 
 abbrev pub SeqStands : ByteSeq → Limit → Rest → Type 0
 SeqStands q l f = (l ≡ Some q.levels) × HoldsRest q.left f
+
+-- the levels to give back behind the content of a tag or a variant
+abbrev pub LevelStands : ByteLevel → Limit → Rest → Type 0
+LevelStands level l f = l ≡ Some level.levels
+
+-- a level was taken, which this one gives back
+abbrev pub TakesLevel : {S : Type 0} → ByteSource S → ByteSource S → ByteLevel → Type 0
+TakesLevel old new level = (level.levels ≡ old.levels) × (old.levels ≡ new.levels + 1)
 
 -- ---- what is owed
 
@@ -151,6 +161,12 @@ bytes_left (left.Bytes v) = length (into_iter_items v)
 
 abbrev pub seq_left : ByteSeq → ℕ
 seq_left q = bytes_left q.left
+
+-- a byte string is left, with bytes of which P holds
+abbrev pub HasBytes : Left → (List ℕ → Type 0) → Type 0
+HasBytes (left.Counted n) P = ⊥
+HasBytes left.Open P = ⊥
+HasBytes (left.Bytes v) P = P (into_iter_items v)
 
 -- ---- why it refused
 

@@ -16,3 +16,5 @@ pub mod Skips
 pub mod StringContents
 pub mod ByteSources
 pub mod TypedReads
+pub mod Literals
+pub mod Tags

@@ -8,7 +8,7 @@ use Rattle.ciborium_ll.specs.Spells.{Spells}
 use Rattle.ciborium_value.specs.Ahead.{Form, inside}
 use Rattle.ciborium_value.specs.Meaning.{is_bignum_tag}
 use Rattle.ciborium_value.specs.Nesting.{Limit}
-use Rattle.ciborium_value.specs.Taken.{Outcome, Taken}
+use Rattle.ciborium_value.specs.Taken.{Outcome, Taken, gives}
 use Rattle.ciborium.specs.Unread.{AreLeft, ending}
 
 -- an item under tags, the innermost first
@@ -39,6 +39,12 @@ pub record IsTagged (ts b u : List ℕ) : Type 0 where
   pub outward : (i : Item) (s z : List ℕ) → Spells s i → u ≡ s ++ z → (t : List ℕ) × Spells t (under ts i) × (b ≡ t ++ z)
   pub inward : (j : Item) (t z : List ℕ) → Spells t j → b ≡ t ++ z → (i : Item) × (s : List ℕ) × (j ≡ under ts i) × Spells s i × (u ≡ s ++ z)
 
+-- u stands inside what b begins with: an item at u makes one at b and the other way round, with the same end, and of that one v and the item
+-- at u are taken
+pub record Leads {A : Type 0} (l : Limit) (taken : Taken (A × Item)) (v : A) (b u : List ℕ) : Type 0 where
+  pub outward : (i : Item) (s z : List ℕ) → Spells s i → u ≡ s ++ z → (j : Item) × (t : List ℕ) × Spells t j × (b ≡ t ++ z)
+  pub inward : (j : Item) (t z : List ℕ) → Spells t j → b ≡ t ++ z → (i : Item) × (s : List ℕ) × (taken l j ≡ gives (v, i)) × Spells s i × (u ≡ s ++ z)
+
 module _ {S : Type 0} (IsUnread : S → List ℕ → Type 0) where
   -- tags were skipped
   abbrev pub Skips : S → S → Bool → Type 0
@@ -55,3 +61,7 @@ module _ {S : Type 0} (IsUnread : S → List ℕ → Type 0) where
       (b : List ℕ) → IsUnread old b → (u : List ℕ) × IsUnread new u × Owes q b u ×
       ((j : Item) (t z : List ℕ) → Spells t j → b ≡ t ++ z →
       (form : Form) × (xs : List X) × (c : List ℕ) × (taken l j ≡ f (inside form l) xs) × (inside form l ≡ below) × AreLeft SpellsPart form c xs × (u ≡ c ++ (ending form ++ z)) × Holds q form xs)
+
+  -- a tag or a variant was entered, and its content is ahead
+  abbrev pub OpensLevel : {A : Type 0} → S → S → Limit → Taken (A × Item) → A → Type 0
+  OpensLevel old new l taken v = (b : List ℕ) → IsUnread old b → (u : List ℕ) × IsUnread new u × Leads l taken v b u

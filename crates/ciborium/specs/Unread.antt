@@ -4,7 +4,7 @@ use Rattle.std.specs.Borrow.{GName}
 use Rattle.ciborium_ll.specs.Head.{break_byte}
 use Rattle.ciborium_ll.specs.Item.{Item}
 use Rattle.ciborium_ll.specs.Spells.{Spells}
-use Rattle.ciborium_value.specs.Ahead.{Ahead, Rest, Form, counted, until_break, of_bytes, bottom, parts, pairs, entry, item, after}
+use Rattle.ciborium_value.specs.Ahead.{Ahead, Rest, Form, counted, until_break, of_bytes, bottom, parts, pairs, entry, held, item, after}
 
 -- a key and its value, in the bytes
 abbrev pub SpellsPair : List ℕ → Item × Item → Type 0
@@ -46,6 +46,7 @@ module _ (name : GName) where
   IsRest b (pairs form ps f) = (s : List ℕ) × (r : List ℕ) × AreLeft SpellsPair form s ps × IsRest r f × (b ≡ s ++ (ending form ++ r))
   IsRest b (entry v form ps f) =
       (t : List ℕ) × (c : List ℕ) × Spells t v × ((s : List ℕ) × (r : List ℕ) × AreLeft SpellsPair form s ps × IsRest r f × (c ≡ s ++ (ending form ++ r))) × (b ≡ t ++ c)
+  IsRest b (held f) = IsRest b f
 
   -- b is what a source stands before
   abbrev pub Fits : List ℕ → Ahead → Type 0

@@ -15,7 +15,9 @@ mod tags;
 
 use byte_source::ByteSource;
 use ciborium_ll::Decoder;
-pub use ciborium_value::{Deserialize, Key, Source};
+pub use ciborium_value::{
+    Deserialize, Key, NoField, Source, Wanted, WantedFields, read_fields, required,
+};
 pub use error::Error;
 use std::alloc::Global;
 use std::io::{self, Read};

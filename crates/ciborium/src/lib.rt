@@ -5,7 +5,16 @@
 mod callers;
 pub mod de;
 pub mod laws;
+#[cfg(test)]
+mod level_tests;
+#[doc(hidden)]
+pub mod literals;
 pub mod ll;
+#[cfg(test)]
+mod macro_tests;
+mod macros;
+#[cfg(test)]
+mod own_callers;
 #[cfg(test)]
 mod own_types;
 #[cfg(test)]
@@ -13,6 +22,9 @@ mod reading_tests;
 pub mod ser;
 #[cfg(test)]
 mod small_devices;
+#[cfg(test)]
+mod struct_tests;
+pub mod tag;
 #[cfg(test)]
 mod typed_tests;
 pub mod value;

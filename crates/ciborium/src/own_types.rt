@@ -1,22 +1,27 @@
 //! Types of a user's own, each with the item that it writes, or with what it reads of an item, as a
 //! user gives them.
 ghost use Rattle.std.specs.Prelude.{◌∷◌, ◌%◌, Err, Ok, [], codes, if◌then◌else◌, map, nat_eq, pos};
-ghost use Rattle.std.specs.Prelude.{nat_le, string_bytes, ℕ};
+ghost use Rattle.std.specs.Prelude.{List, nat_le, string_bytes, ℕ};
 ghost use Rattle.ciborium_value.specs.Places.{dictionary, sequence};
 ghost use Rattle.ciborium_value.specs.Readings.{below, such_that, tuple2_of};
 ghost use Rattle.ciborium_value.specs.Sinks.{container_of, fields_of, in_turn, named_text};
-ghost use Rattle.ciborium_value.specs.Sinks.{number_item, open_container_of};
+ghost use Rattle.ciborium_value.specs.Sinks.{number_item, open_container_of, tag_of};
+ghost use Rattle.ciborium_value.specs.StructReadings.{field, no_field, struct_of};
+ghost use Rattle.ciborium_value.specs.TagReadings.{tag_required};
+ghost use Rattle.ciborium_value.specs.VariantReadings.{data_variant, enum_of, unit_variant};
 ghost use Rattle.ciborium_value.specs.declared.kind.Kind.TheVariants.{Other, Range};
+ghost use Rattle.ciborium.specs.declared.own_types.Figure.{Figure};
 ghost use Rattle.ciborium.specs.declared.own_types.Figure.TheVariants.{Circle, Point};
 
-use crate::de::{Deserialize, Source};
+use crate::de::{Deserialize, Source, Wanted, read_fields, required};
 use crate::ser::{Field, NoField, Serialize, Sink};
+use crate::tag::Required;
 use crate::value::Kind;
 use std::alloc::Global;
 use std::collections::BTreeMap;
 
 /// A struct: a map by names.
-#[derive(Debug, Drop)]
+#[derive(Debug, Drop, PartialEq)]
 pub struct Message {
     pub version: u8,
     pub body: String,
@@ -30,6 +35,24 @@ impl Serialize for Message {
 
     fn serialize<S: Sink>(&self, sink: &mut S) -> Result<(), S::Error> {
         Field("version", &self.version, Field("body", &self.body, NoField)).serialize(sink)
+    }
+}
+
+impl Deserialize for Message {
+    ghost Content = { ℕ × (List ℕ × Unit {0}) };
+
+    ghost reading = { struct_of (λ m. (m.version, (string_bytes m.body, tt)))
+        (field (codes "version") ⟦<u8 as Deserialize>⟧.reading
+        (field (codes "body") ⟦<String as Deserialize>⟧.reading no_field)) };
+
+    fn deserialize<S: Source>(alloc: Global, source: &mut S) -> Result<Message, S::Error> {
+        let mut fields = Wanted("version", None, Wanted("body", None, NoField));
+        read_fields(alloc, source, &mut fields)?;
+        let Wanted(_, version, Wanted(_, body, NoField)) = fields;
+        Ok(Message {
+            version: required(source, version)?,
+            body: required(source, body)?,
+        })
     }
 }
 
@@ -52,7 +75,7 @@ impl Serialize for Position {
 }
 
 /// An enum: the name of the variant, and where it has data a map from that name to them.
-#[derive(Debug, Drop)]
+#[derive(Debug, Drop, PartialEq)]
 pub enum Figure {
     Point,
     Circle(u8),
@@ -71,6 +94,28 @@ impl Serialize for Figure {
             Figure::Point => "Point".serialize(sink),
             Figure::Circle(radius) => Field("Circle", radius, NoField).serialize(sink),
         }
+    }
+}
+
+impl Deserialize for Figure {
+    ghost Content = { Figure };
+
+    ghost reading = { enum_of (λ figure. figure) (unit_variant (codes "Point") Point
+        ∷ data_variant (codes "Circle") Circle (below 256) ∷ []) };
+
+    fn deserialize<S: Source>(alloc: Global, source: &mut S) -> Result<Figure, S::Error> {
+        let (name, level) = source.begin_variant(alloc)?;
+        if name.as_str() == "Point" {
+            source.unit()?;
+            source.end_variant(level);
+            return Ok(Figure::Point);
+        }
+        if name.as_str() == "Circle" {
+            let radius = u8::deserialize(alloc, source)?;
+            source.end_variant(level);
+            return Ok(Figure::Circle(radius));
+        }
+        Err(source.refuse(Kind::Variant))
     }
 }
 
@@ -145,6 +190,33 @@ impl Serialize for OpenMap {
             value.serialize(sink)?;
         }
         sink.end(None)
+    }
+}
+
+/// Seconds since the beginning of 1970, under tag 1 (RFC 8949, section 3.4.2).
+#[derive(Debug, Drop)]
+pub struct Moment {
+    pub seconds: u64,
+}
+
+impl Serialize for Moment {
+    ghost written = { λ m. tag_of 1 (Ok (number_item (pos m.seconds))) };
+
+    ghost takes_memory = { ⊥ };
+
+    fn serialize<S: Sink>(&self, sink: &mut S) -> Result<(), S::Error> {
+        Required::<&u64, 1>(&self.seconds).serialize(sink)
+    }
+}
+
+impl Deserialize for Moment {
+    ghost Content = { ℕ };
+
+    ghost reading = { tag_required 1 (λ m. m.seconds) ⟦<u64 as Deserialize>⟧.reading };
+
+    fn deserialize<S: Source>(alloc: Global, source: &mut S) -> Result<Moment, S::Error> {
+        let Required(seconds) = Required::<u64, 1>::deserialize(alloc, source)?;
+        Ok(Moment { seconds })
     }
 }
 

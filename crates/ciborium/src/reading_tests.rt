@@ -31,7 +31,7 @@ fn read<T: Deserialize>(
     }
 }
 
-fn check_left<T: Deserialize + PartialEq>(
+pub fn check_left<T: Deserialize + PartialEq>(
     alloc: Global,
     text: &str,
     limit: usize,
@@ -50,11 +50,15 @@ fn check_left<T: Deserialize + PartialEq>(
 }
 
 // Fails unless the bytes give this value, all of them, within 256 levels.
-fn check<T: Deserialize + PartialEq>(alloc: Global, text: &str, expected: &T) -> Result<(), Fail> {
+pub fn check<T: Deserialize + PartialEq>(
+    alloc: Global,
+    text: &str,
+    expected: &T,
+) -> Result<(), Fail> {
     check_left(alloc, text, 256, expected, 0)
 }
 
-fn check_refused<T: Deserialize>(
+pub fn check_refused<T: Deserialize>(
     alloc: Global,
     text: &str,
     limit: usize,
@@ -72,7 +76,7 @@ fn check_refused<T: Deserialize>(
 }
 
 // Fails unless the value that the bytes mean gives this one.
-fn check_tree<T: Deserialize + PartialEq>(
+pub fn check_tree<T: Deserialize + PartialEq>(
     alloc: Global,
     text: &str,
     expected: &T,
@@ -85,7 +89,7 @@ fn check_tree<T: Deserialize + PartialEq>(
 }
 
 // Fails unless both the bytes and the value that they mean give this one.
-fn check_both<T: Deserialize + PartialEq>(
+pub fn check_both<T: Deserialize + PartialEq>(
     alloc: Global,
     text: &str,
     expected: &T,
@@ -94,7 +98,11 @@ fn check_both<T: Deserialize + PartialEq>(
     check_tree(alloc, text, expected)
 }
 
-fn check_tree_refused<T: Deserialize>(alloc: Global, tree: &Value, kind: Kind) -> Result<(), Fail> {
+pub fn check_tree_refused<T: Deserialize>(
+    alloc: Global,
+    tree: &Value,
+    kind: Kind,
+) -> Result<(), Fail> {
     match tree.deserialized::<T>(alloc) {
         Ok(_) => Err(Fail::from("read")),
         Err(error) => {
@@ -107,7 +115,10 @@ fn check_tree_refused<T: Deserialize>(alloc: Global, tree: &Value, kind: Kind) -
 }
 
 // Fails unless the bytes of each row, and the value that they mean, give what stands there.
-fn check_rows<T: Deserialize + PartialEq>(alloc: Global, rows: &[(&str, T)]) -> Result<(), Fail> {
+pub fn check_rows<T: Deserialize + PartialEq>(
+    alloc: Global,
+    rows: &[(&str, T)],
+) -> Result<(), Fail> {
     for (text, expected) in rows {
         check_both(alloc, text, expected)?;
     }
@@ -115,7 +126,7 @@ fn check_rows<T: Deserialize + PartialEq>(alloc: Global, rows: &[(&str, T)]) -> 
 }
 
 // Fails unless the bytes of each row are refused so within so many levels.
-fn check_refusals<T: Deserialize>(
+pub fn check_refusals<T: Deserialize>(
     alloc: Global,
     rows: &[(&str, usize, Reason)],
 ) -> Result<(), Fail> {
@@ -406,6 +417,16 @@ fn values(rt: HostRuntime) -> Result<(), Fail> {
     let low = Value::from_bytes(alloc, &[255; 16])?;
     let tag = Value::Tag(3, Box::new(alloc, low)?);
     check_tree_refused::<Value>(alloc, &tag, Kind::TooLarge)
+}
+
+#[test]
+fn a_canonical_value_and_its_copy(rt: HostRuntime) -> Result<(), Fail> {
+    let alloc = rt.alloc();
+    let text = CanonicalValue::from(Value::from_text(alloc, "a")?);
+    check_both(alloc, "6161", &text)?;
+    let read: CanonicalValue = from_reader(alloc, &mut &[0x61u8, 0x61][..])?;
+    assert_eq!(rt; read.clone()?, text);
+    Ok(())
 }
 
 #[test]

@@ -10,8 +10,8 @@ use std::collections::BTreeMap;
 use std::io::{self, ErrorKind};
 use std::test::Fail;
 
-// Fails unless the value is written as these bytes, and made into the tree of those.
-fn check<T: Serialize>(alloc: Global, value: &T, text: &str, tree: &str) -> Result<(), Fail> {
+/// Fails unless the value is written as these bytes, and made into the tree of those.
+pub fn check<T: Serialize>(alloc: Global, value: &T, text: &str, tree: &str) -> Result<(), Fail> {
     let mut bytes = Vec::new(alloc);
     into_writer(value, &mut bytes)?;
     if bytes != decode_hex(alloc, text)? {

@@ -10,6 +10,8 @@ mod byte_lists;
 mod characters;
 mod containers;
 mod heads;
+mod levels;
+mod names;
 mod numbers;
 mod scalars;
 mod source;
@@ -42,6 +44,12 @@ pub(crate) struct ByteSeq {
     pub(crate) left: Left,
     pub(crate) levels: usize,
     pub(crate) offset: usize,
+}
+
+// The levels to give back behind the content of a tag or a variant.
+#[derive(Drop)]
+pub(crate) struct ByteLevel {
+    pub(crate) levels: usize,
 }
 
 #[cfg(test)]

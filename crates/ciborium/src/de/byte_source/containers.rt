@@ -3,13 +3,15 @@
 ghost use Rattle.std.specs.Prelude.{◌≡◌, ◌≢◌, ◌+◌, ◌-◌, ◌<◌, ◌≤◌, IfErr, IfOk, MatchBool, None};
 ghost use Rattle.std.specs.Prelude.{OnErr, OnOk, Some, false};
 ghost use Rattle.ciborium_ll.specs.Decoding.{HasSameReader};
+ghost use Rattle.ciborium_ll.specs.StringRefusal.{of_bytes};
 ghost use Rattle.ciborium_value.specs.Sources.{GoesOn, IsGranted, Leaves, OwesLess, OwesNothing};
 ghost use Rattle.ciborium_value.specs.Sources.{RefusesNext, TakesTo};
 ghost use Rattle.ciborium_value.specs.Taken.{gives, taken_pairs, taken_seq};
-ghost use Rattle.ciborium.specs.ByteSources.{IsUnread, OpensItems, OpensPairs, Owes, SeqStands};
-ghost use Rattle.ciborium.specs.ByteSources.{StandsBefore, cause_of, left_of, seq_left};
-ghost use Rattle.ciborium.specs.ByteSources.{weight_left};
+ghost use Rattle.ciborium.specs.ByteSources.{HasBytes, IsUnread, OpensItems, OpensPairs, Owes};
+ghost use Rattle.ciborium.specs.ByteSources.{SeqStands, StandsBefore, bytes_weight, cause_of};
+ghost use Rattle.ciborium.specs.ByteSources.{left_of, seq_left, weight_left};
 ghost use Rattle.ciborium.specs.ItemReads.{Denies};
+ghost use Rattle.ciborium.specs.StringContents.{DeniesContent, TakesContent};
 
 use crate::de::byte_source::{ByteSeq, ByteSource, Left};
 use crate::de::error::Error;
@@ -54,6 +56,36 @@ impl<'a, R: Read> ByteSource<'a, R> {
         }
     }
 
+    // Enters the byte string at this offset whose head was taken last. Apart from `open_seq`, so
+    // that the room for its bytes is made ready only here.
+    #[inline(always)]
+    fn open_bytes(
+        &mut self,
+        alloc: Global,
+        len: Option<usize>,
+        offset: usize,
+    ) -> Result<ByteSeq, Error<io::Error>>
+        requires { self.old.pending ≡ None }
+        ensures same_reader { HasSameReader self.old.decoder self.new.decoder }
+        ensures levels { self.new.levels ≡ self.old.levels }
+        ensures back { IfOk result (λ q. q.levels ≡ self.old.levels) }
+        ensures pending { self.new.pending ≡ None }
+        ensures fewer { IfOk result
+            (λ q. bytes_weight self.new + seq_left q ≤ bytes_weight self.old) }
+        ensures ok { IfOk result (λ q. HasBytes q.left (TakesContent (IsUnread R.remaining self.old)
+            (IsUnread R.remaining self.new) of_bytes len)) }
+        ensures denied { IfErr result
+            (λ e. DeniesContent (IsUnread R.remaining self.old) of_bytes len (cause_of e)) }
+    {
+        let levels = self.levels;
+        let bytes = self.bytes_content(alloc, len)?;
+        Ok(ByteSeq {
+            left: Left::Bytes(bytes.into_iter()),
+            levels,
+            offset,
+        })
+    }
+
     #[inline(always)]
     pub(crate) fn open_seq(&mut self, alloc: Global) -> Result<ByteSeq, Error<io::Error>>
         ensures same_reader { HasSameReader self.old.decoder self.new.decoder }
@@ -73,13 +105,8 @@ impl<'a, R: Read> ByteSource<'a, R> {
                 Ok(seq)
             }
             Header::Bytes(len) => {
-                let levels = self.levels;
-                let bytes = self.bytes_content(alloc, len)?;
-                Ok(ByteSeq {
-                    left: Left::Bytes(bytes.into_iter()),
-                    levels,
-                    offset,
-                })
+                let seq = self.open_bytes(alloc, len, offset)?;
+                Ok(seq)
             }
             _ => Err(Error::Semantic(Some(offset), Kind::Array)),
         }

@@ -39,8 +39,9 @@ impl<'a, R: Read> ByteSource<'a, R> {
             (λ e. DeniesHead (IsUnread R.remaining) self.old (cause_of e)) }
         ensures memory { IfErr result (λ e. IsGranted (cause_of e) false) }
     {
-        if let Some(pending) = self.pending.take() {
-            return Ok(pending);
+        if let Some((header, offset)) = self.pending {
+            self.pending = None;
+            return Ok((header, offset));
         }
         let offset = self.decoder.offset();
         let header = self.decoder.pull()?;

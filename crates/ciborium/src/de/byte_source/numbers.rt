@@ -1,8 +1,10 @@
 //! Numbers: integers, and bignums that are read byte by byte.
 
-ghost use Rattle.std.specs.Prelude.{◌≡◌, ◌∷◌, ◌<◌, ◌≤◌, [], IfErr, IfOk, None, OnOk, Some, false};
+ghost use Rattle.std.specs.Prelude.{◌≡◌, ◌==◌, ◌∷◌, ◌<◌, ◌≤◌, [], IfErr, IfOk, None, OnOk, Some};
+ghost use Rattle.std.specs.Prelude.{false, true, ℕ};
 ghost use Rattle.ciborium_ll.specs.Decoding.{HasSameReader};
 ghost use Rattle.ciborium_ll.specs.StringRefusal.{of_bytes};
+ghost use Rattle.ciborium_ll.specs.declared.header.Header.TheVariants as heads;
 ghost use Rattle.ciborium_value.specs.Sources.{IsGranted, IsOutside};
 ghost use Rattle.ciborium_value.specs.Taken.{taken_bignum, taken_integer};
 ghost use Rattle.ciborium.specs.ByteSources.{IsUnread, bytes_weight, cause_of, weight_left};
@@ -31,6 +33,19 @@ fn with_digit(number: Option<u128>, byte: u8) -> Option<u128>
             }
         }
         None => None,
+    }
+}
+
+// Whether a head is that of a negative number. Told apart here, the two signs share one arm, which
+// the processor does not have to guess.
+#[inline(always)]
+fn is_negative(header: Header) -> bool
+    ensures positive { (n : ℕ) → header ≡ heads.Positive n → result ≡ false }
+    ensures negative { (n : ℕ) → header ≡ heads.Negative n → result ≡ true }
+{
+    match header {
+        Header::Negative(_) => true,
+        _ => false,
     }
 }
 
@@ -133,6 +148,30 @@ impl<'a, R: Read> ByteSource<'a, R> {
         }
     }
 
+    // The number under this tag of a bignum, which was taken last and stands at this offset. Apart
+    // from `read_integer`, so that the room for an error is made ready only behind a tag.
+    #[inline(always)]
+    fn read_tagged(
+        &mut self,
+        tag: u64,
+        offset: usize,
+    ) -> Result<((bool, u128), usize), Error<io::Error>>
+        ensures same_reader { HasSameReader self.old.decoder self.new.decoder }
+        ensures levels { self.new.levels ≡ self.old.levels }
+        ensures pending { OnOk result (self.new.pending ≡ None) }
+        ensures fewer { OnOk result (weight_left self.new ≤ weight_left self.old) }
+        ensures sign { IfOk result (λ v. v.0.0 ≡ (tag == 3)) }
+        ensures offset { IfOk result (λ v. v.1 ≡ offset) }
+        ensures ok { IfOk result
+            (λ v. Reads (IsUnread R.remaining) self.old self.new None taken_bignum v.0.1) }
+        ensures denied { IfErr result
+            (λ e. Denies (IsUnread R.remaining) self.old None taken_bignum (cause_of e)) }
+        ensures memory { IfErr result (λ e. IsGranted (cause_of e) false) }
+    {
+        let n = self.read_bignum(offset)?;
+        Ok(((tag == BIGNEG, n), offset))
+    }
+
     /// A number, and the offset of its head or, for a bignum, of the tag of it.
     #[inline(always)]
     pub(crate) fn read_integer(&mut self) -> Result<((bool, u128), usize), Error<io::Error>>
@@ -147,12 +186,12 @@ impl<'a, R: Read> ByteSource<'a, R> {
         ensures memory { IfErr result (λ e. IsGranted (cause_of e) false) }
     {
         let (header, offset) = self.bare_head(true)?;
+        let negative = is_negative(header);
         match header {
-            Header::Positive(n) => Ok(((false, u128::from(n)), offset)),
-            Header::Negative(n) => Ok(((true, u128::from(n)), offset)),
+            Header::Positive(n) | Header::Negative(n) => { Ok(((negative, u128::from(n)), offset)) }
             Header::Tag(tag) => {
-                let n = self.read_bignum(offset)?;
-                Ok(((tag == BIGNEG, n), offset))
+                let number = self.read_tagged(tag, offset)?;
+                Ok(number)
             }
             _ => Err(Error::Semantic(Some(offset), Kind::Integer)),
         }

@@ -1,10 +1,10 @@
 //! The calls of a source.
 
-ghost use Rattle.ciborium.specs.ByteSources.{IsUnread, Owes, ReadsValue, SeqStands, StandsBefore};
-ghost use Rattle.ciborium.specs.ByteSources.{cause_of, seq_left, weight_left};
+ghost use Rattle.ciborium.specs.ByteSources.{IsUnread, LevelStands, Owes, ReadsValue, SeqStands};
+ghost use Rattle.ciborium.specs.ByteSources.{StandsBefore, cause_of, seq_left, weight_left};
 
 use crate::de::byte_source::scalars::is_null;
-use crate::de::byte_source::{ByteSeq, ByteSource};
+use crate::de::byte_source::{ByteLevel, ByteSeq, ByteSource};
 use crate::de::error::Error;
 use ciborium_ll::Header;
 use ciborium_value::{Kind, Source, Value};
@@ -16,13 +16,19 @@ impl<'a, R: Read> Source for ByteSource<'a, R> {
 
     type Seq = ByteSeq;
 
+    type Level = ByteLevel;
+
     ghost stands_before = { StandsBefore R.remaining };
 
     ghost seq_stands = { SeqStands };
 
+    ghost level_stands = { LevelStands };
+
     ghost left = { weight_left };
 
     ghost seq_left = { seq_left };
+
+    ghost level_left = { λ level. 0 };
 
     ghost is_unread = { IsUnread R.remaining };
 
@@ -64,6 +70,11 @@ impl<'a, R: Read> Source for ByteSource<'a, R> {
     }
 
     #[inline(always)]
+    fn name(&mut self, alloc: Global) -> Result<String, Error<io::Error>> {
+        self.read_name(alloc)
+    }
+
+    #[inline(always)]
     fn null_ahead(&mut self) -> Result<bool, Error<io::Error>> {
         let (header, offset) = self.next_head()?;
         match header {
@@ -80,6 +91,26 @@ impl<'a, R: Read> Source for ByteSource<'a, R> {
                 Ok(false)
             }
         }
+    }
+
+    #[inline(always)]
+    fn begin_tag(&mut self) -> Result<(Option<u64>, ByteLevel), Error<io::Error>> {
+        self.open_tag()
+    }
+
+    #[inline(always)]
+    fn end_tag(&mut self, level: ByteLevel) {
+        self.give_back(level);
+    }
+
+    #[inline(always)]
+    fn begin_variant(&mut self, alloc: Global) -> Result<(String, ByteLevel), Error<io::Error>> {
+        self.open_variant(alloc)
+    }
+
+    #[inline(always)]
+    fn end_variant(&mut self, level: ByteLevel) {
+        self.give_back(level);
     }
 
     #[inline(always)]

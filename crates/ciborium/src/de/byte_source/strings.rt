@@ -59,9 +59,9 @@ impl<'a, R: Read> ByteSource<'a, R> {
         Ok(out)
     }
 
-    // The payload of the text whose head was taken last.
+    /// The payload of the text whose head was taken last.
     #[inline(always)]
-    fn text_content(
+    pub(crate) fn text_content(
         &mut self,
         alloc: Global,
         len: Option<usize>,

@@ -1,4 +1,4 @@
-use Rattle.std.proofs.Common.{sym, ap, ◌∙◌, subst, ◌≡◌, arith}
+use Rattle.std.proofs.Common.{ap, ◌∙◌, subst, ◌≡◌, arith}
 use Rattle.std.proofs.lemmas.Result.{err_from_is_err_and}
 use Rattle.std.specs.declared.io.Error.{Error}
 use Rattle.ciborium_ll.specs.Decoding.{next_offset}
@@ -11,20 +11,20 @@ returns-in_err-header-clause-denied g c =
     let exit = err_from_is_err_and c.from_residual.result c.from_residual.ensures.1 in
     let d = c.args.self.now.decoder in
     rw (exit.1, exit.2) (λ b x y h u s e. head-outside (g.R.Read.remaining c.pull.new.self.reader.now) c.in_err-header.field-0.0 b x y d.count h s e
-    (c.in_err-header.ensures.ahead b d.count (ahead-unpushed g.R.Read.remaining d b c.args.self.now.unpushed (subst (λ o. IsUnreadBy g.R.Read.remaining d o b) (sym c.take.ensures.value ∙ c.in_default.is) u))))
+    (c.in_err-header.ensures.ahead b d.count (ahead-unpushed g.R.Read.remaining d b c.args.self.now.unpushed (subst (λ o. IsUnreadBy g.R.Read.remaining d o b) c.in_default.is u))))
 
 pub returns-clause-fewer : goal.returns-clause-fewer
 returns-clause-fewer g c =
     let fewer = fewer-bytes Error g.R.Read.remaining c.args.self.now.decoder c.pull.new.self c.in_ok-header.header c.args.self.now.unpushed c.in_ok-header.ensures.taken in
-    let none : weight_left c.args.self.now ≡ bytes_weight c.args.self.now = weighs-none c.args.self.now (sym c.take.ensures.value ∙ c.in_default.is) in
+    let none : weight_left c.args.self.now ≡ bytes_weight c.args.self.now = weighs-none c.args.self.now c.in_default.is in
     omega (arith, fewer, none)
 
 pub returns-in-Some-clause-counted : goal.returns-in-Some-clause-counted
-returns-in-Some-clause-counted g c b x y u = counted-pending g.R.Read.remaining c.args.self.now.decoder c.args.self.now.pending c.in-Some.pending b x y (sym c.take.ensures.value ∙ c.in-Some.is) u
+returns-in-Some-clause-counted g c b x y u = counted-pending g.R.Read.remaining c.args.self.now.decoder c.args.self.now.pending (c.in-Some.header, c.in-Some.offset) b x y c.in-Some.is u
 
 pub returns-clause-counted : goal.returns-clause-counted
 returns-clause-counted g c b x y u =
     let d = c.args.self.now.decoder in
     counted-pulled Error (g.R.Read.remaining c.pull.new.self.reader.now) c.pull.new.self c.in_ok-header.header d.count c.offset-offset.result c.pull.new.self.last b x y
     (c.offset-offset.ensures ∙ ap (next_offset d.count) c.args.self.now.unpushed)
-    (c.in_ok-header.ensures.ahead b d.count (ahead-unpushed g.R.Read.remaining d b c.args.self.now.unpushed (subst (λ o. IsUnreadBy g.R.Read.remaining d o b) (sym c.take.ensures.value ∙ c.in_default.is) u)))
+    (c.in_ok-header.ensures.ahead b d.count (ahead-unpushed g.R.Read.remaining d b c.args.self.now.unpushed (subst (λ o. IsUnreadBy g.R.Read.remaining d o b) c.in_default.is u)))

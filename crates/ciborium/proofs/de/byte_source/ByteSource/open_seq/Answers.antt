@@ -1,16 +1,15 @@
 use Rattle.std.proofs.Common.{◌≡◌, ap, refl, Some, false, sym, subst, ◌∙◌}
 use Rattle.std.proofs.lemmas.Result.{err_from_is_err_and}
+use Rattle.std.specs.Vec.Iter.{into_iter_items}
 use Rattle.ciborium_ll.specs.declared.header.Header.TheVariants as header
 use Rattle.ciborium_ll.specs.StringRefusal.{of_bytes}
 use Rattle.ciborium_value.specs.Sources.{of_kind, of_nesting}
 use Rattle.ciborium_value.specs.Taken.{gives, taken_seq}
 use Rattle.ciborium_value.specs.declared.kind.Kind.TheVariants as kinds
-use Rattle.ciborium.specs.declared.de.byte_source.ByteSeq.{ByteSeq}
-use Rattle.ciborium.specs.declared.de.byte_source.Left.TheVariants as left
 use Rattle.ciborium.specs.ByteSources.{IsUnread, cause_of}
 use Rattle.ciborium.specs.ItemReads.{Denies}
 use Rattle.ciborium.specs.Skips.{TakesBare}
-use Rattle.ciborium.proofs.EnteredContainers.{array-entered, array-nests, bytes-entered, seq-given, seq-other}
+use Rattle.ciborium.proofs.EnteredContainers.{array-entered, array-nests, bytes-entered, bytes-had, seq-given, seq-other}
 use Rattle.ciborium.proofs.SkippedTags.{denies-bare, denies-of-item}
 use Rattle.ciborium.proofs.StringPayloads.{denies-content}
 use Rattle.ciborium.proofs.de.byte_source.ByteSource.open_seq.Goals as goal
@@ -36,19 +35,19 @@ returns-in_err-seq-in-Array-clause-denied g c =
     rw (exit.1, exit.2) (subst (λ f. Denies U c.args.self.now l taken_seq f) (sym fault) (denies-bare U false (header.Array c.in-Array.count) l taken_seq c.args.self.now c.bare_head.new.self of_nesting
     (subst (TakesBare U c.args.self.now c.bare_head.new.self false) c.in-Array.is c.in_ok-header.ensures.head) (array-nests c.args.self.now.levels c.in-Array.count (sym c.in_ok-header.ensures.levels ∙ c.in_err-seq-in-Array.ensures.none))))
 
-pub returns-in_ok-bytes-in-Bytes-clause-ok : goal.returns-in_ok-bytes-in-Bytes-clause-ok
-returns-in_ok-bytes-in-Bytes-clause-ok g c =
-    let levels = c.in_ok-bytes-in-Bytes.ensures.levels ∙ c.in_ok-header.ensures.levels in
-    let q : ByteSeq = record { left = left.Bytes c.into_iter.result; levels = c.bare_head.new.self.levels; offset = c.in_ok-header.offset } in
-    bytes-entered g.R.Read.remaining c.args.self.now c.bare_head.new.self c.bytes_content.new.self q c.into_iter.result c.in-Bytes.len c.in_ok-bytes-in-Bytes.bytes.items refl c.into_iter.ensures.rest levels
-    (subst (TakesBare (IsUnread g.R.Read.remaining) c.args.self.now c.bare_head.new.self false) c.in-Bytes.is c.in_ok-header.ensures.head) c.in_ok-bytes-in-Bytes.ensures.ok
+pub returns-in_ok-seq-in-Bytes-clause-ok : goal.returns-in_ok-seq-in-Bytes-clause-ok
+returns-in_ok-seq-in-Bytes-clause-ok g c =
+    let levels = c.in_ok-seq-in-Bytes.ensures.levels ∙ c.in_ok-header.ensures.levels in
+    let (v, is, content) = bytes-had c.in_ok-seq-in-Bytes.seq.left _ c.in_ok-seq-in-Bytes.ensures.ok in
+    bytes-entered g.R.Read.remaining c.args.self.now c.bare_head.new.self c.open_bytes.new.self c.in_ok-seq-in-Bytes.seq v c.in-Bytes.len (into_iter_items v) is refl levels
+    (subst (TakesBare (IsUnread g.R.Read.remaining) c.args.self.now c.bare_head.new.self false) c.in-Bytes.is c.in_ok-header.ensures.head) content
 
-pub returns-in_err-bytes-in-Bytes-clause-denied : goal.returns-in_err-bytes-in-Bytes-clause-denied
-returns-in_err-bytes-in-Bytes-clause-denied g c =
-    let exit = err_from_is_err_and c.from_residual-in_err-bytes-in-Bytes.result c.from_residual-in_err-bytes-in-Bytes.ensures.1 in
-    rw (exit.1, exit.2) (denies-of-item (IsUnread g.R.Read.remaining) (Some c.args.self.now.levels) taken_seq c.args.self.now (cause_of c.in_err-bytes-in-Bytes.field-0.0)
-    (denies-content (IsUnread g.R.Read.remaining) false c.args.self.now c.bare_head.new.self of_bytes c.in-Bytes.len (cause_of c.in_err-bytes-in-Bytes.field-0.0)
-    (subst (TakesBare (IsUnread g.R.Read.remaining) c.args.self.now c.bare_head.new.self false) c.in-Bytes.is c.in_ok-header.ensures.head) c.in_err-bytes-in-Bytes.ensures.denied))
+pub returns-in_err-seq-in-Bytes-clause-denied : goal.returns-in_err-seq-in-Bytes-clause-denied
+returns-in_err-seq-in-Bytes-clause-denied g c =
+    let exit = err_from_is_err_and c.from_residual-in_err-seq-in-Bytes.result c.from_residual-in_err-seq-in-Bytes.ensures.1 in
+    rw (exit.1, exit.2) (denies-of-item (IsUnread g.R.Read.remaining) (Some c.args.self.now.levels) taken_seq c.args.self.now (cause_of c.in_err-seq-in-Bytes.field-0.0)
+    (denies-content (IsUnread g.R.Read.remaining) false c.args.self.now c.bare_head.new.self of_bytes c.in-Bytes.len (cause_of c.in_err-seq-in-Bytes.field-0.0)
+    (subst (TakesBare (IsUnread g.R.Read.remaining) c.args.self.now c.bare_head.new.self false) c.in-Bytes.is c.in_ok-header.ensures.head) c.in_err-seq-in-Bytes.ensures.denied))
 
 pub returns-in_default-clause-denied : goal.returns-in_default-clause-denied
 returns-in_default-clause-denied g c =

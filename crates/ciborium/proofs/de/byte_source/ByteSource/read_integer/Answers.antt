@@ -1,4 +1,5 @@
-use Rattle.std.proofs.Common.{sym, ap, subst, Some, true, false, ◌==◌}
+use Rattle.std.proofs.Common.{◌≡◌, ◌⊎◌, Bool, ℕ, inl, inr, sym, ap, ◌∙◌, subst, Some, true, ◌==◌}
+use Rattle.ciborium_ll.specs.declared.header.Header.{Header}
 use Rattle.std.proofs.lemmas.Result.{err_from_is_err_and}
 use Rattle.ciborium_ll.specs.Item.{unsigned, negative}
 use Rattle.ciborium_ll.specs.declared.header.Header.TheVariants as header
@@ -6,6 +7,7 @@ use Rattle.ciborium_value.specs.Sources.{of_kind}
 use Rattle.ciborium_value.specs.Taken.{gives, taken_integer}
 use Rattle.ciborium_value.specs.declared.kind.Kind.TheVariants as kinds
 use Rattle.ciborium.specs.ByteSources.{IsUnread, cause_of}
+use Rattle.ciborium.specs.ItemReads.{Reads}
 use Rattle.ciborium.specs.Skips.{TakesBare, IsBare}
 use Rattle.ciborium.proofs.BareScalars.{integer-gives, integer-other, bignum-behind, bignum-denied}
 use Rattle.ciborium.proofs.SkippedTags.{denies-bare, denies-of-item, reads-bare, reads-whole}
@@ -16,37 +18,43 @@ returns-in_err-header-clause-denied g c =
     let exit = err_from_is_err_and c.from_residual.result c.from_residual.ensures.1 in
     rw (exit.1, exit.2) (denies-of-item (IsUnread g.R.Read.remaining) (Some c.args.self.now.levels) taken_integer c.args.self.now (cause_of c.in_err-header.field-0.0) c.in_err-header.ensures.denied)
 
+either-sign : (h : Header) (n : ℕ) (P : Type 0) → (h ≡ header.Positive n) ⊎ (h ≡ header.Negative n) → (h ≡ header.Positive n → P) → (h ≡ header.Negative n → P) → P
+either-sign h n P (inl is) positive below = positive is
+either-sign h n P (inr is) positive below = below is
+
 pub returns-in-Positive-clause-ok : goal.returns-in-Positive-clause-ok
 returns-in-Positive-clause-ok g c =
+    let U = IsUnread g.R.Read.remaining in
     let l = Some c.args.self.now.levels in
     let n = c.in-Positive.n in
-    reads-whole (IsUnread g.R.Read.remaining) true (header.Positive n) l taken_integer c.args.self.now c.bare_head.new.self (false, c.from.result) (unsigned n)
-    (subst (TakesBare (IsUnread g.R.Read.remaining) c.args.self.now c.bare_head.new.self true) c.in-Positive.is c.in_ok-header.ensures.head) (λ x hd. hd) (integer-gives l (unsigned n) (false, c.from.result) (ap (λ m. gives (false, m)) (sym c.from.ensures)))
+    let v : Bool × ℕ = (c.is_negative-negative.result, c.from.result) in
+    either-sign c.in_ok-header.header n (Reads U c.args.self.now c.bare_head.new.self l taken_integer v) c.in-Positive.is
+    (λ is. reads-whole U true (header.Positive n) l taken_integer c.args.self.now c.bare_head.new.self v (unsigned n)
+    (subst (TakesBare U c.args.self.now c.bare_head.new.self true) is c.in_ok-header.ensures.head) (λ x hd. hd)
+    (integer-gives l (unsigned n) v (ap (λ s. gives (s, n)) (sym (c.is_negative-negative.ensures.positive n is)) ∙ ap (λ m. gives (c.is_negative-negative.result, m)) (sym c.from.ensures))))
+    (λ is. reads-whole U true (header.Negative n) l taken_integer c.args.self.now c.bare_head.new.self v (negative n)
+    (subst (TakesBare U c.args.self.now c.bare_head.new.self true) is c.in_ok-header.ensures.head) (λ x hd. hd)
+    (integer-gives l (negative n) v (ap (λ s. gives (s, n)) (sym (c.is_negative-negative.ensures.negative n is)) ∙ ap (λ m. gives (c.is_negative-negative.result, m)) (sym c.from.ensures))))
 
-pub returns-in-Negative-clause-ok : goal.returns-in-Negative-clause-ok
-returns-in-Negative-clause-ok g c =
-    let l = Some c.args.self.now.levels in
-    let n = c.in-Negative.n in
-    reads-whole (IsUnread g.R.Read.remaining) true (header.Negative n) l taken_integer c.args.self.now c.bare_head.new.self (true, c.from-in-Negative.result) (negative n)
-    (subst (TakesBare (IsUnread g.R.Read.remaining) c.args.self.now c.bare_head.new.self true) c.in-Negative.is c.in_ok-header.ensures.head) (λ x hd. hd) (integer-gives l (negative n) (true, c.from-in-Negative.result) (ap (λ m. gives (true, m)) (sym c.from-in-Negative.ensures)))
-
-pub returns-in_ok-n-in-Tag-clause-ok : goal.returns-in_ok-n-in-Tag-clause-ok
-returns-in_ok-n-in-Tag-clause-ok g c =
+pub returns-in_ok-number-in-Tag-clause-ok : goal.returns-in_ok-number-in-Tag-clause-ok
+returns-in_ok-number-in-Tag-clause-ok g c =
     let l = Some c.args.self.now.levels in
     let t = c.in-Tag.tag in
     let bare : IsBare true (header.Tag t) = subst (IsBare true) c.in-Tag.is c.in_ok-header.ensures.bare in
-    reads-bare (IsUnread g.R.Read.remaining) true (header.Tag t) l taken_integer c.args.self.now c.bare_head.new.self c.read_bignum.new.self (t == 3, c.in_ok-n-in-Tag.n)
+    let v = c.in_ok-number-in-Tag.number.0 in
+    subst (λ negative. Reads (IsUnread g.R.Read.remaining) c.args.self.now c.read_tagged.new.self l taken_integer (negative, v.1)) (sym c.in_ok-number-in-Tag.ensures.sign)
+    (reads-bare (IsUnread g.R.Read.remaining) true (header.Tag t) l taken_integer c.args.self.now c.bare_head.new.self c.read_tagged.new.self (t == 3, v.1)
     (subst (TakesBare (IsUnread g.R.Read.remaining) c.args.self.now c.bare_head.new.self true) c.in-Tag.is c.in_ok-header.ensures.head)
-    (bignum-behind (IsUnread g.R.Read.remaining) t l bare.1 c.bare_head.new.self c.read_bignum.new.self c.in_ok-n-in-Tag.n c.in_ok-n-in-Tag.ensures.ok)
+    (bignum-behind (IsUnread g.R.Read.remaining) t l bare.1 c.bare_head.new.self c.read_tagged.new.self v.1 c.in_ok-number-in-Tag.ensures.ok))
 
-pub returns-in_err-n-in-Tag-clause-denied : goal.returns-in_err-n-in-Tag-clause-denied
-returns-in_err-n-in-Tag-clause-denied g c =
+pub returns-in_err-number-in-Tag-clause-denied : goal.returns-in_err-number-in-Tag-clause-denied
+returns-in_err-number-in-Tag-clause-denied g c =
     let l = Some c.args.self.now.levels in
     let t = c.in-Tag.tag in
-    let exit = err_from_is_err_and c.from_residual-in_err-n-in-Tag.result c.from_residual-in_err-n-in-Tag.ensures.1 in
+    let exit = err_from_is_err_and c.from_residual-in_err-number-in-Tag.result c.from_residual-in_err-number-in-Tag.ensures.1 in
     let bare : IsBare true (header.Tag t) = subst (IsBare true) c.in-Tag.is c.in_ok-header.ensures.bare in
-    rw (exit.1, exit.2) (bignum-denied (IsUnread g.R.Read.remaining) t l bare.1 c.args.self.now c.bare_head.new.self (cause_of c.in_err-n-in-Tag.field-0.0)
-    (subst (TakesBare (IsUnread g.R.Read.remaining) c.args.self.now c.bare_head.new.self true) c.in-Tag.is c.in_ok-header.ensures.head) c.in_err-n-in-Tag.ensures.denied)
+    rw (exit.1, exit.2) (bignum-denied (IsUnread g.R.Read.remaining) t l bare.1 c.args.self.now c.bare_head.new.self (cause_of c.in_err-number-in-Tag.field-0.0)
+    (subst (TakesBare (IsUnread g.R.Read.remaining) c.args.self.now c.bare_head.new.self true) c.in-Tag.is c.in_ok-header.ensures.head) c.in_err-number-in-Tag.ensures.denied)
 
 pub returns-in_default-clause-denied : goal.returns-in_default-clause-denied
 returns-in_default-clause-denied g c =

@@ -1,0 +1,12 @@
+use Rattle.std.proofs.Common.{length, ap, arith, subst, sym}
+use Rattle.ciborium_ll.specs.StringRefusal.{of_bytes}
+use Rattle.ciborium.specs.ByteSources.{IsUnread}
+use Rattle.ciborium.specs.StringContents.{TakesContent}
+use Rattle.ciborium.proofs.de.byte_source.ByteSource.open_bytes.Goals as goal
+
+pub returns-clause-ok : goal.returns-clause-ok
+returns-clause-ok g c =
+    subst (TakesContent (IsUnread g.R.Read.remaining c.args.self.now) (IsUnread g.R.Read.remaining c.bytes_content.new.self) of_bytes c.args.len) (sym c.into_iter.ensures.rest) c.in_ok-bytes.ensures.ok
+
+pub returns-clause-fewer : goal.returns-clause-fewer
+returns-clause-fewer g c = omega (arith, c.in_ok-bytes.ensures.fewer, ap length c.into_iter.ensures.rest)

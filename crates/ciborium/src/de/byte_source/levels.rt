@@ -1,0 +1,119 @@
+//! Tags and variants: how they are entered, and the level that each takes.
+
+ghost use Rattle.std.specs.Prelude.{◌≡◌, ◌≢◌, ◌≤◌, IfErr, IfOk, MatchBool, OnErr, OnOk, Some};
+ghost use Rattle.std.specs.Prelude.{false, string_bytes};
+ghost use Rattle.ciborium_ll.specs.Decoding.{HasSameReader};
+ghost use Rattle.ciborium_value.specs.Sources.{GivesBack, IsGranted};
+ghost use Rattle.ciborium_value.specs.Taken.{taken_outer_tag, taken_variant};
+ghost use Rattle.ciborium.specs.ByteSources.{IsUnread, LevelStands, StandsBefore, TakesLevel};
+ghost use Rattle.ciborium.specs.ByteSources.{cause_of, weight_left};
+ghost use Rattle.ciborium.specs.ItemReads.{Denies};
+ghost use Rattle.ciborium.specs.Skips.{OpensLevel};
+
+use crate::de::byte_source::{ByteLevel, ByteSource};
+use crate::de::error::Error;
+use ciborium_ll::{Header, simple};
+use ciborium_value::Kind;
+use std::alloc::Global;
+use std::io::{self, Read};
+
+fn is_one(count: Option<usize>) -> bool
+    ensures { MatchBool result (count ≡ Some 1) (count ≢ Some 1) }
+{
+    match count {
+        Some(n) => n == 1,
+        None => false,
+    }
+}
+
+impl<'a, R: Read> ByteSource<'a, R> {
+    // Takes the level of a tag or a variant.
+    #[inline(always)]
+    fn take_level(&mut self) -> Result<ByteLevel, Error<io::Error>>
+        ensures decoder { self.new.decoder ≡ self.old.decoder }
+        ensures pending { self.new.pending ≡ self.old.pending }
+        ensures some { IfOk result (λ level. TakesLevel self.old self.new level) }
+        ensures none { OnErr result (self.old.levels ≡ 0) }
+        ensures err { IfErr result (λ e. e ≡ Error.RecursionLimitExceeded) }
+    {
+        let levels = self.levels;
+        if levels == 0 {
+            return Err(Error::RecursionLimitExceeded);
+        }
+        self.levels = levels - 1;
+        Ok(ByteLevel { levels })
+    }
+
+    /// Gives the level of a tag or a variant back, behind its content.
+    #[inline(always)]
+    pub(crate) fn give_back(&mut self, level: ByteLevel)
+        ensures same_reader { HasSameReader self.old.decoder self.new.decoder }
+        ensures unread { self.new.decoder ≡ self.old.decoder }
+        ensures pending { self.new.pending ≡ self.old.pending }
+        ensures ok { GivesBack (StandsBefore R.remaining) LevelStands self.old self.new level }
+    {
+        self.levels = level.levels;
+    }
+
+    /// The tag ahead, if there is one, and the level that was taken.
+    #[inline(always)]
+    pub(crate) fn open_tag(&mut self) -> Result<(Option<u64>, ByteLevel), Error<io::Error>>
+        ensures same_reader { HasSameReader self.old.decoder self.new.decoder }
+        ensures level { IfOk result (λ p. TakesLevel self.old self.new p.1) }
+        ensures fewer { OnOk result (weight_left self.new ≤ weight_left self.old) }
+        ensures ok { IfOk result (λ p. OpensLevel (IsUnread R.remaining) self.old self.new
+            (Some self.old.levels) taken_outer_tag p.0) }
+        ensures denied { IfErr result (λ e. Denies (IsUnread R.remaining) self.old
+            (Some self.old.levels) taken_outer_tag (cause_of e)) }
+        ensures memory { IfErr result (λ e. IsGranted (cause_of e) false) }
+    {
+        let (header, offset) = self.next_head()?;
+        match header {
+            Header::Tag(tag) => {
+                let level = self.take_level()?;
+                Ok((Some(tag), level))
+            }
+            Header::Break => Err(Error::Semantic(Some(offset), Kind::Break)),
+            _ => {
+                let level = self.take_level()?;
+                self.pending = Some((header, offset));
+                Ok((None, level))
+            }
+        }
+    }
+
+    /// The name of a variant, and the level that was taken. Its data is ahead: for a text a null
+    /// that is not in the bytes, with the offset of the text.
+    #[inline(always)]
+    pub(crate) fn open_variant(
+        &mut self,
+        alloc: Global,
+    ) -> Result<(String, ByteLevel), Error<io::Error>>
+        ensures same_reader { HasSameReader self.old.decoder self.new.decoder }
+        ensures level { IfOk result (λ p. TakesLevel self.old self.new p.1) }
+        ensures fewer { OnOk result (weight_left self.new ≤ weight_left self.old) }
+        ensures ok { IfOk result (λ p. OpensLevel (IsUnread R.remaining) self.old self.new
+            (Some self.old.levels) taken_variant (string_bytes p.0)) }
+        ensures denied { IfErr result (λ e. Denies (IsUnread R.remaining) self.old
+            (Some self.old.levels) taken_variant (cause_of e)) }
+    {
+        let (header, offset) = self.bare_head(false)?;
+        match header {
+            Header::Text(len) => {
+                let level = self.take_level()?;
+                let name = self.text_content(alloc, len)?;
+                self.pending = Some((Header::Simple(simple::NULL), offset));
+                Ok((name, level))
+            }
+            Header::Map(count) => {
+                if !is_one(count) {
+                    return Err(Error::Semantic(Some(offset), Kind::Variant));
+                }
+                let level = self.take_level()?;
+                let name = self.read_name(alloc)?;
+                Ok((name, level))
+            }
+            _ => Err(Error::Semantic(Some(offset), Kind::Variant)),
+        }
+    }
+}

@@ -1,0 +1,139 @@
+//! Tags around a value (RFC 8949, section 3.4).
+
+ghost use Rattle.std.specs.Prelude.{◌⊎◌, IfErr, OnErr, OnOk, Option, ℕ};
+ghost use Rattle.ciborium_value.specs.Sinks.{AddsNamed, BreaksNamed, IsGranted, IsOwed, IsReady};
+ghost use Rattle.ciborium_value.specs.Sinks.{tag_of};
+ghost use Rattle.ciborium_value.specs.TagReadings.{tag_accepted, tag_required, with_tag};
+ghost use Rattle.ciborium.specs.Tags.{captured_of};
+
+use crate::de::{Deserialize, Source};
+use crate::ser::{Serialize, Sink};
+use crate::value::Kind;
+use std::alloc::Global;
+
+/// A value, and the tag around it where there is one.
+#[derive(Clone, Copy, Debug, Drop, PartialEq, Eq, PartialOrd, Ord, Hash)]
+pub struct Captured<V>(pub Option<u64>, pub V);
+
+/// A value that always has this tag around it.
+#[derive(Clone, Copy, Debug, Drop, PartialEq, Eq, PartialOrd, Ord, Hash)]
+pub struct Required<V, const TAG: u64>(pub V);
+
+/// A value that is written with this tag around it, and that may stand without it.
+#[derive(Clone, Copy, Debug, Drop, PartialEq, Eq, PartialOrd, Ord, Hash)]
+pub struct Accepted<V, const TAG: u64>(pub V);
+
+/// The tag over the item of the value; without a tag that item alone.
+impl<V: Serialize> Serialize for Captured<V> {
+    ghost written = { λ c. captured_of c.0 (V.written c.1) };
+
+    ghost takes_memory = { V.takes_memory };
+
+    fn serialize<S: Sink>(&self, sink: &mut S) -> Result<(), S::Error> {
+        match self.0 {
+            Some(tag) => serialize_tagged(tag, &self.1, sink),
+            None => self.1.serialize(sink),
+        }
+    }
+}
+
+/// The tag over the item of the value.
+impl<V: Serialize, const TAG: u64> Serialize for Required<V, TAG> {
+    ghost written = { λ r. tag_of TAG (V.written r.0) };
+
+    ghost takes_memory = { V.takes_memory };
+
+    fn serialize<S: Sink>(&self, sink: &mut S) -> Result<(), S::Error> {
+        serialize_tagged(TAG, &self.0, sink)
+    }
+}
+
+/// The tag over the item of the value.
+impl<V: Serialize, const TAG: u64> Serialize for Accepted<V, TAG> {
+    ghost written = { λ a. tag_of TAG (V.written a.0) };
+
+    ghost takes_memory = { V.takes_memory };
+
+    fn serialize<S: Sink>(&self, sink: &mut S) -> Result<(), S::Error> {
+        Required::<&V, TAG>(&self.0).serialize(sink)
+    }
+}
+
+/// The outermost tag, that of a bignum too, and the value under it. A level is taken, tag or none.
+impl<V: Deserialize> Deserialize for Captured<V> {
+    ghost Content = { Option ℕ × V.Content };
+
+    ghost reading = { with_tag (λ c. c.0) (λ c. c.1) V.reading };
+
+    fn deserialize<S: Source>(alloc: Global, source: &mut S) -> Result<Captured<V>, S::Error> {
+        let (tag, level) = source.begin_tag()?;
+        let value = V::deserialize(alloc, source)?;
+        source.end_tag(level);
+        Ok(Captured(tag, value))
+    }
+}
+
+/// The value under the tag, as `Captured` reads it; without the tag, or under another one, it is
+/// refused as `Tag`.
+impl<V: Deserialize, const TAG: u64> Deserialize for Required<V, TAG> {
+    ghost Content = { V.Content };
+
+    ghost reading = { tag_required TAG (λ r. r.0) V.reading };
+
+    fn deserialize<S: Source>(alloc: Global, source: &mut S) -> Result<Required<V, TAG>, S::Error> {
+        let Captured(tag, value) = Captured::<V>::deserialize(alloc, source)?;
+        match tag {
+            Some(found) => {
+                if found == TAG {
+                    Ok(Required(value))
+                } else {
+                    Err(source.refuse(Kind::Tag))
+                }
+            }
+            None => Err(source.refuse(Kind::Tag)),
+        }
+    }
+}
+
+/// The value under the tag or under none, as `Captured` reads it; under another tag it is refused as
+/// `Tag`.
+impl<V: Deserialize, const TAG: u64> Deserialize for Accepted<V, TAG> {
+    ghost Content = { V.Content };
+
+    ghost reading = { tag_accepted TAG (λ a. a.0) V.reading };
+
+    fn deserialize<S: Source>(alloc: Global, source: &mut S) -> Result<Accepted<V, TAG>, S::Error> {
+        let Captured(tag, value) = Captured::<V>::deserialize(alloc, source)?;
+        match tag {
+            Some(number) => {
+                if number == TAG {
+                    Ok(Accepted(value))
+                } else {
+                    Err(source.refuse(Kind::Tag))
+                }
+            }
+            None => Ok(Accepted(value)),
+        }
+    }
+}
+
+// Adds the content under a tag.
+fn serialize_tagged<T: Serialize, S: Sink>(
+    tag: u64,
+    content: &T,
+    sink: &mut S,
+) -> Result<(), S::Error>
+    requires { IsReady S.stands_at sink.old }
+    ensures ok { OnOk result (AddsNamed S.stands_at sink.old sink.new
+        (tag_of tag (T.written content.now))) }
+    ensures cause { IfErr result (λ e. IsOwed (S.cause e) (tag_of tag (T.written content.now))) }
+    ensures memory { IfErr result (λ e. IsGranted (S.cause e) (S.takes_memory ⊎ T.takes_memory)) }
+    ensures err { OnErr result (BreaksNamed S.stands_at S.out sink.old sink.new
+        (tag_of tag (T.written content.now))) }
+{
+    sink.tag(tag)?;
+    content.serialize(sink)
+}
+
+#[cfg(test)]
+mod tests;
