@@ -4,6 +4,7 @@ ghost use Rattle.std.specs.Prelude.{◌≤◌};
 ghost use Rattle.ciborium_ll.specs.Bytes.{greatest_offset};
 
 use crate::header::{Error, Header};
+use crate::keep::{Answered, Keep};
 use crate::reading::{fill, read_head};
 use crate::strings::{Kind, append_string};
 use std::io::{self, Read};
@@ -113,13 +114,35 @@ impl<'a, R: Read> Decoder<'a, R> {
         ensures ahead { (b : List ℕ) (p : ℕ) → IsAhead R.remaining self.old b p →
             Pulls R.remaining self.new b p result }
     {
+        self.pull_keeping(&mut Answered)
+    }
+
+    /// What `pull` does; a reader's error goes to `keep`.
+    #[inline(always)]
+    pub fn pull_keeping<K: Keep>(&mut self, keep: &mut K) -> Result<Header, Error<K::Kept>>
+        ensures same_reader { HasSameReader self.old self.new }
+        ensures none_pushed { pushed_of self.new ≡ None }
+
+        // A pushed head is answered and takes nothing.
+        ensures pushed { IfSome (pushed_of self.old) (λ head.
+            (result ≡ Ok head.0) × (last_of self.new ≡ head.1) × IsUnread self.old self.new) }
+
+        // Otherwise just the bytes that decide the answer are taken.
+        ensures taken { IfNone (pushed_of self.old)
+            (Takes R.remaining self.old self.new (λ b. IsHeadTaken b (count_of self.old) result)) }
+        ensures last { IfNone (pushed_of self.old) (last_of self.new ≡ count_of self.old) }
+
+        // The same, said of all that is unread.
+        ensures ahead { (b : List ℕ) (p : ℕ) → IsAhead R.remaining self.old b p →
+            Pulls R.remaining self.new b p result }
+    {
         if let Some((header, offset)) = self.pushed {
             self.forget();
             self.last = offset;
             return Ok(header);
         }
         self.last = self.count;
-        read_head(self.reader, &mut self.count)
+        read_head(self.reader, &mut self.count, keep)
     }
 
     /// Fills the buffer with the next bytes.
@@ -137,7 +160,24 @@ impl<'a, R: Read> Decoder<'a, R> {
         ensures taken { Takes R.remaining self.old self.new
             (λ b. IsFillTaken b (count_of self.old) buffer.new result) }
     {
-        fill(self.reader, buffer, &mut self.count)
+        self.read_exact_keeping(buffer, &mut Answered)
+    }
+
+    /// What `read_exact` does; a reader's error goes to `keep`.
+    #[inline(always)]
+    pub fn read_exact_keeping<K: Keep>(
+        &mut self,
+        buffer: &mut [u8],
+        keep: &mut K,
+    ) -> Result<(), Error<K::Kept>>
+        requires { pushed_of self.old ≡ None }
+        ensures same_reader { HasSameReader self.old self.new }
+        ensures none_pushed { pushed_of self.new ≡ None }
+        ensures last { last_of self.new ≡ last_of self.old }
+        ensures taken { Takes R.remaining self.old self.new
+            (λ b. IsFillTaken b (count_of self.old) buffer.new result) }
+    {
+        fill(self.reader, buffer, &mut self.count, keep)
     }
 
     /// Appends the payload of the byte string whose head was pulled last, with the length that the
@@ -168,9 +208,33 @@ impl<'a, R: Read> Decoder<'a, R> {
             IfErr result (λ e. IsRefusedBy (left_of R.remaining self.new) e
             (ContentRefuses of_bytes len (last_of self.old) b (count_of self.old))) }
     {
+        self.bytes_into_keeping(len, scratch, out, &mut Answered)
+    }
+
+    /// What `bytes_into` does; a reader's error goes to `keep`.
+    #[inline(always)]
+    pub fn bytes_into_keeping<K: Keep>(
+        &mut self,
+        len: Option<usize>,
+        scratch: &mut [u8],
+        out: &mut Vec<u8>,
+        keep: &mut K,
+    ) -> Result<(), Error<K::Kept>>
+        requires { pushed_of self.old ≡ None }
+        ensures same_reader { HasSameReader self.old self.new }
+        ensures none_pushed { pushed_of self.new ≡ None }
+        ensures last { last_of self.new ≡ last_of self.old }
+        ensures taken { Takes R.remaining self.old self.new
+            (λ b. Grows out.old.items out.new.items
+            (IsStringTaken of_bytes len (last_of self.old) b (count_of self.old) result)) }
+        ensures refused { (b : List ℕ) → left_of R.remaining self.old ≡ Some b →
+            IfErr result (λ e. IsRefusedBy (left_of R.remaining self.new) e
+            (ContentRefuses of_bytes len (last_of self.old) b (count_of self.old))) }
+    {
         append_string(
             self.reader,
             &mut self.count,
+            keep,
             Kind::Bytes,
             len,
             self.last,
@@ -206,11 +270,35 @@ impl<'a, R: Read> Decoder<'a, R> {
             IfErr result (λ e. IsRefusedBy (left_of R.remaining self.new) e
             (ContentRefuses of_text len (last_of self.old) b (count_of self.old))) }
     {
+        self.text_into_keeping(len, scratch, out, &mut Answered)
+    }
+
+    /// What `text_into` does; a reader's error goes to `keep`.
+    #[inline(always)]
+    pub fn text_into_keeping<K: Keep>(
+        &mut self,
+        len: Option<usize>,
+        scratch: &mut [u8],
+        out: &mut String,
+        keep: &mut K,
+    ) -> Result<(), Error<K::Kept>>
+        requires { pushed_of self.old ≡ None }
+        ensures same_reader { HasSameReader self.old self.new }
+        ensures none_pushed { pushed_of self.new ≡ None }
+        ensures last { last_of self.new ≡ last_of self.old }
+        ensures taken { Takes R.remaining self.old self.new
+            (λ b. Grows (string_bytes out.old) (string_bytes out.new)
+            (IsStringTaken of_text len (last_of self.old) b (count_of self.old) result)) }
+        ensures refused { (b : List ℕ) → left_of R.remaining self.old ≡ Some b →
+            IfErr result (λ e. IsRefusedBy (left_of R.remaining self.new) e
+            (ContentRefuses of_text len (last_of self.old) b (count_of self.old))) }
+    {
         let empty = String::new(*out.allocator());
         let mut bytes = mem::replace(out, empty).into_bytes();
         let result = append_string(
             self.reader,
             &mut self.count,
+            keep,
             Kind::Text,
             len,
             self.last,

@@ -9,17 +9,19 @@ ghost use Rattle.ciborium_ll.specs.Refusal.{argument_length};
 ghost use Rattle.ciborium_ll.specs.Reading.{Advances, IsFillTaken, IsHeadTaken};
 
 use crate::header::{Error, Header};
+use crate::keep::Keep;
 use crate::parsing::parse_head;
 use std::io::{self, ErrorKind, Read};
 
 // Fills the buffer, which does not pass the greatest offset. A read of nothing or a fault of the
 // device ends it.
 #[inline(always)]
-fn fill_within<R: Read>(
+fn fill_within<R: Read, K: Keep>(
     reader: &mut R,
     buffer: &mut [u8],
     count: &mut usize,
-) -> Result<(), Error<io::Error>>
+    keep: &mut K,
+) -> Result<(), Error<K::Kept>>
     requires { count.old + length buffer.old ≤ usize.MAX }
     ensures fits { count.new ≤ usize.MAX }
     ensures bytes { Advances (R.remaining reader.old) (R.remaining reader.new) count.old count.new
@@ -28,12 +30,12 @@ fn fill_within<R: Read>(
     let mut filled = 0;
     while filled < buffer.len() {
         match reader.read(&mut buffer[filled..]) {
-            Ok(0) => return Err(Error::Io(io::Error::from(ErrorKind::UnexpectedEof))),
+            Ok(0) => return Err(Error::Io(keep.keep(io::Error::from(ErrorKind::UnexpectedEof)))),
             Ok(n) => {
                 filled += n;
                 *count += n;
             }
-            Err(e) => return Err(Error::Io(e)),
+            Err(e) => return Err(Error::Io(keep.keep(e))),
         }
     }
     Ok(())
@@ -41,11 +43,12 @@ fn fill_within<R: Read>(
 
 // Fills the buffer, and reads nothing where that would pass the greatest offset.
 #[inline(always)]
-pub(crate) fn fill<R: Read>(
+pub(crate) fn fill<R: Read, K: Keep>(
     reader: &mut R,
     buffer: &mut [u8],
     count: &mut usize,
-) -> Result<(), Error<io::Error>>
+    keep: &mut K,
+) -> Result<(), Error<K::Kept>>
     ensures fits { count.new ≤ usize.MAX }
     ensures bytes { Advances (R.remaining reader.old) (R.remaining reader.new) count.old count.new
         (λ b. IsFillTaken b count.old buffer.new result) }
@@ -53,7 +56,7 @@ pub(crate) fn fill<R: Read>(
     if usize::MAX - *count < buffer.len() {
         return Err(Error::TooLong);
     }
-    fill_within(reader, buffer, count)
+    fill_within(reader, buffer, count, keep)
 }
 
 // How many bytes of payload a definite string's head announces.
@@ -69,20 +72,21 @@ fn payload_size(header: Header) -> usize
 
 // Reads the argument behind the initial byte of the head at this offset.
 #[inline(always)]
-fn read_argument<R: Read>(
+fn read_argument<R: Read, K: Keep>(
     reader: &mut R,
     count: &mut usize,
+    keep: &mut K,
     start: usize,
     initial: u8,
     argument: &mut [u8],
-) -> Result<Header, Error<io::Error>>
+) -> Result<Header, Error<K::Kept>>
     requires behind { count.old ≡ start + 1 }
     requires whole { length argument.old ≡ argument_length (initial % 32) }
     ensures fits { count.new ≤ usize.MAX }
     ensures head { Advances (R.remaining reader.old) (R.remaining reader.new) count.old count.new
         (λ b. IsHeadTaken (initial ∷ b) start result) }
 {
-    fill(reader, argument, count)?;
+    fill(reader, argument, count, keep)?;
     let Some(header) = parse_head(initial, argument) else {
         return Err(Error::Syntax(start));
     };
@@ -110,22 +114,23 @@ fn argument_size(info: u8) -> usize
 
 // Reads the head at the front.
 #[inline(always)]
-pub(crate) fn read_head<R: Read>(
+pub(crate) fn read_head<R: Read, K: Keep>(
     reader: &mut R,
     count: &mut usize,
-) -> Result<Header, Error<io::Error>>
+    keep: &mut K,
+) -> Result<Header, Error<K::Kept>>
     ensures fits { count.new ≤ usize.MAX }
     ensures head { Advances (R.remaining reader.old) (R.remaining reader.new) count.old count.new
         (λ b. IsHeadTaken b count.old result) }
 {
     let start = *count;
     let mut first = [0u8; 1];
-    fill(reader, &mut first, count)?;
+    fill(reader, &mut first, count, keep)?;
     let initial = first[0];
     let size = argument_size(initial % 32);
     if size == 0 {
-        return read_argument(reader, count, start, initial, &mut []);
+        return read_argument(reader, count, keep, start, initial, &mut []);
     }
     let mut room = [0u8; 8];
-    read_argument(reader, count, start, initial, &mut room[..size])
+    read_argument(reader, count, keep, start, initial, &mut room[..size])
 }

@@ -7,8 +7,9 @@ ghost use Rattle.ciborium_ll.specs.Strings.{Grows, IsPart, IsPartsTaken, IsPaylo
 ghost use Rattle.ciborium_ll.specs.Strings.{IsPiecesTaken, IsStringTaken, kind_of};
 
 use crate::header::{Error, Header};
+use crate::keep::Keep;
 use crate::reading::{fill, read_head};
-use std::io::{self, Read};
+use std::io::Read;
 
 // What a string holds.
 #[derive(Clone, Copy)]
@@ -22,13 +23,14 @@ const OWN_SCRATCH: usize = 64;
 
 // Appends n bytes, in pieces of at most the length of the scratch.
 #[inline(always)]
-fn append_pieces<R: Read>(
+fn append_pieces<R: Read, K: Keep>(
     reader: &mut R,
     count: &mut usize,
+    keep: &mut K,
     n: usize,
     scratch: &mut [u8],
     out: &mut Vec<u8>,
-) -> Result<(), Error<io::Error>>
+) -> Result<(), Error<K::Kept>>
     requires room { 0 < length scratch.old }
     requires below { count.old + n ≤ usize.MAX }
     ensures fits { count.new ≤ usize.MAX }
@@ -39,7 +41,7 @@ fn append_pieces<R: Read>(
     while left > 0 {
         let size = left.min(scratch.len());
         let piece = &mut scratch[..size];
-        fill(reader, piece, count)?;
+        fill(reader, piece, count, keep)?;
         if out.extend_from_slice(piece).is_err() {
             return Err(Error::Memory);
         }
@@ -50,13 +52,14 @@ fn append_pieces<R: Read>(
 
 // Appends n bytes, whatever the length of the scratch.
 #[inline(always)]
-fn append_bytes<R: Read>(
+fn append_bytes<R: Read, K: Keep>(
     reader: &mut R,
     count: &mut usize,
+    keep: &mut K,
     n: usize,
     scratch: &mut [u8],
     out: &mut Vec<u8>,
-) -> Result<(), Error<io::Error>>
+) -> Result<(), Error<K::Kept>>
     requires { count.old + n ≤ usize.MAX }
     ensures fits { count.new ≤ usize.MAX }
     ensures bytes { Advances (R.remaining reader.old) (R.remaining reader.new) count.old count.new
@@ -64,9 +67,9 @@ fn append_bytes<R: Read>(
 {
     if scratch.is_empty() {
         let mut own = [0u8; OWN_SCRATCH];
-        return append_pieces(reader, count, n, &mut own, out);
+        return append_pieces(reader, count, keep, n, &mut own, out);
     }
-    append_pieces(reader, count, n, scratch, out)
+    append_pieces(reader, count, keep, n, scratch, out)
 }
 
 // Whether a string of the kind may hold these bytes.
@@ -83,15 +86,16 @@ fn is_allowed(kind: Kind, payload: &[u8]) -> bool
 // Appends the payload, of n bytes, of a definite string whose head is at this offset. A refusal
 // takes what was appended of it off again.
 #[inline(always)]
-fn append_payload<R: Read>(
+fn append_payload<R: Read, K: Keep>(
     reader: &mut R,
     count: &mut usize,
+    keep: &mut K,
     kind: Kind,
     n: usize,
     head: usize,
     scratch: &mut [u8],
     out: &mut Vec<u8>,
-) -> Result<(), Error<io::Error>>
+) -> Result<(), Error<K::Kept>>
     requires { count.old + n ≤ usize.MAX }
     ensures fits { count.new ≤ usize.MAX }
     ensures bytes { Advances (R.remaining reader.old) (R.remaining reader.new) count.old count.new
@@ -99,7 +103,7 @@ fn append_payload<R: Read>(
         (IsPayloadTaken (kind_of kind) n head b result)) }
 {
     let start = out.len();
-    if let Err(e) = append_bytes(reader, count, n, scratch, out) {
+    if let Err(e) = append_bytes(reader, count, keep, n, scratch, out) {
         out.truncate(start);
         return Err(e);
     }
@@ -130,13 +134,14 @@ fn part_of(kind: Kind, header: Header) -> Part
 
 // Appends the payloads of the parts of an open string, to the break.
 #[inline(never)]
-fn append_parts<R: Read>(
+fn append_parts<R: Read, K: Keep>(
     reader: &mut R,
     count: &mut usize,
+    keep: &mut K,
     kind: Kind,
     scratch: &mut [u8],
     out: &mut Vec<u8>,
-) -> Result<(), Error<io::Error>>
+) -> Result<(), Error<K::Kept>>
     ensures fits { count.new ≤ usize.MAX }
     ensures bytes { Advances (R.remaining reader.old) (R.remaining reader.new) count.old count.new
         (λ b. Grows out.old.items out.new.items
@@ -144,10 +149,10 @@ fn append_parts<R: Read>(
 {
     let mut head = *count;
     'parts: loop {
-        let header = read_head(reader, count)?;
+        let header = read_head(reader, count, keep)?;
         match part_of(kind, header) {
             Part::End => return Ok(()),
-            Part::Definite(n) => append_payload(reader, count, kind, n, head, scratch, out)?,
+            Part::Definite(n) => append_payload(reader, count, keep, kind, n, head, scratch, out)?,
             Part::Other => return Err(Error::Syntax(head)),
         }
         head = *count;
@@ -156,15 +161,16 @@ fn append_parts<R: Read>(
 
 /// Appends the payload of the string of this length (`None`: open) whose head is at this offset.
 #[inline(always)]
-pub(crate) fn append_string<R: Read>(
+pub(crate) fn append_string<R: Read, K: Keep>(
     reader: &mut R,
     count: &mut usize,
+    keep: &mut K,
     kind: Kind,
     len: Option<usize>,
     head: usize,
     scratch: &mut [u8],
     out: &mut Vec<u8>,
-) -> Result<(), Error<io::Error>>
+) -> Result<(), Error<K::Kept>>
     ensures fits { count.new ≤ usize.MAX }
     ensures bytes { Advances (R.remaining reader.old) (R.remaining reader.new) count.old count.new
         (λ b. Grows out.old.items out.new.items
@@ -175,8 +181,8 @@ pub(crate) fn append_string<R: Read>(
             if usize::MAX - *count < n {
                 return Err(Error::TooLong);
             }
-            append_payload(reader, count, kind, n, head, scratch, out)
+            append_payload(reader, count, keep, kind, n, head, scratch, out)
         }
-        None => append_parts(reader, count, kind, scratch, out),
+        None => append_parts(reader, count, keep, kind, scratch, out),
     }
 }

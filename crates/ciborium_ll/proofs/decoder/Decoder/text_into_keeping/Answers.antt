@@ -3,7 +3,7 @@ use Rattle.std.specs.Prelude.{IsUtf8}
 use Rattle.std.proofs.lemmas.Str.{IsUtf8-string_bytes}
 use Rattle.ciborium_ll.specs.StringRefusal.{of_text}
 use Rattle.ciborium_ll.proofs.Unread.{refused-string, grown-utf8}
-use Rattle.ciborium_ll.proofs.decoder.Decoder.text_into.Goals as goal
+use Rattle.ciborium_ll.proofs.decoder.Decoder.text_into_keeping.Goals as goal
 
 pub from_utf8_unchecked-requires : goal.from_utf8_unchecked-requires
 from_utf8_unchecked-requires g c = grown-utf8 c.args.len c.args.self.now.last _ _ _ _ _ _ _ (subst (λ v. IsUtf8 v.items) (sym c.into_bytes-bytes.ensures.value) (IsUtf8-string_bytes c.replace.result)) c.append_string-result.ensures.bytes

@@ -1,7 +1,7 @@
 use Rattle.std.proofs.Common.{◌≡◌, None, refl, subst}
 use Rattle.ciborium_ll.specs.Decoding.{IsAheadBy}
 use Rattle.ciborium_ll.proofs.Unread.{pulls-head}
-use Rattle.ciborium_ll.proofs.decoder.Decoder.pull.Goals as goal
+use Rattle.ciborium_ll.proofs.decoder.Decoder.pull_keeping.Goals as goal
 
 pub returns-clause-ahead : goal.returns-clause-ahead
 returns-clause-ahead g c b p h =
