@@ -28,6 +28,7 @@ mod OwnTypes
 mod FrontReads
 mod ItemHeads
 mod SkippedTags
+mod PutAside
 mod ReadDigits
 mod SpelledStrings
 mod StringPayloads

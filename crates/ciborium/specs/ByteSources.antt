@@ -178,6 +178,15 @@ cause_of RecursionLimitExceeded = of_nesting
 cause_of Memory = of_memory
 cause_of TooLong = of_device
 
+-- what is left of it where the reader's error is put aside
+abbrev pub refusal_of : {E : Type 0} → Error E → Error Unit
+refusal_of (Io e) = Io tt
+refusal_of (Syntax p) = Syntax p
+refusal_of (Semantic p k) = Semantic p k
+refusal_of RecursionLimitExceeded = RecursionLimitExceeded
+refusal_of Memory = Memory
+refusal_of TooLong = TooLong
+
 -- ---- a value of any shape
 
 -- the head alone spells an item, and it gives this tree at every limit

@@ -51,8 +51,12 @@ fn read<T: Deserialize, R: Read>(
         pending: None,
         levels: limit,
         scratch,
+        failure: None,
     };
-    T::deserialize(alloc, &mut source)
+    match T::deserialize(alloc, &mut source) {
+        Ok(value) => Ok(value),
+        Err(refusal) => Err(source.put_back(refusal)),
+    }
 }
 
 /// Reads one value of any type that is `Deserialize`: just the bytes of the item at the front, of

@@ -3,9 +3,11 @@
 ghost use Rattle.std.specs.Prelude.{◌≡◌, None};
 ghost use Rattle.ciborium_ll.specs.Decoding.{pushed_of};
 
+use crate::de::error::Error;
 use ciborium_ll::{Decoder, Header};
-use std::vec;
+use std::{io, vec};
 
+mod aside;
 mod byte_lists;
 mod characters;
 mod containers;
@@ -18,6 +20,10 @@ mod source;
 mod strings;
 mod values;
 
+// Why a call was refused. The reader's error is kept aside in the source: it is large, and a result
+// that held it would be moved at every level.
+pub(crate) type Refusal = Error<()>;
+
 // Reads each head and payload as it comes. A head that was looked at and not taken is pending, with
 // its offset; so is one that stands for what is not in the bytes, as a byte of a byte string that
 // is read as numbers.
@@ -27,6 +33,7 @@ pub(crate) struct ByteSource<'a, R> {
     pub(crate) pending: Option<(Header, usize)>,
     pub(crate) levels: usize,
     pub(crate) scratch: &'a mut [u8],
+    pub(crate) failure: Option<io::Error>,
     ghost unpushed: { pushed_of decoder ≡ None },
 }
 

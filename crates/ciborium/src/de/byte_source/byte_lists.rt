@@ -10,16 +10,16 @@ ghost use Rattle.ciborium_value.specs.Taken.{taken_bytes};
 ghost use Rattle.ciborium.specs.ByteSources.{IsUnread, Owes, ReadsRest, RefusesRest, StandsBefore};
 ghost use Rattle.ciborium.specs.ByteSources.{cause_of, seq_left, weight_left};
 
-use crate::de::byte_source::{ByteSeq, ByteSource};
+use crate::de::byte_source::{ByteSeq, ByteSource, Refusal};
 use crate::de::error::Error;
 use ciborium_ll::Header;
 use ciborium_value::Kind;
 use std::alloc::Global;
-use std::io::{self, Read};
+use std::io::Read;
 
 // The byte that a number at this offset is.
 #[inline(always)]
-fn to_byte(number: (bool, u128), offset: usize) -> Result<u8, Error<io::Error>>
+fn to_byte(number: (bool, u128), offset: usize) -> Result<u8, Refusal>
     ensures ok { IfOk result (λ byte. number_below 256 number ≡ gives byte) }
     ensures refused { IfErr result (λ e. IsFaultOf (cause_of e) (number_below 256 number)) }
 {
@@ -36,7 +36,7 @@ fn to_byte(number: (bool, u128), offset: usize) -> Result<u8, Error<io::Error>>
 impl<'a, R: Read> ByteSource<'a, R> {
     // The items that are left of a sequence, each a number that is a byte.
     #[inline(never)]
-    fn read_byte_items(&mut self, alloc: Global, seq: ByteSeq) -> Result<Vec<u8>, Error<io::Error>>
+    fn read_byte_items(&mut self, alloc: Global, seq: ByteSeq) -> Result<Vec<u8>, Refusal>
         ensures same_reader { HasSameReader self.old.decoder self.new.decoder }
         ensures ok { IfOk result (λ v. ReadsRest R.remaining self.old self.new seq
             (λ l is. take_each (taken_byte l) is) v.items) }
@@ -64,7 +64,7 @@ impl<'a, R: Read> ByteSource<'a, R> {
     }
 
     #[inline(always)]
-    pub(crate) fn read_bytes(&mut self, alloc: Global) -> Result<Vec<u8>, Error<io::Error>>
+    pub(crate) fn read_bytes(&mut self, alloc: Global) -> Result<Vec<u8>, Refusal>
         ensures same_reader { HasSameReader self.old.decoder self.new.decoder }
         ensures ok { IfOk result (λ v.
             Takes (StandsBefore R.remaining) self.old self.new taken_bytes v.items) }

@@ -7,18 +7,18 @@ ghost use Rattle.ciborium_value.specs.Taken.{gives, lone_character, taken_charac
 ghost use Rattle.ciborium.specs.ByteSources.{IsUnread, cause_of, weight_left};
 ghost use Rattle.ciborium.specs.ItemReads.{Denies, Reads};
 
-use crate::de::byte_source::ByteSource;
+use crate::de::byte_source::{ByteSource, Refusal};
 use crate::de::error::Error;
 use ciborium_ll::Header;
 use ciborium_value::Kind;
-use std::io::{self, Read};
+use std::io::Read;
 use std::str;
 
 // How many bytes a character takes in UTF-8, at most.
 const GREATEST_CHARACTER_SIZE: usize = 4;
 
 // The one character of the payload of a text at this offset.
-fn only_character(payload: &[u8], offset: usize) -> Result<char, Error<io::Error>>
+fn only_character(payload: &[u8], offset: usize) -> Result<char, Refusal>
     ensures utf8 { OnOk result (IsUtf8 payload.now) }
     ensures ok { IfOk result (λ c. lone_character (chars payload.now) ≡ gives c) }
     ensures refused { IfErr result (λ e.
@@ -42,7 +42,7 @@ fn only_character(payload: &[u8], offset: usize) -> Result<char, Error<io::Error
 
 impl<'a, R: Read> ByteSource<'a, R> {
     /// The one character of a definite text. A text that is longer than any character is not read.
-    pub(crate) fn read_character(&mut self) -> Result<char, Error<io::Error>>
+    pub(crate) fn read_character(&mut self) -> Result<char, Refusal>
         ensures same_reader { HasSameReader self.old.decoder self.new.decoder }
         ensures levels { self.new.levels ≡ self.old.levels }
         ensures pending { OnOk result (self.new.pending ≡ None) }

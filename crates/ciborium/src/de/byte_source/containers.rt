@@ -13,21 +13,17 @@ ghost use Rattle.ciborium.specs.ByteSources.{left_of, seq_left, weight_left};
 ghost use Rattle.ciborium.specs.ItemReads.{Denies};
 ghost use Rattle.ciborium.specs.StringContents.{DeniesContent, TakesContent};
 
-use crate::de::byte_source::{ByteSeq, ByteSource, Left};
+use crate::de::byte_source::{ByteSeq, ByteSource, Left, Refusal};
 use crate::de::error::Error;
 use ciborium_ll::Header;
 use ciborium_value::Kind;
 use std::alloc::Global;
-use std::io::{self, Read};
+use std::io::Read;
 
 impl<'a, R: Read> ByteSource<'a, R> {
     /// Takes a level for the container at this offset with so many parts (`None`: open).
     #[inline(always)]
-    pub(crate) fn enter(
-        &mut self,
-        count: Option<usize>,
-        offset: usize,
-    ) -> Result<ByteSeq, Error<io::Error>>
+    pub(crate) fn enter(&mut self, count: Option<usize>, offset: usize) -> Result<ByteSeq, Refusal>
         ensures decoder { self.new.decoder ≡ self.old.decoder }
         ensures pending { self.new.pending ≡ self.old.pending }
         ensures some { OnOk result (self.old.levels ≢ 0) }
@@ -64,7 +60,7 @@ impl<'a, R: Read> ByteSource<'a, R> {
         alloc: Global,
         len: Option<usize>,
         offset: usize,
-    ) -> Result<ByteSeq, Error<io::Error>>
+    ) -> Result<ByteSeq, Refusal>
         requires { self.old.pending ≡ None }
         ensures same_reader { HasSameReader self.old.decoder self.new.decoder }
         ensures levels { self.new.levels ≡ self.old.levels }
@@ -87,7 +83,7 @@ impl<'a, R: Read> ByteSource<'a, R> {
     }
 
     #[inline(always)]
-    pub(crate) fn open_seq(&mut self, alloc: Global) -> Result<ByteSeq, Error<io::Error>>
+    pub(crate) fn open_seq(&mut self, alloc: Global) -> Result<ByteSeq, Refusal>
         ensures same_reader { HasSameReader self.old.decoder self.new.decoder }
         ensures levels { IfOk result (λ q. q.levels ≡ self.old.levels) }
         ensures pending { OnOk result (self.new.pending ≡ None) }
@@ -113,7 +109,7 @@ impl<'a, R: Read> ByteSource<'a, R> {
     }
 
     #[inline(always)]
-    pub(crate) fn open_map(&mut self) -> Result<ByteSeq, Error<io::Error>>
+    pub(crate) fn open_map(&mut self) -> Result<ByteSeq, Refusal>
         ensures same_reader { HasSameReader self.old.decoder self.new.decoder }
         ensures levels { IfOk result (λ q. q.levels ≡ self.old.levels) }
         ensures pending { OnOk result (self.new.pending ≡ None) }
@@ -137,7 +133,7 @@ impl<'a, R: Read> ByteSource<'a, R> {
 
     /// Whether a further item or pair is ahead; the container is left where none is.
     #[inline(always)]
-    pub(crate) fn next_part(&mut self, seq: &mut ByteSeq) -> Result<bool, Error<io::Error>>
+    pub(crate) fn next_part(&mut self, seq: &mut ByteSeq) -> Result<bool, Refusal>
         ensures same_reader { HasSameReader self.old.decoder self.new.decoder }
         ensures ok { IfOk result (λ b. MatchBool b
             (GoesOn (StandsBefore R.remaining) SeqStands self.old self.new seq.old seq.new)

@@ -8,12 +8,12 @@ ghost use Rattle.ciborium.specs.ByteSources.{weight_left};
 ghost use Rattle.ciborium.specs.ItemReads.{DeniesHead, DeniesItem, TakesHead};
 ghost use Rattle.ciborium.specs.Skips.{IsBare, IsEndTag, TakesBare};
 
-use crate::de::byte_source::ByteSource;
+use crate::de::byte_source::{ByteSource, Refusal};
 use crate::de::error::Error;
 use ciborium_ll::Header;
 use ciborium_ll::tag::{BIGNEG, BIGPOS};
 use ciborium_value::Kind;
-use std::io::{self, Read};
+use std::io::Read;
 
 // Whether a tag is not skipped: that of a bignum, where numbers are wanted.
 #[inline(always)]
@@ -26,7 +26,7 @@ fn is_end_tag(numbers: bool, tag: u64) -> bool
 impl<'a, R: Read> ByteSource<'a, R> {
     /// The next head, and its offset.
     #[inline(always)]
-    pub(crate) fn next_head(&mut self) -> Result<(Header, usize), Error<io::Error>>
+    pub(crate) fn next_head(&mut self) -> Result<(Header, usize), Refusal>
         ensures same_reader { HasSameReader self.old.decoder self.new.decoder }
         ensures levels { self.new.levels ≡ self.old.levels }
         ensures pending { self.new.pending ≡ None }
@@ -44,7 +44,7 @@ impl<'a, R: Read> ByteSource<'a, R> {
             return Ok((header, offset));
         }
         let offset = self.decoder.offset();
-        let header = self.decoder.pull()?;
+        let header = self.decoder.pull_keeping(&mut self.failure)?;
         Ok((header, offset))
     }
 
@@ -55,7 +55,7 @@ impl<'a, R: Read> ByteSource<'a, R> {
     ///
     /// `Semantic` with `Break` where a break stands there.
     #[inline(always)]
-    pub(crate) fn bare_head(&mut self, numbers: bool) -> Result<(Header, usize), Error<io::Error>>
+    pub(crate) fn bare_head(&mut self, numbers: bool) -> Result<(Header, usize), Refusal>
         ensures same_reader { HasSameReader self.old.decoder self.new.decoder }
         ensures levels { self.new.levels ≡ self.old.levels }
         ensures pending { OnOk result (self.new.pending ≡ None) }

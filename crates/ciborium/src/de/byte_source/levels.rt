@@ -10,12 +10,12 @@ ghost use Rattle.ciborium.specs.ByteSources.{cause_of, weight_left};
 ghost use Rattle.ciborium.specs.ItemReads.{Denies};
 ghost use Rattle.ciborium.specs.Skips.{OpensLevel};
 
-use crate::de::byte_source::{ByteLevel, ByteSource};
+use crate::de::byte_source::{ByteLevel, ByteSource, Refusal};
 use crate::de::error::Error;
 use ciborium_ll::{Header, simple};
 use ciborium_value::Kind;
 use std::alloc::Global;
-use std::io::{self, Read};
+use std::io::Read;
 
 fn is_one(count: Option<usize>) -> bool
     ensures { MatchBool result (count ≡ Some 1) (count ≢ Some 1) }
@@ -29,7 +29,7 @@ fn is_one(count: Option<usize>) -> bool
 impl<'a, R: Read> ByteSource<'a, R> {
     // Takes the level of a tag or a variant.
     #[inline(always)]
-    fn take_level(&mut self) -> Result<ByteLevel, Error<io::Error>>
+    fn take_level(&mut self) -> Result<ByteLevel, Refusal>
         ensures decoder { self.new.decoder ≡ self.old.decoder }
         ensures pending { self.new.pending ≡ self.old.pending }
         ensures some { IfOk result (λ level. TakesLevel self.old self.new level) }
@@ -57,7 +57,7 @@ impl<'a, R: Read> ByteSource<'a, R> {
 
     /// The tag ahead, if there is one, and the level that was taken.
     #[inline(always)]
-    pub(crate) fn open_tag(&mut self) -> Result<(Option<u64>, ByteLevel), Error<io::Error>>
+    pub(crate) fn open_tag(&mut self) -> Result<(Option<u64>, ByteLevel), Refusal>
         ensures same_reader { HasSameReader self.old.decoder self.new.decoder }
         ensures level { IfOk result (λ p. TakesLevel self.old self.new p.1) }
         ensures fewer { OnOk result (weight_left self.new ≤ weight_left self.old) }
@@ -85,10 +85,7 @@ impl<'a, R: Read> ByteSource<'a, R> {
     /// The name of a variant, and the level that was taken. Its data is ahead: for a text a null
     /// that is not in the bytes, with the offset of the text.
     #[inline(always)]
-    pub(crate) fn open_variant(
-        &mut self,
-        alloc: Global,
-    ) -> Result<(String, ByteLevel), Error<io::Error>>
+    pub(crate) fn open_variant(&mut self, alloc: Global) -> Result<(String, ByteLevel), Refusal>
         ensures same_reader { HasSameReader self.old.decoder self.new.decoder }
         ensures level { IfOk result (λ p. TakesLevel self.old self.new p.1) }
         ensures fewer { OnOk result (weight_left self.new ≤ weight_left self.old) }

@@ -6,17 +6,17 @@ ghost use Rattle.ciborium_value.specs.Taken.{taken_name};
 ghost use Rattle.ciborium.specs.ByteSources.{IsUnread, cause_of, weight_left};
 ghost use Rattle.ciborium.specs.ItemReads.{Denies, Reads};
 
-use crate::de::byte_source::ByteSource;
+use crate::de::byte_source::{ByteSource, Refusal};
 use crate::de::error::Error;
 use ciborium_ll::Header;
 use ciborium_value::Kind;
 use std::alloc::Global;
-use std::io::{self, Read};
+use std::io::Read;
 
 impl<'a, R: Read> ByteSource<'a, R> {
     /// A text, or a byte string that is UTF-8 once its parts are joined.
     #[inline(always)]
-    pub(crate) fn read_name(&mut self, alloc: Global) -> Result<String, Error<io::Error>>
+    pub(crate) fn read_name(&mut self, alloc: Global) -> Result<String, Refusal>
         ensures same_reader { HasSameReader self.old.decoder self.new.decoder }
         ensures levels { self.new.levels ≡ self.old.levels }
         ensures pending { OnOk result (self.new.pending ≡ None) }

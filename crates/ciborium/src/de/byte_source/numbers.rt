@@ -12,12 +12,12 @@ ghost use Rattle.ciborium.specs.ItemReads.{Denies, Reads};
 ghost use Rattle.ciborium.specs.StringContents.{DeniesContent, TakesDigits, TakesNumber};
 ghost use Rattle.ciborium.specs.StringContents.{one_digit_more};
 
-use crate::de::byte_source::ByteSource;
+use crate::de::byte_source::{ByteSource, Refusal};
 use crate::de::error::Error;
 use ciborium_ll::Header;
 use ciborium_ll::tag::BIGNEG;
 use ciborium_value::Kind;
-use std::io::{self, Read};
+use std::io::Read;
 
 // The number with one byte more, or none where 128 bits do not hold it.
 #[inline(always)]
@@ -58,11 +58,7 @@ fn only_byte(room: &[u8; 1]) -> u8
 
 impl<'a, R: Read> ByteSource<'a, R> {
     // The number with the next bytes, `len` of them, as its further digits.
-    fn read_digits(
-        &mut self,
-        len: usize,
-        start: Option<u128>,
-    ) -> Result<Option<u128>, Error<io::Error>>
+    fn read_digits(&mut self, len: usize, start: Option<u128>) -> Result<Option<u128>, Refusal>
         requires { self.old.pending ≡ None }
         ensures same_reader { HasSameReader self.old.decoder self.new.decoder }
         ensures levels { self.new.levels ≡ self.old.levels }
@@ -77,7 +73,8 @@ impl<'a, R: Read> ByteSource<'a, R> {
         let mut left = len;
         while left > 0 {
             let mut room = [0u8; 1];
-            self.decoder.read_exact(&mut room)?;
+            self.decoder
+                .read_exact_keeping(&mut room, &mut self.failure)?;
             let _end = self.decoder.offset();
             number = with_digit(number, only_byte(&room));
             left -= 1;
@@ -87,7 +84,7 @@ impl<'a, R: Read> ByteSource<'a, R> {
 
     // The number that the byte string makes whose head was taken last. It is read whole, also where
     // 128 bits do not hold it.
-    fn read_number(&mut self, len: Option<usize>) -> Result<Option<u128>, Error<io::Error>>
+    fn read_number(&mut self, len: Option<usize>) -> Result<Option<u128>, Refusal>
         requires { self.old.pending ≡ None }
         ensures same_reader { HasSameReader self.old.decoder self.new.decoder }
         ensures levels { self.new.levels ≡ self.old.levels }
@@ -123,7 +120,7 @@ impl<'a, R: Read> ByteSource<'a, R> {
 
     // The number under the tag of a bignum, which was taken last and stands at this offset.
     #[inline(never)]
-    fn read_bignum(&mut self, tag_offset: usize) -> Result<u128, Error<io::Error>>
+    fn read_bignum(&mut self, tag_offset: usize) -> Result<u128, Refusal>
         ensures same_reader { HasSameReader self.old.decoder self.new.decoder }
         ensures levels { self.new.levels ≡ self.old.levels }
         ensures pending { OnOk result (self.new.pending ≡ None) }
@@ -151,11 +148,7 @@ impl<'a, R: Read> ByteSource<'a, R> {
     // The number under this tag of a bignum, which was taken last and stands at this offset. Apart
     // from `read_integer`, so that the room for an error is made ready only behind a tag.
     #[inline(always)]
-    fn read_tagged(
-        &mut self,
-        tag: u64,
-        offset: usize,
-    ) -> Result<((bool, u128), usize), Error<io::Error>>
+    fn read_tagged(&mut self, tag: u64, offset: usize) -> Result<((bool, u128), usize), Refusal>
         ensures same_reader { HasSameReader self.old.decoder self.new.decoder }
         ensures levels { self.new.levels ≡ self.old.levels }
         ensures pending { OnOk result (self.new.pending ≡ None) }
@@ -174,7 +167,7 @@ impl<'a, R: Read> ByteSource<'a, R> {
 
     /// A number, and the offset of its head or, for a bignum, of the tag of it.
     #[inline(always)]
-    pub(crate) fn read_integer(&mut self) -> Result<((bool, u128), usize), Error<io::Error>>
+    pub(crate) fn read_integer(&mut self) -> Result<((bool, u128), usize), Refusal>
         ensures same_reader { HasSameReader self.old.decoder self.new.decoder }
         ensures levels { self.new.levels ≡ self.old.levels }
         ensures pending { OnOk result (self.new.pending ≡ None) }

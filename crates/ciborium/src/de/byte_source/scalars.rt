@@ -7,11 +7,11 @@ ghost use Rattle.ciborium_value.specs.Taken.{is_null_simple, taken_boolean, take
 ghost use Rattle.ciborium.specs.ByteSources.{IsUnread, cause_of, weight_left};
 ghost use Rattle.ciborium.specs.ItemReads.{Denies, Reads};
 
-use crate::de::byte_source::ByteSource;
+use crate::de::byte_source::{ByteSource, Refusal};
 use crate::de::error::Error;
 use ciborium_ll::{Header, simple};
 use ciborium_value::Kind;
-use std::io::{self, Read};
+use std::io::Read;
 
 /// Whether a simple value is null or undefined.
 #[inline(always)]
@@ -23,7 +23,7 @@ pub(crate) fn is_null(number: u8) -> bool
 
 impl<'a, R: Read> ByteSource<'a, R> {
     #[inline(always)]
-    pub(crate) fn read_boolean(&mut self) -> Result<bool, Error<io::Error>>
+    pub(crate) fn read_boolean(&mut self) -> Result<bool, Refusal>
         ensures same_reader { HasSameReader self.old.decoder self.new.decoder }
         ensures levels { self.new.levels ≡ self.old.levels }
         ensures pending { OnOk result (self.new.pending ≡ None) }
@@ -50,7 +50,7 @@ impl<'a, R: Read> ByteSource<'a, R> {
     }
 
     #[inline(always)]
-    pub(crate) fn read_unit(&mut self) -> Result<(), Error<io::Error>>
+    pub(crate) fn read_unit(&mut self) -> Result<(), Refusal>
         ensures same_reader { HasSameReader self.old.decoder self.new.decoder }
         ensures levels { self.new.levels ≡ self.old.levels }
         ensures pending { OnOk result (self.new.pending ≡ None) }

@@ -4,15 +4,15 @@ ghost use Rattle.ciborium.specs.ByteSources.{IsUnread, LevelStands, Owes, ReadsV
 ghost use Rattle.ciborium.specs.ByteSources.{StandsBefore, cause_of, seq_left, weight_left};
 
 use crate::de::byte_source::scalars::is_null;
-use crate::de::byte_source::{ByteLevel, ByteSeq, ByteSource};
+use crate::de::byte_source::{ByteLevel, ByteSeq, ByteSource, Refusal};
 use crate::de::error::Error;
 use ciborium_ll::Header;
 use ciborium_value::{Kind, Source, Value};
 use std::alloc::Global;
-use std::io::{self, Read};
+use std::io::Read;
 
 impl<'a, R: Read> Source for ByteSource<'a, R> {
-    type Error = Error<io::Error>;
+    type Error = Refusal;
 
     type Seq = ByteSeq;
 
@@ -39,43 +39,43 @@ impl<'a, R: Read> Source for ByteSource<'a, R> {
     ghost cause = { cause_of };
 
     #[inline(always)]
-    fn integer(&mut self) -> Result<(bool, u128), Error<io::Error>> {
+    fn integer(&mut self) -> Result<(bool, u128), Refusal> {
         let (number, _) = self.read_integer()?;
         Ok(number)
     }
 
     #[inline(always)]
-    fn boolean(&mut self) -> Result<bool, Error<io::Error>> {
+    fn boolean(&mut self) -> Result<bool, Refusal> {
         self.read_boolean()
     }
 
     #[inline(always)]
-    fn unit(&mut self) -> Result<(), Error<io::Error>> {
+    fn unit(&mut self) -> Result<(), Refusal> {
         self.read_unit()
     }
 
     #[inline(always)]
-    fn character(&mut self) -> Result<char, Error<io::Error>> {
+    fn character(&mut self) -> Result<char, Refusal> {
         self.read_character()
     }
 
     #[inline(always)]
-    fn text(&mut self, alloc: Global) -> Result<String, Error<io::Error>> {
+    fn text(&mut self, alloc: Global) -> Result<String, Refusal> {
         self.read_text(alloc)
     }
 
     #[inline(always)]
-    fn bytes(&mut self, alloc: Global) -> Result<Vec<u8>, Error<io::Error>> {
+    fn bytes(&mut self, alloc: Global) -> Result<Vec<u8>, Refusal> {
         self.read_bytes(alloc)
     }
 
     #[inline(always)]
-    fn name(&mut self, alloc: Global) -> Result<String, Error<io::Error>> {
+    fn name(&mut self, alloc: Global) -> Result<String, Refusal> {
         self.read_name(alloc)
     }
 
     #[inline(always)]
-    fn null_ahead(&mut self) -> Result<bool, Error<io::Error>> {
+    fn null_ahead(&mut self) -> Result<bool, Refusal> {
         let (header, offset) = self.next_head()?;
         match header {
             Header::Simple(number) => {
@@ -94,7 +94,7 @@ impl<'a, R: Read> Source for ByteSource<'a, R> {
     }
 
     #[inline(always)]
-    fn begin_tag(&mut self) -> Result<(Option<u64>, ByteLevel), Error<io::Error>> {
+    fn begin_tag(&mut self) -> Result<(Option<u64>, ByteLevel), Refusal> {
         self.open_tag()
     }
 
@@ -104,7 +104,7 @@ impl<'a, R: Read> Source for ByteSource<'a, R> {
     }
 
     #[inline(always)]
-    fn begin_variant(&mut self, alloc: Global) -> Result<(String, ByteLevel), Error<io::Error>> {
+    fn begin_variant(&mut self, alloc: Global) -> Result<(String, ByteLevel), Refusal> {
         self.open_variant(alloc)
     }
 
@@ -114,32 +114,32 @@ impl<'a, R: Read> Source for ByteSource<'a, R> {
     }
 
     #[inline(always)]
-    fn begin_seq(&mut self, alloc: Global) -> Result<ByteSeq, Error<io::Error>> {
+    fn begin_seq(&mut self, alloc: Global) -> Result<ByteSeq, Refusal> {
         self.open_seq(alloc)
     }
 
     #[inline(always)]
-    fn begin_map(&mut self) -> Result<ByteSeq, Error<io::Error>> {
+    fn begin_map(&mut self) -> Result<ByteSeq, Refusal> {
         self.open_map()
     }
 
     #[inline(always)]
-    fn next(&mut self, seq: &mut ByteSeq) -> Result<bool, Error<io::Error>> {
+    fn next(&mut self, seq: &mut ByteSeq) -> Result<bool, Refusal> {
         self.next_part(seq)
     }
 
     #[inline(always)]
-    fn value(&mut self, alloc: Global) -> Result<Value, Error<io::Error>> {
+    fn value(&mut self, alloc: Global) -> Result<Value, Refusal> {
         self.read_whole_value(alloc)
     }
 
     #[inline(always)]
-    fn refuse(&self, kind: Kind) -> Error<io::Error> {
+    fn refuse(&self, kind: Kind) -> Refusal {
         Error::Semantic(None, kind)
     }
 
     #[inline(always)]
-    fn memory(&self) -> Error<io::Error> {
+    fn memory(&self) -> Refusal {
         Error::Memory
     }
 }

@@ -10,16 +10,16 @@ ghost use Rattle.ciborium.specs.ByteSources.{IsUnread, bytes_weight, cause_of, w
 ghost use Rattle.ciborium.specs.ItemReads.{Denies, Reads};
 ghost use Rattle.ciborium.specs.StringContents.{DeniesContent, TakesContent, TakesJust};
 
-use crate::de::byte_source::ByteSource;
+use crate::de::byte_source::{ByteSource, Refusal};
 use crate::de::error::Error;
 use ciborium_ll::Header;
 use ciborium_value::Kind;
 use std::alloc::Global;
-use std::io::{self, Read};
+use std::io::Read;
 
 impl<'a, R: Read> ByteSource<'a, R> {
     /// Fills the buffer with the next bytes.
-    pub(crate) fn fill(&mut self, buffer: &mut [u8]) -> Result<(), Error<io::Error>>
+    pub(crate) fn fill(&mut self, buffer: &mut [u8]) -> Result<(), Refusal>
         requires { self.old.pending ≡ None }
         ensures same_reader { HasSameReader self.old.decoder self.new.decoder }
         ensures levels { self.new.levels ≡ self.old.levels }
@@ -30,7 +30,7 @@ impl<'a, R: Read> ByteSource<'a, R> {
         ensures outside { IfErr result (λ e. IsOutside (cause_of e)) }
         ensures memory { IfErr result (λ e. IsGranted (cause_of e) false) }
     {
-        self.decoder.read_exact(buffer)?;
+        self.decoder.read_exact_keeping(buffer, &mut self.failure)?;
         let _end = self.decoder.offset();
         Ok(())
     }
@@ -41,7 +41,7 @@ impl<'a, R: Read> ByteSource<'a, R> {
         &mut self,
         alloc: Global,
         len: Option<usize>,
-    ) -> Result<Vec<u8>, Error<io::Error>>
+    ) -> Result<Vec<u8>, Refusal>
         requires { self.old.pending ≡ None }
         ensures same_reader { HasSameReader self.old.decoder self.new.decoder }
         ensures levels { self.new.levels ≡ self.old.levels }
@@ -54,7 +54,8 @@ impl<'a, R: Read> ByteSource<'a, R> {
             (λ e. DeniesContent (IsUnread R.remaining self.old) of_bytes len (cause_of e)) }
     {
         let mut out = Vec::new(alloc);
-        self.decoder.bytes_into(len, self.scratch, &mut out)?;
+        self.decoder
+            .bytes_into_keeping(len, self.scratch, &mut out, &mut self.failure)?;
         let _end = self.decoder.offset();
         Ok(out)
     }
@@ -65,7 +66,7 @@ impl<'a, R: Read> ByteSource<'a, R> {
         &mut self,
         alloc: Global,
         len: Option<usize>,
-    ) -> Result<String, Error<io::Error>>
+    ) -> Result<String, Refusal>
         requires { self.old.pending ≡ None }
         ensures same_reader { HasSameReader self.old.decoder self.new.decoder }
         ensures levels { self.new.levels ≡ self.old.levels }
@@ -77,13 +78,14 @@ impl<'a, R: Read> ByteSource<'a, R> {
             (λ e. DeniesContent (IsUnread R.remaining self.old) of_text len (cause_of e)) }
     {
         let mut out = String::new(alloc);
-        self.decoder.text_into(len, self.scratch, &mut out)?;
+        self.decoder
+            .text_into_keeping(len, self.scratch, &mut out, &mut self.failure)?;
         let _end = self.decoder.offset();
         Ok(out)
     }
 
     #[inline(always)]
-    pub(crate) fn read_text(&mut self, alloc: Global) -> Result<String, Error<io::Error>>
+    pub(crate) fn read_text(&mut self, alloc: Global) -> Result<String, Refusal>
         ensures same_reader { HasSameReader self.old.decoder self.new.decoder }
         ensures levels { self.new.levels ≡ self.old.levels }
         ensures pending { OnOk result (self.new.pending ≡ None) }

@@ -32,6 +32,7 @@ fn find_refusal(alloc: Global, call: Call, bytes: &[u8], levels: usize) -> Optio
         pending: None,
         levels,
         scratch: &mut [],
+        failure: None,
     };
     let error = match call {
         Call::Integer => source.integer().err(),
@@ -44,7 +45,8 @@ fn find_refusal(alloc: Global, call: Call, bytes: &[u8], levels: usize) -> Optio
         Call::Dictionary => source.begin_map().err(),
         Call::Value => source.value(alloc).err(),
     };
-    error.map(name_reason)
+    let refusal = error?;
+    Some(name_reason(source.put_back(refusal)))
 }
 
 const CALLS: [Call; 9] = [
@@ -149,6 +151,7 @@ fn parts_are_read_in_turn(rt: HostRuntime) -> Result<(), Fail> {
         pending: None,
         levels: 2,
         scratch: &mut [],
+        failure: None,
     };
     let mut pairs = source.begin_map()?;
     assert!(rt; source.next(&mut pairs)?);
@@ -198,10 +201,14 @@ fn strings_are_read_in_every_form(rt: HostRuntime) -> Result<(), Fail> {
             pending: None,
             levels: 1,
             scratch: &mut [],
+            failure: None,
         };
         match source.bytes(rt.alloc()) {
             Ok(content) => assert_eq!(rt; content.as_slice(), &[0x01u8, 0xff][..], "{text}"),
-            Err(error) => assert_eq!(rt; name_reason(error), Reason::Syntax(4), "{text}"),
+            Err(refusal) => {
+                let reason = name_reason(source.put_back(refusal));
+                assert_eq!(rt; reason, Reason::Syntax(4), "{text}");
+            }
         }
     }
     let bytes = decode_hex(rt.alloc(), "c161617f61c360ff")?;
@@ -211,11 +218,13 @@ fn strings_are_read_in_every_form(rt: HostRuntime) -> Result<(), Fail> {
         pending: None,
         levels: 0,
         scratch: &mut [],
+        failure: None,
     };
     assert_eq!(rt; source.character()?, 'a');
-    assert_eq!(rt;
-        source.text(rt.alloc()).err().map(name_reason),
-        Some(Reason::Syntax(4))
-    );
+    let reason = match source.text(rt.alloc()) {
+        Ok(_) => None,
+        Err(refusal) => Some(name_reason(source.put_back(refusal))),
+    };
+    assert_eq!(rt; reason, Some(Reason::Syntax(4)));
     Ok(())
 }

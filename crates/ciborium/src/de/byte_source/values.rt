@@ -13,9 +13,9 @@ ghost use Rattle.ciborium.specs.ItemReads.{Denies, Reads};
 ghost use Rattle.ciborium.specs.Reads.{heads_left};
 
 use crate::de::building::read_value;
-use crate::de::byte_source::ByteSource;
+use crate::de::byte_source::aside::put_aside;
 use crate::de::byte_source::scalars::is_null;
-use crate::de::error::Error;
+use crate::de::byte_source::{ByteSource, Refusal};
 use ciborium_ll::{Decoder, Header};
 use ciborium_value::{Integer, Value};
 use std::alloc::Global;
@@ -44,7 +44,8 @@ fn read_unpushed<R: Read>(
     decoder: &mut Decoder<'_, R>,
     scratch: &mut [u8],
     levels: usize,
-) -> Result<Value, Error<io::Error>>
+    failure: &mut Option<io::Error>,
+) -> Result<Value, Refusal>
     ensures same_reader { HasSameReader decoder.old decoder.new }
     ensures rests { pushed_of decoder.new ≡ None }
     ensures fewer { OnOk result (heads_left decoder.new < heads_left decoder.old) }
@@ -56,13 +57,13 @@ fn read_unpushed<R: Read>(
         Ok(value) => Ok(value),
         Err(error) => {
             decoder.forget();
-            Err(error)
+            Err(put_aside(failure, error))
         }
     }
 }
 
 impl<'a, R: Read> ByteSource<'a, R> {
-    pub(crate) fn read_whole_value(&mut self, alloc: Global) -> Result<Value, Error<io::Error>>
+    pub(crate) fn read_whole_value(&mut self, alloc: Global) -> Result<Value, Refusal>
         ensures same_reader { HasSameReader self.old.decoder self.new.decoder }
         ensures levels { self.new.levels ≡ self.old.levels }
         ensures pending { OnOk result (self.new.pending ≡ None) }
@@ -78,12 +79,24 @@ impl<'a, R: Read> ByteSource<'a, R> {
                 Some(value) => Ok(value),
                 None => {
                     self.decoder.push(header, offset);
-                    let value = read_unpushed(alloc, &mut self.decoder, self.scratch, self.levels)?;
+                    let value = read_unpushed(
+                        alloc,
+                        &mut self.decoder,
+                        self.scratch,
+                        self.levels,
+                        &mut self.failure,
+                    )?;
                     Ok(value)
                 }
             },
             None => {
-                let value = read_unpushed(alloc, &mut self.decoder, self.scratch, self.levels)?;
+                let value = read_unpushed(
+                    alloc,
+                    &mut self.decoder,
+                    self.scratch,
+                    self.levels,
+                    &mut self.failure,
+                )?;
                 Ok(value)
             }
         }

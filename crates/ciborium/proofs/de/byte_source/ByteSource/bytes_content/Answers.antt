@@ -1,6 +1,5 @@
 use Rattle.std.proofs.Common.{subst, ap, ◌∙◌, arith}
 use Rattle.std.proofs.lemmas.Result.{err_from_is_err_and}
-use Rattle.std.specs.declared.io.Error.{Error}
 use Rattle.ciborium_ll.specs.Decoding.{next_offset}
 use Rattle.ciborium_ll.specs.StringRefusal.{of_bytes}
 use Rattle.ciborium.specs.ByteSources.{IsUnreadBy}
@@ -8,19 +7,19 @@ use Rattle.ciborium.proofs.SpelledStrings.{content-outside}
 use Rattle.ciborium.proofs.StringPayloads.{content-taken, content-fewer}
 use Rattle.ciborium.proofs.de.byte_source.ByteSource.bytes_content.Goals as goal
 
-pub returns-in_err-bytes_into-clause-denied : goal.returns-in_err-bytes_into-clause-denied
-returns-in_err-bytes_into-clause-denied g c =
+pub returns-in_err-bytes_into_keeping-clause-denied : goal.returns-in_err-bytes_into_keeping-clause-denied
+returns-in_err-bytes_into_keeping-clause-denied g c =
     let exit = err_from_is_err_and c.from_residual.result c.from_residual.ensures.1 in
     let d = c.args.self.now.decoder in
-    rw (exit.1, exit.2) (λ y x s z payload u hd sp e. content-outside (g.R.Read.remaining c.bytes_into.new.self.reader.now) c.in_err-bytes_into.field-0.0 of_bytes c.args.len d.last d.count y x s z payload hd sp e
-    (c.in_err-bytes_into.ensures.refused y (subst (λ o. IsUnreadBy g.R.Read.remaining d o y) c.requires u)))
+    rw (exit.1, exit.2) (λ y x s z payload u hd sp e. content-outside (g.R.Read.remaining c.bytes_into_keeping.new.self.reader.now) c.in_err-bytes_into_keeping.field-0.0 of_bytes c.args.len d.last d.count y x s z payload hd sp e
+    (c.in_err-bytes_into_keeping.ensures.refused y (subst (λ o. IsUnreadBy g.R.Read.remaining d o y) c.requires u)))
 
 pub returns-clause-ok : goal.returns-clause-ok
 returns-clause-ok g c =
-    content-taken Error g.R.Read.remaining c.args.self.now.decoder c.bytes_into.new.self c.args.self.now.pending of_bytes c.args.len c.new-out.result.items c.bytes_into.new.out.items c.requires c.new-out.ensures.items c.in_ok-bytes_into.ensures.taken
+    content-taken Unit g.R.Read.remaining c.args.self.now.decoder c.bytes_into_keeping.new.self c.args.self.now.pending of_bytes c.args.len c.new-out.result.items c.bytes_into_keeping.new.out.items c.requires c.new-out.ensures.items c.in_ok-bytes_into_keeping.ensures.taken
 
 pub returns-clause-fewer : goal.returns-clause-fewer
 returns-clause-fewer g c =
     let less = c.offset-end.type_inv in
-    let at = c.offset-end.ensures ∙ ap (next_offset c.bytes_into.new.self.count) c.bytes_into.ensures.none_pushed in
-    content-fewer Error g.R.Read.remaining c.args.self.now.decoder c.bytes_into.new.self of_bytes c.args.len c.new-out.result.items c.bytes_into.new.out.items c.new-out.ensures.items (omega (arith, less, at)) c.in_ok-bytes_into.ensures.taken
+    let at = c.offset-end.ensures ∙ ap (next_offset c.bytes_into_keeping.new.self.count) c.bytes_into_keeping.ensures.none_pushed in
+    content-fewer Unit g.R.Read.remaining c.args.self.now.decoder c.bytes_into_keeping.new.self of_bytes c.args.len c.new-out.result.items c.bytes_into_keeping.new.out.items c.new-out.ensures.items (omega (arith, less, at)) c.in_ok-bytes_into_keeping.ensures.taken

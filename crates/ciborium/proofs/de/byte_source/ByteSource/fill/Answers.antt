@@ -1,15 +1,14 @@
 use Rattle.std.proofs.Common.{ap, ◌∙◌, arith}
-use Rattle.std.specs.declared.io.Error.{Error}
 use Rattle.ciborium_ll.specs.Decoding.{next_offset}
 use Rattle.ciborium.proofs.LoneCharacters.{just-taken}
 use Rattle.ciborium.proofs.ReadDigits.{fill-fewer}
 use Rattle.ciborium.proofs.de.byte_source.ByteSource.fill.Goals as goal
 
 pub returns-clause-ok : goal.returns-clause-ok
-returns-clause-ok g c = just-taken Error g.R.Read.remaining c.args.self.now.decoder c.read_exact.new.self c.args.self.now.pending c.read_exact.new.buffer c.requires c.in_ok-read_exact.ensures.taken
+returns-clause-ok g c = just-taken Unit g.R.Read.remaining c.args.self.now.decoder c.read_exact_keeping.new.self c.args.self.now.pending c.read_exact_keeping.new.buffer c.requires c.in_ok-read_exact_keeping.ensures.taken
 
 pub returns-clause-fewer : goal.returns-clause-fewer
 returns-clause-fewer g c =
     let fits = c.offset-end.type_inv in
-    let at = c.offset-end.ensures ∙ ap (next_offset c.read_exact.new.self.count) c.read_exact.ensures.none_pushed in
-    fill-fewer Error g.R.Read.remaining c.args.self.now.decoder c.read_exact.new.self c.read_exact.new.buffer (omega (arith, fits, at)) c.in_ok-read_exact.ensures.taken
+    let at = c.offset-end.ensures ∙ ap (next_offset c.read_exact_keeping.new.self.count) c.read_exact_keeping.ensures.none_pushed in
+    fill-fewer Unit g.R.Read.remaining c.args.self.now.decoder c.read_exact_keeping.new.self c.read_exact_keeping.new.buffer (omega (arith, fits, at)) c.in_ok-read_exact_keeping.ensures.taken

@@ -1,5 +1,4 @@
 use Rattle.std.proofs.Common.{sym, ap, ◌∙◌, subst, arith}
-use Rattle.std.specs.declared.io.Error.{Error}
 use Rattle.ciborium_ll.specs.Decoding.{next_offset}
 use Rattle.ciborium.specs.ByteSources.{IsUnreadBy}
 use Rattle.ciborium.proofs.ReadDigits.{digit-more, fill-fewer}
@@ -8,19 +7,19 @@ use Rattle.ciborium.proofs.de.byte_source.ByteSource.read_digits.Goals as goal
 pub loop-left-preserved : goal.loop-left-preserved
 loop-left-preserved g c =
     let d = c.loop-left.self.decoder in
-    let e = c.read_exact.new.self in
+    let e = c.read_exact_keeping.new.self in
     let none = c.loop-left.invariant.pending in
-    let buffer = c.read_exact.new.buffer in
+    let buffer = c.read_exact_keeping.new.buffer in
     let fits = c.offset-end.type_inv in
-    let at = c.offset-end.ensures ∙ ap (next_offset e.count) c.in_ok-read_exact.ensures.none_pushed in
-    let fewer = fill-fewer Error g.R.Read.remaining d e buffer (omega (arith, fits, at)) c.in_ok-read_exact.ensures.taken in record {
-      same_reader = c.in_ok-read_exact.ensures.same_reader ∙ c.loop-left.invariant.same_reader;
+    let at = c.offset-end.ensures ∙ ap (next_offset e.count) c.in_ok-read_exact_keeping.ensures.none_pushed in
+    let fewer = fill-fewer Unit g.R.Read.remaining d e buffer (omega (arith, fits, at)) c.in_ok-read_exact_keeping.ensures.taken in record {
+      same_reader = c.in_ok-read_exact_keeping.ensures.same_reader ∙ c.loop-left.invariant.same_reader;
       levels = c.loop-left.invariant.levels;
       pending = none;
       fewer = omega (arith, fewer, c.loop-left.invariant.fewer);
       took = λ y u.
           let (t, z, len, bytes, val, split, un) = c.loop-left.invariant.took y u in
-          let (t', z', len', bytes', val', split', left') = digit-more Error g.R.Read.remaining d e buffer c.only_byte.result c.loop-left.left c.args.len c.args.start c.loop-left.number c.with_digit-number.result y c.only_byte.ensures c.loop-left-test.true c.with_digit-number.ensures c.in_ok-read_exact.ensures.taken
+          let (t', z', len', bytes', val', split', left') = digit-more Unit g.R.Read.remaining d e buffer c.only_byte.result c.loop-left.left c.args.len c.args.start c.loop-left.number c.with_digit-number.result y c.only_byte.ensures c.loop-left-test.true c.with_digit-number.ensures c.in_ok-read_exact_keeping.ensures.taken
           (t, z, len, bytes, val, split, subst (λ o. IsUnreadBy g.R.Read.remaining d o z) none un) in
           (t', z', len', bytes', val', split', subst (λ o. IsUnreadBy g.R.Read.remaining e o z') (sym none) left');
     }
