@@ -95,8 +95,8 @@ impl<V: Deserialize, const TAG: u64> Deserialize for Required<V, TAG> {
     }
 }
 
-/// The value under the tag or under none, as `Captured` reads it; under another tag it is refused as
-/// `Tag`.
+/// The value under the tag or under none, as `Captured` reads it; under another tag it is refused
+/// as `Tag`.
 impl<V: Deserialize, const TAG: u64> Deserialize for Accepted<V, TAG> {
     ghost Content = { V.Content };
 

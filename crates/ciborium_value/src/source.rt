@@ -137,8 +137,8 @@ pub trait Source {
         ensures took { OnOk result (TakesNothing is_unread self.old self.new) }
         ensures less { OnOk result (left self.new ≤ left self.old) };
 
-    /// The tag of the item ahead, if it has one (section 3.4), that of a bignum too; the source then
-    /// stands before what is under it. Takes a level, tag or none, for `end_tag` to give back.
+    /// The tag of the item ahead, if it has one (section 3.4), that of a bignum too; the source
+    /// then stands before what is under it. Takes a level, tag or none, for `end_tag` to give back.
     fn begin_tag(&mut self) -> Result<(Option<u64>, Self::Level), Self::Error>
         ensures ok { IfOk result (λ p. Holds stands_before level_stands self.old self.new
             taken_outer_tag p.0 p.1) }
