@@ -1,5 +1,5 @@
 -- What a decoder shows: its reader, the count of bytes read, the head that was pushed back, and where the last head stood.
-use Rattle.std.specs.Prelude.{◌≡◌, ℕ, ◌+◌, List, ◌++◌, length, Option, Some, None, Result, Ok, Err}
+use Rattle.std.specs.Prelude.{◌≡◌, ℕ, ◌+◌, List, ◌++◌, length, Option, Some, None, MatchOption, MatchResult, Result, Ok, Err}
 use Rattle.ciborium_ll.specs.declared.header.Header.{Header}
 use Rattle.ciborium_ll.specs.declared.header.Error.{Error}
 use Rattle.ciborium_ll.specs.declared.decoder.Decoder.{Decoder}
@@ -19,6 +19,17 @@ pushed_of d = d.pushed
 abbrev pub last_of : {S : Type 0} → Decoder S → ℕ
 last_of d = d.last
 
+-- how many bytes the head has that was last taken from the reader, and 0 before the first
+abbrev pub head_len_of : {S : Type 0} → Decoder S → ℕ
+head_len_of d = d.head_len
+
+-- a head that is taken from the reader is measured; a pushed one that is answered, or a refusal, changes nothing
+abbrev pub MeasuresHead : {S E : Type 0} → Decoder S → Decoder S → Result Header (Error E) → Type 0
+MeasuresHead old new result =
+    MatchOption old.pushed
+    (MatchResult result (λ _. new.count ≡ old.count + new.head_len) (λ _. new.head_len ≡ old.head_len))
+    (λ _. new.head_len ≡ old.head_len)
+
 -- what the decoder's reader has left
 abbrev pub left_of : {S : Type 0} → (S → Option (List ℕ)) → Decoder S → Option (List ℕ)
 left_of remaining d = remaining d.reader.now
@@ -33,6 +44,7 @@ pub record HasBegun {S : Type 0} (d : Decoder S) (lent : S) (offset : ℕ) : Typ
   pub count : d.count ≡ offset
   pub pushed : d.pushed ≡ None
   pub last : d.last ≡ offset
+  pub head_len : d.head_len ≡ 0
 
 -- some bytes are taken from the reader and counted, and nothing else, and P holds of them
 abbrev pub Takes : {S : Type 0} → (S → Option (List ℕ)) → Decoder S → Decoder S → (List ℕ → Type 0) → Type 0
@@ -41,7 +53,7 @@ Takes remaining old new P = Advances (remaining old.reader.now) (remaining new.r
 -- the decoder, as it stands where just u is left of its reader
 abbrev pub with_left : {S : Type 0} → Decoder S → List ℕ → Decoder (List ℕ)
 with_left d u =
-    record { reader = record { ref_ptr = d.reader.ref_ptr; ghost_name = d.reader.ghost_name; now = u }; count = d.count; pushed = d.pushed; last = d.last; fits = d.fits }
+    record { reader = record { ref_ptr = d.reader.ref_ptr; ghost_name = d.reader.ghost_name; now = u }; count = d.count; pushed = d.pushed; last = d.last; head_len = d.head_len; fits = d.fits }
 
 -- some bytes are taken from the reader and counted, and nothing else; P holds of the decoder before and after, whatever follows
 -- those bytes. So it is said of a reader whose bytes nobody knows, too.

@@ -10,6 +10,11 @@ pub data Kind : Type 0 where
   Simple : Kind
   Break : Kind
   TooLarge : Kind
+  -- a deterministic reader alone refuses these
+  NotShortest : Kind
+  Open : Kind
+  NotFolded : Kind
+  KeyOrder : Kind
 
 -- what reading answers in place of a value; numbers are offsets
 pub data Refusal : Type 0 where

@@ -20,6 +20,7 @@ pub struct Decoder<'a, R> {
     count: usize,
     pushed: Option<(Header, usize)>,
     last: usize,
+    head_len: usize,
     ghost fits: { count ≤ greatest_offset },
 }
 
@@ -27,8 +28,9 @@ impl<'a, R: Read> Decoder<'a, R> {
     ghost use Rattle.std.specs.Prelude.{◌≡◌, IfErr, IfNone, IfSome, List, None, Ok, Some, ℕ};
     ghost use Rattle.std.specs.Prelude.{string_bytes};
     ghost use Rattle.ciborium_ll.specs.Decoding.{HasBegun, HasSameReader, IsAhead, IsUnread};
-    ghost use Rattle.ciborium_ll.specs.Decoding.{Pulls, Takes};
-    ghost use Rattle.ciborium_ll.specs.Decoding.{count_of, last_of, left_of, offset_of, pushed_of};
+    ghost use Rattle.ciborium_ll.specs.Decoding.{MeasuresHead, Pulls, Takes};
+    ghost use Rattle.ciborium_ll.specs.Decoding.{count_of, head_len_of, last_of, left_of};
+    ghost use Rattle.ciborium_ll.specs.Decoding.{offset_of, pushed_of};
     ghost use Rattle.ciborium_ll.specs.Reading.{IsFillTaken, IsHeadTaken, IsRefusedBy};
     ghost use Rattle.ciborium_ll.specs.StringRefusal.{ContentRefuses, of_bytes, of_text};
     ghost use Rattle.ciborium_ll.specs.Strings.{Grows, IsStringTaken};
@@ -51,6 +53,7 @@ impl<'a, R: Read> Decoder<'a, R> {
             count: offset,
             pushed: None,
             last: offset,
+            head_len: 0,
         }
     }
 
@@ -66,6 +69,15 @@ impl<'a, R: Read> Decoder<'a, R> {
         }
     }
 
+    /// How many bytes the head has that `pull` last took from the reader, and 0 before the first.
+    /// Giving a head back, and answering one that was given back, leaves it.
+    #[inline(always)]
+    pub fn head_len(&self) -> usize
+        ensures { result ≡ head_len_of self.now }
+    {
+        self.head_len
+    }
+
     /// Gives one head back, with its offset. The next `pull` answers it and reads nothing.
     #[inline(always)]
     pub fn push(&mut self, header: Header, offset: usize)
@@ -73,6 +85,7 @@ impl<'a, R: Read> Decoder<'a, R> {
         ensures same_reader { HasSameReader self.old self.new }
         ensures unread { IsUnread self.old self.new }
         ensures last { last_of self.new ≡ last_of self.old }
+        ensures head_len { head_len_of self.new ≡ head_len_of self.old }
         ensures pushed { pushed_of self.new ≡ Some (header, offset) }
     {
         self.pushed = Some((header, offset));
@@ -84,6 +97,7 @@ impl<'a, R: Read> Decoder<'a, R> {
         ensures same_reader { HasSameReader self.old self.new }
         ensures unread { IsUnread self.old self.new }
         ensures last { last_of self.new ≡ last_of self.old }
+        ensures head_len { head_len_of self.new ≡ head_len_of self.old }
         ensures none_pushed { pushed_of self.new ≡ None }
     {
         self.pushed = None;
@@ -109,6 +123,7 @@ impl<'a, R: Read> Decoder<'a, R> {
         ensures taken { IfNone (pushed_of self.old)
             (Takes R.remaining self.old self.new (λ b. IsHeadTaken b (count_of self.old) result)) }
         ensures last { IfNone (pushed_of self.old) (last_of self.new ≡ count_of self.old) }
+        ensures head_len { MeasuresHead self.old self.new result }
 
         // The same, said of all that is unread.
         ensures ahead { (b : List ℕ) (p : ℕ) → IsAhead R.remaining self.old b p →
@@ -131,6 +146,7 @@ impl<'a, R: Read> Decoder<'a, R> {
         ensures taken { IfNone (pushed_of self.old)
             (Takes R.remaining self.old self.new (λ b. IsHeadTaken b (count_of self.old) result)) }
         ensures last { IfNone (pushed_of self.old) (last_of self.new ≡ count_of self.old) }
+        ensures head_len { MeasuresHead self.old self.new result }
 
         // The same, said of all that is unread.
         ensures ahead { (b : List ℕ) (p : ℕ) → IsAhead R.remaining self.old b p →
@@ -141,8 +157,13 @@ impl<'a, R: Read> Decoder<'a, R> {
             self.last = offset;
             return Ok(header);
         }
-        self.last = self.count;
-        read_head(self.reader, &mut self.count, keep)
+        let start = self.count;
+        self.last = start;
+        let pulled = read_head(self.reader, &mut self.count, keep);
+        if pulled.is_ok() {
+            self.head_len = self.count - start;
+        }
+        pulled
     }
 
     /// Fills the buffer with the next bytes.
@@ -157,6 +178,7 @@ impl<'a, R: Read> Decoder<'a, R> {
         ensures same_reader { HasSameReader self.old self.new }
         ensures none_pushed { pushed_of self.new ≡ None }
         ensures last { last_of self.new ≡ last_of self.old }
+        ensures head_len { head_len_of self.new ≡ head_len_of self.old }
         ensures taken { Takes R.remaining self.old self.new
             (λ b. IsFillTaken b (count_of self.old) buffer.new result) }
     {
@@ -174,6 +196,7 @@ impl<'a, R: Read> Decoder<'a, R> {
         ensures same_reader { HasSameReader self.old self.new }
         ensures none_pushed { pushed_of self.new ≡ None }
         ensures last { last_of self.new ≡ last_of self.old }
+        ensures head_len { head_len_of self.new ≡ head_len_of self.old }
         ensures taken { Takes R.remaining self.old self.new
             (λ b. IsFillTaken b (count_of self.old) buffer.new result) }
     {
@@ -201,6 +224,7 @@ impl<'a, R: Read> Decoder<'a, R> {
         ensures same_reader { HasSameReader self.old self.new }
         ensures none_pushed { pushed_of self.new ≡ None }
         ensures last { last_of self.new ≡ last_of self.old }
+        ensures head_len { head_len_of self.new ≡ head_len_of self.old }
         ensures taken { Takes R.remaining self.old self.new
             (λ b. Grows out.old.items out.new.items
             (IsStringTaken of_bytes len (last_of self.old) b (count_of self.old) result)) }
@@ -224,6 +248,7 @@ impl<'a, R: Read> Decoder<'a, R> {
         ensures same_reader { HasSameReader self.old self.new }
         ensures none_pushed { pushed_of self.new ≡ None }
         ensures last { last_of self.new ≡ last_of self.old }
+        ensures head_len { head_len_of self.new ≡ head_len_of self.old }
         ensures taken { Takes R.remaining self.old self.new
             (λ b. Grows out.old.items out.new.items
             (IsStringTaken of_bytes len (last_of self.old) b (count_of self.old) result)) }
@@ -263,6 +288,7 @@ impl<'a, R: Read> Decoder<'a, R> {
         ensures same_reader { HasSameReader self.old self.new }
         ensures none_pushed { pushed_of self.new ≡ None }
         ensures last { last_of self.new ≡ last_of self.old }
+        ensures head_len { head_len_of self.new ≡ head_len_of self.old }
         ensures taken { Takes R.remaining self.old self.new
             (λ b. Grows (string_bytes out.old) (string_bytes out.new)
             (IsStringTaken of_text len (last_of self.old) b (count_of self.old) result)) }
@@ -286,6 +312,7 @@ impl<'a, R: Read> Decoder<'a, R> {
         ensures same_reader { HasSameReader self.old self.new }
         ensures none_pushed { pushed_of self.new ≡ None }
         ensures last { last_of self.new ≡ last_of self.old }
+        ensures head_len { head_len_of self.new ≡ head_len_of self.old }
         ensures taken { Takes R.remaining self.old self.new
             (λ b. Grows (string_bytes out.old) (string_bytes out.new)
             (IsStringTaken of_text len (last_of self.old) b (count_of self.old) result)) }

@@ -195,6 +195,25 @@ fn a_fault_of_the_reader_is_the_answer(rt: HostRuntime) -> Result<(), Fail> {
     Ok(())
 }
 
+// The head that was taken last is measured; one that was given back stays measured.
+#[test]
+fn heads_are_measured(rt: HostRuntime) -> Result<(), Fail> {
+    let mut reader: &[u8] = &[0x19, 0x01, 0x00, 0xf6, 0x18];
+    let mut decoder = Decoder::new(&mut reader);
+    assert_eq!(rt; decoder.head_len(), 0);
+    let header = decoder.pull()?;
+    assert_eq!(rt; decoder.head_len(), 3);
+    decoder.push(header, 0);
+    assert_eq!(rt; decoder.head_len(), 3);
+    decoder.pull()?;
+    assert_eq!(rt; decoder.head_len(), 3);
+    decoder.pull()?;
+    assert_eq!(rt; decoder.head_len(), 1);
+    assert!(rt; decoder.pull().is_err());
+    assert_eq!(rt; decoder.head_len(), 1);
+    Ok(())
+}
+
 #[test]
 fn pushed_heads_and_exact_reads(rt: HostRuntime) -> Result<(), Fail> {
     let mut reader: &[u8] = &[0x83, 0x01, 0x02, 0x03, 0x04];
