@@ -438,7 +438,7 @@ not_short : (t : Bool) → (t && false) ≡ true → ⊥
 not_short true e = cc
 not_short false e = cc
 
-folding-folds : (t : ℕ) (r : List ℕ) (q : ℕ) (f : Front) → Face r q f → folding t f ≡ true → IsFoldingAt t r × (n : ℕ) × (k : ℕ) × (z : List ℕ) × (f ≡ counted 2 n z) × HasHead r 2 n k z × (n ≤ 16) × (q + k + n ≤ greatest_offset)
+pub folding-folds : (t : ℕ) (r : List ℕ) (q : ℕ) (f : Front) → Face r q f → folding t f ≡ true → IsFoldingAt t r × (n : ℕ) × (k : ℕ) × (z : List ℕ) × (f ≡ counted 2 n z) × HasHead r 2 n k z × (n ≤ 16) × (q + k + n ≤ greatest_offset)
 folding-folds t r q nothing face e = absurd face
 folding-folds t r q (counted m n z) face e =
     let a = and_true _ _ e in

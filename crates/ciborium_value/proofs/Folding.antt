@@ -90,7 +90,7 @@ KeepsBytes o None = Unit {0}
 KeepsBytes o (Some w) = short_bytes w ≡ o
 
 -- a bignum tag over few bytes folds
-folded-bignum : (t : ℕ) (b : List ℕ) → is_bignum_tag t ≡ true → length b ≤ 16 → folded (tag t (bytes b)) ≡ bignum_meaning t b
+pub folded-bignum : (t : ℕ) (b : List ℕ) → is_bignum_tag t ≡ true → length b ≤ 16 → folded (tag t (bytes b)) ≡ bignum_meaning t b
 folded-bignum t b is h =
     ap (λ c. tag_meaning t (cond c (short_bytes (bytes b)) None) (Some (bytes b))) is ∙
     ap (λ c. tag_meaning t (cond c (Some b) None) (Some (bytes b))) (le-leb (length b) 16 h)

@@ -70,7 +70,7 @@ text_bytes : (cs : List ℕ) → scalars cs ≡ true → AreBytes (encodes cs)
 text_bytes [] h = All-nil (λ x. x < 256)
 text_bytes (c ∷ cs) h = let p = and_parts _ _ h in All-append (λ x. x < 256) (encode c) (encodes cs) (char_bytes c p.0) (text_bytes cs p.1)
 
-utf8_bytes : (b : List ℕ) → IsUtf8 b → AreBytes b
+pub utf8_bytes : (b : List ℕ) → IsUtf8 b → AreBytes b
 utf8_bytes b (cs, h) = subst AreBytes h.1 (text_bytes cs h.0)
 
 -- ---- strings

@@ -9,11 +9,11 @@ pub mod BigEndian
 pub mod Bignums
 pub mod Folding
 pub mod Written
-mod Reader
+pub mod Reader
 pub mod Parts
 pub mod Steps
 pub mod Found
-mod Refused
+pub mod Refused
 pub mod Answered
 pub mod GoodBytes
 pub mod Outcome

@@ -42,7 +42,7 @@ head-refused (suc d) p b l e pos h = checked-some b p _ e h
 
 -- ---- strings
 
-rest-bytes : (b h r : List ℕ) → b ≡ h ++ r → EachIsByte b → EachIsByte r
+pub rest-bytes : (b h r : List ℕ) → b ≡ h ++ r → EachIsByte b → EachIsByte r
 rest-bytes b h r e x = bytes_after h r (subst EachIsByte e x)
 
 -- the head of a string that refuses, and what reading it answers
@@ -57,7 +57,7 @@ pub bytes_again : (b : List ℕ) → EachIsByte b → AllByRecursion (λ n. n < 
 bytes_again [] h = tt
 bytes_again (x ∷ b) h = (h.0, bytes_again b h.1)
 
-front_bytes : (s r : List ℕ) → EachIsByte (s ++ r) → EachIsByte s
+pub front_bytes : (s r : List ℕ) → EachIsByte (s ++ r) → EachIsByte s
 front_bytes [] r h = tt
 front_bytes (x ∷ s) r h = (h.0, front_bytes s r h.1)
 
@@ -125,7 +125,7 @@ open-refused k d p b l e h (q, at, (good, payloads, r, parts_of, room, split, f)
 
 -- ---- scalars
 
-float-front : (j : ℕ) (b : List ℕ) → j < 3 → (w : ℕ) × (front ((249 + j) ∷ b) ≡ raw w b)
+pub float-front : (j : ℕ) (b : List ℕ) → j < 3 → (w : ℕ) × (front ((249 + j) ∷ b) ≡ raw w b)
 float-front zero b h = (2, refl)
 float-front (suc zero) b h = (4, refl)
 float-front (suc (suc zero)) b h = (8, refl)
@@ -137,7 +137,7 @@ float-refused d p x b l pos h lo hi =
     let e : x ≡ 249 + (x - 249) = omega arith in
     head-at d p (x ∷ b) l (raw f.0 b) pos h (ap (λ y. front (y ∷ b)) e ∙ f.1)
 
-simple-front : (s : List ℕ) (n : ℕ) (r : List ℕ) → IsSimple s n → front (s ++ r) ≡ plain n r
+pub simple-front : (s : List ℕ) (n : ℕ) (r : List ℕ) → IsSimple s n → front (s ++ r) ≡ plain n r
 simple-front s n r (inl h) = ap (λ (c : List ℕ). front (c ++ r)) h.1 ∙ front-simple n r h.0
 simple-front s n r (inr h) = ap (λ (c : List ℕ). front (c ++ r)) h.2
 
@@ -190,7 +190,7 @@ and_true : (t u : Bool) → (t && u) ≡ true → (t ≡ true) × (u ≡ true)
 and_true true u h = (refl, h)
 and_true false u h = absurd cc
 
-not_folds : (t : ℕ) (r : List ℕ) (p : ℕ) → EachIsByte r → IsUsable r p → (IsFoldingAt t r → ⊥) → folding t (front r) ≡ false
+pub not_folds : (t : ℕ) (r : List ℕ) (p : ℕ) → EachIsByte r → IsUsable r p → (IsFoldingAt t r → ⊥) → folding t (front r) ≡ false
 not_folds t r p bytes h x = not_ok _ (λ e. let a = and_true _ _ e in x (of (front r) (faces r p bytes h) a.0 a.1))
   where
     of : (f : Front) → Face r p f → is_bignum_tag t ≡ true → short f ≡ true → IsFoldingAt t r

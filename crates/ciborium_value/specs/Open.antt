@@ -54,3 +54,17 @@ ended (tag n) = None
 abbrev pub closed : List Open → Option (Tree × List Open)
 closed [] = None
 closed (o ∷ os) = option_map (λ v. (v, os)) (ended o)
+
+-- the last of some keys, and one more
+abbrev pub with_last : List (Tree × Tree) → Tree → Option (Tree × Tree)
+with_last [] key = None
+with_last (p ∷ []) key = Some (p.0, key)
+with_last (p ∷ (q ∷ ps)) key = with_last (q ∷ ps) key
+
+-- the key that waits for its value in the innermost container, behind the key before it
+abbrev pub waiting_keys : List Open → Option (Tree × Tree)
+waiting_keys [] = None
+waiting_keys (array vs behind ∷ os) = None
+waiting_keys (map ps behind None ∷ os) = None
+waiting_keys (map ps behind (Some key) ∷ os) = with_last ps key
+waiting_keys (tag n ∷ os) = None

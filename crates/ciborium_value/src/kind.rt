@@ -39,4 +39,14 @@ pub enum Kind {
     Length,
     /// Free for implementations of users.
     Other,
+    /// A head is longer than it has to be, or undefined stands in place of null, where reading is
+    /// deterministic.
+    NotShortest,
+    /// An open string, array or map begins where reading is deterministic.
+    Open,
+    /// A bignum is a number of 64 bits, or has leading zeros, where reading is deterministic.
+    NotFolded,
+    /// A key does not follow the key before it in the canonical order where reading is
+    /// deterministic.
+    KeyOrder,
 }

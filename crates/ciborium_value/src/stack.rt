@@ -3,6 +3,7 @@
 ghost use Rattle.std.specs.Prelude.{◌≡◌, ◌∷◌, [], IfOk, List, MatchOption, None, OnErr, OnOk, Some};
 ghost use Rattle.std.specs.Prelude.{drop, length, map, option_map};
 ghost use Rattle.ciborium_value.specs.Open.{array, closed, ended, fill, map as open_map, placed};
+ghost use Rattle.ciborium_value.specs.Open.{waiting_keys};
 ghost use Rattle.ciborium_value.specs.Stack.{filled_of, open_of, opened, opens, opens_of};
 ghost use Rattle.ciborium_value.specs.Stack.{placed_of};
 ghost use Rattle.ciborium_value.specs.View.{pair_trees, tree_of};
@@ -208,6 +209,26 @@ impl Stack {
             placed (opens_of self.old) (tree_of value)) }
     {
         place(self.alloc, &mut self.frames, value)
+    }
+
+    /// The key that waits for its value in the innermost container, behind the key before it: none
+    /// where that is no map, or no key waits, or the key is the first.
+    #[inline(always)]
+    pub fn waiting_keys(&self) -> Option<(&Value, &Value)>
+        ensures { option_map (λ keys. (tree_of keys.0.now, tree_of keys.1.now)) result ≡
+            waiting_keys (opens_of self.now) }
+    {
+        match self.frames.last() {
+            Some(Frame::Map {
+                pairs,
+                key: Some(key),
+                ..
+            }) => match pairs.last() {
+                Some((before, _)) => Some((before, key)),
+                None => None,
+            },
+            _ => None,
+        }
     }
 
     /// Ends the innermost container at a break and takes it off, if a break may stand there. `None`
