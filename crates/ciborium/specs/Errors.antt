@@ -22,6 +22,10 @@ kind_of kinds.Float = Some refusal.Float
 kind_of kinds.Simple = Some refusal.Simple
 kind_of kinds.Break = Some refusal.Break
 kind_of kinds.TooLarge = Some refusal.TooLarge
+kind_of kinds.NotShortest = Some refusal.NotShortest
+kind_of kinds.Open = Some refusal.Open
+kind_of kinds.NotFolded = Some refusal.NotFolded
+kind_of kinds.KeyOrder = Some refusal.KeyOrder
 kind_of _ = None
 
 -- P holds of a refusal of a kind at an offset, and both are named

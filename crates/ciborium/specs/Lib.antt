@@ -18,3 +18,8 @@ pub mod ByteSources
 pub mod TypedReads
 pub mod Literals
 pub mod Tags
+pub mod Deterministic
+pub mod DeterministicRefusals
+pub mod DeterministicLaws
+pub mod DeterministicReads
+pub mod ItemSequences
