@@ -52,7 +52,7 @@ tag-refused remaining d e t l xs p x pushed pull a =
     (λ r f. (Refuses.tag_no_head t (length a.0) a.1 a.3 (stands remaining d t xs p a) f, no-break-tag remaining d t xs p a)) (pull a.1 (p + length a.0) (behind remaining d t xs p pushed a))
 
 -- where another header stands, the tag does not fold
-folds-not : (t : ℕ) (k : Header) (h r s : List ℕ) → IsFolding t k None → SpellsHeader h k → r ≡ h ++ s → ¬ IsFoldingAt t r
+pub folds-not : (t : ℕ) (k : Header) (h r s : List ℕ) → IsFolding t k None → SpellsHeader h k → r ≡ h ++ s → ¬ IsFoldingAt t r
 folds-not t k h r s none spelled split (big, n, size, z, (y, head, len, is), small) =
     none n (one_header_at_front h y s z k (header.Bytes (Some n)) spelled head (sym split ∙ is)).2 big small
 
@@ -76,7 +76,7 @@ tag-opened E remaining d e f t l at xs p k pushed pull other some here stays bac
 
 -- ---- a tag that folds
 
-folds-is : (t : ℕ) (bs : List ℕ) → is_bignum_tag t ≡ true → length bs ≤ 16 → folding_bytes t (item.bytes false bs) ≡ Some bs
+pub folds-is : (t : ℕ) (bs : List ℕ) → is_bignum_tag t ≡ true → length bs ≤ 16 → folding_bytes t (item.bytes false bs) ≡ Some bs
 folds-is t bs e lt = ap (λ x. cond x (cond (leb (length bs) 16) (Some bs) None) None) e ∙ ap (λ x. cond x (Some bs) None) (le-leb (length bs) 16 lt)
 
 fold-reads : (t l n : ℕ) (xs : List ℕ) (p : ℕ) (h r i s bs zs : List ℕ) (v : Tree) → Front xs p (header.Tag t) h r → Front r (p + length h) (header.Bytes (Some n)) i s → is_bignum_tag t ≡ true → n ≤ 16 → length bs ≡ n → AreBytes bs → s ≡ bs ++ zs →
@@ -105,7 +105,7 @@ not-false true e = refl
 not-false false e = absurd cc
 
 -- only tag 3 has numbers that are too large
-too-large : (t : ℕ) (b : List ℕ) → is_bignum_tag t ≡ true → bignum_meaning t b ≡ None → (t ≡ 3) × (2 ^ 127 ≤ big_endian b)
+pub too-large : (t : ℕ) (b : List ℕ) → is_bignum_tag t ≡ true → bignum_meaning t b ≡ None → (t ≡ 3) × (2 ^ 127 ≤ big_endian b)
 too-large t b big none =
     let large : (eqb t 3 && leb (2 ^ 127) (big_endian b)) ≡ true = not-false _ (sym (ap is_some none) ∙ bignum_meaning-some t b big) in
     let both = both-true _ _ large in

@@ -21,11 +21,11 @@ use Rattle.ciborium.specs.Answers.{AnswersItem, IsFailed, ReadsWhole, TakesBytes
 use Rattle.ciborium.specs.Errors.{IsRefusedBy}
 use Rattle.ciborium.proofs.Outcomes.{only-fails}
 
-inside : (u v : List ℕ) → Some u ≡ Some v → u ≡ v
+pub inside : (u v : List ℕ) → Some u ≡ Some v → u ≡ v
 inside u v e = cc
 
 -- of two beginnings of one list, one is a beginning of the other
-either-begins : (t s x y : List ℕ) → t ++ x ≡ s ++ y → ((r : List ℕ) × (s ≡ t ++ r)) ⊎ ((r : List ℕ) × (t ≡ s ++ r))
+pub either-begins : (t s x y : List ℕ) → t ++ x ≡ s ++ y → ((r : List ℕ) × (s ≡ t ++ r)) ⊎ ((r : List ℕ) × (t ≡ s ++ r))
 either-begins [] s x y e = inl (s, refl)
 either-begins (a ∷ t) [] x y e = inr (a ∷ t, refl)
 either-begins (a ∷ t) (b ∷ s) x y e = longer (either-begins t s x y (tails e))

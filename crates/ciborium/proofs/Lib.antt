@@ -47,3 +47,17 @@ mod HandedReaders
 mod HeldLevels
 mod NamedVariants
 mod ArrayItems
+mod JudgedHeads
+mod JudgedLeaves
+mod JudgedParts
+mod JudgedTags
+mod JudgedTurns
+mod JudgedAnswers
+mod StrictReader
+mod StrictBignums
+mod StrictParts
+mod StrictFound
+mod StrictRefused
+mod StrictAnswered
+mod StrictOutcome
+mod JudgedReaders

@@ -96,7 +96,7 @@ same-length : (os us : List Open) → more os ≡ more us → length us ≤ leng
 same-length os us e = let i : os ≡ us = cc e in omega (arith, ap length i)
 
 -- a value closes some, and opens none
-shallow : (os us : List Open) (v : Tree) → more us ≡ placed os v → length us ≤ length os
+pub shallow : (os us : List Open) (v : Tree) → more us ≡ placed os v → length us ≤ length os
 shallow [] us v e = absurd cc
 shallow (array vs None ∷ os) us v e = same-length (array (vs ++ v ∷ []) None ∷ os) us (sym e)
 shallow (array vs (Some (suc n)) ∷ os) us v e = same-length (array (vs ++ v ∷ []) (Some n) ∷ os) us (sym e)

@@ -162,7 +162,7 @@ folds-short t p never = by (is_bignum_tag t) (nat_le (length p) 16) never (leb-t
     by true false f g = refl
     by true true f g = absurd (f refl (g refl))
 
-folds-not : (t : ℕ) (zs taken us : List ℕ) (i : Item) → ¬ IsFoldingAt t zs → Spells taken i → zs ≡ taken ++ us → folding_bytes t i ≡ None
+pub folds-not : (t : ℕ) (zs taken us : List ℕ) (i : Item) → ¬ IsFoldingAt t zs → Spells taken i → zs ≡ taken ++ us → folding_bytes t i ≡ None
 folds-not t zs taken us (item.unsigned n) never s e = cond-nothing (is_bignum_tag t)
 folds-not t zs taken us (item.negative n) never s e = cond-nothing (is_bignum_tag t)
 folds-not t zs taken us (item.bytes true p) never s e = cond-nothing (is_bignum_tag t)

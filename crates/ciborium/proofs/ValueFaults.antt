@@ -42,6 +42,10 @@ kind_fault refusal.Float = of_kind kinds.Float
 kind_fault refusal.Simple = of_kind kinds.Simple
 kind_fault refusal.Break = of_kind kinds.Break
 kind_fault refusal.TooLarge = of_kind kinds.TooLarge
+kind_fault refusal.NotShortest = of_kind kinds.NotShortest
+kind_fault refusal.Open = of_kind kinds.Open
+kind_fault refusal.NotFolded = of_kind kinds.NotFolded
+kind_fault refusal.KeyOrder = of_kind kinds.KeyOrder
 
 -- the fault that a refusal is
 abbrev pub fault_of : Refusal → Fault

@@ -8,6 +8,7 @@ ghost use Rattle.ciborium.specs.TypedReads.{RefusesTaken, TakesGiven};
 
 mod building;
 mod byte_source;
+mod deterministic;
 mod error;
 mod front;
 mod parts;
@@ -18,6 +19,7 @@ use ciborium_ll::Decoder;
 pub use ciborium_value::{
     Deserialize, Key, NoField, Source, Wanted, WantedFields, read_fields, required,
 };
+pub use deterministic::from_reader_deterministic;
 pub use error::Error;
 use std::alloc::Global;
 use std::io::{self, Read};

@@ -6,6 +6,9 @@ ghost use Rattle.ciborium_value.specs.Sinks.{container_of, in_turn, named_value}
 ghost use Rattle.ciborium.specs.AnswerLaws.{OneAnswer};
 ghost use Rattle.ciborium.specs.CanonicalLaws.{IsCanonical, IsTotal, RiseCanonically};
 ghost use Rattle.ciborium.specs.CanonicalLaws.{TiesEqualOnes};
+ghost use Rattle.ciborium.specs.DeterministicLaws.{DeterministicOrRefused};
+ghost use Rattle.ciborium.specs.DeterministicLaws.{NeverBothDeterministically};
+ghost use Rattle.ciborium.specs.DeterministicLaws.{OneDeterministicRefusal, OneDeterministicTree};
 ghost use Rattle.ciborium.specs.EncodingLaws.{EncodingSpells, HeadsRise, OneTree, OthersAreLonger};
 ghost use Rattle.ciborium.specs.TypedReads.{SourcesAgree};
 ghost use Rattle.ciborium.specs.Writes.{IsNamedWritten};
@@ -67,4 +70,14 @@ pub fn order_of_canonical_values()
 /// but nesting.
 pub fn sources_agree<T: Deserialize>()
     ensures { SourcesAgree T.reading.taken }
+{}
+
+/// All bytes, at every offset and under every limit of levels, begin with bytes that are
+/// deterministic for a tree, or are refused by a deterministic reader, never both, with one
+/// refusal alone, and for one tree alone (RFC 8949, section 4.2).
+pub fn deterministic_or_refused()
+    ensures one_of { DeterministicOrRefused }
+    ensures never_both { NeverBothDeterministically }
+    ensures one_refusal { OneDeterministicRefusal }
+    ensures one_tree { OneDeterministicTree }
 {}

@@ -29,6 +29,9 @@ pub mod tag;
 mod typed_tests;
 pub mod value;
 
-pub use de::{from_reader, from_reader_with_buffer, from_reader_with_recursion_limit};
+pub use de::{
+    from_reader, from_reader_deterministic, from_reader_with_buffer,
+    from_reader_with_recursion_limit,
+};
 pub use ser::into_writer;
 pub use value::Value;

@@ -18,7 +18,9 @@ use std::io::{self, Read};
 
 // Passes on what was placed, or that memory was refused.
 #[inline(always)]
-fn pass_on(placed: Result<Option<Value>, AllocError>) -> Result<Option<Value>, Error<io::Error>>
+pub(super) fn pass_on(
+    placed: Result<Option<Value>, AllocError>,
+) -> Result<Option<Value>, Error<io::Error>>
     ensures ok { IfOk result (λ o. placed ≡ Ok o) }
     ensures err { IfErr result (λ e. e ≡ Error.Memory) }
 {

@@ -1,7 +1,9 @@
 //! What stands at the front, and its head.
 
-ghost use Rattle.std.specs.Prelude.{◌≡◌, ◌<◌, List, None, OnOk, Some, ℕ};
-ghost use Rattle.ciborium_ll.specs.Decoding.{HasSameReader, IsAhead, TakesBeforeAny, pushed_of};
+ghost use Rattle.std.specs.Prelude.{◌≡◌, ◌+◌, ◌<◌, List, None, OnOk, Some, ℕ};
+ghost use Rattle.ciborium_ll.specs.Decoding.{HasSameReader, IsAhead, TakesBeforeAny};
+ghost use Rattle.ciborium_ll.specs.Decoding.{count_of, head_len_of, offset_of, pushed_of};
+ghost use Rattle.ciborium.specs.DeterministicReads.{IsMeasured};
 ghost use Rattle.ciborium.specs.Parts.{IsHeadRead};
 ghost use Rattle.ciborium.specs.Reads.{heads_left};
 
@@ -28,6 +30,8 @@ pub(crate) fn pull<R: Read>(decoder: &mut Decoder<'_, R>) -> Result<Header, Erro
     ensures same_reader { HasSameReader decoder.old decoder.new }
     ensures pushed { pushed_of decoder.new ≡ None }
     ensures fewer { OnOk result (heads_left decoder.new < heads_left decoder.old) }
+    ensures measured { OnOk result (IsMeasured decoder.old →
+        count_of decoder.new ≡ offset_of decoder.old + head_len_of decoder.new) }
     ensures head { TakesBeforeAny R.remaining decoder.old decoder.new
         (λ d e. (xs : List ℕ) (p : ℕ) → IsAhead Some d xs p → IsHeadRead Some e xs p result) }
 {

@@ -20,7 +20,11 @@ use std::alloc::Global;
 use std::io::{self, Read};
 
 #[inline(always)]
-fn begin_array(alloc: Global, count: Option<usize>, levels: usize) -> Result<Part, Error<io::Error>>
+pub(super) fn begin_array(
+    alloc: Global,
+    count: Option<usize>,
+    levels: usize,
+) -> Result<Part, Error<io::Error>>
     ensures { IsArrayBegun count levels result }
 {
     if levels == 0 {
@@ -36,7 +40,11 @@ fn begin_array(alloc: Global, count: Option<usize>, levels: usize) -> Result<Par
 }
 
 #[inline(always)]
-fn begin_map(alloc: Global, count: Option<usize>, levels: usize) -> Result<Part, Error<io::Error>>
+pub(super) fn begin_map(
+    alloc: Global,
+    count: Option<usize>,
+    levels: usize,
+) -> Result<Part, Error<io::Error>>
     ensures { IsMapBegun count levels result }
 {
     if levels == 0 {
@@ -53,7 +61,7 @@ fn begin_map(alloc: Global, count: Option<usize>, levels: usize) -> Result<Part,
 
 #[tactic(auto, unfolding(ciborium_value::specs::Meaning::simple_meaning))]
 #[inline(always)]
-fn read_simple(number: u8, offset: usize) -> Result<Value, Error<io::Error>>
+pub(super) fn read_simple(number: u8, offset: usize) -> Result<Value, Error<io::Error>>
     ensures { IsSimpleRead number offset result }
 {
     match number {
@@ -65,7 +73,7 @@ fn read_simple(number: u8, offset: usize) -> Result<Value, Error<io::Error>>
 }
 
 // The payload of the byte string whose head was pulled last.
-fn read_bytes<R: Read>(
+pub(super) fn read_bytes<R: Read>(
     alloc: Global,
     decoder: &mut Decoder<'_, R>,
     scratch: &mut [u8],
@@ -85,7 +93,7 @@ fn read_bytes<R: Read>(
 }
 
 // The payload of the text whose head was pulled last.
-fn read_text<R: Read>(
+pub(super) fn read_text<R: Read>(
     alloc: Global,
     decoder: &mut Decoder<'_, R>,
     scratch: &mut [u8],

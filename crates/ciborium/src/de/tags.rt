@@ -19,7 +19,7 @@ use std::alloc::Global;
 use std::io::{self, Read};
 
 // The length of the byte string over which the tag folds (RFC 8949, section 3.4.3).
-fn find_folding(tag: u64, header: Header) -> Option<usize>
+pub(super) fn find_folding(tag: u64, header: Header) -> Option<usize>
     ensures { IsFolding tag header result }
 {
     match header {
@@ -35,7 +35,12 @@ fn find_folding(tag: u64, header: Header) -> Option<usize>
 }
 
 // What a tag at this offset means that folds over these bytes.
-fn fold(alloc: Global, tag: u64, payload: &[u8], offset: usize) -> Result<Value, Error<io::Error>>
+pub(super) fn fold(
+    alloc: Global,
+    tag: u64,
+    payload: &[u8],
+    offset: usize,
+) -> Result<Value, Error<io::Error>>
     requires tag { is_bignum_tag tag ≡ true }
     requires short { length payload.now ≤ 16 }
     ensures { IsFolded tag payload.now offset result }

@@ -73,6 +73,14 @@ pub fn cmp_value_counted(left: &Value, right: &Value) -> (Ordering, u64)
     (order, visits.count)
 }
 
+/// How many bytes the encoding of a value has, counted up to `u64::MAX`. It takes no memory.
+pub(crate) fn encoded_size(value: &Value) -> u64
+    ensures size { result ≡ encoded_size (tree_of value.now) }
+    ensures proper { IsProperTree (tree_of value.now) }
+{
+    measure(value, &mut Visits { count: 0 })
+}
+
 /// A value whose order is the canonical one, as of a map key. Two are equal where their contents
 /// are.
 #[derive(Debug, Drop)]

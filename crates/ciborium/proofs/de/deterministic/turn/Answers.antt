@@ -1,0 +1,61 @@
+use Rattle.std.proofs.Common.{◌++◌, ◌-◌, Some, Ok, Err, length, ap, subst}
+use Rattle.std.proofs.lemmas.Result.{err_from_is_err_and}
+use Rattle.std.specs.declared.io.Error.{Error}
+use Rattle.ciborium_ll.specs.Decoding.{with_left}
+use Rattle.ciborium_value.specs.Stack.{opens_of}
+use Rattle.ciborium_value.specs.View.{tree_of}
+use Rattle.ciborium.specs.declared.de.front.Part.TheVariants.{Whole, Opened, Ended}
+use Rattle.ciborium.proofs.JudgedAnswers.{Answers, answers-of, depth-kept, turn-ended, turn-opened, turn-refused, turn-whole}
+use Rattle.ciborium.proofs.de.deterministic.turn.Goals as goal
+
+pub returns-in_err-value-clause-turn : goal.returns-in_err-value-clause-turn
+returns-in_err-value-clause-turn g c =
+    let exit = err_from_is_err_and c.from_residual.result c.from_residual.ensures.1 in
+    let t = c.in_err-value.ensures.part in
+    rw (exit.1, exit.2) (
+      t.0,
+      t.1,
+      t.2,
+      λ z xs p s. turn-refused Some (with_left c.args.decoder.now (t.0 ++ z)) (with_left c.next.new.decoder z) (opens_of c.args.stack.now) c.args.levels xs p c.in_err-value.field-0.0
+          (subst (λ n. Answers {E = Error} Some (with_left c.args.decoder.now (t.0 ++ z)) (with_left c.next.new.decoder z) (c.args.levels - n) (Err c.in_err-value.field-0.0)) c.depth.ensures (t.3 z)) s,
+      t.4,
+    )
+
+pub returns-in-Whole-clause-depth : goal.returns-in-Whole-clause-depth
+returns-in-Whole-clause-depth g c = depth-kept c.place.result (opens_of c.args.stack.now) (opens_of c.place.new.stack) (tree_of c.in-Whole.value) c.offset.result c.args.levels c.place.ensures c.requires
+
+pub returns-in-Whole-clause-turn : goal.returns-in-Whole-clause-turn
+returns-in-Whole-clause-turn g c =
+    let t = c.in_ok-value.ensures.part in (
+      t.0,
+      t.1,
+      t.2,
+      λ z xs p s. turn-whole Some (with_left c.args.decoder.now (t.0 ++ z)) (with_left c.next.new.decoder z) (opens_of c.args.stack.now) (opens_of c.place.new.stack) c.args.levels xs p c.in-Whole.value c.offset.result c.place.result
+          (answers-of Error Some (with_left c.args.decoder.now (t.0 ++ z)) (with_left c.next.new.decoder z) (c.args.levels - c.depth.result) (c.args.levels - length (opens_of c.args.stack.now)) c.in_ok-value.field-0 (Whole c.in-Whole.value)
+          (ap (λ n. c.args.levels - n) c.depth.ensures) c.in-Whole.is (t.3 z)) c.offset.ensures c.place.ensures s,
+      t.4,
+    )
+
+pub returns-in-Ok-clause-turn : goal.returns-in-Ok-clause-turn
+returns-in-Ok-clause-turn g c =
+    let t = c.in_ok-value.ensures.part in (
+      t.0,
+      t.1,
+      t.2,
+      λ z xs p s. turn-opened Error Some (with_left c.args.decoder.now (t.0 ++ z)) (with_left c.next.new.decoder z) (opens_of c.args.stack.now) (opens_of c.open.new.self) c.args.levels xs p c.in-Opened.opening
+          (answers-of Error Some (with_left c.args.decoder.now (t.0 ++ z)) (with_left c.next.new.decoder z) (c.args.levels - c.depth.result) (c.args.levels - length (opens_of c.args.stack.now)) c.in_ok-value.field-0 (Opened c.in-Opened.opening)
+          (ap (λ n. c.args.levels - n) c.depth.ensures) c.in-Opened.is (t.3 z)) c.in-Ok.ensures.ok s,
+      t.4,
+    )
+
+pub returns-in-Ended-clause-turn : goal.returns-in-Ended-clause-turn
+returns-in-Ended-clause-turn g c =
+    let t = c.in_ok-value.ensures.part in (
+      t.0,
+      t.1,
+      t.2,
+      λ z xs p s. turn-ended Error Some (with_left c.args.decoder.now (t.0 ++ z)) (with_left c.next.new.decoder z) (opens_of c.args.stack.now) c.args.levels xs p c.offset-offset.result
+          (answers-of Error Some (with_left c.args.decoder.now (t.0 ++ z)) (with_left c.next.new.decoder z) (c.args.levels - c.depth.result) (c.args.levels - length (opens_of c.args.stack.now)) c.in_ok-value.field-0 Ended
+          (ap (λ n. c.args.levels - n) c.depth.ensures) c.in-Ended.is (t.3 z)) c.offset-offset.ensures s,
+      t.4,
+    )
