@@ -1,71 +1,84 @@
 -- What a line means, or why it is refused, and the text that answers it.
-use Rattle.std.proofs.Common.{◌≡◌, ◌≢◌, ℕ, List, ◌++◌, get_or, true, false, Some, Result, Ok, Err, IfErr, IfOk, IsErr, MatchResult, codes, refl, sym, ap, ◌∙◌, subst, arith}
+use Rattle.std.proofs.Common.{◌≡◌, ◌≢◌, ℕ, List, ◌++◌, get_or, true, false, Result, Ok, Err, IfErr, IfOk, IsErr, MatchResult, codes, refl, sym, ap, ◌∙◌, subst, arith}
 use Rattle.hex.specs.Hex.{decode_of}
 use Rattle.hex.specs.declared.error.FromHexError.{FromHexError}
 use Rattle.ciborium_ll.specs.Refusal.{io, syntax, too_long, semantic, recursion_limit_exceeded}
-use Rattle.ciborium_value.specs.Refuses.{IsReadAs}
 use Rattle.ciborium_value.specs.Tree.{Tree}
 use Rattle.cbor.specs.declared.answer.Answer.{Answer}
 use Rattle.cbor.specs.declared.answer.Answer.TheVariants as answers
 use Rattle.cbor.specs.declared.answer.Refusal.{Refusal}
 use Rattle.cbor.specs.declared.answer.Refusal.TheVariants.{Hex, Trailing, Io, Syntax, Semantic, Nesting, TooLong, Memory}
-use Rattle.cbor.specs.Answer.{AreRefused, IsAnsweredBy, IsRefused, answer_text, is_memory, kind_of_reason, refused_text}
+use Rattle.cbor.specs.declared.spelling.Spelling.{Spelling}
+use Rattle.cbor.specs.Answer.{AreRefused, IsAnsweredBy, IsFrontRefused, IsRefused, answer_text, is_memory, kind_of_reason, refused_text}
 use Rattle.cbor.specs.Laws.{ItemIsAnswered, RefusalIsAnswered, RefusedMeansNothing}
 use Rattle.cbor.specs.Line.{HasAnswer, IsLineAnswer, good, hex_text, refused, trailing, trailing_text, tree_text}
+use Rattle.cbor.specs.Spellings.{IsItem}
 use Rattle.cbor.proofs.OneLineAnswer.{one_answer}
+use Rattle.cbor.proofs.SpelledItems.{DeterministicLaw}
+
+-- what refuses the front of some bytes refuses them
+pub front-refused : (spelling : Spelling) (b : List ℕ) (limit : ℕ) (e : Refusal) → IsFrontRefused spelling b limit e → AreRefused spelling b limit e
+front-refused spelling b limit Hex h = h
+front-refused spelling b limit (Trailing n) h = absurd h
+front-refused spelling b limit Io h = h
+front-refused spelling b limit (Syntax p) h = h
+front-refused spelling b limit (Semantic p reason) h = h
+front-refused spelling b limit Nesting h = h
+front-refused spelling b limit TooLong h = h
+front-refused spelling b limit Memory h = h
 
 -- what refuses the bytes of a line refuses the line
-refused-by : (line : List ℕ) (limit : ℕ) (b : List ℕ) (e : Refusal) → decode_of line ≡ Ok b → AreRefused b limit e → IsRefused line limit e
-refused-by line limit b Hex d h = absurd h
-refused-by line limit b (Trailing n) d h = (b, d, h)
-refused-by line limit b Io d h = (b, d, h)
-refused-by line limit b (Syntax p) d h = (b, d, h)
-refused-by line limit b (Semantic p reason) d h = (b, d, h)
-refused-by line limit b Nesting d h = (b, d, h)
-refused-by line limit b TooLong d h = (b, d, h)
-refused-by line limit b Memory d h = tt
+refused-by : (spelling : Spelling) (line : List ℕ) (limit : ℕ) (b : List ℕ) (e : Refusal) → decode_of line ≡ Ok b → AreRefused spelling b limit e → IsRefused spelling line limit e
+refused-by spelling line limit b Hex d h = absurd h
+refused-by spelling line limit b (Trailing n) d h = (b, d, h)
+refused-by spelling line limit b Io d h = (b, d, h)
+refused-by spelling line limit b (Syntax p) d h = (b, d, h)
+refused-by spelling line limit b (Semantic p reason) d h = (b, d, h)
+refused-by spelling line limit b Nesting d h = (b, d, h)
+refused-by spelling line limit b TooLong d h = (b, d, h)
+refused-by spelling line limit b Memory d h = tt
 
-pub line-refused : {V : Type 0} (line : List ℕ) (limit : ℕ) (b : List ℕ) (r : Result V Refusal) → decode_of line ≡ Ok b →
-    IfErr r (λ e. AreRefused b limit e) → IfErr r (λ e. IsRefused line limit e)
-line-refused line limit b (Ok v) d h = tt
-line-refused line limit b (Err e) d h = refused-by line limit b e d h
+pub line-refused : {V : Type 0} (spelling : Spelling) (line : List ℕ) (limit : ℕ) (b : List ℕ) (r : Result V Refusal) → decode_of line ≡ Ok b →
+    IfErr r (λ e. AreRefused spelling b limit e) → IfErr r (λ e. IsRefused spelling line limit e)
+line-refused spelling line limit b (Ok v) d h = tt
+line-refused spelling line limit b (Err e) d h = refused-by spelling line limit b e d h
 
-item-answer : (d : Result (List ℕ) FromHexError) (limit : ℕ) (v : Tree) (answer : List ℕ) → MatchResult d (λ b. IsReadAs b 0 (Some limit) v) (λ _. ⊥) →
-    answer ≡ tree_text v → MatchResult d (λ b. HasAnswer b limit answer) (λ _. answer ≡ hex_text)
-item-answer (Ok b) limit v answer (i, g, m) same = good i v g m same
-item-answer (Err e) limit v answer means same = absurd means
+item-answer : (spelling : Spelling) (d : Result (List ℕ) FromHexError) (limit : ℕ) (v : Tree) (answer : List ℕ) → MatchResult d (λ b. IsItem spelling b limit v) (λ _. ⊥) →
+    answer ≡ tree_text v → MatchResult d (λ b. HasAnswer spelling b limit answer) (λ _. answer ≡ hex_text)
+item-answer spelling (Ok b) limit v answer means same = good v means same
+item-answer spelling (Err e) limit v answer means same = absurd means
 
 pub item_is_answered : ItemIsAnswered
-item_is_answered line limit v means = item-answer (decode_of line) limit v (tree_text v) means refl
+item_is_answered spelling line limit v means = item-answer spelling (decode_of line) limit v (tree_text v) means refl
 
-bytes-answer : (b : List ℕ) (limit : ℕ) (e : Refusal) → e ≢ Memory → AreRefused b limit e → HasAnswer b limit (refused_text e)
-bytes-answer b limit Hex m h = absurd h
-bytes-answer b limit (Trailing n) m (s, r, i, g, split, more, same) = trailing s r i g split more (ap trailing_text same)
-bytes-answer b limit Io m h = refused io h refl
-bytes-answer b limit (Syntax p) m h = refused (syntax p) h refl
-bytes-answer b limit (Semantic p reason) m h = refused (semantic p (kind_of_reason reason)) h refl
-bytes-answer b limit Nesting m h = refused recursion_limit_exceeded h refl
-bytes-answer b limit TooLong m h = refused too_long h refl
-bytes-answer b limit Memory m h = absurd (m refl)
+bytes-answer : (spelling : Spelling) (b : List ℕ) (limit : ℕ) (e : Refusal) → e ≢ Memory → AreRefused spelling b limit e → HasAnswer spelling b limit (refused_text e)
+bytes-answer spelling b limit Hex m h = absurd h
+bytes-answer spelling b limit (Trailing n) m (v, left, before, more, same) = trailing v left before more (ap trailing_text same)
+bytes-answer spelling b limit Io m h = refused io h refl
+bytes-answer spelling b limit (Syntax p) m h = refused (syntax p) h refl
+bytes-answer spelling b limit (Semantic p reason) m h = refused (semantic p (kind_of_reason reason)) h refl
+bytes-answer spelling b limit Nesting m h = refused recursion_limit_exceeded h refl
+bytes-answer spelling b limit TooLong m h = refused too_long h refl
+bytes-answer spelling b limit Memory m h = absurd (m refl)
 
-hex-answer : (d : Result (List ℕ) FromHexError) (limit : ℕ) → IsErr d → MatchResult d (λ b. HasAnswer b limit hex_text) (λ _. hex_text ≡ hex_text)
-hex-answer (Ok b) limit h = absurd cc
-hex-answer (Err e) limit h = refl
+hex-answer : (spelling : Spelling) (d : Result (List ℕ) FromHexError) (limit : ℕ) → IsErr d → MatchResult d (λ b. HasAnswer spelling b limit hex_text) (λ _. hex_text ≡ hex_text)
+hex-answer spelling (Ok b) limit h = absurd cc
+hex-answer spelling (Err e) limit h = refl
 
 -- the answer to the bytes of a line answers it
-of-bytes : (line b : List ℕ) (limit : ℕ) (answer : List ℕ) → decode_of line ≡ Ok b → HasAnswer b limit answer → IsLineAnswer line limit answer
-of-bytes line b limit answer d h = subst (λ (r : Result (List ℕ) FromHexError). MatchResult r (λ s. HasAnswer s limit answer) (λ _. answer ≡ hex_text)) (sym d) h
+of-bytes : (spelling : Spelling) (line b : List ℕ) (limit : ℕ) (answer : List ℕ) → decode_of line ≡ Ok b → HasAnswer spelling b limit answer → IsLineAnswer spelling line limit answer
+of-bytes spelling line b limit answer d h = subst (λ (r : Result (List ℕ) FromHexError). MatchResult r (λ s. HasAnswer spelling s limit answer) (λ _. answer ≡ hex_text)) (sym d) h
 
 pub refusal_is_answered : RefusalIsAnswered
-refusal_is_answered line limit Hex m h = hex-answer (decode_of line) limit h
-refusal_is_answered line limit (Trailing n) m (b, d, h) = of-bytes line b limit (refused_text (Trailing n)) d (bytes-answer b limit (Trailing n) m h)
-refusal_is_answered line limit Io m (b, d, h) = of-bytes line b limit (refused_text Io) d (bytes-answer b limit Io m h)
-refusal_is_answered line limit (Syntax p) m (b, d, h) = of-bytes line b limit (refused_text (Syntax p)) d (bytes-answer b limit (Syntax p) m h)
-refusal_is_answered line limit (Semantic p reason) m (b, d, h) =
-    of-bytes line b limit (refused_text (Semantic p reason)) d (bytes-answer b limit (Semantic p reason) m h)
-refusal_is_answered line limit Nesting m (b, d, h) = of-bytes line b limit (refused_text Nesting) d (bytes-answer b limit Nesting m h)
-refusal_is_answered line limit TooLong m (b, d, h) = of-bytes line b limit (refused_text TooLong) d (bytes-answer b limit TooLong m h)
-refusal_is_answered line limit Memory m h = absurd (m refl)
+refusal_is_answered spelling line limit Hex m h = hex-answer spelling (decode_of line) limit h
+refusal_is_answered spelling line limit (Trailing n) m (b, d, h) = of-bytes spelling line b limit (refused_text (Trailing n)) d (bytes-answer spelling b limit (Trailing n) m h)
+refusal_is_answered spelling line limit Io m (b, d, h) = of-bytes spelling line b limit (refused_text Io) d (bytes-answer spelling b limit Io m h)
+refusal_is_answered spelling line limit (Syntax p) m (b, d, h) = of-bytes spelling line b limit (refused_text (Syntax p)) d (bytes-answer spelling b limit (Syntax p) m h)
+refusal_is_answered spelling line limit (Semantic p reason) m (b, d, h) =
+    of-bytes spelling line b limit (refused_text (Semantic p reason)) d (bytes-answer spelling b limit (Semantic p reason) m h)
+refusal_is_answered spelling line limit Nesting m (b, d, h) = of-bytes spelling line b limit (refused_text Nesting) d (bytes-answer spelling b limit Nesting m h)
+refusal_is_answered spelling line limit TooLong m (b, d, h) = of-bytes spelling line b limit (refused_text TooLong) d (bytes-answer spelling b limit TooLong m h)
+refusal_is_answered spelling line limit Memory m h = absurd (m refl)
 
 first : List ℕ → ℕ
 first xs = get_or xs 0 0
@@ -82,20 +95,21 @@ other-text v Nesting same = let f : 111 ≡ 110 = ap first same in omega (arith,
 other-text v TooLong same = let f : 111 ≡ 116 = ap first same in omega (arith, f)
 other-text v Memory same = let f : 111 ≡ 109 = ap first same in omega (arith, f)
 
-pub refused_means_nothing : RefusedMeansNothing
-refused_means_nothing line limit e v m h means =
-    other-text v e (one_answer line limit (tree_text v) (refused_text e) (item_is_answered line limit v means) (refusal_is_answered line limit e m h))
+pub refused_means_nothing : DeterministicLaw → RefusedMeansNothing
+refused_means_nothing law spelling line limit e v m h means =
+    other-text v e (one_answer law spelling line limit (tree_text v) (refused_text e) (item_is_answered spelling line limit v means)
+    (refusal_is_answered spelling line limit e m h))
 
 not-memory : (e : Refusal) → is_memory (answers.Refused e) ≡ false → e ≡ Memory → ⊥
 not-memory e m same = let no : true ≡ false = ap (λ (r : Refusal). is_memory (answers.Refused r)) (sym same) ∙ m in cc
 
 -- the text of an answer other than `memory` answers the line
-text-answers : (line : List ℕ) (limit : ℕ) (a : Answer) → is_memory a ≡ false → IsAnsweredBy line limit a → IsLineAnswer line limit (answer_text a)
-text-answers line limit (answers.Item digits) m (v, means, same) =
-    item-answer (decode_of line) limit v (answer_text (answers.Item digits)) means (ap (λ (t : List ℕ). codes "ok " ++ t) same)
-text-answers line limit (answers.Refused e) m h = refusal_is_answered line limit e (λ same. absurd (not-memory e m same)) h
+text-answers : (spelling : Spelling) (line : List ℕ) (limit : ℕ) (a : Answer) → is_memory a ≡ false → IsAnsweredBy spelling line limit a → IsLineAnswer spelling line limit (answer_text a)
+text-answers spelling line limit (answers.Item digits) m (v, means, same) =
+    item-answer spelling (decode_of line) limit v (answer_text (answers.Item digits)) means (ap (λ (t : List ℕ). codes "ok " ++ t) same)
+text-answers spelling line limit (answers.Refused e) m h = refusal_is_answered spelling line limit e (λ same. absurd (not-memory e m same)) h
 
-pub answered-by-text : {T E : Type 0} (text : T → List ℕ) (line : List ℕ) (limit : ℕ) (a : Answer) (r : Result T E) → is_memory a ≡ false →
-    IsAnsweredBy line limit a → IfOk r (λ t. text t ≡ answer_text a) → IfOk r (λ t. IsLineAnswer line limit (text t))
-answered-by-text text line limit a (Ok t) m h same = subst (λ (s : List ℕ). IsLineAnswer line limit s) (sym same) (text-answers line limit a m h)
-answered-by-text text line limit a (Err x) m h same = tt
+pub answered-by-text : {T E : Type 0} (text : T → List ℕ) (spelling : Spelling) (line : List ℕ) (limit : ℕ) (a : Answer) (r : Result T E) → is_memory a ≡ false →
+    IsAnsweredBy spelling line limit a → IfOk r (λ t. text t ≡ answer_text a) → IfOk r (λ t. IsLineAnswer spelling line limit (text t))
+answered-by-text text spelling line limit a (Ok t) m h same = subst (λ (s : List ℕ). IsLineAnswer spelling line limit s) (sym same) (text-answers spelling line limit a m h)
+answered-by-text text spelling line limit a (Err x) m h same = tt

@@ -6,4 +6,5 @@ pub mod MeantLines
 pub mod OneLineAnswer
 pub mod ReadBytes
 pub mod SortedValues
+pub mod SpelledItems
 pub mod WrittenLines

@@ -1,87 +1,76 @@
 -- Each line has one answer.
-use Rattle.std.proofs.Common.{◌≡◌, ℕ, ◌<◌, List, [], ◌∷◌, ◌++◌, length, Option, Some, None, inl, inr, Result, Ok, Err, MatchResult, IsSome, refl, sym, ap, ◌∙◌, subst, arith, append-nil}
+use Rattle.std.proofs.Common.{◌≡◌, ℕ, ◌<◌, List, [], ◌∷◌, ◌++◌, length, inl, inr, Result, Ok, Err, MatchResult, refl, sym, ap, ◌∙◌, subst, arith, append-nil}
 use Rattle.std.proofs.lemmas.List.Elements.{All-from_get_or}
 use Rattle.hex.specs.Hex.{decode_of}
 use Rattle.hex.specs.declared.error.FromHexError.{FromHexError}
 use Rattle.hex.proofs.HexLemmas.{decode_of-ok}
 use Rattle.ciborium_ll.specs.Bytes.{AreBytes}
-use Rattle.ciborium_ll.specs.Item.{Item}
-use Rattle.ciborium_ll.proofs.UniqueSpelling.{one_at_front, one_item}
-use Rattle.ciborium_value.specs.Laws.{HasGoodItem}
-use Rattle.ciborium_value.specs.Meaning.{meaning}
-use Rattle.ciborium_value.specs.Refuses.{IsGood}
 use Rattle.ciborium_value.specs.Tree.{Tree}
-use Rattle.ciborium_value.proofs.Outcome.{good_or_refused, never_both, one_refusal}
+use Rattle.cbor.specs.declared.spelling.Spelling.{Spelling}
 use Rattle.cbor.specs.Laws.{IsAnswered, OneAnswer}
 use Rattle.cbor.specs.Line.{HasAnswer, good, trailing, refused, tree_text, trailing_text, refusal_text, hex_text}
+use Rattle.cbor.specs.Spellings.{HasItemBefore, IsItem}
+use Rattle.cbor.proofs.SpelledItems.{DeterministicLaw, HasItem, item-or-refused, not-both, one-refusal, one-tree}
 
 -- hex stands for bytes
 decoded-bytes : (line b : List ℕ) → decode_of line ≡ Ok b → AreBytes b
 decoded-bytes line b e = All-from_get_or (λ x. x < 256) b 0 (λ i h. (decode_of-ok line b e).3 i)
 
--- an item that has a meaning means a tree
-some-tree : (m : Option Tree) → IsSome m → (v : Tree) × (m ≡ Some v)
-some-tree None h = absurd cc
-some-tree (Some v) h = (v, refl)
+-- an item is at the front
+begun : (spelling : Spelling) (b : List ℕ) (limit : ℕ) → HasItem spelling b limit → (answer : List ℕ) × HasAnswer spelling b limit answer
+begun spelling b limit (v, [], (s, item, e)) =
+    let all : b ≡ s = e ∙ append-nil s in (tree_text v, good v (subst (λ (xs : List ℕ). IsItem spelling xs limit v) (sym all) item) refl)
+begun spelling b limit (v, (x ∷ left), before) = (trailing_text (length (x ∷ left)), trailing v (x ∷ left) before (omega arith) refl)
 
--- a good item is at the front
-begun : (b s r : List ℕ) (limit : ℕ) (i : Item) → IsGood i (Some limit) s 0 → b ≡ s ++ r → (answer : List ℕ) × HasAnswer b limit answer
-begun b s [] limit i g e =
-    let all : b ≡ s = e ∙ append-nil s in
-    let v = some-tree (meaning i) g.1 in
-    (tree_text v.0, good i v.0 (subst (λ (xs : List ℕ). IsGood i (Some limit) xs 0) (sym all) g) v.1 refl)
-begun b s (x ∷ r) limit i g e = (trailing_text (length (x ∷ r)), trailing s (x ∷ r) i g e (omega arith) refl)
-
-bytes-answered : (b : List ℕ) (limit : ℕ) → AreBytes b → (answer : List ℕ) × HasAnswer b limit answer
-bytes-answered b limit h =
-    elim (good_or_refused b 0 (Some limit) h) [
-      | inl g ↦ begun b g.0 g.2 limit g.1 g.3 g.4
+bytes-answered : DeterministicLaw → (spelling : Spelling) (b : List ℕ) (limit : ℕ) → AreBytes b → (answer : List ℕ) × HasAnswer spelling b limit answer
+bytes-answered law spelling b limit h =
+    elim (item-or-refused law spelling b limit h) [
+      | inl g ↦ begun spelling b limit g
       | inr r ↦ (refusal_text r.0, refused r.0 r.1 refl)
     ]
 
-answered-by : (d : Result (List ℕ) FromHexError) (limit : ℕ) → ((b : List ℕ) → d ≡ Ok b → AreBytes b) →
-    (answer : List ℕ) × MatchResult d (λ b. HasAnswer b limit answer) (λ _. answer ≡ hex_text)
-answered-by (Ok b) limit h = bytes-answered b limit (h b refl)
-answered-by (Err e) limit h = (hex_text, refl)
+answered-by : DeterministicLaw → (spelling : Spelling) (d : Result (List ℕ) FromHexError) (limit : ℕ) → ((b : List ℕ) → d ≡ Ok b → AreBytes b) →
+    (answer : List ℕ) × MatchResult d (λ b. HasAnswer spelling b limit answer) (λ _. answer ≡ hex_text)
+answered-by law spelling (Ok b) limit h = bytes-answered law spelling b limit (h b refl)
+answered-by law spelling (Err e) limit h = (hex_text, refl)
 
-pub is_answered : IsAnswered
-is_answered line limit = answered-by (decode_of line) limit (λ b e. decoded-bytes line b e)
+pub is_answered : DeterministicLaw → IsAnswered
+is_answered law spelling line limit = answered-by law spelling (decode_of line) limit (λ b e. decoded-bytes line b e)
 
--- a beginning that is a good item
-abbrev Begins : List ℕ → ℕ → Type 0
-Begins b limit = HasGoodItem b 0 (Some limit)
-
-all-begins : (b : List ℕ) (limit : ℕ) (i : Item) → IsGood i (Some limit) b 0 → Begins b limit
-all-begins b limit i g = (b, i, [], g, sym (append-nil b))
-
-same-tree : (i j : Item) (v w : Tree) → i ≡ j → meaning i ≡ Some v → meaning j ≡ Some w → v ≡ w
-same-tree i j v w e f g = cc
+-- all of b is at its front
+whole : (spelling : Spelling) (b : List ℕ) (limit : ℕ) (v : Tree) → IsItem spelling b limit v → HasItem spelling b limit
+whole spelling b limit v item = (v, [], (b, item, sym (append-nil b)))
 
 -- nothing stands behind all of b
-none-behind : (b s r : List ℕ) (limit : ℕ) (i j : Item) → IsGood i (Some limit) b 0 → IsGood j (Some limit) s 0 → b ≡ s ++ r → 0 < length r → ⊥
-none-behind b s r limit i j g h e more =
-    let same = one_at_front b s [] r i j g.0 h.0 (append-nil b ∙ e) in
-    let size : 0 ≡ length r = ap (λ (xs : List ℕ). length xs) same.1 in
+none-behind : DeterministicLaw → (spelling : Spelling) (b left : List ℕ) (limit : ℕ) (v w : Tree) → IsItem spelling b limit v →
+    HasItemBefore spelling b limit w left → 0 < length left → ⊥
+none-behind law spelling b left limit v w item (s, other, e) more =
+    let same = one-tree law spelling b s [] left limit v w item other (append-nil b ∙ e) in
+    let size : 0 ≡ length left = ap (λ (xs : List ℕ). length xs) same.1 in
     omega arith
 
-one-of-bytes : (b : List ℕ) (limit : ℕ) (x y : List ℕ) → AreBytes b → HasAnswer b limit x → HasAnswer b limit y → x ≡ y
-one-of-bytes b limit x y h (good i v g m e) (good j w k n f) =
-    e ∙ (ap tree_text (same-tree i j v w (one_item b i j g.0 k.0) m n) ∙ sym f)
-one-of-bytes b limit x y h (good i v g m e) (trailing s r j k split more f) = absurd (none-behind b s r limit i j g k split more)
-one-of-bytes b limit x y h (good i v g m e) (refused u ref f) = absurd (never_both b 0 (Some limit) u h (all-begins b limit i g) ref)
-one-of-bytes b limit x y h (trailing s r i g split more e) (good j w k n f) = absurd (none-behind b s r limit j i k g split more)
-one-of-bytes b limit x y h (trailing s r i g split more e) (trailing t q j k split' more' f) =
-    let same = one_at_front s t r q i j g.0 k.0 (sym split ∙ split') in
-    e ∙ (ap (λ (z : List ℕ). trailing_text (length z)) same.1 ∙ sym f)
-one-of-bytes b limit x y h (trailing s r i g split more e) (refused u ref f) = absurd (never_both b 0 (Some limit) u h (s, i, r, g, split) ref)
-one-of-bytes b limit x y h (refused t ref e) (good j w k n f) = absurd (never_both b 0 (Some limit) t h (all-begins b limit j k) ref)
-one-of-bytes b limit x y h (refused t ref e) (trailing s r j k split more f) = absurd (never_both b 0 (Some limit) t h (s, j, r, k, split) ref)
-one-of-bytes b limit x y h (refused t ref e) (refused u fer f) = e ∙ (ap refusal_text (one_refusal b 0 (Some limit) t u h ref fer) ∙ sym f)
+-- what stands behind an item
+one-rest : DeterministicLaw → (spelling : Spelling) (b x y : List ℕ) (limit : ℕ) (v w : Tree) → HasItemBefore spelling b limit v x →
+    HasItemBefore spelling b limit w y → x ≡ y
+one-rest law spelling b x y limit v w (s, p, e) (t, q, f) = (one-tree law spelling s t x y limit v w p q (sym e ∙ f)).1
 
-one-by : (d : Result (List ℕ) FromHexError) (limit : ℕ) (x y : List ℕ) → ((b : List ℕ) → d ≡ Ok b → AreBytes b) →
-    MatchResult d (λ b. HasAnswer b limit x) (λ _. x ≡ hex_text) → MatchResult d (λ b. HasAnswer b limit y) (λ _. y ≡ hex_text) → x ≡ y
-one-by (Ok b) limit x y h p q = one-of-bytes b limit x y (h b refl) p q
-one-by (Err e) limit x y h p q = p ∙ sym q
+one-of-bytes : DeterministicLaw → (spelling : Spelling) (b : List ℕ) (limit : ℕ) (x y : List ℕ) → AreBytes b → HasAnswer spelling b limit x →
+    HasAnswer spelling b limit y → x ≡ y
+one-of-bytes law spelling b limit x y h (good v p e) (good w q f) = e ∙ (ap tree_text (one-tree law spelling b b [] [] limit v w p q refl).0 ∙ sym f)
+one-of-bytes law spelling b limit x y h (good v p e) (trailing w left q more f) = absurd (none-behind law spelling b left limit v w p q more)
+one-of-bytes law spelling b limit x y h (good v p e) (refused u ref f) = absurd (not-both law spelling b limit u h (whole spelling b limit v p) ref)
+one-of-bytes law spelling b limit x y h (trailing v left p more e) (good w q f) = absurd (none-behind law spelling b left limit w v q p more)
+one-of-bytes law spelling b limit x y h (trailing v left p more e) (trailing w rest q also f) =
+    e ∙ (ap (λ (z : List ℕ). trailing_text (length z)) (one-rest law spelling b left rest limit v w p q) ∙ sym f)
+one-of-bytes law spelling b limit x y h (trailing v left p more e) (refused u ref f) = absurd (not-both law spelling b limit u h (v, left, p) ref)
+one-of-bytes law spelling b limit x y h (refused t ref e) (good w q f) = absurd (not-both law spelling b limit t h (whole spelling b limit w q) ref)
+one-of-bytes law spelling b limit x y h (refused t ref e) (trailing w left q more f) = absurd (not-both law spelling b limit t h (w, left, q) ref)
+one-of-bytes law spelling b limit x y h (refused t ref e) (refused u fer f) = e ∙ (ap refusal_text (one-refusal law spelling b limit t u h ref fer) ∙ sym f)
 
-pub one_answer : OneAnswer
-one_answer line limit a b p q = one-by (decode_of line) limit a b (λ s e. decoded-bytes line s e) p q
+one-by : DeterministicLaw → (spelling : Spelling) (d : Result (List ℕ) FromHexError) (limit : ℕ) (x y : List ℕ) → ((b : List ℕ) → d ≡ Ok b → AreBytes b) →
+    MatchResult d (λ b. HasAnswer spelling b limit x) (λ _. x ≡ hex_text) → MatchResult d (λ b. HasAnswer spelling b limit y) (λ _. y ≡ hex_text) → x ≡ y
+one-by law spelling (Ok b) limit x y h p q = one-of-bytes law spelling b limit x y (h b refl) p q
+one-by law spelling (Err e) limit x y h p q = p ∙ sym q
+
+pub one_answer : DeterministicLaw → OneAnswer
+one_answer law spelling line limit a b p q = one-by law spelling (decode_of line) limit a b (λ s e. decoded-bytes line s e) p q

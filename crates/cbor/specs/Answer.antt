@@ -1,10 +1,8 @@
 -- What a line means, or why it is refused, as the program answers it, and the text of the answer.
-use Rattle.std.specs.Prelude.{◌≡◌, ℕ, ◌<◌, Bool, true, false, List, ◌++◌, length, Some, Ok, IsErr, MatchResult, codes, string_bytes}
+use Rattle.std.specs.Prelude.{◌≡◌, ℕ, ◌<◌, Bool, true, false, List, ◌++◌, length, Ok, IsErr, MatchResult, codes, string_bytes}
 use Rattle.hex.specs.Hex.{decode_of, encode_lower}
-use Rattle.ciborium_ll.specs.Item.{Item}
 use Rattle.ciborium_ll.specs.Refusal as refusal
 use Rattle.ciborium_value.specs.Encoding.{encoding}
-use Rattle.ciborium_value.specs.Refuses.{IsGood, IsReadAs, Refuses}
 use Rattle.ciborium_value.specs.Tree.{Tree}
 use Rattle.cbor.specs.declared.answer.Answer.{Answer}
 use Rattle.cbor.specs.declared.answer.Answer.TheVariants as answers
@@ -12,11 +10,13 @@ use Rattle.cbor.specs.declared.answer.Reason.{Reason}
 use Rattle.cbor.specs.declared.answer.Reason.TheVariants as reasons
 use Rattle.cbor.specs.declared.answer.Refusal.{Refusal}
 use Rattle.cbor.specs.declared.answer.Refusal.TheVariants.{Hex, Trailing, Io, Syntax, Semantic, Nesting, TooLong, Memory}
+use Rattle.cbor.specs.declared.spelling.Spelling.{Spelling}
+use Rattle.cbor.specs.Spellings.{HasItemBefore, IsItem, RefusesItem}
 use Rattle.cbor.specs.Line.{hex_text, refusal_text, trailing_text}
 
--- a line is the hex of bytes that are one good item within so many levels, and mean v
-abbrev pub IsMeant : List ℕ → ℕ → Tree → Type 0
-IsMeant line limit v = MatchResult (decode_of line) (λ b. IsReadAs b 0 (Some limit) v) (λ _. ⊥)
+-- a line is the hex of bytes that are one item, spelled so and within so many levels, and mean v
+abbrev pub IsMeant : Spelling → List ℕ → ℕ → Tree → Type 0
+IsMeant spelling line limit v = MatchResult (decode_of line) (λ b. IsItem spelling b limit v) (λ _. ⊥)
 
 -- the kind that a reason is
 abbrev pub kind_of_reason : Reason → refusal.Kind
@@ -24,27 +24,36 @@ kind_of_reason reasons.Float = refusal.Float
 kind_of_reason reasons.Simple = refusal.Simple
 kind_of_reason reasons.Break = refusal.Break
 kind_of_reason reasons.TooLarge = refusal.TooLarge
+kind_of_reason reasons.NotShortest = refusal.NotShortest
+kind_of_reason reasons.Open = refusal.Open
+kind_of_reason reasons.NotFolded = refusal.NotFolded
+kind_of_reason reasons.KeyOrder = refusal.KeyOrder
 
--- a good item within so many levels is at the front of b, and n more bytes follow it
-abbrev pub HasTrailing : List ℕ → ℕ → ℕ → Type 0
-HasTrailing b limit n = (s : List ℕ) × (r : List ℕ) × (i : Item) × IsGood i (Some limit) s 0 × (b ≡ s ++ r) × (0 < length r) × (n ≡ length r)
+-- an item is at the front of b, and n more bytes follow it
+abbrev pub HasTrailing : Spelling → List ℕ → ℕ → ℕ → Type 0
+HasTrailing spelling b limit n = (v : Tree) × (left : List ℕ) × HasItemBefore spelling b limit v left × (0 < length left) × (n ≡ length left)
 
--- the bytes b are no item within so many levels, for this reason; `Memory` says nothing of them
-abbrev pub AreRefused : List ℕ → ℕ → Refusal → Type 0
-AreRefused b limit Hex = ⊥
-AreRefused b limit (Trailing n) = HasTrailing b limit n
-AreRefused b limit Io = Refuses b 0 (Some limit) refusal.io
-AreRefused b limit (Syntax p) = Refuses b 0 (Some limit) (refusal.syntax p)
-AreRefused b limit (Semantic p reason) = Refuses b 0 (Some limit) (refusal.semantic p (kind_of_reason reason))
-AreRefused b limit Nesting = Refuses b 0 (Some limit) refusal.recursion_limit_exceeded
-AreRefused b limit TooLong = Refuses b 0 (Some limit) refusal.too_long
-AreRefused b limit Memory = Unit {0}
+-- b begins with no item, for this reason; `Memory` says nothing of it
+abbrev pub IsFrontRefused : Spelling → List ℕ → ℕ → Refusal → Type 0
+IsFrontRefused spelling b limit Hex = ⊥
+IsFrontRefused spelling b limit (Trailing n) = ⊥
+IsFrontRefused spelling b limit Io = RefusesItem spelling b limit refusal.io
+IsFrontRefused spelling b limit (Syntax p) = RefusesItem spelling b limit (refusal.syntax p)
+IsFrontRefused spelling b limit (Semantic p reason) = RefusesItem spelling b limit (refusal.semantic p (kind_of_reason reason))
+IsFrontRefused spelling b limit Nesting = RefusesItem spelling b limit refusal.recursion_limit_exceeded
+IsFrontRefused spelling b limit TooLong = RefusesItem spelling b limit refusal.too_long
+IsFrontRefused spelling b limit Memory = Unit {0}
+
+-- b is no item: more bytes follow one, or it begins with none
+abbrev pub AreRefused : Spelling → List ℕ → ℕ → Refusal → Type 0
+AreRefused spelling b limit (Trailing n) = HasTrailing spelling b limit n
+AreRefused spelling b limit other = IsFrontRefused spelling b limit other
 
 -- a line is no hex, or the hex of bytes that are no item; `Memory` says nothing of it
-abbrev pub IsRefused : List ℕ → ℕ → Refusal → Type 0
-IsRefused line limit Hex = IsErr (decode_of line)
-IsRefused line limit Memory = Unit {0}
-IsRefused line limit other = (b : List ℕ) × (decode_of line ≡ Ok b) × AreRefused b limit other
+abbrev pub IsRefused : Spelling → List ℕ → ℕ → Refusal → Type 0
+IsRefused spelling line limit Hex = IsErr (decode_of line)
+IsRefused spelling line limit Memory = Unit {0}
+IsRefused spelling line limit other = (b : List ℕ) × (decode_of line ≡ Ok b) × AreRefused spelling b limit other
 
 -- the text of a refusal
 abbrev pub refused_text : Refusal → List ℕ
@@ -74,10 +83,10 @@ is_memory (answers.Refused Memory) = true
 is_memory (answers.Refused other) = false
 
 -- a line is an item, of whose encoding these are the digits in lower case
-abbrev pub IsDigitsOf : List ℕ → ℕ → List ℕ → Type 0
-IsDigitsOf line limit digits = (v : Tree) × IsMeant line limit v × (digits ≡ encode_lower (encoding v))
+abbrev pub IsDigitsOf : Spelling → List ℕ → ℕ → List ℕ → Type 0
+IsDigitsOf spelling line limit digits = (v : Tree) × IsMeant spelling line limit v × (digits ≡ encode_lower (encoding v))
 
 -- an answer says what holds of a line
-abbrev pub IsAnsweredBy : List ℕ → ℕ → Answer → Type 0
-IsAnsweredBy line limit (answers.Item digits) = IsDigitsOf line limit (string_bytes digits)
-IsAnsweredBy line limit (answers.Refused refusal) = IsRefused line limit refusal
+abbrev pub IsAnsweredBy : Spelling → List ℕ → ℕ → Answer → Type 0
+IsAnsweredBy spelling line limit (answers.Item digits) = IsDigitsOf spelling line limit (string_bytes digits)
+IsAnsweredBy spelling line limit (answers.Refused refusal) = IsRefused spelling line limit refusal

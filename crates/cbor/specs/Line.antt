@@ -1,12 +1,11 @@
 -- What the program answers to a line of hex. Texts are lists of bytes.
-use Rattle.std.specs.Prelude.{◌≡◌, ℕ, ◌<◌, List, ◌++◌, length, Some, MatchResult, codes, decimal}
+use Rattle.std.specs.Prelude.{◌≡◌, ℕ, ◌<◌, List, ◌++◌, length, MatchResult, codes, decimal}
 use Rattle.hex.specs.Hex.{decode_of, encode_lower}
-use Rattle.ciborium_ll.specs.Item.{Item}
-use Rattle.ciborium_ll.specs.Refusal.{Kind, Float, Simple, Break, TooLarge, Refusal, io, syntax, too_long, semantic, recursion_limit_exceeded}
+use Rattle.ciborium_ll.specs.Refusal.{Kind, Float, Simple, Break, TooLarge, NotShortest, Open, NotFolded, KeyOrder, Refusal, io, syntax, too_long, semantic, recursion_limit_exceeded}
 use Rattle.ciborium_value.specs.Encoding.{encoding}
-use Rattle.ciborium_value.specs.Meaning.{meaning}
-use Rattle.ciborium_value.specs.Refuses.{IsGood, Refuses}
 use Rattle.ciborium_value.specs.Tree.{Tree}
+use Rattle.cbor.specs.declared.spelling.Spelling.{Spelling}
+use Rattle.cbor.specs.Spellings.{HasItemBefore, IsItem, RefusesItem}
 
 -- why an item has no meaning, in a word
 abbrev pub kind_text : Kind → List ℕ
@@ -14,6 +13,10 @@ kind_text Float = codes "float"
 kind_text Simple = codes "simple"
 kind_text Break = codes "break"
 kind_text TooLarge = codes "toolarge"
+kind_text NotShortest = codes "notshortest"
+kind_text Open = codes "open"
+kind_text NotFolded = codes "notfolded"
+kind_text KeyOrder = codes "keyorder"
 
 -- a refusal, with its offset in decimal where it has one
 abbrev pub refusal_text : Refusal → List ℕ
@@ -35,16 +38,16 @@ trailing_text n = codes "trailing " ++ decimal n
 abbrev pub hex_text : List ℕ
 hex_text = codes "hex"
 
--- the bytes b have this answer, within so many levels (RFC 8949, section 5.3)
-pub data HasAnswer (b : List ℕ) (limit : ℕ) (answer : List ℕ) : Type 0 where
-  -- all of b is a good item
-  good : (i : Item) (v : Tree) → IsGood i (Some limit) b 0 → meaning i ≡ Some v → answer ≡ tree_text v → HasAnswer b limit answer
-  -- a good item is at the front, and more bytes follow it
-  trailing : (s r : List ℕ) (i : Item) → IsGood i (Some limit) s 0 → b ≡ s ++ r → 0 < length r →
-      answer ≡ trailing_text (length r) → HasAnswer b limit answer
+-- the bytes b have this answer, where items are spelled so, within so many levels (RFC 8949, section 5.3)
+pub data HasAnswer (spelling : Spelling) (b : List ℕ) (limit : ℕ) (answer : List ℕ) : Type 0 where
+  -- all of b is an item
+  good : (v : Tree) → IsItem spelling b limit v → answer ≡ tree_text v → HasAnswer spelling b limit answer
+  -- an item is at the front, and more bytes follow it
+  trailing : (v : Tree) (left : List ℕ) → HasItemBefore spelling b limit v left → 0 < length left → answer ≡ trailing_text (length left) →
+      HasAnswer spelling b limit answer
   -- b is refused
-  refused : (e : Refusal) → Refuses b 0 (Some limit) e → answer ≡ refusal_text e → HasAnswer b limit answer
+  refused : (e : Refusal) → RefusesItem spelling b limit e → answer ≡ refusal_text e → HasAnswer spelling b limit answer
 
 -- the text answers a line: its bytes, or `hex` where it is not an even number of hex digits
-abbrev pub IsLineAnswer : List ℕ → ℕ → List ℕ → Type 0
-IsLineAnswer line limit answer = MatchResult (decode_of line) (λ b. HasAnswer b limit answer) (λ _. answer ≡ hex_text)
+abbrev pub IsLineAnswer : Spelling → List ℕ → ℕ → List ℕ → Type 0
+IsLineAnswer spelling line limit answer = MatchResult (decode_of line) (λ b. HasAnswer spelling b limit answer) (λ _. answer ≡ hex_text)

@@ -3,6 +3,7 @@ use Rattle.std.specs.Prelude.{◌≡◌, ℕ, ◌<◌, List, [], ◌∷◌, ◌+
 use Rattle.std.specs.List.{flat_map}
 use Rattle.std.specs.Io.BufRead.{first_piece, drop_through, strip_last}
 use Rattle.ciborium_value.specs.Tree.{Tree}
+use Rattle.cbor.specs.declared.spelling.Spelling.{Spelling}
 use Rattle.cbor.specs.Answer.{IsMeant}
 use Rattle.cbor.specs.Line.{tree_text}
 
@@ -10,16 +11,16 @@ use Rattle.cbor.specs.Line.{tree_text}
 abbrev pub first_line : List ℕ → List ℕ
 first_line b = strip_last 13 (first_piece 10 b)
 
--- of the input b the rest is left: each line before it is an item within so many levels, and they mean these trees, in order
-pub data AreMeant (b : List ℕ) (limit : ℕ) : List ℕ → List Tree → Type 0 where
-  none : AreMeant b limit b []
-  line : (rest : List ℕ) (trees : List Tree) (tree : Tree) → AreMeant b limit rest trees → 0 < length rest → IsMeant (first_line rest) limit tree →
-      AreMeant b limit (drop_through 10 rest) (trees ++ (tree ∷ []))
+-- of the input b the rest is left: each line before it is an item, spelled so and within so many levels, and they mean these trees, in order
+pub data AreMeant (spelling : Spelling) (b : List ℕ) (limit : ℕ) : List ℕ → List Tree → Type 0 where
+  none : AreMeant spelling b limit b []
+  line : (rest : List ℕ) (trees : List Tree) (tree : Tree) → AreMeant spelling b limit rest trees → 0 < length rest →
+      IsMeant spelling (first_line rest) limit tree → AreMeant spelling b limit (drop_through 10 rest) (trees ++ (tree ∷ []))
 
 -- the answer to a tree, and a line feed
 abbrev pub ok_line : Tree → List ℕ
 ok_line v = tree_text v ++ (10 ∷ [])
 
 -- each line of b is an item, and the answers to what they mean are put behind w
-abbrev pub AreAnswered : List ℕ → ℕ → List ℕ → Option (List ℕ) → Type 0
-AreAnswered b limit w after = (trees : List Tree) × AreMeant b limit [] trees × (after ≡ Some (w ++ flat_map ok_line trees))
+abbrev pub AreAnswered : Spelling → List ℕ → ℕ → List ℕ → Option (List ℕ) → Type 0
+AreAnswered spelling b limit w after = (trees : List Tree) × AreMeant spelling b limit [] trees × (after ≡ Some (w ++ flat_map ok_line trees))

@@ -4,6 +4,7 @@ use Rattle.std.specs.List.{flat_map}
 use Rattle.hex.specs.Hex.{encode_lower}
 use Rattle.ciborium_value.specs.Encoding.{encoding}
 use Rattle.ciborium_value.specs.Tree.{Tree}
+use Rattle.cbor.specs.declared.spelling.Spelling.TheVariants.{Any}
 use Rattle.cbor.specs.Lines.{AreMeant}
 use Rattle.cbor.specs.Sorted.{AreSorted}
 
@@ -13,5 +14,5 @@ hex_line v = encode_lower (encoding v) ++ (10 ∷ [])
 
 -- each line of b is an item; what they mean is put behind w in the canonical order, each tree as often as it came
 abbrev pub AreSortedLines : List ℕ → ℕ → List ℕ → Option (List ℕ) → Type 0
-AreSortedLines b limit w after = (came : List Tree) × (sorted : List Tree) × AreMeant b limit [] came × IsPermutation came sorted × AreSorted sorted ×
+AreSortedLines b limit w after = (came : List Tree) × (sorted : List Tree) × AreMeant Any b limit [] came × IsPermutation came sorted × AreSorted sorted ×
     (after ≡ Some (w ++ flat_map hex_line sorted))

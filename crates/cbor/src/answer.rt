@@ -49,6 +49,14 @@ pub enum Reason {
     Break,
     /// It is a bignum past its bounds.
     TooLarge,
+    /// Its head is not the shortest, or it is undefined, where its encoding is to be deterministic.
+    NotShortest,
+    /// It is of indefinite length, where its encoding is to be deterministic.
+    Open,
+    /// It is a bignum that is to be a shorter one, or a plain number.
+    NotFolded,
+    /// It is a key that does not follow the key before it in the canonical order.
+    KeyOrder,
 }
 
 impl Answer {
@@ -115,6 +123,10 @@ impl fmt::Display for Reason {
             Reason::Simple => f.write_str("simple"),
             Reason::Break => f.write_str("break"),
             Reason::TooLarge => f.write_str("toolarge"),
+            Reason::NotShortest => f.write_str("notshortest"),
+            Reason::Open => f.write_str("open"),
+            Reason::NotFolded => f.write_str("notfolded"),
+            Reason::KeyOrder => f.write_str("keyorder"),
         }
     }
 }

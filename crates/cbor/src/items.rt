@@ -3,43 +3,80 @@
 ghost use Rattle.std.specs.Prelude.{◌≡◌, IfErr, IfOk, IsSome, Some, string_bytes};
 ghost use Rattle.hex.specs.Hex.{encode_lower};
 ghost use Rattle.ciborium_value.specs.Encoding.{encoding};
-ghost use Rattle.ciborium_value.specs.Refuses.{IsReadAs};
 ghost use Rattle.ciborium_value.specs.View.{tree_of};
-ghost use Rattle.ciborium.specs.Errors.{kind_of};
-ghost use Rattle.cbor.specs.Answer.{AreRefused, IsMeant, IsRefused, kind_of_reason};
+ghost use Rattle.ciborium.specs.Errors.{IsRefusedBy, kind_of};
+ghost use Rattle.cbor.specs.Answer.{AreRefused, IsFrontRefused, IsMeant, IsRefused};
+ghost use Rattle.cbor.specs.Answer.{kind_of_reason};
+ghost use Rattle.cbor.specs.Spellings.{HasItemBefore, IsItem, RefusesItem};
 
 use crate::answer::{Reason, Refusal};
-use ciborium::de::{Error, from_reader_with_recursion_limit};
+use crate::spelling::Spelling;
+use ciborium::de::{Error, from_reader_deterministic, from_reader_with_recursion_limit};
 use ciborium::ser::into_writer;
 use ciborium_value::{Kind, Value};
 use hex::FromHexError;
 use std::alloc::{AllocError, Global};
+use std::io;
 
-/// The value of a line whose bytes are one item within this many levels.
+/// The value of a line whose bytes are one item in a spelling that is asked for, within this many
+/// levels.
 ///
 /// # Errors
 ///
 /// Why the line is no item, or `Memory` where memory was refused.
-pub fn read_item(alloc: Global, line: &[u8], limit: usize) -> Result<Value, Refusal>
-    ensures item { IfOk result (λ value. IsMeant line.now limit (tree_of value)) }
-    ensures refused { IfErr result (λ refusal. IsRefused line.now limit refusal) }
+pub fn read_item(
+    alloc: Global,
+    line: &[u8],
+    spelling: Spelling,
+    limit: usize,
+) -> Result<Value, Refusal>
+    ensures item { IfOk result (λ value. IsMeant spelling line.now limit (tree_of value)) }
+    ensures refused { IfErr result (λ refusal. IsRefused spelling line.now limit refusal) }
 {
     match hex::decode(alloc, line) {
-        Ok(bytes) => read_bytes(alloc, &bytes, limit),
+        Ok(bytes) => read_bytes(alloc, &bytes, spelling, limit),
         Err(FromHexError::OutOfMemory) => Err(Refusal::Memory),
         Err(_) => Err(Refusal::Hex),
     }
 }
 
 // The value of the bytes of a line, or why they are no item.
-fn read_bytes(alloc: Global, bytes: &[u8], limit: usize) -> Result<Value, Refusal>
-    ensures item { IfOk result (λ value. IsReadAs bytes.now 0 (Some limit) (tree_of value)) }
-    ensures refused { IfErr result (λ refusal. AreRefused bytes.now limit refusal) }
+fn read_bytes(
+    alloc: Global,
+    bytes: &[u8],
+    spelling: Spelling,
+    limit: usize,
+) -> Result<Value, Refusal>
+    ensures item { IfOk result (λ value. IsItem spelling bytes.now limit (tree_of value)) }
+    ensures refused { IfErr result (λ refusal. AreRefused spelling bytes.now limit refusal) }
 {
     let mut rest = bytes;
-    match from_reader_with_recursion_limit::<Value, &[u8]>(alloc, &mut rest, limit) {
-        Ok(value) if rest.is_empty() => Ok(value),
-        Ok(_) => Err(Refusal::Trailing(rest.len())),
+    let value = read_front(alloc, &mut rest, spelling, limit)?;
+    if !rest.is_empty() {
+        return Err(Refusal::Trailing(rest.len()));
+    }
+    Ok(value)
+}
+
+/// Reads the value of the item at the front of the bytes, and leaves what follows it.
+///
+/// # Errors
+///
+/// Why no item in a spelling that is asked for is there, within this many levels, or `Memory` where
+/// memory was refused.
+pub fn read_front(
+    alloc: Global,
+    rest: &mut &[u8],
+    spelling: Spelling,
+    limit: usize,
+) -> Result<Value, Refusal>
+    ensures item { IfOk result (λ value.
+        HasItemBefore spelling rest.old.now limit (tree_of value) rest.new.now) }
+    ensures refused { IfErr result (λ refusal.
+        IsFrontRefused spelling rest.old.now limit refusal) }
+{
+    match read_value(alloc, rest, spelling, limit) {
+        Ok(value) => Ok(value),
         Err(Error::Io(_)) if rest.is_empty() => Err(Refusal::Io),
         // A slice never fails before its end.
         Err(Error::Io(_) | Error::Memory) => Err(Refusal::Memory),
@@ -53,6 +90,24 @@ fn read_bytes(alloc: Global, bytes: &[u8], limit: usize) -> Result<Value, Refusa
     }
 }
 
+// Reads the value at the front by the reader of these spellings.
+fn read_value(
+    alloc: Global,
+    rest: &mut &[u8],
+    spelling: Spelling,
+    limit: usize,
+) -> Result<Value, Error<io::Error>>
+    ensures item { IfOk result (λ value.
+        HasItemBefore spelling rest.old.now limit (tree_of value) rest.new.now) }
+    ensures refused { IfErr result (λ e.
+        IsRefusedBy (Some rest.new.now) e (RefusesItem spelling rest.old.now limit)) }
+{
+    match spelling {
+        Spelling::Any => from_reader_with_recursion_limit(alloc, rest, limit),
+        Spelling::Deterministic => from_reader_deterministic(alloc, rest, limit),
+    }
+}
+
 // The reason for a kind that reading a value names.
 fn classify_kind(kind: Kind) -> Reason
     requires { IsSome (kind_of kind) }
@@ -63,6 +118,10 @@ fn classify_kind(kind: Kind) -> Reason
         Kind::Simple => Reason::Simple,
         Kind::Break => Reason::Break,
         Kind::TooLarge => Reason::TooLarge,
+        Kind::NotShortest => Reason::NotShortest,
+        Kind::Open => Reason::Open,
+        Kind::NotFolded => Reason::NotFolded,
+        Kind::KeyOrder => Reason::KeyOrder,
         _ => unreachable!(),
     }
 }

@@ -4,13 +4,18 @@
 ghost use Rattle.cbor.specs.Laws.{IsAnswered, ItemIsAnswered, OneAnswer};
 ghost use Rattle.cbor.specs.Laws.{RefusalIsAnswered, RefusedMeansNothing};
 
-/// Each line has an answer, within any number of levels, and one answer alone. That of a line which
-/// means a tree is the tree's text, and that of a line which is refused is the refusal's. No line
-/// that is refused means a tree.
+use ciborium::laws::deterministic_or_refused;
+
+/// Each line has an answer, within any number of levels, and one answer alone: whether items may
+/// be spelled in any way, or in the deterministic one alone. That of a line which means a tree is
+/// the tree's text, and that of a line which is refused is the refusal's. No line that is refused
+/// means a tree.
 pub fn line_answer()
     ensures answered { IsAnswered }
     ensures one { OneAnswer }
     ensures item { ItemIsAnswered }
     ensures refusal { RefusalIsAnswered }
     ensures nothing { RefusedMeansNothing }
-{}
+{
+    deterministic_or_refused();
+}

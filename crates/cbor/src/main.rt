@@ -1,5 +1,6 @@
 //! `cbor read` answers lines of hex: which bytes are a CBOR item (RFC 8949), and its one shortest
-//! encoding. `cbor sort` writes the encodings of all lines in the canonical order.
+//! encoding. `cbor read --det` accepts deterministic encodings alone. `cbor sort` writes the
+//! encodings of all lines in the canonical order.
 #![tactic(auto)]
 
 mod answer;
@@ -10,6 +11,7 @@ mod line_laws;
 mod lines;
 mod run;
 mod sorting;
+mod spelling;
 #[cfg(test)]
 mod test_devices;
 

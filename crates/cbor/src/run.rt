@@ -1,32 +1,35 @@
 //! The command line: which words are right, what they ask for, and the status.
 
-ghost use Rattle.std.specs.Prelude.{◌≡◌, ◌≤◌, ℕ, List, MatchOption, Ok, Some, map, string_bytes};
-ghost use Rattle.std.specs.Prelude.{true};
+ghost use Rattle.std.specs.Prelude.{◌≡◌, ◌≤◌, ◌∷◌, ℕ, List, MatchOption, Ok, Some, codes, map};
+ghost use Rattle.std.specs.Prelude.{string_bytes, true};
 ghost use Rattle.std.specs.Io.KnownBytes.{Keeps};
 ghost use Rattle.std.specs.Option.{SomeIff};
 ghost use Rattle.std.specs.Str.Parse.{digits_value};
 ghost use Rattle.cbor.specs.Lines.{AreAnswered};
 ghost use Rattle.cbor.specs.SortedLines.{AreSortedLines};
-ghost use Rattle.cbor.specs.Words.{AreWrong, AskFor, AskToRead, AskToSort, IsLimit};
+ghost use Rattle.cbor.specs.Words.{AreWrong, AskFor, AskToRead, AskToSort, IsLimit, NameLimit};
+ghost use Rattle.cbor.specs.declared.spelling.Spelling.{Spelling};
 
 use crate::answering::answer_lines;
 use crate::fault::Fault;
 use crate::sorting::sort_lines;
+use crate::spelling::Spelling;
 use ciborium::de::RECURSION_LIMIT;
 use std::alloc::Global;
 use std::io::{Read, Write};
 
-// What the words ask for: to answer lines within so many levels, or to sort them.
+// What the words ask for: to answer lines of items spelled so, within so many levels, or to sort
+// them.
 #[derive(Clone, Copy, Debug)]
 enum Command {
-    Read(usize),
+    Read(Spelling, usize),
     Sort,
 }
 
 /// Does what the words say, which are the program's arguments without its name, and returns the
 /// exit status. `read` answers each line of hex of the input by a line on the output, within 256
 /// levels, and `read LIMIT` within that many; a line whose answer is refused memory is answered
-/// `memory`. `sort` reads all lines within 256 levels, and then writes the encodings of their items
+/// `memory`. `read --det`, and a limit behind it, accept deterministic encodings alone. `sort` reads all lines within 256 levels, and then writes the encodings of their items
 /// in lower-case hex, a line each, in the canonical order. At the first line that is no item it
 /// only writes `line`, the number of that line, counted from 1, a colon and the answer to it.
 ///
@@ -44,20 +47,21 @@ pub fn run<R: Read, W: Write, E: Write>(
     ensures wrong { AreWrong (map string_bytes words.now) →
         (result ≡ 2) × (R.remaining input.new ≡ R.remaining input.old)
         × (W.contents output.new ≡ W.contents output.old) }
-    ensures right { (limit : ℕ) → AskToRead (map string_bytes words.now) limit → result ≤ 1 }
+    ensures right { (spelling : Spelling) (limit : ℕ) →
+        AskToRead (map string_bytes words.now) spelling limit → result ≤ 1 }
     ensures right_to_sort { AskToSort (map string_bytes words.now) → result ≤ 1 }
-    ensures answered { (limit : ℕ) (b w : List ℕ) →
-        AskToRead (map string_bytes words.now) limit → R.remaining input.old ≡ Some b →
+    ensures answered { (spelling : Spelling) (limit : ℕ) (b w : List ℕ) →
+        AskToRead (map string_bytes words.now) spelling limit → R.remaining input.old ≡ Some b →
         W.contents output.old ≡ Some w → result ≡ 0 →
-        AreAnswered b limit w (W.contents output.new) }
+        AreAnswered spelling b limit w (W.contents output.new) }
     ensures sorted { (b w : List ℕ) →
         AskToSort (map string_bytes words.now) → R.remaining input.old ≡ Some b →
         W.contents output.old ≡ Some w → result ≡ 0 →
         AreSortedLines b 256 w (W.contents output.new) }
 {
     match judge_words(words) {
-        Some(Command::Read(limit)) => {
-            let answered = answer_lines(alloc, input, limit, output);
+        Some(Command::Read(spelling, limit)) => {
+            let answered = answer_lines(alloc, input, spelling, limit, output);
             finish(answered, output, errors)
         }
         Some(Command::Sort) => {
@@ -65,7 +69,7 @@ pub fn run<R: Read, W: Write, E: Write>(
             finish(sorted, output, errors)
         }
         None => {
-            report(errors, "usage: cbor read [limit] | cbor sort\n");
+            report(errors, "usage: cbor read [--det] [limit] | cbor sort\n");
             2
         }
     }
@@ -77,12 +81,37 @@ fn judge_words(words: &[String]) -> Option<Command>
         (λ command. AskFor (map string_bytes words.now) command) }
 {
     match words {
-        [command] if command.as_str() == "read" => Some(Command::Read(RECURSION_LIMIT)),
+        [command, options @ ..] if command.as_str() == "read" => judge_reading(options),
         [command] if command.as_str() == "sort" => Some(Command::Sort),
-        [command, limit] if command.as_str() == "read" => {
-            let limit = parse_limit(limit.as_str())?;
-            Some(Command::Read(limit))
+        _ => None,
+    }
+}
+
+// What `read` and these words behind it ask for, or none where they are wrong.
+fn judge_reading(options: &[String]) -> Option<Command>
+    ensures { MatchOption result (AreWrong (codes "read" ∷ map string_bytes options.now))
+        (λ command. AskFor (codes "read" ∷ map string_bytes options.now) command) }
+{
+    match options {
+        [flag, others @ ..] if flag.as_str() == "--det" => {
+            let limit = judge_limit(others)?;
+            Some(Command::Read(Spelling::Deterministic, limit))
         }
+        _ => {
+            let limit = judge_limit(options)?;
+            Some(Command::Read(Spelling::Any, limit))
+        }
+    }
+}
+
+// The limit that a word names, and that of the library where no word is left.
+fn judge_limit(words: &[String]) -> Option<usize>
+    ensures { MatchOption result ((n : ℕ) → ¬ NameLimit (map string_bytes words.now) n)
+        (λ limit. NameLimit (map string_bytes words.now) limit) }
+{
+    match words {
+        [] => Some(RECURSION_LIMIT),
+        [limit] => parse_limit(limit.as_str()),
         _ => None,
     }
 }

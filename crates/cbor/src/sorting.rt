@@ -8,11 +8,13 @@ ghost use Rattle.cbor.specs.Lines.{AreMeant};
 ghost use Rattle.cbor.specs.Sorted.{AreSorted};
 ghost use Rattle.cbor.specs.SortedLines.{AreSortedLines, hex_line};
 ghost use Rattle.cbor.specs.declared.sorting.Unsorted.TheVariants.{Unread};
+ghost use Rattle.cbor.specs.declared.spelling.Spelling.TheVariants.{Any};
 
 use crate::answer::Refusal;
 use crate::fault::Fault;
 use crate::items::{encode_to_hex, read_item};
 use crate::lines::{read_line, write_text};
+use crate::spelling::Spelling;
 use ciborium::value::canonical::cmp_value;
 use ciborium_value::Value;
 use std::alloc::{AllocError, Global};
@@ -84,7 +86,7 @@ pub fn sort_values(alloc: Global, mut values: Vec<Value>) -> Result<Vec<Value>, 
 // The values of the lines of the input, or why there are none.
 fn read_values<R: Read>(alloc: Global, input: &mut R, limit: usize) -> Result<Vec<Value>, Unsorted>
     ensures { (b : List ℕ) → R.remaining input.old ≡ Some b →
-        IfOk result (λ values. AreMeant b limit [] (map tree_of values.items)) }
+        IfOk result (λ values. AreMeant Any b limit [] (map tree_of values.items)) }
 {
     let Ok(mut reader) = BufReader::new(alloc, input) else {
         return Err(Unsorted::Unread(Fault::Memory));
@@ -95,7 +97,7 @@ fn read_values<R: Read>(alloc: Global, input: &mut R, limit: usize) -> Result<Ve
         if !read_line(&mut reader, &mut line)? {
             return Ok(values);
         }
-        match read_item(alloc, &line, limit) {
+        match read_item(alloc, &line, Spelling::Any, limit) {
             Ok(value) => {
                 if values.push(value).is_err() {
                     return Err(Unsorted::Unread(Fault::Memory));

@@ -54,6 +54,29 @@ const RUNS: &[(&[&str], &str, &str, u8)] = &[
     (&["read", "0"], "80", "nesting\n", 1),
     (&["read", "18446744073709551615"], "80", "ok 80\n", 0),
     (&["read"], "80", "ok 80\n", 0),
+    (
+        &["read", "--det"],
+        "01\n1800\n9f01ff\nc24101\na202030102\n",
+        "ok 01\nsemantic 0 notshortest\nsemantic 0 open\nsemantic 0 notfolded\n\
+         semantic 3 keyorder\n",
+        1,
+    ),
+    (
+        &["read", "--det", "1"],
+        "c25f4101ff",
+        "semantic 1 open\n",
+        1,
+    ),
+    (&["read", "--det", "0"], "80", "nesting\n", 1),
+    (&["read", "--det"], "f7", "semantic 0 notshortest\n", 1),
+    (&["read", "--det"], "0102", "trailing 1\n", 1),
+    (&["read", "--det"], "a201020203", "ok a201020203\n", 0),
+    (
+        &["read", "--det", "3"],
+        "828180f6\nzz\n1e\n",
+        "ok 828180f6\nhex\nsyntax 0\n",
+        1,
+    ),
     (&["sort"], "190100\n617a\n38c7\n", "38c7\n617a\n190100\n", 0),
     (&["sort"], "", "", 0),
     (&["sort"], "01\n00\n1801\n01\n", "00\n01\n01\n01\n", 0),
@@ -253,6 +276,12 @@ const WRONG_WORDS: &[&[&str]] = &[
     &["read", "1 "],
     &["read", "\u{661}"],
     &["read", "1", "2"],
+    &["read", "--det", "x"],
+    &["read", "3", "--det"],
+    &["read", "--det", "--det"],
+    &["read", "--det", "1", "2"],
+    &["sort", "--det"],
+    &["--det"],
     &["sort", "1"],
     &["sort", "x"],
     &["sort", ""],
@@ -267,7 +296,7 @@ fn refuses_wrong_words(rt: HostRuntime) -> Result<(), Fail> {
         let mut source = Source::new(b"00\n", 1, None);
         let device = Device::new(rt.alloc(), usize::MAX, false);
         let ended = run_on(rt.alloc(), words, &mut source, device)?;
-        let usage = "usage: cbor read [limit] | cbor sort\n";
+        let usage = "usage: cbor read [--det] [limit] | cbor sort\n";
         expect_end(&rt, &ended, 2, b"", usage, "wrong words");
         assert_eq!(rt; source.reads(), 0);
     }
