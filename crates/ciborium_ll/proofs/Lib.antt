@@ -13,3 +13,4 @@ pub mod Payloads
 pub mod OpenStrings
 pub mod MoreBytes
 pub mod Unread
+pub mod FirstHeads

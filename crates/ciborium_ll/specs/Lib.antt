@@ -12,4 +12,5 @@ pub mod HeaderLaws
 pub mod Reading
 pub mod Strings
 pub mod Decoding
+pub mod FirstHeads
 pub mod Writing

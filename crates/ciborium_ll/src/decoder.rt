@@ -5,7 +5,7 @@ ghost use Rattle.ciborium_ll.specs.Bytes.{greatest_offset};
 
 use crate::header::{Error, Header};
 use crate::keep::{Answered, Keep};
-use crate::reading::{fill, read_head};
+use crate::reading::{fill, read_first_head, read_head};
 use crate::strings::{Kind, append_string};
 use std::io::{self, Read};
 use std::mem;
@@ -25,12 +25,15 @@ pub struct Decoder<'a, R> {
 }
 
 impl<'a, R: Read> Decoder<'a, R> {
-    ghost use Rattle.std.specs.Prelude.{◌≡◌, IfErr, IfNone, IfSome, List, None, Ok, Some, ℕ};
-    ghost use Rattle.std.specs.Prelude.{string_bytes};
+    ghost use Rattle.std.specs.Prelude.{[], ◌≡◌, ◌<◌, IfErr, IfNone, IfOk, IfSome, List, None, Ok};
+    ghost use Rattle.std.specs.Prelude.{Some, string_bytes, ℕ};
+    ghost use Rattle.std.specs.Io.KnownBytes.{IsAtEnd};
     ghost use Rattle.ciborium_ll.specs.Decoding.{HasBegun, HasSameReader, IsAhead, IsUnread};
     ghost use Rattle.ciborium_ll.specs.Decoding.{MeasuresHead, Pulls, Takes};
     ghost use Rattle.ciborium_ll.specs.Decoding.{count_of, head_len_of, last_of, left_of};
     ghost use Rattle.ciborium_ll.specs.Decoding.{offset_of, pushed_of};
+    ghost use Rattle.ciborium_ll.specs.FirstHeads.{IsEndOrFault, IsFirstTaken, MeasuresFirst};
+    ghost use Rattle.ciborium_ll.specs.FirstHeads.{PullsFirst};
     ghost use Rattle.ciborium_ll.specs.Reading.{IsFillTaken, IsHeadTaken, IsRefusedBy};
     ghost use Rattle.ciborium_ll.specs.StringRefusal.{ContentRefuses, of_bytes, of_text};
     ghost use Rattle.ciborium_ll.specs.Strings.{Grows, IsStringTaken};
@@ -162,6 +165,74 @@ impl<'a, R: Read> Decoder<'a, R> {
         let pulled = read_head(self.reader, &mut self.count, keep);
         if pulled.is_ok() {
             self.head_len = self.count - start;
+        }
+        pulled
+    }
+
+    /// The first head of the reader, as `pull` answers it, or `None` where the first read gives
+    /// nothing: there a sequence of items ends (RFC 8742, section 2). A sequence that is cut short
+    /// within the head is no end. No head was pulled or pushed before.
+    ///
+    /// # Errors
+    ///
+    /// Those of `pull`: `Io` where a read fails, the first one too, or the reader ends inside the
+    /// head. After `None`, and after a fault of the first read, no byte has been taken.
+    #[inline(always)]
+    pub fn pull_first(&mut self) -> Result<Option<Header>, Error<io::Error>>
+        requires unpushed { pushed_of self.old ≡ None }
+        requires unpulled { head_len_of self.old ≡ 0 }
+        requires begun { last_of self.old ≡ count_of self.old }
+        requires room { count_of self.old < greatest_offset }
+        ensures same_reader { HasSameReader self.old self.new }
+        ensures none_pushed { pushed_of self.new ≡ None }
+
+        // At the end nothing is taken, and otherwise just the bytes that decide the answer.
+        ensures taken { Takes R.remaining self.old self.new
+            (λ b. IsFirstTaken b (count_of self.old) result) }
+        ensures last { last_of self.new ≡ count_of self.old }
+        ensures head_len { MeasuresFirst self.old self.new result }
+
+        // Where the reader's bytes are known, the end is where none are left, unless it failed.
+        ensures end { IfOk result (λ o. IfNone o (IsAtEnd (left_of R.remaining self.new))) }
+        ensures empty { left_of R.remaining self.old ≡ Some [] → IsEndOrFault result }
+
+        // The same, said of all that is unread.
+        ensures ahead { (b : List ℕ) (p : ℕ) → IsAhead R.remaining self.old b p →
+            PullsFirst R.remaining self.new b p result }
+    {
+        self.pull_first_keeping(&mut Answered)
+    }
+
+    /// What `pull_first` does; a reader's error goes to `keep`.
+    #[inline(always)]
+    pub fn pull_first_keeping<K: Keep>(
+        &mut self,
+        keep: &mut K,
+    ) -> Result<Option<Header>, Error<K::Kept>>
+        requires unpushed { pushed_of self.old ≡ None }
+        requires unpulled { head_len_of self.old ≡ 0 }
+        requires begun { last_of self.old ≡ count_of self.old }
+        requires room { count_of self.old < greatest_offset }
+        ensures same_reader { HasSameReader self.old self.new }
+        ensures none_pushed { pushed_of self.new ≡ None }
+
+        // At the end nothing is taken, and otherwise just the bytes that decide the answer.
+        ensures taken { Takes R.remaining self.old self.new
+            (λ b. IsFirstTaken b (count_of self.old) result) }
+        ensures last { last_of self.new ≡ count_of self.old }
+        ensures head_len { MeasuresFirst self.old self.new result }
+
+        // Where the reader's bytes are known, the end is where none are left, unless it failed.
+        ensures end { IfOk result (λ o. IfNone o (IsAtEnd (left_of R.remaining self.new))) }
+        ensures empty { left_of R.remaining self.old ≡ Some [] → IsEndOrFault result }
+
+        // The same, said of all that is unread.
+        ensures ahead { (b : List ℕ) (p : ℕ) → IsAhead R.remaining self.old b p →
+            PullsFirst R.remaining self.new b p result }
+    {
+        let pulled = read_first_head(self.reader, &mut self.count, keep);
+        if let Ok(Some(_)) = pulled {
+            self.head_len = self.count - self.last;
         }
         pulled
     }

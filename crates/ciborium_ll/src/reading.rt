@@ -3,7 +3,9 @@
 //! An `io::Error` is large, and so is a result that may hold one: inlined, none is moved on the way
 //! of a head.
 
-ghost use Rattle.std.specs.Prelude.{◌≡◌, ◌+◌, ◌≤◌, ◌%◌, ◌∷◌, length};
+ghost use Rattle.std.specs.Prelude.{◌≡◌, ◌+◌, ◌<◌, ◌≤◌, ◌%◌, ◌∷◌, IfNone, IfOk, length};
+ghost use Rattle.std.specs.Io.KnownBytes.{IsAtEnd};
+ghost use Rattle.ciborium_ll.specs.FirstHeads.{GivesInitial, IsFirstTaken, TellsEnd};
 ghost use Rattle.ciborium_ll.specs.Header.{announced_length};
 ghost use Rattle.ciborium_ll.specs.Refusal.{argument_length};
 ghost use Rattle.ciborium_ll.specs.Reading.{Advances, IsFillTaken, IsHeadTaken};
@@ -112,6 +114,28 @@ fn argument_size(info: u8) -> usize
     }
 }
 
+// Reads what follows the initial byte of the head at this offset.
+#[inline(always)]
+fn read_behind<R: Read, K: Keep>(
+    reader: &mut R,
+    count: &mut usize,
+    keep: &mut K,
+    start: usize,
+    initial: u8,
+) -> Result<Header, Error<K::Kept>>
+    requires { count.old ≡ start + 1 }
+    ensures fits { count.new ≤ usize.MAX }
+    ensures head { Advances (R.remaining reader.old) (R.remaining reader.new) count.old count.new
+        (λ b. IsHeadTaken (initial ∷ b) start result) }
+{
+    let size = argument_size(initial % 32);
+    if size == 0 {
+        return read_argument(reader, count, keep, start, initial, &mut []);
+    }
+    let mut room = [0u8; 8];
+    read_argument(reader, count, keep, start, initial, &mut room[..size])
+}
+
 // Reads the head at the front.
 #[inline(always)]
 pub(crate) fn read_head<R: Read, K: Keep>(
@@ -126,11 +150,53 @@ pub(crate) fn read_head<R: Read, K: Keep>(
     let start = *count;
     let mut first = [0u8; 1];
     fill(reader, &mut first, count, keep)?;
-    let initial = first[0];
-    let size = argument_size(initial % 32);
-    if size == 0 {
-        return read_argument(reader, count, keep, start, initial, &mut []);
+    read_behind(reader, count, keep, start, first[0])
+}
+
+// Whether a read gave a byte. One that gave none is the end, and a fault is no end.
+#[inline(always)]
+fn has_read<K: Keep>(read: io::Result<usize>, keep: &mut K) -> Result<bool, Error<K::Kept>>
+    ensures { TellsEnd read result }
+{
+    match read {
+        Ok(n) => Ok(n != 0),
+        Err(e) => Err(Error::Io(keep.keep(e))),
     }
-    let mut room = [0u8; 8];
-    read_argument(reader, count, keep, start, initial, &mut room[..size])
+}
+
+// Reads an initial byte, if there is one.
+#[inline(always)]
+fn read_initial<R: Read, K: Keep>(
+    reader: &mut R,
+    initial: &mut [u8],
+    keep: &mut K,
+) -> Result<bool, Error<K::Kept>>
+    requires { length initial.old ≡ 1 }
+    ensures { GivesInitial (R.remaining reader.old) (R.remaining reader.new) initial.new result }
+{
+    let read = reader.read(initial);
+    has_read(read, keep)
+}
+
+// Reads the head at the front, or none where the first read gives nothing.
+#[inline(always)]
+pub(crate) fn read_first_head<R: Read, K: Keep>(
+    reader: &mut R,
+    count: &mut usize,
+    keep: &mut K,
+) -> Result<Option<Header>, Error<K::Kept>>
+    requires { count.old < usize.MAX }
+    ensures fits { count.new ≤ usize.MAX }
+    ensures head { Advances (R.remaining reader.old) (R.remaining reader.new) count.old count.new
+        (λ b. IsFirstTaken b count.old result) }
+    ensures end { IfOk result (λ o. IfNone o (IsAtEnd (R.remaining reader.new))) }
+{
+    let start = *count;
+    let mut first = [0u8; 1];
+    if !read_initial(reader, &mut first, keep)? {
+        return Ok(None);
+    }
+    *count = start + 1;
+    let header = read_behind(reader, count, keep, start, first[0])?;
+    Ok(Some(header))
 }

@@ -262,3 +262,42 @@ fn a_local_decoder_leaves_the_rest(rt: HostRuntime) -> Result<(), Fail> {
     assert_eq!(rt; reader.len(), 1);
     Ok(())
 }
+
+// Bytes, the read that fails and how, and the first head, if there is one, or why it is refused.
+const FIRSTS: [(
+    &str,
+    Option<(usize, ErrorKind)>,
+    Result<Option<Header>, Reason>,
+); 7] = [
+    ("", None, Ok(None)),
+    ("00", None, Ok(Some(Header::Positive(0)))),
+    ("1818", None, Ok(Some(Header::Positive(24)))),
+    ("18", None, Err(ENDED)),
+    ("1c", None, Err(Reason::Syntax(0))),
+    (
+        "",
+        Some((0, ErrorKind::ConnectionReset)),
+        Err(Reason::Io(ErrorKind::ConnectionReset)),
+    ),
+    (
+        "1818",
+        Some((1, ErrorKind::Interrupted)),
+        Err(Reason::Io(ErrorKind::Interrupted)),
+    ),
+];
+
+#[test]
+fn the_end_is_no_cut(rt: HostRuntime) -> Result<(), Fail> {
+    for (text, fault, expected) in FIRSTS {
+        let bytes = decode_hex(rt.alloc(), text)?;
+        let mut reader = Source::new(&bytes, 1, fault);
+        let mut decoder = Decoder::new(&mut reader);
+        let found = decoder.pull_first().map_err(reason_of);
+        assert_eq!(rt; found, expected, "{text}");
+        if expected.is_ok() {
+            assert_eq!(rt; decoder.offset(), bytes.len(), "{text}");
+            assert_eq!(rt; decoder.head_len(), bytes.len(), "{text}");
+        }
+    }
+    Ok(())
+}

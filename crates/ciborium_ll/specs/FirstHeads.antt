@@ -1,0 +1,62 @@
+-- The first head of a reader that may have none: what reading it answers, and how it tells the end from a cut (RFC 8742, section 2).
+use Rattle.std.specs.Prelude.{◌≡◌, ℕ, zero, suc, ◌+◌, List, [], Option, Some, None, Bool, true, false, Result, Ok, Err}
+use Rattle.std.specs.Io.KnownBytes.{Consumes, IsAtEnd}
+use Rattle.std.specs.declared.io.Error.{Error as IoError}
+use Rattle.ciborium_ll.specs.declared.header.Header.{Header}
+use Rattle.ciborium_ll.specs.declared.header.Error.{Error}
+use Rattle.ciborium_ll.specs.declared.header.Error.TheVariants.{Io, Syntax, TooLong, Memory}
+use Rattle.ciborium_ll.specs.declared.decoder.Decoder.{Decoder}
+use Rattle.ciborium_ll.specs.Bytes.{AreBytes}
+use Rattle.ciborium_ll.specs.Decoding.{PullsTo}
+use Rattle.ciborium_ll.specs.Reading.{IsHeadTaken}
+
+-- `Io` is the only error
+abbrev pub IsIo : {E : Type 0} → Error E → Type 0
+IsIo (Io e) = Unit {0}
+IsIo (Syntax p) = ⊥
+IsIo TooLong = ⊥
+IsIo Memory = ⊥
+
+-- the answer says whether a read gave a byte: one that gave none is the end, and a fault is `Io`
+abbrev pub TellsEnd : {E : Type 0} → Result ℕ IoError → Result Bool (Error E) → Type 0
+TellsEnd (Ok zero) (Ok some) = some ≡ false
+TellsEnd (Ok (suc n)) (Ok some) = some ≡ true
+TellsEnd (Ok n) (Err e) = ⊥
+TellsEnd (Err x) (Ok some) = ⊥
+TellsEnd (Err x) (Err e) = IsIo e
+
+-- the initial byte was taken; or nothing was, and known bytes are none; or nothing was, and the reader failed
+abbrev pub GivesInitial : {E : Type 0} → Option (List ℕ) → Option (List ℕ) → List ℕ → Result Bool (Error E) → Type 0
+GivesInitial old new initial (Ok true) = Consumes old new initial × AreBytes initial
+GivesInitial old new initial (Ok false) = Consumes old new [] × IsAtEnd new
+GivesInitial old new initial (Err e) = Consumes old new [] × IsIo e
+
+-- b are the bytes taken at offset p, where reading the first head answers so: none at the end, and otherwise just those that
+-- decide the answer
+abbrev pub IsFirstTaken : {E : Type 0} → List ℕ → ℕ → Result (Option Header) (Error E) → Type 0
+IsFirstTaken b p (Ok None) = b ≡ []
+IsFirstTaken {E} b p (Ok (Some header)) = IsHeadTaken {E = E} b p (Ok header)
+IsFirstTaken {E} b p (Err e) = IsHeadTaken {E = E} b p (Err e)
+
+-- a head that is taken is measured; the end, or a refusal, changes nothing
+abbrev pub MeasuresFirst : {S E : Type 0} → Decoder S → Decoder S → Result (Option Header) (Error E) → Type 0
+MeasuresFirst old new (Ok None) = new.head_len ≡ old.head_len
+MeasuresFirst old new (Ok (Some header)) = new.count ≡ old.count + new.head_len
+MeasuresFirst old new (Err e) = new.head_len ≡ old.head_len
+
+-- reading the first head at the front of b, whose first byte is at offset p, answers so: the end where b is empty, and otherwise
+-- what a pull answers
+abbrev pub PullsFirstTo : {E : Type 0} → ℕ → ℕ → Option (List ℕ) → List ℕ → ℕ → Result (Option Header) (Error E) → Type 0
+PullsFirstTo last count left b p (Ok None) = (b ≡ []) × (count ≡ p) × (left ≡ Some [])
+PullsFirstTo {E} last count left b p (Ok (Some header)) = PullsTo {E = E} last count left b p (Ok header)
+PullsFirstTo {E} last count left b p (Err e) = PullsTo {E = E} last count left b p (Err e)
+
+-- the decoder has read so
+abbrev pub PullsFirst : {S E : Type 0} → (S → Option (List ℕ)) → Decoder S → List ℕ → ℕ → Result (Option Header) (Error E) → Type 0
+PullsFirst remaining d b p result = PullsFirstTo d.last d.count (remaining d.reader.now) b p result
+
+-- the answer where nothing is left: the end, unless the reader failed
+abbrev pub IsEndOrFault : {E : Type 0} → Result (Option Header) (Error E) → Type 0
+IsEndOrFault (Ok None) = Unit {0}
+IsEndOrFault (Ok (Some header)) = ⊥
+IsEndOrFault (Err e) = IsIo e
