@@ -61,3 +61,5 @@ mod StrictRefused
 mod StrictAnswered
 mod StrictOutcome
 mod JudgedReaders
+mod NextReaders
+mod Sequences

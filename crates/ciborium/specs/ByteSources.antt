@@ -5,16 +5,17 @@ use Rattle.ciborium_ll.specs.declared.header.Header.{Header}
 use Rattle.ciborium_ll.specs.declared.header.Header.TheVariants as header
 use Rattle.ciborium_ll.specs.declared.decoder.Decoder.{Decoder}
 use Rattle.ciborium_ll.specs.Bytes.{greatest_offset}
-use Rattle.ciborium_ll.specs.Decoding.{HasSameReader, IsAhead, TakesBeforeAny}
+use Rattle.ciborium_ll.specs.Decoding.{HasSameReader, IsAheadBy, TakesBeforeAny}
 use Rattle.ciborium_ll.specs.Header.{SpellsHeader}
 use Rattle.ciborium_ll.specs.Item.{Item, unsigned}
 use Rattle.ciborium_ll.specs.Refusal.{IsUsable}
 use Rattle.ciborium_ll.specs.Spells.{Spells}
 use Rattle.ciborium_value.specs.Ahead.{Ahead, Rest, Form, bottom, parts, pairs, entry, held, item, after, of_bytes, past, inside}
-use Rattle.ciborium_value.specs.Nesting.{Limit}
+use Rattle.ciborium_value.specs.Meaning.{meaning}
+use Rattle.ciborium_value.specs.Nesting.{Limit, nesting}
 use Rattle.ciborium_value.specs.Places.{Shape, sequence, dictionary}
 use Rattle.ciborium_value.specs.Sources.{Fault, of_kind, of_nesting, of_syntax, of_memory, of_device, HasItem, IsFaultOf}
-use Rattle.ciborium_value.specs.Taken.{Outcome, Taken, gives, is_null_simple, taken_value}
+use Rattle.ciborium_value.specs.Taken.{Outcome, Taken, gives, is_null_simple}
 use Rattle.ciborium_value.specs.Tree.{Tree}
 use Rattle.ciborium.specs.declared.de.error.Error.{Error}
 use Rattle.ciborium.specs.declared.de.error.Error.TheVariants.{Io, Syntax, Semantic, RecursionLimitExceeded, Memory, TooLong}
@@ -189,13 +190,13 @@ refusal_of TooLong = TooLong
 
 -- ---- a value of any shape
 
--- the head alone spells an item, and it gives this tree at every limit
+-- the head alone spells an item, which means this tree and takes no level
 abbrev pub StandsFor : Header → Tree → Type 0
-StandsFor h v = (s : List ℕ) → SpellsHeader s h → (i : Item) × Spells s i × ((l : Limit) → taken_value l i ≡ gives v)
+StandsFor h v = (s : List ℕ) → SpellsHeader s h → (i : Item) × Spells s i × (meaning i ≡ Some v) × (nesting i ≡ 0)
 
--- the source holds the reader that it held; and where no head was pending the value ahead was read so, whatever follows the bytes
--- that were taken
+-- the source holds the reader that it held; and the value ahead, the bytes of a head that was pending included, was read so, whatever
+-- follows the bytes that were taken
 abbrev pub ReadsValue : {S E : Type 0} → (S → Option (List ℕ)) → ByteSource S → ByteSource S → Result Tree (Error E) → Type 0
 ReadsValue remaining old new r =
     HasSameReader old.decoder new.decoder ×
-    (old.pending ≡ None → TakesBeforeAny remaining old.decoder new.decoder (λ d e. (xs : List ℕ) (p : ℕ) → IsAhead Some d xs p → IsTreeRead Some e old.levels xs p r))
+    TakesBeforeAny remaining old.decoder new.decoder (λ d e. (xs : List ℕ) (p : ℕ) → IsAheadBy Some d xs p old.pending → IsTreeRead Some e old.levels xs p r)

@@ -23,3 +23,4 @@ pub mod DeterministicRefusals
 pub mod DeterministicLaws
 pub mod DeterministicReads
 pub mod ItemSequences
+pub mod NextItems

@@ -10,6 +10,7 @@ ghost use Rattle.ciborium.specs.DeterministicLaws.{DeterministicOrRefused};
 ghost use Rattle.ciborium.specs.DeterministicLaws.{NeverBothDeterministically};
 ghost use Rattle.ciborium.specs.DeterministicLaws.{OneDeterministicRefusal, OneDeterministicTree};
 ghost use Rattle.ciborium.specs.EncodingLaws.{EncodingSpells, HeadsRise, OneTree, OthersAreLonger};
+ghost use Rattle.ciborium.specs.ItemSequences.{OneSequence};
 ghost use Rattle.ciborium.specs.TypedReads.{SourcesAgree};
 ghost use Rattle.ciborium.specs.Writes.{IsNamedWritten};
 
@@ -80,4 +81,10 @@ pub fn deterministic_or_refused()
     ensures never_both { NeverBothDeterministically }
     ensures one_refusal { OneDeterministicRefusal }
     ensures one_tree { OneDeterministicTree }
+{}
+
+/// No bytes are two sequences (RFC 8742, section 2): the items need nothing between them that says
+/// where one ends and the next begins.
+pub fn one_sequence()
+    ensures { OneSequence }
 {}

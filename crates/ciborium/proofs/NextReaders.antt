@@ -1,0 +1,167 @@
+-- From the head that was pulled first, and what is read behind it, to the reader of a sequence.
+use Rattle.std.proofs.Common.{◌≡◌, ℕ, ◌+◌, ◌<◌, ◌≤◌, List, [], ◌++◌, length, Option, Some, None, Result, Ok, Err, IfErr, IfNone, IfOk, IfSome, refl, sym, ap, ◌∙◌, subst, append_assoc, arith, length-append}
+use Rattle.std.specs.Io.KnownBytes.{Consumes, IsAtEnd}
+use Rattle.std.proofs.KnownBytes.{Consumes-trans}
+use Rattle.std.proofs.lemmas.List.Elements.{All-append}
+use Rattle.ciborium_ll.specs.declared.header.Header.{Header}
+use Rattle.ciborium_ll.specs.declared.header.Error.{Error as LlError}
+use Rattle.ciborium_ll.specs.declared.header.Error.TheVariants as ll
+use Rattle.ciborium_ll.specs.declared.decoder.Decoder.{Decoder}
+use Rattle.ciborium_ll.specs.Bytes.{greatest_offset}
+use Rattle.ciborium_ll.specs.Decoding.{HasBegun, IsAheadBy, Takes, with_left}
+use Rattle.ciborium_ll.specs.FirstHeads as first_heads
+use Rattle.ciborium_ll.specs.FirstHeads.{IsEndOrFault, IsFirstTaken}
+use Rattle.ciborium_ll.specs.Header.{SpellsHeader}
+use Rattle.ciborium_ll.specs.Reading.{Advances, IsHeadTaken}
+use Rattle.ciborium_ll.specs.Refusal.{HeadRefuses, IsUsable}
+use Rattle.ciborium_ll.specs.Spells.{Spells}
+use Rattle.ciborium_ll.proofs.Unread.{reads-head}
+use Rattle.ciborium_value.specs.Readings.{Reading}
+use Rattle.ciborium_value.specs.Refuses.{Refuses}
+use Rattle.ciborium_value.specs.Sources.{IsGranted, read_as}
+use Rattle.ciborium_value.specs.Taken.{Taken}
+use Rattle.ciborium_value.specs.Tree.{Tree}
+use Rattle.ciborium.specs.declared.de.byte_source.ByteSource.{ByteSource}
+use Rattle.ciborium.specs.declared.de.error.Error.{Error}
+use Rattle.ciborium.specs.Answers.{ReadsWhole, TakesBytes}
+use Rattle.ciborium.specs.ByteSources.{IsUnread, ReadsValue, cause_of}
+use Rattle.ciborium.specs.Errors.{from_ll, IsRefusedBy}
+use Rattle.ciborium.specs.NextItems.{GoesOn, IsIo, IsReadFrom, Otherwise, TellsEnd, behind_head}
+use Rattle.ciborium.specs.TypedReads.{IsFaultAhead, RefusesTaken, TakesGiven}
+use Rattle.ciborium.proofs.FrontReads.{head-outside}
+use Rattle.ciborium.proofs.HandedReaders.{handed-denied, handed-given, some-map, taken-tree}
+use Rattle.ciborium.proofs.ItemHeads.{first-head, header_of}
+use Rattle.ciborium.proofs.KnownReaders.{whole-of}
+use Rattle.ciborium.proofs.Pulled.{refused-from, refused-map}
+use Rattle.ciborium.proofs.SkippedTags.{fault-outside}
+
+-- what an answer says where none is the end
+end-says : {A E : Type 0} (r : Result (Option A) E) (P : Result A E → Type 0) → r ≡ Ok None → Otherwise r P
+end-says r P is = subst (λ q. Otherwise q P) (sym is) tt
+
+-- ---- the head that was pulled first: d was begun on the reader that was lent, and has pulled it
+
+module _ {S : Type 0} (E : Type 0) (remaining : S → Option (List ℕ)) (d : Decoder S) (s : ByteSource S) (lent : S) (begins : HasBegun d lent 0) (h : Header) (taken : Takes remaining d s.decoder (λ b. IsHeadTaken {E = E} b d.count (Ok h))) where
+  zero-count : d.count ≡ 0
+  zero-count = begins.count
+
+  -- it is pending
+  front : (b : List ℕ) → remaining lent ≡ Some b → IsUnread remaining (behind_head s h) b
+  front b known =
+      let (x, r, spelled, usable, split, count, left) = reads-head {E = E} (remaining d.reader.now) (remaining s.decoder.reader.now) b d.count s.decoder.count (Ok h) (ap remaining begins.reader ∙ known) taken in
+      (x, r, spelled, split, left, λ fixed. (subst (IsUsable b) zero-count usable, count ∙ ap (λ n. n + length x) zero-count))
+
+  -- whatever follows it
+  front-any : (u : List ℕ) → IsAheadBy Some (with_left s.decoder u) (taken.0 ++ u) 0 (Some (h, 0))
+  front-any u =
+      let (x, consumed, count, t, bytes) = taken in
+      let (y, r, spelled, usable, split, sum, left) = reads-head {E = E} (Some (x ++ u)) (Some u) (x ++ u) d.count s.decoder.count (Ok h) refl (x, refl, count, t, bytes) in
+      (refl, y, r, spelled, subst (IsUsable (x ++ u)) zero-count usable, split, sum ∙ ap (λ n. n + length y) zero-count, left)
+
+  -- with the bytes that were taken behind it
+  joined : (t : ByteSource S) (x : S) (r : Result Tree (Error E)) → (s.decoder.reader.ghost_name ≡ t.decoder.reader.ghost_name → x ≡ t.decoder.reader.now) → ReadsValue {E = E} remaining (behind_head s h) t r → TakesBytes {E = E} (remaining lent) s.levels (remaining x) r
+  joined t x r back reads =
+      let (b, consumed, count, head, bytes) = taken in
+      let (c, more, sum, f, low) = reads.1 in
+      let zero = zero-count in
+      let less = t.decoder.fits in
+      let after : remaining x ≡ remaining t.decoder.reader.now = ap remaining (back (sym reads.0)) in (
+        b ++ c,
+        subst (λ o. Consumes (remaining lent) o (b ++ c)) (sym after) (Consumes-trans (remaining lent) (remaining s.decoder.reader.now) (remaining t.decoder.reader.now) b c (subst (λ y. Consumes (remaining y) (remaining s.decoder.reader.now) b) begins.reader consumed) more),
+        omega (arith, count, sum, zero, less, length-append b c),
+        taken-tree E t.decoder s.levels (b ++ c) r t.unpushed (λ z. subst (λ u. Rattle.ciborium.specs.Answers.IsTreeRead {S = List ℕ} {E = E} Some (with_left t.decoder z) s.levels u 0 r) (sym (append_assoc b c z)) (f z (b ++ (c ++ z)) 0 (front-any (c ++ z)))),
+        All-append (λ n. n < 256) b c bytes low,
+      )
+
+-- ---- the answer of the call, with what was read behind the head
+
+module _ {S T A : Type 0} (E : Type 0) (remaining : S → Option (List ℕ)) (reading : Reading T A) (d : Decoder S) (s t : ByteSource S) (lent x : S) (begins : HasBegun d lent 0) where
+  -- what is known of the answer behind the first head
+  abbrev pub Behind : Option Header → Result (Option T) (Error E) → Type 0
+  Behind first r = IfSome first (λ h. GoesOn r (λ q. IsReadFrom {E = E} remaining reading (behind_head s h) t q))
+
+  abbrev pub End : Option Header → Result (Option T) (Error E) → Type 0
+  End first r = IfNone first ((r ≡ Ok None) × (t.decoder ≡ s.decoder))
+
+  abbrev pub First : Option Header → Type 0
+  First first = Takes remaining d s.decoder (λ b. IsFirstTaken {E = E} b d.count (Ok first))
+
+  module _ (back : s.decoder.reader.ghost_name ≡ t.decoder.reader.ghost_name → x ≡ t.decoder.reader.now) where
+    pub tells-end : (first : Option Header) (r : Result (Option T) (Error E)) → First first → IfNone first (IsAtEnd (remaining s.decoder.reader.now)) → (remaining d.reader.now ≡ Some [] → IsEndOrFault {E = E} (Ok first)) → End first r → Behind first r →
+        TellsEnd {E = E} (remaining lent) (remaining x) r
+    tells-end None r (b, consumed, count, none, bytes) end empty (is, same) item =
+        let after : x ≡ s.decoder.reader.now = back (ap (λ (u : Decoder S). u.reader.ghost_name) (sym same)) ∙ ap (λ (u : Decoder S). u.reader.now) same in
+        subst (λ q. TellsEnd {E = E} (remaining lent) (remaining x) q) (sym is) (
+          subst (λ y. Consumes (remaining lent) (remaining y) []) (sym after) (subst (λ y. Consumes (remaining y) (remaining s.decoder.reader.now) []) begins.reader (subst (λ z. Consumes (remaining d.reader.now) (remaining s.decoder.reader.now) z) none consumed)),
+          subst (λ y. IsAtEnd (remaining y)) (sym after) end,
+        )
+    tells-end (Some h) (Ok None) taken end empty none item = absurd item
+    tells-end (Some h) (Ok (Some v)) taken end empty none item = λ known. empty (ap remaining begins.reader ∙ known)
+    tells-end (Some h) (Err e) taken end empty none item = λ known. absurd (empty (ap remaining begins.reader ∙ known))
+
+    pub next-ok : (first : Option Header) (r : Result (Option T) (Error E)) → First first → End first r → Behind first r →
+        Otherwise r (λ q. TakesGiven (Some s.levels) reading.taken (remaining lent) (remaining x) (read_as reading.content q))
+    next-ok None r taken (is, same) item = end-says r (λ q. TakesGiven (Some s.levels) reading.taken (remaining lent) (remaining x) (read_as reading.content q)) is
+    next-ok (Some h) (Ok None) taken none item = absurd item
+    next-ok (Some h) (Ok (Some v)) taken none item = λ b known. handed-given E remaining reading (behind_head s h) t b (front E remaining d s lent begins h taken b known) x back (Ok v) item
+    next-ok (Some h) (Err e) taken none item = λ b known. tt
+
+    pub next-value : (first : Option Header) (r : Result (Option T) (Error E)) → First first → End first r → Behind first r →
+        Otherwise r (λ q. IfSome reading.whole (λ tree. ReadsWhole (remaining lent) s.levels (remaining x) (read_as (λ v. tree (reading.content v)) q)))
+    next-value None r taken (is, same) item = end-says r (λ q. IfSome reading.whole (λ tree. ReadsWhole (remaining lent) s.levels (remaining x) (read_as (λ v. tree (reading.content v)) q))) is
+    next-value (Some h) (Ok None) taken none item = absurd item
+    next-value (Some h) (Ok (Some v)) taken none item =
+        some-map reading.whole item.whole (λ tree reads. whole-of {E = E} s.levels (remaining lent) (remaining x) (Ok (tree (reading.content v))) (joined E remaining d s lent begins h taken t x (Ok (tree (reading.content v))) back reads))
+    next-value (Some h) (Err e) taken none item =
+        some-map reading.whole item.whole (λ tree reads. whole-of {E = E} s.levels (remaining lent) (remaining x) (Err e) (joined E remaining d s lent begins h taken t x (Err e) back reads))
+
+  pub next-refused : (first : Option Header) (r : Result (Option T) (Error E)) → First first → End first r → Behind first r → Otherwise r (λ q. RefusesTaken (Some s.levels) reading.taken (remaining lent) (read_as reading.content q))
+  next-refused None r taken (is, same) item = end-says r (λ q. RefusesTaken (Some s.levels) reading.taken (remaining lent) (read_as reading.content q)) is
+  next-refused (Some h) (Ok None) taken none item = absurd item
+  next-refused (Some h) (Ok (Some v)) taken none item = λ b known. tt
+  next-refused (Some h) (Err e) taken none item = λ b known. handed-denied E remaining reading (behind_head s h) t b (front E remaining d s lent begins h taken b known) (Err e) item
+
+  pub next-memory : (first : Option Header) (r : Result (Option T) (Error E)) → End first r → Behind first r → IfErr r (λ e. IsGranted (cause_of e) reading.takes_memory)
+  next-memory None r (is, same) item = subst (λ q. IfErr q (λ e. IsGranted (cause_of e) reading.takes_memory)) (sym is) tt
+  next-memory (Some h) (Ok None) none item = absurd item
+  next-memory (Some h) (Ok (Some v)) none item = tt
+  next-memory (Some h) (Err e) none item = item.memory
+
+-- ---- the first head was refused
+
+pub first-io : {E : Type 0} (e : LlError E) → first_heads.IsIo e → IsIo (from_ll e)
+first-io (ll.Io e) h = tt
+first-io (ll.Syntax p) h = h
+first-io ll.TooLong h = h
+first-io ll.Memory h = h
+
+module _ {S : Type 0} (E : Type 0) (remaining : S → Option (List ℕ)) (d e : Decoder S) (lent : S) (begins : HasBegun d lent 0) (x : LlError E) (taken : Takes remaining d e (λ b. IsHeadTaken {E = E} b d.count (Err x))) where
+  pub first-denied : {A : Type 0} (l : Option ℕ) (given : Taken A) (b : List ℕ) → remaining lent ≡ Some b → IsFaultAhead l given b (cause_of (from_ll x))
+  first-denied l given b known i s left spelled split =
+      let (y, c, head, whole) = first-head s i spelled in
+      let refused = reads-head {E = E} (remaining d.reader.now) (remaining e.reader.now) b d.count e.count (Err x) (ap remaining begins.reader ∙ known) taken in
+      fault-outside (cause_of (from_ll x)) (given l i) (head-outside (remaining e.reader.now) x b y (c ++ left) d.count (header_of i) head (split ∙ ap (λ (z : List ℕ). z ++ left) whole ∙ append_assoc y c left) refused)
+
+  pub first-taken : (l : ℕ) (back : S) → back ≡ e.reader.now → TakesBytes {E = E} (remaining lent) l (remaining back) (Err (from_ll x))
+  first-taken l back same =
+      let (b, consumed, count, head, bytes) = taken in
+      let zero : d.count ≡ 0 = begins.count in
+      let less = e.fits in (
+        b,
+        subst (λ y. Consumes (remaining lent) (remaining y) b) (sym same) (subst (λ y. Consumes (remaining y) (remaining e.reader.now) b) begins.reader consumed),
+        omega (arith, count, zero, less),
+        (λ c. refused-map (Some c) (from_ll x) (HeadRefuses (b ++ c) 0) (λ r. Refuses (b ++ c) 0 (Some l) r) (λ r h. Refuses.no_head h)
+            (refused-from (Some c) x (HeadRefuses (b ++ c) 0) (subst (λ n. Rattle.ciborium_ll.specs.Reading.IsRefusedBy (Some c) x (HeadRefuses (b ++ c) n)) zero
+            (reads-head {E = E} (Some (b ++ c)) (Some c) (b ++ c) d.count e.count (Err x) refl (b, refl, count, head, bytes))))),
+        bytes,
+      )
+
+pub first-granted : {E : Type 0} (e : LlError E) (b : List ℕ) (p : ℕ) (memory : Rattle.std.proofs.Common.Bool) → IsHeadTaken {E = E} b p (Err e) → IsGranted (cause_of (from_ll e)) memory
+first-granted (ll.Io e) b p memory h = tt
+first-granted (ll.Syntax at) b p memory h = tt
+first-granted ll.TooLong b p memory h = tt
+first-granted ll.Memory b p memory h = absurd h.answers
+
+pub some-all : {A : Type 0} {P : A → Type 0} (o : Option A) → ((v : A) → P v) → IfSome o P
+some-all (Some v) f = f v
+some-all None f = tt

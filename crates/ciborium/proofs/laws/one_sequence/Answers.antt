@@ -1,0 +1,5 @@
+use Rattle.ciborium.proofs.Sequences.{one_sequence}
+use Rattle.ciborium.proofs.laws.one_sequence.Goals as goal
+
+pub returns : goal.returns
+returns c = one_sequence
