@@ -3,9 +3,10 @@ use Rattle.std.proofs.Common.{◌≡◌, ℕ, ◌≤◌, List, [], ◌∷◌, �
 use Rattle.std.specs.Io.KnownBytes.{Consumes}
 use Rattle.ciborium_ll.specs.declared.decoder.Decoder.{Decoder}
 use Rattle.ciborium_ll.specs.Bytes.{greatest_offset}
-use Rattle.ciborium_ll.specs.Decoding.{HasBegun, with_left}
+use Rattle.ciborium_ll.specs.Decoding.{HasBegun, IsAheadBy, with_left}
 use Rattle.ciborium_value.specs.Ahead.{bottom}
 use Rattle.ciborium_value.specs.Nesting.{Limit}
+use Rattle.ciborium_value.specs.Readings.{Reading}
 use Rattle.ciborium_value.specs.Refuses.{IsReadAs}
 use Rattle.ciborium_value.specs.Sources.{Fault, Refuses, Takes, TakesItem, read_as}
 use Rattle.ciborium_value.specs.Taken.{Taken}
@@ -13,9 +14,9 @@ use Rattle.ciborium_value.specs.Tree.{Tree}
 use Rattle.ciborium.specs.declared.de.byte_source.ByteSource.{ByteSource}
 use Rattle.ciborium.specs.declared.de.error.Error.{Error}
 use Rattle.ciborium.specs.Answers.{IsTreeRead, IsTakenAs, TakesBytes}
-use Rattle.ciborium.specs.ByteSources.{IsUnread, IsUnreadBy, ReadsValue, StandsBefore}
+use Rattle.ciborium.specs.ByteSources.{IsUnread, IsUnreadBy, ReadsValue, StandsBefore, cause_of}
+use Rattle.ciborium.specs.NextItems.{IsReadFrom}
 use Rattle.ciborium.specs.TypedReads.{IsFaultAhead, TakesGiving}
-use Rattle.ciborium.proofs.Fronts.{ahead-at}
 use Rattle.ciborium.proofs.Outcomes.{left-at}
 
 module _ {S A : Type 0} (remaining : S → Option (List ℕ)) (old : ByteSource S) (taken : Taken A) (b : List ℕ) (front : IsUnread remaining old b) where
@@ -31,27 +32,44 @@ module _ {S A : Type 0} (remaining : S → Option (List ℕ)) (old : ByteSource 
   pub handed-refused : (fault : Fault) → Refuses (StandsBefore remaining) old taken fault → IsFaultAhead (Some old.levels) taken b fault
   handed-refused fault h i s z sp e = h (Some old.levels) i (bottom old.decoder.reader.ghost_name z) (b, front, (s, z, sp, (refl, refl), e), refl, tt)
 
+-- the same, of what was read from the source
+pub handed-given : {S T A : Type 0} (E : Type 0) (remaining : S → Option (List ℕ)) (reading : Reading T A) (old new : ByteSource S) (b : List ℕ) → IsUnread remaining old b → (x : S) → (old.decoder.reader.ghost_name ≡ new.decoder.reader.ghost_name → x ≡ new.decoder.reader.now) →
+    (r : Result T (Error E)) → IsReadFrom {E = E} remaining reading old new r → IfOk (read_as reading.content r) (λ v. TakesGiving (Some old.levels) reading.taken b v (remaining x))
+handed-given E remaining reading old new b front x back (Ok v) h = handed-ok remaining old reading.taken b front new (reading.content v) x back h.took h.ok
+handed-given E remaining reading old new b front x back (Err e) h = tt
+
+pub handed-denied : {S T A : Type 0} (E : Type 0) (remaining : S → Option (List ℕ)) (reading : Reading T A) (old new : ByteSource S) (b : List ℕ) → IsUnread remaining old b →
+    (r : Result T (Error E)) → IsReadFrom {E = E} remaining reading old new r → IfErr (read_as reading.content r) (λ e. IsFaultAhead (Some old.levels) reading.taken b (cause_of e))
+handed-denied E remaining reading old new b front (Ok v) h = tt
+handed-denied E remaining reading old new b front (Err e) h = handed-refused remaining old reading.taken b front (cause_of e) h.refused
+
 -- ---- where reading is one call of `value`
 
 same-rest : (u v : List ℕ) → Some u ≡ Some v → u ≡ v
 same-rest u v e = cc
 
+-- what was taken, where that is said whatever follows it
+pub taken-tree : (E : Type 0) {S : Type 0} (d : Decoder S) (l : ℕ) (s : List ℕ) (r : Result Tree (Error E)) → d.pushed ≡ None → ((c : List ℕ) → IsTreeRead {S = List ℕ} {E = E} Some (with_left d c) l (s ++ c) 0 r) → IsTakenAs {E = E} s l r
+taken-tree E d l s (Ok v) none f =
+    let (zs, q, item, at) = f [] in
+    let left : [] ≡ zs = same-rest [] zs (left-at Some (with_left d []) q zs none at) in
+    let whole : item.taken ≡ s = sym (append-nil item.taken) ∙ ap (λ (z : List ℕ). item.taken ++ z) left ∙ sym item.split ∙ append-nil s in
+    subst (λ z. IsReadAs z 0 (Some l) v) whole item.read
+taken-tree E d l s (Err e) none f = f
+
 pub handed-whole : (E : Type 0) {S : Type 0} (remaining : S → Option (List ℕ)) (old new : ByteSource S) (lent x : S) (r : Result Tree (Error E)) → HasBegun old.decoder lent 0 → old.pending ≡ None → (old.decoder.reader.ghost_name ≡ new.decoder.reader.ghost_name → x ≡ new.decoder.reader.now) → ReadsValue remaining old new r →
     TakesBytes {E = E} (remaining lent) old.levels (remaining x) r
 handed-whole E {S} remaining old new lent x r begins none back reads =
-    let (s, taken, count, h, bytes) = reads.1 none in
+    let (s, taken, count, h, bytes) = reads.1 in
     let zero : old.decoder.count ≡ 0 = begins.count in
     let less = new.decoder.fits in
-    let after : remaining x ≡ remaining new.decoder.reader.now = ap remaining (back (sym reads.0)) in
-    (s, subst (λ o. Consumes (remaining lent) o s) (sym after) (subst (λ y. Consumes (remaining y) (remaining new.decoder.reader.now) s) begins.reader taken), omega (arith, count, zero, less), found s r (λ c. h c (s ++ c) 0 (ahead-at Some (with_left old.decoder (s ++ c)) 0 (s ++ c) begins.pushed (begins.count, refl))), bytes)
-  where
-    found : (s : List ℕ) (r : Result Tree (Error E)) → ((c : List ℕ) → IsTreeRead {S = List ℕ} {E = E} Some (with_left new.decoder c) old.levels (s ++ c) 0 r) → IsTakenAs {E = E} s old.levels r
-    found s (Ok v) f =
-        let (zs, q, item, at) = f [] in
-        let left : [] ≡ zs = same-rest [] zs (left-at Some (with_left new.decoder []) q zs new.unpushed at) in
-        let whole : item.taken ≡ s = sym (append-nil item.taken) ∙ ap (λ (z : List ℕ). item.taken ++ z) left ∙ sym item.split ∙ append-nil s in
-        subst (λ z. IsReadAs z 0 (Some old.levels) v) whole item.read
-    found s (Err e) f = f
+    let after : remaining x ≡ remaining new.decoder.reader.now = ap remaining (back (sym reads.0)) in (
+      s,
+      subst (λ o. Consumes (remaining lent) o s) (sym after) (subst (λ y. Consumes (remaining y) (remaining new.decoder.reader.now) s) begins.reader taken),
+      omega (arith, count, zero, less),
+      taken-tree E new.decoder old.levels s r new.unpushed (λ c. h c (s ++ c) 0 (subst (λ o. IsAheadBy Some (with_left old.decoder (s ++ c)) (s ++ c) 0 o) (sym none) (begins.count, refl))),
+      bytes,
+    )
 
 pub err-map : {T E : Type 0} {P Q : E → Type 0} (r : Result T E) → IfErr r P → ((v : E) → P v → Q v) → IfErr r Q
 err-map (Ok v) p f = tt

@@ -1,5 +1,6 @@
 -- The value ahead, read whole.
-use Rattle.std.proofs.Common.{◌≡◌, ℕ, Bool, true, false, List, ◌++◌, Option, Some, None, Result, Ok, Err, refl, sym, ap, ◌∙◌, subst, eqb, eqb-true, ◌||◌, ℤ, pos}
+use Rattle.std.proofs.Common.{◌≡◌, ℕ, ◌+◌, Bool, true, false, List, ◌++◌, length, Option, Some, None, Result, Ok, Err, refl, sym, ap, ◌∙◌, subst, arith, eqb, eqb-true, ◌||◌, ℤ, pos}
+use Rattle.std.specs.Io.KnownBytes.{Consumes}
 use Rattle.ciborium_ll.specs.declared.header.Header.{Header}
 use Rattle.ciborium_ll.specs.declared.header.Header.TheVariants as header
 use Rattle.ciborium_ll.specs.declared.decoder.Decoder.{Decoder}
@@ -12,18 +13,21 @@ use Rattle.ciborium_value.specs.declared.kind.Kind.{Kind}
 use Rattle.ciborium_value.specs.declared.kind.Kind.TheVariants as kinds
 use Rattle.ciborium_value.specs.declared.tree.Value.{Value}
 use Rattle.ciborium_value.specs.Meaning.{simple_meaning}
-use Rattle.ciborium_value.specs.Nesting.{Limit}
+use Rattle.ciborium_value.specs.Nesting.{Limit, IsWithin, nesting}
 use Rattle.ciborium_value.specs.Refuses.{Refuses}
-use Rattle.ciborium_value.specs.Sources.{IsFaultOf, of_kind}
-use Rattle.ciborium_value.specs.Taken.{gives, of_meaning, taken_value}
+use Rattle.ciborium_value.specs.Sources.{IsFaultOf, of_kind, read_as}
+use Rattle.ciborium_value.specs.Taken.{gives, taken_value}
 use Rattle.ciborium_value.specs.Tree as trees
 use Rattle.ciborium_value.specs.Tree.{Tree}
 use Rattle.ciborium_value.specs.View.{tree_of}
 use Rattle.ciborium.specs.declared.de.error.Error.{Error}
 use Rattle.ciborium.specs.declared.de.error.Error.TheVariants as errors
-use Rattle.ciborium.specs.Answers.{IsValueRead}
+use Rattle.ciborium.specs.Answers.{IsTreeRead, IsValueRead}
 use Rattle.ciborium.specs.ByteSources.{StandsFor, is_portable, IsUnreadBy, cause_of}
 use Rattle.ciborium.specs.Errors.{IsRefusedBy, IsNamed, kind_of}
+use Rattle.ciborium.proofs.Fronts.{ahead-at, front-fits}
+use Rattle.ciborium.proofs.ItemsRead.{item-read}
+use Rattle.ciborium.proofs.WhateverFollows.{so-unread}
 use Rattle.ciborium.proofs.ValueFaults.{value-faults}
 use Rattle.ciborium.proofs.ValuesGiven.{value-gives}
 
@@ -43,10 +47,10 @@ null-meaning n h = by (eqb n 22) (eqb n 23) h (eqb-true n 22) (eqb-true n 23)
     by false v h f g = ap simple_meaning (g h) ∙ null-23
 
 pub portable-null : (h : Header) (n : ℕ) → h ≡ header.Simple n → is_portable (header.Simple n) ≡ true → StandsFor h trees.null
-portable-null h n is stands s hd = (simple n, subst (SpellsHeader s) is hd, λ l. ap (of_meaning kinds.Simple) (null-meaning n stands))
+portable-null h n is stands s hd = (simple n, subst (SpellsHeader s) is hd, null-meaning n stands, refl)
 
 pub portable-number : (h : Header) (n : ℕ) (z : ℤ) → h ≡ header.Positive n → z ≡ pos n → StandsFor h (trees.integer z)
-portable-number h n z is e s hd = (unsigned n, subst (SpellsHeader s) is hd, λ l. ap (λ k. gives (trees.integer k)) (sym e))
+portable-number h n z is e s hd = (unsigned n, subst (SpellsHeader s) is hd, ap (λ k. Some (trees.integer k)) (sym e), refl)
 
 -- a pending head stands in the bytes
 abbrev pub IsReal : Option (Header × ℕ) → Type 0
@@ -129,10 +133,49 @@ whole-faults left errors.RecursionLimitExceeded l p b s z i sp f h = value-fault
 whole-faults left errors.Memory l p b s z i sp f h = tt
 whole-faults left errors.TooLong l p b s z i sp f h = tt
 
+no-level : (l : Limit) (n : ℕ) → n ≡ 0 → IsWithin l n
+no-level None n flat = tt
+no-level (Some l) n flat = omega arith
+
 -- a head that stands for an item is that item
 pub portable-reads : {S : Type 0} (remaining : S → Option (List ℕ)) (d : Decoder S) (pending : Option (Header × ℕ)) (h : Header) (p : ℕ) (b : List ℕ) (v : Tree) (l : Limit) → pending ≡ Some (h, p) → StandsFor h v → IsUnreadBy remaining d pending b →
     (i : Item) × (s : List ℕ) × (z : List ℕ) × Spells s i × (b ≡ s ++ z) × (taken_value l i ≡ gives v) × (remaining d.reader.now ≡ Some z)
 portable-reads remaining d pending h p b v l is for u =
     let (x, y, hd, e, left, counted) = subst (λ o. IsUnreadBy remaining d o b) is u in
-    let (i, sp, give) = for x hd in
-    (i, x, y, sp, e, give l, left)
+    let (i, sp, means, flat) = for x hd in
+    (i, x, y, sp, e, value-gives i l v means (no-level l (nesting i) flat), left)
+
+-- ---- the value ahead, whatever follows what is taken
+
+-- what the value ahead was read as, where this head was pending
+abbrev pub ReadSo : {E : Type 0} → ℕ → Option (Header × ℕ) → Decoder (List ℕ) → Decoder (List ℕ) → Result Tree (Error E) → Type 0
+ReadSo {E} l pending d e r = (xs : List ℕ) (p : ℕ) → IsAheadBy Some d xs p pending → IsTreeRead {S = List ℕ} {E = E} Some e l xs p r
+
+-- a head that stands for an item is read without a byte
+pub portable-ahead : (E : Type 0) {S : Type 0} (remaining : S → Option (List ℕ)) (d : Decoder S) (pending : Option (Header × ℕ)) (h : Header) (at l : ℕ) (v : Tree) → d.pushed ≡ None → pending ≡ Some (h, at) → StandsFor h v →
+    TakesBeforeAny remaining d d (λ f g. ReadSo {E = E} l pending f g (Ok v))
+portable-ahead E remaining d pending h at l v none is stands =
+    so-unread remaining d d (λ f g. ReadSo {E = E} l pending f g (Ok v)) (refl, refl) (λ u xs p ahead.
+    let (here, x, r, sp, usable, split, count, left) = subst (λ o. IsAheadBy Some (with_left d u) xs p o) is ahead in
+    let (i, spelled, means, flat) = stands x sp in
+    let fits = front-fits xs p h x r (record { spelled = sp; usable = usable; split = split }) in
+    (r, p + length x, item-read x i spelled means (omega (arith, flat)) split refl fits, ahead-at Some (with_left d u) (p + length x) r none (count, left)))
+
+ahead-pushed : {S : Type 0} (d e : Decoder S) (u xs : List ℕ) (p : ℕ) (o : Option (Header × ℕ)) → e.count ≡ d.count → IsAheadBy Some (with_left d u) xs p o → IsAheadBy Some (with_left e u) xs p o
+ahead-pushed d e u xs p None same (count, left) = (same ∙ count, left)
+ahead-pushed d e u xs p (Some h) same (at, x, r, sp, usable, split, count, left) = (at, x, r, sp, usable, split, same ∙ count, left)
+
+as-tree : {S E : Type 0} (remaining : S → Option (List ℕ)) (d : Decoder S) (l : ℕ) (xs : List ℕ) (p : ℕ) (x : Result Value (Error E)) → IsValueRead {E = E} remaining d l xs p x → IsTreeRead {E = E} remaining d l xs p (read_as tree_of x)
+as-tree remaining d l xs p (Ok v) h = h
+as-tree remaining d l xs p (Err e) h = h
+
+-- the head was pushed first
+pub pushed-ahead : (E : Type 0) {S : Type 0} (remaining : S → Option (List ℕ)) (d e f : Decoder S) (pending : Option (Header × ℕ)) (l : ℕ) (x : Result Value (Error E)) → e.pushed ≡ pending → e.reader.now ≡ d.reader.now → e.count ≡ d.count →
+    TakesBeforeAny remaining e f (λ a b. (xs : List ℕ) (p : ℕ) → IsAhead Some a xs p → IsValueRead {S = List ℕ} {E = E} Some b l xs p x) → TakesBeforeAny remaining d f (λ a b. ReadSo {E = E} l pending a b (read_as tree_of x))
+pushed-ahead E remaining d e f pending l x pushed now count (s, taken, sum, h, bytes) = (
+  s,
+  subst (λ r. Consumes (remaining r) (remaining f.reader.now) s) now taken,
+  omega (arith, sum, count),
+  λ c xs p ahead. as-tree Some (with_left f c) l xs p x (h c xs p (subst (λ o. IsAheadBy Some (with_left e (s ++ c)) xs p o) (sym pushed) (ahead-pushed d e (s ++ c) xs p pending count ahead))),
+  bytes,
+)

@@ -1,9 +1,10 @@
 //! Bytes to values.
 
-ghost use Rattle.std.specs.Prelude.{IfErr, IfSome, Some};
+ghost use Rattle.std.specs.Prelude.{◌≡◌, IfErr, IfNone, IfSome, None, Ok, Some};
 ghost use Rattle.ciborium_value.specs.Sources.{IsGranted, read_as};
 ghost use Rattle.ciborium.specs.Answers.{ReadsWhole};
 ghost use Rattle.ciborium.specs.ByteSources.{cause_of};
+ghost use Rattle.ciborium.specs.NextItems.{GoesOn, IsReadFrom, Otherwise, TellsEnd, behind_head};
 ghost use Rattle.ciborium.specs.TypedReads.{RefusesTaken, TakesGiven};
 
 mod building;
@@ -15,7 +16,7 @@ mod parts;
 mod tags;
 
 use byte_source::ByteSource;
-use ciborium_ll::Decoder;
+use ciborium_ll::{Decoder, Header};
 pub use ciborium_value::{
     Deserialize, Key, NoField, Source, Wanted, WantedFields, read_fields, required,
 };
@@ -29,6 +30,20 @@ pub const RECURSION_LIMIT: usize = 256;
 
 // The size of the scratch where none is lent.
 const SCRATCH_SIZE: usize = 4096;
+
+// Reads one value from a source, and puts the reader's error back.
+#[inline(always)]
+fn read_from<T: Deserialize, R: Read>(
+    alloc: Global,
+    source: &mut ByteSource<'_, R>,
+) -> Result<T, Error<io::Error>>
+    ensures { IsReadFrom R.remaining T.reading source.old source.new result }
+{
+    match T::deserialize(alloc, source) {
+        Ok(value) => Ok(value),
+        Err(refusal) => Err(source.put_back(refusal)),
+    }
+}
 
 // Reads one value from a source of its own.
 fn read<T: Deserialize, R: Read>(
@@ -55,10 +70,7 @@ fn read<T: Deserialize, R: Read>(
         scratch,
         failure: None,
     };
-    match T::deserialize(alloc, &mut source) {
-        Ok(value) => Ok(value),
-        Err(refusal) => Err(source.put_back(refusal)),
-    }
+    read_from(alloc, &mut source)
 }
 
 /// Reads one value of any type that is `Deserialize`: just the bytes of the item at the front, of
@@ -142,5 +154,66 @@ pub fn from_reader_with_recursion_limit<T: Deserialize, R: Read>(
     read(alloc, reader, &mut scratch, limit)
 }
 
+// Reads the item that a source's first head begins, or answers the end where there is no head.
+fn read_item<T: Deserialize, R: Read>(
+    alloc: Global,
+    source: &mut ByteSource<'_, R>,
+    first: Option<Header>,
+) -> Result<Option<T>, Error<io::Error>>
+    ensures end { IfNone first
+        ((result ≡ Ok None) × (source.new.decoder ≡ source.old.decoder)) }
+    ensures item { IfSome first (λ header. GoesOn result
+        (λ r. IsReadFrom R.remaining T.reading (behind_head source.old header) source.new r)) }
+{
+    let Some(header) = first else {
+        return Ok(None);
+    };
+    source.pending = Some((header, 0));
+    let value = read_from(alloc, source)?;
+    Ok(Some(value))
+}
+
+/// Reads the next item of a CBOR sequence (RFC 8742, section 2) as `from_reader` reads a value, or
+/// answers `None` where the sequence ends: exactly where the first read gives nothing. So a program
+/// that reads item after item from a file or a socket tells the end, `None`, from a sequence that
+/// is cut short within an item, `Io`. Offsets count from the first byte that the call reads.
+///
+/// # Errors
+///
+/// Those of `from_reader`; a fault of the first read is `Io`, and so is an item that is cut short,
+/// of kind `UnexpectedEof`. A beginning of the item has then been taken from the reader, and none of
+/// it where the first read failed.
+pub fn from_reader_next<T: Deserialize, R: Read>(
+    alloc: Global,
+    reader: &mut R,
+) -> Result<Option<T>, Error<io::Error>>
+    // At the end nothing is taken, and of known bytes none are left.
+    ensures end { TellsEnd (R.remaining reader.old) (R.remaining reader.new) result }
+    // Otherwise, where an item stands at the front: just it was taken, and the answer is what it
+    // gives; or it is refused as the item is.
+    ensures ok { Otherwise result (λ r. TakesGiven (Some 256) T.reading.taken
+        (R.remaining reader.old) (R.remaining reader.new) (read_as T.reading.content r)) }
+    ensures refused { Otherwise result (λ r. RefusesTaken (Some 256) T.reading.taken
+        (R.remaining reader.old) (read_as T.reading.content r)) }
+    ensures memory { IfErr result (λ e. IsGranted (cause_of e) T.reading.takes_memory) }
+    // Where reading is one call of `value`, whatever the bytes.
+    ensures value { Otherwise result (λ r. IfSome T.reading.whole (λ tree.
+        ReadsWhole (R.remaining reader.old) 256 (R.remaining reader.new)
+        (read_as (λ v. tree (T.reading.content v)) r))) }
+{
+    let mut scratch = [0u8; SCRATCH_SIZE];
+    let mut source = ByteSource {
+        decoder: Decoder::new(reader),
+        pending: None,
+        levels: RECURSION_LIMIT,
+        scratch: &mut scratch,
+        failure: None,
+    };
+    let first = source.decoder.pull_first()?;
+    read_item(alloc, &mut source, first)
+}
+
+#[cfg(test)]
+mod next_tests;
 #[cfg(test)]
 pub(crate) mod tests;

@@ -19,6 +19,8 @@ mod own_callers;
 mod own_types;
 #[cfg(test)]
 mod reading_tests;
+#[cfg(test)]
+mod sequence_callers;
 pub mod ser;
 #[cfg(test)]
 mod small_devices;
@@ -30,7 +32,7 @@ mod typed_tests;
 pub mod value;
 
 pub use de::{
-    from_reader, from_reader_deterministic, from_reader_with_buffer,
+    from_reader, from_reader_deterministic, from_reader_next, from_reader_with_buffer,
     from_reader_with_recursion_limit,
 };
 pub use ser::into_writer;

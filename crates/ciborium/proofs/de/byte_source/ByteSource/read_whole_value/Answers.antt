@@ -3,7 +3,7 @@ use Rattle.std.proofs.lemmas.Result.{err_from_is_err_and}
 use Rattle.ciborium_ll.specs.Decoding.{next_offset}
 use Rattle.ciborium_value.specs.View.{tree_of}
 use Rattle.ciborium.specs.ByteSources.{IsUnreadBy}
-use Rattle.ciborium.proofs.WholeValues.{ahead-by, known-read, portable-reads, whole-faults, whole-reads}
+use Rattle.ciborium.proofs.WholeValues.{ahead-by, known-read, portable-ahead, portable-reads, pushed-ahead, whole-faults, whole-reads}
 use Rattle.ciborium.proofs.de.byte_source.ByteSource.read_whole_value.Goals as goal
 
 pub returns-in-Some-portable_value-clause-ok : goal.returns-in-Some-portable_value-clause-ok
@@ -55,3 +55,18 @@ returns-in_err-value-in-None-clause-denied g c =
     rw (exit.1, exit.2) (λ b s z i u sp e.
     let ahead = ahead-by g.R.Read.remaining d d None b tt c.args.self.now.unpushed refl refl (subst (λ o. IsUnreadBy g.R.Read.remaining d o b) (sym c.take.ensures.value ∙ c.in-None.is) u) in
     whole-faults (g.R.Read.remaining f.reader.now) error c.args.self.now.levels d.count b s z i sp e (known-read g.R.Read.remaining Unit d f c.args.self.now.levels (Err error) c.in_err-value-in-None.ensures.value b d.count ahead))
+
+pub returns-in-Some-portable_value-clause-reads : goal.returns-in-Some-portable_value-clause-reads
+returns-in-Some-portable_value-clause-reads g c = (
+  refl,
+  portable-ahead Unit g.R.Read.remaining c.args.self.now.decoder c.args.self.now.pending c.in-Some.header c.in-Some.offset c.args.self.now.levels (tree_of c.in-Some-portable_value.value) c.args.self.now.unpushed (sym c.take.ensures.value ∙ c.in-Some.is)
+      c.in-Some-portable_value.ensures,
+)
+
+pub returns-in_ok-value-in-None-portable_value-clause-reads : goal.returns-in_ok-value-in-None-portable_value-clause-reads
+returns-in_ok-value-in-None-portable_value-clause-reads g c =
+    let done = c.in_ok-value-in-None-portable_value.ensures in (
+      done.same_reader ∙ c.push.ensures.same_reader,
+      pushed-ahead Unit g.R.Read.remaining c.args.self.now.decoder c.push.new.self c.read_unpushed.new.decoder c.args.self.now.pending c.args.self.now.levels (Ok c.in_ok-value-in-None-portable_value.value)
+          (c.push.ensures.pushed ∙ sym (sym c.take.ensures.value ∙ c.in-Some.is)) c.push.ensures.unread.0 c.push.ensures.unread.1 done.value,
+    )

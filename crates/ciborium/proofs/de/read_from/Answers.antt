@@ -1,0 +1,18 @@
+-- The reader's error is put back behind a value that was refused.
+use Rattle.std.proofs.Common.{Err, ap, ◌∙◌, subst}
+use Rattle.ciborium_value.specs.Sources.{IsGranted, Refuses}
+use Rattle.ciborium.specs.ByteSources.{ReadsValue, StandsBefore, cause_of}
+use Rattle.ciborium.proofs.HandedReaders.{some-map}
+use Rattle.ciborium.proofs.PutAside.{back-reads, same-cause, same-decoder}
+use Rattle.ciborium.proofs.de.read_from.Goals as goal
+
+pub returns-in-Err : goal.returns-in-Err
+returns-in-Err g c = record {
+  ok = tt;
+  took = tt;
+  refused = subst (λ f. Refuses (StandsBefore g.R.Read.remaining) c.args.source.now g.T.Deserialize.reading.taken f) (ap cause_of c.put_back.ensures.refusal ∙ same-cause c.put_back.result) c.in-Err.ensures.refused;
+  memory = subst (λ f. IsGranted f g.T.Deserialize.reading.takes_memory) (ap cause_of c.put_back.ensures.refusal ∙ same-cause c.put_back.result) c.in-Err.ensures.memory;
+  whole = some-map g.T.Deserialize.reading.whole c.in-Err.ensures.whole
+      (λ tree reads. same-decoder g.R.Read.remaining c.args.source.now c.deserialize.new.source c.put_back.new.self (Err c.put_back.result) c.put_back.ensures.decoder
+      (back-reads g.R.Read.remaining c.args.source.now c.deserialize.new.source c.put_back.result (subst (λ r. ReadsValue {E = Unit} g.R.Read.remaining c.args.source.now c.deserialize.new.source (Err r)) c.put_back.ensures.refusal reads)));
+}
