@@ -1,9 +1,12 @@
 -- What words ask for.
 use Rattle.std.proofs.Common.{◌≡◌, ℕ, ◌<◌, ◌≤◌, List, [], ◌∷◌, length, get_or, map, drop, take, ◌-◌, codes, refl, sym, subst, ◌∙◌, ap, arith}
 use Rattle.std.proofs.lemmas.List.{take_all}
-use Rattle.cbor.specs.declared.spelling.Spelling.{Spelling}
-use Rattle.cbor.specs.declared.spelling.Spelling.TheVariants.{Any, Deterministic}
-use Rattle.cbor.specs.Words.{AreOptions, AreWrong, AskToRead, AskToSort, NameLimit, NameLimitBehind}
+use Rattle.cbor.specs.declared.reading.Reading.{Reading}
+use Rattle.cbor.specs.declared.reading.Reading.TheVariants.{Item, Sequence}
+use Rattle.cbor.specs.declared.reading.Spelling.{Spelling}
+use Rattle.cbor.specs.declared.run.Command.TheVariants as commands
+use Rattle.cbor.specs.declared.reading.Spelling.TheVariants.{Any, Deterministic}
+use Rattle.cbor.specs.Words.{AreOptions, AreWrong, AskFor, AskForSequences, AskToRead, AskToSort, NameLimit, NameLimitBehind}
 
 -- the words behind the first
 abbrev pub behind : {S : Type 0} → List S → List S
@@ -17,25 +20,36 @@ first-word text (w ∷ ws) command name least e is =
     let rest : behind (w ∷ ws) ≡ ws = take_all (length (w ∷ ws) - 1) ws (omega arith) in
     rw rest (ap (λ (t : List ℕ). t ∷ map text ws) (ap text (sym e) ∙ is))
 
--- `sort` alone
-pub one-sort : {S : Type 0} (text : S → List ℕ) (words : List S) (command : S) → length words < 2 → 1 ≤ length words → command ≡ get_or words 0 command →
-    text command ≡ codes "sort" → AskToSort (map text words)
-one-sort text [] command below least e is = absurd (omega arith)
-one-sort text (w ∷ []) command below least e is = ap (λ (t : List ℕ). t ∷ []) (ap text (sym e) ∙ is)
-one-sort text (w ∷ (v ∷ ws)) command below least e is = absurd (omega arith)
+-- this word alone
+pub one-word : {S : Type 0} (text : S → List ℕ) (words : List S) (command : S) (name : List ℕ) → length words < 2 → 1 ≤ length words →
+    command ≡ get_or words 0 command → text command ≡ name → map text words ≡ name ∷ []
+one-word text [] command name below least e is = absurd (omega arith)
+one-word text (w ∷ []) command name below least e is = ap (λ (t : List ℕ). t ∷ []) (ap text (sym e) ∙ is)
+one-word text (w ∷ (v ∷ ws)) command name below least e is = absurd (omega arith)
 
 -- a dash is no digit, so `--det` names no limit
 no-limit : (others : List (List ℕ)) (n : ℕ) → NameLimit (codes "--det" ∷ others) n → ⊥
 no-limit [] n (limit, e) = let digit = limit.0.1.0 in omega (arith, digit)
 no-limit (first ∷ others) n h = absurd h
 
--- words do not ask for both
-pub not-both : (words : List (List ℕ)) (spelling : Spelling) (n : ℕ) → AskToRead words spelling n → AskToSort words → ⊥
-not-both [] spelling n asked sorts = absurd asked
-not-both (command ∷ options) spelling n asked sorts =
-    let same : command ≡ codes "sort" = ap (λ (xs : List (List ℕ)). get_or xs 0 []) sorts in
-    let first : 114 ≡ 115 = ap (λ (xs : List ℕ). get_or xs 0 0) (sym asked.0 ∙ same) in
+-- a word that begins with `s` does not ask for reading
+not-both : (words : List (List ℕ)) (spelling : Spelling) (n : ℕ) (name : List ℕ) → AskToRead words spelling n → words ≡ name ∷ [] → get_or name 0 0 ≡ 115 → ⊥
+not-both [] spelling n name asked alone begins = absurd asked
+not-both (command ∷ options) spelling n name asked alone begins =
+    let same : command ≡ name = ap (λ (xs : List (List ℕ)). get_or xs 0 []) alone in
+    let first : 114 ≡ 115 = ap (λ (xs : List ℕ). get_or xs 0 0) (sym asked.0 ∙ same) ∙ begins in
     omega (arith, first)
+
+pub not-to-sort : (words : List (List ℕ)) (spelling : Spelling) (n : ℕ) → AskToRead words spelling n → AskToSort words → ⊥
+not-to-sort words spelling n asked sorts = not-both words spelling n (codes "sort") asked sorts refl
+
+not-sequences : (words : List (List ℕ)) (spelling : Spelling) (n : ℕ) → AskToRead words spelling n → AskForSequences words → ⊥
+not-sequences words spelling n asked alone = not-both words spelling n (codes "seq") asked alone refl
+
+pub not-sorted-sequences : (words : List (List ℕ)) → AskToSort words → AskForSequences words → ⊥
+not-sorted-sequences words sorts alone =
+    let second : 111 ≡ 101 = ap (λ (xs : List (List ℕ)). get_or (get_or xs 0 []) 1 0) (sym sorts ∙ alone) in
+    omega (arith, second)
 
 no-options : (others : List (List ℕ)) → ((n : ℕ) → ¬ NameLimit others n) → (spelling : Spelling) (n : ℕ) → ¬ AreOptions (codes "--det" ∷ others) spelling n
 no-options others none Any n h = no-limit others n h
@@ -47,6 +61,7 @@ pub wrong-options : (options others : List (List ℕ)) → options ≡ codes "--
 wrong-options options others same none = (
   λ spelling n asked. no-options others none spelling n (subst (λ (ws : List (List ℕ)). AreOptions ws spelling n) same asked.1),
   λ sorts. (let first : 114 ≡ 115 = ap (λ (xs : List (List ℕ)). get_or (get_or xs 0 []) 0 0) sorts in omega (arith, first)),
+  λ alone. (let first : 114 ≡ 115 = ap (λ (xs : List (List ℕ)). get_or (get_or xs 0 []) 0 0) alone in omega (arith, first)),
 )
 
 -- `--det` and words that name a limit
@@ -74,6 +89,20 @@ one-of-options words Deterministic Any m n p q = absurd (not-options words n m q
 one-of-options words Deterministic Deterministic m n p q = (refl, limit-left words m n p q)
 
 -- words ask for one spelling and one limit
-pub one-reading : (words : List (List ℕ)) (s t : Spelling) (m n : ℕ) → AskToRead words s m → AskToRead words t n → (s ≡ t) × (m ≡ n)
+one-reading : (words : List (List ℕ)) (s t : Spelling) (m n : ℕ) → AskToRead words s m → AskToRead words t n → (s ≡ t) × (m ≡ n)
 one-reading [] s t m n p q = absurd p
 one-reading (command ∷ options) s t m n p q = one-of-options options s t m n p.1 q.1
+
+-- the reading that words ask for
+pub read-so : (words : List (List ℕ)) (reading : Reading) (spelling : Spelling) (n : ℕ) → AskFor words (commands.Answer reading) → AskToRead words spelling n →
+    reading ≡ Item spelling n
+read-so words (Item s m) spelling n p q = let same = one-reading words s spelling m n p q in rw (same.0, same.1) refl
+read-so words Sequence spelling n p q = absurd (not-sequences words spelling n q p)
+
+pub read-sequences : (words : List (List ℕ)) (reading : Reading) → AskFor words (commands.Answer reading) → AskForSequences words → reading ≡ Sequence
+read-sequences words (Item s m) p q = absurd (not-sequences words s m p q)
+read-sequences words Sequence p q = refl
+
+pub not-sorted : (words : List (List ℕ)) (reading : Reading) → AskFor words (commands.Answer reading) → AskToSort words → ⊥
+not-sorted words (Item s m) p sorts = not-to-sort words s m p sorts
+not-sorted words Sequence p sorts = not-sorted-sequences words sorts p

@@ -1,15 +1,13 @@
 -- What a line means, or why it is refused, and the text that answers it.
-use Rattle.std.proofs.Common.{◌≡◌, ◌≢◌, ℕ, List, ◌++◌, get_or, true, false, Result, Ok, Err, IfErr, IfOk, IsErr, MatchResult, codes, refl, sym, ap, ◌∙◌, subst, arith}
+use Rattle.std.proofs.Common.{◌≡◌, ◌≢◌, ℕ, List, get_or, Result, Ok, Err, IfErr, IsErr, MatchResult, refl, sym, ap, subst, arith}
 use Rattle.hex.specs.Hex.{decode_of}
 use Rattle.hex.specs.declared.error.FromHexError.{FromHexError}
 use Rattle.ciborium_ll.specs.Refusal.{io, syntax, too_long, semantic, recursion_limit_exceeded}
 use Rattle.ciborium_value.specs.Tree.{Tree}
-use Rattle.cbor.specs.declared.answer.Answer.{Answer}
-use Rattle.cbor.specs.declared.answer.Answer.TheVariants as answers
 use Rattle.cbor.specs.declared.answer.Refusal.{Refusal}
 use Rattle.cbor.specs.declared.answer.Refusal.TheVariants.{Hex, Trailing, Io, Syntax, Semantic, Nesting, TooLong, Memory}
-use Rattle.cbor.specs.declared.spelling.Spelling.{Spelling}
-use Rattle.cbor.specs.Answer.{AreRefused, IsAnsweredBy, IsFrontRefused, IsRefused, answer_text, is_memory, kind_of_reason, refused_text}
+use Rattle.cbor.specs.declared.reading.Spelling.{Spelling}
+use Rattle.cbor.specs.Answer.{AreRefused, IsFrontRefused, IsRefused, kind_of_reason, refused_text}
 use Rattle.cbor.specs.Laws.{ItemIsAnswered, RefusalIsAnswered, RefusedMeansNothing}
 use Rattle.cbor.specs.Line.{HasAnswer, IsLineAnswer, good, hex_text, refused, trailing, trailing_text, tree_text}
 use Rattle.cbor.specs.Spellings.{IsItem}
@@ -43,7 +41,7 @@ pub line-refused : {V : Type 0} (spelling : Spelling) (line : List ℕ) (limit :
 line-refused spelling line limit b (Ok v) d h = tt
 line-refused spelling line limit b (Err e) d h = refused-by spelling line limit b e d h
 
-item-answer : (spelling : Spelling) (d : Result (List ℕ) FromHexError) (limit : ℕ) (v : Tree) (answer : List ℕ) → MatchResult d (λ b. IsItem spelling b limit v) (λ _. ⊥) →
+pub item-answer : (spelling : Spelling) (d : Result (List ℕ) FromHexError) (limit : ℕ) (v : Tree) (answer : List ℕ) → MatchResult d (λ b. IsItem spelling b limit v) (λ _. ⊥) →
     answer ≡ tree_text v → MatchResult d (λ b. HasAnswer spelling b limit answer) (λ _. answer ≡ hex_text)
 item-answer spelling (Ok b) limit v answer means same = good v means same
 item-answer spelling (Err e) limit v answer means same = absurd means
@@ -99,17 +97,3 @@ pub refused_means_nothing : DeterministicLaw → RefusedMeansNothing
 refused_means_nothing law spelling line limit e v m h means =
     other-text v e (one_answer law spelling line limit (tree_text v) (refused_text e) (item_is_answered spelling line limit v means)
     (refusal_is_answered spelling line limit e m h))
-
-not-memory : (e : Refusal) → is_memory (answers.Refused e) ≡ false → e ≡ Memory → ⊥
-not-memory e m same = let no : true ≡ false = ap (λ (r : Refusal). is_memory (answers.Refused r)) (sym same) ∙ m in cc
-
--- the text of an answer other than `memory` answers the line
-text-answers : (spelling : Spelling) (line : List ℕ) (limit : ℕ) (a : Answer) → is_memory a ≡ false → IsAnsweredBy spelling line limit a → IsLineAnswer spelling line limit (answer_text a)
-text-answers spelling line limit (answers.Item digits) m (v, means, same) =
-    item-answer spelling (decode_of line) limit v (answer_text (answers.Item digits)) means (ap (λ (t : List ℕ). codes "ok " ++ t) same)
-text-answers spelling line limit (answers.Refused e) m h = refusal_is_answered spelling line limit e (λ same. absurd (not-memory e m same)) h
-
-pub answered-by-text : {T E : Type 0} (text : T → List ℕ) (spelling : Spelling) (line : List ℕ) (limit : ℕ) (a : Answer) (r : Result T E) → is_memory a ≡ false →
-    IsAnsweredBy spelling line limit a → IfOk r (λ t. text t ≡ answer_text a) → IfOk r (λ t. IsLineAnswer spelling line limit (text t))
-answered-by-text text spelling line limit a (Ok t) m h same = subst (λ (s : List ℕ). IsLineAnswer spelling line limit s) (sym same) (text-answers spelling line limit a m h)
-answered-by-text text spelling line limit a (Err x) m h same = tt

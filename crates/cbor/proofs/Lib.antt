@@ -1,9 +1,12 @@
 pub mod AnsweredLines
 pub mod AskedWords
 pub mod HexDigits
+pub mod ItemsInRow
+pub mod JudgedAnswers
 pub mod JudgedLines
 pub mod MeantLines
 pub mod OneLineAnswer
+pub mod OneSequenceAnswer
 pub mod ReadBytes
 pub mod SortedValues
 pub mod SpelledItems

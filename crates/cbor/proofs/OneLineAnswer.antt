@@ -1,19 +1,19 @@
 -- Each line has one answer.
-use Rattle.std.proofs.Common.{◌≡◌, ℕ, ◌<◌, List, [], ◌∷◌, ◌++◌, length, inl, inr, Result, Ok, Err, MatchResult, refl, sym, ap, ◌∙◌, subst, arith, append-nil}
+use Rattle.std.proofs.Common.{◌≡◌, ℕ, ◌<◌, List, [], ◌∷◌, length, inl, inr, Result, Ok, Err, MatchResult, refl, sym, ap, ◌∙◌, subst, arith, append-nil}
 use Rattle.std.proofs.lemmas.List.Elements.{All-from_get_or}
 use Rattle.hex.specs.Hex.{decode_of}
 use Rattle.hex.specs.declared.error.FromHexError.{FromHexError}
 use Rattle.hex.proofs.HexLemmas.{decode_of-ok}
 use Rattle.ciborium_ll.specs.Bytes.{AreBytes}
 use Rattle.ciborium_value.specs.Tree.{Tree}
-use Rattle.cbor.specs.declared.spelling.Spelling.{Spelling}
+use Rattle.cbor.specs.declared.reading.Spelling.{Spelling}
 use Rattle.cbor.specs.Laws.{IsAnswered, OneAnswer}
 use Rattle.cbor.specs.Line.{HasAnswer, good, trailing, refused, tree_text, trailing_text, refusal_text, hex_text}
 use Rattle.cbor.specs.Spellings.{HasItemBefore, IsItem}
 use Rattle.cbor.proofs.SpelledItems.{DeterministicLaw, HasItem, item-or-refused, not-both, one-refusal, one-tree}
 
 -- hex stands for bytes
-decoded-bytes : (line b : List ℕ) → decode_of line ≡ Ok b → AreBytes b
+pub decoded-bytes : (line b : List ℕ) → decode_of line ≡ Ok b → AreBytes b
 decoded-bytes line b e = All-from_get_or (λ x. x < 256) b 0 (λ i h. (decode_of-ok line b e).3 i)
 
 -- an item is at the front

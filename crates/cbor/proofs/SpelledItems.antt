@@ -1,5 +1,5 @@
 -- What holds of items and of what refuses them, however items may be spelled.
-use Rattle.std.proofs.Common.{◌≡◌, ℕ, ◌⊎◌, List, [], ◌++◌, Option, Some, None, IsSome, inl, inr, refl}
+use Rattle.std.proofs.Common.{◌≡◌, ℕ, ◌⊎◌, List, ◌++◌, Option, Some, None, IsSome, inl, inr, refl}
 use Rattle.ciborium_ll.specs.Bytes.{AreBytes}
 use Rattle.ciborium_ll.specs.Item.{Item}
 use Rattle.ciborium_ll.specs.Refusal.{Refusal}
@@ -8,8 +8,8 @@ use Rattle.ciborium_value.specs.Meaning.{meaning}
 use Rattle.ciborium_value.specs.Tree.{Tree}
 use Rattle.ciborium_value.proofs.Outcome as any
 use Rattle.ciborium.specs.DeterministicLaws.{DeterministicOrRefused, NeverBothDeterministically, OneDeterministicRefusal, OneDeterministicTree}
-use Rattle.cbor.specs.declared.spelling.Spelling.{Spelling}
-use Rattle.cbor.specs.declared.spelling.Spelling.TheVariants.{Any, Deterministic}
+use Rattle.cbor.specs.declared.reading.Spelling.{Spelling}
+use Rattle.cbor.specs.declared.reading.Spelling.TheVariants.{Any, Deterministic}
 use Rattle.cbor.specs.Spellings.{HasItemBefore, IsItem, RefusesItem}
 
 -- the law of deterministic encodings

@@ -3,9 +3,10 @@ use Rattle.std.specs.Prelude.{◌≡◌, ◌≢◌, ℕ, List}
 use Rattle.ciborium_value.specs.Tree.{Tree}
 use Rattle.cbor.specs.declared.answer.Refusal.{Refusal}
 use Rattle.cbor.specs.declared.answer.Refusal.TheVariants.{Memory}
-use Rattle.cbor.specs.declared.spelling.Spelling.{Spelling}
+use Rattle.cbor.specs.declared.reading.Spelling.{Spelling}
 use Rattle.cbor.specs.Answer.{IsRefused, IsMeant, refused_text}
 use Rattle.cbor.specs.Line.{IsLineAnswer, tree_text}
+use Rattle.cbor.specs.Sequence.{IsSequenceAnswer}
 
 -- each line has an answer, however items may be spelled, within any number of levels
 abbrev pub IsAnswered : Type 0
@@ -32,3 +33,11 @@ abbrev pub RefusedMeansNothing : Type 0
 RefusedMeansNothing =
     (spelling : Spelling) (line : List ℕ) (limit : ℕ) (e : Refusal) (v : Tree) → e ≢ Memory → IsRefused spelling line limit e →
     ¬ IsMeant spelling line limit v
+
+-- each line that is read as a sequence has an answer, within any number of levels
+abbrev pub IsSequenceAnswered : Type 0
+IsSequenceAnswered = (line : List ℕ) (limit : ℕ) → (answer : List ℕ) × IsSequenceAnswer line limit answer
+
+-- and no other
+abbrev pub OneSequenceAnswer : Type 0
+OneSequenceAnswer = (line : List ℕ) (limit : ℕ) (a b : List ℕ) → IsSequenceAnswer line limit a → IsSequenceAnswer line limit b → a ≡ b

@@ -2,6 +2,7 @@ pub mod Answer
 pub mod Line
 pub mod Laws
 pub mod Lines
+pub mod Sequence
 pub mod Sorted
 pub mod Spellings
 pub mod SortedLines

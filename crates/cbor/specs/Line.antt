@@ -4,7 +4,7 @@ use Rattle.hex.specs.Hex.{decode_of, encode_lower}
 use Rattle.ciborium_ll.specs.Refusal.{Kind, Float, Simple, Break, TooLarge, NotShortest, Open, NotFolded, KeyOrder, Refusal, io, syntax, too_long, semantic, recursion_limit_exceeded}
 use Rattle.ciborium_value.specs.Encoding.{encoding}
 use Rattle.ciborium_value.specs.Tree.{Tree}
-use Rattle.cbor.specs.declared.spelling.Spelling.{Spelling}
+use Rattle.cbor.specs.declared.reading.Spelling.{Spelling}
 use Rattle.cbor.specs.Spellings.{HasItemBefore, IsItem, RefusesItem}
 
 -- why an item has no meaning, in a word

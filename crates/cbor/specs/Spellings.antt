@@ -5,8 +5,8 @@ use Rattle.ciborium_value.specs.Refuses.{IsReadAs, Refuses}
 use Rattle.ciborium_value.specs.Tree.{Tree}
 use Rattle.ciborium.specs.Deterministic.{IsDeterministicAt}
 use Rattle.ciborium.specs.DeterministicRefusals.{DeterministicallyRefuses}
-use Rattle.cbor.specs.declared.spelling.Spelling.{Spelling}
-use Rattle.cbor.specs.declared.spelling.Spelling.TheVariants.{Any, Deterministic}
+use Rattle.cbor.specs.declared.reading.Spelling.{Spelling}
+use Rattle.cbor.specs.declared.reading.Spelling.TheVariants.{Any, Deterministic}
 
 -- b is one item within so many levels, which means v: any good one, or the deterministic encoding of v
 abbrev pub IsItem : Spelling → List ℕ → ℕ → Tree → Type 0

@@ -3,8 +3,9 @@ use Rattle.std.specs.Prelude.{◌≡◌, ℕ, ◌^◌, ◌<◌, List, [], ◌∷
 use Rattle.std.specs.Str.Parse.{IsNumeral, digits_value}
 use Rattle.cbor.specs.declared.run.Command.{Command}
 use Rattle.cbor.specs.declared.run.Command.TheVariants as commands
-use Rattle.cbor.specs.declared.spelling.Spelling.{Spelling}
-use Rattle.cbor.specs.declared.spelling.Spelling.TheVariants.{Any, Deterministic}
+use Rattle.cbor.specs.declared.reading.Reading.TheVariants.{Item, Sequence}
+use Rattle.cbor.specs.declared.reading.Spelling.{Spelling}
+use Rattle.cbor.specs.declared.reading.Spelling.TheVariants.{Any, Deterministic}
 
 -- one digit or more, and their number fits a `usize`
 abbrev pub IsLimit : List ℕ → Type 0
@@ -35,11 +36,16 @@ AskToRead (command ∷ options) spelling n = (command ≡ codes "read") × AreOp
 abbrev pub AskToSort : List (List ℕ) → Type 0
 AskToSort words = words ≡ codes "sort" ∷ []
 
+-- the words ask for lines to be read as sequences
+abbrev pub AskForSequences : List (List ℕ) → Type 0
+AskForSequences words = words ≡ codes "seq" ∷ []
+
 -- the words ask for nothing that the program does
 abbrev pub AreWrong : List (List ℕ) → Type 0
-AreWrong words = ((spelling : Spelling) (n : ℕ) → ¬ AskToRead words spelling n) × ¬ AskToSort words
+AreWrong words = ((spelling : Spelling) (n : ℕ) → ¬ AskToRead words spelling n) × ¬ AskToSort words × ¬ AskForSequences words
 
 -- the words ask for this
 abbrev pub AskFor : List (List ℕ) → Command → Type 0
-AskFor words (commands.Read spelling n) = AskToRead words spelling n
+AskFor words (commands.Answer (Item spelling n)) = AskToRead words spelling n
+AskFor words (commands.Answer Sequence) = AskForSequences words
 AskFor words commands.Sort = AskToSort words

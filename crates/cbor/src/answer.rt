@@ -1,7 +1,8 @@
-//! The answer to a line, an item or why it is none, and its text.
+//! The answer to a line, an item, a sequence or why it is none, and its text.
 
 ghost use Rattle.std.specs.Prelude.{◌≡◌, Some};
-ghost use Rattle.cbor.specs.Answer.{answer_text, is_item, is_memory, kind_of_reason, refused_text};
+ghost use Rattle.cbor.specs.Answer.{answer_text, is_memory, is_ok_answer, kind_of_reason};
+ghost use Rattle.cbor.specs.Answer.{refused_text, wants_memory};
 ghost use Rattle.cbor.specs.Line.{kind_text};
 ghost use Rattle.cbor.specs.declared.answer.Refusal.TheVariants.{Memory};
 
@@ -13,8 +14,12 @@ use std::fmt;
 pub enum Answer {
     /// The line is an item. This is its encoding in lower-case hex.
     Item(String),
-    /// The line is no item, or memory was refused.
+    /// The line is a sequence. This is the encoding of each item in lower-case hex, behind a space.
+    Sequence(String),
+    /// The line is no item, or no bytes, or memory was refused.
     Refused(Refusal),
+    /// The line is no sequence: the item of this number, counted from 1, is the first refused.
+    RefusedItem(u64, Refusal),
 }
 
 /// Why a line is no item.
@@ -60,13 +65,14 @@ pub enum Reason {
 }
 
 impl Answer {
-    /// Whether the line is an item.
-    pub fn is_item(&self) -> bool
-        ensures { result ≡ is_item self.now }
+    /// Whether the line is an item, or a sequence where that is asked for.
+    pub fn is_ok(&self) -> bool
+        ensures { result ≡ is_ok_answer self.now }
     {
         match self {
-            Answer::Item(_) => true,
+            Answer::Item(_) | Answer::Sequence(_) => true,
             Answer::Refused(_) => false,
+            Answer::RefusedItem(_, _) => false,
         }
     }
 
@@ -74,7 +80,19 @@ impl Answer {
     pub fn is_memory(&self) -> bool
         ensures { result ≡ is_memory self.now }
     {
-        matches!(self, Answer::Refused(Refusal::Memory))
+        match self {
+            Answer::Refused(refusal) => refusal.is_memory(),
+            _ => false,
+        }
+    }
+}
+
+impl Refusal {
+    /// Whether memory was refused.
+    pub fn is_memory(&self) -> bool
+        ensures { result ≡ wants_memory self.now }
+    {
+        matches!(self, Refusal::Memory)
     }
 }
 
@@ -92,7 +110,9 @@ impl fmt::Display for Answer {
     fn fmt<W: fmt::Write>(&self, f: &mut fmt::Formatter<W>) -> fmt::Result {
         match self {
             Answer::Item(digits) => write!(f, "ok {digits}"),
+            Answer::Sequence(items) => write!(f, "ok{items}"),
             Answer::Refused(refusal) => write!(f, "{refusal}"),
+            Answer::RefusedItem(number, refusal) => write!(f, "item {number}: {refusal}"),
         }
     }
 }

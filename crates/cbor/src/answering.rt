@@ -1,17 +1,19 @@
 //! Lines that are answered, one by one.
 
 ghost use Rattle.std.specs.Prelude.{◌≡◌, ◌++◌, ℕ, IfErr, IfOk, IsTrue, List, Some, string_bytes};
-ghost use Rattle.ciborium_value.specs.Tree.{Tree};
-ghost use Rattle.cbor.specs.Answer.{IsAnsweredBy, IsDigitsOf, IsMeant, IsRefused};
+ghost use Rattle.cbor.specs.Answer.{IsAnsweredBy, IsDigitsOf, IsRefused};
 ghost use Rattle.cbor.specs.Line.{IsLineAnswer};
-ghost use Rattle.cbor.specs.Lines.{AreAnswered, ok_line};
-ghost use Rattle.cbor.specs.declared.spelling.Spelling.TheVariants.{Any, Deterministic};
+ghost use Rattle.cbor.specs.Lines.{AreAnswered, IsAnswer, IsOkText, text_line};
+ghost use Rattle.cbor.specs.Sequence.{IsSequenceAnswer};
+ghost use Rattle.cbor.specs.declared.reading.Reading.TheVariants.{Item};
+ghost use Rattle.cbor.specs.declared.reading.Spelling.TheVariants.{Any, Deterministic};
 
 use crate::answer::{Answer, Refusal};
 use crate::fault::Fault;
 use crate::items::{encode_to_hex, read_item};
 use crate::lines::{read_line, write_text};
-use crate::spelling::Spelling;
+use crate::reading::{Reading, Spelling};
+use crate::sequences::judge_sequence;
 use std::alloc::{AllocError, Global};
 use std::io::{BufReader, Read, Write};
 
@@ -26,7 +28,7 @@ use std::io::{BufReader, Read, Write};
 pub fn answer_line(alloc: Global, line: &[u8], limit: usize) -> Result<String, AllocError>
     ensures { IfOk result (λ answer. IsLineAnswer Any line.now limit (string_bytes answer)) }
 {
-    answer_spelling(alloc, line, Spelling::Any, limit)
+    answer_reading(alloc, line, Reading::Item(Spelling::Any, limit))
 }
 
 /// The answer to a line as `answer_line` gives it, but an item is its deterministic encoding alone
@@ -40,27 +42,37 @@ pub fn answer_line_det(alloc: Global, line: &[u8], limit: usize) -> Result<Strin
     ensures { IfOk result
         (λ answer. IsLineAnswer Deterministic line.now limit (string_bytes answer)) }
 {
-    answer_spelling(alloc, line, Spelling::Deterministic, limit)
+    answer_reading(alloc, line, Reading::Item(Spelling::Deterministic, limit))
 }
 
-// The text of the answer to a line, where an item is spelled so.
-fn answer_spelling(
-    alloc: Global,
-    line: &[u8],
-    spelling: Spelling,
-    limit: usize,
-) -> Result<String, AllocError>
-    ensures { IfOk result (λ answer. IsLineAnswer spelling line.now limit (string_bytes answer)) }
+/// The answer to a line that is read as a sequence (RFC 8742), items one after the other: `hex`
+/// where it is not an even number of hex digits; `ok`, and a space and the encoding in lower-case
+/// hex of each item, where its bytes are good items within 256 levels each; else `item`, the number
+/// of the first item that is refused, counted from 1, a colon, and why it is, as `answer_line` says
+/// it, with the offset counted inside that item.
+///
+/// # Errors
+///
+/// `AllocError` where memory is refused.
+pub fn answer_seq(alloc: Global, line: &[u8]) -> Result<String, AllocError>
+    ensures { IfOk result (λ answer. IsSequenceAnswer line.now 256 (string_bytes answer)) }
 {
-    let answer = judge_line(alloc, line, spelling, limit);
+    answer_reading(alloc, line, Reading::Sequence)
+}
+
+// The text of the answer to a line that is read so.
+fn answer_reading(alloc: Global, line: &[u8], reading: Reading) -> Result<String, AllocError>
+    ensures { IfOk result (λ answer. IsAnswer reading line.now (string_bytes answer)) }
+{
+    let answer = judge_line(alloc, line, reading);
     if answer.is_memory() {
         return Err(AllocError);
     }
     format!(in alloc; "{answer}")
 }
 
-/// Answers the lines of the input within this many levels, each by a line on the output, and says
-/// whether each is an item in a spelling that is asked for.
+/// Answers the lines of the input, each by a line on the output, and says whether each is an item,
+/// or a sequence, as is asked for.
 ///
 /// # Errors
 ///
@@ -68,42 +80,39 @@ fn answer_spelling(
 pub fn answer_lines<R: Read, W: Write>(
     alloc: Global,
     input: &mut R,
-    spelling: Spelling,
-    limit: usize,
+    reading: Reading,
     output: &mut W,
 ) -> Result<bool, Fault>
     ensures { (b w : List ℕ) → R.remaining input.old ≡ Some b → W.contents output.old ≡ Some w →
-        IfOk result (λ all. IsTrue all →
-        AreAnswered spelling b limit w (W.contents output.new)) }
+        IfOk result (λ all. IsTrue all → AreAnswered reading b w (W.contents output.new)) }
 {
     let Ok(mut reader) = BufReader::new(alloc, input) else {
         return Err(Fault::Memory);
     };
     let mut line = Vec::new(alloc);
-    let mut all_items = true;
+    let mut all_ok = true;
     'lines: for _ in 0..u64::MAX {
         if !read_line(&mut reader, &mut line)? {
-            return Ok(all_items);
+            return Ok(all_ok);
         }
-        let is_item = write_answer(alloc, &line, spelling, limit, output)?;
-        all_items = all_items && is_item;
+        let is_ok = write_answer(alloc, &line, reading, output)?;
+        all_ok = all_ok && is_ok;
     }
     Err(Fault::Input)
 }
 
-// Writes the answer to a line, and says whether the line is an item.
+// Writes the answer to a line, and says whether the line is what is asked for.
 fn write_answer<W: Write>(
     alloc: Global,
     line: &[u8],
-    spelling: Spelling,
-    limit: usize,
+    reading: Reading,
     output: &mut W,
 ) -> Result<bool, Fault>
     ensures { (w : List ℕ) → W.contents output.old ≡ Some w →
-        IfOk result (λ is_item. IsTrue is_item → (v : Tree) × IsMeant spelling line.now limit v
-        × (W.contents output.new ≡ Some (w ++ ok_line v))) }
+        IfOk result (λ is_ok. IsTrue is_ok → (text : List ℕ) × IsOkText reading line.now text
+        × (W.contents output.new ≡ Some (w ++ text_line text))) }
 {
-    let answer = judge_line(alloc, line, spelling, limit);
+    let answer = judge_line(alloc, line, reading);
     let Ok(text) = format!(in alloc; "{answer}\n") else {
         return match writeln!(output, "{}", Refusal::Memory) {
             Ok(()) => Ok(false),
@@ -111,12 +120,22 @@ fn write_answer<W: Write>(
         };
     };
     write_text(text.as_str(), output)?;
-    Ok(answer.is_item())
+    Ok(answer.is_ok())
 }
 
 // The answer to a line.
-fn judge_line(alloc: Global, line: &[u8], spelling: Spelling, limit: usize) -> Answer
-    ensures { IsAnsweredBy spelling line.now limit result }
+fn judge_line(alloc: Global, line: &[u8], reading: Reading) -> Answer
+    ensures { IsAnsweredBy reading line.now result }
+{
+    match reading {
+        Reading::Item(spelling, limit) => judge_item(alloc, line, spelling, limit),
+        Reading::Sequence => judge_sequence(alloc, line),
+    }
+}
+
+// The answer to a line that is read as one item.
+fn judge_item(alloc: Global, line: &[u8], spelling: Spelling, limit: usize) -> Answer
+    ensures { IsAnsweredBy (Item spelling limit) line.now result }
 {
     match read_digits(alloc, line, spelling, limit) {
         Ok(digits) => Answer::Item(digits),

@@ -10,7 +10,7 @@ ghost use Rattle.cbor.specs.Answer.{kind_of_reason};
 ghost use Rattle.cbor.specs.Spellings.{HasItemBefore, IsItem, RefusesItem};
 
 use crate::answer::{Reason, Refusal};
-use crate::spelling::Spelling;
+use crate::reading::Spelling;
 use ciborium::de::{Error, from_reader_deterministic, from_reader_with_recursion_limit};
 use ciborium::ser::into_writer;
 use ciborium_value::{Kind, Value};

@@ -1,7 +1,8 @@
 //! What holds of the answers to lines, whatever the code: the law is the contract of a function
 //! that does nothing.
 
-ghost use Rattle.cbor.specs.Laws.{IsAnswered, ItemIsAnswered, OneAnswer};
+ghost use Rattle.cbor.specs.Laws.{IsAnswered, IsSequenceAnswered, ItemIsAnswered, OneAnswer};
+ghost use Rattle.cbor.specs.Laws.{OneSequenceAnswer};
 ghost use Rattle.cbor.specs.Laws.{RefusalIsAnswered, RefusedMeansNothing};
 
 use ciborium::laws::deterministic_or_refused;
@@ -16,6 +17,15 @@ pub fn line_answer()
     ensures item { ItemIsAnswered }
     ensures refusal { RefusalIsAnswered }
     ensures nothing { RefusedMeansNothing }
+{
+    deterministic_or_refused();
+}
+
+/// Each line that is read as a sequence (RFC 8742) has an answer, within any number of levels for
+/// each item, and one answer alone.
+pub fn sequence_answer()
+    ensures answered { IsSequenceAnswered }
+    ensures one { OneSequenceAnswer }
 {
     deterministic_or_refused();
 }

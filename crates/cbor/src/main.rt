@@ -1,6 +1,7 @@
 //! `cbor read` answers lines of hex: which bytes are a CBOR item (RFC 8949), and its one shortest
-//! encoding. `cbor read --det` accepts deterministic encodings alone. `cbor sort` writes the
-//! encodings of all lines in the canonical order.
+//! encoding. `cbor read --det` accepts deterministic encodings alone. `cbor seq` answers lines that
+//! are sequences of items (RFC 8742). `cbor sort` writes the encodings of all lines in the
+//! canonical order.
 #![tactic(auto)]
 
 mod answer;
@@ -9,9 +10,10 @@ mod fault;
 mod items;
 mod line_laws;
 mod lines;
+mod reading;
 mod run;
+mod sequences;
 mod sorting;
-mod spelling;
 #[cfg(test)]
 mod test_devices;
 

@@ -7,36 +7,39 @@ ghost use Rattle.std.specs.Option.{SomeIff};
 ghost use Rattle.std.specs.Str.Parse.{digits_value};
 ghost use Rattle.cbor.specs.Lines.{AreAnswered};
 ghost use Rattle.cbor.specs.SortedLines.{AreSortedLines};
-ghost use Rattle.cbor.specs.Words.{AreWrong, AskFor, AskToRead, AskToSort, IsLimit, NameLimit};
-ghost use Rattle.cbor.specs.declared.spelling.Spelling.{Spelling};
+ghost use Rattle.cbor.specs.Words.{AreWrong, AskFor, AskForSequences, AskToRead, AskToSort};
+ghost use Rattle.cbor.specs.Words.{IsLimit, NameLimit};
+ghost use Rattle.cbor.specs.declared.reading.Reading.TheVariants.{Item, Sequence};
+ghost use Rattle.cbor.specs.declared.reading.Spelling.{Spelling};
 
 use crate::answering::answer_lines;
 use crate::fault::Fault;
+use crate::reading::{Reading, Spelling};
 use crate::sorting::sort_lines;
-use crate::spelling::Spelling;
 use ciborium::de::RECURSION_LIMIT;
 use std::alloc::Global;
 use std::io::{Read, Write};
 
-// What the words ask for: to answer lines of items spelled so, within so many levels, or to sort
-// them.
+// What the words ask for: to answer lines that are read so, or to sort them.
 #[derive(Clone, Copy, Debug)]
 enum Command {
-    Read(Spelling, usize),
+    Answer(Reading),
     Sort,
 }
 
 /// Does what the words say, which are the program's arguments without its name, and returns the
 /// exit status. `read` answers each line of hex of the input by a line on the output, within 256
 /// levels, and `read LIMIT` within that many; a line whose answer is refused memory is answered
-/// `memory`. `read --det`, and a limit behind it, accept deterministic encodings alone. `sort` reads all lines within 256 levels, and then writes the encodings of their items
-/// in lower-case hex, a line each, in the canonical order. At the first line that is no item it
-/// only writes `line`, the number of that line, counted from 1, a colon and the answer to it.
+/// `memory`. `read --det`, and a limit behind it, accept deterministic encodings alone. `seq`
+/// answers each line as a sequence of items (RFC 8742), each within 256 levels. `sort` reads all
+/// lines within 256 levels, and then writes the encodings of their items in lower-case hex, a line
+/// each, in the canonical order. At the first line that is no item it only writes `line`, the
+/// number of that line, counted from 1, a colon and the answer to it.
 ///
-/// The status is 0 where every line is an item, and 1 where one is not. It is 2 for any other
-/// words: the usage is then written to `errors`, and input and output are left alone. Where the
-/// input or the output fails, or memory is refused for a line or for the list to sort, the run ends
-/// with status 1, and `errors` names the first such fault.
+/// The status is 0 where every line is an item, or for `seq` a sequence, and 1 where one is not. It
+/// is 2 for any other words: the usage is then written to `errors`, and input and output are left
+/// alone. Where the input or the output fails, or memory is refused for a line or for the list to
+/// sort, the run ends with status 1, and `errors` names the first such fault.
 pub fn run<R: Read, W: Write, E: Write>(
     alloc: Global,
     words: &[String],
@@ -49,19 +52,24 @@ pub fn run<R: Read, W: Write, E: Write>(
         × (W.contents output.new ≡ W.contents output.old) }
     ensures right { (spelling : Spelling) (limit : ℕ) →
         AskToRead (map string_bytes words.now) spelling limit → result ≤ 1 }
+    ensures right_to_seq { AskForSequences (map string_bytes words.now) → result ≤ 1 }
     ensures right_to_sort { AskToSort (map string_bytes words.now) → result ≤ 1 }
     ensures answered { (spelling : Spelling) (limit : ℕ) (b w : List ℕ) →
         AskToRead (map string_bytes words.now) spelling limit → R.remaining input.old ≡ Some b →
         W.contents output.old ≡ Some w → result ≡ 0 →
-        AreAnswered spelling b limit w (W.contents output.new) }
+        AreAnswered (Item spelling limit) b w (W.contents output.new) }
+    ensures sequences { (b w : List ℕ) →
+        AskForSequences (map string_bytes words.now) → R.remaining input.old ≡ Some b →
+        W.contents output.old ≡ Some w → result ≡ 0 →
+        AreAnswered Sequence b w (W.contents output.new) }
     ensures sorted { (b w : List ℕ) →
         AskToSort (map string_bytes words.now) → R.remaining input.old ≡ Some b →
         W.contents output.old ≡ Some w → result ≡ 0 →
         AreSortedLines b 256 w (W.contents output.new) }
 {
     match judge_words(words) {
-        Some(Command::Read(spelling, limit)) => {
-            let answered = answer_lines(alloc, input, spelling, limit, output);
+        Some(Command::Answer(reading)) => {
+            let answered = answer_lines(alloc, input, reading, output);
             finish(answered, output, errors)
         }
         Some(Command::Sort) => {
@@ -69,7 +77,10 @@ pub fn run<R: Read, W: Write, E: Write>(
             finish(sorted, output, errors)
         }
         None => {
-            report(errors, "usage: cbor read [--det] [limit] | cbor sort\n");
+            report(
+                errors,
+                "usage: cbor read [--det] [limit] | cbor sort | cbor seq\n",
+            );
             2
         }
     }
@@ -83,6 +94,7 @@ fn judge_words(words: &[String]) -> Option<Command>
     match words {
         [command, options @ ..] if command.as_str() == "read" => judge_reading(options),
         [command] if command.as_str() == "sort" => Some(Command::Sort),
+        [command] if command.as_str() == "seq" => Some(Command::Answer(Reading::Sequence)),
         _ => None,
     }
 }
@@ -95,11 +107,11 @@ fn judge_reading(options: &[String]) -> Option<Command>
     match options {
         [flag, others @ ..] if flag.as_str() == "--det" => {
             let limit = judge_limit(others)?;
-            Some(Command::Read(Spelling::Deterministic, limit))
+            Some(Command::Answer(Reading::Item(Spelling::Deterministic, limit)))
         }
         _ => {
             let limit = judge_limit(options)?;
-            Some(Command::Read(Spelling::Any, limit))
+            Some(Command::Answer(Reading::Item(Spelling::Any, limit)))
         }
     }
 }

@@ -8,13 +8,13 @@ ghost use Rattle.cbor.specs.Lines.{AreMeant};
 ghost use Rattle.cbor.specs.Sorted.{AreSorted};
 ghost use Rattle.cbor.specs.SortedLines.{AreSortedLines, hex_line};
 ghost use Rattle.cbor.specs.declared.sorting.Unsorted.TheVariants.{Unread};
-ghost use Rattle.cbor.specs.declared.spelling.Spelling.TheVariants.{Any};
+ghost use Rattle.cbor.specs.declared.reading.Spelling.TheVariants.{Any};
 
 use crate::answer::Refusal;
 use crate::fault::Fault;
 use crate::items::{encode_to_hex, read_item};
 use crate::lines::{read_line, write_text};
-use crate::spelling::Spelling;
+use crate::reading::Spelling;
 use ciborium::value::canonical::cmp_value;
 use ciborium_value::Value;
 use std::alloc::{AllocError, Global};

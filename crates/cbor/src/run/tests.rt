@@ -77,6 +77,26 @@ const RUNS: &[(&[&str], &str, &str, u8)] = &[
         "ok 828180f6\nhex\nsyntax 0\n",
         1,
     ),
+    (
+        &["seq"],
+        "01026161\n\nf71801\n",
+        "ok 01 02 6161\nok\nok f6 01\n",
+        0,
+    ),
+    (
+        &["seq"],
+        "0118\n01ff\n1e\n80f97e00\nzz\n",
+        "item 2: io\nitem 2: semantic 0 break\nitem 1: syntax 0\nitem 2: semantic 0 float\nhex\n",
+        1,
+    ),
+    (&["seq"], "", "", 0),
+    (&["seq"], "\r\n0A\r\n0", "ok\nok 0a\nhex\n", 1),
+    (
+        &["seq"],
+        "8101c24101\n00818183ff\n01025bffffffffffffffff\n",
+        "ok 8101 01\nitem 2: semantic 3 break\nitem 3: toolong\n",
+        1,
+    ),
     (&["sort"], "190100\n617a\n38c7\n", "38c7\n617a\n190100\n", 0),
     (&["sort"], "", "", 0),
     (&["sort"], "01\n00\n1801\n01\n", "00\n01\n01\n01\n", 0),
@@ -242,9 +262,11 @@ fn answers_a_line_longer_than_its_buffer(rt: HostRuntime) -> Result<(), Fail> {
 }
 
 // A command, so many arrays, one in the other, how what is written for them begins, and the status.
-const NESTED: [(&str, usize, &str, u8); 4] = [
+const NESTED: [(&str, usize, &str, u8); 6] = [
     ("read", 256, "ok 8181", 0),
     ("read", 257, "nesting\n", 1),
+    ("seq", 256, "ok 8181", 0),
+    ("seq", 257, "item 1: nesting\n", 1),
     ("sort", 256, "8181", 0),
     ("sort", 257, "line 1: nesting\n", 1),
 ];
@@ -283,6 +305,9 @@ const WRONG_WORDS: &[&[&str]] = &[
     &["sort", "--det"],
     &["--det"],
     &["sort", "1"],
+    &["seq", "1"],
+    &["seq", "--det"],
+    &["SEQ"],
     &["sort", "x"],
     &["sort", ""],
     &["sort", "sort"],
@@ -296,7 +321,7 @@ fn refuses_wrong_words(rt: HostRuntime) -> Result<(), Fail> {
         let mut source = Source::new(b"00\n", 1, None);
         let device = Device::new(rt.alloc(), usize::MAX, false);
         let ended = run_on(rt.alloc(), words, &mut source, device)?;
-        let usage = "usage: cbor read [--det] [limit] | cbor sort\n";
+        let usage = "usage: cbor read [--det] [limit] | cbor sort | cbor seq\n";
         expect_end(&rt, &ended, 2, b"", usage, "wrong words");
         assert_eq!(rt; source.reads(), 0);
     }
@@ -304,8 +329,9 @@ fn refuses_wrong_words(rt: HostRuntime) -> Result<(), Fail> {
 }
 
 // A command, what it reads before its input fails, and what it then has written.
-const CUT_SHORT: [(&str, &str, &str); 4] = [
+const CUT_SHORT: [(&str, &str, &str); 5] = [
     ("read", "1800\n6161\n18", "ok 00\nok 6161\n"),
+    ("seq", "1800\n0102\n18", "ok 00\nok 01 02\n"),
     ("sort", "", ""),
     ("sort", "1800\n", ""),
     ("sort", "1800\n6161\n18", ""),
@@ -331,8 +357,9 @@ fn tells_a_fault_of_the_input(rt: HostRuntime) -> Result<(), Fail> {
 }
 
 // A command, what it reads, what it would write, and the room for that; the last flush fails.
-const NO_ROOM: [(&str, &str, &str, [usize; 4]); 3] = [
+const NO_ROOM: [(&str, &str, &str, [usize; 4]); 4] = [
     ("read", "1800\n6161\n", "ok 00\nok 6161\n", [0, 6, 8, 20]),
+    ("seq", "1800\n0102\n", "ok 00\nok 01 02\n", [0, 6, 8, 20]),
     ("sort", "6161\n1800\n", "00\n6161\n", [0, 2, 6, 20]),
     ("sort", "6161\n18\n", "line 2: io\n", [0, 2, 6, 20]),
 ];

@@ -1,4 +1,4 @@
-use Rattle.std.proofs.Common.{Some, refl, sym, ap}
+use Rattle.std.proofs.Common.{Some, sym, ap}
 use Rattle.ciborium.specs.Errors.{kind_of}
 use Rattle.cbor.specs.Answer.{kind_of_reason}
 use Rattle.cbor.specs.Spellings.{RefusesItem}

@@ -1,5 +1,5 @@
 use Rattle.std.proofs.Common.{rules, ◌≡◌, codes, string_bytes, sym, ◌∙◌}
-use Rattle.cbor.proofs.AskedWords.{first-word, one-sort}
+use Rattle.cbor.proofs.AskedWords.{first-word, one-word}
 use Rattle.cbor.proofs.run.judge_words.Goals as goal
 
 pub returns-in-len1-up : goal.returns-in-len1-up
@@ -11,4 +11,11 @@ returns-in-len1-up c =
 pub returns-in-len1 : goal.returns-in-len1
 returns-in-len1 c =
     let is_sort : c.as_str-then-words-lt2.result.now ≡ codes "sort" = search rules in
-    one-sort string_bytes c.args.words.now c.command-item-then-words-lt2.result c.in-len1.len_below c.in-len1.len_at_least c.command-item-then-words-lt2.is (sym c.as_str-then-words-lt2.ensures.value ∙ is_sort)
+    one-word string_bytes c.args.words.now c.command-item-then-words-lt2.result (codes "sort") c.in-len1.len_below c.in-len1.len_at_least c.command-item-then-words-lt2.is (sym c.as_str-then-words-lt2.ensures.value ∙ is_sort)
+
+pub returns-in-len1-2 : goal.returns-in-len1-2
+returns-in-len1-2 c =
+    let command = c.as_str-then-words-lt2-2 in
+    let is_seq : command.result.now ≡ codes "seq" = search rules in
+    one-word string_bytes c.args.words.now c.command-item-then-words-lt2-2.result (codes "seq") c.in-len1.len_below c.in-len1.len_at_least
+    c.command-item-then-words-lt2-2.is (sym command.ensures.value ∙ is_seq)
