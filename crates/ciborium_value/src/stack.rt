@@ -219,11 +219,13 @@ impl Stack {
             waiting_keys (opens_of self.now) }
     {
         match self.frames.last() {
-            Some(Frame::Map {
-                pairs,
-                key: Some(key),
-                ..
-            }) => match pairs.last() {
+            Some(
+                Frame::Map {
+                    pairs,
+                    key: Some(key),
+                    ..
+                },
+            ) => match pairs.last() {
                 Some((before, _)) => Some((before, key)),
                 None => None,
             },
