@@ -181,8 +181,8 @@ fn read_item<T: Deserialize, R: Read>(
 /// # Errors
 ///
 /// Those of `from_reader`; a fault of the first read is `Io`, and so is an item that is cut short,
-/// of kind `UnexpectedEof`. A beginning of the item has then been taken from the reader, and none of
-/// it where the first read failed.
+/// of kind `UnexpectedEof`. A beginning of the item has then been taken from the reader, and none
+/// of it where the first read failed.
 pub fn from_reader_next<T: Deserialize, R: Read>(
     alloc: Global,
     reader: &mut R,

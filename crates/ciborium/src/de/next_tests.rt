@@ -27,7 +27,8 @@ fn reads_numbers<R: Read>(
     }
 }
 
-// Sequences of numbers, the numbers that are read, and why the next is refused, or that none follows.
+// Sequences of numbers, the numbers that are read, and why the next is refused, or that none
+// follows.
 const NUMBERS: &[(&str, &[u8], Option<Reason>)] = &[
     ("", &[], None),
     ("0506", &[5, 6], None),
@@ -57,7 +58,8 @@ fn a_sequence_ends_or_is_cut(rt: HostRuntime) -> Result<(), Fail> {
     Ok(())
 }
 
-// A sequence, and how many of its numbers are answered where a read fails, by the number of the read.
+// A sequence, and how many of its numbers are answered where a read fails, by the number of the
+// read.
 const FAULTS: [(usize, usize); 5] = [(0, 0), (1, 1), (2, 1), (3, 2), (4, 3)];
 
 #[test]

@@ -1,6 +1,7 @@
 //! The part of a deterministic encoding that stands at the front.
 
-ghost use Rattle.std.specs.Prelude.{◌≡◌, ◌+◌, ◌<◌, ◌≤◌, IfOk, IsFalse, IsTrue, List, None, OnOk, Some, true, ℕ};
+ghost use Rattle.std.specs.Prelude.{◌≡◌, ◌+◌, ◌<◌, ◌≤◌, IfOk, IsFalse, IsTrue, List, None};
+ghost use Rattle.std.specs.Prelude.{OnOk, Some, true, ℕ};
 ghost use Rattle.ciborium_ll.specs.Decoding.{HasSameReader, TakesBeforeAny, pushed_of};
 ghost use Rattle.ciborium_ll.specs.declared.header.Header.TheVariants as header;
 ghost use Rattle.ciborium_value.specs.Meaning.{is_bignum_tag};
