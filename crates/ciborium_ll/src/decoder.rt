@@ -81,6 +81,15 @@ impl<'a, R: Read> Decoder<'a, R> {
         self.head_len
     }
 
+    /// The offset of the head that `pull` answered last, and before the first the one at which the
+    /// decoder began.
+    #[inline(always)]
+    pub fn last_offset(&self) -> usize
+        ensures { result ≡ last_of self.now }
+    {
+        self.last
+    }
+
     /// Gives one head back, with its offset. The next `pull` answers it and reads nothing.
     #[inline(always)]
     pub fn push(&mut self, header: Header, offset: usize)
@@ -160,6 +169,24 @@ impl<'a, R: Read> Decoder<'a, R> {
             self.last = offset;
             return Ok(header);
         }
+        self.pull_next_keeping(keep)
+    }
+
+    /// What `pull_keeping` does where no head was pushed back.
+    #[inline(always)]
+    pub fn pull_next_keeping<K: Keep>(&mut self, keep: &mut K) -> Result<Header, Error<K::Kept>>
+        requires { pushed_of self.old ≡ None }
+        ensures same_reader { HasSameReader self.old self.new }
+        ensures none_pushed { pushed_of self.new ≡ None }
+        ensures taken { Takes R.remaining self.old self.new
+            (λ b. IsHeadTaken b (count_of self.old) result) }
+        ensures last { last_of self.new ≡ count_of self.old }
+        ensures head_len { MeasuresHead self.old self.new result }
+
+        // The same, said of all that is unread.
+        ensures ahead { (b : List ℕ) (p : ℕ) → IsAhead R.remaining self.old b p →
+            Pulls R.remaining self.new b p result }
+    {
         let start = self.count;
         self.last = start;
         let pulled = read_head(self.reader, &mut self.count, keep);

@@ -15,11 +15,13 @@ fn argument_of(info: u8, bytes: &[u8]) -> u64
     ensures { (w : Width) × (result < capacity w) × (info ≡ information w result) ×
         (bytes.now ≡ argument_bytes w result) }
 {
-    match *bytes {
-        [a] => u64::from(a),
-        [a, b] => u64::from(u16::from_be_bytes([a, b])),
-        [a, b, c, d] => u64::from(u32::from_be_bytes([a, b, c, d])),
-        [a, b, c, d, e, f, g, h] => u64::from_be_bytes([a, b, c, d, e, f, g, h]),
+    match info {
+        24 => u64::from(bytes[0]),
+        25 => u64::from(u16::from_be_bytes([bytes[0], bytes[1]])),
+        26 => u64::from(u32::from_be_bytes([bytes[0], bytes[1], bytes[2], bytes[3]])),
+        27 => u64::from_be_bytes([
+            bytes[0], bytes[1], bytes[2], bytes[3], bytes[4], bytes[5], bytes[6], bytes[7],
+        ]),
         _ => u64::from(info),
     }
 }

@@ -209,8 +209,24 @@ fn heads_are_measured(rt: HostRuntime) -> Result<(), Fail> {
     assert_eq!(rt; decoder.head_len(), 3);
     decoder.pull()?;
     assert_eq!(rt; decoder.head_len(), 1);
+    assert_eq!(rt; decoder.last_offset(), 3);
     assert!(rt; decoder.pull().is_err());
     assert_eq!(rt; decoder.head_len(), 1);
+    Ok(())
+}
+
+// The reader's error is put aside, and the answer holds nothing of it.
+#[test]
+fn an_error_is_kept_aside(rt: HostRuntime) -> Result<(), Fail> {
+    let mut reader: &[u8] = &[0x00, 0x18];
+    let mut kept: Option<io::Error> = None;
+    let mut decoder = Decoder::new(&mut reader);
+    let first = decoder.pull_next_keeping(&mut kept);
+    assert!(rt; matches!(first, Ok(Header::Positive(0))));
+    assert!(rt; kept.is_none());
+    let second = decoder.pull_next_keeping(&mut kept);
+    assert!(rt; matches!(second, Err(Error::Io(()))));
+    assert_eq!(rt; kept.map(|e| e.kind()), Some(ErrorKind::UnexpectedEof));
     Ok(())
 }
 
