@@ -102,17 +102,13 @@ head-some b h s = by (header-begins b h s)
     by : Begins b (announced_length h) → 0 < length b
     by (m, a, c, e, f) = let len : length b ≡ suc (length c) = ap length e in omega (arith, len)
 
-pub fewer-bytes : (E : Type 0) {S : Type 0} (remaining : S → Option (List ℕ)) (d e : Decoder S) (h : Header) → d.pushed ≡ None →
-    IfNone d.pushed (Takes remaining d e (λ x. IsHeadTaken {E = E} x d.count (Ok h))) → 3 * (greatest_offset - e.count) + weight h ≤ 3 * (greatest_offset - d.count)
-fewer-bytes E remaining d e h none taken = by d.pushed none taken
-  where
-    by : (o : Option (Header × ℕ)) → o ≡ None → IfNone o (Takes remaining d e (λ x. IsHeadTaken {E = E} x d.count (Ok h))) → 3 * (greatest_offset - e.count) + weight h ≤ 3 * (greatest_offset - d.count)
-    by None n (b, t, count, u, bytes) =
-        let some = head-some b h u.answers.0 in
-        let fits = header-fits {E = E} b d.count h u in
-        let w = weight-most h in
-        omega (arith, some, fits, count, w)
-    by (Some p) n t = cc
+pub fewer-bytes : (E : Type 0) {S : Type 0} (remaining : S → Option (List ℕ)) (d e : Decoder S) (h : Header) →
+    Takes remaining d e (λ x. IsHeadTaken {E = E} x d.count (Ok h)) → 3 * (greatest_offset - e.count) + weight h ≤ 3 * (greatest_offset - d.count)
+fewer-bytes E remaining d e h (b, t, count, u, bytes) =
+    let some = head-some b h u.answers.0 in
+    let fits = header-fits {E = E} b d.count h u in
+    let w = weight-most h in
+    omega (arith, some, fits, count, w)
 
 pub weighs-none : {S : Type 0} (s : ByteSource S) → s.pending ≡ None → weight_left s ≡ bytes_weight s
 weighs-none s e = ap (λ o. bytes_weight s + pending_weight o) e ∙ add-zero (bytes_weight s)

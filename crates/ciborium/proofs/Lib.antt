@@ -24,7 +24,6 @@ mod OneAnswer
 mod WrittenPlaces
 mod ByteSinks
 mod RisingKeys
-mod OwnTypes
 mod FrontReads
 mod ItemHeads
 mod SkippedTags

@@ -46,6 +46,27 @@ tagged-more ts b u x y t k hd e = record {
       (o, d, is ∙ ap (under ts) io, sr, w);
 }
 
+-- tags behind tags
+under-append : (ts us : List ℕ) (i : Item) → under (ts ++ us) i ≡ under us (under ts i)
+under-append [] us i = refl
+under-append (t ∷ ts) us i = under-append ts us (tag t i)
+
+skipped-append : (numbers : Bool) (ts us : List ℕ) → AreSkipped numbers ts → AreSkipped numbers us → AreSkipped numbers (ts ++ us)
+skipped-append numbers [] us h k = k
+skipped-append numbers (t ∷ ts) us h k = (h.0, skipped-append numbers ts us h.1 k)
+
+tagged-append : (ts us : List ℕ) (b u w : List ℕ) → IsTagged us b u → IsTagged ts u w → IsTagged (ts ++ us) b w
+tagged-append ts us b u w outer inner = record {
+  outward = λ i s z sp e.
+      let (t, sq, f) = inner.outward i s z sp e in
+      let (c, sr, g) = outer.outward (under ts i) t z sq f in
+      (c, subst (Spells c) (sym (under-append ts us i)) sr, g);
+  inward = λ j c z sp e.
+      let (k, t, is, sq, f) = outer.inward j c z sp e in
+      let (i, s, io, sr, g) = inner.inward k t z sq f in
+      (i, s, is ∙ ap (under us) io ∙ sym (under-append ts us i), sr, g);
+}
+
 module _ {S : Type 0} (IsUnread : S → List ℕ → Type 0) where
   pub skips-none : (old : S) (numbers : Bool) → Skips IsUnread old old numbers
   skips-none old numbers b u = ([], b, tagged-none b, tt, u)
@@ -73,6 +94,25 @@ module _ {S : Type 0} (IsUnread : S → List ℕ → Type 0) where
 
   pub denies-of-item : {A : Type 0} (l : Limit) (taken : Taken A) (old : S) (fault : Fault) → DeniesItem IsUnread old fault → Denies IsUnread old l taken fault
   denies-of-item l taken old fault h b s z i u sp e = fault-outside fault (taken l i) (h b s z i u sp e)
+
+  -- a head that is taken as it comes, and is not skipped
+  pub bare-head : (old new : S) (numbers : Bool) (h : Header) → TakesHead IsUnread old new h → TakesBare IsUnread old new numbers h
+  bare-head old new numbers h k b u =
+      let (x, y, hd, e, un) = k b u in
+      ([], b, x, y, tagged-none b, tt, hd, e, un)
+
+  -- behind tags that were skipped
+  pub bare-behind : (old mid new : S) (numbers : Bool) (h : Header) → Skips IsUnread old mid numbers → TakesBare IsUnread mid new numbers h → TakesBare IsUnread old new numbers h
+  bare-behind old mid new numbers h sk k b u =
+      let (us, c, outer, some, un) = sk b u in
+      let (ts, w, x, y, inner, more, hd, e, un') = k c un in
+      (ts ++ us, w, x, y, tagged-append ts us b c w outer inner, skipped-append numbers ts us more some, hd, e, un')
+
+  pub denies-behind : (old mid : S) (numbers : Bool) (fault : Fault) → Skips IsUnread old mid numbers → DeniesItem IsUnread mid fault → DeniesItem IsUnread old fault
+  denies-behind old mid numbers fault sk k b s z i u sp e =
+      let (us, c, outer, some, un) = sk b u in
+      let (j, t, is, sq, f) = outer.inward i s z sp e in
+      k c t z j un sq f
 
 -- ---- what is read behind tags
 

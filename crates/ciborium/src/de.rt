@@ -212,8 +212,3 @@ pub fn from_reader_next<T: Deserialize, R: Read>(
     let first = source.decoder.pull_first()?;
     read_item(alloc, &mut source, first)
 }
-
-#[cfg(test)]
-mod next_tests;
-#[cfg(test)]
-pub(crate) mod tests;

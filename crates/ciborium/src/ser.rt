@@ -62,6 +62,3 @@ pub fn into_writer<T: Serialize, W: Write>(
         Err(Refusal::Memory) => Err(Error::Memory),
     }
 }
-
-#[cfg(test)]
-mod tests;

@@ -134,6 +134,3 @@ fn serialize_tagged<T: Serialize, S: Sink>(
     sink.tag(tag)?;
     content.serialize(sink)
 }
-
-#[cfg(test)]
-mod tests;

@@ -161,6 +161,3 @@ fn read_value<R: Read>(
         }
     }
 }
-
-#[cfg(test)]
-mod tests;

@@ -425,6 +425,3 @@ fn compare_pairs(
     }
     Ordering::Equal
 }
-
-#[cfg(test)]
-mod tests;

@@ -43,19 +43,14 @@ impl<'a, R: Read> ByteSource<'a, R> {
             self.pending = None;
             return Ok((header, offset));
         }
-        let offset = self.decoder.offset();
-        let header = self.decoder.pull_keeping(&mut self.failure)?;
+        let header = self.decoder.pull_next_keeping(&mut self.failure)?;
+        let offset = self.decoder.last_offset();
         Ok((header, offset))
     }
 
-    /// The head behind any number of tags, and its offset. Where numbers are wanted, the tag of a
-    /// bignum is such a head.
-    ///
-    /// # Errors
-    ///
-    /// `Semantic` with `Break` where a break stands there.
-    #[inline(always)]
-    pub(crate) fn bare_head(&mut self, numbers: bool) -> Result<(Header, usize), Refusal>
+    // The head behind any number of tags. Out of line: where it is called a tag was skipped.
+    #[inline(never)]
+    fn behind_tags(&mut self, numbers: bool) -> Result<(Header, usize), Refusal>
         ensures same_reader { HasSameReader self.old.decoder self.new.decoder }
         ensures levels { self.new.levels ≡ self.old.levels }
         ensures pending { OnOk result (self.new.pending ≡ None) }
@@ -79,6 +74,60 @@ impl<'a, R: Read> ByteSource<'a, R> {
                 Header::Break => return Err(Error::Semantic(Some(offset), Kind::Break)),
                 _ => return Ok((header, offset)),
             }
+        }
+    }
+
+    // What `behind_tags` does. Apart from `bare_head`, so that the room for its answer is made ready
+    // only behind a tag.
+    #[inline(always)]
+    fn skip_tags(&mut self, numbers: bool) -> Result<(Header, usize), Refusal>
+        ensures same_reader { HasSameReader self.old.decoder self.new.decoder }
+        ensures levels { self.new.levels ≡ self.old.levels }
+        ensures pending { OnOk result (self.new.pending ≡ None) }
+        ensures fewer { IfOk result
+            (λ h. bytes_weight self.new + weight h.0 ≤ weight_left self.old) }
+        ensures bare { IfOk result (λ h. IsBare numbers h.0) }
+        ensures head { IfOk result
+            (λ h. TakesBare (IsUnread R.remaining) self.old self.new numbers h.0) }
+        ensures denied { IfErr result
+            (λ e. DeniesItem (IsUnread R.remaining) self.old (cause_of e)) }
+        ensures memory { IfErr result (λ e. IsGranted (cause_of e) false) }
+    {
+        let bare = self.behind_tags(numbers)?;
+        Ok(bare)
+    }
+
+    /// The head behind any number of tags, and its offset. Where numbers are wanted, the tag of a
+    /// bignum is such a head.
+    ///
+    /// # Errors
+    ///
+    /// `Semantic` with `Break` where a break stands there.
+    #[inline(always)]
+    pub(crate) fn bare_head(&mut self, numbers: bool) -> Result<(Header, usize), Refusal>
+        ensures same_reader { HasSameReader self.old.decoder self.new.decoder }
+        ensures levels { self.new.levels ≡ self.old.levels }
+        ensures pending { OnOk result (self.new.pending ≡ None) }
+        ensures fewer { IfOk result
+            (λ h. bytes_weight self.new + weight h.0 ≤ weight_left self.old) }
+        ensures bare { IfOk result (λ h. IsBare numbers h.0) }
+        ensures head { IfOk result
+            (λ h. TakesBare (IsUnread R.remaining) self.old self.new numbers h.0) }
+        ensures denied { IfErr result
+            (λ e. DeniesItem (IsUnread R.remaining) self.old (cause_of e)) }
+        ensures memory { IfErr result (λ e. IsGranted (cause_of e) false) }
+    {
+        let (header, offset) = self.next_head()?;
+        match header {
+            Header::Tag(tag) => {
+                if is_end_tag(numbers, tag) {
+                    return Ok((header, offset));
+                }
+                let bare = self.skip_tags(numbers)?;
+                Ok(bare)
+            }
+            Header::Break => Err(Error::Semantic(Some(offset), Kind::Break)),
+            _ => Ok((header, offset)),
         }
     }
 }

@@ -1,11 +1,44 @@
 // Rows of refusals with their offsets, and of what calls take.
 use super::ByteSource;
-use crate::de::tests::{ENDED, Reason, name_reason};
-use crate::small_devices::decode_hex;
+use crate::de::Error;
 use ciborium_ll::Decoder;
 use ciborium_value::{Kind, Source, Value};
 use std::alloc::Global;
+use std::io::{self, ErrorKind, Read};
 use std::test::Fail;
+
+// Why a call is refused. An error of the device stands for its kind.
+#[derive(Clone, Copy, Debug, PartialEq, Eq)]
+enum Reason {
+    Io(ErrorKind),
+    Syntax(usize),
+    Semantic(Option<usize>, Kind),
+    Nesting,
+    Memory,
+    TooLong,
+}
+
+const ENDED: Reason = Reason::Io(ErrorKind::UnexpectedEof);
+
+fn name_reason(error: Error<io::Error>) -> Reason {
+    match error {
+        Error::Io(e) => Reason::Io(e.kind()),
+        Error::Syntax(offset) => Reason::Syntax(offset),
+        Error::Semantic(offset, kind) => Reason::Semantic(offset, kind),
+        Error::RecursionLimitExceeded => Reason::Nesting,
+        Error::Memory => Reason::Memory,
+        Error::TooLong => Reason::TooLong,
+    }
+}
+
+// The bytes that these pairs of hex digits name.
+fn decode_hex(alloc: Global, text: &str) -> Result<Vec<u8>, Fail> {
+    let mut bytes = Vec::new(alloc);
+    for digits in text.as_bytes().chunks(2) {
+        bytes.push(u8::from_str_radix(str::from_utf8(digits)?, 16)?)?;
+    }
+    Ok(bytes)
+}
 
 #[derive(Clone, Copy, Debug)]
 enum Call {
@@ -24,16 +57,8 @@ fn refused_at(offset: usize, kind: Kind) -> Reason {
     Reason::Semantic(Some(offset), kind)
 }
 
-// Why the call is refused at these bytes, with so many levels left.
-fn find_refusal(alloc: Global, call: Call, bytes: &[u8], levels: usize) -> Option<Reason> {
-    let mut reader = bytes;
-    let mut source = ByteSource {
-        decoder: Decoder::new(&mut reader),
-        pending: None,
-        levels,
-        scratch: &mut [],
-        failure: None,
-    };
+// Why the call is refused by a source.
+fn refuse<R: Read>(alloc: Global, call: Call, source: &mut ByteSource<'_, R>) -> Option<Reason> {
     let error = match call {
         Call::Integer => source.integer().err(),
         Call::Boolean => source.boolean().err(),
@@ -47,6 +72,19 @@ fn find_refusal(alloc: Global, call: Call, bytes: &[u8], levels: usize) -> Optio
     };
     let refusal = error?;
     Some(name_reason(source.put_back(refusal)))
+}
+
+// Why the call is refused at these bytes, with so many levels left.
+fn find_refusal(alloc: Global, call: Call, bytes: &[u8], levels: usize) -> Option<Reason> {
+    let mut reader = bytes;
+    let mut source = ByteSource {
+        decoder: Decoder::new(&mut reader),
+        pending: None,
+        levels,
+        scratch: &mut [],
+        failure: None,
+    };
+    refuse(alloc, call, &mut source)
 }
 
 const CALLS: [Call; 9] = [
@@ -227,4 +265,57 @@ fn strings_are_read_in_every_form(rt: HostRuntime) -> Result<(), Fail> {
     };
     assert_eq!(rt; reason, Some(Reason::Syntax(4)));
     Ok(())
+}
+
+// Gives one byte, then another for ever, one a read, and counts them.
+#[derive(Drop)]
+struct Endless {
+    first: u8,
+    rest: u8,
+    given: usize,
+}
+
+impl Read for Endless {
+    fn read(&mut self, buffer: &mut [u8]) -> io::Result<usize> {
+        let byte = if self.given == 0 {
+            self.first
+        } else {
+            self.rest
+        };
+        match buffer.first_mut() {
+            Some(place) => {
+                *place = byte;
+                self.given = self.given.saturating_add(1);
+                Ok(1)
+            }
+            None => Ok(0),
+        }
+    }
+}
+
+// Why the call is refused by a source that has room for five bytes, and how many it takes.
+fn find_late_refusal(alloc: Global, call: Call, first: u8, rest: u8) -> (Option<Reason>, usize) {
+    let mut reader = Endless {
+        first,
+        rest,
+        given: 0,
+    };
+    let mut source = ByteSource {
+        decoder: Decoder::at(&mut reader, usize::MAX - 5),
+        pending: None,
+        levels: 9,
+        scratch: &mut [],
+        failure: None,
+    };
+    let reason = refuse(alloc, call, &mut source);
+    (reason, reader.given)
+}
+
+// Tags before a boolean, and items of an open array, that never end.
+#[test]
+fn no_byte_is_read_behind_the_last_offset(rt: HostRuntime) {
+    let tags = find_late_refusal(rt.alloc(), Call::Boolean, 0xc1, 0xc1);
+    assert_eq!(rt; tags, (Some(Reason::TooLong), 5));
+    let items = find_late_refusal(rt.alloc(), Call::Value, 0x9f, 0x00);
+    assert_eq!(rt; items, (Some(Reason::TooLong), 5));
 }

@@ -1,0 +1,2 @@
+mod OwnTypes
+mod WrittenInRow

@@ -1,0 +1,36 @@
+//! What ends a run early.
+
+ghost use Rattle.std.specs.Prelude.{◌≡◌};
+ghost use Rattle.ciborium_tests.specs.declared.fault.Fault.TheVariants.{Memory};
+
+use std::alloc::AllocError;
+
+/// What ends a run early.
+#[derive(Clone, Copy, Debug)]
+pub enum Fault {
+    /// The input could not be read.
+    Input,
+    /// An answer could not be written.
+    Output,
+    /// Memory was refused for a line or its answer.
+    Memory,
+}
+
+impl From<AllocError> for Fault {
+    ghost from_gives = { λ _ fault. fault ≡ Memory };
+
+    fn from(_: AllocError) -> Fault {
+        Fault::Memory
+    }
+}
+
+impl Fault {
+    /// The line that names it.
+    pub fn message(self) -> &'static str {
+        match self {
+            Fault::Input => "input failed\n",
+            Fault::Output => "output failed\n",
+            Fault::Memory => "memory\n",
+        }
+    }
+}

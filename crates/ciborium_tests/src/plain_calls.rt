@@ -1,0 +1,96 @@
+//! Calls that take no memory, with everything prepared that they are lent.
+
+use crate::outcome::{Failure, expect, is_written_as, judge_head, prepare_value};
+use crate::plain_numbers::{compare_integers, convert_integers};
+use crate::plain_reads::read_plain_types;
+use crate::plain_values::{compare_values, look_into, make_values, take_apart};
+use ciborium::ll::{self, Decoder, Encoder, Header};
+use ciborium::value::{self, Kind};
+use ciborium::{de, ser};
+use std::alloc::{AllocError, Global};
+use std::io::{self, ErrorKind};
+
+// [1, h'01', "a", true, null, 1(0), [], {}]
+const VALUES: &[u8] = b"\x88\x01\x41\x01\x61\x61\xf5\xf6\xc1\x00\x80\xa0";
+
+/// Makes each of the calls, behind the preparation of what they are lent.
+///
+/// # Errors
+///
+/// Why an answer is not the right value; `Preparing` where a growth is refused before the calls.
+pub fn make_plain_calls(alloc: Global) -> Result<(), Failure> {
+    let values = prepare_value(alloc, VALUES)?;
+    let text = String::from_str(alloc, "a")?;
+    let bytes = prepare_byte(alloc)?;
+
+    decode_heads()?;
+    encode_heads()?;
+    convert_errors()?;
+    expect(is_written_as(&values, VALUES))?;
+    compare_integers()?;
+    convert_integers()?;
+    look_into(&values)?;
+    compare_values(&values)?;
+    read_plain_types(alloc, &values)?;
+    make_values(alloc, text, bytes)?;
+    take_apart(values)
+}
+
+// h'01'
+fn prepare_byte(alloc: Global) -> Result<Vec<u8>, AllocError> {
+    Ok(vec![in alloc; 1u8]?)
+}
+
+// A head is pulled, pushed back and pulled again, and a payload is read.
+fn decode_heads() -> Result<(), Failure> {
+    let mut reader: &[u8] = b"\x18\x20\x43\x01\x02\x03\x1e";
+    let mut decoder = Decoder::new(&mut reader);
+    let header = decoder.pull().map_err(judge_head)?;
+    expect(header == Header::Positive(32) && decoder.offset() == 2)?;
+    decoder.push(header, 0);
+    expect(decoder.offset() == 0)?;
+    let again = decoder.pull().map_err(judge_head)?;
+    expect(again == header && decoder.offset() == 2)?;
+    let opening = decoder.pull().map_err(judge_head)?;
+    expect(opening == Header::Bytes(Some(3)))?;
+    let mut payload = [0u8; 3];
+    decoder.read_exact(&mut payload).map_err(judge_head)?;
+    expect(payload == [1, 2, 3] && decoder.offset() == 6)?;
+    match decoder.pull() {
+        Err(ll::Error::Syntax(offset)) => expect(offset == 6),
+        Err(error) => Err(judge_head(error)),
+        Ok(_) => Err(Failure::Wrong),
+    }
+}
+
+// Heads and a payload are written to a slice, until there is no room.
+fn encode_heads() -> Result<(), Failure> {
+    let mut buffer = [0u8; 5];
+    let mut rest: &mut [u8] = &mut buffer;
+    let mut encoder = Encoder::new(&mut rest);
+    expect(encoder.push(Header::Bytes(Some(2))).is_ok())?;
+    expect(encoder.write_all(&[1, 2]).is_ok())?;
+    expect(encoder.push(Header::Positive(32)).is_ok())?;
+    match encoder.push(Header::Break) {
+        Err(error) => expect(error.kind() == ErrorKind::WriteZero)?,
+        Ok(()) => return Err(Failure::Wrong),
+    }
+    expect(buffer == [0x42, 1, 2, 0x18, 0x20])
+}
+
+// Each error is made from those below it.
+fn convert_errors() -> Result<(), Failure> {
+    let broken = io::Error::from(ErrorKind::BrokenPipe);
+    let below: ll::Error<io::Error> = ll::Error::from(broken);
+    let read: de::Error<io::Error> = de::Error::from(below);
+    expect(matches!(&read, de::Error::Io(error) if error.kind() == ErrorKind::BrokenPipe))?;
+    let below: ll::Error<io::Error> = ll::Error::Syntax(1);
+    let read: de::Error<io::Error> = de::Error::from(below);
+    expect(matches!(&read, de::Error::Syntax(1)))?;
+    let read: de::Error<io::Error> = de::Error::semantic(Some(2), Kind::Float);
+    expect(matches!(&read, de::Error::Semantic(Some(2), Kind::Float)))?;
+    let full = io::Error::from(ErrorKind::WriteZero);
+    let written: ser::Error<io::Error> = ser::Error::from(full);
+    expect(matches!(&written, ser::Error::Io(error) if error.kind() == ErrorKind::WriteZero))?;
+    expect(value::Error::from(AllocError) == value::Error::Memory)
+}

@@ -1,0 +1,74 @@
+//! Why reading was refused, as a text.
+
+use ciborium::de;
+use ciborium::value::{self, Kind};
+use std::alloc::{AllocError, Global};
+use std::io::{self, ErrorKind};
+
+/// Why bytes were refused.
+///
+/// # Errors
+///
+/// `AllocError` where memory is refused for the text.
+pub fn describe_read(alloc: Global, error: de::Error<io::Error>) -> Result<String, AllocError> {
+    match error {
+        de::Error::Io(e) => String::from_str(alloc, name_io(e.kind())),
+        de::Error::Syntax(offset) => format!(in alloc; "syntax {offset}"),
+        de::Error::Semantic(Some(offset), kind) => {
+            format!(in alloc; "semantic {offset} {}", name_kind(kind))
+        }
+        de::Error::Semantic(None, kind) => format!(in alloc; "semantic - {}", name_kind(kind)),
+        de::Error::RecursionLimitExceeded => String::from_str(alloc, "nesting"),
+        de::Error::TooLong => String::from_str(alloc, "toolong"),
+        de::Error::Memory => String::from_str(alloc, "memory"),
+    }
+}
+
+/// Why a value was refused.
+///
+/// # Errors
+///
+/// `AllocError` where memory is refused for the text.
+pub fn describe_tree(alloc: Global, error: value::Error) -> Result<String, AllocError> {
+    match error {
+        value::Error::Custom(kind) => format!(in alloc; "custom {}", name_kind(kind)),
+        value::Error::Memory => String::from_str(alloc, "memory"),
+    }
+}
+
+// Whether the bytes ended, or the reader failed otherwise.
+fn name_io(kind: ErrorKind) -> &'static str {
+    if kind == ErrorKind::UnexpectedEof {
+        "io"
+    } else {
+        "io other"
+    }
+}
+
+// The name of a kind in lower case.
+fn name_kind(kind: Kind) -> &'static str {
+    match kind {
+        Kind::Float => "float",
+        Kind::Simple => "simple",
+        Kind::Break => "break",
+        Kind::TooLarge => "toolarge",
+        Kind::Integer => "integer",
+        Kind::Bool => "bool",
+        Kind::Unit => "unit",
+        Kind::Text => "text",
+        Kind::Char => "char",
+        Kind::Bytes => "bytes",
+        Kind::Array => "array",
+        Kind::Map => "map",
+        Kind::Name => "name",
+        Kind::Variant => "variant",
+        Kind::Range => "range",
+        Kind::Tag => "tag",
+        Kind::Length => "length",
+        Kind::Other => "other",
+        Kind::NotShortest => "notshortest",
+        Kind::Open => "open",
+        Kind::NotFolded => "notfolded",
+        Kind::KeyOrder => "keyorder",
+    }
+}
