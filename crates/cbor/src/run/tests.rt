@@ -329,7 +329,8 @@ fn refuses_wrong_words(rt: HostRuntime) -> Result<(), Fail> {
 }
 
 // A command, what it reads before its input fails, and what it then has written.
-const CUT_SHORT: [(&str, &str, &str); 5] = [
+const CUT_SHORT: [(&str, &str, &str); 6] = [
+    ("read", "01\n1e", "ok 01\n"),
     ("read", "1800\n6161\n18", "ok 00\nok 6161\n"),
     ("seq", "1800\n0102\n18", "ok 00\nok 01 02\n"),
     ("sort", "", ""),
@@ -388,6 +389,56 @@ fn ends_where_nothing_can_be_told(rt: HostRuntime) -> Result<(), Fail> {
     assert_eq!(rt;
         run(rt.alloc(), &words, &mut input, &mut output, &mut errors),
         2
+    );
+    Ok(())
+}
+
+// A command, what it reads, whether its input then fails, what it writes, and the status.
+const UNTOLD: [(&str, &str, Option<ErrorKind>, &str, u8); 5] = [
+    ("read", "01\n1e", Some(ErrorKind::Other), "ok 01\n", 1),
+    ("seq", "0102\n1e", Some(ErrorKind::Other), "ok 01 02\n", 1),
+    ("sort", "01\n00\n", Some(ErrorKind::Other), "", 1),
+    ("read", "01\n1e", None, "ok 01\nsyntax 0\n", 1),
+    ("sort", "01\n00\n", None, "00\n01\n", 0),
+];
+
+// Runs a command whose standard error stream fails, and holds it to its status and its output.
+fn expect_untold(
+    rt: &impl Abort,
+    alloc: Global,
+    command: &str,
+    input: &mut Source<'_>,
+    output: &str,
+    status: u8,
+) -> Result<(), Fail> {
+    let words = vec![in alloc; String::from_str(alloc, command)?]?;
+    let mut held = Vec::new(alloc);
+    let mut errors = Device::new(alloc, 0, true);
+    let ended = run(alloc, &words, input, &mut held, &mut errors);
+    assert_eq!(rt; ended, status, "{command}");
+    assert_eq!(rt; held.as_slice(), output.as_bytes(), "{command}");
+    Ok(())
+}
+
+#[test]
+fn a_fault_of_the_errors_changes_nothing_else(rt: HostRuntime) -> Result<(), Fail> {
+    for (command, input, fault, output, status) in UNTOLD {
+        let mut source = Source::new(input.as_bytes(), 1, fault);
+        expect_untold(&rt, rt.alloc(), command, &mut source, output, status)?;
+    }
+    Ok(())
+}
+
+// The output has no room either: the run ends, and says so by its status.
+#[test]
+fn ends_where_both_outputs_fail(rt: HostRuntime) -> Result<(), Fail> {
+    let words = vec![in rt.alloc(); String::from_str(rt.alloc(), "read")?]?;
+    let mut input = Source::new(b"01\n", usize::MAX, None);
+    let mut output = Device::new(rt.alloc(), 3, false);
+    let mut errors = Device::new(rt.alloc(), 0, true);
+    assert_eq!(rt;
+        run(rt.alloc(), &words, &mut input, &mut output, &mut errors),
+        1
     );
     Ok(())
 }
