@@ -1,0 +1,1052 @@
+#!/usr/bin/env python3
+"""A model of typed reading (RFC 8949), written apart from the library.
+
+A line is `TYPE LIMIT HEX`. Its answer is `BYTES | TREE`: what reading the bytes as TYPE within LIMIT levels answers,
+and what reading the `Value` that the bytes begin with answers, `none` where there is no such `Value`.
+
+Two sources stand under the same typed readers: `ByteSource` with offsets and levels, `TreeSource` with neither. Each
+reads in the natural order and refuses at the first fault it meets.
+
+    python3 typed_model.py                  checks the model against answers that were worked out by hand
+    python3 typed_model.py answer < LINES   prints the answer of each line
+    python3 typed_model.py worked           prints the lines of those answers
+"""
+
+import sys
+
+sys.dont_write_bytecode = True
+sys.setrecursionlimit(20000)
+
+LAST_OFFSET = 2**64 - 1
+NO_LIMIT = 2**64 - 1
+LONGEST_FOLDING = 16
+MOST_SIGNIFICANT_BYTES = 16
+
+# What a head is (RFC 8949, section 3.1). The first seven are the major types of that number.
+POSITIVE, NEGATIVE, BYTES, TEXT, ARRAY, MAP, TAG, SIMPLE, FLOAT, BREAK = range(10)
+
+FALSE, TRUE, NULL, UNDEFINED = 20, 21, 22, 23
+POSITIVE_BIGNUM, NEGATIVE_BIGNUM = 2, 3
+BIGNUM_TAGS = (POSITIVE_BIGNUM, NEGATIVE_BIGNUM)
+
+
+class Refusal(Exception):
+    """A refused reading, by the text of its answer."""
+
+
+# --- Values --------------------------------------------------------------------------------------------------------
+#
+# A value is a tuple that begins with one of these words:
+# ("integer", n) ("bytes", b) ("text", s) ("bool", b) ("null",) ("tag", n, value) ("array", [value, ..])
+# ("map", [(value, value), ..])
+
+NULL_VALUE = ("null",)
+
+
+def shortest_head(major, number):
+    """The head of fewest bytes (sections 3 and 4.2.1)."""
+    if number < 24:
+        return bytes([major << 5 | number])
+    for information, width in ((24, 1), (25, 2), (26, 4), (27, 8)):
+        if number < 1 << 8 * width:
+            return bytes([major << 5 | information]) + number.to_bytes(width, "big")
+    raise ValueError("no head holds this number")
+
+
+def encode_integer(number):
+    return shortest_head(POSITIVE, number) if number >= 0 else shortest_head(NEGATIVE, -1 - number)
+
+
+def encode_bytes(content):
+    return shortest_head(BYTES, len(content)) + content
+
+
+def encode_text(text):
+    content = text.encode()
+    return shortest_head(TEXT, len(content)) + content
+
+
+def encode_bool(truth):
+    return b"\xf5" if truth else b"\xf4"
+
+
+def encode(value):
+    """The shortest definite encoding of a value."""
+    word = value[0]
+    if word == "integer":
+        return encode_integer(value[1])
+    if word == "bytes":
+        return encode_bytes(value[1])
+    if word == "text":
+        return encode_text(value[1])
+    if word == "bool":
+        return encode_bool(value[1])
+    if word == "null":
+        return b"\xf6"
+    if word == "tag":
+        return shortest_head(TAG, value[1]) + encode(value[2])
+    if word == "array":
+        return shortest_head(ARRAY, len(value[1])) + b"".join(encode(item) for item in value[1])
+    pairs = b"".join(encode(key) + encode(content) for key, content in value[1])
+    return shortest_head(MAP, len(value[1])) + pairs
+
+
+def fold_bignum(tag, content):
+    """What tag 2 or 3 over a definite string of at most 16 bytes means (section 3.4.3), or None for nothing."""
+    number = int.from_bytes(content, "big")
+    if number < 2**64:
+        return ("integer", number if tag == POSITIVE_BIGNUM else -1 - number)
+    if tag == NEGATIVE_BIGNUM and number >= 2**127:
+        return None
+    return ("tag", tag, ("bytes", content.lstrip(b"\0")))
+
+
+def bignum_number(tag, content):
+    """The number of tag 2 or 3 over a string of any length, or None where more than 16 bytes of it count."""
+    content = content.lstrip(b"\0")
+    if len(content) > MOST_SIGNIFICANT_BYTES:
+        return None
+    number = int.from_bytes(content, "big")
+    return number if tag == POSITIVE_BIGNUM else -1 - number
+
+
+# --- The source over bytes -----------------------------------------------------------------------------------------
+
+
+class ByteSequence:
+    """An array or map that is being read: `remaining` items or pairs, None where it is open. Of a byte string that is
+    read as a sequence `remaining` bytes of `content` are left, items with the offset of the string's head."""
+
+    __slots__ = ("remaining", "content", "offset")
+
+    def __init__(self, remaining, content=None, offset=None):
+        self.remaining = remaining
+        self.content = content
+        self.offset = offset
+
+
+class ByteSource:
+    """Reads from bytes. A head is a tuple (what it is, its number, its offset); the number of an open string, array or
+    map is None. One head may be pushed back. An item that no head spells, as a byte of a string that is read as a
+    sequence, is a pushed head too."""
+
+    def __init__(self, data, limit):
+        self.data = data
+        self.position = 0
+        self.levels = limit
+        self.pushed = None
+        # Whether `value` met definite items alone and folded nothing: then the tree has the item that the bytes have.
+        self.plain = True
+
+    # Heads and payloads
+
+    def pull(self):
+        """The next head (section 3), the bytes of a float with it."""
+        if self.pushed is not None:
+            head = self.pushed
+            self.pushed = None
+            return head
+        data = self.data
+        offset = self.position
+        if offset == len(data):
+            raise Refusal("io")
+        initial = data[offset]
+        major = initial >> 5
+        information = initial & 31
+        position = offset + 1
+        if information < 24:
+            number = information
+        elif information < 28:
+            end = position + (1 << information - 24)
+            if end > len(data):
+                raise Refusal("io")
+            number = int.from_bytes(data[position:end], "big")
+            position = end
+        elif information == 31 and major not in (POSITIVE, NEGATIVE, TAG):
+            number = None
+        else:
+            raise self.syntax(offset)
+        self.position = position
+        if major == 7:
+            return self.head_of_seven(information, number, offset)
+        if number is not None and major in (BYTES, TEXT) and position + number > LAST_OFFSET:
+            raise Refusal("toolong")
+        return (major, number, offset)
+
+    def head_of_seven(self, information, number, offset):
+        """Floats, simple values and the break (section 3.3)."""
+        if information == 31:
+            return (BREAK, None, offset)
+        if information >= 25:
+            return (FLOAT, None, offset)
+        if information == 24 and number < 32:
+            raise self.syntax(offset)
+        return (SIMPLE, number, offset)
+
+    def push(self, head):
+        self.pushed = head
+
+    def payload(self, length):
+        end = self.position + length
+        if end > len(self.data):
+            raise Refusal("io")
+        content = self.data[self.position:end]
+        self.position = end
+        return content
+
+    def string_parts(self, head):
+        """The payload of a string, part by part, each with the offset of its head. A definite string is one part, an
+        open one (section 3.2.3) any number of definite strings of its own kind."""
+        major, length, offset = head
+        if length is not None:
+            yield self.payload(length), offset
+            return
+        while True:
+            part, part_length, part_offset = self.pull()
+            if part == BREAK:
+                return
+            if part != major or part_length is None:
+                raise self.syntax(part_offset)
+            yield self.payload(part_length), part_offset
+
+    def byte_string(self, head):
+        return b"".join(content for content, _ in self.string_parts(head))
+
+    def text_string(self, head):
+        """Each part of a text is UTF-8 by itself."""
+        parts = []
+        for content, offset in self.string_parts(head):
+            try:
+                parts.append(content.decode("utf-8"))
+            except UnicodeDecodeError:
+                raise self.syntax(offset) from None
+        return "".join(parts)
+
+    # Refusals and levels
+
+    def syntax(self, offset):
+        return Refusal("syntax %d" % offset)
+
+    def refuse(self, kind, offset=None):
+        return Refusal("semantic %s %s" % ("-" if offset is None else offset, kind))
+
+    def unfit(self, head, kind):
+        """The refusal of an item that a call does not take. A break is none."""
+        return self.refuse("break" if head[0] == BREAK else kind, head[2])
+
+    def take_level(self):
+        if self.levels == 0:
+            raise Refusal("nesting")
+        self.levels -= 1
+
+    def give_level(self):
+        self.levels += 1
+
+    # Calls
+
+    def bare_head(self):
+        """The head behind any number of tags."""
+        head = self.pull()
+        while head[0] == TAG:
+            head = self.pull()
+        return head
+
+    def number(self):
+        """A number, and the offset of its head; of a bignum that of its tag 2 or 3. No other tag counts."""
+        head = self.pull()
+        while head[0] == TAG and head[1] not in BIGNUM_TAGS:
+            head = self.pull()
+        what, number, offset = head
+        if what == POSITIVE:
+            return number, offset
+        if what == NEGATIVE:
+            return -1 - number, offset
+        if what != TAG:
+            raise self.unfit(head, "integer")
+        string = self.pull()
+        if string[0] != BYTES:
+            raise self.unfit(string, "bytes")
+        bignum = bignum_number(number, self.byte_string(string))
+        if bignum is None:
+            raise self.refuse("toolarge", offset)
+        return bignum, offset
+
+    def integer(self):
+        return self.number()[0]
+
+    def boolean(self):
+        head = self.bare_head()
+        if head[0] == SIMPLE and head[1] in (FALSE, TRUE):
+            return head[1] == TRUE
+        raise self.unfit(head, "bool")
+
+    def unit(self):
+        head = self.bare_head()
+        if head[0] == SIMPLE and head[1] in (NULL, UNDEFINED):
+            return
+        raise self.unfit(head, "unit")
+
+    def text(self):
+        head = self.bare_head()
+        if head[0] != TEXT:
+            raise self.unfit(head, "text")
+        return self.text_string(head)
+
+    def byte_buffer(self):
+        """A byte string, or an array of numbers, which costs a level."""
+        head = self.bare_head()
+        if head[0] == BYTES:
+            return self.byte_string(head)
+        if head[0] != ARRAY:
+            raise self.unfit(head, "bytes")
+        sequence = self.enter(head)
+        content = bytearray()
+        while self.next(sequence):
+            number, offset = self.number()
+            if not 0 <= number <= 255:
+                raise self.refuse("range", offset)
+            content.append(number)
+        return bytes(content)
+
+    def name(self):
+        """A text, or a byte string that is UTF-8 once its parts are joined."""
+        head = self.bare_head()
+        if head[0] == TEXT:
+            return self.text_string(head)
+        if head[0] != BYTES:
+            raise self.unfit(head, "name")
+        try:
+            return self.byte_string(head).decode("utf-8")
+        except UnicodeDecodeError:
+            raise self.refuse("name", head[2]) from None
+
+    def begin_tag(self):
+        """The number of the tag ahead, or None. Both cost a level, after the head was read."""
+        head = self.pull()
+        if head[0] == BREAK:
+            raise self.unfit(head, "break")
+        self.take_level()
+        if head[0] == TAG:
+            return head[1]
+        self.push(head)
+        return None
+
+    def end_tag(self):
+        self.give_level()
+
+    def enter(self, head):
+        """Into the array or map of a head: one level."""
+        self.take_level()
+        return ByteSequence(head[1])
+
+    def begin_seq(self):
+        """An array; or a byte string, which is read whole and costs no level."""
+        head = self.bare_head()
+        if head[0] == ARRAY:
+            return self.enter(head)
+        if head[0] != BYTES:
+            raise self.unfit(head, "array")
+        content = self.byte_string(head)
+        return ByteSequence(len(content), content, head[2])
+
+    def begin_map(self):
+        head = self.bare_head()
+        if head[0] != MAP:
+            raise self.unfit(head, "map")
+        return self.enter(head)
+
+    def next(self, sequence):
+        """Whether an item or key follows. At the end the container is left and its level given back."""
+        if sequence.remaining is None:
+            head = self.pull()
+            if head[0] == BREAK:
+                self.give_level()
+                return False
+            self.push(head)
+            return True
+        if sequence.remaining == 0:
+            if sequence.content is None:
+                self.give_level()
+            return False
+        if sequence.content is not None:
+            byte = sequence.content[len(sequence.content) - sequence.remaining]
+            self.push((POSITIVE, byte, sequence.offset))
+        sequence.remaining -= 1
+        return True
+
+    def begin_variant(self):
+        """The name of a variant: a text, whose data is then a null at its offset, or the key of a definite map of one
+        pair. Both cost a level, after the head and before the name is read."""
+        head = self.bare_head()
+        if head[0] == TEXT:
+            self.take_level()
+            name = self.text_string(head)
+            self.push((SIMPLE, NULL, head[2]))
+            return name
+        if head[0] == MAP and head[1] == 1:
+            self.take_level()
+            return self.name()
+        raise self.unfit(head, "variant")
+
+    def end_variant(self):
+        self.give_level()
+
+    def value(self):
+        return self.value_of(self.pull())
+
+    def value_of(self, head):
+        """The value of the item that a head begins."""
+        what, number, offset = head
+        if what == POSITIVE:
+            return ("integer", number)
+        if what == NEGATIVE:
+            return ("integer", -1 - number)
+        if what == TAG:
+            return self.tagged_value(number, offset)
+        if what < TAG:
+            if number is None:
+                self.plain = False
+            if what == BYTES:
+                return ("bytes", self.byte_string(head))
+            if what == TEXT:
+                return ("text", self.text_string(head))
+            return self.value_of_parts(head)
+        if what == SIMPLE:
+            if number in (FALSE, TRUE):
+                return ("bool", number == TRUE)
+            if number in (NULL, UNDEFINED):
+                return NULL_VALUE
+            raise self.refuse("simple", offset)
+        raise self.unfit(head, "float")
+
+    def value_of_parts(self, head):
+        sequence = self.enter(head)
+        parts = []
+        if head[0] == ARRAY:
+            while self.next(sequence):
+                parts.append(self.value())
+            return ("array", parts)
+        while self.next(sequence):
+            key = self.value()
+            parts.append((key, self.value()))
+        return ("map", parts)
+
+    def tagged_value(self, tag, offset):
+        """A tag's next head is read first; then it folds, at no cost, or takes a level."""
+        head = self.pull()
+        if tag in BIGNUM_TAGS and head[0] == BYTES and head[1] is not None and head[1] <= LONGEST_FOLDING:
+            self.plain = False
+            folded = fold_bignum(tag, self.payload(head[1]))
+            if folded is None:
+                raise self.refuse("toolarge", offset)
+            return folded
+        self.take_level()
+        content = self.value_of(head)
+        self.give_level()
+        return ("tag", tag, content)
+
+
+# --- The source over a tree ----------------------------------------------------------------------------------------
+
+
+class TreeSource:
+    """Reads from a value. What waits to be read is a stack: the next one on top, below it the value of a key or the
+    data of a variant."""
+
+    def __init__(self, value):
+        self.waiting = [value]
+
+    def refuse(self, kind):
+        return Refusal("custom " + kind)
+
+    def bare_value(self):
+        """The value behind any number of tags."""
+        value = self.waiting.pop()
+        while value[0] == "tag":
+            value = value[2]
+        return value
+
+    def integer(self):
+        value = self.waiting.pop()
+        while value[0] == "tag" and value[1] not in BIGNUM_TAGS:
+            value = value[2]
+        if value[0] == "integer":
+            return value[1]
+        if value[0] != "tag":
+            raise self.refuse("integer")
+        _, tag, content = value
+        if content[0] != "bytes":
+            raise self.refuse("bytes")
+        number = bignum_number(tag, content[1])
+        if number is None:
+            raise self.refuse("toolarge")
+        return number
+
+    def content_of(self, word):
+        value = self.bare_value()
+        if value[0] != word:
+            raise self.refuse(word)
+        return value[1]
+
+    def boolean(self):
+        return self.content_of("bool")
+
+    def text(self):
+        return self.content_of("text")
+
+    def unit(self):
+        if self.bare_value() != NULL_VALUE:
+            raise self.refuse("unit")
+
+    def byte_buffer(self):
+        value = self.bare_value()
+        if value[0] == "bytes":
+            return value[1]
+        if value[0] != "array":
+            raise self.refuse("bytes")
+        content = bytearray()
+        for item in value[1]:
+            self.waiting.append(item)
+            number = self.integer()
+            if not 0 <= number <= 255:
+                raise self.refuse("range")
+            content.append(number)
+        return bytes(content)
+
+    def name(self):
+        value = self.bare_value()
+        if value[0] == "text":
+            return value[1]
+        if value[0] != "bytes":
+            raise self.refuse("name")
+        try:
+            return value[1].decode("utf-8")
+        except UnicodeDecodeError:
+            raise self.refuse("name") from None
+
+    def begin_tag(self):
+        value = self.waiting[-1]
+        if value[0] != "tag":
+            return None
+        self.waiting[-1] = value[2]
+        return value[1]
+
+    def end_tag(self):
+        pass
+
+    def begin_seq(self):
+        """What a sequence has still to give, each entry in the order in which it is put on the stack."""
+        value = self.bare_value()
+        if value[0] == "array":
+            return iter([(item,) for item in value[1]])
+        if value[0] == "bytes":
+            return iter([(("integer", byte),) for byte in value[1]])
+        raise self.refuse("array")
+
+    def begin_map(self):
+        return iter([(content, key) for key, content in self.content_of("map")])
+
+    def next(self, sequence):
+        for entry in sequence:
+            self.waiting.extend(entry)
+            return True
+        return False
+
+    def begin_variant(self):
+        value = self.bare_value()
+        if value[0] == "text":
+            self.waiting.append(NULL_VALUE)
+            return value[1]
+        if value[0] == "map" and len(value[1]) == 1:
+            key, data = value[1][0]
+            self.waiting.append(data)
+            self.waiting.append(key)
+            return self.name()
+        raise self.refuse("variant")
+
+    def end_variant(self):
+        pass
+
+    def value(self):
+        return self.fold(self.waiting.pop())
+
+    def fold(self, value):
+        """The value with its bignums folded, at every place."""
+        word = value[0]
+        if word == "array":
+            return ("array", [self.fold(item) for item in value[1]])
+        if word == "map":
+            return ("map", [(self.fold(key), self.fold(content)) for key, content in value[1]])
+        if word != "tag":
+            return value
+        _, tag, content = value
+        if tag in BIGNUM_TAGS and content[0] == "bytes" and len(content[1]) <= LONGEST_FOLDING:
+            folded = fold_bignum(tag, content[1])
+            if folded is None:
+                raise self.refuse("toolarge")
+            return folded
+        return ("tag", tag, self.fold(content))
+
+
+# --- Typed reading, over either source -----------------------------------------------------------------------------
+
+
+def read_bool(source):
+    return source.boolean()
+
+
+def read_unsigned(source, bits):
+    number = source.integer()
+    if not 0 <= number < 1 << bits:
+        raise source.refuse("range")
+    return number
+
+
+def read_u8(source):
+    return read_unsigned(source, 8)
+
+
+def read_u64(source):
+    return read_unsigned(source, 64)
+
+
+def read_string(source):
+    return source.text()
+
+
+def read_byte_buffer(source):
+    return source.byte_buffer()
+
+
+def read_list(source):
+    sequence = source.begin_seq()
+    items = []
+    while source.next(sequence):
+        items.append(read_u8(source))
+    return items
+
+
+def read_pair(source):
+    """A tuple of two: too few items are refused, further ones read as values and dropped."""
+    sequence = source.begin_seq()
+    parts = []
+    for read_part in (read_u8, read_string):
+        if not source.next(sequence):
+            raise source.refuse("length")
+        parts.append(read_part(source))
+    while source.next(sequence):
+        source.value()
+    return parts
+
+
+def read_dictionary(source):
+    sequence = source.begin_map()
+    entries = {}
+    while source.next(sequence):
+        key = read_string(source)
+        entries[key] = read_u8(source)
+    return entries
+
+
+def read_figure(source):
+    name = source.begin_variant()
+    if name == "Point":
+        source.unit()
+        figure = (name, None)
+    elif name == "Circle":
+        figure = (name, read_u8(source))
+    else:
+        raise source.refuse("variant")
+    source.end_variant()
+    return figure
+
+
+def read_message(source):
+    readers = {"version": read_u8, "body": read_string}
+    sequence = source.begin_map()
+    fields = {}
+    while source.next(sequence):
+        name = source.name()
+        if name in readers:
+            fields[name] = readers[name](source)
+        else:
+            source.value()
+    for name in readers:
+        if name not in fields:
+            raise source.refuse("other")
+    return fields
+
+
+def read_captured(source):
+    tag = source.begin_tag()
+    content = source.value()
+    source.end_tag()
+    return tag, content
+
+
+def encode_list(items):
+    return shortest_head(ARRAY, len(items)) + b"".join(encode_integer(item) for item in items)
+
+
+def encode_pair(parts):
+    return shortest_head(ARRAY, 2) + encode_integer(parts[0]) + encode_text(parts[1])
+
+
+def encode_dictionary(entries):
+    pairs = sorted((key.encode(), number) for key, number in entries.items())
+    body = b"".join(shortest_head(TEXT, len(key)) + key + encode_integer(number) for key, number in pairs)
+    return shortest_head(MAP, len(pairs)) + body
+
+
+def encode_figure(figure):
+    name, data = figure
+    if data is None:
+        return encode_text(name)
+    return shortest_head(MAP, 1) + encode_text(name) + encode_integer(data)
+
+
+def encode_message(fields):
+    version = encode_text("version") + encode_integer(fields["version"])
+    return shortest_head(MAP, 2) + version + encode_text("body") + encode_text(fields["body"])
+
+
+def encode_captured(captured):
+    tag, content = captured
+    number = b"\xf6" if tag is None else encode_integer(tag)
+    return shortest_head(ARRAY, 2) + number + encode(content)
+
+
+# The types by their names: how one is read, how it is written.
+TYPES = {
+    "bool": (read_bool, encode_bool),
+    "u64": (read_u64, encode_integer),
+    "String": (read_string, encode_text),
+    "ByteBuf": (read_byte_buffer, encode_bytes),
+    "Vec<u8>": (read_list, encode_list),
+    "(u8,String)": (read_pair, encode_pair),
+    "BTreeMap<String,u8>": (read_dictionary, encode_dictionary),
+    "Figure": (read_figure, encode_figure),
+    "Message": (read_message, encode_message),
+    "Captured<Value>": (read_captured, encode_captured),
+}
+
+
+# --- Answers -------------------------------------------------------------------------------------------------------
+
+
+def answer_bytes(type_name, limit, data):
+    read, write = TYPES[type_name]
+    source = ByteSource(data, limit)
+    try:
+        value = read(source)
+    except Refusal as refusal:
+        return str(refusal)
+    assert source.pushed is None and source.levels == limit
+    return "ok %s %d" % (write(value).hex(), len(data) - source.position)
+
+
+def read_tree(data):
+    """The value at the front of the bytes, or None; and whether its item is the one that the bytes spell."""
+    source = ByteSource(data, NO_LIMIT)
+    try:
+        return source.value(), source.plain
+    except Refusal:
+        return None, False
+
+
+def answer_tree(type_name, tree):
+    if tree is None:
+        return "none"
+    read, write = TYPES[type_name]
+    source = TreeSource(tree)
+    try:
+        value = read(source)
+    except Refusal as refusal:
+        return str(refusal)
+    assert not source.waiting
+    return "ok " + write(value).hex()
+
+
+def split_line(line):
+    type_name, limit, digits = line.split(" ")
+    return type_name, int(limit), bytes.fromhex(digits)
+
+
+def answer_line(line):
+    type_name, limit, data = split_line(line)
+    return "%s | %s" % (answer_bytes(type_name, limit, data), answer_tree(type_name, read_tree(data)[0]))
+
+
+def same_outcome(from_bytes, from_tree):
+    """Whether the answers of both sources are the same value, or refusals of the same kind."""
+    words = from_bytes.split(" ")
+    if words[0] == "ok":
+        return from_tree == " ".join(words[:2])
+    return words[0] == "semantic" and from_tree == "custom " + words[-1]
+
+
+# --- The model checked ---------------------------------------------------------------------------------------------
+
+# Lines and answers, worked out by hand; an answer that has no room behind its line stands below it. "Point" is
+# 65506f696e74, "Circle" 66436972636c65, "version" 6776657273696f6e, "body" 64626f6479.
+WORKED = """
+# Byte strings as sequences, arrays as byte strings.
+Vec<u8> 0 43010203 => ok 83010203 0 | ok 83010203
+ByteBuf 1 83010203 => ok 43010203 0 | ok 43010203
+ByteBuf 0 83010203 => nesting | ok 43010203
+ByteBuf 256 8201190100 => semantic 2 range | custom range
+ByteBuf 256 8201c1c2420100 => semantic 3 range | custom range
+ByteBuf 256 8201c120 => semantic 3 range | custom range
+ByteBuf 256 82016161 => semantic 2 integer | custom integer
+ByteBuf 256 81c2c24101 => semantic 2 bytes | custom bytes
+ByteBuf 256 81c2ff => semantic 2 break | none
+ByteBuf 1 9f01c1ff => semantic 3 break | none
+ByteBuf 1 9f01c24102ff05 => ok 420102 1 | ok 420102
+ByteBuf 0 c24101 => ok 4101 0 | custom bytes
+Vec<u8> 0 c35f4101420203ff => ok 83010203 0 | ok 83010203
+Vec<u8> 0 5f4101420203ff => ok 83010203 0 | ok 83010203
+Vec<u8> 1 9f0102ff => ok 820102 0 | ok 820102
+Vec<u8> 0 9f0102ff => nesting | ok 820102
+Vec<u8> 256 8101ff => ok 8101 1 | ok 8101
+Vec<u8> 256 81190100 => semantic - range | custom range
+Vec<u8> 256 4301 => io | none
+Vec<u8> 256 6161 => semantic 0 array | custom array
+Vec<u8> 256 c1ff => semantic 1 break | none
+# Texts, and what is none.
+String 0 7f657374726561646d696e67ff => ok 6973747265616d696e67 0 | ok 6973747265616d696e67
+String 0 c161 => io | none
+String 0 61c3 => syntax 0 | none
+String 0 7f61c361bcff => syntax 1 | none
+String 0 7f61614101ff => syntax 3 | none
+String 0 7f62c328ff => syntax 1 | none
+String 0 7f7f6161ffff => syntax 1 | none
+String 0 4161 => semantic 0 text | custom text
+String 0 f93c00 => semantic 0 text | none
+String 0 7bffffffffffffffff => toolong | none
+String 0 7bfffffffffffffff6 => io | none
+String 0 c17bfffffffffffffff6 => toolong | none
+String 0 ff => semantic 0 break | none
+String 0  => io | none
+# Booleans.
+bool 0 f5 => ok f5 0 | ok f5
+bool 0 c7c8f5 => ok f5 0 | ok f5
+bool 0 c7c8f401 => ok f4 1 | ok f4
+bool 0 c1 => io | none
+bool 0 f814 => syntax 0 | none
+bool 0 f820 => semantic 0 bool | none
+bool 0 1e => syntax 0 | none
+bool 0 01 => semantic 0 bool | custom bool
+bool 0 f6 => semantic 0 bool | custom bool
+bool 0 82 => semantic 0 bool | none
+bool 0 5bffffffffffffffff => toolong | none
+bool 0 df => syntax 0 | none
+# Numbers.
+u64 0 1b0000000000000001 => ok 01 0 | ok 01
+u64 0 1bffffffffffffffff => ok 1bffffffffffffffff 0 | ok 1bffffffffffffffff
+u64 0 20 => semantic - range | custom range
+u64 0 c249010000000000000000 => semantic - range | custom range
+u64 0 c2540000000000000000000000000000000000000001 => ok 01 0 | ok 01
+u64 0 c2510100000000000000000000000000000000 => semantic 0 toolarge | custom toolarge
+u64 0 c1c25101000000000000000000000000000000 => io | none
+u64 0 c1c2510100000000000000000000000000000000 => semantic 1 toolarge | custom toolarge
+u64 0 c25f5101000000000000000000000000000000004100ff => semantic 0 toolarge | custom toolarge
+u64 0 c25f51010000000000000000000000000000000041 => io | none
+u64 0 c25f500100000000000000000000000000000041004100ff => semantic 0 toolarge | custom toolarge
+u64 0 c250ffffffffffffffffffffffffffffffff => semantic - range | custom range
+u64 0 c350ffffffffffffffffffffffffffffffff => semantic - range | none
+u64 0 c201 => semantic 1 bytes | custom bytes
+u64 0 c2ff => semantic 1 break | none
+u64 0 c2f93c00 => semantic 1 bytes | none
+u64 0 c2c24101 => semantic 1 bytes | custom bytes
+u64 0 c25f01ff => syntax 2 | none
+u64 0 c1c24105 => ok 05 0 | ok 05
+u64 0 c25f4101ff => ok 01 0 | ok 01
+u64 0 c340 => semantic - range | custom range
+u64 0 c240 => ok 00 0 | ok 00
+u64 0 f6 => semantic 0 integer | custom integer
+u64 0 c1f6 => semantic 1 integer | custom integer
+u64 0 4101 => semantic 0 integer | custom integer
+# Tuples.
+(u8,String) 256 8101 => semantic - length | custom length
+(u8,String) 256 80 => semantic - length | custom length
+(u8,String) 256 81f6 => semantic 1 integer | custom integer
+(u8,String) 256 84016161f93c0002 => semantic 4 float | none
+(u8,String) 256 8301616120ff => ok 82016161 1 | ok 82016161
+(u8,String) 256 9f016161ff => ok 82016161 0 | ok 82016161
+(u8,String) 256 9f016161 => io | none
+(u8,String) 256 9f01ff => semantic - length | custom length
+(u8,String) 256 9f01 => io | none
+(u8,String) 256 82016161820304 => ok 82016161 3 | ok 82016161
+(u8,String) 2 830161618180 => nesting | ok 82016161
+(u8,String) 3 830161618180 => ok 82016161 0 | ok 82016161
+(u8,String) 0 43010203 => semantic 0 text | custom text
+(u8,String) 0 c14101 => semantic - length | custom length
+(u8,String) 0 40 => semantic - length | custom length
+(u8,String) 256 82190100f6 => semantic - range | custom range
+(u8,String) 256 8301616181c35f50ffffffffffffffffffffffffffffffffff => ok 82016161 0 | custom toolarge
+# Maps.
+BTreeMap<String,u8> 1 bf616201616102616203ff => ok a2616102616203 0 | ok a2616102616203
+BTreeMap<String,u8> 256 a16161ff => semantic 3 break | none
+BTreeMap<String,u8> 256 bf6161ff => semantic 3 break | none
+BTreeMap<String,u8> 256 a1ff => semantic 1 break | none
+BTreeMap<String,u8> 256 a1416101 => semantic 1 text | custom text
+BTreeMap<String,u8> 256 a2616201 => io | none
+BTreeMap<String,u8> 0 a0 => nesting | ok a0
+BTreeMap<String,u8> 0 80 => semantic 0 map | custom map
+BTreeMap<String,u8> 1 bb80000000000000006161016161 => io | none
+# Variants.
+Figure 256 65506f696e74 => ok 65506f696e74 0 | ok 65506f696e74
+Figure 256 a165506f696e74f6 => ok 65506f696e74 0 | ok 65506f696e74
+Figure 256 a145506f696e74f6 => ok 65506f696e74 0 | ok 65506f696e74
+Figure 256 a166436972636c6507 => ok a166436972636c6507 0 | ok a166436972636c6507
+Figure 256 66436972636c65 => semantic 0 integer | custom integer
+Figure 256 c1c266436972636c65 => semantic 2 integer | custom integer
+Figure 256 bf65506f696e74f6ff => semantic 0 variant | ok 65506f696e74
+Figure 0 65506f696e74 => nesting | ok 65506f696e74
+Figure 1 65506f696e74f6 => ok 65506f696e74 1 | ok 65506f696e74
+Figure 0 61c3 => nesting | none
+Figure 0 61 => nesting | none
+Figure 0 a0 => semantic 0 variant | custom variant
+Figure 1 a265506f696e74f60102 => semantic 0 variant | custom variant
+Figure 256 615a => semantic - variant | custom variant
+Figure 256 a1615af93c00 => semantic - variant | none
+Figure 256 c565506f696e74 => ok 65506f696e74 0 | ok 65506f696e74
+Figure 256 a166436972636c65c505 => ok a166436972636c6505 0 | ok a166436972636c6505
+Figure 256 a166436972636c65190100 => semantic - range | custom range
+Figure 256 a101f6 => semantic 1 name | custom name
+Figure 256 a141fff6 => semantic 1 name | custom name
+Figure 256 a161fff6 => syntax 1 | none
+Figure 256 a1fff6 => semantic 1 break | none
+Figure 256 a165506f696e74f5 => semantic 7 unit | custom unit
+Figure 256 a165506f696e74c180 => semantic 8 unit | custom unit
+Figure 256 7f62506f63696e74ff => ok 65506f696e74 0 | ok 65506f696e74
+Figure 256 a15f42506f43696e74fff7 => ok 65506f696e74 0 | ok 65506f696e74
+Figure 256 45506f696e74 => semantic 0 variant | custom variant
+# A struct by names.
+Message 1 a26776657273696f6e0164626f64796161
+=> ok a26776657273696f6e0164626f64796161 0 | ok a26776657273696f6e0164626f64796161
+Message 1 a244626f647961614776657273696f6e182a
+=> ok a26776657273696f6e182a64626f64796161 0 | ok a26776657273696f6e182a64626f64796161
+Message 256 a0 => semantic - other | custom other
+Message 256 a16776657273696f6e01 => semantic - other | custom other
+Message 256 a164626f64796161 => semantic - other | custom other
+Message 256 a101f6 => semantic 1 name | custom name
+Message 256 a16178f93c00 => semantic 3 float | none
+Message 1 a1617880 => nesting | custom other
+Message 2 a1617880 => semantic - other | custom other
+Message 256 a16776657273696f6e20 => semantic - range | custom range
+Message 256 bf64626f6479ff => semantic 6 break | none
+Message 256 a364626f647961616776657273696f6e0164626f64796162
+=> ok a26776657273696f6e0164626f64796162 0 | ok a26776657273696f6e0164626f64796162
+Message 0 80 => semantic 0 map | custom map
+# A value below its tag.
+Captured<Value> 0 f5 => nesting | ok 82f6f5
+Captured<Value> 1 f5 => ok 82f6f5 0 | ok 82f6f5
+Captured<Value> 2 c1c2f5 => ok 8201c2f5 0 | ok 8201c2f5
+Captured<Value> 1 c1c2f5 => nesting | ok 8201c2f5
+Captured<Value> 1 c24101 => ok 82024101 0 | ok 82f601
+Captured<Value> 2 81c24101 => ok 82f68101 0 | ok 82f68101
+Captured<Value> 1 c1c24101 => ok 820101 0 | ok 820101
+Captured<Value> 1 c1c340 => ok 820120 0 | ok 820120
+Captured<Value> 1 c1c1 => io | none
+Captured<Value> 0 c1 => nesting | none
+Captured<Value> 1 c1c11e => syntax 2 | none
+Captured<Value> 1 c1c1ff => nesting | none
+Captured<Value> 2 c1c1ff => semantic 2 break | none
+Captured<Value> 1 c1c15bffffffffffffffff => toolong | none
+Captured<Value> 256 9f018202039f0405ffff => ok 82f68301820203820405 0 | ok 82f68301820203820405
+Captured<Value> 256 bf61610161629f0203ffff => ok 82f6a26161016162820203 0 | ok 82f6a26161016162820203
+Captured<Value> 256 bf01020103ff => ok 82f6a201020103 0 | ok 82f6a201020103
+Captured<Value> 256 bf01ff => semantic 2 break | none
+Captured<Value> 256 83011f03 => syntax 2 | none
+Captured<Value> 256 f820 => semantic 0 simple | none
+Captured<Value> 256 f93c00 => semantic 0 float | none
+Captured<Value> 256 f7 => ok 82f6f6 0 | ok 82f6f6
+Captured<Value> 256 8201 => io | none
+Captured<Value> 256 81ff => semantic 1 break | none
+Captured<Value> 256 81c35080000000000000000000000000000000 => semantic 1 toolarge | none
+Captured<Value> 1 c35080000000000000000000000000000000 => ok 82035080000000000000000000000000000000 0 | none
+Captured<Value> 1 c1c24a00010000000000000000 => ok 8201c249010000000000000000 0 | ok 8201c249010000000000000000
+Captured<Value> 1 81c25100 => nesting | none
+Captured<Value> 256 81c25f4101ff => ok 82f681c24101 0 | ok 82f68101
+Captured<Value> 256 81c35f50ffffffffffffffffffffffffffffffffff
+=> ok 82f681c350ffffffffffffffffffffffffffffffff 0 | custom toolarge
+Captured<Value> 256 5f5f4101ffff => syntax 1 | none
+Captured<Value> 256 5ff7ff => syntax 1 | none
+Captured<Value> 256 5f5bffffffffffffffff => toolong | none
+Captured<Value> 256 9b800000000000000001 => io | none
+"""
+
+
+def worked_rows():
+    """The worked lines, each with its answer."""
+    rows = WORKED.replace("\n=>", " =>").splitlines()
+    return [row.split(" => ") for row in rows if row and not row.startswith("#")]
+
+
+def check_worked():
+    """The count of worked lines, and what is wrong."""
+    wrong = []
+    rows = worked_rows()
+    for line, expected in rows:
+        answer = answer_line(line)
+        if answer != expected:
+            wrong.append("%s\n  model:  %s\n  worked: %s" % (line, answer, expected))
+    return len(rows), wrong
+
+
+def check_sources(lines):
+    """Both sources agree on the item of a value: reading from a tree answers what reading from its encoding does."""
+    wrong = []
+    count = 0
+    for line in lines:
+        type_name, _, data = split_line(line)
+        tree, plain = read_tree(data)
+        if tree is None:
+            continue
+        count += 1
+        encoding = encode(tree)
+        from_bytes = answer_bytes(type_name, NO_LIMIT, encoding)
+        if not same_outcome(from_bytes, answer_tree(type_name, tree)):
+            wrong.append("%s: the tree and %s differ" % (line, encoding.hex()))
+        folded = TreeSource(tree)
+        try:
+            expected = folded.value()
+        except Refusal:
+            expected = None
+        if read_tree(encoding)[0] != expected:
+            wrong.append("%s: the folding of the tree and %s differ" % (line, encoding.hex()))
+        if plain and not same_outcome(answer_bytes(type_name, NO_LIMIT, data), answer_tree(type_name, tree)):
+            wrong.append("%s: the bytes and their tree differ" % line)
+    return count, wrong
+
+
+def check():
+    import typed_lines
+
+    worked, wrong = check_worked()
+    trees, more = check_sources(typed_lines.make_lines(1, 5000))
+    wrong += more
+    for text in wrong[:20]:
+        print(text)
+    print("%d worked lines, %d trees against their encodings: %d wrong" % (worked, trees, len(wrong)))
+    return 1 if wrong else 0
+
+
+def main(words):
+    if not words:
+        return check()
+    if words == ["answer"]:
+        for line in sys.stdin:
+            print(answer_line(line.rstrip("\n")))
+        return 0
+    if words == ["worked"]:
+        for line, _ in worked_rows():
+            print(line)
+        return 0
+    print("usage: typed_model.py [answer | worked]", file=sys.stderr)
+    return 2
+
+
+if __name__ == "__main__":
+    sys.exit(main(sys.argv[1:]))
