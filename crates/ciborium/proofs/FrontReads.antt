@@ -1,5 +1,5 @@
 -- What stands at the front of unread bytes, where a head is read or refused.
-use Rattle.std.proofs.Common.{◌≡◌, ℕ, suc, ◌+◌, ◌-◌, ◌*◌, add-zero, IfNone, Ok, ◌/◌, ◌%◌, ◌<◌, ◌≤◌, cond, ltb, Bool, true, false, ◌&&◌, List, [], ◌∷◌, ◌++◌, length, Option, Some, None, refl, sym, ap, ◌∙◌, subst, arith, ne_eqb}
+use Rattle.std.proofs.Common.{◌≡◌, ℕ, suc, ◌+◌, ◌-◌, ◌*◌, add-zero, Ok, ◌/◌, ◌%◌, ◌<◌, ◌≤◌, cond, ltb, Bool, true, false, ◌&&◌, List, [], ◌∷◌, ◌++◌, length, Option, Some, None, refl, sym, ap, ◌∙◌, subst, arith, ne_eqb}
 use Rattle.std.proofs.lemmas.Nat.{div-mul-add, mod-mul-add}
 use Rattle.ciborium_ll.specs.declared.header.Header.{Header}
 use Rattle.ciborium_ll.specs.declared.header.Header.TheVariants as header

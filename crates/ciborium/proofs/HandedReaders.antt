@@ -1,11 +1,9 @@
 -- From a source that was begun on a lent reader to the reader.
-use Rattle.std.proofs.Common.{◌≡◌, ℕ, ◌≤◌, List, [], ◌∷◌, ◌++◌, length, Option, Some, None, Result, Ok, Err, IfOk, IfErr, IfSome, refl, sym, ap, ◌∙◌, subst, append-nil, arith}
+use Rattle.std.proofs.Common.{◌≡◌, ℕ, List, [], ◌++◌, Option, Some, None, Result, Ok, Err, IfOk, IfErr, IfSome, refl, sym, ap, ◌∙◌, subst, append-nil, arith}
 use Rattle.std.specs.Io.KnownBytes.{Consumes}
 use Rattle.ciborium_ll.specs.declared.decoder.Decoder.{Decoder}
-use Rattle.ciborium_ll.specs.Bytes.{greatest_offset}
 use Rattle.ciborium_ll.specs.Decoding.{HasBegun, IsAheadBy, with_left}
 use Rattle.ciborium_value.specs.Ahead.{bottom}
-use Rattle.ciborium_value.specs.Nesting.{Limit}
 use Rattle.ciborium_value.specs.Readings.{Reading}
 use Rattle.ciborium_value.specs.Refuses.{IsReadAs}
 use Rattle.ciborium_value.specs.Sources.{Fault, Refuses, Takes, TakesItem, read_as}

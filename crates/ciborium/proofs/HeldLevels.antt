@@ -1,19 +1,18 @@
 -- Tags that are entered, and the levels of tags and variants.
-use Rattle.std.proofs.Common.{◌≡◌, ◌≢◌, ℕ, ◌+◌, zero, suc, List, [], ◌∷◌, ◌++◌, Option, Some, None, Result, Ok, Err, IfOk, OnOk, refl, sym, ap, ◌∙◌, subst, append_assoc, arith}
+use Rattle.std.proofs.Common.{◌≡◌, ◌≢◌, ℕ, List, ◌++◌, Option, Some, None, Result, Ok, Err, IfOk, OnOk, refl, sym, ap, ◌∙◌, subst, append_assoc, arith}
 use Rattle.ciborium_ll.specs.declared.header.Header.{Header}
 use Rattle.ciborium_ll.specs.declared.header.Header.TheVariants as header
 use Rattle.ciborium_ll.specs.Header.{SpellsHeader}
 use Rattle.ciborium_ll.specs.Item as items
 use Rattle.ciborium_ll.specs.Item.{Item, unsigned, negative, bytes, text, array, tag, simple, float}
-use Rattle.ciborium_value.specs.Ahead.{Rest, after, held, past}
 use Rattle.ciborium_value.specs.Sources.{Completes, Holds, GivesBack, TakesTo}
-use Rattle.ciborium_value.specs.Taken.{Taken, gives, nests, deeper, within_level, outer_tag, taken_outer_tag}
+use Rattle.ciborium_value.specs.Taken.{Taken, gives, deeper, within_level, outer_tag, taken_outer_tag}
 use Rattle.ciborium.specs.declared.de.byte_source.ByteSource.{ByteSource}
 use Rattle.ciborium.specs.declared.de.byte_source.ByteLevel.{ByteLevel}
 use Rattle.ciborium.specs.ByteSources.{IsUnread, StandsBefore, LevelStands, TakesLevel}
 use Rattle.ciborium.specs.ItemReads.{TakesHead, Denies}
-use Rattle.ciborium.specs.Skips.{Leads, OpensLevel}
-use Rattle.ciborium.specs.Unread.{Fits, IsRest}
+use Rattle.ciborium.specs.Skips.{OpensLevel}
+use Rattle.ciborium.specs.Unread.{IsRest}
 use Rattle.ciborium.proofs.EnteredContainers.{within-is, deeper-is}
 use Rattle.ciborium.proofs.ItemHeads.{header_of, tag-front, same-head}
 use Rattle.ciborium.proofs.NextParts.{fits-past, none-past}

@@ -1,19 +1,18 @@
 -- The answers of one turn of the deterministic reader.
-use Rattle.std.proofs.Common.{◌≡◌, ℕ, zero, suc, ◌+◌, ◌-◌, ◌≤◌, List, [], ◌∷◌, ◌++◌, length, Option, Some, None, Result, Ok, Err, IfOk, MatchOption, refl, sym, ap, ◌∙◌, subst, arith, inl, inr}
+use Rattle.std.proofs.Common.{◌≡◌, ℕ, ◌-◌, ◌≤◌, List, [], ◌∷◌, length, Option, Some, None, Result, Ok, Err, IfOk, MatchOption, refl, sym, ◌∙◌, subst, arith, inl, inr}
 use Rattle.ciborium_ll.specs.declared.decoder.Decoder.{Decoder}
-use Rattle.ciborium_ll.specs.Decoding.{IsAhead, offset_of}
+use Rattle.ciborium_ll.specs.Decoding.{offset_of}
 use Rattle.ciborium_ll.specs.Refusal.{semantic, Break}
 use Rattle.ciborium_value.specs.declared.stack.Opening.{Opening}
 use Rattle.ciborium_value.specs.declared.tree.Value.{Value}
-use Rattle.ciborium_value.specs.Open.{Open, Placed, more, done, placed}
+use Rattle.ciborium_value.specs.Open.{Open, Placed, placed}
 use Rattle.ciborium_value.specs.Stack.{opened}
 use Rattle.ciborium_value.specs.Tree.{Tree}
 use Rattle.ciborium_value.specs.View.{tree_of}
 use Rattle.ciborium.specs.declared.de.error.Error.{Error}
-use Rattle.ciborium.specs.declared.de.error.Error.TheVariants.{Semantic, Memory}
 use Rattle.ciborium.specs.declared.de.front.Part.{Part}
 use Rattle.ciborium.specs.declared.de.front.Part.TheVariants.{Whole, Opened, Ended}
-use Rattle.ciborium.specs.DeterministicReads.{IsMeasuredAhead, IsPartStrictlyRead, IsPlacedInOrder, IsReadingStrictly, IsStrictlyAround, IsStrictlyInside, IsStrictlyTurned, ReadsStrictly}
+use Rattle.ciborium.specs.DeterministicReads.{IsMeasuredAhead, IsPartStrictlyRead, IsPlacedInOrder, IsReadingStrictly, IsStrictlyAround, IsStrictlyTurned}
 use Rattle.ciborium.specs.DeterministicRefusals.{DeterministicallyRefuses}
 use Rattle.ciborium.specs.Errors.{IsRefusedBy}
 use Rattle.ciborium.proofs.Fronts.{offset-at}

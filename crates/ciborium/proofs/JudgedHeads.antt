@@ -1,25 +1,22 @@
 -- Heads that a deterministic reader pulled: the shortest, or refused.
-use Rattle.std.proofs.Common.{◌≡◌, ℕ, zero, suc, ◌+◌, ◌^◌, ◌<◌, ◌≤◌, cond, eqb, Bool, true, false, List, [], ◌∷◌, ◌++◌, length, Option, Some, None, refl, sym, ap, ◌∙◌, subst, arith, eqb-true, le-ltb, inl, inr}
+use Rattle.std.proofs.Common.{◌≡◌, ℕ, ◌+◌, ◌<◌, ◌≤◌, cond, eqb, Bool, true, false, List, [], ◌∷◌, ◌++◌, length, Option, Some, None, refl, sym, ap, ◌∙◌, subst, arith, eqb-true, inl, inr}
 use Rattle.std.proofs.lemmas.Bool.{eqb-false}
 use Rattle.ciborium_ll.specs.declared.header.Header.{Header}
 use Rattle.ciborium_ll.specs.declared.header.Header.TheVariants as header
 use Rattle.ciborium_ll.specs.declared.decoder.Decoder.{Decoder}
-use Rattle.ciborium_ll.specs.Bytes.{greatest_offset}
-use Rattle.ciborium_ll.specs.Head.{IsHead, shortest_head, open_byte, IsSimple, within, one_byte, two_bytes, four_bytes, eight_bytes}
+use Rattle.ciborium_ll.specs.Head.{IsHead, shortest_head, IsSimple, within, one_byte, two_bytes, four_bytes, eight_bytes}
 use Rattle.ciborium_ll.specs.Header.{SpellsHeader, IsCounted}
 use Rattle.ciborium_ll.specs.Proper.{IsArgument}
-use Rattle.ciborium_ll.specs.Refusal.{Refusal, semantic, IsUsable, HasHead}
-use Rattle.ciborium_ll.specs.Refusal as refusal
+use Rattle.ciborium_ll.specs.Refusal.{Refusal, IsUsable}
 use Rattle.ciborium_ll.proofs.ShortestHead.{no_other_is_as_short, none_is_shorter}
 use Rattle.ciborium_value.specs.declared.kind.Kind.{Kind}
 use Rattle.ciborium_value.specs.declared.kind.Kind.TheVariants as kinds
-use Rattle.ciborium.specs.declared.de.error.Error.{Error}
 use Rattle.ciborium.specs.declared.de.error.Error.TheVariants.{Semantic}
 use Rattle.ciborium.specs.DeterministicReads.{head_fault, long_fault, counted_fault}
-use Rattle.ciborium.specs.DeterministicRefusals.{DeterministicallyRefuses, HasLongHead, HasShortHead}
+use Rattle.ciborium.specs.DeterministicRefusals.{DeterministicallyRefuses, HasShortHead}
 use Rattle.ciborium.specs.Errors.{IsRefusedBy}
 use Rattle.ciborium.specs.Reads.{IsPulled}
-use Rattle.ciborium.proofs.Fronts.{Front, front-of, front-fits}
+use Rattle.ciborium.proofs.Fronts.{Front, front-of}
 
 pub head-argument : (h : List ℕ) (m n : ℕ) → IsHead h m n → IsArgument n
 head-argument h m n (within, lt, e) = omega (arith, lt)

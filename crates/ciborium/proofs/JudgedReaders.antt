@@ -1,5 +1,5 @@
 -- What is known of a reader whose bytes are known, from what the deterministic reader takes of every reader.
-use Rattle.std.proofs.Common.{◌≡◌, ℕ, ◌+◌, ◌≤◌, List, [], ◌∷◌, ◌++◌, length, Option, Some, None, is_some, OnOk, Result, Ok, Err, IfOk, IfErr, refl, sym, ap, ◌∙◌, subst, arith, length-append, append-nil, inl, inr, ◌⊎◌}
+use Rattle.std.proofs.Common.{◌≡◌, ℕ, ◌+◌, ◌≤◌, List, [], ◌++◌, length, Option, Some, None, is_some, OnOk, Result, Ok, Err, IfOk, IfErr, refl, sym, ap, ◌∙◌, subst, arith, length-append, append-nil, inl, inr, ◌⊎◌}
 use Rattle.std.specs.Io.KnownBytes.{Consumes}
 use Rattle.ciborium_ll.specs.declared.decoder.Decoder.{Decoder}
 use Rattle.ciborium_ll.specs.Bytes.{AreBytes, greatest_offset}
@@ -26,7 +26,6 @@ use Rattle.ciborium.specs.Deterministic.{IsDeterministicAt}
 use Rattle.ciborium.specs.DeterministicReads.{AnswersTree, IsMeasuredAhead, IsStrictlyRead, IsStrictlyTakenAs, TakesBytesStrictly, TakesDeterministic}
 use Rattle.ciborium.specs.DeterministicRefusals.{DeterministicallyRefuses}
 use Rattle.ciborium.specs.Errors.{IsRefusedBy}
-use Rattle.ciborium.proofs.Fronts.{ahead-at}
 use Rattle.ciborium.proofs.JudgedLeaves.{measured-at}
 use Rattle.ciborium.proofs.KnownReaders.{either-begins, inside}
 use Rattle.ciborium.proofs.Outcomes.{left-at, only-fails}

@@ -1,16 +1,15 @@
 -- What stands behind the head of a tag in deterministic bytes.
-use Rattle.std.proofs.Common.{◌≡◌, ℕ, zero, suc, ◌+◌, ◌-◌, ◌^◌, ◌<◌, ◌≤◌, ◌⊎◌, cond, leb, eqb, Bool, true, false, not, ◌&&◌, List, [], ◌∷◌, ◌++◌, length, Option, Some, None, MatchOption, is_some, Result, Ok, Err, refl, sym, ap, ◌∙◌, subst, arith, append_assoc, length-append, eqb-true, leb-true, le-leb, inl, inr}
+use Rattle.std.proofs.Common.{◌≡◌, ℕ, suc, ◌+◌, ◌-◌, ◌≤◌, ◌⊎◌, Bool, true, false, not, List, ◌++◌, length, Option, Some, None, MatchOption, is_some, Result, Ok, Err, refl, sym, ap, ◌∙◌, subst, arith, append_assoc, length-append, inl, inr}
 use Rattle.ciborium_ll.specs.declared.header.Header.{Header}
 use Rattle.ciborium_ll.specs.declared.header.Header.TheVariants as header
 use Rattle.ciborium_ll.specs.declared.decoder.Decoder.{Decoder}
 use Rattle.ciborium_ll.specs.Bytes.{AreBytes, greatest_offset}
 use Rattle.ciborium_ll.specs.Decoding.{IsAhead, IsAheadBy, IsUnread, offset_of}
-use Rattle.ciborium_ll.specs.Head.{IsHead, shortest_head}
+use Rattle.ciborium_ll.specs.Head.{shortest_head}
 use Rattle.ciborium_ll.specs.Refusal.{Refusal, semantic, recursion_limit_exceeded, HeadRefuses, IsUsable}
 use Rattle.ciborium_ll.specs.Refusal as refusal
-use Rattle.ciborium_ll.specs.StringRefusal.{of_bytes, PayloadRefuses}
+use Rattle.ciborium_ll.specs.StringRefusal.{PayloadRefuses}
 use Rattle.ciborium_value.specs.declared.kind.Kind.{Kind}
-use Rattle.ciborium_value.specs.declared.kind.Kind.TheVariants as kinds
 use Rattle.ciborium_value.specs.declared.stack.Opening.TheVariants as opening
 use Rattle.ciborium_value.specs.declared.tree.Value.{Value}
 use Rattle.ciborium_ll.specs.Item as item
@@ -21,17 +20,16 @@ use Rattle.ciborium_value.specs.Tree.{Tree}
 use Rattle.ciborium_value.proofs.Folding.{folded-bignum}
 use Rattle.ciborium_value.proofs.Found.{bignum_meaning-some}
 use Rattle.ciborium_value.proofs.Reader.{is_too_large}
-use Rattle.ciborium_value.specs.Refuses.{IsFoldingAt}
 use Rattle.ciborium_value.specs.Stack.{opened}
 use Rattle.ciborium_value.specs.View.{tree_of}
 use Rattle.ciborium.specs.declared.de.error.Error.{Error}
 use Rattle.ciborium.specs.declared.de.front.Part.{Part}
 use Rattle.ciborium.specs.declared.de.error.Error.TheVariants.{Semantic}
 use Rattle.ciborium.specs.DeterministicReads.{BignumRefuses, IsBignumRead, IsMeasured, IsMeasuredAhead, IsPartStrictlyRead, IsStrictlyInside, ReadsStrictly, head_fault}
-use Rattle.ciborium.specs.DeterministicRefusals.{DeterministicallyRefuses, HasLongHead, HasShortHead, IsFoldable}
+use Rattle.ciborium.specs.DeterministicRefusals.{DeterministicallyRefuses, HasShortHead, IsFoldable}
 use Rattle.ciborium.specs.Errors.{IsRefusedBy}
 use Rattle.ciborium.specs.Parts.{IsFolded, IsFolding}
-use Rattle.ciborium.specs.Reads.{IsAt, IsPulled}
+use Rattle.ciborium.specs.Reads.{IsAt}
 use Rattle.ciborium.specs.Deterministic.{IsCanonicalTree}
 use Rattle.ciborium.proofs.AfterTag.{PullsSo, folds-is, folds-not, too-large}
 use Rattle.ciborium.proofs.Contents.{string-room}

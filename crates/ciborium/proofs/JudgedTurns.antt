@@ -1,9 +1,8 @@
 -- What a turn of the deterministic reader makes of what is open: a value placed, a key out of order, a refusal.
-use Rattle.std.proofs.Common.{◌≡◌, ℕ, zero, suc, ◌+◌, ◌*◌, ◌-◌, ◌^◌, ◌<◌, ◌≤◌, min, List, [], ◌∷◌, ◌++◌, length, Option, Some, None, MatchOption, cond, refl, sym, ap, ◌∙◌, subst, arith, append_assoc, append-nil, length-append}
+use Rattle.std.proofs.Common.{◌≡◌, ℕ, zero, suc, ◌+◌, ◌*◌, ◌-◌, ◌^◌, ◌≤◌, min, List, [], ◌∷◌, ◌++◌, length, Some, None, MatchOption, cond, refl, sym, ap, ◌∙◌, subst, arith, append_assoc, length-append}
 use Rattle.std.specs.declared.cmp.Ordering.TheVariants.{Less}
 use Rattle.ciborium_ll.specs.Bytes.{greatest_offset}
 use Rattle.ciborium_ll.specs.Head.{shortest_head}
-use Rattle.ciborium_ll.specs.Item as item
 use Rattle.ciborium_ll.specs.Refusal.{Refusal, semantic, IsUsable}
 use Rattle.ciborium_ll.specs.Refusal as refusal
 use Rattle.ciborium_value.specs.Canonical.{canonical_order}
@@ -11,16 +10,16 @@ use Rattle.ciborium_value.specs.Encoding.{encoding, encoded_size, item_of}
 use Rattle.ciborium_value.specs.Folded.{folded, tree_folding_bytes}
 use Rattle.ciborium_value.specs.Meaning.{folding_bytes, is_bignum_tag, tag_meaning}
 use Rattle.ciborium_value.specs.Nesting.{nesting, tag_nesting}
-use Rattle.ciborium_value.specs.Open.{Open, array, map, tag, Placed, done, more, placed, waiting_keys, with_last}
+use Rattle.ciborium_value.specs.Open.{Open, array, map, tag, Placed, done, more, placed, with_last}
 use Rattle.ciborium_value.specs.Refuses.{IsFoldingAt}
 use Rattle.ciborium_value.specs.Tree as trees
 use Rattle.ciborium_value.specs.Tree.{Tree}
 use Rattle.ciborium_value.specs.View.{trees_from, tree_pairs_from}
 use Rattle.ciborium_value.proofs.Folding.{short_string-item_of}
 use Rattle.ciborium.specs.Around.{in_turn}
-use Rattle.ciborium.specs.Deterministic.{AreRising, IsAccepted, IsCanonicalTree}
-use Rattle.ciborium.specs.DeterministicReads.{IsKeyInOrder, IsOutOfOrder, IsStrictlyAround, IsStrictlyInside, ReadsStrictly}
-use Rattle.ciborium.specs.DeterministicRefusals.{ContainerKind, of_array, of_map, container_major, part_count, parts_bytes, AreAccepted, keys_among, IsInOrder, DeterministicallyRefuses, HasParts, HasShortHead}
+use Rattle.ciborium.specs.Deterministic.{AreRising, IsAccepted}
+use Rattle.ciborium.specs.DeterministicReads.{IsKeyInOrder, IsOutOfOrder, IsStrictlyAround, ReadsStrictly}
+use Rattle.ciborium.specs.DeterministicRefusals.{ContainerKind, of_array, of_map, container_major, part_count, parts_bytes, keys_among, IsInOrder, DeterministicallyRefuses, HasParts, HasShortHead}
 use Rattle.ciborium.proofs.Paired.{in_turn-key, in_turn-value}
 use Rattle.ciborium.proofs.StrictParts.{accepted-more, order-value, parts_bytes-more, whole-accepted, whole-encoding}
 use Rattle.ciborium.proofs.StrictReader.{trees_in, pairs_in, whole}

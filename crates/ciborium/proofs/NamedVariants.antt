@@ -19,8 +19,8 @@ use Rattle.ciborium_value.specs.declared.kind.Kind.TheVariants as kinds
 use Rattle.ciborium_value.proofs.Sequences.{fault_map}
 use Rattle.ciborium.specs.ByteSources.{IsUnreadBy}
 use Rattle.ciborium.specs.ItemReads.{Reads, Denies}
-use Rattle.ciborium.specs.Skips.{under, AreSkipped, IsBare, TakesBare, Leads, OpensLevel}
-use Rattle.ciborium.specs.StringContents.{TakesContent, IsContent, is_open}
+use Rattle.ciborium.specs.Skips.{under, AreSkipped, IsBare, TakesBare, OpensLevel}
+use Rattle.ciborium.specs.StringContents.{TakesContent, is_open}
 use Rattle.ciborium.proofs.EnteredContainers.{within-is}
 use Rattle.ciborium.proofs.ItemHeads.{header_of, same-head}
 use Rattle.ciborium.proofs.SkippedTags.{untagged-under}

@@ -7,14 +7,11 @@ use Rattle.ciborium_ll.specs.declared.header.Header.{Header}
 use Rattle.ciborium_ll.specs.declared.header.Error.{Error as LlError}
 use Rattle.ciborium_ll.specs.declared.header.Error.TheVariants as ll
 use Rattle.ciborium_ll.specs.declared.decoder.Decoder.{Decoder}
-use Rattle.ciborium_ll.specs.Bytes.{greatest_offset}
 use Rattle.ciborium_ll.specs.Decoding.{HasBegun, IsAheadBy, Takes, with_left}
 use Rattle.ciborium_ll.specs.FirstHeads as first_heads
 use Rattle.ciborium_ll.specs.FirstHeads.{IsEndOrFault, IsFirstTaken}
-use Rattle.ciborium_ll.specs.Header.{SpellsHeader}
 use Rattle.ciborium_ll.specs.Reading.{Advances, IsHeadTaken}
 use Rattle.ciborium_ll.specs.Refusal.{HeadRefuses, IsUsable}
-use Rattle.ciborium_ll.specs.Spells.{Spells}
 use Rattle.ciborium_ll.proofs.Unread.{reads-head}
 use Rattle.ciborium_value.specs.Readings.{Reading}
 use Rattle.ciborium_value.specs.Refuses.{Refuses}
@@ -25,7 +22,7 @@ use Rattle.ciborium.specs.declared.de.byte_source.ByteSource.{ByteSource}
 use Rattle.ciborium.specs.declared.de.error.Error.{Error}
 use Rattle.ciborium.specs.Answers.{ReadsWhole, TakesBytes}
 use Rattle.ciborium.specs.ByteSources.{IsUnread, ReadsValue, cause_of}
-use Rattle.ciborium.specs.Errors.{from_ll, IsRefusedBy}
+use Rattle.ciborium.specs.Errors.{from_ll}
 use Rattle.ciborium.specs.NextItems.{GoesOn, IsIo, IsReadFrom, Otherwise, TellsEnd, behind_head}
 use Rattle.ciborium.specs.TypedReads.{IsFaultAhead, RefusesTaken, TakesGiven}
 use Rattle.ciborium.proofs.FrontReads.{head-outside}

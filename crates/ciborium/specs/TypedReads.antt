@@ -7,7 +7,7 @@ use Rattle.ciborium_value.specs.Encoding.{encoding, item_of}
 use Rattle.ciborium_value.specs.Nesting.{Limit}
 use Rattle.ciborium_value.specs.Proper.{IsProperTree}
 use Rattle.ciborium_value.specs.Sources.{Fault, of_kind, of_nesting, of_syntax, of_memory, of_device, IsFaultOf}
-use Rattle.ciborium_value.specs.Taken.{Outcome, gives, Taken}
+use Rattle.ciborium_value.specs.Taken.{gives, Taken}
 use Rattle.ciborium_value.specs.Tree.{Tree}
 use Rattle.ciborium_value.specs.TreeSources.{fault_of}
 use Rattle.ciborium_value.specs.declared.kind.Kind.{Kind}

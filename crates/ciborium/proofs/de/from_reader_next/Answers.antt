@@ -4,7 +4,7 @@ use Rattle.std.proofs.lemmas.Result.{err_from_is_err_and}
 use Rattle.std.specs.declared.io.Error.{Error}
 use Rattle.ciborium.specs.Errors.{from_ll}
 use Rattle.ciborium.proofs.KnownReaders.{whole-of}
-use Rattle.ciborium.proofs.NextReaders.{first-denied, first-granted, first-io, first-taken, next-memory, next-ok, next-refused, next-value, some-all, tells-end}
+use Rattle.ciborium.proofs.NextReaders.{first-denied, first-taken, next-ok, next-refused, next-value, some-all, tells-end}
 use Rattle.ciborium.proofs.de.from_reader_next.Goals as goal
 
 pub returns-in_err-first-clause-refused : goal.returns-in_err-first-clause-refused

@@ -1,6 +1,6 @@
 //! Bytes, of a byte string or of an array of numbers.
 
-ghost use Rattle.std.specs.Prelude.{◌≡◌, ◌+◌, ◌<◌, ◌≤◌, IfErr, IfOk, List, OnOk, ℕ};
+ghost use Rattle.std.specs.Prelude.{◌≡◌, ◌+◌, ◌<◌, ◌≤◌, IfErr, IfOk, List, OnOk, Some, ℕ};
 ghost use Rattle.ciborium_ll.specs.Decoding.{HasSameReader};
 ghost use Rattle.ciborium_value.specs.Places.{sequence};
 ghost use Rattle.ciborium_value.specs.Sources.{HasItem, IsFaultOf, Refuses, Takes, TakesItem};
@@ -22,6 +22,7 @@ use std::io::Read;
 fn to_byte(number: (bool, u128), offset: usize) -> Result<u8, Refusal>
     ensures ok { IfOk result (λ byte. number_below 256 number ≡ gives byte) }
     ensures refused { IfErr result (λ e. IsFaultOf (cause_of e) (number_below 256 number)) }
+    ensures at { IfErr result (λ e. e ≡ Error.Semantic (Some offset) Kind.Range) }
 {
     let (is_negative, n) = number;
     if is_negative {

@@ -1,6 +1,6 @@
 //! Characters.
 
-ghost use Rattle.std.specs.Prelude.{◌≡◌, ◌<◌, IfErr, IfOk, IsUtf8, None, OnOk, Some, chars, false};
+ghost use Rattle.std.specs.Prelude.{◌≡◌, ◌<◌, ◌⊎◌, IfErr, IfOk, IsUtf8, None, OnOk, Some, chars, false};
 ghost use Rattle.ciborium_ll.specs.Decoding.{HasSameReader};
 ghost use Rattle.ciborium_value.specs.Sources.{IsFaultOf, IsGranted};
 ghost use Rattle.ciborium_value.specs.Taken.{gives, lone_character, taken_character};
@@ -24,6 +24,8 @@ fn only_character(payload: &[u8], offset: usize) -> Result<char, Refusal>
     ensures refused { IfErr result (λ e.
         IsUtf8 payload.now → IsFaultOf (cause_of e) (lone_character (chars payload.now))) }
     ensures memory { IfErr result (λ e. IsGranted (cause_of e) false) }
+    ensures at { IfErr result (λ e.
+        (e ≡ Error.Syntax offset) ⊎ (e ≡ Error.Semantic (Some offset) Kind.Char)) }
 {
     match str::from_utf8(payload) {
         Ok(text) => {

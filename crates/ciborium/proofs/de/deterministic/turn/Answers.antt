@@ -1,4 +1,4 @@
-use Rattle.std.proofs.Common.{◌++◌, ◌-◌, Some, Ok, Err, length, ap, subst}
+use Rattle.std.proofs.Common.{◌++◌, ◌-◌, Some, Err, length, ap, subst}
 use Rattle.std.proofs.lemmas.Result.{err_from_is_err_and}
 use Rattle.std.specs.declared.io.Error.{Error}
 use Rattle.ciborium_ll.specs.Decoding.{with_left}

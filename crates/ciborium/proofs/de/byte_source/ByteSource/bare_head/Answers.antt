@@ -1,12 +1,11 @@
-use Rattle.std.proofs.Common.{arith, subst, ◌∙◌, refl, rules}
+use Rattle.std.proofs.Common.{subst}
 use Rattle.std.proofs.lemmas.Result.{err_from_is_err_and}
 use Rattle.ciborium_ll.specs.declared.header.Header.TheVariants as header
 use Rattle.ciborium_value.specs.declared.kind.Kind.TheVariants as kinds
 use Rattle.ciborium_value.specs.Sources.{of_kind}
 use Rattle.ciborium.specs.ByteSources.{IsUnread, cause_of}
-use Rattle.ciborium.specs.ItemReads.{TakesHead, DeniesItem}
-use Rattle.ciborium.specs.Skips.{IsEndTag, Skips, TakesBare}
-use Rattle.ciborium.proofs.FrontReads.{weighs-none}
+use Rattle.ciborium.specs.ItemReads.{TakesHead}
+use Rattle.ciborium.specs.Skips.{IsEndTag}
 use Rattle.ciborium.proofs.SkippedTags.{bare-head, bare-behind, skips-none, skips-more, denies-item, denies-break, denies-behind}
 use Rattle.ciborium.proofs.de.byte_source.ByteSource.bare_head.Goals as goal
 

@@ -1,4 +1,4 @@
-use Rattle.std.proofs.Common.{◌≡◌, ◌≢◌, ap, ◌∙◌, sym, Some, None, false, refl, subst, arith, string_bytes}
+use Rattle.std.proofs.Common.{◌≡◌, ◌≢◌, ap, ◌∙◌, sym, Some, false, subst, arith, string_bytes}
 use Rattle.std.proofs.lemmas.Result.{err_from_is_err_and}
 use Rattle.ciborium_ll.specs.declared.header.Header.TheVariants as header
 use Rattle.ciborium_ll.specs.StringRefusal.{of_text}
@@ -8,7 +8,6 @@ use Rattle.ciborium_value.specs.declared.kind.Kind.TheVariants as kinds
 use Rattle.ciborium.specs.ByteSources.{IsUnread, cause_of}
 use Rattle.ciborium.specs.ItemReads.{Denies, Reads}
 use Rattle.ciborium.specs.Skips.{TakesBare}
-use Rattle.ciborium.specs.StringContents.{DeniesContent, TakesContent}
 use Rattle.ciborium.proofs.EnteredContainers.{deeper-is, same-unread}
 use Rattle.ciborium.proofs.NamedVariants.{key-denied, map-no-text, map-not-one, null-unread, pair-nests, pair-opened, text-nests, text-opened, variant-other}
 use Rattle.ciborium.proofs.SkippedTags.{denies-bare, denies-of-item}

@@ -1,4 +1,4 @@
-use Rattle.std.proofs.Common.{◌≡◌, ℕ, List, length, ◌++◌, ◌+◌, ap, sym, ◌∙◌, Some, None, Ok, Err, pos, negsuc, subst, refl}
+use Rattle.std.proofs.Common.{length, ◌++◌, ◌+◌, ap, sym, ◌∙◌, Some, Ok, Err, pos, negsuc, subst, refl}
 use Rattle.std.proofs.lemmas.Result.{err_from_is_err_and}
 use Rattle.std.specs.declared.io.Error.{Error}
 use Rattle.ciborium_ll.specs.declared.header.Header.TheVariants as header

@@ -1,4 +1,4 @@
-use Rattle.std.proofs.Common.{◌≡◌, ◌++◌, ◌∙◌, ◌+◌, ◌≤◌, ℕ, List, length, Some, Ok, Err, refl, rules, sym, ap, arith, subst}
+use Rattle.std.proofs.Common.{◌≡◌, ◌∙◌, ◌+◌, length, refl, rules, sym, ap, subst}
 use Rattle.ciborium_ll.specs.Decoding.{with_left}
 use Rattle.ciborium.specs.DeterministicRefusals.{IsFoldable}
 use Rattle.ciborium.specs.Parts.{IsFolded}
