@@ -1,6 +1,7 @@
 //! Characters.
 
-ghost use Rattle.std.specs.Prelude.{◌≡◌, ◌<◌, ◌⊎◌, IfErr, IfOk, IsUtf8, None, OnOk, Some, chars, false};
+ghost use Rattle.std.specs.Prelude.{◌≡◌, ◌<◌, ◌⊎◌, IfErr, IfOk, IsUtf8, None, OnOk, Some, chars};
+ghost use Rattle.std.specs.Prelude.{false};
 ghost use Rattle.ciborium_ll.specs.Decoding.{HasSameReader};
 ghost use Rattle.ciborium_value.specs.Sources.{IsFaultOf, IsGranted};
 ghost use Rattle.ciborium_value.specs.Taken.{gives, lone_character, taken_character};

@@ -77,8 +77,8 @@ impl<'a, R: Read> ByteSource<'a, R> {
         }
     }
 
-    // What `behind_tags` does. Apart from `bare_head`, so that the room for its answer is made ready
-    // only behind a tag.
+    // What `behind_tags` does. Apart from `bare_head`, so that the room for its answer is made
+    // ready only behind a tag.
     #[inline(always)]
     fn skip_tags(&mut self, numbers: bool) -> Result<(Header, usize), Refusal>
         ensures same_reader { HasSameReader self.old.decoder self.new.decoder }
