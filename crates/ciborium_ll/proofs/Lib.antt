@@ -9,6 +9,7 @@ pub mod OneHeader
 mod HeaderBytes
 pub mod HeadAnswers
 pub mod Advancing
+pub mod HeldBytes
 pub mod Payloads
 pub mod OpenStrings
 pub mod MoreBytes

@@ -1,8 +1,12 @@
 -- Payloads that are appended piece by piece.
-use Rattle.std.proofs.Common.{◌≡◌, ℕ, ◌+◌, ◌-◌, ◌≤◌, List, ◌++◌, length, min, take, Option, Err, sym, ap, ◌∙◌, arith, append_assoc, length-append, length-take-le}
+use Rattle.std.proofs.Common.{◌≡◌, ℕ, ◌+◌, ◌-◌, ◌≤◌, List, [], ◌++◌, append-nil, subst, length, min, take, Option, Err, sym, ap, ◌∙◌, arith, append_assoc, length-append, length-take-le}
+use Rattle.std.specs.Io.KnownBytes.{Consumes}
+use Rattle.std.proofs.KnownBytes.{Consumes-nil}
 use Rattle.ciborium_ll.specs.declared.header.Error.{Error}
 use Rattle.ciborium_ll.specs.declared.header.Error.TheVariants.{Io, Syntax, TooLong, Memory}
 use Rattle.ciborium_ll.specs.Bytes.{greatest_offset}
+use Rattle.ciborium_ll.specs.declared.lookahead.Lookahead.{Lookahead}
+use Rattle.ciborium_ll.specs.Lookahead.{AdvancesBehind, unread}
 use Rattle.ciborium_ll.specs.Reading.{Advances, IsFillTaken}
 use Rattle.ciborium_ll.specs.Strings.{Extends, IsPiecesTaken}
 use Rattle.ciborium_ll.proofs.Advancing.{Advances-then, Filled}
@@ -52,3 +56,12 @@ pub piece-dropped : (a b c : Option (List ℕ)) (p q r n left : ℕ) (old mid ne
 piece-dropped a b c p q r n left old mid new piece short same before now =
     Advances-then a b c p q r (λ x. Appended n left x old mid) (λ x. Filled x q piece) (λ x. (length x ≤ n) × Extends old new)
     (λ x y s h. (omega (arith, short, s.1, ap length h.0, length-append x y), (x, same ∙ s.0))) before now
+
+-- what was held was appended
+pub held-appended : (o : Option (List ℕ)) (a : Lookahead) (p q n size : ℕ) (old new : List ℕ) → size ≤ n → AdvancesBehind a o o p q (λ b. (new ≡ old ++ b) × (length b ≡ size)) → AdvancesBehind a o o p q (λ b. (new ≡ old ++ b) × (length b + (n - size) ≡ n))
+held-appended o a p q n size old new less (b, taken, count, (items, len), bytes) = (b, taken, count, (items, omega (arith, len, less)), bytes)
+
+-- the memory for it was refused
+pub held-dropped : (o : Option (List ℕ)) (a : Lookahead) (p q n : ℕ) (old new : List ℕ) → q ≡ p → new ≡ old → AdvancesBehind a o o p q (λ b. (length b ≤ n) × Extends old new)
+held-dropped o a p q n old new same items =
+    ([], subst (λ k. Consumes (unread o a p) (unread o a k) []) (sym same) (Consumes-nil (unread o a p)), omega (arith, same), (omega arith, ([], items ∙ sym (append-nil old))), λ k d lt. absurd (omega (arith, lt)))

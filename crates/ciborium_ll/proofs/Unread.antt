@@ -1,5 +1,5 @@
 -- What calls answer, said of all that is unread.
-use Rattle.std.proofs.Common.{◌≡◌, ℕ, ◌+◌, ◌<◌, List, [], ◌∷◌, ◌++◌, length, Option, Some, None, Result, Ok, Err, IfErr, IfNone, refl, sym, ap, ◌∙◌, subst, append_assoc, append-nil, inl, inr}
+use Rattle.std.proofs.Common.{◌≡◌, ℕ, ◌+◌, ◌<◌, List, [], ◌∷◌, ◌++◌, length, Option, Some, None, Result, Ok, Err, IfErr, refl, sym, ap, ◌∙◌, subst, append_assoc, append-nil, inl, inr}
 use Rattle.std.specs.Io.KnownBytes.{Consumes}
 use Rattle.std.specs.Prelude.{IsUtf8}
 use Rattle.std.proofs.lemmas.Str.{IsUtf8-append, IsUtf8-nil}
@@ -9,8 +9,7 @@ use Rattle.ciborium_ll.specs.declared.header.Error.{Error}
 use Rattle.ciborium_ll.specs.declared.header.Error.TheVariants.{Io, Syntax, TooLong, Memory}
 use Rattle.ciborium_ll.specs.Head.{break_byte}
 use Rattle.ciborium_ll.specs.Header.{SpellsHeader}
-use Rattle.ciborium_ll.specs.declared.decoder.Decoder.{Decoder}
-use Rattle.ciborium_ll.specs.Decoding.{HasBegun, PullsTo}
+use Rattle.ciborium_ll.specs.Decoding.{PullsTo}
 use Rattle.ciborium_ll.specs.Reading.{Advances, IsRefusedBy, IsHeadTaken}
 use Rattle.ciborium_ll.specs.Refusal.{Refusal, io, syntax, too_long, HeadRefuses, IsUsable, HasHead, IsAtFront}
 use Rattle.ciborium_ll.specs.Spells.{AreParts, joined}
@@ -177,17 +176,3 @@ appended-utf8 None p q (Err e) added x (ps, s, parts, fits, last, same) = subst 
 pub grown-utf8 : {E : Type 0} (len : Option ℕ) (p q t : ℕ) (a b : Option (List ℕ)) (result : Result (Unit {0}) (Error E)) (old new : List ℕ) → IsUtf8 old →
     Advances a b q t (λ x. (added : List ℕ) × (new ≡ old ++ added) × IsStringTaken {E = E} of_text len p x q result added) → IsUtf8 new
 grown-utf8 {E} len p q t a b result old new ok (x, taken, count, (added, is, s), bytes) = subst IsUtf8 (sym is) (IsUtf8-append old added ok (appended-utf8 {E = E} len p q result added x s))
-
--- ---- a decoder that was just made
-
--- what the first pull of it takes
-pub first-taken : {S E : Type 0} (remaining : S → Option (List ℕ)) (d new : Decoder S) (lent : S) (p : ℕ) (result : Result Header (Error E)) → HasBegun d lent p →
-    IfNone d.pushed (Advances (remaining d.reader.now) (remaining new.reader.now) d.count new.count (λ x. IsHeadTaken {E = E} x d.count result)) →
-    (b : List ℕ) × Consumes (remaining lent) (remaining new.reader.now) b × IsHeadTaken {E = E} b p result
-first-taken {S} {E} remaining d new lent p result begins taken =
-    let t : Advances (remaining d.reader.now) (remaining new.reader.now) d.count new.count (λ x. IsHeadTaken {E = E} x d.count result) = without d.pushed begins.pushed taken in
-    (t.0, subst (λ r. Consumes (remaining r) (remaining new.reader.now) t.0) begins.reader t.1, subst (λ k. IsHeadTaken {E = E} t.0 k result) begins.count t.3)
-  where
-    without : {A : Type 0} (o : Option A) → o ≡ None → {P : Type 0} → IfNone o P → P
-    without None e h = h
-    without (Some a) e h = absurd cc

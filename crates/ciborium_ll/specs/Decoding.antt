@@ -1,8 +1,11 @@
 -- What a decoder shows: its reader, the count of bytes read, the head that was pushed back, and where the last head stood.
-use Rattle.std.specs.Prelude.{◌≡◌, ℕ, ◌+◌, List, ◌++◌, length, Option, Some, None, MatchOption, MatchResult, Result, Ok, Err}
+use Rattle.std.specs.Prelude.{◌≡◌, ℕ, ◌+◌, ◌-◌, List, [], ◌++◌, length, Option, Some, None, MatchOption, MatchResult, Result, Ok, Err}
+use Rattle.std.specs.Borrow.{GName}
 use Rattle.ciborium_ll.specs.declared.header.Header.{Header}
 use Rattle.ciborium_ll.specs.declared.header.Error.{Error}
 use Rattle.ciborium_ll.specs.declared.decoder.Decoder.{Decoder}
+use Rattle.ciborium_ll.specs.declared.lookahead.Lookahead.{Lookahead}
+use Rattle.ciborium_ll.specs.Lookahead.{HoldsNothing, unread}
 use Rattle.ciborium_ll.specs.Header.{SpellsHeader}
 use Rattle.ciborium_ll.specs.Reading.{Advances, IsRefusedBy}
 use Rattle.ciborium_ll.specs.Refusal.{HeadRefuses, IsUsable}
@@ -30,17 +33,26 @@ MeasuresHead old new result =
     (MatchResult result (λ _. new.count ≡ old.count + new.head_len) (λ _. new.head_len ≡ old.head_len))
     (λ _. new.head_len ≡ old.head_len)
 
--- what the decoder's reader has left
+-- what is unread: what the decoder holds, and then what its reader has left
 abbrev pub left_of : {S : Type 0} → (S → Option (List ℕ)) → Decoder S → Option (List ℕ)
-left_of remaining d = remaining d.reader.now
+left_of remaining d = unread (remaining d.reader.now) d.lookahead d.count
 
--- the decoder holds the reader that it held, so what is left in it is left to the one who lent it
+-- the reader, by name, and what was read ahead of it
+abbrev pub source_of : {S : Type 0} → Decoder S → GName × Lookahead
+source_of d = (d.reader.ghost_name, d.lookahead)
+
+-- the decoder holds the reader that it held, so what is left in it is left to the one who lent it; and it has read nothing ahead since
 abbrev pub HasSameReader : {S : Type 0} → Decoder S → Decoder S → Type 0
-HasSameReader old new = new.reader.ghost_name ≡ old.reader.ghost_name
+HasSameReader old new = source_of new ≡ source_of old
+
+-- how many bytes are read ahead and not taken
+abbrev pub held_count : {S : Type 0} → Decoder S → ℕ
+held_count d = d.lookahead.end - d.count
 
 -- nothing has been pulled since the reader was lent, at this offset
 pub record HasBegun {S : Type 0} (d : Decoder S) (lent : S) (offset : ℕ) : Type 0 where
   pub reader : d.reader.now ≡ lent
+  pub nothing : HoldsNothing d.lookahead
   pub count : d.count ≡ offset
   pub pushed : d.pushed ≡ None
   pub last : d.last ≡ offset
@@ -48,12 +60,12 @@ pub record HasBegun {S : Type 0} (d : Decoder S) (lent : S) (offset : ℕ) : Typ
 
 -- some bytes are taken from the reader and counted, and nothing else, and P holds of them
 abbrev pub Takes : {S : Type 0} → (S → Option (List ℕ)) → Decoder S → Decoder S → (List ℕ → Type 0) → Type 0
-Takes remaining old new P = Advances (remaining old.reader.now) (remaining new.reader.now) old.count new.count P
+Takes remaining old new P = Advances (left_of remaining old) (left_of remaining new) old.count new.count P
 
 -- the decoder, as it stands where just u is left of its reader
 abbrev pub with_left : {S : Type 0} → Decoder S → List ℕ → Decoder (List ℕ)
 with_left d u =
-    record { reader = record { ref_ptr = d.reader.ref_ptr; ghost_name = d.reader.ghost_name; now = u }; count = d.count; pushed = d.pushed; last = d.last; head_len = d.head_len; fits = d.fits }
+    record { reader = record { ref_ptr = d.reader.ref_ptr; ghost_name = d.reader.ghost_name; now = u }; lookahead = record { bytes = []; base = d.lookahead.base; end = d.lookahead.end }; count = d.count; pushed = d.pushed; last = d.last; head_len = d.head_len; ahead = d.ahead; fits = d.fits }
 
 -- some bytes are taken from the reader and counted, and nothing else; P holds of the decoder before and after, whatever follows
 -- those bytes. So it is said of a reader whose bytes nobody knows, too.
@@ -62,7 +74,7 @@ TakesBeforeAny remaining old new P = Takes remaining old new (λ b. (c : List �
 
 -- nothing is read
 abbrev pub IsUnread : {S : Type 0} → Decoder S → Decoder S → Type 0
-IsUnread old new = (new.reader.now ≡ old.reader.now) × (new.count ≡ old.count)
+IsUnread old new = (new.reader.now ≡ old.reader.now) × (new.lookahead ≡ old.lookahead) × (new.count ≡ old.count)
 
 -- the offset of the next head
 abbrev pub next_offset : ℕ → Option (Header × ℕ) → ℕ
@@ -74,10 +86,10 @@ offset_of d = next_offset d.count d.pushed
 
 -- b is unread, and its first byte is at offset p, where this head was pushed back: its bytes count as unread, and it is usable
 abbrev pub IsAheadBy : {S : Type 0} → (S → Option (List ℕ)) → Decoder S → List ℕ → ℕ → Option (Header × ℕ) → Type 0
-IsAheadBy remaining d b p None = (d.count ≡ p) × (remaining d.reader.now ≡ Some b)
+IsAheadBy remaining d b p None = (d.count ≡ p) × (left_of remaining d ≡ Some b)
 IsAheadBy remaining d b p (Some pushed) =
     (pushed.1 ≡ p) × (h : List ℕ) × (r : List ℕ) × SpellsHeader h pushed.0 × IsUsable b p × (b ≡ h ++ r) ×
-    (d.count ≡ p + length h) × (remaining d.reader.now ≡ Some r)
+    (d.count ≡ p + length h) × (left_of remaining d ≡ Some r)
 
 -- b is unread, a head that was pushed back included, and its first byte is at offset p
 abbrev pub IsAhead : {S : Type 0} → (S → Option (List ℕ)) → Decoder S → List ℕ → ℕ → Type 0
@@ -92,4 +104,4 @@ PullsTo last count left b p (Err e) = IsRefusedBy left e (HeadRefuses b p)
 
 -- the decoder has read so
 abbrev pub Pulls : {S E : Type 0} → (S → Option (List ℕ)) → Decoder S → List ℕ → ℕ → Result Header (Error E) → Type 0
-Pulls remaining d b p result = PullsTo d.last d.count (remaining d.reader.now) b p result
+Pulls remaining d b p result = PullsTo d.last d.count (left_of remaining d) b p result

@@ -7,7 +7,7 @@ use Rattle.ciborium_ll.specs.declared.header.Error.{Error}
 use Rattle.ciborium_ll.specs.declared.header.Error.TheVariants.{Io, Syntax, TooLong, Memory}
 use Rattle.ciborium_ll.specs.declared.decoder.Decoder.{Decoder}
 use Rattle.ciborium_ll.specs.Bytes.{AreBytes}
-use Rattle.ciborium_ll.specs.Decoding.{PullsTo}
+use Rattle.ciborium_ll.specs.Decoding.{PullsTo, left_of}
 use Rattle.ciborium_ll.specs.Reading.{IsHeadTaken}
 
 -- `Io` is the only error
@@ -53,7 +53,7 @@ PullsFirstTo {E} last count left b p (Err e) = PullsTo {E = E} last count left b
 
 -- the decoder has read so
 abbrev pub PullsFirst : {S E : Type 0} → (S → Option (List ℕ)) → Decoder S → List ℕ → ℕ → Result (Option Header) (Error E) → Type 0
-PullsFirst remaining d b p result = PullsFirstTo d.last d.count (remaining d.reader.now) b p result
+PullsFirst remaining d b p result = PullsFirstTo d.last d.count (left_of remaining d) b p result
 
 -- the answer where nothing is left: the end, unless the reader failed
 abbrev pub IsEndOrFault : {E : Type 0} → Result (Option Header) (Error E) → Type 0

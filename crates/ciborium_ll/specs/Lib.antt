@@ -11,6 +11,7 @@ pub mod Header
 pub mod HeaderLaws
 pub mod Reading
 pub mod Strings
+pub mod Lookahead
 pub mod Decoding
 pub mod FirstHeads
 pub mod Writing

@@ -2,37 +2,42 @@
 
 ghost use Rattle.std.specs.Prelude.{◌≤◌};
 ghost use Rattle.ciborium_ll.specs.Bytes.{greatest_offset};
+ghost use Rattle.ciborium_ll.specs.Lookahead.{IsAheadOf};
 
 use crate::header::{Error, Header};
 use crate::keep::{Answered, Keep};
-use crate::reading::{fill, read_first_head, read_head};
+use crate::lookahead::Lookahead;
+use crate::reading::{fill, read_first_head, read_head, read_split};
 use crate::strings::{Kind, append_string};
 use std::io::{self, Read};
 use std::mem;
 
-/// Reads heads and payloads from a reader that it is lent, and counts their bytes.
+/// Reads heads and payloads from a reader that it is lent, and counts the bytes that it takes.
 ///
-/// No byte is read past what a call needs, and none whose offset would pass `usize::MAX`. After a
-/// refusal a beginning of what was to be read has been taken from the reader.
+/// No byte is read past what a call needs, but by `look_ahead`, and none whose offset would pass
+/// `usize::MAX`. After a refusal a beginning of what was to be read has been taken from the reader.
+/// Bytes that were read ahead and never taken are lost to the lender.
 #[derive(Drop)]
 pub struct Decoder<'a, R> {
     reader: &'a mut R,
+    lookahead: Lookahead,
     count: usize,
     pushed: Option<(Header, usize)>,
     last: usize,
     head_len: usize,
+    ghost ahead: { IsAheadOf lookahead count },
     ghost fits: { count ≤ greatest_offset },
 }
 
 impl<'a, R: Read> Decoder<'a, R> {
-    ghost use Rattle.std.specs.Prelude.{[], ◌≡◌, ◌<◌, IfErr, IfNone, IfOk, IfSome, List, None, Ok};
-    ghost use Rattle.std.specs.Prelude.{Some, string_bytes, ℕ};
-    ghost use Rattle.std.specs.Io.KnownBytes.{IsAtEnd};
+    ghost use Rattle.std.specs.Prelude.{[], ◌≡◌, ◌<◌, ◌∷◌, IfErr, IfNone, IfOk, IfSome, List, None, Ok};
+    ghost use Rattle.std.specs.Prelude.{Some, max, string_bytes, ℕ};
+    ghost use Rattle.std.specs.Io.KnownBytes.{IsAtEnd, Keeps};
     ghost use Rattle.ciborium_ll.specs.Decoding.{HasBegun, HasSameReader, IsAhead, IsUnread};
     ghost use Rattle.ciborium_ll.specs.Decoding.{MeasuresHead, Pulls, Takes};
-    ghost use Rattle.ciborium_ll.specs.Decoding.{count_of, head_len_of, last_of, left_of};
-    ghost use Rattle.ciborium_ll.specs.Decoding.{offset_of, pushed_of};
-    ghost use Rattle.ciborium_ll.specs.FirstHeads.{IsEndOrFault, IsFirstTaken, MeasuresFirst};
+    ghost use Rattle.ciborium_ll.specs.Decoding.{count_of, head_len_of, held_count, last_of};
+    ghost use Rattle.ciborium_ll.specs.Decoding.{left_of, offset_of, pushed_of};
+    ghost use Rattle.ciborium_ll.specs.FirstHeads.{IsEndOrFault, IsFirstTaken, IsIo, MeasuresFirst};
     ghost use Rattle.ciborium_ll.specs.FirstHeads.{PullsFirst};
     ghost use Rattle.ciborium_ll.specs.Reading.{IsFillTaken, IsHeadTaken, IsRefusedBy};
     ghost use Rattle.ciborium_ll.specs.StringRefusal.{ContentRefuses, of_bytes, of_text};
@@ -53,6 +58,7 @@ impl<'a, R: Read> Decoder<'a, R> {
     {
         Decoder {
             reader,
+            lookahead: Lookahead::none(offset),
             count: offset,
             pushed: None,
             last: offset,
@@ -61,7 +67,7 @@ impl<'a, R: Read> Decoder<'a, R> {
     }
 
     /// The offset of the head that the next `pull` answers: that of the pushed head if there is
-    /// one, else the count of bytes read, from the offset on at which the decoder began.
+    /// one, else the count of bytes taken, from the offset on at which the decoder began.
     #[inline(always)]
     pub fn offset(&self) -> usize
         ensures { result ≡ offset_of self.now }
@@ -169,7 +175,7 @@ impl<'a, R: Read> Decoder<'a, R> {
             self.last = offset;
             return Ok(header);
         }
-        self.pull_next_keeping(keep)
+        self.pull_split_keeping(keep)
     }
 
     /// What `pull_keeping` does where no head was pushed back.
@@ -189,9 +195,33 @@ impl<'a, R: Read> Decoder<'a, R> {
     {
         let start = self.count;
         self.last = start;
-        let pulled = read_head(self.reader, &mut self.count, keep);
+        let pulled = read_head(self.reader, &self.lookahead, &mut self.count, keep);
         if pulled.is_ok() {
             self.head_len = self.count - start;
+        }
+        pulled
+    }
+
+    // What `pull_next_keeping` does, with no way of its own for heads that are held whole.
+    #[inline(always)]
+    fn pull_split_keeping<K: Keep>(&mut self, keep: &mut K) -> Result<Header, Error<K::Kept>>
+        requires { pushed_of self.old ≡ None }
+        ensures same_reader { HasSameReader self.old self.new }
+        ensures none_pushed { pushed_of self.new ≡ None }
+        ensures taken { Takes R.remaining self.old self.new
+            (λ b. IsHeadTaken b (count_of self.old) result) }
+        ensures last { last_of self.new ≡ count_of self.old }
+        ensures head_len { MeasuresHead self.old self.new result }
+
+        // The same, said of all that is unread.
+        ensures ahead { (b : List ℕ) (p : ℕ) → IsAhead R.remaining self.old b p →
+            Pulls R.remaining self.new b p result }
+    {
+        let offset = self.count;
+        self.last = offset;
+        let pulled = read_split(self.reader, &self.lookahead, &mut self.count, keep);
+        if pulled.is_ok() {
+            self.head_len = self.count - offset;
         }
         pulled
     }
@@ -257,11 +287,63 @@ impl<'a, R: Read> Decoder<'a, R> {
         ensures ahead { (b : List ℕ) (p : ℕ) → IsAhead R.remaining self.old b p →
             PullsFirst R.remaining self.new b p result }
     {
-        let pulled = read_first_head(self.reader, &mut self.count, keep);
+        let pulled = read_first_head(self.reader, &self.lookahead, &mut self.count, keep);
         if let Ok(Some(_)) = pulled {
             self.head_len = self.count - self.last;
         }
         pulled
+    }
+
+    /// Reads up to `n` bytes ahead, at most 256, in one read of the reader, unless bytes are held
+    /// that were read ahead before: the caller is sure to take that many. Later calls take the bytes
+    /// that are held before they read. The reader's end is left to be met by them.
+    ///
+    /// # Errors
+    ///
+    /// `Io` where the read fails; then nothing has been taken from the reader.
+    #[inline(always)]
+    pub fn look_ahead(&mut self, n: usize) -> Result<(), Error<io::Error>>
+        ensures name { self.new.reader.ghost_name ≡ self.old.reader.ghost_name }
+        ensures pushed { pushed_of self.new ≡ pushed_of self.old }
+        ensures last { last_of self.new ≡ last_of self.old }
+        ensures head_len { head_len_of self.new ≡ head_len_of self.old }
+        ensures count { count_of self.new ≡ count_of self.old }
+        ensures unread { Keeps (left_of R.remaining self.old) (left_of R.remaining self.new) }
+        ensures held { held_count self.new ≤ max (held_count self.old) n }
+        ensures fault { IfErr result IsIo }
+    {
+        self.look_ahead_keeping(n, &mut Answered)
+    }
+
+    /// What `look_ahead` does; a reader's error goes to `keep`.
+    #[inline(always)]
+    pub fn look_ahead_keeping<K: Keep>(
+        &mut self,
+        n: usize,
+        keep: &mut K,
+    ) -> Result<(), Error<K::Kept>>
+        ensures name { self.new.reader.ghost_name ≡ self.old.reader.ghost_name }
+        ensures pushed { pushed_of self.new ≡ pushed_of self.old }
+        ensures last { last_of self.new ≡ last_of self.old }
+        ensures head_len { head_len_of self.new ≡ head_len_of self.old }
+        ensures count { count_of self.new ≡ count_of self.old }
+        ensures unread { Keeps (left_of R.remaining self.old) (left_of R.remaining self.new) }
+        ensures held { held_count self.new ≤ max (held_count self.old) n }
+        ensures fault { IfErr result IsIo }
+    {
+        if !self.lookahead.is_used_up(self.count) {
+            return Ok(());
+        }
+        self.lookahead.refill(self.reader, self.count, n, keep)
+    }
+
+    /// The next byte, where it was read ahead. It is not taken.
+    #[inline(always)]
+    pub fn held_byte(&self) -> Option<u8>
+        ensures { IfSome result (λ x. (b : List ℕ) → left_of R.remaining self.now ≡ Some b →
+            (rest : List ℕ) × (b ≡ x ∷ rest)) }
+    {
+        self.lookahead.byte(self.count)
     }
 
     /// Fills the buffer with the next bytes.
@@ -298,7 +380,7 @@ impl<'a, R: Read> Decoder<'a, R> {
         ensures taken { Takes R.remaining self.old self.new
             (λ b. IsFillTaken b (count_of self.old) buffer.new result) }
     {
-        fill(self.reader, buffer, &mut self.count, keep)
+        fill(self.reader, &self.lookahead, buffer, &mut self.count, keep)
     }
 
     /// Appends the payload of the byte string whose head was pulled last, with the length that the
@@ -356,6 +438,7 @@ impl<'a, R: Read> Decoder<'a, R> {
     {
         append_string(
             self.reader,
+            &self.lookahead,
             &mut self.count,
             keep,
             Kind::Bytes,
@@ -422,6 +505,7 @@ impl<'a, R: Read> Decoder<'a, R> {
         let mut bytes = mem::replace(out, empty).into_bytes();
         let result = append_string(
             self.reader,
+            &self.lookahead,
             &mut self.count,
             keep,
             Kind::Text,

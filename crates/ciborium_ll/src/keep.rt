@@ -21,9 +21,9 @@ pub trait Keep {
         ensures { keeps self.old self.new error result };
 }
 
-/// The answer holds the error itself.
+/// Keeps nothing: the answer holds the error itself.
 #[derive(Clone, Copy, Drop)]
-pub(crate) struct Answered;
+pub struct Answered;
 
 impl Keep for Answered {
     type Kept = io::Error;

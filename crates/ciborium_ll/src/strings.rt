@@ -1,13 +1,15 @@
 //! The payloads of strings: appended as they come, tested where they stand.
 
-ghost use Rattle.std.specs.Prelude.{◌≡◌, ◌+◌, ◌<◌, ◌≤◌, ◌++◌, ◌↔◌, IsTrue, List, length, ℕ};
-ghost use Rattle.ciborium_ll.specs.Reading.{Advances};
+ghost use Rattle.std.specs.Prelude.{◌≡◌, ◌+◌, ◌<◌, ◌≤◌, ◌++◌, ◌↔◌, IfNone, IfSome, IsTrue, List};
+ghost use Rattle.std.specs.Prelude.{Option, length, ℕ};
+ghost use Rattle.ciborium_ll.specs.Lookahead.{AdvancesBehind, IsAheadOf};
 ghost use Rattle.ciborium_ll.specs.StringRefusal.{IsAllowed};
 ghost use Rattle.ciborium_ll.specs.Strings.{Grows, IsPart, IsPartsTaken, IsPayloadTaken};
 ghost use Rattle.ciborium_ll.specs.Strings.{IsPiecesTaken, IsStringTaken, kind_of};
 
 use crate::header::{Error, Header};
 use crate::keep::Keep;
+use crate::lookahead::Lookahead;
 use crate::reading::{fill, read_head};
 use std::io::Read;
 
@@ -21,27 +23,57 @@ pub(crate) enum Kind {
 // The scratch of a caller that lends none.
 const OWN_SCRATCH: usize = 64;
 
+// Appends what is held of n bytes, and answers how many these are, or `None` where memory is
+// refused.
+#[inline(always)]
+fn append_held(ahead: &Lookahead, count: &mut usize, n: usize, out: &mut Vec<u8>) -> Option<usize>
+    requires { IsAheadOf ahead.now count.old }
+    ensures fits { count.new ≤ usize.MAX }
+    ensures some { IfSome result (λ size. (size ≤ n) × (count.new ≡ count.old + size)) }
+    ensures bytes { IfSome result (λ size. (o : Option (List ℕ)) →
+        AdvancesBehind ahead.now o o count.old count.new
+        (λ b. (out.new.items ≡ out.old.items ++ b) × (length b ≡ size))) }
+    ensures none { IfNone result ((count.new ≡ count.old) × (out.new.items ≡ out.old.items)) }
+{
+    if ahead.is_used_up(*count) {
+        return Some(0);
+    }
+    let held = ahead.held(*count);
+    let size = n.min(held.len());
+    if out.extend_from_slice(&held[..size]).is_err() {
+        return None;
+    }
+    *count += size;
+    Some(size)
+}
+
 // Appends n bytes, in pieces of at most the length of the scratch.
 #[inline(always)]
 fn append_pieces<R: Read, K: Keep>(
     reader: &mut R,
+    ahead: &Lookahead,
     count: &mut usize,
     keep: &mut K,
     n: usize,
     scratch: &mut [u8],
     out: &mut Vec<u8>,
 ) -> Result<(), Error<K::Kept>>
+    requires ahead { IsAheadOf ahead.now count.old }
     requires room { 0 < length scratch.old }
     requires below { count.old + n ≤ usize.MAX }
+    ensures onward { count.old ≤ count.new }
     ensures fits { count.new ≤ usize.MAX }
-    ensures bytes { Advances (R.remaining reader.old) (R.remaining reader.new) count.old count.new
-        (λ b. IsPiecesTaken n b result out.old.items out.new.items) }
+    ensures bytes { AdvancesBehind ahead.now (R.remaining reader.old) (R.remaining reader.new)
+        count.old count.new (λ b. IsPiecesTaken n b result out.old.items out.new.items) }
 {
-    let mut left = n;
+    let Some(held) = append_held(ahead, count, n, out) else {
+        return Err(Error::Memory);
+    };
+    let mut left = n - held;
     while left > 0 {
         let size = left.min(scratch.len());
         let piece = &mut scratch[..size];
-        fill(reader, piece, count, keep)?;
+        fill(reader, ahead, piece, count, keep)?;
         if out.extend_from_slice(piece).is_err() {
             return Err(Error::Memory);
         }
@@ -54,22 +86,25 @@ fn append_pieces<R: Read, K: Keep>(
 #[inline(always)]
 fn append_bytes<R: Read, K: Keep>(
     reader: &mut R,
+    ahead: &Lookahead,
     count: &mut usize,
     keep: &mut K,
     n: usize,
     scratch: &mut [u8],
     out: &mut Vec<u8>,
 ) -> Result<(), Error<K::Kept>>
-    requires { count.old + n ≤ usize.MAX }
+    requires ahead { IsAheadOf ahead.now count.old }
+    requires below { count.old + n ≤ usize.MAX }
+    ensures onward { count.old ≤ count.new }
     ensures fits { count.new ≤ usize.MAX }
-    ensures bytes { Advances (R.remaining reader.old) (R.remaining reader.new) count.old count.new
-        (λ b. IsPiecesTaken n b result out.old.items out.new.items) }
+    ensures bytes { AdvancesBehind ahead.now (R.remaining reader.old) (R.remaining reader.new)
+        count.old count.new (λ b. IsPiecesTaken n b result out.old.items out.new.items) }
 {
     if scratch.is_empty() {
         let mut own = [0u8; OWN_SCRATCH];
-        return append_pieces(reader, count, keep, n, &mut own, out);
+        return append_pieces(reader, ahead, count, keep, n, &mut own, out);
     }
-    append_pieces(reader, count, keep, n, scratch, out)
+    append_pieces(reader, ahead, count, keep, n, scratch, out)
 }
 
 // Whether a string of the kind may hold these bytes.
@@ -88,6 +123,7 @@ fn is_allowed(kind: Kind, payload: &[u8]) -> bool
 #[inline(always)]
 fn append_payload<R: Read, K: Keep>(
     reader: &mut R,
+    ahead: &Lookahead,
     count: &mut usize,
     keep: &mut K,
     kind: Kind,
@@ -96,14 +132,16 @@ fn append_payload<R: Read, K: Keep>(
     scratch: &mut [u8],
     out: &mut Vec<u8>,
 ) -> Result<(), Error<K::Kept>>
-    requires { count.old + n ≤ usize.MAX }
+    requires ahead { IsAheadOf ahead.now count.old }
+    requires below { count.old + n ≤ usize.MAX }
+    ensures onward { count.old ≤ count.new }
     ensures fits { count.new ≤ usize.MAX }
-    ensures bytes { Advances (R.remaining reader.old) (R.remaining reader.new) count.old count.new
-        (λ b. Grows out.old.items out.new.items
+    ensures bytes { AdvancesBehind ahead.now (R.remaining reader.old) (R.remaining reader.new)
+        count.old count.new (λ b. Grows out.old.items out.new.items
         (IsPayloadTaken (kind_of kind) n head b result)) }
 {
     let start = out.len();
-    if let Err(e) = append_bytes(reader, count, keep, n, scratch, out) {
+    if let Err(e) = append_bytes(reader, ahead, count, keep, n, scratch, out) {
         out.truncate(start);
         return Err(e);
     }
@@ -136,23 +174,28 @@ fn part_of(kind: Kind, header: Header) -> Part
 #[inline(never)]
 fn append_parts<R: Read, K: Keep>(
     reader: &mut R,
+    ahead: &Lookahead,
     count: &mut usize,
     keep: &mut K,
     kind: Kind,
     scratch: &mut [u8],
     out: &mut Vec<u8>,
 ) -> Result<(), Error<K::Kept>>
+    requires { IsAheadOf ahead.now count.old }
+    ensures onward { count.old ≤ count.new }
     ensures fits { count.new ≤ usize.MAX }
-    ensures bytes { Advances (R.remaining reader.old) (R.remaining reader.new) count.old count.new
-        (λ b. Grows out.old.items out.new.items
+    ensures bytes { AdvancesBehind ahead.now (R.remaining reader.old) (R.remaining reader.new)
+        count.old count.new (λ b. Grows out.old.items out.new.items
         (IsPartsTaken (kind_of kind) b count.old result)) }
 {
     let mut head = *count;
     'parts: loop {
-        let header = read_head(reader, count, keep)?;
+        let header = read_head(reader, ahead, count, keep)?;
         match part_of(kind, header) {
             Part::End => return Ok(()),
-            Part::Definite(n) => append_payload(reader, count, keep, kind, n, head, scratch, out)?,
+            Part::Definite(n) => append_payload(
+                reader, ahead, count, keep, kind, n, head, scratch, out,
+            )?,
             Part::Other => return Err(Error::Syntax(head)),
         }
         head = *count;
@@ -163,6 +206,7 @@ fn append_parts<R: Read, K: Keep>(
 #[inline(always)]
 pub(crate) fn append_string<R: Read, K: Keep>(
     reader: &mut R,
+    ahead: &Lookahead,
     count: &mut usize,
     keep: &mut K,
     kind: Kind,
@@ -171,9 +215,11 @@ pub(crate) fn append_string<R: Read, K: Keep>(
     scratch: &mut [u8],
     out: &mut Vec<u8>,
 ) -> Result<(), Error<K::Kept>>
+    requires { IsAheadOf ahead.now count.old }
+    ensures onward { count.old ≤ count.new }
     ensures fits { count.new ≤ usize.MAX }
-    ensures bytes { Advances (R.remaining reader.old) (R.remaining reader.new) count.old count.new
-        (λ b. Grows out.old.items out.new.items
+    ensures bytes { AdvancesBehind ahead.now (R.remaining reader.old) (R.remaining reader.new)
+        count.old count.new (λ b. Grows out.old.items out.new.items
         (IsStringTaken (kind_of kind) len head b count.old result)) }
 {
     match len {
@@ -181,8 +227,8 @@ pub(crate) fn append_string<R: Read, K: Keep>(
             if usize::MAX - *count < n {
                 return Err(Error::TooLong);
             }
-            append_payload(reader, count, keep, kind, n, head, scratch, out)
+            append_payload(reader, ahead, count, keep, kind, n, head, scratch, out)
         }
-        None => append_parts(reader, count, keep, kind, scratch, out),
+        None => append_parts(reader, ahead, count, keep, kind, scratch, out),
     }
 }

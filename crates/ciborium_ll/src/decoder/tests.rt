@@ -19,14 +19,12 @@ struct Front {
     end: usize,
 }
 
-// Reads a head, and a payload where it begins a string.
-fn read_front<R: Read>(
+// Takes a head, and a payload where it begins a string.
+fn take_front<'a, R: Read>(
     alloc: Global,
-    reader: &mut R,
-    offset: usize,
+    decoder: &mut Decoder<'a, R>,
     scratch: &mut [u8],
 ) -> Result<Front, Error<io::Error>> {
-    let mut decoder = Decoder::at(reader, offset);
     let header = decoder.pull()?;
     let payload = match header {
         Header::Bytes(len) => {
@@ -46,6 +44,29 @@ fn read_front<R: Read>(
         payload,
         end: decoder.offset(),
     })
+}
+
+// Reads a front.
+fn read_front<R: Read>(
+    alloc: Global,
+    reader: &mut R,
+    offset: usize,
+    scratch: &mut [u8],
+) -> Result<Front, Error<io::Error>> {
+    let mut decoder = Decoder::at(reader, offset);
+    take_front(alloc, &mut decoder, scratch)
+}
+
+// Reads a front where so many bytes were read ahead.
+fn read_front_ahead<R: Read>(
+    alloc: Global,
+    reader: &mut R,
+    offset: usize,
+    n: usize,
+) -> Result<Front, Error<io::Error>> {
+    let mut decoder = Decoder::at(reader, offset);
+    decoder.look_ahead(n)?;
+    take_front(alloc, &mut decoder, &mut [0; 2])
 }
 
 // Why a front is refused.
@@ -313,6 +334,245 @@ fn the_end_is_no_cut(rt: HostRuntime) -> Result<(), Fail> {
         if expected.is_ok() {
             assert_eq!(rt; decoder.offset(), bytes.len(), "{text}");
             assert_eq!(rt; decoder.head_len(), bytes.len(), "{text}");
+        }
+    }
+    Ok(())
+}
+
+// How many bytes there are, the offset of the first, how many are to be read ahead, and how many
+// the reader then has left.
+const LEFT: [(usize, usize, usize, usize); 13] = [
+    (0, 0, 4, 0),
+    (3, 0, 0, 3),
+    (3, 0, 1, 2),
+    (3, 0, 3, 0),
+    (3, 0, 4, 0),
+    (300, 0, 255, 45),
+    (300, 0, 256, 44),
+    (300, 0, 257, 44),
+    (300, 0, 300, 44),
+    (300, 0, MOST, 44),
+    (300, MOST - 300, 300, 44),
+    (3, MOST - 2, 3, 1),
+    (3, MOST, 3, 3),
+];
+
+#[test]
+fn bytes_are_read_ahead(rt: HostRuntime) -> Result<(), Fail> {
+    let page = [0; 300];
+    for (size, offset, n, left) in LEFT {
+        let mut reader = page.get(..size).ok_or("longer than a page")?;
+        Decoder::at(&mut reader, offset).look_ahead(n)?;
+        assert_eq!(rt; reader.len(), left, "{n} of {size} at {offset}");
+    }
+    Ok(())
+}
+
+// However much of a front was read ahead, it is the same.
+#[test]
+fn fronts_are_read_behind_what_is_held(rt: HostRuntime) -> Result<(), Fail> {
+    let alloc = rt.alloc();
+    for (text, offset, header, payload) in FRONTS {
+        let bytes = decode_hex(alloc, text)?;
+        let front = Front {
+            header,
+            payload: decode_hex(alloc, payload)?,
+            end: offset.saturating_add(bytes.len()),
+        };
+        for n in 0..16 {
+            let mut reader = bytes.as_slice();
+            let found = read_front_ahead(alloc, &mut reader, offset, n)?;
+            assert_eq!(rt; found, front, "{text} behind {n}");
+            for most in [1, 3] {
+                let mut slow = Source::new(&bytes, most, None);
+                let found = read_front_ahead(alloc, &mut slow, offset, n)?;
+                assert_eq!(rt; found, front, "{text} behind {n} by {most}");
+            }
+        }
+    }
+    Ok(())
+}
+
+// However much was read ahead, the refusal is the same, and what was read ahead is not given back.
+#[test]
+fn faults_are_the_same_behind_what_is_held(rt: HostRuntime) -> Result<(), Fail> {
+    let alloc = rt.alloc();
+    for (text, offset, reason, left) in REFUSED {
+        let bytes = decode_hex(alloc, text)?;
+        for n in 0..12 {
+            let ahead = n.min(bytes.len()).min(MOST - offset);
+            let mut reader = bytes.as_slice();
+            let found = read_front_ahead(alloc, &mut reader, offset, n);
+            let found = found.err().map(reason_of);
+            assert_eq!(rt; found, Some(reason), "{text} behind {n}");
+            assert_eq!(rt;
+                reader.len(),
+                left.min(bytes.len() - ahead),
+                "{text} behind {n}"
+            );
+            let mut slow = Source::new(&bytes, 1, None);
+            let found = read_front_ahead(alloc, &mut slow, offset, n);
+            let found = found.err().map(reason_of);
+            assert_eq!(rt; found, Some(reason), "{text} behind {n} by single bytes");
+        }
+    }
+    Ok(())
+}
+
+// A payload that is longer than what is read ahead at most.
+#[test]
+fn long_payloads_behind_what_is_held(rt: HostRuntime) -> Result<(), Fail> {
+    let alloc = rt.alloc();
+    let mut payload = Vec::new(alloc);
+    for byte in 0..=255 {
+        payload.push(byte)?;
+    }
+    payload.extend_from_slice(&[7; 44])?;
+    let mut bytes = decode_hex(alloc, "59012c")?;
+    bytes.extend_from_slice(&payload)?;
+    for n in [1, 3, 4, 255, 256, 300, 303, 304] {
+        let mut reader = bytes.as_slice();
+        let found = read_front_ahead(alloc, &mut reader, 0, n)?;
+        assert_eq!(rt; found.header, Header::Bytes(Some(300)));
+        assert_eq!(rt; found.payload.as_slice(), payload.as_slice(), "behind {n}");
+        assert_eq!(rt; found.end, 303);
+    }
+    Ok(())
+}
+
+// The bytes of heads and payloads in a row, and two bytes behind them.
+const ROW: &str = "821901004301020362c3bc1818f93c000506";
+
+// Each head of the row, its offset, its length, the payload behind it, and the offset behind both.
+const HEADS: [(Header, usize, usize, &str, usize); 6] = [
+    (Header::Array(Some(2)), 0, 1, "", 1),
+    (Header::Positive(256), 1, 3, "", 4),
+    (Header::Bytes(Some(3)), 4, 1, "010203", 8),
+    (Header::Text(Some(2)), 8, 1, "c3bc", 11),
+    (Header::Positive(24), 11, 2, "", 13),
+    (Header::Float(2), 13, 3, "", 16),
+];
+
+// Reads the row, so many bytes ahead of each head, and the two bytes behind it: each front with the
+// offset and the length of its head, and the offset behind all.
+fn read_row<R: Read>(
+    alloc: Global,
+    reader: &mut R,
+    n: usize,
+    two: &mut [u8; 2],
+) -> Result<(Vec<(Front, usize, usize)>, usize), Fail> {
+    let mut decoder = Decoder::new(reader);
+    let mut fronts = Vec::new(alloc);
+    for _ in HEADS {
+        decoder.look_ahead(n)?;
+        let front = take_front(alloc, &mut decoder, &mut [0; 2])?;
+        fronts.push((front, decoder.last_offset(), decoder.head_len()))?;
+    }
+    decoder.forget();
+    decoder.read_exact(two)?;
+    Ok((fronts, decoder.offset()))
+}
+
+#[test]
+fn offsets_are_the_same_behind_what_is_held(rt: HostRuntime) -> Result<(), Fail> {
+    let alloc = rt.alloc();
+    let bytes = decode_hex(alloc, ROW)?;
+    let mut expected = Vec::new(alloc);
+    for (header, last, len, payload, end) in HEADS {
+        let payload = decode_hex(alloc, payload)?;
+        let front = Front {
+            header,
+            payload,
+            end,
+        };
+        expected.push((front, last, len))?;
+    }
+    for most in [1, 3, 64] {
+        for n in 0..20 {
+            let mut reader = Source::new(&bytes, most, None);
+            let mut two = [0; 2];
+            let (found, end) = read_row(alloc, &mut reader, n, &mut two)?;
+            assert_eq!(rt;
+                found.as_slice(),
+                expected.as_slice(),
+                "{n} ahead by {most}"
+            );
+            assert_eq!(rt; two, [5, 6], "{n} ahead by {most}");
+            assert_eq!(rt; end, 18, "{n} ahead by {most}");
+        }
+    }
+    Ok(())
+}
+
+// While bytes are held nothing is read, and so the fault of the next read is not met.
+#[test]
+fn what_is_held_is_used_up_first(rt: HostRuntime) -> Result<(), Fail> {
+    let kind = ErrorKind::ConnectionReset;
+    let mut reader = Source::new(&[0x01, 0x02, 0x03], 2, Some((1, kind)));
+    let mut decoder = Decoder::new(&mut reader);
+    decoder.look_ahead(2)?;
+    decoder.look_ahead(3)?;
+    assert_eq!(rt; decoder.pull()?, Header::Positive(1));
+    decoder.look_ahead(1)?;
+    assert_eq!(rt; decoder.pull()?, Header::Positive(2));
+    let found = decoder.look_ahead(1);
+    assert_eq!(rt; found.err().map(reason_of), Some(Reason::Io(kind)));
+    decoder.look_ahead(1)?;
+    assert_eq!(rt; decoder.pull()?, Header::Positive(3));
+    assert_eq!(rt; decoder.offset(), 3);
+    Ok(())
+}
+
+// A fault takes nothing, and a head that was pushed back stays.
+#[test]
+fn a_fault_ahead_takes_nothing(rt: HostRuntime) -> Result<(), Fail> {
+    for kind in [ErrorKind::Interrupted, ErrorKind::ConnectionReset] {
+        let mut reader = Source::new(&[0x18, 0x20], 2, Some((0, kind)));
+        let mut decoder = Decoder::at(&mut reader, 4);
+        decoder.push(Header::Tag(5), 3);
+        let found = decoder.look_ahead(2);
+        assert_eq!(rt; found.err().map(reason_of), Some(Reason::Io(kind)));
+        decoder.look_ahead(1)?;
+        assert_eq!(rt; decoder.offset(), 3);
+        assert_eq!(rt; decoder.pull()?, Header::Tag(5));
+        assert_eq!(rt; decoder.last_offset(), 3);
+        assert_eq!(rt; decoder.offset(), 4);
+        assert_eq!(rt; decoder.pull()?, Header::Positive(32));
+        assert_eq!(rt; decoder.offset(), 6);
+    }
+    Ok(())
+}
+
+#[test]
+fn an_error_ahead_is_kept_aside(rt: HostRuntime) -> Result<(), Fail> {
+    let kind = ErrorKind::ConnectionReset;
+    let mut reader = Source::new(&[0x07], 1, Some((0, kind)));
+    let mut kept: Option<io::Error> = None;
+    let mut decoder = Decoder::new(&mut reader);
+    let first = decoder.look_ahead_keeping(1, &mut kept);
+    assert!(rt; matches!(first, Err(Error::Io(()))));
+    assert_eq!(rt; kept.take().map(|e| e.kind()), Some(kind));
+    assert!(rt; decoder.look_ahead_keeping(1, &mut kept).is_ok());
+    assert!(rt; kept.is_none());
+    assert_eq!(rt; decoder.pull()?, Header::Positive(7));
+    Ok(())
+}
+
+// Reads the first head where so many bytes were read ahead.
+fn read_first_ahead<R: Read>(reader: &mut R, n: usize) -> Result<Option<Header>, Error<io::Error>> {
+    let mut decoder = Decoder::new(reader);
+    decoder.look_ahead(n)?;
+    decoder.pull_first()
+}
+
+#[test]
+fn the_end_is_no_cut_behind_what_is_held(rt: HostRuntime) -> Result<(), Fail> {
+    for (text, fault, expected) in FIRSTS {
+        let bytes = decode_hex(rt.alloc(), text)?;
+        for n in 0..4 {
+            let mut reader = Source::new(&bytes, 1, fault);
+            let found = read_first_ahead(&mut reader, n).map_err(reason_of);
+            assert_eq!(rt; found, expected, "{text} behind {n}");
         }
     }
     Ok(())

@@ -1,9 +1,7 @@
-use Rattle.std.proofs.Common.{arith, ◌≡◌, ◌+◌, ◌≤◌, ◌%◌, length}
+use Rattle.std.proofs.Common.{arith, ◌≡◌, ◌%◌, length}
 use Rattle.std.proofs.lemmas.Result.{err_from_is_err_and}
-use Rattle.ciborium_ll.specs.Bytes.{greatest_offset}
 use Rattle.ciborium_ll.specs.Refusal.{argument_length}
 use Rattle.ciborium_ll.proofs.Advancing.{argument-fails, argument-whole, argument-end}
-use Rattle.ciborium_ll.proofs.HeadAnswers.{ill-formed, usable-head, long-head}
 use Rattle.ciborium_ll.proofs.reading.read_argument.Goals as goal
 
 pub returns-in_err-fill-clause-head : goal.returns-in_err-fill-clause-head
@@ -12,28 +10,10 @@ returns-in_err-fill-clause-head g c =
     let len : length c.fill.new.buffer ≡ argument_length (c.args.initial % 32) = omega (arith, c.fill.auto.buffer, c.requires.whole) in
     rw (exit.1, exit.2) (argument-fails _ _ c.args.start _ _ c.args.initial c.fill.new.buffer _ c.requires.behind (omega arith) len c.in_err-fill.ensures.bytes)
 
-pub returns-in_default-clause-head : goal.returns-in_default-clause-head
-returns-in_default-clause-head g c =
-    let taken = c.in_ok-fill.ensures.bytes in
-    let len : length c.fill.new.buffer ≡ argument_length (c.args.initial % 32) = omega (arith, c.fill.auto.buffer, c.requires.whole) in
-    let end = argument-end _ _ c.args.start _ _ c.args.initial c.fill.new.buffer c.requires.behind taken in
-    let room : c.args.start + 1 + argument_length (c.args.initial % 32) ≤ greatest_offset = omega (arith, end, len) in
-    argument-whole _ _ c.args.start _ _ c.args.initial c.fill.new.buffer _ _ taken (ill-formed _ _ _ len room c.in_default.ensures)
-
-pub returns-then-count-payload_size-clause-head : goal.returns-then-count-payload_size-clause-head
-returns-then-count-payload_size-clause-head g c =
-    let taken = c.in_ok-fill.ensures.bytes in
-    let len : length c.fill.new.buffer ≡ argument_length (c.args.initial % 32) = omega (arith, c.fill.auto.buffer, c.requires.whole) in
-    let end = argument-end _ _ c.args.start _ _ c.args.initial c.fill.new.buffer c.requires.behind taken in
-    let room : c.args.start + 1 + argument_length (c.args.initial % 32) ≤ greatest_offset = omega (arith, end, len) in
-    argument-whole _ _ c.args.start _ _ c.args.initial c.fill.new.buffer _ _ taken
-    (long-head _ _ _ _ c.in-Some.ensures len room (omega (arith, end, c.payload_size.ensures, c.if-count-payload_size.true)))
+pub judge_head-requires : goal.judge_head-requires
+judge_head-requires g c =
+    let end = argument-end _ _ c.args.start _ _ c.args.initial c.fill.new.buffer c.requires.behind c.in_ok-fill.ensures.bytes in
+    record { whole = omega (arith, c.fill.auto.buffer, c.requires.whole); between = omega (arith, end) }
 
 pub returns-clause-head : goal.returns-clause-head
-returns-clause-head g c =
-    let taken = c.in_ok-fill.ensures.bytes in
-    let len : length c.fill.new.buffer ≡ argument_length (c.args.initial % 32) = omega (arith, c.fill.auto.buffer, c.requires.whole) in
-    let end = argument-end _ _ c.args.start _ _ c.args.initial c.fill.new.buffer c.requires.behind taken in
-    let room : c.args.start + 1 + argument_length (c.args.initial % 32) ≤ greatest_offset = omega (arith, end, len) in
-    argument-whole _ _ c.args.start _ _ c.args.initial c.fill.new.buffer _ _ taken
-    (usable-head _ _ _ _ c.in-Some.ensures len room (omega (arith, end, c.payload_size.ensures, c.if-count-payload_size.false)))
+returns-clause-head g c = argument-whole _ _ c.args.start _ _ c.args.initial c.fill.new.buffer _ _ c.in_ok-fill.ensures.bytes c.judge_head.ensures

@@ -1,10 +1,11 @@
 use Rattle.std.proofs.Common.{refl, arith}
+use Rattle.std.proofs.lemmas.Grind.{common_steps}
 use Rattle.std.proofs.lemmas.Result.{err_from_is_err_and}
 use Rattle.ciborium_ll.proofs.OpenStrings.{parts-none, parts-more, parts-end, parts-refused, part-head-refused, other-refused, payload-fits, payload-refused}
 use Rattle.ciborium_ll.proofs.strings.append_parts.Goals as goal
 
 pub parts-init : goal.parts-init
-parts-init g c = record { head = refl; good = parts-none _ _ _ _ (omega arith) }
+parts-init g c = record { ahead = c.requires; onward = omega arith; head = refl; good = parts-none _ _ _ _ (omega arith) }
 
 pub returns-in_err-header-clause-bytes : goal.returns-in_err-header-clause-bytes
 returns-in_err-header-clause-bytes g c =
@@ -14,11 +15,13 @@ returns-in_err-header-clause-bytes g c =
 pub returns-in-End-clause-bytes : goal.returns-in-End-clause-bytes
 returns-in-End-clause-bytes g c = parts-end _ _ _ _ _ _ _ _ _ _ c.in-End.ensures c.parts.invariant.good c.in_ok-header.ensures.head
 
-pub append_payload-requires : goal.append_payload-requires
-append_payload-requires g c = payload-fits _ _ _ _ _ _ _ c.in-Definite.ensures c.in_ok-header.ensures.head
+pub append_payload-requires-clause-below : goal.append_payload-requires-clause-below
+append_payload-requires-clause-below g c = payload-fits _ _ _ _ _ _ _ c.in-Definite.ensures c.in_ok-header.ensures.head
 
 pub parts-preserved : goal.parts-preserved
 parts-preserved g c = record {
+  ahead = grind (arith, common_steps);
+  onward = grind (arith, common_steps);
   head = refl;
   good = parts-more _ _ _ _ _ _ _ _ _ _ _ _ _ _ c.in-Definite.ensures c.parts.invariant.good c.in_ok-header.ensures.head c.in_ok-append_payload-in-Definite.ensures.bytes c.in_ok-append_payload-in-Definite.ensures.fits;
 }

@@ -1,8 +1,25 @@
 use Rattle.std.proofs.Common.{rules, arith}
 use Rattle.std.proofs.lemmas.Grind.{common_steps}
 use Rattle.std.proofs.lemmas.Result.{err_from_is_err_and}
-use Rattle.ciborium_ll.proofs.Payloads.{piece-length, piece-size, piece-taken, piece-refused, piece-dropped}
+use Rattle.ciborium_ll.proofs.Payloads.{held-appended, held-dropped, piece-length, piece-size, piece-taken, piece-refused, piece-dropped}
 use Rattle.ciborium_ll.proofs.strings.append_pieces.Goals as goal
+
+pub returns-in_default-clause-bytes : goal.returns-in_default-clause-bytes
+returns-in_default-clause-bytes g c =
+    let (count, items) = c.in_default.ensures.none in
+    held-dropped (g.R.Read.remaining c.args.reader.now) c.args.ahead.now c.args.count.now c.append_held.new.count c.args.n c.args.out.now.items c.append_held.new.out.items count items
+
+pub loop-left-init : goal.loop-left-init
+loop-left-init g c =
+    let (less, count) = c.in-Some.ensures.some in
+    let base = c.requires.ahead in
+    record {
+      ahead = (base.0, base.1, omega (arith, base, count));
+      onward = omega (arith, count);
+      room = c.requires.room;
+      below = omega (arith, count, less, c.requires.below);
+      taken = held-appended (g.R.Read.remaining c.args.reader.now) c.args.ahead.now c.args.count.now c.append_held.new.count c.args.n c.in-Some.held c.args.out.now.items c.append_held.new.out.items less (c.in-Some.ensures.bytes (g.R.Read.remaining c.args.reader.now));
+    }
 
 pub returns-in_err-fill-clause-bytes : goal.returns-in_err-fill-clause-bytes
 returns-in_err-fill-clause-bytes g c =
@@ -21,6 +38,8 @@ loop-left-preserved g c =
     let size = piece-size _ _ _ _ c.min-size.ensures c.fill.auto.buffer in
     let end = c.in_ok-fill.ensures.bytes.2 in
     record {
+      ahead = grind (arith, common_steps);
+      onward = grind (arith, common_steps);
       room = grind (arith, common_steps);
       below = grind (arith, common_steps, end, size.1);
       taken = piece-taken _ _ _ _ _ _ _ _ _ _ _ _ _ size.0 size.1 (search rules) c.loop-left.invariant.taken c.in_ok-fill.ensures.bytes;

@@ -1,4 +1,4 @@
-use Rattle.std.proofs.Common.{◌≡◌, None, refl, subst}
+use Rattle.std.proofs.Common.{None, subst}
 use Rattle.ciborium_ll.specs.Decoding.{IsAheadBy}
 use Rattle.ciborium_ll.proofs.FirstHeads.{first-empty, pulls-first}
 use Rattle.ciborium_ll.proofs.decoder.Decoder.pull_first_keeping.Goals as goal
