@@ -4,11 +4,12 @@ use Rattle.ciborium_ll.specs.declared.header.Header.{Header}
 use Rattle.ciborium_ll.specs.declared.header.Header.TheVariants as header
 use Rattle.ciborium_ll.specs.declared.decoder.Decoder.{Decoder}
 use Rattle.ciborium_ll.specs.Bytes.{AreBytes}
-use Rattle.ciborium_ll.specs.Decoding.{IsAhead, IsAheadBy, IsUnread, offset_of}
+use Rattle.ciborium_ll.specs.Decoding.{IsAhead, IsAheadBy, IsUnread, offset_of, left_of}
 use Rattle.ciborium_ll.specs.Head.{IsHead}
 use Rattle.ciborium_ll.specs.Header.{SpellsHeader}
 use Rattle.ciborium_ll.specs.Item as item
 use Rattle.ciborium_ll.specs.Refusal.{Refusal, semantic, TooLarge, recursion_limit_exceeded, HeadRefuses, IsUsable, HasHead}
+use Rattle.ciborium_ll.proofs.HeldBytes.{unread-left}
 use Rattle.ciborium_ll.proofs.OneHeader.{one_header_at_front}
 use Rattle.ciborium_value.specs.declared.tree.Value.{Value}
 use Rattle.ciborium_value.specs.declared.stack.Opening.TheVariants as opening
@@ -46,9 +47,9 @@ no-break-tag remaining d t xs p a = no-break xs p (header.Tag t) a.0 a.1 tt (fro
 behind : {S : Type 0} (remaining : S → Option (List ℕ)) (d : Decoder S) (t : ℕ) (xs : List ℕ) (p : ℕ) → d.pushed ≡ None → (a : IsPulled remaining d (header.Tag t) xs p) → IsAhead remaining d a.1 (p + length a.0)
 behind remaining d t xs p pushed a = ahead-at remaining d (p + length a.0) a.1 pushed a.6
 
-pub tag-refused : {S E : Type 0} (remaining : S → Option (List ℕ)) (d e : Decoder S) (t l : ℕ) (xs : List ℕ) (p : ℕ) (x : Error E) → d.pushed ≡ None → PullsSo remaining d e (Err x) → IsPulled remaining d (header.Tag t) xs p → RefusesNoBreak (remaining e.reader.now) x xs p l
+pub tag-refused : {S E : Type 0} (remaining : S → Option (List ℕ)) (d e : Decoder S) (t l : ℕ) (xs : List ℕ) (p : ℕ) (x : Error E) → d.pushed ≡ None → PullsSo remaining d e (Err x) → IsPulled remaining d (header.Tag t) xs p → RefusesNoBreak (left_of remaining e) x xs p l
 tag-refused remaining d e t l xs p x pushed pull a =
-    refused-map (remaining e.reader.now) x (λ r. HeadRefuses a.1 (p + length a.0) r) (λ r. Refuses xs p (Some l) r × ¬ IsBreakAt xs p)
+    refused-map (left_of remaining e) x (λ r. HeadRefuses a.1 (p + length a.0) r) (λ r. Refuses xs p (Some l) r × ¬ IsBreakAt xs p)
     (λ r f. (Refuses.tag_no_head t (length a.0) a.1 a.3 (stands remaining d t xs p a) f, no-break-tag remaining d t xs p a)) (pull a.1 (p + length a.0) (behind remaining d t xs p pushed a))
 
 -- where another header stands, the tag does not fold
@@ -71,7 +72,7 @@ tag-opened E remaining d e f t l at xs p k pushed pull other some here stays bac
     let place : at ≡ r = here ∙ offset-at remaining d r a.1 ahead in
     let less : l ≡ suc (l - 1) = omega (arith, some) in
     let tag : IsInTag xs p t a.1 r = record { size = length a.0; usable = a.3; head = stands remaining d t xs p a; next_usable = b.3; folds_not = folds-not t k b.0 a.1 b.1 other b.2 b.4; at = refl } in
-    let is : IsAheadBy remaining f a.1 r (Some (k, at)) = (place, b.0, b.1, b.2, b.3, b.4, (stays.1 ∙ b.6.0), (ap remaining stays.0 ∙ b.6.1)) in
+    let is : IsAheadBy remaining f a.1 r (Some (k, at)) = (place, b.0, b.1, b.2, b.3, b.4, (stays.2 ∙ b.6.0), (unread-left remaining e f stays ∙ b.6.1)) in
     (a.1, r, (l - 1, less, tag), subst (λ o. IsAheadBy remaining f a.1 r o) (sym back) is)
 
 -- ---- a tag that folds
@@ -130,11 +131,11 @@ fold-refuses t l n at xs p h r i s e here u w big short (inl (early, is)) =
 fold-refuses t l n at xs p h r i s e here u w big short (inr c) = too-large-refuses t l n at xs p h r i s c.0 c.1 e here u w big short c.2 c.3 c.5 c.4 c.6
 
 pub tag-unfolded : {S E : Type 0} (remaining : S → Option (List ℕ)) (d e f : Decoder S) (t l n at : ℕ) (xs : List ℕ) (p : ℕ) (k : Header) (x : Error E) → d.pushed ≡ None → PullsSo {E = E} remaining d e (Ok k) → IsFolding t k (Some n) →
-    FoldsSo {E = E} remaining e f t n at (Err x) → at ≡ p → IsPulled remaining d (header.Tag t) xs p → RefusesNoBreak (remaining f.reader.now) x xs p l
+    FoldsSo {E = E} remaining e f t n at (Err x) → at ≡ p → IsPulled remaining d (header.Tag t) xs p → RefusesNoBreak (left_of remaining f) x xs p l
 tag-unfolded remaining d e f t l n at xs p k x pushed pull folding read here a =
     let b = pull a.1 (p + length a.0) (behind remaining d t xs p pushed a) in
     let u : Front xs p (header.Tag t) a.0 a.1 = front-of remaining d (header.Tag t) (header.Tag t) xs p refl a in
     let w : Front a.1 (p + length a.0) (header.Bytes (Some n)) b.0 b.1 = front-of remaining e k (header.Bytes (Some n)) a.1 (p + length a.0) folding.0 b in
-    refused-map (remaining f.reader.now) x (FoldRefuses t n at b.1) (λ r. Refuses xs p (Some l) r × ¬ IsBreakAt xs p)
+    refused-map (left_of remaining f) x (FoldRefuses t n at b.1) (λ r. Refuses xs p (Some l) r × ¬ IsBreakAt xs p)
     (λ r c. (fold-refuses t l n at xs p a.0 a.1 b.0 b.1 r here u w folding.1 folding.2 c, no-break-tag remaining d t xs p a))
     (read b.1 (p + length a.0 + length b.0) b.6 (string-room 2 n (p + length a.0) a.1 b.0 b.1 (inl refl) w.spelled w.usable w.split))

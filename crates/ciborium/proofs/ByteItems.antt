@@ -1,11 +1,14 @@
 -- Bytes that are read as the numbers of a sequence.
-use Rattle.std.proofs.Common.{◌≡◌, ◌≢◌, ℕ, Bool, false, List, [], ◌∷◌, ◌++◌, Option, Some, None, Result, Ok, Err, IfOk, OnOk, refl, sym, ap, ◌∙◌, subst, append_assoc, append-nil}
+use Rattle.std.proofs.Common.{◌≡◌, ◌≢◌, ℕ, ◌+◌, ◌<◌, ◌≤◌, Bool, false, List, [], ◌∷◌, ◌++◌, Option, Some, None, Result, Ok, Err, IfOk, OnOk, refl, sym, ap, ◌∙◌, subst, append_assoc, append-nil}
 use Rattle.ciborium_ll.specs.declared.header.Header.{Header}
 use Rattle.ciborium_ll.specs.declared.header.Header.TheVariants as header
 use Rattle.ciborium_ll.specs.Item as items
 use Rattle.ciborium_ll.specs.Item.{Item, unsigned, negative, bytes, text, array, tag, simple, float}
 use Rattle.ciborium_ll.specs.StringRefusal.{of_bytes as string_of_bytes}
 use Rattle.ciborium_ll.proofs.UniqueSpelling.{one_at_front}
+use Rattle.ciborium_ll.specs.Decoding.{HasSameReader, held_count}
+use Rattle.ciborium_ll.proofs.HeldBytes.{same-name}
+use Rattle.ciborium.proofs.Due.{due-past, held-past}
 use Rattle.ciborium_value.specs.Ahead.{Rest, Form, after, parts, past, inside}
 use Rattle.ciborium_value.specs.Nesting.{Limit}
 use Rattle.ciborium_value.specs.Places.{sequence}
@@ -14,7 +17,7 @@ use Rattle.ciborium_value.specs.Taken.{Outcome, Taken, gives, refuses, nests, de
 use Rattle.ciborium_value.specs.declared.kind.Kind.TheVariants as kinds
 use Rattle.ciborium.specs.declared.de.byte_source.ByteSource.{ByteSource}
 use Rattle.ciborium.specs.declared.de.byte_source.ByteSeq.{ByteSeq}
-use Rattle.ciborium.specs.ByteSources.{IsUnread, StandsBefore, SeqStands, Owes, OpensItems, ReadsRest, RefusesRest}
+use Rattle.ciborium.specs.ByteSources.{IsUnread, StandsBefore, SeqStands, Owes, OpensItems, ReadsRest, RefusesRest, due_after, pending_count, weight_left}
 use Rattle.ciborium.specs.ItemReads.{Reads, Denies}
 use Rattle.ciborium.specs.Skips.{under, AreSkipped, IsBare, TakesBare}
 use Rattle.ciborium.specs.StringContents.{string_item, TakesContent}
@@ -28,17 +31,17 @@ use Rattle.ciborium.proofs.StringPayloads.{string-behind}
 -- ---- from the front of unread bytes to where a source stands
 
 module _ {S : Type 0} (remaining : S → Option (List ℕ)) where
-  pub takes-read : {A : Type 0} (old new : ByteSource S) (taken : Taken A) (v : A) → new.decoder.reader.ghost_name ≡ old.decoder.reader.ghost_name → new.levels ≡ old.levels → new.pending ≡ None →
+  pub takes-read : {A : Type 0} (old new : ByteSource S) (taken : Taken A) (v : A) → HasSameReader old.decoder new.decoder → new.levels ≡ old.levels → new.pending ≡ None → weight_left new < weight_left old →
       Reads (IsUnread remaining) old new (Some old.levels) taken v → Takes (StandsBefore remaining) old new taken v
-  takes-read old new taken v name levels none h l i f (b, u, (s, r, sp, rest, e), is, ahead) =
+  takes-read old new taken v kept levels none fewer h l i f (b, u, (s, r, sp, rest, e), is, ahead, few) =
       let (j, t, z, sq, e', give, un) = h b u in
       let same = one_at_front s t r z i j sp sq (sym e ∙ e') in (
         ap (λ k. taken k i) is ∙ ap (taken (Some old.levels)) same.2 ∙ give,
-        (z, un, subst (λ n. Fits n z (past f)) (sym name) (fits-past old.decoder.reader.ghost_name z f (subst (λ y. IsRest old.decoder.reader.ghost_name y f) same.1 rest)), is ∙ ap Some (sym levels), none-past new.pending none f),
+        (z, un, subst (λ n. Fits n z (past f)) (sym (same-name old.decoder new.decoder kept)) (fits-past old.decoder.reader.ghost_name z f (subst (λ y. IsRest old.decoder.reader.ghost_name y f) same.1 rest)), is ∙ ap Some (sym levels), none-past new.pending none f, subst (λ n. held_count new.decoder + pending_count new.pending ≤ n) (sym (due-past f)) (held-past old new kept (due_after f) none fewer few)),
       )
 
   pub refuses-denied : {A : Type 0} (old : ByteSource S) (taken : Taken A) (fault : Fault) → Denies (IsUnread remaining) old (Some old.levels) taken fault → Refuses (StandsBefore remaining) old taken fault
-  refuses-denied old taken fault h l i f (b, u, (s, r, sp, rest, e), is, ahead) = subst (λ k. IsFaultOf fault (taken k i)) (sym is) (h b s r i u sp e)
+  refuses-denied old taken fault h l i f (b, u, (s, r, sp, rest, e), is, ahead, few) = subst (λ k. IsFaultOf fault (taken k i)) (sym is) (h b s r i u sp e)
 
   pub took-read : {A : Type 0} (old new : ByteSource S) (l : Limit) (taken : Taken A) (v : A) → Reads (IsUnread remaining) old new l taken v → TakesItem (IsUnread remaining) old new
   took-read old new l taken v h b u = let (j, t, z, sq, e, give, un) = h b u in (z, un, (j, t, sq, e))
@@ -171,17 +174,17 @@ module _ {S : Type 0} (remaining : S → Option (List ℕ)) (ahead : ByteSource 
 pub bytes-given : (m : ℕ) → m ≢ 0 → (ts : List ℕ) (i : Item) (xs : List Item) → HasItems i xs → taken_bytes (Some m) (under ts i) ≡ take_each (taken_byte (deeper (Some m))) xs
 bytes-given m some ts i xs (o, js, is, all) = ap (bare_bytes (Some m)) (untagged-under ts i ∙ ap untagged is) ∙ within-is m _ some ∙ ap (take_each (taken_byte (deeper (Some m)))) all
 
-module _ {S : Type 0} (remaining : S → Option (List ℕ)) (old mid : ByteSource S) (q : ByteSeq) (name : mid.decoder.reader.ghost_name ≡ old.decoder.reader.ghost_name) (levels : q.levels ≡ old.levels) (none : mid.pending ≡ None)
+module _ {S : Type 0} (remaining : S → Option (List ℕ)) (old mid : ByteSource S) (q : ByteSeq) (name : HasSameReader old.decoder mid.decoder) (levels : q.levels ≡ old.levels) (none : mid.pending ≡ None) (fewer : weight_left mid < weight_left old)
     (opens : OpensItems remaining old mid taken_bytes (λ l is. take_each (taken_byte l) is) q) where
   pub array-takes : (new : ByteSource S) (v : List ℕ) → ReadsRest remaining mid new q (λ l is. take_each (taken_byte l) is) v → Takes (StandsBefore remaining) old new taken_bytes v
   array-takes new v reads l i f st =
-      let (form, is, give, stands, holds) = items-stand remaining old mid q name levels none taken_bytes (λ k its. take_each (taken_byte k) its) opens l i f st in
+      let (form, is, give, stands, holds) = items-stand remaining old mid q name levels none fewer taken_bytes (λ k its. take_each (taken_byte k) its) opens l i f st in
       let (e, past) = reads l form is f stands holds in
       (give ∙ e, past)
 
   pub array-refuses : (fault : Fault) → RefusesRest remaining mid q (λ l is. take_each (taken_byte l) is) fault → Refuses (StandsBefore remaining) old taken_bytes fault
   array-refuses fault denied l i f st =
-      let (form, is, give, stands, holds) = items-stand remaining old mid q name levels none taken_bytes (λ k its. take_each (taken_byte k) its) opens l i f st in
+      let (form, is, give, stands, holds) = items-stand remaining old mid q name levels none fewer taken_bytes (λ k its. take_each (taken_byte k) its) opens l i f st in
       subst (λ o. IsFaultOf fault o) (sym give) (denied l form is f stands holds)
 
   pub array-took : (new : ByteSource S) → TakesTo (IsUnread remaining) mid new (λ c z. (b : List ℕ) → Owes q sequence b c → HasItem b z) → TakesItem (IsUnread remaining) old new

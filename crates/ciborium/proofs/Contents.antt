@@ -5,7 +5,7 @@ use Rattle.ciborium_ll.specs.declared.header.Header.{Header}
 use Rattle.ciborium_ll.specs.declared.header.Header.TheVariants as header
 use Rattle.ciborium_ll.specs.declared.decoder.Decoder.{Decoder}
 use Rattle.ciborium_ll.specs.Bytes.{greatest_offset}
-use Rattle.ciborium_ll.specs.Decoding.{Takes}
+use Rattle.ciborium_ll.specs.Decoding.{Takes, left_of}
 use Rattle.ciborium_ll.specs.Head.{IsHead, information, argument_bytes, initial_byte, open_byte, break_byte}
 use Rattle.ciborium_ll.specs.Header.{SpellsHeader, IsCounted}
 use Rattle.ciborium_ll.specs.Item as item
@@ -98,10 +98,10 @@ got-string E kind remaining d e l len xs p h v pushed is read a =
     (c.2, q, subst (λ t. ReadsItem l xs p t c.2 q) (sym c.4) (string-reads E kind len l d.last xs p a.0 a.1 c.0 c.1 c.2 u c.3 c.5 c.7), ahead-at remaining e q c.2 pushed c.6)
 
 pub string-fault : {S E : Type 0} (kind : StringKind) (remaining : S → Option (List ℕ)) (d e : Decoder S) (l : ℕ) (len : Option ℕ) (xs : List ℕ) (p : ℕ) (h : Header) (x : Error E) → h ≡ header_of kind len →
-    ((ys : List ℕ) (q : ℕ) → IsAt remaining d ys q → IsRefusedBy (remaining e.reader.now) x (λ r. ContentRefuses kind len d.last ys q r)) → IsPulled remaining d h xs p → RefusesNoBreak (remaining e.reader.now) x xs p l
+    ((ys : List ℕ) (q : ℕ) → IsAt remaining d ys q → IsRefusedBy (left_of remaining e) x (λ r. ContentRefuses kind len d.last ys q r)) → IsPulled remaining d h xs p → RefusesNoBreak (left_of remaining e) x xs p l
 string-fault kind remaining d e l len xs p h x is read a =
     let u : Front xs p (header_of kind len) a.0 a.1 = front-of remaining d h (header_of kind len) xs p is a in
-    refused-map (remaining e.reader.now) x (λ r. ContentRefuses kind len d.last a.1 (p + length a.0) r) (λ r. Refuses xs p (Some l) r × ¬ IsBreakAt xs p)
+    refused-map (left_of remaining e) x (λ r. ContentRefuses kind len d.last a.1 (p + length a.0) r) (λ r. Refuses xs p (Some l) r × ¬ IsBreakAt xs p)
     (λ r f. (content-refuses kind len l d.last xs p a.0 a.1 r a.5 u f, no-break xs p (header_of kind len) a.0 a.1 (no-break-kind kind len) u))
     (read a.1 (p + length a.0) a.6)
 
@@ -110,7 +110,7 @@ pub string-read : (E : Type 0) {S : Type 0} (kind : StringKind) (remaining : S �
     Takes remaining d e (λ b. (added : List ℕ) × (new ≡ old ++ added) × IsStringTaken {E = E} kind len d.last b d.count (Ok tt) added) → IsAt remaining d xs p →
     IsStringRead {S = S} {E = E} kind remaining e len d.last xs p (Ok v)
 string-read E kind remaining d e len xs p old new v none tree (x, taken, count, (added, is, s), bytes) at =
-    let k = rest-of (remaining d.reader.now) (remaining e.reader.now) xs x at.1 taken in
+    let k = rest-of (left_of remaining d) (left_of remaining e) xs x at.1 taken in
     let less = e.fits in
     let start : d.count ≡ p = at.0 in (
       x,

@@ -1,5 +1,5 @@
 -- Containers that are entered behind skipped tags.
-use Rattle.std.proofs.Common.{◌≡◌, ◌≢◌, ℕ, zero, suc, ◌-◌, Bool, true, false, List, [], ◌∷◌, ◌++◌, map, Option, Some, None, refl, sym, ap, ◌∙◌, subst, append_assoc, append-nil, arith}
+use Rattle.std.proofs.Common.{◌≡◌, OnOk, IfOk, Err, Ok, Result, ◌<◌, ◌+◌, ◌≢◌, ℕ, zero, suc, ◌-◌, Bool, true, false, List, [], ◌∷◌, ◌++◌, map, Option, Some, None, refl, sym, ap, ◌∙◌, subst, append_assoc, append-nil, arith}
 use Rattle.std.specs.Vec.Iter.{into_iter_items}
 use Rattle.ciborium_ll.specs.declared.header.Header.{Header}
 use Rattle.ciborium_ll.specs.declared.header.Header.TheVariants as header
@@ -10,7 +10,11 @@ use Rattle.ciborium_ll.specs.Item.{Item, Items, Pairs, unsigned, negative, bytes
 use Rattle.ciborium_ll.specs.Spells.{Spells}
 use Rattle.ciborium_ll.specs.StringRefusal.{of_bytes as bytes_kind}
 use Rattle.ciborium_ll.proofs.UniqueSpelling.{one_at_front}
-use Rattle.ciborium_value.specs.Ahead.{Form, parts, after, item, inside, of_bytes}
+use Rattle.ciborium_ll.specs.Decoding.{HasSameReader}
+use Rattle.ciborium_ll.proofs.HeldBytes.{same-name}
+use Rattle.ciborium_value.specs.Sources.{Enters, EntersMap}
+use Rattle.ciborium.proofs.Due.{held-past}
+use Rattle.ciborium_value.specs.Ahead.{Form, parts, after, item, inside, of_bytes, pairs}
 use Rattle.ciborium_value.specs.Nesting.{Limit}
 use Rattle.ciborium_value.specs.Places.{sequence, dictionary}
 use Rattle.ciborium_value.specs.Taken.{Outcome, Taken, gives, refuses, nests, untagged, deeper, within_level, unpack, unpack_pairs, bare_seq, bare_pairs, taken_seq, taken_pairs}
@@ -19,7 +23,7 @@ use Rattle.ciborium.specs.declared.de.byte_source.ByteSource.{ByteSource}
 use Rattle.ciborium.specs.declared.de.byte_source.ByteSeq.{ByteSeq}
 use Rattle.ciborium.specs.declared.de.byte_source.Left.{Left}
 use Rattle.ciborium.specs.declared.de.byte_source.Left.TheVariants as left
-use Rattle.ciborium.specs.ByteSources.{IsUnread, IsUnreadBy, StandsBefore, SeqStands, HoldsItems, HoldsPairs, Owes, LeftOwes, OwesParts, OpensItems, OpensPairs, HasBytes, left_of}
+use Rattle.ciborium.specs.ByteSources.{IsUnread, IsUnreadBy, StandsBefore, SeqStands, HoldsItems, HoldsPairs, Owes, LeftOwes, OwesParts, OpensItems, OpensPairs, HasBytes, parts_left, due_after, weight_left, seq_left}
 use Rattle.ciborium.specs.Skips.{under, AreSkipped, IsBare, TakesBare, Opens}
 use Rattle.ciborium.specs.StringContents.{TakesContent, is_open}
 use Rattle.ciborium.specs.Unread.{AreSpelled, AreLeft, SpellsPair, IsRest, ending, form_of, HasCount}
@@ -113,19 +117,19 @@ module _ {S X A : Type 0} (SpellsPart : List ℕ → X → Type 0) (head_with : 
             ),
       )
 
-items-owed : (q : ByteSeq) (count : Option ℕ) → q.left ≡ left_of count → (b u : List ℕ) → OwesParts Spells count b u → Owes q sequence b u
+items-owed : (q : ByteSeq) (count : Option ℕ) → q.left ≡ parts_left count → (b u : List ℕ) → OwesParts Spells count b u → Owes q sequence b u
 items-owed q (Some n) e b u h = subst (λ k. LeftOwes k sequence b u) (sym e) h
 items-owed q None e b u h = subst (λ k. LeftOwes k sequence b u) (sym e) h
 
-pairs-owed : (q : ByteSeq) (count : Option ℕ) → q.left ≡ left_of count → (b u : List ℕ) → OwesParts SpellsPair count b u → Owes q dictionary b u
+pairs-owed : (q : ByteSeq) (count : Option ℕ) → q.left ≡ parts_left count → (b u : List ℕ) → OwesParts SpellsPair count b u → Owes q dictionary b u
 pairs-owed q (Some n) e b u h = subst (λ k. LeftOwes k dictionary b u) (sym e) h
 pairs-owed q None e b u h = subst (λ k. LeftOwes k dictionary b u) (sym e) h
 
-items-held : (q : ByteSeq) (count : Option ℕ) → q.left ≡ left_of count → (xs : List Item) → HasCount count xs → HoldsItems q.left (form_of count) xs
+items-held : (q : ByteSeq) (count : Option ℕ) → q.left ≡ parts_left count → (xs : List Item) → HasCount count xs → HoldsItems q.left (form_of count) xs
 items-held q (Some n) e xs h = subst (λ k. HoldsItems k (form_of (Some n)) xs) (sym e) (refl, h)
 items-held q None e xs h = subst (λ k. HoldsItems k (form_of None) xs) (sym e) (refl, h)
 
-pairs-held : (q : ByteSeq) (count : Option ℕ) → q.left ≡ left_of count → (xs : List (Item × Item)) → HasCount count xs → HoldsPairs q.left (form_of count) xs
+pairs-held : (q : ByteSeq) (count : Option ℕ) → q.left ≡ parts_left count → (xs : List (Item × Item)) → HasCount count xs → HoldsPairs q.left (form_of count) xs
 pairs-held q (Some n) e xs h = subst (λ k. HoldsPairs k (form_of (Some n)) xs) (sym e) (refl, h)
 pairs-held q None e xs h = subst (λ k. HoldsPairs k (form_of None) xs) (sym e) (refl, h)
 
@@ -133,7 +137,7 @@ pairs-held q None e xs h = subst (λ k. HoldsPairs k (form_of None) xs) (sym e) 
 
 -- a container was entered, and its level was taken
 abbrev pub IsEntered : {S : Type 0} → ByteSource S → ByteSource S → Option ℕ → ByteSeq → Type 0
-IsEntered mid new count q = (new.decoder ≡ mid.decoder) × (new.pending ≡ mid.pending) × (mid.levels ≢ 0) × (new.levels ≡ mid.levels - 1) × (q.left ≡ left_of count)
+IsEntered mid new count q = (new.decoder ≡ mid.decoder) × (new.pending ≡ mid.pending) × (mid.levels ≢ 0) × (new.levels ≡ mid.levels - 1) × (q.left ≡ parts_left count)
 
 pub same-unread : {S : Type 0} (remaining : S → Option (List ℕ)) (mid new : ByteSource S) → new.decoder ≡ mid.decoder → new.pending ≡ mid.pending → (y : List ℕ) → IsUnread remaining mid y → IsUnread remaining new y
 same-unread remaining mid new e f y u = subst (λ d. IsUnreadBy remaining d new.pending y) (sym e) (subst (λ o. IsUnreadBy remaining mid.decoder o y) (sym f) u)
@@ -254,16 +258,41 @@ map-other l h bare p ts i all e = ap (bare_pairs l) (untagged-under ts i) ∙ ot
 
 -- ---- where the source then stands
 
-module _ {S : Type 0} (remaining : S → Option (List ℕ)) (old new : ByteSource S) (q : ByteSeq) (name : new.decoder.reader.ghost_name ≡ old.decoder.reader.ghost_name) (levels : q.levels ≡ old.levels) (none : new.pending ≡ None) where
+module _ {S : Type 0} (remaining : S → Option (List ℕ)) (old new : ByteSource S) (q : ByteSeq) (kept : HasSameReader old.decoder new.decoder) (levels : q.levels ≡ old.levels) (none : new.pending ≡ None) (fewer : weight_left new < weight_left old) where
   -- the items of what was entered, which f takes, and where the source stands
   pub items-stand : {A : Type 0} (taken : Taken A) (f : Limit → List Item → Outcome A) → OpensItems remaining old new taken f q → (l : Limit) (i : Item) (r : _) → StandsBefore remaining old l (item i r) →
       (form : Form) × (is : List Item) × (taken l i ≡ f (inside form l) is) × StandsBefore remaining new (inside form l) (after (parts form is r)) × SeqStands q l (parts form is r)
-  items-stand taken f h l i r (b, u, (s, t, sp, rest, e), is, ahead) =
+  items-stand taken f h l i r (b, u, (s, t, sp, rest, e), is, ahead, few) =
       let (w, un, owes, opens) = h b u in
       let (form, its, c, give, lv, stand, split, hold) = opens i s t sp e in (
         form,
         its,
         ap (λ k. taken k i) is ∙ give ∙ ap (λ k. f (inside form k) its) (sym is),
-        (w, un, (c, t, stand, subst (λ n. IsRest n t r) (sym name) rest, split), ap (inside form) is ∙ lv, none),
+        (w, un, (c, t, stand, subst (λ n. IsRest n t r) (sym (same-name old.decoder new.decoder kept)) rest, split), ap (inside form) is ∙ lv, none, (let less = held-past old new kept (due_after r) none fewer few in omega (arith, less))),
         (is ∙ ap Some (sym levels), hold),
       )
+
+  -- the pairs, in the same way
+  pub pairs-stand : {A : Type 0} (taken : Taken A) (f : Limit → List (Item × Item) → Outcome A) → OpensPairs remaining old new taken f q → (l : Limit) (i : Item) (r : _) → StandsBefore remaining old l (item i r) →
+      (form : Form) × (is : List (Item × Item)) × (taken l i ≡ f (inside form l) is) × StandsBefore remaining new (inside form l) (after (pairs form is r)) × SeqStands q l (pairs form is r)
+  pairs-stand taken f h l i r (b, u, (s, t, sp, rest, e), is, ahead, few) =
+      let (w, un, owes, opens) = h b u in
+      let (form, its, c, give, lv, stand, split, hold) = opens i s t sp e in (
+        form,
+        its,
+        ap (λ k. taken k i) is ∙ give ∙ ap (λ k. f (inside form k) its) (sym is),
+        (w, un, (c, t, stand, subst (λ n. IsRest n t r) (sym (same-name old.decoder new.decoder kept)) rest, split), ap (inside form) is ∙ lv, none, (let less = held-past old new kept (due_after r) none fewer few in omega (arith, less))),
+        (is ∙ ap Some (sym levels), hold),
+      )
+
+-- what is answered where a sequence was entered, and where a map was
+module _ {S : Type 0} (remaining : S → Option (List ℕ)) (old new : ByteSource S) (kept : HasSameReader old.decoder new.decoder) where
+  pub enters : (E : Type 0) (r : Result ByteSeq E) → IfOk r (λ q. q.levels ≡ old.levels) → OnOk r (new.pending ≡ None) → IfOk r (λ q. weight_left new + seq_left q < weight_left old) →
+      IfOk r (OpensItems remaining old new taken_seq (λ l is. gives (l, is))) → IfOk r (λ q. Enters (StandsBefore remaining) SeqStands old new q)
+  enters E (Ok q) levels none fewer opens = items-stand remaining old new q kept levels none (omega (arith, fewer)) taken_seq (λ l is. gives (l, is)) opens
+  enters E (Err e) levels none fewer opens = tt
+
+  pub enters-map : (E : Type 0) (r : Result ByteSeq E) → IfOk r (λ q. q.levels ≡ old.levels) → OnOk r (new.pending ≡ None) → IfOk r (λ q. weight_left new + seq_left q < weight_left old) →
+      IfOk r (OpensPairs remaining old new taken_pairs (λ l ps. gives (l, ps))) → IfOk r (λ q. EntersMap (StandsBefore remaining) SeqStands old new q)
+  enters-map E (Ok q) levels none fewer opens = pairs-stand remaining old new q kept levels none (omega (arith, fewer)) taken_pairs (λ l ps. gives (l, ps)) opens
+  enters-map E (Err e) levels none fewer opens = tt

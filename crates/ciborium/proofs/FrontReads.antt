@@ -7,7 +7,7 @@ use Rattle.ciborium_ll.specs.declared.header.Error.{Error as LlError}
 use Rattle.ciborium_ll.specs.declared.header.Error.TheVariants as ll
 use Rattle.ciborium_ll.specs.declared.decoder.Decoder.{Decoder}
 use Rattle.ciborium_ll.specs.Bytes.{greatest_offset}
-use Rattle.ciborium_ll.specs.Decoding.{IsAhead, IsAheadBy, PullsTo, Takes}
+use Rattle.ciborium_ll.specs.Decoding.{IsAhead, IsAheadBy, PullsTo, Takes, left_of}
 use Rattle.ciborium_ll.specs.Head.{initial_byte}
 use Rattle.ciborium_ll.specs.Header.{SpellsHeader, announced_length}
 use Rattle.ciborium_ll.specs.Reading as reading
@@ -65,7 +65,7 @@ head-outside left ll.Memory b x y p h s k r = tt
 
 -- ---- heads that are counted
 
-pub ahead-unpushed : {S : Type 0} (remaining : S → Option (List ℕ)) (d : Decoder S) (b : List ℕ) → d.pushed ≡ None → remaining d.reader.now ≡ Some b → IsAhead remaining d b d.count
+pub ahead-unpushed : {S : Type 0} (remaining : S → Option (List ℕ)) (d : Decoder S) (b : List ℕ) → d.pushed ≡ None → left_of remaining d ≡ Some b → IsAhead remaining d b d.count
 ahead-unpushed remaining d b none e = subst (λ o. IsAheadBy remaining d b d.count o) (sym none) (refl, e)
 
 -- the head that was pending is counted as it was

@@ -5,7 +5,7 @@ use Rattle.ciborium_ll.specs.declared.header.Header.{Header}
 use Rattle.ciborium_ll.specs.declared.header.Header.TheVariants as header
 use Rattle.ciborium_ll.specs.declared.decoder.Decoder.{Decoder}
 use Rattle.ciborium_ll.specs.Bytes.{greatest_offset}
-use Rattle.ciborium_ll.specs.Decoding.{IsAhead, IsAheadBy, offset_of, next_offset}
+use Rattle.ciborium_ll.specs.Decoding.{IsAhead, IsAheadBy, offset_of, next_offset, left_of}
 use Rattle.ciborium_ll.specs.Head.{initial_byte, break_byte}
 use Rattle.ciborium_ll.specs.Header.{SpellsHeader, announced_length}
 use Rattle.ciborium_ll.specs.Item as item
@@ -229,7 +229,7 @@ array-part remaining d l xs p h count (Ok (Opened f)) pushed is a s =
     (a.1, q, (l - 1, less, subst (λ o. IsInside o (l - 1) xs p a.1 q) (sym s.2) (count, array-inside count s.1 (l - 1) xs p a.0 a.1 s.3 u)), ahead-at remaining d q a.1 pushed a.6)
 array-part remaining d l xs p h count (Ok Ended) pushed is a s = absurd s
 array-part remaining d l xs p h count (Err e) pushed is a s =
-    subst (λ z. RefusesNoBreak (remaining d.reader.now) z xs p l) (sym s.1)
+    subst (λ z. RefusesNoBreak (left_of remaining d) z xs p l) (sym s.1)
     (at-head remaining d l xs p h (header.Array count) recursion_limit_exceeded is tt
     (λ b r u. subst (λ n. Refuses xs p (Some n) recursion_limit_exceeded) (sym s.0) (Refuses.no_level (length b) r (array_due count) u.usable (array-opens count xs p b r u))) a)
 
@@ -245,6 +245,6 @@ map-part remaining d l xs p h count (Ok (Opened f)) pushed is a s =
     (a.1, q, (l - 1, less, subst (λ o. IsInside o (l - 1) xs p a.1 q) (sym s.2) (count, map-inside count s.1 (l - 1) xs p a.0 a.1 s.3 u)), ahead-at remaining d q a.1 pushed a.6)
 map-part remaining d l xs p h count (Ok Ended) pushed is a s = absurd s
 map-part remaining d l xs p h count (Err e) pushed is a s =
-    subst (λ z. RefusesNoBreak (remaining d.reader.now) z xs p l) (sym s.1)
+    subst (λ z. RefusesNoBreak (left_of remaining d) z xs p l) (sym s.1)
     (at-head remaining d l xs p h (header.Map count) recursion_limit_exceeded is tt
     (λ b r u. subst (λ n. Refuses xs p (Some n) recursion_limit_exceeded) (sym s.0) (Refuses.no_level (length b) r (map_due count) u.usable (map-opens count xs p b r u))) a)

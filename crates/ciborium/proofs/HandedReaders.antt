@@ -1,8 +1,9 @@
 -- From a source that was begun on a lent reader to the reader.
-use Rattle.std.proofs.Common.{◌≡◌, ℕ, List, [], ◌++◌, Option, Some, None, Result, Ok, Err, IfOk, IfErr, IfSome, refl, sym, ap, ◌∙◌, subst, append-nil, arith}
+use Rattle.std.proofs.Common.{◌≡◌, ℕ, ◌+◌, ◌≤◌, List, [], ◌++◌, Option, Some, None, Result, Ok, Err, IfOk, IfErr, IfSome, refl, sym, ap, ◌∙◌, subst, append-nil, arith}
 use Rattle.std.specs.Io.KnownBytes.{Consumes}
 use Rattle.ciborium_ll.specs.declared.decoder.Decoder.{Decoder}
-use Rattle.ciborium_ll.specs.Decoding.{HasBegun, IsAheadBy, with_left}
+use Rattle.ciborium_ll.specs.Decoding.{HasBegun, IsAheadBy, with_left, left_of, held_count}
+use Rattle.ciborium_ll.proofs.HeldBytes.{begun-left, begun-rest, counted-left, same-name}
 use Rattle.ciborium_value.specs.Ahead.{bottom}
 use Rattle.ciborium_value.specs.Readings.{Reading}
 use Rattle.ciborium_value.specs.Refuses.{IsReadAs}
@@ -12,34 +13,34 @@ use Rattle.ciborium_value.specs.Tree.{Tree}
 use Rattle.ciborium.specs.declared.de.byte_source.ByteSource.{ByteSource}
 use Rattle.ciborium.specs.declared.de.error.Error.{Error}
 use Rattle.ciborium.specs.Answers.{IsTreeRead, IsTakenAs, TakesBytes}
-use Rattle.ciborium.specs.ByteSources.{IsUnread, IsUnreadBy, ReadsValue, StandsBefore, cause_of}
+use Rattle.ciborium.specs.ByteSources.{IsUnread, IsUnreadBy, ReadsValue, StandsBefore, cause_of, pending_count}
 use Rattle.ciborium.specs.NextItems.{IsReadFrom}
 use Rattle.ciborium.specs.TypedReads.{IsFaultAhead, TakesGiving}
 use Rattle.ciborium.proofs.Outcomes.{left-at}
 
-module _ {S A : Type 0} (remaining : S → Option (List ℕ)) (old : ByteSource S) (taken : Taken A) (b : List ℕ) (front : IsUnread remaining old b) where
+module _ {S A : Type 0} (remaining : S → Option (List ℕ)) (old : ByteSource S) (taken : Taken A) (b : List ℕ) (front : IsUnread remaining old b) (few : held_count old.decoder + pending_count old.pending ≤ 1) where
   -- just the item at the front was taken, and the reader that was lent has what follows it
   pub handed-ok : (new : ByteSource S) (v : A) (x : S) → (old.decoder.reader.ghost_name ≡ new.decoder.reader.ghost_name → x ≡ new.decoder.reader.now) → TakesItem (IsUnread remaining) old new → Takes (StandsBefore remaining) old new taken v →
       TakesGiving (Some old.levels) taken b v (remaining x)
   handed-ok new v x back took takes =
       let (z, un, (i, s, sp, e)) = took b front in
-      let (give, (z', un', fits, lv, none)) = takes (Some old.levels) i (bottom old.decoder.reader.ghost_name z) (b, front, (s, z, sp, (refl, refl), e), refl, tt) in
-      let left : remaining new.decoder.reader.now ≡ Some z' = subst (λ o. IsUnreadBy remaining new.decoder o z') none un' in
-      (i, s, z, sp, e, give, ap remaining (back fits.1) ∙ left ∙ ap Some fits.0)
+      let (give, (z', un', fits, lv, none, due)) = takes (Some old.levels) i (bottom old.decoder.reader.ghost_name z) (b, front, (s, z, sp, (refl, refl), e), refl, tt, omega (arith, few)) in
+      let left : left_of remaining new.decoder ≡ Some z' = subst (λ o. IsUnreadBy remaining new.decoder o z') none un' in
+      (i, s, z, sp, e, give, ap remaining (back fits.1) ∙ sym (counted-left remaining new.decoder (omega (arith, due))) ∙ left ∙ ap Some fits.0)
 
   pub handed-refused : (fault : Fault) → Refuses (StandsBefore remaining) old taken fault → IsFaultAhead (Some old.levels) taken b fault
-  handed-refused fault h i s z sp e = h (Some old.levels) i (bottom old.decoder.reader.ghost_name z) (b, front, (s, z, sp, (refl, refl), e), refl, tt)
+  handed-refused fault h i s z sp e = h (Some old.levels) i (bottom old.decoder.reader.ghost_name z) (b, front, (s, z, sp, (refl, refl), e), refl, tt, omega (arith, few))
 
 -- the same, of what was read from the source
-pub handed-given : {S T A : Type 0} (E : Type 0) (remaining : S → Option (List ℕ)) (reading : Reading T A) (old new : ByteSource S) (b : List ℕ) → IsUnread remaining old b → (x : S) → (old.decoder.reader.ghost_name ≡ new.decoder.reader.ghost_name → x ≡ new.decoder.reader.now) →
+pub handed-given : {S T A : Type 0} (E : Type 0) (remaining : S → Option (List ℕ)) (reading : Reading T A) (old new : ByteSource S) (b : List ℕ) → IsUnread remaining old b → held_count old.decoder + pending_count old.pending ≤ 1 → (x : S) → (old.decoder.reader.ghost_name ≡ new.decoder.reader.ghost_name → x ≡ new.decoder.reader.now) →
     (r : Result T (Error E)) → IsReadFrom {E = E} remaining reading old new r → IfOk (read_as reading.content r) (λ v. TakesGiving (Some old.levels) reading.taken b v (remaining x))
-handed-given E remaining reading old new b front x back (Ok v) h = handed-ok remaining old reading.taken b front new (reading.content v) x back h.took h.ok
-handed-given E remaining reading old new b front x back (Err e) h = tt
+handed-given E remaining reading old new b front few x back (Ok v) h = handed-ok remaining old reading.taken b front few new (reading.content v) x back h.took h.ok
+handed-given E remaining reading old new b front few x back (Err e) h = tt
 
-pub handed-denied : {S T A : Type 0} (E : Type 0) (remaining : S → Option (List ℕ)) (reading : Reading T A) (old new : ByteSource S) (b : List ℕ) → IsUnread remaining old b →
+pub handed-denied : {S T A : Type 0} (E : Type 0) (remaining : S → Option (List ℕ)) (reading : Reading T A) (old new : ByteSource S) (b : List ℕ) → IsUnread remaining old b → held_count old.decoder + pending_count old.pending ≤ 1 →
     (r : Result T (Error E)) → IsReadFrom {E = E} remaining reading old new r → IfErr (read_as reading.content r) (λ e. IsFaultAhead (Some old.levels) reading.taken b (cause_of e))
-handed-denied E remaining reading old new b front (Ok v) h = tt
-handed-denied E remaining reading old new b front (Err e) h = handed-refused remaining old reading.taken b front (cause_of e) h.refused
+handed-denied E remaining reading old new b front few (Ok v) h = tt
+handed-denied E remaining reading old new b front few (Err e) h = handed-refused remaining old reading.taken b front few (cause_of e) h.refused
 
 -- ---- where reading is one call of `value`
 
@@ -61,9 +62,9 @@ handed-whole E {S} remaining old new lent x r begins none back reads =
     let (s, taken, count, h, bytes) = reads.1 in
     let zero : old.decoder.count ≡ 0 = begins.count in
     let less = new.decoder.fits in
-    let after : remaining x ≡ remaining new.decoder.reader.now = ap remaining (back (sym reads.0)) in (
+    let after : remaining x ≡ left_of remaining new.decoder = ap remaining (back (sym (same-name old.decoder new.decoder reads.0))) ∙ sym (begun-rest remaining old.decoder new.decoder lent 0 begins reads.0) in (
       s,
-      subst (λ o. Consumes (remaining lent) o s) (sym after) (subst (λ y. Consumes (remaining y) (remaining new.decoder.reader.now) s) begins.reader taken),
+      subst (λ o. Consumes (remaining lent) o s) (sym after) (subst (λ y. Consumes y (left_of remaining new.decoder) s) (begun-left remaining old.decoder lent 0 begins) taken),
       omega (arith, count, zero, less),
       taken-tree E new.decoder old.levels s r new.unpushed (λ c. h c (s ++ c) 0 (subst (λ o. IsAheadBy Some (with_left old.decoder (s ++ c)) (s ++ c) 0 o) (sym none) (begins.count, refl))),
       bytes,

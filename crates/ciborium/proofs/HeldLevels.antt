@@ -1,15 +1,18 @@
 -- Tags that are entered, and the levels of tags and variants.
-use Rattle.std.proofs.Common.{◌≡◌, ◌≢◌, ℕ, List, ◌++◌, Option, Some, None, Result, Ok, Err, IfOk, OnOk, refl, sym, ap, ◌∙◌, subst, append_assoc, arith}
+use Rattle.std.proofs.Common.{◌≡◌, ◌≤◌, ◌+◌, ◌≢◌, ℕ, List, ◌++◌, Option, Some, None, Result, Ok, Err, IfOk, OnOk, refl, sym, ap, ◌∙◌, subst, append_assoc, arith}
 use Rattle.ciborium_ll.specs.declared.header.Header.{Header}
 use Rattle.ciborium_ll.specs.declared.header.Header.TheVariants as header
 use Rattle.ciborium_ll.specs.Header.{SpellsHeader}
 use Rattle.ciborium_ll.specs.Item as items
 use Rattle.ciborium_ll.specs.Item.{Item, unsigned, negative, bytes, text, array, tag, simple, float}
+use Rattle.ciborium_ll.specs.Decoding.{HasSameReader, held_count, source_of}
+use Rattle.ciborium_ll.proofs.HeldBytes.{same-name}
+use Rattle.ciborium.proofs.Due.{due-past, held-level, held-same}
 use Rattle.ciborium_value.specs.Sources.{Completes, Holds, GivesBack, TakesTo}
 use Rattle.ciborium_value.specs.Taken.{Taken, gives, deeper, within_level, outer_tag, taken_outer_tag}
 use Rattle.ciborium.specs.declared.de.byte_source.ByteSource.{ByteSource}
 use Rattle.ciborium.specs.declared.de.byte_source.ByteLevel.{ByteLevel}
-use Rattle.ciborium.specs.ByteSources.{IsUnread, StandsBefore, LevelStands, TakesLevel}
+use Rattle.ciborium.specs.ByteSources.{IsUnread, StandsBefore, LevelStands, TakesLevel, due_after, pending_count, weight_left}
 use Rattle.ciborium.specs.ItemReads.{TakesHead, Denies}
 use Rattle.ciborium.specs.Skips.{OpensLevel}
 use Rattle.ciborium.specs.Unread.{IsRest}
@@ -25,20 +28,20 @@ module _ {S : Type 0} (remaining : S → Option (List ℕ)) (old new : ByteSourc
       let (w, un, leads) = h b u in
       (w, un, λ z (i, s, sp, e). let (j, t, sq, f) = leads.outward i s z sp e in (j, t, sq, f))
 
-  pub holds-opened : {A : Type 0} (taken : Taken (A × Item)) (v : A) (level : ByteLevel) → new.decoder.reader.ghost_name ≡ old.decoder.reader.ghost_name → TakesLevel old new level → OpensLevel (IsUnread remaining) old new (Some old.levels) taken v →
+  pub holds-opened : {A : Type 0} (taken : Taken (A × Item)) (v : A) (level : ByteLevel) → HasSameReader old.decoder new.decoder → weight_left new ≤ weight_left old → TakesLevel old new level → OpensLevel (IsUnread remaining) old new (Some old.levels) taken v →
       Holds (StandsBefore remaining) LevelStands old new taken v level
-  holds-opened taken v level name (back, less) h l i f (b, u, (s, r, sp, rest, e), is, ahead) =
+  holds-opened taken v level kept fewer (back, less) h l i f (b, u, (s, r, sp, rest, e), is, ahead, few) =
       let (w, un, leads) = h b u in
       let (j, t, give, sq, split) = leads.inward i s r sp e in (
         j,
         ap (λ k. taken k i) is ∙ give,
-        (w, un, (t, r, sq, subst (λ n. IsRest n r f) (sym name) rest, split), ap deeper is ∙ deeper-is old.levels (λ z. absurd (omega (arith, z, less))) ∙ ap Some (omega (arith, less)), tt),
+        (w, un, (t, r, sq, subst (λ n. IsRest n r f) (sym (same-name old.decoder new.decoder kept)) rest, split), ap deeper is ∙ deeper-is old.levels (λ z. absurd (omega (arith, z, less))) ∙ ap Some (omega (arith, less)), tt, held-level old new kept (due_after f) fewer few),
         is ∙ ap Some (sym back),
       )
 
   pub gives-back : (level : ByteLevel) → new.decoder ≡ old.decoder → new.pending ≡ old.pending → new.levels ≡ level.levels → ((b : List ℕ) → IsUnread remaining old b → IsUnread remaining new b) → GivesBack (StandsBefore remaining) LevelStands old new level
-  gives-back level same pending levels keeps l f (b, u, fits, is, none) outside =
-      (b, keeps b u, fits-past new.decoder.reader.ghost_name b f (subst (λ d. IsRest d.reader.ghost_name b f) (sym same) fits), outside ∙ ap Some (sym levels), none-past new.pending (pending ∙ none) f)
+  gives-back level same pending levels keeps l f (b, u, fits, is, none, few) outside =
+      (b, keeps b u, fits-past new.decoder.reader.ghost_name b f (subst (λ d. IsRest d.reader.ghost_name b f) (sym same) fits), outside ∙ ap Some (sym levels), none-past new.pending (pending ∙ none) f, subst (λ n. held_count new.decoder + pending_count new.pending ≤ n) (sym (due-past f)) (held-same old new (ap source_of same) (due_after f) (ap (λ d. d.count) same) pending few))
 
 -- ---- tags
 

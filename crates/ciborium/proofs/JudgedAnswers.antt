@@ -1,7 +1,7 @@
 -- The answers of one turn of the deterministic reader.
 use Rattle.std.proofs.Common.{◌≡◌, ℕ, ◌-◌, ◌≤◌, List, [], ◌∷◌, length, Option, Some, None, Result, Ok, Err, IfOk, MatchOption, refl, sym, ◌∙◌, subst, arith, inl, inr}
 use Rattle.ciborium_ll.specs.declared.decoder.Decoder.{Decoder}
-use Rattle.ciborium_ll.specs.Decoding.{offset_of}
+use Rattle.ciborium_ll.specs.Decoding.{offset_of, left_of}
 use Rattle.ciborium_ll.specs.Refusal.{semantic, Break}
 use Rattle.ciborium_value.specs.declared.stack.Opening.{Opening}
 use Rattle.ciborium_value.specs.declared.tree.Value.{Value}
@@ -35,9 +35,9 @@ answer-here remaining d e os l xs p x answers s =
     subst (λ m. IsPartStrictlyRead remaining e m s.1 s.2 x) left (answers s.1 s.2 s.4)
 
 pub turn-refused : {S E : Type 0} (remaining : S → Option (List ℕ)) (d e : Decoder S) (os : List Open) (l : ℕ) (xs : List ℕ) (p : ℕ) (x : Error E) → Answers remaining d e (l - length os) (Err x) → IsReadingStrictly remaining d os l xs p →
-    IsRefusedBy (remaining e.reader.now) x (DeterministicallyRefuses xs p l)
+    IsRefusedBy (left_of remaining e) x (DeterministicallyRefuses xs p l)
 turn-refused remaining d e os l xs p x answers s =
-    refused-map (remaining e.reader.now) x (DeterministicallyRefuses s.1 s.2 s.0) (DeterministicallyRefuses xs p l) (λ r f. refused-around l xs p os s.0 s.1 s.2 r s.3 f) (answer-here remaining d e os l xs p (Err x) answers s)
+    refused-map (left_of remaining e) x (DeterministicallyRefuses s.1 s.2 s.0) (DeterministicallyRefuses xs p l) (λ r f. refused-around l xs p os s.0 s.1 s.2 r s.3 f) (answer-here remaining d e os l xs p (Err x) answers s)
 
 -- a value was placed, and its key judged
 turned : {S E : Type 0} (remaining : S → Option (List ℕ)) (e : Decoder S) (os after : List Open) (l : ℕ) (xs : List ℕ) (p : ℕ) (v : Tree) (zs : List ℕ) (r end : ℕ) (x : Result (Option Value) (Error E)) → end ≡ r →
@@ -46,9 +46,9 @@ turned remaining e os after l xs p v zs r end (Ok None) same lands ahead (is, or
     let k = kept l xs p after zs r (subst (λ (w : Placed). Lands w l xs p zs r) (sym is) lands) order in
     (k.0, zs, r, k.1, ahead)
 turned remaining e os after l xs p v zs r end (Ok (Some w)) same lands ahead is = (zs, r, subst (λ (u : Placed). Lands u l xs p zs r) (sym is) lands, ahead.0)
-turned remaining e os after l xs p v zs r end (Err x) same lands ahead (inl memory) = subst (λ f. IsRefusedBy (remaining e.reader.now) f (DeterministicallyRefuses xs p l)) (sym memory) tt
+turned remaining e os after l xs p v zs r end (Err x) same lands ahead (inl memory) = subst (λ f. IsRefusedBy (left_of remaining e) f (DeterministicallyRefuses xs p l)) (sym memory) tt
 turned remaining e os after l xs p v zs r end (Err x) same lands ahead (inr (is, (at, order, error))) =
-    subst (λ f. IsRefusedBy (remaining e.reader.now) f (DeterministicallyRefuses xs p l)) (sym error)
+    subst (λ f. IsRefusedBy (left_of remaining e) f (DeterministicallyRefuses xs p l)) (sym error)
     (disordered l xs p after zs end at (subst (λ n. LandsIn after l xs p zs n) (sym same) (subst (λ (w : Placed). Lands w l xs p zs r) (sym is) lands)) order)
 
 pub turn-whole : {S E : Type 0} (remaining : S → Option (List ℕ)) (d e : Decoder S) (os after : List Open) (l : ℕ) (xs : List ℕ) (p : ℕ) (v : Value) (end : ℕ) (x : Result (Option Value) (Error E)) → Answers {E = E} remaining d e (l - length os) (Ok (Whole v)) →

@@ -16,6 +16,7 @@ use Rattle.ciborium.specs.DeterministicReads.{head_fault, long_fault, counted_fa
 use Rattle.ciborium.specs.DeterministicRefusals.{DeterministicallyRefuses, HasShortHead}
 use Rattle.ciborium.specs.Errors.{IsRefusedBy}
 use Rattle.ciborium.specs.Reads.{IsPulled}
+use Rattle.ciborium_ll.specs.Decoding.{left_of}
 use Rattle.ciborium.proofs.Fronts.{Front, front-of}
 
 pub head-argument : (h : List ℕ) (m n : ℕ) → IsHead h m n → IsArgument n
@@ -115,9 +116,9 @@ of-kind E F before after offset kind P h = h
 
 -- the head that was pulled is wrong
 pub fault-refuses : (E : Type 0) {S : Type 0} (remaining : S → Option (List ℕ)) (d : Decoder S) (h : Header) (l p offset : ℕ) (xs : List ℕ) (kind : Kind) → head_fault h d.head_len ≡ Some kind → d.count ≡ p + d.head_len → offset ≡ p →
-    IsPulled remaining d h xs p → IsRefusedBy {E = E} (remaining d.reader.now) (Semantic (Some offset) kind) (DeterministicallyRefuses xs p l)
+    IsPulled remaining d h xs p → IsRefusedBy {E = E} (left_of remaining d) (Semantic (Some offset) kind) (DeterministicallyRefuses xs p l)
 fault-refuses E remaining d h l p offset xs kind wrong size here a =
     let count = a.6.0 in
     let len : length a.0 ≡ d.head_len = omega (arith, size, count) in
-    subst (λ q. IsRefusedBy {E = E} (remaining d.reader.now) (Semantic (Some q) kind) (DeterministicallyRefuses xs p l)) (sym here)
-    (of-kind (Unit {0}) E None (remaining d.reader.now) (Some p) kind (DeterministicallyRefuses xs p l) (head-refuses l p xs a.0 a.1 d.head_len kind a.3 a.4 len h a.2 wrong))
+    subst (λ q. IsRefusedBy {E = E} (left_of remaining d) (Semantic (Some q) kind) (DeterministicallyRefuses xs p l)) (sym here)
+    (of-kind (Unit {0}) E None (left_of remaining d) (Some p) kind (DeterministicallyRefuses xs p l) (head-refuses l p xs a.0 a.1 d.head_len kind a.3 a.4 len h a.2 wrong))

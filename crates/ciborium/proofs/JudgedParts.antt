@@ -35,6 +35,7 @@ use Rattle.ciborium.proofs.Contents.{header_of, string-room}
 use Rattle.ciborium.proofs.Fronts.{Front, front-of, front-fits}
 use Rattle.ciborium.proofs.Pulled.{refused-map}
 use Rattle.ciborium.proofs.JudgedHeads.{short-front}
+use Rattle.ciborium_ll.specs.Decoding.{left_of}
 use Rattle.ciborium.proofs.JudgedLeaves.{Got, got-leaf, measured-at}
 
 -- ---- strings
@@ -89,12 +90,12 @@ module _ {S : Type 0} (kind : StringKind) (remaining : S → Option (List ℕ)) 
       (c.2, q, subst (λ t. ReadsStrictly l xs p t c.2 q) (sym c.4) (taken-reads E kind l n d.last xs p (p + length a.0) a.1 c.0 c.1 c.2 (short-string kind remaining d h n p xs is right size a) c.3 c.5 c.7), measured-at remaining e q c.2 pushed c.6)
 
   pub string-fault : (E : Type 0) (len : Option ℕ) (x : Error E) → h ≡ header_of kind len →
-      ((ys : List ℕ) (q : ℕ) → IsAt remaining d ys q → IsRefusedBy (remaining e.reader.now) x (λ r. ContentRefuses kind len d.last ys q r)) → IsPulled remaining d h xs p →
-      IsRefusedBy (remaining e.reader.now) x (DeterministicallyRefuses xs p l)
+      ((ys : List ℕ) (q : ℕ) → IsAt remaining d ys q → IsRefusedBy (left_of remaining e) x (λ r. ContentRefuses kind len d.last ys q r)) → IsPulled remaining d h xs p →
+      IsRefusedBy (left_of remaining e) x (DeterministicallyRefuses xs p l)
   string-fault E None x is read a = absurd (never-open kind d h is right)
   string-fault E (Some n) x is read a =
       let short = short-string kind remaining d h n p xs is right size a in
-      refused-map (remaining e.reader.now) x (λ r. ContentRefuses kind (Some n) d.last a.1 (p + length a.0) r) (DeterministicallyRefuses xs p l) (λ r f. refuses r short f) (read a.1 (p + length a.0) a.6)
+      refused-map (left_of remaining e) x (λ r. ContentRefuses kind (Some n) d.last a.1 (p + length a.0) r) (DeterministicallyRefuses xs p l) (λ r f. refuses r short f) (read a.1 (p + length a.0) a.6)
     where
       spelled : (k : StringKind) → SpellsHeader a.0 (header_of k (Some n)) → IsHead a.0 (major_of k) n
       spelled of_bytes s = s
@@ -164,7 +165,7 @@ module _ {S : Type 0} (remaining : S → Option (List ℕ)) (d : Decoder S) (l :
       by (Some k) same left = opened-at f (opened.array [] (Some k)) of_array n lt same (λ m r q t. subst (λ j. HasParts of_array j m xs p [] r q) (omega (arith, left)) t) a (short-array n is a)
   array-part E (Some n) (Ok Ended) is a s = absurd s
   array-part E (Some n) (Err e) is a s =
-      subst (λ z. IsRefusedBy (remaining d.reader.now) z (DeterministicallyRefuses xs p l)) (sym s.1) (no-level of_array n s.0 a (short-array n is a))
+      subst (λ z. IsRefusedBy (left_of remaining d) z (DeterministicallyRefuses xs p l)) (sym s.1) (no-level of_array n s.0 a (short-array n is a))
 
   pub map-part : (E : Type 0) (count : Option ℕ) (x : Result Part (Error E)) → h ≡ header.Map count → IsPulled remaining d h xs p → IsMapBegun count l x → IsPartStrictlyRead remaining d l xs p x
   map-part E None x is a s = absurd (no-open-map is)
@@ -179,7 +180,7 @@ module _ {S : Type 0} (remaining : S → Option (List ℕ)) (d : Decoder S) (l :
       by (Some k) same left = opened-at f (opened.map [] (Some k) None) of_map n lt same (λ m r q t. subst (λ j. HasParts of_map j m xs p [] r q) (omega (arith, left)) t) a (short-map n is a)
   map-part E (Some n) (Ok Ended) is a s = absurd s
   map-part E (Some n) (Err e) is a s =
-      subst (λ z. IsRefusedBy (remaining d.reader.now) z (DeterministicallyRefuses xs p l)) (sym s.1) (no-level of_map n s.0 a (short-map n is a))
+      subst (λ z. IsRefusedBy (left_of remaining d) z (DeterministicallyRefuses xs p l)) (sym s.1) (no-level of_map n s.0 a (short-map n is a))
 
 -- ---- refusals of one head
 

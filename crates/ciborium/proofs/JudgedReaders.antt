@@ -3,10 +3,11 @@ use Rattle.std.proofs.Common.{◌≡◌, ℕ, ◌+◌, ◌≤◌, List, [], ◌+
 use Rattle.std.specs.Io.KnownBytes.{Consumes}
 use Rattle.ciborium_ll.specs.declared.decoder.Decoder.{Decoder}
 use Rattle.ciborium_ll.specs.Bytes.{AreBytes, greatest_offset}
-use Rattle.ciborium_ll.specs.Decoding.{HasBegun, TakesBeforeAny, with_left}
+use Rattle.ciborium_ll.specs.Decoding.{HasBegun, TakesBeforeAny, with_left, left_of, HasSameReader}
 use Rattle.ciborium_ll.specs.Refusal as refusal
 use Rattle.ciborium_ll.specs.Refusal.{Refusal}
 use Rattle.ciborium_ll.specs.Spells.{Spells}
+use Rattle.ciborium_ll.proofs.HeldBytes.{begun-left, begun-rest}
 use Rattle.ciborium_ll.proofs.Unread.{rest-of}
 use Rattle.ciborium_value.specs.declared.tree.Value.{Value}
 use Rattle.ciborium_value.specs.Counts.{node_count, payload_size}
@@ -37,12 +38,12 @@ abbrev pub ReadSo : {E : Type 0} → ℕ → Decoder (List ℕ) → Decoder (Lis
 ReadSo {E} l d e x = (xs : List ℕ) (p : ℕ) → IsMeasuredAhead Some d xs p → IsStrictlyRead {S = List ℕ} {E = E} Some e l xs p x
 
 -- what was taken of a reader that was lent
-pub taken-strictly : (E : Type 0) {S : Type 0} (remaining : S → Option (List ℕ)) (a b : Decoder S) (lent back : S) (l : ℕ) (x : Result Value (Error E)) → HasBegun a lent 0 → OnOk x (b.pushed ≡ None) →
+pub taken-strictly : (E : Type 0) {S : Type 0} (remaining : S → Option (List ℕ)) (a b : Decoder S) (lent back : S) (l : ℕ) (x : Result Value (Error E)) → HasBegun a lent 0 → HasSameReader a b → OnOk x (b.pushed ≡ None) →
     back ≡ b.reader.now → TakesBeforeAny remaining a b (λ d e. ReadSo {E = E} l d e x) → TakesBytesStrictly {E = E} (remaining lent) l (remaining back) (read_as tree_of x)
-taken-strictly E {S} remaining a b lent back l x begins rests given (s, taken, count, h, bytes) =
+taken-strictly E {S} remaining a b lent back l x begins same rests given (s, taken, count, h, bytes) =
     let zero : a.count ≡ 0 = begins.count in
     let less = b.fits in
-    (s, subst (λ r. Consumes (remaining lent) (remaining r) s) (sym given) (subst (λ r. Consumes (remaining r) (remaining b.reader.now) s) begins.reader taken), omega (arith, count, zero, less), found x rests (λ c. h c (s ++ c) 0 (measured-at Some (with_left a (s ++ c)) 0 (s ++ c) begins.pushed (begins.count, refl))), bytes)
+    (s, subst (λ r. Consumes (remaining lent) r s) (begun-rest remaining a b lent 0 begins same ∙ ap remaining (sym given)) (subst (λ r. Consumes r (left_of remaining b) s) (begun-left remaining a lent 0 begins) taken), omega (arith, count, zero, less), found x rests (λ c. h c (s ++ c) 0 (measured-at Some (with_left a (s ++ c)) 0 (s ++ c) begins.pushed (begins.count, refl))), bytes)
   where
     found : (x : Result Value (Error E)) → OnOk x (b.pushed ≡ None) → ((c : List ℕ) → IsStrictlyRead {S = List ℕ} {E = E} Some (with_left b c) l (s ++ c) 0 x) → IsStrictlyTakenAs {E = E} s l (read_as tree_of x)
     found (Ok v) rests f =

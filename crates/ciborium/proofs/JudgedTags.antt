@@ -4,11 +4,12 @@ use Rattle.ciborium_ll.specs.declared.header.Header.{Header}
 use Rattle.ciborium_ll.specs.declared.header.Header.TheVariants as header
 use Rattle.ciborium_ll.specs.declared.decoder.Decoder.{Decoder}
 use Rattle.ciborium_ll.specs.Bytes.{AreBytes, greatest_offset}
-use Rattle.ciborium_ll.specs.Decoding.{IsAhead, IsAheadBy, IsUnread, offset_of}
+use Rattle.ciborium_ll.specs.Decoding.{IsAhead, IsAheadBy, IsUnread, offset_of, left_of}
 use Rattle.ciborium_ll.specs.Head.{shortest_head}
 use Rattle.ciborium_ll.specs.Refusal.{Refusal, semantic, recursion_limit_exceeded, HeadRefuses, IsUsable}
 use Rattle.ciborium_ll.specs.Refusal as refusal
 use Rattle.ciborium_ll.specs.StringRefusal.{PayloadRefuses}
+use Rattle.ciborium_ll.proofs.HeldBytes.{unread-left}
 use Rattle.ciborium_value.specs.declared.kind.Kind.{Kind}
 use Rattle.ciborium_value.specs.declared.stack.Opening.TheVariants as opening
 use Rattle.ciborium_value.specs.declared.tree.Value.{Value}
@@ -53,9 +54,9 @@ module _ {S : Type 0} (remaining : S → Option (List ℕ)) (d : Decoder S) (t l
   ahead = ahead-at remaining d q zs pushed at
 
   -- the next head is refused
-  pub tag-refused : (E : Type 0) (e : Decoder S) (x : Error E) → PullsSo remaining d e (Err x) → IsRefusedBy (remaining e.reader.now) x (DeterministicallyRefuses xs p l)
+  pub tag-refused : (E : Type 0) (e : Decoder S) (x : Error E) → PullsSo remaining d e (Err x) → IsRefusedBy (left_of remaining e) x (DeterministicallyRefuses xs p l)
   tag-refused E e x pull =
-      refused-map (remaining e.reader.now) x (HeadRefuses zs q) (DeterministicallyRefuses xs p l) (λ r f. DeterministicallyRefuses.tag_no_head t zs q head f) (pull zs q ahead)
+      refused-map (left_of remaining e) x (HeadRefuses zs q) (DeterministicallyRefuses xs p l) (λ r f. DeterministicallyRefuses.tag_no_head t zs q head f) (pull zs q ahead)
 
   pub tag-no-level : (E : Type 0) (e : Decoder S) (k : Header) → PullsSo {E = E} remaining d e (Ok k) → IsFolding t k None → l ≡ 0 → DeterministicallyRefuses xs p l recursion_limit_exceeded
   tag-no-level E e k pull other none =
@@ -69,9 +70,9 @@ module _ {S : Type 0} (remaining : S → Option (List ℕ)) (d : Decoder S) (t l
       let b = pull zs q ahead in
       let place : here ≡ q = same ∙ offset-at remaining d q zs ahead in
       let less : l ≡ suc (l - 1) = omega (arith, some) in
-      let is : IsAheadBy remaining f zs q (Some (k, here)) = (place, b.0, b.1, b.2, b.3, b.4, (stays.1 ∙ b.6.0), (ap remaining stays.0 ∙ b.6.1)) in
+      let is : IsAheadBy remaining f zs q (Some (k, here)) = (place, b.0, b.1, b.2, b.3, b.4, (stays.2 ∙ b.6.0), (unread-left remaining e f stays ∙ b.6.1)) in
       let sized = size (unpushed d pushed) in
-      let count : f.count ≡ here + f.head_len = (let c = stays.1 in omega (arith, c, same, kept, sized)) in (
+      let count : f.count ≡ here + f.head_len = (let c = stays.2 in omega (arith, c, same, kept, sized)) in (
         l - 1,
         zs,
         q,
@@ -90,7 +91,7 @@ module _ {S : Type 0} (remaining : S → Option (List ℕ)) (d : Decoder S) (t l
 
   -- its head is longer than it has to be
   pub tag-long : (E : Type 0) (e : Decoder S) (k : Header) (n here : ℕ) (kind : Kind) → PullsSo {E = E} remaining d e (Ok k) → IsFolding t k (Some n) → head_fault k e.head_len ≡ Some kind →
-      (IsMeasured d → e.count ≡ offset_of d + e.head_len) → here ≡ offset_of d → IsRefusedBy {E = E} (remaining e.reader.now) (Semantic (Some here) kind) (DeterministicallyRefuses xs p l)
+      (IsMeasured d → e.count ≡ offset_of d + e.head_len) → here ≡ offset_of d → IsRefusedBy {E = E} (left_of remaining e) (Semantic (Some here) kind) (DeterministicallyRefuses xs p l)
   tag-long E e k n here kind pull folding wrong size same =
       let b = pull zs q ahead in
       let w : Front zs q (header.Bytes (Some n)) b.0 b.1 = front-of remaining e k (header.Bytes (Some n)) zs q folding.0 b in
@@ -99,8 +100,8 @@ module _ {S : Type 0} (remaining : S → Option (List ℕ)) (d : Decoder S) (t l
       let count = b.6.0 in
       let len : length b.0 ≡ e.head_len = omega (arith, sized, count, same, place) in
       let long = long-head 2 n e.head_len kind b.0 w.spelled len (sym (ap (λ g. head_fault g e.head_len) folding.0) ∙ wrong) in
-      subst (λ i. IsRefusedBy {E = E} (remaining e.reader.now) (Semantic (Some i) kind) (DeterministicallyRefuses xs p l)) (sym place)
-      (subst (λ j. IsRefusedBy {E = E} (remaining e.reader.now) (Semantic (Some q) j) (DeterministicallyRefuses xs p l)) (sym long.0)
+      subst (λ i. IsRefusedBy {E = E} (left_of remaining e) (Semantic (Some i) kind) (DeterministicallyRefuses xs p l)) (sym place)
+      (subst (λ j. IsRefusedBy {E = E} (left_of remaining e) (Semantic (Some q) j) (DeterministicallyRefuses xs p l)) (sym long.0)
       (DeterministicallyRefuses.folding_long_head t n zs q head folding.1 folding.2 w.usable (e.head_len, b.1, (b.0, w.spelled, len, w.split), long.1)))
 
   short-string : (E : Type 0) (e : Decoder S) (k : Header) (n : ℕ) (pull : PullsSo {E = E} remaining d e (Ok k)) → k ≡ header.Bytes (Some n) → head_fault k e.head_len ≡ None → (IsMeasured d → e.count ≡ offset_of d + e.head_len) →
@@ -112,11 +113,11 @@ module _ {S : Type 0} (remaining : S → Option (List ℕ)) (d : Decoder S) (t l
       short-front remaining e k (header.Bytes (Some n)) 2 n q zs is (λ c s. s) (λ j. refl) right (omega (arith, sized, place)) b
 
   pub bignum-refused : (E : Type 0) (e f : Decoder S) (k : Header) (n here : ℕ) (x : Error E) → here ≡ p → PullsSo {E = E} remaining d e (Ok k) → IsFolding t k (Some n) → head_fault k e.head_len ≡ None →
-      (IsMeasured d → e.count ≡ offset_of d + e.head_len) → BignumSo {E = E} remaining e f t n here (Err x) → IsRefusedBy (remaining f.reader.now) x (DeterministicallyRefuses xs p l)
+      (IsMeasured d → e.count ≡ offset_of d + e.head_len) → BignumSo {E = E} remaining e f t n here (Err x) → IsRefusedBy (left_of remaining f) x (DeterministicallyRefuses xs p l)
   bignum-refused E e f k n here x same pull folding right size read =
       let b = pull zs q ahead in
       let short = short-string E e k n pull folding.0 right size in
-      refused-map (remaining f.reader.now) x (BignumRefuses t n here b.1) (DeterministicallyRefuses xs p l) (λ r g. refuses b.1 (q + length b.0) r short g)
+      refused-map (left_of remaining f) x (BignumRefuses t n here b.1) (DeterministicallyRefuses xs p l) (λ r g. refuses b.1 (q + length b.0) r short g)
       (read b.1 (q + length b.0) b.6 (string-fits E e k n pull folding.0))
     where
       foldable : (c : List ℕ) (u : ℕ) (r : Refusal) (y s : List ℕ) → AreBytes y → (IsFoldable y × (r ≡ semantic here refusal.NotFolded)) ⊎ ((bignum_meaning t y ≡ None) × (r ≡ semantic here refusal.TooLarge)) →
@@ -190,9 +191,9 @@ bignum-folded d t n at p x z xs (Ok v) len low whole is stands means = (x, z, le
   where
     same : (u v : List ℕ) → Some u ≡ Some v → v ≡ u
     same u v e = cc
-bignum-folded d t n at p x z xs (Err e) len low whole is stands (inl memory) = λ fits. subst (λ f. IsRefusedBy (Some d.reader.now) f (BignumRefuses t n at xs)) (sym memory) tt
+bignum-folded d t n at p x z xs (Err e) len low whole is stands (inl memory) = λ fits. subst (λ f. IsRefusedBy (left_of Some d) f (BignumRefuses t n at xs)) (sym memory) tt
 bignum-folded d t n at p x z xs (Err e) len low whole is stands (inr (none, large)) = λ fits.
-    subst (λ f. IsRefusedBy (Some d.reader.now) f (BignumRefuses t n at xs)) (sym large) (inr (x, z, len, low, same (x ++ z) xs is, inr (none, refl)))
+    subst (λ f. IsRefusedBy (left_of Some d) f (BignumRefuses t n at xs)) (sym large) (inr (x, z, len, low, same (x ++ z) xs is, inr (none, refl)))
   where
     same : (u v : List ℕ) → Some u ≡ Some v → v ≡ u
     same u v e = cc

@@ -37,6 +37,7 @@ pub mod SourcesAgree
 mod EnteredContainers
 mod NextParts
 mod LoneCharacters
+mod Due
 mod ByteItems
 mod NullAhead
 mod ValuesGiven

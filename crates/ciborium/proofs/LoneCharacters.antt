@@ -6,7 +6,7 @@ use Rattle.std.proofs.lemmas.Str.{cons_from_encodes, encodes-chars, length-encod
 use Rattle.ciborium_ll.specs.declared.decoder.Decoder.{Decoder}
 use Rattle.ciborium_ll.specs.declared.header.Header.{Header}
 use Rattle.ciborium_ll.specs.declared.header.Header.TheVariants as header
-use Rattle.ciborium_ll.specs.Decoding.{Takes}
+use Rattle.ciborium_ll.specs.Decoding.{Takes, left_of}
 use Rattle.ciborium_ll.specs.Head.{IsHead}
 use Rattle.ciborium_ll.specs.Item as items
 use Rattle.ciborium_ll.specs.Item.{Item, unsigned, negative, bytes, text, array, tag, simple, float}
@@ -108,8 +108,8 @@ payload-denied P Q n buffer fault size blames took y z payload u len utf8 f =
 pub just-taken : (E : Type 0) {S : Type 0} (remaining : S → Option (List ℕ)) (d e : Decoder S) (pending : Option (Header × ℕ)) (buffer : List ℕ) → pending ≡ None → Takes remaining d e (λ b. IsFillTaken {E = E} b d.count buffer (Ok tt)) →
     TakesJust (IsUnreadBy remaining d pending) (IsUnreadBy remaining e pending) buffer
 just-taken E remaining d e pending buffer none (b, takes, count, taken, small) y u =
-    let known : remaining d.reader.now ≡ Some y = subst (λ o. IsUnreadBy remaining d o y) none u in
-    let (z, left, split) = rest-of (remaining d.reader.now) (remaining e.reader.now) y b known takes in
+    let known : left_of remaining d ≡ Some y = subst (λ o. IsUnreadBy remaining d o y) none u in
+    let (z, left, split) = rest-of (left_of remaining d) (left_of remaining e) y b known takes in
     (z, split ∙ ap (λ (k : List ℕ). k ++ z) taken.0, subst (λ o. IsUnreadBy remaining e o z) (sym none) left)
 
 open-character : (i : Item) → header_of i ≡ header.Text None → bare_character (untagged i) ≡ refuses kinds.Char

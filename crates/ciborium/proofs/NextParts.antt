@@ -1,5 +1,5 @@
 -- The next part of a container that is read, or its end.
-use Rattle.std.proofs.Common.{◌≡◌, ◌≢◌, ℕ, suc, ◌-◌, ◌<◌, Bool, false, is_some, List, [], ◌∷◌, ◌++◌, length, map, Option, Some, None, refl, sym, ap, ◌∙◌, subst, append_assoc, append-nil, arith, inl, inr, ◌⊎◌}
+use Rattle.std.proofs.Common.{◌≡◌, ◌≤◌, ◌+◌, ◌≢◌, ℕ, suc, ◌-◌, ◌<◌, Bool, false, is_some, List, [], ◌∷◌, ◌++◌, length, map, Option, Some, None, refl, sym, ap, ◌∙◌, subst, append_assoc, append-nil, arith, inl, inr, ◌⊎◌, Result, Ok, Err, IfOk, IfErr, MatchBool, true}
 use Rattle.std.specs.Vec.Iter.{into_iter_items}
 use Rattle.ciborium_ll.specs.declared.header.Header.{Header}
 use Rattle.ciborium_ll.specs.declared.header.Header.TheVariants as header
@@ -9,6 +9,8 @@ use Rattle.ciborium_ll.specs.Item.{Item, unsigned}
 use Rattle.ciborium_ll.specs.Spells.{Spells}
 use Rattle.ciborium_ll.proofs.OneHeader.{one_header_at_front}
 use Rattle.ciborium_ll.proofs.UniqueSpelling.{one_at_front}
+use Rattle.ciborium_ll.proofs.HeldBytes.{same-name}
+use Rattle.ciborium.proofs.Due.{due-most, due-next, due-none, due-past, held-byte, held-head, held-pending, held-same}
 use Rattle.ciborium_value.specs.Ahead.{Form, Rest, bottom, parts, pairs, entry, held, item, past, inside}
 use Rattle.ciborium_value.specs.Nesting.{Limit}
 use Rattle.ciborium_value.specs.Places.{Shape, sequence, dictionary}
@@ -16,9 +18,10 @@ use Rattle.ciborium_value.specs.Sources.{Fault, HasItem, HasPart, GoesOn, Leaves
 use Rattle.ciborium.specs.declared.de.byte_source.ByteSource.{ByteSource}
 use Rattle.ciborium.specs.declared.de.byte_source.ByteSeq.{ByteSeq}
 use Rattle.ciborium.specs.declared.de.byte_source.Left.TheVariants as left
-use Rattle.ciborium.specs.ByteSources.{IsHeadCounted, IsUnread, IsUnreadBy, StandsBefore, SeqStands, HasNoneBehind, HoldsItems, HoldsPairs, HoldsParts, Owes, LeftOwes, OwesParts}
+use Rattle.ciborium.specs.ByteSources.{IsHeadCounted, IsUnread, IsUnreadBy, StandsBefore, SeqStands, HasNoneBehind, HoldsItems, HoldsPairs, HoldsParts, Owes, LeftOwes, OwesParts, bytes_weight, due_after, due_parts, pending_count, weight, weight_left, StandsStill}
 use Rattle.ciborium.specs.ItemReads.{TakesHead, DeniesHead}
 use Rattle.ciborium.specs.Unread.{AreSpelled, AreLeft, SpellsPair, Fits, IsRest, ending, form_of, HasCount}
+use Rattle.ciborium_ll.specs.Decoding.{left_of, HasSameReader, held_count, source_of}
 use Rattle.ciborium.proofs.ItemHeads.{header_of, first-head, same-head, no-break-head}
 
 pub fits-past : (name : _) (b : List ℕ) (f : Rest) → IsRest name b f → Fits name b (past f)
@@ -112,21 +115,22 @@ record IsAheadOf {S : Type 0} (remaining : S → Option (List ℕ)) (old new : B
   name : new.decoder.reader.ghost_name ≡ old.decoder.reader.ghost_name
   levels : new.levels ≡ old.levels
   unread : IsUnread remaining new b
+  held : (n : ℕ) → held_count old.decoder + pending_count old.pending ≤ 1 + n → held_count new.decoder + pending_count new.pending ≤ 1 + n
 
 module _ {S : Type 0} (remaining : S → Option (List ℕ)) (old new : ByteSource S) (rest : Option ℕ) (b r : List ℕ) (f : Rest) (ahead : IsAheadOf remaining old new b) (q q' : ByteSeq) (same : q'.levels ≡ q.levels) where
-  stands-item : (l : Limit) (form : Form) (xs : List Item) → form ≡ form_of rest → HasNext Spells rest xs b r → IsRest old.decoder.reader.ghost_name r f → inside form l ≡ Some old.levels → l ≡ Some q.levels → ((ys : List Item) → HasCount rest ys → HoldsItems q'.left form ys) →
+  stands-item : (l : Limit) (form : Form) (xs : List Item) → form ≡ form_of rest → HasNext Spells rest xs b r → IsRest old.decoder.reader.ghost_name r f → inside form l ≡ Some old.levels → held_count old.decoder + pending_count old.pending ≤ due_parts form (length xs) + due_after f → l ≡ Some q.levels → ((ys : List Item) → HasCount rest ys → HoldsItems q'.left form ys) →
       (i : Item) × (js : List Item) × (xs ≡ i ∷ js) × StandsBefore remaining new (inside form l) (item i (parts form js f)) × SeqStands q' l (parts form js f)
-  stands-item l form xs is (x, ys, whole, (a, c, sp, left, e), count) behind lv lq hold = (
+  stands-item l form xs is (x, ys, whole, (a, c, sp, left, e), count) behind lv few lq hold = (
     x,
     ys,
     whole,
-    (b, ahead.unread, (a, c ++ (ending form ++ r), sp, (c, r, subst (λ k. AreLeft Spells k c ys) (sym is) left, subst (λ n. IsRest n r f) (sym ahead.name) behind, refl), subst (λ k. b ≡ a ++ (c ++ (ending k ++ r))) (sym is) e), lv ∙ ap Some (sym ahead.levels), tt),
+    (b, ahead.unread, (a, c ++ (ending form ++ r), sp, (c, r, subst (λ k. AreLeft Spells k c ys) (sym is) left, subst (λ n. IsRest n r f) (sym ahead.name) behind, refl), subst (λ k. b ≡ a ++ (c ++ (ending k ++ r))) (sym is) e), lv ∙ ap Some (sym ahead.levels), tt, ahead.held (due_parts form (length ys) + due_after f) (let len : length xs ≡ 1 + length ys = omega (arith, ap length whole) in let next = due-next form rest is (length ys) in omega (arith, few, ap (due_parts form) len, next))),
     (lq ∙ ap Some (sym same), hold ys count),
   )
 
-  stands-pair : (l : Limit) (form : Form) (xs : List (Item × Item)) → form ≡ form_of rest → HasNext SpellsPair rest xs b r → IsRest old.decoder.reader.ghost_name r f → inside form l ≡ Some old.levels → l ≡ Some q.levels → ((ys : List (Item × Item)) → HasCount rest ys → HoldsPairs q'.left form ys) →
+  stands-pair : (l : Limit) (form : Form) (xs : List (Item × Item)) → form ≡ form_of rest → HasNext SpellsPair rest xs b r → IsRest old.decoder.reader.ghost_name r f → inside form l ≡ Some old.levels → held_count old.decoder + pending_count old.pending ≤ due_parts form (length xs) + due_after f → l ≡ Some q.levels → ((ys : List (Item × Item)) → HasCount rest ys → HoldsPairs q'.left form ys) →
       (k : Item) × (v : Item) × (qs : List (Item × Item)) × (xs ≡ (k, v) ∷ qs) × StandsBefore remaining new (inside form l) (item k (entry v form qs f)) × SeqStands q' l (pairs form qs f)
-  stands-pair l form xs is (x, ys, whole, (a, c, (s, t, sp, sq, g), left, e), count) behind lv lq hold = (
+  stands-pair l form xs is (x, ys, whole, (a, c, (s, t, sp, sq, g), left, e), count) behind lv few lq hold = (
     x.0,
     x.1,
     ys,
@@ -143,39 +147,40 @@ module _ {S : Type 0} (remaining : S → Option (List ℕ)) (old new : ByteSourc
       ),
       lv ∙ ap Some (sym ahead.levels),
       tt,
+      ahead.held (1 + (due_parts form (length ys) + due_after f)) (let len : length xs ≡ 1 + length ys = omega (arith, ap length whole) in let next = due-next form rest is (length ys) in omega (arith, few, ap (due_parts form) len, next)),
     ),
     (lq ∙ ap Some (sym same), hold ys count),
   )
 
 -- behind the last part
-stands-past : {S : Type 0} (remaining : S → Option (List ℕ)) (old new : ByteSource S) (l : Limit) (q : ByteSeq) (b : List ℕ) (f : Rest) → new.decoder.reader.ghost_name ≡ old.decoder.reader.ghost_name → new.levels ≡ q.levels → new.pending ≡ None →
+stands-past : {S : Type 0} (remaining : S → Option (List ℕ)) (old new : ByteSource S) (l : Limit) (q : ByteSeq) (b : List ℕ) (f : Rest) → new.decoder.reader.ghost_name ≡ old.decoder.reader.ghost_name → new.levels ≡ q.levels → new.pending ≡ None → held_count new.decoder + pending_count new.pending ≤ due_after f →
     IsUnread remaining new b → IsRest old.decoder.reader.ghost_name b f → l ≡ Some q.levels → StandsBefore remaining new l (past f)
-stands-past remaining old new l q b f name levels none un rest lq =
-    (b, un, subst (λ n. Fits n b (past f)) (sym name) (fits-past old.decoder.reader.ghost_name b f rest), lq ∙ ap Some (sym levels), none-past new.pending none f)
+stands-past remaining old new l q b f name levels none few un rest lq =
+    (b, un, subst (λ n. Fits n b (past f)) (sym name) (fits-past old.decoder.reader.ghost_name b f rest), lq ∙ ap Some (sym levels), none-past new.pending none f, subst (λ n. held_count new.decoder + pending_count new.pending ≤ n) (sym (due-past f)) few)
 
 -- ---- so many parts
 
 module _ {S : Type 0} (remaining : S → Option (List ℕ)) where
   pub goes-counted : (old : ByteSource S) (q q' : ByteSeq) (n : ℕ) → q.left ≡ left.Counted n → n ≢ 0 → q'.left ≡ left.Counted (n - 1) → q'.levels ≡ q.levels → GoesOn (StandsBefore remaining) SeqStands old old q q'
   goes-counted old q q' n is some is' levels = (
-    λ l form its f (b, u, (s, r, stand, rest, e), lv, none) (lq, hold).
+    λ l form its f (b, u, (s, r, stand, rest, e), lv, none, few) (lq, hold).
         let held : HoldsParts (Some n) form its = subst (λ k. HoldsItems k form its) is hold in
-        stands-item remaining old old (Some (n - 1)) b r f (record { name = refl; levels = refl; unread = u }) q q' levels l form its held.0 (counted-next Spells n form its s r b some held stand e) rest lv lq
+        stands-item remaining old old (Some (n - 1)) b r f (record { name = refl; levels = refl; unread = u; held = λ m few. few }) q q' levels l form its held.0 (counted-next Spells n form its s r b some held stand e) rest lv few lq
         (λ ys count. subst (λ k. HoldsItems k form ys) (sym is') (held.0, count)),
-    λ l form its f (b, u, (s, r, stand, rest, e), lv, none) (lq, hold).
+    λ l form its f (b, u, (s, r, stand, rest, e), lv, none, few) (lq, hold).
         let held : HoldsParts (Some n) form its = subst (λ k. HoldsPairs k form its) is hold in
-        stands-pair remaining old old (Some (n - 1)) b r f (record { name = refl; levels = refl; unread = u }) q q' levels l form its held.0 (counted-next SpellsPair n form its s r b some held stand e) rest lv lq
+        stands-pair remaining old old (Some (n - 1)) b r f (record { name = refl; levels = refl; unread = u; held = λ m few. few }) q q' levels l form its held.0 (counted-next SpellsPair n form its s r b some held stand e) rest lv few lq
         (λ ys count. subst (λ k. HoldsPairs k form ys) (sym is') (held.0, count)),
   )
 
   pub leaves-counted : (old new : ByteSource S) (q : ByteSeq) → q.left ≡ left.Counted 0 → new.decoder ≡ old.decoder → new.pending ≡ old.pending → new.levels ≡ q.levels → Leaves (StandsBefore remaining) SeqStands old new q
   leaves-counted old new q is same same' levels = (
-    λ l form its f (b, u, (s, r, stand, rest, e), lv, none) (lq, hold).
+    λ l form its f (b, u, (s, r, stand, rest, e), lv, none, few) (lq, hold).
         let (empty, all) = counted-end Spells form its s r b (subst (λ k. HoldsItems k form its) is hold) stand e in
-        (empty, stands-past remaining old new l q b f (ap (λ d. d.reader.ghost_name) same) levels (same' ∙ none) (into b u) (subst (λ k. IsRest old.decoder.reader.ghost_name k f) (sym all) rest) lq),
-    λ l form its f (b, u, (s, r, stand, rest, e), lv, none) (lq, hold).
+        (empty, stands-past remaining old new l q b f (ap (λ d. d.reader.ghost_name) same) levels (same' ∙ none) (held-same old new (ap source_of same) (due_after f) (ap (λ d. d.count) same) same' (let most = due-most form (length its) in omega (arith, few, most, ap length empty))) (into b u) (subst (λ k. IsRest old.decoder.reader.ghost_name k f) (sym all) rest) lq),
+    λ l form its f (b, u, (s, r, stand, rest, e), lv, none, few) (lq, hold).
         let (empty, all) = counted-end SpellsPair form its s r b (subst (λ k. HoldsPairs k form its) is hold) stand e in
-        (empty, stands-past remaining old new l q b f (ap (λ d. d.reader.ghost_name) same) levels (same' ∙ none) (into b u) (subst (λ k. IsRest old.decoder.reader.ghost_name k f) (sym all) rest) lq),
+        (empty, stands-past remaining old new l q b f (ap (λ d. d.reader.ghost_name) same) levels (same' ∙ none) (held-same old new (ap source_of same) (due_after f) (ap (λ d. d.count) same) same' (let most = due-most form (length its) in omega (arith, few, most, ap length empty))) (into b u) (subst (λ k. IsRest old.decoder.reader.ghost_name k f) (sym all) rest) lq),
   )
     where
       into : (b : List ℕ) → IsUnread remaining old b → IsUnread remaining new b
@@ -217,40 +222,40 @@ nothing-counted P q is b u = (b, u, λ s a owed. counted-nothing s a b (subst (�
 -- ---- up to a break
 
 module _ {S : Type 0} (remaining : S → Option (List ℕ)) where
-  pub leaves-open : (old mid new : ByteSource S) (q : ByteSeq) → q.left ≡ left.Open → new.decoder.reader.ghost_name ≡ old.decoder.reader.ghost_name → TakesHead (IsUnread remaining) old mid header.Break → new.levels ≡ q.levels → new.pending ≡ None →
+  pub leaves-open : (old mid new : ByteSource S) (q : ByteSeq) → q.left ≡ left.Open → HasSameReader old.decoder new.decoder → bytes_weight new + weight header.Break ≤ weight_left old → TakesHead (IsUnread remaining) old mid header.Break → new.levels ≡ q.levels → new.pending ≡ None →
       ((y : List ℕ) → IsUnread remaining mid y → IsUnread remaining new y) → Leaves (StandsBefore remaining) SeqStands old new q
-  leaves-open old mid new q is name took levels none into = (
-    λ l form its f (b, u, (s, r, stand, rest, e), lv, ahead) (lq, hold).
+  leaves-open old mid new q is kept fewer took levels none into = (
+    λ l form its f (b, u, (s, r, stand, rest, e), lv, ahead, few) (lq, hold).
         let (x, y, hd, g, un) = took b u in
         let (empty, all) = open-end Spells item-begins form its s r b x y (subst (λ k. HoldsItems k form its) is hold) stand e hd g in
-        (empty, stands-past remaining old new l q y f name levels none (into y un) (subst (λ k. IsRest old.decoder.reader.ghost_name k f) (sym all) rest) lq),
-    λ l form its f (b, u, (s, r, stand, rest, e), lv, ahead) (lq, hold).
+        (empty, stands-past remaining old new l q y f (same-name old.decoder new.decoder kept) levels none (held-head old new kept (due_after f) header.Break none fewer (let most = due-most form (length its) in omega (arith, few, most, ap length empty))) (into y un) (subst (λ k. IsRest old.decoder.reader.ghost_name k f) (sym all) rest) lq),
+    λ l form its f (b, u, (s, r, stand, rest, e), lv, ahead, few) (lq, hold).
         let (x, y, hd, g, un) = took b u in
         let (empty, all) = open-end SpellsPair pair-begins form its s r b x y (subst (λ k. HoldsPairs k form its) is hold) stand e hd g in
-        (empty, stands-past remaining old new l q y f name levels none (into y un) (subst (λ k. IsRest old.decoder.reader.ghost_name k f) (sym all) rest) lq),
+        (empty, stands-past remaining old new l q y f (same-name old.decoder new.decoder kept) levels none (held-head old new kept (due_after f) header.Break none fewer (let most = due-most form (length its) in omega (arith, few, most, ap length empty))) (into y un) (subst (λ k. IsRest old.decoder.reader.ghost_name k f) (sym all) rest) lq),
   )
 
-  pub goes-open : (old mid new : ByteSource S) (q q' : ByteSeq) (h : Header) → q.left ≡ left.Open → q'.left ≡ left.Open → q'.levels ≡ q.levels → new.decoder.reader.ghost_name ≡ old.decoder.reader.ghost_name → new.levels ≡ old.levels →
+  pub goes-open : (old mid new : ByteSource S) (q q' : ByteSeq) (h : Header) → q.left ≡ left.Open → q'.left ≡ left.Open → q'.levels ≡ q.levels → HasSameReader old.decoder new.decoder → bytes_weight new + weight h ≤ weight_left old → new.levels ≡ old.levels →
       TakesHead (IsUnread remaining) old mid h → h ≢ header.Break → ((b x y : List ℕ) → IsUnread remaining old b → SpellsHeader x h → b ≡ x ++ y → IsUnread remaining mid y → IsUnread remaining new b) → GoesOn (StandsBefore remaining) SeqStands old new q q'
-  goes-open old mid new q q' h is is' levels name kept took other back = (
-    λ l form its f (b, u, (s, r, stand, rest, e), lv, none) (lq, hold).
+  goes-open old mid new q q' h is is' levels same fewer kept took other back = (
+    λ l form its f (b, u, (s, r, stand, rest, e), lv, none, few) (lq, hold).
         let (x, y, hd, g, un) = took b u in
         let held : HoldsParts None form its = subst (λ k. HoldsItems k form its) is hold in
-        stands-item remaining old new None b r f (record { name = name; levels = kept; unread = back b x y u hd g un }) q q' levels l form its held.0 (open-next Spells item-begins form its s r b x y h held stand e hd other g) rest lv lq
+        stands-item remaining old new None b r f (record { name = same-name old.decoder new.decoder same; levels = kept; unread = back b x y u hd g un; held = λ n. held-pending old new same n h fewer }) q q' levels l form its held.0 (open-next Spells item-begins form its s r b x y h held stand e hd other g) rest lv few lq
         (λ ys count. subst (λ k. HoldsItems k form ys) (sym is') (held.0, count)),
-    λ l form its f (b, u, (s, r, stand, rest, e), lv, none) (lq, hold).
+    λ l form its f (b, u, (s, r, stand, rest, e), lv, none, few) (lq, hold).
         let (x, y, hd, g, un) = took b u in
         let held : HoldsParts None form its = subst (λ k. HoldsPairs k form its) is hold in
-        stands-pair remaining old new None b r f (record { name = name; levels = kept; unread = back b x y u hd g un }) q q' levels l form its held.0 (open-next SpellsPair pair-begins form its s r b x y h held stand e hd other g) rest lv lq
+        stands-pair remaining old new None b r f (record { name = same-name old.decoder new.decoder same; levels = kept; unread = back b x y u hd g un; held = λ n. held-pending old new same n h fewer }) q q' levels l form its held.0 (open-next SpellsPair pair-begins form its s r b x y h held stand e hd other g) rest lv few lq
         (λ ys count. subst (λ k. HoldsPairs k form ys) (sym is') (held.0, count)),
   )
 
   pub no-next : (old : ByteSource S) (q : ByteSeq) (fault : Fault) → q.left ≡ left.Open → DeniesHead (IsUnread remaining) old fault → RefusesNext (StandsBefore remaining) SeqStands old q fault
   no-next old q fault is denied = (
-    λ l form its f (b, u, (s, r, stand, rest, e), lv, ahead) (lq, hold).
+    λ l form its f (b, u, (s, r, stand, rest, e), lv, ahead, few) (lq, hold).
         let (h, x, y, hd, g) = open-head Spells item-begins form its s r b (subst (λ k. HoldsItems k form its) is hold) stand e in
         denied b x y h u hd g,
-    λ l form its f (b, u, (s, r, stand, rest, e), lv, ahead) (lq, hold).
+    λ l form its f (b, u, (s, r, stand, rest, e), lv, ahead, few) (lq, hold).
         let (h, x, y, hd, g) = open-head SpellsPair pair-begins form its s r b (subst (λ k. HoldsPairs k form its) is hold) stand e in
         denied b x y h u hd g,
   )
@@ -276,10 +281,10 @@ module _ {S : Type 0} (remaining : S → Option (List ℕ)) where
   pub goes-bytes : (old new : ByteSource S) (q q' : ByteSeq) (v w : _) (n p : ℕ) → q.left ≡ left.Bytes v → q'.left ≡ left.Bytes w → q'.levels ≡ q.levels → into_iter_items v ≡ n ∷ into_iter_items w → n < 18446744073709551616 →
       new.decoder ≡ old.decoder → new.levels ≡ old.levels → new.pending ≡ Some (header.Positive n, p) → GoesOn (StandsBefore remaining) SeqStands old new q q'
   goes-bytes old new q q' v w n p is is' levels first lt same kept pushed = (
-    λ l form its f (b, u, (s, r, stand, rest, e), lv, none) (lq, hold).
+    λ l form its f (b, u, (s, r, stand, rest, e), lv, none, few) (lq, hold).
         let held : HoldsItems (left.Bytes v) form its = subst (λ k. HoldsItems k form its) is hold in
-        let known : remaining old.decoder.reader.now ≡ Some b = subst (λ o. IsUnreadBy remaining old.decoder o b) none u in
-        let known' : remaining new.decoder.reader.now ≡ Some b = ap (λ d. remaining d.reader.now) same ∙ known in
+        let known : left_of remaining old.decoder ≡ Some b = subst (λ o. IsUnreadBy remaining old.decoder o b) none u in
+        let known' : left_of remaining new.decoder ≡ Some b = ap (λ d. left_of remaining d) same ∙ known in
         let empty : s ≡ [] = subst (λ k. AreLeft Spells k s its) held.0 stand in
         let all : b ≡ r = e ∙ ap (λ (k : List ℕ). k ++ (ending form ++ r)) empty ∙ ap (λ k. ending k ++ r) held.0 in (
           unsigned n,
@@ -297,10 +302,11 @@ module _ {S : Type 0} (remaining : S → Option (List ℕ)) where
             ),
             lv ∙ ap Some (sym kept),
             tt,
+            held-byte old new (due_parts form (length (map unsigned (into_iter_items w))) + due_after f) same (ap pending_count none) (ap pending_count pushed) (let gone = due-none form (length its) held.0 in omega (arith, few, gone)),
           ),
           (lq ∙ ap Some (sym levels), subst (λ k. HoldsItems k form (map unsigned (into_iter_items w))) (sym is') (held.0, refl)),
         ),
-    λ l form its f (b, u, (s, r, stand, rest, e), lv, none) (lq, hold). absurd (subst (λ k. HoldsPairs k form its) is hold),
+    λ l form its f (b, u, (s, r, stand, rest, e), lv, none, few) (lq, hold). absurd (subst (λ k. HoldsPairs k form its) is hold),
   )
 
 bytes-less : (v w : _) (s : Shape) (n : ℕ) (a b z : List ℕ) → n < 18446744073709551616 → LeftOwes (left.Bytes v) s a b → HasPart s (wide n ++ b) z → LeftOwes (left.Bytes w) s a z
@@ -319,3 +325,26 @@ aside-unread remaining s pending h p b x y none hd e seen u = (x, y, hd, e, subs
 pub is-none : {A : Type 0} (o : Option A) (t : Bool) → t ≡ false → t ≡ is_some o → o ≡ None
 is-none None t e f = refl
 is-none (Some h) t e f = cc
+
+-- ---- what is read ahead before
+
+module _ {S : Type 0} (remaining : S → Option (List ℕ)) (old mid : ByteSource S) (q : ByteSeq) (still : StandsStill remaining old mid q) where
+  pub still-next : (E : Type 0) (r : Result Bool E) (new : ByteSource S) (q' : ByteSeq) →
+      IfOk r (λ b. MatchBool b (GoesOn (StandsBefore remaining) SeqStands mid new q q') (Leaves (StandsBefore remaining) SeqStands mid new q)) →
+      IfOk r (λ b. MatchBool b (GoesOn (StandsBefore remaining) SeqStands old new q q') (Leaves (StandsBefore remaining) SeqStands old new q))
+  still-next E (Ok true) new q' (goes, enters) = (
+    λ l form is f st hold. goes l form is f (still.0 l form is f st hold) hold,
+    λ l form ps f st hold. enters l form ps f (still.1 l form ps f st hold) hold,
+  )
+  still-next E (Ok false) new q' (leaves, ends) = (
+    λ l form is f st hold. leaves l form is f (still.0 l form is f st hold) hold,
+    λ l form ps f st hold. ends l form ps f (still.1 l form ps f st hold) hold,
+  )
+  still-next E (Err e) new q' h = tt
+
+  pub still-refused : (E : Type 0) (r : Result Bool E) (cause : E → Fault) → IfErr r (λ e. RefusesNext (StandsBefore remaining) SeqStands mid q (cause e)) → IfErr r (λ e. RefusesNext (StandsBefore remaining) SeqStands old q (cause e))
+  still-refused E (Ok b) cause h = tt
+  still-refused E (Err e) cause (items, ends) = (
+    λ l form is f st hold. items l form is f (still.0 l form is f st hold) hold,
+    λ l form ps f st hold. ends l form ps f (still.1 l form ps f st hold) hold,
+  )

@@ -7,12 +7,13 @@ use Rattle.ciborium_ll.specs.declared.header.Header.{Header}
 use Rattle.ciborium_ll.specs.declared.header.Error.{Error as LlError}
 use Rattle.ciborium_ll.specs.declared.header.Error.TheVariants as ll
 use Rattle.ciborium_ll.specs.declared.decoder.Decoder.{Decoder}
-use Rattle.ciborium_ll.specs.Decoding.{HasBegun, IsAheadBy, Takes, with_left}
+use Rattle.ciborium_ll.specs.Decoding.{HasBegun, IsAheadBy, Takes, with_left, left_of, HasSameReader, held_count}
 use Rattle.ciborium_ll.specs.FirstHeads as first_heads
 use Rattle.ciborium_ll.specs.FirstHeads.{IsEndOrFault, IsFirstTaken}
 use Rattle.ciborium_ll.specs.Reading.{Advances, IsHeadTaken}
 use Rattle.ciborium_ll.specs.Refusal.{HeadRefuses, IsUsable}
 use Rattle.ciborium_ll.proofs.Unread.{reads-head}
+use Rattle.ciborium_ll.proofs.HeldBytes.{begun-count, begun-left, begun-rest, same-name}
 use Rattle.ciborium_value.specs.Readings.{Reading}
 use Rattle.ciborium_value.specs.Refuses.{Refuses}
 use Rattle.ciborium_value.specs.Sources.{IsGranted, read_as}
@@ -38,14 +39,14 @@ end-says r P is = subst (λ q. Otherwise q P) (sym is) tt
 
 -- ---- the head that was pulled first: d was begun on the reader that was lent, and has pulled it
 
-module _ {S : Type 0} (E : Type 0) (remaining : S → Option (List ℕ)) (d : Decoder S) (s : ByteSource S) (lent : S) (begins : HasBegun d lent 0) (h : Header) (taken : Takes remaining d s.decoder (λ b. IsHeadTaken {E = E} b d.count (Ok h))) where
+module _ {S : Type 0} (E : Type 0) (remaining : S → Option (List ℕ)) (d : Decoder S) (s : ByteSource S) (lent : S) (begins : HasBegun d lent 0) (same : HasSameReader d s.decoder) (h : Header) (taken : Takes remaining d s.decoder (λ b. IsHeadTaken {E = E} b d.count (Ok h))) where
   zero-count : d.count ≡ 0
   zero-count = begins.count
 
   -- it is pending
   front : (b : List ℕ) → remaining lent ≡ Some b → IsUnread remaining (behind_head s h) b
   front b known =
-      let (x, r, spelled, usable, split, count, left) = reads-head {E = E} (remaining d.reader.now) (remaining s.decoder.reader.now) b d.count s.decoder.count (Ok h) (ap remaining begins.reader ∙ known) taken in
+      let (x, r, spelled, usable, split, count, left) = reads-head {E = E} (left_of remaining d) (left_of remaining s.decoder) b d.count s.decoder.count (Ok h) (begun-left remaining d lent 0 begins ∙ known) taken in
       (x, r, spelled, split, left, λ fixed. (subst (IsUsable b) zero-count usable, count ∙ ap (λ n. n + length x) zero-count))
 
   -- whatever follows it
@@ -62,9 +63,9 @@ module _ {S : Type 0} (E : Type 0) (remaining : S → Option (List ℕ)) (d : De
       let (c, more, sum, f, low) = reads.1 in
       let zero = zero-count in
       let less = t.decoder.fits in
-      let after : remaining x ≡ remaining t.decoder.reader.now = ap remaining (back (sym reads.0)) in (
+      let after : remaining x ≡ left_of remaining t.decoder = ap remaining (back (sym (same-name s.decoder t.decoder reads.0))) ∙ sym (begun-rest remaining d t.decoder lent 0 begins (reads.0 ∙ same)) in (
         b ++ c,
-        subst (λ o. Consumes (remaining lent) o (b ++ c)) (sym after) (Consumes-trans (remaining lent) (remaining s.decoder.reader.now) (remaining t.decoder.reader.now) b c (subst (λ y. Consumes (remaining y) (remaining s.decoder.reader.now) b) begins.reader consumed) more),
+        subst (λ o. Consumes (remaining lent) o (b ++ c)) (sym after) (Consumes-trans (remaining lent) (left_of remaining s.decoder) (left_of remaining t.decoder) b c (subst (λ y. Consumes y (left_of remaining s.decoder) b) (begun-left remaining d lent 0 begins) consumed) more),
         omega (arith, count, sum, zero, less, length-append b c),
         taken-tree E t.decoder s.levels (b ++ c) r t.unpushed (λ z. subst (λ u. Rattle.ciborium.specs.Answers.IsTreeRead {S = List ℕ} {E = E} Some (with_left t.decoder z) s.levels u 0 r) (sym (append_assoc b c z)) (f z (b ++ (c ++ z)) 0 (front-any (c ++ z)))),
         All-append (λ n. n < 256) b c bytes low,
@@ -72,7 +73,11 @@ module _ {S : Type 0} (E : Type 0) (remaining : S → Option (List ℕ)) (d : De
 
 -- ---- the answer of the call, with what was read behind the head
 
-module _ {S T A : Type 0} (E : Type 0) (remaining : S → Option (List ℕ)) (reading : Reading T A) (d : Decoder S) (s t : ByteSource S) (lent x : S) (begins : HasBegun d lent 0) where
+module _ {S T A : Type 0} (E : Type 0) (remaining : S → Option (List ℕ)) (reading : Reading T A) (d : Decoder S) (s t : ByteSource S) (lent x : S) (begins : HasBegun d lent 0) (kept : HasSameReader d s.decoder) where
+  -- nothing is read ahead where the head is pending
+  few : held_count s.decoder + 1 ≤ 1
+  few = let none = begun-count d s.decoder lent 0 begins kept in omega (arith, none)
+
   -- what is known of the answer behind the first head
   abbrev pub Behind : Option Header → Result (Option T) (Error E) → Type 0
   Behind first r = IfSome first (λ h. GoesOn r (λ q. IsReadFrom {E = E} remaining reading (behind_head s h) t q))
@@ -84,23 +89,24 @@ module _ {S T A : Type 0} (E : Type 0) (remaining : S → Option (List ℕ)) (re
   First first = Takes remaining d s.decoder (λ b. IsFirstTaken {E = E} b d.count (Ok first))
 
   module _ (back : s.decoder.reader.ghost_name ≡ t.decoder.reader.ghost_name → x ≡ t.decoder.reader.now) where
-    pub tells-end : (first : Option Header) (r : Result (Option T) (Error E)) → First first → IfNone first (IsAtEnd (remaining s.decoder.reader.now)) → (remaining d.reader.now ≡ Some [] → IsEndOrFault {E = E} (Ok first)) → End first r → Behind first r →
+    pub tells-end : (first : Option Header) (r : Result (Option T) (Error E)) → First first → IfNone first (IsAtEnd (left_of remaining s.decoder)) → (left_of remaining d ≡ Some [] → IsEndOrFault {E = E} (Ok first)) → End first r → Behind first r →
         TellsEnd {E = E} (remaining lent) (remaining x) r
     tells-end None r (b, consumed, count, none, bytes) end empty (is, same) item =
         let after : x ≡ s.decoder.reader.now = back (ap (λ (u : Decoder S). u.reader.ghost_name) (sym same)) ∙ ap (λ (u : Decoder S). u.reader.now) same in
+        let rest : left_of remaining s.decoder ≡ remaining s.decoder.reader.now = begun-rest remaining d s.decoder lent 0 begins kept in
         subst (λ q. TellsEnd {E = E} (remaining lent) (remaining x) q) (sym is) (
-          subst (λ y. Consumes (remaining lent) (remaining y) []) (sym after) (subst (λ y. Consumes (remaining y) (remaining s.decoder.reader.now) []) begins.reader (subst (λ z. Consumes (remaining d.reader.now) (remaining s.decoder.reader.now) z) none consumed)),
-          subst (λ y. IsAtEnd (remaining y)) (sym after) end,
+          subst (λ y. Consumes (remaining lent) (remaining y) []) (sym after) (subst (λ y. Consumes (remaining lent) y []) rest (subst (λ y. Consumes y (left_of remaining s.decoder) []) (begun-left remaining d lent 0 begins) (subst (λ z. Consumes (left_of remaining d) (left_of remaining s.decoder) z) none consumed))),
+          subst (λ y. IsAtEnd (remaining y)) (sym after) (subst IsAtEnd rest end),
         )
     tells-end (Some h) (Ok None) taken end empty none item = absurd item
-    tells-end (Some h) (Ok (Some v)) taken end empty none item = λ known. empty (ap remaining begins.reader ∙ known)
-    tells-end (Some h) (Err e) taken end empty none item = λ known. absurd (empty (ap remaining begins.reader ∙ known))
+    tells-end (Some h) (Ok (Some v)) taken end empty none item = λ known. empty (begun-left remaining d lent 0 begins ∙ known)
+    tells-end (Some h) (Err e) taken end empty none item = λ known. absurd (empty (begun-left remaining d lent 0 begins ∙ known))
 
     pub next-ok : (first : Option Header) (r : Result (Option T) (Error E)) → First first → End first r → Behind first r →
         Otherwise r (λ q. TakesGiven (Some s.levels) reading.taken (remaining lent) (remaining x) (read_as reading.content q))
     next-ok None r taken (is, same) item = end-says r (λ q. TakesGiven (Some s.levels) reading.taken (remaining lent) (remaining x) (read_as reading.content q)) is
     next-ok (Some h) (Ok None) taken none item = absurd item
-    next-ok (Some h) (Ok (Some v)) taken none item = λ b known. handed-given E remaining reading (behind_head s h) t b (front E remaining d s lent begins h taken b known) x back (Ok v) item
+    next-ok (Some h) (Ok (Some v)) taken none item = λ b known. handed-given E remaining reading (behind_head s h) t b (front E remaining d s lent begins kept h taken b known) few x back (Ok v) item
     next-ok (Some h) (Err e) taken none item = λ b known. tt
 
     pub next-value : (first : Option Header) (r : Result (Option T) (Error E)) → First first → End first r → Behind first r →
@@ -108,15 +114,15 @@ module _ {S T A : Type 0} (E : Type 0) (remaining : S → Option (List ℕ)) (re
     next-value None r taken (is, same) item = end-says r (λ q. IfSome reading.whole (λ tree. ReadsWhole (remaining lent) s.levels (remaining x) (read_as (λ v. tree (reading.content v)) q))) is
     next-value (Some h) (Ok None) taken none item = absurd item
     next-value (Some h) (Ok (Some v)) taken none item =
-        some-map reading.whole item.whole (λ tree reads. whole-of {E = E} s.levels (remaining lent) (remaining x) (Ok (tree (reading.content v))) (joined E remaining d s lent begins h taken t x (Ok (tree (reading.content v))) back reads))
+        some-map reading.whole item.whole (λ tree reads. whole-of {E = E} s.levels (remaining lent) (remaining x) (Ok (tree (reading.content v))) (joined E remaining d s lent begins kept h taken t x (Ok (tree (reading.content v))) back reads))
     next-value (Some h) (Err e) taken none item =
-        some-map reading.whole item.whole (λ tree reads. whole-of {E = E} s.levels (remaining lent) (remaining x) (Err e) (joined E remaining d s lent begins h taken t x (Err e) back reads))
+        some-map reading.whole item.whole (λ tree reads. whole-of {E = E} s.levels (remaining lent) (remaining x) (Err e) (joined E remaining d s lent begins kept h taken t x (Err e) back reads))
 
   pub next-refused : (first : Option Header) (r : Result (Option T) (Error E)) → First first → End first r → Behind first r → Otherwise r (λ q. RefusesTaken (Some s.levels) reading.taken (remaining lent) (read_as reading.content q))
   next-refused None r taken (is, same) item = end-says r (λ q. RefusesTaken (Some s.levels) reading.taken (remaining lent) (read_as reading.content q)) is
   next-refused (Some h) (Ok None) taken none item = absurd item
   next-refused (Some h) (Ok (Some v)) taken none item = λ b known. tt
-  next-refused (Some h) (Err e) taken none item = λ b known. handed-denied E remaining reading (behind_head s h) t b (front E remaining d s lent begins h taken b known) (Err e) item
+  next-refused (Some h) (Err e) taken none item = λ b known. handed-denied E remaining reading (behind_head s h) t b (front E remaining d s lent begins kept h taken b known) few (Err e) item
 
   pub next-memory : (first : Option Header) (r : Result (Option T) (Error E)) → End first r → Behind first r → IfErr r (λ e. IsGranted (cause_of e) reading.takes_memory)
   next-memory None r (is, same) item = subst (λ q. IfErr q (λ e. IsGranted (cause_of e) reading.takes_memory)) (sym is) tt
@@ -132,20 +138,20 @@ first-io (ll.Syntax p) h = h
 first-io ll.TooLong h = h
 first-io ll.Memory h = h
 
-module _ {S : Type 0} (E : Type 0) (remaining : S → Option (List ℕ)) (d e : Decoder S) (lent : S) (begins : HasBegun d lent 0) (x : LlError E) (taken : Takes remaining d e (λ b. IsHeadTaken {E = E} b d.count (Err x))) where
+module _ {S : Type 0} (E : Type 0) (remaining : S → Option (List ℕ)) (d e : Decoder S) (lent : S) (begins : HasBegun d lent 0) (same : HasSameReader d e) (x : LlError E) (taken : Takes remaining d e (λ b. IsHeadTaken {E = E} b d.count (Err x))) where
   pub first-denied : {A : Type 0} (l : Option ℕ) (given : Taken A) (b : List ℕ) → remaining lent ≡ Some b → IsFaultAhead l given b (cause_of (from_ll x))
   first-denied l given b known i s left spelled split =
       let (y, c, head, whole) = first-head s i spelled in
-      let refused = reads-head {E = E} (remaining d.reader.now) (remaining e.reader.now) b d.count e.count (Err x) (ap remaining begins.reader ∙ known) taken in
-      fault-outside (cause_of (from_ll x)) (given l i) (head-outside (remaining e.reader.now) x b y (c ++ left) d.count (header_of i) head (split ∙ ap (λ (z : List ℕ). z ++ left) whole ∙ append_assoc y c left) refused)
+      let refused = reads-head {E = E} (left_of remaining d) (left_of remaining e) b d.count e.count (Err x) (begun-left remaining d lent 0 begins ∙ known) taken in
+      fault-outside (cause_of (from_ll x)) (given l i) (head-outside (left_of remaining e) x b y (c ++ left) d.count (header_of i) head (split ∙ ap (λ (z : List ℕ). z ++ left) whole ∙ append_assoc y c left) refused)
 
   pub first-taken : (l : ℕ) (back : S) → back ≡ e.reader.now → TakesBytes {E = E} (remaining lent) l (remaining back) (Err (from_ll x))
-  first-taken l back same =
+  first-taken l back given =
       let (b, consumed, count, head, bytes) = taken in
       let zero : d.count ≡ 0 = begins.count in
       let less = e.fits in (
         b,
-        subst (λ y. Consumes (remaining lent) (remaining y) b) (sym same) (subst (λ y. Consumes (remaining y) (remaining e.reader.now) b) begins.reader consumed),
+        subst (λ y. Consumes (remaining lent) (remaining y) b) (sym given) (subst (λ y. Consumes (remaining lent) y b) (begun-rest remaining d e lent 0 begins same) (subst (λ y. Consumes y (left_of remaining e) b) (begun-left remaining d lent 0 begins) consumed)),
         omega (arith, count, zero, less),
         (λ c. refused-map (Some c) (from_ll x) (HeadRefuses (b ++ c) 0) (λ r. Refuses (b ++ c) 0 (Some l) r) (λ r h. Refuses.no_head h)
             (refused-from (Some c) x (HeadRefuses (b ++ c) 0) (subst (λ n. Rattle.ciborium_ll.specs.Reading.IsRefusedBy (Some c) x (HeadRefuses (b ++ c) n)) zero

@@ -1,7 +1,7 @@
 -- What a call that reads a value leaves, and which errors are failures.
 use Rattle.std.proofs.Common.{◌≡◌, ℕ, List, Option, Some, None, subst}
 use Rattle.ciborium_ll.specs.declared.decoder.Decoder.{Decoder}
-use Rattle.ciborium_ll.specs.Decoding.{IsAhead, IsAheadBy}
+use Rattle.ciborium_ll.specs.Decoding.{IsAhead, IsAheadBy, left_of}
 use Rattle.ciborium_ll.specs.Refusal as refusal
 use Rattle.ciborium_ll.specs.Refusal.{Refusal}
 use Rattle.ciborium.specs.declared.de.error.Error.{Error}
@@ -10,7 +10,7 @@ use Rattle.ciborium.specs.Answers.{IsFailed}
 use Rattle.ciborium.specs.Errors.{IsRefusedBy, IsNamed, kind_of}
 use Rattle.ciborium.specs.Reads.{IsAt}
 
-pub left-at : {S : Type 0} (remaining : S → Option (List ℕ)) (d : Decoder S) (r : ℕ) (zs : List ℕ) → d.pushed ≡ None → IsAhead remaining d zs r → remaining d.reader.now ≡ Some zs
+pub left-at : {S : Type 0} (remaining : S → Option (List ℕ)) (d : Decoder S) (r : ℕ) (zs : List ℕ) → d.pushed ≡ None → IsAhead remaining d zs r → left_of remaining d ≡ Some zs
 left-at remaining d r zs rests a = let at : IsAt remaining d zs r = subst (λ o. IsAheadBy remaining d zs r o) rests a in at.1
 
 pub only-fails : {E : Type 0} (left : Option (List ℕ)) (e : Error E) (P : Refusal → Type 0) → ((r : Refusal) → P r → ⊥) → IsRefusedBy left e P → IsFailed left e

@@ -5,7 +5,7 @@ use Rattle.ciborium_ll.specs.declared.header.Error.{Error as LlError}
 use Rattle.ciborium_ll.specs.declared.header.Error.TheVariants as ll
 use Rattle.ciborium_ll.specs.declared.decoder.Decoder.{Decoder}
 use Rattle.ciborium_ll.specs.Bytes.{greatest_offset}
-use Rattle.ciborium_ll.specs.Decoding.{IsUnread, Takes}
+use Rattle.ciborium_ll.specs.Decoding.{IsUnread, Takes, left_of}
 use Rattle.ciborium_ll.specs.Header.{SpellsHeader, announced_length}
 use Rattle.ciborium_ll.specs.Reading as reading
 use Rattle.ciborium_ll.specs.Reading.{IsHeadTaken}
@@ -37,7 +37,7 @@ refused-map left errors.Memory P Q f a = tt
 refused-map left errors.TooLong P Q f a = f _ a
 
 pub head-read : {S : Type 0} (remaining : S → Option (List ℕ)) (d : Decoder S) (xs : List ℕ) (p : ℕ) (h : Header) →
-    ((x : List ℕ) × (r : List ℕ) × SpellsHeader x h × IsUsable xs p × (xs ≡ x ++ r) × (d.last ≡ p) × (d.count ≡ p + length x) × (remaining d.reader.now ≡ Some r)) → IsPulled remaining d h xs p
+    ((x : List ℕ) × (r : List ℕ) × SpellsHeader x h × IsUsable xs p × (xs ≡ x ++ r) × (d.last ≡ p) × (d.count ≡ p + length x) × (left_of remaining d ≡ Some r)) → IsPulled remaining d h xs p
 head-read remaining d xs p h (x, r, spelled, usable, split, last, count, left) = (x, r, spelled, usable, split, last, (count, left))
 
 -- a head has a byte at least
@@ -60,4 +60,4 @@ fewer-heads E remaining d e h none pushed taken = subst (λ o. heads_by (greates
         let some = head-some b h u.answers.0 in
         let fits = header-fits {E = E} b d.count h u in
         omega (arith, some, fits, count)
-    by (Some head) a b = let same : e.count ≡ d.count = a.2.1 in omega (arith, same)
+    by (Some head) a b = let same : e.count ≡ d.count = a.2.2 in omega (arith, same)

@@ -5,7 +5,7 @@ use Rattle.std.proofs.lemmas.Bool.Decides.{nat_tests}
 use Rattle.std.proofs.lemmas.List.Elements.{All-append, All-head, All-tail}
 use Rattle.ciborium_ll.specs.declared.decoder.Decoder.{Decoder}
 use Rattle.ciborium_ll.specs.Bytes.{AreBytes, greatest_offset}
-use Rattle.ciborium_ll.specs.Decoding.{Takes}
+use Rattle.ciborium_ll.specs.Decoding.{Takes, left_of}
 use Rattle.ciborium_ll.specs.Reading.{IsFillTaken}
 use Rattle.ciborium_ll.proofs.Unread.{rest-of}
 use Rattle.ciborium_value.specs.Meaning.{big_endian_behind, big_endian, without_zeros}
@@ -127,10 +127,10 @@ pub fill-fewer : (E : Type 0) {S : Type 0} (remaining : S → Option (List ℕ))
 fill-fewer E remaining d e buffer fits (b, takes, count, taken, small) = omega (arith, fits, count)
 
 pub digit-more : (E : Type 0) {S : Type 0} (remaining : S → Option (List ℕ)) (d e : Decoder S) (buffer : List ℕ) (x left n : ℕ) (start value next : Option ℕ) (y : List ℕ) → buffer ≡ x ∷ [] → 0 < left → next ≡ one_digit_more value x →
-    Takes remaining d e (λ b. IsFillTaken {E = E} b d.count buffer (Ok tt)) → ((c : List ℕ) × (z : List ℕ) × (length c + left ≡ n) × AreBytes c × (value ≡ digits_of start c) × (y ≡ c ++ z) × (remaining d.reader.now ≡ Some z)) →
-    (c : List ℕ) × (z : List ℕ) × (length c + (left - 1) ≡ n) × AreBytes c × (next ≡ digits_of start c) × (y ≡ c ++ z) × (remaining e.reader.now ≡ Some z)
+    Takes remaining d e (λ b. IsFillTaken {E = E} b d.count buffer (Ok tt)) → ((c : List ℕ) × (z : List ℕ) × (length c + left ≡ n) × AreBytes c × (value ≡ digits_of start c) × (y ≡ c ++ z) × (left_of remaining d ≡ Some z)) →
+    (c : List ℕ) × (z : List ℕ) × (length c + (left - 1) ≡ n) × AreBytes c × (next ≡ digits_of start c) × (y ≡ c ++ z) × (left_of remaining e ≡ Some z)
 digit-more E remaining d e buffer x left n start value next y one some is (b, takes, count, taken, small) (c, z, len, low, val, split, known) =
-    let (r, left', f) = rest-of (remaining d.reader.now) (remaining e.reader.now) z b known takes in
+    let (r, left', f) = rest-of (left_of remaining d) (left_of remaining e) z b known takes in
     let same : b ≡ x ∷ [] = taken.0 ∙ one in
     let added = ap length same in
     let sum = length-append c b in (

@@ -4,7 +4,7 @@ use Rattle.ciborium_ll.specs.declared.header.Header.{Header}
 use Rattle.ciborium_ll.specs.declared.header.Header.TheVariants as header
 use Rattle.ciborium_ll.specs.declared.decoder.Decoder.{Decoder}
 use Rattle.ciborium_ll.specs.Bytes.{greatest_offset}
-use Rattle.ciborium_ll.specs.Decoding.{Takes}
+use Rattle.ciborium_ll.specs.Decoding.{Takes, left_of}
 use Rattle.ciborium_ll.specs.Head.{IsHead, open_byte, break_byte}
 use Rattle.ciborium_ll.specs.Item as items
 use Rattle.ciborium_ll.specs.Item.{Item, unsigned, negative, bytes, text, array, tag, simple, float}
@@ -36,8 +36,8 @@ pub content-taken : (E : Type 0) {S : Type 0} (remaining : S → Option (List �
     Takes remaining d e (λ b. (added : List ℕ) × (out ≡ start ++ added) × IsStringTaken {E = E} kind len d.last b d.count (Ok tt) added) →
     TakesContent (IsUnreadBy remaining d pending) (IsUnreadBy remaining e pending) kind len out
 content-taken E remaining d e pending kind len start out none empty (b, takes, count, (added, is, taken), small) y u =
-    let known : remaining d.reader.now ≡ Some y = subst (λ o. IsUnreadBy remaining d o y) none u in
-    let (z, left, split) = rest-of (remaining d.reader.now) (remaining e.reader.now) y b known takes in
+    let known : left_of remaining d ≡ Some y = subst (λ o. IsUnreadBy remaining d o y) none u in
+    let (z, left, split) = rest-of (left_of remaining d) (left_of remaining e) y b known takes in
     let all : added ≡ out = sym (is ∙ ap (λ (s : List ℕ). s ++ added) empty) in
     (b, z, subst (IsContent kind len b) all (content-spelled E kind len d.last d.count added b taken), split, subst (λ o. IsUnreadBy remaining e o z) (sym none) left)
 

@@ -2,7 +2,7 @@
 use Rattle.std.proofs.Common.{◌≡◌, ℕ, zero, suc, ◌+◌, ◌-◌, ◌≤◌, List, [], ◌∷◌, ◌++◌, length, Option, Some, None, Result, Ok, Err, IfOk, IfErr, MatchOption, IsSome, refl, sym, ap, ◌∙◌, subst, arith}
 use Rattle.std.specs.declared.alloc.AllocError.{AllocError}
 use Rattle.ciborium_ll.specs.declared.decoder.Decoder.{Decoder}
-use Rattle.ciborium_ll.specs.Decoding.{IsAhead, offset_of}
+use Rattle.ciborium_ll.specs.Decoding.{IsAhead, offset_of, left_of}
 use Rattle.ciborium_ll.specs.Refusal.{semantic, Break}
 use Rattle.ciborium_value.specs.declared.tree.Value.{Value}
 use Rattle.ciborium_value.specs.declared.stack.Opening.{Opening}
@@ -40,9 +40,9 @@ answer-here : {S E : Type 0} (remaining : S → Option (List ℕ)) (d e : Decode
 answer-here remaining d e os l xs p x answers s = subst (λ m. IsPartRead remaining e m s.1 s.2 x) (left l xs p os s.0 s.1 s.2 s.3) (answers s.1 s.2 s.4)
 
 pub turn-refused : {S E : Type 0} (remaining : S → Option (List ℕ)) (d e : Decoder S) (os : List Open) (l : ℕ) (xs : List ℕ) (p : ℕ) (x : Error E) → Answers remaining d e (l - length os) (Err x) → IsReading remaining d os l xs p →
-    IsRefusedBy (remaining e.reader.now) x (λ r. Refuses xs p (Some l) r)
+    IsRefusedBy (left_of remaining e) x (λ r. Refuses xs p (Some l) r)
 turn-refused remaining d e os l xs p x answers s =
-    refused-map (remaining e.reader.now) x (λ r. Refuses s.1 s.2 (Some s.0) r × ¬ IsBreakAt s.1 s.2) (λ r. Refuses xs p (Some l) r) (λ r f. refused-turn l xs p os s.0 s.1 s.2 r s.3 f.0 (λ _. f.1)) (answer-here remaining d e os l xs p (Err x) answers s)
+    refused-map (left_of remaining e) x (λ r. Refuses s.1 s.2 (Some s.0) r × ¬ IsBreakAt s.1 s.2) (λ r. Refuses xs p (Some l) r) (λ r f. refused-turn l xs p os s.0 s.1 s.2 r s.3 f.0 (λ _. f.1)) (answer-here remaining d e os l xs p (Err x) answers s)
 
 -- ---- a value was placed
 
@@ -53,7 +53,7 @@ is-turned remaining e after l xs p given (Ok None) os v zs r ok err is a s =
     (b.0, zs, r, b.1, s)
 is-turned remaining e after l xs p given (Ok (Some w)) os v zs r ok err is a s =
     (zs, r, subst (λ (x : Placed). IsPlaced l xs p x zs r) (sym (subst (λ g. IfOk g (λ o. placed_of o after ≡ placed os v)) ok is)) a, s)
-is-turned remaining e after l xs p given (Err x) os v zs r ok err is a s = subst (λ z. IsRefusedBy (remaining e.reader.now) z (λ r. Refuses xs p (Some l) r)) (sym err) tt
+is-turned remaining e after l xs p given (Err x) os v zs r ok err is a s = subst (λ z. IsRefusedBy (left_of remaining e) z (λ r. Refuses xs p (Some l) r)) (sym err) tt
 
 pub turn-whole : {S E : Type 0} (remaining : S → Option (List ℕ)) (d e : Decoder S) (os after : List Open) (l : ℕ) (xs : List ℕ) (p : ℕ) (v : Value) (given : Result (Option Value) AllocError) (x : Result (Option Value) (Error E)) →
     Answers {E = E} remaining d e (l - length os) (Ok (Whole v)) → IfOk x (λ o. given ≡ Ok o) → IfErr x (λ e. e ≡ Memory) → IfOk given (λ o. placed_of o after ≡ placed os (tree_of v)) → IsReading remaining d os l xs p → IsTurned remaining e after l xs p x

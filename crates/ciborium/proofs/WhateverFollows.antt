@@ -6,12 +6,13 @@ use Rattle.std.proofs.lemmas.List.Elements.{All-append}
 use Rattle.ciborium_ll.specs.declared.header.Header.{Header}
 use Rattle.ciborium_ll.specs.declared.header.Error.{Error as LlError}
 use Rattle.ciborium_ll.specs.declared.decoder.Decoder.{Decoder}
-use Rattle.ciborium_ll.specs.Decoding.{HasBegun, IsAhead, IsAheadBy, IsUnread, Pulls, PullsTo, Takes, TakesBeforeAny, with_left}
+use Rattle.ciborium_ll.specs.Decoding.{HasBegun, IsAhead, IsAheadBy, IsUnread, Pulls, PullsTo, Takes, TakesBeforeAny, with_left, left_of}
 use Rattle.ciborium_ll.specs.Bytes.{AreBytes}
 use Rattle.ciborium_ll.specs.Reading as reading
 use Rattle.ciborium_ll.specs.Reading.{IsHeadTaken}
 use Rattle.ciborium_ll.specs.StringRefusal.{StringKind, ContentRefuses}
 use Rattle.ciborium_ll.specs.Strings.{IsStringTaken}
+use Rattle.ciborium_ll.proofs.HeldBytes.{unread-left, begun-left}
 use Rattle.ciborium_ll.proofs.Unread.{pulls-head, reads-string}
 use Rattle.ciborium_value.specs.Tree.{Tree}
 use Rattle.ciborium_value.specs.declared.tree.Value.{Value}
@@ -37,7 +38,7 @@ module _ {S : Type 0} (remaining : S → Option (List ℕ)) where
       TakesBeforeAny remaining a b P → TakesBeforeAny remaining b c Q → TakesBeforeAny remaining a c R
   so-then a b c P Q R join (x, taken, count, h, low) (y, more, sum, k, low_more) = (
     x ++ y,
-    Consumes-trans (remaining a.reader.now) (remaining b.reader.now) (remaining c.reader.now) x y taken more,
+    Consumes-trans (left_of remaining a) (left_of remaining b) (left_of remaining c) x y taken more,
     omega (arith, count, sum, length-append x y),
     λ z. subst (λ u. R (with_left a u) (with_left c z)) (sym (append_assoc x y z)) (join (x ++ (y ++ z)) (y ++ z) z (h (y ++ z)) (k z)),
     All-append (λ n. n < 256) x y low low_more,
@@ -51,7 +52,7 @@ module _ {S : Type 0} (remaining : S → Option (List ℕ)) where
   -- nothing is read
   pub so-unread : (a b : Decoder S) (P : Decoder (List ℕ) → Decoder (List ℕ) → Type 0) → IsUnread a b → ((u : List ℕ) → P (with_left a u) (with_left b u)) → TakesBeforeAny remaining a b P
   so-unread a b P unread h =
-      ([], subst (λ s. Consumes (remaining a.reader.now) (remaining s) []) (sym unread.0) (Consumes-nil (remaining a.reader.now)), (let same = unread.1 in omega (arith, same)), λ c. h c, no-bytes)
+      ([], subst (λ s. Consumes (left_of remaining a) s []) (sym (unread-left remaining a b unread)) (Consumes-nil (left_of remaining a)), (let same = unread.2 in omega (arith, same)), λ c. h c, no-bytes)
 
 -- a head that was pulled
 pub head-pulled : {S : Type 0} (E : Type 0) (remaining : S → Option (List ℕ)) (a b : Decoder S) (result : Result Header (LlError E)) →
@@ -65,9 +66,9 @@ head-pulled {S} E remaining a b result pushed taken last = by a.pushed pushed ta
         (x, consumed, count, λ c xs p s. pulls-head {E = E} (Some (x ++ c)) (Some c) b.last b.count xs a.count p result s here (x, refl, count, t, bytes), bytes)
     by (Some head) (same, here, unread) t l = (
       [],
-      subst (λ s. Consumes (remaining a.reader.now) (remaining s) []) (sym unread.0) (Consumes-nil (remaining a.reader.now)),
-      (let is = unread.1 in omega (arith, is)),
-      λ c xs p s. subst (λ r. PullsTo {E = E} b.last b.count (Some c) xs p r) (sym same) (s.1, s.2, s.3, s.4, s.5, here ∙ s.0, unread.1 ∙ s.6, s.7),
+      subst (λ s. Consumes (left_of remaining a) s []) (sym (unread-left remaining a b unread)) (Consumes-nil (left_of remaining a)),
+      (let is = unread.2 in omega (arith, is)),
+      λ c xs p s. subst (λ r. PullsTo {E = E} b.last b.count (Some c) xs p r) (sym same) (s.1, s.2, s.3, s.4, s.5, here ∙ s.0, unread.2 ∙ s.6, s.7),
       no-bytes,
     )
 
@@ -98,11 +99,11 @@ abbrev pub TreeSo : {E : Type 0} → ℕ → Decoder (List ℕ) → Decoder (Lis
 TreeSo {E} l d e x = (xs : List ℕ) (p : ℕ) → IsAhead Some d xs p → IsTreeRead {S = List ℕ} {E = E} Some e l xs p x
 
 pub taken-as : (E : Type 0) {S : Type 0} (remaining : S → Option (List ℕ)) (a b : Decoder S) (lent : S) (l : ℕ) (x : Result Tree (Error E)) → HasBegun a lent 0 → OnOk x (b.pushed ≡ None) →
-    TakesBeforeAny remaining a b (λ d e. TreeSo {E = E} l d e x) → TakesBytes {E = E} (remaining lent) l (remaining b.reader.now) x
+    TakesBeforeAny remaining a b (λ d e. TreeSo {E = E} l d e x) → TakesBytes {E = E} (remaining lent) l (left_of remaining b) x
 taken-as E {S} remaining a b lent l x begins rests (s, taken, count, h, bytes) =
     let zero : a.count ≡ 0 = begins.count in
     let less = b.fits in
-    (s, subst (λ r. Consumes (remaining r) (remaining b.reader.now) s) begins.reader taken, omega (arith, count, zero, less), found x rests (λ c. h c (s ++ c) 0 (ahead-at Some (with_left a (s ++ c)) 0 (s ++ c) begins.pushed (begins.count, refl))), bytes)
+    (s, subst (λ r. Consumes r (left_of remaining b) s) (begun-left remaining a lent 0 begins) taken, omega (arith, count, zero, less), found x rests (λ c. h c (s ++ c) 0 (ahead-at Some (with_left a (s ++ c)) 0 (s ++ c) begins.pushed (begins.count, refl))), bytes)
   where
     same-rest : (u v : List ℕ) → Some u ≡ Some v → u ≡ v
     same-rest u v e = cc

@@ -4,10 +4,11 @@ use Rattle.std.specs.Io.KnownBytes.{Consumes}
 use Rattle.ciborium_ll.specs.declared.header.Header.{Header}
 use Rattle.ciborium_ll.specs.declared.header.Header.TheVariants as header
 use Rattle.ciborium_ll.specs.declared.decoder.Decoder.{Decoder}
-use Rattle.ciborium_ll.specs.Decoding.{IsAhead, IsAheadBy, TakesBeforeAny, next_offset, with_left}
+use Rattle.ciborium_ll.specs.Decoding.{IsAhead, IsAheadBy, TakesBeforeAny, next_offset, with_left, left_of, IsUnread}
 use Rattle.ciborium_ll.specs.Header.{SpellsHeader}
 use Rattle.ciborium_ll.specs.Item.{Item, unsigned, simple}
 use Rattle.ciborium_ll.specs.Spells.{Spells}
+use Rattle.ciborium_ll.proofs.HeldBytes.{unread-left}
 use Rattle.ciborium_ll.proofs.Unread.{rest-of}
 use Rattle.ciborium_value.specs.declared.kind.Kind.{Kind}
 use Rattle.ciborium_value.specs.declared.kind.Kind.TheVariants as kinds
@@ -58,29 +59,29 @@ IsReal None = Unit {0}
 IsReal (Some h) = is_portable h.0 ≡ false
 
 -- the head that was pushed, or none, and what is unread with it
-pub ahead-by : {S : Type 0} (remaining : S → Option (List ℕ)) (d e : Decoder S) (pending : Option (Header × ℕ)) (b : List ℕ) → IsReal pending → e.pushed ≡ pending → e.reader.now ≡ d.reader.now → e.count ≡ d.count →
+pub ahead-by : {S : Type 0} (remaining : S → Option (List ℕ)) (d e : Decoder S) (pending : Option (Header × ℕ)) (b : List ℕ) → IsReal pending → e.pushed ≡ pending → IsUnread d e →
     IsUnreadBy remaining d pending b → IsAhead remaining e b (next_offset d.count pending)
-ahead-by remaining d e None b real pushed same count u = subst (λ o. IsAheadBy remaining e b d.count o) (sym pushed) (count, ap remaining same ∙ u)
-ahead-by remaining d e (Some h) b real pushed same count (x, y, hd, f, left, counted) =
+ahead-by remaining d e None b real pushed same u = subst (λ o. IsAheadBy remaining e b d.count o) (sym pushed) (same.2, unread-left remaining d e same ∙ u)
+ahead-by remaining d e (Some h) b real pushed same (x, y, hd, f, left, counted) =
     let k = counted real in
-    subst (λ o. IsAheadBy remaining e b h.1 o) (sym pushed) (refl, x, y, hd, k.0, f, count ∙ k.1, ap remaining same ∙ left)
+    subst (λ o. IsAheadBy remaining e b h.1 o) (sym pushed) (refl, x, y, hd, k.0, f, same.2 ∙ k.1, unread-left remaining d e same ∙ left)
 
 -- ---- from a decoder whatever follows what it takes, to one whose bytes are known
 
 module _ {S : Type 0} (remaining : S → Option (List ℕ)) where
-  known-left : (d : Decoder S) (b : List ℕ) (p : ℕ) (o : Option (Header × ℕ)) → IsAheadBy remaining d b p o → (u : List ℕ) × (remaining d.reader.now ≡ Some u)
+  known-left : (d : Decoder S) (b : List ℕ) (p : ℕ) (o : Option (Header × ℕ)) → IsAheadBy remaining d b p o → (u : List ℕ) × (left_of remaining d ≡ Some u)
   known-left d b p None (count, e) = (b, e)
   known-left d b p (Some h) (at, x, r, sp, usable, split, count, e) = (r, e)
 
-  ahead-from : (d : Decoder S) (u b : List ℕ) (p : ℕ) (o : Option (Header × ℕ)) → remaining d.reader.now ≡ Some u → IsAheadBy remaining d b p o → IsAheadBy Some (with_left d u) b p o
+  ahead-from : (d : Decoder S) (u b : List ℕ) (p : ℕ) (o : Option (Header × ℕ)) → left_of remaining d ≡ Some u → IsAheadBy remaining d b p o → IsAheadBy Some (with_left d u) b p o
   ahead-from d u b p None left (count, e) = (count, sym left ∙ e)
   ahead-from d u b p (Some h) left (at, x, r, sp, usable, split, count, e) = (at, x, r, sp, usable, split, count, sym left ∙ e)
 
-  ahead-to : (d : Decoder S) (u b : List ℕ) (p : ℕ) (o : Option (Header × ℕ)) → remaining d.reader.now ≡ Some u → IsAheadBy Some (with_left d u) b p o → IsAheadBy remaining d b p o
+  ahead-to : (d : Decoder S) (u b : List ℕ) (p : ℕ) (o : Option (Header × ℕ)) → left_of remaining d ≡ Some u → IsAheadBy Some (with_left d u) b p o → IsAheadBy remaining d b p o
   ahead-to d u b p None left (count, e) = (count, left ∙ e)
   ahead-to d u b p (Some h) left (at, x, r, sp, usable, split, count, e) = (at, x, r, sp, usable, split, count, left ∙ e)
 
-  read-to : (E : Type 0) (e : Decoder S) (c : List ℕ) (l : ℕ) (b : List ℕ) (p : ℕ) (x : Result Value (Error E)) → remaining e.reader.now ≡ Some c → IsValueRead {S = List ℕ} {E = E} Some (with_left e c) l b p x → IsValueRead {E = E} remaining e l b p x
+  read-to : (E : Type 0) (e : Decoder S) (c : List ℕ) (l : ℕ) (b : List ℕ) (p : ℕ) (x : Result Value (Error E)) → left_of remaining e ≡ Some c → IsValueRead {S = List ℕ} {E = E} Some (with_left e c) l b p x → IsValueRead {E = E} remaining e l b p x
   read-to E e c l b p (Ok v) left (zs, r, item, ahead) = (zs, r, item, ahead-to e c zs r e.pushed left ahead)
   read-to E e c l b p (Err x) left h = subst (λ o. IsRefusedBy o x (Refuses b p (Some l))) (sym left) h
 
@@ -88,12 +89,12 @@ module _ {S : Type 0} (remaining : S → Option (List ℕ)) where
       (b : List ℕ) (p : ℕ) → IsAhead remaining d b p → IsValueRead {E = E} remaining e l b p x
   known-read E d e l x (s, taken, count, h, small) b p ahead =
       let (u, known) = known-left d b p d.pushed ahead in
-      let (c, left, split) = rest-of (remaining d.reader.now) (remaining e.reader.now) u s known taken in
+      let (c, left, split) = rest-of (left_of remaining d) (left_of remaining e) u s known taken in
       read-to E e c l b p x left (h c b p (ahead-from d (s ++ c) b p d.pushed (known ∙ ap Some split) ahead))
 
 -- the value that was read is what the item there gives
 pub whole-reads : (E : Type 0) {S : Type 0} (remaining : S → Option (List ℕ)) (d : Decoder S) (l p : ℕ) (b : List ℕ) (v : Value) → d.pushed ≡ None → IsValueRead {E = E} remaining d l b p (Ok v) →
-    (i : Item) × (s : List ℕ) × (z : List ℕ) × Spells s i × (b ≡ s ++ z) × (taken_value (Some l) i ≡ gives (tree_of v)) × (remaining d.reader.now ≡ Some z)
+    (i : Item) × (s : List ℕ) × (z : List ℕ) × Spells s i × (b ≡ s ++ z) × (taken_value (Some l) i ≡ gives (tree_of v)) × (left_of remaining d ≡ Some z)
 whole-reads E remaining d l p b v none (z, r, item, ahead) =
     let at : IsAheadBy remaining d z r None = subst (λ o. IsAheadBy remaining d z r o) none ahead in
     let (i, good, means) = item.read in
@@ -139,7 +140,7 @@ no-level (Some l) n flat = omega arith
 
 -- a head that stands for an item is that item
 pub portable-reads : {S : Type 0} (remaining : S → Option (List ℕ)) (d : Decoder S) (pending : Option (Header × ℕ)) (h : Header) (p : ℕ) (b : List ℕ) (v : Tree) (l : Limit) → pending ≡ Some (h, p) → StandsFor h v → IsUnreadBy remaining d pending b →
-    (i : Item) × (s : List ℕ) × (z : List ℕ) × Spells s i × (b ≡ s ++ z) × (taken_value l i ≡ gives v) × (remaining d.reader.now ≡ Some z)
+    (i : Item) × (s : List ℕ) × (z : List ℕ) × Spells s i × (b ≡ s ++ z) × (taken_value l i ≡ gives v) × (left_of remaining d ≡ Some z)
 portable-reads remaining d pending h p b v l is for u =
     let (x, y, hd, e, left, counted) = subst (λ o. IsUnreadBy remaining d o b) is u in
     let (i, sp, means, flat) = for x hd in
@@ -155,7 +156,7 @@ ReadSo {E} l pending d e r = (xs : List ℕ) (p : ℕ) → IsAheadBy Some d xs p
 pub portable-ahead : (E : Type 0) {S : Type 0} (remaining : S → Option (List ℕ)) (d : Decoder S) (pending : Option (Header × ℕ)) (h : Header) (at l : ℕ) (v : Tree) → d.pushed ≡ None → pending ≡ Some (h, at) → StandsFor h v →
     TakesBeforeAny remaining d d (λ f g. ReadSo {E = E} l pending f g (Ok v))
 portable-ahead E remaining d pending h at l v none is stands =
-    so-unread remaining d d (λ f g. ReadSo {E = E} l pending f g (Ok v)) (refl, refl) (λ u xs p ahead.
+    so-unread remaining d d (λ f g. ReadSo {E = E} l pending f g (Ok v)) (refl, refl, refl) (λ u xs p ahead.
     let (here, x, r, sp, usable, split, count, left) = subst (λ o. IsAheadBy Some (with_left d u) xs p o) is ahead in
     let (i, spelled, means, flat) = stands x sp in
     let fits = front-fits xs p h x r (record { spelled = sp; usable = usable; split = split }) in
@@ -170,12 +171,12 @@ as-tree remaining d l xs p (Ok v) h = h
 as-tree remaining d l xs p (Err e) h = h
 
 -- the head was pushed first
-pub pushed-ahead : (E : Type 0) {S : Type 0} (remaining : S → Option (List ℕ)) (d e f : Decoder S) (pending : Option (Header × ℕ)) (l : ℕ) (x : Result Value (Error E)) → e.pushed ≡ pending → e.reader.now ≡ d.reader.now → e.count ≡ d.count →
+pub pushed-ahead : (E : Type 0) {S : Type 0} (remaining : S → Option (List ℕ)) (d e f : Decoder S) (pending : Option (Header × ℕ)) (l : ℕ) (x : Result Value (Error E)) → e.pushed ≡ pending → IsUnread d e →
     TakesBeforeAny remaining e f (λ a b. (xs : List ℕ) (p : ℕ) → IsAhead Some a xs p → IsValueRead {S = List ℕ} {E = E} Some b l xs p x) → TakesBeforeAny remaining d f (λ a b. ReadSo {E = E} l pending a b (read_as tree_of x))
-pushed-ahead E remaining d e f pending l x pushed now count (s, taken, sum, h, bytes) = (
+pushed-ahead E remaining d e f pending l x pushed unread (s, taken, sum, h, bytes) = (
   s,
-  subst (λ r. Consumes (remaining r) (remaining f.reader.now) s) now taken,
-  omega (arith, sum, count),
-  λ c xs p ahead. as-tree Some (with_left f c) l xs p x (h c xs p (subst (λ o. IsAheadBy Some (with_left e (s ++ c)) xs p o) (sym pushed) (ahead-pushed d e (s ++ c) xs p pending count ahead))),
+  subst (λ r. Consumes r (left_of remaining f) s) (unread-left remaining d e unread) taken,
+  (let count = unread.2 in omega (arith, sum, count)),
+  λ c xs p ahead. as-tree Some (with_left f c) l xs p x (h c xs p (subst (λ o. IsAheadBy Some (with_left e (s ++ c)) xs p o) (sym pushed) (ahead-pushed d e (s ++ c) xs p pending unread.2 ahead))),
   bytes,
 )

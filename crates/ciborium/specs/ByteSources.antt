@@ -1,16 +1,16 @@
 -- Where a source over bytes stands.
-use Rattle.std.specs.Prelude.{◌≡◌, ℕ, ◌+◌, ◌*◌, ◌-◌, List, ◌++◌, length, map, Option, Some, None, Bool, true, false, Result}
+use Rattle.std.specs.Prelude.{◌≡◌, ℕ, ◌+◌, ◌*◌, ◌-◌, ◌≤◌, List, ◌++◌, length, map, Option, Some, None, Bool, true, false, Result}
 use Rattle.std.specs.Vec.Iter.{into_iter_items}
 use Rattle.ciborium_ll.specs.declared.header.Header.{Header}
 use Rattle.ciborium_ll.specs.declared.header.Header.TheVariants as header
 use Rattle.ciborium_ll.specs.declared.decoder.Decoder.{Decoder}
 use Rattle.ciborium_ll.specs.Bytes.{greatest_offset}
-use Rattle.ciborium_ll.specs.Decoding.{HasSameReader, IsAheadBy, TakesBeforeAny}
+use Rattle.ciborium_ll.specs.Decoding.{HasSameReader, IsAheadBy, TakesBeforeAny, held_count, left_of}
 use Rattle.ciborium_ll.specs.Header.{SpellsHeader}
 use Rattle.ciborium_ll.specs.Item.{Item, unsigned}
 use Rattle.ciborium_ll.specs.Refusal.{IsUsable}
 use Rattle.ciborium_ll.specs.Spells.{Spells}
-use Rattle.ciborium_value.specs.Ahead.{Ahead, Rest, Form, bottom, parts, pairs, entry, held, item, after, of_bytes, past, inside}
+use Rattle.ciborium_value.specs.Ahead.{Ahead, Rest, Form, counted, until_break, bottom, parts, pairs, entry, held, item, after, of_bytes, past, inside}
 use Rattle.ciborium_value.specs.Meaning.{meaning}
 use Rattle.ciborium_value.specs.Nesting.{Limit, nesting}
 use Rattle.ciborium_value.specs.Places.{Shape, sequence, dictionary}
@@ -42,8 +42,8 @@ IsHeadCounted d h b x = is_portable h.0 ≡ false → IsUsable b h.1 × (d.count
 
 -- b is unread, the spelling of a head that is pending included
 abbrev pub IsUnreadBy : {S : Type 0} → (S → Option (List ℕ)) → Decoder S → Option (Header × ℕ) → List ℕ → Type 0
-IsUnreadBy remaining d None b = remaining d.reader.now ≡ Some b
-IsUnreadBy remaining d (Some h) b = (x : List ℕ) × (y : List ℕ) × SpellsHeader x h.0 × (b ≡ x ++ y) × (remaining d.reader.now ≡ Some y) × IsHeadCounted d h b x
+IsUnreadBy remaining d None b = left_of remaining d ≡ Some b
+IsUnreadBy remaining d (Some h) b = (x : List ℕ) × (y : List ℕ) × SpellsHeader x h.0 × (b ≡ x ++ y) × (left_of remaining d ≡ Some y) × IsHeadCounted d h b x
 
 abbrev pub IsUnread : {S : Type 0} → (S → Option (List ℕ)) → ByteSource S → List ℕ → Type 0
 IsUnread remaining s b = IsUnreadBy remaining s.decoder s.pending b
@@ -59,13 +59,43 @@ abbrev pub HasNoneBehind : Option (Header × ℕ) → Ahead → Type 0
 HasNoneBehind pending (item i f) = Unit {0}
 HasNoneBehind pending (after f) = pending ≡ None
 
+-- ---- how much is read ahead
+
+-- how many of n parts are still due in the bytes: those of a byte string were read with it
+abbrev pub due_parts : Form → ℕ → ℕ
+due_parts counted n = n
+due_parts until_break n = n
+due_parts of_bytes n = 0
+
+-- how many items are due behind an item, at least: of the pairs of a map the keys
+abbrev pub due_after : Rest → ℕ
+due_after (bottom name b) = 0
+due_after (parts form is f) = due_parts form (length is) + due_after f
+due_after (pairs form ps f) = due_parts form (length ps) + due_after f
+due_after (entry v form ps f) = 1 + (due_parts form (length ps) + due_after f)
+due_after (held f) = due_after f
+
+-- the same with the item that is ahead
+abbrev pub due : Ahead → ℕ
+due (item i f) = 1 + due_after f
+due (after f) = due_after f
+
+-- the head of the item that is ahead, where it was taken
+abbrev pub pending_count : Option (Header × ℕ) → ℕ
+pending_count None = 0
+pending_count (Some h) = 1
+
+-- each byte that is read ahead is one of an item that is due, whose head was not taken
+abbrev pub HoldsDue : {S : Type 0} → ByteSource S → Ahead → Type 0
+HoldsDue s a = held_count s.decoder + pending_count s.pending ≤ due a
+
 abbrev pub StandsBefore : {S : Type 0} → (S → Option (List ℕ)) → ByteSource S → Limit → Ahead → Type 0
-StandsBefore remaining s l a = (b : List ℕ) × IsUnread remaining s b × Fits s.decoder.reader.ghost_name b a × (l ≡ Some s.levels) × HasNoneBehind s.pending a
+StandsBefore remaining s l a = (b : List ℕ) × IsUnread remaining s b × Fits s.decoder.reader.ghost_name b a × (l ≡ Some s.levels) × HasNoneBehind s.pending a × HoldsDue s a
 
 -- what is left of a container with this count (None: open)
-abbrev pub left_of : Option ℕ → Left
-left_of (Some n) = left.Counted n
-left_of None = left.Open
+abbrev pub parts_left : Option ℕ → Left
+parts_left (Some n) = left.Counted n
+parts_left None = left.Open
 
 -- so many parts are left, or any number up to a break
 abbrev pub HoldsParts : {X : Type 0} → Option ℕ → Form → List X → Type 0
@@ -100,6 +130,18 @@ LevelStands level l f = l ≡ Some level.levels
 -- a level was taken, which this one gives back
 abbrev pub TakesLevel : {S : Type 0} → ByteSource S → ByteSource S → ByteLevel → Type 0
 TakesLevel old new level = (level.levels ≡ old.levels) × (old.levels ≡ new.levels + 1)
+
+-- as many parts are left for sure
+abbrev pub counted_parts : Left → ℕ
+counted_parts (left.Counted n) = n
+counted_parts left.Open = 0
+counted_parts (left.Bytes v) = 0
+
+-- behind a part of a container, of which q is left, it stands where it stood
+abbrev pub StandsStill : {S : Type 0} → (S → Option (List ℕ)) → ByteSource S → ByteSource S → ByteSeq → Type 0
+StandsStill remaining old new q =
+    ((l : Limit) (form : Form) (is : List Item) (f : Rest) → StandsBefore remaining old (inside form l) (after (parts form is f)) → SeqStands q l (parts form is f) → StandsBefore remaining new (inside form l) (after (parts form is f))) ×
+    ((l : Limit) (form : Form) (ps : List (Item × Item)) (f : Rest) → StandsBefore remaining old (inside form l) (after (pairs form ps f)) → SeqStands q l (pairs form ps f) → StandsBefore remaining new (inside form l) (after (pairs form ps f)))
 
 -- ---- what is owed
 

@@ -7,6 +7,7 @@ use Rattle.ciborium_ll.specs.Head.{break_byte}
 use Rattle.ciborium_ll.specs.Header.{SpellsHeader}
 use Rattle.ciborium_ll.specs.Refusal.{IsUsable, IsAtFront}
 use Rattle.ciborium_value.specs.Refuses.{IsReadAs}
+use Rattle.ciborium_ll.specs.Decoding.{left_of}
 use Rattle.ciborium_value.specs.Tree.{Tree}
 
 -- ys, whose first byte is at offset q, begins with an item that is read as v within l levels; zs follows it, at offset r
@@ -18,7 +19,7 @@ pub record ReadsItem (l : ℕ) (ys : List ℕ) (q : ℕ) (v : Tree) (zs : List �
 
 -- no head is pushed, xs is left, and its first byte is at offset p
 abbrev pub IsAt : {S : Type 0} → (S → Option (List ℕ)) → Decoder S → List ℕ → ℕ → Type 0
-IsAt remaining d xs p = (d.count ≡ p) × (remaining d.reader.now ≡ Some xs)
+IsAt remaining d xs p = (d.count ≡ p) × (left_of remaining d ≡ Some xs)
 
 -- a head was pulled where xs was ahead from offset p on
 abbrev pub IsPulled : {S : Type 0} → (S → Option (List ℕ)) → Decoder S → Header → List ℕ → ℕ → Type 0

@@ -88,7 +88,9 @@ fn read<T: Deserialize, R: Read>(
 /// `Value` a float, a simple value that is not assigned, a break out of place, a bignum that no
 /// `i128` holds); `RecursionLimitExceeded` where an array, map or tag stands where no level is
 /// left; `TooLong` where the item would pass the greatest offset; `Memory` where a growth was
-/// refused. A beginning of the item has then been taken from the reader.
+/// refused. Bytes from the front on have then been taken from the reader: those that were looked
+/// at, and behind them up to 256, one at most for each part that was left of an array or map of
+/// eight parts or more, whose length was announced. None is read ahead where a `Value` is read.
 pub fn from_reader<T: Deserialize, R: Read>(
     alloc: Global,
     reader: &mut R,
@@ -181,8 +183,8 @@ fn read_item<T: Deserialize, R: Read>(
 /// # Errors
 ///
 /// Those of `from_reader`; a fault of the first read is `Io`, and so is an item that is cut short,
-/// of kind `UnexpectedEof`. A beginning of the item has then been taken from the reader, and none
-/// of it where the first read failed.
+/// of kind `UnexpectedEof`. Bytes from the front on have then been taken from the reader, as in
+/// `from_reader`, and none where the first read failed.
 pub fn from_reader_next<T: Deserialize, R: Read>(
     alloc: Global,
     reader: &mut R,

@@ -7,6 +7,7 @@ ghost use Rattle.ciborium_value.specs.Stack.{opens_of};
 ghost use Rattle.ciborium.specs.Answers.{IsReading, IsTurned, IsValueRead};
 ghost use Rattle.ciborium.specs.Reads.{heads_left};
 
+use crate::de::byte_source::Refusal;
 use crate::de::error::Error;
 use crate::de::front::Part;
 use crate::de::parts::next;
@@ -18,9 +19,9 @@ use std::io::{self, Read};
 
 // Passes on what was placed, or that memory was refused.
 #[inline(always)]
-pub(super) fn pass_on(
+pub(super) fn pass_on<E>(
     placed: Result<Option<Value>, AllocError>,
-) -> Result<Option<Value>, Error<io::Error>>
+) -> Result<Option<Value>, Error<E>>
     ensures ok { IfOk result (λ o. placed ≡ Ok o) }
     ensures err { IfErr result (λ e. e ≡ Error.Memory) }
 {
@@ -38,7 +39,8 @@ fn turn<R: Read>(
     scratch: &mut [u8],
     stack: &mut Stack,
     levels: usize,
-) -> Result<Option<Value>, Error<io::Error>>
+    failure: &mut Option<io::Error>,
+) -> Result<Option<Value>, Refusal>
     requires { length (opens_of stack.old) ≤ levels }
     ensures same_reader { HasSameReader decoder.old decoder.new }
     ensures fewer { OnOk result (heads_left decoder.new < heads_left decoder.old) }
@@ -51,7 +53,7 @@ fn turn<R: Read>(
         IsTurned Some e (opens_of stack.new) levels xs p result) }
 {
     let offset = decoder.offset();
-    match next(alloc, decoder, scratch, levels - stack.depth())? {
+    match next(alloc, decoder, scratch, levels - stack.depth(), failure)? {
         Part::Whole(value) => pass_on(stack.place(value)),
         Part::Opened(opening) => match stack.open(opening) {
             Ok(()) => Ok(None),
@@ -64,13 +66,14 @@ fn turn<R: Read>(
     }
 }
 
-/// Reads the value ahead, within this many levels.
+/// Reads the value ahead, within this many levels. A reader's error is kept aside.
 pub(crate) fn read_value<R: Read>(
     alloc: Global,
     decoder: &mut Decoder<'_, R>,
     scratch: &mut [u8],
     levels: usize,
-) -> Result<Value, Error<io::Error>>
+    failure: &mut Option<io::Error>,
+) -> Result<Value, Refusal>
     ensures same_reader { HasSameReader decoder.old decoder.new }
     ensures rests { OnOk result (pushed_of decoder.new ≡ None) }
     ensures fewer { OnOk result (heads_left decoder.new < heads_left decoder.old) }
@@ -80,7 +83,7 @@ pub(crate) fn read_value<R: Read>(
 {
     let mut stack = Stack::new(alloc);
     'turns: loop {
-        if let Some(value) = turn(alloc, decoder, scratch, &mut stack, levels)? {
+        if let Some(value) = turn(alloc, decoder, scratch, &mut stack, levels, failure)? {
             return Ok(value);
         }
     }

@@ -8,10 +8,10 @@ ghost use Rattle.ciborium.specs.Parts.{IsHeadRead};
 ghost use Rattle.ciborium.specs.Reads.{heads_left};
 
 use crate::de::error::Error;
-use ciborium_ll::{Decoder, Header};
+use ciborium_ll::{Decoder, Header, Keep};
 use ciborium_value::Value;
 use ciborium_value::stack::Opening;
-use std::io::{self, Read};
+use std::io::Read;
 
 /// A part of what is read.
 #[derive(Drop)]
@@ -24,9 +24,12 @@ pub(crate) enum Part {
     Ended,
 }
 
-/// The next head.
+/// The next head; a reader's error goes to `keep`.
 #[inline(always)]
-pub(crate) fn pull<R: Read>(decoder: &mut Decoder<'_, R>) -> Result<Header, Error<io::Error>>
+pub(crate) fn pull<R: Read, K: Keep>(
+    decoder: &mut Decoder<'_, R>,
+    keep: &mut K,
+) -> Result<Header, Error<K::Kept>>
     ensures same_reader { HasSameReader decoder.old decoder.new }
     ensures pushed { pushed_of decoder.new ≡ None }
     ensures fewer { OnOk result (heads_left decoder.new < heads_left decoder.old) }
@@ -35,5 +38,5 @@ pub(crate) fn pull<R: Read>(decoder: &mut Decoder<'_, R>) -> Result<Header, Erro
     ensures head { TakesBeforeAny R.remaining decoder.old decoder.new
         (λ d e. (xs : List ℕ) (p : ℕ) → IsAhead Some d xs p → IsHeadRead Some e xs p result) }
 {
-    Ok(decoder.pull()?)
+    Ok(decoder.pull_keeping(keep)?)
 }

@@ -10,21 +10,22 @@ ghost use Rattle.ciborium.specs.Reads.{IsAt, heads_left};
 ghost use Rattle.ciborium.specs.Strings.{IsStringRead};
 ghost use Rattle.ciborium_ll.specs.StringRefusal.{of_bytes, of_text};
 
+use crate::de::byte_source::Refusal;
 use crate::de::error::Error;
 use crate::de::front::{Part, pull};
 use crate::de::tags::read_tag;
-use ciborium_ll::{Decoder, Header, simple};
+use ciborium_ll::{Decoder, Header, Keep, simple};
 use ciborium_value::stack::Opening;
 use ciborium_value::{Integer, Kind, Value};
 use std::alloc::Global;
 use std::io::{self, Read};
 
 #[inline(always)]
-pub(super) fn begin_array(
+pub(super) fn begin_array<E>(
     alloc: Global,
     count: Option<usize>,
     levels: usize,
-) -> Result<Part, Error<io::Error>>
+) -> Result<Part, Error<E>>
     ensures { IsArrayBegun count levels result }
 {
     if levels == 0 {
@@ -40,11 +41,11 @@ pub(super) fn begin_array(
 }
 
 #[inline(always)]
-pub(super) fn begin_map(
+pub(super) fn begin_map<E>(
     alloc: Global,
     count: Option<usize>,
     levels: usize,
-) -> Result<Part, Error<io::Error>>
+) -> Result<Part, Error<E>>
     ensures { IsMapBegun count levels result }
 {
     if levels == 0 {
@@ -61,7 +62,7 @@ pub(super) fn begin_map(
 
 #[tactic(auto, unfolding(ciborium_value::specs::Meaning::simple_meaning))]
 #[inline(always)]
-pub(super) fn read_simple(number: u8, offset: usize) -> Result<Value, Error<io::Error>>
+pub(super) fn read_simple<E>(number: u8, offset: usize) -> Result<Value, Error<E>>
     ensures { IsSimpleRead number offset result }
 {
     match number {
@@ -72,13 +73,14 @@ pub(super) fn read_simple(number: u8, offset: usize) -> Result<Value, Error<io::
     }
 }
 
-// The payload of the byte string whose head was pulled last.
-pub(super) fn read_bytes<R: Read>(
+// The payload of the byte string whose head was pulled last. A reader's error goes to `keep`.
+pub(super) fn read_bytes<R: Read, K: Keep>(
     alloc: Global,
     decoder: &mut Decoder<'_, R>,
     scratch: &mut [u8],
     len: Option<usize>,
-) -> Result<Value, Error<io::Error>>
+    keep: &mut K,
+) -> Result<Value, Error<K::Kept>>
     requires { pushed_of decoder.old ≡ None }
     ensures same_reader { HasSameReader decoder.old decoder.new }
     ensures pushed { pushed_of decoder.new ≡ None }
@@ -88,17 +90,18 @@ pub(super) fn read_bytes<R: Read>(
         IsStringRead of_bytes Some e len (last_of decoder.old) xs p result) }
 {
     let mut out = Vec::new(alloc);
-    decoder.bytes_into(len, scratch, &mut out)?;
+    decoder.bytes_into_keeping(len, scratch, &mut out, keep)?;
     Ok(Value::Bytes(out))
 }
 
-// The payload of the text whose head was pulled last.
-pub(super) fn read_text<R: Read>(
+// The payload of the text whose head was pulled last. A reader's error goes to `keep`.
+pub(super) fn read_text<R: Read, K: Keep>(
     alloc: Global,
     decoder: &mut Decoder<'_, R>,
     scratch: &mut [u8],
     len: Option<usize>,
-) -> Result<Value, Error<io::Error>>
+    keep: &mut K,
+) -> Result<Value, Error<K::Kept>>
     requires { pushed_of decoder.old ≡ None }
     ensures same_reader { HasSameReader decoder.old decoder.new }
     ensures pushed { pushed_of decoder.new ≡ None }
@@ -108,7 +111,7 @@ pub(super) fn read_text<R: Read>(
         IsStringRead of_text Some e len (last_of decoder.old) xs p result) }
 {
     let mut out = String::new(alloc);
-    decoder.text_into(len, scratch, &mut out)?;
+    decoder.text_into_keeping(len, scratch, &mut out, keep)?;
     Ok(Value::Text(out))
 }
 
@@ -119,7 +122,8 @@ pub(crate) fn next<R: Read>(
     decoder: &mut Decoder<'_, R>,
     scratch: &mut [u8],
     levels: usize,
-) -> Result<Part, Error<io::Error>>
+    failure: &mut Option<io::Error>,
+) -> Result<Part, Refusal>
     ensures same_reader { HasSameReader decoder.old decoder.new }
     ensures fewer { OnOk result (heads_left decoder.new < heads_left decoder.old) }
     ensures rests { IfOk result (λ part. IsAtRest part (pushed_of decoder.new)) }
@@ -129,14 +133,20 @@ pub(crate) fn next<R: Read>(
         IsPartRead Some e levels xs p result) }
 {
     let offset = decoder.offset();
-    match pull(decoder)? {
+    match pull(decoder, failure)? {
         Header::Positive(n) => Ok(Part::Whole(Value::Integer(Integer::from(n)))),
         Header::Negative(n) => Ok(Part::Whole(Value::Integer(Integer::from_head(true, n)))),
-        Header::Bytes(len) => Ok(Part::Whole(read_bytes(alloc, decoder, scratch, len)?)),
-        Header::Text(len) => Ok(Part::Whole(read_text(alloc, decoder, scratch, len)?)),
+        Header::Bytes(len) => {
+            let value = read_bytes(alloc, decoder, scratch, len, failure)?;
+            Ok(Part::Whole(value))
+        }
+        Header::Text(len) => {
+            let value = read_text(alloc, decoder, scratch, len, failure)?;
+            Ok(Part::Whole(value))
+        }
         Header::Array(count) => begin_array(alloc, count, levels),
         Header::Map(count) => begin_map(alloc, count, levels),
-        Header::Tag(tag) => read_tag(alloc, decoder, tag, offset, levels),
+        Header::Tag(tag) => read_tag(alloc, decoder, tag, offset, levels, failure),
         Header::Simple(n) => Ok(Part::Whole(read_simple(n, offset)?)),
         Header::Float(_) => Err(Error::Semantic(Some(offset), Kind::Float)),
         Header::Break => Ok(Part::Ended),

@@ -8,6 +8,7 @@ ghost use Rattle.ciborium.specs.Parts.{HasRoom, IsAtRest, IsFoldRead, IsFolded, 
 ghost use Rattle.ciborium.specs.Parts.{IsPartRead};
 ghost use Rattle.ciborium.specs.Reads.{IsAt, IsPulled, heads_left};
 
+use crate::de::byte_source::Refusal;
 use crate::de::error::Error;
 use crate::de::front::{Part, pull};
 use ciborium_ll::tag::{BIGNEG, BIGPOS};
@@ -35,12 +36,12 @@ pub(super) fn find_folding(tag: u64, header: Header) -> Option<usize>
 }
 
 // What a tag at this offset means that folds over these bytes.
-pub(super) fn fold(
+pub(super) fn fold<E>(
     alloc: Global,
     tag: u64,
     payload: &[u8],
     offset: usize,
-) -> Result<Value, Error<io::Error>>
+) -> Result<Value, Error<E>>
     requires tag { is_bignum_tag tag ≡ true }
     requires short { length payload.now ≤ 16 }
     ensures { IsFolded tag payload.now offset result }
@@ -59,7 +60,8 @@ fn read_folded<R: Read>(
     tag: u64,
     n: usize,
     offset: usize,
-) -> Result<Value, Error<io::Error>>
+    failure: &mut Option<io::Error>,
+) -> Result<Value, Refusal>
     requires tag { is_bignum_tag tag ≡ true }
     requires short { n ≤ 16 }
     requires pushed { pushed_of decoder.old ≡ None }
@@ -72,7 +74,7 @@ fn read_folded<R: Read>(
 {
     let mut room = [0u8; GREATEST_FOLDED_SIZE];
     let payload = &mut room[..n];
-    decoder.read_exact(payload)?;
+    decoder.read_exact_keeping(payload, failure)?;
     fold(alloc, tag, payload, offset)
 }
 
@@ -84,7 +86,8 @@ pub(crate) fn read_tag<R: Read>(
     tag: u64,
     offset: usize,
     levels: usize,
-) -> Result<Part, Error<io::Error>>
+    failure: &mut Option<io::Error>,
+) -> Result<Part, Refusal>
     requires { pushed_of decoder.old ≡ None }
     ensures same_reader { HasSameReader decoder.old decoder.new }
     ensures fewer { OnOk result (heads_left decoder.new ≤ heads_left decoder.old) }
@@ -95,9 +98,10 @@ pub(crate) fn read_tag<R: Read>(
         IsPartRead Some e levels xs p result) }
 {
     let at = decoder.offset();
-    let next = pull(decoder)?;
+    let next = pull(decoder, failure)?;
     if let Some(n) = find_folding(tag, next) {
-        return Ok(Part::Whole(read_folded(alloc, decoder, tag, n, offset)?));
+        let value = read_folded(alloc, decoder, tag, n, offset, failure)?;
+        return Ok(Part::Whole(value));
     }
     if levels == 0 {
         return Err(Error::RecursionLimitExceeded);

@@ -1,4 +1,4 @@
-//! The reader's error, put aside and put back.
+//! The reader's error, which was kept aside, put back.
 
 ghost use Rattle.std.specs.Prelude.{◌≡◌};
 ghost use Rattle.ciborium.specs.ByteSources.{refusal_of};
@@ -7,26 +7,8 @@ use crate::de::byte_source::{ByteSource, Refusal};
 use crate::de::error::Error;
 use std::io::{self, ErrorKind};
 
-/// Puts aside what an error holds of the reader.
-#[inline(never)]
-pub(crate) fn put_aside(failure: &mut Option<io::Error>, error: Error<io::Error>) -> Refusal
-    ensures { result ≡ refusal_of error }
-{
-    match error {
-        Error::Io(e) => {
-            *failure = Some(e);
-            Error::Io(())
-        }
-        Error::Syntax(offset) => Error::Syntax(offset),
-        Error::Semantic(offset, kind) => Error::Semantic(offset, kind),
-        Error::RecursionLimitExceeded => Error::RecursionLimitExceeded,
-        Error::Memory => Error::Memory,
-        Error::TooLong => Error::TooLong,
-    }
-}
-
 impl<R> ByteSource<'_, R> {
-    /// Puts back what was put aside. There is such an error wherever a call was refused as `Io`.
+    /// Puts back what was kept aside. There is such an error wherever a call was refused as `Io`.
     #[inline(never)]
     pub(crate) fn put_back(&mut self, refusal: Refusal) -> Error<io::Error>
         ensures refusal { refusal ≡ refusal_of result }

@@ -1,15 +1,16 @@
 //! Containers: how they are entered, and their parts in turn.
 
-ghost use Rattle.std.specs.Prelude.{◌≡◌, ◌≢◌, ◌+◌, ◌-◌, ◌<◌, ◌≤◌, IfErr, IfOk, MatchBool, None};
+ghost use Rattle.std.specs.Prelude.{◌≡◌, ◌≢◌, ℕ, List, ◌+◌, ◌-◌, ◌<◌, ◌≤◌, IfErr, IfOk, MatchBool, None};
 ghost use Rattle.std.specs.Prelude.{OnErr, OnOk, Some, false};
 ghost use Rattle.ciborium_ll.specs.Decoding.{HasSameReader};
 ghost use Rattle.ciborium_ll.specs.StringRefusal.{of_bytes};
 ghost use Rattle.ciborium_value.specs.Sources.{GoesOn, IsGranted, Leaves, OwesLess, OwesNothing};
-ghost use Rattle.ciborium_value.specs.Sources.{RefusesNext, TakesTo};
+ghost use Rattle.ciborium_value.specs.Sources.{RefusesNext, TakesTo, of_device};
 ghost use Rattle.ciborium_value.specs.Taken.{gives, taken_pairs, taken_seq};
 ghost use Rattle.ciborium.specs.ByteSources.{HasBytes, IsUnread, OpensItems, OpensPairs, Owes};
-ghost use Rattle.ciborium.specs.ByteSources.{SeqStands, StandsBefore, bytes_weight, cause_of};
-ghost use Rattle.ciborium.specs.ByteSources.{left_of, seq_left, weight_left};
+ghost use Rattle.ciborium.specs.ByteSources.{SeqStands, StandsBefore, StandsStill, bytes_weight, cause_of};
+ghost use Rattle.ciborium.specs.ByteSources.{counted_parts};
+ghost use Rattle.ciborium.specs.ByteSources.{parts_left, seq_left, weight_left};
 ghost use Rattle.ciborium.specs.ItemReads.{Denies};
 ghost use Rattle.ciborium.specs.StringContents.{DeniesContent, TakesContent};
 
@@ -20,6 +21,20 @@ use ciborium_value::Kind;
 use std::alloc::Global;
 use std::io::Read;
 
+// From so many parts on it is worthwhile to read ahead.
+const WORTHWHILE: usize = 8;
+
+// How many parts are left for sure.
+#[inline(always)]
+fn counted_parts(left: &Left) -> usize
+    ensures { result ≡ counted_parts left.now }
+{
+    match left {
+        Left::Counted(n) => *n,
+        _ => 0,
+    }
+}
+
 impl<'a, R: Read> ByteSource<'a, R> {
     /// Takes a level for the container at this offset with so many parts (`None`: open).
     #[inline(always)]
@@ -28,7 +43,7 @@ impl<'a, R: Read> ByteSource<'a, R> {
         ensures pending { self.new.pending ≡ self.old.pending }
         ensures some { OnOk result (self.old.levels ≢ 0) }
         ensures levels { OnOk result (self.new.levels ≡ self.old.levels - 1) }
-        ensures left { IfOk result (λ q. q.left ≡ left_of count) }
+        ensures left { IfOk result (λ q. q.left ≡ parts_left count) }
         ensures back { IfOk result (λ q. q.levels ≡ self.old.levels) }
         ensures none { OnErr result (self.old.levels ≡ 0) }
         ensures err { IfErr result (λ e. e ≡ Error.RecursionLimitExceeded) }
@@ -129,6 +144,26 @@ impl<'a, R: Read> ByteSource<'a, R> {
             }
             _ => Err(Error::Semantic(Some(offset), Kind::Map)),
         }
+    }
+
+    /// Reads ahead where so many parts of a container are left that it is worthwhile: each takes a
+    /// byte at least.
+    #[inline(always)]
+    pub(crate) fn look_ahead(&mut self, seq: &ByteSeq) -> Result<(), Refusal>
+        ensures levels { self.new.levels ≡ self.old.levels }
+        ensures pending { self.new.pending ≡ self.old.pending }
+        ensures weight { weight_left self.new ≡ weight_left self.old }
+        ensures unread { (b : List ℕ) → IsUnread R.remaining self.old b →
+            IsUnread R.remaining self.new b }
+        ensures still { StandsStill R.remaining self.old self.new seq.now }
+        ensures device { IfErr result (λ e. cause_of e ≡ of_device) }
+    {
+        let parts = counted_parts(&seq.left);
+        if parts < WORTHWHILE {
+            return Ok(());
+        }
+        self.decoder.look_ahead_keeping(parts, &mut self.failure)?;
+        Ok(())
     }
 
     /// Whether a further item or pair is ahead; the container is left where none is.

@@ -1,10 +1,10 @@
 //! Booleans and null.
 
-ghost use Rattle.std.specs.Prelude.{◌≡◌, ◌<◌, IfErr, IfOk, None, OnOk, Some, false};
+ghost use Rattle.std.specs.Prelude.{◌≡◌, ◌<◌, IfErr, IfOk, IfSome, None, OnOk, Some, false};
 ghost use Rattle.ciborium_ll.specs.Decoding.{HasSameReader};
-ghost use Rattle.ciborium_value.specs.Sources.{IsGranted};
+ghost use Rattle.ciborium_value.specs.Sources.{IsGranted, Tells};
 ghost use Rattle.ciborium_value.specs.Taken.{is_null_simple, taken_boolean, taken_unit};
-ghost use Rattle.ciborium.specs.ByteSources.{IsUnread, cause_of, weight_left};
+ghost use Rattle.ciborium.specs.ByteSources.{IsUnread, StandsBefore, cause_of, weight_left};
 ghost use Rattle.ciborium.specs.ItemReads.{Denies, Reads};
 
 use crate::de::byte_source::{ByteSource, Refusal};
@@ -21,7 +21,33 @@ pub(crate) fn is_null(number: u8) -> bool
     number == simple::NULL || number == simple::UNDEFINED
 }
 
+// The head of null, and the first initial byte of the simple values (RFC 8949, section 3.3).
+const NULL: u8 = 0xf6;
+
+const SIMPLE: u8 = 0xe0;
+
 impl<'a, R: Read> ByteSource<'a, R> {
+    /// Whether the item ahead is null, where its first byte is held and tells it.
+    #[inline(always)]
+    pub(crate) fn held_null(&self) -> Option<bool>
+        ensures tells { IfSome result
+            (λ answer. Tells (StandsBefore R.remaining) self.now self.now answer) }
+    {
+        if self.pending.is_some() {
+            return None;
+        }
+        match self.decoder.held_byte() {
+            Some(NULL) => Some(true),
+            Some(byte) => {
+                if byte < SIMPLE {
+                    return Some(false);
+                }
+                None
+            }
+            None => None,
+        }
+    }
+
     #[inline(always)]
     pub(crate) fn read_boolean(&mut self) -> Result<bool, Refusal>
         ensures same_reader { HasSameReader self.old.decoder self.new.decoder }

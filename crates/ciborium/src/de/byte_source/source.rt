@@ -76,6 +76,9 @@ impl<'a, R: Read> Source for ByteSource<'a, R> {
 
     #[inline(always)]
     fn null_ahead(&mut self) -> Result<bool, Refusal> {
+        if let Some(answer) = self.held_null() {
+            return Ok(answer);
+        }
         let (header, offset) = self.next_head()?;
         match header {
             Header::Simple(number) => {
@@ -125,6 +128,7 @@ impl<'a, R: Read> Source for ByteSource<'a, R> {
 
     #[inline(always)]
     fn next(&mut self, seq: &mut ByteSeq) -> Result<bool, Refusal> {
+        self.look_ahead(seq)?;
         self.next_part(seq)
     }
 

@@ -13,7 +13,6 @@ ghost use Rattle.ciborium.specs.ItemReads.{Denies, Reads};
 ghost use Rattle.ciborium.specs.Reads.{heads_left};
 
 use crate::de::building::read_value;
-use crate::de::byte_source::aside::put_aside;
 use crate::de::byte_source::scalars::is_null;
 use crate::de::byte_source::{ByteSource, Refusal};
 use ciborium_ll::{Decoder, Header};
@@ -53,13 +52,11 @@ fn read_unpushed<R: Read>(
         (λ d e. (xs : List ℕ) (p : ℕ) → IsAhead Some d xs p →
         IsValueRead Some e levels xs p result) }
 {
-    match read_value(alloc, decoder, scratch, levels) {
-        Ok(value) => Ok(value),
-        Err(error) => {
-            decoder.forget();
-            Err(put_aside(failure, error))
-        }
+    let value = read_value(alloc, decoder, scratch, levels, failure);
+    if value.is_err() {
+        decoder.forget();
     }
+    value
 }
 
 impl<'a, R: Read> ByteSource<'a, R> {

@@ -16,7 +16,7 @@ use crate::de::error::Error;
 use crate::de::front::{Part, pull};
 use crate::de::parts::{begin_array, begin_map, read_bytes, read_simple, read_text};
 use crate::de::tags::{find_folding, fold};
-use ciborium_ll::{Decoder, Header, head_size, simple};
+use ciborium_ll::{Answered, Decoder, Header, head_size, simple};
 use ciborium_value::bignum::GREATEST_FOLDED_SIZE;
 use ciborium_value::stack::Opening;
 use ciborium_value::{Integer, Kind, Value};
@@ -120,7 +120,7 @@ fn read_tag<R: Read>(
         offset ≡ p → IsPartStrictlyRead Some e levels xs p result) }
 {
     let at = decoder.offset();
-    let next = pull(decoder)?;
+    let next = pull(decoder, &mut Answered)?;
     if let Some(n) = find_folding(tag, next) {
         if let Some(kind) = find_fault(next, decoder.head_len()) {
             return Err(Error::Semantic(Some(at), kind));
@@ -151,15 +151,21 @@ pub(super) fn next<R: Read>(
         IsPartStrictlyRead Some e levels xs p result) }
 {
     let offset = decoder.offset();
-    let header = pull(decoder)?;
+    let header = pull(decoder, &mut Answered)?;
     if let Some(kind) = find_fault(header, decoder.head_len()) {
         return Err(Error::Semantic(Some(offset), kind));
     }
     match header {
         Header::Positive(n) => Ok(Part::Whole(Value::Integer(Integer::from(n)))),
         Header::Negative(n) => Ok(Part::Whole(Value::Integer(Integer::from_head(true, n)))),
-        Header::Bytes(len) => Ok(Part::Whole(read_bytes(alloc, decoder, scratch, len)?)),
-        Header::Text(len) => Ok(Part::Whole(read_text(alloc, decoder, scratch, len)?)),
+        Header::Bytes(len) => {
+            let value = read_bytes(alloc, decoder, scratch, len, &mut Answered)?;
+            Ok(Part::Whole(value))
+        }
+        Header::Text(len) => {
+            let value = read_text(alloc, decoder, scratch, len, &mut Answered)?;
+            Ok(Part::Whole(value))
+        }
         Header::Array(count) => begin_array(alloc, count, levels),
         Header::Map(count) => begin_map(alloc, count, levels),
         Header::Tag(tag) => read_tag(alloc, decoder, tag, offset, levels),

@@ -1,6 +1,5 @@
 use Rattle.std.proofs.Common.{◌∙◌, arith, ◌≤◌, ℕ, List, length, refl, rules, Some, Ok, Err, Result, Option, subst, MatchOption}
 use Rattle.std.proofs.lemmas.Result.{err_from_is_err_and}
-use Rattle.std.specs.declared.io.Error.{Error as IoError}
 use Rattle.ciborium_ll.specs.declared.decoder.Decoder.{Decoder}
 use Rattle.ciborium_ll.specs.Decoding.{IsAhead}
 use Rattle.ciborium_value.specs.declared.tree.Value.{Value}
@@ -18,7 +17,7 @@ abbrev Reading : List Open → ℕ → Decoder (List ℕ) → Decoder (List ℕ)
 Reading os l d e = (xs : List ℕ) (p : ℕ) → IsAhead Some d xs p → IsReading Some e os l xs p
 
 -- a turn goes on
-abbrev Turns : List Open → List Open → ℕ → Result (Option Value) (Error IoError) → Decoder (List ℕ) → Decoder (List ℕ) → Type 0
+abbrev Turns : List Open → List Open → ℕ → Result (Option Value) (Error Unit) → Decoder (List ℕ) → Decoder (List ℕ) → Type 0
 Turns os us l x d e = (xs : List ℕ) (p : ℕ) → IsReading Some d os l xs p → IsTurned Some e us l xs p x
 
 pub turns-init : goal.turns-init
@@ -26,7 +25,7 @@ turns-init g c = record {
   same_reader = refl;
   depth = search rules;
   fewer = omega arith;
-  reading = so-unread g.R.Read.remaining c.args.decoder.now c.args.decoder.now (Reading (opens_of c.new-stack.result) c.args.levels) (refl, refl)
+  reading = so-unread g.R.Read.remaining c.args.decoder.now c.args.decoder.now (Reading (opens_of c.new-stack.result) c.args.levels) (refl, refl, refl)
       (λ u xs p s. begin Some (with_left c.args.decoder.now u) (opens_of c.new-stack.result) c.args.levels xs p c.new-stack.ensures s);
 }
 
@@ -42,7 +41,7 @@ turns-preserved g c = record {
         t.1,
         t.2,
         λ z xs p s. let m = t.3 z in
-            subst (λ o. IsTurned {E = IoError} Some (with_left c.turn.new.decoder z) (opens_of c.turn.new.stack) c.args.levels xs p (Ok o)) c.in_default.is (m.2 xs p (m.1 xs p s)),
+            subst (λ o. IsTurned {E = Unit} Some (with_left c.turn.new.decoder z) (opens_of c.turn.new.stack) c.args.levels xs p (Ok o)) c.in_default.is (m.2 xs p (m.1 xs p s)),
         t.4,
       )
       );
@@ -56,7 +55,7 @@ returns-in-Some-clause-value g c =
       t.1,
       t.2,
       λ z xs p s. let m = t.3 z in
-          subst (λ o. IsTurned {E = IoError} Some (with_left c.turn.new.decoder z) (opens_of c.turn.new.stack) c.args.levels xs p (Ok o)) c.in-Some.is (m.2 xs p (m.1 xs p s)),
+          subst (λ o. IsTurned {E = Unit} Some (with_left c.turn.new.decoder z) (opens_of c.turn.new.stack) c.args.levels xs p (Ok o)) c.in-Some.is (m.2 xs p (m.1 xs p s)),
       t.4,
     )
 

@@ -1,5 +1,5 @@
-use Rattle.std.proofs.Common.{◌≡◌, ℕ, ◌≤◌, List, Some, length}
-use Rattle.ciborium_ll.specs.Decoding.{TakesBeforeAny}
+use Rattle.std.proofs.Common.{ℕ, ◌≤◌, List, Some, length}
+use Rattle.ciborium_ll.specs.Decoding.{TakesBeforeAny, HasSameReader}
 use Rattle.ciborium_value.specs.Stack.{opens_of}
 use Rattle.ciborium.specs.DeterministicReads.{IsMeasuredAhead, IsReadingStrictly}
 use Rattle.ciborium.specs.Reads.{heads_left}
@@ -7,7 +7,7 @@ use Rattle.ciborium.proofs.de.deterministic.read_value.Given as goal
 
 abbrev pub invariant-turns : goal.invariant-turns
 invariant-turns g l = record {
-  same_reader : l.decoder.reader.ghost_name ≡ l.initial.decoder.reader.ghost_name;
+  same_reader : HasSameReader l.initial.decoder l.decoder;
   depth : length (opens_of l.stack) ≤ l.levels;
   fewer : heads_left l.decoder ≤ heads_left l.initial.decoder;
   reading : TakesBeforeAny g.R.Read.remaining l.initial.decoder l.decoder (λ d e. (xs : List ℕ) (p : ℕ) → IsMeasuredAhead Some d xs p → IsReadingStrictly Some e (opens_of l.stack) l.levels xs p);

@@ -2,10 +2,10 @@ use Rattle.std.proofs.Common.{rules, ◌≡◌, ◌-◌, Some, arith}
 use Rattle.ciborium.proofs.de.parts.begin_array.Goals as goal
 
 pub returns-in-Some : goal.returns-in-Some
-returns-in-Some c =
+returns-in-Some g c =
     let test = rw c.in-Some.is at c.in-Some.n-test in
     let some : c.in-Some.n ≡ 0 → ⊥ = test.1 in
     (omega arith, Some (c.in-Some.n - 1), search rules, rw c.in-Some.is (omega arith))
 
 pub returns-in-None : goal.returns-in-None
-returns-in-None c = search rules
+returns-in-None g c = search rules

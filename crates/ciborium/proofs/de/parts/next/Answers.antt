@@ -1,6 +1,5 @@
 use Rattle.std.proofs.Common.{◌≡◌, ℕ, List, ◌++◌, ap, ◌∙◌, Some, Ok, Err, pos, negsuc, subst, refl}
 use Rattle.std.proofs.lemmas.Result.{err_from_is_err_and}
-use Rattle.std.specs.declared.io.Error.{Error}
 use Rattle.ciborium_ll.specs.declared.header.Header.TheVariants as header
 use Rattle.ciborium_ll.specs.Refusal.{semantic}
 use Rattle.ciborium_ll.specs.Refusal as refusal
@@ -45,54 +44,54 @@ returns-in-Negative-clause-part g c =
       t.4,
     )
 
-pub returns-in_ok-read_bytes-in-Bytes-clause-part : goal.returns-in_ok-read_bytes-in-Bytes-clause-part
-returns-in_ok-read_bytes-in-Bytes-clause-part g c =
-    let t = so-both g.R.Read.remaining c.args.decoder.now c.pull.new.decoder c.read_bytes.new.decoder (λ d e. PullsSo {E = Error} Some d e (Ok c.in_ok-n.field-0))
-    (λ d e. StringSo {E = Error} of_bytes c.in-Bytes.len c.pull.new.decoder.last d e (Ok c.in_ok-read_bytes-in-Bytes.field-0)) c.in_ok-n.ensures.head c.in_ok-read_bytes-in-Bytes.ensures.content in (
+pub returns-in_ok-value-in-Bytes-clause-part : goal.returns-in_ok-value-in-Bytes-clause-part
+returns-in_ok-value-in-Bytes-clause-part g c =
+    let t = so-both g.R.Read.remaining c.args.decoder.now c.pull.new.decoder c.read_bytes.new.decoder (λ d e. PullsSo {E = Unit} Some d e (Ok c.in_ok-n.field-0))
+    (λ d e. StringSo {E = Unit} of_bytes c.in-Bytes.len c.pull.new.decoder.last d e (Ok c.in_ok-value-in-Bytes.value)) c.in_ok-n.ensures.head c.in_ok-value-in-Bytes.ensures.content in (
       t.0,
       t.1,
       t.2,
-      λ z xs p s. let m = t.3 z in got-string Error of_bytes Some (with_left c.pull.new.decoder m.0) (with_left c.read_bytes.new.decoder z) c.args.levels c.in-Bytes.len xs p c.in_ok-n.field-0 c.in_ok-read_bytes-in-Bytes.field-0
+      λ z xs p s. let m = t.3 z in got-string Unit of_bytes Some (with_left c.pull.new.decoder m.0) (with_left c.read_bytes.new.decoder z) c.args.levels c.in-Bytes.len xs p c.in_ok-n.field-0 c.in_ok-value-in-Bytes.value
           c.read_bytes.ensures.pushed c.in-Bytes.is m.2 (m.1 xs p s),
       t.4,
     )
 
-pub returns-in_err-read_bytes-in-Bytes-clause-part : goal.returns-in_err-read_bytes-in-Bytes-clause-part
-returns-in_err-read_bytes-in-Bytes-clause-part g c =
-    let exit = err_from_is_err_and c.from_residual-in_err-read_bytes-in-Bytes.result c.from_residual-in_err-read_bytes-in-Bytes.ensures.1 in
-    let t = so-both g.R.Read.remaining c.args.decoder.now c.pull.new.decoder c.read_bytes.new.decoder (λ d e. PullsSo {E = Error} Some d e (Ok c.in_ok-n.field-0))
-    (λ d e. StringSo {E = Error} of_bytes c.in-Bytes.len c.pull.new.decoder.last d e (Err c.in_err-read_bytes-in-Bytes.field-0.0)) c.in_ok-n.ensures.head c.in_err-read_bytes-in-Bytes.ensures.content in
+pub returns-in_err-value-in-Bytes-clause-part : goal.returns-in_err-value-in-Bytes-clause-part
+returns-in_err-value-in-Bytes-clause-part g c =
+    let exit = err_from_is_err_and c.from_residual-in_err-value-in-Bytes.result c.from_residual-in_err-value-in-Bytes.ensures.1 in
+    let t = so-both g.R.Read.remaining c.args.decoder.now c.pull.new.decoder c.read_bytes.new.decoder (λ d e. PullsSo {E = Unit} Some d e (Ok c.in_ok-n.field-0))
+    (λ d e. StringSo {E = Unit} of_bytes c.in-Bytes.len c.pull.new.decoder.last d e (Err c.in_err-value-in-Bytes.field-0.0)) c.in_ok-n.ensures.head c.in_err-value-in-Bytes.ensures.content in
     rw (exit.1, exit.2) (
       t.0,
       t.1,
       t.2,
-      λ z xs p s. let m = t.3 z in string-fault of_bytes Some (with_left c.pull.new.decoder m.0) (with_left c.read_bytes.new.decoder z) c.args.levels c.in-Bytes.len xs p c.in_ok-n.field-0 c.in_err-read_bytes-in-Bytes.field-0.0
+      λ z xs p s. let m = t.3 z in string-fault of_bytes Some (with_left c.pull.new.decoder m.0) (with_left c.read_bytes.new.decoder z) c.args.levels c.in-Bytes.len xs p c.in_ok-n.field-0 c.in_err-value-in-Bytes.field-0.0
           c.in-Bytes.is m.2 (m.1 xs p s),
       t.4,
     )
 
-pub returns-in_ok-read_text-in-Text-clause-part : goal.returns-in_ok-read_text-in-Text-clause-part
-returns-in_ok-read_text-in-Text-clause-part g c =
-    let t = so-both g.R.Read.remaining c.args.decoder.now c.pull.new.decoder c.read_text.new.decoder (λ d e. PullsSo {E = Error} Some d e (Ok c.in_ok-n.field-0))
-    (λ d e. StringSo {E = Error} of_text c.in-Text.len c.pull.new.decoder.last d e (Ok c.in_ok-read_text-in-Text.field-0)) c.in_ok-n.ensures.head c.in_ok-read_text-in-Text.ensures.content in (
+pub returns-in_ok-value-in-Text-clause-part : goal.returns-in_ok-value-in-Text-clause-part
+returns-in_ok-value-in-Text-clause-part g c =
+    let t = so-both g.R.Read.remaining c.args.decoder.now c.pull.new.decoder c.read_text.new.decoder (λ d e. PullsSo {E = Unit} Some d e (Ok c.in_ok-n.field-0))
+    (λ d e. StringSo {E = Unit} of_text c.in-Text.len c.pull.new.decoder.last d e (Ok c.in_ok-value-in-Text.value)) c.in_ok-n.ensures.head c.in_ok-value-in-Text.ensures.content in (
       t.0,
       t.1,
       t.2,
-      λ z xs p s. let m = t.3 z in got-string Error of_text Some (with_left c.pull.new.decoder m.0) (with_left c.read_text.new.decoder z) c.args.levels c.in-Text.len xs p c.in_ok-n.field-0 c.in_ok-read_text-in-Text.field-0
+      λ z xs p s. let m = t.3 z in got-string Unit of_text Some (with_left c.pull.new.decoder m.0) (with_left c.read_text.new.decoder z) c.args.levels c.in-Text.len xs p c.in_ok-n.field-0 c.in_ok-value-in-Text.value
           c.read_text.ensures.pushed c.in-Text.is m.2 (m.1 xs p s),
       t.4,
     )
 
-pub returns-in_err-read_text-in-Text-clause-part : goal.returns-in_err-read_text-in-Text-clause-part
-returns-in_err-read_text-in-Text-clause-part g c =
-    let exit = err_from_is_err_and c.from_residual-in_err-read_text-in-Text.result c.from_residual-in_err-read_text-in-Text.ensures.1 in
-    let t = so-both g.R.Read.remaining c.args.decoder.now c.pull.new.decoder c.read_text.new.decoder (λ d e. PullsSo {E = Error} Some d e (Ok c.in_ok-n.field-0))
-    (λ d e. StringSo {E = Error} of_text c.in-Text.len c.pull.new.decoder.last d e (Err c.in_err-read_text-in-Text.field-0.0)) c.in_ok-n.ensures.head c.in_err-read_text-in-Text.ensures.content in
+pub returns-in_err-value-in-Text-clause-part : goal.returns-in_err-value-in-Text-clause-part
+returns-in_err-value-in-Text-clause-part g c =
+    let exit = err_from_is_err_and c.from_residual-in_err-value-in-Text.result c.from_residual-in_err-value-in-Text.ensures.1 in
+    let t = so-both g.R.Read.remaining c.args.decoder.now c.pull.new.decoder c.read_text.new.decoder (λ d e. PullsSo {E = Unit} Some d e (Ok c.in_ok-n.field-0))
+    (λ d e. StringSo {E = Unit} of_text c.in-Text.len c.pull.new.decoder.last d e (Err c.in_err-value-in-Text.field-0.0)) c.in_ok-n.ensures.head c.in_err-value-in-Text.ensures.content in
     rw (exit.1, exit.2) (
       t.0,
       t.1,
       t.2,
-      λ z xs p s. let m = t.3 z in string-fault of_text Some (with_left c.pull.new.decoder m.0) (with_left c.read_text.new.decoder z) c.args.levels c.in-Text.len xs p c.in_ok-n.field-0 c.in_err-read_text-in-Text.field-0.0
+      λ z xs p s. let m = t.3 z in string-fault of_text Some (with_left c.pull.new.decoder m.0) (with_left c.read_text.new.decoder z) c.args.levels c.in-Text.len xs p c.in_ok-n.field-0 c.in_err-value-in-Text.field-0.0
           c.in-Text.is m.2 (m.1 xs p s),
       t.4,
     )
@@ -161,8 +160,8 @@ returns-in-Break-clause-part g c =
 
 pub returns-in-Tag-clause-part : goal.returns-in-Tag-clause-part
 returns-in-Tag-clause-part g c =
-    let t = so-both g.R.Read.remaining c.args.decoder.now c.pull.new.decoder c.read_tag.new.decoder (λ d e. PullsSo {E = Error} Some d e (Ok c.in_ok-n.field-0))
-    (λ d e. (xs : List ℕ) (p : ℕ) → IsPulled Some d (header.Tag c.in-Tag.tag) xs p → c.offset-offset.result ≡ p → IsPartRead {E = Error} Some e c.args.levels xs p c.read_tag.result) c.in_ok-n.ensures.head c.read_tag.ensures.part in (
+    let t = so-both g.R.Read.remaining c.args.decoder.now c.pull.new.decoder c.read_tag.new.decoder (λ d e. PullsSo {E = Unit} Some d e (Ok c.in_ok-n.field-0))
+    (λ d e. (xs : List ℕ) (p : ℕ) → IsPulled Some d (header.Tag c.in-Tag.tag) xs p → c.offset-offset.result ≡ p → IsPartRead {E = Unit} Some e c.args.levels xs p c.read_tag.result) c.in_ok-n.ensures.head c.read_tag.ensures.part in (
       t.0,
       t.1,
       t.2,

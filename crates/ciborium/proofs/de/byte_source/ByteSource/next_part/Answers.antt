@@ -1,10 +1,10 @@
-use Rattle.std.proofs.Common.{Some, arith, ◌++◌, ◌-◌, ◌≡◌, ◌∷◌, refl, sym, ap, ◌∙◌, subst}
+use Rattle.std.proofs.Common.{Some, arith, ◌++◌, ◌+◌, ◌≤◌, ◌-◌, ◌≡◌, ◌∷◌, refl, sym, ap, ◌∙◌, subst}
 use Rattle.std.specs.Vec.Iter.{into_iter_items}
 use Rattle.std.proofs.lemmas.Result.{err_from_is_err_and}
 use Rattle.ciborium_ll.specs.declared.header.Header.TheVariants as header
 use Rattle.ciborium_ll.specs.Header.{SpellsHeader}
 use Rattle.ciborium.specs.declared.de.byte_source.Left.TheVariants as left
-use Rattle.ciborium.specs.ByteSources.{IsUnread, IsUnreadBy, cause_of}
+use Rattle.ciborium.specs.ByteSources.{IsUnread, IsUnreadBy, cause_of, bytes_weight, weight, weight_left}
 use Rattle.ciborium.specs.ItemReads.{TakesHead}
 use Rattle.ciborium.proofs.NextParts.{aside-unread, goes-bytes, goes-counted, goes-open, leaves-counted, leaves-open, less-bytes, less-counted, less-open, is-none, no-next, nothing-counted, nothing-open, wide, wide-head}
 use Rattle.ciborium.proofs.de.byte_source.ByteSource.next_part.Goals as goal
@@ -32,7 +32,7 @@ returns-in_err-header-in-Open-clause-refused g c =
 pub returns-in-Break-clause-ok : goal.returns-in-Break-clause-ok
 returns-in-Break-clause-ok g c =
     leaves-open g.R.Read.remaining c.args.self.now c.next_head.new.self (record c.next_head.new.self { levels = c.args.seq.now.levels }) c.args.seq.now c.in-Open.is c.in_ok-header-in-Open.ensures.same_reader
-    (subst (TakesHead (IsUnread g.R.Read.remaining) c.args.self.now c.next_head.new.self) c.in-Break.is c.in_ok-header-in-Open.ensures.head) refl c.in_ok-header-in-Open.ensures.pending (λ y u. u)
+    (subst (λ k. bytes_weight c.next_head.new.self + weight k ≤ weight_left c.args.self.now) c.in-Break.is c.in_ok-header-in-Open.ensures.fewer) (subst (TakesHead (IsUnread g.R.Read.remaining) c.args.self.now c.next_head.new.self) c.in-Break.is c.in_ok-header-in-Open.ensures.head) refl c.in_ok-header-in-Open.ensures.pending (λ y u. u)
 
 pub returns-in-Break-clause-took : goal.returns-in-Break-clause-took
 returns-in-Break-clause-took g c =
@@ -48,7 +48,7 @@ returns-in_default g c =
     let aside : (b x y : _) → IsUnread g.R.Read.remaining c.args.self.now b → SpellsHeader x h → b ≡ x ++ y → IsUnread g.R.Read.remaining mid y → IsUnreadBy g.R.Read.remaining mid.decoder (Some (h, c.in_ok-header-in-Open.offset)) b
     = λ b x y w hd e u. aside-unread g.R.Read.remaining mid.decoder mid.pending h c.in_ok-header-in-Open.offset b x y none hd e (c.in_ok-header-in-Open.ensures.counted b x y w hd e) u in record {
       same_reader = c.in_ok-header-in-Open.ensures.same_reader;
-      ok = goes-open g.R.Read.remaining c.args.self.now mid (record mid { pending = Some (h, c.in_ok-header-in-Open.offset) }) c.args.seq.now c.args.seq.now h c.in-Open.is c.in-Open.is refl c.in_ok-header-in-Open.ensures.same_reader
+      ok = goes-open g.R.Read.remaining c.args.self.now mid (record mid { pending = Some (h, c.in_ok-header-in-Open.offset) }) c.args.seq.now c.args.seq.now h c.in-Open.is c.in-Open.is refl c.in_ok-header-in-Open.ensures.same_reader c.in_ok-header-in-Open.ensures.fewer
           c.in_ok-header-in-Open.ensures.levels c.in_ok-header-in-Open.ensures.head c.in_default.not-Break aside;
       refused = tt;
       memory = tt;

@@ -1,6 +1,7 @@
 use Rattle.std.proofs.Common.{◌≡◌, ap, ◌∙◌, sym, Some, false, subst, arith, ◌++◌}
 use Rattle.std.proofs.lemmas.Result.{err_from_is_err_and}
 use Rattle.ciborium_ll.specs.Header.{SpellsHeader}
+use Rattle.ciborium_ll.specs.Decoding.{source_of}
 use Rattle.ciborium_value.specs.Sources.{of_kind, of_nesting}
 use Rattle.ciborium_value.specs.Taken.{taken_outer_tag}
 use Rattle.ciborium_value.specs.declared.kind.Kind.TheVariants as kinds
@@ -64,7 +65,7 @@ returns-in_ok-level-in_default g c =
     let fewer = head.fewer in
     let count : taken.decoder.count ≡ mid.decoder.count = ap (λ d. d.count) level.decoder in
     record {
-      same_reader = ap (λ d. d.reader.ghost_name) level.decoder ∙ head.same_reader;
+      same_reader = ap source_of level.decoder ∙ head.same_reader;
       level = (level.some.0 ∙ same, sym same ∙ less);
       fewer = omega (arith, fewer, count);
       ok = none-opened U c.args.self.now mid (record taken { pending = Some (h, c.in_ok-header.offset) }) c.args.self.now.levels (λ z. absurd (omega (arith, z, less, same))) h c.in_default.not-Tag head.head aside;

@@ -1,11 +1,13 @@
-use Rattle.std.proofs.Common.{◌≡◌, ap, Some, false, sym, subst, ◌∙◌}
+use Rattle.std.proofs.Common.{◌≡◌, ap, Some, false, sym, subst, ◌∙◌, arith}
 use Rattle.std.proofs.lemmas.Result.{err_from_is_err_and}
 use Rattle.ciborium_ll.specs.declared.header.Header.TheVariants as header
 use Rattle.ciborium_ll.specs.StringRefusal.{of_bytes}
+use Rattle.ciborium_ll.specs.Decoding.{source_of}
+use Rattle.ciborium.proofs.Due.{entered-fewer, weight-bounds}
 use Rattle.ciborium_value.specs.Sources.{of_kind, of_nesting}
 use Rattle.ciborium_value.specs.Taken.{take_each, taken_byte, taken_bytes}
 use Rattle.ciborium_value.specs.declared.kind.Kind.TheVariants as kinds
-use Rattle.ciborium.specs.ByteSources.{IsUnread, OpensItems, cause_of}
+use Rattle.ciborium.specs.ByteSources.{IsUnread, OpensItems, cause_of, pending_weight}
 use Rattle.ciborium.specs.ItemReads.{Denies}
 use Rattle.ciborium.specs.Skips.{TakesBare}
 use Rattle.ciborium.proofs.ByteItems.{array-nests, array-refuses, array-takes, array-took, bytes-given, bytes-other, bytes-read, refuses-denied, takes-read, took-read}
@@ -27,6 +29,7 @@ returns-in_ok-bytes-in-Bytes-clause-ok g c =
     let content = c.in_ok-bytes-in-Bytes.ensures in
     let payload = c.in_ok-bytes-in-Bytes.bytes.items in
     takes-read g.R.Read.remaining c.args.self.now c.bytes_content.new.self taken_bytes payload (content.same_reader ∙ c.in_ok-header.ensures.same_reader) (content.levels ∙ c.in_ok-header.ensures.levels) content.pending
+    (let (some, two) = weight-bounds c.in_ok-header.header in let none = ap pending_weight content.pending in omega (arith, some, none, content.fewer, c.in_ok-header.ensures.fewer))
     (bytes-read g.R.Read.remaining c.args.self.now c.bare_head.new.self c.bytes_content.new.self c.in-Bytes.len payload
     (subst (TakesBare (IsUnread g.R.Read.remaining) c.args.self.now c.bare_head.new.self false) c.in-Bytes.is c.in_ok-header.ensures.head) content.ok)
 
@@ -64,7 +67,8 @@ returns-in_ok-bytes-in-Array-clause-ok g c =
     let opens : OpensItems g.R.Read.remaining c.args.self.now c.enter.new.self taken_bytes (λ l is. take_each (taken_byte l) is) c.in_ok-seq-in-Array.seq =
     array-entered g.R.Read.remaining c.args.self.now c.bare_head.new.self c.enter.new.self c.in-Array.count c.in_ok-seq-in-Array.seq same (enter.decoder, enter.pending, enter.some, enter.levels, enter.left) taken_bytes (λ l is. take_each (taken_byte l) is)
     (subst (TakesBare (IsUnread g.R.Read.remaining) c.args.self.now c.bare_head.new.self false) c.in-Array.is c.in_ok-header.ensures.head) (bytes-given c.args.self.now.levels (λ z. enter.some (same ∙ z))) in
-    array-takes g.R.Read.remaining c.args.self.now c.enter.new.self c.in_ok-seq-in-Array.seq (ap (λ d. d.reader.ghost_name) enter.decoder ∙ c.in_ok-header.ensures.same_reader) (enter.back ∙ same) (enter.pending ∙ c.in_ok-header.ensures.pending) opens
+    array-takes g.R.Read.remaining c.args.self.now c.enter.new.self c.in_ok-seq-in-Array.seq (ap source_of enter.decoder ∙ c.in_ok-header.ensures.same_reader) (enter.back ∙ same) (enter.pending ∙ c.in_ok-header.ensures.pending)
+    (entered-fewer c.args.self.now c.bare_head.new.self c.enter.new.self c.in_ok-header.header enter.decoder (enter.pending ∙ c.in_ok-header.ensures.pending) c.in_ok-header.ensures.fewer) opens
     c.read_byte_items.new.self c.in_ok-bytes-in-Array.bytes.items c.in_ok-bytes-in-Array.ensures.ok
 
 pub returns-in_ok-bytes-in-Array-clause-took : goal.returns-in_ok-bytes-in-Array-clause-took
@@ -74,7 +78,8 @@ returns-in_ok-bytes-in-Array-clause-took g c =
     let opens : OpensItems g.R.Read.remaining c.args.self.now c.enter.new.self taken_bytes (λ l is. take_each (taken_byte l) is) c.in_ok-seq-in-Array.seq =
     array-entered g.R.Read.remaining c.args.self.now c.bare_head.new.self c.enter.new.self c.in-Array.count c.in_ok-seq-in-Array.seq same (enter.decoder, enter.pending, enter.some, enter.levels, enter.left) taken_bytes (λ l is. take_each (taken_byte l) is)
     (subst (TakesBare (IsUnread g.R.Read.remaining) c.args.self.now c.bare_head.new.self false) c.in-Array.is c.in_ok-header.ensures.head) (bytes-given c.args.self.now.levels (λ z. enter.some (same ∙ z))) in
-    array-took g.R.Read.remaining c.args.self.now c.enter.new.self c.in_ok-seq-in-Array.seq (ap (λ d. d.reader.ghost_name) enter.decoder ∙ c.in_ok-header.ensures.same_reader) (enter.back ∙ same) (enter.pending ∙ c.in_ok-header.ensures.pending) opens
+    array-took g.R.Read.remaining c.args.self.now c.enter.new.self c.in_ok-seq-in-Array.seq (ap source_of enter.decoder ∙ c.in_ok-header.ensures.same_reader) (enter.back ∙ same) (enter.pending ∙ c.in_ok-header.ensures.pending)
+    (entered-fewer c.args.self.now c.bare_head.new.self c.enter.new.self c.in_ok-header.header enter.decoder (enter.pending ∙ c.in_ok-header.ensures.pending) c.in_ok-header.ensures.fewer) opens
     c.read_byte_items.new.self c.in_ok-bytes-in-Array.ensures.took
 
 pub returns-in_err-bytes-in-Array-clause-refused : goal.returns-in_err-bytes-in-Array-clause-refused
@@ -85,7 +90,8 @@ returns-in_err-bytes-in-Array-clause-refused g c =
     let opens : OpensItems g.R.Read.remaining c.args.self.now c.enter.new.self taken_bytes (λ l is. take_each (taken_byte l) is) c.in_ok-seq-in-Array.seq =
     array-entered g.R.Read.remaining c.args.self.now c.bare_head.new.self c.enter.new.self c.in-Array.count c.in_ok-seq-in-Array.seq same (enter.decoder, enter.pending, enter.some, enter.levels, enter.left) taken_bytes (λ l is. take_each (taken_byte l) is)
     (subst (TakesBare (IsUnread g.R.Read.remaining) c.args.self.now c.bare_head.new.self false) c.in-Array.is c.in_ok-header.ensures.head) (bytes-given c.args.self.now.levels (λ z. enter.some (same ∙ z))) in
-    rw (exit.1, exit.2) (array-refuses g.R.Read.remaining c.args.self.now c.enter.new.self c.in_ok-seq-in-Array.seq (ap (λ d. d.reader.ghost_name) enter.decoder ∙ c.in_ok-header.ensures.same_reader) (enter.back ∙ same) (enter.pending ∙ c.in_ok-header.ensures.pending) opens
+    rw (exit.1, exit.2) (array-refuses g.R.Read.remaining c.args.self.now c.enter.new.self c.in_ok-seq-in-Array.seq (ap source_of enter.decoder ∙ c.in_ok-header.ensures.same_reader) (enter.back ∙ same) (enter.pending ∙ c.in_ok-header.ensures.pending)
+    (entered-fewer c.args.self.now c.bare_head.new.self c.enter.new.self c.in_ok-header.header enter.decoder (enter.pending ∙ c.in_ok-header.ensures.pending) c.in_ok-header.ensures.fewer) opens
     (cause_of c.in_err-bytes-in-Array.field-0.0) c.in_err-bytes-in-Array.ensures.refused)
 
 pub returns-in_default-clause-refused : goal.returns-in_default-clause-refused

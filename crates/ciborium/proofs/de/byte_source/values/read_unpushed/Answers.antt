@@ -1,5 +1,6 @@
-use Rattle.ciborium.proofs.PutAside.{aside-read}
+use Rattle.std.proofs.Common.{sym, ◌∙◌}
+use Rattle.ciborium.proofs.PutAside.{forgotten-read}
 use Rattle.ciborium.proofs.de.byte_source.values.read_unpushed.Goals as goal
 
-pub returns-in-Err-clause-value : goal.returns-in-Err-clause-value
-returns-in-Err-clause-value g c = aside-read g.R.Read.remaining c.args.decoder.now c.read_value.new.decoder c.forget.new.self c.in-Err.error c.put_aside.result c.args.levels c.put_aside.ensures c.forget.ensures.unread.0 c.forget.ensures.unread.1 c.in-Err.ensures.value
+pub returns-then-is_err-clause-value : goal.returns-then-is_err-clause-value
+returns-then-is_err-clause-value g c = forgotten-read g.R.Read.remaining c.args.decoder.now c.read_value-value.new.decoder c.forget.new.self c.read_value-value.result c.args.levels (sym c.is_err.ensures.value ∙ c.if-is_err.true) c.forget.ensures.unread c.read_value-value.ensures.value

@@ -60,55 +60,55 @@ returns-in-Negative-clause-part g c =
       t.4,
     )
 
-pub returns-in_ok-read_bytes-in-Bytes-clause-part : goal.returns-in_ok-read_bytes-in-Bytes-clause-part
-returns-in_ok-read_bytes-in-Bytes-clause-part g c =
+pub returns-in_ok-value-in-Bytes-clause-part : goal.returns-in_ok-value-in-Bytes-clause-part
+returns-in_ok-value-in-Bytes-clause-part g c =
     let t = so-both g.R.Read.remaining c.args.decoder.now c.pull.new.decoder c.read_bytes.new.decoder (λ d e. PullsSo {E = Error} Some d e (Ok c.in_ok-header.header))
-    (λ d e. StringSo {E = Error} of_bytes c.in-Bytes.len c.pull.new.decoder.last d e (Ok c.in_ok-read_bytes-in-Bytes.field-0)) c.in_ok-header.ensures.head c.in_ok-read_bytes-in-Bytes.ensures.content in (
+    (λ d e. StringSo {E = Error} of_bytes c.in-Bytes.len c.pull.new.decoder.last d e (Ok c.in_ok-value-in-Bytes.value)) c.in_ok-header.ensures.head c.in_ok-value-in-Bytes.ensures.content in (
       t.0,
       t.1,
       t.2,
       λ z xs p s. let at = offset-at Some (with_left c.args.decoder.now (t.0 ++ z)) p xs s.0 in let m = t.3 z in
-          got-string of_bytes Some (with_left c.pull.new.decoder m.0) (with_left c.read_bytes.new.decoder z) c.args.levels xs p c.in_ok-header.header (sym (c.find_fault.ensures ∙ ap (head_fault c.in_ok-header.header) c.head_len.ensures) ∙ c.in_default.is) (c.in_ok-header.ensures.measured s.1 ∙ ap (λ n. n + c.pull.new.decoder.head_len) at) Error c.in-Bytes.len c.in_ok-read_bytes-in-Bytes.field-0 c.read_bytes.ensures.pushed c.in-Bytes.is m.2 (m.1 xs p s.0),
+          got-string of_bytes Some (with_left c.pull.new.decoder m.0) (with_left c.read_bytes.new.decoder z) c.args.levels xs p c.in_ok-header.header (sym (c.find_fault.ensures ∙ ap (head_fault c.in_ok-header.header) c.head_len.ensures) ∙ c.in_default.is) (c.in_ok-header.ensures.measured s.1 ∙ ap (λ n. n + c.pull.new.decoder.head_len) at) Error c.in-Bytes.len c.in_ok-value-in-Bytes.value c.read_bytes.ensures.pushed c.in-Bytes.is m.2 (m.1 xs p s.0),
       t.4,
     )
 
-pub returns-in_err-read_bytes-in-Bytes-clause-part : goal.returns-in_err-read_bytes-in-Bytes-clause-part
-returns-in_err-read_bytes-in-Bytes-clause-part g c =
-    let exit = err_from_is_err_and c.from_residual-in_err-read_bytes-in-Bytes.result c.from_residual-in_err-read_bytes-in-Bytes.ensures.1 in
+pub returns-in_err-value-in-Bytes-clause-part : goal.returns-in_err-value-in-Bytes-clause-part
+returns-in_err-value-in-Bytes-clause-part g c =
+    let exit = err_from_is_err_and c.from_residual-in_err-value-in-Bytes.result c.from_residual-in_err-value-in-Bytes.ensures.1 in
     let t = so-both g.R.Read.remaining c.args.decoder.now c.pull.new.decoder c.read_bytes.new.decoder (λ d e. PullsSo {E = Error} Some d e (Ok c.in_ok-header.header))
-    (λ d e. StringSo {E = Error} of_bytes c.in-Bytes.len c.pull.new.decoder.last d e (Err c.in_err-read_bytes-in-Bytes.field-0.0)) c.in_ok-header.ensures.head c.in_err-read_bytes-in-Bytes.ensures.content in
+    (λ d e. StringSo {E = Error} of_bytes c.in-Bytes.len c.pull.new.decoder.last d e (Err c.in_err-value-in-Bytes.field-0.0)) c.in_ok-header.ensures.head c.in_err-value-in-Bytes.ensures.content in
     rw (exit.1, exit.2) (
       t.0,
       t.1,
       t.2,
       λ z xs p s. let at = offset-at Some (with_left c.args.decoder.now (t.0 ++ z)) p xs s.0 in let m = t.3 z in
-          string-fault of_bytes Some (with_left c.pull.new.decoder m.0) (with_left c.read_bytes.new.decoder z) c.args.levels xs p c.in_ok-header.header (sym (c.find_fault.ensures ∙ ap (head_fault c.in_ok-header.header) c.head_len.ensures) ∙ c.in_default.is) (c.in_ok-header.ensures.measured s.1 ∙ ap (λ n. n + c.pull.new.decoder.head_len) at) Error c.in-Bytes.len c.in_err-read_bytes-in-Bytes.field-0.0 c.in-Bytes.is m.2 (m.1 xs p s.0),
+          string-fault of_bytes Some (with_left c.pull.new.decoder m.0) (with_left c.read_bytes.new.decoder z) c.args.levels xs p c.in_ok-header.header (sym (c.find_fault.ensures ∙ ap (head_fault c.in_ok-header.header) c.head_len.ensures) ∙ c.in_default.is) (c.in_ok-header.ensures.measured s.1 ∙ ap (λ n. n + c.pull.new.decoder.head_len) at) Error c.in-Bytes.len c.in_err-value-in-Bytes.field-0.0 c.in-Bytes.is m.2 (m.1 xs p s.0),
       t.4,
     )
 
-pub returns-in_ok-read_text-in-Text-clause-part : goal.returns-in_ok-read_text-in-Text-clause-part
-returns-in_ok-read_text-in-Text-clause-part g c =
+pub returns-in_ok-value-in-Text-clause-part : goal.returns-in_ok-value-in-Text-clause-part
+returns-in_ok-value-in-Text-clause-part g c =
     let t = so-both g.R.Read.remaining c.args.decoder.now c.pull.new.decoder c.read_text.new.decoder (λ d e. PullsSo {E = Error} Some d e (Ok c.in_ok-header.header))
-    (λ d e. StringSo {E = Error} of_text c.in-Text.len c.pull.new.decoder.last d e (Ok c.in_ok-read_text-in-Text.field-0)) c.in_ok-header.ensures.head c.in_ok-read_text-in-Text.ensures.content in (
+    (λ d e. StringSo {E = Error} of_text c.in-Text.len c.pull.new.decoder.last d e (Ok c.in_ok-value-in-Text.value)) c.in_ok-header.ensures.head c.in_ok-value-in-Text.ensures.content in (
       t.0,
       t.1,
       t.2,
       λ z xs p s. let at = offset-at Some (with_left c.args.decoder.now (t.0 ++ z)) p xs s.0 in let m = t.3 z in
-          got-string of_text Some (with_left c.pull.new.decoder m.0) (with_left c.read_text.new.decoder z) c.args.levels xs p c.in_ok-header.header (sym (c.find_fault.ensures ∙ ap (head_fault c.in_ok-header.header) c.head_len.ensures) ∙ c.in_default.is) (c.in_ok-header.ensures.measured s.1 ∙ ap (λ n. n + c.pull.new.decoder.head_len) at) Error c.in-Text.len c.in_ok-read_text-in-Text.field-0 c.read_text.ensures.pushed c.in-Text.is m.2 (m.1 xs p s.0),
+          got-string of_text Some (with_left c.pull.new.decoder m.0) (with_left c.read_text.new.decoder z) c.args.levels xs p c.in_ok-header.header (sym (c.find_fault.ensures ∙ ap (head_fault c.in_ok-header.header) c.head_len.ensures) ∙ c.in_default.is) (c.in_ok-header.ensures.measured s.1 ∙ ap (λ n. n + c.pull.new.decoder.head_len) at) Error c.in-Text.len c.in_ok-value-in-Text.value c.read_text.ensures.pushed c.in-Text.is m.2 (m.1 xs p s.0),
       t.4,
     )
 
-pub returns-in_err-read_text-in-Text-clause-part : goal.returns-in_err-read_text-in-Text-clause-part
-returns-in_err-read_text-in-Text-clause-part g c =
-    let exit = err_from_is_err_and c.from_residual-in_err-read_text-in-Text.result c.from_residual-in_err-read_text-in-Text.ensures.1 in
+pub returns-in_err-value-in-Text-clause-part : goal.returns-in_err-value-in-Text-clause-part
+returns-in_err-value-in-Text-clause-part g c =
+    let exit = err_from_is_err_and c.from_residual-in_err-value-in-Text.result c.from_residual-in_err-value-in-Text.ensures.1 in
     let t = so-both g.R.Read.remaining c.args.decoder.now c.pull.new.decoder c.read_text.new.decoder (λ d e. PullsSo {E = Error} Some d e (Ok c.in_ok-header.header))
-    (λ d e. StringSo {E = Error} of_text c.in-Text.len c.pull.new.decoder.last d e (Err c.in_err-read_text-in-Text.field-0.0)) c.in_ok-header.ensures.head c.in_err-read_text-in-Text.ensures.content in
+    (λ d e. StringSo {E = Error} of_text c.in-Text.len c.pull.new.decoder.last d e (Err c.in_err-value-in-Text.field-0.0)) c.in_ok-header.ensures.head c.in_err-value-in-Text.ensures.content in
     rw (exit.1, exit.2) (
       t.0,
       t.1,
       t.2,
       λ z xs p s. let at = offset-at Some (with_left c.args.decoder.now (t.0 ++ z)) p xs s.0 in let m = t.3 z in
-          string-fault of_text Some (with_left c.pull.new.decoder m.0) (with_left c.read_text.new.decoder z) c.args.levels xs p c.in_ok-header.header (sym (c.find_fault.ensures ∙ ap (head_fault c.in_ok-header.header) c.head_len.ensures) ∙ c.in_default.is) (c.in_ok-header.ensures.measured s.1 ∙ ap (λ n. n + c.pull.new.decoder.head_len) at) Error c.in-Text.len c.in_err-read_text-in-Text.field-0.0 c.in-Text.is m.2 (m.1 xs p s.0),
+          string-fault of_text Some (with_left c.pull.new.decoder m.0) (with_left c.read_text.new.decoder z) c.args.levels xs p c.in_ok-header.header (sym (c.find_fault.ensures ∙ ap (head_fault c.in_ok-header.header) c.head_len.ensures) ∙ c.in_default.is) (c.in_ok-header.ensures.measured s.1 ∙ ap (λ n. n + c.pull.new.decoder.head_len) at) Error c.in-Text.len c.in_err-value-in-Text.field-0.0 c.in-Text.is m.2 (m.1 xs p s.0),
       t.4,
     )
 

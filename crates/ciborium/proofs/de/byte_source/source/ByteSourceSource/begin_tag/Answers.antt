@@ -1,12 +1,13 @@
 use Rattle.std.proofs.Common.{Some}
+use Rattle.ciborium.proofs.Due.{with-ok}
 use Rattle.ciborium_value.specs.Taken.{taken_outer_tag}
 use Rattle.ciborium.proofs.HeldLevels.{completes-opened, holds-opened, ok-map-two, on-ok-so}
 use Rattle.ciborium.proofs.de.byte_source.source.ByteSourceSource.begin_tag.Goals as goal
 
 pub returns-clause-ok : goal.returns-clause-ok
 returns-clause-ok g c =
-    ok-map-two c.open_tag.result c.open_tag.ensures.level c.open_tag.ensures.ok
-    (λ p level k. holds-opened g.R.Read.remaining c.args.self.now c.open_tag.new.self taken_outer_tag p.0 p.1 c.open_tag.ensures.same_reader level k)
+    ok-map-two c.open_tag.result (with-ok _ _ c.open_tag.result c.open_tag.ensures.fewer c.open_tag.ensures.level) c.open_tag.ensures.ok
+    (λ p level k. holds-opened g.R.Read.remaining c.args.self.now c.open_tag.new.self taken_outer_tag p.0 p.1 c.open_tag.ensures.same_reader level.0 level.1 k)
 
 pub returns-clause-took : goal.returns-clause-took
 returns-clause-took g c =

@@ -1,12 +1,13 @@
 use Rattle.std.proofs.Common.{Some, string_bytes}
+use Rattle.ciborium.proofs.Due.{with-ok}
 use Rattle.ciborium_value.specs.Taken.{taken_variant}
 use Rattle.ciborium.proofs.HeldLevels.{completes-opened, holds-opened, ok-map-two, on-ok-so}
 use Rattle.ciborium.proofs.de.byte_source.source.ByteSourceSource.begin_variant.Goals as goal
 
 pub returns-clause-ok : goal.returns-clause-ok
 returns-clause-ok g c =
-    ok-map-two c.open_variant.result c.open_variant.ensures.level c.open_variant.ensures.ok
-    (λ p level k. holds-opened g.R.Read.remaining c.args.self.now c.open_variant.new.self taken_variant (string_bytes p.0) p.1 c.open_variant.ensures.same_reader level k)
+    ok-map-two c.open_variant.result (with-ok _ _ c.open_variant.result c.open_variant.ensures.fewer c.open_variant.ensures.level) c.open_variant.ensures.ok
+    (λ p level k. holds-opened g.R.Read.remaining c.args.self.now c.open_variant.new.self taken_variant (string_bytes p.0) p.1 c.open_variant.ensures.same_reader level.0 level.1 k)
 
 pub returns-clause-took : goal.returns-clause-took
 returns-clause-took g c =

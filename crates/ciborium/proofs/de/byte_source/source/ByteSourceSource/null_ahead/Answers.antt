@@ -1,8 +1,8 @@
-use Rattle.std.proofs.Common.{◌≡◌, ◌∙◌, ◌++◌, Some, arith, false, refl, subst}
+use Rattle.std.proofs.Common.{◌≡◌, ◌∙◌, ◌++◌, ◌+◌, ◌≤◌, Some, arith, false, refl, subst}
 use Rattle.std.proofs.lemmas.Result.{err_from_is_err_and}
 use Rattle.ciborium_ll.specs.Header.{SpellsHeader}
 use Rattle.ciborium_ll.specs.declared.header.Header.TheVariants as header
-use Rattle.ciborium.specs.ByteSources.{CountsHead, IsUnread, IsUnreadBy, cause_of}
+use Rattle.ciborium.specs.ByteSources.{CountsHead, IsUnread, IsUnreadBy, cause_of, bytes_weight, weight, weight_left}
 use Rattle.ciborium.specs.ItemReads.{TakesHead}
 use Rattle.ciborium.proofs.NextParts.{aside-unread}
 use Rattle.ciborium.proofs.NullAhead.{null-other, null-simple, refuses-to-tell, takes-nothing, tells}
@@ -22,7 +22,7 @@ returns-in-Simple-clause-ok g c =
     let counted : CountsHead (IsUnread g.R.Read.remaining) c.args.self.now mid (h, c.in_ok-header.offset) = subst (λ k. CountsHead (IsUnread g.R.Read.remaining) c.args.self.now mid (k, c.in_ok-header.offset)) c.in-Simple.is head.counted in
     let aside : (b x y : _) → IsUnread g.R.Read.remaining c.args.self.now b → SpellsHeader x h → b ≡ x ++ y → IsUnread g.R.Read.remaining mid y → IsUnreadBy g.R.Read.remaining mid.decoder (Some (h, c.in_ok-header.offset)) b
     = λ b x y w hd e u. aside-unread g.R.Read.remaining mid.decoder mid.pending h c.in_ok-header.offset b x y head.pending hd e (counted b x y w hd e) u in
-    tells g.R.Read.remaining c.args.self.now mid (record mid { pending = Some (h, c.in_ok-header.offset) }) h took aside c.is_null.result head.same_reader head.levels (λ i e. c.is_null.ensures ∙ null-simple h c.in-Simple.number refl i e)
+    tells g.R.Read.remaining c.args.self.now mid (record mid { pending = Some (h, c.in_ok-header.offset) }) h took aside c.is_null.result head.same_reader (subst (λ k. bytes_weight mid + weight k ≤ weight_left c.args.self.now) c.in-Simple.is head.fewer) head.levels (λ i e. c.is_null.ensures ∙ null-simple h c.in-Simple.number refl i e)
 
 pub returns-in-Simple-clause-took : goal.returns-in-Simple-clause-took
 returns-in-Simple-clause-took g c =
@@ -44,7 +44,7 @@ returns-in-Positive-clause-ok g c =
     let counted : CountsHead (IsUnread g.R.Read.remaining) c.args.self.now mid (h, c.in_ok-header.offset) = subst (λ k. CountsHead (IsUnread g.R.Read.remaining) c.args.self.now mid (k, c.in_ok-header.offset)) c.in-Positive.is head.counted in
     let aside : (b x y : _) → IsUnread g.R.Read.remaining c.args.self.now b → SpellsHeader x h → b ≡ x ++ y → IsUnread g.R.Read.remaining mid y → IsUnreadBy g.R.Read.remaining mid.decoder (Some (h, c.in_ok-header.offset)) b
     = λ b x y w hd e u. aside-unread g.R.Read.remaining mid.decoder mid.pending h c.in_ok-header.offset b x y head.pending hd e (counted b x y w hd e) u in
-    tells g.R.Read.remaining c.args.self.now mid (record mid { pending = Some (h, c.in_ok-header.offset) }) h took aside false head.same_reader head.levels (null-other h (λ n e. cc))
+    tells g.R.Read.remaining c.args.self.now mid (record mid { pending = Some (h, c.in_ok-header.offset) }) h took aside false head.same_reader (subst (λ k. bytes_weight mid + weight k ≤ weight_left c.args.self.now) c.in-Positive.is head.fewer) head.levels (null-other h (λ n e. cc))
 
 pub returns-in-Positive-clause-took : goal.returns-in-Positive-clause-took
 returns-in-Positive-clause-took g c =
@@ -57,14 +57,14 @@ returns-in-Positive-clause-took g c =
     = λ b x y w hd e u. aside-unread g.R.Read.remaining mid.decoder mid.pending h c.in_ok-header.offset b x y head.pending hd e (counted b x y w hd e) u in
     takes-nothing g.R.Read.remaining c.args.self.now mid (record mid { pending = Some (h, c.in_ok-header.offset) }) h took aside
 
-pub returns-in_default : goal.returns-in_default
-returns-in_default g c =
+pub returns-in_default-header : goal.returns-in_default-header
+returns-in_default-header g c =
     let h = c.in_ok-header.header in
     let mid = c.next_head.new.self in
     let head = c.in_ok-header.ensures in
     let aside : (b x y : _) → IsUnread g.R.Read.remaining c.args.self.now b → SpellsHeader x h → b ≡ x ++ y → IsUnread g.R.Read.remaining mid y → IsUnreadBy g.R.Read.remaining mid.decoder (Some (h, c.in_ok-header.offset)) b
     = λ b x y w hd e u. aside-unread g.R.Read.remaining mid.decoder mid.pending h c.in_ok-header.offset b x y head.pending hd e (head.counted b x y w hd e) u in record {
-      ok = tells g.R.Read.remaining c.args.self.now mid (record mid { pending = Some (h, c.in_ok-header.offset) }) h head.head aside false head.same_reader head.levels (null-other h c.in_default.not-Simple);
+      ok = tells g.R.Read.remaining c.args.self.now mid (record mid { pending = Some (h, c.in_ok-header.offset) }) h head.head aside false head.same_reader head.fewer head.levels (null-other h c.in_default-header.not-Simple);
       refused = tt;
       memory = tt;
       took = takes-nothing g.R.Read.remaining c.args.self.now mid (record mid { pending = Some (h, c.in_ok-header.offset) }) h head.head aside;

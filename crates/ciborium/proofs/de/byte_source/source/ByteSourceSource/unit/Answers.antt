@@ -1,7 +1,8 @@
+use Rattle.ciborium.proofs.Due.{on-both}
 use Rattle.ciborium_value.specs.Taken.{taken_unit}
 use Rattle.ciborium.proofs.ByteItems.{ok-map, takes-read}
 use Rattle.ciborium.proofs.de.byte_source.source.ByteSourceSource.unit.Goals as goal
 
 pub returns-clause-ok : goal.returns-clause-ok
 returns-clause-ok g c =
-    ok-map c.read_unit.result c.read_unit.ensures.pending c.read_unit.ensures.ok (λ none v k. takes-read g.R.Read.remaining c.args.self.now c.read_unit.new.self taken_unit v c.read_unit.ensures.same_reader c.read_unit.ensures.levels none k)
+    ok-map c.read_unit.result (on-both _ _ c.read_unit.result c.read_unit.ensures.pending c.read_unit.ensures.fewer) c.read_unit.ensures.ok (λ none v k. takes-read g.R.Read.remaining c.args.self.now c.read_unit.new.self taken_unit v c.read_unit.ensures.same_reader c.read_unit.ensures.levels none.0 none.1 k)
