@@ -1,5 +1,7 @@
 -- Payloads that are appended piece by piece.
-use Rattle.std.proofs.Common.{◌≡◌, ℕ, ◌+◌, ◌-◌, ◌≤◌, List, [], ◌++◌, append-nil, subst, length, min, take, Option, Err, sym, ap, ◌∙◌, arith, append_assoc, length-append, length-take-le}
+use Rattle.std.proofs.Common.{◌≡◌, ℕ, ◌+◌, ◌-◌, ◌≤◌, List, [], ◌++◌, append-nil, subst, length, min, take, drop, Option, Err, refl, sym, ap, ◌∙◌, arith, append_assoc, length-append, length-take-le}
+use Rattle.std.proofs.lemmas.List.{take_all}
+use Rattle.std.proofs.Math.Seq.{take-append_seam, drop-append_seam}
 use Rattle.std.specs.Io.KnownBytes.{Consumes}
 use Rattle.std.proofs.KnownBytes.{Consumes-nil}
 use Rattle.ciborium_ll.specs.declared.header.Error.{Error}
@@ -8,8 +10,9 @@ use Rattle.ciborium_ll.specs.Bytes.{greatest_offset}
 use Rattle.ciborium_ll.specs.declared.lookahead.Lookahead.{Lookahead}
 use Rattle.ciborium_ll.specs.Lookahead.{AdvancesBehind, unread}
 use Rattle.ciborium_ll.specs.Reading.{Advances, IsFillTaken}
-use Rattle.ciborium_ll.specs.Strings.{Extends, IsPiecesTaken}
-use Rattle.ciborium_ll.proofs.Advancing.{Advances-then, Filled}
+use Rattle.ciborium_ll.specs.StringRefusal.{IsAllowed, StringKind}
+use Rattle.ciborium_ll.specs.Strings.{Extends, Grows, IsPayloadTaken, IsPiecesTaken}
+use Rattle.ciborium_ll.proofs.Advancing.{Advances-map, Advances-then, Filled}
 
 -- a piece is no longer than what is left
 pub piece-length : (left size : ℕ) (scratch piece : List ℕ) → size ≡ min left (length scratch) → length piece ≡ length (take size scratch) → length piece ≤ left
@@ -65,3 +68,45 @@ held-appended o a p q n size old new less (b, taken, count, (items, len), bytes)
 pub held-dropped : (o : Option (List ℕ)) (a : Lookahead) (p q n : ℕ) (old new : List ℕ) → q ≡ p → new ≡ old → AdvancesBehind a o o p q (λ b. (length b ≤ n) × Extends old new)
 held-dropped o a p q n old new same items =
     ([], subst (λ k. Consumes (unread o a p) (unread o a k) []) (sym same) (Consumes-nil (unread o a p)), omega (arith, same), (omega arith, ([], items ∙ sym (append-nil old))), λ k d lt. absurd (omega (arith, lt)))
+
+-- ---- a payload that was appended whole, or whose pieces are taken off again
+
+-- what was put behind old bytes is taken off
+taken-off : (old mid new : List ℕ) (start : ℕ) → start ≡ length old → new ≡ take start mid → Extends old mid → new ≡ old ++ []
+taken-off old mid new start at same (added, more) =
+    same ∙ ap (λ k. take k mid) at ∙ ap (take (length old)) more ∙ take-append_seam old added ∙ sym (append-nil old)
+
+-- the bytes behind the old ones
+behind : (old mid x : List ℕ) (start : ℕ) → start ≡ length old → mid ≡ old ++ x → take (length mid - start) (drop start mid) ≡ x
+behind old mid x start at more =
+    let rest : drop start mid ≡ x = ap (λ k. drop k mid) at ∙ ap (drop (length old)) more ∙ drop-append_seam old x in
+    take_all (length mid - start) (drop start mid) (omega (arith, at, ap length more, length-append old x, ap length rest)) ∙ rest
+
+dropped : {E : Type 0} (kind : StringKind) (n head start : ℕ) (old mid new x : List ℕ) (e : Error E) → start ≡ length old → new ≡ take start mid → IsPiecesTaken {E = E} n x (Err e) old mid →
+    Grows old new (IsPayloadTaken {E = E} kind n head x (Err e))
+dropped kind n head start old mid new x (Io e) at same h = ([], taken-off old mid new start at same h.1, (h.0, refl))
+dropped kind n head start old mid new x (Syntax o) at same h = absurd h
+dropped kind n head start old mid new x TooLong at same h = absurd h
+dropped kind n head start old mid new x Memory at same h = ([], taken-off old mid new start at same h.1, (h.0, refl))
+
+-- a piece was refused
+pub payload-dropped : {E : Type 0} (kind : StringKind) (a b : Option (List ℕ)) (p q n head start : ℕ) (old mid new : List ℕ) (e : Error E) → start ≡ length old → new ≡ take start mid →
+    Advances a b p q (λ x. IsPiecesTaken {E = E} n x (Err e) old mid) → Advances a b p q (λ x. Grows old new (IsPayloadTaken {E = E} kind n head x (Err e)))
+payload-dropped {E} kind a b p q n head start old mid new e at same =
+    Advances-map a b p q (λ x. IsPiecesTaken {E = E} n x (Err e) old mid) (λ x. Grows old new (IsPayloadTaken {E = E} kind n head x (Err e)))
+    (λ x h. dropped {E = E} kind n head start old mid new x e at same h)
+
+-- the payload is none of its kind
+pub payload-refused : (kind : StringKind) (a b : Option (List ℕ)) (p q n head start : ℕ) (old mid new : List ℕ) → start ≡ length old → new ≡ take start mid →
+    ¬ IsAllowed kind (take (length mid - start) (drop start mid)) → Advances a b p q (λ x. (length x ≡ n) × (mid ≡ old ++ x)) →
+    Advances a b p q (λ x. Grows old new (λ added. (head ≡ head) × (length x ≡ n) × ¬ IsAllowed kind x × (added ≡ [])))
+payload-refused kind a b p q n head start old mid new at same not =
+    Advances-map a b p q (λ x. (length x ≡ n) × (mid ≡ old ++ x)) (λ x. Grows old new (λ added. (head ≡ head) × (length x ≡ n) × ¬ IsAllowed kind x × (added ≡ [])))
+    (λ x h. ([], taken-off old mid new start at same (x, h.1), (refl, h.0, subst (λ l. ¬ IsAllowed kind l) (behind old mid x start at h.1) not, refl)))
+
+-- it is one
+pub payload-whole : (kind : StringKind) (a b : Option (List ℕ)) (p q n start : ℕ) (old mid : List ℕ) → start ≡ length old → IsAllowed kind (take (length mid - start) (drop start mid)) →
+    Advances a b p q (λ x. (length x ≡ n) × (mid ≡ old ++ x)) → Advances a b p q (λ x. Grows old mid (λ added. (length x ≡ n) × IsAllowed kind x × (added ≡ x)))
+payload-whole kind a b p q n start old mid at allowed =
+    Advances-map a b p q (λ x. (length x ≡ n) × (mid ≡ old ++ x)) (λ x. Grows old mid (λ added. (length x ≡ n) × IsAllowed kind x × (added ≡ x)))
+    (λ x h. (x, h.1, (h.0, subst (IsAllowed kind) (behind old mid x start at h.1) allowed, refl)))
