@@ -1,6 +1,6 @@
 //! The containers and tags that are open while a value is put together.
 
-ghost use Rattle.std.specs.Prelude.{◌≡◌, ◌∷◌, [], IfOk, List, MatchOption, None, OnErr, OnOk, Some};
+ghost use Rattle.std.specs.Prelude.{◌≡◌, ◌∷◌, ◌++◌, [], IfOk, List, MatchOption, None, OnErr, OnOk, Some};
 ghost use Rattle.std.specs.Prelude.{drop, length, map, option_map};
 ghost use Rattle.ciborium_value.specs.Open.{array, closed, ended, fill, map as open_map, placed};
 ghost use Rattle.ciborium_value.specs.Open.{waiting_keys};
@@ -58,8 +58,35 @@ fn begin(alloc: Global, opening: Opening) -> Frame
     }
 }
 
-// Puts a value into an array. Answers the array where this was its last item: room is made for no
-// more then.
+// Puts a part into a list, for which this many parts follow. Room is made for no more than the last.
+#[inline(always)]
+fn put<T: Drop>(parts: &mut Vec<T>, behind: Option<usize>, part: T) -> Result<(), AllocError>
+    ensures { OnOk result (parts.new.items ≡ parts.old.items ++ part ∷ []) }
+{
+    if let Some(0) = behind {
+        parts.reserve_exact(1)?;
+    }
+    parts.push(part)?;
+    Ok(())
+}
+
+// Takes the list, and leaves an empty one.
+#[inline(always)]
+fn take_parts<T: Drop>(alloc: Global, parts: &mut Vec<T>) -> Vec<T>
+    ensures { result ≡ parts.old }
+{
+    mem::replace(parts, Vec::new(alloc))
+}
+
+// Sets what waits.
+#[inline(always)]
+fn set<T: Drop>(place: &mut Option<T>, value: T)
+    ensures { place.new ≡ Some value }
+{
+    *place = Some(value);
+}
+
+// Puts a value into an array. Answers the array where this was its last item.
 #[inline(always)]
 fn fill_array(
     alloc: Global,
@@ -70,12 +97,9 @@ fn fill_array(
     ensures { IfOk result (λ r. filled_of r (array (map tree_of items.new.items) behind.new) ≡
         fill (array (map tree_of items.old.items) behind.old) (tree_of value)) }
 {
-    if let Some(0) = *behind {
-        items.reserve_exact(1)?;
-    }
-    items.push(value)?;
+    put(items, *behind, value)?;
     match *behind {
-        Some(0) => Ok(Some(Value::Array(mem::replace(items, Vec::new(alloc))))),
+        Some(0) => Ok(Some(Value::Array(take_parts(alloc, items)))),
         Some(n) => {
             *behind = Some(n - 1);
             Ok(None)
@@ -84,8 +108,7 @@ fn fill_array(
     }
 }
 
-// Puts a key or value into a map. Answers the map where this was its last value: room is made for
-// no more then.
+// Puts a key or value into a map. Answers the map where this was its last value.
 #[inline(always)]
 fn fill_map(
     alloc: Global,
@@ -100,15 +123,12 @@ fn fill_map(
         (tree_of value)) }
 {
     let Some(key) = mem::replace(key, None) else {
-        *key = Some(value);
+        set(key, value);
         return Ok(None);
     };
-    if let Some(0) = *behind {
-        pairs.reserve_exact(1)?;
-    }
-    pairs.push((key, value))?;
+    put(pairs, *behind, (key, value))?;
     match *behind {
-        Some(0) => Ok(Some(Value::Map(mem::replace(pairs, Vec::new(alloc))))),
+        Some(0) => Ok(Some(Value::Map(take_parts(alloc, pairs)))),
         Some(n) => {
             *behind = Some(n - 1);
             Ok(None)
