@@ -156,6 +156,38 @@ pub fn from_reader_with_recursion_limit<T: Deserialize, R: Read>(
     read(alloc, reader, &mut scratch, limit)
 }
 
+/// Reads one value as `from_reader_with_recursion_limit` does, where the bytes before it count too:
+/// offsets of refusals count from the beginning of a file or stream in which `offset` bytes stand
+/// before the item, and an item that would pass the greatest offset is `TooLong`.
+///
+/// # Errors
+///
+/// Those of `from_reader`.
+pub fn from_reader_at<T: Deserialize, R: Read>(
+    alloc: Global,
+    reader: &mut R,
+    offset: usize,
+    limit: usize,
+) -> Result<T, Error<io::Error>>
+    // Where an item stands at the front: just it was taken, and the answer is what it gives; or it
+    // is refused as the item is.
+    ensures ok { TakesGiven (Some limit) T.reading.taken (R.remaining reader.old)
+        (R.remaining reader.new) (read_as T.reading.content result) }
+    ensures refused { RefusesTaken (Some limit) T.reading.taken (R.remaining reader.old)
+        (read_as T.reading.content result) }
+    ensures memory { IfErr result (λ e. IsGranted (cause_of e) T.reading.takes_memory) }
+{
+    let mut scratch = [0u8; SCRATCH_SIZE];
+    let mut source = ByteSource {
+        decoder: Decoder::at(reader, offset),
+        pending: None,
+        levels: limit,
+        scratch: &mut scratch,
+        failure: None,
+    };
+    read_from(alloc, &mut source)
+}
+
 // Reads the item that a source's first head begins, or answers the end where there is no head.
 fn read_item<T: Deserialize, R: Read>(
     alloc: Global,
