@@ -767,9 +767,18 @@ def answer_tree(type_name, tree):
     return "ok " + write(value).hex()
 
 
+def decode_pieces(text):
+    """The bytes of pieces joined by commas, each hex digits or `COUNT*HEX` for so many times those bytes."""
+    content = b""
+    for piece in text.split(","):
+        count, star, digits = piece.partition("*")
+        content += int(count) * bytes.fromhex(digits) if star else bytes.fromhex(piece)
+    return content
+
+
 def split_line(line):
     type_name, limit, digits = line.split(" ")
-    return type_name, int(limit), bytes.fromhex(digits)
+    return type_name, int(limit), decode_pieces(digits)
 
 
 def answer_line(line):
