@@ -2,6 +2,7 @@
 
 use crate::fault::Fault;
 use crate::fronts::Reading;
+use crate::head_lines::answer_head_line;
 use crate::lines::{read_line, write_bytes};
 use crate::pieces::{decode_pieces, parse_number};
 use crate::types::ask_type;
@@ -56,6 +57,9 @@ fn answer_line(alloc: Global, line: &[u8]) -> Result<String, AllocError> {
 
 // The answer to a line by its first word, or none where the line is of no known form.
 fn answer_words(alloc: Global, word: &str, rest: &str) -> Result<Option<String>, AllocError> {
+    if let Some(answer) = answer_head_line(alloc, word, rest)? {
+        return Ok(Some(answer));
+    }
     match word {
         _ => read_type(alloc, word, rest),
     }
