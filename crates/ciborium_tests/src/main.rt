@@ -6,10 +6,12 @@
 mod answers;
 mod devices;
 mod fault;
+mod faults;
 mod fronts;
 mod growing_calls;
 mod growth;
 mod lines;
+mod orders;
 mod outcome;
 mod pieces;
 mod plain_calls;
@@ -18,7 +20,10 @@ mod plain_reads;
 mod plain_values;
 mod refusals;
 mod run;
+mod sequences;
 mod types;
+mod writes;
+mod written_types;
 
 use std::io::Lock;
 use std::process::ExitCode;
