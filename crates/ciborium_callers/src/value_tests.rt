@@ -1,6 +1,7 @@
 //! Copies and comparisons of values, and the error of a writer.
 use crate::callers::only_item;
 use crate::test_bytes::decode_hex;
+use ciborium::from_reader;
 use ciborium::ser::Error;
 use ciborium::tag::{Accepted, Captured, Required};
 use ciborium::value::canonical::cmp_value;
@@ -22,12 +23,21 @@ fn a_copy_is_equal(rt: HostRuntime) -> Result<(), Fail> {
     Ok(())
 }
 
+// No tag is skipped before the null of an option, which both are written as.
 #[test]
-fn tagged_values_compare_as_their_parts(rt: HostRuntime) -> Result<(), Fail> {
+fn a_tag_before_null_is_some(rt: HostRuntime) -> Result<(), Fail> {
+    let tagged: Option<()> = from_reader(rt.alloc(), &mut &[0xc7u8, 0xf6][..])?;
+    assert_eq!(rt; tagged, Some(()));
+    let null: Option<()> = from_reader(rt.alloc(), &mut &[0xf6u8][..])?;
+    assert_eq!(rt; null, None);
+    Ok(())
+}
+
+#[test]
+fn tagged_values_compare_as_their_parts(rt: HostRuntime) {
     assert_eq!(rt; Captured(None, 2) < Captured(Some(0), 1), true);
     assert_eq!(rt; Required::<u8, 6>(1) < Required(2), true);
     assert_eq!(rt; Accepted::<u8, 6>(1), Accepted(1));
-    Ok(())
 }
 
 #[test]

@@ -62,9 +62,7 @@ pub fn read_alike<T: Deserialize + Serialize>(
 ) -> Result<String, AllocError> {
     let text = read_slice::<T>(alloc, call, bytes)?;
     for most in [1, 3] {
-        let mut source = Source::new(bytes, most, None);
-        let front = ask_call::<T, Source>(alloc, call, &mut source)?;
-        let other = describe_front(alloc, front, source.left())?;
+        let other = read_slowly::<T>(alloc, call, bytes, most)?;
         if other != text {
             return format!(in alloc; "differs: {text} / {other}");
         }
@@ -91,6 +89,10 @@ fn read_with_others<T: Deserialize + Serialize>(
         if other != text {
             return format!(in alloc; "differs: {text} / {other}");
         }
+        let slow = read_slowly::<T>(alloc, call, bytes, 1)?;
+        if slow != text {
+            return format!(in alloc; "differs: {text} / {slow}");
+        }
     }
     Ok(text)
 }
@@ -104,6 +106,18 @@ fn read_slice<T: Deserialize + Serialize>(
     let mut rest = bytes;
     let front = ask_call::<T, &[u8]>(alloc, call, &mut rest)?;
     describe_front(alloc, front, rest.len())
+}
+
+// The same of a reader that gives at most so many bytes a read.
+fn read_slowly<T: Deserialize + Serialize>(
+    alloc: Global,
+    call: Call,
+    bytes: &[u8],
+    most: usize,
+) -> Result<String, AllocError> {
+    let mut source = Source::new(bytes, most, None);
+    let front = ask_call::<T, Source>(alloc, call, &mut source)?;
+    describe_front(alloc, front, source.left())
 }
 
 /// What the call gives. The strict one reads a `Value`, whatever the type.

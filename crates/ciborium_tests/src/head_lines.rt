@@ -4,7 +4,7 @@ use crate::growth::{find_call, make_call, name_outcome};
 use crate::heads::{Question, ask_alike, ask_failing, count_left};
 use crate::integers::{compare_in_row, describe_number};
 use crate::payloads::write_failing;
-use crate::pieces::{decode_pieces, parse_number};
+use crate::pieces::{decode_pieces, parse_limited, parse_number};
 use std::alloc::{AllocError, Global};
 
 /// The answer to a line whose first word is this one, or none where the line is of another form.
@@ -14,7 +14,7 @@ use std::alloc::{AllocError, Global};
 /// - `first HEX`: what `pull_first` gives
 /// - `ahead OFFSET NUMBER HEX`: how many bytes are left where so many are read ahead
 /// - `head-faults HEX`, `first-faults HEX`: the same where each read in turn fails
-/// - `write HEX`: what `write_all` puts out where each write in turn fails
+/// - `payload HEX`: what `write_all` puts out where each write in turn fails
 /// - `growth CALL`: what comes of that call
 /// - `integer NUMBER`, `canonical NUMBER,NUMBER,..`: an integer, and the canonical order
 ///
@@ -33,56 +33,45 @@ pub fn answer_head_line(
         "integer" => describe_number(alloc, rest),
         "growth" => make_named(alloc, rest),
         "canonical" => compare_in_row(alloc, rest),
-        _ => {
-            let Some(bytes) = decode_pieces(alloc, rest)? else {
-                return Ok(None);
-            };
-            answer_bytes(alloc, word, &bytes)
-        }
+        "first" | "head-faults" | "first-faults" | "payload" => answer_bytes(alloc, word, rest),
+        _ => Ok(None),
     }
 }
 
 // The answer to a line of a word and bytes.
-fn answer_bytes(alloc: Global, word: &str, bytes: &[u8]) -> Result<Option<String>, AllocError> {
+fn answer_bytes(alloc: Global, word: &str, rest: &str) -> Result<Option<String>, AllocError> {
+    let Some(bytes) = decode_pieces(alloc, rest)? else {
+        return Ok(None);
+    };
     let answer = match word {
-        "first" => ask_alike(alloc, Question::First, 0, bytes)?,
-        "head-faults" => ask_failing(alloc, Question::Head, bytes)?,
-        "first-faults" => ask_failing(alloc, Question::First, bytes)?,
-        "write" => write_failing(alloc, bytes)?,
-        _ => return Ok(None),
+        "first" => ask_alike(alloc, Question::First, 0, &bytes)?,
+        "head-faults" => ask_failing(alloc, Question::Head, &bytes)?,
+        "first-faults" => ask_failing(alloc, Question::First, &bytes)?,
+        _ => write_failing(alloc, &bytes)?,
     };
     Ok(Some(answer))
 }
 
-// The number before the first space, and what stands behind that.
-fn split_number(rest: &str) -> Option<(usize, &str)> {
-    let (text, behind) = rest.split_once(' ')?;
-    Some((parse_number(text)?, behind))
-}
-
 // The answer to `OFFSET HEX`.
 fn read_at(alloc: Global, question: Question, rest: &str) -> Result<Option<String>, AllocError> {
-    let Some((offset, digits)) = split_number(rest) else {
-        return Ok(None);
-    };
-    let Some(bytes) = decode_pieces(alloc, digits)? else {
-        return Ok(None);
-    };
-    Ok(Some(ask_alike(alloc, question, offset, &bytes)?))
+    match parse_limited(alloc, rest)? {
+        Some((offset, bytes)) => Ok(Some(ask_alike(alloc, question, offset, &bytes)?)),
+        None => Ok(None),
+    }
 }
 
 // The answer to `OFFSET NUMBER HEX`.
 fn read_ahead(alloc: Global, rest: &str) -> Result<Option<String>, AllocError> {
-    let Some((offset, behind)) = split_number(rest) else {
+    let Some((text, behind)) = rest.split_once(' ') else {
         return Ok(None);
     };
-    let Some((ahead, digits)) = split_number(behind) else {
+    let Some(offset) = parse_number(text) else {
         return Ok(None);
     };
-    let Some(bytes) = decode_pieces(alloc, digits)? else {
-        return Ok(None);
-    };
-    Ok(Some(count_left(alloc, offset, ahead, &bytes)?))
+    match parse_limited(alloc, behind)? {
+        Some((ahead, bytes)) => Ok(Some(count_left(alloc, offset, ahead, &bytes)?)),
+        None => Ok(None),
+    }
 }
 
 // The answer to `growth CALL`.

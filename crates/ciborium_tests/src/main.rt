@@ -6,6 +6,7 @@
 mod answers;
 mod devices;
 mod fault;
+mod faults;
 mod fronts;
 mod growing_calls;
 mod growth;
@@ -14,6 +15,7 @@ mod header_texts;
 mod heads;
 mod integers;
 mod lines;
+mod orders;
 mod outcome;
 mod payloads;
 mod pieces;
@@ -24,7 +26,10 @@ mod plain_reads;
 mod plain_values;
 mod refusals;
 mod run;
+mod sequences;
 mod types;
+mod writes;
+mod written_types;
 
 use std::io::Lock;
 use std::process::ExitCode;

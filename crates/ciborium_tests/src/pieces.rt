@@ -28,6 +28,21 @@ pub fn decode_pieces(alloc: Global, text: &str) -> Result<Option<Vec<u8>>, Alloc
     Ok(Some(bytes))
 }
 
+/// `LIMIT HEX`: the limit and the bytes, or none where the text is of another form.
+///
+/// # Errors
+///
+/// `AllocError` where memory is refused for the bytes.
+pub fn parse_limited(alloc: Global, text: &str) -> Result<Option<(usize, Vec<u8>)>, AllocError> {
+    if let Some((number, digits)) = text.split_once(' ')
+        && let Some(limit) = parse_number(number)
+        && let Some(bytes) = decode_pieces(alloc, digits)?
+    {
+        return Ok(Some((limit, bytes)));
+    }
+    Ok(None)
+}
+
 /// The number of one digit or more, if it is a `usize`. No sign stands before it.
 pub fn parse_number(text: &str) -> Option<usize> {
     if text.starts_with('+') {
