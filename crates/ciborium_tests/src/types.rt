@@ -84,11 +84,24 @@ fn ask_container<J: Job>(alloc: Global, name: &str, job: &J) -> Result<Option<St
     if name.starts_with('(') {
         return ask_tuple(alloc, name, job);
     }
+    if name.starts_with("BTreeMap") {
+        return ask_map(alloc, name, job);
+    }
     let answer = match name {
         "Vec<u8>" => job.answer::<Vec<u8>>(alloc)?,
         "Vec<(u8,u8)>" => job.answer::<Vec<(u8, u8)>>(alloc)?,
+        "Vec<Value>" => job.answer::<Vec<Value>>(alloc)?,
+        "Vec<Option<bool>>" => job.answer::<Vec<Option<bool>>>(alloc)?,
         "Vec<Vec<u8>>" => job.answer::<Vec<Vec<u8>>>(alloc)?,
         "Vec<ByteBuf>" => job.answer::<Vec<ByteBuf>>(alloc)?,
+        _ => return Ok(None),
+    };
+    Ok(Some(answer))
+}
+
+fn ask_map<J: Job>(alloc: Global, name: &str, job: &J) -> Result<Option<String>, AllocError> {
+    let answer = match name {
+        "BTreeMap<u8,Vec<Option<i16>>>" => job.answer::<BTreeMap<u8, Vec<Option<i16>>>>(alloc)?,
         "BTreeMap<u8,u8>" => job.answer::<BTreeMap<u8, u8>>(alloc)?,
         "BTreeMap<i8,u8>" => job.answer::<BTreeMap<i8, u8>>(alloc)?,
         "BTreeMap<String,u8>" => job.answer::<BTreeMap<String, u8>>(alloc)?,
