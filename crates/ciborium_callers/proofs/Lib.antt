@@ -1,2 +1,3 @@
+mod LoneValue
 mod OwnTypes
 mod WrittenInRow

@@ -6,6 +6,9 @@ mod ample_memory;
 #[cfg(test)]
 mod caller_tests;
 pub mod callers;
+pub mod head_callers;
+#[cfg(test)]
+mod head_tests;
 #[cfg(test)]
 mod macro_tests;
 pub mod own_callers;
@@ -15,6 +18,9 @@ pub mod struct_types;
 pub mod tag_types;
 #[cfg(test)]
 mod test_bytes;
+#[cfg(test)]
+mod tree_tests;
+pub mod value_callers;
 #[cfg(test)]
 mod value_tests;
 pub mod variant_types;

@@ -10,7 +10,7 @@ const MOST: usize = 3;
 
 /// What `write_all` puts out where each write in turn fails or takes nothing: `io at N writes, then
 /// HEX`, where at each of the first N writes the bytes before it are out and its error is the
-/// answer, and without a fault HEX is out. The writer takes three bytes a write, and is not flushed.
+/// answer, and without a fault HEX is out. The writer takes three bytes a write.
 ///
 /// # Errors
 ///

@@ -247,6 +247,3 @@ impl Stack {
         }
     }
 }
-
-#[cfg(test)]
-mod tests;

@@ -40,15 +40,15 @@ use Rattle.std.specs.Option.{ghost_names_of}
 use Rattle.std.specs.Prelude.{All, IfSome, IfNone, map}
 use Rattle.std.specs.declared.option.Option.{Option}
 use Rattle.std.specs.declared.option.Option.TheVariants.{None, Some}
-use Rattle.ciborium_value.proofs.LoneValue.{single, all_one, within_both, lends_one}
+use Rattle.ciborium_callers.proofs.LoneValue.{single, all_one, within_both, lends_one}
 use Rattle.ciborium_value.proofs.tree.Value.as_tag_mut.Met.{met}
-use Rattle.ciborium_value.proofs.tree.tests.lone_tag_mut.Code as code
-use Rattle.ciborium_value.proofs.tree.tests.lone_tag_mut.Statement.{statement}
+use Rattle.ciborium_callers.proofs.value_callers.lone_tag_mut.Code as code
+use Rattle.ciborium_callers.proofs.value_callers.lone_tag_mut.Statement.{statement}
 use Rattle.ciborium_value.specs.LentParts.{with_tag, LendsTag}
 use Rattle.ciborium_value.specs.Variants.{IsTag, IsTagOf}
 use Rattle.ciborium_value.specs.contracts.tree.Value.{the_row as R}
 use Rattle.ciborium_value.specs.contracts.tree.Value.as_tag_mut as g
-use Rattle.ciborium_value.specs.contracts.tree.tests.lone_tag_mut as f
+use Rattle.ciborium_callers.specs.contracts.value_callers.lone_tag_mut as f
 
 abbrev stayed : Stays f.ended.signature.params f.ended.kept
 stayed = (stay_dropped (mut_slice_of (0 ∷ []) tt (plain (λ _. R))) no, tt)

@@ -1,10 +1,7 @@
-ghost use Rattle.std.specs.Prelude.{◌≡◌, All, IfNone, IfSome, length};
-ghost use Rattle.std.specs.Borrow.{sem};
-ghost use Rattle.ciborium_value.specs.LentParts.{LendsTagIn};
-ghost use Rattle.ciborium_value.specs.Variants.{IsTag, IsTagOf};
-
-use crate::tree::Value;
-use ciborium_ll::Integer;
+//! Values of each variant: orders, accessors, conversions, what is lent, and copies.
+use crate::value_callers::retag;
+use ciborium::value::{Integer, Value};
+use ciborium_value::stack::{Opening, Stack};
 use std::alloc::{AllocError, Global};
 use std::test::Fail;
 
@@ -207,27 +204,6 @@ fn writes_into_a_tag(rt: HostRuntime) -> Result<(), Fail> {
     Ok(())
 }
 
-// What `as_tag_mut` lends, out of a slice of one value: the checker tells a caller what two
-// references write back only where a slice lends them.
-fn lone_tag_mut(values: &mut [Value]) -> Option<(&mut u64, &mut Value)>
-    requires { length values.old ≡ 1 }
-    ensures* writes_back { sem 𝓛 (LendsTagIn values.entry result) }
-    ensures some { All (λ v. IfSome result (λ p. IsTagOf v p.0.now p.1.now)) values.old }
-    ensures none { All (λ v. IfNone result (¬ IsTag v)) values.old }
-{
-    values[0].as_tag_mut()
-}
-
-// So a caller's proof knows of both writes: what was a tag is one of this number over this content.
-fn retag(value: &mut Value, number: u64, content: &mut Value)
-    ensures { IsTag value.old → IsTagOf value.new number content.old }
-{
-    if let Some((place, inner)) = lone_tag_mut(std::slice::from_mut(value)) {
-        *place = number;
-        std::mem::swap(inner, content);
-    }
-}
-
 // A tag 61 over the byte 68 becomes a tag 7 over null.
 #[test]
 fn retags(rt: HostRuntime) -> Result<(), Fail> {
@@ -330,5 +306,19 @@ fn copies(rt: HostRuntime) -> Result<(), Fail> {
         Err(AllocError) => {}
     }
     assert_eq!(rt; value.as_array(), Some(&same));
+    Ok(())
+}
+
+#[test]
+fn a_key_waits_behind_the_key_before_it(rt: HostRuntime) -> Result<(), Fail> {
+    let mut stack = Stack::new(rt.alloc());
+    stack.open(Opening::Map { behind: Some(1) })?;
+    assert!(rt; stack.waiting_keys().is_none());
+    stack.place(Value::from(1u8))?;
+    assert!(rt; stack.waiting_keys().is_none());
+    stack.place(Value::Null)?;
+    stack.place(Value::from(2u8))?;
+    let (before, key) = stack.waiting_keys().ok_or("no keys wait")?;
+    assert!(rt; *before == Value::from(1u8) && *key == Value::from(2u8));
     Ok(())
 }
