@@ -1,12 +1,12 @@
 #!/usr/bin/env python3
-"""A model of the lines that `ciborium_tests typed` answers (RFC 8949, RFC 8742), written apart from the library. Types are
-read by `typed_model`; here stand the other forms of lines.
+"""A model of the lines that `ciborium_tests typed` answers (RFC 8949, RFC 8742), written apart from the library. Types
+are read by `typed_model`; here stand the other forms of lines.
 
     python3 line_model.py answer < LINES    prints `LINE = ANSWER` of each line, or the line where it is not answered
     python3 line_model.py stored FILE       compares the lines of FILE, each `LINE = ANSWER`, with the model's answers
 
-Not answered are how many writes a value takes and how many nodes a comparison visits, and what is left unread where a call
-that fails in turn is refused.
+Not answered are how many writes a value takes, how many nodes a comparison visits, and calls that fail in turn where they
+are refused anyway.
 """
 
 import re
@@ -215,6 +215,10 @@ def write_even(number):
     return model.encode_number(number)
 
 
+def write_even_pair(pair):
+    return model.encode_array([model.encode_number(pair[0]), write_even(pair[1])])
+
+
 def open_array(parts):
     return b"\x9f" + b"".join(parts) + b"\xff"
 
@@ -226,16 +230,18 @@ def write_captured(content):
 
 NUMBERS = model.TYPES["Vec<u8>"]
 TEXT = model.STRING
+POSITION = model.tuple_of(model.signed(16), TEXT)
+WITH_TEXT = model.tuple_of(model.U8, model.BOOL, TEXT)
 
-# Types that are written otherwise than they are read: how they are read, their bytes, and their tree where it is another.
+# Types that are not written as they are read: how they are read, their bytes, and their tree where it is another.
 WRITTEN = {
     "Even": (model.U8, write_even, None),
-    "(u8,Even)": (model.PAIR, lambda pair: model.encode_array([model.encode_number(pair[0]), write_even(pair[1])]), None),
+    "(u8,Even)": (model.PAIR, write_even_pair, None),
     "Some(Option<u8>)": (model.TYPES["Option<u8>"], model.TYPES["Option<u8>"].write, None),
     "Copied": (TEXT, TEXT.write, None),
     "&str": (TEXT, TEXT.write, None),
     "&u8": (model.U8, model.U8.write, None),
-    "Position": (model.tuple_of(model.signed(16), TEXT), model.tuple_of(model.signed(16), TEXT).write, None),
+    "Position": (POSITION, POSITION.write, None),
     "Open": (NUMBERS, lambda numbers: open_array(map(model.encode_number, numbers)), NUMBERS.write),
     "Vec<Open>": (
         model.list_of(NUMBERS),
@@ -251,7 +257,7 @@ WRITTEN = {
     "Captured<Value>": (model.captured_of(model.VALUE), write_captured(model.encode), None),
     "Captured<bool>": (model.captured_of(model.BOOL), write_captured(model.encode_bool), None),
     "Captured<ByteBuf>": (model.captured_of(model.BYTE_BUF), write_captured(model.encode_bytes), None),
-    "(u8,bool,&str)": (model.tuple_of(model.U8, model.BOOL, TEXT), model.tuple_of(model.U8, model.BOOL, TEXT).write, None),
+    "(u8,bool,&str)": (WITH_TEXT, WITH_TEXT.write, None),
     "Option<Required<u64,255>>": (
         model.option_of(model.required(255, model.unsigned(64))),
         model.option_of(model.required(255, model.unsigned(64))).write,

@@ -2,8 +2,8 @@
 """A model of typed reading (RFC 8949), written apart from the library.
 
 A line is `TYPE LIMIT HEX`. Its answer is `BYTES | TREE`: what reading the bytes as TYPE within LIMIT levels answers,
-and what reading the `Value` that the bytes begin with answers, `none` where there is no such `Value`. The other forms of
-lines stand in `line_model`.
+and what reading the `Value` that the bytes begin with answers, `none` where there is no such `Value`. The other forms
+of lines stand in `line_model`.
 
 Two sources stand under the same typed readers: `ByteSource` with offsets and levels, `TreeSource` with neither. Each
 reads in the natural order and refuses at the first fault it meets.
