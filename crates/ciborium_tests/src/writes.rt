@@ -63,7 +63,7 @@ pub fn no_value(alloc: Global) -> Result<String, AllocError> {
 /// What the value writes: `BYTES | TREE`, the tree by its encoding, or why it is not written; or
 /// `io at N writes, then BYTES` where each of N writes of at most three bytes, failing, makes
 /// `into_writer` answer just that failure, with a proper beginning of the bytes written and nothing
-/// flushed. Where it is otherwise `write K: ..`, and where the ways to fail differ `differs: A / B`.
+/// flushed. Where it is otherwise `write K: ..`; where the ways to fail differ `differs: A / B`.
 ///
 /// # Errors
 ///
