@@ -141,8 +141,8 @@ fn place(alloc: Global, frames: &mut Vec<Frame>, value: Value) -> Result<Option<
         match fill(alloc, frame, value)? {
             None => return Ok(None),
             Some(whole) => {
-                value = whole;
                 frames.pop();
+                value = whole;
             }
         }
     }
