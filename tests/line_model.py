@@ -14,6 +14,7 @@ import sys
 
 sys.dont_write_bytecode = True
 
+import head_model as heads
 import typed_model as model
 
 sys.setrecursionlimit(400000)
@@ -311,6 +312,29 @@ def answer_sort(rest):
     return " ".join(encoding.hex() for encoding in sorted(encodings, key=model.canonical_rank))
 
 
+# --- Heads, payloads and integers (section 3) -----------------------------------------------------------------------
+
+
+def at_offset(answer):
+    def answer_at(rest):
+        offset, digits = split(rest, 2)
+        return answer(parse_limit(offset), parse_pieces(digits))
+
+    return answer_at
+
+
+def answer_ahead(rest):
+    offset, count, digits = split(rest, 3)
+    return heads.answer_ahead(parse_limit(offset), parse_limit(count), parse_pieces(digits))
+
+
+def answer_head_faults(rest, is_first=False):
+    answer = heads.answer_faults(parse_pieces(rest), is_first)
+    if answer is None:
+        raise Unanswered
+    return answer
+
+
 # --- Lines ---------------------------------------------------------------------------------------------------------
 
 
@@ -333,6 +357,16 @@ FORMS = {
     "next-faults": answer_next_faults,
     "sort": answer_sort,
     "visits": not_answered,
+    "head": at_offset(heads.answer_head),
+    "heads": at_offset(heads.answer_heads),
+    "first": lambda rest: heads.answer_first(parse_pieces(rest)),
+    "head-faults": answer_head_faults,
+    "first-faults": lambda rest: answer_head_faults(rest, is_first=True),
+    "ahead": answer_ahead,
+    "payload": lambda rest: heads.answer_payload(parse_pieces(rest)),
+    "integer": lambda rest: heads.answer_integer(int(rest)),
+    "canonical": lambda rest: heads.answer_canonical([int(it) for it in rest.split(",")]),
+    "growth": not_answered,
 }
 
 

@@ -98,7 +98,7 @@ fn push_width(
     text.push_str(name)
 }
 
-/// The numbers, with `<`, `=` or `>` between each and the next by the canonical order.
+/// The numbers, with `<`, `==` or `>` between each and the next by the canonical order.
 ///
 /// # Errors
 ///
@@ -122,7 +122,7 @@ pub fn compare_in_row(alloc: Global, numbers: &str) -> Result<Option<String>, Al
 fn name_order(order: Ordering) -> &'static str {
     match order {
         Ordering::Less => " < ",
-        Ordering::Equal => " = ",
+        Ordering::Equal => " == ",
         Ordering::Greater => " > ",
     }
 }
