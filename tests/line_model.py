@@ -24,6 +24,8 @@ MOST_REPETITIONS = 1000000
 LONGEST_FOLDED = 8
 PIECE = re.compile(r"(?:([0-9]+)\*)?((?:[0-9a-fA-F]{2})*)\Z")
 NUMBER = re.compile(r"[0-9]+\Z")
+SIGNED = re.compile(r"[+-]?[0-9]+\Z")
+CALLS = "no-memory read-value clone from-text serialized deserialized read-map macro".split()
 
 
 class Unanswered(Exception):
@@ -328,6 +330,26 @@ def answer_ahead(rest):
     return heads.answer_ahead(parse_limit(offset), parse_limit(count), parse_pieces(digits))
 
 
+def parse_integer(text):
+    """A number of 128 bits, with its sign or without one."""
+    if SIGNED.match(text) is None or not -(2**127) <= int(text) < 2**128:
+        raise Unknown
+    return int(text)
+
+
+def answer_canonical(rest):
+    numbers = [parse_integer(it) for it in rest.split(",")]
+    if not all(-heads.GREATEST - 1 <= it <= heads.GREATEST for it in numbers):
+        raise Unknown
+    return heads.answer_canonical(numbers)
+
+
+def answer_growth(rest):
+    if rest not in CALLS:
+        raise Unknown
+    raise Unanswered
+
+
 def answer_head_faults(rest, is_first=False):
     answer = heads.answer_faults(parse_pieces(rest), is_first)
     if answer is None:
@@ -364,9 +386,9 @@ FORMS = {
     "first-faults": lambda rest: answer_head_faults(rest, is_first=True),
     "ahead": answer_ahead,
     "payload": lambda rest: heads.answer_payload(parse_pieces(rest)),
-    "integer": lambda rest: heads.answer_integer(int(rest)),
-    "canonical": lambda rest: heads.answer_canonical([int(it) for it in rest.split(",")]),
-    "growth": not_answered,
+    "integer": lambda rest: heads.answer_integer(parse_integer(rest)),
+    "canonical": answer_canonical,
+    "growth": answer_growth,
 }
 
 
