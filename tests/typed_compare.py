@@ -45,8 +45,10 @@ class Tally:
         if self.differences <= SHOWN:
             print("line %d: %s\n  program: %s\n  model:   %s" % (self.lines, line, answer, expected))
 
-    def add(self, line, answer):
+    def add(self, line, answered):
         self.lines += 1
+        front = line + " = "
+        answer = answered[len(front):] if answered.startswith(front) else answered
         type_name, limit, data = typed_model.split_line(line)
         tree, plain = typed_model.read_tree(data)
         expected_bytes = typed_model.answer_bytes(type_name, limit, data)

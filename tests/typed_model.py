@@ -2,7 +2,8 @@
 """A model of typed reading (RFC 8949), written apart from the library.
 
 A line is `TYPE LIMIT HEX`. Its answer is `BYTES | TREE`: what reading the bytes as TYPE within LIMIT levels answers,
-and what reading the `Value` that the bytes begin with answers, `none` where there is no such `Value`.
+and what reading the `Value` that the bytes begin with answers, `none` where there is no such `Value`. The other forms
+of lines stand in `line_model`.
 
 Two sources stand under the same typed readers: `ByteSource` with offsets and levels, `TreeSource` with neither. Each
 reads in the natural order and refuses at the first fault it meets.
@@ -292,6 +293,26 @@ class ByteSource:
             raise self.unfit(head, "text")
         return self.text_string(head)
 
+    def character(self):
+        """A definite text of one character, which is read whole before it is judged."""
+        head = self.bare_head()
+        if head[0] != TEXT:
+            raise self.unfit(head, "char")
+        if head[1] is None:
+            raise self.refuse("char", head[2])
+        text = self.text_string(head)
+        if len(text) != 1:
+            raise self.refuse("char", head[2])
+        return text
+
+    def skip_null(self):
+        """Whether null or undefined is ahead, with no tag before it; then it is taken."""
+        head = self.pull()
+        if head[0] == SIMPLE and head[1] in (NULL, UNDEFINED):
+            return True
+        self.push(head)
+        return False
+
     def byte_buffer(self):
         """A byte string, or an array of numbers, which costs a level."""
         head = self.bare_head()
@@ -494,6 +515,18 @@ class TreeSource:
     def text(self):
         return self.content_of("text")
 
+    def character(self):
+        value = self.bare_value()
+        if value[0] != "text" or len(value[1]) != 1:
+            raise self.refuse("char")
+        return value[1]
+
+    def skip_null(self):
+        if self.waiting[-1] != NULL_VALUE:
+            return False
+        self.waiting.pop()
+        return True
+
     def unit(self):
         if self.bare_value() != NULL_VALUE:
             raise self.refuse("unit")
@@ -589,145 +622,319 @@ class TreeSource:
 
 
 # --- Typed reading, over either source -----------------------------------------------------------------------------
+#
+# A type is how one of its values is read and how it is written, and for a key of a map also what stands for it among
+# others: keys with the same are one, and they are written in its order.
 
 
-def read_bool(source):
-    return source.boolean()
+class Type:
+    def __init__(self, read, write, rank=None):
+        self.read = read
+        self.write = write
+        self.rank = rank if rank is not None else write
 
 
-def read_unsigned(source, bits):
-    number = source.integer()
-    if not 0 <= number < 1 << bits:
-        raise source.refuse("range")
-    return number
+def encode_number(number):
+    """A number of any type: beyond 64 bits a bignum without leading zeros (section 3.4.3)."""
+    if -2**64 <= number < 2**64:
+        return encode_integer(number)
+    tag, magnitude = (POSITIVE_BIGNUM, number) if number >= 0 else (NEGATIVE_BIGNUM, -1 - number)
+    return shortest_head(TAG, tag) + encode_bytes(magnitude.to_bytes((magnitude.bit_length() + 7) // 8, "big"))
 
 
-def read_u8(source):
-    return read_unsigned(source, 8)
+def encode_array(parts):
+    return shortest_head(ARRAY, len(parts)) + b"".join(parts)
 
 
-def read_u64(source):
-    return read_unsigned(source, 64)
+def encode_map(pairs):
+    return shortest_head(MAP, len(pairs)) + b"".join(key + content for key, content in pairs)
 
 
-def read_string(source):
-    return source.text()
+def number_type(least, bound):
+    """The numbers from `least` on below `bound`."""
+
+    def read(source):
+        number = source.integer()
+        if not least <= number < bound:
+            raise source.refuse("range")
+        return number
+
+    return Type(read, encode_number, lambda number: number)
 
 
-def read_byte_buffer(source):
-    return source.byte_buffer()
+def unsigned(bits):
+    return number_type(0, 1 << bits)
 
 
-def read_list(source):
-    sequence = source.begin_seq()
-    items = []
-    while source.next(sequence):
-        items.append(read_u8(source))
-    return items
+def signed(bits):
+    return number_type(-1 << bits - 1, 1 << bits - 1)
 
 
-def read_pair(source):
-    """A tuple of two: too few items are refused, further ones read as values and dropped."""
-    sequence = source.begin_seq()
-    parts = []
-    for read_part in (read_u8, read_string):
-        if not source.next(sequence):
-            raise source.refuse("length")
-        parts.append(read_part(source))
-    while source.next(sequence):
-        source.value()
-    return parts
+def list_of(item):
+    def read(source):
+        sequence = source.begin_seq()
+        items = []
+        while source.next(sequence):
+            items.append(item.read(source))
+        return items
+
+    return Type(read, lambda items: encode_array([item.write(each) for each in items]))
 
 
-def read_dictionary(source):
-    sequence = source.begin_map()
-    entries = {}
-    while source.next(sequence):
-        key = read_string(source)
-        entries[key] = read_u8(source)
-    return entries
+def tuple_of(*parts):
+    """A tuple: too few items are refused, further ones read as values and dropped."""
 
-
-def read_figure(source):
-    name = source.begin_variant()
-    if name == "Point":
-        source.unit()
-        figure = (name, None)
-    elif name == "Circle":
-        figure = (name, read_u8(source))
-    else:
-        raise source.refuse("variant")
-    source.end_variant()
-    return figure
-
-
-def read_message(source):
-    readers = {"version": read_u8, "body": read_string}
-    sequence = source.begin_map()
-    fields = {}
-    while source.next(sequence):
-        name = source.name()
-        if name in readers:
-            fields[name] = readers[name](source)
-        else:
+    def read(source):
+        sequence = source.begin_seq()
+        values = []
+        for part in parts:
+            if not source.next(sequence):
+                raise source.refuse("length")
+            values.append(part.read(source))
+        while source.next(sequence):
             source.value()
-    for name in readers:
-        if name not in fields:
-            raise source.refuse("other")
-    return fields
+        return values
+
+    return Type(read, lambda values: encode_array([part.write(each) for part, each in zip(parts, values)]))
 
 
-def read_captured(source):
-    tag = source.begin_tag()
-    content = source.value()
-    source.end_tag()
-    return tag, content
+def map_of(key_type, content_type):
+    """A map, written in the order of its keys. Of two equal ones the later content is kept."""
+
+    def read(source):
+        sequence = source.begin_map()
+        entries = {}
+        while source.next(sequence):
+            key = key_type.read(source)
+            entries[key_type.write(key)] = (key, content_type.read(source))
+        return sorted(entries.values(), key=lambda entry: key_type.rank(entry[0]))
+
+    def write(entries):
+        return encode_map([(key_type.write(key), content_type.write(content)) for key, content in entries])
+
+    return Type(read, write)
 
 
-def encode_list(items):
-    return shortest_head(ARRAY, len(items)) + b"".join(encode_integer(item) for item in items)
+def option_of(content):
+    """Null, which undefined is too, or the content."""
+
+    def read(source):
+        return None if source.skip_null() else (content.read(source),)
+
+    return Type(read, lambda option: b"\xf6" if option is None else content.write(option[0]))
 
 
-def encode_pair(parts):
-    return shortest_head(ARRAY, 2) + encode_integer(parts[0]) + encode_text(parts[1])
+def encode_tag(tag):
+    return b"\xf6" if tag is None else encode_integer(tag)
 
 
-def encode_dictionary(entries):
-    pairs = sorted((key.encode(), number) for key, number in entries.items())
-    body = b"".join(shortest_head(TEXT, len(key)) + key + encode_integer(number) for key, number in pairs)
-    return shortest_head(MAP, len(pairs)) + body
+def captured_of(content):
+    """The outermost tag and what is under it, shown as an array of the tag, or null, and that."""
+
+    def read(source):
+        tag = source.begin_tag()
+        value = content.read(source)
+        source.end_tag()
+        return tag, value
+
+    return Type(read, lambda captured: encode_array([encode_tag(captured[0]), content.write(captured[1])]))
 
 
-def encode_figure(figure):
-    name, data = figure
-    if data is None:
-        return encode_text(name)
-    return shortest_head(MAP, 1) + encode_text(name) + encode_integer(data)
+def under_tag(wanted, content, accepts_none):
+    """What stands under this tag; what the content refuses comes first."""
+    captured = captured_of(content)
+
+    def read(source):
+        tag, value = captured.read(source)
+        if tag != wanted and not (accepts_none and tag is None):
+            raise source.refuse("tag")
+        return value
+
+    return Type(read, lambda value: shortest_head(TAG, wanted) + content.write(value))
 
 
-def encode_message(fields):
-    version = encode_text("version") + encode_integer(fields["version"])
-    return shortest_head(MAP, 2) + version + encode_text("body") + encode_text(fields["body"])
+def required(tag, content):
+    return under_tag(tag, content, False)
 
 
-def encode_captured(captured):
-    tag, content = captured
-    number = b"\xf6" if tag is None else encode_integer(tag)
-    return shortest_head(ARRAY, 2) + number + encode(content)
+def accepted(tag, content):
+    return under_tag(tag, content, True)
 
 
-# The types by their names: how one is read, how it is written.
+def two_tags(content):
+    """The outermost two tags and what is under them, each with a level, tag or none."""
+
+    def read(source):
+        outer = source.begin_tag()
+        inner = source.begin_tag()
+        value = content.read(source)
+        source.end_tag()
+        source.end_tag()
+        return outer, inner, value
+
+    return Type(read, lambda two: encode_array([encode_tag(two[0]), encode_tag(two[1]), content.write(two[2])]))
+
+
+def enum_of(variants):
+    """An enum by the names of its variants, each with the type of its data, or None where it has none."""
+
+    def read(source):
+        name = source.begin_variant()
+        if name not in variants:
+            raise source.refuse("variant")
+        data = source.unit() if variants[name] is None else variants[name].read(source)
+        source.end_variant()
+        return name, data
+
+    def write(variant):
+        name, data = variant
+        if variants[name] is None:
+            return encode_text(name)
+        return encode_map([(encode_text(name), variants[name].write(data))])
+
+    return Type(read, write)
+
+
+MISSING = object()
+
+
+def struct_of(fields):
+    """A struct by the names of its fields, each a name, a type, and what counts where it is missing. Of a repeated name
+    the last one counts; what stands under another name is read as a value and dropped."""
+    types = {name: field_type for name, field_type, _ in fields}
+
+    def read(source):
+        sequence = source.begin_map()
+        found = {name: default for name, _, default in fields}
+        while source.next(sequence):
+            name = source.name()
+            if name in types:
+                found[name] = types[name].read(source)
+            else:
+                source.value()
+        for name, _, _ in fields:
+            if found[name] is MISSING:
+                raise source.refuse("other")
+        return found
+
+    def write(found):
+        return encode_map([(encode_text(name), field_type.write(found[name])) for name, field_type, _ in fields])
+
+    return Type(read, write)
+
+
+def read_span(source):
+    """Two numbers that do not fall."""
+    span = PAIR.read(source)
+    if span[0] > span[1]:
+        raise source.refuse("range")
+    return span
+
+
+ORDER_OF_VALUES = ("integer", "bytes", "text", "bool", "null", "tag", "array", "map")
+
+
+def value_rank(value):
+    """What orders values: the variant, then the content."""
+    word = value[0]
+    if word == "array":
+        content = [value_rank(item) for item in value[1]]
+    elif word == "map":
+        content = [(value_rank(key), value_rank(item)) for key, item in value[1]]
+    elif word == "tag":
+        content = (value[1], value_rank(value[2]))
+    elif word == "text":
+        content = value[1].encode()
+    else:
+        content = value[1:]
+    return ORDER_OF_VALUES.index(word), content
+
+
+def canonical_rank(encoding):
+    """What orders encodings canonically: the length, then the bytes (section 4.2.3)."""
+    return len(encoding), encoding
+
+
+U8 = unsigned(8)
+BOOL = Type(lambda source: source.boolean(), encode_bool)
+UNIT = Type(lambda source: source.unit(), lambda unit: b"\xf6")
+CHAR = Type(lambda source: source.character(), encode_text)
+STRING = Type(lambda source: source.text(), encode_text, lambda text: text.encode())
+BYTE_BUF = Type(lambda source: source.byte_buffer(), encode_bytes)
+VALUE = Type(lambda source: source.value(), encode, value_rank)
+CANONICAL_VALUE = Type(VALUE.read, encode, lambda value: canonical_rank(encode(value)))
+PAIR = tuple_of(U8, U8)
+FIGURE = enum_of({"Point": None, "Circle": U8})
+LETTER = enum_of({"A": None, "B": U8})
+MESSAGE = struct_of((("version", U8, MISSING), ("body", STRING, MISSING)))
+
+# The types by their names.
 TYPES = {
-    "bool": (read_bool, encode_bool),
-    "u64": (read_u64, encode_integer),
-    "String": (read_string, encode_text),
-    "ByteBuf": (read_byte_buffer, encode_bytes),
-    "Vec<u8>": (read_list, encode_list),
-    "(u8,String)": (read_pair, encode_pair),
-    "BTreeMap<String,u8>": (read_dictionary, encode_dictionary),
-    "Figure": (read_figure, encode_figure),
-    "Message": (read_message, encode_message),
-    "Captured<Value>": (read_captured, encode_captured),
+    "u8": U8,
+    "u16": unsigned(16),
+    "u32": unsigned(32),
+    "u64": unsigned(64),
+    "u128": unsigned(128),
+    "usize": unsigned(64),
+    "i8": signed(8),
+    "i16": signed(16),
+    "i32": signed(32),
+    "i64": signed(64),
+    "i128": signed(128),
+    "isize": signed(64),
+    "bool": BOOL,
+    "()": UNIT,
+    "char": CHAR,
+    "String": STRING,
+    "ByteBuf": BYTE_BUF,
+    "Value": VALUE,
+    "CanonicalValue": CANONICAL_VALUE,
+    "Option<u8>": option_of(U8),
+    "Option<()>": option_of(UNIT),
+    "Option<Value>": option_of(VALUE),
+    "Option<Option<u8>>": option_of(option_of(U8)),
+    "Vec<u8>": list_of(U8),
+    "Vec<(u8,u8)>": list_of(PAIR),
+    "Vec<Value>": list_of(VALUE),
+    "Vec<Option<bool>>": list_of(option_of(BOOL)),
+    "Vec<Vec<u8>>": list_of(list_of(U8)),
+    "Vec<ByteBuf>": list_of(BYTE_BUF),
+    "BTreeMap<u8,Vec<Option<i16>>>": map_of(U8, list_of(option_of(signed(16)))),
+    "BTreeMap<u8,u8>": map_of(U8, U8),
+    "BTreeMap<i8,u8>": map_of(signed(8), U8),
+    "BTreeMap<String,u8>": map_of(STRING, U8),
+    "BTreeMap<Value,u8>": map_of(VALUE, U8),
+    "BTreeMap<CanonicalValue,u8>": map_of(CANONICAL_VALUE, U8),
+    "BTreeMap<CanonicalValue,Value>": map_of(CANONICAL_VALUE, VALUE),
+    "(u8,)": tuple_of(U8),
+    "(u8,u8)": PAIR,
+    "(u8,u16)": tuple_of(U8, unsigned(16)),
+    "(u8,String)": tuple_of(U8, STRING),
+    "(u8,bool,char)": tuple_of(U8, BOOL, CHAR),
+    "(u8,u8,u8,())": tuple_of(U8, U8, U8, UNIT),
+    "(u8,bool,char,i64)": tuple_of(U8, BOOL, CHAR, signed(64)),
+    "Captured<Value>": captured_of(VALUE),
+    "Captured<bool>": captured_of(BOOL),
+    "Captured<u8>": captured_of(U8),
+    "Captured<ByteBuf>": captured_of(BYTE_BUF),
+    "Captured<Vec<u8>>": captured_of(list_of(U8)),
+    "Captured<Captured<bool>>": captured_of(captured_of(BOOL)),
+    "Vec<Captured<bool>>": list_of(captured_of(BOOL)),
+    "Required<bool,6>": required(6, BOOL),
+    "Required<String,6>": required(6, STRING),
+    "Accepted<bool,6>": accepted(6, BOOL),
+    "Figure": FIGURE,
+    "Letter": LETTER,
+    "Vec<Letter>": list_of(LETTER),
+    "Message": MESSAGE,
+    "Vec<Message>": list_of(MESSAGE),
+    "Foo": struct_of((("bar", U8, MISSING),)),
+    "Reply": struct_of((("title", STRING, MISSING), ("number", U8, 200), ("text", option_of(STRING), None))),
+    "Span": Type(read_span, PAIR.write),
+    "Moment": required(1, unsigned(64)),
+    "Two<u8>": two_tags(U8),
+    "Two<ByteBuf>": two_tags(BYTE_BUF),
+    "Vec<Two<bool>>": list_of(two_tags(BOOL)),
 }
 
 
@@ -735,14 +942,14 @@ TYPES = {
 
 
 def answer_bytes(type_name, limit, data):
-    read, write = TYPES[type_name]
+    a_type = TYPES[type_name]
     source = ByteSource(data, limit)
     try:
-        value = read(source)
+        value = a_type.read(source)
     except Refusal as refusal:
         return str(refusal)
     assert source.pushed is None and source.levels == limit
-    return "ok %s %d" % (write(value).hex(), len(data) - source.position)
+    return "ok %s %d" % (a_type.write(value).hex(), len(data) - source.position)
 
 
 def read_tree(data):
@@ -757,19 +964,28 @@ def read_tree(data):
 def answer_tree(type_name, tree):
     if tree is None:
         return "none"
-    read, write = TYPES[type_name]
+    a_type = TYPES[type_name]
     source = TreeSource(tree)
     try:
-        value = read(source)
+        value = a_type.read(source)
     except Refusal as refusal:
         return str(refusal)
     assert not source.waiting
-    return "ok " + write(value).hex()
+    return "ok " + a_type.write(value).hex()
+
+
+def decode_pieces(text):
+    """The bytes of pieces joined by commas, each hex digits or `COUNT*HEX` for so many times those bytes."""
+    content = b""
+    for piece in text.split(","):
+        count, star, digits = piece.partition("*")
+        content += int(count) * bytes.fromhex(digits) if star else bytes.fromhex(piece)
+    return content
 
 
 def split_line(line):
     type_name, limit, digits = line.split(" ")
-    return type_name, int(limit), bytes.fromhex(digits)
+    return type_name, int(limit), decode_pieces(digits)
 
 
 def answer_line(line):

@@ -519,6 +519,3 @@ impl<'a, R: Read> Decoder<'a, R> {
         result
     }
 }
-
-#[cfg(test)]
-mod tests;

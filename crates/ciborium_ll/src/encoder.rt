@@ -98,6 +98,3 @@ impl<'a, W: Write> Encoder<'a, W> {
         writing::write_all(self.writer, bytes, failure)
     }
 }
-
-#[cfg(test)]
-mod tests;

@@ -3,8 +3,6 @@
 ghost use Rattle.std.specs.Prelude.{◌≡◌, ℤ};
 ghost use Rattle.ciborium_ll.specs.Integer.{IsInRange};
 
-#[cfg(test)]
-mod tests;
 mod widths;
 
 use crate::header::head_size;

@@ -11,8 +11,6 @@ mod lookahead;
 mod parsing;
 mod reading;
 pub mod simple;
-#[cfg(test)]
-mod slow_devices;
 pub mod spelling_laws;
 mod strings;
 pub mod tag;

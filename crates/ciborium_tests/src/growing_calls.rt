@@ -1,9 +1,9 @@
 //! Calls that take memory, each made once, with what it was lent looked at afterwards.
 
 use crate::outcome::{Failure, expect, is_written_as, judge_read, judge_tree, prepare_value};
-use crate::own_types::Message;
 use ciborium::value::Value;
 use ciborium::{cbor, from_reader};
+use ciborium_callers::own_types::Message;
 use std::alloc::{AllocError, Global};
 use std::collections::BTreeMap;
 

@@ -30,7 +30,16 @@ pub fn read_line<R: Read>(input: &mut BufReader<R>, line: &mut Vec<u8>) -> Resul
 ///
 /// `Output` where the output fails.
 pub fn write_text<W: Write>(text: &str, output: &mut W) -> Result<(), Fault> {
-    if output.write_all(text.as_bytes()).is_err() {
+    write_bytes(text.as_bytes(), output)
+}
+
+/// Writes bytes whole.
+///
+/// # Errors
+///
+/// `Output` where the output fails.
+pub fn write_bytes<W: Write>(bytes: &[u8], output: &mut W) -> Result<(), Fault> {
+    if output.write_all(bytes).is_err() {
         return Err(Fault::Output);
     }
     Ok(())

@@ -1,64 +1,35 @@
-//! The library as its users have it: types of their own, callers with contracts, and the tests
-//! that need the public calls alone. `ciborium_tests typed` answers lines of bytes as values of a
-//! type. `ciborium_tests growth CALL` makes one call, for runs with one growth of memory refused.
+//! The library as its users have it, run. `ciborium_tests typed` answers lines, such as bytes that
+//! are read as a type. `ciborium_tests growth CALL` makes one call, for runs with one growth of
+//! memory refused.
 #![tactic(auto)]
 
-#[cfg(test)]
-mod ample_memory;
-#[cfg(test)]
-mod callers;
-#[cfg(test)]
-mod canonical_tests;
-#[cfg(test)]
-mod deterministic_tests;
-#[cfg(test)]
-mod failing_readers;
-#[cfg(test)]
-mod failing_writers;
+mod answers;
+mod devices;
 mod fault;
+mod faults;
+mod fronts;
 mod growing_calls;
 mod growth;
-#[cfg(test)]
-mod hostile_bytes;
-#[cfg(test)]
-mod level_tests;
+mod head_lines;
+mod header_texts;
+mod heads;
+mod integers;
 mod lines;
-#[cfg(test)]
-mod macro_tests;
-#[cfg(test)]
-mod next_tests;
+mod orders;
 mod outcome;
-#[cfg(test)]
-mod own_callers;
-mod own_types;
+mod payloads;
+mod pieces;
 mod plain_calls;
+mod plain_heads;
 mod plain_numbers;
 mod plain_reads;
 mod plain_values;
-#[cfg(test)]
-mod reading_tests;
-#[cfg(test)]
-mod reasons;
 mod refusals;
-mod rows;
 mod run;
-#[cfg(test)]
-mod sequence_callers;
-#[cfg(test)]
-mod small_devices;
-#[cfg(test)]
-mod struct_tests;
-#[cfg(test)]
-mod tag_tests;
-#[cfg(test)]
-mod two_tags;
-mod typed;
-#[cfg(test)]
-mod typed_tests;
-#[cfg(test)]
-mod value_tests;
-#[cfg(test)]
-mod writing_tests;
+mod sequences;
+mod types;
+mod writes;
+mod written_types;
 
 use std::io::Lock;
 use std::process::ExitCode;

@@ -1,6 +1,7 @@
 //! Calls that take no memory, with everything prepared that they are lent.
 
 use crate::outcome::{Failure, expect, is_written_as, judge_head, prepare_value};
+use crate::plain_heads::make_head_calls;
 use crate::plain_numbers::{compare_integers, convert_integers};
 use crate::plain_reads::read_plain_types;
 use crate::plain_values::{compare_values, look_into, make_values, take_apart};
@@ -25,6 +26,7 @@ pub fn make_plain_calls(alloc: Global) -> Result<(), Failure> {
 
     decode_heads()?;
     encode_heads()?;
+    make_head_calls()?;
     convert_errors()?;
     expect(is_written_as(&values, VALUES))?;
     compare_integers()?;

@@ -1,11 +1,11 @@
 //! Typed reading that takes no memory, from bytes and from a tree.
 
 use crate::outcome::{Failure, expect, judge_read, judge_tree};
-use crate::own_types::Span;
 use ciborium::de::Deserialize;
 use ciborium::tag::Captured;
 use ciborium::value::Value;
 use ciborium::{from_reader, from_reader_next, from_reader_with_buffer};
+use ciborium_callers::own_types::Span;
 use std::alloc::Global;
 
 /// Reads each type that takes no memory, from bytes, from a tree, and from the items of

@@ -19,14 +19,19 @@ pub fn look_into(values: &Value) -> Result<(), Failure> {
     else {
         return Err(Failure::Wrong);
     };
-    expect(number.is_integer() && number.as_integer() == Some(Integer::from(1u8)))?;
+    look_into_plain_values(number, truth, null)?;
     expect(bytes.is_bytes() && bytes.as_bytes().is_some_and(|held| held.len() == 1))?;
     expect(text.is_text() && text.as_text() == Some("a"))?;
-    expect(truth.is_bool() && truth.as_bool() == Some(true))?;
-    expect(null.is_null() && null.as_bool().is_none())?;
     expect(tagged.is_tag() && tagged.as_tag() == Some((1, &Value::from(0u8))))?;
     expect(array.as_array().is_some_and(|held| held.is_empty()) && array.as_map().is_none())?;
     expect(map.is_map() && map.as_map().is_some_and(|held| held.is_empty()))
+}
+
+// What 1, true and null hold.
+fn look_into_plain_values(number: &Value, truth: &Value, null: &Value) -> Result<(), Failure> {
+    expect(number.is_integer() && number.as_integer() == Some(Integer::from(1u8)))?;
+    expect(truth.is_bool() && truth.as_bool() == Some(true))?;
+    expect(null.is_null() && null.as_bool().is_none())
 }
 
 /// The orders of a value and itself, and of its items.
@@ -52,16 +57,32 @@ pub fn compare_values(value: &Value) -> Result<(), Failure> {
 ///
 /// `Wrong` where a value holds something else.
 pub fn make_values(alloc: Global, text: String, bytes: Vec<u8>) -> Result<(), Failure> {
+    make_plain_values()?;
+    make_strings(text, bytes)?;
+    make_containers(alloc)?;
+    make_canonical_values()
+}
+
+// Values of numbers and of true.
+fn make_plain_values() -> Result<(), Failure> {
     expect(Value::from(u64::MAX).into_integer() == Ok(Integer::from(u64::MAX)))?;
     expect(Value::from(-7i64).into_integer() == Ok(Integer::from(-7i8)))?;
     expect(Value::from(true).into_bool() == Ok(true))?;
-    expect(Value::from(true).into_text() == Err(Value::Bool(true)))?;
+    expect(Value::from(true).into_text() == Err(Value::Bool(true)))
+}
+
+// Values of a text and of bytes.
+fn make_strings(text: String, bytes: Vec<u8>) -> Result<(), Failure> {
     expect(Value::from(text).as_text() == Some("a"))?;
     expect(
         Value::from(bytes)
             .as_bytes()
             .is_some_and(|held| held.as_slice() == [1u8].as_slice()),
-    )?;
+    )
+}
+
+// Values of a list and of pairs.
+fn make_containers(alloc: Global) -> Result<(), Failure> {
     let values: Vec<Value> = Vec::new(alloc);
     expect(
         Value::from(values)
@@ -73,7 +94,11 @@ pub fn make_values(alloc: Global, text: String, bytes: Vec<u8>) -> Result<(), Fa
         Value::from(pairs)
             .as_map()
             .is_some_and(|held| held.is_empty()),
-    )?;
+    )
+}
+
+// Values that are canonical ones.
+fn make_canonical_values() -> Result<(), Failure> {
     let ten = CanonicalValue::from(Value::from(10u8));
     let below = CanonicalValue::from(Value::from(-1i8));
     expect(ten < below && ten.cmp(&below) == Ordering::Less && ten != below)?;

@@ -1,7 +1,7 @@
-//! Why reading was refused, as a text.
+//! Why reading or writing was refused, as a text.
 
-use ciborium::de;
 use ciborium::value::{self, Kind};
+use ciborium::{de, ser};
 use std::alloc::{AllocError, Global};
 use std::io::{self, ErrorKind};
 
@@ -36,12 +36,29 @@ pub fn describe_tree(alloc: Global, error: value::Error) -> Result<String, Alloc
     }
 }
 
-// Whether the bytes ended, or the reader failed otherwise.
-fn name_io(kind: ErrorKind) -> &'static str {
-    if kind == ErrorKind::UnexpectedEof {
-        "io"
-    } else {
-        "io other"
+/// Why a value was not written.
+///
+/// # Errors
+///
+/// `AllocError` where memory is refused for the text.
+pub fn describe_write(alloc: Global, error: ser::Error<io::Error>) -> Result<String, AllocError> {
+    match error {
+        ser::Error::Io(e) => String::from_str(alloc, name_io(e.kind())),
+        ser::Error::Value(kind) => format!(in alloc; "value {}", name_kind(kind)),
+        ser::Error::Memory => String::from_str(alloc, "memory"),
+    }
+}
+
+/// The name of an error of a device; `io` alone is that of bytes that end.
+pub fn name_io(kind: ErrorKind) -> &'static str {
+    match kind {
+        ErrorKind::UnexpectedEof => "io",
+        ErrorKind::Interrupted => "io interrupted",
+        ErrorKind::WouldBlock => "io wouldblock",
+        ErrorKind::ConnectionReset => "io connectionreset",
+        ErrorKind::BrokenPipe => "io brokenpipe",
+        ErrorKind::WriteZero => "io writezero",
+        _ => "io other",
     }
 }
 

@@ -1,18 +1,18 @@
 //! The command line: which words are right, what they ask for, and the status.
 
+use crate::answers::answer_lines;
 use crate::fault::Fault;
 use crate::growth::{find_call, make_call, name_outcome, status_of_outcome};
 use crate::lines::write_text;
-use crate::typed::answer_rows;
 use std::alloc::Global;
 use std::io::{Read, Write};
 
 /// Does what the words say, which are the program's arguments without its name, and returns the
-/// exit status. `typed` answers each line `TYPE LIMIT HEX` of the input by a line on the output;
-/// the status is 0. `growth CALL` makes a call, and names what came of it: `value`, `memory`,
-/// `preparing` or `wrong`, with status 0, 3, 4 or 1. It is 2 for any other words: the usage is then
-/// written to `errors`. Where the input or the output fails, or memory is refused for a line, the
-/// run ends with status 1, and `errors` names the fault.
+/// exit status. `typed` answers each line of the input by a line on the output; the status is 0.
+/// `growth CALL` makes a call, and names what came of it: `value`, `memory`, `preparing` or
+/// `wrong`, with status 0, 3, 4 or 1. It is 2 for any other words: the usage is then written to
+/// `errors`. Where the input or the output fails, or memory is refused for a line, the run ends
+/// with status 1, and `errors` names the fault.
 pub fn run<R: Read, W: Write, E: Write>(
     alloc: Global,
     words: &[String],
@@ -22,7 +22,7 @@ pub fn run<R: Read, W: Write, E: Write>(
 ) -> u8 {
     match words {
         [job] if job.as_str() == "typed" => {
-            let answered = answer_rows(alloc, input, output);
+            let answered = answer_lines(alloc, input, output);
             finish(answered, 0, errors)
         }
         [job, name] if job.as_str() == "growth" => {

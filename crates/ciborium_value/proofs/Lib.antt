@@ -1,6 +1,5 @@
 pub mod Views
 pub mod TagParts
-mod LoneValue
 pub mod Derived
 pub mod OrderedTrees
 mod OrderedIntegers

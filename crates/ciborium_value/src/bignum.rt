@@ -1,9 +1,6 @@
 //! Bignums: tag 2 over the bytes of a number n, and tag 3 over those of n for -1 - n, the most
 //! significant first (RFC 8949, section 3.4.3).
 
-#[cfg(test)]
-mod tests;
-
 ghost use Rattle.std.specs.Prelude.{◌≡◌, ◌^◌, ◌≤◌, IfErr, IfOk, MatchOption, None, Some};
 ghost use Rattle.std.specs.Prelude.{length, true};
 ghost use Rattle.ciborium_value.specs.Meaning.{big_endian, bignum_meaning, is_bignum_tag};

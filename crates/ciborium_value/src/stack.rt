@@ -267,6 +267,3 @@ impl Stack {
         }
     }
 }
-
-#[cfg(test)]
-mod tests;

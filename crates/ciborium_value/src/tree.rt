@@ -2,8 +2,6 @@
 
 mod accessors;
 mod conversions;
-#[cfg(test)]
-mod tests;
 
 use ciborium_ll::Integer;
 

@@ -58,6 +58,3 @@ pub(crate) struct ByteSeq {
 pub(crate) struct ByteLevel {
     pub(crate) levels: usize,
 }
-
-#[cfg(test)]
-mod tests;

@@ -1,0 +1,3 @@
+mod LoneValue
+mod OwnTypes
+mod WrittenInRow

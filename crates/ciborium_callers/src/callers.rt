@@ -1,0 +1,130 @@
+//! Small callers of the library, as a user writes them, each with a contract of its own.
+ghost use Rattle.std.specs.Prelude.{◌≡◌, Any, IfErr, IfSome, OnOk, Some, Vec, codes, false, pos};
+ghost use Rattle.std.specs.Prelude.{string_bytes};
+ghost use Rattle.std.specs.declared.alloc.Global.{Global};
+ghost use Rattle.ciborium_ll.specs.Item as item;
+ghost use Rattle.ciborium_value.specs.Encoding.{encoding, written_bytes};
+ghost use Rattle.ciborium_ll.specs.Writing.{Writes};
+ghost use Rattle.ciborium_value.specs.Proper.{IsProperTree};
+ghost use Rattle.ciborium_value.specs.Refuses.{IsReadAs};
+ghost use Rattle.ciborium_value.specs.Sinks.{number_item};
+ghost use Rattle.ciborium_value.specs.Sources.{read_as};
+ghost use Rattle.ciborium_value.specs.Tree.{integer, text};
+ghost use Rattle.ciborium_value.specs.View.{tree_of};
+ghost use Rattle.ciborium_value.specs.declared.tree.Value as value;
+ghost use Rattle.ciborium.specs.Answers.{AnswersGoodItem, AnswersProper, HoldsNoMore};
+ghost use Rattle.ciborium.specs.Answers.{RefusesBytes, TakesBytes, TakesItem, TakesWithin};
+ghost use Rattle.ciborium.specs.CanonicalLaws.{RiseCanonically};
+ghost use Rattle.ciborium.specs.Writes.{IsIo};
+
+use crate::own_types::Message;
+use ciborium::laws::{canonical_keys_rise, written_reads_back};
+use ciborium::ser::Error;
+use ciborium::value::CanonicalValue;
+use ciborium::{Value, de, from_reader, from_reader_with_recursion_limit, into_writer};
+use std::alloc::Global;
+use std::collections::BTreeMap;
+use std::convert::TryFrom;
+use std::io::{self, Read, Write};
+
+/// Reads a value within this many levels, and says of it all that is said of reading a `Value`.
+pub fn read_value<R: Read>(
+    alloc: Global,
+    reader: &mut R,
+    limit: usize,
+) -> Result<Value, de::Error<io::Error>>
+    ensures taken { TakesBytes (R.remaining reader.old) limit (R.remaining reader.new)
+        (read_as tree_of result) }
+    ensures ok { TakesItem (R.remaining reader.old) limit (R.remaining reader.new)
+        (read_as tree_of result) }
+    ensures exact { AnswersGoodItem (R.remaining reader.old) limit (R.remaining reader.new)
+        (read_as tree_of result) }
+    ensures refused { RefusesBytes (R.remaining reader.old) limit (R.remaining reader.new)
+        (read_as tree_of result) }
+    ensures bounded { HoldsNoMore (R.remaining reader.old) (R.remaining reader.new)
+        (read_as tree_of result) }
+    ensures proper { AnswersProper (read_as tree_of result) }
+    ensures within { TakesWithin (R.remaining reader.old) (R.remaining reader.new) }
+{
+    from_reader_with_recursion_limit(alloc, reader, limit)
+}
+
+/// The one item that all of the bytes are.
+pub fn only_item(alloc: Global, bytes: &[u8]) -> Option<Value>
+    ensures { IfSome result (λ v. IsReadAs bytes.now 0 (Some 256) (tree_of v)) }
+{
+    let mut rest = bytes;
+    let value = from_reader(alloc, &mut rest).ok()?;
+    if rest.is_empty() { Some(value) } else { None }
+}
+
+/// The bytes of a value.
+pub fn bytes_of(alloc: Global, value: &Value) -> Option<Vec<u8>>
+    ensures { IfSome result (λ bytes. bytes.items ≡ encoding (tree_of value.now)) }
+{
+    let mut bytes = Vec::new(alloc);
+    into_writer(value, &mut bytes).ok()?;
+    Some(bytes)
+}
+
+/// Writes a value: its encoding or a proper beginning of it, and the only error is the writer's.
+pub fn write_value<W: Write>(value: &Value, writer: &mut W) -> Result<(), Error<io::Error>>
+    ensures bytes { Writes (W.contents writer.old) (W.contents writer.new) result
+        (encoding (tree_of value.now)) }
+    ensures refused { IfErr result IsIo }
+    ensures proper { OnOk result (IsProperTree (tree_of value.now)) }
+{
+    written_reads_back();
+    into_writer(value, writer)
+}
+
+/// The bytes of a message, a struct of the caller's own.
+pub fn bytes_of_message(alloc: Global, message: &Message) -> Option<Vec<u8>>
+    ensures { IfSome result (λ bytes. bytes.items ≡ written_bytes (item.map false
+        (item.pair (item.text false (codes "version")) (number_item (pos message.now.version))
+        (item.pair (item.text false (codes "body"))
+        (item.text false (string_bytes message.now.body)) item.no_pairs)))) }
+{
+    let mut bytes = Vec::new(alloc);
+    into_writer(message, &mut bytes).ok()?;
+    Some(bytes)
+}
+
+/// Writes a store, whose keys then strictly rise in the canonical order.
+pub fn save<W: Write>(
+    store: &BTreeMap<CanonicalValue, Value>,
+    writer: &mut W,
+) -> Result<(), Error<io::Error>>
+    ensures { OnOk result (RiseCanonically store.now.entries) }
+{
+    into_writer(store, writer)?;
+    canonical_keys_rise(store);
+    Ok(())
+}
+
+/// The version that a message names: the number behind a text "version" of a map.
+pub fn version(message: &Value) -> Option<u8>
+    ensures { IfSome result (λ n.
+        (pairs : Vec (Value × Value) Global) × (message.now ≡ value.Map pairs) × Any
+        (λ pair. (tree_of pair.0 ≡ text (codes "version")) × (tree_of pair.1 ≡ integer (pos n)))
+        pairs.items) }
+{
+    for (key, field) in message.as_map()? {
+        if let Some(number) = version_in(key, field) {
+            return Some(number);
+        }
+    }
+    None
+}
+
+// The number behind a key, where that is the text "version".
+fn version_in(key: &Value, field: &Value) -> Option<u8>
+    ensures { IfSome result (λ n.
+        (tree_of key.now ≡ text (codes "version")) × (tree_of field.now ≡ integer (pos n))) }
+{
+    if key.as_text() == Some("version") {
+        u8::try_from(field.as_integer()?).ok()
+    } else {
+        None
+    }
+}

@@ -1,0 +1,26 @@
+//! The library as its users have it: types of their own, and callers with contracts.
+#![tactic(auto)]
+
+#[cfg(test)]
+mod ample_memory;
+#[cfg(test)]
+mod caller_tests;
+pub mod callers;
+pub mod head_callers;
+#[cfg(test)]
+mod head_tests;
+#[cfg(test)]
+mod macro_tests;
+pub mod own_callers;
+pub mod own_types;
+pub mod sequence_callers;
+pub mod struct_types;
+pub mod tag_types;
+#[cfg(test)]
+mod test_bytes;
+#[cfg(test)]
+mod tree_tests;
+pub mod value_callers;
+#[cfg(test)]
+mod value_tests;
+pub mod variant_types;

@@ -1,0 +1,101 @@
+//! Trees as literals, as a user writes them, each with the tree that it is.
+ghost use Rattle.std.specs.Prelude.{◌≡◌, ◌⊎◌, IfErr, IfOk, IsErr, codes, negsuc, pos, true};
+ghost use Rattle.ciborium_value.specs.Tree as tree;
+ghost use Rattle.ciborium_value.specs.View.{tree_of};
+ghost use Rattle.ciborium_value.specs.declared.kind.Kind.TheVariants.{Other};
+ghost use Rattle.ciborium_value.specs.declared.serialized.Error.TheVariants.{Custom, Memory};
+
+use crate::own_types::Even;
+use crate::test_bytes::decode_hex;
+use ciborium::literals::map_of_two;
+use ciborium::value::{Error, Kind, Value};
+use ciborium::{cbor, into_writer};
+use std::alloc::Global;
+use std::test::Fail;
+
+/// A map of two texts.
+pub fn fun_and_amount(alloc: Global) -> Result<Value, Error>
+    ensures ok { IfOk result (λ v. tree_of v ≡ tree.map
+        (tree.tree_pair (tree.text (codes "Fun")) (tree.boolean true)
+        (tree.tree_pair (tree.text (codes "Amt")) (tree.integer (negsuc 1))
+        tree.no_tree_pairs))) }
+    ensures err { IfErr result (λ e. e ≡ Memory) }
+{
+    cbor!(alloc, {"Fun" => true, "Amt" => -2})
+}
+
+/// A list as a key.
+pub fn list_as_key(alloc: Global) -> Result<Value, Error>
+    ensures ok { IfOk result (λ v. tree_of v ≡ tree.map (tree.tree_pair
+        (tree.array (tree.tree (tree.integer (pos 1)) (tree.tree (tree.integer (pos 2))
+        tree.no_trees))) tree.null tree.no_tree_pairs)) }
+    ensures err { IfErr result (λ e. e ≡ Memory) }
+{
+    cbor!(alloc, {[1, 2] => null,})
+}
+
+/// A key twice.
+pub fn a_key_twice(alloc: Global) -> Result<Value, Error>
+    ensures ok { IfOk result (λ v. tree_of v ≡ tree.map
+        (tree.tree_pair (tree.integer (pos 1)) (tree.integer (pos 2))
+        (tree.tree_pair (tree.integer (pos 1)) (tree.integer (pos 3)) tree.no_tree_pairs))) }
+    ensures err { IfErr result (λ e. e ≡ Memory) }
+{
+    cbor!(alloc, {1 => 2, 1 => 3})
+}
+
+/// No item.
+pub fn no_item(alloc: Global) -> Result<Value, Error>
+    ensures ok { IfOk result (λ v. tree_of v ≡ tree.array tree.no_trees) }
+    ensures err { IfErr result (λ e. e ≡ Memory) }
+{
+    cbor!(alloc, [])
+}
+
+/// An odd number has no item, and so a list with it has none.
+pub fn odd_in_a_list(alloc: Global) -> Result<Value, Error>
+    ensures err { IsErr result }
+    ensures kind { IfErr result (λ e. (e ≡ Custom Other) ⊎ (e ≡ Memory)) }
+{
+    cbor!(alloc, [Even(3)])
+}
+
+#[test]
+fn literals_are_written(rt: HostRuntime) -> Result<(), Fail> {
+    let alloc = rt.alloc();
+    check(alloc, fun_and_amount(alloc), "a26346756ef563416d7421")?;
+    check(alloc, list_as_key(alloc), "a1820102f6")?;
+    check(alloc, a_key_twice(alloc), "a201020103")?;
+    check(alloc, no_item(alloc), "80")?;
+    check(alloc, map_of_two(alloc, &1, &2, &1, &3), "a201020103")?;
+    assert_eq!(rt; odd_in_a_list(alloc), Err(Error::Custom(Kind::Other)));
+    check_parts(alloc)
+}
+
+// Fails unless the tree is written as these bytes.
+fn check(alloc: Global, tree: Result<Value, Error>, text: &str) -> Result<(), Fail> {
+    let mut bytes = Vec::new(alloc);
+    into_writer(&tree?, &mut bytes)?;
+    if bytes != decode_hex(alloc, text)? {
+        return Err(Fail::from("other bytes"));
+    }
+    Ok(())
+}
+
+// Parts of every form.
+fn check_parts(alloc: Global) -> Result<(), Fail> {
+    check(alloc, cbor!(alloc, null), "f6")?;
+    check(alloc, cbor!(alloc, 1 + 1), "02")?;
+    check(alloc, cbor!(alloc, {}), "a0")?;
+    check(
+        alloc,
+        cbor!(alloc, [null, [], {}, "a", (1, 2),]),
+        "85f680a06161820102",
+    )?;
+    check(
+        alloc,
+        cbor!(alloc, {null => [1], {} => {}, 1 => 2}),
+        "a3f68101a0a00102",
+    )?;
+    Ok(())
+}

@@ -1,0 +1,255 @@
+//! Types of a user's own, each with the item that it writes, or with what it reads of an item, as a
+//! user gives them.
+ghost use Rattle.std.specs.Prelude.{◌∷◌, ◌%◌, Err, Ok, [], codes, if◌then◌else◌, map, nat_eq, pos};
+ghost use Rattle.std.specs.Prelude.{List, nat_le, string_bytes, ℕ};
+ghost use Rattle.ciborium_value.specs.Places.{dictionary, sequence};
+ghost use Rattle.ciborium_value.specs.Readings.{below, such_that, tuple2_of};
+ghost use Rattle.ciborium_value.specs.Sinks.{container_of, fields_of, in_turn, named_text};
+ghost use Rattle.ciborium_value.specs.Sinks.{number_item, open_container_of, tag_of};
+ghost use Rattle.ciborium_value.specs.StructReadings.{field, no_field, struct_of};
+ghost use Rattle.ciborium_value.specs.TagReadings.{tag_required};
+ghost use Rattle.ciborium_value.specs.VariantReadings.{data_variant, enum_of, unit_variant};
+ghost use Rattle.ciborium_value.specs.declared.kind.Kind.TheVariants.{Other, Range};
+ghost use Rattle.ciborium_callers.specs.declared.own_types.Figure.{Figure};
+ghost use Rattle.ciborium_callers.specs.declared.own_types.Figure.TheVariants.{Circle, Point};
+
+use ciborium::de::{Deserialize, Source, Wanted, read_fields, required};
+use ciborium::ser::{Field, NoField, Serialize, Sink};
+use ciborium::tag::Required;
+use ciborium::value::Kind;
+use std::alloc::Global;
+use std::collections::BTreeMap;
+
+/// A struct: a map by names.
+#[derive(Debug, Drop, PartialEq)]
+pub struct Message {
+    pub version: u8,
+    pub body: String,
+}
+
+impl Serialize for Message {
+    ghost written = { λ m. fields_of ((codes "version", Ok (number_item (pos m.version))) ∷
+        (codes "body", named_text (string_bytes m.body)) ∷ []) };
+
+    ghost takes_memory = { ⊥ };
+
+    fn serialize<S: Sink>(&self, sink: &mut S) -> Result<(), S::Error> {
+        Field("version", &self.version, Field("body", &self.body, NoField)).serialize(sink)
+    }
+}
+
+impl Deserialize for Message {
+    ghost Content = { ℕ × (List ℕ × Unit {0}) };
+
+    ghost reading = { struct_of (λ m. (m.version, (string_bytes m.body, tt)))
+        (field (codes "version") ⟦<u8 as Deserialize>⟧.reading
+        (field (codes "body") ⟦<String as Deserialize>⟧.reading no_field)) };
+
+    fn deserialize<S: Source>(alloc: Global, source: &mut S) -> Result<Message, S::Error> {
+        let mut fields = Wanted("version", None, Wanted("body", None, NoField));
+        read_fields(alloc, source, &mut fields)?;
+        let Wanted(_, version, Wanted(_, body, NoField)) = fields;
+        Ok(Message {
+            version: required(source, version)?,
+            body: required(source, body)?,
+        })
+    }
+}
+
+/// A struct: an array of its fields.
+#[derive(Debug, Drop)]
+pub struct Position {
+    pub x: i16,
+    pub name: String,
+}
+
+impl Serialize for Position {
+    ghost written = { λ p. container_of sequence
+        (Ok (number_item p.x) ∷ named_text (string_bytes p.name) ∷ []) };
+
+    ghost takes_memory = { ⊥ };
+
+    fn serialize<S: Sink>(&self, sink: &mut S) -> Result<(), S::Error> {
+        (&self.x, &self.name).serialize(sink)
+    }
+}
+
+/// An enum: the name of the variant, and where it has data a map from that name to them.
+#[derive(Debug, Drop, PartialEq)]
+pub enum Figure {
+    Point,
+    Circle(u8),
+}
+
+impl Serialize for Figure {
+    ghost written = { elim [
+      | Point ↦ named_text (codes "Point")
+      | Circle r ↦ fields_of ((codes "Circle", Ok (number_item (pos r))) ∷ [])
+    ] };
+
+    ghost takes_memory = { ⊥ };
+
+    fn serialize<S: Sink>(&self, sink: &mut S) -> Result<(), S::Error> {
+        match self {
+            Figure::Point => "Point".serialize(sink),
+            Figure::Circle(radius) => Field("Circle", radius, NoField).serialize(sink),
+        }
+    }
+}
+
+impl Deserialize for Figure {
+    ghost Content = { Figure };
+
+    ghost reading = { enum_of (λ figure. figure) (unit_variant (codes "Point") Point
+        ∷ data_variant (codes "Circle") Circle (below 256) ∷ []) };
+
+    fn deserialize<S: Source>(alloc: Global, source: &mut S) -> Result<Figure, S::Error> {
+        let (name, level) = source.begin_variant(alloc)?;
+        if name.as_str() == "Point" {
+            source.unit()?;
+            source.end_variant(level);
+            return Ok(Figure::Point);
+        }
+        if name.as_str() == "Circle" {
+            let radius = u8::deserialize(alloc, source)?;
+            source.end_variant(level);
+            return Ok(Figure::Circle(radius));
+        }
+        Err(source.refuse(Kind::Variant))
+    }
+}
+
+/// An even number. An odd one has no item.
+#[derive(Debug, Drop)]
+pub struct Even(pub u8);
+
+impl Serialize for Even {
+    ghost written = { λ e. if nat_eq (e.0 % 2) 0 then Ok (number_item (pos e.0)) else Err Other };
+
+    ghost takes_memory = { ⊥ };
+
+    fn serialize<S: Sink>(&self, sink: &mut S) -> Result<(), S::Error> {
+        if self.0 % 2 == 0 {
+            self.0.serialize(sink)
+        } else {
+            Err(sink.refuse(Kind::Other))
+        }
+    }
+}
+
+/// A text that is copied before it is written, which takes memory.
+#[derive(Debug, Drop)]
+pub struct Copied(pub String);
+
+impl Serialize for Copied {
+    ghost written = { λ c. named_text (string_bytes c.0) };
+
+    ghost takes_memory = { Unit {0} };
+
+    fn serialize<S: Sink>(&self, sink: &mut S) -> Result<(), S::Error> {
+        match self.0.clone() {
+            Ok(copy) => copy.serialize(sink),
+            Err(_) => Err(sink.memory()),
+        }
+    }
+}
+
+/// Numbers in an open array.
+#[derive(Debug, Drop)]
+pub struct Open(pub Vec<u8>);
+
+impl Serialize for Open {
+    ghost written = { λ o. open_container_of sequence
+        (map (λ n. Ok (number_item (pos n))) o.0.items) };
+
+    ghost takes_memory = { ⊥ };
+
+    fn serialize<S: Sink>(&self, sink: &mut S) -> Result<(), S::Error> {
+        sink.begin_array(None)?;
+        for number in &self.0 {
+            number.serialize(sink)?;
+        }
+        sink.end(None)
+    }
+}
+
+/// A map that is begun without a count.
+#[derive(Debug, Drop)]
+pub struct OpenMap(pub BTreeMap<u8, u8>);
+
+impl Serialize for OpenMap {
+    ghost written = { λ m. open_container_of dictionary
+        (in_turn (λ n. Ok (number_item (pos n))) (λ n. Ok (number_item (pos n))) m.0.entries) };
+
+    ghost takes_memory = { ⊥ };
+
+    fn serialize<S: Sink>(&self, sink: &mut S) -> Result<(), S::Error> {
+        sink.begin_map(None)?;
+        for (key, value) in &self.0 {
+            key.serialize(sink)?;
+            value.serialize(sink)?;
+        }
+        sink.end(None)
+    }
+}
+
+/// Seconds since the beginning of 1970, under tag 1 (RFC 8949, section 3.4.2).
+#[derive(Debug, Drop)]
+pub struct Moment {
+    pub seconds: u64,
+}
+
+impl Serialize for Moment {
+    ghost written = { λ m. tag_of 1 (Ok (number_item (pos m.seconds))) };
+
+    ghost takes_memory = { ⊥ };
+
+    fn serialize<S: Sink>(&self, sink: &mut S) -> Result<(), S::Error> {
+        Required::<&u64, 1>(&self.seconds).serialize(sink)
+    }
+}
+
+impl Deserialize for Moment {
+    ghost Content = { ℕ };
+
+    ghost reading = { tag_required 1 (λ m. m.seconds) ⟦<u64 as Deserialize>⟧.reading };
+
+    fn deserialize<S: Source>(alloc: Global, source: &mut S) -> Result<Moment, S::Error> {
+        let Required(seconds) = Required::<u64, 1>::deserialize(alloc, source)?;
+        Ok(Moment { seconds })
+    }
+}
+
+/// Two numbers that do not fall, as an array. Others are refused as out of range.
+#[derive(Debug, Drop, PartialEq)]
+pub struct Span {
+    pub start: u8,
+    pub end: u8,
+}
+
+/// An array of both.
+impl Serialize for Span {
+    ghost written = { λ s. container_of sequence
+        (Ok (number_item (pos s.start)) ∷ Ok (number_item (pos s.end)) ∷ []) };
+
+    ghost takes_memory = { ⊥ };
+
+    fn serialize<S: Sink>(&self, sink: &mut S) -> Result<(), S::Error> {
+        (&self.start, &self.end).serialize(sink)
+    }
+}
+
+impl Deserialize for Span {
+    ghost Content = { ℕ × ℕ };
+
+    ghost reading = { such_that (λ s. (s.start, s.end))
+        (tuple2_of (below 256) (below 256)) (λ p. nat_le p.0 p.1) Range };
+
+    fn deserialize<S: Source>(alloc: Global, source: &mut S) -> Result<Span, S::Error> {
+        let (start, end) = <(u8, u8)>::deserialize(alloc, source)?;
+        if start > end {
+            return Err(source.refuse(Kind::Range));
+        }
+        Ok(Span { start, end })
+    }
+}

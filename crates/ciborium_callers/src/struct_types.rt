@@ -1,0 +1,85 @@
+//! Structs that are written and read by the names of their fields.
+ghost use Rattle.std.specs.Prelude.{◌∷◌, List, None, Ok, Option, [], codes, pos, string_bytes, ℕ};
+ghost use Rattle.std.specs.Option.{option_map};
+ghost use Rattle.ciborium_value.specs.Sinks.{fields_of, named_text, number_item, option_of};
+ghost use Rattle.ciborium_value.specs.StructReadings.{field, field_or, no_field, optional_field};
+ghost use Rattle.ciborium_value.specs.StructReadings.{struct_of};
+
+use ciborium::de::{Deserialize, Source, Wanted, read_fields, required};
+use ciborium::ser::{Field, NoField, Serialize, Sink};
+use std::alloc::Global;
+
+/// A struct of one field.
+#[derive(Debug, Drop, PartialEq)]
+pub struct Foo {
+    pub bar: u8,
+}
+
+impl Serialize for Foo {
+    ghost written = { λ f. fields_of ((codes "bar", Ok (number_item (pos f.bar))) ∷ []) };
+
+    ghost takes_memory = { ⊥ };
+
+    fn serialize<S: Sink>(&self, sink: &mut S) -> Result<(), S::Error> {
+        Field("bar", &self.bar, NoField).serialize(sink)
+    }
+}
+
+impl Deserialize for Foo {
+    ghost Content = { ℕ × Unit {0} };
+
+    ghost reading = { struct_of (λ foo. (foo.bar, tt))
+        (field (codes "bar") ⟦<u8 as Deserialize>⟧.reading no_field) };
+
+    fn deserialize<S: Source>(alloc: Global, source: &mut S) -> Result<Foo, S::Error> {
+        let mut fields = Wanted("bar", None, NoField);
+        read_fields(alloc, source, &mut fields)?;
+        let Wanted(_, bar, NoField) = fields;
+        Ok(Foo {
+            bar: required(source, bar)?,
+        })
+    }
+}
+
+/// A struct with fields that may be missing: the number is then 200, and there is no text.
+#[derive(Debug, Drop, PartialEq)]
+pub struct Reply {
+    pub title: String,
+    pub number: u8,
+    pub text: Option<String>,
+}
+
+impl Serialize for Reply {
+    ghost written = { λ r. fields_of ((codes "title", named_text (string_bytes r.title)) ∷
+        (codes "number", Ok (number_item (pos r.number))) ∷
+        (codes "text", option_of (λ s. named_text (string_bytes s)) r.text) ∷ []) };
+
+    ghost takes_memory = { ⊥ };
+
+    fn serialize<S: Sink>(&self, sink: &mut S) -> Result<(), S::Error> {
+        let behind = Field("number", &self.number, Field("text", &self.text, NoField));
+        Field("title", &self.title, behind).serialize(sink)
+    }
+}
+
+impl Deserialize for Reply {
+    ghost Content = { List ℕ × (ℕ × (Option (List ℕ) × Unit {0})) };
+
+    ghost reading = { struct_of
+        (λ r. (string_bytes r.title, (r.number, (option_map string_bytes r.text, tt))))
+        (field (codes "title") ⟦<String as Deserialize>⟧.reading
+        (field_or (codes "number") ⟦<u8 as Deserialize>⟧.reading 200
+        (optional_field (codes "text") ⟦<String as Deserialize>⟧.reading no_field))) };
+
+    fn deserialize<S: Source>(alloc: Global, source: &mut S) -> Result<Reply, S::Error> {
+        let behind = Wanted("number", Some(200), Wanted("text", Some(None), NoField));
+        let mut fields = Wanted("title", None, behind);
+        read_fields(alloc, source, &mut fields)?;
+        let Wanted(_, title, Wanted(_, number, Wanted(_, text, NoField))) = fields;
+        Ok(Reply {
+            title: required(source, title)?,
+            number: required(source, number)?,
+            text: required(source, text)?,
+        })
+    }
+}

@@ -1,2 +1,0 @@
-mod OwnTypes
-mod WrittenInRow

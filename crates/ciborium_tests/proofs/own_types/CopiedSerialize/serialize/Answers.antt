@@ -1,8 +1,0 @@
--- Where memory is refused, nothing was written yet.
-use Rattle.ciborium_value.specs.Sinks.{named_text}
-use Rattle.std.proofs.Common.{string_bytes}
-use Rattle.ciborium_value.proofs.Progress.{broken_before}
-use Rattle.ciborium_tests.proofs.own_types.CopiedSerialize.serialize.Goals as goal
-
-pub returns-in-Err-clause-err : goal.returns-in-Err-clause-err
-returns-in-Err-clause-err g c = broken_before g.S.Sink.stands_at g.S.Sink.out c.args.sink.now (named_text (string_bytes c.args.self.now.0)) g.met.S.Sink.shows

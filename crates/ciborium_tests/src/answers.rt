@@ -1,0 +1,164 @@
+//! The lines of an input, each with its answer.
+
+use crate::fault::Fault;
+use crate::faults::{FailedReads, fail_reads};
+use crate::fronts::{Call, Reading, read_alike};
+use crate::head_lines::answer_head_line;
+use crate::lines::{read_line, write_bytes};
+use crate::orders::{answer_sort, answer_visits};
+use crate::pieces::{decode_pieces, parse_limited};
+use crate::sequences::{Asked, Sequence};
+use crate::types::ask_type;
+use crate::writes::Writing;
+use crate::written_types::write_type;
+use ciborium::value::Value;
+use std::alloc::{AllocError, Global};
+use std::io::{BufReader, Read, Write};
+
+/// Answers each line of the input by `LINE = ANSWER` on the output. An empty line, and one that
+/// begins with `#`, is written as it is. The answer to a line of no known form is `unknown line`.
+///
+/// # Errors
+///
+/// The first fault: the input or the output fails, or memory is refused for a line.
+pub fn answer_lines<R: Read, W: Write>(
+    alloc: Global,
+    input: &mut R,
+    output: &mut W,
+) -> Result<(), Fault> {
+    let Ok(mut reader) = BufReader::new(alloc, input) else {
+        return Err(Fault::Memory);
+    };
+    let mut line = Vec::new(alloc);
+    for _ in 0..u64::MAX {
+        if !read_line(&mut reader, &mut line)? {
+            return Ok(());
+        }
+        complete_line(alloc, &mut line)?;
+        write_bytes(&line, output)?;
+    }
+    Err(Fault::Input)
+}
+
+// Puts the answer behind a line that has one, and a line feed.
+fn complete_line(alloc: Global, line: &mut Vec<u8>) -> Result<(), AllocError> {
+    if !line.is_empty() && !line.starts_with(b"#") {
+        let answer = answer_line(alloc, line)?;
+        line.extend_from_slice(b" = ")?;
+        line.extend_from_slice(answer.as_bytes())?;
+    }
+    line.extend_from_slice(b"\n")
+}
+
+// The answer to a line.
+fn answer_line(alloc: Global, line: &[u8]) -> Result<String, AllocError> {
+    if let Ok(text) = str::from_utf8(line)
+        && let Some((word, rest)) = text.split_once(' ')
+        && let Some(answer) = answer_words(alloc, word, rest)?
+    {
+        return Ok(answer);
+    }
+    String::from_str(alloc, "unknown line")
+}
+
+// The answer to a line by its first word, or none where the line is of no known form.
+fn answer_words(alloc: Global, word: &str, rest: &str) -> Result<Option<String>, AllocError> {
+    if let Some(answer) = answer_head_line(alloc, word, rest)? {
+        return Ok(Some(answer));
+    }
+    match word {
+        "write" => write_value(alloc, rest, Writing::Whole),
+        "write-faults" => write_value(alloc, rest, Writing::Failing),
+        "faults" => fail_reading(alloc, rest),
+        "det" => read_strictly(alloc, rest),
+        "det-faults" => fail_strict_reading(alloc, rest),
+        "next" => read_sequence(alloc, rest, Asked::Items),
+        "next-on" => read_sequence(alloc, rest, Asked::AllItems),
+        "next-faults" => read_sequence(alloc, rest, Asked::Faults),
+        "sort" => answer_sort(alloc, rest),
+        "visits" => answer_visits(alloc, rest),
+        _ => read_type(alloc, word, rest),
+    }
+}
+
+// `TYPE LIMIT HEX`: what the bytes give, and what the value of the bytes gives.
+fn read_type(alloc: Global, name: &str, rest: &str) -> Result<Option<String>, AllocError> {
+    match parse_limited(alloc, rest)? {
+        Some((limit, bytes)) => {
+            let reading = Reading {
+                limit,
+                bytes: &bytes,
+            };
+            ask_type(alloc, name, &reading)
+        }
+        None => Ok(None),
+    }
+}
+
+// `faults TYPE LIMIT HEX`: what the bytes give where each read fails in turn.
+fn fail_reading(alloc: Global, rest: &str) -> Result<Option<String>, AllocError> {
+    let Some((name, behind)) = rest.split_once(' ') else {
+        return Ok(None);
+    };
+    match parse_limited(alloc, behind)? {
+        Some((limit, bytes)) => {
+            let call = Call::Limited(limit);
+            let faults = FailedReads {
+                call,
+                bytes: &bytes,
+            };
+            ask_type(alloc, name, &faults)
+        }
+        None => Ok(None),
+    }
+}
+
+// `det LIMIT HEX`: what a deterministic reader gives of the bytes.
+fn read_strictly(alloc: Global, rest: &str) -> Result<Option<String>, AllocError> {
+    match parse_limited(alloc, rest)? {
+        Some((limit, bytes)) => {
+            let text = read_alike::<Value>(alloc, Call::Strict(limit), &bytes)?;
+            Ok(Some(text))
+        }
+        None => Ok(None),
+    }
+}
+
+// `det-faults LIMIT HEX`: the same where each read fails in turn.
+fn fail_strict_reading(alloc: Global, rest: &str) -> Result<Option<String>, AllocError> {
+    match parse_limited(alloc, rest)? {
+        Some((limit, bytes)) => {
+            let text = fail_reads::<Value>(alloc, Call::Strict(limit), &bytes)?;
+            Ok(Some(text))
+        }
+        None => Ok(None),
+    }
+}
+
+// `next TYPE HEX` and its kin: the items of a sequence.
+fn read_sequence(alloc: Global, rest: &str, asked: Asked) -> Result<Option<String>, AllocError> {
+    let Some((name, digits)) = rest.split_once(' ') else {
+        return Ok(None);
+    };
+    match decode_pieces(alloc, digits)? {
+        Some(bytes) => {
+            let sequence = Sequence {
+                asked,
+                bytes: &bytes,
+            };
+            ask_type(alloc, name, &sequence)
+        }
+        None => Ok(None),
+    }
+}
+
+// `write TYPE HEX` and its kin: what the value of the bytes writes.
+fn write_value(alloc: Global, rest: &str, writing: Writing) -> Result<Option<String>, AllocError> {
+    let Some((name, digits)) = rest.split_once(' ') else {
+        return Ok(None);
+    };
+    match decode_pieces(alloc, digits)? {
+        Some(bytes) => write_type(alloc, name, &bytes, writing),
+        None => Ok(None),
+    }
+}

@@ -1,0 +1,77 @@
+//! What a call that reads answers where each read of its reader fails in turn.
+
+use crate::devices::{Failure, Source};
+use crate::fronts::{Call, ask_call, describe_front};
+use crate::refusals::name_io;
+use crate::types::Job;
+use ciborium::de::Deserialize;
+use ciborium::ser::Serialize;
+use std::alloc::{AllocError, Global};
+use std::io::ErrorKind;
+
+// How a read fails.
+const FAILURES: [Failure; 5] = [
+    Failure::Kind(ErrorKind::Interrupted),
+    Failure::Kind(ErrorKind::WouldBlock),
+    Failure::Kind(ErrorKind::ConnectionReset),
+    Failure::Kind(ErrorKind::Other),
+    Failure::End,
+];
+
+/// What the call answers where each read fails in turn.
+#[derive(Clone, Copy)]
+pub struct FailedReads<'a> {
+    pub call: Call,
+    pub bytes: &'a [u8],
+}
+
+impl Job for FailedReads<'_> {
+    fn answer<T: Deserialize + Serialize>(&self, alloc: Global) -> Result<String, AllocError> {
+        fail_reads::<T>(alloc, self.call, self.bytes)
+    }
+}
+
+/// `io at N reads, then FRONT` where each of N reads of one byte, failing, makes the call answer
+/// just that failure, and the answer is FRONT where the read behind the last one would fail. Where
+/// it is otherwise `read K: ANSWER`, of the first such read; and where the ways to fail differ
+/// `differs: A / B`.
+///
+/// # Errors
+///
+/// `AllocError` where memory is refused for the text.
+pub fn fail_reads<T: Deserialize + Serialize>(
+    alloc: Global,
+    call: Call,
+    bytes: &[u8],
+) -> Result<String, AllocError> {
+    let text = fail_each_read::<T>(alloc, call, bytes, Failure::End)?;
+    for failure in FAILURES {
+        let other = fail_each_read::<T>(alloc, call, bytes, failure)?;
+        if other != text {
+            return format!(in alloc; "differs: {text} / {other}");
+        }
+    }
+    Ok(text)
+}
+
+// The same for one way to fail. A call reads no more often than there are bytes, and then once.
+fn fail_each_read<T: Deserialize + Serialize>(
+    alloc: Global,
+    call: Call,
+    bytes: &[u8],
+    failure: Failure,
+) -> Result<String, AllocError> {
+    let refused = name_io(failure.kind(ErrorKind::UnexpectedEof));
+    for at in 0..bytes.len().saturating_add(2) {
+        let mut source = Source::new(bytes, 1, Some((at, failure)));
+        let front = ask_call::<T, Source>(alloc, call, &mut source)?;
+        let text = describe_front(alloc, front, source.left())?;
+        if !source.failed {
+            return format!(in alloc; "io at {at} reads, then {text}");
+        }
+        if text.as_str() != refused {
+            return format!(in alloc; "read {at}: {text}");
+        }
+    }
+    String::from_str(alloc, "reads without end")
+}

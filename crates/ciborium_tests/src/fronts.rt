@@ -1,0 +1,208 @@
+//! What the bytes of a line give at their front, read in several ways.
+
+use crate::devices::Source;
+use crate::refusals::{describe_read, describe_tree};
+use crate::types::Job;
+use ciborium::de::{self, Deserialize};
+use ciborium::ser::Serialize;
+use ciborium::value::Value;
+use ciborium::{
+    from_reader, from_reader_deterministic, from_reader_with_buffer,
+    from_reader_with_recursion_limit, into_writer,
+};
+use std::alloc::{AllocError, Global};
+use std::io::{self, Read};
+
+/// The limit of `from_reader`.
+pub const USUAL_LIMIT: usize = 256;
+
+/// A call that reads.
+#[derive(Clone, Copy, Debug)]
+pub enum Call {
+    /// `from_reader`.
+    Plain,
+    /// `from_reader_with_recursion_limit`, with this limit.
+    Limited(usize),
+    /// `from_reader_with_buffer`, with a scratch of so many bytes.
+    Buffered(usize),
+    /// `from_reader_deterministic`, with this limit.
+    Strict(usize),
+}
+
+/// What was read, in hex, or why it was refused.
+pub type Front = Result<String, String>;
+
+/// What the bytes give as a type within the limit, and what the value of the bytes gives.
+#[derive(Clone, Copy)]
+pub struct Reading<'a> {
+    pub limit: usize,
+    pub bytes: &'a [u8],
+}
+
+impl Job for Reading<'_> {
+    fn answer<T: Deserialize + Serialize>(&self, alloc: Global) -> Result<String, AllocError> {
+        let mut text = read_alike::<T>(alloc, Call::Limited(self.limit), self.bytes)?;
+        text.push_str(" | ")?;
+        text.push_str(read_tree::<T>(alloc, self.bytes)?.as_str())?;
+        Ok(text)
+    }
+}
+
+/// What a call gives of the front of the bytes, from the slice and from readers of one byte and of
+/// three a read; where the limit is the usual one also with other calls and sizes of a scratch.
+/// `differs: A / B` where one of them gives something else than the first.
+///
+/// # Errors
+///
+/// `AllocError` where memory is refused for the text.
+pub fn read_alike<T: Deserialize + Serialize>(
+    alloc: Global,
+    call: Call,
+    bytes: &[u8],
+) -> Result<String, AllocError> {
+    let text = read_slice::<T>(alloc, call, bytes)?;
+    for most in [1, 3] {
+        let other = read_slowly::<T>(alloc, call, bytes, most)?;
+        if other != text {
+            return format!(in alloc; "differs: {text} / {other}");
+        }
+    }
+    match call {
+        Call::Limited(USUAL_LIMIT) => read_with_others::<T>(alloc, bytes, text),
+        _ => Ok(text),
+    }
+}
+
+// The same text where all calls with the usual limit give it.
+fn read_with_others<T: Deserialize + Serialize>(
+    alloc: Global,
+    bytes: &[u8],
+    text: String,
+) -> Result<String, AllocError> {
+    for call in [
+        Call::Plain,
+        Call::Buffered(0),
+        Call::Buffered(1),
+        Call::Buffered(4096),
+    ] {
+        let other = read_slice::<T>(alloc, call, bytes)?;
+        if other != text {
+            return format!(in alloc; "differs: {text} / {other}");
+        }
+        let slow = read_slowly::<T>(alloc, call, bytes, 1)?;
+        if slow != text {
+            return format!(in alloc; "differs: {text} / {slow}");
+        }
+    }
+    Ok(text)
+}
+
+// What a call gives of the front of a slice, and how many bytes it leaves.
+fn read_slice<T: Deserialize + Serialize>(
+    alloc: Global,
+    call: Call,
+    bytes: &[u8],
+) -> Result<String, AllocError> {
+    let mut rest = bytes;
+    let front = ask_call::<T, &[u8]>(alloc, call, &mut rest)?;
+    describe_front(alloc, front, rest.len())
+}
+
+// The same of a reader that gives at most so many bytes a read.
+fn read_slowly<T: Deserialize + Serialize>(
+    alloc: Global,
+    call: Call,
+    bytes: &[u8],
+    most: usize,
+) -> Result<String, AllocError> {
+    let mut source = Source::new(bytes, most, None);
+    let front = ask_call::<T, Source>(alloc, call, &mut source)?;
+    describe_front(alloc, front, source.left())
+}
+
+/// What the call gives. The strict one reads a `Value`, whatever the type.
+///
+/// # Errors
+///
+/// `AllocError` where memory is refused for the text.
+pub fn ask_call<T: Deserialize + Serialize, R: Read>(
+    alloc: Global,
+    call: Call,
+    reader: &mut R,
+) -> Result<Front, AllocError> {
+    match call {
+        Call::Plain => show_front::<T>(alloc, from_reader(alloc, reader)),
+        Call::Limited(limit) => {
+            show_front::<T>(
+                alloc,
+                from_reader_with_recursion_limit(alloc, reader, limit),
+            )
+        }
+        Call::Buffered(size) => {
+            let mut scratch = Vec::new(alloc);
+            scratch.resize(size, 0)?;
+            show_front::<T>(alloc, from_reader_with_buffer(alloc, reader, &mut scratch))
+        }
+        Call::Strict(limit) => show_front(alloc, from_reader_deterministic(alloc, reader, limit)),
+    }
+}
+
+/// What was read, in hex, or why it was refused.
+///
+/// # Errors
+///
+/// `AllocError` where memory is refused for the text.
+pub fn show_front<T: Serialize + Drop>(
+    alloc: Global,
+    answer: Result<T, de::Error<io::Error>>,
+) -> Result<Front, AllocError> {
+    match answer {
+        Ok(value) => Ok(Ok(encode_to_hex(alloc, &value)?)),
+        Err(error) => Ok(Err(describe_read(alloc, error)?)),
+    }
+}
+
+/// A front as a text, with the number of bytes that are left behind it.
+///
+/// # Errors
+///
+/// `AllocError` where memory is refused for the text.
+pub fn describe_front(alloc: Global, front: Front, left: usize) -> Result<String, AllocError> {
+    match front {
+        Ok(digits) => format!(in alloc; "ok {digits} {left}"),
+        Err(text) => Ok(text),
+    }
+}
+
+// What the value of the bytes, read without a limit, gives; `none` where they are no value.
+fn read_tree<T: Deserialize + Serialize>(
+    alloc: Global,
+    bytes: &[u8],
+) -> Result<String, AllocError> {
+    let mut rest = bytes;
+    let Ok(tree) = from_reader_with_recursion_limit::<Value, &[u8]>(alloc, &mut rest, usize::MAX)
+    else {
+        return String::from_str(alloc, "none");
+    };
+    match tree.deserialized::<T>(alloc) {
+        Ok(value) => {
+            let digits = encode_to_hex(alloc, &value)?;
+            format!(in alloc; "ok {digits}")
+        }
+        Err(error) => describe_tree(alloc, error),
+    }
+}
+
+/// What a value writes, in lower-case hex. Each type here has an item for each value that is read,
+/// so that memory alone is refused.
+///
+/// # Errors
+///
+/// `AllocError` where memory is refused.
+pub fn encode_to_hex<T: Serialize>(alloc: Global, value: &T) -> Result<String, AllocError> {
+    let mut bytes = Vec::new(alloc);
+    if into_writer(value, &mut bytes).is_err() {
+        return Err(AllocError);
+    }
+    hex::encode(alloc, &bytes)
+}

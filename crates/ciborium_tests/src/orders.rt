@@ -1,0 +1,137 @@
+//! Values in the canonical order, by sorts and by comparisons, and counts of visits.
+
+use crate::fronts::encode_to_hex;
+use crate::pieces::{decode_pieces, parse_number};
+use crate::writes::read_whole;
+use ciborium::value::canonical::cmp_value_counted;
+use ciborium::value::{CanonicalValue, Value};
+use std::alloc::{AllocError, Global};
+use std::cmp::Ordering;
+
+/// `HEX HEX ..`: the encodings of the values in the canonical order, joined by spaces, where a sort
+/// from each rotation of them, and from each rotation reversed, gives that order, and `<`, `max`
+/// and `min` agree with it; else `differs`.
+///
+/// # Errors
+///
+/// `AllocError` where memory is refused.
+pub fn answer_sort(alloc: Global, rest: &str) -> Result<Option<String>, AllocError> {
+    let Some(values) = read_values(alloc, rest)? else {
+        return Ok(None);
+    };
+    let sorted = sort_from(alloc, &values, 0, false)?;
+    let text = encode_all(alloc, &sorted)?;
+    for first in 0..values.len() {
+        for is_reversed in [false, true] {
+            let again = sort_from(alloc, &values, first, is_reversed)?;
+            if encode_all(alloc, &again)? != text {
+                return Ok(Some(String::from_str(alloc, "differs")?));
+            }
+        }
+    }
+    if !is_ascending(&sorted) || !has_ends(&sorted) {
+        return Ok(Some(String::from_str(alloc, "differs")?));
+    }
+    Ok(Some(text))
+}
+
+/// `LEAST MOST HEX HEX`: the canonical order of two values, where it takes so many visits of their
+/// nodes; else `N visits`.
+///
+/// # Errors
+///
+/// `AllocError` where memory is refused.
+pub fn answer_visits(alloc: Global, rest: &str) -> Result<Option<String>, AllocError> {
+    let Some((least, most, digits)) = split_bounds(rest) else {
+        return Ok(None);
+    };
+    let Some(values) = read_values(alloc, digits)? else {
+        return Ok(None);
+    };
+    let [left, right] = values.as_slice() else {
+        return Ok(None);
+    };
+    let (order, visits) = cmp_value_counted(left, right);
+    if visits < least || most < visits {
+        return Ok(Some(format!(in alloc; "{visits} visits")?));
+    }
+    let name = match order {
+        Ordering::Less => "less",
+        Ordering::Equal => "equal",
+        Ordering::Greater => "greater",
+    };
+    Ok(Some(String::from_str(alloc, name)?))
+}
+
+// The least and the most visits, and what stands behind them.
+fn split_bounds(rest: &str) -> Option<(u64, u64, &str)> {
+    let (least, behind) = rest.split_once(' ')?;
+    let (most, digits) = behind.split_once(' ')?;
+    Some((
+        parse_number(least)? as u64,
+        parse_number(most)? as u64,
+        digits,
+    ))
+}
+
+// The values of words of hex, or none where one of them is no value.
+fn read_values(alloc: Global, text: &str) -> Result<Option<Vec<Value>>, AllocError> {
+    let mut values = Vec::new(alloc);
+    for word in text.split(' ') {
+        let Some(bytes) = decode_pieces(alloc, word)? else {
+            return Ok(None);
+        };
+        let Some(value) = read_whole::<Value>(alloc, &bytes) else {
+            return Ok(None);
+        };
+        values.push(value)?;
+    }
+    Ok(Some(values))
+}
+
+// Copies of the values, sorted from the order that begins at one of them, or from its reverse.
+fn sort_from(
+    alloc: Global,
+    values: &[Value],
+    first: usize,
+    is_reversed: bool,
+) -> Result<Vec<CanonicalValue>, AllocError> {
+    let mut sorted = Vec::new(alloc);
+    for value in values.iter().skip(first).chain(values.iter().take(first)) {
+        sorted.push(CanonicalValue::from(value.clone()?))?;
+    }
+    if is_reversed {
+        sorted.reverse();
+    }
+    sorted.sort()?;
+    Ok(sorted)
+}
+
+// The encodings of the values, joined by spaces.
+fn encode_all(alloc: Global, values: &[CanonicalValue]) -> Result<String, AllocError> {
+    let mut text = String::new(alloc);
+    for value in values {
+        if !text.is_empty() {
+            text.push_str(" ")?;
+        }
+        text.push_str(encode_to_hex(alloc, value)?.as_str())?;
+    }
+    Ok(text)
+}
+
+// Whether of two values in a row the first is less, or they are equal, and the second is not.
+fn is_ascending(sorted: &[CanonicalValue]) -> bool {
+    for pair in sorted.windows(2) {
+        if let [left, right] = pair
+            && (right < left || (left < right) == (left == right))
+        {
+            return false;
+        }
+    }
+    true
+}
+
+// Whether the greatest and the least of the values stand at the ends.
+fn has_ends(sorted: &[CanonicalValue]) -> bool {
+    sorted.iter().rev().max() == sorted.last() && sorted.iter().rev().min() == sorted.first()
+}

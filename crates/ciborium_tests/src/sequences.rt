@@ -1,0 +1,140 @@
+//! Sequences of items, read one by one.
+
+use crate::devices::{Failure, Source};
+use crate::fronts::show_front;
+use crate::refusals::name_io;
+use crate::types::Job;
+use ciborium::de::Deserialize;
+use ciborium::from_reader_next;
+use ciborium::ser::Serialize;
+use std::alloc::{AllocError, Global};
+use std::io::{ErrorKind, Read};
+
+/// What is asked of a sequence.
+#[derive(Clone, Copy, Debug)]
+pub enum Asked {
+    /// The items until the end or a refusal.
+    Items,
+    /// The items until the end, also behind a refusal.
+    AllItems,
+    /// What is answered where each read fails in turn.
+    Faults,
+}
+
+/// What `from_reader_next` gives of the bytes: each item as `ok HEX`, the end or why the next one
+/// is refused, joined by semicolons.
+#[derive(Clone, Copy)]
+pub struct Sequence<'a> {
+    pub asked: Asked,
+    pub bytes: &'a [u8],
+}
+
+impl Job for Sequence<'_> {
+    fn answer<T: Deserialize + Serialize>(&self, alloc: Global) -> Result<String, AllocError> {
+        match self.asked {
+            Asked::Items => read_alike::<T>(alloc, self.bytes, false),
+            Asked::AllItems => read_alike::<T>(alloc, self.bytes, true),
+            Asked::Faults => fail_reads::<T>(alloc, self.bytes),
+        }
+    }
+}
+
+// The sequence of a slice, and `differs: A / B` where it is another one byte by byte, or three.
+fn read_alike<T: Deserialize + Serialize>(
+    alloc: Global,
+    bytes: &[u8],
+    goes_on: bool,
+) -> Result<String, AllocError> {
+    let mut rest = bytes;
+    let text = read_all::<T, &[u8]>(alloc, &mut rest, goes_on)?;
+    for most in [1, 3] {
+        let mut source = Source::new(bytes, most, None);
+        let other = read_all::<T, Source>(alloc, &mut source, goes_on)?;
+        if other != text {
+            return format!(in alloc; "differs: {text} / {other}");
+        }
+    }
+    Ok(text)
+}
+
+// The items of a reader until the end or a refusal, or if it goes on until the end.
+fn read_all<T: Deserialize + Serialize, R: Read>(
+    alloc: Global,
+    reader: &mut R,
+    goes_on: bool,
+) -> Result<String, AllocError> {
+    let mut text = String::new(alloc);
+    for _ in 0..u64::MAX {
+        let answer = match from_reader_next::<T, R>(alloc, reader) {
+            Ok(Some(value)) => show_front(alloc, Ok(value))?,
+            Ok(None) => break,
+            Err(error) => show_front::<T>(alloc, Err(error))?,
+        };
+        match answer {
+            Ok(digits) => {
+                text.push_str("ok ")?;
+                text.push_str(digits.as_str())?;
+            }
+            Err(refusal) => {
+                text.push_str(refusal.as_str())?;
+                if !goes_on {
+                    return Ok(text);
+                }
+            }
+        }
+        text.push_str("; ")?;
+    }
+    text.push_str("end")?;
+    Ok(text)
+}
+
+// How a read fails.
+const KINDS: [ErrorKind; 4] = [
+    ErrorKind::Interrupted,
+    ErrorKind::WouldBlock,
+    ErrorKind::ConnectionReset,
+    ErrorKind::Other,
+];
+
+// `io after 0 1 1 items, then SEQUENCE` where each read of one byte, failing, ends the sequence as
+// that failure, behind the first so many of its items; else `read K: ..`, of the first such read.
+fn fail_reads<T: Deserialize + Serialize>(
+    alloc: Global,
+    bytes: &[u8],
+) -> Result<String, AllocError> {
+    let text = fail_each_read::<T>(alloc, bytes, ErrorKind::Interrupted)?;
+    for kind in KINDS {
+        let other = fail_each_read::<T>(alloc, bytes, kind)?;
+        if other != text {
+            return format!(in alloc; "differs: {text} / {other}");
+        }
+    }
+    Ok(text)
+}
+
+// The same for one kind of failure. There are no more reads than bytes, and one that finds the end.
+fn fail_each_read<T: Deserialize + Serialize>(
+    alloc: Global,
+    bytes: &[u8],
+    kind: ErrorKind,
+) -> Result<String, AllocError> {
+    let mut rest = bytes;
+    let whole = read_all::<T, &[u8]>(alloc, &mut rest, false)?;
+    let mut answer = String::from_str(alloc, "io after")?;
+    for at in 0..bytes.len().saturating_add(2) {
+        let mut source = Source::new(bytes, 1, Some((at, Failure::Kind(kind))));
+        let text = read_all::<T, Source>(alloc, &mut source, false)?;
+        if !source.failed {
+            return format!(in alloc; "{answer} items, then {text}");
+        }
+        match text.as_str().strip_suffix(name_io(kind)) {
+            Some(items) if whole.as_str().starts_with(items) => {
+                let number = items.matches(';').count();
+                let more = format!(in alloc; " {number}")?;
+                answer.push_str(more.as_str())?;
+            }
+            _ => return format!(in alloc; "read {at}: {text}"),
+        }
+    }
+    String::from_str(alloc, "reads without end")
+}

@@ -1,0 +1,124 @@
+#!/usr/bin/env python3
+"""Makes hostile lines of the forms that `typed_lines` does not make: all types, and `det`, `next`, `write`, `sort` and
+`faults`.
+
+    python3 line_maker.py SEED COUNT
+
+prints COUNT lines, the same ones for the same SEED.
+"""
+
+import sys
+
+sys.dont_write_bytecode = True
+
+import line_model
+import typed_lines
+import typed_model
+
+TYPE_NAMES = tuple(typed_model.TYPES)
+WRITTEN_NAMES = TYPE_NAMES + tuple(line_model.WRITTEN)
+
+
+def rank_of_key(pair):
+    return typed_model.canonical_rank(typed_model.encode(pair[0]))
+
+
+class LineMaker(typed_lines.Maker):
+    """Makes lines from one stream of chances."""
+
+    def number(self):
+        bits = self.pick((0, 4, 5, 7, 8, 15, 16, 31, 32, 63, 64, 127, 128, 136))
+        number = max(0, (1 << bits) + self.pick((-1, 0, 1)))
+        return self.tagged_integer(-1 - number if self.chance(0.4) else number)
+
+    def short_tags(self):
+        return b"".join(self.head(6, self.pick((1, 2, 6, 6, 7, 255))) for _ in range(self.pick((0, 1, 1, 2, 3))))
+
+    def part(self):
+        """What is likely to fit some part of some type."""
+        return self.pick((
+            self.small, self.small, self.number, self.word, self.bool_item, self.bytes_item, self.numbers_item,
+            lambda: self.tags() + self.pick(typed_lines.SIMPLE),
+            lambda: self.text(self.pick(("A", "B", "a", "\u00fc"))),
+        ))()
+
+    def foo(self):
+        names = [self.pick(("bar", "bar", "title", "title", "number", "text", "x")) for _ in range(self.below(5))]
+        return self.tags() + self.map([(self.name(name), self.part()) for name in names])
+
+    def likely(self):
+        """An item in the form of some type, its parts of any."""
+        form = self.below(8)
+        if form < 2:
+            return self.part()
+        if form == 2:
+            return self.array([self.part() for _ in range(self.below(5))])
+        if form == 3:
+            return self.map([(self.part(), self.part()) for _ in range(self.below(3))])
+        if form == 4:
+            return self.short_tags() + self.part()
+        if form == 5:
+            return self.foo()
+        if form == 6:
+            return self.map([(self.name(self.pick("AB")), self.part())])
+        return self.array([self.short_tags() + self.part() for _ in range(self.below(4))])
+
+    def spelling(self):
+        form = self.random.random()
+        if form < 0.1:
+            return self.noise()
+        if form < 0.6:
+            return self.likely()
+        if form < 0.8:
+            return self.damaged(self.likely())
+        return self.tags() + self.item(self.below(4))
+
+    def strict(self):
+        """The shortest spelling of a value, at times damaged, or any one."""
+        self.oddness = self.pick((0, 0, 0.1))
+        spelling = self.item(self.below(5))
+        tree, _ = typed_model.read_tree(spelling)
+        if tree is not None and self.chance(0.6):
+            if tree[0] == "map" and self.chance(0.8):
+                tree = ("map", sorted(tree[1], key=rank_of_key))
+            spelling = typed_model.encode(tree)
+        return self.damaged(spelling) if self.chance(0.2) else spelling
+
+    def sorted_items(self):
+        items = []
+        while len(items) < self.pick((1, 2, 3, 5)):
+            spelling = self.item(self.below(3))
+            if typed_model.read_tree(spelling)[0] is not None:
+                items.append(spelling.hex())
+        return " ".join(items)
+
+    def line(self):
+        self.oddness = self.pick((0, 0.1, 0.3, 0.6))
+        form = self.random.random()
+        if form < 0.4:
+            return "%s %d %s" % (self.pick(TYPE_NAMES), self.limit(), self.spelling().hex())
+        if form < 0.5:
+            return "faults %s %d %s" % (self.pick(TYPE_NAMES), self.limit(), self.spelling().hex())
+        if form < 0.7:
+            word = "det" if self.chance(0.8) else "det-faults"
+            return "%s %d %s" % (word, self.limit(), self.strict().hex())
+        if form < 0.8:
+            items = b"".join(self.spelling() for _ in range(self.below(4)))
+            return "%s %s %s" % (self.pick(("next", "next-faults")), self.pick(TYPE_NAMES), items.hex())
+        if form < 0.9:
+            return "write %s %s" % (self.pick(WRITTEN_NAMES), self.spelling().hex())
+        return "sort %s" % self.sorted_items()
+
+
+def main(words):
+    if len(words) != 2 or not all(word.isascii() and word.isdigit() for word in words):
+        print("usage: line_maker.py SEED COUNT", file=sys.stderr)
+        return 2
+    maker = LineMaker(int(words[0]))
+    for _ in range(int(words[1])):
+        sys.stdout.write(maker.line() + "\n")
+    return 0
+
+
+if __name__ == "__main__":
+    sys.exit(main(sys.argv[1:]))

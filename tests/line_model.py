@@ -1,0 +1,447 @@
+#!/usr/bin/env python3
+"""A model of the lines that `ciborium_tests typed` answers (RFC 8949, RFC 8742), written apart from the library. Types
+are read by `typed_model`; here stand the other forms of lines.
+
+    python3 line_model.py answer < LINES    prints `LINE = ANSWER` of each line, or the line where it is not answered
+    python3 line_model.py stored FILE       compares the lines of FILE, each `LINE = ANSWER`, with the model's answers
+
+Not answered are how many writes a value takes, how many nodes a comparison visits, and calls that fail in turn where
+they are refused anyway.
+"""
+
+import re
+import sys
+
+sys.dont_write_bytecode = True
+
+import head_model as heads
+import typed_model as model
+
+sys.setrecursionlimit(400000)
+
+USUAL_LIMIT = 256
+MOST_REPETITIONS = 1000000
+LONGEST_FOLDED = 8
+PIECE = re.compile(r"(?:([0-9]+)\*)?((?:[0-9a-fA-F]{2})*)\Z")
+NUMBER = re.compile(r"[0-9]+\Z")
+SIGNED = re.compile(r"[+-]?[0-9]+\Z")
+CALLS = "no-memory read-value clone from-text serialized deserialized read-map macro".split()
+
+
+class Unanswered(Exception):
+    """A line that has an answer, but none that the model knows."""
+
+
+class Unknown(Exception):
+    """A line of no known form."""
+
+
+# --- Parts of lines ------------------------------------------------------------------------------------------------
+
+
+def parse_pieces(text):
+    content = b""
+    for piece in text.split(","):
+        match = PIECE.match(piece)
+        if match is None or match[1] is not None and int(match[1]) > MOST_REPETITIONS:
+            raise Unknown
+        content += (1 if match[1] is None else int(match[1])) * bytes.fromhex(match[2])
+    return content
+
+
+def parse_limit(text):
+    if NUMBER.match(text) is None or int(text) > model.NO_LIMIT:
+        raise Unknown
+    return int(text)
+
+
+def split(text, count):
+    """Words, the last of which may hold spaces."""
+    words = text.split(" ", count - 1)
+    if len(words) != count:
+        raise Unknown
+    return words
+
+
+def find_type(name):
+    if name not in model.TYPES:
+        raise Unknown
+    return model.TYPES[name]
+
+
+# --- Deterministic reading (section 4.2) ---------------------------------------------------------------------------
+
+
+class StrictSource(model.ByteSource):
+    """Reads the one deterministic encoding of a value. A head is judged before the limit and any payload."""
+
+    def judge(self, head):
+        what, number, offset = head
+        if what == model.SIMPLE:
+            if number == model.UNDEFINED:
+                raise self.refuse("notshortest", offset)
+        elif what <= model.TAG:
+            if number is None:
+                raise self.refuse("open", offset)
+            if self.position - offset > len(model.shortest_head(what, number)):
+                raise self.refuse("notshortest", offset)
+
+    def value_of(self, head):
+        self.judge(head)
+        return super().value_of(head)
+
+    def value_of_parts(self, head):
+        if head[0] != model.MAP:
+            return super().value_of_parts(head)
+        sequence = self.enter(head)
+        pairs = []
+        last = None
+        while self.next(sequence):
+            offset = self.position
+            key = self.value()
+            rank = model.canonical_rank(model.encode(key))
+            if last is not None and rank <= last:
+                raise self.refuse("keyorder", offset)
+            last = rank
+            pairs.append((key, self.value()))
+        return ("map", pairs)
+
+    def tagged_value(self, tag, offset):
+        head = self.pull()
+        if tag not in model.BIGNUM_TAGS or head[0] != model.BYTES or head[1] is None:
+            return self.tag_over(tag, head)
+        if head[1] > model.LONGEST_FOLDING:
+            return self.tag_over(tag, head)
+        self.judge(head)
+        content = self.payload(head[1])
+        if len(content) <= LONGEST_FOLDED or content[0] == 0:
+            raise self.refuse("notfolded", offset)
+        folded = model.fold_bignum(tag, content)
+        if folded is None:
+            raise self.refuse("toolarge", offset)
+        return folded
+
+    def tag_over(self, tag, head):
+        self.take_level()
+        content = self.value_of(head)
+        self.give_level()
+        return ("tag", tag, content)
+
+
+def read_front(source, a_type):
+    """What a source over bytes gives, and how many bytes were taken; or why it is refused."""
+    try:
+        value = a_type.read(source)
+    except model.Refusal as refusal:
+        return str(refusal), None
+    return "ok %s %d" % (a_type.write(value).hex(), len(source.data) - source.position), source.position
+
+
+def answer_strict(rest):
+    limit, digits = split(rest, 2)
+    return read_front(StrictSource(parse_pieces(digits), parse_limit(limit)), model.VALUE)[0]
+
+
+# --- Readers that fail ---------------------------------------------------------------------------------------------
+
+
+def failing(front, taken):
+    """Each byte is a read of its own."""
+    if taken is None:
+        raise Unanswered
+    return "io at %d reads, then %s" % (taken, front)
+
+
+def answer_faults(rest):
+    name, limit, digits = split(rest, 3)
+    return failing(*read_front(model.ByteSource(parse_pieces(digits), parse_limit(limit)), find_type(name)))
+
+
+def answer_strict_faults(rest):
+    limit, digits = split(rest, 2)
+    return failing(*read_front(StrictSource(parse_pieces(digits), parse_limit(limit)), model.VALUE))
+
+
+# --- Sequences (RFC 8742) ------------------------------------------------------------------------------------------
+
+
+def read_sequence(a_type, data, goes_on):
+    """The answers of a sequence, and where each item ends. Offsets count from each item."""
+    answers = []
+    ends = []
+    start = 0
+    while start < len(data):
+        source = model.ByteSource(data[start:], USUAL_LIMIT)
+        try:
+            value = a_type.read(source)
+        except model.Refusal as refusal:
+            answers.append(str(refusal))
+            if not goes_on:
+                return answers, ends
+        else:
+            answers.append("ok " + a_type.write(value).hex())
+            ends.append(start + source.position)
+        start += source.position if not answers[-1].startswith("io") else len(data)
+    return answers + ["end"], ends
+
+
+def answer_next(rest, goes_on=False):
+    name, digits = split(rest, 2)
+    return "; ".join(read_sequence(find_type(name), parse_pieces(digits), goes_on)[0])
+
+
+def answer_next_on(rest):
+    return answer_next(rest, True)
+
+
+def answer_next_faults(rest):
+    """At each read the items are answered that ended before it; one read more finds the end."""
+    name, digits = split(rest, 2)
+    data = parse_pieces(digits)
+    answers, ends = read_sequence(find_type(name), data, False)
+    if answers[-1] != "end":
+        raise Unanswered
+    counts = [sum(end <= read for end in ends) for read in range(len(data) + 1)]
+    return "io after %s items, then %s" % (" ".join(map(str, counts)), "; ".join(answers))
+
+
+# --- Writing -------------------------------------------------------------------------------------------------------
+
+
+class NoItem(Exception):
+    """A value that has no item."""
+
+
+def write_even(number):
+    if number % 2:
+        raise NoItem
+    return model.encode_number(number)
+
+
+def write_even_pair(pair):
+    return model.encode_array([model.encode_number(pair[0]), write_even(pair[1])])
+
+
+def open_array(parts):
+    return b"\x9f" + b"".join(parts) + b"\xff"
+
+
+def write_captured(content):
+    """A tag over the content, or that alone."""
+    return lambda pair: (b"" if pair[0] is None else model.shortest_head(model.TAG, pair[0])) + content(pair[1])
+
+
+NUMBERS = model.TYPES["Vec<u8>"]
+TEXT = model.STRING
+POSITION = model.tuple_of(model.signed(16), TEXT)
+WITH_TEXT = model.tuple_of(model.U8, model.BOOL, TEXT)
+
+# Types that are not written as they are read: how they are read, their bytes, and their tree where it is another.
+WRITTEN = {
+    "Even": (model.U8, write_even, None),
+    "(u8,Even)": (model.PAIR, write_even_pair, None),
+    "Some(Option<u8>)": (model.TYPES["Option<u8>"], model.TYPES["Option<u8>"].write, None),
+    "Copied": (TEXT, TEXT.write, None),
+    "&str": (TEXT, TEXT.write, None),
+    "&u8": (model.U8, model.U8.write, None),
+    "Position": (POSITION, POSITION.write, None),
+    "Open": (NUMBERS, lambda numbers: open_array(map(model.encode_number, numbers)), NUMBERS.write),
+    "Vec<Open>": (
+        model.list_of(NUMBERS),
+        lambda lists: model.encode_array([open_array(map(model.encode_number, numbers)) for numbers in lists]),
+        model.list_of(NUMBERS).write,
+    ),
+    "OpenMap": (
+        model.TYPES["BTreeMap<u8,u8>"],
+        lambda entries: b"\xbf" + b"".join(map(model.encode_number, sum(map(list, entries), []))) + b"\xff",
+        model.TYPES["BTreeMap<u8,u8>"].write,
+    ),
+    "Tag": (model.captured_of(model.VALUE), write_captured(model.encode), None),
+    "Captured<Value>": (model.captured_of(model.VALUE), write_captured(model.encode), None),
+    "Captured<bool>": (model.captured_of(model.BOOL), write_captured(model.encode_bool), None),
+    "Captured<ByteBuf>": (model.captured_of(model.BYTE_BUF), write_captured(model.encode_bytes), None),
+    "(u8,bool,&str)": (WITH_TEXT, WITH_TEXT.write, None),
+    "Option<Required<u64,255>>": (
+        model.option_of(model.required(255, model.unsigned(64))),
+        model.option_of(model.required(255, model.unsigned(64))).write,
+        None,
+    ),
+    "Option<Accepted<u64,255>>": (
+        model.option_of(model.accepted(255, model.unsigned(64))),
+        model.option_of(model.required(255, model.unsigned(64))).write,
+        None,
+    ),
+    "Captured<Accepted<Required<Even,1>,2>>": (
+        model.captured_of(model.accepted(2, model.required(1, model.U8))),
+        write_captured(lambda number: b"\xc2\xc1" + write_even(number)),
+        None,
+    ),
+}
+
+
+def answer_write(rest):
+    name, digits = split(rest, 2)
+    data = parse_pieces(digits)
+    if name in WRITTEN:
+        a_type, write, write_tree = WRITTEN[name]
+    else:
+        a_type = find_type(name)
+        write, write_tree = a_type.write, None
+    try:
+        value = a_type.read(model.ByteSource(data, model.NO_LIMIT))
+    except model.Refusal:
+        return "no value"
+    try:
+        return "%s | %s" % (write(value).hex(), (write_tree or write)(value).hex())
+    except NoItem:
+        return "value other | custom other"
+
+
+def not_answered(rest):
+    raise Unanswered
+
+
+# --- Order (section 4.2.3) -----------------------------------------------------------------------------------------
+
+
+def answer_sort(rest):
+    encodings = []
+    for word in rest.split(" "):
+        tree = model.read_tree(parse_pieces(word))[0]
+        if tree is None:
+            raise Unknown
+        encodings.append(model.encode(tree))
+    return " ".join(encoding.hex() for encoding in sorted(encodings, key=model.canonical_rank))
+
+
+# --- Heads, payloads and integers (section 3) -----------------------------------------------------------------------
+
+
+def at_offset(answer):
+    def answer_at(rest):
+        offset, digits = split(rest, 2)
+        return answer(parse_limit(offset), parse_pieces(digits))
+
+    return answer_at
+
+
+def answer_ahead(rest):
+    offset, count, digits = split(rest, 3)
+    return heads.answer_ahead(parse_limit(offset), parse_limit(count), parse_pieces(digits))
+
+
+def parse_integer(text):
+    """A number of 128 bits, with its sign or without one."""
+    if SIGNED.match(text) is None or not -(2**127) <= int(text) < 2**128:
+        raise Unknown
+    return int(text)
+
+
+def answer_canonical(rest):
+    numbers = [parse_integer(it) for it in rest.split(",")]
+    if not all(-heads.GREATEST - 1 <= it <= heads.GREATEST for it in numbers):
+        raise Unknown
+    return heads.answer_canonical(numbers)
+
+
+def answer_growth(rest):
+    if rest not in CALLS:
+        raise Unknown
+    raise Unanswered
+
+
+def answer_head_faults(rest, is_first=False):
+    answer = heads.answer_faults(parse_pieces(rest), is_first)
+    if answer is None:
+        raise Unanswered
+    return answer
+
+
+# --- Lines ---------------------------------------------------------------------------------------------------------
+
+
+def answer_type(name, rest):
+    limit, digits = split(rest, 2)
+    data = parse_pieces(digits)
+    limit = parse_limit(limit)
+    find_type(name)
+    return "%s | %s" % (model.answer_bytes(name, limit, data), model.answer_tree(name, model.read_tree(data)[0]))
+
+
+FORMS = {
+    "write": answer_write,
+    "write-faults": not_answered,
+    "faults": answer_faults,
+    "det": answer_strict,
+    "det-faults": answer_strict_faults,
+    "next": answer_next,
+    "next-on": answer_next_on,
+    "next-faults": answer_next_faults,
+    "sort": answer_sort,
+    "visits": not_answered,
+    "head": at_offset(heads.answer_head),
+    "heads": at_offset(heads.answer_heads),
+    "first": lambda rest: heads.answer_first(parse_pieces(rest)),
+    "head-faults": answer_head_faults,
+    "first-faults": lambda rest: answer_head_faults(rest, is_first=True),
+    "ahead": answer_ahead,
+    "payload": lambda rest: heads.answer_payload(parse_pieces(rest)),
+    "integer": lambda rest: heads.answer_integer(parse_integer(rest)),
+    "canonical": answer_canonical,
+    "growth": answer_growth,
+}
+
+
+def answer_line(line):
+    """The answer to a line; `Unanswered` where the model has none."""
+    try:
+        word, rest = split(line, 2)
+        if word in FORMS:
+            return FORMS[word](rest)
+        return answer_type(word, rest)
+    except Unknown:
+        return "unknown line"
+
+
+def has_answer(line):
+    return line != "" and not line.startswith("#")
+
+
+def compare_stored(path):
+    counts = {"answered": 0, "not answered": 0, "wrong": 0}
+    with open(path, encoding="utf-8") as stored:
+        for row in stored:
+            row = row.rstrip("\n")
+            if not has_answer(row):
+                continue
+            line, _, expected = row.rpartition(" = ")
+            try:
+                answer = answer_line(line)
+            except Unanswered:
+                counts["not answered"] += 1
+                continue
+            counts["answered"] += 1
+            if answer != expected:
+                counts["wrong"] += 1
+                print("%s\n  stored: %s\n  model:  %s" % (line[:200], expected[:200], answer[:200]))
+    print("%d stored lines answered, %d not answered, %d wrong" % tuple(counts[word] for word in counts))
+    return 1 if counts["wrong"] or not counts["answered"] else 0
+
+
+def main(words):
+    if words == ["answer"]:
+        for line in sys.stdin:
+            line = line.rstrip("\n")
+            try:
+                print("%s = %s" % (line, answer_line(line)) if has_answer(line) else line)
+            except Unanswered:
+                print(line)
+        return 0
+    if len(words) == 2 and words[0] == "stored":
+        return compare_stored(words[1])
+    print("usage: line_model.py answer | stored FILE", file=sys.stderr)
+    return 2
+
+
+if __name__ == "__main__":
+    sys.exit(main(sys.argv[1:]))
