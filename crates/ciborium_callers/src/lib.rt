@@ -13,6 +13,9 @@ mod head_tests;
 mod macro_tests;
 pub mod own_callers;
 pub mod own_types;
+pub mod readme;
+#[cfg(test)]
+mod readme_tests;
 pub mod sequence_callers;
 pub mod struct_types;
 pub mod tag_types;
