@@ -231,20 +231,34 @@ fn ask_heads<R: Read>(alloc: Global, way: Way, reader: &mut R) -> Result<Pulled,
     let mut decoder = Decoder::at(reader, way.offset);
     let mut text = String::new(alloc);
     for _ in 0..usize::MAX {
-        match take_front(alloc, &mut decoder, way.ahead, &mut scratch) {
-            Ok(front) => {
-                let shown = show_front(alloc, &front)?;
-                let at = decoder.last_offset();
-                let len = decoder.head_len();
-                text.push_str(format!(in alloc; "{shown} at {at} len {len}; ")?.as_str())?;
-            }
-            Err(error) => {
-                text.push_str(describe_refusal(alloc, error)?.as_str())?;
-                return Ok(Err(text));
-            }
+        let pulled = take_front(alloc, &mut decoder, way.ahead, &mut scratch);
+        let place = (decoder.last_offset(), decoder.head_len());
+        if !push_front(alloc, pulled, place, &mut text)? {
+            return Ok(Err(text));
         }
     }
     Ok(Ok(text))
+}
+
+// Puts a head with its offset and its length behind the text, or why it is refused, and answers
+// whether it was pulled.
+fn push_front(
+    alloc: Global,
+    pulled: Result<Front, Error<io::Error>>,
+    (at, len): (usize, usize),
+    text: &mut String,
+) -> Result<bool, AllocError> {
+    match pulled {
+        Ok(front) => {
+            let shown = show_front(alloc, &front)?;
+            text.push_str(format!(in alloc; "{shown} at {at} len {len}; ")?.as_str())?;
+            Ok(true)
+        }
+        Err(error) => {
+            text.push_str(describe_refusal(alloc, error)?.as_str())?;
+            Ok(false)
+        }
+    }
 }
 
 // The first head, if there is one, with its length.
