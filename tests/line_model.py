@@ -350,6 +350,16 @@ def answer_growth(rest):
     raise Unanswered
 
 
+def answer_at(rest):
+    """How many bytes a refusal leaves is not modelled for types."""
+    offset, name, limit, digits = split(rest, 4)
+    parse_limit(offset)
+    find_type(name)
+    parse_limit(limit)
+    parse_pieces(digits)
+    raise Unanswered
+
+
 def answer_head_faults(rest, is_first=False):
     answer = heads.answer_faults(parse_pieces(rest), is_first)
     if answer is None:
@@ -389,6 +399,7 @@ FORMS = {
     "integer": lambda rest: heads.answer_integer(parse_integer(rest)),
     "canonical": answer_canonical,
     "growth": answer_growth,
+    "at": answer_at,
 }
 
 

@@ -5,6 +5,7 @@ use crate::faults::{FailedReads, fail_reads};
 use crate::fronts::{Call, Reading, read_alike};
 use crate::head_lines::answer_head_line;
 use crate::lines::{read_line, write_bytes};
+use crate::offsets::read_at_offset;
 use crate::orders::{answer_sort, answer_visits};
 use crate::pieces::{decode_pieces, parse_limited};
 use crate::sequences::{Asked, Sequence};
@@ -69,6 +70,7 @@ fn answer_words(alloc: Global, word: &str, rest: &str) -> Result<Option<String>,
     match word {
         "write" => write_value(alloc, rest, Writing::Whole),
         "write-faults" => write_value(alloc, rest, Writing::Failing),
+        "at" => read_at_offset(alloc, rest),
         "faults" => fail_reading(alloc, rest),
         "det" => read_strictly(alloc, rest),
         "det-faults" => fail_strict_reading(alloc, rest),

@@ -15,6 +15,7 @@ mod header_texts;
 mod heads;
 mod integers;
 mod lines;
+mod offsets;
 mod orders;
 mod outcome;
 mod payloads;

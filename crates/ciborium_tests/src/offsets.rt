@@ -1,0 +1,75 @@
+//! Lines on bytes whose first is at an offset: `at OFFSET TYPE LIMIT HEX`.
+
+use crate::devices::Source;
+use crate::fronts::show_front;
+use crate::pieces::{parse_limited, parse_number};
+use crate::types::{Job, ask_type};
+use ciborium::de::{Deserialize, from_reader_at};
+use ciborium::ser::Serialize;
+use std::alloc::{AllocError, Global};
+
+/// What the bytes give as a type within the limit, where the first of them is at an offset.
+#[derive(Clone, Copy)]
+struct ReadingAt<'a> {
+    offset: usize,
+    limit: usize,
+    bytes: &'a [u8],
+}
+
+impl Job for ReadingAt<'_> {
+    fn answer<T: Deserialize + Serialize>(&self, alloc: Global) -> Result<String, AllocError> {
+        let text = read_slowly::<T>(alloc, *self, 1)?;
+        for most in [3, usize::MAX] {
+            let other = read_slowly::<T>(alloc, *self, most)?;
+            if other != text {
+                return format!(in alloc; "differs: {text} / {other}");
+            }
+        }
+        Ok(text)
+    }
+}
+
+// What is read, in hex, or why it is refused, and how many bytes are left, from a reader of at most
+// so many bytes a read.
+fn read_slowly<T: Deserialize + Serialize>(
+    alloc: Global,
+    reading: ReadingAt<'_>,
+    most: usize,
+) -> Result<String, AllocError> {
+    let mut source = Source::new(reading.bytes, most, None);
+    let read = from_reader_at::<T, Source>(alloc, &mut source, reading.offset, reading.limit);
+    let front = show_front(alloc, read)?;
+    let left = source.left();
+    match front {
+        Ok(digits) => format!(in alloc; "ok {digits} {left}"),
+        Err(refusal) => format!(in alloc; "{refusal} left {left}"),
+    }
+}
+
+/// The answer to `OFFSET TYPE LIMIT HEX`, or none where the words are of another form.
+///
+/// # Errors
+///
+/// `AllocError` where memory is refused for the answer.
+pub fn read_at_offset(alloc: Global, rest: &str) -> Result<Option<String>, AllocError> {
+    let Some((text, behind)) = rest.split_once(' ') else {
+        return Ok(None);
+    };
+    let Some((name, limited)) = behind.split_once(' ') else {
+        return Ok(None);
+    };
+    let Some(offset) = parse_number(text) else {
+        return Ok(None);
+    };
+    match parse_limited(alloc, limited)? {
+        Some((limit, bytes)) => {
+            let reading = ReadingAt {
+                offset,
+                limit,
+                bytes: &bytes,
+            };
+            ask_type(alloc, name, &reading)
+        }
+        None => Ok(None),
+    }
+}
