@@ -63,10 +63,8 @@ fn fail_each_read<T: Deserialize + Serialize>(
 ) -> Result<String, AllocError> {
     let refused = name_io(failure.kind(ErrorKind::UnexpectedEof));
     for at in 0..bytes.len().saturating_add(2) {
-        let mut source = Source::new(bytes, 1, Some((at, failure)));
-        let front = ask_call::<T, Source>(alloc, call, &mut source)?;
-        let text = describe_front(alloc, front, source.left())?;
-        if !source.failed {
+        let (text, failed) = fail_read::<T>(alloc, call, bytes, (at, failure))?;
+        if !failed {
             return format!(in alloc; "io at {at} reads, then {text}");
         }
         if text.as_str() != refused {
@@ -74,4 +72,17 @@ fn fail_each_read<T: Deserialize + Serialize>(
         }
     }
     String::from_str(alloc, "reads without end")
+}
+
+// What the call answers where one read fails, and whether it came to that read.
+fn fail_read<T: Deserialize + Serialize>(
+    alloc: Global,
+    call: Call,
+    bytes: &[u8],
+    fault: (usize, Failure),
+) -> Result<(String, bool), AllocError> {
+    let mut source = Source::new(bytes, 1, Some(fault));
+    let front = ask_call::<T, Source>(alloc, call, &mut source)?;
+    let text = describe_front(alloc, front, source.left())?;
+    Ok((text, source.failed))
 }

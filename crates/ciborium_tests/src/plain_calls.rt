@@ -24,18 +24,23 @@ pub fn make_plain_calls(alloc: Global) -> Result<(), Failure> {
     let text = String::from_str(alloc, "a")?;
     let bytes = prepare_byte(alloc)?;
 
-    decode_heads()?;
-    encode_heads()?;
-    make_head_calls()?;
-    convert_errors()?;
+    call_heads_and_numbers()?;
     expect(is_written_as(&values, VALUES))?;
-    compare_integers()?;
-    convert_integers()?;
     look_into(&values)?;
     compare_values(&values)?;
     read_plain_types(alloc, &values)?;
     make_values(alloc, text, bytes)?;
     take_apart(values)
+}
+
+// Calls on heads, errors and numbers.
+fn call_heads_and_numbers() -> Result<(), Failure> {
+    decode_heads()?;
+    encode_heads()?;
+    make_head_calls()?;
+    convert_errors()?;
+    compare_integers()?;
+    convert_integers()
 }
 
 // h'01'

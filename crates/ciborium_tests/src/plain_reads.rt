@@ -15,14 +15,15 @@ use std::alloc::Global;
 ///
 /// Why an answer is not the right value.
 pub fn read_plain_types(alloc: Global, values: &Value) -> Result<(), Failure> {
-    read_numbers(alloc)?;
+    read_unsigned_numbers(alloc)?;
+    read_signed_numbers(alloc)?;
     read_great_numbers(alloc)?;
     read_scalars(alloc)?;
     read_items(alloc, values)
 }
 
-// A number of every width.
-fn read_numbers(alloc: Global) -> Result<(), Failure> {
+// A number of every width without a sign.
+fn read_unsigned_numbers(alloc: Global) -> Result<(), Failure> {
     read_both(alloc, b"\x18\xff", &Value::from(255u8), &255u8)?;
     read_both(alloc, b"\x19\xff\xff", &Value::from(65535u16), &65535u16)?;
     read_both(
@@ -32,7 +33,11 @@ fn read_numbers(alloc: Global) -> Result<(), Failure> {
         &65536u32,
     )?;
     read_both(alloc, b"\x18\x18", &Value::from(24u8), &24u64)?;
-    read_both(alloc, b"\x18\x18", &Value::from(24u8), &24usize)?;
+    read_both(alloc, b"\x18\x18", &Value::from(24u8), &24usize)
+}
+
+// A number of every width with a sign.
+fn read_signed_numbers(alloc: Global) -> Result<(), Failure> {
     read_both(alloc, b"\x38\x7f", &Value::from(-128i8), &-128i8)?;
     read_both(alloc, b"\x38\x80", &Value::from(-129i16), &-129i16)?;
     read_both(alloc, b"\x38\x80", &Value::from(-129i16), &-129i32)?;

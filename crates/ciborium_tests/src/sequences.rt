@@ -45,8 +45,7 @@ fn read_alike<T: Deserialize + Serialize>(
     bytes: &[u8],
     goes_on: bool,
 ) -> Result<String, AllocError> {
-    let mut rest = bytes;
-    let text = read_all::<T, &[u8]>(alloc, &mut rest, goes_on)?;
+    let text = read_slice::<T>(alloc, bytes, goes_on)?;
     for most in [1, 3] {
         let mut source = Source::new(bytes, most, None);
         let other = read_all::<T, Source>(alloc, &mut source, goes_on)?;
@@ -55,6 +54,16 @@ fn read_alike<T: Deserialize + Serialize>(
         }
     }
     Ok(text)
+}
+
+// The items of a slice.
+fn read_slice<T: Deserialize + Serialize>(
+    alloc: Global,
+    bytes: &[u8],
+    goes_on: bool,
+) -> Result<String, AllocError> {
+    let mut rest = bytes;
+    read_all::<T, &[u8]>(alloc, &mut rest, goes_on)
 }
 
 // The items of a reader until the end or a refusal, or if it goes on until the end.
@@ -118,8 +127,7 @@ fn fail_each_read<T: Deserialize + Serialize>(
     bytes: &[u8],
     kind: ErrorKind,
 ) -> Result<String, AllocError> {
-    let mut rest = bytes;
-    let whole = read_all::<T, &[u8]>(alloc, &mut rest, false)?;
+    let whole = read_slice::<T>(alloc, bytes, false)?;
     let mut answer = String::from_str(alloc, "io after")?;
     for at in 0..bytes.len().saturating_add(2) {
         let mut source = Source::new(bytes, 1, Some((at, Failure::Kind(kind))));
@@ -127,14 +135,20 @@ fn fail_each_read<T: Deserialize + Serialize>(
         if !source.failed {
             return format!(in alloc; "{answer} items, then {text}");
         }
-        match text.as_str().strip_suffix(name_io(kind)) {
-            Some(items) if whole.as_str().starts_with(items) => {
-                let number = items.matches(';').count();
-                let more = format!(in alloc; " {number}")?;
-                answer.push_str(more.as_str())?;
-            }
-            _ => return format!(in alloc; "read {at}: {text}"),
-        }
+        let Some(number) = count_items(whole.as_str(), text.as_str(), name_io(kind)) else {
+            return format!(in alloc; "read {at}: {text}");
+        };
+        answer.push_str(format!(in alloc; " {number}")?.as_str())?;
     }
     String::from_str(alloc, "reads without end")
+}
+
+// How many items stand before this refusal, if the items are the first ones of the whole sequence.
+fn count_items(whole: &str, text: &str, refusal: &str) -> Option<usize> {
+    let items = text.strip_suffix(refusal)?;
+    if whole.starts_with(items) {
+        Some(items.matches(';').count())
+    } else {
+        None
+    }
 }

@@ -122,15 +122,13 @@ fn fail_each_write<T: Serialize>(
     for at in 0..bytes.len().saturating_add(1) {
         let mut sink = Sink::new(alloc, at, failure);
         let text = describe_answer(alloc, into_writer(value, &mut sink))?;
-        let held = sink.held.as_slice();
-        if !sink.failed && text.as_str() == "written" && held == bytes && !sink.flushed {
+        if is_complete(&sink, bytes) && text.as_str() == "written" {
             let digits = hex::encode(alloc, bytes)?;
             return format!(in alloc; "io at {at} writes, then {digits}");
         }
-        let is_beginning = bytes.starts_with(held) && held.len() < bytes.len();
-        if !sink.failed || text.as_str() != refused || !is_beginning || sink.flushed {
-            let digits = hex::encode(alloc, held)?;
-            return format!(in alloc; "write {at}: {text} {digits} flushed {}", sink.flushed);
+        if !is_cut(&sink, bytes) || text.as_str() != refused {
+            let digits = hex::encode(alloc, &sink.held)?;
+            return format!(in alloc; "write {at}: {text} {digits}");
         }
     }
     String::from_str(alloc, "writes without end")
@@ -145,4 +143,15 @@ fn describe_answer(
         Ok(()) => String::from_str(alloc, "written"),
         Err(error) => describe_write(alloc, error),
     }
+}
+
+// Whether all of the bytes are out, with no failure and nothing flushed.
+fn is_complete(sink: &Sink, bytes: &[u8]) -> bool {
+    !sink.failed && !sink.flushed && sink.held.as_slice() == bytes
+}
+
+// Whether a proper beginning of the bytes is out, with a failure and nothing flushed.
+fn is_cut(sink: &Sink, bytes: &[u8]) -> bool {
+    let held = sink.held.as_slice();
+    sink.failed && !sink.flushed && bytes.starts_with(held) && held.len() < bytes.len()
 }
