@@ -16,6 +16,7 @@ mod Pulled
 mod Fronts
 mod Contents
 mod AfterTag
+mod TagsJudged
 mod Turned
 mod WhateverFollows
 mod Outcomes
