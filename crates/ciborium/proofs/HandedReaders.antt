@@ -12,7 +12,7 @@ use Rattle.ciborium_value.specs.Taken.{Taken}
 use Rattle.ciborium_value.specs.Tree.{Tree}
 use Rattle.ciborium.specs.declared.de.byte_source.ByteSource.{ByteSource}
 use Rattle.ciborium.specs.declared.de.error.Error.{Error}
-use Rattle.ciborium.specs.Answers.{IsTreeRead, IsTakenAs, TakesBytes}
+use Rattle.ciborium.specs.Answers.{IsTreeRead, IsTakenFrom, TakesBytes, TakesBytesFrom}
 use Rattle.ciborium.specs.ByteSources.{IsUnread, IsUnreadBy, ReadsValue, StandsBefore, cause_of, pending_count}
 use Rattle.ciborium.specs.NextItems.{IsReadFrom}
 use Rattle.ciborium.specs.TypedReads.{IsFaultAhead, TakesGiving}
@@ -48,27 +48,32 @@ same-rest : (u v : List ℕ) → Some u ≡ Some v → u ≡ v
 same-rest u v e = cc
 
 -- what was taken, where that is said whatever follows it
-pub taken-tree : (E : Type 0) {S : Type 0} (d : Decoder S) (l : ℕ) (s : List ℕ) (r : Result Tree (Error E)) → d.pushed ≡ None → ((c : List ℕ) → IsTreeRead {S = List ℕ} {E = E} Some (with_left d c) l (s ++ c) 0 r) → IsTakenAs {E = E} s l r
-taken-tree E d l s (Ok v) none f =
+pub taken-tree : (E : Type 0) {S : Type 0} (d : Decoder S) (l p : ℕ) (s : List ℕ) (r : Result Tree (Error E)) → d.pushed ≡ None → ((c : List ℕ) → IsTreeRead {S = List ℕ} {E = E} Some (with_left d c) l (s ++ c) p r) → IsTakenFrom {E = E} p s l r
+taken-tree E d l p s (Ok v) none f =
     let (zs, q, item, at) = f [] in
     let left : [] ≡ zs = same-rest [] zs (left-at Some (with_left d []) q zs none at) in
     let whole : item.taken ≡ s = sym (append-nil item.taken) ∙ ap (λ (z : List ℕ). item.taken ++ z) left ∙ sym item.split ∙ append-nil s in
-    subst (λ z. IsReadAs z 0 (Some l) v) whole item.read
-taken-tree E d l s (Err e) none f = f
+    subst (λ z. IsReadAs z p (Some l) v) whole item.read
+taken-tree E d l p s (Err e) none f = f
+
+pub handed-from : (E : Type 0) {S : Type 0} (remaining : S → Option (List ℕ)) (old new : ByteSource S) (lent x : S) (p : ℕ) (r : Result Tree (Error E)) → HasBegun old.decoder lent p → old.pending ≡ None → (old.decoder.reader.ghost_name ≡ new.decoder.reader.ghost_name → x ≡ new.decoder.reader.now) → ReadsValue remaining old new r →
+    TakesBytesFrom {E = E} p (remaining lent) old.levels (remaining x) r
+handed-from E {S} remaining old new lent x p r begins none back reads =
+    let (s, taken, count, h, bytes) = reads.1 in
+    let begun : old.decoder.count ≡ p = begins.count in
+    let less = new.decoder.fits in
+    let after : remaining x ≡ left_of remaining new.decoder = ap remaining (back (sym (same-name old.decoder new.decoder reads.0))) ∙ sym (begun-rest remaining old.decoder new.decoder lent p begins reads.0) in (
+      s,
+      subst (λ o. Consumes (remaining lent) o s) (sym after) (subst (λ y. Consumes y (left_of remaining new.decoder) s) (begun-left remaining old.decoder lent p begins) taken),
+      omega (arith, count, begun, less),
+      taken-tree E new.decoder old.levels p s r new.unpushed (λ c. h c (s ++ c) p (subst (λ o. IsAheadBy Some (with_left old.decoder (s ++ c)) (s ++ c) p o) (sym none) (begins.count, refl))),
+      bytes,
+    )
 
 pub handed-whole : (E : Type 0) {S : Type 0} (remaining : S → Option (List ℕ)) (old new : ByteSource S) (lent x : S) (r : Result Tree (Error E)) → HasBegun old.decoder lent 0 → old.pending ≡ None → (old.decoder.reader.ghost_name ≡ new.decoder.reader.ghost_name → x ≡ new.decoder.reader.now) → ReadsValue remaining old new r →
     TakesBytes {E = E} (remaining lent) old.levels (remaining x) r
-handed-whole E {S} remaining old new lent x r begins none back reads =
-    let (s, taken, count, h, bytes) = reads.1 in
-    let zero : old.decoder.count ≡ 0 = begins.count in
-    let less = new.decoder.fits in
-    let after : remaining x ≡ left_of remaining new.decoder = ap remaining (back (sym (same-name old.decoder new.decoder reads.0))) ∙ sym (begun-rest remaining old.decoder new.decoder lent 0 begins reads.0) in (
-      s,
-      subst (λ o. Consumes (remaining lent) o s) (sym after) (subst (λ y. Consumes y (left_of remaining new.decoder) s) (begun-left remaining old.decoder lent 0 begins) taken),
-      omega (arith, count, zero, less),
-      taken-tree E new.decoder old.levels s r new.unpushed (λ c. h c (s ++ c) 0 (subst (λ o. IsAheadBy Some (with_left old.decoder (s ++ c)) (s ++ c) 0 o) (sym none) (begins.count, refl))),
-      bytes,
-    )
+handed-whole E remaining old new lent x r begins none back reads =
+    let (s, consumes, fits, taken, bytes) = handed-from E remaining old new lent x 0 r begins none back reads in (s, consumes, omega (arith, fits), taken, bytes)
 
 pub err-map : {T E : Type 0} {P Q : E → Type 0} (r : Result T E) → IfErr r P → ((v : E) → P v → Q v) → IfErr r Q
 err-map (Ok v) p f = tt

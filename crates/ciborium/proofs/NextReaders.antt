@@ -67,7 +67,7 @@ module _ {S : Type 0} (E : Type 0) (remaining : S → Option (List ℕ)) (d : De
         b ++ c,
         subst (λ o. Consumes (remaining lent) o (b ++ c)) (sym after) (Consumes-trans (remaining lent) (left_of remaining s.decoder) (left_of remaining t.decoder) b c (subst (λ y. Consumes y (left_of remaining s.decoder) b) (begun-left remaining d lent 0 begins) consumed) more),
         omega (arith, count, sum, zero, less, length-append b c),
-        taken-tree E t.decoder s.levels (b ++ c) r t.unpushed (λ z. subst (λ u. Rattle.ciborium.specs.Answers.IsTreeRead {S = List ℕ} {E = E} Some (with_left t.decoder z) s.levels u 0 r) (sym (append_assoc b c z)) (f z (b ++ (c ++ z)) 0 (front-any (c ++ z)))),
+        taken-tree E t.decoder s.levels 0 (b ++ c) r t.unpushed (λ z. subst (λ u. Rattle.ciborium.specs.Answers.IsTreeRead {S = List ℕ} {E = E} Some (with_left t.decoder z) s.levels u 0 r) (sym (append_assoc b c z)) (f z (b ++ (c ++ z)) 0 (front-any (c ++ z)))),
         All-append (λ n. n < 256) b c bytes low,
       )
 

@@ -52,10 +52,19 @@ AnswersItem i left after (Err e) = IsFailed after e
 -- ---- the clauses of a call that reads one value within l levels: what the reader held before it, what it is left with, and the answer
 -- by its tree
 
--- what the bytes s are that were taken, where the answer is so: a good item that means it; or refused so, whatever follows them
+-- what the bytes s are that were taken from offset p on, where the answer is so: a good item that means it; or refused so, whatever
+-- follows them
+abbrev pub IsTakenFrom : {E : Type 0} → ℕ → List ℕ → ℕ → Result Tree (Error E) → Type 0
+IsTakenFrom p s l (Ok v) = IsReadAs s p (Some l) v
+IsTakenFrom p s l (Err e) = (c : List ℕ) → IsRefusedBy (Some c) e (Refuses (s ++ c) p (Some l))
+
 abbrev pub IsTakenAs : {E : Type 0} → List ℕ → ℕ → Result Tree (Error E) → Type 0
-IsTakenAs s l (Ok v) = IsReadAs s 0 (Some l) v
-IsTakenAs s l (Err e) = (c : List ℕ) → IsRefusedBy (Some c) e (Refuses (s ++ c) 0 (Some l))
+IsTakenAs s l r = IsTakenFrom 0 s l r
+
+-- from offset p on some bytes were taken, a beginning of those that are known, and to the greatest offset at most; and so they are
+abbrev pub TakesBytesFrom : {E : Type 0} → ℕ → Option (List ℕ) → ℕ → Option (List ℕ) → Result Tree (Error E) → Type 0
+TakesBytesFrom p before l after r =
+    (s : List ℕ) × Consumes before after s × (p + length s ≤ greatest_offset) × IsTakenFrom p s l r × AreBytes s
 
 -- some bytes were taken, a beginning of those that are known, and no more than there are offsets; and so they are
 abbrev pub TakesBytes : {E : Type 0} → Option (List ℕ) → ℕ → Option (List ℕ) → Result Tree (Error E) → Type 0

@@ -2,7 +2,7 @@
 
 ghost use Rattle.std.specs.Prelude.{◌≡◌, IfErr, IfNone, IfSome, None, Ok, Some};
 ghost use Rattle.ciborium_value.specs.Sources.{IsGranted, read_as};
-ghost use Rattle.ciborium.specs.Answers.{ReadsWhole};
+ghost use Rattle.ciborium.specs.Answers.{ReadsWhole, TakesBytesFrom};
 ghost use Rattle.ciborium.specs.ByteSources.{cause_of};
 ghost use Rattle.ciborium.specs.NextItems.{GoesOn, IsReadFrom, Otherwise, TellsEnd, behind_head};
 ghost use Rattle.ciborium.specs.TypedReads.{RefusesTaken, TakesGiven};
@@ -176,6 +176,10 @@ pub fn from_reader_at<T: Deserialize, R: Read>(
     ensures refused { RefusesTaken (Some limit) T.reading.taken (R.remaining reader.old)
         (read_as T.reading.content result) }
     ensures memory { IfErr result (λ e. IsGranted (cause_of e) T.reading.takes_memory) }
+    // Where reading is one call of `value`, whatever the bytes.
+    ensures value { IfSome T.reading.whole (λ tree. TakesBytesFrom offset
+        (R.remaining reader.old) limit (R.remaining reader.new)
+        (read_as (λ v. tree (T.reading.content v)) result)) }
 {
     let mut scratch = [0u8; SCRATCH_SIZE];
     let mut source = ByteSource {

@@ -1,8 +1,9 @@
 -- What the source took was taken from the reader that it was lent, whatever its offset.
-use Rattle.std.proofs.Common.{None, rules, arith, sym, ◌∙◌}
+use Rattle.std.proofs.Common.{None, rules, arith, refl, sym, ◌∙◌}
 use Rattle.std.specs.declared.io.Error.{Error}
 use Rattle.ciborium_ll.proofs.HeldBytes.{begun-left, nothing-counted}
-use Rattle.ciborium.proofs.HandedReaders.{handed-denied, handed-given}
+use Rattle.ciborium_value.specs.Sources.{read_as}
+use Rattle.ciborium.proofs.HandedReaders.{handed-denied, handed-from, handed-given, some-map}
 use Rattle.ciborium.proofs.de.from_reader_at.Goals as goal
 
 pub returns-clause-ok : goal.returns-clause-ok
@@ -14,3 +15,9 @@ pub returns-clause-refused : goal.returns-clause-refused
 returns-clause-refused g c b e =
     handed-denied Error g.R.Read.remaining g.T.Deserialize.reading (record { decoder = c.at.result; pending = None; levels = c.args.limit; scratch = c.read_from.new.source.scratch; failure = None; unpushed = c.at.ensures.begins.pushed }) c.read_from.new.source b
     (begun-left g.R.Read.remaining c.at.result c.args.reader.now c.args.offset c.at.ensures.begins ∙ e) (let none = nothing-counted c.at.result c.at.ensures.begins.nothing in omega (arith, none)) c.read_from.result c.read_from.ensures
+
+pub returns-clause-value : goal.returns-clause-value
+returns-clause-value g c =
+    some-map g.T.Deserialize.reading.whole c.read_from.ensures.whole
+    (λ tree reads. handed-from Error g.R.Read.remaining (record { decoder = c.at.result; pending = None; levels = c.args.limit; scratch = c.read_from.new.source.scratch; failure = None; unpushed = c.at.ensures.begins.pushed }) c.read_from.new.source c.args.reader.now _ c.args.offset
+    (read_as (λ v. tree (g.T.Deserialize.reading.content v)) c.read_from.result) c.at.ensures.begins refl (λ same. let name = sym c.at.ensures.same_reader ∙ same in search rules) reads)
