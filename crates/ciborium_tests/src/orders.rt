@@ -1,7 +1,7 @@
 //! Values in the canonical order, by sorts and by comparisons, and counts of visits.
 
 use crate::fronts::encode_to_hex;
-use crate::pieces::{decode_pieces, parse_number};
+use crate::pieces::{decode_pieces, split_number};
 use crate::writes::read_whole;
 use ciborium::value::canonical::cmp_value_counted;
 use ciborium::value::{CanonicalValue, Value};
@@ -65,13 +65,9 @@ pub fn answer_visits(alloc: Global, rest: &str) -> Result<Option<String>, AllocE
 
 // The least and the most visits, and what stands behind them.
 fn split_bounds(rest: &str) -> Option<(u64, u64, &str)> {
-    let (least, behind) = rest.split_once(' ')?;
-    let (most, digits) = behind.split_once(' ')?;
-    Some((
-        parse_number(least)? as u64,
-        parse_number(most)? as u64,
-        digits,
-    ))
+    let (least, behind) = split_number(rest)?;
+    let (most, digits) = split_number(behind)?;
+    Some((least as u64, most as u64, digits))
 }
 
 // The values of words of hex, or none where one of them is no value.
