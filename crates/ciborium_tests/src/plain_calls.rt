@@ -1,7 +1,7 @@
 //! Calls that take no memory, with everything prepared that they are lent.
 
-use crate::outcome::{Failure, expect, is_written_as, judge_head, prepare_value};
-use crate::plain_heads::make_head_calls;
+use crate::outcome::{Failure, expect, expect_all, is_written_as, judge_head, prepare_value};
+use crate::plain_heads::{make_head_calls, pull_as};
 use crate::plain_numbers::{compare_integers, convert_integers};
 use crate::plain_reads::read_plain_types;
 use crate::plain_values::{compare_values, look_into, make_values, take_apart};
@@ -57,19 +57,30 @@ fn prepare_byte(alloc: Global) -> Result<Vec<u8>, AllocError> {
 fn decode_heads() -> Result<(), Failure> {
     let mut reader: &[u8] = b"\x18\x20\x43\x01\x02\x03\x1e";
     let mut decoder = Decoder::new(&mut reader);
-    let header = decoder.pull().map_err(judge_head)?;
-    expect(header == Header::Positive(32) && decoder.offset() == 2)?;
-    decoder.push(header, 0);
-    expect(decoder.offset() == 0)?;
-    let again = decoder.pull().map_err(judge_head)?;
-    expect(again == header && decoder.offset() == 2)?;
-    let opening = decoder.pull().map_err(judge_head)?;
-    expect(opening == Header::Bytes(Some(3)))?;
+    pull_as(&mut decoder, Header::Positive(32))?;
+    let pulled = decoder.offset();
+    decoder.push(Header::Positive(32), 0);
+    let pushed = decoder.offset();
+    pull_as(&mut decoder, Header::Positive(32))?;
+    let again = decoder.offset();
+    pull_as(&mut decoder, Header::Bytes(Some(3)))?;
     let mut payload = [0u8; 3];
     decoder.read_exact(&mut payload).map_err(judge_head)?;
-    expect(payload == [1, 2, 3] && decoder.offset() == 6)?;
-    match decoder.pull() {
-        Err(ll::Error::Syntax(offset)) => expect(offset == 6),
+    let read = decoder.offset();
+    expect_all(&[
+        [pulled, pushed, again, read] == [2, 0, 2, 6],
+        payload == [1, 2, 3],
+    ])?;
+    expect_syntax(decoder.pull(), 6)
+}
+
+// Fails unless the head at this offset is refused.
+fn expect_syntax(
+    answer: Result<Header, ll::Error<io::Error>>,
+    offset: usize,
+) -> Result<(), Failure> {
+    match answer {
+        Err(ll::Error::Syntax(found)) => expect(found == offset),
         Err(error) => Err(judge_head(error)),
         Ok(_) => Err(Failure::Wrong),
     }
@@ -80,14 +91,24 @@ fn encode_heads() -> Result<(), Failure> {
     let mut buffer = [0u8; 5];
     let mut rest: &mut [u8] = &mut buffer;
     let mut encoder = Encoder::new(&mut rest);
-    expect(encoder.push(Header::Bytes(Some(2))).is_ok())?;
-    expect(encoder.write_all(&[1, 2]).is_ok())?;
-    expect(encoder.push(Header::Positive(32)).is_ok())?;
-    match encoder.push(Header::Break) {
-        Err(error) => expect(error.kind() == ErrorKind::WriteZero)?,
-        Ok(()) => return Err(Failure::Wrong),
+    let answers = [
+        kind_of(encoder.push(Header::Bytes(Some(2)))),
+        kind_of(encoder.write_all(&[1, 2])),
+        kind_of(encoder.push(Header::Positive(32))),
+        kind_of(encoder.push(Header::Break)),
+    ];
+    expect_all(&[
+        answers == [None, None, None, Some(ErrorKind::WriteZero)],
+        buffer == [0x42, 1, 2, 0x18, 0x20],
+    ])
+}
+
+// The kind of the error, if there is one.
+fn kind_of(answer: io::Result<()>) -> Option<ErrorKind> {
+    match answer {
+        Ok(()) => None,
+        Err(error) => Some(error.kind()),
     }
-    expect(buffer == [0x42, 1, 2, 0x18, 0x20])
 }
 
 // Each error is made from those below it.
