@@ -268,35 +268,28 @@ fn push_front(
 // The first head, if there is one, with its length.
 fn ask_first<R: Read>(alloc: Global, way: Way, reader: &mut R) -> Result<Pulled, AllocError> {
     let mut decoder = Decoder::new(reader);
-    let pulled = take_first(&mut decoder, way.ahead);
-    let (end, len) = (decoder.offset(), decoder.head_len());
-    match pulled {
-        Ok(None) => Ok(Ok(format!(in alloc; "none end {end}")?)),
-        Ok(Some(header)) => Ok(Ok(show_first(alloc, header, end, len)?)),
+    if let Some(n) = way.ahead
+        && let Err(error) = decoder.look_ahead(n)
+    {
+        return Ok(Err(describe_refusal(alloc, error)?));
+    }
+    match decoder.pull_first() {
+        Ok(None) => {
+            let end = decoder.offset();
+            Ok(Ok(format!(in alloc; "none end {end}")?))
+        }
+        Ok(Some(header)) => {
+            let front = Front {
+                header,
+                payload: Vec::new(alloc),
+                end: decoder.offset(),
+            };
+            let shown = show_front(alloc, &front)?;
+            let len = decoder.head_len();
+            Ok(Ok(format!(in alloc; "{shown} len {len}")?))
+        }
         Err(error) => Ok(Err(describe_refusal(alloc, error)?)),
     }
-}
-
-// Takes the first head, if there is one, behind so many bytes that are read ahead.
-fn take_first<R: Read>(
-    decoder: &mut Decoder<'_, R>,
-    ahead: Option<usize>,
-) -> Result<Option<Header>, Error<io::Error>> {
-    if let Some(n) = ahead {
-        decoder.look_ahead(n)?;
-    }
-    decoder.pull_first()
-}
-
-// The first head as a text, with the offset behind it and its length.
-fn show_first(alloc: Global, header: Header, end: usize, len: usize) -> Result<String, AllocError> {
-    let front = Front {
-        header,
-        payload: Vec::new(alloc),
-        end,
-    };
-    let shown = show_front(alloc, &front)?;
-    format!(in alloc; "{shown} len {len}")
 }
 
 // Takes a head, and a payload where it begins a string, behind so many bytes that are read ahead.

@@ -1,7 +1,7 @@
 //! Calls that take no memory, with everything prepared that they are lent.
 
 use crate::outcome::{Failure, expect, expect_all, is_written_as, judge_head, prepare_value};
-use crate::plain_heads::{make_head_calls, pull_as};
+use crate::plain_heads::make_head_calls;
 use crate::plain_numbers::{compare_integers, convert_integers};
 use crate::plain_reads::read_plain_types;
 use crate::plain_values::{compare_values, look_into, make_values, take_apart};
@@ -57,30 +57,19 @@ fn prepare_byte(alloc: Global) -> Result<Vec<u8>, AllocError> {
 fn decode_heads() -> Result<(), Failure> {
     let mut reader: &[u8] = b"\x18\x20\x43\x01\x02\x03\x1e";
     let mut decoder = Decoder::new(&mut reader);
-    pull_as(&mut decoder, Header::Positive(32))?;
-    let pulled = decoder.offset();
-    decoder.push(Header::Positive(32), 0);
-    let pushed = decoder.offset();
-    pull_as(&mut decoder, Header::Positive(32))?;
-    let again = decoder.offset();
-    pull_as(&mut decoder, Header::Bytes(Some(3)))?;
+    let header = decoder.pull().map_err(judge_head)?;
+    expect(header == Header::Positive(32) && decoder.offset() == 2)?;
+    decoder.push(header, 0);
+    expect(decoder.offset() == 0)?;
+    let again = decoder.pull().map_err(judge_head)?;
+    expect(again == header && decoder.offset() == 2)?;
+    let opening = decoder.pull().map_err(judge_head)?;
+    expect(opening == Header::Bytes(Some(3)))?;
     let mut payload = [0u8; 3];
     decoder.read_exact(&mut payload).map_err(judge_head)?;
-    let read = decoder.offset();
-    expect_all(&[
-        [pulled, pushed, again, read] == [2, 0, 2, 6],
-        payload == [1, 2, 3],
-    ])?;
-    expect_syntax(decoder.pull(), 6)
-}
-
-// Fails unless the head at this offset is refused.
-fn expect_syntax(
-    answer: Result<Header, ll::Error<io::Error>>,
-    offset: usize,
-) -> Result<(), Failure> {
-    match answer {
-        Err(ll::Error::Syntax(found)) => expect(found == offset),
+    expect(payload == [1, 2, 3] && decoder.offset() == 6)?;
+    match decoder.pull() {
+        Err(ll::Error::Syntax(offset)) => expect(offset == 6),
         Err(error) => Err(judge_head(error)),
         Ok(_) => Err(Failure::Wrong),
     }

@@ -47,12 +47,8 @@ fn measure_heads() -> Result<(), Failure> {
     ])
 }
 
-/// Pulls this header.
-///
-/// # Errors
-///
-/// Why the answer is another.
-pub fn pull_as<R: Read>(decoder: &mut Decoder<'_, R>, header: Header) -> Result<(), Failure> {
+// Pulls this header.
+fn pull_as<R: Read>(decoder: &mut Decoder<'_, R>, header: Header) -> Result<(), Failure> {
     match decoder.pull() {
         Ok(pulled) => expect(pulled == header),
         Err(error) => Err(judge_head(error)),
@@ -74,15 +70,18 @@ fn forget_heads() -> Result<(), Failure> {
     let mut decoder = Decoder::new(&mut reader);
     let header = decoder.pull().map_err(judge_head)?;
     decoder.push(header, 0);
-    let pushed = decoder.offset();
-    pull_as(&mut decoder, Header::Array(Some(3)))?;
+    expect(decoder.offset() == 0)?;
+    expect(decoder.pull().map_err(judge_head)? == Header::Array(Some(3)))?;
     decoder.push(Header::Break, 9);
     decoder.forget();
-    let forgotten = decoder.offset();
-    read_two(&mut decoder, [1, 2])?;
-    let read = decoder.offset();
-    let ended = is_io(decoder.read_exact(&mut [0; 3]), ErrorKind::UnexpectedEof);
-    expect_all(&[[pushed, forgotten, read] == [0, 1, 3], ended])
+    expect(decoder.offset() == 1)?;
+    let mut two = [0; 2];
+    decoder.read_exact(&mut two).map_err(judge_head)?;
+    expect(two == [1, 2] && decoder.offset() == 3)?;
+    match decoder.read_exact(&mut [0; 3]) {
+        Err(Error::Io(error)) => expect(error.kind() == ErrorKind::UnexpectedEof),
+        _ => Err(Failure::Wrong),
+    }
 }
 
 // Bytes are read exactly where some of them were read ahead.
