@@ -1,6 +1,6 @@
 //! Calls that take no memory, with everything prepared that they are lent.
 
-use crate::outcome::{Failure, expect, expect_all, is_written_as, judge_head, prepare_value};
+use crate::outcome::{Failure, expect, is_written_as, judge_head, prepare_value};
 use crate::plain_heads::make_head_calls;
 use crate::plain_numbers::{compare_integers, convert_integers};
 use crate::plain_reads::read_plain_types;
@@ -80,24 +80,14 @@ fn encode_heads() -> Result<(), Failure> {
     let mut buffer = [0u8; 5];
     let mut rest: &mut [u8] = &mut buffer;
     let mut encoder = Encoder::new(&mut rest);
-    let answers = [
-        kind_of(encoder.push(Header::Bytes(Some(2)))),
-        kind_of(encoder.write_all(&[1, 2])),
-        kind_of(encoder.push(Header::Positive(32))),
-        kind_of(encoder.push(Header::Break)),
-    ];
-    expect_all(&[
-        answers == [None, None, None, Some(ErrorKind::WriteZero)],
-        buffer == [0x42, 1, 2, 0x18, 0x20],
-    ])
-}
-
-// The kind of the error, if there is one.
-fn kind_of(answer: io::Result<()>) -> Option<ErrorKind> {
-    match answer {
-        Ok(()) => None,
-        Err(error) => Some(error.kind()),
+    expect(encoder.push(Header::Bytes(Some(2))).is_ok())?;
+    expect(encoder.write_all(&[1, 2]).is_ok())?;
+    expect(encoder.push(Header::Positive(32)).is_ok())?;
+    match encoder.push(Header::Break) {
+        Err(error) => expect(error.kind() == ErrorKind::WriteZero)?,
+        Ok(()) => return Err(Failure::Wrong),
     }
+    expect(buffer == [0x42, 1, 2, 0x18, 0x20])
 }
 
 // Each error is made from those below it.

@@ -2,9 +2,9 @@
 //! and errors that are kept aside.
 
 use crate::devices::{Failure as Fault, Source};
-use crate::outcome::{Failure, expect, expect_all, judge_head};
+use crate::outcome::{Failure, expect, judge_head};
 use ciborium::ll::{Decoder, Error, Header};
-use std::io::{self, ErrorKind, Read};
+use std::io::{self, ErrorKind};
 
 /// Makes each of these calls.
 ///
@@ -29,39 +29,16 @@ pub fn make_head_calls() -> Result<(), Failure> {
 fn measure_heads() -> Result<(), Failure> {
     let mut reader: &[u8] = &[0x19, 0x01, 0x00, 0xf6, 0x18];
     let mut decoder = Decoder::new(&mut reader);
-    let before = decoder.head_len();
+    expect(decoder.head_len() == 0)?;
     let header = decoder.pull().map_err(judge_head)?;
-    let pulled = decoder.head_len();
+    expect(decoder.head_len() == 3)?;
     decoder.push(header, 0);
-    let pushed = decoder.head_len();
-    pull_as(&mut decoder, header)?;
-    let again = decoder.head_len();
-    pull_as(&mut decoder, Header::Simple(22))?;
-    let next = (decoder.head_len(), decoder.last_offset());
-    let is_refused = decoder.pull().is_err();
-    expect_all(&[
-        [before, pulled, pushed, again] == [0, 3, 3, 3],
-        next == (1, 3),
-        is_refused,
-        decoder.head_len() == 1,
-    ])
-}
-
-// Pulls this header.
-fn pull_as<R: Read>(decoder: &mut Decoder<'_, R>, header: Header) -> Result<(), Failure> {
-    match decoder.pull() {
-        Ok(pulled) => expect(pulled == header),
-        Err(error) => Err(judge_head(error)),
-    }
-}
-
-// Reads these two bytes.
-fn read_two<R: Read>(decoder: &mut Decoder<'_, R>, bytes: [u8; 2]) -> Result<(), Failure> {
-    let mut two = [0; 2];
-    match decoder.read_exact(&mut two) {
-        Ok(()) => expect(two == bytes),
-        Err(error) => Err(judge_head(error)),
-    }
+    expect(decoder.head_len() == 3)?;
+    expect(decoder.pull().map_err(judge_head)? == header)?;
+    expect(decoder.head_len() == 3)?;
+    decoder.pull().map_err(judge_head)?;
+    expect(decoder.head_len() == 1 && decoder.last_offset() == 3)?;
+    expect(decoder.pull().is_err() && decoder.head_len() == 1)
 }
 
 // A head that was given back is forgotten, and the bytes behind it are read exactly.
@@ -90,9 +67,10 @@ fn read_behind_held() -> Result<(), Failure> {
         let mut reader: &[u8] = &[0x00, 0x05, 0x06, 0x07];
         let mut decoder = Decoder::new(&mut reader);
         decoder.look_ahead(ahead).map_err(judge_head)?;
-        pull_as(&mut decoder, Header::Positive(0))?;
-        read_two(&mut decoder, [5, 6])?;
-        expect(decoder.offset() == 3)?;
+        expect(decoder.pull().map_err(judge_head)? == Header::Positive(0))?;
+        let mut two = [0; 2];
+        decoder.read_exact(&mut two).map_err(judge_head)?;
+        expect(two == [5, 6] && decoder.offset() == 3)?;
     }
     Ok(())
 }
@@ -110,22 +88,10 @@ fn keep_an_error() -> Result<(), Failure> {
     let mut kept: Option<io::Error> = None;
     let mut decoder = Decoder::new(&mut reader);
     let first = decoder.pull_next_keeping(&mut kept);
-    let is_kept = kept.is_some();
+    expect(matches!(first, Ok(Header::Positive(0))) && kept.is_none())?;
     let second = decoder.pull_next_keeping(&mut kept);
-    expect_all(&[
-        matches!(first, Ok(Header::Positive(0))),
-        !is_kept,
-        matches!(second, Err(Error::Io(()))),
-        is_of_kind(kept, ErrorKind::UnexpectedEof),
-    ])
-}
-
-// Whether there is an error of this kind.
-fn is_of_kind(error: Option<io::Error>, kind: ErrorKind) -> bool {
-    match error {
-        Some(found) => found.kind() == kind,
-        None => false,
-    }
+    expect(matches!(second, Err(Error::Io(()))))?;
+    expect(kept.map(|e| e.kind()) == Some(ErrorKind::UnexpectedEof))
 }
 
 // While bytes are held nothing is read, and so the fault of the next read is not met.
@@ -134,23 +100,14 @@ fn use_up_first() -> Result<(), Failure> {
     let mut reader = Source::new(&[0x01, 0x02, 0x03], 2, Some((1, fault)));
     let mut decoder = Decoder::new(&mut reader);
     decoder.look_ahead(2).map_err(judge_head)?;
-    pull_behind(&mut decoder, 3, 1)?;
-    pull_behind(&mut decoder, 1, 2)?;
+    decoder.look_ahead(3).map_err(judge_head)?;
+    expect(decoder.pull().map_err(judge_head)? == Header::Positive(1))?;
+    decoder.look_ahead(1).map_err(judge_head)?;
+    expect(decoder.pull().map_err(judge_head)? == Header::Positive(2))?;
     expect(is_io(decoder.look_ahead(1), ErrorKind::ConnectionReset))?;
-    pull_behind(&mut decoder, 1, 3)?;
+    decoder.look_ahead(1).map_err(judge_head)?;
+    expect(decoder.pull().map_err(judge_head)? == Header::Positive(3))?;
     expect(decoder.offset() == 3)
-}
-
-// Pulls this number behind so many bytes that are read ahead.
-fn pull_behind<R: Read>(
-    decoder: &mut Decoder<'_, R>,
-    ahead: usize,
-    number: u64,
-) -> Result<(), Failure> {
-    match decoder.look_ahead(ahead) {
-        Ok(()) => pull_as(decoder, Header::Positive(number)),
-        Err(error) => Err(judge_head(error)),
-    }
 }
 
 // A fault takes nothing, and a head that was given back stays.
@@ -158,13 +115,13 @@ fn fail_ahead(kind: ErrorKind) -> Result<(), Failure> {
     let mut reader = Source::new(&[0x18, 0x20], 2, Some((0, Fault::Kind(kind))));
     let mut decoder = Decoder::at(&mut reader, 4);
     decoder.push(Header::Tag(5), 3);
-    let failed = is_io(decoder.look_ahead(2), kind);
+    expect(is_io(decoder.look_ahead(2), kind))?;
     decoder.look_ahead(1).map_err(judge_head)?;
-    let start = decoder.offset();
-    pull_as(&mut decoder, Header::Tag(5))?;
-    let tag = (decoder.last_offset(), decoder.offset());
-    pull_as(&mut decoder, Header::Positive(32))?;
-    expect_all(&[failed, start == 3, tag == (3, 4), decoder.offset() == 6])
+    expect(decoder.offset() == 3)?;
+    expect(decoder.pull().map_err(judge_head)? == Header::Tag(5))?;
+    expect(decoder.last_offset() == 3 && decoder.offset() == 4)?;
+    expect(decoder.pull().map_err(judge_head)? == Header::Positive(32))?;
+    expect(decoder.offset() == 6)
 }
 
 // An error ahead is put aside as well.
@@ -173,15 +130,10 @@ fn keep_an_error_ahead(kind: ErrorKind) -> Result<(), Failure> {
     let mut kept: Option<io::Error> = None;
     let mut decoder = Decoder::new(&mut reader);
     let first = decoder.look_ahead_keeping(1, &mut kept);
-    let is_kept = is_of_kind(kept.take(), kind);
-    let second = decoder.look_ahead_keeping(1, &mut kept);
-    expect_all(&[
-        matches!(first, Err(Error::Io(()))),
-        is_kept,
-        second.is_ok(),
-        kept.is_none(),
-    ])?;
-    pull_as(&mut decoder, Header::Positive(7))
+    expect(matches!(first, Err(Error::Io(()))))?;
+    expect(kept.take().map(|e| e.kind()) == Some(kind))?;
+    expect(decoder.look_ahead_keeping(1, &mut kept).is_ok() && kept.is_none())?;
+    expect(decoder.pull().map_err(judge_head)? == Header::Positive(7))
 }
 
 // Whether a call failed by an error of this kind.
