@@ -1,59 +1,51 @@
 //! Each call that makes a value, and may answer `Memory`, answers the value where no growth is
 //! refused. Those that read bytes, or write, are lines of the program `ciborium_tests`.
+use crate::expectations::expect_written;
 use ciborium::cbor;
 use ciborium::value::{CanonicalValue, Error, Value};
-use std::alloc::Global;
+use std::alloc::{AllocError, Global};
 use std::test::Fail;
-
-// [1, "a"]
-fn make_pair(alloc: Global) -> Result<Value, Fail> {
-    let text = Value::from_text(alloc, "a")?;
-    Ok(Value::from_values(alloc, &[Value::from(1u8), text])?)
-}
-
-fn expect_pair(alloc: Global, value: &Value) -> Result<(), Fail> {
-    if *value == make_pair(alloc)? {
-        return Ok(());
-    }
-    Err(Fail::from("another value"))
-}
-
-// Fails unless values are made of texts, bytes and numbers.
-fn makes_values(alloc: Global) -> Result<(), Fail> {
-    if Value::from_text(alloc, "a")?.as_text() != Some("a") {
-        return Err(Fail::from("another text"));
-    }
-    if Value::from_bytes(alloc, &[1, 2])?.as_bytes().map(Vec::len) != Some(2) {
-        return Err(Fail::from("other bytes"));
-    }
-    if Value::from_char(alloc, 'a')?.as_text() != Some("a") {
-        return Err(Fail::from("another character"));
-    }
-    if !Value::from_u128(alloc, u128::MAX)?.is_tag() {
-        return Err(Fail::from("no bignum"));
-    }
-    if !Value::from_i128(alloc, i128::MIN)?.is_tag() {
-        return Err(Fail::from("no negative bignum"));
-    }
-    Ok(())
-}
-
-// Fails unless the pair is made of a tuple, of a literal and by a copy.
-fn makes_the_pair(alloc: Global) -> Result<(), Fail> {
-    expect_pair(alloc, &Value::serialized(alloc, &(1u8, "a"))?)?;
-    let literal: Result<Value, Error> = cbor!(alloc, [1, "a"]);
-    expect_pair(alloc, &literal?)?;
-    let pair = make_pair(alloc)?;
-    expect_pair(alloc, &pair.clone()?)?;
-    let canonical = CanonicalValue::from(pair);
-    if canonical.clone()? != canonical {
-        return Err(Fail::from("another copy"));
-    }
-    Ok(())
-}
 
 #[test]
 fn answers_with_ample_memory(rt: HostRuntime) -> Result<(), Fail> {
-    makes_values(rt.alloc())?;
-    makes_the_pair(rt.alloc())
+    let alloc = rt.alloc();
+    makes_strings(alloc)?;
+    makes_bignums(alloc)?;
+    makes_pairs(alloc)?;
+    copies_a_pair(alloc)
+}
+
+// Fails unless values are made of texts, bytes and characters.
+fn makes_strings(alloc: Global) -> Result<(), Fail> {
+    expect_written(alloc, Value::from_text(alloc, "a"), "6161")?;
+    expect_written(alloc, Value::from_bytes(alloc, &[1, 2]), "420102")?;
+    expect_written(alloc, Value::from_char(alloc, 'a'), "6161")
+}
+
+// Fails unless values are made of great numbers.
+fn makes_bignums(alloc: Global) -> Result<(), Fail> {
+    let great = Value::from_u128(alloc, u128::MAX);
+    expect_written(alloc, great, "c250ffffffffffffffffffffffffffffffff")?;
+    let low = Value::from_i128(alloc, i128::MIN);
+    expect_written(alloc, low, "c3507fffffffffffffffffffffffffffffff")
+}
+
+// [1, "a"]
+const PAIR: &str = "82016161";
+
+// Fails unless the pair is made of a tuple and of a literal.
+fn makes_pairs(alloc: Global) -> Result<(), Fail> {
+    expect_written(alloc, Value::serialized(alloc, &(1u8, "a")), PAIR)?;
+    let literal: Result<Value, Error> = cbor!(alloc, [1, "a"]);
+    expect_written(alloc, literal, PAIR)
+}
+
+// Fails unless the pair is copied, also as a canonical value.
+fn copies_a_pair(alloc: Global) -> Result<(), Fail> {
+    let pair = Value::serialized(alloc, &(1u8, "a"))?;
+    let copy: Result<Value, AllocError> = pair.clone();
+    let canonical = CanonicalValue::from(pair);
+    let canonical_copy: Result<CanonicalValue, AllocError> = canonical.clone();
+    expect_written(alloc, copy, PAIR)?;
+    expect_written(alloc, canonical_copy, PAIR)
 }

@@ -2,6 +2,7 @@
 use crate::callers::{
     bytes_of, bytes_of_message, only_item, read_value, save, version, write_value,
 };
+use crate::expectations::{expect, expect_all, expect_bytes, expect_same, is_refused, is_there};
 use crate::own_callers::{
     bytes_of_circle, bytes_of_moment, read_figure, read_message, read_moment,
 };
@@ -10,30 +11,34 @@ use crate::sequence_callers::{read_both, write_both};
 use crate::tag_types::bytes_under_a_tag;
 use crate::test_bytes::decode_hex;
 use ciborium::laws::sources_agree;
+use ciborium::ser::Serialize;
 use ciborium::tag::Required;
 use ciborium::value::{CanonicalValue, Value};
+use std::alloc::Global;
 use std::collections::BTreeMap;
 use std::test::Fail;
 
-// Bytes, and whether they are one item and nothing else.
-const ITEMS: [(&str, bool); 4] = [
-    ("820161ff", false),
-    ("83010203", true),
-    ("8301020304", false),
-    ("", false),
-];
+// The bytes of one item, and bytes that are none.
+const ITEM: &str = "83010203";
+
+const NO_ITEMS: [&str; 3] = ["820161ff", "8301020304", ""];
 
 #[test]
 fn only_items(rt: HostRuntime) -> Result<(), Fail> {
-    for (text, is_item) in ITEMS {
+    for text in NO_ITEMS {
         let bytes = decode_hex(rt.alloc(), text)?;
-        let item = only_item(rt.alloc(), &bytes);
-        assert_eq!(rt; item.is_some(), is_item, "{text}");
-        if let Some(value) = item {
-            assert_eq!(rt; bytes_of(rt.alloc(), &value), Some(bytes), "{text}");
-        }
+        expect(!is_there(only_item(rt.alloc(), &bytes)), text)?;
     }
-    Ok(())
+    let bytes = decode_hex(rt.alloc(), ITEM)?;
+    expect_bytes(rt.alloc(), rewrite_item(rt.alloc(), &bytes), ITEM)
+}
+
+// The bytes of the item that the bytes are.
+fn rewrite_item(alloc: Global, bytes: &[u8]) -> Option<Vec<u8>> {
+    match only_item(alloc, bytes) {
+        Some(value) => bytes_of(alloc, &value),
+        None => None,
+    }
 }
 
 // Messages, and the versions that they name: {"a": 1, "version": 2}, {"version": 256},
@@ -51,56 +56,67 @@ const MESSAGES: [(&str, Option<u8>); 6] = [
 fn versions(rt: HostRuntime) -> Result<(), Fail> {
     for (text, expected) in MESSAGES {
         let bytes = decode_hex(rt.alloc(), text)?;
-        let message = only_item(rt.alloc(), &bytes).ok_or("no item")?;
-        assert_eq!(rt; version(&message), expected, "{text}");
+        expect(version_of(rt.alloc(), &bytes)? == expected, text)?;
     }
     Ok(())
+}
+
+// The version that the message of these bytes names.
+fn version_of(alloc: Global, bytes: &[u8]) -> Result<Option<u8>, Fail> {
+    match only_item(alloc, bytes) {
+        Some(message) => Ok(version(&message)),
+        None => Err(Fail::new("no item")),
+    }
 }
 
 #[test]
 fn messages_are_read_by_names(rt: HostRuntime) -> Result<(), Fail> {
     let alloc = rt.alloc();
     let no_body = decode_hex(alloc, "a2416318ff6776657273696f6e07")?;
-    assert!(rt; read_message(alloc, &mut no_body.as_slice()).is_err());
+    let is_read = is_refused(read_message(alloc, &mut no_body.as_slice()));
+    expect(is_read, "no body")?;
     let bytes = decode_hex(alloc, "a36163f56776657273696f6e0764626f6479626869")?;
     let mut rest = bytes.as_slice();
     let message = read_message(alloc, &mut rest)?;
-    assert_eq!(rt; message.version, 7);
-    assert_eq!(rt; message.body.as_str(), "hi");
-    assert!(rt; rest.is_empty());
     sources_agree::<Message>();
-    Ok(())
+    expect_all(&[
+        message.version == 7,
+        message.body.as_str() == "hi",
+        rest.is_empty(),
+    ])
 }
 
 #[test]
 fn bytes_of_messages_and_numbers_under_a_tag(rt: HostRuntime) -> Result<(), Fail> {
     let alloc = rt.alloc();
+    expect_bytes(alloc, bytes_under_a_tag(alloc, 2), "d8ff02")?;
     let body = String::from_str(alloc, "a")?;
     let message = Message { version: 2, body };
-    let bytes = decode_hex(alloc, "a26776657273696f6e0264626f64796161")?;
-    assert_eq!(rt; bytes_of_message(alloc, &message), Some(bytes));
-    let tagged = decode_hex(alloc, "d8ff02")?;
-    assert_eq!(rt; bytes_under_a_tag(alloc, 2), Some(tagged));
-    Ok(())
+    let bytes = bytes_of_message(alloc, &message);
+    expect_bytes(alloc, bytes, "a26776657273696f6e0264626f64796161")
 }
 
 #[test]
-fn figures_and_moments_are_read_back(rt: HostRuntime) -> Result<(), Fail> {
+fn figures_are_read_back(rt: HostRuntime) -> Result<(), Fail> {
     let alloc = rt.alloc();
     let circle = bytes_of_circle(alloc, 7).ok_or("no bytes")?;
-    assert_eq!(rt; circle, decode_hex(alloc, "a166436972636c6507")?);
     let figure = read_figure(alloc, &mut circle.as_slice())?;
-    assert_eq!(rt; figure, Figure::Circle(7));
+    expect_same(figure, Figure::Circle(7), "another figure")?;
+    sources_agree::<Figure>();
+    sources_agree::<Required<Figure, 6>>();
+    expect_bytes(alloc, Some(circle), "a166436972636c6507")
+}
+
+#[test]
+fn moments_are_read_back(rt: HostRuntime) -> Result<(), Fail> {
+    let alloc = rt.alloc();
     let moment = Moment {
         seconds: 1363896240,
     };
     let bytes = bytes_of_moment(alloc, &moment).ok_or("no bytes")?;
-    assert_eq!(rt; bytes, decode_hex(alloc, "c11a514b67b0")?);
     let read = read_moment(alloc, &mut bytes.as_slice())?;
-    assert_eq!(rt; read.seconds, 1363896240);
-    sources_agree::<Figure>();
-    sources_agree::<Required<Figure, 6>>();
-    Ok(())
+    expect(read.seconds == 1363896240, "another moment")?;
+    expect_bytes(alloc, Some(bytes), "c11a514b67b0")
 }
 
 // Bytes, and whether they are a sequence of two items that are values.
@@ -114,34 +130,50 @@ const PAIRS: [(&str, bool); 5] = [
 
 #[test]
 fn sequences_of_two(rt: HostRuntime) -> Result<(), Fail> {
-    let alloc = rt.alloc();
     for (text, is_pair) in PAIRS {
-        let bytes = decode_hex(alloc, text)?;
-        let mut rest = bytes.as_slice();
-        assert_eq!(rt; read_both(alloc, &mut rest).is_some(), is_pair, "{text}");
+        let bytes = decode_hex(rt.alloc(), text)?;
+        let pair = read_both(rt.alloc(), &mut bytes.as_slice());
+        expect(is_there(pair) == is_pair, text)?;
     }
-    let mut bytes = Vec::new(alloc);
-    assert!(rt; write_both(&7u8, &Value::Bool(true), &mut bytes).is_ok());
-    assert_eq!(rt; bytes, decode_hex(alloc, "07f5")?);
-    let mut rest = bytes.as_slice();
-    let (first, second) = read_both(alloc, &mut rest).ok_or("no pair")?;
-    let mut again = Vec::new(alloc);
-    assert!(rt; write_both(&first, &second, &mut again).is_ok());
-    assert_eq!(rt; again, bytes);
     Ok(())
+}
+
+#[test]
+fn a_sequence_is_read_back(rt: HostRuntime) -> Result<(), Fail> {
+    let alloc = rt.alloc();
+    let bytes = write_pair(alloc, 7u8, Value::Bool(true)).ok_or("no bytes")?;
+    expect_bytes(alloc, rewrite_pair(alloc, &bytes), "07f5")?;
+    expect_bytes(alloc, Some(bytes), "07f5")
+}
+
+// The bytes of two values in a row.
+fn write_pair<T: Serialize + Drop, U: Serialize + Drop>(
+    alloc: Global,
+    first: T,
+    second: U,
+) -> Option<Vec<u8>> {
+    let mut bytes = Vec::new(alloc);
+    write_both(&first, &second, &mut bytes).ok()?;
+    Some(bytes)
+}
+
+// The bytes of the two values that the bytes are.
+fn rewrite_pair(alloc: Global, bytes: &[u8]) -> Option<Vec<u8>> {
+    let mut rest = bytes;
+    let (first, second) = read_both(alloc, &mut rest)?;
+    write_pair(alloc, first, second)
 }
 
 // The library reads as `only_item` does with every clause of reading a `Value`.
 #[test]
 fn a_value_is_read_with_every_clause(rt: HostRuntime) -> Result<(), Fail> {
+    let items = vec![in rt.alloc(); Value::from(1u8)]?;
     let mut reader: &[u8] = &[0x9f, 0x01, 0xff, 0x02];
     let value = read_value(rt.alloc(), &mut reader, 1)?;
-    let expected = Value::from(vec![in rt.alloc(); Value::from(1u8)]?);
-    assert_eq!(rt; value, expected);
-    assert_eq!(rt; reader, &[2u8][..]);
+    expect_same(value, Value::from(items), "another value")?;
     sources_agree::<Value>();
     sources_agree::<Span>();
-    Ok(())
+    expect(reader == &[2u8][..], "another rest")
 }
 
 // Keys in canonical order (RFC 8949, section 4.2.3): 10, -1, false, 100, "z", [-1], "aa", [100].
@@ -160,22 +192,37 @@ const KEYS: [(&str, u8); 8] = [
 fn a_store_has_rising_keys(rt: HostRuntime) -> Result<(), Fail> {
     let mut store = BTreeMap::new(rt.alloc());
     for (text, number) in KEYS {
-        let key = only_item(rt.alloc(), &decode_hex(rt.alloc(), text)?).ok_or("no item")?;
-        store.insert(CanonicalValue::from(key), Value::from(number))?;
+        let bytes = decode_hex(rt.alloc(), text)?;
+        insert(rt.alloc(), &mut store, &bytes, number)?;
     }
     let mut bytes = Vec::new(rt.alloc());
     save(&store, &mut bytes)?;
     let expected = "a80a002001f402186403617a048120056261610681186407";
-    assert_eq!(rt; bytes, decode_hex(rt.alloc(), expected)?);
-    Ok(())
+    expect_bytes(rt.alloc(), Some(bytes), expected)
+}
+
+// Puts a number behind the key of these bytes.
+fn insert(
+    alloc: Global,
+    store: &mut BTreeMap<CanonicalValue, Value>,
+    bytes: &[u8],
+    number: u8,
+) -> Result<(), Fail> {
+    let key = only_item(alloc, bytes).ok_or("no item")?;
+    let before = store.insert(CanonicalValue::from(key), Value::from(number))?;
+    expect(!is_there(before), "a key twice")
 }
 
 // What is written stands behind what the writer holds.
 #[test]
 fn a_writer_keeps_what_it_holds(rt: HostRuntime) -> Result<(), Fail> {
     let mut out = decode_hex(rt.alloc(), "01")?;
-    write_value(&Value::Null, &mut out)?;
-    write_value(&Value::Bool(true), &mut out)?;
-    assert_eq!(rt; out, decode_hex(rt.alloc(), "01f6f5")?);
-    Ok(())
+    put(Value::Null, &mut out)?;
+    put(Value::Bool(true), &mut out)?;
+    expect_bytes(rt.alloc(), Some(out), "01f6f5")
+}
+
+// Writes a value behind these bytes.
+fn put(value: Value, bytes: &mut Vec<u8>) -> Result<(), Fail> {
+    Ok(write_value(&value, bytes)?)
 }

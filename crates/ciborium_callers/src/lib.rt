@@ -6,6 +6,8 @@ mod ample_memory;
 #[cfg(test)]
 mod caller_tests;
 pub mod callers;
+#[cfg(test)]
+mod expectations;
 pub mod head_callers;
 #[cfg(test)]
 mod head_tests;

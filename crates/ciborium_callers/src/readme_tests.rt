@@ -1,4 +1,5 @@
 //! The calls that README shows, as they stand there, and what they answer.
+use crate::expectations::{expect, expect_bytes, expect_same};
 use crate::readme::{read_file, sum_file};
 use ciborium::ll::{Decoder, Encoder, Header};
 use ciborium::tag::Required;
@@ -19,15 +20,24 @@ fn reading(rt: HostRuntime) -> Result<(), Fail> {
     let value: Value = from_reader(alloc, &mut reader)?; // Array([1, "a"]); 00 is left
     let pair: (u8, String) = value.deserialized(alloc)?; // (1, "a"), as from bytes
     let last: u8 = from_reader_with_recursion_limit(alloc, &mut reader, 9)?; // within 9 levels
+
+    expect(pair.0 == 1 && pair.1.as_str() == "a" && last == 0, "parts")?;
+    let again = Value::serialized(alloc, &(1u8, "a"))?; // Array([1, "a"])
+    expect_same(value, again, "an array")
+}
+
+#[test]
+fn reading_one_encoding(rt: HostRuntime) -> Result<(), Fail> {
+    let alloc = rt.alloc();
     let mut stored: &[u8] = &[0xa1, 0x01, 0x02];
     let map = from_reader_deterministic(alloc, &mut stored, 256)?; // from its one encoding alone
+    expect(map.is_map(), "a map")
+}
+
+#[test]
+fn reading_a_head(rt: HostRuntime) -> Result<(), Fail> {
     let mut bytes: &[u8] = &[0x18, 0x20];
     let header = Decoder::new(&mut bytes).pull()?; // Header::Positive(32)
-
-    let again = Value::serialized(alloc, &(1u8, "a"))?; // Array([1, "a"])
-    assert_eq!(rt; value, again);
-    assert_eq!(rt; (pair.0, pair.1.as_str(), last), (1, "a", 0));
-    assert!(rt; map.is_map());
     assert_eq!(rt; header, Header::Positive(32));
     Ok(())
 }
@@ -40,27 +50,34 @@ fn writing(rt: HostRuntime) -> Result<(), Fail> {
     into_writer(&(1u8, "a", Some(true)), &mut writer)?; // 83 01 61 61 f5
     into_writer(&Required::<u64, 1>(7), &mut writer)?; // c1 07: read back only under tag 1
     Encoder::new(&mut writer).push(Header::Bytes(Some(0)))?; // 40
-    let value = cbor!(alloc, {"Fun" => true, "Amt" => [-2, null]})?; // a Map
 
-    assert_eq!(rt;
-        writer.as_slice(),
-        &[0x38, 0xc7, 0x83, 0x01, 0x61, 0x61, 0xf5, 0xc1, 0x07, 0x40][..]
-    );
-    assert!(rt; value.is_map());
-    Ok(())
+    expect_bytes(alloc, Some(writer), "38c783016161f5c10740")
+}
+
+#[test]
+fn writing_a_tree(rt: HostRuntime) -> Result<(), Fail> {
+    let alloc = rt.alloc();
+    let value = cbor!(alloc, {"Fun" => true, "Amt" => [-2, null]})?; // a Map
+    expect(value.is_map(), "a map")
 }
 
 #[test]
 fn comparing(rt: HostRuntime) -> Result<(), Fail> {
     let large = Value::from_u128(rt.alloc(), 1 << 64)?; // tag 2 over 01 00 00 00 00 00 00 00 00
-    let small = u8::try_from(Integer::from(256u16)); // Err(OutOfRange)
-    let order = cmp_value(&Value::from(10u8), &Value::from(-1i8)); // Less: 0a comes before 20
     let is_less = CanonicalValue::from(Value::Null) < CanonicalValue::from(large); // as map keys
+    expect(is_less, "keys")
+}
 
+#[test]
+fn comparing_values(_: HostRuntime) -> Result<(), Fail> {
+    let order = cmp_value(&Value::from(10u8), &Value::from(-1i8)); // Less: 0a comes before 20
+    expect(order == Ordering::Less, "values")
+}
+
+#[test]
+fn converting(rt: HostRuntime) {
+    let small = u8::try_from(Integer::from(256u16)); // Err(OutOfRange)
     assert_eq!(rt; small, Err(OutOfRange));
-    assert_eq!(rt; order, Ordering::Less);
-    assert!(rt; is_less);
-    Ok(())
 }
 
 #[test]

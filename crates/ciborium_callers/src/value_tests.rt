@@ -1,5 +1,6 @@
 //! Copies and comparisons of values, and the error of a writer.
 use crate::callers::only_item;
+use crate::expectations::expect_all;
 use crate::test_bytes::decode_hex;
 use ciborium::from_reader;
 use ciborium::ser::Error;
@@ -13,14 +14,23 @@ use std::test::Fail;
 #[test]
 fn a_copy_is_equal(rt: HostRuntime) -> Result<(), Fail> {
     let bytes = decode_hex(rt.alloc(), "8101")?;
-    let array = only_item(rt.alloc(), &bytes).ok_or("no item")?;
-    let canonical = CanonicalValue::from(array.clone()?);
+    match only_item(rt.alloc(), &bytes) {
+        Some(array) => copies(&array),
+        None => Err(Fail::new("no item")),
+    }
+}
+
+// Fails unless a copy of a canonical value is the value.
+fn copies(value: &Value) -> Result<(), Fail> {
+    let canonical = CanonicalValue::from(value.clone()?);
     let copy = canonical.clone()?;
-    assert!(rt; copy == canonical);
+    let is_equal = copy == canonical;
     let back = Value::from(copy);
-    assert!(rt; back == array);
-    assert_eq!(rt; cmp_value(&back, &array), Ordering::Equal);
-    Ok(())
+    expect_all(&[
+        is_equal,
+        back == *value,
+        cmp_value(&back, value) == Ordering::Equal,
+    ])
 }
 
 // No tag is skipped before the null of an option, which both are written as.

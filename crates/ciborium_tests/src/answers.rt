@@ -53,23 +53,43 @@ fn complete_line(alloc: Global, line: &mut Vec<u8>) -> Result<(), AllocError> {
 
 // The answer to a line.
 fn answer_line(alloc: Global, line: &[u8]) -> Result<String, AllocError> {
-    if let Ok(text) = str::from_utf8(line)
-        && let Some((word, rest)) = text.split_once(' ')
-        && let Some(answer) = answer_words(alloc, word, rest)?
-    {
-        return Ok(answer);
+    let answer = match split_word(line) {
+        Some((word, rest)) => answer_words(alloc, word, rest)?,
+        None => None,
+    };
+    match answer {
+        Some(text) => Ok(text),
+        None => String::from_str(alloc, "unknown line"),
     }
-    String::from_str(alloc, "unknown line")
+}
+
+// The first word of a line, and what stands behind the blank.
+fn split_word(line: &[u8]) -> Option<(&str, &str)> {
+    str::from_utf8(line).ok()?.split_once(' ')
 }
 
 // The answer to a line by its first word, or none where the line is of no known form.
 fn answer_words(alloc: Global, word: &str, rest: &str) -> Result<Option<String>, AllocError> {
-    if let Some(answer) = answer_head_line(alloc, word, rest)? {
-        return Ok(Some(answer));
+    match answer_head_line(alloc, word, rest)? {
+        Some(answer) => Ok(Some(answer)),
+        None => answer_value_line(alloc, word, rest),
     }
+}
+
+// The same of a line on values that are written or ordered, or any other one.
+fn answer_value_line(alloc: Global, word: &str, rest: &str) -> Result<Option<String>, AllocError> {
     match word {
         "write" => write_value(alloc, rest, Writing::Whole),
         "write-faults" => write_value(alloc, rest, Writing::Failing),
+        "sort" => answer_sort(alloc, rest),
+        "visits" => answer_visits(alloc, rest),
+        _ => answer_reading(alloc, word, rest),
+    }
+}
+
+// The same of a line on bytes that are read.
+fn answer_reading(alloc: Global, word: &str, rest: &str) -> Result<Option<String>, AllocError> {
+    match word {
         "at" => read_at_offset(alloc, rest),
         "faults" => fail_reading(alloc, rest),
         "det" => read_strictly(alloc, rest),
@@ -77,8 +97,6 @@ fn answer_words(alloc: Global, word: &str, rest: &str) -> Result<Option<String>,
         "next" => read_sequence(alloc, rest, Asked::Items),
         "next-on" => read_sequence(alloc, rest, Asked::AllItems),
         "next-faults" => read_sequence(alloc, rest, Asked::Faults),
-        "sort" => answer_sort(alloc, rest),
-        "visits" => answer_visits(alloc, rest),
         _ => read_type(alloc, word, rest),
     }
 }

@@ -1,5 +1,6 @@
 //! What a call that reads answers where each read of its reader fails in turn.
 
+use crate::alike::Alike;
 use crate::devices::{Failure, Source};
 use crate::fronts::{Call, ask_call, describe_front};
 use crate::refusals::name_io;
@@ -45,13 +46,11 @@ pub fn fail_reads<T: Deserialize + Serialize>(
     bytes: &[u8],
 ) -> Result<String, AllocError> {
     let text = fail_each_read::<T>(alloc, call, bytes, Failure::End)?;
+    let mut alike = Alike::new(text);
     for failure in FAILURES {
-        let other = fail_each_read::<T>(alloc, call, bytes, failure)?;
-        if other != text {
-            return format!(in alloc; "differs: {text} / {other}");
-        }
+        alike.compare(alloc, fail_each_read::<T>(alloc, call, bytes, failure))?;
     }
-    Ok(text)
+    Ok(alike.into_text())
 }
 
 // The same for one way to fail. A call reads no more often than there are bytes, and then once.
@@ -61,28 +60,45 @@ fn fail_each_read<T: Deserialize + Serialize>(
     bytes: &[u8],
     failure: Failure,
 ) -> Result<String, AllocError> {
-    let refused = name_io(failure.kind(ErrorKind::UnexpectedEof));
     for at in 0..bytes.len().saturating_add(2) {
-        let (text, failed) = fail_read::<T>(alloc, call, bytes, (at, failure))?;
-        if !failed {
-            return format!(in alloc; "io at {at} reads, then {text}");
-        }
-        if text.as_str() != refused {
-            return format!(in alloc; "read {at}: {text}");
+        if let Some(end) = fail_read::<T>(alloc, call, bytes, (at, failure))? {
+            return Ok(end);
         }
     }
     String::from_str(alloc, "reads without end")
 }
 
-// What the call answers where one read fails, and whether it came to that read.
+// What is said of the call where one read fails, unless just that failure is the answer.
 fn fail_read<T: Deserialize + Serialize>(
     alloc: Global,
     call: Call,
     bytes: &[u8],
     fault: (usize, Failure),
-) -> Result<(String, bool), AllocError> {
+) -> Result<Option<String>, AllocError> {
     let mut source = Source::new(bytes, 1, Some(fault));
     let front = ask_call::<T, Source>(alloc, call, &mut source)?;
     let text = describe_front(alloc, front, source.left())?;
-    Ok((text, source.failed))
+    judge_fault(alloc, text.as_str(), source.failed, fault)
+}
+
+/// None where a call that came to the read that fails answers just that failure; else what is said
+/// of it, by the answer.
+///
+/// # Errors
+///
+/// `AllocError` where memory is refused for the text.
+pub fn judge_fault(
+    alloc: Global,
+    answer: &str,
+    failed: bool,
+    (at, failure): (usize, Failure),
+) -> Result<Option<String>, AllocError> {
+    let text = if !failed {
+        format!(in alloc; "io at {at} reads, then {answer}")?
+    } else if answer != name_io(failure.kind(ErrorKind::UnexpectedEof)) {
+        format!(in alloc; "read {at}: {answer}")?
+    } else {
+        return Ok(None);
+    };
+    Ok(Some(text))
 }

@@ -1,11 +1,13 @@
 //! What the bytes of a line give at their front, read in several ways.
 
+use crate::alike::Alike;
 use crate::devices::Source;
 use crate::refusals::{describe_read, describe_tree};
 use crate::types::Job;
+use crate::writes::read_whole;
 use ciborium::de::{self, Deserialize};
 use ciborium::ser::Serialize;
-use ciborium::value::Value;
+use ciborium::value::{self, Value};
 use ciborium::{
     from_reader, from_reader_deterministic, from_reader_with_buffer,
     from_reader_with_recursion_limit, into_writer,
@@ -61,40 +63,32 @@ pub fn read_alike<T: Deserialize + Serialize>(
     bytes: &[u8],
 ) -> Result<String, AllocError> {
     let text = read_slice::<T>(alloc, call, bytes)?;
+    let mut alike = Alike::new(text);
     for most in [1, 3] {
-        let other = read_slowly::<T>(alloc, call, bytes, most)?;
-        if other != text {
-            return format!(in alloc; "differs: {text} / {other}");
-        }
+        alike.compare(alloc, read_slowly::<T>(alloc, call, bytes, most))?;
     }
-    match call {
-        Call::Limited(USUAL_LIMIT) => read_with_others::<T>(alloc, bytes, text),
-        _ => Ok(text),
+    if matches!(call, Call::Limited(USUAL_LIMIT)) {
+        compare_others::<T>(alloc, bytes, &mut alike)?;
     }
+    Ok(alike.into_text())
 }
 
-// The same text where all calls with the usual limit give it.
-fn read_with_others<T: Deserialize + Serialize>(
+// Compares what the other calls with the usual limit give.
+fn compare_others<T: Deserialize + Serialize>(
     alloc: Global,
     bytes: &[u8],
-    text: String,
-) -> Result<String, AllocError> {
+    alike: &mut Alike,
+) -> Result<(), AllocError> {
     for call in [
         Call::Plain,
         Call::Buffered(0),
         Call::Buffered(1),
         Call::Buffered(4096),
     ] {
-        let other = read_slice::<T>(alloc, call, bytes)?;
-        if other != text {
-            return format!(in alloc; "differs: {text} / {other}");
-        }
-        let slow = read_slowly::<T>(alloc, call, bytes, 1)?;
-        if slow != text {
-            return format!(in alloc; "differs: {text} / {slow}");
-        }
+        alike.compare(alloc, read_slice::<T>(alloc, call, bytes))?;
+        alike.compare(alloc, read_slowly::<T>(alloc, call, bytes, 1))?;
     }
-    Ok(text)
+    Ok(())
 }
 
 // What a call gives of the front of a slice, and how many bytes it leaves.
@@ -138,13 +132,20 @@ pub fn ask_call<T: Deserialize + Serialize, R: Read>(
                 from_reader_with_recursion_limit(alloc, reader, limit),
             )
         }
-        Call::Buffered(size) => {
-            let mut scratch = Vec::new(alloc);
-            scratch.resize(size, 0)?;
-            show_front::<T>(alloc, from_reader_with_buffer(alloc, reader, &mut scratch))
-        }
+        Call::Buffered(size) => ask_buffered::<T, R>(alloc, size, reader),
         Call::Strict(limit) => show_front(alloc, from_reader_deterministic(alloc, reader, limit)),
     }
+}
+
+// What the call with a scratch of so many bytes gives.
+fn ask_buffered<T: Deserialize + Serialize, R: Read>(
+    alloc: Global,
+    size: usize,
+    reader: &mut R,
+) -> Result<Front, AllocError> {
+    let mut scratch = Vec::new(alloc);
+    scratch.resize(size, 0)?;
+    show_front::<T>(alloc, from_reader_with_buffer(alloc, reader, &mut scratch))
 }
 
 /// What was read, in hex, or why it was refused.
@@ -179,12 +180,18 @@ fn read_tree<T: Deserialize + Serialize>(
     alloc: Global,
     bytes: &[u8],
 ) -> Result<String, AllocError> {
-    let mut rest = bytes;
-    let Ok(tree) = from_reader_with_recursion_limit::<Value, &[u8]>(alloc, &mut rest, usize::MAX)
-    else {
-        return String::from_str(alloc, "none");
-    };
-    match tree.deserialized::<T>(alloc) {
+    match read_whole::<Value>(alloc, bytes) {
+        Some(tree) => show_tree(alloc, tree.deserialized::<T>(alloc)),
+        None => String::from_str(alloc, "none"),
+    }
+}
+
+// What a tree gave, in hex, or why it was refused.
+fn show_tree<T: Serialize + Drop>(
+    alloc: Global,
+    answer: Result<T, value::Error>,
+) -> Result<String, AllocError> {
+    match answer {
         Ok(value) => {
             let digits = encode_to_hex(alloc, &value)?;
             format!(in alloc; "ok {digits}")

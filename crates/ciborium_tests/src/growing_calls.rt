@@ -1,6 +1,8 @@
 //! Calls that take memory, each made once, with what it was lent looked at afterwards.
 
-use crate::outcome::{Failure, expect, is_written_as, judge_read, judge_tree, prepare_value};
+use crate::outcome::{
+    Failure, expect, expect_all, is_written_as, judge_read, judge_tree, prepare_value,
+};
 use ciborium::value::Value;
 use ciborium::{cbor, from_reader};
 use ciborium_callers::own_types::Message;
@@ -41,12 +43,16 @@ pub fn read_value(alloc: Global) -> Result<(), Failure> {
 /// Why the answer is not the right value.
 pub fn clone_value(alloc: Global) -> Result<(), Failure> {
     let value = prepare_value(alloc, OPEN_MAP)?;
-    let answer: Result<Value, AllocError> = value.clone();
-    expect(is_written_as(&value, DEFINITE_MAP))?;
-    match answer {
-        Ok(copy) => expect(is_written_as(&copy, DEFINITE_MAP) && copy == value),
+    let copied = match value.clone() {
+        Ok(copy) => judge_copy(copy, &value),
         Err(_) => Err(Failure::Memory),
-    }
+    };
+    expect(is_written_as(&value, DEFINITE_MAP)).and(copied)
+}
+
+// Fails unless the copy is the value, and written as it is to be.
+fn judge_copy(copy: Value, value: &Value) -> Result<(), Failure> {
+    expect_all(&[is_written_as(&copy, DEFINITE_MAP), copy == *value])
 }
 
 /// Makes a text.
@@ -87,10 +93,11 @@ fn prepare_messages(alloc: Global) -> Result<Vec<Message>, AllocError> {
 /// Why the answer is not the right value.
 pub fn read_as_value(alloc: Global) -> Result<(), Failure> {
     let value = prepare_value(alloc, OPEN_MAP)?;
-    let answer = value.deserialized::<Value>(alloc);
-    expect(is_written_as(&value, DEFINITE_MAP))?;
-    let copy = answer.map_err(judge_tree)?;
-    expect(is_written_as(&copy, DEFINITE_MAP) && copy == value)
+    let copied = match value.deserialized::<Value>(alloc) {
+        Ok(copy) => judge_copy(copy, &value),
+        Err(error) => Err(judge_tree(error)),
+    };
+    expect(is_written_as(&value, DEFINITE_MAP)).and(copied)
 }
 
 /// Reads a map in which a key stands twice: the last one counts.

@@ -4,7 +4,7 @@ use crate::growth::{find_call, make_call, name_outcome};
 use crate::heads::{Question, ask_alike, ask_failing, count_left};
 use crate::integers::{compare_in_row, describe_number};
 use crate::payloads::write_failing;
-use crate::pieces::{decode_pieces, parse_limited, parse_number};
+use crate::pieces::{decode_pieces, parse_limited, split_number};
 use std::alloc::{AllocError, Global};
 
 /// The answer to a line whose first word is this one, or none where the line is of another form.
@@ -62,10 +62,7 @@ fn read_at(alloc: Global, question: Question, rest: &str) -> Result<Option<Strin
 
 // The answer to `OFFSET NUMBER HEX`.
 fn read_ahead(alloc: Global, rest: &str) -> Result<Option<String>, AllocError> {
-    let Some((text, behind)) = rest.split_once(' ') else {
-        return Ok(None);
-    };
-    let Some(offset) = parse_number(text) else {
+    let Some((offset, behind)) = split_number(rest) else {
         return Ok(None);
     };
     match parse_limited(alloc, behind)? {

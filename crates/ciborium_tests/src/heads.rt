@@ -1,8 +1,9 @@
 //! Lines on heads: what a decoder pulls from the bytes of a line, and why it refuses.
 
+use crate::alike::Alike;
 use crate::devices::{Failure, Source};
+use crate::faults::judge_fault;
 use crate::header_texts::{Front, Pulled, describe_front, describe_refusal, show_front};
-use crate::refusals::name_io;
 use ciborium::ll::{Decoder, Error, Header};
 use std::alloc::{AllocError, Global};
 use std::io::{self, ErrorKind, Read};
@@ -47,19 +48,14 @@ pub fn ask_alike(
     bytes: &[u8],
 ) -> Result<String, AllocError> {
     let text = ask_slice(alloc, question, offset, bytes, 0)?;
+    let mut alike = Alike::new(text);
     for scratch in [1, 4096] {
-        let other = ask_slice(alloc, question, offset, bytes, scratch)?;
-        if other != text {
-            return format!(in alloc; "differs: {text} / {other}");
-        }
+        alike.compare(alloc, ask_slice(alloc, question, offset, bytes, scratch))?;
     }
     for most in [1, 3] {
-        let other = ask_slowly(alloc, question, offset, bytes, most)?;
-        if other != text {
-            return format!(in alloc; "differs: {text} / {other}");
-        }
+        alike.compare(alloc, ask_slowly(alloc, question, offset, bytes, most))?;
     }
-    ask_ahead(alloc, question, offset, bytes, text)
+    ask_ahead(alloc, question, offset, bytes, alike.into_text())
 }
 
 // The answer from a slice.
@@ -166,11 +162,12 @@ pub fn count_left(
 /// `AllocError` where memory is refused for the text.
 pub fn ask_failing(alloc: Global, question: Question, bytes: &[u8]) -> Result<String, AllocError> {
     let text = fail_by(alloc, question, bytes, ErrorKind::Interrupted)?;
-    let other = fail_by(alloc, question, bytes, ErrorKind::ConnectionReset)?;
-    if other != text {
-        return format!(in alloc; "differs: {text} / {other}");
-    }
-    Ok(text)
+    let mut alike = Alike::new(text);
+    alike.compare(
+        alloc,
+        fail_by(alloc, question, bytes, ErrorKind::ConnectionReset),
+    )?;
+    Ok(alike.into_text())
 }
 
 // The same of faults of one kind.
@@ -180,23 +177,30 @@ fn fail_by(
     bytes: &[u8],
     kind: ErrorKind,
 ) -> Result<String, AllocError> {
+    for at in 0..usize::MAX {
+        if let Some(end) = fail_read(alloc, question, bytes, (at, Failure::Kind(kind)))? {
+            return Ok(end);
+        }
+    }
+    String::from_str(alloc, "no end")
+}
+
+// What is said of the question where one read fails, unless just that failure is the answer.
+fn fail_read(
+    alloc: Global,
+    question: Question,
+    bytes: &[u8],
+    fault: (usize, Failure),
+) -> Result<Option<String>, AllocError> {
     let way = Way {
         offset: 0,
         scratch: 4,
         ahead: None,
     };
-    for at in 0..usize::MAX {
-        let mut source = Source::new(bytes, 1, Some((at, Failure::Kind(kind))));
-        let pulled = ask(alloc, question, way, &mut source)?;
-        let text = describe_front(alloc, pulled, None)?;
-        if !source.failed {
-            return format!(in alloc; "io at {at} reads, then {text}");
-        }
-        if text.as_str() != name_io(kind) {
-            return format!(in alloc; "{text} at read {at}");
-        }
-    }
-    String::from_str(alloc, "no end")
+    let mut source = Source::new(bytes, 1, Some(fault));
+    let pulled = ask(alloc, question, way, &mut source)?;
+    let text = describe_front(alloc, pulled, None)?;
+    judge_fault(alloc, text.as_str(), source.failed, fault)
 }
 
 // What the question gives.

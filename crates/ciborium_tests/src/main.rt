@@ -3,6 +3,7 @@
 //! memory refused.
 #![tactic(auto)]
 
+mod alike;
 mod answers;
 mod devices;
 mod fault;

@@ -1,8 +1,9 @@
 //! Lines on bytes whose first is at an offset: `at OFFSET TYPE LIMIT HEX`.
 
+use crate::alike::Alike;
 use crate::devices::Source;
 use crate::fronts::show_front;
-use crate::pieces::{parse_limited, parse_number};
+use crate::pieces::{parse_limited, split_number};
 use crate::types::{Job, ask_type};
 use ciborium::de::{Deserialize, from_reader_at};
 use ciborium::ser::Serialize;
@@ -18,14 +19,11 @@ struct ReadingAt<'a> {
 
 impl Job for ReadingAt<'_> {
     fn answer<T: Deserialize + Serialize>(&self, alloc: Global) -> Result<String, AllocError> {
-        let text = read_slowly::<T>(alloc, *self, 1)?;
+        let mut alike = Alike::new(read_slowly::<T>(alloc, *self, 1)?);
         for most in [3, usize::MAX] {
-            let other = read_slowly::<T>(alloc, *self, most)?;
-            if other != text {
-                return format!(in alloc; "differs: {text} / {other}");
-            }
+            alike.compare(alloc, read_slowly::<T>(alloc, *self, most))?;
         }
-        Ok(text)
+        Ok(alike.into_text())
     }
 }
 
@@ -52,13 +50,10 @@ fn read_slowly<T: Deserialize + Serialize>(
 ///
 /// `AllocError` where memory is refused for the answer.
 pub fn read_at_offset(alloc: Global, rest: &str) -> Result<Option<String>, AllocError> {
-    let Some((text, behind)) = rest.split_once(' ') else {
+    let Some((offset, behind)) = split_number(rest) else {
         return Ok(None);
     };
     let Some((name, limited)) = behind.split_once(' ') else {
-        return Ok(None);
-    };
-    let Some(offset) = parse_number(text) else {
         return Ok(None);
     };
     match parse_limited(alloc, limited)? {

@@ -1,7 +1,8 @@
 //! Values in the canonical order, by sorts and by comparisons, and counts of visits.
 
+use crate::alike::Alike;
 use crate::fronts::encode_to_hex;
-use crate::pieces::{decode_pieces, parse_number};
+use crate::pieces::{decode_pieces, split_number};
 use crate::writes::read_whole;
 use ciborium::value::canonical::cmp_value_counted;
 use ciborium::value::{CanonicalValue, Value};
@@ -10,7 +11,7 @@ use std::cmp::Ordering;
 
 /// `HEX HEX ..`: the encodings of the values in the canonical order, joined by spaces, where a sort
 /// from each rotation of them, and from each rotation reversed, gives that order, and `<`, `max`
-/// and `min` agree with it; else `differs`.
+/// and `min` agree with it; else `differs`, or `differs: A / B` where two sorts do.
 ///
 /// # Errors
 ///
@@ -19,20 +20,28 @@ pub fn answer_sort(alloc: Global, rest: &str) -> Result<Option<String>, AllocErr
     let Some(values) = read_values(alloc, rest)? else {
         return Ok(None);
     };
-    let sorted = sort_from(alloc, &values, 0, false)?;
-    let text = encode_all(alloc, &sorted)?;
+    let mut alike = Alike::new(show_sorted(alloc, &values, 0, false)?);
     for first in 0..values.len() {
         for is_reversed in [false, true] {
-            let again = sort_from(alloc, &values, first, is_reversed)?;
-            if encode_all(alloc, &again)? != text {
-                return Ok(Some(String::from_str(alloc, "differs")?));
-            }
+            alike.compare(alloc, show_sorted(alloc, &values, first, is_reversed))?;
         }
     }
-    if !is_ascending(&sorted) || !has_ends(&sorted) {
-        return Ok(Some(String::from_str(alloc, "differs")?));
+    Ok(Some(alike.into_text()))
+}
+
+// The encodings of the values in the order that a sort gives, where the comparisons agree with it.
+fn show_sorted(
+    alloc: Global,
+    values: &[Value],
+    first: usize,
+    is_reversed: bool,
+) -> Result<String, AllocError> {
+    let sorted = sort_from(alloc, values, first, is_reversed)?;
+    if is_ascending(&sorted) && has_ends(&sorted) {
+        encode_all(alloc, &sorted)
+    } else {
+        String::from_str(alloc, "differs")
     }
-    Ok(Some(text))
 }
 
 /// `LEAST MOST HEX HEX`: the canonical order of two values, where it takes so many visits of their
@@ -65,13 +74,9 @@ pub fn answer_visits(alloc: Global, rest: &str) -> Result<Option<String>, AllocE
 
 // The least and the most visits, and what stands behind them.
 fn split_bounds(rest: &str) -> Option<(u64, u64, &str)> {
-    let (least, behind) = rest.split_once(' ')?;
-    let (most, digits) = behind.split_once(' ')?;
-    Some((
-        parse_number(least)? as u64,
-        parse_number(most)? as u64,
-        digits,
-    ))
+    let (least, behind) = split_number(rest)?;
+    let (most, digits) = split_number(behind)?;
+    Some((least as u64, most as u64, digits))
 }
 
 // The values of words of hex, or none where one of them is no value.
@@ -98,13 +103,18 @@ fn sort_from(
 ) -> Result<Vec<CanonicalValue>, AllocError> {
     let mut sorted = Vec::new(alloc);
     for value in values.iter().skip(first).chain(values.iter().take(first)) {
-        sorted.push(CanonicalValue::from(value.clone()?))?;
+        push_copy(&mut sorted, value)?;
     }
     if is_reversed {
         sorted.reverse();
     }
     sorted.sort()?;
     Ok(sorted)
+}
+
+fn push_copy(copies: &mut Vec<CanonicalValue>, value: &Value) -> Result<(), AllocError> {
+    copies.push(CanonicalValue::from(value.clone()?))?;
+    Ok(())
 }
 
 // The encodings of the values, joined by spaces.

@@ -37,6 +37,15 @@ pub fn expect(holds: bool) -> Result<(), Failure> {
     if holds { Ok(()) } else { Err(Failure::Wrong) }
 }
 
+/// Fails as wrong unless each of these holds.
+///
+/// # Errors
+///
+/// `Wrong`.
+pub fn expect_all(hold: &[bool]) -> Result<(), Failure> {
+    expect(!hold.contains(&false))
+}
+
 /// What a refusal by a call that reads bytes says of it.
 pub fn judge_read<T: Drop>(error: de::Error<T>) -> Failure {
     match error {

@@ -1,5 +1,6 @@
 //! Bytes that an encoder writes to a writer that fails.
 
+use crate::alike::Alike;
 use crate::devices::{Failure, Sink};
 use ciborium::ll::Encoder;
 use std::alloc::{AllocError, Global};
@@ -17,13 +18,11 @@ const MOST: usize = 3;
 /// `AllocError` where memory is refused for the text.
 pub fn write_failing(alloc: Global, bytes: &[u8]) -> Result<String, AllocError> {
     let text = fail_by(alloc, bytes, Failure::Kind(ErrorKind::Interrupted))?;
+    let mut alike = Alike::new(text);
     for failure in [Failure::Kind(ErrorKind::BrokenPipe), Failure::End] {
-        let other = fail_by(alloc, bytes, failure)?;
-        if other != text {
-            return format!(in alloc; "differs: {text} / {other}");
-        }
+        alike.compare(alloc, fail_by(alloc, bytes, failure))?;
     }
-    Ok(text)
+    Ok(alike.into_text())
 }
 
 // The same of faults of one kind.

@@ -34,13 +34,19 @@ pub fn decode_pieces(alloc: Global, text: &str) -> Result<Option<Vec<u8>>, Alloc
 ///
 /// `AllocError` where memory is refused for the bytes.
 pub fn parse_limited(alloc: Global, text: &str) -> Result<Option<(usize, Vec<u8>)>, AllocError> {
-    if let Some((number, digits)) = text.split_once(' ')
-        && let Some(limit) = parse_number(number)
-        && let Some(bytes) = decode_pieces(alloc, digits)?
-    {
-        return Ok(Some((limit, bytes)));
+    let Some((limit, digits)) = split_number(text) else {
+        return Ok(None);
+    };
+    match decode_pieces(alloc, digits)? {
+        Some(bytes) => Ok(Some((limit, bytes))),
+        None => Ok(None),
     }
-    Ok(None)
+}
+
+/// A number, and what stands behind the blank.
+pub fn split_number(text: &str) -> Option<(usize, &str)> {
+    let (digits, behind) = text.split_once(' ')?;
+    Some((parse_number(digits)?, behind))
 }
 
 /// The number of one digit or more, if it is a `usize`. No sign stands before it.

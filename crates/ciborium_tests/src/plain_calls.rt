@@ -6,7 +6,7 @@ use crate::plain_numbers::{compare_integers, convert_integers};
 use crate::plain_reads::read_plain_types;
 use crate::plain_values::{compare_values, look_into, make_values, take_apart};
 use ciborium::ll::{self, Decoder, Encoder, Header};
-use ciborium::value::{self, Kind};
+use ciborium::value::{self, Kind, Value};
 use ciborium::{de, ser};
 use std::alloc::{AllocError, Global};
 use std::io::{self, ErrorKind};
@@ -20,17 +20,22 @@ const VALUES: &[u8] = b"\x88\x01\x41\x01\x61\x61\xf5\xf6\xc1\x00\x80\xa0";
 ///
 /// Why an answer is not the right value; `Preparing` where a growth is refused before the calls.
 pub fn make_plain_calls(alloc: Global) -> Result<(), Failure> {
-    let values = prepare_value(alloc, VALUES)?;
     let text = String::from_str(alloc, "a")?;
     let bytes = prepare_byte(alloc)?;
+    let values = prepare_value(alloc, VALUES)?;
 
-    call_heads_and_numbers()?;
-    expect(is_written_as(&values, VALUES))?;
-    look_into(&values)?;
-    compare_values(&values)?;
-    read_plain_types(alloc, &values)?;
-    make_values(alloc, text, bytes)?;
-    take_apart(values)
+    let lent = lend_values(alloc, &values);
+    let taken = take_apart(values);
+    let made = make_values(alloc, text, bytes);
+    lent.and(taken).and(made).and(call_heads_and_numbers())
+}
+
+// Calls that are lent values.
+fn lend_values(alloc: Global, values: &Value) -> Result<(), Failure> {
+    expect(is_written_as(values, VALUES))?;
+    look_into(values)?;
+    compare_values(values)?;
+    read_plain_types(alloc, values)
 }
 
 // Calls on heads, errors and numbers.

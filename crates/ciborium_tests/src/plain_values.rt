@@ -1,6 +1,6 @@
 //! Calls on values that take no memory: accessors, conversions and orders.
 
-use crate::outcome::{Failure, expect};
+use crate::outcome::{Failure, expect, expect_all};
 use ciborium::value::canonical::{cmp_value, cmp_value_counted};
 use ciborium::value::{CanonicalValue, Integer, Value};
 use std::alloc::Global;
@@ -12,7 +12,6 @@ use std::cmp::Ordering;
 ///
 /// `Wrong` where an accessor answers something else.
 pub fn look_into(values: &Value) -> Result<(), Failure> {
-    expect(values.is_array() && !values.is_map())?;
     let Some([number, bytes, text, truth, null, tagged, array, map]) = values
         .as_array()
         .map(|items| items.as_slice())
@@ -20,18 +19,38 @@ pub fn look_into(values: &Value) -> Result<(), Failure> {
         return Err(Failure::Wrong);
     };
     look_into_plain_values(number, truth, null)?;
-    expect(bytes.is_bytes() && bytes.as_bytes().is_some_and(|held| held.len() == 1))?;
-    expect(text.is_text() && text.as_text() == Some("a"))?;
-    expect(tagged.is_tag() && tagged.as_tag() == Some((1, &Value::from(0u8))))?;
-    expect(array.as_array().is_some_and(|held| held.is_empty()) && array.as_map().is_none())?;
-    expect(map.is_map() && map.as_map().is_some_and(|held| held.is_empty()))
+    look_into_tag(tagged)?;
+    expect_all(&[
+        values.is_array(),
+        !values.is_map(),
+        bytes.is_bytes(),
+        bytes.as_bytes().map(Vec::len) == Some(1),
+        text.is_text(),
+        text.as_text() == Some("a"),
+        array.as_array().map(Vec::len) == Some(0),
+        array.as_map().is_none(),
+        map.is_map(),
+        map.as_map().map(Vec::len) == Some(0),
+    ])
+}
+
+// What 1(0) holds.
+fn look_into_tag(tagged: &Value) -> Result<(), Failure> {
+    let zero = Value::from(0u8);
+    let is_right = tagged.is_tag() && tagged.as_tag() == Some((1, &zero));
+    expect(is_right)
 }
 
 // What 1, true and null hold.
 fn look_into_plain_values(number: &Value, truth: &Value, null: &Value) -> Result<(), Failure> {
-    expect(number.is_integer() && number.as_integer() == Some(Integer::from(1u8)))?;
-    expect(truth.is_bool() && truth.as_bool() == Some(true))?;
-    expect(null.is_null() && null.as_bool().is_none())
+    expect_all(&[
+        number.is_integer(),
+        number.as_integer() == Some(Integer::from(1u8)),
+        truth.is_bool(),
+        truth.as_bool() == Some(true),
+        null.is_null(),
+        null.as_bool().is_none(),
+    ])
 }
 
 /// The orders of a value and itself, and of its items.
@@ -40,15 +59,20 @@ fn look_into_plain_values(number: &Value, truth: &Value, null: &Value) -> Result
 ///
 /// `Wrong` where an order is another.
 pub fn compare_values(value: &Value) -> Result<(), Failure> {
-    expect(value == value && value.cmp(value) == Ordering::Equal)?;
-    expect(cmp_value(value, value) == Ordering::Equal)?;
     let (order, visits) = cmp_value_counted(value, value);
-    expect(order == Ordering::Equal && visits >= 20)?;
     let Some([number, bytes, ..]) = value.as_array().map(|items| items.as_slice()) else {
         return Err(Failure::Wrong);
     };
-    expect(number < bytes && number.cmp(bytes) == Ordering::Less)?;
-    expect(cmp_value(bytes, number) == Ordering::Greater)
+    expect_all(&[
+        value == value,
+        value.cmp(value) == Ordering::Equal,
+        cmp_value(value, value) == Ordering::Equal,
+        order == Ordering::Equal,
+        visits >= 20,
+        number < bytes,
+        number.cmp(bytes) == Ordering::Less,
+        cmp_value(bytes, number) == Ordering::Greater,
+    ])
 }
 
 /// Values that are made of what is handed over: plain ones, a text, bytes, a list and pairs.
@@ -57,52 +81,79 @@ pub fn compare_values(value: &Value) -> Result<(), Failure> {
 ///
 /// `Wrong` where a value holds something else.
 pub fn make_values(alloc: Global, text: String, bytes: Vec<u8>) -> Result<(), Failure> {
-    make_plain_values()?;
     make_strings(text, bytes)?;
+    make_plain_values()?;
     make_containers(alloc)?;
     make_canonical_values()
 }
 
 // Values of numbers and of true.
 fn make_plain_values() -> Result<(), Failure> {
-    expect(Value::from(u64::MAX).into_integer() == Ok(Integer::from(u64::MAX)))?;
-    expect(Value::from(-7i64).into_integer() == Ok(Integer::from(-7i8)))?;
-    expect(Value::from(true).into_bool() == Ok(true))?;
-    expect(Value::from(true).into_text() == Err(Value::Bool(true)))
+    expect_all(&[
+        is_number(Value::from(u64::MAX), Integer::from(u64::MAX)),
+        is_number(Value::from(-7i64), Integer::from(-7i8)),
+        is_true(Value::from(true)),
+        is_no_text(Value::from(true)),
+    ])
+}
+
+fn is_number(value: Value, number: Integer) -> bool {
+    value.into_integer() == Ok(number)
+}
+
+fn is_true(value: Value) -> bool {
+    value.into_bool() == Ok(true)
+}
+
+// Whether this is `true`, and is given back where a text is asked for.
+fn is_no_text(value: Value) -> bool {
+    value.into_text() == Err(Value::Bool(true))
 }
 
 // Values of a text and of bytes.
 fn make_strings(text: String, bytes: Vec<u8>) -> Result<(), Failure> {
-    expect(Value::from(text).as_text() == Some("a"))?;
-    expect(
-        Value::from(bytes)
-            .as_bytes()
-            .is_some_and(|held| held.as_slice() == [1u8].as_slice()),
-    )
+    expect_all(&[
+        is_letter(Value::from(text)),
+        is_one_byte(Value::from(bytes)),
+    ])
+}
+
+fn is_letter(text: Value) -> bool {
+    text.as_text() == Some("a")
+}
+
+fn is_one_byte(bytes: Value) -> bool {
+    bytes.as_bytes().map(Vec::as_slice) == Some(&[1])
 }
 
 // Values of a list and of pairs.
 fn make_containers(alloc: Global) -> Result<(), Failure> {
     let values: Vec<Value> = Vec::new(alloc);
-    expect(
-        Value::from(values)
-            .as_array()
-            .is_some_and(|held| held.is_empty()),
-    )?;
     let pairs: Vec<(Value, Value)> = Vec::new(alloc);
-    expect(
-        Value::from(pairs)
-            .as_map()
-            .is_some_and(|held| held.is_empty()),
-    )
+    expect_all(&[
+        is_empty_array(Value::from(values)),
+        is_empty_map(Value::from(pairs)),
+    ])
+}
+
+fn is_empty_array(array: Value) -> bool {
+    array.as_array().map(Vec::len) == Some(0)
+}
+
+fn is_empty_map(map: Value) -> bool {
+    map.as_map().map(Vec::len) == Some(0)
 }
 
 // Values that are canonical ones.
 fn make_canonical_values() -> Result<(), Failure> {
     let ten = CanonicalValue::from(Value::from(10u8));
     let below = CanonicalValue::from(Value::from(-1i8));
-    expect(ten < below && ten.cmp(&below) == Ordering::Less && ten != below)?;
-    expect(Value::from(ten) == Value::from(10u8))
+    expect_all(&[
+        ten < below,
+        ten.cmp(&below) == Ordering::Less,
+        ten != below,
+        is_number(Value::from(ten), Integer::from(10u8)),
+    ])
 }
 
 /// Takes `[1, h'01', "a", true, null, 1(0), [], {}]` apart, item by item.
@@ -123,10 +174,10 @@ pub fn take_apart(values: Value) -> Result<(), Failure> {
 // Takes the content out of an item, after it was lent to be changed.
 fn take_item(item: Value) -> Result<(), Failure> {
     match item {
-        Value::Integer(_) => expect(item.into_integer() == Ok(Integer::from(1u8))),
+        Value::Integer(_) => expect(is_number(item, Integer::from(1u8))),
         Value::Bytes(_) => take_bytes(item),
         Value::Text(_) => take_text(item),
-        Value::Bool(_) => expect(item.into_bool() == Ok(true)),
+        Value::Bool(_) => expect(is_true(item)),
         Value::Null => expect(item.into_bool() == Err(Value::Null)),
         Value::Tag(_, _) => take_tag(item),
         Value::Array(_) => take_array(item),

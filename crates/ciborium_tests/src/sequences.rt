@@ -1,5 +1,6 @@
 //! Sequences of items, read one by one.
 
+use crate::alike::Alike;
 use crate::devices::{Failure, Source};
 use crate::fronts::show_front;
 use crate::refusals::name_io;
@@ -46,14 +47,12 @@ fn read_alike<T: Deserialize + Serialize>(
     goes_on: bool,
 ) -> Result<String, AllocError> {
     let text = read_slice::<T>(alloc, bytes, goes_on)?;
+    let mut alike = Alike::new(text);
     for most in [1, 3] {
         let mut source = Source::new(bytes, most, None);
-        let other = read_all::<T, Source>(alloc, &mut source, goes_on)?;
-        if other != text {
-            return format!(in alloc; "differs: {text} / {other}");
-        }
+        alike.compare(alloc, read_all::<T, Source>(alloc, &mut source, goes_on))?;
     }
-    Ok(text)
+    Ok(alike.into_text())
 }
 
 // The items of a slice.
@@ -112,13 +111,11 @@ fn fail_reads<T: Deserialize + Serialize>(
     bytes: &[u8],
 ) -> Result<String, AllocError> {
     let text = fail_each_read::<T>(alloc, bytes, ErrorKind::Interrupted)?;
+    let mut alike = Alike::new(text);
     for kind in KINDS {
-        let other = fail_each_read::<T>(alloc, bytes, kind)?;
-        if other != text {
-            return format!(in alloc; "differs: {text} / {other}");
-        }
+        alike.compare(alloc, fail_each_read::<T>(alloc, bytes, kind))?;
     }
-    Ok(text)
+    Ok(alike.into_text())
 }
 
 // The same for one kind of failure. There are no more reads than bytes, and one that finds the end.
@@ -130,17 +127,49 @@ fn fail_each_read<T: Deserialize + Serialize>(
     let whole = read_slice::<T>(alloc, bytes, false)?;
     let mut answer = String::from_str(alloc, "io after")?;
     for at in 0..bytes.len().saturating_add(2) {
-        let mut source = Source::new(bytes, 1, Some((at, Failure::Kind(kind))));
-        let text = read_all::<T, Source>(alloc, &mut source, false)?;
-        if !source.failed {
-            return format!(in alloc; "{answer} items, then {text}");
+        if fail_read::<T>(alloc, bytes, (at, kind), whole.as_str(), &mut answer)? {
+            return Ok(answer);
         }
-        let Some(number) = count_items(whole.as_str(), text.as_str(), name_io(kind)) else {
-            return format!(in alloc; "read {at}: {text}");
-        };
-        answer.push_str(format!(in alloc; " {number}")?.as_str())?;
     }
     String::from_str(alloc, "reads without end")
+}
+
+// Puts what the sequence is where one read fails behind the answer, and says whether that ends it.
+fn fail_read<T: Deserialize + Serialize>(
+    alloc: Global,
+    bytes: &[u8],
+    (at, kind): (usize, ErrorKind),
+    whole: &str,
+    answer: &mut String,
+) -> Result<bool, AllocError> {
+    let mut source = Source::new(bytes, 1, Some((at, Failure::Kind(kind))));
+    let text = read_all::<T, Source>(alloc, &mut source, false)?;
+    if source.failed {
+        return push_count(alloc, whole, text.as_str(), (at, kind), answer);
+    }
+    answer.push_str(" items, then ")?;
+    answer.push_str(text.as_str())?;
+    Ok(true)
+}
+
+// Puts the number of items before the failure behind the answer, unless there is another one.
+fn push_count(
+    alloc: Global,
+    whole: &str,
+    text: &str,
+    (at, kind): (usize, ErrorKind),
+    answer: &mut String,
+) -> Result<bool, AllocError> {
+    match count_items(whole, text, name_io(kind)) {
+        Some(number) => {
+            answer.push_str(format!(in alloc; " {number}")?.as_str())?;
+            Ok(false)
+        }
+        None => {
+            *answer = format!(in alloc; "read {at}: {text}")?;
+            Ok(true)
+        }
+    }
 }
 
 // How many items stand before this refusal, if the items are the first ones of the whole sequence.

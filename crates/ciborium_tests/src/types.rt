@@ -45,39 +45,39 @@ pub fn ask_type<J: Job>(alloc: Global, name: &str, job: &J) -> Result<Option<Str
 
 fn ask_number<J: Job>(alloc: Global, name: &str, job: &J) -> Result<Option<String>, AllocError> {
     let answer = match name {
-        "u8" => job.answer::<u8>(alloc)?,
-        "u16" => job.answer::<u16>(alloc)?,
-        "u32" => job.answer::<u32>(alloc)?,
-        "u64" => job.answer::<u64>(alloc)?,
-        "u128" => job.answer::<u128>(alloc)?,
-        "usize" => job.answer::<usize>(alloc)?,
-        "i8" => job.answer::<i8>(alloc)?,
-        "i16" => job.answer::<i16>(alloc)?,
-        "i32" => job.answer::<i32>(alloc)?,
-        "i64" => job.answer::<i64>(alloc)?,
-        "i128" => job.answer::<i128>(alloc)?,
-        "isize" => job.answer::<isize>(alloc)?,
+        "u8" => job.answer::<u8>(alloc),
+        "u16" => job.answer::<u16>(alloc),
+        "u32" => job.answer::<u32>(alloc),
+        "u64" => job.answer::<u64>(alloc),
+        "u128" => job.answer::<u128>(alloc),
+        "usize" => job.answer::<usize>(alloc),
+        "i8" => job.answer::<i8>(alloc),
+        "i16" => job.answer::<i16>(alloc),
+        "i32" => job.answer::<i32>(alloc),
+        "i64" => job.answer::<i64>(alloc),
+        "i128" => job.answer::<i128>(alloc),
+        "isize" => job.answer::<isize>(alloc),
         _ => return Ok(None),
     };
-    Ok(Some(answer))
+    Ok(Some(answer?))
 }
 
 fn ask_scalar<J: Job>(alloc: Global, name: &str, job: &J) -> Result<Option<String>, AllocError> {
     let answer = match name {
-        "bool" => job.answer::<bool>(alloc)?,
-        "()" => job.answer::<()>(alloc)?,
-        "char" => job.answer::<char>(alloc)?,
-        "String" => job.answer::<String>(alloc)?,
-        "ByteBuf" => job.answer::<ByteBuf>(alloc)?,
-        "Value" => job.answer::<Value>(alloc)?,
-        "CanonicalValue" => job.answer::<CanonicalValue>(alloc)?,
-        "Option<u8>" => job.answer::<Option<u8>>(alloc)?,
-        "Option<()>" => job.answer::<Option<()>>(alloc)?,
-        "Option<Value>" => job.answer::<Option<Value>>(alloc)?,
-        "Option<Option<u8>>" => job.answer::<Option<Option<u8>>>(alloc)?,
+        "bool" => job.answer::<bool>(alloc),
+        "()" => job.answer::<()>(alloc),
+        "char" => job.answer::<char>(alloc),
+        "String" => job.answer::<String>(alloc),
+        "ByteBuf" => job.answer::<ByteBuf>(alloc),
+        "Value" => job.answer::<Value>(alloc),
+        "CanonicalValue" => job.answer::<CanonicalValue>(alloc),
+        "Option<u8>" => job.answer::<Option<u8>>(alloc),
+        "Option<()>" => job.answer::<Option<()>>(alloc),
+        "Option<Value>" => job.answer::<Option<Value>>(alloc),
+        "Option<Option<u8>>" => job.answer::<Option<Option<u8>>>(alloc),
         _ => return Ok(None),
     };
-    Ok(Some(answer))
+    Ok(Some(answer?))
 }
 
 fn ask_container<J: Job>(alloc: Global, name: &str, job: &J) -> Result<Option<String>, AllocError> {
@@ -88,77 +88,77 @@ fn ask_container<J: Job>(alloc: Global, name: &str, job: &J) -> Result<Option<St
         return ask_map(alloc, name, job);
     }
     let answer = match name {
-        "Vec<u8>" => job.answer::<Vec<u8>>(alloc)?,
-        "Vec<(u8,u8)>" => job.answer::<Vec<(u8, u8)>>(alloc)?,
-        "Vec<Value>" => job.answer::<Vec<Value>>(alloc)?,
-        "Vec<Option<bool>>" => job.answer::<Vec<Option<bool>>>(alloc)?,
-        "Vec<Vec<u8>>" => job.answer::<Vec<Vec<u8>>>(alloc)?,
-        "Vec<ByteBuf>" => job.answer::<Vec<ByteBuf>>(alloc)?,
+        "Vec<u8>" => job.answer::<Vec<u8>>(alloc),
+        "Vec<(u8,u8)>" => job.answer::<Vec<(u8, u8)>>(alloc),
+        "Vec<Value>" => job.answer::<Vec<Value>>(alloc),
+        "Vec<Option<bool>>" => job.answer::<Vec<Option<bool>>>(alloc),
+        "Vec<Vec<u8>>" => job.answer::<Vec<Vec<u8>>>(alloc),
+        "Vec<ByteBuf>" => job.answer::<Vec<ByteBuf>>(alloc),
         _ => return Ok(None),
     };
-    Ok(Some(answer))
+    Ok(Some(answer?))
 }
 
 fn ask_map<J: Job>(alloc: Global, name: &str, job: &J) -> Result<Option<String>, AllocError> {
     let answer = match name {
-        "BTreeMap<u8,Vec<Option<i16>>>" => job.answer::<BTreeMap<u8, Vec<Option<i16>>>>(alloc)?,
-        "BTreeMap<u8,u8>" => job.answer::<BTreeMap<u8, u8>>(alloc)?,
-        "BTreeMap<i8,u8>" => job.answer::<BTreeMap<i8, u8>>(alloc)?,
-        "BTreeMap<String,u8>" => job.answer::<BTreeMap<String, u8>>(alloc)?,
-        "BTreeMap<Value,u8>" => job.answer::<BTreeMap<Value, u8>>(alloc)?,
-        "BTreeMap<CanonicalValue,u8>" => job.answer::<BTreeMap<CanonicalValue, u8>>(alloc)?,
-        "BTreeMap<CanonicalValue,Value>" => job.answer::<BTreeMap<CanonicalValue, Value>>(alloc)?,
+        "BTreeMap<u8,Vec<Option<i16>>>" => job.answer::<BTreeMap<u8, Vec<Option<i16>>>>(alloc),
+        "BTreeMap<u8,u8>" => job.answer::<BTreeMap<u8, u8>>(alloc),
+        "BTreeMap<i8,u8>" => job.answer::<BTreeMap<i8, u8>>(alloc),
+        "BTreeMap<String,u8>" => job.answer::<BTreeMap<String, u8>>(alloc),
+        "BTreeMap<Value,u8>" => job.answer::<BTreeMap<Value, u8>>(alloc),
+        "BTreeMap<CanonicalValue,u8>" => job.answer::<BTreeMap<CanonicalValue, u8>>(alloc),
+        "BTreeMap<CanonicalValue,Value>" => job.answer::<BTreeMap<CanonicalValue, Value>>(alloc),
         _ => return Ok(None),
     };
-    Ok(Some(answer))
+    Ok(Some(answer?))
 }
 
 fn ask_tuple<J: Job>(alloc: Global, name: &str, job: &J) -> Result<Option<String>, AllocError> {
     let answer = match name {
-        "(u8,)" => job.answer::<(u8,)>(alloc)?,
-        "(u8,u8)" => job.answer::<(u8, u8)>(alloc)?,
-        "(u8,u16)" => job.answer::<(u8, u16)>(alloc)?,
-        "(u8,String)" => job.answer::<(u8, String)>(alloc)?,
-        "(u8,bool,char)" => job.answer::<(u8, bool, char)>(alloc)?,
-        "(u8,u8,u8,())" => job.answer::<(u8, u8, u8, ())>(alloc)?,
-        "(u8,bool,char,i64)" => job.answer::<(u8, bool, char, i64)>(alloc)?,
+        "(u8,)" => job.answer::<(u8,)>(alloc),
+        "(u8,u8)" => job.answer::<(u8, u8)>(alloc),
+        "(u8,u16)" => job.answer::<(u8, u16)>(alloc),
+        "(u8,String)" => job.answer::<(u8, String)>(alloc),
+        "(u8,bool,char)" => job.answer::<(u8, bool, char)>(alloc),
+        "(u8,u8,u8,())" => job.answer::<(u8, u8, u8, ())>(alloc),
+        "(u8,bool,char,i64)" => job.answer::<(u8, bool, char, i64)>(alloc),
         _ => return Ok(None),
     };
-    Ok(Some(answer))
+    Ok(Some(answer?))
 }
 
 fn ask_tagged<J: Job>(alloc: Global, name: &str, job: &J) -> Result<Option<String>, AllocError> {
     let answer = match name {
-        "Captured<Value>" => job.answer::<Parted<Value>>(alloc)?,
-        "Captured<bool>" => job.answer::<Parted<bool>>(alloc)?,
-        "Captured<u8>" => job.answer::<Parted<u8>>(alloc)?,
-        "Captured<ByteBuf>" => job.answer::<Parted<ByteBuf>>(alloc)?,
-        "Captured<Vec<u8>>" => job.answer::<Parted<Vec<u8>>>(alloc)?,
-        "Captured<Captured<bool>>" => job.answer::<Parted<Parted<bool>>>(alloc)?,
-        "Vec<Captured<bool>>" => job.answer::<Vec<Parted<bool>>>(alloc)?,
-        "Required<bool,6>" => job.answer::<Required<bool, 6>>(alloc)?,
-        "Required<String,6>" => job.answer::<Required<String, 6>>(alloc)?,
-        "Accepted<bool,6>" => job.answer::<Accepted<bool, 6>>(alloc)?,
+        "Captured<Value>" => job.answer::<Parted<Value>>(alloc),
+        "Captured<bool>" => job.answer::<Parted<bool>>(alloc),
+        "Captured<u8>" => job.answer::<Parted<u8>>(alloc),
+        "Captured<ByteBuf>" => job.answer::<Parted<ByteBuf>>(alloc),
+        "Captured<Vec<u8>>" => job.answer::<Parted<Vec<u8>>>(alloc),
+        "Captured<Captured<bool>>" => job.answer::<Parted<Parted<bool>>>(alloc),
+        "Vec<Captured<bool>>" => job.answer::<Vec<Parted<bool>>>(alloc),
+        "Required<bool,6>" => job.answer::<Required<bool, 6>>(alloc),
+        "Required<String,6>" => job.answer::<Required<String, 6>>(alloc),
+        "Accepted<bool,6>" => job.answer::<Accepted<bool, 6>>(alloc),
         _ => return Ok(None),
     };
-    Ok(Some(answer))
+    Ok(Some(answer?))
 }
 
 fn ask_own<J: Job>(alloc: Global, name: &str, job: &J) -> Result<Option<String>, AllocError> {
     let answer = match name {
-        "Figure" => job.answer::<Figure>(alloc)?,
-        "Letter" => job.answer::<Letter>(alloc)?,
-        "Vec<Letter>" => job.answer::<Vec<Letter>>(alloc)?,
-        "Message" => job.answer::<Message>(alloc)?,
-        "Vec<Message>" => job.answer::<Vec<Message>>(alloc)?,
-        "Foo" => job.answer::<Foo>(alloc)?,
-        "Reply" => job.answer::<Reply>(alloc)?,
-        "Span" => job.answer::<Span>(alloc)?,
-        "Moment" => job.answer::<Moment>(alloc)?,
-        "Two<u8>" => job.answer::<Two<u8>>(alloc)?,
-        "Two<ByteBuf>" => job.answer::<Two<ByteBuf>>(alloc)?,
-        "Vec<Two<bool>>" => job.answer::<Vec<Two<bool>>>(alloc)?,
+        "Figure" => job.answer::<Figure>(alloc),
+        "Letter" => job.answer::<Letter>(alloc),
+        "Vec<Letter>" => job.answer::<Vec<Letter>>(alloc),
+        "Message" => job.answer::<Message>(alloc),
+        "Vec<Message>" => job.answer::<Vec<Message>>(alloc),
+        "Foo" => job.answer::<Foo>(alloc),
+        "Reply" => job.answer::<Reply>(alloc),
+        "Span" => job.answer::<Span>(alloc),
+        "Moment" => job.answer::<Moment>(alloc),
+        "Two<u8>" => job.answer::<Two<u8>>(alloc),
+        "Two<ByteBuf>" => job.answer::<Two<ByteBuf>>(alloc),
+        "Vec<Two<bool>>" => job.answer::<Vec<Two<bool>>>(alloc),
         _ => return Ok(None),
     };
-    Ok(Some(answer))
+    Ok(Some(answer?))
 }

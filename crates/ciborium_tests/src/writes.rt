@@ -1,5 +1,6 @@
 //! What values write, also to a writer whose writes fail in turn.
 
+use crate::alike::Alike;
 use crate::devices::{Failure, Sink};
 use crate::fronts::encode_to_hex;
 use crate::refusals::{describe_tree, describe_write, name_io};
@@ -101,14 +102,11 @@ fn fail_writes<T: Serialize>(alloc: Global, value: &T) -> Result<String, AllocEr
     if let Err(error) = into_writer(value, &mut bytes) {
         return describe_write(alloc, error);
     }
-    let text = fail_each_write(alloc, value, &bytes, Failure::End)?;
+    let mut alike = Alike::new(fail_each_write(alloc, value, &bytes, Failure::End)?);
     for failure in FAILURES {
-        let other = fail_each_write(alloc, value, &bytes, failure)?;
-        if other != text {
-            return format!(in alloc; "differs: {text} / {other}");
-        }
+        alike.compare(alloc, fail_each_write(alloc, value, &bytes, failure))?;
     }
-    Ok(text)
+    Ok(alike.into_text())
 }
 
 // The same for one way to fail. There are no more writes than bytes.
@@ -118,20 +116,45 @@ fn fail_each_write<T: Serialize>(
     bytes: &[u8],
     failure: Failure,
 ) -> Result<String, AllocError> {
-    let refused = name_io(failure.kind(ErrorKind::WriteZero));
     for at in 0..bytes.len().saturating_add(1) {
-        let mut sink = Sink::new(alloc, at, failure);
-        let text = describe_answer(alloc, into_writer(value, &mut sink))?;
-        if is_complete(&sink, bytes) && text.as_str() == "written" {
-            let digits = hex::encode(alloc, bytes)?;
-            return format!(in alloc; "io at {at} writes, then {digits}");
-        }
-        if !is_cut(&sink, bytes) || text.as_str() != refused {
-            let digits = hex::encode(alloc, &sink.held)?;
-            return format!(in alloc; "write {at}: {text} {digits}");
+        if let Some(end) = fail_write(alloc, value, bytes, (at, failure))? {
+            return Ok(end);
         }
     }
     String::from_str(alloc, "writes without end")
+}
+
+// What is said of the value where one write fails, unless just that failure is the answer.
+fn fail_write<T: Serialize>(
+    alloc: Global,
+    value: &T,
+    bytes: &[u8],
+    (at, failure): (usize, Failure),
+) -> Result<Option<String>, AllocError> {
+    let mut sink = Sink::new(alloc, at, failure);
+    let answer = describe_answer(alloc, into_writer(value, &mut sink))?;
+    let text = answer.as_str();
+    if is_cut(&sink, bytes) && text == name_io(failure.kind(ErrorKind::WriteZero)) {
+        return Ok(None);
+    }
+    let is_right = is_complete(&sink, bytes) && text == "written";
+    Ok(Some(name_end(alloc, is_right, at, text, &sink.held)?))
+}
+
+// What is said of a value where a write gives another answer than its failure.
+fn name_end(
+    alloc: Global,
+    is_right: bool,
+    at: usize,
+    text: &str,
+    held: &[u8],
+) -> Result<String, AllocError> {
+    let digits = hex::encode(alloc, held)?;
+    if is_right {
+        format!(in alloc; "io at {at} writes, then {digits}")
+    } else {
+        format!(in alloc; "write {at}: {text} {digits}")
+    }
 }
 
 // What `into_writer` answers.

@@ -138,32 +138,32 @@ fn write_plain<T: Deserialize + Serialize>(
 
 fn write_own(alloc: Global, name: &str, job: &Rewriting) -> Result<Option<String>, AllocError> {
     let answer = match name {
-        "Even" => write_made::<u8, Even>(alloc, job)?,
-        "(u8,Even)" => write_made::<(u8, u8), (u8, Even)>(alloc, job)?,
-        "Copied" => write_made::<String, Copied>(alloc, job)?,
-        "Open" => write_made::<Vec<u8>, Open>(alloc, job)?,
-        "Vec<Open>" => write_made::<Vec<Vec<u8>>, Vec<Open>>(alloc, job)?,
-        "(Open,u128)" => write_made::<(Vec<u8>, u128), (Open, u128)>(alloc, job)?,
-        "Some(Option<u8>)" => write_made::<Option<u8>, Option<Option<u8>>>(alloc, job)?,
-        "OpenMap" => write_made::<BTreeMap<u8, u8>, OpenMap>(alloc, job)?,
-        "Position" => write_made::<(i16, String), Position>(alloc, job)?,
-        "Tag" => write_made::<Captured<Value>, Value>(alloc, job)?,
+        "Even" => write_made::<u8, Even>(alloc, job),
+        "(u8,Even)" => write_made::<(u8, u8), (u8, Even)>(alloc, job),
+        "Copied" => write_made::<String, Copied>(alloc, job),
+        "Open" => write_made::<Vec<u8>, Open>(alloc, job),
+        "Vec<Open>" => write_made::<Vec<Vec<u8>>, Vec<Open>>(alloc, job),
+        "(Open,u128)" => write_made::<(Vec<u8>, u128), (Open, u128)>(alloc, job),
+        "Some(Option<u8>)" => write_made::<Option<u8>, Option<Option<u8>>>(alloc, job),
+        "OpenMap" => write_made::<BTreeMap<u8, u8>, OpenMap>(alloc, job),
+        "Position" => write_made::<(i16, String), Position>(alloc, job),
+        "Tag" => write_made::<Captured<Value>, Value>(alloc, job),
         _ => return Ok(None),
     };
-    Ok(Some(answer))
+    Ok(Some(answer?))
 }
 
 fn write_tagged(alloc: Global, name: &str, job: &Rewriting) -> Result<Option<String>, AllocError> {
     let answer = match name {
-        "Captured<Value>" => write_plain::<Captured<Value>>(alloc, job)?,
-        "Captured<bool>" => write_plain::<Captured<bool>>(alloc, job)?,
-        "Captured<ByteBuf>" => write_plain::<Captured<ByteBuf>>(alloc, job)?,
-        "Captured<Accepted<Required<Even,1>,2>>" => write_even_under_tags(alloc, job)?,
-        "Option<Required<u64,255>>" => write_plain::<Option<Required<u64, 255>>>(alloc, job)?,
-        "Option<Accepted<u64,255>>" => write_plain::<Option<Accepted<u64, 255>>>(alloc, job)?,
+        "Captured<Value>" => write_plain::<Captured<Value>>(alloc, job),
+        "Captured<bool>" => write_plain::<Captured<bool>>(alloc, job),
+        "Captured<ByteBuf>" => write_plain::<Captured<ByteBuf>>(alloc, job),
+        "Captured<Accepted<Required<Even,1>,2>>" => write_even_under_tags(alloc, job),
+        "Option<Required<u64,255>>" => write_plain::<Option<Required<u64, 255>>>(alloc, job),
+        "Option<Accepted<u64,255>>" => write_plain::<Option<Accepted<u64, 255>>>(alloc, job),
         _ => return Ok(None),
     };
-    Ok(Some(answer))
+    Ok(Some(answer?))
 }
 
 // A number under three tags, as one that must be even.
@@ -180,23 +180,41 @@ fn write_even_under_tags(alloc: Global, job: &Rewriting) -> Result<String, Alloc
 
 fn write_lent(alloc: Global, name: &str, job: &Rewriting) -> Result<Option<String>, AllocError> {
     let answer = match name {
-        "&u8" => match read_whole::<u8>(alloc, job.bytes) {
-            Some(number) => write_by(alloc, job.writing, &&number)?,
-            None => no_value(alloc)?,
-        },
-        "&str" => match read_whole::<String>(alloc, job.bytes) {
-            Some(text) => write_by(alloc, job.writing, &text.as_str())?,
-            None => no_value(alloc)?,
-        },
-        "(u8,bool,&str)" => match read_whole::<(u8, bool, String)>(alloc, job.bytes) {
-            Some((a, b, text)) => write_by(alloc, job.writing, &(a, b, text.as_str()))?,
-            None => no_value(alloc)?,
-        },
-        "(Open,&str,u128)" => match read_whole::<(Vec<u8>, String, u128)>(alloc, job.bytes) {
-            Some((a, text, c)) => write_by(alloc, job.writing, &(Open(a), text.as_str(), c))?,
-            None => no_value(alloc)?,
-        },
+        "&u8" => write_lent_number(alloc, job),
+        "&str" => write_lent_text(alloc, job),
+        "(u8,bool,&str)" => write_lent_end(alloc, job),
+        "(Open,&str,u128)" => write_lent_middle(alloc, job),
         _ => return Ok(None),
     };
-    Ok(Some(answer))
+    Ok(Some(answer?))
+}
+
+fn write_lent_number(alloc: Global, job: &Rewriting) -> Result<String, AllocError> {
+    match read_whole::<u8>(alloc, job.bytes) {
+        Some(number) => write_by(alloc, job.writing, &&number),
+        None => no_value(alloc),
+    }
+}
+
+fn write_lent_text(alloc: Global, job: &Rewriting) -> Result<String, AllocError> {
+    match read_whole::<String>(alloc, job.bytes) {
+        Some(text) => write_by(alloc, job.writing, &text.as_str()),
+        None => no_value(alloc),
+    }
+}
+
+// A tuple that ends in a text.
+fn write_lent_end(alloc: Global, job: &Rewriting) -> Result<String, AllocError> {
+    match read_whole::<(u8, bool, String)>(alloc, job.bytes) {
+        Some((a, b, text)) => write_by(alloc, job.writing, &(a, b, text.as_str())),
+        None => no_value(alloc),
+    }
+}
+
+// A tuple with a text in it.
+fn write_lent_middle(alloc: Global, job: &Rewriting) -> Result<String, AllocError> {
+    match read_whole::<(Vec<u8>, String, u128)>(alloc, job.bytes) {
+        Some((a, text, c)) => write_by(alloc, job.writing, &(Open(a), text.as_str(), c)),
+        None => no_value(alloc),
+    }
 }
