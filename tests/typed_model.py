@@ -294,11 +294,11 @@ class ByteSource:
         return self.text_string(head)
 
     def character(self):
-        """A definite text of one character, which is read whole before it is judged."""
+        """A definite text of one character. One of more than four bytes holds more, and is not read."""
         head = self.bare_head()
         if head[0] != TEXT:
             raise self.unfit(head, "char")
-        if head[1] is None:
+        if head[1] is None or head[1] > 4:
             raise self.refuse("char", head[2])
         text = self.text_string(head)
         if len(text) != 1:
