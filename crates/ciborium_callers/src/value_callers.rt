@@ -17,7 +17,7 @@ pub fn lone_tag_mut(values: &mut [Value]) -> Option<(&mut u64, &mut Value)>
     values[0].as_tag_mut()
 }
 
-/// So a caller's proof knows of both writes: what was a tag is one of this number over this content.
+/// So a caller's proof knows of both writes: what was a tag has this number, over this content.
 pub fn retag(value: &mut Value, number: u64, content: &mut Value)
     ensures { IsTag value.old → IsTagOf value.new number content.old }
 {

@@ -58,7 +58,7 @@ fn begin(alloc: Global, opening: Opening) -> Frame
     }
 }
 
-// Puts a part into a list, for which this many parts follow. Room is made for no more than the last.
+// Puts a part into a list, for which this many parts follow. For the last one room is made alone.
 #[inline(always)]
 fn put<T: Drop>(parts: &mut Vec<T>, behind: Option<usize>, part: T) -> Result<(), AllocError>
     ensures { OnOk result (parts.new.items ≡ parts.old.items ++ part ∷ []) }
