@@ -1,6 +1,7 @@
 //! The containers and tags that are open while a value is put together.
 
-ghost use Rattle.std.specs.Prelude.{◌≡◌, ◌∷◌, ◌++◌, [], IfOk, List, MatchOption, None, OnErr, OnOk, Some};
+ghost use Rattle.std.specs.Prelude.{◌≡◌, ◌∷◌, ◌++◌, [], IfOk, List, MatchOption, None, OnErr};
+ghost use Rattle.std.specs.Prelude.{OnOk, Some};
 ghost use Rattle.std.specs.Prelude.{drop, length, map, option_map};
 ghost use Rattle.ciborium_value.specs.Open.{array, closed, ended, fill, map as open_map, placed};
 ghost use Rattle.ciborium_value.specs.Open.{waiting_keys};
