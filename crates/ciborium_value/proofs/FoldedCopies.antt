@@ -1,20 +1,20 @@
 -- The walk that copies a tree, folded, makes what reading its item gives.
-use Rattle.std.proofs.Common.{◌≡◌, ℕ, cond, zero, suc, ◌+◌, ◌-◌, ◌<◌, ◌≤◌, Bool, true, false, List, [], ◌∷◌, ◌++◌, map, length, Option, Some, None, option_map, pos, negsuc, Vec, Global, refl, sym, ap, ◌∙◌, subst, arith, append_assoc}
+use Rattle.std.proofs.Common.{◌≡◌, ℕ, cond, zero, suc, ◌+◌, ◌<◌, true, false, List, [], ◌∷◌, ◌++◌, map, length, Option, Some, None, option_map, pos, negsuc, Vec, Global, refl, sym, ap, ◌∙◌, arith, append_assoc}
 use Rattle.std.proofs.lemmas.List.{length-map, reverse-append}
 use Rattle.ciborium_value.specs.Counts.{node_count, trees_node_count, tree_pairs_node_count}
 use Rattle.ciborium_value.specs.Encoding.{item_of, items_of, pairs_of}
 use Rattle.ciborium_value.specs.Folded.{folded, trees_folded, tree_pairs_folded, tree_folding_bytes}
 use Rattle.ciborium_value.specs.FoldedCopies.{where_folded, copied, pairs_in_turn, nodes_of}
-use Rattle.ciborium_value.specs.Meaning.{tag_meaning, trees_more, tree_pairs_more, bignum_meaning, simple_meaning, is_bignum_tag}
+use Rattle.ciborium_value.specs.Meaning.{tag_meaning, trees_more, tree_pairs_more, simple_meaning, is_bignum_tag}
 use Rattle.ciborium_value.specs.Open as open_
 use Rattle.ciborium_value.specs.Open.{Open, Placed, done, more, placed}
 use Rattle.ciborium_value.specs.FoldedCopies.{IsUnfolded, path_trees, coming_trees, all_coming}
 use Rattle.ciborium_value.specs.declared.deserialized.folding.Coming.{Coming}
 use Rattle.ciborium_value.specs.Sources.{Fault, of_kind, of_nesting, of_syntax, of_memory, of_device, IsFaultOf}
-use Rattle.ciborium_value.specs.Taken.{Outcome, gives, refuses, nests, of_meaning, outcome_map, one_more, one_pair_more, taken_tag, taken_value, taken_items, taken_tree_pairs}
+use Rattle.ciborium_value.specs.Taken.{gives, refuses, of_meaning, outcome_map, one_more, one_pair_more, taken_tag, taken_value, taken_items, taken_tree_pairs}
 use Rattle.ciborium_value.specs.Tree as trees
 use Rattle.ciborium_value.specs.Tree.{Tree, Trees, TreePairs}
-use Rattle.ciborium_value.specs.View.{tree_of, trees_of, tree_pairs_of, trees_from, tree_pairs_from, pair_trees}
+use Rattle.ciborium_value.specs.View.{tree_of, trees_of, tree_pairs_of, trees_from, tree_pairs_from}
 use Rattle.ciborium_value.specs.declared.kind.Kind.{Kind}
 use Rattle.ciborium_value.specs.declared.kind.Kind.TheVariants as kinds
 use Rattle.ciborium_value.specs.declared.tree.Value as value

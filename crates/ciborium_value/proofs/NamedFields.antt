@@ -1,11 +1,11 @@
 -- What is read of a map by the names of fields, pair by pair, from any source.
-use Rattle.std.proofs.Common.{◌≡◌, ℕ, List, [], ◌∷◌, refl, sym, ◌∙◌, ap, subst}
+use Rattle.std.proofs.Common.{◌≡◌, ℕ, List, ◌∷◌, sym, ◌∙◌, ap, subst}
 use Rattle.ciborium_ll.specs.Item.{Item}
 use Rattle.ciborium_value.specs.Ahead.{Ahead, Rest, Form, item, after, pairs, entry, inside}
 use Rattle.ciborium_value.specs.Nesting.{Limit}
 use Rattle.ciborium_value.specs.Sources.{Fault, IsFaultOf, Takes, Refuses, EntersMap, GoesOn, Leaves, RefusesNext}
 use Rattle.ciborium_value.specs.StructReadings.{FieldsTaken, take_fields, take_named, taken_fields}
-use Rattle.ciborium_value.specs.Taken.{Outcome, gives, then_take, taken_name}
+use Rattle.ciborium_value.specs.Taken.{Outcome, then_take, taken_name}
 use Rattle.ciborium_value.proofs.Sequences.{fault_then, fault_outside, Follows, so, IsBlamed, IsBefore, IsPast}
 
 module _ {S Q : Type 0} (StandsBefore : S → Limit → Ahead → Type 0) (SeqStands : Q → Limit → Rest → Type 0) {C : Type 0} (fields : FieldsTaken C) where

@@ -4,7 +4,7 @@ use Rattle.std.specs.Str.{is_utf8, IsUtf8}
 use Rattle.std.proofs.lemmas.Str.{IsUtf8-from_is_utf8, is_utf8-from_IsUtf8}
 use Rattle.ciborium_ll.specs.Item.{Item}
 use Rattle.ciborium_value.specs.Encoding.{item_of, pairs_of}
-use Rattle.ciborium_value.specs.Taken.{gives, refuses, outcome_map, taken_name, bare_name, lone_pair, taken_variant, bare_variant, untagged}
+use Rattle.ciborium_value.specs.Taken.{gives, refuses, taken_name, bare_name, lone_pair, taken_variant, bare_variant, untagged}
 use Rattle.std.specs.Borrow.{Bor}
 use Rattle.ciborium_value.specs.Ahead.{Rest, bottom, parts, pairs, entry, held, past}
 use Rattle.ciborium_value.specs.TreeSources.{value_item, IsAhead, IsDue, IsPending, pending_due}

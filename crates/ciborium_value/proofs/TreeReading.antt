@@ -1,5 +1,5 @@
 -- What a source finds at a value.
-use Rattle.std.proofs.Common.{◌≡◌, ℕ, suc, ◌+◌, ◌<◌, ◌≤◌, List, [], ◌∷◌, ◌++◌, map, length, chars, IsUtf8, encode_utf8, slice_get, Option, Some, None, Result, Ok, Err, IfOk, IfErr, OnOk, Vec, Global, refl, sym, ap, ◌∙◌, subst, arith}
+use Rattle.std.proofs.Common.{◌≡◌, ℕ, suc, ◌+◌, ◌<◌, ◌≤◌, List, [], ◌∷◌, ◌++◌, map, length, chars, IsUtf8, encode_utf8, slice_get, Option, Some, None, Result, Ok, Err, IfOk, IfErr, OnOk, Vec, Global, refl, sym, ap, ◌∙◌, arith}
 use Rattle.std.proofs.lemmas.Str.{chars_past_char, chars-nil}
 use Rattle.std.proofs.lemmas.List.{nil_from_length}
 use Rattle.std.proofs.Common.{append_assoc}

@@ -1,14 +1,9 @@
 -- A limit decides only whether reading nests too deep: what is read, or refused, does not depend on it.
-use Rattle.std.specs.Prelude.{◌≡◌, ℕ, zero, suc, Bool, true, false, List, [], ◌∷◌, map, refl, Some, None, if◌then◌else◌}
+use Rattle.std.specs.Prelude.{◌≡◌, ℕ, zero, suc, List, [], ◌∷◌, map, refl, Some, None}
 use mathlib.Core.Path.{◌∙◌, ap, sym, subst}
 use Rattle.ciborium_ll.specs.Item as items
 use Rattle.ciborium_ll.specs.Item.{Item, Items, Pairs, unsigned}
-use Rattle.ciborium_value.specs.Meaning.{folding_bytes, bignum_meaning, simple_meaning, is_bignum_tag, without_zeros}
 use Rattle.ciborium_value.specs.Nesting.{Limit}
-use Rattle.ciborium_value.specs.Tree as trees
-use Rattle.ciborium_value.specs.Tree.{Tree, Trees, TreePairs}
-use Rattle.ciborium_value.specs.declared.kind.Kind.{Kind}
-use Rattle.ciborium_value.specs.declared.kind.Kind.TheVariants as kinds
 use Rattle.ciborium_value.specs.Taken.{Outcome, gives, refuses, nests, Taken, then_take, and_take, take_each, untagged, unpack, unpack_pairs, within_level, deeper, bare_seq, taken_seq, bare_pairs, taken_pairs, outcome_map}
 
 -- an outcome within a limit is nesting, or the outcome without one

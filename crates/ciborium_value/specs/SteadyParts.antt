@@ -1,5 +1,5 @@
 -- The readings of the library's types are steady.
-use Rattle.std.specs.Prelude.{◌≡◌, ℕ, zero, suc, Bool, true, false, List, [], ◌∷◌, length, chars, refl, Option, Some, None, if◌then◌else◌, ◌==◌, nat_lt, nat_le}
+use Rattle.std.specs.Prelude.{ℕ, Bool, true, false, List, [], ◌∷◌, length, chars, refl, Option, Some, None, if◌then◌else◌, ◌==◌, nat_lt, nat_le}
 use Rattle.std.specs.declared.cmp.Ordering.{Ordering}
 use Rattle.std.specs.Int.{complement_if}
 use mathlib.Core.Path.{◌∙◌, ap, sym, subst}
@@ -8,8 +8,8 @@ use Rattle.ciborium_ll.specs.Item.{Item, Items, Pairs}
 use Rattle.ciborium_value.specs.Meaning.{big_endian, without_zeros, is_bignum_tag, folding_bytes, bignum_meaning, simple_meaning}
 use Rattle.ciborium_value.specs.Nesting.{Limit}
 use Rattle.ciborium_value.specs.Steady.{IsSameUnlessNested, IsNoNesting, IsSteady, same, same-then, no_nesting-then, same-each, no_nesting-each, same-map, no_nesting-map, same-level, steady-seq, steady-pairs}
-use Rattle.ciborium_value.specs.Taken.{Outcome, gives, refuses, nests, Taken, then_take, take_each, magnitude, bignum_of, with_sign, number_under, number_of, taken_integer, taken_byte, number_below, number_within, boolean_of, taken_boolean, bare_boolean, unit_of, bare_unit, taken_unit, lone_character, definite_character, bare_character, taken_character, bare_text, taken_text, bare_bytes, taken_bytes, untagged, unpack, is_null, is_null_simple, deeper, within_level, outcome_map, of_meaning, taken_tag, one_more, one_pair_more, taken_value, taken_items, taken_tree_pairs}
-use Rattle.ciborium_value.specs.TakenParts.{taken_then, taken_option, list_items, taken_list, take_part, tuple_part, tuple_rest, tuple1_items, taken_tuple1, tuple2_items, taken_tuple2, tuple3_items, taken_tuple3, tuple4_items, taken_tuple4, take_entry, put_all, map_entries, taken_map}
+use Rattle.ciborium_value.specs.Taken.{Outcome, gives, refuses, nests, Taken, then_take, take_each, magnitude, bignum_of, with_sign, number_of, taken_integer, taken_byte, number_below, number_within, taken_boolean, bare_boolean, bare_unit, taken_unit, lone_character, definite_character, bare_character, taken_character, bare_text, taken_text, bare_bytes, taken_bytes, untagged, unpack, is_null, is_null_simple, deeper, outcome_map, of_meaning, taken_tag, one_more, one_pair_more, taken_value, taken_items, taken_tree_pairs}
+use Rattle.ciborium_value.specs.TakenParts.{taken_then, taken_option, list_items, taken_list, tuple_part, tuple_rest, tuple1_items, taken_tuple1, tuple2_items, taken_tuple2, tuple3_items, taken_tuple3, tuple4_items, taken_tuple4, take_entry, put_all, map_entries, taken_map}
 use Rattle.ciborium_value.specs.Tree as trees
 use Rattle.ciborium_value.specs.Tree.{Tree, Trees, TreePairs}
 use Rattle.ciborium_value.specs.declared.kind.Kind.{Kind}

@@ -1,14 +1,12 @@
 -- How a type is read under a tag (RFC 8949, section 3.4), which takes a level, tag or none.
-use Rattle.std.specs.Prelude.{◌≡◌, ℕ, zero, suc, Bool, true, false, refl, Option, Some, None, if◌then◌else◌, ◌==◌}
+use Rattle.std.specs.Prelude.{ℕ, zero, suc, Option, Some, None, if◌then◌else◌, ◌==◌}
 use Rattle.std.specs.Ordering.{nat_cmp, ordering_then}
 use Rattle.std.specs.Option.{option_cmp}
-use Rattle.std.specs.declared.cmp.Ordering.{Ordering}
 use Rattle.ciborium_ll.specs.Item.{Item}
-use Rattle.ciborium_value.specs.Nesting.{Limit}
 use Rattle.ciborium_value.specs.Readings.{Reading, checked}
 use Rattle.ciborium_value.specs.Steady.{IsSteady, IsSameUnlessNested, IsNoNesting, same-map, no_nesting-map}
 use Rattle.ciborium_value.specs.SteadyParts.{no_nesting-if}
-use Rattle.ciborium_value.specs.Taken.{Outcome, Taken, gives, refuses, nests, then_take, outcome_map, within_level, deeper, outer_tag, taken_outer_tag}
+use Rattle.ciborium_value.specs.Taken.{Outcome, Taken, gives, refuses, then_take, outcome_map, within_level, deeper, outer_tag, taken_outer_tag}
 use Rattle.ciborium_value.specs.declared.kind.Kind.TheVariants as kinds
 
 -- the outermost tag, if there is one, and what is taken from the item under it

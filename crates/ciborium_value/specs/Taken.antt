@@ -1,5 +1,5 @@
 -- What the calls of a source take from an item within a limit: a value, a refusal of a kind, or nesting where no level is left.
-use Rattle.std.specs.Prelude.{◌≡◌, ℕ, zero, suc, ℤ, pos, negsuc, Bool, true, false, List, [], ◌∷◌, length, map, chars, Option, Some, None, if◌then◌else◌, ◌||◌, ◌==◌, nat_le, nat_lt}
+use Rattle.std.specs.Prelude.{ℕ, zero, suc, ℤ, pos, negsuc, Bool, true, false, List, [], ◌∷◌, length, map, chars, Option, Some, None, if◌then◌else◌, ◌||◌, ◌==◌, nat_le, nat_lt}
 use Rattle.std.specs.Int.{complement_if}
 use Rattle.std.specs.Str.{is_utf8}
 use Rattle.ciborium_ll.specs.Item as items

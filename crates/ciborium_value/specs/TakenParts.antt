@@ -1,10 +1,10 @@
 -- What types that are made of others take from an item.
-use Rattle.std.specs.Prelude.{ℕ, List, [], ◌∷◌, Option, Some, None, if◌then◌else◌}
+use Rattle.std.specs.Prelude.{List, [], ◌∷◌, Option, Some, None, if◌then◌else◌}
 use Rattle.std.specs.declared.cmp.Ordering.{Ordering}
 use Rattle.std.specs.BTreeMap.{insert_entry}
 use Rattle.ciborium_ll.specs.Item.{Item}
 use Rattle.ciborium_value.specs.Nesting.{Limit}
-use Rattle.ciborium_value.specs.Taken.{Outcome, gives, refuses, nests, Taken, then_take, take_each, outcome_map, is_null, taken_seq, taken_pairs, taken_value}
+use Rattle.ciborium_value.specs.Taken.{Outcome, gives, refuses, Taken, then_take, take_each, outcome_map, is_null, taken_value}
 use Rattle.ciborium_value.specs.Steady.{after_seq, after_pairs}
 use Rattle.ciborium_value.specs.declared.kind.Kind.TheVariants as kinds
 

@@ -1,5 +1,5 @@
 -- Where a source over a tree stands.
-use Rattle.std.specs.Prelude.{◌≡◌, ℕ, ◌+◌, List, [], ◌∷◌, map, length, Option, Some, None, Bool}
+use Rattle.std.specs.Prelude.{◌≡◌, ℕ, ◌+◌, List, map, length, Option, Some, None}
 use Rattle.std.specs.Borrow.{Bor}
 use Rattle.ciborium_ll.specs.Item.{Item, simple, unsigned}
 use Rattle.ciborium_value.specs.Ahead.{Ahead, Rest, item, after, bottom, parts, pairs, entry, held}
@@ -7,7 +7,6 @@ use Rattle.ciborium_value.specs.Counts.{node_count, payload_size, trees_node_cou
 use Rattle.ciborium_value.specs.Encoding.{item_of}
 use Rattle.ciborium_value.specs.Nesting.{Limit}
 use Rattle.ciborium_value.specs.Sources.{Fault, of_kind, of_memory}
-use Rattle.ciborium_value.specs.Tree.{Tree}
 use Rattle.ciborium_value.specs.View.{tree_of, trees_of, tree_pairs_of}
 use Rattle.ciborium_value.specs.declared.deserialized.Pending.{Pending}
 use Rattle.ciborium_value.specs.declared.deserialized.Pending.TheVariants as pending

@@ -1,7 +1,7 @@
 -- Leading zeros hold nothing.
-use Rattle.std.proofs.Common.{◌≡◌, ℕ, ◌≤◌, List, length, leb, le-leb, leb-true, cond, true, ap, ◌∙◌, subst, sym, arith, refl}
+use Rattle.std.proofs.Common.{◌≤◌, length, le-leb, cond, ap, ◌∙◌, subst, sym, arith}
 use Rattle.ciborium_value.specs.Meaning.{big_endian, without_zeros}
-use Rattle.ciborium_value.specs.Taken.{magnitude, gives, refuses}
+use Rattle.ciborium_value.specs.Taken.{gives, refuses}
 use Rattle.ciborium_value.specs.declared.kind.Kind.TheVariants as kinds
 use Rattle.ciborium_value.proofs.Bignums.{zeros_hold_nothing}
 use Rattle.ciborium_value.proofs.bignum.find_magnitude.Goals as goal

@@ -1,5 +1,5 @@
 -- The pairs of the map are ahead.
-use Rattle.std.proofs.Common.{◌≡◌, ◌≤◌, ◌+◌, Some, None, map, refl, sym, ap, ◌∙◌, subst, arith}
+use Rattle.std.proofs.Common.{◌≡◌, ◌+◌, map, sym, ap, ◌∙◌, subst, arith}
 use Rattle.ciborium_value.specs.Ahead.{counted}
 use Rattle.ciborium_value.specs.Taken.{gives, taken_pairs, untagged, deeper}
 use Rattle.ciborium_value.specs.TreeSources.{IsPending, IsDue, value_item, pair_items, weight, pending_weight, pending_due, due_weight, left_weight}

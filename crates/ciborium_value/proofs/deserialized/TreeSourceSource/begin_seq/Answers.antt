@@ -1,5 +1,5 @@
 -- The items of the array are ahead.
-use Rattle.std.proofs.Common.{◌≡◌, None, map, sym, ap, ◌∙◌, subst}
+use Rattle.std.proofs.Common.{◌≡◌, map, sym, ap, ◌∙◌, subst}
 use Rattle.ciborium_value.specs.Ahead.{counted}
 use Rattle.ciborium_value.specs.Taken.{gives, taken_seq, untagged, deeper}
 use Rattle.ciborium_value.specs.TreeSources.{IsPending, IsDue, value_item}

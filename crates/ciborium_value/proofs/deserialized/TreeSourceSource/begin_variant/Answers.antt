@@ -1,9 +1,8 @@
 -- A map of one pair is a variant, its key a name.
-use Rattle.std.proofs.Common.{◌≡◌, ◌≤◌, ◌+◌, None, refl, sym, ap, ◌∙◌, subst, arith}
-use Rattle.ciborium_value.specs.Ahead.{Rest}
+use Rattle.std.proofs.Common.{◌≡◌, ◌+◌, None, refl, sym, ap, ◌∙◌, subst, arith}
 use Rattle.ciborium_value.specs.Sources.{Refuses, IsFaultOf}
-use Rattle.ciborium_value.specs.Taken.{gives, refuses, taken_variant, taken_name, untagged, deeper, outcome_map}
-use Rattle.ciborium_value.specs.TreeSources.{IsTreeAt, IsPending, IsDue, value_item, weight, pending_weight, due_weight, pending_due, fault_of}
+use Rattle.ciborium_value.specs.Taken.{taken_variant, taken_name, untagged, deeper, outcome_map}
+use Rattle.ciborium_value.specs.TreeSources.{IsTreeAt, IsPending, IsDue, value_item, weight, pending_weight, due_weight, fault_of}
 use Rattle.ciborium_value.proofs.Progress.{exits}
 use Rattle.ciborium_value.proofs.Sequences.{fault_map}
 use Rattle.ciborium_value.specs.Counts.{tree_pairs_node_count, tree_pairs_payload_size}

@@ -1,5 +1,5 @@
 -- A container that is not empty opens.
-use Rattle.std.proofs.Common.{◌≡◌, suc, length, sym, ap, ◌∙◌, rules, arith}
+use Rattle.std.proofs.Common.{rules, arith}
 use Rattle.ciborium_value.proofs.FoldedCopies.{opens_array, opens_map}
 use Rattle.ciborium_value.proofs.deserialized.folding.begin.Goals as goal
 

@@ -1,13 +1,13 @@
 -- The walk ends where the whole is one value, or where a part does not fold.
-use Rattle.std.proofs.Common.{◌≡◌, ◌<◌, ◌+◌, List, [], ◌∷◌, ◌++◌, Some, None, MatchOption, Err, IfErr, refl, sym, ap, ◌∙◌, subst, arith}
+use Rattle.std.proofs.Common.{◌≡◌, ◌+◌, [], ◌∷◌, ◌++◌, Some, None, sym, ap, ◌∙◌, arith}
 use Rattle.ciborium_value.specs.Folded.{folded}
 use Rattle.ciborium_value.specs.FoldedCopies.{where_folded, copied, path_trees, nodes_of, coming_trees, IsBegun}
 use Rattle.ciborium_value.specs.declared.deserialized.folding.Part.TheVariants as part
 use Rattle.ciborium_value.specs.Counts.{node_count}
 use Rattle.ciborium_value.specs.Open.{more, placed, done}
-use Rattle.ciborium_value.specs.Sources.{Fault, IsFaultOf}
-use Rattle.ciborium_value.specs.Stack.{opens_of, placed_of}
-use Rattle.ciborium_value.specs.Taken.{Outcome, taken_value, refuses}
+use Rattle.ciborium_value.specs.Sources.{IsFaultOf}
+use Rattle.ciborium_value.specs.Stack.{opens_of}
+use Rattle.ciborium_value.specs.Taken.{taken_value}
 use Rattle.ciborium_value.specs.TreeSources.{fault_of, value_item}
 use Rattle.ciborium_value.specs.View.{tree_of}
 use Rattle.ciborium_value.proofs.FoldedCopies.{copied-done, refused_as, path_last, nodes-append}

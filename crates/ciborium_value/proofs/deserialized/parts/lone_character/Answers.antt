@@ -1,4 +1,4 @@
-use Rattle.std.proofs.Common.{sym, ap, ◌∙◌}
+use Rattle.std.proofs.Common.{sym, ◌∙◌}
 use Rattle.ciborium_value.proofs.TreeReading.{lone, not_lone}
 use Rattle.ciborium_value.proofs.deserialized.parts.lone_character.Goals as goal
 

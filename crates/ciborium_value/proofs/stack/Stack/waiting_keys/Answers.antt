@@ -1,4 +1,4 @@
-use Rattle.std.proofs.Common.{◌≡◌, ◌∙◌, ap, sym, map, option_map, Some, slice_get, ◌-◌, length}
+use Rattle.std.proofs.Common.{◌∙◌, ap, sym, map, option_map, slice_get, ◌-◌, length}
 use Rattle.std.specs.Option.{option_copied}
 use Rattle.ciborium_value.specs.View.{pair_trees, tree_of}
 use Rattle.ciborium_value.specs.Open as open_

@@ -1,7 +1,6 @@
 -- The source begins before the item of the value, with nothing around it.
-use Rattle.std.proofs.Common.{◌≡◌, IfOk, IfErr, Result, Ok, Err, None, [], refl}
-use Rattle.std.specs.Borrow.{GName}
-use Rattle.ciborium_value.specs.Ahead.{parts, counted, bottom}
+use Rattle.std.proofs.Common.{None, [], refl}
+use Rattle.ciborium_value.specs.Ahead.{bottom}
 use Rattle.ciborium_value.specs.TreeSources.{value_item}
 use Rattle.ciborium_value.proofs.TreeReading.{if_ok_so, if_err_so}
 use Rattle.ciborium_value.proofs.tree.Value.deserialized.Goals as goal
