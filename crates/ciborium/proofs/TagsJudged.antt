@@ -1,5 +1,5 @@
 -- What was read with its tag is looked at once more.
-use Rattle.std.proofs.Common.{◌≡◌, ◌==◌, ℕ, Bool, true, false, Option, Some, None, if◌then◌else◌, ap, ◌∙◌}
+use Rattle.std.proofs.Common.{◌≡◌, ℕ, Bool, Option, Some, None, if◌then◌else◌, ap, ◌∙◌}
 use Rattle.std.proofs.lemmas.Bool.{ne_eqb, eq-eqb}
 use Rattle.ciborium_value.specs.Sources.{Fault, of_kind, of_nesting, of_syntax, of_memory, of_device, IsFaultOf, IsGranted}
 use Rattle.ciborium_value.specs.TagReadings.{under_tag, under_no_other_tag}
