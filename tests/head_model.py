@@ -168,8 +168,16 @@ def answer_faults(data, is_first):
     return "io at %d reads, then %s" % (max(decoder.taken, 1), text)
 
 
-def answer_ahead(offset, count, data):
-    return "left %d" % (len(data) - min(count, MOST_AHEAD, GREATEST - offset, len(data)))
+def answer_ahead(offset, due, data):
+    """One read for what is due, with the first byte of a head; what the head needs beyond it is read behind it."""
+    decoder = Decoder(data, offset)
+    try:
+        decoder.pull()
+        answer = "pulled"
+    except Refusal as refusal:
+        answer = str(refusal)
+    read = max(decoder.taken, min(due, MOST_AHEAD, GREATEST - offset, len(data)))
+    return "%s left %d" % (answer, len(data) - read)
 
 
 def answer_payload(data):

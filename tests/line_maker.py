@@ -16,6 +16,8 @@ import typed_lines
 import typed_model
 
 TYPE_NAMES = tuple(typed_model.TYPES)
+# The most bytes of a line in which each read fails in turn.
+LONGEST_FAILING = 600
 WRITTEN_NAMES = TYPE_NAMES + tuple(line_model.WRITTEN)
 
 
@@ -43,8 +45,10 @@ class LineMaker(typed_lines.Maker):
         ))()
 
     def foo(self):
-        names = [self.pick(("bar", "bar", "title", "title", "number", "text", "x")) for _ in range(self.below(5))]
-        return self.tags() + self.map([(self.name(name), self.part()) for name in names])
+        return self.tags() + self.map(self.parts(self.foo_field, (0, 1, 2, 3, 4)))
+
+    def foo_field(self):
+        return self.name(self.pick(("bar", "bar", "title", "title", "number", "text", "x"))), self.part()
 
     def likely(self):
         """An item in the form of some type, its parts of any."""
@@ -52,16 +56,16 @@ class LineMaker(typed_lines.Maker):
         if form < 2:
             return self.part()
         if form == 2:
-            return self.array([self.part() for _ in range(self.below(5))])
+            return self.array(self.parts(self.part, (0, 1, 2, 3, 4)))
         if form == 3:
-            return self.map([(self.part(), self.part()) for _ in range(self.below(3))])
+            return self.map(self.parts(lambda: (self.part(), self.part()), (0, 1, 2)))
         if form == 4:
             return self.short_tags() + self.part()
         if form == 5:
             return self.foo()
         if form == 6:
             return self.map([(self.name(self.pick("AB")), self.part())])
-        return self.array([self.short_tags() + self.part() for _ in range(self.below(4))])
+        return self.array(self.parts(lambda: self.short_tags() + self.part(), (0, 1, 2, 3)))
 
     def spelling(self):
         form = self.random.random()
@@ -94,17 +98,21 @@ class LineMaker(typed_lines.Maker):
 
     def line(self):
         self.oddness = self.pick((0, 0.1, 0.3, 0.6))
+        self.length = self.pick((0, 0, 0, 0, 0.1))
         form = self.random.random()
         if form < 0.4:
             return "%s %d %s" % (self.pick(TYPE_NAMES), self.limit(), self.spelling().hex())
         if form < 0.5:
-            return "faults %s %d %s" % (self.pick(TYPE_NAMES), self.limit(), self.spelling().hex())
+            return "faults %s %d %s" % (self.pick(TYPE_NAMES), self.limit(), self.spelling()[:LONGEST_FAILING].hex())
         if form < 0.7:
-            word = "det" if self.chance(0.8) else "det-faults"
-            return "%s %d %s" % (word, self.limit(), self.strict().hex())
+            if self.chance(0.8):
+                return "det %d %s" % (self.limit(), self.strict().hex())
+            return "det-faults %d %s" % (self.limit(), self.strict()[:LONGEST_FAILING].hex())
         if form < 0.8:
             items = b"".join(self.spelling() for _ in range(self.below(4)))
-            return "%s %s %s" % (self.pick(("next", "next-faults")), self.pick(TYPE_NAMES), items.hex())
+            if self.chance(0.5):
+                return "next %s %s" % (self.pick(TYPE_NAMES), items.hex())
+            return "next-faults %s %s" % (self.pick(TYPE_NAMES), items[:LONGEST_FAILING].hex())
         if form < 0.9:
             return "write %s %s" % (self.pick(WRITTEN_NAMES), self.spelling().hex())
         return "sort %s" % self.sorted_items()

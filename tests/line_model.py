@@ -5,7 +5,7 @@ are read by `typed_model`; here stand the other forms of lines.
     python3 line_model.py answer < LINES    prints `LINE = ANSWER` of each line, or the line where it is not answered
     python3 line_model.py stored FILE       compares the lines of FILE, each `LINE = ANSWER`, with the model's answers
 
-Not answered are how many writes a value takes, how many nodes a comparison visits, and calls that fail in turn where
+Not answered are how many reads and writes a value takes, how many nodes a comparison visits, and calls that fail in turn where
 they are refused anyway.
 """
 
@@ -194,6 +194,17 @@ def answer_next_on(rest):
     return answer_next(rest, True)
 
 
+def answer_next_rows(rest):
+    """What one row gives, where so many of them in a row give that each time."""
+    count, name, digits = split(rest, 3)
+    a_type, data = find_type(name), parse_pieces(digits)
+    row = read_sequence(a_type, data, False)[0]
+    rows = read_sequence(a_type, data * parse_limit(count), False)[0]
+    if row[-1] != "end" or rows != row[:-1] * parse_limit(count) + ["end"]:
+        return "; ".join(rows)
+    return "%s times %s" % (count, "; ".join(row))
+
+
 def answer_next_faults(rest):
     """At each read the items are answered that ended before it; one read more finds the end."""
     name, digits = split(rest, 2)
@@ -360,6 +371,15 @@ def answer_at(rest):
     raise Unanswered
 
 
+def answer_asked(rest):
+    """How often a reader is asked is not modelled."""
+    name, limit, digits = split(rest, 3)
+    find_type(name)
+    parse_limit(limit)
+    parse_pieces(digits)
+    raise Unanswered
+
+
 def answer_head_faults(rest, is_first=False):
     answer = heads.answer_faults(parse_pieces(rest), is_first)
     if answer is None:
@@ -387,6 +407,7 @@ FORMS = {
     "next": answer_next,
     "next-on": answer_next_on,
     "next-faults": answer_next_faults,
+    "next-rows": answer_next_rows,
     "sort": answer_sort,
     "visits": not_answered,
     "head": at_offset(heads.answer_head),
@@ -400,6 +421,7 @@ FORMS = {
     "canonical": answer_canonical,
     "growth": answer_growth,
     "at": answer_at,
+    "asked": answer_asked,
 }
 
 

@@ -38,6 +38,7 @@ WORDS = (
     "versions", "circle", "aaaaaaaaaaaaaaaaaaaaaaaa", "\0", "\u00e9\u00e8", "ab\u00fc\u6c34",
 )
 NOT_UTF8 = (b"\xff", b"\xc3", b"\xc3\x28", b"\xed\xa0\x80", b"\xc0\x80", b"a\xe6\xb0", b"\xf4\x90\x80\x80", b"\x80")
+MANY = (8, 9, 23, 24, 25, 255, 256, 257, 300)
 SIMPLE = (b"\xf4", b"\xf5", b"\xf6", b"\xf7")
 NO_MEANING = (
     b"\xf9\x3c\x00", b"\xfa\x3f\x80\x00\x00", b"\xfb\x3f\xf0\x00\x00\x00\x00\x00\x00", b"\xe0", b"\xf3", b"\xf8\x20",
@@ -79,6 +80,8 @@ class Maker:
         self.random = random.Random(seed)
         # How often a spelling leaves the shortest definite one; drawn anew for each line.
         self.oddness = 0.3
+        # How often a container has many parts; drawn anew for each line.
+        self.length = 0
 
     def chance(self, part):
         return self.random.random() < part
@@ -91,6 +94,23 @@ class Maker:
 
     def below(self, bound):
         return int(self.random.random() * bound)
+
+    def many(self):
+        """A number of parts of a long container."""
+        return self.pick(MANY) if self.chance(0.6) else 8 + self.below(293)
+
+    def parts(self, make, counts):
+        """The parts of a container: one of these numbers of them, or seldom many. Those are drawn from a few, at times
+        with one more among them, and no container inside them is long."""
+        if not self.chance(self.length):
+            return [make() for _ in range(self.pick(counts))]
+        length, self.length = self.length, 0
+        drawn = [make() for _ in range(self.pick((1, 2, 3, 5)))]
+        parts = [self.pick(drawn) for _ in range(self.many())]
+        if self.chance(0.4):
+            parts[self.below(len(parts))] = make()
+        self.length = length
+        return parts
 
     # Heads and scalars
 
@@ -240,9 +260,8 @@ class Maker:
         if form == 0:
             return self.head(TAG, self.pick(TAGS)) + self.item(depth - 1)
         if form == 1:
-            pairs = [(self.item(depth - 1), self.item(depth - 1)) for _ in range(self.below(3))]
-            return self.map(pairs)
-        return self.array([self.item(depth - 1) for _ in range(self.below(4))])
+            return self.map(self.parts(lambda: (self.item(depth - 1), self.item(depth - 1)), (0, 1, 2)))
+        return self.array(self.parts(lambda: self.item(depth - 1), (0, 1, 2, 3)))
 
     def stray(self):
         """What does not fit: any small item, or something that no item begins with."""
@@ -260,7 +279,7 @@ class Maker:
         return self.tags() + self.byte_string(content)
 
     def numbers_item(self):
-        return self.tags() + self.array([self.small() for _ in range(self.pick((0, 1, 2, 3, 3, 4)))])
+        return self.tags() + self.array(self.parts(self.small, (0, 1, 2, 3, 3, 4)))
 
     def byte_buffer_item(self):
         return self.bytes_item() if self.chance(0.5) else self.numbers_item()
@@ -275,18 +294,18 @@ class Maker:
         if self.chance(0.08):
             parts = parts[:self.below(2)]
         elif self.chance(0.35):
-            parts += [self.item(self.below(3)) for _ in range(self.pick((1, 1, 2, 3)))]
+            parts += self.parts(lambda: self.item(self.below(3)), (1, 1, 2, 3))
         return self.tags() + self.array(parts)
 
     def dictionary_item(self):
-        pairs = []
-        for _ in range(self.pick((0, 1, 2, 2, 3, 4))):
-            if self.chance(0.05):
-                key = self.name(self.pick(WORDS))
-            else:
-                key = self.tags() + self.text(self.pick(WORDS[:8]))
-            pairs.append((key, self.small()))
-        return self.tags() + self.map(pairs)
+        return self.tags() + self.map(self.parts(self.entry, (0, 1, 2, 2, 3, 4)))
+
+    def entry(self):
+        if self.chance(0.05):
+            key = self.name(self.pick(WORDS))
+        else:
+            key = self.tags() + self.text(self.pick(WORDS[:8]))
+        return key, self.small()
 
     def figure_item(self):
         variant = self.pick(("Point", "Point", "Circle", "Circle", "Circle", "Square", ""))
@@ -309,19 +328,22 @@ class Maker:
         fields = ["version", "body"]
         if self.chance(0.15):
             fields.pop(self.below(2))
-        for _ in range(self.pick((0, 0, 0, 1, 1, 2))):
-            fields.append(self.pick(("version", "body", "x", "", "bodies", "\u00fc", "x", "x")))
-        self.random.shuffle(fields)
-        pairs = []
-        for field in fields:
-            if field == "version":
-                content = self.small()
-            elif field == "body":
-                content = self.word()
-            else:
-                content = self.stray() if self.chance(0.2) else self.item(self.below(3))
-            pairs.append((self.name(field), content))
+        pairs = [self.field(name) for name in fields]
+        pairs += self.parts(self.other_field, (0, 0, 0, 1, 1, 2))
+        self.random.shuffle(pairs)
         return self.tags() + self.map(pairs)
+
+    def other_field(self):
+        return self.field(self.pick(("version", "body", "x", "", "bodies", "\u00fc", "x", "x")))
+
+    def field(self, name):
+        if name == "version":
+            content = self.small()
+        elif name == "body":
+            content = self.word()
+        else:
+            content = self.stray() if self.chance(0.2) else self.item(self.below(3))
+        return self.name(name), content
 
     def captured_item(self):
         return self.tags() + self.item(self.pick((0, 1, 2, 3, 4)))
@@ -479,6 +501,7 @@ class Maker:
 
     def line(self):
         self.oddness = self.pick((0, 0.1, 0.3, 0.6))
+        self.length = self.pick((0, 0, 0, 0.4))
         type_name = self.pick(TYPE_NAMES)
         form = self.random.random()
         limit = self.limit()

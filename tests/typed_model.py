@@ -823,6 +823,17 @@ def struct_of(fields):
     return Type(read, write)
 
 
+def read_few(source):
+    """At most five numbers; a sixth item is refused before it is read."""
+    sequence = source.begin_seq()
+    numbers = []
+    while source.next(sequence):
+        if len(numbers) == 5:
+            raise source.refuse("length")
+        numbers.append(U8.read(source))
+    return numbers
+
+
 def read_span(source):
     """Two numbers that do not fall."""
     span = PAIR.read(source)
@@ -894,6 +905,9 @@ TYPES = {
     "Option<Value>": option_of(VALUE),
     "Option<Option<u8>>": option_of(option_of(U8)),
     "Vec<u8>": list_of(U8),
+    "Vec<u64>": list_of(unsigned(64)),
+    "Vec<i128>": list_of(signed(128)),
+    "Vec<String>": list_of(STRING),
     "Vec<(u8,u8)>": list_of(PAIR),
     "Vec<Value>": list_of(VALUE),
     "Vec<Option<bool>>": list_of(option_of(BOOL)),
@@ -902,6 +916,7 @@ TYPES = {
     "BTreeMap<u8,Vec<Option<i16>>>": map_of(U8, list_of(option_of(signed(16)))),
     "BTreeMap<u8,u8>": map_of(U8, U8),
     "BTreeMap<i8,u8>": map_of(signed(8), U8),
+    "BTreeMap<u64,String>": map_of(unsigned(64), STRING),
     "BTreeMap<String,u8>": map_of(STRING, U8),
     "BTreeMap<Value,u8>": map_of(VALUE, U8),
     "BTreeMap<CanonicalValue,u8>": map_of(CANONICAL_VALUE, U8),
@@ -923,6 +938,7 @@ TYPES = {
     "Required<bool,6>": required(6, BOOL),
     "Required<String,6>": required(6, STRING),
     "Accepted<bool,6>": accepted(6, BOOL),
+    "Few": Type(read_few, list_of(U8).write),
     "Figure": FIGURE,
     "Letter": LETTER,
     "Vec<Letter>": list_of(LETTER),

@@ -9,7 +9,7 @@ use Rattle.ciborium_ll.specs.Head.{IsHead}
 use Rattle.ciborium_ll.specs.Header.{SpellsHeader}
 use Rattle.ciborium_ll.specs.Item as item
 use Rattle.ciborium_ll.specs.Refusal.{Refusal, semantic, TooLarge, recursion_limit_exceeded, HeadRefuses, IsUsable, HasHead}
-use Rattle.ciborium_ll.proofs.HeldBytes.{unread-left}
+use Rattle.ciborium_ll.proofs.HeldBytes.{unread-left, unread-count}
 use Rattle.ciborium_ll.proofs.OneHeader.{one_header_at_front}
 use Rattle.ciborium_value.specs.declared.tree.Value.{Value}
 use Rattle.ciborium_value.specs.declared.stack.Opening.TheVariants as opening
@@ -72,7 +72,7 @@ tag-opened E remaining d e f t l at xs p k pushed pull other some here stays bac
     let place : at ≡ r = here ∙ offset-at remaining d r a.1 ahead in
     let less : l ≡ suc (l - 1) = omega (arith, some) in
     let tag : IsInTag xs p t a.1 r = record { size = length a.0; usable = a.3; head = stands remaining d t xs p a; next_usable = b.3; folds_not = folds-not t k b.0 a.1 b.1 other b.2 b.4; at = refl } in
-    let is : IsAheadBy remaining f a.1 r (Some (k, at)) = (place, b.0, b.1, b.2, b.3, b.4, (stays.2 ∙ b.6.0), (unread-left remaining e f stays ∙ b.6.1)) in
+    let is : IsAheadBy remaining f a.1 r (Some (k, at)) = (place, b.0, b.1, b.2, b.3, b.4, (unread-count e f stays ∙ b.6.0), (unread-left remaining e f stays ∙ b.6.1)) in
     (a.1, r, (l - 1, less, tag), subst (λ o. IsAheadBy remaining f a.1 r o) (sym back) is)
 
 -- ---- a tag that folds

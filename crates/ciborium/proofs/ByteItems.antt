@@ -6,7 +6,7 @@ use Rattle.ciborium_ll.specs.Item as items
 use Rattle.ciborium_ll.specs.Item.{Item, unsigned, negative, bytes, text, array, tag, simple, float}
 use Rattle.ciborium_ll.specs.StringRefusal.{of_bytes as string_of_bytes}
 use Rattle.ciborium_ll.proofs.UniqueSpelling.{one_at_front}
-use Rattle.ciborium_ll.specs.Decoding.{HasSameReader, held_count}
+use Rattle.ciborium_ll.specs.Decoding.{HasSameReader, allowed_of}
 use Rattle.ciborium_ll.proofs.HeldBytes.{same-name}
 use Rattle.ciborium.proofs.Due.{due-past, held-past}
 use Rattle.ciborium_value.specs.Ahead.{Rest, Form, after, parts, past, inside}
@@ -37,7 +37,7 @@ module _ {S : Type 0} (remaining : S → Option (List ℕ)) where
       let (j, t, z, sq, e', give, un) = h b u in
       let same = one_at_front s t r z i j sp sq (sym e ∙ e') in (
         ap (λ k. taken k i) is ∙ ap (taken (Some old.levels)) same.2 ∙ give,
-        (z, un, subst (λ n. Fits n z (past f)) (sym (same-name old.decoder new.decoder kept)) (fits-past old.decoder.reader.ghost_name z f (subst (λ y. IsRest old.decoder.reader.ghost_name y f) same.1 rest)), is ∙ ap Some (sym levels), none-past new.pending none f, subst (λ n. held_count new.decoder + pending_count new.pending ≤ n) (sym (due-past f)) (held-past old new kept (due_after f) none fewer few)),
+        (z, un, subst (λ n. Fits n z (past f)) (sym (same-name old.decoder new.decoder kept)) (fits-past old.decoder.reader.ghost_name z f (subst (λ y. IsRest old.decoder.reader.ghost_name y f) same.1 rest)), is ∙ ap Some (sym levels), none-past new.pending none f, subst (λ n. allowed_of new.decoder + pending_count new.pending ≤ n) (sym (due-past f)) (held-past old new kept (due_after f) none fewer few)),
       )
 
   pub refuses-denied : {A : Type 0} (old : ByteSource S) (taken : Taken A) (fault : Fault) → Denies (IsUnread remaining) old (Some old.levels) taken fault → Refuses (StandsBefore remaining) old taken fault

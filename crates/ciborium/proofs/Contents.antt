@@ -107,12 +107,12 @@ string-fault kind remaining d e l len xs p h x is read a =
 
 -- a string that was appended to an empty one
 pub string-read : (E : Type 0) {S : Type 0} (kind : StringKind) (remaining : S → Option (List ℕ)) (d e : Decoder S) (len : Option ℕ) (xs : List ℕ) (p : ℕ) (old new : List ℕ) (v : Value) → old ≡ [] → tree_of v ≡ string_tree kind new →
-    Takes remaining d e (λ b. (added : List ℕ) × (new ≡ old ++ added) × IsStringTaken {E = E} kind len d.last b d.count (Ok tt) added) → IsAt remaining d xs p →
+    Takes remaining d e (λ b. (added : List ℕ) × (new ≡ old ++ added) × IsStringTaken {E = E} kind len d.last b d.window.count (Ok tt) added) → IsAt remaining d xs p →
     IsStringRead {S = S} {E = E} kind remaining e len d.last xs p (Ok v)
 string-read E kind remaining d e len xs p old new v none tree (x, taken, count, (added, is, s), bytes) at =
     let k = rest-of (left_of remaining d) (left_of remaining e) xs x at.1 taken in
-    let less = e.fits in
-    let start : d.count ≡ p = at.0 in (
+    let less = e.window.fits in
+    let start : d.window.count ≡ p = at.0 in (
       x,
       added,
       k.0,

@@ -1,10 +1,9 @@
--- No more bytes are read ahead than there are items due.
+-- No more bytes may be read ahead than there are items due.
 use Rattle.std.proofs.Common.{◌≡◌, ℕ, ◌+◌, ◌*◌, ◌<◌, ◌≤◌, Option, Some, None, Result, Ok, Err, IfOk, OnOk, refl, sym, ap, subst, arith}
 use Rattle.ciborium_ll.specs.declared.header.Header.{Header}
 use Rattle.ciborium_ll.specs.declared.header.Header.TheVariants as header
-use Rattle.ciborium_ll.specs.declared.lookahead.Lookahead.{Lookahead}
-use Rattle.ciborium_ll.specs.Decoding.{HasSameReader, held_count}
-use Rattle.ciborium_ll.proofs.HeldBytes.{same-held}
+use Rattle.ciborium_ll.specs.Decoding.{HasSameReader, allowed_of}
+use Rattle.ciborium_ll.proofs.HeldBytes.{same-reach}
 use Rattle.ciborium.specs.Unread.{form_of}
 use Rattle.ciborium_value.specs.Ahead.{Rest, bottom, parts, pairs, entry, held, past, Form, counted, until_break, of_bytes}
 use Rattle.ciborium.specs.declared.de.byte_source.ByteSource.{ByteSource}
@@ -36,58 +35,58 @@ pending-bounds None = (omega arith, omega arith, omega arith)
 pending-bounds (Some h) = let (low, high) = weight-bounds h.0 in (omega (arith, high), omega arith, omega (arith, low))
 
 module _ {S : Type 0} (old new : ByteSource S) (same : HasSameReader old.decoder new.decoder) where
-  same-end : new.decoder.lookahead.end ≡ old.decoder.lookahead.end
-  same-end = ap (λ (a : Lookahead). a.end) (same-held old.decoder new.decoder same)
+  further : new.decoder.window.reach ≡ old.decoder.window.reach
+  further = same-reach old.decoder new.decoder same
 
   -- an item was read
-  pub held-past : (n : ℕ) → new.pending ≡ None → weight_left new < weight_left old → held_count old.decoder + pending_count old.pending ≤ 1 + n → held_count new.decoder + pending_count new.pending ≤ n
+  pub held-past : (n : ℕ) → new.pending ≡ None → weight_left new < weight_left old → allowed_of old.decoder + pending_count old.pending ≤ 1 + n → allowed_of new.decoder + pending_count new.pending ≤ n
   held-past n none fewer few =
       let (weighs, one, least) = pending-bounds old.pending in
-      let low = old.decoder.fits in
-      let high = new.decoder.fits in
+      let low = old.decoder.window.fits in
+      let high = new.decoder.window.fits in
       let no-weight : pending_weight new.pending ≡ 0 = ap pending_weight none in
       let no-head : pending_count new.pending ≡ 0 = ap pending_count none in
-      let end = same-end in
-      omega (arith, fewer, few, weighs, one, low, high, no-weight, no-head, end)
+      let reach = further in
+      omega (arith, fewer, few, weighs, one, low, high, no-weight, no-head, reach)
 
   -- a head was taken, and none is pending
-  pub held-head : (n : ℕ) (h : Header) → new.pending ≡ None → bytes_weight new + weight h ≤ weight_left old → held_count old.decoder + pending_count old.pending ≤ n → held_count new.decoder + pending_count new.pending ≤ n
+  pub held-head : (n : ℕ) (h : Header) → new.pending ≡ None → bytes_weight new + weight h ≤ weight_left old → allowed_of old.decoder + pending_count old.pending ≤ n → allowed_of new.decoder + pending_count new.pending ≤ n
   held-head n h none fewer few =
       let (weighs, one, least) = pending-bounds old.pending in
       let (some, two) = weight-bounds h in
-      let low = old.decoder.fits in
-      let high = new.decoder.fits in
+      let low = old.decoder.window.fits in
+      let high = new.decoder.window.fits in
       let no-head : pending_count new.pending ≡ 0 = ap pending_count none in
-      let end = same-end in
-      omega (arith, fewer, few, weighs, one, some, two, low, high, no-head, end)
+      let reach = further in
+      omega (arith, fewer, few, weighs, one, some, two, low, high, no-head, reach)
 
   -- a head was taken, and is pending
-  pub held-pending : (n : ℕ) (h : Header) → bytes_weight new + weight h ≤ weight_left old → held_count old.decoder + pending_count old.pending ≤ 1 + n → held_count new.decoder + pending_count new.pending ≤ 1 + n
+  pub held-pending : (n : ℕ) (h : Header) → bytes_weight new + weight h ≤ weight_left old → allowed_of old.decoder + pending_count old.pending ≤ 1 + n → allowed_of new.decoder + pending_count new.pending ≤ 1 + n
   held-pending n h fewer few =
       let (weighs, one, least) = pending-bounds old.pending in
       let (none, also, most) = pending-bounds new.pending in
       let (some, two) = weight-bounds h in
-      let low = old.decoder.fits in
-      let high = new.decoder.fits in
-      let end = same-end in
-      omega (arith, fewer, few, weighs, one, some, two, low, high, also, end)
+      let low = old.decoder.window.fits in
+      let high = new.decoder.window.fits in
+      let reach = further in
+      omega (arith, fewer, few, weighs, one, some, two, low, high, also, reach)
 
   -- a level was taken, with a head or before one that is pending
-  pub held-level : (n : ℕ) → weight_left new ≤ weight_left old → held_count old.decoder + pending_count old.pending ≤ 1 + n → held_count new.decoder + pending_count new.pending ≤ 1 + n
+  pub held-level : (n : ℕ) → weight_left new ≤ weight_left old → allowed_of old.decoder + pending_count old.pending ≤ 1 + n → allowed_of new.decoder + pending_count new.pending ≤ 1 + n
   held-level n fewer few =
       let (weighs, one, least) = pending-bounds old.pending in
       let (none, also, most) = pending-bounds new.pending in
-      let low = old.decoder.fits in
-      let high = new.decoder.fits in
-      let end = same-end in
-      omega (arith, fewer, few, weighs, one, also, most, low, high, end)
+      let low = old.decoder.window.fits in
+      let high = new.decoder.window.fits in
+      let reach = further in
+      omega (arith, fewer, few, weighs, one, also, most, low, high, reach)
 
   -- no byte was read, and as many heads are pending
-  pub held-same : (n : ℕ) → new.decoder.count ≡ old.decoder.count → new.pending ≡ old.pending → held_count old.decoder + pending_count old.pending ≤ n → held_count new.decoder + pending_count new.pending ≤ n
+  pub held-same : (n : ℕ) → new.decoder.window.count ≡ old.decoder.window.count → new.pending ≡ old.pending → allowed_of old.decoder + pending_count old.pending ≤ n → allowed_of new.decoder + pending_count new.pending ≤ n
   held-same n count pending few =
       let heads : pending_count new.pending ≡ pending_count old.pending = ap pending_count pending in
-      let end = same-end in
-      omega (arith, few, count, heads, end)
+      let reach = further in
+      omega (arith, few, count, heads, reach)
 
 pub on-both : {T E : Type 0} (A B : Type 0) (r : Result T E) → OnOk r A → OnOk r B → OnOk r (A × B)
 on-both A B (Ok v) a b = (a, b)
@@ -97,7 +96,7 @@ on-both A B (Err e) a b = tt
 pub entered-fewer : {S : Type 0} (old mid new : ByteSource S) (h : Header) → new.decoder ≡ mid.decoder → new.pending ≡ None → bytes_weight mid + weight h ≤ weight_left old → weight_left new < weight_left old
 entered-fewer old mid new h same none fewer =
     let (some, two) = weight-bounds h in
-    let count = ap (λ d. d.count) same in
+    let count = ap (λ d. d.window.count) same in
     let no-weight : pending_weight new.pending ≡ 0 = ap pending_weight none in
     omega (arith, fewer, some, count, no-weight)
 
@@ -120,9 +119,9 @@ pub due-none : (form : Form) (n : ℕ) → form ≡ of_bytes → due_parts form 
 due-none form n is = ap (λ o. due_parts o n) is
 
 -- a byte that is not in the bytes is ahead
-pub held-byte : {S : Type 0} (old new : ByteSource S) (n : ℕ) → new.decoder ≡ old.decoder → pending_count old.pending ≡ 0 → pending_count new.pending ≡ 1 → held_count old.decoder + pending_count old.pending ≤ n →
-    held_count new.decoder + pending_count new.pending ≤ 1 + n
-held-byte old new n same none one few = let held = ap held_count same in omega (arith, held, none, one, few)
+pub held-byte : {S : Type 0} (old new : ByteSource S) (n : ℕ) → new.decoder ≡ old.decoder → pending_count old.pending ≡ 0 → pending_count new.pending ≡ 1 → allowed_of old.decoder + pending_count old.pending ≤ n →
+    allowed_of new.decoder + pending_count new.pending ≤ 1 + n
+held-byte old new n same none one few = let held = ap allowed_of same in omega (arith, held, none, one, few)
 
 pub with-ok : {T E : Type 0} (A : Type 0) (P : T → Type 0) (r : Result T E) → OnOk r A → IfOk r P → IfOk r (λ v. A × P v)
 with-ok A P (Ok v) a p = (a, p)

@@ -65,8 +65,8 @@ head-outside left ll.Memory b x y p h s k r = tt
 
 -- ---- heads that are counted
 
-pub ahead-unpushed : {S : Type 0} (remaining : S → Option (List ℕ)) (d : Decoder S) (b : List ℕ) → d.pushed ≡ None → left_of remaining d ≡ Some b → IsAhead remaining d b d.count
-ahead-unpushed remaining d b none e = subst (λ o. IsAheadBy remaining d b d.count o) (sym none) (refl, e)
+pub ahead-unpushed : {S : Type 0} (remaining : S → Option (List ℕ)) (d : Decoder S) (b : List ℕ) → d.pushed ≡ None → left_of remaining d ≡ Some b → IsAhead remaining d b d.window.count
+ahead-unpushed remaining d b none e = subst (λ o. IsAheadBy remaining d b d.window.count o) (sym none) (refl, e)
 
 -- the head that was pending is counted as it was
 pub counted-pending : {S : Type 0} (remaining : S → Option (List ℕ)) (d : Decoder S) (pending : Option (Header × ℕ)) (h : Header × ℕ) (b x y : List ℕ) → pending ≡ Some h → IsUnreadBy remaining d pending b → SpellsHeader x h.0 → b ≡ x ++ y → IsHeadCounted d h b x
@@ -77,7 +77,7 @@ counted-pending remaining d pending h b x y is u hd e fixed =
     (w.0, w.1 ∙ ap (λ (k : List ℕ). h.1 + length k) one.0)
 
 -- the head that was pulled is counted
-pub counted-pulled : (E : Type 0) {S : Type 0} (left : Option (List ℕ)) (d : Decoder S) (h : Header) (p at last : ℕ) (b x y : List ℕ) → at ≡ p → PullsTo {E = E} last d.count left b p (Ok h) → SpellsHeader x h → b ≡ x ++ y → IsHeadCounted d (h, at) b x
+pub counted-pulled : (E : Type 0) {S : Type 0} (left : Option (List ℕ)) (d : Decoder S) (h : Header) (p at last : ℕ) (b x y : List ℕ) → at ≡ p → PullsTo {E = E} last d.window.count left b p (Ok h) → SpellsHeader x h → b ≡ x ++ y → IsHeadCounted d (h, at) b x
 counted-pulled E left d h p at last b x y is (z, r, hd', usable, e', stood, counted, rest) hd e fixed =
     let one = one_header_at_front z x r y h h hd' hd (sym e' ∙ e) in
     (subst (IsUsable b) (sym is) usable, counted ∙ ap (λ (k : List ℕ). p + length k) one.0 ∙ ap (λ n. n + length x) (sym is))
@@ -103,10 +103,10 @@ head-some b h s = by (header-begins b h s)
     by (m, a, c, e, f) = let len : length b ≡ suc (length c) = ap length e in omega (arith, len)
 
 pub fewer-bytes : (E : Type 0) {S : Type 0} (remaining : S → Option (List ℕ)) (d e : Decoder S) (h : Header) →
-    Takes remaining d e (λ x. IsHeadTaken {E = E} x d.count (Ok h)) → 3 * (greatest_offset - e.count) + weight h ≤ 3 * (greatest_offset - d.count)
+    Takes remaining d e (λ x. IsHeadTaken {E = E} x d.window.count (Ok h)) → 3 * (greatest_offset - e.window.count) + weight h ≤ 3 * (greatest_offset - d.window.count)
 fewer-bytes E remaining d e h (b, t, count, u, bytes) =
     let some = head-some b h u.answers.0 in
-    let fits = header-fits {E = E} b d.count h u in
+    let fits = header-fits {E = E} b d.window.count h u in
     let w = weight-most h in
     omega (arith, some, fits, count, w)
 

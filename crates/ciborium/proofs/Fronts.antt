@@ -86,7 +86,7 @@ ahead-at remaining d p xs e a = subst (λ o. IsAheadBy remaining d xs p o) (sym 
 pub offset-at : {S : Type 0} (remaining : S → Option (List ℕ)) (d : Decoder S) (p : ℕ) (xs : List ℕ) → IsAhead remaining d xs p → offset_of d ≡ p
 offset-at {S} remaining d p xs = by d.pushed
   where
-    by : (o : Option (Header × ℕ)) → IsAheadBy remaining d xs p o → next_offset d.count o ≡ p
+    by : (o : Option (Header × ℕ)) → IsAheadBy remaining d xs p o → next_offset d.window.count o ≡ p
     by None s = s.0
     by (Some k) s = s.0
 

@@ -2,7 +2,7 @@
 use Rattle.std.proofs.Common.{◌≡◌, ℕ, ◌+◌, ◌≤◌, List, [], ◌++◌, Option, Some, None, Result, Ok, Err, IfOk, IfErr, IfSome, refl, sym, ap, ◌∙◌, subst, append-nil, arith}
 use Rattle.std.specs.Io.KnownBytes.{Consumes}
 use Rattle.ciborium_ll.specs.declared.decoder.Decoder.{Decoder}
-use Rattle.ciborium_ll.specs.Decoding.{HasBegun, IsAheadBy, with_left, left_of, held_count}
+use Rattle.ciborium_ll.specs.Decoding.{HasBegun, IsAheadBy, with_left, left_of, allowed_of}
 use Rattle.ciborium_ll.proofs.HeldBytes.{begun-left, begun-rest, counted-left, same-name}
 use Rattle.ciborium_value.specs.Ahead.{bottom}
 use Rattle.ciborium_value.specs.Readings.{Reading}
@@ -18,7 +18,7 @@ use Rattle.ciborium.specs.NextItems.{IsReadFrom}
 use Rattle.ciborium.specs.TypedReads.{IsFaultAhead, TakesGiving}
 use Rattle.ciborium.proofs.Outcomes.{left-at}
 
-module _ {S A : Type 0} (remaining : S → Option (List ℕ)) (old : ByteSource S) (taken : Taken A) (b : List ℕ) (front : IsUnread remaining old b) (few : held_count old.decoder + pending_count old.pending ≤ 1) where
+module _ {S A : Type 0} (remaining : S → Option (List ℕ)) (old : ByteSource S) (taken : Taken A) (b : List ℕ) (front : IsUnread remaining old b) (few : allowed_of old.decoder + pending_count old.pending ≤ 1) where
   -- just the item at the front was taken, and the reader that was lent has what follows it
   pub handed-ok : (new : ByteSource S) (v : A) (x : S) → (old.decoder.reader.ghost_name ≡ new.decoder.reader.ghost_name → x ≡ new.decoder.reader.now) → TakesItem (IsUnread remaining) old new → Takes (StandsBefore remaining) old new taken v →
       TakesGiving (Some old.levels) taken b v (remaining x)
@@ -32,12 +32,12 @@ module _ {S A : Type 0} (remaining : S → Option (List ℕ)) (old : ByteSource 
   handed-refused fault h i s z sp e = h (Some old.levels) i (bottom old.decoder.reader.ghost_name z) (b, front, (s, z, sp, (refl, refl), e), refl, tt, omega (arith, few))
 
 -- the same, of what was read from the source
-pub handed-given : {S T A : Type 0} (E : Type 0) (remaining : S → Option (List ℕ)) (reading : Reading T A) (old new : ByteSource S) (b : List ℕ) → IsUnread remaining old b → held_count old.decoder + pending_count old.pending ≤ 1 → (x : S) → (old.decoder.reader.ghost_name ≡ new.decoder.reader.ghost_name → x ≡ new.decoder.reader.now) →
+pub handed-given : {S T A : Type 0} (E : Type 0) (remaining : S → Option (List ℕ)) (reading : Reading T A) (old new : ByteSource S) (b : List ℕ) → IsUnread remaining old b → allowed_of old.decoder + pending_count old.pending ≤ 1 → (x : S) → (old.decoder.reader.ghost_name ≡ new.decoder.reader.ghost_name → x ≡ new.decoder.reader.now) →
     (r : Result T (Error E)) → IsReadFrom {E = E} remaining reading old new r → IfOk (read_as reading.content r) (λ v. TakesGiving (Some old.levels) reading.taken b v (remaining x))
 handed-given E remaining reading old new b front few x back (Ok v) h = handed-ok remaining old reading.taken b front few new (reading.content v) x back h.took h.ok
 handed-given E remaining reading old new b front few x back (Err e) h = tt
 
-pub handed-denied : {S T A : Type 0} (E : Type 0) (remaining : S → Option (List ℕ)) (reading : Reading T A) (old new : ByteSource S) (b : List ℕ) → IsUnread remaining old b → held_count old.decoder + pending_count old.pending ≤ 1 →
+pub handed-denied : {S T A : Type 0} (E : Type 0) (remaining : S → Option (List ℕ)) (reading : Reading T A) (old new : ByteSource S) (b : List ℕ) → IsUnread remaining old b → allowed_of old.decoder + pending_count old.pending ≤ 1 →
     (r : Result T (Error E)) → IsReadFrom {E = E} remaining reading old new r → IfErr (read_as reading.content r) (λ e. IsFaultAhead (Some old.levels) reading.taken b (cause_of e))
 handed-denied E remaining reading old new b front few (Ok v) h = tt
 handed-denied E remaining reading old new b front few (Err e) h = handed-refused remaining old reading.taken b front few (cause_of e) h.refused
@@ -60,8 +60,8 @@ pub handed-from : (E : Type 0) {S : Type 0} (remaining : S → Option (List ℕ)
     TakesBytesFrom {E = E} p (remaining lent) old.levels (remaining x) r
 handed-from E {S} remaining old new lent x p r begins none back reads =
     let (s, taken, count, h, bytes) = reads.1 in
-    let begun : old.decoder.count ≡ p = begins.count in
-    let less = new.decoder.fits in
+    let begun : old.decoder.window.count ≡ p = begins.count in
+    let less = new.decoder.window.fits in
     let after : remaining x ≡ left_of remaining new.decoder = ap remaining (back (sym (same-name old.decoder new.decoder reads.0))) ∙ sym (begun-rest remaining old.decoder new.decoder lent p begins reads.0) in (
       s,
       subst (λ o. Consumes (remaining lent) o s) (sym after) (subst (λ y. Consumes y (left_of remaining new.decoder) s) (begun-left remaining old.decoder lent p begins) taken),

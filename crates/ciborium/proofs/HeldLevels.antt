@@ -5,7 +5,7 @@ use Rattle.ciborium_ll.specs.declared.header.Header.TheVariants as header
 use Rattle.ciborium_ll.specs.Header.{SpellsHeader}
 use Rattle.ciborium_ll.specs.Item as items
 use Rattle.ciborium_ll.specs.Item.{Item, unsigned, negative, bytes, text, array, tag, simple, float}
-use Rattle.ciborium_ll.specs.Decoding.{HasSameReader, held_count, source_of}
+use Rattle.ciborium_ll.specs.Decoding.{HasSameReader, allowed_of, source_of}
 use Rattle.ciborium_ll.proofs.HeldBytes.{same-name}
 use Rattle.ciborium.proofs.Due.{due-past, held-level, held-same}
 use Rattle.ciborium_value.specs.Sources.{Completes, Holds, GivesBack, TakesTo}
@@ -41,7 +41,7 @@ module _ {S : Type 0} (remaining : S → Option (List ℕ)) (old new : ByteSourc
 
   pub gives-back : (level : ByteLevel) → new.decoder ≡ old.decoder → new.pending ≡ old.pending → new.levels ≡ level.levels → ((b : List ℕ) → IsUnread remaining old b → IsUnread remaining new b) → GivesBack (StandsBefore remaining) LevelStands old new level
   gives-back level same pending levels keeps l f (b, u, fits, is, none, few) outside =
-      (b, keeps b u, fits-past new.decoder.reader.ghost_name b f (subst (λ d. IsRest d.reader.ghost_name b f) (sym same) fits), outside ∙ ap Some (sym levels), none-past new.pending (pending ∙ none) f, subst (λ n. held_count new.decoder + pending_count new.pending ≤ n) (sym (due-past f)) (held-same old new (ap source_of same) (due_after f) (ap (λ d. d.count) same) pending few))
+      (b, keeps b u, fits-past new.decoder.reader.ghost_name b f (subst (λ d. IsRest d.reader.ghost_name b f) (sym same) fits), outside ∙ ap Some (sym levels), none-past new.pending (pending ∙ none) f, subst (λ n. allowed_of new.decoder + pending_count new.pending ≤ n) (sym (due-past f)) (held-same old new (ap source_of same) (due_after f) (ap (λ d. d.window.count) same) pending few))
 
 -- ---- tags
 

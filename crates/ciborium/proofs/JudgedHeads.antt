@@ -55,7 +55,7 @@ long-head m n size kind h is len wrong = by (eqb size (length (shortest_head m n
 
 -- one that was pulled, where nothing is wrong with it
 pub short-front : {S : Type 0} (remaining : S → Option (List ℕ)) (d : Decoder S) (h k : Header) (m n p : ℕ) (xs : List ℕ) → h ≡ k → ((b : List ℕ) → SpellsHeader b k → IsHead b m n) →
-    ((size : ℕ) → head_fault k size ≡ long_fault m n size) → head_fault h d.head_len ≡ None → d.count ≡ p + d.head_len → (a : IsPulled remaining d h xs p) → HasShortHead m n xs p a.1 (p + length a.0)
+    ((size : ℕ) → head_fault k size ≡ long_fault m n size) → head_fault h d.head_len ≡ None → d.window.count ≡ p + d.head_len → (a : IsPulled remaining d h xs p) → HasShortHead m n xs p a.1 (p + length a.0)
 short-front remaining d h k m n p xs same is fault none size a =
     let u : Front xs p k a.0 a.1 = front-of remaining d h k xs p same a in
     let count = a.6.0 in
@@ -115,7 +115,7 @@ pub of-kind : (E F : Type 0) (before after : Option (List ℕ)) (offset : Option
 of-kind E F before after offset kind P h = h
 
 -- the head that was pulled is wrong
-pub fault-refuses : (E : Type 0) {S : Type 0} (remaining : S → Option (List ℕ)) (d : Decoder S) (h : Header) (l p offset : ℕ) (xs : List ℕ) (kind : Kind) → head_fault h d.head_len ≡ Some kind → d.count ≡ p + d.head_len → offset ≡ p →
+pub fault-refuses : (E : Type 0) {S : Type 0} (remaining : S → Option (List ℕ)) (d : Decoder S) (h : Header) (l p offset : ℕ) (xs : List ℕ) (kind : Kind) → head_fault h d.head_len ≡ Some kind → d.window.count ≡ p + d.head_len → offset ≡ p →
     IsPulled remaining d h xs p → IsRefusedBy {E = E} (left_of remaining d) (Semantic (Some offset) kind) (DeterministicallyRefuses xs p l)
 fault-refuses E remaining d h l p offset xs kind wrong size here a =
     let count = a.6.0 in

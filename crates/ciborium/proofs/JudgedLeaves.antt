@@ -25,7 +25,7 @@ use Rattle.ciborium.proofs.JudgedHeads.{short-front}
 
 -- no head is pushed, so none has to be measured
 pub unpushed : {S : Type 0} (d : Decoder S) → d.pushed ≡ None → IsMeasured d
-unpushed d e = subst (λ o. MatchOption o (Unit {0}) (λ head. d.count ≡ head.1 + d.head_len)) (sym e) tt
+unpushed d e = subst (λ o. MatchOption o (Unit {0}) (λ head. d.window.count ≡ head.1 + d.head_len)) (sym e) tt
 
 pub measured-at : {S : Type 0} (remaining : S → Option (List ℕ)) (d : Decoder S) (p : ℕ) (xs : List ℕ) → d.pushed ≡ None → IsAt remaining d xs p → IsMeasuredAhead remaining d xs p
 measured-at remaining d p xs none at = (ahead-at remaining d p xs none at, unpushed d none)
@@ -45,7 +45,7 @@ got-leaf remaining d l xs p h m n t u pushed same bytes canonical flat a short =
 
 -- an integer
 pub got-integer : {S : Type 0} (remaining : S → Option (List ℕ)) (d : Decoder S) (l : ℕ) (xs : List ℕ) (p : ℕ) (h k : Header) (m n : ℕ) (t u : Tree) → d.pushed ≡ None → u ≡ t → h ≡ k → ((b : List ℕ) → SpellsHeader b k → IsHead b m n) →
-    ((size : ℕ) → head_fault k size ≡ long_fault m n size) → head_fault h d.head_len ≡ None → d.count ≡ p + d.head_len → encoding t ≡ shortest_head m n → (IsArgument n → IsProperTree t) → folded t ≡ Some t → nesting (item_of t) ≡ 0 → HasRisingKeys t →
+    ((size : ℕ) → head_fault k size ≡ long_fault m n size) → head_fault h d.head_len ≡ None → d.window.count ≡ p + d.head_len → encoding t ≡ shortest_head m n → (IsArgument n → IsProperTree t) → folded t ≡ Some t → nesting (item_of t) ≡ 0 → HasRisingKeys t →
     IsPulled remaining d h xs p → Got remaining d l xs p u
 got-integer remaining d l xs p h k m n t u pushed same is spelled fault right size bytes proper folds flat rises a =
     let short = short-front remaining d h k m n p xs is spelled fault right size a in

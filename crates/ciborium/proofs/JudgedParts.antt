@@ -70,7 +70,7 @@ taken-reads E kind l n at xs p q r bs added zs head (inl (over, never, none, not
 taken-reads E kind l n at xs p q r bs added zs head (inr (room, (size, ok, same))) split fits =
     subst (λ b. ReadsStrictly l xs p (string_tree kind b) zs (q + length bs)) (sym same) (definite-reads kind l n xs p q r bs zs head size ok split fits)
 
-short-string : {S : Type 0} (kind : StringKind) (remaining : S → Option (List ℕ)) (d : Decoder S) (h : Header) (n p : ℕ) (xs : List ℕ) → h ≡ header_of kind (Some n) → head_fault h d.head_len ≡ None → d.count ≡ p + d.head_len →
+short-string : {S : Type 0} (kind : StringKind) (remaining : S → Option (List ℕ)) (d : Decoder S) (h : Header) (n p : ℕ) (xs : List ℕ) → h ≡ header_of kind (Some n) → head_fault h d.head_len ≡ None → d.window.count ≡ p + d.head_len →
     (a : IsPulled remaining d h xs p) → HasShortHead (major_of kind) n xs p a.1 (p + length a.0)
 short-string of_bytes remaining d h n p xs is right size a = short-front remaining d h (header.Bytes (Some n)) 2 n p xs is (λ b s. s) (λ k. refl) right size a
 short-string of_text remaining d h n p xs is right size a = short-front remaining d h (header.Text (Some n)) 3 n p xs is (λ b s. s) (λ k. refl) right size a
@@ -80,7 +80,7 @@ never-open : {S : Type 0} (kind : StringKind) (d : Decoder S) (h : Header) → h
 never-open of_bytes d h is right = let wrong = sym (ap (λ g. head_fault g d.head_len) is) ∙ right in cc
 never-open of_text d h is right = let wrong = sym (ap (λ g. head_fault g d.head_len) is) ∙ right in cc
 
-module _ {S : Type 0} (kind : StringKind) (remaining : S → Option (List ℕ)) (d e : Decoder S) (l : ℕ) (xs : List ℕ) (p : ℕ) (h : Header) (right : head_fault h d.head_len ≡ None) (size : d.count ≡ p + d.head_len) where
+module _ {S : Type 0} (kind : StringKind) (remaining : S → Option (List ℕ)) (d e : Decoder S) (l : ℕ) (xs : List ℕ) (p : ℕ) (h : Header) (right : head_fault h d.head_len ≡ None) (size : d.window.count ≡ p + d.head_len) where
   pub got-string : (E : Type 0) (len : Option ℕ) (v : Value) → e.pushed ≡ None → h ≡ header_of kind len →
       ((ys : List ℕ) (q : ℕ) → IsAt remaining d ys q → IsStringRead {S = S} {E = E} kind remaining e len d.last ys q (Ok v)) → IsPulled remaining d h xs p → Got remaining e l xs p (tree_of v)
   got-string E None v pushed is read a = absurd (never-open kind d h is right)
@@ -124,7 +124,7 @@ begun-parts kind n m xs p r q head fits =
     none of_array = tt
     none of_map = tt
 
-module _ {S : Type 0} (remaining : S → Option (List ℕ)) (d : Decoder S) (l : ℕ) (xs : List ℕ) (p : ℕ) (h : Header) (right : head_fault h d.head_len ≡ None) (size : d.count ≡ p + d.head_len) (pushed : d.pushed ≡ None) where
+module _ {S : Type 0} (remaining : S → Option (List ℕ)) (d : Decoder S) (l : ℕ) (xs : List ℕ) (p : ℕ) (h : Header) (right : head_fault h d.head_len ≡ None) (size : d.window.count ≡ p + d.head_len) (pushed : d.pushed ≡ None) where
   fits-behind : (a : IsPulled remaining d h xs p) → p + length a.0 ≤ greatest_offset
   fits-behind a = front-fits xs p h a.0 a.1 (front-of remaining d h h xs p refl a)
 

@@ -41,8 +41,8 @@ ReadSo {E} l d e x = (xs : List ℕ) (p : ℕ) → IsMeasuredAhead Some d xs p �
 pub taken-strictly : (E : Type 0) {S : Type 0} (remaining : S → Option (List ℕ)) (a b : Decoder S) (lent back : S) (l : ℕ) (x : Result Value (Error E)) → HasBegun a lent 0 → HasSameReader a b → OnOk x (b.pushed ≡ None) →
     back ≡ b.reader.now → TakesBeforeAny remaining a b (λ d e. ReadSo {E = E} l d e x) → TakesBytesStrictly {E = E} (remaining lent) l (remaining back) (read_as tree_of x)
 taken-strictly E {S} remaining a b lent back l x begins same rests given (s, taken, count, h, bytes) =
-    let zero : a.count ≡ 0 = begins.count in
-    let less = b.fits in
+    let zero : a.window.count ≡ 0 = begins.count in
+    let less = b.window.fits in
     (s, subst (λ r. Consumes (remaining lent) r s) (begun-rest remaining a b lent 0 begins same ∙ ap remaining (sym given)) (subst (λ r. Consumes r (left_of remaining b) s) (begun-left remaining a lent 0 begins) taken), omega (arith, count, zero, less), found x rests (λ c. h c (s ++ c) 0 (measured-at Some (with_left a (s ++ c)) 0 (s ++ c) begins.pushed (begins.count, refl))), bytes)
   where
     found : (x : Result Value (Error E)) → OnOk x (b.pushed ≡ None) → ((c : List ℕ) → IsStrictlyRead {S = List ℕ} {E = E} Some (with_left b c) l (s ++ c) 0 x) → IsStrictlyTakenAs {E = E} s l (read_as tree_of x)

@@ -9,7 +9,7 @@ use Rattle.ciborium_ll.specs.Head.{shortest_head}
 use Rattle.ciborium_ll.specs.Refusal.{Refusal, semantic, recursion_limit_exceeded, HeadRefuses, IsUsable}
 use Rattle.ciborium_ll.specs.Refusal as refusal
 use Rattle.ciborium_ll.specs.StringRefusal.{PayloadRefuses}
-use Rattle.ciborium_ll.proofs.HeldBytes.{unread-left}
+use Rattle.ciborium_ll.proofs.HeldBytes.{unread-left, unread-count}
 use Rattle.ciborium_value.specs.declared.kind.Kind.{Kind}
 use Rattle.ciborium_value.specs.declared.stack.Opening.TheVariants as opening
 use Rattle.ciborium_value.specs.declared.tree.Value.{Value}
@@ -64,21 +64,21 @@ module _ {S : Type 0} (remaining : S → Option (List ℕ)) (d : Decoder S) (t l
       subst (λ n. DeterministicallyRefuses xs p n recursion_limit_exceeded) (sym none) (DeterministicallyRefuses.no_tag_level t zs q head b.3 (folds-not t k b.0 zs b.1 other b.2 b.4))
 
   pub tag-opened : (E : Type 0) (e f : Decoder S) (k : Header) (here : ℕ) → PullsSo {E = E} remaining d e (Ok k) → IsFolding t k None → (l ≡ 0 → ⊥) → here ≡ offset_of d → IsUnread e f → f.pushed ≡ Some (k, here) →
-      f.head_len ≡ e.head_len → (IsMeasured d → e.count ≡ offset_of d + e.head_len) →
+      f.head_len ≡ e.head_len → (IsMeasured d → e.window.count ≡ offset_of d + e.head_len) →
       (m : ℕ) × (us : List ℕ) × (r : ℕ) × (l ≡ suc m) × IsStrictlyInside (opened (opening.Tag t)) m xs p us r × IsMeasuredAhead remaining f us r
   tag-opened E e f k here pull other some same stays back kept size =
       let b = pull zs q ahead in
       let place : here ≡ q = same ∙ offset-at remaining d q zs ahead in
       let less : l ≡ suc (l - 1) = omega (arith, some) in
-      let is : IsAheadBy remaining f zs q (Some (k, here)) = (place, b.0, b.1, b.2, b.3, b.4, (stays.2 ∙ b.6.0), (unread-left remaining e f stays ∙ b.6.1)) in
+      let is : IsAheadBy remaining f zs q (Some (k, here)) = (place, b.0, b.1, b.2, b.3, b.4, (unread-count e f stays ∙ b.6.0), (unread-left remaining e f stays ∙ b.6.1)) in
       let sized = size (unpushed d pushed) in
-      let count : f.count ≡ here + f.head_len = (let c = stays.2 in omega (arith, c, same, kept, sized)) in (
+      let count : f.window.count ≡ here + f.head_len = (let c = unread-count e f stays in omega (arith, c, same, kept, sized)) in (
         l - 1,
         zs,
         q,
         less,
         (head, b.3, folds-not t k b.0 zs b.1 other b.2 b.4),
-        (subst (λ o. IsAheadBy remaining f zs q o) (sym back) is, subst (λ o. MatchOption o (Unit {0}) (λ h. f.count ≡ h.1 + f.head_len)) (sym back) count),
+        (subst (λ o. IsAheadBy remaining f zs q o) (sym back) is, subst (λ o. MatchOption o (Unit {0}) (λ h. f.window.count ≡ h.1 + f.head_len)) (sym back) count),
       )
 
   -- ---- a tag that folds
@@ -91,7 +91,7 @@ module _ {S : Type 0} (remaining : S → Option (List ℕ)) (d : Decoder S) (t l
 
   -- its head is longer than it has to be
   pub tag-long : (E : Type 0) (e : Decoder S) (k : Header) (n here : ℕ) (kind : Kind) → PullsSo {E = E} remaining d e (Ok k) → IsFolding t k (Some n) → head_fault k e.head_len ≡ Some kind →
-      (IsMeasured d → e.count ≡ offset_of d + e.head_len) → here ≡ offset_of d → IsRefusedBy {E = E} (left_of remaining e) (Semantic (Some here) kind) (DeterministicallyRefuses xs p l)
+      (IsMeasured d → e.window.count ≡ offset_of d + e.head_len) → here ≡ offset_of d → IsRefusedBy {E = E} (left_of remaining e) (Semantic (Some here) kind) (DeterministicallyRefuses xs p l)
   tag-long E e k n here kind pull folding wrong size same =
       let b = pull zs q ahead in
       let w : Front zs q (header.Bytes (Some n)) b.0 b.1 = front-of remaining e k (header.Bytes (Some n)) zs q folding.0 b in
@@ -104,7 +104,7 @@ module _ {S : Type 0} (remaining : S → Option (List ℕ)) (d : Decoder S) (t l
       (subst (λ j. IsRefusedBy {E = E} (left_of remaining e) (Semantic (Some q) j) (DeterministicallyRefuses xs p l)) (sym long.0)
       (DeterministicallyRefuses.folding_long_head t n zs q head folding.1 folding.2 w.usable (e.head_len, b.1, (b.0, w.spelled, len, w.split), long.1)))
 
-  short-string : (E : Type 0) (e : Decoder S) (k : Header) (n : ℕ) (pull : PullsSo {E = E} remaining d e (Ok k)) → k ≡ header.Bytes (Some n) → head_fault k e.head_len ≡ None → (IsMeasured d → e.count ≡ offset_of d + e.head_len) →
+  short-string : (E : Type 0) (e : Decoder S) (k : Header) (n : ℕ) (pull : PullsSo {E = E} remaining d e (Ok k)) → k ≡ header.Bytes (Some n) → head_fault k e.head_len ≡ None → (IsMeasured d → e.window.count ≡ offset_of d + e.head_len) →
       (let b = pull zs q ahead in HasShortHead 2 n zs q b.1 (q + length b.0))
   short-string E e k n pull is right size =
       let b = pull zs q ahead in
@@ -113,7 +113,7 @@ module _ {S : Type 0} (remaining : S → Option (List ℕ)) (d : Decoder S) (t l
       short-front remaining e k (header.Bytes (Some n)) 2 n q zs is (λ c s. s) (λ j. refl) right (omega (arith, sized, place)) b
 
   pub bignum-refused : (E : Type 0) (e f : Decoder S) (k : Header) (n here : ℕ) (x : Error E) → here ≡ p → PullsSo {E = E} remaining d e (Ok k) → IsFolding t k (Some n) → head_fault k e.head_len ≡ None →
-      (IsMeasured d → e.count ≡ offset_of d + e.head_len) → BignumSo {E = E} remaining e f t n here (Err x) → IsRefusedBy (left_of remaining f) x (DeterministicallyRefuses xs p l)
+      (IsMeasured d → e.window.count ≡ offset_of d + e.head_len) → BignumSo {E = E} remaining e f t n here (Err x) → IsRefusedBy (left_of remaining f) x (DeterministicallyRefuses xs p l)
   bignum-refused E e f k n here x same pull folding right size read =
       let b = pull zs q ahead in
       let short = short-string E e k n pull folding.0 right size in
@@ -169,7 +169,7 @@ module _ {S : Type 0} (remaining : S → Option (List ℕ)) (d : Decoder S) (t l
       not-large false e = refl
 
   pub bignum-read : (E : Type 0) (e f : Decoder S) (k : Header) (n here : ℕ) (v : Value) → f.pushed ≡ None → PullsSo {E = E} remaining d e (Ok k) → IsFolding t k (Some n) → head_fault k e.head_len ≡ None →
-      (IsMeasured d → e.count ≡ offset_of d + e.head_len) → BignumSo {E = E} remaining e f t n here (Ok v) → Got remaining f l xs p (tree_of v)
+      (IsMeasured d → e.window.count ≡ offset_of d + e.head_len) → BignumSo {E = E} remaining e f t n here (Ok v) → Got remaining f l xs p (tree_of v)
   bignum-read E e f k n here v last pull folding right size read =
       let b = pull zs q ahead in
       let u : ℕ = q + length b.0 in

@@ -21,7 +21,7 @@ use Rattle.ciborium.specs.declared.de.byte_source.Left.TheVariants as left
 use Rattle.ciborium.specs.ByteSources.{IsHeadCounted, IsUnread, IsUnreadBy, StandsBefore, SeqStands, HasNoneBehind, HoldsItems, HoldsPairs, HoldsParts, Owes, LeftOwes, OwesParts, bytes_weight, due_after, due_parts, pending_count, weight, weight_left, StandsStill}
 use Rattle.ciborium.specs.ItemReads.{TakesHead, DeniesHead}
 use Rattle.ciborium.specs.Unread.{AreSpelled, AreLeft, SpellsPair, Fits, IsRest, ending, form_of, HasCount}
-use Rattle.ciborium_ll.specs.Decoding.{left_of, HasSameReader, held_count, source_of}
+use Rattle.ciborium_ll.specs.Decoding.{left_of, HasSameReader, allowed_of, source_of}
 use Rattle.ciborium.proofs.ItemHeads.{header_of, first-head, same-head, no-break-head}
 
 pub fits-past : (name : _) (b : List ℕ) (f : Rest) → IsRest name b f → Fits name b (past f)
@@ -115,10 +115,10 @@ record IsAheadOf {S : Type 0} (remaining : S → Option (List ℕ)) (old new : B
   name : new.decoder.reader.ghost_name ≡ old.decoder.reader.ghost_name
   levels : new.levels ≡ old.levels
   unread : IsUnread remaining new b
-  held : (n : ℕ) → held_count old.decoder + pending_count old.pending ≤ 1 + n → held_count new.decoder + pending_count new.pending ≤ 1 + n
+  held : (n : ℕ) → allowed_of old.decoder + pending_count old.pending ≤ 1 + n → allowed_of new.decoder + pending_count new.pending ≤ 1 + n
 
 module _ {S : Type 0} (remaining : S → Option (List ℕ)) (old new : ByteSource S) (rest : Option ℕ) (b r : List ℕ) (f : Rest) (ahead : IsAheadOf remaining old new b) (q q' : ByteSeq) (same : q'.levels ≡ q.levels) where
-  stands-item : (l : Limit) (form : Form) (xs : List Item) → form ≡ form_of rest → HasNext Spells rest xs b r → IsRest old.decoder.reader.ghost_name r f → inside form l ≡ Some old.levels → held_count old.decoder + pending_count old.pending ≤ due_parts form (length xs) + due_after f → l ≡ Some q.levels → ((ys : List Item) → HasCount rest ys → HoldsItems q'.left form ys) →
+  stands-item : (l : Limit) (form : Form) (xs : List Item) → form ≡ form_of rest → HasNext Spells rest xs b r → IsRest old.decoder.reader.ghost_name r f → inside form l ≡ Some old.levels → allowed_of old.decoder + pending_count old.pending ≤ due_parts form (length xs) + due_after f → l ≡ Some q.levels → ((ys : List Item) → HasCount rest ys → HoldsItems q'.left form ys) →
       (i : Item) × (js : List Item) × (xs ≡ i ∷ js) × StandsBefore remaining new (inside form l) (item i (parts form js f)) × SeqStands q' l (parts form js f)
   stands-item l form xs is (x, ys, whole, (a, c, sp, left, e), count) behind lv few lq hold = (
     x,
@@ -128,7 +128,7 @@ module _ {S : Type 0} (remaining : S → Option (List ℕ)) (old new : ByteSourc
     (lq ∙ ap Some (sym same), hold ys count),
   )
 
-  stands-pair : (l : Limit) (form : Form) (xs : List (Item × Item)) → form ≡ form_of rest → HasNext SpellsPair rest xs b r → IsRest old.decoder.reader.ghost_name r f → inside form l ≡ Some old.levels → held_count old.decoder + pending_count old.pending ≤ due_parts form (length xs) + due_after f → l ≡ Some q.levels → ((ys : List (Item × Item)) → HasCount rest ys → HoldsPairs q'.left form ys) →
+  stands-pair : (l : Limit) (form : Form) (xs : List (Item × Item)) → form ≡ form_of rest → HasNext SpellsPair rest xs b r → IsRest old.decoder.reader.ghost_name r f → inside form l ≡ Some old.levels → allowed_of old.decoder + pending_count old.pending ≤ due_parts form (length xs) + due_after f → l ≡ Some q.levels → ((ys : List (Item × Item)) → HasCount rest ys → HoldsPairs q'.left form ys) →
       (k : Item) × (v : Item) × (qs : List (Item × Item)) × (xs ≡ (k, v) ∷ qs) × StandsBefore remaining new (inside form l) (item k (entry v form qs f)) × SeqStands q' l (pairs form qs f)
   stands-pair l form xs is (x, ys, whole, (a, c, (s, t, sp, sq, g), left, e), count) behind lv few lq hold = (
     x.0,
@@ -153,10 +153,10 @@ module _ {S : Type 0} (remaining : S → Option (List ℕ)) (old new : ByteSourc
   )
 
 -- behind the last part
-stands-past : {S : Type 0} (remaining : S → Option (List ℕ)) (old new : ByteSource S) (l : Limit) (q : ByteSeq) (b : List ℕ) (f : Rest) → new.decoder.reader.ghost_name ≡ old.decoder.reader.ghost_name → new.levels ≡ q.levels → new.pending ≡ None → held_count new.decoder + pending_count new.pending ≤ due_after f →
+stands-past : {S : Type 0} (remaining : S → Option (List ℕ)) (old new : ByteSource S) (l : Limit) (q : ByteSeq) (b : List ℕ) (f : Rest) → new.decoder.reader.ghost_name ≡ old.decoder.reader.ghost_name → new.levels ≡ q.levels → new.pending ≡ None → allowed_of new.decoder + pending_count new.pending ≤ due_after f →
     IsUnread remaining new b → IsRest old.decoder.reader.ghost_name b f → l ≡ Some q.levels → StandsBefore remaining new l (past f)
 stands-past remaining old new l q b f name levels none few un rest lq =
-    (b, un, subst (λ n. Fits n b (past f)) (sym name) (fits-past old.decoder.reader.ghost_name b f rest), lq ∙ ap Some (sym levels), none-past new.pending none f, subst (λ n. held_count new.decoder + pending_count new.pending ≤ n) (sym (due-past f)) few)
+    (b, un, subst (λ n. Fits n b (past f)) (sym name) (fits-past old.decoder.reader.ghost_name b f rest), lq ∙ ap Some (sym levels), none-past new.pending none f, subst (λ n. allowed_of new.decoder + pending_count new.pending ≤ n) (sym (due-past f)) few)
 
 -- ---- so many parts
 
@@ -177,10 +177,10 @@ module _ {S : Type 0} (remaining : S → Option (List ℕ)) where
   leaves-counted old new q is same same' levels = (
     λ l form its f (b, u, (s, r, stand, rest, e), lv, none, few) (lq, hold).
         let (empty, all) = counted-end Spells form its s r b (subst (λ k. HoldsItems k form its) is hold) stand e in
-        (empty, stands-past remaining old new l q b f (ap (λ d. d.reader.ghost_name) same) levels (same' ∙ none) (held-same old new (ap source_of same) (due_after f) (ap (λ d. d.count) same) same' (let most = due-most form (length its) in omega (arith, few, most, ap length empty))) (into b u) (subst (λ k. IsRest old.decoder.reader.ghost_name k f) (sym all) rest) lq),
+        (empty, stands-past remaining old new l q b f (ap (λ d. d.reader.ghost_name) same) levels (same' ∙ none) (held-same old new (ap source_of same) (due_after f) (ap (λ d. d.window.count) same) same' (let most = due-most form (length its) in omega (arith, few, most, ap length empty))) (into b u) (subst (λ k. IsRest old.decoder.reader.ghost_name k f) (sym all) rest) lq),
     λ l form its f (b, u, (s, r, stand, rest, e), lv, none, few) (lq, hold).
         let (empty, all) = counted-end SpellsPair form its s r b (subst (λ k. HoldsPairs k form its) is hold) stand e in
-        (empty, stands-past remaining old new l q b f (ap (λ d. d.reader.ghost_name) same) levels (same' ∙ none) (held-same old new (ap source_of same) (due_after f) (ap (λ d. d.count) same) same' (let most = due-most form (length its) in omega (arith, few, most, ap length empty))) (into b u) (subst (λ k. IsRest old.decoder.reader.ghost_name k f) (sym all) rest) lq),
+        (empty, stands-past remaining old new l q b f (ap (λ d. d.reader.ghost_name) same) levels (same' ∙ none) (held-same old new (ap source_of same) (due_after f) (ap (λ d. d.window.count) same) same' (let most = due-most form (length its) in omega (arith, few, most, ap length empty))) (into b u) (subst (λ k. IsRest old.decoder.reader.ghost_name k f) (sym all) rest) lq),
   )
     where
       into : (b : List ℕ) → IsUnread remaining old b → IsUnread remaining new b
@@ -216,8 +216,8 @@ open-nothing dictionary b c z e owed = owed [] z [] refl tt e
 pub less-counted : (P : List ℕ → Type 0) (q q' : ByteSeq) (n : ℕ) → q.left ≡ left.Counted n → n ≢ 0 → q'.left ≡ left.Counted (n - 1) → (b : List ℕ) → P b → (u : List ℕ) × P u × OwesLess Owes q q' b u
 less-counted P q q' n is some is' b u = (b, u, λ s a z owed part. subst (λ k. LeftOwes k s a z) (sym is') (counted-less n s a b z some (subst (λ k. LeftOwes k s a b) is owed) part))
 
-pub nothing-counted : (P : List ℕ → Type 0) (q : ByteSeq) → q.left ≡ left.Counted 0 → (b : List ℕ) → P b → (u : List ℕ) × P u × OwesNothing Owes q b u
-nothing-counted P q is b u = (b, u, λ s a owed. counted-nothing s a b (subst (λ k. LeftOwes k s a b) is owed))
+pub nothing-allowed : (P : List ℕ → Type 0) (q : ByteSeq) → q.left ≡ left.Counted 0 → (b : List ℕ) → P b → (u : List ℕ) × P u × OwesNothing Owes q b u
+nothing-allowed P q is b u = (b, u, λ s a owed. counted-nothing s a b (subst (λ k. LeftOwes k s a b) is owed))
 
 -- ---- up to a break
 

@@ -7,7 +7,7 @@ use Rattle.ciborium_ll.specs.declared.header.Header.{Header}
 use Rattle.ciborium_ll.specs.declared.header.Error.{Error as LlError}
 use Rattle.ciborium_ll.specs.declared.header.Error.TheVariants as ll
 use Rattle.ciborium_ll.specs.declared.decoder.Decoder.{Decoder}
-use Rattle.ciborium_ll.specs.Decoding.{HasBegun, IsAheadBy, Takes, with_left, left_of, HasSameReader, held_count}
+use Rattle.ciborium_ll.specs.Decoding.{HasBegun, IsAheadBy, Takes, with_left, left_of, HasSameReader, allowed_of}
 use Rattle.ciborium_ll.specs.FirstHeads as first_heads
 use Rattle.ciborium_ll.specs.FirstHeads.{IsEndOrFault, IsFirstTaken}
 use Rattle.ciborium_ll.specs.Reading.{Advances, IsHeadTaken}
@@ -39,21 +39,21 @@ end-says r P is = subst (λ q. Otherwise q P) (sym is) tt
 
 -- ---- the head that was pulled first: d was begun on the reader that was lent, and has pulled it
 
-module _ {S : Type 0} (E : Type 0) (remaining : S → Option (List ℕ)) (d : Decoder S) (s : ByteSource S) (lent : S) (begins : HasBegun d lent 0) (same : HasSameReader d s.decoder) (h : Header) (taken : Takes remaining d s.decoder (λ b. IsHeadTaken {E = E} b d.count (Ok h))) where
-  zero-count : d.count ≡ 0
+module _ {S : Type 0} (E : Type 0) (remaining : S → Option (List ℕ)) (d : Decoder S) (s : ByteSource S) (lent : S) (begins : HasBegun d lent 0) (same : HasSameReader d s.decoder) (h : Header) (taken : Takes remaining d s.decoder (λ b. IsHeadTaken {E = E} b d.window.count (Ok h))) where
+  zero-count : d.window.count ≡ 0
   zero-count = begins.count
 
   -- it is pending
   front : (b : List ℕ) → remaining lent ≡ Some b → IsUnread remaining (behind_head s h) b
   front b known =
-      let (x, r, spelled, usable, split, count, left) = reads-head {E = E} (left_of remaining d) (left_of remaining s.decoder) b d.count s.decoder.count (Ok h) (begun-left remaining d lent 0 begins ∙ known) taken in
+      let (x, r, spelled, usable, split, count, left) = reads-head {E = E} (left_of remaining d) (left_of remaining s.decoder) b d.window.count s.decoder.window.count (Ok h) (begun-left remaining d lent 0 begins ∙ known) taken in
       (x, r, spelled, split, left, λ fixed. (subst (IsUsable b) zero-count usable, count ∙ ap (λ n. n + length x) zero-count))
 
   -- whatever follows it
   front-any : (u : List ℕ) → IsAheadBy Some (with_left s.decoder u) (taken.0 ++ u) 0 (Some (h, 0))
   front-any u =
       let (x, consumed, count, t, bytes) = taken in
-      let (y, r, spelled, usable, split, sum, left) = reads-head {E = E} (Some (x ++ u)) (Some u) (x ++ u) d.count s.decoder.count (Ok h) refl (x, refl, count, t, bytes) in
+      let (y, r, spelled, usable, split, sum, left) = reads-head {E = E} (Some (x ++ u)) (Some u) (x ++ u) d.window.count s.decoder.window.count (Ok h) refl (x, refl, count, t, bytes) in
       (refl, y, r, spelled, subst (IsUsable (x ++ u)) zero-count usable, split, sum ∙ ap (λ n. n + length y) zero-count, left)
 
   -- with the bytes that were taken behind it
@@ -62,7 +62,7 @@ module _ {S : Type 0} (E : Type 0) (remaining : S → Option (List ℕ)) (d : De
       let (b, consumed, count, head, bytes) = taken in
       let (c, more, sum, f, low) = reads.1 in
       let zero = zero-count in
-      let less = t.decoder.fits in
+      let less = t.decoder.window.fits in
       let after : remaining x ≡ left_of remaining t.decoder = ap remaining (back (sym (same-name s.decoder t.decoder reads.0))) ∙ sym (begun-rest remaining d t.decoder lent 0 begins (reads.0 ∙ same)) in (
         b ++ c,
         subst (λ o. Consumes (remaining lent) o (b ++ c)) (sym after) (Consumes-trans (remaining lent) (left_of remaining s.decoder) (left_of remaining t.decoder) b c (subst (λ y. Consumes y (left_of remaining s.decoder) b) (begun-left remaining d lent 0 begins) consumed) more),
@@ -75,7 +75,7 @@ module _ {S : Type 0} (E : Type 0) (remaining : S → Option (List ℕ)) (d : De
 
 module _ {S T A : Type 0} (E : Type 0) (remaining : S → Option (List ℕ)) (reading : Reading T A) (d : Decoder S) (s t : ByteSource S) (lent x : S) (begins : HasBegun d lent 0) (kept : HasSameReader d s.decoder) where
   -- nothing is read ahead where the head is pending
-  few : held_count s.decoder + 1 ≤ 1
+  few : allowed_of s.decoder + 1 ≤ 1
   few = let none = begun-count d s.decoder lent 0 begins kept in omega (arith, none)
 
   -- what is known of the answer behind the first head
@@ -86,7 +86,7 @@ module _ {S T A : Type 0} (E : Type 0) (remaining : S → Option (List ℕ)) (re
   End first r = IfNone first ((r ≡ Ok None) × (t.decoder ≡ s.decoder))
 
   abbrev pub First : Option Header → Type 0
-  First first = Takes remaining d s.decoder (λ b. IsFirstTaken {E = E} b d.count (Ok first))
+  First first = Takes remaining d s.decoder (λ b. IsFirstTaken {E = E} b d.window.count (Ok first))
 
   module _ (back : s.decoder.reader.ghost_name ≡ t.decoder.reader.ghost_name → x ≡ t.decoder.reader.now) where
     pub tells-end : (first : Option Header) (r : Result (Option T) (Error E)) → First first → IfNone first (IsAtEnd (left_of remaining s.decoder)) → (left_of remaining d ≡ Some [] → IsEndOrFault {E = E} (Ok first)) → End first r → Behind first r →
@@ -138,24 +138,24 @@ first-io (ll.Syntax p) h = h
 first-io ll.TooLong h = h
 first-io ll.Memory h = h
 
-module _ {S : Type 0} (E : Type 0) (remaining : S → Option (List ℕ)) (d e : Decoder S) (lent : S) (begins : HasBegun d lent 0) (same : HasSameReader d e) (x : LlError E) (taken : Takes remaining d e (λ b. IsHeadTaken {E = E} b d.count (Err x))) where
+module _ {S : Type 0} (E : Type 0) (remaining : S → Option (List ℕ)) (d e : Decoder S) (lent : S) (begins : HasBegun d lent 0) (same : HasSameReader d e) (x : LlError E) (taken : Takes remaining d e (λ b. IsHeadTaken {E = E} b d.window.count (Err x))) where
   pub first-denied : {A : Type 0} (l : Option ℕ) (given : Taken A) (b : List ℕ) → remaining lent ≡ Some b → IsFaultAhead l given b (cause_of (from_ll x))
   first-denied l given b known i s left spelled split =
       let (y, c, head, whole) = first-head s i spelled in
-      let refused = reads-head {E = E} (left_of remaining d) (left_of remaining e) b d.count e.count (Err x) (begun-left remaining d lent 0 begins ∙ known) taken in
-      fault-outside (cause_of (from_ll x)) (given l i) (head-outside (left_of remaining e) x b y (c ++ left) d.count (header_of i) head (split ∙ ap (λ (z : List ℕ). z ++ left) whole ∙ append_assoc y c left) refused)
+      let refused = reads-head {E = E} (left_of remaining d) (left_of remaining e) b d.window.count e.window.count (Err x) (begun-left remaining d lent 0 begins ∙ known) taken in
+      fault-outside (cause_of (from_ll x)) (given l i) (head-outside (left_of remaining e) x b y (c ++ left) d.window.count (header_of i) head (split ∙ ap (λ (z : List ℕ). z ++ left) whole ∙ append_assoc y c left) refused)
 
   pub first-taken : (l : ℕ) (back : S) → back ≡ e.reader.now → TakesBytes {E = E} (remaining lent) l (remaining back) (Err (from_ll x))
   first-taken l back given =
       let (b, consumed, count, head, bytes) = taken in
-      let zero : d.count ≡ 0 = begins.count in
-      let less = e.fits in (
+      let zero : d.window.count ≡ 0 = begins.count in
+      let less = e.window.fits in (
         b,
         subst (λ y. Consumes (remaining lent) (remaining y) b) (sym given) (subst (λ y. Consumes (remaining lent) y b) (begun-rest remaining d e lent 0 begins same) (subst (λ y. Consumes y (left_of remaining e) b) (begun-left remaining d lent 0 begins) consumed)),
         omega (arith, count, zero, less),
         (λ c. refused-map (Some c) (from_ll x) (HeadRefuses (b ++ c) 0) (λ r. Refuses (b ++ c) 0 (Some l) r) (λ r h. Refuses.no_head h)
             (refused-from (Some c) x (HeadRefuses (b ++ c) 0) (subst (λ n. Rattle.ciborium_ll.specs.Reading.IsRefusedBy (Some c) x (HeadRefuses (b ++ c) n)) zero
-            (reads-head {E = E} (Some (b ++ c)) (Some c) (b ++ c) d.count e.count (Err x) refl (b, refl, count, head, bytes))))),
+            (reads-head {E = E} (Some (b ++ c)) (Some c) (b ++ c) d.window.count e.window.count (Err x) refl (b, refl, count, head, bytes))))),
         bytes,
       )
 

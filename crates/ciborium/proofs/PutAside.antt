@@ -4,7 +4,7 @@ use Rattle.std.specs.Io.KnownBytes.{Consumes}
 use Rattle.ciborium_ll.specs.declared.decoder.Decoder.{Decoder}
 use Rattle.ciborium_ll.specs.Decoding.{HasSameReader, IsAhead, IsAheadBy, TakesBeforeAny, left_of, IsUnread}
 use Rattle.ciborium_ll.specs.Refusal.{Refusal}
-use Rattle.ciborium_ll.proofs.HeldBytes.{unread-left}
+use Rattle.ciborium_ll.proofs.HeldBytes.{unread-left, unread-count}
 use Rattle.ciborium.specs.declared.de.byte_source.ByteSource.{ByteSource}
 use Rattle.ciborium.specs.declared.de.error.Error.{Error}
 use Rattle.ciborium.specs.declared.de.error.Error.TheVariants as errors
@@ -49,7 +49,7 @@ forgotten-read remaining old mid new (Ok v) l is unread h = absurd cc
 forgotten-read remaining old mid new (Err e) l is unread (s, taken, counted, h, bytes) = (
   s,
   subst (λ y. Consumes (left_of remaining old) y s) (sym (unread-left remaining mid new unread)) taken,
-  unread.2 ∙ counted,
+  unread-count mid new unread ∙ counted,
   h,
   bytes,
 )

@@ -122,12 +122,12 @@ digits-none bs h e = by (ltb 16 (length (without_zeros bs))) refl
 
 -- ---- one byte more
 
-pub fill-fewer : (E : Type 0) {S : Type 0} (remaining : S → Option (List ℕ)) (d e : Decoder S) (buffer : List ℕ) → e.count ≤ greatest_offset → Takes remaining d e (λ b. IsFillTaken {E = E} b d.count buffer (Ok tt)) →
-    3 * (greatest_offset - e.count) ≤ 3 * (greatest_offset - d.count)
+pub fill-fewer : (E : Type 0) {S : Type 0} (remaining : S → Option (List ℕ)) (d e : Decoder S) (buffer : List ℕ) → e.window.count ≤ greatest_offset → Takes remaining d e (λ b. IsFillTaken {E = E} b d.window.count buffer (Ok tt)) →
+    3 * (greatest_offset - e.window.count) ≤ 3 * (greatest_offset - d.window.count)
 fill-fewer E remaining d e buffer fits (b, takes, count, taken, small) = omega (arith, fits, count)
 
 pub digit-more : (E : Type 0) {S : Type 0} (remaining : S → Option (List ℕ)) (d e : Decoder S) (buffer : List ℕ) (x left n : ℕ) (start value next : Option ℕ) (y : List ℕ) → buffer ≡ x ∷ [] → 0 < left → next ≡ one_digit_more value x →
-    Takes remaining d e (λ b. IsFillTaken {E = E} b d.count buffer (Ok tt)) → ((c : List ℕ) × (z : List ℕ) × (length c + left ≡ n) × AreBytes c × (value ≡ digits_of start c) × (y ≡ c ++ z) × (left_of remaining d ≡ Some z)) →
+    Takes remaining d e (λ b. IsFillTaken {E = E} b d.window.count buffer (Ok tt)) → ((c : List ℕ) × (z : List ℕ) × (length c + left ≡ n) × AreBytes c × (value ≡ digits_of start c) × (y ≡ c ++ z) × (left_of remaining d ≡ Some z)) →
     (c : List ℕ) × (z : List ℕ) × (length c + (left - 1) ≡ n) × AreBytes c × (next ≡ digits_of start c) × (y ≡ c ++ z) × (left_of remaining e ≡ Some z)
 digit-more E remaining d e buffer x left n start value next y one some is (b, takes, count, taken, small) (c, z, len, low, val, split, known) =
     let (r, left', f) = rest-of (left_of remaining d) (left_of remaining e) z b known takes in

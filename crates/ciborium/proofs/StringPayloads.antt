@@ -33,13 +33,13 @@ content-spelled E of_text None p q added c (ps, s, parts, room, split, same) x h
 
 -- a string that was appended to an empty one
 pub content-taken : (E : Type 0) {S : Type 0} (remaining : S → Option (List ℕ)) (d e : Decoder S) (pending : Option (Header × ℕ)) (kind : StringKind) (len : Option ℕ) (start out : List ℕ) → pending ≡ None → start ≡ [] →
-    Takes remaining d e (λ b. (added : List ℕ) × (out ≡ start ++ added) × IsStringTaken {E = E} kind len d.last b d.count (Ok tt) added) →
+    Takes remaining d e (λ b. (added : List ℕ) × (out ≡ start ++ added) × IsStringTaken {E = E} kind len d.last b d.window.count (Ok tt) added) →
     TakesContent (IsUnreadBy remaining d pending) (IsUnreadBy remaining e pending) kind len out
 content-taken E remaining d e pending kind len start out none empty (b, takes, count, (added, is, taken), small) y u =
     let known : left_of remaining d ≡ Some y = subst (λ o. IsUnreadBy remaining d o y) none u in
     let (z, left, split) = rest-of (left_of remaining d) (left_of remaining e) y b known takes in
     let all : added ≡ out = sym (is ∙ ap (λ (s : List ℕ). s ++ added) empty) in
-    (b, z, subst (IsContent kind len b) all (content-spelled E kind len d.last d.count added b taken), split, subst (λ o. IsUnreadBy remaining e o z) (sym none) left)
+    (b, z, subst (IsContent kind len b) all (content-spelled E kind len d.last d.window.count added b taken), split, subst (λ o. IsUnreadBy remaining e o z) (sym none) left)
 
 -- an item that begins with the head of a string is a string
 pub string-only : (kind : StringKind) (len : Option ℕ) (i : Item) → header_of i ≡ head_of kind len → (payload : List ℕ) × (i ≡ string_item kind len payload)
@@ -97,11 +97,11 @@ content-long E kind None p q added c (ps, s, parts, room, split, same) =
     let m : length added ≡ length (joined ps) = ap length same in
     omega (arith, k, l, m)
 
-pub content-fewer : (E : Type 0) {S : Type 0} (remaining : S → Option (List ℕ)) (d e : Decoder S) (kind : StringKind) (len : Option ℕ) (start out : List ℕ) → start ≡ [] → e.count ≤ greatest_offset →
-    Takes remaining d e (λ b. (added : List ℕ) × (out ≡ start ++ added) × IsStringTaken {E = E} kind len d.last b d.count (Ok tt) added) →
-    3 * (greatest_offset - e.count) + length out ≤ 3 * (greatest_offset - d.count)
+pub content-fewer : (E : Type 0) {S : Type 0} (remaining : S → Option (List ℕ)) (d e : Decoder S) (kind : StringKind) (len : Option ℕ) (start out : List ℕ) → start ≡ [] → e.window.count ≤ greatest_offset →
+    Takes remaining d e (λ b. (added : List ℕ) × (out ≡ start ++ added) × IsStringTaken {E = E} kind len d.last b d.window.count (Ok tt) added) →
+    3 * (greatest_offset - e.window.count) + length out ≤ 3 * (greatest_offset - d.window.count)
 content-fewer E remaining d e kind len start out empty fits (b, takes, count, (added, is, taken), small) =
-    let k = content-long E kind len d.last d.count added b taken in
+    let k = content-long E kind len d.last d.window.count added b taken in
     let l : length out ≡ length added = ap length (is ∙ ap (λ (s : List ℕ). s ++ added) empty) in
     omega (arith, fits, count, k, l)
 

@@ -12,7 +12,7 @@ use Rattle.ciborium_ll.specs.Reading as reading
 use Rattle.ciborium_ll.specs.Reading.{IsHeadTaken}
 use Rattle.ciborium_ll.specs.StringRefusal.{StringKind, ContentRefuses}
 use Rattle.ciborium_ll.specs.Strings.{IsStringTaken}
-use Rattle.ciborium_ll.proofs.HeldBytes.{unread-left, begun-left}
+use Rattle.ciborium_ll.proofs.HeldBytes.{unread-left, begun-left, unread-count}
 use Rattle.ciborium_ll.proofs.Unread.{pulls-head, reads-string}
 use Rattle.ciborium_value.specs.Tree.{Tree}
 use Rattle.ciborium_value.specs.declared.tree.Value.{Value}
@@ -52,23 +52,23 @@ module _ {S : Type 0} (remaining : S → Option (List ℕ)) where
   -- nothing is read
   pub so-unread : (a b : Decoder S) (P : Decoder (List ℕ) → Decoder (List ℕ) → Type 0) → IsUnread a b → ((u : List ℕ) → P (with_left a u) (with_left b u)) → TakesBeforeAny remaining a b P
   so-unread a b P unread h =
-      ([], subst (λ s. Consumes (left_of remaining a) s []) (sym (unread-left remaining a b unread)) (Consumes-nil (left_of remaining a)), (let same = unread.2 in omega (arith, same)), λ c. h c, no-bytes)
+      ([], subst (λ s. Consumes (left_of remaining a) s []) (sym (unread-left remaining a b unread)) (Consumes-nil (left_of remaining a)), (let same = unread-count a b unread in omega (arith, same)), λ c. h c, no-bytes)
 
 -- a head that was pulled
 pub head-pulled : {S : Type 0} (E : Type 0) (remaining : S → Option (List ℕ)) (a b : Decoder S) (result : Result Header (LlError E)) →
-    IfSome a.pushed (λ head. (result ≡ Ok head.0) × (b.last ≡ head.1) × IsUnread a b) → IfNone a.pushed (Takes remaining a b (λ x. IsHeadTaken {E = E} x a.count result)) → IfNone a.pushed (b.last ≡ a.count) →
+    IfSome a.pushed (λ head. (result ≡ Ok head.0) × (b.last ≡ head.1) × IsUnread a b) → IfNone a.pushed (Takes remaining a b (λ x. IsHeadTaken {E = E} x a.window.count result)) → IfNone a.pushed (b.last ≡ a.window.count) →
     TakesBeforeAny remaining a b (λ d e. (xs : List ℕ) (p : ℕ) → IsAhead Some d xs p → Pulls {E = E} Some e xs p result)
 head-pulled {S} E remaining a b result pushed taken last = by a.pushed pushed taken last
   where
-    by : (o : Option (Header × ℕ)) → IfSome o (λ head. (result ≡ Ok head.0) × (b.last ≡ head.1) × IsUnread a b) → IfNone o (Takes remaining a b (λ x. IsHeadTaken {E = E} x a.count result)) → IfNone o (b.last ≡ a.count) →
+    by : (o : Option (Header × ℕ)) → IfSome o (λ head. (result ≡ Ok head.0) × (b.last ≡ head.1) × IsUnread a b) → IfNone o (Takes remaining a b (λ x. IsHeadTaken {E = E} x a.window.count result)) → IfNone o (b.last ≡ a.window.count) →
         Takes remaining a b (λ x. (c : List ℕ) (xs : List ℕ) (p : ℕ) → IsAheadBy Some (with_left a (x ++ c)) xs p o → Pulls {E = E} Some (with_left b c) xs p result)
     by None h (x, consumed, count, t, bytes) here =
-        (x, consumed, count, λ c xs p s. pulls-head {E = E} (Some (x ++ c)) (Some c) b.last b.count xs a.count p result s here (x, refl, count, t, bytes), bytes)
+        (x, consumed, count, λ c xs p s. pulls-head {E = E} (Some (x ++ c)) (Some c) b.last b.window.count xs a.window.count p result s here (x, refl, count, t, bytes), bytes)
     by (Some head) (same, here, unread) t l = (
       [],
       subst (λ s. Consumes (left_of remaining a) s []) (sym (unread-left remaining a b unread)) (Consumes-nil (left_of remaining a)),
-      (let is = unread.2 in omega (arith, is)),
-      λ c xs p s. subst (λ r. PullsTo {E = E} b.last b.count (Some c) xs p r) (sym same) (s.1, s.2, s.3, s.4, s.5, here ∙ s.0, unread.2 ∙ s.6, s.7),
+      (let is = unread-count a b unread in omega (arith, is)),
+      λ c xs p s. subst (λ r. PullsTo {E = E} b.last b.window.count (Some c) xs p r) (sym same) (s.1, s.2, s.3, s.4, s.5, here ∙ s.0, unread-count a b unread ∙ s.6, s.7),
       no-bytes,
     )
 
@@ -82,13 +82,13 @@ StringSo {E} kind len at d e x = (xs : List ℕ) (p : ℕ) → IsAt Some d xs p 
 
 -- a string that was refused
 pub string-refused : (E : Type 0) {S : Type 0} (remaining : S → Option (List ℕ)) (a b : Decoder S) (kind : StringKind) (len : Option ℕ) (x : LlError E) (A : List ℕ → List ℕ → Type 0) →
-    Takes remaining a b (λ y. (added : List ℕ) × A added y × IsStringTaken {E = E} kind len a.last y a.count (Err x) added) → TakesBeforeAny remaining a b (λ d e. StringSo {E = E} kind len a.last d e (Err (from_ll x)))
+    Takes remaining a b (λ y. (added : List ℕ) × A added y × IsStringTaken {E = E} kind len a.last y a.window.count (Err x) added) → TakesBeforeAny remaining a b (λ d e. StringSo {E = E} kind len a.last d e (Err (from_ll x)))
 string-refused E remaining a b kind len x A (y, taken, count, h, bytes) = (
   y,
   taken,
   count,
   λ c xs p s. refused-from (Some c) x (λ f. ContentRefuses kind len a.last xs p f)
-      (subst (λ q. reading.IsRefusedBy (Some c) x (λ f. ContentRefuses kind len a.last xs q f)) s.0 (reads-string {E = E} kind len a.last a.count b.count (Some (y ++ c)) (Some c) x xs A (y, refl, count, h, bytes) s.1)),
+      (subst (λ q. reading.IsRefusedBy (Some c) x (λ f. ContentRefuses kind len a.last xs q f)) s.0 (reads-string {E = E} kind len a.last a.window.count b.window.count (Some (y ++ c)) (Some c) x xs A (y, refl, count, h, bytes) s.1)),
   bytes,
 )
 
@@ -101,8 +101,8 @@ TreeSo {E} l d e x = (xs : List ℕ) (p : ℕ) → IsAhead Some d xs p → IsTre
 pub taken-as : (E : Type 0) {S : Type 0} (remaining : S → Option (List ℕ)) (a b : Decoder S) (lent : S) (l : ℕ) (x : Result Tree (Error E)) → HasBegun a lent 0 → OnOk x (b.pushed ≡ None) →
     TakesBeforeAny remaining a b (λ d e. TreeSo {E = E} l d e x) → TakesBytes {E = E} (remaining lent) l (left_of remaining b) x
 taken-as E {S} remaining a b lent l x begins rests (s, taken, count, h, bytes) =
-    let zero : a.count ≡ 0 = begins.count in
-    let less = b.fits in
+    let zero : a.window.count ≡ 0 = begins.count in
+    let less = b.window.fits in
     (s, subst (λ r. Consumes r (left_of remaining b) s) (begun-left remaining a lent 0 begins) taken, omega (arith, count, zero, less), found x rests (λ c. h c (s ++ c) 0 (ahead-at Some (with_left a (s ++ c)) 0 (s ++ c) begins.pushed (begins.count, refl))), bytes)
   where
     same-rest : (u v : List ℕ) → Some u ≡ Some v → u ≡ v

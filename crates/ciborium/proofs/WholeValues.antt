@@ -8,7 +8,7 @@ use Rattle.ciborium_ll.specs.Decoding.{IsAhead, IsAheadBy, TakesBeforeAny, next_
 use Rattle.ciborium_ll.specs.Header.{SpellsHeader}
 use Rattle.ciborium_ll.specs.Item.{Item, unsigned, simple}
 use Rattle.ciborium_ll.specs.Spells.{Spells}
-use Rattle.ciborium_ll.proofs.HeldBytes.{unread-left}
+use Rattle.ciborium_ll.proofs.HeldBytes.{unread-left, unread-count}
 use Rattle.ciborium_ll.proofs.Unread.{rest-of}
 use Rattle.ciborium_value.specs.declared.kind.Kind.{Kind}
 use Rattle.ciborium_value.specs.declared.kind.Kind.TheVariants as kinds
@@ -60,11 +60,11 @@ IsReal (Some h) = is_portable h.0 ≡ false
 
 -- the head that was pushed, or none, and what is unread with it
 pub ahead-by : {S : Type 0} (remaining : S → Option (List ℕ)) (d e : Decoder S) (pending : Option (Header × ℕ)) (b : List ℕ) → IsReal pending → e.pushed ≡ pending → IsUnread d e →
-    IsUnreadBy remaining d pending b → IsAhead remaining e b (next_offset d.count pending)
-ahead-by remaining d e None b real pushed same u = subst (λ o. IsAheadBy remaining e b d.count o) (sym pushed) (same.2, unread-left remaining d e same ∙ u)
+    IsUnreadBy remaining d pending b → IsAhead remaining e b (next_offset d.window.count pending)
+ahead-by remaining d e None b real pushed same u = subst (λ o. IsAheadBy remaining e b d.window.count o) (sym pushed) (unread-count d e same, unread-left remaining d e same ∙ u)
 ahead-by remaining d e (Some h) b real pushed same (x, y, hd, f, left, counted) =
     let k = counted real in
-    subst (λ o. IsAheadBy remaining e b h.1 o) (sym pushed) (refl, x, y, hd, k.0, f, same.2 ∙ k.1, unread-left remaining d e same ∙ left)
+    subst (λ o. IsAheadBy remaining e b h.1 o) (sym pushed) (refl, x, y, hd, k.0, f, unread-count d e same ∙ k.1, unread-left remaining d e same ∙ left)
 
 -- ---- from a decoder whatever follows what it takes, to one whose bytes are known
 
@@ -156,13 +156,13 @@ ReadSo {E} l pending d e r = (xs : List ℕ) (p : ℕ) → IsAheadBy Some d xs p
 pub portable-ahead : (E : Type 0) {S : Type 0} (remaining : S → Option (List ℕ)) (d : Decoder S) (pending : Option (Header × ℕ)) (h : Header) (at l : ℕ) (v : Tree) → d.pushed ≡ None → pending ≡ Some (h, at) → StandsFor h v →
     TakesBeforeAny remaining d d (λ f g. ReadSo {E = E} l pending f g (Ok v))
 portable-ahead E remaining d pending h at l v none is stands =
-    so-unread remaining d d (λ f g. ReadSo {E = E} l pending f g (Ok v)) (refl, refl, refl) (λ u xs p ahead.
+    so-unread remaining d d (λ f g. ReadSo {E = E} l pending f g (Ok v)) (refl, refl) (λ u xs p ahead.
     let (here, x, r, sp, usable, split, count, left) = subst (λ o. IsAheadBy Some (with_left d u) xs p o) is ahead in
     let (i, spelled, means, flat) = stands x sp in
     let fits = front-fits xs p h x r (record { spelled = sp; usable = usable; split = split }) in
     (r, p + length x, item-read x i spelled means (omega (arith, flat)) split refl fits, ahead-at Some (with_left d u) (p + length x) r none (count, left)))
 
-ahead-pushed : {S : Type 0} (d e : Decoder S) (u xs : List ℕ) (p : ℕ) (o : Option (Header × ℕ)) → e.count ≡ d.count → IsAheadBy Some (with_left d u) xs p o → IsAheadBy Some (with_left e u) xs p o
+ahead-pushed : {S : Type 0} (d e : Decoder S) (u xs : List ℕ) (p : ℕ) (o : Option (Header × ℕ)) → e.window.count ≡ d.window.count → IsAheadBy Some (with_left d u) xs p o → IsAheadBy Some (with_left e u) xs p o
 ahead-pushed d e u xs p None same (count, left) = (same ∙ count, left)
 ahead-pushed d e u xs p (Some h) same (at, x, r, sp, usable, split, count, left) = (at, x, r, sp, usable, split, same ∙ count, left)
 
@@ -176,7 +176,7 @@ pub pushed-ahead : (E : Type 0) {S : Type 0} (remaining : S → Option (List ℕ
 pushed-ahead E remaining d e f pending l x pushed unread (s, taken, sum, h, bytes) = (
   s,
   subst (λ r. Consumes r (left_of remaining f) s) (unread-left remaining d e unread) taken,
-  (let count = unread.2 in omega (arith, sum, count)),
-  λ c xs p ahead. as-tree Some (with_left f c) l xs p x (h c xs p (subst (λ o. IsAheadBy Some (with_left e (s ++ c)) xs p o) (sym pushed) (ahead-pushed d e (s ++ c) xs p pending unread.2 ahead))),
+  (let count = unread-count d e unread in omega (arith, sum, count)),
+  λ c xs p ahead. as-tree Some (with_left f c) l xs p x (h c xs p (subst (λ o. IsAheadBy Some (with_left e (s ++ c)) xs p o) (sym pushed) (ahead-pushed d e (s ++ c) xs p pending (unread-count d e unread) ahead))),
   bytes,
 )

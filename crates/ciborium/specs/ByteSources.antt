@@ -5,7 +5,7 @@ use Rattle.ciborium_ll.specs.declared.header.Header.{Header}
 use Rattle.ciborium_ll.specs.declared.header.Header.TheVariants as header
 use Rattle.ciborium_ll.specs.declared.decoder.Decoder.{Decoder}
 use Rattle.ciborium_ll.specs.Bytes.{greatest_offset}
-use Rattle.ciborium_ll.specs.Decoding.{HasSameReader, IsAheadBy, TakesBeforeAny, held_count, left_of}
+use Rattle.ciborium_ll.specs.Decoding.{HasSameReader, IsAheadBy, TakesBeforeAny, allowed_of, left_of}
 use Rattle.ciborium_ll.specs.Header.{SpellsHeader}
 use Rattle.ciborium_ll.specs.Item.{Item, unsigned}
 use Rattle.ciborium_ll.specs.Refusal.{IsUsable}
@@ -38,7 +38,7 @@ is_portable _ = false
 
 -- the head with this spelling, at the front of b, was pulled: it is usable, and its bytes are counted
 abbrev pub IsHeadCounted : {S : Type 0} → Decoder S → Header × ℕ → List ℕ → List ℕ → Type 0
-IsHeadCounted d h b x = is_portable h.0 ≡ false → IsUsable b h.1 × (d.count ≡ h.1 + length x)
+IsHeadCounted d h b x = is_portable h.0 ≡ false → IsUsable b h.1 × (d.window.count ≡ h.1 + length x)
 
 -- b is unread, the spelling of a head that is pending included
 abbrev pub IsUnreadBy : {S : Type 0} → (S → Option (List ℕ)) → Decoder S → Option (Header × ℕ) → List ℕ → Type 0
@@ -59,7 +59,7 @@ abbrev pub HasNoneBehind : Option (Header × ℕ) → Ahead → Type 0
 HasNoneBehind pending (item i f) = Unit {0}
 HasNoneBehind pending (after f) = pending ≡ None
 
--- ---- how much is read ahead
+-- ---- how much may be read ahead
 
 -- how many of n parts are still due in the bytes: those of a byte string were read with it
 abbrev pub due_parts : Form → ℕ → ℕ
@@ -85,9 +85,9 @@ abbrev pub pending_count : Option (Header × ℕ) → ℕ
 pending_count None = 0
 pending_count (Some h) = 1
 
--- each byte that is read ahead is one of an item that is due, whose head was not taken
+-- each byte that may be read ahead is one of an item that is due, whose head was not taken
 abbrev pub HoldsDue : {S : Type 0} → ByteSource S → Ahead → Type 0
-HoldsDue s a = held_count s.decoder + pending_count s.pending ≤ due a
+HoldsDue s a = allowed_of s.decoder + pending_count s.pending ≤ due a
 
 abbrev pub StandsBefore : {S : Type 0} → (S → Option (List ℕ)) → ByteSource S → Limit → Ahead → Type 0
 StandsBefore remaining s l a = (b : List ℕ) × IsUnread remaining s b × Fits s.decoder.reader.ghost_name b a × (l ≡ Some s.levels) × HasNoneBehind s.pending a × HoldsDue s a
@@ -192,7 +192,7 @@ pending_weight None = 0
 pending_weight (Some h) = weight h.0
 
 abbrev pub bytes_weight : {S : Type 0} → ByteSource S → ℕ
-bytes_weight s = 3 * (greatest_offset - s.decoder.count)
+bytes_weight s = 3 * (greatest_offset - s.decoder.window.count)
 
 abbrev pub weight_left : {S : Type 0} → ByteSource S → ℕ
 weight_left s = bytes_weight s + pending_weight s.pending

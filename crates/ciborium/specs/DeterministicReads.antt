@@ -93,7 +93,7 @@ head_fault header.Break size = None
 
 -- a head that was pushed back is the one whose bytes are counted
 abbrev pub IsMeasured : {S : Type 0} → Decoder S → Type 0
-IsMeasured d = MatchOption d.pushed (Unit {0}) (λ head. d.count ≡ head.1 + d.head_len)
+IsMeasured d = MatchOption d.pushed (Unit {0}) (λ head. d.window.count ≡ head.1 + d.head_len)
 
 -- b is ahead, its first byte at offset p, and the decoder knows how many bytes its last head has
 abbrev pub IsMeasuredAhead : {S : Type 0} → (S → Option (List ℕ)) → Decoder S → List ℕ → ℕ → Type 0

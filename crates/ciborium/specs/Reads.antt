@@ -19,7 +19,7 @@ pub record ReadsItem (l : ℕ) (ys : List ℕ) (q : ℕ) (v : Tree) (zs : List �
 
 -- no head is pushed, xs is left, and its first byte is at offset p
 abbrev pub IsAt : {S : Type 0} → (S → Option (List ℕ)) → Decoder S → List ℕ → ℕ → Type 0
-IsAt remaining d xs p = (d.count ≡ p) × (left_of remaining d ≡ Some xs)
+IsAt remaining d xs p = (d.window.count ≡ p) × (left_of remaining d ≡ Some xs)
 
 -- a head was pulled where xs was ahead from offset p on
 abbrev pub IsPulled : {S : Type 0} → (S → Option (List ℕ)) → Decoder S → Header → List ℕ → ℕ → Type 0
@@ -36,4 +36,4 @@ heads_by n (Some h) = 2 * n + 1
 
 -- a bound on the heads that can still be pulled
 abbrev pub heads_left : {S : Type 0} → Decoder S → ℕ
-heads_left d = heads_by (greatest_offset - d.count) d.pushed
+heads_left d = heads_by (greatest_offset - d.window.count) d.pushed

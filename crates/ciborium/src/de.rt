@@ -89,8 +89,8 @@ fn read<T: Deserialize, R: Read>(
 /// `i128` holds); `RecursionLimitExceeded` where an array, map or tag stands where no level is
 /// left; `TooLong` where the item would pass the greatest offset; `Memory` where a growth was
 /// refused. Bytes from the front on have then been taken from the reader: those that were looked
-/// at, and behind them up to 256, one at most for each part that was left of an array or map of
-/// eight parts or more, whose length was announced. None is read ahead where a `Value` is read.
+/// at, and behind them up to 256, one at most for each part that was left of an array or map whose
+/// length was announced. None is read ahead where a `Value` is read.
 pub fn from_reader<T: Deserialize, R: Read>(
     alloc: Global,
     reader: &mut R,

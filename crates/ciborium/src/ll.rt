@@ -1,3 +1,3 @@
 //! Heads, strings and offsets over any reader and writer: the lowest layer, re-exported.
 
-pub use ciborium_ll::{Decoder, Encoder, Error, Failed, Header, simple, tag};
+pub use ciborium_ll::{Answered, Decoder, Encoder, Error, Failed, Header, Keep, simple, tag};

@@ -1,22 +1,15 @@
 -- The first head of a reader, from its first read on.
-use Rattle.std.proofs.Common.{◌≡◌, ℕ, zero, suc, ◌+◌, ◌<◌, ◌≤◌, List, [], ◌∷◌, ◌++◌, length, get_or, take, cond, Bool, true, false, Option, Some, None, Result, Ok, Err, IfOk, IfNone, refl, sym, ap, ◌∙◌, subst, arith, lt-ltb, Fits, w8}
-use Rattle.std.specs.declared.io.Error.{Error as IoError}
-use Rattle.std.specs.Io.{ReadsAtMost}
-use Rattle.std.specs.Io.KnownBytes.{Consumes, IsAtEnd, Keeps, ReadConsumes}
-use Rattle.std.proofs.lemmas.List.Elements.{All-from_get_or}
-use Rattle.std.proofs.KnownBytes.{Consumes-nil, Consumes-kept}
+use Rattle.std.proofs.Common.{◌≡◌, ℕ, zero, suc, ◌<◌, ◌≤◌, List, [], ◌∷◌, ◌++◌, length, take, cond, Option, Some, None, Result, Ok, Err, IfOk, IfNone, refl, sym, ap, ◌∙◌, subst, arith, lt-ltb}
+use Rattle.std.specs.Io.KnownBytes.{IsAtEnd}
 use Rattle.ciborium_ll.specs.declared.header.Header.{Header}
 use Rattle.ciborium_ll.specs.declared.header.Error.{Error}
 use Rattle.ciborium_ll.specs.declared.header.Error.TheVariants.{Io, Syntax, TooLong, Memory}
-use Rattle.ciborium_ll.specs.Bytes.{AreBytes, greatest_offset}
-use Rattle.ciborium_ll.specs.FirstHeads.{GivesInitial, IsEndOrFault, IsFirstTaken, IsIo, PullsFirstTo, TellsEnd}
+use Rattle.ciborium_ll.specs.Bytes.{greatest_offset}
+use Rattle.ciborium_ll.specs.FirstHeads.{IsEndOrFault, IsFirstTaken, IsIo, PullsFirstTo}
 use Rattle.ciborium_ll.specs.Reading.{Advances, IsHeadTaken}
 use Rattle.ciborium_ll.specs.Refusal.{Refusal, io, syntax, too_long, HeadRefuses, head_refusal}
-use Rattle.ciborium_ll.proofs.Advancing.{Filled}
+use Rattle.ciborium_ll.proofs.Advancing.{Advances-map, Filled}
 use Rattle.ciborium_ll.proofs.Unread.{pulls-head, rest-of}
-
-no-bytes : AreBytes []
-no-bytes k d h = absurd (omega (arith, h))
 
 none-refused : (p : ℕ) → p < greatest_offset → HeadRefuses [] p io
 none-refused p h = ap (λ t. cond t (Some io) (Some too_long)) (lt-ltb p greatest_offset h)
@@ -27,40 +20,26 @@ none-needed p (Syntax at) h i = absurd i
 none-needed p TooLong h i = absurd i
 none-needed p Memory h i = absurd i
 
-nothing-taken : (a b : Option (List ℕ)) → Keeps a b → Consumes a b []
-nothing-taken a b kept = Consumes-kept a a b [] (Consumes-nil a) kept
+one-byte : (n : ℕ) (xs : List ℕ) → n ≤ length xs → length xs ≡ 1 → (n ≡ 0 → ⊥) → take n xs ≡ xs
+one-byte n [] h one some = absurd (omega (arith, one))
+one-byte zero (x ∷ xs) h one some = absurd (some refl)
+one-byte (suc zero) (x ∷ []) h one some = refl
+one-byte (suc (suc n)) (x ∷ []) h one some = absurd (omega (arith, h))
+one-byte n (x ∷ y ∷ xs) h one some = absurd (omega (arith, one))
 
-one-byte : (n : ℕ) (xs : List ℕ) → suc n ≤ length xs → length xs ≡ 1 → take (suc n) xs ≡ xs
-one-byte n [] h one = absurd (omega (arith, one))
-one-byte zero (x ∷ []) h one = refl
-one-byte (suc n) (x ∷ []) h one = absurd (omega (arith, h))
-one-byte n (x ∷ y ∷ xs) h one = absurd (omega (arith, one))
-
--- a buffer of bytes holds bytes
-are-bytes : (xs : List ℕ) → ((i : ℕ) → Fits w8 (get_or xs i 0)) → AreBytes xs
-are-bytes xs fits = All-from_get_or (λ x. x < 256) xs 0 (λ i h. let f = fits i in omega (arith, f))
-
--- what the first read says
-pub initial-given : {E : Type 0} (a b : Option (List ℕ)) (read : Result ℕ IoError) (buffer : List ℕ) (some : Result Bool (Error E)) → TellsEnd {E = E} read some → ReadConsumes a b read buffer → ReadsAtMost read buffer →
-    length buffer ≡ 1 → ((i : ℕ) → Fits w8 (get_or buffer i 0)) → GivesInitial {E = E} a b buffer some
-initial-given a b (Ok zero) buffer (Ok true) tells taken most one bytes = absurd cc
-initial-given a b (Ok zero) buffer (Ok false) tells taken most one bytes = (taken.0, taken.1 refl (omega (arith, one)))
-initial-given a b (Ok (suc n)) buffer (Ok true) tells taken most one bytes = (subst (Consumes a b) (one-byte n buffer most.0 one) taken.0, are-bytes buffer bytes)
-initial-given a b (Ok (suc n)) buffer (Ok false) tells taken most one bytes = absurd cc
-initial-given a b (Ok zero) buffer (Err e) tells taken most one bytes = absurd tells
-initial-given a b (Ok (suc n)) buffer (Err e) tells taken most one bytes = absurd tells
-initial-given a b (Err x) buffer (Ok true) tells taken most one bytes = absurd tells
-initial-given a b (Err x) buffer (Ok false) tells taken most one bytes = absurd tells
-initial-given a b (Err x) buffer (Err e) tells taken most one bytes = (nothing-taken a b taken, tells)
+-- the reader is at its end
+pub first-none : (E : Type 0) (a b : Option (List ℕ)) (p q n : ℕ) (buffer : List ℕ) → n ≡ 0 → Advances a b p q (λ x. x ≡ take n buffer) → Advances a b p q (λ x. IsFirstTaken {E = E} x p (Ok None))
+first-none E a b p q n buffer none = Advances-map a b p q (λ x. x ≡ take n buffer) (λ x. x ≡ []) (λ x h. h ∙ ap (λ k. take k buffer) none)
 
 -- it failed
-pub first-fault : {E : Type 0} (a b : Option (List ℕ)) (p : ℕ) (buffer : List ℕ) (e : Error E) → p < greatest_offset → GivesInitial {E = E} a b buffer (Err e) → Advances a b p p (λ x. IsFirstTaken {E = E} x p (Err e))
-first-fault a b p buffer e room (taken, is) = ([], taken, omega arith, none-needed p e room is, no-bytes)
+pub first-fault : {E : Type 0} (a b : Option (List ℕ)) (p q : ℕ) (e : Error E) → p < greatest_offset → Advances a b p q (λ x. x ≡ []) × IsIo e → Advances a b p q (λ x. IsFirstTaken {E = E} x p (Err e))
+first-fault {E} a b p q e room (taken, is) =
+    Advances-map a b p q (λ x. x ≡ []) (λ x. IsHeadTaken {E = E} x p (Err e)) (λ x h. subst (λ z. IsHeadTaken {E = E} z p (Err e)) (sym h) (none-needed p e room is)) taken
 
 -- it gave the initial byte
-pub first-given : (E : Type 0) (a b : Option (List ℕ)) (p : ℕ) (buffer : List ℕ) (some : Bool) → p < greatest_offset → some ≡ true → GivesInitial {E = E} a b buffer (Ok some) → length buffer ≡ 1 → Advances a b p (p + 1) (λ x. Filled x p buffer)
-first-given E a b p buffer true room is given one = (buffer, given.0, omega (arith, one), (refl, omega (arith, one, room)), given.1)
-first-given E a b p buffer false room is given one = absurd cc
+pub first-given : (a b : Option (List ℕ)) (p q n : ℕ) (buffer : List ℕ) → p < greatest_offset → (n ≡ 0 → ⊥) → length buffer ≡ 1 → n ≤ length buffer → Advances a b p q (λ x. x ≡ take n buffer) → Advances a b p q (λ x. Filled x p buffer)
+first-given a b p q n buffer room some one fits =
+    Advances-map a b p q (λ x. x ≡ take n buffer) (λ x. Filled x p buffer) (λ x h. (h ∙ one-byte n buffer fits one some, omega (arith, one, room)))
 
 -- ---- what is said of all that is unread
 

@@ -7,8 +7,8 @@ use Rattle.std.proofs.KnownBytes.{Consumes-nil}
 use Rattle.ciborium_ll.specs.declared.header.Error.{Error}
 use Rattle.ciborium_ll.specs.declared.header.Error.TheVariants.{Io, Syntax, TooLong, Memory}
 use Rattle.ciborium_ll.specs.Bytes.{greatest_offset}
-use Rattle.ciborium_ll.specs.declared.lookahead.Lookahead.{Lookahead}
-use Rattle.ciborium_ll.specs.Lookahead.{AdvancesBehind, unread}
+use Rattle.ciborium_ll.specs.declared.window.Window.{Window}
+use Rattle.ciborium_ll.specs.Windows.{unread}
 use Rattle.ciborium_ll.specs.Reading.{Advances, IsFillTaken}
 use Rattle.ciborium_ll.specs.StringRefusal.{IsAllowed, StringKind}
 use Rattle.ciborium_ll.specs.Strings.{Extends, Grows, IsPayloadTaken, IsPiecesTaken}
@@ -61,13 +61,13 @@ piece-dropped a b c p q r n left old mid new piece short same before now =
     (λ x y s h. (omega (arith, short, s.1, ap length h.0, length-append x y), (x, same ∙ s.0))) before now
 
 -- what was held was appended
-pub held-appended : (o : Option (List ℕ)) (a : Lookahead) (p q n size : ℕ) (old new : List ℕ) → size ≤ n → AdvancesBehind a o o p q (λ b. (new ≡ old ++ b) × (length b ≡ size)) → AdvancesBehind a o o p q (λ b. (new ≡ old ++ b) × (length b + (n - size) ≡ n))
-held-appended o a p q n size old new less (b, taken, count, (items, len), bytes) = (b, taken, count, (items, omega (arith, len, less)), bytes)
+pub held-appended : (a b : Option (List ℕ)) (p q n size : ℕ) (old new : List ℕ) → size ≤ n → Advances a b p q (λ x. (new ≡ old ++ x) × (length x ≡ size)) → Advances a b p q (λ x. (new ≡ old ++ x) × (length x + (n - size) ≡ n))
+held-appended a c p q n size old new less (b, taken, count, (items, len), bytes) = (b, taken, count, (items, omega (arith, len, less)), bytes)
 
 -- the memory for it was refused
-pub held-dropped : (o : Option (List ℕ)) (a : Lookahead) (p q n : ℕ) (old new : List ℕ) → q ≡ p → new ≡ old → AdvancesBehind a o o p q (λ b. (length b ≤ n) × Extends old new)
-held-dropped o a p q n old new same items =
-    ([], subst (λ k. Consumes (unread o a p) (unread o a k) []) (sym same) (Consumes-nil (unread o a p)), omega (arith, same), (omega arith, ([], items ∙ sym (append-nil old))), λ k d lt. absurd (omega (arith, lt)))
+pub held-dropped : (o : Option (List ℕ)) (v w : Window) (n : ℕ) (old new : List ℕ) → w ≡ v → new ≡ old → Advances (unread o v) (unread o w) v.count w.count (λ x. (length x ≤ n) × Extends old new)
+held-dropped o v w n old new same items =
+    ([], subst (λ u. Consumes (unread o v) (unread o u) []) (sym same) (Consumes-nil (unread o v)), omega (arith, ap (λ (u : Window). u.count) same), (omega arith, ([], items ∙ sym (append-nil old))), λ k d lt. absurd (omega (arith, lt)))
 
 -- ---- a payload that was appended whole, or whose pieces are taken off again
 

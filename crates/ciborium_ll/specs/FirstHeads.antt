@@ -1,12 +1,9 @@
 -- The first head of a reader that may have none: what reading it answers, and how it tells the end from a cut (RFC 8742, section 2).
-use Rattle.std.specs.Prelude.{◌≡◌, ℕ, zero, suc, ◌+◌, List, [], Option, Some, None, Bool, true, false, Result, Ok, Err}
-use Rattle.std.specs.Io.KnownBytes.{Consumes, IsAtEnd}
-use Rattle.std.specs.declared.io.Error.{Error as IoError}
+use Rattle.std.specs.Prelude.{◌≡◌, ℕ, ◌+◌, List, [], Option, Some, None, Result, Ok, Err}
 use Rattle.ciborium_ll.specs.declared.header.Header.{Header}
 use Rattle.ciborium_ll.specs.declared.header.Error.{Error}
 use Rattle.ciborium_ll.specs.declared.header.Error.TheVariants.{Io, Syntax, TooLong, Memory}
 use Rattle.ciborium_ll.specs.declared.decoder.Decoder.{Decoder}
-use Rattle.ciborium_ll.specs.Bytes.{AreBytes}
 use Rattle.ciborium_ll.specs.Decoding.{PullsTo, left_of}
 use Rattle.ciborium_ll.specs.Reading.{IsHeadTaken}
 
@@ -16,20 +13,6 @@ IsIo (Io e) = Unit {0}
 IsIo (Syntax p) = ⊥
 IsIo TooLong = ⊥
 IsIo Memory = ⊥
-
--- the answer says whether a read gave a byte: one that gave none is the end, and a fault is `Io`
-abbrev pub TellsEnd : {E : Type 0} → Result ℕ IoError → Result Bool (Error E) → Type 0
-TellsEnd (Ok zero) (Ok some) = some ≡ false
-TellsEnd (Ok (suc n)) (Ok some) = some ≡ true
-TellsEnd (Ok n) (Err e) = ⊥
-TellsEnd (Err x) (Ok some) = ⊥
-TellsEnd (Err x) (Err e) = IsIo e
-
--- the initial byte was taken; or nothing was, and known bytes are none; or nothing was, and the reader failed
-abbrev pub GivesInitial : {E : Type 0} → Option (List ℕ) → Option (List ℕ) → List ℕ → Result Bool (Error E) → Type 0
-GivesInitial old new initial (Ok true) = Consumes old new initial × AreBytes initial
-GivesInitial old new initial (Ok false) = Consumes old new [] × IsAtEnd new
-GivesInitial old new initial (Err e) = Consumes old new [] × IsIo e
 
 -- b are the bytes taken at offset p, where reading the first head answers so: none at the end, and otherwise just those that
 -- decide the answer
@@ -41,7 +24,7 @@ IsFirstTaken {E} b p (Err e) = IsHeadTaken {E = E} b p (Err e)
 -- a head that is taken is measured; the end, or a refusal, changes nothing
 abbrev pub MeasuresFirst : {S E : Type 0} → Decoder S → Decoder S → Result (Option Header) (Error E) → Type 0
 MeasuresFirst old new (Ok None) = new.head_len ≡ old.head_len
-MeasuresFirst old new (Ok (Some header)) = new.count ≡ old.count + new.head_len
+MeasuresFirst old new (Ok (Some header)) = new.window.count ≡ old.window.count + new.head_len
 MeasuresFirst old new (Err e) = new.head_len ≡ old.head_len
 
 -- reading the first head at the front of b, whose first byte is at offset p, answers so: the end where b is empty, and otherwise
@@ -53,7 +36,7 @@ PullsFirstTo {E} last count left b p (Err e) = PullsTo {E = E} last count left b
 
 -- the decoder has read so
 abbrev pub PullsFirst : {S E : Type 0} → (S → Option (List ℕ)) → Decoder S → List ℕ → ℕ → Result (Option Header) (Error E) → Type 0
-PullsFirst remaining d b p result = PullsFirstTo d.last d.count (left_of remaining d) b p result
+PullsFirst remaining d b p result = PullsFirstTo d.last d.window.count (left_of remaining d) b p result
 
 -- the answer where nothing is left: the end, unless the reader failed
 abbrev pub IsEndOrFault : {E : Type 0} → Result (Option Header) (Error E) → Type 0

@@ -11,7 +11,8 @@ pub mod Header
 pub mod HeaderLaws
 pub mod Reading
 pub mod Strings
-pub mod Lookahead
+pub mod Windows
 pub mod Decoding
 pub mod FirstHeads
+pub mod Cursors
 pub mod Writing

@@ -1,43 +1,38 @@
 //! A reader of heads.
 
-ghost use Rattle.std.specs.Prelude.{◌≤◌};
-ghost use Rattle.ciborium_ll.specs.Bytes.{greatest_offset};
-ghost use Rattle.ciborium_ll.specs.Lookahead.{IsAheadOf};
-
+use crate::cursor::Cursor;
 use crate::header::{Error, Header};
 use crate::keep::{Answered, Keep};
-use crate::lookahead::Lookahead;
-use crate::reading::{fill, read_first_head, read_head, read_split};
-use crate::strings::{Kind, append_string};
+use crate::strings::Kind;
+use crate::window::Window;
 use std::io::{self, Read};
 use std::mem;
 
 /// Reads heads and payloads from a reader that it is lent, and counts the bytes that it takes.
 ///
-/// No byte is read past what a call needs, but by `look_ahead`, and none whose offset would pass
-/// `usize::MAX`. After a refusal a beginning of what was to be read has been taken from the reader.
-/// Bytes that were read ahead and never taken are lost to the lender.
+/// The reader is called only where a byte is needed that is not held, and then once: for what is
+/// needed, or for the bytes that `allow` said are due, whichever is more. No byte is read whose
+/// offset would pass `usize::MAX`. After a refusal a beginning of what was to be read has been taken
+/// from the reader. Bytes that were read ahead and never taken are lost to the lender.
 #[derive(Drop)]
 pub struct Decoder<'a, R> {
     reader: &'a mut R,
-    lookahead: Lookahead,
-    count: usize,
+    window: Window,
     pushed: Option<(Header, usize)>,
     last: usize,
     head_len: usize,
-    ghost ahead: { IsAheadOf lookahead count },
-    ghost fits: { count ≤ greatest_offset },
 }
 
 impl<'a, R: Read> Decoder<'a, R> {
-    ghost use Rattle.std.specs.Prelude.{[], ◌≡◌, ◌<◌, ◌∷◌, IfErr, IfNone, IfOk, IfSome, List, None, Ok};
-    ghost use Rattle.std.specs.Prelude.{Some, max, string_bytes, ℕ};
-    ghost use Rattle.std.specs.Io.KnownBytes.{IsAtEnd, Keeps};
+    ghost use Rattle.std.specs.Prelude.{[], ◌≡◌, ◌-◌, ◌<◌, ◌∷◌, IfErr, IfNone, IfOk, IfSome, List, None};
+    ghost use Rattle.std.specs.Prelude.{Ok, Some, max, min, string_bytes, ℕ};
+    ghost use Rattle.std.specs.Io.KnownBytes.{IsAtEnd};
+    ghost use Rattle.ciborium_ll.specs.Bytes.{greatest_offset};
     ghost use Rattle.ciborium_ll.specs.Decoding.{HasBegun, HasSameReader, IsAhead, IsUnread};
     ghost use Rattle.ciborium_ll.specs.Decoding.{MeasuresHead, Pulls, Takes};
-    ghost use Rattle.ciborium_ll.specs.Decoding.{count_of, head_len_of, held_count, last_of};
+    ghost use Rattle.ciborium_ll.specs.Decoding.{allowed_of, count_of, head_len_of, last_of};
     ghost use Rattle.ciborium_ll.specs.Decoding.{left_of, offset_of, pushed_of};
-    ghost use Rattle.ciborium_ll.specs.FirstHeads.{IsEndOrFault, IsFirstTaken, IsIo, MeasuresFirst};
+    ghost use Rattle.ciborium_ll.specs.FirstHeads.{IsEndOrFault, IsFirstTaken, MeasuresFirst};
     ghost use Rattle.ciborium_ll.specs.FirstHeads.{PullsFirst};
     ghost use Rattle.ciborium_ll.specs.Reading.{IsFillTaken, IsHeadTaken, IsRefusedBy};
     ghost use Rattle.ciborium_ll.specs.StringRefusal.{ContentRefuses, of_bytes, of_text};
@@ -58,8 +53,7 @@ impl<'a, R: Read> Decoder<'a, R> {
     {
         Decoder {
             reader,
-            lookahead: Lookahead::none(offset),
-            count: offset,
+            window: Window::new(offset),
             pushed: None,
             last: offset,
             head_len: 0,
@@ -74,7 +68,7 @@ impl<'a, R: Read> Decoder<'a, R> {
     {
         match self.pushed {
             Some((_, offset)) => offset,
-            None => self.count,
+            None => self.window.count,
         }
     }
 
@@ -175,7 +169,7 @@ impl<'a, R: Read> Decoder<'a, R> {
             self.last = offset;
             return Ok(header);
         }
-        self.pull_split_keeping(keep)
+        self.pull_next_keeping(keep)
     }
 
     /// What `pull_keeping` does where no head was pushed back.
@@ -193,42 +187,23 @@ impl<'a, R: Read> Decoder<'a, R> {
         ensures ahead { (b : List ℕ) (p : ℕ) → IsAhead R.remaining self.old b p →
             Pulls R.remaining self.new b p result }
     {
-        let start = self.count;
+        let start = self.window.count;
         self.last = start;
-        let pulled = read_head(self.reader, &self.lookahead, &mut self.count, keep);
+        let mut cursor = Cursor {
+            reader: self.reader,
+            window: &mut self.window,
+            keep,
+        };
+        let pulled = cursor.read_head();
         if pulled.is_ok() {
-            self.head_len = self.count - start;
+            self.head_len = self.window.count - start;
         }
         pulled
     }
 
-    // What `pull_next_keeping` does, with no way of its own for heads that are held whole.
-    #[inline(always)]
-    fn pull_split_keeping<K: Keep>(&mut self, keep: &mut K) -> Result<Header, Error<K::Kept>>
-        requires { pushed_of self.old ≡ None }
-        ensures same_reader { HasSameReader self.old self.new }
-        ensures none_pushed { pushed_of self.new ≡ None }
-        ensures taken { Takes R.remaining self.old self.new
-            (λ b. IsHeadTaken b (count_of self.old) result) }
-        ensures last { last_of self.new ≡ count_of self.old }
-        ensures head_len { MeasuresHead self.old self.new result }
-
-        // The same, said of all that is unread.
-        ensures ahead { (b : List ℕ) (p : ℕ) → IsAhead R.remaining self.old b p →
-            Pulls R.remaining self.new b p result }
-    {
-        let offset = self.count;
-        self.last = offset;
-        let pulled = read_split(self.reader, &self.lookahead, &mut self.count, keep);
-        if pulled.is_ok() {
-            self.head_len = self.count - offset;
-        }
-        pulled
-    }
-
-    /// The first head of the reader, as `pull` answers it, or `None` where the first read gives
-    /// nothing: there a sequence of items ends (RFC 8742, section 2). A sequence that is cut short
-    /// within the head is no end. No head was pulled or pushed before.
+    /// The first head of the reader, as `pull` answers it, or `None` where the reader is at its end:
+    /// there a sequence of items ends (RFC 8742, section 2). A sequence that is cut short within the
+    /// head is no end. No head was pulled or pushed before.
     ///
     /// # Errors
     ///
@@ -238,7 +213,6 @@ impl<'a, R: Read> Decoder<'a, R> {
     pub fn pull_first(&mut self) -> Result<Option<Header>, Error<io::Error>>
         requires unpushed { pushed_of self.old ≡ None }
         requires unpulled { head_len_of self.old ≡ 0 }
-        requires begun { last_of self.old ≡ count_of self.old }
         requires room { count_of self.old < greatest_offset }
         ensures same_reader { HasSameReader self.old self.new }
         ensures none_pushed { pushed_of self.new ≡ None }
@@ -257,84 +231,35 @@ impl<'a, R: Read> Decoder<'a, R> {
         ensures ahead { (b : List ℕ) (p : ℕ) → IsAhead R.remaining self.old b p →
             PullsFirst R.remaining self.new b p result }
     {
-        self.pull_first_keeping(&mut Answered)
-    }
-
-    /// What `pull_first` does; a reader's error goes to `keep`.
-    #[inline(always)]
-    pub fn pull_first_keeping<K: Keep>(
-        &mut self,
-        keep: &mut K,
-    ) -> Result<Option<Header>, Error<K::Kept>>
-        requires unpushed { pushed_of self.old ≡ None }
-        requires unpulled { head_len_of self.old ≡ 0 }
-        requires begun { last_of self.old ≡ count_of self.old }
-        requires room { count_of self.old < greatest_offset }
-        ensures same_reader { HasSameReader self.old self.new }
-        ensures none_pushed { pushed_of self.new ≡ None }
-
-        // At the end nothing is taken, and otherwise just the bytes that decide the answer.
-        ensures taken { Takes R.remaining self.old self.new
-            (λ b. IsFirstTaken b (count_of self.old) result) }
-        ensures last { last_of self.new ≡ count_of self.old }
-        ensures head_len { MeasuresFirst self.old self.new result }
-
-        // Where the reader's bytes are known, the end is where none are left, unless it failed.
-        ensures end { IfOk result (λ o. IfNone o (IsAtEnd (left_of R.remaining self.new))) }
-        ensures empty { left_of R.remaining self.old ≡ Some [] → IsEndOrFault result }
-
-        // The same, said of all that is unread.
-        ensures ahead { (b : List ℕ) (p : ℕ) → IsAhead R.remaining self.old b p →
-            PullsFirst R.remaining self.new b p result }
-    {
-        let pulled = read_first_head(self.reader, &self.lookahead, &mut self.count, keep);
+        let offset = self.window.count;
+        self.last = offset;
+        let mut cursor = Cursor {
+            reader: self.reader,
+            window: &mut self.window,
+            keep: &mut Answered,
+        };
+        let pulled = cursor.read_first_head();
         if let Ok(Some(_)) = pulled {
-            self.head_len = self.count - self.last;
+            self.head_len = self.window.count - offset;
         }
         pulled
     }
 
-    /// Reads up to `n` bytes ahead, at most 256, in one read of the reader, unless bytes are held
-    /// that were read ahead before: the caller is sure to take that many. Later calls take the bytes
-    /// that are held before they read. The reader's end is left to be met by them.
-    ///
-    /// # Errors
-    ///
-    /// `Io` where the read fails; then nothing has been taken from the reader.
+    /// Says that the caller is sure to take the next `n` bytes, those that are held included. Where a
+    /// later call needs a byte and holds none, it may read so far ahead, 256 bytes at most, in the
+    /// one read that it makes. Nothing is read here.
     #[inline(always)]
-    pub fn look_ahead(&mut self, n: usize) -> Result<(), Error<io::Error>>
+    pub fn allow(&mut self, n: usize)
         ensures name { self.new.reader.ghost_name ≡ self.old.reader.ghost_name }
         ensures pushed { pushed_of self.new ≡ pushed_of self.old }
         ensures last { last_of self.new ≡ last_of self.old }
         ensures head_len { head_len_of self.new ≡ head_len_of self.old }
         ensures count { count_of self.new ≡ count_of self.old }
-        ensures unread { Keeps (left_of R.remaining self.old) (left_of R.remaining self.new) }
-        ensures held { held_count self.new ≤ max (held_count self.old) n }
-        ensures fault { IfErr result IsIo }
+        ensures unread { left_of R.remaining self.new ≡ left_of R.remaining self.old }
+        ensures allowed { allowed_of self.new ≡
+            max (allowed_of self.old) (min n (greatest_offset - count_of self.old)) }
     {
-        self.look_ahead_keeping(n, &mut Answered)
-    }
-
-    /// What `look_ahead` does; a reader's error goes to `keep`.
-    #[inline(always)]
-    pub fn look_ahead_keeping<K: Keep>(
-        &mut self,
-        n: usize,
-        keep: &mut K,
-    ) -> Result<(), Error<K::Kept>>
-        ensures name { self.new.reader.ghost_name ≡ self.old.reader.ghost_name }
-        ensures pushed { pushed_of self.new ≡ pushed_of self.old }
-        ensures last { last_of self.new ≡ last_of self.old }
-        ensures head_len { head_len_of self.new ≡ head_len_of self.old }
-        ensures count { count_of self.new ≡ count_of self.old }
-        ensures unread { Keeps (left_of R.remaining self.old) (left_of R.remaining self.new) }
-        ensures held { held_count self.new ≤ max (held_count self.old) n }
-        ensures fault { IfErr result IsIo }
-    {
-        if !self.lookahead.is_used_up(self.count) {
-            return Ok(());
-        }
-        self.lookahead.refill(self.reader, self.count, n, keep)
+        self.window.allow(n);
     }
 
     /// The next byte, where it was read ahead. It is not taken.
@@ -343,7 +268,7 @@ impl<'a, R: Read> Decoder<'a, R> {
         ensures { IfSome result (λ x. (b : List ℕ) → left_of R.remaining self.now ≡ Some b →
             (rest : List ℕ) × (b ≡ x ∷ rest)) }
     {
-        self.lookahead.byte(self.count)
+        self.window.byte()
     }
 
     /// Fills the buffer with the next bytes.
@@ -380,7 +305,12 @@ impl<'a, R: Read> Decoder<'a, R> {
         ensures taken { Takes R.remaining self.old self.new
             (λ b. IsFillTaken b (count_of self.old) buffer.new result) }
     {
-        fill(self.reader, &self.lookahead, buffer, &mut self.count, keep)
+        Cursor {
+            reader: self.reader,
+            window: &mut self.window,
+            keep,
+        }
+        .fill(buffer)
     }
 
     /// Appends the payload of the byte string whose head was pulled last, with the length that the
@@ -436,17 +366,13 @@ impl<'a, R: Read> Decoder<'a, R> {
             IfErr result (λ e. IsRefusedBy (left_of R.remaining self.new) e
             (ContentRefuses of_bytes len (last_of self.old) b (count_of self.old))) }
     {
-        append_string(
-            self.reader,
-            &self.lookahead,
-            &mut self.count,
+        let head = self.last;
+        Cursor {
+            reader: self.reader,
+            window: &mut self.window,
             keep,
-            Kind::Bytes,
-            len,
-            self.last,
-            scratch,
-            out,
-        )
+        }
+        .append_string(Kind::Bytes, len, head, scratch, out)
     }
 
     /// Appends the payload of the text whose head was pulled last, as `bytes_into` does that of a
@@ -503,17 +429,13 @@ impl<'a, R: Read> Decoder<'a, R> {
     {
         let empty = String::new(*out.allocator());
         let mut bytes = mem::replace(out, empty).into_bytes();
-        let result = append_string(
-            self.reader,
-            &self.lookahead,
-            &mut self.count,
+        let head = self.last;
+        let mut cursor = Cursor {
+            reader: self.reader,
+            window: &mut self.window,
             keep,
-            Kind::Text,
-            len,
-            self.last,
-            scratch,
-            &mut bytes,
-        );
+        };
+        let result = cursor.append_string(Kind::Text, len, head, scratch, &mut bytes);
         // SAFETY: `out` held UTF-8, and each part that was appended to it is UTF-8 by itself.
         *out = unsafe { String::from_utf8_unchecked(bytes) };
         result

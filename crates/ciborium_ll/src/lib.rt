@@ -2,6 +2,7 @@
 //! the numbers that one head holds.
 #![tactic(auto)]
 
+mod cursor;
 mod decoder;
 mod encoder;
 mod header;
@@ -14,6 +15,7 @@ pub mod simple;
 pub mod spelling_laws;
 mod strings;
 pub mod tag;
+mod window;
 mod writing;
 
 pub use decoder::Decoder;

@@ -1,79 +1,19 @@
-//! Reads by loops of the crate's own, which no device can hold up.
+//! Heads, as they come or out of what is held.
 //!
 //! An `io::Error` is large, and so is a result that may hold one: inlined, none is moved on the way
 //! of a head.
 
-ghost use Rattle.std.specs.Prelude.{◌≡◌, ◌+◌, ◌<◌, ◌≤◌, ◌%◌, ◌∷◌, IfNone, IfOk, length};
-ghost use Rattle.std.specs.Io.KnownBytes.{IsAtEnd};
-ghost use Rattle.ciborium_ll.specs.FirstHeads.{GivesInitial, IsFirstTaken, TellsEnd};
+ghost use Rattle.std.specs.Prelude.{◌≡◌, ◌+◌, ◌≤◌, ◌%◌, ◌∷◌, length};
 ghost use Rattle.ciborium_ll.specs.Header.{announced_length};
-ghost use Rattle.ciborium_ll.specs.Lookahead.{AdvancesBehind, IsAheadOf, held, unread};
 ghost use Rattle.ciborium_ll.specs.Refusal.{argument_length};
-ghost use Rattle.ciborium_ll.specs.Reading.{Advances, IsFillTaken, IsHeadTaken};
+ghost use Rattle.ciborium_ll.specs.Reading.{IsHeadTaken};
 
+use crate::cursor::Cursor;
 use crate::header::{Error, Header};
 use crate::keep::Keep;
-use crate::lookahead::Lookahead;
 use crate::parsing::parse_head;
-use std::io::{self, ErrorKind, Read};
-
-// Fills the buffer, which does not pass the greatest offset, and takes what is held first. A read
-// of nothing or a fault of the device ends it.
-#[inline(always)]
-fn fill_within<R: Read, K: Keep>(
-    reader: &mut R,
-    ahead: &Lookahead,
-    buffer: &mut [u8],
-    count: &mut usize,
-    keep: &mut K,
-) -> Result<(), Error<K::Kept>>
-    requires ahead { IsAheadOf ahead.now count.old }
-    requires room { count.old + length buffer.old ≤ usize.MAX }
-    ensures onward { count.old ≤ count.new }
-    ensures fits { count.new ≤ usize.MAX }
-    ensures bytes { AdvancesBehind ahead.now (R.remaining reader.old) (R.remaining reader.new)
-        count.old count.new (λ b. IsFillTaken b count.old buffer.new result) }
-{
-    let mut filled = 0;
-    while filled < buffer.len() {
-        if let Some(byte) = ahead.byte(*count) {
-            buffer[filled] = byte;
-            filled += 1;
-            *count += 1;
-            continue;
-        }
-        match reader.read(&mut buffer[filled..]) {
-            Ok(0) => return Err(Error::Io(keep.keep(io::Error::from(ErrorKind::UnexpectedEof)))),
-            Ok(n) => {
-                filled += n;
-                *count += n;
-            }
-            Err(e) => return Err(Error::Io(keep.keep(e))),
-        }
-    }
-    Ok(())
-}
-
-// Fills the buffer, and reads nothing where that would pass the greatest offset.
-#[inline(always)]
-pub(crate) fn fill<R: Read, K: Keep>(
-    reader: &mut R,
-    ahead: &Lookahead,
-    buffer: &mut [u8],
-    count: &mut usize,
-    keep: &mut K,
-) -> Result<(), Error<K::Kept>>
-    requires { IsAheadOf ahead.now count.old }
-    ensures onward { count.old ≤ count.new }
-    ensures fits { count.new ≤ usize.MAX }
-    ensures bytes { AdvancesBehind ahead.now (R.remaining reader.old) (R.remaining reader.new)
-        count.old count.new (λ b. IsFillTaken b count.old buffer.new result) }
-{
-    if usize::MAX - *count < buffer.len() {
-        return Err(Error::TooLong);
-    }
-    fill_within(reader, ahead, buffer, count, keep)
-}
+use crate::window::Window;
+use std::io::Read;
 
 // How many bytes of payload a definite string's head announces.
 #[inline(always)]
@@ -102,29 +42,6 @@ fn judge_head<E>(start: usize, end: usize, initial: u8, argument: &[u8]) -> Resu
     Ok(header)
 }
 
-// Reads the argument behind the initial byte of the head at this offset.
-#[inline(always)]
-fn read_argument<R: Read, K: Keep>(
-    reader: &mut R,
-    ahead: &Lookahead,
-    count: &mut usize,
-    keep: &mut K,
-    start: usize,
-    initial: u8,
-    argument: &mut [u8],
-) -> Result<Header, Error<K::Kept>>
-    requires ahead { IsAheadOf ahead.now count.old }
-    requires behind { count.old ≡ start + 1 }
-    requires whole { length argument.old ≡ argument_length (initial % 32) }
-    ensures onward { count.old ≤ count.new }
-    ensures fits { count.new ≤ usize.MAX }
-    ensures head { AdvancesBehind ahead.now (R.remaining reader.old) (R.remaining reader.new)
-        count.old count.new (λ b. IsHeadTaken (initial ∷ b) start result) }
-{
-    fill(reader, ahead, argument, count, keep)?;
-    judge_head(start, *count, initial, argument)
-}
-
 // How many bytes of argument follow an initial byte with this additional information.
 #[tactic(auto, unfolding(crate::specs::Refusal::argument_length))]
 #[inline(always)]
@@ -141,155 +58,123 @@ fn argument_size(info: u8) -> usize
     }
 }
 
-// Reads what follows the initial byte of the head at this offset.
-#[inline(always)]
-fn read_behind<R: Read, K: Keep>(
-    reader: &mut R,
-    ahead: &Lookahead,
-    count: &mut usize,
-    keep: &mut K,
-    start: usize,
-    initial: u8,
-) -> Result<Header, Error<K::Kept>>
-    requires ahead { IsAheadOf ahead.now count.old }
-    requires behind { count.old ≡ start + 1 }
-    ensures onward { count.old ≤ count.new }
-    ensures fits { count.new ≤ usize.MAX }
-    ensures head { AdvancesBehind ahead.now (R.remaining reader.old) (R.remaining reader.new)
-        count.old count.new (λ b. IsHeadTaken (initial ∷ b) start result) }
-{
-    let size = argument_size(initial % 32);
-    if size == 0 {
-        return read_argument(reader, ahead, count, keep, start, initial, &mut []);
-    }
-    let mut room = [0u8; 8];
-    read_argument(
-        reader,
-        ahead,
-        count,
-        keep,
-        start,
-        initial,
-        &mut room[..size],
-    )
-}
+impl Window {
+    ghost use Rattle.std.specs.Prelude.{IfNone, IfSome, List, Option, ℕ};
+    ghost use Rattle.ciborium_ll.specs.Windows.{TakesHeld};
 
-// Reads the head at the front, and takes what is held first.
-#[inline(always)]
-pub(crate) fn read_split<R: Read, K: Keep>(
-    reader: &mut R,
-    ahead: &Lookahead,
-    count: &mut usize,
-    keep: &mut K,
-) -> Result<Header, Error<K::Kept>>
-    requires { IsAheadOf ahead.now count.old }
-    ensures onward { count.old ≤ count.new }
-    ensures fits { count.new ≤ usize.MAX }
-    ensures head { AdvancesBehind ahead.now (R.remaining reader.old) (R.remaining reader.new)
-        count.old count.new (λ b. IsHeadTaken b count.old result) }
-{
-    let start = *count;
-    let mut first = [0u8; 1];
-    fill(reader, ahead, &mut first, count, keep)?;
-    read_behind(reader, ahead, count, keep, start, first[0])
-}
-
-// What `read_split` does. Out of line: where heads are held whole it is seldom called.
-#[inline(never)]
-fn read_apart<R: Read, K: Keep>(
-    reader: &mut R,
-    ahead: &Lookahead,
-    count: &mut usize,
-    keep: &mut K,
-) -> Result<Header, Error<K::Kept>>
-    requires { IsAheadOf ahead.now count.old }
-    ensures onward { count.old ≤ count.new }
-    ensures fits { count.new ≤ usize.MAX }
-    ensures head { AdvancesBehind ahead.now (R.remaining reader.old) (R.remaining reader.new)
-        count.old count.new (λ b. IsHeadTaken b count.old result) }
-{
-    read_split(reader, ahead, count, keep)
-}
-
-// Reads the head at the front.
-#[inline(always)]
-pub(crate) fn read_head<R: Read, K: Keep>(
-    reader: &mut R,
-    ahead: &Lookahead,
-    count: &mut usize,
-    keep: &mut K,
-) -> Result<Header, Error<K::Kept>>
-    requires { IsAheadOf ahead.now count.old }
-    ensures onward { count.old ≤ count.new }
-    ensures fits { count.new ≤ usize.MAX }
-    ensures head { AdvancesBehind ahead.now (R.remaining reader.old) (R.remaining reader.new)
-        count.old count.new (λ b. IsHeadTaken b count.old result) }
-{
-    let start = *count;
-    let held = ahead.held(start);
-    if !held.is_empty() {
+    // Takes the head at the front, where all of it is held.
+    #[inline(always)]
+    pub(crate) fn take_head<E>(&mut self) -> Option<Result<Header, Error<E>>>
+        ensures reach { self.new.reach ≡ self.old.reach }
+        ensures some { IfSome result (λ r. (o : Option (List ℕ)) →
+            TakesHeld o self.old self.new (λ b. IsHeadTaken b self.old.count r)) }
+        ensures none { IfNone result (self.new ≡ self.old) }
+    {
+        let start = self.count;
+        let held = self.held();
+        if held.is_empty() {
+            return None;
+        }
         let initial = held[0];
         let size = argument_size(initial % 32);
-        if size < held.len() {
-            *count = start + 1 + size;
-            return judge_head(start, *count, initial, &held[1..1 + size]);
+        if held.len() <= size {
+            return None;
+        }
+        let end = start + 1 + size;
+        let head = judge_head(start, end, initial, &held[1..1 + size]);
+        self.count = end;
+        Some(head)
+    }
+}
+
+impl<'c, R: Read, K: Keep> Cursor<'c, R, K> {
+    ghost use Rattle.std.specs.Prelude.{◌<◌, IfNone, IfOk};
+    ghost use Rattle.std.specs.Io.KnownBytes.{IsAtEnd};
+    ghost use Rattle.ciborium_ll.specs.Cursors.{IsSameCursor, Moves, count_at, left_at};
+    ghost use Rattle.ciborium_ll.specs.FirstHeads.{IsFirstTaken};
+
+    // Reads the argument behind the initial byte of the head at this offset.
+    #[inline(always)]
+    fn read_argument(
+        &mut self,
+        start: usize,
+        initial: u8,
+        argument: &mut [u8],
+    ) -> Result<Header, Error<K::Kept>>
+        requires behind { count_at self.old ≡ start + 1 }
+        requires whole { length argument.old ≡ argument_length (initial % 32) }
+        ensures same { IsSameCursor self.old self.new }
+        ensures head { Moves R.remaining self.old self.new
+            (λ b. IsHeadTaken (initial ∷ b) start result) }
+    {
+        self.fill(argument)?;
+        judge_head(start, self.window.count, initial, argument)
+    }
+
+    // Reads what follows the initial byte of the head at this offset.
+    #[inline(always)]
+    fn read_behind(&mut self, start: usize, initial: u8) -> Result<Header, Error<K::Kept>>
+        requires { count_at self.old ≡ start + 1 }
+        ensures same { IsSameCursor self.old self.new }
+        ensures head { Moves R.remaining self.old self.new
+            (λ b. IsHeadTaken (initial ∷ b) start result) }
+    {
+        let size = argument_size(initial % 32);
+        if size == 0 {
+            return self.read_argument(start, initial, &mut []);
+        }
+        let mut room = [0u8; 8];
+        self.read_argument(start, initial, &mut room[..size])
+    }
+
+    // Reads the head at the front, which is not held whole. Out of line: where bytes are read ahead
+    // it is seldom called.
+    #[inline(never)]
+    fn read_apart(&mut self) -> Result<Header, Error<K::Kept>>
+        ensures same { IsSameCursor self.old self.new }
+        ensures head { Moves R.remaining self.old self.new
+            (λ b. IsHeadTaken b (count_at self.old) result) }
+    {
+        let start = self.window.count;
+        let mut first = [0u8; 1];
+        self.fill(&mut first)?;
+        self.read_behind(start, first[0])
+    }
+
+    // Reads the head at the front. A cursor of its own goes out of line, so that this one need not
+    // stand in memory.
+    #[inline(always)]
+    pub(crate) fn read_head(&mut self) -> Result<Header, Error<K::Kept>>
+        ensures same { IsSameCursor self.old self.new }
+        ensures head { Moves R.remaining self.old self.new
+            (λ b. IsHeadTaken b (count_at self.old) result) }
+    {
+        match self.window.take_head() {
+            Some(head) => head,
+            None => Cursor {
+                reader: self.reader,
+                window: self.window,
+                keep: self.keep,
+            }
+            .read_apart(),
         }
     }
-    read_apart(reader, ahead, count, keep)
-}
 
-// Whether a read gave a byte. One that gave none is the end, and a fault is no end.
-#[inline(always)]
-fn has_read<K: Keep>(read: io::Result<usize>, keep: &mut K) -> Result<bool, Error<K::Kept>>
-    ensures { TellsEnd read result }
-{
-    match read {
-        Ok(n) => Ok(n != 0),
-        Err(e) => Err(Error::Io(keep.keep(e))),
+    // Reads the head at the front, or none where the reader is at its end.
+    #[inline(always)]
+    pub(crate) fn read_first_head(&mut self) -> Result<Option<Header>, Error<K::Kept>>
+        requires { count_at self.old < usize.MAX }
+        ensures same { IsSameCursor self.old self.new }
+        ensures head { Moves R.remaining self.old self.new
+            (λ b. IsFirstTaken b (count_at self.old) result) }
+        ensures end { IfOk result (λ o. IfNone o (IsAtEnd (left_at R.remaining self.new))) }
+    {
+        let start = self.window.count;
+        let mut first = [0u8; 1];
+        if self.take_some(&mut first)? == 0 {
+            return Ok(None);
+        }
+        let header = self.read_behind(start, first[0])?;
+        Ok(Some(header))
     }
-}
-
-// Reads an initial byte, if there is one.
-#[inline(always)]
-fn read_initial<R: Read, K: Keep>(
-    reader: &mut R,
-    initial: &mut [u8],
-    keep: &mut K,
-) -> Result<bool, Error<K::Kept>>
-    requires { length initial.old ≡ 1 }
-    ensures { GivesInitial (R.remaining reader.old) (R.remaining reader.new) initial.new result }
-{
-    let read = reader.read(initial);
-    has_read(read, keep)
-}
-
-// Reads the head at the front, or none where the first read gives nothing.
-#[inline(always)]
-pub(crate) fn read_first_head<R: Read, K: Keep>(
-    reader: &mut R,
-    ahead: &Lookahead,
-    count: &mut usize,
-    keep: &mut K,
-) -> Result<Option<Header>, Error<K::Kept>>
-    requires ahead { IsAheadOf ahead.now count.old }
-    requires room { count.old < usize.MAX }
-    ensures onward { count.old ≤ count.new }
-    ensures fits { count.new ≤ usize.MAX }
-    ensures head { AdvancesBehind ahead.now (R.remaining reader.old) (R.remaining reader.new)
-        count.old count.new (λ b. IsFirstTaken b count.old result) }
-    ensures end { IfOk result (λ o. IfNone o (IsAtEnd
-        (unread (R.remaining reader.new) ahead.now count.new))) }
-{
-    if !ahead.is_used_up(*count) {
-        let header = read_head(reader, ahead, count, keep)?;
-        return Ok(Some(header));
-    }
-    let start = *count;
-    let mut first = [0u8; 1];
-    if !read_initial(reader, &mut first, keep)? {
-        return Ok(None);
-    }
-    *count = start + 1;
-    let header = read_behind(reader, ahead, count, keep, start, first[0])?;
-    Ok(Some(header))
 }

@@ -36,6 +36,11 @@ impl Alike {
         Ok(())
     }
 
+    /// The same text as `into_text`, lent.
+    pub fn as_str(&self) -> &str {
+        self.text.as_str()
+    }
+
     /// The answer where all of them are the same, else `differs: A / B`, of the first and of the
     /// first that is another one.
     pub fn into_text(self) -> String {

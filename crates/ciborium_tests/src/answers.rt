@@ -1,5 +1,6 @@
 //! The lines of an input, each with its answer.
 
+use crate::counts::CountedReads;
 use crate::fault::Fault;
 use crate::faults::{FailedReads, fail_reads};
 use crate::fronts::{Call, Reading, read_alike};
@@ -7,7 +8,7 @@ use crate::head_lines::answer_head_line;
 use crate::lines::{read_line, write_bytes};
 use crate::offsets::read_at_offset;
 use crate::orders::{answer_sort, answer_visits};
-use crate::pieces::{decode_pieces, parse_limited};
+use crate::pieces::{decode_pieces, parse_limited, split_number};
 use crate::sequences::{Asked, Sequence};
 use crate::types::ask_type;
 use crate::writes::Writing;
@@ -91,12 +92,14 @@ fn answer_value_line(alloc: Global, word: &str, rest: &str) -> Result<Option<Str
 fn answer_reading(alloc: Global, word: &str, rest: &str) -> Result<Option<String>, AllocError> {
     match word {
         "at" => read_at_offset(alloc, rest),
+        "asked" => count_reading(alloc, rest),
         "faults" => fail_reading(alloc, rest),
         "det" => read_strictly(alloc, rest),
         "det-faults" => fail_strict_reading(alloc, rest),
         "next" => read_sequence(alloc, rest, Asked::Items),
         "next-on" => read_sequence(alloc, rest, Asked::AllItems),
         "next-faults" => read_sequence(alloc, rest, Asked::Faults),
+        "next-rows" => read_rows(alloc, rest),
         _ => read_type(alloc, word, rest),
     }
 }
@@ -110,6 +113,23 @@ fn read_type(alloc: Global, name: &str, rest: &str) -> Result<Option<String>, Al
                 bytes: &bytes,
             };
             ask_type(alloc, name, &reading)
+        }
+        None => Ok(None),
+    }
+}
+
+// `asked TYPE LIMIT HEX`: what the bytes give, and how often their reader is asked.
+fn count_reading(alloc: Global, rest: &str) -> Result<Option<String>, AllocError> {
+    let Some((name, behind)) = rest.split_once(' ') else {
+        return Ok(None);
+    };
+    match parse_limited(alloc, behind)? {
+        Some((limit, bytes)) => {
+            let counted = CountedReads {
+                limit,
+                bytes: &bytes,
+            };
+            ask_type(alloc, name, &counted)
         }
         None => Ok(None),
     }
@@ -168,6 +188,14 @@ fn read_sequence(alloc: Global, rest: &str, asked: Asked) -> Result<Option<Strin
             };
             ask_type(alloc, name, &sequence)
         }
+        None => Ok(None),
+    }
+}
+
+// `next-rows COUNT TYPE HEX`: the items of so many such sequences in a row.
+fn read_rows(alloc: Global, rest: &str) -> Result<Option<String>, AllocError> {
+    match split_number(rest) {
+        Some((count, behind)) => read_sequence(alloc, behind, Asked::Rows(count)),
         None => Ok(None),
     }
 }

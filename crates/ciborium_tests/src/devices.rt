@@ -8,6 +8,8 @@ use std::io::{self, ErrorKind, Read, Write};
 pub enum Failure {
     /// One read or write answers an error of this kind.
     Kind(ErrorKind),
+    /// One read gives nothing, or one write takes nothing, and those behind it go on.
+    Nothing,
     /// Nothing is given or taken from then on.
     End,
 }
@@ -18,30 +20,74 @@ impl Failure {
     pub fn kind(self, ended: ErrorKind) -> ErrorKind {
         match self {
             Failure::Kind(kind) => kind,
-            Failure::End => ended,
+            Failure::Nothing | Failure::End => ended,
         }
     }
 }
 
-/// Gives its bytes, at most so many a read, and fails at one of its reads.
+/// How many bytes a read gives at most.
+#[derive(Clone, Copy, Debug)]
+pub enum Cut {
+    /// The same number at each read.
+    Most(usize),
+    /// A number that is drawn at each read, from this seed on.
+    Drawn(u64),
+}
+
+impl Cut {
+    /// The most bytes of the next read.
+    fn draw(&mut self) -> usize {
+        match self {
+            Cut::Most(most) => *most,
+            Cut::Drawn(state) => {
+                *state = state
+                    .wrapping_mul(6364136223846793005)
+                    .wrapping_add(1442695040888963407);
+                size_of_read(*state >> 33)
+            }
+        }
+    }
+}
+
+// A size for a number that was drawn: mostly of a few bytes, and up to 300 else.
+fn size_of_read(drawn: u64) -> usize {
+    let most = if drawn.is_multiple_of(4) { 300 } else { 9 };
+    1 + (drawn / 4 % most) as usize
+}
+
+/// How readers of these bytes cut them: one byte a read, three, and so many as are drawn from a seed
+/// that the bytes decide.
+pub fn cuts_of(bytes: &[u8]) -> [Cut; 3] {
+    let mut seed = 0xcbf29ce484222325u64;
+    for byte in bytes {
+        seed = (seed ^ u64::from(*byte)).wrapping_mul(0x100000001b3);
+    }
+    [Cut::Most(1), Cut::Most(3), Cut::Drawn(seed)]
+}
+
+/// Gives its bytes, cut into reads, fails at one of its reads, and counts what it is asked for.
 #[derive(Drop)]
 pub struct Source<'a> {
     bytes: &'a [u8],
-    most: usize,
+    cut: Cut,
     fault: Option<(usize, Failure)>,
-    reads: usize,
+    /// How many reads were made.
+    pub reads: usize,
+    /// How many bytes they asked for.
+    pub asked: usize,
     /// Whether it has failed.
     pub failed: bool,
 }
 
 impl<'a> Source<'a> {
     /// A source of these bytes. A fault is the number of a read, from 0 on, and how it fails.
-    pub fn new(bytes: &'a [u8], most: usize, fault: Option<(usize, Failure)>) -> Source<'a> {
+    pub fn new(bytes: &'a [u8], cut: Cut, fault: Option<(usize, Failure)>) -> Source<'a> {
         Source {
             bytes,
-            most,
+            cut,
             fault,
             reads: 0,
+            asked: 0,
             failed: false,
         }
     }
@@ -56,16 +102,18 @@ impl<'a> Read for Source<'a> {
     fn read(&mut self, buffer: &mut [u8]) -> io::Result<usize> {
         let number = self.reads;
         self.reads = number.saturating_add(1);
+        self.asked = self.asked.saturating_add(buffer.len());
         if let Some((at, failure)) = self.fault
             && at == number
         {
             self.failed = true;
             match failure {
                 Failure::Kind(kind) => return Err(io::Error::from(kind)),
+                Failure::Nothing => return Ok(0),
                 Failure::End => self.bytes = &self.bytes[..0],
             }
         }
-        let taken = self.bytes.len().min(self.most).min(buffer.len());
+        let taken = self.bytes.len().min(self.cut.draw()).min(buffer.len());
         buffer[..taken].copy_from_slice(&self.bytes[..taken]);
         self.bytes = &self.bytes[taken..];
         Ok(taken)
@@ -112,7 +160,11 @@ impl Write for Sink {
                     self.failed = true;
                     return Err(io::Error::from(kind));
                 }
-                Failure::Kind(_) => {}
+                Failure::Nothing if number == at => {
+                    self.failed = true;
+                    return Ok(0);
+                }
+                Failure::Kind(_) | Failure::Nothing => {}
                 Failure::End => {
                     self.failed = true;
                     return Ok(0);

@@ -1,7 +1,7 @@
 //! What a call that reads answers where each read of its reader fails in turn.
 
 use crate::alike::Alike;
-use crate::devices::{Failure, Source};
+use crate::devices::{Cut, Failure, Source, cuts_of};
 use crate::fronts::{Call, ask_call, describe_front};
 use crate::refusals::name_io;
 use crate::types::Job;
@@ -11,11 +11,12 @@ use std::alloc::{AllocError, Global};
 use std::io::ErrorKind;
 
 // How a read fails.
-const FAILURES: [Failure; 5] = [
+const FAILURES: [Failure; 6] = [
     Failure::Kind(ErrorKind::Interrupted),
     Failure::Kind(ErrorKind::WouldBlock),
     Failure::Kind(ErrorKind::ConnectionReset),
     Failure::Kind(ErrorKind::Other),
+    Failure::Nothing,
     Failure::End,
 ];
 
@@ -34,8 +35,8 @@ impl Job for FailedReads<'_> {
 
 /// `io at N reads, then FRONT` where each of N reads of one byte, failing, makes the call answer
 /// just that failure, and the answer is FRONT where the read behind the last one would fail. Where
-/// it is otherwise `read K: ANSWER`, of the first such read; and where the ways to fail differ
-/// `differs: A / B`.
+/// it is otherwise `read K: ANSWER`, of the first such read; and where the ways to fail differ, or
+/// other cuts into reads end at another FRONT, `differs: A / B`.
 ///
 /// # Errors
 ///
@@ -45,23 +46,56 @@ pub fn fail_reads<T: Deserialize + Serialize>(
     call: Call,
     bytes: &[u8],
 ) -> Result<String, AllocError> {
-    let text = fail_each_read::<T>(alloc, call, bytes, Failure::End)?;
+    let text = fail_each_read::<T>(alloc, call, bytes, (Cut::Most(1), Failure::End))?;
+    let front = front_of(alloc, text.as_str())?;
     let mut alike = Alike::new(text);
     for failure in FAILURES {
-        alike.compare(alloc, fail_each_read::<T>(alloc, call, bytes, failure))?;
+        let way = (Cut::Most(1), failure);
+        alike.compare(alloc, fail_each_read::<T>(alloc, call, bytes, way))?;
+    }
+    let other = fail_cut_reads::<T>(alloc, call, bytes, front)?;
+    if !alike.as_str().ends_with(other.as_str()) {
+        return Ok(other);
     }
     Ok(alike.into_text())
 }
 
-// The same for one way to fail. A call reads no more often than there are bytes, and then once.
+// The same FRONT where reads of other cuts fail in turn, or how it differs.
+fn fail_cut_reads<T: Deserialize + Serialize>(
+    alloc: Global,
+    call: Call,
+    bytes: &[u8],
+    front: String,
+) -> Result<String, AllocError> {
+    let mut alike = Alike::new(front);
+    let [_, few, drawn] = cuts_of(bytes);
+    for cut in [few, drawn, Cut::Most(usize::MAX)] {
+        for failure in FAILURES {
+            let text = fail_each_read::<T>(alloc, call, bytes, (cut, failure))?;
+            alike.compare(alloc, front_of(alloc, text.as_str()))?;
+        }
+    }
+    Ok(alike.into_text())
+}
+
+// The FRONT of an answer, without the number of reads.
+fn front_of(alloc: Global, text: &str) -> Result<String, AllocError> {
+    match text.split_once(" reads, then ") {
+        Some((_, front)) => String::from_str(alloc, front),
+        None => String::from_str(alloc, text),
+    }
+}
+
+// The same for one cut and one way to fail. A call reads no more often than there are bytes, and
+// then once.
 fn fail_each_read<T: Deserialize + Serialize>(
     alloc: Global,
     call: Call,
     bytes: &[u8],
-    failure: Failure,
+    (cut, failure): (Cut, Failure),
 ) -> Result<String, AllocError> {
     for at in 0..bytes.len().saturating_add(2) {
-        if let Some(end) = fail_read::<T>(alloc, call, bytes, (at, failure))? {
+        if let Some(end) = fail_read::<T>(alloc, call, (bytes, cut), (at, failure))? {
             return Ok(end);
         }
     }
@@ -72,10 +106,10 @@ fn fail_each_read<T: Deserialize + Serialize>(
 fn fail_read<T: Deserialize + Serialize>(
     alloc: Global,
     call: Call,
-    bytes: &[u8],
+    (bytes, cut): (&[u8], Cut),
     fault: (usize, Failure),
 ) -> Result<Option<String>, AllocError> {
-    let mut source = Source::new(bytes, 1, Some(fault));
+    let mut source = Source::new(bytes, cut, Some(fault));
     let front = ask_call::<T, Source>(alloc, call, &mut source)?;
     let text = describe_front(alloc, front, source.left())?;
     judge_fault(alloc, text.as_str(), source.failed, fault)

@@ -1,7 +1,7 @@
 //! What the bytes of a line give at their front, read in several ways.
 
 use crate::alike::Alike;
-use crate::devices::Source;
+use crate::devices::{Cut, Source, cuts_of};
 use crate::refusals::{describe_read, describe_tree};
 use crate::types::Job;
 use crate::writes::read_whole;
@@ -50,8 +50,8 @@ impl Job for Reading<'_> {
     }
 }
 
-/// What a call gives of the front of the bytes, from the slice and from readers of one byte and of
-/// three a read; where the limit is the usual one also with other calls and sizes of a scratch.
+/// What a call gives of the front of the bytes, from the slice and from readers of one byte a read,
+/// of three and of drawn numbers; where the limit is the usual one also with other calls and sizes of a scratch.
 /// `differs: A / B` where one of them gives something else than the first.
 ///
 /// # Errors
@@ -64,8 +64,8 @@ pub fn read_alike<T: Deserialize + Serialize>(
 ) -> Result<String, AllocError> {
     let text = read_slice::<T>(alloc, call, bytes)?;
     let mut alike = Alike::new(text);
-    for most in [1, 3] {
-        alike.compare(alloc, read_slowly::<T>(alloc, call, bytes, most))?;
+    for cut in cuts_of(bytes) {
+        alike.compare(alloc, read_slowly::<T>(alloc, call, bytes, cut))?;
     }
     if matches!(call, Call::Limited(USUAL_LIMIT)) {
         compare_others::<T>(alloc, bytes, &mut alike)?;
@@ -86,7 +86,7 @@ fn compare_others<T: Deserialize + Serialize>(
         Call::Buffered(4096),
     ] {
         alike.compare(alloc, read_slice::<T>(alloc, call, bytes))?;
-        alike.compare(alloc, read_slowly::<T>(alloc, call, bytes, 1))?;
+        alike.compare(alloc, read_slowly::<T>(alloc, call, bytes, Cut::Most(1)))?;
     }
     Ok(())
 }
@@ -102,14 +102,14 @@ fn read_slice<T: Deserialize + Serialize>(
     describe_front(alloc, front, rest.len())
 }
 
-// The same of a reader that gives at most so many bytes a read.
+// The same of a reader that cuts its bytes so.
 fn read_slowly<T: Deserialize + Serialize>(
     alloc: Global,
     call: Call,
     bytes: &[u8],
-    most: usize,
+    cut: Cut,
 ) -> Result<String, AllocError> {
-    let mut source = Source::new(bytes, most, None);
+    let mut source = Source::new(bytes, cut, None);
     let front = ask_call::<T, Source>(alloc, call, &mut source)?;
     describe_front(alloc, front, source.left())
 }

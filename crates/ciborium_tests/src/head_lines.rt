@@ -12,7 +12,7 @@ use std::alloc::{AllocError, Global};
 /// - `head OFFSET HEX`, `heads OFFSET HEX`: the first head at that offset, with its payload and as
 ///   it is written again, or each of the heads, with its offset and length
 /// - `first HEX`: what `pull_first` gives
-/// - `ahead OFFSET NUMBER HEX`: how many bytes are left where so many are read ahead
+/// - `ahead OFFSET NUMBER HEX`: how many bytes are left behind a head where so many are due
 /// - `head-faults HEX`, `first-faults HEX`: the same where each read in turn fails
 /// - `payload HEX`: what `write_all` puts out where each write in turn fails
 /// - `growth CALL`: what comes of that call
@@ -29,7 +29,7 @@ pub fn answer_head_line(
     match word {
         "head" => read_at(alloc, Question::Head, rest),
         "heads" => read_at(alloc, Question::Heads, rest),
-        "ahead" => read_ahead(alloc, rest),
+        "ahead" => read_due(alloc, rest),
         "integer" => describe_number(alloc, rest),
         "growth" => make_named(alloc, rest),
         "canonical" => compare_in_row(alloc, rest),
@@ -61,12 +61,12 @@ fn read_at(alloc: Global, question: Question, rest: &str) -> Result<Option<Strin
 }
 
 // The answer to `OFFSET NUMBER HEX`.
-fn read_ahead(alloc: Global, rest: &str) -> Result<Option<String>, AllocError> {
+fn read_due(alloc: Global, rest: &str) -> Result<Option<String>, AllocError> {
     let Some((offset, behind)) = split_number(rest) else {
         return Ok(None);
     };
     match parse_limited(alloc, behind)? {
-        Some((ahead, bytes)) => Ok(Some(count_left(alloc, offset, ahead, &bytes)?)),
+        Some((due, bytes)) => Ok(Some(count_left(alloc, offset, due, &bytes)?)),
         None => Ok(None),
     }
 }

@@ -1,7 +1,7 @@
 //! Lines on heads: what a decoder pulls from the bytes of a line, and why it refuses.
 
 use crate::alike::Alike;
-use crate::devices::{Failure, Source};
+use crate::devices::{Cut, Failure, Source, cuts_of};
 use crate::faults::judge_fault;
 use crate::header_texts::{Front, Pulled, describe_front, describe_refusal, show_front};
 use ciborium::ll::{Decoder, Error, Header};
@@ -19,24 +19,28 @@ pub enum Question {
     First,
 }
 
-// The offset of the first byte, the size of the scratch, and how many bytes are read ahead, if
-// `look_ahead` is called.
+// The offset of the first byte, the size of the scratch, and how many bytes are due before each
+// head, if `allow` is called.
 #[derive(Clone, Copy)]
 struct Way {
     offset: usize,
     scratch: usize,
-    ahead: Option<usize>,
+    due: Option<usize>,
 }
 
-// How many bytes are read ahead.
-const AHEAD: [usize; 20] = [
+// How many bytes are due.
+const DUE: [usize; 20] = [
     0, 1, 2, 3, 4, 5, 6, 7, 8, 9, 10, 11, 12, 13, 14, 15, 16, 255, 256, 300,
 ];
 
+// How many bytes are read ahead at most.
+const MOST_AHEAD: usize = 256;
+
 /// What the question gives at these bytes, with the number of bytes that are left where it is
-/// refused: from the slice, with a scratch of 0, 1 and 4096 bytes, from readers of one byte and of
-/// three a read, and, but for what is left, behind bytes that were read ahead. `differs: A / B`
-/// where one of these gives something else than the first.
+/// refused: from the slice, with a scratch of 0, 1 and 4096 bytes, from readers of one byte a read,
+/// of three and of drawn numbers, and, but for what is left, where bytes are due. `differs: A / B`
+/// where one of these gives something else than the first, or reads other bytes than it needs and
+/// those that are due.
 ///
 /// # Errors
 ///
@@ -52,10 +56,10 @@ pub fn ask_alike(
     for scratch in [1, 4096] {
         alike.compare(alloc, ask_slice(alloc, question, offset, bytes, scratch))?;
     }
-    for most in [1, 3] {
-        alike.compare(alloc, ask_slowly(alloc, question, offset, bytes, most))?;
+    for cut in cuts_of(bytes) {
+        alike.compare(alloc, ask_slowly(alloc, question, offset, bytes, cut))?;
     }
-    ask_ahead(alloc, question, offset, bytes, alike.into_text())
+    ask_all_due(alloc, question, offset, bytes, alike.into_text())
 }
 
 // The answer from a slice.
@@ -70,69 +74,96 @@ fn ask_slice(
     let way = Way {
         offset,
         scratch,
-        ahead: None,
+        due: None,
     };
     let pulled = ask(alloc, question, way, &mut rest)?;
     describe_front(alloc, pulled, Some(rest.len()))
 }
 
-// The answer from a reader of few bytes a read.
+// The answer from a reader that cuts its bytes so.
 fn ask_slowly(
     alloc: Global,
     question: Question,
     offset: usize,
     bytes: &[u8],
-    most: usize,
+    cut: Cut,
 ) -> Result<String, AllocError> {
-    let mut source = Source::new(bytes, most, None);
+    let mut source = Source::new(bytes, cut, None);
     let way = Way {
         offset,
         scratch: 2,
-        ahead: None,
+        due: None,
     };
     let pulled = ask(alloc, question, way, &mut source)?;
     describe_front(alloc, pulled, Some(source.left()))
 }
 
-// The same text where, but for what is left, it is the answer behind bytes that were read ahead.
-fn ask_ahead(
+// The same text where, but for what is left, it is the answer where bytes are due.
+fn ask_all_due(
     alloc: Global,
     question: Question,
     offset: usize,
     bytes: &[u8],
     text: String,
 ) -> Result<String, AllocError> {
-    let expected = ask_behind(alloc, question, offset, bytes, (None, usize::MAX))?;
-    for ahead in AHEAD {
-        for most in [1, 3, usize::MAX] {
-            let other = ask_behind(alloc, question, offset, bytes, (Some(ahead), most))?;
+    let plain = Way {
+        offset,
+        scratch: 2,
+        due: None,
+    };
+    let (expected, left) = ask_way(alloc, question, plain, bytes, Cut::Most(usize::MAX))?;
+    for due in DUE {
+        let way = Way {
+            due: Some(due),
+            ..plain
+        };
+        for cut in cuts_of(bytes) {
+            let (other, _) = ask_way(alloc, question, way, bytes, cut)?;
             if other != expected {
-                return format!(in alloc; "differs: {text} / {other} behind {ahead}");
+                return format!(in alloc; "differs: {text} / {other} with {due} due");
             }
+        }
+        let (other, left_then) = ask_way(alloc, question, way, bytes, Cut::Most(usize::MAX))?;
+        if other != expected {
+            return format!(in alloc; "differs: {text} / {other} with {due} due");
+        }
+        let right = left_behind(bytes.len(), left, offset, due);
+        if !matches!(question, Question::Heads) && left_then != right {
+            return format!(in alloc; "differs: {text} / left {left_then} with {due} due");
         }
     }
     Ok(text)
 }
 
-// The answer behind so many bytes that were read ahead, from a reader of at most so many a read.
-fn ask_behind(
-    alloc: Global,
-    question: Question,
-    offset: usize,
-    bytes: &[u8],
-    (ahead, most): (Option<usize>, usize),
-) -> Result<String, AllocError> {
-    let mut source = Source::new(bytes, most, None);
-    let way = Way {
-        offset,
-        scratch: 2,
-        ahead,
+// How many of so many bytes a slice has left where so many are due before the head at this offset,
+// and so many would be left where none is. What is due is read with the first byte, 256 of them at
+// most, and the rest of it where more than those are needed.
+fn left_behind(len: usize, left: usize, offset: usize, due: usize) -> usize {
+    let needed = len.saturating_sub(left);
+    let ahead = if needed > MOST_AHEAD {
+        due
+    } else {
+        due.min(MOST_AHEAD)
     };
-    let pulled = ask(alloc, question, way, &mut source)?;
-    describe_front(alloc, pulled, None)
+    let read = needed.max(ahead).min(usize::MAX.saturating_sub(offset));
+    len.saturating_sub(read)
 }
 
-/// How many bytes a slice has left where so many were to be read ahead at this offset.
+// The answer in one of the ways, and how many bytes are then left.
+fn ask_way(
+    alloc: Global,
+    question: Question,
+    way: Way,
+    bytes: &[u8],
+    cut: Cut,
+) -> Result<(String, usize), AllocError> {
+    let mut source = Source::new(bytes, cut, None);
+    let pulled = ask(alloc, question, way, &mut source)?;
+    Ok((describe_front(alloc, pulled, None)?, source.left()))
+}
+
+/// How many bytes a slice has left where so many were due at this offset and a head was pulled, or
+/// why it was refused and how many are left then.
 ///
 /// # Errors
 ///
@@ -140,45 +171,54 @@ fn ask_behind(
 pub fn count_left(
     alloc: Global,
     offset: usize,
-    ahead: usize,
+    due: usize,
     bytes: &[u8],
 ) -> Result<String, AllocError> {
     let mut rest = bytes;
-    match Decoder::at(&mut rest, offset).look_ahead(ahead) {
-        Ok(()) => {
-            let left = rest.len();
-            format!(in alloc; "left {left}")
-        }
-        Err(error) => describe_refusal(alloc, error),
-    }
+    let mut decoder = Decoder::at(&mut rest, offset);
+    decoder.allow(due);
+    let pulled = match decoder.pull() {
+        Ok(_) => String::from_str(alloc, "pulled")?,
+        Err(error) => describe_refusal(alloc, error)?,
+    };
+    let left = rest.len();
+    format!(in alloc; "{pulled} left {left}")
 }
 
 /// What the question gives where each read in turn fails, from a reader of one byte a read: `io at
 /// N reads, then A`, where each of the first N reads has its fault answered, and without them the
-/// answer is A.
+/// answer is A. A first head has no fault where its first read gives nothing: that is the end.
 ///
 /// # Errors
 ///
 /// `AllocError` where memory is refused for the text.
 pub fn ask_failing(alloc: Global, question: Question, bytes: &[u8]) -> Result<String, AllocError> {
-    let text = fail_by(alloc, question, bytes, ErrorKind::Interrupted)?;
-    let mut alike = Alike::new(text);
-    alike.compare(
+    let text = fail_by(
         alloc,
-        fail_by(alloc, question, bytes, ErrorKind::ConnectionReset),
+        question,
+        bytes,
+        Failure::Kind(ErrorKind::Interrupted),
     )?;
+    let mut alike = Alike::new(text);
+    for failure in [
+        Failure::Kind(ErrorKind::ConnectionReset),
+        Failure::Nothing,
+        Failure::End,
+    ] {
+        alike.compare(alloc, fail_by(alloc, question, bytes, failure))?;
+    }
     Ok(alike.into_text())
 }
 
-// The same of faults of one kind.
+// The same of one way to fail.
 fn fail_by(
     alloc: Global,
     question: Question,
     bytes: &[u8],
-    kind: ErrorKind,
+    failure: Failure,
 ) -> Result<String, AllocError> {
     for at in 0..usize::MAX {
-        if let Some(end) = fail_read(alloc, question, bytes, (at, Failure::Kind(kind)))? {
+        if let Some(end) = fail_read(alloc, question, bytes, (at, failure))? {
             return Ok(end);
         }
     }
@@ -195,12 +235,22 @@ fn fail_read(
     let way = Way {
         offset: 0,
         scratch: 4,
-        ahead: None,
+        due: None,
     };
-    let mut source = Source::new(bytes, 1, Some(fault));
+    let mut source = Source::new(bytes, Cut::Most(1), Some(fault));
     let pulled = ask(alloc, question, way, &mut source)?;
     let text = describe_front(alloc, pulled, None)?;
+    if is_end(question, fault) && source.failed && text.as_str() == "none end 0" {
+        return Ok(None);
+    }
     judge_fault(alloc, text.as_str(), source.failed, fault)
+}
+
+// Whether there is no first head where this read fails so.
+fn is_end(question: Question, (at, failure): (usize, Failure)) -> bool {
+    matches!(question, Question::First)
+        && at == 0
+        && matches!(failure, Failure::Nothing | Failure::End)
 }
 
 // What the question gives.
@@ -222,7 +272,7 @@ fn ask_head<R: Read>(alloc: Global, way: Way, reader: &mut R) -> Result<Pulled, 
     let mut scratch = Vec::new(alloc);
     scratch.resize(way.scratch, 0)?;
     let mut decoder = Decoder::at(reader, way.offset);
-    match take_front(alloc, &mut decoder, way.ahead, &mut scratch) {
+    match take_front(alloc, &mut decoder, way.due, &mut scratch) {
         Ok(front) => Ok(Ok(show_front(alloc, &front)?)),
         Err(error) => Ok(Err(describe_refusal(alloc, error)?)),
     }
@@ -235,7 +285,7 @@ fn ask_heads<R: Read>(alloc: Global, way: Way, reader: &mut R) -> Result<Pulled,
     let mut decoder = Decoder::at(reader, way.offset);
     let mut text = String::new(alloc);
     for _ in 0..usize::MAX {
-        let pulled = take_front(alloc, &mut decoder, way.ahead, &mut scratch);
+        let pulled = take_front(alloc, &mut decoder, way.due, &mut scratch);
         let place = (decoder.last_offset(), decoder.head_len());
         if !push_front(alloc, pulled, place, &mut text)? {
             return Ok(Err(text));
@@ -268,10 +318,8 @@ fn push_front(
 // The first head, if there is one, with its length.
 fn ask_first<R: Read>(alloc: Global, way: Way, reader: &mut R) -> Result<Pulled, AllocError> {
     let mut decoder = Decoder::new(reader);
-    if let Some(n) = way.ahead
-        && let Err(error) = decoder.look_ahead(n)
-    {
-        return Ok(Err(describe_refusal(alloc, error)?));
+    if let Some(n) = way.due {
+        decoder.allow(n);
     }
     match decoder.pull_first() {
         Ok(None) => {
@@ -292,15 +340,15 @@ fn ask_first<R: Read>(alloc: Global, way: Way, reader: &mut R) -> Result<Pulled,
     }
 }
 
-// Takes a head, and a payload where it begins a string, behind so many bytes that are read ahead.
+// Takes a head, and a payload where it begins a string, where so many bytes are due.
 fn take_front<R: Read>(
     alloc: Global,
     decoder: &mut Decoder<'_, R>,
-    ahead: Option<usize>,
+    due: Option<usize>,
     scratch: &mut [u8],
 ) -> Result<Front, Error<io::Error>> {
-    if let Some(n) = ahead {
-        decoder.look_ahead(n)?;
+    if let Some(n) = due {
+        decoder.allow(n);
     }
     let header = decoder.pull()?;
     let payload = match header {

@@ -5,9 +5,11 @@
 
 mod alike;
 mod answers;
+mod counts;
 mod devices;
 mod fault;
 mod faults;
+mod few;
 mod fronts;
 mod growing_calls;
 mod growth;

@@ -1,7 +1,7 @@
 //! Lines on bytes whose first is at an offset: `at OFFSET TYPE LIMIT HEX`.
 
 use crate::alike::Alike;
-use crate::devices::Source;
+use crate::devices::{Cut, Source, cuts_of};
 use crate::fronts::show_front;
 use crate::pieces::{parse_limited, split_number};
 use crate::types::{Job, ask_type};
@@ -19,22 +19,22 @@ struct ReadingAt<'a> {
 
 impl Job for ReadingAt<'_> {
     fn answer<T: Deserialize + Serialize>(&self, alloc: Global) -> Result<String, AllocError> {
-        let mut alike = Alike::new(read_slowly::<T>(alloc, *self, 1)?);
-        for most in [3, usize::MAX] {
-            alike.compare(alloc, read_slowly::<T>(alloc, *self, most))?;
+        let mut alike = Alike::new(read_slowly::<T>(alloc, *self, Cut::Most(usize::MAX))?);
+        for cut in cuts_of(self.bytes) {
+            alike.compare(alloc, read_slowly::<T>(alloc, *self, cut))?;
         }
         Ok(alike.into_text())
     }
 }
 
-// What is read, in hex, or why it is refused, and how many bytes are left, from a reader of at most
-// so many bytes a read.
+// What is read, in hex, or why it is refused, and how many bytes are left, from a reader that cuts
+// its bytes so.
 fn read_slowly<T: Deserialize + Serialize>(
     alloc: Global,
     reading: ReadingAt<'_>,
-    most: usize,
+    cut: Cut,
 ) -> Result<String, AllocError> {
-    let mut source = Source::new(reading.bytes, most, None);
+    let mut source = Source::new(reading.bytes, cut, None);
     let read = from_reader_at::<T, Source>(alloc, &mut source, reading.offset, reading.limit);
     let front = show_front(alloc, read)?;
     let left = source.left();

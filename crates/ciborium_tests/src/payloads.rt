@@ -19,7 +19,11 @@ const MOST: usize = 3;
 pub fn write_failing(alloc: Global, bytes: &[u8]) -> Result<String, AllocError> {
     let text = fail_by(alloc, bytes, Failure::Kind(ErrorKind::Interrupted))?;
     let mut alike = Alike::new(text);
-    for failure in [Failure::Kind(ErrorKind::BrokenPipe), Failure::End] {
+    for failure in [
+        Failure::Kind(ErrorKind::BrokenPipe),
+        Failure::Nothing,
+        Failure::End,
+    ] {
         alike.compare(alloc, fail_by(alloc, bytes, failure))?;
     }
     Ok(alike.into_text())

@@ -1,7 +1,7 @@
-//! Calls of a decoder that take no memory: heads that are given back, bytes that are read ahead,
-//! and errors that are kept aside.
+//! Calls of a decoder that take no memory: heads that are given back, bytes that are allowed to be
+//! read ahead, and errors that are kept aside.
 
-use crate::devices::{Failure as Fault, Source};
+use crate::devices::{Cut, Failure as Fault, Source};
 use crate::outcome::{Failure, expect, judge_head};
 use ciborium::ll::{Decoder, Error, Header};
 use std::io::{self, ErrorKind};
@@ -17,10 +17,18 @@ pub fn make_head_calls() -> Result<(), Failure> {
     read_behind_held()?;
     read_too_far()?;
     keep_an_error()?;
+    allow_without_reading()?;
     use_up_first()?;
-    for kind in [ErrorKind::Interrupted, ErrorKind::ConnectionReset] {
-        fail_ahead(kind)?;
-        keep_an_error_ahead(kind)?;
+    begin_behind_a_prefix()?;
+    end_behind_a_prefix()?;
+    for fault in [
+        Fault::Kind(ErrorKind::Interrupted),
+        Fault::Kind(ErrorKind::ConnectionReset),
+        Fault::Nothing,
+    ] {
+        fail_ahead(fault)?;
+        keep_an_error_ahead(fault)?;
+        fail_first(fault)?;
     }
     Ok(())
 }
@@ -61,12 +69,12 @@ fn forget_heads() -> Result<(), Failure> {
     }
 }
 
-// Bytes are read exactly where some of them were read ahead.
+// Bytes are read exactly where some of them are held.
 fn read_behind_held() -> Result<(), Failure> {
-    for ahead in 0..6 {
+    for allowed in 0..6 {
         let mut reader: &[u8] = &[0x00, 0x05, 0x06, 0x07];
         let mut decoder = Decoder::new(&mut reader);
-        decoder.look_ahead(ahead).map_err(judge_head)?;
+        decoder.allow(allowed);
         expect(decoder.pull().map_err(judge_head)? == Header::Positive(0))?;
         let mut two = [0; 2];
         decoder.read_exact(&mut two).map_err(judge_head)?;
@@ -94,50 +102,110 @@ fn keep_an_error() -> Result<(), Failure> {
     expect(kept.map(|e| e.kind()) == Some(ErrorKind::UnexpectedEof))
 }
 
-// While bytes are held nothing is read, and so the fault of the next read is not met.
-fn use_up_first() -> Result<(), Failure> {
-    let fault = Fault::Kind(ErrorKind::ConnectionReset);
-    let mut reader = Source::new(&[0x01, 0x02, 0x03], 2, Some((1, fault)));
-    let mut decoder = Decoder::new(&mut reader);
-    decoder.look_ahead(2).map_err(judge_head)?;
-    decoder.look_ahead(3).map_err(judge_head)?;
-    expect(decoder.pull().map_err(judge_head)? == Header::Positive(1))?;
-    decoder.look_ahead(1).map_err(judge_head)?;
-    expect(decoder.pull().map_err(judge_head)? == Header::Positive(2))?;
-    expect(is_io(decoder.look_ahead(1), ErrorKind::ConnectionReset))?;
-    decoder.look_ahead(1).map_err(judge_head)?;
-    expect(decoder.pull().map_err(judge_head)? == Header::Positive(3))?;
-    expect(decoder.offset() == 3)
-}
-
-// A fault takes nothing, and a head that was given back stays.
-fn fail_ahead(kind: ErrorKind) -> Result<(), Failure> {
-    let mut reader = Source::new(&[0x18, 0x20], 2, Some((0, Fault::Kind(kind))));
+// Bytes that are allowed are not read before they are needed.
+fn allow_without_reading() -> Result<(), Failure> {
+    let mut reader = Source::new(&[0x01, 0x02], Cut::Most(2), None);
     let mut decoder = Decoder::at(&mut reader, 4);
     decoder.push(Header::Tag(5), 3);
-    expect(is_io(decoder.look_ahead(2), kind))?;
-    decoder.look_ahead(1).map_err(judge_head)?;
-    expect(decoder.offset() == 3)?;
+    decoder.allow(2);
+    expect(decoder.offset() == 3 && decoder.held_byte().is_none())?;
     expect(decoder.pull().map_err(judge_head)? == Header::Tag(5))?;
     expect(decoder.last_offset() == 3 && decoder.offset() == 4)?;
+    expect(reader.reads == 0 && reader.left() == 2)
+}
+
+// While bytes are held nothing is read, and so the fault of the next read is not met. Each read asks
+// for what is due.
+fn use_up_first() -> Result<(), Failure> {
+    let fault = Fault::Kind(ErrorKind::ConnectionReset);
+    let mut reader = Source::new(&[0x01, 0x02, 0x03], Cut::Most(2), Some((1, fault)));
+    let mut decoder = Decoder::new(&mut reader);
+    decoder.allow(3);
+    expect(decoder.pull().map_err(judge_head)? == Header::Positive(1))?;
+    expect(decoder.held_byte() == Some(2))?;
+    expect(decoder.pull().map_err(judge_head)? == Header::Positive(2))?;
+    expect(is_io(decoder.pull(), ErrorKind::ConnectionReset) && decoder.offset() == 2)?;
+    expect(decoder.pull().map_err(judge_head)? == Header::Positive(3))?;
+    expect(decoder.offset() == 3)?;
+    expect(reader.reads == 3 && reader.asked == 5)
+}
+
+// Behind a prefix a sequence has a first head.
+fn begin_behind_a_prefix() -> Result<(), Failure> {
+    for allowed in 0..8 {
+        let mut reader: &[u8] = b"CBOR\x19\x01\x00";
+        let mut decoder = Decoder::new(&mut reader);
+        decoder.allow(allowed);
+        let mut prefix = [0; 4];
+        decoder.read_exact(&mut prefix).map_err(judge_head)?;
+        expect(prefix == *b"CBOR" && decoder.offset() == 4)?;
+        let first = decoder.pull_first().map_err(judge_head)?;
+        expect(first == Some(Header::Positive(256)) && decoder.head_len() == 3)?;
+        expect(decoder.last_offset() == 4 && decoder.offset() == 7)?;
+    }
+    Ok(())
+}
+
+// Or it ends there.
+fn end_behind_a_prefix() -> Result<(), Failure> {
+    for allowed in 0..6 {
+        let mut reader: &[u8] = b"CBOR";
+        let mut decoder = Decoder::new(&mut reader);
+        decoder.allow(allowed);
+        decoder.read_exact(&mut [0; 4]).map_err(judge_head)?;
+        let first = decoder.pull_first().map_err(judge_head)?;
+        expect(first.is_none() && decoder.head_len() == 0 && decoder.offset() == 4)?;
+    }
+    Ok(())
+}
+
+// The fault of a read is the answer of the call that makes it, and takes nothing. A read that gives
+// nothing is the end for that call.
+fn fail_ahead(fault: Fault) -> Result<(), Failure> {
+    let mut reader = Source::new(&[0x18, 0x20], Cut::Most(2), Some((0, fault)));
+    let mut decoder = Decoder::at(&mut reader, 4);
+    decoder.push(Header::Tag(5), 3);
+    decoder.allow(2);
+    expect(decoder.pull().map_err(judge_head)? == Header::Tag(5))?;
+    expect(is_io(decoder.pull(), fault.kind(ErrorKind::UnexpectedEof)))?;
+    expect(decoder.offset() == 4 && decoder.last_offset() == 4)?;
     expect(decoder.pull().map_err(judge_head)? == Header::Positive(32))?;
     expect(decoder.offset() == 6)
 }
 
-// An error ahead is put aside as well.
-fn keep_an_error_ahead(kind: ErrorKind) -> Result<(), Failure> {
-    let mut reader = Source::new(&[0x07], 1, Some((0, Fault::Kind(kind))));
+// An error of a read ahead is put aside as well.
+fn keep_an_error_ahead(fault: Fault) -> Result<(), Failure> {
+    let mut reader = Source::new(&[0x07, 0x08], Cut::Most(2), Some((0, fault)));
     let mut kept: Option<io::Error> = None;
     let mut decoder = Decoder::new(&mut reader);
-    let first = decoder.look_ahead_keeping(1, &mut kept);
+    decoder.allow(2);
+    let first = decoder.pull_next_keeping(&mut kept);
     expect(matches!(first, Err(Error::Io(()))))?;
-    expect(kept.take().map(|e| e.kind()) == Some(kind))?;
-    expect(decoder.look_ahead_keeping(1, &mut kept).is_ok() && kept.is_none())?;
-    expect(decoder.pull().map_err(judge_head)? == Header::Positive(7))
+    expect(kept.take().map(|e| e.kind()) == Some(fault.kind(ErrorKind::UnexpectedEof)))?;
+    let second = decoder.pull_next_keeping(&mut kept);
+    expect(matches!(second, Ok(Header::Positive(7))) && kept.is_none())?;
+    expect(decoder.pull().map_err(judge_head)? == Header::Positive(8))
 }
 
-// Whether a call failed by an error of this kind.
-fn is_io(answer: Result<(), Error<io::Error>>, kind: ErrorKind) -> bool {
+// A fault of the first read is no end of a sequence, but a read that gives nothing is.
+fn fail_first(fault: Fault) -> Result<(), Failure> {
+    for allowed in 0..4 {
+        let mut reader = Source::new(&[0x01, 0x02], Cut::Most(2), Some((0, fault)));
+        let mut decoder = Decoder::new(&mut reader);
+        decoder.allow(allowed);
+        match (decoder.pull_first(), fault) {
+            (Ok(None), Fault::Nothing) => {}
+            (Err(Error::Io(error)), Fault::Kind(kind)) => expect(error.kind() == kind)?,
+            _ => return Err(Failure::Wrong),
+        }
+        let first = decoder.pull_first().map_err(judge_head)?;
+        expect(first == Some(Header::Positive(1)) && decoder.offset() == 1)?;
+    }
+    Ok(())
+}
+
+// Whether no head was pulled for an error of this kind.
+fn is_io(answer: Result<Header, Error<io::Error>>, kind: ErrorKind) -> bool {
     match answer {
         Err(Error::Io(error)) => error.kind() == kind,
         _ => false,

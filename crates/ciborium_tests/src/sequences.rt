@@ -1,7 +1,7 @@
 //! Sequences of items, read one by one.
 
 use crate::alike::Alike;
-use crate::devices::{Failure, Source};
+use crate::devices::{Cut, Failure, Source, cuts_of};
 use crate::fronts::show_front;
 use crate::refusals::name_io;
 use crate::types::Job;
@@ -20,6 +20,8 @@ pub enum Asked {
     AllItems,
     /// What is answered where each read fails in turn.
     Faults,
+    /// The items of so many such sequences in a row.
+    Rows(usize),
 }
 
 /// What `from_reader_next` gives of the bytes: each item as `ok HEX`, the end or why the next one
@@ -36,11 +38,13 @@ impl Job for Sequence<'_> {
             Asked::Items => read_alike::<T>(alloc, self.bytes, false),
             Asked::AllItems => read_alike::<T>(alloc, self.bytes, true),
             Asked::Faults => fail_reads::<T>(alloc, self.bytes),
+            Asked::Rows(count) => read_rows::<T>(alloc, self.bytes, count),
         }
     }
 }
 
-// The sequence of a slice, and `differs: A / B` where it is another one byte by byte, or three.
+// The sequence of a slice, and `differs: A / B` where it is another one from a reader of few bytes a
+// read.
 fn read_alike<T: Deserialize + Serialize>(
     alloc: Global,
     bytes: &[u8],
@@ -48,11 +52,46 @@ fn read_alike<T: Deserialize + Serialize>(
 ) -> Result<String, AllocError> {
     let text = read_slice::<T>(alloc, bytes, goes_on)?;
     let mut alike = Alike::new(text);
-    for most in [1, 3] {
-        let mut source = Source::new(bytes, most, None);
+    for cut in cuts_of(bytes) {
+        let mut source = Source::new(bytes, cut, None);
         alike.compare(alloc, read_all::<T, Source>(alloc, &mut source, goes_on))?;
     }
     Ok(alike.into_text())
+}
+
+// `N times SEQUENCE` where so many rows of these bytes give the items of one so many times, and then
+// end; else what they give.
+fn read_rows<T: Deserialize + Serialize>(
+    alloc: Global,
+    bytes: &[u8],
+    count: usize,
+) -> Result<String, AllocError> {
+    let mut rows = Vec::new(alloc);
+    for _ in 0..count {
+        rows.extend_from_slice(bytes)?;
+    }
+    let row = read_alike::<T>(alloc, bytes, false)?;
+    let all = read_alike::<T>(alloc, &rows, false)?;
+    if is_repeated(all.as_str(), row.as_str(), count) {
+        format!(in alloc; "{count} times {row}")
+    } else {
+        Ok(all)
+    }
+}
+
+// Whether these are the items of a row so many times, and then the end.
+fn is_repeated(all: &str, row: &str, count: usize) -> bool {
+    let Some(items) = row.strip_suffix("end") else {
+        return false;
+    };
+    let mut rest = all;
+    for _ in 0..count {
+        let Some(behind) = rest.strip_prefix(items) else {
+            return false;
+        };
+        rest = behind;
+    }
+    rest == "end"
 }
 
 // The items of a slice.
@@ -97,58 +136,74 @@ fn read_all<T: Deserialize + Serialize, R: Read>(
 }
 
 // How a read fails.
-const KINDS: [ErrorKind; 4] = [
-    ErrorKind::Interrupted,
-    ErrorKind::WouldBlock,
-    ErrorKind::ConnectionReset,
-    ErrorKind::Other,
+const FAILURES: [Failure; 6] = [
+    Failure::Kind(ErrorKind::Interrupted),
+    Failure::Kind(ErrorKind::WouldBlock),
+    Failure::Kind(ErrorKind::ConnectionReset),
+    Failure::Kind(ErrorKind::Other),
+    Failure::Nothing,
+    Failure::End,
 ];
 
 // `io after 0 1 1 items, then SEQUENCE` where each read of one byte, failing, ends the sequence as
-// that failure, behind the first so many of its items; else `read K: ..`, of the first such read.
+// that failure, behind the first so many of its items; else `read K: ..`, of the first such read. A
+// first read of an item that gives nothing is the end of the sequence.
 fn fail_reads<T: Deserialize + Serialize>(
     alloc: Global,
     bytes: &[u8],
 ) -> Result<String, AllocError> {
-    let text = fail_each_read::<T>(alloc, bytes, ErrorKind::Interrupted)?;
+    let failure = Failure::Kind(ErrorKind::Interrupted);
+    let text = fail_each_read::<T>(alloc, bytes, failure)?;
     let mut alike = Alike::new(text);
-    for kind in KINDS {
-        alike.compare(alloc, fail_each_read::<T>(alloc, bytes, kind))?;
+    for failure in FAILURES {
+        alike.compare(alloc, fail_each_read::<T>(alloc, bytes, failure))?;
     }
     Ok(alike.into_text())
 }
 
-// The same for one kind of failure. There are no more reads than bytes, and one that finds the end.
+// The same for one way to fail. There are no more reads than bytes, and one that finds the end.
 fn fail_each_read<T: Deserialize + Serialize>(
     alloc: Global,
     bytes: &[u8],
-    kind: ErrorKind,
+    failure: Failure,
 ) -> Result<String, AllocError> {
     let whole = read_slice::<T>(alloc, bytes, false)?;
-    let mut answer = String::from_str(alloc, "io after")?;
+    let mut counts = Counts {
+        failure,
+        last: None,
+        answer: String::from_str(alloc, "io after")?,
+    };
     for at in 0..bytes.len().saturating_add(2) {
-        if fail_read::<T>(alloc, bytes, (at, kind), whole.as_str(), &mut answer)? {
-            return Ok(answer);
+        if fail_read::<T>(alloc, bytes, at, whole.as_str(), &mut counts)? {
+            return Ok(counts.answer);
         }
     }
     String::from_str(alloc, "reads without end")
+}
+
+// How reads fail, how many items stood before the last that did, and the answer so far.
+#[derive(Drop)]
+struct Counts {
+    failure: Failure,
+    last: Option<usize>,
+    answer: String,
 }
 
 // Puts what the sequence is where one read fails behind the answer, and says whether that ends it.
 fn fail_read<T: Deserialize + Serialize>(
     alloc: Global,
     bytes: &[u8],
-    (at, kind): (usize, ErrorKind),
+    at: usize,
     whole: &str,
-    answer: &mut String,
+    counts: &mut Counts,
 ) -> Result<bool, AllocError> {
-    let mut source = Source::new(bytes, 1, Some((at, Failure::Kind(kind))));
+    let mut source = Source::new(bytes, Cut::Most(1), Some((at, counts.failure)));
     let text = read_all::<T, Source>(alloc, &mut source, false)?;
     if source.failed {
-        return push_count(alloc, whole, text.as_str(), (at, kind), answer);
+        return push_count(alloc, whole, text.as_str(), at, counts);
     }
-    answer.push_str(" items, then ")?;
-    answer.push_str(text.as_str())?;
+    counts.answer.push_str(" items, then ")?;
+    counts.answer.push_str(text.as_str())?;
     Ok(true)
 }
 
@@ -157,27 +212,40 @@ fn push_count(
     alloc: Global,
     whole: &str,
     text: &str,
-    (at, kind): (usize, ErrorKind),
-    answer: &mut String,
+    at: usize,
+    counts: &mut Counts,
 ) -> Result<bool, AllocError> {
-    match count_items(whole, text, name_io(kind)) {
-        Some(number) => {
-            answer.push_str(format!(in alloc; " {number}")?.as_str())?;
-            Ok(false)
-        }
-        None => {
-            *answer = format!(in alloc; "read {at}: {text}")?;
-            Ok(true)
+    let number = text.matches(';').count();
+    let is_first = counts.last != Some(number);
+    if is_cut_by(whole, text, word_of(counts.failure, is_first)) {
+        counts.last = Some(number);
+        counts
+            .answer
+            .push_str(format!(in alloc; " {number}")?.as_str())?;
+        return Ok(false);
+    }
+    counts.answer = format!(in alloc; "read {at}: {text}")?;
+    Ok(true)
+}
+
+// What the sequence ends with where a read fails, the first of an item or another.
+fn word_of(failure: Failure, is_first: bool) -> &'static str {
+    match failure {
+        Failure::Kind(kind) => name_io(kind),
+        Failure::Nothing | Failure::End => {
+            if is_first {
+                "end"
+            } else {
+                name_io(ErrorKind::UnexpectedEof)
+            }
         }
     }
 }
 
-// How many items stand before this refusal, if the items are the first ones of the whole sequence.
-fn count_items(whole: &str, text: &str, refusal: &str) -> Option<usize> {
-    let items = text.strip_suffix(refusal)?;
-    if whole.starts_with(items) {
-        Some(items.matches(';').count())
-    } else {
-        None
+// Whether the text is the first items of the whole sequence, and then this word.
+fn is_cut_by(whole: &str, text: &str, word: &str) -> bool {
+    match text.strip_suffix(word) {
+        Some(items) => whole.starts_with(items),
+        None => false,
     }
 }

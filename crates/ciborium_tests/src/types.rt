@@ -1,5 +1,6 @@
 //! The types that lines name.
 
+use crate::few::Few;
 use ciborium::de::Deserialize;
 use ciborium::ser::Serialize;
 use ciborium::tag::{Accepted, Required};
@@ -89,6 +90,9 @@ fn ask_container<J: Job>(alloc: Global, name: &str, job: &J) -> Result<Option<St
     }
     let answer = match name {
         "Vec<u8>" => job.answer::<Vec<u8>>(alloc),
+        "Vec<u64>" => job.answer::<Vec<u64>>(alloc),
+        "Vec<i128>" => job.answer::<Vec<i128>>(alloc),
+        "Vec<String>" => job.answer::<Vec<String>>(alloc),
         "Vec<(u8,u8)>" => job.answer::<Vec<(u8, u8)>>(alloc),
         "Vec<Value>" => job.answer::<Vec<Value>>(alloc),
         "Vec<Option<bool>>" => job.answer::<Vec<Option<bool>>>(alloc),
@@ -104,6 +108,7 @@ fn ask_map<J: Job>(alloc: Global, name: &str, job: &J) -> Result<Option<String>,
         "BTreeMap<u8,Vec<Option<i16>>>" => job.answer::<BTreeMap<u8, Vec<Option<i16>>>>(alloc),
         "BTreeMap<u8,u8>" => job.answer::<BTreeMap<u8, u8>>(alloc),
         "BTreeMap<i8,u8>" => job.answer::<BTreeMap<i8, u8>>(alloc),
+        "BTreeMap<u64,String>" => job.answer::<BTreeMap<u64, String>>(alloc),
         "BTreeMap<String,u8>" => job.answer::<BTreeMap<String, u8>>(alloc),
         "BTreeMap<Value,u8>" => job.answer::<BTreeMap<Value, u8>>(alloc),
         "BTreeMap<CanonicalValue,u8>" => job.answer::<BTreeMap<CanonicalValue, u8>>(alloc),
@@ -146,6 +151,7 @@ fn ask_tagged<J: Job>(alloc: Global, name: &str, job: &J) -> Result<Option<Strin
 
 fn ask_own<J: Job>(alloc: Global, name: &str, job: &J) -> Result<Option<String>, AllocError> {
     let answer = match name {
+        "Few" => job.answer::<Few>(alloc),
         "Figure" => job.answer::<Figure>(alloc),
         "Letter" => job.answer::<Letter>(alloc),
         "Vec<Letter>" => job.answer::<Vec<Letter>>(alloc),

@@ -22,11 +22,12 @@ pub enum Writing {
 }
 
 // How a write fails.
-const FAILURES: [Failure; 5] = [
+const FAILURES: [Failure; 6] = [
     Failure::Kind(ErrorKind::Interrupted),
     Failure::Kind(ErrorKind::WouldBlock),
     Failure::Kind(ErrorKind::BrokenPipe),
     Failure::Kind(ErrorKind::Other),
+    Failure::Nothing,
     Failure::End,
 ];
 

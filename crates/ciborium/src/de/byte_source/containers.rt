@@ -5,7 +5,7 @@ ghost use Rattle.std.specs.Prelude.{OnErr, OnOk, Some, false};
 ghost use Rattle.ciborium_ll.specs.Decoding.{HasSameReader};
 ghost use Rattle.ciborium_ll.specs.StringRefusal.{of_bytes};
 ghost use Rattle.ciborium_value.specs.Sources.{GoesOn, IsGranted, Leaves, OwesLess, OwesNothing};
-ghost use Rattle.ciborium_value.specs.Sources.{RefusesNext, TakesTo, of_device};
+ghost use Rattle.ciborium_value.specs.Sources.{RefusesNext, TakesTo};
 ghost use Rattle.ciborium_value.specs.Taken.{gives, taken_pairs, taken_seq};
 ghost use Rattle.ciborium.specs.ByteSources.{HasBytes, IsUnread, OpensItems, OpensPairs, Owes};
 ghost use Rattle.ciborium.specs.ByteSources.{SeqStands, StandsBefore, StandsStill, bytes_weight, cause_of};
@@ -20,9 +20,6 @@ use ciborium_ll::Header;
 use ciborium_value::Kind;
 use std::alloc::Global;
 use std::io::Read;
-
-// From so many parts on it is worthwhile to read ahead.
-const WORTHWHILE: usize = 8;
 
 // How many parts are left for sure.
 #[inline(always)]
@@ -146,24 +143,18 @@ impl<'a, R: Read> ByteSource<'a, R> {
         }
     }
 
-    /// Reads ahead where so many parts of a container are left that it is worthwhile: each takes a
-    /// byte at least.
+    /// Allows a byte to be read ahead for each part of a container that is left for sure: each part
+    /// takes a byte at least. Nothing is read here.
     #[inline(always)]
-    pub(crate) fn look_ahead(&mut self, seq: &ByteSeq) -> Result<(), Refusal>
+    pub(crate) fn allow(&mut self, seq: &ByteSeq)
         ensures levels { self.new.levels ≡ self.old.levels }
         ensures pending { self.new.pending ≡ self.old.pending }
         ensures weight { weight_left self.new ≡ weight_left self.old }
         ensures unread { (b : List ℕ) → IsUnread R.remaining self.old b →
             IsUnread R.remaining self.new b }
         ensures still { StandsStill R.remaining self.old self.new seq.now }
-        ensures device { IfErr result (λ e. cause_of e ≡ of_device) }
     {
-        let parts = counted_parts(&seq.left);
-        if parts < WORTHWHILE {
-            return Ok(());
-        }
-        self.decoder.look_ahead_keeping(parts, &mut self.failure)?;
-        Ok(())
+        self.decoder.allow(counted_parts(&seq.left));
     }
 
     /// Whether a further item or pair is ahead; the container is left where none is.

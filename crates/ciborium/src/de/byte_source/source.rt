@@ -128,7 +128,7 @@ impl<'a, R: Read> Source for ByteSource<'a, R> {
 
     #[inline(always)]
     fn next(&mut self, seq: &mut ByteSeq) -> Result<bool, Refusal> {
-        self.look_ahead(seq)?;
+        self.allow(seq);
         self.next_part(seq)
     }
 

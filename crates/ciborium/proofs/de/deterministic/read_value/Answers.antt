@@ -25,7 +25,7 @@ turns-init g c = record {
   same_reader = refl;
   depth = search rules;
   fewer = omega arith;
-  reading = so-unread g.R.Read.remaining c.args.decoder.now c.args.decoder.now (Reading (opens_of c.new-stack.result) c.args.levels) (refl, refl, refl)
+  reading = so-unread g.R.Read.remaining c.args.decoder.now c.args.decoder.now (Reading (opens_of c.new-stack.result) c.args.levels) (refl, refl)
       (λ u xs p s. begin Some (with_left c.args.decoder.now u) (opens_of c.new-stack.result) c.args.levels xs p c.new-stack.ensures s);
 }
 

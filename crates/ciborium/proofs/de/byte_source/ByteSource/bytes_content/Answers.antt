@@ -11,7 +11,7 @@ pub returns-in_err-bytes_into_keeping-clause-denied : goal.returns-in_err-bytes_
 returns-in_err-bytes_into_keeping-clause-denied g c =
     let exit = err_from_is_err_and c.from_residual.result c.from_residual.ensures.1 in
     let d = c.args.self.now.decoder in
-    rw (exit.1, exit.2) (λ y x s z payload u hd sp e. content-outside (left_of g.R.Read.remaining c.bytes_into_keeping.new.self) c.in_err-bytes_into_keeping.field-0.0 of_bytes c.args.len d.last d.count y x s z payload hd sp e
+    rw (exit.1, exit.2) (λ y x s z payload u hd sp e. content-outside (left_of g.R.Read.remaining c.bytes_into_keeping.new.self) c.in_err-bytes_into_keeping.field-0.0 of_bytes c.args.len d.last d.window.count y x s z payload hd sp e
     (c.in_err-bytes_into_keeping.ensures.refused y (subst (λ o. IsUnreadBy g.R.Read.remaining d o y) c.requires u)))
 
 pub returns-clause-ok : goal.returns-clause-ok
@@ -21,5 +21,5 @@ returns-clause-ok g c =
 pub returns-clause-fewer : goal.returns-clause-fewer
 returns-clause-fewer g c =
     let less = c.offset-end.type_inv in
-    let at = c.offset-end.ensures ∙ ap (next_offset c.bytes_into_keeping.new.self.count) c.bytes_into_keeping.ensures.none_pushed in
+    let at = c.offset-end.ensures ∙ ap (next_offset c.bytes_into_keeping.new.self.window.count) c.bytes_into_keeping.ensures.none_pushed in
     content-fewer Unit g.R.Read.remaining c.args.self.now.decoder c.bytes_into_keeping.new.self of_bytes c.args.len c.new-out.result.items c.bytes_into_keeping.new.out.items c.new-out.ensures.items (omega (arith, less, at)) c.in_ok-bytes_into_keeping.ensures.taken

@@ -10,5 +10,5 @@ returns-clause-ok g c = just-taken Unit g.R.Read.remaining c.args.self.now.decod
 pub returns-clause-fewer : goal.returns-clause-fewer
 returns-clause-fewer g c =
     let fits = c.offset-end.type_inv in
-    let at = c.offset-end.ensures ∙ ap (next_offset c.read_exact_keeping.new.self.count) c.read_exact_keeping.ensures.none_pushed in
+    let at = c.offset-end.ensures ∙ ap (next_offset c.read_exact_keeping.new.self.window.count) c.read_exact_keeping.ensures.none_pushed in
     fill-fewer Unit g.R.Read.remaining c.args.self.now.decoder c.read_exact_keeping.new.self c.read_exact_keeping.new.buffer (omega (arith, fits, at)) c.in_ok-read_exact_keeping.ensures.taken

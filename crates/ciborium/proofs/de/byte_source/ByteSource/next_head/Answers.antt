@@ -9,8 +9,8 @@ pub returns-in_err-header-clause-denied : goal.returns-in_err-header-clause-deni
 returns-in_err-header-clause-denied g c =
     let exit = err_from_is_err_and c.from_residual.result c.from_residual.ensures.1 in
     let d = c.args.self.now.decoder in
-    rw (exit.1, exit.2) (λ b x y h u s e. head-outside (left_of g.R.Read.remaining c.pull_next_keeping.new.self) c.in_err-header.field-0.0 b x y d.count h s e
-    (c.in_err-header.ensures.ahead b d.count (ahead-unpushed g.R.Read.remaining d b c.args.self.now.unpushed (subst (λ o. IsUnreadBy g.R.Read.remaining d o b) c.in_default.is u))))
+    rw (exit.1, exit.2) (λ b x y h u s e. head-outside (left_of g.R.Read.remaining c.pull_next_keeping.new.self) c.in_err-header.field-0.0 b x y d.window.count h s e
+    (c.in_err-header.ensures.ahead b d.window.count (ahead-unpushed g.R.Read.remaining d b c.args.self.now.unpushed (subst (λ o. IsUnreadBy g.R.Read.remaining d o b) c.in_default.is u))))
 
 pub returns-clause-fewer : goal.returns-clause-fewer
 returns-clause-fewer g c =
@@ -24,12 +24,12 @@ returns-in-Some-clause-counted g c b x y u = counted-pending g.R.Read.remaining 
 pub returns-clause-counted : goal.returns-clause-counted
 returns-clause-counted g c b x y u =
     let d = c.args.self.now.decoder in
-    counted-pulled Unit (left_of g.R.Read.remaining c.pull_next_keeping.new.self) c.pull_next_keeping.new.self c.in_ok-header.header d.count c.last_offset-offset.result c.pull_next_keeping.new.self.last b x y
+    counted-pulled Unit (left_of g.R.Read.remaining c.pull_next_keeping.new.self) c.pull_next_keeping.new.self c.in_ok-header.header d.window.count c.last_offset-offset.result c.pull_next_keeping.new.self.last b x y
     (c.last_offset-offset.ensures ∙ c.in_ok-header.ensures.last)
-    (c.in_ok-header.ensures.ahead b d.count (ahead-unpushed g.R.Read.remaining d b c.args.self.now.unpushed (subst (λ o. IsUnreadBy g.R.Read.remaining d o b) c.in_default.is u)))
+    (c.in_ok-header.ensures.ahead b d.window.count (ahead-unpushed g.R.Read.remaining d b c.args.self.now.unpushed (subst (λ o. IsUnreadBy g.R.Read.remaining d o b) c.in_default.is u)))
 
 pub returns-clause-head : goal.returns-clause-head
 returns-clause-head g c b u =
     let d = c.args.self.now.decoder in
-    let (x, y, hd, usable, e, stood, counted, rest) = c.in_ok-header.ensures.ahead b d.count (ahead-unpushed g.R.Read.remaining d b c.args.self.now.unpushed (subst (λ o. IsUnreadBy g.R.Read.remaining d o b) c.in_default.is u)) in
+    let (x, y, hd, usable, e, stood, counted, rest) = c.in_ok-header.ensures.ahead b d.window.count (ahead-unpushed g.R.Read.remaining d b c.args.self.now.unpushed (subst (λ o. IsUnreadBy g.R.Read.remaining d o b) c.in_default.is u)) in
     (x, y, hd, e, subst (λ o. IsUnreadBy g.R.Read.remaining c.pull_next_keeping.new.self o y) (sym c.in_default.is) rest)

@@ -6,7 +6,7 @@ use Rattle.ciborium_ll.specs.Header.{SpellsHeader}
 use Rattle.ciborium.specs.declared.de.byte_source.Left.TheVariants as left
 use Rattle.ciborium.specs.ByteSources.{IsUnread, IsUnreadBy, cause_of, bytes_weight, weight, weight_left}
 use Rattle.ciborium.specs.ItemReads.{TakesHead}
-use Rattle.ciborium.proofs.NextParts.{aside-unread, goes-bytes, goes-counted, goes-open, leaves-counted, leaves-open, less-bytes, less-counted, less-open, is-none, no-next, nothing-counted, nothing-open, wide, wide-head}
+use Rattle.ciborium.proofs.NextParts.{aside-unread, goes-bytes, goes-counted, goes-open, leaves-counted, leaves-open, less-bytes, less-counted, less-open, is-none, no-next, nothing-allowed, nothing-open, wide, wide-head}
 use Rattle.ciborium.proofs.de.byte_source.ByteSource.next_part.Goals as goal
 
 pub returns-then-n-eq0-clause-ok : goal.returns-then-n-eq0-clause-ok
@@ -14,7 +14,7 @@ returns-then-n-eq0-clause-ok g c =
     leaves-counted g.R.Read.remaining c.args.self.now (record c.args.self.now { levels = c.args.seq.now.levels }) c.args.seq.now (c.in-Counted.is ∙ ap left.Counted c.if-n-eq0.true) refl refl refl
 
 pub returns-then-n-eq0-clause-took : goal.returns-then-n-eq0-clause-took
-returns-then-n-eq0-clause-took g c = nothing-counted (IsUnread g.R.Read.remaining c.args.self.now) c.args.seq.now (c.in-Counted.is ∙ ap left.Counted c.if-n-eq0.true)
+returns-then-n-eq0-clause-took g c = nothing-allowed (IsUnread g.R.Read.remaining c.args.self.now) c.args.seq.now (c.in-Counted.is ∙ ap left.Counted c.if-n-eq0.true)
 
 pub returns-else-n-eq0-clause-ok : goal.returns-else-n-eq0-clause-ok
 returns-else-n-eq0-clause-ok g c =

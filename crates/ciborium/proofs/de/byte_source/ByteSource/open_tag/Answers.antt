@@ -63,7 +63,7 @@ returns-in_ok-level-in_default g c =
     let aside : (b x y : _) → U c.args.self.now b → SpellsHeader x h → b ≡ x ++ y → U mid y → IsUnreadBy g.R.Read.remaining taken.decoder (Some (h, c.in_ok-header.offset)) b
     = λ b x y w hd e u. subst (λ d. IsUnreadBy g.R.Read.remaining d (Some (h, c.in_ok-header.offset)) b) (sym level.decoder) (aside-unread g.R.Read.remaining mid.decoder mid.pending h c.in_ok-header.offset b x y head.pending hd e (head.counted b x y w hd e) u) in
     let fewer = head.fewer in
-    let count : taken.decoder.count ≡ mid.decoder.count = ap (λ d. d.count) level.decoder in
+    let count : taken.decoder.window.count ≡ mid.decoder.window.count = ap (λ d. d.window.count) level.decoder in
     record {
       same_reader = ap source_of level.decoder ∙ head.same_reader;
       level = (level.some.0 ∙ same, sym same ∙ less);

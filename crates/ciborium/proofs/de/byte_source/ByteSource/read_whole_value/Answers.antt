@@ -20,8 +20,8 @@ returns-in_ok-value-in-None-portable_value-clause-ok g c b u =
     let value = c.in_ok-value-in-None-portable_value.value in
     let done = c.in_ok-value-in-None-portable_value.ensures in
     let ahead = ahead-by g.R.Read.remaining d c.push.new.self pending b c.in-None-portable_value.ensures c.push.ensures.pushed c.push.ensures.unread (subst (λ o. IsUnreadBy g.R.Read.remaining d o b) (sym c.take.ensures.value ∙ c.in-Some.is) u) in
-    let (i, s, z, sp, e, give, left) = whole-reads Unit g.R.Read.remaining f c.args.self.now.levels (next_offset d.count pending) b value done.rests
-    (known-read g.R.Read.remaining Unit c.push.new.self f c.args.self.now.levels (Ok value) done.value b (next_offset d.count pending) ahead) in
+    let (i, s, z, sp, e, give, left) = whole-reads Unit g.R.Read.remaining f c.args.self.now.levels (next_offset d.window.count pending) b value done.rests
+    (known-read g.R.Read.remaining Unit c.push.new.self f c.args.self.now.levels (Ok value) done.value b (next_offset d.window.count pending) ahead) in
     (i, s, z, sp, e, give, subst (λ o. IsUnreadBy g.R.Read.remaining f o z) (sym c.take.ensures.after) left)
 
 pub returns-in_ok-value-in-None-clause-ok : goal.returns-in_ok-value-in-None-clause-ok
@@ -30,8 +30,8 @@ returns-in_ok-value-in-None-clause-ok g c b u =
     let f = c.read_unpushed-in-None.new.decoder in
     let value = c.in_ok-value-in-None.value in
     let done = c.in_ok-value-in-None.ensures in
-    let ahead = ahead-by g.R.Read.remaining d d None b tt c.args.self.now.unpushed (refl, refl, refl) (subst (λ o. IsUnreadBy g.R.Read.remaining d o b) (sym c.take.ensures.value ∙ c.in-None.is) u) in
-    let (i, s, z, sp, e, give, left) = whole-reads Unit g.R.Read.remaining f c.args.self.now.levels d.count b value done.rests (known-read g.R.Read.remaining Unit d f c.args.self.now.levels (Ok value) done.value b d.count ahead) in
+    let ahead = ahead-by g.R.Read.remaining d d None b tt c.args.self.now.unpushed (refl, refl) (subst (λ o. IsUnreadBy g.R.Read.remaining d o b) (sym c.take.ensures.value ∙ c.in-None.is) u) in
+    let (i, s, z, sp, e, give, left) = whole-reads Unit g.R.Read.remaining f c.args.self.now.levels d.window.count b value done.rests (known-read g.R.Read.remaining Unit d f c.args.self.now.levels (Ok value) done.value b d.window.count ahead) in
     (i, s, z, sp, e, give, subst (λ o. IsUnreadBy g.R.Read.remaining f o z) (sym c.take.ensures.after) left)
 
 pub returns-in_err-value-in-None-portable_value-clause-denied : goal.returns-in_err-value-in-None-portable_value-clause-denied
@@ -43,8 +43,8 @@ returns-in_err-value-in-None-portable_value-clause-denied g c =
     let error = c.in_err-value-in-None-portable_value.field-0.0 in
     rw (exit.1, exit.2) (λ b s z i u sp e.
     let ahead = ahead-by g.R.Read.remaining d c.push.new.self pending b c.in-None-portable_value.ensures c.push.ensures.pushed c.push.ensures.unread (subst (λ o. IsUnreadBy g.R.Read.remaining d o b) (sym c.take.ensures.value ∙ c.in-Some.is) u) in
-    whole-faults (left_of g.R.Read.remaining f) error c.args.self.now.levels (next_offset d.count pending) b s z i sp e
-    (known-read g.R.Read.remaining Unit c.push.new.self f c.args.self.now.levels (Err error) c.in_err-value-in-None-portable_value.ensures.value b (next_offset d.count pending) ahead))
+    whole-faults (left_of g.R.Read.remaining f) error c.args.self.now.levels (next_offset d.window.count pending) b s z i sp e
+    (known-read g.R.Read.remaining Unit c.push.new.self f c.args.self.now.levels (Err error) c.in_err-value-in-None-portable_value.ensures.value b (next_offset d.window.count pending) ahead))
 
 pub returns-in_err-value-in-None-clause-denied : goal.returns-in_err-value-in-None-clause-denied
 returns-in_err-value-in-None-clause-denied g c =
@@ -53,8 +53,8 @@ returns-in_err-value-in-None-clause-denied g c =
     let f = c.read_unpushed-in-None.new.decoder in
     let error = c.in_err-value-in-None.field-0.0 in
     rw (exit.1, exit.2) (λ b s z i u sp e.
-    let ahead = ahead-by g.R.Read.remaining d d None b tt c.args.self.now.unpushed (refl, refl, refl) (subst (λ o. IsUnreadBy g.R.Read.remaining d o b) (sym c.take.ensures.value ∙ c.in-None.is) u) in
-    whole-faults (left_of g.R.Read.remaining f) error c.args.self.now.levels d.count b s z i sp e (known-read g.R.Read.remaining Unit d f c.args.self.now.levels (Err error) c.in_err-value-in-None.ensures.value b d.count ahead))
+    let ahead = ahead-by g.R.Read.remaining d d None b tt c.args.self.now.unpushed (refl, refl) (subst (λ o. IsUnreadBy g.R.Read.remaining d o b) (sym c.take.ensures.value ∙ c.in-None.is) u) in
+    whole-faults (left_of g.R.Read.remaining f) error c.args.self.now.levels d.window.count b s z i sp e (known-read g.R.Read.remaining Unit d f c.args.self.now.levels (Err error) c.in_err-value-in-None.ensures.value b d.window.count ahead))
 
 pub returns-in-Some-portable_value-clause-reads : goal.returns-in-Some-portable_value-clause-reads
 returns-in-Some-portable_value-clause-reads g c = (

@@ -11,7 +11,7 @@ pub returns-in_err-text_into_keeping-clause-denied : goal.returns-in_err-text_in
 returns-in_err-text_into_keeping-clause-denied g c =
     let exit = err_from_is_err_and c.from_residual.result c.from_residual.ensures.1 in
     let d = c.args.self.now.decoder in
-    rw (exit.1, exit.2) (λ y x s z payload u hd sp e. content-outside (left_of g.R.Read.remaining c.text_into_keeping.new.self) c.in_err-text_into_keeping.field-0.0 of_text c.args.len d.last d.count y x s z payload hd sp e
+    rw (exit.1, exit.2) (λ y x s z payload u hd sp e. content-outside (left_of g.R.Read.remaining c.text_into_keeping.new.self) c.in_err-text_into_keeping.field-0.0 of_text c.args.len d.last d.window.count y x s z payload hd sp e
     (c.in_err-text_into_keeping.ensures.refused y (subst (λ o. IsUnreadBy g.R.Read.remaining d o y) c.requires u)))
 
 pub returns-clause-ok : goal.returns-clause-ok

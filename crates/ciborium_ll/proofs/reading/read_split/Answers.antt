@@ -1,5 +1,0 @@
-use Rattle.ciborium_ll.proofs.Advancing.{head-behind}
-use Rattle.ciborium_ll.proofs.reading.read_split.Goals as goal
-
-pub returns-clause-head : goal.returns-clause-head
-returns-clause-head g c = head-behind _ _ _ _ _ _ _ _ _ c.fill.auto.buffer c.in_ok-fill.ensures.bytes c.read_behind.ensures.head
