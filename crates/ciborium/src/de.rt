@@ -29,7 +29,7 @@ use std::io::{self, Read};
 pub const RECURSION_LIMIT: usize = 256;
 
 // The size of the scratch where none is lent.
-const SCRATCH_SIZE: usize = 4096;
+const SCRATCH_SIZE: usize = 1024;
 
 // Reads one value from a source, and puts the reader's error back.
 #[inline(always)]
