@@ -24,8 +24,8 @@ pub struct Decoder<'a, R> {
 }
 
 impl<'a, R: Read> Decoder<'a, R> {
-    ghost use Rattle.std.specs.Prelude.{[], ◌≡◌, ◌-◌, ◌<◌, ◌∷◌, IfErr, IfNone, IfOk, IfSome, List, None};
-    ghost use Rattle.std.specs.Prelude.{Ok, Some, max, min, string_bytes, ℕ};
+    ghost use Rattle.std.specs.Prelude.{[], ◌≡◌, ◌-◌, ◌<◌, ◌∷◌, IfErr, IfNone, IfOk, IfSome, List};
+    ghost use Rattle.std.specs.Prelude.{None, Ok, Some, max, min, string_bytes, ℕ};
     ghost use Rattle.std.specs.Io.KnownBytes.{IsAtEnd};
     ghost use Rattle.ciborium_ll.specs.Bytes.{greatest_offset};
     ghost use Rattle.ciborium_ll.specs.Decoding.{HasBegun, HasSameReader, IsAhead, IsUnread};

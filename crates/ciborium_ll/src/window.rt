@@ -21,8 +21,8 @@ pub(crate) struct Window {
 }
 
 impl Window {
-    ghost use Rattle.std.specs.Prelude.{◌-◌, ◌↔◌, ◌<◌, ◌∷◌, IfNone, IfOk, IfSome, IsTrue, List, Option};
-    ghost use Rattle.std.specs.Prelude.{min, take, ℕ};
+    ghost use Rattle.std.specs.Prelude.{◌-◌, ◌↔◌, ◌<◌, ◌∷◌, IfNone, IfOk, IfSome, IsTrue, List};
+    ghost use Rattle.std.specs.Prelude.{Option, min, take, ℕ};
     ghost use Rattle.std.specs.Io.KnownBytes.{IsAtEnd, Keeps};
     ghost use Rattle.ciborium_ll.specs.Windows.{AllowsNothing, TakesHeld, held, held_at};
     ghost use Rattle.ciborium_ll.specs.Windows.{reach_behind, unread};
