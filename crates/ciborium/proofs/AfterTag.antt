@@ -24,19 +24,20 @@ use Rattle.ciborium.proofs.ItemsRead.{item-read}
 use Rattle.ciborium.specs.declared.de.error.Error.{Error}
 use Rattle.ciborium.specs.Around.{IsInTag}
 use Rattle.ciborium_ll.specs.StringRefusal.{PayloadRefuses}
-use Rattle.ciborium.specs.Parts.{IsHeadRead, IsFoldRead, FoldRefuses, IsFolding, IsBegun, RefusesNoBreak}
+use Rattle.ciborium.specs.Parts.{IsHeadRead, IsBignumRead, BignumRefuses, IsFolding, IsBegun}
 use Rattle.ciborium.specs.Reads.{ReadsItem, IsAt, IsPulled, IsBreakAt}
+use Rattle.ciborium.specs.Spelling.{any}
 use Rattle.ciborium.proofs.Contents.{string-room}
-use Rattle.ciborium.proofs.Fronts.{Front, front-of, no-break, Got, ahead-at, offset-at}
+use Rattle.ciborium.proofs.Fronts.{Front, front-of, no-break, Got, RefusesNoBreak, ahead-at, offset-at}
 use Rattle.ciborium.proofs.Pulled.{refused-map}
 
 -- what `pull` answers behind the tag
 abbrev pub PullsSo : {S E : Type 0} → (S → Option (List ℕ)) → Decoder S → Decoder S → Result Header (Error E) → Type 0
 PullsSo remaining d e x = (xs : List ℕ) (p : ℕ) → IsAhead remaining d xs p → IsHeadRead remaining e xs p x
 
--- what `folded` answers
+-- what `read_bignum` answers
 abbrev pub FoldsSo : {S E : Type 0} → (S → Option (List ℕ)) → Decoder S → Decoder S → ℕ → ℕ → ℕ → Result Value (Error E) → Type 0
-FoldsSo remaining d e t n at x = (xs : List ℕ) (p : ℕ) → IsAt remaining d xs p → IsFoldRead remaining e t n at xs p x
+FoldsSo remaining d e t n at x = (xs : List ℕ) (p : ℕ) → IsAt remaining d xs p → IsBignumRead any remaining e t n at xs p x
 
 stands : {S : Type 0} (remaining : S → Option (List ℕ)) (d : Decoder S) (t : ℕ) (xs : List ℕ) (p : ℕ) (a : IsPulled remaining d (header.Tag t) xs p) → HasHead xs 6 t (length a.0) a.1
 stands remaining d t xs p a = (a.0, a.2, refl, a.4)
@@ -64,7 +65,7 @@ tag-no-level E remaining d e t l xs p k pushed pull other none a =
     (subst (λ n. Refuses xs p (Some n) recursion_limit_exceeded) (sym none) (Refuses.no_tag_level t (length a.0) a.1 a.3 (stands remaining d t xs p a) b.3 (folds-not t k b.0 a.1 b.1 other b.2 b.4)), no-break-tag remaining d t xs p a)
 
 pub tag-opened : (E : Type 0) {S : Type 0} (remaining : S → Option (List ℕ)) (d e f : Decoder S) (t l at : ℕ) (xs : List ℕ) (p : ℕ) (k : Header) → d.pushed ≡ None → PullsSo {E = E} remaining d e (Ok k) → IsFolding t k None → (l ≡ 0 → ⊥) →
-    at ≡ offset_of d → IsUnread e f → f.pushed ≡ Some (k, at) → IsPulled remaining d (header.Tag t) xs p → (zs : List ℕ) × (r : ℕ) × IsBegun l xs p (opened (opening.Tag t)) zs r × IsAhead remaining f zs r
+    at ≡ offset_of d → IsUnread e f → f.pushed ≡ Some (k, at) → IsPulled remaining d (header.Tag t) xs p → (zs : List ℕ) × (r : ℕ) × IsBegun any l xs p (opened (opening.Tag t)) zs r × IsAhead remaining f zs r
 tag-opened E remaining d e f t l at xs p k pushed pull other some here stays back a =
     let ahead = behind remaining d t xs p pushed a in
     let b = pull a.1 (p + length a.0) ahead in
@@ -81,7 +82,7 @@ pub folds-is : (t : ℕ) (bs : List ℕ) → is_bignum_tag t ≡ true → length
 folds-is t bs e lt = ap (λ x. cond x (cond (leb (length bs) 16) (Some bs) None) None) e ∙ ap (λ x. cond x (Some bs) None) (le-leb (length bs) 16 lt)
 
 fold-reads : (t l n : ℕ) (xs : List ℕ) (p : ℕ) (h r i s bs zs : List ℕ) (v : Tree) → Front xs p (header.Tag t) h r → Front r (p + length h) (header.Bytes (Some n)) i s → is_bignum_tag t ≡ true → n ≤ 16 → length bs ≡ n → AreBytes bs → s ≡ bs ++ zs →
-    bignum_meaning t bs ≡ Some v → ReadsItem l xs p v zs (p + length h + length i + n)
+    bignum_meaning t bs ≡ Some v → ReadsItem any l xs p v zs (p + length h + length i + n)
 fold-reads t l n xs p h r i s bs zs v u w big short len low e means =
     let folding : folding_bytes t (item.bytes false bs) ≡ Some bs = folds-is t bs big (omega arith) in
     let flat : nesting (item.tag t (item.bytes false bs)) ≡ 0 = ap (λ f. tag_nesting f 0) folding in
@@ -95,7 +96,7 @@ tag-folded E remaining d e f t l n at xs p k v pushed last pull folding read a =
     let w : Front a.1 (p + length a.0) (header.Bytes (Some n)) b.0 b.1 = front-of remaining e k (header.Bytes (Some n)) a.1 (p + length a.0) folding.0 b in
     let c = read b.1 (p + length a.0 + length b.0) b.6 in
     let q : ℕ = p + length a.0 + length b.0 + n in
-    (c.1, q, fold-reads t l n xs p a.0 a.1 b.0 b.1 c.0 c.1 (tree_of v) u w folding.1 folding.2 c.2 c.3 c.5 c.4, ahead-at remaining f q c.1 last c.6)
+    (c.1, q, fold-reads t l n xs p a.0 a.1 b.0 b.1 c.0 c.1 (tree_of v) u w folding.1 folding.2 c.2 c.3 c.6 c.5, ahead-at remaining f q c.1 last c.7)
 
 both-true : (t u : Bool) → (t && u) ≡ true → (t ≡ true) × (u ≡ true)
 both-true true u h = (refl, h)
@@ -123,12 +124,13 @@ too-large-refuses t l n at xs p h r i s bs zs e here u w big short len low is no
 
 -- what refuses the bytes over which a tag folds refuses the tag
 fold-refuses : (t l n at : ℕ) (xs : List ℕ) (p : ℕ) (h r i s : List ℕ) (e : Refusal) → at ≡ p → Front xs p (header.Tag t) h r → Front r (p + length h) (header.Bytes (Some n)) i s → is_bignum_tag t ≡ true → n ≤ 16 →
-    FoldRefuses t n at s e → Refuses xs p (Some l) e
+    BignumRefuses any t n at s e → Refuses xs p (Some l) e
 fold-refuses t l n at xs p h r i s e here u w big short (inl (early, is)) =
     let string : HasHead r 2 n (length i) s = (i, w.spelled, refl, w.split) in
     subst (λ f. Refuses xs p (Some l) f) (sym is)
     (Refuses.folding t (length h) r u.usable (h, u.spelled, refl, u.split) w.usable (big, n, length i, s, string, short) (n, length i, s, string, PayloadRefuses.ends_early early))
-fold-refuses t l n at xs p h r i s e here u w big short (inr c) = too-large-refuses t l n at xs p h r i s c.0 c.1 e here u w big short c.2 c.3 c.5 c.4 c.6
+fold-refuses t l n at xs p h r i s e here u w big short (inr (bs, zs, len, low, split, inl (never, is))) = absurd never
+fold-refuses t l n at xs p h r i s e here u w big short (inr (bs, zs, len, low, split, inr (none, is))) = too-large-refuses t l n at xs p h r i s bs zs e here u w big short len low split none is
 
 pub tag-unfolded : {S E : Type 0} (remaining : S → Option (List ℕ)) (d e f : Decoder S) (t l n at : ℕ) (xs : List ℕ) (p : ℕ) (k : Header) (x : Error E) → d.pushed ≡ None → PullsSo {E = E} remaining d e (Ok k) → IsFolding t k (Some n) →
     FoldsSo {E = E} remaining e f t n at (Err x) → at ≡ p → IsPulled remaining d (header.Tag t) xs p → RefusesNoBreak (left_of remaining f) x xs p l
@@ -136,6 +138,6 @@ tag-unfolded remaining d e f t l n at xs p k x pushed pull folding read here a =
     let b = pull a.1 (p + length a.0) (behind remaining d t xs p pushed a) in
     let u : Front xs p (header.Tag t) a.0 a.1 = front-of remaining d (header.Tag t) (header.Tag t) xs p refl a in
     let w : Front a.1 (p + length a.0) (header.Bytes (Some n)) b.0 b.1 = front-of remaining e k (header.Bytes (Some n)) a.1 (p + length a.0) folding.0 b in
-    refused-map (left_of remaining f) x (FoldRefuses t n at b.1) (λ r. Refuses xs p (Some l) r × ¬ IsBreakAt xs p)
+    refused-map (left_of remaining f) x (BignumRefuses any t n at b.1) (λ r. Refuses xs p (Some l) r × ¬ IsBreakAt xs p)
     (λ r c. (fold-refuses t l n at xs p a.0 a.1 b.0 b.1 r here u w folding.1 folding.2 c, no-break-tag remaining d t xs p a))
     (read b.1 (p + length a.0 + length b.0) b.6 (string-room 2 n (p + length a.0) a.1 b.0 b.1 (inl refl) w.spelled w.usable w.split))

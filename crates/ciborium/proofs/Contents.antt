@@ -21,10 +21,10 @@ use Rattle.ciborium_value.specs.View.{tree_of}
 use Rattle.ciborium.proofs.ItemsRead.{item-read}
 use Rattle.ciborium.specs.declared.de.error.Error.{Error}
 use Rattle.ciborium.specs.Errors.{IsRefusedBy}
-use Rattle.ciborium.specs.Parts.{RefusesNoBreak}
 use Rattle.ciborium.specs.Reads.{ReadsItem, IsAt, IsPulled, IsBreakAt}
 use Rattle.ciborium.specs.Strings.{string_tree, IsStringRead}
-use Rattle.ciborium.proofs.Fronts.{Front, front-of, IsNoBreak, no-break, Got, ahead-at}
+use Rattle.ciborium.specs.Spelling.{any}
+use Rattle.ciborium.proofs.Fronts.{Front, front-of, IsNoBreak, no-break, Got, RefusesNoBreak, ahead-at}
 use Rattle.ciborium.proofs.Pulled.{refused-map}
 
 -- the head of a string of this length
@@ -43,7 +43,7 @@ no-break-kind of_text len = tt
 -- ---- what was read
 
 definite-reads : (kind : StringKind) (l n : ℕ) (xs : List ℕ) (p : ℕ) (b r bs added zs : List ℕ) → Front xs p (header_of kind (Some n)) b r → length bs ≡ n → IsAllowed kind bs → added ≡ bs →
-    r ≡ bs ++ zs → p + length b + length bs ≤ greatest_offset → ReadsItem l xs p (string_tree kind added) zs (p + length b + length bs)
+    r ≡ bs ++ zs → p + length b + length bs ≤ greatest_offset → ReadsItem any l xs p (string_tree kind added) zs (p + length b + length bs)
 definite-reads of_bytes l n xs p b r bs added zs u size ok same e f = item-read (b ++ bs) (item.bytes false added) ((b, subst (IsHead b 2) (sym size ∙ ap length (sym same)) u.spelled, subst (IsAllowed of_bytes) (sym same) ok, ap (λ (z : List ℕ). b ++ z) (sym same))) refl (omega arith) (u.split ∙ ap (λ (z : List ℕ). b ++ z) e ∙ sym (append_assoc b bs zs)) (omega (arith, length-append b bs)) f
 definite-reads of_text l n xs p b r bs added zs u size ok same e f = item-read (b ++ bs) (item.text false added) ((b, subst (IsHead b 3) (sym size ∙ ap length (sym same)) u.spelled, subst (IsAllowed of_text) (sym same) ok, ap (λ (z : List ℕ). b ++ z) (sym same))) refl (omega arith) (u.split ∙ ap (λ (z : List ℕ). b ++ z) e ∙ sym (append_assoc b bs zs)) (omega (arith, length-append b bs)) f
 
@@ -51,7 +51,7 @@ open-split : (xs : List ℕ) (x : ℕ) (b r bs good zs : List ℕ) → xs ≡ b 
 open-split xs x b r bs good zs e f g h = e ∙ ap (λ (z : List ℕ). z ++ r) f ∙ ap (λ (z : List ℕ). x ∷ z) (g ∙ ap (λ (z : List ℕ). z ++ zs) h)
 
 string-reads : (E : Type 0) (kind : StringKind) (len : Option ℕ) (l at : ℕ) (xs : List ℕ) (p : ℕ) (b r bs added zs : List ℕ) → Front xs p (header_of kind len) b r →
-    IsStringTaken {E = E} kind len at bs (p + length b) (Ok tt) added → r ≡ bs ++ zs → p + length b + length bs ≤ greatest_offset → ReadsItem l xs p (string_tree kind added) zs (p + length b + length bs)
+    IsStringTaken {E = E} kind len at bs (p + length b) (Ok tt) added → r ≡ bs ++ zs → p + length b + length bs ≤ greatest_offset → ReadsItem any l xs p (string_tree kind added) zs (p + length b + length bs)
 string-reads E kind (Some n) l at xs p b r bs added zs u (inl (over, never, none, nothing)) e f = absurd cc
 string-reads E kind (Some n) l at xs p b r bs added zs u (inr (within, (size, ok, same))) e f = definite-reads kind l n xs p b r bs added zs u size ok same e f
 string-reads E of_bytes None l at xs p b r bs added zs u (payloads, good, parts, room, split, same) e f = item-read (open_byte 2 ∷ (good ++ (break_byte ∷ []))) (item.bytes true added) (payloads, good, parts, same, refl) refl (omega arith) (open-split xs (open_byte 2) b r bs good zs u.split u.spelled e split) ((let x : length b ≡ 1 = ap length u.spelled in let y : length bs ≡ length (good ++ (break_byte ∷ [])) = ap length split in omega (arith, x, y))) f
@@ -95,7 +95,7 @@ got-string E kind remaining d e l len xs p h v pushed is read a =
     let u : Front xs p (header_of kind len) a.0 a.1 = front-of remaining d h (header_of kind len) xs p is a in
     let c = read a.1 (p + length a.0) a.6 in
     let q : ℕ = p + length a.0 + length c.0 in
-    (c.2, q, subst (λ t. ReadsItem l xs p t c.2 q) (sym c.4) (string-reads E kind len l d.last xs p a.0 a.1 c.0 c.1 c.2 u c.3 c.5 c.7), ahead-at remaining e q c.2 pushed c.6)
+    (c.2, q, subst (λ t. ReadsItem any l xs p t c.2 q) (sym c.4) (string-reads E kind len l d.last xs p a.0 a.1 c.0 c.1 c.2 u c.3 c.5 c.7), ahead-at remaining e q c.2 pushed c.6)
 
 pub string-fault : {S E : Type 0} (kind : StringKind) (remaining : S → Option (List ℕ)) (d e : Decoder S) (l : ℕ) (len : Option ℕ) (xs : List ℕ) (p : ℕ) (h : Header) (x : Error E) → h ≡ header_of kind len →
     ((ys : List ℕ) (q : ℕ) → IsAt remaining d ys q → IsRefusedBy (left_of remaining e) x (λ r. ContentRefuses kind len d.last ys q r)) → IsPulled remaining d h xs p → RefusesNoBreak (left_of remaining e) x xs p l

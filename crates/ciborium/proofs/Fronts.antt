@@ -26,10 +26,11 @@ use Rattle.ciborium.proofs.ItemsRead.{item-read}
 use Rattle.ciborium.specs.declared.de.error.Error.{Error}
 use Rattle.ciborium.specs.declared.de.front.Part.{Part}
 use Rattle.ciborium.specs.declared.de.front.Part.TheVariants.{Whole, Opened, Ended}
-use Rattle.ciborium.specs.Around.{IsInContainer, IsInside, HasContainerHead, IsRoom, array_due, map_due, due_in}
+use Rattle.ciborium.specs.Around.{IsInContainer, IsAnywayInside, HasContainerHead, IsRoom, array_due, map_due, due_in}
 use Rattle.ciborium.specs.Errors.{IsRefusedBy}
-use Rattle.ciborium.specs.Parts.{IsArrayBegun, IsMapBegun, IsBehind, IsPartRead, RefusesNoBreak}
+use Rattle.ciborium.specs.Parts.{IsArrayBegun, IsMapBegun, IsBehind, IsPartRead, RefusesPart}
 use Rattle.ciborium.specs.Reads.{ReadsItem, IsAt, IsPulled, IsBreakAt}
+use Rattle.ciborium.specs.Spelling.{any}
 use Rattle.ciborium.proofs.Pulled.{refused-map}
 
 -- a usable head of this header stands at the front of xs, offset p, and r follows it
@@ -55,6 +56,9 @@ front-fits xs p h b r u = by (header-begins b h u.spelled)
 
 -- ---- breaks
 
+abbrev pub RefusesNoBreak : {E : Type 0} → Option (List ℕ) → Error E → List ℕ → ℕ → ℕ → Type 0
+RefusesNoBreak left e xs p l = IsRefusedBy left e (RefusesPart any xs p l)
+
 abbrev pub IsNoBreak : Header → Type 0
 IsNoBreak header.Break = ⊥
 IsNoBreak _ = Unit {0}
@@ -78,7 +82,7 @@ head-refused left e xs p l h = refused-map left e (λ r. HeadRefuses xs p r) (λ
 
 -- a value that means t stands at xs, and the decoder stands behind it
 abbrev pub Got : {S : Type 0} → (S → Option (List ℕ)) → Decoder S → ℕ → List ℕ → ℕ → Tree → Type 0
-Got remaining d l xs p t = (zs : List ℕ) × (r : ℕ) × ReadsItem l xs p t zs r × IsAhead remaining d zs r
+Got remaining d l xs p t = (zs : List ℕ) × (r : ℕ) × ReadsItem any l xs p t zs r × IsAhead remaining d zs r
 
 pub ahead-at : {S : Type 0} (remaining : S → Option (List ℕ)) (d : Decoder S) (p : ℕ) (xs : List ℕ) → d.pushed ≡ None → IsAt remaining d xs p → IsAhead remaining d xs p
 ahead-at remaining d p xs e a = subst (λ o. IsAheadBy remaining d xs p o) (sym e) a
@@ -90,30 +94,30 @@ offset-at {S} remaining d p xs = by d.pushed
     by None s = s.0
     by (Some k) s = s.0
 
-pub positive-reads : (l n : ℕ) (xs : List ℕ) (p : ℕ) (b r : List ℕ) → Front xs p (header.Positive n) b r → ReadsItem l xs p (trees.integer (pos n)) r (p + length b)
+pub positive-reads : (l n : ℕ) (xs : List ℕ) (p : ℕ) (b r : List ℕ) → Front xs p (header.Positive n) b r → ReadsItem any l xs p (trees.integer (pos n)) r (p + length b)
 positive-reads l n xs p b r u =
     item-read b (item.unsigned n) u.spelled refl (omega arith) u.split refl (front-fits xs p _ b r u)
 
-pub negative-reads : (l n : ℕ) (xs : List ℕ) (p : ℕ) (b r : List ℕ) → Front xs p (header.Negative n) b r → ReadsItem l xs p (trees.integer (negsuc n)) r (p + length b)
+pub negative-reads : (l n : ℕ) (xs : List ℕ) (p : ℕ) (b r : List ℕ) → Front xs p (header.Negative n) b r → ReadsItem any l xs p (trees.integer (negsuc n)) r (p + length b)
 negative-reads l n xs p b r u =
     item-read b (item.negative n) u.spelled refl (omega arith) u.split refl (front-fits xs p _ b r u)
 
-pub simple-reads : (l n : ℕ) (xs : List ℕ) (p : ℕ) (b r : List ℕ) (t : Tree) → simple_meaning n ≡ Some t → Front xs p (header.Simple n) b r → ReadsItem l xs p t r (p + length b)
+pub simple-reads : (l n : ℕ) (xs : List ℕ) (p : ℕ) (b r : List ℕ) (t : Tree) → simple_meaning n ≡ Some t → Front xs p (header.Simple n) b r → ReadsItem any l xs p t r (p + length b)
 simple-reads l n xs p b r t e u =
     item-read b (item.simple n) u.spelled e (omega arith) u.split refl (front-fits xs p _ b r u)
 
-empty-array : (l : ℕ) (xs : List ℕ) (p : ℕ) (b r : List ℕ) → 0 < l → Front xs p (header.Array (Some 0)) b r → ReadsItem l xs p (trees.array trees.no_trees) r (p + length b)
+empty-array : (l : ℕ) (xs : List ℕ) (p : ℕ) (b r : List ℕ) → 0 < l → Front xs p (header.Array (Some 0)) b r → ReadsItem any l xs p (trees.array trees.no_trees) r (p + length b)
 empty-array l xs p b r lt u = item-read b (item.array false item.no_items) (([], refl, (b, u.spelled, sym (append-nil b)))) refl (omega arith) u.split refl (front-fits xs p _ b r u)
 
-empty-map : (l : ℕ) (xs : List ℕ) (p : ℕ) (b r : List ℕ) → 0 < l → Front xs p (header.Map (Some 0)) b r → ReadsItem l xs p (trees.map trees.no_tree_pairs) r (p + length b)
+empty-map : (l : ℕ) (xs : List ℕ) (p : ℕ) (b r : List ℕ) → 0 < l → Front xs p (header.Map (Some 0)) b r → ReadsItem any l xs p (trees.map trees.no_tree_pairs) r (p + length b)
 empty-map l xs p b r lt u = item-read b (item.map false item.no_pairs) (([], refl, (b, u.spelled, sym (append-nil b)))) refl (omega arith) u.split refl (front-fits xs p _ b r u)
 
 -- ---- answers
 
 pub got-leaf : {S : Type 0} (remaining : S → Option (List ℕ)) (d : Decoder S) (l : ℕ) (xs : List ℕ) (p : ℕ) (h k : Header) (t u : Tree) → d.pushed ≡ None → u ≡ t → h ≡ k →
-    ((b r : List ℕ) → Front xs p k b r → ReadsItem l xs p t r (p + length b)) → IsPulled remaining d h xs p → Got remaining d l xs p u
+    ((b r : List ℕ) → Front xs p k b r → ReadsItem any l xs p t r (p + length b)) → IsPulled remaining d h xs p → Got remaining d l xs p u
 got-leaf {S} remaining d l xs p h k t u pushed same is reads a =
-    (a.1, p + length a.0, subst (λ v. ReadsItem l xs p v a.1 (p + length a.0)) (sym same) (reads a.0 a.1 (front-of remaining d h k xs p is a)), ahead-at remaining d (p + length a.0) a.1 pushed a.6)
+    (a.1, p + length a.0, subst (λ v. ReadsItem any l xs p v a.1 (p + length a.0)) (sym same) (reads a.0 a.1 (front-of remaining d h k xs p is a)), ahead-at remaining d (p + length a.0) a.1 pushed a.6)
 
 pub got-break : {S : Type 0} (remaining : S → Option (List ℕ)) (d : Decoder S) (xs : List ℕ) (p : ℕ) (h : Header) → d.pushed ≡ None → h ≡ header.Break → IsPulled remaining d h xs p →
     (zs : List ℕ) × (xs ≡ break_byte ∷ zs) × (p < greatest_offset) × IsAhead remaining d zs (p + 1)
@@ -218,7 +222,7 @@ map-inside count behind l xs p b r e u = record {
     room None = tt
 
 pub array-part : {S E : Type 0} (remaining : S → Option (List ℕ)) (d : Decoder S) (l : ℕ) (xs : List ℕ) (p : ℕ) (h : Header) (count : Option ℕ) (x : Result Part (Error E)) → d.pushed ≡ None → h ≡ header.Array count →
-    IsPulled remaining d h xs p → IsArrayBegun count l x → IsPartRead remaining d l xs p x
+    IsPulled remaining d h xs p → IsArrayBegun count l x → IsPartRead any remaining d l xs p x
 array-part remaining d l xs p h count (Ok (Whole v)) pushed is a s =
     got-leaf remaining d l xs p h (header.Array (Some 0)) (trees.array trees.no_trees) (tree_of v) pushed s.2 (is ∙ ap header.Array s.0) (λ b r u. empty-array l xs p b r s.1 u) a
 array-part remaining d l xs p h count (Ok (Opened f)) pushed is a s =
@@ -226,7 +230,7 @@ array-part remaining d l xs p h count (Ok (Opened f)) pushed is a s =
     let lt = s.0 in
     let less : l ≡ suc (l - 1) = omega (arith, lt) in
     let q : ℕ = p + length a.0 in
-    (a.1, q, (l - 1, less, subst (λ o. IsInside o (l - 1) xs p a.1 q) (sym s.2) (count, array-inside count s.1 (l - 1) xs p a.0 a.1 s.3 u)), ahead-at remaining d q a.1 pushed a.6)
+    (a.1, q, (l - 1, less, subst (λ o. IsAnywayInside o (l - 1) xs p a.1 q) (sym s.2) (count, array-inside count s.1 (l - 1) xs p a.0 a.1 s.3 u)), ahead-at remaining d q a.1 pushed a.6)
 array-part remaining d l xs p h count (Ok Ended) pushed is a s = absurd s
 array-part remaining d l xs p h count (Err e) pushed is a s =
     subst (λ z. RefusesNoBreak (left_of remaining d) z xs p l) (sym s.1)
@@ -234,7 +238,7 @@ array-part remaining d l xs p h count (Err e) pushed is a s =
     (λ b r u. subst (λ n. Refuses xs p (Some n) recursion_limit_exceeded) (sym s.0) (Refuses.no_level (length b) r (array_due count) u.usable (array-opens count xs p b r u))) a)
 
 pub map-part : {S E : Type 0} (remaining : S → Option (List ℕ)) (d : Decoder S) (l : ℕ) (xs : List ℕ) (p : ℕ) (h : Header) (count : Option ℕ) (x : Result Part (Error E)) → d.pushed ≡ None → h ≡ header.Map count →
-    IsPulled remaining d h xs p → IsMapBegun count l x → IsPartRead remaining d l xs p x
+    IsPulled remaining d h xs p → IsMapBegun count l x → IsPartRead any remaining d l xs p x
 map-part remaining d l xs p h count (Ok (Whole v)) pushed is a s =
     got-leaf remaining d l xs p h (header.Map (Some 0)) (trees.map trees.no_tree_pairs) (tree_of v) pushed s.2 (is ∙ ap header.Map s.0) (λ b r u. empty-map l xs p b r s.1 u) a
 map-part remaining d l xs p h count (Ok (Opened f)) pushed is a s =
@@ -242,7 +246,7 @@ map-part remaining d l xs p h count (Ok (Opened f)) pushed is a s =
     let lt = s.0 in
     let less : l ≡ suc (l - 1) = omega (arith, lt) in
     let q : ℕ = p + length a.0 in
-    (a.1, q, (l - 1, less, subst (λ o. IsInside o (l - 1) xs p a.1 q) (sym s.2) (count, map-inside count s.1 (l - 1) xs p a.0 a.1 s.3 u)), ahead-at remaining d q a.1 pushed a.6)
+    (a.1, q, (l - 1, less, subst (λ o. IsAnywayInside o (l - 1) xs p a.1 q) (sym s.2) (count, map-inside count s.1 (l - 1) xs p a.0 a.1 s.3 u)), ahead-at remaining d q a.1 pushed a.6)
 map-part remaining d l xs p h count (Ok Ended) pushed is a s = absurd s
 map-part remaining d l xs p h count (Err e) pushed is a s =
     subst (λ z. RefusesNoBreak (left_of remaining d) z xs p l) (sym s.1)

@@ -1,22 +1,22 @@
 -- From a source that was begun on a lent reader to the reader.
-use Rattle.std.proofs.Common.{◌≡◌, ℕ, ◌+◌, ◌≤◌, List, [], ◌++◌, Option, Some, None, Result, Ok, Err, IfOk, IfErr, IfSome, refl, sym, ap, ◌∙◌, subst, append-nil, arith}
+use Rattle.std.proofs.Common.{◌≡◌, ℕ, ◌+◌, ◌≤◌, List, [], ◌++◌, Option, Some, None, Result, Ok, Err, IfOk, IfErr, IfSome, OnOk, refl, sym, ap, ◌∙◌, subst, append-nil, arith}
 use Rattle.std.specs.Io.KnownBytes.{Consumes}
 use Rattle.ciborium_ll.specs.declared.decoder.Decoder.{Decoder}
 use Rattle.ciborium_ll.specs.Decoding.{HasBegun, IsAheadBy, with_left, left_of, allowed_of}
 use Rattle.ciborium_ll.proofs.HeldBytes.{begun-left, begun-rest, counted-left, same-name}
 use Rattle.ciborium_value.specs.Ahead.{bottom}
 use Rattle.ciborium_value.specs.Readings.{Reading}
-use Rattle.ciborium_value.specs.Refuses.{IsReadAs}
 use Rattle.ciborium_value.specs.Sources.{Fault, Refuses, Takes, TakesItem, read_as}
 use Rattle.ciborium_value.specs.Taken.{Taken}
 use Rattle.ciborium_value.specs.Tree.{Tree}
 use Rattle.ciborium.specs.declared.de.byte_source.ByteSource.{ByteSource}
 use Rattle.ciborium.specs.declared.de.error.Error.{Error}
-use Rattle.ciborium.specs.Answers.{IsTreeRead, IsTakenFrom, TakesBytes, TakesBytesFrom}
+use Rattle.ciborium.specs.Answers.{TakesBytes, TakesBytesFrom}
 use Rattle.ciborium.specs.ByteSources.{IsUnread, IsUnreadBy, ReadsValue, StandsBefore, cause_of, pending_count}
 use Rattle.ciborium.specs.NextItems.{IsReadFrom}
 use Rattle.ciborium.specs.TypedReads.{IsFaultAhead, TakesGiving}
-use Rattle.ciborium.proofs.Outcomes.{left-at}
+use Rattle.ciborium.specs.Spelling.{any}
+use Rattle.ciborium.proofs.WhateverFollows.{taken-tree}
 
 module _ {S A : Type 0} (remaining : S → Option (List ℕ)) (old : ByteSource S) (taken : Taken A) (b : List ℕ) (front : IsUnread remaining old b) (few : allowed_of old.decoder + pending_count old.pending ≤ 1) where
   -- just the item at the front was taken, and the reader that was lent has what follows it
@@ -44,20 +44,12 @@ handed-denied E remaining reading old new b front few (Err e) h = handed-refused
 
 -- ---- where reading is one call of `value`
 
-same-rest : (u v : List ℕ) → Some u ≡ Some v → u ≡ v
-same-rest u v e = cc
-
--- what was taken, where that is said whatever follows it
-pub taken-tree : (E : Type 0) {S : Type 0} (d : Decoder S) (l p : ℕ) (s : List ℕ) (r : Result Tree (Error E)) → d.pushed ≡ None → ((c : List ℕ) → IsTreeRead {S = List ℕ} {E = E} Some (with_left d c) l (s ++ c) p r) → IsTakenFrom {E = E} p s l r
-taken-tree E d l p s (Ok v) none f =
-    let (zs, q, item, at) = f [] in
-    let left : [] ≡ zs = same-rest [] zs (left-at Some (with_left d []) q zs none at) in
-    let whole : item.taken ≡ s = sym (append-nil item.taken) ∙ ap (λ (z : List ℕ). item.taken ++ z) left ∙ sym item.split ∙ append-nil s in
-    subst (λ z. IsReadAs z p (Some l) v) whole item.read
-taken-tree E d l p s (Err e) none f = f
+pub on-ok : {T E : Type 0} {P : Type 0} (r : Result T E) → P → OnOk r P
+on-ok (Ok v) p = p
+on-ok (Err e) p = tt
 
 pub handed-from : (E : Type 0) {S : Type 0} (remaining : S → Option (List ℕ)) (old new : ByteSource S) (lent x : S) (p : ℕ) (r : Result Tree (Error E)) → HasBegun old.decoder lent p → old.pending ≡ None → (old.decoder.reader.ghost_name ≡ new.decoder.reader.ghost_name → x ≡ new.decoder.reader.now) → ReadsValue remaining old new r →
-    TakesBytesFrom {E = E} p (remaining lent) old.levels (remaining x) r
+    TakesBytesFrom {E = E} any p (remaining lent) old.levels (remaining x) r
 handed-from E {S} remaining old new lent x p r begins none back reads =
     let (s, taken, count, h, bytes) = reads.1 in
     let begun : old.decoder.window.count ≡ p = begins.count in
@@ -66,12 +58,12 @@ handed-from E {S} remaining old new lent x p r begins none back reads =
       s,
       subst (λ o. Consumes (remaining lent) o s) (sym after) (subst (λ y. Consumes y (left_of remaining new.decoder) s) (begun-left remaining old.decoder lent p begins) taken),
       omega (arith, count, begun, less),
-      taken-tree E new.decoder old.levels p s r new.unpushed (λ c. h c (s ++ c) p (subst (λ o. IsAheadBy Some (with_left old.decoder (s ++ c)) (s ++ c) p o) (sym none) (begins.count, refl))),
+      taken-tree E any new.decoder old.levels p s r (on-ok r new.unpushed) (λ c. h c (s ++ c) p (subst (λ o. IsAheadBy Some (with_left old.decoder (s ++ c)) (s ++ c) p o) (sym none) (begins.count, refl))),
       bytes,
     )
 
 pub handed-whole : (E : Type 0) {S : Type 0} (remaining : S → Option (List ℕ)) (old new : ByteSource S) (lent x : S) (r : Result Tree (Error E)) → HasBegun old.decoder lent 0 → old.pending ≡ None → (old.decoder.reader.ghost_name ≡ new.decoder.reader.ghost_name → x ≡ new.decoder.reader.now) → ReadsValue remaining old new r →
-    TakesBytes {E = E} (remaining lent) old.levels (remaining x) r
+    TakesBytes {E = E} any (remaining lent) old.levels (remaining x) r
 handed-whole E remaining old new lent x r begins none back reads =
     let (s, consumes, fits, taken, bytes) = handed-from E remaining old new lent x 0 r begins none back reads in (s, consumes, omega (arith, fits), taken, bytes)
 

@@ -12,10 +12,10 @@ use Rattle.ciborium_ll.proofs.ShortestHead.{no_other_is_as_short, none_is_shorte
 use Rattle.ciborium_value.specs.declared.kind.Kind.{Kind}
 use Rattle.ciborium_value.specs.declared.kind.Kind.TheVariants as kinds
 use Rattle.ciborium.specs.declared.de.error.Error.TheVariants.{Semantic}
-use Rattle.ciborium.specs.DeterministicReads.{head_fault, long_fault, counted_fault}
 use Rattle.ciborium.specs.DeterministicRefusals.{DeterministicallyRefuses, HasShortHead}
 use Rattle.ciborium.specs.Errors.{IsRefusedBy}
 use Rattle.ciborium.specs.Reads.{IsPulled}
+use Rattle.ciborium.specs.Spelling.{deterministic_fault, long_fault, counted_fault}
 use Rattle.ciborium_ll.specs.Decoding.{left_of}
 use Rattle.ciborium.proofs.Fronts.{Front, front-of}
 
@@ -55,12 +55,12 @@ long-head m n size kind h is len wrong = by (eqb size (length (shortest_head m n
 
 -- one that was pulled, where nothing is wrong with it
 pub short-front : {S : Type 0} (remaining : S → Option (List ℕ)) (d : Decoder S) (h k : Header) (m n p : ℕ) (xs : List ℕ) → h ≡ k → ((b : List ℕ) → SpellsHeader b k → IsHead b m n) →
-    ((size : ℕ) → head_fault k size ≡ long_fault m n size) → head_fault h d.head_len ≡ None → d.window.count ≡ p + d.head_len → (a : IsPulled remaining d h xs p) → HasShortHead m n xs p a.1 (p + length a.0)
+    ((size : ℕ) → deterministic_fault k size ≡ long_fault m n size) → deterministic_fault h d.head_len ≡ None → d.window.count ≡ p + d.head_len → (a : IsPulled remaining d h xs p) → HasShortHead m n xs p a.1 (p + length a.0)
 short-front remaining d h k m n p xs same is fault none size a =
     let u : Front xs p k a.0 a.1 = front-of remaining d h k xs p same a in
     let count = a.6.0 in
     let len : length a.0 ≡ d.head_len = omega (arith, size, count) in
-    short-head m n p xs a.0 a.1 d.head_len (is a.0 u.spelled) u.usable u.split len (sym (fault d.head_len) ∙ ap (λ g. head_fault g d.head_len) (sym same) ∙ none)
+    short-head m n p xs a.0 a.1 d.head_len (is a.0 u.spelled) u.usable u.split len (sym (fault d.head_len) ∙ ap (λ g. deterministic_fault g d.head_len) (sym same) ∙ none)
 
 -- ---- the others
 
@@ -98,7 +98,7 @@ module _ (l p : ℕ) (xs h r : List ℕ) (size : ℕ) (kind : Kind) (usable : Is
           subst (λ k. IsRefusedBy {E = Unit {0}} None (Semantic (Some p) k) (DeterministicallyRefuses xs p l)) same
           (DeterministicallyRefuses.undefined r usable (split ∙ ap (λ (z : List ℕ). z ++ r) (bytes (f refl))))
 
-  pub head-refuses : (k : Header) → SpellsHeader h k → head_fault k size ≡ Some kind → Refused
+  pub head-refuses : (k : Header) → SpellsHeader h k → deterministic_fault k size ≡ Some kind → Refused
   head-refuses (header.Positive n) is wrong = long-refuses 0 n (omega arith) is wrong
   head-refuses (header.Negative n) is wrong = long-refuses 1 n (omega arith) is wrong
   head-refuses (header.Bytes n) is wrong = counted-refuses 2 n (omega arith) (omega arith) is wrong
@@ -115,7 +115,7 @@ pub of-kind : (E F : Type 0) (before after : Option (List ℕ)) (offset : Option
 of-kind E F before after offset kind P h = h
 
 -- the head that was pulled is wrong
-pub fault-refuses : (E : Type 0) {S : Type 0} (remaining : S → Option (List ℕ)) (d : Decoder S) (h : Header) (l p offset : ℕ) (xs : List ℕ) (kind : Kind) → head_fault h d.head_len ≡ Some kind → d.window.count ≡ p + d.head_len → offset ≡ p →
+pub fault-refuses : (E : Type 0) {S : Type 0} (remaining : S → Option (List ℕ)) (d : Decoder S) (h : Header) (l p offset : ℕ) (xs : List ℕ) (kind : Kind) → deterministic_fault h d.head_len ≡ Some kind → d.window.count ≡ p + d.head_len → offset ≡ p →
     IsPulled remaining d h xs p → IsRefusedBy {E = E} (left_of remaining d) (Semantic (Some offset) kind) (DeterministicallyRefuses xs p l)
 fault-refuses E remaining d h l p offset xs kind wrong size here a =
     let count = a.6.0 in

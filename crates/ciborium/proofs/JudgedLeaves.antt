@@ -17,9 +17,9 @@ use Rattle.ciborium_value.specs.Nesting.{nesting}
 use Rattle.ciborium_value.specs.Tree as trees
 use Rattle.ciborium_value.specs.Tree.{Tree}
 use Rattle.ciborium.specs.Deterministic.{HasRisingKeys, IsCanonicalTree}
-use Rattle.ciborium.specs.DeterministicReads.{IsMeasured, IsMeasuredAhead, ReadsStrictly, head_fault, long_fault}
 use Rattle.ciborium.specs.DeterministicRefusals.{HasShortHead}
-use Rattle.ciborium.specs.Reads.{IsAt, IsPulled}
+use Rattle.ciborium.specs.Reads.{ReadsItem, IsAt, IsMeasured, IsPulled, StandsAt}
+use Rattle.ciborium.specs.Spelling.{deterministic, deterministic_fault, long_fault}
 use Rattle.ciborium.proofs.Fronts.{Front, front-of, front-fits, ahead-at}
 use Rattle.ciborium.proofs.JudgedHeads.{short-front}
 
@@ -27,12 +27,12 @@ use Rattle.ciborium.proofs.JudgedHeads.{short-front}
 pub unpushed : {S : Type 0} (d : Decoder S) → d.pushed ≡ None → IsMeasured d
 unpushed d e = subst (λ o. MatchOption o (Unit {0}) (λ head. d.window.count ≡ head.1 + d.head_len)) (sym e) tt
 
-pub measured-at : {S : Type 0} (remaining : S → Option (List ℕ)) (d : Decoder S) (p : ℕ) (xs : List ℕ) → d.pushed ≡ None → IsAt remaining d xs p → IsMeasuredAhead remaining d xs p
+pub measured-at : {S : Type 0} (remaining : S → Option (List ℕ)) (d : Decoder S) (p : ℕ) (xs : List ℕ) → d.pushed ≡ None → IsAt remaining d xs p → StandsAt deterministic remaining d xs p
 measured-at remaining d p xs none at = (ahead-at remaining d p xs none at, unpushed d none)
 
 -- a value that means t stands at xs, and the decoder stands behind it
 abbrev pub Got : {S : Type 0} → (S → Option (List ℕ)) → Decoder S → ℕ → List ℕ → ℕ → Tree → Type 0
-Got remaining d l xs p t = (zs : List ℕ) × (r : ℕ) × ReadsStrictly l xs p t zs r × IsMeasuredAhead remaining d zs r
+Got remaining d l xs p t = (zs : List ℕ) × (r : ℕ) × ReadsItem deterministic l xs p t zs r × StandsAt deterministic remaining d zs r
 
 -- the tree of the head that was pulled
 pub got-leaf : {S : Type 0} (remaining : S → Option (List ℕ)) (d : Decoder S) (l : ℕ) (xs : List ℕ) (p : ℕ) (h : Header) (m n : ℕ) (t u : Tree) → d.pushed ≡ None → u ≡ t →
@@ -40,19 +40,19 @@ pub got-leaf : {S : Type 0} (remaining : S → Option (List ℕ)) (d : Decoder S
 got-leaf remaining d l xs p h m n t u pushed same bytes canonical flat a short =
     let fits : p + length a.0 ≤ greatest_offset = front-fits xs p h a.0 a.1 (front-of remaining d h h xs p refl a) in
     let at = short.at in
-    let reads : ReadsStrictly l xs p t a.1 (p + length a.0) = record { taken = shortest_head m n; read = ((sym bytes, canonical), flat, omega (arith, at, fits)); split = short.split; at = at } in
-    (a.1, p + length a.0, subst (λ v. ReadsStrictly l xs p v a.1 (p + length a.0)) (sym same) reads, measured-at remaining d (p + length a.0) a.1 pushed a.6)
+    let reads : ReadsItem deterministic l xs p t a.1 (p + length a.0) = record { taken = shortest_head m n; read = ((sym bytes, canonical), flat, omega (arith, at, fits)); split = short.split; at = at } in
+    (a.1, p + length a.0, subst (λ v. ReadsItem deterministic l xs p v a.1 (p + length a.0)) (sym same) reads, measured-at remaining d (p + length a.0) a.1 pushed a.6)
 
 -- an integer
 pub got-integer : {S : Type 0} (remaining : S → Option (List ℕ)) (d : Decoder S) (l : ℕ) (xs : List ℕ) (p : ℕ) (h k : Header) (m n : ℕ) (t u : Tree) → d.pushed ≡ None → u ≡ t → h ≡ k → ((b : List ℕ) → SpellsHeader b k → IsHead b m n) →
-    ((size : ℕ) → head_fault k size ≡ long_fault m n size) → head_fault h d.head_len ≡ None → d.window.count ≡ p + d.head_len → encoding t ≡ shortest_head m n → (IsArgument n → IsProperTree t) → folded t ≡ Some t → nesting (item_of t) ≡ 0 → HasRisingKeys t →
+    ((size : ℕ) → deterministic_fault k size ≡ long_fault m n size) → deterministic_fault h d.head_len ≡ None → d.window.count ≡ p + d.head_len → encoding t ≡ shortest_head m n → (IsArgument n → IsProperTree t) → folded t ≡ Some t → nesting (item_of t) ≡ 0 → HasRisingKeys t →
     IsPulled remaining d h xs p → Got remaining d l xs p u
 got-integer remaining d l xs p h k m n t u pushed same is spelled fault right size bytes proper folds flat rises a =
     let short = short-front remaining d h k m n p xs is spelled fault right size a in
     got-leaf remaining d l xs p h m n t u pushed same bytes (record { proper = proper short.argument; folds = folds; rises = rises }) (omega (arith, flat)) a short
 
 -- false, true and null
-simple-tree : (n : ℕ) (t : Tree) (b : List ℕ) → simple_meaning n ≡ Some t → head_fault (header.Simple n) 0 ≡ None → IsSimple b n → (encoding t ≡ b) × IsCanonicalTree t × (nesting (item_of t) ≡ 0)
+simple-tree : (n : ℕ) (t : Tree) (b : List ℕ) → simple_meaning n ≡ Some t → deterministic_fault (header.Simple n) 0 ≡ None → IsSimple b n → (encoding t ≡ b) × IsCanonicalTree t × (nesting (item_of t) ≡ 0)
 unfolding simple_meaning
 simple-tree n t b means right is =
     by (eqb n 20) (eqb n 21) (eqb n 22) (eqb n 23) (eqb-true n 20) (eqb-true n 21) (eqb-true n 22) means right
@@ -77,10 +77,10 @@ simple-tree n t b means right is =
     by false false false false f g h e r = absurd cc
 
 pub got-simple : {S : Type 0} (remaining : S → Option (List ℕ)) (d : Decoder S) (l : ℕ) (xs : List ℕ) (p : ℕ) (h : Header) (n : ℕ) (t : Tree) → d.pushed ≡ None → h ≡ header.Simple n →
-    head_fault h d.head_len ≡ None → simple_meaning n ≡ Some t → IsPulled remaining d h xs p → Got remaining d l xs p t
+    deterministic_fault h d.head_len ≡ None → simple_meaning n ≡ Some t → IsPulled remaining d h xs p → Got remaining d l xs p t
 got-simple remaining d l xs p h n t pushed is right means a =
     let u : Front xs p (header.Simple n) a.0 a.1 = front-of remaining d h (header.Simple n) xs p is a in
-    let s = simple-tree n t a.0 means (ap (λ g. head_fault g d.head_len) (sym is) ∙ right) u.spelled in
+    let s = simple-tree n t a.0 means (ap (λ g. deterministic_fault g d.head_len) (sym is) ∙ right) u.spelled in
     let fits : p + length a.0 ≤ greatest_offset = front-fits xs p (header.Simple n) a.0 a.1 u in
     let flat = s.2 in
     (a.1, p + length a.0, record { taken = a.0; read = ((sym s.0, s.1), omega (arith, flat), fits); split = u.split; at = refl }, measured-at remaining d (p + length a.0) a.1 pushed a.6)

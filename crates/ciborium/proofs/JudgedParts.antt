@@ -25,11 +25,12 @@ use Rattle.ciborium.specs.declared.de.error.Error.{Error}
 use Rattle.ciborium.specs.declared.de.front.Part.{Part}
 use Rattle.ciborium.specs.declared.de.front.Part.TheVariants.{Whole, Opened, Ended}
 use Rattle.ciborium.specs.Deterministic.{IsCanonicalTree}
-use Rattle.ciborium.specs.DeterministicReads.{IsMeasuredAhead, IsPartStrictlyRead, IsStrictlyInside, ReadsStrictly, head_fault}
 use Rattle.ciborium.specs.DeterministicRefusals.{ContainerKind, of_array, of_map, container_major, DeterministicallyRefuses, HasParts, HasShortHead, IsInOrder}
 use Rattle.ciborium.specs.Errors.{IsRefusedBy}
-use Rattle.ciborium.specs.Parts.{IsArrayBegun, IsMapBegun, IsBehind}
-use Rattle.ciborium.specs.Reads.{IsAt, IsPulled}
+use Rattle.ciborium.specs.Around.{IsStrictlyInside}
+use Rattle.ciborium.specs.Parts.{IsArrayBegun, IsBegun, IsMapBegun, IsBehind, IsPartRead}
+use Rattle.ciborium.specs.Reads.{ReadsItem, IsAt, IsPulled, StandsAt}
+use Rattle.ciborium.specs.Spelling.{deterministic, deterministic_fault}
 use Rattle.ciborium.specs.Strings.{string_tree, IsStringRead}
 use Rattle.ciborium.proofs.Contents.{header_of, string-room}
 use Rattle.ciborium.proofs.Fronts.{Front, front-of, front-fits}
@@ -49,7 +50,7 @@ string-bytes of_bytes b = (refl, refl)
 string-bytes of_text b = (refl, refl)
 
 definite-reads : (kind : StringKind) (l n : ℕ) (xs : List ℕ) (p q : ℕ) (r bs zs : List ℕ) → HasShortHead (major_of kind) n xs p r q → length bs ≡ n → IsAllowed kind bs → r ≡ bs ++ zs → q + length bs ≤ greatest_offset →
-    ReadsStrictly l xs p (string_tree kind bs) zs (q + length bs)
+    ReadsItem deterministic l xs p (string_tree kind bs) zs (q + length bs)
 definite-reads kind l n xs p q r bs zs head size ok split fits =
     let w = string-bytes kind bs in
     let flat = w.1 in
@@ -65,29 +66,29 @@ definite-reads kind l n xs p q r bs zs head size ok split fits =
 
 -- the payload of the string whose head was pulled
 taken-reads : (E : Type 0) (kind : StringKind) (l n at : ℕ) (xs : List ℕ) (p q : ℕ) (r bs added zs : List ℕ) → HasShortHead (major_of kind) n xs p r q → IsStringTaken {E = E} kind (Some n) at bs q (Ok tt) added → r ≡ bs ++ zs →
-    q + length bs ≤ greatest_offset → ReadsStrictly l xs p (string_tree kind added) zs (q + length bs)
+    q + length bs ≤ greatest_offset → ReadsItem deterministic l xs p (string_tree kind added) zs (q + length bs)
 taken-reads E kind l n at xs p q r bs added zs head (inl (over, never, none, nothing)) split fits = absurd cc
 taken-reads E kind l n at xs p q r bs added zs head (inr (room, (size, ok, same))) split fits =
-    subst (λ b. ReadsStrictly l xs p (string_tree kind b) zs (q + length bs)) (sym same) (definite-reads kind l n xs p q r bs zs head size ok split fits)
+    subst (λ b. ReadsItem deterministic l xs p (string_tree kind b) zs (q + length bs)) (sym same) (definite-reads kind l n xs p q r bs zs head size ok split fits)
 
-short-string : {S : Type 0} (kind : StringKind) (remaining : S → Option (List ℕ)) (d : Decoder S) (h : Header) (n p : ℕ) (xs : List ℕ) → h ≡ header_of kind (Some n) → head_fault h d.head_len ≡ None → d.window.count ≡ p + d.head_len →
+short-string : {S : Type 0} (kind : StringKind) (remaining : S → Option (List ℕ)) (d : Decoder S) (h : Header) (n p : ℕ) (xs : List ℕ) → h ≡ header_of kind (Some n) → deterministic_fault h d.head_len ≡ None → d.window.count ≡ p + d.head_len →
     (a : IsPulled remaining d h xs p) → HasShortHead (major_of kind) n xs p a.1 (p + length a.0)
 short-string of_bytes remaining d h n p xs is right size a = short-front remaining d h (header.Bytes (Some n)) 2 n p xs is (λ b s. s) (λ k. refl) right size a
 short-string of_text remaining d h n p xs is right size a = short-front remaining d h (header.Text (Some n)) 3 n p xs is (λ b s. s) (λ k. refl) right size a
 
 -- no open string is right
-never-open : {S : Type 0} (kind : StringKind) (d : Decoder S) (h : Header) → h ≡ header_of kind None → head_fault h d.head_len ≡ None → ⊥
-never-open of_bytes d h is right = let wrong = sym (ap (λ g. head_fault g d.head_len) is) ∙ right in cc
-never-open of_text d h is right = let wrong = sym (ap (λ g. head_fault g d.head_len) is) ∙ right in cc
+never-open : {S : Type 0} (kind : StringKind) (d : Decoder S) (h : Header) → h ≡ header_of kind None → deterministic_fault h d.head_len ≡ None → ⊥
+never-open of_bytes d h is right = let wrong = sym (ap (λ g. deterministic_fault g d.head_len) is) ∙ right in cc
+never-open of_text d h is right = let wrong = sym (ap (λ g. deterministic_fault g d.head_len) is) ∙ right in cc
 
-module _ {S : Type 0} (kind : StringKind) (remaining : S → Option (List ℕ)) (d e : Decoder S) (l : ℕ) (xs : List ℕ) (p : ℕ) (h : Header) (right : head_fault h d.head_len ≡ None) (size : d.window.count ≡ p + d.head_len) where
+module _ {S : Type 0} (kind : StringKind) (remaining : S → Option (List ℕ)) (d e : Decoder S) (l : ℕ) (xs : List ℕ) (p : ℕ) (h : Header) (right : deterministic_fault h d.head_len ≡ None) (size : d.window.count ≡ p + d.head_len) where
   pub got-string : (E : Type 0) (len : Option ℕ) (v : Value) → e.pushed ≡ None → h ≡ header_of kind len →
       ((ys : List ℕ) (q : ℕ) → IsAt remaining d ys q → IsStringRead {S = S} {E = E} kind remaining e len d.last ys q (Ok v)) → IsPulled remaining d h xs p → Got remaining e l xs p (tree_of v)
   got-string E None v pushed is read a = absurd (never-open kind d h is right)
   got-string E (Some n) v pushed is read a =
       let c = read a.1 (p + length a.0) a.6 in
       let q : ℕ = p + length a.0 + length c.0 in
-      (c.2, q, subst (λ t. ReadsStrictly l xs p t c.2 q) (sym c.4) (taken-reads E kind l n d.last xs p (p + length a.0) a.1 c.0 c.1 c.2 (short-string kind remaining d h n p xs is right size a) c.3 c.5 c.7), measured-at remaining e q c.2 pushed c.6)
+      (c.2, q, subst (λ t. ReadsItem deterministic l xs p t c.2 q) (sym c.4) (taken-reads E kind l n d.last xs p (p + length a.0) a.1 c.0 c.1 c.2 (short-string kind remaining d h n p xs is right size a) c.3 c.5 c.7), measured-at remaining e q c.2 pushed c.6)
 
   pub string-fault : (E : Type 0) (len : Option ℕ) (x : Error E) → h ≡ header_of kind len →
       ((ys : List ℕ) (q : ℕ) → IsAt remaining d ys q → IsRefusedBy (left_of remaining e) x (λ r. ContentRefuses kind len d.last ys q r)) → IsPulled remaining d h xs p →
@@ -124,7 +125,7 @@ begun-parts kind n m xs p r q head fits =
     none of_array = tt
     none of_map = tt
 
-module _ {S : Type 0} (remaining : S → Option (List ℕ)) (d : Decoder S) (l : ℕ) (xs : List ℕ) (p : ℕ) (h : Header) (right : head_fault h d.head_len ≡ None) (size : d.window.count ≡ p + d.head_len) (pushed : d.pushed ≡ None) where
+module _ {S : Type 0} (remaining : S → Option (List ℕ)) (d : Decoder S) (l : ℕ) (xs : List ℕ) (p : ℕ) (h : Header) (right : deterministic_fault h d.head_len ≡ None) (size : d.window.count ≡ p + d.head_len) (pushed : d.pushed ≡ None) where
   fits-behind : (a : IsPulled remaining d h xs p) → p + length a.0 ≤ greatest_offset
   fits-behind a = front-fits xs p h a.0 a.1 (front-of remaining d h h xs p refl a)
 
@@ -135,24 +136,24 @@ module _ {S : Type 0} (remaining : S → Option (List ℕ)) (d : Decoder S) (l :
   short-map n is a = short-front remaining d h (header.Map (Some n)) 5 n p xs is (λ b s. s) (λ k. refl) right size a
 
   no-open-array : h ≡ header.Array None → ⊥
-  no-open-array is = let wrong = sym (ap (λ g. head_fault g d.head_len) is) ∙ right in cc
+  no-open-array is = let wrong = sym (ap (λ g. deterministic_fault g d.head_len) is) ∙ right in cc
 
   no-open-map : h ≡ header.Map None → ⊥
-  no-open-map is = let wrong = sym (ap (λ g. head_fault g d.head_len) is) ∙ right in cc
+  no-open-map is = let wrong = sym (ap (λ g. deterministic_fault g d.head_len) is) ∙ right in cc
 
   -- one was opened: n parts or pairs are due, the first of them and k more
   opened-at : (f : Opening) (o : opened.Open) (kind : ContainerKind) (n : ℕ) → 0 < l → opened_of f ≡ o → ((m : ℕ) (r : List ℕ) (q : ℕ) → HasParts kind n m xs p [] r q → IsStrictlyInside o m xs p r q) →
       (a : IsPulled remaining d h xs p) → HasShortHead (container_major kind) n xs p a.1 (p + length a.0) →
-      (m : ℕ) × (zs : List ℕ) × (r : ℕ) × (l ≡ suc m) × IsStrictlyInside (opened_of f) m xs p zs r × IsMeasuredAhead remaining d zs r
+      (zs : List ℕ) × (r : ℕ) × IsBegun deterministic l xs p (opened_of f) zs r × StandsAt deterministic remaining d zs r
   opened-at f o kind n lt is inside a short =
       let q : ℕ = p + length a.0 in
       let less : l ≡ suc (l - 1) = omega (arith, lt) in
-      (l - 1, a.1, q, less, subst (λ u. IsStrictlyInside u (l - 1) xs p a.1 q) (sym is) (inside (l - 1) a.1 q (begun-parts kind n (l - 1) xs p a.1 q short (fits-behind a))), measured-at remaining d q a.1 pushed a.6)
+      (a.1, q, (l - 1, less, subst (λ u. IsStrictlyInside u (l - 1) xs p a.1 q) (sym is) (inside (l - 1) a.1 q (begun-parts kind n (l - 1) xs p a.1 q short (fits-behind a)))), measured-at remaining d q a.1 pushed a.6)
 
   no-level : (kind : ContainerKind) (n : ℕ) → l ≡ 0 → (a : IsPulled remaining d h xs p) → HasShortHead (container_major kind) n xs p a.1 (p + length a.0) → DeterministicallyRefuses xs p l recursion_limit_exceeded
   no-level kind n none a short = subst (λ k. DeterministicallyRefuses xs p k recursion_limit_exceeded) (sym none) (DeterministicallyRefuses.no_level kind n a.1 (p + length a.0) short)
 
-  pub array-part : (E : Type 0) (count : Option ℕ) (x : Result Part (Error E)) → h ≡ header.Array count → IsPulled remaining d h xs p → IsArrayBegun count l x → IsPartStrictlyRead remaining d l xs p x
+  pub array-part : (E : Type 0) (count : Option ℕ) (x : Result Part (Error E)) → h ≡ header.Array count → IsPulled remaining d h xs p → IsArrayBegun count l x → IsPartRead deterministic remaining d l xs p x
   array-part E None x is a s = absurd (no-open-array is)
   array-part E (Some n) (Ok (Whole v)) is a s =
       let none : n ≡ 0 = (let e = s.0 in cc) in
@@ -160,14 +161,14 @@ module _ {S : Type 0} (remaining : S → Option (List ℕ)) (d : Decoder S) (l :
       got-leaf remaining d l xs p h 4 n (trees.array trees.no_trees) (tree_of v) pushed s.2 (append-nil (shortest_head 4 0) ∙ ap (shortest_head 4) (sym none)) (record { proper = (omega arith, tt); folds = refl; rises = tt }) (omega (arith, some)) a (short-array n is a)
   array-part E (Some n) (Ok (Opened f)) is a (lt, behind, same, left) = by behind same left
     where
-      by : (behind : Option ℕ) → opened_of f ≡ opened.array [] behind → IsBehind (Some n) behind → IsPartStrictlyRead {E = E} remaining d l xs p (Ok (Opened f))
+      by : (behind : Option ℕ) → opened_of f ≡ opened.array [] behind → IsBehind (Some n) behind → IsPartRead {E = E} deterministic remaining d l xs p (Ok (Opened f))
       by None same left = absurd left
       by (Some k) same left = opened-at f (opened.array [] (Some k)) of_array n lt same (λ m r q t. subst (λ j. HasParts of_array j m xs p [] r q) (omega (arith, left)) t) a (short-array n is a)
   array-part E (Some n) (Ok Ended) is a s = absurd s
   array-part E (Some n) (Err e) is a s =
       subst (λ z. IsRefusedBy (left_of remaining d) z (DeterministicallyRefuses xs p l)) (sym s.1) (no-level of_array n s.0 a (short-array n is a))
 
-  pub map-part : (E : Type 0) (count : Option ℕ) (x : Result Part (Error E)) → h ≡ header.Map count → IsPulled remaining d h xs p → IsMapBegun count l x → IsPartStrictlyRead remaining d l xs p x
+  pub map-part : (E : Type 0) (count : Option ℕ) (x : Result Part (Error E)) → h ≡ header.Map count → IsPulled remaining d h xs p → IsMapBegun count l x → IsPartRead deterministic remaining d l xs p x
   map-part E None x is a s = absurd (no-open-map is)
   map-part E (Some n) (Ok (Whole v)) is a s =
       let none : n ≡ 0 = (let e = s.0 in cc) in
@@ -175,7 +176,7 @@ module _ {S : Type 0} (remaining : S → Option (List ℕ)) (d : Decoder S) (l :
       got-leaf remaining d l xs p h 5 n (trees.map trees.no_tree_pairs) (tree_of v) pushed s.2 (append-nil (shortest_head 5 0) ∙ ap (shortest_head 5) (sym none)) (record { proper = (omega arith, tt); folds = refl; rises = (tt, tt) }) (omega (arith, some)) a (short-map n is a)
   map-part E (Some n) (Ok (Opened f)) is a (lt, behind, same, left) = by behind same left
     where
-      by : (behind : Option ℕ) → opened_of f ≡ opened.map [] behind None → IsBehind (Some n) behind → IsPartStrictlyRead {E = E} remaining d l xs p (Ok (Opened f))
+      by : (behind : Option ℕ) → opened_of f ≡ opened.map [] behind None → IsBehind (Some n) behind → IsPartRead {E = E} deterministic remaining d l xs p (Ok (Opened f))
       by None same left = absurd left
       by (Some k) same left = opened-at f (opened.map [] (Some k) None) of_map n lt same (λ m r q t. subst (λ j. HasParts of_map j m xs p [] r q) (omega (arith, left)) t) a (short-map n is a)
   map-part E (Some n) (Ok Ended) is a s = absurd s
@@ -208,9 +209,3 @@ module _ {S : Type 0} (remaining : S → Option (List ℕ)) (d : Decoder S) (l :
       by b (raw, (inl s), k) e = float-at 0xf9 raw a.1 (e ∙ ap (λ (z : List ℕ). z ++ a.1) s.1) u.usable (omega arith) (omega arith)
       by b (raw, (inr (inl s)), k) e = float-at 0xfa raw a.1 (e ∙ ap (λ (z : List ℕ). z ++ a.1) s.1) u.usable (omega arith) (omega arith)
       by b (raw, (inr (inr s)), k) e = float-at 0xfb raw a.1 (e ∙ ap (λ (z : List ℕ). z ++ a.1) s.1) u.usable (omega arith) (omega arith)
-
-  pub break-refuses : h ≡ header.Break → IsPulled remaining d h xs p → DeterministicallyRefuses xs p l (semantic p refusal.Break)
-  break-refuses is a =
-      let u : Front xs p header.Break a.0 a.1 = front-of remaining d h header.Break xs p is a in
-      let whole : xs ≡ break_byte ∷ a.1 = u.split ∙ ap (λ (z : List ℕ). z ++ a.1) u.spelled in
-      subst (λ z. DeterministicallyRefuses z p l (semantic p refusal.Break)) (sym whole) (DeterministicallyRefuses.break (subst (λ z. IsUsable z p) whole u.usable))

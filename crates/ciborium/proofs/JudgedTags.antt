@@ -26,11 +26,11 @@ use Rattle.ciborium_value.specs.View.{tree_of}
 use Rattle.ciborium.specs.declared.de.error.Error.{Error}
 use Rattle.ciborium.specs.declared.de.front.Part.{Part}
 use Rattle.ciborium.specs.declared.de.error.Error.TheVariants.{Semantic}
-use Rattle.ciborium.specs.DeterministicReads.{BignumRefuses, IsBignumRead, IsMeasured, IsMeasuredAhead, IsPartStrictlyRead, IsStrictlyInside, ReadsStrictly, head_fault}
 use Rattle.ciborium.specs.DeterministicRefusals.{DeterministicallyRefuses, HasShortHead, IsFoldable}
 use Rattle.ciborium.specs.Errors.{IsRefusedBy}
-use Rattle.ciborium.specs.Parts.{IsFolded, IsFolding}
-use Rattle.ciborium.specs.Reads.{IsAt}
+use Rattle.ciborium.specs.Parts.{BignumRefuses, IsBegun, IsBignumRead, IsFolded, IsFolding}
+use Rattle.ciborium.specs.Reads.{ReadsItem, IsAt, IsMeasured, StandsAt}
+use Rattle.ciborium.specs.Spelling.{Spelling, deterministic, deterministic_fault, IsUnwanted}
 use Rattle.ciborium.specs.Deterministic.{IsCanonicalTree}
 use Rattle.ciborium.proofs.AfterTag.{PullsSo, folds-is, folds-not, too-large}
 use Rattle.ciborium.proofs.Contents.{string-room}
@@ -43,11 +43,7 @@ use Rattle.ciborium.proofs.JudgedLeaves.{Got, measured-at, unpushed}
 
 -- what `read_bignum` answers
 abbrev pub BignumSo : {S E : Type 0} → (S → Option (List ℕ)) → Decoder S → Decoder S → ℕ → ℕ → ℕ → Result Value (Error E) → Type 0
-BignumSo remaining d e t n at x = (xs : List ℕ) (p : ℕ) → IsAt remaining d xs p → IsBignumRead remaining e t n at xs p x
-
--- what `read_tag` answers
-abbrev pub TagSo : {S E : Type 0} → (S → Option (List ℕ)) → Decoder S → Decoder S → ℕ → ℕ → ℕ → Result Part (Error E) → Type 0
-TagSo remaining d e t l at x = (xs zs : List ℕ) (p q : ℕ) → HasShortHead 6 t xs p zs q → IsAt remaining d zs q → at ≡ p → IsPartStrictlyRead remaining e l xs p x
+BignumSo remaining d e t n at x = (xs : List ℕ) (p : ℕ) → IsAt remaining d xs p → IsBignumRead deterministic remaining e t n at xs p x
 
 module _ {S : Type 0} (remaining : S → Option (List ℕ)) (d : Decoder S) (t l p q : ℕ) (xs zs : List ℕ) (pushed : d.pushed ≡ None) (head : HasShortHead 6 t xs p zs q) (at : IsAt remaining d zs q) where
   ahead : IsAhead remaining d zs q
@@ -65,7 +61,7 @@ module _ {S : Type 0} (remaining : S → Option (List ℕ)) (d : Decoder S) (t l
 
   pub tag-opened : (E : Type 0) (e f : Decoder S) (k : Header) (here : ℕ) → PullsSo {E = E} remaining d e (Ok k) → IsFolding t k None → (l ≡ 0 → ⊥) → here ≡ offset_of d → IsUnread e f → f.pushed ≡ Some (k, here) →
       f.head_len ≡ e.head_len → (IsMeasured d → e.window.count ≡ offset_of d + e.head_len) →
-      (m : ℕ) × (us : List ℕ) × (r : ℕ) × (l ≡ suc m) × IsStrictlyInside (opened (opening.Tag t)) m xs p us r × IsMeasuredAhead remaining f us r
+      (us : List ℕ) × (r : ℕ) × IsBegun deterministic l xs p (opened (opening.Tag t)) us r × StandsAt deterministic remaining f us r
   tag-opened E e f k here pull other some same stays back kept size =
       let b = pull zs q ahead in
       let place : here ≡ q = same ∙ offset-at remaining d q zs ahead in
@@ -73,11 +69,9 @@ module _ {S : Type 0} (remaining : S → Option (List ℕ)) (d : Decoder S) (t l
       let is : IsAheadBy remaining f zs q (Some (k, here)) = (place, b.0, b.1, b.2, b.3, b.4, (unread-count e f stays ∙ b.6.0), (unread-left remaining e f stays ∙ b.6.1)) in
       let sized = size (unpushed d pushed) in
       let count : f.window.count ≡ here + f.head_len = (let c = unread-count e f stays in omega (arith, c, same, kept, sized)) in (
-        l - 1,
         zs,
         q,
-        less,
-        (head, b.3, folds-not t k b.0 zs b.1 other b.2 b.4),
+        (l - 1, less, (head, b.3, folds-not t k b.0 zs b.1 other b.2 b.4)),
         (subst (λ o. IsAheadBy remaining f zs q o) (sym back) is, subst (λ o. MatchOption o (Unit {0}) (λ h. f.window.count ≡ h.1 + f.head_len)) (sym back) count),
       )
 
@@ -90,7 +84,7 @@ module _ {S : Type 0} (remaining : S → Option (List ℕ)) (d : Decoder S) (t l
       string-room 2 n q zs b.0 b.1 (inl refl) w.spelled w.usable w.split
 
   -- its head is longer than it has to be
-  pub tag-long : (E : Type 0) (e : Decoder S) (k : Header) (n here : ℕ) (kind : Kind) → PullsSo {E = E} remaining d e (Ok k) → IsFolding t k (Some n) → head_fault k e.head_len ≡ Some kind →
+  pub tag-long : (E : Type 0) (e : Decoder S) (k : Header) (n here : ℕ) (kind : Kind) → PullsSo {E = E} remaining d e (Ok k) → IsFolding t k (Some n) → deterministic_fault k e.head_len ≡ Some kind →
       (IsMeasured d → e.window.count ≡ offset_of d + e.head_len) → here ≡ offset_of d → IsRefusedBy {E = E} (left_of remaining e) (Semantic (Some here) kind) (DeterministicallyRefuses xs p l)
   tag-long E e k n here kind pull folding wrong size same =
       let b = pull zs q ahead in
@@ -99,12 +93,12 @@ module _ {S : Type 0} (remaining : S → Option (List ℕ)) (d : Decoder S) (t l
       let sized = size (unpushed d pushed) in
       let count = b.6.0 in
       let len : length b.0 ≡ e.head_len = omega (arith, sized, count, same, place) in
-      let long = long-head 2 n e.head_len kind b.0 w.spelled len (sym (ap (λ g. head_fault g e.head_len) folding.0) ∙ wrong) in
+      let long = long-head 2 n e.head_len kind b.0 w.spelled len (sym (ap (λ g. deterministic_fault g e.head_len) folding.0) ∙ wrong) in
       subst (λ i. IsRefusedBy {E = E} (left_of remaining e) (Semantic (Some i) kind) (DeterministicallyRefuses xs p l)) (sym place)
       (subst (λ j. IsRefusedBy {E = E} (left_of remaining e) (Semantic (Some q) j) (DeterministicallyRefuses xs p l)) (sym long.0)
       (DeterministicallyRefuses.folding_long_head t n zs q head folding.1 folding.2 w.usable (e.head_len, b.1, (b.0, w.spelled, len, w.split), long.1)))
 
-  short-string : (E : Type 0) (e : Decoder S) (k : Header) (n : ℕ) (pull : PullsSo {E = E} remaining d e (Ok k)) → k ≡ header.Bytes (Some n) → head_fault k e.head_len ≡ None → (IsMeasured d → e.window.count ≡ offset_of d + e.head_len) →
+  short-string : (E : Type 0) (e : Decoder S) (k : Header) (n : ℕ) (pull : PullsSo {E = E} remaining d e (Ok k)) → k ≡ header.Bytes (Some n) → deterministic_fault k e.head_len ≡ None → (IsMeasured d → e.window.count ≡ offset_of d + e.head_len) →
       (let b = pull zs q ahead in HasShortHead 2 n zs q b.1 (q + length b.0))
   short-string E e k n pull is right size =
       let b = pull zs q ahead in
@@ -112,12 +106,12 @@ module _ {S : Type 0} (remaining : S → Option (List ℕ)) (d : Decoder S) (t l
       let place = offset-at remaining d q zs ahead in
       short-front remaining e k (header.Bytes (Some n)) 2 n q zs is (λ c s. s) (λ j. refl) right (omega (arith, sized, place)) b
 
-  pub bignum-refused : (E : Type 0) (e f : Decoder S) (k : Header) (n here : ℕ) (x : Error E) → here ≡ p → PullsSo {E = E} remaining d e (Ok k) → IsFolding t k (Some n) → head_fault k e.head_len ≡ None →
+  pub bignum-refused : (E : Type 0) (e f : Decoder S) (k : Header) (n here : ℕ) (x : Error E) → here ≡ p → PullsSo {E = E} remaining d e (Ok k) → IsFolding t k (Some n) → deterministic_fault k e.head_len ≡ None →
       (IsMeasured d → e.window.count ≡ offset_of d + e.head_len) → BignumSo {E = E} remaining e f t n here (Err x) → IsRefusedBy (left_of remaining f) x (DeterministicallyRefuses xs p l)
   bignum-refused E e f k n here x same pull folding right size read =
       let b = pull zs q ahead in
       let short = short-string E e k n pull folding.0 right size in
-      refused-map (left_of remaining f) x (BignumRefuses t n here b.1) (DeterministicallyRefuses xs p l) (λ r g. refuses b.1 (q + length b.0) r short g)
+      refused-map (left_of remaining f) x (BignumRefuses deterministic t n here b.1) (DeterministicallyRefuses xs p l) (λ r g. refuses b.1 (q + length b.0) r short g)
       (read b.1 (q + length b.0) b.6 (string-fits E e k n pull folding.0))
     where
       foldable : (c : List ℕ) (u : ℕ) (r : Refusal) (y s : List ℕ) → AreBytes y → (IsFoldable y × (r ≡ semantic here refusal.NotFolded)) ⊎ ((bignum_meaning t y ≡ None) × (r ≡ semantic here refusal.TooLarge)) →
@@ -129,7 +123,7 @@ module _ {S : Type 0} (remaining : S → Option (List ℕ)) (d : Decoder S) (t l
           subst (DeterministicallyRefuses xs p l) (sym (is ∙ ap (λ i. semantic i refusal.TooLarge) same))
           (DeterministicallyRefuses.too_large y zs q s u (subst (λ j. HasShortHead 6 j xs p zs q) large.0 head) small short low large.1)
 
-      refuses : (c : List ℕ) (u : ℕ) (r : Refusal) → HasShortHead 2 n zs q c u → BignumRefuses t n here c r → DeterministicallyRefuses xs p l r
+      refuses : (c : List ℕ) (u : ℕ) (r : Refusal) → HasShortHead 2 n zs q c u → BignumRefuses deterministic t n here c r → DeterministicallyRefuses xs p l r
       refuses c u r short (inl (early, is)) =
           subst (DeterministicallyRefuses xs p l) (sym is) (DeterministicallyRefuses.folding t n zs q c u head folding.1 folding.2 short (PayloadRefuses.ends_early early))
       refuses c u r short (inr (y, s, len, low, split, why)) =
@@ -139,7 +133,7 @@ module _ {S : Type 0} (remaining : S → Option (List ℕ)) (d : Decoder S) (t l
 
   -- what is left is a number that 64 bits do not hold
   bignum-reads : (n u : ℕ) (c y s : List ℕ) (v : Tree) → is_bignum_tag t ≡ true → n ≤ 16 → HasShortHead 2 n zs q c u → length y ≡ n → AreBytes y → ¬ IsFoldable y → bignum_meaning t y ≡ Some v → c ≡ y ++ s → u + n ≤ greatest_offset →
-      ReadsStrictly l xs p v s (u + n)
+      ReadsItem deterministic l xs p v s (u + n)
   bignum-reads n u c y s v big small short len low whole means split fits =
       let kept : bignum_meaning t y ≡ Some (trees.tag t (trees.bytes y)) = judged-kept t y big (not-large (is_too_large t y) (sym (ap is_some means) ∙ bignum_meaning-some t y big)) (not_so (is_foldable y) (λ e. whole (foldable-is y e))) in
       let is : trees.tag t (trees.bytes y) ≡ v = some-is (trees.tag t (trees.bytes y)) v (sym kept ∙ means) in
@@ -154,7 +148,7 @@ module _ {S : Type 0} (remaining : S → Option (List ℕ)) (d : Decoder S) (t l
       let behind : zs ≡ b ++ s = short.split ∙ ap (λ k. shortest_head 2 k ++ c) (sym len) ∙ ap (λ (z : List ℕ). shortest_head 2 (length y) ++ z) split ∙ sym (append_assoc (shortest_head 2 (length y)) y s) in
       let argument = head.argument in
       let canonical : IsCanonicalTree (trees.tag t (trees.bytes y)) = record { proper = (argument, (low, omega (arith, short_y))); folds = folded-bignum t y big short_y ∙ kept; rises = tt } in
-      subst (λ w. ReadsStrictly l xs p w s (u + n)) is (record {
+      subst (λ w. ReadsItem deterministic l xs p w s (u + n)) is (record {
         taken = shortest_head 6 t ++ b;
         read = ((refl, canonical), omega (arith, flat), omega (arith, lw, lb, same, at, at_head, len, fits));
         split = head.split ∙ ap (λ (z : List ℕ). shortest_head 6 t ++ z) behind ∙ sym (append_assoc (shortest_head 6 t) b s);
@@ -168,7 +162,7 @@ module _ {S : Type 0} (remaining : S → Option (List ℕ)) (d : Decoder S) (t l
       not-large true e = absurd cc
       not-large false e = refl
 
-  pub bignum-read : (E : Type 0) (e f : Decoder S) (k : Header) (n here : ℕ) (v : Value) → f.pushed ≡ None → PullsSo {E = E} remaining d e (Ok k) → IsFolding t k (Some n) → head_fault k e.head_len ≡ None →
+  pub bignum-read : (E : Type 0) (e f : Decoder S) (k : Header) (n here : ℕ) (v : Value) → f.pushed ≡ None → PullsSo {E = E} remaining d e (Ok k) → IsFolding t k (Some n) → deterministic_fault k e.head_len ≡ None →
       (IsMeasured d → e.window.count ≡ offset_of d + e.head_len) → BignumSo {E = E} remaining e f t n here (Ok v) → Got remaining f l xs p (tree_of v)
   bignum-read E e f k n here v last pull folding right size read =
       let b = pull zs q ahead in
@@ -179,21 +173,21 @@ module _ {S : Type 0} (remaining : S → Option (List ℕ)) (d : Decoder S) (t l
 
 -- ---- the bytes of a bignum, as they were read
 
-pub bignum-foldable : (t n at : ℕ) (x z xs : List ℕ) → length x ≡ n → AreBytes x → IsFoldable x → Some (x ++ z) ≡ Some xs → BignumRefuses t n at xs (semantic at refusal.NotFolded)
-bignum-foldable t n at x z xs len low can is = inr (x, z, len, low, same (x ++ z) xs is, inl (can, refl))
+pub bignum-unwanted : (spelling : Spelling) (t n at : ℕ) (x z xs : List ℕ) → length x ≡ n → AreBytes x → IsUnwanted spelling x → Some (x ++ z) ≡ Some xs → BignumRefuses spelling t n at xs (semantic at refusal.NotFolded)
+bignum-unwanted spelling t n at x z xs len low can is = inr (x, z, len, low, same (x ++ z) xs is, inl (can, refl))
   where
     same : (u v : List ℕ) → Some u ≡ Some v → v ≡ u
     same u v e = cc
 
-pub bignum-folded : {E : Type 0} (d : Decoder (List ℕ)) (t n at p : ℕ) (x z xs : List ℕ) (r : Result Value (Error E)) → length x ≡ n → AreBytes x → ¬ IsFoldable x → Some (x ++ z) ≡ Some xs → IsAt Some d z (p + n) →
-    IsFolded t x at r → IsBignumRead Some d t n at xs p r
-bignum-folded d t n at p x z xs (Ok v) len low whole is stands means = (x, z, len, low, whole, means, same (x ++ z) xs is, stands)
+pub bignum-folded : {E : Type 0} (spelling : Spelling) (d : Decoder (List ℕ)) (t n at p : ℕ) (x z xs : List ℕ) (r : Result Value (Error E)) → length x ≡ n → AreBytes x → ¬ IsUnwanted spelling x → Some (x ++ z) ≡ Some xs →
+    IsAt Some d z (p + n) → IsFolded t x at r → IsBignumRead spelling Some d t n at xs p r
+bignum-folded spelling d t n at p x z xs (Ok v) len low whole is stands means = (x, z, len, low, whole, means, same (x ++ z) xs is, stands)
   where
     same : (u v : List ℕ) → Some u ≡ Some v → v ≡ u
     same u v e = cc
-bignum-folded d t n at p x z xs (Err e) len low whole is stands (inl memory) = λ fits. subst (λ f. IsRefusedBy (left_of Some d) f (BignumRefuses t n at xs)) (sym memory) tt
-bignum-folded d t n at p x z xs (Err e) len low whole is stands (inr (none, large)) = λ fits.
-    subst (λ f. IsRefusedBy (left_of Some d) f (BignumRefuses t n at xs)) (sym large) (inr (x, z, len, low, same (x ++ z) xs is, inr (none, refl)))
+bignum-folded spelling d t n at p x z xs (Err e) len low whole is stands (inl memory) = λ fits. subst (λ f. IsRefusedBy (left_of Some d) f (BignumRefuses spelling t n at xs)) (sym memory) tt
+bignum-folded spelling d t n at p x z xs (Err e) len low whole is stands (inr (none, large)) = λ fits.
+    subst (λ f. IsRefusedBy (left_of Some d) f (BignumRefuses spelling t n at xs)) (sym large) (inr (x, z, len, low, same (x ++ z) xs is, inr (none, refl)))
   where
     same : (u v : List ℕ) → Some u ≡ Some v → v ≡ u
     same u v e = cc

@@ -16,9 +16,10 @@ use Rattle.ciborium_value.specs.Tree as trees
 use Rattle.ciborium_value.specs.Tree.{Tree}
 use Rattle.ciborium_value.specs.View.{trees_from, tree_pairs_from}
 use Rattle.ciborium_value.proofs.Folding.{short_string-item_of}
-use Rattle.ciborium.specs.Around.{in_turn}
+use Rattle.ciborium.specs.Around.{in_turn, IsAround}
 use Rattle.ciborium.specs.Deterministic.{AreRising, IsAccepted}
-use Rattle.ciborium.specs.DeterministicReads.{IsKeyInOrder, IsOutOfOrder, IsStrictlyAround, ReadsStrictly}
+use Rattle.ciborium.specs.Reads.{ReadsItem}
+use Rattle.ciborium.specs.Spelling.{deterministic, IsKeyInOrder, IsKeyOutOfOrder}
 use Rattle.ciborium.specs.DeterministicRefusals.{ContainerKind, of_array, of_map, container_major, part_count, parts_bytes, keys_among, IsInOrder, DeterministicallyRefuses, HasParts, HasShortHead}
 use Rattle.ciborium.proofs.Paired.{in_turn-key, in_turn-value}
 use Rattle.ciborium.proofs.StrictParts.{accepted-more, order-value, parts_bytes-more, whole-accepted, whole-encoding}
@@ -28,17 +29,17 @@ use Rattle.ciborium.proofs.Turning.{folds-not}
 
 -- ---- one part more
 
-accepted-of : (l : ℕ) (ys : List ℕ) (q : ℕ) (v : Tree) (zs : List ℕ) (r : ℕ) → ReadsStrictly l ys q v zs r → IsAccepted l v
+accepted-of : (l : ℕ) (ys : List ℕ) (q : ℕ) (v : Tree) (zs : List ℕ) (r : ℕ) → ReadsItem deterministic l ys q v zs r → IsAccepted l v
 accepted-of l ys q v zs r i = (i.read.0.1, i.read.1)
 
-pub ends-at : (l : ℕ) (ys : List ℕ) (q : ℕ) (v : Tree) (zs : List ℕ) (r : ℕ) → ReadsStrictly l ys q v zs r → (ys ≡ encoding v ++ zs) × (r ≡ q + length (encoding v)) × (r ≤ greatest_offset)
+pub ends-at : (l : ℕ) (ys : List ℕ) (q : ℕ) (v : Tree) (zs : List ℕ) (r : ℕ) → ReadsItem deterministic l ys q v zs r → (ys ≡ encoding v ++ zs) × (r ≡ q + length (encoding v)) × (r ≤ greatest_offset)
 ends-at l ys q v zs r i =
     let at = i.at in
     let same : length i.taken ≡ length (encoding v) = ap length i.read.0.0 in
     let fits = i.read.2 in
     (i.split ∙ ap (λ (b : List ℕ). b ++ zs) i.read.0.0, omega (arith, at, same), omega (arith, at, fits))
 
-more-parts : (kind : ContainerKind) (n m l : ℕ) (b : List ℕ) (p : ℕ) (vs : List Tree) (r : List ℕ) (q : ℕ) (v : Tree) (s : List ℕ) (u : ℕ) → n ≡ m → HasParts kind n l b p vs r q → ReadsStrictly l r q v s u → IsInOrder kind (vs ++ v ∷ []) →
+more-parts : (kind : ContainerKind) (n m l : ℕ) (b : List ℕ) (p : ℕ) (vs : List Tree) (r : List ℕ) (q : ℕ) (v : Tree) (s : List ℕ) (u : ℕ) → n ≡ m → HasParts kind n l b p vs r q → ReadsItem deterministic l r q v s u → IsInOrder kind (vs ++ v ∷ []) →
     HasParts kind m l b p (vs ++ v ∷ []) s u
 more-parts kind n m l b p vs r q v s u same h i order =
     let e = ends-at l r q v s u i in
@@ -76,7 +77,7 @@ key-length : (ps : List (Tree × Tree)) (k : Tree) → length (in_turn ps (Some 
 key-length [] k = refl
 key-length (p ∷ ps) k = let rest = key-length ps k in omega (arith, rest)
 
-whole-parts : (kind : ContainerKind) (n l : ℕ) (b : List ℕ) (p : ℕ) (vs : List Tree) (t : Tree) (r : List ℕ) (q : ℕ) → whole kind vs ≡ t → length vs ≡ part_count kind n → HasParts kind n l b p vs r q → ReadsStrictly (suc l) b p t r q
+whole-parts : (kind : ContainerKind) (n l : ℕ) (b : List ℕ) (p : ℕ) (vs : List Tree) (t : Tree) (r : List ℕ) (q : ℕ) → whole kind vs ≡ t → length vs ≡ part_count kind n → HasParts kind n l b p vs r q → ReadsItem deterministic (suc l) b p t r q
 whole-parts kind n l b p vs t r q same count h =
     let argument = h.argument in
     let fits : n ≤ greatest_offset = omega (arith, argument) in
@@ -86,7 +87,7 @@ whole-parts kind n l b p vs t r q same count h =
     let at = h.at in
     let end = h.fits in
     let len : length (head ++ parts_bytes vs) ≡ length head + length (parts_bytes vs) = length-append head (parts_bytes vs) in
-    subst (λ w. ReadsStrictly (suc l) b p w r q) same (record {
+    subst (λ w. ReadsItem deterministic (suc l) b p w r q) same (record {
       taken = head ++ parts_bytes vs;
       read = ((sym bytes, accepted.0), accepted.1, omega (arith, at, end, len));
       split = h.split ∙ sym (append_assoc head (parts_bytes vs) r);
@@ -95,7 +96,7 @@ whole-parts kind n l b p vs t r q same count h =
 
 -- ---- a tag with its item
 
-tag-whole : (l : ℕ) (ys : List ℕ) (q t : ℕ) (v : Tree) (zs : List ℕ) (r : ℕ) (us : List ℕ) (s : ℕ) → HasShortHead 6 t ys q zs r → ¬ IsFoldingAt t zs → ReadsStrictly l zs r v us s → ReadsStrictly (suc l) ys q (trees.tag t v) us s
+tag-whole : (l : ℕ) (ys : List ℕ) (q t : ℕ) (v : Tree) (zs : List ℕ) (r : ℕ) (us : List ℕ) (s : ℕ) → HasShortHead 6 t ys q zs r → ¬ IsFoldingAt t zs → ReadsItem deterministic l zs r v us s → ReadsItem deterministic (suc l) ys q (trees.tag t v) us s
 tag-whole l ys q t v zs r us s head never i =
     let e = ends-at l zs r v us s i in
     let canonical = i.read.0.1 in
@@ -124,23 +125,23 @@ tag-whole l ys q t v zs r us s head never i =
 -- where reading stands behind a value that was placed: a key that waits is still to be judged
 abbrev pub LandsIn : List Open → ℕ → List ℕ → ℕ → List ℕ → ℕ → Type 0
 LandsIn [] l xs p zs r = ⊥
-LandsIn (array vs b ∷ os) l xs p zs r = (m : ℕ) × IsStrictlyAround l xs p (array vs b ∷ os) m zs r
-LandsIn (map ps b None ∷ os) l xs p zs r = (m : ℕ) × IsStrictlyAround l xs p (map ps b None ∷ os) m zs r
+LandsIn (array vs b ∷ os) l xs p zs r = (m : ℕ) × IsAround deterministic l xs p (array vs b ∷ os) m zs r
+LandsIn (map ps b None ∷ os) l xs p zs r = (m : ℕ) × IsAround deterministic l xs p (map ps b None ∷ os) m zs r
 LandsIn (map ps b (Some k) ∷ os) l xs p zs r =
-    (m : ℕ) × (ys : List ℕ) × (q : ℕ) × IsStrictlyAround l xs p (map ps b None ∷ os) m ys q × ReadsStrictly m ys q k zs r
-LandsIn (tag t ∷ os) l xs p zs r = (m : ℕ) × IsStrictlyAround l xs p (tag t ∷ os) m zs r
+    (m : ℕ) × (ys : List ℕ) × (q : ℕ) × IsAround deterministic l xs p (map ps b None ∷ os) m ys q × ReadsItem deterministic m ys q k zs r
+LandsIn (tag t ∷ os) l xs p zs r = (m : ℕ) × IsAround deterministic l xs p (tag t ∷ os) m zs r
 
 abbrev pub Lands : Placed → ℕ → List ℕ → ℕ → List ℕ → ℕ → Type 0
-Lands (done v) l xs p zs r = ReadsStrictly l xs p v zs r
+Lands (done v) l xs p zs r = ReadsItem deterministic l xs p v zs r
 Lands (more os) l xs p zs r = LandsIn os l xs p zs r
 
-top : (l : ℕ) (xs : List ℕ) (p m : ℕ) (ys : List ℕ) (q : ℕ) (v : Tree) (zs : List ℕ) (r : ℕ) → IsStrictlyAround l xs p [] m ys q → ReadsStrictly m ys q v zs r → ReadsStrictly l xs p v zs r
+top : (l : ℕ) (xs : List ℕ) (p m : ℕ) (ys : List ℕ) (q : ℕ) (v : Tree) (zs : List ℕ) (r : ℕ) → IsAround deterministic l xs p [] m ys q → ReadsItem deterministic m ys q v zs r → ReadsItem deterministic l xs p v zs r
 top l xs p m ys q v zs r a i =
-    let x : ReadsStrictly l ys q v zs r = subst (λ n. ReadsStrictly n ys q v zs r) a.0 i in
-    let y : ReadsStrictly l xs q v zs r = subst (λ b. ReadsStrictly l b q v zs r) a.1 x in
-    subst (λ n. ReadsStrictly l xs n v zs r) a.2 y
+    let x : ReadsItem deterministic l ys q v zs r = subst (λ n. ReadsItem deterministic n ys q v zs r) a.0 i in
+    let y : ReadsItem deterministic l xs q v zs r = subst (λ b. ReadsItem deterministic l b q v zs r) a.1 x in
+    subst (λ n. ReadsItem deterministic l xs n v zs r) a.2 y
 
-pub landed : (l : ℕ) (xs : List ℕ) (p : ℕ) (os : List Open) (m : ℕ) (ys : List ℕ) (q : ℕ) (v : Tree) (zs : List ℕ) (r : ℕ) → IsStrictlyAround l xs p os m ys q → ReadsStrictly m ys q v zs r → Lands (placed os v) l xs p zs r
+pub landed : (l : ℕ) (xs : List ℕ) (p : ℕ) (os : List Open) (m : ℕ) (ys : List ℕ) (q : ℕ) (v : Tree) (zs : List ℕ) (r : ℕ) → IsAround deterministic l xs p os m ys q → ReadsItem deterministic m ys q v zs r → Lands (placed os v) l xs p zs r
 landed l xs p [] m ys q v zs r a i = top l xs p m ys q v zs r a i
 landed l xs p (array vs None ∷ os) m ys q v zs r (bs, b, around, c) i = absurd c
 landed l xs p (array vs (Some (suc n)) ∷ os) m ys q v zs r (bs, b, around, c) i =
@@ -170,7 +171,7 @@ landed l xs p (tag t ∷ os) m ys q v zs r (bs, b, around, (head, usable, never)
 
 -- ---- what refuses inside refuses around
 
-pub refused-around : (l : ℕ) (xs : List ℕ) (p : ℕ) (os : List Open) (m : ℕ) (ys : List ℕ) (q : ℕ) (e : Refusal) → IsStrictlyAround l xs p os m ys q → DeterministicallyRefuses ys q m e → DeterministicallyRefuses xs p l e
+pub refused-around : (l : ℕ) (xs : List ℕ) (p : ℕ) (os : List Open) (m : ℕ) (ys : List ℕ) (q : ℕ) (e : Refusal) → IsAround deterministic l xs p os m ys q → DeterministicallyRefuses ys q m e → DeterministicallyRefuses xs p l e
 refused-around l xs p [] m ys q e a f =
     let x : DeterministicallyRefuses ys q l e = subst (λ n. DeterministicallyRefuses ys q n e) a.0 f in
     let y : DeterministicallyRefuses xs q l e = subst (λ b. DeterministicallyRefuses b q l e) a.1 x in
@@ -204,7 +205,7 @@ last-rises (p ∷ []) k a b h e = same (p.0, k) (a, b) e h.0
 last-rises (p ∷ (q ∷ ps)) k a b h e = last-rises (q ∷ ps) k a b h.1 e
 
 -- in order, the key goes on
-pub kept : (l : ℕ) (xs : List ℕ) (p : ℕ) (os : List Open) (zs : List ℕ) (r : ℕ) → LandsIn os l xs p zs r → IsKeyInOrder os → (m : ℕ) × IsStrictlyAround l xs p os m zs r
+pub kept : (l : ℕ) (xs : List ℕ) (p : ℕ) (os : List Open) (zs : List ℕ) (r : ℕ) → LandsIn os l xs p zs r → IsKeyInOrder os → (m : ℕ) × IsAround deterministic l xs p os m zs r
 kept l xs p [] zs r a o = absurd a
 kept l xs p (array vs b ∷ os) zs r a o = a
 kept l xs p (map ps b None ∷ os) zs r a o = a
@@ -216,7 +217,7 @@ kept l xs p (map ps (Some n) (Some k) ∷ os) zs r (m, ys, q, (bs, b, around, c)
 kept l xs p (tag t ∷ os) zs r a o = a
 
 -- out of order, it refuses
-pub disordered : (l : ℕ) (xs : List ℕ) (p : ℕ) (os : List Open) (zs : List ℕ) (r at : ℕ) → LandsIn os l xs p zs r → IsOutOfOrder os r at → DeterministicallyRefuses xs p l (semantic at refusal.KeyOrder)
+pub disordered : (l : ℕ) (xs : List ℕ) (p : ℕ) (os : List Open) (zs : List ℕ) (r at : ℕ) → LandsIn os l xs p zs r → IsKeyOutOfOrder os r at → DeterministicallyRefuses xs p l (semantic at refusal.KeyOrder)
 disordered l xs p [] zs r at a o = absurd a
 disordered l xs p (array vs b ∷ os) zs r at a (x, y, is, never, here) = absurd cc
 disordered l xs p (map ps b None ∷ os) zs r at a (x, y, is, never, here) = absurd cc
@@ -241,8 +242,3 @@ disordered l xs p (map ps (Some n) (Some k) ∷ os) zs r at (m, ys, q, (bs, b, a
         second u v f = let same : v ≡ u = cc in ap (λ (z : Tree × Tree). z.1) same
     key (p ∷ (q ∷ ps)) e = key (q ∷ ps) e
 disordered l xs p (tag t ∷ os) zs r at a (x, y, is, never, here) = absurd cc
-
--- the levels that are left, and how many are open
-pub levels-left : (l : ℕ) (xs : List ℕ) (p : ℕ) (os : List Open) (m : ℕ) (zs : List ℕ) (r : ℕ) → IsStrictlyAround l xs p os m zs r → l ≡ m + length os
-levels-left l xs p [] m zs r a = let e = a.0 in omega (arith, e)
-levels-left l xs p (o ∷ os) m zs r (ys, q, around, inside) = let e = levels-left l xs p os (suc m) ys q around in omega (arith, e)

@@ -53,7 +53,8 @@ mod JudgedLeaves
 mod JudgedParts
 mod JudgedTags
 mod JudgedTurns
-mod JudgedAnswers
+mod SpelledParts
+mod SpelledTags
 mod StrictReader
 mod StrictBignums
 mod StrictParts
@@ -61,6 +62,5 @@ mod StrictFound
 mod StrictRefused
 mod StrictAnswered
 mod StrictOutcome
-mod JudgedReaders
 mod NextReaders
 mod Sequences

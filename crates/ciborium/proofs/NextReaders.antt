@@ -26,12 +26,14 @@ use Rattle.ciborium.specs.ByteSources.{IsUnread, ReadsValue, cause_of}
 use Rattle.ciborium.specs.Errors.{from_ll}
 use Rattle.ciborium.specs.NextItems.{GoesOn, IsIo, IsReadFrom, Otherwise, TellsEnd, behind_head}
 use Rattle.ciborium.specs.TypedReads.{IsFaultAhead, RefusesTaken, TakesGiven}
+use Rattle.ciborium.specs.Spelling.{any}
 use Rattle.ciborium.proofs.FrontReads.{head-outside}
-use Rattle.ciborium.proofs.HandedReaders.{handed-denied, handed-given, some-map, taken-tree}
+use Rattle.ciborium.proofs.HandedReaders.{handed-denied, handed-given, on-ok, some-map}
 use Rattle.ciborium.proofs.ItemHeads.{first-head, header_of}
 use Rattle.ciborium.proofs.KnownReaders.{whole-of}
 use Rattle.ciborium.proofs.Pulled.{refused-from, refused-map}
 use Rattle.ciborium.proofs.SkippedTags.{fault-outside}
+use Rattle.ciborium.proofs.WhateverFollows.{taken-tree}
 
 -- what an answer says where none is the end
 end-says : {A E : Type 0} (r : Result (Option A) E) (P : Result A E → Type 0) → r ≡ Ok None → Otherwise r P
@@ -57,7 +59,7 @@ module _ {S : Type 0} (E : Type 0) (remaining : S → Option (List ℕ)) (d : De
       (refl, y, r, spelled, subst (IsUsable (x ++ u)) zero-count usable, split, sum ∙ ap (λ n. n + length y) zero-count, left)
 
   -- with the bytes that were taken behind it
-  joined : (t : ByteSource S) (x : S) (r : Result Tree (Error E)) → (s.decoder.reader.ghost_name ≡ t.decoder.reader.ghost_name → x ≡ t.decoder.reader.now) → ReadsValue {E = E} remaining (behind_head s h) t r → TakesBytes {E = E} (remaining lent) s.levels (remaining x) r
+  joined : (t : ByteSource S) (x : S) (r : Result Tree (Error E)) → (s.decoder.reader.ghost_name ≡ t.decoder.reader.ghost_name → x ≡ t.decoder.reader.now) → ReadsValue {E = E} remaining (behind_head s h) t r → TakesBytes {E = E} any (remaining lent) s.levels (remaining x) r
   joined t x r back reads =
       let (b, consumed, count, head, bytes) = taken in
       let (c, more, sum, f, low) = reads.1 in
@@ -67,7 +69,7 @@ module _ {S : Type 0} (E : Type 0) (remaining : S → Option (List ℕ)) (d : De
         b ++ c,
         subst (λ o. Consumes (remaining lent) o (b ++ c)) (sym after) (Consumes-trans (remaining lent) (left_of remaining s.decoder) (left_of remaining t.decoder) b c (subst (λ y. Consumes y (left_of remaining s.decoder) b) (begun-left remaining d lent 0 begins) consumed) more),
         omega (arith, count, sum, zero, less, length-append b c),
-        taken-tree E t.decoder s.levels 0 (b ++ c) r t.unpushed (λ z. subst (λ u. Rattle.ciborium.specs.Answers.IsTreeRead {S = List ℕ} {E = E} Some (with_left t.decoder z) s.levels u 0 r) (sym (append_assoc b c z)) (f z (b ++ (c ++ z)) 0 (front-any (c ++ z)))),
+        taken-tree E any t.decoder s.levels 0 (b ++ c) r (on-ok r t.unpushed) (λ z. subst (λ u. Rattle.ciborium.specs.Answers.IsTreeRead {S = List ℕ} {E = E} any Some (with_left t.decoder z) s.levels u 0 r) (sym (append_assoc b c z)) (f z (b ++ (c ++ z)) 0 (front-any (c ++ z)))),
         All-append (λ n. n < 256) b c bytes low,
       )
 
@@ -110,13 +112,13 @@ module _ {S T A : Type 0} (E : Type 0) (remaining : S → Option (List ℕ)) (re
     next-ok (Some h) (Err e) taken none item = λ b known. tt
 
     pub next-value : (first : Option Header) (r : Result (Option T) (Error E)) → First first → End first r → Behind first r →
-        Otherwise r (λ q. IfSome reading.whole (λ tree. ReadsWhole (remaining lent) s.levels (remaining x) (read_as (λ v. tree (reading.content v)) q)))
-    next-value None r taken (is, same) item = end-says r (λ q. IfSome reading.whole (λ tree. ReadsWhole (remaining lent) s.levels (remaining x) (read_as (λ v. tree (reading.content v)) q))) is
+        Otherwise r (λ q. IfSome reading.whole (λ tree. ReadsWhole any (remaining lent) s.levels (remaining x) (read_as (λ v. tree (reading.content v)) q)))
+    next-value None r taken (is, same) item = end-says r (λ q. IfSome reading.whole (λ tree. ReadsWhole any (remaining lent) s.levels (remaining x) (read_as (λ v. tree (reading.content v)) q))) is
     next-value (Some h) (Ok None) taken none item = absurd item
     next-value (Some h) (Ok (Some v)) taken none item =
-        some-map reading.whole item.whole (λ tree reads. whole-of {E = E} s.levels (remaining lent) (remaining x) (Ok (tree (reading.content v))) (joined E remaining d s lent begins kept h taken t x (Ok (tree (reading.content v))) back reads))
+        some-map reading.whole item.whole (λ tree reads. whole-of {E = E} any s.levels (remaining lent) (remaining x) (Ok (tree (reading.content v))) (joined E remaining d s lent begins kept h taken t x (Ok (tree (reading.content v))) back reads))
     next-value (Some h) (Err e) taken none item =
-        some-map reading.whole item.whole (λ tree reads. whole-of {E = E} s.levels (remaining lent) (remaining x) (Err e) (joined E remaining d s lent begins kept h taken t x (Err e) back reads))
+        some-map reading.whole item.whole (λ tree reads. whole-of {E = E} any s.levels (remaining lent) (remaining x) (Err e) (joined E remaining d s lent begins kept h taken t x (Err e) back reads))
 
   pub next-refused : (first : Option Header) (r : Result (Option T) (Error E)) → First first → End first r → Behind first r → Otherwise r (λ q. RefusesTaken (Some s.levels) reading.taken (remaining lent) (read_as reading.content q))
   next-refused None r taken (is, same) item = end-says r (λ q. RefusesTaken (Some s.levels) reading.taken (remaining lent) (read_as reading.content q)) is
@@ -145,7 +147,7 @@ module _ {S : Type 0} (E : Type 0) (remaining : S → Option (List ℕ)) (d e : 
       let refused = reads-head {E = E} (left_of remaining d) (left_of remaining e) b d.window.count e.window.count (Err x) (begun-left remaining d lent 0 begins ∙ known) taken in
       fault-outside (cause_of (from_ll x)) (given l i) (head-outside (left_of remaining e) x b y (c ++ left) d.window.count (header_of i) head (split ∙ ap (λ (z : List ℕ). z ++ left) whole ∙ append_assoc y c left) refused)
 
-  pub first-taken : (l : ℕ) (back : S) → back ≡ e.reader.now → TakesBytes {E = E} (remaining lent) l (remaining back) (Err (from_ll x))
+  pub first-taken : (l : ℕ) (back : S) → back ≡ e.reader.now → TakesBytes {E = E} any (remaining lent) l (remaining back) (Err (from_ll x))
   first-taken l back given =
       let (b, consumed, count, head, bytes) = taken in
       let zero : d.window.count ≡ 0 = begins.count in

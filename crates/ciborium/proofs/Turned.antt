@@ -1,94 +1,139 @@
 -- The answers of one turn.
-use Rattle.std.proofs.Common.{◌≡◌, ℕ, zero, suc, ◌+◌, ◌-◌, ◌≤◌, List, [], ◌∷◌, ◌++◌, length, Option, Some, None, Result, Ok, Err, IfOk, IfErr, MatchOption, IsSome, refl, sym, ap, ◌∙◌, subst, arith}
-use Rattle.std.specs.declared.alloc.AllocError.{AllocError}
+use Rattle.std.proofs.Common.{◌≡◌, ℕ, zero, suc, ◌+◌, ◌-◌, ◌<◌, ◌≤◌, List, [], ◌∷◌, ◌++◌, length, Option, Some, None, Result, Ok, Err, IfOk, MatchOption, IsSome, refl, sym, ap, ◌∙◌, subst, arith, inl, inr}
+use Rattle.ciborium_ll.specs.Bytes.{greatest_offset}
 use Rattle.ciborium_ll.specs.declared.decoder.Decoder.{Decoder}
-use Rattle.ciborium_ll.specs.Decoding.{IsAhead, offset_of, left_of}
-use Rattle.ciborium_ll.specs.Refusal.{semantic, Break}
+use Rattle.ciborium_ll.specs.Decoding.{offset_of, left_of}
+use Rattle.ciborium_ll.specs.Head.{break_byte}
+use Rattle.ciborium_ll.specs.Refusal.{Refusal, semantic, Break, IsUsable}
 use Rattle.ciborium_value.specs.declared.tree.Value.{Value}
 use Rattle.ciborium_value.specs.declared.stack.Opening.{Opening}
 use Rattle.ciborium_value.specs.Open.{Open, array, map, tag, Placed, more, placed, closed}
 use Rattle.ciborium_value.specs.Refuses.{Refuses}
-use Rattle.ciborium_value.specs.Stack.{opened, placed_of}
+use Rattle.ciborium_value.specs.Stack.{opened}
 use Rattle.ciborium_value.specs.Tree as trees
 use Rattle.ciborium_value.specs.Tree.{Tree}
 use Rattle.ciborium_value.specs.View.{tree_of, trees_from, tree_pairs_from}
 use Rattle.ciborium_value.proofs.Steps.{opened-has}
 use Rattle.ciborium.specs.declared.de.error.Error.{Error}
-use Rattle.ciborium.specs.declared.de.error.Error.TheVariants.{Memory}
 use Rattle.ciborium.specs.declared.de.front.Part.{Part}
 use Rattle.ciborium.specs.declared.de.front.Part.TheVariants.{Whole, Opened, Ended}
-use Rattle.ciborium.specs.Answers.{IsReading, IsTurned}
-use Rattle.ciborium.specs.Around.{IsAround, IsPlaced}
+use Rattle.ciborium.specs.Answers.{IsPlacedInOrder, IsReading, IsTurned}
+use Rattle.ciborium.specs.Around.{IsAround}
+use Rattle.ciborium.specs.DeterministicRefusals.{DeterministicallyRefuses}
 use Rattle.ciborium.specs.Errors.{IsRefusedBy}
-use Rattle.ciborium.specs.Parts.{IsPartRead, IsBegun}
-use Rattle.ciborium.specs.Reads.{IsBreakAt}
-use Rattle.ciborium.proofs.Fronts.{offset-at}
+use Rattle.ciborium.specs.Parts.{IsPartRead, RefusesPart}
+use Rattle.ciborium.specs.Reads.{ReadsItem, StandsAt}
+use Rattle.ciborium.specs.Spelling.{Spelling, any, deterministic, RefusesBy}
+use Rattle.ciborium.proofs.JudgedTurns.{Lands, LandsIn, disordered, kept, landed, refused-around}
 use Rattle.ciborium.proofs.Pulled.{refused-map}
-use Rattle.ciborium.proofs.Turning.{placed-turn, closed-turn, refused-turn, levels-left, EndsHere}
+use Rattle.ciborium.proofs.SpelledParts.{ahead-of, stands-offset}
+use Rattle.ciborium.proofs.Turning.{EndsHere, IsPlaced, closed-item, placed-turn, refused-turn}
 
--- what `next` answers, wherever the decoder stands
-abbrev pub Answers : {S E : Type 0} → (S → Option (List ℕ)) → Decoder S → Decoder S → ℕ → Result Part (Error E) → Type 0
-Answers remaining d e l x = (xs : List ℕ) (p : ℕ) → IsAhead remaining d xs p → IsPartRead remaining e l xs p x
+-- ---- what the spelling decides
 
-pub answers-of : (E : Type 0) {S : Type 0} (remaining : S → Option (List ℕ)) (d e : Decoder S) (n l : ℕ) (y z : Part) → n ≡ l → y ≡ z → Answers {E = E} remaining d e n (Ok y) → Answers {E = E} remaining d e l (Ok z)
-answers-of E remaining d e n l y z same is a xs p s = subst (λ x. IsPartRead {E = E} remaining e l xs p (Ok x)) is (subst (λ m. IsPartRead {E = E} remaining e m xs p (Ok y)) same (a xs p s))
+-- what refuses inside refuses around
+refused-inside : (spelling : Spelling) (l : ℕ) (xs : List ℕ) (p : ℕ) (os : List Open) (m : ℕ) (ys : List ℕ) (q : ℕ) (e : Refusal) → IsAround spelling l xs p os m ys q → RefusesPart spelling ys q m e → RefusesBy spelling xs p l e
+refused-inside any l xs p os m ys q e a f = refused-turn l xs p os m ys q e a f.0 (λ _. f.1)
+refused-inside deterministic l xs p os m ys q e a f = refused-around l xs p os m ys q e a f
 
-left : (l : ℕ) (xs : List ℕ) (p : ℕ) (os : List Open) (m : ℕ) (zs : List ℕ) (r : ℕ) → IsAround l xs p os m zs r → l - length os ≡ m
-left l xs p os m zs r a = omega (arith, levels-left l xs p os m zs r a)
+-- a value was placed, and its key judged
+turned : {S E : Type 0} (spelling : Spelling) (remaining : S → Option (List ℕ)) (e : Decoder S) (os after : List Open) (l : ℕ) (xs : List ℕ) (p m : ℕ) (ys : List ℕ) (q : ℕ) (v : Tree) (zs : List ℕ) (r end : ℕ) (x : Result (Option Value) (Error E)) →
+    end ≡ r → IsAround spelling l xs p os m ys q → ReadsItem spelling m ys q v zs r → StandsAt spelling remaining e zs r → IsPlacedInOrder spelling os v end after x → IsTurned spelling remaining e after l xs p x
+turned any remaining e os after l xs p m ys q v zs r end (Ok None) same a i stands (is, order) =
+    let b : IsPlaced l xs p (more after) zs r = subst (λ (x : Placed). IsPlaced l xs p x zs r) (sym is) (placed-turn l xs p os m ys q v zs r a i) in
+    (b.0, zs, r, b.1, stands)
+turned any remaining e os after l xs p m ys q v zs r end (Ok (Some w)) same a i stands is =
+    (zs, r, subst (λ (x : Placed). IsPlaced l xs p x zs r) (sym is) (placed-turn l xs p os m ys q v zs r a i), stands)
+turned any remaining e os after l xs p m ys q v zs r end (Err x) same a i stands (inl memory) = subst (λ f. IsRefusedBy (left_of remaining e) f (Refuses xs p (Some l))) (sym memory) tt
+turned any remaining e os after l xs p m ys q v zs r end (Err x) same a i stands (inr (is, (at, never, error))) = absurd never
+turned deterministic remaining e os after l xs p m ys q v zs r end (Ok None) same a i stands (is, order) =
+    let k = kept l xs p after zs r (subst (λ (w : Placed). Lands w l xs p zs r) (sym is) (landed l xs p os m ys q v zs r a i)) order in
+    (k.0, zs, r, k.1, stands)
+turned deterministic remaining e os after l xs p m ys q v zs r end (Ok (Some w)) same a i stands is =
+    (zs, r, subst (λ (u : Placed). Lands u l xs p zs r) (sym is) (landed l xs p os m ys q v zs r a i), stands.0)
+turned deterministic remaining e os after l xs p m ys q v zs r end (Err x) same a i stands (inl memory) = subst (λ f. IsRefusedBy (left_of remaining e) f (DeterministicallyRefuses xs p l)) (sym memory) tt
+turned deterministic remaining e os after l xs p m ys q v zs r end (Err x) same a i stands (inr (is, (at, order, error))) =
+    subst (λ f. IsRefusedBy (left_of remaining e) f (DeterministicallyRefuses xs p l)) (sym error)
+    (disordered l xs p after zs end at (subst (λ n. LandsIn after l xs p zs n) (sym same) (subst (λ (w : Placed). Lands w l xs p zs r) (sym is) (landed l xs p os m ys q v zs r a i))) order)
 
-answer-here : {S E : Type 0} (remaining : S → Option (List ℕ)) (d e : Decoder S) (os : List Open) (l : ℕ) (xs : List ℕ) (p : ℕ) (x : Result Part (Error E)) → Answers remaining d e (l - length os) x → (s : IsReading remaining d os l xs p) → IsPartRead remaining e s.0 s.1 s.2 x
-answer-here remaining d e os l xs p x answers s = subst (λ m. IsPartRead remaining e m s.1 s.2 x) (left l xs p os s.0 s.1 s.2 s.3) (answers s.1 s.2 s.4)
+-- the container that a break ends, with what is open around it
+Closes : Spelling → ℕ → List ℕ → ℕ → List Open → Tree → List ℕ → ℕ → Type 0
+Closes spelling l xs p os v zs r = (m : ℕ) × (ys : List ℕ) × (q : ℕ) × IsAround spelling l xs p os m ys q × ReadsItem spelling m ys q v zs r
 
-pub turn-refused : {S E : Type 0} (remaining : S → Option (List ℕ)) (d e : Decoder S) (os : List Open) (l : ℕ) (xs : List ℕ) (p : ℕ) (x : Error E) → Answers remaining d e (l - length os) (Err x) → IsReading remaining d os l xs p →
-    IsRefusedBy (left_of remaining e) x (λ r. Refuses xs p (Some l) r)
-turn-refused remaining d e os l xs p x answers s =
-    refused-map (left_of remaining e) x (λ r. Refuses s.1 s.2 (Some s.0) r × ¬ IsBreakAt s.1 s.2) (λ r. Refuses xs p (Some l) r) (λ r f. refused-turn l xs p os s.0 s.1 s.2 r s.3 f.0 (λ _. f.1)) (answer-here remaining d e os l xs p (Err x) answers s)
-
--- ---- a value was placed
-
-is-turned : {S E : Type 0} (remaining : S → Option (List ℕ)) (e : Decoder S) (after : List Open) (l : ℕ) (xs : List ℕ) (p : ℕ) (given : Result (Option Value) AllocError) (x : Result (Option Value) (Error E)) (os : List Open) (v : Tree) (zs : List ℕ) (r : ℕ) →
-    IfOk x (λ o. given ≡ Ok o) → IfErr x (λ e. e ≡ Memory) → IfOk given (λ o. placed_of o after ≡ placed os v) → IsPlaced l xs p (placed os v) zs r → IsAhead remaining e zs r → IsTurned remaining e after l xs p x
-is-turned remaining e after l xs p given (Ok None) os v zs r ok err is a s =
-    let b : IsPlaced l xs p (more after) zs r = subst (λ (x : Placed). IsPlaced l xs p x zs r) (sym (subst (λ g. IfOk g (λ o. placed_of o after ≡ placed os v)) ok is)) a in
-    (b.0, zs, r, b.1, s)
-is-turned remaining e after l xs p given (Ok (Some w)) os v zs r ok err is a s =
-    (zs, r, subst (λ (x : Placed). IsPlaced l xs p x zs r) (sym (subst (λ g. IfOk g (λ o. placed_of o after ≡ placed os v)) ok is)) a, s)
-is-turned remaining e after l xs p given (Err x) os v zs r ok err is a s = subst (λ z. IsRefusedBy (left_of remaining e) z (λ r. Refuses xs p (Some l) r)) (sym err) tt
-
-pub turn-whole : {S E : Type 0} (remaining : S → Option (List ℕ)) (d e : Decoder S) (os after : List Open) (l : ℕ) (xs : List ℕ) (p : ℕ) (v : Value) (given : Result (Option Value) AllocError) (x : Result (Option Value) (Error E)) →
-    Answers {E = E} remaining d e (l - length os) (Ok (Whole v)) → IfOk x (λ o. given ≡ Ok o) → IfErr x (λ e. e ≡ Memory) → IfOk given (λ o. placed_of o after ≡ placed os (tree_of v)) → IsReading remaining d os l xs p → IsTurned remaining e after l xs p x
-turn-whole {E} remaining d e os after l xs p v given x answers ok err is s =
-    let a = answer-here {E = E} remaining d e os l xs p (Ok (Whole v)) answers s in
-    is-turned remaining e after l xs p given x os (tree_of v) a.0 a.1 ok err is (placed-turn l xs p os s.0 s.1 s.2 (tree_of v) a.0 a.1 s.3 a.2) a.3
-
--- ---- a container or tag was opened
-
-pub turn-opened : (E : Type 0) {S : Type 0} (remaining : S → Option (List ℕ)) (d e : Decoder S) (os after : List Open) (l : ℕ) (xs : List ℕ) (p : ℕ) (f : Opening) → Answers {E = E} remaining d e (l - length os) (Ok (Opened f)) → after ≡ opened f ∷ os →
-    IsReading remaining d os l xs p → IsReading remaining e after l xs p
-turn-opened E remaining d e os after l xs p f answers is s =
-    let a = answer-here {E = E} remaining d e os l xs p (Ok (Opened f)) answers s in
-    let b : IsBegun s.0 s.1 s.2 (opened f) a.0 a.1 = a.2 in
-    (b.0, a.0, a.1, subst (λ us. IsAround l xs p us b.0 a.0 a.1) (sym is) (s.1, s.2, subst (λ n. IsAround l xs p os n s.1 s.2) b.1 s.3, b.2), a.3)
-
--- ---- a break
-
-pub turn-ended : {S E : Type 0} (remaining : S → Option (List ℕ)) (d e : Decoder S) (os between after : List Open) (l : ℕ) (xs : List ℕ) (p : ℕ) (v : Value) (given : Result (Option Value) AllocError) (x : Result (Option Value) (Error E)) →
-    Answers {E = E} remaining d e (l - length os) (Ok Ended) → closed os ≡ Some (tree_of v, between) → IfOk x (λ o. given ≡ Ok o) → IfErr x (λ e. e ≡ Memory) → IfOk given (λ o. placed_of o after ≡ placed between (tree_of v)) →
-    IsReading remaining d os l xs p → IsTurned remaining e after l xs p x
-turn-ended {E} remaining d e os between after l xs p v given x answers ends ok err is s =
-    let a = answer-here {E = E} remaining d e os l xs p (Ok Ended) answers s in
-    is-turned remaining e after l xs p given x between (tree_of v) a.0 (s.2 + 1) ok err is (closed-turn l xs p os between s.0 s.1 s.2 (tree_of v) a.0 s.3 ends a.1 a.2) a.3
+closing : (spelling : Spelling) (l : ℕ) (xs : List ℕ) (p : ℕ) (os us : List Open) (m : ℕ) (ys : List ℕ) (q : ℕ) (v : Tree) (zs : List ℕ) → IsAround spelling l xs p os m ys q → closed os ≡ Some (v, us) → ys ≡ break_byte ∷ zs →
+    q < greatest_offset → Closes spelling l xs p us v zs (q + 1)
+unfolding Closes
+closing any l xs p os us m ys q v zs a e f g = closed-item l xs p os us m ys q v zs a e f g
+closing deterministic l xs p [] us m ys q v zs a e f g = absurd cc
+closing deterministic l xs p (array vs None ∷ os) us m ys q v zs (bs, b, around, c) e f g = absurd c
+closing deterministic l xs p (array vs (Some n) ∷ os) us m ys q v zs a e f g = absurd cc
+closing deterministic l xs p (tag t ∷ os) us m ys q v zs a e f g = absurd cc
+closing deterministic l xs p (map ps None key ∷ os) us m ys q v zs (bs, b, around, c) e f g = absurd c
+closing deterministic l xs p (map ps (Some n) key ∷ os) us m ys q v zs a e f g = absurd cc
 
 ends-not : (os : List Open) → closed os ≡ None → EndsHere os → ⊥
 ends-not os e h = let no = subst (λ o. IsSome o) e h in absurd cc
 
-pub turn-break : (E : Type 0) {S : Type 0} (remaining : S → Option (List ℕ)) (d e : Decoder S) (os : List Open) (l : ℕ) (xs : List ℕ) (p offset : ℕ) → Answers {E = E} remaining d e (l - length os) (Ok Ended) → closed os ≡ None → offset ≡ offset_of d →
-    IsReading remaining d os l xs p → Refuses xs p (Some l) (semantic offset Break)
-turn-break E remaining d e os l xs p offset answers none at s =
-    let a = answer-here {E = E} remaining d e os l xs p (Ok Ended) answers s in
-    let here : offset ≡ s.2 = at ∙ offset-at remaining d s.2 s.1 s.4 in
-    let refuses : Refuses s.1 s.2 (Some s.0) (semantic s.2 Break) = subst (λ z. Refuses z s.2 (Some s.0) (semantic s.2 Break)) (sym a.1) (Refuses.break {p = s.2} {b = a.0} (opened-has 7 s.2 a.0 refl a.2)) in
-    subst (λ n. Refuses xs p (Some l) (semantic n Break)) (sym here) (refused-turn l xs p os s.0 s.1 s.2 (semantic s.2 Break) s.3 refuses (λ h. absurd (ends-not os none h)))
+-- a break that ends nothing
+broken : (spelling : Spelling) (l : ℕ) (xs : List ℕ) (p : ℕ) (os : List Open) (m : ℕ) (ys : List ℕ) (q : ℕ) (zs : List ℕ) → IsAround spelling l xs p os m ys q → closed os ≡ None → ys ≡ break_byte ∷ zs → q < greatest_offset →
+    RefusesBy spelling xs p l (semantic q Break)
+broken any l xs p os m ys q zs a none is less =
+    let refuses : Refuses ys q (Some m) (semantic q Break) = subst (λ z. Refuses z q (Some m) (semantic q Break)) (sym is) (Refuses.break {p = q} {b = zs} (opened-has 7 q zs refl less)) in
+    refused-turn l xs p os m ys q (semantic q Break) a refuses (λ h. absurd (ends-not os none h))
+broken deterministic l xs p os m ys q zs a none is less =
+    let refuses : DeterministicallyRefuses ys q m (semantic q Break) = subst (λ z. DeterministicallyRefuses z q m (semantic q Break)) (sym is) (DeterministicallyRefuses.break {p = q} {l = m} {b = zs} (opened-has 7 q zs refl less)) in
+    refused-around l xs p os m ys q (semantic q Break) a refuses
+
+-- ---- what `next` answers, wherever the decoder stands
+
+abbrev pub Answers : {S E : Type 0} → Spelling → (S → Option (List ℕ)) → Decoder S → Decoder S → ℕ → Result Part (Error E) → Type 0
+Answers spelling remaining d e l x = (xs : List ℕ) (p : ℕ) → StandsAt spelling remaining d xs p → IsPartRead spelling remaining e l xs p x
+
+levels-left : (spelling : Spelling) (l : ℕ) (xs : List ℕ) (p : ℕ) (os : List Open) (m : ℕ) (ys : List ℕ) (q : ℕ) → IsAround spelling l xs p os m ys q → length os + m ≡ l
+levels-left spelling l xs p [] m ys q a = omega (arith, a.0)
+levels-left spelling l xs p (o ∷ os) m ys q a = omega (arith, levels-left spelling l xs p os (suc m) a.0 a.1 a.2)
+
+left : (spelling : Spelling) (l : ℕ) (xs : List ℕ) (p : ℕ) (os : List Open) (m : ℕ) (zs : List ℕ) (r : ℕ) → IsAround spelling l xs p os m zs r → l - length os ≡ m
+left spelling l xs p os m zs r a = omega (arith, levels-left spelling l xs p os m zs r a)
+
+-- ---- the answers of a turn
+
+module _ {S E : Type 0} (spelling : Spelling) (remaining : S → Option (List ℕ)) (d e : Decoder S) (os : List Open) (l : ℕ) (xs : List ℕ) (p : ℕ) (n : ℕ) (depth : n ≡ length os) (x y : Result Part (Error E)) (same : x ≡ y)
+    (answers : Answers spelling remaining d e (l - n) x) (s : IsReading spelling remaining d os l xs p) where
+  here : IsPartRead spelling remaining e s.0 s.1 s.2 y
+  here =
+      subst (λ z. IsPartRead spelling remaining e s.0 s.1 s.2 z) same
+      (subst (λ m. IsPartRead spelling remaining e m s.1 s.2 x) (ap (λ k. l - k) depth ∙ left spelling l xs p os s.0 s.1 s.2 s.3) (answers s.1 s.2 s.4))
+
+  pub turn-refused : (f : Error E) → y ≡ Err f → IsRefusedBy (left_of remaining e) f (RefusesBy spelling xs p l)
+  turn-refused f is =
+      refused-map (left_of remaining e) f (RefusesPart spelling s.1 s.2 s.0) (RefusesBy spelling xs p l) (λ r h. refused-inside spelling l xs p os s.0 s.1 s.2 r s.3 h)
+      (subst (λ z. IsPartRead spelling remaining e s.0 s.1 s.2 z) is here)
+
+  pub turn-whole : (v : Value) (after : List Open) (end : ℕ) (z : Result (Option Value) (Error E)) → y ≡ Ok (Whole v) → end ≡ offset_of e → IsPlacedInOrder spelling os (tree_of v) end after z → IsTurned spelling remaining e after l xs p z
+  turn-whole v after end z is at placed =
+      let a = subst (λ z. IsPartRead {E = E} spelling remaining e s.0 s.1 s.2 z) is here in
+      turned spelling remaining e os after l xs p s.0 s.1 s.2 (tree_of v) a.0 a.1 end z (at ∙ stands-offset spelling remaining e a.1 a.0 a.3) s.3 a.2 a.3 placed
+
+  pub turn-opened : (f : Opening) (after : List Open) → y ≡ Ok (Opened f) → after ≡ opened f ∷ os → IsReading spelling remaining e after l xs p
+  turn-opened f after is now =
+      let a = subst (λ z. IsPartRead {E = E} spelling remaining e s.0 s.1 s.2 z) is here in
+      let (m, more_levels, inside) = a.2 in
+      (m, a.0, a.1, subst (λ us. IsAround spelling l xs p us m a.0 a.1) (sym now) (s.1, s.2, subst (λ k. IsAround spelling l xs p os k s.1 s.2) more_levels s.3, inside), a.3)
+
+  pub turn-ended : (v : Value) (between after : List Open) (end : ℕ) (z : Result (Option Value) (Error E)) → y ≡ Ok Ended → closed os ≡ Some (tree_of v, between) → end ≡ offset_of e →
+      IsPlacedInOrder spelling between (tree_of v) end after z → IsTurned spelling remaining e after l xs p z
+  unfolding Closes
+  turn-ended v between after end z is ends at placed =
+      let a = subst (λ z. IsPartRead {E = E} spelling remaining e s.0 s.1 s.2 z) is here in
+      let (m, ys, q, around, item) = closing spelling l xs p os between s.0 s.1 s.2 (tree_of v) a.0 s.3 ends a.1 a.2 in
+      turned spelling remaining e between after l xs p m ys q (tree_of v) a.0 (s.2 + 1) end z (at ∙ stands-offset spelling remaining e (s.2 + 1) a.0 a.3) around item a.3 placed
+
+  pub turn-break : (offset : ℕ) → y ≡ Ok Ended → closed os ≡ None → offset ≡ offset_of d → RefusesBy spelling xs p l (semantic offset Break)
+  turn-break offset is none at =
+      let a = subst (λ z. IsPartRead {E = E} spelling remaining e s.0 s.1 s.2 z) is here in
+      let place : offset ≡ s.2 = at ∙ stands-offset spelling remaining d s.2 s.1 s.4 in
+      subst (λ k. RefusesBy spelling xs p l (semantic k Break)) (sym place) (broken spelling l xs p os s.0 s.1 s.2 a.0 s.3 none a.1 a.2)
 
 -- ---- how many are open
 
@@ -107,11 +152,11 @@ shallow (map ps (Some (suc n)) (Some k) ∷ os) us v e = same-length (map (ps ++
 shallow (map ps (Some zero) (Some k) ∷ os) us v e = let less = shallow os us (trees.map (tree_pairs_from (ps ++ (k, v) ∷ []))) e in omega (arith, less)
 shallow (tag t ∷ os) us v e = let less = shallow os us (trees.tag t v) e in omega (arith, less)
 
-pub depth-placed : {E : Type 0} (given : Result (Option Value) AllocError) (x : Result (Option Value) (Error E)) (os after : List Open) (v : Tree) (l : ℕ) → IfOk x (λ o. given ≡ Ok o) → IfOk given (λ o. placed_of o after ≡ placed os v) → length os ≤ l →
+pub depth-placed : {E : Type 0} (spelling : Spelling) (x : Result (Option Value) (Error E)) (os after : List Open) (v : Tree) (end l : ℕ) → IsPlacedInOrder spelling os v end after x → length os ≤ l →
     IfOk x (λ o. MatchOption o (length after ≤ l) (λ _. Unit {0}))
-depth-placed given (Ok None) os after v l ok is room = let less = shallow os after v (subst (λ g. IfOk g (λ o. placed_of o after ≡ placed os v)) ok is) in omega (arith, less, room)
-depth-placed given (Ok (Some w)) os after v l ok is room = tt
-depth-placed given (Err e) os after v l ok is room = tt
+depth-placed spelling (Ok None) os after v end l (is, order) room = let less = shallow os after v is in omega (arith, less, room)
+depth-placed spelling (Ok (Some w)) os after v end l is room = tt
+depth-placed spelling (Err e) os after v end l is room = tt
 
 abbrev both : Tree → List Open → Tree × List Open
 both v os = (v, os)
@@ -130,5 +175,5 @@ depth-closed (map ps (Some n) key ∷ os) us v l e room = absurd cc
 
 -- ---- the beginning
 
-pub begin : {S : Type 0} (remaining : S → Option (List ℕ)) (d : Decoder S) (os : List Open) (l : ℕ) (xs : List ℕ) (p : ℕ) → os ≡ [] → IsAhead remaining d xs p → IsReading remaining d os l xs p
-begin remaining d os l xs p none s = (l, xs, p, subst (λ us. IsAround l xs p us l xs p) (sym none) (refl, refl, refl), s)
+pub begin : {S : Type 0} (spelling : Spelling) (remaining : S → Option (List ℕ)) (d : Decoder S) (os : List Open) (l : ℕ) (xs : List ℕ) (p : ℕ) → os ≡ [] → StandsAt spelling remaining d xs p → IsReading spelling remaining d os l xs p
+begin spelling remaining d os l xs p none s = (l, xs, p, subst (λ us. IsAround spelling l xs p us l xs p) (sym none) (refl, refl, refl), s)

@@ -11,15 +11,16 @@ use Rattle.ciborium_ll.specs.Refusal.{Refusal, IsUsable, HasHead, IsAtFront}
 use Rattle.ciborium_ll.specs.Spells.{Spells}
 use Rattle.ciborium_value.specs.Meaning.{meaning, items_meaning, tag_meaning, folding_bytes, is_bignum_tag}
 use Rattle.ciborium_value.specs.Nesting.{nesting, tag_nesting, pairs_nesting}
-use Rattle.ciborium_value.specs.Open.{Open, array, map, tag, placed, closed}
+use Rattle.ciborium_value.specs.Open.{Open, array, map, tag, Placed, done, more, placed, closed}
 use Rattle.ciborium_value.specs.Refuses.{Refuses, AreGood, HasOpening, Due, exactly, items_until_break, keys_until_break, values_until_break, next_due, due_after, IsDue, IsFoldingAt}
 use Rattle.ciborium_value.specs.Tree as trees
 use Rattle.ciborium_value.specs.Tree.{Tree, Trees}
 use Rattle.ciborium_value.specs.View.{trees_from, tree_pairs_from}
 use Rattle.ciborium_value.proofs.Parts.{then, then-after, then-count, after-left, after-items}
 use Rattle.ciborium.proofs.ItemsRead.{item-read, end-fits}
-use Rattle.ciborium.specs.Around.{in_turn, due_in, array_due, map_due, HasContainerHead, IsRoom, IsInContainer, IsInTag, IsInside, IsAround, IsPlaced}
+use Rattle.ciborium.specs.Around.{in_turn, due_in, array_due, map_due, HasContainerHead, IsRoom, IsInContainer, IsInTag, IsAnywayInside, IsAround}
 use Rattle.ciborium.specs.Reads.{ReadsItem, IsBreakAt}
+use Rattle.ciborium.specs.Spelling.{any}
 use Rattle.ciborium.proofs.Grown.{then-Spells, then-nesting, then-meaning}
 use Rattle.ciborium.proofs.Paired.{paired, paired-is, paired-nesting, in_turn-key, in_turn-value}
 
@@ -45,7 +46,7 @@ room-more keys_until_break now is j e open_ room = tt
 room-more values_until_break now is j e open_ room = tt
 
 one-more : (major : ℕ) (count : Option ℕ) (start now : Due) (l : ℕ) (ys : List ℕ) (q : ℕ) (vs : List Tree) (v : Tree) (zs : List ℕ) (r : ℕ) (us : List ℕ) (s : ℕ) → IsOpenStill now →
-    IsInContainer major count start now l ys q vs zs r → ReadsItem l zs r v us s → IsInContainer major count start (next_due now) l ys q (vs ++ v ∷ []) us s
+    IsInContainer major count start now l ys q vs zs r → ReadsItem any l zs r v us s → IsInContainer major count start (next_due now) l ys q (vs ++ v ∷ []) us s
 one-more major count start now l ys q vs v zs r us s open_ a i = record {
   size = a.size;
   good = a.good ++ i.taken;
@@ -111,7 +112,7 @@ module _ (major q r : ℕ) (ys good zs us : List ℕ) (opens : ys ≡ open_byte 
   open-end = omega (arith, at, length-append good (break_byte ∷ []))
 
 array-whole : (count : Option ℕ) (l : ℕ) (ys : List ℕ) (q : ℕ) (vs : List Tree) (us : List ℕ) (s : ℕ) → IsInContainer 4 count (array_due count) (exactly 0) l ys q vs us s →
-    ReadsItem (suc l) ys q (trees.array (trees_from vs)) us s
+    ReadsItem any (suc l) ys q (trees.array (trees_from vs)) us s
 array-whole None l ys q vs us s a = absurd (never-counts a.items a.due)
 array-whole (Some n) l ys q vs us s a =
     let all : items_count a.items ≡ n = all-there n a.items a.due a.room in
@@ -119,7 +120,7 @@ array-whole (Some n) l ys q vs us s a =
     item-read (a.head.0 ++ a.good) (item.array false a.items) ((a.good, a.spelled, (a.head.0, subst (IsHead a.head.0 4) (sym all) a.head.1, refl))) (ap (option_map trees.array) a.means) (omega (arith, nests)) (counted-split 4 n a.size q s ys a.good us a.head a.at) (counted-end 4 n a.size q s ys a.good us a.head a.at) a.fits
 
 array-ended : (count : Option ℕ) (l : ℕ) (ys : List ℕ) (q : ℕ) (vs : List Tree) (zs : List ℕ) (r : ℕ) (us : List ℕ) → IsInContainer 4 count (array_due count) items_until_break l ys q vs zs r →
-    zs ≡ break_byte ∷ us → r < greatest_offset → ReadsItem (suc l) ys q (trees.array (trees_from vs)) us (r + 1)
+    zs ≡ break_byte ∷ us → r < greatest_offset → ReadsItem any (suc l) ys q (trees.array (trees_from vs)) us (r + 1)
 array-ended (Some n) l ys q vs zs r us a e f = absurd (never-breaks n a.items items_until_break a.due refl)
 array-ended None l ys q vs zs r us a e f =
     let nests = a.nests in
@@ -127,7 +128,7 @@ array-ended None l ys q vs zs r us a e f =
     item-read (open_byte 4 ∷ (a.good ++ (break_byte ∷ []))) (item.array true a.items) (a.good, a.spelled, refl) (ap (option_map trees.array) a.means) (omega (arith, nests)) (open-split 4 q r ys a.good zs us a.head.1 e at) (open-end 4 q r ys a.good zs us a.head.1 e at) (omega (arith, f))
 
 map-whole : (count : Option ℕ) (l : ℕ) (ys : List ℕ) (q : ℕ) (ps : List (Tree × Tree)) (us : List ℕ) (s : ℕ) → IsInContainer 5 count (map_due count) (exactly 0) l ys q (in_turn ps None) us s →
-    ReadsItem (suc l) ys q (trees.map (tree_pairs_from ps)) us s
+    ReadsItem any (suc l) ys q (trees.map (tree_pairs_from ps)) us s
 map-whole None l ys q ps us s a = absurd ((keys-or-values a.items).0 a.due)
 map-whole (Some n) l ys q ps us s a =
     let pairs = paired-is a.items ps a.good a.spelled a.means in
@@ -137,7 +138,7 @@ map-whole (Some n) l ys q ps us s a =
     item-read (a.head.0 ++ a.good) (item.map false (paired a.items)) ((a.good, pairs.0, (a.head.0, subst (IsHead a.head.0 5) (sym count) a.head.1, refl))) (ap (option_map trees.map) pairs.1) (omega (arith, nests)) (counted-split 5 n a.size q s ys a.good us a.head a.at) (counted-end 5 n a.size q s ys a.good us a.head a.at) a.fits
 
 map-ended : (count : Option ℕ) (l : ℕ) (ys : List ℕ) (q : ℕ) (ps : List (Tree × Tree)) (zs : List ℕ) (r : ℕ) (us : List ℕ) → IsInContainer 5 count (map_due count) keys_until_break l ys q (in_turn ps None) zs r →
-    zs ≡ break_byte ∷ us → r < greatest_offset → ReadsItem (suc l) ys q (trees.map (tree_pairs_from ps)) us (r + 1)
+    zs ≡ break_byte ∷ us → r < greatest_offset → ReadsItem any (suc l) ys q (trees.map (tree_pairs_from ps)) us (r + 1)
 map-ended (Some n) l ys q ps zs r us a e f = absurd (never-breaks-keys (2 * n) a.items keys_until_break a.due refl)
 map-ended None l ys q ps zs r us a e f =
     let pairs = paired-is a.items ps a.good a.spelled a.means in
@@ -175,7 +176,7 @@ folds-not t zs taken us (item.tag n i) never s e = cond-nothing (is_bignum_tag t
 folds-not t zs taken us (item.simple n) never s e = cond-nothing (is_bignum_tag t)
 folds-not t zs taken us (item.float p) never s e = cond-nothing (is_bignum_tag t)
 
-tag-whole : (l : ℕ) (ys : List ℕ) (q t : ℕ) (v : Tree) (zs : List ℕ) (r : ℕ) (us : List ℕ) (s : ℕ) → IsInTag ys q t zs r → ReadsItem l zs r v us s → ReadsItem (suc l) ys q (trees.tag t v) us s
+tag-whole : (l : ℕ) (ys : List ℕ) (q t : ℕ) (v : Tree) (zs : List ℕ) (r : ℕ) (us : List ℕ) (s : ℕ) → IsInTag ys q t zs r → ReadsItem any l zs r v us s → ReadsItem any (suc l) ys q (trees.tag t v) us s
 tag-whole l ys q t v zs r us s a i =
     let never = folds-not t zs i.taken us i.read.0 a.folds_not i.read.1.0 i.split in
     let deep : nesting (item.tag t i.read.0) ≡ suc (nesting i.read.0) = ap (λ f. tag_nesting f (nesting i.read.0)) never in
@@ -185,13 +186,18 @@ tag-whole l ys q t v zs r us s a i =
 
 -- ---- a value is placed
 
-top : (l : ℕ) (xs : List ℕ) (p m : ℕ) (ys : List ℕ) (q : ℕ) (v : Tree) (zs : List ℕ) (r : ℕ) → IsAround l xs p [] m ys q → ReadsItem m ys q v zs r → ReadsItem l xs p v zs r
-top l xs p m ys q v zs r a i =
-    let x : ReadsItem l ys q v zs r = subst (λ n. ReadsItem n ys q v zs r) a.0 i in
-    let y : ReadsItem l xs q v zs r = subst (λ b. ReadsItem l b q v zs r) a.1 x in
-    subst (λ n. ReadsItem l xs n v zs r) a.2 y
+-- a value was placed, and reading stands at zs
+abbrev pub IsPlaced : ℕ → List ℕ → ℕ → Placed → List ℕ → ℕ → Type 0
+IsPlaced l xs p (done v) zs r = ReadsItem any l xs p v zs r
+IsPlaced l xs p (more os) zs r = (m : ℕ) × IsAround any l xs p os m zs r
 
-pub placed-turn : (l : ℕ) (xs : List ℕ) (p : ℕ) (os : List Open) (m : ℕ) (ys : List ℕ) (q : ℕ) (v : Tree) (zs : List ℕ) (r : ℕ) → IsAround l xs p os m ys q → ReadsItem m ys q v zs r →
+top : (l : ℕ) (xs : List ℕ) (p m : ℕ) (ys : List ℕ) (q : ℕ) (v : Tree) (zs : List ℕ) (r : ℕ) → IsAround any l xs p [] m ys q → ReadsItem any m ys q v zs r → ReadsItem any l xs p v zs r
+top l xs p m ys q v zs r a i =
+    let x : ReadsItem any l ys q v zs r = subst (λ n. ReadsItem any n ys q v zs r) a.0 i in
+    let y : ReadsItem any l xs q v zs r = subst (λ b. ReadsItem any l b q v zs r) a.1 x in
+    subst (λ n. ReadsItem any l xs n v zs r) a.2 y
+
+pub placed-turn : (l : ℕ) (xs : List ℕ) (p : ℕ) (os : List Open) (m : ℕ) (ys : List ℕ) (q : ℕ) (v : Tree) (zs : List ℕ) (r : ℕ) → IsAround any l xs p os m ys q → ReadsItem any m ys q v zs r →
     IsPlaced l xs p (placed os v) zs r
 placed-turn l xs p [] m ys q v zs r a i = top l xs p m ys q v zs r a i
 placed-turn l xs p (array vs None ∷ os) m ys q v zs r (bs, b, around, (count, c)) i =
@@ -281,28 +287,24 @@ both v os = (v, os)
 some-both : (v w : Tree) (os us : List Open) → Some (both v os) ≡ Some (both w us) → (v ≡ w) × (os ≡ us)
 some-both v w os us e = let same : both v os ≡ both w us = cc in (ap (λ x. x.0) same, ap (λ x. x.1) same)
 
-placed-as : (l : ℕ) (xs : List ℕ) (p : ℕ) (os us : List Open) (m : ℕ) (ys : List ℕ) (q : ℕ) (t v : Tree) (zs : List ℕ) (r : ℕ) → (t ≡ v) × (os ≡ us) → IsAround l xs p os m ys q → ReadsItem m ys q t zs r →
-    IsPlaced l xs p (placed us v) zs r
-placed-as l xs p os us m ys q t v zs r same a i =
-    subst (λ o. IsPlaced l xs p (placed o v) zs r) same.1 (subst (λ x. IsPlaced l xs p (placed os x) zs r) same.0 (placed-turn l xs p os m ys q t zs r a i))
+-- the container that the break ends, with what is open around it
+abbrev pub Closes : ℕ → List ℕ → ℕ → List Open → Tree → List ℕ → ℕ → Type 0
+Closes l xs p os v zs r = (m : ℕ) × (ys : List ℕ) × (q : ℕ) × IsAround any l xs p os m ys q × ReadsItem any m ys q v zs r
 
-pub closed-turn : (l : ℕ) (xs : List ℕ) (p : ℕ) (os us : List Open) (m : ℕ) (ys : List ℕ) (q : ℕ) (v : Tree) (zs : List ℕ) → IsAround l xs p os m ys q → closed os ≡ Some (v, us) → ys ≡ break_byte ∷ zs → q < greatest_offset →
-    IsPlaced l xs p (placed us v) zs (q + 1)
-closed-turn l xs p [] us m ys q v zs a e f g = absurd cc
-closed-turn l xs p (array vs None ∷ os) us m ys q v zs (bs, b, around, (count, c)) e f g =
-    placed-as l xs p os us (suc m) bs b (trees.array (trees_from vs)) v zs (q + 1) (some-both (trees.array (trees_from vs)) v os us e) around (array-ended count m bs b vs ys q zs c f g)
-closed-turn l xs p (array vs (Some n) ∷ os) us m ys q v zs a e f g = absurd cc
-closed-turn l xs p (tag t ∷ os) us m ys q v zs a e f g = absurd cc
-closed-turn l xs p (map ps None None ∷ os) us m ys q v zs (bs, b, around, (count, c)) e f g =
-    placed-as l xs p os us (suc m) bs b (trees.map (tree_pairs_from ps)) v zs (q + 1) (some-both (trees.map (tree_pairs_from ps)) v os us e) around (map-ended count m bs b ps ys q zs c f g)
-closed-turn l xs p (map ps None (Some k) ∷ os) us m ys q v zs a e f g = absurd cc
-closed-turn l xs p (map ps (Some n) key ∷ os) us m ys q v zs a e f g = absurd cc
+closes-as : (l : ℕ) (xs : List ℕ) (p : ℕ) (os us : List Open) (m : ℕ) (ys : List ℕ) (q : ℕ) (t v : Tree) (zs : List ℕ) (r : ℕ) → (t ≡ v) × (os ≡ us) → IsAround any l xs p os m ys q → ReadsItem any m ys q t zs r → Closes l xs p us v zs r
+closes-as l xs p os us m ys q t v zs r same a i = (m, ys, q, subst (λ o. IsAround any l xs p o m ys q) same.1 a, subst (λ x. ReadsItem any m ys q x zs r) same.0 i)
 
--- ---- levels
-
-pub levels-left : (l : ℕ) (xs : List ℕ) (p : ℕ) (os : List Open) (m : ℕ) (ys : List ℕ) (q : ℕ) → IsAround l xs p os m ys q → length os + m ≡ l
-levels-left l xs p [] m ys q a = omega (arith, a.0)
-levels-left l xs p (o ∷ os) m ys q a = omega (arith, levels-left l xs p os (suc m) a.0 a.1 a.2)
+pub closed-item : (l : ℕ) (xs : List ℕ) (p : ℕ) (os us : List Open) (m : ℕ) (ys : List ℕ) (q : ℕ) (v : Tree) (zs : List ℕ) → IsAround any l xs p os m ys q → closed os ≡ Some (v, us) → ys ≡ break_byte ∷ zs → q < greatest_offset →
+    Closes l xs p us v zs (q + 1)
+closed-item l xs p [] us m ys q v zs a e f g = absurd cc
+closed-item l xs p (array vs None ∷ os) us m ys q v zs (bs, b, around, (count, c)) e f g =
+    closes-as l xs p os us (suc m) bs b (trees.array (trees_from vs)) v zs (q + 1) (some-both (trees.array (trees_from vs)) v os us e) around (array-ended count m bs b vs ys q zs c f g)
+closed-item l xs p (array vs (Some n) ∷ os) us m ys q v zs a e f g = absurd cc
+closed-item l xs p (tag t ∷ os) us m ys q v zs a e f g = absurd cc
+closed-item l xs p (map ps None None ∷ os) us m ys q v zs (bs, b, around, (count, c)) e f g =
+    closes-as l xs p os us (suc m) bs b (trees.map (tree_pairs_from ps)) v zs (q + 1) (some-both (trees.map (tree_pairs_from ps)) v os us e) around (map-ended count m bs b ps ys q zs c f g)
+closed-item l xs p (map ps None (Some k) ∷ os) us m ys q v zs a e f g = absurd cc
+closed-item l xs p (map ps (Some n) key ∷ os) us m ys q v zs a e f g = absurd cc
 
 -- ---- a refusal
 
@@ -356,14 +358,14 @@ open-no-break : (m : ℕ) (b r : List ℕ) → m < 7 → b ≡ open_byte m ∷ r
 open-no-break m b r lt e (s, begins) = let first = same-first (open_byte m) break_byte r s (sym e ∙ begins) in absurd (omega (arith, first, lt))
 
 -- a container or tag does not begin with a break
-container-begins : (o : Open) (l : ℕ) (ys : List ℕ) (q : ℕ) (zs : List ℕ) (r : ℕ) → IsInside o l ys q zs r → ¬ IsAtFront break_byte ys
+container-begins : (o : Open) (l : ℕ) (ys : List ℕ) (q : ℕ) (zs : List ℕ) (r : ℕ) → IsAnywayInside o l ys q zs r → ¬ IsAtFront break_byte ys
 container-begins (array vs b) l ys q zs r (None, c) begins = open-no-break 4 ys (c.good ++ zs) (omega arith) c.head.1 begins
 container-begins (array vs b) l ys q zs r (Some n, c) begins = not-break 4 n c.head.0 ys (c.good ++ zs) (omega arith) c.head.1 c.head.3 begins
 container-begins (map ps b k) l ys q zs r (None, c) begins = open-no-break 5 ys (c.good ++ zs) (omega arith) c.head.1 begins
 container-begins (map ps b k) l ys q zs r (Some n, c) begins = not-break 5 n c.head.0 ys (c.good ++ zs) (omega arith) c.head.1 c.head.3 begins
 container-begins (tag t) l ys q zs r c begins = not-break 6 t c.head.0 ys zs (omega arith) c.head.1 c.head.3 begins
 
-pub refused-turn : (l : ℕ) (xs : List ℕ) (p : ℕ) (os : List Open) (m : ℕ) (ys : List ℕ) (q : ℕ) (e : Refusal) → IsAround l xs p os m ys q → Refuses ys q (Some m) e → (EndsHere os → ¬ IsBreakAt ys q) →
+pub refused-turn : (l : ℕ) (xs : List ℕ) (p : ℕ) (os : List Open) (m : ℕ) (ys : List ℕ) (q : ℕ) (e : Refusal) → IsAround any l xs p os m ys q → Refuses ys q (Some m) e → (EndsHere os → ¬ IsBreakAt ys q) →
     Refuses xs p (Some l) e
 refused-turn l xs p [] m ys q e a f h =
     let x : Refuses ys q (Some l) e = subst (λ n. Refuses ys q (Some n) e) a.0 f in

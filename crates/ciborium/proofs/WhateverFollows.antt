@@ -1,27 +1,29 @@
 -- What is said of a decoder whatever follows the bytes that it takes.
-use Rattle.std.proofs.Common.{◌≡◌, ℕ, ◌<◌, List, [], ◌++◌, Option, Some, None, Result, Ok, Err, OnOk, IfSome, IfNone, refl, sym, ap, ◌∙◌, subst, arith, append_assoc, append-nil, length-append}
+use Rattle.std.proofs.Common.{◌≡◌, ℕ, ◌+◌, ◌<◌, List, [], ◌++◌, Option, Some, None, Result, Ok, Err, OnOk, IfSome, IfNone, MatchOption, refl, sym, ap, ◌∙◌, subst, arith, append_assoc, append-nil, length-append}
 use Rattle.std.specs.Io.KnownBytes.{Consumes}
 use Rattle.std.proofs.KnownBytes.{Consumes-nil, Consumes-trans}
 use Rattle.std.proofs.lemmas.List.Elements.{All-append}
 use Rattle.ciborium_ll.specs.declared.header.Header.{Header}
 use Rattle.ciborium_ll.specs.declared.header.Error.{Error as LlError}
 use Rattle.ciborium_ll.specs.declared.decoder.Decoder.{Decoder}
-use Rattle.ciborium_ll.specs.Decoding.{HasBegun, IsAhead, IsAheadBy, IsUnread, Pulls, PullsTo, Takes, TakesBeforeAny, with_left, left_of}
+use Rattle.ciborium_ll.specs.Decoding.{HasBegun, HasSameReader, IsAhead, IsAheadBy, IsUnread, Pulls, PullsTo, Takes, TakesBeforeAny, with_left, left_of}
 use Rattle.ciborium_ll.specs.Bytes.{AreBytes}
 use Rattle.ciborium_ll.specs.Reading as reading
 use Rattle.ciborium_ll.specs.Reading.{IsHeadTaken}
 use Rattle.ciborium_ll.specs.StringRefusal.{StringKind, ContentRefuses}
 use Rattle.ciborium_ll.specs.Strings.{IsStringTaken}
-use Rattle.ciborium_ll.proofs.HeldBytes.{unread-left, begun-left, unread-count}
+use Rattle.ciborium_ll.proofs.HeldBytes.{unread-left, begun-left, begun-rest, unread-count}
 use Rattle.ciborium_ll.proofs.Unread.{pulls-head, reads-string}
 use Rattle.ciborium_value.specs.Tree.{Tree}
 use Rattle.ciborium_value.specs.declared.tree.Value.{Value}
 use Rattle.ciborium.specs.declared.de.error.Error.{Error}
-use Rattle.ciborium_value.specs.Refuses.{IsReadAs}
-use Rattle.ciborium.specs.Answers.{IsTakenAs, TakesBytes, IsTreeRead}
+use Rattle.ciborium_value.specs.Sources.{read_as}
+use Rattle.ciborium_value.specs.View.{tree_of}
+use Rattle.ciborium.specs.Answers.{IsTakenFrom, IsTreeRead, IsValueRead, TakesBytes}
 use Rattle.ciborium.specs.Errors.{from_ll}
-use Rattle.ciborium.specs.Reads.{IsAt}
+use Rattle.ciborium.specs.Reads.{IsAt, StandsAt}
 use Rattle.ciborium.specs.Strings.{IsStringRead}
+use Rattle.ciborium.specs.Spelling.{Spelling, any, deterministic, IsReadBy}
 use Rattle.ciborium.proofs.Fronts.{ahead-at}
 use Rattle.ciborium.proofs.Outcomes.{left-at}
 use Rattle.ciborium.proofs.Pulled.{refused-from}
@@ -95,23 +97,45 @@ string-refused E remaining a b kind len x A (y, taken, count, h, bytes) = (
 -- ---- what was taken of a reader
 
 -- what reading a value answers
-abbrev pub TreeSo : {E : Type 0} → ℕ → Decoder (List ℕ) → Decoder (List ℕ) → Result Tree (Error E) → Type 0
-TreeSo {E} l d e x = (xs : List ℕ) (p : ℕ) → IsAhead Some d xs p → IsTreeRead {S = List ℕ} {E = E} Some e l xs p x
+abbrev pub TreeSo : {E : Type 0} → Spelling → ℕ → Decoder (List ℕ) → Decoder (List ℕ) → Result Tree (Error E) → Type 0
+TreeSo {E} spelling l d e x = (xs : List ℕ) (p : ℕ) → StandsAt spelling Some d xs p → IsTreeRead {S = List ℕ} {E = E} spelling Some e l xs p x
 
-pub taken-as : (E : Type 0) {S : Type 0} (remaining : S → Option (List ℕ)) (a b : Decoder S) (lent : S) (l : ℕ) (x : Result Tree (Error E)) → HasBegun a lent 0 → OnOk x (b.pushed ≡ None) →
-    TakesBeforeAny remaining a b (λ d e. TreeSo {E = E} l d e x) → TakesBytes {E = E} (remaining lent) l (left_of remaining b) x
-taken-as E {S} remaining a b lent l x begins rests (s, taken, count, h, bytes) =
+begun-stands : (spelling : Spelling) (d : Decoder (List ℕ)) (xs : List ℕ) → d.pushed ≡ None → IsAt Some d xs 0 → StandsAt spelling Some d xs 0
+begun-stands any d xs none at = ahead-at Some d 0 xs none at
+begun-stands deterministic d xs none at = (ahead-at Some d 0 xs none at, subst (λ o. MatchOption o (Unit {0}) (λ head. d.window.count ≡ head.1 + d.head_len)) (sym none) tt)
+
+same-rest : (u v : List ℕ) → Some u ≡ Some v → u ≡ v
+same-rest u v e = cc
+
+-- what was taken, where that is said whatever follows it
+pub taken-tree : (E : Type 0) {S : Type 0} (spelling : Spelling) (d : Decoder S) (l p : ℕ) (s : List ℕ) (r : Result Tree (Error E)) → OnOk r (d.pushed ≡ None) →
+    ((c : List ℕ) → IsTreeRead {S = List ℕ} {E = E} spelling Some (with_left d c) l (s ++ c) p r) → IsTakenFrom {E = E} spelling p s l r
+taken-tree E spelling d l p s (Ok v) none f =
+    let (zs, q, item, at) = f [] in
+    let left : [] ≡ zs = same-rest [] zs (left-at Some (with_left d []) q zs none at) in
+    let whole : item.taken ≡ s = sym (append-nil item.taken) ∙ ap (λ (z : List ℕ). item.taken ++ z) left ∙ sym item.split ∙ append-nil s in
+    subst (λ z. IsReadBy spelling z p l v) whole item.read
+taken-tree E spelling d l p s (Err e) none f = f
+
+-- what was taken of a reader that was lent
+pub taken-lent : (E : Type 0) {S : Type 0} (spelling : Spelling) (remaining : S → Option (List ℕ)) (a b : Decoder S) (lent back : S) (l : ℕ) (x : Result Tree (Error E)) → HasBegun a lent 0 → HasSameReader a b → OnOk x (b.pushed ≡ None) →
+    back ≡ b.reader.now → TakesBeforeAny remaining a b (λ d e. TreeSo {E = E} spelling l d e x) → TakesBytes {E = E} spelling (remaining lent) l (remaining back) x
+taken-lent E {S} spelling remaining a b lent back l x begins same rests given (s, taken, count, h, bytes) =
     let zero : a.window.count ≡ 0 = begins.count in
-    let less = b.window.fits in
-    (s, subst (λ r. Consumes r (left_of remaining b) s) (begun-left remaining a lent 0 begins) taken, omega (arith, count, zero, less), found x rests (λ c. h c (s ++ c) 0 (ahead-at Some (with_left a (s ++ c)) 0 (s ++ c) begins.pushed (begins.count, refl))), bytes)
-  where
-    same-rest : (u v : List ℕ) → Some u ≡ Some v → u ≡ v
-    same-rest u v e = cc
+    let less = b.window.fits in (
+      s,
+      subst (λ r. Consumes (remaining lent) r s) (begun-rest remaining a b lent 0 begins same ∙ ap remaining (sym given)) (subst (λ r. Consumes r (left_of remaining b) s) (begun-left remaining a lent 0 begins) taken),
+      omega (arith, count, zero, less),
+      taken-tree E spelling b l 0 s x rests (λ c. h c (s ++ c) 0 (begun-stands spelling (with_left a (s ++ c)) (s ++ c) begins.pushed (begins.count, refl))),
+      bytes,
+    )
 
-    found : (x : Result Tree (Error E)) → OnOk x (b.pushed ≡ None) → ((c : List ℕ) → IsTreeRead {S = List ℕ} {E = E} Some (with_left b c) l (s ++ c) 0 x) → IsTakenAs {E = E} s l x
-    found (Ok v) rests f =
-        let (zs, r, reads, at) = f [] in
-        let left : [] ≡ zs = same-rest [] zs (left-at Some (with_left b []) r zs rests at) in
-        let whole : reads.taken ≡ s = sym (append-nil reads.taken) ∙ ap (λ (z : List ℕ). reads.taken ++ z) left ∙ sym reads.split ∙ append-nil s in
-        subst (λ z. IsReadAs z 0 (Some l) v) whole reads.read
-    found (Err e) rests f = f
+pub as-tree : {S E : Type 0} (spelling : Spelling) (remaining : S → Option (List ℕ)) (d : Decoder S) (l : ℕ) (xs : List ℕ) (p : ℕ) (x : Result Value (Error E)) → IsValueRead {E = E} spelling remaining d l xs p x →
+    IsTreeRead {E = E} spelling remaining d l xs p (read_as tree_of x)
+as-tree spelling remaining d l xs p (Ok v) h = h
+as-tree spelling remaining d l xs p (Err e) h = h
+
+pub read-tree : (E : Type 0) {S : Type 0} (spelling : Spelling) (remaining : S → Option (List ℕ)) (a b : Decoder S) (l : ℕ) (x : Result Value (Error E)) →
+    TakesBeforeAny remaining a b (λ d e. (xs : List ℕ) (p : ℕ) → StandsAt spelling Some d xs p → IsValueRead {S = List ℕ} {E = E} spelling Some e l xs p x) →
+    TakesBeforeAny remaining a b (λ d e. TreeSo {E = E} spelling l d e (read_as tree_of x))
+read-tree E spelling remaining a b l x (s, taken, count, h, bytes) = (s, taken, count, λ c xs p stands. as-tree spelling Some (with_left b c) l xs p x (h c xs p stands), bytes)

@@ -26,9 +26,10 @@ use Rattle.ciborium.specs.declared.de.error.Error.TheVariants as errors
 use Rattle.ciborium.specs.Answers.{IsTreeRead, IsValueRead}
 use Rattle.ciborium.specs.ByteSources.{StandsFor, is_portable, IsUnreadBy, cause_of}
 use Rattle.ciborium.specs.Errors.{IsRefusedBy, IsNamed, kind_of}
+use Rattle.ciborium.specs.Spelling.{any}
 use Rattle.ciborium.proofs.Fronts.{ahead-at, front-fits}
 use Rattle.ciborium.proofs.ItemsRead.{item-read}
-use Rattle.ciborium.proofs.WhateverFollows.{so-unread}
+use Rattle.ciborium.proofs.WhateverFollows.{as-tree, so-unread}
 use Rattle.ciborium.proofs.ValueFaults.{value-faults}
 use Rattle.ciborium.proofs.ValuesGiven.{value-gives}
 
@@ -81,19 +82,19 @@ module _ {S : Type 0} (remaining : S → Option (List ℕ)) where
   ahead-to d u b p None left (count, e) = (count, left ∙ e)
   ahead-to d u b p (Some h) left (at, x, r, sp, usable, split, count, e) = (at, x, r, sp, usable, split, count, left ∙ e)
 
-  read-to : (E : Type 0) (e : Decoder S) (c : List ℕ) (l : ℕ) (b : List ℕ) (p : ℕ) (x : Result Value (Error E)) → left_of remaining e ≡ Some c → IsValueRead {S = List ℕ} {E = E} Some (with_left e c) l b p x → IsValueRead {E = E} remaining e l b p x
+  read-to : (E : Type 0) (e : Decoder S) (c : List ℕ) (l : ℕ) (b : List ℕ) (p : ℕ) (x : Result Value (Error E)) → left_of remaining e ≡ Some c → IsValueRead {S = List ℕ} {E = E} any Some (with_left e c) l b p x → IsValueRead {E = E} any remaining e l b p x
   read-to E e c l b p (Ok v) left (zs, r, item, ahead) = (zs, r, item, ahead-to e c zs r e.pushed left ahead)
   read-to E e c l b p (Err x) left h = subst (λ o. IsRefusedBy o x (Refuses b p (Some l))) (sym left) h
 
-  pub known-read : (E : Type 0) (d e : Decoder S) (l : ℕ) (x : Result Value (Error E)) → TakesBeforeAny remaining d e (λ f g. (xs : List ℕ) (q : ℕ) → IsAhead Some f xs q → IsValueRead {S = List ℕ} {E = E} Some g l xs q x) →
-      (b : List ℕ) (p : ℕ) → IsAhead remaining d b p → IsValueRead {E = E} remaining e l b p x
+  pub known-read : (E : Type 0) (d e : Decoder S) (l : ℕ) (x : Result Value (Error E)) → TakesBeforeAny remaining d e (λ f g. (xs : List ℕ) (q : ℕ) → IsAhead Some f xs q → IsValueRead {S = List ℕ} {E = E} any Some g l xs q x) →
+      (b : List ℕ) (p : ℕ) → IsAhead remaining d b p → IsValueRead {E = E} any remaining e l b p x
   known-read E d e l x (s, taken, count, h, small) b p ahead =
       let (u, known) = known-left d b p d.pushed ahead in
       let (c, left, split) = rest-of (left_of remaining d) (left_of remaining e) u s known taken in
       read-to E e c l b p x left (h c b p (ahead-from d (s ++ c) b p d.pushed (known ∙ ap Some split) ahead))
 
 -- the value that was read is what the item there gives
-pub whole-reads : (E : Type 0) {S : Type 0} (remaining : S → Option (List ℕ)) (d : Decoder S) (l p : ℕ) (b : List ℕ) (v : Value) → d.pushed ≡ None → IsValueRead {E = E} remaining d l b p (Ok v) →
+pub whole-reads : (E : Type 0) {S : Type 0} (remaining : S → Option (List ℕ)) (d : Decoder S) (l p : ℕ) (b : List ℕ) (v : Value) → d.pushed ≡ None → IsValueRead {E = E} any remaining d l b p (Ok v) →
     (i : Item) × (s : List ℕ) × (z : List ℕ) × Spells s i × (b ≡ s ++ z) × (taken_value (Some l) i ≡ gives (tree_of v)) × (left_of remaining d ≡ Some z)
 whole-reads E remaining d l p b v none (z, r, item, ahead) =
     let at : IsAheadBy remaining d z r None = subst (λ o. IsAheadBy remaining d z r o) none ahead in
@@ -150,7 +151,7 @@ portable-reads remaining d pending h p b v l is for u =
 
 -- what the value ahead was read as, where this head was pending
 abbrev pub ReadSo : {E : Type 0} → ℕ → Option (Header × ℕ) → Decoder (List ℕ) → Decoder (List ℕ) → Result Tree (Error E) → Type 0
-ReadSo {E} l pending d e r = (xs : List ℕ) (p : ℕ) → IsAheadBy Some d xs p pending → IsTreeRead {S = List ℕ} {E = E} Some e l xs p r
+ReadSo {E} l pending d e r = (xs : List ℕ) (p : ℕ) → IsAheadBy Some d xs p pending → IsTreeRead {S = List ℕ} {E = E} any Some e l xs p r
 
 -- a head that stands for an item is read without a byte
 pub portable-ahead : (E : Type 0) {S : Type 0} (remaining : S → Option (List ℕ)) (d : Decoder S) (pending : Option (Header × ℕ)) (h : Header) (at l : ℕ) (v : Tree) → d.pushed ≡ None → pending ≡ Some (h, at) → StandsFor h v →
@@ -166,17 +167,13 @@ ahead-pushed : {S : Type 0} (d e : Decoder S) (u xs : List ℕ) (p : ℕ) (o : O
 ahead-pushed d e u xs p None same (count, left) = (same ∙ count, left)
 ahead-pushed d e u xs p (Some h) same (at, x, r, sp, usable, split, count, left) = (at, x, r, sp, usable, split, same ∙ count, left)
 
-as-tree : {S E : Type 0} (remaining : S → Option (List ℕ)) (d : Decoder S) (l : ℕ) (xs : List ℕ) (p : ℕ) (x : Result Value (Error E)) → IsValueRead {E = E} remaining d l xs p x → IsTreeRead {E = E} remaining d l xs p (read_as tree_of x)
-as-tree remaining d l xs p (Ok v) h = h
-as-tree remaining d l xs p (Err e) h = h
-
 -- the head was pushed first
 pub pushed-ahead : (E : Type 0) {S : Type 0} (remaining : S → Option (List ℕ)) (d e f : Decoder S) (pending : Option (Header × ℕ)) (l : ℕ) (x : Result Value (Error E)) → e.pushed ≡ pending → IsUnread d e →
-    TakesBeforeAny remaining e f (λ a b. (xs : List ℕ) (p : ℕ) → IsAhead Some a xs p → IsValueRead {S = List ℕ} {E = E} Some b l xs p x) → TakesBeforeAny remaining d f (λ a b. ReadSo {E = E} l pending a b (read_as tree_of x))
+    TakesBeforeAny remaining e f (λ a b. (xs : List ℕ) (p : ℕ) → IsAhead Some a xs p → IsValueRead {S = List ℕ} {E = E} any Some b l xs p x) → TakesBeforeAny remaining d f (λ a b. ReadSo {E = E} l pending a b (read_as tree_of x))
 pushed-ahead E remaining d e f pending l x pushed unread (s, taken, sum, h, bytes) = (
   s,
   subst (λ r. Consumes r (left_of remaining f) s) (unread-left remaining d e unread) taken,
   (let count = unread-count d e unread in omega (arith, sum, count)),
-  λ c xs p ahead. as-tree Some (with_left f c) l xs p x (h c xs p (subst (λ o. IsAheadBy Some (with_left e (s ++ c)) xs p o) (sym pushed) (ahead-pushed d e (s ++ c) xs p pending (unread-count d e unread) ahead))),
+  λ c xs p ahead. as-tree any Some (with_left f c) l xs p x (h c xs p (subst (λ o. IsAheadBy Some (with_left e (s ++ c)) xs p o) (sym pushed) (ahead-pushed d e (s ++ c) xs p pending (unread-count d e unread) ahead))),
   bytes,
 )

@@ -12,10 +12,11 @@ use Rattle.ciborium.specs.declared.de.error.Error.{Error}
 use Rattle.ciborium.specs.declared.de.error.Error.TheVariants.{Io, Syntax, Semantic, RecursionLimitExceeded, Memory, TooLong}
 use Rattle.ciborium.specs.Answers.{TakesValue, IsFailed}
 use Rattle.ciborium.specs.Errors.{IsRefusedBy, kind_of}
+use Rattle.ciborium.specs.Spelling.{any}
 
 -- what the clauses of a call say of its answer: b were the known bytes, within l levels, and this is left of them
 abbrev pub IsAnswer : List ℕ → ℕ → Option (List ℕ) → Result Value (Error IoError) → Type 0
-IsAnswer b l left (Ok v) = TakesValue b l (tree_of v) left
+IsAnswer b l left (Ok v) = TakesValue any b l (tree_of v) left
 IsAnswer b l left (Err e) = IsRefusedBy left e (λ r. Refuses b 0 (Some l) r)
 
 -- the refusal of a kind at an offset

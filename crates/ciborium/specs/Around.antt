@@ -7,11 +7,12 @@ use Rattle.ciborium_ll.specs.Refusal.{IsUsable, HasHead}
 use Rattle.ciborium_ll.specs.Spells.{SpellsItems}
 use Rattle.ciborium_value.specs.Meaning.{items_meaning}
 use Rattle.ciborium_value.specs.Nesting.{items_nesting}
-use Rattle.ciborium_value.specs.Open.{Open, array, map, tag, Placed, done, more}
+use Rattle.ciborium_value.specs.Open.{Open, array, map, tag}
 use Rattle.ciborium_value.specs.Refuses.{Due, exactly, items_until_break, keys_until_break, values_until_break, due_after, IsFoldingAt}
 use Rattle.ciborium_value.specs.Tree.{Tree}
 use Rattle.ciborium_value.specs.View.{trees_from}
-use Rattle.ciborium.specs.Reads.{ReadsItem}
+use Rattle.ciborium.specs.DeterministicRefusals.{HasParts, HasShortHead, of_array, of_map}
+use Rattle.ciborium.specs.Spelling.{Spelling, any, deterministic}
 
 -- keys and values in turn, and then the key that waits
 abbrev pub in_turn : List (Tree × Tree) → Option Tree → List Tree
@@ -74,20 +75,27 @@ pub record IsInTag (ys : List ℕ) (q : ℕ) (t : ℕ) (zs : List ℕ) (r : ℕ)
   pub folds_not : ¬ IsFoldingAt t zs
   pub at : r ≡ q + size
 
--- what begins at ys is open at zs
-abbrev pub IsInside : Open → ℕ → List ℕ → ℕ → List ℕ → ℕ → Type 0
-IsInside (array vs behind) l ys q zs r =
+-- what begins at ys in any spelling is open at zs; inside it l levels are left
+abbrev pub IsAnywayInside : Open → ℕ → List ℕ → ℕ → List ℕ → ℕ → Type 0
+IsAnywayInside (array vs behind) l ys q zs r =
     (count : Option ℕ) × IsInContainer 4 count (array_due count) (due_in (array vs behind)) l ys q vs zs r
-IsInside (map ps behind key) l ys q zs r =
+IsAnywayInside (map ps behind key) l ys q zs r =
     (count : Option ℕ) × IsInContainer 5 count (map_due count) (due_in (map ps behind key)) l ys q (in_turn ps key) zs r
-IsInside (tag t) l ys q zs r = IsInTag ys q t zs r
+IsAnywayInside (tag t) l ys q zs r = IsInTag ys q t zs r
+
+-- what begins at ys in the deterministic spelling is open at zs
+abbrev pub IsStrictlyInside : Open → ℕ → List ℕ → ℕ → List ℕ → ℕ → Type 0
+IsStrictlyInside (array vs (Some n)) l ys q zs r = HasParts of_array (length vs + suc n) l ys q vs zs r
+IsStrictlyInside (array vs None) l ys q zs r = ⊥
+IsStrictlyInside (map ps (Some n) key) l ys q zs r = HasParts of_map (length ps + suc n) l ys q (in_turn ps key) zs r
+IsStrictlyInside (map ps None key) l ys q zs r = ⊥
+IsStrictlyInside (tag t) l ys q zs r = HasShortHead 6 t ys q zs r × IsUsable zs r × ¬ IsFoldingAt t zs
+
+abbrev pub IsInside : Spelling → Open → ℕ → List ℕ → ℕ → List ℕ → ℕ → Type 0
+IsInside any o l ys q zs r = IsAnywayInside o l ys q zs r
+IsInside deterministic o l ys q zs r = IsStrictlyInside o l ys q zs r
 
 -- all that is open, the innermost first
-abbrev pub IsAround : ℕ → List ℕ → ℕ → List Open → ℕ → List ℕ → ℕ → Type 0
-IsAround l xs p [] m zs r = (m ≡ l) × (zs ≡ xs) × (r ≡ p)
-IsAround l xs p (o ∷ os) m zs r = (ys : List ℕ) × (q : ℕ) × IsAround l xs p os (suc m) ys q × IsInside o m ys q zs r
-
--- a value was placed, and reading stands at zs
-abbrev pub IsPlaced : ℕ → List ℕ → ℕ → Placed → List ℕ → ℕ → Type 0
-IsPlaced l xs p (done v) zs r = ReadsItem l xs p v zs r
-IsPlaced l xs p (more os) zs r = (m : ℕ) × IsAround l xs p os m zs r
+abbrev pub IsAround : Spelling → ℕ → List ℕ → ℕ → List Open → ℕ → List ℕ → ℕ → Type 0
+IsAround spelling l xs p [] m zs r = (m ≡ l) × (zs ≡ xs) × (r ≡ p)
+IsAround spelling l xs p (o ∷ os) m zs r = (ys : List ℕ) × (q : ℕ) × IsAround spelling l xs p os (suc m) ys q × IsInside spelling o m ys q zs r

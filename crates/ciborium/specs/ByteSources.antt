@@ -26,6 +26,7 @@ use Rattle.ciborium.specs.declared.de.byte_source.Left.{Left}
 use Rattle.ciborium.specs.declared.de.byte_source.Left.TheVariants as left
 use Rattle.ciborium.specs.Answers.{IsTreeRead}
 use Rattle.ciborium.specs.Skips.{Opens}
+use Rattle.ciborium.specs.Spelling.{any}
 use Rattle.ciborium.specs.Unread.{SpellsPair, AreSpelled, Fits, ending, form_of, HasCount}
 
 -- ---- what is unread
@@ -221,15 +222,6 @@ cause_of RecursionLimitExceeded = of_nesting
 cause_of Memory = of_memory
 cause_of TooLong = of_device
 
--- what is left of it where the reader's error is put aside
-abbrev pub refusal_of : {E : Type 0} → Error E → Error Unit
-refusal_of (Io e) = Io tt
-refusal_of (Syntax p) = Syntax p
-refusal_of (Semantic p k) = Semantic p k
-refusal_of RecursionLimitExceeded = RecursionLimitExceeded
-refusal_of Memory = Memory
-refusal_of TooLong = TooLong
-
 -- ---- a value of any shape
 
 -- the head alone spells an item, which means this tree and takes no level
@@ -241,4 +233,4 @@ StandsFor h v = (s : List ℕ) → SpellsHeader s h → (i : Item) × Spells s i
 abbrev pub ReadsValue : {S E : Type 0} → (S → Option (List ℕ)) → ByteSource S → ByteSource S → Result Tree (Error E) → Type 0
 ReadsValue remaining old new r =
     HasSameReader old.decoder new.decoder ×
-    TakesBeforeAny remaining old.decoder new.decoder (λ d e. (xs : List ℕ) (p : ℕ) → IsAheadBy Some d xs p old.pending → IsTreeRead Some e old.levels xs p r)
+    TakesBeforeAny remaining old.decoder new.decoder (λ d e. (xs : List ℕ) (p : ℕ) → IsAheadBy Some d xs p old.pending → IsTreeRead any Some e old.levels xs p r)

@@ -43,3 +43,12 @@ IsRefusedBy left (Semantic p k) P = IsNamed p (kind_of k) P
 IsRefusedBy left RecursionLimitExceeded P = P refusal.recursion_limit_exceeded
 IsRefusedBy left Memory P = Unit {0}
 IsRefusedBy left TooLong P = P refusal.too_long
+
+-- what is left of an error where the reader's error is put aside
+abbrev pub refusal_of : {E : Type 0} → Error E → Error Unit
+refusal_of (Io e) = Io tt
+refusal_of (Syntax p) = Syntax p
+refusal_of (Semantic p k) = Semantic p k
+refusal_of RecursionLimitExceeded = RecursionLimitExceeded
+refusal_of Memory = Memory
+refusal_of TooLong = TooLong

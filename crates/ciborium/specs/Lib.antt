@@ -1,3 +1,4 @@
+pub mod Spelling
 pub mod Reads
 pub mod Around
 pub mod Errors
@@ -21,6 +22,5 @@ pub mod Tags
 pub mod Deterministic
 pub mod DeterministicRefusals
 pub mod DeterministicLaws
-pub mod DeterministicReads
 pub mod ItemSequences
 pub mod NextItems

@@ -4,9 +4,9 @@ use Rattle.ciborium_ll.specs.declared.header.Header.{Header}
 use Rattle.ciborium_ll.specs.declared.header.Header.TheVariants as header
 use Rattle.ciborium_ll.specs.declared.decoder.Decoder.{Decoder}
 use Rattle.ciborium_ll.specs.Bytes.{AreBytes, greatest_offset}
-use Rattle.ciborium_ll.specs.Decoding.{IsAhead, left_of}
+use Rattle.ciborium_ll.specs.Decoding.{left_of}
 use Rattle.ciborium_ll.specs.Head.{break_byte}
-use Rattle.ciborium_ll.specs.Refusal.{Refusal, HeadRefuses, io, semantic, TooLarge}
+use Rattle.ciborium_ll.specs.Refusal.{Refusal, HeadRefuses, io, semantic, NotFolded, TooLarge}
 use Rattle.ciborium_value.specs.declared.kind.Kind.TheVariants as kinds
 use Rattle.ciborium_value.specs.declared.tree.Value.{Value}
 use Rattle.ciborium_value.specs.Meaning.{simple_meaning, bignum_meaning, is_bignum_tag}
@@ -21,7 +21,9 @@ use Rattle.ciborium.specs.declared.de.front.Part.{Part}
 use Rattle.ciborium.specs.declared.de.front.Part.TheVariants.{Whole, Opened, Ended}
 use Rattle.ciborium.specs.Around.{IsInside}
 use Rattle.ciborium.specs.Errors.{IsRefusedBy}
-use Rattle.ciborium.specs.Reads.{ReadsItem, IsAt, IsPulled, IsBreakAt}
+use Rattle.ciborium.specs.DeterministicRefusals.{DeterministicallyRefuses}
+use Rattle.ciborium.specs.Reads.{ReadsItem, IsAt, IsPulled, IsBreakAt, StandsAt}
+use Rattle.ciborium.specs.Spelling.{Spelling, any, deterministic, head_fault, IsUnwanted}
 
 -- how many places follow the first one, of so many in all (None: as many as come before a break)
 abbrev pub IsBehind : Option ℕ → Option ℕ → Type 0
@@ -50,12 +52,23 @@ IsSimpleRead n p (Ok v) = simple_meaning n ≡ Some (tree_of v)
 IsSimpleRead n p (Err e) = (simple_meaning n ≡ None) × (e ≡ Semantic (Some p) kinds.Simple)
 
 -- a container or tag that is open at zs begins at ys
-abbrev pub IsBegun : ℕ → List ℕ → ℕ → Open → List ℕ → ℕ → Type 0
-IsBegun l ys q o zs r = (m : ℕ) × (l ≡ suc m) × IsInside o m ys q zs r
+abbrev pub IsBegun : Spelling → ℕ → List ℕ → ℕ → Open → List ℕ → ℕ → Type 0
+IsBegun spelling l ys q o zs r = (m : ℕ) × (l ≡ suc m) × IsInside spelling o m ys q zs r
 
--- xs refuses so, and no break stands at its front
-abbrev pub RefusesNoBreak : {E : Type 0} → Option (List ℕ) → Error E → List ℕ → ℕ → ℕ → Type 0
-RefusesNoBreak left e xs p l = IsRefusedBy left e (λ r. Refuses xs p (Some l) r × ¬ IsBreakAt xs p)
+-- xs refuses so, and is no break that may end what is open
+abbrev pub RefusesPart : Spelling → List ℕ → ℕ → ℕ → Refusal → Type 0
+RefusesPart any xs p l = λ r. Refuses xs p (Some l) r × ¬ IsBreakAt xs p
+RefusesPart deterministic xs p l = DeterministicallyRefuses xs p l
+
+-- a head was pulled where xs was ahead from offset p on, and is accepted; for the deterministic spelling the decoder knows its size
+abbrev pub IsSized : {S : Type 0} → Spelling → Decoder S → ℕ → Type 0
+IsSized any d p = Unit {0}
+IsSized deterministic d p = d.window.count ≡ p + d.head_len
+
+pub record IsHeadAccepted {S : Type 0} (spelling : Spelling) (remaining : S → Option (List ℕ)) (d : Decoder S) (h : Header) (xs : List ℕ) (p : ℕ) : Type 0 where
+  pub pulled : IsPulled remaining d h xs p
+  pub right : head_fault spelling h d.head_len ≡ None
+  pub sized : IsSized spelling d p
 
 -- the answer of a call that pulls a head
 abbrev pub IsHeadRead : {S E : Type 0} → (S → Option (List ℕ)) → Decoder S → List ℕ → ℕ → Result Header (Error E) → Type 0
@@ -63,11 +76,14 @@ IsHeadRead remaining d xs p (Ok h) = IsPulled remaining d h xs p
 IsHeadRead remaining d xs p (Err e) = IsRefusedBy (left_of remaining d) e (HeadRefuses xs p)
 
 -- the answer of a call that reads a part
-abbrev pub IsPartRead : {S E : Type 0} → (S → Option (List ℕ)) → Decoder S → ℕ → List ℕ → ℕ → Result Part (Error E) → Type 0
-IsPartRead remaining d l xs p (Ok (Whole v)) = (zs : List ℕ) × (r : ℕ) × ReadsItem l xs p (tree_of v) zs r × IsAhead remaining d zs r
-IsPartRead remaining d l xs p (Ok (Opened f)) = (zs : List ℕ) × (r : ℕ) × IsBegun l xs p (opened f) zs r × IsAhead remaining d zs r
-IsPartRead remaining d l xs p (Ok Ended) = (zs : List ℕ) × (xs ≡ break_byte ∷ zs) × (p < greatest_offset) × IsAhead remaining d zs (p + 1)
-IsPartRead remaining d l xs p (Err e) = RefusesNoBreak (left_of remaining d) e xs p l
+abbrev pub IsPartRead : {S E : Type 0} → Spelling → (S → Option (List ℕ)) → Decoder S → ℕ → List ℕ → ℕ → Result Part (Error E) → Type 0
+IsPartRead spelling remaining d l xs p (Ok (Whole v)) =
+    (zs : List ℕ) × (r : ℕ) × ReadsItem spelling l xs p (tree_of v) zs r × StandsAt spelling remaining d zs r
+IsPartRead spelling remaining d l xs p (Ok (Opened f)) =
+    (zs : List ℕ) × (r : ℕ) × IsBegun spelling l xs p (opened f) zs r × StandsAt spelling remaining d zs r
+IsPartRead spelling remaining d l xs p (Ok Ended) =
+    (zs : List ℕ) × (xs ≡ break_byte ∷ zs) × (p < greatest_offset) × StandsAt spelling remaining d zs (p + 1)
+IsPartRead spelling remaining d l xs p (Err e) = IsRefusedBy (left_of remaining d) e (RefusesPart spelling xs p l)
 
 -- a level is left for what was opened
 abbrev pub HasRoom : Part → ℕ → Type 0
@@ -86,17 +102,20 @@ abbrev pub IsFolded : {E : Type 0} → ℕ → List ℕ → ℕ → Result Value
 IsFolded t b p (Ok v) = bignum_meaning t b ≡ Some (tree_of v)
 IsFolded t b p (Err e) = (e ≡ Memory) ⊎ ((bignum_meaning t b ≡ None) × (e ≡ Semantic (Some p) kinds.TooLarge))
 
--- the n bytes at the front of xs, over which a tag at offset p folds, are refused: they end early, or their number is too large
-abbrev pub FoldRefuses : ℕ → ℕ → ℕ → List ℕ → Refusal → Type 0
-FoldRefuses t n p xs e =
+-- the n bytes at the front of xs, over which a tag at offset p folds, are refused: they end early, have another spelling, or their
+-- number is too large
+abbrev pub BignumRefuses : Spelling → ℕ → ℕ → ℕ → List ℕ → Refusal → Type 0
+BignumRefuses spelling t n p xs e =
     ((length xs < n) × (e ≡ io))
-    ⊎ ((b : List ℕ) × (r : List ℕ) × (length b ≡ n) × AreBytes b × (bignum_meaning t b ≡ None) × (xs ≡ b ++ r) × (e ≡ semantic p TooLarge))
+    ⊎ ((b : List ℕ) × (r : List ℕ) × (length b ≡ n) × AreBytes b × (xs ≡ b ++ r) ×
+    ((IsUnwanted spelling b × (e ≡ semantic p NotFolded)) ⊎ ((bignum_meaning t b ≡ None) × (e ≡ semantic p TooLarge))))
 
 -- the answer of a call that reads the n bytes over which a tag at offset at folds
-abbrev pub IsFoldRead : {S E : Type 0} → (S → Option (List ℕ)) → Decoder S → ℕ → ℕ → ℕ → List ℕ → ℕ → Result Value (Error E) → Type 0
-IsFoldRead remaining d t n at xs p (Ok v) =
-    (b : List ℕ) × (r : List ℕ) × (length b ≡ n) × AreBytes b × (bignum_meaning t b ≡ Some (tree_of v)) × (xs ≡ b ++ r) × IsAt remaining d r (p + n)
-IsFoldRead remaining d t n at xs p (Err e) = p + n ≤ greatest_offset → IsRefusedBy (left_of remaining d) e (FoldRefuses t n at xs)
+abbrev pub IsBignumRead : {S E : Type 0} → Spelling → (S → Option (List ℕ)) → Decoder S → ℕ → ℕ → ℕ → List ℕ → ℕ → Result Value (Error E) → Type 0
+IsBignumRead spelling remaining d t n at xs p (Ok v) =
+    (b : List ℕ) × (r : List ℕ) × (length b ≡ n) × AreBytes b × ¬ IsUnwanted spelling b × (bignum_meaning t b ≡ Some (tree_of v)) × (xs ≡ b ++ r) ×
+    IsAt remaining d r (p + n)
+IsBignumRead spelling remaining d t n at xs p (Err e) = p + n ≤ greatest_offset → IsRefusedBy (left_of remaining d) e (BignumRefuses spelling t n at xs)
 
 -- whether a tag folds over what has this header behind it, and over how many bytes
 abbrev pub IsFolding : ℕ → Header → Option ℕ → Type 0

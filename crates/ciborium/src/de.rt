@@ -5,6 +5,7 @@ ghost use Rattle.ciborium_value.specs.Sources.{IsGranted, read_as};
 ghost use Rattle.ciborium.specs.Answers.{ReadsWhole, TakesBytesFrom};
 ghost use Rattle.ciborium.specs.ByteSources.{cause_of};
 ghost use Rattle.ciborium.specs.NextItems.{GoesOn, IsReadFrom, Otherwise, TellsEnd, behind_head};
+ghost use Rattle.ciborium.specs.Spelling.{any};
 ghost use Rattle.ciborium.specs.TypedReads.{RefusesTaken, TakesGiven};
 
 mod building;
@@ -13,6 +14,7 @@ mod deterministic;
 mod error;
 mod front;
 mod parts;
+mod spelling;
 mod tags;
 
 use byte_source::ByteSource;
@@ -60,7 +62,7 @@ fn read<T: Deserialize, R: Read>(
         (read_as T.reading.content result) }
     ensures memory { IfErr result (λ e. IsGranted (cause_of e) T.reading.takes_memory) }
     // Where reading is one call of `value`, whatever the bytes.
-    ensures value { IfSome T.reading.whole (λ tree. ReadsWhole (R.remaining reader.old) limit
+    ensures value { IfSome T.reading.whole (λ tree. ReadsWhole any (R.remaining reader.old) limit
         (R.remaining reader.new) (read_as (λ v. tree (T.reading.content v)) result)) }
 {
     let mut source = ByteSource {
@@ -103,7 +105,7 @@ pub fn from_reader<T: Deserialize, R: Read>(
         (read_as T.reading.content result) }
     ensures memory { IfErr result (λ e. IsGranted (cause_of e) T.reading.takes_memory) }
     // Where reading is one call of `value`, whatever the bytes.
-    ensures value { IfSome T.reading.whole (λ tree. ReadsWhole (R.remaining reader.old) 256
+    ensures value { IfSome T.reading.whole (λ tree. ReadsWhole any (R.remaining reader.old) 256
         (R.remaining reader.new) (read_as (λ v. tree (T.reading.content v)) result)) }
 {
     let mut scratch = [0u8; SCRATCH_SIZE];
@@ -125,7 +127,7 @@ pub fn from_reader_with_buffer<T: Deserialize, R: Read>(
         (read_as T.reading.content result) }
     ensures memory { IfErr result (λ e. IsGranted (cause_of e) T.reading.takes_memory) }
     // Where reading is one call of `value`, whatever the bytes.
-    ensures value { IfSome T.reading.whole (λ tree. ReadsWhole (R.remaining reader.old) 256
+    ensures value { IfSome T.reading.whole (λ tree. ReadsWhole any (R.remaining reader.old) 256
         (R.remaining reader.new) (read_as (λ v. tree (T.reading.content v)) result)) }
 {
     read(alloc, reader, scratch, RECURSION_LIMIT)
@@ -149,7 +151,7 @@ pub fn from_reader_with_recursion_limit<T: Deserialize, R: Read>(
         (read_as T.reading.content result) }
     ensures memory { IfErr result (λ e. IsGranted (cause_of e) T.reading.takes_memory) }
     // Where reading is one call of `value`, whatever the bytes.
-    ensures value { IfSome T.reading.whole (λ tree. ReadsWhole (R.remaining reader.old) limit
+    ensures value { IfSome T.reading.whole (λ tree. ReadsWhole any (R.remaining reader.old) limit
         (R.remaining reader.new) (read_as (λ v. tree (T.reading.content v)) result)) }
 {
     let mut scratch = [0u8; SCRATCH_SIZE];
@@ -177,7 +179,7 @@ pub fn from_reader_at<T: Deserialize, R: Read>(
         (read_as T.reading.content result) }
     ensures memory { IfErr result (λ e. IsGranted (cause_of e) T.reading.takes_memory) }
     // Where reading is one call of `value`, whatever the bytes.
-    ensures value { IfSome T.reading.whole (λ tree. TakesBytesFrom offset
+    ensures value { IfSome T.reading.whole (λ tree. TakesBytesFrom any offset
         (R.remaining reader.old) limit (R.remaining reader.new)
         (read_as (λ v. tree (T.reading.content v)) result)) }
 {
@@ -236,7 +238,7 @@ pub fn from_reader_next<T: Deserialize, R: Read>(
     ensures memory { IfErr result (λ e. IsGranted (cause_of e) T.reading.takes_memory) }
     // Where reading is one call of `value`, whatever the bytes.
     ensures value { Otherwise result (λ r. IfSome T.reading.whole (λ tree.
-        ReadsWhole (R.remaining reader.old) 256 (R.remaining reader.new)
+        ReadsWhole any (R.remaining reader.old) 256 (R.remaining reader.new)
         (read_as (λ v. tree (T.reading.content v)) r))) }
 {
     let mut scratch = [0u8; SCRATCH_SIZE];

@@ -2,38 +2,43 @@
 
 ghost use Rattle.std.specs.Prelude.{◌≡◌, ◌<◌, ◌≤◌, IfErr, IfOk, List, MatchOption, None};
 ghost use Rattle.std.specs.Prelude.{Ok, OnOk, Some, length, ℕ};
-ghost use Rattle.ciborium_ll.specs.Decoding.{HasSameReader, IsAhead, TakesBeforeAny, pushed_of};
+ghost use Rattle.ciborium_ll.specs.Decoding.{HasSameReader, TakesBeforeAny, pushed_of};
 ghost use Rattle.ciborium_value.specs.Stack.{opens_of};
-ghost use Rattle.ciborium.specs.Answers.{IsReading, IsTurned, IsValueRead};
-ghost use Rattle.ciborium.specs.Reads.{heads_left};
+ghost use Rattle.ciborium_value.specs.View.{tree_of};
+ghost use Rattle.ciborium.specs.Answers.{IsPlacedInOrder, IsReading, IsTurned, IsValueRead};
+ghost use Rattle.ciborium.specs.Reads.{StandsAt, heads_left};
 
-use crate::de::byte_source::Refusal;
-use crate::de::error::Error;
+use crate::de::error::{Error, Refusal};
 use crate::de::front::Part;
 use crate::de::parts::next;
+use crate::de::spelling::Rules;
 use ciborium_ll::Decoder;
 use ciborium_value::stack::Stack;
 use ciborium_value::{Kind, Value};
 use std::alloc::{AllocError, Global};
 use std::io::{self, Read};
 
-// Passes on what was placed, or that memory was refused.
+// Places a value whose last byte stands before offset `end`, and refuses a key out of order.
 #[inline(always)]
-pub(super) fn pass_on<E>(
-    placed: Result<Option<Value>, AllocError>,
-) -> Result<Option<Value>, Error<E>>
-    ensures ok { IfOk result (λ o. placed ≡ Ok o) }
-    ensures err { IfErr result (λ e. e ≡ Error.Memory) }
+fn place<S: Rules>(stack: &mut Stack, value: Value, end: usize) -> Result<Option<Value>, Refusal>
+    ensures { IsPlacedInOrder S.spelling (opens_of stack.old) (tree_of value) end
+        (opens_of stack.new) result }
 {
-    match placed {
-        Ok(value) => Ok(value),
-        Err(AllocError) => Err(Error::Memory),
+    let placed = match stack.place(value) {
+        Ok(placed) => placed,
+        Err(AllocError) => return Err(Error::Memory),
+    };
+    if placed.is_none() {
+        if let Some(offset) = S::find_disorder(stack, end) {
+            return Err(Error::Semantic(Some(offset), Kind::KeyOrder));
+        }
     }
+    Ok(placed)
 }
 
 // Reads one part, and answers the value where it is the last.
 #[inline(always)]
-fn turn<R: Read>(
+fn turn<S: Rules, R: Read>(
     alloc: Global,
     decoder: &mut Decoder<'_, R>,
     scratch: &mut [u8],
@@ -49,25 +54,26 @@ fn turn<R: Read>(
     ensures depth { IfOk result (λ o.
         MatchOption o (length (opens_of stack.new) ≤ levels) (λ _. Unit {0})) }
     ensures turn { TakesBeforeAny R.remaining decoder.old decoder.new
-        (λ d e. (xs : List ℕ) (p : ℕ) → IsReading Some d (opens_of stack.old) levels xs p →
-        IsTurned Some e (opens_of stack.new) levels xs p result) }
+        (λ d e. (xs : List ℕ) (p : ℕ) →
+        IsReading S.spelling Some d (opens_of stack.old) levels xs p →
+        IsTurned S.spelling Some e (opens_of stack.new) levels xs p result) }
 {
     let offset = decoder.offset();
-    match next(alloc, decoder, scratch, levels - stack.depth(), failure)? {
-        Part::Whole(value) => pass_on(stack.place(value)),
+    match next::<S, R>(alloc, decoder, scratch, levels - stack.depth(), failure)? {
+        Part::Whole(value) => place::<S>(stack, value, decoder.offset()),
         Part::Opened(opening) => match stack.open(opening) {
             Ok(()) => Ok(None),
             Err(_) => Err(Error::Memory),
         },
         Part::Ended => match stack.close() {
-            Some(value) => pass_on(stack.place(value)),
+            Some(value) => place::<S>(stack, value, decoder.offset()),
             None => Err(Error::Semantic(Some(offset), Kind::Break)),
         },
     }
 }
 
-/// Reads the value ahead, within this many levels. A reader's error is kept aside.
-pub(crate) fn read_value<R: Read>(
+/// Reads the value ahead in this spelling, within this many levels. A reader's error is kept aside.
+pub(crate) fn read_value<S: Rules, R: Read>(
     alloc: Global,
     decoder: &mut Decoder<'_, R>,
     scratch: &mut [u8],
@@ -78,12 +84,12 @@ pub(crate) fn read_value<R: Read>(
     ensures rests { OnOk result (pushed_of decoder.new ≡ None) }
     ensures fewer { OnOk result (heads_left decoder.new < heads_left decoder.old) }
     ensures value { TakesBeforeAny R.remaining decoder.old decoder.new
-        (λ d e. (xs : List ℕ) (p : ℕ) → IsAhead Some d xs p →
-        IsValueRead Some e levels xs p result) }
+        (λ d e. (xs : List ℕ) (p : ℕ) → StandsAt S.spelling Some d xs p →
+        IsValueRead S.spelling Some e levels xs p result) }
 {
     let mut stack = Stack::new(alloc);
     'turns: loop {
-        if let Some(value) = turn(alloc, decoder, scratch, &mut stack, levels, failure)? {
+        if let Some(value) = turn::<S, R>(alloc, decoder, scratch, &mut stack, levels, failure)? {
             return Ok(value);
         }
     }

@@ -3,7 +3,6 @@
 ghost use Rattle.std.specs.Prelude.{◌≡◌, None};
 ghost use Rattle.ciborium_ll.specs.Decoding.{pushed_of};
 
-use crate::de::error::Error;
 use ciborium_ll::{Decoder, Header};
 use std::{io, vec};
 
@@ -19,10 +18,6 @@ mod scalars;
 mod source;
 mod strings;
 mod values;
-
-// Why a call was refused. The reader's error is kept aside in the source: it is large, and a result
-// that held it would be moved at every level.
-pub(crate) type Refusal = Error<()>;
 
 // Reads each head and payload as it comes. A head that was looked at and not taken is pending, with
 // its offset; so is one that stands for what is not in the bytes, as a byte of a byte string that

@@ -1,10 +1,11 @@
 //! Why a read is refused.
 
 ghost use Rattle.std.specs.Prelude.{◌≡◌};
-ghost use Rattle.ciborium.specs.Errors.{from_ll};
+ghost use Rattle.ciborium.specs.Errors.{from_ll, refusal_of};
 ghost use Rattle.ciborium.specs.declared.de.error.Error.TheVariants.{Io};
 
 use ciborium_value::Kind;
+use std::io::{self, ErrorKind};
 
 /// Why a read is refused. Offsets count bytes, from where the call began to read.
 #[derive(Debug, Drop)]
@@ -50,5 +51,27 @@ impl<T> From<ciborium_ll::Error<T>> for Error<T> {
             ciborium_ll::Error::TooLong => Error::TooLong,
             ciborium_ll::Error::Memory => Error::Memory,
         }
+    }
+}
+
+/// Why a call was refused, without the reader's error, which is kept aside: it is large, and a result
+/// that held it would be moved at every level.
+pub(crate) type Refusal = Error<()>;
+
+/// Puts back the error that was kept aside. There is one wherever a call was refused as `Io`.
+#[inline(never)]
+pub(crate) fn put_back(refusal: Refusal, failure: Option<io::Error>) -> Error<io::Error>
+    ensures { refusal ≡ refusal_of result }
+{
+    match refusal {
+        Error::Io(()) => match failure {
+            Some(e) => Error::Io(e),
+            None => Error::Io(io::Error::from(ErrorKind::Other)),
+        },
+        Error::Syntax(offset) => Error::Syntax(offset),
+        Error::Semantic(offset, kind) => Error::Semantic(offset, kind),
+        Error::RecursionLimitExceeded => Error::RecursionLimitExceeded,
+        Error::Memory => Error::Memory,
+        Error::TooLong => Error::TooLong,
     }
 }

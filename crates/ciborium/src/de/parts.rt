@@ -2,17 +2,17 @@
 //! or a break.
 
 ghost use Rattle.std.specs.Prelude.{◌≡◌, ◌+◌, ◌<◌, ◌≤◌, IfOk, List, None, OnOk, Some, ℕ};
-ghost use Rattle.ciborium_ll.specs.Decoding.{HasSameReader, IsAhead, TakesBeforeAny};
+ghost use Rattle.ciborium_ll.specs.Decoding.{HasSameReader, TakesBeforeAny};
 ghost use Rattle.ciborium_ll.specs.Decoding.{last_of, pushed_of};
 ghost use Rattle.ciborium.specs.Parts.{HasRoom, IsArrayBegun, IsMapBegun, IsPartRead};
 ghost use Rattle.ciborium.specs.Parts.{IsAtRest, IsSimpleRead};
-ghost use Rattle.ciborium.specs.Reads.{IsAt, heads_left};
+ghost use Rattle.ciborium.specs.Reads.{IsAt, StandsAt, heads_left};
 ghost use Rattle.ciborium.specs.Strings.{IsStringRead};
 ghost use Rattle.ciborium_ll.specs.StringRefusal.{of_bytes, of_text};
 
-use crate::de::byte_source::Refusal;
-use crate::de::error::Error;
+use crate::de::error::{Error, Refusal};
 use crate::de::front::{Part, pull};
+use crate::de::spelling::Rules;
 use crate::de::tags::read_tag;
 use ciborium_ll::{Decoder, Header, Keep, simple};
 use ciborium_value::stack::Opening;
@@ -117,7 +117,7 @@ pub(super) fn read_text<R: Read, K: Keep>(
 
 /// Reads the next part, with this many levels left.
 #[inline(always)]
-pub(crate) fn next<R: Read>(
+pub(crate) fn next<S: Rules, R: Read>(
     alloc: Global,
     decoder: &mut Decoder<'_, R>,
     scratch: &mut [u8],
@@ -129,11 +129,15 @@ pub(crate) fn next<R: Read>(
     ensures rests { IfOk result (λ part. IsAtRest part (pushed_of decoder.new)) }
     ensures room { IfOk result (λ part. HasRoom part levels) }
     ensures part { TakesBeforeAny R.remaining decoder.old decoder.new
-        (λ d e. (xs : List ℕ) (p : ℕ) → IsAhead Some d xs p →
-        IsPartRead Some e levels xs p result) }
+        (λ d e. (xs : List ℕ) (p : ℕ) → StandsAt S.spelling Some d xs p →
+        IsPartRead S.spelling Some e levels xs p result) }
 {
     let offset = decoder.offset();
-    match pull(decoder, failure)? {
+    let header = pull(decoder, failure)?;
+    if let Some(kind) = S::find_head_fault(header, decoder.head_len()) {
+        return Err(Error::Semantic(Some(offset), kind));
+    }
+    match header {
         Header::Positive(n) => Ok(Part::Whole(Value::Integer(Integer::from(n)))),
         Header::Negative(n) => Ok(Part::Whole(Value::Integer(Integer::from_head(true, n)))),
         Header::Bytes(len) => {
@@ -146,7 +150,7 @@ pub(crate) fn next<R: Read>(
         }
         Header::Array(count) => begin_array(alloc, count, levels),
         Header::Map(count) => begin_map(alloc, count, levels),
-        Header::Tag(tag) => read_tag(alloc, decoder, tag, offset, levels, failure),
+        Header::Tag(tag) => read_tag::<S, R>(alloc, decoder, tag, offset, levels, failure),
         Header::Simple(n) => Ok(Part::Whole(read_simple(n, offset)?)),
         Header::Float(_) => Err(Error::Semantic(Some(offset), Kind::Float)),
         Header::Break => Ok(Part::Ended),

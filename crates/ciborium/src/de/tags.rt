@@ -4,13 +4,13 @@ ghost use Rattle.std.specs.Prelude.{◌≡◌, ◌≤◌, IfOk, List, None, OnOk
 ghost use Rattle.ciborium_ll.specs.Decoding.{HasSameReader, TakesBeforeAny, pushed_of};
 ghost use Rattle.ciborium_ll.specs.declared.header.Header.TheVariants as header;
 ghost use Rattle.ciborium_value.specs.Meaning.{is_bignum_tag};
-ghost use Rattle.ciborium.specs.Parts.{HasRoom, IsAtRest, IsFoldRead, IsFolded, IsFolding};
-ghost use Rattle.ciborium.specs.Parts.{IsPartRead};
-ghost use Rattle.ciborium.specs.Reads.{IsAt, IsPulled, heads_left};
+ghost use Rattle.ciborium.specs.Parts.{HasRoom, IsAtRest, IsBignumRead, IsFolded, IsFolding};
+ghost use Rattle.ciborium.specs.Parts.{IsHeadAccepted, IsPartRead};
+ghost use Rattle.ciborium.specs.Reads.{IsAt, heads_left};
 
-use crate::de::byte_source::Refusal;
-use crate::de::error::Error;
+use crate::de::error::{Error, Refusal};
 use crate::de::front::{Part, pull};
+use crate::de::spelling::Rules;
 use ciborium_ll::tag::{BIGNEG, BIGPOS};
 use ciborium_ll::{Decoder, Header};
 use ciborium_value::bignum::{self, FoldError, GREATEST_FOLDED_SIZE};
@@ -20,7 +20,7 @@ use std::alloc::Global;
 use std::io::{self, Read};
 
 // The length of the byte string over which the tag folds (RFC 8949, section 3.4.3).
-pub(super) fn find_folding(tag: u64, header: Header) -> Option<usize>
+fn find_folding(tag: u64, header: Header) -> Option<usize>
     ensures { IsFolding tag header result }
 {
     match header {
@@ -36,7 +36,7 @@ pub(super) fn find_folding(tag: u64, header: Header) -> Option<usize>
 }
 
 // What a tag at this offset means that folds over these bytes.
-pub(super) fn fold<E>(
+fn fold<E>(
     alloc: Global,
     tag: u64,
     payload: &[u8],
@@ -54,7 +54,7 @@ pub(super) fn fold<E>(
 }
 
 // Reads the n bytes over which a tag at this offset folds, and folds it.
-fn read_folded<R: Read>(
+fn read_bignum<S: Rules, R: Read>(
     alloc: Global,
     decoder: &mut Decoder<'_, R>,
     tag: u64,
@@ -68,19 +68,22 @@ fn read_folded<R: Read>(
     ensures same_reader { HasSameReader decoder.old decoder.new }
     ensures pushed { pushed_of decoder.new ≡ None }
     ensures fewer { OnOk result (heads_left decoder.new ≤ heads_left decoder.old) }
-    ensures fold { TakesBeforeAny R.remaining decoder.old decoder.new
+    ensures bignum { TakesBeforeAny R.remaining decoder.old decoder.new
         (λ d e. (xs : List ℕ) (p : ℕ) → IsAt Some d xs p →
-        IsFoldRead Some e tag n offset xs p result) }
+        IsBignumRead S.spelling Some e tag n offset xs p result) }
 {
     let mut room = [0u8; GREATEST_FOLDED_SIZE];
     let payload = &mut room[..n];
     decoder.read_exact_keeping(payload, failure)?;
+    if S::refuses_bignum(payload) {
+        return Err(Error::Semantic(Some(offset), Kind::NotFolded));
+    }
     fold(alloc, tag, payload, offset)
 }
 
 /// Reads what stands behind the head of a tag, which was pulled: what it folds over, or the next
 /// head, which is given back.
-pub(crate) fn read_tag<R: Read>(
+pub(crate) fn read_tag<S: Rules, R: Read>(
     alloc: Global,
     decoder: &mut Decoder<'_, R>,
     tag: u64,
@@ -94,13 +97,17 @@ pub(crate) fn read_tag<R: Read>(
     ensures rests { IfOk result (λ part. IsAtRest part (pushed_of decoder.new)) }
     ensures room { IfOk result (λ part. HasRoom part levels) }
     ensures part { TakesBeforeAny R.remaining decoder.old decoder.new
-        (λ d e. (xs : List ℕ) (p : ℕ) → IsPulled Some d (header.Tag tag) xs p → offset ≡ p →
-        IsPartRead Some e levels xs p result) }
+        (λ d e. (xs : List ℕ) (p : ℕ) →
+        IsHeadAccepted S.spelling Some d (header.Tag tag) xs p → offset ≡ p →
+        IsPartRead S.spelling Some e levels xs p result) }
 {
     let at = decoder.offset();
     let next = pull(decoder, failure)?;
     if let Some(n) = find_folding(tag, next) {
-        let value = read_folded(alloc, decoder, tag, n, offset, failure)?;
+        if let Some(kind) = S::find_head_fault(next, decoder.head_len()) {
+            return Err(Error::Semantic(Some(at), kind));
+        }
+        let value = read_bignum::<S, R>(alloc, decoder, tag, n, offset, failure)?;
         return Ok(Part::Whole(value));
     }
     if levels == 0 {

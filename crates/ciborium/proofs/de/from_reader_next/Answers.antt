@@ -4,6 +4,7 @@ use Rattle.std.proofs.lemmas.Result.{err_from_is_err_and}
 use Rattle.std.specs.declared.io.Error.{Error}
 use Rattle.ciborium_ll.proofs.HeldBytes.{same-name, begun-left}
 use Rattle.ciborium.specs.Errors.{from_ll}
+use Rattle.ciborium.specs.Spelling.{any}
 use Rattle.ciborium.proofs.KnownReaders.{whole-of}
 use Rattle.ciborium.proofs.NextReaders.{first-denied, first-io, first-taken, next-ok, next-refused, next-value, some-all, tells-end}
 use Rattle.ciborium.proofs.de.from_reader_next.Goals as goal
@@ -21,7 +22,7 @@ returns-in_err-first-clause-refused g c =
 pub returns-in_err-first-clause-value : goal.returns-in_err-first-clause-value
 returns-in_err-first-clause-value g c =
     let exit = err_from_is_err_and c.from_residual.result c.from_residual.ensures.1 in
-    rw (exit.1, exit.2) (some-all g.T.Deserialize.reading.whole (λ tree. whole-of {E = Error} 256 (g.R.Read.remaining c.args.reader.now) _ (Err (from_ll c.in_err-first.field-0.0))
+    rw (exit.1, exit.2) (some-all g.T.Deserialize.reading.whole (λ tree. whole-of {E = Error} any 256 (g.R.Read.remaining c.args.reader.now) _ (Err (from_ll c.in_err-first.field-0.0))
     (first-taken Error g.R.Read.remaining c.new.result c.pull_first.new.self c.args.reader.now c.new.ensures.begins c.pull_first.ensures.same_reader c.in_err-first.field-0.0 c.in_err-first.ensures.taken 256 _ (let name = sym c.new.ensures.same_reader ∙ sym (same-name c.new.result c.pull_first.new.self c.pull_first.ensures.same_reader) in search rules))))
 
 pub returns-clause-end : goal.returns-clause-end

@@ -4,6 +4,7 @@ use Rattle.std.specs.declared.io.Error.{Error}
 use Rattle.ciborium_ll.proofs.HeldBytes.{begun-left, nothing-allowed}
 use Rattle.ciborium_value.specs.Sources.{read_as}
 use Rattle.ciborium.proofs.HandedReaders.{handed-denied, handed-given, handed-whole, some-map}
+use Rattle.ciborium.specs.Spelling.{any}
 use Rattle.ciborium.proofs.KnownReaders.{whole-of}
 use Rattle.ciborium.proofs.de.read.Goals as goal
 
@@ -20,6 +21,6 @@ returns-clause-refused g c b e =
 pub returns-clause-value : goal.returns-clause-value
 returns-clause-value g c =
     some-map g.T.Deserialize.reading.whole c.read_from.ensures.whole
-    (λ tree reads. whole-of {E = Error} c.args.limit (g.R.Read.remaining c.args.reader.now) _ (read_as (λ v. tree (g.T.Deserialize.reading.content v)) c.read_from.result)
+    (λ tree reads. whole-of {E = Error} any c.args.limit (g.R.Read.remaining c.args.reader.now) _ (read_as (λ v. tree (g.T.Deserialize.reading.content v)) c.read_from.result)
     (handed-whole Error g.R.Read.remaining (record { decoder = c.new.result; pending = None; levels = c.args.limit; scratch = c.args.scratch; failure = None; unpushed = c.new.ensures.begins.pushed }) c.read_from.new.source c.args.reader.now _
     (read_as (λ v. tree (g.T.Deserialize.reading.content v)) c.read_from.result) c.new.ensures.begins refl (λ same. let name = sym c.new.ensures.same_reader ∙ same in search rules) reads))

@@ -10,8 +10,8 @@ ghost use Rattle.ciborium_value.specs.Taken.{taken_bytes};
 ghost use Rattle.ciborium.specs.ByteSources.{IsUnread, Owes, ReadsRest, RefusesRest, StandsBefore};
 ghost use Rattle.ciborium.specs.ByteSources.{cause_of, seq_left, weight_left};
 
-use crate::de::byte_source::{ByteSeq, ByteSource, Refusal};
-use crate::de::error::Error;
+use crate::de::byte_source::{ByteSeq, ByteSource};
+use crate::de::error::{Error, Refusal};
 use ciborium_ll::Header;
 use ciborium_value::Kind;
 use std::alloc::Global;

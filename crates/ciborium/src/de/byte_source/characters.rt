@@ -8,8 +8,8 @@ ghost use Rattle.ciborium_value.specs.Taken.{gives, lone_character, taken_charac
 ghost use Rattle.ciborium.specs.ByteSources.{IsUnread, cause_of, weight_left};
 ghost use Rattle.ciborium.specs.ItemReads.{Denies, Reads};
 
-use crate::de::byte_source::{ByteSource, Refusal};
-use crate::de::error::Error;
+use crate::de::byte_source::ByteSource;
+use crate::de::error::{Error, Refusal};
 use ciborium_ll::Header;
 use ciborium_value::Kind;
 use std::io::Read;

@@ -14,8 +14,8 @@ ghost use Rattle.ciborium.specs.ByteSources.{parts_left, seq_left, weight_left};
 ghost use Rattle.ciborium.specs.ItemReads.{Denies};
 ghost use Rattle.ciborium.specs.StringContents.{DeniesContent, TakesContent};
 
-use crate::de::byte_source::{ByteSeq, ByteSource, Left, Refusal};
-use crate::de::error::Error;
+use crate::de::byte_source::{ByteSeq, ByteSource, Left};
+use crate::de::error::{Error, Refusal};
 use ciborium_ll::Header;
 use ciborium_value::Kind;
 use std::alloc::Global;

@@ -8,8 +8,8 @@ ghost use Rattle.ciborium.specs.ByteSources.{weight_left};
 ghost use Rattle.ciborium.specs.ItemReads.{DeniesHead, DeniesItem, TakesHead};
 ghost use Rattle.ciborium.specs.Skips.{IsBare, IsEndTag, TakesBare};
 
-use crate::de::byte_source::{ByteSource, Refusal};
-use crate::de::error::Error;
+use crate::de::byte_source::ByteSource;
+use crate::de::error::{Error, Refusal};
 use ciborium_ll::Header;
 use ciborium_ll::tag::{BIGNEG, BIGPOS};
 use ciborium_value::Kind;

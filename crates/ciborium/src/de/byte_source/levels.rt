@@ -10,8 +10,8 @@ ghost use Rattle.ciborium.specs.ByteSources.{cause_of, weight_left};
 ghost use Rattle.ciborium.specs.ItemReads.{Denies};
 ghost use Rattle.ciborium.specs.Skips.{OpensLevel};
 
-use crate::de::byte_source::{ByteLevel, ByteSource, Refusal};
-use crate::de::error::Error;
+use crate::de::byte_source::{ByteLevel, ByteSource};
+use crate::de::error::{Error, Refusal};
 use ciborium_ll::{Header, simple};
 use ciborium_value::Kind;
 use std::alloc::Global;

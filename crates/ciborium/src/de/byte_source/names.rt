@@ -6,8 +6,8 @@ ghost use Rattle.ciborium_value.specs.Taken.{taken_name};
 ghost use Rattle.ciborium.specs.ByteSources.{IsUnread, cause_of, weight_left};
 ghost use Rattle.ciborium.specs.ItemReads.{Denies, Reads};
 
-use crate::de::byte_source::{ByteSource, Refusal};
-use crate::de::error::Error;
+use crate::de::byte_source::ByteSource;
+use crate::de::error::{Error, Refusal};
 use ciborium_ll::Header;
 use ciborium_value::Kind;
 use std::alloc::Global;

@@ -12,8 +12,8 @@ ghost use Rattle.ciborium.specs.ItemReads.{Denies, Reads};
 ghost use Rattle.ciborium.specs.StringContents.{DeniesContent, TakesDigits, TakesNumber};
 ghost use Rattle.ciborium.specs.StringContents.{one_digit_more};
 
-use crate::de::byte_source::{ByteSource, Refusal};
-use crate::de::error::Error;
+use crate::de::byte_source::ByteSource;
+use crate::de::error::{Error, Refusal};
 use ciborium_ll::Header;
 use ciborium_ll::tag::BIGNEG;
 use ciborium_value::Kind;

@@ -7,8 +7,8 @@ ghost use Rattle.ciborium_value.specs.Taken.{is_null_simple, taken_boolean, take
 ghost use Rattle.ciborium.specs.ByteSources.{IsUnread, StandsBefore, cause_of, weight_left};
 ghost use Rattle.ciborium.specs.ItemReads.{Denies, Reads};
 
-use crate::de::byte_source::{ByteSource, Refusal};
-use crate::de::error::Error;
+use crate::de::byte_source::ByteSource;
+use crate::de::error::{Error, Refusal};
 use ciborium_ll::{Header, simple};
 use ciborium_value::Kind;
 use std::io::Read;

@@ -4,8 +4,8 @@ ghost use Rattle.ciborium.specs.ByteSources.{IsUnread, LevelStands, Owes, ReadsV
 ghost use Rattle.ciborium.specs.ByteSources.{StandsBefore, cause_of, seq_left, weight_left};
 
 use crate::de::byte_source::scalars::is_null;
-use crate::de::byte_source::{ByteLevel, ByteSeq, ByteSource, Refusal};
-use crate::de::error::Error;
+use crate::de::byte_source::{ByteLevel, ByteSeq, ByteSource};
+use crate::de::error::{Error, Refusal};
 use ciborium_ll::Header;
 use ciborium_value::{Kind, Source, Value};
 use std::alloc::Global;

@@ -10,8 +10,8 @@ ghost use Rattle.ciborium.specs.ByteSources.{IsUnread, bytes_weight, cause_of, w
 ghost use Rattle.ciborium.specs.ItemReads.{Denies, Reads};
 ghost use Rattle.ciborium.specs.StringContents.{DeniesContent, TakesContent, TakesJust};
 
-use crate::de::byte_source::{ByteSource, Refusal};
-use crate::de::error::Error;
+use crate::de::byte_source::ByteSource;
+use crate::de::error::{Error, Refusal};
 use ciborium_ll::Header;
 use ciborium_value::Kind;
 use std::alloc::Global;

@@ -11,10 +11,13 @@ ghost use Rattle.ciborium.specs.ByteSources.{IsUnread, ReadsValue, StandsFor, ca
 ghost use Rattle.ciborium.specs.ByteSources.{is_portable, weight_left};
 ghost use Rattle.ciborium.specs.ItemReads.{Denies, Reads};
 ghost use Rattle.ciborium.specs.Reads.{heads_left};
+ghost use Rattle.ciborium.specs.Spelling.{any};
 
 use crate::de::building::read_value;
 use crate::de::byte_source::scalars::is_null;
-use crate::de::byte_source::{ByteSource, Refusal};
+use crate::de::byte_source::ByteSource;
+use crate::de::error::Refusal;
+use crate::de::spelling::AnySpelling;
 use ciborium_ll::{Decoder, Header};
 use ciborium_value::{Integer, Value};
 use std::alloc::Global;
@@ -50,9 +53,9 @@ fn read_unpushed<R: Read>(
     ensures fewer { OnOk result (heads_left decoder.new < heads_left decoder.old) }
     ensures value { TakesBeforeAny R.remaining decoder.old decoder.new
         (λ d e. (xs : List ℕ) (p : ℕ) → IsAhead Some d xs p →
-        IsValueRead Some e levels xs p result) }
+        IsValueRead any Some e levels xs p result) }
 {
-    let value = read_value(alloc, decoder, scratch, levels, failure);
+    let value = read_value::<AnySpelling, R>(alloc, decoder, scratch, levels, failure);
     if value.is_err() {
         decoder.forget();
     }
