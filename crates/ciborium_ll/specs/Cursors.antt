@@ -5,7 +5,7 @@ use Rattle.ciborium_ll.specs.declared.cursor.Cursor.{Cursor}
 use Rattle.ciborium_ll.specs.declared.header.Error.{Error}
 use Rattle.ciborium_ll.specs.FirstHeads.{IsIo}
 use Rattle.ciborium_ll.specs.Reading.{Advances}
-use Rattle.ciborium_ll.specs.Windows.{unread}
+use Rattle.ciborium_ll.specs.Windows.{IsSpentBy, held, unread}
 
 -- the same reader is read, no further ahead than before
 pub record IsSameCursor {S K : Type 0} (old new : Cursor S K) : Type 0 where
@@ -21,6 +21,14 @@ count_at c = c.window.now.count
 -- what is unread
 abbrev pub left_at : {S K : Type 0} → (S → Option (List ℕ)) → Cursor S K → Option (List ℕ)
 left_at remaining c = unread (remaining c.reader.now) c.window.now
+
+-- nothing is held
+abbrev pub HoldsNothing : {S K : Type 0} → Cursor S K → Type 0
+HoldsNothing c = held c.window.now ≡ []
+
+-- where the reader failed or ended, nothing is held
+abbrev pub IsSpentAt : {S K E : Type 0} → Cursor S K → Error E → Type 0
+IsSpentAt c e = IsSpentBy c.window.now e
 
 -- some bytes are taken and counted, and P holds of them
 abbrev pub Moves : {S K : Type 0} → (S → Option (List ℕ)) → Cursor S K → Cursor S K → (List ℕ → Type 0) → Type 0

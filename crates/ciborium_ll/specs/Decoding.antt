@@ -5,7 +5,7 @@ use Rattle.ciborium_ll.specs.declared.header.Header.{Header}
 use Rattle.ciborium_ll.specs.declared.header.Error.{Error}
 use Rattle.ciborium_ll.specs.declared.decoder.Decoder.{Decoder}
 use Rattle.ciborium_ll.specs.declared.window.Window.{Window}
-use Rattle.ciborium_ll.specs.Windows.{AllowsNothing, unread}
+use Rattle.ciborium_ll.specs.Windows.{AllowsNothing, IsSpentBy, unread}
 use Rattle.ciborium_ll.specs.Header.{SpellsHeader}
 use Rattle.ciborium_ll.specs.Reading.{Advances, IsRefusedBy}
 use Rattle.ciborium_ll.specs.Refusal.{HeadRefuses, IsUsable}
@@ -45,9 +45,17 @@ source_of d = (d.reader.ghost_name, d.window.reach)
 abbrev pub HasSameReader : {S : Type 0} → Decoder S → Decoder S → Type 0
 HasSameReader old new = source_of new ≡ source_of old
 
+-- the offset up to which bytes may be read ahead
+abbrev pub reach_of : {S : Type 0} → Decoder S → ℕ
+reach_of d = d.window.reach
+
 -- how many bytes may be read ahead and not be taken: no more are held
 abbrev pub allowed_of : {S : Type 0} → Decoder S → ℕ
 allowed_of d = d.window.reach - d.window.count
+
+-- where the reader failed or ended, nothing is held
+abbrev pub IsSpent : {S E : Type 0} → Decoder S → Error E → Type 0
+IsSpent d e = IsSpentBy d.window e
 
 -- nothing has been pulled since the reader was lent, at this offset
 pub record HasBegun {S : Type 0} (d : Decoder S) (lent : S) (offset : ℕ) : Type 0 where

@@ -3,6 +3,8 @@ use Rattle.std.specs.Prelude.{◌≡◌, ℕ, ◌+◌, ◌-◌, List, [], ◌∷
 use Rattle.std.specs.Io.KnownBytes.{prepend_known}
 use Rattle.ciborium_ll.specs.Bytes.{greatest_offset}
 use Rattle.ciborium_ll.specs.Reading.{Advances}
+use Rattle.ciborium_ll.specs.declared.header.Error.{Error}
+use Rattle.ciborium_ll.specs.declared.header.Error.TheVariants.{Io, Syntax, TooLong, Memory}
 use Rattle.ciborium_ll.specs.declared.lookahead.Lookahead.{Lookahead}
 use Rattle.ciborium_ll.specs.declared.window.Window.{Window}
 
@@ -26,6 +28,13 @@ unread_at o a n = prepend_known (held_at a n) o
 -- what is unread, if the reader's bytes are known: what is held, and then what the reader has left
 abbrev pub unread : Option (List ℕ) → Window → Option (List ℕ)
 unread o w = unread_at o w.lookahead w.count
+
+-- where the reader failed or ended, nothing is held
+abbrev pub IsSpentBy : {E : Type 0} → Window → Error E → Type 0
+IsSpentBy w (Io e) = held w ≡ []
+IsSpentBy w (Syntax p) = Unit {0}
+IsSpentBy w TooLong = Unit {0}
+IsSpentBy w Memory = Unit {0}
 
 -- nothing may be read ahead
 abbrev pub AllowsNothing : Window → Type 0

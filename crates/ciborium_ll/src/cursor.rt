@@ -14,8 +14,9 @@ pub(crate) struct Cursor<'c, R, K> {
 }
 
 impl<'c, R: Read, K: Keep> Cursor<'c, R, K> {
-    ghost use Rattle.std.specs.Prelude.{◌≡◌, ◌+◌, ◌<◌, ◌≤◌, length};
-    ghost use Rattle.ciborium_ll.specs.Cursors.{GivesSome, IsSameCursor, Moves, count_at};
+    ghost use Rattle.std.specs.Prelude.{◌≡◌, ◌+◌, ◌<◌, ◌≤◌, IfErr, IfOk, length};
+    ghost use Rattle.ciborium_ll.specs.Cursors.{GivesSome, HoldsNothing, IsSameCursor, IsSpentAt};
+    ghost use Rattle.ciborium_ll.specs.Cursors.{Moves, count_at};
     ghost use Rattle.ciborium_ll.specs.Reading.{IsFillTaken};
 
     // Reads into the buffer, where nothing is held.
@@ -26,6 +27,7 @@ impl<'c, R: Read, K: Keep> Cursor<'c, R, K> {
         requires room { count_at self.old + length buffer.old ≤ usize.MAX }
         ensures same { IsSameCursor self.old self.new }
         ensures some { GivesSome R.remaining self.old self.new buffer.new result }
+        ensures spent { HoldsNothing self.new }
     {
         match self.reader.read(buffer) {
             Ok(n) => {
@@ -45,6 +47,8 @@ impl<'c, R: Read, K: Keep> Cursor<'c, R, K> {
         requires room { count_at self.old + length buffer.old ≤ usize.MAX }
         ensures same { IsSameCursor self.old self.new }
         ensures some { GivesSome R.remaining self.old self.new buffer.new result }
+        ensures spent { IfErr result (λ e. IsSpentAt self.new e) }
+        ensures spent_at_end { IfOk result (λ n. n ≡ 0 → HoldsNothing self.new) }
     {
         if !self.window.is_used_up() {
             return Ok(self.window.take_into(buffer));
@@ -67,6 +71,7 @@ impl<'c, R: Read, K: Keep> Cursor<'c, R, K> {
         ensures same { IsSameCursor self.old self.new }
         ensures taken { Moves R.remaining self.old self.new
             (λ b. IsFillTaken b (count_at self.old) buffer.new result) }
+        ensures spent { IfErr result (λ e. IsSpentAt self.new e) }
     {
         let mut filled = 0;
         while filled < buffer.len() {
@@ -86,6 +91,7 @@ impl<'c, R: Read, K: Keep> Cursor<'c, R, K> {
         ensures same { IsSameCursor self.old self.new }
         ensures taken { Moves R.remaining self.old self.new
             (λ b. IsFillTaken b (count_at self.old) buffer.new result) }
+        ensures spent { IfErr result (λ e. IsSpentAt self.new e) }
     {
         if usize::MAX - self.window.count < buffer.len() {
             return Err(Error::TooLong);

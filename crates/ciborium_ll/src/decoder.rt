@@ -24,14 +24,14 @@ pub struct Decoder<'a, R> {
 }
 
 impl<'a, R: Read> Decoder<'a, R> {
-    ghost use Rattle.std.specs.Prelude.{[], ◌≡◌, ◌-◌, ◌<◌, ◌∷◌, IfErr, IfNone, IfOk, IfSome, List};
-    ghost use Rattle.std.specs.Prelude.{None, Ok, Some, max, min, string_bytes, ℕ};
+    ghost use Rattle.std.specs.Prelude.{[], ◌≡◌, ◌+◌, ◌-◌, ◌<◌, ◌≤◌, ◌∷◌, IfErr, IfNone, IfOk};
+    ghost use Rattle.std.specs.Prelude.{IfSome, List, None, Ok, Some, max, min, string_bytes, ℕ};
     ghost use Rattle.std.specs.Io.KnownBytes.{IsAtEnd};
     ghost use Rattle.ciborium_ll.specs.Bytes.{greatest_offset};
-    ghost use Rattle.ciborium_ll.specs.Decoding.{HasBegun, HasSameReader, IsAhead, IsUnread};
-    ghost use Rattle.ciborium_ll.specs.Decoding.{MeasuresHead, Pulls, Takes};
+    ghost use Rattle.ciborium_ll.specs.Decoding.{HasBegun, HasSameReader, IsAhead, IsSpent};
+    ghost use Rattle.ciborium_ll.specs.Decoding.{IsUnread, MeasuresHead, Pulls, Takes};
     ghost use Rattle.ciborium_ll.specs.Decoding.{allowed_of, count_of, head_len_of, last_of};
-    ghost use Rattle.ciborium_ll.specs.Decoding.{left_of, offset_of, pushed_of};
+    ghost use Rattle.ciborium_ll.specs.Decoding.{left_of, offset_of, pushed_of, reach_of};
     ghost use Rattle.ciborium_ll.specs.FirstHeads.{IsEndOrFault, IsFirstTaken, MeasuresFirst};
     ghost use Rattle.ciborium_ll.specs.FirstHeads.{PullsFirst};
     ghost use Rattle.ciborium_ll.specs.Reading.{IsFillTaken, IsHeadTaken, IsRefusedBy};
@@ -140,6 +140,9 @@ impl<'a, R: Read> Decoder<'a, R> {
         // The same, said of all that is unread.
         ensures ahead { (b : List ℕ) (p : ℕ) → IsAhead R.remaining self.old b p →
             Pulls R.remaining self.new b p result }
+
+        // Where the reader failed or ended, nothing is held.
+        ensures spent { IfErr result (λ e. IsSpent self.new e) }
     {
         self.pull_keeping(&mut Answered)
     }
@@ -163,6 +166,9 @@ impl<'a, R: Read> Decoder<'a, R> {
         // The same, said of all that is unread.
         ensures ahead { (b : List ℕ) (p : ℕ) → IsAhead R.remaining self.old b p →
             Pulls R.remaining self.new b p result }
+
+        // Where the reader failed or ended, nothing is held.
+        ensures spent { IfErr result (λ e. IsSpent self.new e) }
     {
         if let Some((header, offset)) = self.pushed {
             self.forget();
@@ -186,6 +192,9 @@ impl<'a, R: Read> Decoder<'a, R> {
         // The same, said of all that is unread.
         ensures ahead { (b : List ℕ) (p : ℕ) → IsAhead R.remaining self.old b p →
             Pulls R.remaining self.new b p result }
+
+        // Where the reader failed or ended, nothing is held.
+        ensures spent { IfErr result (λ e. IsSpent self.new e) }
     {
         let start = self.window.count;
         self.last = start;
@@ -258,8 +267,34 @@ impl<'a, R: Read> Decoder<'a, R> {
         ensures unread { left_of R.remaining self.new ≡ left_of R.remaining self.old }
         ensures allowed { allowed_of self.new ≡
             max (allowed_of self.old) (min n (greatest_offset - count_of self.old)) }
+        ensures reach { reach_of self.new ≡
+            max (reach_of self.old) (min (count_of self.old + n) greatest_offset) }
     {
         self.window.allow(n);
+    }
+
+    /// The offset up to which bytes may be read ahead.
+    #[inline(always)]
+    pub fn reach(&self) -> usize
+        ensures { result ≡ reach_of self.now }
+    {
+        self.window.reach()
+    }
+
+    /// Takes back what `allow` said: no byte from this offset on may be read ahead, and those before
+    /// it may. It has no effect where a byte is held already that stands there or behind.
+    #[inline(always)]
+    pub fn forbid_behind(&mut self, reach: usize)
+        ensures name { self.new.reader.ghost_name ≡ self.old.reader.ghost_name }
+        ensures pushed { pushed_of self.new ≡ pushed_of self.old }
+        ensures last { last_of self.new ≡ last_of self.old }
+        ensures head_len { head_len_of self.new ≡ head_len_of self.old }
+        ensures count { count_of self.new ≡ count_of self.old }
+        ensures unread { left_of R.remaining self.new ≡ left_of R.remaining self.old }
+        ensures reach { allowed_of self.old ≤ reach - count_of self.old →
+            reach_of self.new ≡ reach }
+    {
+        self.window.forbid_behind(reach);
     }
 
     /// The next byte, where it was read ahead. It is not taken.
@@ -286,6 +321,8 @@ impl<'a, R: Read> Decoder<'a, R> {
         ensures head_len { head_len_of self.new ≡ head_len_of self.old }
         ensures taken { Takes R.remaining self.old self.new
             (λ b. IsFillTaken b (count_of self.old) buffer.new result) }
+        // Where the reader failed or ended, nothing is held.
+        ensures spent { IfErr result (λ e. IsSpent self.new e) }
     {
         self.read_exact_keeping(buffer, &mut Answered)
     }
@@ -304,6 +341,8 @@ impl<'a, R: Read> Decoder<'a, R> {
         ensures head_len { head_len_of self.new ≡ head_len_of self.old }
         ensures taken { Takes R.remaining self.old self.new
             (λ b. IsFillTaken b (count_of self.old) buffer.new result) }
+        // Where the reader failed or ended, nothing is held.
+        ensures spent { IfErr result (λ e. IsSpent self.new e) }
     {
         Cursor {
             reader: self.reader,
@@ -341,6 +380,8 @@ impl<'a, R: Read> Decoder<'a, R> {
         ensures refused { (b : List ℕ) → left_of R.remaining self.old ≡ Some b →
             IfErr result (λ e. IsRefusedBy (left_of R.remaining self.new) e
             (ContentRefuses of_bytes len (last_of self.old) b (count_of self.old))) }
+        // Where the reader failed or ended, nothing is held.
+        ensures spent { IfErr result (λ e. IsSpent self.new e) }
     {
         self.bytes_into_keeping(len, scratch, out, &mut Answered)
     }
@@ -365,6 +406,8 @@ impl<'a, R: Read> Decoder<'a, R> {
         ensures refused { (b : List ℕ) → left_of R.remaining self.old ≡ Some b →
             IfErr result (λ e. IsRefusedBy (left_of R.remaining self.new) e
             (ContentRefuses of_bytes len (last_of self.old) b (count_of self.old))) }
+        // Where the reader failed or ended, nothing is held.
+        ensures spent { IfErr result (λ e. IsSpent self.new e) }
     {
         let head = self.last;
         Cursor {
@@ -402,6 +445,8 @@ impl<'a, R: Read> Decoder<'a, R> {
         ensures refused { (b : List ℕ) → left_of R.remaining self.old ≡ Some b →
             IfErr result (λ e. IsRefusedBy (left_of R.remaining self.new) e
             (ContentRefuses of_text len (last_of self.old) b (count_of self.old))) }
+        // Where the reader failed or ended, nothing is held.
+        ensures spent { IfErr result (λ e. IsSpent self.new e) }
     {
         self.text_into_keeping(len, scratch, out, &mut Answered)
     }
@@ -426,6 +471,8 @@ impl<'a, R: Read> Decoder<'a, R> {
         ensures refused { (b : List ℕ) → left_of R.remaining self.old ≡ Some b →
             IfErr result (λ e. IsRefusedBy (left_of R.remaining self.new) e
             (ContentRefuses of_text len (last_of self.old) b (count_of self.old))) }
+        // Where the reader failed or ended, nothing is held.
+        ensures spent { IfErr result (λ e. IsSpent self.new e) }
     {
         let empty = String::new(*out.allocator());
         let mut bytes = mem::replace(out, empty).into_bytes();

@@ -3,7 +3,8 @@
 //! An `io::Error` is large, and so is a result that may hold one: inlined, none is moved on the way
 //! of a head.
 
-ghost use Rattle.std.specs.Prelude.{◌≡◌, ◌+◌, ◌≤◌, ◌%◌, ◌∷◌, length};
+ghost use Rattle.std.specs.Prelude.{◌≡◌, ◌+◌, ◌≤◌, ◌%◌, ◌∷◌, IfErr, length};
+ghost use Rattle.ciborium_ll.specs.FirstHeads.{IsIo};
 ghost use Rattle.ciborium_ll.specs.Header.{announced_length};
 ghost use Rattle.ciborium_ll.specs.Refusal.{argument_length};
 ghost use Rattle.ciborium_ll.specs.Reading.{IsHeadTaken};
@@ -31,7 +32,8 @@ fn payload_size(header: Header) -> usize
 fn judge_head<E>(start: usize, end: usize, initial: u8, argument: &[u8]) -> Result<Header, Error<E>>
     requires whole { length argument.now ≡ argument_length (initial % 32) }
     requires between { end ≡ start + 1 + length argument.now }
-    ensures { IsHeadTaken (initial ∷ argument.now) start result }
+    ensures head { IsHeadTaken (initial ∷ argument.now) start result }
+    ensures no_io { IfErr result (λ e. ¬ IsIo e) }
 {
     let Some(header) = parse_head(initial, argument) else {
         return Err(Error::Syntax(start));
@@ -68,6 +70,7 @@ impl Window {
         ensures reach { self.new.reach ≡ self.old.reach }
         ensures some { IfSome result (λ r. (o : Option (List ℕ)) →
             TakesHeld o self.old self.new (λ b. IsHeadTaken b self.old.count r)) }
+        ensures no_io { IfSome result (λ r. IfErr r (λ e. ¬ IsIo e)) }
         ensures none { IfNone result (self.new ≡ self.old) }
     {
         let start = self.count;
@@ -90,7 +93,7 @@ impl Window {
 impl<'c, R: Read, K: Keep> Cursor<'c, R, K> {
     ghost use Rattle.std.specs.Prelude.{◌<◌, IfNone, IfOk};
     ghost use Rattle.std.specs.Io.KnownBytes.{IsAtEnd};
-    ghost use Rattle.ciborium_ll.specs.Cursors.{IsSameCursor, Moves, count_at, left_at};
+    ghost use Rattle.ciborium_ll.specs.Cursors.{IsSameCursor, IsSpentAt, Moves, count_at, left_at};
     ghost use Rattle.ciborium_ll.specs.FirstHeads.{IsFirstTaken};
 
     // Reads the argument behind the initial byte of the head at this offset.
@@ -106,6 +109,7 @@ impl<'c, R: Read, K: Keep> Cursor<'c, R, K> {
         ensures same { IsSameCursor self.old self.new }
         ensures head { Moves R.remaining self.old self.new
             (λ b. IsHeadTaken (initial ∷ b) start result) }
+        ensures spent { IfErr result (λ e. IsSpentAt self.new e) }
     {
         self.fill(argument)?;
         judge_head(start, self.window.count, initial, argument)
@@ -118,6 +122,7 @@ impl<'c, R: Read, K: Keep> Cursor<'c, R, K> {
         ensures same { IsSameCursor self.old self.new }
         ensures head { Moves R.remaining self.old self.new
             (λ b. IsHeadTaken (initial ∷ b) start result) }
+        ensures spent { IfErr result (λ e. IsSpentAt self.new e) }
     {
         let size = argument_size(initial % 32);
         if size == 0 {
@@ -134,6 +139,7 @@ impl<'c, R: Read, K: Keep> Cursor<'c, R, K> {
         ensures same { IsSameCursor self.old self.new }
         ensures head { Moves R.remaining self.old self.new
             (λ b. IsHeadTaken b (count_at self.old) result) }
+        ensures spent { IfErr result (λ e. IsSpentAt self.new e) }
     {
         let start = self.window.count;
         let mut first = [0u8; 1];
@@ -148,6 +154,7 @@ impl<'c, R: Read, K: Keep> Cursor<'c, R, K> {
         ensures same { IsSameCursor self.old self.new }
         ensures head { Moves R.remaining self.old self.new
             (λ b. IsHeadTaken b (count_at self.old) result) }
+        ensures spent { IfErr result (λ e. IsSpentAt self.new e) }
     {
         match self.window.take_head() {
             Some(head) => head,

@@ -79,8 +79,8 @@ impl Window {
 }
 
 impl<'c, R: Read, K: Keep> Cursor<'c, R, K> {
-    ghost use Rattle.std.specs.Prelude.{◌+◌, ◌<◌, ◌≤◌, length};
-    ghost use Rattle.ciborium_ll.specs.Cursors.{IsSameCursor, Moves, count_at};
+    ghost use Rattle.std.specs.Prelude.{◌+◌, ◌<◌, ◌≤◌, IfErr, length};
+    ghost use Rattle.ciborium_ll.specs.Cursors.{IsSameCursor, IsSpentAt, Moves, count_at};
     ghost use Rattle.ciborium_ll.specs.Strings.{Grows, IsPartsTaken, IsPayloadTaken};
     ghost use Rattle.ciborium_ll.specs.Strings.{IsPiecesTaken, IsStringTaken};
 
@@ -97,6 +97,7 @@ impl<'c, R: Read, K: Keep> Cursor<'c, R, K> {
         ensures same { IsSameCursor self.old self.new }
         ensures bytes { Moves R.remaining self.old self.new
             (λ b. IsPiecesTaken n b result out.old.items out.new.items) }
+        ensures spent { IfErr result (λ e. IsSpentAt self.new e) }
     {
         let Some(held) = self.window.append_held(n, out) else {
             return Err(Error::Memory);
@@ -126,6 +127,7 @@ impl<'c, R: Read, K: Keep> Cursor<'c, R, K> {
         ensures same { IsSameCursor self.old self.new }
         ensures bytes { Moves R.remaining self.old self.new
             (λ b. IsPiecesTaken n b result out.old.items out.new.items) }
+        ensures spent { IfErr result (λ e. IsSpentAt self.new e) }
     {
         if scratch.is_empty() {
             let mut own = [0u8; OWN_SCRATCH];
@@ -149,6 +151,7 @@ impl<'c, R: Read, K: Keep> Cursor<'c, R, K> {
         ensures same { IsSameCursor self.old self.new }
         ensures bytes { Moves R.remaining self.old self.new (λ b. Grows out.old.items out.new.items
             (IsPayloadTaken (kind_of kind) n head b result)) }
+        ensures spent { IfErr result (λ e. IsSpentAt self.new e) }
     {
         let start = out.len();
         if let Err(e) = self.append_bytes(n, scratch, out) {
@@ -173,6 +176,7 @@ impl<'c, R: Read, K: Keep> Cursor<'c, R, K> {
         ensures same { IsSameCursor self.old self.new }
         ensures bytes { Moves R.remaining self.old self.new (λ b. Grows out.old.items out.new.items
             (IsPartsTaken (kind_of kind) b (count_at self.old) result)) }
+        ensures spent { IfErr result (λ e. IsSpentAt self.new e) }
     {
         let mut head = self.window.count;
         'parts: loop {
@@ -199,6 +203,7 @@ impl<'c, R: Read, K: Keep> Cursor<'c, R, K> {
         ensures same { IsSameCursor self.old self.new }
         ensures bytes { Moves R.remaining self.old self.new (λ b. Grows out.old.items out.new.items
             (IsStringTaken (kind_of kind) len head b (count_at self.old) result)) }
+        ensures spent { IfErr result (λ e. IsSpentAt self.new e) }
     {
         match len {
             Some(n) => {

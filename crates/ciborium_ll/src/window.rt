@@ -21,8 +21,8 @@ pub(crate) struct Window {
 }
 
 impl Window {
-    ghost use Rattle.std.specs.Prelude.{◌-◌, ◌↔◌, ◌<◌, ◌∷◌, IfNone, IfOk, IfSome, IsTrue, List};
-    ghost use Rattle.std.specs.Prelude.{Option, min, take, ℕ};
+    ghost use Rattle.std.specs.Prelude.{◌-◌, ◌↔◌, ◌<◌, ◌∷◌, IfErr, IfNone, IfOk, IfSome, IsTrue};
+    ghost use Rattle.std.specs.Prelude.{List, Option, min, take, ℕ};
     ghost use Rattle.std.specs.Io.KnownBytes.{IsAtEnd, Keeps};
     ghost use Rattle.ciborium_ll.specs.Windows.{AllowsNothing, TakesHeld, held, held_at};
     ghost use Rattle.ciborium_ll.specs.Windows.{reach_behind, unread};
@@ -52,6 +52,28 @@ impl Window {
         ensures reach { self.new.reach ≡ reach_behind self.old n }
     {
         self.reach = self.reach.max(self.count.saturating_add(n));
+    }
+
+    // The offset before which bytes are due.
+    #[inline(always)]
+    pub(crate) fn reach(&self) -> usize
+        ensures { result ≡ self.now.reach }
+    {
+        self.reach
+    }
+
+    // Bytes before this offset are due, and no others. It has no effect where one is held that
+    // stands there or behind.
+    #[inline(always)]
+    pub(crate) fn forbid_behind(&mut self, reach: usize)
+        ensures lookahead { self.new.lookahead ≡ self.old.lookahead }
+        ensures count { self.new.count ≡ self.old.count }
+        ensures reach { self.old.reach - self.old.count ≤ reach - self.old.count →
+            self.new.reach ≡ reach }
+    {
+        if self.lookahead.end <= self.count.max(reach) {
+            self.reach = reach;
+        }
     }
 
     // How many bytes may be read ahead where none is held.
@@ -111,6 +133,7 @@ impl Window {
         ensures count { self.new.count ≡ self.old.count }
         ensures reach { self.new.reach ≡ self.old.reach }
         ensures end { IfOk result (λ n. self.new.lookahead.end ≡ self.new.count + n) }
+        ensures spent { IfErr result (λ e. self.new.lookahead.end ≤ self.new.count) }
         ensures unread { Keeps (unread (R.remaining reader.old) self.old)
             (unread (R.remaining reader.new) self.new) }
         ensures none_left { IfOk result (λ n. n ≡ 0 →

@@ -16,4 +16,4 @@ judge_head-requires g c =
     record { whole = omega (arith, c.fill.auto.buffer, c.requires.whole); between = omega (arith, end) }
 
 pub returns-clause-head : goal.returns-clause-head
-returns-clause-head g c = argument-whole _ _ c.args.start _ _ c.args.initial c.fill.new.buffer _ _ c.in_ok-fill.ensures.taken c.judge_head.ensures
+returns-clause-head g c = argument-whole _ _ c.args.start _ _ c.args.initial c.fill.new.buffer _ _ c.in_ok-fill.ensures.taken c.judge_head.ensures.head
