@@ -5,7 +5,7 @@ use Rattle.ciborium_ll.specs.declared.header.Header.{Header}
 use Rattle.ciborium_ll.specs.declared.header.Error.{Error}
 use Rattle.ciborium_ll.specs.declared.decoder.Decoder.{Decoder}
 use Rattle.ciborium_ll.specs.declared.window.Window.{Window}
-use Rattle.ciborium_ll.specs.Windows.{AllowsNothing, IsSpentBy, unread}
+use Rattle.ciborium_ll.specs.Windows.{AllowsNothing, IsSpentBy, held, unread}
 use Rattle.ciborium_ll.specs.Header.{SpellsHeader}
 use Rattle.ciborium_ll.specs.Reading.{Advances, IsRefusedBy}
 use Rattle.ciborium_ll.specs.Refusal.{HeadRefuses, IsUsable}
@@ -52,6 +52,13 @@ reach_of d = d.window.reach
 -- how many bytes may be read ahead and not be taken: no more are held
 abbrev pub allowed_of : {S : Type 0} → Decoder S → ℕ
 allowed_of d = d.window.reach - d.window.count
+
+-- these bytes are held, and are taken before the reader is asked
+abbrev pub IsHeld : {S : Type 0} → Decoder S → List ℕ → Type 0
+IsHeld d b = b ≡ held d.window
+
+abbrev pub HoldsNothing : {S : Type 0} → Decoder S → Type 0
+HoldsNothing d = held d.window ≡ []
 
 -- where the reader failed or ended, nothing is held
 abbrev pub IsSpent : {S E : Type 0} → Decoder S → Error E → Type 0

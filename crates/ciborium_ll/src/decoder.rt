@@ -28,8 +28,8 @@ impl<'a, R: Read> Decoder<'a, R> {
     ghost use Rattle.std.specs.Prelude.{IfSome, List, None, Ok, Some, max, min, string_bytes, ℕ};
     ghost use Rattle.std.specs.Io.KnownBytes.{IsAtEnd};
     ghost use Rattle.ciborium_ll.specs.Bytes.{greatest_offset};
-    ghost use Rattle.ciborium_ll.specs.Decoding.{HasBegun, HasSameReader, IsAhead, IsSpent};
-    ghost use Rattle.ciborium_ll.specs.Decoding.{IsUnread, MeasuresHead, Pulls, Takes};
+    ghost use Rattle.ciborium_ll.specs.Decoding.{HasBegun, HasSameReader, HoldsNothing, IsAhead};
+    ghost use Rattle.ciborium_ll.specs.Decoding.{IsHeld, IsSpent, IsUnread, MeasuresHead, Pulls, Takes};
     ghost use Rattle.ciborium_ll.specs.Decoding.{allowed_of, count_of, head_len_of, last_of};
     ghost use Rattle.ciborium_ll.specs.Decoding.{left_of, offset_of, pushed_of, reach_of};
     ghost use Rattle.ciborium_ll.specs.FirstHeads.{IsEndOrFault, IsFirstTaken, MeasuresFirst};
@@ -113,6 +113,21 @@ impl<'a, R: Read> Decoder<'a, R> {
         ensures none_pushed { pushed_of self.new ≡ None }
     {
         self.pushed = None;
+    }
+
+    /// Drops the head that was pushed back, if there is one, and takes the bytes that are held: so
+    /// does a caller who reads no further.
+    #[inline(always)]
+    pub fn discard(&mut self)
+        ensures same_reader { HasSameReader self.old self.new }
+        ensures nothing { HoldsNothing self.new }
+        ensures taken { Takes R.remaining self.old self.new (λ b. IsHeld self.old b) }
+        ensures last { last_of self.new ≡ last_of self.old }
+        ensures head_len { head_len_of self.new ≡ head_len_of self.old }
+        ensures none_pushed { pushed_of self.new ≡ None }
+    {
+        self.pushed = None;
+        self.window.discard();
     }
 
     /// The head that was pushed back, or else the next one of the reader (RFC 8949, section 3).

@@ -21,7 +21,7 @@ pub(crate) struct Window {
 }
 
 impl Window {
-    ghost use Rattle.std.specs.Prelude.{◌-◌, ◌↔◌, ◌<◌, ◌∷◌, IfErr, IfNone, IfOk, IfSome, IsTrue};
+    ghost use Rattle.std.specs.Prelude.{[], ◌-◌, ◌↔◌, ◌<◌, ◌∷◌, IfErr, IfNone, IfOk, IfSome, IsTrue};
     ghost use Rattle.std.specs.Prelude.{List, Option, min, take, ℕ};
     ghost use Rattle.std.specs.Io.KnownBytes.{IsAtEnd, Keeps};
     ghost use Rattle.ciborium_ll.specs.Windows.{AllowsNothing, TakesHeld, held, held_at};
@@ -157,5 +157,18 @@ impl Window {
         buffer[..n].copy_from_slice(&held[..n]);
         self.count += n;
         n
+    }
+
+    // Takes what is held.
+    #[inline(always)]
+    pub(crate) fn discard(&mut self)
+        ensures reach { self.new.reach ≡ self.old.reach }
+        ensures nothing { held self.new ≡ [] }
+        ensures taken { (o : Option (List ℕ)) →
+            TakesHeld o self.old self.new (λ b. b ≡ held self.old) }
+    {
+        let held = self.held();
+        let n = held.len();
+        self.count += n;
     }
 }

@@ -2,9 +2,9 @@
 
 ghost use Rattle.std.specs.Prelude.{◌≡◌, ◌∷◌, ◌++◌, [], IfOk, List, MatchOption, None, OnErr};
 ghost use Rattle.std.specs.Prelude.{OnOk, Some};
-ghost use Rattle.std.specs.Prelude.{drop, length, map, option_map};
+ghost use Rattle.std.specs.Prelude.{drop, length, map, min, option_map};
 ghost use Rattle.ciborium_value.specs.Open.{array, closed, ended, fill, map as open_map, placed};
-ghost use Rattle.ciborium_value.specs.Open.{waiting_keys};
+ghost use Rattle.ciborium_value.specs.Open.{parts_due, waiting_keys};
 ghost use Rattle.ciborium_value.specs.Stack.{filled_of, open_of, opened, opens, opens_of};
 ghost use Rattle.ciborium_value.specs.Stack.{placed_of};
 ghost use Rattle.ciborium_value.specs.View.{pair_trees, tree_of};
@@ -251,6 +251,28 @@ impl Stack {
                 None => None,
             },
             _ => None,
+        }
+    }
+
+    /// How many parts of the innermost container are due for sure, the one that is read now included;
+    /// of the pairs of a map, the keys. None where no length was announced, under a tag, and where
+    /// nothing is open.
+    #[inline(always)]
+    pub fn due(&self) -> usize
+        ensures { result ≡ min (parts_due (opens_of self.now)) usize.MAX }
+    {
+        match self.frames.last() {
+            Some(
+                Frame::Array {
+                    behind: Some(n), ..
+                },
+            ) => n.saturating_add(1),
+            Some(
+                Frame::Map {
+                    behind: Some(n), ..
+                },
+            ) => n.saturating_add(1),
+            _ => 0,
         }
     }
 
