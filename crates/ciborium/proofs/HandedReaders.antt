@@ -16,7 +16,7 @@ use Rattle.ciborium.specs.ByteSources.{IsUnread, IsUnreadBy, ReadsValue, StandsB
 use Rattle.ciborium.specs.NextItems.{IsReadFrom}
 use Rattle.ciborium.specs.TypedReads.{IsFaultAhead, TakesGiving}
 use Rattle.ciborium.specs.Spelling.{any}
-use Rattle.ciborium.proofs.WhateverFollows.{taken-tree}
+use Rattle.ciborium.proofs.WhateverFollows.{leaves-name, leaves-rest, taken-tree}
 
 module _ {S A : Type 0} (remaining : S → Option (List ℕ)) (old : ByteSource S) (taken : Taken A) (b : List ℕ) (front : IsUnread remaining old b) (few : allowed_of old.decoder + pending_count old.pending ≤ 1) where
   -- just the item at the front was taken, and the reader that was lent has what follows it
@@ -54,7 +54,7 @@ handed-from E {S} remaining old new lent x p r begins none back reads =
     let (s, taken, count, h, bytes) = reads.1 in
     let begun : old.decoder.window.count ≡ p = begins.count in
     let less = new.decoder.window.fits in
-    let after : remaining x ≡ left_of remaining new.decoder = ap remaining (back (sym (same-name old.decoder new.decoder reads.0))) ∙ sym (begun-rest remaining old.decoder new.decoder lent p begins reads.0) in (
+    let after : remaining x ≡ left_of remaining new.decoder = ap remaining (back (sym (leaves-name remaining old.decoder new.decoder r reads.0))) ∙ sym (leaves-rest remaining old.decoder new.decoder r lent p begins reads.0) in (
       s,
       subst (λ o. Consumes (remaining lent) o s) (sym after) (subst (λ y. Consumes y (left_of remaining new.decoder) s) (begun-left remaining old.decoder lent p begins) taken),
       omega (arith, count, begun, less),

@@ -55,6 +55,7 @@ mod JudgedTags
 mod JudgedTurns
 mod SpelledParts
 mod SpelledTags
+mod DueParts
 mod StrictReader
 mod StrictBignums
 mod StrictParts

@@ -33,7 +33,7 @@ use Rattle.ciborium.proofs.ItemHeads.{first-head, header_of}
 use Rattle.ciborium.proofs.KnownReaders.{whole-of}
 use Rattle.ciborium.proofs.Pulled.{refused-from, refused-map}
 use Rattle.ciborium.proofs.SkippedTags.{fault-outside}
-use Rattle.ciborium.proofs.WhateverFollows.{taken-tree}
+use Rattle.ciborium.proofs.WhateverFollows.{leaves-name, leaves-rest, leaves-then, taken-tree}
 
 -- what an answer says where none is the end
 end-says : {A E : Type 0} (r : Result (Option A) E) (P : Result A E → Type 0) → r ≡ Ok None → Otherwise r P
@@ -65,7 +65,7 @@ module _ {S : Type 0} (E : Type 0) (remaining : S → Option (List ℕ)) (d : De
       let (c, more, sum, f, low) = reads.1 in
       let zero = zero-count in
       let less = t.decoder.window.fits in
-      let after : remaining x ≡ left_of remaining t.decoder = ap remaining (back (sym (same-name s.decoder t.decoder reads.0))) ∙ sym (begun-rest remaining d t.decoder lent 0 begins (reads.0 ∙ same)) in (
+      let after : remaining x ≡ left_of remaining t.decoder = ap remaining (back (sym (leaves-name remaining s.decoder t.decoder r reads.0))) ∙ sym (leaves-rest remaining d t.decoder r lent 0 begins (leaves-then d s.decoder t.decoder r same reads.0)) in (
         b ++ c,
         subst (λ o. Consumes (remaining lent) o (b ++ c)) (sym after) (Consumes-trans (remaining lent) (left_of remaining s.decoder) (left_of remaining t.decoder) b c (subst (λ y. Consumes y (left_of remaining s.decoder) b) (begun-left remaining d lent 0 begins) consumed) more),
         omega (arith, count, sum, zero, less, length-append b c),

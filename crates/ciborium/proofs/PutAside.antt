@@ -2,7 +2,7 @@
 use Rattle.std.proofs.Common.{◌≡◌, ℕ, List, Option, Some, Result, Ok, Err, is_err, true, refl, sym, ◌∙◌, subst}
 use Rattle.std.specs.Io.KnownBytes.{Consumes}
 use Rattle.ciborium_ll.specs.declared.decoder.Decoder.{Decoder}
-use Rattle.ciborium_ll.specs.Decoding.{HasSameReader, IsAhead, IsAheadBy, TakesBeforeAny, left_of, IsUnread}
+use Rattle.ciborium_ll.specs.Decoding.{IsAheadBy, TakesBeforeAny}
 use Rattle.ciborium_ll.specs.Refusal.{Refusal}
 use Rattle.ciborium_ll.proofs.HeldBytes.{unread-left, unread-count}
 use Rattle.ciborium.specs.declared.de.byte_source.ByteSource.{ByteSource}
@@ -12,6 +12,7 @@ use Rattle.ciborium_value.specs.Tree.{Tree}
 use Rattle.ciborium_value.specs.declared.tree.Value.{Value}
 use Rattle.ciborium.specs.Answers.{IsTreeRead, IsValueRead}
 use Rattle.ciborium.specs.ByteSources.{ReadsValue, cause_of}
+use Rattle.ciborium.specs.Due.{LeavesReader}
 use Rattle.ciborium.specs.Errors.{IsRefusedBy, refusal_of}
 use Rattle.ciborium.specs.Spelling.{Spelling, any, RefusesBy}
 use Rattle.ciborium.proofs.WhateverFollows.{TreeSo}
@@ -41,20 +42,7 @@ back-reads remaining old new e reads = (
 -- the decoder stays as it was where the error is put back
 pub same-decoder : {S E : Type 0} (remaining : S → Option (List ℕ)) (old mid new : ByteSource S) (r : Result Tree (Error E)) → new.decoder ≡ mid.decoder → ReadsValue {E = E} remaining old mid r → ReadsValue {E = E} remaining old new r
 same-decoder {S} {E} remaining old mid new r same reads =
-    subst (λ (d : Decoder S). HasSameReader old.decoder d × TakesBeforeAny remaining old.decoder d (λ a b. (xs : List ℕ) (p : ℕ) → IsAheadBy Some a xs p old.pending → IsTreeRead {S = List ℕ} {E = E} any Some b old.levels xs p r)) (sym same) reads
-
--- the value that is ahead was refused, and what was pushed behind it is forgotten
-pub forgotten-read : {S E : Type 0} (remaining : S → Option (List ℕ)) (old mid new : Decoder S) (r : Result Value (Error E)) (l : ℕ) → is_err r ≡ true → IsUnread mid new →
-    TakesBeforeAny remaining old mid (λ d f. (xs : List ℕ) (p : ℕ) → IsAhead Some d xs p → IsValueRead {S = List ℕ} {E = E} any Some f l xs p r) →
-    TakesBeforeAny remaining old new (λ d f. (xs : List ℕ) (p : ℕ) → IsAhead Some d xs p → IsValueRead {S = List ℕ} {E = E} any Some f l xs p r)
-forgotten-read remaining old mid new (Ok v) l is unread h = absurd cc
-forgotten-read remaining old mid new (Err e) l is unread (s, taken, counted, h, bytes) = (
-  s,
-  subst (λ y. Consumes (left_of remaining old) y s) (sym (unread-left remaining mid new unread)) taken,
-  unread-count mid new unread ∙ counted,
-  h,
-  bytes,
-)
+    subst (λ (d : Decoder S). LeavesReader old.decoder d r × TakesBeforeAny remaining old.decoder d (λ a b. (xs : List ℕ) (p : ℕ) → IsAheadBy Some a xs p old.pending → IsTreeRead {S = List ℕ} {E = E} any Some b old.levels xs p r)) (sym same) reads
 
 -- the same, of what a decoder was read as
 pub back-tree : {S E : Type 0} (spelling : Spelling) (remaining : S → Option (List ℕ)) (a b : Decoder S) (l : ℕ) (e : Error E) → TakesBeforeAny remaining a b (λ d f. TreeSo {E = Unit} spelling l d f (Err (refusal_of e))) →

@@ -29,7 +29,7 @@ use Rattle.ciborium.specs.Errors.{IsRefusedBy, IsNamed, kind_of}
 use Rattle.ciborium.specs.Spelling.{any}
 use Rattle.ciborium.proofs.Fronts.{ahead-at, front-fits}
 use Rattle.ciborium.proofs.ItemsRead.{item-read}
-use Rattle.ciborium.proofs.WhateverFollows.{as-tree, so-unread}
+use Rattle.ciborium.proofs.WhateverFollows.{ahead-same, as-tree, so-unread}
 use Rattle.ciborium.proofs.ValueFaults.{value-faults}
 use Rattle.ciborium.proofs.ValuesGiven.{value-gives}
 
@@ -163,10 +163,6 @@ portable-ahead E remaining d pending h at l v none is stands =
     let fits = front-fits xs p h x r (record { spelled = sp; usable = usable; split = split }) in
     (r, p + length x, item-read x i spelled means (omega (arith, flat)) split refl fits, ahead-at Some (with_left d u) (p + length x) r none (count, left)))
 
-ahead-pushed : {S : Type 0} (d e : Decoder S) (u xs : List ℕ) (p : ℕ) (o : Option (Header × ℕ)) → e.window.count ≡ d.window.count → IsAheadBy Some (with_left d u) xs p o → IsAheadBy Some (with_left e u) xs p o
-ahead-pushed d e u xs p None same (count, left) = (same ∙ count, left)
-ahead-pushed d e u xs p (Some h) same (at, x, r, sp, usable, split, count, left) = (at, x, r, sp, usable, split, same ∙ count, left)
-
 -- the head was pushed first
 pub pushed-ahead : (E : Type 0) {S : Type 0} (remaining : S → Option (List ℕ)) (d e f : Decoder S) (pending : Option (Header × ℕ)) (l : ℕ) (x : Result Value (Error E)) → e.pushed ≡ pending → IsUnread d e →
     TakesBeforeAny remaining e f (λ a b. (xs : List ℕ) (p : ℕ) → IsAhead Some a xs p → IsValueRead {S = List ℕ} {E = E} any Some b l xs p x) → TakesBeforeAny remaining d f (λ a b. ReadSo {E = E} l pending a b (read_as tree_of x))
@@ -174,6 +170,6 @@ pushed-ahead E remaining d e f pending l x pushed unread (s, taken, sum, h, byte
   s,
   subst (λ r. Consumes r (left_of remaining f) s) (unread-left remaining d e unread) taken,
   (let count = unread-count d e unread in omega (arith, sum, count)),
-  λ c xs p ahead. as-tree any Some (with_left f c) l xs p x (h c xs p (subst (λ o. IsAheadBy Some (with_left e (s ++ c)) xs p o) (sym pushed) (ahead-pushed d e (s ++ c) xs p pending (unread-count d e unread) ahead))),
+  λ c xs p ahead. as-tree any Some (with_left f c) l xs p x (h c xs p (subst (λ o. IsAheadBy Some (with_left e (s ++ c)) xs p o) (sym pushed) (ahead-same d e (s ++ c) xs p pending (unread-count d e unread) ahead))),
   bytes,
 )

@@ -5,7 +5,7 @@ use Rattle.ciborium_ll.specs.declared.header.Header.{Header}
 use Rattle.ciborium_ll.specs.declared.header.Header.TheVariants as header
 use Rattle.ciborium_ll.specs.declared.decoder.Decoder.{Decoder}
 use Rattle.ciborium_ll.specs.Bytes.{greatest_offset}
-use Rattle.ciborium_ll.specs.Decoding.{HasSameReader, IsAheadBy, TakesBeforeAny, allowed_of, left_of}
+use Rattle.ciborium_ll.specs.Decoding.{IsAheadBy, TakesBeforeAny, allowed_of, left_of}
 use Rattle.ciborium_ll.specs.Header.{SpellsHeader}
 use Rattle.ciborium_ll.specs.Item.{Item, unsigned}
 use Rattle.ciborium_ll.specs.Refusal.{IsUsable}
@@ -25,6 +25,7 @@ use Rattle.ciborium.specs.declared.de.byte_source.ByteSeq.{ByteSeq}
 use Rattle.ciborium.specs.declared.de.byte_source.Left.{Left}
 use Rattle.ciborium.specs.declared.de.byte_source.Left.TheVariants as left
 use Rattle.ciborium.specs.Answers.{IsTreeRead}
+use Rattle.ciborium.specs.Due.{LeavesReader}
 use Rattle.ciborium.specs.Skips.{Opens}
 use Rattle.ciborium.specs.Spelling.{any}
 use Rattle.ciborium.specs.Unread.{SpellsPair, AreSpelled, Fits, ending, form_of, HasCount}
@@ -228,9 +229,8 @@ cause_of TooLong = of_device
 abbrev pub StandsFor : Header → Tree → Type 0
 StandsFor h v = (s : List ℕ) → SpellsHeader s h → (i : Item) × Spells s i × (meaning i ≡ Some v) × (nesting i ≡ 0)
 
--- the source holds the reader that it held; and the value ahead, the bytes of a head that was pending included, was read so, whatever
--- follows the bytes that were taken
+-- the value ahead, the bytes of a head that was pending included, was read so, whatever follows the bytes that were taken
 abbrev pub ReadsValue : {S E : Type 0} → (S → Option (List ℕ)) → ByteSource S → ByteSource S → Result Tree (Error E) → Type 0
 ReadsValue remaining old new r =
-    HasSameReader old.decoder new.decoder ×
+    LeavesReader old.decoder new.decoder r ×
     TakesBeforeAny remaining old.decoder new.decoder (λ d e. (xs : List ℕ) (p : ℕ) → IsAheadBy Some d xs p old.pending → IsTreeRead any Some e old.levels xs p r)

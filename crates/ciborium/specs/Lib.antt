@@ -4,6 +4,7 @@ pub mod Around
 pub mod Errors
 pub mod Strings
 pub mod Parts
+pub mod Due
 pub mod Answers
 pub mod Writes
 pub mod AnswerLaws

@@ -1,5 +1,5 @@
 -- What stands at the front of what is ahead, with l levels left.
-use Rattle.std.specs.Prelude.{◌≡◌, ℕ, suc, ◌+◌, ◌<◌, ◌≤◌, ◌⊎◌, List, [], ◌∷◌, ◌++◌, length, Option, Some, None, Result, Ok, Err, true}
+use Rattle.std.specs.Prelude.{◌≡◌, ℕ, suc, ◌+◌, ◌<◌, ◌≤◌, ◌⊎◌, List, [], ◌∷◌, ◌++◌, length, Option, Some, None, MatchOption, Result, Ok, Err, true}
 use Rattle.ciborium_ll.specs.declared.header.Header.{Header}
 use Rattle.ciborium_ll.specs.declared.header.Header.TheVariants as header
 use Rattle.ciborium_ll.specs.declared.decoder.Decoder.{Decoder}
@@ -10,7 +10,7 @@ use Rattle.ciborium_ll.specs.Refusal.{Refusal, HeadRefuses, io, semantic, NotFol
 use Rattle.ciborium_value.specs.declared.kind.Kind.TheVariants as kinds
 use Rattle.ciborium_value.specs.declared.tree.Value.{Value}
 use Rattle.ciborium_value.specs.Meaning.{simple_meaning, bignum_meaning, is_bignum_tag}
-use Rattle.ciborium_value.specs.Open.{Open, array, map}
+use Rattle.ciborium_value.specs.Open.{Open, array, map, parts_due}
 use Rattle.ciborium_value.specs.Refuses.{Refuses}
 use Rattle.ciborium_value.specs.Stack.{opened}
 use Rattle.ciborium_value.specs.Tree as trees
@@ -91,10 +91,10 @@ HasRoom (Whole v) l = Unit {0}
 HasRoom (Opened f) l = 0 < l
 HasRoom Ended l = Unit {0}
 
--- no head is pushed behind a whole value or a break
+-- no head is pushed behind a whole value or a break, nor behind what announced how many parts are due
 abbrev pub IsAtRest : Part → Option (Header × ℕ) → Type 0
 IsAtRest (Whole v) pushed = pushed ≡ None
-IsAtRest (Opened f) pushed = Unit {0}
+IsAtRest (Opened f) pushed = MatchOption pushed (Unit {0}) (λ head. parts_due (opened f ∷ []) ≡ 0)
 IsAtRest Ended pushed = pushed ≡ None
 
 -- what the bytes over which a tag at offset p folds are read as

@@ -2,10 +2,11 @@
 
 ghost use Rattle.std.specs.Prelude.{◌≡◌, ◌<◌, ◌≤◌, IfErr, IfOk, List, MatchOption, None};
 ghost use Rattle.std.specs.Prelude.{Ok, OnOk, Some, length, ℕ};
-ghost use Rattle.ciborium_ll.specs.Decoding.{HasSameReader, TakesBeforeAny, pushed_of};
+ghost use Rattle.ciborium_ll.specs.Decoding.{HasSameReader, TakesBeforeAny, pushed_of, reach_of};
 ghost use Rattle.ciborium_value.specs.Stack.{opens_of};
 ghost use Rattle.ciborium_value.specs.View.{tree_of};
 ghost use Rattle.ciborium.specs.Answers.{IsPlacedInOrder, IsReading, IsTurned, IsValueRead};
+ghost use Rattle.ciborium.specs.Due.{AllowsDue, AllowsNoMore, AllowsThen, IsSpent, LeavesReader};
 ghost use Rattle.ciborium.specs.Reads.{StandsAt, heads_left};
 
 use crate::de::error::{Error, Refusal};
@@ -51,6 +52,9 @@ fn turn<S: Rules, R: Read>(
     ensures fewer { OnOk result (heads_left decoder.new < heads_left decoder.old) }
     ensures rests { IfOk result (λ o.
         MatchOption o (Unit {0}) (λ _. pushed_of decoder.new ≡ None)) }
+    ensures due { (reach : ℕ) → AllowsDue reach decoder.old (opens_of stack.old) →
+        IfOk result (AllowsThen reach decoder.new (opens_of stack.new)) }
+    ensures spent { IfErr result (λ e. IsSpent decoder.new e) }
     ensures depth { IfOk result (λ o.
         MatchOption o (length (opens_of stack.new) ≤ levels) (λ _. Unit {0})) }
     ensures turn { TakesBeforeAny R.remaining decoder.old decoder.new
@@ -72,7 +76,36 @@ fn turn<S: Rules, R: Read>(
     }
 }
 
+// Reads part after part up to the end of the value ahead. What is due is read ahead.
+#[inline(always)]
+fn build<S: Rules, R: Read>(
+    alloc: Global,
+    decoder: &mut Decoder<'_, R>,
+    scratch: &mut [u8],
+    levels: usize,
+    failure: &mut Option<io::Error>,
+) -> Result<Value, Refusal>
+    ensures name { decoder.new.reader.ghost_name ≡ decoder.old.reader.ghost_name }
+    ensures rests { OnOk result (pushed_of decoder.new ≡ None) }
+    ensures fewer { OnOk result (heads_left decoder.new < heads_left decoder.old) }
+    ensures due { OnOk result (AllowsNoMore (reach_of decoder.old) decoder.new) }
+    ensures spent { IfErr result (λ e. IsSpent decoder.new e) }
+    ensures value { TakesBeforeAny R.remaining decoder.old decoder.new
+        (λ d e. (xs : List ℕ) (p : ℕ) → StandsAt S.spelling Some d xs p →
+        IsValueRead S.spelling Some e levels xs p result) }
+{
+    let mut stack = Stack::new(alloc);
+    'turns: loop {
+        decoder.allow(stack.due());
+        if let Some(value) = turn::<S, R>(alloc, decoder, scratch, &mut stack, levels, failure)? {
+            return Ok(value);
+        }
+    }
+}
+
 /// Reads the value ahead in this spelling, within this many levels. A reader's error is kept aside.
+/// Behind the value nothing is held that might not be read ahead before; behind a refusal nothing is,
+/// and no head is pushed.
 pub(crate) fn read_value<S: Rules, R: Read>(
     alloc: Global,
     decoder: &mut Decoder<'_, R>,
@@ -80,17 +113,22 @@ pub(crate) fn read_value<S: Rules, R: Read>(
     levels: usize,
     failure: &mut Option<io::Error>,
 ) -> Result<Value, Refusal>
-    ensures same_reader { HasSameReader decoder.old decoder.new }
-    ensures rests { OnOk result (pushed_of decoder.new ≡ None) }
+    ensures reader { LeavesReader decoder.old decoder.new result }
+    ensures rests { pushed_of decoder.new ≡ None }
     ensures fewer { OnOk result (heads_left decoder.new < heads_left decoder.old) }
     ensures value { TakesBeforeAny R.remaining decoder.old decoder.new
         (λ d e. (xs : List ℕ) (p : ℕ) → StandsAt S.spelling Some d xs p →
         IsValueRead S.spelling Some e levels xs p result) }
 {
-    let mut stack = Stack::new(alloc);
-    'turns: loop {
-        if let Some(value) = turn::<S, R>(alloc, decoder, scratch, &mut stack, levels, failure)? {
-            return Ok(value);
+    let reach = decoder.reach();
+    match build::<S, R>(alloc, decoder, scratch, levels, failure) {
+        Ok(value) => {
+            decoder.forbid_behind(reach);
+            Ok(value)
+        }
+        Err(refusal) => {
+            decoder.discard();
+            Err(refusal)
         }
     }
 }

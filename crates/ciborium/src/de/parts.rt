@@ -1,9 +1,10 @@
 //! The part that stands at the front: a value that is whole, the beginning of a container or tag,
 //! or a break.
 
-ghost use Rattle.std.specs.Prelude.{◌≡◌, ◌+◌, ◌<◌, ◌≤◌, IfOk, List, None, OnOk, Some, ℕ};
+ghost use Rattle.std.specs.Prelude.{◌≡◌, ◌+◌, ◌<◌, ◌≤◌, IfErr, IfOk, List, None, OnOk, Some, ℕ};
 ghost use Rattle.ciborium_ll.specs.Decoding.{HasSameReader, TakesBeforeAny};
 ghost use Rattle.ciborium_ll.specs.Decoding.{last_of, pushed_of};
+ghost use Rattle.ciborium.specs.Due.{IsSpent};
 ghost use Rattle.ciborium.specs.Parts.{HasRoom, IsArrayBegun, IsMapBegun, IsPartRead};
 ghost use Rattle.ciborium.specs.Parts.{IsAtRest, IsSimpleRead};
 ghost use Rattle.ciborium.specs.Reads.{IsAt, StandsAt, heads_left};
@@ -85,6 +86,7 @@ pub(super) fn read_bytes<R: Read, K: Keep>(
     ensures same_reader { HasSameReader decoder.old decoder.new }
     ensures pushed { pushed_of decoder.new ≡ None }
     ensures fewer { OnOk result (heads_left decoder.new ≤ heads_left decoder.old) }
+    ensures spent { IfErr result (λ e. IsSpent decoder.new e) }
     ensures content { TakesBeforeAny R.remaining decoder.old decoder.new
         (λ d e. (xs : List ℕ) (p : ℕ) → IsAt Some d xs p →
         IsStringRead of_bytes Some e len (last_of decoder.old) xs p result) }
@@ -106,6 +108,7 @@ pub(super) fn read_text<R: Read, K: Keep>(
     ensures same_reader { HasSameReader decoder.old decoder.new }
     ensures pushed { pushed_of decoder.new ≡ None }
     ensures fewer { OnOk result (heads_left decoder.new ≤ heads_left decoder.old) }
+    ensures spent { IfErr result (λ e. IsSpent decoder.new e) }
     ensures content { TakesBeforeAny R.remaining decoder.old decoder.new
         (λ d e. (xs : List ℕ) (p : ℕ) → IsAt Some d xs p →
         IsStringRead of_text Some e len (last_of decoder.old) xs p result) }
@@ -128,6 +131,7 @@ pub(crate) fn next<S: Rules, R: Read>(
     ensures fewer { OnOk result (heads_left decoder.new < heads_left decoder.old) }
     ensures rests { IfOk result (λ part. IsAtRest part (pushed_of decoder.new)) }
     ensures room { IfOk result (λ part. HasRoom part levels) }
+    ensures spent { IfErr result (λ e. IsSpent decoder.new e) }
     ensures part { TakesBeforeAny R.remaining decoder.old decoder.new
         (λ d e. (xs : List ℕ) (p : ℕ) → StandsAt S.spelling Some d xs p →
         IsPartRead S.spelling Some e levels xs p result) }

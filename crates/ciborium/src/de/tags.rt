@@ -1,9 +1,10 @@
 //! Tags: those that fold, and those that are opened.
 
-ghost use Rattle.std.specs.Prelude.{◌≡◌, ◌≤◌, IfOk, List, None, OnOk, Some, length, true, ℕ};
+ghost use Rattle.std.specs.Prelude.{◌≡◌, ◌≤◌, IfErr, IfOk, List, None, OnOk, Some, length, true, ℕ};
 ghost use Rattle.ciborium_ll.specs.Decoding.{HasSameReader, TakesBeforeAny, pushed_of};
 ghost use Rattle.ciborium_ll.specs.declared.header.Header.TheVariants as header;
 ghost use Rattle.ciborium_value.specs.Meaning.{is_bignum_tag};
+ghost use Rattle.ciborium.specs.Due.{IsSpent};
 ghost use Rattle.ciborium.specs.Parts.{HasRoom, IsAtRest, IsBignumRead, IsFolded, IsFolding};
 ghost use Rattle.ciborium.specs.Parts.{IsHeadAccepted, IsPartRead};
 ghost use Rattle.ciborium.specs.Reads.{IsAt, heads_left};
@@ -68,6 +69,7 @@ fn read_bignum<S: Rules, R: Read>(
     ensures same_reader { HasSameReader decoder.old decoder.new }
     ensures pushed { pushed_of decoder.new ≡ None }
     ensures fewer { OnOk result (heads_left decoder.new ≤ heads_left decoder.old) }
+    ensures spent { IfErr result (λ e. IsSpent decoder.new e) }
     ensures bignum { TakesBeforeAny R.remaining decoder.old decoder.new
         (λ d e. (xs : List ℕ) (p : ℕ) → IsAt Some d xs p →
         IsBignumRead S.spelling Some e tag n offset xs p result) }
@@ -96,6 +98,7 @@ pub(crate) fn read_tag<S: Rules, R: Read>(
     ensures fewer { OnOk result (heads_left decoder.new ≤ heads_left decoder.old) }
     ensures rests { IfOk result (λ part. IsAtRest part (pushed_of decoder.new)) }
     ensures room { IfOk result (λ part. HasRoom part levels) }
+    ensures spent { IfErr result (λ e. IsSpent decoder.new e) }
     ensures part { TakesBeforeAny R.remaining decoder.old decoder.new
         (λ d e. (xs : List ℕ) (p : ℕ) →
         IsHeadAccepted S.spelling Some d (header.Tag tag) xs p → offset ≡ p →

@@ -2,16 +2,13 @@
 
 ghost use Rattle.std.specs.Prelude.{◌≡◌, ◌<◌, IfErr, IfOk, List, MatchOption, None, OnOk, Some};
 ghost use Rattle.std.specs.Prelude.{false, ℕ};
-ghost use Rattle.ciborium_ll.specs.Decoding.{HasSameReader, IsAhead, TakesBeforeAny, pushed_of};
+ghost use Rattle.ciborium_ll.specs.Decoding.{HasSameReader};
 ghost use Rattle.ciborium_value.specs.Sources.{read_as};
 ghost use Rattle.ciborium_value.specs.Taken.{taken_value};
 ghost use Rattle.ciborium_value.specs.View.{tree_of};
-ghost use Rattle.ciborium.specs.Answers.{IsValueRead};
 ghost use Rattle.ciborium.specs.ByteSources.{IsUnread, ReadsValue, StandsFor, cause_of};
 ghost use Rattle.ciborium.specs.ByteSources.{is_portable, weight_left};
 ghost use Rattle.ciborium.specs.ItemReads.{Denies, Reads};
-ghost use Rattle.ciborium.specs.Reads.{heads_left};
-ghost use Rattle.ciborium.specs.Spelling.{any};
 
 use crate::de::building::read_value;
 use crate::de::byte_source::scalars::is_null;
@@ -40,31 +37,9 @@ fn portable_value(header: Header) -> Option<Value>
     }
 }
 
-// Reads the value ahead, and leaves no head pushed.
-fn read_unpushed<R: Read>(
-    alloc: Global,
-    decoder: &mut Decoder<'_, R>,
-    scratch: &mut [u8],
-    levels: usize,
-    failure: &mut Option<io::Error>,
-) -> Result<Value, Refusal>
-    ensures same_reader { HasSameReader decoder.old decoder.new }
-    ensures rests { pushed_of decoder.new ≡ None }
-    ensures fewer { OnOk result (heads_left decoder.new < heads_left decoder.old) }
-    ensures value { TakesBeforeAny R.remaining decoder.old decoder.new
-        (λ d e. (xs : List ℕ) (p : ℕ) → IsAhead Some d xs p →
-        IsValueRead any Some e levels xs p result) }
-{
-    let value = read_value::<AnySpelling, R>(alloc, decoder, scratch, levels, failure);
-    if value.is_err() {
-        decoder.forget();
-    }
-    value
-}
-
 impl<'a, R: Read> ByteSource<'a, R> {
     pub(crate) fn read_whole_value(&mut self, alloc: Global) -> Result<Value, Refusal>
-        ensures same_reader { HasSameReader self.old.decoder self.new.decoder }
+        ensures same_reader { OnOk result (HasSameReader self.old.decoder self.new.decoder) }
         ensures levels { self.new.levels ≡ self.old.levels }
         ensures pending { OnOk result (self.new.pending ≡ None) }
         ensures fewer { OnOk result (weight_left self.new < weight_left self.old) }
@@ -79,7 +54,7 @@ impl<'a, R: Read> ByteSource<'a, R> {
                 Some(value) => Ok(value),
                 None => {
                     self.decoder.push(header, offset);
-                    let value = read_unpushed(
+                    let value = read_value::<AnySpelling, R>(
                         alloc,
                         &mut self.decoder,
                         self.scratch,
@@ -90,7 +65,7 @@ impl<'a, R: Read> ByteSource<'a, R> {
                 }
             },
             None => {
-                let value = read_unpushed(
+                let value = read_value::<AnySpelling, R>(
                     alloc,
                     &mut self.decoder,
                     self.scratch,

@@ -1,68 +1,29 @@
-use Rattle.std.proofs.Common.{◌∙◌, arith, ◌≤◌, ℕ, List, length, refl, rules, Some, Ok, Err, Result, Option, subst, MatchOption}
-use Rattle.std.proofs.lemmas.Result.{err_from_is_err_and}
-use Rattle.ciborium_ll.specs.declared.decoder.Decoder.{Decoder}
-use Rattle.ciborium_value.specs.declared.tree.Value.{Value}
-use Rattle.ciborium_value.specs.Open.{Open}
-use Rattle.ciborium_value.specs.Stack.{opens_of}
-use Rattle.ciborium.specs.declared.de.error.Error.{Error}
-use Rattle.ciborium.specs.Answers.{IsReading, IsTurned}
-use Rattle.ciborium.specs.Reads.{StandsAt}
-use Rattle.ciborium.specs.Spelling.{Spelling}
+use Rattle.std.proofs.Common.{◌≡◌, ◌∙◌, ℕ, List, Some, Ok, Err, arith, ap}
 use Rattle.ciborium_ll.specs.Decoding.{with_left}
-use Rattle.ciborium.proofs.WhateverFollows.{so-unread, so-both}
-use Rattle.ciborium.proofs.Turned.{begin}
+use Rattle.ciborium_ll.proofs.HeldBytes.{same-name}
+use Rattle.ciborium.specs.Answers.{IsValueRead}
+use Rattle.ciborium.specs.Reads.{StandsAt}
+use Rattle.ciborium.proofs.DueParts.{heads-same, same-source}
+use Rattle.ciborium.proofs.WhateverFollows.{discarded, so-kept, value-moved}
 use Rattle.ciborium.proofs.de.building.read_value.Goals as goal
 
--- reading has come so far
-abbrev Reading : Spelling → List Open → ℕ → Decoder (List ℕ) → Decoder (List ℕ) → Type 0
-Reading spelling os l d e = (xs : List ℕ) (p : ℕ) → StandsAt spelling Some d xs p → IsReading spelling Some e os l xs p
+pub returns-in-Ok-clause-reader : goal.returns-in-Ok-clause-reader
+returns-in-Ok-clause-reader g c =
+    same-source c.args.decoder.now c.forbid_behind.new.self (c.forbid_behind.ensures.name ∙ c.build.ensures.name) (c.forbid_behind.ensures.reach (omega (arith, c.in-Ok.ensures.due, c.reach-reach.ensures)) ∙ c.reach-reach.ensures)
 
--- a turn goes on
-abbrev Turns : Spelling → List Open → List Open → ℕ → Result (Option Value) (Error Unit) → Decoder (List ℕ) → Decoder (List ℕ) → Type 0
-Turns spelling os us l x d e = (xs : List ℕ) (p : ℕ) → IsReading spelling Some d os l xs p → IsTurned spelling Some e us l xs p x
+pub returns-in-Ok-clause-fewer : goal.returns-in-Ok-clause-fewer
+returns-in-Ok-clause-fewer g c = omega (arith, c.in-Ok.ensures.fewer, heads-same c.build.new.decoder c.forbid_behind.new.self c.forbid_behind.ensures.pushed c.forbid_behind.ensures.count)
 
-pub turns-init : goal.turns-init
-turns-init g c = record {
-  same_reader = refl;
-  depth = search rules;
-  fewer = omega arith;
-  reading = so-unread g.R.Read.remaining c.args.decoder.now c.args.decoder.now (Reading g.S.Rules.spelling (opens_of c.new-stack.result) c.args.levels) (refl, refl)
-      (λ u xs p s. begin g.S.Rules.spelling Some (with_left c.args.decoder.now u) (opens_of c.new-stack.result) c.args.levels xs p c.new-stack.ensures s);
-}
+pub returns-in-Ok-clause-value : goal.returns-in-Ok-clause-value
+returns-in-Ok-clause-value g c =
+    so-kept g.R.Read.remaining c.args.decoder.now c.build.new.decoder c.forbid_behind.new.self
+    (λ d e. (xs : List ℕ) (p : ℕ) → StandsAt g.S.Rules.spelling Some d xs p → IsValueRead {E = Unit} g.S.Rules.spelling Some e c.args.levels xs p (Ok c.in-Ok.value))
+    (λ d e. (xs : List ℕ) (p : ℕ) → StandsAt g.S.Rules.spelling Some d xs p → IsValueRead {E = Unit} g.S.Rules.spelling Some e c.args.levels xs p (Ok c.in-Ok.value)) c.forbid_behind.ensures.unread c.forbid_behind.ensures.count
+    (λ u v h xs p s. value-moved c.build.new.decoder c.forbid_behind.new.self v c.forbid_behind.ensures.pushed c.forbid_behind.ensures.count Unit g.S.Rules.spelling c.args.levels xs p (Ok c.in-Ok.value) (h xs p s)) c.in-Ok.ensures.value
 
-pub turns-preserved : goal.turns-preserved
-turns-preserved g c = record {
-  same_reader = c.in_ok-value.ensures.same_reader ∙ c.turns.invariant.same_reader;
-  depth = subst (λ o. MatchOption o (length (opens_of c.turn.new.stack) ≤ c.args.levels) (λ _. Unit {0})) c.in_default.is c.in_ok-value.ensures.depth;
-  fewer = omega (arith, c.in_ok-value.ensures.fewer, c.turns.invariant.fewer);
-  reading = (
-      let t = so-both g.R.Read.remaining c.args.decoder.now c.turns.decoder c.turn.new.decoder (Reading g.S.Rules.spelling (opens_of c.turns.stack) c.args.levels)
-      (Turns g.S.Rules.spelling (opens_of c.turns.stack) (opens_of c.turn.new.stack) c.args.levels (Ok c.in_ok-value.field-0)) c.turns.invariant.reading c.in_ok-value.ensures.turn in (
-        t.0,
-        t.1,
-        t.2,
-        λ z xs p s. let m = t.3 z in
-            subst (λ o. IsTurned {E = Unit} g.S.Rules.spelling Some (with_left c.turn.new.decoder z) (opens_of c.turn.new.stack) c.args.levels xs p (Ok o)) c.in_default.is (m.2 xs p (m.1 xs p s)),
-        t.4,
-      )
-      );
-}
+pub returns-in-Err-clause-reader : goal.returns-in-Err-clause-reader
+returns-in-Err-clause-reader g c = (same-name c.build.new.decoder c.discard.new.self c.discard.ensures.same_reader ∙ c.build.ensures.name, c.discard.ensures.nothing)
 
-pub returns-in-Some-clause-value : goal.returns-in-Some-clause-value
-returns-in-Some-clause-value g c =
-    let t = so-both g.R.Read.remaining c.args.decoder.now c.turns.decoder c.turn.new.decoder (Reading g.S.Rules.spelling (opens_of c.turns.stack) c.args.levels)
-    (Turns g.S.Rules.spelling (opens_of c.turns.stack) (opens_of c.turn.new.stack) c.args.levels (Ok c.in_ok-value.field-0)) c.turns.invariant.reading c.in_ok-value.ensures.turn in (
-      t.0,
-      t.1,
-      t.2,
-      λ z xs p s. let m = t.3 z in
-          subst (λ o. IsTurned {E = Unit} g.S.Rules.spelling Some (with_left c.turn.new.decoder z) (opens_of c.turn.new.stack) c.args.levels xs p (Ok o)) c.in-Some.is (m.2 xs p (m.1 xs p s)),
-      t.4,
-    )
-
-pub returns-in_err-value-clause-value : goal.returns-in_err-value-clause-value
-returns-in_err-value-clause-value g c =
-    let exit = err_from_is_err_and c.from_residual.result c.from_residual.ensures.1 in
-    let t = so-both g.R.Read.remaining c.args.decoder.now c.turns.decoder c.turn.new.decoder (Reading g.S.Rules.spelling (opens_of c.turns.stack) c.args.levels)
-    (Turns g.S.Rules.spelling (opens_of c.turns.stack) (opens_of c.turn.new.stack) c.args.levels (Err c.in_err-value.field-0.0)) c.turns.invariant.reading c.in_err-value.ensures.turn in
-    rw (exit.1, exit.2) (t.0, t.1, t.2, λ z xs p s. let m = t.3 z in m.2 xs p (m.1 xs p s), t.4)
+pub returns-in-Err-clause-value : goal.returns-in-Err-clause-value
+returns-in-Err-clause-value g c =
+    discarded Unit g.S.Rules.spelling g.R.Read.remaining c.args.decoder.now c.build.new.decoder c.discard.new.self c.args.levels c.in-Err.refusal c.in-Err.ensures.spent c.discard.ensures.taken c.in-Err.ensures.value

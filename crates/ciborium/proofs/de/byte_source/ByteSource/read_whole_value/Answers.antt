@@ -15,7 +15,7 @@ returns-in-Some-portable_value-clause-ok g c b u =
 pub returns-in_ok-value-in-None-portable_value-clause-ok : goal.returns-in_ok-value-in-None-portable_value-clause-ok
 returns-in_ok-value-in-None-portable_value-clause-ok g c b u =
     let d = c.args.self.now.decoder in
-    let f = c.read_unpushed.new.decoder in
+    let f = c.read_value.new.decoder in
     let pending = Some (c.in-Some.header, c.in-Some.offset) in
     let value = c.in_ok-value-in-None-portable_value.value in
     let done = c.in_ok-value-in-None-portable_value.ensures in
@@ -27,7 +27,7 @@ returns-in_ok-value-in-None-portable_value-clause-ok g c b u =
 pub returns-in_ok-value-in-None-clause-ok : goal.returns-in_ok-value-in-None-clause-ok
 returns-in_ok-value-in-None-clause-ok g c b u =
     let d = c.args.self.now.decoder in
-    let f = c.read_unpushed-in-None.new.decoder in
+    let f = c.read_value-in-None.new.decoder in
     let value = c.in_ok-value-in-None.value in
     let done = c.in_ok-value-in-None.ensures in
     let ahead = ahead-by g.R.Read.remaining d d None b tt c.args.self.now.unpushed (refl, refl) (subst (λ o. IsUnreadBy g.R.Read.remaining d o b) (sym c.take.ensures.value ∙ c.in-None.is) u) in
@@ -38,7 +38,7 @@ pub returns-in_err-value-in-None-portable_value-clause-denied : goal.returns-in_
 returns-in_err-value-in-None-portable_value-clause-denied g c =
     let exit = err_from_is_err_and c.from_residual.result c.from_residual.ensures.1 in
     let d = c.args.self.now.decoder in
-    let f = c.read_unpushed.new.decoder in
+    let f = c.read_value.new.decoder in
     let pending = Some (c.in-Some.header, c.in-Some.offset) in
     let error = c.in_err-value-in-None-portable_value.field-0.0 in
     rw (exit.1, exit.2) (λ b s z i u sp e.
@@ -50,7 +50,7 @@ pub returns-in_err-value-in-None-clause-denied : goal.returns-in_err-value-in-No
 returns-in_err-value-in-None-clause-denied g c =
     let exit = err_from_is_err_and c.from_residual-in_err-value-in-None.result c.from_residual-in_err-value-in-None.ensures.1 in
     let d = c.args.self.now.decoder in
-    let f = c.read_unpushed-in-None.new.decoder in
+    let f = c.read_value-in-None.new.decoder in
     let error = c.in_err-value-in-None.field-0.0 in
     rw (exit.1, exit.2) (λ b s z i u sp e.
     let ahead = ahead-by g.R.Read.remaining d d None b tt c.args.self.now.unpushed (refl, refl) (subst (λ o. IsUnreadBy g.R.Read.remaining d o b) (sym c.take.ensures.value ∙ c.in-None.is) u) in
@@ -66,7 +66,7 @@ returns-in-Some-portable_value-clause-reads g c = (
 pub returns-in_ok-value-in-None-portable_value-clause-reads : goal.returns-in_ok-value-in-None-portable_value-clause-reads
 returns-in_ok-value-in-None-portable_value-clause-reads g c =
     let done = c.in_ok-value-in-None-portable_value.ensures in (
-      done.same_reader ∙ c.push.ensures.same_reader,
-      pushed-ahead Unit g.R.Read.remaining c.args.self.now.decoder c.push.new.self c.read_unpushed.new.decoder c.args.self.now.pending c.args.self.now.levels (Ok c.in_ok-value-in-None-portable_value.value)
+      done.reader ∙ c.push.ensures.same_reader,
+      pushed-ahead Unit g.R.Read.remaining c.args.self.now.decoder c.push.new.self c.read_value.new.decoder c.args.self.now.pending c.args.self.now.levels (Ok c.in_ok-value-in-None-portable_value.value)
           (c.push.ensures.pushed ∙ sym (sym c.take.ensures.value ∙ c.in-Some.is)) c.push.ensures.unread done.value,
     )

@@ -6,5 +6,6 @@ use Rattle.ciborium.proofs.de.byte_source.source.ByteSourceSource.value.Goals as
 
 pub returns-clause-ok : goal.returns-clause-ok
 returns-clause-ok g c =
-    ok-map c.read_whole_value.result (on-both _ _ c.read_whole_value.result c.read_whole_value.ensures.pending c.read_whole_value.ensures.fewer) c.read_whole_value.ensures.ok
-    (λ none v k. takes-read g.R.Read.remaining c.args.self.now c.read_whole_value.new.self taken_value (tree_of v) c.read_whole_value.ensures.same_reader c.read_whole_value.ensures.levels none.0 none.1 k)
+    let read = c.read_whole_value in
+    ok-map read.result (on-both _ _ read.result read.ensures.same_reader (on-both _ _ read.result read.ensures.pending read.ensures.fewer)) read.ensures.ok
+    (λ none v k. takes-read g.R.Read.remaining c.args.self.now read.new.self taken_value (tree_of v) none.0 read.ensures.levels none.1.0 none.1.1 k)

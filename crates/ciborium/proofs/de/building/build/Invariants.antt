@@ -1,13 +1,15 @@
-use Rattle.std.proofs.Common.{ℕ, ◌≤◌, List, Some, length}
-use Rattle.ciborium_ll.specs.Decoding.{TakesBeforeAny, HasSameReader}
+use Rattle.std.proofs.Common.{◌≡◌, ℕ, ◌≤◌, List, Some, length}
+use Rattle.ciborium_ll.specs.Decoding.{TakesBeforeAny, reach_of}
 use Rattle.ciborium_value.specs.Stack.{opens_of}
 use Rattle.ciborium.specs.Answers.{IsReading}
+use Rattle.ciborium.specs.Due.{AllowsDue}
 use Rattle.ciborium.specs.Reads.{StandsAt, heads_left}
-use Rattle.ciborium.proofs.de.building.read_value.Given as goal
+use Rattle.ciborium.proofs.de.building.build.Given as goal
 
 abbrev pub invariant-turns : goal.invariant-turns
 invariant-turns g l = record {
-  same_reader : HasSameReader l.initial.decoder l.decoder;
+  name : l.decoder.reader.ghost_name ≡ l.initial.decoder.reader.ghost_name;
+  due : AllowsDue (reach_of l.initial.decoder) l.decoder (opens_of l.stack);
   depth : length (opens_of l.stack) ≤ l.levels;
   fewer : heads_left l.decoder ≤ heads_left l.initial.decoder;
   reading : TakesBeforeAny g.R.Read.remaining l.initial.decoder l.decoder (λ d e. (xs : List ℕ) (p : ℕ) → StandsAt g.S.Rules.spelling Some d xs p → IsReading g.S.Rules.spelling Some e (opens_of l.stack) l.levels xs p);
