@@ -92,7 +92,7 @@ fn read<T: Deserialize, R: Read>(
 /// left; `TooLong` where the item would pass the greatest offset; `Memory` where a growth was
 /// refused. Bytes from the front on have then been taken from the reader: those that were looked
 /// at, and behind them up to 256, one at most for each part that was left of an array or map whose
-/// length was announced. None is read ahead where a `Value` is read.
+/// length was announced.
 pub fn from_reader<T: Deserialize, R: Read>(
     alloc: Global,
     reader: &mut R,

@@ -15,6 +15,7 @@ ghost use Rattle.ciborium_value.specs.declared.tree.Value as value;
 ghost use Rattle.ciborium.specs.Answers.{AnswersGoodItem, AnswersProper, HoldsNoMore};
 ghost use Rattle.ciborium.specs.Answers.{RefusesBytes, TakesBytes, TakesItem, TakesWithin};
 ghost use Rattle.ciborium.specs.CanonicalLaws.{RiseCanonically};
+ghost use Rattle.ciborium.specs.Spelling.{any};
 ghost use Rattle.ciborium.specs.Writes.{IsIo};
 
 use crate::own_types::Message;
@@ -33,13 +34,13 @@ pub fn read_value<R: Read>(
     reader: &mut R,
     limit: usize,
 ) -> Result<Value, de::Error<io::Error>>
-    ensures taken { TakesBytes (R.remaining reader.old) limit (R.remaining reader.new)
+    ensures taken { TakesBytes any (R.remaining reader.old) limit (R.remaining reader.new)
         (read_as tree_of result) }
-    ensures ok { TakesItem (R.remaining reader.old) limit (R.remaining reader.new)
+    ensures ok { TakesItem any (R.remaining reader.old) limit (R.remaining reader.new)
         (read_as tree_of result) }
-    ensures exact { AnswersGoodItem (R.remaining reader.old) limit (R.remaining reader.new)
+    ensures exact { AnswersGoodItem any (R.remaining reader.old) limit (R.remaining reader.new)
         (read_as tree_of result) }
-    ensures refused { RefusesBytes (R.remaining reader.old) limit (R.remaining reader.new)
+    ensures refused { RefusesBytes any (R.remaining reader.old) limit (R.remaining reader.new)
         (read_as tree_of result) }
     ensures bounded { HoldsNoMore (R.remaining reader.old) (R.remaining reader.new)
         (read_as tree_of result) }

@@ -126,7 +126,7 @@ impl<'a, R: Read> Decoder<'a, R> {
         ensures head_len { head_len_of self.new ≡ head_len_of self.old }
         ensures none_pushed { pushed_of self.new ≡ None }
     {
-        self.pushed = None;
+        self.pushed.take();
         self.window.discard();
     }
 

@@ -261,17 +261,16 @@ impl Stack {
     pub fn due(&self) -> usize
         ensures { result ≡ min (parts_due (opens_of self.now)) usize.MAX }
     {
-        match self.frames.last() {
-            Some(
-                Frame::Array {
-                    behind: Some(n), ..
-                },
-            ) => n.saturating_add(1),
-            Some(
-                Frame::Map {
-                    behind: Some(n), ..
-                },
-            ) => n.saturating_add(1),
+        let Some(innermost) = self.frames.last() else {
+            return 0;
+        };
+        match innermost {
+            Frame::Array {
+                behind: Some(n), ..
+            } => n.saturating_add(1),
+            Frame::Map {
+                behind: Some(n), ..
+            } => n.saturating_add(1),
             _ => 0,
         }
     }

@@ -96,8 +96,8 @@ impl Rules for Deterministic {
 /// Reads one value as `from_reader_with_recursion_limit` does, but accepts one spelling of each
 /// value alone, its deterministic encoding (RFC 8949, section 4.2): every head is the shortest,
 /// every string, array and map is definite, null is `f6`, a bignum has no leading zeros and is no
-/// number of 64 bits, and the keys of each map strictly rise in the canonical order (section 4.2.3). It is
-/// what `into_writer` writes for the value. Comparing keys takes no memory.
+/// number of 64 bits, and the keys of each map strictly rise in the canonical order (section
+/// 4.2.3). It is what `into_writer` writes for the value. Comparing keys takes no memory.
 ///
 /// # Errors
 ///

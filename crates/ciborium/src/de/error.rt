@@ -69,7 +69,7 @@ pub(crate) fn put_back(refusal: Refusal, failure: Option<io::Error>) -> Error<io
             None => Error::Io(io::Error::from(ErrorKind::Other)),
         },
         Error::Syntax(offset) => Error::Syntax(offset),
-        Error::Semantic(offset, kind) => Error::Semantic(offset, kind),
+        Error::Semantic(at, kind) => Error::Semantic(at, kind),
         Error::RecursionLimitExceeded => Error::RecursionLimitExceeded,
         Error::Memory => Error::Memory,
         Error::TooLong => Error::TooLong,
