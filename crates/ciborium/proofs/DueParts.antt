@@ -25,7 +25,8 @@ due-inside : (os : List Open) → parts_due os ≤ 1 + due_behind os
 due-inside [] = omega arith
 due-inside (array vs (Some n) ∷ os) = omega arith
 due-inside (array vs None ∷ os) = omega arith
-due-inside (map ps (Some n) key ∷ os) = omega arith
+due-inside (map ps (Some n) None ∷ os) = omega arith
+due-inside (map ps (Some n) (Some k) ∷ os) = omega arith
 due-inside (map ps None key ∷ os) = omega arith
 due-inside (tag t ∷ os) = omega arith
 
@@ -33,14 +34,16 @@ due-inside (tag t ∷ os) = omega arith
 due-opened : (o : Open) (os : List Open) → due_behind os ≤ due_behind (o ∷ os)
 due-opened (array vs (Some n)) os = omega arith
 due-opened (array vs None) os = omega arith
-due-opened (map ps (Some n) key) os = omega arith
+due-opened (map ps (Some n) None) os = omega arith
+due-opened (map ps (Some n) (Some k)) os = omega arith
 due-opened (map ps None key) os = omega arith
 due-opened (tag t) os = omega arith
 
 parts-opened : (o : Open) (os : List Open) → parts_due (o ∷ os) ≡ parts_due (o ∷ [])
 parts-opened (array vs (Some n)) os = refl
 parts-opened (array vs None) os = refl
-parts-opened (map ps (Some n) key) os = refl
+parts-opened (map ps (Some n) None) os = refl
+parts-opened (map ps (Some n) (Some k)) os = refl
 parts-opened (map ps None key) os = refl
 parts-opened (tag t) os = refl
 

@@ -153,16 +153,6 @@ taken-lent E {S} spelling remaining a b lent back l x begins leaves rests given 
       bytes,
     )
 
-pub as-tree : {S E : Type 0} (spelling : Spelling) (remaining : S → Option (List ℕ)) (d : Decoder S) (l : ℕ) (xs : List ℕ) (p : ℕ) (x : Result Value (Error E)) → IsValueRead {E = E} spelling remaining d l xs p x →
-    IsTreeRead {E = E} spelling remaining d l xs p (read_as tree_of x)
-as-tree spelling remaining d l xs p (Ok v) h = h
-as-tree spelling remaining d l xs p (Err e) h = h
-
-pub read-tree : (E : Type 0) {S : Type 0} (spelling : Spelling) (remaining : S → Option (List ℕ)) (a b : Decoder S) (l : ℕ) (x : Result Value (Error E)) →
-    TakesBeforeAny remaining a b (λ d e. (xs : List ℕ) (p : ℕ) → StandsAt spelling Some d xs p → IsValueRead {S = List ℕ} {E = E} spelling Some e l xs p x) →
-    TakesBeforeAny remaining a b (λ d e. TreeSo {E = E} spelling l d e (read_as tree_of x))
-read-tree E spelling remaining a b l x (s, taken, count, h, bytes) = (s, taken, count, λ c xs p stands. as-tree spelling Some (with_left b c) l xs p x (h c xs p stands), bytes)
-
 -- ---- where only the bytes that may be read ahead are others
 
 pub ahead-same : {S : Type 0} (d e : Decoder S) (u xs : List ℕ) (p : ℕ) (o : Option (Header × ℕ)) → e.window.count ≡ d.window.count → IsAheadBy Some (with_left d u) xs p o → IsAheadBy Some (with_left e u) xs p o

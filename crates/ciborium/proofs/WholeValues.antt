@@ -29,7 +29,7 @@ use Rattle.ciborium.specs.Errors.{IsRefusedBy, IsNamed, kind_of}
 use Rattle.ciborium.specs.Spelling.{any}
 use Rattle.ciborium.proofs.Fronts.{ahead-at, front-fits}
 use Rattle.ciborium.proofs.ItemsRead.{item-read}
-use Rattle.ciborium.proofs.WhateverFollows.{ahead-same, as-tree, so-unread}
+use Rattle.ciborium.proofs.WhateverFollows.{ahead-same, so-unread}
 use Rattle.ciborium.proofs.ValueFaults.{value-faults}
 use Rattle.ciborium.proofs.ValuesGiven.{value-gives}
 
@@ -170,6 +170,6 @@ pushed-ahead E remaining d e f pending l x pushed unread (s, taken, sum, h, byte
   s,
   subst (λ r. Consumes r (left_of remaining f) s) (unread-left remaining d e unread) taken,
   (let count = unread-count d e unread in omega (arith, sum, count)),
-  λ c xs p ahead. as-tree any Some (with_left f c) l xs p x (h c xs p (subst (λ o. IsAheadBy Some (with_left e (s ++ c)) xs p o) (sym pushed) (ahead-same d e (s ++ c) xs p pending (unread-count d e unread) ahead))),
+  λ c xs p ahead. (h c xs p (subst (λ o. IsAheadBy Some (with_left e (s ++ c)) xs p o) (sym pushed) (ahead-same d e (s ++ c) xs p pending (unread-count d e unread) ahead))),
   bytes,
 )

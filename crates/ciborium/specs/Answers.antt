@@ -9,6 +9,7 @@ use Rattle.ciborium_value.specs.declared.tree.Value.{Value}
 use Rattle.ciborium_value.specs.Counts.{node_count, payload_size}
 use Rattle.ciborium_value.specs.Open.{Open, done, more, placed}
 use Rattle.ciborium_value.specs.Proper.{IsProperTree}
+use Rattle.ciborium_value.specs.Sources.{read_as}
 use Rattle.ciborium_value.specs.Tree.{Tree}
 use Rattle.ciborium_value.specs.View.{tree_of}
 use Rattle.ciborium.specs.declared.de.error.Error.{Error}
@@ -23,11 +24,13 @@ abbrev pub IsReading : {S : Type 0} → Spelling → (S → Option (List ℕ)) �
 IsReading spelling remaining d os l xs p =
     (m : ℕ) × (zs : List ℕ) × (r : ℕ) × IsAround spelling l xs p os m zs r × StandsAt spelling remaining d zs r
 
--- the answer of a call that reads a value
+-- the answer of a call that reads a value, by its tree
+abbrev pub IsTreeRead : {S E : Type 0} → Spelling → (S → Option (List ℕ)) → Decoder S → ℕ → List ℕ → ℕ → Result Tree (Error E) → Type 0
+IsTreeRead spelling remaining d l xs p (Ok v) = (zs : List ℕ) × (r : ℕ) × ReadsItem spelling l xs p v zs r × IsAhead remaining d zs r
+IsTreeRead spelling remaining d l xs p (Err e) = IsRefusedBy (left_of remaining d) e (RefusesBy spelling xs p l)
+
 abbrev pub IsValueRead : {S E : Type 0} → Spelling → (S → Option (List ℕ)) → Decoder S → ℕ → List ℕ → ℕ → Result Value (Error E) → Type 0
-IsValueRead spelling remaining d l xs p (Ok v) =
-    (zs : List ℕ) × (r : ℕ) × ReadsItem spelling l xs p (tree_of v) zs r × IsAhead remaining d zs r
-IsValueRead spelling remaining d l xs p (Err e) = IsRefusedBy (left_of remaining d) e (RefusesBy spelling xs p l)
+IsValueRead spelling remaining d l xs p r = IsTreeRead spelling remaining d l xs p (read_as tree_of r)
 
 -- the answer of one turn of the loop
 abbrev pub IsTurned : {S E : Type 0} → Spelling → (S → Option (List ℕ)) → Decoder S → List Open → ℕ → List ℕ → ℕ → Result (Option Value) (Error E) → Type 0
@@ -112,8 +115,3 @@ pub record ReadsWhole {E : Type 0} (spelling : Spelling) (before : Option (List 
   pub bounded : HoldsNoMore before after r
   pub proper : AnswersProper r
   pub within : TakesWithin before after
-
--- the answer of a call that reads a value, by its tree
-abbrev pub IsTreeRead : {S E : Type 0} → Spelling → (S → Option (List ℕ)) → Decoder S → ℕ → List ℕ → ℕ → Result Tree (Error E) → Type 0
-IsTreeRead spelling remaining d l xs p (Ok v) = (zs : List ℕ) × (r : ℕ) × ReadsItem spelling l xs p v zs r × IsAhead remaining d zs r
-IsTreeRead spelling remaining d l xs p (Err e) = IsRefusedBy (left_of remaining d) e (RefusesBy spelling xs p l)

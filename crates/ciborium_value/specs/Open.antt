@@ -1,5 +1,5 @@
 -- Containers and tags that are open while a tree is put together, the innermost first.
-use Rattle.std.specs.Prelude.{ℕ, zero, suc, ◌+◌, List, [], ◌∷◌, ◌++◌, Option, Some, None, option_map}
+use Rattle.std.specs.Prelude.{ℕ, zero, suc, ◌+◌, ◌*◌, List, [], ◌∷◌, ◌++◌, Option, Some, None, option_map}
 use Rattle.ciborium_value.specs.Tree as trees
 use Rattle.ciborium_value.specs.Tree.{Tree}
 use Rattle.ciborium_value.specs.View.{trees_from, tree_pairs_from}
@@ -69,12 +69,13 @@ waiting_keys (map ps behind None ∷ os) = None
 waiting_keys (map ps behind (Some key) ∷ os) = with_last ps key
 waiting_keys (tag n ∷ os) = None
 
--- how many parts of the innermost container are due for sure, the one that is read now included; of the pairs of a map, the keys
+-- how many parts of the innermost container are due for sure, the one that is read now included; a pair is two
 abbrev pub parts_due : List Open → ℕ
 parts_due [] = 0
 parts_due (array vs (Some n) ∷ os) = n + 1
 parts_due (array vs None ∷ os) = 0
-parts_due (map ps (Some n) key ∷ os) = n + 1
+parts_due (map ps (Some n) None ∷ os) = 2 * n + 2
+parts_due (map ps (Some n) (Some k) ∷ os) = 2 * n + 1
 parts_due (map ps None key ∷ os) = 0
 parts_due (tag t ∷ os) = 0
 
@@ -83,6 +84,7 @@ abbrev pub due_behind : List Open → ℕ
 due_behind [] = 0
 due_behind (array vs (Some n) ∷ os) = n + due_behind os
 due_behind (array vs None ∷ os) = due_behind os
-due_behind (map ps (Some n) key ∷ os) = n + due_behind os
+due_behind (map ps (Some n) None ∷ os) = 2 * n + 1 + due_behind os
+due_behind (map ps (Some n) (Some k) ∷ os) = 2 * n + due_behind os
 due_behind (map ps None key ∷ os) = due_behind os
 due_behind (tag t ∷ os) = due_behind os

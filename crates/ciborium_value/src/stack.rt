@@ -254,9 +254,8 @@ impl Stack {
         }
     }
 
-    /// How many parts of the innermost container are due for sure, the one that is read now included;
-    /// of the pairs of a map, the keys. None where no length was announced, under a tag, and where
-    /// nothing is open.
+    /// How many parts of the innermost container are due for sure, the one that is read now included; a
+    /// pair is two. None where no length was announced, under a tag, and where nothing is open.
     #[inline(always)]
     pub fn due(&self) -> usize
         ensures { result ≡ min (parts_due (opens_of self.now)) usize.MAX }
@@ -269,8 +268,13 @@ impl Stack {
                 behind: Some(n), ..
             } => n.saturating_add(1),
             Frame::Map {
+                behind: Some(n),
+                key: None,
+                ..
+            } => n.saturating_mul(2).saturating_add(2),
+            Frame::Map {
                 behind: Some(n), ..
-            } => n.saturating_add(1),
+            } => n.saturating_mul(2).saturating_add(1),
             _ => 0,
         }
     }

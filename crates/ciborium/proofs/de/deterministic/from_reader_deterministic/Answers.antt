@@ -7,7 +7,7 @@ use Rattle.ciborium_value.specs.View.{tree_of}
 use Rattle.ciborium.specs.Spelling.{deterministic}
 use Rattle.ciborium.proofs.KnownReaders.{whole-of}
 use Rattle.ciborium.proofs.PutAside.{back-tree}
-use Rattle.ciborium.proofs.WhateverFollows.{TreeSo, read-tree, taken-lent}
+use Rattle.ciborium.proofs.WhateverFollows.{TreeSo, taken-lent}
 use Rattle.ciborium.proofs.de.deterministic.from_reader_deterministic.Goals as goal
 
 pub returns-in-Ok : goal.returns-in-Ok
@@ -15,7 +15,7 @@ returns-in-Ok g c =
     whole-of {E = Error} deterministic c.args.limit (g.R.Read.remaining c.args.reader.now) _ (Ok (tree_of c.in-Ok.value))
     (taken-lent Error deterministic g.R.Read.remaining c.new-decoder.result c.read_value.new.decoder c.args.reader.now _ c.args.limit (Ok (tree_of c.in-Ok.value)) c.new-decoder.ensures.begins c.in-Ok.ensures.reader c.read_value.ensures.rests
     (let name = sym c.new-decoder.ensures.same_reader ∙ sym (same-name c.new-decoder.result c.read_value.new.decoder c.in-Ok.ensures.reader) in search rules)
-    (read-tree Error deterministic g.R.Read.remaining c.new-decoder.result c.read_value.new.decoder c.args.limit (Ok c.in-Ok.value) c.in-Ok.ensures.value))
+    c.in-Ok.ensures.value)
 
 pub returns-in-Err : goal.returns-in-Err
 returns-in-Err g c =
@@ -24,4 +24,4 @@ returns-in-Err g c =
     (let name = sym c.new-decoder.ensures.same_reader ∙ sym c.in-Err.ensures.reader.0 in search rules)
     (back-tree deterministic g.R.Read.remaining c.new-decoder.result c.read_value.new.decoder c.args.limit c.put_back.result
     (subst (λ r. TakesBeforeAny g.R.Read.remaining c.new-decoder.result c.read_value.new.decoder (λ d f. TreeSo {E = Unit} deterministic c.args.limit d f (Err r))) c.put_back.ensures
-    (read-tree Unit deterministic g.R.Read.remaining c.new-decoder.result c.read_value.new.decoder c.args.limit (Err c.in-Err.refusal) c.in-Err.ensures.value))))
+    c.in-Err.ensures.value)))
