@@ -3,10 +3,10 @@ use Rattle.std.proofs.Common.{◌≡◌, ℕ, zero, suc, ◌+◌, ◌-◌, ◌*�
 use Rattle.ciborium_ll.specs.Bytes.{greatest_offset}
 use Rattle.ciborium_ll.specs.declared.decoder.Decoder.{Decoder}
 use Rattle.ciborium_ll.specs.declared.header.Header.{Header}
-use Rattle.ciborium_ll.specs.Decoding.{HasSameReader, allowed_of, count_of, reach_of}
+use Rattle.ciborium_ll.specs.Decoding.{HasSameReader, count_of, reach_of}
 use Rattle.ciborium_value.specs.declared.stack.Opening.{Opening}
 use Rattle.ciborium_value.specs.declared.tree.Value.{Value}
-use Rattle.ciborium_value.specs.Open.{Open, array, map, tag, Placed, done, more, placed, closed, parts_due, due_behind}
+use Rattle.ciborium_value.specs.Open.{Open, array, map, tag, done, more, placed, closed, parts_due, due_behind}
 use Rattle.ciborium_value.specs.Stack.{opened}
 use Rattle.ciborium_value.specs.Tree as trees
 use Rattle.ciborium_value.specs.Tree.{Tree}

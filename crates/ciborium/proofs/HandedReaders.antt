@@ -1,9 +1,8 @@
 -- From a source that was begun on a lent reader to the reader.
-use Rattle.std.proofs.Common.{◌≡◌, ℕ, ◌+◌, ◌≤◌, List, [], ◌++◌, Option, Some, None, Result, Ok, Err, IfOk, IfErr, IfSome, OnOk, refl, sym, ap, ◌∙◌, subst, append-nil, arith}
+use Rattle.std.proofs.Common.{◌≡◌, ℕ, ◌+◌, ◌≤◌, List, ◌++◌, Option, Some, None, Result, Ok, Err, IfOk, IfErr, IfSome, OnOk, refl, sym, ap, ◌∙◌, subst, arith}
 use Rattle.std.specs.Io.KnownBytes.{Consumes}
-use Rattle.ciborium_ll.specs.declared.decoder.Decoder.{Decoder}
 use Rattle.ciborium_ll.specs.Decoding.{HasBegun, IsAheadBy, with_left, left_of, allowed_of}
-use Rattle.ciborium_ll.proofs.HeldBytes.{begun-left, begun-rest, counted-left, same-name}
+use Rattle.ciborium_ll.proofs.HeldBytes.{begun-left, counted-left}
 use Rattle.ciborium_value.specs.Ahead.{bottom}
 use Rattle.ciborium_value.specs.Readings.{Reading}
 use Rattle.ciborium_value.specs.Sources.{Fault, Refuses, Takes, TakesItem, read_as}

@@ -4,7 +4,7 @@ use Rattle.ciborium_ll.specs.declared.header.Header.{Header}
 use Rattle.ciborium_ll.specs.declared.header.Header.TheVariants as header
 use Rattle.ciborium_ll.specs.declared.decoder.Decoder.{Decoder}
 use Rattle.ciborium_ll.specs.Bytes.{greatest_offset}
-use Rattle.ciborium_ll.specs.Head.{IsHead, break_byte, shortest_head}
+use Rattle.ciborium_ll.specs.Head.{IsHead, shortest_head}
 use Rattle.ciborium_ll.specs.Header.{SpellsHeader}
 use Rattle.ciborium_ll.specs.Refusal.{Refusal, recursion_limit_exceeded, semantic, HeadRefuses, IsUsable}
 use Rattle.ciborium_ll.specs.Refusal as refusal

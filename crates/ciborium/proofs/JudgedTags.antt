@@ -24,7 +24,6 @@ use Rattle.ciborium_value.proofs.Reader.{is_too_large}
 use Rattle.ciborium_value.specs.Stack.{opened}
 use Rattle.ciborium_value.specs.View.{tree_of}
 use Rattle.ciborium.specs.declared.de.error.Error.{Error}
-use Rattle.ciborium.specs.declared.de.front.Part.{Part}
 use Rattle.ciborium.specs.declared.de.error.Error.TheVariants.{Semantic}
 use Rattle.ciborium.specs.DeterministicRefusals.{DeterministicallyRefuses, HasShortHead, IsFoldable}
 use Rattle.ciborium.specs.Errors.{IsRefusedBy}

@@ -13,7 +13,7 @@ use Rattle.ciborium_ll.specs.FirstHeads.{IsEndOrFault, IsFirstTaken}
 use Rattle.ciborium_ll.specs.Reading.{Advances, IsHeadTaken}
 use Rattle.ciborium_ll.specs.Refusal.{HeadRefuses, IsUsable}
 use Rattle.ciborium_ll.proofs.Unread.{reads-head}
-use Rattle.ciborium_ll.proofs.HeldBytes.{begun-count, begun-left, begun-rest, same-name}
+use Rattle.ciborium_ll.proofs.HeldBytes.{begun-count, begun-left, begun-rest}
 use Rattle.ciborium_value.specs.Readings.{Reading}
 use Rattle.ciborium_value.specs.Refuses.{Refuses}
 use Rattle.ciborium_value.specs.Sources.{IsGranted, read_as}

@@ -1,16 +1,13 @@
 -- What is said of an answer does not look at what an error holds of the reader.
-use Rattle.std.proofs.Common.{◌≡◌, ℕ, List, Option, Some, Result, Ok, Err, is_err, true, refl, sym, ◌∙◌, subst}
-use Rattle.std.specs.Io.KnownBytes.{Consumes}
+use Rattle.std.proofs.Common.{◌≡◌, ℕ, List, Option, Some, Result, Err, refl, sym, subst}
 use Rattle.ciborium_ll.specs.declared.decoder.Decoder.{Decoder}
 use Rattle.ciborium_ll.specs.Decoding.{IsAheadBy, TakesBeforeAny}
 use Rattle.ciborium_ll.specs.Refusal.{Refusal}
-use Rattle.ciborium_ll.proofs.HeldBytes.{unread-left, unread-count}
 use Rattle.ciborium.specs.declared.de.byte_source.ByteSource.{ByteSource}
 use Rattle.ciborium.specs.declared.de.error.Error.{Error}
 use Rattle.ciborium.specs.declared.de.error.Error.TheVariants as errors
 use Rattle.ciborium_value.specs.Tree.{Tree}
-use Rattle.ciborium_value.specs.declared.tree.Value.{Value}
-use Rattle.ciborium.specs.Answers.{IsTreeRead, IsValueRead}
+use Rattle.ciborium.specs.Answers.{IsTreeRead}
 use Rattle.ciborium.specs.ByteSources.{ReadsValue, cause_of}
 use Rattle.ciborium.specs.Due.{LeavesReader}
 use Rattle.ciborium.specs.Errors.{IsRefusedBy, refusal_of}

@@ -4,7 +4,7 @@ use Rattle.ciborium_ll.specs.Bytes.{greatest_offset}
 use Rattle.ciborium_ll.specs.declared.decoder.Decoder.{Decoder}
 use Rattle.ciborium_ll.specs.Decoding.{offset_of, left_of}
 use Rattle.ciborium_ll.specs.Head.{break_byte}
-use Rattle.ciborium_ll.specs.Refusal.{Refusal, semantic, Break, IsUsable}
+use Rattle.ciborium_ll.specs.Refusal.{Refusal, semantic, Break}
 use Rattle.ciborium_value.specs.declared.tree.Value.{Value}
 use Rattle.ciborium_value.specs.declared.stack.Opening.{Opening}
 use Rattle.ciborium_value.specs.Open.{Open, array, map, tag, Placed, more, placed, closed}
@@ -26,7 +26,7 @@ use Rattle.ciborium.specs.Reads.{ReadsItem, StandsAt}
 use Rattle.ciborium.specs.Spelling.{Spelling, any, deterministic, RefusesBy}
 use Rattle.ciborium.proofs.JudgedTurns.{Lands, LandsIn, disordered, kept, landed, refused-around}
 use Rattle.ciborium.proofs.Pulled.{refused-map}
-use Rattle.ciborium.proofs.SpelledParts.{ahead-of, stands-offset}
+use Rattle.ciborium.proofs.SpelledParts.{stands-offset}
 use Rattle.ciborium.proofs.Turning.{EndsHere, IsPlaced, closed-item, placed-turn, refused-turn}
 
 -- ---- what the spelling decides

@@ -19,8 +19,6 @@ use Rattle.ciborium_value.specs.Open.{Open}
 use Rattle.ciborium_value.specs.Tree.{Tree}
 use Rattle.ciborium_value.specs.declared.tree.Value.{Value}
 use Rattle.ciborium.specs.declared.de.error.Error.{Error}
-use Rattle.ciborium_value.specs.Sources.{read_as}
-use Rattle.ciborium_value.specs.View.{tree_of}
 use Rattle.ciborium.specs.declared.de.error.Error.TheVariants as errors
 use Rattle.ciborium.specs.Answers.{IsReading, IsTakenFrom, IsTreeRead, IsValueRead, TakesBytes}
 use Rattle.ciborium.specs.Due.{IsSpent, LeavesReader}

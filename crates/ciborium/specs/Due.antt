@@ -1,5 +1,5 @@
 -- How far a reader may be read ahead while a value is put together: each part that is due takes a byte at least.
-use Rattle.std.specs.Prelude.{◌≡◌, ℕ, ◌+◌, ◌-◌, ◌≤◌, ◌⊎◌, List, [], Option, Some, None, MatchOption, Result, Ok, Err}
+use Rattle.std.specs.Prelude.{◌≡◌, ℕ, ◌+◌, ◌-◌, ◌≤◌, ◌⊎◌, List, Option, Some, None, MatchOption, Result, Ok, Err}
 use Rattle.ciborium_ll.specs.declared.decoder.Decoder.{Decoder}
 use Rattle.ciborium_ll.specs.declared.header.Header.{Header}
 use Rattle.ciborium_ll.specs.Decoding.{HasSameReader, HoldsNothing, allowed_of, count_of, reach_of}

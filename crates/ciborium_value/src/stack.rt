@@ -265,7 +265,8 @@ impl Stack {
         };
         match innermost {
             Frame::Array {
-                behind: Some(n), ..
+                behind: Some(n),
+                ..
             } => n.saturating_add(1),
             Frame::Map {
                 behind: Some(n),
@@ -273,7 +274,8 @@ impl Stack {
                 ..
             } => n.saturating_mul(2).saturating_add(2),
             Frame::Map {
-                behind: Some(n), ..
+                behind: Some(n),
+                ..
             } => n.saturating_mul(2).saturating_add(1),
             _ => 0,
         }

@@ -37,12 +37,7 @@ fn find_folding(tag: u64, header: Header) -> Option<usize>
 }
 
 // What a tag at this offset means that folds over these bytes.
-fn fold<E>(
-    alloc: Global,
-    tag: u64,
-    payload: &[u8],
-    offset: usize,
-) -> Result<Value, Error<E>>
+fn fold<E>(alloc: Global, tag: u64, payload: &[u8], offset: usize) -> Result<Value, Error<E>>
     requires tag { is_bignum_tag tag ≡ true }
     requires short { length payload.now ≤ 16 }
     ensures { IsFolded tag payload.now offset result }

@@ -11,8 +11,8 @@ ghost use Rattle.ciborium.specs.ByteSources.{is_portable, weight_left};
 ghost use Rattle.ciborium.specs.ItemReads.{Denies, Reads};
 
 use crate::de::building::read_value;
-use crate::de::byte_source::scalars::is_null;
 use crate::de::byte_source::ByteSource;
+use crate::de::byte_source::scalars::is_null;
 use crate::de::error::Refusal;
 use crate::de::spelling::AnySpelling;
 use ciborium_ll::{Decoder, Header};

@@ -1,4 +1,4 @@
-use Rattle.std.proofs.Common.{◌≡◌, ◌∙◌, arith, ◌≤◌, ℕ, List, length, min, refl, rules, Some, Ok, Err, Result, Option, subst, MatchOption}
+use Rattle.std.proofs.Common.{◌∙◌, arith, ◌≤◌, ℕ, List, length, refl, rules, Some, Ok, Err, Result, Option, subst, MatchOption}
 use Rattle.std.proofs.lemmas.Result.{err_from_is_err_and}
 use Rattle.ciborium_ll.specs.declared.decoder.Decoder.{Decoder}
 use Rattle.ciborium_value.specs.declared.tree.Value.{Value}
@@ -9,7 +9,7 @@ use Rattle.ciborium.specs.Answers.{IsReading, IsTurned}
 use Rattle.ciborium.specs.Reads.{StandsAt}
 use Rattle.ciborium.specs.Spelling.{Spelling}
 use Rattle.ciborium_ll.specs.Decoding.{with_left}
-use Rattle.ciborium_ll.specs.Decoding.{TakesBeforeAny, reach_of}
+use Rattle.ciborium_ll.specs.Decoding.{reach_of}
 use Rattle.ciborium_ll.proofs.HeldBytes.{same-name}
 use Rattle.ciborium.specs.Due.{AllowsThen}
 use Rattle.ciborium.proofs.DueParts.{allowed-first, allowed-parts, heads-same}
@@ -39,14 +39,14 @@ pub turns-preserved : goal.turns-preserved
 turns-preserved g c = record {
   name = same-name c.allow.new.self c.turn.new.decoder c.in_ok-value.ensures.same_reader ∙ c.allow.ensures.name ∙ c.turns.invariant.name;
   due = subst (AllowsThen (reach_of c.args.decoder.now) c.turn.new.decoder (opens_of c.turn.new.stack)) c.in_default.is (c.in_ok-value.ensures.due (reach_of c.args.decoder.now)
-    (allowed-parts (reach_of c.args.decoder.now) c.turns.decoder c.allow.new.self (opens_of c.turns.stack) c.turns.invariant.due c.due.result (omega (arith, c.due.ensures)) c.allow.ensures.pushed c.allow.ensures.count c.allow.ensures.reach));
+      (allowed-parts (reach_of c.args.decoder.now) c.turns.decoder c.allow.new.self (opens_of c.turns.stack) c.turns.invariant.due c.due.result (omega (arith, c.due.ensures)) c.allow.ensures.pushed c.allow.ensures.count c.allow.ensures.reach));
   depth = subst (λ o. MatchOption o (length (opens_of c.turn.new.stack) ≤ c.args.levels) (λ _. Unit {0})) c.in_default.is c.in_ok-value.ensures.depth;
   fewer = omega (arith, c.in_ok-value.ensures.fewer, c.turns.invariant.fewer, heads-same c.turns.decoder c.allow.new.self c.allow.ensures.pushed c.allow.ensures.count);
   reading = (
       let t = so-both g.R.Read.remaining c.args.decoder.now c.allow.new.self c.turn.new.decoder (Reading g.S.Rules.spelling (opens_of c.turns.stack) c.args.levels)
-    (Turns g.S.Rules.spelling (opens_of c.turns.stack) (opens_of c.turn.new.stack) c.args.levels (Ok c.in_ok-value.field-0))
-    (so-kept g.R.Read.remaining c.args.decoder.now c.turns.decoder c.allow.new.self (Reading g.S.Rules.spelling (opens_of c.turns.stack) c.args.levels) (Reading g.S.Rules.spelling (opens_of c.turns.stack) c.args.levels) c.allow.ensures.unread c.allow.ensures.count
-    (λ u v h xs p s. reading-moved c.turns.decoder c.allow.new.self v c.allow.ensures.pushed c.allow.ensures.count g.S.Rules.spelling (opens_of c.turns.stack) c.args.levels xs p c.allow.ensures.head_len (h xs p s)) c.turns.invariant.reading) c.in_ok-value.ensures.turn in (
+      (Turns g.S.Rules.spelling (opens_of c.turns.stack) (opens_of c.turn.new.stack) c.args.levels (Ok c.in_ok-value.field-0))
+      (so-kept g.R.Read.remaining c.args.decoder.now c.turns.decoder c.allow.new.self (Reading g.S.Rules.spelling (opens_of c.turns.stack) c.args.levels) (Reading g.S.Rules.spelling (opens_of c.turns.stack) c.args.levels) c.allow.ensures.unread c.allow.ensures.count
+      (λ u v h xs p s. reading-moved c.turns.decoder c.allow.new.self v c.allow.ensures.pushed c.allow.ensures.count g.S.Rules.spelling (opens_of c.turns.stack) c.args.levels xs p c.allow.ensures.head_len (h xs p s)) c.turns.invariant.reading) c.in_ok-value.ensures.turn in (
         t.0,
         t.1,
         t.2,

@@ -1,5 +1,4 @@
-use Rattle.std.proofs.Common.{◌≡◌, ◌∙◌, ℕ, List, Some, Ok, Err, arith, ap}
-use Rattle.ciborium_ll.specs.Decoding.{with_left}
+use Rattle.std.proofs.Common.{◌∙◌, ℕ, List, Some, Ok, arith}
 use Rattle.ciborium_ll.proofs.HeldBytes.{same-name}
 use Rattle.ciborium.specs.Answers.{IsValueRead}
 use Rattle.ciborium.specs.Reads.{StandsAt}

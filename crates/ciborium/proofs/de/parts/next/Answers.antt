@@ -1,4 +1,4 @@
-use Rattle.std.proofs.Common.{◌≡◌, ℕ, List, ◌++◌, ap, sym, ◌∙◌, None, Some, Ok, Err, pos, negsuc, subst}
+use Rattle.std.proofs.Common.{◌≡◌, ℕ, List, ◌++◌, ap, sym, ◌∙◌, Some, Ok, Err, subst}
 use Rattle.std.proofs.lemmas.Result.{err_from_is_err_and}
 use Rattle.ciborium_ll.specs.declared.header.Header.TheVariants as header
 use Rattle.ciborium_ll.specs.Decoding.{with_left}
@@ -66,8 +66,7 @@ returns-in-Negative-clause-part g c =
 pub returns-in_ok-value-in-Bytes-clause-part : goal.returns-in_ok-value-in-Bytes-clause-part
 returns-in_ok-value-in-Bytes-clause-part g c =
     let t = so-both g.R.Read.remaining c.args.decoder.now c.pull.new.decoder c.read_bytes.new.decoder (λ d e. PullsSo {E = Unit} Some d e (Ok c.in_ok-header.header))
-    (λ d e. StringSo {E = Unit} of_bytes c.in-Bytes.len c.pull.new.decoder.last d e (Ok c.in_ok-value-in-Bytes.value)) c.in_ok-header.ensures.head c.in_ok-value-in-Bytes.ensures.content in
-    (
+    (λ d e. StringSo {E = Unit} of_bytes c.in-Bytes.len c.pull.new.decoder.last d e (Ok c.in_ok-value-in-Bytes.value)) c.in_ok-header.ensures.head c.in_ok-value-in-Bytes.ensures.content in (
       t.0,
       t.1,
       t.2,
@@ -97,8 +96,7 @@ returns-in_err-value-in-Bytes-clause-part g c =
 pub returns-in_ok-value-in-Text-clause-part : goal.returns-in_ok-value-in-Text-clause-part
 returns-in_ok-value-in-Text-clause-part g c =
     let t = so-both g.R.Read.remaining c.args.decoder.now c.pull.new.decoder c.read_text.new.decoder (λ d e. PullsSo {E = Unit} Some d e (Ok c.in_ok-header.header))
-    (λ d e. StringSo {E = Unit} of_text c.in-Text.len c.pull.new.decoder.last d e (Ok c.in_ok-value-in-Text.value)) c.in_ok-header.ensures.head c.in_ok-value-in-Text.ensures.content in
-    (
+    (λ d e. StringSo {E = Unit} of_text c.in-Text.len c.pull.new.decoder.last d e (Ok c.in_ok-value-in-Text.value)) c.in_ok-header.ensures.head c.in_ok-value-in-Text.ensures.content in (
       t.0,
       t.1,
       t.2,
