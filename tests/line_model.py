@@ -5,7 +5,7 @@ are read by `typed_model`; here stand the other forms of lines.
     python3 line_model.py answer < LINES    prints `LINE = ANSWER` of each line, or the line where it is not answered
     python3 line_model.py stored FILE       compares the lines of FILE, each `LINE = ANSWER`, with the model's answers
 
-Not answered are how many reads and writes a value takes, how many nodes a comparison visits, and calls that fail in turn where
+Not answered are how many reads a type takes other than `Value`, how many writes, how many nodes a comparison visits, and calls that fail in turn where
 they are refused anyway.
 """
 
@@ -14,6 +14,7 @@ import sys
 
 sys.dont_write_bytecode = True
 
+import asked_model as asked
 import head_model as heads
 import typed_model as model
 
@@ -372,12 +373,15 @@ def answer_at(rest):
 
 
 def answer_asked(rest):
-    """How often a reader is asked is not modelled."""
+    """How often a reader is asked is modelled for values that are read."""
     name, limit, digits = split(rest, 3)
     find_type(name)
-    parse_limit(limit)
-    parse_pieces(digits)
-    raise Unanswered
+    limit = parse_limit(limit)
+    data = parse_pieces(digits)
+    front = model.answer_bytes(name, limit, data)
+    if name != "Value" or not front.startswith("ok "):
+        raise Unanswered
+    return "%s; %s" % (front.rsplit(" ", 1)[0], asked.count_reads(data))
 
 
 def answer_head_faults(rest, is_first=False):
