@@ -2,7 +2,8 @@
 
 ghost use Rattle.std.specs.Prelude.{◌≡◌, ◌<◌, ◌≤◌, IfErr, IfOk, List, MatchOption, None};
 ghost use Rattle.std.specs.Prelude.{Ok, OnOk, Some, length, ℕ};
-ghost use Rattle.ciborium_ll.specs.Decoding.{HasSameReader, TakesBeforeAny, pushed_of, reach_of};
+ghost use Rattle.ciborium_ll.specs.Decoding.{HasSameReader, TakesBeforeAny, count_of};
+ghost use Rattle.ciborium_ll.specs.Decoding.{head_len_of, left_of, pushed_of, reach_of};
 ghost use Rattle.ciborium_value.specs.Stack.{opens_of};
 ghost use Rattle.ciborium_value.specs.View.{tree_of};
 ghost use Rattle.ciborium.specs.Answers.{IsPlacedInOrder, IsReading, IsTurned, IsValueRead};
@@ -76,6 +77,22 @@ fn turn<S: Rules, R: Read>(
     }
 }
 
+// Allows the decoder as many bytes as parts are due, where it holds none.
+#[inline(always)]
+fn allow_due<R: Read>(decoder: &mut Decoder<'_, R>, stack: &Stack)
+    ensures name { decoder.new.reader.ghost_name ≡ decoder.old.reader.ghost_name }
+    ensures pushed { pushed_of decoder.new ≡ pushed_of decoder.old }
+    ensures head_len { head_len_of decoder.new ≡ head_len_of decoder.old }
+    ensures count { count_of decoder.new ≡ count_of decoder.old }
+    ensures unread { left_of R.remaining decoder.new ≡ left_of R.remaining decoder.old }
+    ensures due { (reach : ℕ) → AllowsDue reach decoder.old (opens_of stack.now) →
+        AllowsDue reach decoder.new (opens_of stack.now) }
+{
+    if decoder.held_byte().is_none() {
+        decoder.allow(stack.due());
+    }
+}
+
 // Reads part after part up to the end of the value ahead. What is due is read ahead.
 #[inline(always)]
 fn build<S: Rules, R: Read>(
@@ -96,7 +113,7 @@ fn build<S: Rules, R: Read>(
 {
     let mut stack = Stack::new(alloc);
     'turns: loop {
-        decoder.allow(stack.due());
+        allow_due(decoder, &stack);
         if let Some(value) = turn::<S, R>(alloc, decoder, scratch, &mut stack, levels, failure)? {
             return Ok(value);
         }

@@ -12,7 +12,7 @@ use Rattle.ciborium_ll.specs.Decoding.{with_left}
 use Rattle.ciborium_ll.specs.Decoding.{reach_of}
 use Rattle.ciborium_ll.proofs.HeldBytes.{same-name}
 use Rattle.ciborium.specs.Due.{AllowsThen}
-use Rattle.ciborium.proofs.DueParts.{allowed-first, allowed-parts, heads-same}
+use Rattle.ciborium.proofs.DueParts.{allowed-first, heads-same}
 use Rattle.ciborium.proofs.Turned.{begin}
 use Rattle.ciborium.proofs.WhateverFollows.{reading-moved, so-both, so-kept, so-unread}
 use Rattle.ciborium.proofs.de.building.build.Goals as goal
@@ -37,16 +37,16 @@ turns-init g c = record {
 
 pub turns-preserved : goal.turns-preserved
 turns-preserved g c = record {
-  name = same-name c.allow.new.self c.turn.new.decoder c.in_ok-value.ensures.same_reader ∙ c.allow.ensures.name ∙ c.turns.invariant.name;
+  name = same-name c.allow_due.new.decoder c.turn.new.decoder c.in_ok-value.ensures.same_reader ∙ c.allow_due.ensures.name ∙ c.turns.invariant.name;
   due = subst (AllowsThen (reach_of c.args.decoder.now) c.turn.new.decoder (opens_of c.turn.new.stack)) c.in_default.is (c.in_ok-value.ensures.due (reach_of c.args.decoder.now)
-      (allowed-parts (reach_of c.args.decoder.now) c.turns.decoder c.allow.new.self (opens_of c.turns.stack) c.turns.invariant.due c.due.result (omega (arith, c.due.ensures)) c.allow.ensures.pushed c.allow.ensures.count c.allow.ensures.reach));
+      (c.allow_due.ensures.due (reach_of c.args.decoder.now) c.turns.invariant.due));
   depth = subst (λ o. MatchOption o (length (opens_of c.turn.new.stack) ≤ c.args.levels) (λ _. Unit {0})) c.in_default.is c.in_ok-value.ensures.depth;
-  fewer = omega (arith, c.in_ok-value.ensures.fewer, c.turns.invariant.fewer, heads-same c.turns.decoder c.allow.new.self c.allow.ensures.pushed c.allow.ensures.count);
+  fewer = omega (arith, c.in_ok-value.ensures.fewer, c.turns.invariant.fewer, heads-same c.turns.decoder c.allow_due.new.decoder c.allow_due.ensures.pushed c.allow_due.ensures.count);
   reading = (
-      let t = so-both g.R.Read.remaining c.args.decoder.now c.allow.new.self c.turn.new.decoder (Reading g.S.Rules.spelling (opens_of c.turns.stack) c.args.levels)
+      let t = so-both g.R.Read.remaining c.args.decoder.now c.allow_due.new.decoder c.turn.new.decoder (Reading g.S.Rules.spelling (opens_of c.turns.stack) c.args.levels)
       (Turns g.S.Rules.spelling (opens_of c.turns.stack) (opens_of c.turn.new.stack) c.args.levels (Ok c.in_ok-value.field-0))
-      (so-kept g.R.Read.remaining c.args.decoder.now c.turns.decoder c.allow.new.self (Reading g.S.Rules.spelling (opens_of c.turns.stack) c.args.levels) (Reading g.S.Rules.spelling (opens_of c.turns.stack) c.args.levels) c.allow.ensures.unread c.allow.ensures.count
-      (λ u v h xs p s. reading-moved c.turns.decoder c.allow.new.self v c.allow.ensures.pushed c.allow.ensures.count g.S.Rules.spelling (opens_of c.turns.stack) c.args.levels xs p c.allow.ensures.head_len (h xs p s)) c.turns.invariant.reading) c.in_ok-value.ensures.turn in (
+      (so-kept g.R.Read.remaining c.args.decoder.now c.turns.decoder c.allow_due.new.decoder (Reading g.S.Rules.spelling (opens_of c.turns.stack) c.args.levels) (Reading g.S.Rules.spelling (opens_of c.turns.stack) c.args.levels) c.allow_due.ensures.unread c.allow_due.ensures.count
+      (λ u v h xs p s. reading-moved c.turns.decoder c.allow_due.new.decoder v c.allow_due.ensures.pushed c.allow_due.ensures.count g.S.Rules.spelling (opens_of c.turns.stack) c.args.levels xs p c.allow_due.ensures.head_len (h xs p s)) c.turns.invariant.reading) c.in_ok-value.ensures.turn in (
         t.0,
         t.1,
         t.2,
@@ -60,14 +60,14 @@ turns-preserved g c = record {
 pub returns-in-Some-clause-due : goal.returns-in-Some-clause-due
 returns-in-Some-clause-due g c =
     subst (AllowsThen (reach_of c.args.decoder.now) c.turn.new.decoder (opens_of c.turn.new.stack)) c.in-Some.is (c.in_ok-value.ensures.due (reach_of c.args.decoder.now)
-    (allowed-parts (reach_of c.args.decoder.now) c.turns.decoder c.allow.new.self (opens_of c.turns.stack) c.turns.invariant.due c.due.result (omega (arith, c.due.ensures)) c.allow.ensures.pushed c.allow.ensures.count c.allow.ensures.reach))
+    (c.allow_due.ensures.due (reach_of c.args.decoder.now) c.turns.invariant.due))
 
 pub returns-in-Some-clause-value : goal.returns-in-Some-clause-value
 returns-in-Some-clause-value g c =
-    let t = so-both g.R.Read.remaining c.args.decoder.now c.allow.new.self c.turn.new.decoder (Reading g.S.Rules.spelling (opens_of c.turns.stack) c.args.levels)
+    let t = so-both g.R.Read.remaining c.args.decoder.now c.allow_due.new.decoder c.turn.new.decoder (Reading g.S.Rules.spelling (opens_of c.turns.stack) c.args.levels)
     (Turns g.S.Rules.spelling (opens_of c.turns.stack) (opens_of c.turn.new.stack) c.args.levels (Ok c.in_ok-value.field-0))
-    (so-kept g.R.Read.remaining c.args.decoder.now c.turns.decoder c.allow.new.self (Reading g.S.Rules.spelling (opens_of c.turns.stack) c.args.levels) (Reading g.S.Rules.spelling (opens_of c.turns.stack) c.args.levels) c.allow.ensures.unread c.allow.ensures.count
-    (λ u v h xs p s. reading-moved c.turns.decoder c.allow.new.self v c.allow.ensures.pushed c.allow.ensures.count g.S.Rules.spelling (opens_of c.turns.stack) c.args.levels xs p c.allow.ensures.head_len (h xs p s)) c.turns.invariant.reading) c.in_ok-value.ensures.turn in (
+    (so-kept g.R.Read.remaining c.args.decoder.now c.turns.decoder c.allow_due.new.decoder (Reading g.S.Rules.spelling (opens_of c.turns.stack) c.args.levels) (Reading g.S.Rules.spelling (opens_of c.turns.stack) c.args.levels) c.allow_due.ensures.unread c.allow_due.ensures.count
+    (λ u v h xs p s. reading-moved c.turns.decoder c.allow_due.new.decoder v c.allow_due.ensures.pushed c.allow_due.ensures.count g.S.Rules.spelling (opens_of c.turns.stack) c.args.levels xs p c.allow_due.ensures.head_len (h xs p s)) c.turns.invariant.reading) c.in_ok-value.ensures.turn in (
       t.0,
       t.1,
       t.2,
@@ -79,8 +79,8 @@ returns-in-Some-clause-value g c =
 pub returns-in_err-value-clause-value : goal.returns-in_err-value-clause-value
 returns-in_err-value-clause-value g c =
     let exit = err_from_is_err_and c.from_residual.result c.from_residual.ensures.1 in
-    let t = so-both g.R.Read.remaining c.args.decoder.now c.allow.new.self c.turn.new.decoder (Reading g.S.Rules.spelling (opens_of c.turns.stack) c.args.levels)
+    let t = so-both g.R.Read.remaining c.args.decoder.now c.allow_due.new.decoder c.turn.new.decoder (Reading g.S.Rules.spelling (opens_of c.turns.stack) c.args.levels)
     (Turns g.S.Rules.spelling (opens_of c.turns.stack) (opens_of c.turn.new.stack) c.args.levels (Err c.in_err-value.field-0.0))
-    (so-kept g.R.Read.remaining c.args.decoder.now c.turns.decoder c.allow.new.self (Reading g.S.Rules.spelling (opens_of c.turns.stack) c.args.levels) (Reading g.S.Rules.spelling (opens_of c.turns.stack) c.args.levels) c.allow.ensures.unread c.allow.ensures.count
-    (λ u v h xs p s. reading-moved c.turns.decoder c.allow.new.self v c.allow.ensures.pushed c.allow.ensures.count g.S.Rules.spelling (opens_of c.turns.stack) c.args.levels xs p c.allow.ensures.head_len (h xs p s)) c.turns.invariant.reading) c.in_err-value.ensures.turn in
+    (so-kept g.R.Read.remaining c.args.decoder.now c.turns.decoder c.allow_due.new.decoder (Reading g.S.Rules.spelling (opens_of c.turns.stack) c.args.levels) (Reading g.S.Rules.spelling (opens_of c.turns.stack) c.args.levels) c.allow_due.ensures.unread c.allow_due.ensures.count
+    (λ u v h xs p s. reading-moved c.turns.decoder c.allow_due.new.decoder v c.allow_due.ensures.pushed c.allow_due.ensures.count g.S.Rules.spelling (opens_of c.turns.stack) c.args.levels xs p c.allow_due.ensures.head_len (h xs p s)) c.turns.invariant.reading) c.in_err-value.ensures.turn in
     rw (exit.1, exit.2) (t.0, t.1, t.2, λ z xs p s. let m = t.3 z in m.2 xs p (m.1 xs p s), t.4)
