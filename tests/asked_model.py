@@ -2,7 +2,8 @@
 
 A byte is asked for only where it is needed and none is held. One read asks for the rest of what is needed, or for what
 is due, whichever is more, and for 256 bytes at most where it is due. Due is a byte for each part that is left of a
-container whose length was announced; a pair is two parts. Strings are taken into a room of 1,024 bytes.
+container whose length was announced, told before a part of it where none is held; a pair is two parts. Strings are
+taken into a room of 1,024 bytes.
 """
 
 MOST_AHEAD = 256
@@ -62,7 +63,7 @@ def read_value(window):
     open, and 1 of a tag, which is allowed nothing."""
     stack = []
     while True:
-        if stack and stack[-1][0] and stack[-1][1] is not None:
+        if not window.held and stack and stack[-1][0] and stack[-1][1] is not None:
             window.allow(stack[-1][1])
         major, argument = window.take_head()
         if major in (2, 3):
