@@ -53,8 +53,8 @@ impl Window {
     ghost use Rattle.std.specs.Prelude.{◌≤◌, ◌++◌, IfNone, IfSome, length};
     ghost use Rattle.ciborium_ll.specs.Windows.{TakesHeld};
 
-    // Appends what is held of n bytes, and answers how many these are, or `None` where memory is
-    // refused.
+    // Appends n bytes, where all of them are held, and answers how many were appended, or `None` where
+    // memory is refused.
     #[inline(always)]
     fn append_held(&mut self, n: usize, out: &mut Vec<u8>) -> Option<usize>
         ensures reach { self.new.reach ≡ self.old.reach }
@@ -65,16 +65,15 @@ impl Window {
         ensures none { IfNone result
             ((self.new ≡ self.old) × (out.new.items ≡ out.old.items)) }
     {
-        if self.is_used_up() {
+        let held = self.held();
+        if held.len() < n {
             return Some(0);
         }
-        let held = self.held();
-        let size = n.min(held.len());
-        if out.extend_from_slice(&held[..size]).is_err() {
+        if out.extend_from_slice(&held[..n]).is_err() {
             return None;
         }
-        self.count += size;
-        Some(size)
+        self.count += n;
+        Some(n)
     }
 }
 
