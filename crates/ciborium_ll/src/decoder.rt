@@ -29,7 +29,8 @@ impl<'a, R: Read> Decoder<'a, R> {
     ghost use Rattle.std.specs.Io.KnownBytes.{IsAtEnd};
     ghost use Rattle.ciborium_ll.specs.Bytes.{greatest_offset};
     ghost use Rattle.ciborium_ll.specs.Decoding.{HasBegun, HasSameReader, HoldsNothing, IsAhead};
-    ghost use Rattle.ciborium_ll.specs.Decoding.{IsHeld, IsSpent, IsUnread, MeasuresHead, Pulls, Takes};
+    ghost use Rattle.ciborium_ll.specs.Decoding.{IsHeld, IsSpent, IsUnread, MeasuresHead, Pulls};
+    ghost use Rattle.ciborium_ll.specs.Decoding.{Takes};
     ghost use Rattle.ciborium_ll.specs.Decoding.{allowed_of, count_of, head_len_of, last_of};
     ghost use Rattle.ciborium_ll.specs.Decoding.{left_of, offset_of, pushed_of, reach_of};
     ghost use Rattle.ciborium_ll.specs.FirstHeads.{IsEndOrFault, IsFirstTaken, MeasuresFirst};
@@ -296,8 +297,8 @@ impl<'a, R: Read> Decoder<'a, R> {
         self.window.reach()
     }
 
-    /// Takes back what `allow` said: no byte from this offset on may be read ahead, and those before
-    /// it may. It has no effect where a byte is held already that stands there or behind.
+    /// Takes back what `allow` said: no byte from this offset on may be read ahead, and those
+    /// before it may. It has no effect where a byte is held already that stands there or behind.
     #[inline(always)]
     pub fn forbid_behind(&mut self, reach: usize)
         ensures name { self.new.reader.ghost_name ≡ self.old.reader.ghost_name }

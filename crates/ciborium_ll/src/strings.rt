@@ -53,8 +53,8 @@ impl Window {
     ghost use Rattle.std.specs.Prelude.{◌≤◌, ◌++◌, IfNone, IfSome, length};
     ghost use Rattle.ciborium_ll.specs.Windows.{TakesHeld};
 
-    // Appends n bytes, where all of them are held, and answers how many were appended, or `None` where
-    // memory is refused.
+    // Appends n bytes, where all of them are held, and answers how many were appended, or `None`
+    // where memory is refused.
     #[inline(always)]
     fn append_held(&mut self, n: usize, out: &mut Vec<u8>) -> Option<usize>
         ensures reach { self.new.reach ≡ self.old.reach }

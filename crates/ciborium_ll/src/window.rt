@@ -21,8 +21,8 @@ pub(crate) struct Window {
 }
 
 impl Window {
-    ghost use Rattle.std.specs.Prelude.{[], ◌-◌, ◌↔◌, ◌<◌, ◌∷◌, IfErr, IfNone, IfOk, IfSome, IsTrue};
-    ghost use Rattle.std.specs.Prelude.{List, Option, min, take, ℕ};
+    ghost use Rattle.std.specs.Prelude.{[], ◌-◌, ◌↔◌, ◌<◌, ◌∷◌, IfErr, IfNone, IfOk, IfSome};
+    ghost use Rattle.std.specs.Prelude.{IsTrue, List, Option, min, take, ℕ};
     ghost use Rattle.std.specs.Io.KnownBytes.{IsAtEnd, Keeps};
     ghost use Rattle.ciborium_ll.specs.Windows.{AllowsNothing, TakesHeld, held, held_at};
     ghost use Rattle.ciborium_ll.specs.Windows.{reach_behind, unread};

@@ -121,8 +121,8 @@ fn build<S: Rules, R: Read>(
 }
 
 /// Reads the value ahead in this spelling, within this many levels. A reader's error is kept aside.
-/// Behind the value nothing is held that might not be read ahead before; behind a refusal nothing is,
-/// and no head is pushed.
+/// Behind the value nothing is held that might not be read ahead before; behind a refusal nothing
+/// is, and no head is pushed.
 pub(crate) fn read_value<S: Rules, R: Read>(
     alloc: Global,
     decoder: &mut Decoder<'_, R>,

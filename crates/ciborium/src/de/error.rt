@@ -54,8 +54,8 @@ impl<T> From<ciborium_ll::Error<T>> for Error<T> {
     }
 }
 
-/// Why a call was refused, without the reader's error, which is kept aside: it is large, and a result
-/// that held it would be moved at every level.
+/// Why a call was refused, without the reader's error, which is kept aside: it is large, and a
+/// result that held it would be moved at every level.
 pub(crate) type Refusal = Error<()>;
 
 /// Puts back the error that was kept aside. There is one wherever a call was refused as `Io`.
