@@ -254,8 +254,9 @@ impl Stack {
         }
     }
 
-    /// How many parts of the innermost container are due for sure, the one that is read now included;
-    /// a pair is two. None where no length was announced, under a tag, and where nothing is open.
+    /// How many parts of the innermost container are due for sure, the one that is read now
+    /// included; a pair is two. None where no length was announced, under a tag, and where nothing
+    /// is open.
     #[inline(always)]
     pub fn due(&self) -> usize
         ensures { result ≡ min (parts_due (opens_of self.now)) usize.MAX }
