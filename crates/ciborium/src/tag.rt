@@ -1,12 +1,13 @@
 //! Tags around a value (RFC 8949, section 3.4).
 
-ghost use Rattle.std.specs.Prelude.{◌⊎◌, IfErr, OnErr, OnOk, Option, ℕ};
+ghost use Rattle.std.specs.Prelude.{◌⊎◌, IfErr, OnErr, OnOk, Option, refl, ℕ};
+ghost use Rattle.ciborium_value.specs.KeyOrders.{ordering_then-same};
 ghost use Rattle.ciborium_value.specs.Sinks.{AddsNamed, BreaksNamed, IsGranted, IsOwed, IsReady};
 ghost use Rattle.ciborium_value.specs.Sinks.{tag_of};
 ghost use Rattle.ciborium_value.specs.TagReadings.{tag_accepted, tag_required, with_tag};
 ghost use Rattle.ciborium.specs.Tags.{captured_of};
 
-use crate::de::{Deserialize, Source};
+use crate::de::{Deserialize, Key, Source};
 use crate::ser::{Serialize, Sink};
 use crate::value::Kind;
 use std::alloc::Global;
@@ -115,6 +116,18 @@ impl<V: Deserialize, const TAG: u64> Deserialize for Accepted<V, TAG> {
             None => Ok(Accepted(value)),
         }
     }
+}
+
+impl<V: Key> Key for Captured<V> {
+    ghost orders = { λ a b. ordering_then-same refl (V.orders a.1 b.1) };
+}
+
+impl<V: Key, const TAG: u64> Key for Required<V, TAG> {
+    ghost orders = { λ a b. V.orders a.0 b.0 };
+}
+
+impl<V: Key, const TAG: u64> Key for Accepted<V, TAG> {
+    ghost orders = { λ a b. V.orders a.0 b.0 };
 }
 
 // Adds the content under a tag.

@@ -6,6 +6,7 @@ mod OrderedIntegers
 pub mod TotalOrders
 pub mod BigEndian
 pub mod Bignums
+mod NumberItems
 pub mod Folding
 pub mod Written
 pub mod Reader

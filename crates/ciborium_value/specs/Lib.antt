@@ -12,6 +12,7 @@ pub mod Order
 pub mod Derived
 pub mod View
 pub mod Variants
+pub mod TreeVariants
 pub mod Rows
 pub mod Laws
 pub mod LentParts
@@ -24,6 +25,7 @@ pub mod CanonicalValues
 pub mod WrittenItems
 pub mod Places
 pub mod Sinks
+pub mod NumberItems
 pub mod Progress
 pub mod TreeSinks
 pub mod Taken

@@ -48,6 +48,10 @@ checked content order r f h = record { content = content; taken = taken_then r.t
 abbrev pub such_that : {T U A : Type 0} → (T → A) → Reading U A → (A → Bool) → Kind → Reading T A
 such_that content r test kind = checked content r.order r (λ v. if test v then gives v else refuses kind) (λ v. no_nesting-if (test v) (gives v) (refuses kind) tt tt)
 
+-- the same, where contents compare so: for a type that is a key of maps
+abbrev pub ordered_by : {T C : Type 0} → (C → C → Ordering) → Reading T C → Reading T C
+ordered_by order r = record { content = r.content; taken = r.taken; steady = r.steady; order = order; takes_memory = r.takes_memory; whole = r.whole }
+
 -- ---- numbers
 
 -- a number of either sign, of any size
@@ -95,9 +99,9 @@ tuple4_of a b c d =
 
 -- ---- maps
 
--- a map by its entries
+-- a map by its entries, which compare by their keys and then by their values
 abbrev pub map_of : {M K V C D : Type 0} → (M → List (K × V)) → Reading K C → Reading V D → Reading M (List (C × D))
-map_of entries k v = spacious (λ m. map (λ e. (k.content e.0, v.content e.1)) (entries m)) unordered (taken_map k.order k.taken v.taken) (steady-map k.order k.taken v.taken k.steady v.steady)
+map_of entries k v = spacious (λ m. map (λ e. (k.content e.0, v.content e.1)) (entries m)) (slice_cmp (λ x y. ordering_then (k.order x.0 y.0) (v.order x.1 y.1))) (taken_map k.order k.taken v.taken) (steady-map k.order k.taken v.taken k.steady v.steady)
 
 -- ---- whatever is ahead
 

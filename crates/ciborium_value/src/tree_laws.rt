@@ -6,6 +6,7 @@ ghost use Rattle.ciborium_value.specs.Examples.{RefusedExamples, SpelledExamples
 ghost use Rattle.ciborium_value.specs.FoldingLaws.{EncodingIsGood, FoldsOnce, WrittenMeansFolded};
 ghost use Rattle.ciborium_value.specs.Laws.{GoodOrRefused, NeverBoth, OneRefusal};
 ghost use Rattle.ciborium_value.specs.Number.{BytesHoldNumber, NoLeadingZeros};
+ghost use Rattle.ciborium_value.specs.NumberItems.{NumberTreeIsItem};
 ghost use Rattle.ciborium_value.specs.OrderLaws.{EqualAsTrees, EqualityIsEquivalence};
 ghost use Rattle.ciborium_value.specs.OrderLaws.{IntegersAsTrees, OrderedAsTrees};
 ghost use Rattle.ciborium_value.specs.OrderLaws.{PartlyOrderedAsTrees, TiedWhereEqual};
@@ -52,10 +53,12 @@ pub fn order_of_values()
 {}
 
 /// The bytes of a bignum that is made from a number hold that number, and none of them is a leading
-/// zero (RFC 8949, section 3.4.3).
+/// zero (RFC 8949, section 3.4.3). The tree of a number has the item that typed writing writes for
+/// the number.
 pub fn bytes_of_bignums()
     ensures number { BytesHoldNumber }
     ensures shortest { NoLeadingZeros }
+    ensures item { NumberTreeIsItem }
 {}
 
 /// The canonical order of two numbers, which `Integer::canonical_cmp` answers, is the canonical

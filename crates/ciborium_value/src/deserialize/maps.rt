@@ -1,6 +1,8 @@
 //! Maps.
 
 ghost use Rattle.std.specs.Prelude.{List};
+ghost use Rattle.std.specs.Ordering.{ordering_then};
+ghost use Rattle.ciborium_value.specs.KeyOrders.{ordering_then-same, slice_cmp-map};
 ghost use Rattle.ciborium_value.specs.Readings.{map_of};
 
 use super::{Deserialize, Key};
@@ -28,4 +30,12 @@ impl<K: Key, V: Deserialize> Deserialize for BTreeMap<K, V> {
         }
         Ok(entries)
     }
+}
+
+impl<K: Key, V: Key> Key for BTreeMap<K, V> {
+    ghost orders = { λ a b. slice_cmp-map
+        (λ p q. ordering_then (K.cmp p.0 q.0) (V.cmp p.1 q.1))
+        (λ x y. ordering_then (K.reading.order x.0 y.0) (V.reading.order x.1 y.1))
+        (λ e. (K.reading.content e.0, V.reading.content e.1))
+        (λ p q. ordering_then-same (K.orders p.0 q.0) (V.orders p.1 q.1)) a.entries b.entries };
 }

@@ -1,14 +1,20 @@
 //! What a `Value` is and holds. None of these calls takes memory.
 
-ghost use Rattle.std.specs.Prelude.{◌≡◌, ◌↔◌, IsTrue, IfSome, IfNone, IfOk, IfErr};
+ghost use Rattle.std.specs.Prelude.{◌≡◌, ◌↔◌, IsTrue, IfSome, IfNone, IfOk, IfErr, MatchOption, OnErr};
+ghost use Rattle.std.specs.Prelude.{string_bytes};
 ghost use Rattle.std.specs.Borrow.{LendsIf, sem};
 ghost use Rattle.std.specs.Box.{box_follows};
 ghost use Rattle.std.specs.contracts.alloc.Global as global;
 ghost use Rattle.std.specs.contracts.impls.GlobalAllocator.TheImpl.{ghosts};
 ghost use Rattle.ciborium_value.specs.LentParts.{LendsTag};
 ghost use Rattle.ciborium_value.specs.Rows.{array_row, bytes_row, map_row, text_row};
+ghost use Rattle.ciborium_value.specs.Tree as trees;
+ghost use Rattle.ciborium_value.specs.TreeVariants.{IsArrayTree, IsBoolTree, IsBytesTree};
+ghost use Rattle.ciborium_value.specs.TreeVariants.{IsIntegerTree, IsMapTree, IsTagTree};
+ghost use Rattle.ciborium_value.specs.TreeVariants.{IsTextTree};
 ghost use Rattle.ciborium_value.specs.Variants.{IsArray, IsBool, IsBytes, IsInteger, IsMap};
 ghost use Rattle.ciborium_value.specs.Variants.{IsTag, IsTagOf, IsText, IsTextOf};
+ghost use Rattle.ciborium_value.specs.View.{tree_of, tree_pairs_of, trees_of};
 ghost use Rattle.ciborium_value.specs.contracts.tree.Value.{the_row};
 ghost use Rattle.ciborium_value.specs.declared.tree.Value as value;
 
@@ -18,7 +24,8 @@ use ciborium_ll::Integer;
 impl Value {
     /// True exactly at an integer.
     pub fn is_integer(&self) -> bool
-        ensures { IsTrue result ↔ IsInteger self.now }
+        ensures value { IsTrue result ↔ IsInteger self.now }
+        ensures tree { IsTrue result ↔ IsIntegerTree (tree_of self.now) }
     {
         matches!(self, Value::Integer(_))
     }
@@ -27,6 +34,8 @@ impl Value {
     pub fn as_integer(&self) -> Option<Integer>
         ensures some { IfSome result (λ z. self.now ≡ value.Integer z) }
         ensures none { IfNone result (¬ IsInteger self.now) }
+        ensures tree { MatchOption result (¬ IsIntegerTree (tree_of self.now))
+            (λ z. tree_of self.now ≡ trees.integer z) }
     {
         match self {
             Value::Integer(number) => Some(*number),
@@ -38,6 +47,8 @@ impl Value {
     pub fn into_integer(self) -> Result<Integer, Value>
         ensures ok { IfOk result (λ z. self ≡ value.Integer z) }
         ensures err { IfErr result (λ v. (v ≡ self) × ¬ IsInteger self) }
+        ensures ok_tree { IfOk result (λ z. tree_of self ≡ trees.integer z) }
+        ensures err_tree { OnErr result (¬ IsIntegerTree (tree_of self)) }
     {
         match self {
             Value::Integer(number) => Ok(number),
@@ -47,7 +58,8 @@ impl Value {
 
     /// True exactly at a byte string.
     pub fn is_bytes(&self) -> bool
-        ensures { IsTrue result ↔ IsBytes self.now }
+        ensures value { IsTrue result ↔ IsBytes self.now }
+        ensures tree { IsTrue result ↔ IsBytesTree (tree_of self.now) }
     {
         matches!(self, Value::Bytes(_))
     }
@@ -56,6 +68,8 @@ impl Value {
     pub fn as_bytes(&self) -> Option<&Vec<u8>>
         ensures some { IfSome result (λ b. self.now ≡ value.Bytes b.now) }
         ensures none { IfNone result (¬ IsBytes self.now) }
+        ensures tree { MatchOption result (¬ IsBytesTree (tree_of self.now))
+            (λ b. tree_of self.now ≡ trees.bytes b.now.items) }
     {
         match self {
             Value::Bytes(bytes) => Some(bytes),
@@ -82,6 +96,8 @@ impl Value {
     pub fn into_bytes(self) -> Result<Vec<u8>, Value>
         ensures ok { IfOk result (λ b. self ≡ value.Bytes b) }
         ensures err { IfErr result (λ v. (v ≡ self) × ¬ IsBytes self) }
+        ensures ok_tree { IfOk result (λ b. tree_of self ≡ trees.bytes b.items) }
+        ensures err_tree { OnErr result (¬ IsBytesTree (tree_of self)) }
     {
         match self {
             Value::Bytes(bytes) => Ok(bytes),
@@ -91,7 +107,8 @@ impl Value {
 
     /// True exactly at a text.
     pub fn is_text(&self) -> bool
-        ensures { IsTrue result ↔ IsText self.now }
+        ensures value { IsTrue result ↔ IsText self.now }
+        ensures tree { IsTrue result ↔ IsTextTree (tree_of self.now) }
     {
         matches!(self, Value::Text(_))
     }
@@ -100,6 +117,8 @@ impl Value {
     pub fn as_text(&self) -> Option<&str>
         ensures some { IfSome result (λ t. IsTextOf self.now t.now) }
         ensures none { IfNone result (¬ IsText self.now) }
+        ensures tree { MatchOption result (¬ IsTextTree (tree_of self.now))
+            (λ t. tree_of self.now ≡ trees.text t.now) }
     {
         match self {
             Value::Text(text) => Some(text),
@@ -126,6 +145,8 @@ impl Value {
     pub fn into_text(self) -> Result<String, Value>
         ensures ok { IfOk result (λ t. self ≡ value.Text t) }
         ensures err { IfErr result (λ v. (v ≡ self) × ¬ IsText self) }
+        ensures ok_tree { IfOk result (λ t. tree_of self ≡ trees.text (string_bytes t)) }
+        ensures err_tree { OnErr result (¬ IsTextTree (tree_of self)) }
     {
         match self {
             Value::Text(text) => Ok(text),
@@ -135,7 +156,8 @@ impl Value {
 
     /// True exactly at false and true.
     pub fn is_bool(&self) -> bool
-        ensures { IsTrue result ↔ IsBool self.now }
+        ensures value { IsTrue result ↔ IsBool self.now }
+        ensures tree { IsTrue result ↔ IsBoolTree (tree_of self.now) }
     {
         matches!(self, Value::Bool(_))
     }
@@ -144,6 +166,8 @@ impl Value {
     pub fn as_bool(&self) -> Option<bool>
         ensures some { IfSome result (λ b. self.now ≡ value.Bool b) }
         ensures none { IfNone result (¬ IsBool self.now) }
+        ensures tree { MatchOption result (¬ IsBoolTree (tree_of self.now))
+            (λ b. tree_of self.now ≡ trees.boolean b) }
     {
         match self {
             Value::Bool(boolean) => Some(*boolean),
@@ -155,6 +179,8 @@ impl Value {
     pub fn into_bool(self) -> Result<bool, Value>
         ensures ok { IfOk result (λ b. self ≡ value.Bool b) }
         ensures err { IfErr result (λ v. (v ≡ self) × ¬ IsBool self) }
+        ensures ok_tree { IfOk result (λ b. tree_of self ≡ trees.boolean b) }
+        ensures err_tree { OnErr result (¬ IsBoolTree (tree_of self)) }
     {
         match self {
             Value::Bool(boolean) => Ok(boolean),
@@ -164,14 +190,16 @@ impl Value {
 
     /// True exactly at null.
     pub fn is_null(&self) -> bool
-        ensures { IsTrue result ↔ (self.now ≡ value.Null) }
+        ensures value { IsTrue result ↔ (self.now ≡ value.Null) }
+        ensures tree { IsTrue result ↔ (tree_of self.now ≡ trees.null) }
     {
         matches!(self, Value::Null)
     }
 
     /// True exactly at a tag.
     pub fn is_tag(&self) -> bool
-        ensures { IsTrue result ↔ IsTag self.now }
+        ensures value { IsTrue result ↔ IsTag self.now }
+        ensures tree { IsTrue result ↔ IsTagTree (tree_of self.now) }
     {
         matches!(self, Value::Tag(_, _))
     }
@@ -180,6 +208,8 @@ impl Value {
     pub fn as_tag(&self) -> Option<(u64, &Value)>
         ensures some { IfSome result (λ p. IsTagOf self.now p.0 p.1.now) }
         ensures none { IfNone result (¬ IsTag self.now) }
+        ensures tree { MatchOption result (¬ IsTagTree (tree_of self.now))
+            (λ p. tree_of self.now ≡ trees.tag p.0 (tree_of p.1.now)) }
     {
         match self {
             Value::Tag(tag, content) => Some((*tag, content)),
@@ -205,6 +235,8 @@ impl Value {
     pub fn into_tag(self) -> Result<(u64, Box<Value>), Value>
         ensures ok { IfOk result (λ p. self ≡ value.Tag p.0 p.1) }
         ensures err { IfErr result (λ v. (v ≡ self) × ¬ IsTag self) }
+        ensures ok_tree { IfOk result (λ p. tree_of self ≡ trees.tag p.0 (tree_of p.1.value)) }
+        ensures err_tree { OnErr result (¬ IsTagTree (tree_of self)) }
     {
         match self {
             Value::Tag(tag, content) => Ok((tag, content)),
@@ -214,7 +246,8 @@ impl Value {
 
     /// True exactly at an array.
     pub fn is_array(&self) -> bool
-        ensures { IsTrue result ↔ IsArray self.now }
+        ensures value { IsTrue result ↔ IsArray self.now }
+        ensures tree { IsTrue result ↔ IsArrayTree (tree_of self.now) }
     {
         matches!(self, Value::Array(_))
     }
@@ -223,6 +256,8 @@ impl Value {
     pub fn as_array(&self) -> Option<&Vec<Value>>
         ensures some { IfSome result (λ vs. self.now ≡ value.Array vs.now) }
         ensures none { IfNone result (¬ IsArray self.now) }
+        ensures tree { MatchOption result (¬ IsArrayTree (tree_of self.now))
+            (λ vs. tree_of self.now ≡ trees.array (trees_of vs.now.items)) }
     {
         match self {
             Value::Array(values) => Some(values),
@@ -249,6 +284,8 @@ impl Value {
     pub fn into_array(self) -> Result<Vec<Value>, Value>
         ensures ok { IfOk result (λ vs. self ≡ value.Array vs) }
         ensures err { IfErr result (λ v. (v ≡ self) × ¬ IsArray self) }
+        ensures ok_tree { IfOk result (λ vs. tree_of self ≡ trees.array (trees_of vs.items)) }
+        ensures err_tree { OnErr result (¬ IsArrayTree (tree_of self)) }
     {
         match self {
             Value::Array(values) => Ok(values),
@@ -258,7 +295,8 @@ impl Value {
 
     /// True exactly at a map.
     pub fn is_map(&self) -> bool
-        ensures { IsTrue result ↔ IsMap self.now }
+        ensures value { IsTrue result ↔ IsMap self.now }
+        ensures tree { IsTrue result ↔ IsMapTree (tree_of self.now) }
     {
         matches!(self, Value::Map(_))
     }
@@ -267,6 +305,8 @@ impl Value {
     pub fn as_map(&self) -> Option<&Vec<(Value, Value)>>
         ensures some { IfSome result (λ ps. self.now ≡ value.Map ps.now) }
         ensures none { IfNone result (¬ IsMap self.now) }
+        ensures tree { MatchOption result (¬ IsMapTree (tree_of self.now))
+            (λ ps. tree_of self.now ≡ trees.map (tree_pairs_of ps.now.items)) }
     {
         match self {
             Value::Map(pairs) => Some(pairs),
@@ -293,6 +333,8 @@ impl Value {
     pub fn into_map(self) -> Result<Vec<(Value, Value)>, Value>
         ensures ok { IfOk result (λ ps. self ≡ value.Map ps) }
         ensures err { IfErr result (λ v. (v ≡ self) × ¬ IsMap self) }
+        ensures ok_tree { IfOk result (λ ps. tree_of self ≡ trees.map (tree_pairs_of ps.items)) }
+        ensures err_tree { OnErr result (¬ IsMapTree (tree_of self)) }
     {
         match self {
             Value::Map(pairs) => Ok(pairs),

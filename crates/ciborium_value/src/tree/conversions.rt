@@ -1,7 +1,9 @@
 //! Values from what the language has.
 
 ghost use Rattle.std.specs.Prelude.{◌≡◌, pos, IfOk, encode_utf8};
+ghost use Rattle.ciborium_value.specs.Encoding.{item_of};
 ghost use Rattle.ciborium_value.specs.Number.{number_tree, shortest_bytes};
+ghost use Rattle.ciborium_value.specs.Sinks.{number_item};
 ghost use Rattle.ciborium_value.specs.Tree as trees;
 ghost use Rattle.ciborium_value.specs.View.{tree_of, trees_of, tree_pairs_of};
 ghost use Rattle.ciborium_value.specs.declared.tree.Value as value;
@@ -150,7 +152,8 @@ impl Value {
     /// The integer, where it is below 2^64. A greater number is tag 2 over its bytes, the most
     /// significant first, without leading zeros (RFC 8949, section 3.4.3).
     pub fn from_u128(alloc: Global, number: u128) -> Result<Value, AllocError>
-        ensures { IfOk result (λ v. tree_of v ≡ number_tree (pos number)) }
+        ensures number { IfOk result (λ v. tree_of v ≡ number_tree (pos number)) }
+        ensures item { IfOk result (λ v. item_of (tree_of v) ≡ number_item (pos number)) }
     {
         match Integer::try_from(number) {
             Ok(number) => Ok(Value::Integer(number)),
@@ -162,7 +165,8 @@ impl Value {
     /// and a lower one tag 3 over those of n for -1 - n, the most significant first, without
     /// leading zeros (section 3.4.3).
     pub fn from_i128(alloc: Global, number: i128) -> Result<Value, AllocError>
-        ensures { IfOk result (λ v. tree_of v ≡ number_tree number) }
+        ensures number { IfOk result (λ v. tree_of v ≡ number_tree number) }
+        ensures item { IfOk result (λ v. item_of (tree_of v) ≡ number_item number) }
     {
         match Integer::try_from(number) {
             Ok(number) => Ok(Value::Integer(number)),
@@ -173,7 +177,7 @@ impl Value {
 
     /// A text of this character.
     pub fn from_char(alloc: Global, character: char) -> Result<Value, AllocError>
-        ensures { IfOk result (λ v. tree_of v ≡ trees.text (encode_utf8 character)) }
+        ensures text { IfOk result (λ v. tree_of v ≡ trees.text (encode_utf8 character)) }
     {
         let mut text = String::new(alloc);
         text.push(character)?;
@@ -182,7 +186,7 @@ impl Value {
 
     /// A copy of the text.
     pub fn from_text(alloc: Global, text: &str) -> Result<Value, AllocError>
-        ensures { IfOk result (λ v. tree_of v ≡ trees.text text.now) }
+        ensures text { IfOk result (λ v. tree_of v ≡ trees.text text.now) }
     {
         let text = String::from_str(alloc, text)?;
         Ok(Value::Text(text))
@@ -190,7 +194,7 @@ impl Value {
 
     /// A byte string, with a copy of the bytes.
     pub fn from_bytes(alloc: Global, bytes: &[u8]) -> Result<Value, AllocError>
-        ensures { IfOk result (λ v. tree_of v ≡ trees.bytes bytes.now) }
+        ensures bytes { IfOk result (λ v. tree_of v ≡ trees.bytes bytes.now) }
     {
         let bytes = Vec::from_slice(alloc, bytes)?;
         Ok(Value::Bytes(bytes))
@@ -198,7 +202,7 @@ impl Value {
 
     /// An array, with copies of the values.
     pub fn from_values(alloc: Global, values: &[Value]) -> Result<Value, AllocError>
-        ensures { IfOk result (λ v. tree_of v ≡ trees.array (trees_of values.now)) }
+        ensures array { IfOk result (λ v. tree_of v ≡ trees.array (trees_of values.now)) }
     {
         let values = copy_values(alloc, values)?;
         Ok(Value::Array(values))
@@ -206,7 +210,7 @@ impl Value {
 
     /// A map, with copies of the pairs, in order.
     pub fn from_pairs(alloc: Global, pairs: &[(Value, Value)]) -> Result<Value, AllocError>
-        ensures { IfOk result (λ v. tree_of v ≡ trees.map (tree_pairs_of pairs.now)) }
+        ensures map { IfOk result (λ v. tree_of v ≡ trees.map (tree_pairs_of pairs.now)) }
     {
         let pairs = copy_pairs(alloc, pairs)?;
         Ok(Value::Map(pairs))
