@@ -12,6 +12,9 @@ pub mod head_callers;
 #[cfg(test)]
 mod head_tests;
 #[cfg(test)]
+mod key_tests;
+pub mod key_types;
+#[cfg(test)]
 mod macro_tests;
 pub mod own_callers;
 pub mod own_types;

@@ -1,0 +1,107 @@
+//! Types that are keys of maps: a struct and an enum, each with the order that it derives.
+ghost use Rattle.std.specs.Prelude.{◌∷◌, List, Ok, [], codes, pos, refl, string_bytes, ℕ};
+ghost use Rattle.std.specs.Cmp.Lexicographic.{slice_cmp};
+ghost use Rattle.std.specs.Ordering.{nat_cmp, ordering_then};
+ghost use Rattle.ciborium_value.specs.Readings.{below, ordered_by};
+ghost use Rattle.ciborium_value.specs.Sinks.{fields_of, named_text, number_item};
+ghost use Rattle.ciborium_value.specs.StructReadings.{field, no_field, struct_of};
+ghost use Rattle.ciborium_value.specs.VariantReadings.{data_variant, enum_of, unit_variant};
+ghost use Rattle.ciborium_callers.specs.declared.key_types.Seat.{Seat};
+ghost use Rattle.ciborium_callers.specs.declared.key_types.Seat.TheVariants.{Taken, Free};
+
+use ciborium::de::{Deserialize, Key, Source, Wanted, read_fields, required};
+use ciborium::ser::{Field, NoField, Serialize, Sink};
+use ciborium::value::Kind;
+use std::alloc::Global;
+
+/// A struct: it is ordered by its fields, the first one first.
+#[derive(Debug, Drop, PartialEq, Eq, PartialOrd, Ord)]
+pub struct Release {
+    pub version: u8,
+    pub name: String,
+}
+
+impl Serialize for Release {
+    ghost written = { λ r. fields_of ((codes "version", Ok (number_item (pos r.version))) ∷
+        (codes "name", named_text (string_bytes r.name)) ∷ []) };
+
+    ghost takes_memory = { ⊥ };
+
+    fn serialize<S: Sink>(&self, sink: &mut S) -> Result<(), S::Error> {
+        Field("version", &self.version, Field("name", &self.name, NoField)).serialize(sink)
+    }
+}
+
+impl Deserialize for Release {
+    ghost Content = { ℕ × (List ℕ × Unit {0}) };
+
+    ghost reading = { ordered_by
+        (λ x y. ordering_then (nat_cmp x.0 y.0) (slice_cmp nat_cmp x.1.0 y.1.0))
+        (struct_of (λ r. (r.version, (string_bytes r.name, tt)))
+        (field (codes "version") ⟦<u8 as Deserialize>⟧.reading
+        (field (codes "name") ⟦<String as Deserialize>⟧.reading no_field))) };
+
+    fn deserialize<S: Source>(alloc: Global, source: &mut S) -> Result<Release, S::Error> {
+        let mut fields = Wanted("version", None, Wanted("name", None, NoField));
+        read_fields(alloc, source, &mut fields)?;
+        let Wanted(_, version, Wanted(_, name, NoField)) = fields;
+        Ok(Release {
+            version: required(source, version)?,
+            name: required(source, name)?,
+        })
+    }
+}
+
+impl Key for Release {
+    ghost orders = { λ a b. refl };
+}
+
+/// An enum: it is ordered by its variants, the first one first, and then by what they hold.
+#[derive(Debug, Drop, PartialEq, Eq, PartialOrd, Ord)]
+pub enum Seat {
+    Free,
+    Taken(u8),
+}
+
+impl Serialize for Seat {
+    ghost written = { elim [
+      | Free ↦ named_text (codes "Free")
+      | Taken n ↦ fields_of ((codes "Taken", Ok (number_item (pos n))) ∷ [])
+    ] };
+
+    ghost takes_memory = { ⊥ };
+
+    fn serialize<S: Sink>(&self, sink: &mut S) -> Result<(), S::Error> {
+        match self {
+            Seat::Free => "Free".serialize(sink),
+            Seat::Taken(number) => Field("Taken", number, NoField).serialize(sink),
+        }
+    }
+}
+
+impl Deserialize for Seat {
+    ghost Content = { Seat };
+
+    ghost reading = { ordered_by ⟦<Seat as Ord>⟧.cmp (enum_of (λ seat. seat)
+        (unit_variant (codes "Free") Free
+        ∷ data_variant (codes "Taken") Taken (below 256) ∷ [])) };
+
+    fn deserialize<S: Source>(alloc: Global, source: &mut S) -> Result<Seat, S::Error> {
+        let (name, level) = source.begin_variant(alloc)?;
+        if name.as_str() == "Free" {
+            source.unit()?;
+            source.end_variant(level);
+            return Ok(Seat::Free);
+        }
+        if name.as_str() == "Taken" {
+            let number = u8::deserialize(alloc, source)?;
+            source.end_variant(level);
+            return Ok(Seat::Taken(number));
+        }
+        Err(source.refuse(Kind::Variant))
+    }
+}
+
+impl Key for Seat {
+    ghost orders = { λ a b. refl };
+}
