@@ -28,6 +28,9 @@ pub mod tag_types;
 mod test_bytes;
 #[cfg(test)]
 mod tree_tests;
+#[cfg(test)]
+mod tree_type_tests;
+pub mod tree_types;
 pub mod value_callers;
 #[cfg(test)]
 mod value_tests;

@@ -6,7 +6,7 @@ mod OrderedIntegers
 pub mod TotalOrders
 pub mod BigEndian
 pub mod Bignums
-mod NumberItems
+pub mod NumberItems
 pub mod Folding
 pub mod Written
 pub mod Reader
@@ -33,3 +33,4 @@ pub mod FoldedCopies
 pub mod Sequences
 pub mod Dictionaries
 pub mod NamedFields
+pub mod MadeOfValues

@@ -3,7 +3,7 @@ use Rattle.std.proofs.Common.{◌≡◌, ℤ, pos, negsuc, ◌^◌, Bool, true, 
 use Rattle.ciborium_ll.specs.Item.{Item}
 use Rattle.ciborium_value.specs.Encoding.{item_of}
 use Rattle.ciborium_value.specs.Number.{number_tree, shortest_bytes}
-use Rattle.ciborium_value.specs.Sinks.{bignum_item, number_item}
+use Rattle.ciborium_value.specs.Sinks.{number_item}
 use Rattle.ciborium_value.specs.Tree as trees
 use Rattle.ciborium_value.specs.Tree.{Tree}
 
@@ -11,6 +11,7 @@ either : (t : Bool) (v w : Tree) (i j : Item) → item_of v ≡ i → item_of w 
 either true v w i j h k = h
 either false v w i j h k = k
 
+-- a number of either sign
 pub number_tree-item : (z : ℤ) → item_of (number_tree z) ≡ number_item z
 number_tree-item (pos n) = either (nat_lt n (2 ^ 64)) _ _ _ _ refl refl
 number_tree-item (negsuc n) = either (nat_lt n (2 ^ 64)) _ _ _ _ refl refl
