@@ -268,21 +268,12 @@ WRITTEN = {
         lambda entries: b"\xbf" + b"".join(map(model.encode_number, sum(map(list, entries), []))) + b"\xff",
         model.TYPES["BTreeMap<u8,u8>"].write,
     ),
+    "from_char": (model.CHAR, model.CHAR.write, None),
     "Tag": (model.captured_of(model.VALUE), write_captured(model.encode), None),
     "Captured<Value>": (model.captured_of(model.VALUE), write_captured(model.encode), None),
     "Captured<bool>": (model.captured_of(model.BOOL), write_captured(model.encode_bool), None),
     "Captured<ByteBuf>": (model.captured_of(model.BYTE_BUF), write_captured(model.encode_bytes), None),
     "(u8,bool,&str)": (WITH_TEXT, WITH_TEXT.write, None),
-    "Option<Required<u64,255>>": (
-        model.option_of(model.required(255, model.unsigned(64))),
-        model.option_of(model.required(255, model.unsigned(64))).write,
-        None,
-    ),
-    "Option<Accepted<u64,255>>": (
-        model.option_of(model.accepted(255, model.unsigned(64))),
-        model.option_of(model.required(255, model.unsigned(64))).write,
-        None,
-    ),
     "Captured<Accepted<Required<Even,1>,2>>": (
         model.captured_of(model.accepted(2, model.required(1, model.U8))),
         write_captured(lambda number: b"\xc2\xc1" + write_even(number)),
@@ -324,6 +315,98 @@ def answer_sort(rest):
             raise Unknown
         encodings.append(model.encode(tree))
     return " ".join(encoding.hex() for encoding in sorted(encodings, key=model.canonical_rank))
+
+
+# --- Trees that are written out -------------------------------------------------------------------------------------
+
+LITERAL_BYTES = b"\x01\x02"
+LITERAL_WORDS = {
+    "null": model.NULL_VALUE,
+    "true": ("bool", True),
+    "false": ("bool", False),
+    "bytes": ("bytes", LITERAL_BYTES),
+}
+LITERAL_TOKEN = re.compile(r' *(=>|[][{}(),]|"[^"]*"|[a-z]+|[0-9]+|[+-])')
+
+
+class Literal:
+    """Reads the text of a tree as `cbor!` takes it: parts in brackets are a list, pairs in braces a map, parts in
+    parentheses a tuple, which is a list too. A number may be a sum."""
+
+    def __init__(self, text):
+        self.tokens = []
+        position = 0
+        while position < len(text):
+            match = LITERAL_TOKEN.match(text, position)
+            if match is None:
+                raise Unknown
+            self.tokens.append(match[1])
+            position = match.end()
+        self.tokens.reverse()
+
+    def take(self, token):
+        """Whether this token is next; then it is taken."""
+        if not self.tokens or self.tokens[-1] != token:
+            return False
+        self.tokens.pop()
+        return True
+
+    def expect(self, token):
+        if not self.take(token):
+            raise Unknown
+
+    def parts(self, end, part):
+        """What stands before the end, between commas, behind the last of which one may stand too."""
+        found = []
+        while not self.take(end):
+            found.append(part())
+            if not self.take(","):
+                self.expect(end)
+                break
+        return found
+
+    def pair(self):
+        key = self.tree()
+        self.expect("=>")
+        return key, self.tree()
+
+    def tree(self):
+        if self.take("["):
+            return ("array", self.parts("]", self.tree))
+        if self.take("("):
+            return ("array", self.parts(")", self.tree))
+        if self.take("{"):
+            return ("map", self.parts("}", self.pair))
+        if not self.tokens:
+            raise Unknown
+        if self.tokens[-1][0] in "+-" or self.tokens[-1].isdigit():
+            return ("integer", self.sum())
+        token = self.tokens.pop()
+        if token[0] == '"':
+            return ("text", token[1:-1])
+        if token not in LITERAL_WORDS:
+            raise Unknown
+        return LITERAL_WORDS[token]
+
+    def sum(self):
+        number = self.term(-1 if self.take("-") else 1)
+        while self.tokens and self.tokens[-1] in "+-":
+            number += self.term(-1 if self.tokens.pop() == "-" else 1)
+        return number
+
+    def term(self, sign):
+        if not self.tokens or not self.tokens[-1].isdigit():
+            raise Unknown
+        return sign * int(self.tokens.pop())
+
+
+def answer_literal(rest):
+    """What a literal writes. The program has those of its table alone."""
+    literal = Literal(rest)
+    tree = literal.tree()
+    if literal.tokens:
+        raise Unknown
+    return model.encode(tree).hex()
 
 
 # --- Heads, payloads and integers (section 3) -----------------------------------------------------------------------
@@ -402,6 +485,14 @@ def answer_type(name, rest):
     return "%s | %s" % (model.answer_bytes(name, limit, data), model.answer_tree(name, model.read_tree(data)[0]))
 
 
+def answer_again(rest):
+    """What the line behind the word answers, but `again` where all that is read is written as the same bytes."""
+    name, behind = split(rest, 2)
+    answer = answer_type(name, behind)
+    digits = parse_pieces(split(behind, 2)[1]).hex()
+    return "again" if answer == "ok %s 0 | ok %s" % (digits, digits) else answer
+
+
 FORMS = {
     "write": answer_write,
     "write-faults": not_answered,
@@ -414,6 +505,7 @@ FORMS = {
     "next-rows": answer_next_rows,
     "sort": answer_sort,
     "visits": not_answered,
+    "literal": answer_literal,
     "head": at_offset(heads.answer_head),
     "heads": at_offset(heads.answer_heads),
     "first": lambda rest: heads.answer_first(parse_pieces(rest)),
@@ -425,6 +517,7 @@ FORMS = {
     "canonical": answer_canonical,
     "growth": answer_growth,
     "at": answer_at,
+    "again": answer_again,
     "asked": answer_asked,
 }
 

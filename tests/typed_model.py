@@ -878,6 +878,8 @@ PAIR = tuple_of(U8, U8)
 FIGURE = enum_of({"Point": None, "Circle": U8})
 LETTER = enum_of({"A": None, "B": U8})
 MESSAGE = struct_of((("version", U8, MISSING), ("body", STRING, MISSING)))
+ENDS = struct_of((("first", U8, MISSING), ("second", U8, MISSING)))
+FORM = enum_of({"Unit": None, "Newtype": U8, "Tuple": PAIR, "Struct": ENDS})
 
 # The types by their names.
 TYPES = {
@@ -917,6 +919,7 @@ TYPES = {
     "BTreeMap<u8,u8>": map_of(U8, U8),
     "BTreeMap<i8,u8>": map_of(signed(8), U8),
     "BTreeMap<u64,String>": map_of(unsigned(64), STRING),
+    "BTreeMap<String,String>": map_of(STRING, STRING),
     "BTreeMap<String,u8>": map_of(STRING, U8),
     "BTreeMap<Value,u8>": map_of(VALUE, U8),
     "BTreeMap<CanonicalValue,u8>": map_of(CANONICAL_VALUE, U8),
@@ -938,6 +941,8 @@ TYPES = {
     "Required<bool,6>": required(6, BOOL),
     "Required<String,6>": required(6, STRING),
     "Accepted<bool,6>": accepted(6, BOOL),
+    "Option<Required<u64,255>>": option_of(required(255, unsigned(64))),
+    "Option<Accepted<u64,255>>": option_of(accepted(255, unsigned(64))),
     "Few": Type(read_few, list_of(U8).write),
     "Figure": FIGURE,
     "Letter": LETTER,
@@ -946,6 +951,8 @@ TYPES = {
     "Vec<Message>": list_of(MESSAGE),
     "Foo": struct_of((("bar", U8, MISSING),)),
     "Reply": struct_of((("title", STRING, MISSING), ("number", U8, 200), ("text", option_of(STRING), None))),
+    "Ends": ENDS,
+    "Form": FORM,
     "Span": Type(read_span, PAIR.write),
     "Moment": required(1, unsigned(64)),
     "Two<u8>": two_tags(U8),

@@ -41,6 +41,42 @@ impl Deserialize for Foo {
     }
 }
 
+/// A struct of two fields.
+#[derive(Debug, Drop, PartialEq)]
+pub struct Ends {
+    pub first: u8,
+    pub second: u8,
+}
+
+impl Serialize for Ends {
+    ghost written = { λ e. fields_of ((codes "first", Ok (number_item (pos e.first))) ∷
+        (codes "second", Ok (number_item (pos e.second))) ∷ []) };
+
+    ghost takes_memory = { ⊥ };
+
+    fn serialize<S: Sink>(&self, sink: &mut S) -> Result<(), S::Error> {
+        Field("first", &self.first, Field("second", &self.second, NoField)).serialize(sink)
+    }
+}
+
+impl Deserialize for Ends {
+    ghost Content = { ℕ × (ℕ × Unit {0}) };
+
+    ghost reading = { struct_of (λ e. (e.first, (e.second, tt)))
+        (field (codes "first") ⟦<u8 as Deserialize>⟧.reading
+        (field (codes "second") ⟦<u8 as Deserialize>⟧.reading no_field)) };
+
+    fn deserialize<S: Source>(alloc: Global, source: &mut S) -> Result<Ends, S::Error> {
+        let mut fields = Wanted("first", None, Wanted("second", None, NoField));
+        read_fields(alloc, source, &mut fields)?;
+        let Wanted(_, first, Wanted(_, second, NoField)) = fields;
+        Ok(Ends {
+            first: required(source, first)?,
+            second: required(source, second)?,
+        })
+    }
+}
+
 /// A struct with fields that may be missing: the number is then 200, and there is no text.
 #[derive(Debug, Drop, PartialEq)]
 pub struct Reply {

@@ -1,11 +1,15 @@
-//! An enum with variants of one letter.
+//! Enums that are written and read by the names of their variants.
 ghost use Rattle.std.specs.Prelude.{◌∷◌, Ok, [], codes, pos};
-ghost use Rattle.ciborium_value.specs.Readings.{below};
-ghost use Rattle.ciborium_value.specs.Sinks.{fields_of, named_text, number_item};
+ghost use Rattle.ciborium_value.specs.Places.{sequence};
+ghost use Rattle.ciborium_value.specs.Readings.{below, tuple2_of};
+ghost use Rattle.ciborium_value.specs.Sinks.{container_of, fields_of, named_text, number_item};
 ghost use Rattle.ciborium_value.specs.VariantReadings.{data_variant, enum_of, unit_variant};
+ghost use Rattle.ciborium_callers.specs.declared.variant_types.Form.{Form};
+ghost use Rattle.ciborium_callers.specs.declared.variant_types.Form.TheVariants as form;
 ghost use Rattle.ciborium_callers.specs.declared.variant_types.Letter.{Letter};
 ghost use Rattle.ciborium_callers.specs.declared.variant_types.Letter.TheVariants.{A, B};
 
+use crate::struct_types::Ends;
 use ciborium::de::{Deserialize, Source};
 use ciborium::ser::{Field, NoField, Serialize, Sink};
 use ciborium::value::Kind;
@@ -53,5 +57,78 @@ impl Deserialize for Letter {
             return Ok(Letter::B(number));
         }
         Err(source.refuse(Kind::Variant))
+    }
+}
+
+/// A variant of each form: without data, over a value, over a tuple and over fields.
+#[derive(Debug, Drop, PartialEq)]
+pub enum Form {
+    Unit,
+    Newtype(u8),
+    Tuple(u8, u8),
+    Struct { first: u8, second: u8 },
+}
+
+impl Serialize for Form {
+    ghost written = { elim [
+      | form.Unit ↦ named_text (codes "Unit")
+      | form.Newtype n ↦ fields_of ((codes "Newtype", Ok (number_item (pos n))) ∷ [])
+      | form.Tuple a b ↦ fields_of ((
+        codes "Tuple",
+        container_of sequence
+            (Ok (number_item (pos a)) ∷ Ok (number_item (pos b)) ∷ []),
+      ) ∷ [])
+      | form.Struct a b ↦ fields_of ((
+        codes "Struct",
+        fields_of
+            ((codes "first", Ok (number_item (pos a))) ∷
+            (codes "second", Ok (number_item (pos b))) ∷ []),
+      ) ∷ [])
+    ] };
+
+    ghost takes_memory = { ⊥ };
+
+    fn serialize<S: Sink>(&self, sink: &mut S) -> Result<(), S::Error> {
+        match self {
+            Form::Unit => "Unit".serialize(sink),
+            Form::Newtype(number) => Field("Newtype", number, NoField).serialize(sink),
+            Form::Tuple(first, second) => Field("Tuple", &(first, second), NoField).serialize(sink),
+            Form::Struct { first, second } => {
+                let (first, second) = (*first, *second);
+                Field("Struct", &Ends { first, second }, NoField).serialize(sink)
+            }
+        }
+    }
+}
+
+impl Deserialize for Form {
+    ghost Content = { Form };
+
+    ghost reading = { enum_of (λ f. f) (unit_variant (codes "Unit") form.Unit
+        ∷ data_variant (codes "Newtype") form.Newtype (below 256)
+        ∷ data_variant (codes "Tuple") (λ p. form.Tuple p.0 p.1) (tuple2_of (below 256) (below 256))
+        ∷ data_variant (codes "Struct") (λ p. form.Struct p.0 p.1.0)
+        ⟦<Ends as Deserialize>⟧.reading ∷ []) };
+
+    fn deserialize<S: Source>(alloc: Global, source: &mut S) -> Result<Form, S::Error> {
+        let (name, level) = source.begin_variant(alloc)?;
+        let form = match name.as_str() {
+            "Unit" => {
+                source.unit()?;
+                Form::Unit
+            }
+            "Newtype" => Form::Newtype(u8::deserialize(alloc, source)?),
+            "Tuple" => {
+                let (first, second) = <(u8, u8)>::deserialize(alloc, source)?;
+                Form::Tuple(first, second)
+            }
+            "Struct" => {
+                let Ends { first, second } = Ends::deserialize(alloc, source)?;
+                Form::Struct { first, second }
+            }
+            _ => return Err(source.refuse(Kind::Variant)),
+        };
+        source.end_variant(level);
+        Ok(form)
     }
 }

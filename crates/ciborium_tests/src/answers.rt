@@ -6,6 +6,7 @@ use crate::faults::{FailedReads, fail_reads};
 use crate::fronts::{Call, Reading, read_alike};
 use crate::head_lines::answer_head_line;
 use crate::lines::{read_line, write_bytes};
+use crate::literals::write_literal;
 use crate::offsets::read_at_offset;
 use crate::orders::{answer_sort, answer_visits};
 use crate::pieces::{decode_pieces, parse_limited, split_number};
@@ -84,6 +85,7 @@ fn answer_value_line(alloc: Global, word: &str, rest: &str) -> Result<Option<Str
         "write-faults" => write_value(alloc, rest, Writing::Failing),
         "sort" => answer_sort(alloc, rest),
         "visits" => answer_visits(alloc, rest),
+        "literal" => write_literal(alloc, rest),
         _ => answer_reading(alloc, word, rest),
     }
 }
@@ -92,6 +94,7 @@ fn answer_value_line(alloc: Global, word: &str, rest: &str) -> Result<Option<Str
 fn answer_reading(alloc: Global, word: &str, rest: &str) -> Result<Option<String>, AllocError> {
     match word {
         "at" => read_at_offset(alloc, rest),
+        "again" => read_again(alloc, rest),
         "asked" => count_reading(alloc, rest),
         "faults" => fail_reading(alloc, rest),
         "det" => read_strictly(alloc, rest),
@@ -116,6 +119,26 @@ fn read_type(alloc: Global, name: &str, rest: &str) -> Result<Option<String>, Al
         }
         None => Ok(None),
     }
+}
+
+// `again TYPE LIMIT HEX`: what `TYPE LIMIT HEX` answers, but `again` where all that is read is
+// written as these very bytes.
+fn read_again(alloc: Global, rest: &str) -> Result<Option<String>, AllocError> {
+    let Some((name, behind)) = rest.split_once(' ') else {
+        return Ok(None);
+    };
+    let Some((_, bytes)) = parse_limited(alloc, behind)? else {
+        return Ok(None);
+    };
+    let Some(text) = read_type(alloc, name, behind)? else {
+        return Ok(None);
+    };
+    let digits = hex::encode(alloc, &bytes)?;
+    let same = format!(in alloc; "ok {digits} 0 | ok {digits}")?;
+    if text == same {
+        return Ok(Some(String::from_str(alloc, "again")?));
+    }
+    Ok(Some(text))
 }
 
 // `asked TYPE LIMIT HEX`: what the bytes give, and how often their reader is asked.

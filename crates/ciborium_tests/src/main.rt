@@ -18,6 +18,7 @@ mod header_texts;
 mod heads;
 mod integers;
 mod lines;
+mod literals;
 mod offsets;
 mod orders;
 mod outcome;

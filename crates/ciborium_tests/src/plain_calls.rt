@@ -7,7 +7,7 @@ use crate::plain_reads::read_plain_types;
 use crate::plain_values::{compare_values, look_into, make_values, take_apart};
 use ciborium::ll::{self, Decoder, Encoder, Header};
 use ciborium::value::{self, Kind, Value};
-use ciborium::{de, ser};
+use ciborium::{de, into_writer, ser};
 use std::alloc::{AllocError, Global};
 use std::io::{self, ErrorKind};
 
@@ -42,6 +42,7 @@ fn lend_values(alloc: Global, values: &Value) -> Result<(), Failure> {
 fn call_heads_and_numbers() -> Result<(), Failure> {
     decode_heads()?;
     encode_heads()?;
+    write_without_room()?;
     make_head_calls()?;
     convert_errors()?;
     compare_integers()?;
@@ -88,6 +89,15 @@ fn encode_heads() -> Result<(), Failure> {
         Ok(()) => return Err(Failure::Wrong),
     }
     expect(buffer == [0x42, 1, 2, 0x18, 0x20])
+}
+
+// An empty slice takes no value.
+fn write_without_room() -> Result<(), Failure> {
+    let mut rest: &mut [u8] = &mut [];
+    match into_writer(&1u8, &mut rest) {
+        Err(ser::Error::Io(error)) => expect(error.kind() == ErrorKind::WriteZero),
+        _ => Err(Failure::Wrong),
+    }
 }
 
 // Each error is made from those below it.

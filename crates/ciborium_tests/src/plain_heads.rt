@@ -1,5 +1,5 @@
 //! Calls of a decoder that take no memory: heads that are given back, bytes that are allowed to be
-//! read ahead, and errors that are kept aside.
+//! read ahead or are held, and errors that are kept aside.
 
 use crate::devices::{Cut, Failure as Fault, Source};
 use crate::outcome::{Failure, expect, judge_head};
@@ -19,6 +19,13 @@ pub fn make_head_calls() -> Result<(), Failure> {
     keep_an_error()?;
     allow_without_reading()?;
     use_up_first()?;
+    reach_ahead()?;
+    reach_no_further()?;
+    forbid_behind_an_offset()?;
+    forbid_nothing_held()?;
+    allow_up_to_an_offset()?;
+    discard_held()?;
+    discard_nothing()?;
     begin_behind_a_prefix()?;
     end_behind_a_prefix()?;
     for fault in [
@@ -114,8 +121,8 @@ fn allow_without_reading() -> Result<(), Failure> {
     expect(reader.reads == 0 && reader.left() == 2)
 }
 
-// While bytes are held nothing is read, and so the fault of the next read is not met. Each read asks
-// for what is due.
+// While bytes are held nothing is read, and so the fault of the next read is not met. Each read
+// asks for what is due.
 fn use_up_first() -> Result<(), Failure> {
     let fault = Fault::Kind(ErrorKind::ConnectionReset);
     let mut reader = Source::new(&[0x01, 0x02, 0x03], Cut::Most(2), Some((1, fault)));
@@ -128,6 +135,113 @@ fn use_up_first() -> Result<(), Failure> {
     expect(decoder.pull().map_err(judge_head)? == Header::Positive(3))?;
     expect(decoder.offset() == 3)?;
     expect(reader.reads == 3 && reader.asked == 5)
+}
+
+// What is due reaches up to an offset, of which the farthest counts; taking bytes leaves it.
+fn reach_ahead() -> Result<(), Failure> {
+    let mut reader = Source::new(&[0x01, 0x02, 0x03, 0x04], Cut::Most(4), None);
+    let mut decoder = Decoder::at(&mut reader, 4);
+    expect(decoder.reach() == 0)?;
+    decoder.allow(3);
+    expect(decoder.reach() == 7)?;
+    decoder.allow(1);
+    expect(decoder.reach() == 7 && decoder.held_byte().is_none())?;
+    expect(decoder.pull().map_err(judge_head)? == Header::Positive(1))?;
+    expect(decoder.reach() == 7 && decoder.held_byte() == Some(2))?;
+    decoder.allow(4);
+    expect(decoder.reach() == 9 && decoder.offset() == 5)?;
+    decoder.push(Header::Positive(1), 4);
+    decoder.forget();
+    expect(decoder.reach() == 9 && decoder.held_byte() == Some(2))?;
+    expect(reader.reads == 1 && reader.asked == 3)
+}
+
+// No offset passes the greatest one.
+fn reach_no_further() -> Result<(), Failure> {
+    let mut reader: &[u8] = &[0x01, 0x02, 0x03];
+    let mut decoder = Decoder::at(&mut reader, usize::MAX - 2);
+    decoder.allow(3);
+    expect(decoder.reach() == usize::MAX)?;
+    expect(decoder.pull().map_err(judge_head)? == Header::Positive(1))?;
+    expect(decoder.pull().map_err(judge_head)? == Header::Positive(2))?;
+    expect(matches!(decoder.pull(), Err(Error::TooLong)))?;
+    expect(decoder.offset() == usize::MAX && reader.len() == 1)
+}
+
+// What was allowed is taken back from an offset on, and what stands before it is still read ahead.
+fn forbid_behind_an_offset() -> Result<(), Failure> {
+    let mut reader = Source::new(&[0x01, 0x02, 0x03, 0x04], Cut::Most(4), None);
+    let mut decoder = Decoder::new(&mut reader);
+    decoder.allow(4);
+    decoder.forbid_behind(2);
+    expect(decoder.reach() == 2 && decoder.offset() == 0)?;
+    expect(decoder.pull().map_err(judge_head)? == Header::Positive(1))?;
+    expect(decoder.held_byte() == Some(2))?;
+    expect(decoder.pull().map_err(judge_head)? == Header::Positive(2))?;
+    decoder.allow(2);
+    decoder.forbid_behind(0);
+    expect(decoder.reach() == 0 && decoder.offset() == 2)?;
+    expect(decoder.pull().map_err(judge_head)? == Header::Positive(3))?;
+    expect(decoder.held_byte().is_none())?;
+    expect(reader.reads == 2 && reader.asked == 3 && reader.left() == 1)
+}
+
+// A byte that is held stays held, and so what reaches behind it is not taken back.
+fn forbid_nothing_held() -> Result<(), Failure> {
+    for reach in 0..3 {
+        let mut reader: &[u8] = &[0x01, 0x02, 0x03, 0x04];
+        let mut decoder = Decoder::new(&mut reader);
+        decoder.allow(3);
+        expect(decoder.pull().map_err(judge_head)? == Header::Positive(1))?;
+        decoder.forbid_behind(reach);
+        expect(decoder.reach() == 3 && decoder.held_byte() == Some(2))?;
+        decoder.forbid_behind(3);
+        expect(decoder.reach() == 3)?;
+        expect(decoder.pull().map_err(judge_head)? == Header::Positive(2))?;
+        expect(decoder.pull().map_err(judge_head)? == Header::Positive(3))?;
+        expect(decoder.held_byte().is_none() && reader.len() == 1)?;
+    }
+    Ok(())
+}
+
+// Bytes before an offset may be read ahead, as after `allow`.
+fn allow_up_to_an_offset() -> Result<(), Failure> {
+    let mut reader = Source::new(&[0x01, 0x02, 0x03], Cut::Most(3), None);
+    let mut decoder = Decoder::at(&mut reader, 5);
+    decoder.forbid_behind(7);
+    expect(decoder.reach() == 7 && decoder.held_byte().is_none())?;
+    expect(decoder.pull().map_err(judge_head)? == Header::Positive(1))?;
+    expect(decoder.held_byte() == Some(2) && decoder.offset() == 6)?;
+    expect(reader.reads == 1 && reader.asked == 2 && reader.left() == 1)
+}
+
+// What is held is taken where no more of it is read, and a head that was given back is dropped.
+fn discard_held() -> Result<(), Failure> {
+    let mut reader = Source::new(&[0x01, 0x02, 0x03, 0x04, 0x05], Cut::Most(5), None);
+    let mut decoder = Decoder::new(&mut reader);
+    decoder.allow(4);
+    let header = decoder.pull().map_err(judge_head)?;
+    decoder.push(header, 0);
+    expect(decoder.held_byte() == Some(2) && decoder.offset() == 0)?;
+    decoder.discard();
+    expect(decoder.held_byte().is_none() && decoder.offset() == 4)?;
+    expect(decoder.last_offset() == 0 && decoder.head_len() == 1 && decoder.reach() == 4)?;
+    expect(decoder.pull().map_err(judge_head)? == Header::Positive(5))?;
+    expect(decoder.last_offset() == 4 && decoder.offset() == 5)?;
+    expect(reader.reads == 2 && reader.asked == 5 && reader.left() == 0)
+}
+
+// Where nothing is held nothing is taken, and what is due is read later.
+fn discard_nothing() -> Result<(), Failure> {
+    let mut reader = Source::new(&[0x01, 0x02], Cut::Most(2), None);
+    let mut decoder = Decoder::new(&mut reader);
+    decoder.discard();
+    decoder.allow(2);
+    decoder.discard();
+    expect(decoder.offset() == 0 && decoder.reach() == 2)?;
+    expect(decoder.pull().map_err(judge_head)? == Header::Positive(1))?;
+    expect(decoder.held_byte() == Some(2))?;
+    expect(reader.reads == 1 && reader.asked == 2)
 }
 
 // Behind a prefix a sequence has a first head.

@@ -6,9 +6,9 @@ use ciborium::ser::Serialize;
 use ciborium::tag::{Accepted, Required};
 use ciborium::value::{ByteBuf, CanonicalValue, Value};
 use ciborium_callers::own_types::{Figure, Message, Moment, Span};
-use ciborium_callers::struct_types::{Foo, Reply};
+use ciborium_callers::struct_types::{Ends, Foo, Reply};
 use ciborium_callers::tag_types::{Parted, Two};
-use ciborium_callers::variant_types::Letter;
+use ciborium_callers::variant_types::{Form, Letter};
 use std::alloc::{AllocError, Global};
 use std::collections::BTreeMap;
 
@@ -109,6 +109,7 @@ fn ask_map<J: Job>(alloc: Global, name: &str, job: &J) -> Result<Option<String>,
         "BTreeMap<u8,u8>" => job.answer::<BTreeMap<u8, u8>>(alloc),
         "BTreeMap<i8,u8>" => job.answer::<BTreeMap<i8, u8>>(alloc),
         "BTreeMap<u64,String>" => job.answer::<BTreeMap<u64, String>>(alloc),
+        "BTreeMap<String,String>" => job.answer::<BTreeMap<String, String>>(alloc),
         "BTreeMap<String,u8>" => job.answer::<BTreeMap<String, u8>>(alloc),
         "BTreeMap<Value,u8>" => job.answer::<BTreeMap<Value, u8>>(alloc),
         "BTreeMap<CanonicalValue,u8>" => job.answer::<BTreeMap<CanonicalValue, u8>>(alloc),
@@ -144,6 +145,8 @@ fn ask_tagged<J: Job>(alloc: Global, name: &str, job: &J) -> Result<Option<Strin
         "Required<bool,6>" => job.answer::<Required<bool, 6>>(alloc),
         "Required<String,6>" => job.answer::<Required<String, 6>>(alloc),
         "Accepted<bool,6>" => job.answer::<Accepted<bool, 6>>(alloc),
+        "Option<Required<u64,255>>" => job.answer::<Option<Required<u64, 255>>>(alloc),
+        "Option<Accepted<u64,255>>" => job.answer::<Option<Accepted<u64, 255>>>(alloc),
         _ => return Ok(None),
     };
     Ok(Some(answer?))
@@ -159,6 +162,8 @@ fn ask_own<J: Job>(alloc: Global, name: &str, job: &J) -> Result<Option<String>,
         "Vec<Message>" => job.answer::<Vec<Message>>(alloc),
         "Foo" => job.answer::<Foo>(alloc),
         "Reply" => job.answer::<Reply>(alloc),
+        "Ends" => job.answer::<Ends>(alloc),
+        "Form" => job.answer::<Form>(alloc),
         "Span" => job.answer::<Span>(alloc),
         "Moment" => job.answer::<Moment>(alloc),
         "Two<u8>" => job.answer::<Two<u8>>(alloc),

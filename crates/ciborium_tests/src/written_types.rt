@@ -111,6 +111,13 @@ impl Made<Captured<Value>> for Value {
     }
 }
 
+// A text of one character.
+impl Made<char> for Value {
+    fn make(alloc: Global, plain: char) -> Result<Value, AllocError> {
+        Value::from_char(alloc, plain)
+    }
+}
+
 // What a value writes that is made of what the bytes give.
 fn write_made<P: Deserialize, T: Made<P> + Serialize>(
     alloc: Global,
@@ -148,6 +155,7 @@ fn write_own(alloc: Global, name: &str, job: &Rewriting) -> Result<Option<String
         "OpenMap" => write_made::<BTreeMap<u8, u8>, OpenMap>(alloc, job),
         "Position" => write_made::<(i16, String), Position>(alloc, job),
         "Tag" => write_made::<Captured<Value>, Value>(alloc, job),
+        "from_char" => write_made::<char, Value>(alloc, job),
         _ => return Ok(None),
     };
     Ok(Some(answer?))
@@ -159,8 +167,6 @@ fn write_tagged(alloc: Global, name: &str, job: &Rewriting) -> Result<Option<Str
         "Captured<bool>" => write_plain::<Captured<bool>>(alloc, job),
         "Captured<ByteBuf>" => write_plain::<Captured<ByteBuf>>(alloc, job),
         "Captured<Accepted<Required<Even,1>,2>>" => write_even_under_tags(alloc, job),
-        "Option<Required<u64,255>>" => write_plain::<Option<Required<u64, 255>>>(alloc, job),
-        "Option<Accepted<u64,255>>" => write_plain::<Option<Accepted<u64, 255>>>(alloc, job),
         _ => return Ok(None),
     };
     Ok(Some(answer?))
