@@ -79,4 +79,3 @@ hex-answers line (Semantic p reason) text h m = absurd h
 hex-answers line Nesting text h m = absurd h
 hex-answers line TooLong text h m = absurd h
 hex-answers line Memory text h (m, same) = absurd cc
-

@@ -235,3 +235,6 @@ fn write_answer<W: Write>(
         }
     }
 }
+
+#[cfg(test)]
+mod tests;

@@ -20,12 +20,12 @@ lines-preserved g c b w e f =
     let before = c.lines.invariant b w e f in
     let wrote = c.in_ok-is_ok.ensures in (
       one-more (MayBeAnswer c.args.reading) b w _ _ _ _ _ _ _ _ before.0 c.in_ok-next_line.ensures.read c.if-not-branch.false c.in_ok-next_line.ensures.kept
-      c.deref.ensures.value wrote.answered,
+          c.deref.ensures.value wrote.answered,
       λ all.
-        elim c.if-all_ok.branch [
-          | then-all_ok v ↦
-              one-more (IsOkText c.args.reading) b w _ _ _ _ _ _ _ _ (before.1 v.if-all_ok.true) c.in_ok-next_line.ensures.read c.if-not-branch.false c.in_ok-next_line.ensures.kept
-              c.deref.ensures.value (λ ys held. wrote.ok ys held (sym v.all_ok-is ∙ all))
-          | else-all_ok v ↦ absurd (cc (sym all ∙ v.all_ok-is ∙ v.if-all_ok.false))
-        ],
+          elim c.if-all_ok.branch [
+            | then-all_ok v ↦
+                one-more (IsOkText c.args.reading) b w _ _ _ _ _ _ _ _ (before.1 v.if-all_ok.true) c.in_ok-next_line.ensures.read c.if-not-branch.false c.in_ok-next_line.ensures.kept
+                c.deref.ensures.value (λ ys held. wrote.ok ys held (sym v.all_ok-is ∙ all))
+            | else-all_ok v ↦ absurd (cc (sym all ∙ v.all_ok-is ∙ v.if-all_ok.false))
+          ],
     )
