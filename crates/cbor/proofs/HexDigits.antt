@@ -1,5 +1,5 @@
 -- The encoding of a value as hex digits.
-use Rattle.std.proofs.Common.{◌≡◌, ℕ, List, [], ◌++◌, is_err, false, Some, Result, Ok, Err, IfOk, ap, ◌∙◌}
+use Rattle.std.proofs.Common.{◌≡◌, ℕ, List, [], ◌++◌, is_err, false, Some, Result, Ok, Err, ap, ◌∙◌}
 use Rattle.ciborium_ll.specs.Writing.{Writes}
 
 -- a call that wrote to an empty list, and did not fail, wrote all

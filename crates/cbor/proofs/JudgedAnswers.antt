@@ -1,5 +1,5 @@
 -- What the text of a line says of it.
-use Rattle.std.proofs.Common.{◌≡◌, ℕ, ◌+◌, ◌<◌, List, [], ◌++◌, length, true, false, Result, Ok, Err, IsErr, MatchResult, codes, refl, sym, ap, ◌∙◌, subst}
+use Rattle.std.proofs.Common.{◌≡◌, ℕ, ◌+◌, ◌<◌, List, [], ◌++◌, length, true, false, Result, Ok, Err, IsErr, MatchResult, codes, sym, ap, ◌∙◌, subst}
 use Rattle.hex.specs.Hex.{decode_of, encode_lower}
 use Rattle.hex.specs.declared.error.FromHexError.{FromHexError}
 use Rattle.ciborium_ll.specs.Refusal.{io, syntax, too_long, semantic, recursion_limit_exceeded}
@@ -13,7 +13,7 @@ use Rattle.cbor.specs.declared.reading.Spelling.TheVariants.{Any}
 use Rattle.cbor.specs.Answer.{IsFrontRefused, IsHexRefused, IsMeant, IsRefused, kind_of_reason, refused_text, wants_memory}
 use Rattle.cbor.specs.Line.{IsLineAnswer, hex_text}
 use Rattle.cbor.specs.Lines.{IsOkText}
-use Rattle.cbor.specs.Sequence.{AreItemsBefore, AreSequence, HasSequenceAnswer, IsSequenceAnswer, refused, refused_item_text, sequence_text}
+use Rattle.cbor.specs.Sequence.{AreItemsBefore, AreSequence, HasSequenceAnswer, IsSequenceAnswer, refused, refused_item_text}
 use Rattle.cbor.proofs.JudgedLines.{item-answer, refusal_is_answered}
 
 not-memory : (e : Refusal) → wants_memory e ≡ false → e ≡ Memory → ⊥

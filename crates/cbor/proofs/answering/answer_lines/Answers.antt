@@ -1,6 +1,5 @@
-use Rattle.std.proofs.Common.{rules}
 use Rattle.cbor.specs.Lines.{IsOkText, MayBeAnswer}
-use Rattle.cbor.proofs.AnsweredLines.{begins-with, held-empty, sent, sent-all, sent-ok}
+use Rattle.cbor.proofs.AnsweredLines.{begins-with, held-empty, sent-all, sent-ok}
 use Rattle.cbor.proofs.answering.answer_lines.Goals as goal
 
 pub returns-clause-answered : goal.returns-clause-answered

@@ -1,5 +1,5 @@
-use Rattle.std.proofs.Common.{inl, inr, refl, rules, subst, sym, ◌≡◌, ℕ, List, [], ◌∷◌}
-use Rattle.cbor.specs.Lines.{IsOkText, MayBeAnswer, memory_text, text_line}
+use Rattle.std.proofs.Common.{inl, inr, refl}
+use Rattle.cbor.specs.Lines.{IsOkText, MayBeAnswer, memory_text}
 use Rattle.cbor.proofs.AnsweredLines.{line-held}
 use Rattle.cbor.proofs.answering.write_answer.Goals as goal
 

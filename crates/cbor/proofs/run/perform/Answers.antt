@@ -1,6 +1,5 @@
-use Rattle.std.proofs.Common.{sym, ◌∙◌, subst, ℕ, List}
-use Rattle.cbor.specs.declared.reading.Reading.{Reading}
-use Rattle.cbor.specs.Lines.{AreOk, IsOkText, MayBeAnswer}
+use Rattle.std.proofs.Common.{sym, ◌∙◌}
+use Rattle.cbor.specs.Lines.{IsOkText, MayBeAnswer}
 use Rattle.cbor.proofs.AnsweredLines.{flushed-all, flushed-ok, held-still}
 use Rattle.cbor.proofs.AskedWords.{same-reading}
 use Rattle.cbor.proofs.MeantLines.{sorted-still}

@@ -1,4 +1,3 @@
-use Rattle.std.proofs.Common.{rules}
 use Rattle.cbor.proofs.AnsweredLines.{held-empty}
 use Rattle.cbor.proofs.WrittenLines.{sent-lines}
 use Rattle.cbor.proofs.sorting.write_values.Goals as goal
