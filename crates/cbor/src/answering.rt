@@ -66,9 +66,9 @@ pub fn answer_line_det(
 /// Makes `rooms.text` the answer to a line that is read as a sequence (RFC 8742), items one after
 /// the other: `hex` where it is not an even number of hex digits; `ok`, and a space and the
 /// encoding in lower-case hex of each item, where its bytes are good items within 256 levels each;
-/// else `item`, the number of the first item that is refused, counted from 1, a colon, and why it is, as
-/// `answer_line` says it, with the offset counted inside that item. Says whether the line is a
-/// sequence.
+/// else `item`, the number of the first item that is refused, counted from 1, a colon, and why it
+/// is, as `answer_line` says it, with the offset counted inside that item. Says whether the line is
+/// a sequence.
 ///
 /// # Errors
 ///
