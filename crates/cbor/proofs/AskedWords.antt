@@ -4,6 +4,7 @@ use Rattle.std.proofs.lemmas.List.{take_all}
 use Rattle.cbor.specs.declared.reading.Reading.{Reading}
 use Rattle.cbor.specs.declared.reading.Reading.TheVariants.{Item, Sequence}
 use Rattle.cbor.specs.declared.reading.Spelling.{Spelling}
+use Rattle.cbor.specs.declared.run.Command.{Command}
 use Rattle.cbor.specs.declared.run.Command.TheVariants as commands
 use Rattle.cbor.specs.declared.reading.Spelling.TheVariants.{Any, Deterministic}
 use Rattle.cbor.specs.Words.{AreOptions, AreWrong, AskFor, AskForSequences, AskToRead, AskToSort, NameLimit, NameLimitBehind}
@@ -106,3 +107,20 @@ read-sequences words Sequence p q = refl
 pub not-sorted : (words : List (List ℕ)) (reading : Reading) → AskFor words (commands.Answer reading) → AskToSort words → ⊥
 not-sorted words (Item s m) p sorts = not-to-sort words s m p sorts
 not-sorted words Sequence p sorts = not-sorted-sequences words sorts p
+
+pub same-reading : (a b : Reading) → commands.Answer a ≡ commands.Answer b → a ≡ b
+same-reading a b e = cc
+
+-- what words ask for is the command that they name
+pub asks-to-read : (words : List (List ℕ)) (command : Command) (spelling : Spelling) (n : ℕ) → AskFor words command → AskToRead words spelling n →
+    command ≡ commands.Answer (Item spelling n)
+asks-to-read words (commands.Answer reading) spelling n p q = ap commands.Answer (read-so words reading spelling n p q)
+asks-to-read words commands.Sort spelling n p q = absurd (not-to-sort words spelling n q p)
+
+pub asks-for-sequences : (words : List (List ℕ)) (command : Command) → AskFor words command → AskForSequences words → command ≡ commands.Answer Sequence
+asks-for-sequences words (commands.Answer reading) p q = ap commands.Answer (read-sequences words reading p q)
+asks-for-sequences words commands.Sort p q = absurd (not-sorted-sequences words p q)
+
+pub asks-to-sort : (words : List (List ℕ)) (command : Command) → AskFor words command → AskToSort words → command ≡ commands.Sort
+asks-to-sort words (commands.Answer reading) p q = absurd (not-sorted words reading p q)
+asks-to-sort words commands.Sort p q = refl

@@ -1,5 +1,5 @@
 -- The encoding of a value as hex digits.
-use Rattle.std.proofs.Common.{◌≡◌, ℕ, List, [], ◌++◌, is_err, false, Some, Result, Ok, Err, IfOk, ap, ◌∙◌}
+use Rattle.std.proofs.Common.{◌≡◌, ℕ, List, [], ◌++◌, is_err, false, Some, Result, Ok, Err, ap, ◌∙◌}
 use Rattle.ciborium_ll.specs.Writing.{Writes}
 
 -- a call that wrote to an empty list, and did not fail, wrote all
@@ -7,8 +7,3 @@ pub written-all : {E : Type 0} (old new : List ℕ) (r : Result (Unit {0}) E) (b
     is_err r ≡ false → new ≡ bytes
 written-all old new (Ok u) bytes e w f = w ∙ ap (λ (xs : List ℕ). xs ++ bytes) e
 written-all old new (Err x) bytes e w f = absurd cc
-
--- a text that a call makes, by another name
-pub same-text : {T E : Type 0} (text : T → List ℕ) (a b : List ℕ) (r : Result T E) → a ≡ b → IfOk r (λ t. text t ≡ a) → IfOk r (λ t. text t ≡ b)
-same-text text a b (Ok t) e h = h ∙ e
-same-text text a b (Err x) e h = tt

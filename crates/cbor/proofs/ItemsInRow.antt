@@ -1,17 +1,21 @@
 -- One more item of a sequence is read, and its hex is put behind the text.
-use Rattle.std.proofs.Common.{◌≡◌, ℕ, ◌+◌, List, [], ◌∷◌, ◌++◌, length, flat_map, false, Result, Ok, Err, OnOk, is_err, refl, sym, subst, ap, ◌∙◌, arith, length-append}
+use Rattle.std.proofs.Common.{◌≡◌, ℕ, ◌+◌, List, [], ◌∷◌, ◌++◌, length, false, ◌==◌, refl, sym, subst, ap, ◌∙◌, arith, length-append, append-nil, codes}
 use Rattle.std.proofs.lemmas.List.{flat_map_more}
+use Rattle.std.proofs.lemmas.Bool.Decides.{nat_tests}
 use Rattle.ciborium_value.specs.Tree.{Tree}
 use Rattle.cbor.specs.declared.reading.Spelling.TheVariants.{Any}
-use Rattle.cbor.specs.Sequence.{AreItemsBefore, item_text}
+use Rattle.cbor.specs.declared.answer.Refusal.{Refusal}
+use Rattle.cbor.specs.Answer.{IsFrontRefused, refused_text, wants_memory}
+use Rattle.cbor.specs.Sequence.{AreItemsBefore, HasSequenceAnswer, item_text, refused_item_text, sequence_text, whole}
 use Rattle.cbor.specs.Spellings.{HasItemBefore}
+use Rattle.cbor.proofs.JudgedAnswers.{item-refused}
 
 -- of b the rest is left: the items before it mean some trees, their hex is the text, and the next item has this number
 abbrev pub IsSoFar : List ℕ → List ℕ → List ℕ → ℕ → Type 0
-IsSoFar b rest text number = (trees : List Tree) × AreItemsBefore b 256 trees rest × (text ≡ flat_map item_text trees) × (number ≡ length trees + 1)
+IsSoFar b rest text number = (trees : List Tree) × AreItemsBefore b 256 trees rest × (text ≡ sequence_text trees) × (number ≡ length trees + 1)
 
-pub no-items : (b text : List ℕ) → text ≡ [] → IsSoFar b b text 1
-no-items b text e = ([], refl, e, omega arith)
+pub no-items : (b text : List ℕ) → text ≡ codes "ok" → IsSoFar b b text 1
+no-items b text e = ([], refl, e ∙ sym (append-nil (codes "ok")), omega arith)
 
 -- one more item stands at the front of what was left
 one-more-before : (trees : List Tree) (b rest left : List ℕ) (v : Tree) → AreItemsBefore b 256 trees rest → HasItemBefore Any rest 256 v left →
@@ -24,11 +28,16 @@ pub one-more-item : (b rest left text longer : List ℕ) (number : ℕ) (v : Tre
 one-more-item b rest left text longer number v (trees, a, same, count) item e = (
   trees ++ (v ∷ []),
   one-more-before trees b rest left v a item,
-  e ∙ (ap (λ (t : List ℕ). t ++ item_text v) same ∙ flat_map_more item_text [] trees v),
+  e ∙ (ap (λ (t : List ℕ). t ++ item_text v) same ∙ flat_map_more item_text (codes "ok") trees v),
   (let more : length (trees ++ (v ∷ [])) ≡ length trees + 1 = length-append trees (v ∷ []) in omega (arith, more, count)),
 )
 
--- what a call that did not fail did
-pub not-failed : {T E : Type 0} (r : Result T E) (P : Type 0) → is_err r ≡ false → OnOk r P → P
-not-failed (Ok v) P e h = h
-not-failed (Err x) P e h = absurd cc
+-- the text of all items answers the bytes
+pub all-items : (b rest text : List ℕ) (number : ℕ) → IsSoFar b rest text number → rest ≡ [] → HasSequenceAnswer b 256 text
+all-items b rest text number (trees, a, same, count) none = whole trees (subst (λ (r : List ℕ). AreItemsBefore b 256 trees r) none a) same
+
+-- and so does that of the first that is refused
+pub first-refused : (b rest text answer : List ℕ) (number : ℕ) (e : Refusal) → IsSoFar b rest text number → false ≡ (length rest == 0) → IsFrontRefused Any rest 256 e →
+    (wants_memory e ≡ false) × (answer ≡ refused_item_text number (refused_text e)) → HasSequenceAnswer b 256 answer
+first-refused b rest text answer number e (trees, a, same, count) more h is =
+    item-refused b trees rest number e answer a (let some = sym more in grind (arith, nat_tests)) count h is

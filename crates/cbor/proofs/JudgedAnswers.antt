@@ -1,29 +1,44 @@
--- What an answer says of a line, and its text.
-use Rattle.std.proofs.Common.{◌≡◌, ℕ, ◌+◌, ◌<◌, List, [], ◌++◌, length, true, false, Option, Some, Result, Ok, Err, IfOk, IsErr, MatchResult, codes, refl, sym, ap, ◌∙◌, subst, flat_map, string_bytes}
-use Rattle.hex.specs.Hex.{decode_of}
+-- What the text of a line says of it.
+use Rattle.std.proofs.Common.{◌≡◌, ℕ, ◌+◌, ◌<◌, List, [], ◌++◌, length, true, false, Result, Ok, Err, IsErr, MatchResult, codes, sym, ap, ◌∙◌, subst}
+use Rattle.hex.specs.Hex.{decode_of, encode_lower}
 use Rattle.hex.specs.declared.error.FromHexError.{FromHexError}
 use Rattle.ciborium_ll.specs.Refusal.{io, syntax, too_long, semantic, recursion_limit_exceeded}
+use Rattle.ciborium_value.specs.Encoding.{encoding}
 use Rattle.ciborium_value.specs.Tree.{Tree}
-use Rattle.cbor.specs.declared.answer.Answer.{Answer}
-use Rattle.cbor.specs.declared.answer.Answer.TheVariants as answers
 use Rattle.cbor.specs.declared.answer.Refusal.{Refusal}
 use Rattle.cbor.specs.declared.answer.Refusal.TheVariants.{Hex, Trailing, Io, Syntax, Semantic, Nesting, TooLong, Memory}
-use Rattle.cbor.specs.declared.reading.Reading.{Reading}
 use Rattle.cbor.specs.declared.reading.Reading.TheVariants.{Item, Sequence}
+use Rattle.cbor.specs.declared.reading.Spelling.{Spelling}
 use Rattle.cbor.specs.declared.reading.Spelling.TheVariants.{Any}
-use Rattle.cbor.specs.Answer.{AreAnsweredBy, IsAnsweredBy, IsFrontRefused, answer_text, is_memory, is_ok_answer, kind_of_reason, refused_text, wants_memory}
-use Rattle.cbor.specs.Line.{hex_text}
-use Rattle.cbor.specs.Lines.{IsAnswer, IsOkText, text_line}
-use Rattle.cbor.specs.Sequence.{AreItemsBefore, HasSequenceAnswer, IsSequenceAnswer, item_text, refused, refused_item_text, sequence_text, whole}
+use Rattle.cbor.specs.Answer.{IsFrontRefused, IsHexRefused, IsMeant, IsRefused, kind_of_reason, refused_text, wants_memory}
+use Rattle.cbor.specs.Line.{IsLineAnswer, hex_text}
+use Rattle.cbor.specs.Lines.{IsOkText}
+use Rattle.cbor.specs.Sequence.{AreItemsBefore, AreSequence, HasSequenceAnswer, IsSequenceAnswer, refused, refused_item_text}
 use Rattle.cbor.proofs.JudgedLines.{item-answer, refusal_is_answered}
 
 not-memory : (e : Refusal) → wants_memory e ≡ false → e ≡ Memory → ⊥
 not-memory e m same = let no : true ≡ false = ap wants_memory (sym same) ∙ m in cc
 
+-- ---- items
+
+-- the encoding behind `ok ` answers a line that means a tree
+pub item-text : (spelling : Spelling) (line : List ℕ) (limit : ℕ) (v : Tree) (ok text : List ℕ) → IsMeant spelling line limit v → ok ≡ codes "ok " →
+    text ≡ ok ++ encode_lower (encoding v) → IsOkText (Item spelling limit) line text
+item-text spelling line limit v ok text means e same = (v, means, same ∙ ap (λ (t : List ℕ). t ++ encode_lower (encoding v)) e)
+
+pub item-answers : (spelling : Spelling) (line : List ℕ) (limit : ℕ) (text : List ℕ) → IsOkText (Item spelling limit) line text → IsLineAnswer spelling line limit text
+item-answers spelling line limit text (v, means, same) = item-answer spelling (decode_of line) limit v text means same
+
+-- the text of what refuses a line answers it
+pub refusal-answers : (spelling : Spelling) (line : List ℕ) (limit : ℕ) (e : Refusal) (text : List ℕ) → IsRefused spelling line limit e →
+    (wants_memory e ≡ false) × (text ≡ refused_text e) → IsLineAnswer spelling line limit text
+refusal-answers spelling line limit e text h (m, same) =
+    subst (λ (t : List ℕ). IsLineAnswer spelling line limit t) (sym same) (refusal_is_answered spelling line limit e (λ is. absurd (not-memory e m is)) h)
+
 -- ---- sequences
 
 -- the item behind some good ones is refused
-of-item : (b : List ℕ) (limit : ℕ) (trees : List Tree) (rest : List ℕ) (n : ℕ) (e : Refusal) → AreItemsBefore b limit trees rest → 0 < length rest →
+pub of-item : (b : List ℕ) (limit : ℕ) (trees : List Tree) (rest : List ℕ) (n : ℕ) (e : Refusal) → AreItemsBefore b limit trees rest → 0 < length rest →
     n ≡ length trees + 1 → wants_memory e ≡ false → IsFrontRefused Any rest limit e → HasSequenceAnswer b limit (refused_item_text n (refused_text e))
 of-item b limit trees rest n Hex a more same m h = absurd h
 of-item b limit trees rest n (Trailing k) a more same m h = absurd h
@@ -36,94 +51,31 @@ of-item b limit trees rest n Nesting a more same m h =
 of-item b limit trees rest n TooLong a more same m h = refused trees rest too_long a more h (ap (λ (k : ℕ). refused_item_text k (refused_text TooLong)) same)
 of-item b limit trees rest n Memory a more same m h = absurd cc
 
-of-bytes : (b : List ℕ) (limit : ℕ) (a : Answer) → is_memory a ≡ false → AreAnsweredBy b limit a → HasSequenceAnswer b limit (answer_text a)
-of-bytes b limit (answers.Item digits) m h = absurd h
-of-bytes b limit (answers.Sequence items) m (trees, all, same) = whole trees all (ap (λ (t : List ℕ). codes "ok" ++ t) same)
-of-bytes b limit (answers.Refused e) m h = absurd cc
-of-bytes b limit (answers.RefusedItem n e) m (trees, rest, a, more, same, w, h) = of-item b limit trees rest n e a more same w h
+-- the text of the item that is refused answers the bytes
+pub item-refused : (b : List ℕ) (trees : List Tree) (rest : List ℕ) (n : ℕ) (e : Refusal) (text : List ℕ) → AreItemsBefore b 256 trees rest → 0 < length rest →
+    n ≡ length trees + 1 → IsFrontRefused Any rest 256 e → (wants_memory e ≡ false) × (text ≡ refused_item_text n (refused_text e)) → HasSequenceAnswer b 256 text
+item-refused b trees rest n e text a more count h (m, same) =
+    subst (λ (t : List ℕ). HasSequenceAnswer b 256 t) (sym same) (of-item b 256 trees rest n e a more count m h)
 
-by-decoding : (d : Result (List ℕ) FromHexError) (a : Answer) → is_memory a ≡ false → MatchResult d (λ b. AreAnsweredBy b 256 a) (λ _. ⊥) →
-    MatchResult d (λ b. HasSequenceAnswer b 256 (answer_text a)) (λ _. answer_text a ≡ hex_text)
-by-decoding (Ok b) a m h = of-bytes b 256 a m h
-by-decoding (Err e) a m h = absurd h
+-- the answer to the bytes of a line answers it
+pub bytes-answer : (line b text : List ℕ) → decode_of line ≡ Ok b → HasSequenceAnswer b 256 text → IsSequenceAnswer line 256 text
+bytes-answer line b text d h = subst (λ (r : Result (List ℕ) FromHexError). MatchResult r (λ c. HasSequenceAnswer c 256 text) (λ _. text ≡ hex_text)) (sym d) h
 
-by-hex : (d : Result (List ℕ) FromHexError) → IsErr d → MatchResult d (λ b. HasSequenceAnswer b 256 hex_text) (λ _. hex_text ≡ hex_text)
-by-hex (Ok b) h = absurd cc
-by-hex (Err e) h = refl
+pub bytes-text : (line b text : List ℕ) → decode_of line ≡ Ok b → AreSequence b 256 text → IsOkText Sequence line text
+bytes-text line b text d (trees, all, same) =
+    (trees, subst (λ (r : Result (List ℕ) FromHexError). MatchResult r (λ c. AreItemsBefore c 256 trees []) (λ _. ⊥)) (sym d) all, same)
 
-of-sequence : (line : List ℕ) (a : Answer) → is_memory a ≡ false → IsAnsweredBy Sequence line a → IsSequenceAnswer line 256 (answer_text a)
-of-sequence line (answers.Item digits) m h = by-decoding (decode_of line) (answers.Item digits) m h
-of-sequence line (answers.Sequence items) m h = by-decoding (decode_of line) (answers.Sequence items) m h
-of-sequence line (answers.RefusedItem n e) m h = by-decoding (decode_of line) (answers.RefusedItem n e) m h
-of-sequence line (answers.Refused Hex) m h = by-hex (decode_of line) h
-of-sequence line (answers.Refused (Trailing n)) m h = absurd h
-of-sequence line (answers.Refused Io) m h = absurd h
-of-sequence line (answers.Refused (Syntax p)) m h = absurd h
-of-sequence line (answers.Refused (Semantic p reason)) m h = absurd h
-of-sequence line (answers.Refused Nesting) m h = absurd h
-of-sequence line (answers.Refused TooLong) m h = absurd h
-of-sequence line (answers.Refused Memory) m h = absurd cc
+by-hex : (d : Result (List ℕ) FromHexError) (text : List ℕ) → IsErr d → text ≡ hex_text → MatchResult d (λ b. HasSequenceAnswer b 256 text) (λ _. text ≡ hex_text)
+by-hex (Ok b) text h same = absurd cc
+by-hex (Err e) text h same = same
 
--- want of memory is an answer to any line
-for-memory : (line : List ℕ) (e : Refusal) → wants_memory e ≡ true → IsAnsweredBy Sequence line (answers.Refused e)
-for-memory line Hex h = absurd cc
-for-memory line (Trailing n) h = absurd cc
-for-memory line Io h = absurd cc
-for-memory line (Syntax p) h = absurd cc
-for-memory line (Semantic p reason) h = absurd cc
-for-memory line Nesting h = absurd cc
-for-memory line TooLong h = absurd cc
-for-memory line Memory h = tt
-
-decoded : (line b : List ℕ) (P : List ℕ → Type 0) → decode_of line ≡ Ok b → P b → MatchResult (decode_of line) P (λ _. ⊥)
-decoded line b P d h = subst (λ (r : Result (List ℕ) FromHexError). MatchResult r P (λ _. ⊥)) (sym d) h
-
--- what holds of the bytes of a line
-pub line-judged : (line b : List ℕ) (a : Answer) → decode_of line ≡ Ok b → AreAnsweredBy b 256 a → IsAnsweredBy Sequence line a
-line-judged line b (answers.Item digits) d h = absurd h
-line-judged line b (answers.Sequence items) d h = decoded line b (λ c. AreAnsweredBy c 256 (answers.Sequence items)) d h
-line-judged line b (answers.Refused e) d h = for-memory line e h
-line-judged line b (answers.RefusedItem n e) d h = decoded line b (λ c. AreAnsweredBy c 256 (answers.RefusedItem n e)) d h
-
--- ---- the text of an answer
-
--- other than `memory` it answers the line
-text-answers : (reading : Reading) (line : List ℕ) (a : Answer) → is_memory a ≡ false → IsAnsweredBy reading line a → IsAnswer reading line (answer_text a)
-text-answers (Item spelling limit) line (answers.Item digits) m (v, means, same) =
-    item-answer spelling (decode_of line) limit v (answer_text (answers.Item digits)) means (ap (λ (t : List ℕ). codes "ok " ++ t) same)
-text-answers (Item spelling limit) line (answers.Sequence items) m h = absurd h
-text-answers (Item spelling limit) line (answers.Refused e) m h = refusal_is_answered spelling line limit e (λ same. absurd (not-memory e m same)) h
-text-answers (Item spelling limit) line (answers.RefusedItem n e) m h = absurd h
-text-answers Sequence line a m h = of-sequence line a m h
-
-pub answered-by-text : {T E : Type 0} (text : T → List ℕ) (reading : Reading) (line : List ℕ) (a : Answer) (r : Result T E) → is_memory a ≡ false →
-    IsAnsweredBy reading line a → IfOk r (λ t. text t ≡ answer_text a) → IfOk r (λ t. IsAnswer reading line (text t))
-answered-by-text text reading line a (Ok t) m h same = subst (λ (s : List ℕ). IsAnswer reading line s) (sym same) (text-answers reading line a m h)
-answered-by-text text reading line a (Err x) m h same = tt
-
--- no bytes have such an answer
-neither : (d : Result (List ℕ) FromHexError) → MatchResult d (λ b. ⊥) (λ _. ⊥) → ⊥
-neither (Ok b) h = h
-neither (Err e) h = h
-
-all-items : (d : Result (List ℕ) FromHexError) (items : List ℕ) →
-    MatchResult d (λ b. (trees : List Tree) × AreItemsBefore b 256 trees [] × (items ≡ flat_map item_text trees)) (λ _. ⊥) →
-    (trees : List Tree) × MatchResult d (λ b. AreItemsBefore b 256 trees []) (λ _. ⊥) × (codes "ok" ++ items ≡ sequence_text trees)
-all-items (Ok b) items (trees, all, same) = (trees, all, ap (λ (t : List ℕ). codes "ok" ++ t) same)
-all-items (Err e) items h = absurd h
-
--- where it is that of an item, or of a sequence, so is the line
-ok-text : (reading : Reading) (line : List ℕ) (a : Answer) → is_ok_answer a ≡ true → IsAnsweredBy reading line a → IsOkText reading line (answer_text a)
-ok-text (Item spelling limit) line (answers.Item digits) ok (v, means, same) = (v, means, ap (λ (t : List ℕ). codes "ok " ++ t) same)
-ok-text (Item spelling limit) line (answers.Sequence items) ok h = absurd h
-ok-text (Item spelling limit) line (answers.Refused e) ok h = absurd cc
-ok-text (Item spelling limit) line (answers.RefusedItem n e) ok h = absurd h
-ok-text Sequence line (answers.Item digits) ok h = absurd (neither (decode_of line) h)
-ok-text Sequence line (answers.Sequence items) ok h = all-items (decode_of line) (string_bytes items) h
-ok-text Sequence line (answers.Refused e) ok h = absurd cc
-ok-text Sequence line (answers.RefusedItem n e) ok h = absurd cc
-
--- its line is written behind w
-pub ok-written : (reading : Reading) (line : List ℕ) (a : Answer) (w bytes : List ℕ) (now : Option (List ℕ)) → is_ok_answer a ≡ true → IsAnsweredBy reading line a →
-    now ≡ Some (w ++ bytes) → bytes ≡ text_line (answer_text a) → (text : List ℕ) × IsOkText reading line text × (now ≡ Some (w ++ text_line text))
-ok-written reading line a w bytes now ok h e same = (answer_text a, ok-text reading line a ok h, e ∙ ap (λ (t : List ℕ). Some (w ++ t)) same)
+-- the text of what keeps a line from being hex answers it
+pub hex-answers : (line : List ℕ) (e : Refusal) (text : List ℕ) → IsHexRefused line e → (wants_memory e ≡ false) × (text ≡ refused_text e) → IsSequenceAnswer line 256 text
+hex-answers line Hex text h (m, same) = by-hex (decode_of line) text h same
+hex-answers line (Trailing n) text h m = absurd h
+hex-answers line Io text h m = absurd h
+hex-answers line (Syntax p) text h m = absurd h
+hex-answers line (Semantic p reason) text h m = absurd h
+hex-answers line Nesting text h m = absurd h
+hex-answers line TooLong text h m = absurd h
+hex-answers line Memory text h (m, same) = absurd cc

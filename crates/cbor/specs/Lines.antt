@@ -1,6 +1,6 @@
 -- Lines of the input, and what is written where each is an item, or a sequence.
-use Rattle.std.specs.Prelude.{◌≡◌, ℕ, ◌<◌, List, [], ◌∷◌, ◌++◌, length, Option, Some}
-use Rattle.std.specs.List.{flat_map}
+use Rattle.std.specs.Prelude.{◌≡◌, ◌⊎◌, ℕ, ◌<◌, ◌==◌, Bool, List, [], ◌∷◌, ◌++◌, length, codes, Option, Some}
+use Rattle.std.specs.List.{flat_map, list_any}
 use Rattle.std.specs.Io.BufRead.{first_piece, drop_through, strip_last}
 use Rattle.ciborium_value.specs.Tree.{Tree}
 use Rattle.cbor.specs.declared.reading.Reading.{Reading}
@@ -38,6 +38,26 @@ IsOkText Sequence line text = (trees : List Tree) × IsSequenceOf line 256 trees
 abbrev pub text_line : List ℕ → List ℕ
 text_line text = text ++ (10 ∷ [])
 
--- each line of b is an item, or a sequence, as it is read, and the answers that say so are put behind w
+-- the answer to a line for which memory was refused
+abbrev pub memory_text : List ℕ
+memory_text = codes "memory"
+
+-- the text answers a line that is read so, or says that memory was refused for it
+abbrev pub MayBeAnswer : Reading → List ℕ → List ℕ → Type 0
+MayBeAnswer reading line text = IsAnswer reading line text ⊎ (text ≡ memory_text)
+
+-- there is a text for each line of b, in order, Is holds of the line and its text, and the texts are put behind w, a line each
+abbrev pub AreWritten : (List ℕ → List ℕ → Type 0) → List ℕ → List ℕ → Option (List ℕ) → Type 0
+AreWritten Is b w after = (texts : List (List ℕ)) × AreLines Is b [] texts × (after ≡ Some (w ++ flat_map text_line texts))
+
+-- each line of b is answered, be it refused or not, and the answers are put behind w
 abbrev pub AreAnswered : Reading → List ℕ → List ℕ → Option (List ℕ) → Type 0
-AreAnswered reading b w after = (texts : List (List ℕ)) × AreLines (IsOkText reading) b [] texts × (after ≡ Some (w ++ flat_map text_line texts))
+AreAnswered reading b w after = AreWritten (MayBeAnswer reading) b w after
+
+-- each line of b is an item, or a sequence, as it is read, and the answers that say so are put behind w
+abbrev pub AreOk : Reading → List ℕ → List ℕ → Option (List ℕ) → Type 0
+AreOk reading b w after = AreWritten (IsOkText reading) b w after
+
+-- a line feed stands in b
+abbrev pub holds_line : List ℕ → Bool
+holds_line b = list_any (λ y. y == 10) b

@@ -43,3 +43,7 @@ pub data HasSequenceAnswer (b : List ℕ) (limit : ℕ) (answer : List ℕ) : Ty
 -- the text answers a line that is read as a sequence: its bytes, or `hex` where it is not an even number of hex digits
 abbrev pub IsSequenceAnswer : List ℕ → ℕ → List ℕ → Type 0
 IsSequenceAnswer line limit answer = MatchResult (decode_of line) (λ b. HasSequenceAnswer b limit answer) (λ _. answer ≡ hex_text)
+
+-- all of b is a sequence, and the text is the answer that says so
+abbrev pub AreSequence : List ℕ → ℕ → List ℕ → Type 0
+AreSequence b limit text = (trees : List Tree) × AreItemsBefore b limit trees [] × (text ≡ sequence_text trees)

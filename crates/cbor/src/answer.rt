@@ -1,26 +1,12 @@
-//! The answer to a line, an item, a sequence or why it is none, and its text.
+//! Why a line is no item, and its text.
 
 ghost use Rattle.std.specs.Prelude.{◌≡◌, Some};
-ghost use Rattle.cbor.specs.Answer.{answer_text, is_memory, is_ok_answer, kind_of_reason};
-ghost use Rattle.cbor.specs.Answer.{refused_text, wants_memory};
+ghost use Rattle.cbor.specs.Answer.{kind_of_reason, refused_text, wants_memory};
 ghost use Rattle.cbor.specs.Line.{kind_text};
 ghost use Rattle.cbor.specs.declared.answer.Refusal.TheVariants.{Memory};
 
 use std::alloc::AllocError;
 use std::fmt;
-
-/// The answer to a line.
-#[derive(Debug, Drop)]
-pub enum Answer {
-    /// The line is an item. This is its encoding in lower-case hex.
-    Item(String),
-    /// The line is a sequence. This is the encoding of each item in lower-case hex, behind a space.
-    Sequence(String),
-    /// The line is no item, or no bytes, or memory was refused.
-    Refused(Refusal),
-    /// The line is no sequence: the item of this number, counted from 1, is the first refused.
-    RefusedItem(u64, Refusal),
-}
 
 /// Why a line is no item.
 #[derive(Clone, Copy, Debug)]
@@ -64,29 +50,6 @@ pub enum Reason {
     KeyOrder,
 }
 
-impl Answer {
-    /// Whether the line is an item, or a sequence where that is asked for.
-    pub fn is_ok(&self) -> bool
-        ensures { result ≡ is_ok_answer self.now }
-    {
-        match self {
-            Answer::Item(_) | Answer::Sequence(_) => true,
-            Answer::Refused(_) => false,
-            Answer::RefusedItem(_, _) => false,
-        }
-    }
-
-    /// Whether memory was refused, so that the line is left without an answer.
-    pub fn is_memory(&self) -> bool
-        ensures { result ≡ is_memory self.now }
-    {
-        match self {
-            Answer::Refused(refusal) => refusal.is_memory(),
-            _ => false,
-        }
-    }
-}
-
 impl Refusal {
     /// Whether memory was refused.
     pub fn is_memory(&self) -> bool
@@ -101,19 +64,6 @@ impl From<AllocError> for Refusal {
 
     fn from(_: AllocError) -> Refusal {
         Refusal::Memory
-    }
-}
-
-impl fmt::Display for Answer {
-    ghost output = { λ answer. Some (answer_text answer) };
-
-    fn fmt<W: fmt::Write>(&self, f: &mut fmt::Formatter<W>) -> fmt::Result {
-        match self {
-            Answer::Item(digits) => write!(f, "ok {digits}"),
-            Answer::Sequence(items) => write!(f, "ok{items}"),
-            Answer::Refused(refusal) => write!(f, "{refusal}"),
-            Answer::RefusedItem(number, refusal) => write!(f, "item {number}: {refusal}"),
-        }
     }
 }
 

@@ -1,78 +1,154 @@
 //! Lines that are answered, one by one.
 
-ghost use Rattle.std.specs.Prelude.{◌≡◌, ◌++◌, ℕ, IfErr, IfOk, IsTrue, List, Some, string_bytes};
-ghost use Rattle.cbor.specs.Answer.{IsAnsweredBy, IsDigitsOf, IsRefused};
+ghost use Rattle.std.specs.Prelude.{◌≡◌, ◌++◌, ℕ, IfOk, IsTrue, List, OnOk, Some, false};
+ghost use Rattle.std.specs.Io.Buffered.{reader_remaining};
+ghost use Rattle.std.specs.Io.KnownBytes.{append_known};
+ghost use Rattle.cbor.specs.Answer.{refused_text, wants_memory};
 ghost use Rattle.cbor.specs.Line.{IsLineAnswer};
-ghost use Rattle.cbor.specs.Lines.{AreAnswered, IsAnswer, IsOkText, text_line};
+ghost use Rattle.cbor.specs.Lines.{AreAnswered, AreOk, IsAnswer, IsOkText, MayBeAnswer, text_line};
 ghost use Rattle.cbor.specs.Sequence.{IsSequenceAnswer};
-ghost use Rattle.cbor.specs.declared.reading.Reading.TheVariants.{Item};
+ghost use Rattle.cbor.specs.declared.reading.Reading.TheVariants.{Item, Sequence};
 ghost use Rattle.cbor.specs.declared.reading.Spelling.TheVariants.{Any, Deterministic};
 
-use crate::answer::{Answer, Refusal};
+use crate::answer::Refusal;
+use crate::digits::decode_line;
 use crate::fault::Fault;
-use crate::items::{encode_to_hex, read_item};
-use crate::lines::{read_line, write_text};
+use crate::items::{push_encoding, read_item};
+use crate::lines::{next_line, put_text, send_waiting};
 use crate::reading::{Reading, Spelling};
-use crate::sequences::judge_sequence;
+use crate::rooms::Rooms;
+use crate::sequences::answer_items;
 use std::alloc::{AllocError, Global};
 use std::io::{BufReader, Read, Write};
 
-/// The answer to a line, within this many levels: `hex` where it is not an even number of hex
-/// digits of either case; `ok` and the encoding in lower-case hex where its bytes are one item;
-/// `trailing` and how many bytes follow the item at the front; and else why the bytes are refused:
-/// `io`, `syntax` and an offset, `semantic`, an offset and a word, `nesting`, or `toolong`.
+/// Makes `rooms.text` the answer to a line, within this many levels: `hex` where it is not an even
+/// number of hex digits of either case; `ok` and the encoding in lower-case hex where its bytes are
+/// one item; `trailing` and how many bytes follow the item at the front; and else why the bytes are
+/// refused: `io`, `syntax` and an offset, `semantic`, an offset and a word, `nesting`, or
+/// `toolong`. Says whether the line is an item.
 ///
 /// # Errors
 ///
 /// `AllocError` where memory is refused.
-pub fn answer_line(alloc: Global, line: &[u8], limit: usize) -> Result<String, AllocError>
-    ensures { IfOk result (λ answer. IsLineAnswer Any line.now limit (string_bytes answer)) }
+pub fn answer_line(
+    alloc: Global,
+    line: &[u8],
+    limit: usize,
+    rooms: &mut Rooms,
+) -> Result<bool, AllocError>
+    ensures answer { OnOk result (IsLineAnswer Any line.now limit rooms.new.text.items) }
+    ensures item { IfOk result (λ is_ok. IsTrue is_ok →
+        IsOkText (Item Any limit) line.now rooms.new.text.items) }
 {
-    answer_reading(alloc, line, Reading::Item(Spelling::Any, limit))
+    answer_item(alloc, line, Spelling::Any, limit, rooms)
 }
 
-/// The answer to a line as `answer_line` gives it, but an item is its deterministic encoding alone
-/// (RFC 8949, section 4.2): of other bytes `semantic` names, beside the words of `answer_line`,
-/// `open`, `notshortest`, `notfolded` or `keyorder`.
+/// Answers a line as `answer_line` does, but an item is its deterministic encoding alone (RFC 8949,
+/// section 4.2): of other bytes `semantic` names, beside the words of `answer_line`, `open`,
+/// `notshortest`, `notfolded` or `keyorder`.
 ///
 /// # Errors
 ///
 /// `AllocError` where memory is refused.
-pub fn answer_line_det(alloc: Global, line: &[u8], limit: usize) -> Result<String, AllocError>
-    ensures { IfOk result
-        (λ answer. IsLineAnswer Deterministic line.now limit (string_bytes answer)) }
+pub fn answer_line_det(
+    alloc: Global,
+    line: &[u8],
+    limit: usize,
+    rooms: &mut Rooms,
+) -> Result<bool, AllocError>
+    ensures answer { OnOk result (IsLineAnswer Deterministic line.now limit rooms.new.text.items) }
+    ensures item { IfOk result (λ is_ok. IsTrue is_ok →
+        IsOkText (Item Deterministic limit) line.now rooms.new.text.items) }
 {
-    answer_reading(alloc, line, Reading::Item(Spelling::Deterministic, limit))
+    answer_item(alloc, line, Spelling::Deterministic, limit, rooms)
 }
 
-/// The answer to a line that is read as a sequence (RFC 8742), items one after the other: `hex`
-/// where it is not an even number of hex digits; `ok`, and a space and the encoding in lower-case
-/// hex of each item, where its bytes are good items within 256 levels each; else `item`, the number
-/// of the first item that is refused, counted from 1, a colon, and why it is, as `answer_line` says
-/// it, with the offset counted inside that item.
+/// Makes `rooms.text` the answer to a line that is read as a sequence (RFC 8742), items one after
+/// the other: `hex` where it is not an even number of hex digits; `ok`, and a space and the
+/// encoding in lower-case hex of each item, where its bytes are good items within 256 levels each;
+/// else `item`, the number of the first item that is refused, counted from 1, a colon, and why it
+/// is, as `answer_line` says it, with the offset counted inside that item. Says whether the line is
+/// a sequence.
 ///
 /// # Errors
 ///
 /// `AllocError` where memory is refused.
-pub fn answer_seq(alloc: Global, line: &[u8]) -> Result<String, AllocError>
-    ensures { IfOk result (λ answer. IsSequenceAnswer line.now 256 (string_bytes answer)) }
+pub fn answer_seq(alloc: Global, line: &[u8], rooms: &mut Rooms) -> Result<bool, AllocError>
+    ensures answer { OnOk result (IsSequenceAnswer line.now 256 rooms.new.text.items) }
+    ensures sequence { IfOk result (λ is_ok. IsTrue is_ok →
+        IsOkText Sequence line.now rooms.new.text.items) }
 {
-    answer_reading(alloc, line, Reading::Sequence)
+    match decode_line(line, &mut rooms.bytes) {
+        Ok(()) => answer_items(alloc, &rooms.bytes, &mut rooms.encoding, &mut rooms.text),
+        Err(refusal) => {
+            write_refusal(refusal, &mut rooms.text)?;
+            Ok(false)
+        }
+    }
 }
 
-// The text of the answer to a line that is read so.
-fn answer_reading(alloc: Global, line: &[u8], reading: Reading) -> Result<String, AllocError>
-    ensures { IfOk result (λ answer. IsAnswer reading line.now (string_bytes answer)) }
+// The answer to a line that is read as one item, and whether it is one.
+fn answer_item(
+    alloc: Global,
+    line: &[u8],
+    spelling: Spelling,
+    limit: usize,
+    rooms: &mut Rooms,
+) -> Result<bool, AllocError>
+    ensures answer { OnOk result (IsLineAnswer spelling line.now limit rooms.new.text.items) }
+    ensures item { IfOk result (λ is_ok. IsTrue is_ok →
+        IsOkText (Item spelling limit) line.now rooms.new.text.items) }
 {
-    let answer = judge_line(alloc, line, reading);
-    if answer.is_memory() {
+    match read_item(alloc, line, spelling, limit, &mut rooms.bytes) {
+        Ok(value) => {
+            rooms.text.clear();
+            rooms.text.extend_from_slice(b"ok ")?;
+            push_encoding(&value, &mut rooms.bytes, &mut rooms.text)?;
+            Ok(true)
+        }
+        Err(refusal) => {
+            write_refusal(refusal, &mut rooms.text)?;
+            Ok(false)
+        }
+    }
+}
+
+// Makes `text` that of a refusal; want of memory is none.
+fn write_refusal(refusal: Refusal, text: &mut Vec<u8>) -> Result<(), AllocError>
+    ensures { OnOk result ((wants_memory refusal ≡ false)
+        × (text.new.items ≡ refused_text refusal)) }
+{
+    if refusal.is_memory() {
         return Err(AllocError);
     }
-    format!(in alloc; "{answer}")
+    text.clear();
+    if write!(text, "{refusal}").is_err() {
+        return Err(AllocError);
+    }
+    Ok(())
+}
+
+// The answer to a line that is read so, and whether the line is what is asked for.
+fn answer_reading(
+    alloc: Global,
+    line: &[u8],
+    reading: Reading,
+    rooms: &mut Rooms,
+) -> Result<bool, AllocError>
+    ensures answer { OnOk result (IsAnswer reading line.now rooms.new.text.items) }
+    ensures asked { IfOk result (λ is_ok. IsTrue is_ok →
+        IsOkText reading line.now rooms.new.text.items) }
+{
+    match reading {
+        Reading::Item(Spelling::Any, limit) => answer_line(alloc, line, limit, rooms),
+        Reading::Item(Spelling::Deterministic, limit) => answer_line_det(alloc, line, limit, rooms),
+        Reading::Sequence => answer_seq(alloc, line, rooms),
+    }
 }
 
 /// Answers the lines of the input, each by a line on the output, and says whether each is an item,
-/// or a sequence, as is asked for.
+/// or a sequence, as is asked for. A line whose answer is refused memory is answered `memory`.
+/// Answers wait until the input's device is asked for more, and are then written together.
 ///
 /// # Errors
 ///
@@ -83,77 +159,82 @@ pub fn answer_lines<R: Read, W: Write>(
     reading: Reading,
     output: &mut W,
 ) -> Result<bool, Fault>
-    ensures { (b w : List ℕ) → R.remaining input.old ≡ Some b → W.contents output.old ≡ Some w →
-        IfOk result (λ all. IsTrue all → AreAnswered reading b w (W.contents output.new)) }
+    ensures answered { (b w : List ℕ) → R.remaining input.old ≡ Some b →
+        W.contents output.old ≡ Some w →
+        OnOk result (AreAnswered reading b w (W.contents output.new)) }
+    ensures ok { (b w : List ℕ) → R.remaining input.old ≡ Some b →
+        W.contents output.old ≡ Some w →
+        IfOk result (λ all. IsTrue all → AreOk reading b w (W.contents output.new)) }
 {
     let Ok(mut reader) = BufReader::new(alloc, input) else {
         return Err(Fault::Memory);
     };
+    let mut waiting = Vec::new(alloc);
+    let answered = put_answers(alloc, &mut reader, reading, &mut waiting, output);
+    send_waiting(&mut waiting, output)?;
+    answered
+}
+
+// Puts the answers to the lines of the reader behind the texts that wait.
+fn put_answers<R: Read, W: Write>(
+    alloc: Global,
+    reader: &mut BufReader<R>,
+    reading: Reading,
+    waiting: &mut Vec<u8>,
+    output: &mut W,
+) -> Result<bool, Fault>
+    ensures answered { (b w : List ℕ) → reader_remaining R.remaining reader.old ≡ Some b →
+        append_known (W.contents output.old) waiting.old.items ≡ Some w → OnOk result
+        (AreAnswered reading b w (append_known (W.contents output.new) waiting.new.items)) }
+    ensures ok { (b w : List ℕ) → reader_remaining R.remaining reader.old ≡ Some b →
+        append_known (W.contents output.old) waiting.old.items ≡ Some w →
+        IfOk result (λ all. IsTrue all →
+        AreOk reading b w (append_known (W.contents output.new) waiting.new.items)) }
+{
     let mut line = Vec::new(alloc);
+    let mut rooms = Rooms::new(alloc);
     let mut all_ok = true;
     'lines: for _ in 0..u64::MAX {
-        if !read_line(&mut reader, &mut line)? {
+        if !next_line(reader, &mut line, waiting, output)? {
             return Ok(all_ok);
         }
-        let is_ok = write_answer(alloc, &line, reading, output)?;
+        let is_ok = write_answer(alloc, &line, reading, &mut rooms, waiting, output)?;
         all_ok = all_ok && is_ok;
     }
     Err(Fault::Input)
 }
 
-// Writes the answer to a line, and says whether the line is what is asked for.
+// Puts the answer to a line behind the texts that wait, or `memory` where memory was refused for
+// it, and says whether the line is what is asked for.
 fn write_answer<W: Write>(
     alloc: Global,
     line: &[u8],
     reading: Reading,
+    rooms: &mut Rooms,
+    waiting: &mut Vec<u8>,
     output: &mut W,
 ) -> Result<bool, Fault>
-    ensures { (w : List ℕ) → W.contents output.old ≡ Some w →
+    ensures answered { (w : List ℕ) →
+        append_known (W.contents output.old) waiting.old.items ≡ Some w → OnOk result
+        ((text : List ℕ) × MayBeAnswer reading line.now text
+        × (append_known (W.contents output.new) waiting.new.items ≡ Some (w ++ text_line text))) }
+    ensures ok { (w : List ℕ) →
+        append_known (W.contents output.old) waiting.old.items ≡ Some w →
         IfOk result (λ is_ok. IsTrue is_ok → (text : List ℕ) × IsOkText reading line.now text
-        × (W.contents output.new ≡ Some (w ++ text_line text))) }
+        × (append_known (W.contents output.new) waiting.new.items ≡ Some (w ++ text_line text))) }
 {
-    let answer = judge_line(alloc, line, reading);
-    let Ok(text) = format!(in alloc; "{answer}\n") else {
-        return match writeln!(output, "{}", Refusal::Memory) {
-            Ok(()) => Ok(false),
-            Err(_) => Err(Fault::Output),
-        };
-    };
-    write_text(text.as_str(), output)?;
-    Ok(answer.is_ok())
-}
-
-// The answer to a line.
-fn judge_line(alloc: Global, line: &[u8], reading: Reading) -> Answer
-    ensures { IsAnsweredBy reading line.now result }
-{
-    match reading {
-        Reading::Item(spelling, limit) => judge_item(alloc, line, spelling, limit),
-        Reading::Sequence => judge_sequence(alloc, line),
+    match answer_reading(alloc, line, reading, rooms) {
+        Ok(is_ok) => {
+            put_text(&rooms.text, waiting, output)?;
+            put_text(b"\n", waiting, output)?;
+            Ok(is_ok)
+        }
+        Err(AllocError) => {
+            put_text(b"memory\n", waiting, output)?;
+            Ok(false)
+        }
     }
 }
 
-// The answer to a line that is read as one item.
-fn judge_item(alloc: Global, line: &[u8], spelling: Spelling, limit: usize) -> Answer
-    ensures { IsAnsweredBy (Item spelling limit) line.now result }
-{
-    match read_digits(alloc, line, spelling, limit) {
-        Ok(digits) => Answer::Item(digits),
-        Err(refusal) => Answer::Refused(refusal),
-    }
-}
-
-// The encoding of the item of a line in hex, or why the line is no item.
-fn read_digits(
-    alloc: Global,
-    line: &[u8],
-    spelling: Spelling,
-    limit: usize,
-) -> Result<String, Refusal>
-    ensures item { IfOk result
-        (λ digits. IsDigitsOf spelling line.now limit (string_bytes digits)) }
-    ensures refused { IfErr result (λ refusal. IsRefused spelling line.now limit refusal) }
-{
-    let value = read_item(alloc, line, spelling, limit)?;
-    Ok(encode_to_hex(alloc, &value)?)
-}
+#[cfg(test)]
+mod tests;

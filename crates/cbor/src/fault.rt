@@ -8,6 +8,8 @@ use std::alloc::AllocError;
 /// What ends a run early.
 #[derive(Clone, Copy, Debug)]
 pub enum Fault {
+    /// The arguments could not be read.
+    Arguments,
     /// The input could not be read.
     Input,
     /// An answer could not be written.
@@ -28,6 +30,7 @@ impl Fault {
     /// The line that names it.
     pub fn message(self) -> &'static str {
         match self {
+            Fault::Arguments => "arguments failed\n",
             Fault::Input => "input failed\n",
             Fault::Output => "output failed\n",
             Fault::Memory => "memory\n",

@@ -1,6 +1,6 @@
 //! From a line of hex to the value of its item, and from a value to the hex of its encoding.
 
-ghost use Rattle.std.specs.Prelude.{◌≡◌, IfErr, IfOk, IsSome, Some, string_bytes};
+ghost use Rattle.std.specs.Prelude.{◌≡◌, ◌++◌, IfErr, IfOk, IsSome, OnOk, Some};
 ghost use Rattle.hex.specs.Hex.{encode_lower};
 ghost use Rattle.ciborium_value.specs.Encoding.{encoding};
 ghost use Rattle.ciborium_value.specs.View.{tree_of};
@@ -10,16 +10,16 @@ ghost use Rattle.cbor.specs.Answer.{kind_of_reason};
 ghost use Rattle.cbor.specs.Spellings.{HasItemBefore, IsItem, RefusesItem};
 
 use crate::answer::{Reason, Refusal};
+use crate::digits::{decode_line, push_digits};
 use crate::reading::Spelling;
 use ciborium::de::{Error, from_reader_deterministic, from_reader_with_recursion_limit};
 use ciborium::ser::into_writer;
 use ciborium_value::{Kind, Value};
-use hex::FromHexError;
 use std::alloc::{AllocError, Global};
 use std::io;
 
 /// The value of a line whose bytes are one item in a spelling that is asked for, within this many
-/// levels.
+/// levels. `room` is lent for the bytes.
 ///
 /// # Errors
 ///
@@ -29,15 +29,13 @@ pub fn read_item(
     line: &[u8],
     spelling: Spelling,
     limit: usize,
+    room: &mut Vec<u8>,
 ) -> Result<Value, Refusal>
     ensures item { IfOk result (λ value. IsMeant spelling line.now limit (tree_of value)) }
     ensures refused { IfErr result (λ refusal. IsRefused spelling line.now limit refusal) }
 {
-    match hex::decode(alloc, line) {
-        Ok(bytes) => read_bytes(alloc, &bytes, spelling, limit),
-        Err(FromHexError::OutOfMemory) => Err(Refusal::Memory),
-        Err(_) => Err(Refusal::Hex),
-    }
+    decode_line(line, room)?;
+    read_bytes(alloc, room, spelling, limit)
 }
 
 // The value of the bytes of a line, or why they are no item.
@@ -126,18 +124,22 @@ fn classify_kind(kind: Kind) -> Reason
     }
 }
 
-/// The encoding of a value in lower-case hex.
+/// Puts the encoding of a value in lower-case hex behind a text. `room` is lent for the encoding.
 ///
 /// # Errors
 ///
 /// `AllocError` where memory is refused.
-pub fn encode_to_hex(alloc: Global, value: &Value) -> Result<String, AllocError>
-    ensures { IfOk result
-        (λ digits. string_bytes digits ≡ encode_lower (encoding (tree_of value.now))) }
+pub fn push_encoding(
+    value: &Value,
+    room: &mut Vec<u8>,
+    text: &mut Vec<u8>,
+) -> Result<(), AllocError>
+    ensures { OnOk result
+        (text.new.items ≡ text.old.items ++ encode_lower (encoding (tree_of value.now))) }
 {
-    let mut encoding = Vec::new(alloc);
-    if into_writer(value, &mut encoding).is_err() {
+    room.clear();
+    if into_writer(value, room).is_err() {
         return Err(AllocError);
     }
-    hex::encode(alloc, &encoding)
+    push_digits(room, text)
 }

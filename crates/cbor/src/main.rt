@@ -6,32 +6,36 @@
 
 mod answer;
 mod answering;
+mod digits;
 mod fault;
 mod items;
 mod line_laws;
 mod lines;
 mod reading;
+mod rooms;
 mod run;
 mod sequences;
 mod sorting;
 #[cfg(test)]
 mod test_devices;
 
+use fault::Fault;
 use std::io::Lock;
 use std::process::ExitCode;
 use std::{env, io};
 
 fn main(rt: HostRuntime) -> ExitCode {
-    let alloc = rt.alloc();
-    // Arguments that cannot be read are wrong ones, as none are.
-    let words = read_arguments(&rt).unwrap_or(Vec::new(alloc));
-    ExitCode::from(run::run(
-        alloc,
-        &words,
-        &mut rt.stdin().lock(),
-        &mut rt.stdout().lock(),
-        &mut rt.stderr().lock(),
-    ))
+    let status = match read_arguments(&rt) {
+        Ok(words) => run::run(
+            rt.alloc(),
+            &words,
+            &mut rt.stdin().lock(),
+            &mut rt.stdout().lock(),
+            &mut rt.stderr().lock(),
+        ),
+        Err(_) => run::report_fault(Fault::Arguments, &mut rt.stderr().lock()),
+    };
+    ExitCode::from(status)
 }
 
 // Reads the arguments without the program's name.

@@ -1,16 +1,18 @@
 //! The command line: which words are right, what they ask for, and the status.
 
-ghost use Rattle.std.specs.Prelude.{◌≡◌, ◌≤◌, ◌∷◌, ℕ, List, MatchOption, Ok, Some, codes, map};
-ghost use Rattle.std.specs.Prelude.{string_bytes, true};
+ghost use Rattle.std.specs.Prelude.{◌≡◌, ◌≤◌, ◌∷◌, ℕ, IfOk, IsTrue, List, MatchOption, OnOk, Ok};
+ghost use Rattle.std.specs.Prelude.{Some, codes, map, string_bytes, true};
 ghost use Rattle.std.specs.Io.KnownBytes.{Keeps};
 ghost use Rattle.std.specs.Option.{SomeIff};
 ghost use Rattle.std.specs.Str.Parse.{digits_value};
-ghost use Rattle.cbor.specs.Lines.{AreAnswered};
+ghost use Rattle.cbor.specs.Lines.{AreAnswered, AreOk};
 ghost use Rattle.cbor.specs.SortedLines.{AreSortedLines};
 ghost use Rattle.cbor.specs.Words.{AreWrong, AskFor, AskForSequences, AskToRead, AskToSort};
 ghost use Rattle.cbor.specs.Words.{IsLimit, NameLimit};
+ghost use Rattle.cbor.specs.declared.reading.Reading.{Reading};
 ghost use Rattle.cbor.specs.declared.reading.Reading.TheVariants.{Item, Sequence};
 ghost use Rattle.cbor.specs.declared.reading.Spelling.{Spelling};
+ghost use Rattle.cbor.specs.declared.run.Command.TheVariants.{Answer, Sort};
 
 use crate::answering::answer_lines;
 use crate::fault::Fault;
@@ -57,24 +59,20 @@ pub fn run<R: Read, W: Write, E: Write>(
     ensures answered { (spelling : Spelling) (limit : ℕ) (b w : List ℕ) →
         AskToRead (map string_bytes words.now) spelling limit → R.remaining input.old ≡ Some b →
         W.contents output.old ≡ Some w → result ≡ 0 →
-        AreAnswered (Item spelling limit) b w (W.contents output.new) }
+        AreOk (Item spelling limit) b w (W.contents output.new) }
     ensures sequences { (b w : List ℕ) →
         AskForSequences (map string_bytes words.now) → R.remaining input.old ≡ Some b →
         W.contents output.old ≡ Some w → result ≡ 0 →
-        AreAnswered Sequence b w (W.contents output.new) }
+        AreOk Sequence b w (W.contents output.new) }
     ensures sorted { (b w : List ℕ) →
         AskToSort (map string_bytes words.now) → R.remaining input.old ≡ Some b →
         W.contents output.old ≡ Some w → result ≡ 0 →
         AreSortedLines b 256 w (W.contents output.new) }
 {
     match judge_words(words) {
-        Some(Command::Answer(reading)) => {
-            let answered = answer_lines(alloc, input, reading, output);
-            finish(answered, output, errors)
-        }
-        Some(Command::Sort) => {
-            let sorted = sort_lines(alloc, input, RECURSION_LIMIT, output);
-            finish(sorted, output, errors)
+        Some(command) => {
+            let done = perform(alloc, command, input, output);
+            conclude(done, errors)
         }
         None => {
             report(
@@ -144,26 +142,73 @@ fn report<E: Write>(errors: &mut E, message: &str) {
     let _ = errors.flush();
 }
 
-// Flushes the output and names the first fault: the status of a run that found each line to be an
-// item, or one that is not, or a fault.
-fn finish<W: Write, E: Write>(all_items: Result<bool, Fault>, output: &mut W, errors: &mut E) -> u8
-    ensures status { result ≤ 1 }
-    ensures items { result ≡ 0 → all_items ≡ Ok true }
+// Does what is asked for, flushes the output, and says whether every line is as it is asked for.
+// Where nothing fails, each line is answered, be it refused or not.
+//
+// # Errors
+//
+// The first fault.
+fn perform<R: Read, W: Write>(
+    alloc: Global,
+    command: Command,
+    input: &mut R,
+    output: &mut W,
+) -> Result<bool, Fault>
+    ensures answered { (reading : Reading) (b w : List ℕ) → command ≡ Answer reading →
+        R.remaining input.old ≡ Some b → W.contents output.old ≡ Some w →
+        OnOk result (AreAnswered reading b w (W.contents output.new)) }
+    ensures ok { (reading : Reading) (b w : List ℕ) → command ≡ Answer reading →
+        R.remaining input.old ≡ Some b → W.contents output.old ≡ Some w →
+        IfOk result (λ all. IsTrue all → AreOk reading b w (W.contents output.new)) }
+    ensures sorted { (b w : List ℕ) → command ≡ Sort →
+        R.remaining input.old ≡ Some b → W.contents output.old ≡ Some w →
+        IfOk result (λ all. IsTrue all → AreSortedLines b 256 w (W.contents output.new)) }
+{
+    match command {
+        Command::Answer(reading) => {
+            let answered = answer_lines(alloc, input, reading, output);
+            finish(answered, output)
+        }
+        Command::Sort => {
+            let sorted = sort_lines(alloc, input, RECURSION_LIMIT, output);
+            finish(sorted, output)
+        }
+    }
+}
+
+// Flushes the output of a run that found each line to be as it is asked for, or one that is not, or
+// that a fault ended; this fault comes first.
+fn finish<W: Write>(done: Result<bool, Fault>, output: &mut W) -> Result<bool, Fault>
+    ensures same { IfOk result (λ all. done ≡ Ok all) }
     ensures kept { Keeps (W.contents output.old) (W.contents output.new) }
 {
     let flushed = output.flush();
-    match all_items {
-        Err(fault) => {
-            report(errors, fault.message());
-            1
-        }
-        Ok(_) if flushed.is_err() => {
-            report(errors, Fault::Output.message());
-            1
-        }
+    let all = done?;
+    if flushed.is_err() {
+        return Err(Fault::Output);
+    }
+    Ok(all)
+}
+
+// The status of a run that found each line to be as it is asked for, or one that is not, or that a
+// fault ended, which it names.
+fn conclude<E: Write>(done: Result<bool, Fault>, errors: &mut E) -> u8
+    ensures status { result ≤ 1 }
+    ensures all { result ≡ 0 → done ≡ Ok true }
+{
+    match done {
+        Err(fault) => report_fault(fault, errors),
         Ok(true) => 0,
         Ok(false) => 1,
     }
+}
+
+/// Names a fault, and returns the exit status for it.
+pub fn report_fault<E: Write>(fault: Fault, errors: &mut E) -> u8
+    ensures { result ≡ 1 }
+{
+    report(errors, fault.message());
+    1
 }
 
 #[cfg(test)]

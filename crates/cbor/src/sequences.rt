@@ -1,61 +1,73 @@
 //! Lines that are sequences: items one after the other, with nothing between them (RFC 8742).
 
-ghost use Rattle.std.specs.Prelude.{◌≡◌, ◌++◌, OnOk, string_bytes};
+ghost use Rattle.std.specs.Prelude.{◌≡◌, ◌++◌, IfOk, IsTrue, OnOk, false};
 ghost use Rattle.ciborium_value.specs.View.{tree_of};
-ghost use Rattle.cbor.specs.Answer.{AreAnsweredBy, IsAnsweredBy};
-ghost use Rattle.cbor.specs.Sequence.{item_text};
-ghost use Rattle.cbor.specs.declared.reading.Reading.TheVariants.{Sequence};
+ghost use Rattle.cbor.specs.Answer.{refused_text, wants_memory};
+ghost use Rattle.cbor.specs.Sequence.{AreSequence, HasSequenceAnswer, item_text};
+ghost use Rattle.cbor.specs.Sequence.{refused_item_text};
 
-use crate::answer::{Answer, Refusal};
-use crate::items::{encode_to_hex, read_front};
+use crate::answer::Refusal;
+use crate::items::{push_encoding, read_front};
 use crate::reading::Spelling;
 use ciborium::de::RECURSION_LIMIT;
 use ciborium_value::Value;
-use hex::FromHexError;
 use std::alloc::{AllocError, Global};
+use std::io::Write;
 
-/// The answer to a line that is read as a sequence of items in any spelling, each within 256
-/// levels.
-pub fn judge_sequence(alloc: Global, line: &[u8]) -> Answer
-    ensures { IsAnsweredBy Sequence line.now result }
-{
-    match hex::decode(alloc, line) {
-        Ok(bytes) => judge_items(alloc, &bytes),
-        Err(FromHexError::OutOfMemory) => Answer::Refused(Refusal::Memory),
-        Err(_) => Answer::Refused(Refusal::Hex),
-    }
-}
-
-// The answer to the bytes of a line.
-fn judge_items(alloc: Global, bytes: &[u8]) -> Answer
-    ensures { AreAnsweredBy bytes.now 256 result }
+/// Makes `text` the answer to the bytes of a line that is read as a sequence of items in any
+/// spelling, each within 256 levels, and says whether it is one. `room` is lent for encodings.
+///
+/// # Errors
+///
+/// `AllocError` where memory is refused.
+pub fn answer_items(
+    alloc: Global,
+    bytes: &[u8],
+    room: &mut Vec<u8>,
+    text: &mut Vec<u8>,
+) -> Result<bool, AllocError>
+    ensures answer { OnOk result (HasSequenceAnswer bytes.now 256 text.new.items) }
+    ensures sequence { IfOk result (λ is_ok. IsTrue is_ok →
+        AreSequence bytes.now 256 text.new.items) }
 {
     let mut rest = bytes;
-    let mut text = String::new(alloc);
+    text.clear();
+    text.extend_from_slice(b"ok")?;
     'items: for number in 1..u64::MAX {
         if rest.is_empty() {
-            return Answer::Sequence(text);
+            return Ok(true);
         }
         match read_front(alloc, &mut rest, Spelling::Any, RECURSION_LIMIT) {
-            Ok(value) => {
-                if push_item(alloc, &value, &mut text).is_err() {
-                    return Answer::Refused(Refusal::Memory);
-                }
+            Ok(value) => push_item(&value, room, text)?,
+            Err(refusal) => {
+                write_refused_item(number, refusal, text)?;
+                return Ok(false);
             }
-            Err(refusal) if refusal.is_memory() => return Answer::Refused(refusal),
-            Err(refusal) => return Answer::RefusedItem(number, refusal),
         }
     }
     // No memory holds so many items.
-    Answer::Refused(Refusal::Memory)
+    Err(AllocError)
 }
 
 // Puts a space and the encoding of the value in hex behind the text.
-fn push_item(alloc: Global, value: &Value, text: &mut String) -> Result<(), AllocError>
-    ensures { OnOk result
-        (string_bytes text.new ≡ string_bytes text.old ++ item_text (tree_of value.now)) }
+fn push_item(value: &Value, room: &mut Vec<u8>, text: &mut Vec<u8>) -> Result<(), AllocError>
+    ensures { OnOk result (text.new.items ≡ text.old.items ++ item_text (tree_of value.now)) }
 {
-    let digits = encode_to_hex(alloc, value)?;
-    text.push(' ')?;
-    text.push_str(digits.as_str())
+    text.push(b' ')?;
+    push_encoding(value, room, text)
+}
+
+// Makes `text` the answer to a sequence whose item of this number, counted from 1, is refused.
+fn write_refused_item(number: u64, refusal: Refusal, text: &mut Vec<u8>) -> Result<(), AllocError>
+    ensures { OnOk result ((wants_memory refusal ≡ false)
+        × (text.new.items ≡ refused_item_text number (refused_text refusal))) }
+{
+    if refusal.is_memory() {
+        return Err(AllocError);
+    }
+    text.clear();
+    if write!(text, "item {number}: {refusal}").is_err() {
+        return Err(AllocError);
+    }
+    Ok(())
 }

@@ -2,6 +2,7 @@
 
 ghost use Rattle.std.specs.Prelude.{◌≡◌, ◌++◌, ◌≤◌, ℕ, IfOk, IsOk, IsTrue, List, OnOk, Some, []};
 ghost use Rattle.std.specs.Prelude.{IsPermutation, map, vec_len};
+ghost use Rattle.std.specs.Io.KnownBytes.{append_known};
 ghost use Rattle.std.specs.List.{flat_map};
 ghost use Rattle.ciborium_value.specs.View.{tree_of};
 ghost use Rattle.cbor.specs.Lines.{AreMeant};
@@ -12,8 +13,8 @@ ghost use Rattle.cbor.specs.declared.reading.Spelling.TheVariants.{Any};
 
 use crate::answer::Refusal;
 use crate::fault::Fault;
-use crate::items::{encode_to_hex, read_item};
-use crate::lines::{read_line, write_text};
+use crate::items::{push_encoding, read_item};
+use crate::lines::{put_text, read_line, send_waiting};
 use crate::reading::Spelling;
 use ciborium::value::canonical::cmp_value;
 use ciborium_value::Value;
@@ -92,12 +93,13 @@ fn read_values<R: Read>(alloc: Global, input: &mut R, limit: usize) -> Result<Ve
         return Err(Unsorted::Unread(Fault::Memory));
     };
     let mut line = Vec::new(alloc);
+    let mut room = Vec::new(alloc);
     let mut values = Vec::new(alloc);
     'lines: for number in 1..u64::MAX {
         if !read_line(&mut reader, &mut line)? {
             return Ok(values);
         }
-        match read_item(alloc, &line, Spelling::Any, limit) {
+        match read_item(alloc, &line, Spelling::Any, limit, &mut room) {
             Ok(value) => {
                 if values.push(value).is_err() {
                     return Err(Unsorted::Unread(Fault::Memory));
@@ -114,10 +116,30 @@ fn write_values<W: Write>(alloc: Global, values: &[Value], output: &mut W) -> Re
     ensures { (w : List ℕ) → W.contents output.old ≡ Some w → OnOk result
         (W.contents output.new ≡ Some (w ++ flat_map hex_line (map tree_of values.now))) }
 {
+    let mut waiting = Vec::new(alloc);
+    let put = put_values(alloc, values, &mut waiting, output);
+    send_waiting(&mut waiting, output)?;
+    put
+}
+
+// Puts the encodings of the values in hex behind the texts that wait, a line each.
+fn put_values<W: Write>(
+    alloc: Global,
+    values: &[Value],
+    waiting: &mut Vec<u8>,
+    output: &mut W,
+) -> Result<(), Fault>
+    ensures { (w : List ℕ) → append_known (W.contents output.old) waiting.old.items ≡ Some w →
+        OnOk result (append_known (W.contents output.new) waiting.new.items
+        ≡ Some (w ++ flat_map hex_line (map tree_of values.now))) }
+{
+    let mut room = Vec::new(alloc);
+    let mut text = Vec::new(alloc);
     for value in values {
-        let mut line = encode_to_hex(alloc, value)?;
-        line.push('\n')?;
-        write_text(line.as_str(), output)?;
+        text.clear();
+        push_encoding(value, &mut room, &mut text)?;
+        put_text(&text, waiting, output)?;
+        put_text(b"\n", waiting, output)?;
     }
     Ok(())
 }

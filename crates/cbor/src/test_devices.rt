@@ -1,6 +1,7 @@
 //! An input and an output that may fail, and a run of the program on them.
 use crate::run::run;
 use std::alloc::{AllocError, Global};
+use std::cell::Cell;
 use std::io::{self, ErrorKind, Read, Write};
 
 /// Gives its bytes, at most so many a read, after a read that is interrupted, and then ends or
@@ -83,6 +84,68 @@ impl Write for Device {
         if self.flush_fails {
             return Err(io::Error::from(ErrorKind::BrokenPipe));
         }
+        Ok(())
+    }
+}
+
+/// Gives a line a read, and fails where one is asked for before each line so far is answered.
+#[derive(Drop)]
+pub struct Asker<'a> {
+    lines: &'a [&'a str],
+    given: usize,
+    answered: &'a Cell<usize>,
+}
+
+impl<'a> Asker<'a> {
+    /// An asker of these lines, which counts on the answers so far.
+    pub fn new(lines: &'a [&'a str], answered: &'a Cell<usize>) -> Asker<'a> {
+        Asker {
+            lines,
+            given: 0,
+            answered,
+        }
+    }
+}
+
+impl<'a> Read for Asker<'a> {
+    fn read(&mut self, buffer: &mut [u8]) -> io::Result<usize> {
+        if self.answered.get() != self.given {
+            return Err(io::Error::from(ErrorKind::Other));
+        }
+        let Some(line) = self.lines.get(self.given) else {
+            return Ok(0);
+        };
+        let taken = line.len().min(buffer.len());
+        buffer[..taken].copy_from_slice(&line.as_bytes()[..taken]);
+        self.given = self.given.saturating_add(1);
+        Ok(taken)
+    }
+}
+
+/// Counts the lines that are written.
+#[derive(Drop)]
+pub struct Listener<'a> {
+    answered: &'a Cell<usize>,
+}
+
+impl<'a> Listener<'a> {
+    /// A listener that counts so.
+    pub fn new(answered: &'a Cell<usize>) -> Listener<'a> {
+        Listener { answered }
+    }
+}
+
+impl<'a> Write for Listener<'a> {
+    fn write(&mut self, buffer: &[u8]) -> io::Result<usize> {
+        for &byte in buffer {
+            if byte == b'\n' {
+                self.answered.set(self.answered.get().saturating_add(1));
+            }
+        }
+        Ok(buffer.len())
+    }
+
+    fn flush(&mut self) -> io::Result<()> {
         Ok(())
     }
 }

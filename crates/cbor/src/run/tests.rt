@@ -1,7 +1,8 @@
 // Lines and their answers, words that are right and wrong, limits, and faults.
 use super::run;
-use crate::test_devices::{Device, Ended, Source, run_on, run_on_text};
+use crate::test_devices::{Asker, Device, Ended, Listener, Source, run_on, run_on_text};
 use std::alloc::Global;
+use std::cell::Cell;
 use std::io::ErrorKind;
 use std::process::Abort;
 use std::test::Fail;
@@ -156,6 +157,23 @@ fn allows_256_levels(rt: HostRuntime) -> Result<(), Fail> {
         let ended = run_on_text(rt.alloc(), &[command], line.as_str())?;
         assert_eq!(rt; ended.status, status);
         assert!(rt; ended.output.starts_with(start.as_bytes()));
+    }
+    Ok(())
+}
+
+// Each line is answered before the device of the input is asked for the next one.
+#[test]
+fn answers_before_it_asks(rt: HostRuntime) -> Result<(), Fail> {
+    for command in ["read", "seq"] {
+        let words = vec![in rt.alloc(); String::from_str(rt.alloc(), command)?]?;
+        let answered = Cell::new(0);
+        let mut input = Asker::new(&["1800\n", "zz\n", "6161\n"], &answered);
+        let mut output = Listener::new(&answered);
+        let mut errors = Vec::new(rt.alloc());
+        let status = run(rt.alloc(), &words, &mut input, &mut output, &mut errors);
+        assert_eq!(rt; status, 1, "{command}");
+        assert_eq!(rt; answered.get(), 3, "{command}");
+        assert!(rt; errors.is_empty(), "{command}");
     }
     Ok(())
 }

@@ -28,6 +28,19 @@ fn sorts_by_the_size_and_then_the_bytes(rt: HostRuntime) -> Result<(), Fail> {
     Ok(())
 }
 
+// More values than are sorted in place, from the last to the first.
+#[test]
+fn sorts_more_than_twenty_values(rt: HostRuntime) -> Result<(), Fail> {
+    let mut values = Vec::new(rt.alloc());
+    let mut sorted = Vec::new(rt.alloc());
+    for number in 0..30u64 {
+        values.push(Value::from(29 - number))?;
+        sorted.push(Value::from(number))?;
+    }
+    assert!(rt; sort_values(rt.alloc(), values)? == sorted);
+    Ok(())
+}
+
 // Encodings in the canonical order, of numbers, texts, arrays, tags and containers of one size.
 const IN_ORDER: &[&[&str]] = &[
     &[

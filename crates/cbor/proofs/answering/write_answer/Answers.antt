@@ -1,13 +1,17 @@
-use Rattle.std.proofs.Common.{◌≡◌, rules, sym, ◌∙◌}
-use Rattle.cbor.specs.Answer.{answer_text}
-use Rattle.cbor.specs.Lines.{text_line}
-use Rattle.cbor.proofs.JudgedAnswers.{ok-written}
+use Rattle.std.proofs.Common.{inl, inr, refl}
+use Rattle.cbor.specs.Lines.{IsOkText, MayBeAnswer, memory_text}
+use Rattle.cbor.proofs.AnsweredLines.{line-held}
 use Rattle.cbor.proofs.answering.write_answer.Goals as goal
 
-pub returns : goal.returns
-returns g c w e ok =
-    let answer = c.judge_line-answer.result in
-    let bytes = c.as_str.result.now in
-    let text : bytes ≡ text_line (answer_text answer) = search rules in
-    ok-written c.args.reading c.args.line.now answer w bytes (g.W.Write.contents c.write_text.new.output) (sym c.is_ok.ensures ∙ ok) c.judge_line-answer.ensures
-    (c.in_ok-write_text.ensures w e) text
+pub returns-in_ok-put_text-in-Ok-2-clause-answered : goal.returns-in_ok-put_text-in-Ok-2-clause-answered
+returns-in_ok-put_text-in-Ok-2-clause-answered g c w e =
+    line-held (MayBeAnswer c.args.reading) c.args.line.now c.answer_reading.new.rooms.text.items _ w _ _ _ (inl c.in-Ok.ensures.answer) refl
+    (rw c.deref.ensures.value at c.in_ok-put_text-in-Ok.ensures) c.in_ok-put_text-in-Ok-2.ensures e
+
+pub returns-in_ok-put_text-in-Ok-2-clause-ok : goal.returns-in_ok-put_text-in-Ok-2-clause-ok
+returns-in_ok-put_text-in-Ok-2-clause-ok g c w e ok =
+    line-held (IsOkText c.args.reading) c.args.line.now c.answer_reading.new.rooms.text.items _ w _ _ _ (c.in-Ok.ensures.asked ok) refl
+    (rw c.deref.ensures.value at c.in_ok-put_text-in-Ok.ensures) c.in_ok-put_text-in-Ok-2.ensures e
+
+pub returns-in_ok-put_text-in-Err-clause-answered : goal.returns-in_ok-put_text-in-Err-clause-answered
+returns-in_ok-put_text-in-Err-clause-answered g c w e = (memory_text, inr refl, c.in_ok-put_text-in-Err.ensures w e)

@@ -1,7 +1,0 @@
-use Rattle.std.proofs.Common.{string_bytes}
-use Rattle.cbor.proofs.ItemsInRow.{IsSoFar}
-use Rattle.cbor.proofs.sequences.judge_items.Given as goal
-
--- the items so far mean some trees, and their hex stands in the text
-abbrev pub invariant-items : goal.invariant-items
-invariant-items l = IsSoFar l.bytes l.rest (string_bytes l.text) l.number

@@ -1,0 +1,93 @@
+//! Hex digits of a line to its bytes, and the encoding of a value to hex digits.
+
+ghost use Rattle.std.specs.Prelude.{◌≡◌, ◌<◌, ◌≤◌, ◌++◌, ◌*◌, IfErr, IsErr, MatchOption};
+ghost use Rattle.std.specs.Prelude.{Ok, OnOk, length};
+ghost use Rattle.std.specs.Bool.{MatchBool};
+ghost use Rattle.hex.specs.Hex.{decode_of, decode_pairs, encode_lower, hex_digit_value};
+ghost use Rattle.cbor.specs.Answer.{IsHexRefused};
+
+use crate::answer::Refusal;
+use std::alloc::AllocError;
+
+// What stands for the value of a byte that is no hex digit.
+const NO_DIGIT: u8 = 16;
+
+/// Makes `bytes` the bytes of a line of hex digits of either case.
+///
+/// # Errors
+///
+/// `Hex` where the line is not an even number of hex digits, `Memory` where memory was refused.
+pub fn decode_line(line: &[u8], bytes: &mut Vec<u8>) -> Result<(), Refusal>
+    ensures bytes { OnOk result (decode_of line.now ≡ Ok bytes.new.items) }
+    ensures refused { IfErr result (λ refusal. IsHexRefused line.now refusal) }
+{
+    if line.len() % 2 != 0 {
+        return Err(Refusal::Hex);
+    }
+    bytes.resize(line.len() / 2, 0)?;
+    if !decode_pairs(line, bytes.as_mut_slice()) {
+        return Err(Refusal::Hex);
+    }
+    Ok(())
+}
+
+// Fills `bytes` with the bytes of pairs of digits, or says that a digit is none.
+fn decode_pairs(digits: &[u8], bytes: &mut [u8]) -> bool
+    requires { length digits.now ≡ 2 * length bytes.old }
+    ensures { MatchBool result (decode_pairs 0 digits.now ≡ Ok bytes.new)
+        (IsErr (decode_pairs 0 digits.now)) }
+{
+    'bytes: for index in 0..bytes.len() {
+        let high = digit_value(digits[2 * index]);
+        let low = digit_value(digits[2 * index + 1]);
+        if high == NO_DIGIT || low == NO_DIGIT {
+            return false;
+        }
+        bytes[index] = high * 16 + low;
+    }
+    true
+}
+
+// The value of a hex digit of either case, or `NO_DIGIT`.
+#[inline(always)]
+fn digit_value(digit: u8) -> u8
+    ensures value { MatchOption (hex_digit_value digit) (result ≡ 16)
+        (λ v. (result ≡ v) × (v < 16)) }
+    ensures most { result ≤ 16 }
+{
+    // Each test chooses between two numbers, so that no jump depends on the digits.
+    let mut value = NO_DIGIT;
+    if b'0' <= digit && digit <= b'9' {
+        value = digit - b'0';
+    }
+    if b'a' <= digit && digit <= b'f' {
+        value = digit - b'a' + 10;
+    }
+    if b'A' <= digit && digit <= b'F' {
+        value = digit - b'A' + 10;
+    }
+    value
+}
+
+/// Puts bytes in lower-case hex behind a text.
+///
+/// # Errors
+///
+/// `AllocError` where memory is refused.
+pub fn push_digits(bytes: &[u8], text: &mut Vec<u8>) -> Result<(), AllocError>
+    ensures { OnOk result (text.new.items ≡ text.old.items ++ encode_lower bytes.now) }
+{
+    let start = text.len();
+    let Some(count) = bytes.len().checked_mul(2) else {
+        return Err(AllocError);
+    };
+    let Some(end) = start.checked_add(count) else {
+        return Err(AllocError);
+    };
+    text.resize(end, 0)?;
+    // It fails only where the room has another size.
+    if hex::encode_to_slice(bytes, &mut text.as_mut_slice()[start..]).is_err() {
+        return Err(AllocError);
+    }
+    Ok(())
+}

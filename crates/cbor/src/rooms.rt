@@ -1,0 +1,28 @@
+//! The rooms of a line.
+
+ghost use Rattle.std.specs.Prelude.{◌≡◌, []};
+
+use std::alloc::Global;
+
+/// The rooms of a line. They are made once and lent to each line, so that they grow to the longest
+/// one and take memory no more.
+#[derive(Drop)]
+pub struct Rooms {
+    /// The bytes of the line, and then the encoding of its item.
+    pub bytes: Vec<u8>,
+    /// The encoding of an item of a sequence.
+    pub encoding: Vec<u8>,
+    /// The text of the answer.
+    pub text: Vec<u8>,
+}
+
+impl Rooms {
+    /// Empty rooms, which take no memory.
+    pub fn new(alloc: Global) -> Rooms {
+        Rooms {
+            bytes: Vec::new(alloc),
+            encoding: Vec::new(alloc),
+            text: Vec::new(alloc),
+        }
+    }
+}
