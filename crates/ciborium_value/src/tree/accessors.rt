@@ -1,7 +1,7 @@
 //! What a `Value` is and holds. None of these calls takes memory.
 
-ghost use Rattle.std.specs.Prelude.{◌≡◌, ◌↔◌, IsTrue, IfSome, IfNone, IfOk, IfErr, MatchOption, OnErr};
-ghost use Rattle.std.specs.Prelude.{string_bytes};
+ghost use Rattle.std.specs.Prelude.{◌≡◌, ◌↔◌, IsTrue, IfSome, IfNone, IfOk, IfErr, MatchOption};
+ghost use Rattle.std.specs.Prelude.{OnErr, string_bytes};
 ghost use Rattle.std.specs.Borrow.{LendsIf, sem};
 ghost use Rattle.std.specs.Box.{box_follows};
 ghost use Rattle.std.specs.contracts.alloc.Global as global;
