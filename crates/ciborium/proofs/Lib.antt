@@ -25,6 +25,7 @@ mod OneAnswer
 mod WrittenPlaces
 mod ByteSinks
 mod RisingKeys
+mod TakenOnly
 mod FrontReads
 mod ItemHeads
 mod SkippedTags

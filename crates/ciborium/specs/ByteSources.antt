@@ -5,7 +5,7 @@ use Rattle.ciborium_ll.specs.declared.header.Header.{Header}
 use Rattle.ciborium_ll.specs.declared.header.Header.TheVariants as header
 use Rattle.ciborium_ll.specs.declared.decoder.Decoder.{Decoder}
 use Rattle.ciborium_ll.specs.Bytes.{greatest_offset}
-use Rattle.ciborium_ll.specs.Decoding.{IsAheadBy, TakesBeforeAny, allowed_of, left_of}
+use Rattle.ciborium_ll.specs.Decoding.{IsAheadBy, Takes, TakesBeforeAny, allowed_of, left_of}
 use Rattle.ciborium_ll.specs.Header.{SpellsHeader}
 use Rattle.ciborium_ll.specs.Item.{Item, unsigned}
 use Rattle.ciborium_ll.specs.Refusal.{IsUsable}
@@ -53,6 +53,12 @@ IsUnread remaining s b = IsUnreadBy remaining s.decoder s.pending b
 -- the head that was taken from the front of what was unread is counted
 abbrev pub CountsHead : {S : Type 0} → (ByteSource S → List ℕ → Type 0) → ByteSource S → ByteSource S → Header × ℕ → Type 0
 CountsHead IsUnread old new h = (b x y : List ℕ) → IsUnread old b → SpellsHeader x h.0 → b ≡ x ++ y → IsHeadCounted new.decoder h b x
+
+-- ---- what was taken
+
+-- since the first state a beginning of what was unread was taken and counted, and nothing else
+unfoldable pub HasTaken : {S : Type 0} → (S → Option (List ℕ)) → Decoder S → Decoder S → Type 0
+HasTaken remaining first d = (d.reader.ghost_name ≡ first.reader.ghost_name) × Takes remaining first d (λ _. Unit {0})
 
 -- ---- where it stands
 

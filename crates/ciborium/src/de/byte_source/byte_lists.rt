@@ -1,14 +1,14 @@
 //! Bytes, of a byte string or of an array of numbers.
 
-ghost use Rattle.std.specs.Prelude.{◌≡◌, ◌+◌, ◌<◌, ◌≤◌, IfErr, IfOk, List, OnOk, Some, ℕ};
+ghost use Rattle.std.specs.Prelude.{◌≡◌, ◌+◌, ◌<◌, ◌≤◌, IfErr, IfOk, List, OnErr, OnOk, Some, ℕ};
 ghost use Rattle.ciborium_ll.specs.Decoding.{HasSameReader};
 ghost use Rattle.ciborium_value.specs.Places.{sequence};
 ghost use Rattle.ciborium_value.specs.Sources.{HasItem, IsFaultOf, Refuses, Takes, TakesItem};
-ghost use Rattle.ciborium_value.specs.Sources.{TakesTo};
+ghost use Rattle.ciborium_value.specs.Sources.{TakesOnly, TakesTo};
 ghost use Rattle.ciborium_value.specs.Taken.{gives, number_below, take_each, taken_byte};
 ghost use Rattle.ciborium_value.specs.Taken.{taken_bytes};
-ghost use Rattle.ciborium.specs.ByteSources.{IsUnread, Owes, ReadsRest, RefusesRest, StandsBefore};
-ghost use Rattle.ciborium.specs.ByteSources.{cause_of, seq_left, weight_left};
+ghost use Rattle.ciborium.specs.ByteSources.{HasTaken, IsUnread, Owes, ReadsRest, RefusesRest};
+ghost use Rattle.ciborium.specs.ByteSources.{StandsBefore, cause_of, seq_left, weight_left};
 
 use crate::de::byte_source::{ByteSeq, ByteSource};
 use crate::de::error::{Error, Refusal};
@@ -39,6 +39,9 @@ impl<'a, R: Read> ByteSource<'a, R> {
     #[inline(never)]
     fn read_byte_items(&mut self, alloc: Global, seq: ByteSeq) -> Result<Vec<u8>, Refusal>
         ensures same_reader { HasSameReader self.old.decoder self.new.decoder }
+        ensures only { TakesOnly (HasTaken R.remaining) self.old.decoder self.new.decoder }
+        ensures no_more { OnErr result
+            (weight_left self.new ≤ weight_left self.old + seq_left seq) }
         ensures ok { IfOk result (λ v. ReadsRest R.remaining self.old self.new seq
             (λ l is. take_each (taken_byte l) is) v.items) }
         ensures refused { IfErr result (λ e. RefusesRest R.remaining self.old seq
@@ -67,6 +70,8 @@ impl<'a, R: Read> ByteSource<'a, R> {
     #[inline(always)]
     pub(crate) fn read_bytes(&mut self, alloc: Global) -> Result<Vec<u8>, Refusal>
         ensures same_reader { HasSameReader self.old.decoder self.new.decoder }
+        ensures only { TakesOnly (HasTaken R.remaining) self.old.decoder self.new.decoder }
+        ensures no_more { OnErr result (weight_left self.new ≤ weight_left self.old) }
         ensures ok { IfOk result (λ v.
             Takes (StandsBefore R.remaining) self.old self.new taken_bytes v.items) }
         ensures refused { IfErr result (λ e.

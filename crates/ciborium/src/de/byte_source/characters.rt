@@ -1,11 +1,11 @@
 //! Characters.
 
-ghost use Rattle.std.specs.Prelude.{◌≡◌, ◌<◌, ◌⊎◌, IfErr, IfOk, IsUtf8, None, OnOk, Some, chars};
-ghost use Rattle.std.specs.Prelude.{false};
+ghost use Rattle.std.specs.Prelude.{◌≡◌, ◌<◌, ◌⊎◌, ◌≤◌, IfErr, IfOk, IsUtf8, None, OnErr, OnOk};
+ghost use Rattle.std.specs.Prelude.{Some, chars, false};
 ghost use Rattle.ciborium_ll.specs.Decoding.{HasSameReader};
-ghost use Rattle.ciborium_value.specs.Sources.{IsFaultOf, IsGranted};
+ghost use Rattle.ciborium_value.specs.Sources.{IsFaultOf, IsGranted, TakesOnly};
 ghost use Rattle.ciborium_value.specs.Taken.{gives, lone_character, taken_character};
-ghost use Rattle.ciborium.specs.ByteSources.{IsUnread, cause_of, weight_left};
+ghost use Rattle.ciborium.specs.ByteSources.{HasTaken, IsUnread, cause_of, weight_left};
 ghost use Rattle.ciborium.specs.ItemReads.{Denies, Reads};
 
 use crate::de::byte_source::ByteSource;
@@ -47,6 +47,8 @@ impl<'a, R: Read> ByteSource<'a, R> {
     /// The one character of a definite text. A text that is longer than any character is not read.
     pub(crate) fn read_character(&mut self) -> Result<char, Refusal>
         ensures same_reader { HasSameReader self.old.decoder self.new.decoder }
+        ensures only { TakesOnly (HasTaken R.remaining) self.old.decoder self.new.decoder }
+        ensures no_more { OnErr result (weight_left self.new ≤ weight_left self.old) }
         ensures levels { self.new.levels ≡ self.old.levels }
         ensures pending { OnOk result (self.new.pending ≡ None) }
         ensures fewer { OnOk result (weight_left self.new < weight_left self.old) }

@@ -5,12 +5,12 @@ ghost use Rattle.std.specs.Prelude.{OnErr, OnOk, Some, false};
 ghost use Rattle.ciborium_ll.specs.Decoding.{HasSameReader};
 ghost use Rattle.ciborium_ll.specs.StringRefusal.{of_bytes};
 ghost use Rattle.ciborium_value.specs.Sources.{GoesOn, IsGranted, Leaves, OwesLess, OwesNothing};
-ghost use Rattle.ciborium_value.specs.Sources.{RefusesNext, TakesTo};
+ghost use Rattle.ciborium_value.specs.Sources.{RefusesNext, TakesOnly, TakesTo};
 ghost use Rattle.ciborium_value.specs.Taken.{gives, taken_pairs, taken_seq};
-ghost use Rattle.ciborium.specs.ByteSources.{HasBytes, IsUnread, OpensItems, OpensPairs, Owes};
-ghost use Rattle.ciborium.specs.ByteSources.{SeqStands, StandsBefore, StandsStill, bytes_weight, cause_of};
-ghost use Rattle.ciborium.specs.ByteSources.{counted_parts};
-ghost use Rattle.ciborium.specs.ByteSources.{parts_left, seq_left, weight_left};
+ghost use Rattle.ciborium.specs.ByteSources.{HasBytes, HasTaken, IsUnread, OpensItems, OpensPairs};
+ghost use Rattle.ciborium.specs.ByteSources.{Owes, SeqStands, StandsBefore, StandsStill};
+ghost use Rattle.ciborium.specs.ByteSources.{bytes_weight, cause_of, counted_parts, parts_left};
+ghost use Rattle.ciborium.specs.ByteSources.{seq_left, weight_left};
 ghost use Rattle.ciborium.specs.ItemReads.{Denies};
 ghost use Rattle.ciborium.specs.StringContents.{DeniesContent, TakesContent};
 
@@ -75,6 +75,8 @@ impl<'a, R: Read> ByteSource<'a, R> {
     ) -> Result<ByteSeq, Refusal>
         requires { self.old.pending ≡ None }
         ensures same_reader { HasSameReader self.old.decoder self.new.decoder }
+        ensures only { TakesOnly (HasTaken R.remaining) self.old.decoder self.new.decoder }
+        ensures no_more { OnErr result (weight_left self.new ≤ weight_left self.old) }
         ensures levels { self.new.levels ≡ self.old.levels }
         ensures back { IfOk result (λ q. q.levels ≡ self.old.levels) }
         ensures pending { self.new.pending ≡ None }
@@ -97,6 +99,8 @@ impl<'a, R: Read> ByteSource<'a, R> {
     #[inline(always)]
     pub(crate) fn open_seq(&mut self, alloc: Global) -> Result<ByteSeq, Refusal>
         ensures same_reader { HasSameReader self.old.decoder self.new.decoder }
+        ensures only { TakesOnly (HasTaken R.remaining) self.old.decoder self.new.decoder }
+        ensures no_more { OnErr result (weight_left self.new ≤ weight_left self.old) }
         ensures levels { IfOk result (λ q. q.levels ≡ self.old.levels) }
         ensures pending { OnOk result (self.new.pending ≡ None) }
         ensures fewer { IfOk result
@@ -123,6 +127,8 @@ impl<'a, R: Read> ByteSource<'a, R> {
     #[inline(always)]
     pub(crate) fn open_map(&mut self) -> Result<ByteSeq, Refusal>
         ensures same_reader { HasSameReader self.old.decoder self.new.decoder }
+        ensures only { TakesOnly (HasTaken R.remaining) self.old.decoder self.new.decoder }
+        ensures no_more { OnErr result (weight_left self.new ≤ weight_left self.old) }
         ensures levels { IfOk result (λ q. q.levels ≡ self.old.levels) }
         ensures pending { OnOk result (self.new.pending ≡ None) }
         ensures fewer { IfOk result
@@ -147,6 +153,7 @@ impl<'a, R: Read> ByteSource<'a, R> {
     /// takes a byte at least. Nothing is read here.
     #[inline(always)]
     pub(crate) fn allow(&mut self, seq: &ByteSeq)
+        ensures only { TakesOnly (HasTaken R.remaining) self.old.decoder self.new.decoder }
         ensures levels { self.new.levels ≡ self.old.levels }
         ensures pending { self.new.pending ≡ self.old.pending }
         ensures weight { weight_left self.new ≡ weight_left self.old }
@@ -161,6 +168,9 @@ impl<'a, R: Read> ByteSource<'a, R> {
     #[inline(always)]
     pub(crate) fn next_part(&mut self, seq: &mut ByteSeq) -> Result<bool, Refusal>
         ensures same_reader { HasSameReader self.old.decoder self.new.decoder }
+        ensures only { TakesOnly (HasTaken R.remaining) self.old.decoder self.new.decoder }
+        ensures no_more { OnErr result
+            (weight_left self.new + seq_left seq.new ≤ weight_left self.old + seq_left seq.old) }
         ensures ok { IfOk result (λ b. MatchBool b
             (GoesOn (StandsBefore R.remaining) SeqStands self.old self.new seq.old seq.new)
             (Leaves (StandsBefore R.remaining) SeqStands self.old self.new seq.old)) }

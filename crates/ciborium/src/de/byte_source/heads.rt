@@ -1,10 +1,10 @@
 //! The next head, as it comes or behind tags.
 
-ghost use Rattle.std.specs.Prelude.{◌≡◌, ◌+◌, ◌≤◌, IfErr, IfOk, None, OnOk, false};
+ghost use Rattle.std.specs.Prelude.{◌≡◌, ◌+◌, ◌≤◌, IfErr, IfOk, None, OnErr, OnOk, false};
 ghost use Rattle.ciborium_ll.specs.Decoding.{HasSameReader};
-ghost use Rattle.ciborium_value.specs.Sources.{IsGranted};
-ghost use Rattle.ciborium.specs.ByteSources.{CountsHead, IsUnread, bytes_weight, cause_of, weight};
-ghost use Rattle.ciborium.specs.ByteSources.{weight_left};
+ghost use Rattle.ciborium_value.specs.Sources.{IsGranted, TakesOnly};
+ghost use Rattle.ciborium.specs.ByteSources.{CountsHead, HasTaken, IsUnread, bytes_weight};
+ghost use Rattle.ciborium.specs.ByteSources.{cause_of, weight, weight_left};
 ghost use Rattle.ciborium.specs.ItemReads.{DeniesHead, DeniesItem, TakesHead};
 ghost use Rattle.ciborium.specs.Skips.{IsBare, IsEndTag, TakesBare};
 
@@ -28,6 +28,8 @@ impl<'a, R: Read> ByteSource<'a, R> {
     #[inline(always)]
     pub(crate) fn next_head(&mut self) -> Result<(Header, usize), Refusal>
         ensures same_reader { HasSameReader self.old.decoder self.new.decoder }
+        ensures only { TakesOnly (HasTaken R.remaining) self.old.decoder self.new.decoder }
+        ensures no_more { OnErr result (weight_left self.new ≤ weight_left self.old) }
         ensures levels { self.new.levels ≡ self.old.levels }
         ensures pending { self.new.pending ≡ None }
         ensures fewer { IfOk result
@@ -52,6 +54,8 @@ impl<'a, R: Read> ByteSource<'a, R> {
     #[inline(never)]
     fn behind_tags(&mut self, numbers: bool) -> Result<(Header, usize), Refusal>
         ensures same_reader { HasSameReader self.old.decoder self.new.decoder }
+        ensures only { TakesOnly (HasTaken R.remaining) self.old.decoder self.new.decoder }
+        ensures no_more { OnErr result (weight_left self.new ≤ weight_left self.old) }
         ensures levels { self.new.levels ≡ self.old.levels }
         ensures pending { OnOk result (self.new.pending ≡ None) }
         ensures fewer { IfOk result
@@ -82,6 +86,8 @@ impl<'a, R: Read> ByteSource<'a, R> {
     #[inline(always)]
     fn skip_tags(&mut self, numbers: bool) -> Result<(Header, usize), Refusal>
         ensures same_reader { HasSameReader self.old.decoder self.new.decoder }
+        ensures only { TakesOnly (HasTaken R.remaining) self.old.decoder self.new.decoder }
+        ensures no_more { OnErr result (weight_left self.new ≤ weight_left self.old) }
         ensures levels { self.new.levels ≡ self.old.levels }
         ensures pending { OnOk result (self.new.pending ≡ None) }
         ensures fewer { IfOk result
@@ -106,6 +112,8 @@ impl<'a, R: Read> ByteSource<'a, R> {
     #[inline(always)]
     pub(crate) fn bare_head(&mut self, numbers: bool) -> Result<(Header, usize), Refusal>
         ensures same_reader { HasSameReader self.old.decoder self.new.decoder }
+        ensures only { TakesOnly (HasTaken R.remaining) self.old.decoder self.new.decoder }
+        ensures no_more { OnErr result (weight_left self.new ≤ weight_left self.old) }
         ensures levels { self.new.levels ≡ self.old.levels }
         ensures pending { OnOk result (self.new.pending ≡ None) }
         ensures fewer { IfOk result

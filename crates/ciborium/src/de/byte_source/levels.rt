@@ -3,10 +3,10 @@
 ghost use Rattle.std.specs.Prelude.{◌≡◌, ◌≢◌, ◌≤◌, IfErr, IfOk, MatchBool, OnErr, OnOk, Some};
 ghost use Rattle.std.specs.Prelude.{false, string_bytes};
 ghost use Rattle.ciborium_ll.specs.Decoding.{HasSameReader};
-ghost use Rattle.ciborium_value.specs.Sources.{GivesBack, IsGranted};
+ghost use Rattle.ciborium_value.specs.Sources.{GivesBack, IsGranted, TakesOnly};
 ghost use Rattle.ciborium_value.specs.Taken.{taken_outer_tag, taken_variant};
-ghost use Rattle.ciborium.specs.ByteSources.{IsUnread, LevelStands, StandsBefore, TakesLevel};
-ghost use Rattle.ciborium.specs.ByteSources.{cause_of, weight_left};
+ghost use Rattle.ciborium.specs.ByteSources.{HasTaken, IsUnread, LevelStands, StandsBefore};
+ghost use Rattle.ciborium.specs.ByteSources.{TakesLevel, cause_of, weight_left};
 ghost use Rattle.ciborium.specs.ItemReads.{Denies};
 ghost use Rattle.ciborium.specs.Skips.{OpensLevel};
 
@@ -59,6 +59,8 @@ impl<'a, R: Read> ByteSource<'a, R> {
     #[inline(always)]
     pub(crate) fn open_tag(&mut self) -> Result<(Option<u64>, ByteLevel), Refusal>
         ensures same_reader { HasSameReader self.old.decoder self.new.decoder }
+        ensures only { TakesOnly (HasTaken R.remaining) self.old.decoder self.new.decoder }
+        ensures no_more { OnErr result (weight_left self.new ≤ weight_left self.old) }
         ensures level { IfOk result (λ p. TakesLevel self.old self.new p.1) }
         ensures fewer { OnOk result (weight_left self.new ≤ weight_left self.old) }
         ensures ok { IfOk result (λ p. OpensLevel (IsUnread R.remaining) self.old self.new
@@ -87,6 +89,8 @@ impl<'a, R: Read> ByteSource<'a, R> {
     #[inline(always)]
     pub(crate) fn open_variant(&mut self, alloc: Global) -> Result<(String, ByteLevel), Refusal>
         ensures same_reader { HasSameReader self.old.decoder self.new.decoder }
+        ensures only { TakesOnly (HasTaken R.remaining) self.old.decoder self.new.decoder }
+        ensures no_more { OnErr result (weight_left self.new ≤ weight_left self.old) }
         ensures level { IfOk result (λ p. TakesLevel self.old self.new p.1) }
         ensures fewer { OnOk result (weight_left self.new ≤ weight_left self.old) }
         ensures ok { IfOk result (λ p. OpensLevel (IsUnread R.remaining) self.old self.new

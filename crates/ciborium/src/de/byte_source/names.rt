@@ -1,10 +1,12 @@
 //! Names.
 
-ghost use Rattle.std.specs.Prelude.{◌≡◌, ◌<◌, IfErr, IfOk, None, OnOk, Some, string_bytes};
+ghost use Rattle.std.specs.Prelude.{◌≡◌, ◌<◌, ◌≤◌, IfErr, IfOk, None, OnErr, OnOk, Some};
+ghost use Rattle.std.specs.Prelude.{string_bytes};
 ghost use Rattle.ciborium_ll.specs.Decoding.{HasSameReader};
 ghost use Rattle.ciborium_value.specs.Taken.{taken_name};
-ghost use Rattle.ciborium.specs.ByteSources.{IsUnread, cause_of, weight_left};
+ghost use Rattle.ciborium.specs.ByteSources.{HasTaken, IsUnread, cause_of, weight_left};
 ghost use Rattle.ciborium.specs.ItemReads.{Denies, Reads};
+ghost use Rattle.ciborium_value.specs.Sources.{TakesOnly};
 
 use crate::de::byte_source::ByteSource;
 use crate::de::error::{Error, Refusal};
@@ -18,6 +20,8 @@ impl<'a, R: Read> ByteSource<'a, R> {
     #[inline(always)]
     pub(crate) fn read_name(&mut self, alloc: Global) -> Result<String, Refusal>
         ensures same_reader { HasSameReader self.old.decoder self.new.decoder }
+        ensures only { TakesOnly (HasTaken R.remaining) self.old.decoder self.new.decoder }
+        ensures no_more { OnErr result (weight_left self.new ≤ weight_left self.old) }
         ensures levels { self.new.levels ≡ self.old.levels }
         ensures pending { OnOk result (self.new.pending ≡ None) }
         ensures fewer { OnOk result (weight_left self.new < weight_left self.old) }

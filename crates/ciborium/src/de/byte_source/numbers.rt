@@ -1,13 +1,14 @@
 //! Numbers: integers, and bignums that are read byte by byte.
 
-ghost use Rattle.std.specs.Prelude.{◌≡◌, ◌==◌, ◌∷◌, ◌<◌, ◌≤◌, [], IfErr, IfOk, None, OnOk, Some};
-ghost use Rattle.std.specs.Prelude.{false, true, ℕ};
+ghost use Rattle.std.specs.Prelude.{◌≡◌, ◌==◌, ◌∷◌, ◌<◌, ◌≤◌, IfErr, IfOk, None, OnErr, OnOk, Some};
+ghost use Rattle.std.specs.Prelude.{[], false, true, ℕ};
 ghost use Rattle.ciborium_ll.specs.Decoding.{HasSameReader};
 ghost use Rattle.ciborium_ll.specs.StringRefusal.{of_bytes};
 ghost use Rattle.ciborium_ll.specs.declared.header.Header.TheVariants as heads;
-ghost use Rattle.ciborium_value.specs.Sources.{IsGranted, IsOutside};
+ghost use Rattle.ciborium_value.specs.Sources.{IsGranted, IsOutside, TakesOnly};
 ghost use Rattle.ciborium_value.specs.Taken.{taken_bignum, taken_integer};
-ghost use Rattle.ciborium.specs.ByteSources.{IsUnread, bytes_weight, cause_of, weight_left};
+ghost use Rattle.ciborium.specs.ByteSources.{HasTaken, IsUnread, bytes_weight, cause_of};
+ghost use Rattle.ciborium.specs.ByteSources.{weight_left};
 ghost use Rattle.ciborium.specs.ItemReads.{Denies, Reads};
 ghost use Rattle.ciborium.specs.StringContents.{DeniesContent, TakesDigits, TakesNumber};
 ghost use Rattle.ciborium.specs.StringContents.{one_digit_more};
@@ -61,6 +62,8 @@ impl<'a, R: Read> ByteSource<'a, R> {
     fn read_digits(&mut self, len: usize, start: Option<u128>) -> Result<Option<u128>, Refusal>
         requires { self.old.pending ≡ None }
         ensures same_reader { HasSameReader self.old.decoder self.new.decoder }
+        ensures only { TakesOnly (HasTaken R.remaining) self.old.decoder self.new.decoder }
+        ensures no_more { OnErr result (weight_left self.new ≤ weight_left self.old) }
         ensures levels { self.new.levels ≡ self.old.levels }
         ensures pending { self.new.pending ≡ None }
         ensures fewer { OnOk result (bytes_weight self.new ≤ bytes_weight self.old) }
@@ -87,6 +90,8 @@ impl<'a, R: Read> ByteSource<'a, R> {
     fn read_number(&mut self, len: Option<usize>) -> Result<Option<u128>, Refusal>
         requires { self.old.pending ≡ None }
         ensures same_reader { HasSameReader self.old.decoder self.new.decoder }
+        ensures only { TakesOnly (HasTaken R.remaining) self.old.decoder self.new.decoder }
+        ensures no_more { OnErr result (weight_left self.new ≤ weight_left self.old) }
         ensures levels { self.new.levels ≡ self.old.levels }
         ensures pending { self.new.pending ≡ None }
         ensures fewer { OnOk result (bytes_weight self.new ≤ bytes_weight self.old) }
@@ -122,6 +127,8 @@ impl<'a, R: Read> ByteSource<'a, R> {
     #[inline(never)]
     fn read_bignum(&mut self, tag_offset: usize) -> Result<u128, Refusal>
         ensures same_reader { HasSameReader self.old.decoder self.new.decoder }
+        ensures only { TakesOnly (HasTaken R.remaining) self.old.decoder self.new.decoder }
+        ensures no_more { OnErr result (weight_left self.new ≤ weight_left self.old) }
         ensures levels { self.new.levels ≡ self.old.levels }
         ensures pending { OnOk result (self.new.pending ≡ None) }
         ensures fewer { OnOk result (weight_left self.new ≤ weight_left self.old) }
@@ -150,6 +157,8 @@ impl<'a, R: Read> ByteSource<'a, R> {
     #[inline(always)]
     fn read_tagged(&mut self, tag: u64, offset: usize) -> Result<((bool, u128), usize), Refusal>
         ensures same_reader { HasSameReader self.old.decoder self.new.decoder }
+        ensures only { TakesOnly (HasTaken R.remaining) self.old.decoder self.new.decoder }
+        ensures no_more { OnErr result (weight_left self.new ≤ weight_left self.old) }
         ensures levels { self.new.levels ≡ self.old.levels }
         ensures pending { OnOk result (self.new.pending ≡ None) }
         ensures fewer { OnOk result (weight_left self.new ≤ weight_left self.old) }
@@ -169,6 +178,8 @@ impl<'a, R: Read> ByteSource<'a, R> {
     #[inline(always)]
     pub(crate) fn read_integer(&mut self) -> Result<((bool, u128), usize), Refusal>
         ensures same_reader { HasSameReader self.old.decoder self.new.decoder }
+        ensures only { TakesOnly (HasTaken R.remaining) self.old.decoder self.new.decoder }
+        ensures no_more { OnErr result (weight_left self.new ≤ weight_left self.old) }
         ensures levels { self.new.levels ≡ self.old.levels }
         ensures pending { OnOk result (self.new.pending ≡ None) }
         ensures fewer { OnOk result (weight_left self.new < weight_left self.old) }

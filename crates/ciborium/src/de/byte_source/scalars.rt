@@ -1,10 +1,12 @@
 //! Booleans and null.
 
-ghost use Rattle.std.specs.Prelude.{◌≡◌, ◌<◌, IfErr, IfOk, IfSome, None, OnOk, Some, false};
+ghost use Rattle.std.specs.Prelude.{◌≡◌, ◌<◌, ◌≤◌, IfErr, IfOk, IfSome, None, OnErr, OnOk, Some};
+ghost use Rattle.std.specs.Prelude.{false};
 ghost use Rattle.ciborium_ll.specs.Decoding.{HasSameReader};
-ghost use Rattle.ciborium_value.specs.Sources.{IsGranted, Tells};
+ghost use Rattle.ciborium_value.specs.Sources.{IsGranted, TakesOnly, Tells};
 ghost use Rattle.ciborium_value.specs.Taken.{is_null_simple, taken_boolean, taken_unit};
-ghost use Rattle.ciborium.specs.ByteSources.{IsUnread, StandsBefore, cause_of, weight_left};
+ghost use Rattle.ciborium.specs.ByteSources.{HasTaken, IsUnread, StandsBefore, cause_of};
+ghost use Rattle.ciborium.specs.ByteSources.{weight_left};
 ghost use Rattle.ciborium.specs.ItemReads.{Denies, Reads};
 
 use crate::de::byte_source::ByteSource;
@@ -51,6 +53,8 @@ impl<'a, R: Read> ByteSource<'a, R> {
     #[inline(always)]
     pub(crate) fn read_boolean(&mut self) -> Result<bool, Refusal>
         ensures same_reader { HasSameReader self.old.decoder self.new.decoder }
+        ensures only { TakesOnly (HasTaken R.remaining) self.old.decoder self.new.decoder }
+        ensures no_more { OnErr result (weight_left self.new ≤ weight_left self.old) }
         ensures levels { self.new.levels ≡ self.old.levels }
         ensures pending { OnOk result (self.new.pending ≡ None) }
         ensures fewer { OnOk result (weight_left self.new < weight_left self.old) }
@@ -78,6 +82,8 @@ impl<'a, R: Read> ByteSource<'a, R> {
     #[inline(always)]
     pub(crate) fn read_unit(&mut self) -> Result<(), Refusal>
         ensures same_reader { HasSameReader self.old.decoder self.new.decoder }
+        ensures only { TakesOnly (HasTaken R.remaining) self.old.decoder self.new.decoder }
+        ensures no_more { OnErr result (weight_left self.new ≤ weight_left self.old) }
         ensures levels { self.new.levels ≡ self.old.levels }
         ensures pending { OnOk result (self.new.pending ≡ None) }
         ensures fewer { OnOk result (weight_left self.new < weight_left self.old) }

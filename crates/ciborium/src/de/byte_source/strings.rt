@@ -1,12 +1,13 @@
 //! Strings.
 
-ghost use Rattle.std.specs.Prelude.{◌≡◌, ◌+◌, ◌<◌, ◌≤◌, IfErr, IfOk, None, OnOk, Some, length};
-ghost use Rattle.std.specs.Prelude.{false, string_bytes};
+ghost use Rattle.std.specs.Prelude.{◌≡◌, ◌+◌, ◌<◌, ◌≤◌, IfErr, IfOk, None, OnErr, OnOk, Some};
+ghost use Rattle.std.specs.Prelude.{false, length, string_bytes};
 ghost use Rattle.ciborium_ll.specs.Decoding.{HasSameReader};
 ghost use Rattle.ciborium_ll.specs.StringRefusal.{of_bytes, of_text};
-ghost use Rattle.ciborium_value.specs.Sources.{IsGranted, IsOutside};
+ghost use Rattle.ciborium_value.specs.Sources.{IsGranted, IsOutside, TakesOnly};
 ghost use Rattle.ciborium_value.specs.Taken.{taken_text};
-ghost use Rattle.ciborium.specs.ByteSources.{IsUnread, bytes_weight, cause_of, weight_left};
+ghost use Rattle.ciborium.specs.ByteSources.{HasTaken, IsUnread, bytes_weight, cause_of};
+ghost use Rattle.ciborium.specs.ByteSources.{weight_left};
 ghost use Rattle.ciborium.specs.ItemReads.{Denies, Reads};
 ghost use Rattle.ciborium.specs.StringContents.{DeniesContent, TakesContent, TakesJust};
 
@@ -22,6 +23,8 @@ impl<'a, R: Read> ByteSource<'a, R> {
     pub(crate) fn fill(&mut self, buffer: &mut [u8]) -> Result<(), Refusal>
         requires { self.old.pending ≡ None }
         ensures same_reader { HasSameReader self.old.decoder self.new.decoder }
+        ensures only { TakesOnly (HasTaken R.remaining) self.old.decoder self.new.decoder }
+        ensures no_more { OnErr result (weight_left self.new ≤ weight_left self.old) }
         ensures levels { self.new.levels ≡ self.old.levels }
         ensures pending { self.new.pending ≡ None }
         ensures fewer { OnOk result (bytes_weight self.new ≤ bytes_weight self.old) }
@@ -44,6 +47,8 @@ impl<'a, R: Read> ByteSource<'a, R> {
     ) -> Result<Vec<u8>, Refusal>
         requires { self.old.pending ≡ None }
         ensures same_reader { HasSameReader self.old.decoder self.new.decoder }
+        ensures only { TakesOnly (HasTaken R.remaining) self.old.decoder self.new.decoder }
+        ensures no_more { OnErr result (weight_left self.new ≤ weight_left self.old) }
         ensures levels { self.new.levels ≡ self.old.levels }
         ensures pending { self.new.pending ≡ None }
         ensures fewer { IfOk result
@@ -69,6 +74,8 @@ impl<'a, R: Read> ByteSource<'a, R> {
     ) -> Result<String, Refusal>
         requires { self.old.pending ≡ None }
         ensures same_reader { HasSameReader self.old.decoder self.new.decoder }
+        ensures only { TakesOnly (HasTaken R.remaining) self.old.decoder self.new.decoder }
+        ensures no_more { OnErr result (weight_left self.new ≤ weight_left self.old) }
         ensures levels { self.new.levels ≡ self.old.levels }
         ensures pending { self.new.pending ≡ None }
         ensures fewer { OnOk result (bytes_weight self.new ≤ bytes_weight self.old) }
@@ -87,6 +94,8 @@ impl<'a, R: Read> ByteSource<'a, R> {
     #[inline(always)]
     pub(crate) fn read_text(&mut self, alloc: Global) -> Result<String, Refusal>
         ensures same_reader { HasSameReader self.old.decoder self.new.decoder }
+        ensures only { TakesOnly (HasTaken R.remaining) self.old.decoder self.new.decoder }
+        ensures no_more { OnErr result (weight_left self.new ≤ weight_left self.old) }
         ensures levels { self.new.levels ≡ self.old.levels }
         ensures pending { OnOk result (self.new.pending ≡ None) }
         ensures fewer { OnOk result (weight_left self.new < weight_left self.old) }

@@ -1,12 +1,12 @@
 //! The value ahead, of any shape.
 
-ghost use Rattle.std.specs.Prelude.{◌≡◌, ◌<◌, IfErr, IfOk, List, MatchOption, None, OnOk, Some};
-ghost use Rattle.std.specs.Prelude.{false, ℕ};
+ghost use Rattle.std.specs.Prelude.{◌≡◌, ◌<◌, ◌≤◌, IfErr, IfOk, List, MatchOption, None, OnErr};
+ghost use Rattle.std.specs.Prelude.{OnOk, Some, false, ℕ};
 ghost use Rattle.ciborium_ll.specs.Decoding.{HasSameReader};
-ghost use Rattle.ciborium_value.specs.Sources.{read_as};
+ghost use Rattle.ciborium_value.specs.Sources.{TakesOnly, read_as};
 ghost use Rattle.ciborium_value.specs.Taken.{taken_value};
 ghost use Rattle.ciborium_value.specs.View.{tree_of};
-ghost use Rattle.ciborium.specs.ByteSources.{IsUnread, ReadsValue, StandsFor, cause_of};
+ghost use Rattle.ciborium.specs.ByteSources.{HasTaken, IsUnread, ReadsValue, StandsFor, cause_of};
 ghost use Rattle.ciborium.specs.ByteSources.{is_portable, weight_left};
 ghost use Rattle.ciborium.specs.ItemReads.{Denies, Reads};
 
@@ -40,6 +40,8 @@ fn portable_value(header: Header) -> Option<Value>
 impl<'a, R: Read> ByteSource<'a, R> {
     pub(crate) fn read_whole_value(&mut self, alloc: Global) -> Result<Value, Refusal>
         ensures same_reader { OnOk result (HasSameReader self.old.decoder self.new.decoder) }
+        ensures only { TakesOnly (HasTaken R.remaining) self.old.decoder self.new.decoder }
+        ensures no_more { OnErr result (weight_left self.new ≤ weight_left self.old) }
         ensures levels { self.new.levels ≡ self.old.levels }
         ensures pending { OnOk result (self.new.pending ≡ None) }
         ensures fewer { OnOk result (weight_left self.new < weight_left self.old) }

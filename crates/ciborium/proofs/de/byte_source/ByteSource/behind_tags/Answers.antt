@@ -10,7 +10,7 @@ use Rattle.ciborium.proofs.SkippedTags.{skips-none, skips-more, denies-item, den
 use Rattle.ciborium.proofs.de.byte_source.ByteSource.behind_tags.Goals as goal
 
 pub tags-init : goal.tags-init
-tags-init g c = record { same_reader = refl; levels = refl; fewer = omega arith; skipped = skips-none (IsUnread g.R.Read.remaining) c.args.self.now c.args.numbers }
+tags-init g c = record { same_reader = refl; only = λ first h. h; levels = refl; fewer = omega arith; skipped = skips-none (IsUnread g.R.Read.remaining) c.args.self.now c.args.numbers }
 
 pub returns-in_err-header-clause-denied : goal.returns-in_err-header-clause-denied
 returns-in_err-header-clause-denied g c =
@@ -25,6 +25,7 @@ returns-in-Break-clause-denied g c =
 pub tags-preserved : goal.tags-preserved
 tags-preserved g c = record {
   same_reader = c.in_ok-header.ensures.same_reader ∙ c.tags.invariant.same_reader;
+  only = λ first h. c.in_ok-header.ensures.only first (c.tags.invariant.only first h);
   levels = c.in_ok-header.ensures.levels ∙ c.tags.invariant.levels;
   fewer = let none = weighs-none c.next_head.new.self c.in_ok-header.ensures.pending in omega (arith, c.in_ok-header.ensures.fewer, none, c.tags.invariant.fewer);
   skipped = skips-more (IsUnread g.R.Read.remaining) c.args.self.now c.tags.self c.next_head.new.self c.args.numbers c.in-Tag.tag (subst (IsEndTag c.args.numbers c.in-Tag.tag) c.if-is_end_tag.false c.is_end_tag.ensures) c.tags.invariant.skipped

@@ -5,6 +5,8 @@ use Rattle.ciborium_ll.specs.StringRefusal.{of_bytes}
 use Rattle.ciborium.specs.ByteSources.{IsUnreadBy}
 use Rattle.ciborium.proofs.SpelledStrings.{content-outside}
 use Rattle.ciborium.proofs.StringPayloads.{content-taken, content-fewer}
+use Rattle.ciborium_ll.proofs.HeldBytes.{same-name}
+use Rattle.ciborium.proofs.TakenOnly.{takes-only}
 use Rattle.ciborium.proofs.de.byte_source.ByteSource.bytes_content.Goals as goal
 
 pub returns-in_err-bytes_into_keeping-clause-denied : goal.returns-in_err-bytes_into_keeping-clause-denied
@@ -23,3 +25,9 @@ returns-clause-fewer g c =
     let less = c.offset-end.type_inv in
     let at = c.offset-end.ensures ∙ ap (next_offset c.bytes_into_keeping.new.self.window.count) c.bytes_into_keeping.ensures.none_pushed in
     content-fewer Unit g.R.Read.remaining c.args.self.now.decoder c.bytes_into_keeping.new.self of_bytes c.args.len c.new-out.result.items c.bytes_into_keeping.new.out.items c.new-out.ensures.items (omega (arith, less, at)) c.in_ok-bytes_into_keeping.ensures.taken
+
+pub returns-in_err-bytes_into_keeping-clause-only : goal.returns-in_err-bytes_into_keeping-clause-only
+returns-in_err-bytes_into_keeping-clause-only g c = takes-only g.R.Read.remaining c.args.self.now.decoder c.bytes_into_keeping.new.self _ (same-name c.args.self.now.decoder c.bytes_into_keeping.new.self c.in_err-bytes_into_keeping.ensures.same_reader) c.in_err-bytes_into_keeping.ensures.taken
+
+pub returns-clause-only : goal.returns-clause-only
+returns-clause-only g c = takes-only g.R.Read.remaining c.args.self.now.decoder c.bytes_into_keeping.new.self _ (same-name c.args.self.now.decoder c.bytes_into_keeping.new.self c.in_ok-bytes_into_keeping.ensures.same_reader) c.in_ok-bytes_into_keeping.ensures.taken

@@ -2,6 +2,8 @@ use Rattle.std.proofs.Common.{ap, ◌∙◌, arith}
 use Rattle.ciborium_ll.specs.Decoding.{next_offset}
 use Rattle.ciborium.proofs.LoneCharacters.{just-taken}
 use Rattle.ciborium.proofs.ReadDigits.{fill-fewer}
+use Rattle.ciborium_ll.proofs.HeldBytes.{same-name}
+use Rattle.ciborium.proofs.TakenOnly.{takes-only}
 use Rattle.ciborium.proofs.de.byte_source.ByteSource.fill.Goals as goal
 
 pub returns-clause-ok : goal.returns-clause-ok
@@ -12,3 +14,9 @@ returns-clause-fewer g c =
     let fits = c.offset-end.type_inv in
     let at = c.offset-end.ensures ∙ ap (next_offset c.read_exact_keeping.new.self.window.count) c.read_exact_keeping.ensures.none_pushed in
     fill-fewer Unit g.R.Read.remaining c.args.self.now.decoder c.read_exact_keeping.new.self c.read_exact_keeping.new.buffer (omega (arith, fits, at)) c.in_ok-read_exact_keeping.ensures.taken
+
+pub returns-in_err-read_exact_keeping-clause-only : goal.returns-in_err-read_exact_keeping-clause-only
+returns-in_err-read_exact_keeping-clause-only g c = takes-only g.R.Read.remaining c.args.self.now.decoder c.read_exact_keeping.new.self _ (same-name c.args.self.now.decoder c.read_exact_keeping.new.self c.in_err-read_exact_keeping.ensures.same_reader) c.in_err-read_exact_keeping.ensures.taken
+
+pub returns-clause-only : goal.returns-clause-only
+returns-clause-only g c = takes-only g.R.Read.remaining c.args.self.now.decoder c.read_exact_keeping.new.self _ (same-name c.args.self.now.decoder c.read_exact_keeping.new.self c.in_ok-read_exact_keeping.ensures.same_reader) c.in_ok-read_exact_keeping.ensures.taken

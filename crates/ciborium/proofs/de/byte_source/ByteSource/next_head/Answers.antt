@@ -3,6 +3,8 @@ use Rattle.std.proofs.lemmas.Result.{err_from_is_err_and}
 use Rattle.ciborium.specs.ByteSources.{IsUnreadBy, bytes_weight, weight_left}
 use Rattle.ciborium.proofs.FrontReads.{ahead-unpushed, counted-pending, counted-pulled, fewer-bytes, head-outside, weighs-none}
 use Rattle.ciborium_ll.specs.Decoding.{left_of}
+use Rattle.ciborium.proofs.TakenOnly.{takes-only}
+use Rattle.ciborium_ll.proofs.HeldBytes.{same-name}
 use Rattle.ciborium.proofs.de.byte_source.ByteSource.next_head.Goals as goal
 
 pub returns-in_err-header-clause-denied : goal.returns-in_err-header-clause-denied
@@ -33,3 +35,9 @@ returns-clause-head g c b u =
     let d = c.args.self.now.decoder in
     let (x, y, hd, usable, e, stood, counted, rest) = c.in_ok-header.ensures.ahead b d.window.count (ahead-unpushed g.R.Read.remaining d b c.args.self.now.unpushed (subst (λ o. IsUnreadBy g.R.Read.remaining d o b) c.in_default.is u)) in
     (x, y, hd, e, subst (λ o. IsUnreadBy g.R.Read.remaining c.pull_next_keeping.new.self o y) (sym c.in_default.is) rest)
+
+pub returns-in_err-header-clause-only : goal.returns-in_err-header-clause-only
+returns-in_err-header-clause-only g c = takes-only g.R.Read.remaining c.args.self.now.decoder c.pull_next_keeping.new.self _ (same-name c.args.self.now.decoder c.pull_next_keeping.new.self c.in_err-header.ensures.same_reader) c.in_err-header.ensures.taken
+
+pub returns-clause-only : goal.returns-clause-only
+returns-clause-only g c = takes-only g.R.Read.remaining c.args.self.now.decoder c.pull_next_keeping.new.self _ (same-name c.args.self.now.decoder c.pull_next_keeping.new.self c.in_ok-header.ensures.same_reader) c.in_ok-header.ensures.taken

@@ -48,6 +48,8 @@ returns-in_default g c =
     let aside : (b x y : _) → IsUnread g.R.Read.remaining c.args.self.now b → SpellsHeader x h → b ≡ x ++ y → IsUnread g.R.Read.remaining mid y → IsUnreadBy g.R.Read.remaining mid.decoder (Some (h, c.in_ok-header-in-Open.offset)) b
     = λ b x y w hd e u. aside-unread g.R.Read.remaining mid.decoder mid.pending h c.in_ok-header-in-Open.offset b x y none hd e (c.in_ok-header-in-Open.ensures.counted b x y w hd e) u in record {
       same_reader = c.in_ok-header-in-Open.ensures.same_reader;
+      only = c.in_ok-header-in-Open.ensures.only;
+      no_more = tt;
       ok = goes-open g.R.Read.remaining c.args.self.now mid (record mid { pending = Some (h, c.in_ok-header-in-Open.offset) }) c.args.seq.now c.args.seq.now h c.in-Open.is c.in-Open.is refl c.in_ok-header-in-Open.ensures.same_reader c.in_ok-header-in-Open.ensures.fewer
           c.in_ok-header-in-Open.ensures.levels c.in_ok-header-in-Open.ensures.head c.in_default.not-Break aside;
       refused = tt;

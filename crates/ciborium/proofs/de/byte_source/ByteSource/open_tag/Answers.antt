@@ -5,7 +5,7 @@ use Rattle.ciborium_ll.specs.Decoding.{source_of}
 use Rattle.ciborium_value.specs.Sources.{of_kind, of_nesting}
 use Rattle.ciborium_value.specs.Taken.{taken_outer_tag}
 use Rattle.ciborium_value.specs.declared.kind.Kind.TheVariants as kinds
-use Rattle.ciborium.specs.ByteSources.{IsUnread, IsUnreadBy, cause_of}
+use Rattle.ciborium.specs.ByteSources.{HasTaken, IsUnread, IsUnreadBy, cause_of}
 use Rattle.ciborium.specs.ItemReads.{Denies, TakesHead}
 use Rattle.ciborium.proofs.EnteredContainers.{same-unread}
 use Rattle.ciborium.proofs.HeldLevels.{none-opened, tag-nests, tag-opened}
@@ -66,6 +66,8 @@ returns-in_ok-level-in_default g c =
     let count : taken.decoder.window.count ≡ mid.decoder.window.count = ap (λ d. d.window.count) level.decoder in
     record {
       same_reader = ap source_of level.decoder ∙ head.same_reader;
+      only = λ first h. subst (HasTaken g.R.Read.remaining first) (sym level.decoder) (head.only first h);
+      no_more = tt;
       level = (level.some.0 ∙ same, sym same ∙ less);
       fewer = omega (arith, fewer, count);
       ok = none-opened U c.args.self.now mid (record taken { pending = Some (h, c.in_ok-header.offset) }) c.args.self.now.levels (λ z. absurd (omega (arith, z, less, same))) h c.in_default.not-Tag head.head aside;

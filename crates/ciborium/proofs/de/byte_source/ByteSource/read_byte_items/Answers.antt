@@ -15,6 +15,7 @@ no_more P Q t e h = subst (λ b. MatchBool b P Q) e h
 pub items-init : goal.items-init
 items-init g c = record {
   same_reader = refl;
+  only = λ first h. h;
   fewer = omega arith;
   read = subst (λ vs. ReadsPartly g.R.Read.remaining taken_byte c.args.self.now c.args.seq c.args.self.now c.args.seq vs) (sym c.new-bytes.ensures.items) (partly-none g.R.Read.remaining taken_byte c.args.self.now c.args.seq);
   owes = owes-none g.R.Read.remaining taken_byte c.args.self.now c.args.seq;
@@ -68,6 +69,7 @@ items-preserved g c =
     byte-takes g.R.Read.remaining c.next_part.new.self c.read_integer.new.self c.in_ok-number.number c.in_ok-byte.byte c.in_ok-byte.ensures.ok
     (takes-read g.R.Read.remaining c.next_part.new.self c.read_integer.new.self taken_integer c.in_ok-number.number read.same_reader read.levels read.pending read.fewer read.ok) in record {
       same_reader = read.same_reader ∙ c.in_ok-goes_on.ensures.same_reader ∙ c.items.invariant.same_reader;
+      only = λ first h. read.only first (c.in_ok-goes_on.ensures.only first (c.items.invariant.only first h));
       fewer = omega (arith, read.fewer, c.in_ok-goes_on.ensures.fewer, c.items.invariant.fewer);
       read = subst (λ vs. ReadsPartly g.R.Read.remaining taken_byte c.args.self.now c.args.seq c.read_integer.new.self c.next_part.new.seq vs) (sym c.in-Ok.ensures.items)
           (partly-more g.R.Read.remaining taken_byte c.args.self.now c.args.seq c.items.self c.next_part.new.self c.read_integer.new.self c.items.left c.next_part.new.seq c.items.bytes.items c.in_ok-byte.byte c.items.invariant.read goes takes);

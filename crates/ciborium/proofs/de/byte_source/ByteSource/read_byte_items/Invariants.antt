@@ -1,13 +1,15 @@
 use Rattle.std.proofs.Common.{◌≤◌, ◌+◌}
 use Rattle.ciborium_ll.specs.Decoding.{HasSameReader}
+use Rattle.ciborium_value.specs.Sources.{TakesOnly}
 use Rattle.ciborium_value.specs.Taken.{taken_byte}
-use Rattle.ciborium.specs.ByteSources.{seq_left, weight_left}
+use Rattle.ciborium.specs.ByteSources.{HasTaken, seq_left, weight_left}
 use Rattle.ciborium.proofs.ByteItems.{OwesPartly, ReadsPartly}
 use Rattle.ciborium.proofs.de.byte_source.ByteSource.read_byte_items.Given as goal
 
 abbrev pub invariant-items : goal.invariant-items
 invariant-items g l = record {
   same_reader : HasSameReader l.fn.self.decoder l.self.decoder;
+  only : TakesOnly (HasTaken g.R.Read.remaining) l.fn.self.decoder l.self.decoder;
   fewer : weight_left l.self + seq_left l.left ≤ weight_left l.fn.self + seq_left l.fn.seq;
   read : ReadsPartly g.R.Read.remaining taken_byte l.fn.self l.fn.seq l.self l.left l.bytes.items;
   owes : OwesPartly g.R.Read.remaining l.fn.self l.fn.seq l.self l.left;

@@ -2,6 +2,8 @@ use Rattle.std.proofs.Common.{sym, ap, ◌∙◌, subst, arith}
 use Rattle.ciborium_ll.specs.Decoding.{next_offset}
 use Rattle.ciborium.specs.ByteSources.{IsUnreadBy}
 use Rattle.ciborium.proofs.ReadDigits.{digit-more, fill-fewer}
+use Rattle.ciborium_ll.proofs.HeldBytes.{same-name}
+use Rattle.ciborium.proofs.TakenOnly.{takes-only}
 use Rattle.ciborium.proofs.de.byte_source.ByteSource.read_digits.Goals as goal
 
 pub loop-left-preserved : goal.loop-left-preserved
@@ -14,6 +16,7 @@ loop-left-preserved g c =
     let at = c.offset-end.ensures ∙ ap (next_offset e.window.count) c.in_ok-read_exact_keeping.ensures.none_pushed in
     let fewer = fill-fewer Unit g.R.Read.remaining d e buffer (omega (arith, fits, at)) c.in_ok-read_exact_keeping.ensures.taken in record {
       same_reader = c.in_ok-read_exact_keeping.ensures.same_reader ∙ c.loop-left.invariant.same_reader;
+      only = λ first h. takes-only g.R.Read.remaining d e _ (same-name d e c.in_ok-read_exact_keeping.ensures.same_reader) c.in_ok-read_exact_keeping.ensures.taken first (c.loop-left.invariant.only first h);
       levels = c.loop-left.invariant.levels;
       pending = none;
       fewer = omega (arith, fewer, c.loop-left.invariant.fewer);
@@ -23,3 +26,6 @@ loop-left-preserved g c =
           (t, z, len, bytes, val, split, subst (λ o. IsUnreadBy g.R.Read.remaining d o z) none un) in
           (t', z', len', bytes', val', split', subst (λ o. IsUnreadBy g.R.Read.remaining e o z') (sym none) left');
     }
+
+pub returns-in_err-read_exact_keeping-clause-only : goal.returns-in_err-read_exact_keeping-clause-only
+returns-in_err-read_exact_keeping-clause-only g c first h = takes-only g.R.Read.remaining c.loop-left.self.decoder c.read_exact_keeping.new.self _ (same-name c.loop-left.self.decoder c.read_exact_keeping.new.self c.in_err-read_exact_keeping.ensures.same_reader) c.in_err-read_exact_keeping.ensures.taken first (c.loop-left.invariant.only first h)

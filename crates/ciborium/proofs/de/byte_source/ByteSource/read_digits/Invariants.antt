@@ -1,13 +1,15 @@
 use Rattle.std.proofs.Common.{◌≡◌, ◌≤◌, ◌+◌, ◌++◌, None, List, ℕ, length}
 use Rattle.ciborium_ll.specs.Bytes.{AreBytes}
 use Rattle.ciborium_ll.specs.Decoding.{HasSameReader}
-use Rattle.ciborium.specs.ByteSources.{IsUnread, bytes_weight}
+use Rattle.ciborium_value.specs.Sources.{TakesOnly}
+use Rattle.ciborium.specs.ByteSources.{HasTaken, IsUnread, bytes_weight}
 use Rattle.ciborium.specs.StringContents.{digits_of}
 use Rattle.ciborium.proofs.de.byte_source.ByteSource.read_digits.Given as goal
 
 abbrev pub invariant-loop-left : goal.invariant-loop-left
 invariant-loop-left g l = record {
   same_reader : HasSameReader l.fn.self.decoder l.self.decoder;
+  only : TakesOnly (HasTaken g.R.Read.remaining) l.fn.self.decoder l.self.decoder;
   levels : l.self.levels ≡ l.fn.self.levels;
   pending : l.self.pending ≡ None;
   fewer : bytes_weight l.self ≤ bytes_weight l.fn.self;

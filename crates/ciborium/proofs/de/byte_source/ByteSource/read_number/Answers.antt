@@ -29,6 +29,7 @@ parts-preserved g c =
     let U = IsUnread g.R.Read.remaining in
     let none = weighs-none c.parts.self c.parts.invariant.pending in record {
       same_reader = c.in_ok-number-in-Some-part.ensures.same_reader ∙ c.in_ok-header-in-None.ensures.same_reader ∙ c.parts.invariant.same_reader;
+      only = λ first h. c.in_ok-number-in-Some-part.ensures.only first (c.in_ok-header-in-None.ensures.only first (c.parts.invariant.only first h));
       levels = c.in_ok-number-in-Some-part.ensures.levels ∙ c.in_ok-header-in-None.ensures.levels ∙ c.parts.invariant.levels;
       pending = c.in_ok-number-in-Some-part.ensures.pending;
       fewer = omega (arith, c.in_ok-number-in-Some-part.ensures.fewer, c.in_ok-header-in-None.ensures.fewer, none, c.parts.invariant.fewer);

@@ -3,6 +3,9 @@ use Rattle.std.proofs.lemmas.Result.{err_from_is_err_and}
 use Rattle.ciborium_ll.specs.Decoding.{next_offset, left_of}
 use Rattle.ciborium_value.specs.View.{tree_of}
 use Rattle.ciborium.specs.ByteSources.{IsUnreadBy}
+use Rattle.ciborium_ll.proofs.HeldBytes.{same-name, unread-count, unread-left}
+use Rattle.ciborium.proofs.TakenOnly.{takes-none, takes-only}
+use Rattle.ciborium.proofs.WhateverFollows.{leaves-name}
 use Rattle.ciborium.proofs.WholeValues.{ahead-by, known-read, portable-ahead, portable-reads, pushed-ahead, whole-faults, whole-reads}
 use Rattle.ciborium.proofs.de.byte_source.ByteSource.read_whole_value.Goals as goal
 
@@ -70,3 +73,33 @@ returns-in_ok-value-in-None-portable_value-clause-reads g c =
       pushed-ahead Unit g.R.Read.remaining c.args.self.now.decoder c.push.new.self c.read_value.new.decoder c.args.self.now.pending c.args.self.now.levels (Ok c.in_ok-value-in-None-portable_value.value)
           (c.push.ensures.pushed ∙ sym (sym c.take.ensures.value ∙ c.in-Some.is)) c.push.ensures.unread done.value,
     )
+
+pub returns-in_err-value-in-None-portable_value-clause-only : goal.returns-in_err-value-in-None-portable_value-clause-only
+returns-in_err-value-in-None-portable_value-clause-only g c first h =
+    let d = c.args.self.now.decoder in
+    let e = c.push.new.self in
+    let f = c.read_value.new.decoder in
+    let same = c.push.ensures.unread in
+    takes-only g.R.Read.remaining e f _ (leaves-name g.R.Read.remaining e f c.read_value.result c.read_value.ensures.reader) c.in_err-value-in-None-portable_value.ensures.value first
+    (takes-none g.R.Read.remaining d e (same-name d e c.push.ensures.same_reader) (unread-count d e same) (unread-left g.R.Read.remaining d e same) first h)
+
+pub returns-in_ok-value-in-None-portable_value-clause-only : goal.returns-in_ok-value-in-None-portable_value-clause-only
+returns-in_ok-value-in-None-portable_value-clause-only g c first h =
+    let d = c.args.self.now.decoder in
+    let e = c.push.new.self in
+    let f = c.read_value.new.decoder in
+    let same = c.push.ensures.unread in
+    takes-only g.R.Read.remaining e f _ (leaves-name g.R.Read.remaining e f c.read_value.result c.read_value.ensures.reader) c.in_ok-value-in-None-portable_value.ensures.value first
+    (takes-none g.R.Read.remaining d e (same-name d e c.push.ensures.same_reader) (unread-count d e same) (unread-left g.R.Read.remaining d e same) first h)
+
+pub returns-in_err-value-in-None-clause-only : goal.returns-in_err-value-in-None-clause-only
+returns-in_err-value-in-None-clause-only g c =
+    let d = c.args.self.now.decoder in
+    let f = c.read_value-in-None.new.decoder in
+    takes-only g.R.Read.remaining d f _ (leaves-name g.R.Read.remaining d f c.read_value-in-None.result c.read_value-in-None.ensures.reader) c.in_err-value-in-None.ensures.value
+
+pub returns-in_ok-value-in-None-clause-only : goal.returns-in_ok-value-in-None-clause-only
+returns-in_ok-value-in-None-clause-only g c =
+    let d = c.args.self.now.decoder in
+    let f = c.read_value-in-None.new.decoder in
+    takes-only g.R.Read.remaining d f _ (leaves-name g.R.Read.remaining d f c.read_value-in-None.result c.read_value-in-None.ensures.reader) c.in_ok-value-in-None.ensures.value

@@ -5,6 +5,8 @@ use Rattle.ciborium.specs.ByteSources.{IsUnreadBy}
 use Rattle.ciborium.proofs.SpelledStrings.{content-outside}
 use Rattle.ciborium.proofs.StringPayloads.{content-taken}
 use Rattle.ciborium_ll.specs.Decoding.{left_of}
+use Rattle.ciborium_ll.proofs.HeldBytes.{same-name}
+use Rattle.ciborium.proofs.TakenOnly.{takes-only}
 use Rattle.ciborium.proofs.de.byte_source.ByteSource.text_content.Goals as goal
 
 pub returns-in_err-text_into_keeping-clause-denied : goal.returns-in_err-text_into_keeping-clause-denied
@@ -17,3 +19,9 @@ returns-in_err-text_into_keeping-clause-denied g c =
 pub returns-clause-ok : goal.returns-clause-ok
 returns-clause-ok g c =
     content-taken Unit g.R.Read.remaining c.args.self.now.decoder c.text_into_keeping.new.self c.args.self.now.pending of_text c.args.len (string_bytes c.new-out.result) (string_bytes c.text_into_keeping.new.out) c.requires c.new-out.ensures.bytes c.in_ok-text_into_keeping.ensures.taken
+
+pub returns-in_err-text_into_keeping-clause-only : goal.returns-in_err-text_into_keeping-clause-only
+returns-in_err-text_into_keeping-clause-only g c = takes-only g.R.Read.remaining c.args.self.now.decoder c.text_into_keeping.new.self _ (same-name c.args.self.now.decoder c.text_into_keeping.new.self c.in_err-text_into_keeping.ensures.same_reader) c.in_err-text_into_keeping.ensures.taken
+
+pub returns-clause-only : goal.returns-clause-only
+returns-clause-only g c = takes-only g.R.Read.remaining c.args.self.now.decoder c.text_into_keeping.new.self _ (same-name c.args.self.now.decoder c.text_into_keeping.new.self c.in_ok-text_into_keeping.ensures.same_reader) c.in_ok-text_into_keeping.ensures.taken
