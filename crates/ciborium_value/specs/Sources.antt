@@ -133,6 +133,10 @@ TakesItem IsUnread old new = TakesTo IsUnread old new HasItem
 abbrev pub TakesNothing : {S : Type 0} → (S → List ℕ → Type 0) → S → S → Type 0
 TakesNothing IsUnread old new = TakesTo IsUnread old new (λ b u. u ≡ b)
 
+-- on top of what was taken since any first state, just a beginning of what was unread is taken
+abbrev pub TakesOnly : {S : Type 0} → (S → S → Type 0) → S → S → Type 0
+TakesOnly {S = S} HasTaken old new = (first : S) → HasTaken first old → HasTaken first new
+
 -- an item at the front of u completes one at the front of b, with the same end
 abbrev pub Completes : List ℕ → List ℕ → Type 0
 Completes b u = (z : List ℕ) → HasItem u z → HasItem b z
