@@ -135,7 +135,7 @@ TakesNothing IsUnread old new = TakesTo IsUnread old new (λ b u. u ≡ b)
 
 -- on top of what was taken since any first state, just a beginning of what was unread is taken
 abbrev pub TakesOnly : {S : Type 0} → (S → S → Type 0) → S → S → Type 0
-TakesOnly {S} HasTaken old new = (first : S) → HasTaken first old → HasTaken first new
+TakesOnly {S = S} HasTaken old new = (first : S) → HasTaken first old → HasTaken first new
 
 -- an item at the front of u completes one at the front of b, with the same end
 abbrev pub Completes : List ℕ → List ℕ → Type 0

@@ -1,8 +1,9 @@
 //! What is read.
 
-ghost use Rattle.std.specs.Prelude.{◌≡◌, ◌<◌, IfErr, IfOk, IfSome, OnOk};
+ghost use Rattle.std.specs.Prelude.{◌≡◌, ◌<◌, ◌≤◌, IfErr, IfOk, IfSome, OnErr, OnOk};
 ghost use Rattle.ciborium_value.specs.Readings.{Reading};
-ghost use Rattle.ciborium_value.specs.Sources.{IsGranted, Refuses, Takes, TakesItem, read_as};
+ghost use Rattle.ciborium_value.specs.Sources.{IsGranted, Refuses, Takes, TakesItem};
+ghost use Rattle.ciborium_value.specs.Sources.{TakesOnly, read_as};
 
 use crate::source::Source;
 use std::alloc::Global;
@@ -24,7 +25,8 @@ pub trait Deserialize: Sized + Drop {
     /// Takes the item that the source stands before.
     ///
     /// At `Ok` the value is what the item gives, and just the item was taken. Refused with a kind,
-    /// or for nesting, only where the item is.
+    /// or for nesting, only where the item is. A refused call has taken a beginning of what was
+    /// unread and nothing else, and leaves no more to read.
     fn deserialize<S: Source>(alloc: Global, source: &mut S) -> Result<Self, S::Error>
         ensures ok { IfOk result
             (λ v. Takes S.stands_before source.old source.new reading.taken (reading.content v)) }
@@ -34,7 +36,9 @@ pub trait Deserialize: Sized + Drop {
         ensures whole { IfSome reading.whole (λ tree. S.reads source.old source.new
             (read_as (λ v. tree (reading.content v)) result)) }
         ensures took { OnOk result (TakesItem S.is_unread source.old source.new) }
-        ensures less { OnOk result (S.left source.new < S.left source.old) };
+        ensures only { TakesOnly S.has_taken source.old source.new }
+        ensures less { OnOk result (S.left source.new < S.left source.old) }
+        ensures no_more { OnErr result (S.left source.new ≤ S.left source.old) };
 }
 
 /// A type whose values can be the keys of a map that is read: its order is one of what counts.

@@ -125,6 +125,8 @@ impl<'a> Source for TreeSource<'a> {
 
     ghost owes = { λ seq shape b c. ⊥ };
 
+    ghost has_taken = { λ first now. Unit {0} };
+
     ghost reads = { λ old new answer. Unit {0} };
 
     ghost cause = { fault_of };

@@ -1,15 +1,15 @@
 //! What values are read from.
 
-ghost use Rattle.std.specs.Prelude.{◌≡◌, ◌+◌, ◌<◌, ◌≤◌, IfErr, IfOk, List, MatchBool, OnOk, Result};
-ghost use Rattle.std.specs.Prelude.{false, string_bytes, ℕ};
+ghost use Rattle.std.specs.Prelude.{◌≡◌, ◌+◌, ◌<◌, ◌≤◌, IfErr, IfOk, List, MatchBool, OnErr};
+ghost use Rattle.std.specs.Prelude.{OnOk, Result, false, string_bytes, ℕ};
 ghost use Rattle.ciborium_value.specs.Ahead.{Ahead, Rest};
 ghost use Rattle.ciborium_value.specs.Nesting.{Limit};
 ghost use Rattle.ciborium_value.specs.Places.{Shape, dictionary, sequence};
 ghost use Rattle.ciborium_value.specs.Sources.{Completes, Enters, EntersMap, Fault, GivesBack};
 ghost use Rattle.ciborium_value.specs.Sources.{GoesOn, Holds, IsGranted, Leaves, OwesLess};
 ghost use Rattle.ciborium_value.specs.Sources.{OwesNothing, Refuses, RefusesNext, RefusesToTell};
-ghost use Rattle.ciborium_value.specs.Sources.{Takes, TakesItem, TakesNothing, TakesTo, Tells};
-ghost use Rattle.ciborium_value.specs.Sources.{of_kind, of_memory, read_as};
+ghost use Rattle.ciborium_value.specs.Sources.{Takes, TakesItem, TakesNothing, TakesOnly};
+ghost use Rattle.ciborium_value.specs.Sources.{TakesTo, Tells, of_kind, of_memory, read_as};
 ghost use Rattle.ciborium_value.specs.Taken.{taken_boolean, taken_bytes, taken_character};
 ghost use Rattle.ciborium_value.specs.Taken.{taken_integer, taken_name, taken_outer_tag};
 ghost use Rattle.ciborium_value.specs.Taken.{taken_pairs, taken_seq, taken_text, taken_unit};
@@ -26,7 +26,8 @@ use std::alloc::Global;
 /// A source stands before one item. Each call takes what it says, or is refused: with a kind where
 /// the item is another one, for nesting where a container is entered and no level is left, and from
 /// bytes where no item stands there or the reader fails. Calls that skip tags skip any number of
-/// them, at no cost of levels (RFC 8949, section 3.4).
+/// them, at no cost of levels (RFC 8949, section 3.4). A refused call has taken a beginning of what
+/// was unread and nothing else, and leaves no more to read.
 pub trait Source {
     /// Why a call is refused.
     type Error: Drop;
@@ -59,6 +60,9 @@ pub trait Source {
     // The first bytes began with a container, which is read up to the second.
     ghost owes: { Self.Seq → Shape → List ℕ → List ℕ → Type 0 };
 
+    // Since the first state just unread bytes were taken, a beginning of those that were there.
+    ghost has_taken: { Self → Self → Type 0 };
+
     // What a call of `value` did and answered.
     ghost reads: { Self → Self → Result Tree Self.Error → Type 0 };
 
@@ -75,7 +79,9 @@ pub trait Source {
             (λ e. Refuses stands_before self.old taken_integer (cause e)) }
         ensures memory { IfErr result (λ e. IsGranted (cause e) false) }
         ensures took { OnOk result (TakesItem is_unread self.old self.new) }
-        ensures less { OnOk result (left self.new < left self.old) };
+        ensures only { TakesOnly has_taken self.old self.new }
+        ensures less { OnOk result (left self.new < left self.old) }
+        ensures no_more { OnErr result (left self.new ≤ left self.old) };
 
     /// False or true (section 3.3). Skips tags; refused as `Bool`.
     fn boolean(&mut self) -> Result<bool, Self::Error>
@@ -84,7 +90,9 @@ pub trait Source {
             (λ e. Refuses stands_before self.old taken_boolean (cause e)) }
         ensures memory { IfErr result (λ e. IsGranted (cause e) false) }
         ensures took { OnOk result (TakesItem is_unread self.old self.new) }
-        ensures less { OnOk result (left self.new < left self.old) };
+        ensures only { TakesOnly has_taken self.old self.new }
+        ensures less { OnOk result (left self.new < left self.old) }
+        ensures no_more { OnErr result (left self.new ≤ left self.old) };
 
     /// Null or undefined (section 3.3). Skips tags; refused as `Unit`.
     fn unit(&mut self) -> Result<(), Self::Error>
@@ -92,7 +100,9 @@ pub trait Source {
         ensures refused { IfErr result (λ e. Refuses stands_before self.old taken_unit (cause e)) }
         ensures memory { IfErr result (λ e. IsGranted (cause e) false) }
         ensures took { OnOk result (TakesItem is_unread self.old self.new) }
-        ensures less { OnOk result (left self.new < left self.old) };
+        ensures only { TakesOnly has_taken self.old self.new }
+        ensures less { OnOk result (left self.new < left self.old) }
+        ensures no_more { OnErr result (left self.new ≤ left self.old) };
 
     /// The one character of a definite text. Skips tags; refused as `Char`.
     fn character(&mut self) -> Result<char, Self::Error>
@@ -101,7 +111,9 @@ pub trait Source {
             (λ e. Refuses stands_before self.old taken_character (cause e)) }
         ensures memory { IfErr result (λ e. IsGranted (cause e) false) }
         ensures took { OnOk result (TakesItem is_unread self.old self.new) }
-        ensures less { OnOk result (left self.new < left self.old) };
+        ensures only { TakesOnly has_taken self.old self.new }
+        ensures less { OnOk result (left self.new < left self.old) }
+        ensures no_more { OnErr result (left self.new ≤ left self.old) };
 
     /// A text, definite or open (section 3.1). Skips tags; refused as `Text`.
     fn text(&mut self, alloc: Global) -> Result<String, Self::Error>
@@ -109,7 +121,9 @@ pub trait Source {
             (λ v. Takes stands_before self.old self.new taken_text (string_bytes v)) }
         ensures refused { IfErr result (λ e. Refuses stands_before self.old taken_text (cause e)) }
         ensures took { OnOk result (TakesItem is_unread self.old self.new) }
-        ensures less { OnOk result (left self.new < left self.old) };
+        ensures only { TakesOnly has_taken self.old self.new }
+        ensures less { OnOk result (left self.new < left self.old) }
+        ensures no_more { OnErr result (left self.new ≤ left self.old) };
 
     /// The bytes of a byte string, definite or open (section 3.1); or, with a level, of an array
     /// of numbers, each as `integer` reads it, from 0 to 255, else refused as `Range`. Skips tags;
@@ -118,7 +132,9 @@ pub trait Source {
         ensures ok { IfOk result (λ v. Takes stands_before self.old self.new taken_bytes v.items) }
         ensures refused { IfErr result (λ e. Refuses stands_before self.old taken_bytes (cause e)) }
         ensures took { OnOk result (TakesItem is_unread self.old self.new) }
-        ensures less { OnOk result (left self.new < left self.old) };
+        ensures only { TakesOnly has_taken self.old self.new }
+        ensures less { OnOk result (left self.new < left self.old) }
+        ensures no_more { OnErr result (left self.new ≤ left self.old) };
 
     /// A name: a text, or a byte string that is UTF-8 once its parts are joined, each definite or
     /// open (section 3.1). Skips tags; refused as `Name`.
@@ -127,7 +143,9 @@ pub trait Source {
             (λ v. Takes stands_before self.old self.new taken_name (string_bytes v)) }
         ensures refused { IfErr result (λ e. Refuses stands_before self.old taken_name (cause e)) }
         ensures took { OnOk result (TakesItem is_unread self.old self.new) }
-        ensures less { OnOk result (left self.new < left self.old) };
+        ensures only { TakesOnly has_taken self.old self.new }
+        ensures less { OnOk result (left self.new < left self.old) }
+        ensures no_more { OnErr result (left self.new ≤ left self.old) };
 
     /// Whether the item ahead is null or undefined, under no tag. It is not taken.
     fn null_ahead(&mut self) -> Result<bool, Self::Error>
@@ -135,7 +153,9 @@ pub trait Source {
         ensures refused { IfErr result (λ e. RefusesToTell stands_before self.old (cause e)) }
         ensures memory { IfErr result (λ e. IsGranted (cause e) false) }
         ensures took { OnOk result (TakesNothing is_unread self.old self.new) }
-        ensures less { OnOk result (left self.new ≤ left self.old) };
+        ensures only { TakesOnly has_taken self.old self.new }
+        ensures less { OnOk result (left self.new ≤ left self.old) }
+        ensures no_more { OnErr result (left self.new ≤ left self.old) };
 
     /// The tag of the item ahead, if it has one (section 3.4), that of a bignum too; the source
     /// then stands before what is under it. Takes a level, tag or none, for `end_tag` to give back.
@@ -146,12 +166,15 @@ pub trait Source {
             (λ e. Refuses stands_before self.old taken_outer_tag (cause e)) }
         ensures memory { IfErr result (λ e. IsGranted (cause e) false) }
         ensures took { OnOk result (TakesTo is_unread self.old self.new Completes) }
-        ensures less { IfOk result (λ p. left self.new + level_left p.1 ≤ left self.old) };
+        ensures only { TakesOnly has_taken self.old self.new }
+        ensures less { IfOk result (λ p. left self.new + level_left p.1 ≤ left self.old) }
+        ensures no_more { OnErr result (left self.new ≤ left self.old) };
 
     /// Gives the level of a tag back, once the item under it was read.
     fn end_tag(&mut self, level: Self::Level)
         ensures ok { GivesBack stands_before level_stands self.old self.new level }
         ensures took { TakesNothing is_unread self.old self.new }
+        ensures only { TakesOnly has_taken self.old self.new }
         ensures less { left self.new ≤ left self.old + level_left level };
 
     /// The name of a variant: a text, definite or open, whose data is then a null ahead; or the
@@ -164,12 +187,15 @@ pub trait Source {
         ensures refused { IfErr result
             (λ e. Refuses stands_before self.old taken_variant (cause e)) }
         ensures took { OnOk result (TakesTo is_unread self.old self.new Completes) }
-        ensures less { IfOk result (λ p. left self.new + level_left p.1 ≤ left self.old) };
+        ensures only { TakesOnly has_taken self.old self.new }
+        ensures less { IfOk result (λ p. left self.new + level_left p.1 ≤ left self.old) }
+        ensures no_more { OnErr result (left self.new ≤ left self.old) };
 
     /// Gives the level of a variant back, once its data was read.
     fn end_variant(&mut self, level: Self::Level)
         ensures ok { GivesBack stands_before level_stands self.old self.new level }
         ensures took { TakesNothing is_unread self.old self.new }
+        ensures only { TakesOnly has_taken self.old self.new }
         ensures less { left self.new ≤ left self.old + level_left level };
 
     /// Enters an array, which takes a level; or a byte string, whose bytes are then its items, as
@@ -178,7 +204,9 @@ pub trait Source {
         ensures ok { IfOk result (λ q. Enters stands_before seq_stands self.old self.new q) }
         ensures refused { IfErr result (λ e. Refuses stands_before self.old taken_seq (cause e)) }
         ensures took { IfOk result (λ q. TakesTo is_unread self.old self.new (owes q sequence)) }
-        ensures less { IfOk result (λ q. left self.new + seq_left q < left self.old) };
+        ensures only { TakesOnly has_taken self.old self.new }
+        ensures less { IfOk result (λ q. left self.new + seq_left q < left self.old) }
+        ensures no_more { OnErr result (left self.new ≤ left self.old) };
 
     /// Enters a map, which takes a level. Skips tags; another item is refused as `Map`.
     fn begin_map(&mut self) -> Result<Self::Seq, Self::Error>
@@ -186,7 +214,9 @@ pub trait Source {
         ensures refused { IfErr result (λ e. Refuses stands_before self.old taken_pairs (cause e)) }
         ensures memory { IfErr result (λ e. IsGranted (cause e) false) }
         ensures took { IfOk result (λ q. TakesTo is_unread self.old self.new (owes q dictionary)) }
-        ensures less { IfOk result (λ q. left self.new + seq_left q < left self.old) };
+        ensures only { TakesOnly has_taken self.old self.new }
+        ensures less { IfOk result (λ q. left self.new + seq_left q < left self.old) }
+        ensures no_more { OnErr result (left self.new ≤ left self.old) };
 
     /// Whether a further item, or a further key, is ahead. A map's value is read right behind its
     /// key. At `false` the container is left, its break taken and its level given back.
@@ -200,7 +230,10 @@ pub trait Source {
         ensures took { IfOk result (λ b. MatchBool b
             (TakesTo is_unread self.old self.new (OwesLess owes seq.old seq.new))
             (TakesTo is_unread self.old self.new (OwesNothing owes seq.old))) }
+        ensures only { TakesOnly has_taken self.old self.new }
         ensures less { OnOk result
+            (left self.new + seq_left seq.new ≤ left self.old + seq_left seq.old) }
+        ensures no_more { OnErr result
             (left self.new + seq_left seq.new ≤ left self.old + seq_left seq.old) };
 
     /// Whatever item is ahead, as a `Value`: its meaning, bignums folded (section 3.4.3).
@@ -210,7 +243,9 @@ pub trait Source {
         ensures refused { IfErr result (λ e. Refuses stands_before self.old taken_value (cause e)) }
         ensures reads { reads self.old self.new (read_as tree_of result) }
         ensures took { OnOk result (TakesItem is_unread self.old self.new) }
-        ensures less { OnOk result (left self.new < left self.old) };
+        ensures only { TakesOnly has_taken self.old self.new }
+        ensures less { OnOk result (left self.new < left self.old) }
+        ensures no_more { OnErr result (left self.new ≤ left self.old) };
 
     /// The error for an item that is not wanted, for an implementation of `Deserialize` to answer.
     fn refuse(&self, kind: Kind) -> Self::Error

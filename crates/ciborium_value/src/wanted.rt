@@ -1,8 +1,8 @@
 //! A struct from a map by names, for implementations of `Deserialize`.
 
-ghost use Rattle.std.specs.Prelude.{◌≡◌, ◌<◌, IfErr, IfOk, None, OnOk, Option, Some};
+ghost use Rattle.std.specs.Prelude.{◌≡◌, ◌<◌, ◌≤◌, IfErr, IfOk, None, OnErr, OnOk, Option, Some};
 ghost use Rattle.std.specs.Option.{option_map};
-ghost use Rattle.ciborium_value.specs.Sources.{Refuses, Takes, TakesItem, of_kind};
+ghost use Rattle.ciborium_value.specs.Sources.{Refuses, Takes, TakesItem, TakesOnly, of_kind};
 ghost use Rattle.ciborium_value.specs.StructReadings.{FieldsTaken, field_taken};
 ghost use Rattle.ciborium_value.specs.StructReadings.{no_field_taken, taken_fields};
 ghost use Rattle.ciborium_value.specs.declared.kind.Kind.TheVariants.{Other};
@@ -34,7 +34,8 @@ pub trait WantedFields: Drop {
 
     /// Reads the item that the source stands before, which stands under this name: as the type of
     /// the first field of the name, in the place of what was read of it, or else as a value, which
-    /// is dropped. Refused where the item is.
+    /// is dropped. Refused where the item is; a beginning of what was unread is then taken and
+    /// nothing else, and no more is left to read.
     fn read_field<S: Source>(
         &mut self,
         name: &str,
@@ -47,7 +48,9 @@ pub trait WantedFields: Drop {
         ensures refused { IfErr result (λ e. Refuses S.stands_before source.old
             ((fields self.old).taken name.now (content self.old)) (S.cause e)) }
         ensures took { OnOk result (TakesItem S.is_unread source.old source.new) }
-        ensures less { OnOk result (S.left source.new < S.left source.old) };
+        ensures only { TakesOnly S.has_taken source.old source.new }
+        ensures less { OnOk result (S.left source.new < S.left source.old) }
+        ensures no_more { OnErr result (S.left source.new ≤ S.left source.old) };
 }
 
 impl WantedFields for NoField {
@@ -98,7 +101,8 @@ impl<V: Deserialize, R: WantedFields> WantedFields for Wanted<'_, V, R> {
 /// # Errors
 ///
 /// Refused as `Map` where another item stands, as `Name` where a key is no name, for nesting where
-/// no level is left, and where what stands under a name is.
+/// no level is left, and where what stands under a name is. A beginning of what was unread is then
+/// taken and nothing else, and no more is left to read.
 pub fn read_fields<F: WantedFields, S: Source>(
     alloc: Global,
     source: &mut S,
@@ -109,7 +113,9 @@ pub fn read_fields<F: WantedFields, S: Source>(
     ensures refused { IfErr result (λ e. Refuses S.stands_before source.old
         (taken_fields (F.fields fields.old) (F.content fields.old)) (S.cause e)) }
     ensures took { OnOk result (TakesItem S.is_unread source.old source.new) }
+    ensures only { TakesOnly S.has_taken source.old source.new }
     ensures less { OnOk result (S.left source.new < S.left source.old) }
+    ensures no_more { OnErr result (S.left source.new ≤ S.left source.old) }
 {
     let mut seq = source.begin_map()?;
     while source.next(&mut seq)? {

@@ -1,8 +1,9 @@
 //! Numbers.
 
-ghost use Rattle.std.specs.Prelude.{◌+◌, ◌<◌, ◌^◌, ◌≤◌, IfErr, IfOk, OnOk, false, ℕ, ℤ, refl};
+ghost use Rattle.std.specs.Prelude.{◌+◌, ◌<◌, ◌^◌, ◌≤◌, IfErr, IfOk, OnErr, OnOk, false};
+ghost use Rattle.std.specs.Prelude.{refl, ℕ, ℤ};
 ghost use Rattle.ciborium_value.specs.Readings.{IsWithin, below, within};
-ghost use Rattle.ciborium_value.specs.Sources.{IsGranted, Refuses, Takes, TakesItem};
+ghost use Rattle.ciborium_value.specs.Sources.{IsGranted, Refuses, Takes, TakesItem, TakesOnly};
 
 use super::{Deserialize, Key};
 use crate::kind::Kind;
@@ -18,7 +19,9 @@ fn unsigned<S: Source>(source: &mut S, greatest: u128) -> Result<u128, S::Error>
         (λ e. Refuses S.stands_before source.old (below (greatest + 1)).taken (S.cause e)) }
     ensures memory { IfErr result (λ e. IsGranted (S.cause e) false) }
     ensures took { OnOk result (TakesItem S.is_unread source.old source.new) }
+    ensures only { TakesOnly S.has_taken source.old source.new }
     ensures less { OnOk result (S.left source.new < S.left source.old) }
+    ensures no_more { OnErr result (S.left source.new ≤ S.left source.old) }
     ensures fits { IfOk result (λ n. n ≤ greatest) }
 {
     let (negative, n) = source.integer()?;
@@ -38,7 +41,9 @@ fn signed<S: Source>(source: &mut S, greatest: u128) -> Result<i128, S::Error>
         (λ e. Refuses S.stands_before source.old (within (greatest + 1)).taken (S.cause e)) }
     ensures memory { IfErr result (λ e. IsGranted (S.cause e) false) }
     ensures took { OnOk result (TakesItem S.is_unread source.old source.new) }
+    ensures only { TakesOnly S.has_taken source.old source.new }
     ensures less { OnOk result (S.left source.new < S.left source.old) }
+    ensures no_more { OnErr result (S.left source.new ≤ S.left source.old) }
     ensures fits { IfOk result (IsWithin (greatest + 1)) }
 {
     let (negative, n) = source.integer()?;

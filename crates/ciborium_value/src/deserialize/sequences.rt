@@ -1,11 +1,12 @@
 //! Lists and tuples.
 
-ghost use Rattle.std.specs.Prelude.{◌+◌, ◌<◌, ◌≤◌, IfErr, IfOk, List, OnOk};
+ghost use Rattle.std.specs.Prelude.{◌+◌, ◌<◌, ◌≤◌, IfErr, IfOk, List, OnErr, OnOk};
 ghost use Rattle.ciborium_value.specs.KeyOrders.{ordering_then-same, slice_cmp-map};
 ghost use Rattle.ciborium_value.specs.Readings.{list_of, tuple1_of, tuple2_of, tuple3_of};
 ghost use Rattle.ciborium_value.specs.Readings.{tuple4_of};
 ghost use Rattle.ciborium_value.specs.Sequences.{DropsRest, RefusesPart, RefusesRest};
 ghost use Rattle.ciborium_value.specs.Sequences.{TakesOwed, TakesPart, TakesRest};
+ghost use Rattle.ciborium_value.specs.Sources.{TakesOnly};
 
 use super::{Deserialize, Key};
 use crate::kind::Kind;
@@ -25,8 +26,11 @@ fn part<T: Deserialize, S: Source>(
         source.old seq.old T.reading.taken (S.cause e)) }
     ensures took { OnOk result
         (TakesOwed S.is_unread S.owes source.old source.new seq.old seq.new) }
+    ensures only { TakesOnly S.has_taken source.old source.new }
     ensures less { OnOk result (S.left source.new + S.seq_left seq.new
         < S.left source.old + S.seq_left seq.old) }
+    ensures no_more { OnErr result (S.left source.new + S.seq_left seq.new
+        ≤ S.left source.old + S.seq_left seq.old) }
 {
     if !source.next(seq)? {
         return Err(source.refuse(Kind::Length));
@@ -43,7 +47,10 @@ fn drop_rest<S: Source>(alloc: Global, source: &mut S, seq: &mut S::Seq) -> Resu
     ensures refused { IfErr result
         (λ e. RefusesRest S.stands_before S.seq_stands source.old seq.old (S.cause e)) }
     ensures took { OnOk result (TakesRest S.is_unread S.owes source.old source.new seq.old) }
+    ensures only { TakesOnly S.has_taken source.old source.new }
     ensures less { OnOk result (S.left source.new ≤ S.left source.old + S.seq_left seq.old) }
+    ensures no_more { OnErr result (S.left source.new + S.seq_left seq.new
+        ≤ S.left source.old + S.seq_left seq.old) }
 {
     while source.next(seq)? {
         drop(source.value(alloc)?);

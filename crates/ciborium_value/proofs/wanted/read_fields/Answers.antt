@@ -36,6 +36,7 @@ loop-seq-preserved g c = record {
   inside = so c.loop-seq.invariant.inside (fields_more g.S.Source.stands_before g.S.Source.seq_stands (g.F.WantedFields.fields c.args.fields.now) (g.F.WantedFields.content c.loop-seq.fields) (rw c.if-branch.true at c.in_ok-next.ensures.ok) c.in_ok-name.ensures.ok
       (subst (λ x. Takes g.S.Source.stands_before c.name.new.self c.read_field.new.source (x.taken (string_bytes c.in_ok-name.name) (g.F.WantedFields.content c.loop-seq.fields)) (g.F.WantedFields.content c.read_field.new.self)) c.loop-seq.invariant.names (rw c.deref.ensures at c.in_ok-read_field.ensures.ok)));
   owed = owed_pair g.S.Source.is_unread g.S.Source.owes _ _ _ _ _ _ _ c.loop-seq.invariant.owed (rw c.if-branch.true at c.in_ok-next.ensures.took) c.in_ok-name.ensures.took c.in_ok-read_field.ensures.took;
+  only = λ first h. c.read_field.ensures.only first (c.name.ensures.only first (c.next.ensures.only first (c.loop-seq.invariant.only first h)));
   less = omega (arith, c.in_ok-next.ensures.less, c.in_ok-name.ensures.less, c.in_ok-read_field.ensures.less, c.loop-seq.invariant.less);
 }
 

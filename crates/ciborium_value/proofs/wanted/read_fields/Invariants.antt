@@ -1,6 +1,6 @@
 use Rattle.std.proofs.Common.{◌≡◌, ◌+◌, ◌<◌}
 use Rattle.ciborium_value.specs.Places.{dictionary}
-use Rattle.ciborium_value.specs.Sources.{TakesTo}
+use Rattle.ciborium_value.specs.Sources.{TakesTo, TakesOnly}
 use Rattle.ciborium_value.specs.StructReadings.{taken_fields}
 use Rattle.ciborium_value.proofs.Sequences.{Follows, IsBefore}
 use Rattle.ciborium_value.proofs.NamedFields.{IsInsideFields}
@@ -13,6 +13,7 @@ invariant-loop-seq g l = record {
   inside : Follows (IsBefore g.S.Source.stands_before l.fn.source (taken_fields (g.F.WantedFields.fields l.fn.fields) (g.F.WantedFields.content l.fn.fields)))
       (IsInsideFields g.S.Source.stands_before g.S.Source.seq_stands (g.F.WantedFields.fields l.fn.fields) l.source l.seq (g.F.WantedFields.content l.fields));
   owed : TakesTo g.S.Source.is_unread l.fn.source l.source (g.S.Source.owes l.seq dictionary);
+  only : TakesOnly g.S.Source.has_taken l.fn.source l.source;
   less : g.S.Source.left l.source + g.S.Source.seq_left l.seq < g.S.Source.left l.fn.source;
 }
 

@@ -1,5 +1,6 @@
 use Rattle.std.proofs.Common.{◌+◌, ◌≤◌}
 use Rattle.ciborium_value.specs.Sequences.{TakesOwed}
+use Rattle.ciborium_value.specs.Sources.{TakesOnly}
 use Rattle.ciborium_value.proofs.Sequences.{Follows, IsInside, dropped}
 use Rattle.ciborium_value.proofs.deserialize.sequences.drop_rest.Given as goal
 
@@ -9,6 +10,7 @@ invariant-loop-source g l = record {
   inside : Follows (IsInside g.S.Source.stands_before g.S.Source.seq_stands l.fn.source l.fn.seq dropped)
       (IsInside g.S.Source.stands_before g.S.Source.seq_stands l.source l.seq dropped);
   owed : TakesOwed g.S.Source.is_unread g.S.Source.owes l.fn.source l.source l.fn.seq l.seq;
+  only : TakesOnly g.S.Source.has_taken l.fn.source l.source;
   less : g.S.Source.left l.source + g.S.Source.seq_left l.seq ≤ g.S.Source.left l.fn.source + g.S.Source.seq_left l.fn.seq;
 }
 

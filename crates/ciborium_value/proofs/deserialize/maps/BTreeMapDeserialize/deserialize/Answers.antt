@@ -11,6 +11,7 @@ pub loop-entries-init : goal.loop-entries-init
 loop-entries-init g c = record {
   inside = map_begins g.S.Source.stands_before g.S.Source.seq_stands g.K.Deserialize.reading.order g.K.Deserialize.reading.taken g.V.Deserialize.reading.taken _ (ap (map (λ e. (g.K.Deserialize.reading.content e.0, g.V.Deserialize.reading.content e.1))) c.new-entries.ensures.empty) c.in_ok-seq.ensures.ok;
   owed = c.in_ok-seq.ensures.took;
+  only = c.begin_map.ensures.only;
   less = c.in_ok-seq.ensures.less;
 }
 
@@ -38,6 +39,7 @@ loop-entries-preserved g c = record {
       (sym (ap (map (λ e. (g.K.Deserialize.reading.content e.0, g.V.Deserialize.reading.content e.1))) c.in-Ok.ensures.entries ∙ contents-insert g.K.Ord.cmp g.K.Deserialize.reading.order g.K.Deserialize.reading.content g.V.Deserialize.reading.content g.met.K.Key.orders c.loop-entries.entries.entries c.in_ok-key.key c.in_ok-value.value))
       (so c.loop-entries.invariant.inside (map_more g.S.Source.stands_before g.S.Source.seq_stands g.K.Deserialize.reading.order g.K.Deserialize.reading.taken g.V.Deserialize.reading.taken (map (λ e. (g.K.Deserialize.reading.content e.0, g.V.Deserialize.reading.content e.1)) c.loop-entries.entries.entries) (rw c.if-branch.true at c.in_ok-next.ensures.ok) c.in_ok-key.ensures.ok c.in_ok-value.ensures.ok));
   owed = owed_pair g.S.Source.is_unread g.S.Source.owes _ _ _ _ _ _ _ c.loop-entries.invariant.owed (rw c.if-branch.true at c.in_ok-next.ensures.took) c.in_ok-key.ensures.took c.in_ok-value.ensures.took;
+  only = λ first h. c.deserialize-in-loop-entries.ensures.only first (c.deserialize.ensures.only first (c.next.ensures.only first (c.loop-entries.invariant.only first h)));
   less = omega (arith, c.in_ok-next.ensures.less, c.in_ok-key.ensures.less, c.in_ok-value.ensures.less, c.loop-entries.invariant.less);
 }
 

@@ -11,6 +11,7 @@ pub loop-values-init : goal.loop-values-init
 loop-values-init g c = record {
   inside = list_begins g.S.Source.stands_before g.S.Source.seq_stands g.T.Deserialize.reading.taken _ (ap (map g.T.Deserialize.reading.content) c.new-values.ensures.items) c.in_ok-seq.ensures.ok;
   owed = c.in_ok-seq.ensures.took;
+  only = c.begin_seq.ensures.only;
   less = c.in_ok-seq.ensures.less;
 }
 
@@ -32,6 +33,7 @@ loop-values-preserved g c = record {
       (sym (ap (map g.T.Deserialize.reading.content) c.in-Ok.ensures.items ∙ map-append g.T.Deserialize.reading.content c.loop-values.values.items (c.in_ok-value.value ∷ [])))
       (so c.loop-values.invariant.inside (list_more g.S.Source.stands_before g.S.Source.seq_stands g.T.Deserialize.reading.taken _ (rw c.if-branch.true at c.in_ok-next.ensures.ok) c.in_ok-value.ensures.ok));
   owed = owed_more g.S.Source.is_unread g.S.Source.owes _ _ _ _ _ _ c.loop-values.invariant.owed (rw c.if-branch.true at c.in_ok-next.ensures.took) c.in_ok-value.ensures.took;
+  only = λ first h. c.deserialize.ensures.only first (c.next.ensures.only first (c.loop-values.invariant.only first h));
   less = omega (arith, c.in_ok-next.ensures.less, c.in_ok-value.ensures.less, c.loop-values.invariant.less);
 }
 
