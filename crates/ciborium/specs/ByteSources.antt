@@ -60,6 +60,9 @@ CountsHead IsUnread old new h = (b x y : List ℕ) → IsUnread old b → Spells
 unfoldable pub HasTaken : {S : Type 0} → (S → Option (List ℕ)) → Decoder S → Decoder S → Type 0
 HasTaken remaining first d = (d.reader.ghost_name ≡ first.reader.ghost_name) × Takes remaining first d (λ _. Unit {0})
 
+abbrev pub HasTakenSince : {S : Type 0} → (S → Option (List ℕ)) → ByteSource S → ByteSource S → Type 0
+HasTakenSince remaining first s = HasTaken remaining first.decoder s.decoder
+
 -- ---- where it stands
 
 -- behind an item no head is pending

@@ -3,11 +3,11 @@ use Rattle.std.specs.Prelude.{◌≡◌, ℕ, List, [], Option, Some, None, Resu
 use Rattle.std.specs.Io.KnownBytes.{Consumes, IsAtEnd}
 use Rattle.ciborium_ll.specs.declared.header.Header.{Header}
 use Rattle.ciborium_value.specs.Readings.{Reading}
-use Rattle.ciborium_value.specs.Sources.{IsGranted, Refuses, Takes, TakesItem, read_as}
+use Rattle.ciborium_value.specs.Sources.{IsGranted, Refuses, Takes, TakesItem, TakesOnly, read_as}
 use Rattle.ciborium.specs.declared.de.byte_source.ByteSource.{ByteSource}
 use Rattle.ciborium.specs.declared.de.error.Error.{Error}
 use Rattle.ciborium.specs.declared.de.error.Error.TheVariants.{Io, Syntax, Semantic, RecursionLimitExceeded, Memory, TooLong}
-use Rattle.ciborium.specs.ByteSources.{IsUnread, ReadsValue, StandsBefore, cause_of}
+use Rattle.ciborium.specs.ByteSources.{HasTakenSince, IsUnread, ReadsValue, StandsBefore, cause_of}
 
 -- ---- the clauses of a call that reads the next item: what the reader held before it, what it is left with, and the answer
 
@@ -50,6 +50,7 @@ abbrev pub IsReadFrom : {S T A E : Type 0} → (S → Option (List ℕ)) → Rea
 IsReadFrom remaining reading old new r = record {
   ok : IfOk r (λ v. Takes (StandsBefore remaining) old new reading.taken (reading.content v));
   took : OnOk r (TakesItem (IsUnread remaining) old new);
+  only : TakesOnly (HasTakenSince remaining) old new;
   refused : IfErr r (λ e. Refuses (StandsBefore remaining) old reading.taken (cause_of e));
   memory : IfErr r (λ e. IsGranted (cause_of e) reading.takes_memory);
   whole : IfSome reading.whole (λ tree. ReadsValue remaining old new (read_as (λ v. tree (reading.content v)) r));

@@ -1,5 +1,6 @@
 -- What reading a value of any type answers, from bytes and from a tree.
 use Rattle.std.specs.Prelude.{◌≡◌, ℕ, List, ◌++◌, Option, Some, None, Result, Ok, Err, IfOk, IfErr}
+use Rattle.std.specs.Io.KnownBytes.{Consumes}
 use Rattle.std.specs.declared.io.Error.{Error as IoError}
 use Rattle.ciborium_ll.specs.Item.{Item}
 use Rattle.ciborium_ll.specs.Spells.{Spells}
@@ -33,6 +34,10 @@ TakesGiven l taken before after r = (b : List ℕ) → before ≡ Some b → IfO
 -- an item at the front is refused only as it is
 abbrev pub RefusesTaken : {A E : Type 0} → Limit → Taken A → Option (List ℕ) → Result A (Error E) → Type 0
 RefusesTaken l taken before r = (b : List ℕ) → before ≡ Some b → IfErr r (λ e. IsFaultAhead l taken b (cause_of e))
+
+-- some bytes were taken, a beginning of those that are known, and nothing else
+abbrev pub TakesBeginning : Option (List ℕ) → Option (List ℕ) → Type 0
+TakesBeginning before after = (b : List ℕ) × Consumes before after b
 
 -- ---- from both
 

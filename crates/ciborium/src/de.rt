@@ -1,12 +1,12 @@
 //! Bytes to values.
 
 ghost use Rattle.std.specs.Prelude.{◌≡◌, IfErr, IfNone, IfSome, None, Ok, Some};
-ghost use Rattle.ciborium_value.specs.Sources.{IsGranted, read_as};
+ghost use Rattle.ciborium_value.specs.Sources.{IsGranted, TakesOnly, read_as};
 ghost use Rattle.ciborium.specs.Answers.{ReadsWhole, TakesBytesFrom};
-ghost use Rattle.ciborium.specs.ByteSources.{cause_of};
+ghost use Rattle.ciborium.specs.ByteSources.{HasTakenSince, cause_of};
 ghost use Rattle.ciborium.specs.NextItems.{GoesOn, IsReadFrom, Otherwise, TellsEnd, behind_head};
 ghost use Rattle.ciborium.specs.Spelling.{any};
-ghost use Rattle.ciborium.specs.TypedReads.{RefusesTaken, TakesGiven};
+ghost use Rattle.ciborium.specs.TypedReads.{RefusesTaken, TakesBeginning, TakesGiven};
 
 mod building;
 mod byte_source;
@@ -61,6 +61,8 @@ fn read<T: Deserialize, R: Read>(
     ensures refused { RefusesTaken (Some limit) T.reading.taken (R.remaining reader.old)
         (read_as T.reading.content result) }
     ensures memory { IfErr result (λ e. IsGranted (cause_of e) T.reading.takes_memory) }
+    // Refused or not, a beginning of what was there was taken, and nothing else.
+    ensures taken { TakesBeginning (R.remaining reader.old) (R.remaining reader.new) }
     // Where reading is one call of `value`, whatever the bytes.
     ensures value { IfSome T.reading.whole (λ tree. ReadsWhole any (R.remaining reader.old) limit
         (R.remaining reader.new) (read_as (λ v. tree (T.reading.content v)) result)) }
@@ -104,6 +106,8 @@ pub fn from_reader<T: Deserialize, R: Read>(
     ensures refused { RefusesTaken (Some 256) T.reading.taken (R.remaining reader.old)
         (read_as T.reading.content result) }
     ensures memory { IfErr result (λ e. IsGranted (cause_of e) T.reading.takes_memory) }
+    // Refused or not, a beginning of what was there was taken, and nothing else.
+    ensures taken { TakesBeginning (R.remaining reader.old) (R.remaining reader.new) }
     // Where reading is one call of `value`, whatever the bytes.
     ensures value { IfSome T.reading.whole (λ tree. ReadsWhole any (R.remaining reader.old) 256
         (R.remaining reader.new) (read_as (λ v. tree (T.reading.content v)) result)) }
@@ -126,6 +130,8 @@ pub fn from_reader_with_buffer<T: Deserialize, R: Read>(
     ensures refused { RefusesTaken (Some 256) T.reading.taken (R.remaining reader.old)
         (read_as T.reading.content result) }
     ensures memory { IfErr result (λ e. IsGranted (cause_of e) T.reading.takes_memory) }
+    // Refused or not, a beginning of what was there was taken, and nothing else.
+    ensures taken { TakesBeginning (R.remaining reader.old) (R.remaining reader.new) }
     // Where reading is one call of `value`, whatever the bytes.
     ensures value { IfSome T.reading.whole (λ tree. ReadsWhole any (R.remaining reader.old) 256
         (R.remaining reader.new) (read_as (λ v. tree (T.reading.content v)) result)) }
@@ -150,6 +156,8 @@ pub fn from_reader_with_recursion_limit<T: Deserialize, R: Read>(
     ensures refused { RefusesTaken (Some limit) T.reading.taken (R.remaining reader.old)
         (read_as T.reading.content result) }
     ensures memory { IfErr result (λ e. IsGranted (cause_of e) T.reading.takes_memory) }
+    // Refused or not, a beginning of what was there was taken, and nothing else.
+    ensures taken { TakesBeginning (R.remaining reader.old) (R.remaining reader.new) }
     // Where reading is one call of `value`, whatever the bytes.
     ensures value { IfSome T.reading.whole (λ tree. ReadsWhole any (R.remaining reader.old) limit
         (R.remaining reader.new) (read_as (λ v. tree (T.reading.content v)) result)) }
@@ -178,6 +186,8 @@ pub fn from_reader_at<T: Deserialize, R: Read>(
     ensures refused { RefusesTaken (Some limit) T.reading.taken (R.remaining reader.old)
         (read_as T.reading.content result) }
     ensures memory { IfErr result (λ e. IsGranted (cause_of e) T.reading.takes_memory) }
+    // Refused or not, a beginning of what was there was taken, and nothing else.
+    ensures taken { TakesBeginning (R.remaining reader.old) (R.remaining reader.new) }
     // Where reading is one call of `value`, whatever the bytes.
     ensures value { IfSome T.reading.whole (λ tree. TakesBytesFrom any offset
         (R.remaining reader.old) limit (R.remaining reader.new)
@@ -200,6 +210,7 @@ fn read_item<T: Deserialize, R: Read>(
     source: &mut ByteSource<'_, R>,
     first: Option<Header>,
 ) -> Result<Option<T>, Error<io::Error>>
+    ensures only { TakesOnly (HasTakenSince R.remaining) source.old source.new }
     ensures end { IfNone first
         ((result ≡ Ok None) × (source.new.decoder ≡ source.old.decoder)) }
     ensures item { IfSome first (λ header. GoesOn result
@@ -236,6 +247,8 @@ pub fn from_reader_next<T: Deserialize, R: Read>(
     ensures refused { Otherwise result (λ r. RefusesTaken (Some 256) T.reading.taken
         (R.remaining reader.old) (read_as T.reading.content r)) }
     ensures memory { IfErr result (λ e. IsGranted (cause_of e) T.reading.takes_memory) }
+    // Refused or not, a beginning of what was there was taken, and nothing else.
+    ensures taken { TakesBeginning (R.remaining reader.old) (R.remaining reader.new) }
     // Where reading is one call of `value`, whatever the bytes.
     ensures value { Otherwise result (λ r. IfSome T.reading.whole (λ tree.
         ReadsWhole any (R.remaining reader.old) 256 (R.remaining reader.new)

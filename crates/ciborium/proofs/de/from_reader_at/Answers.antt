@@ -4,6 +4,7 @@ use Rattle.std.specs.declared.io.Error.{Error}
 use Rattle.ciborium_ll.proofs.HeldBytes.{begun-left, nothing-allowed}
 use Rattle.ciborium_value.specs.Sources.{read_as}
 use Rattle.ciborium.proofs.HandedReaders.{handed-denied, handed-from, handed-given, some-map}
+use Rattle.ciborium.proofs.TakenOnly.{taken-beginning, taken-none}
 use Rattle.ciborium.proofs.de.from_reader_at.Goals as goal
 
 pub returns-clause-ok : goal.returns-clause-ok
@@ -21,3 +22,8 @@ returns-clause-value g c =
     some-map g.T.Deserialize.reading.whole c.read_from.ensures.whole
     (λ tree reads. handed-from Error g.R.Read.remaining (record { decoder = c.at.result; pending = None; levels = c.args.limit; scratch = c.read_from.new.source.scratch; failure = None; unpushed = c.at.ensures.begins.pushed }) c.read_from.new.source c.args.reader.now _ c.args.offset
     (read_as (λ v. tree (g.T.Deserialize.reading.content v)) c.read_from.result) c.at.ensures.begins refl (λ same. let name = sym c.at.ensures.same_reader ∙ same in search rules) reads)
+
+pub returns-clause-taken : goal.returns-clause-taken
+returns-clause-taken g c =
+    taken-beginning g.R.Read.remaining c.at.result c.read_from.new.source.decoder c.args.reader.now _ c.args.offset c.at.ensures.begins (λ same. let name = sym c.at.ensures.same_reader ∙ same in search rules)
+    (c.read_from.ensures.only (record { decoder = c.at.result; pending = None; levels = c.args.limit; scratch = c.read_from.new.source.scratch; failure = None; unpushed = c.at.ensures.begins.pushed }) (taken-none g.R.Read.remaining c.at.result))

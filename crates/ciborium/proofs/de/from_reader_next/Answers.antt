@@ -7,6 +7,7 @@ use Rattle.ciborium.specs.Errors.{from_ll}
 use Rattle.ciborium.specs.Spelling.{any}
 use Rattle.ciborium.proofs.KnownReaders.{whole-of}
 use Rattle.ciborium.proofs.NextReaders.{first-denied, first-io, first-taken, next-ok, next-refused, next-value, some-all, tells-end}
+use Rattle.ciborium.proofs.TakenOnly.{taken-beginning, taken-none, taken-then, takes-only}
 use Rattle.ciborium.proofs.de.from_reader_next.Goals as goal
 
 pub returns-in_err-first-clause-end : goal.returns-in_err-first-clause-end
@@ -44,3 +45,17 @@ pub returns-clause-value : goal.returns-clause-value
 returns-clause-value g c =
     next-value Error g.R.Read.remaining g.T.Deserialize.reading c.new.result (record { decoder = c.pull_first.new.self; pending = None; levels = 256; scratch = c.read_item.new.source.scratch; failure = None; unpushed = c.pull_first.ensures.none_pushed }) c.read_item.new.source c.args.reader.now _ c.new.ensures.begins c.pull_first.ensures.same_reader
     (λ same. let name = sym c.new.ensures.same_reader ∙ (sym (same-name c.new.result c.pull_first.new.self c.pull_first.ensures.same_reader) ∙ same) in search rules) c.in_ok-first.first c.read_item.result c.in_ok-first.ensures.taken c.read_item.ensures.end c.read_item.ensures.item
+
+pub returns-in_err-first-clause-taken : goal.returns-in_err-first-clause-taken
+returns-in_err-first-clause-taken g c =
+    let same = same-name c.new.result c.pull_first.new.self c.pull_first.ensures.same_reader in
+    taken-beginning g.R.Read.remaining c.new.result c.pull_first.new.self c.args.reader.now _ 0 c.new.ensures.begins (λ e. let name = sym c.new.ensures.same_reader ∙ e in search rules)
+    (takes-only g.R.Read.remaining c.new.result c.pull_first.new.self _ same c.in_err-first.ensures.taken c.new.result (taken-none g.R.Read.remaining c.new.result))
+
+pub returns-clause-taken : goal.returns-clause-taken
+returns-clause-taken g c =
+    let same = same-name c.new.result c.pull_first.new.self c.pull_first.ensures.same_reader in
+    let first = takes-only g.R.Read.remaining c.new.result c.pull_first.new.self _ same c.in_ok-first.ensures.taken c.new.result (taken-none g.R.Read.remaining c.new.result) in
+    taken-beginning g.R.Read.remaining c.new.result c.read_item.new.source.decoder c.args.reader.now _ 0 c.new.ensures.begins (λ e. let name = sym c.new.ensures.same_reader ∙ e in search rules)
+    (taken-then g.R.Read.remaining c.new.result c.pull_first.new.self c.read_item.new.source.decoder first
+    (c.read_item.ensures.only (record { decoder = c.pull_first.new.self; pending = None; levels = 256; scratch = c.read_item.new.source.scratch; failure = None; unpushed = c.pull_first.ensures.none_pushed }) (taken-none g.R.Read.remaining c.pull_first.new.self)))

@@ -6,6 +6,7 @@ use Rattle.ciborium_value.specs.Sources.{read_as}
 use Rattle.ciborium.proofs.HandedReaders.{handed-denied, handed-given, handed-whole, some-map}
 use Rattle.ciborium.specs.Spelling.{any}
 use Rattle.ciborium.proofs.KnownReaders.{whole-of}
+use Rattle.ciborium.proofs.TakenOnly.{taken-beginning, taken-none}
 use Rattle.ciborium.proofs.de.read.Goals as goal
 
 pub returns-clause-ok : goal.returns-clause-ok
@@ -24,3 +25,8 @@ returns-clause-value g c =
     (λ tree reads. whole-of {E = Error} any c.args.limit (g.R.Read.remaining c.args.reader.now) _ (read_as (λ v. tree (g.T.Deserialize.reading.content v)) c.read_from.result)
     (handed-whole Error g.R.Read.remaining (record { decoder = c.new.result; pending = None; levels = c.args.limit; scratch = c.args.scratch; failure = None; unpushed = c.new.ensures.begins.pushed }) c.read_from.new.source c.args.reader.now _
     (read_as (λ v. tree (g.T.Deserialize.reading.content v)) c.read_from.result) c.new.ensures.begins refl (λ same. let name = sym c.new.ensures.same_reader ∙ same in search rules) reads))
+
+pub returns-clause-taken : goal.returns-clause-taken
+returns-clause-taken g c =
+    taken-beginning g.R.Read.remaining c.new.result c.read_from.new.source.decoder c.args.reader.now _ 0 c.new.ensures.begins (λ same. let name = sym c.new.ensures.same_reader ∙ same in search rules)
+    (c.read_from.ensures.only (record { decoder = c.new.result; pending = None; levels = c.args.limit; scratch = c.args.scratch; failure = None; unpushed = c.new.ensures.begins.pushed }) (taken-none g.R.Read.remaining c.new.result))

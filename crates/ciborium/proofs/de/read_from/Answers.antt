@@ -1,7 +1,7 @@
 -- The reader's error is put back behind a value that was refused.
-use Rattle.std.proofs.Common.{Err, ap, ◌∙◌, subst}
+use Rattle.std.proofs.Common.{Err, sym, ap, ◌∙◌, subst}
 use Rattle.ciborium_value.specs.Sources.{IsGranted, Refuses}
-use Rattle.ciborium.specs.ByteSources.{ReadsValue, StandsBefore, cause_of}
+use Rattle.ciborium.specs.ByteSources.{HasTaken, ReadsValue, StandsBefore, cause_of}
 use Rattle.ciborium.proofs.HandedReaders.{some-map}
 use Rattle.ciborium.proofs.PutAside.{back-reads, same-cause, same-decoder}
 use Rattle.ciborium.proofs.de.read_from.Goals as goal
@@ -10,6 +10,7 @@ pub returns-in-Err : goal.returns-in-Err
 returns-in-Err g c = record {
   ok = tt;
   took = tt;
+  only = λ first h. subst (HasTaken g.R.Read.remaining first.decoder) (sym c.put_back.ensures.decoder) (c.in-Err.ensures.only first h);
   refused = subst (λ f. Refuses (StandsBefore g.R.Read.remaining) c.args.source.now g.T.Deserialize.reading.taken f) (ap cause_of c.put_back.ensures.refusal ∙ same-cause c.put_back.result) c.in-Err.ensures.refused;
   memory = subst (λ f. IsGranted f g.T.Deserialize.reading.takes_memory) (ap cause_of c.put_back.ensures.refusal ∙ same-cause c.put_back.result) c.in-Err.ensures.memory;
   whole = some-map g.T.Deserialize.reading.whole c.in-Err.ensures.whole

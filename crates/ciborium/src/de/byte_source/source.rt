@@ -1,7 +1,8 @@
 //! The calls of a source.
 
-ghost use Rattle.ciborium.specs.ByteSources.{IsUnread, LevelStands, Owes, ReadsValue, SeqStands};
-ghost use Rattle.ciborium.specs.ByteSources.{StandsBefore, cause_of, seq_left, weight_left};
+ghost use Rattle.ciborium.specs.ByteSources.{HasTakenSince, IsUnread, LevelStands, Owes};
+ghost use Rattle.ciborium.specs.ByteSources.{ReadsValue, SeqStands, StandsBefore, cause_of};
+ghost use Rattle.ciborium.specs.ByteSources.{seq_left, weight_left};
 
 use crate::de::byte_source::scalars::is_null;
 use crate::de::byte_source::{ByteLevel, ByteSeq, ByteSource};
@@ -31,6 +32,8 @@ impl<'a, R: Read> Source for ByteSource<'a, R> {
     ghost level_left = { λ level. 0 };
 
     ghost is_unread = { IsUnread R.remaining };
+
+    ghost has_taken = { HasTakenSince R.remaining };
 
     ghost owes = { Owes };
 

@@ -1,4 +1,5 @@
 -- What was read with its tag is looked at once more.
+use Rattle.std.proofs.Common.{arith}
 use Rattle.std.proofs.lemmas.Result.{err_from_is_err_and}
 use Rattle.ciborium.proofs.TagsJudged.{kind-granted, no-tag, other-tag, then-given, then-kind, then-refused, this-tag}
 use Rattle.ciborium.proofs.tag.RequiredDeserialize.deserialize.Goals as goal
@@ -21,7 +22,9 @@ returns-then-found g c = record {
   memory = tt;
   whole = tt;
   took = c.in_ok-tag.ensures.took;
+  only = c.in_ok-tag.ensures.only;
   less = c.in_ok-tag.ensures.less;
+  no_more = tt;
 }
 
 pub returns-else-found : goal.returns-else-found
@@ -31,7 +34,9 @@ returns-else-found g c = record {
   memory = kind-granted _ _ _ c.refuse.ensures;
   whole = tt;
   took = tt;
+  only = c.in_ok-tag.ensures.only;
   less = tt;
+  no_more = omega (arith, c.in_ok-tag.ensures.less);
 }
 
 pub returns-in-None : goal.returns-in-None
@@ -41,5 +46,7 @@ returns-in-None g c = record {
   memory = kind-granted _ _ _ c.refuse-in-None.ensures;
   whole = tt;
   took = tt;
+  only = c.in_ok-tag.ensures.only;
   less = tt;
+  no_more = omega (arith, c.in_ok-tag.ensures.less);
 }

@@ -68,5 +68,7 @@ returns-in_default-header g c =
       refused = tt;
       memory = tt;
       took = takes-nothing g.R.Read.remaining c.args.self.now mid (record mid { pending = Some (h, c.in_ok-header.offset) }) h head.head aside;
+      only = λ first. head.only first.decoder;
       less = omega (arith, head.fewer);
+      no_more = tt;
     }
