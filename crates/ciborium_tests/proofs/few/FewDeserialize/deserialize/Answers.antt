@@ -45,6 +45,7 @@ loop-numbers-preserved g c =
       most = omega (arith, longer, c.if-len-ge-MOST.false, c.len.ensures);
       inside = subst (λ ws. Follows (IsBefore g.S.Source.stands_before c.args.source.now (taken_few 5 taken_byte)) (IsInside g.S.Source.stands_before g.S.Source.seq_stands c.deserialize.new.source c.next.new.seq (few_from taken_byte (5 - length c.push.new.self.items) ws))) (sym c.in-Ok.ensures.items) counted;
       owed = owed_more g.S.Source.is_unread g.S.Source.owes _ _ _ _ _ _ c.loop-numbers.invariant.owed (rw c.if-branch.true at c.in_ok-next.ensures.took) c.in_ok-number.ensures.took;
+      only = λ first h. c.deserialize.ensures.only first (c.next.ensures.only first (c.loop-numbers.invariant.only first h));
       less = omega (arith, c.in_ok-next.ensures.less, c.in_ok-number.ensures.less, c.loop-numbers.invariant.less);
     }
 
