@@ -7,7 +7,7 @@ use Rattle.ciborium_ll.specs.Item as items
 use Rattle.ciborium_ll.specs.Item.{Item, unsigned, negative, bytes, text, array, tag, simple, float}
 use Rattle.ciborium_value.specs.Meaning.{is_bignum_tag}
 use Rattle.ciborium_value.specs.Nesting.{Limit}
-use Rattle.ciborium_value.specs.Sources.{Fault, IsFaultOf, of_kind, of_nesting, of_syntax, of_memory, of_device}
+use Rattle.ciborium_value.specs.Sources.{Fault, IsFaultOf, of_kind, of_nesting, of_syntax, of_memory, of_device, of_length}
 use Rattle.ciborium_value.specs.Taken.{gives, refuses, untagged, number_of, bignum_of, bare_boolean, bare_unit, boolean_of, is_null_simple, taken_bignum, taken_boolean, taken_integer, taken_unit}
 use Rattle.ciborium_value.specs.declared.kind.Kind.TheVariants as kinds
 use Rattle.ciborium.specs.ItemReads.{Reads, Denies}
@@ -23,12 +23,13 @@ integer-gives l i v e ts all = number-under ts i all ∙ e
 signed : (t n : ℕ) (i : Item) → is_bignum_tag t ≡ true → bignum_of i ≡ gives n → number_of (tag t i) ≡ gives (t == 3, n)
 signed t n i e f = rw (e, f) refl
 
-signed-fault : (t : ℕ) (i : Item) (fault : Fault) → is_bignum_tag t ≡ true → IsFaultOf fault (bignum_of i) → IsFaultOf fault (number_of (tag t i))
-signed-fault t i (of_kind k) e b = rw (e, b) refl
-signed-fault t i of_nesting e b = rw (e, b) refl
-signed-fault t i of_syntax e b = absurd b
-signed-fault t i of_memory e b = tt
-signed-fault t i of_device e b = tt
+signed-fault : (end t : ℕ) (i : Item) (fault : Fault) → is_bignum_tag t ≡ true → IsFaultOf end fault (bignum_of i) → IsFaultOf end fault (number_of (tag t i))
+signed-fault end t i (of_kind k) e b = rw (e, b) refl
+signed-fault end t i of_nesting e b = rw (e, b) refl
+signed-fault end t i of_syntax e b = absurd b
+signed-fault end t i of_memory e b = tt
+signed-fault end t i of_device e b = tt
+signed-fault end t i of_length e b = b
 
 module _ {S : Type 0} (IsUnread : S → List ℕ → Type 0) (t : ℕ) (l : Limit) (is : is_bignum_tag t ≡ true) where
   pub bignum-behind : (mid new : S) (n : ℕ) → Reads IsUnread mid new None taken_bignum n → (y : List ℕ) → IsUnread mid y → ReadsBehind IsUnread new true (header.Tag t) l taken_integer (t == 3, n) y
@@ -37,13 +38,13 @@ module _ {S : Type 0} (IsUnread : S → List ℕ → Type 0) (t : ℕ) (l : Limi
       (tag t i, s, z, λ x hd. (x, s, hd, sp, refl), e, integer-gives l (tag t i) (t == 3, n) (signed t n i is give), un')
 
   -- a bignum that is refused behind its tag
-  pub bignum-denied : (old mid : S) (fault : Fault) → TakesBare IsUnread old mid true (header.Tag t) → Denies IsUnread mid None taken_bignum fault → Denies IsUnread old l taken_integer fault
-  bignum-denied old mid fault bare d b s z j u sp e =
+  pub bignum-denied : (End : S → ℕ) (old mid : S) (fault : Fault) → ((b : List ℕ) → IsUnread old b → End mid ≡ End old) → TakesBare IsUnread old mid true (header.Tag t) → Denies IsUnread End mid None taken_bignum fault → Denies IsUnread End old l taken_integer fault
+  bignum-denied End old mid fault same bare d b s z j u sp e =
       let (ts, w, x, y, tagged, all, hd, f, un) = bare b u in
       let (i, r, io, sq, g) = tagged.inward j s z sp e in
       let (k, c, ik, sr, q) = tag-front r z x y i t sq hd (sym g ∙ f) in
-      let blamed : IsFaultOf fault (number_of (tag t k)) = signed-fault t k fault is (d y c z k un sr q) in
-      subst (λ o. IsFaultOf fault o) (sym (ap number_of (io ∙ ap (under ts) ik) ∙ number-under ts (tag t k) all)) blamed
+      let blamed : IsFaultOf (End old) fault (number_of (tag t k)) = subst (λ n. IsFaultOf n fault (number_of (tag t k))) (same b u) (signed-fault _ t k fault is (d y c z k un sr q)) in
+      subst (λ o. IsFaultOf (End old) fault o) (sym (ap number_of (io ∙ ap (under ts) ik) ∙ number-under ts (tag t k) all)) blamed
 
 other-integer : (i : Item) (h : Header) → header_of i ≡ h → ((n : ℕ) → h ≡ header.Positive n → ⊥) → ((n : ℕ) → h ≡ header.Negative n → ⊥) → ((n : ℕ) → h ≡ header.Tag n → ⊥) → number_of i ≡ refuses kinds.Integer
 other-integer (unsigned n) h e p q r = absurd (p n (sym e))

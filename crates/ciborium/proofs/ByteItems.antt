@@ -6,18 +6,17 @@ use Rattle.ciborium_ll.specs.Item as items
 use Rattle.ciborium_ll.specs.Item.{Item, unsigned, negative, bytes, text, array, tag, simple, float}
 use Rattle.ciborium_ll.specs.StringRefusal.{of_bytes as string_of_bytes}
 use Rattle.ciborium_ll.proofs.UniqueSpelling.{one_at_front}
-use Rattle.ciborium_ll.specs.Decoding.{HasSameReader, allowed_of}
-use Rattle.ciborium_ll.proofs.HeldBytes.{same-name}
+use Rattle.ciborium_ll.specs.Decoding.{allowed_of}
 use Rattle.ciborium.proofs.Due.{due-past, held-past}
-use Rattle.ciborium_value.specs.Ahead.{Rest, Form, after, parts, past, inside}
+use Rattle.ciborium_value.specs.Ahead.{Rest, Form, after, parts, past, inside, end_of}
 use Rattle.ciborium_value.specs.Nesting.{Limit}
 use Rattle.ciborium_value.specs.Places.{sequence}
-use Rattle.ciborium_value.specs.Sources.{Fault, IsFaultOf, of_kind, of_nesting, of_syntax, of_memory, of_device, Takes, Refuses, TakesItem, TakesTo, GoesOn, Leaves, RefusesNext, OwesLess, OwesNothing, HasItem}
+use Rattle.ciborium_value.specs.Sources.{Fault, IsFaultOf, of_kind, of_nesting, of_syntax, of_memory, of_device, of_length, Takes, Refuses, TakesItem, TakesTo, GoesOn, Leaves, RefusesNext, OwesLess, OwesNothing, HasItem}
 use Rattle.ciborium_value.specs.Taken.{Outcome, Taken, gives, refuses, nests, deeper, then_take, and_take, take_each, number_below, taken_integer, taken_byte, taken_bytes, bare_bytes, untagged}
 use Rattle.ciborium_value.specs.declared.kind.Kind.TheVariants as kinds
 use Rattle.ciborium.specs.declared.de.byte_source.ByteSource.{ByteSource}
 use Rattle.ciborium.specs.declared.de.byte_source.ByteSeq.{ByteSeq}
-use Rattle.ciborium.specs.ByteSources.{IsUnread, StandsBefore, SeqStands, Owes, OpensItems, ReadsRest, RefusesRest, due_after, pending_count, weight_left}
+use Rattle.ciborium.specs.ByteSources.{IsUnread, StandsBefore, SeqStands, Owes, OpensItems, ReadsRest, RefusesRest, due_after, pending_count, weight_left, end_at, reader_of}
 use Rattle.ciborium.specs.ItemReads.{Reads, Denies}
 use Rattle.ciborium.specs.Skips.{under, AreSkipped, IsBare, TakesBare}
 use Rattle.ciborium.specs.StringContents.{string_item, TakesContent}
@@ -27,21 +26,23 @@ use Rattle.ciborium.proofs.ItemHeads.{header_of}
 use Rattle.ciborium.proofs.NextParts.{fits-past, none-past}
 use Rattle.ciborium.proofs.SkippedTags.{fault-outside, reads-bare, untagged-under}
 use Rattle.ciborium.proofs.StringPayloads.{string-behind}
+use Rattle.ciborium.proofs.TakenOnly.{IsKept, kept-reader, rest-end}
 
 -- ---- from the front of unread bytes to where a source stands
 
 module _ {S : Type 0} (remaining : S → Option (List ℕ)) where
-  pub takes-read : {A : Type 0} (old new : ByteSource S) (taken : Taken A) (v : A) → HasSameReader old.decoder new.decoder → new.levels ≡ old.levels → new.pending ≡ None → weight_left new < weight_left old →
+  pub takes-read : {A : Type 0} (old new : ByteSource S) (taken : Taken A) (v : A) → IsKept remaining old new → new.levels ≡ old.levels → new.pending ≡ None → weight_left new < weight_left old →
       Reads (IsUnread remaining) old new (Some old.levels) taken v → Takes (StandsBefore remaining) old new taken v
   takes-read old new taken v kept levels none fewer h l i f (b, u, (s, r, sp, rest, e), is, ahead, few) =
       let (j, t, z, sq, e', give, un) = h b u in
       let same = one_at_front s t r z i j sp sq (sym e ∙ e') in (
         ap (λ k. taken k i) is ∙ ap (taken (Some old.levels)) same.2 ∙ give,
-        (z, un, subst (λ n. Fits n z (past f)) (sym (same-name old.decoder new.decoder kept)) (fits-past old.decoder.reader.ghost_name z f (subst (λ y. IsRest old.decoder.reader.ghost_name y f) same.1 rest)), is ∙ ap Some (sym levels), none-past new.pending none f, subst (λ n. allowed_of new.decoder + pending_count new.pending ≤ n) (sym (due-past f)) (held-past old new kept (due_after f) none fewer few)),
+        (z, un, subst (λ n. Fits n z (past f)) (sym (kept-reader remaining old new kept b u)) (fits-past (reader_of remaining old.decoder) z f (subst (λ y. IsRest (reader_of remaining old.decoder) y f) same.1 rest)), is ∙ ap Some (sym levels), none-past new.pending none f, subst (λ n. allowed_of new.decoder + pending_count new.pending ≤ n) (sym (due-past f)) (held-past old new kept.0 (due_after f) none fewer few)),
       )
 
-  pub refuses-denied : {A : Type 0} (old : ByteSource S) (taken : Taken A) (fault : Fault) → Denies (IsUnread remaining) old (Some old.levels) taken fault → Refuses (StandsBefore remaining) old taken fault
-  refuses-denied old taken fault h l i f (b, u, (s, r, sp, rest, e), is, ahead, few) = subst (λ k. IsFaultOf fault (taken k i)) (sym is) (h b s r i u sp e)
+  pub refuses-denied : {A : Type 0} (old : ByteSource S) (taken : Taken A) (fault : Fault) → Denies (IsUnread remaining) (end_at remaining) old (Some old.levels) taken fault → Refuses (StandsBefore remaining) old taken fault
+  refuses-denied old taken fault h l i f (b, u, (s, r, sp, rest, e), is, ahead, few) =
+      subst (λ n. IsFaultOf n fault (taken l i)) (sym (rest-end (reader_of remaining old.decoder) r f rest)) (subst (λ k. IsFaultOf (end_at remaining old) fault (taken k i)) (sym is) (h b s r i u sp e))
 
   pub took-read : {A : Type 0} (old new : ByteSource S) (l : Limit) (taken : Taken A) (v : A) → Reads (IsUnread remaining) old new l taken v → TakesItem (IsUnread remaining) old new
   took-read old new l taken v h b u = let (j, t, z, sq, e, give, un) = h b u in (z, un, (j, t, sq, e))
@@ -51,12 +52,13 @@ module _ {S : Type 0} (remaining : S → Option (List ℕ)) where
 byte-given : (l : Limit) (i : Item) (n : Bool × ℕ) (v : ℕ) → taken_integer l i ≡ gives n → number_below 256 n ≡ gives v → taken_byte l i ≡ gives v
 byte-given l i n v e f = ap (λ o. then_take o (number_below 256)) e ∙ f
 
-byte-fault : (fault : Fault) (o : Outcome (Bool × ℕ)) → IsFaultOf fault o → IsFaultOf fault (then_take o (number_below 256))
-byte-fault (of_kind k) o e = ap (λ p. then_take p (number_below 256)) e
-byte-fault of_nesting o e = ap (λ p. then_take p (number_below 256)) e
-byte-fault of_syntax o e = absurd e
-byte-fault of_memory o e = tt
-byte-fault of_device o e = tt
+byte-fault : (end : ℕ) (fault : Fault) (o : Outcome (Bool × ℕ)) → IsFaultOf end fault o → IsFaultOf end fault (then_take o (number_below 256))
+byte-fault end (of_kind k) o e = ap (λ p. then_take p (number_below 256)) e
+byte-fault end of_nesting o e = ap (λ p. then_take p (number_below 256)) e
+byte-fault end of_syntax o e = absurd e
+byte-fault end of_memory o e = tt
+byte-fault end of_device o e = tt
+byte-fault end of_length o e = e
 
 -- ---- items in turn
 
@@ -74,18 +76,19 @@ each-more f (j ∷ done) i vs v h k =
     let e = each-more f done i w.1 v w.3 k in
     ap (λ r. and_take (f j) r) e ∙ ap (λ r. and_take r (gives (w.1 ++ v ∷ []))) w.2 ∙ ap (λ d. gives (d ++ v ∷ [])) (sym w.4)
 
-each-fault : {X A : Type 0} (fault : Fault) (f : X → Outcome A) (done : List X) (i : X) (rest : List X) (vs : List A) → take_each f done ≡ gives vs → IsFaultOf fault (f i) → IsFaultOf fault (take_each f (done ++ i ∷ rest))
-each-fault (of_kind k) f [] i rest vs h b = ap (λ o. and_take o (take_each f rest)) b
-each-fault (of_kind k) f (j ∷ done) i rest vs h b =
+each-fault : {X A : Type 0} (end : ℕ) (fault : Fault) (f : X → Outcome A) (done : List X) (i : X) (rest : List X) (vs : List A) → take_each f done ≡ gives vs → IsFaultOf end fault (f i) → IsFaultOf end fault (take_each f (done ++ i ∷ rest))
+each-fault end (of_kind k) f [] i rest vs h b = ap (λ o. and_take o (take_each f rest)) b
+each-fault end (of_kind k) f (j ∷ done) i rest vs h b =
     let w = and_take-gives (f j) (take_each f done) vs h in
-    ap (λ o. and_take o (take_each f (done ++ i ∷ rest))) w.2 ∙ ap (λ o. and_take (gives w.0) o) (each-fault (of_kind k) f done i rest w.1 w.3 b)
-each-fault of_nesting f [] i rest vs h b = ap (λ o. and_take o (take_each f rest)) b
-each-fault of_nesting f (j ∷ done) i rest vs h b =
+    ap (λ o. and_take o (take_each f (done ++ i ∷ rest))) w.2 ∙ ap (λ o. and_take (gives w.0) o) (each-fault end (of_kind k) f done i rest w.1 w.3 b)
+each-fault end of_nesting f [] i rest vs h b = ap (λ o. and_take o (take_each f rest)) b
+each-fault end of_nesting f (j ∷ done) i rest vs h b =
     let w = and_take-gives (f j) (take_each f done) vs h in
-    ap (λ o. and_take o (take_each f (done ++ i ∷ rest))) w.2 ∙ ap (λ o. and_take (gives w.0) o) (each-fault of_nesting f done i rest w.1 w.3 b)
-each-fault of_syntax f done i rest vs h b = absurd b
-each-fault of_memory f done i rest vs h b = tt
-each-fault of_device f done i rest vs h b = tt
+    ap (λ o. and_take o (take_each f (done ++ i ∷ rest))) w.2 ∙ ap (λ o. and_take (gives w.0) o) (each-fault end of_nesting f done i rest w.1 w.3 b)
+each-fault end of_syntax f done i rest vs h b = absurd b
+each-fault end of_memory f done i rest vs h b = tt
+each-fault end of_device f done i rest vs h b = tt
+each-fault end of_length f done i rest vs h b = b
 
 -- some items of what was left were read
 pub record IsPartlyRead {S A : Type 0} (remaining : S → Option (List ℕ)) (taken : Taken A) (new : ByteSource S) (q : ByteSeq) (vs : List A) (l : Limit) (form : Form) (is : List Item) (r : Rest) : Type 0 where
@@ -131,7 +134,7 @@ module _ {S A : Type 0} (remaining : S → Option (List ℕ)) (taken : Taken A) 
   pub partly-next-fault : (mid : ByteSource S) (q : ByteSeq) (vs : List A) (fault : Fault) → ReadsPartly remaining taken old start mid q vs → RefusesNext (StandsBefore remaining) SeqStands mid q fault → RefusesRest remaining old start (λ l is. take_each (taken l) is) fault
   partly-next-fault mid q vs fault w h l form is r st hold =
       let n = w l form is r st hold in
-      fault-outside fault (take_each (taken (inside form l)) is) (h.0 l form n.rest r n.stands n.holds)
+      fault-outside _ fault (take_each (taken (inside form l)) is) (h.0 l form n.rest r n.stands n.holds)
 
   pub partly-fault : (mid ahead : ByteSource S) (q q' : ByteSeq) (vs : List A) (fault : Fault) → ReadsPartly remaining taken old start mid q vs → GoesOn (StandsBefore remaining) SeqStands mid ahead q q' → Refuses (StandsBefore remaining) ahead taken fault →
       RefusesRest remaining old start (λ l is. take_each (taken l) is) fault
@@ -139,7 +142,7 @@ module _ {S A : Type 0} (remaining : S → Option (List ℕ)) (taken : Taken A) 
       let n = w l form is r st hold in
       let e = g.0 l form n.rest r n.stands n.holds in
       let b = h (inside form l) e.0 (parts form e.1 r) e.3 in
-      subst (λ o. IsFaultOf fault (take_each (taken (inside form l)) o)) (sym (n.split ∙ ap (λ x. n.done ++ x) e.2)) (each-fault fault (taken (inside form l)) n.done e.0 e.1 vs n.read b)
+      subst (λ o. IsFaultOf (end_of r) fault (take_each (taken (inside form l)) o)) (sym (n.split ∙ ap (λ x. n.done ++ x) e.2)) (each-fault (end_of r) fault (taken (inside form l)) n.done e.0 e.1 vs n.read b)
 
   pub owes-none : OwesPartly remaining old start old start
   owes-none b u = (b, u, λ a owed. owed)
@@ -163,18 +166,18 @@ module _ {S : Type 0} (remaining : S → Option (List ℕ)) (ahead : ByteSource 
   byte-takes new n v e t l i f st = let k = t l i f st in (byte-given l i n v k.0 e, k.1)
 
   pub byte-refuses : (fault : Fault) → Refuses (StandsBefore remaining) ahead taken_integer fault → Refuses (StandsBefore remaining) ahead taken_byte fault
-  byte-refuses fault h l i f st = byte-fault fault (taken_integer l i) (h l i f st)
+  byte-refuses fault h l i f st = byte-fault (end_of f) fault (taken_integer l i) (h l i f st)
 
   -- a number that is no byte
-  pub range-refuses : (new : ByteSource S) (n : Bool × ℕ) (fault : Fault) → IsFaultOf fault (number_below 256 n) → Takes (StandsBefore remaining) ahead new taken_integer n → Refuses (StandsBefore remaining) ahead taken_byte fault
-  range-refuses new n fault b t l i f st = let k = t l i f st in subst (λ o. IsFaultOf fault (then_take o (number_below 256))) (sym k.0) b
+  pub range-refuses : (new : ByteSource S) (n : Bool × ℕ) (fault : Fault) → ((end : ℕ) → IsFaultOf end fault (number_below 256 n)) → Takes (StandsBefore remaining) ahead new taken_integer n → Refuses (StandsBefore remaining) ahead taken_byte fault
+  range-refuses new n fault b t l i f st = let k = t l i f st in subst (λ o. IsFaultOf (end_of f) fault (then_take o (number_below 256))) (sym k.0) (b (end_of f))
 
 -- ---- the array
 
 pub bytes-given : (m : ℕ) → m ≢ 0 → (ts : List ℕ) (i : Item) (xs : List Item) → HasItems i xs → taken_bytes (Some m) (under ts i) ≡ take_each (taken_byte (deeper (Some m))) xs
 bytes-given m some ts i xs (o, js, is, all) = ap (bare_bytes (Some m)) (untagged-under ts i ∙ ap untagged is) ∙ within-is m _ some ∙ ap (take_each (taken_byte (deeper (Some m)))) all
 
-module _ {S : Type 0} (remaining : S → Option (List ℕ)) (old mid : ByteSource S) (q : ByteSeq) (name : HasSameReader old.decoder mid.decoder) (levels : q.levels ≡ old.levels) (none : mid.pending ≡ None) (fewer : weight_left mid < weight_left old)
+module _ {S : Type 0} (remaining : S → Option (List ℕ)) (old mid : ByteSource S) (q : ByteSeq) (name : IsKept remaining old mid) (levels : q.levels ≡ old.levels) (none : mid.pending ≡ None) (fewer : weight_left mid < weight_left old)
     (opens : OpensItems remaining old mid taken_bytes (λ l is. take_each (taken_byte l) is) q) where
   pub array-takes : (new : ByteSource S) (v : List ℕ) → ReadsRest remaining mid new q (λ l is. take_each (taken_byte l) is) v → Takes (StandsBefore remaining) old new taken_bytes v
   array-takes new v reads l i f st =
@@ -185,7 +188,7 @@ module _ {S : Type 0} (remaining : S → Option (List ℕ)) (old mid : ByteSourc
   pub array-refuses : (fault : Fault) → RefusesRest remaining mid q (λ l is. take_each (taken_byte l) is) fault → Refuses (StandsBefore remaining) old taken_bytes fault
   array-refuses fault denied l i f st =
       let (form, is, give, stands, holds) = items-stand remaining old mid q name levels none fewer taken_bytes (λ k its. take_each (taken_byte k) its) opens l i f st in
-      subst (λ o. IsFaultOf fault o) (sym give) (denied l form is f stands holds)
+      subst (λ o. IsFaultOf (end_of f) fault o) (sym give) (denied l form is f stands holds)
 
   pub array-took : (new : ByteSource S) → TakesTo (IsUnread remaining) mid new (λ c z. (b : List ℕ) → Owes q sequence b c → HasItem b z) → TakesItem (IsUnread remaining) old new
   array-took new took b u =

@@ -10,8 +10,6 @@ use Rattle.ciborium_ll.specs.Item.{Item, Items, Pairs, unsigned, negative, bytes
 use Rattle.ciborium_ll.specs.Spells.{Spells}
 use Rattle.ciborium_ll.specs.StringRefusal.{of_bytes as bytes_kind}
 use Rattle.ciborium_ll.proofs.UniqueSpelling.{one_at_front}
-use Rattle.ciborium_ll.specs.Decoding.{HasSameReader}
-use Rattle.ciborium_ll.proofs.HeldBytes.{same-name}
 use Rattle.ciborium_value.specs.Sources.{Enters, EntersMap}
 use Rattle.ciborium.proofs.Due.{held-past}
 use Rattle.ciborium_value.specs.Ahead.{Form, parts, after, item, inside, of_bytes, pairs}
@@ -29,6 +27,7 @@ use Rattle.ciborium.specs.StringContents.{TakesContent, is_open}
 use Rattle.ciborium.specs.Unread.{AreSpelled, AreLeft, SpellsPair, IsRest, ending, form_of, HasCount}
 use Rattle.ciborium.proofs.ItemHeads.{header_of, packed, packed-pairs, counted-front, open-front, counted-pairs-front, open-pairs-front}
 use Rattle.ciborium.proofs.SkippedTags.{untagged-under}
+use Rattle.ciborium.proofs.TakenOnly.{IsKept, kept-reader}
 
 -- ---- levels
 
@@ -258,7 +257,7 @@ map-other l h bare p ts i all e = ap (bare_pairs l) (untagged-under ts i) ∙ ot
 
 -- ---- where the source then stands
 
-module _ {S : Type 0} (remaining : S → Option (List ℕ)) (old new : ByteSource S) (q : ByteSeq) (kept : HasSameReader old.decoder new.decoder) (levels : q.levels ≡ old.levels) (none : new.pending ≡ None) (fewer : weight_left new < weight_left old) where
+module _ {S : Type 0} (remaining : S → Option (List ℕ)) (old new : ByteSource S) (q : ByteSeq) (kept : IsKept remaining old new) (levels : q.levels ≡ old.levels) (none : new.pending ≡ None) (fewer : weight_left new < weight_left old) where
   -- the items of what was entered, which f takes, and where the source stands
   pub items-stand : {A : Type 0} (taken : Taken A) (f : Limit → List Item → Outcome A) → OpensItems remaining old new taken f q → (l : Limit) (i : Item) (r : _) → StandsBefore remaining old l (item i r) →
       (form : Form) × (is : List Item) × (taken l i ≡ f (inside form l) is) × StandsBefore remaining new (inside form l) (after (parts form is r)) × SeqStands q l (parts form is r)
@@ -268,7 +267,7 @@ module _ {S : Type 0} (remaining : S → Option (List ℕ)) (old new : ByteSourc
         form,
         its,
         ap (λ k. taken k i) is ∙ give ∙ ap (λ k. f (inside form k) its) (sym is),
-        (w, un, (c, t, stand, subst (λ n. IsRest n t r) (sym (same-name old.decoder new.decoder kept)) rest, split), ap (inside form) is ∙ lv, none, (let less = held-past old new kept (due_after r) none fewer few in omega (arith, less))),
+        (w, un, (c, t, stand, subst (λ n. IsRest n t r) (sym (kept-reader remaining old new kept b u)) rest, split), ap (inside form) is ∙ lv, none, (let less = held-past old new kept.0 (due_after r) none fewer few in omega (arith, less))),
         (is ∙ ap Some (sym levels), hold),
       )
 
@@ -281,12 +280,12 @@ module _ {S : Type 0} (remaining : S → Option (List ℕ)) (old new : ByteSourc
         form,
         its,
         ap (λ k. taken k i) is ∙ give ∙ ap (λ k. f (inside form k) its) (sym is),
-        (w, un, (c, t, stand, subst (λ n. IsRest n t r) (sym (same-name old.decoder new.decoder kept)) rest, split), ap (inside form) is ∙ lv, none, (let less = held-past old new kept (due_after r) none fewer few in omega (arith, less))),
+        (w, un, (c, t, stand, subst (λ n. IsRest n t r) (sym (kept-reader remaining old new kept b u)) rest, split), ap (inside form) is ∙ lv, none, (let less = held-past old new kept.0 (due_after r) none fewer few in omega (arith, less))),
         (is ∙ ap Some (sym levels), hold),
       )
 
 -- what is answered where a sequence was entered, and where a map was
-module _ {S : Type 0} (remaining : S → Option (List ℕ)) (old new : ByteSource S) (kept : HasSameReader old.decoder new.decoder) where
+module _ {S : Type 0} (remaining : S → Option (List ℕ)) (old new : ByteSource S) (kept : IsKept remaining old new) where
   pub enters : (E : Type 0) (r : Result ByteSeq E) → IfOk r (λ q. q.levels ≡ old.levels) → OnOk r (new.pending ≡ None) → IfOk r (λ q. weight_left new + seq_left q < weight_left old) →
       IfOk r (OpensItems remaining old new taken_seq (λ l is. gives (l, is))) → IfOk r (λ q. Enters (StandsBefore remaining) SeqStands old new q)
   enters E (Ok q) levels none fewer opens = items-stand remaining old new q kept levels none (omega (arith, fewer)) taken_seq (λ l is. gives (l, is)) opens

@@ -1,5 +1,5 @@
 -- What stands at the front of unread bytes, where a head is read or refused.
-use Rattle.std.proofs.Common.{◌≡◌, ℕ, suc, ◌+◌, ◌-◌, ◌*◌, add-zero, Ok, ◌/◌, ◌%◌, ◌<◌, ◌≤◌, cond, ltb, Bool, true, false, ◌&&◌, List, [], ◌∷◌, ◌++◌, length, Option, Some, None, refl, sym, ap, ◌∙◌, subst, arith, ne_eqb}
+use Rattle.std.proofs.Common.{◌≡◌, ℕ, suc, ◌+◌, ◌-◌, ◌*◌, add-zero, Ok, ◌/◌, ◌%◌, ◌<◌, ◌≤◌, cond, ltb, Bool, true, false, ◌&&◌, List, [], ◌∷◌, ◌++◌, length, Option, Some, None, refl, sym, ap, ◌∙◌, subst, arith, ne_eqb, ◌⊎◌, inl, inr, length-append, ltb-true, ltb-false}
 use Rattle.std.proofs.lemmas.Nat.{div-mul-add, mod-mul-add}
 use Rattle.ciborium_ll.specs.declared.header.Header.{Header}
 use Rattle.ciborium_ll.specs.declared.header.Header.TheVariants as header
@@ -12,8 +12,9 @@ use Rattle.ciborium_ll.specs.Head.{initial_byte}
 use Rattle.ciborium_ll.specs.Header.{SpellsHeader, announced_length}
 use Rattle.ciborium_ll.specs.Reading as reading
 use Rattle.ciborium_ll.specs.Reading.{IsHeadTaken}
-use Rattle.ciborium_ll.specs.Refusal.{Refusal, io, syntax, too_long, argument_length, is_reserved, is_low_simple, initial_refusal, HeadRefuses, IsUsable, head_refusal}
-use Rattle.ciborium_ll.proofs.HeadAnswers.{header-begins, header-fits, Begins}
+use Rattle.ciborium_ll.specs.Refusal.{Refusal, io, syntax, too_long, argument_length, payload_length, is_reserved, is_low_simple, initial_refusal, HeadRefuses, IsUsable, head_refusal}
+use Rattle.ciborium_ll.proofs.HeadAnswers.{header-begins, header-fits, Begins, Facts}
+use Rattle.ciborium_ll.proofs.MoreBytes.{payload_length-more}
 use Rattle.ciborium_ll.proofs.OneHeader.{one_header_at_front}
 use Rattle.ciborium_ll.proofs.UsableHeads.{and_false}
 use Rattle.ciborium_value.specs.Sources.{IsOutside}
@@ -56,12 +57,51 @@ never-syntax x y h p q s r = by (header-begins x h s)
         (ap (λ k. is_reserved k (i % 32)) (div-mul-add m 32 a f.below) ∙ ap (is_reserved m) (mod-mul-add m 32 a f.below) ∙ f.fair))
         t
 
--- where a head is spelled, pulling is refused for what it does not decide
-pub head-outside : {E : Type 0} (left : Option (List ℕ)) (e : LlError E) (b x y : List ℕ) (p : ℕ) (h : Header) → SpellsHeader x h → b ≡ x ++ y → reading.IsRefusedBy left e (HeadRefuses b p) → IsOutside (cause_of (from_ll e))
-head-outside left (ll.Io e) b x y p h s k r = tt
-head-outside left (ll.Syntax q) b x y p h s k r = absurd (never-syntax x y h p q s (subst (λ (z : List ℕ). HeadRefuses z p (syntax q)) k r))
-head-outside left ll.TooLong b x y p h s k r = tt
-head-outside left ll.Memory b x y p h s k r = tt
+-- ---- a head that is spelled, with its payload, is refused as too long only where what is there is
+
+initial-long : (t u v w : Bool) (p : ℕ) → t ≡ false → cond t (Some (syntax p)) (cond u (Some too_long) (cond v (Some io) (cond w (Some too_long) None))) ≡ Some too_long → (u ≡ true) ⊎ (w ≡ true)
+initial-long true u v w p e h = cc
+initial-long false true v w p e h = inl refl
+initial-long false false true w p e h = cc
+initial-long false false false true p e h = inr refl
+initial-long false false false false p e h = cc
+
+head-long : (t u : Bool) (r : Option Refusal) (p : ℕ) → u ≡ false → cond t (cond u (Some (syntax p)) r) (Some too_long) ≡ Some too_long → (t ≡ false) ⊎ (r ≡ Some too_long)
+head-long true true r p e h = cc
+head-long true false r p e h = inr h
+head-long false u r p e h = inl refl
+
+pub head-passes : (x y : List ℕ) (h : Header) (p : ℕ) → SpellsHeader x h → announced_length h ≤ length y → HeadRefuses (x ++ y) p too_long → greatest_offset < p + length (x ++ y)
+head-passes x y h p s there r = by (header-begins x h s)
+  where
+    by : Begins x (announced_length h) → greatest_offset < p + length (x ++ y)
+    by (m, a, c, e, f) =
+        let i : ℕ = initial_byte m a in
+        let one : length x ≡ suc (length c) = ap length e in
+        let size : length (x ++ y) ≡ 1 + length c + length y = (let both = length-append x y in omega (arith, both, one)) in
+        let t : head_refusal (i ∷ (c ++ y)) p ≡ Some too_long = ap (λ (z : List ℕ). head_refusal (z ++ y) p) (sym e) ∙ r in
+        from m a c f size (head-long (ltb p greatest_offset) (ltb (p + 1) greatest_offset && is_low_simple i (c ++ y)) (initial_refusal (i / 32) (i % 32) (c ++ y) p) p
+        (and_false _ _ (low-more m a c y f.below f.size f.high)) t)
+      where
+        from : (m a : ℕ) (c : List ℕ) (f : Facts m a c (announced_length h)) → length (x ++ y) ≡ 1 + length c + length y → (ltb p greatest_offset ≡ false) ⊎ (initial_refusal (initial_byte m a / 32) (initial_byte m a % 32) (c ++ y) p ≡ Some too_long) → greatest_offset < p + length (x ++ y)
+        from m a c f size (inl past) = let over = ltb-false p greatest_offset past in omega (arith, over, size)
+        from m a c f size (inr late) =
+            let plain : initial_refusal m a (c ++ y) p ≡ Some too_long = ap (λ k. initial_refusal k a (c ++ y) p) (sym (div-mul-add m 32 a f.below)) ∙ (ap (λ k. initial_refusal (initial_byte m a / 32) k (c ++ y) p) (sym (mod-mul-add m 32 a f.below)) ∙ late) in
+            over (initial-long (is_reserved m a) _ _ _ p f.fair plain)
+          where
+            over : (ltb greatest_offset (p + 1 + argument_length a) ≡ true) ⊎ (ltb greatest_offset (p + 1 + argument_length a + payload_length m a (c ++ y)) ≡ true) → greatest_offset < p + length (x ++ y)
+            over (inl k) = let far = ltb-true greatest_offset (p + 1 + argument_length a) k in omega (arith, far, size, f.size)
+            over (inr k) =
+                let far = ltb-true greatest_offset (p + 1 + argument_length a + payload_length m a (c ++ y)) k in
+                let same : payload_length m a (c ++ y) ≡ announced_length h = payload_length-more m a c y (omega (arith, f.size)) ∙ f.payload in
+                omega (arith, far, size, f.size, same, there)
+
+-- where a head is spelled, with its payload, pulling is refused for what it does not decide
+pub head-outside : {E : Type 0} (left : Option (List ℕ)) (e : LlError E) (b x y : List ℕ) (p : ℕ) (h : Header) → SpellsHeader x h → b ≡ x ++ y → announced_length h ≤ length y → reading.IsRefusedBy left e (HeadRefuses b p) → IsOutside (p + length b) (cause_of (from_ll e))
+head-outside left (ll.Io e) b x y p h s k there r = tt
+head-outside left (ll.Syntax q) b x y p h s k there r = absurd (never-syntax x y h p q s (subst (λ (z : List ℕ). HeadRefuses z p (syntax q)) k r))
+head-outside left ll.TooLong b x y p h s k there r = subst (λ (z : List ℕ). greatest_offset < p + length z) (sym k) (head-passes x y h p s there (subst (λ (z : List ℕ). HeadRefuses z p too_long) k r))
+head-outside left ll.Memory b x y p h s k there r = tt
 
 -- ---- heads that are counted
 

@@ -11,7 +11,7 @@ use Rattle.ciborium_value.specs.Tree.{Tree}
 use Rattle.ciborium.specs.declared.de.byte_source.ByteSource.{ByteSource}
 use Rattle.ciborium.specs.declared.de.error.Error.{Error}
 use Rattle.ciborium.specs.Answers.{TakesBytes, TakesBytesFrom}
-use Rattle.ciborium.specs.ByteSources.{IsUnread, IsUnreadBy, ReadsValue, StandsBefore, cause_of, pending_count}
+use Rattle.ciborium.specs.ByteSources.{IsUnread, IsUnreadBy, ReadsValue, StandsBefore, cause_of, end_at, pending_count, reader_of}
 use Rattle.ciborium.specs.NextItems.{IsReadFrom}
 use Rattle.ciborium.specs.TypedReads.{IsFaultAhead, TakesGiving}
 use Rattle.ciborium.specs.Spelling.{any}
@@ -23,12 +23,12 @@ module _ {S A : Type 0} (remaining : S → Option (List ℕ)) (old : ByteSource 
       TakesGiving (Some old.levels) taken b v (remaining x)
   handed-ok new v x back took takes =
       let (z, un, (i, s, sp, e)) = took b front in
-      let (give, (z', un', fits, lv, none, due)) = takes (Some old.levels) i (bottom old.decoder.reader.ghost_name z) (b, front, (s, z, sp, (refl, refl), e), refl, tt, omega (arith, few)) in
+      let (give, (z', un', fits, lv, none, due)) = takes (Some old.levels) i (bottom (reader_of remaining old.decoder) z) (b, front, (s, z, sp, (refl, refl), e), refl, tt, omega (arith, few)) in
       let left : left_of remaining new.decoder ≡ Some z' = subst (λ o. IsUnreadBy remaining new.decoder o z') none un' in
-      (i, s, z, sp, e, give, ap remaining (back fits.1) ∙ sym (counted-left remaining new.decoder (omega (arith, due))) ∙ left ∙ ap Some fits.0)
+      (i, s, z, sp, e, give, ap remaining (back (ap (λ r. r.0) fits.1)) ∙ sym (counted-left remaining new.decoder (omega (arith, due))) ∙ left ∙ ap Some fits.0)
 
-  pub handed-refused : (fault : Fault) → Refuses (StandsBefore remaining) old taken fault → IsFaultAhead (Some old.levels) taken b fault
-  handed-refused fault h i s z sp e = h (Some old.levels) i (bottom old.decoder.reader.ghost_name z) (b, front, (s, z, sp, (refl, refl), e), refl, tt, omega (arith, few))
+  pub handed-refused : (fault : Fault) → Refuses (StandsBefore remaining) old taken fault → IsFaultAhead (end_at remaining old) (Some old.levels) taken b fault
+  handed-refused fault h i s z sp e = h (Some old.levels) i (bottom (reader_of remaining old.decoder) z) (b, front, (s, z, sp, (refl, refl), e), refl, tt, omega (arith, few))
 
 -- the same, of what was read from the source
 pub handed-given : {S T A : Type 0} (E : Type 0) (remaining : S → Option (List ℕ)) (reading : Reading T A) (old new : ByteSource S) (b : List ℕ) → IsUnread remaining old b → allowed_of old.decoder + pending_count old.pending ≤ 1 → (x : S) → (old.decoder.reader.ghost_name ≡ new.decoder.reader.ghost_name → x ≡ new.decoder.reader.now) →
@@ -36,10 +36,11 @@ pub handed-given : {S T A : Type 0} (E : Type 0) (remaining : S → Option (List
 handed-given E remaining reading old new b front few x back (Ok v) h = handed-ok remaining old reading.taken b front few new (reading.content v) x back h.took h.ok
 handed-given E remaining reading old new b front few x back (Err e) h = tt
 
-pub handed-denied : {S T A : Type 0} (E : Type 0) (remaining : S → Option (List ℕ)) (reading : Reading T A) (old new : ByteSource S) (b : List ℕ) → IsUnread remaining old b → allowed_of old.decoder + pending_count old.pending ≤ 1 →
-    (r : Result T (Error E)) → IsReadFrom {E = E} remaining reading old new r → IfErr (read_as reading.content r) (λ e. IsFaultAhead (Some old.levels) reading.taken b (cause_of e))
-handed-denied E remaining reading old new b front few (Ok v) h = tt
-handed-denied E remaining reading old new b front few (Err e) h = handed-refused remaining old reading.taken b front few (cause_of e) h.refused
+pub handed-denied : {S T A : Type 0} (E : Type 0) (remaining : S → Option (List ℕ)) (reading : Reading T A) (old new : ByteSource S) (b : List ℕ) (end : ℕ) → IsUnread remaining old b → allowed_of old.decoder + pending_count old.pending ≤ 1 → end_at remaining old ≡ end →
+    (r : Result T (Error E)) → IsReadFrom {E = E} remaining reading old new r → IfErr (read_as reading.content r) (λ e. IsFaultAhead end (Some old.levels) reading.taken b (cause_of e))
+handed-denied E remaining reading old new b end front few ends (Ok v) h = tt
+handed-denied E remaining reading old new b end front few ends (Err e) h =
+    subst (λ n. IsFaultAhead n (Some old.levels) reading.taken b (cause_of e)) ends (handed-refused remaining old reading.taken b front few (cause_of e) h.refused)
 
 -- ---- where reading is one call of `value`
 

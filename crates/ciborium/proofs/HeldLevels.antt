@@ -5,20 +5,20 @@ use Rattle.ciborium_ll.specs.declared.header.Header.TheVariants as header
 use Rattle.ciborium_ll.specs.Header.{SpellsHeader}
 use Rattle.ciborium_ll.specs.Item as items
 use Rattle.ciborium_ll.specs.Item.{Item, unsigned, negative, bytes, text, array, tag, simple, float}
-use Rattle.ciborium_ll.specs.Decoding.{HasSameReader, allowed_of, source_of}
-use Rattle.ciborium_ll.proofs.HeldBytes.{same-name}
+use Rattle.ciborium_ll.specs.Decoding.{allowed_of, source_of}
 use Rattle.ciborium.proofs.Due.{due-past, held-level, held-same}
 use Rattle.ciborium_value.specs.Sources.{Completes, Holds, GivesBack, TakesTo}
 use Rattle.ciborium_value.specs.Taken.{Taken, gives, deeper, within_level, outer_tag, taken_outer_tag}
 use Rattle.ciborium.specs.declared.de.byte_source.ByteSource.{ByteSource}
 use Rattle.ciborium.specs.declared.de.byte_source.ByteLevel.{ByteLevel}
-use Rattle.ciborium.specs.ByteSources.{IsUnread, StandsBefore, LevelStands, TakesLevel, due_after, pending_count, weight_left}
+use Rattle.ciborium.specs.ByteSources.{IsUnread, StandsBefore, LevelStands, TakesLevel, due_after, pending_count, weight_left, reader_of}
 use Rattle.ciborium.specs.ItemReads.{TakesHead, Denies}
 use Rattle.ciborium.specs.Skips.{OpensLevel}
 use Rattle.ciborium.specs.Unread.{IsRest}
 use Rattle.ciborium.proofs.EnteredContainers.{within-is, deeper-is}
 use Rattle.ciborium.proofs.ItemHeads.{header_of, tag-front, same-head}
 use Rattle.ciborium.proofs.NextParts.{fits-past, none-past}
+use Rattle.ciborium.proofs.TakenOnly.{IsKept, kept-reader}
 
 -- ---- where the source then stands
 
@@ -28,20 +28,20 @@ module _ {S : Type 0} (remaining : S → Option (List ℕ)) (old new : ByteSourc
       let (w, un, leads) = h b u in
       (w, un, λ z (i, s, sp, e). let (j, t, sq, f) = leads.outward i s z sp e in (j, t, sq, f))
 
-  pub holds-opened : {A : Type 0} (taken : Taken (A × Item)) (v : A) (level : ByteLevel) → HasSameReader old.decoder new.decoder → weight_left new ≤ weight_left old → TakesLevel old new level → OpensLevel (IsUnread remaining) old new (Some old.levels) taken v →
+  pub holds-opened : {A : Type 0} (taken : Taken (A × Item)) (v : A) (level : ByteLevel) → IsKept remaining old new → weight_left new ≤ weight_left old → TakesLevel old new level → OpensLevel (IsUnread remaining) old new (Some old.levels) taken v →
       Holds (StandsBefore remaining) LevelStands old new taken v level
   holds-opened taken v level kept fewer (back, less) h l i f (b, u, (s, r, sp, rest, e), is, ahead, few) =
       let (w, un, leads) = h b u in
       let (j, t, give, sq, split) = leads.inward i s r sp e in (
         j,
         ap (λ k. taken k i) is ∙ give,
-        (w, un, (t, r, sq, subst (λ n. IsRest n r f) (sym (same-name old.decoder new.decoder kept)) rest, split), ap deeper is ∙ deeper-is old.levels (λ z. absurd (omega (arith, z, less))) ∙ ap Some (omega (arith, less)), tt, held-level old new kept (due_after f) fewer few),
+        (w, un, (t, r, sq, subst (λ n. IsRest n r f) (sym (kept-reader remaining old new kept b u)) rest, split), ap deeper is ∙ deeper-is old.levels (λ z. absurd (omega (arith, z, less))) ∙ ap Some (omega (arith, less)), tt, held-level old new kept.0 (due_after f) fewer few),
         is ∙ ap Some (sym back),
       )
 
   pub gives-back : (level : ByteLevel) → new.decoder ≡ old.decoder → new.pending ≡ old.pending → new.levels ≡ level.levels → ((b : List ℕ) → IsUnread remaining old b → IsUnread remaining new b) → GivesBack (StandsBefore remaining) LevelStands old new level
   gives-back level same pending levels keeps l f (b, u, fits, is, none, few) outside =
-      (b, keeps b u, fits-past new.decoder.reader.ghost_name b f (subst (λ d. IsRest d.reader.ghost_name b f) (sym same) fits), outside ∙ ap Some (sym levels), none-past new.pending (pending ∙ none) f, subst (λ n. allowed_of new.decoder + pending_count new.pending ≤ n) (sym (due-past f)) (held-same old new (ap source_of same) (due_after f) (ap (λ d. d.window.count) same) pending few))
+      (b, keeps b u, fits-past (reader_of remaining new.decoder) b f (subst (λ d. IsRest (reader_of remaining d) b f) (sym same) fits), outside ∙ ap Some (sym levels), none-past new.pending (pending ∙ none) f, subst (λ n. allowed_of new.decoder + pending_count new.pending ≤ n) (sym (due-past f)) (held-same old new (ap source_of same) (due_after f) (ap (λ d. d.window.count) same) pending few))
 
 -- ---- tags
 
@@ -85,8 +85,8 @@ module _ {S : Type 0} (IsUnread : S → List ℕ → Type 0) (old mid new : S) (
       )
 
 -- no level is left for it
-pub tag-nests : {S : Type 0} (IsUnread : S → List ℕ → Type 0) (old : S) (m : ℕ) → m ≡ 0 → Denies IsUnread old (Some m) taken_outer_tag Rattle.ciborium_value.specs.Sources.of_nesting
-tag-nests IsUnread old m none b s z i u sp e = ap (λ n. within_level (Some n) (gives (outer_tag i))) none
+pub tag-nests : {S : Type 0} (IsUnread : S → List ℕ → Type 0) (End : S → ℕ) (old : S) (m : ℕ) → m ≡ 0 → Denies IsUnread End old (Some m) taken_outer_tag Rattle.ciborium_value.specs.Sources.of_nesting
+tag-nests IsUnread End old m none b s z i u sp e = ap (λ n. within_level (Some n) (gives (outer_tag i))) none
 
 pub ok-map-two : {T E : Type 0} {N P Q : T → Type 0} (r : Result T E) → IfOk r N → IfOk r P → ((v : T) → N v → P v → Q v) → IfOk r Q
 ok-map-two (Ok v) n p f = f v n p

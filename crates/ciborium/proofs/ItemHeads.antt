@@ -1,9 +1,9 @@
 -- The head with which an item begins, and what stands behind it.
-use Rattle.std.proofs.Common.{◌≡◌, ℕ, suc, Bool, true, false, List, [], ◌∷◌, ◌++◌, length, Option, Some, None, refl, sym, ap, ◌∙◌, append_assoc, append-nil}
+use Rattle.std.proofs.Common.{◌≡◌, ℕ, suc, Bool, true, false, List, [], ◌∷◌, ◌++◌, length, Option, Some, None, refl, sym, ap, ◌∙◌, append_assoc, append-nil, ◌≤◌, arith}
 use Rattle.ciborium_ll.specs.declared.header.Header.{Header}
 use Rattle.ciborium_ll.specs.declared.header.Header.TheVariants as header
 use Rattle.ciborium_ll.specs.Head.{open_byte, break_byte}
-use Rattle.ciborium_ll.specs.Header.{SpellsHeader}
+use Rattle.ciborium_ll.specs.Header.{SpellsHeader, announced_length}
 use Rattle.ciborium_ll.specs.Item as items
 use Rattle.ciborium_ll.specs.Item.{Item, Items, Pairs, unsigned, negative, bytes, text, array, tag, simple, float, items_count, pairs_count}
 use Rattle.ciborium_ll.specs.Spells.{Spells, SpellsItems, SpellsPairs}
@@ -41,6 +41,26 @@ first-head s (items.map true ps) (r, h, e) = (open_byte 5 ∷ [], r ++ (break_by
 first-head s (tag t i) (x, r, h, k, e) = (x, r, h, e)
 first-head s (simple n) h = (s, [], h, sym (append-nil s))
 first-head s (float raw) h = (s, [], (raw, h, refl), sym (append-nil s))
+
+nothing : (n : ℕ) → 0 ≤ n
+nothing n = omega arith
+
+-- with the payload that it announces
+pub first-payload : (s : List ℕ) (i : Item) (sp : Spells s i) → announced_length (header_of i) ≤ length (first-head s i sp).1
+unfolding first-head
+first-payload s (unsigned n) h = nothing _
+first-payload s (negative n) h = nothing _
+first-payload s (bytes false b) (x, h, a, e) = let k : length b ≤ length b = omega arith in k
+first-payload s (bytes true b) (ps, r, a, j, e) = nothing _
+first-payload s (text false b) (x, h, a, e) = let k : length b ≤ length b = omega arith in k
+first-payload s (text true b) (ps, r, a, j, e) = nothing _
+first-payload s (array false is) (r, h, (x, k, e)) = nothing _
+first-payload s (array true is) (r, h, e) = nothing _
+first-payload s (items.map false ps) (r, h, (x, k, e)) = nothing _
+first-payload s (items.map true ps) (r, h, e) = nothing _
+first-payload s (tag t i) (x, r, h, k, e) = nothing _
+first-payload s (simple n) h = nothing _
+first-payload s (float raw) h = nothing _
 
 -- the head at the front is that of the item
 pub same-head : (s r x y : List ℕ) (i : Item) (h : Header) → Spells s i → SpellsHeader x h → s ++ r ≡ x ++ y → (header_of i ≡ h) × ((c : List ℕ) × (s ≡ x ++ c) × (y ≡ c ++ r))

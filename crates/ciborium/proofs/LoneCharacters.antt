@@ -82,27 +82,27 @@ payload-taken P Q n buffer size utf8 took y u =
     let (z, split, un) = took y u in
     (buffer, z, λ x hd. (x, subst (IsHead x 3) (sym size) hd, utf8, refl), split, un)
 
-module _ {S : Type 0} (IsUnread : S → List ℕ → Type 0) (l : Limit) (old mid : S) (n : ℕ) (bare : TakesBare IsUnread old mid false (header.Text (Some n))) where
+module _ {S : Type 0} (IsUnread : S → List ℕ → Type 0) (End : S → ℕ) (l : Limit) (old mid : S) (n : ℕ) (bare : TakesBare IsUnread old mid false (header.Text (Some n))) where
   -- whatever text of this length stands there is to blame
-  pub text-denied : (fault : Fault) → ((y z payload : List ℕ) → IsUnread mid y → length payload ≡ n → IsUtf8 payload → y ≡ payload ++ z → IsFaultOf fault (lone_character (chars payload))) → Denies IsUnread old l taken_character fault
-  text-denied fault blames b s z j u sp e =
+  pub text-denied : (fault : Fault) → ((b : List ℕ) → IsUnread old b → End mid ≡ End old) → ((y z payload : List ℕ) → IsUnread mid y → length payload ≡ n → IsUtf8 payload → y ≡ payload ++ z → IsFaultOf (End mid) fault (lone_character (chars payload))) → Denies IsUnread End old l taken_character fault
+  text-denied fault same blames b s z j u sp e =
       let (ts, w, x, y, tagged, all, hd, f, un) = bare b u in
       let (i, t, is, sq, g) = tagged.inward j s z sp e in
       let (payload, io) = string-only of_text (Some n) i (same-head t z x y i (header.Text (Some n)) sq hd (sym g ∙ f)).0 in
       let (size, utf8, h) = definite-payload of_text n y x t z payload hd (subst (Spells t) io sq) (sym f ∙ g) in
-      subst (λ o. IsFaultOf fault o) (sym (ap (λ k. bare_character (untagged k)) is ∙ ap bare_character (untagged-under ts i) ∙ ap (λ k. bare_character (untagged k)) io)) (blames y z payload un (sym size) utf8 h)
+      subst (λ o. IsFaultOf (End old) fault o) (sym (ap (λ k. bare_character (untagged k)) is ∙ ap bare_character (untagged-under ts i) ∙ ap (λ k. bare_character (untagged k)) io)) (subst (λ n. IsFaultOf n fault (lone_character (chars payload))) (same b u) (blames y z payload un (sym size) utf8 h))
 
-  pub long-denied : 4 < n → Denies IsUnread old l taken_character (of_kind kinds.Char)
-  long-denied long = text-denied (of_kind kinds.Char) (λ y z payload un size utf8 e. long-text payload utf8 (omega (arith, long, size)))
+  pub long-denied : ((b : List ℕ) → IsUnread old b → End mid ≡ End old) → 4 < n → Denies IsUnread End old l taken_character (of_kind kinds.Char)
+  long-denied same long = text-denied (of_kind kinds.Char) same (λ y z payload un size utf8 e. long-text payload utf8 (omega (arith, long, size)))
 
 -- the payload that was read is to blame
-pub payload-denied : (P Q : List ℕ → Type 0) (n : ℕ) (buffer : List ℕ) (fault : Fault) → length buffer ≡ n → (IsUtf8 buffer → IsFaultOf fault (lone_character (chars buffer))) → TakesJust P Q buffer →
-    (y z payload : List ℕ) → P y → length payload ≡ n → IsUtf8 payload → y ≡ payload ++ z → IsFaultOf fault (lone_character (chars payload))
-payload-denied P Q n buffer fault size blames took y z payload u len utf8 f =
+pub payload-denied : (end : ℕ) (P Q : List ℕ → Type 0) (n : ℕ) (buffer : List ℕ) (fault : Fault) → length buffer ≡ n → (IsUtf8 buffer → IsFaultOf end fault (lone_character (chars buffer))) → TakesJust P Q buffer →
+    (y z payload : List ℕ) → P y → length payload ≡ n → IsUtf8 payload → y ≡ payload ++ z → IsFaultOf end fault (lone_character (chars payload))
+payload-denied end P Q n buffer fault size blames took y z payload u len utf8 f =
     let (r, split, un) = took y u in
     let whole : buffer ++ r ≡ payload ++ z = sym split ∙ f in
     let same : buffer ≡ payload = sym (take-append_seam buffer r) ∙ ap (λ k. take k (buffer ++ r)) (size ∙ sym len) ∙ ap (take (length payload)) whole ∙ take-append_seam payload z in
-    subst (λ k. IsFaultOf fault (lone_character (chars k))) same (blames (subst IsUtf8 (sym same) utf8))
+    subst (λ k. IsFaultOf end fault (lone_character (chars k))) same (blames (subst IsUtf8 (sym same) utf8))
 
 -- the bytes that a decoder read
 pub just-taken : (E : Type 0) {S : Type 0} (remaining : S → Option (List ℕ)) (d e : Decoder S) (pending : Option (Header × ℕ)) (buffer : List ℕ) → pending ≡ None → Takes remaining d e (λ b. IsFillTaken {E = E} b d.window.count buffer (Ok tt)) →

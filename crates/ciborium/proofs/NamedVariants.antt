@@ -36,9 +36,9 @@ utf8-not b n true e = absurd (n (IsUtf8-from_is_utf8 b e))
 utf8-not b n false e = e
 
 -- another one is none
-pub bytes-no-name : {S : Type 0} (IsUnread : S → List ℕ → Type 0) (old mid new : S) (len : Option ℕ) (l : Limit) (payload : List ℕ) → (IsUtf8 payload → ⊥) → TakesBare IsUnread old mid false (header.Bytes len) →
-    TakesContent (IsUnread mid) (IsUnread new) of_bytes len payload → Denies IsUnread old l taken_name (of_kind kinds.Name)
-bytes-no-name IsUnread old mid new len l payload not bare content b s z j u sp e =
+pub bytes-no-name : {S : Type 0} (IsUnread : S → List ℕ → Type 0) (End : S → ℕ) (old mid new : S) (len : Option ℕ) (l : Limit) (payload : List ℕ) → (IsUtf8 payload → ⊥) → TakesBare IsUnread old mid false (header.Bytes len) →
+    TakesContent (IsUnread mid) (IsUnread new) of_bytes len payload → Denies IsUnread End old l taken_name (of_kind kinds.Name)
+bytes-no-name IsUnread End old mid new len l payload not bare content b s z j u sp e =
     let bad = utf8-not payload not (is_utf8 payload) refl in
     let (ts, w, x, y, tagged, all, hd, g, un) = bare b u in
     let (c, r, make, f, un') = content y un in
@@ -145,13 +145,13 @@ module _ {S : Type 0} (IsUnread : S → List ℕ → Type 0) (old mid inner new 
       )
 
   -- its key is refused
-  pub key-denied : (fault : Fault) → TakesBare IsUnread old mid false (header.Map (Some 1)) → Denies IsUnread inner (deeper (Some m)) taken_name fault → Denies IsUnread old (Some m) taken_variant fault
-  key-denied fault bare denied b s z j u sp e =
+  pub key-denied : (End : S → ℕ) (fault : Fault) → ((b : List ℕ) → IsUnread old b → End inner ≡ End old) → TakesBare IsUnread old mid false (header.Map (Some 1)) → Denies IsUnread End inner (deeper (Some m)) taken_name fault → Denies IsUnread End old (Some m) taken_variant fault
+  key-denied End fault same bare denied b s z j u sp e =
       let (ts, w, x, y, tagged, all, hd, f, un) = bare b u in
       let (i, t, io, sq, g) = tagged.inward j s z sp e in
       let (k, v, a, c, im, ska, scv, p) = pair-front t z x y i sq hd (sym g ∙ f) in
-      let blamed : IsFaultOf fault (taken_name (deeper (Some m)) k) = denied y a (c ++ z) k (keeps y un) ska p in
-      subst (IsFaultOf fault) (sym (ap (bare_variant (Some m)) (ap untagged io ∙ untagged-under ts i ∙ ap untagged im) ∙ within-is m _ some)) (fault_map fault (λ n. (n, v)) (taken_name (deeper (Some m)) k) blamed)
+      let blamed : IsFaultOf (End old) fault (taken_name (deeper (Some m)) k) = subst (λ n. IsFaultOf n fault (taken_name (deeper (Some m)) k)) (same b u) (denied y a (c ++ z) k (keeps y un) ska p) in
+      subst (IsFaultOf (End old) fault) (sym (ap (bare_variant (Some m)) (ap untagged io ∙ untagged-under ts i ∙ ap untagged im) ∙ within-is m _ some)) (fault_map _ fault (λ n. (n, v)) (taken_name (deeper (Some m)) k) blamed)
 
 -- ---- what is refused
 

@@ -1,28 +1,28 @@
 -- The next part of a container that is read, or its end.
-use Rattle.std.proofs.Common.{◌≡◌, ◌≤◌, ◌+◌, ◌≢◌, ℕ, suc, ◌-◌, ◌<◌, Bool, false, is_some, List, [], ◌∷◌, ◌++◌, length, map, Option, Some, None, refl, sym, ap, ◌∙◌, subst, append_assoc, append-nil, arith, inl, inr, ◌⊎◌, Result, Ok, Err, IfOk, IfErr, MatchBool, true}
+use Rattle.std.proofs.Common.{◌≡◌, ◌≤◌, ◌+◌, ◌≢◌, ℕ, suc, ◌-◌, ◌<◌, Bool, false, is_some, List, [], ◌∷◌, ◌++◌, length, map, Option, Some, None, refl, sym, ap, ◌∙◌, subst, append_assoc, append-nil, arith, inl, inr, ◌⊎◌, Result, Ok, Err, IfOk, IfErr, MatchBool, true, length-append}
 use Rattle.std.specs.Vec.Iter.{into_iter_items}
 use Rattle.ciborium_ll.specs.declared.header.Header.{Header}
 use Rattle.ciborium_ll.specs.declared.header.Header.TheVariants as header
 use Rattle.ciborium_ll.specs.Head.{IsHead, break_byte, head_in, eight_bytes}
-use Rattle.ciborium_ll.specs.Header.{SpellsHeader}
+use Rattle.ciborium_ll.specs.Header.{SpellsHeader, announced_length}
 use Rattle.ciborium_ll.specs.Item.{Item, unsigned}
 use Rattle.ciborium_ll.specs.Spells.{Spells}
 use Rattle.ciborium_ll.proofs.OneHeader.{one_header_at_front}
 use Rattle.ciborium_ll.proofs.UniqueSpelling.{one_at_front}
-use Rattle.ciborium_ll.proofs.HeldBytes.{same-name}
 use Rattle.ciborium.proofs.Due.{due-most, due-next, due-none, due-past, held-byte, held-head, held-pending, held-same}
 use Rattle.ciborium_value.specs.Ahead.{Form, Rest, bottom, parts, pairs, entry, held, item, past, inside}
 use Rattle.ciborium_value.specs.Nesting.{Limit}
 use Rattle.ciborium_value.specs.Places.{Shape, sequence, dictionary}
-use Rattle.ciborium_value.specs.Sources.{Fault, HasItem, HasPart, GoesOn, Leaves, RefusesNext, OwesLess, OwesNothing}
+use Rattle.ciborium_value.specs.Sources.{Fault, IsOutside, HasItem, HasPart, GoesOn, Leaves, RefusesNext, OwesLess, OwesNothing}
 use Rattle.ciborium.specs.declared.de.byte_source.ByteSource.{ByteSource}
 use Rattle.ciborium.specs.declared.de.byte_source.ByteSeq.{ByteSeq}
 use Rattle.ciborium.specs.declared.de.byte_source.Left.TheVariants as left
-use Rattle.ciborium.specs.ByteSources.{IsHeadCounted, IsUnread, IsUnreadBy, StandsBefore, SeqStands, HasNoneBehind, HoldsItems, HoldsPairs, HoldsParts, Owes, LeftOwes, OwesParts, bytes_weight, due_after, due_parts, pending_count, weight, weight_left, StandsStill}
+use Rattle.ciborium.specs.ByteSources.{IsHeadCounted, IsUnread, IsUnreadBy, StandsBefore, SeqStands, HasNoneBehind, HoldsItems, HoldsPairs, HoldsParts, Owes, LeftOwes, OwesParts, bytes_weight, due_after, due_parts, pending_count, weight, weight_left, StandsStill, end_at, reader_of}
 use Rattle.ciborium.specs.ItemReads.{TakesHead, DeniesHead}
 use Rattle.ciborium.specs.Unread.{AreSpelled, AreLeft, SpellsPair, Fits, IsRest, ending, form_of, HasCount}
-use Rattle.ciborium_ll.specs.Decoding.{left_of, HasSameReader, allowed_of, source_of}
-use Rattle.ciborium.proofs.ItemHeads.{header_of, first-head, same-head, no-break-head}
+use Rattle.ciborium_ll.specs.Decoding.{left_of, allowed_of, source_of}
+use Rattle.ciborium.proofs.TakenOnly.{IsKept, kept-reader, rest-end}
+use Rattle.ciborium.proofs.ItemHeads.{header_of, first-head, first-payload, same-head, no-break-head}
 
 pub fits-past : (name : _) (b : List ℕ) (f : Rest) → IsRest name b f → Fits name b (past f)
 fits-past name b (bottom m r) h = h
@@ -101,34 +101,36 @@ module _ {X : Type 0} (SpellsPart : List ℕ → X → Type 0) where
         by (inr (next, first)) = next
 
     -- some head stands there
-    open-head : (form : Form) (xs : List X) (s r b : List ℕ) → HoldsParts None form xs → AreLeft SpellsPart form s xs → b ≡ s ++ (ending form ++ r) → (h : Header) × (x : List ℕ) × (y : List ℕ) × SpellsHeader x h × (b ≡ x ++ y)
+    open-head : (form : Form) (xs : List X) (s r b : List ℕ) → HoldsParts None form xs → AreLeft SpellsPart form s xs → b ≡ s ++ (ending form ++ r) → (h : Header) × (x : List ℕ) × (y : List ℕ) × SpellsHeader x h × (b ≡ x ++ y) × (announced_length h ≤ length y)
     open-head form xs s r b hold left e = by (open-front form xs s r b hold left e)
       where
-        by : ((xs ≡ []) × (b ≡ break_byte ∷ r)) ⊎ (HasNext SpellsPart None xs b r × ((i : Item) × (t : List ℕ) × (z : List ℕ) × Spells t i × (b ≡ t ++ z))) → (h : Header) × (x : List ℕ) × (y : List ℕ) × SpellsHeader x h × (b ≡ x ++ y)
-        by (inl (none, g)) = (header.Break, break_byte ∷ [], r, refl, g)
-        by (inr (next, (i, t, z, sp, g))) = let (x, y, hd, w) = first-head t i sp in (header_of i, x, y ++ z, hd, g ∙ ap (λ (k : List ℕ). k ++ z) w ∙ append_assoc x y z)
+        by : ((xs ≡ []) × (b ≡ break_byte ∷ r)) ⊎ (HasNext SpellsPart None xs b r × ((i : Item) × (t : List ℕ) × (z : List ℕ) × Spells t i × (b ≡ t ++ z))) → (h : Header) × (x : List ℕ) × (y : List ℕ) × SpellsHeader x h × (b ≡ x ++ y) × (announced_length h ≤ length y)
+        by (inl (none, g)) = (header.Break, break_byte ∷ [], r, refl, g, omega arith)
+        by (inr (next, (i, t, z, sp, g))) =
+            let (x, y, hd, w) = first-head t i sp in
+            (header_of i, x, y ++ z, hd, g ∙ ap (λ (k : List ℕ). k ++ z) w ∙ append_assoc x y z, (let there = first-payload t i sp in let more = length-append y z in omega (arith, there, more)))
 
 -- ---- where the source stands before the next part
 
 -- the same decoder, or one that read on; its levels are those of before
 record IsAheadOf {S : Type 0} (remaining : S → Option (List ℕ)) (old new : ByteSource S) (b : List ℕ) : Type 0 where
-  name : new.decoder.reader.ghost_name ≡ old.decoder.reader.ghost_name
+  reader : reader_of remaining new.decoder ≡ reader_of remaining old.decoder
   levels : new.levels ≡ old.levels
   unread : IsUnread remaining new b
   held : (n : ℕ) → allowed_of old.decoder + pending_count old.pending ≤ 1 + n → allowed_of new.decoder + pending_count new.pending ≤ 1 + n
 
 module _ {S : Type 0} (remaining : S → Option (List ℕ)) (old new : ByteSource S) (rest : Option ℕ) (b r : List ℕ) (f : Rest) (ahead : IsAheadOf remaining old new b) (q q' : ByteSeq) (same : q'.levels ≡ q.levels) where
-  stands-item : (l : Limit) (form : Form) (xs : List Item) → form ≡ form_of rest → HasNext Spells rest xs b r → IsRest old.decoder.reader.ghost_name r f → inside form l ≡ Some old.levels → allowed_of old.decoder + pending_count old.pending ≤ due_parts form (length xs) + due_after f → l ≡ Some q.levels → ((ys : List Item) → HasCount rest ys → HoldsItems q'.left form ys) →
+  stands-item : (l : Limit) (form : Form) (xs : List Item) → form ≡ form_of rest → HasNext Spells rest xs b r → IsRest (reader_of remaining old.decoder) r f → inside form l ≡ Some old.levels → allowed_of old.decoder + pending_count old.pending ≤ due_parts form (length xs) + due_after f → l ≡ Some q.levels → ((ys : List Item) → HasCount rest ys → HoldsItems q'.left form ys) →
       (i : Item) × (js : List Item) × (xs ≡ i ∷ js) × StandsBefore remaining new (inside form l) (item i (parts form js f)) × SeqStands q' l (parts form js f)
   stands-item l form xs is (x, ys, whole, (a, c, sp, left, e), count) behind lv few lq hold = (
     x,
     ys,
     whole,
-    (b, ahead.unread, (a, c ++ (ending form ++ r), sp, (c, r, subst (λ k. AreLeft Spells k c ys) (sym is) left, subst (λ n. IsRest n r f) (sym ahead.name) behind, refl), subst (λ k. b ≡ a ++ (c ++ (ending k ++ r))) (sym is) e), lv ∙ ap Some (sym ahead.levels), tt, ahead.held (due_parts form (length ys) + due_after f) (let len : length xs ≡ 1 + length ys = omega (arith, ap length whole) in let next = due-next form rest is (length ys) in omega (arith, few, ap (due_parts form) len, next))),
+    (b, ahead.unread, (a, c ++ (ending form ++ r), sp, (c, r, subst (λ k. AreLeft Spells k c ys) (sym is) left, subst (λ n. IsRest n r f) (sym ahead.reader) behind, refl), subst (λ k. b ≡ a ++ (c ++ (ending k ++ r))) (sym is) e), lv ∙ ap Some (sym ahead.levels), tt, ahead.held (due_parts form (length ys) + due_after f) (let len : length xs ≡ 1 + length ys = omega (arith, ap length whole) in let next = due-next form rest is (length ys) in omega (arith, few, ap (due_parts form) len, next))),
     (lq ∙ ap Some (sym same), hold ys count),
   )
 
-  stands-pair : (l : Limit) (form : Form) (xs : List (Item × Item)) → form ≡ form_of rest → HasNext SpellsPair rest xs b r → IsRest old.decoder.reader.ghost_name r f → inside form l ≡ Some old.levels → allowed_of old.decoder + pending_count old.pending ≤ due_parts form (length xs) + due_after f → l ≡ Some q.levels → ((ys : List (Item × Item)) → HasCount rest ys → HoldsPairs q'.left form ys) →
+  stands-pair : (l : Limit) (form : Form) (xs : List (Item × Item)) → form ≡ form_of rest → HasNext SpellsPair rest xs b r → IsRest (reader_of remaining old.decoder) r f → inside form l ≡ Some old.levels → allowed_of old.decoder + pending_count old.pending ≤ due_parts form (length xs) + due_after f → l ≡ Some q.levels → ((ys : List (Item × Item)) → HasCount rest ys → HoldsPairs q'.left form ys) →
       (k : Item) × (v : Item) × (qs : List (Item × Item)) × (xs ≡ (k, v) ∷ qs) × StandsBefore remaining new (inside form l) (item k (entry v form qs f)) × SeqStands q' l (pairs form qs f)
   stands-pair l form xs is (x, ys, whole, (a, c, (s, t, sp, sq, g), left, e), count) behind lv few lq hold = (
     x.0,
@@ -142,7 +144,7 @@ module _ {S : Type 0} (remaining : S → Option (List ℕ)) (old new : ByteSourc
         s,
         t ++ (c ++ (ending form ++ r)),
         sp,
-        (t, c ++ (ending form ++ r), sq, (c, r, subst (λ k. AreLeft SpellsPair k c ys) (sym is) left, subst (λ n. IsRest n r f) (sym ahead.name) behind, refl), refl),
+        (t, c ++ (ending form ++ r), sq, (c, r, subst (λ k. AreLeft SpellsPair k c ys) (sym is) left, subst (λ n. IsRest n r f) (sym ahead.reader) behind, refl), refl),
         subst (λ k. b ≡ a ++ (c ++ (ending k ++ r))) (sym is) e ∙ ap (λ (z : List ℕ). z ++ (c ++ (ending form ++ r))) g ∙ append_assoc s t (c ++ (ending form ++ r)),
       ),
       lv ∙ ap Some (sym ahead.levels),
@@ -153,10 +155,10 @@ module _ {S : Type 0} (remaining : S → Option (List ℕ)) (old new : ByteSourc
   )
 
 -- behind the last part
-stands-past : {S : Type 0} (remaining : S → Option (List ℕ)) (old new : ByteSource S) (l : Limit) (q : ByteSeq) (b : List ℕ) (f : Rest) → new.decoder.reader.ghost_name ≡ old.decoder.reader.ghost_name → new.levels ≡ q.levels → new.pending ≡ None → allowed_of new.decoder + pending_count new.pending ≤ due_after f →
-    IsUnread remaining new b → IsRest old.decoder.reader.ghost_name b f → l ≡ Some q.levels → StandsBefore remaining new l (past f)
+stands-past : {S : Type 0} (remaining : S → Option (List ℕ)) (old new : ByteSource S) (l : Limit) (q : ByteSeq) (b : List ℕ) (f : Rest) → reader_of remaining new.decoder ≡ reader_of remaining old.decoder → new.levels ≡ q.levels → new.pending ≡ None → allowed_of new.decoder + pending_count new.pending ≤ due_after f →
+    IsUnread remaining new b → IsRest (reader_of remaining old.decoder) b f → l ≡ Some q.levels → StandsBefore remaining new l (past f)
 stands-past remaining old new l q b f name levels none few un rest lq =
-    (b, un, subst (λ n. Fits n b (past f)) (sym name) (fits-past old.decoder.reader.ghost_name b f rest), lq ∙ ap Some (sym levels), none-past new.pending none f, subst (λ n. allowed_of new.decoder + pending_count new.pending ≤ n) (sym (due-past f)) few)
+    (b, un, subst (λ n. Fits n b (past f)) (sym name) (fits-past (reader_of remaining old.decoder) b f rest), lq ∙ ap Some (sym levels), none-past new.pending none f, subst (λ n. allowed_of new.decoder + pending_count new.pending ≤ n) (sym (due-past f)) few)
 
 -- ---- so many parts
 
@@ -165,11 +167,11 @@ module _ {S : Type 0} (remaining : S → Option (List ℕ)) where
   goes-counted old q q' n is some is' levels = (
     λ l form its f (b, u, (s, r, stand, rest, e), lv, none, few) (lq, hold).
         let held : HoldsParts (Some n) form its = subst (λ k. HoldsItems k form its) is hold in
-        stands-item remaining old old (Some (n - 1)) b r f (record { name = refl; levels = refl; unread = u; held = λ m few. few }) q q' levels l form its held.0 (counted-next Spells n form its s r b some held stand e) rest lv few lq
+        stands-item remaining old old (Some (n - 1)) b r f (record { reader = refl; levels = refl; unread = u; held = λ m few. few }) q q' levels l form its held.0 (counted-next Spells n form its s r b some held stand e) rest lv few lq
         (λ ys count. subst (λ k. HoldsItems k form ys) (sym is') (held.0, count)),
     λ l form its f (b, u, (s, r, stand, rest, e), lv, none, few) (lq, hold).
         let held : HoldsParts (Some n) form its = subst (λ k. HoldsPairs k form its) is hold in
-        stands-pair remaining old old (Some (n - 1)) b r f (record { name = refl; levels = refl; unread = u; held = λ m few. few }) q q' levels l form its held.0 (counted-next SpellsPair n form its s r b some held stand e) rest lv few lq
+        stands-pair remaining old old (Some (n - 1)) b r f (record { reader = refl; levels = refl; unread = u; held = λ m few. few }) q q' levels l form its held.0 (counted-next SpellsPair n form its s r b some held stand e) rest lv few lq
         (λ ys count. subst (λ k. HoldsPairs k form ys) (sym is') (held.0, count)),
   )
 
@@ -177,10 +179,10 @@ module _ {S : Type 0} (remaining : S → Option (List ℕ)) where
   leaves-counted old new q is same same' levels = (
     λ l form its f (b, u, (s, r, stand, rest, e), lv, none, few) (lq, hold).
         let (empty, all) = counted-end Spells form its s r b (subst (λ k. HoldsItems k form its) is hold) stand e in
-        (empty, stands-past remaining old new l q b f (ap (λ d. d.reader.ghost_name) same) levels (same' ∙ none) (held-same old new (ap source_of same) (due_after f) (ap (λ d. d.window.count) same) same' (let most = due-most form (length its) in omega (arith, few, most, ap length empty))) (into b u) (subst (λ k. IsRest old.decoder.reader.ghost_name k f) (sym all) rest) lq),
+        (empty, stands-past remaining old new l q b f (ap (reader_of remaining) same) levels (same' ∙ none) (held-same old new (ap source_of same) (due_after f) (ap (λ d. d.window.count) same) same' (let most = due-most form (length its) in omega (arith, few, most, ap length empty))) (into b u) (subst (λ k. IsRest (reader_of remaining old.decoder) k f) (sym all) rest) lq),
     λ l form its f (b, u, (s, r, stand, rest, e), lv, none, few) (lq, hold).
         let (empty, all) = counted-end SpellsPair form its s r b (subst (λ k. HoldsPairs k form its) is hold) stand e in
-        (empty, stands-past remaining old new l q b f (ap (λ d. d.reader.ghost_name) same) levels (same' ∙ none) (held-same old new (ap source_of same) (due_after f) (ap (λ d. d.window.count) same) same' (let most = due-most form (length its) in omega (arith, few, most, ap length empty))) (into b u) (subst (λ k. IsRest old.decoder.reader.ghost_name k f) (sym all) rest) lq),
+        (empty, stands-past remaining old new l q b f (ap (reader_of remaining) same) levels (same' ∙ none) (held-same old new (ap source_of same) (due_after f) (ap (λ d. d.window.count) same) same' (let most = due-most form (length its) in omega (arith, few, most, ap length empty))) (into b u) (subst (λ k. IsRest (reader_of remaining old.decoder) k f) (sym all) rest) lq),
   )
     where
       into : (b : List ℕ) → IsUnread remaining old b → IsUnread remaining new b
@@ -222,42 +224,42 @@ nothing-allowed P q is b u = (b, u, λ s a owed. counted-nothing s a b (subst (�
 -- ---- up to a break
 
 module _ {S : Type 0} (remaining : S → Option (List ℕ)) where
-  pub leaves-open : (old mid new : ByteSource S) (q : ByteSeq) → q.left ≡ left.Open → HasSameReader old.decoder new.decoder → bytes_weight new + weight header.Break ≤ weight_left old → TakesHead (IsUnread remaining) old mid header.Break → new.levels ≡ q.levels → new.pending ≡ None →
+  pub leaves-open : (old mid new : ByteSource S) (q : ByteSeq) → q.left ≡ left.Open → IsKept remaining old new → bytes_weight new + weight header.Break ≤ weight_left old → TakesHead (IsUnread remaining) old mid header.Break → new.levels ≡ q.levels → new.pending ≡ None →
       ((y : List ℕ) → IsUnread remaining mid y → IsUnread remaining new y) → Leaves (StandsBefore remaining) SeqStands old new q
   leaves-open old mid new q is kept fewer took levels none into = (
     λ l form its f (b, u, (s, r, stand, rest, e), lv, ahead, few) (lq, hold).
         let (x, y, hd, g, un) = took b u in
         let (empty, all) = open-end Spells item-begins form its s r b x y (subst (λ k. HoldsItems k form its) is hold) stand e hd g in
-        (empty, stands-past remaining old new l q y f (same-name old.decoder new.decoder kept) levels none (held-head old new kept (due_after f) header.Break none fewer (let most = due-most form (length its) in omega (arith, few, most, ap length empty))) (into y un) (subst (λ k. IsRest old.decoder.reader.ghost_name k f) (sym all) rest) lq),
+        (empty, stands-past remaining old new l q y f (kept-reader remaining old new kept b u) levels none (held-head old new kept.0 (due_after f) header.Break none fewer (let most = due-most form (length its) in omega (arith, few, most, ap length empty))) (into y un) (subst (λ k. IsRest (reader_of remaining old.decoder) k f) (sym all) rest) lq),
     λ l form its f (b, u, (s, r, stand, rest, e), lv, ahead, few) (lq, hold).
         let (x, y, hd, g, un) = took b u in
         let (empty, all) = open-end SpellsPair pair-begins form its s r b x y (subst (λ k. HoldsPairs k form its) is hold) stand e hd g in
-        (empty, stands-past remaining old new l q y f (same-name old.decoder new.decoder kept) levels none (held-head old new kept (due_after f) header.Break none fewer (let most = due-most form (length its) in omega (arith, few, most, ap length empty))) (into y un) (subst (λ k. IsRest old.decoder.reader.ghost_name k f) (sym all) rest) lq),
+        (empty, stands-past remaining old new l q y f (kept-reader remaining old new kept b u) levels none (held-head old new kept.0 (due_after f) header.Break none fewer (let most = due-most form (length its) in omega (arith, few, most, ap length empty))) (into y un) (subst (λ k. IsRest (reader_of remaining old.decoder) k f) (sym all) rest) lq),
   )
 
-  pub goes-open : (old mid new : ByteSource S) (q q' : ByteSeq) (h : Header) → q.left ≡ left.Open → q'.left ≡ left.Open → q'.levels ≡ q.levels → HasSameReader old.decoder new.decoder → bytes_weight new + weight h ≤ weight_left old → new.levels ≡ old.levels →
+  pub goes-open : (old mid new : ByteSource S) (q q' : ByteSeq) (h : Header) → q.left ≡ left.Open → q'.left ≡ left.Open → q'.levels ≡ q.levels → IsKept remaining old new → bytes_weight new + weight h ≤ weight_left old → new.levels ≡ old.levels →
       TakesHead (IsUnread remaining) old mid h → h ≢ header.Break → ((b x y : List ℕ) → IsUnread remaining old b → SpellsHeader x h → b ≡ x ++ y → IsUnread remaining mid y → IsUnread remaining new b) → GoesOn (StandsBefore remaining) SeqStands old new q q'
   goes-open old mid new q q' h is is' levels same fewer kept took other back = (
     λ l form its f (b, u, (s, r, stand, rest, e), lv, none, few) (lq, hold).
         let (x, y, hd, g, un) = took b u in
         let held : HoldsParts None form its = subst (λ k. HoldsItems k form its) is hold in
-        stands-item remaining old new None b r f (record { name = same-name old.decoder new.decoder same; levels = kept; unread = back b x y u hd g un; held = λ n. held-pending old new same n h fewer }) q q' levels l form its held.0 (open-next Spells item-begins form its s r b x y h held stand e hd other g) rest lv few lq
+        stands-item remaining old new None b r f (record { reader = kept-reader remaining old new same b u; levels = kept; unread = back b x y u hd g un; held = λ n. held-pending old new same.0 n h fewer }) q q' levels l form its held.0 (open-next Spells item-begins form its s r b x y h held stand e hd other g) rest lv few lq
         (λ ys count. subst (λ k. HoldsItems k form ys) (sym is') (held.0, count)),
     λ l form its f (b, u, (s, r, stand, rest, e), lv, none, few) (lq, hold).
         let (x, y, hd, g, un) = took b u in
         let held : HoldsParts None form its = subst (λ k. HoldsPairs k form its) is hold in
-        stands-pair remaining old new None b r f (record { name = same-name old.decoder new.decoder same; levels = kept; unread = back b x y u hd g un; held = λ n. held-pending old new same n h fewer }) q q' levels l form its held.0 (open-next SpellsPair pair-begins form its s r b x y h held stand e hd other g) rest lv few lq
+        stands-pair remaining old new None b r f (record { reader = kept-reader remaining old new same b u; levels = kept; unread = back b x y u hd g un; held = λ n. held-pending old new same.0 n h fewer }) q q' levels l form its held.0 (open-next SpellsPair pair-begins form its s r b x y h held stand e hd other g) rest lv few lq
         (λ ys count. subst (λ k. HoldsPairs k form ys) (sym is') (held.0, count)),
   )
 
-  pub no-next : (old : ByteSource S) (q : ByteSeq) (fault : Fault) → q.left ≡ left.Open → DeniesHead (IsUnread remaining) old fault → RefusesNext (StandsBefore remaining) SeqStands old q fault
+  pub no-next : (old : ByteSource S) (q : ByteSeq) (fault : Fault) → q.left ≡ left.Open → DeniesHead (IsUnread remaining) (end_at remaining) old fault → RefusesNext (StandsBefore remaining) SeqStands old q fault
   no-next old q fault is denied = (
     λ l form its f (b, u, (s, r, stand, rest, e), lv, ahead, few) (lq, hold).
-        let (h, x, y, hd, g) = open-head Spells item-begins form its s r b (subst (λ k. HoldsItems k form its) is hold) stand e in
-        denied b x y h u hd g,
+        let (h, x, y, hd, g, there) = open-head Spells item-begins form its s r b (subst (λ k. HoldsItems k form its) is hold) stand e in
+        subst (λ n. IsOutside n fault) (sym (rest-end (reader_of remaining old.decoder) r f rest)) (denied b x y h u hd g there),
     λ l form its f (b, u, (s, r, stand, rest, e), lv, ahead, few) (lq, hold).
-        let (h, x, y, hd, g) = open-head SpellsPair pair-begins form its s r b (subst (λ k. HoldsPairs k form its) is hold) stand e in
-        denied b x y h u hd g,
+        let (h, x, y, hd, g, there) = open-head SpellsPair pair-begins form its s r b (subst (λ k. HoldsPairs k form its) is hold) stand e in
+        subst (λ n. IsOutside n fault) (sym (rest-end (reader_of remaining old.decoder) r f rest)) (denied b x y h u hd g there),
   )
 
 pub less-open : (P Q : List ℕ → Type 0) (q q' : ByteSeq) → q.left ≡ left.Open → q'.left ≡ left.Open → ((b : List ℕ) → P b → Q b) → (b : List ℕ) → P b → (u : List ℕ) × Q u × OwesLess Owes q q' b u
@@ -297,7 +299,7 @@ module _ {S : Type 0} (remaining : S → Option (List ℕ)) where
               wide n,
               b,
               wide-head n lt,
-              ([], r, subst (λ k. AreLeft Spells k [] (map unsigned (into_iter_items w))) (sym held.0) refl, subst (λ k. IsRest k r f) (ap (λ d. d.reader.ghost_name) (sym same)) rest, all ∙ sym (ap (λ k. ending k ++ r) held.0)),
+              ([], r, subst (λ k. AreLeft Spells k [] (map unsigned (into_iter_items w))) (sym held.0) refl, subst (λ k. IsRest k r f) (ap (reader_of remaining) (sym same)) rest, all ∙ sym (ap (λ k. ending k ++ r) held.0)),
               refl,
             ),
             lv ∙ ap Some (sym kept),
@@ -308,6 +310,24 @@ module _ {S : Type 0} (remaining : S → Option (List ℕ)) where
         ),
     λ l form its f (b, u, (s, r, stand, rest, e), lv, none, few) (lq, hold). absurd (subst (λ k. HoldsPairs k form its) is hold),
   )
+
+module _ {S : Type 0} (remaining : S → Option (List ℕ)) where
+  pub leaves-bytes : (old : ByteSource S) (q : ByteSeq) (v : _) → q.left ≡ left.Bytes v → into_iter_items v ≡ [] → Leaves (StandsBefore remaining) SeqStands old old q
+  leaves-bytes old q v is nothing = (
+    λ l form its f (b, u, (s, r, stand, rest, e), lv, none, few) (lq, hold).
+        let held : HoldsItems (left.Bytes v) form its = subst (λ k. HoldsItems k form its) is hold in
+        let empty : s ≡ [] = subst (λ k. AreLeft Spells k s its) held.0 stand in
+        let all : b ≡ r = e ∙ ap (λ (k : List ℕ). k ++ (ending form ++ r)) empty ∙ ap (λ k. ending k ++ r) held.0 in
+        let at : l ≡ Some old.levels = ap (λ k. inside k l) (sym held.0) ∙ lv in
+        let levels : old.levels ≡ q.levels = same-level old.levels q.levels (sym at ∙ lq) in (
+          sym held.1 ∙ ap (map unsigned) nothing,
+          stands-past remaining old old l q b f refl levels none (let gone = due-none form (length its) held.0 in omega (arith, few, gone)) u (subst (λ k. IsRest (reader_of remaining old.decoder) k f) (sym all) rest) lq,
+        ),
+    λ l form its f (b, u, (s, r, stand, rest, e), lv, none, few) (lq, hold). absurd (subst (λ k. HoldsPairs k form its) is hold),
+  )
+    where
+      same-level : (n m : ℕ) → Some n ≡ Some m → n ≡ m
+      same-level n m h = cc
 
 bytes-less : (v w : _) (s : Shape) (n : ℕ) (a b z : List ℕ) → n < 18446744073709551616 → LeftOwes (left.Bytes v) s a b → HasPart s (wide n ++ b) z → LeftOwes (left.Bytes w) s a z
 bytes-less v w sequence n a b z lt owed (i, t, si, g) = subst (λ y. HasItem a y) (one_at_front (wide n) t b z (unsigned n) i (wide-head n lt) si g).1 owed

@@ -16,7 +16,7 @@ use Rattle.ciborium_ll.proofs.Unread.{reads-head}
 use Rattle.ciborium_ll.proofs.HeldBytes.{begun-count, begun-left, begun-rest}
 use Rattle.ciborium_value.specs.Readings.{Reading}
 use Rattle.ciborium_value.specs.Refuses.{Refuses}
-use Rattle.ciborium_value.specs.Sources.{IsGranted, read_as}
+use Rattle.ciborium_value.specs.Sources.{IsGranted, IsOutside, read_as}
 use Rattle.ciborium_value.specs.Taken.{Taken}
 use Rattle.ciborium_value.specs.Tree.{Tree}
 use Rattle.ciborium.specs.declared.de.byte_source.ByteSource.{ByteSource}
@@ -29,10 +29,11 @@ use Rattle.ciborium.specs.TypedReads.{IsFaultAhead, RefusesTaken, TakesGiven}
 use Rattle.ciborium.specs.Spelling.{any}
 use Rattle.ciborium.proofs.FrontReads.{head-outside}
 use Rattle.ciborium.proofs.HandedReaders.{handed-denied, handed-given, on-ok, some-map}
-use Rattle.ciborium.proofs.ItemHeads.{first-head, header_of}
+use Rattle.ciborium.proofs.ItemHeads.{first-head, first-payload, header_of}
 use Rattle.ciborium.proofs.KnownReaders.{whole-of}
 use Rattle.ciborium.proofs.Pulled.{refused-from, refused-map}
 use Rattle.ciborium.proofs.SkippedTags.{fault-outside}
+use Rattle.ciborium.proofs.TakenOnly.{takes-end}
 use Rattle.ciborium.proofs.WhateverFollows.{leaves-name, leaves-rest, leaves-then, taken-tree}
 
 -- what an answer says where none is the end
@@ -120,11 +121,12 @@ module _ {S T A : Type 0} (E : Type 0) (remaining : S → Option (List ℕ)) (re
     next-value (Some h) (Err e) taken none item =
         some-map reading.whole item.whole (λ tree reads. whole-of {E = E} any s.levels (remaining lent) (remaining x) (Err e) (joined E remaining d s lent begins kept h taken t x (Err e) back reads))
 
-  pub next-refused : (first : Option Header) (r : Result (Option T) (Error E)) → First first → End first r → Behind first r → Otherwise r (λ q. RefusesTaken (Some s.levels) reading.taken (remaining lent) (read_as reading.content q))
-  next-refused None r taken (is, same) item = end-says r (λ q. RefusesTaken (Some s.levels) reading.taken (remaining lent) (read_as reading.content q)) is
+  pub next-refused : (first : Option Header) (r : Result (Option T) (Error E)) → First first → End first r → Behind first r → Otherwise r (λ q. RefusesTaken 0 (Some s.levels) reading.taken (remaining lent) (read_as reading.content q))
+  next-refused None r taken (is, same) item = end-says r (λ q. RefusesTaken 0 (Some s.levels) reading.taken (remaining lent) (read_as reading.content q)) is
   next-refused (Some h) (Ok None) taken none item = absurd item
   next-refused (Some h) (Ok (Some v)) taken none item = λ b known. tt
-  next-refused (Some h) (Err e) taken none item = λ b known. handed-denied E remaining reading (behind_head s h) t b (front E remaining d s lent begins kept h taken b known) few (Err e) item
+  next-refused (Some h) (Err e) taken none item = λ b known. handed-denied E remaining reading (behind_head s h) t b (0 + length b) (front E remaining d s lent begins kept h taken b known) few
+      (takes-end remaining d s.decoder _ b (begun-left remaining d lent 0 begins ∙ known) taken ∙ ap (λ n. n + length b) begins.count) (Err e) item
 
   pub next-memory : (first : Option Header) (r : Result (Option T) (Error E)) → End first r → Behind first r → IfErr r (λ e. IsGranted (cause_of e) reading.takes_memory)
   next-memory None r (is, same) item = subst (λ q. IfErr q (λ e. IsGranted (cause_of e) reading.takes_memory)) (sym is) tt
@@ -141,11 +143,14 @@ first-io ll.TooLong h = h
 first-io ll.Memory h = h
 
 module _ {S : Type 0} (E : Type 0) (remaining : S → Option (List ℕ)) (d e : Decoder S) (lent : S) (begins : HasBegun d lent 0) (same : HasSameReader d e) (x : LlError E) (taken : Takes remaining d e (λ b. IsHeadTaken {E = E} b d.window.count (Err x))) where
-  pub first-denied : {A : Type 0} (l : Option ℕ) (given : Taken A) (b : List ℕ) → remaining lent ≡ Some b → IsFaultAhead l given b (cause_of (from_ll x))
+  pub first-denied : {A : Type 0} (l : Option ℕ) (given : Taken A) (b : List ℕ) → remaining lent ≡ Some b → IsFaultAhead (0 + length b) l given b (cause_of (from_ll x))
   first-denied l given b known i s left spelled split =
       let (y, c, head, whole) = first-head s i spelled in
       let refused = reads-head {E = E} (left_of remaining d) (left_of remaining e) b d.window.count e.window.count (Err x) (begun-left remaining d lent 0 begins ∙ known) taken in
-      fault-outside (cause_of (from_ll x)) (given l i) (head-outside (left_of remaining e) x b y (c ++ left) d.window.count (header_of i) head (split ∙ ap (λ (z : List ℕ). z ++ left) whole ∙ append_assoc y c left) refused)
+      let there = first-payload s i spelled in
+      let more = length-append c left in
+      fault-outside _ (cause_of (from_ll x)) (given l i) (subst (λ n. IsOutside (n + length b) (cause_of (from_ll x))) begins.count
+      (head-outside (left_of remaining e) x b y (c ++ left) d.window.count (header_of i) head (split ∙ ap (λ (z : List ℕ). z ++ left) whole ∙ append_assoc y c left) (omega (arith, there, more)) refused))
 
   pub first-taken : (l : ℕ) (back : S) → back ≡ e.reader.now → TakesBytes {E = E} any (remaining lent) l (remaining back) (Err (from_ll x))
   first-taken l back given =

@@ -1,22 +1,22 @@
 -- A head that is looked at and not taken.
-use Rattle.std.proofs.Common.{◌≡◌, ◌≤◌, ◌+◌, ℕ, Bool, false, List, ◌++◌, Option, Some, refl, sym, ap, ◌∙◌, subst, append_assoc, ◌∷◌, [], true, None, inl, inr, arith, ◌<◌}
+use Rattle.std.proofs.Common.{◌≡◌, ◌≤◌, ◌+◌, ℕ, Bool, false, List, ◌++◌, Option, Some, refl, sym, ap, ◌∙◌, subst, append_assoc, ◌∷◌, [], true, None, inl, inr, arith, ◌<◌, length-append}
 use Rattle.ciborium_ll.specs.declared.header.Header.{Header}
 use Rattle.ciborium_ll.specs.declared.header.Header.TheVariants as header
 use Rattle.ciborium_ll.specs.Header.{SpellsHeader}
 use Rattle.ciborium_ll.specs.Item as items
 use Rattle.ciborium_ll.specs.Item.{Item, unsigned, negative, bytes, text, array, tag, simple, float}
-use Rattle.ciborium_ll.specs.Decoding.{HasSameReader, left_of}
-use Rattle.ciborium_ll.proofs.HeldBytes.{same-name}
+use Rattle.ciborium_ll.specs.Decoding.{left_of}
 use Rattle.ciborium_ll.specs.Head.{initial_byte}
 use Rattle.ciborium_ll.specs.Spells.{Spells}
 use Rattle.ciborium.proofs.Due.{held-pending}
-use Rattle.ciborium_value.specs.Sources.{Fault, RefusesToTell, TakesNothing, Tells}
+use Rattle.ciborium_value.specs.Sources.{Fault, IsOutside, RefusesToTell, TakesNothing, Tells}
 use Rattle.ciborium_value.specs.Taken.{is_null, is_null_simple}
 use Rattle.ciborium.specs.declared.de.byte_source.ByteSource.{ByteSource}
-use Rattle.ciborium.specs.ByteSources.{IsUnread, StandsBefore, bytes_weight, due_after, weight, weight_left, IsUnreadBy}
+use Rattle.ciborium.specs.ByteSources.{IsUnread, StandsBefore, bytes_weight, due_after, weight, weight_left, IsUnreadBy, end_at, reader_of}
 use Rattle.ciborium.specs.ItemReads.{TakesHead, DeniesHead}
 use Rattle.ciborium.specs.Unread.{IsRest}
-use Rattle.ciborium.proofs.ItemHeads.{header_of, first-head, same-head}
+use Rattle.ciborium.proofs.ItemHeads.{header_of, first-head, first-payload, same-head}
+use Rattle.ciborium.proofs.TakenOnly.{IsKept, kept-reader, rest-end}
 
 pub null-simple : (h : Header) (n : ℕ) → h ≡ header.Simple n → (i : Item) → header_of i ≡ h → is_null_simple n ≡ is_null i
 null-simple h n is i e = by i (e ∙ is)
@@ -45,18 +45,21 @@ null-other h p (float raw) e = refl
 
 module _ {S : Type 0} (remaining : S → Option (List ℕ)) (old mid new : ByteSource S) (h : Header) (took : TakesHead (IsUnread remaining) old mid h)
     (back : (b x y : List ℕ) → IsUnread remaining old b → SpellsHeader x h → b ≡ x ++ y → IsUnread remaining mid y → IsUnread remaining new b) where
-  pub tells : (answer : Bool) → HasSameReader old.decoder new.decoder → bytes_weight new + weight h ≤ weight_left old → new.levels ≡ old.levels → ((i : Item) → header_of i ≡ h → answer ≡ is_null i) → Tells (StandsBefore remaining) old new answer
+  pub tells : (answer : Bool) → IsKept remaining old new → bytes_weight new + weight h ≤ weight_left old → new.levels ≡ old.levels → ((i : Item) → header_of i ≡ h → answer ≡ is_null i) → Tells (StandsBefore remaining) old new answer
   tells answer kept fewer levels said l i f (b, u, (s, r, sp, rest, e), is, ahead, few) =
       let (x, y, hd, g, un) = took b u in
-      (said i (same-head s r x y i h sp hd (sym e ∙ g)).0, (b, back b x y u hd g un, (s, r, sp, subst (λ n. IsRest n r f) (sym (same-name old.decoder new.decoder kept)) rest, e), is ∙ ap Some (sym levels), tt, held-pending old new kept (due_after f) h fewer few))
+      (said i (same-head s r x y i h sp hd (sym e ∙ g)).0, (b, back b x y u hd g un, (s, r, sp, subst (λ n. IsRest n r f) (sym (kept-reader remaining old new kept b u)) rest, e), is ∙ ap Some (sym levels), tt, held-pending old new kept.0 (due_after f) h fewer few))
 
   pub takes-nothing : TakesNothing (IsUnread remaining) old new
   takes-nothing b u = let (x, y, hd, g, un) = took b u in (b, back b x y u hd g un, refl)
 
-pub refuses-to-tell : {S : Type 0} (remaining : S → Option (List ℕ)) (old : ByteSource S) (fault : Fault) → DeniesHead (IsUnread remaining) old fault → RefusesToTell (StandsBefore remaining) old fault
+pub refuses-to-tell : {S : Type 0} (remaining : S → Option (List ℕ)) (old : ByteSource S) (fault : Fault) → DeniesHead (IsUnread remaining) (end_at remaining) old fault → RefusesToTell (StandsBefore remaining) old fault
 refuses-to-tell remaining old fault denied l i f (b, u, (s, r, sp, rest, e), is, ahead, few) =
     let (x, y, hd, g) = first-head s i sp in
-    denied b x (y ++ r) (header_of i) u hd (e ∙ ap (λ (k : List ℕ). k ++ r) g ∙ append_assoc x y r)
+    let there = first-payload s i sp in
+    let more = length-append y r in
+    subst (λ n. IsOutside n fault) (sym (rest-end (reader_of remaining old.decoder) r f rest))
+    (denied b x (y ++ r) (header_of i) u hd (e ∙ ap (λ (k : List ℕ). k ++ r) g ∙ append_assoc x y r) (omega (arith, there, more)))
 
 -- ---- where the first byte is held
 

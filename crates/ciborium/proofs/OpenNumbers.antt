@@ -1,11 +1,11 @@
 -- Numbers in byte strings, part by part, and bignums.
-use Rattle.std.proofs.Common.{◌≡◌, ◌≢◌, ℕ, List, [], ◌∷◌, ◌++◌, length, ◌<◌, true, Option, Some, None, refl, sym, ap, ◌∙◌, subst, append_assoc, inl, inr, ◌⊎◌}
+use Rattle.std.proofs.Common.{◌≡◌, ◌≢◌, ℕ, List, [], ◌∷◌, ◌++◌, length, ◌<◌, true, Option, Some, None, refl, sym, ap, ◌∙◌, subst, append_assoc, inl, inr, ◌⊎◌, ◌≤◌, arith, length-append}
 use Rattle.std.proofs.lemmas.List.Elements.{All-append}
 use Rattle.ciborium_ll.specs.declared.header.Header.{Header}
 use Rattle.ciborium_ll.specs.declared.header.Header.TheVariants as header
 use Rattle.ciborium_ll.specs.Bytes.{AreBytes}
 use Rattle.ciborium_ll.specs.Head.{IsHead, open_byte, break_byte}
-use Rattle.ciborium_ll.specs.Header.{SpellsHeader}
+use Rattle.ciborium_ll.specs.Header.{SpellsHeader, announced_length}
 use Rattle.ciborium_ll.specs.Item as items
 use Rattle.ciborium_ll.specs.Item.{Item, unsigned, negative, bytes, text, array, tag, simple, float}
 use Rattle.ciborium_ll.specs.Spells.{Spells, AreParts, joined}
@@ -17,8 +17,8 @@ use Rattle.ciborium_value.specs.Sources.{Fault, IsOutside, of_kind}
 use Rattle.ciborium_value.specs.Taken.{taken_bignum, bignum_of, refuses}
 use Rattle.ciborium_value.specs.declared.kind.Kind.TheVariants as kinds
 use Rattle.ciborium.specs.ItemReads.{TakesHead, DeniesHead, Reads, Denies}
-use Rattle.ciborium.specs.StringContents.{is_open, digits_of, TakesDigits, TakesNumber, TakesParts, DeniesContent}
-use Rattle.ciborium.proofs.ItemHeads.{header_of, first-head, same-head, no-break-head}
+use Rattle.ciborium.specs.StringContents.{is_open, digits_of, TakesDigits, TakesNumber, TakesParts, DeniesContent, DeniesJust}
+use Rattle.ciborium.proofs.ItemHeads.{header_of, first-head, first-payload, same-head, no-break-head}
 use Rattle.ciborium.proofs.ReadDigits.{digits-append, digits-some, digits-none}
 use Rattle.ciborium.proofs.SkippedTags.{fault-outside}
 use Rattle.ciborium.proofs.SpelledStrings.{same-payload, string-break, opened-up, same-rest}
@@ -59,17 +59,23 @@ parts-end P M Q v parts head y u =
 
 -- the break, or a further part
 abbrev HasNext : List ℕ → List ℕ → Type 0
-HasNext r z = (r ≡ break_byte ∷ z) ⊎ ((h : List ℕ) × (n : ℕ) × (a : List ℕ) × IsHead h 2 n × (r ≡ h ++ a))
+HasNext r z = (r ≡ break_byte ∷ z) ⊎ ((h : List ℕ) × (n : ℕ) × (a : List ℕ) × IsHead h 2 n × (r ≡ h ++ a) × (n ≤ length a))
 
 parts-front : (good t r z : List ℕ) (ps qs : List (List ℕ)) → AreParts 2 AreBytes good ps → AreParts 2 AreBytes t qs → good ++ r ≡ t ++ (break_byte ∷ z) → HasNext r z
 parts-front good t r z [] [] g h f = inl (ap (λ (k : List ℕ). k ++ r) (sym g) ∙ f ∙ ap (λ (k : List ℕ). k ++ (break_byte ∷ z)) h)
 parts-front good t r z [] (q ∷ qs) g (s, c, (x, hd, ok, i), rest, j) f =
-    inr (x, length q, q ++ (c ++ (break_byte ∷ z)), hd, ap (λ (k : List ℕ). k ++ r) (sym g) ∙ f ∙ opened-up x q s c t (break_byte ∷ z) i j)
+    inr (x, length q, q ++ (c ++ (break_byte ∷ z)), hd, ap (λ (k : List ℕ). k ++ r) (sym g) ∙ f ∙ opened-up x q s c t (break_byte ∷ z) i j, (let more = length-append q (c ++ (break_byte ∷ z)) in omega (arith, more)))
 parts-front good t r z (m ∷ ps) [] (s, c, (x, hd, ok, i), rest, j) h f =
     absurd (string-break of_bytes x m (c ++ r) z hd (sym (opened-up x m s c good r i j) ∙ f ∙ ap (λ (k : List ℕ). k ++ (break_byte ∷ z)) h))
 parts-front good t r z (m ∷ ps) (q ∷ qs) (s, c, (x, hd, ok, i), rest, j) (s', c', (x', hd', ok', i'), rest', j') f =
     let same = same-payload of_bytes x x' m q (c ++ r) (c' ++ (break_byte ∷ z)) hd hd' (sym (opened-up x m s c good r i j) ∙ f ∙ opened-up x' q s' c' t (break_byte ∷ z) i' j') in
     parts-front c c' r z ps qs rest rest' same.1
+
+no-break-bytes : (n : ℕ) → header.Bytes (Some n) ≡ header.Break → ⊥
+no-break-bytes n e = cc
+
+same-bytes : (n m : ℕ) → header.Bytes (Some n) ≡ header.Bytes (Some m) → n ≡ m
+same-bytes n m e = cc
 
 module _ (P M : List ℕ → Type 0) (v : Option ℕ) (parts : TakesParts P M v) where
   front : (y x s z payload : List ℕ) → P y → SpellsHeader x (header.Bytes None) → Spells s (bytes true payload) → x ++ y ≡ s ++ z → (r : List ℕ) × M r × HasNext r z
@@ -78,24 +84,39 @@ module _ (P M : List ℕ → Type 0) (v : Option ℕ) (parts : TakesParts P M v)
       let behind : y ≡ (t ++ (break_byte ∷ [])) ++ z = same-rest (open_byte 2) y ((t ++ (break_byte ∷ [])) ++ z) (ap (λ (k : List ℕ). k ++ y) (sym hd) ∙ e ∙ ap (λ (k : List ℕ). k ++ z) f) in
       (r, un, parts-front c t r z ps qs are are' (sym split ∙ behind ∙ append_assoc t (break_byte ∷ []) z))
 
-  pub parts-no-head : (fault : Fault) → ((b x y : List ℕ) (h : Header) → M b → SpellsHeader x h → b ≡ x ++ y → IsOutside fault) → DeniesContent P of_bytes None fault
-  parts-no-head fault none y x s z payload u hd sp e =
+  pub parts-no-head : (mid end : ℕ) (fault : Fault) → ((y : List ℕ) → P y → mid ≡ end) → ((b x y : List ℕ) (h : Header) → M b → SpellsHeader x h → b ≡ x ++ y → announced_length h ≤ length y → IsOutside mid fault) → DeniesContent P end of_bytes None fault
+  parts-no-head mid end fault same none y x s z payload u hd sp e =
       let (r, un, w) = front y x s z payload u hd sp e in
-      by r un w
+      subst (λ n. IsOutside n fault) (same y u) (by r un w)
     where
-      by : (r : List ℕ) → M r → HasNext r z → IsOutside fault
-      by r un (inl k) = none r (break_byte ∷ []) z header.Break un refl k
-      by r un (inr (h, n, a, w, k)) = none r h a (header.Bytes (Some n)) un w k
+      by : (r : List ℕ) → M r → HasNext r z → IsOutside mid fault
+      by r un (inl k) = none r (break_byte ∷ []) z header.Break un refl k (omega arith)
+      by r un (inr (h, n, a, w, k, there)) = none r h a (header.Bytes (Some n)) un w k there
 
-  pub parts-other : (fault : Fault) (h : Header) → ((y : List ℕ) → M y → (x : List ℕ) × (r : List ℕ) × SpellsHeader x h × (y ≡ x ++ r)) → h ≢ header.Break → ((n : ℕ) → h ≢ header.Bytes (Some n)) → DeniesContent P of_bytes None fault
-  parts-other fault h head p q y x s z payload u hd sp e =
+  pub parts-other : (end : ℕ) (fault : Fault) (h : Header) → ((y : List ℕ) → M y → (x : List ℕ) × (r : List ℕ) × SpellsHeader x h × (y ≡ x ++ r)) → h ≢ header.Break → ((n : ℕ) → h ≢ header.Bytes (Some n)) → DeniesContent P end of_bytes None fault
+  parts-other end fault h head p q y x s z payload u hd sp e =
       let (r, un, w) = front y x s z payload u hd sp e in
       let (a, b, ad, f) = head r un in
       by r a b ad f w
     where
-      by : (r a b : List ℕ) → SpellsHeader a h → r ≡ a ++ b → HasNext r z → IsOutside fault
+      by : (r a b : List ℕ) → SpellsHeader a h → r ≡ a ++ b → HasNext r z → IsOutside end fault
       by r a b ad f (inl k) = absurd (p (one_header_at_front a (break_byte ∷ []) b z h header.Break ad refl (sym f ∙ k)).2)
-      by r a b ad f (inr (k, n, d, w, m)) = absurd (q n (one_header_at_front a k b d h (header.Bytes (Some n)) ad w (sym f ∙ m)).2)
+      by r a b ad f (inr (k, n, d, w, m, there)) = absurd (q n (one_header_at_front a k b d h (header.Bytes (Some n)) ad w (sym f ∙ m)).2)
+
+  -- the bytes of a further part are refused
+  pub parts-cut : (Q : List ℕ → Type 0) (mid end n : ℕ) (fault : Fault) → ((y : List ℕ) → P y → mid ≡ end) → ((y : List ℕ) → M y → (x : List ℕ) × (r : List ℕ) × SpellsHeader x (header.Bytes (Some n)) × (y ≡ x ++ r) × Q r) → DeniesJust Q mid n fault → DeniesContent P end of_bytes None fault
+  parts-cut Q mid end n fault same head denied y x s z payload u hd sp e =
+      let (r, un, w) = front y x s z payload u hd sp e in
+      let (a, b, ad, f, un') = head r un in
+      subst (λ k. IsOutside k fault) (same y u) (denied b un' (by r a b ad f w))
+    where
+      by : (r a b : List ℕ) → SpellsHeader a (header.Bytes (Some n)) → r ≡ a ++ b → HasNext r z → n ≤ length b
+      by r a b ad f (inl k) = absurd (no-break-bytes n (one_header_at_front a (break_byte ∷ []) b z (header.Bytes (Some n)) header.Break ad refl (sym f ∙ k)).2)
+      by r a b ad f (inr (k, m, d, w, g, there)) =
+          let one = one_header_at_front a k b d (header.Bytes (Some n)) (header.Bytes (Some m)) ad w (sym f ∙ g) in
+          let size : n ≡ m = same-bytes n m one.2 in
+          let rest : length b ≡ length d = ap length one.1 in
+          omega (arith, size, rest, there)
 
 pub no-break : (h : Header) → h ≡ header.Bytes None → h ≢ header.Break
 no-break h e f = cc
@@ -116,37 +137,39 @@ other-bignum (tag t i) h e p = refl
 other-bignum (simple n) h e p = refl
 other-bignum (float raw) h e p = refl
 
-module _ {S : Type 0} (IsUnread : S → List ℕ → Type 0) (old mid : S) where
+module _ {S : Type 0} (IsUnread : S → List ℕ → Type 0) (End : S → ℕ) (old mid : S) where
   pub bignum-reads : (new : S) (len : Option ℕ) (v : ℕ) → TakesHead IsUnread old mid (header.Bytes len) → TakesNumber (IsUnread mid) (IsUnread new) len (Some v) → Reads IsUnread old new None taken_bignum v
   bignum-reads new len v took number b u =
       let (x, y, hd, e, un) = took b u in
       let (payload, c, z, make, val, small, f, un') = number y un in
       (bytes (is_open len) payload, x ++ c, z, make x hd, e ∙ ap (λ (k : List ℕ). x ++ k) f ∙ sym (append_assoc x c z), digits-some payload v small val, un')
 
-  pub bignum-large : (Q : List ℕ → Type 0) (len : Option ℕ) → TakesHead IsUnread old mid (header.Bytes len) → TakesNumber (IsUnread mid) Q len None → Denies IsUnread old None taken_bignum (of_kind kinds.TooLarge)
+  pub bignum-large : (Q : List ℕ → Type 0) (len : Option ℕ) → TakesHead IsUnread old mid (header.Bytes len) → TakesNumber (IsUnread mid) Q len None → Denies IsUnread End old None taken_bignum (of_kind kinds.TooLarge)
   bignum-large Q len took number b s z i u sp e =
       let (x, y, hd, f, un) = took b u in
       let (payload, c, r, make, val, small, g, un') = number y un in
       let one = one_at_front s (x ++ c) z r i (bytes (is_open len) payload) sp (make x hd) (sym e ∙ f ∙ ap (λ (k : List ℕ). x ++ k) g ∙ sym (append_assoc x c r)) in
       ap bignum_of one.2 ∙ digits-none payload small val
 
-  pub bignum-content : (len : Option ℕ) (fault : Fault) → TakesHead IsUnread old mid (header.Bytes len) → DeniesContent (IsUnread mid) of_bytes len fault → Denies IsUnread old None taken_bignum fault
-  bignum-content len fault took none b s z i u sp e =
+  pub bignum-content : (len : Option ℕ) (fault : Fault) → ((b : List ℕ) → IsUnread old b → End mid ≡ End old) → TakesHead IsUnread old mid (header.Bytes len) → DeniesContent (IsUnread mid) (End mid) of_bytes len fault → Denies IsUnread End old None taken_bignum fault
+  bignum-content len fault same took none b s z i u sp e =
       let (x, y, hd, f, un) = took b u in
       let (payload, io) = string-only of_bytes len i (same-head s z x y i (header.Bytes len) sp hd (sym e ∙ f)).0 in
-      fault-outside fault (bignum_of i) (none y x s z payload un hd (subst (Spells s) io sp) (sym f ∙ e))
+      fault-outside _ fault (bignum_of i) (subst (λ n. IsOutside n fault) (same b u) (none y x s z payload un hd (subst (Spells s) io sp) (sym f ∙ e)))
 
-  pub bignum-no-head : (fault : Fault) → DeniesHead IsUnread old fault → Denies IsUnread old None taken_bignum fault
+  pub bignum-no-head : (fault : Fault) → DeniesHead IsUnread End old fault → Denies IsUnread End old None taken_bignum fault
   bignum-no-head fault none b s z i u sp e =
       let (x, y, hd, f) = first-head s i sp in
-      fault-outside fault (bignum_of i) (none b x (y ++ z) (header_of i) u hd (e ∙ ap (λ (k : List ℕ). k ++ z) f ∙ append_assoc x y z))
+      let there = first-payload s i sp in
+      let more = length-append y z in
+      fault-outside _ fault (bignum_of i) (none b x (y ++ z) (header_of i) u hd (e ∙ ap (λ (k : List ℕ). k ++ z) f ∙ append_assoc x y z) (omega (arith, there, more)))
 
-  pub bignum-other : (h : Header) → TakesHead IsUnread old mid h → ((n : Option ℕ) → h ≡ header.Bytes n → ⊥) → Denies IsUnread old None taken_bignum (of_kind kinds.Bytes)
+  pub bignum-other : (h : Header) → TakesHead IsUnread old mid h → ((n : Option ℕ) → h ≡ header.Bytes n → ⊥) → Denies IsUnread End old None taken_bignum (of_kind kinds.Bytes)
   bignum-other h took p b s z i u sp e =
       let (x, y, hd, f, un) = took b u in
       other-bignum i h (same-head s z x y i h sp hd (sym e ∙ f)).0 p
 
-  pub bignum-break : (fault : Fault) → TakesHead IsUnread old mid header.Break → Denies IsUnread old None taken_bignum fault
+  pub bignum-break : (fault : Fault) → TakesHead IsUnread old mid header.Break → Denies IsUnread End old None taken_bignum fault
   bignum-break fault took b s z i u sp e =
       let (x, y, hd, f, un) = took b u in
       absurd (no-break-head i (same-head s z x y i header.Break sp hd (sym e ∙ f)).0)

@@ -1,16 +1,21 @@
 -- Numbers that are read byte by byte.
-use Rattle.std.proofs.Common.{◌≡◌, ◌≢◌, ℕ, zero, suc, ◌+◌, ◌*◌, ◌-◌, ◌^◌, ◌<◌, ◌≤◌, ltb, Bool, true, false, List, [], ◌∷◌, ◌++◌, length, Option, Some, None, Ok, refl, sym, ap, ◌∙◌, append_assoc, length-append, arith, lit<, add-one, lt-ltb, le-ltb, ne_eqb}
+use Rattle.std.proofs.Common.{◌≡◌, ◌≢◌, ℕ, zero, suc, ◌+◌, ◌*◌, ◌-◌, ◌^◌, ◌<◌, ◌≤◌, ltb, Bool, true, false, List, [], ◌∷◌, ◌++◌, length, Option, Some, None, Ok, Err, refl, sym, ap, ◌∙◌, append_assoc, length-append, arith, lit<, add-one, lt-ltb, le-ltb, ne_eqb}
 use Rattle.std.proofs.Math.Nat.{pow-le-pow_right, pow-suc}
 use Rattle.std.proofs.lemmas.Bool.Decides.{nat_tests}
 use Rattle.std.proofs.lemmas.List.Elements.{All-append, All-head, All-tail}
 use Rattle.ciborium_ll.specs.declared.decoder.Decoder.{Decoder}
+use Rattle.ciborium_ll.specs.declared.header.Error.{Error as LlError}
+use Rattle.ciborium_ll.specs.declared.header.Error.TheVariants as ll
 use Rattle.ciborium_ll.specs.Bytes.{AreBytes, greatest_offset}
 use Rattle.ciborium_ll.specs.Decoding.{Takes, left_of}
 use Rattle.ciborium_ll.specs.Reading.{IsFillTaken}
 use Rattle.ciborium_ll.proofs.Unread.{rest-of}
 use Rattle.ciborium_value.specs.Meaning.{big_endian_behind, big_endian, without_zeros}
+use Rattle.ciborium_value.specs.Sources.{IsOutside}
 use Rattle.ciborium_value.specs.Taken.{magnitude, gives, refuses}
 use Rattle.ciborium_value.specs.declared.kind.Kind.TheVariants as kinds
+use Rattle.ciborium.specs.ByteSources.{cause_of, known_end, reader_of}
+use Rattle.ciborium.specs.Errors.{from_ll}
 use Rattle.ciborium.specs.StringContents.{one_digit_more, digits_of}
 
 pub digits-append : (o : Option ℕ) (c d : List ℕ) → digits_of o (c ++ d) ≡ digits_of (digits_of o c) d
@@ -142,3 +147,14 @@ digit-more E remaining d e buffer x left n start value next y one some is (b, ta
       split ∙ ap (λ (k : List ℕ). c ++ k) f ∙ sym (append_assoc c b r),
       left',
     )
+
+-- where so many bytes are there, filling a buffer with them is refused for what they do not decide
+pub fill-outside : {E : Type 0} {S : Type 0} (remaining : S → Option (List ℕ)) (d e : Decoder S) (buffer y : List ℕ) (x : LlError E) → left_of remaining d ≡ Some y → length buffer ≤ length y → Takes remaining d e (λ b. IsFillTaken {E = E} b d.window.count buffer (Err x)) →
+    IsOutside (reader_of remaining d).1 (cause_of (from_ll x))
+fill-outside remaining d e buffer y (ll.Io x) left there (b, takes, counted, taken, bytes) = tt
+fill-outside remaining d e buffer y (ll.Syntax p) left there (b, takes, counted, taken, bytes) = absurd taken
+fill-outside remaining d e buffer y ll.TooLong left there (b, takes, counted, taken, bytes) =
+    let end : (reader_of remaining d).1 ≡ d.window.count + length y = ap (λ o. known_end o d.window.count) left in
+    let past = taken.1 in
+    omega (arith, end, past, there)
+fill-outside remaining d e buffer y ll.Memory left there (b, takes, counted, taken, bytes) = tt

@@ -1,5 +1,5 @@
 -- Tags that are skipped, and what is read behind them.
-use Rattle.std.proofs.Common.{◌≡◌, ℕ, Bool, true, false, List, [], ◌∷◌, ◌++◌, refl, sym, ap, ◌∙◌, subst, append_assoc, append-nil}
+use Rattle.std.proofs.Common.{◌≡◌, ℕ, Bool, true, false, List, [], ◌∷◌, ◌++◌, refl, sym, ap, ◌∙◌, subst, append_assoc, append-nil, ◌≤◌, length, arith, length-append}
 use Rattle.ciborium_ll.specs.declared.header.Header.{Header}
 use Rattle.ciborium_ll.specs.declared.header.Header.TheVariants as header
 use Rattle.ciborium_ll.specs.Header.{SpellsHeader}
@@ -7,19 +7,20 @@ use Rattle.ciborium_ll.specs.Item.{Item, tag}
 use Rattle.ciborium_ll.specs.Spells.{Spells}
 use Rattle.ciborium_value.specs.Meaning.{is_bignum_tag}
 use Rattle.ciborium_value.specs.Nesting.{Limit}
-use Rattle.ciborium_value.specs.Sources.{Fault, IsFaultOf, IsOutside, of_kind, of_nesting, of_syntax, of_memory, of_device}
+use Rattle.ciborium_value.specs.Sources.{Fault, IsFaultOf, IsOutside, of_kind, of_nesting, of_syntax, of_memory, of_device, of_length}
 use Rattle.ciborium_value.specs.Taken.{Outcome, Taken, gives, untagged, number_of, number_under}
 use Rattle.ciborium.specs.ItemReads.{TakesHead, DeniesHead, DeniesItem, Reads, Denies}
 use Rattle.ciborium.specs.Skips.{under, IsSkipped, AreSkipped, IsTagged, Skips, TakesBare}
-use Rattle.ciborium.proofs.ItemHeads.{header_of, first-head, same-head, tag-front, no-break-head}
+use Rattle.ciborium.proofs.ItemHeads.{header_of, first-head, first-payload, same-head, tag-front, no-break-head}
 
 -- what no item decides can be said of any
-pub fault-outside : {A : Type 0} (fault : Fault) (o : Outcome A) → IsOutside fault → IsFaultOf fault o
-fault-outside (of_kind k) o h = absurd h
-fault-outside of_nesting o h = absurd h
-fault-outside of_syntax o h = absurd h
-fault-outside of_memory o h = tt
-fault-outside of_device o h = tt
+pub fault-outside : {A : Type 0} (end : ℕ) (fault : Fault) (o : Outcome A) → IsOutside end fault → IsFaultOf end fault o
+fault-outside end (of_kind k) o h = absurd h
+fault-outside end of_nesting o h = absurd h
+fault-outside end of_syntax o h = absurd h
+fault-outside end of_memory o h = tt
+fault-outside end of_device o h = tt
+fault-outside end of_length o h = h
 
 pub untagged-under : (ts : List ℕ) (i : Item) → untagged (under ts i) ≡ untagged i
 untagged-under [] i = refl
@@ -77,23 +78,25 @@ module _ {S : Type 0} (IsUnread : S → List ℕ → Type 0) where
       let (x, y, hd, e, un') = k c un in
       (t ∷ ts, y, tagged-more ts b c x y t tagged hd e, (skipped, all), un')
 
-  pub denies-item : (old mid : S) (numbers : Bool) (fault : Fault) → Skips IsUnread old mid numbers → DeniesHead IsUnread mid fault → DeniesItem IsUnread old fault
-  denies-item old mid numbers fault sk k b s z i u sp e =
+  pub denies-item : (End : S → ℕ) (old mid : S) (numbers : Bool) (fault : Fault) → ((b : List ℕ) → IsUnread old b → End mid ≡ End old) → Skips IsUnread old mid numbers → DeniesHead IsUnread End mid fault → DeniesItem IsUnread End old fault
+  denies-item End old mid numbers fault same sk k b s z i u sp e =
       let (ts, c, tagged, all, un) = sk b u in
       let (j, t, is, sq, f) = tagged.inward i s z sp e in
       let (x, y, hd, g) = first-head t j sq in
-      k c x (y ++ z) (header_of j) un hd (f ∙ ap (λ (w : List ℕ). w ++ z) g ∙ append_assoc x y z)
+      let there = first-payload t j sq in
+      let more = length-append y z in
+      subst (λ n. IsOutside n fault) (same b u) (k c x (y ++ z) (header_of j) un hd (f ∙ ap (λ (w : List ℕ). w ++ z) g ∙ append_assoc x y z) (omega (arith, there, more)))
 
   -- where a break stands no item does
-  pub denies-break : (old mid new : S) (numbers : Bool) (fault : Fault) → Skips IsUnread old mid numbers → TakesHead IsUnread mid new header.Break → DeniesItem IsUnread old fault
-  denies-break old mid new numbers fault sk k b s z i u sp e =
+  pub denies-break : (End : S → ℕ) (old mid new : S) (numbers : Bool) (fault : Fault) → Skips IsUnread old mid numbers → TakesHead IsUnread mid new header.Break → DeniesItem IsUnread End old fault
+  denies-break End old mid new numbers fault sk k b s z i u sp e =
       let (ts, c, tagged, all, un) = sk b u in
       let (j, t, is, sq, f) = tagged.inward i s z sp e in
       let (x, y, hd, g, un') = k c un in
       absurd (no-break-head j (same-head t z x y j header.Break sq hd (sym f ∙ g)).0)
 
-  pub denies-of-item : {A : Type 0} (l : Limit) (taken : Taken A) (old : S) (fault : Fault) → DeniesItem IsUnread old fault → Denies IsUnread old l taken fault
-  denies-of-item l taken old fault h b s z i u sp e = fault-outside fault (taken l i) (h b s z i u sp e)
+  pub denies-of-item : {A : Type 0} (End : S → ℕ) (l : Limit) (taken : Taken A) (old : S) (fault : Fault) → DeniesItem IsUnread End old fault → Denies IsUnread End old l taken fault
+  denies-of-item End l taken old fault h b s z i u sp e = fault-outside _ fault (taken l i) (h b s z i u sp e)
 
   -- a head that is taken as it comes, and is not skipped
   pub bare-head : (old new : S) (numbers : Bool) (h : Header) → TakesHead IsUnread old new h → TakesBare IsUnread old new numbers h
@@ -108,11 +111,11 @@ module _ {S : Type 0} (IsUnread : S → List ℕ → Type 0) where
       let (ts, w, x, y, inner, more, hd, e, un') = k c un in
       (ts ++ us, w, x, y, tagged-append ts us b c w outer inner, skipped-append numbers ts us more some, hd, e, un')
 
-  pub denies-behind : (old mid : S) (numbers : Bool) (fault : Fault) → Skips IsUnread old mid numbers → DeniesItem IsUnread mid fault → DeniesItem IsUnread old fault
-  denies-behind old mid numbers fault sk k b s z i u sp e =
+  pub denies-behind : (End : S → ℕ) (old mid : S) (numbers : Bool) (fault : Fault) → ((b : List ℕ) → IsUnread old b → End mid ≡ End old) → Skips IsUnread old mid numbers → DeniesItem IsUnread End mid fault → DeniesItem IsUnread End old fault
+  denies-behind End old mid numbers fault same sk k b s z i u sp e =
       let (us, c, outer, some, un) = sk b u in
       let (j, t, is, sq, f) = outer.inward i s z sp e in
-      k c t z j un sq f
+      subst (λ n. IsOutside n fault) (same b u) (k c t z j un sq f)
 
 -- ---- what is read behind tags
 
@@ -133,8 +136,8 @@ module _ {S A : Type 0} (IsUnread : S → List ℕ → Type 0) (numbers : Bool) 
   pub reads-whole : (old mid : S) (v : A) (i : Item) → TakesBare IsUnread old mid numbers h → ((x : List ℕ) → SpellsHeader x h → Spells x i) → ((ts : List ℕ) → AreSkipped numbers ts → taken l (under ts i) ≡ gives v) → Reads IsUnread old mid l taken v
   reads-whole old mid v i bare make give = reads-bare old mid mid v bare (λ y un. (i, [], y, λ x hd. subst (λ (s : List ℕ). Spells s i) (sym (append-nil x)) (make x hd), refl, give, un))
 
-  pub denies-bare : (old mid : S) (fault : Fault) → TakesBare IsUnread old mid numbers h → ((ts : List ℕ) (i : Item) → AreSkipped numbers ts → header_of i ≡ h → IsFaultOf fault (taken l (under ts i))) → Denies IsUnread old l taken fault
-  denies-bare old mid fault bare blames b s z j u sp e =
+  pub denies-bare : (End : S → ℕ) (old mid : S) (fault : Fault) → TakesBare IsUnread old mid numbers h → ((ts : List ℕ) (i : Item) → AreSkipped numbers ts → header_of i ≡ h → IsFaultOf (End old) fault (taken l (under ts i))) → Denies IsUnread End old l taken fault
+  denies-bare End old mid fault bare blames b s z j u sp e =
       let (ts, w, x, y, tagged, all, hd, f, un) = bare b u in
       let (i, t, is, sq, g) = tagged.inward j s z sp e in
-      subst (λ k. IsFaultOf fault (taken l k)) (sym is) (blames ts i all (same-head t z x y i h sq hd (sym g ∙ f)).0)
+      subst (λ k. IsFaultOf (End old) fault (taken l k)) (sym is) (blames ts i all (same-head t z x y i h sq hd (sym g ∙ f)).0)

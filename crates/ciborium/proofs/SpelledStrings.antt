@@ -1,13 +1,14 @@
 -- Where a string is spelled, no part of it is refused as ill-formed.
-use Rattle.std.proofs.Common.{◌≡◌, ℕ, ◌+◌, List, [], ◌∷◌, ◌++◌, length, take, drop, Option, Some, None, refl, sym, ap, ◌∙◌, subst, append_assoc, inl, inr}
+use Rattle.std.proofs.Common.{◌≡◌, ℕ, ◌+◌, List, [], ◌∷◌, ◌++◌, length, take, drop, Option, Some, None, refl, sym, ap, ◌∙◌, subst, append_assoc, inl, inr, ◌<◌, ◌≤◌, arith, length-append}
 use Rattle.std.proofs.Math.Seq.{take-append_seam, drop-append_seam}
 use Rattle.ciborium_ll.specs.declared.header.Header.TheVariants as header
 use Rattle.ciborium_ll.specs.declared.header.Error.{Error as LlError}
 use Rattle.ciborium_ll.specs.declared.header.Error.TheVariants as ll
+use Rattle.ciborium_ll.specs.Bytes.{greatest_offset}
 use Rattle.ciborium_ll.specs.Head.{IsHead, open_byte, break_byte}
-use Rattle.ciborium_ll.specs.Header.{SpellsHeader}
+use Rattle.ciborium_ll.specs.Header.{SpellsHeader, announced_length}
 use Rattle.ciborium_ll.specs.Reading as reading
-use Rattle.ciborium_ll.specs.Refusal.{Refusal, io, syntax, HeadRefuses}
+use Rattle.ciborium_ll.specs.Refusal.{Refusal, io, syntax, too_long, HeadRefuses}
 use Rattle.ciborium_ll.specs.Spells.{Spells, AreParts}
 use Rattle.ciborium_ll.specs.StringRefusal.{StringKind, of_bytes, of_text, major_of, IsAllowed, PayloadRefuses, PartRefuses, ContentRefuses}
 use Rattle.ciborium_ll.proofs.OneHeader.{one_header_at_front}
@@ -15,7 +16,7 @@ use Rattle.ciborium_value.specs.Sources.{IsOutside}
 use Rattle.ciborium.specs.ByteSources.{cause_of}
 use Rattle.ciborium.specs.Errors.{from_ll}
 use Rattle.ciborium.specs.StringContents.{head_of, string_item}
-use Rattle.ciborium.proofs.FrontReads.{never-syntax}
+use Rattle.ciborium.proofs.FrontReads.{head-passes, never-syntax}
 
 -- ---- one head, and behind it one payload
 
@@ -115,9 +116,62 @@ content-never kind None p q at y x s z payload hd sp e (good, ps, r, parts, room
     let behind : y ≡ (t ++ (break_byte ∷ [])) ++ z = same-rest o y ((t ++ (break_byte ∷ [])) ++ z) (ap (λ (k : List ℕ). k ++ y) (sym (open-spells kind x hd)) ∙ e ∙ ap (λ (k : List ℕ). k ++ z) f) in
     parts-never kind (q + length good) at good t r z ps qs (syntax at) refl parts are (sym split ∙ behind ∙ append_assoc t (break_byte ∷ []) z) w
 
+-- ---- what is refused as too long is
+
+pub payload-long : (kind : StringKind) (n p : ℕ) (y : List ℕ) (e : Refusal) → e ≡ too_long → PayloadRefuses kind n p y e → ⊥
+payload-long kind n p y io is (PayloadRefuses.ends_early lt) = cc
+payload-long kind n p y e is (PayloadRefuses.not_allowed other r len bad) = cc
+
+announced-string : (kind : StringKind) (n : ℕ) → announced_length (head_of kind (Some n)) ≡ n
+announced-string of_bytes n = refl
+announced-string of_text n = refl
+
+-- at a break
+break-long : (kind : StringKind) (p : ℕ) (r z : List ℕ) (e : Refusal) → e ≡ too_long → r ≡ break_byte ∷ z → PartRefuses kind r p e → greatest_offset < p + length r
+break-long kind p r z e is f (PartRefuses.no_head h) =
+    subst (λ (k : List ℕ). greatest_offset < p + length k) (sym f) (head-passes (break_byte ∷ []) z header.Break p refl (omega arith) (subst (λ (k : List ℕ). HeadRefuses k p too_long) f (subst (HeadRefuses r p) is h)))
+break-long kind p r z e is f (PartRefuses.part u (n, k, r', (h, hd, len, g), w)) = absurd (payload-long kind n p r' e is w)
+break-long kind p r z e is f (PartRefuses.other u string end) = cc
+
+-- at a good part
+part-long : (kind : StringKind) (p : ℕ) (r h payload z : List ℕ) (e : Refusal) → e ≡ too_long → IsHead h (major_of kind) (length payload) → r ≡ h ++ (payload ++ z) → PartRefuses kind r p e → greatest_offset < p + length r
+part-long kind p r h payload z e is hd f (PartRefuses.no_head w) =
+    let there = announced-string kind (length payload) in
+    let more = length-append payload z in
+    subst (λ (k : List ℕ). greatest_offset < p + length k) (sym f)
+    (head-passes h (payload ++ z) (head_of kind (Some (length payload))) p (string-spells kind (length payload) h hd) (omega (arith, there, more)) (subst (λ (k : List ℕ). HeadRefuses k p too_long) f (subst (HeadRefuses r p) is w)))
+part-long kind p r h payload z e is hd f (PartRefuses.part u (n, k, r', (x, xd, len, g), w)) = absurd (payload-long kind n p r' e is w)
+part-long kind p r h payload z e is hd f (PartRefuses.other u string end) = cc
+
+parts-long : (kind : StringKind) (p : ℕ) (good t r z : List ℕ) (ps qs : List (List ℕ)) (e : Refusal) → e ≡ too_long → AreParts (major_of kind) (IsAllowed kind) good ps → AreParts (major_of kind) (IsAllowed kind) t qs →
+    good ++ r ≡ t ++ (break_byte ∷ z) → PartRefuses kind r p e → greatest_offset < p + length r
+parts-long kind p good t r z [] [] e is g h f w = break-long kind p r z e is (ap (λ (k : List ℕ). k ++ r) (sym g) ∙ f ∙ ap (λ (k : List ℕ). k ++ (break_byte ∷ z)) h) w
+parts-long kind p good t r z [] (q ∷ qs) e is g (s, c, (x, hd, ok, i), rest, j) f w =
+    part-long kind p r x q (c ++ (break_byte ∷ z)) e is hd (ap (λ (k : List ℕ). k ++ r) (sym g) ∙ f ∙ opened-up x q s c t (break_byte ∷ z) i j) w
+parts-long kind p good t r z (m ∷ ps) [] e is (s, c, (x, hd, ok, i), rest, j) h f w =
+    absurd (string-break kind x m (c ++ r) z hd (sym (opened-up x m s c good r i j) ∙ f ∙ ap (λ (k : List ℕ). k ++ (break_byte ∷ z)) h))
+parts-long kind p good t r z (m ∷ ps) (q ∷ qs) e is (s, c, (x, hd, ok, i), rest, j) (s', c', (x', hd', ok', i'), rest', j') f w =
+    let same = same-payload kind x x' m q (c ++ r) (c' ++ (break_byte ∷ z)) hd hd' (sym (opened-up x m s c good r i j) ∙ f ∙ opened-up x' q s' c' t (break_byte ∷ z) i' j') in
+    parts-long kind p c c' r z ps qs e is rest rest' same.1 w
+
+-- where a string is spelled, what follows its head is refused as too long only where what is there is
+pub content-long : (kind : StringKind) (len : Option ℕ) (p q : ℕ) (y x s z payload : List ℕ) → SpellsHeader x (head_of kind len) → Spells s (string_item kind len payload) → x ++ y ≡ s ++ z → ContentRefuses kind len p y q too_long → greatest_offset < q + length y
+content-long kind (Some n) p q y x s z payload hd sp e (inl (over, same)) =
+    let (size, ok, f) = definite-payload kind n y x s z payload hd sp e in
+    let long : length y ≡ length payload + length z = ap length f ∙ length-append payload z in
+    omega (arith, over, size, long)
+content-long kind (Some n) p q y x s z payload hd sp e (inr (within, w)) = absurd (payload-long kind n p y too_long refl w)
+content-long kind None p q y x s z payload hd sp e (good, ps, r, parts, room, split, w) =
+    let (qs, t, are, f) = open-parts kind s payload sp in
+    let o : ℕ = open_byte (major_of kind) in
+    let behind : y ≡ (t ++ (break_byte ∷ [])) ++ z = same-rest o y ((t ++ (break_byte ∷ [])) ++ z) (ap (λ (k : List ℕ). k ++ y) (sym (open-spells kind x hd)) ∙ e ∙ ap (λ (k : List ℕ). k ++ z) f) in
+    let long = parts-long kind (q + length good) good t r z ps qs too_long refl parts are (sym split ∙ behind ∙ append_assoc t (break_byte ∷ []) z) w in
+    let size : length y ≡ length good + length r = ap length split ∙ length-append good r in
+    omega (arith, long, size)
+
 pub content-outside : {E : Type 0} (left : Option (List ℕ)) (e : LlError E) (kind : StringKind) (len : Option ℕ) (p q : ℕ) (y x s z payload : List ℕ) → SpellsHeader x (head_of kind len) → Spells s (string_item kind len payload) → x ++ y ≡ s ++ z →
-    reading.IsRefusedBy left e (ContentRefuses kind len p y q) → IsOutside (cause_of (from_ll e))
+    reading.IsRefusedBy left e (ContentRefuses kind len p y q) → IsOutside (q + length y) (cause_of (from_ll e))
 content-outside left (ll.Io e) kind len p q y x s z payload hd sp f r = tt
 content-outside left (ll.Syntax at) kind len p q y x s z payload hd sp f r = absurd (content-never kind len p q at y x s z payload hd sp f r)
-content-outside left ll.TooLong kind len p q y x s z payload hd sp f r = tt
+content-outside left ll.TooLong kind len p q y x s z payload hd sp f r = content-long kind len p q y x s z payload hd sp f r
 content-outside left ll.Memory kind len p q y x s z payload hd sp f r = tt

@@ -13,7 +13,7 @@ use Rattle.ciborium_ll.specs.StringRefusal.{StringKind, of_bytes, of_text, major
 use Rattle.ciborium_ll.specs.Strings.{IsStringTaken}
 use Rattle.ciborium_ll.proofs.Unread.{rest-of}
 use Rattle.ciborium_value.specs.Nesting.{Limit}
-use Rattle.ciborium_value.specs.Sources.{Fault}
+use Rattle.ciborium_value.specs.Sources.{Fault, IsOutside}
 use Rattle.ciborium_value.specs.Taken.{Taken, gives, refuses, untagged, bare_text, taken_text}
 use Rattle.ciborium_value.specs.declared.kind.Kind.TheVariants as kinds
 use Rattle.ciborium.specs.ByteSources.{IsUnreadBy}
@@ -69,13 +69,13 @@ string-only of_text len (simple n) e = cc
 string-only of_text len (float raw) e = cc
 
 -- a string whose payload is refused stands in no item
-pub denies-content : {S : Type 0} (IsUnread : S → List ℕ → Type 0) (numbers : Bool) (old mid : S) (kind : StringKind) (len : Option ℕ) (fault : Fault) → TakesBare IsUnread old mid numbers (head_of kind len) → DeniesContent (IsUnread mid) kind len fault →
-    DeniesItem IsUnread old fault
-denies-content IsUnread numbers old mid kind len fault bare none b s z j u sp e =
+pub denies-content : {S : Type 0} (IsUnread : S → List ℕ → Type 0) (End : S → ℕ) (numbers : Bool) (old mid : S) (kind : StringKind) (len : Option ℕ) (fault : Fault) → ((b : List ℕ) → IsUnread old b → End mid ≡ End old) → TakesBare IsUnread old mid numbers (head_of kind len) → DeniesContent (IsUnread mid) (End mid) kind len fault →
+    DeniesItem IsUnread End old fault
+denies-content IsUnread End numbers old mid kind len fault same bare none b s z j u sp e =
     let (ts, w, x, y, tagged, all, hd, f, un) = bare b u in
     let (i, t, is, sq, g) = tagged.inward j s z sp e in
     let (payload, io) = string-only kind len i (same-head t z x y i (head_of kind len) sq hd (sym g ∙ f)).0 in
-    none y x t z payload un hd (subst (Spells t) io sq) (sym f ∙ g)
+    subst (λ n. IsOutside n fault) (same b u) (none y x t z payload un hd (subst (Spells t) io sq) (sym f ∙ g))
 
 -- ---- how long payloads are
 

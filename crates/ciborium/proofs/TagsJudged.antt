@@ -1,7 +1,7 @@
 -- What was read with its tag is looked at once more.
 use Rattle.std.proofs.Common.{◌≡◌, ℕ, Bool, Option, Some, None, if◌then◌else◌, ap, ◌∙◌}
 use Rattle.std.proofs.lemmas.Bool.{ne_eqb, eq-eqb}
-use Rattle.ciborium_value.specs.Sources.{Fault, of_kind, of_nesting, of_syntax, of_memory, of_device, IsFaultOf, IsGranted}
+use Rattle.ciborium_value.specs.Sources.{Fault, of_kind, of_nesting, of_syntax, of_memory, of_device, of_length, IsFaultOf, IsGranted}
 use Rattle.ciborium_value.specs.TagReadings.{under_tag, under_no_other_tag}
 use Rattle.ciborium_value.specs.Taken.{Outcome, gives, refuses, then_take}
 use Rattle.ciborium_value.specs.declared.kind.Kind.{Kind}
@@ -12,16 +12,17 @@ pub then-given : {A C : Type 0} (o : Outcome A) (f : A → Outcome C) (x : A) (r
 then-given o f x r given judged = ap (λ p. then_take p f) given ∙ judged
 
 -- what was refused stays so
-pub then-refused : {A C : Type 0} (fault : Fault) (o : Outcome A) (f : A → Outcome C) → IsFaultOf fault o → IsFaultOf fault (then_take o f)
-then-refused (of_kind k) o f h = ap (λ p. then_take p f) h
-then-refused of_nesting o f h = ap (λ p. then_take p f) h
-then-refused of_syntax o f h = elim h [ ]
-then-refused of_memory o f h = tt
-then-refused of_device o f h = tt
+pub then-refused : {A C : Type 0} (end : ℕ) (fault : Fault) (o : Outcome A) (f : A → Outcome C) → IsFaultOf end fault o → IsFaultOf end fault (then_take o f)
+then-refused end (of_kind k) o f h = ap (λ p. then_take p f) h
+then-refused end of_nesting o f h = ap (λ p. then_take p f) h
+then-refused end of_syntax o f h = elim h [ ]
+then-refused end of_memory o f h = tt
+then-refused end of_device o f h = tt
+then-refused end of_length o f h = h
 
 -- it is refused with a kind
-pub then-kind : {A C : Type 0} (fault : Fault) (k : Kind) (o : Outcome A) (f : A → Outcome C) (x : A) → fault ≡ of_kind k → o ≡ gives x → f x ≡ refuses k → IsFaultOf fault (then_take o f)
-then-kind fault k o f x is given judged = rw is (then-given o f x (refuses k) given judged)
+pub then-kind : {A C : Type 0} (end : ℕ) (fault : Fault) (k : Kind) (o : Outcome A) (f : A → Outcome C) (x : A) → fault ≡ of_kind k → o ≡ gives x → f x ≡ refuses k → IsFaultOf end fault (then_take o f)
+then-kind end fault k o f x is given judged = rw is (then-given o f x (refuses k) given judged)
 
 -- no memory was wanted
 pub kind-granted : (fault : Fault) (k : Kind) (b : Bool) → fault ≡ of_kind k → IsGranted fault b

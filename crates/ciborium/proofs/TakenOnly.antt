@@ -1,14 +1,20 @@
 -- A call takes a beginning of what is unread, and nothing else.
-use Rattle.std.proofs.Common.{◌≡◌, ℕ, ◌<◌, List, [], ◌++◌, length, Option, Some, None, refl, ◌∙◌, sym, ap, subst, arith, append_assoc}
+use Rattle.std.proofs.Common.{◌≡◌, ℕ, ◌+◌, ◌<◌, List, [], ◌++◌, length, Option, Some, None, refl, ◌∙◌, sym, ap, subst, arith, append_assoc, length-append}
+use Rattle.std.specs.Borrow.{GName}
 use Rattle.std.specs.Io.KnownBytes.{Consumes, prepend_known}
 use Rattle.std.proofs.KnownBytes.{Consumes-nil}
 use Rattle.ciborium_ll.specs.declared.decoder.Decoder.{Decoder}
-use Rattle.ciborium_ll.specs.Decoding.{HasBegun, Takes, left_of}
+use Rattle.ciborium_ll.specs.declared.header.Header.{Header}
+use Rattle.ciborium_ll.specs.Decoding.{HasBegun, HasSameReader, Takes, left_of}
 use Rattle.ciborium_ll.specs.Windows.{held}
 use Rattle.ciborium_ll.proofs.Advancing.{Advances-then}
-use Rattle.ciborium_ll.proofs.HeldBytes.{begun-left}
+use Rattle.ciborium_ll.proofs.HeldBytes.{begun-left, same-name}
+use Rattle.ciborium_ll.proofs.Unread.{rest-of}
+use Rattle.ciborium_value.specs.Ahead.{Rest, bottom, parts, pairs, entry, held as held_level, end_of}
 use Rattle.ciborium_value.specs.Sources.{TakesOnly}
-use Rattle.ciborium.specs.ByteSources.{HasTaken}
+use Rattle.ciborium.specs.declared.de.byte_source.ByteSource.{ByteSource}
+use Rattle.ciborium.specs.ByteSources.{HasTaken, IsUnread, IsUnreadBy, end_at, known_end, reader_of}
+use Rattle.ciborium.specs.Unread.{IsRest}
 use Rattle.ciborium.specs.TypedReads.{TakesBeginning}
 
 -- whatever holds of the bytes
@@ -51,3 +57,39 @@ taken-beginning remaining old new lent x p begins back (name, taken) =
     behind None after h b t = ([], tt)
     behind (Some xs) None h b t = absurd t
     behind (Some xs) (Some ys) h b t = (b ++ h, t ∙ sym (append_assoc b h ys))
+
+-- ---- where what is there ends
+
+-- the reader is the one that was held, and of what was unread a beginning was taken
+abbrev pub IsKept : {S : Type 0} → (S → Option (List ℕ)) → ByteSource S → ByteSource S → Type 0
+IsKept remaining old new = HasSameReader old.decoder new.decoder × TakesOnly (HasTaken remaining) old.decoder new.decoder
+
+pub known-unread : {S : Type 0} (remaining : S → Option (List ℕ)) (d : Decoder S) (pending : Option (Header × ℕ)) (b : List ℕ) → IsUnreadBy remaining d pending b → (u : List ℕ) × (left_of remaining d ≡ Some u)
+known-unread remaining d None b e = (b, e)
+known-unread remaining d (Some h) b (x, y, hd, split, left, counted) = (y, left)
+
+-- behind what was taken it ends where it ended
+pub takes-end : {S : Type 0} (remaining : S → Option (List ℕ)) (d e : Decoder S) (P : List ℕ → Type 0) (w : List ℕ) → left_of remaining d ≡ Some w → Takes remaining d e P → (reader_of remaining e).1 ≡ d.window.count + length w
+takes-end remaining d e P w left (x, consumes, counted, p, bytes) =
+    let (r, after, split) = rest-of (left_of remaining d) (left_of remaining e) w x left consumes in
+    let size : length w ≡ length x + length r = ap length split ∙ length-append x r in
+    ap (λ o. known_end o e.window.count) after ∙ (omega (arith, counted, size))
+
+pub same-end : {S : Type 0} (remaining : S → Option (List ℕ)) (old new : ByteSource S) → TakesOnly (HasTaken remaining) old.decoder new.decoder → (b : List ℕ) → IsUnread remaining old b → end_at remaining new ≡ end_at remaining old
+unfolding HasTaken
+same-end remaining old new only b u =
+    let (w, left) = known-unread remaining old.decoder old.pending b u in
+    let (name, taken) = only old.decoder (taken-none remaining old.decoder) in
+    takes-end remaining old.decoder new.decoder (λ _. Unit {0}) w left taken ∙ sym (ap (λ o. known_end o old.decoder.window.count) left)
+
+pub kept-reader : {S : Type 0} (remaining : S → Option (List ℕ)) (old new : ByteSource S) → IsKept remaining old new → (b : List ℕ) → IsUnread remaining old b → reader_of remaining new.decoder ≡ reader_of remaining old.decoder
+kept-reader remaining old new (same, only) b u =
+    ap (λ n. (n, end_at remaining new)) (same-name old.decoder new.decoder same) ∙ ap (λ n. (old.decoder.reader.ghost_name, n)) (same-end remaining old new only b u)
+
+-- what follows in the containers that are open ends there
+pub rest-end : (reader : GName × ℕ) (b : List ℕ) (f : Rest) → IsRest reader b f → end_of f ≡ reader.1
+rest-end reader b (bottom m r) h = ap (λ p. p.1) h.1
+rest-end reader b (parts form is f) (s, r, left, rest, e) = rest-end reader r f rest
+rest-end reader b (pairs form ps f) (s, r, left, rest, e) = rest-end reader r f rest
+rest-end reader b (entry v form ps f) (t, c, sp, (s, r, left, rest, g), e) = rest-end reader r f rest
+rest-end reader b (held_level f) h = rest-end reader b f h

@@ -1,5 +1,5 @@
 -- What refuses where an item stands is what the item refuses.
-use Rattle.std.proofs.Common.{◌≡◌, ◌⊎◌, ℕ, ◌+◌, ◌-◌, ◌*◌, ◌^◌, ◌<◌, ◌≤◌, cond, ◌/◌, ◌%◌, ltb, Bool, true, false, not, ◌&&◌, List, [], ◌∷◌, ◌++◌, length, Option, Some, None, is_some, refl, sym, ap, ◌∙◌, subst, append_assoc, append-nil, length-append, arith, inl, inr, ltb-true, le-leb}
+use Rattle.std.proofs.Common.{◌≡◌, ◌⊎◌, ℕ, ◌+◌, ◌-◌, ◌*◌, ◌^◌, ◌<◌, ◌≤◌, cond, ◌/◌, ◌%◌, ltb, Bool, true, false, not, ◌&&◌, List, [], ◌∷◌, ◌++◌, length, Option, Some, None, is_some, refl, sym, ap, ◌∙◌, subst, append_assoc, append-nil, length-append, arith, inl, inr, ltb-true, ltb-false, le-leb, suc}
 use Rattle.ciborium_ll.specs.declared.header.Header.{Header}
 use Rattle.ciborium_ll.specs.declared.header.Header.TheVariants as header
 use Rattle.ciborium_ll.specs.Bytes.{greatest_offset}
@@ -16,23 +16,21 @@ use Rattle.ciborium_ll.proofs.UniqueSpelling.{one_at_front}
 use Rattle.ciborium_value.specs.Meaning.{folding_bytes, bignum_meaning, big_endian}
 use Rattle.ciborium_value.specs.Nesting.{Limit, IsOneLess}
 use Rattle.ciborium_value.specs.Refuses.{AreGood, Due, exactly, items_until_break, keys_until_break, values_until_break, next_due, due_after, IsDue, HasOpening, Refuses}
-use Rattle.ciborium_value.specs.Sources.{Fault, of_kind, of_nesting, of_syntax, of_memory, of_device, IsFaultOf}
+use Rattle.ciborium_value.specs.Sources.{Fault, of_kind, of_nesting, of_syntax, of_memory, of_device, of_length, IsFaultOf, IsOutside}
 use Rattle.ciborium_value.specs.Taken.{Outcome, gives, refuses, nests, deeper, within_level, outcome_map, of_meaning, taken_tag, one_more, one_pair_more, taken_value, taken_items, taken_tree_pairs}
 use Rattle.ciborium_value.specs.Tree as trees
 use Rattle.ciborium_value.specs.Tree.{Tree, Trees, TreePairs}
 use Rattle.ciborium_value.specs.declared.kind.Kind.TheVariants as kinds
 use Rattle.ciborium_value.proofs.Answered.{folds-none}
 use Rattle.ciborium_value.proofs.Found.{bignum_meaning-some}
+use Rattle.ciborium_value.proofs.Sequences.{fault_outside}
 use Rattle.ciborium_value.proofs.Parts.{flat, flat-Spells, flat-count, ArePairs, after-left, first-good, rest-good}
 use Rattle.ciborium.specs.StringContents.{head_of}
-use Rattle.ciborium.proofs.FrontReads.{never-syntax}
-use Rattle.ciborium.proofs.ItemHeads.{header_of, first-head, same-head, no-break-head, tag-front}
-use Rattle.ciborium.proofs.SpelledStrings.{definite-never, content-never, string-spells}
+use Rattle.ciborium.proofs.FrontReads.{head-passes, never-syntax}
+use Rattle.ciborium.proofs.ItemHeads.{header_of, first-head, first-payload, same-head, no-break-head, tag-front}
+use Rattle.ciborium.proofs.SpelledStrings.{definite-never, content-long, content-never, payload-long, string-spells}
 use Rattle.ciborium.proofs.StringPayloads.{string-only}
 use Rattle.ciborium.proofs.ValuesGiven.{level-taken, some-value}
-
-device-fault : {A : Type 0} (f : Fault) (o : Outcome A) → f ≡ of_device → IsFaultOf f o
-device-fault f o e = subst (λ k. IsFaultOf k o) (sym e) tt
 
 not-break : (s r y : List ℕ) (i : Item) → Spells s i → s ++ r ≡ break_byte ∷ y → ⊥
 not-break s r y i sp e = no-break-head i (same-head s r (break_byte ∷ []) y i header.Break sp refl e).0
@@ -51,7 +49,7 @@ kind_fault refusal.KeyOrder = of_kind kinds.KeyOrder
 abbrev pub fault_of : Refusal → Fault
 fault_of io = of_device
 fault_of (syntax p) = of_syntax
-fault_of too_long = of_device
+fault_of too_long = of_length
 fault_of (semantic p k) = kind_fault k
 fault_of recursion_limit_exceeded = of_nesting
 
@@ -91,17 +89,21 @@ head-of_bytes (x ∷ b) p =
     head-more (ltb p greatest_offset) (ltb (p + 1) greatest_offset && refusal.is_low_simple x b) (refusal.initial_refusal (x / 32) (x % 32) b p) p
     (initial-of_bytes (refusal.is_reserved (x / 32) (x % 32)) (ltb greatest_offset (p + 1 + n)) (ltb (length b) n) (ltb greatest_offset (p + 1 + n + refusal.payload_length (x / 32) (x % 32) b)) p)
 
-of_bytes-faults : {A : Type 0} (e : Refusal) (o : Outcome A) → IsOfBytes e → ((q : ℕ) → e ≡ syntax q → ⊥) → IsFaultOf (fault_of e) o
-of_bytes-faults io o h f = tt
-of_bytes-faults (syntax p) o h f = absurd (f p refl)
-of_bytes-faults too_long o h f = tt
-of_bytes-faults (semantic p k) o h f = absurd h
-of_bytes-faults recursion_limit_exceeded o h f = absurd h
+of_bytes-faults : {A : Type 0} (end : ℕ) (e : Refusal) (o : Outcome A) → IsOfBytes e → ((q : ℕ) → e ≡ syntax q → ⊥) → (e ≡ too_long → greatest_offset < end) → IsFaultOf end (fault_of e) o
+of_bytes-faults end io o h f long = tt
+of_bytes-faults end (syntax p) o h f long = absurd (f p refl)
+of_bytes-faults end too_long o h f long = long refl
+of_bytes-faults end (semantic p k) o h f long = absurd h
+of_bytes-faults end recursion_limit_exceeded o h f long = absurd h
 
-head-faults : {A : Type 0} (b : List ℕ) (p : ℕ) (e : Refusal) (i : Item) (s z : List ℕ) (o : Outcome A) → HeadRefuses b p e → Spells s i → b ≡ s ++ z → IsFaultOf (fault_of e) o
+head-faults : {A : Type 0} (b : List ℕ) (p : ℕ) (e : Refusal) (i : Item) (s z : List ℕ) (o : Outcome A) → HeadRefuses b p e → Spells s i → b ≡ s ++ z → IsFaultOf (p + length b) (fault_of e) o
 head-faults b p e i s z o h sp f =
     let (x, y, hd, g) = first-head s i sp in
-    of_bytes-faults e o (subst IsOfBytesIf h (head-of_bytes b p)) (λ q is. never-syntax x (y ++ z) (header_of i) p q hd (subst (λ (k : List ℕ). HeadRefuses k p (syntax q)) (f ∙ ap (λ (k : List ℕ). k ++ z) g ∙ append_assoc x y z) (subst (HeadRefuses b p) is h)))
+    let there = first-payload s i sp in
+    let more = length-append y z in
+    let split : b ≡ x ++ (y ++ z) = f ∙ ap (λ (k : List ℕ). k ++ z) g ∙ append_assoc x y z in
+    of_bytes-faults (p + length b) e o (subst IsOfBytesIf h (head-of_bytes b p)) (λ q is. never-syntax x (y ++ z) (header_of i) p q hd (subst (λ (k : List ℕ). HeadRefuses k p (syntax q)) split (subst (HeadRefuses b p) is h)))
+    (λ is. subst (λ (k : List ℕ). greatest_offset < p + length k) (sym split) (head-passes x (y ++ z) (header_of i) p hd (omega (arith, there, more)) (subst (λ (k : List ℕ). HeadRefuses k p too_long) split (subst (HeadRefuses b p) is h))))
 
 payload-of_bytes : {kind : StringKind} {n p : ℕ} {r : List ℕ} {e : Refusal} → PayloadRefuses kind n p r e → IsOfBytes e
 payload-of_bytes (PayloadRefuses.ends_early h) = tt
@@ -112,22 +114,26 @@ part-of_bytes {b = b} {p = p} (PartRefuses.no_head h) = subst IsOfBytesIf h (hea
 part-of_bytes (PartRefuses.part u (n, k, r, st, w)) = payload-of_bytes w
 part-of_bytes (PartRefuses.other u s e) = tt
 
-string-faults : {A : Type 0} (kind : StringKind) (b : List ℕ) (p : ℕ) (e : Refusal) (i : Item) (s z : List ℕ) (o : Outcome A) → StringRefuses kind b p e → Spells s i → b ≡ s ++ z → IsFaultOf (fault_of e) o
+string-faults : {A : Type 0} (kind : StringKind) (b : List ℕ) (p : ℕ) (e : Refusal) (i : Item) (s z : List ℕ) (o : Outcome A) → StringRefuses kind b p e → Spells s i → b ≡ s ++ z → IsFaultOf (p + length b) (fault_of e) o
 string-faults kind b p e i s z o (n, k, r, (h, hd, len, g), w) sp f =
     let spelled : SpellsHeader h (head_of kind (Some n)) = string-spells kind n h hd in
     let (payload, is) = string-only kind (Some n) i (same-head s z h r i (head_of kind (Some n)) sp spelled (sym f ∙ g)).0 in
-    of_bytes-faults e o (payload-of_bytes w) (λ q same. definite-never kind n p q r h s z payload spelled (subst (Spells s) is sp) (sym g ∙ f) (subst (PayloadRefuses kind n p r) same w))
+    of_bytes-faults (p + length b) e o (payload-of_bytes w) (λ q same. definite-never kind n p q r h s z payload spelled (subst (Spells s) is sp) (sym g ∙ f) (subst (PayloadRefuses kind n p r) same w))
+    (λ same. absurd (payload-long kind n p r e same w))
 
 open-head : (kind : StringKind) → SpellsHeader (open_byte (major_of kind) ∷ []) (head_of kind None)
 open-head of_bytes = refl
 open-head of_text = refl
 
-open-faults : {A : Type 0} (kind : StringKind) (b : List ℕ) (p : ℕ) (e : Refusal) (i : Item) (s z : List ℕ) (o : Outcome A) → OpenStringRefuses kind b p e → Spells s i → b ≡ s ++ z → IsFaultOf (fault_of e) o
+open-faults : {A : Type 0} (kind : StringKind) (b : List ℕ) (p : ℕ) (e : Refusal) (i : Item) (s z : List ℕ) (o : Outcome A) → OpenStringRefuses kind b p e → Spells s i → b ≡ s ++ z → IsFaultOf (p + length b) (fault_of e) o
 open-faults kind b p e i s z o (r, g, w) sp f =
     let h : List ℕ = open_byte (major_of kind) ∷ [] in
     let (payload, is) = string-only kind None i (same-head s z h r i (head_of kind None) sp (open-head kind) (sym f ∙ g)).0 in
     let (good, ps, rest, parts, room, split, v) = w in
-    of_bytes-faults e o (part-of_bytes v) (λ q same. content-never kind None p (p + 1) q r h s z payload (open-head kind) (subst (Spells s) is sp) (sym g ∙ f) (subst (PartsRefuse kind r (p + 1)) same w))
+    of_bytes-faults (p + length b) e o (part-of_bytes v) (λ q same. content-never kind None p (p + 1) q r h s z payload (open-head kind) (subst (Spells s) is sp) (sym g ∙ f) (subst (PartsRefuse kind r (p + 1)) same w))
+    (λ same. let long = content-long kind None p (p + 1) r h s z payload (open-head kind) (subst (Spells s) is sp) (sym g ∙ f) (subst (PartsRefuse kind r (p + 1)) same w) in
+    let size : length b ≡ 1 + length r = (let k : length b ≡ suc (length r) = ap length g in omega (arith, k)) in
+    omega (arith, long, size))
 
 -- ---- scalars
 
@@ -244,29 +250,32 @@ opens-at {r = r} (HasOpening.open_array e g) i s z sp f = holds-by (header.Array
 opens-at {r = r} (HasOpening.map n (h, hd, len, g)) i s z sp f = holds-by (header.Map (Some n)) i (exactly (2 * n)) h r s z sp hd (sym f ∙ g) refl
 opens-at {r = r} (HasOpening.open_map e g) i s z sp f = holds-by (header.Map None) i keys_until_break (open_byte 5 ∷ []) r s z sp refl (sym f ∙ g) refl
 
-first-faults : (f : Fault) (o : Outcome Tree) (os : Outcome Trees) → IsFaultOf f o → IsFaultOf f (one_more o os)
-first-faults (of_kind k) o os b = ap (λ x. one_more x os) b
-first-faults of_nesting o os b = ap (λ x. one_more x os) b
-first-faults of_syntax o os b = b
-first-faults of_memory o os b = tt
-first-faults of_device o os b = tt
+first-faults : (end : ℕ) (f : Fault) (o : Outcome Tree) (os : Outcome Trees) → IsFaultOf end f o → IsFaultOf end f (one_more o os)
+first-faults end (of_kind k) o os b = ap (λ x. one_more x os) b
+first-faults end of_nesting o os b = ap (λ x. one_more x os) b
+first-faults end of_syntax o os b = b
+first-faults end of_memory o os b = tt
+first-faults end of_device o os b = tt
+first-faults end of_length o os b = b
 
-rest-faults : (f : Fault) (o : Outcome Tree) (os : Outcome Trees) (v : Tree) → o ≡ gives v → IsFaultOf f os → IsFaultOf f (one_more o os)
-rest-faults (of_kind k) o os v e b = ap (λ x. one_more x os) e ∙ ap (outcome_map (trees.tree v)) b
-rest-faults of_nesting o os v e b = ap (λ x. one_more x os) e ∙ ap (outcome_map (trees.tree v)) b
-rest-faults of_syntax o os v e b = b
-rest-faults of_memory o os v e b = tt
-rest-faults of_device o os v e b = tt
+rest-faults : (end : ℕ) (f : Fault) (o : Outcome Tree) (os : Outcome Trees) (v : Tree) → o ≡ gives v → IsFaultOf end f os → IsFaultOf end f (one_more o os)
+rest-faults end (of_kind k) o os v e b = ap (λ x. one_more x os) e ∙ ap (outcome_map (trees.tree v)) b
+rest-faults end of_nesting o os v e b = ap (λ x. one_more x os) e ∙ ap (outcome_map (trees.tree v)) b
+rest-faults end of_syntax o os v e b = b
+rest-faults end of_memory o os v e b = tt
+rest-faults end of_device o os v e b = tt
+rest-faults end of_length o os v e b = b
 
-map-faults : {A B : Type 0} (f : Fault) (g : A → B) (o : Outcome A) → IsFaultOf f o → IsFaultOf f (outcome_map g o)
-map-faults (of_kind k) g o b = ap (outcome_map g) b
-map-faults of_nesting g o b = ap (outcome_map g) b
-map-faults of_syntax g o b = b
-map-faults of_memory g o b = tt
-map-faults of_device g o b = tt
+map-faults : {A B : Type 0} (end : ℕ) (f : Fault) (g : A → B) (o : Outcome A) → IsFaultOf end f o → IsFaultOf end f (outcome_map g o)
+map-faults end (of_kind k) g o b = ap (outcome_map g) b
+map-faults end of_nesting g o b = ap (outcome_map g) b
+map-faults end of_syntax g o b = b
+map-faults end of_memory g o b = tt
+map-faults end of_device g o b = tt
+map-faults end of_length g o b = b
 
-level-faults : {A : Type 0} (f : Fault) (l m : Limit) (w : Limit → Outcome A) → IsOneLess l m → IsFaultOf f (w m) → IsFaultOf f (within_level l (w (deeper l)))
-level-faults f l m w one b = subst (IsFaultOf f) (sym (level-taken l m w one)) b
+level-faults : {A : Type 0} (end : ℕ) (f : Fault) (l m : Limit) (w : Limit → Outcome A) → IsOneLess l m → IsFaultOf end f (w m) → IsFaultOf end f (within_level l (w (deeper l)))
+level-faults end f l m w one b = subst (IsFaultOf end f) (sym (level-taken l m w one)) b
 
 kind-pair : (k : _) (x y : Outcome Tree) (r : Outcome Trees) (q : Outcome TreePairs) → (r ≡ refuses k → q ≡ refuses k) → one_more x (one_more y r) ≡ refuses k → one_pair_more x y q ≡ refuses k
 kind-pair k (gives a) (gives v) (gives vs) q rec h = cc
@@ -286,25 +295,26 @@ nest-pair (gives a) nests r q rec h = refl
 nest-pair (refuses j) y r q rec h = cc
 nest-pair nests y r q rec h = refl
 
-flat-faults : (f : Fault) (l : Limit) (ps : Pairs) → IsFaultOf f (taken_items l (flat ps)) → IsFaultOf f (taken_tree_pairs l ps)
-flat-faults (of_kind k) l no_pairs b = cc
-flat-faults (of_kind k) l (pair x y ps) b = kind-pair k (taken_value l x) (taken_value l y) (taken_items l (flat ps)) (taken_tree_pairs l ps) (flat-faults (of_kind k) l ps) b
-flat-faults of_nesting l no_pairs b = cc
-flat-faults of_nesting l (pair x y ps) b = nest-pair (taken_value l x) (taken_value l y) (taken_items l (flat ps)) (taken_tree_pairs l ps) (flat-faults of_nesting l ps) b
-flat-faults of_syntax l ps b = b
-flat-faults of_memory l ps b = tt
-flat-faults of_device l ps b = tt
+flat-faults : (end : ℕ) (f : Fault) (l : Limit) (ps : Pairs) → IsFaultOf end f (taken_items l (flat ps)) → IsFaultOf end f (taken_tree_pairs l ps)
+flat-faults end (of_kind k) l no_pairs b = cc
+flat-faults end (of_kind k) l (pair x y ps) b = kind-pair k (taken_value l x) (taken_value l y) (taken_items l (flat ps)) (taken_tree_pairs l ps) (flat-faults end (of_kind k) l ps) b
+flat-faults end of_nesting l no_pairs b = cc
+flat-faults end of_nesting l (pair x y ps) b = nest-pair (taken_value l x) (taken_value l y) (taken_items l (flat ps)) (taken_tree_pairs l ps) (flat-faults end of_nesting l ps) b
+flat-faults end of_syntax l ps b = b
+flat-faults end of_memory l ps b = tt
+flat-faults end of_device l ps b = tt
+flat-faults end of_length l ps b = b
 
-container-faults : (i : Item) (is : Items) (f : Fault) (l m : Limit) → IsContainer i is → IsOneLess l m → IsFaultOf f (taken_items m is) → IsFaultOf f (taken_value l i)
-container-faults (unsigned n) is f l m h one b = absurd h
-container-faults (negative n) is f l m h one b = absurd h
-container-faults (bytes o p) is f l m h one b = absurd h
-container-faults (text o p) is f l m h one b = absurd h
-container-faults (array o js) is f l m h one b = level-faults f l m (λ k. outcome_map trees.array (taken_items k js)) one (map-faults f trees.array (taken_items m js) (subst (λ ks. IsFaultOf f (taken_items m ks)) (sym h) b))
-container-faults (items.map o ps) is f l m h one b = level-faults f l m (λ k. outcome_map trees.map (taken_tree_pairs k ps)) one (map-faults f trees.map (taken_tree_pairs m ps) (flat-faults f m ps (subst (λ ks. IsFaultOf f (taken_items m ks)) (sym h) b)))
-container-faults (tag t i) is f l m h one b = absurd h
-container-faults (simple n) is f l m h one b = absurd h
-container-faults (float raw) is f l m h one b = absurd h
+container-faults : (end : ℕ) (i : Item) (is : Items) (f : Fault) (l m : Limit) → IsContainer i is → IsOneLess l m → IsFaultOf end f (taken_items m is) → IsFaultOf end f (taken_value l i)
+container-faults end (unsigned n) is f l m h one b = absurd h
+container-faults end (negative n) is f l m h one b = absurd h
+container-faults end (bytes o p) is f l m h one b = absurd h
+container-faults end (text o p) is f l m h one b = absurd h
+container-faults end (array o js) is f l m h one b = level-faults end f l m (λ k. outcome_map trees.array (taken_items k js)) one (map-faults end f trees.array (taken_items m js) (subst (λ ks. IsFaultOf end f (taken_items m ks)) (sym h) b))
+container-faults end (items.map o ps) is f l m h one b = level-faults end f l m (λ k. outcome_map trees.map (taken_tree_pairs k ps)) one (map-faults end f trees.map (taken_tree_pairs m ps) (flat-faults end f m ps (subst (λ ks. IsFaultOf end f (taken_items m ks)) (sym h) b)))
+container-faults end (tag t i) is f l m h one b = absurd h
+container-faults end (simple n) is f l m h one b = absurd h
+container-faults end (float raw) is f l m h one b = absurd h
 
 container-nests : (i : Item) (is : Items) → IsContainer i is → taken_value (Some 0) i ≡ nests
 container-nests (unsigned n) is h = absurd h
@@ -331,11 +341,11 @@ all-next values_until_break i is end (v, js, e, (ps, g), f) = ((ps, g ∙ rest e
     rest e = cc
 
 -- where the parts ended, none is due
-none-due : (w : Due) (end r z : List ℕ) (p : ℕ) (f : Fault) → IsAll w no_items end → r ≡ end ++ z → IsDue w r p → ((y : List ℕ) → r ≡ break_byte ∷ y → (p < greatest_offset → ⊥) → f ≡ of_device) → f ≡ of_device
-none-due (exactly n) end r z p f (e, g) h due br = let never : ⊥ = omega (arith, e, due) in absurd never
-none-due items_until_break end r z p f g h due br = let e : r ≡ break_byte ∷ z = h ∙ ap (λ (k : List ℕ). k ++ z) g in br z e (λ lt. due lt (z, e))
-none-due keys_until_break end r z p f (a, g) h due br = let e : r ≡ break_byte ∷ z = h ∙ ap (λ (k : List ℕ). k ++ z) g in br z e (λ lt. due lt (z, e))
-none-due values_until_break end r z p f (v, js, e, a, g) h due br = cc
+none-due : (w : Due) (end r z : List ℕ) (p end-offset : ℕ) (f : Fault) → IsAll w no_items end → r ≡ end ++ z → IsDue w r p → ((y : List ℕ) → r ≡ break_byte ∷ y → (p < greatest_offset → ⊥) → IsOutside end-offset f) → IsOutside end-offset f
+none-due (exactly n) end r z p o f (e, g) h due br = let never : ⊥ = omega (arith, e, due) in absurd never
+none-due items_until_break end r z p o f g h due br = let e : r ≡ break_byte ∷ z = h ∙ ap (λ (k : List ℕ). k ++ z) g in br z e (λ lt. due lt (z, e))
+none-due keys_until_break end r z p o f (a, g) h due br = let e : r ≡ break_byte ∷ z = h ∙ ap (λ (k : List ℕ). k ++ z) g in br z e (λ lt. due lt (z, e))
+none-due values_until_break end r z p o f (v, js, e, a, g) h due br = cc
 
 -- no good item stands where the parts ended
 none-good : (w : Due) (i : Item) (is : Items) (s t end z r : List ℕ) (p : ℕ) → IsAll w no_items end → Spells s i → s ++ t ≡ end ++ z → IsDue (due_after w (item i is)) r p → ⊥
@@ -345,24 +355,24 @@ none-good keys_until_break i is s t end z r p (a, g) sp h due = not-break s t z 
 none-good values_until_break i is s t end z r p (v, js, e, a, g) sp h due = cc
 
 -- behind good items the next one refuses, and so do all
-items-faults : (gs is : Items) (w : Due) (c good r end z : List ℕ) (p : ℕ) (l : Limit) (f : Fault) → SpellsItems c is → AreGood gs l good p → good ++ r ≡ c ++ (end ++ z) → IsAll w is end → IsDue (due_after w gs) r (p + length good) →
-    ((j : Item) (s y : List ℕ) → Spells s j → r ≡ s ++ y → IsFaultOf f (taken_value l j)) → ((y : List ℕ) → r ≡ break_byte ∷ y → (p + length good < greatest_offset → ⊥) → f ≡ of_device) → IsFaultOf f (taken_items l is)
-items-faults no_items no_items w c good r end z p l f sp g e all due rec br =
-    device-fault f (taken_items l no_items) (none-due w end r z (p + length good) f all (ap (λ (k : List ℕ). k ++ r) (sym g.0) ∙ e ∙ ap (λ (k : List ℕ). k ++ (end ++ z)) sp) due br)
-items-faults no_items (item i is) w c good r end z p l f (s, t, si, ts, ce) g e all due rec br =
-    first-faults f (taken_value l i) (taken_items l is) (rec i s (t ++ (end ++ z)) si (ap (λ (k : List ℕ). k ++ r) (sym g.0) ∙ e ∙ ap (λ (k : List ℕ). k ++ (end ++ z)) ce ∙ append_assoc s t (end ++ z)))
-items-faults (item j gs) no_items w c good r end z p l f sp g e all due rec br =
+items-faults : (o : ℕ) (gs is : Items) (w : Due) (c good r end z : List ℕ) (p : ℕ) (l : Limit) (f : Fault) → SpellsItems c is → AreGood gs l good p → good ++ r ≡ c ++ (end ++ z) → IsAll w is end → IsDue (due_after w gs) r (p + length good) →
+    ((j : Item) (s y : List ℕ) → Spells s j → r ≡ s ++ y → IsFaultOf o f (taken_value l j)) → ((y : List ℕ) → r ≡ break_byte ∷ y → (p + length good < greatest_offset → ⊥) → IsOutside o f) → IsFaultOf o f (taken_items l is)
+items-faults o no_items no_items w c good r end z p l f sp g e all due rec br =
+    fault_outside o f (taken_items l no_items) (none-due w end r z (p + length good) o f all (ap (λ (k : List ℕ). k ++ r) (sym g.0) ∙ e ∙ ap (λ (k : List ℕ). k ++ (end ++ z)) sp) due br)
+items-faults o no_items (item i is) w c good r end z p l f (s, t, si, ts, ce) g e all due rec br =
+    first-faults o f (taken_value l i) (taken_items l is) (rec i s (t ++ (end ++ z)) si (ap (λ (k : List ℕ). k ++ r) (sym g.0) ∙ e ∙ ap (λ (k : List ℕ). k ++ (end ++ z)) ce ∙ append_assoc s t (end ++ z)))
+items-faults o (item j gs) no_items w c good r end z p l f sp g e all due rec br =
     let (s, t, sj, ts, ge) = g.0 in
     absurd (none-good w j gs s (t ++ r) end z r (p + length good) all sj (sym (append_assoc s t r) ∙ ap (λ (k : List ℕ). k ++ r) (sym ge) ∙ e ∙ ap (λ (k : List ℕ). k ++ (end ++ z)) sp) due)
-items-faults (item j gs) (item i is) w c good r end z p l f (s', t', si, ts', ce) g e all due rec br =
+items-faults o (item j gs) (item i is) w c good r end z p l f (s', t', si, ts', ce) g e all due rec br =
     let (s, t, sj, ts, ge) = g.0 in
     let one = one_at_front s s' (t ++ r) (t' ++ (end ++ z)) j i sj si (sym (append_assoc s t r) ∙ ap (λ (k : List ℕ). k ++ r) (sym ge) ∙ e ∙ ap (λ (k : List ℕ). k ++ (end ++ z)) ce ∙ append_assoc s' t' (end ++ z)) in
     let g2 : AreGood (item j gs) l (s ++ t) p = subst (λ k. AreGood (item j gs) l k p) ge g in
     let fine = first-good j gs l p s t sj g2 in
     let (v, give) = some-value j l fine.1 fine.2 in
     let at : p + length good ≡ p + length s + length t = let n : length good ≡ length s + length t = ap length ge ∙ length-append s t in omega (arith, n) in
-    rest-faults f (taken_value l i) (taken_items l is) v (ap (taken_value l) (sym one.2) ∙ give)
-    (items-faults gs is (next_due w) t' t r end z (p + length s) l f ts' (rest-good j gs l p s t ts g2) one.1 (all-next w i is end all) (subst (IsDue (due_after (next_due w) gs) r) at due) rec (λ y h past. br y h (λ lt. past (subst (λ n. n < greatest_offset) at lt))))
+    rest-faults o f (taken_value l i) (taken_items l is) v (ap (taken_value l) (sym one.2) ∙ give)
+    (items-faults o gs is (next_due w) t' t r end z (p + length s) l f ts' (rest-good j gs l p s t ts g2) one.1 (all-next w i is end all) (subst (IsDue (due_after (next_due w) gs) r) at due) rec (λ y h past. br y h (λ lt. past (subst (λ n. n < greatest_offset) at lt))))
 
 -- ---- where no byte may be read
 
@@ -388,24 +398,42 @@ at-end x y p past = by (ltb p greatest_offset) refl
     by true e = absurd (past (ltb-true p greatest_offset e))
     by false e = refl
 
-end-device : (r y : List ℕ) (x p : ℕ) (l : Limit) (e : Refusal) → Refuses r p l e → r ≡ x ∷ y → (p < greatest_offset → ⊥) → fault_of e ≡ of_device
-end-device r y x p l e sub g past = by (usable-or-not sub)
+end-long : (r y : List ℕ) (x p : ℕ) (l : Limit) (e : Refusal) → Refuses r p l e → r ≡ x ∷ y → (p < greatest_offset → ⊥) → IsOutside (p + length r) (fault_of e)
+end-long r y x p l e sub g past = by (usable-or-not sub)
   where
     late : head_refusal r p ≡ Some too_long
     late = ap (λ k. head_refusal k p) g ∙ at-end x y p past
 
-    by : HeadRefuses r p e ⊎ IsUsable r p → fault_of e ≡ of_device
-    by (inl h) = let k : e ≡ too_long = some-same e too_long (sym h ∙ late) in ap fault_of k
+    size : length r ≡ suc (length y)
+    size = ap length g
+
+    by : HeadRefuses r p e ⊎ IsUsable r p → IsOutside (p + length r) (fault_of e)
+    by (inl h) = subst (λ k. IsOutside (p + length r) (fault_of k)) (sym (some-same e too_long (sym h ∙ late))) (further (ltb p greatest_offset) refl)
       where
         some-same : (a b : Refusal) → Some a ≡ Some b → a ≡ b
         some-same a b h = cc
+
+        further : (t : Bool) → ltb p greatest_offset ≡ t → greatest_offset < p + length r
+        further true k = absurd (past (ltb-true p greatest_offset k))
+        further false k = let over = ltb-false p greatest_offset k in omega (arith, over, size)
     by (inr h) = let k : None ≡ Some too_long = sym h ∙ late in cc
+
+-- ---- how long the bytes are behind a head
+
+head-size : (b r : List ℕ) (m n k : ℕ) → HasHead b m n k r → length b ≡ k + length r
+head-size b r m n k (h, hd, len, g) = let all = ap length g in let both = length-append h r in omega (arith, all, both, len)
+
+opening-size : {b r : List ℕ} {k : ℕ} {w : Due} → HasOpening b k r w → length b ≡ k + length r
+opening-size {b = b} {r = r} {k = k} (HasOpening.array n h) = head-size b r 4 n k h
+opening-size {b = b} {r = r} {k = k} (HasOpening.open_array e g) = let size : length b ≡ suc (length r) = ap length g in omega (arith, size, e)
+opening-size {b = b} {r = r} {k = k} (HasOpening.map n h) = head-size b r 5 n k h
+opening-size {b = b} {r = r} {k = k} (HasOpening.open_map e g) = let size : length b ≡ suc (length r) = ap length g in omega (arith, size, e)
 
 -- ---- tags
 
-tag-faults : (t : ℕ) (i : Item) (f : Fault) (l m : Limit) → folding_bytes t i ≡ None → IsOneLess l m → IsFaultOf f (taken_value m i) → IsFaultOf f (taken_value l (tag t i))
-tag-faults t i f l m none one b =
-    subst (λ o. IsFaultOf f (taken_tag t l o (taken_value (deeper l) i))) (sym none) (level-faults f l m (λ k. outcome_map (trees.tag t) (taken_value k i)) one (map-faults f (trees.tag t) (taken_value m i) b))
+tag-faults : (end : ℕ) (t : ℕ) (i : Item) (f : Fault) (l m : Limit) → folding_bytes t i ≡ None → IsOneLess l m → IsFaultOf end f (taken_value m i) → IsFaultOf end f (taken_value l (tag t i))
+tag-faults end t i f l m none one b =
+    subst (λ o. IsFaultOf end f (taken_tag t l o (taken_value (deeper l) i))) (sym none) (level-faults end f l m (λ k. outcome_map (trees.tag t) (taken_value k i)) one (map-faults end f (trees.tag t) (taken_value m i) b))
 
 no-tree : (o : Option Tree) → is_some o ≡ false → o ≡ None
 no-tree None h = refl
@@ -419,7 +447,10 @@ large-refuses l y small large =
 
 -- ---- every refusal
 
-pub value-faults : {b : List ℕ} {p : ℕ} {l : Limit} {e : Refusal} → Refuses b p l e → (i : Item) (s z : List ℕ) → Spells s i → b ≡ s ++ z → IsFaultOf (fault_of e) (taken_value l i)
+behind-head : (b r : List ℕ) (p k : ℕ) → length b ≡ k + length r → p + k + length r ≡ p + length b
+behind-head b r p k size = omega (arith, size)
+
+pub value-faults : {b : List ℕ} {p : ℕ} {l : Limit} {e : Refusal} → Refuses b p l e → (i : Item) (s z : List ℕ) → Spells s i → b ≡ s ++ z → IsFaultOf (p + length b) (fault_of e) (taken_value l i)
 value-faults {b} {p} {l} {e} (Refuses.no_head h) i s z sp f = head-faults b p e i s z (taken_value l i) h sp f
 value-faults {b} {p} {l} {e} (Refuses.string kind u w) i s z sp f = string-faults kind b p e i s z (taken_value l i) w sp f
 value-faults {b} {p} {l} {e} (Refuses.open_string kind u w) i s z sp f = open-faults kind b p e i s z (taken_value l i) w sp f
@@ -427,14 +458,18 @@ value-faults {l = l} (Refuses.float {x} {b = b} u lo hi) i s z sp f = let (raw, 
 value-faults {l = l} (Refuses.simple t n r u si none g) i s z sp f = ap (taken_value l) (simple-only i n (same-head s z t r i (header.Simple n) sp si (sym f ∙ g)).0) ∙ ap (of_meaning kinds.Simple) none
 value-faults (Refuses.break {b = b} u) i s z sp f = absurd (not-break s z b i sp (sym f))
 value-faults (Refuses.no_level k r w u o) i s z sp f = let h = opens-at o i s z sp f in container-nests i h.is h.holds
-value-faults {p = p} {l = l} {e = e} (Refuses.part k w good gs r below u o one g due sub) i s z sp f =
+value-faults {b = b} {p = p} {l = l} {e = e} (Refuses.part k w good gs r below u o one g due sub) i s z sp f =
     let h = opens-at o i s z sp f in
-    container-faults i h.is (fault_of e) l below h.holds one
-    (items-faults gs h.is w h.inside good r h.end z (p + k) below (fault_of e) h.spelled g h.split h.all due (λ j t y sj q. value-faults sub j t y sj q) (λ y q past. end-device r y break_byte (p + k + length good) below e sub q past))
-value-faults {p = p} {l = l} {e = e} (Refuses.tag_no_head t k r u (x, hd, len, g) h) i s z sp f =
-    let (j, c, is, sj, q) = tag-front s z x r i t sp hd (sym f ∙ g) in head-faults r (p + k) e j c z (taken_value l i) h sj q
-value-faults {p = p} {l = l} {e = e} (Refuses.folding t k r u (x, hd, len, g) ur fo w) i s z sp f =
-    let (j, c, is, sj, q) = tag-front s z x r i t sp hd (sym f ∙ g) in string-faults of_bytes r (p + k) e j c z (taken_value l i) w sj q
+    let all = opening-size o in
+    let both = length-append good r in
+    let same : p + k + length good + length r ≡ p + length b = omega (arith, all, both) in
+    subst (λ n. IsFaultOf n (fault_of e) (taken_value l i)) same
+    (container-faults (p + k + length good + length r) i h.is (fault_of e) l below h.holds one
+    (items-faults (p + k + length good + length r) gs h.is w h.inside good r h.end z (p + k) below (fault_of e) h.spelled g h.split h.all due (λ j t y sj q. value-faults sub j t y sj q) (λ y q past. end-long r y break_byte (p + k + length good) below e sub q past)))
+value-faults {b = b} {p = p} {l = l} {e = e} (Refuses.tag_no_head t k r u (x, hd, len, g) h) i s z sp f =
+    let (j, c, is, sj, q) = tag-front s z x r i t sp hd (sym f ∙ g) in subst (λ n. IsFaultOf n (fault_of e) (taken_value l i)) (behind-head b r p k (head-size b r 6 t k (x, hd, len, g))) (head-faults r (p + k) e j c z (taken_value l i) h sj q)
+value-faults {b = b} {p = p} {l = l} {e = e} (Refuses.folding t k r u (x, hd, len, g) ur fo w) i s z sp f =
+    let (j, c, is, sj, q) = tag-front s z x r i t sp hd (sym f ∙ g) in subst (λ n. IsFaultOf n (fault_of e) (taken_value l i)) (behind-head b r p k (head-size b r 6 t k (x, hd, len, g))) (string-faults of_bytes r (p + k) e j c z (taken_value l i) w sj q)
 value-faults {l = l} (Refuses.too_large k t payload r u (x, hd, len, g) ur str small large) i s z sp f =
     let (j, c, is, sj, q) = tag-front s z x (t ++ r) i 3 sp hd (sym f ∙ g) in
     let one = one_at_front t c r z (bytes false payload) j str sj q in
@@ -442,6 +477,6 @@ value-faults {l = l} (Refuses.too_large k t payload r u (x, hd, len, g) ur str s
 value-faults (Refuses.no_tag_level t k r u (x, hd, len, g) ur nf) i s z sp f =
     let (j, c, is, sj, q) = tag-front s z x r i t sp hd (sym f ∙ g) in
     ap (taken_value (Some 0)) is ∙ ap (λ o. taken_tag t (Some 0) o (taken_value (deeper (Some 0)) j)) (folds-none t j c z r sj q nf)
-value-faults {l = l} {e = e} (Refuses.tagged t k r below u (x, hd, len, g) ur nf one sub) i s z sp f =
+value-faults {b = b} {p = p} {l = l} {e = e} (Refuses.tagged t k r below u (x, hd, len, g) ur nf one sub) i s z sp f =
     let (j, c, is, sj, q) = tag-front s z x r i t sp hd (sym f ∙ g) in
-    subst (λ m. IsFaultOf (fault_of e) (taken_value l m)) (sym is) (tag-faults t j (fault_of e) l below (folds-none t j c z r sj q nf) one (value-faults sub j c z sj q))
+    subst (λ n. IsFaultOf n (fault_of e) (taken_value l i)) (behind-head b r p k (head-size b r 6 t k (x, hd, len, g))) (subst (λ m. IsFaultOf (p + k + length r) (fault_of e) (taken_value l m)) (sym is) (tag-faults (p + k + length r) t j (fault_of e) l below (folds-none t j c z r sj q nf) one (value-faults sub j c z sj q)))

@@ -1,5 +1,5 @@
 -- The value ahead, read whole.
-use Rattle.std.proofs.Common.{◌≡◌, ℕ, ◌+◌, Bool, true, false, List, ◌++◌, length, Option, Some, None, Result, Ok, Err, refl, sym, ap, ◌∙◌, subst, arith, eqb, eqb-true, ◌||◌, ℤ, pos}
+use Rattle.std.proofs.Common.{◌≡◌, ℕ, ◌+◌, Bool, true, false, List, ◌++◌, length, Option, Some, None, Result, Ok, Err, refl, sym, ap, ◌∙◌, subst, arith, eqb, eqb-true, ◌||◌, ℤ, pos, length-append}
 use Rattle.std.specs.Io.KnownBytes.{Consumes}
 use Rattle.ciborium_ll.specs.declared.header.Header.{Header}
 use Rattle.ciborium_ll.specs.declared.header.Header.TheVariants as header
@@ -24,7 +24,7 @@ use Rattle.ciborium_value.specs.View.{tree_of}
 use Rattle.ciborium.specs.declared.de.error.Error.{Error}
 use Rattle.ciborium.specs.declared.de.error.Error.TheVariants as errors
 use Rattle.ciborium.specs.Answers.{IsTreeRead, IsValueRead}
-use Rattle.ciborium.specs.ByteSources.{StandsFor, is_portable, IsUnreadBy, cause_of}
+use Rattle.ciborium.specs.ByteSources.{StandsFor, is_portable, IsUnreadBy, cause_of, known_end, reader_of}
 use Rattle.ciborium.specs.Errors.{IsRefusedBy, IsNamed, kind_of}
 use Rattle.ciborium.specs.Spelling.{any}
 use Rattle.ciborium.proofs.Fronts.{ahead-at, front-fits}
@@ -101,14 +101,22 @@ whole-reads E remaining d l p b v none (z, r, item, ahead) =
     let (i, good, means) = item.read in
     (i, item.taken, z, good.0, item.split, value-gives i (Some l) (tree_of v) means good.2, at.1)
 
+-- where what is unread ends, with the head that is pending
+pub whole-end : {S : Type 0} (remaining : S → Option (List ℕ)) (d : Decoder S) (pending : Option (Header × ℕ)) (b : List ℕ) → IsReal pending → IsUnreadBy remaining d pending b → (reader_of remaining d).1 ≡ next_offset d.window.count pending + length b
+whole-end remaining d None b real left = ap (λ o. known_end o d.window.count) left
+whole-end remaining d (Some h) b real (x, y, hd, split, left, counted) =
+    let at = (counted real).1 in
+    let size : length b ≡ length x + length y = ap length split ∙ length-append x y in
+    ap (λ o. known_end o d.window.count) left ∙ (omega (arith, at, size))
+
 -- an error is what the item there is refused for
-pub whole-faults : {E : Type 0} (left : Option (List ℕ)) (e : Error E) (l p : ℕ) (b s z : List ℕ) (i : Item) → Spells s i → b ≡ s ++ z → IsRefusedBy left e (λ r. Refuses b p (Some l) r) → IsFaultOf (cause_of e) (taken_value (Some l) i)
+pub whole-faults : {E : Type 0} (left : Option (List ℕ)) (e : Error E) (l p : ℕ) (b s z : List ℕ) (i : Item) → Spells s i → b ≡ s ++ z → IsRefusedBy left e (λ r. Refuses b p (Some l) r) → IsFaultOf (p + length b) (cause_of e) (taken_value (Some l) i)
 whole-faults left (errors.Io x) l p b s z i sp f h = tt
 whole-faults left (errors.Syntax q) l p b s z i sp f h = value-faults h i s z sp f
 whole-faults left (errors.Semantic None k) l p b s z i sp f h = absurd h
 whole-faults left (errors.Semantic (Some q) k) l p b s z i sp f h = by k h
   where
-    by : (k : Kind) → IsNamed (Some q) (kind_of k) (λ r. Refuses b p (Some l) r) → IsFaultOf (of_kind k) (taken_value (Some l) i)
+    by : (k : Kind) → IsNamed (Some q) (kind_of k) (λ r. Refuses b p (Some l) r) → IsFaultOf (p + length b) (of_kind k) (taken_value (Some l) i)
     by kinds.Float h = value-faults h i s z sp f
     by kinds.Simple h = value-faults h i s z sp f
     by kinds.Break h = value-faults h i s z sp f
@@ -133,7 +141,7 @@ whole-faults left (errors.Semantic (Some q) k) l p b s z i sp f h = by k h
     by kinds.Other h = absurd h
 whole-faults left errors.RecursionLimitExceeded l p b s z i sp f h = value-faults h i s z sp f
 whole-faults left errors.Memory l p b s z i sp f h = tt
-whole-faults left errors.TooLong l p b s z i sp f h = tt
+whole-faults left errors.TooLong l p b s z i sp f h = value-faults h i s z sp f
 
 no-level : (l : Limit) (n : ℕ) → n ≡ 0 → IsWithin l n
 no-level None n flat = tt

@@ -1,5 +1,6 @@
 -- Where a source over bytes stands.
 use Rattle.std.specs.Prelude.{◌≡◌, ℕ, ◌+◌, ◌*◌, ◌-◌, ◌≤◌, List, ◌++◌, length, map, Option, Some, None, Bool, true, false, Result}
+use Rattle.std.specs.Borrow.{GName}
 use Rattle.std.specs.Vec.Iter.{into_iter_items}
 use Rattle.ciborium_ll.specs.declared.header.Header.{Header}
 use Rattle.ciborium_ll.specs.declared.header.Header.TheVariants as header
@@ -10,11 +11,11 @@ use Rattle.ciborium_ll.specs.Header.{SpellsHeader}
 use Rattle.ciborium_ll.specs.Item.{Item, unsigned}
 use Rattle.ciborium_ll.specs.Refusal.{IsUsable}
 use Rattle.ciborium_ll.specs.Spells.{Spells}
-use Rattle.ciborium_value.specs.Ahead.{Ahead, Rest, Form, counted, until_break, bottom, parts, pairs, entry, held, item, after, of_bytes, past, inside}
+use Rattle.ciborium_value.specs.Ahead.{Ahead, Rest, Form, counted, until_break, bottom, parts, pairs, entry, held, item, after, of_bytes, past, inside, end_of}
 use Rattle.ciborium_value.specs.Meaning.{meaning}
 use Rattle.ciborium_value.specs.Nesting.{Limit, nesting}
 use Rattle.ciborium_value.specs.Places.{Shape, sequence, dictionary}
-use Rattle.ciborium_value.specs.Sources.{Fault, of_kind, of_nesting, of_syntax, of_memory, of_device, HasItem, IsFaultOf}
+use Rattle.ciborium_value.specs.Sources.{Fault, of_kind, of_nesting, of_syntax, of_memory, of_device, of_length, HasItem, IsFaultOf}
 use Rattle.ciborium_value.specs.Taken.{Outcome, Taken, gives, is_null_simple}
 use Rattle.ciborium_value.specs.Tree.{Tree}
 use Rattle.ciborium.specs.declared.de.error.Error.{Error}
@@ -65,6 +66,18 @@ HasTakenSince remaining first s = HasTaken remaining first.decoder s.decoder
 
 -- ---- where it stands
 
+-- the offset at which what is left ends, where it is known, of which so many bytes were counted
+abbrev pub known_end : Option (List ℕ) → ℕ → ℕ
+known_end None n = n
+known_end (Some b) n = n + length b
+
+-- the reader, by name, and where what is there ends
+abbrev pub reader_of : {S : Type 0} → (S → Option (List ℕ)) → Decoder S → GName × ℕ
+reader_of remaining d = (d.reader.ghost_name, known_end (left_of remaining d) d.window.count)
+
+abbrev pub end_at : {S : Type 0} → (S → Option (List ℕ)) → ByteSource S → ℕ
+end_at remaining s = (reader_of remaining s.decoder).1
+
 -- behind an item no head is pending
 abbrev pub HasNoneBehind : Option (Header × ℕ) → Ahead → Type 0
 HasNoneBehind pending (item i f) = Unit {0}
@@ -101,7 +114,7 @@ abbrev pub HoldsDue : {S : Type 0} → ByteSource S → Ahead → Type 0
 HoldsDue s a = allowed_of s.decoder + pending_count s.pending ≤ due a
 
 abbrev pub StandsBefore : {S : Type 0} → (S → Option (List ℕ)) → ByteSource S → Limit → Ahead → Type 0
-StandsBefore remaining s l a = (b : List ℕ) × IsUnread remaining s b × Fits s.decoder.reader.ghost_name b a × (l ≡ Some s.levels) × HasNoneBehind s.pending a × HoldsDue s a
+StandsBefore remaining s l a = (b : List ℕ) × IsUnread remaining s b × Fits (reader_of remaining s.decoder) b a × (l ≡ Some s.levels) × HasNoneBehind s.pending a × HoldsDue s a
 
 -- what is left of a container with this count (None: open)
 abbrev pub parts_left : Option ℕ → Left
@@ -188,7 +201,7 @@ ReadsRest remaining old new q f v = (l : Limit) (form : Form) (is : List Item) (
 -- it is refused only where the items that are left are, and for that
 abbrev pub RefusesRest : {S A : Type 0} → (S → Option (List ℕ)) → ByteSource S → ByteSeq → (Limit → List Item → Outcome A) → Fault → Type 0
 RefusesRest remaining old q f fault = (l : Limit) (form : Form) (is : List Item) (r : Rest) → StandsBefore remaining old (inside form l) (after (parts form is r)) → SeqStands q l (parts form is r) →
-    IsFaultOf fault (f (inside form l) is)
+    IsFaultOf (end_of r) fault (f (inside form l) is)
 
 -- ---- how much can still be read
 
@@ -230,7 +243,7 @@ cause_of (Syntax p) = of_syntax
 cause_of (Semantic p k) = of_kind k
 cause_of RecursionLimitExceeded = of_nesting
 cause_of Memory = of_memory
-cause_of TooLong = of_device
+cause_of TooLong = of_length
 
 -- ---- a value of any shape
 

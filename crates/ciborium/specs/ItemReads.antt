@@ -1,7 +1,7 @@
 -- What a call reads at the front of unread bytes: a head, or an item and what is taken from it.
-use Rattle.std.specs.Prelude.{◌≡◌, ℕ, List, ◌++◌}
+use Rattle.std.specs.Prelude.{◌≡◌, ℕ, ◌≤◌, List, ◌++◌, length}
 use Rattle.ciborium_ll.specs.declared.header.Header.{Header}
-use Rattle.ciborium_ll.specs.Header.{SpellsHeader}
+use Rattle.ciborium_ll.specs.Header.{SpellsHeader, announced_length}
 use Rattle.ciborium_ll.specs.Item.{Item}
 use Rattle.ciborium_ll.specs.Spells.{Spells}
 use Rattle.ciborium_value.specs.Nesting.{Limit}
@@ -13,18 +13,20 @@ module _ {S : Type 0} (IsUnread : S → List ℕ → Type 0) where
   abbrev pub TakesHead : S → S → Header → Type 0
   TakesHead old new h = (b : List ℕ) → IsUnread old b → (x : List ℕ) × (y : List ℕ) × SpellsHeader x h × (b ≡ x ++ y) × IsUnread new y
 
-  -- where a head stands it is refused for what no head decides
-  abbrev pub DeniesHead : S → Fault → Type 0
-  DeniesHead old fault = (b x y : List ℕ) (h : Header) → IsUnread old b → SpellsHeader x h → b ≡ x ++ y → IsOutside fault
-
   -- an item stood there, was taken and gives this
   abbrev pub Reads : {A : Type 0} → S → S → Limit → Taken A → A → Type 0
   Reads old new l taken v = (b : List ℕ) → IsUnread old b → (i : Item) × (s : List ℕ) × (z : List ℕ) × Spells s i × (b ≡ s ++ z) × (taken l i ≡ gives v) × IsUnread new z
 
+-- what is there ends at the offset that End says
+module _ {S : Type 0} (IsUnread : S → List ℕ → Type 0) (End : S → ℕ) where
+  -- where a head stands, with its payload, it is refused for what no head decides
+  abbrev pub DeniesHead : S → Fault → Type 0
+  DeniesHead old fault = (b x y : List ℕ) (h : Header) → IsUnread old b → SpellsHeader x h → b ≡ x ++ y → announced_length h ≤ length y → IsOutside (End old) fault
+
   -- where an item stands it is refused only where the item is, and for that
   abbrev pub Denies : {A : Type 0} → S → Limit → Taken A → Fault → Type 0
-  Denies old l taken fault = (b s z : List ℕ) (i : Item) → IsUnread old b → Spells s i → b ≡ s ++ z → IsFaultOf fault (taken l i)
+  Denies old l taken fault = (b s z : List ℕ) (i : Item) → IsUnread old b → Spells s i → b ≡ s ++ z → IsFaultOf (End old) fault (taken l i)
 
   -- where an item stands it is refused for what no item decides
   abbrev pub DeniesItem : S → Fault → Type 0
-  DeniesItem old fault = (b s z : List ℕ) (i : Item) → IsUnread old b → Spells s i → b ≡ s ++ z → IsOutside fault
+  DeniesItem old fault = (b s z : List ℕ) (i : Item) → IsUnread old b → Spells s i → b ≡ s ++ z → IsOutside (End old) fault

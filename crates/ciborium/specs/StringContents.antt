@@ -1,5 +1,5 @@
 -- What is read behind the head of a string: its payload, or the number that its bytes make.
-use Rattle.std.specs.Prelude.{◌≡◌, ℕ, ◌+◌, ◌*◌, ◌^◌, Bool, true, false, List, [], ◌∷◌, ◌++◌, length, Option, Some, None, if◌then◌else◌, nat_lt}
+use Rattle.std.specs.Prelude.{◌≡◌, ℕ, ◌+◌, ◌≤◌, ◌*◌, ◌^◌, Bool, true, false, List, [], ◌∷◌, ◌++◌, length, Option, Some, None, if◌then◌else◌, nat_lt}
 use Rattle.ciborium_ll.specs.declared.header.Header.{Header}
 use Rattle.ciborium_ll.specs.declared.header.Header.TheVariants as header
 use Rattle.ciborium_ll.specs.Bytes.{AreBytes}
@@ -60,7 +60,11 @@ module _ (P Q : List ℕ → Type 0) where
   TakesParts v =
       (y : List ℕ) → P y → (ps : List (List ℕ)) × (c : List ℕ) × (z : List ℕ) × AreParts 2 AreBytes c ps × (v ≡ digits_of (Some 0) (joined ps)) × AreBytes (joined ps) × (y ≡ c ++ z) × Q z
 
--- where a string with this head is spelled, it is refused for what the string does not decide
-abbrev pub DeniesContent : (List ℕ → Type 0) → StringKind → Option ℕ → Fault → Type 0
-DeniesContent P kind len fault =
-    (y x s z payload : List ℕ) → P y → SpellsHeader x (head_of kind len) → Spells s (string_item kind len payload) → x ++ y ≡ s ++ z → IsOutside fault
+-- where a string with this head is spelled, and what is there ends at this offset, it is refused for what the string does not decide
+abbrev pub DeniesContent : (List ℕ → Type 0) → ℕ → StringKind → Option ℕ → Fault → Type 0
+DeniesContent P end kind len fault =
+    (y x s z payload : List ℕ) → P y → SpellsHeader x (head_of kind len) → Spells s (string_item kind len payload) → x ++ y ≡ s ++ z → IsOutside end fault
+
+-- where n bytes are there
+abbrev pub DeniesJust : (List ℕ → Type 0) → ℕ → ℕ → Fault → Type 0
+DeniesJust P end n fault = (y : List ℕ) → P y → n ≤ length y → IsOutside end fault

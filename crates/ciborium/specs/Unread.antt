@@ -38,10 +38,10 @@ module _ {X : Type 0} (SpellsPart : List ℕ → X → Type 0) where
   AreLeft until_break b xs = AreSpelled b xs
   AreLeft of_bytes b xs = b ≡ []
 
-module _ (name : GName) where
-  -- b is this rest, in the reader of this name
+module _ (reader : GName × ℕ) where
+  -- b is this rest, in the reader of this name, up to this offset
   abbrev pub IsRest : List ℕ → Rest → Type 0
-  IsRest b (bottom m r) = (b ≡ r) × (m ≡ name)
+  IsRest b (bottom m r) = (b ≡ r) × (m ≡ reader)
   IsRest b (parts form is f) = (s : List ℕ) × (r : List ℕ) × AreLeft Spells form s is × IsRest r f × (b ≡ s ++ (ending form ++ r))
   IsRest b (pairs form ps f) = (s : List ℕ) × (r : List ℕ) × AreLeft SpellsPair form s ps × IsRest r f × (b ≡ s ++ (ending form ++ r))
   IsRest b (entry v form ps f) =

@@ -58,7 +58,7 @@ fn read<T: Deserialize, R: Read>(
     // is refused as the item is.
     ensures ok { TakesGiven (Some limit) T.reading.taken (R.remaining reader.old)
         (R.remaining reader.new) (read_as T.reading.content result) }
-    ensures refused { RefusesTaken (Some limit) T.reading.taken (R.remaining reader.old)
+    ensures refused { RefusesTaken 0 (Some limit) T.reading.taken (R.remaining reader.old)
         (read_as T.reading.content result) }
     ensures memory { IfErr result (λ e. IsGranted (cause_of e) T.reading.takes_memory) }
     // Refused or not, a beginning of what was there was taken, and nothing else.
@@ -103,7 +103,7 @@ pub fn from_reader<T: Deserialize, R: Read>(
     // is refused as the item is.
     ensures ok { TakesGiven (Some 256) T.reading.taken (R.remaining reader.old)
         (R.remaining reader.new) (read_as T.reading.content result) }
-    ensures refused { RefusesTaken (Some 256) T.reading.taken (R.remaining reader.old)
+    ensures refused { RefusesTaken 0 (Some 256) T.reading.taken (R.remaining reader.old)
         (read_as T.reading.content result) }
     ensures memory { IfErr result (λ e. IsGranted (cause_of e) T.reading.takes_memory) }
     // Refused or not, a beginning of what was there was taken, and nothing else.
@@ -127,7 +127,7 @@ pub fn from_reader_with_buffer<T: Deserialize, R: Read>(
     // is refused as the item is.
     ensures ok { TakesGiven (Some 256) T.reading.taken (R.remaining reader.old)
         (R.remaining reader.new) (read_as T.reading.content result) }
-    ensures refused { RefusesTaken (Some 256) T.reading.taken (R.remaining reader.old)
+    ensures refused { RefusesTaken 0 (Some 256) T.reading.taken (R.remaining reader.old)
         (read_as T.reading.content result) }
     ensures memory { IfErr result (λ e. IsGranted (cause_of e) T.reading.takes_memory) }
     // Refused or not, a beginning of what was there was taken, and nothing else.
@@ -153,7 +153,7 @@ pub fn from_reader_with_recursion_limit<T: Deserialize, R: Read>(
     // is refused as the item is.
     ensures ok { TakesGiven (Some limit) T.reading.taken (R.remaining reader.old)
         (R.remaining reader.new) (read_as T.reading.content result) }
-    ensures refused { RefusesTaken (Some limit) T.reading.taken (R.remaining reader.old)
+    ensures refused { RefusesTaken 0 (Some limit) T.reading.taken (R.remaining reader.old)
         (read_as T.reading.content result) }
     ensures memory { IfErr result (λ e. IsGranted (cause_of e) T.reading.takes_memory) }
     // Refused or not, a beginning of what was there was taken, and nothing else.
@@ -183,7 +183,7 @@ pub fn from_reader_at<T: Deserialize, R: Read>(
     // is refused as the item is.
     ensures ok { TakesGiven (Some limit) T.reading.taken (R.remaining reader.old)
         (R.remaining reader.new) (read_as T.reading.content result) }
-    ensures refused { RefusesTaken (Some limit) T.reading.taken (R.remaining reader.old)
+    ensures refused { RefusesTaken offset (Some limit) T.reading.taken (R.remaining reader.old)
         (read_as T.reading.content result) }
     ensures memory { IfErr result (λ e. IsGranted (cause_of e) T.reading.takes_memory) }
     // Refused or not, a beginning of what was there was taken, and nothing else.
@@ -244,7 +244,7 @@ pub fn from_reader_next<T: Deserialize, R: Read>(
     // gives; or it is refused as the item is.
     ensures ok { Otherwise result (λ r. TakesGiven (Some 256) T.reading.taken
         (R.remaining reader.old) (R.remaining reader.new) (read_as T.reading.content r)) }
-    ensures refused { Otherwise result (λ r. RefusesTaken (Some 256) T.reading.taken
+    ensures refused { Otherwise result (λ r. RefusesTaken 0 (Some 256) T.reading.taken
         (R.remaining reader.old) (read_as T.reading.content r)) }
     ensures memory { IfErr result (λ e. IsGranted (cause_of e) T.reading.takes_memory) }
     // Refused or not, a beginning of what was there was taken, and nothing else.

@@ -32,7 +32,7 @@ argument-more a b r lt le =
     last : 24 ≤ a → (a ≡ 24 → ⊥) → (a ≡ 25 → ⊥) → (a ≡ 26 → ⊥) → 8 ≤ length b
     last h i j k = is 27 (omega (arith, h, i, j, k, lt)) 8 refl
 
-payload_length-more : (m a : ℕ) (b r : List ℕ) → argument_length a ≤ length b → payload_length m a (b ++ r) ≡ payload_length m a b
+pub payload_length-more : (m a : ℕ) (b r : List ℕ) → argument_length a ≤ length b → payload_length m a (b ++ r) ≡ payload_length m a b
 payload_length-more m a b r le = cond-same ((eqb m 2 || eqb m 3) && ltb a 28) _ _ _ _ (λ t. argument-more a b r (ltb-true a 28 (second _ _ t)) le) (λ t. refl)
   where
     second : (t u : Bool) → (t && u) ≡ true → u ≡ true

@@ -3,7 +3,7 @@ use Rattle.std.proofs.Common.{◌≡◌, ℕ, List, [], ◌∷◌, map, Ordering
 use Rattle.std.specs.BTreeMap.{insert_entry}
 use Rattle.std.specs.Ordering.{match_ordering}
 use Rattle.ciborium_ll.specs.Item.{Item}
-use Rattle.ciborium_value.specs.Ahead.{Ahead, Rest, Form, item, after, pairs, entry, inside}
+use Rattle.ciborium_value.specs.Ahead.{Ahead, Rest, Form, item, after, pairs, entry, inside, end_of}
 use Rattle.ciborium_value.specs.Nesting.{Limit}
 use Rattle.ciborium_value.specs.Places.{Shape, dictionary}
 use Rattle.ciborium_value.specs.Sources.{Fault, IsFaultOf, Takes, Refuses, EntersMap, GoesOn, Leaves, RefusesNext, TakesTo, TakesItem, OwesLess, OwesNothing}
@@ -67,7 +67,7 @@ module _ {S Q : Type 0} (StandsBefore : S → Limit → Ahead → Type 0) (SeqSt
   }
 
   pub map_blames_next : {old : S} {q : Q} (es : List (A × B)) (fault : Fault) → RefusesNext StandsBefore SeqStands old q fault → Follows (IsInsideMap old q es) (IsBlamed fault)
-  map_blames_next es fault h = record { at = λ l f o w. fault_outside fault o (h.1 l w.0 w.1 f w.2 w.3) }
+  map_blames_next es fault h = record { at = λ l f o w. fault_outside _ fault o (h.1 l w.0 w.1 f w.2 w.3) }
 
   at_key : {old new : S} {q q' : Q} (es : List (A × B)) → GoesOn StandsBefore SeqStands old new q q' → Follows (IsInsideMap old q es) (IsAtKey new q' es)
   at_key es h = record {
@@ -80,8 +80,8 @@ module _ {S Q : Type 0} (StandsBefore : S → Limit → Ahead → Type 0) (SeqSt
   key_blames es fault h = record {
     at = λ l f o w.
         let m = inside w.0 l in
-        subst (IsFaultOf fault) (sym w.6)
-        (fault_map fault (put_all order es) _ (fault_and fault _ (take_each (take_entry (key m) (value m)) w.3) (fault_then fault (key m w.1) (λ a. then_take (value m w.2) (λ b. gives (a, b))) (h m w.1 (entry w.2 w.0 w.3 f) w.4))));
+        subst (IsFaultOf (end_of f) fault) (sym w.6)
+        (fault_map _ fault (put_all order es) _ (fault_and _ fault _ (take_each (take_entry (key m) (value m)) w.3) (fault_then _ fault (key m w.1) (λ a. then_take (value m w.2) (λ b. gives (a, b))) (h m w.1 (entry w.2 w.0 w.3 f) w.4))));
   }
 
   at_value : {old new : S} {q : Q} (es : List (A × B)) {a : A} → Takes StandsBefore old new key a → Follows (IsAtKey old q es) (IsAtValue new q es a)
@@ -96,8 +96,8 @@ module _ {S Q : Type 0} (StandsBefore : S → Limit → Ahead → Type 0) (SeqSt
   value_blames es a fault h = record {
     at = λ l f o w.
         let m = inside w.0 l in
-        subst (IsFaultOf fault) (sym w.5)
-        (fault_map fault (put_all order es) _ (fault_and fault _ (take_each (take_entry (key m) (value m)) w.2) (fault_then fault (value m w.1) (λ b. gives (a, b)) (h m w.1 (pairs w.0 w.2 f) w.3))));
+        subst (IsFaultOf (end_of f) fault) (sym w.5)
+        (fault_map _ fault (put_all order es) _ (fault_and _ fault _ (take_each (take_entry (key m) (value m)) w.2) (fault_then _ fault (value m w.1) (λ b. gives (a, b)) (h m w.1 (pairs w.0 w.2 f) w.3))));
   }
 
   behind_value : {old new : S} {q : Q} (es : List (A × B)) (a : A) {b : B} → Takes StandsBefore old new value b → Follows (IsAtValue old q es a) (IsInsideMap new q (insert_entry order es a b))

@@ -10,7 +10,7 @@ use Rattle.ciborium_value.specs.Open as open_
 use Rattle.ciborium_value.specs.Open.{Open, Placed, done, more, placed}
 use Rattle.ciborium_value.specs.FoldedCopies.{IsUnfolded, path_trees, coming_trees, all_coming}
 use Rattle.ciborium_value.specs.declared.deserialized.folding.Coming.{Coming}
-use Rattle.ciborium_value.specs.Sources.{Fault, of_kind, of_nesting, of_syntax, of_memory, of_device, IsFaultOf}
+use Rattle.ciborium_value.specs.Sources.{Fault, of_kind, of_nesting, of_syntax, of_memory, of_device, of_length, IsFaultOf}
 use Rattle.ciborium_value.specs.Taken.{gives, refuses, of_meaning, outcome_map, one_more, one_pair_more, taken_tag, taken_value, taken_items, taken_tree_pairs}
 use Rattle.ciborium_value.specs.Tree as trees
 use Rattle.ciborium_value.specs.Tree.{Tree, Trees, TreePairs}
@@ -244,12 +244,13 @@ nodes-append [] ys = omega (arith)
 nodes-append (x ∷ xs) ys = let h = nodes-append xs ys in omega (arith, h)
 
 -- a part that does not fold, and so the whole
-pub refused_as : (f : Fault) (o : Option Tree) (t : Tree) → IsUnfolded f o → (o ≡ None → copied (more []) (t ∷ []) ≡ None) → IsFaultOf f (taken_value None (item_of t))
-refused_as (of_kind k) o t h none = copied-none t (none h.1) ∙ ap refuses (sym h.0)
-refused_as of_nesting o t h none = elim h [ ]
-refused_as of_syntax o t h none = elim h [ ]
-refused_as of_memory o t h none = tt
-refused_as of_device o t h none = tt
+pub refused_as : (end : ℕ) (f : Fault) (o : Option Tree) (t : Tree) → IsUnfolded f o → (o ≡ None → copied (more []) (t ∷ []) ≡ None) → IsFaultOf end f (taken_value None (item_of t))
+refused_as end (of_kind k) o t h none = copied-none t (none h.1) ∙ ap refuses (sym h.0)
+refused_as end of_nesting o t h none = elim h [ ]
+refused_as end of_syntax o t h none = elim h [ ]
+refused_as end of_memory o t h none = tt
+refused_as end of_device o t h none = tt
+refused_as end of_length o t h none = elim h [ ]
 
 -- the entry that was put in last comes first
 pub path_last : (cs : List Coming) (c : Coming) → path_trees (cs ++ c ∷ []) ≡ coming_trees c ++ path_trees cs

@@ -28,7 +28,8 @@ pub mod Growing
 pub mod TreeSinkSteps
 pub mod ReadBack
 pub mod TreeReading
-pub mod TreeLevels
+pub mod TreeFaults
+mod TreeLevels
 pub mod FoldedCopies
 pub mod Sequences
 pub mod Dictionaries

@@ -1,7 +1,7 @@
 -- What is read of a map by the names of fields, pair by pair, from any source.
 use Rattle.std.proofs.Common.{◌≡◌, ℕ, List, ◌∷◌, sym, ◌∙◌, ap, subst}
 use Rattle.ciborium_ll.specs.Item.{Item}
-use Rattle.ciborium_value.specs.Ahead.{Ahead, Rest, Form, item, after, pairs, entry, inside}
+use Rattle.ciborium_value.specs.Ahead.{Ahead, Rest, Form, item, after, pairs, entry, inside, end_of}
 use Rattle.ciborium_value.specs.Nesting.{Limit}
 use Rattle.ciborium_value.specs.Sources.{Fault, IsFaultOf, Takes, Refuses, EntersMap, GoesOn, Leaves, RefusesNext}
 use Rattle.ciborium_value.specs.StructReadings.{FieldsTaken, take_fields, take_named, taken_fields}
@@ -29,7 +29,7 @@ module _ {S Q : Type 0} (StandsBefore : S → Limit → Ahead → Type 0) (SeqSt
   }
 
   pub fields_blame_next : {old : S} {q : Q} (c : C) (fault : Fault) → RefusesNext StandsBefore SeqStands old q fault → Follows (IsInsideFields old q c) (IsBlamed fault)
-  fields_blame_next c fault h = record { at = λ l f o w. fault_outside fault o (h.1 l w.0 w.1 f w.2 w.3) }
+  fields_blame_next c fault h = record { at = λ l f o w. fault_outside _ fault o (h.1 l w.0 w.1 f w.2 w.3) }
 
   at_name : {old new : S} {q q' : Q} (c : C) → GoesOn StandsBefore SeqStands old new q q' → Follows (IsInsideFields old q c) (IsAtName new q' c)
   at_name c h = record {
@@ -42,8 +42,8 @@ module _ {S Q : Type 0} (StandsBefore : S → Limit → Ahead → Type 0) (SeqSt
   name_blames c fault h = record {
     at = λ l f o w.
         let m = inside w.0 l in
-        subst (IsFaultOf fault) (sym w.6)
-        (fault_then fault (take_named fields m c (w.1, w.2)) (λ d. take_fields fields m d w.3) (fault_then fault (taken_name m w.1) (λ name. fields.taken name c m w.2) (h m w.1 (entry w.2 w.0 w.3 f) w.4)));
+        subst (IsFaultOf (end_of f) fault) (sym w.6)
+        (fault_then _ fault (take_named fields m c (w.1, w.2)) (λ d. take_fields fields m d w.3) (fault_then _ fault (taken_name m w.1) (λ name. fields.taken name c m w.2) (h m w.1 (entry w.2 w.0 w.3 f) w.4)));
   }
 
   at_field : {old new : S} {q : Q} (c : C) {name : List ℕ} → Takes StandsBefore old new taken_name name → Follows (IsAtName old q c) (IsAtField new q c name)
@@ -58,8 +58,8 @@ module _ {S Q : Type 0} (StandsBefore : S → Limit → Ahead → Type 0) (SeqSt
   field_blames c name fault h = record {
     at = λ l f o w.
         let m = inside w.0 l in
-        subst (IsFaultOf fault) (sym w.5)
-        (fault_then fault (fields.taken name c m w.1) (λ d. take_fields fields m d w.2) (h m w.1 (pairs w.0 w.2 f) w.3));
+        subst (IsFaultOf (end_of f) fault) (sym w.5)
+        (fault_then _ fault (fields.taken name c m w.1) (λ d. take_fields fields m d w.2) (h m w.1 (pairs w.0 w.2 f) w.3));
   }
 
   behind_field : {old new : S} {q : Q} (c : C) (name : List ℕ) {d : C} → Takes StandsBefore old new (fields.taken name c) d → Follows (IsAtField old q c name) (IsInsideFields new q d)

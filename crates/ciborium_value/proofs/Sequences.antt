@@ -1,44 +1,48 @@
 -- What is read of a sequence, part by part, from any source.
 use Rattle.std.proofs.Common.{◌≡◌, ℕ, List, [], ◌∷◌, ◌++◌, refl, sym, ◌∙◌, ap, subst, append_assoc, append-nil}
 use Rattle.ciborium_ll.specs.Item.{Item}
-use Rattle.ciborium_value.specs.Ahead.{Ahead, Rest, Form, item, after, parts, past, inside}
+use Rattle.ciborium_value.specs.Ahead.{Ahead, Rest, Form, item, after, parts, past, inside, end_of}
 use Rattle.ciborium_value.specs.Nesting.{Limit}
 use Rattle.ciborium_value.specs.Places.{Shape, sequence}
 use Rattle.ciborium_value.specs.Sequences.{DropsRest, RefusesRest, TakesOwed, TakesRest}
-use Rattle.ciborium_value.specs.Sources.{Fault, of_kind, of_nesting, of_syntax, of_memory, of_device, IsFaultOf, IsOutside, Takes, Refuses, Enters, GoesOn, Leaves, RefusesNext, TakesTo, TakesItem, OwesLess, OwesNothing}
+use Rattle.ciborium_value.specs.Sources.{Fault, of_kind, of_nesting, of_syntax, of_memory, of_device, of_length, IsFaultOf, IsOutside, Takes, Refuses, Enters, GoesOn, Leaves, RefusesNext, TakesTo, TakesItem, OwesLess, OwesNothing}
 use Rattle.ciborium_value.specs.Taken.{Outcome, gives, refuses, nests, Taken, then_take, and_take, take_each, outcome_map, taken_value}
 use Rattle.ciborium_value.specs.TakenParts.{list_items, taken_list, tuple_rest}
 use Rattle.ciborium_value.specs.Tree.{Tree}
 
 -- ---- who is to blame
 
-pub fault_then : {A B : Type 0} (fault : Fault) (o : Outcome A) (f : A → Outcome B) → IsFaultOf fault o → IsFaultOf fault (then_take o f)
-fault_then (of_kind k) o f h = ap (λ x. then_take x f) h
-fault_then of_nesting o f h = ap (λ x. then_take x f) h
-fault_then of_syntax o f h = h
-fault_then of_memory o f h = tt
-fault_then of_device o f h = tt
+pub fault_then : {A B : Type 0} (end : ℕ) (fault : Fault) (o : Outcome A) (f : A → Outcome B) → IsFaultOf end fault o → IsFaultOf end fault (then_take o f)
+fault_then end (of_kind k) o f h = ap (λ x. then_take x f) h
+fault_then end of_nesting o f h = ap (λ x. then_take x f) h
+fault_then end of_syntax o f h = h
+fault_then end of_memory o f h = tt
+fault_then end of_device o f h = tt
+fault_then end of_length o f h = h
 
-pub fault_map : {A B : Type 0} (fault : Fault) (f : A → B) (o : Outcome A) → IsFaultOf fault o → IsFaultOf fault (outcome_map f o)
-fault_map (of_kind k) f o h = ap (outcome_map f) h
-fault_map of_nesting f o h = ap (outcome_map f) h
-fault_map of_syntax f o h = h
-fault_map of_memory f o h = tt
-fault_map of_device f o h = tt
+pub fault_map : {A B : Type 0} (end : ℕ) (fault : Fault) (f : A → B) (o : Outcome A) → IsFaultOf end fault o → IsFaultOf end fault (outcome_map f o)
+fault_map end (of_kind k) f o h = ap (outcome_map f) h
+fault_map end of_nesting f o h = ap (outcome_map f) h
+fault_map end of_syntax f o h = h
+fault_map end of_memory f o h = tt
+fault_map end of_device f o h = tt
+fault_map end of_length f o h = h
 
-pub fault_and : {A : Type 0} (fault : Fault) (o : Outcome A) (r : Outcome (List A)) → IsFaultOf fault o → IsFaultOf fault (and_take o r)
-fault_and (of_kind k) o r h = ap (λ x. and_take x r) h
-fault_and of_nesting o r h = ap (λ x. and_take x r) h
-fault_and of_syntax o r h = h
-fault_and of_memory o r h = tt
-fault_and of_device o r h = tt
+pub fault_and : {A : Type 0} (end : ℕ) (fault : Fault) (o : Outcome A) (r : Outcome (List A)) → IsFaultOf end fault o → IsFaultOf end fault (and_take o r)
+fault_and end (of_kind k) o r h = ap (λ x. and_take x r) h
+fault_and end of_nesting o r h = ap (λ x. and_take x r) h
+fault_and end of_syntax o r h = h
+fault_and end of_memory o r h = tt
+fault_and end of_device o r h = tt
+fault_and end of_length o r h = h
 
-pub fault_outside : {A : Type 0} (fault : Fault) (o : Outcome A) → IsOutside fault → IsFaultOf fault o
-fault_outside (of_kind k) o h = absurd h
-fault_outside of_nesting o h = absurd h
-fault_outside of_syntax o h = h
-fault_outside of_memory o h = tt
-fault_outside of_device o h = tt
+pub fault_outside : {A : Type 0} (end : ℕ) (fault : Fault) (o : Outcome A) → IsOutside end fault → IsFaultOf end fault o
+fault_outside end (of_kind k) o h = absurd h
+fault_outside end of_nesting o h = absurd h
+fault_outside end of_syntax o h = h
+fault_outside end of_memory o h = tt
+fault_outside end of_device o h = tt
+fault_outside end of_length o h = h
 
 -- ---- from one place to the next
 
@@ -51,7 +55,7 @@ so h k = record { at = λ l f o p. k.at l f o (h.at l f o p) }
 
 -- the outcome is to blame
 abbrev pub IsBlamed : {C : Type 0} → Fault → Limit → Rest → Outcome C → Type 0
-IsBlamed fault l f o = IsFaultOf fault o
+IsBlamed fault l f o = IsFaultOf (end_of f) fault o
 
 module _ {S : Type 0} (StandsBefore : S → Limit → Ahead → Type 0) where
   -- an item is ahead, which gives the outcome
@@ -86,7 +90,7 @@ module _ {S Q : Type 0} (StandsBefore : S → Limit → Ahead → Type 0) (SeqSt
     }
 
     pub blames_next : {old : S} {q : Q} (fault : Fault) → RefusesNext StandsBefore SeqStands old q fault → Follows (IsInside old q k) (IsBlamed fault)
-    blames_next fault h = record { at = λ l f o w. fault_outside fault o (h.0 l w.0 w.1 f w.2 w.3) }
+    blames_next fault h = record { at = λ l f o w. fault_outside _ fault o (h.0 l w.0 w.1 f w.2 w.3) }
 
     -- the part gives v, and k makes of it what k' makes of the rest
     pub reads : {A : Type 0} {old new : S} {q : Q} {first : Taken A} {v : A} (k' : Limit → List Item → Outcome C) → Takes StandsBefore old new first v → ((m : Limit) (i : Item) (is : List Item) → first m i ≡ gives v → k m (i ∷ is) ≡ k' m is) → Follows (IsAtPart old q k) (IsInside new q k')
@@ -96,8 +100,8 @@ module _ {S Q : Type 0} (StandsBefore : S → Limit → Ahead → Type 0) (SeqSt
           (w.0, w.2, n.1, w.4, w.5 ∙ step (inside w.0 l) w.1 w.2 n.0);
     }
 
-    pub blames_part : {A : Type 0} {old : S} {q : Q} (first : Taken A) (fault : Fault) → Refuses StandsBefore old first fault → ((m : Limit) (i : Item) (is : List Item) → IsFaultOf fault (first m i) → IsFaultOf fault (k m (i ∷ is))) → Follows (IsAtPart old q k) (IsBlamed fault)
-    blames_part first fault h step = record { at = λ l f o w. subst (IsFaultOf fault) (sym w.5) (step (inside w.0 l) w.1 w.2 (h (inside w.0 l) w.1 (parts w.0 w.2 f) w.3)) }
+    pub blames_part : {A : Type 0} {old : S} {q : Q} (first : Taken A) (fault : Fault) → Refuses StandsBefore old first fault → ((end : ℕ) (m : Limit) (i : Item) (is : List Item) → IsFaultOf end fault (first m i) → IsFaultOf end fault (k m (i ∷ is))) → Follows (IsAtPart old q k) (IsBlamed fault)
+    blames_part first fault h step = record { at = λ l f o w. subst (IsFaultOf (end_of f) fault) (sym w.5) (step (end_of f) (inside w.0 l) w.1 w.2 (h (inside w.0 l) w.1 (parts w.0 w.2 f) w.3)) }
 
     pub leaves : {old new : S} {q : Q} (v : C) → Leaves StandsBefore SeqStands old new q → ((m : Limit) → k m [] ≡ gives v) → Follows (IsInside old q k) (IsPast StandsBefore new v)
     leaves v h none = record {
@@ -146,7 +150,7 @@ module _ {S Q : Type 0} (StandsBefore : S → Limit → Ahead → Type 0) (SeqSt
 
   pub list_blames : {old ahead : S} {q q' : Q} (vs : List A) (fault : Fault) → GoesOn StandsBefore SeqStands old ahead q q' → Refuses StandsBefore ahead taken fault → Follows (IsInside StandsBefore SeqStands old q (list_from taken vs)) (IsBlamed fault)
   list_blames vs fault h t = so (goes_on StandsBefore SeqStands (list_from taken vs) h)
-      (blames_part StandsBefore SeqStands (list_from taken vs) taken fault t (λ m i is e. fault_map fault (λ ws. vs ++ ws) (and_take (taken m i) (list_items taken m is)) (fault_and fault (taken m i) (list_items taken m is) e)))
+      (blames_part StandsBefore SeqStands (list_from taken vs) taken fault t (λ end m i is e. fault_map _ fault (λ ws. vs ++ ws) (and_take (taken m i) (list_items taken m is)) (fault_and _ fault (taken m i) (list_items taken m is) e)))
 
   pub list_ends : {old new : S} {q : Q} (vs : List A) → Leaves StandsBefore SeqStands old new q → Follows (IsInside StandsBefore SeqStands old q (list_from taken vs)) (IsPast StandsBefore new vs)
   list_ends vs h = leaves StandsBefore SeqStands (list_from taken vs) vs h (λ m. ap gives (append-nil vs))
@@ -158,7 +162,7 @@ module _ {S Q : Type 0} (StandsBefore : S → Limit → Ahead → Type 0) (SeqSt
 
   pub drop_blames : {old ahead : S} {q q' : Q} (fault : Fault) → GoesOn StandsBefore SeqStands old ahead q q' → Refuses StandsBefore ahead taken_value fault → Follows (IsInside StandsBefore SeqStands old q dropped) (IsBlamed fault)
   drop_blames fault h t = so (goes_on StandsBefore SeqStands dropped h)
-      (blames_part StandsBefore SeqStands dropped taken_value fault t (λ m i is e. fault_then fault (and_take (taken_value m i) (take_each (taken_value m) is)) (λ _. gives tt) (fault_and fault (taken_value m i) (take_each (taken_value m) is) e)))
+      (blames_part StandsBefore SeqStands dropped taken_value fault t (λ end m i is e. fault_then _ fault (and_take (taken_value m i) (take_each (taken_value m) is)) (λ _. gives tt) (fault_and _ fault (taken_value m i) (take_each (taken_value m) is) e)))
 
   pub drop_ends : {old new : S} {q : Q} → Leaves StandsBefore SeqStands old new q → Follows (IsInside StandsBefore SeqStands old q dropped) (IsPast StandsBefore new tt)
   drop_ends h = leaves StandsBefore SeqStands dropped tt h (λ m. refl)

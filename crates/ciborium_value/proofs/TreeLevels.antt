@@ -45,7 +45,7 @@ variant_of_map v ps qs i is h e = ap (bare_variant None) (sym h ∙ ap item_of (
 -- ---- what is due
 
 pub due_is_ahead : (new : TreeSource) (due : Option (Bor Value)) (f : Rest) → IsDue due f → new.ahead ≡ pending_due due → IsAhead new (past f)
-due_is_ahead new due (bottom name b) h e = tt
+due_is_ahead new due (bottom reader b) h e = tt
 due_is_ahead new due (parts form is f) h e = tt
 due_is_ahead new due (pairs form ps f) h e = tt
 due_is_ahead new None (entry v form ps f) h e = elim h [ ]

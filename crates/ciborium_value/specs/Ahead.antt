@@ -13,8 +13,8 @@ pub data Form : Type 0 where
 
 -- what follows an item
 pub data Rest : Type 0 where
-  -- what the reader of this name has left
-  bottom : GName → List ℕ → Rest
+  -- what the reader of this name has left, up to this offset
+  bottom : GName × ℕ → List ℕ → Rest
   -- the items left of an array or byte string
   parts : Form → List Item → Rest → Rest
   -- the pairs left of a map: a key or the end is due
@@ -24,6 +24,14 @@ pub data Rest : Type 0 where
   -- a level is to be given back: that of a tag or a variant
   held : Rest → Rest
 
+-- the offset at which what is there ends
+abbrev pub end_of : Rest → ℕ
+end_of (bottom reader b) = reader.1
+end_of (parts form is f) = end_of f
+end_of (pairs form ps f) = end_of f
+end_of (entry v form ps f) = end_of f
+end_of (held f) = end_of f
+
 -- a source stands before an item, or after one
 pub data Ahead : Type 0 where
   item : Item → Rest → Ahead
@@ -31,7 +39,7 @@ pub data Ahead : Type 0 where
 
 -- where it stands once an item was read: before the value that is due, if one is
 abbrev pub past : Rest → Ahead
-past (bottom name b) = after (bottom name b)
+past (bottom reader b) = after (bottom reader b)
 past (parts form is f) = after (parts form is f)
 past (pairs form ps f) = after (pairs form ps f)
 past (entry v form ps f) = item v (pairs form ps f)

@@ -1,7 +1,7 @@
 -- What is read of a sequence that was entered: the next part, which must be there, and what is left, which is dropped.
 use Rattle.std.specs.Prelude.{◌≡◌, ℕ, List, ◌∷◌}
 use Rattle.ciborium_ll.specs.Item.{Item}
-use Rattle.ciborium_value.specs.Ahead.{Ahead, Rest, Form, after, parts, past, inside}
+use Rattle.ciborium_value.specs.Ahead.{Ahead, Rest, Form, after, parts, past, inside, end_of}
 use Rattle.ciborium_value.specs.Nesting.{Limit}
 use Rattle.ciborium_value.specs.Places.{Shape, sequence}
 use Rattle.ciborium_value.specs.Sources.{Fault, IsFaultOf, HasItem, TakesTo}
@@ -17,7 +17,7 @@ module _ {S Q : Type 0} (StandsBefore : S → Limit → Ahead → Type 0) (SeqSt
   -- no part is there, or it is to blame
   abbrev pub RefusesPart : {A : Type 0} → S → Q → Taken A → Fault → Type 0
   RefusesPart old q taken fault = (l : Limit) (form : Form) (is : List Item) (f : Rest) → StandsBefore old (inside form l) (after (parts form is f)) → SeqStands q l (parts form is f) →
-      IsFaultOf fault (tuple_part taken (inside form l) (λ v _. gives v) is)
+      IsFaultOf (end_of f) fault (tuple_part taken (inside form l) (λ v _. gives v) is)
 
   -- each item that was left is a value, and the source stands past the sequence
   abbrev pub DropsRest : S → S → Q → Type 0
@@ -27,7 +27,7 @@ module _ {S Q : Type 0} (StandsBefore : S → Limit → Ahead → Type 0) (SeqSt
   -- one of them is to blame
   abbrev pub RefusesRest : S → Q → Fault → Type 0
   RefusesRest old q fault = (l : Limit) (form : Form) (is : List Item) (f : Rest) → StandsBefore old (inside form l) (after (parts form is f)) → SeqStands q l (parts form is f) →
-      IsFaultOf fault (tuple_rest {A = Unit {0}} (inside form l) tt is)
+      IsFaultOf (end_of f) fault (tuple_rest {A = Unit {0}} (inside form l) tt is)
 
 module _ {S Q : Type 0} (IsUnread : S → List ℕ → Type 0) (Owes : Q → Shape → List ℕ → List ℕ → Type 0) where
   -- a part was taken, and less is owed

@@ -1,8 +1,9 @@
 -- The words of the contracts of `Source` and `Deserialize`.
-use Rattle.std.specs.Prelude.{◌≡◌, ℕ, Bool, List, [], ◌∷◌, ◌++◌, IsTrue, Result, Ok, Err}
+use Rattle.std.specs.Prelude.{◌≡◌, ℕ, ◌<◌, Bool, List, [], ◌∷◌, ◌++◌, IsTrue, Result, Ok, Err}
+use Rattle.ciborium_ll.specs.Bytes.{greatest_offset}
 use Rattle.ciborium_ll.specs.Item.{Item}
 use Rattle.ciborium_ll.specs.Spells.{Spells}
-use Rattle.ciborium_value.specs.Ahead.{Ahead, Rest, Form, item, after, parts, pairs, entry, held, past, inside}
+use Rattle.ciborium_value.specs.Ahead.{Ahead, Rest, Form, item, after, parts, pairs, entry, held, past, inside, end_of}
 use Rattle.ciborium_value.specs.Nesting.{Limit}
 use Rattle.ciborium_value.specs.Places.{Shape, sequence, dictionary}
 use Rattle.ciborium_value.specs.Taken.{Outcome, gives, refuses, nests, Taken, taken_seq, taken_pairs, is_null, deeper}
@@ -10,29 +11,34 @@ use Rattle.ciborium_value.specs.declared.kind.Kind.{Kind}
 
 -- ---- why a source refused
 
--- a kind, no level left, bytes that spell no item, want of memory, or the device: its failure, its end, or offsets that end
+-- a kind, no level left, bytes that spell no item, want of memory, the device: its failure or its end; or the greatest offset would be
+-- passed
 pub data Fault : Type 0 where
   of_kind : Kind → Fault
   of_nesting : Fault
   of_syntax : Fault
   of_memory : Fault
   of_device : Fault
+  of_length : Fault
 
--- an item that gives this outcome is refused for this, or for what it does not decide
-abbrev pub IsFaultOf : {A : Type 0} → Fault → Outcome A → Type 0
-IsFaultOf (of_kind k) o = o ≡ refuses k
-IsFaultOf of_nesting o = o ≡ nests
-IsFaultOf of_syntax o = ⊥
-IsFaultOf of_memory o = Unit {0}
-IsFaultOf of_device o = Unit {0}
+-- where what is there ends at this offset, an item that gives this outcome is refused for this, or for what it does not decide: as too
+-- long only where what is there is
+abbrev pub IsFaultOf : {A : Type 0} → ℕ → Fault → Outcome A → Type 0
+IsFaultOf end (of_kind k) o = o ≡ refuses k
+IsFaultOf end of_nesting o = o ≡ nests
+IsFaultOf end of_syntax o = ⊥
+IsFaultOf end of_memory o = Unit {0}
+IsFaultOf end of_device o = Unit {0}
+IsFaultOf end of_length o = greatest_offset < end
 
 -- refused for what no item decides
-abbrev pub IsOutside : Fault → Type 0
-IsOutside (of_kind k) = ⊥
-IsOutside of_nesting = ⊥
-IsOutside of_syntax = ⊥
-IsOutside of_memory = Unit {0}
-IsOutside of_device = Unit {0}
+abbrev pub IsOutside : ℕ → Fault → Type 0
+IsOutside end (of_kind k) = ⊥
+IsOutside end of_nesting = ⊥
+IsOutside end of_syntax = ⊥
+IsOutside end of_memory = Unit {0}
+IsOutside end of_device = Unit {0}
+IsOutside end of_length = greatest_offset < end
 
 -- want of memory comes only from those that take memory
 abbrev pub IsGranted : Fault → Bool → Type 0
@@ -41,6 +47,7 @@ IsGranted of_nesting takes_memory = Unit {0}
 IsGranted of_syntax takes_memory = Unit {0}
 IsGranted of_memory takes_memory = IsTrue takes_memory
 IsGranted of_device takes_memory = Unit {0}
+IsGranted of_length takes_memory = Unit {0}
 
 -- an answer by what counts of it
 abbrev pub read_as : {A B E : Type 0} → (A → B) → Result A E → Result B E
@@ -56,7 +63,7 @@ module _ {S : Type 0} (StandsBefore : S → Limit → Ahead → Type 0) where
 
   -- it is refused only where the item is, and for that
   abbrev pub Refuses : {A : Type 0} → S → Taken A → Fault → Type 0
-  Refuses old taken fault = (l : Limit) (i : Item) (f : Rest) → StandsBefore old l (item i f) → IsFaultOf fault (taken l i)
+  Refuses old taken fault = (l : Limit) (i : Item) (f : Rest) → StandsBefore old l (item i f) → IsFaultOf (end_of f) fault (taken l i)
 
   -- the answer says whether the item is null, and the source stands before it still
   abbrev pub Tells : S → S → Bool → Type 0
@@ -64,7 +71,7 @@ module _ {S : Type 0} (StandsBefore : S → Limit → Ahead → Type 0) where
 
   -- no item is to blame
   abbrev pub RefusesToTell : S → Fault → Type 0
-  RefusesToTell old fault = (l : Limit) (i : Item) (f : Rest) → StandsBefore old l (item i f) → IsOutside fault
+  RefusesToTell old fault = (l : Limit) (i : Item) (f : Rest) → StandsBefore old l (item i f) → IsOutside (end_of f) fault
 
 -- ---- what is read of a container
 
@@ -95,8 +102,8 @@ module _ {S Q : Type 0} (StandsBefore : S → Limit → Ahead → Type 0) (SeqSt
 
   -- no part and no end is to blame
   abbrev pub RefusesNext : S → Q → Fault → Type 0
-  RefusesNext old q fault = ((l : Limit) (form : Form) (is : List Item) (f : Rest) → StandsBefore old (inside form l) (after (parts form is f)) → SeqStands q l (parts form is f) → IsOutside fault)
-      × ((l : Limit) (form : Form) (ps : List (Item × Item)) (f : Rest) → StandsBefore old (inside form l) (after (pairs form ps f)) → SeqStands q l (pairs form ps f) → IsOutside fault)
+  RefusesNext old q fault = ((l : Limit) (form : Form) (is : List Item) (f : Rest) → StandsBefore old (inside form l) (after (parts form is f)) → SeqStands q l (parts form is f) → IsOutside (end_of f) fault)
+      × ((l : Limit) (form : Form) (ps : List (Item × Item)) (f : Rest) → StandsBefore old (inside form l) (after (pairs form ps f)) → SeqStands q l (pairs form ps f) → IsOutside (end_of f) fault)
 
 -- ---- levels that are held
 

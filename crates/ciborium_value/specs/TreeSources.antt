@@ -7,6 +7,7 @@ use Rattle.ciborium_value.specs.Counts.{node_count, payload_size, trees_node_cou
 use Rattle.ciborium_value.specs.Encoding.{item_of}
 use Rattle.ciborium_value.specs.Nesting.{Limit}
 use Rattle.ciborium_value.specs.Sources.{Fault, of_kind, of_memory}
+use Rattle.ciborium_value.specs.Taken.{Outcome, refuses}
 use Rattle.ciborium_value.specs.View.{tree_of, trees_of, tree_pairs_of}
 use Rattle.ciborium_value.specs.declared.deserialized.Pending.{Pending}
 use Rattle.ciborium_value.specs.declared.deserialized.Pending.TheVariants as pending
@@ -44,7 +45,7 @@ pending_due (Some v) = pending.Whole v
 
 -- the value of a map that is due behind what is read next, if one is
 abbrev pub IsDue : Option (Bor Value) → Rest → Type 0
-IsDue due (bottom name b) = Unit {0}
+IsDue due (bottom reader b) = Unit {0}
 IsDue due (parts form is f) = Unit {0}
 IsDue due (pairs form ps f) = Unit {0}
 IsDue due (entry v form ps f) = IsValue due v
@@ -59,21 +60,21 @@ abbrev pub IsTreeAt : TreeSource → Limit → Ahead → Type 0
 IsTreeAt s l a = (l ≡ None) × IsAhead s a
 
 abbrev pub AreItems : List Value → Rest → Type 0
-AreItems vs (bottom name b) = ⊥
+AreItems vs (bottom reader b) = ⊥
 AreItems vs (parts form is f) = map value_item vs ≡ is
 AreItems vs (pairs form ps f) = ⊥
 AreItems vs (entry v form ps f) = ⊥
 AreItems vs (held f) = ⊥
 
 abbrev pub AreBytesOf : List ℕ → Rest → Type 0
-AreBytesOf bs (bottom name b) = ⊥
+AreBytesOf bs (bottom reader b) = ⊥
 AreBytesOf bs (parts form is f) = map unsigned bs ≡ is
 AreBytesOf bs (pairs form ps f) = ⊥
 AreBytesOf bs (entry v form ps f) = ⊥
 AreBytesOf bs (held f) = ⊥
 
 abbrev pub ArePairs : List (Value × Value) → Rest → Type 0
-ArePairs qs (bottom name b) = ⊥
+ArePairs qs (bottom reader b) = ⊥
 ArePairs qs (parts form is f) = ⊥
 ArePairs qs (pairs form ps f) = map pair_items qs ≡ ps
 ArePairs qs (entry v form ps f) = ⊥
@@ -87,7 +88,7 @@ IsLeftOf (left.Pairs qs) f = ArePairs qs.now f
 
 -- what follows a container
 abbrev pub behind : Rest → Rest
-behind (bottom name b) = bottom name b
+behind (bottom reader b) = bottom reader b
 behind (parts form is f) = f
 behind (pairs form ps f) = f
 behind (entry v form ps f) = f
@@ -135,3 +136,8 @@ level_weight level = due_weight level.due
 abbrev pub fault_of : Error → Fault
 fault_of (Custom k) = of_kind k
 fault_of Memory = of_memory
+
+-- an item that gives this outcome is refused so, or for want of memory
+abbrev pub IsErrorOf : {A : Type 0} → Error → Outcome A → Type 0
+IsErrorOf (Custom k) o = o ≡ refuses k
+IsErrorOf Memory o = Unit {0}

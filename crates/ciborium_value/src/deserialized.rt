@@ -1,9 +1,9 @@
 //! Values as what is read from.
 
 ghost use Rattle.std.specs.Prelude.{◌≡◌, IfErr, IfOk, None};
-ghost use Rattle.ciborium_value.specs.Sources.{IsFaultOf, IsGranted};
+ghost use Rattle.ciborium_value.specs.Sources.{IsGranted};
 ghost use Rattle.ciborium_value.specs.Taken.{gives};
-ghost use Rattle.ciborium_value.specs.TreeSources.{IsTreeAt, IsTreeLevelAt, IsTreeSeqAt};
+ghost use Rattle.ciborium_value.specs.TreeSources.{IsErrorOf, IsTreeAt, IsTreeLevelAt, IsTreeSeqAt};
 ghost use Rattle.ciborium_value.specs.TreeSources.{fault_of, level_weight, pending_due, seq_weight};
 ghost use Rattle.ciborium_value.specs.TreeSources.{source_weight, value_item};
 
@@ -37,7 +37,7 @@ impl Value {
         ensures ok { IfOk result
             (λ v. T.reading.taken None (value_item self.now) ≡ gives (T.reading.content v)) }
         ensures refused { IfErr result
-            (λ e. IsFaultOf (fault_of e) (T.reading.taken None (value_item self.now))) }
+            (λ e. IsErrorOf e (T.reading.taken None (value_item self.now))) }
         ensures memory { IfErr result (λ e. IsGranted (fault_of e) T.reading.takes_memory) }
     {
         let mut source = TreeSource {

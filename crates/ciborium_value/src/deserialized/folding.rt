@@ -4,10 +4,9 @@ ghost use Rattle.std.specs.Prelude.{◌≡◌, ◌∷◌, ◌++◌, [], IfErr, I
 ghost use Rattle.std.specs.Prelude.{OnOk, Some};
 ghost use Rattle.ciborium_value.specs.Folded.{folded, tree_folding_bytes};
 ghost use Rattle.ciborium_value.specs.FoldedCopies.{IsBegun, IsUnfolded, path_trees};
-ghost use Rattle.ciborium_value.specs.Sources.{IsFaultOf};
 ghost use Rattle.ciborium_value.specs.Taken.{gives, taken_value};
 ghost use Rattle.ciborium_value.specs.Tree as trees;
-ghost use Rattle.ciborium_value.specs.TreeSources.{fault_of, value_item};
+ghost use Rattle.ciborium_value.specs.TreeSources.{IsErrorOf, fault_of, value_item};
 ghost use Rattle.ciborium_value.specs.View.{tree_of};
 
 use crate::bignum::{FoldError, GREATEST_FOLDED_SIZE, fold};
@@ -134,7 +133,7 @@ fn next<'a>(path: &mut Vec<Coming<'a>>) -> Result<Option<&'a Value>, AllocError>
 pub(super) fn fold_value(alloc: Global, value: &Value) -> Result<Value, Error>
     ensures ok { IfOk result (λ v. taken_value None (value_item value.now) ≡ gives (tree_of v)) }
     ensures refused { IfErr result
-        (λ e. IsFaultOf (fault_of e) (taken_value None (value_item value.now))) }
+        (λ e. IsErrorOf e (taken_value None (value_item value.now))) }
 {
     let mut stack = Stack::new(alloc);
     let mut path = Vec::new(alloc);

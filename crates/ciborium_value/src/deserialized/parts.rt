@@ -4,13 +4,13 @@ ghost use Rattle.std.specs.Prelude.{◌≡◌, ◌+◌, ◌<◌, ◌≤◌, IfEr
 ghost use Rattle.std.specs.Prelude.{None, chars, false, map, string_bytes};
 ghost use Rattle.ciborium_value.specs.Counts.{tree_pairs_node_count, tree_pairs_payload_size};
 ghost use Rattle.ciborium_value.specs.Encoding.{pairs_of};
-ghost use Rattle.ciborium_value.specs.Sources.{IsFaultOf, IsGranted};
+ghost use Rattle.ciborium_value.specs.Sources.{IsGranted};
 ghost use Rattle.ciborium_value.specs.Taken as taken;
 ghost use Rattle.ciborium_value.specs.Taken.{bignum_of, gives, outcome_map, refuses, take_each};
 ghost use Rattle.ciborium_value.specs.Taken.{taken_boolean, taken_byte, taken_bytes};
 ghost use Rattle.ciborium_value.specs.Taken.{taken_character, taken_integer, taken_name};
 ghost use Rattle.ciborium_value.specs.Taken.{taken_text, taken_unit};
-ghost use Rattle.ciborium_value.specs.TreeSources.{fault_of, value_item, weight};
+ghost use Rattle.ciborium_value.specs.TreeSources.{IsErrorOf, fault_of, value_item, weight};
 ghost use Rattle.ciborium_value.specs.View.{tree_pairs_of};
 ghost use Rattle.ciborium_value.specs.declared.kind.Kind.TheVariants as kinds;
 
@@ -37,7 +37,7 @@ pub(super) fn skip_tags(value: &Value) -> &Value
 fn find_bignum(value: &Value) -> Result<u128, Error>
     ensures ok { IfOk result (λ n. bignum_of (value_item value.now) ≡ gives n) }
     ensures refused { IfErr result
-        (λ e. IsFaultOf (fault_of e) (bignum_of (value_item value.now))) }
+        (λ e. IsErrorOf e (bignum_of (value_item value.now))) }
     ensures memory { IfErr result (λ e. IsGranted (fault_of e) false) }
 {
     match value {
@@ -53,7 +53,7 @@ fn find_bignum(value: &Value) -> Result<u128, Error>
 pub(super) fn find_number(value: &Value) -> Result<(bool, u128), Error>
     ensures ok { IfOk result (λ v. taken_integer None (value_item value.now) ≡ gives v) }
     ensures refused { IfErr result
-        (λ e. IsFaultOf (fault_of e) (taken_integer None (value_item value.now))) }
+        (λ e. IsErrorOf e (taken_integer None (value_item value.now))) }
     ensures memory { IfErr result (λ e. IsGranted (fault_of e) false) }
 {
     let mut inner = value;
@@ -78,7 +78,7 @@ pub(super) fn find_number(value: &Value) -> Result<(bool, u128), Error>
 pub(super) fn find_boolean(value: &Value) -> Result<bool, Error>
     ensures ok { IfOk result (λ v. taken_boolean None (value_item value.now) ≡ gives v) }
     ensures refused { IfErr result
-        (λ e. IsFaultOf (fault_of e) (taken_boolean None (value_item value.now))) }
+        (λ e. IsErrorOf e (taken_boolean None (value_item value.now))) }
     ensures memory { IfErr result (λ e. IsGranted (fault_of e) false) }
 {
     match skip_tags(value) {
@@ -90,7 +90,7 @@ pub(super) fn find_boolean(value: &Value) -> Result<bool, Error>
 pub(super) fn find_null(value: &Value) -> Result<(), Error>
     ensures ok { IfOk result (λ v. taken_unit None (value_item value.now) ≡ gives v) }
     ensures refused { IfErr result
-        (λ e. IsFaultOf (fault_of e) (taken_unit None (value_item value.now))) }
+        (λ e. IsErrorOf e (taken_unit None (value_item value.now))) }
     ensures memory { IfErr result (λ e. IsGranted (fault_of e) false) }
 {
     match skip_tags(value) {
@@ -102,7 +102,7 @@ pub(super) fn find_null(value: &Value) -> Result<(), Error>
 pub(super) fn find_character(value: &Value) -> Result<char, Error>
     ensures ok { IfOk result (λ v. taken_character None (value_item value.now) ≡ gives v) }
     ensures refused { IfErr result
-        (λ e. IsFaultOf (fault_of e) (taken_character None (value_item value.now))) }
+        (λ e. IsErrorOf e (taken_character None (value_item value.now))) }
     ensures memory { IfErr result (λ e. IsGranted (fault_of e) false) }
 {
     let Value::Text(text) = skip_tags(value) else {
@@ -118,7 +118,7 @@ pub(super) fn copy_text(alloc: Global, value: &Value) -> Result<String, Error>
     ensures ok { IfOk result
         (λ v. taken_text None (value_item value.now) ≡ gives (string_bytes v)) }
     ensures refused { IfErr result
-        (λ e. IsFaultOf (fault_of e) (taken_text None (value_item value.now))) }
+        (λ e. IsErrorOf e (taken_text None (value_item value.now))) }
 {
     match skip_tags(value) {
         Value::Text(text) => Ok(String::from_str(alloc, text)?),
@@ -130,7 +130,7 @@ pub(super) fn copy_name(alloc: Global, value: &Value) -> Result<String, Error>
     ensures ok { IfOk result
         (λ v. taken_name None (value_item value.now) ≡ gives (string_bytes v)) }
     ensures refused { IfErr result
-        (λ e. IsFaultOf (fault_of e) (taken_name None (value_item value.now))) }
+        (λ e. IsErrorOf e (taken_name None (value_item value.now))) }
 {
     match skip_tags(value) {
         Value::Text(text) => Ok(String::from_str(alloc, text)?),
@@ -164,7 +164,7 @@ pub(super) fn find_lone_pair(pairs: &[(Value, Value)]) -> Option<(&Value, &Value
 fn find_byte(value: &Value) -> Result<u8, Error>
     ensures ok { IfOk result (λ v. taken_byte None (value_item value.now) ≡ gives v) }
     ensures refused { IfErr result
-        (λ e. IsFaultOf (fault_of e) (taken_byte None (value_item value.now))) }
+        (λ e. IsErrorOf e (taken_byte None (value_item value.now))) }
 {
     let (negative, number) = find_number(value)?;
     if negative || number > 255 {
@@ -177,7 +177,7 @@ fn copy_bytes_of(alloc: Global, values: &[Value]) -> Result<Vec<u8>, Error>
     ensures ok { IfOk result
         (λ v. take_each (taken_byte None) (map value_item values.now) ≡ gives v.items) }
     ensures refused { IfErr result
-        (λ e. IsFaultOf (fault_of e) (take_each (taken_byte None) (map value_item values.now))) }
+        (λ e. IsErrorOf e (take_each (taken_byte None) (map value_item values.now))) }
 {
     let mut bytes = Vec::new(alloc);
     for value in values {
@@ -193,7 +193,7 @@ fn copy_bytes_of(alloc: Global, values: &[Value]) -> Result<Vec<u8>, Error>
 pub(super) fn copy_bytes(alloc: Global, value: &Value) -> Result<Vec<u8>, Error>
     ensures ok { IfOk result (λ v. taken_bytes None (value_item value.now) ≡ gives v.items) }
     ensures refused { IfErr result
-        (λ e. IsFaultOf (fault_of e) (taken_bytes None (value_item value.now))) }
+        (λ e. IsErrorOf e (taken_bytes None (value_item value.now))) }
 {
     match skip_tags(value) {
         Value::Bytes(bytes) => Ok(Vec::from_slice(alloc, bytes)?),

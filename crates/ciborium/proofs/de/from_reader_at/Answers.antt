@@ -1,9 +1,10 @@
 -- What the source took was taken from the reader that it was lent, whatever its offset.
-use Rattle.std.proofs.Common.{None, rules, arith, refl, sym, ◌∙◌}
+use Rattle.std.proofs.Common.{None, rules, arith, refl, sym, ap, ◌∙◌, ◌+◌, length}
 use Rattle.std.specs.declared.io.Error.{Error}
 use Rattle.ciborium_ll.proofs.HeldBytes.{begun-left, nothing-allowed}
 use Rattle.ciborium_value.specs.Sources.{read_as}
 use Rattle.ciborium.proofs.HandedReaders.{handed-denied, handed-from, handed-given, some-map}
+use Rattle.ciborium.specs.ByteSources.{known_end}
 use Rattle.ciborium.proofs.TakenOnly.{taken-beginning, taken-none}
 use Rattle.ciborium.proofs.de.from_reader_at.Goals as goal
 
@@ -14,8 +15,9 @@ returns-clause-ok g c b e =
 
 pub returns-clause-refused : goal.returns-clause-refused
 returns-clause-refused g c b e =
-    handed-denied Error g.R.Read.remaining g.T.Deserialize.reading (record { decoder = c.at.result; pending = None; levels = c.args.limit; scratch = c.read_from.new.source.scratch; failure = None; unpushed = c.at.ensures.begins.pushed }) c.read_from.new.source b
-    (begun-left g.R.Read.remaining c.at.result c.args.reader.now c.args.offset c.at.ensures.begins ∙ e) (let none = nothing-allowed c.at.result c.at.ensures.begins.nothing in omega (arith, none)) c.read_from.result c.read_from.ensures
+    handed-denied Error g.R.Read.remaining g.T.Deserialize.reading (record { decoder = c.at.result; pending = None; levels = c.args.limit; scratch = c.read_from.new.source.scratch; failure = None; unpushed = c.at.ensures.begins.pushed }) c.read_from.new.source b (c.args.offset + length b)
+    (begun-left g.R.Read.remaining c.at.result c.args.reader.now c.args.offset c.at.ensures.begins ∙ e) (let none = nothing-allowed c.at.result c.at.ensures.begins.nothing in omega (arith, none))
+    (ap (λ o. known_end o c.at.result.window.count) (begun-left g.R.Read.remaining c.at.result c.args.reader.now c.args.offset c.at.ensures.begins ∙ e) ∙ ap (λ n. n + length b) c.at.ensures.begins.count) c.read_from.result c.read_from.ensures
 
 pub returns-clause-value : goal.returns-clause-value
 returns-clause-value g c =

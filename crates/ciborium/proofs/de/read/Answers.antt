@@ -1,11 +1,12 @@
 -- What the source took was taken from the reader that it was lent.
-use Rattle.std.proofs.Common.{None, rules, arith, refl, sym, ◌∙◌}
+use Rattle.std.proofs.Common.{None, rules, arith, refl, sym, ap, ◌∙◌, ◌+◌, length}
 use Rattle.std.specs.declared.io.Error.{Error}
 use Rattle.ciborium_ll.proofs.HeldBytes.{begun-left, nothing-allowed}
 use Rattle.ciborium_value.specs.Sources.{read_as}
 use Rattle.ciborium.proofs.HandedReaders.{handed-denied, handed-given, handed-whole, some-map}
 use Rattle.ciborium.specs.Spelling.{any}
 use Rattle.ciborium.proofs.KnownReaders.{whole-of}
+use Rattle.ciborium.specs.ByteSources.{known_end}
 use Rattle.ciborium.proofs.TakenOnly.{taken-beginning, taken-none}
 use Rattle.ciborium.proofs.de.read.Goals as goal
 
@@ -16,8 +17,9 @@ returns-clause-ok g c b e =
 
 pub returns-clause-refused : goal.returns-clause-refused
 returns-clause-refused g c b e =
-    handed-denied Error g.R.Read.remaining g.T.Deserialize.reading (record { decoder = c.new.result; pending = None; levels = c.args.limit; scratch = c.args.scratch; failure = None; unpushed = c.new.ensures.begins.pushed }) c.read_from.new.source b
-    (begun-left g.R.Read.remaining c.new.result c.args.reader.now 0 c.new.ensures.begins ∙ e) (let none = nothing-allowed c.new.result c.new.ensures.begins.nothing in omega (arith, none)) c.read_from.result c.read_from.ensures
+    handed-denied Error g.R.Read.remaining g.T.Deserialize.reading (record { decoder = c.new.result; pending = None; levels = c.args.limit; scratch = c.args.scratch; failure = None; unpushed = c.new.ensures.begins.pushed }) c.read_from.new.source b (0 + length b)
+    (begun-left g.R.Read.remaining c.new.result c.args.reader.now 0 c.new.ensures.begins ∙ e) (let none = nothing-allowed c.new.result c.new.ensures.begins.nothing in omega (arith, none))
+    (ap (λ o. known_end o c.new.result.window.count) (begun-left g.R.Read.remaining c.new.result c.args.reader.now 0 c.new.ensures.begins ∙ e) ∙ ap (λ n. n + length b) c.new.ensures.begins.count) c.read_from.result c.read_from.ensures
 
 pub returns-clause-value : goal.returns-clause-value
 returns-clause-value g c =

@@ -21,7 +21,7 @@ use std::io::Read;
 #[inline(always)]
 fn to_byte(number: (bool, u128), offset: usize) -> Result<u8, Refusal>
     ensures ok { IfOk result (λ byte. number_below 256 number ≡ gives byte) }
-    ensures refused { IfErr result (λ e. IsFaultOf (cause_of e) (number_below 256 number)) }
+    ensures refused { IfErr result (λ e. (end : ℕ) → IsFaultOf end (cause_of e) (number_below 256 number)) }
     ensures at { IfErr result (λ e. e ≡ Error.Semantic (Some offset) Kind.Range) }
 {
     let (is_negative, n) = number;

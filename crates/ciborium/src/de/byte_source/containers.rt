@@ -9,8 +9,8 @@ ghost use Rattle.ciborium_value.specs.Sources.{RefusesNext, TakesOnly, TakesTo};
 ghost use Rattle.ciborium_value.specs.Taken.{gives, taken_pairs, taken_seq};
 ghost use Rattle.ciborium.specs.ByteSources.{HasBytes, HasTaken, IsUnread, OpensItems, OpensPairs};
 ghost use Rattle.ciborium.specs.ByteSources.{Owes, SeqStands, StandsBefore, StandsStill};
-ghost use Rattle.ciborium.specs.ByteSources.{bytes_weight, cause_of, counted_parts, parts_left};
-ghost use Rattle.ciborium.specs.ByteSources.{seq_left, weight_left};
+ghost use Rattle.ciborium.specs.ByteSources.{bytes_weight, cause_of, counted_parts, end_at};
+ghost use Rattle.ciborium.specs.ByteSources.{parts_left, seq_left, weight_left};
 ghost use Rattle.ciborium.specs.ItemReads.{Denies};
 ghost use Rattle.ciborium.specs.StringContents.{DeniesContent, TakesContent};
 
@@ -85,7 +85,7 @@ impl<'a, R: Read> ByteSource<'a, R> {
         ensures ok { IfOk result (λ q. HasBytes q.left (TakesContent (IsUnread R.remaining self.old)
             (IsUnread R.remaining self.new) of_bytes len)) }
         ensures denied { IfErr result
-            (λ e. DeniesContent (IsUnread R.remaining self.old) of_bytes len (cause_of e)) }
+            (λ e. DeniesContent (IsUnread R.remaining self.old) (end_at R.remaining self.old) of_bytes len (cause_of e)) }
     {
         let levels = self.levels;
         let bytes = self.bytes_content(alloc, len)?;
@@ -107,7 +107,7 @@ impl<'a, R: Read> ByteSource<'a, R> {
             (λ q. weight_left self.new + seq_left q < weight_left self.old) }
         ensures ok { IfOk result (OpensItems R.remaining self.old self.new taken_seq
             (λ l is. gives (l, is))) }
-        ensures denied { IfErr result (λ e. Denies (IsUnread R.remaining) self.old
+        ensures denied { IfErr result (λ e. Denies (IsUnread R.remaining) (end_at R.remaining) self.old
             (Some self.old.levels) taken_seq (cause_of e)) }
     {
         let (header, offset) = self.bare_head(false)?;
@@ -135,7 +135,7 @@ impl<'a, R: Read> ByteSource<'a, R> {
             (λ q. weight_left self.new + seq_left q < weight_left self.old) }
         ensures ok { IfOk result (OpensPairs R.remaining self.old self.new taken_pairs
             (λ l ps. gives (l, ps))) }
-        ensures denied { IfErr result (λ e. Denies (IsUnread R.remaining) self.old
+        ensures denied { IfErr result (λ e. Denies (IsUnread R.remaining) (end_at R.remaining) self.old
             (Some self.old.levels) taken_pairs (cause_of e)) }
         ensures memory { IfErr result (λ e. IsGranted (cause_of e) false) }
     {

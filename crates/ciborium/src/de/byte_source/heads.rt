@@ -4,7 +4,7 @@ ghost use Rattle.std.specs.Prelude.{◌≡◌, ◌+◌, ◌≤◌, IfErr, IfOk, 
 ghost use Rattle.ciborium_ll.specs.Decoding.{HasSameReader};
 ghost use Rattle.ciborium_value.specs.Sources.{IsGranted, TakesOnly};
 ghost use Rattle.ciborium.specs.ByteSources.{CountsHead, HasTaken, IsUnread, bytes_weight};
-ghost use Rattle.ciborium.specs.ByteSources.{cause_of, weight, weight_left};
+ghost use Rattle.ciborium.specs.ByteSources.{cause_of, end_at, weight, weight_left};
 ghost use Rattle.ciborium.specs.ItemReads.{DeniesHead, DeniesItem, TakesHead};
 ghost use Rattle.ciborium.specs.Skips.{IsBare, IsEndTag, TakesBare};
 
@@ -38,7 +38,7 @@ impl<'a, R: Read> ByteSource<'a, R> {
             (λ h. TakesHead (IsUnread R.remaining) self.old self.new h.0) }
         ensures counted { IfOk result (CountsHead (IsUnread R.remaining) self.old self.new) }
         ensures denied { IfErr result
-            (λ e. DeniesHead (IsUnread R.remaining) self.old (cause_of e)) }
+            (λ e. DeniesHead (IsUnread R.remaining) (end_at R.remaining) self.old (cause_of e)) }
         ensures memory { IfErr result (λ e. IsGranted (cause_of e) false) }
     {
         if let Some((header, offset)) = self.pending {
@@ -64,7 +64,7 @@ impl<'a, R: Read> ByteSource<'a, R> {
         ensures head { IfOk result
             (λ h. TakesBare (IsUnread R.remaining) self.old self.new numbers h.0) }
         ensures denied { IfErr result
-            (λ e. DeniesItem (IsUnread R.remaining) self.old (cause_of e)) }
+            (λ e. DeniesItem (IsUnread R.remaining) (end_at R.remaining) self.old (cause_of e)) }
         ensures memory { IfErr result (λ e. IsGranted (cause_of e) false) }
     {
         'tags: loop {
@@ -96,7 +96,7 @@ impl<'a, R: Read> ByteSource<'a, R> {
         ensures head { IfOk result
             (λ h. TakesBare (IsUnread R.remaining) self.old self.new numbers h.0) }
         ensures denied { IfErr result
-            (λ e. DeniesItem (IsUnread R.remaining) self.old (cause_of e)) }
+            (λ e. DeniesItem (IsUnread R.remaining) (end_at R.remaining) self.old (cause_of e)) }
         ensures memory { IfErr result (λ e. IsGranted (cause_of e) false) }
     {
         let bare = self.behind_tags(numbers)?;
@@ -122,7 +122,7 @@ impl<'a, R: Read> ByteSource<'a, R> {
         ensures head { IfOk result
             (λ h. TakesBare (IsUnread R.remaining) self.old self.new numbers h.0) }
         ensures denied { IfErr result
-            (λ e. DeniesItem (IsUnread R.remaining) self.old (cause_of e)) }
+            (λ e. DeniesItem (IsUnread R.remaining) (end_at R.remaining) self.old (cause_of e)) }
         ensures memory { IfErr result (λ e. IsGranted (cause_of e) false) }
     {
         let (header, offset) = self.next_head()?;

@@ -6,7 +6,7 @@ ghost use Rattle.ciborium_ll.specs.Decoding.{HasSameReader};
 ghost use Rattle.ciborium_value.specs.Sources.{GivesBack, IsGranted, TakesOnly};
 ghost use Rattle.ciborium_value.specs.Taken.{taken_outer_tag, taken_variant};
 ghost use Rattle.ciborium.specs.ByteSources.{HasTaken, IsUnread, LevelStands, StandsBefore};
-ghost use Rattle.ciborium.specs.ByteSources.{TakesLevel, cause_of, weight_left};
+ghost use Rattle.ciborium.specs.ByteSources.{TakesLevel, cause_of, end_at, weight_left};
 ghost use Rattle.ciborium.specs.ItemReads.{Denies};
 ghost use Rattle.ciborium.specs.Skips.{OpensLevel};
 
@@ -65,7 +65,7 @@ impl<'a, R: Read> ByteSource<'a, R> {
         ensures fewer { OnOk result (weight_left self.new ≤ weight_left self.old) }
         ensures ok { IfOk result (λ p. OpensLevel (IsUnread R.remaining) self.old self.new
             (Some self.old.levels) taken_outer_tag p.0) }
-        ensures denied { IfErr result (λ e. Denies (IsUnread R.remaining) self.old
+        ensures denied { IfErr result (λ e. Denies (IsUnread R.remaining) (end_at R.remaining) self.old
             (Some self.old.levels) taken_outer_tag (cause_of e)) }
         ensures memory { IfErr result (λ e. IsGranted (cause_of e) false) }
     {
@@ -95,7 +95,7 @@ impl<'a, R: Read> ByteSource<'a, R> {
         ensures fewer { OnOk result (weight_left self.new ≤ weight_left self.old) }
         ensures ok { IfOk result (λ p. OpensLevel (IsUnread R.remaining) self.old self.new
             (Some self.old.levels) taken_variant (string_bytes p.0)) }
-        ensures denied { IfErr result (λ e. Denies (IsUnread R.remaining) self.old
+        ensures denied { IfErr result (λ e. Denies (IsUnread R.remaining) (end_at R.remaining) self.old
             (Some self.old.levels) taken_variant (cause_of e)) }
     {
         let (header, offset) = self.bare_head(false)?;

@@ -4,7 +4,7 @@ ghost use Rattle.std.specs.Prelude.{◌≡◌, ◌<◌, ◌≤◌, IfErr, IfOk, 
 ghost use Rattle.std.specs.Prelude.{string_bytes};
 ghost use Rattle.ciborium_ll.specs.Decoding.{HasSameReader};
 ghost use Rattle.ciborium_value.specs.Taken.{taken_name};
-ghost use Rattle.ciborium.specs.ByteSources.{HasTaken, IsUnread, cause_of, weight_left};
+ghost use Rattle.ciborium.specs.ByteSources.{HasTaken, IsUnread, cause_of, end_at, weight_left};
 ghost use Rattle.ciborium.specs.ItemReads.{Denies, Reads};
 ghost use Rattle.ciborium_value.specs.Sources.{TakesOnly};
 
@@ -27,7 +27,7 @@ impl<'a, R: Read> ByteSource<'a, R> {
         ensures fewer { OnOk result (weight_left self.new < weight_left self.old) }
         ensures ok { IfOk result (λ v. Reads (IsUnread R.remaining) self.old self.new
             (Some self.old.levels) taken_name (string_bytes v)) }
-        ensures denied { IfErr result (λ e. Denies (IsUnread R.remaining) self.old
+        ensures denied { IfErr result (λ e. Denies (IsUnread R.remaining) (end_at R.remaining) self.old
             (Some self.old.levels) taken_name (cause_of e)) }
     {
         let (header, offset) = self.bare_head(false)?;

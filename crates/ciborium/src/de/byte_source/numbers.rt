@@ -7,11 +7,11 @@ ghost use Rattle.ciborium_ll.specs.StringRefusal.{of_bytes};
 ghost use Rattle.ciborium_ll.specs.declared.header.Header.TheVariants as heads;
 ghost use Rattle.ciborium_value.specs.Sources.{IsGranted, IsOutside, TakesOnly};
 ghost use Rattle.ciborium_value.specs.Taken.{taken_bignum, taken_integer};
-ghost use Rattle.ciborium.specs.ByteSources.{HasTaken, IsUnread, bytes_weight, cause_of};
+ghost use Rattle.ciborium.specs.ByteSources.{HasTaken, IsUnread, bytes_weight, cause_of, end_at};
 ghost use Rattle.ciborium.specs.ByteSources.{weight_left};
 ghost use Rattle.ciborium.specs.ItemReads.{Denies, Reads};
-ghost use Rattle.ciborium.specs.StringContents.{DeniesContent, TakesDigits, TakesNumber};
-ghost use Rattle.ciborium.specs.StringContents.{one_digit_more};
+ghost use Rattle.ciborium.specs.StringContents.{DeniesContent, DeniesJust, TakesDigits};
+ghost use Rattle.ciborium.specs.StringContents.{TakesNumber, one_digit_more};
 
 use crate::de::byte_source::ByteSource;
 use crate::de::error::{Error, Refusal};
@@ -69,7 +69,7 @@ impl<'a, R: Read> ByteSource<'a, R> {
         ensures fewer { OnOk result (bytes_weight self.new ≤ bytes_weight self.old) }
         ensures ok { IfOk result (λ number. TakesDigits (IsUnread R.remaining self.old)
             (IsUnread R.remaining self.new) len start number) }
-        ensures outside { IfErr result (λ e. IsOutside (cause_of e)) }
+        ensures outside { IfErr result (λ e. DeniesJust (IsUnread R.remaining self.old) (end_at R.remaining self.old) len (cause_of e)) }
         ensures memory { IfErr result (λ e. IsGranted (cause_of e) false) }
     {
         let mut number = start;
@@ -98,7 +98,7 @@ impl<'a, R: Read> ByteSource<'a, R> {
         ensures ok { IfOk result (λ number. TakesNumber (IsUnread R.remaining self.old)
             (IsUnread R.remaining self.new) len number) }
         ensures denied { IfErr result
-            (λ e. DeniesContent (IsUnread R.remaining self.old) of_bytes len (cause_of e)) }
+            (λ e. DeniesContent (IsUnread R.remaining self.old) (end_at R.remaining self.old) of_bytes len (cause_of e)) }
         ensures memory { IfErr result (λ e. IsGranted (cause_of e) false) }
     {
         match len {
@@ -135,7 +135,7 @@ impl<'a, R: Read> ByteSource<'a, R> {
         ensures ok { IfOk result
             (λ n. Reads (IsUnread R.remaining) self.old self.new None taken_bignum n) }
         ensures denied { IfErr result
-            (λ e. Denies (IsUnread R.remaining) self.old None taken_bignum (cause_of e)) }
+            (λ e. Denies (IsUnread R.remaining) (end_at R.remaining) self.old None taken_bignum (cause_of e)) }
         ensures memory { IfErr result (λ e. IsGranted (cause_of e) false) }
     {
         let (header, offset) = self.next_head()?;
@@ -167,7 +167,7 @@ impl<'a, R: Read> ByteSource<'a, R> {
         ensures ok { IfOk result
             (λ v. Reads (IsUnread R.remaining) self.old self.new None taken_bignum v.0.1) }
         ensures denied { IfErr result
-            (λ e. Denies (IsUnread R.remaining) self.old None taken_bignum (cause_of e)) }
+            (λ e. Denies (IsUnread R.remaining) (end_at R.remaining) self.old None taken_bignum (cause_of e)) }
         ensures memory { IfErr result (λ e. IsGranted (cause_of e) false) }
     {
         let n = self.read_bignum(offset)?;
@@ -185,7 +185,7 @@ impl<'a, R: Read> ByteSource<'a, R> {
         ensures fewer { OnOk result (weight_left self.new < weight_left self.old) }
         ensures ok { IfOk result (λ v. Reads (IsUnread R.remaining) self.old self.new
             (Some self.old.levels) taken_integer v.0) }
-        ensures denied { IfErr result (λ e. Denies (IsUnread R.remaining) self.old
+        ensures denied { IfErr result (λ e. Denies (IsUnread R.remaining) (end_at R.remaining) self.old
             (Some self.old.levels) taken_integer (cause_of e)) }
         ensures memory { IfErr result (λ e. IsGranted (cause_of e) false) }
     {

@@ -6,10 +6,10 @@ ghost use Rattle.ciborium_ll.specs.Decoding.{HasSameReader};
 ghost use Rattle.ciborium_ll.specs.StringRefusal.{of_bytes, of_text};
 ghost use Rattle.ciborium_value.specs.Sources.{IsGranted, IsOutside, TakesOnly};
 ghost use Rattle.ciborium_value.specs.Taken.{taken_text};
-ghost use Rattle.ciborium.specs.ByteSources.{HasTaken, IsUnread, bytes_weight, cause_of};
+ghost use Rattle.ciborium.specs.ByteSources.{HasTaken, IsUnread, bytes_weight, cause_of, end_at};
 ghost use Rattle.ciborium.specs.ByteSources.{weight_left};
 ghost use Rattle.ciborium.specs.ItemReads.{Denies, Reads};
-ghost use Rattle.ciborium.specs.StringContents.{DeniesContent, TakesContent, TakesJust};
+ghost use Rattle.ciborium.specs.StringContents.{DeniesContent, DeniesJust, TakesContent, TakesJust};
 
 use crate::de::byte_source::ByteSource;
 use crate::de::error::{Error, Refusal};
@@ -30,7 +30,7 @@ impl<'a, R: Read> ByteSource<'a, R> {
         ensures fewer { OnOk result (bytes_weight self.new ≤ bytes_weight self.old) }
         ensures ok { OnOk result
             (TakesJust (IsUnread R.remaining self.old) (IsUnread R.remaining self.new) buffer.new) }
-        ensures outside { IfErr result (λ e. IsOutside (cause_of e)) }
+        ensures outside { IfErr result (λ e. DeniesJust (IsUnread R.remaining self.old) (end_at R.remaining self.old) (length buffer.old) (cause_of e)) }
         ensures memory { IfErr result (λ e. IsGranted (cause_of e) false) }
     {
         self.decoder.read_exact_keeping(buffer, &mut self.failure)?;
@@ -56,7 +56,7 @@ impl<'a, R: Read> ByteSource<'a, R> {
         ensures ok { IfOk result (λ v. TakesContent (IsUnread R.remaining self.old)
             (IsUnread R.remaining self.new) of_bytes len v.items) }
         ensures denied { IfErr result
-            (λ e. DeniesContent (IsUnread R.remaining self.old) of_bytes len (cause_of e)) }
+            (λ e. DeniesContent (IsUnread R.remaining self.old) (end_at R.remaining self.old) of_bytes len (cause_of e)) }
     {
         let mut out = Vec::new(alloc);
         self.decoder
@@ -82,7 +82,7 @@ impl<'a, R: Read> ByteSource<'a, R> {
         ensures ok { IfOk result (λ v. TakesContent (IsUnread R.remaining self.old)
             (IsUnread R.remaining self.new) of_text len (string_bytes v)) }
         ensures denied { IfErr result
-            (λ e. DeniesContent (IsUnread R.remaining self.old) of_text len (cause_of e)) }
+            (λ e. DeniesContent (IsUnread R.remaining self.old) (end_at R.remaining self.old) of_text len (cause_of e)) }
     {
         let mut out = String::new(alloc);
         self.decoder
@@ -101,7 +101,7 @@ impl<'a, R: Read> ByteSource<'a, R> {
         ensures fewer { OnOk result (weight_left self.new < weight_left self.old) }
         ensures ok { IfOk result (λ v. Reads (IsUnread R.remaining) self.old self.new
             (Some self.old.levels) taken_text (string_bytes v)) }
-        ensures denied { IfErr result (λ e. Denies (IsUnread R.remaining) self.old
+        ensures denied { IfErr result (λ e. Denies (IsUnread R.remaining) (end_at R.remaining) self.old
             (Some self.old.levels) taken_text (cause_of e)) }
     {
         let (header, offset) = self.bare_head(false)?;

@@ -7,7 +7,7 @@ ghost use Rattle.ciborium_value.specs.Sources.{TakesOnly, read_as};
 ghost use Rattle.ciborium_value.specs.Taken.{taken_value};
 ghost use Rattle.ciborium_value.specs.View.{tree_of};
 ghost use Rattle.ciborium.specs.ByteSources.{HasTaken, IsUnread, ReadsValue, StandsFor, cause_of};
-ghost use Rattle.ciborium.specs.ByteSources.{is_portable, weight_left};
+ghost use Rattle.ciborium.specs.ByteSources.{end_at, is_portable, weight_left};
 ghost use Rattle.ciborium.specs.ItemReads.{Denies, Reads};
 
 use crate::de::building::read_value;
@@ -47,7 +47,7 @@ impl<'a, R: Read> ByteSource<'a, R> {
         ensures fewer { OnOk result (weight_left self.new < weight_left self.old) }
         ensures ok { IfOk result (λ v. Reads (IsUnread R.remaining) self.old self.new
             (Some self.old.levels) taken_value (tree_of v)) }
-        ensures denied { IfErr result (λ e. Denies (IsUnread R.remaining) self.old
+        ensures denied { IfErr result (λ e. Denies (IsUnread R.remaining) (end_at R.remaining) self.old
             (Some self.old.levels) taken_value (cause_of e)) }
         ensures reads { ReadsValue R.remaining self.old self.new (read_as tree_of result) }
     {

@@ -6,7 +6,7 @@ use Rattle.ciborium.proofs.tag.AcceptedDeserialize.deserialize.Goals as goal
 
 pub returns-in_err-tag-clause-refused : goal.returns-in_err-tag-clause-refused
 returns-in_err-tag-clause-refused g c =
-    let exit = err_from_is_err_and c.from_residual.result c.from_residual.ensures.1 in rw (exit.1, exit.2) (λ l i f at. then-refused _ _ _ (c.in_err-tag.ensures.refused l i f at))
+    let exit = err_from_is_err_and c.from_residual.result c.from_residual.ensures.1 in rw (exit.1, exit.2) (λ l i f at. then-refused _ _ _ _ (c.in_err-tag.ensures.refused l i f at))
 
 pub returns-in_err-tag-clause-memory : goal.returns-in_err-tag-clause-memory
 returns-in_err-tag-clause-memory g c =
@@ -30,7 +30,7 @@ returns-then-number g c = record {
 pub returns-else-number : goal.returns-else-number
 returns-else-number g c = record {
   ok = tt;
-  refused = λ l i f at. then-kind _ _ _ _ _ c.refuse.ensures (c.in_ok-tag.ensures.ok l i f at).0 (other-tag-refused g.row.TAG c.in-Some.number c.in_ok-tag.field-0.0 _ c.in-Some.is c.if-number.false);
+  refused = λ l i f at. then-kind _ _ _ _ _ _ c.refuse.ensures (c.in_ok-tag.ensures.ok l i f at).0 (other-tag-refused g.row.TAG c.in-Some.number c.in_ok-tag.field-0.0 _ c.in-Some.is c.if-number.false);
   memory = kind-granted _ _ _ c.refuse.ensures;
   whole = tt;
   took = tt;

@@ -1,5 +1,6 @@
 -- A map of one pair is a variant, its key a name.
 use Rattle.std.proofs.Common.{◌≡◌, ◌+◌, None, refl, sym, ap, ◌∙◌, subst, arith}
+use Rattle.ciborium_value.specs.Ahead.{end_of}
 use Rattle.ciborium_value.specs.Sources.{Refuses, IsFaultOf}
 use Rattle.ciborium_value.specs.Taken.{taken_variant, taken_name, untagged, deeper, outcome_map}
 use Rattle.ciborium_value.specs.TreeSources.{IsTreeAt, IsPending, IsDue, value_item, weight, pending_weight, due_weight, fault_of}
@@ -8,6 +9,7 @@ use Rattle.ciborium_value.proofs.Sequences.{fault_map}
 use Rattle.ciborium_value.specs.Counts.{tree_pairs_node_count, tree_pairs_payload_size}
 use Rattle.ciborium_value.specs.View.{tree_pairs_of}
 use Rattle.ciborium_value.proofs.TreeReading.{pairs_weigh_less}
+use Rattle.ciborium_value.proofs.TreeFaults.{fault_error}
 use Rattle.ciborium_value.proofs.TreeLevels.{variant_of_map}
 use Rattle.ciborium_value.proofs.deserialized.TreeSourceSource.begin_variant.Goals as goal
 
@@ -17,9 +19,9 @@ returns-in_err-name-in-Some-clause-refused c =
     exits _ e (λ x. Refuses IsTreeAt c.args.self.now taken_variant (fault_of x)) c.from_residual-in_err-name-in-Some.ensures.1
     (λ l i f st.
     let here : value_item c.in-Whole.value.now ≡ i = subst (λ o. IsPending o i) c.in-Whole.is st.1.0 in
-    subst (IsFaultOf (fault_of e))
+    subst (IsFaultOf (end_of f) (fault_of e))
     (sym (ap (λ x. taken_variant x i) st.0 ∙ variant_of_map c.skip_tags.result.now c.in-Map.pairs c.deref-in-Map.result.now i c.in-Map.is (c.skip_tags.ensures.item ∙ ap untagged here) c.deref-in-Map.ensures.value ∙ c.in-Some.ensures.some))
-    (fault_map (fault_of e) (λ n. (n, value_item c.in-Some.data.now)) (taken_name None (value_item c.in-Some.key.now)) c.in_err-name-in-Some.ensures.refused))
+    (fault_map _ (fault_of e) (λ n. (n, value_item c.in-Some.data.now)) (taken_name None (value_item c.in-Some.key.now)) (fault_error e _ (end_of f) c.in_err-name-in-Some.ensures.refused)))
 
 pub returns-in_ok-name-in-Some-clause-ok : goal.returns-in_ok-name-in-Some-clause-ok
 returns-in_ok-name-in-Some-clause-ok c l i f st =

@@ -5,12 +5,12 @@ use Rattle.ciborium_value.specs.FoldedCopies.{where_folded, copied, path_trees, 
 use Rattle.ciborium_value.specs.declared.deserialized.folding.Part.TheVariants as part
 use Rattle.ciborium_value.specs.Counts.{node_count}
 use Rattle.ciborium_value.specs.Open.{more, placed, done}
-use Rattle.ciborium_value.specs.Sources.{IsFaultOf}
 use Rattle.ciborium_value.specs.Stack.{opens_of}
 use Rattle.ciborium_value.specs.Taken.{taken_value}
-use Rattle.ciborium_value.specs.TreeSources.{fault_of, value_item}
+use Rattle.ciborium_value.specs.TreeSources.{IsErrorOf, fault_of, value_item}
 use Rattle.ciborium_value.specs.View.{tree_of}
 use Rattle.ciborium_value.proofs.FoldedCopies.{copied-done, refused_as, path_last, nodes-append}
+use Rattle.ciborium_value.proofs.TreeFaults.{error_fault}
 use Rattle.ciborium_value.proofs.Progress.{exits}
 use Rattle.ciborium_value.proofs.deserialized.folding.fold_value.Goals as goal
 
@@ -19,8 +19,8 @@ returns-in_err-whole-clause-refused c =
     let ahead : path_trees c.values.path.items ≡ tree_of c.in-Some.value.now ∷ path_trees c.next.new.path.items = rw c.in-Some.is at c.in_ok-value.ensures in
     let none : folded (tree_of c.in-Some.value.now) ≡ None → copied (more []) (tree_of c.args.value.now ∷ []) ≡ None =
     λ h. sym c.values.invariant ∙ (ap (copied (more (opens_of c.values.stack))) ahead ∙ ap (λ o. where_folded o (λ v. copied (placed (opens_of c.values.stack) v) (path_trees c.next.new.path.items))) h) in
-    exits _ c.in_err-whole.field-0.0 (λ e. IsFaultOf (fault_of e) (taken_value None (value_item c.args.value.now))) c.from_residual-in_err-whole.ensures.1
-    (refused_as (fault_of c.in_err-whole.field-0.0) (folded (tree_of c.in-Some.value.now)) (tree_of c.args.value.now) c.in_err-whole.ensures.refused none)
+    exits _ c.in_err-whole.field-0.0 (λ e. IsErrorOf e (taken_value None (value_item c.args.value.now))) c.from_residual-in_err-whole.ensures.1
+    (error_fault c.in_err-whole.field-0.0 _ 0 (refused_as 0 (fault_of c.in_err-whole.field-0.0) (folded (tree_of c.in-Some.value.now)) (tree_of c.args.value.now) c.in_err-whole.ensures.refused none))
 
 pub returns-in-Some-2-clause-ok : goal.returns-in-Some-2-clause-ok
 returns-in-Some-2-clause-ok c =

@@ -1,8 +1,7 @@
 -- The numbers of an array, behind its tags.
 use Rattle.std.proofs.Common.{◌≡◌, None, IfOk, IfErr, map, sym, ap, ◌∙◌, subst}
-use Rattle.ciborium_value.specs.Sources.{IsFaultOf}
 use Rattle.ciborium_value.specs.Taken.{gives, take_each, taken_byte, taken_bytes}
-use Rattle.ciborium_value.specs.TreeSources.{value_item, fault_of}
+use Rattle.ciborium_value.specs.TreeSources.{IsErrorOf, value_item}
 use Rattle.ciborium_value.proofs.TreeReading.{numbers_of}
 use Rattle.ciborium_value.proofs.deserialized.parts.copy_bytes.Goals as goal
 
@@ -14,4 +13,4 @@ returns-in-Array-clause-ok c =
 pub returns-in-Array-clause-refused : goal.returns-in-Array-clause-refused
 returns-in-Array-clause-refused c =
     let e : take_each (taken_byte None) (map value_item c.in-Array.values.items) ≡ taken_bytes None (value_item c.args.value.now) = sym (numbers_of c.skip_tags.result.now c.in-Array.values (value_item c.args.value.now) c.in-Array.is c.skip_tags.ensures.item) in
-    subst (λ o. IfErr c.copy_bytes_of.result (λ e. IsFaultOf (fault_of e) o)) (ap (λ vs. take_each (taken_byte None) (map value_item vs)) c.deref-in-Array.ensures.value ∙ e) c.copy_bytes_of.ensures.refused
+    subst (λ o. IfErr c.copy_bytes_of.result (λ e. IsErrorOf e o)) (ap (λ vs. take_each (taken_byte None) (map value_item vs)) c.deref-in-Array.ensures.value ∙ e) c.copy_bytes_of.ensures.refused

@@ -2,11 +2,12 @@ use Rattle.std.proofs.Common.{refl, ◌∙◌, arith, subst}
 use Rattle.std.proofs.lemmas.Result.{err_from_is_err_and}
 use Rattle.ciborium_value.specs.declared.kind.Kind.TheVariants as kinds
 use Rattle.ciborium_value.specs.Sources.{of_kind}
-use Rattle.ciborium.specs.ByteSources.{IsUnread, cause_of}
+use Rattle.ciborium.specs.ByteSources.{IsUnread, cause_of, end_at}
 use Rattle.ciborium.specs.ItemReads.{TakesHead}
 use Rattle.ciborium.specs.Skips.{IsEndTag}
 use Rattle.ciborium.proofs.FrontReads.{weighs-none}
 use Rattle.ciborium.proofs.SkippedTags.{skips-none, skips-more, denies-item, denies-break}
+use Rattle.ciborium.proofs.TakenOnly.{same-end}
 use Rattle.ciborium.proofs.de.byte_source.ByteSource.behind_tags.Goals as goal
 
 pub tags-init : goal.tags-init
@@ -15,11 +16,11 @@ tags-init g c = record { same_reader = refl; only = λ first h. h; levels = refl
 pub returns-in_err-header-clause-denied : goal.returns-in_err-header-clause-denied
 returns-in_err-header-clause-denied g c =
     let exit = err_from_is_err_and c.from_residual.result c.from_residual.ensures.1 in
-    rw (exit.1, exit.2) (denies-item (IsUnread g.R.Read.remaining) c.args.self.now c.tags.self c.args.numbers (cause_of c.in_err-header.field-0.0) c.tags.invariant.skipped c.in_err-header.ensures.denied)
+    rw (exit.1, exit.2) (denies-item (IsUnread g.R.Read.remaining) (end_at g.R.Read.remaining) c.args.self.now c.tags.self c.args.numbers (cause_of c.in_err-header.field-0.0) (same-end g.R.Read.remaining c.args.self.now c.tags.self c.tags.invariant.only) c.tags.invariant.skipped c.in_err-header.ensures.denied)
 
 pub returns-in-Break-clause-denied : goal.returns-in-Break-clause-denied
 returns-in-Break-clause-denied g c =
-    denies-break (IsUnread g.R.Read.remaining) c.args.self.now c.tags.self c.next_head.new.self c.args.numbers (of_kind kinds.Break) c.tags.invariant.skipped
+    denies-break (IsUnread g.R.Read.remaining) (end_at g.R.Read.remaining) c.args.self.now c.tags.self c.next_head.new.self c.args.numbers (of_kind kinds.Break) c.tags.invariant.skipped
     (subst (TakesHead (IsUnread g.R.Read.remaining) c.tags.self c.next_head.new.self) c.in-Break.is c.in_ok-header.ensures.head)
 
 pub tags-preserved : goal.tags-preserved

@@ -1,9 +1,11 @@
-use Rattle.std.proofs.Common.{ap, ◌∙◌, arith}
+use Rattle.std.proofs.Common.{ap, ◌∙◌, arith, subst}
 use Rattle.ciborium_ll.specs.Decoding.{next_offset}
 use Rattle.ciborium.proofs.LoneCharacters.{just-taken}
-use Rattle.ciborium.proofs.ReadDigits.{fill-fewer}
+use Rattle.ciborium.proofs.ReadDigits.{fill-fewer, fill-outside}
 use Rattle.ciborium_ll.proofs.HeldBytes.{same-name}
 use Rattle.ciborium.proofs.TakenOnly.{takes-only}
+use Rattle.std.proofs.lemmas.Result.{err_from_is_err_and}
+use Rattle.ciborium.specs.ByteSources.{IsUnreadBy}
 use Rattle.ciborium.proofs.de.byte_source.ByteSource.fill.Goals as goal
 
 pub returns-clause-ok : goal.returns-clause-ok
@@ -20,3 +22,11 @@ returns-in_err-read_exact_keeping-clause-only g c = takes-only g.R.Read.remainin
 
 pub returns-clause-only : goal.returns-clause-only
 returns-clause-only g c = takes-only g.R.Read.remaining c.args.self.now.decoder c.read_exact_keeping.new.self _ (same-name c.args.self.now.decoder c.read_exact_keeping.new.self c.in_ok-read_exact_keeping.ensures.same_reader) c.in_ok-read_exact_keeping.ensures.taken
+
+pub returns-in_err-read_exact_keeping-clause-outside : goal.returns-in_err-read_exact_keeping-clause-outside
+returns-in_err-read_exact_keeping-clause-outside g c =
+    let exit = err_from_is_err_and c.from_residual.result c.from_residual.ensures.1 in
+    let d = c.args.self.now.decoder in
+    rw (exit.1, exit.2) (λ y u there.
+    let same = c.read_exact_keeping.auto.buffer in
+    fill-outside g.R.Read.remaining d c.read_exact_keeping.new.self c.read_exact_keeping.new.buffer y c.in_err-read_exact_keeping.field-0.0 (subst (λ o. IsUnreadBy g.R.Read.remaining d o y) c.requires u) (omega (arith, there, same)) c.in_err-read_exact_keeping.ensures.taken)

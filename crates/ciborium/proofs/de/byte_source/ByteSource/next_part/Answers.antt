@@ -1,12 +1,13 @@
-use Rattle.std.proofs.Common.{Some, arith, ◌++◌, ◌+◌, ◌≤◌, ◌-◌, ◌≡◌, ◌∷◌, refl, sym, ap, ◌∙◌, subst}
+use Rattle.std.proofs.Common.{rules, [], List, ℕ, length, Some, arith, ◌++◌, ◌+◌, ◌≤◌, ◌-◌, ◌≡◌, ◌∷◌, refl, sym, ap, ◌∙◌, subst}
 use Rattle.std.specs.Vec.Iter.{into_iter_items}
+use Rattle.std.proofs.lemmas.List.{nil_from_length}
 use Rattle.std.proofs.lemmas.Result.{err_from_is_err_and}
 use Rattle.ciborium_ll.specs.declared.header.Header.TheVariants as header
 use Rattle.ciborium_ll.specs.Header.{SpellsHeader}
 use Rattle.ciborium.specs.declared.de.byte_source.Left.TheVariants as left
 use Rattle.ciborium.specs.ByteSources.{IsUnread, IsUnreadBy, cause_of, bytes_weight, weight, weight_left}
 use Rattle.ciborium.specs.ItemReads.{TakesHead}
-use Rattle.ciborium.proofs.NextParts.{aside-unread, goes-bytes, goes-counted, goes-open, leaves-counted, leaves-open, less-bytes, less-counted, less-open, is-none, no-next, nothing-allowed, nothing-open, wide, wide-head}
+use Rattle.ciborium.proofs.NextParts.{aside-unread, goes-bytes, goes-counted, goes-open, leaves-counted, leaves-open, less-bytes, less-counted, less-open, is-none, no-next, nothing-allowed, nothing-open, wide, wide-head, leaves-bytes}
 use Rattle.ciborium.proofs.de.byte_source.ByteSource.next_part.Goals as goal
 
 pub returns-then-n-eq0-clause-ok : goal.returns-then-n-eq0-clause-ok
@@ -31,7 +32,7 @@ returns-in_err-header-in-Open-clause-refused g c =
 
 pub returns-in-Break-clause-ok : goal.returns-in-Break-clause-ok
 returns-in-Break-clause-ok g c =
-    leaves-open g.R.Read.remaining c.args.self.now c.next_head.new.self (record c.next_head.new.self { levels = c.args.seq.now.levels }) c.args.seq.now c.in-Open.is c.in_ok-header-in-Open.ensures.same_reader
+    leaves-open g.R.Read.remaining c.args.self.now c.next_head.new.self (record c.next_head.new.self { levels = c.args.seq.now.levels }) c.args.seq.now c.in-Open.is (c.in_ok-header-in-Open.ensures.same_reader, c.in_ok-header-in-Open.ensures.only)
     (subst (λ k. bytes_weight c.next_head.new.self + weight k ≤ weight_left c.args.self.now) c.in-Break.is c.in_ok-header-in-Open.ensures.fewer) (subst (TakesHead (IsUnread g.R.Read.remaining) c.args.self.now c.next_head.new.self) c.in-Break.is c.in_ok-header-in-Open.ensures.head) refl c.in_ok-header-in-Open.ensures.pending (λ y u. u)
 
 pub returns-in-Break-clause-took : goal.returns-in-Break-clause-took
@@ -50,7 +51,7 @@ returns-in_default g c =
       same_reader = c.in_ok-header-in-Open.ensures.same_reader;
       only = c.in_ok-header-in-Open.ensures.only;
       no_more = tt;
-      ok = goes-open g.R.Read.remaining c.args.self.now mid (record mid { pending = Some (h, c.in_ok-header-in-Open.offset) }) c.args.seq.now c.args.seq.now h c.in-Open.is c.in-Open.is refl c.in_ok-header-in-Open.ensures.same_reader c.in_ok-header-in-Open.ensures.fewer
+      ok = goes-open g.R.Read.remaining c.args.self.now mid (record mid { pending = Some (h, c.in_ok-header-in-Open.offset) }) c.args.seq.now c.args.seq.now h c.in-Open.is c.in-Open.is refl (c.in_ok-header-in-Open.ensures.same_reader, c.in_ok-header-in-Open.ensures.only) c.in_ok-header-in-Open.ensures.fewer
           c.in_ok-header-in-Open.ensures.levels c.in_ok-header-in-Open.ensures.head c.in_default.not-Break aside;
       refused = tt;
       memory = tt;
@@ -71,3 +72,8 @@ returns-in-Some-clause-took g c =
     less-bytes (IsUnread g.R.Read.remaining c.args.self.now) (IsUnreadBy g.R.Read.remaining c.args.self.now.decoder (Some (header.Positive n, c.args.seq.now.offset))) c.args.seq.now (record c.args.seq.now { left = left.Bytes c.next.new.self })
     c.in-Bytes.bytes c.next.new.self n c.in-Bytes.is refl c.from.type_inv
     (λ b u. aside-unread g.R.Read.remaining c.args.self.now.decoder c.args.self.now.pending (header.Positive n) c.args.seq.now.offset (wide n ++ b) (wide n) b (is-none c.args.self.now.pending c.is_some.result c.if-is_some.false c.is_some.ensures) (wide-head n c.from.type_inv) refl (λ fixed. cc) u)
+
+pub returns-in-None-clause-ok : goal.returns-in-None-clause-ok
+returns-in-None-clause-ok g c =
+    let size : length (into_iter_items c.next.new.self) ≡ 0 = search rules in
+    leaves-bytes g.R.Read.remaining c.args.self.now c.args.seq.now c.in-Bytes.bytes c.in-Bytes.is (c.in-None.ensures.items ∙ nil_from_length (into_iter_items c.next.new.self) size)

@@ -6,18 +6,19 @@ use Rattle.ciborium_ll.specs.StringRefusal.{of_bytes}
 use Rattle.ciborium_value.specs.Sources.{of_kind, of_nesting}
 use Rattle.ciborium_value.specs.Taken.{gives, taken_seq}
 use Rattle.ciborium_value.specs.declared.kind.Kind.TheVariants as kinds
-use Rattle.ciborium.specs.ByteSources.{IsUnread, cause_of}
+use Rattle.ciborium.specs.ByteSources.{IsUnread, cause_of, end_at}
 use Rattle.ciborium.specs.ItemReads.{Denies}
 use Rattle.ciborium.specs.Skips.{TakesBare}
 use Rattle.ciborium.proofs.EnteredContainers.{array-entered, array-nests, bytes-entered, bytes-had, seq-given, seq-other}
 use Rattle.ciborium.proofs.SkippedTags.{denies-bare, denies-of-item}
 use Rattle.ciborium.proofs.StringPayloads.{denies-content}
+use Rattle.ciborium.proofs.TakenOnly.{same-end}
 use Rattle.ciborium.proofs.de.byte_source.ByteSource.open_seq.Goals as goal
 
 pub returns-in_err-header-clause-denied : goal.returns-in_err-header-clause-denied
 returns-in_err-header-clause-denied g c =
     let exit = err_from_is_err_and c.from_residual.result c.from_residual.ensures.1 in
-    rw (exit.1, exit.2) (denies-of-item (IsUnread g.R.Read.remaining) (Some c.args.self.now.levels) taken_seq c.args.self.now (cause_of c.in_err-header.field-0.0) c.in_err-header.ensures.denied)
+    rw (exit.1, exit.2) (denies-of-item (IsUnread g.R.Read.remaining) (end_at g.R.Read.remaining) (Some c.args.self.now.levels) taken_seq c.args.self.now (cause_of c.in_err-header.field-0.0) c.in_err-header.ensures.denied)
 
 pub returns-in_ok-seq-in-Array-clause-ok : goal.returns-in_ok-seq-in-Array-clause-ok
 returns-in_ok-seq-in-Array-clause-ok g c =
@@ -32,7 +33,7 @@ returns-in_err-seq-in-Array-clause-denied g c =
     let U = IsUnread g.R.Read.remaining in
     let l = Some c.args.self.now.levels in
     let fault : cause_of c.in_err-seq-in-Array.field-0.0 ≡ of_nesting = ap cause_of c.in_err-seq-in-Array.ensures.err in
-    rw (exit.1, exit.2) (subst (λ f. Denies U c.args.self.now l taken_seq f) (sym fault) (denies-bare U false (header.Array c.in-Array.count) l taken_seq c.args.self.now c.bare_head.new.self of_nesting
+    rw (exit.1, exit.2) (subst (λ f. Denies U (end_at g.R.Read.remaining) c.args.self.now l taken_seq f) (sym fault) (denies-bare U false (header.Array c.in-Array.count) l taken_seq (end_at g.R.Read.remaining) c.args.self.now c.bare_head.new.self of_nesting
     (subst (TakesBare U c.args.self.now c.bare_head.new.self false) c.in-Array.is c.in_ok-header.ensures.head) (array-nests c.args.self.now.levels c.in-Array.count (sym c.in_ok-header.ensures.levels ∙ c.in_err-seq-in-Array.ensures.none))))
 
 pub returns-in_ok-seq-in-Bytes-clause-ok : goal.returns-in_ok-seq-in-Bytes-clause-ok
@@ -45,12 +46,12 @@ returns-in_ok-seq-in-Bytes-clause-ok g c =
 pub returns-in_err-seq-in-Bytes-clause-denied : goal.returns-in_err-seq-in-Bytes-clause-denied
 returns-in_err-seq-in-Bytes-clause-denied g c =
     let exit = err_from_is_err_and c.from_residual-in_err-seq-in-Bytes.result c.from_residual-in_err-seq-in-Bytes.ensures.1 in
-    rw (exit.1, exit.2) (denies-of-item (IsUnread g.R.Read.remaining) (Some c.args.self.now.levels) taken_seq c.args.self.now (cause_of c.in_err-seq-in-Bytes.field-0.0)
-    (denies-content (IsUnread g.R.Read.remaining) false c.args.self.now c.bare_head.new.self of_bytes c.in-Bytes.len (cause_of c.in_err-seq-in-Bytes.field-0.0)
+    rw (exit.1, exit.2) (denies-of-item (IsUnread g.R.Read.remaining) (end_at g.R.Read.remaining) (Some c.args.self.now.levels) taken_seq c.args.self.now (cause_of c.in_err-seq-in-Bytes.field-0.0)
+    (denies-content (IsUnread g.R.Read.remaining) (end_at g.R.Read.remaining) false c.args.self.now c.bare_head.new.self of_bytes c.in-Bytes.len (cause_of c.in_err-seq-in-Bytes.field-0.0) (same-end g.R.Read.remaining c.args.self.now c.bare_head.new.self c.in_ok-header.ensures.only)
     (subst (TakesBare (IsUnread g.R.Read.remaining) c.args.self.now c.bare_head.new.self false) c.in-Bytes.is c.in_ok-header.ensures.head) c.in_err-seq-in-Bytes.ensures.denied))
 
 pub returns-in_default-clause-denied : goal.returns-in_default-clause-denied
 returns-in_default-clause-denied g c =
     let l = Some c.args.self.now.levels in
-    denies-bare (IsUnread g.R.Read.remaining) false c.in_ok-header.header l taken_seq c.args.self.now c.bare_head.new.self (of_kind kinds.Array) c.in_ok-header.ensures.head
+    denies-bare (IsUnread g.R.Read.remaining) false c.in_ok-header.header l taken_seq (end_at g.R.Read.remaining) c.args.self.now c.bare_head.new.self (of_kind kinds.Array) c.in_ok-header.ensures.head
     (seq-other l c.in_ok-header.header c.in_ok-header.ensures.bare c.in_default.not-Array c.in_default.not-Bytes)

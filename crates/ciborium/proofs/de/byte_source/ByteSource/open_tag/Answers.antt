@@ -1,11 +1,11 @@
-use Rattle.std.proofs.Common.{◌≡◌, ap, ◌∙◌, sym, Some, false, subst, arith, ◌++◌}
+use Rattle.std.proofs.Common.{◌≡◌, ap, ◌∙◌, sym, Some, false, subst, arith, ◌++◌, refl}
 use Rattle.std.proofs.lemmas.Result.{err_from_is_err_and}
 use Rattle.ciborium_ll.specs.Header.{SpellsHeader}
 use Rattle.ciborium_ll.specs.Decoding.{source_of}
 use Rattle.ciborium_value.specs.Sources.{of_kind, of_nesting}
 use Rattle.ciborium_value.specs.Taken.{taken_outer_tag}
 use Rattle.ciborium_value.specs.declared.kind.Kind.TheVariants as kinds
-use Rattle.ciborium.specs.ByteSources.{HasTaken, IsUnread, IsUnreadBy, cause_of}
+use Rattle.ciborium.specs.ByteSources.{HasTaken, IsUnread, IsUnreadBy, cause_of, end_at}
 use Rattle.ciborium.specs.ItemReads.{Denies, TakesHead}
 use Rattle.ciborium.proofs.EnteredContainers.{same-unread}
 use Rattle.ciborium.proofs.HeldLevels.{none-opened, tag-nests, tag-opened}
@@ -18,14 +18,14 @@ returns-in_err-header-clause-denied g c =
     let exit = err_from_is_err_and c.from_residual.result c.from_residual.ensures.1 in
     let U = IsUnread g.R.Read.remaining in
     let fault = cause_of c.in_err-header.field-0.0 in
-    rw (exit.1, exit.2) (denies-of-item U (Some c.args.self.now.levels) taken_outer_tag c.args.self.now fault
-    (denies-item U c.args.self.now c.args.self.now false fault (skips-none U c.args.self.now false) c.in_err-header.ensures.denied))
+    rw (exit.1, exit.2) (denies-of-item U (end_at g.R.Read.remaining) (Some c.args.self.now.levels) taken_outer_tag c.args.self.now fault
+    (denies-item U (end_at g.R.Read.remaining) c.args.self.now c.args.self.now false fault (λ b u. refl) (skips-none U c.args.self.now false) c.in_err-header.ensures.denied))
 
 pub returns-in-Break-clause-denied : goal.returns-in-Break-clause-denied
 returns-in-Break-clause-denied g c =
     let U = IsUnread g.R.Read.remaining in
-    denies-of-item U (Some c.args.self.now.levels) taken_outer_tag c.args.self.now (of_kind kinds.Break)
-    (denies-break U c.args.self.now c.args.self.now c.next_head.new.self false (of_kind kinds.Break) (skips-none U c.args.self.now false) (subst (TakesHead U c.args.self.now c.next_head.new.self) c.in-Break.is c.in_ok-header.ensures.head))
+    denies-of-item U (end_at g.R.Read.remaining) (Some c.args.self.now.levels) taken_outer_tag c.args.self.now (of_kind kinds.Break)
+    (denies-break U (end_at g.R.Read.remaining) c.args.self.now c.args.self.now c.next_head.new.self false (of_kind kinds.Break) (skips-none U c.args.self.now false) (subst (TakesHead U c.args.self.now c.next_head.new.self) c.in-Break.is c.in_ok-header.ensures.head))
 
 pub returns-in_ok-level-in-Tag-clause-ok : goal.returns-in_ok-level-in-Tag-clause-ok
 returns-in_ok-level-in-Tag-clause-ok g c =
@@ -40,15 +40,15 @@ pub returns-in_err-level-in-Tag-clause-denied : goal.returns-in_err-level-in-Tag
 returns-in_err-level-in-Tag-clause-denied g c =
     let exit = err_from_is_err_and c.from_residual-in_err-level-in-Tag.result c.from_residual-in_err-level-in-Tag.ensures.1 in
     let fault : cause_of c.in_err-level-in-Tag.field-0.0 ≡ of_nesting = ap cause_of c.in_err-level-in-Tag.ensures.err in
-    rw (exit.1, exit.2) (subst (Denies (IsUnread g.R.Read.remaining) c.args.self.now (Some c.args.self.now.levels) taken_outer_tag) (sym fault)
-    (tag-nests (IsUnread g.R.Read.remaining) c.args.self.now c.args.self.now.levels (sym c.in_ok-header.ensures.levels ∙ c.in_err-level-in-Tag.ensures.none)))
+    rw (exit.1, exit.2) (subst (Denies (IsUnread g.R.Read.remaining) (end_at g.R.Read.remaining) c.args.self.now (Some c.args.self.now.levels) taken_outer_tag) (sym fault)
+    (tag-nests (IsUnread g.R.Read.remaining) (end_at g.R.Read.remaining) c.args.self.now c.args.self.now.levels (sym c.in_ok-header.ensures.levels ∙ c.in_err-level-in-Tag.ensures.none)))
 
 pub returns-in_err-level-in_default-clause-denied : goal.returns-in_err-level-in_default-clause-denied
 returns-in_err-level-in_default-clause-denied g c =
     let exit = err_from_is_err_and c.from_residual-in_err-level-in_default.result c.from_residual-in_err-level-in_default.ensures.1 in
     let fault : cause_of c.in_err-level-in_default.field-0.0 ≡ of_nesting = ap cause_of c.in_err-level-in_default.ensures.err in
-    rw (exit.1, exit.2) (subst (Denies (IsUnread g.R.Read.remaining) c.args.self.now (Some c.args.self.now.levels) taken_outer_tag) (sym fault)
-    (tag-nests (IsUnread g.R.Read.remaining) c.args.self.now c.args.self.now.levels (sym c.in_ok-header.ensures.levels ∙ c.in_err-level-in_default.ensures.none)))
+    rw (exit.1, exit.2) (subst (Denies (IsUnread g.R.Read.remaining) (end_at g.R.Read.remaining) c.args.self.now (Some c.args.self.now.levels) taken_outer_tag) (sym fault)
+    (tag-nests (IsUnread g.R.Read.remaining) (end_at g.R.Read.remaining) c.args.self.now c.args.self.now.levels (sym c.in_ok-header.ensures.levels ∙ c.in_err-level-in_default.ensures.none)))
 
 pub returns-in_ok-level-in_default : goal.returns-in_ok-level-in_default
 returns-in_ok-level-in_default g c =

@@ -2,40 +2,41 @@ use Rattle.std.proofs.Common.{subst}
 use Rattle.std.proofs.lemmas.Result.{err_from_is_err_and}
 use Rattle.ciborium_value.specs.declared.kind.Kind.TheVariants as kinds
 use Rattle.ciborium_value.specs.Sources.{of_kind}
-use Rattle.ciborium.specs.ByteSources.{IsUnread, cause_of}
+use Rattle.ciborium.specs.ByteSources.{IsUnread, cause_of, end_at}
 use Rattle.ciborium.specs.ItemReads.{TakesHead}
 use Rattle.ciborium.specs.StringContents.{TakesNumber}
 use Rattle.ciborium.proofs.OpenNumbers.{bignum-reads, bignum-large, bignum-content, bignum-no-head, bignum-break, bignum-other}
+use Rattle.ciborium.proofs.TakenOnly.{same-end}
 use Rattle.ciborium.proofs.de.byte_source.ByteSource.read_bignum.Goals as goal
 
 pub returns-in_err-header-clause-denied : goal.returns-in_err-header-clause-denied
 returns-in_err-header-clause-denied g c =
     let exit = err_from_is_err_and c.from_residual.result c.from_residual.ensures.1 in
-    rw (exit.1, exit.2) (bignum-no-head (IsUnread g.R.Read.remaining) c.args.self.now c.next_head.new.self (cause_of c.in_err-header.field-0.0) c.in_err-header.ensures.denied)
+    rw (exit.1, exit.2) (bignum-no-head (IsUnread g.R.Read.remaining) (end_at g.R.Read.remaining) c.args.self.now c.next_head.new.self (cause_of c.in_err-header.field-0.0) c.in_err-header.ensures.denied)
 
 pub returns-in_err-number-in-Bytes-clause-denied : goal.returns-in_err-number-in-Bytes-clause-denied
 returns-in_err-number-in-Bytes-clause-denied g c =
     let exit = err_from_is_err_and c.from_residual-in_err-number-in-Bytes.result c.from_residual-in_err-number-in-Bytes.ensures.1 in
-    rw (exit.1, exit.2) (bignum-content (IsUnread g.R.Read.remaining) c.args.self.now c.next_head.new.self c.in-Bytes.len (cause_of c.in_err-number-in-Bytes.field-0.0)
+    rw (exit.1, exit.2) (bignum-content (IsUnread g.R.Read.remaining) (end_at g.R.Read.remaining) c.args.self.now c.next_head.new.self c.in-Bytes.len (cause_of c.in_err-number-in-Bytes.field-0.0) (same-end g.R.Read.remaining c.args.self.now c.next_head.new.self c.in_ok-header.ensures.only)
     (subst (TakesHead (IsUnread g.R.Read.remaining) c.args.self.now c.next_head.new.self) c.in-Bytes.is c.in_ok-header.ensures.head) c.in_err-number-in-Bytes.ensures.denied)
 
 pub returns-in-Some-clause-ok : goal.returns-in-Some-clause-ok
 returns-in-Some-clause-ok g c =
     let U = IsUnread g.R.Read.remaining in
-    bignum-reads U c.args.self.now c.next_head.new.self c.read_number.new.self c.in-Bytes.len c.in-Some.n (subst (TakesHead U c.args.self.now c.next_head.new.self) c.in-Bytes.is c.in_ok-header.ensures.head)
+    bignum-reads U (end_at g.R.Read.remaining) c.args.self.now c.next_head.new.self c.read_number.new.self c.in-Bytes.len c.in-Some.n (subst (TakesHead U c.args.self.now c.next_head.new.self) c.in-Bytes.is c.in_ok-header.ensures.head)
     (subst (TakesNumber (U c.next_head.new.self) (U c.read_number.new.self) c.in-Bytes.len) c.in-Some.is c.in_ok-number-in-Bytes.ensures.ok)
 
 pub returns-in-None-clause-denied : goal.returns-in-None-clause-denied
 returns-in-None-clause-denied g c =
     let U = IsUnread g.R.Read.remaining in
-    bignum-large U c.args.self.now c.next_head.new.self (U c.read_number.new.self) c.in-Bytes.len (subst (TakesHead U c.args.self.now c.next_head.new.self) c.in-Bytes.is c.in_ok-header.ensures.head)
+    bignum-large U (end_at g.R.Read.remaining) c.args.self.now c.next_head.new.self (U c.read_number.new.self) c.in-Bytes.len (subst (TakesHead U c.args.self.now c.next_head.new.self) c.in-Bytes.is c.in_ok-header.ensures.head)
     (subst (TakesNumber (U c.next_head.new.self) (U c.read_number.new.self) c.in-Bytes.len) c.in-None.is c.in_ok-number-in-Bytes.ensures.ok)
 
 pub returns-in-Break-clause-denied : goal.returns-in-Break-clause-denied
 returns-in-Break-clause-denied g c =
     let U = IsUnread g.R.Read.remaining in
-    bignum-break U c.args.self.now c.next_head.new.self (of_kind kinds.Break) (subst (TakesHead U c.args.self.now c.next_head.new.self) c.in-Break.is c.in_ok-header.ensures.head)
+    bignum-break U (end_at g.R.Read.remaining) c.args.self.now c.next_head.new.self (of_kind kinds.Break) (subst (TakesHead U c.args.self.now c.next_head.new.self) c.in-Break.is c.in_ok-header.ensures.head)
 
 pub returns-in_default-clause-denied : goal.returns-in_default-clause-denied
 returns-in_default-clause-denied g c =
-    bignum-other (IsUnread g.R.Read.remaining) c.args.self.now c.next_head.new.self c.in_ok-header.header c.in_ok-header.ensures.head c.in_default.not-Bytes
+    bignum-other (IsUnread g.R.Read.remaining) (end_at g.R.Read.remaining) c.args.self.now c.next_head.new.self c.in_ok-header.header c.in_ok-header.ensures.head c.in_default.not-Bytes

@@ -1,9 +1,12 @@
-use Rattle.std.proofs.Common.{sym, ap, ◌∙◌, subst, arith}
+use Rattle.std.proofs.Common.{sym, ap, ◌∙◌, subst, arith, length, length-append, ◌+◌, ◌≡◌}
 use Rattle.ciborium_ll.specs.Decoding.{next_offset}
-use Rattle.ciborium.specs.ByteSources.{IsUnreadBy}
-use Rattle.ciborium.proofs.ReadDigits.{digit-more, fill-fewer}
+use Rattle.ciborium.specs.ByteSources.{IsUnreadBy, cause_of}
+use Rattle.ciborium.proofs.ReadDigits.{digit-more, fill-fewer, fill-outside}
 use Rattle.ciborium_ll.proofs.HeldBytes.{same-name}
-use Rattle.ciborium.proofs.TakenOnly.{takes-only}
+use Rattle.ciborium.proofs.TakenOnly.{takes-only, same-end}
+use Rattle.std.proofs.lemmas.Result.{err_from_is_err_and}
+use Rattle.ciborium.specs.Errors.{from_ll}
+use Rattle.ciborium_value.specs.Sources.{IsOutside}
 use Rattle.ciborium.proofs.de.byte_source.ByteSource.read_digits.Goals as goal
 
 pub loop-left-preserved : goal.loop-left-preserved
@@ -29,3 +32,15 @@ loop-left-preserved g c =
 
 pub returns-in_err-read_exact_keeping-clause-only : goal.returns-in_err-read_exact_keeping-clause-only
 returns-in_err-read_exact_keeping-clause-only g c first h = takes-only g.R.Read.remaining c.loop-left.self.decoder c.read_exact_keeping.new.self _ (same-name c.loop-left.self.decoder c.read_exact_keeping.new.self c.in_err-read_exact_keeping.ensures.same_reader) c.in_err-read_exact_keeping.ensures.taken first (c.loop-left.invariant.only first h)
+
+pub returns-in_err-read_exact_keeping-clause-outside : goal.returns-in_err-read_exact_keeping-clause-outside
+returns-in_err-read_exact_keeping-clause-outside g c =
+    let exit = err_from_is_err_and c.from_residual.result c.from_residual.ensures.1 in
+    let d = c.loop-left.self.decoder in
+    rw (exit.1, exit.2) (λ y u there.
+    let (t, z, len, bytes, val, split, un) = c.loop-left.invariant.took y u in
+    let more : length y ≡ length t + length z = ap length split ∙ length-append t z in
+    let one = c.read_exact_keeping.auto.buffer in
+    subst (λ n. IsOutside n (cause_of (from_ll c.in_err-read_exact_keeping.field-0.0))) (same-end g.R.Read.remaining c.args.self.now c.loop-left.self c.loop-left.invariant.only y u)
+    (fill-outside g.R.Read.remaining d c.read_exact_keeping.new.self c.read_exact_keeping.new.buffer z c.in_err-read_exact_keeping.field-0.0 (subst (λ o. IsUnreadBy g.R.Read.remaining d o z) c.loop-left.invariant.pending un)
+    (omega (arith, there, more, len, one, c.loop-left-test.true)) c.in_err-read_exact_keeping.ensures.taken))

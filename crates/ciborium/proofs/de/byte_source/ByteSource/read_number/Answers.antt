@@ -3,11 +3,12 @@ use Rattle.std.proofs.lemmas.Result.{err_from_is_err_and}
 use Rattle.ciborium_ll.specs.declared.header.Header.TheVariants as header
 use Rattle.ciborium_ll.specs.StringRefusal.{of_bytes}
 use Rattle.ciborium_value.specs.Sources.{of_syntax}
-use Rattle.ciborium.specs.ByteSources.{IsUnread, cause_of}
+use Rattle.ciborium.specs.ByteSources.{IsUnread, cause_of, end_at}
 use Rattle.ciborium.specs.ItemReads.{TakesHead}
 use Rattle.ciborium.specs.StringContents.{DeniesContent, TakesNumber}
 use Rattle.ciborium.proofs.FrontReads.{weighs-none}
-use Rattle.ciborium.proofs.OpenNumbers.{parts-more, parts-end, parts-no-head, parts-other, no-break, no-definite}
+use Rattle.ciborium.proofs.OpenNumbers.{parts-more, parts-end, parts-no-head, parts-other, no-break, no-definite, parts-cut}
+use Rattle.ciborium.proofs.TakenOnly.{same-end}
 use Rattle.ciborium.proofs.de.byte_source.ByteSource.read_number.Goals as goal
 
 pub returns-in_err-header-in-None-clause-denied : goal.returns-in_err-header-in-None-clause-denied
@@ -15,7 +16,7 @@ returns-in_err-header-in-None-clause-denied g c =
     let exit = err_from_is_err_and c.from_residual-in_err-header-in-None.result c.from_residual-in_err-header-in-None.ensures.1 in
     let P = IsUnread g.R.Read.remaining c.args.self.now in
     let fault = cause_of c.in_err-header-in-None.field-0.0 in
-    rw (exit.1, exit.2) (subst (λ l. DeniesContent P of_bytes l fault) (sym c.in-None.is) (parts-no-head P (IsUnread g.R.Read.remaining c.parts.self) c.parts.number c.parts.invariant.took fault c.in_err-header-in-None.ensures.denied))
+    rw (exit.1, exit.2) (subst (λ l. DeniesContent P (end_at g.R.Read.remaining c.args.self.now) of_bytes l fault) (sym c.in-None.is) (parts-no-head P (IsUnread g.R.Read.remaining c.parts.self) c.parts.number c.parts.invariant.took (end_at g.R.Read.remaining c.parts.self) (end_at g.R.Read.remaining c.args.self.now) fault (same-end g.R.Read.remaining c.args.self.now c.parts.self c.parts.invariant.only) c.in_err-header-in-None.ensures.denied))
 
 pub returns-in-Break-clause-ok : goal.returns-in-Break-clause-ok
 returns-in-Break-clause-ok g c =
@@ -41,12 +42,23 @@ pub returns-in-None-part-clause-denied : goal.returns-in-None-part-clause-denied
 returns-in-None-part-clause-denied g c =
     let P = IsUnread g.R.Read.remaining c.args.self.now in
     let h = c.in_ok-header-in-None.header in
-    subst (λ l. DeniesContent P of_bytes l of_syntax) (sym c.in-None.is) (parts-other P (IsUnread g.R.Read.remaining c.parts.self) c.parts.number c.parts.invariant.took of_syntax h
+    subst (λ l. DeniesContent P (end_at g.R.Read.remaining c.args.self.now) of_bytes l of_syntax) (sym c.in-None.is) (parts-other P (IsUnread g.R.Read.remaining c.parts.self) c.parts.number c.parts.invariant.took (end_at g.R.Read.remaining c.args.self.now) of_syntax h
     (λ y u. let (x, r, hd, e, un) = c.in_ok-header-in-None.ensures.head y u in (x, r, hd, e)) (no-break h (c.in-Bytes.is ∙ ap header.Bytes c.in-None-part.is)) (no-definite h (c.in-Bytes.is ∙ ap header.Bytes c.in-None-part.is)))
 
 pub returns-in_default-clause-denied : goal.returns-in_default-clause-denied
 returns-in_default-clause-denied g c =
     let P = IsUnread g.R.Read.remaining c.args.self.now in
     let h = c.in_ok-header-in-None.header in
-    subst (λ l. DeniesContent P of_bytes l of_syntax) (sym c.in-None.is) (parts-other P (IsUnread g.R.Read.remaining c.parts.self) c.parts.number c.parts.invariant.took of_syntax h
+    subst (λ l. DeniesContent P (end_at g.R.Read.remaining c.args.self.now) of_bytes l of_syntax) (sym c.in-None.is) (parts-other P (IsUnread g.R.Read.remaining c.parts.self) c.parts.number c.parts.invariant.took (end_at g.R.Read.remaining c.args.self.now) of_syntax h
     (λ y u. let (x, r, hd, e, un) = c.in_ok-header-in-None.ensures.head y u in (x, r, hd, e)) c.in_default.not-Break (λ n. c.in_default.not-Bytes (Some n)))
+
+pub returns-in_err-number-in-Some-part-clause-denied : goal.returns-in_err-number-in-Some-part-clause-denied
+returns-in_err-number-in-Some-part-clause-denied g c =
+    let exit = err_from_is_err_and c.from_residual-in_err-number-in-Some-part.result c.from_residual-in_err-number-in-Some-part.ensures.1 in
+    let U = IsUnread g.R.Read.remaining in
+    let fault = cause_of c.in_err-number-in-Some-part.field-0.0 in
+    let mid = c.next_head.new.self in
+    rw (exit.1, exit.2) (subst (λ l. DeniesContent (U c.args.self.now) (end_at g.R.Read.remaining c.args.self.now) of_bytes l fault) (sym c.in-None.is)
+    (parts-cut (U c.args.self.now) (U c.parts.self) c.parts.number c.parts.invariant.took (U mid) (end_at g.R.Read.remaining mid) (end_at g.R.Read.remaining c.args.self.now) c.in-Some-part.n fault
+    (same-end g.R.Read.remaining c.args.self.now mid (λ first h. c.in_ok-header-in-None.ensures.only first (c.parts.invariant.only first h)))
+    (subst (TakesHead U c.parts.self mid) (c.in-Bytes.is ∙ ap header.Bytes c.in-Some-part.is) c.in_ok-header-in-None.ensures.head) c.in_err-number-in-Some-part.ensures.outside))

@@ -2,11 +2,13 @@ use Rattle.std.proofs.Common.{None, Some, Ok, Err, refl, sym, ◌∙◌, subst}
 use Rattle.std.proofs.lemmas.Result.{err_from_is_err_and}
 use Rattle.ciborium_ll.specs.Decoding.{next_offset, left_of}
 use Rattle.ciborium_value.specs.View.{tree_of}
-use Rattle.ciborium.specs.ByteSources.{IsUnreadBy}
+use Rattle.ciborium.specs.ByteSources.{IsUnreadBy, cause_of}
 use Rattle.ciborium_ll.proofs.HeldBytes.{same-name, unread-count, unread-left}
 use Rattle.ciborium.proofs.TakenOnly.{takes-none, takes-only}
 use Rattle.ciborium.proofs.WhateverFollows.{leaves-name}
-use Rattle.ciborium.proofs.WholeValues.{ahead-by, known-read, portable-ahead, portable-reads, pushed-ahead, whole-faults, whole-reads}
+use Rattle.ciborium.proofs.WholeValues.{ahead-by, known-read, portable-ahead, portable-reads, pushed-ahead, whole-faults, whole-reads, whole-end}
+use Rattle.ciborium_value.specs.Sources.{IsFaultOf}
+use Rattle.ciborium_value.specs.Taken.{taken_value}
 use Rattle.ciborium.proofs.de.byte_source.ByteSource.read_whole_value.Goals as goal
 
 pub returns-in-Some-portable_value-clause-ok : goal.returns-in-Some-portable_value-clause-ok
@@ -46,8 +48,9 @@ returns-in_err-value-in-None-portable_value-clause-denied g c =
     let error = c.in_err-value-in-None-portable_value.field-0.0 in
     rw (exit.1, exit.2) (λ b s z i u sp e.
     let ahead = ahead-by g.R.Read.remaining d c.push.new.self pending b c.in-None-portable_value.ensures c.push.ensures.pushed c.push.ensures.unread (subst (λ o. IsUnreadBy g.R.Read.remaining d o b) (sym c.take.ensures.value ∙ c.in-Some.is) u) in
-    whole-faults (left_of g.R.Read.remaining f) error c.args.self.now.levels (next_offset d.window.count pending) b s z i sp e
-    (known-read g.R.Read.remaining Unit c.push.new.self f c.args.self.now.levels (Err error) c.in_err-value-in-None-portable_value.ensures.value b (next_offset d.window.count pending) ahead))
+    subst (λ n. IsFaultOf n (cause_of error) (taken_value (Some c.args.self.now.levels) i)) (sym (whole-end g.R.Read.remaining d pending b c.in-None-portable_value.ensures (subst (λ o. IsUnreadBy g.R.Read.remaining d o b) (sym c.take.ensures.value ∙ c.in-Some.is) u)))
+    (whole-faults (left_of g.R.Read.remaining f) error c.args.self.now.levels (next_offset d.window.count pending) b s z i sp e
+    (known-read g.R.Read.remaining Unit c.push.new.self f c.args.self.now.levels (Err error) c.in_err-value-in-None-portable_value.ensures.value b (next_offset d.window.count pending) ahead)))
 
 pub returns-in_err-value-in-None-clause-denied : goal.returns-in_err-value-in-None-clause-denied
 returns-in_err-value-in-None-clause-denied g c =
@@ -57,7 +60,8 @@ returns-in_err-value-in-None-clause-denied g c =
     let error = c.in_err-value-in-None.field-0.0 in
     rw (exit.1, exit.2) (λ b s z i u sp e.
     let ahead = ahead-by g.R.Read.remaining d d None b tt c.args.self.now.unpushed (refl, refl) (subst (λ o. IsUnreadBy g.R.Read.remaining d o b) (sym c.take.ensures.value ∙ c.in-None.is) u) in
-    whole-faults (left_of g.R.Read.remaining f) error c.args.self.now.levels d.window.count b s z i sp e (known-read g.R.Read.remaining Unit d f c.args.self.now.levels (Err error) c.in_err-value-in-None.ensures.value b d.window.count ahead))
+    subst (λ n. IsFaultOf n (cause_of error) (taken_value (Some c.args.self.now.levels) i)) (sym (whole-end g.R.Read.remaining d None b tt (subst (λ o. IsUnreadBy g.R.Read.remaining d o b) (sym c.take.ensures.value ∙ c.in-None.is) u)))
+    (whole-faults (left_of g.R.Read.remaining f) error c.args.self.now.levels d.window.count b s z i sp e (known-read g.R.Read.remaining Unit d f c.args.self.now.levels (Err error) c.in_err-value-in-None.ensures.value b d.window.count ahead)))
 
 pub returns-in-Some-portable_value-clause-reads : goal.returns-in-Some-portable_value-clause-reads
 returns-in-Some-portable_value-clause-reads g c = (

@@ -1,6 +1,13 @@
 use Rattle.ciborium.proofs.EnteredContainers.{enters}
+use Rattle.ciborium_value.specs.Taken.{taken_seq}
+use Rattle.ciborium.specs.ByteSources.{cause_of}
+use Rattle.ciborium.proofs.ByteItems.{refuses-denied}
+use Rattle.ciborium.proofs.HandedReaders.{err-map}
 use Rattle.ciborium.proofs.de.byte_source.source.ByteSourceSource.begin_seq.Goals as goal
 
 pub returns-clause-ok : goal.returns-clause-ok
 returns-clause-ok g c =
-    enters g.R.Read.remaining c.args.self.now c.open_seq.new.self c.open_seq.ensures.same_reader _ c.open_seq.result c.open_seq.ensures.levels c.open_seq.ensures.pending c.open_seq.ensures.fewer c.open_seq.ensures.ok
+    enters g.R.Read.remaining c.args.self.now c.open_seq.new.self (c.open_seq.ensures.same_reader, c.open_seq.ensures.only) _ c.open_seq.result c.open_seq.ensures.levels c.open_seq.ensures.pending c.open_seq.ensures.fewer c.open_seq.ensures.ok
+
+pub returns-clause-refused : goal.returns-clause-refused
+returns-clause-refused g c = err-map c.open_seq.result c.open_seq.ensures.denied (λ e h. refuses-denied g.R.Read.remaining c.args.self.now taken_seq (cause_of e) h)

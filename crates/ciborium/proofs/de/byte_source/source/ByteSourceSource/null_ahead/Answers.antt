@@ -22,7 +22,7 @@ returns-in-Simple-clause-ok g c =
     let counted : CountsHead (IsUnread g.R.Read.remaining) c.args.self.now mid (h, c.in_ok-header.offset) = subst (λ k. CountsHead (IsUnread g.R.Read.remaining) c.args.self.now mid (k, c.in_ok-header.offset)) c.in-Simple.is head.counted in
     let aside : (b x y : _) → IsUnread g.R.Read.remaining c.args.self.now b → SpellsHeader x h → b ≡ x ++ y → IsUnread g.R.Read.remaining mid y → IsUnreadBy g.R.Read.remaining mid.decoder (Some (h, c.in_ok-header.offset)) b
     = λ b x y w hd e u. aside-unread g.R.Read.remaining mid.decoder mid.pending h c.in_ok-header.offset b x y head.pending hd e (counted b x y w hd e) u in
-    tells g.R.Read.remaining c.args.self.now mid (record mid { pending = Some (h, c.in_ok-header.offset) }) h took aside c.is_null.result head.same_reader (subst (λ k. bytes_weight mid + weight k ≤ weight_left c.args.self.now) c.in-Simple.is head.fewer) head.levels (λ i e. c.is_null.ensures ∙ null-simple h c.in-Simple.number refl i e)
+    tells g.R.Read.remaining c.args.self.now mid (record mid { pending = Some (h, c.in_ok-header.offset) }) h took aside c.is_null.result (head.same_reader, head.only) (subst (λ k. bytes_weight mid + weight k ≤ weight_left c.args.self.now) c.in-Simple.is head.fewer) head.levels (λ i e. c.is_null.ensures ∙ null-simple h c.in-Simple.number refl i e)
 
 pub returns-in-Simple-clause-took : goal.returns-in-Simple-clause-took
 returns-in-Simple-clause-took g c =
@@ -44,7 +44,7 @@ returns-in-Positive-clause-ok g c =
     let counted : CountsHead (IsUnread g.R.Read.remaining) c.args.self.now mid (h, c.in_ok-header.offset) = subst (λ k. CountsHead (IsUnread g.R.Read.remaining) c.args.self.now mid (k, c.in_ok-header.offset)) c.in-Positive.is head.counted in
     let aside : (b x y : _) → IsUnread g.R.Read.remaining c.args.self.now b → SpellsHeader x h → b ≡ x ++ y → IsUnread g.R.Read.remaining mid y → IsUnreadBy g.R.Read.remaining mid.decoder (Some (h, c.in_ok-header.offset)) b
     = λ b x y w hd e u. aside-unread g.R.Read.remaining mid.decoder mid.pending h c.in_ok-header.offset b x y head.pending hd e (counted b x y w hd e) u in
-    tells g.R.Read.remaining c.args.self.now mid (record mid { pending = Some (h, c.in_ok-header.offset) }) h took aside false head.same_reader (subst (λ k. bytes_weight mid + weight k ≤ weight_left c.args.self.now) c.in-Positive.is head.fewer) head.levels (null-other h (λ n e. cc))
+    tells g.R.Read.remaining c.args.self.now mid (record mid { pending = Some (h, c.in_ok-header.offset) }) h took aside false (head.same_reader, head.only) (subst (λ k. bytes_weight mid + weight k ≤ weight_left c.args.self.now) c.in-Positive.is head.fewer) head.levels (null-other h (λ n e. cc))
 
 pub returns-in-Positive-clause-took : goal.returns-in-Positive-clause-took
 returns-in-Positive-clause-took g c =
@@ -64,7 +64,7 @@ returns-in_default-header g c =
     let head = c.in_ok-header.ensures in
     let aside : (b x y : _) → IsUnread g.R.Read.remaining c.args.self.now b → SpellsHeader x h → b ≡ x ++ y → IsUnread g.R.Read.remaining mid y → IsUnreadBy g.R.Read.remaining mid.decoder (Some (h, c.in_ok-header.offset)) b
     = λ b x y w hd e u. aside-unread g.R.Read.remaining mid.decoder mid.pending h c.in_ok-header.offset b x y head.pending hd e (head.counted b x y w hd e) u in record {
-      ok = tells g.R.Read.remaining c.args.self.now mid (record mid { pending = Some (h, c.in_ok-header.offset) }) h head.head aside false head.same_reader head.fewer head.levels (null-other h c.in_default-header.not-Simple);
+      ok = tells g.R.Read.remaining c.args.self.now mid (record mid { pending = Some (h, c.in_ok-header.offset) }) h head.head aside false (head.same_reader, head.only) head.fewer head.levels (null-other h c.in_default-header.not-Simple);
       refused = tt;
       memory = tt;
       took = takes-nothing g.R.Read.remaining c.args.self.now mid (record mid { pending = Some (h, c.in_ok-header.offset) }) h head.head aside;
