@@ -16,10 +16,13 @@ use crate::fault::Fault;
 use crate::items::{push_encoding, read_item};
 use crate::lines::{put_text, read_line, send_waiting};
 use crate::reading::Spelling;
-use ciborium::value::canonical::cmp_value;
+use ciborium::value::canonical::{MeasuredValue, cmp_measured, cmp_value};
 use ciborium_value::Value;
 use std::alloc::{AllocError, Global};
 use std::io::{BufReader, Read, Write};
+
+// The most values that are sorted where they stand: the library takes no memory for them.
+const MOST_IN_PLACE: usize = 20;
 
 // Why the lines are not sorted.
 #[derive(Debug)]
@@ -69,18 +72,45 @@ pub fn sort_lines<R: Read, W: Write>(
 }
 
 /// The values given, each as often as given, in the canonical order, which is that of `cmp_value`.
-/// They are moved and never copied, by O(n log n) comparisons.
+/// They are moved and never copied, by O(n log n) comparisons. More than 20 are each measured once.
 ///
 /// # Errors
 ///
-/// `AllocError` where memory is refused to move more than 20 values through: room for as many
-/// again. The values are then given up.
+/// `AllocError` where memory is refused to move more than 20 values through: room for as many with
+/// their sizes, and for as many of those again. The values are then given up.
 pub fn sort_values(alloc: Global, mut values: Vec<Value>) -> Result<Vec<Value>, AllocError>
     ensures permutation { IfOk result (λ sorted. IsPermutation values.items sorted.items) }
     ensures sorted { IfOk result (λ sorted. AreSorted (map tree_of sorted.items)) }
     ensures succeeds { vec_len values ≤ 20 → IsOk result }
 {
-    values.as_mut_slice().sort_by(alloc, cmp_value)?;
+    if values.len() <= MOST_IN_PLACE {
+        values.sort_by(cmp_value)?;
+        return Ok(values);
+    }
+    let mut measured = measure_values(alloc, values)?;
+    measured.sort_by(cmp_measured)?;
+    give_values(alloc, measured)
+}
+
+// The values, each with its size.
+fn measure_values(alloc: Global, values: Vec<Value>) -> Result<Vec<MeasuredValue>, AllocError>
+    ensures same { IfOk result (λ measured. measured.items ≡ values.items) }
+{
+    let mut measured = Vec::with_capacity(alloc, values.len())?;
+    for value in values {
+        measured.push(MeasuredValue::new(value))?;
+    }
+    Ok(measured)
+}
+
+// The values that were measured.
+fn give_values(alloc: Global, measured: Vec<MeasuredValue>) -> Result<Vec<Value>, AllocError>
+    ensures same { IfOk result (λ values. values.items ≡ measured.items) }
+{
+    let mut values = Vec::with_capacity(alloc, measured.len())?;
+    for value in measured {
+        values.push(value.into_value())?;
+    }
     Ok(values)
 }
 

@@ -2,6 +2,6 @@
 
 pub mod canonical;
 
-pub use canonical::CanonicalValue;
+pub use canonical::{CanonicalValue, MeasuredValue};
 pub use ciborium_value::serialized::Error;
 pub use ciborium_value::{ByteBuf, Integer, Kind, OutOfRange, Value};

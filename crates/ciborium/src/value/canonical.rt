@@ -1,10 +1,10 @@
 //! The canonical order of values: the shorter encoding first, and of two of one size the one with
 //! the first lower byte (RFC 8949, section 4.2.3; RFC 7049, section 3.9).
 //!
-//! A comparison measures each value once, by a walk over its tree. Where the sizes are equal, it
-//! walks over both trees side by side, head against head and payload against payload, up to the
-//! first that differ: no encoding is a proper beginning of another. No bytes are made, and no
-//! memory is taken.
+//! A comparison measures each value once, by a walk over its tree, or takes the sizes that were
+//! measured before. Where they are equal, it walks over both trees side by side, head against head
+//! and payload against payload, up to the first that differ: no encoding is a proper beginning of
+//! another. No bytes are made, and no memory is taken.
 
 ghost use Rattle.std.specs.Prelude.{◌≡◌, ◌↔◌, ◌+◌, ◌*◌, ◌^◌, ◌<◌, ◌≤◌, IsTrue, refl, length};
 ghost use Rattle.std.specs.Prelude.{vec_len};
@@ -79,6 +79,55 @@ pub(crate) fn encoded_size(value: &Value) -> u64
     ensures proper { IsProperTree (tree_of value.now) }
 {
     measure(value, &mut Visits { count: 0 })
+}
+
+/// A value with the size of its encoding, measured once: for values that are compared often, as by
+/// a sort.
+#[derive(Debug, Drop)]
+pub struct MeasuredValue {
+    value: Value,
+    size: u64,
+}
+
+impl Model for MeasuredValue {
+    ghost Value = { values.Value };
+
+    ghost view = { λ m. m.value };
+
+    ghost invariant = { λ m.
+        (m.size ≡ encoded_size (tree_of m.value)) × IsProperTree (tree_of m.value) };
+
+    ghost coded = { Prim.hlevel (codes, value_row.the_row.coded) };
+}
+
+impl MeasuredValue {
+    /// The value, which it measures. It takes no memory.
+    pub fn new(value: Value) -> MeasuredValue
+        ensures same { result ≡ value }
+    {
+        let size = encoded_size(&value);
+        MeasuredValue { value, size }
+    }
+
+    /// The value.
+    pub fn into_value(self) -> Value
+        ensures same { result ≡ self }
+    {
+        self.value
+    }
+}
+
+/// The canonical order of two values, as `cmp_value` finds it, by the sizes that they have beside
+/// them: it walks over the values only where those are equal. It takes no memory.
+pub fn cmp_measured(left: &MeasuredValue, right: &MeasuredValue) -> Ordering
+    ensures order { result ≡ canonical_order (tree_of left.now) (tree_of right.now) }
+    ensures left_proper { IsProperTree (tree_of left.now) }
+    ensures right_proper { IsProperTree (tree_of right.now) }
+{
+    match left.size.cmp(&right.size) {
+        Ordering::Equal => compare(&left.value, &right.value, &mut Visits { count: 0 }),
+        order => order,
+    }
 }
 
 /// A value whose order is the canonical one, as of a map key. Two are equal where their contents

@@ -1,16 +1,14 @@
-use Rattle.std.proofs.Common.{◌≡◌, List, drop, length, map, rules, subst, sym}
+use Rattle.std.proofs.Common.{rules}
 use Rattle.std.proofs.lemmas.Fn.{always_returns_same}
-use Rattle.std.proofs.lemmas.List.{take_at}
-use Rattle.ciborium_value.specs.View.{tree_of}
-use Rattle.ciborium_value.specs.declared.tree.Value.{Value}
-use Rattle.cbor.specs.Sorted.{AreSorted}
+use Rattle.std.proofs.lemmas.Result.{IfOk-weaker}
 use Rattle.cbor.proofs.SortedValues.{sorted-trees, stands_before, stands_before-orders}
 use Rattle.cbor.proofs.sorting.sort_values.Goals as goal
 
+pub returns-then-len-le-MOST_IN_PLACE-clause-sorted : goal.returns-then-len-le-MOST_IN_PLACE-clause-sorted
+returns-then-len-le-MOST_IN_PLACE-clause-sorted c =
+    sorted-trees _ (c.in_ok-sort_by.ensures.sorted stands_before stands_before-orders (always_returns_same _ _ _ (λ a r f k. search rules)))
+
 pub returns-clause-sorted : goal.returns-clause-sorted
 returns-clause-sorted c =
-    let sorted = c.sort_by.new.self in
-    let count : length sorted ≡ c.args.values.len = search rules in
-    let whole = take_at sorted (drop (length sorted) c.args.values.items) c.args.values.len count in
-    subst (λ (vs : List Value). AreSorted (map tree_of vs)) (sym whole)
-    (sorted-trees sorted (c.in_ok-sort_by.ensures.sorted stands_before stands_before-orders (always_returns_same _ _ _ (λ a r f k. search rules))))
+    let up = sorted-trees _ (c.in_ok-sort_by-2.ensures.sorted stands_before stands_before-orders (always_returns_same _ _ _ (λ a r f k. search rules))) in
+    IfOk-weaker c.give_values.result _ _ (λ v same. rw same up) c.give_values.ensures.same
