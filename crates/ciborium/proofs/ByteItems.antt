@@ -14,6 +14,7 @@ use Rattle.ciborium_value.specs.Places.{sequence}
 use Rattle.ciborium_value.specs.Sources.{Fault, IsFaultOf, of_kind, of_nesting, of_syntax, of_memory, of_device, of_length, Takes, Refuses, TakesItem, TakesTo, GoesOn, Leaves, RefusesNext, OwesLess, OwesNothing, HasItem}
 use Rattle.ciborium_value.specs.Taken.{Outcome, Taken, gives, refuses, nests, deeper, then_take, and_take, take_each, number_below, taken_integer, taken_byte, taken_bytes, bare_bytes, untagged}
 use Rattle.ciborium_value.specs.declared.kind.Kind.TheVariants as kinds
+use Rattle.ciborium_value.proofs.Sequences.{fault_outside, fault_then}
 use Rattle.ciborium.specs.declared.de.byte_source.ByteSource.{ByteSource}
 use Rattle.ciborium.specs.declared.de.byte_source.ByteSeq.{ByteSeq}
 use Rattle.ciborium.specs.ByteSources.{IsUnread, StandsBefore, SeqStands, Owes, OpensItems, ReadsRest, RefusesRest, due_after, pending_count, weight_left, end_at, reader_of}
@@ -24,7 +25,7 @@ use Rattle.ciborium.specs.Unread.{IsRest, Fits}
 use Rattle.ciborium.proofs.EnteredContainers.{HasItems, items-stand, within-is}
 use Rattle.ciborium.proofs.ItemHeads.{header_of}
 use Rattle.ciborium.proofs.NextParts.{fits-past, none-past}
-use Rattle.ciborium.proofs.SkippedTags.{fault-outside, reads-bare, untagged-under}
+use Rattle.ciborium.proofs.SkippedTags.{reads-bare, untagged-under}
 use Rattle.ciborium.proofs.StringPayloads.{string-behind}
 use Rattle.ciborium.proofs.TakenOnly.{IsKept, kept-reader, rest-end}
 
@@ -51,14 +52,6 @@ module _ {S : Type 0} (remaining : S → Option (List ℕ)) where
 
 byte-given : (l : Limit) (i : Item) (n : Bool × ℕ) (v : ℕ) → taken_integer l i ≡ gives n → number_below 256 n ≡ gives v → taken_byte l i ≡ gives v
 byte-given l i n v e f = ap (λ o. then_take o (number_below 256)) e ∙ f
-
-byte-fault : (end : ℕ) (fault : Fault) (o : Outcome (Bool × ℕ)) → IsFaultOf end fault o → IsFaultOf end fault (then_take o (number_below 256))
-byte-fault end (of_kind k) o e = ap (λ p. then_take p (number_below 256)) e
-byte-fault end of_nesting o e = ap (λ p. then_take p (number_below 256)) e
-byte-fault end of_syntax o e = absurd e
-byte-fault end of_memory o e = tt
-byte-fault end of_device o e = tt
-byte-fault end of_length o e = e
 
 -- ---- items in turn
 
@@ -134,7 +127,7 @@ module _ {S A : Type 0} (remaining : S → Option (List ℕ)) (taken : Taken A) 
   pub partly-next-fault : (mid : ByteSource S) (q : ByteSeq) (vs : List A) (fault : Fault) → ReadsPartly remaining taken old start mid q vs → RefusesNext (StandsBefore remaining) SeqStands mid q fault → RefusesRest remaining old start (λ l is. take_each (taken l) is) fault
   partly-next-fault mid q vs fault w h l form is r st hold =
       let n = w l form is r st hold in
-      fault-outside _ fault (take_each (taken (inside form l)) is) (h.0 l form n.rest r n.stands n.holds)
+      fault_outside _ fault (take_each (taken (inside form l)) is) (h.0 l form n.rest r n.stands n.holds)
 
   pub partly-fault : (mid ahead : ByteSource S) (q q' : ByteSeq) (vs : List A) (fault : Fault) → ReadsPartly remaining taken old start mid q vs → GoesOn (StandsBefore remaining) SeqStands mid ahead q q' → Refuses (StandsBefore remaining) ahead taken fault →
       RefusesRest remaining old start (λ l is. take_each (taken l) is) fault
@@ -166,7 +159,7 @@ module _ {S : Type 0} (remaining : S → Option (List ℕ)) (ahead : ByteSource 
   byte-takes new n v e t l i f st = let k = t l i f st in (byte-given l i n v k.0 e, k.1)
 
   pub byte-refuses : (fault : Fault) → Refuses (StandsBefore remaining) ahead taken_integer fault → Refuses (StandsBefore remaining) ahead taken_byte fault
-  byte-refuses fault h l i f st = byte-fault (end_of f) fault (taken_integer l i) (h l i f st)
+  byte-refuses fault h l i f st = fault_then (end_of f) fault (taken_integer l i) (number_below 256) (h l i f st)
 
   -- a number that is no byte
   pub range-refuses : (new : ByteSource S) (n : Bool × ℕ) (fault : Fault) → ((end : ℕ) → IsFaultOf end fault (number_below 256 n)) → Takes (StandsBefore remaining) ahead new taken_integer n → Refuses (StandsBefore remaining) ahead taken_byte fault

@@ -19,6 +19,7 @@ use Rattle.ciborium_value.specs.Refuses.{Refuses}
 use Rattle.ciborium_value.specs.Sources.{IsGranted, IsOutside, read_as}
 use Rattle.ciborium_value.specs.Taken.{Taken}
 use Rattle.ciborium_value.specs.Tree.{Tree}
+use Rattle.ciborium_value.proofs.Sequences.{fault_outside}
 use Rattle.ciborium.specs.declared.de.byte_source.ByteSource.{ByteSource}
 use Rattle.ciborium.specs.declared.de.error.Error.{Error}
 use Rattle.ciborium.specs.Answers.{ReadsWhole, TakesBytes}
@@ -32,7 +33,6 @@ use Rattle.ciborium.proofs.HandedReaders.{handed-denied, handed-given, on-ok, so
 use Rattle.ciborium.proofs.ItemHeads.{first-head, first-payload, header_of}
 use Rattle.ciborium.proofs.KnownReaders.{whole-of}
 use Rattle.ciborium.proofs.Pulled.{refused-from, refused-map}
-use Rattle.ciborium.proofs.SkippedTags.{fault-outside}
 use Rattle.ciborium.proofs.TakenOnly.{takes-end}
 use Rattle.ciborium.proofs.WhateverFollows.{leaves-name, leaves-rest, leaves-then, taken-tree}
 
@@ -149,7 +149,7 @@ module _ {S : Type 0} (E : Type 0) (remaining : S → Option (List ℕ)) (d e : 
       let refused = reads-head {E = E} (left_of remaining d) (left_of remaining e) b d.window.count e.window.count (Err x) (begun-left remaining d lent 0 begins ∙ known) taken in
       let there = first-payload s i spelled in
       let more = length-append c left in
-      fault-outside _ (cause_of (from_ll x)) (given l i) (subst (λ n. IsOutside (n + length b) (cause_of (from_ll x))) begins.count
+      fault_outside _ (cause_of (from_ll x)) (given l i) (subst (λ n. IsOutside (n + length b) (cause_of (from_ll x))) begins.count
       (head-outside (left_of remaining e) x b y (c ++ left) d.window.count (header_of i) head (split ∙ ap (λ (z : List ℕ). z ++ left) whole ∙ append_assoc y c left) (omega (arith, there, more)) refused))
 
   pub first-taken : (l : ℕ) (back : S) → back ≡ e.reader.now → TakesBytes {E = E} any (remaining lent) l (remaining back) (Err (from_ll x))

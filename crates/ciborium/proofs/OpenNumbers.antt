@@ -16,11 +16,11 @@ use Rattle.ciborium_ll.proofs.UniqueSpelling.{one_at_front}
 use Rattle.ciborium_value.specs.Sources.{Fault, IsOutside, of_kind}
 use Rattle.ciborium_value.specs.Taken.{taken_bignum, bignum_of, refuses}
 use Rattle.ciborium_value.specs.declared.kind.Kind.TheVariants as kinds
+use Rattle.ciborium_value.proofs.Sequences.{fault_outside}
 use Rattle.ciborium.specs.ItemReads.{TakesHead, DeniesHead, Reads, Denies}
 use Rattle.ciborium.specs.StringContents.{is_open, digits_of, TakesDigits, TakesNumber, TakesParts, DeniesContent, DeniesJust}
 use Rattle.ciborium.proofs.ItemHeads.{header_of, first-head, first-payload, same-head, no-break-head}
 use Rattle.ciborium.proofs.ReadDigits.{digits-append, digits-some, digits-none}
-use Rattle.ciborium.proofs.SkippedTags.{fault-outside}
 use Rattle.ciborium.proofs.SpelledStrings.{same-payload, string-break, opened-up, same-rest}
 use Rattle.ciborium.proofs.StringPayloads.{string-only}
 
@@ -155,14 +155,14 @@ module _ {S : Type 0} (IsUnread : S → List ℕ → Type 0) (End : S → ℕ) (
   bignum-content len fault same took none b s z i u sp e =
       let (x, y, hd, f, un) = took b u in
       let (payload, io) = string-only of_bytes len i (same-head s z x y i (header.Bytes len) sp hd (sym e ∙ f)).0 in
-      fault-outside _ fault (bignum_of i) (subst (λ n. IsOutside n fault) (same b u) (none y x s z payload un hd (subst (Spells s) io sp) (sym f ∙ e)))
+      fault_outside _ fault (bignum_of i) (subst (λ n. IsOutside n fault) (same b u) (none y x s z payload un hd (subst (Spells s) io sp) (sym f ∙ e)))
 
   pub bignum-no-head : (fault : Fault) → DeniesHead IsUnread End old fault → Denies IsUnread End old None taken_bignum fault
   bignum-no-head fault none b s z i u sp e =
       let (x, y, hd, f) = first-head s i sp in
       let there = first-payload s i sp in
       let more = length-append y z in
-      fault-outside _ fault (bignum_of i) (none b x (y ++ z) (header_of i) u hd (e ∙ ap (λ (k : List ℕ). k ++ z) f ∙ append_assoc x y z) (omega (arith, there, more)))
+      fault_outside _ fault (bignum_of i) (none b x (y ++ z) (header_of i) u hd (e ∙ ap (λ (k : List ℕ). k ++ z) f ∙ append_assoc x y z) (omega (arith, there, more)))
 
   pub bignum-other : (h : Header) → TakesHead IsUnread old mid h → ((n : Option ℕ) → h ≡ header.Bytes n → ⊥) → Denies IsUnread End old None taken_bignum (of_kind kinds.Bytes)
   bignum-other h took p b s z i u sp e =

@@ -7,20 +7,12 @@ use Rattle.ciborium_ll.specs.Item.{Item, tag}
 use Rattle.ciborium_ll.specs.Spells.{Spells}
 use Rattle.ciborium_value.specs.Meaning.{is_bignum_tag}
 use Rattle.ciborium_value.specs.Nesting.{Limit}
-use Rattle.ciborium_value.specs.Sources.{Fault, IsFaultOf, IsOutside, of_kind, of_nesting, of_syntax, of_memory, of_device, of_length}
+use Rattle.ciborium_value.specs.Sources.{Fault, IsFaultOf, IsOutside}
 use Rattle.ciborium_value.specs.Taken.{Outcome, Taken, gives, untagged, number_of, number_under}
+use Rattle.ciborium_value.proofs.Sequences.{fault_outside}
 use Rattle.ciborium.specs.ItemReads.{TakesHead, DeniesHead, DeniesItem, Reads, Denies}
 use Rattle.ciborium.specs.Skips.{under, IsSkipped, AreSkipped, IsTagged, Skips, TakesBare}
 use Rattle.ciborium.proofs.ItemHeads.{header_of, first-head, first-payload, same-head, tag-front, no-break-head}
-
--- what no item decides can be said of any
-pub fault-outside : {A : Type 0} (end : ℕ) (fault : Fault) (o : Outcome A) → IsOutside end fault → IsFaultOf end fault o
-fault-outside end (of_kind k) o h = absurd h
-fault-outside end of_nesting o h = absurd h
-fault-outside end of_syntax o h = absurd h
-fault-outside end of_memory o h = tt
-fault-outside end of_device o h = tt
-fault-outside end of_length o h = h
 
 pub untagged-under : (ts : List ℕ) (i : Item) → untagged (under ts i) ≡ untagged i
 untagged-under [] i = refl
@@ -96,7 +88,7 @@ module _ {S : Type 0} (IsUnread : S → List ℕ → Type 0) where
       absurd (no-break-head j (same-head t z x y j header.Break sq hd (sym f ∙ g)).0)
 
   pub denies-of-item : {A : Type 0} (End : S → ℕ) (l : Limit) (taken : Taken A) (old : S) (fault : Fault) → DeniesItem IsUnread End old fault → Denies IsUnread End old l taken fault
-  denies-of-item End l taken old fault h b s z i u sp e = fault-outside _ fault (taken l i) (h b s z i u sp e)
+  denies-of-item End l taken old fault h b s z i u sp e = fault_outside _ fault (taken l i) (h b s z i u sp e)
 
   -- a head that is taken as it comes, and is not skipped
   pub bare-head : (old new : S) (numbers : Bool) (h : Header) → TakesHead IsUnread old new h → TakesBare IsUnread old new numbers h

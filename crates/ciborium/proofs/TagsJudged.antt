@@ -1,7 +1,7 @@
 -- What was read with its tag is looked at once more.
 use Rattle.std.proofs.Common.{◌≡◌, ℕ, Bool, Option, Some, None, if◌then◌else◌, ap, ◌∙◌}
 use Rattle.std.proofs.lemmas.Bool.{ne_eqb, eq-eqb}
-use Rattle.ciborium_value.specs.Sources.{Fault, of_kind, of_nesting, of_syntax, of_memory, of_device, of_length, IsFaultOf, IsGranted}
+use Rattle.ciborium_value.specs.Sources.{Fault, of_kind, IsFaultOf, IsGranted}
 use Rattle.ciborium_value.specs.TagReadings.{under_tag, under_no_other_tag}
 use Rattle.ciborium_value.specs.Taken.{Outcome, gives, refuses, then_take}
 use Rattle.ciborium_value.specs.declared.kind.Kind.{Kind}
@@ -10,15 +10,6 @@ use Rattle.ciborium_value.specs.declared.kind.Kind.TheVariants as kinds
 -- what was given is judged
 pub then-given : {A C : Type 0} (o : Outcome A) (f : A → Outcome C) (x : A) (r : Outcome C) → o ≡ gives x → f x ≡ r → then_take o f ≡ r
 then-given o f x r given judged = ap (λ p. then_take p f) given ∙ judged
-
--- what was refused stays so
-pub then-refused : {A C : Type 0} (end : ℕ) (fault : Fault) (o : Outcome A) (f : A → Outcome C) → IsFaultOf end fault o → IsFaultOf end fault (then_take o f)
-then-refused end (of_kind k) o f h = ap (λ p. then_take p f) h
-then-refused end of_nesting o f h = ap (λ p. then_take p f) h
-then-refused end of_syntax o f h = elim h [ ]
-then-refused end of_memory o f h = tt
-then-refused end of_device o f h = tt
-then-refused end of_length o f h = h
 
 -- it is refused with a kind
 pub then-kind : {A C : Type 0} (end : ℕ) (fault : Fault) (k : Kind) (o : Outcome A) (f : A → Outcome C) (x : A) → fault ≡ of_kind k → o ≡ gives x → f x ≡ refuses k → IsFaultOf end fault (then_take o f)

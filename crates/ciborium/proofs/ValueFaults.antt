@@ -23,7 +23,7 @@ use Rattle.ciborium_value.specs.Tree.{Tree, Trees, TreePairs}
 use Rattle.ciborium_value.specs.declared.kind.Kind.TheVariants as kinds
 use Rattle.ciborium_value.proofs.Answered.{folds-none}
 use Rattle.ciborium_value.proofs.Found.{bignum_meaning-some}
-use Rattle.ciborium_value.proofs.Sequences.{fault_outside}
+use Rattle.ciborium_value.proofs.Sequences.{fault_map, fault_outside}
 use Rattle.ciborium_value.proofs.Parts.{flat, flat-Spells, flat-count, ArePairs, after-left, first-good, rest-good}
 use Rattle.ciborium.specs.StringContents.{head_of}
 use Rattle.ciborium.proofs.FrontReads.{head-passes, never-syntax}
@@ -266,14 +266,6 @@ rest-faults end of_memory o os v e b = tt
 rest-faults end of_device o os v e b = tt
 rest-faults end of_length o os v e b = b
 
-map-faults : {A B : Type 0} (end : ℕ) (f : Fault) (g : A → B) (o : Outcome A) → IsFaultOf end f o → IsFaultOf end f (outcome_map g o)
-map-faults end (of_kind k) g o b = ap (outcome_map g) b
-map-faults end of_nesting g o b = ap (outcome_map g) b
-map-faults end of_syntax g o b = b
-map-faults end of_memory g o b = tt
-map-faults end of_device g o b = tt
-map-faults end of_length g o b = b
-
 level-faults : {A : Type 0} (end : ℕ) (f : Fault) (l m : Limit) (w : Limit → Outcome A) → IsOneLess l m → IsFaultOf end f (w m) → IsFaultOf end f (within_level l (w (deeper l)))
 level-faults end f l m w one b = subst (IsFaultOf end f) (sym (level-taken l m w one)) b
 
@@ -310,8 +302,8 @@ container-faults end (unsigned n) is f l m h one b = absurd h
 container-faults end (negative n) is f l m h one b = absurd h
 container-faults end (bytes o p) is f l m h one b = absurd h
 container-faults end (text o p) is f l m h one b = absurd h
-container-faults end (array o js) is f l m h one b = level-faults end f l m (λ k. outcome_map trees.array (taken_items k js)) one (map-faults end f trees.array (taken_items m js) (subst (λ ks. IsFaultOf end f (taken_items m ks)) (sym h) b))
-container-faults end (items.map o ps) is f l m h one b = level-faults end f l m (λ k. outcome_map trees.map (taken_tree_pairs k ps)) one (map-faults end f trees.map (taken_tree_pairs m ps) (flat-faults end f m ps (subst (λ ks. IsFaultOf end f (taken_items m ks)) (sym h) b)))
+container-faults end (array o js) is f l m h one b = level-faults end f l m (λ k. outcome_map trees.array (taken_items k js)) one (fault_map end f trees.array (taken_items m js) (subst (λ ks. IsFaultOf end f (taken_items m ks)) (sym h) b))
+container-faults end (items.map o ps) is f l m h one b = level-faults end f l m (λ k. outcome_map trees.map (taken_tree_pairs k ps)) one (fault_map end f trees.map (taken_tree_pairs m ps) (flat-faults end f m ps (subst (λ ks. IsFaultOf end f (taken_items m ks)) (sym h) b)))
 container-faults end (tag t i) is f l m h one b = absurd h
 container-faults end (simple n) is f l m h one b = absurd h
 container-faults end (float raw) is f l m h one b = absurd h
@@ -433,7 +425,7 @@ opening-size {b = b} {r = r} {k = k} (HasOpening.open_map e g) = let size : leng
 
 tag-faults : (end : ℕ) (t : ℕ) (i : Item) (f : Fault) (l m : Limit) → folding_bytes t i ≡ None → IsOneLess l m → IsFaultOf end f (taken_value m i) → IsFaultOf end f (taken_value l (tag t i))
 tag-faults end t i f l m none one b =
-    subst (λ o. IsFaultOf end f (taken_tag t l o (taken_value (deeper l) i))) (sym none) (level-faults end f l m (λ k. outcome_map (trees.tag t) (taken_value k i)) one (map-faults end f (trees.tag t) (taken_value m i) b))
+    subst (λ o. IsFaultOf end f (taken_tag t l o (taken_value (deeper l) i))) (sym none) (level-faults end f l m (λ k. outcome_map (trees.tag t) (taken_value k i)) one (fault_map end f (trees.tag t) (taken_value m i) b))
 
 no-tree : (o : Option Tree) → is_some o ≡ false → o ≡ None
 no-tree None h = refl

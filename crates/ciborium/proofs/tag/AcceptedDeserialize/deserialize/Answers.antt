@@ -1,12 +1,13 @@
 -- What was read with its tag is looked at once more.
 use Rattle.std.proofs.Common.{arith}
 use Rattle.std.proofs.lemmas.Result.{err_from_is_err_and}
-use Rattle.ciborium.proofs.TagsJudged.{kind-granted, no-tag-accepted, other-tag-refused, then-given, then-kind, then-refused, this-tag-accepted}
+use Rattle.ciborium_value.proofs.Sequences.{fault_then}
+use Rattle.ciborium.proofs.TagsJudged.{kind-granted, no-tag-accepted, other-tag-refused, then-given, then-kind, this-tag-accepted}
 use Rattle.ciborium.proofs.tag.AcceptedDeserialize.deserialize.Goals as goal
 
 pub returns-in_err-tag-clause-refused : goal.returns-in_err-tag-clause-refused
 returns-in_err-tag-clause-refused g c =
-    let exit = err_from_is_err_and c.from_residual.result c.from_residual.ensures.1 in rw (exit.1, exit.2) (λ l i f at. then-refused _ _ _ _ (c.in_err-tag.ensures.refused l i f at))
+    let exit = err_from_is_err_and c.from_residual.result c.from_residual.ensures.1 in rw (exit.1, exit.2) (λ l i f at. fault_then _ _ _ _ (c.in_err-tag.ensures.refused l i f at))
 
 pub returns-in_err-tag-clause-memory : goal.returns-in_err-tag-clause-memory
 returns-in_err-tag-clause-memory g c =

@@ -6,10 +6,11 @@ use Rattle.ciborium_ll.specs.declared.header.Header.TheVariants as header
 use Rattle.ciborium_value.specs.Sources.{of_kind}
 use Rattle.ciborium_value.specs.Taken.{taken_character, lone_character}
 use Rattle.ciborium_value.specs.declared.kind.Kind.TheVariants as kinds
+use Rattle.ciborium_value.proofs.Sequences.{fault_outside}
 use Rattle.ciborium.specs.ByteSources.{IsUnread, cause_of, end_at}
 use Rattle.ciborium.specs.Skips.{TakesBare}
 use Rattle.ciborium.proofs.LoneCharacters.{character-given, character-open, character-other, long-denied, payload-denied, payload-taken, text-denied}
-use Rattle.ciborium.proofs.SkippedTags.{denies-bare, denies-of-item, reads-bare, fault-outside}
+use Rattle.ciborium.proofs.SkippedTags.{denies-bare, denies-of-item, reads-bare}
 use Rattle.ciborium.proofs.TakenOnly.{same-end}
 use Rattle.ciborium.proofs.StringPayloads.{string-behind}
 use Rattle.ciborium.proofs.de.byte_source.ByteSource.read_character.Goals as goal
@@ -49,7 +50,7 @@ returns-in_err-fill-in-Some-clause-denied g c =
     rw (exit.1, exit.2) (text-denied (IsUnread g.R.Read.remaining) (end_at g.R.Read.remaining) (Some c.args.self.now.levels) c.args.self.now c.bare_head.new.self n
     (subst (TakesBare (IsUnread g.R.Read.remaining) c.args.self.now c.bare_head.new.self false) (c.in-Text.is ∙ ap header.Text c.in-Some.is) c.in_ok-header.ensures.head) fault (same-end g.R.Read.remaining c.args.self.now c.bare_head.new.self c.in_ok-header.ensures.only)
     (λ y z payload un size utf8 e. let more : length y ≡ length payload + length z = ap length e ∙ length-append payload z in
-    fault-outside end fault (lone_character (chars payload)) (c.in_err-fill-in-Some.ensures.outside y un (omega (arith, room, size, more)))))
+    fault_outside end fault (lone_character (chars payload)) (c.in_err-fill-in-Some.ensures.outside y un (omega (arith, room, size, more)))))
 
 pub returns-in_err-character-in-Some-clause-denied : goal.returns-in_err-character-in-Some-clause-denied
 returns-in_err-character-in-Some-clause-denied g c =
