@@ -38,7 +38,7 @@ module _ {S Q : Type 0} (StandsBefore : S → Limit → Ahead → Type 0) (SeqSt
 
   pub few_blames : {old ahead : S} {q q' : Q} (n : ℕ) (vs : List A) (fault : Fault) → GoesOn StandsBefore SeqStands old ahead q q' → Refuses StandsBefore ahead taken fault → Follows (IsInside StandsBefore SeqStands old q (few_from taken (suc n) vs)) (IsBlamed fault)
   few_blames n vs fault h t = so (goes_on StandsBefore SeqStands (few_from taken (suc n) vs) h)
-      (blames_part StandsBefore SeqStands (few_from taken (suc n) vs) taken fault t (λ m i is e. fault_map _ fault (λ ws. vs ++ ws) (and_take (taken m i) (few_items taken m is n)) (fault_and _ fault (taken m i) (few_items taken m is n) e)))
+      (blames_part StandsBefore SeqStands (few_from taken (suc n) vs) taken fault t (λ end m i is e. fault_map _ fault (λ ws. vs ++ ws) (and_take (taken m i) (few_items taken m is n)) (fault_and _ fault (taken m i) (few_items taken m is n) e)))
 
   -- one that has no room is refused
   pub few_refuses : {old ahead : S} {q q' : Q} (vs : List A) → GoesOn StandsBefore SeqStands old ahead q q' → Follows (IsInside StandsBefore SeqStands old q (few_from taken zero vs)) (IsBlamed (of_kind kinds.Length))
