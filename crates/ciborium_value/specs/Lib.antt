@@ -43,3 +43,6 @@ pub mod StructReadings
 pub mod TreeSources
 pub mod FoldedCopies
 pub mod DerivedOrder
+pub mod ReadsBack
+pub mod ReadsBackBignums
+pub mod ReadsBackNumbers
