@@ -46,3 +46,4 @@ pub mod DerivedOrder
 pub mod ReadsBack
 pub mod ReadsBackBignums
 pub mod ReadsBackNumbers
+pub mod ReadsBackParts

@@ -9,6 +9,7 @@ use crate::deserialize::Deserialize;
 use crate::serialize::Serialize;
 
 mod numbers;
+mod parts;
 mod scalars;
 
 /// A type of which what is written is read back.
