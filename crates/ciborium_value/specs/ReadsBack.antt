@@ -10,9 +10,13 @@ use Rattle.ciborium_value.specs.Nesting.{Limit, IsWithin}
 use Rattle.ciborium_value.specs.Sinks.{Named}
 use Rattle.ciborium_value.specs.Taken.{Taken, gives, lone_character, taken_boolean, taken_unit, taken_character, taken_text, taken_bytes}
 
+-- the item that is named, if there is one, is read as this content where so many levels are left
+abbrev pub IsNameRead : {C : Type 0} → Named → Taken C → C → ℕ → Type 0
+IsNameRead r taken c n = (i : Item) → r ≡ Ok i → (l : Limit) → IsWithin l n → taken l i ≡ gives c
+
 -- what a value names is read as what counts of it, where so many levels are left
 abbrev pub IsReadBack : {T C : Type 0} → (T → Type 0) → (T → Named) → Taken C → (T → C) → (T → ℕ) → Type 0
-IsReadBack {T = T} IsHeld written taken content levels = (v : T) → IsHeld v → (i : Item) → written v ≡ Ok i → (l : Limit) → IsWithin l (levels v) → taken l i ≡ gives (content v)
+IsReadBack {T = T} IsHeld written taken content levels = (v : T) → IsHeld v → IsNameRead (written v) taken (content v) (levels v)
 
 -- ---- what holds of all that is answered
 
