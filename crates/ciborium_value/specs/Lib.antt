@@ -47,3 +47,4 @@ pub mod ReadsBack
 pub mod ReadsBackBignums
 pub mod ReadsBackNumbers
 pub mod ReadsBackParts
+pub mod NeverNull

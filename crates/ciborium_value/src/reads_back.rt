@@ -1,14 +1,15 @@
 //! What is written is read back.
 
-ghost use Rattle.std.specs.Prelude.{◌≡◌, Ok, ℕ};
+ghost use Rattle.std.specs.Prelude.{◌≡◌, Ok, false, ℕ};
 ghost use Rattle.ciborium_ll.specs.Item.{Item};
 ghost use Rattle.ciborium_value.specs.Nesting.{IsWithin, Limit};
-ghost use Rattle.ciborium_value.specs.Taken.{gives};
+ghost use Rattle.ciborium_value.specs.Taken.{gives, is_null};
 
 use crate::deserialize::Deserialize;
 use crate::serialize::Serialize;
 
 mod numbers;
+mod options;
 mod parts;
 mod scalars;
 
@@ -31,4 +32,13 @@ pub trait ReadsBack: Serialize + Deserialize {
     ghost reads_back: { (v : Self) → is_held v → (i : Item) → Self.written v ≡ Ok i →
         (l : Limit) → IsWithin l (levels v) →
         Self.reading.taken l i ≡ gives (Self.reading.content v) };
+}
+
+/// A type whose values are never written as null or undefined.
+///
+/// So an option of it is read back: null stands for `None` alone. It may be written as a tag over
+/// null, since no tag is skipped before the null of an option.
+pub trait NeverNull: Serialize {
+    // What the value names, if it names an item, is not null nor undefined.
+    ghost never_null: { (v : Self) (i : Item) → Self.written v ≡ Ok i → is_null i ≡ false };
 }
