@@ -48,3 +48,4 @@ pub mod ReadsBackBignums
 pub mod ReadsBackNumbers
 pub mod ReadsBackParts
 pub mod NeverNull
+pub mod ReadsBackMaps

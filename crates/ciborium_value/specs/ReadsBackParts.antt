@@ -21,11 +21,11 @@ greatest levels (x ∷ xs) = max (levels x) (greatest levels xs)
 
 -- ---- levels
 
-within-left : (l : Limit) (m n : ℕ) → IsWithin l (max m n) → IsWithin l m
+pub within-left : (l : Limit) (m n : ℕ) → IsWithin l (max m n) → IsWithin l m
 within-left None m n h = tt
 within-left (Some k) m n h = omega (arith, le-max_left m n, h)
 
-within-right : (l : Limit) (m n : ℕ) → IsWithin l (max m n) → IsWithin l n
+pub within-right : (l : Limit) (m n : ℕ) → IsWithin l (max m n) → IsWithin l n
 within-right None m n h = tt
 within-right (Some k) m n h = omega (arith, le-max_right m n, h)
 
@@ -36,7 +36,7 @@ unpack-items [] = refl
 unpack-items (i ∷ is) = ap (λ js. i ∷ js) (unpack-items is)
 
 -- within a limit what is named is read so
-at : {C : Type 0} (r : Named) (taken : Taken C) (c : C) (n : ℕ) → IsNameRead r taken c n → (l : Limit) → IsWithin l n → IfOk r (λ i. taken l i ≡ gives c)
+pub at : {C : Type 0} (r : Named) (taken : Taken C) (c : C) (n : ℕ) → IsNameRead r taken c n → (l : Limit) → IsWithin l n → IfOk r (λ i. taken l i ≡ gives c)
 at r taken c n h l fits = if_ok r (λ i. taken l i ≡ gives c) (λ i e. h i e l fits)
 
 -- what the parts name is read inside, with a level less

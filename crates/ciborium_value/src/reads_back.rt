@@ -8,6 +8,7 @@ ghost use Rattle.ciborium_value.specs.Taken.{gives, is_null};
 use crate::deserialize::Deserialize;
 use crate::serialize::Serialize;
 
+mod maps;
 mod numbers;
 mod options;
 mod parts;
