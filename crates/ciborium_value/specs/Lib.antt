@@ -43,3 +43,9 @@ pub mod StructReadings
 pub mod TreeSources
 pub mod FoldedCopies
 pub mod DerivedOrder
+pub mod ReadsBack
+pub mod ReadsBackBignums
+pub mod ReadsBackNumbers
+pub mod ReadsBackParts
+pub mod NeverNull
+pub mod ReadsBackMaps

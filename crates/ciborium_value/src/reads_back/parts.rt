@@ -1,0 +1,53 @@
+//! Lists and tuples.
+
+ghost use Rattle.std.specs.List.{All};
+ghost use Rattle.std.specs.Prelude.{max, suc};
+ghost use Rattle.ciborium_value.specs.ReadsBackParts.{greatest, list-back, tuple1-back};
+ghost use Rattle.ciborium_value.specs.ReadsBackParts.{tuple2-back, tuple3-back, tuple4-back};
+
+use super::ReadsBack;
+
+impl<T: ReadsBack> ReadsBack for Vec<T> {
+    ghost is_held = { λ v. All T.is_held v.items };
+
+    ghost levels = { λ v. suc (greatest T.levels v.items) };
+
+    ghost reads_back = { λ v held. list-back T.reads_back v.items held };
+}
+
+impl<A: ReadsBack> ReadsBack for (A,) {
+    ghost is_held = { λ t. A.is_held t.0 };
+
+    ghost levels = { λ t. suc (A.levels t.0) };
+
+    ghost reads_back = { λ t held. tuple1-back (A.reads_back t.0 held) };
+}
+
+impl<A: ReadsBack, B: ReadsBack> ReadsBack for (A, B) {
+    ghost is_held = { λ t. A.is_held t.0 × B.is_held t.1 };
+
+    ghost levels = { λ t. suc (max (A.levels t.0) (B.levels t.1)) };
+
+    ghost reads_back = { λ t held. tuple2-back
+        (A.reads_back t.0 held.0) (B.reads_back t.1 held.1) };
+}
+
+impl<A: ReadsBack, B: ReadsBack, C: ReadsBack> ReadsBack for (A, B, C) {
+    ghost is_held = { λ t. A.is_held t.0 × B.is_held t.1 × C.is_held t.2 };
+
+    ghost levels = { λ t. suc (max (A.levels t.0) (max (B.levels t.1) (C.levels t.2))) };
+
+    ghost reads_back = { λ t held. tuple3-back
+        (A.reads_back t.0 held.0) (B.reads_back t.1 held.1) (C.reads_back t.2 held.2) };
+}
+
+impl<A: ReadsBack, B: ReadsBack, C: ReadsBack, D: ReadsBack> ReadsBack for (A, B, C, D) {
+    ghost is_held = { λ t. A.is_held t.0 × B.is_held t.1 × C.is_held t.2 × D.is_held t.3 };
+
+    ghost levels = { λ t. suc
+        (max (A.levels t.0) (max (B.levels t.1) (max (C.levels t.2) (D.levels t.3)))) };
+
+    ghost reads_back = { λ t held. tuple4-back
+        (A.reads_back t.0 held.0) (B.reads_back t.1 held.1)
+        (C.reads_back t.2 held.2) (D.reads_back t.3 held.3) };
+}

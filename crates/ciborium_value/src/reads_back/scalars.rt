@@ -1,0 +1,50 @@
+//! Booleans, null, characters and strings.
+
+ghost use Rattle.std.specs.Char.{IsScalar};
+ghost use Rattle.std.specs.Prelude.{string_bytes};
+ghost use Rattle.ciborium_value.specs.ReadsBack.{boolean-back, bytes-back, character-back};
+ghost use Rattle.ciborium_value.specs.ReadsBack.{text-back, unit-back};
+
+use super::ReadsBack;
+use crate::byte_buf::ByteBuf;
+
+impl ReadsBack for () {
+    ghost is_held = { λ u. Unit {0} };
+
+    ghost levels = { λ u. 0 };
+
+    ghost reads_back = { unit-back };
+}
+
+impl ReadsBack for bool {
+    ghost is_held = { λ b. Unit {0} };
+
+    ghost levels = { λ b. 0 };
+
+    ghost reads_back = { boolean-back };
+}
+
+/// The code is that of a character: at most 0x10FFFF, and no surrogate.
+impl ReadsBack for char {
+    ghost is_held = { IsScalar };
+
+    ghost levels = { λ c. 0 };
+
+    ghost reads_back = { character-back };
+}
+
+impl ReadsBack for String {
+    ghost is_held = { λ s. Unit {0} };
+
+    ghost levels = { λ s. 0 };
+
+    ghost reads_back = { text-back string_bytes };
+}
+
+impl ReadsBack for ByteBuf {
+    ghost is_held = { λ b. Unit {0} };
+
+    ghost levels = { λ b. 0 };
+
+    ghost reads_back = { bytes-back (λ b. b.0.items) };
+}
