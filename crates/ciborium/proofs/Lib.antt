@@ -36,6 +36,7 @@ mod StringPayloads
 mod OpenNumbers
 mod BareScalars
 pub mod SourcesAgree
+pub mod RoundTrips
 mod EnteredContainers
 mod NextParts
 mod LoneCharacters

@@ -11,6 +11,7 @@ ghost use Rattle.ciborium.specs.DeterministicLaws.{NeverBothDeterministically};
 ghost use Rattle.ciborium.specs.DeterministicLaws.{OneDeterministicRefusal, OneDeterministicTree};
 ghost use Rattle.ciborium.specs.EncodingLaws.{EncodingSpells, HeadsRise, OneTree, OthersAreLonger};
 ghost use Rattle.ciborium.specs.ItemSequences.{OneSequence};
+ghost use Rattle.ciborium.specs.RoundTrips.{BytesReadBack};
 ghost use Rattle.ciborium.specs.TypedReads.{SourcesAgree};
 ghost use Rattle.ciborium.specs.Writes.{IsNamedWritten};
 
@@ -22,7 +23,7 @@ pub use ciborium_value::tree_laws::{
     bytes_of_bignums, good_or_refused, meaning_of_written_is_folded, order_of_integers,
     order_of_values, worked_examples, written_reads_back,
 };
-use ciborium_value::{Deserialize, Serialize};
+use ciborium_value::{Deserialize, ReadsBack, Serialize};
 use std::collections::BTreeMap;
 
 /// Whatever meets the clauses of the reading calls is one answer for the same bytes and limit: the
@@ -71,6 +72,14 @@ pub fn order_of_canonical_values()
 /// but nesting.
 pub fn sources_agree<T: Deserialize>()
     ensures { SourcesAgree T.reading.taken }
+{}
+
+/// What is written is read back: the bytes that `into_writer` puts out of a value, whatever follows
+/// them, give its content where as many levels are left as reading it takes, and what follows is
+/// left. Reading fails only for what no item decides: the reader, want of memory, or bytes that pass
+/// the greatest offset. It rests on the law that the type has (`ReadsBack`).
+pub fn written_is_read_back<T: ReadsBack>()
+    ensures { BytesReadBack T.is_held T.written T.reading T.levels }
 {}
 
 /// All bytes, at every offset and under every limit of levels, begin with bytes that are

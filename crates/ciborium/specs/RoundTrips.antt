@@ -1,0 +1,26 @@
+-- What is written is read back, from bytes.
+use Rattle.std.specs.Prelude.{◌≡◌, ℕ, List, ◌++◌, length, Option, Some, Result, Ok, Err}
+use Rattle.std.specs.declared.io.Error.{Error as IoError}
+use Rattle.ciborium_ll.specs.Item.{Item}
+use Rattle.ciborium_value.specs.Encoding.{written_bytes}
+use Rattle.ciborium_value.specs.Nesting.{IsWithin}
+use Rattle.ciborium_value.specs.Readings.{Reading}
+use Rattle.ciborium_value.specs.Sinks.{Named}
+use Rattle.ciborium_value.specs.Sources.{IsOutside, read_as}
+use Rattle.ciborium_value.specs.WrittenItems.{IsWritten}
+use Rattle.ciborium.specs.declared.de.error.Error.{Error}
+use Rattle.ciborium.specs.ByteSources.{cause_of}
+use Rattle.ciborium.specs.TypedReads.{AnswersBytes}
+
+-- the content is answered and what followed is left; or the call failed, for what no item decides
+abbrev pub IsGivenBack : {C E : Type 0} → C → List ℕ → ℕ → Option (List ℕ) → Result C (Error E) → Type 0
+IsGivenBack c rest end after (Ok d) = (d ≡ c) × (after ≡ Some rest)
+IsGivenBack c rest end after (Err e) = IsOutside end (cause_of e)
+
+-- reading the bytes of what a value names, where so many levels are left, whatever follows them
+abbrev pub BytesReadBack : {T C : Type 0} → (T → Type 0) → (T → Named) → Reading T C → (T → ℕ) → Type 0
+BytesReadBack {T} {C} IsHeld written reading levels =
+    (v : T) (i : Item) (l : ℕ) (rest : List ℕ) (after : Option (List ℕ)) (r : Result C (Error IoError)) →
+    IsHeld v → written v ≡ Ok i → IsWritten i → IsWithin (Some l) (levels v) →
+    AnswersBytes reading.taken l (written_bytes i ++ rest) after r →
+    IsGivenBack (reading.content v) rest (length (written_bytes i ++ rest)) after r
