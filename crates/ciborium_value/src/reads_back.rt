@@ -16,14 +16,17 @@ mod scalars;
 
 /// A type of which what is written is read back.
 ///
-/// A value that names an item is read from that item as itself: with what counts of it, where the
-/// levels that it needs are left. A value with no item is refused in writing, and nothing is
-/// promised of reading it. Nothing is run: this is a fact about the type.
+/// A value's item is read with all that counts of the value, under every limit that leaves as many
+/// levels as `levels` says. Nothing is promised of a value that is refused in writing, and
+/// capacities do not count.
 ///
-/// `levels` counts the arrays, maps and tags that stand one inside the other in the item, as a
-/// reader's limit does. A limit of that many levels is enough.
+/// `is_held` says of which values this holds: of the library's types, those that a program can
+/// have. Their numbers are in range, their characters have a code, and the keys of their maps rise.
+///
+/// `levels` counts one for an array or a map, above the most that one of its parts takes, and none
+/// for a number, a character or a string. A limit counts so too.
 pub trait ReadsBack: Serialize + Deserialize {
-    // What every value in a program is: its numbers fit their types.
+    // What a value in a program is, where a proof knows too little of it.
     ghost is_held: { Self → Type 0 };
 
     // How many levels reading what this value names takes.
@@ -35,10 +38,9 @@ pub trait ReadsBack: Serialize + Deserialize {
         Self.reading.taken l i ≡ gives (Self.reading.content v) };
 }
 
-/// A type whose values are never written as null or undefined.
+/// A type whose values are never written as null or undefined, so that options of it are read back.
 ///
-/// So an option of it is read back: null stands for `None` alone. It may be written as a tag over
-/// null, since no tag is skipped before the null of an option.
+/// They may be written as a null under a tag, which is not read as `None`.
 pub trait NeverNull: Serialize {
     // What the value names, if it names an item, is not null nor undefined.
     ghost never_null: { (v : Self) (i : Item) → Self.written v ≡ Ok i → is_null i ≡ false };

@@ -12,7 +12,7 @@ use crate::byte_buf::ByteBuf;
 use crate::serialize::Serialize;
 use std::collections::BTreeMap;
 
-/// No level is added.
+/// `None` takes no level, `Some` those of the content.
 impl<T: ReadsBack + NeverNull> ReadsBack for Option<T> {
     ghost is_held = { λ o. IfSome o T.is_held };
 
@@ -27,10 +27,6 @@ impl NeverNull for bool {
 
 impl NeverNull for char {
     ghost never_null = { λ c. never-text (encode_utf8 c) };
-}
-
-impl NeverNull for &str {
-    ghost never_null = { λ s. never-text s.now };
 }
 
 impl NeverNull for String {

@@ -7,6 +7,7 @@ ghost use Rattle.ciborium_value.specs.ReadsBackParts.{tuple2-back, tuple3-back, 
 
 use super::ReadsBack;
 
+/// An empty list takes one level too.
 impl<T: ReadsBack> ReadsBack for Vec<T> {
     ghost is_held = { λ v. All T.is_held v.items };
 

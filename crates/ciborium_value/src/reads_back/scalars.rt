@@ -24,7 +24,6 @@ impl ReadsBack for bool {
     ghost reads_back = { boolean-back };
 }
 
-/// The code is that of a character: at most 0x10FFFF, and no surrogate.
 impl ReadsBack for char {
     ghost is_held = { IsScalar };
 
