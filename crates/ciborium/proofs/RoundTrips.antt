@@ -1,5 +1,5 @@
 -- What is written is read back, from bytes.
-use Rattle.std.proofs.Common.{◌≡◌, ℕ, List, ◌++◌, length, Option, Some, Result, Ok, Err, refl, sym, ap, ◌∙◌, subst}
+use Rattle.std.proofs.Common.{◌≡◌, ℕ, List, ◌++◌, length, Option, Some, Result, Ok, Err, refl, sym, ap, ◌∙◌, ◌+◌, subst, arith}
 use Rattle.std.specs.declared.io.Error.{Error as IoError}
 use Rattle.ciborium_ll.specs.Item.{Item}
 use Rattle.ciborium_ll.proofs.UniqueSpelling.{one_at_front}
@@ -43,4 +43,7 @@ bytes_read_back {T} {C} IsHeld written reading levels law v i l rest after r hel
           is ∙ ap Some (sym one.1),
         )
     by (Err e) (taken, refused) =
-        not-blamed (length (written_bytes i ++ rest)) (cause_of e) (reading.taken (Some l) i) (reading.content v) given (refused (written_bytes i ++ rest) refl i (written_bytes i) rest (written_item_spells i fits) refl)
+        let n : ℕ = length (written_bytes i ++ rest) in
+        let none : 0 + n ≡ n = omega arith in
+        subst (λ m. IsOutside m (cause_of e)) none
+        (not-blamed (0 + n) (cause_of e) (reading.taken (Some l) i) (reading.content v) given (refused (written_bytes i ++ rest) refl i (written_bytes i) rest (written_item_spells i fits) refl))

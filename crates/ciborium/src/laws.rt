@@ -23,7 +23,8 @@ pub use ciborium_value::tree_laws::{
     bytes_of_bignums, good_or_refused, meaning_of_written_is_folded, order_of_integers,
     order_of_values, worked_examples, written_reads_back,
 };
-use ciborium_value::{Deserialize, ReadsBack, Serialize};
+pub use ciborium_value::{NeverNull, ReadsBack};
+use ciborium_value::{Deserialize, Serialize};
 use std::collections::BTreeMap;
 
 /// Whatever meets the clauses of the reading calls is one answer for the same bytes and limit: the

@@ -10,7 +10,7 @@ use crate::own_types::{Figure, Message, Moment, Span};
 use crate::sequence_callers::{read_both, write_both};
 use crate::tag_types::bytes_under_a_tag;
 use crate::test_bytes::decode_hex;
-use ciborium::laws::sources_agree;
+use ciborium::laws::{sources_agree, written_is_read_back};
 use ciborium::ser::Serialize;
 use ciborium::tag::Required;
 use ciborium::value::{CanonicalValue, Value};
@@ -172,6 +172,8 @@ fn a_value_is_read_with_every_clause(rt: HostRuntime) -> Result<(), Fail> {
     let value = read_value(rt.alloc(), &mut reader, 1)?;
     expect_same(value, Value::from(items), "another value")?;
     sources_agree::<Value>();
+    written_is_read_back::<Vec<(u8, Option<String>)>>();
+    written_is_read_back::<BTreeMap<String, Vec<i64>>>();
     sources_agree::<Span>();
     expect(reader == &[2u8][..], "another rest")
 }
