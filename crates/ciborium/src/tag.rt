@@ -1,13 +1,16 @@
 //! Tags around a value (RFC 8949, section 3.4).
 
-ghost use Rattle.std.specs.Prelude.{◌⊎◌, IfErr, OnErr, OnOk, Option, refl, ℕ};
+ghost use Rattle.std.specs.Prelude.{◌⊎◌, IfErr, OnErr, OnOk, Option, refl, suc, ℕ};
 ghost use Rattle.ciborium_value.specs.KeyOrders.{ordering_then-same};
 ghost use Rattle.ciborium_value.specs.Sinks.{AddsNamed, BreaksNamed, IsGranted, IsOwed, IsReady};
 ghost use Rattle.ciborium_value.specs.Sinks.{tag_of};
 ghost use Rattle.ciborium_value.specs.TagReadings.{tag_accepted, tag_required, with_tag};
+ghost use Rattle.ciborium.specs.ReadsBackTags.{IsToldApart, accepted-back, captured-back};
+ghost use Rattle.ciborium.specs.ReadsBackTags.{captured-never, required-back, tag-never};
 ghost use Rattle.ciborium.specs.Tags.{captured_of};
 
 use crate::de::{Deserialize, Key, Source};
+use crate::laws::{NeverNull, ReadsBack};
 use crate::ser::{Serialize, Sink};
 use crate::value::Kind;
 use std::alloc::Global;
@@ -128,6 +131,46 @@ impl<V: Key, const TAG: u64> Key for Required<V, TAG> {
 
 impl<V: Key, const TAG: u64> Key for Accepted<V, TAG> {
     ghost orders = { λ a b. V.orders a.0 b.0 };
+}
+
+/// Held are values without a tag around them only where what they are written as has none of its
+/// own, as a bignum has. A level is taken, tag or none.
+impl<V: ReadsBack> ReadsBack for Captured<V> {
+    ghost is_held = { λ c. IsToldApart c.0 (V.written c.1) × V.is_held c.1 };
+
+    ghost levels = { λ c. suc (V.levels c.1) };
+
+    ghost reads_back = { λ c held. captured-back c.0 held.0 (V.reads_back c.1 held.1) };
+}
+
+/// The tag takes a level.
+impl<V: ReadsBack, const TAG: u64> ReadsBack for Required<V, TAG> {
+    ghost is_held = { λ r. V.is_held r.0 };
+
+    ghost levels = { λ r. suc (V.levels r.0) };
+
+    ghost reads_back = { λ r held. required-back TAG (V.reads_back r.0 held) };
+}
+
+/// The tag takes a level.
+impl<V: ReadsBack, const TAG: u64> ReadsBack for Accepted<V, TAG> {
+    ghost is_held = { λ a. V.is_held a.0 };
+
+    ghost levels = { λ a. suc (V.levels a.0) };
+
+    ghost reads_back = { λ a held. accepted-back TAG (V.reads_back a.0 held) };
+}
+
+impl<V: NeverNull> NeverNull for Captured<V> {
+    ghost never_null = { λ c. captured-never c.0 (V.never_null c.1) };
+}
+
+impl<V: Serialize, const TAG: u64> NeverNull for Required<V, TAG> {
+    ghost never_null = { λ r. tag-never TAG (V.written r.0) };
+}
+
+impl<V: Serialize, const TAG: u64> NeverNull for Accepted<V, TAG> {
+    ghost never_null = { λ a. tag-never TAG (V.written a.0) };
 }
 
 // Adds the content under a tag.

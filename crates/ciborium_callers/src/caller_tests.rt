@@ -174,6 +174,8 @@ fn a_value_is_read_with_every_clause(rt: HostRuntime) -> Result<(), Fail> {
     sources_agree::<Value>();
     written_is_read_back::<Vec<(u8, Option<String>)>>();
     written_is_read_back::<BTreeMap<String, Vec<i64>>>();
+    written_is_read_back::<Required<Vec<Captured<String>>, 7>>();
+    written_is_read_back::<Option<Accepted<u32, 8>>>();
     sources_agree::<Span>();
     expect(reader == &[2u8][..], "another rest")
 }

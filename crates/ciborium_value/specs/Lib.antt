@@ -47,5 +47,6 @@ pub mod ReadsBack
 pub mod ReadsBackBignums
 pub mod ReadsBackNumbers
 pub mod ReadsBackParts
+pub mod ReadsBackStructs
 pub mod NeverNull
 pub mod ReadsBackMaps

@@ -84,6 +84,8 @@ impl Value {
             (LendsIf the_row bytes_row self.entry result value.Bytes self.old) }
         ensures some { IfSome result (λ b. self.old ≡ value.Bytes b.now) }
         ensures none { IfNone result (¬ IsBytes self.old) }
+        ensures tree { MatchOption result (¬ IsBytesTree (tree_of self.old))
+            (λ b. tree_of self.old ≡ trees.bytes b.now.items) }
     {
         if let Value::Bytes(bytes) = self {
             Some(bytes)
@@ -133,6 +135,8 @@ impl Value {
             (LendsIf the_row text_row self.entry result value.Text self.old) }
         ensures some { IfSome result (λ t. self.old ≡ value.Text t.now) }
         ensures none { IfNone result (¬ IsText self.old) }
+        ensures tree { MatchOption result (¬ IsTextTree (tree_of self.old))
+            (λ t. tree_of self.old ≡ trees.text (string_bytes t.now)) }
     {
         if let Value::Text(text) = self {
             Some(text)
@@ -272,6 +276,8 @@ impl Value {
             (LendsIf the_row array_row self.entry result value.Array self.old) }
         ensures some { IfSome result (λ vs. self.old ≡ value.Array vs.now) }
         ensures none { IfNone result (¬ IsArray self.old) }
+        ensures tree { MatchOption result (¬ IsArrayTree (tree_of self.old))
+            (λ vs. tree_of self.old ≡ trees.array (trees_of vs.now.items)) }
     {
         if let Value::Array(values) = self {
             Some(values)
@@ -321,6 +327,8 @@ impl Value {
             (LendsIf the_row map_row self.entry result value.Map self.old) }
         ensures some { IfSome result (λ ps. self.old ≡ value.Map ps.now) }
         ensures none { IfNone result (¬ IsMap self.old) }
+        ensures tree { MatchOption result (¬ IsMapTree (tree_of self.old))
+            (λ ps. tree_of self.old ≡ trees.map (tree_pairs_of ps.now.items)) }
     {
         if let Value::Map(pairs) = self {
             Some(pairs)
