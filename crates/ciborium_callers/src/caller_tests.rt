@@ -8,11 +8,12 @@ use crate::own_callers::{
 };
 use crate::own_types::{Figure, Message, Moment, Span};
 use crate::sequence_callers::{read_both, write_both};
+use crate::struct_types::Reply;
 use crate::tag_types::bytes_under_a_tag;
 use crate::test_bytes::decode_hex;
 use ciborium::laws::{sources_agree, written_is_read_back};
 use ciborium::ser::Serialize;
-use ciborium::tag::Required;
+use ciborium::tag::{Accepted, Captured, Required};
 use ciborium::value::{CanonicalValue, Value};
 use std::alloc::Global;
 use std::collections::BTreeMap;
@@ -176,6 +177,8 @@ fn a_value_is_read_with_every_clause(rt: HostRuntime) -> Result<(), Fail> {
     written_is_read_back::<BTreeMap<String, Vec<i64>>>();
     written_is_read_back::<Required<Vec<Captured<String>>, 7>>();
     written_is_read_back::<Option<Accepted<u32, 8>>>();
+    written_is_read_back::<Vec<Message>>();
+    written_is_read_back::<Reply>();
     sources_agree::<Span>();
     expect(reader == &[2u8][..], "another rest")
 }

@@ -1,9 +1,14 @@
 //! Types of a user's own, each with the item that it writes, or with what it reads of an item, as a
 //! user gives them.
+ghost use Rattle.std.proofs.Common.{lit<};
 ghost use Rattle.std.specs.Prelude.{◌∷◌, ◌%◌, Err, Ok, [], codes, if◌then◌else◌, map, nat_eq, pos};
-ghost use Rattle.std.specs.Prelude.{List, nat_le, string_bytes, ℕ};
+ghost use Rattle.std.specs.Prelude.{◌<◌, ◌^◌, List, nat_le, refl, string_bytes, ℕ};
 ghost use Rattle.ciborium_value.specs.Places.{dictionary, sequence};
 ghost use Rattle.ciborium_value.specs.Readings.{below, such_that, tuple2_of};
+ghost use Rattle.ciborium_value.specs.ReadsBack.{text-back};
+ghost use Rattle.ciborium_value.specs.ReadsBackNumbers.{unsigned-back};
+ghost use Rattle.ciborium_value.specs.ReadsBackStructs.{field_back, fields_read_back};
+ghost use Rattle.ciborium_value.specs.ReadsBackStructs.{no_field_back};
 ghost use Rattle.ciborium_value.specs.Sinks.{container_of, fields_of, in_turn, named_text};
 ghost use Rattle.ciborium_value.specs.Sinks.{number_item, open_container_of, tag_of};
 ghost use Rattle.ciborium_value.specs.StructReadings.{field, no_field, struct_of};
@@ -14,6 +19,7 @@ ghost use Rattle.ciborium_callers.specs.declared.own_types.Figure.{Figure};
 ghost use Rattle.ciborium_callers.specs.declared.own_types.Figure.TheVariants.{Circle, Point};
 
 use ciborium::de::{Deserialize, Source, Wanted, read_fields, required};
+use ciborium::laws::ReadsBack;
 use ciborium::ser::{Field, NoField, Serialize, Sink};
 use ciborium::tag::Required;
 use ciborium::value::Kind;
@@ -54,6 +60,18 @@ impl Deserialize for Message {
             body: required(source, body)?,
         })
     }
+}
+
+impl ReadsBack for Message {
+    ghost is_held = { λ m. m.version < 2 ^ 8 };
+
+    ghost levels = { λ m. 1 };
+
+    ghost reads_back = { λ m held. fields_read_back
+        (field_back (codes "version") ⟦<u8 as Deserialize>⟧.reading
+        (unsigned-back 8 (lit< tt) m.version held)
+        (field_back (codes "body") ⟦<String as Deserialize>⟧.reading
+        (text-back string_bytes m.body tt) no_field_back)) refl };
 }
 
 /// A struct: an array of its fields.

@@ -1,11 +1,20 @@
 //! Structs that are written and read by the names of their fields.
+ghost use Rattle.std.proofs.Common.{lit<};
 ghost use Rattle.std.specs.Prelude.{◌∷◌, List, None, Ok, Option, [], codes, pos, string_bytes, ℕ};
+ghost use Rattle.std.specs.Prelude.{◌<◌, ◌^◌, Some, refl};
 ghost use Rattle.std.specs.Option.{option_map};
+ghost use Rattle.ciborium_value.specs.NeverNull.{always, never-text, optional-back};
+ghost use Rattle.ciborium_value.specs.Readings as readings;
+ghost use Rattle.ciborium_value.specs.ReadsBack.{text-back};
+ghost use Rattle.ciborium_value.specs.ReadsBackNumbers.{unsigned-back};
+ghost use Rattle.ciborium_value.specs.ReadsBackStructs.{field_back, field_from_back};
+ghost use Rattle.ciborium_value.specs.ReadsBackStructs.{fields_read_back, no_field_back};
 ghost use Rattle.ciborium_value.specs.Sinks.{fields_of, named_text, number_item, option_of};
 ghost use Rattle.ciborium_value.specs.StructReadings.{field, field_or, no_field, optional_field};
 ghost use Rattle.ciborium_value.specs.StructReadings.{struct_of};
 
 use ciborium::de::{Deserialize, Source, Wanted, read_fields, required};
+use ciborium::laws::ReadsBack;
 use ciborium::ser::{Field, NoField, Serialize, Sink};
 use std::alloc::Global;
 
@@ -118,4 +127,21 @@ impl Deserialize for Reply {
             text: required(source, text)?,
         })
     }
+}
+
+impl ReadsBack for Reply {
+    ghost is_held = { λ r. r.number < 2 ^ 8 };
+
+    ghost levels = { λ r. 1 };
+
+    ghost reads_back = { λ r held. fields_read_back
+        (field_back (codes "title") ⟦<String as Deserialize>⟧.reading
+        (text-back string_bytes r.title tt)
+        (field_from_back (codes "number") ⟦<u8 as Deserialize>⟧.reading (Some 200)
+        (unsigned-back 8 (lit< tt) r.number held)
+        (field_from_back (codes "text") (readings.option_of ⟦<String as Deserialize>⟧.reading)
+        (Some None)
+        (optional-back (text-back string_bytes) (λ s. never-text (string_bytes s))
+        r.text (always r.text))
+        no_field_back))) refl };
 }

@@ -59,3 +59,15 @@ pub option-back : {T C : Type 0} {IsHeld : T → Type 0} {written : T → Named}
 option-back {taken = taken} back never None held i e l fits = of_ok (named (items.simple 22)) (λ j. taken_option taken l j ≡ gives None) refl i e
 option-back {taken = taken} back never (Some v) held i e l fits =
     ap (λ t. if t then gives None else outcome_map Some (taken l i)) (never v i e) ∙ ap (outcome_map Some) (back v held i e l fits)
+
+-- the same, of contents that all take so many levels
+pub optional-back : {T C : Type 0} {IsHeld : T → Type 0} {written : T → Named} {taken : Taken C} {content : T → C} {n : ℕ} → IsReadBack IsHeld written taken content (λ v. n) → ((v : T) → IsNeverNull (written v)) →
+    IsReadBack (λ o. IfSome o IsHeld) (option_of written) (taken_option taken) (option_map content) (λ o. n)
+optional-back {taken = taken} back never None held i e l fits = of_ok (named (items.simple 22)) (λ j. taken_option taken l j ≡ gives None) refl i e
+optional-back {taken = taken} back never (Some v) held i e l fits =
+    ap (λ t. if t then gives None else outcome_map Some (taken l i)) (never v i e) ∙ ap (outcome_map Some) (back v held i e l fits)
+
+-- what holds of every value holds of what there is
+pub always : {T : Type 0} (o : Option T) → IfSome o (λ v. Unit {0})
+always None = tt
+always (Some v) = tt

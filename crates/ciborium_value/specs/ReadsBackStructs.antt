@@ -79,55 +79,55 @@ pub record FieldsReadBack {C D : Type 0} (fields : Fields C D) (fs : List (List 
 pub no_field_back : FieldsReadBack no_field [] tt 0
 no_field_back = record { back = λ apart l fits. refl }
 
-with-first : {A C D : Type 0} (a : A) (complete : C → Outcome D) (o : Outcome C) (d : D) → then_take o complete ≡ gives d →
-    then_take (outcome_map (λ c. (Some a, c)) o) (λ c. required c.0 (complete c.1)) ≡ gives (a, d)
-with-first a complete (gives c) d h = ap (outcome_map (λ d. (a, d))) h
-with-first a complete (refuses k) d h = cc
-with-first a complete nests d h = cc
+same-name : (name : List ℕ) → bytes_eq name name ≡ true
+same-name name = (bytes_eq-Decides name name).1 refl
 
-module _ {T A C D : Type 0} (name : List ℕ) (r : Reading T A) (first : Option A) {behind : Fields C D} {fs : List (List ℕ × Named)} {d : D} {m : ℕ} where
-  abbrev fields : Fields (Option A × C) (A × D)
-  fields = field_from name r first behind
+-- the fields behind are read as these
+abbrev AreRead : {C D : Type 0} → Fields C D → D → Limit → List Item → Type 0
+AreRead fields d l is = then_take (take_fields fields.read l fields.start (pairs is)) fields.complete ≡ gives d
 
-  abbrev IsRead : A → Limit → List Item → Type 0
-  IsRead a l is = then_take (take_fields fields.read l fields.start (pairs is)) fields.complete ≡ gives (a, d)
+module _ {T A C D : Type 0} (name : List ℕ) (r : Reading T A) (behind : Fields C D) (d : D) (a : A) where
+  abbrev completed : Option A × C → Outcome (A × D)
+  completed c = required c.0 (behind.complete c.1)
 
-  abbrev IsReadBehind : Limit → List Item → Type 0
-  IsReadBehind l is = then_take (take_fields behind.read l behind.start (pairs is)) behind.complete ≡ gives d
+  with-first : (o : Outcome C) → then_take o behind.complete ≡ gives d → then_take {A = Option A × C} (outcome_map (λ c. (Some a, c)) o) completed ≡ gives (a, d)
+  with-first (gives c) h = ap (outcome_map (λ d. (a, d))) h
+  with-first (refuses k) h = cc
+  with-first nests h = cc
 
-  same-name : (name : List ℕ) → bytes_eq name name ≡ true
-  same-name name = (bytes_eq-Decides name name).1 refl
+  -- all fields, where so much was read of the first one
+  abbrev with : Option A → Limit → Outcome (Option A × C) → List Item → Outcome (A × D)
+  with first l o is = then_take (then_take o (λ e. take_fields (field_taken name r.taken r.steady behind.read) l e (pairs is))) completed
 
-  from-first : (a : A) (l : Limit) (w : Named) (rest : Result (List Item) Kind) → IfOk w (λ i. r.taken l i ≡ gives a) → IfOk rest (IsLeft name r.taken r.steady behind.read l (Some a)) → IfOk rest (IsReadBehind l) →
-      IfOk (and_then (named_text name) (and_then w rest)) (IsRead a l)
-  from-first a l (Ok i) (Ok is) given leaves h =
-      let step = λ (o : Outcome (Option A × C)). then_take (then_take o (λ e. take_fields fields.read l e (pairs is))) fields.complete in
-      ap (λ t. step (if t then outcome_map (λ v. (Some v, behind.start)) (r.taken l i) else outcome_map (λ e. (first, e)) (behind.read.taken name behind.start l i))) (same-name name)
-      ∙ ap (λ o. step (outcome_map (λ v. (Some v, behind.start)) o)) given
-      ∙ ap (λ o. then_take o fields.complete) (leaves behind.start)
-      ∙ with-first a behind.complete (take_fields behind.read l behind.start (pairs is)) d h
-  from-first a l (Ok i) (Err k) given leaves h = tt
-  from-first a l (Err k) rest given leaves h = tt
+  from-first : (first : Option A) (l : Limit) (w : Named) (rest : Result (List Item) Kind) → IfOk w (λ i. r.taken l i ≡ gives a) → IfOk rest (IsLeft name r.taken r.steady behind.read l (Some a)) → IfOk rest (AreRead behind d l) →
+      IfOk (and_then (named_text name) (and_then w rest)) (AreRead (field_from name r first behind) (a, d) l)
+  from-first first l (Ok i) (Ok is) given leaves h =
+      ap (λ t. with first l (if t then outcome_map (λ v. (Some v, behind.start)) (r.taken l i) else outcome_map (λ e. (first, e)) (behind.read.taken name behind.start l i)) is) (same-name name)
+      ∙ ap (λ o. with first l (outcome_map (λ v. (Some v, behind.start)) o) is) given
+      ∙ ap (λ o. then_take o completed) (leaves behind.start)
+      ∙ with-first (take_fields behind.read l behind.start (pairs is)) h
+  from-first first l (Ok i) (Err k) given leaves h = tt
+  from-first first l (Err k) rest given leaves h = tt
 
-  -- a field under its name, of which at first this was read, and those behind it
-  pub field_from_back : {w : Named} {a : A} {n : ℕ} → IsNameRead w r.taken a n → FieldsReadBack behind fs d m → FieldsReadBack (field_from name r first behind) ((name, w) ∷ fs) (a, d) (max n m)
-  field_from_back {w = w} {a = a} {n = n} law rest = record {
-    back = λ apart l fits. let both = first-apart (is_named name fs) (are_apart fs) apart in
-        from-first a l w (parts_of fs) (at w r.taken a n law l (within-left l n m fits)) (left name r.taken r.steady behind.read l (Some a) fs both.0)
-        (rest.back both.1 l (within-right l n m fits));
-  }
+  without : (l : Limit) (rest : Result (List Item) Kind) → IfOk rest (IsLeft name r.taken r.steady behind.read l (Some a)) → IfOk rest (AreRead behind d l) → IfOk rest (AreRead (field_or name r a behind) (a, d) l)
+  without l (Ok is) leaves h = ap (λ o. then_take o completed) (leaves behind.start) ∙ with-first (take_fields behind.read l behind.start (pairs is)) h
+  without l (Err k) leaves h = tt
 
--- a field that is left out: it is what was there at first
-module _ {T A C D : Type 0} (name : List ℕ) (r : Reading T A) (default : A) {behind : Fields C D} {fs : List (List ℕ × Named)} {d : D} {m : ℕ} where
-  without-first : (l : Limit) (rest : Result (List Item) Kind) → IfOk rest (IsLeft name r.taken r.steady behind.read l (Some default)) → IfOk rest (λ is. then_take (take_fields behind.read l behind.start (pairs is)) behind.complete ≡ gives d) →
-      IfOk rest (λ is. then_take (take_fields (field_taken name r.taken r.steady behind.read) l (Some default, behind.start) (pairs is)) (λ c. required c.0 (behind.complete c.1)) ≡ gives (default, d))
-  without-first l (Ok is) leaves h = ap (λ o. then_take o (λ c. required c.0 (behind.complete c.1))) (leaves behind.start) ∙ with-first default behind.complete (take_fields behind.read l behind.start (pairs is)) d h
-  without-first l (Err k) leaves h = tt
+-- a field under its name, of which at first this was read, and those behind it
+pub field_from_back : {T A C D : Type 0} (name : List ℕ) (r : Reading T A) (first : Option A) {behind : Fields C D} {fs : List (List ℕ × Named)} {d : D} {m : ℕ} {w : Named} {a : A} {n : ℕ} →
+    IsNameRead w r.taken a n → FieldsReadBack behind fs d m → FieldsReadBack (field_from name r first behind) ((name, w) ∷ fs) (a, d) (max n m)
+field_from_back name r first {behind = behind} {fs = fs} {d = d} {m = m} {w = w} {a = a} {n = n} law rest = record {
+  back = λ apart l fits. let both = first-apart (is_named name fs) (are_apart fs) apart in
+      from-first name r behind d a first l w (parts_of fs) (at w r.taken a n law l (within-left l n m fits))
+      (left name r.taken r.steady behind.read l (Some a) fs both.0) (rest.back both.1 l (within-right l n m fits));
+}
 
-  pub left_out_back : is_named name fs ≡ false → FieldsReadBack behind fs d m → FieldsReadBack (field_or name r default behind) fs (default, d) m
-  left_out_back new rest = record {
-    back = λ apart l fits. without-first l (parts_of fs) (left name r.taken r.steady behind.read l (Some default) fs new) (rest.back apart l fits);
-  }
+-- a field that is left out, of which this was there at first
+pub left_out_back : {T A C D : Type 0} (name : List ℕ) (r : Reading T A) (default : A) {behind : Fields C D} {fs : List (List ℕ × Named)} {d : D} {m : ℕ} →
+    is_named name fs ≡ false → FieldsReadBack behind fs d m → FieldsReadBack (field_or name r default behind) fs (default, d) m
+left_out_back name r default {behind = behind} {fs = fs} {d = d} new rest = record {
+  back = λ apart l fits. without name r behind d default l (parts_of fs) (left name r.taken r.steady behind.read l (Some default) fs new) (rest.back apart l fits);
+}
 
 -- a field under its name, and those behind it
 pub field_back : {T A C D : Type 0} (name : List ℕ) (r : Reading T A) {behind : Fields C D} {fs : List (List ℕ × Named)} {d : D} {m : ℕ} {w : Named} {a : A} {n : ℕ} → IsNameRead w r.taken a n → FieldsReadBack behind fs d m →
