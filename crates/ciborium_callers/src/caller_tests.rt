@@ -179,6 +179,7 @@ fn a_value_is_read_with_every_clause(rt: HostRuntime) -> Result<(), Fail> {
     written_is_read_back::<Option<Accepted<u32, 8>>>();
     written_is_read_back::<Vec<Message>>();
     written_is_read_back::<Reply>();
+    written_is_read_back::<Span>();
     sources_agree::<Span>();
     expect(reader == &[2u8][..], "another rest")
 }

@@ -2,11 +2,12 @@
 //! user gives them.
 ghost use Rattle.std.proofs.Common.{lit<};
 ghost use Rattle.std.specs.Prelude.{◌∷◌, ◌%◌, Err, Ok, [], codes, if◌then◌else◌, map, nat_eq, pos};
-ghost use Rattle.std.specs.Prelude.{◌<◌, ◌^◌, List, nat_le, refl, string_bytes, ℕ};
+ghost use Rattle.std.specs.Prelude.{◌<◌, ◌≡◌, ◌^◌, List, nat_le, refl, string_bytes, true, ℕ};
 ghost use Rattle.ciborium_value.specs.Places.{dictionary, sequence};
 ghost use Rattle.ciborium_value.specs.Readings.{below, such_that, tuple2_of};
 ghost use Rattle.ciborium_value.specs.ReadsBack.{text-back};
 ghost use Rattle.ciborium_value.specs.ReadsBackNumbers.{unsigned-back};
+ghost use Rattle.ciborium_value.specs.ReadsBackParts.{such_that_back, tuple2-back};
 ghost use Rattle.ciborium_value.specs.ReadsBackStructs.{field_back, fields_read_back};
 ghost use Rattle.ciborium_value.specs.ReadsBackStructs.{no_field_back};
 ghost use Rattle.ciborium_value.specs.Sinks.{container_of, fields_of, in_turn, named_text};
@@ -270,4 +271,14 @@ impl Deserialize for Span {
         }
         Ok(Span { start, end })
     }
+}
+
+impl ReadsBack for Span {
+    ghost is_held = { λ s. (s.start < 2 ^ 8) × (s.end < 2 ^ 8) × (nat_le s.start s.end ≡ true) };
+
+    ghost levels = { λ s. 1 };
+
+    ghost reads_back = { λ s held. such_that_back (λ p. nat_le p.0 p.1) Range
+        (tuple2-back (unsigned-back 8 (lit< tt) s.start held.0)
+        (unsigned-back 8 (lit< tt) s.end held.1)) held.2 };
 }

@@ -3,15 +3,15 @@ use Rattle.std.proofs.Common.{ap, ◌∙◌, arith, zero}
 use Rattle.std.proofs.Math.Nat.{le-max_left, le-max_right}
 use Rattle.std.proofs.lemmas.List.Elements.{All-head, All-tail}
 use Rattle.std.specs.List.{All}
-use Rattle.std.specs.Prelude.{◌≡◌, ℕ, suc, max, false, List, [], ◌∷◌, map, Some, None, Result, Ok, Err, IfOk, refl}
+use Rattle.std.specs.Prelude.{◌≡◌, ℕ, suc, max, Bool, true, false, List, [], ◌∷◌, map, Some, None, Result, Ok, Err, IfOk, if◌then◌else◌, refl}
 use Rattle.ciborium_ll.specs.Item.{Item}
 use Rattle.ciborium_value.specs.Nesting.{Limit, IsWithin}
 use Rattle.ciborium_value.specs.Places.{sequence, items_from}
 use Rattle.ciborium_value.specs.ReadsBack.{IsNameRead, IsReadBack, if_ok, of_ok}
 use Rattle.ciborium_value.specs.Sinks.{Named, and_then, all_named, contained, container_of}
 use Rattle.ciborium_value.specs.Steady.{after_seq}
-use Rattle.ciborium_value.specs.Taken.{Outcome, Taken, gives, and_take, take_each, then_take, unpack}
-use Rattle.ciborium_value.specs.TakenParts.{list_items, taken_list, tuple_part, tuple_rest, tuple1_items, taken_tuple1, tuple2_items, taken_tuple2, tuple3_items, taken_tuple3, tuple4_items, taken_tuple4}
+use Rattle.ciborium_value.specs.Taken.{Outcome, Taken, gives, refuses, and_take, take_each, then_take, unpack}
+use Rattle.ciborium_value.specs.TakenParts.{taken_then, list_items, taken_list, tuple_part, tuple_rest, tuple1_items, taken_tuple1, tuple2_items, taken_tuple2, tuple3_items, taken_tuple3, tuple4_items, taken_tuple4}
 use Rattle.ciborium_value.specs.declared.kind.Kind.{Kind}
 
 -- the greatest of these levels, or 0
@@ -49,6 +49,14 @@ inside k (Err e) c n h l fits = tt
 
 sequence-back : {C : Type 0} (k : Limit → List Item → Outcome C) (s : Result (List Item) Kind) (c : C) (n : ℕ) → ((l : Limit) → IsWithin l n → IfOk s (λ is. k l is ≡ gives c)) → IsNameRead (contained sequence false s) (after_seq k) c (suc n)
 sequence-back k s c n h i e l fits = of_ok (contained sequence false s) (λ j. after_seq k l j ≡ gives c) (inside k s c n h l fits) i e
+
+-- ---- tests
+
+-- what passes the test of a type is read as what it is a test of (`such_that`)
+pub such_that_back : {C : Type 0} (test : C → Bool) (kind : Kind) {w : Named} {taken : Taken C} {c : C} {n : ℕ} → IsNameRead w taken c n → test c ≡ true →
+    IsNameRead w (taken_then taken (λ v. if test v then gives v else refuses kind)) c n
+such_that_back test kind {taken = taken} {c = c} law passes i e l fits =
+    ap (λ o. then_take o (λ v. if test v then gives v else refuses kind)) (law i e l fits) ∙ ap (λ t. if t then gives c else refuses kind) passes
 
 -- ---- lists
 
