@@ -180,6 +180,7 @@ fn a_value_is_read_with_every_clause(rt: HostRuntime) -> Result<(), Fail> {
     written_is_read_back::<Vec<Message>>();
     written_is_read_back::<Reply>();
     written_is_read_back::<Span>();
+    written_is_read_back::<Figure>();
     sources_agree::<Span>();
     expect(reader == &[2u8][..], "another rest")
 }

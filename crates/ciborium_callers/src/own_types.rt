@@ -10,6 +10,7 @@ ghost use Rattle.ciborium_value.specs.ReadsBackNumbers.{unsigned-back};
 ghost use Rattle.ciborium_value.specs.ReadsBackParts.{such_that_back, tuple2-back};
 ghost use Rattle.ciborium_value.specs.ReadsBackStructs.{field_back, fields_read_back};
 ghost use Rattle.ciborium_value.specs.ReadsBackStructs.{no_field_back};
+ghost use Rattle.ciborium_value.specs.ReadsBackVariants.{data_variant_back, unit_variant_back};
 ghost use Rattle.ciborium_value.specs.Sinks.{container_of, fields_of, in_turn, named_text};
 ghost use Rattle.ciborium_value.specs.Sinks.{number_item, open_container_of, tag_of};
 ghost use Rattle.ciborium_value.specs.StructReadings.{field, no_field, struct_of};
@@ -136,6 +137,19 @@ impl Deserialize for Figure {
         }
         Err(source.refuse(Kind::Variant))
     }
+}
+
+impl ReadsBack for Figure {
+    ghost is_held = { elim [ Point ↦ Unit {0} | Circle r ↦ r < 2 ^ 8 ] };
+
+    ghost levels = { λ f. 1 };
+
+    ghost reads_back = { let variants = unit_variant (codes "Point") Point
+        ∷ data_variant (codes "Circle") Circle (below 256) ∷ [] in elim [
+          | Point ↦ λ held. unit_variant_back variants (codes "Point") (λ l. refl)
+          | Circle r ↦ λ held. data_variant_back variants (codes "Circle") Circle (below 256)
+              (λ l i. refl) (unsigned-back 8 (lit< tt) r held)
+        ] };
 }
 
 /// An even number. An odd one has no item.

@@ -48,5 +48,6 @@ pub mod ReadsBackBignums
 pub mod ReadsBackNumbers
 pub mod ReadsBackParts
 pub mod ReadsBackStructs
+pub mod ReadsBackVariants
 pub mod NeverNull
 pub mod ReadsBackMaps
