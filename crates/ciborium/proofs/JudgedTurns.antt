@@ -15,7 +15,7 @@ use Rattle.ciborium_value.specs.Refuses.{IsFoldingAt}
 use Rattle.ciborium_value.specs.Tree as trees
 use Rattle.ciborium_value.specs.Tree.{Tree}
 use Rattle.ciborium_value.specs.View.{trees_from, tree_pairs_from}
-use Rattle.ciborium_value.proofs.Folding.{short_string-item_of}
+use Rattle.ciborium_value.specs.ItemsOfTrees.{short_string-item_of}
 use Rattle.ciborium.specs.Around.{in_turn, IsAround}
 use Rattle.ciborium.specs.Deterministic.{AreRising, IsAccepted}
 use Rattle.ciborium.specs.Reads.{ReadsItem}

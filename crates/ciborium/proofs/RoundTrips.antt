@@ -1,11 +1,12 @@
--- What is written is read back, from bytes.
-use Rattle.std.proofs.Common.{◌≡◌, ℕ, List, ◌++◌, length, Option, Some, Result, Ok, Err, refl, sym, ap, ◌∙◌, ◌+◌, subst, arith}
+-- What is written is read back, from bytes and from a tree.
+use Rattle.std.proofs.Common.{◌≡◌, ℕ, List, ◌++◌, length, Option, Some, None, Result, Ok, Err, refl, sym, ap, ◌∙◌, ◌+◌, subst, arith}
 use Rattle.std.specs.declared.io.Error.{Error as IoError}
 use Rattle.ciborium_ll.specs.Item.{Item}
 use Rattle.ciborium_ll.proofs.UniqueSpelling.{one_at_front}
 use Rattle.ciborium_value.specs.Encoding.{written_bytes}
-use Rattle.ciborium_value.specs.Nesting.{Limit, IsWithin}
+use Rattle.ciborium_value.specs.Nesting.{IsWithin}
 use Rattle.ciborium_value.specs.Readings.{Reading}
+use Rattle.ciborium_value.specs.ReadsBack.{IsReadBack, by_bytes, by_tree}
 use Rattle.ciborium_value.specs.Sinks.{Named}
 use Rattle.ciborium_value.specs.Sources.{Fault, of_kind, of_nesting, of_syntax, of_memory, of_device, of_length, IsFaultOf, IsOutside}
 use Rattle.ciborium_value.specs.Taken.{Outcome, gives, refuses, nests}
@@ -13,7 +14,8 @@ use Rattle.ciborium_value.specs.WrittenItems.{IsWritten}
 use Rattle.ciborium_value.proofs.ReadBack.{written_item_spells}
 use Rattle.ciborium.specs.declared.de.error.Error.{Error}
 use Rattle.ciborium.specs.ByteSources.{cause_of}
-use Rattle.ciborium.specs.RoundTrips.{BytesReadBack, IsGivenBack}
+use Rattle.ciborium_value.specs.declared.serialized.Error.TheVariants as of_tree
+use Rattle.ciborium.specs.RoundTrips.{BytesReadBack, IsGivenBack, TreeReadBack}
 use Rattle.ciborium.specs.TypedReads.{AnswersBytes}
 
 -- where a value is given no item is to blame
@@ -29,11 +31,11 @@ one-content : {C : Type 0} (o : Outcome C) (c d : C) → o ≡ gives c → o ≡
 one-content o c d h k = cc
 
 pub bytes_read_back : {T C : Type 0} (IsHeld : T → Type 0) (written : T → Named) (reading : Reading T C) (levels : T → ℕ) →
-    ((v : T) → IsHeld v → (i : Item) → written v ≡ Ok i → (l : Limit) → IsWithin l (levels v) → reading.taken l i ≡ gives (reading.content v)) → BytesReadBack IsHeld written reading levels
+    IsReadBack IsHeld written reading.taken reading.content levels → BytesReadBack IsHeld written reading levels
 bytes_read_back {T} {C} IsHeld written reading levels law v i l rest after r held names fits within answers = by r answers
   where
     given : reading.taken (Some l) i ≡ gives (reading.content v)
-    given = law v held i names (Some l) within
+    given = (law v held).back by_bytes i names (Some l) within
 
     by : (r : Result C (Error IoError)) → AnswersBytes reading.taken l (written_bytes i ++ rest) after r → IsGivenBack (reading.content v) rest (length (written_bytes i ++ rest)) after r
     by (Ok c) (taken, refused) =
@@ -47,3 +49,8 @@ bytes_read_back {T} {C} IsHeld written reading levels law v i l rest after r hel
         let none : 0 + n ≡ n = omega arith in
         subst (λ m. IsOutside m (cause_of e)) none
         (not-blamed (0 + n) (cause_of e) (reading.taken (Some l) i) (reading.content v) given (refused (written_bytes i ++ rest) refl i (written_bytes i) rest (written_item_spells i fits) refl))
+
+pub tree_read_back : {T C : Type 0} (IsHeld : T → Type 0) (written : T → Named) (reading : Reading T C) (levels : T → ℕ) → IsReadBack IsHeld written reading.taken reading.content levels → TreeReadBack IsHeld written reading
+tree_read_back IsHeld written reading levels law v i (Ok d) held names answers = one-content _ (reading.content v) d ((law v held).back by_tree i names None tt) answers
+tree_read_back IsHeld written reading levels law v i (Err (of_tree.Custom k)) held names answers = let given = (law v held).back by_tree i names None tt in cc
+tree_read_back IsHeld written reading levels law v i (Err of_tree.Memory) held names answers = refl

@@ -20,7 +20,7 @@ use Rattle.ciborium_value.specs.Nesting.{nesting, tag_nesting}
 use Rattle.ciborium_value.specs.Refuses.{IsFoldingAt}
 use Rattle.ciborium_value.specs.Tree.{Tree, integer, bytes, boolean, null, tag}
 use Rattle.ciborium_value.proofs.Answered.{folding-folds, folds-none}
-use Rattle.ciborium_value.proofs.Folding.{short_string-item_of}
+use Rattle.ciborium_value.specs.ItemsOfTrees.{short_string-item_of}
 use Rattle.ciborium_value.proofs.Found.{spells-pos}
 use Rattle.ciborium_value.proofs.Reader.{allowed, past, folding, is_too_large}
 use Rattle.ciborium_value.proofs.Refused.{rest-bytes, bytes_again, kind_ok, kind_allowed, folds-front}

@@ -15,7 +15,7 @@ use Rattle.ciborium_value.specs.Folded.{folded, short_bytes, tree_folding_bytes}
 use Rattle.ciborium_value.specs.Meaning.{is_bignum_tag, tag_meaning, folding_bytes}
 use Rattle.ciborium_value.specs.Nesting.{nesting, tag_nesting}
 use Rattle.ciborium_value.specs.Tree.{Tree, integer, bytes, text, boolean, null, tag, array, map, tree_pairs_count}
-use Rattle.ciborium_value.proofs.Folding.{short_string-item_of}
+use Rattle.ciborium_value.specs.ItemsOfTrees.{short_string-item_of}
 use Rattle.ciborium_value.proofs.Found.{spells-pos, short-none}
 use Rattle.ciborium_value.proofs.Outcome.{each_is_byte}
 use Rattle.ciborium_value.proofs.Reader.{allowed, past, folding}

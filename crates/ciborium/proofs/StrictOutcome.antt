@@ -7,7 +7,7 @@ use Rattle.ciborium_ll.proofs.UniqueSpelling.{one_at_front}
 use Rattle.ciborium_value.specs.Encoding.{encoding, item_of, written_tree}
 use Rattle.ciborium_value.specs.Tree.{Tree}
 use Rattle.ciborium_value.proofs.Outcome.{each_is_byte, enough}
-use Rattle.ciborium_value.proofs.ReadBack.{tree_is_written_as_itself}
+use Rattle.ciborium_value.specs.ItemsOfTrees.{tree_is_written_as_itself}
 use Rattle.ciborium.specs.Deterministic.{IsDeterministicAt}
 use Rattle.ciborium.specs.DeterministicLaws.{HasDeterministic, DeterministicOrRefused, NeverBothDeterministically, OneDeterministicRefusal, OneDeterministicTree}
 use Rattle.ciborium.specs.DeterministicRefusals.{DeterministicallyRefuses}

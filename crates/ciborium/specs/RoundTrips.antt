@@ -1,16 +1,18 @@
--- What is written is read back, from bytes.
+-- What is written is read back, from bytes and from a tree.
 use Rattle.std.specs.Prelude.{◌≡◌, ℕ, List, ◌++◌, length, Option, Some, Result, Ok, Err}
 use Rattle.std.specs.declared.io.Error.{Error as IoError}
 use Rattle.ciborium_ll.specs.Item.{Item}
-use Rattle.ciborium_value.specs.Encoding.{written_bytes}
+use Rattle.ciborium_value.specs.Encoding.{item_of, written_bytes, written_tree}
 use Rattle.ciborium_value.specs.Nesting.{IsWithin}
 use Rattle.ciborium_value.specs.Readings.{Reading}
 use Rattle.ciborium_value.specs.Sinks.{Named}
 use Rattle.ciborium_value.specs.Sources.{IsOutside, read_as}
 use Rattle.ciborium_value.specs.WrittenItems.{IsWritten}
+use Rattle.ciborium_value.specs.declared.serialized.Error.{Error as TreeError}
+use Rattle.ciborium_value.specs.declared.serialized.Error.TheVariants as of_tree
 use Rattle.ciborium.specs.declared.de.error.Error.{Error}
 use Rattle.ciborium.specs.ByteSources.{cause_of}
-use Rattle.ciborium.specs.TypedReads.{AnswersBytes}
+use Rattle.ciborium.specs.TypedReads.{AnswersBytes, AnswersTree}
 
 -- the content is answered and what followed is left; or the call failed, for what no item decides
 abbrev pub IsGivenBack : {C E : Type 0} → C → List ℕ → ℕ → Option (List ℕ) → Result C (Error E) → Type 0
@@ -24,3 +26,13 @@ BytesReadBack {T} {C} IsHeld written reading levels =
     IsHeld v → written v ≡ Ok i → IsWritten i → IsWithin (Some l) (levels v) →
     AnswersBytes reading.taken l (written_bytes i ++ rest) after r →
     IsGivenBack (reading.content v) rest (length (written_bytes i ++ rest)) after r
+
+-- the content is answered; or memory was refused
+abbrev pub IsMadeAgain : {C : Type 0} → C → Result C TreeError → Type 0
+IsMadeAgain c (Ok d) = d ≡ c
+IsMadeAgain c (Err e) = e ≡ of_tree.Memory
+
+-- reading the tree that is made of what a value names, without a limit
+abbrev pub TreeReadBack : {T C : Type 0} → (T → Type 0) → (T → Named) → Reading T C → Type 0
+TreeReadBack {T} {C} IsHeld written reading =
+    (v : T) (i : Item) (r : Result C TreeError) → IsHeld v → written v ≡ Ok i → AnswersTree reading.taken (item_of (written_tree i)) r → IsMadeAgain (reading.content v) r

@@ -11,7 +11,7 @@ ghost use Rattle.ciborium.specs.DeterministicLaws.{NeverBothDeterministically};
 ghost use Rattle.ciborium.specs.DeterministicLaws.{OneDeterministicRefusal, OneDeterministicTree};
 ghost use Rattle.ciborium.specs.EncodingLaws.{EncodingSpells, HeadsRise, OneTree, OthersAreLonger};
 ghost use Rattle.ciborium.specs.ItemSequences.{OneSequence};
-ghost use Rattle.ciborium.specs.RoundTrips.{BytesReadBack};
+ghost use Rattle.ciborium.specs.RoundTrips.{BytesReadBack, TreeReadBack};
 ghost use Rattle.ciborium.specs.TypedReads.{SourcesAgree};
 ghost use Rattle.ciborium.specs.Writes.{IsNamedWritten};
 
@@ -78,9 +78,12 @@ pub fn sources_agree<T: Deserialize>()
 /// What is written is read back: the bytes that `into_writer` puts out of a value, whatever follows
 /// them, give its content where as many levels are left as reading it takes, and what follows is
 /// left. Reading fails only for what no item decides: the reader, want of memory, or bytes that pass
-/// the greatest offset. It rests on the law that the type has (`ReadsBack`).
+/// the greatest offset. What `Value::serialized` makes of a value gives its content by
+/// `deserialized`, which fails for want of memory alone. It rests on the law that the type has
+/// (`ReadsBack`).
 pub fn written_is_read_back<T: ReadsBack>()
-    ensures { BytesReadBack T.is_held T.written T.reading T.levels }
+    ensures bytes { BytesReadBack T.is_held T.written T.reading T.levels }
+    ensures tree { TreeReadBack T.is_held T.written T.reading }
 {}
 
 /// All bytes, at every offset and under every limit of levels, begin with bytes that are

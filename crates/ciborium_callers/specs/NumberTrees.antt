@@ -1,5 +1,8 @@
 -- A type that holds itself: what its values are as trees, and which trees they are.
-use Rattle.std.specs.Prelude.{ℕ, pos, negsuc, Bool, true, false, ◌&&◌, nat_lt}
+use Rattle.std.proofs.Common.{ap, ◌∙◌}
+use Rattle.std.specs.Prelude.{◌≡◌, ℕ, pos, negsuc, Bool, true, false, ◌&&◌, nat_lt, Some, option_map, refl}
+use Rattle.ciborium_value.specs.Folded.{folded, trees_folded}
+use Rattle.ciborium_value.specs.Meaning.{trees_more}
 use Rattle.ciborium_value.specs.Number.{number_tree}
 use Rattle.ciborium_value.specs.Tree as trees
 use Rattle.ciborium_value.specs.Tree.{Tree, Trees}
@@ -32,3 +35,25 @@ abbrev mutual
   pub are_number_trees : Trees → Bool
   are_number_trees trees.no_trees = true
   are_number_trees (trees.tree v vs) = is_number_tree v && are_number_trees vs
+
+-- no bignum stands in such a tree, so folding changes nothing
+both : (s t : Bool) → (s && t) ≡ true → (s ≡ true) × (t ≡ true)
+both true t h = (refl, h)
+both false t h = cc
+
+mutual
+  pub folded-number_tree : (t : Tree) → is_number_tree t ≡ true → folded t ≡ Some t
+  folded-number_tree (trees.integer z) h = refl
+  folded-number_tree (trees.array vs) h = ap (option_map trees.array) (folded-number_trees vs h)
+  folded-number_tree (trees.bytes b) h = cc
+  folded-number_tree (trees.text b) h = cc
+  folded-number_tree (trees.boolean b) h = cc
+  folded-number_tree trees.null h = cc
+  folded-number_tree (trees.tag t v) h = cc
+  folded-number_tree (trees.map ps) h = cc
+
+  folded-number_trees : (vs : Trees) → are_number_trees vs ≡ true → trees_folded vs ≡ Some vs
+  folded-number_trees trees.no_trees h = refl
+  folded-number_trees (trees.tree v vs) h =
+      let parts = both (is_number_tree v) (are_number_trees vs) h in
+      ap (λ o. trees_more o (trees_folded vs)) (folded-number_tree v parts.0) ∙ ap (trees_more (Some v)) (folded-number_trees vs parts.1)

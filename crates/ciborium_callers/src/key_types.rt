@@ -1,8 +1,14 @@
 //! Types that are keys of maps: a struct and an enum, each with the order that it derives.
-ghost use Rattle.std.specs.Prelude.{◌∷◌, List, Ok, [], codes, pos, refl, string_bytes, ℕ};
+ghost use Rattle.std.specs.Prelude.{◌∷◌, ◌<◌, ◌^◌, List, Ok, [], codes, pos, refl, ℕ};
+ghost use Rattle.std.specs.Prelude.{string_bytes};
 ghost use Rattle.std.specs.Cmp.Lexicographic.{slice_cmp};
 ghost use Rattle.std.specs.Ordering.{nat_cmp, ordering_then};
 ghost use Rattle.ciborium_value.specs.Readings.{below, ordered_by};
+ghost use Rattle.ciborium_value.specs.ReadsBack.{string_back};
+ghost use Rattle.ciborium_value.specs.ReadsBackNumbers.{u8_back};
+ghost use Rattle.ciborium_value.specs.ReadsBackStructs.{field_back, fields_read_back};
+ghost use Rattle.ciborium_value.specs.ReadsBackStructs.{no_field_back};
+ghost use Rattle.ciborium_value.specs.ReadsBackVariants.{data_variant_back, unit_variant_back};
 ghost use Rattle.ciborium_value.specs.Sinks.{fields_of, named_text, number_item};
 ghost use Rattle.ciborium_value.specs.StructReadings.{field, no_field, struct_of};
 ghost use Rattle.ciborium_value.specs.VariantReadings.{data_variant, enum_of, unit_variant};
@@ -10,6 +16,7 @@ ghost use Rattle.ciborium_callers.specs.declared.key_types.Seat.{Seat};
 ghost use Rattle.ciborium_callers.specs.declared.key_types.Seat.TheVariants.{Taken, Free};
 
 use ciborium::de::{Deserialize, Key, Source, Wanted, read_fields, required};
+use ciborium::laws::ReadsBack;
 use ciborium::ser::{Field, NoField, Serialize, Sink};
 use ciborium::value::Kind;
 use std::alloc::Global;
@@ -50,6 +57,17 @@ impl Deserialize for Release {
             name: required(source, name)?,
         })
     }
+}
+
+impl ReadsBack for Release {
+    ghost is_held = { λ r. r.version < 2 ^ 8 };
+
+    ghost levels = { λ r. 1 };
+
+    ghost reads_back = { λ r held. fields_read_back
+        (field_back (codes "version") ⟦<u8 as Deserialize>⟧.reading (u8_back r.version held)
+        (field_back (codes "name") ⟦<String as Deserialize>⟧.reading (string_back r.name tt)
+        no_field_back)) refl };
 }
 
 impl Key for Release {
@@ -100,6 +118,19 @@ impl Deserialize for Seat {
         }
         Err(source.refuse(Kind::Variant))
     }
+}
+
+impl ReadsBack for Seat {
+    ghost is_held = { elim [ Free ↦ Unit {0} | Taken n ↦ n < 2 ^ 8 ] };
+
+    ghost levels = { λ s. 1 };
+
+    ghost reads_back = { let variants = unit_variant (codes "Free") Free
+        ∷ data_variant (codes "Taken") Taken (below 256) ∷ [] in elim [
+          | Free ↦ λ held. unit_variant_back variants (codes "Free") (λ l. refl)
+          | Taken n ↦ λ held. data_variant_back variants (codes "Taken") Taken (below 256)
+              (λ l i. refl) (u8_back n held)
+        ] };
 }
 
 impl Key for Seat {

@@ -1,12 +1,11 @@
 //! Types of a user's own, each with the item that it writes, or with what it reads of an item, as a
 //! user gives them.
-ghost use Rattle.std.proofs.Common.{lit<};
 ghost use Rattle.std.specs.Prelude.{◌∷◌, ◌%◌, Err, Ok, [], codes, if◌then◌else◌, map, nat_eq, pos};
 ghost use Rattle.std.specs.Prelude.{◌<◌, ◌≡◌, ◌^◌, List, nat_le, refl, string_bytes, true, ℕ};
 ghost use Rattle.ciborium_value.specs.Places.{dictionary, sequence};
 ghost use Rattle.ciborium_value.specs.Readings.{below, such_that, tuple2_of};
-ghost use Rattle.ciborium_value.specs.ReadsBack.{text-back};
-ghost use Rattle.ciborium_value.specs.ReadsBackNumbers.{unsigned-back};
+ghost use Rattle.ciborium_value.specs.ReadsBack.{string_back};
+ghost use Rattle.ciborium_value.specs.ReadsBackNumbers.{u64_back, u8_back};
 ghost use Rattle.ciborium_value.specs.ReadsBackParts.{such_that_back, tuple2-back};
 ghost use Rattle.ciborium_value.specs.ReadsBackStructs.{field_back, fields_read_back};
 ghost use Rattle.ciborium_value.specs.ReadsBackStructs.{no_field_back};
@@ -17,6 +16,7 @@ ghost use Rattle.ciborium_value.specs.StructReadings.{field, no_field, struct_of
 ghost use Rattle.ciborium_value.specs.TagReadings.{tag_required};
 ghost use Rattle.ciborium_value.specs.VariantReadings.{data_variant, enum_of, unit_variant};
 ghost use Rattle.ciborium_value.specs.declared.kind.Kind.TheVariants.{Other, Range};
+ghost use Rattle.ciborium.specs.ReadsBackTags.{required-back};
 ghost use Rattle.ciborium_callers.specs.declared.own_types.Figure.{Figure};
 ghost use Rattle.ciborium_callers.specs.declared.own_types.Figure.TheVariants.{Circle, Point};
 
@@ -71,9 +71,9 @@ impl ReadsBack for Message {
 
     ghost reads_back = { λ m held. fields_read_back
         (field_back (codes "version") ⟦<u8 as Deserialize>⟧.reading
-        (unsigned-back 8 (lit< tt) m.version held)
+        (u8_back m.version held)
         (field_back (codes "body") ⟦<String as Deserialize>⟧.reading
-        (text-back string_bytes m.body tt) no_field_back)) refl };
+        (string_back m.body tt) no_field_back)) refl };
 }
 
 /// A struct: an array of its fields.
@@ -148,7 +148,7 @@ impl ReadsBack for Figure {
         ∷ data_variant (codes "Circle") Circle (below 256) ∷ [] in elim [
           | Point ↦ λ held. unit_variant_back variants (codes "Point") (λ l. refl)
           | Circle r ↦ λ held. data_variant_back variants (codes "Circle") Circle (below 256)
-              (λ l i. refl) (unsigned-back 8 (lit< tt) r held)
+              (λ l i. refl) (u8_back r held)
         ] };
 }
 
@@ -253,6 +253,14 @@ impl Deserialize for Moment {
     }
 }
 
+impl ReadsBack for Moment {
+    ghost is_held = { λ m. m.seconds < 2 ^ 64 };
+
+    ghost levels = { λ m. 1 };
+
+    ghost reads_back = { λ m held. required-back 1 (u64_back m.seconds held) };
+}
+
 /// Two numbers that do not fall, as an array. Others are refused as out of range.
 #[derive(Debug, Drop, PartialEq)]
 pub struct Span {
@@ -293,6 +301,6 @@ impl ReadsBack for Span {
     ghost levels = { λ s. 1 };
 
     ghost reads_back = { λ s held. such_that_back (λ p. nat_le p.0 p.1) Range
-        (tuple2-back (unsigned-back 8 (lit< tt) s.start held.0)
-        (unsigned-back 8 (lit< tt) s.end held.1)) held.2 };
+        (tuple2-back (u8_back s.start held.0)
+        (u8_back s.end held.1)) held.2 };
 }

@@ -1,12 +1,11 @@
 //! Structs that are written and read by the names of their fields.
-ghost use Rattle.std.proofs.Common.{lit<};
 ghost use Rattle.std.specs.Prelude.{◌∷◌, List, None, Ok, Option, [], codes, pos, string_bytes, ℕ};
 ghost use Rattle.std.specs.Prelude.{◌<◌, ◌^◌, Some, refl};
 ghost use Rattle.std.specs.Option.{option_map};
 ghost use Rattle.ciborium_value.specs.NeverNull.{always, never-text, optional-back};
 ghost use Rattle.ciborium_value.specs.Readings as readings;
-ghost use Rattle.ciborium_value.specs.ReadsBack.{text-back};
-ghost use Rattle.ciborium_value.specs.ReadsBackNumbers.{unsigned-back};
+ghost use Rattle.ciborium_value.specs.ReadsBack.{string_back};
+ghost use Rattle.ciborium_value.specs.ReadsBackNumbers.{u8_back};
 ghost use Rattle.ciborium_value.specs.ReadsBackStructs.{field_back, field_from_back};
 ghost use Rattle.ciborium_value.specs.ReadsBackStructs.{fields_read_back, no_field_back};
 ghost use Rattle.ciborium_value.specs.Sinks.{fields_of, named_text, number_item, option_of};
@@ -86,6 +85,17 @@ impl Deserialize for Ends {
     }
 }
 
+impl ReadsBack for Ends {
+    ghost is_held = { λ e. (e.first < 2 ^ 8) × (e.second < 2 ^ 8) };
+
+    ghost levels = { λ e. 1 };
+
+    ghost reads_back = { λ e held. fields_read_back
+        (field_back (codes "first") ⟦<u8 as Deserialize>⟧.reading (u8_back e.first held.0)
+        (field_back (codes "second") ⟦<u8 as Deserialize>⟧.reading (u8_back e.second held.1)
+        no_field_back)) refl };
+}
+
 /// A struct with fields that may be missing: the number is then 200, and there is no text.
 #[derive(Debug, Drop, PartialEq)]
 pub struct Reply {
@@ -136,12 +146,12 @@ impl ReadsBack for Reply {
 
     ghost reads_back = { λ r held. fields_read_back
         (field_back (codes "title") ⟦<String as Deserialize>⟧.reading
-        (text-back string_bytes r.title tt)
+        (string_back r.title tt)
         (field_from_back (codes "number") ⟦<u8 as Deserialize>⟧.reading (Some 200)
-        (unsigned-back 8 (lit< tt) r.number held)
+        (u8_back r.number held)
         (field_from_back (codes "text") (readings.option_of ⟦<String as Deserialize>⟧.reading)
         (Some None)
-        (optional-back (text-back string_bytes) (λ s. never-text (string_bytes s))
+        (optional-back string_back (λ s. never-text (string_bytes s))
         r.text (always r.text))
         no_field_back))) refl };
 }

@@ -1,14 +1,19 @@
 //! A type that holds itself. It is read as a `Value`, of which it is made.
 ghost use Rattle.std.specs.Prelude.{◌≡◌, ◌⊎◌, IfErr, IfOk, Ok, false, map, true};
 ghost use Rattle.ciborium_value.specs.Encoding.{item_of};
+ghost use Rattle.ciborium_value.specs.Nesting.{nesting};
 ghost use Rattle.ciborium_value.specs.Readings.{such_that};
+ghost use Rattle.ciborium_value.specs.ReadsBackParts.{such_that_back};
+ghost use Rattle.ciborium_value.specs.ReadsBackValues.{value-back};
 ghost use Rattle.ciborium_value.specs.Tree as trees;
 ghost use Rattle.ciborium_value.specs.View.{tree_of, trees_of};
 ghost use Rattle.ciborium_value.specs.declared.kind.Kind.TheVariants.{Other};
 ghost use Rattle.ciborium_value.specs.declared.serialized.Error.TheVariants.{Custom, Memory};
-ghost use Rattle.ciborium_callers.specs.NumberTrees.{are_number_trees, is_number_tree, shape_of};
+ghost use Rattle.ciborium_callers.specs.NumberTrees.{are_number_trees, folded-number_tree};
+ghost use Rattle.ciborium_callers.specs.NumberTrees.{is_number_tree, shape_of};
 
 use ciborium::de::{Deserialize, Source};
+use ciborium::laws::ReadsBack;
 use ciborium::ser::{Serialize, Sink};
 use ciborium::value::{Error, Kind, Value};
 use std::alloc::Global;
@@ -47,6 +52,16 @@ impl Deserialize for NumberTree {
             Err(Error::Memory) => Err(source.memory()),
         }
     }
+}
+
+// It takes as many levels as it nests.
+impl ReadsBack for NumberTree {
+    ghost is_held = { λ t. is_number_tree (shape_of t) ≡ true };
+
+    ghost levels = { λ t. nesting (item_of (shape_of t)) };
+
+    ghost reads_back = { λ t held. such_that_back is_number_tree Other
+        (value-back (shape_of t) (folded-number_tree (shape_of t) held)) held };
 }
 
 // The tree that this value is; any other value is refused as `Other`.

@@ -1,7 +1,12 @@
 //! Enums that are written and read by the names of their variants.
-ghost use Rattle.std.specs.Prelude.{◌∷◌, Ok, [], codes, pos};
+ghost use Rattle.std.specs.Prelude.{◌∷◌, ◌<◌, ◌^◌, Ok, [], codes, pos, refl};
 ghost use Rattle.ciborium_value.specs.Places.{sequence};
 ghost use Rattle.ciborium_value.specs.Readings.{below, tuple2_of};
+ghost use Rattle.ciborium_value.specs.ReadsBackNumbers.{u8_back};
+ghost use Rattle.ciborium_value.specs.ReadsBackParts.{tuple2-back};
+ghost use Rattle.ciborium_value.specs.ReadsBackStructs.{field_back, fields_read_back};
+ghost use Rattle.ciborium_value.specs.ReadsBackStructs.{no_field_back};
+ghost use Rattle.ciborium_value.specs.ReadsBackVariants.{data_variant_back, unit_variant_back};
 ghost use Rattle.ciborium_value.specs.Sinks.{container_of, fields_of, named_text, number_item};
 ghost use Rattle.ciborium_value.specs.VariantReadings.{data_variant, enum_of, unit_variant};
 ghost use Rattle.ciborium_callers.specs.declared.variant_types.Form.{Form};
@@ -11,6 +16,7 @@ ghost use Rattle.ciborium_callers.specs.declared.variant_types.Letter.TheVariant
 
 use crate::struct_types::Ends;
 use ciborium::de::{Deserialize, Source};
+use ciborium::laws::ReadsBack;
 use ciborium::ser::{Field, NoField, Serialize, Sink};
 use ciborium::value::Kind;
 use std::alloc::Global;
@@ -58,6 +64,19 @@ impl Deserialize for Letter {
         }
         Err(source.refuse(Kind::Variant))
     }
+}
+
+impl ReadsBack for Letter {
+    ghost is_held = { elim [ A ↦ Unit {0} | B n ↦ n < 2 ^ 8 ] };
+
+    ghost levels = { λ l. 1 };
+
+    ghost reads_back = { let variants = unit_variant (codes "A") A
+        ∷ data_variant (codes "B") B (below 256) ∷ [] in elim [
+          | A ↦ λ held. unit_variant_back variants (codes "A") (λ l. refl)
+          | B n ↦ λ held. data_variant_back variants (codes "B") B (below 256)
+              (λ l i. refl) (u8_back n held)
+        ] };
 }
 
 /// A variant of each form: without data, over a value, over a tuple and over fields.
@@ -131,4 +150,40 @@ impl Deserialize for Form {
         source.end_variant(level);
         Ok(form)
     }
+}
+
+impl ReadsBack for Form {
+    ghost is_held = { elim [
+      | form.Unit ↦ Unit {0}
+      | form.Newtype n ↦ n < 2 ^ 8
+      | form.Tuple a b ↦ (a < 2 ^ 8) × (b < 2 ^ 8)
+      | form.Struct a b ↦ (a < 2 ^ 8) × (b < 2 ^ 8)
+    ] };
+
+    // One for the variant, and one for an array or a map that is its data.
+    ghost levels = { elim [
+      | form.Unit ↦ 1
+      | form.Newtype n ↦ 1
+      | form.Tuple a b ↦ 2
+      | form.Struct a b ↦ 2
+    ] };
+
+    ghost reads_back = { let variants = unit_variant (codes "Unit") form.Unit
+        ∷ data_variant (codes "Newtype") form.Newtype (below 256)
+        ∷ data_variant (codes "Tuple") (λ p. form.Tuple p.0 p.1) (tuple2_of (below 256) (below 256))
+        ∷ data_variant (codes "Struct") (λ p. form.Struct p.0 p.1.0)
+        ⟦<Ends as Deserialize>⟧.reading ∷ [] in elim [
+          | form.Unit ↦ λ held. unit_variant_back variants (codes "Unit") (λ l. refl)
+          | form.Newtype n ↦ λ held. data_variant_back variants (codes "Newtype") form.Newtype
+              (below 256) (λ l i. refl) (u8_back n held)
+          | form.Tuple a b ↦ λ held. data_variant_back variants (codes "Tuple")
+              (λ p. form.Tuple p.0 p.1) (tuple2_of (below 256) (below 256)) (λ l i. refl)
+              (tuple2-back (u8_back a held.0) (u8_back b held.1))
+          | form.Struct a b ↦ λ held. data_variant_back variants (codes "Struct")
+              (λ p. form.Struct p.0 p.1.0) ⟦<Ends as Deserialize>⟧.reading (λ l i. refl)
+              (fields_read_back
+              (field_back (codes "first") ⟦<u8 as Deserialize>⟧.reading (u8_back a held.0)
+              (field_back (codes "second") ⟦<u8 as Deserialize>⟧.reading (u8_back b held.1)
+              no_field_back)) refl)
+        ] };
 }

@@ -19,7 +19,7 @@ use Rattle.ciborium_value.specs.declared.kind.Kind.{Kind}
 use Rattle.ciborium_value.specs.declared.kind.Kind.TheVariants as kinds
 use Rattle.ciborium_value.specs.declared.tree.Value as value
 use Rattle.ciborium_value.specs.declared.tree.Value.{Value}
-use Rattle.ciborium_value.proofs.Folding.{short_string-item_of}
+use Rattle.ciborium_value.specs.ItemsOfTrees.{short_string-item_of}
 use Rattle.ciborium_value.proofs.Views.{tree_of-Array, tree_of-Map}
 
 -- ---- what the item of a tree gives is the folded tree

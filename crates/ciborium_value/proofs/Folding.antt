@@ -4,23 +4,11 @@ use Rattle.ciborium_value.specs.Encoding.{item_of, items_of, pairs_of}
 use Rattle.ciborium_value.specs.Folded.{short_bytes, tree_folding_bytes, folded, trees_folded, tree_pairs_folded}
 use Rattle.ciborium_value.specs.FoldingLaws.{WrittenMeansFolded, FoldsOnce}
 use Rattle.ciborium_value.specs.Meaning.{big_endian, without_zeros, bignum_meaning, unsigned_bignum, negative_bignum, is_bignum_tag, short_string, tag_meaning, simple_meaning, trees_more, tree_pairs_more, meaning, items_meaning, pairs_meaning}
+use Rattle.ciborium_value.specs.ItemsOfTrees.{short_string-item_of}
 use Rattle.ciborium_value.specs.Tree.{Tree, integer, bytes, text, boolean, null, tag, array, map, Trees, no_trees, tree, TreePairs, no_tree_pairs, tree_pair}
 use Rattle.ciborium_value.proofs.Bignums.{stays, zeros_hold_nothing, no_zeros_twice}
 
 -- ---- what is written means the folded tree
-
--- a tag folds over the item of a tree as it folds over the tree
-pub short_string-item_of : (v : Tree) → short_string (item_of v) ≡ short_bytes v
-short_string-item_of (integer (pos n)) = refl
-short_string-item_of (integer (negsuc n)) = refl
-short_string-item_of (bytes b) = refl
-short_string-item_of (text b) = refl
-short_string-item_of (boolean false) = refl
-short_string-item_of (boolean true) = refl
-short_string-item_of null = refl
-short_string-item_of (tag t v) = refl
-short_string-item_of (array vs) = refl
-short_string-item_of (map ps) = refl
 
 mutual
   unfolding simple_meaning

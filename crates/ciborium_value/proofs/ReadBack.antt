@@ -11,7 +11,7 @@ use Rattle.ciborium_value.specs.Meaning.{meaning, items_meaning, pairs_meaning, 
 use Rattle.ciborium_value.specs.Proper.{IsProperTree, AreProperTrees, AreProperTreePairs}
 use Rattle.ciborium_value.specs.Tree as trees
 use Rattle.ciborium_value.specs.Tree.{Tree, Trees, TreePairs}
-use Rattle.ciborium_value.specs.WrittenItems.{IsAnnounced, IsWritten, AreWritten, PairsAreWritten, WrittenSpells, WrittenTreeFolds, TreeIsWrittenAsItself, WrittenTreeIsProper}
+use Rattle.ciborium_value.specs.WrittenItems.{IsAnnounced, IsWritten, AreWritten, PairsAreWritten, WrittenSpells, WrittenTreeFolds, WrittenTreeIsProper}
 use Rattle.ciborium_value.proofs.Written.{string_written, parts_enclosed, simple_written, items_count-items_of, pairs_count-pairs_of}
 
 -- ---- it spells the item
@@ -105,32 +105,6 @@ pub written_tree_folds : WrittenTreeFolds
 written_tree_folds i h = written_item_folds i h
 
 -- ---- the item of a tree
-
-mutual
-  itself : (v : Tree) → written_tree (item_of v) ≡ v
-  itself (trees.integer (pos n)) = refl
-  itself (trees.integer (negsuc n)) = refl
-  itself (trees.bytes b) = refl
-  itself (trees.text b) = refl
-  itself (trees.boolean false) = refl
-  itself (trees.boolean true) = refl
-  itself trees.null = refl
-  itself (trees.tag t v) = ap (trees.tag t) (itself v)
-  itself (trees.array vs) = ap trees.array (all_itself vs)
-  itself (trees.map ps) = ap trees.map (pairs_itself ps)
-
-  all_itself : (vs : Trees) → written_trees (items_of vs) ≡ vs
-  all_itself trees.no_trees = refl
-  all_itself (trees.tree v vs) = ap (λ w. trees.tree w (written_trees (items_of vs))) (itself v) ∙ ap (trees.tree v) (all_itself vs)
-
-  pairs_itself : (ps : TreePairs) → written_pairs (pairs_of ps) ≡ ps
-  pairs_itself trees.no_tree_pairs = refl
-  pairs_itself (trees.tree_pair k v ps) =
-      ap (λ w. trees.tree_pair w (written_tree (item_of v)) (written_pairs (pairs_of ps))) (itself k) ∙
-      ap (λ w. trees.tree_pair k w (written_pairs (pairs_of ps))) (itself v) ∙ ap (trees.tree_pair k v) (pairs_itself ps)
-
-pub tree_is_written_as_itself : TreeIsWrittenAsItself
-tree_is_written_as_itself v = itself v
 
 mutual
   proper : (v : Tree) → IsWritten (item_of v) → IsProperTree v

@@ -51,3 +51,5 @@ pub mod ReadsBackStructs
 pub mod ReadsBackVariants
 pub mod NeverNull
 pub mod ReadsBackMaps
+pub mod ItemsOfTrees
+pub mod ReadsBackValues

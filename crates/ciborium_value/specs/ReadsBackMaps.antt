@@ -13,8 +13,8 @@ use Rattle.std.specs.declared.cmp.Ordering.TheVariants.{Less, Greater}
 use Rattle.ciborium_ll.specs.Item.{Item}
 use Rattle.ciborium_value.specs.Nesting.{Limit, IsWithin}
 use Rattle.ciborium_value.specs.Places.{dictionary, pairs_from}
-use Rattle.ciborium_value.specs.ReadsBack.{IsNameRead, IsReadBack, of_ok}
-use Rattle.ciborium_value.specs.ReadsBackParts.{at, greatest, within-left, within-right}
+use Rattle.ciborium_value.specs.ReadsBack.{IsNameRead, IsReadBack, Way, met, of_ok}
+use Rattle.ciborium_value.specs.ReadsBackParts.{at, greatest, met-container, within-left, within-right}
 use Rattle.ciborium_value.specs.Sinks.{Named, and_then, all_named, contained, container_of, in_turn}
 use Rattle.ciborium_value.specs.Steady.{after_pairs}
 use Rattle.ciborium_value.specs.Taken.{Outcome, Taken, gives, and_take, take_each, then_take, outcome_map, unpack_pairs}
@@ -83,22 +83,27 @@ module _ {K V A B : Type 0} (cmp : K → K → Ordering) (order : A → A → Or
 -- ---- maps
 
 -- what the parts name is read inside, with a level less
-inside : {C : Type 0} (k : Limit → List (Item × Item) → Outcome C) (s : Result (List Item) Kind) (c : C) (n : ℕ) → ((l : Limit) → IsWithin l n → IfOk s (λ is. k l (unpack_pairs (pairs_from is)) ≡ gives c)) →
-    (l : Limit) → IsWithin l (suc n) → IfOk (contained dictionary false s) (λ i. after_pairs k l i ≡ gives c)
-inside k (Ok is) c n h None fits = h None tt
-inside k (Ok is) c n h (Some zero) fits = absurd (omega (arith, fits))
-inside k (Ok is) c n h (Some (suc m)) fits = h (Some m) (omega (arith, fits))
-inside k (Err e) c n h l fits = tt
+module _ {C : Type 0} (way : Way) (k : Limit → List (Item × Item) → Outcome C) where
+  inside : (s : Result (List Item) Kind) (c : C) (n : ℕ) → ((l : Limit) → IsWithin l n → IfOk s (λ is. k l (unpack_pairs (pairs_from (map (met way) is))) ≡ gives c)) →
+      (l : Limit) → IsWithin l (suc n) → IfOk (contained dictionary false s) (λ i. after_pairs k l (met way i) ≡ gives c)
+  inside (Ok is) c n h None fits = ap (after_pairs k None) (met-container way dictionary is) ∙ h None tt
+  inside (Ok is) c n h (Some zero) fits = absurd (omega (arith, fits))
+  inside (Ok is) c n h (Some (suc m)) fits = ap (after_pairs k (Some (suc m))) (met-container way dictionary is) ∙ h (Some m) (omega (arith, fits))
+  inside (Err e) c n h l fits = tt
 
 -- a key and its value, and what follows them
-pair-back : {A B : Type 0} (f : Item → Outcome A) (g : Item → Outcome B) (r s : Named) (t : Result (List Item) Kind) (a : A) (b : B) (ps : List (A × B)) → IfOk r (λ i. f i ≡ gives a) → IfOk s (λ i. g i ≡ gives b) →
-    IfOk t (λ is. take_each (take_entry f g) (unpack_pairs (pairs_from is)) ≡ gives ps) → IfOk (and_then r (and_then s t)) (λ is. take_each (take_entry f g) (unpack_pairs (pairs_from is)) ≡ gives ((a, b) ∷ ps))
-pair-back f g (Ok i) (Ok j) (Ok is) a b ps h k m =
-    ap (λ o. and_take (then_take o (λ x. then_take (g j) (λ y. gives (x, y)))) (take_each (take_entry f g) (unpack_pairs (pairs_from is)))) h
-    ∙ ap (λ o. and_take (then_take o (λ y. gives (a, y))) (take_each (take_entry f g) (unpack_pairs (pairs_from is)))) k ∙ ap (and_take (gives (a, b))) m
-pair-back f g (Ok i) (Ok j) (Err e) a b ps h k m = tt
-pair-back f g (Ok i) (Err e) t a b ps h k m = tt
-pair-back f g (Err e) s t a b ps h k m = tt
+module _ {A B : Type 0} (f : Item → Outcome A) (h : Item → Outcome B) (g : Item → Item) where
+  abbrev entries : List Item → Outcome (List (A × B))
+  entries is = take_each (take_entry f h) (unpack_pairs (pairs_from (map g is)))
+
+  pair-back : (r s : Named) (t : Result (List Item) Kind) (a : A) (b : B) (ps : List (A × B)) → IfOk r (λ i. f (g i) ≡ gives a) → IfOk s (λ i. h (g i) ≡ gives b) →
+      IfOk t (λ is. entries is ≡ gives ps) → IfOk (and_then r (and_then s t)) (λ is. entries is ≡ gives ((a, b) ∷ ps))
+  pair-back (Ok i) (Ok j) (Ok is) a b ps p q m =
+      ap (λ o. and_take (then_take o (λ x. then_take (h (g j)) (λ y. gives (x, y)))) (entries is)) p
+      ∙ ap (λ o. and_take (then_take o (λ y. gives (a, y))) (entries is)) q ∙ ap (and_take (gives (a, b))) m
+  pair-back (Ok i) (Ok j) (Err e) a b ps p q m = tt
+  pair-back (Ok i) (Err e) t a b ps p q m = tt
+  pair-back (Err e) s t a b ps p q m = tt
 
 -- what the entries are: their keys rise, and each key and value is held
 abbrev pub IsMapHeld : {K V : Type 0} → (K → K → Ordering) → (K → Type 0) → (V → Type 0) → BTreeMap K V → Type 0
@@ -110,29 +115,30 @@ entry_levels key_levels value_levels e = max (key_levels e.0) (value_levels e.1)
 
 module _ {K A : Type 0} {IsKeyHeld : K → Type 0} {key_written : K → Named} {key_taken : Taken A} {key : K → A} {key_levels : K → ℕ} (key_back : IsReadBack IsKeyHeld key_written key_taken key key_levels) where
   module _ {V B : Type 0} {IsValueHeld : V → Type 0} {value_written : V → Named} {value_taken : Taken B} {value : V → B} {value_levels : V → ℕ} (value_back : IsReadBack IsValueHeld value_written value_taken value value_levels) where
-    entries-back : (es : List (K × V)) → All (λ e. IsKeyHeld e.0 × IsValueHeld e.1) es → (l : Limit) → IsWithin l (greatest (entry_levels key_levels value_levels) es) →
-        IfOk (all_named (in_turn key_written value_written es)) (λ is. take_each (take_entry (key_taken l) (value_taken l)) (unpack_pairs (pairs_from is)) ≡ gives (contents key value es))
-    entries-back [] held l fits = refl
-    entries-back (e ∷ es) held l fits =
+    entries-back : (es : List (K × V)) → All (λ e. IsKeyHeld e.0 × IsValueHeld e.1) es → (way : Way) (l : Limit) → IsWithin l (greatest (entry_levels key_levels value_levels) es) →
+        IfOk (all_named (in_turn key_written value_written es)) (λ is. entries (key_taken l) (value_taken l) (met way) is ≡ gives (contents key value es))
+    entries-back [] held way l fits = refl
+    entries-back (e ∷ es) held way l fits =
         let levels = entry_levels key_levels value_levels in
         let first = All-head (λ e. IsKeyHeld e.0 × IsValueHeld e.1) e es held in
         let here = within-left l (levels e) (greatest levels es) fits in
-        pair-back (key_taken l) (value_taken l) (key_written e.0) (value_written e.1) (all_named (in_turn key_written value_written es)) (key e.0) (value e.1) (contents key value es)
-        (at (key_written e.0) key_taken (key e.0) (key_levels e.0) (key_back e.0 first.0) l (within-left l (key_levels e.0) (value_levels e.1) here))
-        (at (value_written e.1) value_taken (value e.1) (value_levels e.1) (value_back e.1 first.1) l (within-right l (key_levels e.0) (value_levels e.1) here))
-        (entries-back es (All-tail (λ e. IsKeyHeld e.0 × IsValueHeld e.1) e es held) l (within-right l (levels e) (greatest levels es) fits))
+        pair-back (key_taken l) (value_taken l) (met way) (key_written e.0) (value_written e.1) (all_named (in_turn key_written value_written es)) (key e.0) (value e.1) (contents key value es)
+        (at (key_written e.0) key_taken (key e.0) (key_levels e.0) (key_back e.0 first.0) way l (within-left l (key_levels e.0) (value_levels e.1) here))
+        (at (value_written e.1) value_taken (value e.1) (value_levels e.1) (value_back e.1 first.1) way l (within-right l (key_levels e.0) (value_levels e.1) here))
+        (entries-back es (All-tail (λ e. IsKeyHeld e.0 × IsValueHeld e.1) e es held) way l (within-right l (levels e) (greatest levels es) fits))
 
-    put-back : (order : A → A → Ordering) (es : List (K × V)) → put_all order [] (contents key value es) ≡ contents key value es → (l : Limit) (r : Result (List Item) Kind) →
-        IfOk r (λ is. take_each (take_entry (key_taken l) (value_taken l)) (unpack_pairs (pairs_from is)) ≡ gives (contents key value es)) →
-        IfOk r (λ is. map_entries order key_taken value_taken l (unpack_pairs (pairs_from is)) ≡ gives (contents key value es))
-    put-back order es h l (Ok is) k = ap (outcome_map (put_all order [])) k ∙ ap gives h
-    put-back order es h l (Err e) k = tt
+    put-back : (order : A → A → Ordering) (es : List (K × V)) → put_all order [] (contents key value es) ≡ contents key value es → (way : Way) (l : Limit) (r : Result (List Item) Kind) →
+        IfOk r (λ is. entries (key_taken l) (value_taken l) (met way) is ≡ gives (contents key value es)) →
+        IfOk r (λ is. map_entries order key_taken value_taken l (unpack_pairs (pairs_from (map (met way) is))) ≡ gives (contents key value es))
+    put-back order es h way l (Ok is) k = ap (outcome_map (put_all order [])) k ∙ ap gives h
+    put-back order es h way l (Err e) k = tt
 
     pub map-back : (cmp : K → K → Ordering) (order : A → A → Ordering) → IsTotalOrder cmp → ((a b : K) → cmp a b ≡ order (key a) (key b)) → (m : BTreeMap K V) → IsMapHeld cmp IsKeyHeld IsValueHeld m →
         IsNameRead (container_of dictionary (in_turn key_written value_written m.entries)) (taken_map order key_taken value_taken) (contents key value m.entries) (suc (greatest (entry_levels key_levels value_levels) m.entries))
-    map-back cmp order total orders m held i e l fits =
+    map-back cmp order total orders m held =
         let parts = all_named (in_turn key_written value_written m.entries) in
-        let same = put-contents cmp order key value total orders m.entries held.0 in
-        of_ok (contained dictionary false parts) (λ j. taken_map order key_taken value_taken l j ≡ gives (contents key value m.entries))
-        (inside (map_entries order key_taken value_taken) parts (contents key value m.entries) (greatest (entry_levels key_levels value_levels) m.entries)
-        (λ l fits. put-back order m.entries same l parts (entries-back m.entries held.1 l fits)) l fits) i e
+        let same = put-contents cmp order key value total orders m.entries held.0 in record {
+          back = λ way i e l fits. of_ok (contained dictionary false parts) (λ j. taken_map order key_taken value_taken l (met way j) ≡ gives (contents key value m.entries))
+              (inside way (map_entries order key_taken value_taken) parts (contents key value m.entries) (greatest (entry_levels key_levels value_levels) m.entries)
+              (λ l fits. put-back order m.entries same way l parts (entries-back m.entries held.1 way l fits)) l fits) i e;
+        }

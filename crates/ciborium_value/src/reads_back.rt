@@ -1,9 +1,8 @@
 //! What is written is read back.
 
-ghost use Rattle.std.specs.Prelude.{◌≡◌, Ok, false, ℕ};
-ghost use Rattle.ciborium_ll.specs.Item.{Item};
-ghost use Rattle.ciborium_value.specs.Nesting.{IsWithin, Limit};
-ghost use Rattle.ciborium_value.specs.Taken.{gives, is_null};
+ghost use Rattle.std.specs.Prelude.{ℕ};
+ghost use Rattle.ciborium_value.specs.NeverNull.{IsNeverNull};
+ghost use Rattle.ciborium_value.specs.ReadsBack.{IsNameRead};
 
 use crate::deserialize::Deserialize;
 use crate::serialize::Serialize;
@@ -13,12 +12,13 @@ mod numbers;
 mod options;
 mod parts;
 mod scalars;
+mod values;
 
 /// A type of which what is written is read back.
 ///
-/// A value's item is read with all that counts of the value, under every limit that leaves as many
-/// levels as `levels` says. Nothing is promised of a value that is refused in writing, and
-/// capacities do not count.
+/// A value's item is read with all that counts of the value, from its bytes under every limit that
+/// leaves as many levels as `levels` says, and from the tree that `Value::serialized` makes of it.
+/// Nothing is promised of a value that is refused in writing, and capacities do not count.
 ///
 /// `is_held` says of which values this holds: of the library's types, those that a program can
 /// have. Their numbers are in range, their characters have a code, and the keys of their maps rise.
@@ -33,10 +33,10 @@ pub trait ReadsBack: Serialize + Deserialize {
     // How many levels reading what this value names takes.
     ghost levels: { Self → ℕ };
 
-    // What it names is read as what counts of it, where so many levels are left.
-    ghost reads_back: { (v : Self) → is_held v → (i : Item) → Self.written v ≡ Ok i →
-        (l : Limit) → IsWithin l (levels v) →
-        Self.reading.taken l i ≡ gives (Self.reading.content v) };
+    // What it names is read as what counts of it, from bytes and from a tree, where so many levels
+    // are left.
+    ghost reads_back: { (v : Self) → is_held v →
+        IsNameRead (Self.written v) Self.reading.taken (Self.reading.content v) (levels v) };
 }
 
 /// A type whose values are never written as null or undefined, so that options of it are read back.
@@ -44,5 +44,5 @@ pub trait ReadsBack: Serialize + Deserialize {
 /// They may be written as a null under a tag, which is not read as `None`.
 pub trait NeverNull: Serialize {
     // What the value names, if it names an item, is not null nor undefined.
-    ghost never_null: { (v : Self) (i : Item) → Self.written v ≡ Ok i → is_null i ≡ false };
+    ghost never_null: { (v : Self) → IsNeverNull (Self.written v) };
 }

@@ -7,7 +7,7 @@
 //! another. No bytes are made, and no memory is taken.
 
 ghost use Rattle.std.specs.Prelude.{◌≡◌, ◌↔◌, ◌+◌, ◌*◌, ◌^◌, ◌<◌, ◌≤◌, IsTrue, refl, length};
-ghost use Rattle.std.specs.Prelude.{vec_len};
+ghost use Rattle.std.specs.Prelude.{Some, vec_len};
 ghost use Rattle.std.specs.Cmp.Lexicographic.{slice_cmp};
 ghost use Rattle.std.specs.Cmp.{partial_equiv_from_equiv, partial_order_from_agreeing_total};
 ghost use Rattle.std.specs.Coded.{codes};
@@ -17,10 +17,13 @@ ghost use Rattle.ciborium_ll.specs.Head.{shortest_head};
 ghost use Rattle.ciborium_value.specs.Canonical.{canonical_order};
 ghost use Rattle.ciborium_value.specs.Counts.{node_count, trees_node_count, tree_pairs_node_count};
 ghost use Rattle.ciborium_value.specs.Derived.{value_eq};
-ghost use Rattle.ciborium_value.specs.Encoding.{encoding, encoded_size};
+ghost use Rattle.ciborium_value.specs.Encoding.{encoding, encoded_size, item_of};
+ghost use Rattle.ciborium_value.specs.Folded.{folded};
+ghost use Rattle.ciborium_value.specs.Nesting.{nesting};
 ghost use Rattle.ciborium_value.specs.Proper.{IsProperTree, AreProperTrees, AreProperTreePairs};
 ghost use Rattle.ciborium_value.specs.Sinks.{named_value};
 ghost use Rattle.ciborium_value.specs.Readings.{whole_by};
+ghost use Rattle.ciborium_value.specs.ReadsBackValues.{value-back};
 ghost use Rattle.ciborium_value.specs.Tree.{Tree, integer};
 ghost use Rattle.ciborium_value.specs.View.{tree_of, trees_of, tree_pairs_of};
 ghost use Rattle.ciborium_value.specs.contracts.tree.Value as value_row;
@@ -35,7 +38,7 @@ ghost use Rattle.ciborium_value.proofs.TotalOrders.{canonical_value_matches_eq};
 ghost use Rattle.ciborium.specs.Writes.{encodings, pair_encodings};
 
 use ciborium_ll::{head_size, simple};
-use ciborium_value::{Deserialize, Integer, Key, Serialize, Sink, Source, Value};
+use ciborium_value::{Deserialize, Integer, Key, ReadsBack, Serialize, Sink, Source, Value};
 use std::alloc::{AllocError, Global};
 use std::cmp::Ordering;
 use std::marker::Model;
@@ -197,6 +200,15 @@ impl Deserialize for CanonicalValue {
         let value = source.value(alloc)?;
         Ok(CanonicalValue { value })
     }
+}
+
+/// Where folding changes nothing, as of `Value`.
+impl ReadsBack for CanonicalValue {
+    ghost is_held = { λ c. folded (tree_of c) ≡ Some (tree_of c) };
+
+    ghost levels = { λ c. nesting (item_of (tree_of c)) };
+
+    ghost reads_back = { λ c held. value-back (tree_of c) held };
 }
 
 impl Key for CanonicalValue {

@@ -1,9 +1,10 @@
 //! Numbers.
 
-ghost use Rattle.std.proofs.Common.{lit<};
 ghost use Rattle.std.specs.Prelude.{◌<◌, ◌^◌};
 ghost use Rattle.ciborium_value.specs.Readings.{IsWithin};
-ghost use Rattle.ciborium_value.specs.ReadsBackNumbers.{signed-back, unsigned-back};
+ghost use Rattle.ciborium_value.specs.ReadsBackNumbers.{i128_back, i16_back, i32_back, i64_back};
+ghost use Rattle.ciborium_value.specs.ReadsBackNumbers.{i8_back, isize_back, u128_back, u16_back};
+ghost use Rattle.ciborium_value.specs.ReadsBackNumbers.{u32_back, u64_back, u8_back, usize_back};
 
 use super::ReadsBack;
 
@@ -12,7 +13,7 @@ impl ReadsBack for u8 {
 
     ghost levels = { λ n. 0 };
 
-    ghost reads_back = { unsigned-back 8 (lit< tt) };
+    ghost reads_back = { u8_back };
 }
 
 impl ReadsBack for u16 {
@@ -20,7 +21,7 @@ impl ReadsBack for u16 {
 
     ghost levels = { λ n. 0 };
 
-    ghost reads_back = { unsigned-back 16 (lit< tt) };
+    ghost reads_back = { u16_back };
 }
 
 impl ReadsBack for u32 {
@@ -28,7 +29,7 @@ impl ReadsBack for u32 {
 
     ghost levels = { λ n. 0 };
 
-    ghost reads_back = { unsigned-back 32 (lit< tt) };
+    ghost reads_back = { u32_back };
 }
 
 impl ReadsBack for u64 {
@@ -36,7 +37,7 @@ impl ReadsBack for u64 {
 
     ghost levels = { λ n. 0 };
 
-    ghost reads_back = { unsigned-back 64 (lit< tt) };
+    ghost reads_back = { u64_back };
 }
 
 impl ReadsBack for u128 {
@@ -44,7 +45,7 @@ impl ReadsBack for u128 {
 
     ghost levels = { λ n. 0 };
 
-    ghost reads_back = { unsigned-back 128 (lit< tt) };
+    ghost reads_back = { u128_back };
 }
 
 impl ReadsBack for usize {
@@ -52,7 +53,7 @@ impl ReadsBack for usize {
 
     ghost levels = { λ n. 0 };
 
-    ghost reads_back = { unsigned-back 64 (lit< tt) };
+    ghost reads_back = { usize_back };
 }
 
 impl ReadsBack for i8 {
@@ -60,7 +61,7 @@ impl ReadsBack for i8 {
 
     ghost levels = { λ n. 0 };
 
-    ghost reads_back = { signed-back 7 (lit< tt) };
+    ghost reads_back = { i8_back };
 }
 
 impl ReadsBack for i16 {
@@ -68,7 +69,7 @@ impl ReadsBack for i16 {
 
     ghost levels = { λ n. 0 };
 
-    ghost reads_back = { signed-back 15 (lit< tt) };
+    ghost reads_back = { i16_back };
 }
 
 impl ReadsBack for i32 {
@@ -76,7 +77,7 @@ impl ReadsBack for i32 {
 
     ghost levels = { λ n. 0 };
 
-    ghost reads_back = { signed-back 31 (lit< tt) };
+    ghost reads_back = { i32_back };
 }
 
 impl ReadsBack for i64 {
@@ -84,7 +85,7 @@ impl ReadsBack for i64 {
 
     ghost levels = { λ n. 0 };
 
-    ghost reads_back = { signed-back 63 (lit< tt) };
+    ghost reads_back = { i64_back };
 }
 
 impl ReadsBack for i128 {
@@ -92,7 +93,7 @@ impl ReadsBack for i128 {
 
     ghost levels = { λ n. 0 };
 
-    ghost reads_back = { signed-back 127 (lit< tt) };
+    ghost reads_back = { i128_back };
 }
 
 impl ReadsBack for isize {
@@ -100,5 +101,5 @@ impl ReadsBack for isize {
 
     ghost levels = { λ n. 0 };
 
-    ghost reads_back = { signed-back 63 (lit< tt) };
+    ghost reads_back = { isize_back };
 }

@@ -1,9 +1,8 @@
 //! Booleans, null, characters and strings.
 
 ghost use Rattle.std.specs.Char.{IsScalar};
-ghost use Rattle.std.specs.Prelude.{string_bytes};
 ghost use Rattle.ciborium_value.specs.ReadsBack.{boolean-back, bytes-back, character-back};
-ghost use Rattle.ciborium_value.specs.ReadsBack.{text-back, unit-back};
+ghost use Rattle.ciborium_value.specs.ReadsBack.{string_back, unit-back};
 
 use super::ReadsBack;
 use crate::byte_buf::ByteBuf;
@@ -37,7 +36,7 @@ impl ReadsBack for String {
 
     ghost levels = { λ s. 0 };
 
-    ghost reads_back = { text-back string_bytes };
+    ghost reads_back = { string_back };
 }
 
 impl ReadsBack for ByteBuf {

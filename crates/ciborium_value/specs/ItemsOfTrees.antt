@@ -1,0 +1,48 @@
+-- The item of a tree: it folds where the tree does, and it is written as that tree.
+use Rattle.std.proofs.Common.{ap, ◌∙◌}
+use Rattle.std.specs.Prelude.{◌≡◌, pos, negsuc, false, true, refl}
+use Rattle.ciborium_value.specs.Encoding.{item_of, items_of, pairs_of, written_tree, written_trees, written_pairs}
+use Rattle.ciborium_value.specs.Folded.{short_bytes}
+use Rattle.ciborium_value.specs.Meaning.{short_string}
+use Rattle.ciborium_value.specs.Tree as trees
+use Rattle.ciborium_value.specs.Tree.{Tree, Trees, TreePairs}
+use Rattle.ciborium_value.specs.WrittenItems.{TreeIsWrittenAsItself}
+
+-- a tag folds over the item of a tree as it folds over the tree
+pub short_string-item_of : (v : Tree) → short_string (item_of v) ≡ short_bytes v
+short_string-item_of (trees.integer (pos n)) = refl
+short_string-item_of (trees.integer (negsuc n)) = refl
+short_string-item_of (trees.bytes b) = refl
+short_string-item_of (trees.text b) = refl
+short_string-item_of (trees.boolean false) = refl
+short_string-item_of (trees.boolean true) = refl
+short_string-item_of trees.null = refl
+short_string-item_of (trees.tag t v) = refl
+short_string-item_of (trees.array vs) = refl
+short_string-item_of (trees.map ps) = refl
+
+mutual
+  itself : (v : Tree) → written_tree (item_of v) ≡ v
+  itself (trees.integer (pos n)) = refl
+  itself (trees.integer (negsuc n)) = refl
+  itself (trees.bytes b) = refl
+  itself (trees.text b) = refl
+  itself (trees.boolean false) = refl
+  itself (trees.boolean true) = refl
+  itself trees.null = refl
+  itself (trees.tag t v) = ap (trees.tag t) (itself v)
+  itself (trees.array vs) = ap trees.array (all_itself vs)
+  itself (trees.map ps) = ap trees.map (pairs_itself ps)
+
+  all_itself : (vs : Trees) → written_trees (items_of vs) ≡ vs
+  all_itself trees.no_trees = refl
+  all_itself (trees.tree v vs) = ap (λ w. trees.tree w (written_trees (items_of vs))) (itself v) ∙ ap (trees.tree v) (all_itself vs)
+
+  pairs_itself : (ps : TreePairs) → written_pairs (pairs_of ps) ≡ ps
+  pairs_itself trees.no_tree_pairs = refl
+  pairs_itself (trees.tree_pair k v ps) =
+      ap (λ w. trees.tree_pair w (written_tree (item_of v)) (written_pairs (pairs_of ps))) (itself k) ∙
+      ap (λ w. trees.tree_pair k w (written_pairs (pairs_of ps))) (itself v) ∙ ap (trees.tree_pair k v) (pairs_itself ps)
+
+pub tree_is_written_as_itself : TreeIsWrittenAsItself
+tree_is_written_as_itself v = itself v
