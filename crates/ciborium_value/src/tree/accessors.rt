@@ -227,6 +227,8 @@ impl Value {
         ensures* writes_back { sem 𝓛 (LendsTag self.entry result) }
         ensures some { IfSome result (λ p. IsTagOf self.old p.0.now p.1.now) }
         ensures none { IfNone result (¬ IsTag self.old) }
+        ensures tree { MatchOption result (¬ IsTagTree (tree_of self.old))
+            (λ p. tree_of self.old ≡ trees.tag p.0.now (tree_of p.1.now)) }
     {
         if let Value::Tag(tag, content) = self {
             Some((tag, lend_content(content)))

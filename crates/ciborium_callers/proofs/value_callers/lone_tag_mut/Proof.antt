@@ -37,7 +37,7 @@ use types.SemTy.{Body, Arr}
 use Rattle.std.proofs.Common.{◌≡◌, ℕ, List, [], ◌∷◌, refl, sym, ap, ◌∙◌, subst, length}
 use Rattle.std.proofs.raw_atomic.Walks.{proved}
 use Rattle.std.specs.Option.{ghost_names_of}
-use Rattle.std.specs.Prelude.{All, IfSome, IfNone, map}
+use Rattle.std.specs.Prelude.{All, IfSome, IfNone, MatchOption, map}
 use Rattle.std.specs.declared.option.Option.{Option}
 use Rattle.std.specs.declared.option.Option.TheVariants.{None, Some}
 use Rattle.ciborium_callers.proofs.LoneValue.{single, all_one, within_both, lends_one}
@@ -45,7 +45,10 @@ use Rattle.ciborium_value.proofs.tree.Value.as_tag_mut.Met.{met}
 use Rattle.ciborium_callers.proofs.value_callers.lone_tag_mut.Code as code
 use Rattle.ciborium_callers.proofs.value_callers.lone_tag_mut.Statement.{statement}
 use Rattle.ciborium_value.specs.LentParts.{with_tag, LendsTag}
+use Rattle.ciborium_value.specs.Tree as trees
+use Rattle.ciborium_value.specs.TreeVariants.{IsTagTree}
 use Rattle.ciborium_value.specs.Variants.{IsTag, IsTagOf}
+use Rattle.ciborium_value.specs.View.{tree_of}
 use Rattle.ciborium_value.specs.contracts.tree.Value.{the_row as R}
 use Rattle.ciborium_value.specs.contracts.tree.Value.as_tag_mut as g
 use Rattle.ciborium_callers.specs.contracts.value_callers.lone_tag_mut as f
@@ -100,10 +103,11 @@ lone_tag_mut_spec 𝓤 𝓛 𝓜 𝓡 wired =
     nothing ! $ move ! (1 ∷ 0 ∷ []) $ join ! $ nothing ! $ move ! (2 ∷ 0 ∷ []) $ join ! $ join ! $ nothing ! $ move ! (1 ∷ 0 ∷ []) $ use2 𝓛 (raw (G.pre z)) (id⊢ 𝓤 _) $
     calls_at ! (framed 𝓤 𝓛.H 𝓜 𝓣) G (met 𝓤 𝓛 𝓜 𝓡 (code.calls-ciborium_value::tree::Value::as_tag_mut 𝓡.env wired)) z (and_then ! (get ! refl) (no_more !)) (λ v.
     use1 𝓛 (later (some (λ (r : Option (MutBor ℕ × MutBor R.Denot)). ((‵ (flft κ q) ⊛ ‵ ftrue) ⊛ ‵ ((Out κs).own_val r (v ∷ []))) ⊛
-    some (λ (ws : Unit {0} × Unit {0}). ‵ (lasts g.ended κs (lent, tt) ws) ⊛ ‵ (LendsTag lent r) ⊛ raw (fact 𝓤 (IfSome r (λ p. IsTagOf x p.0.now p.1.now))) ⊛ raw (fact 𝓤 (IfNone r (IsTag x → ⊥))))))) (id⊢ 𝓤 _) $
+    some (λ (ws : Unit {0} × Unit {0}). ‵ (lasts g.ended κs (lent, tt) ws) ⊛ ‵ (LendsTag lent r) ⊛ raw (fact 𝓤 (IfSome r (λ p. IsTagOf x p.0.now p.1.now))) ⊛ raw (fact 𝓤 (IfNone r (IsTag x → ⊥)))
+    ⊛ raw (fact 𝓤 (MatchOption r (IsTagTree (tree_of x) → ⊥) (λ p. tree_of x ≡ trees.tag p.0.now (tree_of p.1.now)))))))) (id⊢ 𝓤 _) $
     await ! tt $ pick ! (λ r. split ! $ split ! $ split ! $ move ! (2 ∷ []) $ peeks ! (Out κs) (Is (Out κs)) (shows 𝓛 (Out κs)) r (v ∷ []) (λ shape.
     let word = val_is κs r v shape in rewrite ! 0 (λ (u : Val). ‵ ((Out κs).own_val r (u ∷ []))) word refl $
-    move ! (3 ∷ []) $ pick ! (λ ws. split3 ! $ drop ! $ move ! (1 ∷ []) $ split ! $ heard ! _ (λ of_tag. heard ! _ (λ no_tag. move ! (4 ∷ 0 ∷ []) $
+    move ! (3 ∷ []) $ pick ! (λ ws. split3 ! $ drop ! $ move ! (1 ∷ []) $ split3 ! $ heard ! _ (λ of_tag. heard ! _ (λ no_tag. drop ! $ move ! (4 ∷ 0 ∷ []) $
     use2 𝓛 (‵ (follows_both_if (Array R 0) u64 R γ (ghost_names_of r) (λ t w. with_tag x t w ∷ []) (x ∷ [])))
     (within_both 𝓛 (Array R 0) R u64 R (with_tag x) x (λ w. w ∷ []) γ δ (ghost_names_of r)) $
     rewrite ! 0 (λ (zs : List R.Denot). ‵ (follows_both_if (Array R 0) u64 R γ (ghost_names_of r) (λ t w. map (λ d. with_tag d t w) zs) zs)) (sym is_one) refl $

@@ -36,20 +36,29 @@ use types.Match.{vrt, look_tag, by_variants, live}
 use types.Part.{whole, agg}
 use types.Run.{enter, first, stop, fld, load, addr, exec, no_more, and_then, lit, of_opd, returns, OneOf}
 use types.Tokens.{name_done}
-use Rattle.std.proofs.Common.{◌≡◌, ℕ, List, [], ◌∷◌, refl, sym, ap, ◌∙◌}
+use Rattle.std.proofs.Common.{◌≡◌, ℕ, List, [], ◌∷◌, rules, refl, sym, ap, ◌∙◌, subst}
 use Rattle.std.proofs.raw_atomic.Walks.{proved}
 use Rattle.std.specs.Box.{with_value}
 use Rattle.std.specs.Prelude.{⊤}
 use Rattle.std.specs.declared.option.Option.TheVariants.{None, Some}
 use Rattle.ciborium_value.proofs.TagParts.{B, Tag, tag_with, tags, lends_two, then₂}
+use Rattle.ciborium_value.proofs.Views.{tree_of-Tag}
 use Rattle.ciborium_value.proofs.tree.Value.as_tag_mut.Code as code
 use Rattle.ciborium_value.proofs.tree.Value.as_tag_mut.Statement.{statement}
 use Rattle.ciborium_value.proofs.tree.accessors.lend_content.Met.{met}
 use Rattle.ciborium_value.specs.LentParts.{with_tag}
+use Rattle.ciborium_value.specs.Tree as trees
+use Rattle.ciborium_value.specs.Tree.{Tree}
+use Rattle.ciborium_value.specs.TreeVariants.{IsTagTree}
 use Rattle.ciborium_value.specs.Variants.{IsTag, IsTagOf}
+use Rattle.ciborium_value.specs.View.{tree_of, level_tree}
 use Rattle.ciborium_value.specs.contracts.tree.Value.{the_type, the_row as R, enum}
 use Rattle.ciborium_value.specs.contracts.tree.Value.as_tag_mut as f
 use Rattle.ciborium_value.specs.contracts.tree.accessors.lend_content as g
+use Rattle.ciborium_value.specs.declared.tree.Value.{the_lemmas}
+use Rattle.ciborium_value.specs.declared.tree.Value.TheOpen.{Value-F}
+use Rattle.ciborium_value.specs.declared.tree.Value.TheFolds.{map-Value}
+use Rattle.ciborium_value.specs.declared.tree.Value.TheViews.{out-Value, roll-Value}
 
 abbrev none_val : Val
 none_val = vstruct (vcons (vint w8 0) vnil)
@@ -83,6 +92,15 @@ some_in 𝓛 κs n r =
 -- a value of another variant is no tag
 no_tag : (d : R.Denot) → OneOf (0 ∷ 1 ∷ 2 ∷ 3 ∷ 4 ∷ 6 ∷ 7 ∷ []) (tag_of the_type d) → IsTag d → ⊥
 no_tag d key p = not_key (0 ∷ 1 ∷ 2 ∷ 3 ∷ 4 ∷ 6 ∷ 7 ∷ []) 5 tt (tag_of the_type d) key (ap (tag_of the_type) p.2 ∙ tags (p.0, (p.1, tt)))
+
+-- a level whose tree is a tag is a tag
+tagged_level : (y : Value-F R.Denot) → IsTagTree (tree_of (roll-Value y)) → IsTag (roll-Value y)
+tagged_level (Value-F.Tag t box) p = (t, box, search (rules, the_lemmas))
+tagged_level y p = let e : level_tree (map-Value R.Denot Tree tree_of y) ≡ trees.tag p.0 p.1 = search (rules, the_lemmas) ∙ p.2 in absurd cc
+
+-- so a value that is no tag has a tree that is none
+no_tag_tree : (d : R.Denot) → (IsTag d → ⊥) → IsTagTree (tree_of d) → ⊥
+no_tag_tree d none p = none (subst (λ (v : R.Denot). IsTagTree (tree_of v) → IsTag v) (search (rules, the_lemmas)) (tagged_level (out-Value d)) p)
 
 pub as_tag_mut_spec : {M : Type 1} → statement M
 unfolding both_if_by part_of
@@ -136,7 +154,8 @@ as_tag_mut_spec 𝓤 𝓛 𝓜 𝓡 wired =
           move ! (1 ∷ []) $ feq_i ! (List Val) (mut_vals r) (mut_vals r) refl $ fjoin ! $ keep ! (4 ∷ 0 ∷ 2 ∷ 1 ∷ []) $
           use2 𝓛 (‵ ((type_at f.signature.result κs).own_val (Some (n, r)) (some_val n r ∷ []))) (some_in 𝓛 κs n r) $
           nothing ! $ nothing ! $ fjoin ! $ join ! $ nothing ! $ move ! (2 ∷ 0 ∷ []) $ join ! $ join ! $ frame ! $ frame ! $
-          says ! tt $ use0 𝓛 (raw (fact 𝓤 (IsTagOf h t r.now))) (fact_i 𝓤 (IsTagOf h t r.now) (emp 𝓤) (box, is_tag, same)) $ done !))))))),
+          use0 𝓛 (raw (fact 𝓤 (IsTagOf h t r.now))) (fact_i 𝓤 (IsTagOf h t r.now) (emp 𝓤) (box, is_tag, same)) $ frame ! $
+          says ! (ap tree_of is_tag ∙ tree_of-Tag t box ∙ ap (λ (w : R.Denot). trees.tag t (tree_of w)) (sym same)) $ use0 𝓛 (raw (fact 𝓤 ⊤)) (fact_i 𝓤 ⊤ (emp 𝓤) tt) $ done !))))))),
       (
         (λ k. rewrite ! 0 (λ (ws : List Val). ‵ (cell_at full_share R.mir ws b o)) (sym word) refl $ closes ! tt R h us b o $ name_done ! tt $
             sets_last ! (agg ! (and_then ! (lit ! tt) (no_more !))) refl (tt, (record { fits = lit< tt }, tt)) $
@@ -145,7 +164,8 @@ as_tag_mut_spec 𝓤 𝓛 𝓜 𝓡 wired =
             suffices ! _ (ends_at 𝓛 f.ended stayed c y none_val None (tt, tt) (tt, tt)) $
             -- [the last value; the borrow; the token]
             move ! (2 ∷ 0 ∷ []) $ keep ! (0 ∷ 1 ∷ []) $ nothing ! $ use1 𝓛 (‵ ((type_at f.signature.result κs).own_val None (none_val ∷ []))) (none_in 𝓛 κs) $
-            nothing ! $ nothing ! $ fjoin ! $ join ! $ nothing ! $ move ! (2 ∷ 0 ∷ []) $ join ! $ join ! $ frame ! $ frame ! $ says ! (no_tag h k) $ use0 𝓛 (raw (fact 𝓤 ⊤)) (fact_i 𝓤 ⊤ (emp 𝓤) tt) $ done !),
+            nothing ! $ nothing ! $ fjoin ! $ join ! $ nothing ! $ move ! (2 ∷ 0 ∷ []) $ join ! $ join ! $ frame ! $ frame ! $ use0 𝓛 (raw (fact 𝓤 ⊤)) (fact_i 𝓤 ⊤ (emp 𝓤) tt) $ frame ! $
+            says ! (no_tag_tree h (no_tag h k)) $ use0 𝓛 (raw (fact 𝓤 (IsTag h → ⊥))) (fact_i 𝓤 (IsTag h → ⊥) (emp 𝓤) (no_tag h k)) $ done !),
         tt,
       ),
     )))))
