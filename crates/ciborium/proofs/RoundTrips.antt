@@ -1,9 +1,9 @@
 -- What is written is read back, from bytes and from a tree.
-use Rattle.std.proofs.Common.{◌≡◌, ℕ, List, ◌++◌, length, Option, Some, None, Result, Ok, Err, refl, sym, ap, ◌∙◌, ◌+◌, subst, arith}
+use Rattle.std.proofs.Common.{◌≡◌, ℕ, List, [], ◌++◌, length, Option, Some, None, Result, Ok, Err, refl, sym, ap, ◌∙◌, ◌+◌, subst, append-nil, arith}
 use Rattle.std.specs.declared.io.Error.{Error as IoError}
 use Rattle.ciborium_ll.specs.Item.{Item}
 use Rattle.ciborium_ll.proofs.UniqueSpelling.{one_at_front}
-use Rattle.ciborium_value.specs.Encoding.{written_bytes}
+use Rattle.ciborium_value.specs.Encoding.{item_of, written_bytes}
 use Rattle.ciborium_value.specs.Nesting.{IsWithin}
 use Rattle.ciborium_value.specs.Readings.{Reading}
 use Rattle.ciborium_value.specs.ReadsBack.{IsReadBack, by_bytes, by_tree}
@@ -15,8 +15,13 @@ use Rattle.ciborium_value.proofs.ReadBack.{written_item_spells}
 use Rattle.ciborium.specs.declared.de.error.Error.{Error}
 use Rattle.ciborium.specs.ByteSources.{cause_of}
 use Rattle.ciborium_value.specs.declared.serialized.Error.TheVariants as of_tree
-use Rattle.ciborium.specs.RoundTrips.{BytesReadBack, IsGivenBack, TreeReadBack}
-use Rattle.ciborium.specs.TypedReads.{AnswersBytes}
+use Rattle.ciborium_value.specs.TreeSinks.{IsTreeOf}
+use Rattle.ciborium_value.specs.TreeSources.{value_item}
+use Rattle.ciborium_value.specs.declared.tree.Value.{Value}
+use Rattle.ciborium.specs.declared.ser.Error.{Error as WriteError}
+use Rattle.ciborium.specs.RoundTrips.{BytesGiveContent, BytesReadBack, IsGivenBack, TreeGivesContent, TreeReadBack}
+use Rattle.ciborium.specs.TypedReads.{AnswersBytes, TakesGiving}
+use Rattle.ciborium.specs.Writes.{IsNamedWritten, WritesNamed}
 
 -- where a value is given no item is to blame
 not-blamed : {C : Type 0} (end : ℕ) (f : Fault) (o : Outcome C) (c : C) → o ≡ gives c → IsFaultOf end f o → IsOutside end f
@@ -50,7 +55,33 @@ bytes_read_back {T} {C} IsHeld written reading levels law v i l rest after r hel
         subst (λ m. IsOutside m (cause_of e)) none
         (not-blamed (0 + n) (cause_of e) (reading.taken (Some l) i) (reading.content v) given (refused (written_bytes i ++ rest) refl i (written_bytes i) rest (written_item_spells i fits) refl))
 
-pub tree_read_back : {T C : Type 0} (IsHeld : T → Type 0) (written : T → Named) (reading : Reading T C) (levels : T → ℕ) → IsReadBack IsHeld written reading.taken reading.content levels → TreeReadBack IsHeld written reading
-tree_read_back IsHeld written reading levels law v i (Ok d) held names answers = one-content _ (reading.content v) d ((law v held).back by_tree i names None tt) answers
-tree_read_back IsHeld written reading levels law v i (Err (of_tree.Custom k)) held names answers = let given = (law v held).back by_tree i names None tt in cc
-tree_read_back IsHeld written reading levels law v i (Err of_tree.Memory) held names answers = refl
+module _ {T C : Type 0} (IsHeld : T → Type 0) (written : T → Named) (reading : Reading T C) (levels : T → ℕ) (law : IsReadBack IsHeld written reading.taken reading.content levels) where
+  -- an item that is named was written whole: what is read at its front is the content
+  taken-content : (v : T) (l : ℕ) (bytes : List ℕ) (after : Option (List ℕ)) (c : C) → IsHeld v → IsWithin (Some l) (levels v) → (i : Item) → written v ≡ Ok i → IsWritten i → bytes ≡ written_bytes i →
+      TakesGiving (Some l) reading.taken bytes c after → c ≡ reading.content v
+  taken-content v l bytes after c held within i names fits same (j, s, left, sp, e, give, is) =
+      let one = one_at_front (written_bytes i) s [] left i j (written_item_spells i fits) sp (append-nil (written_bytes i) ∙ sym same ∙ e) in
+      one-content (reading.taken (Some l) i) (reading.content v) c ((law v held).back by_bytes i names (Some l) within) (ap (reading.taken (Some l)) one.2 ∙ give)
+
+  -- the same, by cases on what is named
+  by-name : (v : T) (l : ℕ) (old new bytes : List ℕ) (after : Option (List ℕ)) (c : C) → IsHeld v → IsWithin (Some l) (levels v) → (n : Named) → written v ≡ n → WritesNamed {E = WriteError IoError} (Some old) (Some new) (Ok tt) n → IsNamedWritten n →
+      TakesGiving (Some l) reading.taken bytes c after → old ≡ [] → bytes ≡ new → c ≡ reading.content v
+  by-name v l old new bytes after c held within (Ok i) names appends fits takes none same =
+      let all : new ≡ written_bytes i = appends ∙ ap (λ (w : List ℕ). w ++ written_bytes i) none in
+      taken-content v l bytes after c held within i names fits (same ∙ all) takes
+  by-name v l old new bytes after c held within (Err k) names appends fits takes none same = absurd fits
+
+  pub bytes_give_content : BytesGiveContent IsHeld written reading levels
+  bytes_give_content v l old new bytes after c held within appends fits takes none same = by-name v l old new bytes after c held within (written v) refl appends fits takes none same
+
+  made-content : (v : T) (made : Value) → IsHeld v → (n : Named) → written v ≡ n → IsTreeOf n made → reading.taken None (value_item made) ≡ gives (reading.content v)
+  made-content v made held (Ok i) names is = ap (λ t. reading.taken None (item_of t)) is ∙ (law v held).back by_tree i names None tt
+  made-content v made held (Err k) names is = absurd is
+
+  pub tree_gives_content : TreeGivesContent IsHeld written reading
+  tree_gives_content v made c held is give = one-content (reading.taken None (value_item made)) (reading.content v) c (made-content v made held (written v) refl is) give
+
+  pub tree_read_back : TreeReadBack IsHeld written reading
+  tree_read_back v made (Ok d) held is answers = tree_gives_content v made d held is answers
+  tree_read_back v made (Err (of_tree.Custom k)) held is answers = let given = made-content v made held (written v) refl is in cc
+  tree_read_back v made (Err of_tree.Memory) held is answers = refl

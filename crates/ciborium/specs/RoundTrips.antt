@@ -1,18 +1,24 @@
 -- What is written is read back, from bytes and from a tree.
-use Rattle.std.specs.Prelude.{◌≡◌, ℕ, List, ◌++◌, length, Option, Some, Result, Ok, Err}
+use Rattle.std.specs.Prelude.{◌≡◌, ℕ, List, [], ◌++◌, length, Option, Some, None, Result, Ok, Err}
 use Rattle.std.specs.declared.io.Error.{Error as IoError}
 use Rattle.ciborium_ll.specs.Item.{Item}
-use Rattle.ciborium_value.specs.Encoding.{item_of, written_bytes, written_tree}
+use Rattle.ciborium_value.specs.Encoding.{written_bytes}
 use Rattle.ciborium_value.specs.Nesting.{IsWithin}
 use Rattle.ciborium_value.specs.Readings.{Reading}
 use Rattle.ciborium_value.specs.Sinks.{Named}
 use Rattle.ciborium_value.specs.Sources.{IsOutside, read_as}
+use Rattle.ciborium_value.specs.Taken.{gives}
+use Rattle.ciborium_value.specs.TreeSinks.{IsTreeOf}
+use Rattle.ciborium_value.specs.TreeSources.{value_item}
 use Rattle.ciborium_value.specs.WrittenItems.{IsWritten}
 use Rattle.ciborium_value.specs.declared.serialized.Error.{Error as TreeError}
 use Rattle.ciborium_value.specs.declared.serialized.Error.TheVariants as of_tree
 use Rattle.ciborium.specs.declared.de.error.Error.{Error}
 use Rattle.ciborium.specs.ByteSources.{cause_of}
-use Rattle.ciborium.specs.TypedReads.{AnswersBytes, AnswersTree}
+use Rattle.ciborium_value.specs.declared.tree.Value.{Value}
+use Rattle.ciborium.specs.declared.ser.Error.{Error as WriteError}
+use Rattle.ciborium.specs.TypedReads.{AnswersBytes, AnswersTree, TakesGiving}
+use Rattle.ciborium.specs.Writes.{IsNamedWritten, WritesNamed}
 
 -- the content is answered and what followed is left; or the call failed, for what no item decides
 abbrev pub IsGivenBack : {C E : Type 0} → C → List ℕ → ℕ → Option (List ℕ) → Result C (Error E) → Type 0
@@ -27,6 +33,15 @@ BytesReadBack {T} {C} IsHeld written reading levels =
     AnswersBytes reading.taken l (written_bytes i ++ rest) after r →
     IsGivenBack (reading.content v) rest (length (written_bytes i ++ rest)) after r
 
+-- of bytes that were written into nothing and read again, the content is that of the value
+abbrev pub BytesGiveContent : {T C : Type 0} → (T → Type 0) → (T → Named) → Reading T C → (T → ℕ) → Type 0
+BytesGiveContent {T} {C} IsHeld written reading levels =
+    (v : T) (l : ℕ) (old new bytes : List ℕ) (after : Option (List ℕ)) (c : C) →
+    IsHeld v → IsWithin (Some l) (levels v) → WritesNamed {E = WriteError IoError} (Some old) (Some new) (Ok tt) (written v) → IsNamedWritten (written v) →
+    TakesGiving (Some l) reading.taken bytes c after → old ≡ [] → bytes ≡ new → c ≡ reading.content v
+
+-- ---- over a tree
+
 -- the content is answered; or memory was refused
 abbrev pub IsMadeAgain : {C : Type 0} → C → Result C TreeError → Type 0
 IsMadeAgain c (Ok d) = d ≡ c
@@ -35,4 +50,9 @@ IsMadeAgain c (Err e) = e ≡ of_tree.Memory
 -- reading the tree that is made of what a value names, without a limit
 abbrev pub TreeReadBack : {T C : Type 0} → (T → Type 0) → (T → Named) → Reading T C → Type 0
 TreeReadBack {T} {C} IsHeld written reading =
-    (v : T) (i : Item) (r : Result C TreeError) → IsHeld v → written v ≡ Ok i → AnswersTree reading.taken (item_of (written_tree i)) r → IsMadeAgain (reading.content v) r
+    (v : T) (made : Value) (r : Result C TreeError) → IsHeld v → IsTreeOf (written v) made → AnswersTree reading.taken (value_item made) r → IsMadeAgain (reading.content v) r
+
+-- of a tree that was made and read again, the content is that of the value
+abbrev pub TreeGivesContent : {T C : Type 0} → (T → Type 0) → (T → Named) → Reading T C → Type 0
+TreeGivesContent {T} {C} IsHeld written reading =
+    (v : T) (made : Value) (c : C) → IsHeld v → IsTreeOf (written v) made → reading.taken None (value_item made) ≡ gives c → c ≡ reading.content v

@@ -11,7 +11,8 @@ ghost use Rattle.ciborium.specs.DeterministicLaws.{NeverBothDeterministically};
 ghost use Rattle.ciborium.specs.DeterministicLaws.{OneDeterministicRefusal, OneDeterministicTree};
 ghost use Rattle.ciborium.specs.EncodingLaws.{EncodingSpells, HeadsRise, OneTree, OthersAreLonger};
 ghost use Rattle.ciborium.specs.ItemSequences.{OneSequence};
-ghost use Rattle.ciborium.specs.RoundTrips.{BytesReadBack, TreeReadBack};
+ghost use Rattle.ciborium.specs.RoundTrips.{BytesGiveContent, BytesReadBack};
+ghost use Rattle.ciborium.specs.RoundTrips.{TreeGivesContent, TreeReadBack};
 ghost use Rattle.ciborium.specs.TypedReads.{SourcesAgree};
 ghost use Rattle.ciborium.specs.Writes.{IsNamedWritten};
 
@@ -84,6 +85,9 @@ pub fn sources_agree<T: Deserialize>()
 pub fn written_is_read_back<T: ReadsBack>()
     ensures bytes { BytesReadBack T.is_held T.written T.reading T.levels }
     ensures tree { TreeReadBack T.is_held T.written T.reading }
+    // The same of what was answered, as a caller has it behind its calls.
+    ensures bytes_give { BytesGiveContent T.is_held T.written T.reading T.levels }
+    ensures tree_gives { TreeGivesContent T.is_held T.written T.reading }
 {}
 
 /// All bytes, at every offset and under every limit of levels, begin with bytes that are

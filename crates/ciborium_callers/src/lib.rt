@@ -21,6 +21,7 @@ pub mod own_types;
 pub mod readme;
 #[cfg(test)]
 mod readme_tests;
+pub mod round_trips;
 pub mod sequence_callers;
 pub mod struct_types;
 pub mod tag_types;
