@@ -11,6 +11,8 @@ ghost use Rattle.ciborium.specs.DeterministicLaws.{NeverBothDeterministically};
 ghost use Rattle.ciborium.specs.DeterministicLaws.{OneDeterministicRefusal, OneDeterministicTree};
 ghost use Rattle.ciborium.specs.EncodingLaws.{EncodingSpells, HeadsRise, OneTree, OthersAreLonger};
 ghost use Rattle.ciborium.specs.ItemSequences.{OneSequence};
+ghost use Rattle.ciborium.specs.Loaded.{AreCanonicalParts, IsDeterministicStore, IsStoreHeld};
+ghost use Rattle.ciborium.specs.Loaded.{LoadedAsSaved, LoadingGivesContent};
 ghost use Rattle.ciborium.specs.RoundTrips.{BytesGiveContent, BytesReadBack};
 ghost use Rattle.ciborium.specs.RoundTrips.{TreeGivesContent, TreeReadBack};
 ghost use Rattle.ciborium.specs.TypedReads.{SourcesAgree};
@@ -25,7 +27,7 @@ pub use ciborium_value::tree_laws::{
     order_of_values, worked_examples, written_reads_back,
 };
 pub use ciborium_value::{NeverNull, ReadsBack};
-use ciborium_value::{Deserialize, Serialize};
+use ciborium_value::{Deserialize, Serialize, Value};
 use std::collections::BTreeMap;
 
 /// Whatever meets the clauses of the reading calls is one answer for the same bytes and limit: the
@@ -57,6 +59,29 @@ pub fn canonical_keys_rise<V: Serialize>(map: &BTreeMap<CanonicalValue, V>) -> u
 {
     map.len()
 }
+
+/// A store by `CanonicalValue` is written deterministically (RFC 8949, section 4.2), wherever it is
+/// written at all, if each of its keys and values is so: it names the item of its tree, which has
+/// the one accepted spelling. The call counts the entries, which takes no memory.
+pub fn store_is_deterministic(store: &BTreeMap<CanonicalValue, Value>) -> usize
+    ensures accepted { IsNamedWritten (container_of dictionary
+        (in_turn named_value named_value store.now.entries)) →
+        AreCanonicalParts store.now.entries → IsDeterministicStore store.now.entries }
+    ensures held { AreCanonicalParts store.now.entries → IsStoreHeld store.now }
+    ensures count { result ≡ length store.now.entries }
+{
+    store.len()
+}
+
+/// What is saved is loaded: where a value names the item of a tree that has an accepted spelling,
+/// the deterministic reader takes just its bytes, whatever follows them, and `deserialized` makes
+/// its content of what is answered, unless the reader failed or memory was refused (RFC 8949,
+/// section 4.2). It rests on the law that the type has (`ReadsBack`).
+pub fn loaded_as_saved<T: ReadsBack>()
+    ensures loaded { LoadedAsSaved T.is_held T.written T.reading }
+    // The same of what was answered, as a caller has it behind its calls.
+    ensures loading_gives { LoadingGivesContent T.is_held T.written T.reading }
+{}
 
 /// The order of `CanonicalValue`, which `<`, `max` and the library's sorts take from its `Ord`, is
 /// the canonical one for any two values that a program holds (RFC 8949, section 4.2.3). It is

@@ -1,10 +1,15 @@
 //! Callers that write a value and read it again: it is the value.
-ghost use Rattle.std.specs.Prelude.{◌≡◌, ◌≤◌, IfOk, IfSome};
+ghost use Rattle.std.specs.Prelude.{◌≡◌, ◌≤◌, IfOk, IfSome, length};
+ghost use Rattle.ciborium_value.specs.Encoding.{encoding, item_of};
+ghost use Rattle.ciborium_value.specs.Nesting.{nesting};
+ghost use Rattle.ciborium.specs.Loaded.{AreCanonicalParts, entry_trees, store_tree};
 
-use ciborium::laws::{ReadsBack, written_is_read_back};
-use ciborium::value::{Error, Value};
+use ciborium::de::from_reader_deterministic;
+use ciborium::laws::{ReadsBack, loaded_as_saved, store_is_deterministic, written_is_read_back};
+use ciborium::value::{CanonicalValue, Error, Value};
 use ciborium::{from_reader, into_writer};
 use std::alloc::Global;
+use std::collections::BTreeMap;
 
 /// Through bytes.
 pub fn through_bytes<T: ReadsBack>(alloc: Global, value: &T) -> Option<T>
@@ -33,4 +38,32 @@ pub fn through_tree<T: ReadsBack>(alloc: Global, value: &T) -> Result<T, Error>
     written_is_read_back::<T>();
     let tree = Value::serialized(alloc, value)?;
     tree.deserialized(alloc)
+}
+
+/// A store by canonical values, saved, and loaded from its one deterministic encoding: it is the
+/// store again. Each of its keys and values has such an encoding too.
+pub fn through_store(
+    alloc: Global,
+    store: &BTreeMap<CanonicalValue, Value>,
+) -> Option<BTreeMap<CanonicalValue, Value>>
+    requires parts { AreCanonicalParts store.now.entries }
+    requires levels { nesting (item_of (store_tree store.now.entries)) ≤ 256 }
+    requires length { length (encoding (store_tree store.now.entries)) ≤ usize.MAX }
+    ensures { IfSome result
+        (λ again. entry_trees again.entries ≡ entry_trees store.now.entries) }
+{
+    loaded_as_saved::<BTreeMap<CanonicalValue, Value>>();
+    store_is_deterministic(store);
+    let mut bytes = Vec::new(alloc);
+    let Ok(()) = into_writer(store, &mut bytes) else {
+        return None;
+    };
+    let mut reader: &[u8] = &bytes;
+    let Ok(value) = from_reader_deterministic(alloc, &mut reader, 256) else {
+        return None;
+    };
+    let Ok(again) = value.deserialized::<BTreeMap<CanonicalValue, Value>>(alloc) else {
+        return None;
+    };
+    Some(again)
 }

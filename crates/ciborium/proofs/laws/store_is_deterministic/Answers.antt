@@ -1,0 +1,8 @@
+use Rattle.ciborium.proofs.Loaded.{deterministic_store, store_held}
+use Rattle.ciborium.proofs.laws.store_is_deterministic.Goals as goal
+
+pub returns-clause-accepted : goal.returns-clause-accepted
+returns-clause-accepted c = deterministic_store c.args.store.now.entries c.len.ensures.ordered
+
+pub returns-clause-held : goal.returns-clause-held
+returns-clause-held c = store_held c.args.store.now c.len.ensures.ordered
