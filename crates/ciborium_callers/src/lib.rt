@@ -21,6 +21,8 @@ pub mod own_types;
 pub mod readme;
 #[cfg(test)]
 mod readme_tests;
+#[cfg(test)]
+mod round_trip_tests;
 pub mod round_trips;
 pub mod sequence_callers;
 pub mod struct_types;

@@ -1,0 +1,74 @@
+//! What is written and read again is the value: from bytes, over a tree, and as a store.
+use crate::expectations::{expect, expect_same};
+use crate::own_types::{Figure, Message};
+use crate::round_trips::{through_bytes, through_store, through_tree};
+use crate::struct_types::Reply;
+use crate::test_bytes::decode_hex;
+use ciborium::value::{CanonicalValue, Value};
+use ciborium::{from_reader, from_reader_deterministic, into_writer};
+use std::alloc::Global;
+use std::collections::BTreeMap;
+use std::test::Fail;
+
+#[test]
+fn messages_come_back(rt: HostRuntime) -> Result<(), Fail> {
+    let body = String::from_str(rt.alloc(), "süß")?;
+    let message = Message { version: 255, body };
+    let found = through_bytes(rt.alloc(), &message);
+    let Some(again) = found else {
+        return Err(Fail::new("from bytes"));
+    };
+    expect(again == message, "from bytes")?;
+    let again = through_tree(rt.alloc(), &message)?;
+    expect_same(again, message, "over a tree")
+}
+
+#[test]
+fn figures_come_back(rt: HostRuntime) -> Result<(), Fail> {
+    let again = through_bytes(rt.alloc(), &Figure::Circle(255));
+    expect_same(again, Some(Figure::Circle(255)), "a circle from bytes")?;
+    let again = through_tree(rt.alloc(), &Figure::Point)?;
+    expect_same(again, Figure::Point, "a point over a tree")
+}
+
+#[test]
+fn replies_come_back(rt: HostRuntime) -> Result<(), Fail> {
+    let title = String::from_str(rt.alloc(), "")?;
+    let reply = Reply {
+        title,
+        number: 200,
+        text: None,
+    };
+    let again = through_tree(rt.alloc(), &reply)?;
+    expect_same(again, reply, "over a tree")
+}
+
+#[test]
+fn an_empty_store_comes_back(rt: HostRuntime) -> Result<(), Fail> {
+    let store = BTreeMap::new(rt.alloc());
+    let Some(again) = through_store(rt.alloc(), &store) else {
+        return Err(Fail::new("an empty store"));
+    };
+    expect_same(again, store, "an empty store")
+}
+
+// The keys 10, -1, 100, "z", "aa" and [100] in canonical order (RFC 8949, section 4.2.3).
+const STORE: &str = "a60a002001186402617a0362616104811864a10506";
+
+#[test]
+fn a_store_is_loaded_as_it_was_saved(rt: HostRuntime) -> Result<(), Fail> {
+    let saved = decode_hex(rt.alloc(), STORE)?;
+    let store = load(rt.alloc(), &saved)?;
+    let mut bytes = Vec::new(rt.alloc());
+    into_writer(&store, &mut bytes)?;
+    expect(bytes == saved, "saved again")?;
+    let mut reader: &[u8] = &saved;
+    let same: BTreeMap<CanonicalValue, Value> = from_reader(rt.alloc(), &mut reader)?;
+    expect_same(store, same, "read as a store")
+}
+
+fn load(alloc: Global, bytes: &[u8]) -> Result<BTreeMap<CanonicalValue, Value>, Fail> {
+    let mut reader = bytes;
+    let value = from_reader_deterministic(alloc, &mut reader, 256)?;
+    Ok(value.deserialized(alloc)?)
+}
