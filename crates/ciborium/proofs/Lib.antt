@@ -67,3 +67,6 @@ mod StrictAnswered
 mod StrictOutcome
 mod NextReaders
 mod Sequences
+mod WrittenSequences
+mod ReadSequences
+mod SequenceRoundTrips

@@ -27,3 +27,6 @@ pub mod DeterministicRefusals
 pub mod DeterministicLaws
 pub mod ItemSequences
 pub mod NextItems
+pub mod SequenceWrites
+pub mod SequenceReads
+pub mod SequenceRoundTrips

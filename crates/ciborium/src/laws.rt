@@ -12,6 +12,7 @@ ghost use Rattle.ciborium.specs.DeterministicLaws.{OneDeterministicRefusal, OneD
 ghost use Rattle.ciborium.specs.EncodingLaws.{EncodingSpells, HeadsRise, OneTree, OthersAreLonger};
 ghost use Rattle.ciborium.specs.ItemSequences.{OneSequence};
 ghost use Rattle.ciborium.specs.RoundTrips.{BytesReadBack};
+ghost use Rattle.ciborium.specs.SequenceRoundTrips.{SequenceReadsBack};
 ghost use Rattle.ciborium.specs.TypedReads.{SourcesAgree};
 ghost use Rattle.ciborium.specs.Writes.{IsNamedWritten};
 
@@ -81,6 +82,14 @@ pub fn sources_agree<T: Deserialize>()
 /// the greatest offset. It rests on the law that the type has (`ReadsBack`).
 pub fn written_is_read_back<T: ReadsBack>()
     ensures { BytesReadBack T.is_held T.written T.reading T.levels }
+{}
+
+/// A sequence is read back: the bytes that `write_sequence` puts out of values give their contents,
+/// in order and no others, where each value takes no more levels than are left, and nothing is left.
+/// Reading fails only for what no item decides: the reader, want of memory, or bytes that pass the
+/// greatest offset. It rests on the law that the type has (`ReadsBack`).
+pub fn sequence_is_read_back<T: ReadsBack>()
+    ensures { SequenceReadsBack T.is_held T.written T.reading T.levels }
 {}
 
 /// All bytes, at every offset and under every limit of levels, begin with bytes that are
