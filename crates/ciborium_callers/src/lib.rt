@@ -22,6 +22,8 @@ pub mod readme;
 #[cfg(test)]
 mod readme_tests;
 pub mod sequence_callers;
+#[cfg(test)]
+mod sequence_tests;
 pub mod struct_types;
 pub mod tag_types;
 #[cfg(test)]
