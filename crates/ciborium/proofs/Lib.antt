@@ -68,3 +68,6 @@ mod StrictOutcome
 mod NextReaders
 mod Sequences
 pub mod Loaded
+mod WrittenSequences
+mod ReadSequences
+mod SequenceRoundTrips

@@ -17,7 +17,7 @@ nothing-before : (s r : List ℕ) → [] ≡ s ++ r → s ≡ []
 nothing-before [] r e = refl
 nothing-before (x ∷ s) r e = absurd cc
 
-never-empty : (b s r : List ℕ) (i : Item) → Spells s i → b ≡ [] → b ≡ s ++ r → ⊥
+pub never-empty : (b s r : List ℕ) (i : Item) → Spells s i → b ≡ [] → b ≡ s ++ r → ⊥
 never-empty b s r i spelled none e = no-item i (subst (λ z. Spells z i) (nothing-before s r (sym none ∙ e)) spelled)
 
 pub one_sequence : OneSequence

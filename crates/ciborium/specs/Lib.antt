@@ -28,3 +28,6 @@ pub mod DeterministicLaws
 pub mod ItemSequences
 pub mod NextItems
 pub mod Loaded
+pub mod SequenceWrites
+pub mod SequenceReads
+pub mod SequenceRoundTrips

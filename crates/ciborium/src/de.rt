@@ -14,6 +14,7 @@ mod deterministic;
 mod error;
 mod front;
 mod parts;
+mod sequence;
 mod spelling;
 mod tags;
 
@@ -24,6 +25,7 @@ pub use ciborium_value::{
 };
 pub use deterministic::from_reader_deterministic;
 pub use error::Error;
+pub use sequence::read_sequence;
 use std::alloc::Global;
 use std::io::{self, Read};
 

@@ -15,6 +15,7 @@ ghost use Rattle.ciborium.specs.Loaded.{AreCanonicalParts, IsDeterministicStore,
 ghost use Rattle.ciborium.specs.Loaded.{LoadedAsSaved, LoadingGivesContent};
 ghost use Rattle.ciborium.specs.RoundTrips.{BytesGiveContent, BytesReadBack};
 ghost use Rattle.ciborium.specs.RoundTrips.{TreeGivesContent, TreeReadBack};
+ghost use Rattle.ciborium.specs.SequenceRoundTrips.{SequenceReadsBack};
 ghost use Rattle.ciborium.specs.TypedReads.{SourcesAgree};
 ghost use Rattle.ciborium.specs.Writes.{IsNamedWritten};
 
@@ -113,6 +114,14 @@ pub fn written_is_read_back<T: ReadsBack>()
     // The same of what was answered, as a caller has it behind its calls.
     ensures bytes_give { BytesGiveContent T.is_held T.written T.reading T.levels }
     ensures tree_gives { TreeGivesContent T.is_held T.written T.reading }
+{}
+
+/// A sequence is read back: the bytes that `write_sequence` puts out of values give their contents,
+/// in order and no others, where each value takes no more levels than are left, and nothing is left.
+/// Reading fails only for what no item decides: the reader, want of memory, or bytes that pass the
+/// greatest offset. It rests on the law that the type has (`ReadsBack`).
+pub fn sequence_is_read_back<T: ReadsBack>()
+    ensures { SequenceReadsBack T.is_held T.written T.reading T.levels }
 {}
 
 /// All bytes, at every offset and under every limit of levels, begin with bytes that are

@@ -13,7 +13,7 @@ pub mod value;
 
 pub use de::{
     from_reader, from_reader_deterministic, from_reader_next, from_reader_with_buffer,
-    from_reader_with_recursion_limit,
+    from_reader_with_recursion_limit, read_sequence,
 };
-pub use ser::into_writer;
+pub use ser::{into_writer, write_sequence};
 pub use value::Value;

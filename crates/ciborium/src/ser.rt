@@ -8,9 +8,11 @@ ghost use Rattle.ciborium.specs.declared.ser.Error.TheVariants.{Io};
 use byte_sink::{ByteSink, Refusal};
 use ciborium_value::Kind;
 pub use ciborium_value::{Field, Fields, NoField, Serialize, Sink};
+pub use sequence::write_sequence;
 use std::io::{self, Write};
 
 mod byte_sink;
+mod sequence;
 
 /// Why writing was refused.
 #[derive(Debug, Drop)]

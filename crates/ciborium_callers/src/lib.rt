@@ -25,6 +25,8 @@ mod readme_tests;
 mod round_trip_tests;
 pub mod round_trips;
 pub mod sequence_callers;
+#[cfg(test)]
+mod sequence_tests;
 pub mod struct_types;
 pub mod tag_types;
 #[cfg(test)]

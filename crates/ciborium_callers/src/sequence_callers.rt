@@ -1,14 +1,21 @@
 //! Callers that write and read sequences (RFC 8742, section 2), each with a contract of its own.
-ghost use Rattle.std.specs.Prelude.{◌≡◌, IfSome, List, Ok, OnOk, Some, ℕ};
+ghost use Rattle.std.specs.Prelude.{◌≡◌, IfOk, IfSome, List, Ok, OnOk, Some, map, ℕ};
 ghost use Rattle.std.specs.Io.KnownBytes.{Appends};
 ghost use Rattle.ciborium_ll.specs.Item as item;
 ghost use Rattle.ciborium_ll.specs.Item.{Item};
+ghost use Rattle.ciborium_value.specs.Encoding.{items_bytes};
 ghost use Rattle.ciborium_value.specs.Meaning.{meaning};
+ghost use Rattle.ciborium_value.specs.Places.{items_from};
+ghost use Rattle.ciborium_value.specs.Sinks.{all_named};
+ghost use Rattle.ciborium_value.specs.Sources.{read_as};
 ghost use Rattle.ciborium_value.specs.View.{tree_of};
 ghost use Rattle.ciborium.specs.ItemSequences.{IsSequence};
+ghost use Rattle.ciborium.specs.SequenceReads.{TakesSequence};
+ghost use Rattle.ciborium.specs.SequenceWrites.{AreNamedWritten};
 
+use ciborium::de::{self, Deserialize};
 use ciborium::ser::{Error, Serialize};
-use ciborium::{Value, from_reader_next, into_writer};
+use ciborium::{Value, from_reader_next, into_writer, read_sequence, write_sequence};
 use std::alloc::Global;
 use std::io::{self, Read, Write};
 
@@ -46,4 +53,29 @@ pub fn read_both<R: Read>(alloc: Global, reader: &mut R) -> Option<(Value, Value
         return None;
     };
     Some((first, second))
+}
+
+/// Writes messages of any type in a row, as a log that grows. At `Ok` just their items have gone
+/// out, in order, and each can be written.
+pub fn write_all_messages<T: Serialize, W: Write>(
+    messages: &[T],
+    writer: &mut W,
+) -> Result<(), Error<io::Error>>
+    ensures bytes { OnOk result (IfOk (all_named (map T.written messages.now)) (λ is.
+        Appends (W.contents writer.old) (W.contents writer.new) (items_bytes (items_from is)))) }
+    ensures written { OnOk result (AreNamedWritten (all_named (map T.written messages.now))) }
+{
+    write_sequence(messages, writer)
+}
+
+/// Reads such a log whole. At `Ok` all that was there are items that give the messages, in order,
+/// and nothing is left.
+pub fn read_all_messages<T: Deserialize, R: Read>(
+    alloc: Global,
+    reader: &mut R,
+) -> Result<Vec<T>, de::Error<io::Error>>
+    ensures { TakesSequence (Some 256) T.reading.taken (R.remaining reader.old)
+        (R.remaining reader.new) (read_as (λ vs. map T.reading.content vs.items) result) }
+{
+    read_sequence(alloc, reader)
 }
