@@ -1,8 +1,8 @@
 //! What is written and read again is the value: from bytes, over a tree, and as a store.
-use crate::expectations::{expect, expect_same};
+use crate::expectations::{expect, expect_bytes, expect_same};
 use crate::own_types::{Figure, Message};
-use crate::round_trips::{through_bytes, through_store, through_tree};
-use crate::struct_types::Reply;
+use crate::round_trips::{copy_deterministic, through_bytes, through_store, through_tree};
+use crate::struct_types::{Notice, Reply};
 use crate::test_bytes::decode_hex;
 use ciborium::value::{CanonicalValue, Value};
 use ciborium::{from_reader, from_reader_deterministic, into_writer};
@@ -43,6 +43,25 @@ fn replies_come_back(rt: HostRuntime) -> Result<(), Fail> {
     expect_same(again, reply, "over a tree")
 }
 
+// {"title": "a"} and {"title": "a", "urgent": true}
+#[test]
+fn notices_come_back(rt: HostRuntime) -> Result<(), Fail> {
+    expect_notice(rt.alloc(), false, "a1657469746c656161")?;
+    expect_notice(rt.alloc(), true, "a2657469746c65616166757267656e74f5")
+}
+
+fn expect_notice(alloc: Global, urgent: bool, written: &str) -> Result<(), Fail> {
+    let title = String::from_str(alloc, "a")?;
+    let notice = Notice { title, urgent };
+    let mut bytes = Vec::new(alloc);
+    into_writer(&notice, &mut bytes)?;
+    expect_bytes(alloc, Some(bytes), written)?;
+    let Some(again) = through_bytes(alloc, &notice) else {
+        return Err(Fail::new(written));
+    };
+    expect_same(again, notice, written)
+}
+
 #[test]
 fn an_empty_store_comes_back(rt: HostRuntime) -> Result<(), Fail> {
     let store = BTreeMap::new(rt.alloc());
@@ -62,6 +81,10 @@ fn a_store_is_loaded_as_it_was_saved(rt: HostRuntime) -> Result<(), Fail> {
     let mut bytes = Vec::new(rt.alloc());
     into_writer(&store, &mut bytes)?;
     expect(bytes == saved, "saved again")?;
+    let mut copied = Vec::new(rt.alloc());
+    let mut reader: &[u8] = &saved;
+    let answer = copy_deterministic(rt.alloc(), &mut reader, &mut copied);
+    expect(answer.is_some() && copied == saved, "copied")?;
     let mut reader: &[u8] = &saved;
     let same: BTreeMap<CanonicalValue, Value> = from_reader(rt.alloc(), &mut reader)?;
     expect_same(store, same, "read as a store")

@@ -1,5 +1,6 @@
 //! Callers that write a value and read it again: it is the value.
-ghost use Rattle.std.specs.Prelude.{◌≡◌, ◌≤◌, IfOk, IfSome, length};
+ghost use Rattle.std.specs.Prelude.{◌≡◌, ◌≤◌, IfOk, IfSome, List, length, ℕ};
+ghost use Rattle.std.specs.Io.KnownBytes.{Appends, Consumes};
 ghost use Rattle.ciborium_value.specs.Encoding.{encoding, item_of};
 ghost use Rattle.ciborium_value.specs.Nesting.{nesting};
 ghost use Rattle.ciborium.specs.Loaded.{AreCanonicalParts, entry_trees, store_tree};
@@ -10,6 +11,7 @@ use ciborium::value::{CanonicalValue, Error, Value};
 use ciborium::{from_reader, into_writer};
 use std::alloc::Global;
 use std::collections::BTreeMap;
+use std::io::{Read, Write};
 
 /// Through bytes.
 pub fn through_bytes<T: ReadsBack>(alloc: Global, value: &T) -> Option<T>
@@ -66,4 +68,23 @@ pub fn through_store(
         return None;
     };
     Some(again)
+}
+
+/// Reads a deterministic encoding, and writes what was read: the same bytes.
+pub fn copy_deterministic<R: Read, W: Write>(
+    alloc: Global,
+    reader: &mut R,
+    writer: &mut W,
+) -> Option<()>
+    ensures { IfSome result (λ u. (b : List ℕ) ×
+        Consumes (R.remaining reader.old) (R.remaining reader.new) b ×
+        Appends (W.contents writer.old) (W.contents writer.new) b) }
+{
+    let Ok(value) = from_reader_deterministic(alloc, reader, 256) else {
+        return None;
+    };
+    let Ok(()) = into_writer(&value, writer) else {
+        return None;
+    };
+    Some(())
 }

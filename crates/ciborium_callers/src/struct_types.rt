@@ -1,13 +1,16 @@
 //! Structs that are written and read by the names of their fields.
 ghost use Rattle.std.specs.Prelude.{◌∷◌, List, None, Ok, Option, [], codes, pos, string_bytes, ℕ};
-ghost use Rattle.std.specs.Prelude.{◌<◌, ◌^◌, Some, refl};
+ghost use Rattle.std.specs.Prelude.{◌<◌, ◌^◌, Bool, Some, false, if◌then◌else◌, refl, true};
 ghost use Rattle.std.specs.Option.{option_map};
+ghost use Rattle.ciborium_value.specs.Encoding.{boolean_item};
 ghost use Rattle.ciborium_value.specs.NeverNull.{always, never-text, optional-back};
 ghost use Rattle.ciborium_value.specs.Readings as readings;
-ghost use Rattle.ciborium_value.specs.ReadsBack.{string_back};
+ghost use Rattle.ciborium_value.specs.ReadsBack.{boolean-back, string_back};
 ghost use Rattle.ciborium_value.specs.ReadsBackNumbers.{u8_back};
+ghost use Rattle.ciborium_value.specs.ReadsBackParts.{either_back};
 ghost use Rattle.ciborium_value.specs.ReadsBackStructs.{field_back, field_from_back};
-ghost use Rattle.ciborium_value.specs.ReadsBackStructs.{fields_read_back, no_field_back};
+ghost use Rattle.ciborium_value.specs.ReadsBackStructs.{fields_read_back, left_out_back};
+ghost use Rattle.ciborium_value.specs.ReadsBackStructs.{no_field_back};
 ghost use Rattle.ciborium_value.specs.Sinks.{fields_of, named_text, number_item, option_of};
 ghost use Rattle.ciborium_value.specs.StructReadings.{field, field_or, no_field, optional_field};
 ghost use Rattle.ciborium_value.specs.StructReadings.{struct_of};
@@ -154,4 +157,63 @@ impl ReadsBack for Reply {
         (optional-back string_back (λ s. never-text (string_bytes s))
         r.text (always r.text))
         no_field_back))) refl };
+}
+
+/// A struct with a field that is left out where it is false.
+#[derive(Debug, Drop, PartialEq)]
+pub struct Notice {
+    pub title: String,
+    pub urgent: bool,
+}
+
+impl Serialize for Notice {
+    ghost written = { λ n. if n.urgent
+        then fields_of ((codes "title", named_text (string_bytes n.title)) ∷
+        (codes "urgent", Ok (boolean_item true)) ∷ [])
+        else fields_of ((codes "title", named_text (string_bytes n.title)) ∷ []) };
+
+    ghost takes_memory = { ⊥ };
+
+    fn serialize<S: Sink>(&self, sink: &mut S) -> Result<(), S::Error> {
+        if self.urgent {
+            Field("title", &self.title, Field("urgent", &true, NoField)).serialize(sink)
+        } else {
+            Field("title", &self.title, NoField).serialize(sink)
+        }
+    }
+}
+
+impl Deserialize for Notice {
+    ghost Content = { List ℕ × (Bool × Unit {0}) };
+
+    ghost reading = { struct_of (λ n. (string_bytes n.title, (n.urgent, tt)))
+        (field (codes "title") ⟦<String as Deserialize>⟧.reading
+        (field_or (codes "urgent") ⟦<bool as Deserialize>⟧.reading false no_field)) };
+
+    fn deserialize<S: Source>(alloc: Global, source: &mut S) -> Result<Notice, S::Error> {
+        let mut fields = Wanted("title", None, Wanted("urgent", Some(false), NoField));
+        read_fields(alloc, source, &mut fields)?;
+        let Wanted(_, title, Wanted(_, urgent, NoField)) = fields;
+        Ok(Notice {
+            title: required(source, title)?,
+            urgent: required(source, urgent)?,
+        })
+    }
+}
+
+impl ReadsBack for Notice {
+    ghost is_held = { λ n. Unit {0} };
+
+    ghost levels = { λ n. 1 };
+
+    ghost reads_back = { λ n held. either_back
+        (λ urgent. (string_bytes n.title, (urgent, tt))) n.urgent
+        (fields_read_back
+        (field_back (codes "title") ⟦<String as Deserialize>⟧.reading (string_back n.title tt)
+        (field_from_back (codes "urgent") ⟦<bool as Deserialize>⟧.reading (Some false)
+        (boolean-back true tt) no_field_back)) refl)
+        (fields_read_back
+        (field_back (codes "title") ⟦<String as Deserialize>⟧.reading (string_back n.title tt)
+        (left_out_back (codes "urgent") ⟦<bool as Deserialize>⟧.reading false refl
+        no_field_back)) refl) };
 }

@@ -84,6 +84,11 @@ such_that_back test kind {taken = taken} {c = c} law passes = record {
   back = λ way i e l fits. ap (λ o. then_take o (λ v. if test v then gives v else refuses kind)) (law.back way i e l fits) ∙ ap (λ t. if t then gives c else refuses kind) passes;
 }
 
+-- what a test decides is read as the content that it decides, as of a struct whose field is left out where it does not hold
+pub either_back : {C : Type 0} (content : Bool → C) (t : Bool) {r s : Named} {taken : Taken C} {n : ℕ} → IsNameRead r taken (content true) n → IsNameRead s taken (content false) n → IsNameRead (if t then r else s) taken (content t) n
+either_back content true h k = h
+either_back content false h k = k
+
 -- ---- lists
 
 and-back : {C : Type 0} (f : Item → Outcome C) (g : Item → Item) (r : Named) (s : Result (List Item) Kind) (c : C) (cs : List C) → IfOk r (λ i. f (g i) ≡ gives c) → IfOk s (λ is. take_each f (map g is) ≡ gives cs) →
