@@ -1,9 +1,10 @@
 -- Equal contents are written alike.
 use Rattle.std.proofs.Common.{ap, ◌∙◌}
 use Rattle.std.specs.Option.{option_map}
-use Rattle.std.specs.Prelude.{◌≡◌, List, [], ◌∷◌, map, pos, Option, Some, None, Ok, refl}
+use Rattle.std.specs.Prelude.{◌≡◌, ℕ, List, [], ◌∷◌, map, pos, Option, Some, None, Ok, String, string_bytes, refl}
+use Rattle.std.specs.declared.alloc.Global.{Global}
 use Rattle.ciborium_value.specs.Places.{dictionary, sequence}
-use Rattle.ciborium_value.specs.Sinks.{Named, container_of, in_turn, number_item, option_of}
+use Rattle.ciborium_value.specs.Sinks.{Named, container_of, fields_of, in_turn, named_text, number_item, option_of}
 
 -- values with one content name the same item, or are refused with the same kind
 abbrev pub IsWrittenByContent : {T C : Type 0} → (T → Named) → (T → C) → Type 0
@@ -18,6 +19,9 @@ unsigned-alike = from_content (λ n. Ok (number_item (pos n))) (λ n. n)
 
 pub signed-alike : IsWrittenByContent (λ n. Ok (number_item n)) (λ n. n)
 signed-alike = from_content (λ n. Ok (number_item n)) (λ n. n)
+
+pub string-alike : IsWrittenByContent {T = String Global} (λ s. named_text (string_bytes s)) string_bytes
+string-alike = from_content named_text string_bytes
 
 -- ---- tuples
 
@@ -99,3 +103,24 @@ module _ {K C : Type 0} {key_written : K → Named} {key : K → C} (key_alike :
 
     pub map-alike : (es fs : List (K × V)) → contents key value es ≡ contents key value fs → container_of dictionary (in_turn key_written value_written es) ≡ container_of dictionary (in_turn key_written value_written fs)
     map-alike es fs same = ap (container_of dictionary) (entries-alike es fs same)
+
+-- ---- structs by names
+
+-- fields with equal contents name the same
+pub record AreFieldsAlike {C : Type 0} (c d : C) (fs gs : List (List ℕ × Named)) : Type 0 where
+  pub alike : c ≡ d → fs ≡ gs
+
+pub no_field_alike : AreFieldsAlike {C = Unit {0}} tt tt [] []
+no_field_alike = record { alike = λ same. refl }
+
+abbrev named_field : List ℕ → Named → List ℕ × Named
+named_field name r = (name, r)
+
+module _ {A C : Type 0} (name : List ℕ) {a b : A} {r s : Named} {c d : C} {fs gs : List (List ℕ × Named)} where
+  pub field_alike : (a ≡ b → r ≡ s) → AreFieldsAlike c d fs gs → AreFieldsAlike {C = A × C} (a, c) (b, d) ((name, r) ∷ fs) ((name, s) ∷ gs)
+  field_alike first behind = record {
+    alike = λ same. ap (λ t. named_field name t ∷ fs) (first (ap (λ p. p.0) same)) ∙ ap (λ ts. named_field name s ∷ ts) (behind.alike (ap (λ p. p.1) same));
+  }
+
+pub fields_alike : {C : Type 0} {c d : C} {fs gs : List (List ℕ × Named)} → AreFieldsAlike c d fs gs → c ≡ d → fields_of fs ≡ fields_of gs
+fields_alike law same = ap fields_of (law.alike same)

@@ -5,9 +5,9 @@ ghost use Rattle.ciborium_ll.specs.Item.{bytes, simple};
 ghost use Rattle.ciborium_value.specs.Encoding.{boolean_item, item_of};
 ghost use Rattle.ciborium_value.specs.Sinks.{named_text};
 ghost use Rattle.ciborium_value.specs.WrittenContents.{from_content, list-alike, map-alike};
-ghost use Rattle.ciborium_value.specs.WrittenContents.{option-alike, signed-alike, tuple1-alike};
-ghost use Rattle.ciborium_value.specs.WrittenContents.{tuple2-alike, tuple3-alike, tuple4-alike};
-ghost use Rattle.ciborium_value.specs.WrittenContents.{unsigned-alike};
+ghost use Rattle.ciborium_value.specs.WrittenContents.{option-alike, signed-alike, string-alike};
+ghost use Rattle.ciborium_value.specs.WrittenContents.{tuple1-alike, tuple2-alike, tuple3-alike};
+ghost use Rattle.ciborium_value.specs.WrittenContents.{tuple4-alike, unsigned-alike};
 
 use super::WritesContent;
 use crate::byte_buf::ByteBuf;
@@ -28,7 +28,7 @@ impl WritesContent for char {
 }
 
 impl WritesContent for String {
-    ghost writes_content = { from_content named_text _ };
+    ghost writes_content = { string-alike };
 }
 
 impl WritesContent for ByteBuf {
