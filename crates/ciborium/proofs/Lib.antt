@@ -67,3 +67,4 @@ mod StrictAnswered
 mod StrictOutcome
 mod NextReaders
 mod Sequences
+pub mod EqualContents

@@ -27,3 +27,4 @@ pub mod DeterministicRefusals
 pub mod DeterministicLaws
 pub mod ItemSequences
 pub mod NextItems
+pub mod WrittenTags
