@@ -71,3 +71,4 @@ pub mod Loaded
 mod WrittenSequences
 mod ReadSequences
 mod SequenceRoundTrips
+pub mod EqualContents

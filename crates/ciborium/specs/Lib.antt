@@ -31,3 +31,4 @@ pub mod Loaded
 pub mod SequenceWrites
 pub mod SequenceReads
 pub mod SequenceRoundTrips
+pub mod WrittenTags

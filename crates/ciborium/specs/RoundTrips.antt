@@ -11,6 +11,7 @@ use Rattle.ciborium_value.specs.Taken.{gives}
 use Rattle.ciborium_value.specs.TreeSinks.{IsTreeOf}
 use Rattle.ciborium_value.specs.TreeSources.{value_item}
 use Rattle.ciborium_value.specs.WrittenItems.{IsWritten}
+use Rattle.ciborium_value.specs.declared.kind.Kind.{Kind}
 use Rattle.ciborium_value.specs.declared.serialized.Error.{Error as TreeError}
 use Rattle.ciborium_value.specs.declared.serialized.Error.TheVariants as of_tree
 use Rattle.ciborium.specs.declared.de.error.Error.{Error}
@@ -56,3 +57,30 @@ TreeReadBack {T} {C} IsHeld written reading =
 abbrev pub TreeGivesContent : {T C : Type 0} → (T → Type 0) → (T → Named) → Reading T C → Type 0
 TreeGivesContent {T} {C} IsHeld written reading =
     (v : T) (made : Value) (c : C) → IsHeld v → IsTreeOf (written v) made → reading.taken None (value_item made) ≡ gives c → c ≡ reading.content v
+
+-- ---- equal contents
+
+-- two values with one content are written as the same bytes
+abbrev pub WriteSameBytes : {T C : Type 0} → (T → Named) → (T → C) → Type 0
+WriteSameBytes {T} {C} written content = (v w : T) (i j : Item) → content v ≡ content w → written v ≡ Ok i → written w ≡ Ok j → written_bytes i ≡ written_bytes j
+
+-- they are refused with the same kind
+abbrev pub AreRefusedAlike : {T C : Type 0} → (T → Named) → (T → C) → Type 0
+AreRefusedAlike {T} {C} written content = (v w : T) (k : Kind) → content v ≡ content w → written v ≡ Err k → written w ≡ Err k
+
+-- written into nothing, they leave the same bytes
+abbrev pub LeaveSameBytes : {T C : Type 0} → (T → Named) → (T → C) → Type 0
+LeaveSameBytes {T} {C} written content =
+    (v w : T) (old new before after : List ℕ) → content v ≡ content w → WritesNamed {E = WriteError IoError} (Some old) (Some new) (Ok tt) (written v) →
+    WritesNamed {E = WriteError IoError} (Some before) (Some after) (Ok tt) (written w) → old ≡ [] → before ≡ [] → new ≡ after
+
+-- whatever has the content that reading the bytes of a value gives is written as its item again
+abbrev pub BytesWrittenAgain : {T C : Type 0} → (T → Type 0) → (T → Named) → Reading T C → (T → ℕ) → Type 0
+BytesWrittenAgain {T} {C} IsHeld written reading levels =
+    (v w : T) (i : Item) (l : ℕ) (rest : List ℕ) (after : Option (List ℕ)) →
+    IsHeld v → written v ≡ Ok i → IsWritten i → IsWithin (Some l) (levels v) → TakesGiving (Some l) reading.taken (written_bytes i ++ rest) (reading.content w) after → written w ≡ Ok i
+
+-- the same of the content that reading its tree gives
+abbrev pub TreeWrittenAgain : {T C : Type 0} → (T → Type 0) → (T → Named) → Reading T C → Type 0
+TreeWrittenAgain {T} {C} IsHeld written reading =
+    (v w : T) (made : Value) → IsHeld v → IsTreeOf (written v) made → reading.taken None (value_item made) ≡ gives (reading.content w) → written w ≡ written v

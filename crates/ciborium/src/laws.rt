@@ -13,8 +13,9 @@ ghost use Rattle.ciborium.specs.EncodingLaws.{EncodingSpells, HeadsRise, OneTree
 ghost use Rattle.ciborium.specs.ItemSequences.{OneSequence};
 ghost use Rattle.ciborium.specs.Loaded.{AreCanonicalParts, IsDeterministicStore, IsStoreHeld};
 ghost use Rattle.ciborium.specs.Loaded.{LoadedAsSaved, LoadingGivesContent};
-ghost use Rattle.ciborium.specs.RoundTrips.{BytesGiveContent, BytesReadBack};
-ghost use Rattle.ciborium.specs.RoundTrips.{TreeGivesContent, TreeReadBack};
+ghost use Rattle.ciborium.specs.RoundTrips.{AreRefusedAlike, BytesGiveContent, BytesReadBack};
+ghost use Rattle.ciborium.specs.RoundTrips.{BytesWrittenAgain, LeaveSameBytes, TreeGivesContent};
+ghost use Rattle.ciborium.specs.RoundTrips.{TreeReadBack, TreeWrittenAgain, WriteSameBytes};
 ghost use Rattle.ciborium.specs.SequenceRoundTrips.{SequenceReadsBack};
 ghost use Rattle.ciborium.specs.TypedReads.{SourcesAgree};
 ghost use Rattle.ciborium.specs.Writes.{IsNamedWritten};
@@ -27,7 +28,7 @@ pub use ciborium_value::tree_laws::{
     bytes_of_bignums, good_or_refused, meaning_of_written_is_folded, order_of_integers,
     order_of_values, worked_examples, written_reads_back,
 };
-pub use ciborium_value::{NeverNull, ReadsBack};
+pub use ciborium_value::{NeverNull, ReadsBack, WritesContent};
 use ciborium_value::{Deserialize, Serialize, Value};
 use std::collections::BTreeMap;
 
@@ -122,6 +123,24 @@ pub fn written_is_read_back<T: ReadsBack>()
 /// greatest offset. It rests on the law that the type has (`ReadsBack`).
 pub fn sequence_is_read_back<T: ReadsBack>()
     ensures { SequenceReadsBack T.is_held T.written T.reading T.levels }
+{}
+
+/// Equal contents are written as equal bytes: two values of one content name the same item, or are
+/// refused with the same kind, and `into_writer` puts out the same bytes of both. So a copy is
+/// written as its original. It rests on the law that the type has (`WritesContent`).
+pub fn equal_contents_equal_bytes<T: WritesContent>()
+    ensures bytes { WriteSameBytes T.written T.reading.content }
+    ensures refused { AreRefusedAlike T.written T.reading.content }
+    // The same of what was put out, as a caller has it behind its calls.
+    ensures left { LeaveSameBytes T.written T.reading.content }
+{}
+
+/// What was read back is written again as the item that it was read from: whatever value has the
+/// content that reading the bytes or the tree of a value gives. The limit leaves as many levels as
+/// reading takes (`ReadsBack`).
+pub fn read_back_is_written_again<T: ReadsBack + WritesContent>()
+    ensures bytes { BytesWrittenAgain T.is_held T.written T.reading T.levels }
+    ensures tree { TreeWrittenAgain T.is_held T.written T.reading }
 {}
 
 /// All bytes, at every offset and under every limit of levels, begin with bytes that are

@@ -8,9 +8,10 @@ ghost use Rattle.ciborium_value.specs.TagReadings.{tag_accepted, tag_required, w
 ghost use Rattle.ciborium.specs.ReadsBackTags.{IsToldApart, accepted-back, captured-back};
 ghost use Rattle.ciborium.specs.ReadsBackTags.{captured-never, required-back, tag-never};
 ghost use Rattle.ciborium.specs.Tags.{captured_of};
+ghost use Rattle.ciborium.specs.WrittenTags.{captured-alike, tagged-alike};
 
 use crate::de::{Deserialize, Key, Source};
-use crate::laws::{NeverNull, ReadsBack};
+use crate::laws::{NeverNull, ReadsBack, WritesContent};
 use crate::ser::{Serialize, Sink};
 use crate::value::Kind;
 use std::alloc::Global;
@@ -171,6 +172,18 @@ impl<V: Serialize, const TAG: u64> NeverNull for Required<V, TAG> {
 
 impl<V: Serialize, const TAG: u64> NeverNull for Accepted<V, TAG> {
     ghost never_null = { λ a. tag-never TAG (V.written a.0) };
+}
+
+impl<V: WritesContent> WritesContent for Captured<V> {
+    ghost writes_content = { λ v w same. captured-alike V.writes_content v.0 w.0 v.1 w.1 same };
+}
+
+impl<V: WritesContent, const TAG: u64> WritesContent for Required<V, TAG> {
+    ghost writes_content = { λ v w same. tagged-alike V.writes_content TAG v.0 w.0 same };
+}
+
+impl<V: WritesContent, const TAG: u64> WritesContent for Accepted<V, TAG> {
+    ghost writes_content = { λ v w same. tagged-alike V.writes_content TAG v.0 w.0 same };
 }
 
 // Adds the content under a tag.

@@ -12,11 +12,14 @@ ghost use Rattle.ciborium_value.specs.ReadsBackVariants.{data_variant_back, unit
 ghost use Rattle.ciborium_value.specs.Sinks.{fields_of, named_text, number_item};
 ghost use Rattle.ciborium_value.specs.StructReadings.{field, no_field, struct_of};
 ghost use Rattle.ciborium_value.specs.VariantReadings.{data_variant, enum_of, unit_variant};
+ghost use Rattle.ciborium_value.specs.WrittenContents.{field_alike, fields_alike, from_content};
+ghost use Rattle.ciborium_value.specs.WrittenContents.{no_field_alike, string-alike};
+ghost use Rattle.ciborium_value.specs.WrittenContents.{unsigned-alike};
 ghost use Rattle.ciborium_callers.specs.declared.key_types.Seat.{Seat};
 ghost use Rattle.ciborium_callers.specs.declared.key_types.Seat.TheVariants.{Taken, Free};
 
 use ciborium::de::{Deserialize, Key, Source, Wanted, read_fields, required};
-use ciborium::laws::ReadsBack;
+use ciborium::laws::{ReadsBack, WritesContent};
 use ciborium::ser::{Field, NoField, Serialize, Sink};
 use ciborium::value::Kind;
 use std::alloc::Global;
@@ -68,6 +71,12 @@ impl ReadsBack for Release {
         (field_back (codes "version") ⟦<u8 as Deserialize>⟧.reading (u8_back r.version held)
         (field_back (codes "name") ⟦<String as Deserialize>⟧.reading (string_back r.name tt)
         no_field_back)) refl };
+}
+
+impl WritesContent for Release {
+    ghost writes_content = { λ v w. fields_alike
+        (field_alike (codes "version") (unsigned-alike v.version w.version)
+        (field_alike (codes "name") (string-alike v.name w.name) no_field_alike)) };
 }
 
 impl Key for Release {
@@ -131,6 +140,10 @@ impl ReadsBack for Seat {
           | Taken n ↦ λ held. data_variant_back variants (codes "Taken") Taken (below 256)
               (λ l i. refl) (u8_back n held)
         ] };
+}
+
+impl WritesContent for Seat {
+    ghost writes_content = { from_content ⟦<Seat as Serialize>⟧.written _ };
 }
 
 impl Key for Seat {

@@ -16,12 +16,15 @@ ghost use Rattle.ciborium_value.specs.StructReadings.{field, no_field, struct_of
 ghost use Rattle.ciborium_value.specs.TagReadings.{tag_required};
 ghost use Rattle.ciborium_value.specs.VariantReadings.{data_variant, enum_of, unit_variant};
 ghost use Rattle.ciborium_value.specs.declared.kind.Kind.TheVariants.{Other, Range};
+ghost use Rattle.ciborium_value.specs.WrittenContents.{field_alike, fields_alike, from_content};
+ghost use Rattle.ciborium_value.specs.WrittenContents.{no_field_alike, string-alike};
+ghost use Rattle.ciborium_value.specs.WrittenContents.{unsigned-alike};
 ghost use Rattle.ciborium.specs.ReadsBackTags.{required-back};
 ghost use Rattle.ciborium_callers.specs.declared.own_types.Figure.{Figure};
 ghost use Rattle.ciborium_callers.specs.declared.own_types.Figure.TheVariants.{Circle, Point};
 
 use ciborium::de::{Deserialize, Source, Wanted, read_fields, required};
-use ciborium::laws::ReadsBack;
+use ciborium::laws::{ReadsBack, WritesContent};
 use ciborium::ser::{Field, NoField, Serialize, Sink};
 use ciborium::tag::Required;
 use ciborium::value::Kind;
@@ -74,6 +77,12 @@ impl ReadsBack for Message {
         (u8_back m.version held)
         (field_back (codes "body") ⟦<String as Deserialize>⟧.reading
         (string_back m.body tt) no_field_back)) refl };
+}
+
+impl WritesContent for Message {
+    ghost writes_content = { λ v w. fields_alike
+        (field_alike (codes "version") (unsigned-alike v.version w.version)
+        (field_alike (codes "body") (string-alike v.body w.body) no_field_alike)) };
 }
 
 /// A struct: an array of its fields.
@@ -150,6 +159,10 @@ impl ReadsBack for Figure {
           | Circle r ↦ λ held. data_variant_back variants (codes "Circle") Circle (below 256)
               (λ l i. refl) (u8_back r held)
         ] };
+}
+
+impl WritesContent for Figure {
+    ghost writes_content = { from_content ⟦<Figure as Serialize>⟧.written _ };
 }
 
 /// An even number. An odd one has no item.
@@ -261,6 +274,10 @@ impl ReadsBack for Moment {
     ghost reads_back = { λ m held. required-back 1 (u64_back m.seconds held) };
 }
 
+impl WritesContent for Moment {
+    ghost writes_content = { from_content (λ n. tag_of 1 (Ok (number_item (pos n)))) _ };
+}
+
 /// Two numbers that do not fall, as an array. Others are refused as out of range.
 #[derive(Debug, Drop, PartialEq)]
 pub struct Span {
@@ -303,4 +320,9 @@ impl ReadsBack for Span {
     ghost reads_back = { λ s held. such_that_back (λ p. nat_le p.0 p.1) Range
         (tuple2-back (u8_back s.start held.0)
         (u8_back s.end held.1)) held.2 };
+}
+
+impl WritesContent for Span {
+    ghost writes_content = { from_content (λ c. container_of sequence
+        (Ok (number_item (pos c.0)) ∷ Ok (number_item (pos c.1)) ∷ [])) _ };
 }

@@ -1,4 +1,5 @@
-//! Callers that write a value and read it again: it is the value.
+//! Callers that write a value and read it again: it is the value. And one that writes two values of
+//! one content: the bytes are the same.
 ghost use Rattle.std.specs.Prelude.{◌≡◌, ◌≤◌, IfOk, IfSome, List, length, ℕ};
 ghost use Rattle.std.specs.Io.KnownBytes.{Appends, Consumes};
 ghost use Rattle.ciborium_value.specs.Encoding.{encoding, item_of};
@@ -6,7 +7,10 @@ ghost use Rattle.ciborium_value.specs.Nesting.{nesting};
 ghost use Rattle.ciborium.specs.Loaded.{AreCanonicalParts, entry_trees, store_tree};
 
 use ciborium::de::from_reader_deterministic;
-use ciborium::laws::{ReadsBack, loaded_as_saved, store_is_deterministic, written_is_read_back};
+use ciborium::laws::{
+    ReadsBack, WritesContent, equal_contents_equal_bytes, loaded_as_saved, store_is_deterministic,
+    written_is_read_back,
+};
 use ciborium::value::{CanonicalValue, Error, Value};
 use ciborium::{from_reader, into_writer};
 use std::alloc::Global;
@@ -87,4 +91,21 @@ pub fn copy_deterministic<R: Read, W: Write>(
         return None;
     };
     Some(())
+}
+
+/// The bytes of two values with equal contents.
+pub fn bytes_of_both<T: WritesContent>(
+    alloc: Global,
+    left: &T,
+    right: &T,
+) -> Option<(Vec<u8>, Vec<u8>)>
+    requires { T.reading.content left.now ≡ T.reading.content right.now }
+    ensures { IfSome result (λ both. both.0.items ≡ both.1.items) }
+{
+    equal_contents_equal_bytes::<T>();
+    let mut first = Vec::new(alloc);
+    into_writer(left, &mut first).ok()?;
+    let mut second = Vec::new(alloc);
+    into_writer(right, &mut second).ok()?;
+    Some((first, second))
 }

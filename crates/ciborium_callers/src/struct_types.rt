@@ -14,9 +14,12 @@ ghost use Rattle.ciborium_value.specs.ReadsBackStructs.{no_field_back};
 ghost use Rattle.ciborium_value.specs.Sinks.{fields_of, named_text, number_item, option_of};
 ghost use Rattle.ciborium_value.specs.StructReadings.{field, field_or, no_field, optional_field};
 ghost use Rattle.ciborium_value.specs.StructReadings.{struct_of};
+ghost use Rattle.ciborium_value.specs.WrittenContents.{field_alike, fields_alike};
+ghost use Rattle.ciborium_value.specs.WrittenContents.{no_field_alike, option-alike};
+ghost use Rattle.ciborium_value.specs.WrittenContents.{string-alike, unsigned-alike};
 
 use ciborium::de::{Deserialize, Source, Wanted, read_fields, required};
-use ciborium::laws::ReadsBack;
+use ciborium::laws::{ReadsBack, WritesContent};
 use ciborium::ser::{Field, NoField, Serialize, Sink};
 use std::alloc::Global;
 
@@ -157,6 +160,14 @@ impl ReadsBack for Reply {
         (optional-back string_back (λ s. never-text (string_bytes s))
         r.text (always r.text))
         no_field_back))) refl };
+}
+
+impl WritesContent for Reply {
+    ghost writes_content = { λ v w. fields_alike
+        (field_alike (codes "title") (string-alike v.title w.title)
+        (field_alike (codes "number") (unsigned-alike v.number w.number)
+        (field_alike (codes "text") (option-alike string-alike v.text w.text)
+        no_field_alike))) };
 }
 
 /// A struct with a field that is left out where it is false.

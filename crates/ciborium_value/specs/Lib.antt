@@ -53,3 +53,4 @@ pub mod NeverNull
 pub mod ReadsBackMaps
 pub mod ItemsOfTrees
 pub mod ReadsBackValues
+pub mod WrittenContents

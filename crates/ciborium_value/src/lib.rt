@@ -23,7 +23,7 @@ pub use ciborium_ll::{Integer, OutOfRange};
 pub use deserialize::{Deserialize, Key};
 pub use fields::{Field, Fields, NoField};
 pub use kind::Kind;
-pub use reads_back::{NeverNull, ReadsBack};
+pub use reads_back::{NeverNull, ReadsBack, WritesContent};
 pub use serialize::Serialize;
 pub use sink::Sink;
 pub use source::Source;

@@ -1,12 +1,13 @@
-//! What is written is read back.
+//! What is written is read back, and equal contents are written alike.
 
-ghost use Rattle.std.specs.Prelude.{ℕ};
+ghost use Rattle.std.specs.Prelude.{◌≡◌, ℕ};
 ghost use Rattle.ciborium_value.specs.NeverNull.{IsNeverNull};
 ghost use Rattle.ciborium_value.specs.ReadsBack.{IsNameRead};
 
 use crate::deserialize::Deserialize;
 use crate::serialize::Serialize;
 
+mod contents;
 mod maps;
 mod numbers;
 mod options;
@@ -45,4 +46,14 @@ pub trait ReadsBack: Serialize + Deserialize {
 pub trait NeverNull: Serialize {
     // What the value names, if it names an item, is not null nor undefined.
     ghost never_null: { (v : Self) → IsNeverNull (Self.written v) };
+}
+
+/// A type of which values with equal contents are written alike.
+///
+/// Capacities do not count, so a copy is written as its original. With `ReadsBack`, what is read
+/// back is written again as the same bytes.
+pub trait WritesContent: Serialize + Deserialize {
+    // Of values with one content, both name the same item, or are refused with the same kind.
+    ghost writes_content: { (v w : Self) → Self.reading.content v ≡ Self.reading.content w →
+        Self.written v ≡ Self.written w };
 }

@@ -7,7 +7,7 @@
 //! another. No bytes are made, and no memory is taken.
 
 ghost use Rattle.std.specs.Prelude.{◌≡◌, ◌↔◌, ◌+◌, ◌*◌, ◌^◌, ◌<◌, ◌≤◌, IsTrue, refl, length};
-ghost use Rattle.std.specs.Prelude.{Some, vec_len};
+ghost use Rattle.std.specs.Prelude.{Ok, Some, vec_len};
 ghost use Rattle.std.specs.Cmp.Lexicographic.{slice_cmp};
 ghost use Rattle.std.specs.Cmp.{partial_equiv_from_equiv, partial_order_from_agreeing_total};
 ghost use Rattle.std.specs.Coded.{codes};
@@ -26,6 +26,7 @@ ghost use Rattle.ciborium_value.specs.Readings.{whole_by};
 ghost use Rattle.ciborium_value.specs.ReadsBackValues.{value-back};
 ghost use Rattle.ciborium_value.specs.Tree.{Tree, integer};
 ghost use Rattle.ciborium_value.specs.View.{tree_of, trees_of, tree_pairs_of};
+ghost use Rattle.ciborium_value.specs.WrittenContents.{from_content};
 ghost use Rattle.ciborium_value.specs.contracts.tree.Value as value_row;
 ghost use Rattle.ciborium_value.specs.declared.tree.Value as values;
 ghost use Rattle.ciborium_value.proofs.Derived.{value_eq_equivalence};
@@ -38,7 +39,9 @@ ghost use Rattle.ciborium_value.proofs.TotalOrders.{canonical_value_matches_eq};
 ghost use Rattle.ciborium.specs.Writes.{encodings, pair_encodings};
 
 use ciborium_ll::{head_size, simple};
-use ciborium_value::{Deserialize, Integer, Key, ReadsBack, Serialize, Sink, Source, Value};
+use ciborium_value::{
+    Deserialize, Integer, Key, ReadsBack, Serialize, Sink, Source, Value, WritesContent,
+};
 use std::alloc::{AllocError, Global};
 use std::cmp::Ordering;
 use std::marker::Model;
@@ -209,6 +212,10 @@ impl ReadsBack for CanonicalValue {
     ghost levels = { λ c. nesting (item_of (tree_of c)) };
 
     ghost reads_back = { λ c held. value-back (tree_of c) held };
+}
+
+impl WritesContent for CanonicalValue {
+    ghost writes_content = { from_content (λ t. Ok (item_of t)) _ };
 }
 
 impl Key for CanonicalValue {
