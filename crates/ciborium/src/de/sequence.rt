@@ -11,8 +11,8 @@ use std::io::{self, Read};
 
 /// Reads all the items of a CBOR sequence (RFC 8742, section 2), one after the other as
 /// `from_reader_next` does, until the reader gives nothing where an item would begin. No bytes are
-/// the empty list. The values are held in memory at once, and none is reserved ahead: to hold one at
-/// a time, read item after item with `from_reader_next`.
+/// the empty list. The values are held in memory at once, and nothing is reserved ahead: to hold
+/// one at a time, read item after item with `from_reader_next`.
 ///
 /// # Errors
 ///

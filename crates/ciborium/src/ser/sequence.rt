@@ -15,9 +15,9 @@ use std::io::{self, Write};
 ///
 /// # Errors
 ///
-/// Those of `into_writer` for the first value that is refused; behind it nothing is written. `Value`
-/// is the kind that the first value without an item names. Where each value has an item, a proper
-/// beginning of all their bytes has gone out, and nothing else.
+/// Those of `into_writer` for the first value that is refused; behind it nothing is written.
+/// `Value` is the kind that the first value without an item names. Where each value has an item, a
+/// proper beginning of all their bytes has gone out, and nothing else.
 pub fn write_sequence<T: Serialize, W: Write>(
     values: &[T],
     writer: &mut W,
