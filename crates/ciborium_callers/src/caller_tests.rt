@@ -3,15 +3,19 @@ use crate::callers::{
     bytes_of, bytes_of_message, only_item, read_value, save, version, write_value,
 };
 use crate::expectations::{expect, expect_all, expect_bytes, expect_same, is_refused, is_there};
+use crate::key_types::{Release, Seat};
 use crate::own_callers::{
     bytes_of_circle, bytes_of_moment, read_figure, read_message, read_moment,
 };
 use crate::own_types::{Figure, Message, Moment, Span};
+use crate::round_trips::bytes_of_both;
 use crate::sequence_callers::{read_both, write_both};
 use crate::struct_types::Reply;
 use crate::tag_types::bytes_under_a_tag;
 use crate::test_bytes::decode_hex;
-use ciborium::laws::{sources_agree, written_is_read_back};
+use ciborium::laws::{
+    equal_contents_equal_bytes, read_back_is_written_again, sources_agree, written_is_read_back,
+};
 use ciborium::ser::Serialize;
 use ciborium::tag::{Accepted, Captured, Required};
 use ciborium::value::{CanonicalValue, Value};
@@ -183,6 +187,26 @@ fn a_value_is_read_with_every_clause(rt: HostRuntime) -> Result<(), Fail> {
     written_is_read_back::<Figure>();
     sources_agree::<Span>();
     expect(reader == &[2u8][..], "another rest")
+}
+
+// A text and its copy, and two moments, are written alike.
+#[test]
+fn equal_contents_have_equal_bytes(rt: HostRuntime) -> Result<(), Fail> {
+    let alloc = rt.alloc();
+    let text = String::from_str(alloc, "a")?;
+    let copy = text.clone()?;
+    let (first, second) = bytes_of_both(alloc, &text, &copy).ok_or("no bytes")?;
+    expect_bytes(alloc, Some(first), "6161")?;
+    expect_bytes(alloc, Some(second), "6161")?;
+    let moment = Moment { seconds: 7 };
+    let same = Moment { seconds: 7 };
+    let (first, second) = bytes_of_both(alloc, &moment, &same).ok_or("no bytes")?;
+    equal_contents_equal_bytes::<BTreeMap<String, Vec<Option<i64>>>>();
+    equal_contents_equal_bytes::<Required<Vec<Captured<Value>>, 7>>();
+    read_back_is_written_again::<Vec<Message>>();
+    read_back_is_written_again::<(Reply, Figure, Span)>();
+    read_back_is_written_again::<BTreeMap<Release, Seat>>();
+    expect_same(first, second, "other bytes")
 }
 
 // Keys in canonical order (RFC 8949, section 4.2.3): 10, -1, false, 100, "z", [-1], "aa", [100].

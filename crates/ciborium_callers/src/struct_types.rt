@@ -52,6 +52,11 @@ impl Deserialize for Foo {
     }
 }
 
+impl WritesContent for Foo {
+    ghost writes_content = { λ v w. fields_alike
+        (field_alike (codes "bar") (unsigned-alike v.bar w.bar) no_field_alike) };
+}
+
 /// A struct of two fields.
 #[derive(Debug, Drop, PartialEq)]
 pub struct Ends {
