@@ -50,8 +50,9 @@ given-one o c d h k = cc
 pub loading_gives_content : {T C : Type 0} (IsHeld : T → Type 0) (written : T → Named) (reading : Reading T C) → LoadedAsSaved IsHeld written reading → LoadingGivesContent IsHeld written reading
 loading_gives_content IsHeld written reading law v t w l old new bytes after c held names accepted fits appends answers give none same =
     let out : new ≡ old ++ encoding t = subst (λ n. WritesNamed {E = WriteError IoError} (Some old) (Some new) (Ok tt) n) names appends in
-    let all : bytes ≡ encoding t ++ [] = same ∙ out ∙ ap (λ (b : List ℕ). b ++ encoding t) none ∙ sym (append-nil (encoding t)) in
-    let loaded = law v t l [] after (Ok w) held names accepted fits (subst (λ b. AnswersGoodItem {E = IoError} deterministic (Some b) l after (Ok w)) all answers) in
+    let whole : bytes ≡ encoding t = same ∙ out ∙ ap (λ (b : List ℕ). b ++ encoding t) none in
+    let all : bytes ≡ encoding t ++ [] = whole ∙ sym (append-nil (encoding t)) in
+    let loaded = law v t l [] after (Ok w) held names accepted (subst (λ (b : List ℕ). length b ≤ greatest_offset) whole fits) (subst (λ b. AnswersGoodItem {E = IoError} deterministic (Some b) l after (Ok w)) all answers) in
     given-one (reading.taken None (item_of w)) (reading.content v) c loaded.1 give
 
 -- ---- stores

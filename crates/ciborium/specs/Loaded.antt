@@ -40,7 +40,7 @@ LoadedAsSaved {T} IsHeld written reading =
 abbrev pub LoadingGivesContent : {T C : Type 0} → (T → Type 0) → (T → Named) → Reading T C → Type 0
 LoadingGivesContent {T} {C} IsHeld written reading =
     (v : T) (t w : Tree) (l : ℕ) (old new bytes : List ℕ) (after : Option (List ℕ)) (c : C) →
-    IsHeld v → written v ≡ Ok (item_of t) → IsAccepted l t → length (encoding t) ≤ greatest_offset →
+    IsHeld v → written v ≡ Ok (item_of t) → IsAccepted l t → length bytes ≤ greatest_offset →
     WritesNamed {E = WriteError IoError} (Some old) (Some new) (Ok tt) (written v) →
     AnswersGoodItem {E = IoError} deterministic (Some bytes) l after (Ok w) → reading.taken None (item_of w) ≡ gives c → old ≡ [] → bytes ≡ new → c ≡ reading.content v
 

@@ -1,8 +1,8 @@
 //! Callers that write a value and read it again: it is the value. And one that writes two values of
 //! one content: the bytes are the same.
-ghost use Rattle.std.specs.Prelude.{◌≡◌, ◌≤◌, IfOk, IfSome, List, length, ℕ};
+ghost use Rattle.std.specs.Prelude.{◌≡◌, ◌≤◌, IfOk, IfSome, List, ℕ};
 ghost use Rattle.std.specs.Io.KnownBytes.{Appends, Consumes};
-ghost use Rattle.ciborium_value.specs.Encoding.{encoding, item_of};
+ghost use Rattle.ciborium_value.specs.Encoding.{item_of};
 ghost use Rattle.ciborium_value.specs.Nesting.{nesting};
 ghost use Rattle.ciborium.specs.Loaded.{AreCanonicalParts, entry_trees, store_tree};
 
@@ -54,7 +54,6 @@ pub fn through_store(
 ) -> Option<BTreeMap<CanonicalValue, Value>>
     requires parts { AreCanonicalParts store.now.entries }
     requires levels { nesting (item_of (store_tree store.now.entries)) ≤ 256 }
-    requires length { length (encoding (store_tree store.now.entries)) ≤ usize.MAX }
     ensures { IfSome result
         (λ again. entry_trees again.entries ≡ entry_trees store.now.entries) }
 {
