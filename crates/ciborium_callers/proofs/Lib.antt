@@ -1,3 +1,4 @@
 mod LoneValue
 mod OwnTypes
 mod WrittenInRow
+mod KeptSequences

@@ -1,5 +1,5 @@
 //! Callers that write and read sequences (RFC 8742, section 2), each with a contract of its own.
-ghost use Rattle.std.specs.Prelude.{◌≡◌, IfOk, IfSome, List, Ok, OnOk, Some, map, ℕ};
+ghost use Rattle.std.specs.Prelude.{◌≡◌, ◌≤◌, All, IfOk, IfSome, List, Ok, OnOk, Some, map, ℕ};
 ghost use Rattle.std.specs.Io.KnownBytes.{Appends};
 ghost use Rattle.ciborium_ll.specs.Item as item;
 ghost use Rattle.ciborium_ll.specs.Item.{Item};
@@ -14,6 +14,7 @@ ghost use Rattle.ciborium.specs.SequenceReads.{TakesSequence};
 ghost use Rattle.ciborium.specs.SequenceWrites.{AreNamedWritten};
 
 use ciborium::de::{self, Deserialize};
+use ciborium::laws::{ReadsBack, sequence_is_read_back};
 use ciborium::ser::{Error, Serialize};
 use ciborium::{Value, from_reader_next, into_writer, read_sequence, write_sequence};
 use std::alloc::Global;
@@ -78,4 +79,24 @@ pub fn read_all_messages<T: Deserialize, R: Read>(
         (R.remaining reader.new) (read_as (λ vs. map T.reading.content vs.items) result) }
 {
     read_sequence(alloc, reader)
+}
+
+/// Writes messages into memory and reads them from there, as from a log that was kept. What comes
+/// back is what counts of each message, in order: by the law of the library, of each type that is
+/// read back as it is written.
+pub fn keep_all_messages<T: ReadsBack>(alloc: Global, messages: &[T]) -> Option<Vec<T>>
+    requires held { All T.is_held messages.now }
+    requires levels { All (λ v. T.levels v ≤ 256) messages.now }
+    ensures { IfSome result
+        (λ vs. map T.reading.content vs.items ≡ map T.reading.content messages.now) }
+{
+    sequence_is_read_back::<T>();
+    let mut log = Vec::new(alloc);
+    let Ok(()) = write_sequence(messages, &mut log) else {
+        return None;
+    };
+    let Ok(kept) = read_sequence::<T, &[u8]>(alloc, &mut log.as_slice()) else {
+        return None;
+    };
+    Some(kept)
 }

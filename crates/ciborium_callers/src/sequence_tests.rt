@@ -1,7 +1,7 @@
 //! Sequences of values of any type are written and read whole.
 use crate::expectations::{expect, expect_bytes};
 use crate::own_types::{Figure, Message};
-use crate::sequence_callers::{read_all_messages, write_all_messages};
+use crate::sequence_callers::{keep_all_messages, read_all_messages, write_all_messages};
 use crate::test_bytes::decode_hex;
 use ciborium::de::{self, Deserialize};
 use ciborium::laws::sequence_is_read_back;
@@ -16,6 +16,13 @@ fn numbers_in_a_row(rt: HostRuntime) -> Result<(), Fail> {
     sequence_is_read_back::<u8>();
     expect_both_ways::<u8>(alloc, Vec::new(alloc), "")?;
     expect_both_ways(alloc, vec![in alloc; 1u8, 24, 255]?, "01181818ff")
+}
+
+#[test]
+fn numbers_are_kept(rt: HostRuntime) -> Result<(), Fail> {
+    let numbers = [1u8, 24, 255];
+    let kept = keep_all_messages(rt.alloc(), &numbers).ok_or("nothing")?;
+    expect(kept.as_slice() == &numbers[..], "other numbers")
 }
 
 #[test]
