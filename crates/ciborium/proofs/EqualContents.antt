@@ -6,16 +6,13 @@ use Rattle.ciborium_value.specs.Encoding.{written_bytes}
 use Rattle.ciborium_value.specs.Readings.{Reading}
 use Rattle.ciborium_value.specs.ReadsBack.{IsReadBack, by_bytes}
 use Rattle.ciborium_value.specs.Sinks.{Named}
-use Rattle.ciborium_value.specs.Taken.{Outcome, gives}
+use Rattle.ciborium_value.specs.Taken.{gives}
 use Rattle.ciborium_value.specs.WrittenContents.{IsWrittenByContent}
 use Rattle.ciborium_value.proofs.ReadBack.{written_item_spells}
 use Rattle.ciborium.specs.RoundTrips.{AreRefusedAlike, BytesWrittenAgain, LeaveSameBytes, TreeWrittenAgain, WriteSameBytes}
 use Rattle.ciborium.specs.Writes.{WritesNamed}
 use Rattle.ciborium.specs.declared.ser.Error.{Error as WriteError}
-use Rattle.ciborium.proofs.RoundTrips.{tree_gives_content}
-
-one-content : {C : Type 0} (o : Outcome C) (c d : C) → o ≡ gives c → o ≡ gives d → d ≡ c
-one-content o c d h k = cc
+use Rattle.ciborium.proofs.RoundTrips.{one-content, tree_gives_content}
 
 -- written into nothing, what names the same leaves the same
 same-left : (m n : Named) (old new before after : List ℕ) → m ≡ n → WritesNamed {E = WriteError IoError} (Some old) (Some new) (Ok tt) m →

@@ -18,7 +18,7 @@ use Rattle.ciborium_value.specs.Places.{dictionary, pairs_from}
 use Rattle.ciborium_value.specs.Readings.{Reading}
 use Rattle.ciborium_value.specs.ReadsBack.{IsReadBack, by_bytes}
 use Rattle.ciborium_value.specs.Sinks.{Named, all_named, and_then, contained, container_of, in_turn, named_value}
-use Rattle.ciborium_value.specs.Taken.{Outcome, gives}
+use Rattle.ciborium_value.specs.Taken.{gives}
 use Rattle.ciborium_value.specs.Tree as trees
 use Rattle.ciborium_value.specs.Tree.{Tree, TreePairs}
 use Rattle.ciborium_value.specs.View.{tree_of, tree_pairs_of}
@@ -34,6 +34,7 @@ use Rattle.ciborium.specs.Spelling.{deterministic}
 use Rattle.ciborium.specs.declared.ser.Error.{Error as WriteError}
 use Rattle.ciborium.specs.Writes.{IsNamedWritten, WritesNamed}
 use Rattle.ciborium.proofs.RisingKeys.{canonical-keys}
+use Rattle.ciborium.proofs.RoundTrips.{one-content}
 
 -- ---- any type
 
@@ -44,16 +45,13 @@ loaded_as_saved {T} {C} IsHeld written reading levels law v t l rest after r hel
     by (Ok w) (same, left) = (left, ap (λ u. reading.taken None (item_of u)) (sym same) ∙ (law v held).back by_bytes (item_of t) names None tt)
     by (Err e) failed = failed
 
-given-one : {C : Type 0} (o : Outcome C) (c d : C) → o ≡ gives c → o ≡ gives d → d ≡ c
-given-one o c d h k = cc
-
 pub loading_gives_content : {T C : Type 0} (IsHeld : T → Type 0) (written : T → Named) (reading : Reading T C) → LoadedAsSaved IsHeld written reading → LoadingGivesContent IsHeld written reading
 loading_gives_content IsHeld written reading law v t w l old new bytes after c held names accepted fits appends answers give none same =
     let out : new ≡ old ++ encoding t = subst (λ n. WritesNamed {E = WriteError IoError} (Some old) (Some new) (Ok tt) n) names appends in
     let whole : bytes ≡ encoding t = same ∙ out ∙ ap (λ (b : List ℕ). b ++ encoding t) none in
     let all : bytes ≡ encoding t ++ [] = whole ∙ sym (append-nil (encoding t)) in
     let loaded = law v t l [] after (Ok w) held names accepted (subst (λ (b : List ℕ). length b ≤ greatest_offset) whole fits) (subst (λ b. AnswersGoodItem {E = IoError} deterministic (Some b) l after (Ok w)) all answers) in
-    given-one (reading.taken None (item_of w)) (reading.content v) c loaded.1 give
+    one-content (reading.taken None (item_of w)) (reading.content v) c loaded.1 give
 
 -- ---- stores
 

@@ -24,7 +24,7 @@ use Rattle.ciborium.specs.TypedReads.{AnswersBytes, TakesGiving}
 use Rattle.ciborium.specs.Writes.{IsNamedWritten, WritesNamed}
 
 -- where a value is given no item is to blame
-not-blamed : {C : Type 0} (end : ℕ) (f : Fault) (o : Outcome C) (c : C) → o ≡ gives c → IsFaultOf end f o → IsOutside end f
+pub not-blamed : {C : Type 0} (end : ℕ) (f : Fault) (o : Outcome C) (c : C) → o ≡ gives c → IsFaultOf end f o → IsOutside end f
 not-blamed end (of_kind k) o c e h = cc
 not-blamed end of_nesting o c e h = cc
 not-blamed end of_syntax o c e h = h
@@ -32,7 +32,7 @@ not-blamed end of_memory o c e h = tt
 not-blamed end of_device o c e h = tt
 not-blamed end of_length o c e h = h
 
-one-content : {C : Type 0} (o : Outcome C) (c d : C) → o ≡ gives c → o ≡ gives d → d ≡ c
+pub one-content : {C : Type 0} (o : Outcome C) (c d : C) → o ≡ gives c → o ≡ gives d → d ≡ c
 one-content o c d h k = cc
 
 pub bytes_read_back : {T C : Type 0} (IsHeld : T → Type 0) (written : T → Named) (reading : Reading T C) (levels : T → ℕ) →

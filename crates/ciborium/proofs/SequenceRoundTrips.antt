@@ -10,8 +10,8 @@ use Rattle.ciborium_value.specs.Nesting.{Limit, IsWithin}
 use Rattle.ciborium_value.specs.Places.{items_from}
 use Rattle.ciborium_value.specs.Readings.{Reading}
 use Rattle.ciborium_value.specs.Sinks.{Named, all_named}
-use Rattle.ciborium_value.specs.Sources.{Fault, of_kind, of_nesting, of_syntax, of_memory, of_device, of_length, IsFaultOf, IsOutside}
-use Rattle.ciborium_value.specs.Taken.{Outcome, Taken, gives}
+use Rattle.ciborium_value.specs.Sources.{Fault, of_kind, of_nesting, of_syntax, of_memory, of_device, of_length, IsOutside}
+use Rattle.ciborium_value.specs.Taken.{Taken, gives}
 use Rattle.ciborium_value.specs.WrittenItems.{AreWritten}
 use Rattle.ciborium_value.proofs.Progress.{and_then_is}
 use Rattle.ciborium_value.proofs.ReadBack.{written_item_spells}
@@ -21,18 +21,10 @@ use Rattle.ciborium.specs.RoundTrips.{IsGivenBack}
 use Rattle.ciborium.specs.SequenceReads.{GivesInTurn, GivesThen}
 use Rattle.ciborium.specs.SequenceRoundTrips.{AnswersSequence, SequenceReadsBack}
 use Rattle.ciborium.specs.TypedReads.{IsFaultAhead}
+use Rattle.ciborium.proofs.RoundTrips.{not-blamed, one-content}
 use Rattle.ciborium.proofs.Sequences.{never-empty}
 
 -- ---- faults that no item decides
-
--- where a value is given no item is to blame
-not-blamed : {C : Type 0} (end : ℕ) (f : Fault) (o : Outcome C) (c : C) → o ≡ gives c → IsFaultOf end f o → IsOutside end f
-not-blamed end (of_kind k) o c e h = cc
-not-blamed end of_nesting o c e h = cc
-not-blamed end of_syntax o c e h = h
-not-blamed end of_memory o c e h = tt
-not-blamed end of_device o c e h = tt
-not-blamed end of_length o c e h = h
 
 -- what passes the greatest offset does so behind more bytes too
 outside-further : (n m : ℕ) (f : Fault) → n ≤ m → IsOutside n f → IsOutside m f
@@ -42,9 +34,6 @@ outside-further n m of_syntax le h = h
 outside-further n m of_memory le h = tt
 outside-further n m of_device le h = tt
 outside-further n m of_length le h = let past : greatest_offset < n = h in omega arith
-
-one-content : {C : Type 0} (o : Outcome C) (c d : C) → o ≡ gives c → o ≡ gives d → d ≡ c
-one-content o c d h k = cc
 
 -- ---- items that give contents, one by one, in their shortest spelling
 
