@@ -19,7 +19,7 @@ use Rattle.ciborium_value.specs.TreeSinks.{IsTreeOf}
 use Rattle.ciborium_value.specs.TreeSources.{value_item}
 use Rattle.ciborium_value.specs.declared.tree.Value.{Value}
 use Rattle.ciborium.specs.declared.ser.Error.{Error as WriteError}
-use Rattle.ciborium.specs.RoundTrips.{BytesGiveContent, BytesReadBack, IsGivenBack, TreeGivesContent, TreeReadBack}
+use Rattle.ciborium.specs.RoundTrips.{BytesReadBack, IsContentReadBack, IsGivenBack, TreeGivesContent, TreeReadBack}
 use Rattle.ciborium.specs.TypedReads.{AnswersBytes, TakesGiving}
 use Rattle.ciborium.specs.Writes.{IsNamedWritten, WritesNamed}
 
@@ -71,8 +71,9 @@ module _ {T C : Type 0} (IsHeld : T → Type 0) (written : T → Named) (reading
       taken-content v l bytes after c held within i names fits (same ∙ all) takes
   by-name v l old new bytes after c held within (Err k) names appends fits takes none same = absurd fits
 
-  pub bytes_give_content : BytesGiveContent IsHeld written reading levels
-  bytes_give_content v l old new bytes after c held within appends fits takes none same = by-name v l old new bytes after c held within (written v) refl appends fits takes none same
+  pub content_read_back : (l : ℕ) (v again : T) (bytes rest : List ℕ) → IsContentReadBack IsHeld written reading levels l v again bytes rest
+  content_read_back l v again bytes rest old new held within appends fits takes none same =
+      by-name v l old new bytes (Some rest) (reading.content again) held within (written v) refl appends fits (takes bytes refl) none same
 
   made-content : (v : T) (made : Value) → IsHeld v → (n : Named) → written v ≡ n → IsTreeOf n made → reading.taken None (value_item made) ≡ gives (reading.content v)
   made-content v made held (Ok i) names is = ap (λ t. reading.taken None (item_of t)) is ∙ (law v held).back by_tree i names None tt

@@ -1,5 +1,5 @@
 -- What is written is read back, from bytes and from a tree.
-use Rattle.std.specs.Prelude.{◌≡◌, ℕ, List, [], ◌++◌, length, Option, Some, None, Result, Ok, Err}
+use Rattle.std.specs.Prelude.{◌≡◌, ℕ, ◌≤◌, List, [], ◌++◌, length, Option, Some, None, Result, Ok, Err}
 use Rattle.std.specs.declared.io.Error.{Error as IoError}
 use Rattle.ciborium_ll.specs.Item.{Item}
 use Rattle.ciborium_value.specs.Encoding.{written_bytes}
@@ -18,7 +18,7 @@ use Rattle.ciborium.specs.declared.de.error.Error.{Error}
 use Rattle.ciborium.specs.ByteSources.{cause_of}
 use Rattle.ciborium_value.specs.declared.tree.Value.{Value}
 use Rattle.ciborium.specs.declared.ser.Error.{Error as WriteError}
-use Rattle.ciborium.specs.TypedReads.{AnswersBytes, AnswersTree, TakesGiving}
+use Rattle.ciborium.specs.TypedReads.{AnswersBytes, AnswersTree, TakesGiven, TakesGiving}
 use Rattle.ciborium.specs.Writes.{IsNamedWritten, WritesNamed}
 
 -- the content is answered and what followed is left; or the call failed, for what no item decides
@@ -34,12 +34,11 @@ BytesReadBack {T} {C} IsHeld written reading levels =
     AnswersBytes reading.taken l (written_bytes i ++ rest) after r →
     IsGivenBack (reading.content v) rest (length (written_bytes i ++ rest)) after r
 
--- of bytes that were written into nothing and read again, the content is that of the value
-abbrev pub BytesGiveContent : {T C : Type 0} → (T → Type 0) → (T → Named) → Reading T C → (T → ℕ) → Type 0
-BytesGiveContent {T} {C} IsHeld written reading levels =
-    (v : T) (l : ℕ) (old new bytes : List ℕ) (after : Option (List ℕ)) (c : C) →
-    IsHeld v → IsWithin (Some l) (levels v) → WritesNamed {E = WriteError IoError} (Some old) (Some new) (Ok tt) (written v) → IsNamedWritten (written v) →
-    TakesGiving (Some l) reading.taken bytes c after → old ≡ [] → bytes ≡ new → c ≡ reading.content v
+-- where bytes were written into nothing, of the one value, and the other was read at their front within l levels, the contents are equal
+abbrev pub IsContentReadBack : {T C : Type 0} → (T → Type 0) → (T → Named) → Reading T C → (T → ℕ) → ℕ → T → T → List ℕ → List ℕ → Type 0
+IsContentReadBack IsHeld written reading levels l v again bytes rest =
+    (old new : List ℕ) → IsHeld v → levels v ≤ l → WritesNamed {E = WriteError IoError} (Some old) (Some new) (Ok tt) (written v) → IsNamedWritten (written v) →
+    TakesGiven {E = IoError} (Some l) reading.taken (Some bytes) (Some rest) (Ok (reading.content again)) → old ≡ [] → bytes ≡ new → reading.content again ≡ reading.content v
 
 -- ---- over a tree
 

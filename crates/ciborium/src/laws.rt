@@ -13,8 +13,8 @@ ghost use Rattle.ciborium.specs.EncodingLaws.{EncodingSpells, HeadsRise, OneTree
 ghost use Rattle.ciborium.specs.ItemSequences.{OneSequence};
 ghost use Rattle.ciborium.specs.Loaded.{AreCanonicalParts, IsDeterministicStore, IsStoreHeld};
 ghost use Rattle.ciborium.specs.Loaded.{LoadedAsSaved, LoadingGivesContent};
-ghost use Rattle.ciborium.specs.RoundTrips.{AreRefusedAlike, BytesGiveContent, BytesReadBack};
-ghost use Rattle.ciborium.specs.RoundTrips.{BytesWrittenAgain, LeaveSameBytes, TreeGivesContent};
+ghost use Rattle.ciborium.specs.RoundTrips.{AreRefusedAlike, BytesReadBack, BytesWrittenAgain};
+ghost use Rattle.ciborium.specs.RoundTrips.{IsContentReadBack, LeaveSameBytes, TreeGivesContent};
 ghost use Rattle.ciborium.specs.RoundTrips.{TreeReadBack, TreeWrittenAgain, WriteSameBytes};
 ghost use Rattle.ciborium.specs.SequenceRoundTrips.{SequenceReadsBack};
 ghost use Rattle.ciborium.specs.TypedReads.{SourcesAgree};
@@ -113,8 +113,16 @@ pub fn written_is_read_back<T: ReadsBack>()
     ensures bytes { BytesReadBack T.is_held T.written T.reading T.levels }
     ensures tree { TreeReadBack T.is_held T.written T.reading }
     // The same of what was answered, as a caller has it behind its calls.
-    ensures bytes_give { BytesGiveContent T.is_held T.written T.reading T.levels }
     ensures tree_gives { TreeGivesContent T.is_held T.written T.reading }
+{}
+
+/// The same of one value that was written and read: where `bytes` are what `into_writer` put out of
+/// `value`, and `again` was read at their front within `limit` levels, with `rest` behind it, the
+/// contents are equal. A caller that writes and reads calls it behind its calls, and needs no proof
+/// file.
+pub fn is_read_back<T: ReadsBack>(value: &T, again: &T, limit: usize, bytes: &[u8], rest: &[u8])
+    ensures { IsContentReadBack T.is_held T.written T.reading T.levels limit
+        value.now again.now bytes.now rest.now }
 {}
 
 /// A sequence is read back: the bytes that `write_sequence` puts out of values give their contents,

@@ -8,8 +8,8 @@ ghost use Rattle.ciborium.specs.Loaded.{AreCanonicalParts, entry_trees, store_tr
 
 use ciborium::de::from_reader_deterministic;
 use ciborium::laws::{
-    ReadsBack, WritesContent, equal_contents_equal_bytes, loaded_as_saved, store_is_deterministic,
-    written_is_read_back,
+    ReadsBack, WritesContent, equal_contents_equal_bytes, is_read_back, loaded_as_saved,
+    store_is_deterministic, written_is_read_back,
 };
 use ciborium::value::{CanonicalValue, Error, Value};
 use ciborium::{from_reader, into_writer};
@@ -24,15 +24,16 @@ pub fn through_bytes<T: ReadsBack>(alloc: Global, value: &T) -> Option<T>
     ensures { IfSome result (λ again.
         T.reading.content again ≡ T.reading.content value.now) }
 {
-    written_is_read_back::<T>();
     let mut bytes = Vec::new(alloc);
     let Ok(()) = into_writer(value, &mut bytes) else {
         return None;
     };
-    let mut reader: &[u8] = &bytes;
+    let whole: &[u8] = &bytes;
+    let mut reader = whole;
     let Ok(again) = from_reader::<T, _>(alloc, &mut reader) else {
         return None;
     };
+    is_read_back(value, &again, 256, whole, reader);
     Some(again)
 }
 
