@@ -18,8 +18,10 @@ use Rattle.ciborium_value.proofs.ReadBack.{written_item_spells}
 use Rattle.ciborium.specs.declared.de.error.Error.{Error}
 use Rattle.ciborium.specs.ByteSources.{cause_of}
 use Rattle.ciborium.specs.RoundTrips.{IsGivenBack}
-use Rattle.ciborium.specs.SequenceReads.{GivesInTurn, GivesThen}
-use Rattle.ciborium.specs.SequenceRoundTrips.{AnswersSequence, SequenceReadsBack}
+use Rattle.ciborium.specs.SequenceReads.{GivesInTurn, GivesThen, TakesSequence}
+use Rattle.ciborium.specs.SequenceRoundTrips.{AnswersSequence, AreContentsReadBack, SequenceReadsBack}
+use Rattle.ciborium.specs.SequenceWrites.{AllNamed, AreNamedWritten, WritesInTurn}
+use Rattle.ciborium.specs.declared.ser.Error.{Error as WriteError}
 use Rattle.ciborium.specs.TypedReads.{IsFaultAhead}
 use Rattle.ciborium.proofs.RoundTrips.{not-blamed, one-content}
 use Rattle.ciborium.proofs.Sequences.{never-empty}
@@ -102,3 +104,13 @@ module _ {T C : Type 0} (IsHeld : T → Type 0) (written : T → Named) (reading
       by (Err e) (taken, refused) =
           let (cs, u, gave, ahead, end) = refused (items_bytes (items_from is)) refl in
           outside-behind (Some l) reading.taken (cause_of e) is (map reading.content vs) cs u fits given gave ahead end
+
+  pub contents_read_back : (vs again : List T) (bytes rest : List ℕ) → AreContentsReadBack IsHeld written reading levels vs again bytes rest
+  contents_read_back vs again bytes rest old new held within out fits taken none same = by (all_named (map written vs)) refl out fits
+    where
+      by : (r : AllNamed) → all_named (map written vs) ≡ r → WritesInTurn {E = WriteError IoError} (Some old) (Some new) (Ok tt) r → AreNamedWritten r → map reading.content again ≡ map reading.content vs
+      by (Ok is) named out fits =
+          let whole : bytes ≡ items_bytes (items_from is) = same ∙ out ∙ ap (λ (b : List ℕ). b ++ items_bytes (items_from is)) none in
+          (sequence_read_back vs is 256 (Some rest) (Ok (map reading.content again)) held named fits within
+          (subst (λ b. TakesSequence {E = IoError} (Some 256) reading.taken (Some b) (Some rest) (Ok (map reading.content again))) whole taken, λ b known. tt)).0
+      by (Err k) named out fits = absurd fits

@@ -16,7 +16,7 @@ ghost use Rattle.ciborium.specs.Loaded.{LoadedAsSaved, LoadingGivesContent};
 ghost use Rattle.ciborium.specs.RoundTrips.{AreRefusedAlike, BytesReadBack, BytesWrittenAgain};
 ghost use Rattle.ciborium.specs.RoundTrips.{IsContentReadBack, LeaveSameBytes, TreeGivesContent};
 ghost use Rattle.ciborium.specs.RoundTrips.{TreeReadBack, TreeWrittenAgain, WriteSameBytes};
-ghost use Rattle.ciborium.specs.SequenceRoundTrips.{SequenceReadsBack};
+ghost use Rattle.ciborium.specs.SequenceRoundTrips.{AreContentsReadBack, SequenceReadsBack};
 ghost use Rattle.ciborium.specs.TypedReads.{SourcesAgree};
 ghost use Rattle.ciborium.specs.Writes.{IsNamedWritten};
 
@@ -131,6 +131,14 @@ pub fn is_read_back<T: ReadsBack>(value: &T, again: &T, limit: usize, bytes: &[u
 /// greatest offset. It rests on the law that the type has (`ReadsBack`).
 pub fn sequence_is_read_back<T: ReadsBack>()
     ensures { SequenceReadsBack T.is_held T.written T.reading T.levels }
+{}
+
+/// The same of one list that was written and read: where `bytes` are what `write_sequence` put out
+/// of `values`, and `read_sequence` answered `again` of them, with `rest` behind it, the contents
+/// are equal. A caller that writes and reads calls it behind its calls, and needs no proof file.
+pub fn are_read_back<T: ReadsBack>(values: &[T], again: &Vec<T>, bytes: &[u8], rest: &[u8])
+    ensures { AreContentsReadBack T.is_held T.written T.reading T.levels
+        values.now again.now.items bytes.now rest.now }
 {}
 
 /// Equal contents are written as equal bytes: two values of one content name the same item, or are

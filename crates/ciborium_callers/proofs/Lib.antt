@@ -1,4 +1,3 @@
 mod LoneValue
 mod OwnTypes
 mod WrittenInRow
-mod KeptSequences

@@ -14,7 +14,7 @@ ghost use Rattle.ciborium.specs.SequenceReads.{TakesSequence};
 ghost use Rattle.ciborium.specs.SequenceWrites.{AreNamedWritten};
 
 use ciborium::de::{self, Deserialize};
-use ciborium::laws::{ReadsBack, sequence_is_read_back};
+use ciborium::laws::{ReadsBack, are_read_back};
 use ciborium::ser::{Error, Serialize};
 use ciborium::{Value, from_reader_next, into_writer, read_sequence, write_sequence};
 use std::alloc::Global;
@@ -90,13 +90,15 @@ pub fn keep_all_messages<T: ReadsBack>(alloc: Global, messages: &[T]) -> Option<
     ensures { IfSome result
         (λ vs. map T.reading.content vs.items ≡ map T.reading.content messages.now) }
 {
-    sequence_is_read_back::<T>();
     let mut log = Vec::new(alloc);
     let Ok(()) = write_sequence(messages, &mut log) else {
         return None;
     };
-    let Ok(kept) = read_sequence::<T, &[u8]>(alloc, &mut log.as_slice()) else {
+    let bytes: &[u8] = &log;
+    let mut reader = bytes;
+    let Ok(kept) = read_sequence::<T, _>(alloc, &mut reader) else {
         return None;
     };
+    are_read_back(messages, &kept, bytes, reader);
     Some(kept)
 }
