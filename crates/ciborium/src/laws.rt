@@ -126,9 +126,9 @@ pub fn is_read_back<T: ReadsBack>(value: &T, again: &T, limit: usize, bytes: &[u
 {}
 
 /// A sequence is read back: the bytes that `write_sequence` puts out of values give their contents,
-/// in order and no others, where each value takes no more levels than are left, and nothing is left.
-/// Reading fails only for what no item decides: the reader, want of memory, or bytes that pass the
-/// greatest offset. It rests on the law that the type has (`ReadsBack`).
+/// in order and no others, where each value takes no more levels than are left, and nothing stays
+/// unread. Reading fails only for what no item decides: the reader, want of memory, or bytes that
+/// pass the greatest offset. It rests on the law that the type has (`ReadsBack`).
 pub fn sequence_is_read_back<T: ReadsBack>()
     ensures { SequenceReadsBack T.is_held T.written T.reading T.levels }
 {}

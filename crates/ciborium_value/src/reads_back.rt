@@ -23,7 +23,7 @@ mod values;
 ///
 /// `is_held` says of which values this holds: of the library's types, those that a program can
 /// have. Their numbers are in range, their characters have a code, and the keys of their maps rise.
-/// A type may ask for more, as `Captured` in `ciborium` does.
+/// A type may ask for more, as `Value` does, and `Captured` in `ciborium`.
 ///
 /// `levels` counts one for an array or a map, above the most that one of its parts takes, and none
 /// for a number, a character or a string. A limit counts so too.
