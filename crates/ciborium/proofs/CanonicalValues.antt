@@ -1,9 +1,9 @@
--- Of values that a program holds, the order of canonical values is the canonical order.
+-- Of values that a program holds, the order of canonical values is the canonical order, and that of bytewise ones the bytewise order.
 use Rattle.std.proofs.Common.{◌≡◌, refl, sym, ap, ◌∙◌, Ordering, Less, Equal, Greater, nat_cmp}
 use Rattle.std.specs.Cmp.Lexicographic.{slice_cmp}
 use Rattle.std.specs.Ordering.{ordering_then}
-use Rattle.ciborium_value.specs.Canonical.{canonical_order}
-use Rattle.ciborium_value.specs.CanonicalValues.{canonical_value_cmp}
+use Rattle.ciborium_value.specs.Canonical.{bytewise_order, canonical_order}
+use Rattle.ciborium_value.specs.CanonicalValues.{bytewise_value_cmp, canonical_value_cmp}
 use Rattle.ciborium_value.specs.Derived.{value_cmp}
 use Rattle.ciborium_value.specs.Encoding.{encoding, encoded_size}
 use Rattle.ciborium_value.specs.Proper.{IsProperTree}
@@ -15,7 +15,7 @@ use Rattle.ciborium_value.proofs.OrderedTrees.{tied_where_equal}
 use Rattle.ciborium.specs.CanonicalLaws.{IsCanonical, TiesEqualOnes}
 use Rattle.ciborium_value.proofs.TotalOrders.{canonical_order_total}
 use Rattle.std.proofs.lemmas.Cmp.{tied_itself}
-use Rattle.ciborium.proofs.TreeEncodings.{tied_encodings}
+use Rattle.ciborium_value.proofs.TreeEncodings.{tied_encodings}
 use Rattle.ciborium.proofs.EncodingLaws.{one_tree}
 
 -- a first order whose ties are those of the second decides
@@ -48,3 +48,9 @@ ties_equal_ones v w h k = (
   λ e. canonical_order-tied (tree_of v) (tree_of w) h k (sym (is_canonical v w h k) ∙ e),
   λ e. is_canonical v w h k ∙ ap (canonical_order (tree_of v)) (sym e) ∙ tied_itself canonical_order_total (tree_of v),
 )
+
+-- bytewise, where values that are tied are one
+pub bytewise_value_cmp-is : (v w : Value) (o : Ordering) → (o ≡ Equal → tree_of v ≡ tree_of w) → o ≡ bytewise_order (tree_of v) (tree_of w) → o ≡ bytewise_value_cmp v w
+bytewise_value_cmp-is v w o ties e =
+    e ∙ first_decides (bytewise_order (tree_of v) (tree_of w)) (value_cmp v w)
+    (λ t. value_cmp-is v w ∙ (tied_where_equal (tree_of v) (tree_of w)).1 (ties (e ∙ t)))

@@ -14,8 +14,8 @@ use Rattle.ciborium_ll.proofs.UniqueSpelling.{one_item}
 use Rattle.ciborium_value.specs.Encoding.{item_of, items_of, pairs_of, encoding, items_bytes, pairs_bytes, written_tree, written_trees, written_pairs}
 use Rattle.ciborium_value.specs.Tree.{Tree, integer, bytes, text, boolean, null, tag, array, map, Trees, no_trees, tree, TreePairs, no_tree_pairs, tree_pair}
 use Rattle.ciborium.specs.EncodingLaws.{OneTree, EncodingSpells, OthersAreLonger, HeadsRise}
-use Rattle.ciborium.proofs.HeadsInOrder.{heads_decide}
-use Rattle.ciborium.proofs.TreeEncodings.{encoding-spells}
+use Rattle.ciborium_value.proofs.HeadsInOrder.{heads_decide}
+use Rattle.ciborium_value.proofs.TreeEncodings.{encoding-spells}
 
 pub encoding_spells : EncodingSpells
 encoding_spells = encoding-spells

@@ -24,7 +24,7 @@ use Rattle.ciborium.specs.DeterministicRefusals.{ContainerKind, of_array, of_map
 use Rattle.ciborium.proofs.Paired.{in_turn-key, in_turn-value}
 use Rattle.ciborium.proofs.StrictParts.{accepted-more, order-value, parts_bytes-more, whole-accepted, whole-encoding}
 use Rattle.ciborium.proofs.StrictReader.{trees_in, pairs_in, whole}
-use Rattle.ciborium.proofs.TreeEncodings.{encoding-spells}
+use Rattle.ciborium_value.proofs.TreeEncodings.{encoding-spells}
 use Rattle.ciborium.proofs.Turning.{folds-not}
 
 -- ---- one part more

@@ -24,7 +24,7 @@ use Rattle.ciborium.specs.Spelling.{Spelling, any, deterministic, IsReadBy, Refu
 use Rattle.ciborium.proofs.Outcomes.{only-fails}
 use Rattle.ciborium.proofs.StrictOutcome as strict
 use Rattle.ciborium.proofs.StrictOutcome.{one_tree}
-use Rattle.ciborium.proofs.TreeEncodings.{encoding-spells}
+use Rattle.ciborium_value.proofs.TreeEncodings.{encoding-spells}
 
 -- ---- what holds of the bytes that are read in a spelling
 

@@ -1,13 +1,6 @@
-mod Elements
-mod HeadsInOrder
 mod WritingSteps
-mod Encodings
-mod TreeEncodings
-mod SideBySide
-mod VisitCounts
 mod EncodingLaws
 mod CanonicalValues
-mod ProperValues
 mod Grown
 mod Paired
 mod ItemsRead

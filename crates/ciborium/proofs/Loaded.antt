@@ -1,8 +1,7 @@
 -- What is written of a value whose tree has an accepted spelling is read back by the deterministic reader.
-use Rattle.std.proofs.Common.{◌≡◌, ℕ, ◌≤◌, ◌+◌, false, List, [], ◌∷◌, ◌++◌, length, map, Option, Some, None, option_map, Result, Ok, Err, refl, sym, ap, ◌∙◌, subst, append-nil, arith}
+use Rattle.std.proofs.Common.{◌≡◌, ℕ, ◌≤◌, false, List, [], ◌∷◌, ◌++◌, length, map, Some, None, option_map, Result, Ok, Err, refl, sym, ap, ◌∙◌, subst, append-nil, arith}
 use Rattle.std.proofs.lemmas.List.Elements.{All-head, All-tail, All-weaker}
 use Rattle.std.specs.BTreeMap.{BTreeMap, IsOrdered}
-use Rattle.std.specs.List.{All}
 use Rattle.std.specs.List.Sorted.{IsStrictlySortedBy}
 use Rattle.std.specs.Map.{keys_of}
 use Rattle.std.specs.declared.io.Error.{Error as IoError}
@@ -18,7 +17,6 @@ use Rattle.ciborium_value.specs.Places.{dictionary, pairs_from}
 use Rattle.ciborium_value.specs.Readings.{Reading}
 use Rattle.ciborium_value.specs.ReadsBack.{IsReadBack, by_bytes}
 use Rattle.ciborium_value.specs.Sinks.{Named, all_named, and_then, contained, container_of, in_turn, named_value}
-use Rattle.ciborium_value.specs.Taken.{gives}
 use Rattle.ciborium_value.specs.Tree as trees
 use Rattle.ciborium_value.specs.Tree.{Tree, TreePairs}
 use Rattle.ciborium_value.specs.View.{tree_of, tree_pairs_of}
@@ -26,7 +24,6 @@ use Rattle.ciborium_value.specs.declared.tree.Value.{Value}
 use Rattle.ciborium_value.proofs.ReadBack.{written_tree_is_proper}
 use Rattle.ciborium.specs.declared.de.error.Error.{Error}
 use Rattle.ciborium.specs.Answers.{AnswersGoodItem, AnswersTree}
-use Rattle.ciborium.specs.CanonicalLaws.{RiseCanonically}
 use Rattle.ciborium.specs.Deterministic as rising
 use Rattle.ciborium.specs.Deterministic.{AreRising, HasRisingKeys, IsAccepted, IsCanonicalTree, PairsHaveRisingKeys}
 use Rattle.ciborium.specs.Loaded.{AreCanonicalParts, IsDeterministicStore, IsLoaded, IsStoreHeld, LoadedAsSaved, LoadingGivesContent, store_tree}

@@ -1,5 +1,5 @@
 -- Tags that are skipped, and what is read behind them.
-use Rattle.std.proofs.Common.{◌≡◌, ℕ, Bool, true, false, List, [], ◌∷◌, ◌++◌, refl, sym, ap, ◌∙◌, subst, append_assoc, append-nil, ◌≤◌, length, arith, length-append}
+use Rattle.std.proofs.Common.{◌≡◌, ℕ, Bool, true, false, List, [], ◌∷◌, ◌++◌, refl, sym, ap, ◌∙◌, subst, append_assoc, append-nil, arith, length-append}
 use Rattle.ciborium_ll.specs.declared.header.Header.{Header}
 use Rattle.ciborium_ll.specs.declared.header.Header.TheVariants as header
 use Rattle.ciborium_ll.specs.Header.{SpellsHeader}
@@ -8,7 +8,7 @@ use Rattle.ciborium_ll.specs.Spells.{Spells}
 use Rattle.ciborium_value.specs.Meaning.{is_bignum_tag}
 use Rattle.ciborium_value.specs.Nesting.{Limit}
 use Rattle.ciborium_value.specs.Sources.{Fault, IsFaultOf, IsOutside}
-use Rattle.ciborium_value.specs.Taken.{Outcome, Taken, gives, untagged, number_of, number_under}
+use Rattle.ciborium_value.specs.Taken.{Taken, gives, untagged, number_of, number_under}
 use Rattle.ciborium_value.proofs.Sequences.{fault_outside}
 use Rattle.ciborium.specs.ItemReads.{TakesHead, DeniesHead, DeniesItem, Reads, Denies}
 use Rattle.ciborium.specs.Skips.{under, IsSkipped, AreSkipped, IsTagged, Skips, TakesBare}

@@ -12,7 +12,7 @@ use Rattle.ciborium_value.specs.declared.serialized.Error.TheVariants as of_tree
 use Rattle.ciborium.specs.ByteSources.{cause_of}
 use Rattle.ciborium.specs.TypedReads.{AnswersTree, AnswersBytes, AreOneAnswer, IsExcused, IsSameKind, SourcesAgree}
 use Rattle.ciborium.specs.declared.de.error.Error.{Error}
-use Rattle.ciborium.proofs.TreeEncodings.{encoding-spells}
+use Rattle.ciborium_value.proofs.TreeEncodings.{encoding-spells}
 
 -- what an item gives within a limit it gives without one
 without-gives : {A : Type 0} (o p : Outcome A) (v : A) → IsSameUnlessNested o p → o ≡ gives v → p ≡ gives v

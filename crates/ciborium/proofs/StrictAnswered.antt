@@ -31,7 +31,7 @@ use Rattle.ciborium.proofs.StrictFound.{opening}
 use Rattle.ciborium.proofs.StrictParts.{parts_bytes-more, accepted-more, in_order-is, is-in_order, order-value, whole-encoding, whole-accepted}
 use Rattle.ciborium.proofs.StrictReader.{Answer, ends, refused, checked, levels, is_long, string_tree, string, whole, in_order, next_part, is_foldable, judged, bignum, over, tagged}
 use Rattle.ciborium.proofs.StrictReader.{counted_item, plain_item, item_at, read, parts}
-use Rattle.ciborium.proofs.TreeEncodings.{encoding-spells}
+use Rattle.ciborium_value.proofs.TreeEncodings.{encoding-spells}
 
 abbrev pub Meets : List ℕ → ℕ → ℕ → Answer → Type 0
 Meets b p l (ends v r q) = IsAccepted l v × (b ≡ encoding v ++ r) × (q ≡ p + length (encoding v)) × (q ≤ greatest_offset)

@@ -27,7 +27,7 @@ use Rattle.ciborium.proofs.StrictBignums.{IsKept, kept-judged}
 use Rattle.ciborium.proofs.StrictParts.{is-in_order, order-before, whole-encoding, accepted-parts, elements, turns, elements-in, turns-in, turns-count}
 use Rattle.ciborium.proofs.StrictReader.{Answer, ends, checked, levels, Reader, is_long, string_tree, string, whole, next_part, judged, bignum, over, tagged, counted_item, plain_item}
 use Rattle.ciborium.proofs.StrictReader.{item_at, read, parts}
-use Rattle.ciborium.proofs.TreeEncodings.{encoding-spells}
+use Rattle.ciborium_value.proofs.TreeEncodings.{encoding-spells}
 
 -- ---- shortest heads
 

@@ -15,7 +15,7 @@ use Rattle.ciborium.proofs.StrictAnswered.{Meets, read-meets}
 use Rattle.ciborium.proofs.StrictFound.{read-good}
 use Rattle.ciborium.proofs.StrictReader.{Answer, ends, refused, read}
 use Rattle.ciborium.proofs.StrictRefused.{refusal-read}
-use Rattle.ciborium.proofs.TreeEncodings.{encoding-spells}
+use Rattle.ciborium_value.proofs.TreeEncodings.{encoding-spells}
 
 good-answer : (b : List ℕ) (p l : ℕ) → HasDeterministic b p l → (v : Tree) × (r : List ℕ) × (q : ℕ) × (read (enough b) b p l ≡ ends v r q)
 good-answer b p l (s, v, r, g, e) =

@@ -8,8 +8,6 @@ pub mod Due
 pub mod Answers
 pub mod Writes
 pub mod AnswerLaws
-pub mod Heads
-pub mod Visits
 pub mod EncodingLaws
 pub mod CanonicalLaws
 pub mod Unread

@@ -4,7 +4,6 @@ use Rattle.std.specs.List.{All}
 use Rattle.std.specs.BTreeMap.{BTreeMap}
 use Rattle.std.specs.declared.io.Error.{Error as IoError}
 use Rattle.ciborium_ll.specs.Bytes.{greatest_offset}
-use Rattle.ciborium_ll.specs.Item.{Item}
 use Rattle.ciborium_value.specs.CanonicalValues.{canonical_value_cmp}
 use Rattle.ciborium_value.specs.Encoding.{encoding, item_of}
 use Rattle.ciborium_value.specs.Folded.{folded}

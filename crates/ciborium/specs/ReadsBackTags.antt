@@ -1,20 +1,18 @@
 -- What is written under a tag is read back (RFC 8949, section 3.4).
 use Rattle.std.proofs.Common.{ap, ◌∙◌, arith, zero}
 use Rattle.std.proofs.lemmas.Bool.Decides.{nat_tests}
-use Rattle.std.specs.Prelude.{◌≡◌, ℕ, suc, Bool, true, false, nat_lt, Option, Some, None, Ok, Err, IfOk, if◌then◌else◌, ◌==◌, refl}
+use Rattle.std.specs.Prelude.{◌≡◌, ℕ, suc, Bool, true, false, nat_lt, Option, Some, None, Ok, Err, IfOk, if◌then◌else◌, refl}
 use Rattle.ciborium_ll.specs.Item as items
 use Rattle.ciborium_ll.specs.Item.{Item}
 use Rattle.ciborium_value.specs.Encoding.{item_of}
 use Rattle.ciborium_value.specs.Nesting.{Limit, IsWithin}
 use Rattle.ciborium_value.specs.NeverNull.{IsNeverNull}
 use Rattle.ciborium_value.specs.ReadsBack.{IsNameRead, Way, by_bytes, by_tree, met, met-tag, of_ok}
-use Rattle.ciborium_value.specs.ReadsBackParts.{at}
 use Rattle.ciborium_value.specs.Sinks.{Named, tag_of}
 use Rattle.ciborium_value.specs.TagReadings.{taken_with_tag, under_tag, under_no_other_tag}
-use Rattle.ciborium_value.specs.Taken.{Outcome, Taken, gives, refuses, deeper, is_null, outer_tag, outcome_map, then_take}
+use Rattle.ciborium_value.specs.Taken.{Taken, gives, is_null, outer_tag, outcome_map, then_take}
 use Rattle.ciborium_value.specs.Tree as tree
 use Rattle.ciborium_value.specs.Tree.{Tree}
-use Rattle.ciborium_value.specs.declared.kind.Kind.TheVariants as kinds
 use Rattle.ciborium.specs.Tags.{captured_of}
 
 -- what is written without a tag around it has none of its own, as a bignum has

@@ -6,7 +6,7 @@ use Rattle.ciborium_value.specs.Encoding.{written_bytes}
 use Rattle.ciborium_value.specs.Nesting.{IsWithin}
 use Rattle.ciborium_value.specs.Readings.{Reading}
 use Rattle.ciborium_value.specs.Sinks.{Named}
-use Rattle.ciborium_value.specs.Sources.{IsOutside, read_as}
+use Rattle.ciborium_value.specs.Sources.{IsOutside}
 use Rattle.ciborium_value.specs.Taken.{gives}
 use Rattle.ciborium_value.specs.TreeSinks.{IsTreeOf}
 use Rattle.ciborium_value.specs.TreeSources.{value_item}

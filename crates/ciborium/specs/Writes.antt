@@ -2,12 +2,10 @@
 use Rattle.std.specs.Prelude.{ℕ, List, Option, Some, None, Result, Ok, Err, IsErr}
 use Rattle.std.specs.Borrow.{GName}
 use Rattle.ciborium_ll.specs.Writing.{Writes}
-use Rattle.ciborium_value.specs.Encoding.{items_of, pairs_of, items_bytes, pairs_bytes, written_bytes}
+use Rattle.ciborium_value.specs.Encoding.{written_bytes}
 use Rattle.ciborium_value.specs.Places.{Place, Out, IsOutAt, IsWrittenPlace}
 use Rattle.ciborium_value.specs.Sinks.{Named, Cause, value, memory, device}
-use Rattle.ciborium_value.specs.View.{trees_of, tree_pairs_of}
 use Rattle.ciborium_value.specs.WrittenItems.{IsWritten}
-use Rattle.ciborium_value.specs.declared.tree.Value.{Value as TreeValue}
 use Rattle.ciborium.specs.declared.ser.Error.{Error}
 use Rattle.ciborium.specs.declared.ser.Error.TheVariants.{Io, Value, Memory}
 use Rattle.ciborium.specs.declared.ser.byte_sink.ByteSink.{ByteSink}
@@ -59,13 +57,3 @@ abbrev pub refusal_cause : Refusal → Cause
 refusal_cause refusal.Io = device
 refusal_cause (refusal.Value kind) = value kind
 refusal_cause refusal.Memory = memory
-
--- ---- lists of values
-
--- the encoding of each value, in order
-abbrev pub encodings : List TreeValue → List ℕ
-encodings vs = items_bytes (items_of (trees_of vs))
-
--- the encodings of each key and its value, in order
-abbrev pub pair_encodings : List (TreeValue × TreeValue) → List ℕ
-pair_encodings ps = pairs_bytes (pairs_of (tree_pairs_of ps))

@@ -2,6 +2,6 @@
 
 pub mod canonical;
 
-pub use canonical::{CanonicalValue, MeasuredValue};
+pub use canonical::{BytewiseValue, CanonicalValue, KeyOrder, MeasuredValue};
 pub use ciborium_value::serialized::Error;
 pub use ciborium_value::{ByteBuf, Integer, Kind, OutOfRange, Value};

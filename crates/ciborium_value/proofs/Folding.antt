@@ -3,7 +3,7 @@ use Rattle.std.proofs.Common.{le-leb, leb-true, subst, ◌≡◌, ℕ, zero, suc
 use Rattle.ciborium_value.specs.Encoding.{item_of, items_of, pairs_of}
 use Rattle.ciborium_value.specs.Folded.{short_bytes, tree_folding_bytes, folded, trees_folded, tree_pairs_folded}
 use Rattle.ciborium_value.specs.FoldingLaws.{WrittenMeansFolded, FoldsOnce}
-use Rattle.ciborium_value.specs.Meaning.{big_endian, without_zeros, bignum_meaning, unsigned_bignum, negative_bignum, is_bignum_tag, short_string, tag_meaning, simple_meaning, trees_more, tree_pairs_more, meaning, items_meaning, pairs_meaning}
+use Rattle.ciborium_value.specs.Meaning.{big_endian, without_zeros, bignum_meaning, unsigned_bignum, negative_bignum, is_bignum_tag, tag_meaning, simple_meaning, trees_more, tree_pairs_more, meaning, items_meaning, pairs_meaning}
 use Rattle.ciborium_value.specs.ItemsOfTrees.{short_string-item_of}
 use Rattle.ciborium_value.specs.Tree.{Tree, integer, bytes, text, boolean, null, tag, array, map, Trees, no_trees, tree, TreePairs, no_tree_pairs, tree_pair}
 use Rattle.ciborium_value.proofs.Bignums.{stays, zeros_hold_nothing, no_zeros_twice}

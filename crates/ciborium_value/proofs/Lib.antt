@@ -35,3 +35,10 @@ pub mod Sequences
 pub mod Dictionaries
 pub mod NamedFields
 pub mod MadeOfValues
+pub mod Elements
+pub mod Encodings
+pub mod HeadsInOrder
+pub mod TreeEncodings
+pub mod SideBySide
+pub mod VisitCounts
+pub mod ProperValues

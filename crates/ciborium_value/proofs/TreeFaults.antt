@@ -1,5 +1,5 @@
 -- An error of a tree is the fault of the item that is refused, wherever that stands.
-use Rattle.std.proofs.Common.{◌≡◌, ℕ}
+use Rattle.std.proofs.Common.{ℕ}
 use Rattle.ciborium_value.specs.Sources.{IsFaultOf}
 use Rattle.ciborium_value.specs.Taken.{Outcome}
 use Rattle.ciborium_value.specs.TreeSources.{IsErrorOf, fault_of}

@@ -1,10 +1,21 @@
--- The canonical order: the shorter encoding first, then bytewise (RFC 8949, section 4.2.3; RFC 7049, section 3.9).
+-- The two orders of trees by their encodings.
 use Rattle.std.specs.declared.cmp.Ordering.{Ordering}
 use Rattle.std.specs.Ordering.{nat_cmp, then_cmp, on}
 use Rattle.std.specs.Cmp.Lexicographic.{slice_cmp}
 use Rattle.ciborium_value.specs.Tree.{Tree}
 use Rattle.ciborium_value.specs.Encoding.{encoding, encoded_size}
+use Rattle.ciborium_value.specs.declared.key_order.KeyOrder.{KeyOrder}
+use Rattle.ciborium_value.specs.declared.key_order.KeyOrder.TheVariants.{LengthFirst, Bytewise}
 
--- the sizes, and where they are equal the bytes, of which the first that differs decides
+-- bytewise: the first byte that differs decides (RFC 8949, section 4.2.1)
+abbrev pub bytewise_order : Tree → Tree → Ordering
+bytewise_order = on encoding (slice_cmp nat_cmp)
+
+-- the canonical order: the shorter encoding first, then bytewise (RFC 8949, section 4.2.3; RFC 7049, section 3.9)
 abbrev pub canonical_order : Tree → Tree → Ordering
 canonical_order = then_cmp (on encoded_size nat_cmp) (on encoding (slice_cmp nat_cmp))
+
+-- each by its name
+abbrev pub key_order : KeyOrder → Tree → Tree → Ordering
+key_order LengthFirst = canonical_order
+key_order Bytewise = bytewise_order

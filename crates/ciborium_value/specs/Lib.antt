@@ -54,3 +54,7 @@ pub mod ReadsBackMaps
 pub mod ItemsOfTrees
 pub mod ReadsBackValues
 pub mod WrittenContents
+pub mod EncodedLists
+pub mod SideBySide
+pub mod Heads
+pub mod Visits

@@ -1,12 +1,10 @@
 -- What is written of a `Value` is read back, where folding changes nothing in it (RFC 8949, section 3.4.3).
 use Rattle.std.proofs.Common.{ap, ◌∙◌, arith, zero}
-use Rattle.std.proofs.Math.Nat.{le-max_left, le-max_right}
-use Rattle.std.specs.Prelude.{◌≡◌, ℕ, suc, max, pos, negsuc, false, true, List, Option, Some, None, Ok, option_map, if◌then◌else◌, refl}
-use Rattle.ciborium_ll.specs.Item.{Item}
+use Rattle.std.specs.Prelude.{◌≡◌, ℕ, suc, max, pos, negsuc, false, true, List, Option, Some, None, option_map, if◌then◌else◌, refl}
 use Rattle.ciborium_value.specs.Encoding.{item_of, items_of, pairs_of}
-use Rattle.ciborium_value.specs.Folded.{folded, trees_folded, tree_pairs_folded, tree_folding_bytes}
+use Rattle.ciborium_value.specs.Folded.{folded, trees_folded, tree_pairs_folded}
 use Rattle.ciborium_value.specs.ItemsOfTrees.{short_string-item_of, tree_is_written_as_itself}
-use Rattle.ciborium_value.specs.Meaning.{bignum_meaning, folding_bytes, is_bignum_tag, simple_meaning, tag_meaning, tree_pairs_more, trees_more}
+use Rattle.ciborium_value.specs.Meaning.{folding_bytes, is_bignum_tag, simple_meaning, tag_meaning, tree_pairs_more, trees_more}
 use Rattle.ciborium_value.specs.Nesting.{Limit, IsWithin, items_nesting, nesting, pairs_nesting, tag_nesting}
 use Rattle.ciborium_value.specs.ReadsBack.{IsNameRead, met, met-definite, named, of_ok}
 use Rattle.ciborium_value.specs.ReadsBackParts.{within-left, within-right}

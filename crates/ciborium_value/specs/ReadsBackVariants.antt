@@ -1,6 +1,6 @@
 -- What is written of an enum by the names of its variants is read back.
 use Rattle.std.proofs.Common.{ap, ◌∙◌, arith, zero}
-use Rattle.std.specs.Prelude.{◌≡◌, ℕ, suc, false, List, [], ◌∷◌, Some, None, Ok, Err, IfOk, refl}
+use Rattle.std.specs.Prelude.{◌≡◌, ℕ, suc, false, List, [], ◌∷◌, Some, None, Ok, Err, IfOk}
 use Rattle.ciborium_ll.specs.Item as items
 use Rattle.ciborium_ll.specs.Item.{Item}
 use Rattle.ciborium_value.specs.Nesting.{Limit, IsWithin}
@@ -9,7 +9,7 @@ use Rattle.ciborium_value.specs.ReadsBack.{IsNameRead, Way, met, met-text, of_ok
 use Rattle.ciborium_value.specs.Places.{dictionary}
 use Rattle.ciborium_value.specs.ReadsBackParts.{at, met-container}
 use Rattle.ciborium_value.specs.Sinks.{Named, fields_of, named_text}
-use Rattle.ciborium_value.specs.Taken.{Outcome, Taken, gives, then_take}
+use Rattle.ciborium_value.specs.Taken.{Taken, gives, then_take}
 use Rattle.ciborium_value.specs.TakenParts.{taken_then}
 use Rattle.ciborium_value.specs.VariantReadings.{Variant, taken_data, taken_enum}
 

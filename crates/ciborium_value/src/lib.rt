@@ -3,10 +3,12 @@
 
 pub mod bignum;
 mod byte_buf;
+pub mod canonical;
 mod clone;
 mod deserialize;
 mod deserialized;
 mod fields;
+mod key_order;
 mod kind;
 mod reads_back;
 mod serialize;
@@ -22,6 +24,7 @@ pub use byte_buf::ByteBuf;
 pub use ciborium_ll::{Integer, OutOfRange};
 pub use deserialize::{Deserialize, Key};
 pub use fields::{Field, Fields, NoField};
+pub use key_order::KeyOrder;
 pub use kind::Kind;
 pub use reads_back::{NeverNull, ReadsBack, WritesContent};
 pub use serialize::Serialize;

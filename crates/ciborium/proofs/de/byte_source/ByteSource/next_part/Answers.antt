@@ -1,4 +1,4 @@
-use Rattle.std.proofs.Common.{rules, [], List, ℕ, length, Some, arith, ◌++◌, ◌+◌, ◌≤◌, ◌-◌, ◌≡◌, ◌∷◌, refl, sym, ap, ◌∙◌, subst}
+use Rattle.std.proofs.Common.{rules, length, Some, arith, ◌++◌, ◌+◌, ◌≤◌, ◌-◌, ◌≡◌, ◌∷◌, refl, sym, ap, ◌∙◌, subst}
 use Rattle.std.specs.Vec.Iter.{into_iter_items}
 use Rattle.std.proofs.lemmas.List.{nil_from_length}
 use Rattle.std.proofs.lemmas.Result.{err_from_is_err_and}

@@ -1,11 +1,9 @@
 -- The encoding of a tree as its head and what stands behind it.
-use Rattle.std.proofs.Common.{◌≡◌, ℕ, ◌+◌, ◌^◌, ◌<◌, List, [], ◌++◌, length, take, get_or, Bool, true, false, Vec, vec_len, String, string_bytes, Box, Global, ℤ, pos, negsuc, ◌⊎◌, inl, inr, refl, sym, ap, ◌∙◌, subst, lit<, arith, length-append, append-nil, Equal, nat_cmp}
+use Rattle.std.proofs.Common.{◌≡◌, ℕ, ◌+◌, ◌^◌, ◌<◌, List, [], ◌++◌, length, take, get_or, Bool, true, false, Vec, vec_len, String, string_bytes, Box, Global, ℤ, pos, negsuc, ◌⊎◌, inl, inr, refl, sym, ap, ◌∙◌, arith, length-append, append-nil, Equal, nat_cmp}
 use Rattle.std.specs.Cmp.Lexicographic.{slice_cmp}
 use Rattle.std.specs.FinMap.{nat_cmp-IsAntisymmetric, slice_cmp-IsAntisymmetric}
-use Rattle.std.specs.Ordering.{ordering_then}
 use Rattle.ciborium_ll.specs.Head.{shortest_head}
 use Rattle.ciborium_ll.specs.Spells.{Spells}
-use Rattle.ciborium_ll.proofs.UniqueSpelling.{none_begins_another}
 use Rattle.ciborium_value.specs.Encoding.{encoding, encoded_size, item_of, items_of, pairs_of, items_bytes, pairs_bytes}
 use Rattle.ciborium_value.specs.Proper.{IsProperTree}
 use Rattle.ciborium_value.specs.Tree.{Tree, integer, bytes, text, boolean, null, tag, array, map}
@@ -14,11 +12,10 @@ use Rattle.ciborium_value.specs.declared.tree.Value as value
 use Rattle.ciborium_value.specs.declared.tree.Value.{Value}
 use Rattle.ciborium_value.proofs.Views.{tree_of-Integer, tree_of-Bytes, tree_of-Text, tree_of-Bool, tree_of-Null, tree_of-Tag, tree_of-Array, tree_of-Map, trees_count-trees_of, tree_pairs_count-tree_pairs_of}
 use Rattle.ciborium_value.proofs.Written.{written_spells, IsProperItem-item_of, items_count-items_of, pairs_count-pairs_of}
-use Rattle.ciborium.specs.Heads.{major_of, argument_of, content_bytes, head_order}
-use Rattle.ciborium.specs.Visits.{counted}
-use Rattle.ciborium.specs.Writes.{encodings, pair_encodings}
-use Rattle.ciborium.proofs.Encodings.{encodings-more, pair_encodings-more}
-use Rattle.ciborium.proofs.HeadsInOrder.{BeginsOnlyItself, fronts_decide, heads_decide}
+use Rattle.ciborium_value.specs.Heads.{major_of, argument_of, content_bytes}
+use Rattle.ciborium_value.specs.Visits.{counted}
+use Rattle.ciborium_value.specs.EncodedLists.{encodings, pair_encodings}
+use Rattle.ciborium_value.proofs.Encodings.{encodings-more, pair_encodings-more}
 
 pub encoding-is : (v : Tree) → encoding v ≡ shortest_head (major_of v) (argument_of v) ++ content_bytes v
 unfolding shortest_head
@@ -49,38 +46,8 @@ encoded_size-head v major argument head m n h fits none =
     let empty = ap length none in
     encoded_size-is v major argument head 0 head m n h (omega (arith, empty)) (omega (arith, fits))
 
--- the argument of a proper tree's head
-pub argument_of-fits : (v : Tree) → IsProperTree v → argument_of v < 2 ^ 64
-argument_of-fits (integer (pos n)) h = h
-argument_of-fits (integer (negsuc n)) h = h
-argument_of-fits (bytes b) h = let short = h.1 in omega (arith, short)
-argument_of-fits (text b) h = let short = h.1.1 in omega (arith, short)
-argument_of-fits (boolean false) h = lit< tt
-argument_of-fits (boolean true) h = lit< tt
-argument_of-fits null h = lit< tt
-argument_of-fits (tag t v) h = h.0
-argument_of-fits (array vs) h = let few = h.0 in omega (arith, few)
-argument_of-fits (map ps) h = let few = h.0 in omega (arith, few)
-
--- the heads decide, and then what stands behind them
-pub encodings_compared : (v w : Tree) → IsProperTree v → IsProperTree w
-    → slice_cmp nat_cmp (encoding v) (encoding w) ≡ ordering_then (head_order v w) (slice_cmp nat_cmp (content_bytes v) (content_bytes w))
-encodings_compared v w h k =
-    rw (encoding-is v, encoding-is w) (heads_decide (major_of v) (major_of w) (argument_of v) (argument_of w) (content_bytes v) (content_bytes w) (argument_of-fits v h) (argument_of-fits w k))
-
--- ---- no encoding is a proper beginning of another
-
 pub encoding-spells : (v : Tree) → IsProperTree v → Spells (encoding v) (item_of v)
 encoding-spells v h = written_spells (item_of v) (IsProperItem-item_of v h)
-
-pub encoding_begins_only_itself : (v w : Tree) → IsProperTree v → IsProperTree w → BeginsOnlyItself (encoding v) (encoding w)
-encoding_begins_only_itself v w h k r e =
-    none_begins_another (encoding v) r (item_of v) (item_of w) (encoding-spells v h) (subst (λ b. Spells b (item_of w)) (sym e) (encoding-spells w k))
-
--- so two encodings decide before what follows them
-pub encodings_decide : (v w : Tree) (x y : List ℕ) → IsProperTree v → IsProperTree w
-    → slice_cmp nat_cmp (encoding v ++ x) (encoding w ++ y) ≡ ordering_then (slice_cmp nat_cmp (encoding v) (encoding w)) (slice_cmp nat_cmp x y)
-encodings_decide v w x y h k = fronts_decide (encoding v) (encoding w) x y (encoding_begins_only_itself v w h k) (encoding_begins_only_itself w v k h)
 
 -- encodings that no byte tells apart are one
 pub tied_encodings : (v w : Tree) → slice_cmp nat_cmp (encoding v) (encoding w) ≡ Equal → encoding v ≡ encoding w
@@ -135,3 +102,9 @@ argument_of-Array w v n is count =
 pub argument_of-Map : (w : Value) (v : Vec (Value × Value) Global) (n : ℕ) → w ≡ value.Map v → n ≡ vec_len v → n ≡ argument_of (tree_of w)
 argument_of-Map w v n is count =
     count ∙ v.ok.0 ∙ sym (tree_pairs_count-tree_pairs_of v.items) ∙ sym (ap (λ x. argument_of (tree_of x)) is ∙ ap argument_of (tree_of-Map v))
+
+pub argument_of-Bytes : (w : Value) (v : Vec ℕ Global) (b : List ℕ) → w ≡ value.Bytes v → b ≡ v.items → argument_of (tree_of w) ≡ length b
+argument_of-Bytes w v b is payload = ap (λ x. argument_of (tree_of x)) is ∙ ap argument_of (tree_of-Bytes v) ∙ ap length (sym payload)
+
+pub argument_of-Text : (w : Value) (s : String Global) (b : List ℕ) → w ≡ value.Text s → b ≡ string_bytes s → argument_of (tree_of w) ≡ length b
+argument_of-Text w s b is payload = ap (λ x. argument_of (tree_of x)) is ∙ ap argument_of (tree_of-Text s) ∙ ap length (sym payload)

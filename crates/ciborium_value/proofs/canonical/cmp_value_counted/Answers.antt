@@ -1,9 +1,18 @@
-use Rattle.std.proofs.Common.{sym, ap, ◌∙◌, nat_cmp}
+use Rattle.std.proofs.Common.{◌≡◌, sym, ap, ◌∙◌, nat_cmp, rules}
 use Rattle.std.proofs.lemmas.Cmp.{tied_itself, nat_cmp_total}
+use Rattle.std.specs.Cmp.Lexicographic.{slice_cmp}
 use Rattle.ciborium_value.specs.Encoding.{encoding, encoded_size}
-use Rattle.ciborium.proofs.SideBySide.{all_same}
-use Rattle.ciborium.proofs.VisitCounts.{both_walks-most, both_walks-all}
-use Rattle.ciborium.proofs.value.canonical.cmp_value_counted.Goals as goal
+use Rattle.ciborium_value.specs.View.{tree_of}
+use Rattle.ciborium_value.proofs.SideBySide.{decided_alone, equal_where_same}
+use Rattle.ciborium_value.proofs.VisitCounts.{both_walks-most, both_walks-all}
+use Rattle.ciborium_value.proofs.canonical.cmp_value_counted.Goals as goal
+
+pub returns-in-Equal-clause-order : goal.returns-in-Equal-clause-order
+returns-in-Equal-clause-order c =
+    let left = encoding (tree_of c.args.left.now) in
+    let right = encoding (tree_of c.args.right.now) in
+    let order : c.compare-order.result ≡ slice_cmp nat_cmp left right = decided_alone c.compare-order.result left right c.compare-order.ensures.decides in
+    search (rules, order)
 
 pub returns-in-Equal-clause-at_most_twice : goal.returns-in-Equal-clause-at_most_twice
 returns-in-Equal-clause-at_most_twice c =
@@ -12,7 +21,7 @@ returns-in-Equal-clause-at_most_twice c =
 pub returns-in-Equal-clause-twice_where_equal : goal.returns-in-Equal-clause-twice_where_equal
 returns-in-Equal-clause-twice_where_equal c e =
     both_walks-all _ _ _ _ _ _ c.measure-left_size.ensures.visits c.measure-right_size.ensures.visits c.compare-order.ensures.visits
-    (c.compare-order.ensures.order ∙ sym (all_same _ _ (ap encoding e)))
+    (equal_where_same _ _ _ c.compare-order.ensures.decides e)
 
 pub returns-in_default-clause-twice_where_equal : goal.returns-in_default-clause-twice_where_equal
 returns-in_default-clause-twice_where_equal c e =

@@ -3,8 +3,8 @@ use Rattle.std.proofs.Common.{◌≡◌, ℕ, suc, ◌+◌, ◌<◌, List, [], �
 use Rattle.ciborium_value.specs.Encoding.{encoding}
 use Rattle.ciborium_value.specs.View.{tree_of}
 use Rattle.ciborium_value.specs.declared.tree.Value.{Value}
-use Rattle.ciborium.specs.Writes.{encodings, pair_encodings}
-use Rattle.ciborium.proofs.Elements.{around, one_more}
+use Rattle.ciborium_value.specs.EncodedLists.{encodings, pair_encodings}
+use Rattle.ciborium_value.proofs.Elements.{around, one_more}
 
 -- ---- lists
 

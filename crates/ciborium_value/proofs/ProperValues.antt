@@ -8,7 +8,7 @@ use Rattle.ciborium_value.specs.View.{tree_of, trees_of, tree_pairs_of}
 use Rattle.ciborium_value.specs.declared.tree.Value as value
 use Rattle.ciborium_value.specs.declared.tree.Value.{Value}
 use Rattle.ciborium_value.proofs.Views.{tree_of-Bytes, tree_of-Text}
-use Rattle.ciborium.proofs.Elements.{one_more}
+use Rattle.ciborium_value.proofs.Elements.{one_more}
 
 -- ---- lists
 

@@ -2,9 +2,9 @@ use Rattle.std.proofs.Common.{◌≡◌, length, take}
 use Rattle.ciborium_value.specs.Counts.{trees_node_count, tree_pairs_node_count}
 use Rattle.ciborium_value.specs.Proper.{AreProperTrees, AreProperTreePairs}
 use Rattle.ciborium_value.specs.View.{trees_of, tree_pairs_of}
-use Rattle.ciborium.specs.Visits.{AddsVisits, counted}
-use Rattle.ciborium.specs.Writes.{encodings, pair_encodings}
-use Rattle.ciborium.proofs.value.canonical.+measure.Given as goal
+use Rattle.ciborium_value.specs.Visits.{AddsVisits, counted}
+use Rattle.ciborium_value.specs.EncodedLists.{encodings, pair_encodings}
+use Rattle.ciborium_value.proofs.canonical.+measure.Given as goal
 
 -- the items so far are measured
 abbrev pub invariant-measure_items-loop-item : goal.invariant-measure_items-loop-item

@@ -1,9 +1,9 @@
 use Rattle.std.proofs.Common.{length, refl, sym, ap, ◌∙◌, arith}
-use Rattle.ciborium.specs.Visits.{counted}
-use Rattle.ciborium.proofs.TreeEncodings.{encoded_size-is, encoded_size-head, content_bytes-none, content_bytes-Array, content_bytes-Map, encodings-more-length, pair_encodings-more-length}
-use Rattle.ciborium.proofs.ProperValues.{AreProperTrees-more, AreProperTreePairs-more, is_proper-Bytes, is_proper-Text}
-use Rattle.ciborium.proofs.VisitCounts.{AddsVisits-then, trees_node_count-more, tree_pairs_node_count-more}
-use Rattle.ciborium.proofs.value.canonical.+measure.Goals as goal
+use Rattle.ciborium_value.specs.Visits.{counted}
+use Rattle.ciborium_value.proofs.TreeEncodings.{encoded_size-is, encoded_size-head, content_bytes-none, content_bytes-Array, content_bytes-Map, encodings-more-length, pair_encodings-more-length}
+use Rattle.ciborium_value.proofs.ProperValues.{AreProperTrees-more, AreProperTreePairs-more, is_proper-Bytes, is_proper-Text}
+use Rattle.ciborium_value.proofs.VisitCounts.{AddsVisits-then, trees_node_count-more, tree_pairs_node_count-more}
+use Rattle.ciborium_value.proofs.canonical.+measure.Goals as goal
 
 pub measure-returns-in-Bytes-clause-proper : goal.measure-returns-in-Bytes-clause-proper
 measure-returns-in-Bytes-clause-proper t c = is_proper-Bytes _ _ _ c.in-Bytes.is c.deref.ensures.value c.payload_size.ensures.bytes c.deref.type_inv.0

@@ -40,7 +40,7 @@ fronts_decide (m ∷ a) (n ∷ b) x y h k =
     (λ r q. k r (ap (λ z. z ∷ (b ++ r)) (sym same) ∙ ap (λ (l : List ℕ). m ∷ l) q)))
 
 -- lists of one length
-one_length : (a b : List ℕ) → length a ≡ length b → BeginsOnlyItself a b
+pub one_length : (a b : List ℕ) → length a ≡ length b → BeginsOnlyItself a b
 one_length a b h [] e = refl
 one_length a b h (n ∷ r) e = absurd (omega (arith, h, length-append a (n ∷ r), ap length e))
 

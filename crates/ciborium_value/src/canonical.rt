@@ -1,0 +1,322 @@
+//! The two orders of values by their encodings: the canonical one, the shorter encoding first (RFC
+//! 8949, section 4.2.3), and the bytewise one (section 4.2.1).
+//!
+//! Bytewise, a comparison walks over both trees side by side, head against head and payload against
+//! payload, up to the first that differ: no encoding is a proper beginning of another. For the
+//! canonical order it measures each value first, by a walk over its tree, and walks over both only
+//! where the sizes are equal. No bytes are made, and no memory is taken.
+
+ghost use Rattle.std.specs.Prelude.{◌≡◌, ◌+◌, ◌*◌, ◌^◌, ◌<◌, ◌≤◌, length, vec_len};
+ghost use Rattle.std.specs.declared.cmp.Ordering.TheVariants.{Equal};
+ghost use Rattle.ciborium_ll.specs.Bytes.{AreBytes};
+ghost use Rattle.ciborium_value.specs.Canonical.{bytewise_order, canonical_order, key_order};
+ghost use Rattle.ciborium_value.specs.Counts.{node_count, trees_node_count, tree_pairs_node_count};
+ghost use Rattle.ciborium_value.specs.EncodedLists.{encodings, pair_encodings};
+ghost use Rattle.ciborium_value.specs.Encoding.{encoding, encoded_size};
+ghost use Rattle.ciborium_value.specs.Heads.{major_of, argument_of, head_order};
+ghost use Rattle.ciborium_value.specs.Proper.{IsProperTree, AreProperTrees, AreProperTreePairs};
+ghost use Rattle.ciborium_value.specs.SideBySide.{Decides};
+ghost use Rattle.ciborium_value.specs.Tree.{integer};
+ghost use Rattle.ciborium_value.specs.View.{tree_of, trees_of, tree_pairs_of};
+ghost use Rattle.ciborium_value.specs.Visits.{AddsVisits, AddsAtMost, counted, both_node_count};
+
+use crate::key_order::KeyOrder;
+use crate::tree::Value;
+use ciborium_ll::{Integer, head_size, simple};
+use std::cmp::Ordering;
+
+/// The canonical order of two values, which is that of their encodings: the shorter first, and of
+/// two of one size the one with the first lower byte (RFC 8949, section 4.2.3). It takes no memory.
+pub fn cmp_value(left: &Value, right: &Value) -> Ordering
+    ensures order { result ≡ canonical_order (tree_of left.now) (tree_of right.now) }
+    ensures left_proper { IsProperTree (tree_of left.now) }
+    ensures right_proper { IsProperTree (tree_of right.now) }
+{
+    cmp_value_counted(left, right).0
+}
+
+/// The canonical order of two values as `cmp_value` finds it, and how many visits that took,
+/// counted up to `u64::MAX`. A visit is one entry of the walk at one node of one value.
+pub fn cmp_value_counted(left: &Value, right: &Value) -> (Ordering, u64)
+    ensures order { result.0 ≡ canonical_order (tree_of left.now) (tree_of right.now) }
+    ensures at_least_once { counted (both_node_count (tree_of left.now) (tree_of right.now))
+        ≤ result.1 }
+    ensures at_most_twice { result.1 ≤
+        counted (2 * both_node_count (tree_of left.now) (tree_of right.now)) }
+    ensures twice_where_equal { tree_of left.now ≡ tree_of right.now →
+        result.1 ≡ counted (2 * both_node_count (tree_of left.now) (tree_of right.now)) }
+    ensures left_proper { IsProperTree (tree_of left.now) }
+    ensures right_proper { IsProperTree (tree_of right.now) }
+{
+    let mut visits = Visits { count: 0 };
+    let left_size = measure(left, &mut visits);
+    let right_size = measure(right, &mut visits);
+    let order = match left_size.cmp(&right_size) {
+        Ordering::Equal => compare(left, right, &mut visits),
+        order => order,
+    };
+    (order, visits.count)
+}
+
+/// The bytewise order of two values: that of the first byte in which their encodings differ (RFC
+/// 8949, section 4.2.1). It takes no memory.
+pub fn cmp_bytewise(left: &Value, right: &Value) -> Ordering
+    ensures order { result ≡ bytewise_order (tree_of left.now) (tree_of right.now) }
+    ensures equal { result ≡ Equal → tree_of left.now ≡ tree_of right.now }
+{
+    cmp_bytewise_counted(left, right).0
+}
+
+/// The bytewise order of two values as `cmp_bytewise` finds it, and how many visits that took,
+/// counted up to `u64::MAX`. A visit is one entry of the walk at one node of one value.
+pub fn cmp_bytewise_counted(left: &Value, right: &Value) -> (Ordering, u64)
+    ensures order { result.0 ≡ bytewise_order (tree_of left.now) (tree_of right.now) }
+    ensures equal { result.0 ≡ Equal → tree_of left.now ≡ tree_of right.now }
+    ensures at_most_once { result.1 ≤
+        counted (both_node_count (tree_of left.now) (tree_of right.now)) }
+    ensures once_where_equal { tree_of left.now ≡ tree_of right.now →
+        result.1 ≡ counted (both_node_count (tree_of left.now) (tree_of right.now)) }
+{
+    let mut visits = Visits { count: 0 };
+    let order = compare(left, right, &mut visits);
+    (order, visits.count)
+}
+
+/// The order of two values that is named, as `cmp_value` or `cmp_bytewise` finds it. It takes no
+/// memory.
+pub fn cmp_keys(order: KeyOrder, left: &Value, right: &Value) -> Ordering
+    ensures order { result ≡ key_order order (tree_of left.now) (tree_of right.now) }
+{
+    match order {
+        KeyOrder::LengthFirst => cmp_value(left, right),
+        KeyOrder::Bytewise => cmp_bytewise(left, right),
+    }
+}
+
+/// How many bytes the encoding of a value has, counted up to `u64::MAX`. It takes no memory.
+pub fn encoded_size(value: &Value) -> u64
+    ensures size { result ≡ encoded_size (tree_of value.now) }
+    ensures proper { IsProperTree (tree_of value.now) }
+{
+    measure(value, &mut Visits { count: 0 })
+}
+
+// ---- heads
+
+// How many nodes a walk has visited, counted up to `u64::MAX`.
+#[derive(Drop)]
+struct Visits {
+    count: u64,
+    ghost in_range: { count < 2 ^ 64 },
+}
+
+// The shortest head of a value. Heads are ordered as their bytes are.
+#[derive(Clone, Copy, PartialEq, Eq, PartialOrd, Ord)]
+struct Head {
+    major: u8,
+    argument: u64,
+}
+
+// Visits a value: counts the visit, and answers the head.
+#[inline(always)]
+fn visit(value: &Value, visits: &mut Visits) -> Head
+    ensures visits { AddsVisits 1 visits.old.count visits.new.count }
+    ensures major { result.major ≡ major_of (tree_of value.now) }
+    ensures argument { result.argument ≡ argument_of (tree_of value.now) }
+    ensures fits { argument_of (tree_of value.now) < 2 ^ 64 }
+{
+    visits.count = visits.count.saturating_add(1);
+    match value {
+        Value::Integer(number) => integer_head(*number),
+        Value::Bytes(bytes) => Head {
+            major: 2,
+            argument: bytes.len() as u64,
+        },
+        Value::Text(text) => Head {
+            major: 3,
+            argument: text.len() as u64,
+        },
+        Value::Array(items) => Head {
+            major: 4,
+            argument: items.len() as u64,
+        },
+        Value::Map(pairs) => Head {
+            major: 5,
+            argument: pairs.len() as u64,
+        },
+        Value::Tag(tag, _) => Head {
+            major: 6,
+            argument: *tag,
+        },
+        Value::Bool(false) => Head {
+            major: 7,
+            argument: simple::FALSE as u64,
+        },
+        Value::Bool(true) => Head {
+            major: 7,
+            argument: simple::TRUE as u64,
+        },
+        Value::Null => Head {
+            major: 7,
+            argument: simple::NULL as u64,
+        },
+    }
+}
+
+// The head that is all of a number.
+#[inline(always)]
+fn integer_head(number: Integer) -> Head
+    ensures major { result.major ≡ major_of (integer number) }
+    ensures argument { result.argument ≡ argument_of (integer number) }
+{
+    let (negative, argument) = number.head();
+    Head {
+        major: if negative { 1 } else { 0 },
+        argument,
+    }
+}
+
+// The order of the heads of two values, both of which it visits.
+#[inline(always)]
+fn compare_heads(left: &Value, right: &Value, visits: &mut Visits) -> Ordering
+    ensures order { result ≡ head_order (tree_of left.now) (tree_of right.now) }
+    ensures left_fits { argument_of (tree_of left.now) < 2 ^ 64 }
+    ensures right_fits { argument_of (tree_of right.now) < 2 ^ 64 }
+    ensures visits { AddsVisits 2 visits.old.count visits.new.count }
+{
+    visit(left, visits).cmp(&visit(right, visits))
+}
+
+// ---- sizes
+
+// The size of a value's encoding, counted up to `u64::MAX`.
+#[cycle(measure)]
+fn measure(value: &Value, visits: &mut Visits) -> u64
+    ensures size { result ≡ encoded_size (tree_of value.now) }
+    ensures visits { AddsVisits (node_count (tree_of value.now)) visits.old.count visits.new.count }
+    ensures proper { IsProperTree (tree_of value.now) }
+{
+    let head = head_size(visit(value, visits).argument);
+    match value {
+        Value::Integer(_) | Value::Bool(_) | Value::Null => head,
+        Value::Bytes(bytes) => head.saturating_add(payload_size(bytes)),
+        Value::Text(text) => head.saturating_add(payload_size(text.as_bytes())),
+        Value::Tag(_, content) => head.saturating_add(measure(content, visits)),
+        Value::Array(items) => head.saturating_add(measure_items(items, visits)),
+        Value::Map(pairs) => head.saturating_add(measure_pairs(pairs, visits)),
+    }
+}
+
+// The size of the encodings of values.
+#[cycle(measure)]
+fn measure_items(items: &Vec<Value>, visits: &mut Visits) -> u64
+    ensures size { result ≡ counted (length (encodings items.now.items)) }
+    ensures visits { AddsVisits (trees_node_count (trees_of items.now.items))
+        visits.old.count visits.new.count }
+    ensures proper { AreProperTrees (trees_of items.now.items) }
+{
+    let mut size: u64 = 0;
+    for item in items {
+        size = size.saturating_add(measure(item, visits));
+    }
+    size
+}
+
+// The size of the encodings of pairs.
+#[cycle(measure)]
+fn measure_pairs(pairs: &Vec<(Value, Value)>, visits: &mut Visits) -> u64
+    ensures size { result ≡ counted (length (pair_encodings pairs.now.items)) }
+    ensures visits { AddsVisits (tree_pairs_node_count (tree_pairs_of pairs.now.items))
+        visits.old.count visits.new.count }
+    ensures proper { AreProperTreePairs (tree_pairs_of pairs.now.items) }
+{
+    let mut size: u64 = 0;
+    for pair in pairs {
+        size = size.saturating_add(measure(&pair.0, visits));
+        size = size.saturating_add(measure(&pair.1, visits));
+    }
+    size
+}
+
+// The size of a payload.
+#[inline(always)]
+fn payload_size(payload: &[u8]) -> u64
+    ensures size { result ≡ length payload.now }
+    ensures bytes { AreBytes payload.now }
+{
+    payload.len() as u64
+}
+
+// ---- the first bytes that differ
+
+// The order of the encodings of two values, bytewise. What stands behind them counts only where
+// they are equal, and then the values are.
+#[cycle(compare)]
+fn compare(left: &Value, right: &Value, visits: &mut Visits) -> Ordering
+    ensures decides { Decides result (encoding (tree_of left.now)) (encoding (tree_of right.now)) }
+    ensures equal { result ≡ Equal → tree_of left.now ≡ tree_of right.now }
+    ensures visits { AddsAtMost (both_node_count (tree_of left.now) (tree_of right.now)) result
+        visits.old.count visits.new.count }
+{
+    let order = compare_heads(left, right, visits);
+    if order.is_ne() {
+        return order;
+    }
+    match (left, right) {
+        (Value::Bytes(left), Value::Bytes(right)) => left.cmp(right),
+        (Value::Text(left), Value::Text(right)) => left.cmp(right),
+        (Value::Tag(_, left), Value::Tag(_, right)) => compare(left, right, visits),
+        (Value::Array(left), Value::Array(right)) => compare_items(left, right, visits),
+        (Value::Map(left), Value::Map(right)) => compare_pairs(left, right, visits),
+        _ => Ordering::Equal,
+    }
+}
+
+// The order of the encodings of as many values, bytewise.
+#[cycle(compare)]
+fn compare_items(left: &Vec<Value>, right: &Vec<Value>, visits: &mut Visits) -> Ordering
+    requires as_many { vec_len left.now ≡ vec_len right.now }
+    ensures decides { Decides result (encodings left.now.items) (encodings right.now.items) }
+    ensures equal { result ≡ Equal → trees_of left.now.items ≡ trees_of right.now.items }
+    ensures visits { AddsAtMost
+        (trees_node_count (trees_of left.now.items) + trees_node_count (trees_of right.now.items))
+        result visits.old.count visits.new.count }
+{
+    for (index, item) in left.iter().enumerate() {
+        let order = compare(item, &right[index], visits);
+        if order.is_ne() {
+            return order;
+        }
+    }
+    Ordering::Equal
+}
+
+// The order of the encodings of as many pairs, bytewise.
+#[cycle(compare)]
+fn compare_pairs(
+    left: &Vec<(Value, Value)>,
+    right: &Vec<(Value, Value)>,
+    visits: &mut Visits,
+) -> Ordering
+    requires as_many { vec_len left.now ≡ vec_len right.now }
+    ensures decides { Decides result
+        (pair_encodings left.now.items) (pair_encodings right.now.items) }
+    ensures equal { result ≡ Equal → tree_pairs_of left.now.items ≡ tree_pairs_of right.now.items }
+    ensures visits { AddsAtMost
+        (tree_pairs_node_count (tree_pairs_of left.now.items)
+        + tree_pairs_node_count (tree_pairs_of right.now.items))
+        result visits.old.count visits.new.count }
+{
+    for (index, pair) in left.iter().enumerate() {
+        let other = &right[index];
+        let keys = compare(&pair.0, &other.0, visits);
+        if keys.is_ne() {
+            return keys;
+        }
+        let values = compare(&pair.1, &other.1, visits);
+        if values.is_ne() {
+            return values;
+        }
+    }
+    Ordering::Equal
+}
