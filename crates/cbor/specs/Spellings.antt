@@ -3,7 +3,7 @@ use Rattle.std.specs.Prelude.{◌≡◌, ℕ, List, ◌++◌, Some}
 use Rattle.ciborium_ll.specs.Refusal.{Refusal}
 use Rattle.ciborium_value.specs.Refuses.{IsReadAs, Refuses}
 use Rattle.ciborium_value.specs.Tree.{Tree}
-use Rattle.ciborium.specs.Deterministic.{IsDeterministicAt}
+use Rattle.ciborium_value.specs.Deterministic.{IsDeterministicAt}
 use Rattle.ciborium.specs.DeterministicRefusals.{DeterministicallyRefuses}
 use Rattle.cbor.specs.declared.reading.Spelling.{Spelling}
 use Rattle.cbor.specs.declared.reading.Spelling.TheVariants.{Any, Deterministic}

@@ -16,7 +16,7 @@ use Rattle.ciborium_value.specs.Meaning.{simple_meaning}
 use Rattle.ciborium_value.specs.Nesting.{nesting}
 use Rattle.ciborium_value.specs.Tree as trees
 use Rattle.ciborium_value.specs.Tree.{Tree}
-use Rattle.ciborium.specs.Deterministic.{HasRisingKeys, IsCanonicalTree}
+use Rattle.ciborium_value.specs.Deterministic.{HasRisingKeys, IsCanonicalTree}
 use Rattle.ciborium.specs.DeterministicRefusals.{HasShortHead}
 use Rattle.ciborium.specs.Reads.{ReadsItem, IsAt, IsMeasured, IsPulled, StandsAt}
 use Rattle.ciborium.specs.Spelling.{deterministic, deterministic_fault, long_fault}

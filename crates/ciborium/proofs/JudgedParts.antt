@@ -24,7 +24,7 @@ use Rattle.ciborium_value.specs.View.{tree_of}
 use Rattle.ciborium.specs.declared.de.error.Error.{Error}
 use Rattle.ciborium.specs.declared.de.front.Part.{Part}
 use Rattle.ciborium.specs.declared.de.front.Part.TheVariants.{Whole, Opened, Ended}
-use Rattle.ciborium.specs.Deterministic.{IsCanonicalTree}
+use Rattle.ciborium_value.specs.Deterministic.{IsCanonicalTree}
 use Rattle.ciborium.specs.DeterministicRefusals.{ContainerKind, of_array, of_map, container_major, DeterministicallyRefuses, HasParts, HasShortHead, IsInOrder}
 use Rattle.ciborium.specs.Errors.{IsRefusedBy}
 use Rattle.ciborium.specs.Around.{IsStrictlyInside}

@@ -30,7 +30,7 @@ use Rattle.ciborium.specs.Errors.{IsRefusedBy}
 use Rattle.ciborium.specs.Parts.{BignumRefuses, IsBegun, IsBignumRead, IsFolded, IsFolding}
 use Rattle.ciborium.specs.Reads.{ReadsItem, IsAt, IsMeasured, StandsAt}
 use Rattle.ciborium.specs.Spelling.{Spelling, deterministic, deterministic_fault, IsUnwanted}
-use Rattle.ciborium.specs.Deterministic.{IsCanonicalTree}
+use Rattle.ciborium_value.specs.Deterministic.{IsCanonicalTree}
 use Rattle.ciborium.proofs.AfterTag.{PullsSo, folds-is, folds-not, too-large}
 use Rattle.ciborium.proofs.Contents.{string-room}
 use Rattle.ciborium.proofs.Fronts.{Front, front-of, ahead-at, offset-at}

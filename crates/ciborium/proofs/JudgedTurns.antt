@@ -17,7 +17,7 @@ use Rattle.ciborium_value.specs.Tree.{Tree}
 use Rattle.ciborium_value.specs.View.{trees_from, tree_pairs_from}
 use Rattle.ciborium_value.specs.ItemsOfTrees.{short_string-item_of}
 use Rattle.ciborium.specs.Around.{in_turn, IsAround}
-use Rattle.ciborium.specs.Deterministic.{AreRising, IsAccepted}
+use Rattle.ciborium_value.specs.Deterministic.{AreRising, IsAccepted}
 use Rattle.ciborium.specs.Reads.{ReadsItem}
 use Rattle.ciborium.specs.Spelling.{deterministic, IsKeyInOrder, IsKeyOutOfOrder}
 use Rattle.ciborium.specs.DeterministicRefusals.{ContainerKind, of_array, of_map, container_major, part_count, parts_bytes, keys_among, IsInOrder, DeterministicallyRefuses, HasParts, HasShortHead}

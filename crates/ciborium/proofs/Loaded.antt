@@ -24,8 +24,8 @@ use Rattle.ciborium_value.specs.declared.tree.Value.{Value}
 use Rattle.ciborium_value.proofs.ReadBack.{written_tree_is_proper}
 use Rattle.ciborium.specs.declared.de.error.Error.{Error}
 use Rattle.ciborium.specs.Answers.{AnswersGoodItem, AnswersTree}
-use Rattle.ciborium.specs.Deterministic as rising
-use Rattle.ciborium.specs.Deterministic.{AreRising, HasRisingKeys, IsAccepted, IsCanonicalTree, PairsHaveRisingKeys}
+use Rattle.ciborium_value.specs.Deterministic as rising
+use Rattle.ciborium_value.specs.Deterministic.{AreRising, HasRisingKeys, IsAccepted, IsCanonicalTree, PairsHaveRisingKeys}
 use Rattle.ciborium.specs.Loaded.{AreCanonicalParts, IsDeterministicStore, IsLoaded, IsStoreHeld, LoadedAsSaved, LoadingGivesContent, store_tree}
 use Rattle.ciborium.specs.Spelling.{deterministic}
 use Rattle.ciborium.specs.declared.ser.Error.{Error as WriteError}

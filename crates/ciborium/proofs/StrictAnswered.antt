@@ -24,7 +24,7 @@ use Rattle.ciborium_value.specs.ItemsOfTrees.{short_string-item_of}
 use Rattle.ciborium_value.proofs.Found.{spells-pos}
 use Rattle.ciborium_value.proofs.Reader.{allowed, past, folding, is_too_large}
 use Rattle.ciborium_value.proofs.Refused.{rest-bytes, bytes_again, kind_ok, kind_allowed, folds-front}
-use Rattle.ciborium.specs.Deterministic.{IsAccepted}
+use Rattle.ciborium_value.specs.Deterministic.{IsAccepted}
 use Rattle.ciborium.specs.DeterministicRefusals.{ContainerKind, of_array, of_map, container_major, part_count, parts_bytes, IsInOrder, HasParts, HasShortHead, DeterministicallyRefuses}
 use Rattle.ciborium.proofs.StrictBignums.{judged-kept, foldable-is, large-is}
 use Rattle.ciborium.proofs.StrictFound.{opening}

@@ -21,7 +21,7 @@ use Rattle.ciborium_value.proofs.Outcome.{each_is_byte}
 use Rattle.ciborium_value.proofs.Reader.{allowed, past, folding}
 use Rattle.ciborium_value.proofs.Refused.{folds-front, kind_allowed, kind_below}
 use Rattle.ciborium_value.proofs.Steps.{hold, simple-has}
-use Rattle.ciborium.specs.Deterministic.{IsAccepted}
+use Rattle.ciborium_value.specs.Deterministic.{IsAccepted}
 use Rattle.ciborium.specs.DeterministicRefusals.{ContainerKind, of_array, of_map, container_major, part_count, parts_bytes, AreAccepted, IsInOrder}
 use Rattle.ciborium.proofs.StrictBignums.{IsKept, kept-judged}
 use Rattle.ciborium.proofs.StrictParts.{is-in_order, order-before, whole-encoding, accepted-parts, elements, turns, elements-in, turns-in, turns-count}

@@ -8,7 +8,7 @@ use Rattle.ciborium_value.specs.Encoding.{encoding, item_of, written_tree}
 use Rattle.ciborium_value.specs.Tree.{Tree}
 use Rattle.ciborium_value.proofs.Outcome.{each_is_byte, enough}
 use Rattle.ciborium_value.specs.ItemsOfTrees.{tree_is_written_as_itself}
-use Rattle.ciborium.specs.Deterministic.{IsDeterministicAt}
+use Rattle.ciborium_value.specs.Deterministic.{IsDeterministicAt}
 use Rattle.ciborium.specs.DeterministicLaws.{HasDeterministic, DeterministicOrRefused, NeverBothDeterministically, OneDeterministicRefusal, OneDeterministicTree}
 use Rattle.ciborium.specs.DeterministicRefusals.{DeterministicallyRefuses}
 use Rattle.ciborium.proofs.StrictAnswered.{Meets, read-meets}

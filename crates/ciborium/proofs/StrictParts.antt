@@ -13,7 +13,7 @@ use Rattle.ciborium_value.specs.Nesting.{nesting, items_nesting, pairs_nesting}
 use Rattle.ciborium_value.specs.Proper.{AreProperTrees, AreProperTreePairs}
 use Rattle.ciborium_value.specs.Tree.{Tree, array, map, Trees, no_trees, tree, trees_count, TreePairs, no_tree_pairs, tree_pair, tree_pairs_count}
 use Rattle.ciborium_value.proofs.Written.{items_count-items_of, pairs_count-pairs_of}
-use Rattle.ciborium.specs.Deterministic.{AreRising, keys_of, HaveRisingKeys, PairsHaveRisingKeys, IsAccepted}
+use Rattle.ciborium_value.specs.Deterministic.{AreRising, keys_of, HaveRisingKeys, PairsHaveRisingKeys, IsAccepted}
 use Rattle.ciborium.specs.DeterministicRefusals.{ContainerKind, of_array, of_map, container_major, part_count, parts_bytes, AreAccepted, keys_among, IsInOrder}
 use Rattle.ciborium.proofs.StrictReader.{trees_in, pairs_in, whole, is_less, rising, in_order}
 

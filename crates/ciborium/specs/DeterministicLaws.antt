@@ -3,7 +3,7 @@ use Rattle.std.specs.Prelude.{◌≡◌, ℕ, ◌⊎◌, List, ◌++◌}
 use Rattle.ciborium_ll.specs.Bytes.{AreBytes}
 use Rattle.ciborium_ll.specs.Refusal.{Refusal}
 use Rattle.ciborium_value.specs.Tree.{Tree}
-use Rattle.ciborium.specs.Deterministic.{IsDeterministicAt}
+use Rattle.ciborium_value.specs.Deterministic.{IsDeterministicAt}
 use Rattle.ciborium.specs.DeterministicRefusals.{DeterministicallyRefuses}
 
 -- some beginning of b, whose first byte is at offset p, is deterministic for a tree that nests within l levels

@@ -12,7 +12,7 @@ use Rattle.ciborium_value.specs.Encoding.{encoding}
 use Rattle.ciborium_value.specs.Meaning.{simple_meaning, big_endian, is_bignum_tag}
 use Rattle.ciborium_value.specs.Refuses.{IsFoldingAt}
 use Rattle.ciborium_value.specs.Tree.{Tree}
-use Rattle.ciborium.specs.Deterministic.{AreRising, IsAccepted}
+use Rattle.ciborium_value.specs.Deterministic.{AreRising, IsAccepted}
 
 -- ---- the parts of an array or map
 

@@ -20,7 +20,6 @@ pub mod RoundTrips
 pub mod TypedReads
 pub mod Literals
 pub mod Tags
-pub mod Deterministic
 pub mod DeterministicRefusals
 pub mod DeterministicLaws
 pub mod ItemSequences

@@ -18,7 +18,7 @@ use Rattle.ciborium_value.specs.View.{tree_of, tree_pairs_of}
 use Rattle.ciborium_value.specs.declared.tree.Value.{Value}
 use Rattle.ciborium.specs.declared.de.error.Error.{Error}
 use Rattle.ciborium.specs.Answers.{AnswersGoodItem, IsFailed}
-use Rattle.ciborium.specs.Deterministic.{IsAccepted, IsCanonicalTree}
+use Rattle.ciborium_value.specs.Deterministic.{IsAccepted, IsCanonicalTree}
 use Rattle.ciborium.specs.Spelling.{deterministic}
 use Rattle.ciborium.specs.declared.ser.Error.{Error as WriteError}
 use Rattle.ciborium.specs.Writes.{WritesNamed}

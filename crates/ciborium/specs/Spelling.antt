@@ -12,7 +12,7 @@ use Rattle.ciborium_value.specs.Encoding.{encoded_size}
 use Rattle.ciborium_value.specs.Open.{Open, waiting_keys}
 use Rattle.ciborium_value.specs.Refuses.{IsReadAs, Refuses}
 use Rattle.ciborium_value.specs.Tree.{Tree}
-use Rattle.ciborium.specs.Deterministic.{IsDeterministicAt}
+use Rattle.ciborium_value.specs.Deterministic.{IsDeterministicAt}
 use Rattle.ciborium.specs.DeterministicRefusals.{DeterministicallyRefuses, IsFoldable}
 
 pub data Spelling : Type 0 where

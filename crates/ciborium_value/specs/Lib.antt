@@ -58,3 +58,4 @@ pub mod EncodedLists
 pub mod SideBySide
 pub mod Heads
 pub mod Visits
+pub mod Deterministic
