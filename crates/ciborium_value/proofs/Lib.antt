@@ -42,3 +42,7 @@ pub mod TreeEncodings
 pub mod SideBySide
 pub mod VisitCounts
 pub mod ProperValues
+pub mod SortedPairs
+pub mod GivenOutcomes
+pub mod ReorderedPairs
+pub mod OwnForms

@@ -3,7 +3,7 @@ use Rattle.std.proofs.Common.{◌≡◌, refl, sym, ap, ◌∙◌, Ordering, Les
 use Rattle.std.proofs.lemmas.Cmp.{tied_itself, nat_cmp_total, nat_list_cmp_total, then_total, on_total}
 use Rattle.std.specs.Cmp.{IsTotalOrder}
 use Rattle.std.specs.Ordering.{ordering_then}
-use Rattle.ciborium_value.specs.Canonical.{bytewise_order, canonical_order}
+use Rattle.ciborium_value.specs.Canonical.{bytewise_order, canonical_order, key_order}
 use Rattle.ciborium_value.specs.Derived.{value_eq, value_cmp}
 use Rattle.ciborium_value.specs.Encoding.{encoding, encoded_size}
 use Rattle.ciborium_value.specs.Tree.{Tree}
@@ -13,6 +13,8 @@ use Rattle.ciborium_value.specs.declared.tree.Value.{Value}
 use Rattle.ciborium_value.proofs.Derived.{value_cmp_total}
 use Rattle.ciborium_value.specs.DerivedOrder.{value_cmp-is}
 use Rattle.ciborium_value.proofs.OrderedTrees.{tied_where_equal}
+use Rattle.ciborium_value.specs.declared.key_order.KeyOrder.{KeyOrder}
+use Rattle.ciborium_value.specs.declared.key_order.KeyOrder.TheVariants.{LengthFirst, Bytewise}
 use Rattle.ciborium_value.specs.CanonicalValues.{bytewise_value_cmp, canonical_value_cmp}
 
 pub canonical_order_total : IsTotalOrder canonical_order
@@ -55,3 +57,9 @@ bytewise_value_cmp_total = then_total (on_total tree_of bytewise_order_total) va
 
 pub bytewise_value_matches_eq : (v w : Value) → value_eq v w ≡ is_eq (bytewise_value_cmp v w)
 bytewise_value_matches_eq = matches_eq bytewise_order bytewise_order_total
+
+-- ---- by its name
+
+pub key_order_total : (o : KeyOrder) → IsTotalOrder (key_order o)
+key_order_total LengthFirst = canonical_order_total
+key_order_total Bytewise = bytewise_order_total

@@ -59,3 +59,6 @@ pub mod SideBySide
 pub mod Heads
 pub mod Visits
 pub mod Deterministic
+pub mod DeterministicForms
+pub mod SameContents
+pub mod FormLaws

@@ -46,7 +46,8 @@ pub enum Kind {
     Open,
     /// A bignum is a number of 64 bits, or has leading zeros, where reading is deterministic.
     NotFolded,
-    /// A key does not follow the key before it in the canonical order where reading is
-    /// deterministic.
+    /// A key does not follow the key before it in the order of keys where reading is deterministic.
     KeyOrder,
+    /// Two keys of a map are equal where it is put in order.
+    DuplicateKey,
 }
