@@ -1,5 +1,5 @@
 -- The bytes of a bignum hold its number.
-use Rattle.std.proofs.Common.{◌≡◌, ℕ, zero, suc, ◌+◌, ◌*◌, ◌/◌, ◌%◌, ◌^◌, ◌==◌, List, [], ◌∷◌, false, refl, ap, ◌∙◌, arith}
+use Rattle.std.proofs.Common.{◌≡◌, ℕ, zero, suc, ◌+◌, ◌-◌, ◌*◌, ◌/◌, ◌%◌, ◌^◌, ◌≤◌, ◌==◌, List, [], ◌∷◌, length, drop, false, refl, sym, ap, ◌∙◌, arith}
 use Rattle.std.proofs.Math.Nat.{add-mul, mul_assoc, mul_left_comm, mod-one, mod-eq_of_lt, pow-succ'}
 use Rattle.std.specs.Int.{byte_at, bytes_high_first}
 use Rattle.std.proofs.lemmas.Bool.Decides.{nat_tests}
@@ -45,3 +45,19 @@ bytes_hold_number n h = zeros_hold_nothing (bytes_high_first 16 n) ∙ read_behi
 pub no_leading_zeros : NoLeadingZeros
 unfolding shortest_bytes
 no_leading_zeros n = no_zeros_twice (bytes_high_first 16 n)
+
+zeros_counted : (bs : List ℕ) → length (without_zeros bs) ≤ length bs
+zeros_counted [] = omega arith
+zeros_counted (zero ∷ bs) = let less = zeros_counted bs in omega (arith, less)
+zeros_counted (suc b ∷ bs) = rw (stays b bs) (omega arith)
+
+-- what is left behind the leading zeros, by their number
+pub zeros_dropped : (bs : List ℕ) → drop (length bs - length (without_zeros bs)) bs ≡ without_zeros bs
+zeros_dropped [] = refl
+zeros_dropped (zero ∷ bs) =
+    let less = zeros_counted bs in
+    let one_more : suc (length bs) - length (without_zeros bs) ≡ suc (length bs - length (without_zeros bs)) = omega (arith, less) in
+    ap (λ n. drop n (zero ∷ bs)) one_more ∙ zeros_dropped bs
+zeros_dropped (suc b ∷ bs) =
+    let none : length (suc b ∷ bs) - length (without_zeros (suc b ∷ bs)) ≡ 0 = rw (stays b bs) (omega arith) in
+    ap (λ n. drop n (suc b ∷ bs)) none ∙ sym (stays b bs)

@@ -46,3 +46,4 @@ pub mod SortedPairs
 pub mod GivenOutcomes
 pub mod ReorderedPairs
 pub mod OwnForms
+pub mod MadeForms

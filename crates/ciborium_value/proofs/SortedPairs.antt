@@ -209,3 +209,11 @@ rising_or_refused o (tree_pair k v (tree_pair l w ps)) h = by (key_order o k l) 
     by a e (inr refused) = inr (ap (λ r. then_take r (inserted o k v)) refused)
     by Equal e (inl rises) = inr (neighbours_refused o k v l w ps e)
     by Greater e (inl rises) = absurd (let no : true ≡ false = sym (ap is_lt (less_where_greater o k l e)) ∙ h.0 in cc)
+
+-- keys in order that do not rise
+pub tied_refused : (o : KeyOrder) (ps : TreePairs) → AreInOrder o ps → ¬ AreRising o (keys_of ps) → sorted_pairs o ps ≡ refuses kinds.DuplicateKey
+tied_refused o ps h flat = by (rising_or_refused o ps h)
+  where
+    by : AreRising o (keys_of ps) ⊎ (sorted_pairs o ps ≡ refuses kinds.DuplicateKey) → sorted_pairs o ps ≡ refuses kinds.DuplicateKey
+    by (inl rises) = absurd (flat rises)
+    by (inr refused) = refused

@@ -1,8 +1,9 @@
 //! Bignums: tag 2 over the bytes of a number n, and tag 3 over those of n for -1 - n, the most
 //! significant first (RFC 8949, section 3.4.3).
 
-ghost use Rattle.std.specs.Prelude.{◌≡◌, ◌^◌, ◌≤◌, IfErr, IfOk, MatchOption, None, Some};
+ghost use Rattle.std.specs.Prelude.{◌≡◌, ◌^◌, ◌≤◌, IfErr, IfNone, IfOk, MatchOption, None, Some};
 ghost use Rattle.std.specs.Prelude.{length, true};
+ghost use Rattle.ciborium_value.specs.Folded.{tree_folding_bytes};
 ghost use Rattle.ciborium_value.specs.Meaning.{big_endian, bignum_meaning, is_bignum_tag};
 ghost use Rattle.ciborium_value.specs.Meaning.{without_zeros};
 ghost use Rattle.ciborium_value.specs.Taken.{gives, magnitude, refuses};
@@ -11,9 +12,10 @@ ghost use Rattle.ciborium_value.specs.View.{tree_of};
 ghost use Rattle.ciborium_value.specs.declared.kind.Kind.TheVariants as kinds;
 ghost use Rattle.ciborium_value.specs.declared.bignum.FoldError.TheVariants.{TooLarge};
 
+use crate::kind::Kind;
 use crate::tree::Value;
 use ciborium_ll::Integer;
-use ciborium_ll::tag::BIGNEG;
+use ciborium_ll::tag::{BIGNEG, BIGPOS};
 use std::alloc::{AllocError, Global};
 
 /// A bignum's tag folds over a definite byte string of at most this many bytes.
@@ -26,6 +28,23 @@ pub enum FoldError {
     TooLarge,
     /// Memory was refused.
     Memory,
+}
+
+/// The bytes over which a tag folds (RFC 8949, section 3.4.3).
+pub(crate) fn find_folding(tag: u64, content: &Value) -> Option<&[u8]>
+    ensures { MatchOption result (tree_folding_bytes tag (tree_of content.now) ≡ None)
+        (λ b. tree_folding_bytes tag (tree_of content.now) ≡ Some b.now) }
+{
+    match content {
+        Value::Bytes(bytes) => {
+            if bytes.len() <= GREATEST_FOLDED_SIZE && (tag == BIGPOS || tag == BIGNEG) {
+                Some(bytes)
+            } else {
+                None
+            }
+        }
+        _ => None,
+    }
 }
 
 /// The bytes behind the leading zeros. This takes no memory.
@@ -47,6 +66,35 @@ pub fn tag_over(alloc: Global, tag: u64, bytes: &[u8]) -> Result<Value, AllocErr
     Ok(Value::Tag(tag, Box::new(alloc, content)?))
 }
 
+/// The integer that tag 2 or 3 over at most 16 bytes means, or `None` where it is no number of 64
+/// bits, and the tag stands over the bytes without leading zeros (RFC 8949, section 3.4.3). It takes
+/// no memory. Another tag, or more bytes, do not fold and may not be handed in.
+///
+/// # Errors
+///
+/// `Kind::TooLarge` where the number is negative and no `i128` holds it.
+#[tactic(auto, unfolding(crate::specs::Meaning::bignum_meaning))]
+pub(crate) fn fold_number(tag: u64, bytes: &[u8]) -> Result<Option<Integer>, Kind>
+    requires tag { is_bignum_tag tag ≡ true }
+    requires short { length bytes.now ≤ 16 }
+    ensures ok { IfOk result (λ number. MatchOption number
+        (bignum_meaning tag bytes.now ≡ Some (trees.tag tag (trees.bytes (without_zeros bytes.now))))
+        (λ z. bignum_meaning tag bytes.now ≡ Some (trees.integer z))) }
+    ensures too_large { IfErr result (λ kind.
+        (kind ≡ kinds.TooLarge) × (bignum_meaning tag bytes.now ≡ None)) }
+    ensures large { IfErr result (λ kind. 2 ^ 64 ≤ big_endian bytes.now) }
+    ensures none_large { IfOk result (λ number. IfNone number (2 ^ 64 ≤ big_endian bytes.now)) }
+{
+    let number = read_number(bytes);
+    if number < 1 << 64 {
+        return Ok(Some(Integer::from_head(tag == BIGNEG, number as u64)));
+    }
+    if tag == BIGNEG && number >= 1 << 127 {
+        return Err(Kind::TooLarge);
+    }
+    Ok(None)
+}
+
 /// What tag 2 or 3 over at most 16 bytes means: the integer, where it is in range, else the tag
 /// over the bytes without leading zeros (RFC 8949, section 3.4.3). An integer takes no memory.
 /// Another tag, or more bytes, do not fold and may not be handed in.
@@ -55,7 +103,6 @@ pub fn tag_over(alloc: Global, tag: u64, bytes: &[u8]) -> Result<Value, AllocErr
 ///
 /// `TooLarge` where the number is negative and no `i128` holds it; `Memory` where a growth was
 /// refused.
-#[tactic(auto, unfolding(crate::specs::Meaning::bignum_meaning))]
 pub fn fold(alloc: Global, tag: u64, bytes: &[u8]) -> Result<Value, FoldError>
     requires tag { is_bignum_tag tag ≡ true }
     requires short { length bytes.now ≤ 16 }
@@ -63,17 +110,13 @@ pub fn fold(alloc: Global, tag: u64, bytes: &[u8]) -> Result<Value, FoldError>
     ensures too_large { IfErr result (λ e. e ≡ TooLarge → bignum_meaning tag bytes.now ≡ None) }
     ensures large { IfErr result (λ e. 2 ^ 64 ≤ big_endian bytes.now) }
 {
-    let number = read_number(bytes);
-    if number < 1 << 64 {
-        let integer = Integer::from_head(tag == BIGNEG, number as u64);
-        return Ok(Value::Integer(integer));
-    }
-    if tag == BIGNEG && number >= 1 << 127 {
-        return Err(FoldError::TooLarge);
-    }
-    match tag_over(alloc, tag, without_leading_zeros(bytes)) {
-        Ok(value) => Ok(value),
-        Err(AllocError) => Err(FoldError::Memory),
+    match fold_number(tag, bytes) {
+        Ok(Some(number)) => Ok(Value::Integer(number)),
+        Ok(None) => match tag_over(alloc, tag, without_leading_zeros(bytes)) {
+            Ok(value) => Ok(value),
+            Err(AllocError) => Err(FoldError::Memory),
+        },
+        Err(_) => Err(FoldError::TooLarge),
     }
 }
 

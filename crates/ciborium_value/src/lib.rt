@@ -7,7 +7,7 @@ pub mod canonical;
 mod clone;
 mod deserialize;
 mod deserialized;
-//mod deterministic;
+mod deterministic;
 mod fields;
 mod key_order;
 mod kind;

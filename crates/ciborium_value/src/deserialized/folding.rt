@@ -9,12 +9,11 @@ ghost use Rattle.ciborium_value.specs.Tree as trees;
 ghost use Rattle.ciborium_value.specs.TreeSources.{IsErrorOf, fault_of, value_item};
 ghost use Rattle.ciborium_value.specs.View.{tree_of};
 
-use crate::bignum::{FoldError, GREATEST_FOLDED_SIZE, fold};
+use crate::bignum::{FoldError, find_folding, fold};
 use crate::kind::Kind;
 use crate::serialized::Error;
 use crate::stack::{Opening, Stack};
 use crate::tree::Value;
-use ciborium_ll::tag::{BIGNEG, BIGPOS};
 use std::alloc::{AllocError, Global};
 
 // What is still to be copied of a value that is open.
@@ -30,23 +29,6 @@ enum Coming<'a> {
 enum Part<'a> {
     Whole(Value),
     Opened(Opening, Coming<'a>),
-}
-
-// The bytes over which a tag folds (RFC 8949, section 3.4.3).
-fn find_folding(tag: u64, content: &Value) -> Option<&[u8]>
-    ensures { MatchOption result (tree_folding_bytes tag (tree_of content.now) ≡ None)
-        (λ b. tree_folding_bytes tag (tree_of content.now) ≡ Some b.now) }
-{
-    match content {
-        Value::Bytes(bytes) => {
-            if bytes.len() <= GREATEST_FOLDED_SIZE && (tag == BIGPOS || tag == BIGNEG) {
-                Some(bytes)
-            } else {
-                None
-            }
-        }
-        _ => None,
-    }
 }
 
 fn begin_tag<'a>(alloc: Global, tag: u64, content: &'a Value) -> Result<Part<'a>, Error>

@@ -1,0 +1,154 @@
+//! Deterministic forms of values (RFC 8949, section 4.2), made where the values stand.
+
+ghost use Rattle.std.specs.Prelude.{◌≡◌, ◌↔◌, ◌≤◌, IfErr, IfOk, IsTrue, List, MatchOption, None};
+ghost use Rattle.std.specs.Prelude.{Some, length, true, ℕ};
+ghost use Rattle.ciborium_value.specs.Deterministic.{AreRising, keys_of};
+ghost use Rattle.ciborium_value.specs.DeterministicForms.{deterministic_form, deterministic_forms};
+ghost use Rattle.ciborium_value.specs.DeterministicForms.{pair_forms, sorted_pairs};
+ghost use Rattle.ciborium_value.specs.Meaning.{without_zeros};
+ghost use Rattle.ciborium_value.specs.SameContents.{AreAlike, IsAlike, PairsAreAlike};
+ghost use Rattle.ciborium_value.specs.Taken.{gives, refuses};
+ghost use Rattle.ciborium_value.specs.Tree as trees;
+ghost use Rattle.ciborium_value.specs.View.{tree_of, tree_pairs_of, trees_of};
+
+use crate::bignum::{find_folding, fold_number, without_leading_zeros};
+use crate::canonical::cmp_keys;
+use crate::key_order::KeyOrder;
+use crate::kind::Kind;
+use crate::tree::Value;
+use std::cmp::Ordering;
+
+impl Value {
+    /// Puts the value into its deterministic form, where it stands: a bignum of 64 bits becomes an
+    /// integer, another loses its leading zeros (RFC 8949, section 3.4.3), and the pairs of each
+    /// map, inner maps first, are sorted by the encodings of their keys in this order (sections
+    /// 4.2.1 and 4.2.3). Its encoding is then the one deterministic encoding. It takes no memory,
+    /// and n log n comparisons for a map of n pairs.
+    ///
+    /// # Errors
+    ///
+    /// `DuplicateKey` where two keys of a map have one form, and `TooLarge` where a bignum of at
+    /// most 16 bytes is negative and no `i128` holds it: such a value has no deterministic form. It
+    /// is the first of them, in the order of the encoding, where a map stands behind its pairs. The
+    /// value is then the same as before, but for the order of pairs and folded bignums.
+    pub fn make_deterministic(&mut self, order: KeyOrder) -> Result<(), Kind>
+        ensures ok { IfOk result (λ u.
+            deterministic_form order (tree_of self.old) ≡ gives (tree_of self.new)) }
+        ensures refused { IfErr result (λ kind.
+            deterministic_form order (tree_of self.old) ≡ refuses kind) }
+        ensures alike { IsAlike (tree_of self.old) (tree_of self.new) }
+    {
+        make(self, order)
+    }
+}
+
+#[cycle(make)]
+fn make(value: &mut Value, order: KeyOrder) -> Result<(), Kind>
+    ensures ok { IfOk result (λ u.
+        deterministic_form order (tree_of value.old) ≡ gives (tree_of value.new)) }
+    ensures refused { IfErr result (λ kind.
+        deterministic_form order (tree_of value.old) ≡ refuses kind) }
+    ensures alike { IsAlike (tree_of value.old) (tree_of value.new) }
+{
+    match value {
+        Value::Tag(tag, content) => match find_folding(*tag, content) {
+            Some(bytes) => {
+                match fold_number(*tag, bytes)? {
+                    Some(number) => *value = Value::Integer(number),
+                    None => remove_leading_zeros(content),
+                }
+                Ok(())
+            }
+            None => make(content, order),
+        },
+        Value::Array(items) => make_items(items, order),
+        Value::Map(pairs) => {
+            make_pairs(pairs, order)?;
+            sort_pairs(pairs, order)
+        }
+        Value::Integer(_) | Value::Bytes(_) | Value::Text(_) | Value::Bool(_) | Value::Null => {
+            Ok(())
+        }
+    }
+}
+
+// Each of the items.
+#[cycle(make)]
+fn make_items(items: &mut Vec<Value>, order: KeyOrder) -> Result<(), Kind>
+    ensures ok { IfOk result (λ u.
+        deterministic_forms order (trees_of items.old.items) ≡ gives (trees_of items.new.items)) }
+    ensures refused { IfErr result (λ kind.
+        deterministic_forms order (trees_of items.old.items) ≡ refuses kind) }
+    ensures alike { AreAlike (trees_of items.old.items) (trees_of items.new.items) }
+{
+    for item in items.iter_mut() {
+        make(item, order)?;
+    }
+    Ok(())
+}
+
+// Each key and each value, the pairs as they stand.
+#[cycle(make)]
+fn make_pairs(pairs: &mut Vec<(Value, Value)>, order: KeyOrder) -> Result<(), Kind>
+    ensures ok { IfOk result (λ u.
+        pair_forms order (tree_pairs_of pairs.old.items) ≡ gives (tree_pairs_of pairs.new.items)) }
+    ensures refused { IfErr result (λ kind.
+        pair_forms order (tree_pairs_of pairs.old.items) ≡ refuses kind) }
+    ensures alike { PairsAreAlike (tree_pairs_of pairs.old.items) (tree_pairs_of pairs.new.items) }
+{
+    for pair in pairs.iter_mut() {
+        make(&mut pair.0, order)?;
+        make(&mut pair.1, order)?;
+    }
+    Ok(())
+}
+
+// Sorts the pairs by their keys, of which no two may be equal.
+fn sort_pairs(pairs: &mut Vec<(Value, Value)>, order: KeyOrder) -> Result<(), Kind>
+    ensures ok { IfOk result (λ u. sorted_pairs order (tree_pairs_of pairs.old.items)
+        ≡ gives (tree_pairs_of pairs.new.items)) }
+    ensures refused { IfErr result (λ kind.
+        sorted_pairs order (tree_pairs_of pairs.old.items) ≡ refuses kind) }
+    ensures alike { PairsAreAlike (tree_pairs_of pairs.old.items) (tree_pairs_of pairs.new.items) }
+{
+    pairs.sort_unstable_by(|left, right| cmp_keys(order, &left.0, &right.0));
+    if keys_rise(pairs, order) {
+        Ok(())
+    } else {
+        Err(Kind::DuplicateKey)
+    }
+}
+
+// Whether each key stands behind the one before it.
+fn keys_rise(pairs: &[(Value, Value)], order: KeyOrder) -> bool
+    ensures { IsTrue result ↔ AreRising order (keys_of (tree_pairs_of pairs.now)) }
+{
+    let mut rest = pairs;
+    while let [first, behind @ ..] = rest {
+        if let [second, ..] = behind
+            && cmp_keys(order, &first.0, &second.0) != Ordering::Less
+        {
+            return false;
+        }
+        rest = behind;
+    }
+    true
+}
+
+// Takes the leading zeros from a byte string.
+fn remove_leading_zeros(content: &mut Value)
+    ensures { (b : List ℕ) → tree_of content.old ≡ trees.bytes b →
+        tree_of content.new ≡ trees.bytes (without_zeros b) }
+{
+    if let Value::Bytes(bytes) = content {
+        remove_zeros(bytes);
+    }
+}
+
+// The same of its bytes.
+fn remove_zeros(bytes: &mut Vec<u8>)
+    ensures { bytes.new.items ≡ without_zeros bytes.old.items }
+{
+    let zeros = bytes.len() - without_leading_zeros(bytes).len();
+    bytes.drain(..zeros);
+}
