@@ -45,4 +45,5 @@ pub mod ProperValues
 pub mod SortedPairs
 pub mod GivenOutcomes
 pub mod ReorderedPairs
+pub mod BignumShapes
 pub mod OwnForms

@@ -1,6 +1,5 @@
 -- Pairs sorted by their keys: in whatever order they were given, and refused where two keys tie.
-use Rattle.std.proofs.Common.{◌≡◌, ◌⊎◌, inl, inr, List, [], ◌∷◌, refl, sym, ap, ◌∙◌, Ordering, Less, Equal, Greater, is_lt, true, false, Bool}
-use Rattle.std.specs.Cmp.{IsTotalOrder}
+use Rattle.std.proofs.Common.{◌≡◌, ◌⊎◌, inl, inr, refl, sym, ap, ◌∙◌, Ordering, Less, Equal, Greater, is_lt, true, false}
 use Rattle.std.specs.Ordering.{ordering_reverse}
 use Rattle.ciborium_value.specs.Canonical.{key_order}
 use Rattle.ciborium_value.specs.Deterministic.{AreRising, keys_of}
@@ -8,7 +7,6 @@ use Rattle.ciborium_value.specs.DeterministicForms.{placed, inserted, sorted_pai
 use Rattle.ciborium_value.specs.Taken.{Outcome, gives, refuses, nests, then_take, outcome_map}
 use Rattle.ciborium_value.specs.Tree.{Tree, TreePairs, no_tree_pairs, tree_pair}
 use Rattle.ciborium_value.specs.declared.key_order.KeyOrder.{KeyOrder}
-use Rattle.ciborium_value.specs.declared.key_order.KeyOrder.TheVariants.{LengthFirst, Bytewise}
 use Rattle.ciborium_value.specs.declared.kind.Kind.TheVariants as kinds
 use Rattle.ciborium_value.proofs.TotalOrders.{key_order_total}
 
