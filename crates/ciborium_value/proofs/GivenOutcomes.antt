@@ -33,6 +33,7 @@ pair_gives (gives k) nests s y e = absurd cc
 pair_gives (refuses j) r s y e = absurd cc
 pair_gives nests r s y e = absurd cc
 
+-- a meaning that gives a value is there
 pub meaning_given : {A : Type 0} (j : Kind) (m : Option A) (y : A) → of_meaning j m ≡ gives y → m ≡ Some y
 meaning_given j (Some x) y e = ap Some (one_given x y e)
 meaning_given j None y e = absurd cc

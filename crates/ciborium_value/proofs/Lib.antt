@@ -47,3 +47,6 @@ pub mod GivenOutcomes
 pub mod ReorderedPairs
 pub mod BignumShapes
 pub mod OwnForms
+pub mod GivenValues
+pub mod AlikeForms
+pub mod ProperForms

@@ -16,6 +16,7 @@ use Rattle.ciborium_value.proofs.ReorderedPairs.{AreReordered, as_they_are, behi
 use Rattle.ciborium_value.proofs.SortedPairs.{rising-sorted}
 
 abbrev mutual
+  -- each bignum is what it folds to, and the keys of each map rise
   pub IsFormed : KeyOrder → Tree → Type 0
   IsFormed o (integer z) = Unit {0}
   IsFormed o (bytes b) = Unit {0}
