@@ -25,8 +25,8 @@ pub use ciborium_ll::spelling_laws::{
     header_bytes_spell, one_header, shortest_head, unique_spelling,
 };
 pub use ciborium_value::tree_laws::{
-    bytes_of_bignums, good_or_refused, meaning_of_written_is_folded, order_of_integers,
-    order_of_values, worked_examples, written_reads_back,
+    bytes_of_bignums, deterministic_forms, good_or_refused, meaning_of_written_is_folded,
+    order_of_integers, order_of_values, worked_examples, written_reads_back,
 };
 pub use ciborium_value::{NeverNull, ReadsBack, WritesContent};
 use ciborium_value::{Deserialize, Serialize, Value};

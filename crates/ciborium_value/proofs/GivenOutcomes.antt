@@ -1,6 +1,6 @@
 -- Outcomes that give a value: what they are made of.
-use Rattle.std.proofs.Common.{◌≡◌, refl, sym, ap, ◌∙◌}
-use Rattle.ciborium_value.specs.Taken.{Outcome, gives, refuses, nests, then_take, outcome_map, one_more, one_pair_more}
+use Rattle.std.proofs.Common.{◌≡◌, Option, Some, None, refl, ap}
+use Rattle.ciborium_value.specs.Taken.{Outcome, gives, refuses, nests, then_take, outcome_map, of_meaning, one_more, one_pair_more}
 use Rattle.ciborium_value.specs.Tree.{Tree, Trees, tree, TreePairs, tree_pair}
 use Rattle.ciborium_value.specs.declared.kind.Kind.{Kind}
 
@@ -32,3 +32,8 @@ pair_gives (gives k) (refuses j) s y e = absurd cc
 pair_gives (gives k) nests s y e = absurd cc
 pair_gives (refuses j) r s y e = absurd cc
 pair_gives nests r s y e = absurd cc
+
+-- a meaning that gives a value is there
+pub meaning_given : {A : Type 0} (j : Kind) (m : Option A) (y : A) → of_meaning j m ≡ gives y → m ≡ Some y
+meaning_given j (Some x) y e = ap Some (one_given x y e)
+meaning_given j None y e = absurd cc

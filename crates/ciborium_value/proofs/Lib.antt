@@ -45,5 +45,9 @@ pub mod ProperValues
 pub mod SortedPairs
 pub mod GivenOutcomes
 pub mod ReorderedPairs
+pub mod BignumShapes
 pub mod OwnForms
 pub mod MadeForms
+pub mod GivenValues
+pub mod AlikeForms
+pub mod ProperForms

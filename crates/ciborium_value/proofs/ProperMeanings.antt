@@ -147,6 +147,10 @@ bignum-proper t b h =
     (either-proper (ltb n (2 ^ 64)) (Some (trees.integer (negsuc n))) (cond (ltb n (2 ^ 127)) tag3 None) (λ u. ltb-true n (2 ^ 64) u)
     (either-proper (ltb n (2 ^ 127)) tag3 None (λ u. (omega arith, rest)) tt))
 
+-- what proper bytes mean
+pub proper_bignum : (t : ℕ) (b : List ℕ) (v : Tree) → IsProperBytes b → bignum_meaning t b ≡ Some v → IsProperTree v
+proper_bignum t b v h e = subst Proper e (bignum-proper t b h)
+
 tag-proper : (t : ℕ) (y : Option (List ℕ)) (o : Option Tree) → IsArgument t → ProperBytes y → Proper o → Proper (tag_meaning t y o)
 tag-proper t None o h f g = tagged-proper t o h g
 tag-proper t (Some y) o h f g = bignum-proper t y f

@@ -1,15 +1,15 @@
 -- The same pairs in another order.
-use Rattle.std.proofs.Common.{◌≡◌, ℕ, zero, suc, ◌+◌, ◌<◌, ◌≤◌, List, [], ◌∷◌, length, get_or, set, refl, sym, ap, ◌∙◌, subst, arith, Ordering, Less, Equal, Greater, is_lt, true, false, Bool, map}
+use Rattle.std.proofs.Common.{◌≡◌, ℕ, zero, suc, ◌+◌, ◌<◌, List, [], ◌∷◌, length, get_or, set, refl, sym, ap, ◌∙◌, subst, arith, Ordering, Less, Equal, Greater, is_lt, false, Bool}
 use Rattle.std.proofs.lemmas.List.Sorted.{IsPermutation-keeps, ranks_by}
 use Rattle.std.specs.Cmp.{IsStrictWeakOrder}
 use Rattle.std.specs.List.{swap}
 use Rattle.std.specs.List.Sorted.{IsPermutation, IsSortedBy}
 use Rattle.ciborium_value.specs.Canonical.{key_order}
 use Rattle.ciborium_value.specs.Deterministic.{AreRising, keys_of}
-use Rattle.ciborium_value.specs.DeterministicForms.{placed, inserted, sorted_pairs}
+use Rattle.ciborium_value.specs.DeterministicForms.{inserted, sorted_pairs}
 use Rattle.ciborium_value.specs.SameContents.{IsAlike, PairsAreAlike, no_pairs, more_pairs, exchanged, one_after_another}
 use Rattle.ciborium_value.specs.SameContents as same
-use Rattle.ciborium_value.specs.Taken.{Outcome, gives, refuses, nests, then_take, outcome_map}
+use Rattle.ciborium_value.specs.Taken.{gives, then_take}
 use Rattle.ciborium_value.specs.Tree.{Tree, TreePairs, no_tree_pairs, tree_pair}
 use Rattle.ciborium_value.specs.View.{tree_of, tree_pairs_of}
 use Rattle.ciborium_value.specs.declared.key_order.KeyOrder.{KeyOrder}
@@ -78,10 +78,12 @@ stands_before-orders o = ranks_by (key_order_total o) (λ p. tree_of p.0)
 pub sorted-in_order : (o : KeyOrder) (ps : List (Value × Value)) → IsSortedBy (stands_before o) ps → AreInOrder o (tree_pairs_of ps)
 sorted-in_order o [] h = tt
 sorted-in_order o (p ∷ []) h = tt
-sorted-in_order o (p ∷ (q ∷ ps)) h =
-    (h 0 p (omega arith) (omega arith), sorted-in_order o (q ∷ ps) (λ k d le below.
-    let next : suc k + 1 ≡ suc (k + 1) = omega arith in
-    subst (λ n. stands_before o (get_or (p ∷ (q ∷ ps)) n d) (get_or (p ∷ (q ∷ ps)) (suc k) d) ≡ false) next (h (suc k) d (omega arith) (omega (arith, below)))))
+sorted-in_order o (p ∷ (q ∷ ps)) h = (
+  h 0 p (omega arith) (omega arith),
+  sorted-in_order o (q ∷ ps) (λ k d le below.
+      let next : suc k + 1 ≡ suc (k + 1) = omega arith in
+      subst (λ n. stands_before o (get_or (p ∷ (q ∷ ps)) n d) (get_or (p ∷ (q ∷ ps)) (suc k) d) ≡ false) next (h (suc k) d (omega arith) (omega (arith, below)))),
+)
 
 -- ---- what sorting by the definition gives
 

@@ -1,6 +1,5 @@
 -- Pairs sorted by their keys: in whatever order they were given, and refused where two keys tie.
-use Rattle.std.proofs.Common.{◌≡◌, ◌⊎◌, inl, inr, List, [], ◌∷◌, refl, sym, ap, ◌∙◌, Ordering, Less, Equal, Greater, is_lt, true, false, Bool}
-use Rattle.std.specs.Cmp.{IsTotalOrder}
+use Rattle.std.proofs.Common.{◌≡◌, ◌⊎◌, inl, inr, refl, sym, ap, ◌∙◌, Ordering, Less, Equal, Greater, is_lt, true, false}
 use Rattle.std.specs.Ordering.{ordering_reverse}
 use Rattle.ciborium_value.specs.Canonical.{key_order}
 use Rattle.ciborium_value.specs.Deterministic.{AreRising, keys_of}
@@ -8,7 +7,6 @@ use Rattle.ciborium_value.specs.DeterministicForms.{placed, inserted, sorted_pai
 use Rattle.ciborium_value.specs.Taken.{Outcome, gives, refuses, nests, then_take, outcome_map}
 use Rattle.ciborium_value.specs.Tree.{Tree, TreePairs, no_tree_pairs, tree_pair}
 use Rattle.ciborium_value.specs.declared.key_order.KeyOrder.{KeyOrder}
-use Rattle.ciborium_value.specs.declared.key_order.KeyOrder.TheVariants.{LengthFirst, Bytewise}
 use Rattle.ciborium_value.specs.declared.kind.Kind.TheVariants as kinds
 use Rattle.ciborium_value.proofs.TotalOrders.{key_order_total}
 
@@ -90,7 +88,8 @@ greater_where_less o k l e = (key_order_total o).antisymm l k ∙ ap ordering_re
 pub less_where_greater : (o : KeyOrder) (k l : Tree) → key_order o k l ≡ Greater → key_order o l k ≡ Less
 less_where_greater o k l e = (key_order_total o).antisymm l k ∙ ap ordering_reverse e
 
-abbrev Commutes : KeyOrder → Tree → Tree → Tree → Tree → TreePairs → Type 0
+-- two pairs are put among others in either order
+abbrev pub Commutes : KeyOrder → Tree → Tree → Tree → Tree → TreePairs → Type 0
 Commutes o k v l w ps = then_take (inserted o l w ps) (inserted o k v) ≡ then_take (inserted o k v ps) (inserted o l w)
 
 module _ (o : KeyOrder) (k v l w p x : Tree) (ps : TreePairs) where
@@ -132,7 +131,7 @@ module _ (o : KeyOrder) (k v l w p x : Tree) (ps : TreePairs) where
       ∙ ap (outcome_map (tree_pair p x)) same
       ∙ sym (ap (λ z. then_take z (inserted o l w)) (inserted-Greater o k v p x ps e) ∙ behind_first (inserted o l w) p x (λ rs. inserted-Greater o l w p x rs h) (inserted o k v ps))
 
-commutes : (o : KeyOrder) (k v l w : Tree) (ps : TreePairs) → Commutes o k v l w ps
+pub commutes : (o : KeyOrder) (k v l w : Tree) (ps : TreePairs) → Commutes o k v l w ps
 commutes o k v l w no_tree_pairs = front_either (key_order o k l) (key_order o l k) k v l w no_tree_pairs ((key_order_total o).antisymm k l)
 commutes o k v l w (tree_pair p x ps) = by (commutes o k v l w ps) (key_order o k p) (key_order o l p) refl refl
   where

@@ -4,6 +4,9 @@
 ghost use Rattle.ciborium_value.specs.Examples.{CornerExamples, CountedExamples, FoldingExamples};
 ghost use Rattle.ciborium_value.specs.Examples.{RefusedExamples, SpelledExamples, WrittenExamples};
 ghost use Rattle.ciborium_value.specs.FoldingLaws.{EncodingIsGood, FoldsOnce, WrittenMeansFolded};
+ghost use Rattle.ciborium_value.specs.FormLaws.{AcceptedWhereOwnForm, AlikeHaveOneForm};
+ghost use Rattle.ciborium_value.specs.FormLaws.{FormIsAlike, FormIsItsOwn, FormIsProper};
+ghost use Rattle.ciborium_value.specs.FormLaws.{OneFormWhereAlike};
 ghost use Rattle.ciborium_value.specs.Laws.{GoodOrRefused, NeverBoth, OneRefusal};
 ghost use Rattle.ciborium_value.specs.Number.{BytesHoldNumber, NoLeadingZeros};
 ghost use Rattle.ciborium_value.specs.NumberItems.{NumberTreeIsItem};
@@ -75,4 +78,20 @@ pub fn written_reads_back()
     ensures folds { WrittenTreeFolds }
     ensures itself { TreeIsWrittenAsItself }
     ensures proper { WrittenTreeIsProper }
+{}
+
+/// The deterministic form of a tree, by either order of keys, folds its bignums and sorts the pairs
+/// of each of its maps by the forms of their keys (RFC 8949, sections 3.4.3 and 4.2). It is its own
+/// form. The encoding of a tree that a program can hold is accepted by a deterministic reader just
+/// where the tree is its own form, nests within the levels that are left, and the encoding ends
+/// within the greatest offset. Trees that are equal but for the order of pairs and for folding have
+/// the same form, if one of them has one, and trees that have the same form are equal but for
+/// these, as a tree is to its form. A program can hold the form if it can hold the tree.
+pub fn deterministic_forms()
+    ensures own { FormIsItsOwn }
+    ensures accepted { AcceptedWhereOwnForm }
+    ensures one_form { AlikeHaveOneForm }
+    ensures alike { OneFormWhereAlike }
+    ensures itself { FormIsAlike }
+    ensures proper { FormIsProper }
 {}
