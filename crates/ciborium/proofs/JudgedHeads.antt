@@ -18,6 +18,7 @@ use Rattle.ciborium.specs.Reads.{IsPulled}
 use Rattle.ciborium.specs.Spelling.{deterministic_fault, long_fault, counted_fault}
 use Rattle.ciborium_ll.specs.Decoding.{left_of}
 use Rattle.ciborium.proofs.Fronts.{Front, front-of}
+use Rattle.ciborium_value.specs.declared.key_order.KeyOrder.{KeyOrder}
 
 pub head-argument : (h : List ℕ) (m n : ℕ) → IsHead h m n → IsArgument n
 head-argument h m n (within, lt, e) = omega (arith, lt)
@@ -64,61 +65,62 @@ short-front remaining d h k m n p xs same is fault none size a =
 
 -- ---- the others
 
-module _ (l p : ℕ) (xs h r : List ℕ) (size : ℕ) (kind : Kind) (usable : IsUsable xs p) (split : xs ≡ h ++ r) (len : length h ≡ size) where
-  abbrev Refused : Type 0
-  Refused = IsRefusedBy {E = Unit {0}} None (Semantic (Some p) kind) (DeterministicallyRefuses xs p l)
-
-  long-refuses : (m n : ℕ) → m ≤ 6 → IsHead h m n → long_fault m n size ≡ Some kind → Refused
-  long-refuses m n lt is wrong =
-      let long = long-head m n size kind h is len wrong in
-      subst (λ k. IsRefusedBy {E = Unit {0}} None (Semantic (Some p) k) (DeterministicallyRefuses xs p l)) (sym long.0)
-      (DeterministicallyRefuses.long_head m n lt usable (size, r, (h, is, len, split), long.1))
-
-  counted-refuses : (m : ℕ) (count : Option ℕ) → 2 ≤ m → m ≤ 5 → IsCounted h m count → counted_fault m count size ≡ Some kind → Refused
-  counted-refuses m (Some n) low high is wrong = long-refuses m n (omega (arith, high)) is wrong
-  counted-refuses m None low high is wrong =
-      let same : kinds.Open ≡ kind = cc in
-      subst (λ k. IsRefusedBy {E = Unit {0}} None (Semantic (Some p) k) (DeterministicallyRefuses xs p l)) same
-      (DeterministicallyRefuses.indefinite m r low high usable (split ∙ ap (λ (z : List ℕ). z ++ r) is))
-
-  undefined-refuses : (n : ℕ) → IsSimple h n → ◌≡◌ {A = Option Kind} (cond (eqb n 23) (Some kinds.NotShortest) None) (Some kind) → Refused
-  undefined-refuses n is wrong = by (eqb n 23) (eqb-true n 23) wrong
-    where
-      bytes : n ≡ 23 → h ≡ 0xf7 ∷ []
-      bytes e = of is
-        where
-          of : IsSimple h n → h ≡ 0xf7 ∷ []
-          of (inl s) = s.1 ∙ ap (λ k. (224 + k) ∷ []) e
-          of (inr s) = let low = s.0 in absurd (omega (arith, low, e))
-
-      by : (t : Bool) → (t ≡ true → n ≡ 23) → ◌≡◌ {A = Option Kind} (cond t (Some kinds.NotShortest) None) (Some kind) → Refused
-      by false f e = absurd cc
-      by true f e =
-          let same : kinds.NotShortest ≡ kind = cc in
-          subst (λ k. IsRefusedBy {E = Unit {0}} None (Semantic (Some p) k) (DeterministicallyRefuses xs p l)) same
-          (DeterministicallyRefuses.undefined r usable (split ∙ ap (λ (z : List ℕ). z ++ r) (bytes (f refl))))
-
-  pub head-refuses : (k : Header) → SpellsHeader h k → deterministic_fault k size ≡ Some kind → Refused
-  head-refuses (header.Positive n) is wrong = long-refuses 0 n (omega arith) is wrong
-  head-refuses (header.Negative n) is wrong = long-refuses 1 n (omega arith) is wrong
-  head-refuses (header.Bytes n) is wrong = counted-refuses 2 n (omega arith) (omega arith) is wrong
-  head-refuses (header.Text n) is wrong = counted-refuses 3 n (omega arith) (omega arith) is wrong
-  head-refuses (header.Array n) is wrong = counted-refuses 4 n (omega arith) (omega arith) is wrong
-  head-refuses (header.Map n) is wrong = counted-refuses 5 n (omega arith) (omega arith) is wrong
-  head-refuses (header.Tag n) is wrong = long-refuses 6 n (omega arith) is wrong
-  head-refuses (header.Simple n) is wrong = undefined-refuses n is wrong
-  head-refuses (header.Float n) is wrong = absurd cc
-  head-refuses header.Break is wrong = absurd cc
-
 -- a refusal of a kind does not look at what is left
 pub of-kind : (E F : Type 0) (before after : Option (List ℕ)) (offset : Option ℕ) (kind : Kind) (P : Refusal → Type 0) → IsRefusedBy {E = E} before (Semantic offset kind) P → IsRefusedBy {E = F} after (Semantic offset kind) P
 of-kind E F before after offset kind P h = h
 
--- the head that was pulled is wrong
-pub fault-refuses : (E : Type 0) {S : Type 0} (remaining : S → Option (List ℕ)) (d : Decoder S) (h : Header) (l p offset : ℕ) (xs : List ℕ) (kind : Kind) → deterministic_fault h d.head_len ≡ Some kind → d.window.count ≡ p + d.head_len → offset ≡ p →
-    IsPulled remaining d h xs p → IsRefusedBy {E = E} (left_of remaining d) (Semantic (Some offset) kind) (DeterministicallyRefuses xs p l)
-fault-refuses E remaining d h l p offset xs kind wrong size here a =
-    let count = a.6.0 in
-    let len : length a.0 ≡ d.head_len = omega (arith, size, count) in
-    subst (λ q. IsRefusedBy {E = E} (left_of remaining d) (Semantic (Some q) kind) (DeterministicallyRefuses xs p l)) (sym here)
-    (of-kind (Unit {0}) E None (left_of remaining d) (Some p) kind (DeterministicallyRefuses xs p l) (head-refuses l p xs a.0 a.1 d.head_len kind a.3 a.4 len h a.2 wrong))
+module _ (order : KeyOrder) where
+  module _ (l p : ℕ) (xs h r : List ℕ) (size : ℕ) (kind : Kind) (usable : IsUsable xs p) (split : xs ≡ h ++ r) (len : length h ≡ size) where
+    abbrev Refused : Type 0
+    Refused = IsRefusedBy {E = Unit {0}} None (Semantic (Some p) kind) (DeterministicallyRefuses order xs p l)
+
+    long-refuses : (m n : ℕ) → m ≤ 6 → IsHead h m n → long_fault m n size ≡ Some kind → Refused
+    long-refuses m n lt is wrong =
+        let long = long-head m n size kind h is len wrong in
+        subst (λ k. IsRefusedBy {E = Unit {0}} None (Semantic (Some p) k) (DeterministicallyRefuses order xs p l)) (sym long.0)
+        (DeterministicallyRefuses.long_head m n lt usable (size, r, (h, is, len, split), long.1))
+
+    counted-refuses : (m : ℕ) (count : Option ℕ) → 2 ≤ m → m ≤ 5 → IsCounted h m count → counted_fault m count size ≡ Some kind → Refused
+    counted-refuses m (Some n) low high is wrong = long-refuses m n (omega (arith, high)) is wrong
+    counted-refuses m None low high is wrong =
+        let same : kinds.Open ≡ kind = cc in
+        subst (λ k. IsRefusedBy {E = Unit {0}} None (Semantic (Some p) k) (DeterministicallyRefuses order xs p l)) same
+        (DeterministicallyRefuses.indefinite m r low high usable (split ∙ ap (λ (z : List ℕ). z ++ r) is))
+
+    undefined-refuses : (n : ℕ) → IsSimple h n → ◌≡◌ {A = Option Kind} (cond (eqb n 23) (Some kinds.NotShortest) None) (Some kind) → Refused
+    undefined-refuses n is wrong = by (eqb n 23) (eqb-true n 23) wrong
+      where
+        bytes : n ≡ 23 → h ≡ 0xf7 ∷ []
+        bytes e = of is
+          where
+            of : IsSimple h n → h ≡ 0xf7 ∷ []
+            of (inl s) = s.1 ∙ ap (λ k. (224 + k) ∷ []) e
+            of (inr s) = let low = s.0 in absurd (omega (arith, low, e))
+
+        by : (t : Bool) → (t ≡ true → n ≡ 23) → ◌≡◌ {A = Option Kind} (cond t (Some kinds.NotShortest) None) (Some kind) → Refused
+        by false f e = absurd cc
+        by true f e =
+            let same : kinds.NotShortest ≡ kind = cc in
+            subst (λ k. IsRefusedBy {E = Unit {0}} None (Semantic (Some p) k) (DeterministicallyRefuses order xs p l)) same
+            (DeterministicallyRefuses.undefined r usable (split ∙ ap (λ (z : List ℕ). z ++ r) (bytes (f refl))))
+
+    pub head-refuses : (k : Header) → SpellsHeader h k → deterministic_fault k size ≡ Some kind → Refused
+    head-refuses (header.Positive n) is wrong = long-refuses 0 n (omega arith) is wrong
+    head-refuses (header.Negative n) is wrong = long-refuses 1 n (omega arith) is wrong
+    head-refuses (header.Bytes n) is wrong = counted-refuses 2 n (omega arith) (omega arith) is wrong
+    head-refuses (header.Text n) is wrong = counted-refuses 3 n (omega arith) (omega arith) is wrong
+    head-refuses (header.Array n) is wrong = counted-refuses 4 n (omega arith) (omega arith) is wrong
+    head-refuses (header.Map n) is wrong = counted-refuses 5 n (omega arith) (omega arith) is wrong
+    head-refuses (header.Tag n) is wrong = long-refuses 6 n (omega arith) is wrong
+    head-refuses (header.Simple n) is wrong = undefined-refuses n is wrong
+    head-refuses (header.Float n) is wrong = absurd cc
+    head-refuses header.Break is wrong = absurd cc
+
+  -- the head that was pulled is wrong
+  pub fault-refuses : (E : Type 0) {S : Type 0} (remaining : S → Option (List ℕ)) (d : Decoder S) (h : Header) (l p offset : ℕ) (xs : List ℕ) (kind : Kind) → deterministic_fault h d.head_len ≡ Some kind → d.window.count ≡ p + d.head_len → offset ≡ p →
+      IsPulled remaining d h xs p → IsRefusedBy {E = E} (left_of remaining d) (Semantic (Some offset) kind) (DeterministicallyRefuses order xs p l)
+  fault-refuses E remaining d h l p offset xs kind wrong size here a =
+      let count = a.6.0 in
+      let len : length a.0 ≡ d.head_len = omega (arith, size, count) in
+      subst (λ q. IsRefusedBy {E = E} (left_of remaining d) (Semantic (Some q) kind) (DeterministicallyRefuses order xs p l)) (sym here)
+      (of-kind (Unit {0}) E None (left_of remaining d) (Some p) kind (DeterministicallyRefuses order xs p l) (head-refuses l p xs a.0 a.1 d.head_len kind a.3 a.4 len h a.2 wrong))

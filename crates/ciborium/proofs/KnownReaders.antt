@@ -35,29 +35,29 @@ module _ (l : ℕ) where
   -- they are refused in no way
   never-refused : (spelling : Spelling) (s x z : List ℕ) (v : Tree) (r : Refusal) → IsReadBy spelling s 0 l v → z ≡ s ++ x → AreBytes z → RefusesBy spelling z 0 l r → ⊥
   never-refused any s x z v r (i, good, means) split bytes = outcome.never_both z 0 (Some l) r bytes (s, i, x, good, split)
-  never-refused deterministic s x z v r good split bytes = strict.never_both z 0 l r bytes (s, v, x, good, split)
+  never-refused (deterministic order) s x z v r good split bytes = strict.never_both order z 0 l r bytes (s, v, x, good, split)
 
   -- they are read in one way
   one-way : (spelling : Spelling) (s t x y : List ℕ) (v w : Tree) → IsReadBy spelling s 0 l v → IsReadBy spelling t 0 l w → s ++ x ≡ t ++ y → (v ≡ w) × (x ≡ y)
   one-way any s t x y v w (i, good, means) (j, fine, same) e =
       let one = one_at_front s t x y i j good.0 fine.0 e in
       (some-tree v w (sym means ∙ ap meaning one.2 ∙ same), one.1)
-  one-way deterministic s t x y v w good fine e = one_tree s t x y 0 l v w good fine e
+  one-way (deterministic order) s t x y v w good fine e = one_tree order s t x y 0 l v w good fine e
 
   read-bytes : (spelling : Spelling) (s : List ℕ) (v : Tree) → IsReadBy spelling s 0 l v → AreBytes s
   read-bytes any s v (i, good, means) = good_bytes i s (Some l) 0 good
-  read-bytes deterministic s v good =
+  read-bytes (deterministic order) s v good =
       good_bytes (item_of v) s (Some l) 0 (subst (λ b. Spells b (item_of v)) (sym good.0.0) (encoding-spells v good.0.1.proper), ap is_some (written_means_folded v ∙ good.0.1.folds), good.1, good.2)
 
   -- they mean a tree that memory can hold
   read-proper : (spelling : Spelling) (s : List ℕ) (v : Tree) → IsReadBy spelling s 0 l v → AreBytes s → length s ≤ greatest_offset → IsProperTree v
   read-proper any s v (i, good, means) bytes fits = proper_meaning i s v good.0 bytes fits means
-  read-proper deterministic s v good bytes fits = good.0.1.proper
+  read-proper (deterministic order) s v good bytes fits = good.0.1.proper
 
   -- which is no larger than they are many
   read-bounded : (spelling : Spelling) (s : List ℕ) (v : Tree) → IsReadBy spelling s 0 l v → node_count v + payload_size v ≤ length s
   read-bounded any s v (i, good, means) = bounded i s v good.0 means
-  read-bounded deterministic s v good =
+  read-bounded (deterministic order) s v good =
       let means : meaning (item_of v) ≡ Some v = written_means_folded v ∙ good.0.1.folds in
       let len : length s ≡ length (encoding v) = ap length good.0.0 in
       omega (arith, bounded (item_of v) (encoding v) v (encoding-spells v good.0.1.proper) means, len)

@@ -20,6 +20,7 @@ use Rattle.ciborium_value.specs.Sinks.{Named, all_named, and_then, contained, co
 use Rattle.ciborium_value.specs.Tree as trees
 use Rattle.ciborium_value.specs.Tree.{Tree, TreePairs}
 use Rattle.ciborium_value.specs.View.{tree_of, tree_pairs_of}
+use Rattle.ciborium_value.specs.declared.key_order.KeyOrder.TheVariants.{LengthFirst}
 use Rattle.ciborium_value.specs.declared.tree.Value.{Value}
 use Rattle.ciborium_value.proofs.ReadBack.{written_tree_is_proper}
 use Rattle.ciborium.specs.declared.de.error.Error.{Error}
@@ -47,7 +48,7 @@ loading_gives_content IsHeld written reading law v t w l old new bytes after c h
     let out : new ≡ old ++ encoding t = subst (λ n. WritesNamed {E = WriteError IoError} (Some old) (Some new) (Ok tt) n) names appends in
     let whole : bytes ≡ encoding t = same ∙ out ∙ ap (λ (b : List ℕ). b ++ encoding t) none in
     let all : bytes ≡ encoding t ++ [] = whole ∙ sym (append-nil (encoding t)) in
-    let loaded = law v t l [] after (Ok w) held names accepted (subst (λ (b : List ℕ). length b ≤ greatest_offset) whole fits) (subst (λ b. AnswersGoodItem {E = IoError} deterministic (Some b) l after (Ok w)) all answers) in
+    let loaded = law v t l [] after (Ok w) held names accepted (subst (λ (b : List ℕ). length b ≤ greatest_offset) whole fits) (subst (λ b. AnswersGoodItem {E = IoError} (deterministic LengthFirst) (Some b) l after (Ok w)) all answers) in
     one-content (reading.taken None (item_of w)) (reading.content v) c loaded.1 give
 
 -- ---- stores
@@ -68,22 +69,22 @@ store-named es = let (is, named, same) = store-items es in ap (contained diction
 store-folds : (es : List (Value × Value)) → AreCanonicalParts es → tree_pairs_folded (tree_pairs_of es) ≡ Some (tree_pairs_of es)
 store-folds [] h = refl
 store-folds (e ∷ es) h =
-    let here = All-head (λ e. IsCanonicalTree (tree_of e.0) × IsCanonicalTree (tree_of e.1)) e es h in
+    let here = All-head (λ e. IsCanonicalTree LengthFirst (tree_of e.0) × IsCanonicalTree LengthFirst (tree_of e.1)) e es h in
     ap (λ o. tree_pairs_more o (folded (tree_of e.1)) (tree_pairs_folded (tree_pairs_of es))) here.0.folds
     ∙ ap (λ o. tree_pairs_more (Some (tree_of e.0)) o (tree_pairs_folded (tree_pairs_of es))) here.1.folds
-    ∙ ap (tree_pairs_more (Some (tree_of e.0)) (Some (tree_of e.1))) (store-folds es (All-tail (λ e. IsCanonicalTree (tree_of e.0) × IsCanonicalTree (tree_of e.1)) e es h))
+    ∙ ap (tree_pairs_more (Some (tree_of e.0)) (Some (tree_of e.1))) (store-folds es (All-tail (λ e. IsCanonicalTree LengthFirst (tree_of e.0) × IsCanonicalTree LengthFirst (tree_of e.1)) e es h))
 
-parts-rise : (es : List (Value × Value)) → AreCanonicalParts es → PairsHaveRisingKeys (tree_pairs_of es)
+parts-rise : (es : List (Value × Value)) → AreCanonicalParts es → PairsHaveRisingKeys LengthFirst (tree_pairs_of es)
 parts-rise [] h = tt
 parts-rise (e ∷ es) h =
-    let here = All-head (λ e. IsCanonicalTree (tree_of e.0) × IsCanonicalTree (tree_of e.1)) e es h in
-    (here.0.rises, here.1.rises, parts-rise es (All-tail (λ e. IsCanonicalTree (tree_of e.0) × IsCanonicalTree (tree_of e.1)) e es h))
+    let here = All-head (λ e. IsCanonicalTree LengthFirst (tree_of e.0) × IsCanonicalTree LengthFirst (tree_of e.1)) e es h in
+    (here.0.rises, here.1.rises, parts-rise es (All-tail (λ e. IsCanonicalTree LengthFirst (tree_of e.0) × IsCanonicalTree LengthFirst (tree_of e.1)) e es h))
 
 tree_keys : (es : List (Value × Value)) → map tree_of (keys_of es) ≡ rising.keys_of (tree_pairs_of es)
 tree_keys [] = refl
 tree_keys (e ∷ es) = ap (λ ks. tree_of e.0 ∷ ks) (tree_keys es)
 
-neighbours-rise : (ts : List Tree) → IsStrictlySortedBy canonical_order ts → AreRising ts
+neighbours-rise : (ts : List Tree) → IsStrictlySortedBy canonical_order ts → AreRising LengthFirst ts
 unfolding IsStrictlySortedBy
 neighbours-rise [] h = tt
 neighbours-rise (k ∷ []) h = tt
@@ -102,5 +103,5 @@ deterministic_store es sorted written parts = (
 pub store_held : (m : BTreeMap Value Value) → IsOrdered canonical_value_cmp m → AreCanonicalParts m.entries → IsStoreHeld m
 store_held m ordered parts = (
   ordered,
-  All-weaker (λ e. IsCanonicalTree (tree_of e.0) × IsCanonicalTree (tree_of e.1)) (λ e. (folded (tree_of e.0) ≡ Some (tree_of e.0)) × (folded (tree_of e.1) ≡ Some (tree_of e.1))) (λ e h. (h.0.folds, h.1.folds)) m.entries parts,
+  All-weaker (λ e. IsCanonicalTree LengthFirst (tree_of e.0) × IsCanonicalTree LengthFirst (tree_of e.1)) (λ e. (folded (tree_of e.0) ≡ Some (tree_of e.0)) × (folded (tree_of e.1) ≡ Some (tree_of e.1))) (λ e h. (h.0.folds, h.1.folds)) m.entries parts,
 )

@@ -3,14 +3,15 @@ use Rattle.std.proofs.Common.{ℕ, zero, suc, ◌+◌, ◌-◌, cond, ltb, leb, 
 use Rattle.std.specs.declared.cmp.Ordering.{Ordering}
 use Rattle.std.specs.declared.cmp.Ordering.TheVariants.{Less, Equal, Greater}
 use Rattle.ciborium_ll.specs.Head.{shortest_head}
-use Rattle.ciborium_ll.specs.Refusal.{Refusal, io, syntax, semantic, recursion_limit_exceeded, Float, Simple, Break, TooLarge, NotShortest, NotFolded, KeyOrder, head_refusal}
+use Rattle.ciborium_ll.specs.Refusal.{Refusal, io, syntax, semantic, recursion_limit_exceeded, Float, Simple, Break, TooLarge, NotShortest, NotFolded, head_refusal}
 use Rattle.ciborium_ll.specs.Refusal as refusal
 use Rattle.ciborium_ll.specs.StringRefusal.{StringKind, of_bytes, of_text, major_of}
 use Rattle.ciborium_ll.proofs.FrontHeads.{Front, nothing, counted, opened, plain, raw, front}
-use Rattle.ciborium_value.specs.Canonical.{canonical_order}
+use Rattle.ciborium_value.specs.Canonical.{key_order}
 use Rattle.ciborium_value.specs.Tree.{Tree, integer, bytes, text, boolean, null, tag, array, map, Trees, no_trees, tree, TreePairs, no_tree_pairs, tree_pair}
 use Rattle.ciborium_value.proofs.Reader.{allowed, past, folding, is_too_large}
 use Rattle.ciborium.specs.DeterministicRefusals.{ContainerKind, of_array, of_map, part_count, keys_among}
+use Rattle.ciborium_value.specs.declared.key_order.KeyOrder.{KeyOrder}
 
 pub data Answer : Type 0 where
   -- the tree, what is left, and its offset
@@ -65,19 +66,20 @@ is_less Less = true
 is_less Equal = false
 is_less Greater = false
 
-abbrev pub rising : List Tree → Bool
-rising [] = true
-rising (k ∷ []) = true
-rising (k ∷ (j ∷ ks)) = is_less (canonical_order k j) && rising (j ∷ ks)
+module _ (order : KeyOrder) where
+  abbrev pub rising : List Tree → Bool
+  rising [] = true
+  rising (k ∷ []) = true
+  rising (k ∷ (j ∷ ks)) = is_less (key_order order k j) && rising (j ∷ ks)
 
-abbrev pub in_order : ContainerKind → List Tree → Bool
-in_order of_array vs = true
-in_order of_map vs = rising (keys_among vs)
+  abbrev pub in_order : ContainerKind → List Tree → Bool
+  in_order of_array vs = true
+  in_order of_map vs = rising (keys_among vs)
 
--- what follows one part, which began at q
-abbrev pub next_part : (List Tree → Reader) → ContainerKind → List Tree → ℕ → ℕ → Answer → Answer
-next_part more kind vs q l (ends v r u) = cond (in_order kind (vs ++ (v ∷ []))) (more (vs ++ (v ∷ [])) r u l) (refused (semantic q KeyOrder))
-next_part more kind vs q l (refused e) = refused e
+  -- what follows one part, which began at q
+  abbrev pub next_part : (List Tree → Reader) → ContainerKind → List Tree → ℕ → ℕ → Answer → Answer
+  next_part more kind vs q l (ends v r u) = cond (in_order kind (vs ++ (v ∷ []))) (more (vs ++ (v ∷ [])) r u l) (refused (semantic q refusal.KeyOrder))
+  next_part more kind vs q l (refused e) = refused e
 
 -- ---- tags
 
@@ -134,13 +136,14 @@ item_at rd more b p l (opened m r) = cond (eqb m 7) (refused (semantic p Break))
 item_at rd more b p l (plain n r) = plain_item n r p (past p b r)
 item_at rd more b p l (raw w r) = refused (semantic p Float)
 
--- its fuel bounds the nesting and the parts
-abbrev mutual
-  pub read : ℕ → List ℕ → ℕ → ℕ → Answer
-  read zero b p l = refused io
-  read (suc d) b p l = checked (head_refusal b p) (item_at (read d) (λ kind n. parts d kind n []) b p l (front b))
+module _ (order : KeyOrder) where
+  -- its fuel bounds the nesting and the parts
+  abbrev mutual
+    pub read : ℕ → List ℕ → ℕ → ℕ → Answer
+    read zero b p l = refused io
+    read (suc d) b p l = checked (head_refusal b p) (item_at (read d) (λ kind n. parts d kind n []) b p l (front b))
 
-  -- behind the parts vs of a container of n items or pairs
-  pub parts : ℕ → ContainerKind → ℕ → List Tree → List ℕ → ℕ → ℕ → Answer
-  parts zero kind n vs b p l = refused io
-  parts (suc d) kind n vs b p l = cond (eqb (length vs) (part_count kind n)) (ends (whole kind vs) b p) (next_part (parts d kind n) kind vs p l (read d b p l))
+    -- behind the parts vs of a container of n items or pairs
+    pub parts : ℕ → ContainerKind → ℕ → List Tree → List ℕ → ℕ → ℕ → Answer
+    parts zero kind n vs b p l = refused io
+    parts (suc d) kind n vs b p l = cond (eqb (length vs) (part_count kind n)) (ends (whole kind vs) b p) (next_part order (parts d kind n) kind vs p l (read d b p l))

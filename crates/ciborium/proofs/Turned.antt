@@ -34,27 +34,27 @@ use Rattle.ciborium.proofs.Turning.{EndsHere, IsPlaced, closed-item, placed-turn
 -- what refuses inside refuses around
 refused-inside : (spelling : Spelling) (l : ℕ) (xs : List ℕ) (p : ℕ) (os : List Open) (m : ℕ) (ys : List ℕ) (q : ℕ) (e : Refusal) → IsAround spelling l xs p os m ys q → RefusesPart spelling ys q m e → RefusesBy spelling xs p l e
 refused-inside any l xs p os m ys q e a f = refused-turn l xs p os m ys q e a f.0 (λ _. f.1)
-refused-inside deterministic l xs p os m ys q e a f = refused-around l xs p os m ys q e a f
+refused-inside (deterministic order) l xs p os m ys q e a f = refused-around order l xs p os m ys q e a f
 
 -- a value was placed, and its key judged
 turned : {S E : Type 0} (spelling : Spelling) (remaining : S → Option (List ℕ)) (e : Decoder S) (os after : List Open) (l : ℕ) (xs : List ℕ) (p m : ℕ) (ys : List ℕ) (q : ℕ) (v : Tree) (zs : List ℕ) (r end : ℕ) (x : Result (Option Value) (Error E)) →
     end ≡ r → IsAround spelling l xs p os m ys q → ReadsItem spelling m ys q v zs r → StandsAt spelling remaining e zs r → IsPlacedInOrder spelling os v end after x → IsTurned spelling remaining e after l xs p x
-turned any remaining e os after l xs p m ys q v zs r end (Ok None) same a i stands (is, order) =
+turned any remaining e os after l xs p m ys q v zs r end (Ok None) same a i stands (is, rises) =
     let b : IsPlaced l xs p (more after) zs r = subst (λ (x : Placed). IsPlaced l xs p x zs r) (sym is) (placed-turn l xs p os m ys q v zs r a i) in
     (b.0, zs, r, b.1, stands)
 turned any remaining e os after l xs p m ys q v zs r end (Ok (Some w)) same a i stands is =
     (zs, r, subst (λ (x : Placed). IsPlaced l xs p x zs r) (sym is) (placed-turn l xs p os m ys q v zs r a i), stands)
 turned any remaining e os after l xs p m ys q v zs r end (Err x) same a i stands (inl memory) = subst (λ f. IsRefusedBy (left_of remaining e) f (Refuses xs p (Some l))) (sym memory) tt
 turned any remaining e os after l xs p m ys q v zs r end (Err x) same a i stands (inr (is, (at, never, error))) = absurd never
-turned deterministic remaining e os after l xs p m ys q v zs r end (Ok None) same a i stands (is, order) =
-    let k = kept l xs p after zs r (subst (λ (w : Placed). Lands w l xs p zs r) (sym is) (landed l xs p os m ys q v zs r a i)) order in
+turned (deterministic order) remaining e os after l xs p m ys q v zs r end (Ok None) same a i stands (is, rises) =
+    let k = kept order l xs p after zs r (subst (λ (w : Placed). Lands order w l xs p zs r) (sym is) (landed order l xs p os m ys q v zs r a i)) rises in
     (k.0, zs, r, k.1, stands)
-turned deterministic remaining e os after l xs p m ys q v zs r end (Ok (Some w)) same a i stands is =
-    (zs, r, subst (λ (u : Placed). Lands u l xs p zs r) (sym is) (landed l xs p os m ys q v zs r a i), stands.0)
-turned deterministic remaining e os after l xs p m ys q v zs r end (Err x) same a i stands (inl memory) = subst (λ f. IsRefusedBy (left_of remaining e) f (DeterministicallyRefuses xs p l)) (sym memory) tt
-turned deterministic remaining e os after l xs p m ys q v zs r end (Err x) same a i stands (inr (is, (at, order, error))) =
-    subst (λ f. IsRefusedBy (left_of remaining e) f (DeterministicallyRefuses xs p l)) (sym error)
-    (disordered l xs p after zs end at (subst (λ n. LandsIn after l xs p zs n) (sym same) (subst (λ (w : Placed). Lands w l xs p zs r) (sym is) (landed l xs p os m ys q v zs r a i))) order)
+turned (deterministic order) remaining e os after l xs p m ys q v zs r end (Ok (Some w)) same a i stands is =
+    (zs, r, subst (λ (u : Placed). Lands order u l xs p zs r) (sym is) (landed order l xs p os m ys q v zs r a i), stands.0)
+turned (deterministic order) remaining e os after l xs p m ys q v zs r end (Err x) same a i stands (inl memory) = subst (λ f. IsRefusedBy (left_of remaining e) f (DeterministicallyRefuses order xs p l)) (sym memory) tt
+turned (deterministic order) remaining e os after l xs p m ys q v zs r end (Err x) same a i stands (inr (is, (at, never, error))) =
+    subst (λ f. IsRefusedBy (left_of remaining e) f (DeterministicallyRefuses order xs p l)) (sym error)
+    (disordered order l xs p after zs end at (subst (λ n. LandsIn order after l xs p zs n) (sym same) (subst (λ (w : Placed). Lands order w l xs p zs r) (sym is) (landed order l xs p os m ys q v zs r a i))) never)
 
 -- the container that a break ends, with what is open around it
 Closes : Spelling → ℕ → List ℕ → ℕ → List Open → Tree → List ℕ → ℕ → Type 0
@@ -64,12 +64,12 @@ closing : (spelling : Spelling) (l : ℕ) (xs : List ℕ) (p : ℕ) (os us : Lis
     q < greatest_offset → Closes spelling l xs p us v zs (q + 1)
 unfolding Closes
 closing any l xs p os us m ys q v zs a e f g = closed-item l xs p os us m ys q v zs a e f g
-closing deterministic l xs p [] us m ys q v zs a e f g = absurd cc
-closing deterministic l xs p (array vs None ∷ os) us m ys q v zs (bs, b, around, c) e f g = absurd c
-closing deterministic l xs p (array vs (Some n) ∷ os) us m ys q v zs a e f g = absurd cc
-closing deterministic l xs p (tag t ∷ os) us m ys q v zs a e f g = absurd cc
-closing deterministic l xs p (map ps None key ∷ os) us m ys q v zs (bs, b, around, c) e f g = absurd c
-closing deterministic l xs p (map ps (Some n) key ∷ os) us m ys q v zs a e f g = absurd cc
+closing (deterministic order) l xs p [] us m ys q v zs a e f g = absurd cc
+closing (deterministic order) l xs p (array vs None ∷ os) us m ys q v zs (bs, b, around, c) e f g = absurd c
+closing (deterministic order) l xs p (array vs (Some n) ∷ os) us m ys q v zs a e f g = absurd cc
+closing (deterministic order) l xs p (tag t ∷ os) us m ys q v zs a e f g = absurd cc
+closing (deterministic order) l xs p (map ps None key ∷ os) us m ys q v zs (bs, b, around, c) e f g = absurd c
+closing (deterministic order) l xs p (map ps (Some n) key ∷ os) us m ys q v zs a e f g = absurd cc
 
 ends-not : (os : List Open) → closed os ≡ None → EndsHere os → ⊥
 ends-not os e h = let no = subst (λ o. IsSome o) e h in absurd cc
@@ -80,9 +80,9 @@ broken : (spelling : Spelling) (l : ℕ) (xs : List ℕ) (p : ℕ) (os : List Op
 broken any l xs p os m ys q zs a none is less =
     let refuses : Refuses ys q (Some m) (semantic q Break) = subst (λ z. Refuses z q (Some m) (semantic q Break)) (sym is) (Refuses.break {p = q} {b = zs} (opened-has 7 q zs refl less)) in
     refused-turn l xs p os m ys q (semantic q Break) a refuses (λ h. absurd (ends-not os none h))
-broken deterministic l xs p os m ys q zs a none is less =
-    let refuses : DeterministicallyRefuses ys q m (semantic q Break) = subst (λ z. DeterministicallyRefuses z q m (semantic q Break)) (sym is) (DeterministicallyRefuses.break {p = q} {l = m} {b = zs} (opened-has 7 q zs refl less)) in
-    refused-around l xs p os m ys q (semantic q Break) a refuses
+broken (deterministic order) l xs p os m ys q zs a none is less =
+    let refuses : DeterministicallyRefuses order ys q m (semantic q Break) = subst (λ z. DeterministicallyRefuses order z q m (semantic q Break)) (sym is) (DeterministicallyRefuses.break {p = q} {l = m} {b = zs} (opened-has 7 q zs refl less)) in
+    refused-around order l xs p os m ys q (semantic q Break) a refuses
 
 -- ---- what `next` answers, wherever the decoder stands
 
@@ -154,7 +154,7 @@ shallow (tag t ∷ os) us v e = let less = shallow os us (trees.tag t v) e in om
 
 pub depth-placed : {E : Type 0} (spelling : Spelling) (x : Result (Option Value) (Error E)) (os after : List Open) (v : Tree) (end l : ℕ) → IsPlacedInOrder spelling os v end after x → length os ≤ l →
     IfOk x (λ o. MatchOption o (length after ≤ l) (λ _. Unit {0}))
-depth-placed spelling (Ok None) os after v end l (is, order) room = let less = shallow os after v is in omega (arith, less, room)
+depth-placed spelling (Ok None) os after v end l (is, rises) room = let less = shallow os after v is in omega (arith, less, room)
 depth-placed spelling (Ok (Some w)) os after v end l is room = tt
 depth-placed spelling (Err e) os after v end l is room = tt
 

@@ -109,7 +109,7 @@ TreeSo {E} spelling l d e x = (xs : List ℕ) (p : ℕ) → StandsAt spelling So
 
 begun-stands : (spelling : Spelling) (d : Decoder (List ℕ)) (xs : List ℕ) → d.pushed ≡ None → IsAt Some d xs 0 → StandsAt spelling Some d xs 0
 begun-stands any d xs none at = ahead-at Some d 0 xs none at
-begun-stands deterministic d xs none at = (ahead-at Some d 0 xs none at, subst (λ o. MatchOption o (Unit {0}) (λ head. d.window.count ≡ head.1 + d.head_len)) (sym none) tt)
+begun-stands (deterministic order) d xs none at = (ahead-at Some d 0 xs none at, subst (λ o. MatchOption o (Unit {0}) (λ head. d.window.count ≡ head.1 + d.head_len)) (sym none) tt)
 
 same-rest : (u v : List ℕ) → Some u ≡ Some v → u ≡ v
 same-rest u v e = cc
@@ -163,7 +163,7 @@ module _ {S : Type 0} (d e : Decoder S) (u : List ℕ) (pushed : e.pushed ≡ d.
 
   pub stands-moved : (spelling : Spelling) (xs : List ℕ) (p : ℕ) → e.head_len ≡ d.head_len → StandsAt spelling Some (with_left d u) xs p → StandsAt spelling Some (with_left e u) xs p
   stands-moved any xs p size h = ahead-moved xs p h
-  stands-moved deterministic xs p size (h, measured) = (ahead-moved xs p h, subst (λ o. MatchOption o (Unit {0}) (λ head. e.window.count ≡ head.1 + e.head_len)) (sym pushed) (by d.pushed measured))
+  stands-moved (deterministic order) xs p size (h, measured) = (ahead-moved xs p h, subst (λ o. MatchOption o (Unit {0}) (λ head. e.window.count ≡ head.1 + e.head_len)) (sym pushed) (by d.pushed measured))
     where
       by : (o : Option (Header × ℕ)) → MatchOption o (Unit {0}) (λ head. d.window.count ≡ head.1 + d.head_len) → MatchOption o (Unit {0}) (λ head. e.window.count ≡ head.1 + e.head_len)
       by None k = tt

@@ -11,6 +11,7 @@ use Rattle.ciborium_value.specs.Open.{Open, array, map, tag}
 use Rattle.ciborium_value.specs.Refuses.{Due, exactly, items_until_break, keys_until_break, values_until_break, due_after, IsFoldingAt}
 use Rattle.ciborium_value.specs.Tree.{Tree}
 use Rattle.ciborium_value.specs.View.{trees_from}
+use Rattle.ciborium_value.specs.declared.key_order.KeyOrder.{KeyOrder}
 use Rattle.ciborium.specs.DeterministicRefusals.{HasParts, HasShortHead, of_array, of_map}
 use Rattle.ciborium.specs.Spelling.{Spelling, any, deterministic}
 
@@ -83,17 +84,17 @@ IsAnywayInside (map ps behind key) l ys q zs r =
     (count : Option ℕ) × IsInContainer 5 count (map_due count) (due_in (map ps behind key)) l ys q (in_turn ps key) zs r
 IsAnywayInside (tag t) l ys q zs r = IsInTag ys q t zs r
 
--- what begins at ys in the deterministic spelling is open at zs
-abbrev pub IsStrictlyInside : Open → ℕ → List ℕ → ℕ → List ℕ → ℕ → Type 0
-IsStrictlyInside (array vs (Some n)) l ys q zs r = HasParts of_array (length vs + suc n) l ys q vs zs r
-IsStrictlyInside (array vs None) l ys q zs r = ⊥
-IsStrictlyInside (map ps (Some n) key) l ys q zs r = HasParts of_map (length ps + suc n) l ys q (in_turn ps key) zs r
-IsStrictlyInside (map ps None key) l ys q zs r = ⊥
-IsStrictlyInside (tag t) l ys q zs r = HasShortHead 6 t ys q zs r × IsUsable zs r × ¬ IsFoldingAt t zs
+-- what begins at ys in the deterministic spelling of an order is open at zs
+abbrev pub IsStrictlyInside : KeyOrder → Open → ℕ → List ℕ → ℕ → List ℕ → ℕ → Type 0
+IsStrictlyInside order (array vs (Some n)) l ys q zs r = HasParts order of_array (length vs + suc n) l ys q vs zs r
+IsStrictlyInside order (array vs None) l ys q zs r = ⊥
+IsStrictlyInside order (map ps (Some n) key) l ys q zs r = HasParts order of_map (length ps + suc n) l ys q (in_turn ps key) zs r
+IsStrictlyInside order (map ps None key) l ys q zs r = ⊥
+IsStrictlyInside order (tag t) l ys q zs r = HasShortHead 6 t ys q zs r × IsUsable zs r × ¬ IsFoldingAt t zs
 
 abbrev pub IsInside : Spelling → Open → ℕ → List ℕ → ℕ → List ℕ → ℕ → Type 0
 IsInside any o l ys q zs r = IsAnywayInside o l ys q zs r
-IsInside deterministic o l ys q zs r = IsStrictlyInside o l ys q zs r
+IsInside (deterministic order) o l ys q zs r = IsStrictlyInside order o l ys q zs r
 
 -- all that is open, the innermost first
 abbrev pub IsAround : Spelling → ℕ → List ℕ → ℕ → List Open → ℕ → List ℕ → ℕ → Type 0

@@ -15,6 +15,7 @@ use Rattle.ciborium_value.specs.Taken.{Taken, gives}
 use Rattle.ciborium_value.specs.Tree as trees
 use Rattle.ciborium_value.specs.Tree.{Tree}
 use Rattle.ciborium_value.specs.View.{tree_of, tree_pairs_of}
+use Rattle.ciborium_value.specs.declared.key_order.KeyOrder.TheVariants.{LengthFirst}
 use Rattle.ciborium_value.specs.declared.tree.Value.{Value}
 use Rattle.ciborium.specs.declared.de.error.Error.{Error}
 use Rattle.ciborium.specs.Answers.{AnswersGoodItem, IsFailed}
@@ -32,16 +33,16 @@ IsLoaded taken c rest after (Err e) = IsFailed after e
 abbrev pub LoadedAsSaved : {T C : Type 0} → (T → Type 0) → (T → Named) → Reading T C → Type 0
 LoadedAsSaved {T} IsHeld written reading =
     (v : T) (t : Tree) (l : ℕ) (rest : List ℕ) (after : Option (List ℕ)) (r : Result Tree (Error IoError)) →
-    IsHeld v → written v ≡ Ok (item_of t) → IsAccepted l t → length (encoding t) ≤ greatest_offset →
-    AnswersGoodItem deterministic (Some (encoding t ++ rest)) l after r → IsLoaded reading.taken (reading.content v) rest after r
+    IsHeld v → written v ≡ Ok (item_of t) → IsAccepted LengthFirst l t → length (encoding t) ≤ greatest_offset →
+    AnswersGoodItem (deterministic LengthFirst) (Some (encoding t ++ rest)) l after r → IsLoaded reading.taken (reading.content v) rest after r
 
 -- of bytes that were written into nothing, read so, and made into the type again, the content is that of the value
 abbrev pub LoadingGivesContent : {T C : Type 0} → (T → Type 0) → (T → Named) → Reading T C → Type 0
 LoadingGivesContent {T} {C} IsHeld written reading =
     (v : T) (t w : Tree) (l : ℕ) (old new bytes : List ℕ) (after : Option (List ℕ)) (c : C) →
-    IsHeld v → written v ≡ Ok (item_of t) → IsAccepted l t → length bytes ≤ greatest_offset →
+    IsHeld v → written v ≡ Ok (item_of t) → IsAccepted LengthFirst l t → length bytes ≤ greatest_offset →
     WritesNamed {E = WriteError IoError} (Some old) (Some new) (Ok tt) (written v) →
-    AnswersGoodItem {E = IoError} deterministic (Some bytes) l after (Ok w) → reading.taken None (item_of w) ≡ gives c → old ≡ [] → bytes ≡ new → c ≡ reading.content v
+    AnswersGoodItem {E = IoError} (deterministic LengthFirst) (Some bytes) l after (Ok w) → reading.taken None (item_of w) ≡ gives c → old ≡ [] → bytes ≡ new → c ≡ reading.content v
 
 -- the tree of a store
 abbrev pub store_tree : List (Value × Value) → Tree
@@ -53,11 +54,11 @@ entry_trees es = map (λ e. (tree_of e.0, tree_of e.1)) es
 
 -- each key and each value of a store has an accepted spelling of its own
 abbrev pub AreCanonicalParts : List (Value × Value) → Type 0
-AreCanonicalParts es = All (λ e. IsCanonicalTree (tree_of e.0) × IsCanonicalTree (tree_of e.1)) es
+AreCanonicalParts es = All (λ e. IsCanonicalTree LengthFirst (tree_of e.0) × IsCanonicalTree LengthFirst (tree_of e.1)) es
 
 -- a store names the item of its tree, and that has an accepted spelling
 abbrev pub IsDeterministicStore : List (Value × Value) → Type 0
-IsDeterministicStore es = (container_of dictionary (in_turn named_value named_value es) ≡ Ok (item_of (store_tree es))) × IsCanonicalTree (store_tree es)
+IsDeterministicStore es = (container_of dictionary (in_turn named_value named_value es) ≡ Ok (item_of (store_tree es))) × IsCanonicalTree LengthFirst (store_tree es)
 
 -- a store is one of which what is written is read back
 abbrev pub IsStoreHeld : BTreeMap Value Value → Type 0

@@ -58,12 +58,12 @@ IsBegun spelling l ys q o zs r = (m : ℕ) × (l ≡ suc m) × IsInside spelling
 -- xs refuses so, and is no break that may end what is open
 abbrev pub RefusesPart : Spelling → List ℕ → ℕ → ℕ → Refusal → Type 0
 RefusesPart any xs p l = λ r. Refuses xs p (Some l) r × ¬ IsBreakAt xs p
-RefusesPart deterministic xs p l = DeterministicallyRefuses xs p l
+RefusesPart (deterministic order) xs p l = DeterministicallyRefuses order xs p l
 
 -- a head was pulled where xs was ahead from offset p on, and is accepted; for the deterministic spelling the decoder knows its size
 abbrev pub IsSized : {S : Type 0} → Spelling → Decoder S → ℕ → Type 0
 IsSized any d p = Unit {0}
-IsSized deterministic d p = d.window.count ≡ p + d.head_len
+IsSized (deterministic order) d p = d.window.count ≡ p + d.head_len
 
 pub record IsHeadAccepted {S : Type 0} (spelling : Spelling) (remaining : S → Option (List ℕ)) (d : Decoder S) (h : Header) (xs : List ℕ) (p : ℕ) : Type 0 where
   pub pulled : IsPulled remaining d h xs p

@@ -24,7 +24,7 @@ IsMeasured d = MatchOption d.pushed (Unit {0}) (λ head. d.window.count ≡ head
 -- b is ahead, its first byte at offset p; for the deterministic spelling the decoder knows how many bytes its last head has
 abbrev pub StandsAt : {S : Type 0} → Spelling → (S → Option (List ℕ)) → Decoder S → List ℕ → ℕ → Type 0
 StandsAt any remaining d b p = IsAhead remaining d b p
-StandsAt deterministic remaining d b p = IsAhead remaining d b p × IsMeasured d
+StandsAt (deterministic order) remaining d b p = IsAhead remaining d b p × IsMeasured d
 
 -- no head is pushed, xs is left, and its first byte is at offset p
 abbrev pub IsAt : {S : Type 0} → (S → Option (List ℕ)) → Decoder S → List ℕ → ℕ → Type 0

@@ -1,13 +1,14 @@
--- The two spellings that a value is read by: any (RFC 8949, section 3), and the deterministic one (section 4.2).
+-- The spellings that a value is read by: any (RFC 8949, section 3), and the deterministic one by each order of keys (section 4.2).
 use Rattle.std.specs.Prelude.{◌≡◌, ℕ, ◌-◌, List, length, if◌then◌else◌, ◌==◌, Option, Some, None, MatchOption}
 use Rattle.std.specs.declared.cmp.Ordering.TheVariants.{Less}
 use Rattle.ciborium_ll.specs.declared.header.Header.{Header}
 use Rattle.ciborium_ll.specs.declared.header.Header.TheVariants as header
 use Rattle.ciborium_ll.specs.Head.{shortest_head}
 use Rattle.ciborium_ll.specs.Refusal.{Refusal}
+use Rattle.ciborium_value.specs.declared.key_order.KeyOrder.{KeyOrder}
 use Rattle.ciborium_value.specs.declared.kind.Kind.{Kind}
 use Rattle.ciborium_value.specs.declared.kind.Kind.TheVariants as kinds
-use Rattle.ciborium_value.specs.Canonical.{canonical_order}
+use Rattle.ciborium_value.specs.Canonical.{key_order}
 use Rattle.ciborium_value.specs.Encoding.{encoded_size}
 use Rattle.ciborium_value.specs.Open.{Open, waiting_keys}
 use Rattle.ciborium_value.specs.Refuses.{IsReadAs, Refuses}
@@ -17,17 +18,17 @@ use Rattle.ciborium.specs.DeterministicRefusals.{DeterministicallyRefuses, IsFol
 
 pub data Spelling : Type 0 where
   any : Spelling
-  deterministic : Spelling
+  deterministic : KeyOrder → Spelling
 
 -- the bytes b, whose first is at offset p, are read as this tree within l levels
 abbrev pub IsReadBy : Spelling → List ℕ → ℕ → ℕ → Tree → Type 0
 IsReadBy any b p l = IsReadAs b p (Some l)
-IsReadBy deterministic b p l = IsDeterministicAt b p l
+IsReadBy (deterministic order) b p l = IsDeterministicAt order b p l
 
 -- the bytes b, which are all that is left, are refused so where l levels are left
 abbrev pub RefusesBy : Spelling → List ℕ → ℕ → ℕ → Refusal → Type 0
 RefusesBy any b p l = Refuses b p (Some l)
-RefusesBy deterministic b p l = DeterministicallyRefuses b p l
+RefusesBy (deterministic order) b p l = DeterministicallyRefuses order b p l
 
 -- ---- heads
 
@@ -54,30 +55,30 @@ deterministic_fault header.Break size = None
 -- why a head of so many bytes is not accepted
 abbrev pub head_fault : Spelling → Header → ℕ → Option Kind
 head_fault any h size = None
-head_fault deterministic h size = deterministic_fault h size
+head_fault (deterministic order) h size = deterministic_fault h size
 
 -- ---- bignums
 
 -- a bignum of these bytes is not accepted
 abbrev pub IsUnwanted : Spelling → List ℕ → Type 0
 IsUnwanted any payload = ⊥
-IsUnwanted deterministic payload = IsFoldable payload
+IsUnwanted (deterministic order) payload = IsFoldable payload
 
 -- ---- keys in order
 
 -- the key that waits for its value, if one does, is behind the key before it, if there is one
-abbrev pub IsKeyInOrder : List Open → Type 0
-IsKeyInOrder os = MatchOption (waiting_keys os) (Unit {0}) (λ keys. canonical_order keys.0 keys.1 ≡ Less)
+abbrev pub IsKeyInOrder : KeyOrder → List Open → Type 0
+IsKeyInOrder order os = MatchOption (waiting_keys os) (Unit {0}) (λ keys. key_order order keys.0 keys.1 ≡ Less)
 
 -- it is not, and its first byte is at this offset, where its last byte stands before offset r
-abbrev pub IsKeyOutOfOrder : List Open → ℕ → ℕ → Type 0
-IsKeyOutOfOrder os r at =
-    (before : Tree) × (key : Tree) × (waiting_keys os ≡ Some (before, key)) × ¬ (canonical_order before key ≡ Less) × (at ≡ r - encoded_size key)
+abbrev pub IsKeyOutOfOrder : KeyOrder → List Open → ℕ → ℕ → Type 0
+IsKeyOutOfOrder order os r at =
+    (before : Tree) × (key : Tree) × (waiting_keys os ≡ Some (before, key)) × ¬ (key_order order before key ≡ Less) × (at ≡ r - encoded_size key)
 
 abbrev pub HasKeysInOrder : Spelling → List Open → Type 0
 HasKeysInOrder any os = Unit {0}
-HasKeysInOrder deterministic os = IsKeyInOrder os
+HasKeysInOrder (deterministic order) os = IsKeyInOrder order os
 
 abbrev pub HasKeyOutOfOrder : Spelling → List Open → ℕ → ℕ → Type 0
 HasKeyOutOfOrder any os r at = ⊥
-HasKeyOutOfOrder deterministic os r at = IsKeyOutOfOrder os r at
+HasKeyOutOfOrder (deterministic order) os r at = IsKeyOutOfOrder order os r at

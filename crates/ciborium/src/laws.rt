@@ -159,9 +159,9 @@ pub fn read_back_is_written_again<T: ReadsBack + WritesContent>()
     ensures tree { TreeWrittenAgain T.is_held T.written T.reading }
 {}
 
-/// All bytes, at every offset and under every limit of levels, begin with bytes that are
-/// deterministic for a tree, or are refused by a deterministic reader, never both, with one
-/// refusal alone, and for one tree alone (RFC 8949, section 4.2).
+/// In either order of keys, all bytes, at every offset and under every limit of levels, begin with
+/// bytes that are deterministic for a tree, or are refused by a deterministic reader, never both,
+/// with one refusal alone, and for one tree alone (RFC 8949, section 4.2).
 pub fn deterministic_or_refused()
     ensures one_of { DeterministicOrRefused }
     ensures never_both { NeverBothDeterministically }

@@ -1,13 +1,17 @@
 //! What is written and read again is the value: from bytes, over a tree, and as a store.
-use crate::expectations::{expect, expect_bytes, expect_same};
+use crate::expectations::{expect, expect_bytes, expect_same, expect_written};
 use crate::own_types::{Figure, Message};
 use crate::round_trips::{copy_deterministic, through_bytes, through_store, through_tree};
 use crate::struct_types::{Notice, Reply};
 use crate::test_bytes::decode_hex;
-use ciborium::value::{CanonicalValue, Value};
-use ciborium::{from_reader, from_reader_deterministic, into_writer};
+use ciborium::de::Error;
+use ciborium::value::{CanonicalValue, KeyOrder, Kind, Value};
+use ciborium::{
+    from_reader, from_reader_deterministic, from_reader_deterministic_with_order, into_writer,
+};
 use std::alloc::Global;
 use std::collections::BTreeMap;
+use std::io;
 use std::test::Fail;
 
 #[test]
@@ -94,4 +98,47 @@ fn load(alloc: Global, bytes: &[u8]) -> Result<BTreeMap<CanonicalValue, Value>, 
     let mut reader = bytes;
     let value = from_reader_deterministic(alloc, &mut reader, 256)?;
     Ok(value.deserialized(alloc)?)
+}
+
+// {1000: 0, "a": 1}, whose keys rise bytewise (RFC 8949, section 4.2.1), and {"a": 1, 1000: 0}, with
+// the shorter key first (section 4.2.3).
+const BYTEWISE: &str = "a21903e800616101";
+
+const LENGTH_FIRST: &str = "a26161011903e800";
+
+#[test]
+fn keys_rise_in_the_order_that_is_named(rt: HostRuntime) -> Result<(), Fail> {
+    let alloc = rt.alloc();
+    expect_written(
+        alloc,
+        read_by(alloc, BYTEWISE, KeyOrder::Bytewise)?,
+        BYTEWISE,
+    )?;
+    expect_written(
+        alloc,
+        read_by(alloc, LENGTH_FIRST, KeyOrder::LengthFirst)?,
+        LENGTH_FIRST,
+    )?;
+    // "a" stands at offset 5, and 1000 at offset 4.
+    expect_disorder(read_by(alloc, BYTEWISE, KeyOrder::LengthFirst)?, 5)?;
+    expect_disorder(read_by(alloc, LENGTH_FIRST, KeyOrder::Bytewise)?, 4)
+}
+
+fn read_by(
+    alloc: Global,
+    digits: &str,
+    order: KeyOrder,
+) -> Result<Result<Value, Error<io::Error>>, Fail> {
+    let bytes = decode_hex(alloc, digits)?;
+    let mut reader: &[u8] = &bytes;
+    Ok(from_reader_deterministic_with_order(alloc, &mut reader, 256, order))
+}
+
+fn expect_disorder(answer: Result<Value, Error<io::Error>>, offset: usize) -> Result<(), Fail> {
+    match answer {
+        Err(Error::Semantic(Some(found), Kind::KeyOrder)) => {
+            expect_same(found, offset, "the offset of a key")
+        }
+        _ => Err(Fail::new("a key out of order")),
+    }
 }

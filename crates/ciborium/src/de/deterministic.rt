@@ -1,22 +1,26 @@
-//! Reading the deterministic encoding alone (RFC 8949, section 4.2).
+//! Reading the deterministic encoding alone (RFC 8949, section 4.2), by either order of keys.
 
-ghost use Rattle.std.specs.Prelude.{◌≡◌, IsFalse, IsTrue, ℕ};
+ghost use Rattle.std.specs.Prelude.{◌≡◌, IsFalse, IsTrue, MatchOption, ℕ};
 ghost use Rattle.std.specs.declared.cmp.Ordering.TheVariants.{Less};
-ghost use Rattle.ciborium_value.specs.Canonical.{canonical_order};
+ghost use Rattle.ciborium_value.specs.Canonical.{key_order};
 ghost use Rattle.ciborium_value.specs.Sources.{read_as};
 ghost use Rattle.ciborium_value.specs.Stack.{opens_of};
 ghost use Rattle.ciborium_value.specs.View.{tree_of};
+ghost use Rattle.ciborium_value.specs.declared.key_order.KeyOrder.TheVariants as orders;
 ghost use Rattle.ciborium.specs.Answers.{ReadsWhole};
-ghost use Rattle.ciborium.specs.Spelling.{counted_fault, deterministic, long_fault};
+ghost use Rattle.ciborium.specs.DeterministicRefusals.{IsFoldable};
+ghost use Rattle.ciborium.specs.Spelling.{IsKeyInOrder, IsKeyOutOfOrder};
+ghost use Rattle.ciborium.specs.Spelling.{counted_fault, deterministic, deterministic_fault};
+ghost use Rattle.ciborium.specs.Spelling.{long_fault};
 
 use crate::de::SCRATCH_SIZE;
 use crate::de::building::read_value;
 use crate::de::error::{Error, put_back};
 use crate::de::spelling::Rules;
-use crate::value::canonical::{cmp_value, encoded_size};
+use crate::value::canonical::{cmp_keys, encoded_size};
 use ciborium_ll::{Decoder, Header, head_size, simple};
 use ciborium_value::stack::Stack;
-use ciborium_value::{Kind, Value};
+use ciborium_value::{KeyOrder, Kind, Value};
 use std::alloc::Global;
 use std::cmp::Ordering;
 use std::io::{self, Read};
@@ -24,8 +28,7 @@ use std::io::{self, Read};
 // The number of bytes up to which a bignum is a number of 64 bits.
 const GREATEST_INTEGER_SIZE: usize = 8;
 
-// The shortest heads, definite lengths, and keys that rise.
-struct Deterministic;
+// ---- what both orders share
 
 // Why a head of `size` bytes with this argument is not accepted.
 #[inline(always)]
@@ -50,46 +53,116 @@ fn find_counted_fault(count: Option<usize>, size: usize) -> Option<Kind>
     }
 }
 
-// Whether a key stands before another in the canonical order.
-fn is_before(left: &Value, right: &Value) -> bool
-    ensures yes { IsTrue result → canonical_order (tree_of left.now) (tree_of right.now) ≡ Less }
-    ensures no { IsFalse result →
-        ¬ (canonical_order (tree_of left.now) (tree_of right.now) ≡ Less) }
+// Why a head of `size` bytes is not accepted (RFC 8949, sections 4.1 and 4.2.1).
+#[inline(always)]
+fn find_deterministic_fault(header: Header, size: usize) -> Option<Kind>
+    ensures { result ≡ deterministic_fault header size }
 {
-    cmp_value(left, right) == Ordering::Less
+    match header {
+        Header::Positive(n) | Header::Negative(n) | Header::Tag(n) => find_long_fault(n, size),
+        Header::Bytes(count) | Header::Text(count) | Header::Array(count) | Header::Map(count) =>
+            find_counted_fault(count, size),
+        Header::Simple(simple::UNDEFINED) => Some(Kind::NotShortest),
+        Header::Simple(_) | Header::Float(_) | Header::Break => None,
+    }
 }
 
-impl Rules for Deterministic {
-    ghost spelling = { deterministic };
+// Whether a bignum of these bytes is a number of 64 bits, or has leading zeros.
+#[inline(always)]
+fn is_foldable(payload: &[u8]) -> bool
+    ensures yes { IsTrue result → IsFoldable payload.now }
+    ensures no { IsFalse result → ¬ IsFoldable payload.now }
+{
+    payload.len() <= GREATEST_INTEGER_SIZE || payload[0] == 0
+}
 
-    // RFC 8949, sections 4.1 and 4.2.1.
+// Whether a key stands before another in this order.
+fn is_before(order: KeyOrder, left: &Value, right: &Value) -> bool
+    ensures yes { IsTrue result → key_order order (tree_of left.now) (tree_of right.now) ≡ Less }
+    ensures no { IsFalse result →
+        ¬ (key_order order (tree_of left.now) (tree_of right.now) ≡ Less) }
+{
+    cmp_keys(order, left, right) == Ordering::Less
+}
+
+// The offset of the key that waits for its value, where it does not follow the key before it in
+// this order. Its last byte stands before offset `end`.
+#[inline(always)]
+fn find_key_out_of_order(order: KeyOrder, stack: &Stack, end: usize) -> Option<usize>
+    ensures { MatchOption result (IsKeyInOrder order (opens_of stack.now))
+        (λ at. IsKeyOutOfOrder order (opens_of stack.now) end at) }
+{
+    let (before, key) = stack.waiting_keys()?;
+    if is_before(order, before, key) {
+        return None;
+    }
+    Some(end.saturating_sub(encoded_size(key) as usize))
+}
+
+// ---- the rules of each order
+
+// The shortest heads, definite lengths, and keys that rise in the canonical order, the shorter
+// first (RFC 8949, section 4.2.3).
+struct LengthFirst;
+
+impl Rules for LengthFirst {
+    ghost spelling = { deterministic orders.LengthFirst };
+
     #[inline(always)]
     fn find_head_fault(header: Header, size: usize) -> Option<Kind> {
-        match header {
-            Header::Positive(n) | Header::Negative(n) | Header::Tag(n) => find_long_fault(n, size),
-            Header::Bytes(count)
-            | Header::Text(count)
-            | Header::Array(count)
-            | Header::Map(count) => find_counted_fault(count, size),
-            Header::Simple(simple::UNDEFINED) => Some(Kind::NotShortest),
-            Header::Simple(_) | Header::Float(_) | Header::Break => None,
-        }
+        find_deterministic_fault(header, size)
     }
 
-    // It is a number of 64 bits, or has leading zeros.
     #[inline(always)]
     fn refuses_bignum(payload: &[u8]) -> bool {
-        payload.len() <= GREATEST_INTEGER_SIZE || payload[0] == 0
+        is_foldable(payload)
     }
 
-    // It does not follow the key before it.
     #[inline(always)]
     fn find_disorder(stack: &Stack, end: usize) -> Option<usize> {
-        let (before, key) = stack.waiting_keys()?;
-        if is_before(before, key) {
-            return None;
-        }
-        Some(end.saturating_sub(encoded_size(key) as usize))
+        find_key_out_of_order(KeyOrder::LengthFirst, stack, end)
+    }
+}
+
+// The same with keys that rise bytewise (RFC 8949, section 4.2.1).
+struct Bytewise;
+
+impl Rules for Bytewise {
+    ghost spelling = { deterministic orders.Bytewise };
+
+    #[inline(always)]
+    fn find_head_fault(header: Header, size: usize) -> Option<Kind> {
+        find_deterministic_fault(header, size)
+    }
+
+    #[inline(always)]
+    fn refuses_bignum(payload: &[u8]) -> bool {
+        is_foldable(payload)
+    }
+
+    #[inline(always)]
+    fn find_disorder(stack: &Stack, end: usize) -> Option<usize> {
+        find_key_out_of_order(KeyOrder::Bytewise, stack, end)
+    }
+}
+
+// ---- the calls
+
+// Reads one value by these rules, within this many levels.
+fn read_by<S: Rules, R: Read>(
+    alloc: Global,
+    reader: &mut R,
+    limit: usize,
+) -> Result<Value, Error<io::Error>>
+    ensures { ReadsWhole S.spelling (R.remaining reader.old) limit
+        (R.remaining reader.new) (read_as tree_of result) }
+{
+    let mut scratch = [0u8; SCRATCH_SIZE];
+    let mut decoder = Decoder::new(reader);
+    let mut failure = None;
+    match read_value::<S, R>(alloc, &mut decoder, &mut scratch, limit, &mut failure) {
+        Ok(value) => Ok(value),
+        Err(refusal) => Err(put_back(refusal, failure)),
     }
 }
 
@@ -111,14 +184,37 @@ pub fn from_reader_deterministic<R: Read>(
     reader: &mut R,
     limit: usize,
 ) -> Result<Value, Error<io::Error>>
-    ensures { ReadsWhole deterministic (R.remaining reader.old) limit
+    ensures { ReadsWhole (deterministic orders.LengthFirst) (R.remaining reader.old) limit
         (R.remaining reader.new) (read_as tree_of result) }
 {
-    let mut scratch = [0u8; SCRATCH_SIZE];
-    let mut decoder = Decoder::new(reader);
-    let mut failure = None;
-    match read_value::<Deterministic, R>(alloc, &mut decoder, &mut scratch, limit, &mut failure) {
-        Ok(value) => Ok(value),
-        Err(refusal) => Err(put_back(refusal, failure)),
+    read_by::<LengthFirst, R>(alloc, reader, limit)
+}
+
+/// Reads one value as `from_reader_deterministic` does, with the order that the keys of each map
+/// are to be in. By `KeyOrder::LengthFirst` it is that call: of two keys the one with the shorter
+/// encoding comes first, and of two of one size the one with the first lower byte (RFC 8949,
+/// section 4.2.3). By `KeyOrder::Bytewise` the key whose encoding has the first lower byte comes
+/// first, whatever the sizes, as in the core deterministic encoding (section 4.2.1). In either
+/// order no key of a map is equal to another, and all else is the same: every head is the shortest,
+/// every string, array and map is definite, null is `f6`, and a bignum has no leading zeros and is
+/// no number of 64 bits. What is read is what `into_writer` writes for the value, since that keeps
+/// the order of the pairs. Comparing keys takes no memory.
+///
+/// # Errors
+///
+/// Those of `from_reader_deterministic`; `KeyOrder` with the offset of a key that does not follow
+/// the key before it in the order that is named, before its value is read.
+pub fn from_reader_deterministic_with_order<R: Read>(
+    alloc: Global,
+    reader: &mut R,
+    limit: usize,
+    order: KeyOrder,
+) -> Result<Value, Error<io::Error>>
+    ensures { ReadsWhole (deterministic order) (R.remaining reader.old) limit
+        (R.remaining reader.new) (read_as tree_of result) }
+{
+    match order {
+        KeyOrder::LengthFirst => read_by::<LengthFirst, R>(alloc, reader, limit),
+        KeyOrder::Bytewise => read_by::<Bytewise, R>(alloc, reader, limit),
     }
 }
