@@ -48,7 +48,8 @@ one_refusal b p l e f h g k = same e f (sym (refusal-answer b p l e h g) ∙ ref
 
 -- ---- one tree
 
-spells : (s : List ℕ) (p l : ℕ) (v : Tree) → IsDeterministicAt s p l v → Spells s (item_of v)
+-- bytes that are deterministic for a tree spell its item
+pub spells : (s : List ℕ) (p l : ℕ) (v : Tree) → IsDeterministicAt s p l v → Spells s (item_of v)
 spells s p l v h = subst (λ b. Spells b (item_of v)) (sym h.0.0) (encoding-spells v h.0.1.proper)
 
 pub one_tree : OneDeterministicTree

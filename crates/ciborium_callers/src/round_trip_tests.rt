@@ -4,6 +4,7 @@ use crate::own_types::{Figure, Message};
 use crate::round_trips::{copy_deterministic, through_bytes, through_store, through_tree};
 use crate::struct_types::{Notice, Reply};
 use crate::test_bytes::decode_hex;
+use ciborium::laws::loaded_as_saved;
 use ciborium::value::{CanonicalValue, Value};
 use ciborium::{from_reader, from_reader_deterministic, into_writer};
 use std::alloc::Global;
@@ -64,6 +65,7 @@ fn expect_notice(alloc: Global, urgent: bool, written: &str) -> Result<(), Fail>
 
 #[test]
 fn an_empty_store_comes_back(rt: HostRuntime) -> Result<(), Fail> {
+    loaded_as_saved::<BTreeMap<CanonicalValue, Value>>();
     let store = BTreeMap::new(rt.alloc());
     let Some(again) = through_store(rt.alloc(), &store) else {
         return Err(Fail::new("an empty store"));
