@@ -8,9 +8,10 @@ use Rattle.std.specs.declared.io.Error.{Error as IoError}
 use Rattle.ciborium_ll.specs.Bytes.{greatest_offset}
 use Rattle.ciborium_ll.specs.Item as items
 use Rattle.ciborium_ll.specs.Item.{Item}
+use Rattle.ciborium_ll.proofs.UniqueSpelling.{one_at_front}
 use Rattle.ciborium_value.specs.Canonical.{canonical_order}
 use Rattle.ciborium_value.specs.CanonicalValues.{canonical_value_cmp}
-use Rattle.ciborium_value.specs.Encoding.{encoding, item_of, pairs_of}
+use Rattle.ciborium_value.specs.Encoding.{encoding, item_of, pairs_of, written_bytes}
 use Rattle.ciborium_value.specs.Folded.{folded, tree_pairs_folded}
 use Rattle.ciborium_value.specs.Meaning.{tree_pairs_more}
 use Rattle.ciborium_value.specs.Places.{dictionary, pairs_from}
@@ -20,19 +21,22 @@ use Rattle.ciborium_value.specs.Sinks.{Named, all_named, and_then, contained, co
 use Rattle.ciborium_value.specs.Tree as trees
 use Rattle.ciborium_value.specs.Tree.{Tree, TreePairs}
 use Rattle.ciborium_value.specs.View.{tree_of, tree_pairs_of}
+use Rattle.ciborium_value.specs.declared.key_order.KeyOrder.{KeyOrder}
 use Rattle.ciborium_value.specs.declared.key_order.KeyOrder.TheVariants.{LengthFirst}
+use Rattle.ciborium_value.specs.WrittenItems.{IsWritten}
 use Rattle.ciborium_value.specs.declared.tree.Value.{Value}
-use Rattle.ciborium_value.proofs.ReadBack.{written_tree_is_proper}
+use Rattle.ciborium_value.proofs.ReadBack.{written_item_spells, written_tree_is_proper}
 use Rattle.ciborium.specs.declared.de.error.Error.{Error}
-use Rattle.ciborium.specs.Answers.{AnswersGoodItem, AnswersTree}
+use Rattle.ciborium.specs.Answers.{AnswersGoodItem, AnswersTree, TakesValue}
 use Rattle.ciborium_value.specs.Deterministic as rising
 use Rattle.ciborium_value.specs.Deterministic.{AreRising, HasRisingKeys, IsAccepted, IsCanonicalTree, PairsHaveRisingKeys}
-use Rattle.ciborium.specs.Loaded.{AreCanonicalParts, IsDeterministicStore, IsLoaded, IsStoreHeld, LoadedAsSaved, LoadingGivesContent, store_tree}
+use Rattle.ciborium.specs.Loaded.{AreCanonicalParts, IsContentLoaded, IsDeterministicStore, IsLoaded, IsStoreHeld, LoadedAsSaved, LoadingGivesContent, store_tree}
 use Rattle.ciborium.specs.Spelling.{deterministic}
 use Rattle.ciborium.specs.declared.ser.Error.{Error as WriteError}
 use Rattle.ciborium.specs.Writes.{IsNamedWritten, WritesNamed}
 use Rattle.ciborium.proofs.RisingKeys.{canonical-keys}
 use Rattle.ciborium.proofs.RoundTrips.{one-content}
+use Rattle.ciborium.proofs.StrictOutcome.{spells}
 
 -- ---- any type
 
@@ -50,6 +54,26 @@ loading_gives_content IsHeld written reading law v t w l old new bytes after c h
     let all : bytes ≡ encoding t ++ [] = whole ∙ sym (append-nil (encoding t)) in
     let loaded = law v t l [] after (Ok w) held names accepted (subst (λ (b : List ℕ). length b ≤ greatest_offset) whole fits) (subst (λ b. AnswersGoodItem {E = IoError} (deterministic LengthFirst) (Some b) l after (Ok w)) all answers) in
     one-content (reading.taken None (item_of w)) (reading.content v) c loaded.1 give
+
+module _ {T C : Type 0} (IsHeld : T → Type 0) (written : T → Named) (reading : Reading T C) (levels : T → ℕ) (law : IsReadBack IsHeld written reading.taken reading.content levels) where
+  -- an item that is named was written whole: a tree that is read at its front has just that item
+  front-content : (o : KeyOrder) (v : T) (l : ℕ) (w : Tree) (bytes : List ℕ) (after : Option (List ℕ)) (c : C) → IsHeld v → (i : Item) → written v ≡ Ok i → IsWritten i → bytes ≡ written_bytes i →
+      TakesValue (deterministic o) bytes l w after → reading.taken None (item_of w) ≡ gives c → c ≡ reading.content v
+  front-content o v l w bytes after c held i names fits same (s, left, accepted, e, is) give =
+      let one = one_at_front (written_bytes i) s [] left i (item_of w) (written_item_spells i fits) (spells o s 0 l w accepted) (append-nil (written_bytes i) ∙ sym same ∙ e) in
+      one-content (reading.taken None i) (reading.content v) c ((law v held).back by_bytes i names None tt) (ap (reading.taken None) one.2 ∙ give)
+
+  -- the same, by cases on what is named
+  by-name : (o : KeyOrder) (v : T) (l : ℕ) (w : Tree) (old new bytes : List ℕ) (after : Option (List ℕ)) (c : C) → IsHeld v → (n : Named) → written v ≡ n → WritesNamed {E = WriteError IoError} (Some old) (Some new) (Ok tt) n → IsNamedWritten n →
+      TakesValue (deterministic o) bytes l w after → reading.taken None (item_of w) ≡ gives c → old ≡ [] → bytes ≡ new → c ≡ reading.content v
+  by-name o v l w old new bytes after c held (Ok i) names appends fits takes give none same =
+      let all : new ≡ written_bytes i = appends ∙ ap (λ (b : List ℕ). b ++ written_bytes i) none in
+      front-content o v l w bytes after c held i names fits (same ∙ all) takes give
+  by-name o v l w old new bytes after c held (Err k) names appends fits takes give none same = absurd fits
+
+  pub content_loaded : (l : ℕ) (v : T) (w : Value) (again : T) (bytes rest : List ℕ) → IsContentLoaded IsHeld written reading l v w again bytes rest
+  content_loaded l v w again bytes rest o old new held appends fits reads give none same =
+      by-name o v l (tree_of w) old new bytes (Some rest) (reading.content again) held (written v) refl appends fits (reads.ok bytes refl) give none same
 
 -- ---- stores
 

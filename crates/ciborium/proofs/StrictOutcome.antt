@@ -50,7 +50,8 @@ one_refusal order b p l e f h g k = same e f (sym (refusal-answer order b p l e 
 
 -- ---- one tree
 
-spells : (order : KeyOrder) (s : List ℕ) (p l : ℕ) (v : Tree) → IsDeterministicAt order s p l v → Spells s (item_of v)
+-- bytes that are deterministic for a tree spell its item
+pub spells : (order : KeyOrder) (s : List ℕ) (p l : ℕ) (v : Tree) → IsDeterministicAt order s p l v → Spells s (item_of v)
 spells order s p l v h = subst (λ b. Spells b (item_of v)) (sym h.0.0) (encoding-spells v h.0.1.proper)
 
 pub one_tree : OneDeterministicTree

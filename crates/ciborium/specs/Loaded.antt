@@ -14,15 +14,17 @@ use Rattle.ciborium_value.specs.Sinks.{Named, container_of, in_turn, named_value
 use Rattle.ciborium_value.specs.Taken.{Taken, gives}
 use Rattle.ciborium_value.specs.Tree as trees
 use Rattle.ciborium_value.specs.Tree.{Tree}
+use Rattle.ciborium_value.specs.TreeSources.{value_item}
 use Rattle.ciborium_value.specs.View.{tree_of, tree_pairs_of}
+use Rattle.ciborium_value.specs.declared.key_order.KeyOrder.{KeyOrder}
 use Rattle.ciborium_value.specs.declared.key_order.KeyOrder.TheVariants.{LengthFirst}
 use Rattle.ciborium_value.specs.declared.tree.Value.{Value}
 use Rattle.ciborium.specs.declared.de.error.Error.{Error}
-use Rattle.ciborium.specs.Answers.{AnswersGoodItem, IsFailed}
+use Rattle.ciborium.specs.Answers.{AnswersGoodItem, IsFailed, ReadsWhole}
 use Rattle.ciborium_value.specs.Deterministic.{IsAccepted, IsCanonicalTree}
 use Rattle.ciborium.specs.Spelling.{deterministic}
 use Rattle.ciborium.specs.declared.ser.Error.{Error as WriteError}
-use Rattle.ciborium.specs.Writes.{WritesNamed}
+use Rattle.ciborium.specs.Writes.{IsNamedWritten, WritesNamed}
 
 -- just these bytes were taken, and `deserialized` makes the content of what is answered; or the reader failed, or memory was refused
 abbrev pub IsLoaded : {C E : Type 0} → Taken C → C → List ℕ → Option (List ℕ) → Result Tree (Error E) → Type 0
@@ -43,6 +45,13 @@ LoadingGivesContent {T} {C} IsHeld written reading =
     IsHeld v → written v ≡ Ok (item_of t) → IsAccepted LengthFirst l t → length bytes ≤ greatest_offset →
     WritesNamed {E = WriteError IoError} (Some old) (Some new) (Ok tt) (written v) →
     AnswersGoodItem {E = IoError} (deterministic LengthFirst) (Some bytes) l after (Ok w) → reading.taken None (item_of w) ≡ gives c → old ≡ [] → bytes ≡ new → c ≡ reading.content v
+
+-- where bytes were written into nothing, of the one value, the deterministic reader of an order of keys read w at their front within l levels, and the other
+-- was made of w, the contents are equal
+abbrev pub IsContentLoaded : {T C : Type 0} → (T → Type 0) → (T → Named) → Reading T C → ℕ → T → Value → T → List ℕ → List ℕ → Type 0
+IsContentLoaded IsHeld written reading l v w again bytes rest =
+    (o : KeyOrder) (old new : List ℕ) → IsHeld v → WritesNamed {E = WriteError IoError} (Some old) (Some new) (Ok tt) (written v) → IsNamedWritten (written v) →
+    ReadsWhole {E = IoError} (deterministic o) (Some bytes) l (Some rest) (Ok (tree_of w)) → reading.taken None (value_item w) ≡ gives (reading.content again) → old ≡ [] → bytes ≡ new → reading.content again ≡ reading.content v
 
 -- the tree of a store
 abbrev pub store_tree : List (Value × Value) → Tree

@@ -11,7 +11,8 @@ ghost use Rattle.ciborium.specs.DeterministicLaws.{NeverBothDeterministically};
 ghost use Rattle.ciborium.specs.DeterministicLaws.{OneDeterministicRefusal, OneDeterministicTree};
 ghost use Rattle.ciborium.specs.EncodingLaws.{EncodingSpells, HeadsRise, OneTree, OthersAreLonger};
 ghost use Rattle.ciborium.specs.ItemSequences.{OneSequence};
-ghost use Rattle.ciborium.specs.Loaded.{AreCanonicalParts, IsDeterministicStore, IsStoreHeld};
+ghost use Rattle.ciborium.specs.Loaded.{AreCanonicalParts, IsContentLoaded};
+ghost use Rattle.ciborium.specs.Loaded.{IsDeterministicStore, IsStoreHeld};
 ghost use Rattle.ciborium.specs.Loaded.{LoadedAsSaved, LoadingGivesContent};
 ghost use Rattle.ciborium.specs.RoundTrips.{AreRefusedAlike, BytesReadBack, BytesWrittenAgain};
 ghost use Rattle.ciborium.specs.RoundTrips.{IsContentReadBack, LeaveSameBytes, TreeGivesContent};
@@ -83,6 +84,23 @@ pub fn loaded_as_saved<T: ReadsBack>()
     ensures loaded { LoadedAsSaved T.is_held T.written T.reading }
     // The same of what was answered, as a caller has it behind its calls.
     ensures loading_gives { LoadingGivesContent T.is_held T.written T.reading }
+{}
+
+/// The same of one value that was saved and loaded: where `bytes` are what `into_writer` put out of
+/// `value`, `tree` was read at their front by `from_reader_deterministic` within `limit` levels,
+/// with `rest` behind it, and `again` is what `deserialized` made of `tree`, the contents are equal.
+/// That the bytes are deterministic (RFC 8949, section 4.2) is no premise, since that reader took
+/// them. A caller that saves and loads calls it behind its calls, and needs no proof file.
+pub fn is_loaded<T: ReadsBack>(
+    value: &T,
+    tree: &Value,
+    again: &T,
+    limit: usize,
+    bytes: &[u8],
+    rest: &[u8],
+)
+    ensures { IsContentLoaded T.is_held T.written T.reading limit value.now tree.now again.now
+        bytes.now rest.now }
 {}
 
 /// The order of `CanonicalValue`, which `<`, `max` and the library's sorts take from its `Ord`, is

@@ -5,6 +5,7 @@ use crate::round_trips::{copy_deterministic, through_bytes, through_store, throu
 use crate::struct_types::{Notice, Reply};
 use crate::test_bytes::decode_hex;
 use ciborium::de::Error;
+use ciborium::laws::loaded_as_saved;
 use ciborium::value::{CanonicalValue, KeyOrder, Kind, Value};
 use ciborium::{
     from_reader, from_reader_deterministic, from_reader_deterministic_with_order, into_writer,
@@ -68,6 +69,7 @@ fn expect_notice(alloc: Global, urgent: bool, written: &str) -> Result<(), Fail>
 
 #[test]
 fn an_empty_store_comes_back(rt: HostRuntime) -> Result<(), Fail> {
+    loaded_as_saved::<BTreeMap<CanonicalValue, Value>>();
     let store = BTreeMap::new(rt.alloc());
     let Some(again) = through_store(rt.alloc(), &store) else {
         return Err(Fail::new("an empty store"));

@@ -2,13 +2,11 @@
 //! one content: the bytes are the same.
 ghost use Rattle.std.specs.Prelude.{◌≡◌, ◌≤◌, IfOk, IfSome, List, ℕ};
 ghost use Rattle.std.specs.Io.KnownBytes.{Appends, Consumes};
-ghost use Rattle.ciborium_value.specs.Encoding.{item_of};
-ghost use Rattle.ciborium_value.specs.Nesting.{nesting};
-ghost use Rattle.ciborium.specs.Loaded.{AreCanonicalParts, entry_trees, store_tree};
+ghost use Rattle.ciborium.specs.Loaded.{AreCanonicalParts, entry_trees};
 
 use ciborium::de::from_reader_deterministic;
 use ciborium::laws::{
-    ReadsBack, WritesContent, equal_contents_equal_bytes, is_read_back, loaded_as_saved,
+    ReadsBack, WritesContent, equal_contents_equal_bytes, is_loaded, is_read_back,
     store_is_deterministic, written_is_read_back,
 };
 use ciborium::value::{CanonicalValue, Error, Value};
@@ -54,23 +52,23 @@ pub fn through_store(
     store: &BTreeMap<CanonicalValue, Value>,
 ) -> Option<BTreeMap<CanonicalValue, Value>>
     requires parts { AreCanonicalParts store.now.entries }
-    requires levels { nesting (item_of (store_tree store.now.entries)) ≤ 256 }
     ensures { IfSome result
         (λ again. entry_trees again.entries ≡ entry_trees store.now.entries) }
 {
-    loaded_as_saved::<BTreeMap<CanonicalValue, Value>>();
     store_is_deterministic(store);
     let mut bytes = Vec::new(alloc);
     let Ok(()) = into_writer(store, &mut bytes) else {
         return None;
     };
-    let mut reader: &[u8] = &bytes;
+    let whole: &[u8] = &bytes;
+    let mut reader = whole;
     let Ok(value) = from_reader_deterministic(alloc, &mut reader, 256) else {
         return None;
     };
     let Ok(again) = value.deserialized::<BTreeMap<CanonicalValue, Value>>(alloc) else {
         return None;
     };
+    is_loaded(store, &value, &again, 256, whole, reader);
     Some(again)
 }
 

@@ -48,15 +48,17 @@ make-returns-in-None-2-clause-alike t c =
 
 pub make-returns-in-None-clause-ok : goal.make-returns-in-None-clause-ok
 make-returns-in-None-clause-ok t c =
+    let content : c.deref_mut-in-None.result.now ≡ c.in-Tag.content.value = search (rules, the_lemmas) in
     let unfolded : tree_folding_bytes c.in-Tag.tag (tree_of c.in-Tag.content.value) ≡ None = search (rules, the_lemmas) in
     IfOk-weaker c.make.result _ _ (λ u made. made_as (tree_of-Tag _ _ ∙ ap (λ n. trees.tag n (tree_of c.make.new.value)) c.in-Tag.tag-is)
     (made-tag c.args.order (tree_of c.args.value.now) c.in-Tag.tag (tree_of c.in-Tag.content.value) _
-    (subst (λ b. deterministic_form c.args.order (tree_of b.value) ≡ gives (tree_of c.make.new.value)) c.in-Tag.content-is made) (ap tree_of c.in-Tag.is ∙ tree_of-Tag _ _) unfolded)) c.make.ensures.ok
+    (subst (λ v. deterministic_form c.args.order (tree_of v) ≡ gives (tree_of c.make.new.value)) content made) (ap tree_of c.in-Tag.is ∙ tree_of-Tag _ _) unfolded)) c.make.ensures.ok
 
 pub make-returns-in-None-clause-alike : goal.make-returns-in-None-clause-alike
 make-returns-in-None-clause-alike t c =
+    let content : c.deref_mut-in-None.result.now ≡ c.in-Tag.content.value = search (rules, the_lemmas) in
     alike_as (tree_of-Tag _ _ ∙ ap (λ n. trees.tag n (tree_of c.make.new.value)) c.in-Tag.tag-is)
-    (alike-tag _ c.in-Tag.tag (tree_of c.in-Tag.content.value) _ (subst (λ b. same.IsAlike (tree_of b.value) (tree_of c.make.new.value)) c.in-Tag.content-is c.make.ensures.alike) (ap tree_of c.in-Tag.is ∙ tree_of-Tag _ _))
+    (alike-tag _ c.in-Tag.tag (tree_of c.in-Tag.content.value) _ (subst (λ v. same.IsAlike (tree_of v) (tree_of c.make.new.value)) content c.make.ensures.alike) (ap tree_of c.in-Tag.is ∙ tree_of-Tag _ _))
 
 pub make-returns-in-Array-clause-alike : goal.make-returns-in-Array-clause-alike
 make-returns-in-Array-clause-alike t c =
