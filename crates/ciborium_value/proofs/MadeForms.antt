@@ -1,5 +1,6 @@
 -- Forms that are made where the values stand: one level, and along lists.
-use Rattle.std.proofs.Common.{◌≡◌, ℕ, zero, suc, ◌<◌, List, [], ◌∷◌, length, get_or, set, subst, Option, Some, None, refl, sym, ap, ◌∙◌, arith}
+use Rattle.std.proofs.Common.{◌≡◌, ℕ, zero, suc, ◌+◌, ◌<◌, List, [], ◌∷◌, ◌++◌, length, take, drop, get_or, set, subst, Option, Some, None, refl, sym, ap, ◌∙◌, arith, append-nil, get_or-set_same, get_or-set_other, below_more}
+use Rattle.std.proofs.lemmas.List.{drop_all, take_all}
 use Rattle.ciborium_value.specs.DeterministicForms.{deterministic_form, deterministic_forms, pair_forms, sorted_pairs, tag_form}
 use Rattle.ciborium_value.specs.Folded.{tree_folding_bytes}
 use Rattle.ciborium_value.specs.Meaning.{bignum_meaning}
@@ -147,3 +148,18 @@ one_value_refused o (suc i) j x (p ∷ ps) (q ∷ qs) l e h m key here =
     ap (λ r. one_pair_more r (deterministic_form o (tree_of p.1)) (pair_forms o (tree_pairs_of ps))) (h zero p (omega arith))
     ∙ ap (λ r. one_pair_more (gives (tree_of q.0)) r (pair_forms o (tree_pairs_of ps))) (m zero p (omega arith))
     ∙ ap (one_pair_more (gives (tree_of q.0)) (gives (tree_of q.1))) rest
+
+-- ---- a list that was lent and written
+
+pub all_written : {A : Type 0} (n : ℕ) (xs ys : List A) → length xs ≡ length ys → n ≡ length ys → take n (xs ++ drop (length xs) ys) ≡ xs
+all_written n xs ys e f =
+    ap (λ k. take n (xs ++ drop k ys)) e ∙ ap (λ l. take n (xs ++ l)) (drop_all (length ys) ys (omega arith)) ∙ ap (take n) (append-nil xs) ∙ take_all n xs (omega (arith, e, f))
+
+-- ---- one more of a list that is written from its front
+
+module _ {A : Type 0} (R : A → A → Type 0) (i : ℕ) (vs ws : List A) (w : A) where
+  pub one_more_made : length ws ≡ length vs → i < length ws → ((k : ℕ) (d : A) → k < i → R (get_or vs k d) (get_or ws k d))
+      → ((d : A) → R (get_or vs i d) w) → (k : ℕ) (d : A) → k < i + 1 → R (get_or vs k d) (get_or (set ws i w) k d)
+  one_more_made e l before here k d h =
+      below_more _ _ (λ j m. subst (R (get_or vs j d)) (sym (get_or-set_other ws i j w d (omega (arith, m)))) (before j d m))
+      (subst (R (get_or vs i d)) (sym (get_or-set_same ws i w d l)) (here d)) k h

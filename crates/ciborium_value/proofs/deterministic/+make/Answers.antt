@@ -1,14 +1,17 @@
-use Rattle.std.proofs.Common.{◌≡◌, ◌<◌, length, get_or, set, Some, None, rules, refl, sym, ap, ◌∙◌, subst, arith}
+use Rattle.std.proofs.Common.{◌≡◌, ℕ, ◌<◌, length, get_or, set, Some, None, rules, refl, sym, ap, ◌∙◌, subst, arith}
+use Rattle.std.proofs.lemmas.List.{get_or_default, get_or-set_other, length-set}
 use Rattle.std.proofs.lemmas.Result.{IfOk-weaker, IfErr-weaker}
-use Rattle.ciborium_value.specs.DeterministicForms.{deterministic_form, pair_forms}
+use Rattle.ciborium_value.specs.DeterministicForms.{deterministic_form, deterministic_forms, pair_forms}
 use Rattle.ciborium_value.specs.SameContents as same
 use Rattle.ciborium_value.specs.Taken.{gives, refuses}
 use Rattle.ciborium_value.specs.Folded.{tree_folding_bytes}
 use Rattle.ciborium_value.specs.Meaning.{bignum_meaning, without_zeros}
 use Rattle.ciborium_value.specs.Tree as trees
-use Rattle.ciborium_value.specs.View.{tree_of, tree_pairs_of}
-use Rattle.ciborium_value.specs.declared.tree.Value.{the_lemmas}
-use Rattle.ciborium_value.proofs.MadeForms.{made_as, alike_as, made-tag, made-bignum, alike-bignum, alike-tag, alike-array, alike-map, refused-pairs, refused-order, made-map}
+use Rattle.ciborium_value.specs.SameContents.{AreAlike, PairsAreAlike}
+use Rattle.ciborium_value.specs.View.{tree_of, trees_of, tree_pairs_of}
+use Rattle.ciborium_value.specs.declared.tree.Value.{Value, the_lemmas}
+use Rattle.ciborium_value.proofs.MadeForms.{AreAlike-refl, AreAlike-set, PairsAreAlike-set, all_made, all_pairs_made, one_refused, one_key_refused, one_value_refused, all_written, one_more_made, made_as, alike_as, made-tag, made-bignum, alike-bignum, alike-tag, alike-array, alike-map, refused-pairs, refused-order, made-map}
+use Rattle.ciborium_value.proofs.ReorderedPairs.{PairsAreAlike-refl}
 use Rattle.ciborium_value.proofs.Views.{tree_of-Tag, tree_of-Array, tree_of-Map, tree_of-Integer}
 use Rattle.ciborium_value.proofs.deterministic.+make.Goals as goal
 
@@ -94,3 +97,167 @@ make-returns-in-Integer-4-clause-alike t c = same.itself
 
 pub make-returns-in-Integer-5-clause-alike : goal.make-returns-in-Integer-5-clause-alike
 make-returns-in-Integer-5-clause-alike t c = same.itself
+
+pub make_items-loop-item-init : goal.make_items-loop-item-init
+make_items-loop-item-init t c = record {
+  unvisited = (refl, λ k d h. refl);
+  made = λ k d h. absurd (omega (arith, h));
+  alike = subst (λ vs. AreAlike (trees_of c.args.items.now.items) (trees_of vs)) (sym c.deref_mut-item-items.ensures.value) (AreAlike-refl (trees_of c.args.items.now.items));
+}
+
+pub make_items-returns-in_err-make-clause-refused : goal.make_items-returns-in_err-make-clause-refused
+make_items-returns-in_err-make-clause-refused t c =
+    let i = c.loop-item.item-index in
+    let old = c.args.items.now.items in
+    let now = c.loop-item.item-items in
+    let list : c.deref_mut-item-items.result.now ≡ old = c.deref_mut-item-items.ensures.value in
+    let long : length now ≡ length old = c.loop-item.invariant.unvisited.0 ∙ ap length list in
+    let within : i < length now = omega (arith, c.loop-item-test.true, c.loop-item.invariant.unvisited.0) in
+    let there : (d : Value) → get_or now i c.item-item.result ≡ get_or old i d =
+    λ d. get_or_default now i c.item-item.result d within ∙ c.loop-item.invariant.unvisited.1 i d (omega arith) ∙ ap (λ l. get_or l i d) list in
+    let here : (d : Value) → deterministic_form c.args.order (tree_of (get_or old i d)) ≡ refuses c.in_err-make.field-0.0 =
+    λ d. subst (λ v. deterministic_form c.args.order (tree_of v) ≡ refuses c.in_err-make.field-0.0) (there d) c.in_err-make.ensures.refused in
+    let refused = one_refused c.args.order i _ old now (omega (arith, within, long)) (sym long) c.loop-item.invariant.made here in
+    search (rules, refused)
+
+pub make_items-returns-in_err-make-clause-alike : goal.make_items-returns-in_err-make-clause-alike
+make_items-returns-in_err-make-clause-alike t c =
+    let i = c.loop-item.item-index in
+    let old = c.args.items.now.items in
+    let now = c.loop-item.item-items in
+    let list : c.deref_mut-item-items.result.now ≡ old = c.deref_mut-item-items.ensures.value in
+    let long : length now ≡ length old = c.loop-item.invariant.unvisited.0 ∙ ap length list in
+    let within : i < length now = omega (arith, c.loop-item-test.true, c.loop-item.invariant.unvisited.0) in
+    let there : (d : Value) → get_or now i c.item-item.result ≡ get_or old i d =
+    λ d. get_or_default now i c.item-item.result d within ∙ c.loop-item.invariant.unvisited.1 i d (omega arith) ∙ ap (λ l. get_or l i d) list in
+    let wrote : length (set now i c.make.new.value) ≡ length old = length-set now i c.make.new.value ∙ long in
+    let all = all_written c.args.items.now.len (set now i c.make.new.value) old wrote c.args.items.now.ok.0 in
+    let alike = AreAlike-set i c.item-item.result c.make.new.value old now (sym long) c.loop-item.invariant.alike (omega (arith, within, long)) (subst (λ v. same.IsAlike (tree_of v) (tree_of c.make.new.value)) (there c.item-item.result) c.make.ensures.alike) in
+    subst (λ l. AreAlike (trees_of old) (trees_of l)) (sym all) alike
+
+pub make_items-loop-item-preserved : goal.make_items-loop-item-preserved
+make_items-loop-item-preserved t c =
+    let i = c.loop-item.item-index in
+    let old = c.args.items.now.items in
+    let now = c.loop-item.item-items in
+    let list : c.deref_mut-item-items.result.now ≡ old = c.deref_mut-item-items.ensures.value in
+    let long : length now ≡ length old = c.loop-item.invariant.unvisited.0 ∙ ap length list in
+    let within : i < length now = omega (arith, c.loop-item-test.true, c.loop-item.invariant.unvisited.0) in
+    let there : (d : Value) → get_or now i c.item-item.result ≡ get_or old i d =
+    λ d. get_or_default now i c.item-item.result d within ∙ c.loop-item.invariant.unvisited.1 i d (omega arith) ∙ ap (λ l. get_or l i d) list in
+    record {
+      unvisited = (length-set now i c.make.new.value ∙ c.loop-item.invariant.unvisited.0, λ k d h. get_or-set_other now i k c.make.new.value d (omega (arith, h)) ∙ c.loop-item.invariant.unvisited.1 k d (omega (arith, h)));
+      made = one_more_made (λ v w. deterministic_form c.args.order (tree_of v) ≡ gives (tree_of w)) i old now c.make.new.value long within c.loop-item.invariant.made
+          (λ d. subst (λ v. deterministic_form c.args.order (tree_of v) ≡ gives (tree_of c.make.new.value)) (there d) c.in_ok-make.ensures.ok);
+      alike = AreAlike-set i c.item-item.result c.make.new.value old now (sym long) c.loop-item.invariant.alike (omega (arith, within, long)) (subst (λ v. same.IsAlike (tree_of v) (tree_of c.make.new.value)) (there c.item-item.result) c.make.ensures.alike);
+    }
+
+pub make_items-returns-clause-ok : goal.make_items-returns-clause-ok
+make_items-returns-clause-ok t c =
+    let old = c.args.items.now.items in
+    let now = c.loop-item.item-items in
+    let long : length now ≡ length old = c.loop-item.invariant.unvisited.0 ∙ ap length c.deref_mut-item-items.ensures.value in
+    let all = all_written c.args.items.now.len now old long c.args.items.now.ok.0 in
+    let made = all_made c.args.order old now (sym long) (λ k d h. c.loop-item.invariant.made k d (omega (arith, h, long, c.loop-item-test.false, c.loop-item.invariant.unvisited.0))) in
+    subst (λ l. deterministic_forms c.args.order (trees_of old) ≡ gives (trees_of l)) (sym all) made
+
+pub make_pairs-loop-pair-init : goal.make_pairs-loop-pair-init
+make_pairs-loop-pair-init t c = record {
+  unvisited = (refl, λ k d h. refl);
+  keys = λ k d h. absurd (omega (arith, h));
+  values = λ k d h. absurd (omega (arith, h));
+  alike = subst (λ ps. PairsAreAlike (tree_pairs_of c.args.pairs.now.items) (tree_pairs_of ps)) (sym c.deref_mut-pair-items.ensures.value) (PairsAreAlike-refl (tree_pairs_of c.args.pairs.now.items));
+}
+
+pub make_pairs-returns-in_err-make-clause-refused : goal.make_pairs-returns-in_err-make-clause-refused
+make_pairs-returns-in_err-make-clause-refused t c =
+    let i = c.loop-pair.pair-index in
+    let old = c.args.pairs.now.items in
+    let now = c.loop-pair.pair-items in
+    let list : c.deref_mut-pair-items.result.now ≡ old = c.deref_mut-pair-items.ensures.value in
+    let long : length now ≡ length old = c.loop-pair.invariant.unvisited.0 ∙ ap length list in
+    let within : i < length now = omega (arith, c.loop-pair-test.true, c.loop-pair.invariant.unvisited.0) in
+    let there : (d : Value × Value) → get_or now i c.pair-item.result ≡ get_or old i d =
+    λ d. get_or_default now i c.pair-item.result d within ∙ c.loop-pair.invariant.unvisited.1 i d (omega arith) ∙ ap (λ l. get_or l i d) list in
+    let here : (d : Value × Value) → deterministic_form c.args.order (tree_of (get_or old i d).0) ≡ refuses c.in_err-make.field-0.0 =
+    λ d. subst (λ p. deterministic_form c.args.order (tree_of p.0) ≡ refuses c.in_err-make.field-0.0) (there d) c.in_err-make.ensures.refused in
+    let refused = one_key_refused c.args.order i _ old now (omega (arith, within, long)) (sym long) c.loop-pair.invariant.keys c.loop-pair.invariant.values here in
+    search (rules, refused)
+
+pub make_pairs-returns-in_err-make-clause-alike : goal.make_pairs-returns-in_err-make-clause-alike
+make_pairs-returns-in_err-make-clause-alike t c =
+    let i = c.loop-pair.pair-index in
+    let old = c.args.pairs.now.items in
+    let now = c.loop-pair.pair-items in
+    let list : c.deref_mut-pair-items.result.now ≡ old = c.deref_mut-pair-items.ensures.value in
+    let long : length now ≡ length old = c.loop-pair.invariant.unvisited.0 ∙ ap length list in
+    let within : i < length now = omega (arith, c.loop-pair-test.true, c.loop-pair.invariant.unvisited.0) in
+    let there : (d : Value × Value) → get_or now i c.pair-item.result ≡ get_or old i d =
+    λ d. get_or_default now i c.pair-item.result d within ∙ c.loop-pair.invariant.unvisited.1 i d (omega arith) ∙ ap (λ l. get_or l i d) list in
+    let pair : Value × Value = (c.make.new.value, (get_or now i c.pair-item.result).1) in
+    let wrote : length (set now i pair) ≡ length old = length-set now i pair ∙ long in
+    let all = all_written c.args.pairs.now.len (set now i pair) old wrote c.args.pairs.now.ok.0 in
+    let alike = PairsAreAlike-set i c.pair-item.result pair old now c.loop-pair.invariant.alike within c.make.ensures.alike same.itself in
+    subst (λ l. PairsAreAlike (tree_pairs_of old) (tree_pairs_of l)) (sym all) alike
+
+pub make_pairs-returns-in_err-make-2-clause-refused : goal.make_pairs-returns-in_err-make-2-clause-refused
+make_pairs-returns-in_err-make-2-clause-refused t c =
+    let i = c.loop-pair.pair-index in
+    let old = c.args.pairs.now.items in
+    let now = c.loop-pair.pair-items in
+    let list : c.deref_mut-pair-items.result.now ≡ old = c.deref_mut-pair-items.ensures.value in
+    let long : length now ≡ length old = c.loop-pair.invariant.unvisited.0 ∙ ap length list in
+    let within : i < length now = omega (arith, c.loop-pair-test.true, c.loop-pair.invariant.unvisited.0) in
+    let there : (d : Value × Value) → get_or now i c.pair-item.result ≡ get_or old i d =
+    λ d. get_or_default now i c.pair-item.result d within ∙ c.loop-pair.invariant.unvisited.1 i d (omega arith) ∙ ap (λ l. get_or l i d) list in
+    let key : (d : Value × Value) → deterministic_form c.args.order (tree_of (get_or old i d).0) ≡ gives (tree_of c.make.new.value) =
+    λ d. subst (λ p. deterministic_form c.args.order (tree_of p.0) ≡ gives (tree_of c.make.new.value)) (there d) c.in_ok-make.ensures.ok in
+    let here : (d : Value × Value) → deterministic_form c.args.order (tree_of (get_or old i d).1) ≡ refuses c.in_err-make-2.field-0.0 =
+    λ d. subst (λ p. deterministic_form c.args.order (tree_of p.1) ≡ refuses c.in_err-make-2.field-0.0) (there d) c.in_err-make-2.ensures.refused in
+    let refused = one_value_refused c.args.order i _ _ old now (omega (arith, within, long)) (sym long) c.loop-pair.invariant.keys c.loop-pair.invariant.values key here in
+    search (rules, refused)
+
+pub make_pairs-returns-in_err-make-2-clause-alike : goal.make_pairs-returns-in_err-make-2-clause-alike
+make_pairs-returns-in_err-make-2-clause-alike t c =
+    let i = c.loop-pair.pair-index in
+    let old = c.args.pairs.now.items in
+    let now = c.loop-pair.pair-items in
+    let list : c.deref_mut-pair-items.result.now ≡ old = c.deref_mut-pair-items.ensures.value in
+    let long : length now ≡ length old = c.loop-pair.invariant.unvisited.0 ∙ ap length list in
+    let within : i < length now = omega (arith, c.loop-pair-test.true, c.loop-pair.invariant.unvisited.0) in
+    let there : (d : Value × Value) → get_or now i c.pair-item.result ≡ get_or old i d =
+    λ d. get_or_default now i c.pair-item.result d within ∙ c.loop-pair.invariant.unvisited.1 i d (omega arith) ∙ ap (λ l. get_or l i d) list in
+    let pair : Value × Value = (c.make.new.value, c.make-in-loop-pair.new.value) in
+    let wrote : length (set now i pair) ≡ length old = length-set now i pair ∙ long in
+    let all = all_written c.args.pairs.now.len (set now i pair) old wrote c.args.pairs.now.ok.0 in
+    let alike = PairsAreAlike-set i c.pair-item.result pair old now c.loop-pair.invariant.alike within c.make.ensures.alike c.make-in-loop-pair.ensures.alike in
+    subst (λ l. PairsAreAlike (tree_pairs_of old) (tree_pairs_of l)) (sym all) alike
+
+pub make_pairs-loop-pair-preserved : goal.make_pairs-loop-pair-preserved
+make_pairs-loop-pair-preserved t c =
+    let i = c.loop-pair.pair-index in
+    let old = c.args.pairs.now.items in
+    let now = c.loop-pair.pair-items in
+    let list : c.deref_mut-pair-items.result.now ≡ old = c.deref_mut-pair-items.ensures.value in
+    let long : length now ≡ length old = c.loop-pair.invariant.unvisited.0 ∙ ap length list in
+    let within : i < length now = omega (arith, c.loop-pair-test.true, c.loop-pair.invariant.unvisited.0) in
+    let there : (d : Value × Value) → get_or now i c.pair-item.result ≡ get_or old i d =
+    λ d. get_or_default now i c.pair-item.result d within ∙ c.loop-pair.invariant.unvisited.1 i d (omega arith) ∙ ap (λ l. get_or l i d) list in
+    let pair : Value × Value = (c.make.new.value, c.make-in-loop-pair.new.value) in
+    record {
+      unvisited = (length-set now i pair ∙ c.loop-pair.invariant.unvisited.0, λ k d h. get_or-set_other now i k pair d (omega (arith, h)) ∙ c.loop-pair.invariant.unvisited.1 k d (omega (arith, h)));
+      keys = one_more_made (λ p q. deterministic_form c.args.order (tree_of p.0) ≡ gives (tree_of q.0)) i old now pair long within c.loop-pair.invariant.keys
+          (λ d. subst (λ p. deterministic_form c.args.order (tree_of p.0) ≡ gives (tree_of c.make.new.value)) (there d) c.in_ok-make.ensures.ok);
+      values = one_more_made (λ p q. deterministic_form c.args.order (tree_of p.1) ≡ gives (tree_of q.1)) i old now pair long within c.loop-pair.invariant.values
+          (λ d. subst (λ p. deterministic_form c.args.order (tree_of p.1) ≡ gives (tree_of c.make-in-loop-pair.new.value)) (there d) c.in_ok-make-2.ensures.ok);
+      alike = PairsAreAlike-set i c.pair-item.result pair old now c.loop-pair.invariant.alike within c.make.ensures.alike c.make-in-loop-pair.ensures.alike;
+    }
+
+pub make_pairs-returns-clause-ok : goal.make_pairs-returns-clause-ok
+make_pairs-returns-clause-ok t c =
+    let old = c.args.pairs.now.items in
+    let now = c.loop-pair.pair-items in
+    let long : length now ≡ length old = c.loop-pair.invariant.unvisited.0 ∙ ap length c.deref_mut-pair-items.ensures.value in
+    let all = all_written c.args.pairs.now.len now old long c.args.pairs.now.ok.0 in
+    let made = all_pairs_made c.args.order old now (sym long) (λ k d h. c.loop-pair.invariant.keys k d (omega (arith, h, long, c.loop-pair-test.false, c.loop-pair.invariant.unvisited.0))) (λ k d h. c.loop-pair.invariant.values k d (omega (arith, h, long, c.loop-pair-test.false, c.loop-pair.invariant.unvisited.0))) in
+    subst (λ l. pair_forms c.args.order (tree_pairs_of old) ≡ gives (tree_pairs_of l)) (sym all) made
