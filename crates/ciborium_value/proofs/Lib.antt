@@ -51,3 +51,4 @@ pub mod MadeForms
 pub mod GivenValues
 pub mod AlikeForms
 pub mod ProperForms
+pub mod FormedLists
