@@ -52,3 +52,4 @@ pub mod GivenValues
 pub mod AlikeForms
 pub mod ProperForms
 pub mod FormedLists
+pub mod RefusedForms
