@@ -7,6 +7,8 @@ mod ample_memory;
 mod caller_tests;
 pub mod callers;
 #[cfg(test)]
+mod deterministic_tests;
+#[cfg(test)]
 mod expectations;
 pub mod head_callers;
 #[cfg(test)]
