@@ -1,4 +1,4 @@
-use Rattle.std.proofs.Common.{◌≡◌, ◌-◌, length, drop, rules, ap, sym, ◌∙◌, arith}
+use Rattle.std.proofs.Common.{◌≡◌, length, rules, ap, ◌∙◌, arith}
 use Rattle.ciborium_value.specs.Meaning.{without_zeros}
 use Rattle.ciborium_value.proofs.Bignums.{zeros_dropped}
 use Rattle.ciborium_value.proofs.Bounded.{zeros-shorter}

@@ -1,7 +1,5 @@
 use Rattle.std.proofs.Common.{rules, ◌∙◌}
 use Rattle.std.proofs.lemmas.Fn.{always_returns_same}
-use Rattle.ciborium_value.specs.DeterministicForms.{sorted_pairs}
-use Rattle.ciborium_value.specs.View.{tree_pairs_of}
 use Rattle.ciborium_value.proofs.ReorderedPairs.{alike-reordered, permuted-reordered, sorted-in_order, sorted-reordered, stands_before, stands_before-orders}
 use Rattle.ciborium_value.proofs.SortedPairs.{rising-sorted, tied_refused}
 use Rattle.ciborium_value.proofs.deterministic.sort_pairs.Goals as goal
