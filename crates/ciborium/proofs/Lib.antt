@@ -61,6 +61,7 @@ mod StrictOutcome
 mod NextReaders
 mod Sequences
 pub mod Loaded
+mod FormsReadBack
 mod WrittenSequences
 mod ReadSequences
 mod SequenceRoundTrips

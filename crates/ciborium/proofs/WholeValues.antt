@@ -139,6 +139,7 @@ whole-faults left (errors.Semantic (Some q) k) l p b s z i sp f h = by k h
     by kinds.Tag h = absurd h
     by kinds.Length h = absurd h
     by kinds.Other h = absurd h
+    by kinds.DuplicateKey h = absurd h
 whole-faults left errors.RecursionLimitExceeded l p b s z i sp f h = value-faults h i s z sp f
 whole-faults left errors.Memory l p b s z i sp f h = tt
 whole-faults left errors.TooLong l p b s z i sp f h = value-faults h i s z sp f

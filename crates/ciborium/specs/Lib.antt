@@ -7,6 +7,7 @@ pub mod Parts
 pub mod Due
 pub mod Answers
 pub mod Writes
+pub mod DeterministicWrites
 pub mod AnswerLaws
 pub mod EncodingLaws
 pub mod CanonicalLaws
@@ -25,6 +26,7 @@ pub mod DeterministicLaws
 pub mod ItemSequences
 pub mod NextItems
 pub mod Loaded
+pub mod FormsReadBack
 pub mod SequenceWrites
 pub mod SequenceReads
 pub mod SequenceRoundTrips

@@ -10,6 +10,8 @@ ghost use Rattle.ciborium.specs.DeterministicLaws.{DeterministicOrRefused};
 ghost use Rattle.ciborium.specs.DeterministicLaws.{NeverBothDeterministically};
 ghost use Rattle.ciborium.specs.DeterministicLaws.{OneDeterministicRefusal, OneDeterministicTree};
 ghost use Rattle.ciborium.specs.EncodingLaws.{EncodingSpells, HeadsRise, OneTree, OthersAreLonger};
+ghost use Rattle.ciborium.specs.FormsReadBack.{FormIsReadBack, IsFormContentReadBack};
+ghost use Rattle.ciborium.specs.FormsReadBack.{IsFormReadAlike, IsFormReadBack, IsOwnForm};
 ghost use Rattle.ciborium.specs.ItemSequences.{OneSequence};
 ghost use Rattle.ciborium.specs.Loaded.{AreCanonicalParts, IsContentLoaded};
 ghost use Rattle.ciborium.specs.Loaded.{IsDeterministicStore, IsStoreHeld};
@@ -30,7 +32,7 @@ pub use ciborium_value::tree_laws::{
     order_of_integers, order_of_values, worked_examples, written_reads_back,
 };
 pub use ciborium_value::{NeverNull, ReadsBack, WritesContent};
-use ciborium_value::{Deserialize, Serialize, Value};
+use ciborium_value::{Deserialize, KeyOrder, Serialize, Value};
 use std::collections::BTreeMap;
 
 /// Whatever meets the clauses of the reading calls is one answer for the same bytes and limit: the
@@ -101,6 +103,50 @@ pub fn is_loaded<T: ReadsBack>(
 )
     ensures { IsContentLoaded T.is_held T.written T.reading limit value.now tree.now again.now
         bytes.now rest.now }
+{}
+
+/// What is written in its deterministic form is read back: where a program can hold a tree that has
+/// a form by an order of keys, the deterministic reader of that order takes the encoding of the
+/// form, whatever follows it, and answers just the form, where as many levels are left as it takes,
+/// unless the reader failed or memory was refused (RFC 8949, section 4.2).
+pub fn form_is_read_back()
+    ensures { FormIsReadBack }
+{}
+
+/// The same of one value that was written and read: where `bytes` are what
+/// `into_writer_deterministic` put out of `value` in this order, into an empty list, and `tree` was
+/// read at their front by `from_reader_deterministic_with_order` in the same order, with `rest`
+/// behind it, `tree` is the deterministic form of what the value names. A caller that writes and
+/// reads calls it behind its calls, and needs no proof file.
+pub fn is_form_read_back<T: Serialize>(
+    value: &T,
+    tree: &Value,
+    order: KeyOrder,
+    limit: usize,
+    bytes: &[u8],
+    rest: &[u8],
+)
+    ensures { IsFormReadBack order (T.written value.now) limit tree.now bytes.now rest.now }
+{}
+
+/// The same as the type of the value: where `bytes` are what `into_writer_deterministic` put out of
+/// `value` in this order, into an empty list, and `again` was read at their front by `from_reader`
+/// within `limit` levels, with `rest` behind it, the contents are equal. That is promised where
+/// reading takes from the form what it takes from the tree that the value names, whatever the order
+/// of the pairs, and so where that tree is its own form. It rests on the law that the type has
+/// (`ReadsBack`).
+pub fn written_deterministically_is_read_back<T: ReadsBack>(
+    value: &T,
+    again: &T,
+    limit: usize,
+    order: KeyOrder,
+    bytes: &[u8],
+    rest: &[u8],
+)
+    ensures alike { IsFormContentReadBack (IsFormReadAlike T.reading.taken order) T.is_held
+        T.written T.reading order limit value.now again.now bytes.now rest.now }
+    ensures own { IsFormContentReadBack (IsOwnForm order) T.is_held T.written T.reading order limit
+        value.now again.now bytes.now rest.now }
 {}
 
 /// The order of `CanonicalValue`, which `<`, `max` and the library's sorts take from its `Ord`, is

@@ -8,10 +8,12 @@ ghost use Rattle.ciborium.specs.declared.ser.Error.TheVariants.{Io};
 use byte_sink::{ByteSink, Refusal};
 use ciborium_value::Kind;
 pub use ciborium_value::{Field, Fields, NoField, Serialize, Sink};
+pub use deterministic::into_writer_deterministic;
 pub use sequence::write_sequence;
 use std::io::{self, Write};
 
 mod byte_sink;
+mod deterministic;
 mod sequence;
 
 /// Why writing was refused.

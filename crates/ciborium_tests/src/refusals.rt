@@ -87,5 +87,6 @@ fn name_kind(kind: Kind) -> &'static str {
         Kind::Open => "open",
         Kind::NotFolded => "notfolded",
         Kind::KeyOrder => "keyorder",
+        Kind::DuplicateKey => "duplicatekey",
     }
 }

@@ -1,0 +1,56 @@
+//! The deterministic forms of values to bytes (RFC 8949, section 4.2).
+
+ghost use Rattle.std.specs.Prelude.{◌≡◌, IfErr, OnOk};
+ghost use Rattle.ciborium.specs.DeterministicWrites.{IsFormOwed, IsFormWritten, WritesForm};
+ghost use Rattle.ciborium.specs.DeterministicWrites.{named_form};
+ghost use Rattle.ciborium.specs.Writes.{IsIo, cause_of};
+
+use super::{Error, Serialize, into_writer};
+use ciborium_value::{KeyOrder, Value, serialized};
+use std::alloc::Global;
+use std::io::{self, Write};
+
+/// Writes the item of a value in its deterministic form, by this order of keys. Deterministic
+/// encoding (RFC 8949, section 4.2) asks for preferred serialization (section 4.1), for definite
+/// lengths, and for sorted keys. So every head is the shortest, every string, array and map is
+/// definite, a bignum has no leading zeros and is no number of 64 bits, and the pairs of each map
+/// are sorted by the encodings of their keys: by `KeyOrder::Bytewise` the key with the first lower
+/// byte comes first (section 4.2.1), by `KeyOrder::LengthFirst` the shorter key, and of two of one
+/// size the one with the first lower byte (section 4.2.3). Duplicate keys are refused, also where
+/// only their forms are equal.
+///
+/// It takes memory for the tree of what the value names, as `Value::serialized` does, and writes
+/// once the whole tree is in its form. Nothing is flushed.
+///
+/// # Errors
+///
+/// `Value` is the kind that a value without an item names, or with which its tree has no form, as
+/// `Value::make_deterministic` says: `DuplicateKey` where two keys of a map have one form, and
+/// `TooLarge` where a bignum of at most 16 bytes is negative and no `i128` holds it. `Memory` comes
+/// where a growth for the tree was refused. At both nothing has gone out, and the writer is as it
+/// was. `Io` is the first error of the writer, as of `into_writer`: a proper beginning of the
+/// encoding of the form has gone out, and nothing else.
+pub fn into_writer_deterministic<T: Serialize, W: Write>(
+    alloc: Global,
+    value: &T,
+    order: KeyOrder,
+    writer: &mut W,
+) -> Result<(), Error<io::Error>>
+    ensures bytes { WritesForm (W.contents writer.old) (W.contents writer.new) result
+        (named_form order (T.written value.now)) }
+    // Refused, or without memory, the writer is as it was.
+    ensures untouched { IfErr result (λ e. ¬ IsIo e → writer.new ≡ writer.old) }
+    ensures refused { IfErr result (λ e.
+        IsFormOwed (cause_of e) (named_form order (T.written value.now))) }
+    ensures written { OnOk result (IsFormWritten (named_form order (T.written value.now))) }
+{
+    let mut tree = match Value::serialized(alloc, value) {
+        Ok(tree) => tree,
+        Err(serialized::Error::Custom(kind)) => return Err(Error::Value(kind)),
+        Err(serialized::Error::Memory) => return Err(Error::Memory),
+    };
+    match tree.make_deterministic(order) {
+        Ok(()) => into_writer(&tree, writer),
+        Err(kind) => Err(Error::Value(kind)),
+    }
+}
