@@ -31,7 +31,7 @@ one-word text [] command name below least e is = absurd (omega arith)
 one-word text (w ∷ []) command name below least e is = ap (λ (t : List ℕ). t ∷ []) (ap text (sym e) ∙ is)
 one-word text (w ∷ (v ∷ ws)) command name below least e is = absurd (omega arith)
 
--- ---- no words ask for two things
+-- ---- flags
 
 -- a dash is no digit, so a flag names no limit
 no-limit : (flag : List ℕ) (others : List (List ℕ)) (n : ℕ) → get_or flag 0 0 ≡ 45 → NameLimit (flag ∷ others) n → ⊥
@@ -43,6 +43,8 @@ no-limit flag (first ∷ others) n dash h = absurd h
 not-flagged : (flag : List ℕ) (flags words : List (List ℕ)) (m n : ℕ) → get_or flag 0 0 ≡ 45 → NameLimit words m → NameLimitBehind (flag ∷ flags) words n → ⊥
 not-flagged flag flags [] m n dash p q = absurd q
 not-flagged flag flags (word ∷ words) m n dash p q = no-limit flag words m dash (subst (λ (w : List ℕ). NameLimit (w ∷ words) m) q.0 p)
+
+-- ---- no words ask for two things
 
 -- a word that begins with `s` does not ask for reading
 not-both : (words : List (List ℕ)) (spelling : Spelling) (n : ℕ) (name : List ℕ) (flags : List (List ℕ)) → AskToRead words spelling n → words ≡ name ∷ flags →

@@ -5,6 +5,7 @@ ghost use Rattle.std.specs.Prelude.{Some, codes, map, string_bytes, true};
 ghost use Rattle.std.specs.Io.KnownBytes.{Keeps};
 ghost use Rattle.std.specs.Option.{SomeIff};
 ghost use Rattle.std.specs.Str.Parse.{digits_value};
+ghost use Rattle.ciborium_value.specs.declared.key_order.KeyOrder.{KeyOrder};
 ghost use Rattle.cbor.specs.Lines.{AreAnswered, AreOk};
 ghost use Rattle.cbor.specs.SortedLines.{AreSortedLines};
 ghost use Rattle.cbor.specs.Words.{AreWrong, AskFor, AskForSequences, AskToRead, AskToSort};
@@ -13,7 +14,6 @@ ghost use Rattle.cbor.specs.declared.reading.Reading.{Reading};
 ghost use Rattle.cbor.specs.declared.reading.Reading.TheVariants.{Item, Sequence};
 ghost use Rattle.cbor.specs.declared.reading.Spelling.{Spelling};
 ghost use Rattle.cbor.specs.declared.run.Command.TheVariants.{Answer, Sort};
-ghost use Rattle.ciborium_value.specs.declared.key_order.KeyOrder.{KeyOrder};
 
 use crate::answering::answer_lines;
 use crate::fault::Fault;
@@ -34,14 +34,14 @@ enum Command {
 /// Does what the words say, which are the program's arguments without its name, and returns the
 /// exit status. `read` answers each line of hex of the input by a line on the output, within 256
 /// levels, and `read LIMIT` within that many; a line whose answer is refused memory is answered
-/// `memory`. `read --det`, and a limit behind it, accept deterministic encodings alone, with the
-/// keys of each map in the canonical order, the shorter first (RFC 8949, section 4.2.3); `read
-/// --det --core`, and a limit behind it, accept those with the keys in the bytewise order of the
-/// core deterministic encoding (section 4.2.1). `seq` answers each line as a sequence of items (RFC
-/// 8742), each within 256 levels. `sort` reads all lines within 256 levels, and then writes the
-/// encodings of their items in lower-case hex, a line each, in the canonical order, and `sort
-/// --core` in the bytewise one. At the first line that is no item it only writes `line`, the number
-/// of that line, counted from 1, a colon and the answer to it.
+/// `memory`. `read --det`, and a limit behind it, accept deterministic encodings alone, the keys of
+/// each map in the canonical order (RFC 8949, section 4.2.3: length-first). `seq` answers each line
+/// as a sequence of items (RFC 8742), each within 256 levels. `sort` reads all lines within 256
+/// levels, and then writes the encodings of their items in lower-case hex, a line each, in the
+/// canonical order. At the first line that is no item it only writes `line`, the number of that
+/// line, counted from 1, a colon and the answer to it. `--core`, right behind `--det` or `sort`,
+/// takes the order of the core deterministic encoding in place of the canonical one (section 4.2.1:
+/// bytewise).
 ///
 /// The status is 0 where every line is an item, or for `seq` a sequence, and 1 where one is not. It
 /// is 2 for any other words: the usage is then written to `errors`, and input and output are left

@@ -5,12 +5,12 @@ ghost use Rattle.std.specs.Prelude.{IsPermutation, map, vec_len};
 ghost use Rattle.std.specs.Io.KnownBytes.{append_known};
 ghost use Rattle.std.specs.List.{flat_map};
 ghost use Rattle.ciborium_value.specs.View.{tree_of};
+ghost use Rattle.ciborium_value.specs.declared.key_order.KeyOrder.TheVariants.{LengthFirst};
 ghost use Rattle.cbor.specs.Lines.{AreMeant};
 ghost use Rattle.cbor.specs.Sorted.{AreSorted};
 ghost use Rattle.cbor.specs.SortedLines.{AreSortedLines, hex_line};
 ghost use Rattle.cbor.specs.declared.sorting.Unsorted.TheVariants.{Unread};
 ghost use Rattle.cbor.specs.declared.reading.Spelling.TheVariants.{Any};
-ghost use Rattle.ciborium_value.specs.declared.key_order.KeyOrder.TheVariants.{LengthFirst};
 
 use crate::answer::Refusal;
 use crate::fault::Fault;
@@ -79,9 +79,9 @@ pub fn sort_lines<R: Read, W: Write>(
 ///
 /// # Errors
 ///
-/// `AllocError` where memory is refused to move more than 20 values through: room for as many
-/// again, or length-first for as many with their sizes, and for as many of those again. The values
-/// are then given up.
+/// `AllocError` where memory is refused to move more than 20 values through: bytewise room for as
+/// many again, and length-first for as many with their sizes and for as many of those again. The
+/// values are then given up.
 pub fn sort_values(
     alloc: Global,
     mut values: Vec<Value>,
@@ -100,7 +100,7 @@ pub fn sort_values(
     }
 }
 
-// The values in the canonical order.
+// The values in the canonical order. More than 20 are each measured once.
 fn sort_length_first(alloc: Global, mut values: Vec<Value>) -> Result<Vec<Value>, AllocError>
     ensures permutation { IfOk result (λ sorted. IsPermutation values.items sorted.items) }
     ensures sorted { IfOk result (λ sorted. AreSorted LengthFirst (map tree_of sorted.items)) }
