@@ -26,7 +26,7 @@ LONGEST_FOLDED = 8
 PIECE = re.compile(r"(?:([0-9]+)\*)?((?:[0-9a-fA-F]{2})*)\Z")
 NUMBER = re.compile(r"[0-9]+\Z")
 SIGNED = re.compile(r"[+-]?[0-9]+\Z")
-CALLS = "no-memory read-value clone from-text serialized deserialized read-map macro".split()
+CALLS = "no-memory read-value clone from-text serialized deserialized read-map macro write-form".split()
 
 
 class Unanswered(Exception):
