@@ -8,6 +8,8 @@ mod caller_tests;
 pub mod callers;
 #[cfg(test)]
 mod expectations;
+#[cfg(test)]
+mod form_tests;
 pub mod head_callers;
 #[cfg(test)]
 mod head_tests;
