@@ -72,8 +72,8 @@ module _ {T C : Type 0} (IsHeld : T → Type 0) (written : T → Named) (reading
       front-content o v l w bytes after c held i names fits (same ∙ all) takes give
   by-name o v l w old new bytes after c held (Err k) names appends fits takes give none same = absurd fits
 
-  pub content_loaded : (l : ℕ) (v : T) (w : Value) (again : T) (bytes rest : List ℕ) → IsContentLoaded IsHeld written reading l v w again bytes rest
-  content_loaded l v w again bytes rest o old new held appends fits reads give none same =
+  pub content_loaded : (o : KeyOrder) (l : ℕ) (v : T) (w : Value) (again : T) (bytes rest : List ℕ) → IsContentLoaded o IsHeld written reading l v w again bytes rest
+  content_loaded o l v w again bytes rest old new held appends fits reads give none same =
       by-name o v l (tree_of w) old new bytes (Some rest) (reading.content again) held (written v) refl appends fits (reads.ok bytes refl) give none same
 
 -- ---- stores

@@ -48,9 +48,9 @@ LoadingGivesContent {T} {C} IsHeld written reading =
 
 -- where bytes were written into nothing, of the one value, the deterministic reader of an order of keys read w at their front within l levels, and the other
 -- was made of w, the contents are equal
-abbrev pub IsContentLoaded : {T C : Type 0} → (T → Type 0) → (T → Named) → Reading T C → ℕ → T → Value → T → List ℕ → List ℕ → Type 0
-IsContentLoaded IsHeld written reading l v w again bytes rest =
-    (o : KeyOrder) (old new : List ℕ) → IsHeld v → WritesNamed {E = WriteError IoError} (Some old) (Some new) (Ok tt) (written v) → IsNamedWritten (written v) →
+abbrev pub IsContentLoaded : {T C : Type 0} → KeyOrder → (T → Type 0) → (T → Named) → Reading T C → ℕ → T → Value → T → List ℕ → List ℕ → Type 0
+IsContentLoaded o IsHeld written reading l v w again bytes rest =
+    (old new : List ℕ) → IsHeld v → WritesNamed {E = WriteError IoError} (Some old) (Some new) (Ok tt) (written v) → IsNamedWritten (written v) →
     ReadsWhole {E = IoError} (deterministic o) (Some bytes) l (Some rest) (Ok (tree_of w)) → reading.taken None (value_item w) ≡ gives (reading.content again) → old ≡ [] → bytes ≡ new → reading.content again ≡ reading.content v
 
 -- the tree of a store

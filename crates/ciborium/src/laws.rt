@@ -3,6 +3,8 @@
 ghost use Rattle.std.specs.Prelude.{◌≡◌, length};
 ghost use Rattle.ciborium_value.specs.Places.{dictionary};
 ghost use Rattle.ciborium_value.specs.Sinks.{container_of, in_turn, named_value};
+ghost use Rattle.ciborium_value.specs.declared.key_order.KeyOrder.{KeyOrder};
+ghost use Rattle.ciborium_value.specs.declared.key_order.KeyOrder.TheVariants.{LengthFirst};
 ghost use Rattle.ciborium.specs.AnswerLaws.{OneAnswer};
 ghost use Rattle.ciborium.specs.CanonicalLaws.{BytewiseTiesEqualOnes, IsBytewise};
 ghost use Rattle.ciborium.specs.CanonicalLaws.{IsBytewiseTotal, RiseBytewise};
@@ -114,8 +116,11 @@ pub fn is_loaded<T: ReadsBack>(
     bytes: &[u8],
     rest: &[u8],
 )
-    ensures { IsContentLoaded T.is_held T.written T.reading limit value.now tree.now again.now
-        bytes.now rest.now }
+    ensures loaded { IsContentLoaded LengthFirst T.is_held T.written T.reading limit value.now
+        tree.now again.now bytes.now rest.now }
+    // The same of `from_reader_deterministic_with_order`, whatever the order that it was given.
+    ensures either { (order : KeyOrder) → IsContentLoaded order T.is_held T.written T.reading limit
+        value.now tree.now again.now bytes.now rest.now }
 {}
 
 /// What is written in its deterministic form is read back: where a program can hold a tree that has

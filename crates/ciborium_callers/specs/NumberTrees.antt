@@ -1,6 +1,6 @@
 -- A type that holds itself: what its values are as trees, and which trees they are.
 use Rattle.std.proofs.Common.{ap, ◌∙◌}
-use Rattle.std.specs.Prelude.{◌≡◌, ℕ, pos, negsuc, Bool, true, false, ◌&&◌, nat_lt, Some, option_map, refl}
+use Rattle.std.specs.Prelude.{◌≡◌, pos, negsuc, Bool, true, false, ◌&&◌, nat_lt, Some, option_map, refl}
 use Rattle.ciborium_value.specs.Folded.{folded, trees_folded}
 use Rattle.ciborium_value.specs.Meaning.{trees_more}
 use Rattle.ciborium_value.specs.Number.{number_tree}

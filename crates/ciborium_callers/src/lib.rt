@@ -10,6 +10,8 @@ pub mod callers;
 mod deterministic_tests;
 #[cfg(test)]
 mod expectations;
+#[cfg(test)]
+mod form_tests;
 pub mod head_callers;
 #[cfg(test)]
 mod head_tests;

@@ -2,15 +2,21 @@
 //! one content: the bytes are the same.
 ghost use Rattle.std.specs.Prelude.{◌≡◌, ◌≤◌, IfOk, IfSome, List, ℕ};
 ghost use Rattle.std.specs.Io.KnownBytes.{Appends, Consumes};
+ghost use Rattle.ciborium_value.specs.Taken.{gives};
+ghost use Rattle.ciborium_value.specs.View.{tree_of};
+ghost use Rattle.ciborium.specs.DeterministicWrites.{named_form};
+ghost use Rattle.ciborium.specs.FormsReadBack.{IsOwnForm};
 ghost use Rattle.ciborium.specs.Loaded.{AreCanonicalParts, entry_trees};
 
-use ciborium::de::from_reader_deterministic;
+use ciborium::de::{from_reader_deterministic, from_reader_deterministic_with_order};
 use ciborium::laws::{
-    ReadsBack, WritesContent, equal_contents_equal_bytes, is_loaded, is_read_back,
-    store_is_deterministic, written_is_read_back,
+    ReadsBack, WritesContent, equal_contents_equal_bytes, is_form_read_back, is_loaded,
+    is_read_back, store_is_deterministic, written_deterministically_is_read_back,
+    written_is_read_back,
 };
-use ciborium::value::{CanonicalValue, Error, Value};
-use ciborium::{from_reader, into_writer};
+use ciborium::ser::Serialize;
+use ciborium::value::{CanonicalValue, Error, KeyOrder, Value};
+use ciborium::{from_reader, into_writer, into_writer_deterministic};
 use std::alloc::Global;
 use std::collections::BTreeMap;
 use std::io::{Read, Write};
@@ -69,6 +75,45 @@ pub fn through_store(
         return None;
     };
     is_loaded(store, &value, &again, 256, whole, reader);
+    Some(again)
+}
+
+/// Through the deterministic encoding in an order of keys. What is read is the deterministic form of
+/// what the value names.
+pub fn through_form<T: Serialize>(alloc: Global, value: &T, order: KeyOrder) -> Option<Value>
+    ensures { IfSome result
+        (λ tree. named_form order (T.written value.now) ≡ gives (tree_of tree)) }
+{
+    let mut bytes = Vec::new(alloc);
+    let Ok(()) = into_writer_deterministic(alloc, value, order, &mut bytes) else {
+        return None;
+    };
+    let whole: &[u8] = &bytes;
+    let mut reader = whole;
+    let Ok(tree) = from_reader_deterministic_with_order(alloc, &mut reader, 256, order) else {
+        return None;
+    };
+    is_form_read_back(value, &tree, order, 256, whole, reader);
+    Some(tree)
+}
+
+/// The same as the type of the value, where what it names is its own form.
+pub fn through_own_form<T: ReadsBack>(alloc: Global, value: &T, order: KeyOrder) -> Option<T>
+    requires held { T.is_held value.now }
+    requires own { IsOwnForm order (T.written value.now) }
+    ensures { IfSome result (λ again.
+        T.reading.content again ≡ T.reading.content value.now) }
+{
+    let mut bytes = Vec::new(alloc);
+    let Ok(()) = into_writer_deterministic(alloc, value, order, &mut bytes) else {
+        return None;
+    };
+    let whole: &[u8] = &bytes;
+    let mut reader = whole;
+    let Ok(again) = from_reader::<T, _>(alloc, &mut reader) else {
+        return None;
+    };
+    written_deterministically_is_read_back(value, &again, 256, order, whole, reader);
     Some(again)
 }
 

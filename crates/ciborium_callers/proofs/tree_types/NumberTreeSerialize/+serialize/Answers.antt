@@ -1,5 +1,5 @@
 -- A tree is written level by level.
-use Rattle.std.proofs.Common.{◌≡◌, ℕ, pos, List, Ok, Vec, Global, IfErr, map, rules, subst, sym, ap, ◌∙◌}
+use Rattle.std.proofs.Common.{◌≡◌, ℕ, pos, Ok, Vec, Global, IfErr, map, rules, subst, sym, ap, ◌∙◌}
 use Rattle.std.proofs.lemmas.Result.{on_ok_weaker, on_err_weaker}
 use Rattle.ciborium_value.specs.Encoding.{item_of}
 use Rattle.ciborium_value.specs.Number.{number_tree}
