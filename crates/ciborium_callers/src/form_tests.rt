@@ -1,12 +1,12 @@
 //! Values written in their deterministic forms, in either order of keys (RFC 8949, section 4.2).
 use crate::expectations::{expect, expect_bytes, expect_same, expect_written};
 use crate::own_types::{Figure, Message};
-use crate::round_trips::{through_form, through_own_form};
+use crate::round_trips::{message_through_form, through_form, through_own_form};
 use crate::test_bytes::decode_hex;
 use ciborium::laws::form_is_read_back;
 use ciborium::ser::{Error, Serialize};
 use ciborium::value::{KeyOrder, Kind, Value};
-use ciborium::{cbor, from_reader, into_writer_deterministic};
+use ciborium::{cbor, into_writer_deterministic};
 use std::alloc::Global;
 use std::io;
 use std::test::Fail;
@@ -72,9 +72,9 @@ fn the_fields_of_a_struct_are_sorted(rt: HostRuntime) -> Result<(), Fail> {
     let message = Message { version: 255, body };
     expect_form(rt.alloc(), &message, KeyOrder::Bytewise, MESSAGE)?;
     expect_form(rt.alloc(), &message, KeyOrder::LengthFirst, MESSAGE)?;
-    let bytes = decode_hex(rt.alloc(), MESSAGE)?;
-    let mut reader: &[u8] = &bytes;
-    let again: Message = from_reader(rt.alloc(), &mut reader)?;
+    let Some(again) = message_through_form(rt.alloc(), &message, KeyOrder::Bytewise) else {
+        return Err(Fail::new(MESSAGE));
+    };
     expect_same(again, message, "read as a message")
 }
 

@@ -1,6 +1,6 @@
 //! Callers that write a value and read it again: it is the value. And one that writes two values of
 //! one content: the bytes are the same.
-ghost use Rattle.std.specs.Prelude.{◌≡◌, ◌≤◌, IfOk, IfSome, List, ℕ};
+ghost use Rattle.std.specs.Prelude.{◌<◌, ◌^◌, ◌≡◌, ◌≤◌, IfOk, IfSome, List, string_bytes, ℕ};
 ghost use Rattle.std.specs.Io.KnownBytes.{Appends, Consumes};
 ghost use Rattle.ciborium_value.specs.Taken.{gives};
 ghost use Rattle.ciborium_value.specs.View.{tree_of};
@@ -8,6 +8,7 @@ ghost use Rattle.ciborium.specs.DeterministicWrites.{named_form};
 ghost use Rattle.ciborium.specs.FormsReadBack.{IsOwnForm};
 ghost use Rattle.ciborium.specs.Loaded.{AreCanonicalParts, entry_trees};
 
+use crate::own_types::Message;
 use ciborium::de::{from_reader_deterministic, from_reader_deterministic_with_order};
 use ciborium::laws::{
     ReadsBack, WritesContent, equal_contents_equal_bytes, is_form_read_back, is_loaded,
@@ -114,6 +115,26 @@ pub fn through_own_form<T: ReadsBack>(alloc: Global, value: &T, order: KeyOrder)
         return None;
     };
     written_deterministically_is_read_back(value, &again, 256, order, whole, reader);
+    Some(again)
+}
+
+/// The same of a message, whose fields are sorted as it is written, and read by their names.
+pub fn message_through_form(alloc: Global, message: &Message, order: KeyOrder) -> Option<Message>
+    requires { message.now.version < 2 ^ 8 }
+    ensures version { IfSome result (λ again. again.version ≡ message.now.version) }
+    ensures body { IfSome result
+        (λ again. string_bytes again.body ≡ string_bytes message.now.body) }
+{
+    let mut bytes = Vec::new(alloc);
+    let Ok(()) = into_writer_deterministic(alloc, message, order, &mut bytes) else {
+        return None;
+    };
+    let whole: &[u8] = &bytes;
+    let mut reader = whole;
+    let Ok(again) = from_reader::<Message, _>(alloc, &mut reader) else {
+        return None;
+    };
+    written_deterministically_is_read_back(message, &again, 256, order, whole, reader);
     Some(again)
 }
 
