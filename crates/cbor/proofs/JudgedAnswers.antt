@@ -1,9 +1,8 @@
 -- What the text of a line says of it.
-use Rattle.std.proofs.Common.{◌≡◌, ℕ, ◌+◌, ◌<◌, List, [], ◌++◌, length, true, false, Result, Ok, Err, IsErr, MatchResult, codes, sym, ap, ◌∙◌, subst}
-use Rattle.hex.specs.Hex.{decode_of, encode_lower}
+use Rattle.std.proofs.Common.{◌≡◌, ℕ, ◌+◌, ◌<◌, List, [], length, true, false, Result, Ok, Err, IsErr, MatchResult, sym, ap, ◌∙◌, subst}
+use Rattle.hex.specs.Hex.{decode_of}
 use Rattle.hex.specs.declared.error.FromHexError.{FromHexError}
 use Rattle.ciborium_ll.specs.Refusal.{io, syntax, too_long, semantic, recursion_limit_exceeded}
-use Rattle.ciborium_value.specs.Encoding.{encoding}
 use Rattle.ciborium_value.specs.Tree.{Tree}
 use Rattle.cbor.specs.declared.answer.Refusal.{Refusal}
 use Rattle.cbor.specs.declared.answer.Refusal.TheVariants.{Hex, Trailing, Io, Syntax, Semantic, Nesting, TooLong, Memory}
@@ -16,16 +15,12 @@ use Rattle.cbor.specs.Lines.{IsOkText}
 use Rattle.cbor.specs.Sequence.{AreItemsBefore, AreSequence, HasSequenceAnswer, IsSequenceAnswer, refused, refused_item_text}
 use Rattle.cbor.proofs.JudgedLines.{item-answer, refusal_is_answered}
 
-not-memory : (e : Refusal) → wants_memory e ≡ false → e ≡ Memory → ⊥
+pub not-memory : (e : Refusal) → wants_memory e ≡ false → e ≡ Memory → ⊥
 not-memory e m same = let no : true ≡ false = ap wants_memory (sym same) ∙ m in cc
 
 -- ---- items
 
--- the encoding behind `ok ` answers a line that means a tree
-pub item-text : (spelling : Spelling) (line : List ℕ) (limit : ℕ) (v : Tree) (ok text : List ℕ) → IsMeant spelling line limit v → ok ≡ codes "ok " →
-    text ≡ ok ++ encode_lower (encoding v) → IsOkText (Item spelling limit) line text
-item-text spelling line limit v ok text means e same = (v, means, same ∙ ap (λ (t : List ℕ). t ++ encode_lower (encoding v)) e)
-
+-- the encoding of a tree that a line means answers it
 pub item-answers : (spelling : Spelling) (line : List ℕ) (limit : ℕ) (text : List ℕ) → IsOkText (Item spelling limit) line text → IsLineAnswer spelling line limit text
 item-answers spelling line limit text (v, means, same) = item-answer spelling (decode_of line) limit v text means same
 

@@ -26,7 +26,7 @@ front-refused spelling b limit TooLong h = h
 front-refused spelling b limit Memory h = h
 
 -- what refuses the bytes of a line refuses the line
-refused-by : (spelling : Spelling) (line : List ℕ) (limit : ℕ) (b : List ℕ) (e : Refusal) → decode_of line ≡ Ok b → AreRefused spelling b limit e → IsRefused spelling line limit e
+pub refused-by : (spelling : Spelling) (line : List ℕ) (limit : ℕ) (b : List ℕ) (e : Refusal) → decode_of line ≡ Ok b → AreRefused spelling b limit e → IsRefused spelling line limit e
 refused-by spelling line limit b Hex d h = absurd h
 refused-by spelling line limit b (Trailing n) d h = (b, d, h)
 refused-by spelling line limit b Io d h = (b, d, h)

@@ -1,10 +1,12 @@
 -- What holds of the answers to lines.
 use Rattle.std.specs.Prelude.{◌≡◌, ◌≢◌, ℕ, List}
 use Rattle.ciborium_value.specs.Tree.{Tree}
+use Rattle.ciborium_value.specs.declared.key_order.KeyOrder.{KeyOrder}
 use Rattle.cbor.specs.declared.answer.Refusal.{Refusal}
 use Rattle.cbor.specs.declared.answer.Refusal.TheVariants.{Memory}
 use Rattle.cbor.specs.declared.reading.Spelling.{Spelling}
 use Rattle.cbor.specs.Answer.{IsRefused, IsMeant, refused_text}
+use Rattle.cbor.specs.Forms.{IsFormAnswer}
 use Rattle.cbor.specs.Line.{IsLineAnswer, tree_text}
 use Rattle.cbor.specs.Sequence.{IsSequenceAnswer}
 
@@ -41,3 +43,12 @@ IsSequenceAnswered = (line : List ℕ) (limit : ℕ) → (answer : List ℕ) × 
 -- and no other
 abbrev pub OneSequenceAnswer : Type 0
 OneSequenceAnswer = (line : List ℕ) (limit : ℕ) (a b : List ℕ) → IsSequenceAnswer line limit a → IsSequenceAnswer line limit b → a ≡ b
+
+-- each line has an answer by the deterministic form of its item, in either order of keys and within any number of levels
+abbrev pub IsFormAnswered : Type 0
+IsFormAnswered = (order : KeyOrder) (line : List ℕ) (limit : ℕ) → (answer : List ℕ) × IsFormAnswer order line limit answer
+
+-- and no other
+abbrev pub OneFormAnswer : Type 0
+OneFormAnswer =
+    (order : KeyOrder) (line : List ℕ) (limit : ℕ) (a b : List ℕ) → IsFormAnswer order line limit a → IsFormAnswer order line limit b → a ≡ b

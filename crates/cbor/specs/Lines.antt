@@ -1,12 +1,13 @@
--- Lines of the input, and what is written where each is an item, or a sequence.
+-- Lines of the input, and what is written where each is an item, a sequence, or an item that has a form.
 use Rattle.std.specs.Prelude.{◌≡◌, ◌⊎◌, ℕ, ◌<◌, ◌==◌, Bool, List, [], ◌∷◌, ◌++◌, length, codes, Option, Some}
 use Rattle.std.specs.List.{flat_map, list_any}
 use Rattle.std.specs.Io.BufRead.{first_piece, drop_through, strip_last}
 use Rattle.ciborium_value.specs.Tree.{Tree}
 use Rattle.cbor.specs.declared.reading.Reading.{Reading}
-use Rattle.cbor.specs.declared.reading.Reading.TheVariants.{Item, Sequence}
+use Rattle.cbor.specs.declared.reading.Reading.TheVariants.{Item, Sequence, Form}
 use Rattle.cbor.specs.declared.reading.Spelling.{Spelling}
 use Rattle.cbor.specs.Answer.{IsMeant}
+use Rattle.cbor.specs.Forms.{IsFormAnswer, IsFormText}
 use Rattle.cbor.specs.Line.{IsLineAnswer, tree_text}
 use Rattle.cbor.specs.Sequence.{IsSequenceAnswer, IsSequenceOf, sequence_text}
 
@@ -28,11 +29,13 @@ AreMeant spelling b limit rest trees = AreLines (λ line tree. IsMeant spelling 
 abbrev pub IsAnswer : Reading → List ℕ → List ℕ → Type 0
 IsAnswer (Item spelling limit) line text = IsLineAnswer spelling line limit text
 IsAnswer Sequence line text = IsSequenceAnswer line 256 text
+IsAnswer (Form order limit) line text = IsFormAnswer order line limit text
 
--- a line is an item, or a sequence, as it is read, and the text is the answer that says so
+-- a line is an item, a sequence, or an item that has a form, as it is read, and the text is the answer that says so
 abbrev pub IsOkText : Reading → List ℕ → List ℕ → Type 0
 IsOkText (Item spelling limit) line text = (v : Tree) × IsMeant spelling line limit v × (text ≡ tree_text v)
 IsOkText Sequence line text = (trees : List Tree) × IsSequenceOf line 256 trees × (text ≡ sequence_text trees)
+IsOkText (Form order limit) line text = IsFormText order line limit text
 
 -- a text, and a line feed
 abbrev pub text_line : List ℕ → List ℕ
@@ -54,7 +57,7 @@ AreWritten Is b w after = (texts : List (List ℕ)) × AreLines Is b [] texts ×
 abbrev pub AreAnswered : Reading → List ℕ → List ℕ → Option (List ℕ) → Type 0
 AreAnswered reading b w after = AreWritten (MayBeAnswer reading) b w after
 
--- each line of b is an item, or a sequence, as it is read, and the answers that say so are put behind w
+-- each line of b is an item, a sequence, or an item that has a form, as it is read, and the answers that say so are put behind w
 abbrev pub AreOk : Reading → List ℕ → List ℕ → Option (List ℕ) → Type 0
 AreOk reading b w after = AreWritten (IsOkText reading) b w after
 

@@ -5,7 +5,7 @@ use Rattle.ciborium_value.specs.declared.key_order.KeyOrder.{KeyOrder}
 use Rattle.ciborium_value.specs.declared.key_order.KeyOrder.TheVariants.{LengthFirst, Bytewise}
 use Rattle.cbor.specs.declared.run.Command.{Command}
 use Rattle.cbor.specs.declared.run.Command.TheVariants as commands
-use Rattle.cbor.specs.declared.reading.Reading.TheVariants.{Item, Sequence}
+use Rattle.cbor.specs.declared.reading.Reading.TheVariants.{Item, Sequence, Form}
 use Rattle.cbor.specs.declared.reading.Spelling.{Spelling}
 use Rattle.cbor.specs.declared.reading.Spelling.TheVariants.{Any, Deterministic}
 
@@ -44,6 +44,11 @@ abbrev pub AskToRead : List (List ℕ) → Spelling → ℕ → Type 0
 AskToRead [] spelling n = ⊥
 AskToRead (command ∷ options) spelling n = (command ≡ codes "read") × AreOptions options spelling n
 
+-- the words ask for the deterministic encodings of the items of lines, by this order of keys and within so many levels
+abbrev pub AskForCanon : List (List ℕ) → KeyOrder → ℕ → Type 0
+AskForCanon [] order n = ⊥
+AskForCanon (command ∷ options) order n = (command ≡ codes "canon") × NameLimitBehind (order_flags order) options n
+
 -- the words ask for lines to be sorted in this order
 abbrev pub AskToSort : List (List ℕ) → KeyOrder → Type 0
 AskToSort words order = words ≡ codes "sort" ∷ order_flags order
@@ -54,10 +59,13 @@ AskForSequences words = words ≡ codes "seq" ∷ []
 
 -- the words ask for nothing that the program does
 abbrev pub AreWrong : List (List ℕ) → Type 0
-AreWrong words = ((spelling : Spelling) (n : ℕ) → ¬ AskToRead words spelling n) × ((order : KeyOrder) → ¬ AskToSort words order) × ¬ AskForSequences words
+AreWrong words =
+    ((spelling : Spelling) (n : ℕ) → ¬ AskToRead words spelling n) × ((order : KeyOrder) (n : ℕ) → ¬ AskForCanon words order n) ×
+    ((order : KeyOrder) → ¬ AskToSort words order) × ¬ AskForSequences words
 
 -- the words ask for this
 abbrev pub AskFor : List (List ℕ) → Command → Type 0
 AskFor words (commands.Answer (Item spelling n)) = AskToRead words spelling n
 AskFor words (commands.Answer Sequence) = AskForSequences words
+AskFor words (commands.Answer (Form order n)) = AskForCanon words order n
 AskFor words (commands.Sort order) = AskToSort words order

@@ -1,13 +1,16 @@
 //! Lines that are answered, one by one.
 
-ghost use Rattle.std.specs.Prelude.{◌≡◌, ◌++◌, ℕ, IfOk, IsTrue, List, OnOk, Some, false};
+ghost use Rattle.std.specs.Prelude.{◌≡◌, ◌⊎◌, ◌++◌, ℕ, IfOk, IsTrue, List, OnOk, Some, false};
 ghost use Rattle.std.specs.Io.Buffered.{reader_remaining};
 ghost use Rattle.std.specs.Io.KnownBytes.{append_known};
+ghost use Rattle.ciborium_value.specs.View.{tree_of};
+ghost use Rattle.ciborium_value.specs.declared.kind.Kind.TheVariants.{DuplicateKey, TooLarge};
 ghost use Rattle.cbor.specs.Answer.{refused_text, wants_memory};
-ghost use Rattle.cbor.specs.Line.{IsLineAnswer};
+ghost use Rattle.cbor.specs.Forms.{IsFormAnswer, formless_text};
+ghost use Rattle.cbor.specs.Line.{IsLineAnswer, tree_text};
 ghost use Rattle.cbor.specs.Lines.{AreAnswered, AreOk, IsAnswer, IsOkText, MayBeAnswer, text_line};
 ghost use Rattle.cbor.specs.Sequence.{IsSequenceAnswer};
-ghost use Rattle.cbor.specs.declared.reading.Reading.TheVariants.{Item, Sequence};
+ghost use Rattle.cbor.specs.declared.reading.Reading.TheVariants.{Form, Item, Sequence};
 ghost use Rattle.cbor.specs.declared.reading.Spelling.TheVariants.{Any, Deterministic};
 
 use crate::answer::Refusal;
@@ -18,7 +21,7 @@ use crate::lines::{next_line, put_text, send_waiting};
 use crate::reading::{Reading, Spelling};
 use crate::rooms::Rooms;
 use crate::sequences::answer_items;
-use ciborium_value::KeyOrder;
+use ciborium_value::{KeyOrder, Kind, Value};
 use std::alloc::{AllocError, Global};
 use std::io::{BufReader, Read, Write};
 
@@ -90,6 +93,57 @@ pub fn answer_seq(alloc: Global, line: &[u8], rooms: &mut Rooms) -> Result<bool,
     }
 }
 
+/// Answers a line as `answer_line` does, but with the deterministic encoding of its item (RFC 8949,
+/// section 4.2), however the line spells it: bignums are folded, and the pairs of each map, inner
+/// maps first, sorted by their keys in this order. An item that has none is answered `duplicate`,
+/// where two keys of a map have one form, or `toolarge`, where a bignum of at most 16 bytes is
+/// negative and no `i128` holds it. Says whether the line is an item that has one.
+///
+/// # Errors
+///
+/// `AllocError` where memory is refused.
+pub fn answer_canon(
+    alloc: Global,
+    line: &[u8],
+    order: KeyOrder,
+    limit: usize,
+    rooms: &mut Rooms,
+) -> Result<bool, AllocError>
+    ensures answer { OnOk result (IsFormAnswer order line.now limit rooms.new.text.items) }
+    ensures item { IfOk result (λ is_ok. IsTrue is_ok →
+        IsOkText (Form order limit) line.now rooms.new.text.items) }
+{
+    match read_item(alloc, line, Spelling::Any, limit, &mut rooms.bytes) {
+        Ok(mut value) => match value.make_deterministic(order) {
+            Ok(()) => {
+                write_encoding(&value, rooms)?;
+                Ok(true)
+            }
+            Err(kind) => {
+                rooms.text.clear();
+                rooms.text.extend_from_slice(name_want(kind))?;
+                Ok(false)
+            }
+        },
+        Err(refusal) => {
+            write_refusal(refusal, &mut rooms.text)?;
+            Ok(false)
+        }
+    }
+}
+
+// Why a value has no deterministic form, in a word.
+fn name_want(kind: Kind) -> &'static [u8]
+    requires { (kind ≡ DuplicateKey) ⊎ (kind ≡ TooLarge) }
+    ensures { result.now ≡ formless_text kind }
+{
+    match kind {
+        Kind::DuplicateKey => b"duplicate",
+        Kind::TooLarge => b"toolarge",
+        _ => unreachable!(),
+    }
+}
+
 // The answer to a line that is read as one item, and whether it is one.
 fn answer_item(
     alloc: Global,
@@ -104,9 +158,7 @@ fn answer_item(
 {
     match read_item(alloc, line, spelling, limit, &mut rooms.bytes) {
         Ok(value) => {
-            rooms.text.clear();
-            rooms.text.extend_from_slice(b"ok ")?;
-            push_encoding(&value, &mut rooms.bytes, &mut rooms.text)?;
+            write_encoding(&value, rooms)?;
             Ok(true)
         }
         Err(refusal) => {
@@ -114,6 +166,15 @@ fn answer_item(
             Ok(false)
         }
     }
+}
+
+// Makes `rooms.text` the answer that holds the encoding of a value.
+fn write_encoding(value: &Value, rooms: &mut Rooms) -> Result<(), AllocError>
+    ensures { OnOk result (rooms.new.text.items ≡ tree_text (tree_of value.now)) }
+{
+    rooms.text.clear();
+    rooms.text.extend_from_slice(b"ok ")?;
+    push_encoding(value, &mut rooms.bytes, &mut rooms.text)
 }
 
 // Makes `text` that of a refusal; want of memory is none.
@@ -148,6 +209,7 @@ fn answer_reading(
             answer_line_det(alloc, line, order, limit, rooms)
         }
         Reading::Sequence => answer_seq(alloc, line, rooms),
+        Reading::Form(order, limit) => answer_canon(alloc, line, order, limit, rooms),
     }
 }
 

@@ -1,8 +1,8 @@
 //! What holds of the answers to lines, whatever the code: the law is the contract of a function
 //! that does nothing.
 
-ghost use Rattle.cbor.specs.Laws.{IsAnswered, IsSequenceAnswered, ItemIsAnswered, OneAnswer};
-ghost use Rattle.cbor.specs.Laws.{OneSequenceAnswer};
+ghost use Rattle.cbor.specs.Laws.{IsAnswered, IsFormAnswered, IsSequenceAnswered};
+ghost use Rattle.cbor.specs.Laws.{ItemIsAnswered, OneAnswer, OneFormAnswer, OneSequenceAnswer};
 ghost use Rattle.cbor.specs.Laws.{RefusalIsAnswered, RefusedMeansNothing};
 
 use ciborium::laws::deterministic_or_refused;
@@ -26,6 +26,15 @@ pub fn line_answer()
 pub fn sequence_answer()
     ensures answered { IsSequenceAnswered }
     ensures one { OneSequenceAnswer }
+{
+    deterministic_or_refused();
+}
+
+/// Each line has an answer by the deterministic form of its item (RFC 8949, section 4.2), by either
+/// order of keys and within any number of levels, and one answer alone.
+pub fn form_answer()
+    ensures answered { IsFormAnswered }
+    ensures one { OneFormAnswer }
 {
     deterministic_or_refused();
 }

@@ -9,6 +9,9 @@ pub enum Reading {
     Item(Spelling, usize),
     /// As a sequence of items in any spelling (RFC 8742), each within 256 levels.
     Sequence,
+    /// As one item in any spelling, within this many levels, which has a deterministic form, with
+    /// the keys of its maps in this order (RFC 8949, section 4.2).
+    Form(KeyOrder, usize),
 }
 
 /// Which spellings of an item a line may have.

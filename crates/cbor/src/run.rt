@@ -8,10 +8,10 @@ ghost use Rattle.std.specs.Str.Parse.{digits_value};
 ghost use Rattle.ciborium_value.specs.declared.key_order.KeyOrder.{KeyOrder};
 ghost use Rattle.cbor.specs.Lines.{AreAnswered, AreOk};
 ghost use Rattle.cbor.specs.SortedLines.{AreSortedLines};
-ghost use Rattle.cbor.specs.Words.{AreWrong, AskFor, AskForSequences, AskToRead, AskToSort};
-ghost use Rattle.cbor.specs.Words.{IsLimit, NameLimit};
+ghost use Rattle.cbor.specs.Words.{AreWrong, AskFor, AskForCanon, AskForSequences, AskToRead};
+ghost use Rattle.cbor.specs.Words.{AskToSort, IsLimit, NameLimit, NameLimitBehind, order_flags};
 ghost use Rattle.cbor.specs.declared.reading.Reading.{Reading};
-ghost use Rattle.cbor.specs.declared.reading.Reading.TheVariants.{Item, Sequence};
+ghost use Rattle.cbor.specs.declared.reading.Reading.TheVariants.{Form, Item, Sequence};
 ghost use Rattle.cbor.specs.declared.reading.Spelling.{Spelling};
 ghost use Rattle.cbor.specs.declared.run.Command.TheVariants.{Answer, Sort};
 
@@ -36,15 +36,17 @@ enum Command {
 /// levels, and `read LIMIT` within that many; a line whose answer is refused memory is answered
 /// `memory`. `read --det`, and a limit behind it, accept deterministic encodings alone, the keys of
 /// each map in the canonical order (RFC 8949, section 4.2.3: length-first). `seq` answers each line
-/// as a sequence of items (RFC 8742), each within 256 levels. `sort` reads all lines within 256
-/// levels, and then writes the encodings of their items in lower-case hex, a line each, in the
-/// canonical order. At the first line that is no item it only writes `line`, the number of that
-/// line, counted from 1, a colon and the answer to it. `--core`, right behind `--det` or `sort`,
-/// takes the order of the core deterministic encoding in place of the canonical one (section 4.2.1:
-/// bytewise).
+/// as a sequence of items (RFC 8742), each within 256 levels. `canon`, and a limit behind it,
+/// answers each line as `read` does, but with the deterministic encoding of its item, however the
+/// line spells it, the keys of each map in the canonical order; an item that has none is answered
+/// `duplicate` or `toolarge`. `sort` reads all lines within 256 levels, and then writes the
+/// encodings of their items in lower-case hex, a line each, in the canonical order. At the first
+/// line that is no item it only writes `line`, the number of that line, counted from 1, a colon and
+/// the answer to it. `--core`, right behind `--det`, `canon` or `sort`, takes the order of the core
+/// deterministic encoding in place of the canonical one (section 4.2.1: bytewise).
 ///
-/// The status is 0 where every line is an item, or for `seq` a sequence, and 1 where one is not. It
-/// is 2 for any other words: the usage is then written to `errors`, and input and output are left
+/// The status is 0 where every line is an item, for `seq` a sequence, for `canon` an item that has
+/// a deterministic encoding, and 1 where one is not. It is 2 for any other words: the usage is then written to `errors`, and input and output are left
 /// alone. Where the input or the output fails, or memory is refused for a line or for the list to
 /// sort, the run ends with status 1, and `errors` names the first such fault.
 pub fn run<R: Read, W: Write, E: Write>(
@@ -60,6 +62,8 @@ pub fn run<R: Read, W: Write, E: Write>(
     ensures right { (spelling : Spelling) (limit : ℕ) →
         AskToRead (map string_bytes words.now) spelling limit → result ≤ 1 }
     ensures right_to_seq { AskForSequences (map string_bytes words.now) → result ≤ 1 }
+    ensures right_to_canon { (order : KeyOrder) (limit : ℕ) →
+        AskForCanon (map string_bytes words.now) order limit → result ≤ 1 }
     ensures right_to_sort { (order : KeyOrder) →
         AskToSort (map string_bytes words.now) order → result ≤ 1 }
     ensures answered { (spelling : Spelling) (limit : ℕ) (b w : List ℕ) →
@@ -70,6 +74,10 @@ pub fn run<R: Read, W: Write, E: Write>(
         AskForSequences (map string_bytes words.now) → R.remaining input.old ≡ Some b →
         W.contents output.old ≡ Some w → result ≡ 0 →
         AreOk Sequence b w (W.contents output.new) }
+    ensures canonized { (order : KeyOrder) (limit : ℕ) (b w : List ℕ) →
+        AskForCanon (map string_bytes words.now) order limit → R.remaining input.old ≡ Some b →
+        W.contents output.old ≡ Some w → result ≡ 0 →
+        AreOk (Form order limit) b w (W.contents output.new) }
     ensures sorted { (order : KeyOrder) (b w : List ℕ) →
         AskToSort (map string_bytes words.now) order → R.remaining input.old ≡ Some b →
         W.contents output.old ≡ Some w → result ≡ 0 →
@@ -83,7 +91,8 @@ pub fn run<R: Read, W: Write, E: Write>(
         None => {
             report(
                 errors,
-                "usage: cbor read [--det [--core]] [limit] | cbor sort [--core] | cbor seq\n",
+                "usage: cbor read [--det [--core]] [limit] | cbor canon [--core] [limit] \
+                 | cbor sort [--core] | cbor seq\n",
             );
             2
         }
@@ -97,6 +106,7 @@ fn judge_words(words: &[String]) -> Option<Command>
 {
     match words {
         [command, options @ ..] if command.as_str() == "read" => judge_reading(options),
+        [command, options @ ..] if command.as_str() == "canon" => judge_canon(options),
         [command, options @ ..] if command.as_str() == "sort" => judge_sorting(options),
         [command] if command.as_str() == "seq" => Some(Command::Answer(Reading::Sequence)),
         _ => None,
@@ -123,16 +133,34 @@ fn judge_deterministic(options: &[String]) -> Option<Command>
         (AreWrong (codes "read" ∷ (codes "--det" ∷ map string_bytes options.now)))
         (λ command. AskFor (codes "read" ∷ (codes "--det" ∷ map string_bytes options.now)) command) }
 {
-    match options {
+    let (order, limit) = judge_order(options)?;
+    Some(Command::Answer(Reading::Item(Spelling::Deterministic(order), limit)))
+}
+
+// What `canon` and these words behind it ask for, or none where they are wrong.
+fn judge_canon(options: &[String]) -> Option<Command>
+    ensures { MatchOption result (AreWrong (codes "canon" ∷ map string_bytes options.now))
+        (λ command. AskFor (codes "canon" ∷ map string_bytes options.now) command) }
+{
+    let (order, limit) = judge_order(options)?;
+    Some(Command::Answer(Reading::Form(order, limit)))
+}
+
+// The order of keys and the limit that words name.
+fn judge_order(words: &[String]) -> Option<(KeyOrder, usize)>
+    ensures { MatchOption result
+        ((order : KeyOrder) (n : ℕ) →
+        ¬ NameLimitBehind (order_flags order) (map string_bytes words.now) n)
+        (λ named. NameLimitBehind (order_flags named.0) (map string_bytes words.now) named.1) }
+{
+    match words {
         [flag, others @ ..] if flag.as_str() == "--core" => {
             let limit = judge_limit(others)?;
-            let spelling = Spelling::Deterministic(KeyOrder::Bytewise);
-            Some(Command::Answer(Reading::Item(spelling, limit)))
+            Some((KeyOrder::Bytewise, limit))
         }
         _ => {
-            let limit = judge_limit(options)?;
-            let spelling = Spelling::Deterministic(KeyOrder::LengthFirst);
-            Some(Command::Answer(Reading::Item(spelling, limit)))
+            let limit = judge_limit(words)?;
+            Some((KeyOrder::LengthFirst, limit))
         }
     }
 }

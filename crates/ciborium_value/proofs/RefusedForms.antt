@@ -1,8 +1,8 @@
--- Why a tree has no deterministic form, where folding gives it a meaning.
-use Rattle.std.proofs.Common.{◌≡◌, ℕ, List, Option, Some, None, option_map, inl, inr, ◌⊎◌, refl, sym, ap, ◌∙◌}
+-- Why a tree has no deterministic form, and why where folding gives it a meaning.
+use Rattle.std.proofs.Common.{◌≡◌, ℕ, List, Option, Some, None, option_map, inl, inr, ◌⊎◌, refl, sym, ap, ◌∙◌, subst, Result, Ok, Err, IfErr}
 use Rattle.ciborium_value.specs.DeterministicForms.{deterministic_form, deterministic_forms, pair_forms, sorted_pairs, tag_form}
 use Rattle.ciborium_value.specs.Folded.{folded, trees_folded, tree_pairs_folded, tree_folding_bytes}
-use Rattle.ciborium_value.specs.FormLaws.{RefusedByDuplicates}
+use Rattle.ciborium_value.specs.FormLaws.{FormOrRefused, RefusedByDuplicates}
 use Rattle.ciborium_value.specs.Meaning.{bignum_meaning, tag_meaning, trees_more, tree_pairs_more}
 use Rattle.ciborium_value.specs.Taken.{Outcome, gives, refuses, nests, then_take, outcome_map, of_meaning, one_more, one_pair_more}
 use Rattle.ciborium_value.specs.Tree.{Tree, integer, bytes, text, boolean, null, tag, array, map, Trees, no_trees, tree, TreePairs, no_tree_pairs, tree_pair}
@@ -98,3 +98,93 @@ mutual
 
 pub refused_by_duplicates : RefusedByDuplicates
 refused_by_duplicates = refused
+
+-- ---- the two reasons
+
+abbrev IsReason : Kind → Type 0
+IsReason k = (k ≡ kinds.DuplicateKey) ⊎ (k ≡ kinds.TooLarge)
+
+-- a value, or a refusal for one of them
+abbrev HasReason : {A : Type 0} → Outcome A → Type 0
+HasReason (gives v) = Unit {0}
+HasReason (refuses k) = IsReason k
+HasReason nests = ⊥
+
+reason_mapped : {A B : Type 0} (f : A → B) (r : Outcome A) → HasReason r → HasReason (outcome_map f r)
+reason_mapped f (gives v) h = tt
+reason_mapped f (refuses k) h = h
+reason_mapped f nests h = h
+
+reason_meant : (r : Option Tree) → HasReason (of_meaning kinds.TooLarge r)
+reason_meant (Some v) = tt
+reason_meant None = inr refl
+
+reason_more : (r : Outcome Tree) (s : Outcome Trees) → HasReason r → HasReason s → HasReason (one_more r s)
+reason_more (gives v) s h i = reason_mapped (tree v) s i
+reason_more (refuses k) s h i = h
+reason_more nests s h i = h
+
+reason_pair : (q r : Outcome Tree) (s : Outcome TreePairs) → HasReason q → HasReason r → HasReason s → HasReason (one_pair_more q r s)
+reason_pair (gives k) (gives v) s h i j = reason_mapped (tree_pair k v) s j
+reason_pair (gives k) (refuses l) s h i j = i
+reason_pair (gives k) nests s h i j = i
+reason_pair (refuses l) r s h i j = h
+reason_pair nests r s h i j = h
+
+reason_sorted : (o : KeyOrder) (r : Outcome TreePairs) → HasReason r → HasReason (then_take r (sorted_pairs o))
+reason_sorted o (gives qs) h = by (sorted_pairs o qs) (sorted-either o qs)
+  where
+    by : (s : Outcome TreePairs) → IsSortedOrDuplicate s → HasReason s
+    by (gives rs) is = tt
+    by (refuses k) (inl (rs, e)) = absurd cc
+    by (refuses k) (inr e) = let same : k ≡ kinds.DuplicateKey = cc in inl same
+    by nests (inl (rs, e)) = absurd cc
+    by nests (inr e) = absurd cc
+reason_sorted o (refuses k) h = h
+reason_sorted o nests h = h
+
+reason_tag : (t : ℕ) (f : Option (List ℕ)) (r : Outcome Tree) → HasReason r → HasReason (tag_form t f r)
+reason_tag t (Some b) r h = reason_meant (bignum_meaning t b)
+reason_tag t None r h = reason_mapped (tag t) r h
+
+mutual
+  reason : (o : KeyOrder) (v : Tree) → HasReason (deterministic_form o v)
+  reason o (integer z) = tt
+  reason o (bytes b) = tt
+  reason o (text b) = tt
+  reason o (boolean b) = tt
+  reason o null = tt
+  reason o (tag t v) = reason_tag t (tree_folding_bytes t v) (deterministic_form o v) (reason o v)
+  reason o (array vs) = reason_mapped array (deterministic_forms o vs) (reasons o vs)
+  reason o (map ps) = reason_mapped map (then_take (pair_forms o ps) (sorted_pairs o)) (reason_sorted o (pair_forms o ps) (pair_reasons o ps))
+
+  reasons : (o : KeyOrder) (vs : Trees) → HasReason (deterministic_forms o vs)
+  reasons o no_trees = tt
+  reasons o (tree v vs) = reason_more (deterministic_form o v) (deterministic_forms o vs) (reason o v) (reasons o vs)
+
+  pair_reasons : (o : KeyOrder) (ps : TreePairs) → HasReason (pair_forms o ps)
+  pair_reasons o no_tree_pairs = tt
+  pair_reasons o (tree_pair k v ps) =
+      reason_pair (deterministic_form o k) (deterministic_form o v) (pair_forms o ps) (reason o k) (reason o v) (pair_reasons o ps)
+
+pub form_or_refused : FormOrRefused
+form_or_refused o v = by (deterministic_form o v) (reason o v)
+  where
+    by : (r : Outcome Tree) → HasReason r → ((u : Tree) × (r ≡ gives u)) ⊎ ((r ≡ refuses kinds.DuplicateKey) ⊎ (r ≡ refuses kinds.TooLarge))
+    by (gives u) h = inl (u, refl)
+    by (refuses k) (inl e) = inr (inl (ap refuses e))
+    by (refuses k) (inr e) = inr (inr (ap refuses e))
+    by nests h = absurd h
+
+refused_with_reason : (o : KeyOrder) (v : Tree) (k : Kind) → deterministic_form o v ≡ refuses k → IsReason k
+refused_with_reason o v k e = by (deterministic_form o v) (reason o v) e
+  where
+    by : (r : Outcome Tree) → HasReason r → r ≡ refuses k → IsReason k
+    by (gives u) h f = absurd cc
+    by (refuses j) h f = let same : j ≡ k = cc in subst IsReason same h
+    by nests h f = absurd h
+
+-- what a call that makes a form refuses with
+pub refused_with_reasons : {A : Type 0} (o : KeyOrder) (v : Tree) (r : Result A Kind) → IfErr r (λ kind. deterministic_form o v ≡ refuses kind) → IfErr r (λ kind. IsReason kind)
+refused_with_reasons o v (Ok x) h = tt
+refused_with_reasons o v (Err k) h = refused_with_reason o v k h

@@ -1,5 +1,5 @@
 -- What holds of deterministic forms (RFC 8949, section 4.2).
-use Rattle.std.specs.Prelude.{◌≡◌, ◌↔◌, ℕ, ◌+◌, ◌≤◌, length, Some}
+use Rattle.std.specs.Prelude.{◌≡◌, ◌↔◌, ◌⊎◌, ℕ, ◌+◌, ◌≤◌, length, Some}
 use Rattle.ciborium_ll.specs.Bytes.{greatest_offset}
 use Rattle.ciborium_value.specs.Deterministic.{IsDeterministicAt}
 use Rattle.ciborium_value.specs.DeterministicForms.{deterministic_form}
@@ -43,3 +43,9 @@ FormIsProper = (o : KeyOrder) (v u : Tree) → IsProperTree v → deterministic_
 -- a tree that has a meaning is refused a form for equal keys alone
 abbrev pub RefusedByDuplicates : Type 0
 RefusedByDuplicates = (o : KeyOrder) (v u : Tree) (k : Kind) → folded v ≡ Some u → deterministic_form o v ≡ refuses k → k ≡ kinds.DuplicateKey
+
+-- each tree has a form, or none for one of two reasons: two keys of a map have one form, or a bignum of at most 16 bytes is negative and no `i128` holds it
+abbrev pub FormOrRefused : Type 0
+FormOrRefused =
+    (o : KeyOrder) (v : Tree) →
+    ((u : Tree) × (deterministic_form o v ≡ gives u)) ⊎ ((deterministic_form o v ≡ refuses kinds.DuplicateKey) ⊎ (deterministic_form o v ≡ refuses kinds.TooLarge))

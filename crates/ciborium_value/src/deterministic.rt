@@ -1,7 +1,7 @@
 //! Deterministic forms of values (RFC 8949, section 4.2), made where the values stand.
 
-ghost use Rattle.std.specs.Prelude.{◌≡◌, ◌↔◌, ◌≤◌, IfErr, IfOk, IsTrue, List, MatchOption, None};
-ghost use Rattle.std.specs.Prelude.{Some, length, true, ℕ};
+ghost use Rattle.std.specs.Prelude.{◌≡◌, ◌↔◌, ◌≤◌, ◌⊎◌, IfErr, IfOk, IsTrue, List, MatchOption};
+ghost use Rattle.std.specs.Prelude.{None, Some, length, true, ℕ};
 ghost use Rattle.ciborium_value.specs.Deterministic.{AreRising, keys_of};
 ghost use Rattle.ciborium_value.specs.DeterministicForms.{deterministic_form, deterministic_forms};
 ghost use Rattle.ciborium_value.specs.DeterministicForms.{pair_forms, sorted_pairs};
@@ -11,6 +11,7 @@ ghost use Rattle.ciborium_value.specs.SameContents.{AreAlike, IsAlike, PairsAreA
 ghost use Rattle.ciborium_value.specs.Taken.{gives, refuses};
 ghost use Rattle.ciborium_value.specs.Tree as trees;
 ghost use Rattle.ciborium_value.specs.View.{tree_of, tree_pairs_of, trees_of};
+ghost use Rattle.ciborium_value.specs.declared.kind.Kind.TheVariants.{DuplicateKey, TooLarge};
 
 use crate::bignum::{find_folding, fold_number, without_leading_zeros};
 use crate::canonical::cmp_keys;
@@ -37,6 +38,7 @@ impl Value {
             deterministic_form order (tree_of self.old) ≡ gives (tree_of self.new)) }
         ensures refused { IfErr result (λ kind.
             deterministic_form order (tree_of self.old) ≡ refuses kind) }
+        ensures kinds { IfErr result (λ kind. (kind ≡ DuplicateKey) ⊎ (kind ≡ TooLarge)) }
         ensures alike { IsAlike (tree_of self.old) (tree_of self.new) }
     {
         make(self, order)

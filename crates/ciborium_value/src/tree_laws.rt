@@ -5,7 +5,7 @@ ghost use Rattle.ciborium_value.specs.Examples.{CornerExamples, CountedExamples,
 ghost use Rattle.ciborium_value.specs.Examples.{RefusedExamples, SpelledExamples, WrittenExamples};
 ghost use Rattle.ciborium_value.specs.FoldingLaws.{EncodingIsGood, FoldsOnce, WrittenMeansFolded};
 ghost use Rattle.ciborium_value.specs.FormLaws.{AcceptedWhereOwnForm, AlikeHaveOneForm};
-ghost use Rattle.ciborium_value.specs.FormLaws.{RefusedByDuplicates};
+ghost use Rattle.ciborium_value.specs.FormLaws.{FormOrRefused, RefusedByDuplicates};
 ghost use Rattle.ciborium_value.specs.FormLaws.{FormIsAlike, FormIsItsOwn, FormIsProper};
 ghost use Rattle.ciborium_value.specs.FormLaws.{OneFormWhereAlike};
 ghost use Rattle.ciborium_value.specs.Laws.{GoodOrRefused, NeverBoth, OneRefusal};
@@ -87,8 +87,9 @@ pub fn written_reads_back()
 /// where the tree is its own form, nests within the levels that are left, and the encoding ends
 /// within the greatest offset. Trees that are equal but for the order of pairs and for folding have
 /// the same form, if one of them has one, and trees that have the same form are equal but for
-/// these, as a tree is to its form. A program can hold the form if it can hold the tree. A tree whose
-/// bignums have a meaning is refused a form for equal keys alone.
+/// these, as a tree is to its form. A program can hold the form if it can hold the tree. A tree is
+/// refused a form for equal keys or for a bignum that is too large, and for equal keys alone where
+/// its bignums have a meaning.
 pub fn deterministic_forms()
     ensures own { FormIsItsOwn }
     ensures accepted { AcceptedWhereOwnForm }
@@ -97,4 +98,5 @@ pub fn deterministic_forms()
     ensures itself { FormIsAlike }
     ensures proper { FormIsProper }
     ensures refused { RefusedByDuplicates }
+    ensures reasons { FormOrRefused }
 {}

@@ -10,8 +10,14 @@ returns-in-len1-up c =
 
 pub returns-in-len1-up-2 : goal.returns-in-len1-up-2
 returns-in-len1-up-2 c =
-    let is_sort : c.as_str-2.result.now ≡ codes "sort" = search rules in
-    rw (first-word string_bytes c.args.words.now c.command-item-2.result (codes "sort") c.in-len1-up-2.len_at_least c.command-item-2.is (sym c.as_str-2.ensures.value ∙ is_sort))
+    let is_canon : c.as_str-2.result.now ≡ codes "canon" = search rules in
+    rw (first-word string_bytes c.args.words.now c.command-item-2.result (codes "canon") c.in-len1-up-2.len_at_least c.command-item-2.is (sym c.as_str-2.ensures.value ∙ is_canon))
+    c.judge_canon.ensures
+
+pub returns-in-len1-up-3 : goal.returns-in-len1-up-3
+returns-in-len1-up-3 c =
+    let is_sort : c.as_str-3.result.now ≡ codes "sort" = search rules in
+    rw (first-word string_bytes c.args.words.now c.command-item-3.result (codes "sort") c.in-len1-up-3.len_at_least c.command-item-3.is (sym c.as_str-3.ensures.value ∙ is_sort))
     c.judge_sorting.ensures
 
 pub returns-in-len1 : goal.returns-in-len1

@@ -1,6 +1,6 @@
 use Rattle.std.proofs.Common.{map, string_bytes, refl}
-use Rattle.cbor.specs.declared.reading.Reading.TheVariants.{Item, Sequence}
-use Rattle.cbor.proofs.AskedWords.{asks-for-sequences, asks-to-read, asks-to-sort}
+use Rattle.cbor.specs.declared.reading.Reading.TheVariants.{Item, Sequence, Form}
+use Rattle.cbor.proofs.AskedWords.{asks-for-canon, asks-for-sequences, asks-to-read, asks-to-sort}
 use Rattle.cbor.proofs.run.run.Goals as goal
 
 pub returns-in-Some-clause-answered : goal.returns-in-Some-clause-answered
@@ -13,6 +13,12 @@ pub returns-in-Some-clause-sequences : goal.returns-in-Some-clause-sequences
 returns-in-Some-clause-sequences g c b w asked e f zero =
     let same = asks-for-sequences (map string_bytes c.args.words.now) c.in-Some.command c.in-Some.ensures asked in
     let done = rw (c.conclude.ensures.all zero) at c.perform-done.ensures.ok Sequence b w same e f in
+    done refl
+
+pub returns-in-Some-clause-canonized : goal.returns-in-Some-clause-canonized
+returns-in-Some-clause-canonized g c order limit b w asked e f zero =
+    let same = asks-for-canon (map string_bytes c.args.words.now) c.in-Some.command order limit c.in-Some.ensures asked in
+    let done = rw (c.conclude.ensures.all zero) at c.perform-done.ensures.ok (Form order limit) b w same e f in
     done refl
 
 pub returns-in-Some-clause-sorted : goal.returns-in-Some-clause-sorted

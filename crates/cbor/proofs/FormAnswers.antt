@@ -1,0 +1,24 @@
+-- What the text of a line says of the deterministic form of its item.
+use Rattle.std.proofs.Common.{◌≡◌, ◌⊎◌, ℕ, List, false, inl, inr, ap, ◌∙◌}
+use Rattle.ciborium_value.specs.DeterministicForms.{deterministic_form}
+use Rattle.ciborium_value.specs.Taken.{refuses}
+use Rattle.ciborium_value.specs.Tree.{Tree}
+use Rattle.ciborium_value.specs.declared.key_order.KeyOrder.{KeyOrder}
+use Rattle.ciborium_value.specs.declared.kind.Kind.{Kind}
+use Rattle.ciborium_value.specs.declared.kind.Kind.TheVariants.{DuplicateKey, TooLarge}
+use Rattle.cbor.specs.declared.answer.Refusal.{Refusal}
+use Rattle.cbor.specs.declared.reading.Spelling.TheVariants.{Any}
+use Rattle.cbor.specs.Answer.{IsMeant, IsRefused, refused_text, wants_memory}
+use Rattle.cbor.specs.Forms.{IsFormAnswer, duplicate, formless_text, no_item, too_large}
+use Rattle.cbor.proofs.JudgedAnswers.{not-memory}
+
+-- the word for why a tree has no form answers a line that means it
+pub formless-answers : (order : KeyOrder) (line : List ℕ) (limit : ℕ) (v : Tree) (k : Kind) (text : List ℕ) → IsMeant Any line limit v →
+    deterministic_form order v ≡ refuses k → (k ≡ DuplicateKey) ⊎ (k ≡ TooLarge) → text ≡ formless_text k → IsFormAnswer order line limit text
+formless-answers order line limit v k text means none (inl e) same = duplicate v means (none ∙ ap refuses e) (same ∙ ap formless_text e)
+formless-answers order line limit v k text means none (inr e) same = too_large v means (none ∙ ap refuses e) (same ∙ ap formless_text e)
+
+-- the text of what refuses a line answers it
+pub no-item-answers : (order : KeyOrder) (line : List ℕ) (limit : ℕ) (e : Refusal) (text : List ℕ) → IsRefused Any line limit e →
+    (wants_memory e ≡ false) × (text ≡ refused_text e) → IsFormAnswer order line limit text
+no-item-answers order line limit e text h (m, same) = no_item e (not-memory e m) h same

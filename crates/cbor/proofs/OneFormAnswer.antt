@@ -1,0 +1,131 @@
+-- Each line has one answer by the deterministic form of its item.
+use Rattle.std.proofs.Common.{◌≡◌, ◌≢◌, ◌⊎◌, ℕ, ◌<◌, List, [], ◌∷◌, length, inl, inr, Result, Ok, Err, is_err, MatchResult, refl, sym, ap, ◌∙◌, subst, arith, append-nil}
+use Rattle.hex.specs.Hex.{decode_of}
+use Rattle.hex.specs.declared.error.FromHexError.{FromHexError}
+use Rattle.ciborium_ll.specs.Refusal as refusal
+use Rattle.ciborium_value.specs.DeterministicForms.{deterministic_form}
+use Rattle.ciborium_value.specs.Taken.{Outcome, gives, refuses, nests}
+use Rattle.ciborium_value.specs.Tree.{Tree}
+use Rattle.ciborium_value.specs.declared.key_order.KeyOrder.{KeyOrder}
+use Rattle.ciborium_value.specs.declared.kind.Kind.TheVariants as kinds
+use Rattle.ciborium_value.proofs.RefusedForms.{form_or_refused}
+use Rattle.cbor.specs.declared.answer.Reason.{Reason}
+use Rattle.cbor.specs.declared.answer.Reason.TheVariants as reasons
+use Rattle.cbor.specs.declared.answer.Refusal.{Refusal}
+use Rattle.cbor.specs.declared.answer.Refusal.TheVariants.{Hex, Trailing, Io, Syntax, Semantic, Nesting, TooLong, Memory}
+use Rattle.cbor.specs.declared.reading.Spelling.TheVariants.{Any}
+use Rattle.cbor.specs.Answer.{AreRefused, IsMeant, IsRefused, kind_of_reason, refused_text}
+use Rattle.cbor.specs.Forms.{IsFormAnswer, duplicate, formed, formless_text, no_item, too_large}
+use Rattle.cbor.specs.Laws.{IsFormAnswered, OneFormAnswer}
+use Rattle.cbor.specs.Line.{tree_text}
+use Rattle.cbor.specs.Spellings.{IsItem, RefusesItem}
+use Rattle.cbor.proofs.JudgedAnswers.{not-memory}
+use Rattle.cbor.proofs.JudgedLines.{refusal_is_answered, refused-by, refused_means_nothing}
+use Rattle.cbor.proofs.OneLineAnswer.{decoded-bytes, one_answer}
+use Rattle.cbor.proofs.SpelledItems.{DeterministicLaw, HasItem, item-or-refused, one-tree}
+
+-- the text of what a form is, or why there is none; nesting is no answer
+abbrev form_text : Outcome Tree → List ℕ
+form_text (gives u) = tree_text u
+form_text (refuses k) = formless_text k
+form_text nests = []
+
+-- a line means one tree
+one-meant-by : DeterministicLaw → (d : Result (List ℕ) FromHexError) (limit : ℕ) (v w : Tree) → MatchResult d (λ b. IsItem Any b limit v) (λ _. ⊥) →
+    MatchResult d (λ b. IsItem Any b limit w) (λ _. ⊥) → v ≡ w
+one-meant-by law (Ok b) limit v w p q = (one-tree law Any b b [] [] limit v w p q refl).0
+one-meant-by law (Err e) limit v w p q = absurd p
+
+one-meant : DeterministicLaw → (line : List ℕ) (limit : ℕ) (v w : Tree) → IsMeant Any line limit v → IsMeant Any line limit w → v ≡ w
+one-meant law line limit v w p q = one-meant-by law (decode_of line) limit v w p q
+
+-- an answer is the text of a form, or of a refusal
+abbrev IsFormOrRefusal : KeyOrder → List ℕ → ℕ → List ℕ → Type 0
+IsFormOrRefusal order line limit answer =
+    ((v : Tree) × IsMeant Any line limit v × (answer ≡ form_text (deterministic_form order v)))
+    ⊎ ((e : Refusal) × (e ≢ Memory) × IsRefused Any line limit e × (answer ≡ refused_text e))
+
+either : (order : KeyOrder) (line : List ℕ) (limit : ℕ) (answer : List ℕ) → IsFormAnswer order line limit answer → IsFormOrRefusal order line limit answer
+either order line limit answer (formed (v, u, means, form, same)) = inl (v, means, same ∙ ap form_text (sym form))
+either order line limit answer (duplicate v means none same) = inl (v, means, same ∙ ap form_text (sym none))
+either order line limit answer (too_large v means none same) = inl (v, means, same ∙ ap form_text (sym none))
+either order line limit answer (no_item e m h same) = inr (e, m, h, same)
+
+one-of : DeterministicLaw → (order : KeyOrder) (line : List ℕ) (limit : ℕ) (a b : List ℕ) → IsFormOrRefusal order line limit a →
+    IsFormOrRefusal order line limit b → a ≡ b
+one-of law order line limit a b (inl (v, p, e)) (inl (w, q, f)) =
+    e ∙ (ap (λ (t : Tree). form_text (deterministic_form order t)) (one-meant law line limit v w p q) ∙ sym f)
+one-of law order line limit a b (inl (v, p, e)) (inr (r, m, h, f)) = absurd (refused_means_nothing law Any line limit r v m h p)
+one-of law order line limit a b (inr (r, m, h, e)) (inl (v, p, f)) = absurd (refused_means_nothing law Any line limit r v m h p)
+one-of law order line limit a b (inr (r, m, h, e)) (inr (s, n, i, f)) =
+    e ∙ (one_answer law Any line limit (refused_text r) (refused_text s) (refusal_is_answered Any line limit r m h) (refusal_is_answered Any line limit s n i) ∙ sym f)
+
+pub one_form_answer : DeterministicLaw → OneFormAnswer
+one_form_answer law order line limit a b p q = one-of law order line limit a b (either order line limit a p) (either order line limit b q)
+
+-- ---- each line means a tree or is refused
+
+reason-of : (k : refusal.Kind) → (reason : Reason) × (kind_of_reason reason ≡ k)
+reason-of refusal.Float = (reasons.Float, refl)
+reason-of refusal.Simple = (reasons.Simple, refl)
+reason-of refusal.Break = (reasons.Break, refl)
+reason-of refusal.TooLarge = (reasons.TooLarge, refl)
+reason-of refusal.NotShortest = (reasons.NotShortest, refl)
+reason-of refusal.Open = (reasons.Open, refl)
+reason-of refusal.NotFolded = (reasons.NotFolded, refl)
+reason-of refusal.KeyOrder = (reasons.KeyOrder, refl)
+
+-- what refuses some bytes, as the program names it
+named : (b : List ℕ) (limit : ℕ) (e : refusal.Refusal) → RefusesItem Any b limit e → (r : Refusal) × (r ≢ Memory) × AreRefused Any b limit r
+named b limit refusal.io h = (Io, not-memory Io refl, h)
+named b limit (refusal.syntax p) h = (Syntax p, not-memory (Syntax p) refl, h)
+named b limit refusal.too_long h = (TooLong, not-memory TooLong refl, h)
+named b limit (refusal.semantic p k) h =
+    let (reason, same) = reason-of k in
+    (Semantic p reason, not-memory (Semantic p reason) refl, subst (λ (j : refusal.Kind). RefusesItem Any b limit (refusal.semantic p j)) (sym same) h)
+named b limit refusal.recursion_limit_exceeded h = (Nesting, not-memory Nesting refl, h)
+
+-- a line means a tree, or is refused
+abbrev IsMeantOrRefused : List ℕ → ℕ → Type 0
+IsMeantOrRefused line limit = ((v : Tree) × IsMeant Any line limit v) ⊎ ((e : Refusal) × (e ≢ Memory) × IsRefused Any line limit e)
+
+meant-by : (line b : List ℕ) (limit : ℕ) (v : Tree) → decode_of line ≡ Ok b → IsItem Any b limit v → IsMeant Any line limit v
+meant-by line b limit v d item = subst (λ (r : Result (List ℕ) FromHexError). MatchResult r (λ s. IsItem Any s limit v) (λ _. ⊥)) (sym d) item
+
+begun : (line b : List ℕ) (limit : ℕ) → decode_of line ≡ Ok b → HasItem Any b limit → IsMeantOrRefused line limit
+begun line b limit d (v, [], (s, item, e)) =
+    let all : b ≡ s = e ∙ append-nil s in inl (v, meant-by line b limit v d (subst (λ (xs : List ℕ). IsItem Any xs limit v) (sym all) item))
+begun line b limit d (v, (x ∷ left), before) =
+    inr (Trailing (length (x ∷ left)), not-memory (Trailing (length (x ∷ left))) refl, (b, d, (v, x ∷ left, before, omega arith, refl)))
+
+of-bytes : DeterministicLaw → (line b : List ℕ) (limit : ℕ) → decode_of line ≡ Ok b → IsMeantOrRefused line limit
+of-bytes law line b limit d =
+    elim (item-or-refused law Any b limit (decoded-bytes line b d)) [
+      | inl g ↦ begun line b limit d g
+      | inr r ↦ (let (e, m, h) = named b limit r.0 r.1 in inr (e, m, refused-by Any line limit b e d h))
+    ]
+
+meant-or-refused : DeterministicLaw → (line : List ℕ) (limit : ℕ) → IsMeantOrRefused line limit
+meant-or-refused law line limit = by (decode_of line) refl
+  where
+    by : (d : Result (List ℕ) FromHexError) → decode_of line ≡ d → IsMeantOrRefused line limit
+    by (Ok b) d = of-bytes law line b limit d
+    by (Err x) d = inr (Hex, not-memory Hex refl, ap is_err d)
+
+formed-or-not : (order : KeyOrder) (line : List ℕ) (limit : ℕ) (v : Tree) → IsMeant Any line limit v → (answer : List ℕ) × IsFormAnswer order line limit answer
+formed-or-not order line limit v means =
+    elim (form_or_refused order v) [
+      | inl g ↦ (tree_text g.0, formed (v, g.0, means, g.1, refl))
+      | inr r ↦
+          elim r [
+            | inl e ↦ (formless_text kinds.DuplicateKey, duplicate v means e refl)
+            | inr e ↦ (formless_text kinds.TooLarge, too_large v means e refl)
+          ]
+    ]
+
+pub is_form_answered : DeterministicLaw → IsFormAnswered
+is_form_answered law order line limit =
+    elim (meant-or-refused law line limit) [
+      | inl g ↦ formed-or-not order line limit g.0 g.1
+      | inr r ↦ (refused_text r.0, no_item r.0 r.1 r.2 refl)
+    ]

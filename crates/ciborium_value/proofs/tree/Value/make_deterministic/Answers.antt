@@ -1,0 +1,6 @@
+use Rattle.ciborium_value.specs.View.{tree_of}
+use Rattle.ciborium_value.proofs.RefusedForms.{refused_with_reasons}
+use Rattle.ciborium_value.proofs.tree.Value.make_deterministic.Goals as goal
+
+pub returns-clause-kinds : goal.returns-clause-kinds
+returns-clause-kinds c = refused_with_reasons c.args.order (tree_of c.args.self.now) c.make.result c.make.ensures.refused
