@@ -4,10 +4,10 @@ use crate::readme::{read_file, sum_file};
 use ciborium::ll::{Decoder, Encoder, Header};
 use ciborium::tag::Required;
 use ciborium::value::canonical::cmp_value;
-use ciborium::value::{CanonicalValue, Integer, OutOfRange};
+use ciborium::value::{CanonicalValue, Integer, KeyOrder, OutOfRange};
 use ciborium::{
     Value, cbor, from_reader, from_reader_deterministic, from_reader_with_recursion_limit,
-    into_writer,
+    into_writer, into_writer_deterministic,
 };
 use std::cmp::Ordering;
 use std::convert::TryFrom;
@@ -72,6 +72,18 @@ fn comparing(rt: HostRuntime) -> Result<(), Fail> {
 fn comparing_values(_: HostRuntime) -> Result<(), Fail> {
     let order = cmp_value(&Value::from(10u8), &Value::from(-1i8)); // Less: 0a comes before 20
     expect(order == Ordering::Less, "values")
+}
+
+#[test]
+fn writing_deterministically(rt: HostRuntime) -> Result<(), Fail> {
+    let alloc = rt.alloc();
+    let mut writer = Vec::new(alloc);
+    let mut map = cbor!(alloc, {"a" => 1, 1000 => 0})?;
+    let is_own = map.is_deterministic(KeyOrder::LengthFirst); // true: 2 bytes before 3
+    map.make_deterministic(KeyOrder::Bytewise)?; // {1000: 0, "a": 1}, where it stands
+    into_writer_deterministic(alloc, &map, KeyOrder::LengthFirst, &mut writer)?; // a2 61 61 01 ..
+    expect(is_own && map.is_deterministic(KeyOrder::Bytewise), "forms")?;
+    expect_bytes(alloc, Some(writer), "a26161011903e800")
 }
 
 #[test]
