@@ -10,7 +10,7 @@ use Rattle.cbor.specs.declared.reading.Spelling.{Spelling}
 use Rattle.cbor.specs.declared.run.Command.{Command}
 use Rattle.cbor.specs.declared.run.Command.TheVariants as commands
 use Rattle.cbor.specs.declared.reading.Spelling.TheVariants.{Any, Deterministic}
-use Rattle.cbor.specs.Words.{AreOptions, AreWrong, AskFor, AskForCanon, AskForSequences, AskToRead, AskToSort, NameLimit, NameLimitBehind, order_flags, spelling_flags}
+use Rattle.cbor.specs.Words.{AreOptions, AreWrong, AskFor, AskForCanon, AskForSequences, AskToRead, AskToSort, NameLimit, NameLimitBehind, order_flags}
 
 -- the words behind the first
 abbrev pub behind : {S : Type 0} → List S → List S

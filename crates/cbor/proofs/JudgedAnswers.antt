@@ -9,7 +9,7 @@ use Rattle.cbor.specs.declared.answer.Refusal.TheVariants.{Hex, Trailing, Io, Sy
 use Rattle.cbor.specs.declared.reading.Reading.TheVariants.{Item, Sequence}
 use Rattle.cbor.specs.declared.reading.Spelling.{Spelling}
 use Rattle.cbor.specs.declared.reading.Spelling.TheVariants.{Any}
-use Rattle.cbor.specs.Answer.{IsFrontRefused, IsHexRefused, IsMeant, IsRefused, kind_of_reason, refused_text, wants_memory}
+use Rattle.cbor.specs.Answer.{IsFrontRefused, IsHexRefused, IsRefused, kind_of_reason, refused_text, wants_memory}
 use Rattle.cbor.specs.Line.{IsLineAnswer, hex_text}
 use Rattle.cbor.specs.Lines.{IsOkText}
 use Rattle.cbor.specs.Sequence.{AreItemsBefore, AreSequence, HasSequenceAnswer, IsSequenceAnswer, refused, refused_item_text}

@@ -1,5 +1,5 @@
 -- Each line has one answer by the deterministic form of its item.
-use Rattle.std.proofs.Common.{◌≡◌, ◌≢◌, ◌⊎◌, ℕ, ◌<◌, List, [], ◌∷◌, length, inl, inr, Result, Ok, Err, is_err, MatchResult, refl, sym, ap, ◌∙◌, subst, arith, append-nil}
+use Rattle.std.proofs.Common.{◌≡◌, ◌≢◌, ◌⊎◌, ℕ, List, [], ◌∷◌, length, inl, inr, Result, Ok, Err, is_err, MatchResult, refl, sym, ap, ◌∙◌, subst, arith, append-nil}
 use Rattle.hex.specs.Hex.{decode_of}
 use Rattle.hex.specs.declared.error.FromHexError.{FromHexError}
 use Rattle.ciborium_ll.specs.Refusal as refusal

@@ -46,9 +46,10 @@ enum Command {
 /// deterministic encoding in place of the canonical one (section 4.2.1: bytewise).
 ///
 /// The status is 0 where every line is an item, for `seq` a sequence, for `canon` an item that has
-/// a deterministic encoding, and 1 where one is not. It is 2 for any other words: the usage is then written to `errors`, and input and output are left
-/// alone. Where the input or the output fails, or memory is refused for a line or for the list to
-/// sort, the run ends with status 1, and `errors` names the first such fault.
+/// a deterministic encoding, and 1 where one is not. It is 2 for any other words: the usage is then
+/// written to `errors`, and input and output are left alone. Where the input or the output fails,
+/// or memory is refused for a line or for the list to sort, the run ends with status 1, and
+/// `errors` names the first such fault.
 pub fn run<R: Read, W: Write, E: Write>(
     alloc: Global,
     words: &[String],

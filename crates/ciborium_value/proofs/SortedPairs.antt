@@ -1,9 +1,14 @@
 -- Pairs sorted by their keys: in whatever order they were given, and refused where two keys tie.
-use Rattle.std.proofs.Common.{◌≡◌, ◌⊎◌, inl, inr, refl, sym, ap, ◌∙◌, Ordering, Less, Equal, Greater, is_lt, true, false}
-use Rattle.std.specs.Ordering.{ordering_reverse}
-use Rattle.ciborium_value.specs.Canonical.{key_order}
-use Rattle.ciborium_value.specs.Deterministic.{AreRising, keys_of}
+use Rattle.std.proofs.Common.{◌≡◌, ◌⊎◌, inl, inr, refl, sym, ap, ◌∙◌, Ordering, Less, Equal, Greater, is_eq, is_lt, true, false, length}
+use Rattle.std.specs.FinMap.{nat_cmp-IsAntisymmetric, slice_cmp-IsAntisymmetric}
+use Rattle.std.specs.Ordering.{nat_cmp, ordering_reverse, ordering_then}
+use Rattle.std.proofs.lemmas.Cmp.{nat_cmp_total, tied_itself}
+use Rattle.ciborium_value.specs.Canonical.{bytewise_order, key_order}
+use Rattle.ciborium_value.specs.Deterministic.{AreApart, AreRising, keys_of}
 use Rattle.ciborium_value.specs.DeterministicForms.{placed, inserted, sorted_pairs}
+use Rattle.ciborium_value.specs.Encoding.{encoded_size, encoding}
+use Rattle.ciborium_value.specs.Visits.{counted}
+use Rattle.ciborium_value.specs.declared.key_order.KeyOrder.TheVariants.{LengthFirst, Bytewise}
 use Rattle.ciborium_value.specs.Taken.{Outcome, gives, refuses, nests, then_take, outcome_map}
 use Rattle.ciborium_value.specs.Tree.{Tree, TreePairs, no_tree_pairs, tree_pair}
 use Rattle.ciborium_value.specs.declared.key_order.KeyOrder.{KeyOrder}
@@ -216,3 +221,54 @@ tied_refused o ps h flat = by (rising_or_refused o ps h)
     by : AreRising o (keys_of ps) ⊎ (sorted_pairs o ps ≡ refuses kinds.DuplicateKey) → sorted_pairs o ps ≡ refuses kinds.DuplicateKey
     by (inl rises) = absurd (flat rises)
     by (inr refused) = refused
+
+-- ---- neighbours that differ
+
+-- keys that tie have one encoding
+tied_bytewise : (o : KeyOrder) (k l : Tree) → key_order o k l ≡ Equal → bytewise_order k l ≡ Equal
+tied_bytewise LengthFirst k l e = by (nat_cmp (encoded_size k) (encoded_size l)) (bytewise_order k l) e
+  where
+    by : (a b : Ordering) → ordering_then a b ≡ Equal → b ≡ Equal
+    by Less b f = absurd cc
+    by Equal b f = f
+    by Greater b f = absurd cc
+tied_bytewise Bytewise k l e = e
+
+-- and those of one encoding tie
+bytewise_tied : (o : KeyOrder) (k l : Tree) → bytewise_order k l ≡ Equal → key_order o k l ≡ Equal
+bytewise_tied LengthFirst k l e =
+    let same : encoding k ≡ encoding l = slice_cmp-IsAntisymmetric nat_cmp-IsAntisymmetric (encoding k) (encoding l) e in
+    let size : encoded_size k ≡ encoded_size l = ap (λ b. counted (length b)) same in
+    ap (λ b. ordering_then (nat_cmp (encoded_size k) (encoded_size l)) b) e ∙ ap (λ n. ordering_then (nat_cmp n (encoded_size l)) Equal) size
+    ∙ ap (λ a. ordering_then a Equal) (tied_itself nat_cmp_total (encoded_size l))
+bytewise_tied Bytewise k l e = e
+
+eq_where_equal : (a : Ordering) → a ≡ Equal → is_eq a ≡ false → ⊥
+eq_where_equal Less e h = absurd cc
+eq_where_equal Equal e h = absurd cc
+eq_where_equal Greater e h = absurd cc
+
+not_eq : (a : Ordering) → (a ≡ Equal → ⊥) → is_eq a ≡ false
+not_eq Less h = refl
+not_eq Equal h = absurd (h refl)
+not_eq Greater h = refl
+
+-- keys that rise differ
+pub rising_apart : (o : KeyOrder) (ps : TreePairs) → AreRising o (keys_of ps) → AreApart (keys_of ps)
+rising_apart o no_tree_pairs h = tt
+rising_apart o (tree_pair k v no_tree_pairs) h = tt
+rising_apart o (tree_pair k v (tree_pair l w ps)) h = (
+  not_eq (bytewise_order k l) (λ e. let no : Less ≡ Equal = sym h.0 ∙ bytewise_tied o k l e in cc),
+  rising_apart o (tree_pair l w ps) h.1,
+)
+
+-- and keys in order that differ rise
+pub apart_rising : (o : KeyOrder) (ps : TreePairs) → AreInOrder o ps → AreApart (keys_of ps) → AreRising o (keys_of ps)
+apart_rising o no_tree_pairs h d = tt
+apart_rising o (tree_pair k v no_tree_pairs) h d = tt
+apart_rising o (tree_pair k v (tree_pair l w ps)) h d = (by (key_order o k l) refl, apart_rising o (tree_pair l w ps) h.1 d.1)
+  where
+    by : (a : Ordering) → key_order o k l ≡ a → key_order o k l ≡ Less
+    by Less e = e
+    by Equal e = absurd (eq_where_equal (bytewise_order k l) (tied_bytewise o k l e) d.0)
+    by Greater e = absurd (let no : true ≡ false = sym (ap is_lt (less_where_greater o k l e)) ∙ h.0 in cc)

@@ -1,8 +1,9 @@
 -- The one spelling that a deterministic reader accepts for a tree, by an order of keys (RFC 8949, sections 4.1 and 4.2; length-first: section 4.2.3, bytewise: section 4.2.1).
-use Rattle.std.specs.Prelude.{◌≡◌, ℕ, ◌+◌, ◌≤◌, List, [], ◌∷◌, length, Some}
+use Rattle.std.specs.Prelude.{◌≡◌, ℕ, ◌+◌, ◌≤◌, List, [], ◌∷◌, length, Some, false}
+use Rattle.std.specs.Ordering.{is_eq}
 use Rattle.std.specs.declared.cmp.Ordering.TheVariants.{Less}
 use Rattle.ciborium_ll.specs.Bytes.{greatest_offset}
-use Rattle.ciborium_value.specs.Canonical.{key_order}
+use Rattle.ciborium_value.specs.Canonical.{bytewise_order, key_order}
 use Rattle.ciborium_value.specs.Encoding.{encoding, item_of}
 use Rattle.ciborium_value.specs.Folded.{folded}
 use Rattle.ciborium_value.specs.Nesting.{nesting}
@@ -15,6 +16,12 @@ abbrev pub AreRising : KeyOrder → List Tree → Type 0
 AreRising o [] = Unit {0}
 AreRising o (k ∷ []) = Unit {0}
 AreRising o (k ∷ (j ∷ ks)) = (key_order o k j ≡ Less) × AreRising o (j ∷ ks)
+
+-- no two in a row have one encoding
+abbrev pub AreApart : List Tree → Type 0
+AreApart [] = Unit {0}
+AreApart (k ∷ []) = Unit {0}
+AreApart (k ∷ (j ∷ ks)) = (is_eq (bytewise_order k j) ≡ false) × AreApart (j ∷ ks)
 
 -- the keys of pairs
 abbrev pub keys_of : TreePairs → List Tree

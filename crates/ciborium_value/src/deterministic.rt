@@ -2,7 +2,7 @@
 
 ghost use Rattle.std.specs.Prelude.{◌≡◌, ◌↔◌, ◌≤◌, ◌⊎◌, IfErr, IfOk, IsTrue, List, MatchOption};
 ghost use Rattle.std.specs.Prelude.{None, Some, length, true, ℕ};
-ghost use Rattle.ciborium_value.specs.Deterministic.{AreRising, keys_of};
+ghost use Rattle.ciborium_value.specs.Deterministic.{AreApart, AreRising, keys_of};
 ghost use Rattle.ciborium_value.specs.DeterministicForms.{deterministic_form, deterministic_forms};
 ghost use Rattle.ciborium_value.specs.DeterministicForms.{pair_forms, sorted_pairs};
 ghost use Rattle.ciborium_value.specs.Meaning.{bignum_meaning, is_bignum_tag, without_zeros};
@@ -14,7 +14,7 @@ ghost use Rattle.ciborium_value.specs.View.{tree_of, tree_pairs_of, trees_of};
 ghost use Rattle.ciborium_value.specs.declared.kind.Kind.TheVariants.{DuplicateKey, TooLarge};
 
 use crate::bignum::{find_folding, fold_number, without_leading_zeros};
-use crate::canonical::cmp_keys;
+use crate::canonical::{cmp_bytewise, cmp_keys};
 use crate::key_order::KeyOrder;
 use crate::kind::Kind;
 use crate::tree::Value;
@@ -127,11 +127,27 @@ fn sort_pairs(pairs: &mut Vec<(Value, Value)>, order: KeyOrder) -> Result<(), Ki
     ensures alike { PairsAreAlike (tree_pairs_of pairs.old.items) (tree_pairs_of pairs.new.items) }
 {
     pairs.sort_unstable_by(|left, right| cmp_keys(order, &left.0, &right.0));
-    if keys_rise(pairs, order) {
+    if keys_differ(pairs) {
         Ok(())
     } else {
         Err(Kind::DuplicateKey)
     }
+}
+
+// Whether each key differs from the one before it. That costs less than to compare their sizes.
+fn keys_differ(pairs: &[(Value, Value)]) -> bool
+    ensures { IsTrue result ↔ AreApart (keys_of (tree_pairs_of pairs.now)) }
+{
+    let mut rest = pairs;
+    while let [first, behind @ ..] = rest {
+        if let [second, ..] = behind
+            && cmp_bytewise(&first.0, &second.0).is_eq()
+        {
+            return false;
+        }
+        rest = behind;
+    }
+    true
 }
 
 // Takes the leading zeros from a byte string.

@@ -1,5 +1,5 @@
-// The three answers to a line, where memory is ample.
-use super::{answer_line, answer_line_det, answer_seq};
+// The four answers to a line, where memory is ample.
+use super::{answer_canon, answer_line, answer_line_det, answer_seq};
 use crate::rooms::Rooms;
 use ciborium_value::KeyOrder;
 use std::process::Abort;
@@ -81,6 +81,55 @@ fn answers_deterministic_lines(rt: HostRuntime) -> Result<(), Fail> {
     let mut rooms = Rooms::new(rt.alloc());
     for &(line, order, limit, expected) in DETERMINISTIC {
         let is_ok = answer_line_det(rt.alloc(), line.as_bytes(), order, limit, &mut rooms)?;
+        expect_answer(&rt, is_ok, &rooms, expected, line);
+    }
+    Ok(())
+}
+
+// A line, the order of keys, a limit, and the answer.
+const FORMS: &[(&str, KeyOrder, usize, (bool, &str))] = &[
+    (
+        "a21903e800616101",
+        KeyOrder::LengthFirst,
+        1,
+        (true, "ok a26161011903e800"),
+    ),
+    (
+        "a26161011903e800",
+        KeyOrder::Bytewise,
+        1,
+        (true, "ok a21903e800616101"),
+    ),
+    // The inner maps come first: by them the outer keys are told apart.
+    (
+        "a2a20200010000a20100000000",
+        KeyOrder::LengthFirst,
+        256,
+        (true, "ok a2a20000010000a20100020000"),
+    ),
+    ("bfff", KeyOrder::Bytewise, 1, (true, "ok a0")),
+    (
+        "a2c24101000101",
+        KeyOrder::Bytewise,
+        256,
+        (false, "duplicate"),
+    ),
+    (
+        "c35f5080000000000000000000000000000000ff",
+        KeyOrder::LengthFirst,
+        256,
+        (false, "toolarge"),
+    ),
+    ("8180", KeyOrder::LengthFirst, 1, (false, "nesting")),
+    ("0001", KeyOrder::Bytewise, 256, (false, "trailing 1")),
+    ("zz", KeyOrder::LengthFirst, 256, (false, "hex")),
+];
+
+#[test]
+fn answers_with_deterministic_encodings(rt: HostRuntime) -> Result<(), Fail> {
+    let mut rooms = Rooms::new(rt.alloc());
+    for &(line, order, limit, expected) in FORMS {
+        let is_ok = answer_canon(rt.alloc(), line.as_bytes(), order, limit, &mut rooms)?;
         expect_answer(&rt, is_ok, &rooms, expected, line);
     }
     Ok(())

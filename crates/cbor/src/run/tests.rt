@@ -72,6 +72,57 @@ const RUNS: &[(&[&str], &str, &str, u8)] = &[
         1,
     ),
     (
+        &["canon"],
+        "a21903e800616101\na26161011903e800\na2a20200010000a20100000000\n1800\na0\nf7\n",
+        "ok a26161011903e800\nok a26161011903e800\nok a2a20000010000a20100020000\nok 00\nok a0\n\
+         ok f6\n",
+        0,
+    ),
+    (
+        &["canon", "--core"],
+        "a21903e800616101\na26161011903e800\na2a20200010000a20100000000\n1800\na0\nf7\n",
+        "ok a21903e800616101\nok a21903e800616101\nok a2a20000010000a20100020000\nok 00\nok a0\n\
+         ok f6\n",
+        0,
+    ),
+    // Open forms become definite, and bignums fold.
+    (
+        &["canon"],
+        "bf02000100ff\n9f01bf6162006161f7ffff\n7f6161ff\nC24200ff\r\nc25fff\n",
+        "ok a201000200\nok 8201a26161f6616200\nok 6161\nok 18ff\nok 00\n",
+        0,
+    ),
+    // Keys that have one form are duplicates in one map alone.
+    (
+        &["canon"],
+        "a2c24101000101\na101a10100\na20100180100\na18000\n82a10100a10100\n",
+        "duplicate\nok a101a10100\nduplicate\nok a18000\nok 82a10100a10100\n",
+        1,
+    ),
+    (&["canon", "--core"], "a2c24101000101\n", "duplicate\n", 1),
+    // A bignum in an open byte string is read as it stands, and only its form is refused.
+    (
+        &["canon", "--core"],
+        "c35f5080000000000000000000000000000000ff\nc35080000000000000000000000000000000\n",
+        "toolarge\nsemantic 0 toolarge\n",
+        1,
+    ),
+    (
+        &["canon"],
+        "zz\n0102\n18\n\n1e\nf93c00\n5bffffffffffffffff\n01",
+        "hex\ntrailing 1\nio\nio\nsyntax 0\nsemantic 0 float\ntoolong\nok 01\n",
+        1,
+    ),
+    (
+        &["canon", "1"],
+        "8180\na202000100",
+        "nesting\nok a201000200\n",
+        1,
+    ),
+    (&["canon", "--core", "002"], "9f80ff", "ok 8180\n", 0),
+    (&["canon", "--core", "0"], "80", "nesting\n", 1),
+    (&["canon"], "", "", 0),
+    (
         &["seq"],
         "01026161\n\nf71801\n",
         "ok 01 02 6161\nok\nok f6 01\n",
@@ -177,9 +228,11 @@ fn answers_a_line_longer_than_its_buffer(rt: HostRuntime) -> Result<(), Fail> {
 }
 
 // A command, so many arrays, one in the other, how what is written for them begins, and the status.
-const NESTED: [(&str, usize, &str, u8); 6] = [
+const NESTED: [(&str, usize, &str, u8); 8] = [
     ("read", 256, "ok 8181", 0),
     ("read", 257, "nesting\n", 1),
+    ("canon", 256, "ok 8181", 0),
+    ("canon", 257, "nesting\n", 1),
     ("seq", 256, "ok 8181", 0),
     ("seq", 257, "item 1: nesting\n", 1),
     ("sort", 256, "8181", 0),
@@ -201,10 +254,28 @@ fn allows_256_levels(rt: HostRuntime) -> Result<(), Fail> {
     Ok(())
 }
 
+// A map inside 255 arrays is the last level, and its keys are sorted.
+#[test]
+fn sorts_the_innermost_map(rt: HostRuntime) -> Result<(), Fail> {
+    for options in [&["canon"][..], &["canon", "--core"]] {
+        let mut line = String::new(rt.alloc());
+        let mut answer = String::from_str(rt.alloc(), "ok ")?;
+        for _ in 0..255 {
+            line.push_str("81")?;
+            answer.push_str("81")?;
+        }
+        line.push_str("a202000100")?;
+        answer.push_str("a201000200\n")?;
+        let ended = run_on_text(rt.alloc(), options, line.as_str())?;
+        expect_end(&rt, &ended, 0, answer.as_bytes(), "", "255 arrays");
+    }
+    Ok(())
+}
+
 // Each line is answered before the device of the input is asked for the next one.
 #[test]
 fn answers_before_it_asks(rt: HostRuntime) -> Result<(), Fail> {
-    for command in ["read", "seq"] {
+    for command in ["read", "seq", "canon"] {
         let words = vec![in rt.alloc(); String::from_str(rt.alloc(), command)?]?;
         let answered = Cell::new(0);
         let mut input = Asker::new(&["1800\n", "zz\n", "6161\n"], &answered);
@@ -243,6 +314,20 @@ const WRONG_WORDS: &[&[&str]] = &[
     &["read", "--det", "--core", "--core"],
     &["read", "--det", "1", "--core"],
     &["read", "--det", "--CORE"],
+    &["canon", "--core", "--core"],
+    &["canon", "x"],
+    &["canon", "5", "6"],
+    &["canon", "--core", "5", "6"],
+    &["canon", "--core", "x"],
+    &["canon", "5", "--core"],
+    &["canon", "--det"],
+    &["canon", "--det", "--core"],
+    &["canon", ""],
+    &["canon", "--core", ""],
+    &["CANON"],
+    &["canon "],
+    &["canon", "18446744073709551616"],
+    &["read", "canon"],
     &["sort", "--core", "5"],
     &["sort", "5", "--core"],
     &["sort", "--core", "--core"],
@@ -269,7 +354,8 @@ fn refuses_wrong_words(rt: HostRuntime) -> Result<(), Fail> {
         let mut source = Source::new(b"00\n", 1, None);
         let device = Device::new(rt.alloc(), usize::MAX, false);
         let ended = run_on(rt.alloc(), words, &mut source, device)?;
-        let usage = "usage: cbor read [--det [--core]] [limit] | cbor sort [--core] | cbor seq\n";
+        let usage = "usage: cbor read [--det [--core]] [limit] | cbor canon [--core] [limit] \
+                     | cbor sort [--core] | cbor seq\n";
         expect_end(&rt, &ended, 2, b"", usage, "wrong words");
         assert_eq!(rt; source.reads(), 0);
     }
@@ -277,8 +363,9 @@ fn refuses_wrong_words(rt: HostRuntime) -> Result<(), Fail> {
 }
 
 // A command, what it reads before its input fails, and what it then has written.
-const CUT_SHORT: [(&str, &str, &str); 6] = [
+const CUT_SHORT: [(&str, &str, &str); 7] = [
     ("read", "01\n1e", "ok 01\n"),
+    ("canon", "a202000100\n1e", "ok a201000200\n"),
     ("read", "1800\n6161\n18", "ok 00\nok 6161\n"),
     ("seq", "1800\n0102\n18", "ok 00\nok 01 02\n"),
     ("sort", "", ""),
@@ -306,7 +393,13 @@ fn tells_a_fault_of_the_input(rt: HostRuntime) -> Result<(), Fail> {
 }
 
 // A command, what it reads, what it would write, and the room for that; the last flush fails.
-const NO_ROOM: [(&str, &str, &str, [usize; 4]); 4] = [
+const NO_ROOM: [(&str, &str, &str, [usize; 4]); 5] = [
+    (
+        "canon",
+        "1800\na202000100\n",
+        "ok 00\nok a201000200\n",
+        [0, 6, 8, 20],
+    ),
     ("read", "1800\n6161\n", "ok 00\nok 6161\n", [0, 6, 8, 20]),
     ("seq", "1800\n0102\n", "ok 00\nok 01 02\n", [0, 6, 8, 20]),
     ("sort", "6161\n1800\n", "00\n6161\n", [0, 2, 6, 20]),
