@@ -3,8 +3,10 @@
 `faults`.
 
     python3 line_maker.py SEED COUNT
+    python3 line_maker.py SEED COUNT forms
 
-prints COUNT lines, the same ones for the same SEED.
+prints COUNT lines, the same ones for the same SEED; with `forms`, lines of deterministic forms and of both orders of
+keys alone.
 """
 
 import sys
@@ -96,6 +98,24 @@ class LineMaker(typed_lines.Maker):
                 items.append(spelling.hex())
         return " ".join(items)
 
+    def mapping(self, depth):
+        """A map of many keys, some of which are equal, or equal once the maps in them are in order."""
+        keys = [self.item(self.below(3)) for _ in range(self.pick((1, 2, 3, 4, 6, 9)))]
+        if depth > 0:
+            keys += [self.mapping(depth - 1) for _ in range(self.below(3))]
+        if self.chance(0.15):
+            keys.append(self.pick(keys))
+        return self.map([(key, self.mapping(depth - 1) if depth > 0 and self.chance(0.4) else self.small()) for key in keys])
+
+    def form_line(self):
+        self.oddness = self.pick((0, 0.1, 0.3))
+        self.length = self.pick((0, 0, 0, 0.1))
+        form = self.random.random()
+        if form < 0.2:
+            return "sort-core %s" % self.sorted_items()
+        item = self.mapping(self.below(3)) if form < 0.8 else self.item(self.below(5))
+        return "%s %s" % (self.pick(("form", "form-core")), item.hex())
+
     def line(self):
         self.oddness = self.pick((0, 0.1, 0.3, 0.6))
         self.length = self.pick((0, 0, 0, 0, 0.1))
@@ -119,12 +139,14 @@ class LineMaker(typed_lines.Maker):
 
 
 def main(words):
-    if len(words) != 2 or not all(word.isascii() and word.isdigit() for word in words):
-        print("usage: line_maker.py SEED COUNT", file=sys.stderr)
+    are_forms = words[2:] == ["forms"]
+    numbers = words[:2] if are_forms else words
+    if len(numbers) != 2 or not all(word.isascii() and word.isdigit() for word in numbers):
+        print("usage: line_maker.py SEED COUNT [forms]", file=sys.stderr)
         return 2
-    maker = LineMaker(int(words[0]))
-    for _ in range(int(words[1])):
-        sys.stdout.write(maker.line() + "\n")
+    maker = LineMaker(int(numbers[0]))
+    for _ in range(int(numbers[1])):
+        sys.stdout.write((maker.form_line() if are_forms else maker.line()) + "\n")
     return 0
 
 

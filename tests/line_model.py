@@ -26,7 +26,7 @@ LONGEST_FOLDED = 8
 PIECE = re.compile(r"(?:([0-9]+)\*)?((?:[0-9a-fA-F]{2})*)\Z")
 NUMBER = re.compile(r"[0-9]+\Z")
 SIGNED = re.compile(r"[+-]?[0-9]+\Z")
-CALLS = "no-memory read-value clone from-text serialized deserialized read-map macro".split()
+CALLS = "no-memory read-value clone from-text serialized deserialized read-map macro write-form".split()
 
 
 class Unanswered(Exception):
@@ -304,17 +304,73 @@ def not_answered(rest):
     raise Unanswered
 
 
-# --- Order (section 4.2.3) -----------------------------------------------------------------------------------------
+# --- Orders and deterministic forms (sections 4.2.1 and 4.2.3) ------------------------------------------------------
 
 
-def answer_sort(rest):
-    encodings = []
-    for word in rest.split(" "):
-        tree = model.read_tree(parse_pieces(word))[0]
-        if tree is None:
-            raise Unknown
-        encodings.append(model.encode(tree))
-    return " ".join(encoding.hex() for encoding in sorted(encodings, key=model.canonical_rank))
+class NoForm(Exception):
+    """A tree has no deterministic form, for this reason."""
+
+
+def bytewise_rank(encoding):
+    """What orders encodings bytewise: the bytes (section 4.2.1)."""
+    return encoding
+
+
+def parse_tree(text):
+    tree = model.read_tree(parse_pieces(text))[0]
+    if tree is None:
+        raise Unknown
+    return tree
+
+
+def sorting(rank):
+    def answer_sort(rest):
+        encodings = [model.encode(parse_tree(word)) for word in rest.split(" ")]
+        return " ".join(encoding.hex() for encoding in sorted(encodings, key=rank))
+
+    return answer_sort
+
+
+def is_folding(tree):
+    return tree[1] in (model.POSITIVE_BIGNUM, model.NEGATIVE_BIGNUM) and tree[2][0] == "bytes" and len(tree[2][1]) <= model.MOST_SIGNIFICANT_BYTES
+
+
+def encode_form(tree, rank):
+    """The encoding of a tree with its bignums folded and the pairs of each map in this order of its keys."""
+    if tree[0] == "tag":
+        if is_folding(tree):
+            folded = model.fold_bignum(tree[1], tree[2][1])
+            if folded is None:
+                raise NoForm("toolarge")
+            return model.encode(folded)
+        return model.shortest_head(model.TAG, tree[1]) + encode_form(tree[2], rank)
+    if tree[0] == "array":
+        return model.shortest_head(model.ARRAY, len(tree[1])) + b"".join(encode_form(item, rank) for item in tree[1])
+    if tree[0] == "map":
+        forms = [(encode_form(key, rank), encode_form(content, rank)) for key, content in tree[1]]
+        pairs = dict(forms)
+        if len(pairs) < len(forms):
+            raise NoForm("duplicatekey")
+        head = model.shortest_head(model.MAP, len(pairs))
+        return head + b"".join(key + pairs[key] for key in sorted(pairs, key=rank))
+    return model.encode(tree)
+
+
+def forming(rank):
+    def answer_form(rest):
+        tree = parse_tree(rest)
+        try:
+            return encode_form(tree, rank).hex()
+        except NoForm as reason:
+            return "value %s" % reason
+
+    return answer_form
+
+
+def answer_falling(rest):
+    if not NUMBER.match(rest):
+        raise Unknown
+    return "rises"
 
 
 # --- Trees that are written out -------------------------------------------------------------------------------------
@@ -503,8 +559,14 @@ FORMS = {
     "next-on": answer_next_on,
     "next-faults": answer_next_faults,
     "next-rows": answer_next_rows,
-    "sort": answer_sort,
+    "sort": sorting(model.canonical_rank),
+    "sort-core": sorting(bytewise_rank),
     "visits": not_answered,
+    "visits-core": not_answered,
+    "form": forming(model.canonical_rank),
+    "form-core": forming(bytewise_rank),
+    "falling": answer_falling,
+    "falling-core": answer_falling,
     "literal": answer_literal,
     "head": at_offset(heads.answer_head),
     "heads": at_offset(heads.answer_heads),

@@ -6,6 +6,7 @@ use Rattle.std.specs.Io.BufRead.{drop_through}
 use Rattle.std.specs.Io.KnownBytes.{Keeps}
 use Rattle.ciborium_value.specs.Tree.{Tree}
 use Rattle.ciborium_value.specs.View.{tree_of}
+use Rattle.ciborium_value.specs.declared.key_order.KeyOrder.{KeyOrder}
 use Rattle.ciborium_value.specs.declared.tree.Value.{Value}
 use Rattle.cbor.specs.declared.reading.Spelling.TheVariants.{Any}
 use Rattle.cbor.specs.Answer.{IsMeant}
@@ -46,5 +47,6 @@ all-read b limit left next trees line more (rest, e, a) read m =
     subst (λ (r : List ℕ). AreMeant Any b limit r trees) h a
 
 -- what a flush keeps
-pub sorted-still : (b : List ℕ) (limit : ℕ) (w : List ℕ) (held now : Option (List ℕ)) → Keeps held now → AreSortedLines b limit w held → AreSortedLines b limit w now
-sorted-still b limit w held now k (came, sorted, meant, moved, up, e) = (came, sorted, meant, moved, up, still held now (w ++ flat_map hex_line sorted) k e)
+pub sorted-still : (order : KeyOrder) (b : List ℕ) (limit : ℕ) (w : List ℕ) (held now : Option (List ℕ)) → Keeps held now → AreSortedLines order b limit w held →
+    AreSortedLines order b limit w now
+sorted-still order b limit w held now k (came, sorted, meant, moved, up, e) = (came, sorted, meant, moved, up, still held now (w ++ flat_map hex_line sorted) k e)

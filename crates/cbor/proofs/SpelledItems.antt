@@ -7,7 +7,6 @@ use Rattle.ciborium_ll.proofs.UniqueSpelling.{one_at_front}
 use Rattle.ciborium_value.specs.Meaning.{meaning}
 use Rattle.ciborium_value.specs.Tree.{Tree}
 use Rattle.ciborium_value.proofs.Outcome as any
-use Rattle.ciborium_value.specs.declared.key_order.KeyOrder.TheVariants.{LengthFirst}
 use Rattle.ciborium.specs.DeterministicLaws.{DeterministicOrRefused, NeverBothDeterministically, OneDeterministicRefusal, OneDeterministicTree}
 use Rattle.cbor.specs.declared.reading.Spelling.{Spelling}
 use Rattle.cbor.specs.declared.reading.Spelling.TheVariants.{Any, Deterministic}
@@ -39,8 +38,8 @@ item-or-refused law Any b limit h =
       | inl g ↦ (let v = some-tree (meaning g.1) g.3.1 in inl (v.0, g.2, (g.0, (g.1, g.3, v.1), g.4)))
       | inr r ↦ inr r
     ]
-item-or-refused law Deterministic b limit h =
-    elim (law.one_of LengthFirst b 0 limit h) [
+item-or-refused law (Deterministic order) b limit h =
+    elim (law.one_of order b 0 limit h) [
       | inl g ↦ inl (g.1, g.2, (g.0, g.3, g.4))
       | inr r ↦ inr r
     ]
@@ -48,15 +47,15 @@ item-or-refused law Deterministic b limit h =
 pub not-both : DeterministicLaw → (spelling : Spelling) (b : List ℕ) (limit : ℕ) (e : Refusal) → AreBytes b → HasItem spelling b limit →
     RefusesItem spelling b limit e → ⊥
 not-both law Any b limit e h (v, left, (s, (i, g, m), split)) r = any.never_both b 0 (Some limit) e h (s, i, left, g, split) r
-not-both law Deterministic b limit e h (v, left, (s, d, split)) r = law.never_both LengthFirst b 0 limit e h (s, v, left, d, split) r
+not-both law (Deterministic order) b limit e h (v, left, (s, d, split)) r = law.never_both order b 0 limit e h (s, v, left, d, split) r
 
 pub one-refusal : DeterministicLaw → (spelling : Spelling) (b : List ℕ) (limit : ℕ) (e f : Refusal) → AreBytes b → RefusesItem spelling b limit e →
     RefusesItem spelling b limit f → e ≡ f
 one-refusal law Any b limit e f h p q = any.one_refusal b 0 (Some limit) e f h p q
-one-refusal law Deterministic b limit e f h p q = law.one_refusal LengthFirst b 0 limit e f h p q
+one-refusal law (Deterministic order) b limit e f h p q = law.one_refusal order b 0 limit e f h p q
 
 pub one-tree : DeterministicLaw → (spelling : Spelling) (s t x y : List ℕ) (limit : ℕ) (v w : Tree) → IsItem spelling s limit v → IsItem spelling t limit w →
     s ++ x ≡ t ++ y → (v ≡ w) × (x ≡ y)
 one-tree law Any s t x y limit v w (i, g, m) (j, h, n) e =
     let same = one_at_front s t x y i j g.0 h.0 e in (same-tree i j v w same.2 m n, same.1)
-one-tree law Deterministic s t x y limit v w p q e = law.one_tree LengthFirst s t x y 0 limit v w p q e
+one-tree law (Deterministic order) s t x y limit v w p q e = law.one_tree order s t x y 0 limit v w p q e

@@ -4,6 +4,7 @@ use Rattle.std.specs.List.{flat_map}
 use Rattle.hex.specs.Hex.{encode_lower}
 use Rattle.ciborium_value.specs.Encoding.{encoding}
 use Rattle.ciborium_value.specs.Tree.{Tree}
+use Rattle.ciborium_value.specs.declared.key_order.KeyOrder.{KeyOrder}
 use Rattle.cbor.specs.declared.reading.Spelling.TheVariants.{Any}
 use Rattle.cbor.specs.Lines.{AreMeant}
 use Rattle.cbor.specs.Sorted.{AreSorted}
@@ -12,7 +13,7 @@ use Rattle.cbor.specs.Sorted.{AreSorted}
 abbrev pub hex_line : Tree → List ℕ
 hex_line v = encode_lower (encoding v) ++ (10 ∷ [])
 
--- each line of b is an item; what they mean is put behind w in the canonical order, each tree as often as it came
-abbrev pub AreSortedLines : List ℕ → ℕ → List ℕ → Option (List ℕ) → Type 0
-AreSortedLines b limit w after = (came : List Tree) × (sorted : List Tree) × AreMeant Any b limit [] came × IsPermutation came sorted × AreSorted sorted ×
+-- each line of b is an item; what they mean is put behind w in this order, each tree as often as it came
+abbrev pub AreSortedLines : KeyOrder → List ℕ → ℕ → List ℕ → Option (List ℕ) → Type 0
+AreSortedLines order b limit w after = (came : List Tree) × (sorted : List Tree) × AreMeant Any b limit [] came × IsPermutation came sorted × AreSorted order sorted ×
     (after ≡ Some (w ++ flat_map hex_line sorted))

@@ -46,7 +46,7 @@ pub enum Reason {
     Open,
     /// It is a bignum that is to be a shorter one, or a plain number.
     NotFolded,
-    /// It is a key that does not follow the key before it in the canonical order.
+    /// It is a key that does not follow the key before it in the order that is asked for.
     KeyOrder,
 }
 

@@ -18,6 +18,7 @@ use crate::lines::{next_line, put_text, send_waiting};
 use crate::reading::{Reading, Spelling};
 use crate::rooms::Rooms;
 use crate::sequences::answer_items;
+use ciborium_value::KeyOrder;
 use std::alloc::{AllocError, Global};
 use std::io::{BufReader, Read, Write};
 
@@ -44,8 +45,8 @@ pub fn answer_line(
 }
 
 /// Answers a line as `answer_line` does, but an item is its deterministic encoding alone (RFC 8949,
-/// section 4.2): of other bytes `semantic` names, beside the words of `answer_line`, `open`,
-/// `notshortest`, `notfolded` or `keyorder`.
+/// section 4.2), whose maps have their keys in this order: of other bytes `semantic` names, beside
+/// the words of `answer_line`, `open`, `notshortest`, `notfolded` or `keyorder`.
 ///
 /// # Errors
 ///
@@ -53,14 +54,16 @@ pub fn answer_line(
 pub fn answer_line_det(
     alloc: Global,
     line: &[u8],
+    order: KeyOrder,
     limit: usize,
     rooms: &mut Rooms,
 ) -> Result<bool, AllocError>
-    ensures answer { OnOk result (IsLineAnswer Deterministic line.now limit rooms.new.text.items) }
+    ensures answer { OnOk result
+        (IsLineAnswer (Deterministic order) line.now limit rooms.new.text.items) }
     ensures item { IfOk result (λ is_ok. IsTrue is_ok →
-        IsOkText (Item Deterministic limit) line.now rooms.new.text.items) }
+        IsOkText (Item (Deterministic order) limit) line.now rooms.new.text.items) }
 {
-    answer_item(alloc, line, Spelling::Deterministic, limit, rooms)
+    answer_item(alloc, line, Spelling::Deterministic(order), limit, rooms)
 }
 
 /// Makes `rooms.text` the answer to a line that is read as a sequence (RFC 8742), items one after
@@ -141,7 +144,9 @@ fn answer_reading(
 {
     match reading {
         Reading::Item(Spelling::Any, limit) => answer_line(alloc, line, limit, rooms),
-        Reading::Item(Spelling::Deterministic, limit) => answer_line_det(alloc, line, limit, rooms),
+        Reading::Item(Spelling::Deterministic(order), limit) => {
+            answer_line_det(alloc, line, order, limit, rooms)
+        }
         Reading::Sequence => answer_seq(alloc, line, rooms),
     }
 }

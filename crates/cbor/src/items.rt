@@ -12,7 +12,7 @@ ghost use Rattle.cbor.specs.Spellings.{HasItemBefore, IsItem, RefusesItem};
 use crate::answer::{Reason, Refusal};
 use crate::digits::{decode_line, push_digits};
 use crate::reading::Spelling;
-use ciborium::de::{Error, from_reader_deterministic, from_reader_with_recursion_limit};
+use ciborium::de::{Error, from_reader_deterministic_with_order, from_reader_with_recursion_limit};
 use ciborium::ser::into_writer;
 use ciborium_value::{Kind, Value};
 use std::alloc::{AllocError, Global};
@@ -102,7 +102,9 @@ fn read_value(
 {
     match spelling {
         Spelling::Any => from_reader_with_recursion_limit(alloc, rest, limit),
-        Spelling::Deterministic => from_reader_deterministic(alloc, rest, limit),
+        Spelling::Deterministic(order) => {
+            from_reader_deterministic_with_order(alloc, rest, limit, order)
+        }
     }
 }
 

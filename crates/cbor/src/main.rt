@@ -1,7 +1,9 @@
 //! `cbor read` answers lines of hex: which bytes are a CBOR item (RFC 8949), and its one shortest
 //! encoding. `cbor read --det` accepts deterministic encodings alone. `cbor seq` answers lines that
 //! are sequences of items (RFC 8742). `cbor sort` writes the encodings of all lines in the
-//! canonical order.
+//! canonical order, the shorter first (RFC 8949, section 4.2.3), in which the keys of each map
+//! stand for `read --det` too. With `--core` both take the order of the core deterministic
+//! encoding, which is bytewise (section 4.2.1).
 #![tactic(auto)]
 
 mod answer;

@@ -1,5 +1,7 @@
 //! How lines are read.
 
+use ciborium_value::KeyOrder;
+
 /// How a line is read.
 #[derive(Clone, Copy, Debug)]
 pub enum Reading {
@@ -14,6 +16,7 @@ pub enum Reading {
 pub enum Spelling {
     /// Any (RFC 8949, section 3).
     Any,
-    /// The deterministic one alone (RFC 8949, section 4.2).
-    Deterministic,
+    /// The deterministic one alone, whose maps have their keys in this order (RFC 8949, section
+    /// 4.2).
+    Deterministic(KeyOrder),
 }

@@ -5,6 +5,7 @@ ghost use Rattle.std.specs.Prelude.{Some, codes, map, string_bytes, true};
 ghost use Rattle.std.specs.Io.KnownBytes.{Keeps};
 ghost use Rattle.std.specs.Option.{SomeIff};
 ghost use Rattle.std.specs.Str.Parse.{digits_value};
+ghost use Rattle.ciborium_value.specs.declared.key_order.KeyOrder.{KeyOrder};
 ghost use Rattle.cbor.specs.Lines.{AreAnswered, AreOk};
 ghost use Rattle.cbor.specs.SortedLines.{AreSortedLines};
 ghost use Rattle.cbor.specs.Words.{AreWrong, AskFor, AskForSequences, AskToRead, AskToSort};
@@ -19,24 +20,28 @@ use crate::fault::Fault;
 use crate::reading::{Reading, Spelling};
 use crate::sorting::sort_lines;
 use ciborium::de::RECURSION_LIMIT;
+use ciborium_value::KeyOrder;
 use std::alloc::Global;
 use std::io::{Read, Write};
 
-// What the words ask for: to answer lines that are read so, or to sort them.
+// What the words ask for: to answer lines that are read so, or to sort them in this order.
 #[derive(Clone, Copy, Debug)]
 enum Command {
     Answer(Reading),
-    Sort,
+    Sort(KeyOrder),
 }
 
 /// Does what the words say, which are the program's arguments without its name, and returns the
 /// exit status. `read` answers each line of hex of the input by a line on the output, within 256
 /// levels, and `read LIMIT` within that many; a line whose answer is refused memory is answered
-/// `memory`. `read --det`, and a limit behind it, accept deterministic encodings alone. `seq`
-/// answers each line as a sequence of items (RFC 8742), each within 256 levels. `sort` reads all
-/// lines within 256 levels, and then writes the encodings of their items in lower-case hex, a line
-/// each, in the canonical order. At the first line that is no item it only writes `line`, the
-/// number of that line, counted from 1, a colon and the answer to it.
+/// `memory`. `read --det`, and a limit behind it, accept deterministic encodings alone, the keys of
+/// each map in the canonical order (RFC 8949, section 4.2.3: length-first). `seq` answers each line
+/// as a sequence of items (RFC 8742), each within 256 levels. `sort` reads all lines within 256
+/// levels, and then writes the encodings of their items in lower-case hex, a line each, in the
+/// canonical order. At the first line that is no item it only writes `line`, the number of that
+/// line, counted from 1, a colon and the answer to it. `--core`, right behind `--det` or `sort`,
+/// takes the order of the core deterministic encoding in place of the canonical one (section 4.2.1:
+/// bytewise).
 ///
 /// The status is 0 where every line is an item, or for `seq` a sequence, and 1 where one is not. It
 /// is 2 for any other words: the usage is then written to `errors`, and input and output are left
@@ -55,7 +60,8 @@ pub fn run<R: Read, W: Write, E: Write>(
     ensures right { (spelling : Spelling) (limit : ℕ) →
         AskToRead (map string_bytes words.now) spelling limit → result ≤ 1 }
     ensures right_to_seq { AskForSequences (map string_bytes words.now) → result ≤ 1 }
-    ensures right_to_sort { AskToSort (map string_bytes words.now) → result ≤ 1 }
+    ensures right_to_sort { (order : KeyOrder) →
+        AskToSort (map string_bytes words.now) order → result ≤ 1 }
     ensures answered { (spelling : Spelling) (limit : ℕ) (b w : List ℕ) →
         AskToRead (map string_bytes words.now) spelling limit → R.remaining input.old ≡ Some b →
         W.contents output.old ≡ Some w → result ≡ 0 →
@@ -64,10 +70,10 @@ pub fn run<R: Read, W: Write, E: Write>(
         AskForSequences (map string_bytes words.now) → R.remaining input.old ≡ Some b →
         W.contents output.old ≡ Some w → result ≡ 0 →
         AreOk Sequence b w (W.contents output.new) }
-    ensures sorted { (b w : List ℕ) →
-        AskToSort (map string_bytes words.now) → R.remaining input.old ≡ Some b →
+    ensures sorted { (order : KeyOrder) (b w : List ℕ) →
+        AskToSort (map string_bytes words.now) order → R.remaining input.old ≡ Some b →
         W.contents output.old ≡ Some w → result ≡ 0 →
-        AreSortedLines b 256 w (W.contents output.new) }
+        AreSortedLines order b 256 w (W.contents output.new) }
 {
     match judge_words(words) {
         Some(command) => {
@@ -77,7 +83,7 @@ pub fn run<R: Read, W: Write, E: Write>(
         None => {
             report(
                 errors,
-                "usage: cbor read [--det] [limit] | cbor sort | cbor seq\n",
+                "usage: cbor read [--det [--core]] [limit] | cbor sort [--core] | cbor seq\n",
             );
             2
         }
@@ -91,7 +97,7 @@ fn judge_words(words: &[String]) -> Option<Command>
 {
     match words {
         [command, options @ ..] if command.as_str() == "read" => judge_reading(options),
-        [command] if command.as_str() == "sort" => Some(Command::Sort),
+        [command, options @ ..] if command.as_str() == "sort" => judge_sorting(options),
         [command] if command.as_str() == "seq" => Some(Command::Answer(Reading::Sequence)),
         _ => None,
     }
@@ -103,14 +109,43 @@ fn judge_reading(options: &[String]) -> Option<Command>
         (λ command. AskFor (codes "read" ∷ map string_bytes options.now) command) }
 {
     match options {
-        [flag, others @ ..] if flag.as_str() == "--det" => {
-            let limit = judge_limit(others)?;
-            Some(Command::Answer(Reading::Item(Spelling::Deterministic, limit)))
-        }
+        [flag, others @ ..] if flag.as_str() == "--det" => judge_deterministic(others),
         _ => {
             let limit = judge_limit(options)?;
             Some(Command::Answer(Reading::Item(Spelling::Any, limit)))
         }
+    }
+}
+
+// What `read --det` and these words behind it ask for, or none where they are wrong.
+fn judge_deterministic(options: &[String]) -> Option<Command>
+    ensures { MatchOption result
+        (AreWrong (codes "read" ∷ (codes "--det" ∷ map string_bytes options.now)))
+        (λ command. AskFor (codes "read" ∷ (codes "--det" ∷ map string_bytes options.now)) command) }
+{
+    match options {
+        [flag, others @ ..] if flag.as_str() == "--core" => {
+            let limit = judge_limit(others)?;
+            let spelling = Spelling::Deterministic(KeyOrder::Bytewise);
+            Some(Command::Answer(Reading::Item(spelling, limit)))
+        }
+        _ => {
+            let limit = judge_limit(options)?;
+            let spelling = Spelling::Deterministic(KeyOrder::LengthFirst);
+            Some(Command::Answer(Reading::Item(spelling, limit)))
+        }
+    }
+}
+
+// What `sort` and these words behind it ask for, or none where they are wrong.
+fn judge_sorting(options: &[String]) -> Option<Command>
+    ensures { MatchOption result (AreWrong (codes "sort" ∷ map string_bytes options.now))
+        (λ command. AskFor (codes "sort" ∷ map string_bytes options.now) command) }
+{
+    match options {
+        [] => Some(Command::Sort(KeyOrder::LengthFirst)),
+        [flag] if flag.as_str() == "--core" => Some(Command::Sort(KeyOrder::Bytewise)),
+        _ => None,
     }
 }
 
@@ -160,17 +195,17 @@ fn perform<R: Read, W: Write>(
     ensures ok { (reading : Reading) (b w : List ℕ) → command ≡ Answer reading →
         R.remaining input.old ≡ Some b → W.contents output.old ≡ Some w →
         IfOk result (λ all. IsTrue all → AreOk reading b w (W.contents output.new)) }
-    ensures sorted { (b w : List ℕ) → command ≡ Sort →
+    ensures sorted { (order : KeyOrder) (b w : List ℕ) → command ≡ Sort order →
         R.remaining input.old ≡ Some b → W.contents output.old ≡ Some w →
-        IfOk result (λ all. IsTrue all → AreSortedLines b 256 w (W.contents output.new)) }
+        IfOk result (λ all. IsTrue all → AreSortedLines order b 256 w (W.contents output.new)) }
 {
     match command {
         Command::Answer(reading) => {
             let answered = answer_lines(alloc, input, reading, output);
             finish(answered, output)
         }
-        Command::Sort => {
-            let sorted = sort_lines(alloc, input, RECURSION_LIMIT, output);
+        Command::Sort(order) => {
+            let sorted = sort_lines(alloc, input, order, RECURSION_LIMIT, output);
             finish(sorted, output)
         }
     }

@@ -5,6 +5,7 @@ ghost use Rattle.std.specs.Prelude.{IsPermutation, map, vec_len};
 ghost use Rattle.std.specs.Io.KnownBytes.{append_known};
 ghost use Rattle.std.specs.List.{flat_map};
 ghost use Rattle.ciborium_value.specs.View.{tree_of};
+ghost use Rattle.ciborium_value.specs.declared.key_order.KeyOrder.TheVariants.{LengthFirst};
 ghost use Rattle.cbor.specs.Lines.{AreMeant};
 ghost use Rattle.cbor.specs.Sorted.{AreSorted};
 ghost use Rattle.cbor.specs.SortedLines.{AreSortedLines, hex_line};
@@ -16,8 +17,8 @@ use crate::fault::Fault;
 use crate::items::{push_encoding, read_item};
 use crate::lines::{put_text, read_line, send_waiting};
 use crate::reading::Spelling;
-use ciborium::value::canonical::{MeasuredValue, cmp_measured, cmp_value};
-use ciborium_value::Value;
+use ciborium::value::canonical::{MeasuredValue, cmp_bytewise, cmp_measured, cmp_value};
+use ciborium_value::{KeyOrder, Value};
 use std::alloc::{AllocError, Global};
 use std::io::{BufReader, Read, Write};
 
@@ -41,9 +42,8 @@ impl From<Fault> for Unsorted {
     }
 }
 
-/// Writes the encodings of the items of the lines in lower-case hex, a line each, in the canonical
-/// order, or which line is the first that is no item within this many levels, and says whether each
-/// is one.
+/// Writes the encodings of the items of the lines in lower-case hex, a line each, in this order, or
+/// which line is the first that is no item within this many levels, and says whether each is one.
 ///
 /// # Errors
 ///
@@ -51,15 +51,17 @@ impl From<Fault> for Unsorted {
 pub fn sort_lines<R: Read, W: Write>(
     alloc: Global,
     input: &mut R,
+    order: KeyOrder,
     limit: usize,
     output: &mut W,
 ) -> Result<bool, Fault>
     ensures { (b w : List ℕ) → R.remaining input.old ≡ Some b → W.contents output.old ≡ Some w →
-        IfOk result (λ all. IsTrue all → AreSortedLines b limit w (W.contents output.new)) }
+        IfOk result (λ all. IsTrue all →
+        AreSortedLines order b limit w (W.contents output.new)) }
 {
     match read_values(alloc, input, limit) {
         Ok(values) => {
-            let sorted = sort_values(alloc, values)?;
+            let sorted = sort_values(alloc, values, order)?;
             write_values(alloc, &sorted, output)?;
             Ok(true)
         }
@@ -71,16 +73,37 @@ pub fn sort_lines<R: Read, W: Write>(
     }
 }
 
-/// The values given, each as often as given, in the canonical order, which is that of `cmp_value`.
-/// They are moved and never copied, by O(n log n) comparisons. More than 20 are each measured once.
+/// The values given, each as often as given, in this order of their encodings. `LengthFirst` is the
+/// canonical order, that of `cmp_value`; `Bytewise` is that of `cmp_bytewise`. They are moved and
+/// never copied, by O(n log n) comparisons. Length-first, more than 20 are each measured once.
 ///
 /// # Errors
 ///
-/// `AllocError` where memory is refused to move more than 20 values through: room for as many with
-/// their sizes, and for as many of those again. The values are then given up.
-pub fn sort_values(alloc: Global, mut values: Vec<Value>) -> Result<Vec<Value>, AllocError>
+/// `AllocError` where memory is refused to move more than 20 values through: bytewise room for as
+/// many again, and length-first for as many with their sizes and for as many of those again. The
+/// values are then given up.
+pub fn sort_values(
+    alloc: Global,
+    mut values: Vec<Value>,
+    order: KeyOrder,
+) -> Result<Vec<Value>, AllocError>
     ensures permutation { IfOk result (λ sorted. IsPermutation values.items sorted.items) }
-    ensures sorted { IfOk result (λ sorted. AreSorted (map tree_of sorted.items)) }
+    ensures sorted { IfOk result (λ sorted. AreSorted order (map tree_of sorted.items)) }
+    ensures succeeds { vec_len values ≤ 20 → IsOk result }
+{
+    match order {
+        KeyOrder::LengthFirst => sort_length_first(alloc, values),
+        KeyOrder::Bytewise => {
+            values.sort_by(cmp_bytewise)?;
+            Ok(values)
+        }
+    }
+}
+
+// The values in the canonical order. More than 20 are each measured once.
+fn sort_length_first(alloc: Global, mut values: Vec<Value>) -> Result<Vec<Value>, AllocError>
+    ensures permutation { IfOk result (λ sorted. IsPermutation values.items sorted.items) }
+    ensures sorted { IfOk result (λ sorted. AreSorted LengthFirst (map tree_of sorted.items)) }
     ensures succeeds { vec_len values ≤ 20 → IsOk result }
 {
     if values.len() <= MOST_IN_PLACE {

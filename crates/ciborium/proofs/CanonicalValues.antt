@@ -12,8 +12,8 @@ use Rattle.ciborium_value.specs.View.{tree_of}
 use Rattle.ciborium_value.specs.declared.tree.Value.{Value}
 use Rattle.ciborium_value.specs.DerivedOrder.{value_cmp-is}
 use Rattle.ciborium_value.proofs.OrderedTrees.{tied_where_equal}
-use Rattle.ciborium.specs.CanonicalLaws.{IsCanonical, TiesEqualOnes}
-use Rattle.ciborium_value.proofs.TotalOrders.{canonical_order_total}
+use Rattle.ciborium.specs.CanonicalLaws.{BytewiseTiesEqualOnes, IsBytewise, IsCanonical, TiesEqualOnes}
+use Rattle.ciborium_value.proofs.TotalOrders.{bytewise_order_total, canonical_order_total}
 use Rattle.std.proofs.lemmas.Cmp.{tied_itself}
 use Rattle.ciborium_value.proofs.TreeEncodings.{tied_encodings}
 use Rattle.ciborium.proofs.EncodingLaws.{one_tree}
@@ -54,3 +54,16 @@ pub bytewise_value_cmp-is : (v w : Value) (o : Ordering) → (o ≡ Equal → tr
 bytewise_value_cmp-is v w o ties e =
     e ∙ first_decides (bytewise_order (tree_of v) (tree_of w)) (value_cmp v w)
     (λ t. value_cmp-is v w ∙ (tied_where_equal (tree_of v) (tree_of w)).1 (ties (e ∙ t)))
+
+-- proper trees that it ties are one
+bytewise_order-tied : (v w : Tree) → IsProperTree v → IsProperTree w → bytewise_order v w ≡ Equal → v ≡ w
+bytewise_order-tied v w h k e = one_tree v w h k (tied_encodings v w e)
+
+pub is_bytewise : IsBytewise
+is_bytewise v w h k = sym (bytewise_value_cmp-is v w (bytewise_order (tree_of v) (tree_of w)) (bytewise_order-tied (tree_of v) (tree_of w) h k) refl)
+
+pub bytewise_ties_equal_ones : BytewiseTiesEqualOnes
+bytewise_ties_equal_ones v w h k = (
+  λ e. bytewise_order-tied (tree_of v) (tree_of w) h k (sym (is_bytewise v w h k) ∙ e),
+  λ e. is_bytewise v w h k ∙ ap (bytewise_order (tree_of v)) (sym e) ∙ tied_itself bytewise_order_total (tree_of v),
+)

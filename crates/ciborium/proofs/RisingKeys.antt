@@ -1,23 +1,24 @@
--- The keys of a map by canonical values rise in the canonical order.
-use Rattle.std.proofs.Common.{false, Less, ◌≡◌, List, [], ◌∷◌, map, Result, Ok, Err, refl, sym, ◌∙◌, ap, subst}
+-- The keys of a map by canonical values rise in the canonical order, and by bytewise ones in the bytewise order.
+use Rattle.std.proofs.Common.{false, Ordering, Less, ◌≡◌, List, [], ◌∷◌, map, Result, Ok, Err, refl, sym, ◌∙◌, ap, subst}
 use Rattle.std.specs.List.Sorted.{IsStrictlySortedBy}
 use Rattle.std.specs.List.{AllByRecursion}
 use Rattle.std.specs.Map.{keys_of}
 use Rattle.ciborium_ll.specs.Item.{Item}
-use Rattle.ciborium_value.specs.Canonical.{canonical_order}
-use Rattle.ciborium_value.specs.CanonicalValues.{canonical_value_cmp}
+use Rattle.ciborium_value.specs.Canonical.{bytewise_order, canonical_order}
+use Rattle.ciborium_value.specs.CanonicalValues.{bytewise_value_cmp, canonical_value_cmp}
 use Rattle.ciborium_value.specs.Encoding.{item_of}
 use Rattle.ciborium_value.specs.Places.{dictionary, pairs_from}
 use Rattle.ciborium_value.specs.Proper.{IsProperTree}
 use Rattle.ciborium_value.specs.Sinks.{Named, and_then, all_named, contained, container_of, in_turn, named_value}
+use Rattle.ciborium_value.specs.Tree.{Tree}
 use Rattle.ciborium_value.specs.View.{tree_of}
 use Rattle.ciborium_value.specs.WrittenItems.{IsWritten, PairsAreWritten}
 use Rattle.ciborium_value.specs.declared.kind.Kind.{Kind}
 use Rattle.ciborium_value.specs.declared.tree.Value.{Value}
 use Rattle.ciborium_value.proofs.Progress.{and_then_is}
 use Rattle.ciborium_value.proofs.ReadBack.{written_tree_is_proper}
-use Rattle.ciborium.proofs.CanonicalValues.{is_canonical}
-use Rattle.ciborium.specs.CanonicalLaws.{RiseCanonically}
+use Rattle.ciborium.proofs.CanonicalValues.{is_bytewise, is_canonical}
+use Rattle.ciborium.specs.CanonicalLaws.{RiseBytewise, RiseCanonically}
 use Rattle.ciborium.specs.Writes.{IsNamedWritten}
 
 -- the keys of a map that can be written are trees that a program can hold
@@ -34,19 +35,27 @@ proper_keys f (e ∷ es) is h w =
     ok_is : (i j : Item) → ◌≡◌ {A = Named} (Ok i) (Ok j) → i ≡ j
     ok_is i j h = cc
 
-below_all : (v : Value) (ws : List Value) → IsProperTree (tree_of v) → AllByRecursion (λ w. IsProperTree (tree_of w)) ws → AllByRecursion (λ w. canonical_value_cmp v w ≡ Less) ws →
-    AllByRecursion (λ t. canonical_order (tree_of v) t ≡ Less) (map tree_of ws)
-below_all v [] proper each below = tt
-below_all v (w ∷ ws) proper each below = (sym (is_canonical v w proper each.0) ∙ below.0, below_all v ws proper each.1 below.1)
+-- an order of values that is this one of their trees, where a program can hold them
+module _ (cmp : Value → Value → Ordering) (order : Tree → Tree → Ordering) (agrees : (v w : Value) → IsProperTree (tree_of v) → IsProperTree (tree_of w) → cmp v w ≡ order (tree_of v) (tree_of w)) where
+  below_all : (v : Value) (ws : List Value) → IsProperTree (tree_of v) → AllByRecursion (λ w. IsProperTree (tree_of w)) ws → AllByRecursion (λ w. cmp v w ≡ Less) ws →
+      AllByRecursion (λ t. order (tree_of v) t ≡ Less) (map tree_of ws)
+  below_all v [] proper each below = tt
+  below_all v (w ∷ ws) proper each below = (sym (agrees v w proper each.0) ∙ below.0, below_all v ws proper each.1 below.1)
 
-rising : (vs : List Value) → AllByRecursion (λ v. IsProperTree (tree_of v)) vs → IsStrictlySortedBy canonical_value_cmp vs → IsStrictlySortedBy canonical_order (map tree_of vs)
-unfolding IsStrictlySortedBy
-rising [] proper h = tt
-rising (v ∷ vs) proper h = (below_all v vs proper.0 proper.1 h.0, rising vs proper.1 h.1)
+  rising : (vs : List Value) → AllByRecursion (λ v. IsProperTree (tree_of v)) vs → IsStrictlySortedBy cmp vs → IsStrictlySortedBy order (map tree_of vs)
+  unfolding IsStrictlySortedBy
+  rising [] proper h = tt
+  rising (v ∷ vs) proper h = (below_all v vs proper.0 proper.1 h.0, rising vs proper.1 h.1)
+
+  keys-rise : {A : Type 0} (f : A → Named) (es : List (Value × A)) → IsStrictlySortedBy cmp (keys_of es) → IsNamedWritten (container_of dictionary (in_turn named_value f es)) → IsStrictlySortedBy order (map tree_of (keys_of es))
+  keys-rise f es h w = by (all_named (in_turn named_value f es)) refl w
+    where
+      by : (r : Result (List Item) Kind) → all_named (in_turn named_value f es) ≡ r → IsNamedWritten (contained dictionary false r) → IsStrictlySortedBy order (map tree_of (keys_of es))
+      by (Err k) e w = absurd w
+      by (Ok is) e w = rising (keys_of es) (proper_keys f es is e w.1) h
 
 pub canonical-keys : {A : Type 0} (f : A → Named) (es : List (Value × A)) → IsStrictlySortedBy canonical_value_cmp (keys_of es) → IsNamedWritten (container_of dictionary (in_turn named_value f es)) → RiseCanonically es
-canonical-keys f es h w = by (all_named (in_turn named_value f es)) refl w
-  where
-    by : (r : Result (List Item) Kind) → all_named (in_turn named_value f es) ≡ r → IsNamedWritten (contained dictionary false r) → RiseCanonically es
-    by (Err k) e w = absurd w
-    by (Ok is) e w = rising (keys_of es) (proper_keys f es is e w.1) h
+canonical-keys = keys-rise canonical_value_cmp canonical_order is_canonical
+
+pub bytewise-keys : {A : Type 0} (f : A → Named) (es : List (Value × A)) → IsStrictlySortedBy bytewise_value_cmp (keys_of es) → IsNamedWritten (container_of dictionary (in_turn named_value f es)) → RiseBytewise es
+bytewise-keys = keys-rise bytewise_value_cmp bytewise_order is_bytewise

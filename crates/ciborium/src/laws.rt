@@ -6,6 +6,8 @@ ghost use Rattle.ciborium_value.specs.Sinks.{container_of, in_turn, named_value}
 ghost use Rattle.ciborium_value.specs.declared.key_order.KeyOrder.{KeyOrder};
 ghost use Rattle.ciborium_value.specs.declared.key_order.KeyOrder.TheVariants.{LengthFirst};
 ghost use Rattle.ciborium.specs.AnswerLaws.{OneAnswer};
+ghost use Rattle.ciborium.specs.CanonicalLaws.{BytewiseTiesEqualOnes, IsBytewise};
+ghost use Rattle.ciborium.specs.CanonicalLaws.{IsBytewiseTotal, RiseBytewise};
 ghost use Rattle.ciborium.specs.CanonicalLaws.{IsCanonical, IsTotal, RiseCanonically};
 ghost use Rattle.ciborium.specs.CanonicalLaws.{TiesEqualOnes};
 ghost use Rattle.ciborium.specs.DeterministicLaws.{DeterministicOrRefused};
@@ -25,7 +27,7 @@ ghost use Rattle.ciborium.specs.SequenceRoundTrips.{AreContentsReadBack, Sequenc
 ghost use Rattle.ciborium.specs.TypedReads.{SourcesAgree};
 ghost use Rattle.ciborium.specs.Writes.{IsNamedWritten};
 
-use crate::value::CanonicalValue;
+use crate::value::{BytewiseValue, CanonicalValue};
 pub use ciborium_ll::spelling_laws::{
     header_bytes_spell, one_header, shortest_head, unique_spelling,
 };
@@ -62,6 +64,17 @@ pub fn encoding_is_shortest()
 pub fn canonical_keys_rise<V: Serialize>(map: &BTreeMap<CanonicalValue, V>) -> usize
     ensures rise { IsNamedWritten (container_of dictionary
         (in_turn named_value V.written map.now.entries)) → RiseCanonically map.now.entries }
+    ensures count { result ≡ length map.now.entries }
+{
+    map.len()
+}
+
+/// A map that is keyed by `BytewiseValue` is written with keys that strictly rise in the bytewise
+/// order (RFC 8949, section 4.2.1), wherever it is written at all, as by `CanonicalValue` in the
+/// canonical one. The call counts the entries, which takes no memory.
+pub fn bytewise_keys_rise<V: Serialize>(map: &BTreeMap<BytewiseValue, V>) -> usize
+    ensures rise { IsNamedWritten (container_of dictionary
+        (in_turn named_value V.written map.now.entries)) → RiseBytewise map.now.entries }
     ensures count { result ≡ length map.now.entries }
 {
     map.len()
@@ -161,6 +174,14 @@ pub fn order_of_canonical_values()
     ensures canonical { IsCanonical }
     ensures total { IsTotal }
     ensures ties { TiesEqualOnes }
+{}
+
+/// The order of `BytewiseValue` is the bytewise one for any two values that a program holds (RFC
+/// 8949, section 4.2.1). It is total, and of such values it ties equal ones alone.
+pub fn order_of_bytewise_values()
+    ensures bytewise { IsBytewise }
+    ensures total { IsBytewiseTotal }
+    ensures ties { BytewiseTiesEqualOnes }
 {}
 
 /// Each type is read as one function of the item: `deserialized` from a value, and `from_reader`

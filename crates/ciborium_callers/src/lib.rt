@@ -7,6 +7,8 @@ mod ample_memory;
 mod caller_tests;
 pub mod callers;
 #[cfg(test)]
+mod deterministic_tests;
+#[cfg(test)]
 mod expectations;
 #[cfg(test)]
 mod form_tests;

@@ -3,6 +3,7 @@
 use crate::counts::CountedReads;
 use crate::fault::Fault;
 use crate::faults::{FailedReads, fail_reads};
+use crate::forms::{answer_falling, answer_form};
 use crate::fronts::{Call, Reading, read_alike};
 use crate::head_lines::answer_head_line;
 use crate::lines::{read_line, write_bytes};
@@ -14,7 +15,7 @@ use crate::sequences::{Asked, Sequence};
 use crate::types::ask_type;
 use crate::writes::Writing;
 use crate::written_types::write_type;
-use ciborium::value::Value;
+use ciborium::value::{BytewiseValue, CanonicalValue, KeyOrder, Value};
 use std::alloc::{AllocError, Global};
 use std::io::{BufReader, Read, Write};
 
@@ -83,8 +84,14 @@ fn answer_value_line(alloc: Global, word: &str, rest: &str) -> Result<Option<Str
     match word {
         "write" => write_value(alloc, rest, Writing::Whole),
         "write-faults" => write_value(alloc, rest, Writing::Failing),
-        "sort" => answer_sort(alloc, rest),
-        "visits" => answer_visits(alloc, rest),
+        "sort" => answer_sort::<CanonicalValue>(alloc, rest),
+        "sort-core" => answer_sort::<BytewiseValue>(alloc, rest),
+        "visits" => answer_visits(alloc, rest, KeyOrder::LengthFirst),
+        "visits-core" => answer_visits(alloc, rest, KeyOrder::Bytewise),
+        "form" => answer_form(alloc, rest, KeyOrder::LengthFirst),
+        "form-core" => answer_form(alloc, rest, KeyOrder::Bytewise),
+        "falling" => answer_falling(alloc, rest, KeyOrder::LengthFirst),
+        "falling-core" => answer_falling(alloc, rest, KeyOrder::Bytewise),
         "literal" => write_literal(alloc, rest),
         _ => answer_reading(alloc, word, rest),
     }

@@ -3,8 +3,8 @@
 use crate::outcome::{
     Failure, expect, expect_all, is_written_as, judge_read, judge_tree, prepare_value,
 };
-use ciborium::value::Value;
-use ciborium::{cbor, from_reader};
+use ciborium::value::{KeyOrder, Value};
+use ciborium::{cbor, from_reader, into_writer_deterministic, ser};
 use ciborium_callers::own_types::Message;
 use std::alloc::{AllocError, Global};
 use std::collections::BTreeMap;
@@ -17,6 +17,9 @@ const DEFINITE_MAP: &[u8] = b"\xa2\x61\x61\x01\x61\x62\x82\x02\x03";
 
 // [{"version": 2, "body": "a"}]
 const MESSAGES: &[u8] = b"\x81\xa2\x67version\x02\x64body\x61\x61";
+
+// {"b": [2, 3], "a": 1}, open.
+const FALLING_KEYS: &[u8] = b"\xbf\x61\x62\x9f\x02\x03\xff\x61\x61\x01\xff";
 
 // {1: 2, 1: 3}, open.
 const KEY_TWICE: &[u8] = b"\xbf\x01\x02\x01\x03\xff";
@@ -110,6 +113,28 @@ pub fn read_map(alloc: Global) -> Result<(), Failure> {
     let map: BTreeMap<u8, u8> = from_reader(alloc, &mut reader).map_err(judge_read)?;
     expect(reader.is_empty())?;
     expect(map.len() == 1 && map.get(&1) == Some(&3))
+}
+
+/// Writes the deterministic form of a value, which stays as it was. Where memory is refused, nothing
+/// goes out.
+///
+/// # Errors
+///
+/// Why the answer is not the right value.
+pub fn write_form(alloc: Global) -> Result<(), Failure> {
+    let value = prepare_value(alloc, FALLING_KEYS)?;
+    let mut buffer = [0u8; DEFINITE_MAP.len()];
+    let mut writer: &mut [u8] = &mut buffer;
+    let answer = into_writer_deterministic(alloc, &value, KeyOrder::Bytewise, &mut writer);
+    let left = writer.len();
+    match answer {
+        Ok(()) => expect(left == 0 && buffer.as_slice() == DEFINITE_MAP),
+        Err(ser::Error::Memory) => {
+            expect(left == DEFINITE_MAP.len())?;
+            Err(Failure::Memory)
+        }
+        Err(_) => Err(Failure::Wrong),
+    }
 }
 
 /// Makes a tree that is written out.

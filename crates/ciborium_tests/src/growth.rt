@@ -2,6 +2,7 @@
 
 use crate::growing_calls::{
     clone_value, make_literal, make_text, make_tree, read_as_value, read_map, read_value,
+    write_form,
 };
 use crate::outcome::Failure;
 use crate::plain_calls::make_plain_calls;
@@ -24,6 +25,8 @@ pub enum Call {
     ReadMap,
     /// `cbor!`.
     Literal,
+    /// `into_writer_deterministic`.
+    WriteForm,
     /// All calls that take no memory.
     NoMemory,
 }
@@ -38,6 +41,7 @@ pub fn find_call(name: &str) -> Option<Call> {
         "deserialized" => Some(Call::Deserialized),
         "read-map" => Some(Call::ReadMap),
         "macro" => Some(Call::Literal),
+        "write-form" => Some(Call::WriteForm),
         "no-memory" => Some(Call::NoMemory),
         _ => None,
     }
@@ -57,6 +61,7 @@ pub fn make_call(alloc: Global, call: Call) -> Result<(), Failure> {
         Call::Deserialized => read_as_value(alloc),
         Call::ReadMap => read_map(alloc),
         Call::Literal => make_literal(alloc),
+        Call::WriteForm => write_form(alloc),
         Call::NoMemory => make_plain_calls(alloc),
     }
 }

@@ -10,6 +10,7 @@ mod devices;
 mod fault;
 mod faults;
 mod few;
+mod forms;
 mod fronts;
 mod growing_calls;
 mod growth;

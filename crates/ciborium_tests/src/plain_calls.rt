@@ -6,13 +6,20 @@ use crate::plain_numbers::{compare_integers, convert_integers};
 use crate::plain_reads::read_plain_types;
 use crate::plain_values::{compare_values, look_into, make_values, take_apart};
 use ciborium::ll::{self, Decoder, Encoder, Header};
-use ciborium::value::{self, Kind, Value};
+use ciborium::value::{self, KeyOrder, Kind, Value};
 use ciborium::{de, into_writer, ser};
 use std::alloc::{AllocError, Global};
 use std::io::{self, ErrorKind};
 
 // [1, h'01', "a", true, null, 1(0), [], {}]
 const VALUES: &[u8] = b"\x88\x01\x41\x01\x61\x61\xf5\xf6\xc1\x00\x80\xa0";
+
+// A map of 24 nulls, whose keys fall from 23 to 0, and the same with keys that rise.
+const FALLING: &[u8] =
+    b"\xb8\x18\x17\xf6\x16\xf6\x15\xf6\x14\xf6\x13\xf6\x12\xf6\x11\xf6\x10\xf6\x0f\xf6\x0e\xf6\x0d\xf6\x0c\xf6\x0b\xf6\x0a\xf6\x09\xf6\x08\xf6\x07\xf6\x06\xf6\x05\xf6\x04\xf6\x03\xf6\x02\xf6\x01\xf6\x00\xf6";
+
+const RISING: &[u8] =
+    b"\xb8\x18\x00\xf6\x01\xf6\x02\xf6\x03\xf6\x04\xf6\x05\xf6\x06\xf6\x07\xf6\x08\xf6\x09\xf6\x0a\xf6\x0b\xf6\x0c\xf6\x0d\xf6\x0e\xf6\x0f\xf6\x10\xf6\x11\xf6\x12\xf6\x13\xf6\x14\xf6\x15\xf6\x16\xf6\x17\xf6";
 
 /// Makes each of the calls, behind the preparation of what they are lent.
 ///
@@ -23,11 +30,25 @@ pub fn make_plain_calls(alloc: Global) -> Result<(), Failure> {
     let text = String::from_str(alloc, "a")?;
     let bytes = prepare_byte(alloc)?;
     let values = prepare_value(alloc, VALUES)?;
+    let mut falling = prepare_value(alloc, FALLING)?;
 
+    let formed = make_form(&mut falling);
     let lent = lend_values(alloc, &values);
     let taken = take_apart(values);
     let made = make_values(alloc, text, bytes);
-    lent.and(taken).and(made).and(call_heads_and_numbers())
+    formed
+        .and(lent)
+        .and(taken)
+        .and(made)
+        .and(call_heads_and_numbers())
+}
+
+// The form of a map is made where it stands.
+fn make_form(map: &mut Value) -> Result<(), Failure> {
+    let order = KeyOrder::LengthFirst;
+    expect(is_written_as(map, FALLING) && !map.is_deterministic(order))?;
+    expect(map.make_deterministic(order).is_ok() && map.is_deterministic(order))?;
+    expect(is_written_as(map, RISING))
 }
 
 // Calls that are lent values.

@@ -1,8 +1,10 @@
 //! Calls on values that take no memory: accessors, conversions and orders.
 
 use crate::outcome::{Failure, expect, expect_all};
-use ciborium::value::canonical::{cmp_value, cmp_value_counted};
-use ciborium::value::{CanonicalValue, Integer, Value};
+use ciborium::value::canonical::{
+    cmp_bytewise, cmp_keys, cmp_value, cmp_value_counted, encoded_size,
+};
+use ciborium::value::{CanonicalValue, Integer, KeyOrder, Value};
 use std::alloc::Global;
 use std::cmp::Ordering;
 
@@ -72,6 +74,11 @@ pub fn compare_values(value: &Value) -> Result<(), Failure> {
         number < bytes,
         number.cmp(bytes) == Ordering::Less,
         cmp_value(bytes, number) == Ordering::Greater,
+        cmp_bytewise(bytes, number) == Ordering::Greater,
+        cmp_bytewise(value, value) == Ordering::Equal,
+        cmp_keys(KeyOrder::Bytewise, number, bytes) == Ordering::Less,
+        encoded_size(number) == 1,
+        number.is_deterministic(KeyOrder::Bytewise),
     ])
 }
 

@@ -57,3 +57,7 @@ bignum-no_bytes = bignum-holds (λ u. short_bytes u ≡ None) (λ z. refl) (λ t
 -- and no map is in it
 pub bignum-rises : (o : KeyOrder) (t : ℕ) (b : List ℕ) (u : Tree) → bignum_meaning t b ≡ Some u → HasRisingKeys o u
 bignum-rises o = bignum-holds (HasRisingKeys o) (λ z. tt) (λ t b. tt)
+
+-- a tag over a byte string says which
+pub one_string : (t : ℕ) (a b : List ℕ) → Some (tag t (bytes a)) ≡ Some (tag t (bytes b)) → a ≡ b
+one_string t a b e = cc

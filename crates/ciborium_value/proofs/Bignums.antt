@@ -61,3 +61,9 @@ zeros_dropped (zero ∷ bs) =
 zeros_dropped (suc b ∷ bs) =
     let none : length (suc b ∷ bs) - length (without_zeros (suc b ∷ bs)) ≡ 0 = rw (stays b bs) (omega arith) in
     ap (λ n. drop n (suc b ∷ bs)) none ∙ sym (stays b bs)
+
+-- bytes of which none is a leading zero
+pub zeros_absent : (bs : List ℕ) → length (without_zeros bs) ≡ length bs → without_zeros bs ≡ bs
+zeros_absent [] e = refl
+zeros_absent (zero ∷ bs) e = let less = zeros_counted bs in absurd (omega (arith, less, e))
+zeros_absent (suc b ∷ bs) e = stays b bs

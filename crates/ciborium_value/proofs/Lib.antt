@@ -51,3 +51,5 @@ pub mod MadeForms
 pub mod GivenValues
 pub mod AlikeForms
 pub mod ProperForms
+pub mod FormedLists
+pub mod RefusedForms

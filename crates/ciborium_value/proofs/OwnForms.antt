@@ -1,9 +1,10 @@
--- Trees that are their own deterministic form: each bignum is what it folds to, and the keys of each map rise.
+-- Trees that are their own deterministic form.
 use Rattle.std.proofs.Common.{◌≡◌, ℕ, cond, List, Option, Some, None, MatchOption, refl, sym, ap, ◌∙◌, subst, option_map, ◌↔◌}
-use Rattle.ciborium_value.specs.Deterministic.{AreRising, keys_of, HasRisingKeys, HaveRisingKeys, PairsHaveRisingKeys, IsCanonicalTree}
+use Rattle.ciborium_value.specs.Deterministic.{HasRisingKeys, HaveRisingKeys, PairsHaveRisingKeys, IsCanonicalTree}
 use Rattle.ciborium_value.specs.DeterministicForms.{sorted_pairs, tag_form, deterministic_form, deterministic_forms, pair_forms}
 use Rattle.ciborium_value.specs.Folded.{short_bytes, tree_folding_bytes, folded, trees_folded, tree_pairs_folded}
 use Rattle.ciborium_value.specs.FormLaws.{FormIsItsOwn, AcceptedWhereOwnForm}
+use Rattle.ciborium_value.specs.OwnForms.{IsFormed, AreFormed, PairsAreFormed}
 use Rattle.ciborium_value.specs.Meaning.{is_bignum_tag, bignum_meaning, tag_meaning, trees_more, tree_pairs_more}
 use Rattle.ciborium_value.specs.Taken.{gives, then_take, outcome_map, of_meaning, one_more, one_pair_more}
 use Rattle.ciborium_value.specs.Tree.{Tree, integer, bytes, text, boolean, null, tag, array, map, Trees, no_trees, tree, TreePairs, no_tree_pairs, tree_pair}
@@ -14,28 +15,6 @@ use Rattle.ciborium_value.proofs.Folding.{folds_once}
 use Rattle.ciborium_value.proofs.GivenOutcomes.{one_given, mapped_gives, then_gives, more_gives, pair_gives, meaning_given}
 use Rattle.ciborium_value.proofs.ReorderedPairs.{AreReordered, as_they_are, behind, neighbours, then_again, sorted-reorders, sorted-rises}
 use Rattle.ciborium_value.proofs.SortedPairs.{rising-sorted}
-
-abbrev mutual
-  -- each bignum is what it folds to, and the keys of each map rise
-  pub IsFormed : KeyOrder → Tree → Type 0
-  IsFormed o (integer z) = Unit {0}
-  IsFormed o (bytes b) = Unit {0}
-  IsFormed o (text b) = Unit {0}
-  IsFormed o (boolean b) = Unit {0}
-  IsFormed o null = Unit {0}
-  IsFormed o (tag t v) = MatchOption (tree_folding_bytes t v) (IsFormed o v) (λ b. bignum_meaning t b ≡ Some (tag t v))
-  IsFormed o (array vs) = AreFormed o vs
-  IsFormed o (map ps) = AreRising o (keys_of ps) × PairsAreFormed o ps
-
-  -- each tree
-  pub AreFormed : KeyOrder → Trees → Type 0
-  AreFormed o no_trees = Unit {0}
-  AreFormed o (tree v vs) = IsFormed o v × AreFormed o vs
-
-  -- each key and each value
-  pub PairsAreFormed : KeyOrder → TreePairs → Type 0
-  PairsAreFormed o no_tree_pairs = Unit {0}
-  PairsAreFormed o (tree_pair k v ps) = IsFormed o k × IsFormed o v × PairsAreFormed o ps
 
 -- ---- a formed tree is its own form
 

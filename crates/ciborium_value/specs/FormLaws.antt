@@ -1,15 +1,18 @@
 -- What holds of deterministic forms (RFC 8949, section 4.2).
-use Rattle.std.specs.Prelude.{◌≡◌, ◌↔◌, ℕ, ◌+◌, ◌≤◌, length}
+use Rattle.std.specs.Prelude.{◌≡◌, ◌↔◌, ℕ, ◌+◌, ◌≤◌, length, Some}
 use Rattle.ciborium_ll.specs.Bytes.{greatest_offset}
 use Rattle.ciborium_value.specs.Deterministic.{IsDeterministicAt}
 use Rattle.ciborium_value.specs.DeterministicForms.{deterministic_form}
 use Rattle.ciborium_value.specs.Encoding.{encoding, item_of}
+use Rattle.ciborium_value.specs.Folded.{folded}
 use Rattle.ciborium_value.specs.Nesting.{nesting}
 use Rattle.ciborium_value.specs.Proper.{IsProperTree}
 use Rattle.ciborium_value.specs.SameContents.{IsAlike}
-use Rattle.ciborium_value.specs.Taken.{gives}
+use Rattle.ciborium_value.specs.Taken.{gives, refuses}
 use Rattle.ciborium_value.specs.Tree.{Tree}
 use Rattle.ciborium_value.specs.declared.key_order.KeyOrder.{KeyOrder}
+use Rattle.ciborium_value.specs.declared.kind.Kind.{Kind}
+use Rattle.ciborium_value.specs.declared.kind.Kind.TheVariants as kinds
 
 -- the form of a form is itself
 abbrev pub FormIsItsOwn : Type 0
@@ -36,3 +39,7 @@ FormIsAlike = (o : KeyOrder) (v u : Tree) → deterministic_form o v ≡ gives u
 -- the form of a tree that a program can hold is such a tree
 abbrev pub FormIsProper : Type 0
 FormIsProper = (o : KeyOrder) (v u : Tree) → IsProperTree v → deterministic_form o v ≡ gives u → IsProperTree u
+
+-- a tree that has a meaning is refused a form for equal keys alone
+abbrev pub RefusedByDuplicates : Type 0
+RefusedByDuplicates = (o : KeyOrder) (v u : Tree) (k : Kind) → folded v ≡ Some u → deterministic_form o v ≡ refuses k → k ≡ kinds.DuplicateKey

@@ -62,3 +62,4 @@ pub mod Deterministic
 pub mod DeterministicForms
 pub mod SameContents
 pub mod FormLaws
+pub mod OwnForms

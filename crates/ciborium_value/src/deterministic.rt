@@ -5,7 +5,8 @@ ghost use Rattle.std.specs.Prelude.{Some, length, true, ℕ};
 ghost use Rattle.ciborium_value.specs.Deterministic.{AreRising, keys_of};
 ghost use Rattle.ciborium_value.specs.DeterministicForms.{deterministic_form, deterministic_forms};
 ghost use Rattle.ciborium_value.specs.DeterministicForms.{pair_forms, sorted_pairs};
-ghost use Rattle.ciborium_value.specs.Meaning.{without_zeros};
+ghost use Rattle.ciborium_value.specs.Meaning.{bignum_meaning, is_bignum_tag, without_zeros};
+ghost use Rattle.ciborium_value.specs.OwnForms.{AreFormed, IsFormed, PairsAreFormed};
 ghost use Rattle.ciborium_value.specs.SameContents.{AreAlike, IsAlike, PairsAreAlike};
 ghost use Rattle.ciborium_value.specs.Taken.{gives, refuses};
 ghost use Rattle.ciborium_value.specs.Tree as trees;
@@ -40,7 +41,19 @@ impl Value {
     {
         make(self, order)
     }
+
+    /// Whether the value is its own deterministic form: whether `make_deterministic` would change
+    /// nothing. Where it nests within the limit, its encoding is then what the deterministic reader
+    /// of this order accepts (RFC 8949, section 4.2). It takes no memory.
+    pub fn is_deterministic(&self, order: KeyOrder) -> bool
+        ensures { IsTrue result ↔
+            (deterministic_form order (tree_of self.now) ≡ gives (tree_of self.now)) }
+    {
+        is_formed(self, order)
+    }
 }
+
+// ---- making a form
 
 #[cycle(make)]
 fn make(value: &mut Value, order: KeyOrder) -> Result<(), Kind>
@@ -119,22 +132,6 @@ fn sort_pairs(pairs: &mut Vec<(Value, Value)>, order: KeyOrder) -> Result<(), Ki
     }
 }
 
-// Whether each key stands behind the one before it.
-fn keys_rise(pairs: &[(Value, Value)], order: KeyOrder) -> bool
-    ensures { IsTrue result ↔ AreRising order (keys_of (tree_pairs_of pairs.now)) }
-{
-    let mut rest = pairs;
-    while let [first, behind @ ..] = rest {
-        if let [second, ..] = behind
-            && cmp_keys(order, &first.0, &second.0) != Ordering::Less
-        {
-            return false;
-        }
-        rest = behind;
-    }
-    true
-}
-
 // Takes the leading zeros from a byte string.
 fn remove_leading_zeros(content: &mut Value)
     ensures { (b : List ℕ) → tree_of content.old ≡ trees.bytes b →
@@ -151,4 +148,81 @@ fn remove_zeros(bytes: &mut Vec<u8>)
 {
     let zeros = bytes.len() - without_leading_zeros(bytes).len();
     bytes.drain(..zeros);
+}
+
+// ---- judging a form
+
+// Whether the value is its own form.
+#[cycle(is_formed)]
+fn is_formed(value: &Value, order: KeyOrder) -> bool
+    ensures { IsTrue result ↔ IsFormed order (tree_of value.now) }
+{
+    match value {
+        Value::Tag(tag, content) => match find_folding(*tag, content) {
+            Some(bytes) => is_folded(*tag, bytes),
+            None => is_formed(content, order),
+        },
+        Value::Array(items) => are_formed(items, order),
+        Value::Map(pairs) => keys_rise(pairs, order) && pairs_are_formed(pairs, order),
+        Value::Integer(_) | Value::Bytes(_) | Value::Text(_) | Value::Bool(_) | Value::Null => true,
+    }
+}
+
+// Whether each of the items is.
+#[cycle(is_formed)]
+fn are_formed(items: &Vec<Value>, order: KeyOrder) -> bool
+    ensures { IsTrue result ↔ AreFormed order (trees_of items.now.items) }
+{
+    for item in items {
+        if !is_formed(item, order) {
+            return false;
+        }
+    }
+    true
+}
+
+// Whether each key and each value is.
+#[cycle(is_formed)]
+fn pairs_are_formed(pairs: &Vec<(Value, Value)>, order: KeyOrder) -> bool
+    ensures { IsTrue result ↔ PairsAreFormed order (tree_pairs_of pairs.now.items) }
+{
+    for pair in pairs {
+        if !is_formed(&pair.0, order) {
+            return false;
+        }
+        if !is_formed(&pair.1, order) {
+            return false;
+        }
+    }
+    true
+}
+
+// Whether each key stands behind the one before it.
+fn keys_rise(pairs: &[(Value, Value)], order: KeyOrder) -> bool
+    ensures { IsTrue result ↔ AreRising order (keys_of (tree_pairs_of pairs.now)) }
+{
+    let mut rest = pairs;
+    while let [first, behind @ ..] = rest {
+        if let [second, ..] = behind
+            && cmp_keys(order, &first.0, &second.0) != Ordering::Less
+        {
+            return false;
+        }
+        rest = behind;
+    }
+    true
+}
+
+// Whether the tag of a bignum stands over these bytes as it folds: they are no number of 64 bits,
+// and have no leading zeros.
+fn is_folded(tag: u64, bytes: &[u8]) -> bool
+    requires tag { is_bignum_tag tag ≡ true }
+    requires short { length bytes.now ≤ 16 }
+    ensures { IsTrue result ↔
+        (bignum_meaning tag bytes.now ≡ Some (trees.tag tag (trees.bytes bytes.now))) }
+{
+    match fold_number(tag, bytes) {
+        Ok(None) => without_leading_zeros(bytes).len() == bytes.len(),
+        _ => false,
+    }
 }

@@ -5,6 +5,7 @@ ghost use Rattle.ciborium_value.specs.Examples.{CornerExamples, CountedExamples,
 ghost use Rattle.ciborium_value.specs.Examples.{RefusedExamples, SpelledExamples, WrittenExamples};
 ghost use Rattle.ciborium_value.specs.FoldingLaws.{EncodingIsGood, FoldsOnce, WrittenMeansFolded};
 ghost use Rattle.ciborium_value.specs.FormLaws.{AcceptedWhereOwnForm, AlikeHaveOneForm};
+ghost use Rattle.ciborium_value.specs.FormLaws.{RefusedByDuplicates};
 ghost use Rattle.ciborium_value.specs.FormLaws.{FormIsAlike, FormIsItsOwn, FormIsProper};
 ghost use Rattle.ciborium_value.specs.FormLaws.{OneFormWhereAlike};
 ghost use Rattle.ciborium_value.specs.Laws.{GoodOrRefused, NeverBoth, OneRefusal};
@@ -86,7 +87,8 @@ pub fn written_reads_back()
 /// where the tree is its own form, nests within the levels that are left, and the encoding ends
 /// within the greatest offset. Trees that are equal but for the order of pairs and for folding have
 /// the same form, if one of them has one, and trees that have the same form are equal but for
-/// these, as a tree is to its form. A program can hold the form if it can hold the tree.
+/// these, as a tree is to its form. A program can hold the form if it can hold the tree. A tree whose
+/// bignums have a meaning is refused a form for equal keys alone.
 pub fn deterministic_forms()
     ensures own { FormIsItsOwn }
     ensures accepted { AcceptedWhereOwnForm }
@@ -94,4 +96,5 @@ pub fn deterministic_forms()
     ensures alike { OneFormWhereAlike }
     ensures itself { FormIsAlike }
     ensures proper { FormIsProper }
+    ensures refused { RefusedByDuplicates }
 {}

@@ -1,6 +1,7 @@
 // The three answers to a line, where memory is ample.
 use super::{answer_line, answer_line_det, answer_seq};
 use crate::rooms::Rooms;
+use ciborium_value::KeyOrder;
 use std::process::Abort;
 use std::test::Fail;
 
@@ -33,19 +34,53 @@ fn answers_lines(rt: HostRuntime) -> Result<(), Fail> {
     Ok(())
 }
 
-const DETERMINISTIC: &[(&str, usize, (bool, &str))] = &[
-    ("a201020203", 1, (true, "ok a201020203")),
-    ("1800", 256, (false, "semantic 0 notshortest")),
-    ("9f01ff", 256, (false, "semantic 0 open")),
-    ("a202030102", 256, (false, "semantic 3 keyorder")),
-    ("0", 256, (false, "hex")),
+// A line, the order of keys, a limit, and the answer.
+const DETERMINISTIC: &[(&str, KeyOrder, usize, (bool, &str))] = &[
+    (
+        "a201020203",
+        KeyOrder::LengthFirst,
+        1,
+        (true, "ok a201020203"),
+    ),
+    (
+        "1800",
+        KeyOrder::LengthFirst,
+        256,
+        (false, "semantic 0 notshortest"),
+    ),
+    (
+        "9f01ff",
+        KeyOrder::Bytewise,
+        256,
+        (false, "semantic 0 open"),
+    ),
+    (
+        "a202030102",
+        KeyOrder::LengthFirst,
+        256,
+        (false, "semantic 3 keyorder"),
+    ),
+    ("0", KeyOrder::Bytewise, 256, (false, "hex")),
+    // The keys 1000 and "a": bytewise 19 stands before 61, and length-first two bytes before three.
+    (
+        "a21903e800616101",
+        KeyOrder::Bytewise,
+        1,
+        (true, "ok a21903e800616101"),
+    ),
+    (
+        "a21903e800616101",
+        KeyOrder::LengthFirst,
+        1,
+        (false, "semantic 5 keyorder"),
+    ),
 ];
 
 #[test]
 fn answers_deterministic_lines(rt: HostRuntime) -> Result<(), Fail> {
     let mut rooms = Rooms::new(rt.alloc());
-    for &(line, limit, expected) in DETERMINISTIC {
-        let is_ok = answer_line_det(rt.alloc(), line.as_bytes(), limit, &mut rooms)?;
+    for &(line, order, limit, expected) in DETERMINISTIC {
+        let is_ok = answer_line_det(rt.alloc(), line.as_bytes(), order, limit, &mut rooms)?;
         expect_answer(&rt, is_ok, &rooms, expected, line);
     }
     Ok(())

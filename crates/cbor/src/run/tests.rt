@@ -40,6 +40,32 @@ const RUNS: &[(&[&str], &str, &str, u8)] = &[
     (&["read", "--det"], "0102", "trailing 1\n", 1),
     (&["read", "--det"], "a201020203", "ok a201020203\n", 0),
     (
+        &["read", "--det", "--core"],
+        "a21903e800616101\na26161011903e800\na261610161610a\n",
+        "ok a21903e800616101\nsemantic 4 keyorder\nsemantic 4 keyorder\n",
+        1,
+    ),
+    (
+        &["read", "--det"],
+        "a21903e800616101\na26161011903e800\n",
+        "semantic 5 keyorder\nok a26161011903e800\n",
+        1,
+    ),
+    (
+        &["read", "--det", "--core"],
+        "1800\n9f01ff\nc24101\nf7\n0102\nzz\n1e\n",
+        "semantic 0 notshortest\nsemantic 0 open\nsemantic 0 notfolded\n\
+         semantic 0 notshortest\ntrailing 1\nhex\nsyntax 0\n",
+        1,
+    ),
+    (
+        &["read", "--det", "--core", "1"],
+        "8180\na21903e800616101",
+        "nesting\nok a21903e800616101\n",
+        1,
+    ),
+    (&["read", "--det", "--core", "002"], "8180", "ok 8180\n", 0),
+    (
         &["read", "--det", "3"],
         "828180f6\nzz\n1e\n",
         "ok 828180f6\nhex\nsyntax 0\n",
@@ -66,7 +92,21 @@ const RUNS: &[(&[&str], &str, &str, u8)] = &[
         1,
     ),
     (&["sort"], "190100\n617a\n38c7\n", "38c7\n617a\n190100\n", 0),
+    (
+        &["sort", "--core"],
+        "617a\n190100\n38c7\n",
+        "190100\n38c7\n617a\n",
+        0,
+    ),
     (&["sort"], "", "", 0),
+    (&["sort", "--core"], "", "", 0),
+    (
+        &["sort", "--core"],
+        "1818\n01\nC24101\r\n9f02ff\n01",
+        "01\n01\n01\n1818\n8102\n",
+        0,
+    ),
+    (&["sort", "--core"], "01\n1e\n", "line 2: syntax 0\n", 1),
     (&["sort"], "01\n00\n1801\n01\n", "00\n01\n01\n01\n", 0),
     (&["sort"], "C24101\r\n00\r\n", "00\n01\n", 0),
     (&["sort"], "01\n00", "00\n01\n", 0),
@@ -194,6 +234,22 @@ const WRONG_WORDS: &[&[&str]] = &[
     &["read", "3", "--det"],
     &["read", "--det", "--det"],
     &["read", "--det", "1", "2"],
+    &["read", "--core"],
+    &["read", "--core", "--det"],
+    &["read", "--core", "1"],
+    &["read", "--det", "--core", "x"],
+    &["read", "--det", "--core", ""],
+    &["read", "--det", "--core", "1", "2"],
+    &["read", "--det", "--core", "--core"],
+    &["read", "--det", "1", "--core"],
+    &["read", "--det", "--CORE"],
+    &["sort", "--core", "5"],
+    &["sort", "5", "--core"],
+    &["sort", "--core", "--core"],
+    &["sort", "--det", "--core"],
+    &["sort", "--core "],
+    &["seq", "--core"],
+    &["--core"],
     &["sort", "--det"],
     &["--det"],
     &["sort", "1"],
@@ -213,7 +269,7 @@ fn refuses_wrong_words(rt: HostRuntime) -> Result<(), Fail> {
         let mut source = Source::new(b"00\n", 1, None);
         let device = Device::new(rt.alloc(), usize::MAX, false);
         let ended = run_on(rt.alloc(), words, &mut source, device)?;
-        let usage = "usage: cbor read [--det] [limit] | cbor sort | cbor seq\n";
+        let usage = "usage: cbor read [--det [--core]] [limit] | cbor sort [--core] | cbor seq\n";
         expect_end(&rt, &ended, 2, b"", usage, "wrong words");
         assert_eq!(rt; source.reads(), 0);
     }

@@ -1,7 +1,7 @@
 use Rattle.std.proofs.Common.{sym, ◌∙◌}
 use Rattle.cbor.specs.Lines.{IsOkText, MayBeAnswer}
 use Rattle.cbor.proofs.AnsweredLines.{flushed-all, flushed-ok, held-still}
-use Rattle.cbor.proofs.AskedWords.{same-reading}
+use Rattle.cbor.proofs.AskedWords.{same-order, same-reading}
 use Rattle.cbor.proofs.MeantLines.{sorted-still}
 use Rattle.cbor.proofs.run.perform.Goals as goal
 
@@ -19,6 +19,8 @@ returns-in-Answer-clause-ok g c reading b w same e f =
     (rw is at c.answer_lines-answered.ensures.ok b w e f)
 
 pub returns-in-Sort-clause-sorted : goal.returns-in-Sort-clause-sorted
-returns-in-Sort-clause-sorted g c b w same e f =
+returns-in-Sort-clause-sorted g c order b w same e f =
     let finish = c.finish-in-Sort in
-    flushed-ok _ _ c.sort_lines-sorted.result finish.result finish.ensures.same (sorted-still b 256 w _ _ finish.ensures.kept) (c.sort_lines-sorted.ensures b w e f)
+    let is = same-order c.in-Sort.order order (sym c.in-Sort.is ∙ same) in
+    flushed-ok _ _ c.sort_lines-sorted.result finish.result finish.ensures.same (sorted-still order b 256 w _ _ finish.ensures.kept)
+    (rw is at c.sort_lines-sorted.ensures b w e f)

@@ -16,7 +16,7 @@ returns-in-Some-clause-sequences g c b w asked e f zero =
     done refl
 
 pub returns-in-Some-clause-sorted : goal.returns-in-Some-clause-sorted
-returns-in-Some-clause-sorted g c b w asked e f zero =
-    let same = asks-to-sort (map string_bytes c.args.words.now) c.in-Some.command c.in-Some.ensures asked in
-    let done = rw (c.conclude.ensures.all zero) at c.perform-done.ensures.sorted b w same e f in
+returns-in-Some-clause-sorted g c order b w asked e f zero =
+    let same = asks-to-sort (map string_bytes c.args.words.now) c.in-Some.command order c.in-Some.ensures asked in
+    let done = rw (c.conclude.ensures.all zero) at c.perform-done.ensures.sorted order b w same e f in
     done refl

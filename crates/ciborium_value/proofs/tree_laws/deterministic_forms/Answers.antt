@@ -1,6 +1,7 @@
 use Rattle.ciborium_value.proofs.AlikeForms.{alike_have_one_form, form_is_alike, one_form_where_alike}
 use Rattle.ciborium_value.proofs.OwnForms.{accepted_where_own_form, form_is_its_own}
 use Rattle.ciborium_value.proofs.ProperForms.{form_is_proper}
+use Rattle.ciborium_value.proofs.RefusedForms.{refused_by_duplicates}
 use Rattle.ciborium_value.proofs.tree_laws.deterministic_forms.Goals as goal
 
 pub returns : goal.returns
@@ -11,4 +12,5 @@ returns c = record {
   alike = one_form_where_alike;
   itself = form_is_alike;
   proper = form_is_proper;
+  refused = refused_by_duplicates;
 }
