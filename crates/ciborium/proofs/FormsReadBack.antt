@@ -3,6 +3,7 @@ use Rattle.std.proofs.Common.{◌≡◌, ℕ, List, [], ◌++◌, Option, Some, 
 use Rattle.ciborium_ll.proofs.UniqueSpelling.{one_at_front}
 use Rattle.ciborium_value.specs.DeterministicForms.{deterministic_form}
 use Rattle.ciborium_value.specs.Encoding.{encoding, item_of, written_tree}
+use Rattle.ciborium_value.specs.FormsReadBack.{IsReadFromForm}
 use Rattle.ciborium_value.specs.ItemsOfTrees.{tree_is_written_as_itself}
 use Rattle.ciborium_value.specs.Readings.{Reading}
 use Rattle.ciborium_value.specs.ReadsBack.{IsReadBack, by_tree}
@@ -19,7 +20,7 @@ use Rattle.ciborium_value.proofs.ProperForms.{form_is_proper}
 use Rattle.ciborium_value.proofs.ReadBack.{written_item_spells}
 use Rattle.ciborium.specs.Answers.{TakesValue}
 use Rattle.ciborium.specs.DeterministicWrites.{named_form}
-use Rattle.ciborium.specs.FormsReadBack.{FormIsReadBack, IsFormContentReadBack, IsFormReadAlike, IsFormReadBack, IsOwnForm}
+use Rattle.ciborium.specs.FormsReadBack.{FormIsReadBack, IsFormContentGiven, IsFormContentReadBack, IsFormReadAlike, IsFormReadBack, IsOwnForm}
 use Rattle.ciborium.specs.Spelling.{deterministic}
 use Rattle.ciborium.specs.TypedReads.{TakesGiving}
 use Rattle.ciborium.proofs.RoundTrips.{one-content}
@@ -60,12 +61,7 @@ own-alike : {C : Type 0} (taken : Taken C) (o : KeyOrder) (named : Named) → Is
 own-alike taken o (Ok i) own = λ t form. ap (λ v. taken None (item_of v)) (one-form (deterministic_form o (written_tree i)) t (written_tree i) form own)
 own-alike taken o (Err k) own = own
 
-module _ {T C : Type 0} (IsHeld : T → Type 0) (written : T → Named) (reading : Reading T C) (levels : T → ℕ) (law : IsReadBack IsHeld written reading.taken reading.content levels) where
-  -- reading takes the content from the form of what is named
-  form-content : (o : KeyOrder) (v : T) → IsHeld v → (n : Named) → written v ≡ n → IsFormReadAlike reading.taken o n → (t : Tree) → named_form o n ≡ gives t → reading.taken None (item_of t) ≡ gives (reading.content v)
-  form-content o v held (Ok i) names alike t form = alike t form ∙ (law v held).back by_tree i names None tt
-  form-content o v held (Err k) names alike t form = absurd alike
-
+module _ {T C : Type 0} (written : T → Named) (reading : Reading T C) where
   -- what is read at the front of its encoding is the content
   read-content : (t : Tree) (l : ℕ) (bytes : List ℕ) (after : Option (List ℕ)) (c d : C) → IsWritten (item_of t) → bytes ≡ encoding t → reading.taken None (item_of t) ≡ gives d → TakesGiving (Some l) reading.taken bytes c after → c ≡ d
   read-content t l bytes after c d fits same given (j, s, left, sp, e, give, is) =
@@ -73,11 +69,31 @@ module _ {T C : Type 0} (IsHeld : T → Type 0) (written : T → Named) (reading
       let here : reading.taken (Some l) (item_of t) ≡ gives c = ap (reading.taken (Some l)) one.2 ∙ give in
       one-content (reading.taken None (item_of t)) d c given (given-without (reading.taken (Some l) (item_of t)) (reading.taken None (item_of t)) c (reading.steady.within l (item_of t)) here)
 
-  pub alike_read_back : (o : KeyOrder) (l : ℕ) (v again : T) (bytes rest : List ℕ) → IsFormContentReadBack (IsFormReadAlike reading.taken o) IsHeld written reading o l v again bytes rest
-  alike_read_back o l v again bytes rest old new held alike (t, form, out) (u, own, fits) takes none same =
+  -- where reading takes the content from the form, the bytes that were written give it
+  content-read_back : (o : KeyOrder) (l : ℕ) (v again : T) (bytes rest : List ℕ) → ((t : Tree) → named_form o (written v) ≡ gives t → reading.taken None (item_of t) ≡ gives (reading.content v)) →
+      IsFormContentGiven (λ w. Unit {0}) written reading o l v again bytes rest
+  content-read_back o l v again bytes rest given old new held (t, form, out) (u, own, fits) takes none same =
       let one : u ≡ t = one-form (named_form o (written v)) u t own form in
       let t-fits : IsWritten (item_of t) = subst (λ w. IsWritten (item_of w)) one fits in
-      read-content t l bytes (Some rest) (reading.content again) (reading.content v) t-fits (form-bytes t old new bytes out none same) (form-content o v held (written v) refl alike t form) (takes bytes refl)
+      read-content t l bytes (Some rest) (reading.content again) (reading.content v) t-fits (form-bytes t old new bytes out none same) (given t form) (takes bytes refl)
+
+-- of a type to which the order of pairs and folding make no difference
+module _ {T C : Type 0} (IsHeld : T → Type 0) (written : T → Named) (reading : Reading T C) (law : (o : KeyOrder) → IsReadFromForm o IsHeld written reading.taken reading.content) where
+  from-form : (o : KeyOrder) (v : T) → IsHeld v → (n : Named) → written v ≡ n → (t : Tree) → named_form o n ≡ gives t → reading.taken None (item_of t) ≡ gives (reading.content v)
+  from-form o v held (Ok i) names t form = (law o v held).back i names t form
+  from-form o v held (Err k) names t form = absurd cc
+
+  pub form_gives_content : (o : KeyOrder) (l : ℕ) (v again : T) (bytes rest : List ℕ) → IsFormContentGiven IsHeld written reading o l v again bytes rest
+  form_gives_content o l v again bytes rest old new held out fits takes none same = content-read_back written reading o l v again bytes rest (from-form o v held (written v) refl) old new tt out fits takes none same
+
+module _ {T C : Type 0} (IsHeld : T → Type 0) (written : T → Named) (reading : Reading T C) (levels : T → ℕ) (law : IsReadBack IsHeld written reading.taken reading.content levels) where
+  -- reading takes the content from the form of what is named
+  form-content : (o : KeyOrder) (v : T) → IsHeld v → (n : Named) → written v ≡ n → IsFormReadAlike reading.taken o n → (t : Tree) → named_form o n ≡ gives t → reading.taken None (item_of t) ≡ gives (reading.content v)
+  form-content o v held (Ok i) names alike t form = alike t form ∙ (law v held).back by_tree i names None tt
+  form-content o v held (Err k) names alike t form = absurd alike
+
+  pub alike_read_back : (o : KeyOrder) (l : ℕ) (v again : T) (bytes rest : List ℕ) → IsFormContentReadBack (IsFormReadAlike reading.taken o) IsHeld written reading o l v again bytes rest
+  alike_read_back o l v again bytes rest old new held alike out fits takes none same = content-read_back written reading o l v again bytes rest (form-content o v held (written v) refl alike) old new tt out fits takes none same
 
   pub own_read_back : (o : KeyOrder) (l : ℕ) (v again : T) (bytes rest : List ℕ) → IsFormContentReadBack (IsOwnForm o) IsHeld written reading o l v again bytes rest
   own_read_back o l v again bytes rest old new held own = alike_read_back o l v again bytes rest old new held (own-alike reading.taken o (written v) own)

@@ -51,3 +51,9 @@ abbrev pub IsFormContentReadBack : {T C : Type 0} → (Named → Type 0) → (T 
 IsFormContentReadBack Holds IsHeld written reading o l v again bytes rest =
     (old new : List ℕ) → IsHeld v → Holds (written v) → WritesForm {E = IoError} (Some old) (Some new) (Ok tt) (named_form o (written v)) → IsFormWritten (named_form o (written v)) →
     TakesGiven {E = IoError} (Some l) reading.taken (Some bytes) (Some rest) (Ok (reading.content again)) → old ≡ [] → bytes ≡ new → reading.content again ≡ reading.content v
+
+-- the same of a type to which the order of pairs and folding make no difference: nothing is asked of what is named
+abbrev pub IsFormContentGiven : {T C : Type 0} → (T → Type 0) → (T → Named) → Reading T C → KeyOrder → ℕ → T → T → List ℕ → List ℕ → Type 0
+IsFormContentGiven IsHeld written reading o l v again bytes rest =
+    (old new : List ℕ) → IsHeld v → WritesForm {E = IoError} (Some old) (Some new) (Ok tt) (named_form o (written v)) → IsFormWritten (named_form o (written v)) →
+    TakesGiven {E = IoError} (Some l) reading.taken (Some bytes) (Some rest) (Ok (reading.content again)) → old ≡ [] → bytes ≡ new → reading.content again ≡ reading.content v

@@ -14,8 +14,9 @@ ghost use Rattle.ciborium.specs.DeterministicLaws.{DeterministicOrRefused};
 ghost use Rattle.ciborium.specs.DeterministicLaws.{NeverBothDeterministically};
 ghost use Rattle.ciborium.specs.DeterministicLaws.{OneDeterministicRefusal, OneDeterministicTree};
 ghost use Rattle.ciborium.specs.EncodingLaws.{EncodingSpells, HeadsRise, OneTree, OthersAreLonger};
-ghost use Rattle.ciborium.specs.FormsReadBack.{FormIsReadBack, IsFormContentReadBack};
-ghost use Rattle.ciborium.specs.FormsReadBack.{IsFormReadAlike, IsFormReadBack, IsOwnForm};
+ghost use Rattle.ciborium.specs.FormsReadBack.{FormIsReadBack, IsFormContentGiven};
+ghost use Rattle.ciborium.specs.FormsReadBack.{IsFormContentReadBack, IsFormReadAlike};
+ghost use Rattle.ciborium.specs.FormsReadBack.{IsFormReadBack, IsOwnForm};
 ghost use Rattle.ciborium.specs.ItemSequences.{OneSequence};
 ghost use Rattle.ciborium.specs.Loaded.{AreCanonicalParts, IsContentLoaded};
 ghost use Rattle.ciborium.specs.Loaded.{IsDeterministicStore, IsStoreHeld};
@@ -35,7 +36,7 @@ pub use ciborium_value::tree_laws::{
     bytes_of_bignums, deterministic_forms, good_or_refused, meaning_of_written_is_folded,
     order_of_integers, order_of_values, worked_examples, written_reads_back,
 };
-pub use ciborium_value::{NeverNull, ReadsBack, WritesContent};
+pub use ciborium_value::{FormReadsBack, NeverNull, ReadsBack, WritesContent};
 use ciborium_value::{Deserialize, KeyOrder, Serialize, Value};
 use std::collections::BTreeMap;
 
@@ -164,6 +165,24 @@ pub fn written_deterministically_is_read_back<T: ReadsBack>(
     ensures alike { IsFormContentReadBack (IsFormReadAlike T.reading.taken order) T.is_held
         T.written T.reading order limit value.now again.now bytes.now rest.now }
     ensures own { IsFormContentReadBack (IsOwnForm order) T.is_held T.written T.reading order limit
+        value.now again.now bytes.now rest.now }
+{}
+
+/// The same of a type to which neither the order of pairs nor the folding of bignums makes a
+/// difference: where `bytes` are what `into_writer_deterministic` put out of `value` in this order,
+/// into an empty list, and `again` was read at their front by `from_reader` within `limit` levels,
+/// with `rest` behind it, the contents are equal. Nothing is asked of what the value names: it rests
+/// on the law that the type has (`FormReadsBack`). A caller that writes and reads calls it behind
+/// its calls, and needs no proof file.
+pub fn form_gives_content<T: FormReadsBack>(
+    value: &T,
+    again: &T,
+    limit: usize,
+    order: KeyOrder,
+    bytes: &[u8],
+    rest: &[u8],
+)
+    ensures { IsFormContentGiven T.is_held T.written T.reading order limit
         value.now again.now bytes.now rest.now }
 {}
 

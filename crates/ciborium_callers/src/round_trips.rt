@@ -11,9 +11,9 @@ ghost use Rattle.ciborium.specs.Loaded.{AreCanonicalParts, entry_trees};
 use crate::own_types::Message;
 use ciborium::de::{from_reader_deterministic, from_reader_deterministic_with_order};
 use ciborium::laws::{
-    ReadsBack, WritesContent, equal_contents_equal_bytes, is_form_read_back, is_loaded,
-    is_read_back, store_is_deterministic, written_deterministically_is_read_back,
-    written_is_read_back,
+    FormReadsBack, ReadsBack, WritesContent, equal_contents_equal_bytes, form_gives_content,
+    is_form_read_back, is_loaded, is_read_back, store_is_deterministic,
+    written_deterministically_is_read_back, written_is_read_back,
 };
 use ciborium::ser::Serialize;
 use ciborium::value::{CanonicalValue, Error, KeyOrder, Value};
@@ -96,6 +96,29 @@ pub fn through_form<T: Serialize>(alloc: Global, value: &T, order: KeyOrder) -> 
     };
     is_form_read_back(value, &tree, order, 256, whole, reader);
     Some(tree)
+}
+
+/// The same as the type of the value, to which the order of pairs makes no difference.
+pub fn through_sorted_form<T: FormReadsBack>(
+    alloc: Global,
+    value: &T,
+    order: KeyOrder,
+) -> Option<T>
+    requires { T.is_held value.now }
+    ensures { IfSome result (λ again.
+        T.reading.content again ≡ T.reading.content value.now) }
+{
+    let mut bytes = Vec::new(alloc);
+    let Ok(()) = into_writer_deterministic(alloc, value, order, &mut bytes) else {
+        return None;
+    };
+    let whole: &[u8] = &bytes;
+    let mut reader = whole;
+    let Ok(again) = from_reader::<T, _>(alloc, &mut reader) else {
+        return None;
+    };
+    form_gives_content(value, &again, 256, order, whole, reader);
+    Some(again)
 }
 
 /// The same as the type of the value, where what it names is its own form.

@@ -12,7 +12,7 @@ use Rattle.ciborium_value.specs.Tree.{Tree, integer, bytes, text, boolean, null,
 use Rattle.ciborium_value.specs.declared.key_order.KeyOrder.{KeyOrder}
 use Rattle.ciborium_value.specs.declared.kind.Kind.TheVariants as kinds
 use Rattle.ciborium_value.proofs.BignumShapes.{bignum-no_bytes}
-use Rattle.ciborium_value.proofs.GivenOutcomes.{one_given, mapped_gives, then_gives, more_gives, pair_gives, meaning_given}
+use Rattle.ciborium_value.specs.GivenOutcomes.{one_given, mapped_gives, then_gives, more_gives, pair_gives, meaning_given}
 use Rattle.ciborium_value.proofs.GivenValues.{given, gives_given, given-map, given-then, given-more}
 use Rattle.ciborium_value.proofs.OwnForms.{own_form, bignum-formed}
 use Rattle.ciborium_value.proofs.ReorderedPairs.{alike-reordered, sorted-reorders}

@@ -43,7 +43,6 @@ pub mod SideBySide
 pub mod VisitCounts
 pub mod ProperValues
 pub mod SortedPairs
-pub mod GivenOutcomes
 pub mod ReorderedPairs
 pub mod BignumShapes
 pub mod OwnForms

@@ -12,7 +12,7 @@ use Rattle.ciborium_value.specs.declared.key_order.KeyOrder.{KeyOrder}
 use Rattle.ciborium_value.specs.declared.kind.Kind.TheVariants as kinds
 use Rattle.ciborium_value.proofs.BignumShapes.{rises_where_short, short_where_folding, bignum-no_bytes, bignum-rises}
 use Rattle.ciborium_value.proofs.Folding.{folds_once}
-use Rattle.ciborium_value.proofs.GivenOutcomes.{one_given, mapped_gives, then_gives, more_gives, pair_gives, meaning_given}
+use Rattle.ciborium_value.specs.GivenOutcomes.{one_given, mapped_gives, then_gives, more_gives, pair_gives, meaning_given}
 use Rattle.ciborium_value.proofs.ReorderedPairs.{AreReordered, as_they_are, behind, neighbours, then_again, sorted-reorders, sorted-rises}
 use Rattle.ciborium_value.proofs.SortedPairs.{rising-sorted}
 

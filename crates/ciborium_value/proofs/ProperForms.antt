@@ -12,7 +12,7 @@ use Rattle.ciborium_value.specs.Tree.{Tree, integer, bytes, text, boolean, null,
 use Rattle.ciborium_value.specs.declared.key_order.KeyOrder.{KeyOrder}
 use Rattle.ciborium_value.specs.declared.kind.Kind.TheVariants as kinds
 use Rattle.ciborium_value.proofs.BignumShapes.{short_where_folding}
-use Rattle.ciborium_value.proofs.GivenOutcomes.{one_given, mapped_gives, then_gives, more_gives, pair_gives, meaning_given}
+use Rattle.ciborium_value.specs.GivenOutcomes.{one_given, mapped_gives, then_gives, more_gives, pair_gives, meaning_given}
 use Rattle.ciborium_value.proofs.ProperMeanings.{proper_bignum}
 use Rattle.ciborium_value.proofs.ReorderedPairs.{AreReordered, as_they_are, behind, neighbours, then_again, sorted-reorders}
 

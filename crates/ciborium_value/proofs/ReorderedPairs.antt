@@ -14,7 +14,7 @@ use Rattle.ciborium_value.specs.Tree.{Tree, TreePairs, no_tree_pairs, tree_pair}
 use Rattle.ciborium_value.specs.View.{tree_of, tree_pairs_of}
 use Rattle.ciborium_value.specs.declared.key_order.KeyOrder.{KeyOrder}
 use Rattle.ciborium_value.specs.declared.tree.Value.{Value}
-use Rattle.ciborium_value.proofs.GivenOutcomes.{one_given, refused_or_given, mapped_gives, then_gives}
+use Rattle.ciborium_value.specs.GivenOutcomes.{one_given, refused_or_given, mapped_gives, then_gives}
 use Rattle.ciborium_value.proofs.SortedPairs.{AreInOrder, sorted-exchanged, inserted-Less, inserted-Equal, inserted-Greater, less_where_greater}
 use Rattle.ciborium_value.proofs.TotalOrders.{key_order_total}
 

@@ -63,3 +63,9 @@ pub mod DeterministicForms
 pub mod SameContents
 pub mod FormLaws
 pub mod OwnForms
+pub mod GivenOutcomes
+pub mod FormsReadBack
+pub mod FormsReadBackNumbers
+pub mod FormsReadBackParts
+pub mod FormsReadBackMaps
+pub mod FormsReadBackOptions

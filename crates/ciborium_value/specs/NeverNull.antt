@@ -68,7 +68,7 @@ null-back taken by_tree l = refl
 nothing-back : {C : Type 0} (taken : Taken C) (n : ℕ) → IsNameRead (named (items.simple 22)) (taken_option taken) None n
 nothing-back taken n = record { back = λ way i e l fits. of_ok (named (items.simple 22)) (λ j. taken_option taken l (met way j) ≡ gives None) (null-back taken way l) i e }
 
-some-back : {C : Type 0} (taken : Taken C) (l : Limit) (i : Item) (c : C) → is_null i ≡ false → taken l i ≡ gives c → taken_option taken l i ≡ gives (Some c)
+pub some-back : {C : Type 0} (taken : Taken C) (l : Limit) (i : Item) (c : C) → is_null i ≡ false → taken l i ≡ gives c → taken_option taken l i ≡ gives (Some c)
 some-back taken l i c never h = ap (λ t. if t then gives None else outcome_map Some (taken l i)) never ∙ ap (outcome_map Some) h
 
 something-back : {C : Type 0} (taken : Taken C) {r : Named} {c : C} {n : ℕ} → IsNameRead r taken c n → IsNeverNull r → IsNameRead r (taken_option taken) (Some c) n

@@ -24,6 +24,11 @@ zeros_hold_nothing [] = refl
 zeros_hold_nothing (zero ∷ bs) = zeros_hold_nothing bs
 zeros_hold_nothing (suc b ∷ bs) = ap big_endian (stays b bs)
 
+none_left : (bs : List ℕ) → without_zeros (without_zeros bs) ≡ without_zeros bs
+none_left [] = refl
+none_left (zero ∷ bs) = none_left bs
+none_left (suc b ∷ bs) = ap without_zeros (stays b bs)
+
 length-without_zeros : (bs : List ℕ) → length (without_zeros bs) ≤ length bs
 length-without_zeros [] = omega arith
 length-without_zeros (zero ∷ bs) = omega (arith, length-without_zeros bs)
@@ -47,13 +52,17 @@ read_behind (suc k) m n =
     let split : n % 256 ^ suc k ≡ (n / p % 256) * p + n % p = rw (pow-succ' 256 k) (mod-mul n {m = 256} {c = p} (omega arith) (power_above k)) in
     rw (read_behind k (256 * m + byte_at k n) n, byte_at-is k n, split, pow-succ' 256 k) (one_more m (n / p % 256) (n % p) p)
 
-length-shortest : (n : ℕ) → length (shortest_bytes n) ≤ 16
+pub length-shortest : (n : ℕ) → length (shortest_bytes n) ≤ 16
 unfolding shortest_bytes
 length-shortest n = omega (arith, length-without_zeros (bytes_high_first 16 n), length-high_first 16 n)
 
-big_endian-shortest : (n : ℕ) → n < 2 ^ 128 → big_endian (shortest_bytes n) ≡ n
+pub big_endian-shortest : (n : ℕ) → n < 2 ^ 128 → big_endian (shortest_bytes n) ≡ n
 unfolding shortest_bytes
 big_endian-shortest n h = zeros_hold_nothing (bytes_high_first 16 n) ∙ read_behind 16 0 n ∙ rw (mod-eq_of_lt h) (omega arith)
+
+pub without_zeros-shortest : (n : ℕ) → without_zeros (shortest_bytes n) ≡ shortest_bytes n
+unfolding shortest_bytes
+without_zeros-shortest n = none_left (bytes_high_first 16 n)
 
 pub magnitude-shortest : (n : ℕ) → n < 2 ^ 128 → magnitude (shortest_bytes n) ≡ gives n
 magnitude-shortest n h =

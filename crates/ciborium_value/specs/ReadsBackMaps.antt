@@ -64,7 +64,7 @@ module _ {A B : Type 0} (order : A → A → Ordering) where
   put-rising ps r = put-behind [] ps (above_none ps) r
 
 -- what counts of the entries
-abbrev contents : {K V A B : Type 0} → (K → A) → (V → B) → List (K × V) → List (A × B)
+abbrev pub contents : {K V A B : Type 0} → (K → A) → (V → B) → List (K × V) → List (A × B)
 contents key value es = map (λ e. (key e.0, value e.1)) es
 
 module _ {K V A B : Type 0} (cmp : K → K → Ordering) (order : A → A → Ordering) (key : K → A) (value : V → B) (total : IsTotalOrder cmp) (orders : (a b : K) → cmp a b ≡ order (key a) (key b)) where
@@ -77,7 +77,7 @@ module _ {K V A B : Type 0} (cmp : K → K → Ordering) (order : A → A → Or
   contents-rising [] h = tt
   contents-rising (e ∷ es) h = (contents-above e es h.0, contents-rising es h.1)
 
-  put-contents : (es : List (K × V)) → IsStrictlySortedBy cmp (keys_of es) → put_all order [] (contents key value es) ≡ contents key value es
+  pub put-contents : (es : List (K × V)) → IsStrictlySortedBy cmp (keys_of es) → put_all order [] (contents key value es) ≡ contents key value es
   put-contents es h = put-rising order (contents key value es) (contents-rising es h)
 
 -- ---- maps

@@ -1,13 +1,17 @@
 //! What is written is read back, and equal contents are written alike.
 
 ghost use Rattle.std.specs.Prelude.{◌≡◌, ℕ};
+ghost use Rattle.ciborium_value.specs.FormsReadBack.{IsFormRead};
 ghost use Rattle.ciborium_value.specs.NeverNull.{IsNeverNull};
 ghost use Rattle.ciborium_value.specs.ReadsBack.{IsNameRead};
+ghost use Rattle.ciborium_value.specs.declared.key_order.KeyOrder.{KeyOrder};
 
 use crate::deserialize::Deserialize;
 use crate::serialize::Serialize;
 
 mod contents;
+mod form_numbers;
+mod forms;
 mod maps;
 mod numbers;
 mod options;
@@ -38,6 +42,18 @@ pub trait ReadsBack: Serialize + Deserialize {
     // are left.
     ghost reads_back: { (v : Self) → is_held v →
         IsNameRead (Self.written v) Self.reading.taken (Self.reading.content v) (levels v) };
+}
+
+/// A type of which what is written in its deterministic form is read back.
+///
+/// The form sorts the pairs of each map by their keys, and folds bignums (RFC 8949, sections 3.4.3
+/// and 4.2). To such a type neither makes a difference: from the form of what a value names, in
+/// either order of keys, reading takes all that counts of the value. So it is of types that are read
+/// by what they are, and not of `Value` and its kin, to which the order of pairs counts.
+pub trait FormReadsBack: ReadsBack {
+    // The form of what a value names is read as what counts of the value.
+    ghost form_reads_back: { (o : KeyOrder) → (v : Self) → Self.is_held v →
+        IsFormRead o (Self.written v) Self.reading.taken (Self.reading.content v) };
 }
 
 /// A type whose values are never written as null or undefined, so that options of it are read back.
