@@ -7,6 +7,7 @@ use crate::round_trips::{
 use crate::test_bytes::decode_hex;
 use ciborium::laws::form_is_read_back;
 use ciborium::ser::{Error, Serialize};
+use ciborium::tag::Required;
 use ciborium::value::{KeyOrder, Kind, Value};
 use ciborium::{cbor, into_writer_deterministic};
 use std::alloc::Global;
@@ -101,6 +102,21 @@ fn maps_in_a_list_come_back_from_their_form(rt: HostRuntime) -> Result<(), Fail>
     expect_form(alloc, &list, KeyOrder::LengthFirst, AGES)?;
     let again = through_sorted_form(alloc, &list, KeyOrder::Bytewise);
     expect_same(again, Some(list), "read as a list of maps")
+}
+
+// 2({"c": null, "bb": true}): the tag of a bignum folds over byte strings alone.
+const FLAGS: &str = "c2a26163f6626262f5";
+
+#[test]
+fn a_map_under_a_tag_comes_back_from_its_form(rt: HostRuntime) -> Result<(), Fail> {
+    let alloc = rt.alloc();
+    let mut flags: BTreeMap<String, Option<bool>> = BTreeMap::new(alloc);
+    flags.insert(String::from_str(alloc, "bb")?, Some(true))?;
+    flags.insert(String::from_str(alloc, "c")?, None)?;
+    let tagged = Required::<BTreeMap<String, Option<bool>>, 2>(flags);
+    expect_form(alloc, &tagged, KeyOrder::Bytewise, FLAGS)?;
+    let again = through_sorted_form(alloc, &tagged, KeyOrder::LengthFirst);
+    expect_same(again, Some(tagged), "read under the tag")
 }
 
 #[test]
