@@ -17,6 +17,7 @@ pub mod Skips
 pub mod StringContents
 pub mod ByteSources
 pub mod ReadsBackTags
+pub mod FormsReadBackTags
 pub mod RoundTrips
 pub mod TypedReads
 pub mod Literals

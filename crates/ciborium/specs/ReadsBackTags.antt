@@ -25,7 +25,7 @@ untagged-either : (t : Bool) (v w : Tree) → outer_tag (item_of v) ≡ (None, i
 untagged-either true v w h k = h
 untagged-either false v w h k = k
 
-met-untagged : (way : Way) (i : Item) → outer_tag i ≡ (None, i) → outer_tag (met way i) ≡ (None, met way i)
+pub met-untagged : (way : Way) (i : Item) → outer_tag i ≡ (None, i) → outer_tag (met way i) ≡ (None, met way i)
 met-untagged by_bytes i e = e
 met-untagged by_tree (items.unsigned n) e = refl
 met-untagged by_tree (items.negative n) e = refl

@@ -5,13 +5,16 @@ ghost use Rattle.ciborium_value.specs.KeyOrders.{ordering_then-same};
 ghost use Rattle.ciborium_value.specs.Sinks.{AddsNamed, BreaksNamed, IsGranted, IsOwed, IsReady};
 ghost use Rattle.ciborium_value.specs.Sinks.{tag_of};
 ghost use Rattle.ciborium_value.specs.TagReadings.{tag_accepted, tag_required, with_tag};
+ghost use Rattle.ciborium.specs.FormsReadBackTags.{accepted-form, captured-form};
+ghost use Rattle.ciborium.specs.FormsReadBackTags.{no_bytes-captured, no_bytes-tag};
+ghost use Rattle.ciborium.specs.FormsReadBackTags.{required-form};
 ghost use Rattle.ciborium.specs.ReadsBackTags.{IsToldApart, accepted-back, captured-back};
 ghost use Rattle.ciborium.specs.ReadsBackTags.{captured-never, required-back, tag-never};
 ghost use Rattle.ciborium.specs.Tags.{captured_of};
 ghost use Rattle.ciborium.specs.WrittenTags.{captured-alike, tagged-alike};
 
 use crate::de::{Deserialize, Key, Source};
-use crate::laws::{NeverNull, ReadsBack, WritesContent};
+use crate::laws::{FormReadsBack, NeverBytes, NeverNull, ReadsBack, WritesContent};
 use crate::ser::{Serialize, Sink};
 use crate::value::Kind;
 use std::alloc::Global;
@@ -160,6 +163,36 @@ impl<V: ReadsBack, const TAG: u64> ReadsBack for Accepted<V, TAG> {
     ghost levels = { λ a. suc (V.levels a.0) };
 
     ghost reads_back = { λ a held. accepted-back TAG (V.reads_back a.0 held) };
+}
+
+/// Where no tag makes a bignum of what is written under it.
+impl<V: FormReadsBack + NeverBytes> FormReadsBack for Captured<V> {
+    ghost form_reads_back = { λ o c held. captured-form o
+        c.0 held.0 (V.never_bytes c.1) (V.form_reads_back o c.1 held.1) };
+}
+
+/// Where no tag makes a bignum of what is written under it.
+impl<V: FormReadsBack + NeverBytes, const TAG: u64> FormReadsBack for Required<V, TAG> {
+    ghost form_reads_back = { λ o r held. required-form o
+        TAG (V.never_bytes r.0) (V.form_reads_back o r.0 held) };
+}
+
+/// Where no tag makes a bignum of what is written under it.
+impl<V: FormReadsBack + NeverBytes, const TAG: u64> FormReadsBack for Accepted<V, TAG> {
+    ghost form_reads_back = { λ o a held. accepted-form o
+        TAG (V.never_bytes a.0) (V.form_reads_back o a.0 held) };
+}
+
+impl<V: NeverBytes> NeverBytes for Captured<V> {
+    ghost never_bytes = { λ c. no_bytes-captured c.0 (V.never_bytes c.1) };
+}
+
+impl<V: Serialize, const TAG: u64> NeverBytes for Required<V, TAG> {
+    ghost never_bytes = { λ r. no_bytes-tag TAG (V.written r.0) };
+}
+
+impl<V: Serialize, const TAG: u64> NeverBytes for Accepted<V, TAG> {
+    ghost never_bytes = { λ a. no_bytes-tag TAG (V.written a.0) };
 }
 
 impl<V: NeverNull> NeverNull for Captured<V> {

@@ -1,13 +1,17 @@
 //! Values written in their deterministic forms, in either order of keys (RFC 8949, section 4.2).
 use crate::expectations::{expect, expect_bytes, expect_same, expect_written};
 use crate::own_types::{Figure, Message};
-use crate::round_trips::{message_through_form, through_form, through_own_form};
+use crate::round_trips::{
+    message_through_form, through_form, through_own_form, through_sorted_form,
+};
 use crate::test_bytes::decode_hex;
 use ciborium::laws::form_is_read_back;
 use ciborium::ser::{Error, Serialize};
+use ciborium::tag::Required;
 use ciborium::value::{KeyOrder, Kind, Value};
 use ciborium::{cbor, into_writer_deterministic};
 use std::alloc::Global;
+use std::collections::BTreeMap;
 use std::io;
 use std::test::Fail;
 
@@ -82,6 +86,37 @@ fn the_fields_of_a_struct_are_sorted(rt: HostRuntime) -> Result<(), Fail> {
 fn what_is_its_own_form_comes_back(rt: HostRuntime) -> Result<(), Fail> {
     let again = through_own_form(rt.alloc(), &Figure::Circle(255), KeyOrder::Bytewise);
     expect_same(again, Some(Figure::Circle(255)), "a circle")
+}
+
+// [{"c": 255, "bb": 1}], whose keys stand in the other order in the map.
+const AGES: &str = "81a2616318ff62626201";
+
+#[test]
+fn maps_in_a_list_come_back_from_their_form(rt: HostRuntime) -> Result<(), Fail> {
+    let alloc = rt.alloc();
+    let mut ages: BTreeMap<String, u64> = BTreeMap::new(alloc);
+    ages.insert(String::from_str(alloc, "bb")?, 1)?;
+    ages.insert(String::from_str(alloc, "c")?, 255)?;
+    let list = vec![in alloc; ages]?;
+    expect_form(alloc, &list, KeyOrder::Bytewise, AGES)?;
+    expect_form(alloc, &list, KeyOrder::LengthFirst, AGES)?;
+    let again = through_sorted_form(alloc, &list, KeyOrder::Bytewise);
+    expect_same(again, Some(list), "read as a list of maps")
+}
+
+// 2({"c": null, "bb": true}): the tag of a bignum folds over byte strings alone.
+const FLAGS: &str = "c2a26163f6626262f5";
+
+#[test]
+fn a_map_under_a_tag_comes_back_from_its_form(rt: HostRuntime) -> Result<(), Fail> {
+    let alloc = rt.alloc();
+    let mut flags: BTreeMap<String, Option<bool>> = BTreeMap::new(alloc);
+    flags.insert(String::from_str(alloc, "bb")?, Some(true))?;
+    flags.insert(String::from_str(alloc, "c")?, None)?;
+    let tagged = Required::<BTreeMap<String, Option<bool>>, 2>(flags);
+    expect_form(alloc, &tagged, KeyOrder::Bytewise, FLAGS)?;
+    let again = through_sorted_form(alloc, &tagged, KeyOrder::LengthFirst);
+    expect_same(again, Some(tagged), "read under the tag")
 }
 
 #[test]

@@ -99,11 +99,7 @@ pub fn through_form<T: Serialize>(alloc: Global, value: &T, order: KeyOrder) -> 
 }
 
 /// The same as the type of the value, to which the order of pairs makes no difference.
-pub fn through_sorted_form<T: FormReadsBack>(
-    alloc: Global,
-    value: &T,
-    order: KeyOrder,
-) -> Option<T>
+pub fn through_sorted_form<T: FormReadsBack>(alloc: Global, value: &T, order: KeyOrder) -> Option<T>
     requires { T.is_held value.now }
     ensures { IfSome result (λ again.
         T.reading.content again ≡ T.reading.content value.now) }

@@ -24,18 +24,18 @@ IsReadFromForm {T = T} o IsHeld written taken content = (v : T) → IsHeld v →
 
 -- ---- items that are their own forms
 
-abbrev pub IsOwnForm : KeyOrder → Item → Type 0
-IsOwnForm o i = deterministic_form o (written_tree i) ≡ gives (written_tree i)
+abbrev pub IsItsOwnForm : KeyOrder → Item → Type 0
+IsItsOwnForm o i = deterministic_form o (written_tree i) ≡ gives (written_tree i)
 
 -- what names such items is read from the form as it is read back
-pub own-form_read : {T C : Type 0} (o : KeyOrder) {IsHeld : T → Type 0} {written : T → Item} {taken : Taken C} {content : T → C} {levels : T → ℕ} → IsReadBack IsHeld (λ v. named (written v)) taken content levels → ((v : T) → IsHeld v → IsOwnForm o (written v)) →
+pub own-form_read : {T C : Type 0} (o : KeyOrder) {IsHeld : T → Type 0} {written : T → Item} {taken : Taken C} {content : T → C} {levels : T → ℕ} → IsReadBack IsHeld (λ v. named (written v)) taken content levels → ((v : T) → IsHeld v → IsItsOwnForm o (written v)) →
     IsReadFromForm o IsHeld (λ v. named (written v)) taken content
 own-form_read o {written = written} {taken = taken} {content = content} law own v held = record {
   back = of_ok (named (written v)) (λ i. (t : Tree) → deterministic_form o (written_tree i) ≡ gives t → taken None (item_of t) ≡ gives (content v))
       (λ t form. subst (λ u. taken None (item_of u) ≡ gives (content v)) (one_given (written_tree (written v)) t (sym (own v held) ∙ form)) ((law v held).back by_tree (written v) refl None tt));
 }
 
-own-boolean : (o : KeyOrder) (b : Bool) → IsOwnForm o (boolean_item b)
+own-boolean : (o : KeyOrder) (b : Bool) → IsItsOwnForm o (boolean_item b)
 own-boolean o false = refl
 own-boolean o true = refl
 

@@ -5,7 +5,7 @@ use Rattle.std.proofs.lemmas.Bool.Decides.{nat_tests}
 use Rattle.std.specs.Prelude.{◌≡◌, ℕ, ◌^◌, ◌<◌, ◌≤◌, ℤ, pos, negsuc, Bool, true, false, List, length, Some, None, if◌then◌else◌, nat_lt, nat_le, refl}
 use Rattle.ciborium_ll.specs.Item as items
 use Rattle.ciborium_value.specs.DeterministicForms.{tag_form}
-use Rattle.ciborium_value.specs.FormsReadBack.{IsOwnForm, IsReadFromForm, own-form_read}
+use Rattle.ciborium_value.specs.FormsReadBack.{IsItsOwnForm, IsReadFromForm, own-form_read}
 use Rattle.ciborium_value.specs.Meaning.{bignum_meaning, negative_bignum, unsigned_bignum, without_zeros}
 use Rattle.ciborium_value.specs.Number.{shortest_bytes}
 use Rattle.ciborium_value.specs.Readings as readings
@@ -47,13 +47,13 @@ meaning-negative n fits large =
     let wide : n < 2 ^ 128 = omega (arith, fits, le) in
     ap (λ m. negative_bignum m (without_zeros b)) (big_endian-shortest n wide) ∙ ap (negative_bignum n) (without_zeros-shortest n) ∙ negative-itself n b large fits
 
-own-unsigned : (o : KeyOrder) (n : ℕ) → n < 2 ^ 128 → (c : Bool) → nat_lt n (2 ^ 64) ≡ c → IsOwnForm o (if c then items.unsigned n else bignum_item 2 n)
+own-unsigned : (o : KeyOrder) (n : ℕ) → n < 2 ^ 128 → (c : Bool) → nat_lt n (2 ^ 64) ≡ c → IsItsOwnForm o (if c then items.unsigned n else bignum_item 2 n)
 own-unsigned o n fits true e = refl
 own-unsigned o n fits false e =
     let b = shortest_bytes n in
     ap (λ t. tag_form 2 (if t then Some b else None) (gives (trees.bytes b))) (short n) ∙ ap (of_meaning kinds.TooLarge) (meaning-unsigned n fits e)
 
-own-negative : (o : KeyOrder) (n : ℕ) → n < 2 ^ 127 → (c : Bool) → nat_lt n (2 ^ 64) ≡ c → IsOwnForm o (if c then items.negative n else bignum_item 3 n)
+own-negative : (o : KeyOrder) (n : ℕ) → n < 2 ^ 127 → (c : Bool) → nat_lt n (2 ^ 64) ≡ c → IsItsOwnForm o (if c then items.negative n else bignum_item 3 n)
 own-negative o n fits true e = refl
 own-negative o n fits false e =
     let b = shortest_bytes n in
@@ -67,7 +67,7 @@ unsigned-form k fits law o = own-form_read o law (λ n h.
     let le : 2 ^ k ≤ 2 ^ 128 = pow-le-pow_right {n = 2} (lit< tt) {i = k} {j = 128} (omega (arith, fits)) in
     own-unsigned o n (omega (arith, le, h)) (nat_lt n (2 ^ 64)) refl)
 
-own-signed : (o : KeyOrder) (k : ℕ) → k < 128 → (z : ℤ) → readings.IsWithin (2 ^ k) z → IsOwnForm o (number_item z)
+own-signed : (o : KeyOrder) (k : ℕ) → k < 128 → (z : ℤ) → readings.IsWithin (2 ^ k) z → IsItsOwnForm o (number_item z)
 own-signed o k fits (pos n) h =
     let le : 2 ^ k ≤ 2 ^ 128 = pow-le-pow_right {n = 2} (lit< tt) {i = k} {j = 128} (omega (arith, fits)) in
     own-unsigned o n (omega (arith, le, h)) (nat_lt n (2 ^ 64)) refl

@@ -69,3 +69,4 @@ pub mod FormsReadBackNumbers
 pub mod FormsReadBackParts
 pub mod FormsReadBackMaps
 pub mod FormsReadBackOptions
+pub mod NeverBytes

@@ -27,7 +27,7 @@ pub use deserialize::{Deserialize, Key};
 pub use fields::{Field, Fields, NoField};
 pub use key_order::KeyOrder;
 pub use kind::Kind;
-pub use reads_back::{FormReadsBack, NeverNull, ReadsBack, WritesContent};
+pub use reads_back::{FormReadsBack, NeverBytes, NeverNull, ReadsBack, WritesContent};
 pub use serialize::Serialize;
 pub use sink::Sink;
 pub use source::Source;

@@ -2,6 +2,7 @@
 
 ghost use Rattle.std.specs.Prelude.{◌≡◌, ℕ};
 ghost use Rattle.ciborium_value.specs.FormsReadBack.{IsFormRead};
+ghost use Rattle.ciborium_value.specs.NeverBytes.{IsNeverBytes};
 ghost use Rattle.ciborium_value.specs.NeverNull.{IsNeverNull};
 ghost use Rattle.ciborium_value.specs.ReadsBack.{IsNameRead};
 ghost use Rattle.ciborium_value.specs.declared.key_order.KeyOrder.{KeyOrder};
@@ -13,6 +14,7 @@ mod contents;
 mod form_numbers;
 mod forms;
 mod maps;
+mod never_bytes;
 mod numbers;
 mod options;
 mod parts;
@@ -62,6 +64,13 @@ pub trait FormReadsBack: ReadsBack {
 pub trait NeverNull: Serialize {
     // What the value names, if it names an item, is not null nor undefined.
     ghost never_null: { (v : Self) → IsNeverNull (Self.written v) };
+}
+
+/// A type whose values are never written as a byte string, so that a tag over them makes no bignum
+/// of them (RFC 8949, section 3.4.3), whatever its number.
+pub trait NeverBytes: Serialize {
+    // What the value names, if it names an item, is no byte string on which a tag folds.
+    ghost never_bytes: { (v : Self) → IsNeverBytes (Self.written v) };
 }
 
 /// A type of which values with equal contents are written alike.
