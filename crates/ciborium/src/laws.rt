@@ -106,9 +106,9 @@ pub fn loaded_as_saved<T: ReadsBack>()
 
 /// The same of one value that was saved and loaded: where `bytes` are what `into_writer` put out of
 /// `value`, `tree` was read at their front by `from_reader_deterministic` within `limit` levels,
-/// with `rest` behind it, and `again` is what `deserialized` made of `tree`, the contents are equal.
-/// That the bytes are deterministic (RFC 8949, section 4.2) is no premise, since that reader took
-/// them. A caller that saves and loads calls it behind its calls, and needs no proof file.
+/// with `rest` behind it, and `again` is what `deserialized` made of `tree`, the contents are
+/// equal. That the bytes are deterministic (RFC 8949, section 4.2) is no premise, since that reader
+/// took them. A caller that saves and loads calls it behind its calls, and needs no proof file.
 pub fn is_loaded<T: ReadsBack>(
     value: &T,
     tree: &Value,
@@ -171,9 +171,9 @@ pub fn written_deterministically_is_read_back<T: ReadsBack>(
 /// The same of a type to which neither the order of pairs nor the folding of bignums makes a
 /// difference: where `bytes` are what `into_writer_deterministic` put out of `value` in this order,
 /// into an empty list, and `again` was read at their front by `from_reader` within `limit` levels,
-/// with `rest` behind it, the contents are equal. Nothing is asked of what the value names: it rests
-/// on the law that the type has (`FormReadsBack`). A caller that writes and reads calls it behind
-/// its calls, and needs no proof file.
+/// with `rest` behind it, the contents are equal. Nothing is asked of what the value names: it
+/// rests on the law that the type has (`FormReadsBack`). A caller that writes and reads calls it
+/// behind its calls, and needs no proof file.
 pub fn form_gives_content<T: FormReadsBack>(
     value: &T,
     again: &T,
@@ -214,8 +214,8 @@ pub fn sources_agree<T: Deserialize>()
 
 /// What is written is read back: the bytes that `into_writer` puts out of a value, whatever follows
 /// them, give its content where as many levels are left as reading it takes, and what follows is
-/// left. Reading fails only for what no item decides: the reader, want of memory, or bytes that pass
-/// the greatest offset. What `Value::serialized` makes of a value gives its content by
+/// left. Reading fails only for what no item decides: the reader, want of memory, or bytes that
+/// pass the greatest offset. What `Value::serialized` makes of a value gives its content by
 /// `deserialized`, which fails for want of memory alone. It rests on the law that the type has
 /// (`ReadsBack`).
 pub fn written_is_read_back<T: ReadsBack>()

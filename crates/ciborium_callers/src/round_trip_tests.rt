@@ -102,8 +102,8 @@ fn load(alloc: Global, bytes: &[u8]) -> Result<BTreeMap<CanonicalValue, Value>, 
     Ok(value.deserialized(alloc)?)
 }
 
-// {1000: 0, "a": 1}, whose keys rise bytewise (RFC 8949, section 4.2.1), and {"a": 1, 1000: 0}, with
-// the shorter key first (section 4.2.3).
+// {1000: 0, "a": 1}, whose keys rise bytewise (RFC 8949, section 4.2.1), and {"a": 1, 1000: 0},
+// with the shorter key first (section 4.2.3).
 const BYTEWISE: &str = "a21903e800616101";
 
 const LENGTH_FIRST: &str = "a26161011903e800";

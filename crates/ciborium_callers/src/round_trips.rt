@@ -79,8 +79,8 @@ pub fn through_store(
     Some(again)
 }
 
-/// Through the deterministic encoding in an order of keys. What is read is the deterministic form of
-/// what the value names.
+/// Through the deterministic encoding in an order of keys. What is read is the deterministic form
+/// of what the value names.
 pub fn through_form<T: Serialize>(alloc: Global, value: &T, order: KeyOrder) -> Option<Value>
     ensures { IfSome result
         (λ tree. named_form order (T.written value.now) ≡ gives (tree_of tree)) }

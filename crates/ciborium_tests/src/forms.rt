@@ -96,8 +96,8 @@ fn encode(alloc: Global, value: &Value) -> Result<Vec<u8>, AllocError> {
     }
 }
 
-/// `N`: `rises` where the form of a map of so many pairs, whose keys are the numbers that fall to 0,
-/// has the keys that rise from 0; else `differs`.
+/// `N`: `rises` where the form of a map of so many pairs, whose keys are the numbers that fall to
+/// 0, has the keys that rise from 0; else `differs`.
 ///
 /// # Errors
 ///

@@ -115,8 +115,8 @@ pub fn read_map(alloc: Global) -> Result<(), Failure> {
     expect(map.len() == 1 && map.get(&1) == Some(&3))
 }
 
-/// Writes the deterministic form of a value, which stays as it was. Where memory is refused, nothing
-/// goes out.
+/// Writes the deterministic form of a value, which stays as it was. Where memory is refused,
+/// nothing goes out.
 ///
 /// # Errors
 ///

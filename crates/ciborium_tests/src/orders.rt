@@ -53,8 +53,8 @@ fn show_sorted<K: SortKey>(
     }
 }
 
-/// `LEAST MOST HEX HEX`: the order of two values, where it takes so many visits of their nodes; else
-/// `N visits`.
+/// `LEAST MOST HEX HEX`: the order of two values, where it takes so many visits of their nodes;
+/// else `N visits`.
 ///
 /// # Errors
 ///

@@ -67,8 +67,8 @@ pub fn tag_over(alloc: Global, tag: u64, bytes: &[u8]) -> Result<Value, AllocErr
 }
 
 /// The integer that tag 2 or 3 over at most 16 bytes means, or `None` where it is no number of 64
-/// bits, and the tag stands over the bytes without leading zeros (RFC 8949, section 3.4.3). It takes
-/// no memory. Another tag, or more bytes, do not fold and may not be handed in.
+/// bits, and the tag stands over the bytes without leading zeros (RFC 8949, section 3.4.3). It
+/// takes no memory. Another tag, or more bytes, do not fold and may not be handed in.
 ///
 /// # Errors
 ///

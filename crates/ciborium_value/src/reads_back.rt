@@ -50,8 +50,8 @@ pub trait ReadsBack: Serialize + Deserialize {
 ///
 /// The form sorts the pairs of each map by their keys, and folds bignums (RFC 8949, sections 3.4.3
 /// and 4.2). To such a type neither makes a difference: from the form of what a value names, in
-/// either order of keys, reading takes all that counts of the value. So it is of types that are read
-/// by what they are, and not of `Value` and its kin, to which the order of pairs counts.
+/// either order of keys, reading takes all that counts of the value. So it is of types that are
+/// read by what they are, and not of `Value` and its kin, to which the order of pairs counts.
 pub trait FormReadsBack: ReadsBack {
     // The form of what a value names is read as what counts of the value.
     ghost form_reads_back: { (o : KeyOrder) → (v : Self) → Self.is_held v →
