@@ -107,6 +107,22 @@ class LineMaker(typed_lines.Maker):
             keys.append(self.pick(keys))
         return self.map([(key, self.mapping(depth - 1) if depth > 0 and self.chance(0.4) else self.small()) for key in keys])
 
+    def shown(self):
+        """Any item, texts of every kind of character among its parts."""
+        if self.chance(0.1):
+            return self.spelling()
+        return self.array([self.characters(), self.item(self.below(4)), self.map([(self.characters(), self.item(self.below(3)))])])
+
+    def characters(self):
+        return self.text("".join(chr(self.character()) for _ in range(self.below(12))))
+
+    def character(self):
+        """One of any size in UTF-8, often one that is escaped."""
+        return self.pick((
+            self.below(0x20), 0x22, 0x5c, 0x20 + self.below(0x60), 0x7f, 0x80 + self.below(0x780), 0x800 + self.below(0xd000),
+            0x10000 + self.below(0x100000),
+        ))
+
     def form_line(self):
         self.oddness = self.pick((0, 0.1, 0.3))
         self.length = self.pick((0, 0, 0, 0.1))
@@ -120,6 +136,8 @@ class LineMaker(typed_lines.Maker):
         self.oddness = self.pick((0, 0.1, 0.3, 0.6))
         self.length = self.pick((0, 0, 0, 0, 0.1))
         form = self.random.random()
+        if form < 0.08:
+            return "%s %s" % (self.pick(("notation", "indented")), self.shown().hex())
         if form < 0.4:
             return "%s %d %s" % (self.pick(TYPE_NAMES), self.limit(), self.spelling().hex())
         if form < 0.5:

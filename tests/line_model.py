@@ -16,6 +16,7 @@ sys.dont_write_bytecode = True
 
 import asked_model as asked
 import head_model as heads
+import notation_model as notation
 import typed_model as model
 
 sys.setrecursionlimit(400000)
@@ -304,6 +305,15 @@ def not_answered(rest):
     raise Unanswered
 
 
+def showing(show):
+    """The notation of a value, whatever the options of a formatter but `#`, and at a writer that fails at each call in turn."""
+    def answer_notation(rest):
+        tree = model.read_tree(parse_pieces(rest))[0]
+        return "no value" if tree is None else show(tree)
+
+    return answer_notation
+
+
 # --- Orders and deterministic forms (sections 4.2.1 and 4.2.3) ------------------------------------------------------
 
 
@@ -568,6 +578,8 @@ FORMS = {
     "falling": answer_falling,
     "falling-core": answer_falling,
     "literal": answer_literal,
+    "notation": showing(notation.show),
+    "indented": showing(lambda tree: "\t".join(notation.indent(tree))),
     "head": at_offset(heads.answer_head),
     "heads": at_offset(heads.answer_heads),
     "first": lambda rest: heads.answer_first(parse_pieces(rest)),

@@ -32,3 +32,4 @@ pub mod SequenceWrites
 pub mod SequenceReads
 pub mod SequenceRoundTrips
 pub mod WrittenTags
+pub mod Messages

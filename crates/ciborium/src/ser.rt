@@ -2,21 +2,28 @@
 
 ghost use Rattle.std.specs.Prelude.{◌≡◌, IfErr, OnOk};
 ghost use Rattle.ciborium_value.specs.Sinks.{IsGranted, IsOwed};
+ghost use Rattle.ciborium.specs.Messages.{write_error_message};
 ghost use Rattle.ciborium.specs.Writes.{IsNamedWritten, WritesNamed, cause_of};
-ghost use Rattle.ciborium.specs.declared.ser.Error.TheVariants.{Io};
+ghost use Rattle.ciborium.specs.declared.ser.Error.TheVariants.{Io, Memory};
 
 use byte_sink::{ByteSink, Refusal};
 use ciborium_value::Kind;
 pub use ciborium_value::{Field, Fields, NoField, Serialize, Sink};
 pub use deterministic::into_writer_deterministic;
 pub use sequence::write_sequence;
+use std::alloc::{AllocError, AllocFailed};
 use std::io::{self, Write};
+use std::{error, fmt};
 
 mod byte_sink;
 mod deterministic;
 mod sequence;
 
 /// Why writing was refused.
+///
+/// Each has a message of one line: `the value cannot be written: two equal keys in one map`. That
+/// of `Io` is `writing failed: ` and the writer's own, and a clause knows it where it knows that
+/// one; what an `io::Error` prints it does not know.
 #[derive(Debug, Drop)]
 pub enum Error<T> {
     /// The writer failed, or a write took nothing.
@@ -34,6 +41,36 @@ impl<T> From<T> for Error<T> {
         Error::Io(error)
     }
 }
+
+impl From<AllocError> for Error<io::Error> {
+    ghost from_gives = { λ _ f. f ≡ Memory };
+
+    fn from(_: AllocError) -> Error<io::Error> {
+        Error::Memory
+    }
+}
+
+impl<T: Drop> From<AllocFailed<T>> for Error<io::Error> {
+    ghost from_gives = { λ _ f. f ≡ Memory };
+
+    fn from(_: AllocFailed<T>) -> Error<io::Error> {
+        Error::Memory
+    }
+}
+
+impl<T: fmt::Display> fmt::Display for Error<T> {
+    ghost output = { write_error_message T.output };
+
+    fn fmt<W: fmt::Write>(&self, f: &mut fmt::Formatter<W>) -> fmt::Result {
+        match self {
+            Error::Io(error) => write!(f, "writing failed: {error}"),
+            Error::Value(kind) => write!(f, "the value cannot be written: {kind}"),
+            Error::Memory => f.write_str("an allocation failed"),
+        }
+    }
+}
+
+impl<T: fmt::Debug + fmt::Display + Drop> error::Error for Error<T> {}
 
 /// Writes the item of a value, each head in its shortest form (RFC 8949, section 4.1). A `Value` is
 /// written in its one shortest definite encoding: definite lengths, the pairs of a map in their

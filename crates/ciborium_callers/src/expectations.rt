@@ -3,6 +3,7 @@ use crate::test_bytes::decode_hex;
 use ciborium::into_writer;
 use ciborium::ser::Serialize;
 use std::alloc::Global;
+use std::error;
 use std::fmt::Debug;
 use std::test::Fail;
 
@@ -70,4 +71,10 @@ pub fn expect_written<T: Serialize + Drop, E: Debug + Drop>(
     let mut bytes = Vec::new(alloc);
     into_writer(&value, &mut bytes)?;
     expect_bytes(alloc, Some(bytes), digits)
+}
+
+/// Fails unless the error prints these words.
+pub fn expect_text<E: error::Error>(alloc: Global, error: E, words: &str) -> Result<(), Fail> {
+    let text = format!(in alloc; "{error}")?;
+    expect(text.as_str() == words, words)
 }

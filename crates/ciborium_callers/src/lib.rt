@@ -3,6 +3,9 @@
 
 #[cfg(test)]
 mod ample_memory;
+pub mod application;
+#[cfg(test)]
+mod application_tests;
 #[cfg(test)]
 mod caller_tests;
 pub mod callers;
@@ -20,6 +23,12 @@ mod key_tests;
 pub mod key_types;
 #[cfg(test)]
 mod macro_tests;
+#[cfg(test)]
+mod message_tests;
+pub mod messages;
+pub mod notation_callers;
+#[cfg(test)]
+mod notation_tests;
 pub mod own_callers;
 pub mod own_types;
 pub mod readme;

@@ -16,3 +16,4 @@ pub mod Decoding
 pub mod FirstHeads
 pub mod Cursors
 pub mod Writing
+pub mod Messages

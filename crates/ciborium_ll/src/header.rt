@@ -2,7 +2,11 @@
 
 ghost use Rattle.std.specs.Prelude.{◌≡◌, length, ℕ};
 ghost use Rattle.ciborium_ll.specs.Head.{shortest_head};
-ghost use Rattle.ciborium_ll.specs.declared.header.Error.TheVariants.{Io};
+ghost use Rattle.ciborium_ll.specs.Messages.{error_message};
+ghost use Rattle.ciborium_ll.specs.declared.header.Error.TheVariants.{Io, Memory};
+
+use std::alloc::{AllocError, AllocFailed};
+use std::{error, fmt, io};
 
 /// The head of a data item (RFC 8949, section 3), or a break.
 ///
@@ -34,11 +38,14 @@ pub enum Header {
     Break,
 }
 
-/// Why a call was refused. Offsets count bytes, from where the decoder began.
+/// Why a call of a decoder was refused. Offsets count bytes, from where the decoder began.
+///
+/// Each has a message of one line: `at byte 17: not well-formed CBOR`. That of `Io` is `reading
+/// failed: ` and the reader's own, and a clause knows it where it knows that one; what an
+/// `io::Error` prints it does not know.
 #[derive(Debug, Drop)]
 pub enum Error<T> {
-    /// The reader or writer failed, or a read of nothing came where bytes are needed, or a write
-    /// took nothing.
+    /// The reader failed, or a read of nothing came where bytes are needed.
     Io(T),
     /// The head at this offset is not well-formed, or not where it stands, or it begins a text that
     /// is not UTF-8 (RFC 8949, appendix F).
@@ -56,6 +63,37 @@ impl<T> From<T> for Error<T> {
         Error::Io(error)
     }
 }
+
+impl From<AllocError> for Error<io::Error> {
+    ghost from_gives = { λ _ f. f ≡ Memory };
+
+    fn from(_: AllocError) -> Error<io::Error> {
+        Error::Memory
+    }
+}
+
+impl<T: Drop> From<AllocFailed<T>> for Error<io::Error> {
+    ghost from_gives = { λ _ f. f ≡ Memory };
+
+    fn from(_: AllocFailed<T>) -> Error<io::Error> {
+        Error::Memory
+    }
+}
+
+impl<T: fmt::Display> fmt::Display for Error<T> {
+    ghost output = { error_message T.output };
+
+    fn fmt<W: fmt::Write>(&self, f: &mut fmt::Formatter<W>) -> fmt::Result {
+        match self {
+            Error::Io(error) => write!(f, "reading failed: {error}"),
+            Error::Syntax(offset) => write!(f, "at byte {offset}: not well-formed CBOR"),
+            Error::TooLong => f.write_str("the item would end past usize::MAX bytes"),
+            Error::Memory => f.write_str("an allocation failed"),
+        }
+    }
+}
+
+impl<T: fmt::Debug + fmt::Display + Drop> error::Error for Error<T> {}
 
 /// How many bytes the shortest head with this argument has, whatever its major type (RFC 8949,
 /// section 4.1).

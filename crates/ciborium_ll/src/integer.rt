@@ -1,13 +1,15 @@
 //! The whole numbers that CBOR's major types 0 and 1 hold (RFC 8949, section 3.1).
 
-ghost use Rattle.std.specs.Prelude.{◌≡◌, ℤ};
+ghost use Rattle.std.specs.Prelude.{◌≡◌, Some, ℤ};
 ghost use Rattle.ciborium_ll.specs.Integer.{IsInRange};
+ghost use Rattle.ciborium_ll.specs.Messages.{range_message};
 
 mod widths;
 
 use crate::header::head_size;
 use std::cmp::Ordering;
 use std::marker::Model;
+use std::{error, fmt};
 
 /// A whole number from -2^64 to 2^64 - 1 (RFC 8949, section 3.1). Its order is that of numbers.
 #[derive(Clone, Copy, Debug, PartialEq, Eq, PartialOrd, Ord, Hash)]
@@ -28,6 +30,16 @@ impl Model for Integer {
 /// The answer where the wanted type does not hold the number.
 #[derive(Clone, Copy, Debug, PartialEq, Eq)]
 pub struct OutOfRange;
+
+impl fmt::Display for OutOfRange {
+    ghost output = { λ _. Some range_message };
+
+    fn fmt<W: fmt::Write>(&self, f: &mut fmt::Formatter<W>) -> fmt::Result {
+        f.write_str("an integer out of the type's range")
+    }
+}
+
+impl error::Error for OutOfRange {}
 
 impl Integer {
     ghost use Rattle.std.specs.Int.{complement_if};

@@ -8,6 +8,7 @@ use crate::fronts::{Call, Reading, read_alike};
 use crate::head_lines::answer_head_line;
 use crate::lines::{read_line, write_bytes};
 use crate::literals::write_literal;
+use crate::notations::{Lines, answer_notation};
 use crate::offsets::read_at_offset;
 use crate::orders::{answer_sort, answer_visits};
 use crate::pieces::{decode_pieces, parse_limited, split_number};
@@ -93,6 +94,8 @@ fn answer_value_line(alloc: Global, word: &str, rest: &str) -> Result<Option<Str
         "falling" => answer_falling(alloc, rest, KeyOrder::LengthFirst),
         "falling-core" => answer_falling(alloc, rest, KeyOrder::Bytewise),
         "literal" => write_literal(alloc, rest),
+        "notation" => answer_notation(alloc, rest, Lines::One),
+        "indented" => answer_notation(alloc, rest, Lines::Many),
         _ => answer_reading(alloc, word, rest),
     }
 }

@@ -20,6 +20,7 @@ mod heads;
 mod integers;
 mod lines;
 mod literals;
+mod notations;
 mod offsets;
 mod orders;
 mod outcome;

@@ -52,3 +52,5 @@ pub mod AlikeForms
 pub mod ProperForms
 pub mod FormedLists
 pub mod RefusedForms
+pub mod Notations
+mod NotationExamples

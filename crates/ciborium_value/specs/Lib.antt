@@ -70,3 +70,6 @@ pub mod FormsReadBackParts
 pub mod FormsReadBackMaps
 pub mod FormsReadBackOptions
 pub mod NeverBytes
+pub mod Notation
+pub mod NotationExamples
+pub mod Messages

@@ -1,6 +1,12 @@
 //! What was met in place of the wanted item.
 
-/// Why an item that was read, or a value to be written, is refused.
+ghost use Rattle.std.specs.Prelude.{◌≡◌, Some};
+ghost use Rattle.ciborium_value.specs.Messages.{kind_message};
+
+use std::{error, fmt};
+
+/// Why an item that was read, or a value to be written, is refused. Its message is a phrase that
+/// says what was met: `a floating-point number`, or `not an array`.
 #[derive(Clone, Copy, Debug, PartialEq, Eq)]
 pub enum Kind {
     /// A float was met where a value is read.
@@ -51,3 +57,46 @@ pub enum Kind {
     /// Two keys of a map are equal where it is put in order.
     DuplicateKey,
 }
+
+impl Kind {
+    // What the kind prints.
+    fn message(self) -> &'static str
+        ensures { result.now ≡ kind_message self }
+    {
+        match self {
+            Kind::Float => "a floating-point number",
+            Kind::Simple => "an unassigned simple value",
+            Kind::Break => "a break where an item has to stand",
+            Kind::TooLarge => "a bignum that is too large",
+            Kind::Integer => "not an integer",
+            Kind::Bool => "not a boolean",
+            Kind::Unit => "not null",
+            Kind::Text => "not a text string",
+            Kind::Char => "not a text string of one character",
+            Kind::Bytes => "not a byte string",
+            Kind::Array => "not an array",
+            Kind::Map => "not a map",
+            Kind::Name => "not a name",
+            Kind::Variant => "not a variant of the enum",
+            Kind::Range => "an integer out of the type's range",
+            Kind::Tag => "not the required tag",
+            Kind::Length => "an array too short for the tuple",
+            Kind::Other => "a value that the type refuses",
+            Kind::NotShortest => "a head longer than it has to be, or undefined in place of null",
+            Kind::Open => "an indefinite length where only definite ones are accepted",
+            Kind::NotFolded => "a bignum that fits in 64 bits, or has leading zeros",
+            Kind::KeyOrder => "a key out of order",
+            Kind::DuplicateKey => "two equal keys in one map",
+        }
+    }
+}
+
+impl fmt::Display for Kind {
+    ghost output = { λ k. Some (kind_message k) };
+
+    fn fmt<W: fmt::Write>(&self, f: &mut fmt::Formatter<W>) -> fmt::Result {
+        f.write_str(self.message())
+    }
+}
+
+impl error::Error for Kind {}

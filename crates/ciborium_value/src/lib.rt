@@ -11,6 +11,7 @@ mod deterministic;
 mod fields;
 mod key_order;
 mod kind;
+mod notation;
 mod reads_back;
 mod serialize;
 pub mod serialized;

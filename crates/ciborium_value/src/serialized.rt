@@ -1,6 +1,7 @@
 //! Values as what is written to.
 
-ghost use Rattle.std.specs.Prelude.{◌≡◌, ◌∷◌, IfErr, IfOk, OnOk};
+ghost use Rattle.std.specs.Prelude.{◌≡◌, ◌∷◌, IfErr, IfOk, OnOk, Some};
+ghost use Rattle.ciborium_value.specs.Messages.{error_message};
 ghost use Rattle.ciborium_value.specs.Open.{placed};
 ghost use Rattle.ciborium_value.specs.Sinks.{Cause, IsOwed, memory};
 ghost use Rattle.ciborium_value.specs.Stack.{opened, opens_of};
@@ -14,9 +15,11 @@ use crate::serialize::Serialize;
 use crate::sink::Sink;
 use crate::stack::{Opening, Stack};
 use crate::tree::Value;
-use std::alloc::{AllocError, Global};
+use std::alloc::{AllocError, AllocFailed, Global};
+use std::{error, fmt};
 
-/// Why a value is not made from, or not read as, a value of another type.
+/// Why a value is not made from, or not read as, a value of another type. The message of `Custom`
+/// is that of its kind.
 #[derive(Clone, Copy, Debug, PartialEq, Eq)]
 pub enum Error {
     /// A part is refused for this reason.
@@ -32,6 +35,27 @@ impl From<AllocError> for Error {
         Error::Memory
     }
 }
+
+impl<T: Drop> From<AllocFailed<T>> for Error {
+    ghost from_gives = { λ _ f. f ≡ Memory };
+
+    fn from(_: AllocFailed<T>) -> Error {
+        Error::Memory
+    }
+}
+
+impl fmt::Display for Error {
+    ghost output = { λ e. Some (error_message e) };
+
+    fn fmt<W: fmt::Write>(&self, f: &mut fmt::Formatter<W>) -> fmt::Result {
+        match self {
+            Error::Custom(kind) => kind.fmt(f),
+            Error::Memory => f.write_str("an allocation failed"),
+        }
+    }
+}
+
+impl error::Error for Error {}
 
 impl Value {
     /// The tree of the item that the value writes: an open array or map becomes a definite one, and

@@ -9,6 +9,8 @@ ghost use Rattle.ciborium_value.specs.FormLaws.{FormOrRefused, RefusedByDuplicat
 ghost use Rattle.ciborium_value.specs.FormLaws.{FormIsAlike, FormIsItsOwn, FormIsProper};
 ghost use Rattle.ciborium_value.specs.FormLaws.{OneFormWhereAlike};
 ghost use Rattle.ciborium_value.specs.Laws.{GoodOrRefused, NeverBoth, OneRefusal};
+ghost use Rattle.ciborium_value.specs.NotationExamples.{EscapeExamples, IndentedExamples};
+ghost use Rattle.ciborium_value.specs.NotationExamples.{NotationExamples};
 ghost use Rattle.ciborium_value.specs.Number.{BytesHoldNumber, NoLeadingZeros};
 ghost use Rattle.ciborium_value.specs.NumberItems.{NumberTreeIsItem};
 ghost use Rattle.ciborium_value.specs.OrderLaws.{EqualAsTrees, EqualityIsEquivalence};
@@ -35,7 +37,8 @@ pub fn meaning_of_written_is_folded()
     ensures read_back { EncodingIsGood }
 {}
 
-/// What the definitions say of given bytes and trees, after RFC 8949 and its appendix A.
+/// What the definitions say of given bytes and trees, after RFC 8949, its section 8 and its appendix
+/// A.
 pub fn worked_examples()
     ensures spelled { SpelledExamples }
     ensures folding { FoldingExamples }
@@ -43,6 +46,9 @@ pub fn worked_examples()
     ensures corners { CornerExamples }
     ensures written { WrittenExamples }
     ensures counted { CountedExamples }
+    ensures shown { NotationExamples }
+    ensures indented { IndentedExamples }
+    ensures escapes { EscapeExamples }
 {}
 
 /// The `==` of `Value` is equality of content, and its `cmp` is the order by variant and then by

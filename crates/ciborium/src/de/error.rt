@@ -2,12 +2,19 @@
 
 ghost use Rattle.std.specs.Prelude.{◌≡◌};
 ghost use Rattle.ciborium.specs.Errors.{from_ll, refusal_of};
-ghost use Rattle.ciborium.specs.declared.de.error.Error.TheVariants.{Io};
+ghost use Rattle.ciborium.specs.Messages.{read_error_message};
+ghost use Rattle.ciborium.specs.declared.de.error.Error.TheVariants.{Io, Memory};
 
 use ciborium_value::Kind;
+use std::alloc::{AllocError, AllocFailed};
 use std::io::{self, ErrorKind};
+use std::{error, fmt};
 
 /// Why a read is refused. Offsets count bytes, from where the call began to read.
+///
+/// Each has a message of one line: `at byte 17: not an array`. That of `Io` is `reading failed: `
+/// and the reader's own, and a clause knows it where it knows that one; what an `io::Error` prints
+/// it does not know.
 #[derive(Debug, Drop)]
 pub enum Error<T> {
     /// The reader failed, or ended where bytes are needed.
@@ -53,6 +60,40 @@ impl<T> From<ciborium_ll::Error<T>> for Error<T> {
         }
     }
 }
+
+impl From<AllocError> for Error<io::Error> {
+    ghost from_gives = { λ _ f. f ≡ Memory };
+
+    fn from(_: AllocError) -> Error<io::Error> {
+        Error::Memory
+    }
+}
+
+impl<T: Drop> From<AllocFailed<T>> for Error<io::Error> {
+    ghost from_gives = { λ _ f. f ≡ Memory };
+
+    fn from(_: AllocFailed<T>) -> Error<io::Error> {
+        Error::Memory
+    }
+}
+
+impl<T: fmt::Display> fmt::Display for Error<T> {
+    ghost output = { read_error_message T.output };
+
+    fn fmt<W: fmt::Write>(&self, f: &mut fmt::Formatter<W>) -> fmt::Result {
+        match self {
+            Error::Io(error) => write!(f, "reading failed: {error}"),
+            Error::Syntax(offset) => write!(f, "at byte {offset}: not well-formed CBOR"),
+            Error::Semantic(Some(offset), kind) => write!(f, "at byte {offset}: {kind}"),
+            Error::Semantic(None, kind) => kind.fmt(f),
+            Error::RecursionLimitExceeded => f.write_str("nested deeper than the limit"),
+            Error::Memory => f.write_str("an allocation failed"),
+            Error::TooLong => f.write_str("the item would end past usize::MAX bytes"),
+        }
+    }
+}
+
+impl<T: fmt::Debug + fmt::Display + Drop> error::Error for Error<T> {}
 
 /// Why a call was refused, without the reader's error, which is kept aside: it is large, and a
 /// result that held it would be moved at every level.

@@ -40,10 +40,7 @@ pub fn read_sequence<T: Deserialize, R: Read>(
         let Some(item) = from_reader_next(alloc, reader)? else {
             return Ok(items);
         };
-        match items.push(item) {
-            Ok(()) => {}
-            Err(_) => return Err(Error::Memory),
-        }
+        items.push(item)?;
     }
     // No list holds so many.
     Err(Error::Memory)

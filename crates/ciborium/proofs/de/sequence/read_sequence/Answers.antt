@@ -17,7 +17,7 @@ pub loop-preserved : goal.loop-preserved
 loop-preserved g c = record {
   read = let before = g.R.Read.remaining c.args.reader.now in
       let content = g.T.Deserialize.reading.content in
-      subst (HasRead (Some 256) g.T.Deserialize.reading.taken before (g.R.Read.remaining c.from_reader_next.new.reader)) (sym (ap (map content) c.in-Ok.ensures.items ∙ map-append content c.loop.items.items (c.in-Some.item ∷ [])))
+      subst (HasRead (Some 256) g.T.Deserialize.reading.taken before (g.R.Read.remaining c.from_reader_next.new.reader)) (sym (ap (map content) c.in_ok-push.ensures.items ∙ map-append content c.loop.items.items (c.in-Some.item ∷ [])))
       (one-more-read (Some 256) g.T.Deserialize.reading.taken before IoError _ _ (map content c.loop.items.items) (content c.in-Some.item) c.loop.invariant.read (rw c.in-Some.is at c.in_ok-item.ensures.ok));
   only = more-taken _ _ _ c.loop.invariant.only c.from_reader_next.ensures.taken;
 }
@@ -30,15 +30,16 @@ returns-in_err-item-clause-refused g c =
 pub returns-in_err-item-clause-taken : goal.returns-in_err-item-clause-taken
 returns-in_err-item-clause-taken g c = more-taken _ _ _ c.loop.invariant.only c.from_reader_next.ensures.taken
 
-pub returns-in-Err-clause-refused : goal.returns-in-Err-clause-refused
-returns-in-Err-clause-refused g c =
+pub returns-in_err-push-clause-refused : goal.returns-in_err-push-clause-refused
+returns-in_err-push-clause-refused g c =
     let before = g.R.Read.remaining c.args.reader.now in
     let content = g.T.Deserialize.reading.content in
-    no-memory-behind (Some 256) g.T.Deserialize.reading.taken before IoError _ _
-    (one-more-read (Some 256) g.T.Deserialize.reading.taken before IoError _ (g.R.Read.remaining c.from_reader_next.new.reader) (map content c.loop.items.items) (content c.in-Some.item) c.loop.invariant.read (rw c.in-Some.is at c.in_ok-item.ensures.ok))
+    let exit = err_from_is_err_and c.from_residual-in_err-push.result c.from_residual-in_err-push.ensures.1 in
+    rw (exit.1, exit.2) (no-memory-behind (Some 256) g.T.Deserialize.reading.taken before IoError _ _
+    (one-more-read (Some 256) g.T.Deserialize.reading.taken before IoError _ (g.R.Read.remaining c.from_reader_next.new.reader) (map content c.loop.items.items) (content c.in-Some.item) c.loop.invariant.read (rw c.in-Some.is at c.in_ok-item.ensures.ok)))
 
-pub returns-in-Err-clause-taken : goal.returns-in-Err-clause-taken
-returns-in-Err-clause-taken g c = more-taken _ _ _ c.loop.invariant.only c.from_reader_next.ensures.taken
+pub returns-in_err-push-clause-taken : goal.returns-in_err-push-clause-taken
+returns-in_err-push-clause-taken g c = more-taken _ _ _ c.loop.invariant.only c.from_reader_next.ensures.taken
 
 pub returns-clause-refused : goal.returns-clause-refused
 returns-clause-refused g c = no-memory-behind (Some 256) g.T.Deserialize.reading.taken (g.R.Read.remaining c.args.reader.now) IoError _ _ c.loop.invariant.read
