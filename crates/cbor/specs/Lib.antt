@@ -4,7 +4,9 @@ pub mod Line
 pub mod Laws
 pub mod Lines
 pub mod Sequence
+pub mod Shown
 pub mod Sorted
 pub mod Spellings
 pub mod SortedLines
+pub mod Streams
 pub mod Words

@@ -18,6 +18,7 @@ mod reading;
 mod rooms;
 mod run;
 mod sequences;
+mod showing;
 mod sorting;
 #[cfg(test)]
 mod test_devices;

@@ -12,6 +12,26 @@ pub enum Reading {
     /// As one item in any spelling, within this many levels, which has a deterministic form, with
     /// the keys of its maps in this order (RFC 8949, section 4.2).
     Form(KeyOrder, usize),
+    /// As one item in any spelling, within this many levels, of which the notation is shown.
+    Notation(Layout, usize),
+}
+
+/// How an item is shown.
+#[derive(Clone, Copy, Debug)]
+pub enum Showing {
+    /// By its one shortest encoding, in lower-case hex (RFC 8949, section 4.1).
+    Encoding,
+    /// By its diagnostic notation (RFC 8949, section 8).
+    Notation(Layout),
+}
+
+/// How diagnostic notation is laid out (RFC 8949, section 8).
+#[derive(Clone, Copy, Debug)]
+pub enum Layout {
+    /// On one line.
+    OneLine,
+    /// Each part on a line of its own, indented by two spaces a level.
+    Indented,
 }
 
 /// Which spellings of an item a line may have.

@@ -256,11 +256,36 @@ pub fn from_reader_next<T: Deserialize, R: Read>(
         ReadsWhole any (R.remaining reader.old) 256 (R.remaining reader.new)
         (read_as (λ v. tree (T.reading.content v)) r))) }
 {
+    from_reader_next_with_recursion_limit(alloc, reader, RECURSION_LIMIT)
+}
+
+/// Reads the next item as `from_reader_next` does, within this many levels.
+///
+/// # Errors
+///
+/// Those of `from_reader_next`, with `RecursionLimitExceeded` by this limit.
+pub fn from_reader_next_with_recursion_limit<T: Deserialize, R: Read>(
+    alloc: Global,
+    reader: &mut R,
+    recursion_limit: usize,
+) -> Result<Option<T>, Error<io::Error>>
+    // As in `from_reader_next`, but for the limit.
+    ensures end { TellsEnd (R.remaining reader.old) (R.remaining reader.new) result }
+    ensures ok { Otherwise result (λ r. TakesGiven (Some recursion_limit) T.reading.taken
+        (R.remaining reader.old) (R.remaining reader.new) (read_as T.reading.content r)) }
+    ensures refused { Otherwise result (λ r. RefusesTaken 0 (Some recursion_limit) T.reading.taken
+        (R.remaining reader.old) (read_as T.reading.content r)) }
+    ensures memory { IfErr result (λ e. IsGranted (cause_of e) T.reading.takes_memory) }
+    ensures taken { TakesBeginning (R.remaining reader.old) (R.remaining reader.new) }
+    ensures value { Otherwise result (λ r. IfSome T.reading.whole (λ tree.
+        ReadsWhole any (R.remaining reader.old) recursion_limit (R.remaining reader.new)
+        (read_as (λ v. tree (T.reading.content v)) r))) }
+{
     let mut scratch = [0u8; SCRATCH_SIZE];
     let mut source = ByteSource {
         decoder: Decoder::new(reader),
         pending: None,
-        levels: RECURSION_LIMIT,
+        levels: recursion_limit,
         scratch: &mut scratch,
         failure: None,
     };

@@ -1,0 +1,35 @@
+-- How items are shown. Texts are lists of bytes.
+use Rattle.std.specs.Prelude.{◌≡◌, ◌≢◌, ℕ, List}
+use Rattle.hex.specs.Hex.{encode_lower}
+use Rattle.ciborium_value.specs.Encoding.{encoding}
+use Rattle.ciborium_value.specs.Notation.{indented_notation, notation}
+use Rattle.ciborium_value.specs.Tree.{Tree}
+use Rattle.cbor.specs.declared.answer.Refusal.{Refusal}
+use Rattle.cbor.specs.declared.answer.Refusal.TheVariants.{Memory}
+use Rattle.cbor.specs.declared.reading.Layout.{Layout}
+use Rattle.cbor.specs.declared.reading.Layout.TheVariants.{OneLine, Indented}
+use Rattle.cbor.specs.declared.reading.Showing.{Showing}
+use Rattle.cbor.specs.declared.reading.Showing.TheVariants.{Encoding, Notation}
+use Rattle.cbor.specs.declared.reading.Spelling.TheVariants.{Any}
+use Rattle.cbor.specs.Answer.{IsMeant, IsRefused, refused_text}
+
+-- the diagnostic notation of a tree, laid out so (RFC 8949, section 8)
+abbrev pub notation_text : Layout → Tree → List ℕ
+notation_text OneLine v = notation v
+notation_text Indented v = indented_notation v
+
+-- a tree as it is shown: its encoding in lower-case hex (RFC 8949, section 4.1), or its notation
+abbrev pub shown_text : Showing → Tree → List ℕ
+shown_text Encoding v = encode_lower (encoding v)
+shown_text (Notation layout) v = notation_text layout v
+
+-- a line is an item in any spelling, within so many levels, and the text is its notation
+abbrev pub IsNotationText : Layout → List ℕ → ℕ → List ℕ → Type 0
+IsNotationText layout line limit text = (v : Tree) × IsMeant Any line limit v × (text ≡ notation_text layout v)
+
+-- the text answers a line
+pub data IsNotationAnswer (layout : Layout) (line : List ℕ) (limit : ℕ) (answer : List ℕ) : Type 0 where
+  -- it is an item
+  shown : IsNotationText layout line limit answer → IsNotationAnswer layout line limit answer
+  -- it is no item
+  no_item : (e : Refusal) → e ≢ Memory → IsRefused Any line limit e → answer ≡ refused_text e → IsNotationAnswer layout line limit answer

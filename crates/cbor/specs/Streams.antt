@@ -1,0 +1,30 @@
+-- What is written for an input that is a sequence of items as bytes (RFC 8742), not in hex.
+use Rattle.std.specs.Prelude.{◌≡◌, ℕ, ◌+◌, ◌<◌, Bool, true, false, List, [], ◌++◌, length, Option, Some}
+use Rattle.std.specs.List.{flat_map}
+use Rattle.ciborium_ll.specs.Refusal.{Refusal}
+use Rattle.ciborium_value.specs.Tree.{Tree}
+use Rattle.cbor.specs.declared.reading.Showing.{Showing}
+use Rattle.cbor.specs.declared.reading.Spelling.TheVariants.{Any}
+use Rattle.cbor.specs.Line.{refusal_text}
+use Rattle.cbor.specs.Lines.{text_line}
+use Rattle.cbor.specs.Sequence.{AreItemsBefore, refused_item_text}
+use Rattle.cbor.specs.Shown.{shown_text}
+use Rattle.cbor.specs.Spellings.{RefusesItem}
+
+-- a tree as it is shown, and a line feed
+abbrev pub shown_line : Showing → Tree → List ℕ
+shown_line showing v = text_line (shown_text showing v)
+
+-- items are shown behind w, and nothing else is written
+abbrev pub AreShownBehind : Showing → List ℕ → List Tree → Option (List ℕ) → Type 0
+AreShownBehind showing w trees after = after ≡ Some (w ++ flat_map (shown_line showing) trees)
+
+-- the items of b are shown behind w, each within so many levels: of all of b, which is a sequence, or of those before the first that is
+-- refused, and then comes the line that says its number, counted from 1, and why, with an offset that is counted from its own first byte
+pub data IsStreamShown (showing : Showing) (b : List ℕ) (limit : ℕ) (w : List ℕ) : Bool → Option (List ℕ) → Type 0 where
+  whole : (trees : List Tree) (after : Option (List ℕ)) → AreItemsBefore b limit trees [] → AreShownBehind showing w trees after →
+      IsStreamShown showing b limit w true after
+  refused : (trees : List Tree) (rest : List ℕ) (e : Refusal) (after : Option (List ℕ)) → AreItemsBefore b limit trees rest → 0 < length rest →
+      RefusesItem Any rest limit e →
+      after ≡ Some ((w ++ flat_map (shown_line showing) trees) ++ text_line (refused_item_text (length trees + 1) (refusal_text e))) →
+      IsStreamShown showing b limit w false after

@@ -1,0 +1,50 @@
+//! Values as they are shown.
+
+ghost use Rattle.std.specs.Prelude.{◌≡◌, ◌++◌, OnOk};
+ghost use Rattle.ciborium_value.specs.View.{tree_of};
+ghost use Rattle.cbor.specs.Shown.{notation_text, shown_text};
+
+use crate::items::push_encoding;
+use crate::reading::{Layout, Showing};
+use ciborium_value::Value;
+use std::alloc::AllocError;
+use std::io::Write;
+
+/// Puts a value behind a text as it is shown. `room` is lent for its encoding.
+///
+/// # Errors
+///
+/// `AllocError` where memory is refused.
+pub fn push_shown(
+    value: &Value,
+    showing: Showing,
+    room: &mut Vec<u8>,
+    text: &mut Vec<u8>,
+) -> Result<(), AllocError>
+    ensures { OnOk result
+        (text.new.items ≡ text.old.items ++ shown_text showing (tree_of value.now)) }
+{
+    match showing {
+        Showing::Encoding => push_encoding(value, room, text),
+        Showing::Notation(layout) => push_notation(value, layout, text),
+    }
+}
+
+/// Puts the diagnostic notation of a value behind a text (RFC 8949, section 8).
+///
+/// # Errors
+///
+/// `AllocError` where memory is refused.
+pub fn push_notation(value: &Value, layout: Layout, text: &mut Vec<u8>) -> Result<(), AllocError>
+    ensures { OnOk result
+        (text.new.items ≡ text.old.items ++ notation_text layout (tree_of value.now)) }
+{
+    let written = match layout {
+        Layout::OneLine => write!(text, "{value}"),
+        Layout::Indented => write!(text, "{value:#}"),
+    };
+    if written.is_err() {
+        return Err(AllocError);
+    }
+    Ok(())
+}
