@@ -94,7 +94,16 @@ pub flushed-all : {E : Type 0} (Is : List ℕ → List ℕ → Type 0) (b w : Li
 flushed-all Is b w held now done (Ok v) same k h = held-still Is b w held now k (subst (λ (d : Result Bool _). OnOk d (AreWritten Is b w held)) same h)
 flushed-all Is b w held now done (Err x) same k h = tt
 
+-- and so it is where each answer of the run says something
+pub flushed-each : {E : Type 0} (P Q : Bool → Type 0) (done r : Result Bool E) → IfOk r (λ all. done ≡ Ok all) → ((all : Bool) → P all → Q all) → IfOk done P → IfOk r Q
+flushed-each P Q done (Ok v) same keep h = keep v (subst (λ (d : Result Bool _). IfOk d P) same h)
+flushed-each P Q done (Err x) same keep h = tt
+
 pub flushed-ok : {E : Type 0} (P Q : Type 0) (done r : Result Bool E) → IfOk r (λ all. done ≡ Ok all) → (P → Q) →
     IfOk done (λ all. IsTrue all → P) → IfOk r (λ all. IsTrue all → Q)
-flushed-ok P Q done (Ok v) same keep h = λ all. keep (subst (λ (d : Result Bool _). IfOk d (λ v. IsTrue v → P)) same h all)
-flushed-ok P Q done (Err x) same keep h = tt
+flushed-ok P Q done r same keep h = flushed-each (λ all. IsTrue all → P) (λ all. IsTrue all → Q) done r same (λ all p is. keep (p is)) h
+
+-- and so do bytes that are written
+pub flushed-told : {E : Type 0} (xs : List ℕ) (held now : Option (List ℕ)) (done r : Result Bool E) → IfOk r (λ all. done ≡ Ok all) → Keeps held now →
+    OnOk done (held ≡ Some xs) → OnOk r (now ≡ Some xs)
+flushed-told xs held now done r same k h = flushed-each (λ all. held ≡ Some xs) (λ all. now ≡ Some xs) done r same (λ all e. still held now xs k e) h

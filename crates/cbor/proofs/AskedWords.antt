@@ -1,232 +1,241 @@
--- What words ask for.
-use Rattle.std.proofs.Common.{◌≡◌, ℕ, ◌<◌, ◌≤◌, List, [], ◌∷◌, length, get_or, map, drop, take, ◌-◌, codes, refl, sym, subst, ◌∙◌, ap, arith}
+-- What words ask for is one thing.
+use Rattle.std.proofs.Common.{◌≡◌, ◌≢◌, ℕ, ◌<◌, ◌≤◌, ◌-◌, ◌==◌, Bool, true, false, List, [], ◌∷◌, get_or, map, sum, length, take, drop, if◌then◌else◌, codes, Option, Some, None, IsSome, MatchOption, refl, sym, subst, ◌∙◌, ap, ap₂, arith}
 use Rattle.std.proofs.lemmas.List.{take_all}
+use Rattle.std.specs.Bool.{MatchBool}
 use Rattle.std.specs.Char.{digit_value}
-use Rattle.ciborium_value.specs.declared.key_order.KeyOrder.{KeyOrder}
 use Rattle.ciborium_value.specs.declared.key_order.KeyOrder.TheVariants.{LengthFirst, Bytewise}
-use Rattle.cbor.specs.declared.reading.Reading.{Reading}
-use Rattle.cbor.specs.declared.reading.Reading.TheVariants.{Item, Sequence, Form}
-use Rattle.cbor.specs.declared.reading.Spelling.{Spelling}
-use Rattle.cbor.specs.declared.run.Command.{Command}
-use Rattle.cbor.specs.declared.run.Command.TheVariants as commands
+use Rattle.cbor.specs.declared.command.Command.{Command}
+use Rattle.cbor.specs.declared.command.Command.TheVariants.{Answer, Sort, Show, Tell}
+use Rattle.cbor.specs.declared.command.Topic.TheVariants.{Help, Version}
+use Rattle.cbor.specs.declared.reading.Layout.TheVariants.{OneLine, Indented}
+use Rattle.cbor.specs.declared.reading.Reading.TheVariants as readings
+use Rattle.cbor.specs.declared.reading.Showing.TheVariants as showings
 use Rattle.cbor.specs.declared.reading.Spelling.TheVariants.{Any, Deterministic}
-use Rattle.cbor.specs.Words.{AreOptions, AreWrong, AskFor, AskForCanon, AskForSequences, AskToRead, AskToSort, NameLimit, NameLimitBehind, order_flags}
+use Rattle.cbor.specs.Words.{AreWrong, AskFor, NameLimit, NameLimitBehind, command_limit, command_words}
 
--- the words behind the first
-abbrev pub behind : {S : Type 0} → List S → List S
-behind words = take (length words - 1) (drop 1 words)
+-- ---- words ask for one command
 
--- the texts of words, the first of which is this one
-pub first-word : {S : Type 0} (text : S → List ℕ) (words : List S) (command : S) (name : List ℕ) → 1 ≤ length words → command ≡ get_or words 0 command →
-    text command ≡ name → map text words ≡ name ∷ map text (behind words)
-first-word text [] command name least e is = absurd (omega arith)
-first-word text (w ∷ ws) command name least e is =
-    let rest : behind (w ∷ ws) ≡ ws = take_all (length (w ∷ ws) - 1) ws (omega arith) in
-    rw rest (ap (λ (t : List ℕ). t ∷ map text ws) (ap text (sym e) ∙ is))
+-- a word that begins with no digit
+abbrev IsName : List ℕ → Type 0
+IsName word = digit_value (get_or word 0 0) < 10 → ⊥
 
--- this word alone
-pub one-word : {S : Type 0} (text : S → List ℕ) (words : List S) (command : S) (name : List ℕ) → length words < 2 → 1 ≤ length words →
-    command ≡ get_or words 0 command → text command ≡ name → map text words ≡ name ∷ []
-one-word text [] command name below least e is = absurd (omega arith)
-one-word text (w ∷ []) command name below least e is = ap (λ (t : List ℕ). t ∷ []) (ap text (sym e) ∙ is)
-one-word text (w ∷ (v ∷ ws)) command name below least e is = absurd (omega arith)
+abbrev AreNames : List (List ℕ) → Type 0
+AreNames [] = Unit
+AreNames (word ∷ words) = IsName word × AreNames words
 
--- ---- flags
-
--- a dash is no digit, so a flag names no limit
-no-limit : (flag : List ℕ) (others : List (List ℕ)) (n : ℕ) → get_or flag 0 0 ≡ 45 → NameLimit (flag ∷ others) n → ⊥
-no-limit [] [] n dash h = omega (arith, dash)
-no-limit (x ∷ xs) [] n dash (limit, e) = let digit = subst (λ (y : ℕ). digit_value y < 10) dash limit.0.1.0 in omega (arith, digit)
-no-limit flag (first ∷ others) n dash h = absurd h
-
--- words that name a limit begin with no flag
-not-flagged : (flag : List ℕ) (flags words : List (List ℕ)) (m n : ℕ) → get_or flag 0 0 ≡ 45 → NameLimit words m → NameLimitBehind (flag ∷ flags) words n → ⊥
-not-flagged flag flags [] m n dash p q = absurd q
-not-flagged flag flags (word ∷ words) m n dash p q = no-limit flag words m dash (subst (λ (w : List ℕ). NameLimit (w ∷ words) m) q.0 p)
-
--- ---- no words ask for two things
-
--- the first word
-abbrev command_of : List (List ℕ) → List ℕ
-command_of words = get_or words 0 []
-
-to-read : (words : List (List ℕ)) (spelling : Spelling) (n : ℕ) → AskToRead words spelling n → command_of words ≡ codes "read"
-to-read [] spelling n asked = absurd asked
-to-read (command ∷ options) spelling n asked = asked.0
-
-to-canon : (words : List (List ℕ)) (order : KeyOrder) (n : ℕ) → AskForCanon words order n → command_of words ≡ codes "canon"
-to-canon [] order n asked = absurd asked
-to-canon (command ∷ options) order n asked = asked.0
-
-to-sort : (words : List (List ℕ)) (order : KeyOrder) → AskToSort words order → command_of words ≡ codes "sort"
-to-sort words order sorts = ap command_of sorts
-
-to-sequences : (words : List (List ℕ)) → AskForSequences words → command_of words ≡ codes "seq"
-to-sequences words alone = ap command_of alone
-
--- a word is not two that begin with two letters
-not-two : (word a b : List ℕ) (i : ℕ) → word ≡ a → word ≡ b → (get_or a i 0 ≡ get_or b i 0 → ⊥) → ⊥
-not-two word a b i e f apart = apart (ap (λ (xs : List ℕ). get_or xs i 0) (sym e ∙ f))
-
-not-to-canon : (words : List (List ℕ)) (spelling : Spelling) (m n : ℕ) (order : KeyOrder) → AskToRead words spelling m → AskForCanon words order n → ⊥
-not-to-canon words spelling m n order asked canon = not-two _ _ _ 0 (to-read words spelling m asked) (to-canon words order n canon) (λ e. omega (arith, e))
-
-not-to-sort : (words : List (List ℕ)) (spelling : Spelling) (n : ℕ) (order : KeyOrder) → AskToRead words spelling n → AskToSort words order → ⊥
-not-to-sort words spelling n order asked sorts = not-two _ _ _ 0 (to-read words spelling n asked) (to-sort words order sorts) (λ e. omega (arith, e))
-
-not-sequences : (words : List (List ℕ)) (spelling : Spelling) (n : ℕ) → AskToRead words spelling n → AskForSequences words → ⊥
-not-sequences words spelling n asked alone = not-two _ _ _ 0 (to-read words spelling n asked) (to-sequences words alone) (λ e. omega (arith, e))
-
-not-sorted-canon : (words : List (List ℕ)) (n : ℕ) (order other : KeyOrder) → AskForCanon words order n → AskToSort words other → ⊥
-not-sorted-canon words n order other canon sorts = not-two _ _ _ 0 (to-canon words order n canon) (to-sort words other sorts) (λ e. omega (arith, e))
-
-not-canon-sequences : (words : List (List ℕ)) (n : ℕ) (order : KeyOrder) → AskForCanon words order n → AskForSequences words → ⊥
-not-canon-sequences words n order canon alone = not-two _ _ _ 0 (to-canon words order n canon) (to-sequences words alone) (λ e. omega (arith, e))
-
-not-sorted-sequences : (words : List (List ℕ)) (order : KeyOrder) → AskToSort words order → AskForSequences words → ⊥
-not-sorted-sequences words order sorts alone = not-two _ _ _ 1 (to-sort words order sorts) (to-sequences words alone) (λ e. omega (arith, e))
-
--- ---- words that are wrong
-
--- no order and no limit behind the flags for it
-abbrev pub NameNoOrder : List (List ℕ) → Type 0
-NameNoOrder words = (order : KeyOrder) (n : ℕ) → ¬ NameLimitBehind (order_flags order) words n
-
--- no options of `read`
-wrong-reading : (options : List (List ℕ)) → ((spelling : Spelling) (n : ℕ) → ¬ AreOptions options spelling n) → AreWrong (codes "read" ∷ options)
-wrong-reading options none = (
-  λ spelling n asked. none spelling n asked.1,
-  λ order n canon. not-two _ _ _ 0 refl canon.0 (λ e. omega (arith, e)),
-  λ order sorts. not-two _ _ _ 0 refl (to-sort (codes "read" ∷ options) order sorts) (λ e. omega (arith, e)),
-  λ alone. not-two _ _ _ 0 refl (to-sequences (codes "read" ∷ options) alone) (λ e. omega (arith, e)),
-)
-
-no-options : (options : List (List ℕ)) → NameNoOrder options → (spelling : Spelling) (n : ℕ) → ¬ AreOptions (codes "--det" ∷ options) spelling n
-no-options options none Any n h = no-limit (codes "--det") options n refl h
-no-options options none (Deterministic order) n h = none order n h.1
-
-pub wrong-deterministic : (options : List (List ℕ)) → NameNoOrder options → AreWrong (codes "read" ∷ (codes "--det" ∷ options))
-wrong-deterministic options none = wrong-reading (codes "--det" ∷ options) (no-options options none)
-
--- no options of `canon`
-pub wrong-canon : (options : List (List ℕ)) → NameNoOrder options → AreWrong (codes "canon" ∷ options)
-wrong-canon options none = (
-  λ spelling n asked. not-two _ _ _ 0 refl asked.0 (λ e. omega (arith, e)),
-  λ order n canon. none order n canon.1,
-  λ order sorts. not-two _ _ _ 0 refl (to-sort (codes "canon" ∷ options) order sorts) (λ e. omega (arith, e)),
-  λ alone. not-two _ _ _ 0 refl (to-sequences (codes "canon" ∷ options) alone) (λ e. omega (arith, e)),
-)
-
--- the flag is there, and no limit
-pub no-core : (options others : List (List ℕ)) → options ≡ codes "--core" ∷ others → ((n : ℕ) → ¬ NameLimit others n) → NameNoOrder options
-no-core options others same none LengthFirst n h = no-limit (codes "--core") others n refl (subst (λ (ws : List (List ℕ)). NameLimit ws n) same h)
-no-core options others same none Bytewise n h = none n (subst (λ (ws : List (List ℕ)). NameLimitBehind (codes "--core" ∷ []) ws n) same h).1
-
--- ---- words that are right
-
--- `--core` and words that name a limit
-pub limit-behind : (options others : List (List ℕ)) (n : ℕ) → options ≡ codes "--core" ∷ others → NameLimit others n →
-    NameLimitBehind (codes "--core" ∷ []) options n
-limit-behind options others n same h = subst (λ (ws : List (List ℕ)). NameLimitBehind (codes "--core" ∷ []) ws n) (sym same) (refl, h)
-
--- ---- words ask for one thing
+-- it names no limit
+no-limit : (name : List ℕ) (others : List (List ℕ)) (n : ℕ) → IsName name → NameLimit (name ∷ others) n → ⊥
+no-limit [] [] n is h = omega (arith, h.0.0.0)
+no-limit (x ∷ xs) [] n is h = is h.0.0.1.0
+no-limit name (first ∷ others) n is h = absurd h
 
 one-limit : (words : List (List ℕ)) (m n : ℕ) → NameLimit words m → NameLimit words n → m ≡ n
 one-limit [] m n p q = p ∙ sym q
 one-limit (limit ∷ []) m n p q = p.1 ∙ sym q.1
 one-limit (first ∷ (second ∷ others)) m n p q = absurd p
 
--- and one limit behind the same flags
-limit-left : (flags words : List (List ℕ)) (m n : ℕ) → NameLimitBehind flags words m → NameLimitBehind flags words n → m ≡ n
-limit-left [] words m n p q = one-limit words m n p q
-limit-left (flag ∷ flags) [] m n p q = absurd p
-limit-left (flag ∷ flags) (word ∷ words) m n p q = limit-left flags words m n p.1 q.1
+-- words begin with the same names before a limit
+one-prefix : (f g words : List (List ℕ)) (m n : ℕ) → AreNames f → AreNames g → NameLimitBehind f words m → NameLimitBehind g words n → (f ≡ g) × (m ≡ n)
+one-prefix [] [] words m n a b p q = (refl, one-limit words m n p q)
+one-prefix [] (g ∷ gs) [] m n a b p q = absurd q
+one-prefix [] (g ∷ gs) (w ∷ ws) m n a b p q = absurd (no-limit g ws m b.0 (subst (λ (v : List ℕ). NameLimit (v ∷ ws) m) q.0 p))
+one-prefix (f ∷ fs) [] [] m n a b p q = absurd p
+one-prefix (f ∷ fs) [] (w ∷ ws) m n a b p q = absurd (no-limit f ws n a.0 (subst (λ (v : List ℕ). NameLimit (v ∷ ws) n) p.0 q))
+one-prefix (f ∷ fs) (g ∷ gs) [] m n a b p q = absurd p
+one-prefix (f ∷ fs) (g ∷ gs) (w ∷ ws) m n a b p q =
+    let rest = one-prefix fs gs ws m n a.1 b.1 p.1 q.1 in
+    (ap₂ (λ (x : List ℕ) (xs : List (List ℕ)). x ∷ xs) (sym p.0 ∙ q.0) rest.0, rest.1)
 
--- words are not both a limit and `--core`
-not-both-orders : (words : List (List ℕ)) (m n : ℕ) → NameLimit words m → NameLimitBehind (codes "--core" ∷ []) words n → ⊥
-not-both-orders words m n p q = not-flagged (codes "--core") [] words m n refl p q
+-- words name themselves, and no limit behind them
+no-others : (words : List (List ℕ)) → NameLimitBehind words words 256
+no-others [] = refl
+no-others (word ∷ words) = (refl, no-others words)
 
--- one order, and one limit
-one-named : (words : List (List ℕ)) (o p : KeyOrder) (m n : ℕ) → NameLimitBehind (order_flags o) words m → NameLimitBehind (order_flags p) words n →
-    (o ≡ p) × (m ≡ n)
-one-named words LengthFirst LengthFirst m n h i = (refl, one-limit words m n h i)
-one-named words LengthFirst Bytewise m n h i = absurd (not-both-orders words m n h i)
-one-named words Bytewise LengthFirst m n h i = absurd (not-both-orders words n m i h)
-one-named words Bytewise Bytewise m n h i = (refl, limit-left (order_flags Bytewise) words m n h i)
+or-default : Option ℕ → ℕ
+or-default None = 256
+or-default (Some n) = n
 
--- behind `--det` too
-one-deterministic : (words : List (List ℕ)) (o p : KeyOrder) (m n : ℕ) → AreOptions words (Deterministic o) m → AreOptions words (Deterministic p) n →
-    (Deterministic o ≡ Deterministic p) × (m ≡ n)
-one-deterministic [] o p m n h i = absurd h
-one-deterministic (flag ∷ others) o p m n h i = let same = one-named others o p m n h.1 i.1 in (ap Deterministic same.0, same.1)
+-- the limit of a command, also where it takes none
+limit_of : Command → ℕ
+limit_of command = or-default (command_limit command)
 
-one-of-options : (words : List (List ℕ)) (s t : Spelling) (m n : ℕ) → AreOptions words s m → AreOptions words t n → (s ≡ t) × (m ≡ n)
-one-of-options words Any Any m n p q = (refl, one-limit words m n p q)
-one-of-options words Any (Deterministic o) m n p q = absurd (not-flagged (codes "--det") (order_flags o) words m n refl p q)
-one-of-options words (Deterministic o) Any m n p q = absurd (not-flagged (codes "--det") (order_flags o) words n m refl q p)
-one-of-options words (Deterministic o) (Deterministic r) m n p q = one-deterministic words o r m n p q
+named : (words : List (List ℕ)) (command : Command) → AskFor words command → NameLimitBehind (command_words command) words (limit_of command)
+unfolding limit_of or-default
+named words (Answer (readings.Item Any n)) asked = asked
+named words (Answer (readings.Item (Deterministic LengthFirst) n)) asked = asked
+named words (Answer (readings.Item (Deterministic Bytewise) n)) asked = asked
+named words (Answer readings.Sequence) asked = subst (λ (ws : List (List ℕ)). NameLimitBehind (command_words (Answer readings.Sequence)) ws 256) (sym asked) (no-others (command_words (Answer readings.Sequence)))
+named words (Answer (readings.Form LengthFirst n)) asked = asked
+named words (Answer (readings.Form Bytewise n)) asked = asked
+named words (Answer (readings.Notation OneLine n)) asked = asked
+named words (Answer (readings.Notation Indented n)) asked = asked
+named words (Sort LengthFirst) asked = subst (λ (ws : List (List ℕ)). NameLimitBehind (command_words (Sort LengthFirst)) ws 256) (sym asked) (no-others (command_words (Sort LengthFirst)))
+named words (Sort Bytewise) asked = subst (λ (ws : List (List ℕ)). NameLimitBehind (command_words (Sort Bytewise)) ws 256) (sym asked) (no-others (command_words (Sort Bytewise)))
+named words (Show showings.Encoding n) asked = asked
+named words (Show (showings.Notation OneLine) n) asked = asked
+named words (Show (showings.Notation Indented) n) asked = asked
+named words (Tell Help) asked = subst (λ (ws : List (List ℕ)). NameLimitBehind (command_words (Tell Help)) ws 256) (sym asked) (no-others (command_words (Tell Help)))
+named words (Tell Version) asked = subst (λ (ws : List (List ℕ)). NameLimitBehind (command_words (Tell Version)) ws 256) (sym asked) (no-others (command_words (Tell Version)))
 
--- words ask for one order
-one-order : (words : List (List ℕ)) (o p : KeyOrder) → AskToSort words o → AskToSort words p → o ≡ p
-one-order words LengthFirst LengthFirst s t = refl
-one-order words LengthFirst Bytewise s t = let size : 1 ≡ 2 = ap (λ (xs : List (List ℕ)). length xs) (sym s ∙ t) in absurd (omega (arith, size))
-one-order words Bytewise LengthFirst s t = let size : 2 ≡ 1 = ap (λ (xs : List (List ℕ)). length xs) (sym s ∙ t) in absurd (omega (arith, size))
-one-order words Bytewise Bytewise s t = refl
+are-names : (command : Command) → AreNames (command_words command)
+are-names (Answer (readings.Item Any n)) = (λ h. omega (arith, h), tt)
+are-names (Answer (readings.Item (Deterministic LengthFirst) n)) = (λ h. omega (arith, h), (λ h. omega (arith, h), tt))
+are-names (Answer (readings.Item (Deterministic Bytewise) n)) = (λ h. omega (arith, h), (λ h. omega (arith, h), (λ h. omega (arith, h), tt)))
+are-names (Answer readings.Sequence) = (λ h. omega (arith, h), tt)
+are-names (Answer (readings.Form LengthFirst n)) = (λ h. omega (arith, h), tt)
+are-names (Answer (readings.Form Bytewise n)) = (λ h. omega (arith, h), (λ h. omega (arith, h), tt))
+are-names (Answer (readings.Notation OneLine n)) = (λ h. omega (arith, h), tt)
+are-names (Answer (readings.Notation Indented n)) = (λ h. omega (arith, h), (λ h. omega (arith, h), tt))
+are-names (Sort LengthFirst) = (λ h. omega (arith, h), tt)
+are-names (Sort Bytewise) = (λ h. omega (arith, h), (λ h. omega (arith, h), tt))
+are-names (Show showings.Encoding n) = (λ h. omega (arith, h), (λ h. omega (arith, h), tt))
+are-names (Show (showings.Notation OneLine) n) = (λ h. omega (arith, h), (λ h. omega (arith, h), tt))
+are-names (Show (showings.Notation Indented) n) = (λ h. omega (arith, h), (λ h. omega (arith, h), (λ h. omega (arith, h), tt)))
+are-names (Tell Help) = (λ h. omega (arith, h), tt)
+are-names (Tell Version) = (λ h. omega (arith, h), tt)
 
--- words ask for one spelling and one limit
-one-reading : (words : List (List ℕ)) (s t : Spelling) (m n : ℕ) → AskToRead words s m → AskToRead words t n → (s ≡ t) × (m ≡ n)
-one-reading [] s t m n p q = absurd p
-one-reading (command ∷ options) s t m n p q = one-of-options options s t m n p.1 q.1
+-- the letters of words tell their command apart
+letters : List (List ℕ) → ℕ
+letters words = sum (map sum words)
 
--- words ask for one order and one limit
-one-canon : (words : List (List ℕ)) (o p : KeyOrder) (m n : ℕ) → AskForCanon words o m → AskForCanon words p n → (o ≡ p) × (m ≡ n)
-one-canon [] o p m n h i = absurd h
-one-canon (command ∷ options) o p m n h i = one-named options o p m n h.1 i.1
+command-of : ℕ → ℕ → Command
+command-of total n =
+    if total == 412 then Answer (readings.Item Any n)
+    else if total == 819 then Answer (readings.Item (Deterministic LengthFirst) n)
+    else if total == 1334 then Answer (readings.Item (Deterministic Bytewise) n)
+    else if total == 329 then Answer readings.Sequence
+    else if total == 527 then Answer (readings.Form LengthFirst n)
+    else if total == 1042 then Answer (readings.Form Bytewise n)
+    else if total == 405 then Answer (readings.Notation OneLine n)
+    else if total == 1137 then Answer (readings.Notation Indented n)
+    else if total == 456 then Sort LengthFirst
+    else if total == 971 then Sort Bytewise
+    else if total == 1147 then Show showings.Encoding n
+    else if total == 1140 then Show (showings.Notation OneLine) n
+    else if total == 1872 then Show (showings.Notation Indented) n
+    else if total == 515 then Tell Help
+    else Tell Version
 
--- the reading that words ask for
-pub read-so : (words : List (List ℕ)) (reading : Reading) (spelling : Spelling) (n : ℕ) → AskFor words (commands.Answer reading) → AskToRead words spelling n →
-    reading ≡ Item spelling n
-read-so words (Item s m) spelling n p q = let same = one-reading words s spelling m n p q in rw (same.0, same.1) refl
-read-so words Sequence spelling n p q = absurd (not-sequences words spelling n q p)
-read-so words (Form o m) spelling n p q = absurd (not-to-canon words spelling n m o q p)
+told-apart : (command : Command) → command-of (letters (command_words command)) (limit_of command) ≡ command
+unfolding letters command-of limit_of or-default
+told-apart (Answer (readings.Item Any n)) = refl
+told-apart (Answer (readings.Item (Deterministic LengthFirst) n)) = refl
+told-apart (Answer (readings.Item (Deterministic Bytewise) n)) = refl
+told-apart (Answer readings.Sequence) = refl
+told-apart (Answer (readings.Form LengthFirst n)) = refl
+told-apart (Answer (readings.Form Bytewise n)) = refl
+told-apart (Answer (readings.Notation OneLine n)) = refl
+told-apart (Answer (readings.Notation Indented n)) = refl
+told-apart (Sort LengthFirst) = refl
+told-apart (Sort Bytewise) = refl
+told-apart (Show showings.Encoding n) = refl
+told-apart (Show (showings.Notation OneLine) n) = refl
+told-apart (Show (showings.Notation Indented) n) = refl
+told-apart (Tell Help) = refl
+told-apart (Tell Version) = refl
 
-pub read-sequences : (words : List (List ℕ)) (reading : Reading) → AskFor words (commands.Answer reading) → AskForSequences words → reading ≡ Sequence
-read-sequences words (Item s m) p q = absurd (not-sequences words s m p q)
-read-sequences words Sequence p q = refl
-read-sequences words (Form o m) p q = absurd (not-canon-sequences words m o p q)
+-- what words ask for is one command
+pub asks-for-one : (words : List (List ℕ)) (c d : Command) → AskFor words c → AskFor words d → c ≡ d
+asks-for-one words c d p q =
+    let same = one-prefix (command_words c) (command_words d) words (limit_of c) (limit_of d) (are-names c) (are-names d) (named words c p) (named words d q) in
+    sym (told-apart c) ∙ (ap₂ (λ (ws : List (List ℕ)) (n : ℕ). command-of (letters ws) n) same.0 same.1 ∙ told-apart d)
 
-read-canon : (words : List (List ℕ)) (reading : Reading) (order : KeyOrder) (n : ℕ) → AskFor words (commands.Answer reading) → AskForCanon words order n →
-    reading ≡ Form order n
-read-canon words (Item s m) order n p q = absurd (not-to-canon words s m n order p q)
-read-canon words Sequence order n p q = absurd (not-canon-sequences words n order q p)
-read-canon words (Form o m) order n p q = let same = one-canon words o order m n p q in rw (same.0, same.1) refl
+-- ---- words ask for nothing
 
-not-sorted : (words : List (List ℕ)) (reading : Reading) (order : KeyOrder) → AskFor words (commands.Answer reading) → AskToSort words order → ⊥
-not-sorted words (Item s m) order p sorts = not-to-sort words s m order p sorts
-not-sorted words Sequence order p sorts = not-sorted-sequences words order sorts p
-not-sorted words (Form o m) order p sorts = not-sorted-canon words m o order p sorts
+pub none-alone : (words : List (List ℕ)) →
+    words ≢ codes "sort" ∷ [] →
+    words ≢ codes "sort" ∷ (codes "--core" ∷ []) →
+    words ≢ codes "seq" ∷ [] →
+    words ≢ codes "--help" ∷ [] →
+    words ≢ codes "--version" ∷ [] →
+    (command : Command) → command_limit command ≡ None → ¬ AskFor words command
+none-alone words p0 p1 p2 p3 p4 (Answer (readings.Item Any n)) none asked = absurd cc
+none-alone words p0 p1 p2 p3 p4 (Answer (readings.Item (Deterministic LengthFirst) n)) none asked = absurd cc
+none-alone words p0 p1 p2 p3 p4 (Answer (readings.Item (Deterministic Bytewise) n)) none asked = absurd cc
+none-alone words p0 p1 p2 p3 p4 (Answer readings.Sequence) none asked = p2 asked
+none-alone words p0 p1 p2 p3 p4 (Answer (readings.Form LengthFirst n)) none asked = absurd cc
+none-alone words p0 p1 p2 p3 p4 (Answer (readings.Form Bytewise n)) none asked = absurd cc
+none-alone words p0 p1 p2 p3 p4 (Answer (readings.Notation OneLine n)) none asked = absurd cc
+none-alone words p0 p1 p2 p3 p4 (Answer (readings.Notation Indented n)) none asked = absurd cc
+none-alone words p0 p1 p2 p3 p4 (Sort LengthFirst) none asked = p0 asked
+none-alone words p0 p1 p2 p3 p4 (Sort Bytewise) none asked = p1 asked
+none-alone words p0 p1 p2 p3 p4 (Show showings.Encoding n) none asked = absurd cc
+none-alone words p0 p1 p2 p3 p4 (Show (showings.Notation OneLine) n) none asked = absurd cc
+none-alone words p0 p1 p2 p3 p4 (Show (showings.Notation Indented) n) none asked = absurd cc
+none-alone words p0 p1 p2 p3 p4 (Tell Help) none asked = p3 asked
+none-alone words p0 p1 p2 p3 p4 (Tell Version) none asked = p4 asked
 
-pub same-reading : (a b : Reading) → commands.Answer a ≡ commands.Answer b → a ≡ b
-same-reading a b e = cc
+-- words name no limit behind these
+abbrev pub NameNone : List (List ℕ) → List (List ℕ) → Type 0
+NameNone flags words = (n : ℕ) → ¬ NameLimitBehind flags words n
 
-pub same-order : (a b : KeyOrder) → commands.Sort a ≡ commands.Sort b → a ≡ b
-same-order a b e = cc
+pub none-with-limit : (words : List (List ℕ)) →
+    NameNone (codes "read" ∷ []) words →
+    NameNone (codes "read" ∷ (codes "--det" ∷ [])) words →
+    NameNone (codes "read" ∷ (codes "--det" ∷ (codes "--core" ∷ []))) words →
+    NameNone (codes "read" ∷ (codes "--binary" ∷ [])) words →
+    NameNone (codes "canon" ∷ []) words →
+    NameNone (codes "canon" ∷ (codes "--core" ∷ [])) words →
+    NameNone (codes "diag" ∷ []) words →
+    NameNone (codes "diag" ∷ (codes "--indent" ∷ [])) words →
+    NameNone (codes "diag" ∷ (codes "--binary" ∷ [])) words →
+    NameNone (codes "diag" ∷ (codes "--binary" ∷ (codes "--indent" ∷ []))) words →
+    (command : Command) → IsSome (command_limit command) → ¬ AskFor words command
+none-with-limit words p0 p1 p2 p3 p4 p5 p6 p7 p8 p9 (Answer (readings.Item Any n)) some asked = p0 n asked
+none-with-limit words p0 p1 p2 p3 p4 p5 p6 p7 p8 p9 (Answer (readings.Item (Deterministic LengthFirst) n)) some asked = p1 n asked
+none-with-limit words p0 p1 p2 p3 p4 p5 p6 p7 p8 p9 (Answer (readings.Item (Deterministic Bytewise) n)) some asked = p2 n asked
+none-with-limit words p0 p1 p2 p3 p4 p5 p6 p7 p8 p9 (Answer readings.Sequence) some asked = absurd cc
+none-with-limit words p0 p1 p2 p3 p4 p5 p6 p7 p8 p9 (Answer (readings.Form LengthFirst n)) some asked = p4 n asked
+none-with-limit words p0 p1 p2 p3 p4 p5 p6 p7 p8 p9 (Answer (readings.Form Bytewise n)) some asked = p5 n asked
+none-with-limit words p0 p1 p2 p3 p4 p5 p6 p7 p8 p9 (Answer (readings.Notation OneLine n)) some asked = p6 n asked
+none-with-limit words p0 p1 p2 p3 p4 p5 p6 p7 p8 p9 (Answer (readings.Notation Indented n)) some asked = p7 n asked
+none-with-limit words p0 p1 p2 p3 p4 p5 p6 p7 p8 p9 (Sort LengthFirst) some asked = absurd cc
+none-with-limit words p0 p1 p2 p3 p4 p5 p6 p7 p8 p9 (Sort Bytewise) some asked = absurd cc
+none-with-limit words p0 p1 p2 p3 p4 p5 p6 p7 p8 p9 (Show showings.Encoding n) some asked = p3 n asked
+none-with-limit words p0 p1 p2 p3 p4 p5 p6 p7 p8 p9 (Show (showings.Notation OneLine) n) some asked = p8 n asked
+none-with-limit words p0 p1 p2 p3 p4 p5 p6 p7 p8 p9 (Show (showings.Notation Indented) n) some asked = p9 n asked
+none-with-limit words p0 p1 p2 p3 p4 p5 p6 p7 p8 p9 (Tell Help) some asked = absurd cc
+none-with-limit words p0 p1 p2 p3 p4 p5 p6 p7 p8 p9 (Tell Version) some asked = absurd cc
 
--- what words ask for is the command that they name
-pub asks-to-read : (words : List (List ℕ)) (command : Command) (spelling : Spelling) (n : ℕ) → AskFor words command → AskToRead words spelling n →
-    command ≡ commands.Answer (Item spelling n)
-asks-to-read words (commands.Answer reading) spelling n p q = ap commands.Answer (read-so words reading spelling n p q)
-asks-to-read words (commands.Sort order) spelling n p q = absurd (not-to-sort words spelling n order q p)
+pub none-at-all : (words : List (List ℕ)) → ((command : Command) → command_limit command ≡ None → ¬ AskFor words command) →
+    ((command : Command) → IsSome (command_limit command) → ¬ AskFor words command) → AreWrong words
+none-at-all words alone limited command asked = by (command_limit command) refl
+  where
+    by : (limit : Option ℕ) → command_limit command ≡ limit → ⊥
+    by None e = alone command e asked
+    by (Some n) e = limited command (subst (λ (o : Option ℕ). IsSome o) (sym e) refl) asked
 
-pub asks-for-sequences : (words : List (List ℕ)) (command : Command) → AskFor words command → AskForSequences words → command ≡ commands.Answer Sequence
-asks-for-sequences words (commands.Answer reading) p q = ap commands.Answer (read-sequences words reading p q)
-asks-for-sequences words (commands.Sort order) p q = absurd (not-sorted-sequences words order p q)
+-- ---- words are compared one by one
 
-pub asks-for-canon : (words : List (List ℕ)) (command : Command) (order : KeyOrder) (n : ℕ) → AskFor words command → AskForCanon words order n →
-    command ≡ commands.Answer (Form order n)
-asks-for-canon words (commands.Answer reading) order n p q = ap commands.Answer (read-canon words reading order n p q)
-asks-for-canon words (commands.Sort other) order n p q = absurd (not-sorted-canon words n order other q p)
+-- the words behind the first
+abbrev pub behind : {S : Type 0} → List S → List S
+behind words = take (length words - 1) (drop 1 words)
 
-pub asks-to-sort : (words : List (List ℕ)) (command : Command) (order : KeyOrder) → AskFor words command → AskToSort words order → command ≡ commands.Sort order
-asks-to-sort words (commands.Answer reading) order p q = absurd (not-sorted words reading order p q)
-asks-to-sort words (commands.Sort other) order p q = ap commands.Sort (one-order words other order p q)
+-- the texts of words, the first of which is this one
+first-word : {S : Type 0} (text : S → List ℕ) (words : List S) (word : S) (name : List ℕ) → 1 ≤ length words → word ≡ get_or words 0 word →
+    text word ≡ name → map text words ≡ name ∷ map text (behind words)
+first-word text [] word name least e is = absurd (omega arith)
+first-word text (w ∷ ws) word name least e is =
+    let rest : behind (w ∷ ws) ≡ ws = take_all (length (w ∷ ws) - 1) ws (omega arith) in
+    rw rest (ap (λ (t : List ℕ). t ∷ map text ws) (ap text (sym e) ∙ is))
+
+same-first : {T : Type 0} (names : List T) (name : T) → 1 ≤ length names → get_or names 0 name ≡ get_or names 0 (get_or names 0 name)
+same-first [] name more = absurd (omega arith)
+same-first (n ∷ ns) name more = refl
+
+-- two lists of words begin with one name
+pub first-words : {S T : Type 0} (f : S → List ℕ) (g : T → List ℕ) (words : List S) (names : List T) (word : S) (name : T) → 1 ≤ length words →
+    1 ≤ length names → word ≡ get_or words 0 word → f word ≡ g (get_or names 0 name) →
+    (map f words ≡ g (get_or names 0 name) ∷ map f (behind words)) × (map g names ≡ g (get_or names 0 name) ∷ map g (behind names))
+first-words f g words names word name some more e is =
+    (first-word f words word (g (get_or names 0 name)) some e is, first-word g names (get_or names 0 name) (g (get_or names 0 name)) more (same-first names name more) refl)
+
+pub same-words : (r : Bool) (name : List ℕ) (xs ys us vs : List (List ℕ)) → (us ≡ name ∷ xs) × (vs ≡ name ∷ ys) → MatchBool r (xs ≡ ys) (xs ≢ ys) →
+    MatchBool r (us ≡ vs) (us ≢ vs)
+same-words true name xs ys us vs (a, b) h = a ∙ (ap (λ (zs : List (List ℕ)). name ∷ zs) h ∙ sym b)
+same-words false name xs ys us vs (a, b) h = λ e. let same : name ∷ xs ≡ name ∷ ys = sym a ∙ (e ∙ b) in h cc
+
+pub same-limit : (r : Option ℕ) (name : List ℕ) (xs ys us vs : List (List ℕ)) → (us ≡ name ∷ xs) × (vs ≡ name ∷ ys) →
+    MatchOption r (NameNone ys xs) (λ n. NameLimitBehind ys xs n) → MatchOption r (NameNone vs us) (λ n. NameLimitBehind vs us n)
+same-limit None name xs ys us vs (a, b) h = rw (a, b) (λ n asked. h n asked.1)
+same-limit (Some n) name xs ys us vs (a, b) h = rw (a, b) (refl, h)

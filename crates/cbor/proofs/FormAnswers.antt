@@ -7,9 +7,11 @@ use Rattle.ciborium_value.specs.declared.key_order.KeyOrder.{KeyOrder}
 use Rattle.ciborium_value.specs.declared.kind.Kind.{Kind}
 use Rattle.ciborium_value.specs.declared.kind.Kind.TheVariants.{DuplicateKey, TooLarge}
 use Rattle.cbor.specs.declared.answer.Refusal.{Refusal}
+use Rattle.cbor.specs.declared.reading.Layout.{Layout}
 use Rattle.cbor.specs.declared.reading.Spelling.TheVariants.{Any}
 use Rattle.cbor.specs.Answer.{IsMeant, IsRefused, refused_text, wants_memory}
 use Rattle.cbor.specs.Forms.{IsFormAnswer, duplicate, formless_text, no_item, too_large}
+use Rattle.cbor.specs.Shown.{IsNotationAnswer, unshown}
 use Rattle.cbor.proofs.JudgedAnswers.{not-memory}
 
 -- the word for why a tree has no form answers a line that means it
@@ -22,3 +24,8 @@ formless-answers order line limit v k text means none (inr e) same = too_large v
 pub no-item-answers : (order : KeyOrder) (line : List ℕ) (limit : ℕ) (e : Refusal) (text : List ℕ) → IsRefused Any line limit e →
     (wants_memory e ≡ false) × (text ≡ refused_text e) → IsFormAnswer order line limit text
 no-item-answers order line limit e text h (m, same) = no_item e (not-memory e m) h same
+
+-- and its answer by its notation
+pub unshown-answers : (layout : Layout) (line : List ℕ) (limit : ℕ) (e : Refusal) (text : List ℕ) → IsRefused Any line limit e →
+    (wants_memory e ≡ false) × (text ≡ refused_text e) → IsNotationAnswer layout line limit text
+unshown-answers layout line limit e text h (m, same) = unshown e (not-memory e m) h same

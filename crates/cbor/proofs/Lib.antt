@@ -7,10 +7,11 @@ pub mod ItemsInRow
 pub mod JudgedAnswers
 pub mod JudgedLines
 pub mod MeantLines
-pub mod OneFormAnswer
+pub mod OneTextAnswer
 pub mod OneLineAnswer
 pub mod OneSequenceAnswer
 pub mod ReadBytes
+pub mod ShownItems
 pub mod SortedValues
 pub mod SpelledItems
 pub mod WrittenLines

@@ -4,11 +4,13 @@ use Rattle.ciborium_value.specs.Tree.{Tree}
 use Rattle.ciborium_value.specs.declared.key_order.KeyOrder.{KeyOrder}
 use Rattle.cbor.specs.declared.answer.Refusal.{Refusal}
 use Rattle.cbor.specs.declared.answer.Refusal.TheVariants.{Memory}
+use Rattle.cbor.specs.declared.reading.Layout.{Layout}
 use Rattle.cbor.specs.declared.reading.Spelling.{Spelling}
 use Rattle.cbor.specs.Answer.{IsRefused, IsMeant, refused_text}
 use Rattle.cbor.specs.Forms.{IsFormAnswer}
 use Rattle.cbor.specs.Line.{IsLineAnswer, tree_text}
 use Rattle.cbor.specs.Sequence.{IsSequenceAnswer}
+use Rattle.cbor.specs.Shown.{IsNotationAnswer}
 
 -- each line has an answer, however items may be spelled, within any number of levels
 abbrev pub IsAnswered : Type 0
@@ -52,3 +54,13 @@ IsFormAnswered = (order : KeyOrder) (line : List ℕ) (limit : ℕ) → (answer 
 abbrev pub OneFormAnswer : Type 0
 OneFormAnswer =
     (order : KeyOrder) (line : List ℕ) (limit : ℕ) (a b : List ℕ) → IsFormAnswer order line limit a → IsFormAnswer order line limit b → a ≡ b
+
+-- each line has an answer by the notation of its item, in either layout and within any number of levels
+abbrev pub IsNotationAnswered : Type 0
+IsNotationAnswered = (layout : Layout) (line : List ℕ) (limit : ℕ) → (answer : List ℕ) × IsNotationAnswer layout line limit answer
+
+-- and no other
+abbrev pub OneNotationAnswer : Type 0
+OneNotationAnswer =
+    (layout : Layout) (line : List ℕ) (limit : ℕ) (a b : List ℕ) → IsNotationAnswer layout line limit a → IsNotationAnswer layout line limit b →
+    a ≡ b

@@ -9,4 +9,5 @@ pub mod Sorted
 pub mod Spellings
 pub mod SortedLines
 pub mod Streams
+pub mod Topics
 pub mod Words

@@ -32,4 +32,4 @@ pub data IsNotationAnswer (layout : Layout) (line : List ℕ) (limit : ℕ) (ans
   -- it is an item
   shown : IsNotationText layout line limit answer → IsNotationAnswer layout line limit answer
   -- it is no item
-  no_item : (e : Refusal) → e ≢ Memory → IsRefused Any line limit e → answer ≡ refused_text e → IsNotationAnswer layout line limit answer
+  unshown : (e : Refusal) → e ≢ Memory → IsRefused Any line limit e → answer ≡ refused_text e → IsNotationAnswer layout line limit answer

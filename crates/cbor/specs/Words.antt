@@ -1,11 +1,15 @@
--- Which words the program is run with.
-use Rattle.std.specs.Prelude.{◌≡◌, ℕ, ◌^◌, ◌<◌, List, [], ◌∷◌, codes}
+-- Which words the program is run with, and what they ask for.
+use Rattle.std.specs.Prelude.{◌≡◌, ℕ, ◌^◌, ◌<◌, List, [], ◌∷◌, Option, Some, None, MatchOption, codes}
 use Rattle.std.specs.Str.Parse.{IsNumeral, digits_value}
 use Rattle.ciborium_value.specs.declared.key_order.KeyOrder.{KeyOrder}
 use Rattle.ciborium_value.specs.declared.key_order.KeyOrder.TheVariants.{LengthFirst, Bytewise}
-use Rattle.cbor.specs.declared.run.Command.{Command}
-use Rattle.cbor.specs.declared.run.Command.TheVariants as commands
-use Rattle.cbor.specs.declared.reading.Reading.TheVariants.{Item, Sequence, Form}
+use Rattle.cbor.specs.declared.command.Command.{Command}
+use Rattle.cbor.specs.declared.command.Command.TheVariants.{Answer, Sort, Show, Tell}
+use Rattle.cbor.specs.declared.command.Topic.TheVariants.{Help, Version}
+use Rattle.cbor.specs.declared.reading.Layout.{Layout}
+use Rattle.cbor.specs.declared.reading.Layout.TheVariants.{OneLine, Indented}
+use Rattle.cbor.specs.declared.reading.Reading.TheVariants as readings
+use Rattle.cbor.specs.declared.reading.Showing.TheVariants as showings
 use Rattle.cbor.specs.declared.reading.Spelling.{Spelling}
 use Rattle.cbor.specs.declared.reading.Spelling.TheVariants.{Any, Deterministic}
 
@@ -19,7 +23,7 @@ NameLimit [] n = n ≡ 256
 NameLimit (limit ∷ []) n = IsLimit limit × (n ≡ digits_value 10 limit)
 NameLimit (first ∷ (second ∷ others)) n = ⊥
 
--- the words begin with these flags, in order, and the others name a limit
+-- the words begin with these, in order, and the others name a limit
 abbrev pub NameLimitBehind : List (List ℕ) → List (List ℕ) → ℕ → Type 0
 NameLimitBehind [] words n = NameLimit words n
 NameLimitBehind (flag ∷ flags) [] n = ⊥
@@ -35,37 +39,38 @@ abbrev pub spelling_flags : Spelling → List (List ℕ)
 spelling_flags Any = []
 spelling_flags (Deterministic order) = codes "--det" ∷ order_flags order
 
--- the words behind `read` ask for items that are spelled so, within so many levels
-abbrev pub AreOptions : List (List ℕ) → Spelling → ℕ → Type 0
-AreOptions words spelling n = NameLimitBehind (spelling_flags spelling) words n
+-- the flags for a layout: none for one line, and `--indent` for indented lines
+abbrev pub layout_flags : Layout → List (List ℕ)
+layout_flags OneLine = []
+layout_flags Indented = codes "--indent" ∷ []
 
--- the words ask for lines to be read, as items that are spelled so, within so many levels
-abbrev pub AskToRead : List (List ℕ) → Spelling → ℕ → Type 0
-AskToRead [] spelling n = ⊥
-AskToRead (command ∷ options) spelling n = (command ≡ codes "read") × AreOptions options spelling n
+-- the words for a command, before its limit
+abbrev pub command_words : Command → List (List ℕ)
+command_words (Answer (readings.Item spelling n)) = codes "read" ∷ spelling_flags spelling
+command_words (Answer readings.Sequence) = codes "seq" ∷ []
+command_words (Answer (readings.Form order n)) = codes "canon" ∷ order_flags order
+command_words (Answer (readings.Notation layout n)) = codes "diag" ∷ layout_flags layout
+command_words (Sort order) = codes "sort" ∷ order_flags order
+command_words (Show showings.Encoding n) = codes "read" ∷ (codes "--binary" ∷ [])
+command_words (Show (showings.Notation layout) n) = codes "diag" ∷ (codes "--binary" ∷ layout_flags layout)
+command_words (Tell Help) = codes "--help" ∷ []
+command_words (Tell Version) = codes "--version" ∷ []
 
--- the words ask for the deterministic encodings of the items of lines, by this order of keys and within so many levels
-abbrev pub AskForCanon : List (List ℕ) → KeyOrder → ℕ → Type 0
-AskForCanon [] order n = ⊥
-AskForCanon (command ∷ options) order n = (command ≡ codes "canon") × NameLimitBehind (order_flags order) options n
+-- its limit, where it takes one
+abbrev pub command_limit : Command → Option ℕ
+command_limit (Answer (readings.Item spelling n)) = Some n
+command_limit (Answer readings.Sequence) = None
+command_limit (Answer (readings.Form order n)) = Some n
+command_limit (Answer (readings.Notation layout n)) = Some n
+command_limit (Sort order) = None
+command_limit (Show showing n) = Some n
+command_limit (Tell topic) = None
 
--- the words ask for lines to be sorted in this order
-abbrev pub AskToSort : List (List ℕ) → KeyOrder → Type 0
-AskToSort words order = words ≡ codes "sort" ∷ order_flags order
-
--- the words ask for lines to be read as sequences
-abbrev pub AskForSequences : List (List ℕ) → Type 0
-AskForSequences words = words ≡ codes "seq" ∷ []
+-- the words ask for this: they are the words for it, and a limit behind them where it takes one
+abbrev pub AskFor : List (List ℕ) → Command → Type 0
+AskFor words command =
+    MatchOption (command_limit command) (words ≡ command_words command) (λ n. NameLimitBehind (command_words command) words n)
 
 -- the words ask for nothing that the program does
 abbrev pub AreWrong : List (List ℕ) → Type 0
-AreWrong words =
-    ((spelling : Spelling) (n : ℕ) → ¬ AskToRead words spelling n) × ((order : KeyOrder) (n : ℕ) → ¬ AskForCanon words order n) ×
-    ((order : KeyOrder) → ¬ AskToSort words order) × ¬ AskForSequences words
-
--- the words ask for this
-abbrev pub AskFor : List (List ℕ) → Command → Type 0
-AskFor words (commands.Answer (Item spelling n)) = AskToRead words spelling n
-AskFor words (commands.Answer Sequence) = AskForSequences words
-AskFor words (commands.Answer (Form order n)) = AskForCanon words order n
-AskFor words (commands.Sort order) = AskToSort words order
+AreWrong words = (command : Command) → ¬ AskFor words command

@@ -10,7 +10,8 @@ ghost use Rattle.cbor.specs.Forms.{IsFormAnswer, formless_text};
 ghost use Rattle.cbor.specs.Line.{IsLineAnswer, tree_text};
 ghost use Rattle.cbor.specs.Lines.{AreAnswered, AreOk, IsAnswer, IsOkText, MayBeAnswer, text_line};
 ghost use Rattle.cbor.specs.Sequence.{IsSequenceAnswer};
-ghost use Rattle.cbor.specs.declared.reading.Reading.TheVariants.{Form, Item, Sequence};
+ghost use Rattle.cbor.specs.Shown.{IsNotationAnswer};
+ghost use Rattle.cbor.specs.declared.reading.Reading.TheVariants.{Form, Item, Notation, Sequence};
 ghost use Rattle.cbor.specs.declared.reading.Spelling.TheVariants.{Any, Deterministic};
 
 use crate::answer::Refusal;
@@ -18,9 +19,10 @@ use crate::digits::decode_line;
 use crate::fault::Fault;
 use crate::items::{push_encoding, read_item};
 use crate::lines::{next_line, put_text, send_waiting};
-use crate::reading::{Reading, Spelling};
+use crate::reading::{Layout, Reading, Spelling};
 use crate::rooms::Rooms;
 use crate::sequences::answer_items;
+use crate::showing::push_notation;
 use ciborium_value::{KeyOrder, Kind, Value};
 use std::alloc::{AllocError, Global};
 use std::io::{BufReader, Read, Write};
@@ -132,6 +134,36 @@ pub fn answer_canon(
     }
 }
 
+/// Answers a line as `answer_line` does, but its item by its diagnostic notation (RFC 8949, section
+/// 8), laid out so, with nothing before it. Says whether the line is an item.
+///
+/// # Errors
+///
+/// `AllocError` where memory is refused.
+pub fn answer_diag(
+    alloc: Global,
+    line: &[u8],
+    layout: Layout,
+    limit: usize,
+    rooms: &mut Rooms,
+) -> Result<bool, AllocError>
+    ensures answer { OnOk result (IsNotationAnswer layout line.now limit rooms.new.text.items) }
+    ensures item { IfOk result (λ is_ok. IsTrue is_ok →
+        IsOkText (Notation layout limit) line.now rooms.new.text.items) }
+{
+    match read_item(alloc, line, Spelling::Any, limit, &mut rooms.bytes) {
+        Ok(value) => {
+            rooms.text.clear();
+            push_notation(&value, layout, &mut rooms.text)?;
+            Ok(true)
+        }
+        Err(refusal) => {
+            write_refusal(refusal, &mut rooms.text)?;
+            Ok(false)
+        }
+    }
+}
+
 // Why a value has no deterministic form, in a word.
 fn name_want(kind: Kind) -> &'static [u8]
     requires { (kind ≡ DuplicateKey) ⊎ (kind ≡ TooLarge) }
@@ -210,6 +242,7 @@ fn answer_reading(
         }
         Reading::Sequence => answer_seq(alloc, line, rooms),
         Reading::Form(order, limit) => answer_canon(alloc, line, order, limit, rooms),
+        Reading::Notation(layout, limit) => answer_diag(alloc, line, layout, limit, rooms),
     }
 }
 

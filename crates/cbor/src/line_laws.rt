@@ -1,8 +1,9 @@
 //! What holds of the answers to lines, whatever the code: the law is the contract of a function
 //! that does nothing.
 
-ghost use Rattle.cbor.specs.Laws.{IsAnswered, IsFormAnswered, IsSequenceAnswered};
-ghost use Rattle.cbor.specs.Laws.{ItemIsAnswered, OneAnswer, OneFormAnswer, OneSequenceAnswer};
+ghost use Rattle.cbor.specs.Laws.{IsAnswered, IsFormAnswered, IsNotationAnswered};
+ghost use Rattle.cbor.specs.Laws.{IsSequenceAnswered, ItemIsAnswered, OneAnswer, OneFormAnswer};
+ghost use Rattle.cbor.specs.Laws.{OneNotationAnswer, OneSequenceAnswer};
 ghost use Rattle.cbor.specs.Laws.{RefusalIsAnswered, RefusedMeansNothing};
 
 use ciborium::laws::deterministic_or_refused;
@@ -35,6 +36,15 @@ pub fn sequence_answer()
 pub fn form_answer()
     ensures answered { IsFormAnswered }
     ensures one { OneFormAnswer }
+{
+    deterministic_or_refused();
+}
+
+/// Each line has an answer by the diagnostic notation of its item (RFC 8949, section 8), in either
+/// layout and within any number of levels, and one answer alone.
+pub fn notation_answer()
+    ensures answered { IsNotationAnswered }
+    ensures one { OneNotationAnswer }
 {
     deterministic_or_refused();
 }

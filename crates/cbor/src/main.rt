@@ -1,14 +1,10 @@
-//! `cbor read` answers lines of hex: which bytes are a CBOR item (RFC 8949), and its one shortest
-//! encoding. `cbor read --det` accepts deterministic encodings alone. `cbor canon` answers each
-//! line with the deterministic encoding of its item, however the line spells it. `cbor seq` answers
-//! lines that are sequences of items (RFC 8742). `cbor sort` writes the encodings of all lines in
-//! the canonical order, the shorter first (RFC 8949, section 4.2.3), in which the keys of each map
-//! stand for `read --det` and `canon` too. With `--core` all three take the order of the core
-//! deterministic encoding, which is bytewise (section 4.2.1).
+//! `cbor` looks at CBOR (RFC 8949) on the standard input: lines of hex, an item or a sequence each, or
+//! a sequence of items as bytes (RFC 8742). `cbor --help` tells the commands, and `run` what they do.
 #![tactic(auto)]
 
 mod answer;
 mod answering;
+mod command;
 mod digits;
 mod fault;
 mod items;
@@ -20,8 +16,11 @@ mod run;
 mod sequences;
 mod showing;
 mod sorting;
+mod streams;
 #[cfg(test)]
 mod test_devices;
+mod topics;
+mod words;
 
 use fault::Fault;
 use std::io::Lock;

@@ -1,55 +1,67 @@
-//! The command line: which words are right, what they ask for, and the status.
+//! The command line: what is done for which words, and the status.
 
-ghost use Rattle.std.specs.Prelude.{◌≡◌, ◌≤◌, ◌∷◌, ℕ, IfOk, IsTrue, List, MatchOption, OnOk, Ok};
-ghost use Rattle.std.specs.Prelude.{Some, codes, map, string_bytes, true};
+ghost use Rattle.std.specs.Prelude.{◌≡◌, ◌≤◌, ◌++◌, ℕ, IfOk, IsTrue, List, OnOk, Ok, Some, map};
+ghost use Rattle.std.specs.Prelude.{string_bytes, true};
 ghost use Rattle.std.specs.Io.KnownBytes.{Keeps};
-ghost use Rattle.std.specs.Option.{SomeIff};
-ghost use Rattle.std.specs.Str.Parse.{digits_value};
 ghost use Rattle.ciborium_value.specs.declared.key_order.KeyOrder.{KeyOrder};
 ghost use Rattle.cbor.specs.Lines.{AreAnswered, AreOk};
 ghost use Rattle.cbor.specs.SortedLines.{AreSortedLines};
-ghost use Rattle.cbor.specs.Words.{AreWrong, AskFor, AskForCanon, AskForSequences, AskToRead};
-ghost use Rattle.cbor.specs.Words.{AskToSort, IsLimit, NameLimit, NameLimitBehind, order_flags};
+ghost use Rattle.cbor.specs.Streams.{IsStreamShown};
+ghost use Rattle.cbor.specs.Topics.{topic_text};
+ghost use Rattle.cbor.specs.Words.{AreWrong, AskFor};
+ghost use Rattle.cbor.specs.declared.command.Command.{Command};
+ghost use Rattle.cbor.specs.declared.command.Command.TheVariants.{Answer, Show, Sort, Tell};
+ghost use Rattle.cbor.specs.declared.command.Topic.{Topic};
 ghost use Rattle.cbor.specs.declared.reading.Reading.{Reading};
-ghost use Rattle.cbor.specs.declared.reading.Reading.TheVariants.{Form, Item, Sequence};
-ghost use Rattle.cbor.specs.declared.reading.Spelling.{Spelling};
-ghost use Rattle.cbor.specs.declared.run.Command.TheVariants.{Answer, Sort};
+ghost use Rattle.cbor.specs.declared.reading.Showing.{Showing};
 
 use crate::answering::answer_lines;
+use crate::command::{Command, Topic};
 use crate::fault::Fault;
-use crate::reading::{Reading, Spelling};
 use crate::sorting::sort_lines;
+use crate::streams::show_items;
+use crate::topics::{HELP, topic_text};
+use crate::words::judge_words;
 use ciborium::de::RECURSION_LIMIT;
-use ciborium_value::KeyOrder;
 use std::alloc::Global;
 use std::io::{Read, Write};
 
-// What the words ask for: to answer lines that are read so, or to sort them in this order.
-#[derive(Clone, Copy, Debug)]
-enum Command {
-    Answer(Reading),
-    Sort(KeyOrder),
-}
+// What is told of words that ask for nothing.
+const USAGE: &str = "\
+usage: cbor read [--det [--core]] [limit] | cbor canon [--core] [limit] | cbor diag [--indent] [limit] \
+| cbor seq | cbor sort [--core] | cbor diag --binary [--indent] [limit] | cbor read --binary [limit] \
+| cbor --help | cbor --version
+";
 
 /// Does what the words say, which are the program's arguments without its name, and returns the
-/// exit status. `read` answers each line of hex of the input by a line on the output, within 256
-/// levels, and `read LIMIT` within that many; a line whose answer is refused memory is answered
-/// `memory`. `read --det`, and a limit behind it, accept deterministic encodings alone, the keys of
-/// each map in the canonical order (RFC 8949, section 4.2.3: length-first). `seq` answers each line
-/// as a sequence of items (RFC 8742), each within 256 levels. `canon`, and a limit behind it,
-/// answers each line as `read` does, but with the deterministic encoding of its item, however the
-/// line spells it, the keys of each map in the canonical order; an item that has none is answered
-/// `duplicate` or `toolarge`. `sort` reads all lines within 256 levels, and then writes the
-/// encodings of their items in lower-case hex, a line each, in the canonical order. At the first
-/// line that is no item it only writes `line`, the number of that line, counted from 1, a colon and
-/// the answer to it. `--core`, right behind `--det`, `canon` or `sort`, takes the order of the core
-/// deterministic encoding in place of the canonical one (section 4.2.1: bytewise).
+/// exit status.
 ///
-/// The status is 0 where every line is an item, for `seq` a sequence, for `canon` an item that has
-/// a deterministic encoding, and 1 where one is not. It is 2 for any other words: the usage is then
-/// written to `errors`, and input and output are left alone. Where the input or the output fails,
-/// or memory is refused for a line or for the list to sort, the run ends with status 1, and
-/// `errors` names the first such fault.
+/// `read` answers each line of hex of the input by a line on the output, within 256 levels, and
+/// `read LIMIT` within that many; a line whose answer is refused memory is answered `memory`.
+/// `read --det`, and a limit behind it, accept deterministic encodings alone, the keys of each map
+/// in the canonical order (RFC 8949, section 4.2.3: length-first). `seq` answers each line as a
+/// sequence of items (RFC 8742), each within 256 levels. `canon`, and a limit behind it, answers
+/// each line as `read` does, but with the deterministic encoding of its item, however the line
+/// spells it, the keys of each map in the canonical order; an item that has none is answered
+/// `duplicate` or `toolarge`. `diag`, and a limit behind it, answers each item with its diagnostic
+/// notation (RFC 8949, section 8), and `--indent` right behind it lays that out over lines. `sort`
+/// reads all lines within 256 levels, and then writes the encodings of their items in lower-case
+/// hex, a line each, in the canonical order. At the first line that is no item it only writes
+/// `line`, the number of that line, counted from 1, a colon and the answer to it. `--core`, right
+/// behind `--det`, `canon` or `sort`, takes the order of the core deterministic encoding in place
+/// of the canonical one (section 4.2.1: bytewise).
+///
+/// `diag --binary` and `read --binary`, and a limit behind them, take the input as the items of a
+/// sequence in bytes. They show each as soon as it is read, by its notation or its encoding in hex,
+/// until the end or the first item that is refused: then comes `item`, its number, counted from 1,
+/// a colon and why, with the offset counted inside that item. `--help` tells the commands, and
+/// `--version` the version.
+///
+/// The status is 0 where every line or item is as it is asked for, and 1 where one is not. It is 2
+/// for any other words: `errors` then tells the usage, for no words at all as `--help` does, and
+/// input and output are left alone. Where the input or the output fails, or memory is refused for a
+/// line, an item of bytes or the list to sort, the run ends with status 1, and `errors` names the
+/// first such fault.
 pub fn run<R: Read, W: Write, E: Write>(
     alloc: Global,
     words: &[String],
@@ -60,29 +72,23 @@ pub fn run<R: Read, W: Write, E: Write>(
     ensures wrong { AreWrong (map string_bytes words.now) →
         (result ≡ 2) × (R.remaining input.new ≡ R.remaining input.old)
         × (W.contents output.new ≡ W.contents output.old) }
-    ensures right { (spelling : Spelling) (limit : ℕ) →
-        AskToRead (map string_bytes words.now) spelling limit → result ≤ 1 }
-    ensures right_to_seq { AskForSequences (map string_bytes words.now) → result ≤ 1 }
-    ensures right_to_canon { (order : KeyOrder) (limit : ℕ) →
-        AskForCanon (map string_bytes words.now) order limit → result ≤ 1 }
-    ensures right_to_sort { (order : KeyOrder) →
-        AskToSort (map string_bytes words.now) order → result ≤ 1 }
-    ensures answered { (spelling : Spelling) (limit : ℕ) (b w : List ℕ) →
-        AskToRead (map string_bytes words.now) spelling limit → R.remaining input.old ≡ Some b →
+    ensures right { (command : Command) →
+        AskFor (map string_bytes words.now) command → result ≤ 1 }
+    ensures answered { (reading : Reading) (b w : List ℕ) →
+        AskFor (map string_bytes words.now) (Answer reading) → R.remaining input.old ≡ Some b →
         W.contents output.old ≡ Some w → result ≡ 0 →
-        AreOk (Item spelling limit) b w (W.contents output.new) }
-    ensures sequences { (b w : List ℕ) →
-        AskForSequences (map string_bytes words.now) → R.remaining input.old ≡ Some b →
-        W.contents output.old ≡ Some w → result ≡ 0 →
-        AreOk Sequence b w (W.contents output.new) }
-    ensures canonized { (order : KeyOrder) (limit : ℕ) (b w : List ℕ) →
-        AskForCanon (map string_bytes words.now) order limit → R.remaining input.old ≡ Some b →
-        W.contents output.old ≡ Some w → result ≡ 0 →
-        AreOk (Form order limit) b w (W.contents output.new) }
+        AreOk reading b w (W.contents output.new) }
     ensures sorted { (order : KeyOrder) (b w : List ℕ) →
-        AskToSort (map string_bytes words.now) order → R.remaining input.old ≡ Some b →
+        AskFor (map string_bytes words.now) (Sort order) → R.remaining input.old ≡ Some b →
         W.contents output.old ≡ Some w → result ≡ 0 →
         AreSortedLines order b 256 w (W.contents output.new) }
+    ensures shown { (showing : Showing) (limit : ℕ) (b w : List ℕ) →
+        AskFor (map string_bytes words.now) (Show showing limit) →
+        R.remaining input.old ≡ Some b → W.contents output.old ≡ Some w → result ≡ 0 →
+        IsStreamShown showing b limit w true (W.contents output.new) }
+    ensures told { (topic : Topic) (w : List ℕ) →
+        AskFor (map string_bytes words.now) (Tell topic) → W.contents output.old ≡ Some w →
+        result ≡ 0 → W.contents output.new ≡ Some (w ++ topic_text topic) }
 {
     match judge_words(words) {
         Some(command) => {
@@ -90,114 +96,10 @@ pub fn run<R: Read, W: Write, E: Write>(
             conclude(done, errors)
         }
         None => {
-            report(
-                errors,
-                "usage: cbor read [--det [--core]] [limit] | cbor canon [--core] [limit] \
-                 | cbor sort [--core] | cbor seq\n",
-            );
+            report(errors, if words.is_empty() { HELP } else { USAGE });
             2
         }
     }
-}
-
-// What the words ask for, or none where they are wrong.
-fn judge_words(words: &[String]) -> Option<Command>
-    ensures { MatchOption result (AreWrong (map string_bytes words.now))
-        (λ command. AskFor (map string_bytes words.now) command) }
-{
-    match words {
-        [command, options @ ..] if command.as_str() == "read" => judge_reading(options),
-        [command, options @ ..] if command.as_str() == "canon" => judge_canon(options),
-        [command, options @ ..] if command.as_str() == "sort" => judge_sorting(options),
-        [command] if command.as_str() == "seq" => Some(Command::Answer(Reading::Sequence)),
-        _ => None,
-    }
-}
-
-// What `read` and these words behind it ask for, or none where they are wrong.
-fn judge_reading(options: &[String]) -> Option<Command>
-    ensures { MatchOption result (AreWrong (codes "read" ∷ map string_bytes options.now))
-        (λ command. AskFor (codes "read" ∷ map string_bytes options.now) command) }
-{
-    match options {
-        [flag, others @ ..] if flag.as_str() == "--det" => judge_deterministic(others),
-        _ => {
-            let limit = judge_limit(options)?;
-            Some(Command::Answer(Reading::Item(Spelling::Any, limit)))
-        }
-    }
-}
-
-// What `read --det` and these words behind it ask for, or none where they are wrong.
-fn judge_deterministic(options: &[String]) -> Option<Command>
-    ensures { MatchOption result
-        (AreWrong (codes "read" ∷ (codes "--det" ∷ map string_bytes options.now)))
-        (λ command. AskFor (codes "read" ∷ (codes "--det" ∷ map string_bytes options.now)) command) }
-{
-    let (order, limit) = judge_order(options)?;
-    Some(Command::Answer(Reading::Item(Spelling::Deterministic(order), limit)))
-}
-
-// What `canon` and these words behind it ask for, or none where they are wrong.
-fn judge_canon(options: &[String]) -> Option<Command>
-    ensures { MatchOption result (AreWrong (codes "canon" ∷ map string_bytes options.now))
-        (λ command. AskFor (codes "canon" ∷ map string_bytes options.now) command) }
-{
-    let (order, limit) = judge_order(options)?;
-    Some(Command::Answer(Reading::Form(order, limit)))
-}
-
-// The order of keys and the limit that words name.
-fn judge_order(words: &[String]) -> Option<(KeyOrder, usize)>
-    ensures { MatchOption result
-        ((order : KeyOrder) (n : ℕ) →
-        ¬ NameLimitBehind (order_flags order) (map string_bytes words.now) n)
-        (λ named. NameLimitBehind (order_flags named.0) (map string_bytes words.now) named.1) }
-{
-    match words {
-        [flag, others @ ..] if flag.as_str() == "--core" => {
-            let limit = judge_limit(others)?;
-            Some((KeyOrder::Bytewise, limit))
-        }
-        _ => {
-            let limit = judge_limit(words)?;
-            Some((KeyOrder::LengthFirst, limit))
-        }
-    }
-}
-
-// What `sort` and these words behind it ask for, or none where they are wrong.
-fn judge_sorting(options: &[String]) -> Option<Command>
-    ensures { MatchOption result (AreWrong (codes "sort" ∷ map string_bytes options.now))
-        (λ command. AskFor (codes "sort" ∷ map string_bytes options.now) command) }
-{
-    match options {
-        [] => Some(Command::Sort(KeyOrder::LengthFirst)),
-        [flag] if flag.as_str() == "--core" => Some(Command::Sort(KeyOrder::Bytewise)),
-        _ => None,
-    }
-}
-
-// The limit that a word names, and that of the library where no word is left.
-fn judge_limit(words: &[String]) -> Option<usize>
-    ensures { MatchOption result ((n : ℕ) → ¬ NameLimit (map string_bytes words.now) n)
-        (λ limit. NameLimit (map string_bytes words.now) limit) }
-{
-    match words {
-        [] => Some(RECURSION_LIMIT),
-        [limit] => parse_limit(limit.as_str()),
-        _ => None,
-    }
-}
-
-// The number of one digit or more, if it is a `usize`. No sign stands before it.
-fn parse_limit(text: &str) -> Option<usize>
-    ensures { SomeIff result (IsLimit text.now) (digits_value 10 text.now) }
-{
-    if text.starts_with('+') {
-        return None;
-    }
-    text.parse().ok()
 }
 
 // A message that is refused has nowhere else to go.
@@ -206,8 +108,8 @@ fn report<E: Write>(errors: &mut E, message: &str) {
     let _ = errors.flush();
 }
 
-// Does what is asked for, flushes the output, and says whether every line is as it is asked for.
-// Where nothing fails, each line is answered, be it refused or not.
+// Does what is asked for, flushes the output, and says whether every line or item is as it is asked
+// for. Where nothing fails, each line is answered, be it refused or not.
 //
 // # Errors
 //
@@ -227,6 +129,13 @@ fn perform<R: Read, W: Write>(
     ensures sorted { (order : KeyOrder) (b w : List ℕ) → command ≡ Sort order →
         R.remaining input.old ≡ Some b → W.contents output.old ≡ Some w →
         IfOk result (λ all. IsTrue all → AreSortedLines order b 256 w (W.contents output.new)) }
+    ensures shown { (showing : Showing) (limit : ℕ) (b w : List ℕ) →
+        command ≡ Show showing limit → R.remaining input.old ≡ Some b →
+        W.contents output.old ≡ Some w →
+        IfOk result (λ all. IsStreamShown showing b limit w all (W.contents output.new)) }
+    ensures told { (topic : Topic) (w : List ℕ) → command ≡ Tell topic →
+        W.contents output.old ≡ Some w →
+        OnOk result (W.contents output.new ≡ Some (w ++ topic_text topic)) }
 {
     match command {
         Command::Answer(reading) => {
@@ -237,7 +146,26 @@ fn perform<R: Read, W: Write>(
             let sorted = sort_lines(alloc, input, order, RECURSION_LIMIT, output);
             finish(sorted, output)
         }
+        Command::Show(showing, limit) => {
+            let shown = show_items(alloc, input, showing, limit, output);
+            finish(shown, output)
+        }
+        Command::Tell(topic) => {
+            let told = tell(topic, output);
+            finish(told, output)
+        }
     }
+}
+
+// Writes what is told of a topic.
+fn tell<W: Write>(topic: Topic, output: &mut W) -> Result<bool, Fault>
+    ensures { (w : List ℕ) → W.contents output.old ≡ Some w →
+        OnOk result (W.contents output.new ≡ Some (w ++ topic_text topic)) }
+{
+    if output.write_all(topic_text(topic).as_bytes()).is_err() {
+        return Err(Fault::Output);
+    }
+    Ok(true)
 }
 
 // Flushes the output of a run that found each line to be as it is asked for, or one that is not, or

@@ -1,4 +1,4 @@
-use Rattle.cbor.proofs.OneFormAnswer.{is_form_answered, one_form_answer}
+use Rattle.cbor.proofs.OneTextAnswer.{is_form_answered, one_form_answer}
 use Rattle.cbor.proofs.SpelledItems.{DeterministicLaw}
 use Rattle.cbor.proofs.line_laws.form_answer.Goals as goal
 

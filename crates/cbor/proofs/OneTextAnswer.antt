@@ -1,4 +1,4 @@
--- Each line has one answer by the deterministic form of its item.
+-- Each line has one answer by the deterministic form of its item, and one by its notation.
 use Rattle.std.proofs.Common.{◌≡◌, ◌≢◌, ◌⊎◌, ℕ, List, [], ◌∷◌, length, inl, inr, Result, Ok, Err, is_err, MatchResult, refl, sym, ap, ◌∙◌, subst, arith, append-nil}
 use Rattle.hex.specs.Hex.{decode_of}
 use Rattle.hex.specs.declared.error.FromHexError.{FromHexError}
@@ -13,11 +13,13 @@ use Rattle.cbor.specs.declared.answer.Reason.{Reason}
 use Rattle.cbor.specs.declared.answer.Reason.TheVariants as reasons
 use Rattle.cbor.specs.declared.answer.Refusal.{Refusal}
 use Rattle.cbor.specs.declared.answer.Refusal.TheVariants.{Hex, Trailing, Io, Syntax, Semantic, Nesting, TooLong, Memory}
+use Rattle.cbor.specs.declared.reading.Layout.{Layout}
 use Rattle.cbor.specs.declared.reading.Spelling.TheVariants.{Any}
 use Rattle.cbor.specs.Answer.{AreRefused, IsMeant, IsRefused, kind_of_reason, refused_text}
 use Rattle.cbor.specs.Forms.{IsFormAnswer, duplicate, formed, formless_text, no_item, too_large}
-use Rattle.cbor.specs.Laws.{IsFormAnswered, OneFormAnswer}
+use Rattle.cbor.specs.Laws.{IsFormAnswered, IsNotationAnswered, OneFormAnswer, OneNotationAnswer}
 use Rattle.cbor.specs.Line.{tree_text}
+use Rattle.cbor.specs.Shown.{IsNotationAnswer, notation_text, shown, unshown}
 use Rattle.cbor.specs.Spellings.{IsItem, RefusesItem}
 use Rattle.cbor.proofs.JudgedAnswers.{not-memory}
 use Rattle.cbor.proofs.JudgedLines.{refusal_is_answered, refused-by, refused_means_nothing}
@@ -39,29 +41,42 @@ one-meant-by law (Err e) limit v w p q = absurd p
 one-meant : DeterministicLaw → (line : List ℕ) (limit : ℕ) (v w : Tree) → IsMeant Any line limit v → IsMeant Any line limit w → v ≡ w
 one-meant law line limit v w p q = one-meant-by law (decode_of line) limit v w p q
 
--- an answer is the text of a form, or of a refusal
-abbrev IsFormOrRefusal : KeyOrder → List ℕ → ℕ → List ℕ → Type 0
-IsFormOrRefusal order line limit answer =
-    ((v : Tree) × IsMeant Any line limit v × (answer ≡ form_text (deterministic_form order v)))
-    ⊎ ((e : Refusal) × (e ≢ Memory) × IsRefused Any line limit e × (answer ≡ refused_text e))
+-- an answer is the text of a tree that the line means, or of a refusal
+abbrev IsTextOrRefusal : (Tree → List ℕ) → List ℕ → ℕ → List ℕ → Type 0
+IsTextOrRefusal text line limit answer =
+    ((v : Tree) × IsMeant Any line limit v × (answer ≡ text v)) ⊎ ((e : Refusal) × (e ≢ Memory) × IsRefused Any line limit e × (answer ≡ refused_text e))
 
-either : (order : KeyOrder) (line : List ℕ) (limit : ℕ) (answer : List ℕ) → IsFormAnswer order line limit answer → IsFormOrRefusal order line limit answer
-either order line limit answer (formed (v, u, means, form, same)) = inl (v, means, same ∙ ap form_text (sym form))
-either order line limit answer (duplicate v means none same) = inl (v, means, same ∙ ap form_text (sym none))
-either order line limit answer (too_large v means none same) = inl (v, means, same ∙ ap form_text (sym none))
-either order line limit answer (no_item e m h same) = inr (e, m, h, same)
-
-one-of : DeterministicLaw → (order : KeyOrder) (line : List ℕ) (limit : ℕ) (a b : List ℕ) → IsFormOrRefusal order line limit a →
-    IsFormOrRefusal order line limit b → a ≡ b
-one-of law order line limit a b (inl (v, p, e)) (inl (w, q, f)) =
-    e ∙ (ap (λ (t : Tree). form_text (deterministic_form order t)) (one-meant law line limit v w p q) ∙ sym f)
-one-of law order line limit a b (inl (v, p, e)) (inr (r, m, h, f)) = absurd (refused_means_nothing law Any line limit r v m h p)
-one-of law order line limit a b (inr (r, m, h, e)) (inl (v, p, f)) = absurd (refused_means_nothing law Any line limit r v m h p)
-one-of law order line limit a b (inr (r, m, h, e)) (inr (s, n, i, f)) =
+one-of : DeterministicLaw → (text : Tree → List ℕ) (line : List ℕ) (limit : ℕ) (a b : List ℕ) → IsTextOrRefusal text line limit a →
+    IsTextOrRefusal text line limit b → a ≡ b
+one-of law text line limit a b (inl (v, p, e)) (inl (w, q, f)) = e ∙ (ap text (one-meant law line limit v w p q) ∙ sym f)
+one-of law text line limit a b (inl (v, p, e)) (inr (r, m, h, f)) = absurd (refused_means_nothing law Any line limit r v m h p)
+one-of law text line limit a b (inr (r, m, h, e)) (inl (v, p, f)) = absurd (refused_means_nothing law Any line limit r v m h p)
+one-of law text line limit a b (inr (r, m, h, e)) (inr (s, n, i, f)) =
     e ∙ (one_answer law Any line limit (refused_text r) (refused_text s) (refusal_is_answered Any line limit r m h) (refusal_is_answered Any line limit s n i) ∙ sym f)
 
+-- the text of a tree's form, or why there is none
+abbrev tree_form_text : KeyOrder → Tree → List ℕ
+tree_form_text order v = form_text (deterministic_form order v)
+
+form-or-refusal : (order : KeyOrder) (line : List ℕ) (limit : ℕ) (answer : List ℕ) → IsFormAnswer order line limit answer →
+    IsTextOrRefusal (tree_form_text order) line limit answer
+form-or-refusal order line limit answer (formed (v, u, means, form, same)) = inl (v, means, same ∙ ap form_text (sym form))
+form-or-refusal order line limit answer (duplicate v means none same) = inl (v, means, same ∙ ap form_text (sym none))
+form-or-refusal order line limit answer (too_large v means none same) = inl (v, means, same ∙ ap form_text (sym none))
+form-or-refusal order line limit answer (no_item e m h same) = inr (e, m, h, same)
+
 pub one_form_answer : DeterministicLaw → OneFormAnswer
-one_form_answer law order line limit a b p q = one-of law order line limit a b (either order line limit a p) (either order line limit b q)
+one_form_answer law order line limit a b p q =
+    one-of law (tree_form_text order) line limit a b (form-or-refusal order line limit a p) (form-or-refusal order line limit b q)
+
+notation-or-refusal : (layout : Layout) (line : List ℕ) (limit : ℕ) (answer : List ℕ) → IsNotationAnswer layout line limit answer →
+    IsTextOrRefusal (notation_text layout) line limit answer
+notation-or-refusal layout line limit answer (shown h) = inl h
+notation-or-refusal layout line limit answer (unshown e m h same) = inr (e, m, h, same)
+
+pub one_notation_answer : DeterministicLaw → OneNotationAnswer
+one_notation_answer law layout line limit a b p q =
+    one-of law (notation_text layout) line limit a b (notation-or-refusal layout line limit a p) (notation-or-refusal layout line limit b q)
 
 -- ---- each line means a tree or is refused
 
@@ -128,4 +143,11 @@ is_form_answered law order line limit =
     elim (meant-or-refused law line limit) [
       | inl g ↦ formed-or-not order line limit g.0 g.1
       | inr r ↦ (refused_text r.0, no_item r.0 r.1 r.2 refl)
+    ]
+
+pub is_notation_answered : DeterministicLaw → IsNotationAnswered
+is_notation_answered law layout line limit =
+    elim (meant-or-refused law line limit) [
+      | inl g ↦ (notation_text layout g.0, shown (g.0, g.1, refl))
+      | inr r ↦ (refused_text r.0, unshown r.0 r.1 r.2 refl)
     ]

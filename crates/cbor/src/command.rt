@@ -1,0 +1,27 @@
+//! What the program is asked to do.
+
+use crate::reading::{Reading, Showing};
+use ciborium_value::KeyOrder;
+
+/// What the program is asked to do.
+#[derive(Clone, Copy, Debug)]
+pub enum Command {
+    /// To answer each line of the input, which is read so.
+    Answer(Reading),
+    /// To sort the lines of the input in this order.
+    Sort(KeyOrder),
+    /// To show each item of the input, which is a sequence as bytes (RFC 8742), in this way and
+    /// within this many levels.
+    Show(Showing, usize),
+    /// To tell of the program itself.
+    Tell(Topic),
+}
+
+/// What the program tells of itself.
+#[derive(Clone, Copy, Debug)]
+pub enum Topic {
+    /// The commands, with an example each.
+    Help,
+    /// The version.
+    Version,
+}

@@ -1,0 +1,36 @@
+//! What the program tells of itself.
+
+ghost use Rattle.std.specs.Prelude.{◌≡◌};
+ghost use Rattle.cbor.specs.Topics.{topic_text};
+
+use crate::command::Topic;
+
+/// The commands, with an example each.
+pub const HELP: &str = "\
+cbor: CBOR (RFC 8949) from the standard input, as lines of hex or, with --binary, as bytes
+
+  cbor read [--det [--core]] [limit]    each item's shortest encoding: 1800 gives ok 00
+  cbor canon [--core] [limit]           its deterministic one: bf02000100ff gives ok a201000200
+  cbor diag [--indent] [limit]          its diagnostic notation: a1616101 gives {\"a\": 1}
+  cbor seq                              each line's items: 0102 gives ok 01 02
+  cbor sort [--core]                    all lines' items in order: 6161 and 00 give 00 and 6161
+  cbor diag --binary [--indent] [limit] each item of a file: cbor diag --binary < file.cbor
+  cbor read --binary [limit]            the same in hex: cbor read --binary < file.cbor
+  cbor --help, cbor --version           this page, and the version
+
+--det takes deterministic encodings alone, whose keys are length-first or, with --core, bytewise.
+At most 256 levels are nested, or as many as the limit says. Status 1: something was refused.
+";
+
+/// The version.
+pub const VERSION: &str = "cbor 0.3.0\n";
+
+/// What is told of a topic.
+pub fn topic_text(topic: Topic) -> &'static str
+    ensures { result.now ≡ topic_text topic }
+{
+    match topic {
+        Topic::Help => HELP,
+        Topic::Version => VERSION,
+    }
+}

@@ -1,0 +1,145 @@
+//! Which words are right, and what they ask for.
+
+ghost use Rattle.std.specs.Prelude.{◌≡◌, ◌≢◌, ℕ, IsSome, MatchOption, codes, map, string_bytes};
+ghost use Rattle.std.specs.Bool.{MatchBool};
+ghost use Rattle.std.specs.Option.{SomeIff};
+ghost use Rattle.std.specs.Str.Parse.{digits_value};
+ghost use Rattle.cbor.specs.Words.{AreWrong, AskFor, IsLimit, NameLimit, NameLimitBehind};
+ghost use Rattle.cbor.specs.Words.{command_limit};
+ghost use Rattle.cbor.specs.declared.command.Command.{Command};
+
+use crate::command::{Command, Topic};
+use crate::reading::{Layout, Reading, Showing, Spelling};
+use ciborium::de::RECURSION_LIMIT;
+use ciborium_value::KeyOrder::{Bytewise, LengthFirst};
+
+/// What the words ask for, or none where they are wrong.
+pub fn judge_words(words: &[String]) -> Option<Command>
+    ensures { MatchOption result (AreWrong (map string_bytes words.now))
+        (λ command. AskFor (map string_bytes words.now) command) }
+{
+    if let Some(command) = judge_alone(words) {
+        return Some(command);
+    }
+    judge_with_limit(words)
+}
+
+// What the words ask for that takes no limit.
+fn judge_alone(words: &[String]) -> Option<Command>
+    ensures { MatchOption result
+        ((command : Command) → command_limit command ≡ None → ¬ AskFor (map string_bytes words.now) command)
+        (λ command. AskFor (map string_bytes words.now) command) }
+{
+    if are_words(words, &["sort"]) {
+        return Some(Command::Sort(LengthFirst));
+    }
+    if are_words(words, &["sort", "--core"]) {
+        return Some(Command::Sort(Bytewise));
+    }
+    if are_words(words, &["seq"]) {
+        return Some(Command::Answer(Reading::Sequence));
+    }
+    if are_words(words, &["--help"]) {
+        return Some(Command::Tell(Topic::Help));
+    }
+    if are_words(words, &["--version"]) {
+        return Some(Command::Tell(Topic::Version));
+    }
+    None
+}
+
+// What the words ask for that takes a limit.
+fn judge_with_limit(words: &[String]) -> Option<Command>
+    ensures { MatchOption result
+        ((command : Command) → IsSome (command_limit command) → ¬ AskFor (map string_bytes words.now) command)
+        (λ command. AskFor (map string_bytes words.now) command) }
+{
+    if let Some(limit) = limit_behind(words, &["read"]) {
+        return Some(Command::Answer(Reading::Item(Spelling::Any, limit)));
+    }
+    if let Some(limit) = limit_behind(words, &["read", "--det"]) {
+        let spelling = Spelling::Deterministic(LengthFirst);
+        return Some(Command::Answer(Reading::Item(spelling, limit)));
+    }
+    if let Some(limit) = limit_behind(words, &["read", "--det", "--core"]) {
+        let spelling = Spelling::Deterministic(Bytewise);
+        return Some(Command::Answer(Reading::Item(spelling, limit)));
+    }
+    if let Some(limit) = limit_behind(words, &["read", "--binary"]) {
+        return Some(Command::Show(Showing::Encoding, limit));
+    }
+    if let Some(limit) = limit_behind(words, &["canon"]) {
+        return Some(Command::Answer(Reading::Form(LengthFirst, limit)));
+    }
+    if let Some(limit) = limit_behind(words, &["canon", "--core"]) {
+        return Some(Command::Answer(Reading::Form(Bytewise, limit)));
+    }
+    if let Some(limit) = limit_behind(words, &["diag"]) {
+        return Some(Command::Answer(Reading::Notation(Layout::OneLine, limit)));
+    }
+    if let Some(limit) = limit_behind(words, &["diag", "--indent"]) {
+        return Some(Command::Answer(Reading::Notation(Layout::Indented, limit)));
+    }
+    if let Some(limit) = limit_behind(words, &["diag", "--binary"]) {
+        return Some(Command::Show(Showing::Notation(Layout::OneLine), limit));
+    }
+    if let Some(limit) = limit_behind(words, &["diag", "--binary", "--indent"]) {
+        return Some(Command::Show(Showing::Notation(Layout::Indented), limit));
+    }
+    None
+}
+
+// Whether the words are these.
+fn are_words(words: &[String], names: &[&str]) -> bool
+    ensures { MatchBool result (map string_bytes words.now ≡ map (λ n. n.now) names.now)
+        (map string_bytes words.now ≢ map (λ n. n.now) names.now) }
+{
+    let [name, names @ ..] = names else {
+        return words.is_empty();
+    };
+    let [word, words @ ..] = words else {
+        return false;
+    };
+    word.as_str() == *name && are_words(words, names)
+}
+
+// The limit that the words behind these flags name, and that of the library where no word is left;
+// none where the words do not begin with the flags, or name no limit behind them.
+fn limit_behind(words: &[String], flags: &[&str]) -> Option<usize>
+    ensures { MatchOption result
+        ((n : ℕ) → ¬ NameLimitBehind (map (λ f. f.now) flags.now) (map string_bytes words.now) n)
+        (λ limit. NameLimitBehind (map (λ f. f.now) flags.now) (map string_bytes words.now) limit) }
+{
+    let [flag, flags @ ..] = flags else {
+        return judge_limit(words);
+    };
+    let [word, words @ ..] = words else {
+        return None;
+    };
+    if word.as_str() != *flag {
+        return None;
+    }
+    limit_behind(words, flags)
+}
+
+// The limit that a word names, and that of the library where no word is left.
+fn judge_limit(words: &[String]) -> Option<usize>
+    ensures { MatchOption result ((n : ℕ) → ¬ NameLimit (map string_bytes words.now) n)
+        (λ limit. NameLimit (map string_bytes words.now) limit) }
+{
+    match words {
+        [] => Some(RECURSION_LIMIT),
+        [limit] => parse_limit(limit.as_str()),
+        _ => None,
+    }
+}
+
+// The number of one digit or more, if it is a `usize`. No sign stands before it.
+fn parse_limit(text: &str) -> Option<usize>
+    ensures { SomeIff result (IsLimit text.now) (digits_value 10 text.now) }
+{
+    if text.starts_with('+') {
+        return None;
+    }
+    text.parse().ok()
+}
