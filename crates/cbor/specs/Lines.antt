@@ -4,12 +4,13 @@ use Rattle.std.specs.List.{flat_map, list_any}
 use Rattle.std.specs.Io.BufRead.{first_piece, drop_through, strip_last}
 use Rattle.ciborium_value.specs.Tree.{Tree}
 use Rattle.cbor.specs.declared.reading.Reading.{Reading}
-use Rattle.cbor.specs.declared.reading.Reading.TheVariants.{Item, Sequence, Form}
+use Rattle.cbor.specs.declared.reading.Reading.TheVariants.{Item, Sequence, Form, Notation}
 use Rattle.cbor.specs.declared.reading.Spelling.{Spelling}
 use Rattle.cbor.specs.Answer.{IsMeant}
 use Rattle.cbor.specs.Forms.{IsFormAnswer, IsFormText}
 use Rattle.cbor.specs.Line.{IsLineAnswer, tree_text}
 use Rattle.cbor.specs.Sequence.{IsSequenceAnswer, IsSequenceOf, sequence_text}
+use Rattle.cbor.specs.Shown.{IsNotationAnswer, IsNotationText}
 
 -- the first line of b: what stands before the first line feed, or all of b, without one carriage return at its end
 abbrev pub first_line : List ℕ → List ℕ
@@ -30,12 +31,14 @@ abbrev pub IsAnswer : Reading → List ℕ → List ℕ → Type 0
 IsAnswer (Item spelling limit) line text = IsLineAnswer spelling line limit text
 IsAnswer Sequence line text = IsSequenceAnswer line 256 text
 IsAnswer (Form order limit) line text = IsFormAnswer order line limit text
+IsAnswer (Notation layout limit) line text = IsNotationAnswer layout line limit text
 
 -- a line is an item, a sequence, or an item that has a form, as it is read, and the text is the answer that says so
 abbrev pub IsOkText : Reading → List ℕ → List ℕ → Type 0
 IsOkText (Item spelling limit) line text = (v : Tree) × IsMeant spelling line limit v × (text ≡ tree_text v)
 IsOkText Sequence line text = (trees : List Tree) × IsSequenceOf line 256 trees × (text ≡ sequence_text trees)
 IsOkText (Form order limit) line text = IsFormText order line limit text
+IsOkText (Notation layout limit) line text = IsNotationText layout line limit text
 
 -- a text, and a line feed
 abbrev pub text_line : List ℕ → List ℕ

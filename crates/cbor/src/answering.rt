@@ -210,6 +210,7 @@ fn answer_reading(
         }
         Reading::Sequence => answer_seq(alloc, line, rooms),
         Reading::Form(order, limit) => answer_canon(alloc, line, order, limit, rooms),
+        Reading::Notation(..) => Err(AllocError),
     }
 }
 
