@@ -15,11 +15,13 @@ mod items;
 mod line_laws;
 mod lines;
 mod reading;
+mod retrying;
 mod rooms;
 mod run;
 mod sequences;
 mod showing;
 mod sorting;
+mod streams;
 #[cfg(test)]
 mod test_devices;
 
