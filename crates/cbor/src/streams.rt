@@ -169,3 +169,6 @@ fn write_line<W: Write>(text: &mut Vec<u8>, output: &mut W) -> Result<(), Fault>
     }
     Ok(())
 }
+
+#[cfg(test)]
+mod tests;
