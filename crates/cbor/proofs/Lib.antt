@@ -13,4 +13,5 @@ pub mod OneSequenceAnswer
 pub mod ReadBytes
 pub mod SortedValues
 pub mod SpelledItems
+pub mod StreamedItems
 pub mod WrittenLines

@@ -3,7 +3,9 @@ use Rattle.std.proofs.Common.{◌≡◌, ℕ, List, [], length, ◌==◌, true, 
 use Rattle.std.proofs.lemmas.List.{nil_from_length}
 use Rattle.std.proofs.lemmas.Bool.Decides.{nat_tests}
 use Rattle.ciborium_ll.specs.Refusal.{Refusal, Kind, semantic}
-use Rattle.ciborium.specs.Errors.{IsNamed}
+use Rattle.ciborium.specs.declared.de.error.Error.{Error}
+use Rattle.ciborium.specs.declared.de.error.Error.TheVariants as errors
+use Rattle.ciborium.specs.Errors.{IsNamed, IsRefusedBy, kind_of}
 
 -- a list that is found to be empty
 pub nothing-left : (xs : List ℕ) → (length xs == 0) ≡ true → xs ≡ []
@@ -28,3 +30,17 @@ named-refusal (Some p) n (Some k) q P e f h =
     subst (λ (o : ℕ). P (semantic o q)) offset (subst (λ (r : Kind). P (semantic p r)) kind h)
 named-refusal (Some p) n None q P e f h = absurd h
 named-refusal None n k q P e f h = absurd h
+
+-- an error that stands for a refusal names it, whatever is said of it
+pub named-anyway : {E : Type 0} (left : Option (List ℕ)) (e : Error E) (P : Refusal → Type 0) → IsRefusedBy left e P → IsRefusedBy None e (λ _. Unit {0})
+named-anyway left (errors.Io x) P h = λ _. tt
+named-anyway left (errors.Syntax p) P h = tt
+named-anyway left (errors.Semantic p k) P h = some-name p (kind_of k) P h
+  where
+    some-name : (p : Option ℕ) (k : Option Kind) (P : Refusal → Type 0) → IsNamed p k P → IsNamed p k (λ _. Unit {0})
+    some-name (Some p) (Some k) P h = tt
+    some-name (Some p) None P h = h
+    some-name None k P h = h
+named-anyway left errors.RecursionLimitExceeded P h = tt
+named-anyway left errors.Memory P h = tt
+named-anyway left errors.TooLong P h = tt
