@@ -1,16 +1,15 @@
 //! From a line of hex to the value of its item, and from a value to the hex of its encoding.
 
-ghost use Rattle.std.specs.Prelude.{◌≡◌, ◌++◌, ℕ, IfErr, IfNone, IfOk, IfSome, IsSome, IsTrue, List};
-ghost use Rattle.std.specs.Prelude.{None, OnOk, Option, Some, [], false};
+ghost use Rattle.std.specs.Prelude.{◌≡◌, ◌++◌, IfErr, IfNone, IfOk, IfSome, IsSome, None, OnOk};
+ghost use Rattle.std.specs.Prelude.{Some, false};
 ghost use Rattle.hex.specs.Hex.{encode_lower};
 ghost use Rattle.ciborium_value.specs.Encoding.{encoding};
 ghost use Rattle.ciborium_value.specs.View.{tree_of};
 ghost use Rattle.ciborium.specs.Errors.{IsRefusedBy, kind_of};
 ghost use Rattle.ciborium.specs.NextItems.{IsIo};
-ghost use Rattle.cbor.specs.Answer.{AreRefused, IsFrontRefused, IsMeant, IsRefused};
+ghost use Rattle.cbor.specs.Answer.{AreRefused, IsFrontRefused, IsMeant, IsRefused, StandsFor};
 ghost use Rattle.cbor.specs.Answer.{kind_of_reason};
 ghost use Rattle.cbor.specs.Spellings.{HasItemBefore, IsItem, RefusesItem};
-ghost use Rattle.cbor.specs.declared.reading.Spelling.{Spelling};
 
 use crate::answer::{Reason, Refusal};
 use crate::digits::{decode_line, push_digits};
@@ -87,11 +86,7 @@ pub fn read_front(
 /// not. There is none for `Io` before the end, since the device failed.
 pub fn name_refusal(error: Error<io::Error>, is_at_end: bool) -> Option<Refusal>
     requires { IsRefusedBy None error (λ _. Unit {0}) }
-    ensures refused { IfSome result (λ refusal.
-        (spelling : Spelling) (b : List ℕ) (limit : ℕ) (left : Option (List ℕ)) →
-        (IsTrue is_at_end → left ≡ Some []) →
-        IsRefusedBy left error (RefusesItem spelling b limit) →
-        IsFrontRefused spelling b limit refusal) }
+    ensures refused { IfSome result (λ refusal. StandsFor error is_at_end refusal) }
     ensures failed { IfNone result (IsIo error × (is_at_end ≡ false)) }
 {
     match error {
