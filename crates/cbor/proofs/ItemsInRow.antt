@@ -18,16 +18,16 @@ pub no-items : (b text : List ℕ) → text ≡ codes "ok" → IsSoFar b b text 
 no-items b text e = ([], refl, e ∙ sym (append-nil (codes "ok")), omega arith)
 
 -- one more item stands at the front of what was left
-one-more-before : (trees : List Tree) (b rest left : List ℕ) (v : Tree) → AreItemsBefore b 256 trees rest → HasItemBefore Any rest 256 v left →
-    AreItemsBefore b 256 (trees ++ (v ∷ [])) left
-one-more-before [] b rest left v e item = (left, subst (λ (xs : List ℕ). HasItemBefore Any xs 256 v left) (sym e) item, refl)
-one-more-before (t ∷ ts) b rest left v (next, first, others) item = (next, first, one-more-before ts next rest left v others item)
+pub one-more-before : (limit : ℕ) (trees : List Tree) (b rest left : List ℕ) (v : Tree) → AreItemsBefore b limit trees rest → HasItemBefore Any rest limit v left →
+    AreItemsBefore b limit (trees ++ (v ∷ [])) left
+one-more-before limit [] b rest left v e item = (left, subst (λ (xs : List ℕ). HasItemBefore Any xs limit v left) (sym e) item, refl)
+one-more-before limit (t ∷ ts) b rest left v (next, first, others) item = (next, first, one-more-before limit ts next rest left v others item)
 
 pub one-more-item : (b rest left text longer : List ℕ) (number : ℕ) (v : Tree) → IsSoFar b rest text number → HasItemBefore Any rest 256 v left →
     longer ≡ text ++ item_text v → IsSoFar b left longer (number + 1)
 one-more-item b rest left text longer number v (trees, a, same, count) item e = (
   trees ++ (v ∷ []),
-  one-more-before trees b rest left v a item,
+  one-more-before 256 trees b rest left v a item,
   e ∙ (ap (λ (t : List ℕ). t ++ item_text v) same ∙ flat_map_more item_text (codes "ok") trees v),
   (let more : length (trees ++ (v ∷ [])) ≡ length trees + 1 = length-append trees (v ∷ []) in omega (arith, more, count)),
 )

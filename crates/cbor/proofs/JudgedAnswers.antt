@@ -1,7 +1,8 @@
 -- What the text of a line says of it.
-use Rattle.std.proofs.Common.{◌≡◌, ℕ, ◌+◌, ◌<◌, List, [], length, true, false, Result, Ok, Err, IsErr, MatchResult, sym, ap, ◌∙◌, subst}
+use Rattle.std.proofs.Common.{◌≡◌, ℕ, ◌+◌, ◌<◌, List, [], length, true, false, Result, Ok, Err, IsErr, MatchResult, refl, sym, ap, ◌∙◌, subst}
 use Rattle.hex.specs.Hex.{decode_of}
 use Rattle.hex.specs.declared.error.FromHexError.{FromHexError}
+use Rattle.ciborium_ll.specs.Refusal as faults
 use Rattle.ciborium_ll.specs.Refusal.{io, syntax, too_long, semantic, recursion_limit_exceeded}
 use Rattle.ciborium_value.specs.Tree.{Tree}
 use Rattle.cbor.specs.declared.answer.Refusal.{Refusal}
@@ -10,9 +11,10 @@ use Rattle.cbor.specs.declared.reading.Reading.TheVariants.{Item, Sequence}
 use Rattle.cbor.specs.declared.reading.Spelling.{Spelling}
 use Rattle.cbor.specs.declared.reading.Spelling.TheVariants.{Any}
 use Rattle.cbor.specs.Answer.{IsFrontRefused, IsHexRefused, IsRefused, kind_of_reason, refused_text, wants_memory}
-use Rattle.cbor.specs.Line.{IsLineAnswer, hex_text}
+use Rattle.cbor.specs.Line.{IsLineAnswer, hex_text, refusal_text}
 use Rattle.cbor.specs.Lines.{IsOkText}
 use Rattle.cbor.specs.Sequence.{AreItemsBefore, AreSequence, HasSequenceAnswer, IsSequenceAnswer, refused, refused_item_text}
+use Rattle.cbor.specs.Spellings.{RefusesItem}
 use Rattle.cbor.proofs.JudgedLines.{item-answer, refusal_is_answered}
 
 pub not-memory : (e : Refusal) → wants_memory e ≡ false → e ≡ Memory → ⊥
@@ -32,19 +34,25 @@ refusal-answers spelling line limit e text h (m, same) =
 
 -- ---- sequences
 
+-- what the front of some bytes is refused for
+pub front-refusal : (rest : List ℕ) (limit : ℕ) (e : Refusal) → wants_memory e ≡ false → IsFrontRefused Any rest limit e →
+    (f : faults.Refusal) × RefusesItem Any rest limit f × (refused_text e ≡ refusal_text f)
+front-refusal rest limit Hex m h = absurd h
+front-refusal rest limit (Trailing k) m h = absurd h
+front-refusal rest limit Io m h = (io, h, refl)
+front-refusal rest limit (Syntax p) m h = (syntax p, h, refl)
+front-refusal rest limit (Semantic p reason) m h = (semantic p (kind_of_reason reason), h, refl)
+front-refusal rest limit Nesting m h = (recursion_limit_exceeded, h, refl)
+front-refusal rest limit TooLong m h = (too_long, h, refl)
+front-refusal rest limit Memory m h = absurd cc
+
 -- the item behind some good ones is refused
 pub of-item : (b : List ℕ) (limit : ℕ) (trees : List Tree) (rest : List ℕ) (n : ℕ) (e : Refusal) → AreItemsBefore b limit trees rest → 0 < length rest →
     n ≡ length trees + 1 → wants_memory e ≡ false → IsFrontRefused Any rest limit e → HasSequenceAnswer b limit (refused_item_text n (refused_text e))
-of-item b limit trees rest n Hex a more same m h = absurd h
-of-item b limit trees rest n (Trailing k) a more same m h = absurd h
-of-item b limit trees rest n Io a more same m h = refused trees rest io a more h (ap (λ (k : ℕ). refused_item_text k (refused_text Io)) same)
-of-item b limit trees rest n (Syntax p) a more same m h = refused trees rest (syntax p) a more h (ap (λ (k : ℕ). refused_item_text k (refused_text (Syntax p))) same)
-of-item b limit trees rest n (Semantic p reason) a more same m h =
-    refused trees rest (semantic p (kind_of_reason reason)) a more h (ap (λ (k : ℕ). refused_item_text k (refused_text (Semantic p reason))) same)
-of-item b limit trees rest n Nesting a more same m h =
-    refused trees rest recursion_limit_exceeded a more h (ap (λ (k : ℕ). refused_item_text k (refused_text Nesting)) same)
-of-item b limit trees rest n TooLong a more same m h = refused trees rest too_long a more h (ap (λ (k : ℕ). refused_item_text k (refused_text TooLong)) same)
-of-item b limit trees rest n Memory a more same m h = absurd cc
+of-item b limit trees rest n e a more same m h =
+    let f = front-refusal rest limit e m h in
+    refused trees rest f.0 a more f.1
+    (ap (λ (k : ℕ). refused_item_text k (refused_text e)) same ∙ ap (λ (t : List ℕ). refused_item_text (length trees + 1) t) f.2)
 
 -- the text of the item that is refused answers the bytes
 pub item-refused : (b : List ℕ) (trees : List Tree) (rest : List ℕ) (n : ℕ) (e : Refusal) (text : List ℕ) → AreItemsBefore b 256 trees rest → 0 < length rest →

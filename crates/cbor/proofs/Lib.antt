@@ -14,4 +14,5 @@ pub mod ReadBytes
 pub mod ShownItems
 pub mod SortedValues
 pub mod SpelledItems
+pub mod StreamedItems
 pub mod WrittenLines

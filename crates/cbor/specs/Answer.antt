@@ -1,8 +1,10 @@
 -- What a line means, or why it is refused, as the program answers it, and the text of a refusal.
-use Rattle.std.specs.Prelude.{◌≡◌, ℕ, ◌<◌, Bool, true, false, List, length, Ok, IsErr, MatchResult, codes}
+use Rattle.std.specs.Prelude.{◌≡◌, ℕ, ◌<◌, Bool, true, false, IsTrue, List, [], length, Option, Some, Ok, IsErr, MatchResult, codes}
 use Rattle.hex.specs.Hex.{decode_of}
 use Rattle.ciborium_ll.specs.Refusal as refusal
 use Rattle.ciborium_value.specs.Tree.{Tree}
+use Rattle.ciborium.specs.declared.de.error.Error.{Error}
+use Rattle.ciborium.specs.Errors.{IsRefusedBy}
 use Rattle.cbor.specs.declared.answer.Reason.{Reason}
 use Rattle.cbor.specs.declared.answer.Reason.TheVariants as reasons
 use Rattle.cbor.specs.declared.answer.Refusal.{Refusal}
@@ -40,6 +42,12 @@ IsFrontRefused spelling b limit (Semantic p reason) = RefusesItem spelling b lim
 IsFrontRefused spelling b limit Nesting = RefusesItem spelling b limit refusal.recursion_limit_exceeded
 IsFrontRefused spelling b limit TooLong = RefusesItem spelling b limit refusal.too_long
 IsFrontRefused spelling b limit Memory = Unit {0}
+
+-- the refusal says of any bytes what an error of reading a value says of them, where the reader is then at its end or not
+abbrev pub StandsFor : {E : Type 0} → Error E → Bool → Refusal → Type 0
+StandsFor error is_at_end e =
+    (spelling : Spelling) (b : List ℕ) (limit : ℕ) (left : Option (List ℕ)) → (IsTrue is_at_end → left ≡ Some []) →
+    IsRefusedBy left error (RefusesItem spelling b limit) → IsFrontRefused spelling b limit e
 
 -- b is no item: more bytes follow one, or it begins with none
 abbrev pub AreRefused : Spelling → List ℕ → ℕ → Refusal → Type 0

@@ -1,15 +1,19 @@
 -- What is written for an input that is a sequence of items as bytes (RFC 8742), not in hex.
-use Rattle.std.specs.Prelude.{◌≡◌, ℕ, ◌+◌, ◌<◌, Bool, true, false, List, [], ◌++◌, length, Option, Some}
+use Rattle.std.specs.Prelude.{◌≡◌, ℕ, ◌+◌, ◌<◌, Bool, true, false, List, [], ◌++◌, length, Option, Some, Result, MatchResult}
 use Rattle.std.specs.List.{flat_map}
 use Rattle.ciborium_ll.specs.Refusal.{Refusal}
 use Rattle.ciborium_value.specs.Tree.{Tree}
+use Rattle.ciborium_value.specs.View.{tree_of}
+use Rattle.ciborium_value.specs.declared.tree.Value.{Value}
+use Rattle.cbor.specs.declared.answer.Refusal.{Refusal as Reason}
 use Rattle.cbor.specs.declared.reading.Showing.{Showing}
 use Rattle.cbor.specs.declared.reading.Spelling.TheVariants.{Any}
+use Rattle.cbor.specs.Answer.{IsFrontRefused}
 use Rattle.cbor.specs.Line.{refusal_text}
 use Rattle.cbor.specs.Lines.{text_line}
 use Rattle.cbor.specs.Sequence.{AreItemsBefore, refused_item_text}
 use Rattle.cbor.specs.Shown.{shown_text}
-use Rattle.cbor.specs.Spellings.{RefusesItem}
+use Rattle.cbor.specs.Spellings.{HasItemBefore, RefusesItem}
 
 -- a tree as it is shown, and a line feed
 abbrev pub shown_line : Showing → Tree → List ℕ
@@ -28,3 +32,9 @@ pub data IsStreamShown (showing : Showing) (b : List ℕ) (limit : ℕ) (w : Lis
       RefusesItem Any rest limit e →
       after ≡ Some ((w ++ flat_map (shown_line showing) trees) ++ text_line (refused_item_text (length trees + 1) (refusal_text e))) →
       IsStreamShown showing b limit w false after
+
+-- of the bytes b the item at the front was read, within so many levels, and is the value, or is refused for this reason
+abbrev pub IsReadNext : List ℕ → ℕ → Option (List ℕ) → Result Value Reason → Type 0
+IsReadNext b limit after next = MatchResult next
+    (λ value. (left : List ℕ) × HasItemBefore Any b limit (tree_of value) left × (after ≡ Some left))
+    (λ reason. IsFrontRefused Any b limit reason)

@@ -1,11 +1,13 @@
 //! From a line of hex to the value of its item, and from a value to the hex of its encoding.
 
-ghost use Rattle.std.specs.Prelude.{◌≡◌, ◌++◌, IfErr, IfOk, IsSome, OnOk, Some};
+ghost use Rattle.std.specs.Prelude.{◌≡◌, ◌++◌, IfErr, IfNone, IfOk, IfSome, IsSome, None, OnOk};
+ghost use Rattle.std.specs.Prelude.{Some, false};
 ghost use Rattle.hex.specs.Hex.{encode_lower};
 ghost use Rattle.ciborium_value.specs.Encoding.{encoding};
 ghost use Rattle.ciborium_value.specs.View.{tree_of};
 ghost use Rattle.ciborium.specs.Errors.{IsRefusedBy, kind_of};
-ghost use Rattle.cbor.specs.Answer.{AreRefused, IsFrontRefused, IsMeant, IsRefused};
+ghost use Rattle.ciborium.specs.NextItems.{IsIo};
+ghost use Rattle.cbor.specs.Answer.{AreRefused, IsFrontRefused, IsMeant, IsRefused, StandsFor};
 ghost use Rattle.cbor.specs.Answer.{kind_of_reason};
 ghost use Rattle.cbor.specs.Spellings.{HasItemBefore, IsItem, RefusesItem};
 
@@ -75,16 +77,29 @@ pub fn read_front(
 {
     match read_value(alloc, rest, spelling, limit) {
         Ok(value) => Ok(value),
-        Err(Error::Io(_)) if rest.is_empty() => Err(Refusal::Io),
         // A slice never fails before its end.
-        Err(Error::Io(_) | Error::Memory) => Err(Refusal::Memory),
-        Err(Error::Syntax(offset)) => Err(Refusal::Syntax(offset)),
-        Err(Error::Semantic(Some(offset), kind)) => {
-            Err(Refusal::Semantic(offset, classify_kind(kind)))
+        Err(error) => Err(name_refusal(error, rest.is_empty()).unwrap_or(Refusal::Memory)),
+    }
+}
+
+/// The refusal that an error of reading a value stands for, where the reader is now at its end or
+/// not. There is none for `Io` before the end, since the device failed.
+pub fn name_refusal(error: Error<io::Error>, is_at_end: bool) -> Option<Refusal>
+    requires { IsRefusedBy None error (λ _. Unit {0}) }
+    ensures refused { IfSome result (λ refusal. StandsFor error is_at_end refusal) }
+    ensures failed { IfNone result (IsIo error × (is_at_end ≡ false)) }
+{
+    match error {
+        Error::Io(_) if is_at_end => Some(Refusal::Io),
+        Error::Io(_) => None,
+        Error::Memory => Some(Refusal::Memory),
+        Error::Syntax(offset) => Some(Refusal::Syntax(offset)),
+        Error::Semantic(Some(offset), kind) => {
+            Some(Refusal::Semantic(offset, classify_kind(kind)))
         }
-        Err(Error::Semantic(None, _)) => unreachable!(),
-        Err(Error::RecursionLimitExceeded) => Err(Refusal::Nesting),
-        Err(Error::TooLong) => Err(Refusal::TooLong),
+        Error::Semantic(None, _) => unreachable!(),
+        Error::RecursionLimitExceeded => Some(Refusal::Nesting),
+        Error::TooLong => Some(Refusal::TooLong),
     }
 }
 

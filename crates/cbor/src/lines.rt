@@ -105,8 +105,12 @@ pub fn send_waiting<W: Write>(waiting: &mut Vec<u8>, output: &mut W) -> Result<(
     written
 }
 
-// Writes bytes whole; the device is not called for none.
-fn write_bytes<W: Write>(bytes: &[u8], output: &mut W) -> Result<(), Fault>
+/// Writes bytes whole; the device is not called for none.
+///
+/// # Errors
+///
+/// `Output` where the output fails.
+pub fn write_bytes<W: Write>(bytes: &[u8], output: &mut W) -> Result<(), Fault>
     ensures { (w : List ℕ) → W.contents output.old ≡ Some w →
         OnOk result (W.contents output.new ≡ Some (w ++ bytes.now)) }
 {

@@ -11,6 +11,7 @@ mod items;
 mod line_laws;
 mod lines;
 mod reading;
+mod retrying;
 mod rooms;
 mod run;
 mod sequences;

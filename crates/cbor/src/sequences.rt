@@ -57,8 +57,16 @@ fn push_item(value: &Value, room: &mut Vec<u8>, text: &mut Vec<u8>) -> Result<()
     push_encoding(value, room, text)
 }
 
-// Makes `text` the answer to a sequence whose item of this number, counted from 1, is refused.
-fn write_refused_item(number: u64, refusal: Refusal, text: &mut Vec<u8>) -> Result<(), AllocError>
+/// Makes `text` the answer to a sequence whose item of this number, counted from 1, is refused.
+///
+/// # Errors
+///
+/// `AllocError` where memory is refused, also for the item.
+pub fn write_refused_item(
+    number: u64,
+    refusal: Refusal,
+    text: &mut Vec<u8>,
+) -> Result<(), AllocError>
     ensures { OnOk result ((wants_memory refusal ≡ false)
         × (text.new.items ≡ refused_item_text number (refused_text refusal))) }
 {

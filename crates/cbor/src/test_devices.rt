@@ -50,6 +50,37 @@ impl<'a> Read for Source<'a> {
     }
 }
 
+/// Gives bytes, fails once, and then gives others.
+#[derive(Drop)]
+pub struct Mended<'a> {
+    before: &'a [u8],
+    fault: Option<ErrorKind>,
+    after: &'a [u8],
+}
+
+impl<'a> Mended<'a> {
+    /// A device of these bytes, which fails so between them.
+    pub fn new(before: &'a [u8], kind: ErrorKind, after: &'a [u8]) -> Mended<'a> {
+        Mended {
+            before,
+            fault: Some(kind),
+            after,
+        }
+    }
+}
+
+impl<'a> Read for Mended<'a> {
+    fn read(&mut self, buffer: &mut [u8]) -> io::Result<usize> {
+        if !self.before.is_empty() {
+            return self.before.read(buffer);
+        }
+        match self.fault.take() {
+            Some(kind) => Err(io::Error::from(kind)),
+            None => self.after.read(buffer),
+        }
+    }
+}
+
 /// Holds so many bytes, and fails where there is room for no more, or where it is flushed.
 #[derive(Drop)]
 pub struct Device {
@@ -66,6 +97,11 @@ impl Device {
             room,
             flush_fails,
         }
+    }
+
+    /// The bytes that were written.
+    pub fn held(&self) -> &[u8] {
+        &self.held
     }
 }
 
@@ -104,6 +140,11 @@ impl<'a> Asker<'a> {
             given: 0,
             answered,
         }
+    }
+
+    /// How many lines it gave.
+    pub fn given(&self) -> usize {
+        self.given
     }
 }
 
@@ -146,6 +187,36 @@ impl<'a> Write for Listener<'a> {
     }
 
     fn flush(&mut self) -> io::Result<()> {
+        Ok(())
+    }
+}
+
+/// Counts the lines that are written, once they are flushed.
+#[derive(Drop)]
+pub struct Viewer<'a> {
+    written: usize,
+    seen: &'a Cell<usize>,
+}
+
+impl<'a> Viewer<'a> {
+    /// A viewer that counts so.
+    pub fn new(seen: &'a Cell<usize>) -> Viewer<'a> {
+        Viewer { written: 0, seen }
+    }
+}
+
+impl<'a> Write for Viewer<'a> {
+    fn write(&mut self, buffer: &[u8]) -> io::Result<usize> {
+        for &byte in buffer {
+            if byte == b'\n' {
+                self.written = self.written.saturating_add(1);
+            }
+        }
+        Ok(buffer.len())
+    }
+
+    fn flush(&mut self) -> io::Result<()> {
+        self.seen.set(self.written);
         Ok(())
     }
 }

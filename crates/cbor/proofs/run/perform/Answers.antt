@@ -34,7 +34,7 @@ returns-in-Show-clause-shown g c showing limit b w same e f =
     let within : c.in-Show.limit ≡ limit = cc in
     flushed-each (λ all. IsStreamShown showing b limit w all _) (λ all. IsStreamShown showing b limit w all _) c.show_items-shown.result finish.result finish.ensures.same
     (λ all. shown-still showing b limit w all _ _ finish.ensures.kept)
-    (rw (so, within) at c.show_items-shown.ensures.shown b w e f)
+    (rw (so, within) at c.show_items-shown.ensures b w e f)
 
 pub returns-in-Tell-clause-told : goal.returns-in-Tell-clause-told
 returns-in-Tell-clause-told g c topic w same e =

@@ -1,0 +1,174 @@
+//! Streams of items: sequences as bytes, not in hex (RFC 8742).
+
+ghost use Rattle.std.specs.Prelude.{◌≡◌, ◌<◌, ◌++◌, ℕ, IfOk, IsTrue, List, OnOk, Some, [], false};
+ghost use Rattle.std.specs.Prelude.{length};
+ghost use Rattle.std.specs.Bool.{MatchBool};
+ghost use Rattle.std.specs.Io.Buffered.{reader_remaining};
+ghost use Rattle.ciborium_value.specs.View.{tree_of};
+ghost use Rattle.cbor.specs.Answer.{refused_text, wants_memory};
+ghost use Rattle.cbor.specs.Lines.{text_line};
+ghost use Rattle.cbor.specs.Sequence.{refused_item_text};
+ghost use Rattle.cbor.specs.Streams.{IsReadNext, IsStreamShown, shown_line};
+
+use crate::answer::Refusal;
+use crate::fault::Fault;
+use crate::items::name_refusal;
+use crate::lines::write_bytes;
+use crate::reading::Showing;
+use crate::retrying::Retrying;
+use crate::sequences::write_refused_item;
+use crate::showing::push_shown;
+use ciborium::de::{Error, from_reader_with_recursion_limit};
+use ciborium_value::Value;
+use std::alloc::Global;
+use std::io::{self, BufRead, BufReader, ErrorKind, Read, Write};
+
+/// Shows each item of the input, which is a sequence as bytes, by a line on the output, as soon as
+/// it is read, and says whether all of the input is a sequence of items in any spelling, each
+/// within this many levels. Of the first item that is refused the line says its number, counted
+/// from 1, and why it is, with the offset counted inside that item; `io` is one that the end of
+/// the input cuts short. Nothing behind it is read. The output is flushed behind each line, and no
+/// item is held longer.
+///
+/// # Errors
+///
+/// The first fault: the input or the output fails, or memory is refused for an item.
+pub fn show_items<R: Read, W: Write>(
+    alloc: Global,
+    input: &mut R,
+    showing: Showing,
+    limit: usize,
+    output: &mut W,
+) -> Result<bool, Fault>
+    ensures { (b w : List ℕ) → R.remaining input.old ≡ Some b → W.contents output.old ≡ Some w →
+        IfOk result (λ all. IsStreamShown showing b limit w all (W.contents output.new)) }
+{
+    let Ok(mut reader) = BufReader::new(alloc, Retrying::new(input)) else {
+        return Err(Fault::Memory);
+    };
+    show_stream(alloc, &mut reader, showing, limit, output)
+}
+
+// Shows the items that a reader has left.
+fn show_stream<R: Read, W: Write>(
+    alloc: Global,
+    reader: &mut BufReader<R>,
+    showing: Showing,
+    limit: usize,
+    output: &mut W,
+) -> Result<bool, Fault>
+    ensures { (b w : List ℕ) → reader_remaining R.remaining reader.old ≡ Some b →
+        W.contents output.old ≡ Some w →
+        IfOk result (λ all. IsStreamShown showing b limit w all (W.contents output.new)) }
+{
+    let mut room = Vec::new(alloc);
+    let mut line = Vec::new(alloc);
+    'items: for number in 1..u64::MAX {
+        if is_at_end(reader)? {
+            return Ok(true);
+        }
+        match read_next(alloc, reader, limit)? {
+            Ok(value) => show_item(&value, showing, &mut room, &mut line, output)?,
+            Err(refusal) => {
+                show_refused(number, refusal, &mut line, output)?;
+                return Ok(false);
+            }
+        }
+    }
+    // No device gives so many items.
+    Err(Fault::Input)
+}
+
+// Whether a reader has nothing left.
+fn is_at_end<R: Read>(reader: &mut BufReader<R>) -> Result<bool, Fault>
+    ensures end { (b : List ℕ) → reader_remaining R.remaining reader.old ≡ Some b →
+        IfOk result (λ is_end. MatchBool is_end (b ≡ []) (0 < length b)) }
+    ensures kept { (b : List ℕ) → reader_remaining R.remaining reader.old ≡ Some b →
+        OnOk result (reader_remaining R.remaining reader.new ≡ Some b) }
+{
+    match reader.fill_buf() {
+        Ok(bytes) => Ok(bytes.is_empty()),
+        Err(_) => Err(Fault::Input),
+    }
+}
+
+// Reads the item at the front, or says why it is refused.
+fn read_next<R: Read>(
+    alloc: Global,
+    reader: &mut BufReader<R>,
+    limit: usize,
+) -> Result<Result<Value, Refusal>, Fault>
+    ensures { (b : List ℕ) → reader_remaining R.remaining reader.old ≡ Some b →
+        IfOk result (λ next. IsReadNext b limit (reader_remaining R.remaining reader.new) next) }
+{
+    match from_reader_with_recursion_limit::<Value, _>(alloc, reader, limit) {
+        Ok(value) => Ok(Ok(value)),
+        Err(error) => {
+            let is_cut = is_cut_short(&error, reader)?;
+            match name_refusal(error, is_cut) {
+                Some(refusal) => Ok(Err(refusal)),
+                None => Err(Fault::Input),
+            }
+        }
+    }
+}
+
+// Whether an item was refused since the input ends within it.
+fn is_cut_short<R: Read>(error: &Error<io::Error>, reader: &mut BufReader<R>) -> Result<bool, Fault>
+    ensures { (b : List ℕ) → reader_remaining R.remaining reader.old ≡ Some b →
+        IfOk result (λ is_cut. IsTrue is_cut → b ≡ []) }
+{
+    match error {
+        Error::Io(error) if error.kind() == ErrorKind::UnexpectedEof => is_at_end(reader),
+        _ => Ok(false),
+    }
+}
+
+// Writes the line of an item. `room` and `line` are lent for its encoding and for the line.
+fn show_item<W: Write>(
+    value: &Value,
+    showing: Showing,
+    room: &mut Vec<u8>,
+    line: &mut Vec<u8>,
+    output: &mut W,
+) -> Result<(), Fault>
+    ensures { (w : List ℕ) → W.contents output.old ≡ Some w → OnOk result
+        (W.contents output.new ≡ Some (w ++ shown_line showing (tree_of value.now))) }
+{
+    line.clear();
+    push_shown(value, showing, room, line)?;
+    write_line(line, output)
+}
+
+// Writes the line of an item that is refused. `line` is lent for it.
+fn show_refused<W: Write>(
+    number: u64,
+    refusal: Refusal,
+    line: &mut Vec<u8>,
+    output: &mut W,
+) -> Result<(), Fault>
+    ensures { (w : List ℕ) → W.contents output.old ≡ Some w → OnOk result
+        ((wants_memory refusal ≡ false) × (W.contents output.new
+        ≡ Some (w ++ text_line (refused_item_text number (refused_text refusal))))) }
+{
+    write_refused_item(number, refusal, line)?;
+    write_line(line, output)
+}
+
+// Writes a text and a line feed whole, and flushes them, since somebody may be looking.
+fn write_line<W: Write>(text: &mut Vec<u8>, output: &mut W) -> Result<(), Fault>
+    ensures { (w : List ℕ) → W.contents output.old ≡ Some w →
+        OnOk result (W.contents output.new ≡ Some (w ++ text_line text.old.items)) }
+{
+    if text.push(b'\n').is_err() {
+        return Err(Fault::Memory);
+    }
+    write_bytes(text, output)?;
+    if output.flush().is_err() {
+        return Err(Fault::Output);
+    }
+    Ok(())
+}
+
+#[cfg(test)]
+mod tests;

@@ -1,0 +1,224 @@
+// Streams of items, how each kind is shown, where they end, and faults.
+use super::show_items;
+use crate::fault::Fault;
+use crate::reading::{Layout, Showing};
+use crate::test_devices::{Asker, Device, Mended, Source, Viewer};
+use ciborium::de::RECURSION_LIMIT;
+use std::alloc::Global;
+use std::cell::Cell;
+use std::io::{ErrorKind, Read, Write};
+use std::process::Abort;
+use std::test::Fail;
+
+const SHOWINGS: [Showing; 3] = [
+    Showing::Encoding,
+    Showing::Notation(Layout::OneLine),
+    Showing::Notation(Layout::Indented),
+];
+
+// An item, and its line in each showing.
+const ITEMS: &[(&[u8], [&str; 3])] = &[
+    (b"\x18\x18", ["1818\n", "24\n", "24\n"]),
+    (b"\x19\x00\x17", ["17\n", "23\n", "23\n"]),
+    (b"\x29", ["29\n", "-10\n", "-10\n"]),
+    (b"\x42\x01\xab", ["4201ab\n", "h'01ab'\n", "h'01ab'\n"]),
+    (
+        b"\x5f\x41\x01\x41\xab\xff",
+        ["4201ab\n", "h'01ab'\n", "h'01ab'\n"],
+    ),
+    (
+        b"\x63a\"\n",
+        ["6361220a\n", "\"a\\\"\\n\"\n", "\"a\\\"\\n\"\n"],
+    ),
+    (b"\x7f\x61a\x61b\xff", ["626162\n", "\"ab\"\n", "\"ab\"\n"]),
+    (b"\xf4", ["f4\n", "false\n", "false\n"]),
+    (b"\xf5", ["f5\n", "true\n", "true\n"]),
+    (b"\xf7", ["f6\n", "null\n", "null\n"]),
+    (b"\xc1\x00", ["c100\n", "1(0)\n", "1(0)\n"]),
+    (b"\xc2\x42\x01\x00", ["190100\n", "256\n", "256\n"]),
+    (b"\x80", ["80\n", "[]\n", "[]\n"]),
+    (
+        b"\x82\x01\x9f\x02\x20\xff",
+        [
+            "8201820220\n",
+            "[1, [2, -1]]\n",
+            "[\n  1,\n  [\n    2,\n    -1\n  ]\n]\n",
+        ],
+    ),
+    (b"\xbf\xff", ["a0\n", "{}\n", "{}\n"]),
+    (
+        b"\xa2\x61a\x01\x61b\x81\xf6",
+        [
+            "a2616101616281f6\n",
+            "{\"a\": 1, \"b\": [null]}\n",
+            "{\n  \"a\": 1,\n  \"b\": [\n    null\n  ]\n}\n",
+        ],
+    ),
+];
+
+// Holds what is shown of an input to whether it is a sequence of items, and to the text.
+fn expect_shown<R: Read>(
+    rt: &impl Abort,
+    alloc: Global,
+    input: &mut R,
+    showing: Showing,
+    limit: usize,
+    expected: (bool, &[u8]),
+) {
+    let mut output = Vec::new(alloc);
+    let shown = show_items(alloc, input, showing, limit, &mut output);
+    assert_eq!(rt; output.as_slice(), expected.1);
+    assert!(rt; matches!(shown, Ok(is_sequence) if is_sequence == expected.0));
+}
+
+#[test]
+fn shows_each_kind_of_item(rt: HostRuntime) -> Result<(), Fail> {
+    for (place, showing) in SHOWINGS.iter().enumerate() {
+        let mut bytes = Vec::new(rt.alloc());
+        let mut text = Vec::new(rt.alloc());
+        for (item, lines) in ITEMS {
+            bytes.extend_from_slice(item)?;
+            text.extend_from_slice(lines[place].as_bytes())?;
+        }
+        for most in [1, 3, usize::MAX] {
+            let mut source = Source::new(&bytes, most, None);
+            let expected = (true, text.as_slice());
+            expect_shown(
+                &rt,
+                rt.alloc(),
+                &mut source,
+                *showing,
+                RECURSION_LIMIT,
+                expected,
+            );
+        }
+    }
+    Ok(())
+}
+
+// A sequence that ends anywhere: each item that is whole is shown, and behind them the one that is
+// cut short is named.
+#[test]
+fn tells_the_end_from_a_cut(rt: HostRuntime) -> Result<(), Fail> {
+    let mut bytes = Vec::new(rt.alloc());
+    let mut text = Vec::new(rt.alloc());
+    for (index, (item, lines)) in ITEMS.iter().enumerate() {
+        let start = bytes.len();
+        bytes.extend_from_slice(item)?;
+        for end in start..bytes.len() {
+            let shown = text.len();
+            if end > start {
+                write!(text, "item {}: io\n", index + 1)?;
+            }
+            let mut source = Source::new(&bytes[..end], 2, None);
+            let expected = (end == start, text.as_slice());
+            expect_shown(
+                &rt,
+                rt.alloc(),
+                &mut source,
+                Showing::Encoding,
+                RECURSION_LIMIT,
+                expected,
+            );
+            text.truncate(shown);
+        }
+        text.extend_from_slice(lines[0].as_bytes())?;
+    }
+    Ok(())
+}
+
+// A sequence, a limit, and what is shown of the items before the first that is refused, and of it.
+const REFUSED: &[(&[u8], usize, &str)] = &[
+    (b"\x01\x61a\x1e\x02", 256, "1\n\"a\"\nitem 3: syntax 0\n"),
+    (b"\x01\x82\x02\x1e", 256, "1\nitem 2: syntax 2\n"),
+    (b"\x62\xc3\x28", 256, "item 1: syntax 0\n"),
+    (b"\x00\xff\x00", 256, "0\nitem 2: semantic 0 break\n"),
+    (b"\x81\xf9\x3c\x00", 256, "item 1: semantic 1 float\n"),
+    (b"\x00\xe0", 256, "0\nitem 2: semantic 0 simple\n"),
+    (
+        b"\xc3\x50\x80\0\0\0\0\0\0\0\0\0\0\0\0\0\0\0",
+        256,
+        "item 1: semantic 0 toolarge\n",
+    ),
+    (
+        b"\x00\x5b\xff\xff\xff\xff\xff\xff\xff\xff",
+        256,
+        "0\nitem 2: toolong\n",
+    ),
+    (b"\x80\x81\x80\x00", 1, "[]\nitem 2: nesting\n"),
+    (b"\x00\x80", 0, "0\nitem 2: nesting\n"),
+];
+
+#[test]
+fn names_the_item_that_is_refused(rt: HostRuntime) {
+    let showing = Showing::Notation(Layout::OneLine);
+    for &(bytes, limit, text) in REFUSED {
+        for most in [1, usize::MAX] {
+            let mut source = Source::new(bytes, most, None);
+            let expected = (false, text.as_bytes());
+            expect_shown(&rt, rt.alloc(), &mut source, showing, limit, expected);
+        }
+    }
+}
+
+// Each item is shown, and its line flushed, before the device is asked for the next; and behind the
+// one that is refused it is not asked again.
+#[test]
+fn shows_before_it_asks(rt: HostRuntime) {
+    let shown = Cell::new(0);
+    let mut input = Asker::new(&["\x01", "aa", "\x1e", " "], &shown);
+    let mut output = Viewer::new(&shown);
+    let showing = Showing::Encoding;
+    let ended = show_items(rt.alloc(), &mut input, showing, 256, &mut output);
+    assert!(rt; matches!(ended, Ok(false)));
+    assert_eq!(rt; shown.get(), 3);
+    assert_eq!(rt; input.given(), 3);
+}
+
+// The bytes before a fault of the device, the fault, those behind it, and what is shown where the
+// device was only interrupted.
+const FAULTS: &[(&[u8], ErrorKind, &[u8], Option<&str>)] = &[
+    (
+        b"\x01\x82\x02",
+        ErrorKind::Interrupted,
+        b"\x03",
+        Some("01\n820203\n"),
+    ),
+    (b"\x01", ErrorKind::Interrupted, b"", Some("01\n")),
+    (b"", ErrorKind::Interrupted, b"\x01", Some("01\n")),
+    (b"\x01\x82\x02", ErrorKind::Other, b"\x03", None),
+    (b"\x01\x82\x02", ErrorKind::Other, b"", None),
+    (b"\x01\x82\x02", ErrorKind::UnexpectedEof, b"\x03", None),
+    (b"\x01", ErrorKind::Other, b"\x03", None),
+    (b"\x01", ErrorKind::UnexpectedEof, b"", None),
+];
+
+#[test]
+fn tells_a_fault_of_the_input(rt: HostRuntime) {
+    for &(before, kind, after, text) in FAULTS {
+        let mut input = Mended::new(before, kind, after);
+        let mut output = Vec::new(rt.alloc());
+        let shown = show_items(rt.alloc(), &mut input, Showing::Encoding, 256, &mut output);
+        match text {
+            Some(text) => {
+                assert!(rt; matches!(shown, Ok(true)));
+                assert_eq!(rt; output.as_slice(), text.as_bytes());
+            }
+            None => assert!(rt; matches!(shown, Err(Fault::Input))),
+        }
+    }
+}
+
+// Wherever the output has no more room, and where it is flushed.
+#[test]
+fn tells_a_fault_of_the_output(rt: HostRuntime) {
+    let text = b"01\n6161\nitem 3: syntax 0\n";
+    for room in 0..=text.len() {
+        let mut input = Source::new(b"\x01\x61a\x1e", usize::MAX, None);
+        let mut output = Device::new(rt.alloc(), room, room == text.len());
+        let shown = show_items(rt.alloc(), &mut input, Showing::Encoding, 256, &mut output);
+        assert!(rt; matches!(shown, Err(Fault::Output)), "{room}");
+        let held = if room == text.len() { 3 } else { room };
+        assert_eq!(rt; output.held(), &text[..held], "{room}");
+    }
+}
