@@ -1,8 +1,7 @@
 -- Items that are shown stay so where the output is flushed.
-use Rattle.std.proofs.Common.{◌≡◌, ℕ, ◌+◌, Bool, List, ◌++◌, length, Option, Some}
+use Rattle.std.proofs.Common.{ℕ, ◌+◌, Bool, List, ◌++◌, length, Option}
 use Rattle.std.specs.Io.KnownBytes.{Keeps}
 use Rattle.std.specs.List.{flat_map}
-use Rattle.ciborium_ll.specs.Refusal.{Refusal}
 use Rattle.cbor.specs.declared.reading.Showing.{Showing}
 use Rattle.cbor.specs.Line.{refusal_text}
 use Rattle.cbor.specs.Lines.{text_line}
