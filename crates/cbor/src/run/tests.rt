@@ -1,6 +1,7 @@
 // Lines and their answers, words that are right and wrong, limits, and faults.
 use super::run;
 use crate::test_devices::{Asker, Device, Ended, Listener, Source, run_on, run_on_text};
+use crate::topics::HELP;
 use std::alloc::Global;
 use std::cell::Cell;
 use std::io::ErrorKind;
@@ -142,6 +143,48 @@ const RUNS: &[(&[&str], &str, &str, u8)] = &[
         "ok 8101 01\nitem 2: semantic 3 break\nitem 3: toolong\n",
         1,
     ),
+    (
+        &["diag"],
+        "1800\n3bffffffffffffffff\nc249010000000000000000\n4401020304\n40\n6449455446\n60\n",
+        "0\n-18446744073709551616\n2(h'010000000000000000')\nh'01020304'\nh''\n\"IETF\"\n\"\"\n",
+        0,
+    ),
+    (
+        &["diag"],
+        "62225c\n62c3bc\n64f0908591\n650a09001f7f\nf4\nf5\nf6\nf7\n",
+        "\"\\\"\\\\\"\n\"\u{fc}\"\n\"\u{10151}\"\n\"\\n\\t\\u0000\\u001f\u{7f}\"\nfalse\ntrue\nnull\nnull\n",
+        0,
+    ),
+    (
+        &["diag"],
+        "80\n83010203\n8301820203820405\na0\na201020304\na26161016162820203\nd74401020304\n",
+        "[]\n[1, 2, 3]\n[1, [2, 3], [4, 5]]\n{}\n{1: 2, 3: 4}\n{\"a\": 1, \"b\": [2, 3]}\n\
+         23(h'01020304')\n",
+        0,
+    ),
+    // Open forms are shown as definite ones, pairs in their order, and a long bignum as its tag.
+    (
+        &["diag"],
+        "9f018202039f0405ffff\n5f42010243030405ff\na202010100\nc2510100000000000000000000000000000000\n",
+        "[1, [2, 3], [4, 5]]\nh'0102030405'\n{2: 1, 1: 0}\n\
+         2(h'0100000000000000000000000000000000')\n",
+        0,
+    ),
+    (
+        &["diag"],
+        "zz\n0102\n18\n\n1e\nf93c00\n5bffffffffffffffff\n20",
+        "hex\ntrailing 1\nio\nio\nsyntax 0\nsemantic 0 float\ntoolong\n-1\n",
+        1,
+    ),
+    (&["diag", "1"], "8180\n8101", "nesting\n[1]\n", 1),
+    (&["diag"], "", "", 0),
+    (
+        &["diag", "--indent"],
+        "01\n8301820203a1616180\na0\n1e\n",
+        "1\n[\n  1,\n  [\n    2,\n    3\n  ],\n  {\n    \"a\": []\n  }\n]\n{}\nsyntax 0\n",
+        1,
+    ),
+    (&["diag", "--indent", "0"], "80\n01", "nesting\n1\n", 1),
     (&["sort"], "190100\n617a\n38c7\n", "38c7\n617a\n190100\n", 0),
     (
         &["sort", "--core"],
@@ -193,6 +236,62 @@ const RUNS: &[(&[&str], &str, &str, u8)] = &[
     (&["read"], "", "", 0),
 ];
 
+// The words, an input of bytes, what is written for it, and the status.
+const BYTE_RUNS: &[(&[&str], &[u8], &str, u8)] = &[
+    (
+        &["diag", "--binary"],
+        b"\x01\x9f\x02\xff\xa1\x61a\xf5",
+        "1\n[2]\n{\"a\": true}\n",
+        0,
+    ),
+    (
+        &["diag", "--binary", "--indent"],
+        b"\x01\x9f\x02\xff",
+        "1\n[\n  2\n]\n",
+        0,
+    ),
+    (
+        &["read", "--binary"],
+        b"\x18\x01\x9f\x02\xff",
+        "01\n8102\n",
+        0,
+    ),
+    (&["read", "--binary"], b"", "", 0),
+    // The third item is refused at its own second byte, and nothing behind it is shown.
+    (
+        &["read", "--binary"],
+        b"\x01\x61a\x82\x1e\x00\x00",
+        "01\n6161\nitem 3: syntax 1\n",
+        1,
+    ),
+    (&["diag", "--binary"], b"\x01\x18", "1\nitem 2: io\n", 1),
+    (
+        &["diag", "--binary", "1"],
+        b"\x81\x00\x81\x80",
+        "[0]\nitem 2: nesting\n",
+        1,
+    ),
+    (
+        &["diag", "--binary", "--indent", "0"],
+        b"\x80",
+        "item 1: nesting\n",
+        1,
+    ),
+    (
+        &["read", "--binary", "1"],
+        b"\x81\x80",
+        "item 1: nesting\n",
+        1,
+    ),
+    (
+        &["read", "--binary"],
+        b"\xff",
+        "item 1: semantic 0 break\n",
+        1,
+    ),
+    (&["--version"], b"\xff", "cbor 0.3.0\n", 0),
+];
+
 // Holds a run to its status, and to what it wrote.
 fn expect_end(rt: &impl Abort, ended: &Ended, status: u8, output: &[u8], errors: &str, what: &str) {
     assert_eq!(rt; ended.status, status, "{what}");
@@ -214,6 +313,45 @@ fn writes_what_is_meant(rt: HostRuntime) -> Result<(), Fail> {
 }
 
 #[test]
+fn writes_what_bytes_are(rt: HostRuntime) -> Result<(), Fail> {
+    for &(words, input, output, status) in BYTE_RUNS {
+        for most in [1, 3, usize::MAX] {
+            let mut source = Source::new(input, most, None);
+            let device = Device::new(rt.alloc(), usize::MAX, false);
+            let ended = run_on(rt.alloc(), words, &mut source, device)?;
+            expect_end(&rt, &ended, status, output.as_bytes(), "", output);
+        }
+    }
+    Ok(())
+}
+
+#[test]
+fn tells_its_commands(rt: HostRuntime) -> Result<(), Fail> {
+    let told = run_on_text(rt.alloc(), &["--help"], "00\n")?;
+    expect_end(&rt, &told, 0, HELP.as_bytes(), "", "help");
+    for words in [
+        "  cbor read [--det [--core]] [limit] ",
+        "  cbor canon [--core] [limit] ",
+        "  cbor diag [--indent] [limit] ",
+        "  cbor seq ",
+        "  cbor sort [--core] ",
+        "  cbor diag --binary [--indent] [limit] ",
+        "  cbor read --binary [limit] ",
+        "  cbor --help, cbor --version ",
+    ] {
+        assert!(rt; HELP.contains(words), "{words}");
+    }
+    Ok(())
+}
+
+#[test]
+fn tells_its_commands_where_no_words_stand(rt: HostRuntime) -> Result<(), Fail> {
+    let told = run_on_text(rt.alloc(), &[], "00\n")?;
+    expect_end(&rt, &told, 2, b"", HELP, "no words");
+    Ok(())
+}
+
+#[test]
 fn answers_a_line_longer_than_its_buffer(rt: HostRuntime) -> Result<(), Fail> {
     let mut line = String::from_str(rt.alloc(), "5a00004e20")?;
     let mut answer = String::from_str(rt.alloc(), "ok 594e20")?;
@@ -228,7 +366,9 @@ fn answers_a_line_longer_than_its_buffer(rt: HostRuntime) -> Result<(), Fail> {
 }
 
 // A command, so many arrays, one in the other, how what is written for them begins, and the status.
-const NESTED: [(&str, usize, &str, u8); 8] = [
+const NESTED: [(&str, usize, &str, u8); 10] = [
+    ("diag", 256, "[[[[", 0),
+    ("diag", 257, "nesting\n", 1),
     ("read", 256, "ok 8181", 0),
     ("read", 257, "nesting\n", 1),
     ("canon", 256, "ok 8181", 0),
@@ -275,7 +415,7 @@ fn sorts_the_innermost_map(rt: HostRuntime) -> Result<(), Fail> {
 // Each line is answered before the device of the input is asked for the next one.
 #[test]
 fn answers_before_it_asks(rt: HostRuntime) -> Result<(), Fail> {
-    for command in ["read", "seq", "canon"] {
+    for command in ["read", "seq", "canon", "diag"] {
         let words = vec![in rt.alloc(); String::from_str(rt.alloc(), command)?]?;
         let answered = Cell::new(0);
         let mut input = Asker::new(&["1800\n", "zz\n", "6161\n"], &answered);
@@ -290,7 +430,6 @@ fn answers_before_it_asks(rt: HostRuntime) -> Result<(), Fail> {
 }
 
 const WRONG_WORDS: &[&[&str]] = &[
-    &[],
     &["write"],
     &["READ"],
     &["read "],
@@ -346,6 +485,31 @@ const WRONG_WORDS: &[&[&str]] = &[
     &["sort", "sort"],
     &["SORT"],
     &["sort "],
+    &["diag", "x"],
+    &["diag", "1", "2"],
+    &["diag", "--det"],
+    &["diag", "--indent", "--indent"],
+    &["diag", "--indent", "--binary"],
+    &["diag", "1", "--indent"],
+    &["diag", "--binary", "x"],
+    &["diag", "--binary", "--indent", "x"],
+    &["diag", "--binary", "--binary"],
+    &["DIAG"],
+    &["read", "--binary", "x"],
+    &["read", "--binary", "--binary"],
+    &["read", "--binary", "--det"],
+    &["read", "--binary", "--indent"],
+    &["read", "--det", "--binary"],
+    &["read", "--indent"],
+    &["canon", "--binary"],
+    &["seq", "--binary"],
+    &["sort", "--binary"],
+    &["--binary"],
+    &["--help", "x"],
+    &["--help", "1"],
+    &["--version", "--help"],
+    &["help"],
+    &[""],
 ];
 
 #[test]
@@ -355,7 +519,9 @@ fn refuses_wrong_words(rt: HostRuntime) -> Result<(), Fail> {
         let device = Device::new(rt.alloc(), usize::MAX, false);
         let ended = run_on(rt.alloc(), words, &mut source, device)?;
         let usage = "usage: cbor read [--det [--core]] [limit] | cbor canon [--core] [limit] \
-                     | cbor sort [--core] | cbor seq\n";
+                     | cbor diag [--indent] [limit] | cbor seq | cbor sort [--core] \
+                     | cbor diag --binary [--indent] [limit] | cbor read --binary [limit] \
+                     | cbor --help | cbor --version\n";
         expect_end(&rt, &ended, 2, b"", usage, "wrong words");
         assert_eq!(rt; source.reads(), 0);
     }
@@ -363,7 +529,8 @@ fn refuses_wrong_words(rt: HostRuntime) -> Result<(), Fail> {
 }
 
 // A command, what it reads before its input fails, and what it then has written.
-const CUT_SHORT: [(&str, &str, &str); 7] = [
+const CUT_SHORT: [(&str, &str, &str); 8] = [
+    ("diag", "20\n8101\n1e", "-1\n[1]\n"),
     ("read", "01\n1e", "ok 01\n"),
     ("canon", "a202000100\n1e", "ok a201000200\n"),
     ("read", "1800\n6161\n18", "ok 00\nok 6161\n"),
@@ -393,7 +560,9 @@ fn tells_a_fault_of_the_input(rt: HostRuntime) -> Result<(), Fail> {
 }
 
 // A command, what it reads, what it would write, and the room for that; the last flush fails.
-const NO_ROOM: [(&str, &str, &str, [usize; 4]); 5] = [
+const NO_ROOM: [(&str, &str, &str, [usize; 4]); 7] = [
+    ("diag", "8100\n820102\n", "[0]\n[1, 2]\n", [0, 3, 6, 20]),
+    ("--version", "", "cbor 0.3.0\n", [0, 4, 10, 20]),
     (
         "canon",
         "1800\na202000100\n",
