@@ -15,7 +15,7 @@ async function main() {
       answers.push('refused');
     }
   }
-  fs.writeFileSync(1, answers.join('\n') + '\n');
+  process.stdout.write(answers.join('\n') + '\n');
 }
 
 main();
