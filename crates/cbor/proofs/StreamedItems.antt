@@ -12,29 +12,38 @@ use Rattle.cbor.specs.declared.reading.Spelling.TheVariants.{Any}
 use Rattle.cbor.specs.Answer.{IsFrontRefused, refused_text, wants_memory}
 use Rattle.cbor.specs.Lines.{text_line}
 use Rattle.cbor.specs.Sequence.{AreItemsBefore, refused_item_text}
-use Rattle.cbor.specs.Spellings.{HasItemBefore}
-use Rattle.cbor.specs.Streams.{AreShownBehind, IsStreamShown, refused, shown_line, whole}
+use Rattle.cbor.specs.Streams.{AreShownBehind, IsReadNext, IsStreamShown, refused, shown_line, whole}
 use Rattle.cbor.proofs.ItemsInRow.{one-more-before}
 use Rattle.cbor.proofs.JudgedAnswers.{front-refusal}
 
 -- ---- one item
 
 -- a reader of known bytes, of which some were taken, has others left
-pub what-is-left : (before after : Option (List ℕ)) (b s : List ℕ) → before ≡ Some b → Consumes before after s → (left : List ℕ) × (after ≡ Some left)
+pub what-is-left : (before after : Option (List ℕ)) (b s : List ℕ) → before ≡ Some b → Consumes before after s →
+    (left : List ℕ) × (after ≡ Some left)
 what-is-left None after b s e h = absurd cc
 what-is-left (Some xs) None b s e h = absurd h
 what-is-left (Some xs) (Some ys) b s e h = (ys, refl)
 
--- a reader that is found to be at its end has nothing left
-pub ended : {E : Type 0} (b : List ℕ) (r : Result Bool E) → IfOk r (λ is_end. MatchBool is_end (b ≡ []) (0 < length b)) → IfOk r (λ is_end. IsTrue is_end → b ≡ [])
+-- whether a reader of these bytes is found to be at its end
+abbrev pub IsEndOf : List ℕ → Bool → Type 0
+IsEndOf b is_end = MatchBool is_end (b ≡ []) (0 < length b)
+
+-- where it is, nothing is left
+pub ended : {E : Type 0} (b : List ℕ) (r : Result Bool E) → IfOk r (IsEndOf b) →
+    IfOk r (λ is_end. IsTrue is_end → b ≡ [])
 ended b (Ok true) h = λ _. h
 ended b (Ok false) h = λ t. absurd cc
 ended b (Err e) h = tt
 
--- the line of an item that is refused is written
-pub refused-shown : {E : Type 0} (w : List ℕ) (n : ℕ) (e : Refusal) (text : List ℕ) (after : Option (List ℕ)) (r : Result Unit E) →
-    (wants_memory e ≡ false) × (text ≡ refused_item_text n (refused_text e)) → OnOk r (after ≡ Some (w ++ text_line text)) →
-    OnOk r ((wants_memory e ≡ false) × (after ≡ Some (w ++ text_line (refused_item_text n (refused_text e)))))
+-- behind w the line of the item of this number is written, which is refused, but not for memory
+abbrev pub IsRefusalBehind : List ℕ → ℕ → Refusal → Option (List ℕ) → Type 0
+IsRefusalBehind w n e after =
+    (wants_memory e ≡ false) × (after ≡ Some (w ++ text_line (refused_item_text n (refused_text e))))
+
+pub refused-shown : {E : Type 0} (w : List ℕ) (n : ℕ) (e : Refusal) (text : List ℕ) (after : Option (List ℕ))
+    (r : Result Unit E) → (wants_memory e ≡ false) × (text ≡ refused_item_text n (refused_text e)) →
+    OnOk r (after ≡ Some (w ++ text_line text)) → OnOk r (IsRefusalBehind w n e after)
 refused-shown w n e text after (Ok u) (m, same) h = (m, h ∙ ap (λ (t : List ℕ). Some (w ++ text_line t)) same)
 refused-shown w n e text after (Err x) same h = tt
 
@@ -43,50 +52,58 @@ refused-shown w n e text after (Err x) same h = tt
 -- of b this is left: the items before it are shown behind w, and the next has this number
 abbrev pub AreShownSoFar : Showing → List ℕ → ℕ → List ℕ → Option (List ℕ) → Option (List ℕ) → ℕ → Type 0
 AreShownSoFar showing b limit w left held number =
-    (trees : List Tree) × (rest : List ℕ) × (left ≡ Some rest) × AreItemsBefore b limit trees rest × AreShownBehind showing w trees held × (number ≡ length trees + 1)
+    (trees : List Tree) × (rest : List ℕ) × (left ≡ Some rest) × AreItemsBefore b limit trees rest ×
+    AreShownBehind showing w trees held × (number ≡ length trees + 1)
 
-pub none-shown : (showing : Showing) (b : List ℕ) (limit : ℕ) (w : List ℕ) (left held : Option (List ℕ)) → left ≡ Some b → held ≡ Some w →
-    AreShownSoFar showing b limit w left held 1
+pub none-shown : (showing : Showing) (b : List ℕ) (limit : ℕ) (w : List ℕ) (left held : Option (List ℕ)) →
+    left ≡ Some b → held ≡ Some w → AreShownSoFar showing b limit w left held 1
 none-shown showing b limit w left held e f = ([], b, e, refl, f ∙ ap Some (sym (append-nil w)), omega arith)
 
--- what it says that a reader is looked at: whether it is at its end, and it stays as it was
+-- what looking at a reader says: whether it is at its end, and that it stays as it was
 abbrev pub EndIsTold : Option (List ℕ) → Bool → Type 0
-EndIsTold left is_end = (xs : List ℕ) → left ≡ Some xs → MatchBool is_end (xs ≡ []) (0 < length xs)
+EndIsTold left is_end = (xs : List ℕ) → left ≡ Some xs → IsEndOf xs is_end
 
 abbrev pub IsKept : Option (List ℕ) → Option (List ℕ) → Type 0
 IsKept left kept = (xs : List ℕ) → left ≡ Some xs → kept ≡ Some xs
 
 module _ (showing : Showing) (b : List ℕ) (limit : ℕ) (w : List ℕ) (left held : Option (List ℕ)) (number : ℕ) where
+  -- the output behind these items
+  abbrev behind : List Tree → List ℕ
+  behind trees = w ++ flat_map (shown_line showing) trees
+
   -- the input ends
-  pub all-shown : (is_end : Bool) → AreShownSoFar showing b limit w left held number → EndIsTold left is_end → is_end ≡ true → IsStreamShown showing b limit w true held
+  pub all-shown : (is_end : Bool) → AreShownSoFar showing b limit w left held number → EndIsTold left is_end →
+      is_end ≡ true → IsStreamShown showing b limit w true held
   all-shown is_end (trees, rest, e, a, same, count) told ends =
-      let none = subst (λ (v : Bool). MatchBool v (rest ≡ []) (0 < length rest)) ends (told rest e) in
+      let none = subst (IsEndOf rest) ends (told rest e) in
       whole trees held (subst (λ (r : List ℕ). AreItemsBefore b limit trees r) none a) same
 
   module _ (kept now : Option (List ℕ)) where
     -- one more item is read and shown
-    pub one-more-shown : (next : Option (List ℕ)) (v : Value) → AreShownSoFar showing b limit w left held number → IsKept left kept →
-        ((xs : List ℕ) → kept ≡ Some xs → (rest : List ℕ) × HasItemBefore Any xs limit (tree_of v) rest × (next ≡ Some rest)) →
-        ((ys : List ℕ) → held ≡ Some ys → now ≡ Some (ys ++ shown_line showing (tree_of v))) → AreShownSoFar showing b limit w next now (number + 1)
+    pub one-more-shown : (next : Option (List ℕ)) (v : Value) → AreShownSoFar showing b limit w left held number →
+        IsKept left kept → ((xs : List ℕ) → kept ≡ Some xs → IsReadNext xs limit next (Ok v)) →
+        ((ys : List ℕ) → held ≡ Some ys → now ≡ Some (ys ++ shown_line showing (tree_of v))) →
+        AreShownSoFar showing b limit w next now (number + 1)
     one-more-shown next v (trees, rest, e, a, same, count) keeps read shown =
-        let item = read rest (keeps rest e) in (
+        let item = read rest (keeps rest e) in
+        let more : length (trees ++ (tree_of v ∷ [])) ≡ length trees + 1 = length-append trees (tree_of v ∷ []) in (
           trees ++ (tree_of v ∷ []),
           item.0,
           item.2,
           one-more-before limit trees b rest item.0 (tree_of v) a item.1,
-          shown (w ++ flat_map (shown_line showing) trees) same ∙ ap Some (flat_map_more (shown_line showing) w trees (tree_of v)),
-          (let more : length (trees ++ (tree_of v ∷ [])) ≡ length trees + 1 = length-append trees (tree_of v ∷ []) in omega (arith, more, count)),
+          shown (behind trees) same ∙ ap Some (flat_map_more (shown_line showing) w trees (tree_of v)),
+          omega (arith, more, count),
         )
 
     -- the next item is refused, and the line says so
-    pub first-refused : (is_end : Bool) (e : Refusal) → AreShownSoFar showing b limit w left held number → EndIsTold left is_end → is_end ≡ false → IsKept left kept →
+    pub first-refused : (is_end : Bool) (e : Refusal) →
+        AreShownSoFar showing b limit w left held number → EndIsTold left is_end → is_end ≡ false → IsKept left kept →
         ((xs : List ℕ) → kept ≡ Some xs → IsFrontRefused Any xs limit e) →
-        ((ys : List ℕ) → held ≡ Some ys → (wants_memory e ≡ false) × (now ≡ Some (ys ++ text_line (refused_item_text number (refused_text e))))) →
-        IsStreamShown showing b limit w false now
+        ((ys : List ℕ) → held ≡ Some ys → IsRefusalBehind ys number e now) → IsStreamShown showing b limit w false now
     first-refused is_end e (trees, rest, is, a, same, count) told more keeps read shown =
-        let some = subst (λ (v : Bool). MatchBool v (rest ≡ []) (0 < length rest)) more (told rest is) in
-        let line = shown (w ++ flat_map (shown_line showing) trees) same in
+        let some = subst (IsEndOf rest) more (told rest is) in
+        let line = shown (behind trees) same in
         let f = front-refusal rest limit e line.0 (read rest (keeps rest is)) in
+        let text = λ (n : ℕ) (t : List ℕ). Some (behind trees ++ text_line (refused_item_text n t)) in
         refused trees rest f.0 now a some f.1
-        (line.1 ∙ ap (λ (k : ℕ). Some ((w ++ flat_map (shown_line showing) trees) ++ text_line (refused_item_text k (refused_text e)))) count
-        ∙ ap (λ (t : List ℕ). Some ((w ++ flat_map (shown_line showing) trees) ++ text_line (refused_item_text (length trees + 1) t))) f.2)
+        (line.1 ∙ ap (λ (n : ℕ). text n (refused_text e)) count ∙ ap (text (length trees + 1)) f.2)

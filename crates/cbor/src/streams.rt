@@ -27,7 +27,7 @@ use std::io::{self, BufRead, BufReader, ErrorKind, Read, Write};
 /// it is read, and says whether all of the input is a sequence of items in any spelling, each
 /// within this many levels. Of the first item that is refused the line says its number, counted
 /// from 1, and why it is, with the offset counted inside that item; `io` is one that the end of
-/// the input cuts short. Nothing behind it is read. The output is flushed behind each line, and no
+/// the input cuts short. No item behind it is read. The output is flushed behind each line, and no
 /// item is held longer.
 ///
 /// # Errors

@@ -8,5 +8,6 @@ name_refusal-requires c = named-anyway (Some c.read_value.new.rest.now) c.in-Err
 pub returns-in-Err-clause-refused : goal.returns-in-Err-clause-refused
 returns-in-Err-clause-refused c =
     let rest = c.read_value.new.rest.now in
-    front-refused c.name_refusal.result _ c.in-Err.error c.is_empty.result c.args.spelling c.args.rest.now.now c.args.limit (Some rest) c.unwrap_or.ensures
-    c.name_refusal.ensures.refused (λ ends. ap Some (nothing-left rest (sym c.is_empty.ensures ∙ ends))) c.in-Err.ensures.refused
+    front-refused c.name_refusal.result _ c.in-Err.error c.is_empty.result c.args.spelling c.args.rest.now.now
+    c.args.limit (Some rest) c.unwrap_or.ensures c.name_refusal.ensures.refused
+    (λ ends. ap Some (nothing-left rest (sym c.is_empty.ensures ∙ ends))) c.in-Err.ensures.refused

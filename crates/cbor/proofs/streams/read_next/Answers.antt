@@ -11,4 +11,5 @@ pub returns-in-Some : goal.returns-in-Some
 returns-in-Some g c b e =
     let read = c.in-Err.ensures.value in
     let left = what-is-left _ _ b read.taken.0 e read.taken.1 in
-    c.in-Some.ensures.refused Any b c.args.limit _ (λ cut. left.1 ∙ ap Some (c.in_ok-is_cut-in-Err.ensures left.0 left.1 cut)) (read.refused b e)
+    c.in-Some.ensures.refused Any b c.args.limit _
+    (λ cut. left.1 ∙ ap Some (c.in_ok-is_cut-in-Err.ensures left.0 left.1 cut)) (read.refused b e)

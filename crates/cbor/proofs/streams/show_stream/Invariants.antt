@@ -5,5 +5,8 @@ use Rattle.cbor.proofs.streams.show_stream.Given as goal
 
 -- the items so far are shown, and the rest of the input is left
 abbrev pub invariant-items : goal.invariant-items
-invariant-items g l = (b w : List ℕ) → reader_remaining g.R.Read.remaining l.initial.reader ≡ Some b → g.W.Write.contents l.initial.output ≡ Some w →
-    AreShownSoFar l.showing b l.limit w (reader_remaining g.R.Read.remaining l.reader) (g.W.Write.contents l.output) l.number
+invariant-items g l =
+    (b w : List ℕ) → reader_remaining g.R.Read.remaining l.initial.reader ≡ Some b →
+    g.W.Write.contents l.initial.output ≡ Some w →
+    AreShownSoFar l.showing b l.limit w (reader_remaining g.R.Read.remaining l.reader) (g.W.Write.contents l.output)
+    l.number
