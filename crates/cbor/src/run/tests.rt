@@ -256,6 +256,12 @@ const BYTE_RUNS: &[(&[&str], &[u8], &str, u8)] = &[
         "01\n8102\n",
         0,
     ),
+    (
+        &["diag", "--binary"],
+        b"\xa2\x61a\x01\x61b\x82\x42\x01\x02\xf5\x1a\x51\x4b\x67\xb0\x82\x1e",
+        "{\"a\": 1, \"b\": [h'0102', true]}\n1363896240\nitem 3: syntax 1\n",
+        1,
+    ),
     (&["read", "--binary"], b"", "", 0),
     // The third item is refused at its own second byte, and nothing behind it is shown.
     (
