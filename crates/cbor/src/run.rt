@@ -159,8 +159,9 @@ fn perform<R: Read, W: Write>(
 
 // Writes what is told of a topic.
 fn tell<W: Write>(topic: Topic, output: &mut W) -> Result<bool, Fault>
-    ensures { (w : List ℕ) → W.contents output.old ≡ Some w →
+    ensures told { (w : List ℕ) → W.contents output.old ≡ Some w →
         OnOk result (W.contents output.new ≡ Some (w ++ topic_text topic)) }
+    ensures all { IfOk result (λ all. IsTrue all) }
 {
     if output.write_all(topic_text(topic).as_bytes()).is_err() {
         return Err(Fault::Output);

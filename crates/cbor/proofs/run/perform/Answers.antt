@@ -40,4 +40,4 @@ pub returns-in-Tell-clause-told : goal.returns-in-Tell-clause-told
 returns-in-Tell-clause-told g c topic w same e =
     let finish = c.finish-in-Tell in
     let of : c.in-Tell.topic ≡ topic = cc in
-    flushed-told (w ++ topic_text topic) _ _ c.tell-told.result finish.result finish.ensures.same finish.ensures.kept (rw of at c.tell-told.ensures w e)
+    flushed-told (w ++ topic_text topic) _ _ c.tell-told.result finish.result finish.ensures.same finish.ensures.kept (rw of at c.tell-told.ensures.told w e)
