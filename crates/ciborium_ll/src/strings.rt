@@ -189,7 +189,8 @@ impl<'c, R: Read, K: Keep> Cursor<'c, R, K> {
         }
     }
 
-    // Appends the payload of the string of this length (`None`: indefinite) whose head is at this offset.
+    // Appends the payload of the string of this length (`None`: indefinite) whose head is at this
+    // offset.
     #[inline(always)]
     pub(crate) fn append_string(
         &mut self,
