@@ -47,7 +47,7 @@ pub(crate) fn find_folding(tag: u64, content: &Value) -> Option<&[u8]>
     }
 }
 
-/// The bytes behind the leading zeros. This takes no memory.
+/// The bytes after the leading zeros. This takes no memory.
 pub fn without_leading_zeros(bytes: &[u8]) -> &[u8]
     ensures { result.now ≡ without_zeros bytes.now }
 {
@@ -120,7 +120,7 @@ pub fn fold(alloc: Global, tag: u64, bytes: &[u8]) -> Result<Value, FoldError>
     }
 }
 
-/// The number of the bytes, or `None` where more than 16 stand behind the leading zeros.
+/// The number of the bytes, or `None` where more than 16 follow the leading zeros.
 pub fn find_magnitude(bytes: &[u8]) -> Option<u128>
     ensures { MatchOption result (magnitude bytes.now ≡ refuses kinds.TooLarge)
         (λ n. magnitude bytes.now ≡ gives n) }
