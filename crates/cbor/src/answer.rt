@@ -13,7 +13,7 @@ use std::fmt;
 pub enum Refusal {
     /// The line is not an even number of hex digits.
     Hex,
-    /// So many bytes follow the item at the front.
+    /// This many bytes follow the item at the front.
     Trailing(usize),
     /// The bytes end inside an item.
     Io,
@@ -25,7 +25,7 @@ pub enum Refusal {
     Nesting,
     /// The item would pass the greatest offset.
     TooLong,
-    /// Memory was refused, and the line may be an item.
+    /// An allocation failed, and the line may be an item.
     Memory,
 }
 
@@ -38,20 +38,20 @@ pub enum Reason {
     Simple,
     /// It is a break out of place.
     Break,
-    /// It is a bignum past its bounds.
+    /// It is a bignum out of range.
     TooLarge,
     /// Its head is not the shortest, or it is undefined, where its encoding is to be deterministic.
     NotShortest,
     /// It is of indefinite length, where its encoding is to be deterministic.
     Open,
-    /// It is a bignum that is to be a shorter one, or a plain number.
+    /// It is a bignum that has to be a shorter one, or a plain number.
     NotFolded,
-    /// It is a key that does not follow the key before it in the order that is asked for.
+    /// It is a key that does not follow the key before it in the wanted order.
     KeyOrder,
 }
 
 impl Refusal {
-    /// Whether memory was refused.
+    /// Whether an allocation failed.
     pub fn is_memory(&self) -> bool
         ensures { result ≡ wants_memory self.now }
     {

@@ -29,13 +29,13 @@ use std::io::{BufReader, Read, Write};
 
 /// Makes `rooms.text` the answer to a line, within this many levels: `hex` where it is not an even
 /// number of hex digits of either case; `ok` and the encoding in lower-case hex where its bytes are
-/// one item; `trailing` and how many bytes follow the item at the front; and else why the bytes are
-/// refused: `io`, `syntax` and an offset, `semantic`, an offset and a word, `nesting`, or
-/// `toolong`. Says whether the line is an item.
+/// one item; `trailing` and the number of bytes after the item where more follow it; and otherwise
+/// why the bytes are refused: `io`, `syntax` and an offset, `semantic`, an offset and a word,
+/// `nesting`, or `toolong`. Says whether the line is an item.
 ///
 /// # Errors
 ///
-/// `AllocError` where memory is refused.
+/// `AllocError` where an allocation fails.
 pub fn answer_line(
     alloc: Global,
     line: &[u8],
@@ -49,13 +49,13 @@ pub fn answer_line(
     answer_item(alloc, line, Spelling::Any, limit, rooms)
 }
 
-/// Answers a line as `answer_line` does, but an item is its deterministic encoding alone (RFC 8949,
-/// section 4.2), whose maps have their keys in this order: of other bytes `semantic` names, beside
-/// the words of `answer_line`, `open`, `notshortest`, `notfolded` or `keyorder`.
+/// Answers a line as `answer_line` does, but accepts only the deterministic encoding of an item
+/// (RFC 8949, section 4.2), whose maps have their keys in this order. For other bytes the word
+/// after `semantic` may also be `open`, `notshortest`, `notfolded` or `keyorder`.
 ///
 /// # Errors
 ///
-/// `AllocError` where memory is refused.
+/// `AllocError` where an allocation fails.
 pub fn answer_line_det(
     alloc: Global,
     line: &[u8],
@@ -74,13 +74,13 @@ pub fn answer_line_det(
 /// Makes `rooms.text` the answer to a line that is read as a sequence (RFC 8742), items one after
 /// the other: `hex` where it is not an even number of hex digits; `ok`, and a space and the
 /// encoding in lower-case hex of each item, where its bytes are good items within 256 levels each;
-/// else `item`, the number of the first item that is refused, counted from 1, a colon, and why it
-/// is, as `answer_line` says it, with the offset counted inside that item. Says whether the line is
+/// otherwise `item`, the number of the first item that is refused, counted from 1, a colon, and the
+/// reason, as in `answer_line`, with the offset counted inside that item. Says whether the line is
 /// a sequence.
 ///
 /// # Errors
 ///
-/// `AllocError` where memory is refused.
+/// `AllocError` where an allocation fails.
 pub fn answer_seq(alloc: Global, line: &[u8], rooms: &mut Rooms) -> Result<bool, AllocError>
     ensures answer { OnOk result (IsSequenceAnswer line.now 256 rooms.new.text.items) }
     ensures sequence { IfOk result (λ is_ok. IsTrue is_ok →
@@ -98,12 +98,12 @@ pub fn answer_seq(alloc: Global, line: &[u8], rooms: &mut Rooms) -> Result<bool,
 /// Answers a line as `answer_line` does, but with the deterministic encoding of its item (RFC 8949,
 /// section 4.2), however the line spells it: bignums are folded, and the pairs of each map, inner
 /// maps first, sorted by their keys in this order. An item that has none is answered `duplicate`,
-/// where two keys of a map have one form, or `toolarge`, where a bignum of at most 16 bytes is
-/// negative and no `i128` holds it. Says whether the line is an item that has one.
+/// where two keys of a map have the same form, or `toolarge`, where a bignum of at most 16 bytes is
+/// negative and no `i128` holds it. Says whether the line is an item that has such an encoding.
 ///
 /// # Errors
 ///
-/// `AllocError` where memory is refused.
+/// `AllocError` where an allocation fails.
 pub fn answer_canon(
     alloc: Global,
     line: &[u8],
@@ -134,12 +134,12 @@ pub fn answer_canon(
     }
 }
 
-/// Answers a line as `answer_line` does, but its item by its diagnostic notation (RFC 8949, section
-/// 8), laid out so, with nothing before it. Says whether the line is an item.
+/// Answers a line as `answer_line` does, but an item with its diagnostic notation (RFC 8949,
+/// section 8) in this layout, with nothing before it. Says whether the line is an item.
 ///
 /// # Errors
 ///
-/// `AllocError` where memory is refused.
+/// `AllocError` where an allocation fails.
 pub fn answer_diag(
     alloc: Global,
     line: &[u8],
@@ -209,7 +209,7 @@ fn write_encoding(value: &Value, rooms: &mut Rooms) -> Result<(), AllocError>
     push_encoding(value, &mut rooms.bytes, &mut rooms.text)
 }
 
-// Makes `text` that of a refusal; want of memory is none.
+// Makes `text` that of a refusal; a failed allocation is none.
 fn write_refusal(refusal: Refusal, text: &mut Vec<u8>) -> Result<(), AllocError>
     ensures { OnOk result ((wants_memory refusal ≡ false)
         × (text.new.items ≡ refused_text refusal)) }
@@ -247,12 +247,12 @@ fn answer_reading(
 }
 
 /// Answers the lines of the input, each by a line on the output, and says whether each is an item,
-/// or a sequence, as is asked for. A line whose answer is refused memory is answered `memory`.
-/// Answers wait until the input's device is asked for more, and are then written together.
+/// or a sequence, as is asked for. A line is answered `memory` where an allocation for its answer
+/// fails. Answers wait until the input's device is asked for more, and are then written together.
 ///
 /// # Errors
 ///
-/// The first fault: the input or the output fails, or memory is refused for a line.
+/// The first fault: the input, the output or an allocation for a line fails.
 pub fn answer_lines<R: Read, W: Write>(
     alloc: Global,
     input: &mut R,
@@ -304,8 +304,8 @@ fn put_answers<R: Read, W: Write>(
     Err(Fault::Input)
 }
 
-// Puts the answer to a line behind the texts that wait, or `memory` where memory was refused for
-// it, and says whether the line is what is asked for.
+// Puts the answer to a line behind the texts that wait, or `memory` where an allocation for it
+// failed, and says whether the line is what is asked for.
 fn write_answer<W: Write>(
     alloc: Global,
     line: &[u8],

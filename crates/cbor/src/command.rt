@@ -6,18 +6,18 @@ use ciborium_value::KeyOrder;
 /// What the program is asked to do.
 #[derive(Clone, Copy, Debug)]
 pub enum Command {
-    /// To answer each line of the input, which is read so.
+    /// To answer each line of the input, which is read in this way.
     Answer(Reading),
     /// To sort the lines of the input in this order.
     Sort(KeyOrder),
     /// To show each item of the input, which is a sequence as bytes (RFC 8742), in this way and
     /// within this many levels.
     Show(Showing, usize),
-    /// To tell of the program itself.
+    /// To print something about the program itself.
     Tell(Topic),
 }
 
-/// What the program tells of itself.
+/// What the program prints about itself.
 #[derive(Clone, Copy, Debug)]
 pub enum Topic {
     /// The commands, with an example each.

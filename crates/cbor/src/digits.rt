@@ -1,4 +1,4 @@
-//! Hex digits of a line to its bytes, and the encoding of a value to hex digits.
+//! From the hex digits of a line to its bytes, and from the encoding of a value to hex digits.
 
 ghost use Rattle.std.specs.Prelude.{◌≡◌, ◌<◌, ◌≤◌, ◌++◌, ◌*◌, IfErr, IsErr, MatchOption};
 ghost use Rattle.std.specs.Prelude.{Ok, OnOk, length};
@@ -16,7 +16,7 @@ const NO_DIGIT: u8 = 16;
 ///
 /// # Errors
 ///
-/// `Hex` where the line is not an even number of hex digits, `Memory` where memory was refused.
+/// `Hex` where the line is not an even number of hex digits, `Memory` where an allocation failed.
 pub fn decode_line(line: &[u8], bytes: &mut Vec<u8>) -> Result<(), Refusal>
     ensures bytes { OnOk result (decode_of line.now ≡ Ok bytes.new.items) }
     ensures refused { IfErr result (λ refusal. IsHexRefused line.now refusal) }
@@ -69,11 +69,11 @@ fn digit_value(digit: u8) -> u8
     value
 }
 
-/// Puts bytes in lower-case hex behind a text.
+/// Appends bytes in lower-case hex to a text.
 ///
 /// # Errors
 ///
-/// `AllocError` where memory is refused.
+/// `AllocError` where an allocation fails.
 pub fn push_digits(bytes: &[u8], text: &mut Vec<u8>) -> Result<(), AllocError>
     ensures { OnOk result (text.new.items ≡ text.old.items ++ encode_lower bytes.now) }
 {
@@ -85,7 +85,7 @@ pub fn push_digits(bytes: &[u8], text: &mut Vec<u8>) -> Result<(), AllocError>
         return Err(AllocError);
     };
     text.resize(end, 0)?;
-    // It fails only where the room has another size.
+    // The call fails only where the room has another size.
     if hex::encode_to_slice(bytes, &mut text.as_mut_slice()[start..]).is_err() {
         return Err(AllocError);
     }

@@ -14,7 +14,7 @@ pub enum Fault {
     Input,
     /// An answer could not be written.
     Output,
-    /// Memory was refused for a line, or for the list to sort.
+    /// An allocation for a line, or for the list to sort, failed.
     Memory,
 }
 

@@ -21,11 +21,11 @@ use std::alloc::{AllocError, Global};
 use std::io;
 
 /// The value of a line whose bytes are one item in a spelling that is asked for, within this many
-/// levels. `room` is lent for the bytes.
+/// levels. `room` is a buffer for the bytes, to be used again.
 ///
 /// # Errors
 ///
-/// Why the line is no item, or `Memory` where memory was refused.
+/// Why the line is no item, or `Memory` where an allocation failed.
 pub fn read_item(
     alloc: Global,
     line: &[u8],
@@ -62,8 +62,8 @@ fn read_bytes(
 ///
 /// # Errors
 ///
-/// Why no item in a spelling that is asked for is there, within this many levels, or `Memory` where
-/// memory was refused.
+/// Why there is no item in a spelling that is asked for, within this many levels, or `Memory` where
+/// an allocation failed.
 pub fn read_front(
     alloc: Global,
     rest: &mut &[u8],
@@ -77,7 +77,7 @@ pub fn read_front(
 {
     match read_value(alloc, rest, spelling, limit) {
         Ok(value) => Ok(value),
-        // A slice never fails before its end.
+        // Unreachable in practice: a slice does not fail before its end.
         Err(error) => Err(name_refusal(error, rest.is_empty()).unwrap_or(Refusal::Memory)),
     }
 }
@@ -141,11 +141,12 @@ fn classify_kind(kind: Kind) -> Reason
     }
 }
 
-/// Puts the encoding of a value in lower-case hex behind a text. `room` is lent for the encoding.
+/// Appends the encoding of a value in lower-case hex to a text. `room` is a buffer for the
+/// encoding, to be used again.
 ///
 /// # Errors
 ///
-/// `AllocError` where memory is refused.
+/// `AllocError` where an allocation fails.
 pub fn push_encoding(
     value: &Value,
     room: &mut Vec<u8>,

@@ -8,9 +8,9 @@ ghost use Rattle.cbor.specs.Laws.{RefusalIsAnswered, RefusedMeansNothing};
 
 use ciborium::laws::deterministic_or_refused;
 
-/// Each line has an answer, within any number of levels, and one answer alone: whether items may
-/// be spelled in any way, or in the deterministic one alone, by either order of keys. That of a
-/// line which means a tree is the tree's text, and that of a line which is refused is the
+/// Each line has an answer, within any number of levels, and one answer alone, whether items may be
+/// spelled in any way, or in the deterministic one alone, by either order of keys. The answer to a
+/// line that means a tree is the tree's text, and the answer to a line that is refused is the
 /// refusal's. No line that is refused means a tree.
 pub fn line_answer()
     ensures answered { IsAnswered }

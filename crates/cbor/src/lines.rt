@@ -15,8 +15,8 @@ use std::io::{BufRead, BufReader, Read, Write};
 const MOST_WAITING: usize = 1 << 15;
 
 /// Reads the next line as `read_line` does. Where the reader holds no whole line, so that its
-/// device is asked for more, the texts that wait are written first: whoever gives lines one by one
-/// sees each answer before the next line is asked for.
+/// device is asked for more, the waiting texts are written first: a user who enters lines one by
+/// one sees each answer before the next line is asked for.
 ///
 /// # Errors
 ///
@@ -48,7 +48,7 @@ pub fn next_line<R: Read, W: Write>(
 ///
 /// # Errors
 ///
-/// `Input` where the input fails, `Memory` where memory is refused for the line.
+/// `Input` where the input fails, `Memory` where an allocation for the line fails.
 pub fn read_line<R: Read>(input: &mut BufReader<R>, line: &mut Vec<u8>) -> Result<bool, Fault>
     ensures { (b : List ℕ) → reader_remaining R.remaining input.old ≡ Some b →
         IfOk result (λ read. MatchBool read
@@ -64,14 +64,14 @@ pub fn read_line<R: Read>(input: &mut BufReader<R>, line: &mut Vec<u8>) -> Resul
             drop_last(line, b'\r');
             Ok(true)
         }
-        // Bytes for which memory was refused are still in the buffer.
+        // Bytes for which an allocation failed are still in the buffer.
         Err(_) if !input.buffer().is_empty() => Err(Fault::Memory),
         Err(_) => Err(Fault::Input),
     }
 }
 
-/// Puts a text behind those that wait for the output. Where too much would wait, or memory is
-/// refused for more, they are written, and it behind them.
+/// Appends a text to those that wait for the output. Where too much would wait, or an allocation
+/// for more fails, these are written, and the text after them.
 ///
 /// # Errors
 ///
@@ -89,7 +89,7 @@ pub fn put_text<W: Write>(text: &[u8], waiting: &mut Vec<u8>, output: &mut W) ->
     write_bytes(text, output)
 }
 
-/// Writes the texts that wait. Those that could not be written are given up.
+/// Writes the waiting texts. Those that could not be written are given up.
 ///
 /// # Errors
 ///
@@ -105,7 +105,7 @@ pub fn send_waiting<W: Write>(waiting: &mut Vec<u8>, output: &mut W) -> Result<(
     written
 }
 
-/// Writes bytes whole; the device is not called for none.
+/// Writes all of the bytes; where there are none, the device is not called.
 ///
 /// # Errors
 ///

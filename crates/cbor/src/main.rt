@@ -1,5 +1,6 @@
-//! `cbor` looks at CBOR (RFC 8949) on the standard input: lines of hex, an item or a sequence each, or
-//! a sequence of items as bytes (RFC 8742). `cbor --help` tells the commands, and `run` what they do.
+//! `cbor` looks at CBOR (RFC 8949) on the standard input: lines of hex, an item or a sequence each,
+//! or a sequence of items as bytes (RFC 8742). `cbor --help` lists the commands, and `run` says
+//! what they do.
 #![tactic(auto)]
 
 mod answer;

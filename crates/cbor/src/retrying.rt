@@ -4,7 +4,7 @@ ghost use Rattle.std.specs.Prelude.{◌≡◌};
 
 use std::io::{self, ErrorKind, Read};
 
-/// A reader that asks its device again where that was interrupted.
+/// A reader that asks its device again where it was interrupted.
 #[derive(Drop)]
 pub struct Retrying<R> {
     device: R,

@@ -1,11 +1,11 @@
-//! The rooms of a line.
+//! The buffers for a line.
 
 ghost use Rattle.std.specs.Prelude.{◌≡◌, []};
 
 use std::alloc::Global;
 
-/// The rooms of a line. They are made once and lent to each line, so that they grow to the longest
-/// one and take memory no more.
+/// The buffers for a line. They are made once and used again for each line, so that they grow to
+/// the longest line and then take no more memory.
 #[derive(Drop)]
 pub struct Rooms {
     /// The bytes of the line, and then the encoding of its item.
@@ -17,7 +17,7 @@ pub struct Rooms {
 }
 
 impl Rooms {
-    /// Empty rooms, which take no memory.
+    /// Empty buffers, which take no memory.
     pub fn new(alloc: Global) -> Rooms {
         Rooms {
             bytes: Vec::new(alloc),

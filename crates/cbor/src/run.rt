@@ -37,31 +37,31 @@ usage: cbor read [--det [--core]] [limit] | cbor canon [--core] [limit] | cbor d
 /// exit status.
 ///
 /// `read` answers each line of hex of the input by a line on the output, within 256 levels, and
-/// `read LIMIT` within that many; a line whose answer is refused memory is answered `memory`.
-/// `read --det`, and a limit behind it, accept deterministic encodings alone, the keys of each map
-/// in the canonical order (RFC 8949, section 4.2.3: length-first). `seq` answers each line as a
-/// sequence of items (RFC 8742), each within 256 levels. `canon`, and a limit behind it, answers
-/// each line as `read` does, but with the deterministic encoding of its item, however the line
-/// spells it, the keys of each map in the canonical order; an item that has none is answered
-/// `duplicate` or `toolarge`. `diag`, and a limit behind it, answers each item with its diagnostic
-/// notation (RFC 8949, section 8), and `--indent` right behind it lays that out over lines. `sort`
-/// reads all lines within 256 levels, and then writes the encodings of their items in lower-case
-/// hex, a line each, in the canonical order. At the first line that is no item it only writes
-/// `line`, the number of that line, counted from 1, a colon and the answer to it. `--core`, right
-/// behind `--det`, `canon` or `sort`, takes the order of the core deterministic encoding in place
-/// of the canonical one (section 4.2.1: bytewise).
+/// `read LIMIT` within that many; a line is answered `memory` where an allocation for its answer
+/// fails. `read --det`, and a limit after it, accepts deterministic encodings alone, with the keys
+/// of each map in the canonical order (RFC 8949, section 4.2.3: length-first). `seq` answers each
+/// line as a sequence of items (RFC 8742), each within 256 levels. `canon`, and a limit after it,
+/// answers each line as `read` does, but with the deterministic encoding of its item, however the
+/// line spells it, with the keys of each map in the canonical order; an item that has none is
+/// answered `duplicate` or `toolarge`. `diag`, and a limit after it, answers each item with its
+/// diagnostic notation (RFC 8949, section 8), and `--indent` right after `diag` lays that out over
+/// lines. `sort` reads all lines within 256 levels, and then writes the encodings of their items in
+/// lower-case hex, a line each, in the canonical order. At the first line that is no item it only
+/// writes `line`, the number of that line, counted from 1, a colon and the answer to it. `--core`,
+/// right after `--det`, `canon` or `sort`, takes the order of the core deterministic encoding in
+/// place of the canonical one (section 4.2.1: bytewise).
 ///
-/// `diag --binary` and `read --binary`, and a limit behind them, take the input as the items of a
+/// `diag --binary` and `read --binary`, and a limit after them, take the input as the items of a
 /// sequence in bytes. They show each as soon as it is read, by its notation or its encoding in hex,
-/// until the end or the first item that is refused: then comes `item`, its number, counted from 1,
-/// a colon and why, with the offset counted inside that item. `--help` tells the commands, and
-/// `--version` the version.
+/// until the end or the first item that is refused: for this one they write `item`, its number,
+/// counted from 1, a colon and the reason, with the offset counted inside that item. `--help` lists
+/// the commands, and `--version` prints the version.
 ///
 /// The status is 0 where every line or item is as it is asked for, and 1 where one is not. It is 2
-/// for any other words: `errors` then tells the usage, for no words at all as `--help` does, and
-/// input and output are left alone. Where the input or the output fails, or memory is refused for a
-/// line, an item of bytes or the list to sort, the run ends with status 1, and `errors` names the
-/// first such fault.
+/// for any other words: the usage is then written to `errors`, for no words at all what `--help`
+/// prints, and input and output are left alone. Where the input or the output fails, or an
+/// allocation for a line, an item of bytes or the list to sort, the run ends with status 1, and
+/// `errors` names the first such fault.
 pub fn run<R: Read, W: Write, E: Write>(
     alloc: Global,
     words: &[String],

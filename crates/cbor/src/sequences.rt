@@ -15,11 +15,12 @@ use std::alloc::{AllocError, Global};
 use std::io::Write;
 
 /// Makes `text` the answer to the bytes of a line that is read as a sequence of items in any
-/// spelling, each within 256 levels, and says whether it is one. `room` is lent for encodings.
+/// spelling, each within 256 levels, and says whether it is one. `room` is a buffer for the
+/// encodings, to be used again.
 ///
 /// # Errors
 ///
-/// `AllocError` where memory is refused.
+/// `AllocError` where an allocation fails.
 pub fn answer_items(
     alloc: Global,
     bytes: &[u8],
@@ -45,7 +46,7 @@ pub fn answer_items(
             }
         }
     }
-    // No memory holds so many items.
+    // Unreachable in practice: no memory holds so many items.
     Err(AllocError)
 }
 
@@ -61,7 +62,7 @@ fn push_item(value: &Value, room: &mut Vec<u8>, text: &mut Vec<u8>) -> Result<()
 ///
 /// # Errors
 ///
-/// `AllocError` where memory is refused, also for the item.
+/// `AllocError` where an allocation fails, or failed for the item.
 pub fn write_refused_item(
     number: u64,
     refusal: Refusal,

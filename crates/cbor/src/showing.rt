@@ -1,4 +1,4 @@
-//! Values as they are shown.
+//! How values are shown.
 
 ghost use Rattle.std.specs.Prelude.{◌≡◌, ◌++◌, OnOk};
 ghost use Rattle.ciborium_value.specs.View.{tree_of};
@@ -10,11 +10,12 @@ use ciborium_value::Value;
 use std::alloc::AllocError;
 use std::io::Write;
 
-/// Puts a value behind a text as it is shown. `room` is lent for its encoding.
+/// Appends a value to a text in the way in which it is shown. `room` is a buffer for its encoding,
+/// to be used again.
 ///
 /// # Errors
 ///
-/// `AllocError` where memory is refused.
+/// `AllocError` where an allocation fails.
 pub fn push_shown(
     value: &Value,
     showing: Showing,
@@ -30,11 +31,11 @@ pub fn push_shown(
     }
 }
 
-/// Puts the diagnostic notation of a value behind a text (RFC 8949, section 8).
+/// Appends the diagnostic notation of a value to a text (RFC 8949, section 8).
 ///
 /// # Errors
 ///
-/// `AllocError` where memory is refused.
+/// `AllocError` where an allocation fails.
 pub fn push_notation(value: &Value, layout: Layout, text: &mut Vec<u8>) -> Result<(), AllocError>
     ensures { OnOk result
         (text.new.items ≡ text.old.items ++ notation_text layout (tree_of value.now)) }

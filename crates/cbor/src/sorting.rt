@@ -1,4 +1,4 @@
-//! Lines that are sorted: every one is read before anything is written.
+//! Sorting lines: every line is read before anything is written.
 
 ghost use Rattle.std.specs.Prelude.{◌≡◌, ◌++◌, ◌≤◌, ℕ, IfOk, IsOk, IsTrue, List, OnOk, Some, []};
 ghost use Rattle.std.specs.Prelude.{IsPermutation, map, vec_len};
@@ -47,7 +47,7 @@ impl From<Fault> for Unsorted {
 ///
 /// # Errors
 ///
-/// The first fault: the input or the output fails, or memory is refused for a line or for the list.
+/// The first fault: the input, the output or an allocation for a line or for the list fails.
 pub fn sort_lines<R: Read, W: Write>(
     alloc: Global,
     input: &mut R,
@@ -73,15 +73,15 @@ pub fn sort_lines<R: Read, W: Write>(
     }
 }
 
-/// The values given, each as often as given, in this order of their encodings. `LengthFirst` is the
+/// The given values, each as often as given, in this order of their encodings. `LengthFirst` is the
 /// canonical order, that of `cmp_value`; `Bytewise` is that of `cmp_bytewise`. They are moved and
 /// never copied, by O(n log n) comparisons. Length-first, more than 20 are each measured once.
 ///
 /// # Errors
 ///
-/// `AllocError` where memory is refused to move more than 20 values through: bytewise room for as
-/// many again, and length-first for as many with their sizes and for as many of those again. The
-/// values are then given up.
+/// `AllocError` where an allocation fails. Only more than 20 values need memory: bytewise room for
+/// as many values again, and length-first for as many with their sizes and for as many of those
+/// again. At the error the values are given up.
 pub fn sort_values(
     alloc: Global,
     mut values: Vec<Value>,
@@ -197,7 +197,7 @@ fn put_values<W: Write>(
     Ok(())
 }
 
-// Writes which line is no item, and why. It takes no memory, since that may be what was refused.
+// Writes which line is no item, and why. It takes no memory, since an allocation may have failed.
 fn write_refusal<W: Write>(number: u64, refusal: Refusal, output: &mut W) -> Result<(), Fault> {
     if writeln!(output, "line {number}: {refusal}").is_err() {
         return Err(Fault::Output);

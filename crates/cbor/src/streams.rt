@@ -25,14 +25,14 @@ use std::io::{self, BufRead, BufReader, ErrorKind, Read, Write};
 
 /// Shows each item of the input, which is a sequence as bytes, by a line on the output, as soon as
 /// it is read, and says whether all of the input is a sequence of items in any spelling, each
-/// within this many levels. Of the first item that is refused the line says its number, counted
-/// from 1, and why it is, with the offset counted inside that item; `io` is one that the end of
-/// the input cuts short. No item behind it is read. The output is flushed behind each line, and no
-/// item is held longer.
+/// within this many levels. For the first item that is refused the line gives its number, counted
+/// from 1, and the reason, with the offset counted inside that item; the reason is `io` where the
+/// end of the input cuts the item short. No item after it is read. The output is flushed after each
+/// line, and no item is held longer.
 ///
 /// # Errors
 ///
-/// The first fault: the input or the output fails, or memory is refused for an item.
+/// The first fault: the input, the output or an allocation for an item fails.
 pub fn show_items<R: Read, W: Write>(
     alloc: Global,
     input: &mut R,
@@ -75,7 +75,7 @@ fn show_stream<R: Read, W: Write>(
             }
         }
     }
-    // No device gives so many items.
+    // Unreachable in practice: no device gives so many items.
     Err(Fault::Input)
 }
 
@@ -124,7 +124,8 @@ fn is_cut_short<R: Read>(error: &Error<io::Error>, reader: &mut BufReader<R>) ->
     }
 }
 
-// Writes the line of an item. `room` and `line` are lent for its encoding and for the line.
+// Writes the line of an item. `room` and `line` are buffers for its encoding and for the line, to
+// be used again.
 fn show_item<W: Write>(
     value: &Value,
     showing: Showing,
@@ -140,7 +141,7 @@ fn show_item<W: Write>(
     write_line(line, output)
 }
 
-// Writes the line of an item that is refused. `line` is lent for it.
+// Writes the line of an item that is refused. `line` is a buffer for it, to be used again.
 fn show_refused<W: Write>(
     number: u64,
     refusal: Refusal,

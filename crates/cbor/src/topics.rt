@@ -1,4 +1,4 @@
-//! What the program tells of itself.
+//! What the program prints about itself.
 
 ghost use Rattle.std.specs.Prelude.{◌≡◌};
 ghost use Rattle.cbor.specs.Topics.{topic_text};
@@ -25,7 +25,7 @@ At most 256 levels are nested, or as many as the limit says. Status 1: something
 /// The version.
 pub const VERSION: &str = "cbor 0.3.0\n";
 
-/// What is told of a topic.
+/// What is printed about a topic.
 pub fn topic_text(topic: Topic) -> &'static str
     ensures { result.now ≡ topic_text topic }
 {

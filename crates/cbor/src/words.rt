@@ -1,4 +1,4 @@
-//! Which words are right, and what they ask for.
+//! Which words the program accepts as its arguments, and what they ask for.
 
 ghost use Rattle.std.specs.Prelude.{◌≡◌, ◌≢◌, ℕ, IsSome, MatchOption, codes, map, string_bytes};
 ghost use Rattle.std.specs.Bool.{MatchBool};
@@ -13,7 +13,7 @@ use crate::reading::{Layout, Reading, Showing, Spelling};
 use ciborium::de::RECURSION_LIMIT;
 use ciborium_value::KeyOrder::{Bytewise, LengthFirst};
 
-/// What the words ask for, or none where they are wrong.
+/// What the words ask for, or `None` where they are wrong.
 pub fn judge_words(words: &[String]) -> Option<Command>
     ensures { MatchOption result (AreWrong (map string_bytes words.now))
         (λ command. AskFor (map string_bytes words.now) command) }

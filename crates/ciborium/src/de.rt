@@ -32,7 +32,7 @@ use std::io::{self, Read};
 /// The levels within which a value is read where no limit is named.
 pub const RECURSION_LIMIT: usize = 256;
 
-// The size of the scratch where none is lent.
+// The size of the scratch where none is passed.
 const SCRATCH_SIZE: usize = 1024;
 
 // Reads one value from a source, and puts the reader's error back.
@@ -63,7 +63,7 @@ fn read<T: Deserialize, R: Read>(
     ensures refused { RefusesTaken 0 (Some limit) T.reading.taken (R.remaining reader.old)
         (read_as T.reading.content result) }
     ensures memory { IfErr result (λ e. IsGranted (cause_of e) T.reading.takes_memory) }
-    // Refused or not, a beginning of what was there was taken, and nothing else.
+    // Refused or not, a prefix of what was there was taken, and nothing else.
     ensures taken { TakesBeginning (R.remaining reader.old) (R.remaining reader.new) }
     // Where reading is one call of `value`, whatever the bytes.
     ensures value { IfSome T.reading.whole (λ tree. ReadsWhole any (R.remaining reader.old) limit
@@ -79,24 +79,24 @@ fn read<T: Deserialize, R: Read>(
     read_from(alloc, &mut source)
 }
 
-/// Reads one value of any type that is `Deserialize`: just the bytes of the item at the front, of
-/// any width and form, open ones too (RFC 8949, section 3). What an item gives is the type's to
-/// say; it is the same from bytes and from a tree. As a `Value`: integers, texts, byte strings,
-/// booleans, null and undefined (both are `Null`), arrays, maps with every pair in order, and
-/// tags; tag 2 or 3 over a definite byte string of at most 16 bytes is an integer where it is one
-/// (section 3.4.3). Arrays, maps and tags nest within 256 levels.
+/// Reads one value of any type that implements `Deserialize`: just the bytes of the item at the
+/// front, in any well-formed encoding, indefinite lengths included (RFC 8949, section 3). The type
+/// says what an item gives; it is the same from bytes and from a tree. A `Value` is read from
+/// integers, texts, byte strings, booleans, null and undefined (both are `Null`), arrays, maps with
+/// every pair in order, and tags; tag 2 or 3 over a definite byte string of at most 16 bytes is an
+/// integer where that is in range (section 3.4.3). Arrays, maps and tags nest within 256 levels.
 ///
 /// # Errors
 ///
 /// `Io` where the reader ends or fails inside the item; `Syntax` with the offset of a head or text
-/// that is not well-formed; `Semantic` with why the item is not one of the type, and the offset of
-/// the head that was looked at, behind skipped tags, where a call of the source refused it (in a
-/// `Value` a float, a simple value that is not assigned, a break out of place, a bignum that no
-/// `i128` holds); `RecursionLimitExceeded` where an array, map or tag stands where no level is
-/// left; `TooLong` where the item would pass the greatest offset; `Memory` where a growth was
-/// refused. Bytes from the front on have then been taken from the reader: those that were looked
-/// at, and behind them up to 256, one at most for each part that was left of an array or map whose
-/// length was announced.
+/// that is not well-formed; `Semantic` with the reason why the item is not one of the type, and,
+/// where a call of the source refused it, the offset of the head that it looked at, after skipped
+/// tags (in a `Value` a float, a simple value that is not assigned, a break out of place, a bignum
+/// that no `i128` holds); `RecursionLimitExceeded` where an array, map or tag stands where no level
+/// is left; `TooLong` where the item would pass the greatest offset; `Memory` where an allocation
+/// failed. A prefix of the bytes has then been taken from the reader: those that were looked at,
+/// and up to 256 after them, at most one for each part that was left of arrays and maps of
+/// announced length.
 pub fn from_reader<T: Deserialize, R: Read>(
     alloc: Global,
     reader: &mut R,
@@ -108,7 +108,7 @@ pub fn from_reader<T: Deserialize, R: Read>(
     ensures refused { RefusesTaken 0 (Some 256) T.reading.taken (R.remaining reader.old)
         (read_as T.reading.content result) }
     ensures memory { IfErr result (λ e. IsGranted (cause_of e) T.reading.takes_memory) }
-    // Refused or not, a beginning of what was there was taken, and nothing else.
+    // Refused or not, a prefix of what was there was taken, and nothing else.
     ensures taken { TakesBeginning (R.remaining reader.old) (R.remaining reader.new) }
     // Where reading is one call of `value`, whatever the bytes.
     ensures value { IfSome T.reading.whole (λ tree. ReadsWhole any (R.remaining reader.old) 256
@@ -118,8 +118,8 @@ pub fn from_reader<T: Deserialize, R: Read>(
     read(alloc, reader, &mut scratch, RECURSION_LIMIT)
 }
 
-/// Reads one value as `from_reader` does, with a scratch for strings of the caller's. Any length
-/// will do, the empty one too; no answer depends on it.
+/// Reads one value as `from_reader` does, with a scratch of the caller's for strings. It may have
+/// any length, even 0: no result depends on it.
 pub fn from_reader_with_buffer<T: Deserialize, R: Read>(
     alloc: Global,
     reader: &mut R,
@@ -132,7 +132,7 @@ pub fn from_reader_with_buffer<T: Deserialize, R: Read>(
     ensures refused { RefusesTaken 0 (Some 256) T.reading.taken (R.remaining reader.old)
         (read_as T.reading.content result) }
     ensures memory { IfErr result (λ e. IsGranted (cause_of e) T.reading.takes_memory) }
-    // Refused or not, a beginning of what was there was taken, and nothing else.
+    // Refused or not, a prefix of what was there was taken, and nothing else.
     ensures taken { TakesBeginning (R.remaining reader.old) (R.remaining reader.new) }
     // Where reading is one call of `value`, whatever the bytes.
     ensures value { IfSome T.reading.whole (λ tree. ReadsWhole any (R.remaining reader.old) 256
@@ -142,10 +142,10 @@ pub fn from_reader_with_buffer<T: Deserialize, R: Read>(
 }
 
 /// Reads one value as `from_reader` does, within this many levels. At limit 0 no array, map or tag
-/// is read as a `Value`, save a tag that is an integer.
+/// is read as a `Value`, except a tag that is an integer.
 ///
-/// Reading a `Value` takes no stack for a level. But writing, cloning, comparing and dropping a
-/// value go as deep as it nests, so choose a limit that the stack of the caller can bear.
+/// Reading a `Value` takes no stack for nested levels. But writing, cloning, comparing and dropping
+/// a value recurse as deep as it nests, so choose a limit for which the caller's stack suffices.
 pub fn from_reader_with_recursion_limit<T: Deserialize, R: Read>(
     alloc: Global,
     reader: &mut R,
@@ -158,7 +158,7 @@ pub fn from_reader_with_recursion_limit<T: Deserialize, R: Read>(
     ensures refused { RefusesTaken 0 (Some limit) T.reading.taken (R.remaining reader.old)
         (read_as T.reading.content result) }
     ensures memory { IfErr result (λ e. IsGranted (cause_of e) T.reading.takes_memory) }
-    // Refused or not, a beginning of what was there was taken, and nothing else.
+    // Refused or not, a prefix of what was there was taken, and nothing else.
     ensures taken { TakesBeginning (R.remaining reader.old) (R.remaining reader.new) }
     // Where reading is one call of `value`, whatever the bytes.
     ensures value { IfSome T.reading.whole (λ tree. ReadsWhole any (R.remaining reader.old) limit
@@ -168,8 +168,8 @@ pub fn from_reader_with_recursion_limit<T: Deserialize, R: Read>(
     read(alloc, reader, &mut scratch, limit)
 }
 
-/// Reads one value as `from_reader_with_recursion_limit` does, where the bytes before it count too:
-/// offsets of refusals count from the beginning of a file or stream in which `offset` bytes stand
+/// Reads one value as `from_reader_with_recursion_limit` does, but counts the bytes before it too:
+/// offsets in errors count from the beginning of a file or stream in which `offset` bytes stand
 /// before the item, and an item that would pass the greatest offset is `TooLong`.
 ///
 /// # Errors
@@ -188,7 +188,7 @@ pub fn from_reader_at<T: Deserialize, R: Read>(
     ensures refused { RefusesTaken offset (Some limit) T.reading.taken (R.remaining reader.old)
         (read_as T.reading.content result) }
     ensures memory { IfErr result (λ e. IsGranted (cause_of e) T.reading.takes_memory) }
-    // Refused or not, a beginning of what was there was taken, and nothing else.
+    // Refused or not, a prefix of what was there was taken, and nothing else.
     ensures taken { TakesBeginning (R.remaining reader.old) (R.remaining reader.new) }
     // Where reading is one call of `value`, whatever the bytes.
     ensures value { IfSome T.reading.whole (λ tree. TakesBytesFrom any offset
@@ -227,15 +227,15 @@ fn read_item<T: Deserialize, R: Read>(
 }
 
 /// Reads the next item of a CBOR sequence (RFC 8742, section 2) as `from_reader` reads a value, or
-/// answers `None` where the sequence ends: exactly where the first read gives nothing. So a program
-/// that reads item after item from a file or a socket tells the end, `None`, from a sequence that
-/// is cut short within an item, `Io`. Offsets count from the first byte that the call reads.
+/// returns `None` where the sequence ends: exactly where the first read gives nothing. So a program
+/// that reads item after item from a file or a socket can tell the end, `None`, from a sequence
+/// that is cut short within an item, `Io`. Offsets count from the first byte that the call reads.
 ///
 /// # Errors
 ///
-/// Those of `from_reader`; a fault of the first read is `Io`, and so is an item that is cut short,
-/// of kind `UnexpectedEof`. Bytes from the front on have then been taken from the reader, as in
-/// `from_reader`, and none where the first read failed.
+/// Those of `from_reader`; a failure of the first read is `Io`, and so is an item that is cut
+/// short, of kind `UnexpectedEof`. A prefix of the bytes has then been taken from the reader, as in
+/// `from_reader`, and no byte where the first read failed.
 pub fn from_reader_next<T: Deserialize, R: Read>(
     alloc: Global,
     reader: &mut R,
@@ -249,7 +249,7 @@ pub fn from_reader_next<T: Deserialize, R: Read>(
     ensures refused { Otherwise result (λ r. RefusesTaken 0 (Some 256) T.reading.taken
         (R.remaining reader.old) (read_as T.reading.content r)) }
     ensures memory { IfErr result (λ e. IsGranted (cause_of e) T.reading.takes_memory) }
-    // Refused or not, a beginning of what was there was taken, and nothing else.
+    // Refused or not, a prefix of what was there was taken, and nothing else.
     ensures taken { TakesBeginning (R.remaining reader.old) (R.remaining reader.new) }
     // Where reading is one call of `value`, whatever the bytes.
     ensures value { Otherwise result (λ r. IfSome T.reading.whole (λ tree.
@@ -263,7 +263,7 @@ pub fn from_reader_next<T: Deserialize, R: Read>(
 ///
 /// # Errors
 ///
-/// Those of `from_reader_next`, with `RecursionLimitExceeded` by this limit.
+/// Those of `from_reader_next`, with `RecursionLimitExceeded` for this limit.
 pub fn from_reader_next_with_recursion_limit<T: Deserialize, R: Read>(
     alloc: Global,
     reader: &mut R,

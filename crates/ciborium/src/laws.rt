@@ -40,11 +40,10 @@ pub use ciborium_value::{FormReadsBack, NeverBytes, NeverNull, ReadsBack, Writes
 use ciborium_value::{Deserialize, KeyOrder, Serialize, Value};
 use std::collections::BTreeMap;
 
-/// Whatever meets the clauses of the reading calls is one answer for the same bytes and limit: the
-/// same tree with the same bytes left, or the same refusal, unless the reader failed or memory was
-/// refused. At the reader's end `Io` is a refusal like the others, and no failure. So no answer
-/// depends on the scratch, on the pieces in which the reader gives its bytes, or on which of the
-/// calls was made.
+/// The clauses of the reading calls leave one answer for the same bytes and limit: the same tree
+/// with the same bytes left, or the same refusal, unless the reader or an allocation failed. At
+/// the reader's end `Io` is a refusal like the others, and no failure. So no answer depends on the
+/// scratch, on the pieces in which the reader gives its bytes, or on which of the calls was made.
 pub fn one_answer()
     ensures { OneAnswer }
 {}
@@ -81,9 +80,9 @@ pub fn bytewise_keys_rise<V: Serialize>(map: &BTreeMap<BytewiseValue, V>) -> usi
     map.len()
 }
 
-/// A store by `CanonicalValue` is written deterministically (RFC 8949, section 4.2), wherever it is
-/// written at all, if each of its keys and values is so: it names the item of its tree, which has
-/// the one accepted spelling. The call counts the entries, which takes no memory.
+/// A map that is keyed by `CanonicalValue` is written deterministically (RFC 8949, section 4.2),
+/// wherever it is written at all, if each of its keys and values is: it names the item of its tree,
+/// whose encoding is the one accepted spelling. The call counts the entries, which takes no memory.
 pub fn store_is_deterministic(store: &BTreeMap<CanonicalValue, Value>) -> usize
     ensures accepted { IsNamedWritten (container_of dictionary
         (in_turn named_value named_value store.now.entries)) →
@@ -96,19 +95,20 @@ pub fn store_is_deterministic(store: &BTreeMap<CanonicalValue, Value>) -> usize
 
 /// What is saved is loaded: where a value names the item of a tree that has an accepted spelling,
 /// the deterministic reader takes just its bytes, whatever follows them, and `deserialized` makes
-/// its content of what is answered, unless the reader failed or memory was refused (RFC 8949,
-/// section 4.2). It rests on the law that the type has (`ReadsBack`).
+/// the value's content from the result, unless the reader or an allocation failed (RFC 8949,
+/// section 4.2). It rests on the type's own law (`ReadsBack`).
 pub fn loaded_as_saved<T: ReadsBack>()
     ensures loaded { LoadedAsSaved T.is_held T.written T.reading }
-    // The same of what was answered, as a caller has it behind its calls.
+    // The same of what was returned, as a caller has it after its calls.
     ensures loading_gives { LoadingGivesContent T.is_held T.written T.reading }
 {}
 
-/// The same of one value that was saved and loaded: where `bytes` are what `into_writer` put out of
+/// The same for one value that was saved and loaded. Where `bytes` are what `into_writer` wrote of
 /// `value`, `tree` was read at their front by `from_reader_deterministic` within `limit` levels,
-/// with `rest` behind it, and `again` is what `deserialized` made of `tree`, the contents are
-/// equal. That the bytes are deterministic (RFC 8949, section 4.2) is no premise, since that reader
-/// took them. A caller that saves and loads calls it behind its calls, and needs no proof file.
+/// with `rest` after it, and `again` is what `deserialized` made of `tree`, the contents of `value`
+/// and `again` are equal. That the bytes are deterministic (RFC 8949, section 4.2) is no premise,
+/// since that reader took them. A caller that saves and loads calls this after its other calls, and
+/// needs no proof file.
 pub fn is_loaded<T: ReadsBack>(
     value: &T,
     tree: &Value,
@@ -126,17 +126,17 @@ pub fn is_loaded<T: ReadsBack>(
 
 /// What is written in its deterministic form is read back: where a program can hold a tree that has
 /// a form by an order of keys, the deterministic reader of that order takes the encoding of the
-/// form, whatever follows it, and answers just the form, where as many levels are left as it takes,
-/// unless the reader failed or memory was refused (RFC 8949, section 4.2).
+/// form, whatever follows it, and returns just the form, where as many levels are left as it takes,
+/// unless the reader or an allocation failed (RFC 8949, section 4.2).
 pub fn form_is_read_back()
     ensures { FormIsReadBack }
 {}
 
-/// The same of one value that was written and read: where `bytes` are what
-/// `into_writer_deterministic` put out of `value` in this order, into an empty list, and `tree` was
+/// The same for one value that was written and read. Where `bytes` are what
+/// `into_writer_deterministic` wrote of `value` in this order, into an empty list, and `tree` was
 /// read at their front by `from_reader_deterministic_with_order` in the same order, with `rest`
-/// behind it, `tree` is the deterministic form of what the value names. A caller that writes and
-/// reads calls it behind its calls, and needs no proof file.
+/// after it, `tree` is the deterministic form of what the value names. A caller that writes and
+/// reads calls this after its other calls, and needs no proof file.
 pub fn is_form_read_back<T: Serialize>(
     value: &T,
     tree: &Value,
@@ -148,12 +148,12 @@ pub fn is_form_read_back<T: Serialize>(
     ensures { IsFormReadBack order (T.written value.now) limit tree.now bytes.now rest.now }
 {}
 
-/// The same as the type of the value: where `bytes` are what `into_writer_deterministic` put out of
-/// `value` in this order, into an empty list, and `again` was read at their front by `from_reader`
-/// within `limit` levels, with `rest` behind it, the contents are equal. That is promised where
-/// reading takes from the form what it takes from the tree that the value names, whatever the order
-/// of the pairs, and so where that tree is its own form. It rests on the law that the type has
-/// (`ReadsBack`).
+/// The same where the form is read as the type of the value. Where `bytes` are what
+/// `into_writer_deterministic` wrote of `value` in this order, into an empty list, and `again` was
+/// read at their front by `from_reader` within `limit` levels, with `rest` after it, the contents
+/// of `value` and `again` are equal. That is promised where reading takes from the form what it
+/// takes from the tree that the value names, whatever the order of the pairs, and so where that
+/// tree is its own form. It rests on the type's own law (`ReadsBack`).
 pub fn written_deterministically_is_read_back<T: ReadsBack>(
     value: &T,
     again: &T,
@@ -168,12 +168,12 @@ pub fn written_deterministically_is_read_back<T: ReadsBack>(
         value.now again.now bytes.now rest.now }
 {}
 
-/// The same of a type to which neither the order of pairs nor the folding of bignums makes a
-/// difference: where `bytes` are what `into_writer_deterministic` put out of `value` in this order,
+/// The same for a type to which neither the order of pairs nor the folding of bignums makes a
+/// difference. Where `bytes` are what `into_writer_deterministic` wrote of `value` in this order,
 /// into an empty list, and `again` was read at their front by `from_reader` within `limit` levels,
-/// with `rest` behind it, the contents are equal. Nothing is asked of what the value names: it
-/// rests on the law that the type has (`FormReadsBack`). A caller that writes and reads calls it
-/// behind its calls, and needs no proof file.
+/// with `rest` after it, the contents of `value` and `again` are equal. Nothing is asked of what
+/// the value names: it rests on the type's own law (`FormReadsBack`). A caller that writes and
+/// reads calls this after its other calls, and needs no proof file.
 pub fn form_gives_content<T: FormReadsBack>(
     value: &T,
     again: &T,
@@ -188,7 +188,7 @@ pub fn form_gives_content<T: FormReadsBack>(
 
 /// The order of `CanonicalValue`, which `<`, `max` and the library's sorts take from its `Ord`, is
 /// the canonical one for any two values that a program holds (RFC 8949, section 4.2.3). It is
-/// total, and of such values it ties equal ones alone.
+/// total, and only equal ones of such values compare as equal.
 pub fn order_of_canonical_values()
     ensures canonical { IsCanonical }
     ensures total { IsTotal }
@@ -196,7 +196,7 @@ pub fn order_of_canonical_values()
 {}
 
 /// The order of `BytewiseValue` is the bytewise one for any two values that a program holds (RFC
-/// 8949, section 4.2.1). It is total, and of such values it ties equal ones alone.
+/// 8949, section 4.2.1). It is total, and only equal ones of such values compare as equal.
 pub fn order_of_bytewise_values()
     ensures bytewise { IsBytewise }
     ensures total { IsBytewiseTotal }
@@ -204,73 +204,75 @@ pub fn order_of_bytewise_values()
 {}
 
 /// Each type is read as one function of the item: `deserialized` from a value, and `from_reader`
-/// from its encoding, give the same value or are refused with the same kind. Reading bytes may be
-/// refused for nesting, which reading a tree never is, or as too long; want of memory and faults of
-/// the reader apart. It rests on what the type's `reading` shows of itself: a limit decides nothing
-/// but nesting.
+/// from its encoding, give the same value or are refused with the same kind. Failures of
+/// allocations and of the reader apart, reading bytes may also be refused for nesting, which
+/// reading a tree never is, or as too long. It rests on what the type's `reading` proves of itself:
+/// a limit affects nothing but nesting.
 pub fn sources_agree<T: Deserialize>()
     ensures { SourcesAgree T.reading.taken }
 {}
 
-/// What is written is read back: the bytes that `into_writer` puts out of a value, whatever follows
+/// What is written is read back: the bytes that `into_writer` writes of a value, whatever follows
 /// them, give its content where as many levels are left as reading it takes, and what follows is
-/// left. Reading fails only for what no item decides: the reader, want of memory, or bytes that
-/// pass the greatest offset. What `Value::serialized` makes of a value gives its content by
-/// `deserialized`, which fails for want of memory alone. It rests on the law that the type has
-/// (`ReadsBack`).
+/// left. Reading fails only for reasons that are independent of the item: the reader or an
+/// allocation fails, or the bytes pass the greatest offset. What `Value::serialized` makes of a
+/// value gives its content by `deserialized`, which fails only where an allocation fails. It rests
+/// on the type's own law (`ReadsBack`).
 pub fn written_is_read_back<T: ReadsBack>()
     ensures bytes { BytesReadBack T.is_held T.written T.reading T.levels }
     ensures tree { TreeReadBack T.is_held T.written T.reading }
-    // The same of what was answered, as a caller has it behind its calls.
+    // The same of what was returned, as a caller has it after its calls.
     ensures tree_gives { TreeGivesContent T.is_held T.written T.reading }
 {}
 
-/// The same of one value that was written and read: where `bytes` are what `into_writer` put out of
-/// `value`, and `again` was read at their front within `limit` levels, with `rest` behind it, the
-/// contents are equal. A caller that writes and reads calls it behind its calls, and needs no proof
-/// file.
+/// The same for one value that was written and read. Where `bytes` are what `into_writer` wrote of
+/// `value`, and `again` was read at their front within `limit` levels, with `rest` after it, the
+/// contents of `value` and `again` are equal. A caller that writes and reads calls this after its
+/// other calls, and needs no proof file.
 pub fn is_read_back<T: ReadsBack>(value: &T, again: &T, limit: usize, bytes: &[u8], rest: &[u8])
     ensures { IsContentReadBack T.is_held T.written T.reading T.levels limit
         value.now again.now bytes.now rest.now }
 {}
 
-/// A sequence is read back: the bytes that `write_sequence` puts out of values give their contents,
+/// A sequence is read back: the bytes that `write_sequence` writes of values give their contents,
 /// in order and no others, where each value takes no more levels than are left, and nothing stays
-/// unread. Reading fails only for what no item decides: the reader, want of memory, or bytes that
-/// pass the greatest offset. It rests on the law that the type has (`ReadsBack`).
+/// unread. Reading fails only for reasons that are independent of the items: the reader or an
+/// allocation fails, or the bytes pass the greatest offset. It rests on the type's own law
+/// (`ReadsBack`).
 pub fn sequence_is_read_back<T: ReadsBack>()
     ensures { SequenceReadsBack T.is_held T.written T.reading T.levels }
 {}
 
-/// The same of one list that was written and read: where `bytes` are what `write_sequence` put out
-/// of `values`, and `read_sequence` answered `again` of them, with `rest` behind it, the contents
-/// are equal. A caller that writes and reads calls it behind its calls, and needs no proof file.
+/// The same for one list that was written and read. Where `bytes` are what `write_sequence` wrote
+/// of `values`, and `read_sequence` read `again` from them, with `rest` after it, the contents of
+/// `values` and `again` are equal. A caller that writes and reads calls this after its other calls,
+/// and needs no proof file.
 pub fn are_read_back<T: ReadsBack>(values: &[T], again: &Vec<T>, bytes: &[u8], rest: &[u8])
     ensures { AreContentsReadBack T.is_held T.written T.reading T.levels
         values.now again.now.items bytes.now rest.now }
 {}
 
-/// Equal contents are written as equal bytes: two values of one content name the same item, or are
-/// refused with the same kind, and `into_writer` puts out the same bytes of both. So a copy is
-/// written as its original. It rests on the law that the type has (`WritesContent`).
+/// Equal contents are written as equal bytes: two values of equal content name the same item, or
+/// are refused with the same kind, and `into_writer` writes the same bytes of both. So a copy is
+/// written as its original. It rests on the type's own law (`WritesContent`).
 pub fn equal_contents_equal_bytes<T: WritesContent>()
     ensures bytes { WriteSameBytes T.written T.reading.content }
     ensures refused { AreRefusedAlike T.written T.reading.content }
-    // The same of what was put out, as a caller has it behind its calls.
+    // The same of what was written, as a caller has it after its calls.
     ensures left { LeaveSameBytes T.written T.reading.content }
 {}
 
-/// What was read back is written again as the item that it was read from: whatever value has the
-/// content that reading the bytes or the tree of a value gives. The limit leaves as many levels as
-/// reading takes (`ReadsBack`).
+/// What was read back is written again as the item that it was read from. That is so for every
+/// value with the content that reading the bytes or the tree of a value gives, where the limit
+/// leaves as many levels as reading takes (`ReadsBack`).
 pub fn read_back_is_written_again<T: ReadsBack + WritesContent>()
     ensures bytes { BytesWrittenAgain T.is_held T.written T.reading T.levels }
     ensures tree { TreeWrittenAgain T.is_held T.written T.reading }
 {}
 
-/// In either order of keys, all bytes, at every offset and under every limit of levels, begin with
-/// bytes that are deterministic for a tree, or are refused by a deterministic reader, never both,
-/// with one refusal alone, and for one tree alone (RFC 8949, section 4.2).
+/// In either order of keys, all bytes, at every offset and under every limit of levels, either
+/// begin with the deterministic encoding of a tree, or are refused by a deterministic reader, never
+/// both, and there is one tree alone, or one refusal alone (RFC 8949, section 4.2).
 pub fn deterministic_or_refused()
     ensures one_of { DeterministicOrRefused }
     ensures never_both { NeverBothDeterministically }

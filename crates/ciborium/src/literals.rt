@@ -1,4 +1,4 @@
-//! What `cbor!` puts together: arrays and maps whose parts are each of its own type.
+//! What `cbor!` puts together: arrays and maps whose parts have a type each.
 
 ghost use Rattle.std.specs.Prelude.{◌≡◌, ℕ, ◌+◌, ◌∷◌, ◌⊎◌, [], IfErr, IfOk, List, OnErr, OnOk};
 ghost use Rattle.std.specs.Prelude.{length};
@@ -13,25 +13,25 @@ use crate::ser::{Fields, Serialize, Sink};
 use crate::value::{Error, Kind, Value};
 use std::alloc::Global;
 
-/// An item and the items behind it.
+/// An item and the items after it.
 #[derive(Drop)]
 pub struct Item<V, R>(pub V, pub R);
 
-/// No item more.
+/// The end of the items.
 #[derive(Drop)]
 pub struct NoItem;
 
-/// A key with its value, and the pairs behind it.
+/// A key with its value, and the pairs after it.
 #[derive(Drop)]
 pub struct Pair<K, V, R>(pub K, pub V, pub R);
 
-/// A definite array of the items (RFC 8949, section 3.1). More than a `usize` counts, which no
-/// program has, are refused as `Kind::Other`.
+/// A definite array of the items (RFC 8949, section 3.1). More than a `usize` counts, which is
+/// unreachable in practice, are refused as `Kind::Other`.
 #[derive(Drop)]
 pub struct Array<R>(pub R);
 
-/// A definite map of the pairs, in their order (section 3.1). More than a `usize` counts, which no
-/// program has, are refused as `Kind::Other`.
+/// A definite map of the pairs, in their order (section 3.1). More than a `usize` counts, which is
+/// unreachable in practice, are refused as `Kind::Other`.
 #[derive(Drop)]
 pub struct Map<R>(pub R);
 
@@ -46,12 +46,12 @@ pub trait Items {
     // Whether writing takes memory.
     ghost takes_memory: { Type 0 };
 
-    /// How many items there are, where a `usize` holds it.
+    /// How many items there are, or `None` where a `usize` does not hold it.
     fn count(&self) -> Option<usize>
         ensures count { result ≡ field_count (number self.now) }
         ensures each { length (parts self.now) ≡ number self.now };
 
-    /// Adds each item to an array that was begun.
+    /// Adds each item to an array that has been begun.
     fn write_items<S: Sink>(&self, sink: &mut S) -> Result<(), S::Error>
         requires { CanTakeItems S.stands_at sink.old (parts self.now) }
         ensures ok { OnOk result (TakesItems S.stands_at sink.old sink.new (parts self.now)) }
@@ -153,7 +153,7 @@ impl<R: Fields> Serialize for Map<R> {
 ///
 /// # Errors
 ///
-/// `Custom` with the kind of the first part that has no item; `Memory` where a growth was refused.
+/// `Custom` with the kind of the first part that has no item; `Memory` where an allocation failed.
 pub fn map_of_two<K: Serialize, V: Serialize, L: Serialize, W: Serialize>(
     alloc: Global,
     key: &K,

@@ -1,22 +1,23 @@
 //! Trees as literals.
 
-/// The tree that is written out: `null`, `[item, ..]`, `{key => value, ..}`, or any expression of a
-/// type that implements `Serialize`; keys, values and items are such trees too. Behind the last
-/// item or pair a comma may stand.
+/// The tree of a literal: `null`, `[item, ..]`, `{key => value, ..}`, or any expression of a type
+/// that implements `Serialize`; keys, values and items are such trees too. A comma may follow the
+/// last item or pair.
 ///
 ///     cbor!(alloc, {"codes" => [1, null], [-1] => {}})
 ///
-/// It answers a `Result<Value, value::Error>` and has no `?` of its own that would leave the
-/// function around it. Every expression is evaluated once, in the order of the text, and is lent;
-/// then the whole is made by `Value::serialized`. The pairs of a map keep their order, repeated
-/// keys too. An array or a block of the language is written in parentheses. Types and calls of
-/// macros nest to a bound: some sixty parts stand in a row or some thirty levels deep, fewer where
-/// both come together. A longer list is an expression, as a `Vec` or a `Value`.
+/// It gives a `Result<Value, value::Error>`, and has no `?` of its own that would leave the
+/// function around it. Every expression is evaluated once, in the order of the text, and is
+/// borrowed; then the whole is made by `Value::serialized`. The pairs of a map keep their order,
+/// and repeated keys are kept. An array or a block of the language is written in parentheses. Since
+/// types and calls of macros may only nest up to a bound, there may be some sixty parts in a row or
+/// some thirty levels, and fewer where both come together. A longer list has to be an expression,
+/// such as a `Vec` or a `Value`.
 ///
 /// # Errors
 ///
-/// `Custom` with the kind of the first expression that has no item, and `Memory` where a growth was
-/// refused.
+/// `Custom` with the kind of the first expression that has no item, and `Memory` where an
+/// allocation failed.
 #[macro_export]
 macro_rules! cbor {
     (@tree null) => { () };

@@ -19,18 +19,18 @@ mod byte_sink;
 mod deterministic;
 mod sequence;
 
-/// Why writing was refused.
+/// Why writing failed.
 ///
-/// Each has a message of one line: `the value cannot be written: two equal keys in one map`. That
-/// of `Io` is `writing failed: ` and the writer's own, and a clause knows it where it knows that
-/// one; what an `io::Error` prints it does not know.
+/// Each has a message of one line, as `the value cannot be written: two equal keys in one map`.
+/// That of `Io` is `writing failed: ` and then the message of the writer's error. A clause states
+/// it where that message is known to clauses, which that of an `io::Error` is not.
 #[derive(Debug, Drop)]
 pub enum Error<T> {
     /// The writer failed, or a write took nothing.
     Io(T),
-    /// A value to be written has no encoding.
+    /// A value to be written has no item, or no deterministic form where that is written.
     Value(Kind),
-    /// A growth of memory was refused.
+    /// An allocation failed.
     Memory,
 }
 
@@ -76,15 +76,15 @@ impl<T: fmt::Debug + fmt::Display + Drop> error::Error for Error<T> {}
 /// written in its one shortest definite encoding: definite lengths, the pairs of a map in their
 /// order, a key before its value, and a tag as it stands, a bignum too (section 3.4.3).
 ///
-/// Nothing is held back, nothing is flushed, and memory is taken only where the type says so, which
-/// none of this library does.
+/// Nothing is buffered, nothing is flushed, and memory is taken only where the type says so, which
+/// no type of this library does.
 ///
 /// # Errors
 ///
-/// `Io` is the first error of the writer, `Interrupted` too, or a `WriteZero` where a write takes
-/// nothing. `Value` is the kind that a value without an item names, and `Memory` comes only from a
-/// type that takes memory. Where there is an item, a proper beginning of its bytes has gone out,
-/// and nothing else. A `Value` has an item and takes no memory: its only error is `Io`.
+/// `Io` holds the first error of the writer, even `Interrupted`, or a `WriteZero` where a write
+/// takes nothing. `Value` holds the kind that a value without an item names, and `Memory` comes
+/// only from a type that takes memory. Where there is an item, only a strict prefix of its bytes
+/// was written. A `Value` has an item and takes no memory: its only error is `Io`.
 pub fn into_writer<T: Serialize, W: Write>(
     value: &T,
     writer: &mut W,

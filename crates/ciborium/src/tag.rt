@@ -19,7 +19,7 @@ use crate::ser::{Serialize, Sink};
 use crate::value::Kind;
 use std::alloc::Global;
 
-/// A value, and the tag around it where there is one.
+/// A value, and the tag around it if there is one.
 #[derive(Clone, Copy, Debug, Drop, PartialEq, Eq, PartialOrd, Ord, Hash)]
 pub struct Captured<V>(pub Option<u64>, pub V);
 
@@ -27,7 +27,7 @@ pub struct Captured<V>(pub Option<u64>, pub V);
 #[derive(Clone, Copy, Debug, Drop, PartialEq, Eq, PartialOrd, Ord, Hash)]
 pub struct Required<V, const TAG: u64>(pub V);
 
-/// A value that is written with this tag around it, and that may stand without it.
+/// A value that is written with this tag around it, and that is also read without it.
 #[derive(Clone, Copy, Debug, Drop, PartialEq, Eq, PartialOrd, Ord, Hash)]
 pub struct Accepted<V, const TAG: u64>(pub V);
 
@@ -67,7 +67,8 @@ impl<V: Serialize, const TAG: u64> Serialize for Accepted<V, TAG> {
     }
 }
 
-/// The outermost tag, that of a bignum too, and the value under it. A level is taken, tag or none.
+/// The outermost tag, even that of a bignum, and the value under it. Always uses one level, with
+/// or without a tag.
 impl<V: Deserialize> Deserialize for Captured<V> {
     ghost Content = { Option ℕ × V.Content };
 
@@ -103,8 +104,8 @@ impl<V: Deserialize, const TAG: u64> Deserialize for Required<V, TAG> {
     }
 }
 
-/// The value under the tag or under none, as `Captured` reads it; under another tag it is refused
-/// as `Tag`.
+/// The value under the tag or without a tag, as `Captured` reads it; under another tag it is
+/// refused as `Tag`.
 impl<V: Deserialize, const TAG: u64> Deserialize for Accepted<V, TAG> {
     ghost Content = { V.Content };
 
@@ -137,8 +138,8 @@ impl<V: Key, const TAG: u64> Key for Accepted<V, TAG> {
     ghost orders = { λ a b. V.orders a.0 b.0 };
 }
 
-/// Held are values without a tag around them only where what they are written as has none of its
-/// own, as a bignum has. A level is taken, tag or none.
+/// A value without a tag around it is read back only where the item that is written for it has no
+/// tag of its own, as a bignum has. Always uses one level, with or without a tag.
 impl<V: ReadsBack> ReadsBack for Captured<V> {
     ghost is_held = { λ c. IsToldApart c.0 (V.written c.1) × V.is_held c.1 };
 
@@ -147,7 +148,7 @@ impl<V: ReadsBack> ReadsBack for Captured<V> {
     ghost reads_back = { λ c held. captured-back c.0 held.0 (V.reads_back c.1 held.1) };
 }
 
-/// The tag takes a level.
+/// The tag always uses one level.
 impl<V: ReadsBack, const TAG: u64> ReadsBack for Required<V, TAG> {
     ghost is_held = { λ r. V.is_held r.0 };
 
@@ -156,7 +157,7 @@ impl<V: ReadsBack, const TAG: u64> ReadsBack for Required<V, TAG> {
     ghost reads_back = { λ r held. required-back TAG (V.reads_back r.0 held) };
 }
 
-/// The tag takes a level.
+/// The tag always uses one level.
 impl<V: ReadsBack, const TAG: u64> ReadsBack for Accepted<V, TAG> {
     ghost is_held = { λ a. V.is_held a.0 };
 
@@ -165,19 +166,19 @@ impl<V: ReadsBack, const TAG: u64> ReadsBack for Accepted<V, TAG> {
     ghost reads_back = { λ a held. accepted-back TAG (V.reads_back a.0 held) };
 }
 
-/// Where no tag makes a bignum of what is written under it.
+/// For a content that no tag makes a bignum of.
 impl<V: FormReadsBack + NeverBytes> FormReadsBack for Captured<V> {
     ghost form_reads_back = { λ o c held. captured-form o
         c.0 held.0 (V.never_bytes c.1) (V.form_reads_back o c.1 held.1) };
 }
 
-/// Where no tag makes a bignum of what is written under it.
+/// For a content that no tag makes a bignum of.
 impl<V: FormReadsBack + NeverBytes, const TAG: u64> FormReadsBack for Required<V, TAG> {
     ghost form_reads_back = { λ o r held. required-form o
         TAG (V.never_bytes r.0) (V.form_reads_back o r.0 held) };
 }
 
-/// Where no tag makes a bignum of what is written under it.
+/// For a content that no tag makes a bignum of.
 impl<V: FormReadsBack + NeverBytes, const TAG: u64> FormReadsBack for Accepted<V, TAG> {
     ghost form_reads_back = { λ o a held. accepted-form o
         TAG (V.never_bytes a.0) (V.form_reads_back o a.0 held) };

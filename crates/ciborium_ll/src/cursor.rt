@@ -63,8 +63,8 @@ impl<'c, R: Read, K: Keep> Cursor<'c, R, K> {
         }
     }
 
-    // Fills the buffer, which does not pass the greatest offset. A read of nothing or a fault of the
-    // device ends it.
+    // Fills the buffer, which does not pass the greatest offset. A read of nothing or a failure of
+    // the device ends it.
     #[inline(always)]
     fn fill_within(&mut self, buffer: &mut [u8]) -> Result<(), Error<K::Kept>>
         requires { count_at self.old + length buffer.old ≤ usize.MAX }

@@ -8,12 +8,12 @@ use crate::window::Window;
 use std::io::{self, Read};
 use std::mem;
 
-/// Reads heads and payloads from a reader that it is lent, and counts the bytes that it takes.
+/// Reads heads and payloads from a borrowed reader, and counts the bytes that it takes.
 ///
-/// The reader is called only where a byte is needed that is not held, and then once: for what is
-/// needed, or for the bytes that `allow` said are due, whichever is more. No byte is read whose
-/// offset would pass `usize::MAX`. After a refusal a beginning of what was to be read has been taken
-/// from the reader. Bytes that were read ahead and never taken are lost to the lender.
+/// The reader is called only where a byte is needed that was not read ahead, and then once: for
+/// what is needed, or for the bytes that `allow` announced, whichever is more. No byte is read
+/// whose offset would pass `usize::MAX`. After an error a prefix of what was to be read has been
+/// taken from the reader. Bytes that were read ahead and never taken are lost to its owner.
 #[derive(Drop)]
 pub struct Decoder<'a, R> {
     reader: &'a mut R,
@@ -47,7 +47,7 @@ impl<'a, R: Read> Decoder<'a, R> {
         Decoder::at(reader, 0)
     }
 
-    /// A decoder whose offsets begin at the given one.
+    /// A decoder whose offsets begin at the given offset.
     pub fn at(reader: &'a mut R, offset: usize) -> Decoder<'a, R>
         ensures same_reader { result.reader.ghost_name ≡ reader.entry.ghost_name }
         ensures begins { HasBegun result reader.old offset }
@@ -61,8 +61,8 @@ impl<'a, R: Read> Decoder<'a, R> {
         }
     }
 
-    /// The offset of the head that the next `pull` answers: that of the pushed head if there is
-    /// one, else the count of bytes taken, from the offset on at which the decoder began.
+    /// The offset of the head that the next `pull` returns: that of the pushed head if there is
+    /// one, else the offset at which the decoder began, plus the number of bytes taken.
     #[inline(always)]
     pub fn offset(&self) -> usize
         ensures { result ≡ offset_of self.now }
@@ -73,8 +73,8 @@ impl<'a, R: Read> Decoder<'a, R> {
         }
     }
 
-    /// How many bytes the head has that `pull` last took from the reader, and 0 before the first.
-    /// Giving a head back, and answering one that was given back, leaves it.
+    /// The length in bytes of the head that `pull` last took from the reader, and 0 before the
+    /// first. Pushing a head back, and pulling one that was pushed back, does not change it.
     #[inline(always)]
     pub fn head_len(&self) -> usize
         ensures { result ≡ head_len_of self.now }
@@ -82,7 +82,7 @@ impl<'a, R: Read> Decoder<'a, R> {
         self.head_len
     }
 
-    /// The offset of the head that `pull` answered last, and before the first the one at which the
+    /// The offset of the head that `pull` returned last; before the first, the offset at which the
     /// decoder began.
     #[inline(always)]
     pub fn last_offset(&self) -> usize
@@ -91,7 +91,7 @@ impl<'a, R: Read> Decoder<'a, R> {
         self.last
     }
 
-    /// Gives one head back, with its offset. The next `pull` answers it and reads nothing.
+    /// Pushes one head back, with its offset. The next `pull` returns it and reads nothing.
     #[inline(always)]
     pub fn push(&mut self, header: Header, offset: usize)
         requires { pushed_of self.old ≡ None }
@@ -116,8 +116,8 @@ impl<'a, R: Read> Decoder<'a, R> {
         self.pushed = None;
     }
 
-    /// Drops the head that was pushed back, if there is one, and takes the bytes that are held: so
-    /// does a caller who reads no further.
+    /// Drops the head that was pushed back, if there is one, and takes the bytes that were read
+    /// ahead. This is for a caller who reads no further.
     #[inline(always)]
     pub fn discard(&mut self)
         ensures same_reader { HasSameReader self.old self.new }
@@ -136,7 +136,7 @@ impl<'a, R: Read> Decoder<'a, R> {
     /// # Errors
     ///
     /// `Io` where the reader ends or fails inside the head; `Syntax` with the head's offset where
-    /// it is reserved; `TooLong` where the head, or the payload of a definite string that it
+    /// it is not well-formed; `TooLong` where the head, or the payload of a definite string that it
     /// announces, would pass the greatest offset.
     #[inline(always)]
     pub fn pull(&mut self) -> Result<Header, Error<io::Error>>
@@ -147,7 +147,7 @@ impl<'a, R: Read> Decoder<'a, R> {
         ensures pushed { IfSome (pushed_of self.old) (λ head.
             (result ≡ Ok head.0) × (last_of self.new ≡ head.1) × IsUnread self.old self.new) }
 
-        // Otherwise just the bytes that decide the answer are taken.
+        // Otherwise just the bytes that determine the answer are taken.
         ensures taken { IfNone (pushed_of self.old)
             (Takes R.remaining self.old self.new (λ b. IsHeadTaken b (count_of self.old) result)) }
         ensures last { IfNone (pushed_of self.old) (last_of self.new ≡ count_of self.old) }
@@ -163,7 +163,7 @@ impl<'a, R: Read> Decoder<'a, R> {
         self.pull_keeping(&mut Answered)
     }
 
-    /// What `pull` does; a reader's error goes to `keep`.
+    /// Does what `pull` does; the reader's error goes to `keep`.
     #[inline(always)]
     pub fn pull_keeping<K: Keep>(&mut self, keep: &mut K) -> Result<Header, Error<K::Kept>>
         ensures same_reader { HasSameReader self.old self.new }
@@ -173,7 +173,7 @@ impl<'a, R: Read> Decoder<'a, R> {
         ensures pushed { IfSome (pushed_of self.old) (λ head.
             (result ≡ Ok head.0) × (last_of self.new ≡ head.1) × IsUnread self.old self.new) }
 
-        // Otherwise just the bytes that decide the answer are taken.
+        // Otherwise just the bytes that determine the answer are taken.
         ensures taken { IfNone (pushed_of self.old)
             (Takes R.remaining self.old self.new (λ b. IsHeadTaken b (count_of self.old) result)) }
         ensures last { IfNone (pushed_of self.old) (last_of self.new ≡ count_of self.old) }
@@ -194,7 +194,7 @@ impl<'a, R: Read> Decoder<'a, R> {
         self.pull_next_keeping(keep)
     }
 
-    /// What `pull_keeping` does where no head was pushed back.
+    /// Does what `pull_keeping` does, where no head was pushed back.
     #[inline(always)]
     pub fn pull_next_keeping<K: Keep>(&mut self, keep: &mut K) -> Result<Header, Error<K::Kept>>
         requires { pushed_of self.old ≡ None }
@@ -226,14 +226,14 @@ impl<'a, R: Read> Decoder<'a, R> {
         pulled
     }
 
-    /// The first head of the reader, as `pull` answers it, or `None` where the reader is at its end:
-    /// there a sequence of items ends (RFC 8742, section 2). A sequence that is cut short within the
-    /// head is no end. No head was pulled or pushed before.
+    /// The first head of the reader, as `pull` returns it, or `None` where the reader is at its
+    /// end, which is where a sequence of items ends (RFC 8742, section 2). A sequence that is cut
+    /// short within the head has not ended so. No head may have been pulled or pushed before.
     ///
     /// # Errors
     ///
-    /// Those of `pull`: `Io` where a read fails, the first one too, or the reader ends inside the
-    /// head. After `None`, and after a fault of the first read, no byte has been taken.
+    /// Those of `pull`: `Io` where a read fails, even the first one, or the reader ends inside the
+    /// head. After `None`, and after a failure of the first read, no byte has been taken.
     #[inline(always)]
     pub fn pull_first(&mut self) -> Result<Option<Header>, Error<io::Error>>
         requires unpushed { pushed_of self.old ≡ None }
@@ -242,7 +242,7 @@ impl<'a, R: Read> Decoder<'a, R> {
         ensures same_reader { HasSameReader self.old self.new }
         ensures none_pushed { pushed_of self.new ≡ None }
 
-        // At the end nothing is taken, and otherwise just the bytes that decide the answer.
+        // At the end nothing is taken, and otherwise just the bytes that determine the answer.
         ensures taken { Takes R.remaining self.old self.new
             (λ b. IsFirstTaken b (count_of self.old) result) }
         ensures last { last_of self.new ≡ count_of self.old }
@@ -270,9 +270,9 @@ impl<'a, R: Read> Decoder<'a, R> {
         pulled
     }
 
-    /// Says that the caller is sure to take the next `n` bytes, those that are held included. Where a
-    /// later call needs a byte and holds none, it may read so far ahead, 256 bytes at most, in the
-    /// one read that it makes. Nothing is read here.
+    /// Announces that the caller is sure to take the next `n` bytes, including those that were read
+    /// ahead. A later call that needs a byte, where none was read ahead, may read up to that point,
+    /// 256 bytes at most, in the one read that it makes. This call reads nothing.
     #[inline(always)]
     pub fn allow(&mut self, n: usize)
         ensures name { self.new.reader.ghost_name ≡ self.old.reader.ghost_name }
@@ -297,8 +297,8 @@ impl<'a, R: Read> Decoder<'a, R> {
         self.window.reach()
     }
 
-    /// Takes back what `allow` said: no byte from this offset on may be read ahead, and those
-    /// before it may. It has no effect where a byte is held already that stands there or behind.
+    /// Takes back what `allow` announced: no byte from this offset on may be read ahead, and those
+    /// before it may. It has no effect where a byte at this offset or later was already read ahead.
     #[inline(always)]
     pub fn forbid_behind(&mut self, reach: usize)
         ensures name { self.new.reader.ghost_name ≡ self.old.reader.ghost_name }
@@ -313,7 +313,7 @@ impl<'a, R: Read> Decoder<'a, R> {
         self.window.forbid_behind(reach);
     }
 
-    /// The next byte, where it was read ahead. It is not taken.
+    /// The next byte, if it was read ahead. It is not taken.
     #[inline(always)]
     pub fn held_byte(&self) -> Option<u8>
         ensures { IfSome result (λ x. (b : List ℕ) → left_of R.remaining self.now ≡ Some b →
@@ -326,8 +326,8 @@ impl<'a, R: Read> Decoder<'a, R> {
     ///
     /// # Errors
     ///
-    /// `Io` where the reader ends or fails before; `TooLong`, with nothing read, where the bytes
-    /// would pass the greatest offset. What the buffer then holds is open.
+    /// `Io` where the reader ends or fails before that; `TooLong`, with nothing read, where the
+    /// bytes would pass the greatest offset. What the buffer then holds is unspecified.
     #[inline(always)]
     pub fn read_exact(&mut self, buffer: &mut [u8]) -> Result<(), Error<io::Error>>
         requires { pushed_of self.old ≡ None }
@@ -343,7 +343,7 @@ impl<'a, R: Read> Decoder<'a, R> {
         self.read_exact_keeping(buffer, &mut Answered)
     }
 
-    /// What `read_exact` does; a reader's error goes to `keep`.
+    /// Does what `read_exact` does; the reader's error goes to `keep`.
     #[inline(always)]
     pub fn read_exact_keeping<K: Keep>(
         &mut self,
@@ -368,16 +368,17 @@ impl<'a, R: Read> Decoder<'a, R> {
         .fill(buffer)
     }
 
-    /// Appends the payload of the byte string whose head was pulled last, with the length that the
-    /// head had: `None` is an open string, whose parts are appended up to its break. A scratch of
-    /// any length will do, the empty one too; no answer depends on it.
+    /// Appends the payload of the byte string whose head was pulled last. `len` is the length in
+    /// that head; `None` is indefinite length, where the chunks are appended up to the break. The
+    /// scratch may have any length, even 0: no result depends on it.
     ///
     /// # Errors
     ///
     /// `Io` where the reader ends or fails before the end; `Syntax` with the offset of a head that
-    /// is reserved, or in an open string neither a definite byte string's nor the break; `TooLong`
-    /// where what a head announces would pass the greatest offset; `Memory` where a growth of `out`
-    /// is refused. What was then appended is a beginning of the payload.
+    /// is not well-formed, or in a string of indefinite length is neither that of a definite byte
+    /// string nor the break; `TooLong` where what a head announces would pass the greatest offset;
+    /// `Memory` where an allocation for `out` fails. What was appended then is a prefix of the
+    /// payload.
     #[inline(always)]
     pub fn bytes_into(
         &mut self,
@@ -402,7 +403,7 @@ impl<'a, R: Read> Decoder<'a, R> {
         self.bytes_into_keeping(len, scratch, out, &mut Answered)
     }
 
-    /// What `bytes_into` does; a reader's error goes to `keep`.
+    /// Does what `bytes_into` does; the reader's error goes to `keep`.
     #[inline(always)]
     pub fn bytes_into_keeping<K: Keep>(
         &mut self,
@@ -434,14 +435,14 @@ impl<'a, R: Read> Decoder<'a, R> {
         .append_string(Kind::Bytes, len, head, scratch, out)
     }
 
-    /// Appends the payload of the text whose head was pulled last, as `bytes_into` does that of a
-    /// byte string. The payload of a definite text, and each part of an open one, is read whole and
-    /// then tested to be UTF-8.
+    /// Appends the payload of the text whose head was pulled last, as `bytes_into` does for a byte
+    /// string. The payload of a definite text, and each chunk of one of indefinite length, is read
+    /// whole, and then checked to be UTF-8.
     ///
     /// # Errors
     ///
     /// Those of `bytes_into`, with texts in place of byte strings, and `Syntax` with the offset of
-    /// the head of a text or part that is not UTF-8. What was then appended is a beginning of the
+    /// the head of a text or chunk that is not UTF-8. What was appended then is a prefix of the
     /// payload.
     #[inline(always)]
     pub fn text_into(
@@ -467,7 +468,7 @@ impl<'a, R: Read> Decoder<'a, R> {
         self.text_into_keeping(len, scratch, out, &mut Answered)
     }
 
-    /// What `text_into` does; a reader's error goes to `keep`.
+    /// Does what `text_into` does; the reader's error goes to `keep`.
     #[inline(always)]
     pub fn text_into_keeping<K: Keep>(
         &mut self,
@@ -499,7 +500,7 @@ impl<'a, R: Read> Decoder<'a, R> {
             keep,
         };
         let result = cursor.append_string(Kind::Text, len, head, scratch, &mut bytes);
-        // SAFETY: `out` held UTF-8, and each part that was appended to it is UTF-8 by itself.
+        // SAFETY: `out` held UTF-8, and each chunk that was appended to it is UTF-8 by itself.
         *out = unsafe { String::from_utf8_unchecked(bytes) };
         result
     }

@@ -8,18 +8,18 @@ use crate::header::Header;
 use crate::writing::{self, Failed};
 use std::io::{self, Write};
 
-/// Writes heads and payloads to a writer that it is lent (RFC 8949, section 3).
+/// Writes heads and payloads to a borrowed writer (RFC 8949, section 3).
 ///
-/// Each call writes all of its bytes or answers an error. The first error of the writer ends the
-/// call and is its answer, `Interrupted` too, and a write that takes nothing is a `WriteZero`.
-/// Nothing is held back, and nothing is flushed.
+/// Each call writes all of its bytes or returns an error. The first error of the writer, even
+/// `Interrupted`, ends the call and is returned; a write that takes nothing is a `WriteZero`.
+/// Nothing is buffered, and nothing is flushed.
 #[derive(Drop)]
 pub struct Encoder<'a, W> {
     writer: &'a mut W,
 }
 
 impl<'a, W: Write> Encoder<'a, W> {
-    /// An encoder that writes behind what the writer holds. Making it writes nothing.
+    /// An encoder that appends to what the writer holds. Making it writes nothing.
     pub fn new(writer: &'a mut W) -> Encoder<'a, W>
         ensures same_writer { (writer_of result).ghost_name ≡ writer.entry.ghost_name }
         ensures unchanged { (writer_of result).now ≡ writer.old }
@@ -29,7 +29,7 @@ impl<'a, W: Write> Encoder<'a, W> {
 
     /// Writes the head in its shortest form (RFC 8949, section 4.1).
     ///
-    /// At an error a proper beginning of the head has gone out, and nothing else.
+    /// At an error only a strict prefix of the head was written.
     ///
     /// Two kinds of header may not be pushed: a float, whose raw bytes are not in its `Header`, and
     /// a simple value from 24 to 31, which has no head (section 3.3).
@@ -52,7 +52,7 @@ impl<'a, W: Write> Encoder<'a, W> {
     /// Writes the bytes as they are, such as the payload behind a string's head (RFC 8949,
     /// section 3.1).
     ///
-    /// At an error a proper beginning of the bytes has gone out, and nothing else.
+    /// At an error only a strict prefix of the bytes was written.
     #[inline(always)]
     pub fn write_all(&mut self, bytes: &[u8]) -> io::Result<()>
         ensures same_writer { HasSameWriter self.old self.new }
@@ -68,8 +68,8 @@ impl<'a, W: Write> Encoder<'a, W> {
         }
     }
 
-    /// `push`, with the error kept in `failure`. An `io::Error` is large: this answer is not, for a
-    /// caller that writes many heads.
+    /// Does what `push` does, and keeps the writer's error in `failure`. An `io::Error` is large,
+    /// and this result is small, for a caller that writes many heads.
     #[inline(always)]
     pub fn push_keeping(
         &mut self,
@@ -84,7 +84,7 @@ impl<'a, W: Write> Encoder<'a, W> {
         writing::write_head(self.writer, header, failure)
     }
 
-    /// `write_all`, with the error kept in `failure`.
+    /// Does what `write_all` does, and keeps the writer's error in `failure`.
     #[inline(always)]
     pub fn write_all_keeping(
         &mut self,

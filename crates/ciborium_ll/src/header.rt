@@ -10,7 +10,7 @@ use std::{error, fmt, io};
 
 /// The head of a data item (RFC 8949, section 3), or a break.
 ///
-/// A length or count of `None` opens a string, array or map of indefinite length, which a break
+/// A length or count of `None` begins a string, array or map of indefinite length, which a break
 /// ends.
 #[derive(Clone, Copy, Debug, PartialEq, Eq)]
 pub enum Header {
@@ -18,15 +18,15 @@ pub enum Header {
     Positive(u64),
     /// The number -1 - n (major type 1).
     Negative(u64),
-    /// A byte string of so many bytes (major type 2).
+    /// A byte string of this many bytes (major type 2).
     Bytes(Option<usize>),
-    /// A text of so many bytes of UTF-8 (major type 3).
+    /// A text of this many bytes of UTF-8 (major type 3).
     Text(Option<usize>),
-    /// An array of so many items (major type 4).
+    /// An array of this many items (major type 4).
     Array(Option<usize>),
-    /// A map of so many pairs (major type 5).
+    /// A map of this many pairs (major type 5).
     Map(Option<usize>),
-    /// A tag, which one item follows (major type 6).
+    /// A tag, followed by one item (major type 6).
     Tag(u64),
     /// A simple value, below 24 or from 32 on (major type 7): false is 20, true 21, null 22 and
     /// undefined 23.
@@ -34,25 +34,25 @@ pub enum Header {
     /// A float of 2, 4 or 8 bytes (major type 7). The bytes belong to the head and were read with
     /// it.
     Float(u8),
-    /// The end of an open string, array or map.
+    /// The break that ends a string, array or map of indefinite length.
     Break,
 }
 
-/// Why a call of a decoder was refused. Offsets count bytes, from where the decoder began.
+/// Why a call of a decoder failed. Offsets count bytes, from where the decoder began.
 ///
-/// Each has a message of one line: `at byte 17: not well-formed CBOR`. That of `Io` is `reading
-/// failed: ` and the reader's own, and a clause knows it where it knows that one; what an
-/// `io::Error` prints it does not know.
+/// Each has a message of one line, as `at byte 17: not well-formed CBOR`. That of `Io` is `reading
+/// failed: ` and then the message of the reader's error. A clause states it where that message is
+/// known to clauses, which that of an `io::Error` is not.
 #[derive(Debug, Drop)]
 pub enum Error<T> {
-    /// The reader failed, or a read of nothing came where bytes are needed.
+    /// The reader failed, or a read gave no bytes where some are needed.
     Io(T),
-    /// The head at this offset is not well-formed, or not where it stands, or it begins a text that
+    /// The head at this offset is not well-formed, or may not stand there, or it begins a text that
     /// is not UTF-8 (RFC 8949, appendix F).
     Syntax(usize),
     /// The next bytes would take the offset past `usize::MAX`.
     TooLong,
-    /// A growth of memory was refused.
+    /// An allocation failed.
     Memory,
 }
 

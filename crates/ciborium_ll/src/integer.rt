@@ -27,7 +27,7 @@ impl Model for Integer {
     ghost inverse = { λ z. record { number = z } };
 }
 
-/// The answer where the wanted type does not hold the number.
+/// The error where the target type does not hold the number.
 #[derive(Clone, Copy, Debug, PartialEq, Eq)]
 pub struct OutOfRange;
 
@@ -49,8 +49,8 @@ impl Integer {
 
     const GREATEST: i128 = (1 << 64) - 1;
 
-    /// The order of map keys: the shorter encoding first, and of two of one size the one with the
-    /// first lower byte (RFC 8949, section 4.2.3; RFC 7049, section 3.9). It takes no memory.
+    /// The order of map keys: the shorter encoding first, and of two of equal length the bytewise
+    /// lower one (RFC 8949, section 4.2.3; RFC 7049, section 3.9). It takes no memory.
     pub fn canonical_cmp(&self, other: &Integer) -> Ordering
         ensures { result ≡ integer_order self.now other.now }
     {
@@ -75,7 +75,7 @@ impl Integer {
         }
     }
 
-    /// The number whose head has this argument: the number n, or where it is negative -1 - n.
+    /// The number whose head has this argument n: n itself, or where it is negative -1 - n.
     #[inline(always)]
     pub fn from_head(negative: bool, argument: u64) -> Integer
         ensures { result ≡ complement_if negative argument }

@@ -5,12 +5,12 @@ ghost use Rattle.std.specs.declared.io.Error.{Error};
 
 use std::io;
 
-/// Takes a reader's error, and says what an answer then holds of it.
+/// Takes the reader's error, and says what the result of the call then holds of it.
 ///
-/// An `io::Error` is large, and an answer that may hold one is moved at every level: `Option` keeps
-/// the error aside, and the answer holds nothing of it.
+/// An `io::Error` is large, and a result that may hold one is moved at every level: `Option` keeps
+/// the error aside, and the result holds nothing of it.
 pub trait Keep {
-    /// What the answer holds.
+    /// What the result holds.
     type Kept: Drop;
 
     // The error is kept, or answered.
@@ -21,7 +21,7 @@ pub trait Keep {
         ensures { keeps self.old self.new error result };
 }
 
-/// Keeps nothing: the answer holds the error itself.
+/// Keeps nothing: the result holds the error itself.
 #[derive(Clone, Copy, Drop)]
 pub struct Answered;
 

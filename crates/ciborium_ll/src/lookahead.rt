@@ -32,8 +32,8 @@ impl Lookahead {
     ghost use Rattle.std.specs.Io.KnownBytes.{IsAtEnd, Keeps};
     ghost use Rattle.ciborium_ll.specs.Windows.{unread_at};
 
-    // Reads so many bytes at most from the offset on, where none is held, and answers how many came:
-    // none at the reader's end.
+    // Reads so many bytes at most from the offset on, where none is held, and answers how many
+    // came: none at the reader's end.
     #[inline(never)]
     pub(crate) fn refill<R: Read>(
         &mut self,

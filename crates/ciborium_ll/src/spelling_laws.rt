@@ -1,12 +1,12 @@
-//! What holds of heads, headers and spellings, whatever the code: each law is the contract of a
-//! function that does nothing.
+//! What holds of heads, headers and spellings (their well-formed encodings), whatever the code:
+//! each law is the contract of a function that does nothing.
 
 ghost use Rattle.ciborium_ll.specs.HeaderLaws.{HeaderBytesSpell, OneHeader, OneHeaderAtFront};
 ghost use Rattle.ciborium_ll.specs.HeaderLaws.{NoOtherSpellingIsAsShort, NoSpellingIsShorter};
 ghost use Rattle.ciborium_ll.specs.Laws.{NoOtherIsAsShort, NoneIsShorter, ShortestIsHead};
 ghost use Rattle.ciborium_ll.specs.Laws.{NoneBeginsAnother, OneAtFront, OneItem};
 
-/// No spelling of an item is a proper beginning of a spelling of any item, and no bytes spell two
+/// No spelling of an item is a strict prefix of a spelling of any item, and no bytes spell two
 /// items (RFC 8949, section 3).
 pub fn unique_spelling()
     ensures prefix_free { NoneBeginsAnother }
@@ -14,16 +14,16 @@ pub fn unique_spelling()
     ensures at_front { OneAtFront }
 {}
 
-/// The shortest head of a major type with an argument is a head of them, none of theirs is
-/// shorter, and no other is as short (RFC 8949, section 4.1).
+/// The shortest head of a major type with an argument is one of the heads that spell the two, none
+/// of these is shorter, and no other is as short (RFC 8949, section 4.1).
 pub fn shortest_head()
     ensures is_head { ShortestIsHead }
     ensures none_shorter { NoneIsShorter }
     ensures no_other { NoOtherIsAsShort }
 {}
 
-/// No bytes spell two headers, and no spelling of a header is a proper beginning of a spelling of
-/// any header (RFC 8949, section 3).
+/// No bytes spell two headers, and no spelling of a header is a strict prefix of a spelling of any
+/// header (RFC 8949, section 3).
 pub fn one_header()
     ensures one { OneHeader }
     ensures at_front { OneHeaderAtFront }

@@ -17,7 +17,7 @@ pub(crate) enum Kind {
     Text,
 }
 
-// The scratch of a caller that lends none.
+// The scratch of a caller that passes none.
 const OWN_SCRATCH: usize = 64;
 
 // Whether a string of the kind may hold these bytes.
@@ -31,7 +31,7 @@ fn is_allowed(kind: Kind, payload: &[u8]) -> bool
     }
 }
 
-// What a head is inside an open string.
+// What a head is inside a string of indefinite length.
 enum Part {
     End,
     Definite(usize),
@@ -54,7 +54,7 @@ impl Window {
     ghost use Rattle.ciborium_ll.specs.Windows.{TakesHeld};
 
     // Appends n bytes, where all of them are held, and answers how many were appended, or `None`
-    // where memory is refused.
+    // where an allocation fails.
     #[inline(always)]
     fn append_held(&mut self, n: usize, out: &mut Vec<u8>) -> Option<usize>
         ensures reach { self.new.reach ≡ self.old.reach }
@@ -164,7 +164,7 @@ impl<'c, R: Read, K: Keep> Cursor<'c, R, K> {
         Ok(())
     }
 
-    // Appends the payloads of the parts of an open string, to the break.
+    // Appends the payloads of the chunks of a string of indefinite length, up to the break.
     #[inline(never)]
     fn append_parts(
         &mut self,
@@ -189,7 +189,8 @@ impl<'c, R: Read, K: Keep> Cursor<'c, R, K> {
         }
     }
 
-    // Appends the payload of the string of this length (`None`: open) whose head is at this offset.
+    // Appends the payload of the string of this length (`None`: indefinite) whose head is at this
+    // offset.
     #[inline(always)]
     pub(crate) fn append_string(
         &mut self,

@@ -124,8 +124,8 @@ impl Window {
         Some(self.lookahead.bytes[self.count - self.lookahead.base])
     }
 
-    // Reads what is due, where nothing is held and something is due, and answers how many bytes came:
-    // none at the reader's end.
+    // Reads what is due, where nothing is held and something is due, and answers how many bytes
+    // came: none at the reader's end.
     #[inline(always)]
     pub(crate) fn refill<R: Read>(&mut self, reader: &mut R) -> io::Result<usize>
         requires none { self.old.lookahead.end ≤ self.old.count }

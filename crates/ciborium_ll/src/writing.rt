@@ -8,7 +8,7 @@ ghost use Rattle.ciborium_ll.specs.Writing.{Writes};
 use crate::header::Header;
 use std::io::{self, ErrorKind, Write};
 
-/// A call failed, and put the error where its caller said.
+/// A call failed, and left the error where its caller asked for it.
 pub struct Failed;
 
 // Writes the bytes, and flushes nothing. A write of nothing or a fault of the device ends it, and
@@ -70,7 +70,7 @@ fn with_argument(major: u8, argument: u64) -> HeadBytes
     ([initial + 27, a, b, c, d, e, f, g, h], 9)
 }
 
-// The head of a string, array or map, open where it has no count.
+// The head of a string, array or map, of indefinite length where it has no count.
 #[inline(always)]
 fn with_count(major: u8, count: Option<usize>) -> HeadBytes
     requires { major < 7 }

@@ -1,5 +1,5 @@
-//! Bignums: tag 2 over the bytes of a number n, and tag 3 over those of n for -1 - n, the most
-//! significant first (RFC 8949, section 3.4.3).
+//! Bignums: the number n is tag 2 over the bytes of n, and the number -1 - n is tag 3 over them,
+//! the most significant first (RFC 8949, section 3.4.3).
 
 ghost use Rattle.std.specs.Prelude.{◌≡◌, ◌^◌, ◌≤◌, IfErr, IfNone, IfOk, MatchOption, None, Some};
 ghost use Rattle.std.specs.Prelude.{length, true};
@@ -26,7 +26,7 @@ pub const GREATEST_FOLDED_SIZE: usize = 16;
 pub enum FoldError {
     /// The number is negative, and no `i128` holds it.
     TooLarge,
-    /// Memory was refused.
+    /// An allocation failed.
     Memory,
 }
 
@@ -47,7 +47,7 @@ pub(crate) fn find_folding(tag: u64, content: &Value) -> Option<&[u8]>
     }
 }
 
-/// The bytes behind the leading zeros. This takes no memory.
+/// The bytes after the leading zeros. This takes no memory.
 pub fn without_leading_zeros(bytes: &[u8]) -> &[u8]
     ensures { result.now ≡ without_zeros bytes.now }
 {
@@ -68,7 +68,7 @@ pub fn tag_over(alloc: Global, tag: u64, bytes: &[u8]) -> Result<Value, AllocErr
 
 /// The integer that tag 2 or 3 over at most 16 bytes means, or `None` where it is no number of 64
 /// bits, and the tag stands over the bytes without leading zeros (RFC 8949, section 3.4.3). It
-/// takes no memory. Another tag, or more bytes, do not fold and may not be handed in.
+/// takes no memory. Another tag, or more bytes, do not fold and may not be passed.
 ///
 /// # Errors
 ///
@@ -97,12 +97,12 @@ pub(crate) fn fold_number(tag: u64, bytes: &[u8]) -> Result<Option<Integer>, Kin
 
 /// What tag 2 or 3 over at most 16 bytes means: the integer, where it is in range, else the tag
 /// over the bytes without leading zeros (RFC 8949, section 3.4.3). An integer takes no memory.
-/// Another tag, or more bytes, do not fold and may not be handed in.
+/// Another tag, or more bytes, do not fold and may not be passed.
 ///
 /// # Errors
 ///
-/// `TooLarge` where the number is negative and no `i128` holds it; `Memory` where a growth was
-/// refused.
+/// `TooLarge` where the number is negative and no `i128` holds it; `Memory` where an allocation
+/// failed.
 pub fn fold(alloc: Global, tag: u64, bytes: &[u8]) -> Result<Value, FoldError>
     requires tag { is_bignum_tag tag ≡ true }
     requires short { length bytes.now ≤ 16 }
@@ -120,7 +120,7 @@ pub fn fold(alloc: Global, tag: u64, bytes: &[u8]) -> Result<Value, FoldError>
     }
 }
 
-/// The number of the bytes, or `None` where more than 16 stand behind the leading zeros.
+/// The number of the bytes, or `None` where more than 16 follow the leading zeros.
 pub fn find_magnitude(bytes: &[u8]) -> Option<u128>
     ensures { MatchOption result (magnitude bytes.now ≡ refuses kinds.TooLarge)
         (λ n. magnitude bytes.now ≡ gives n) }

@@ -2,7 +2,7 @@
 //! 8949, section 4.2.3), and the bytewise one (section 4.2.1).
 //!
 //! Bytewise, a comparison walks over both trees side by side, head against head and payload against
-//! payload, up to the first that differ: no encoding is a proper beginning of another. For the
+//! payload, up to the first that differ: no encoding is a strict prefix of another. For the
 //! canonical order it measures each value first, by a walk over its tree, and walks over both only
 //! where the sizes are equal. No bytes are made, and no memory is taken.
 
@@ -26,7 +26,7 @@ use ciborium_ll::{Integer, head_size, simple};
 use std::cmp::Ordering;
 
 /// The canonical order of two values, which is that of their encodings: the shorter first, and of
-/// two of one size the one with the first lower byte (RFC 8949, section 4.2.3). It takes no memory.
+/// two of equal length the bytewise lower one (RFC 8949, section 4.2.3). It takes no memory.
 pub fn cmp_value(left: &Value, right: &Value) -> Ordering
     ensures order { result ≡ canonical_order (tree_of left.now) (tree_of right.now) }
     ensures left_proper { IsProperTree (tree_of left.now) }
@@ -82,8 +82,8 @@ pub fn cmp_bytewise_counted(left: &Value, right: &Value) -> (Ordering, u64)
     (order, visits.count)
 }
 
-/// The order of two values that is named, as `cmp_value` or `cmp_bytewise` finds it. It takes no
-/// memory.
+/// The order of two values by the named order, as `cmp_value` or `cmp_bytewise` finds it. It takes
+/// no memory.
 pub fn cmp_keys(order: KeyOrder, left: &Value, right: &Value) -> Ordering
     ensures order { result ≡ key_order order (tree_of left.now) (tree_of right.now) }
 {

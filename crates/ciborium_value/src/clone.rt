@@ -6,7 +6,7 @@ ghost use Rattle.ciborium_value.specs.View.{tree_of, trees_of, tree_pairs_of};
 use crate::tree::Value;
 use std::alloc::{AllocError, Global};
 
-/// A copy of equal content, or the error where memory was refused.
+/// A copy of equal content, or the error where an allocation failed.
 impl Clone for Value {
     ghost is_clone = { λ v w. tree_of w ≡ tree_of v };
 

@@ -24,9 +24,9 @@ pub trait Deserialize: Sized + Drop {
 
     /// Takes the item that the source stands before.
     ///
-    /// At `Ok` the value is what the item gives, and just the item was taken. Refused with a kind,
-    /// or for nesting, only where the item is. A refused call has taken a beginning of what was
-    /// unread and nothing else, and leaves no more to read.
+    /// At `Ok` the value is what the item gives, and just the item was taken. It is refused with a
+    /// kind, or for nesting, only where the item is. A refused call has taken a prefix of what was
+    /// unread and nothing else, and no more is left to read than before.
     fn deserialize<S: Source>(alloc: Global, source: &mut S) -> Result<Self, S::Error>
         ensures ok { IfOk result
             (λ v. Takes S.stands_before source.old source.new reading.taken (reading.content v)) }
@@ -41,7 +41,7 @@ pub trait Deserialize: Sized + Drop {
         ensures no_more { OnErr result (S.left source.new ≤ S.left source.old) };
 }
 
-/// A type whose values can be the keys of a map that is read: its order is one of what counts.
+/// A type whose values can be the keys of a map that is read: they compare as their contents do.
 pub trait Key: Deserialize + Ord {
     // Values compare as their contents do.
     ghost orders: { (a b : Self) → Self.cmp a b ≡

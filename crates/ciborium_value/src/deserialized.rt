@@ -1,4 +1,4 @@
-//! Values as what is read from.
+//! Values as sources to read from.
 
 ghost use Rattle.std.specs.Prelude.{◌≡◌, IfErr, IfOk, None};
 ghost use Rattle.ciborium_value.specs.Sources.{IsGranted};
@@ -26,12 +26,12 @@ use parts::{
 };
 
 impl Value {
-    /// The value of another type that reading the item of this one gives, as `from_reader` reads it
-    /// from bytes; but there is no limit on how deep it nests.
+    /// A value of another type, read from the item of this one as `from_reader` reads it from
+    /// bytes, but without a limit on how deep it nests.
     ///
     /// # Errors
     ///
-    /// `Custom` with the kind of a part that is not wanted, `Memory` where a growth was refused.
+    /// `Custom` with the kind with which a part is refused, `Memory` where an allocation failed.
     /// The value is left as it was.
     pub fn deserialized<T: Deserialize>(&self, alloc: Global) -> Result<T, Error>
         ensures ok { IfOk result

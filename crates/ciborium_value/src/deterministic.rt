@@ -1,4 +1,4 @@
-//! Deterministic forms of values (RFC 8949, section 4.2), made where the values stand.
+//! Deterministic forms of values (RFC 8949, section 4.2), made in place.
 
 ghost use Rattle.std.specs.Prelude.{◌≡◌, ◌↔◌, ◌≤◌, ◌⊎◌, IfErr, IfOk, IsTrue, List, MatchOption};
 ghost use Rattle.std.specs.Prelude.{None, Some, length, true, ℕ};
@@ -21,18 +21,18 @@ use crate::tree::Value;
 use std::cmp::Ordering;
 
 impl Value {
-    /// Puts the value into its deterministic form, where it stands: a bignum of 64 bits becomes an
-    /// integer, another loses its leading zeros (RFC 8949, section 3.4.3), and the pairs of each
+    /// Puts the value into its deterministic form, in place: a bignum that fits in 64 bits becomes
+    /// an integer, another loses its leading zeros (RFC 8949, section 3.4.3), and the pairs of each
     /// map, inner maps first, are sorted by the encodings of their keys in this order (sections
-    /// 4.2.1 and 4.2.3). Its encoding is then the one deterministic encoding. It takes no memory,
+    /// 4.2.1 and 4.2.3). Its encoding is then the one deterministic encoding. This takes no memory,
     /// and n log n comparisons for a map of n pairs.
     ///
     /// # Errors
     ///
-    /// `DuplicateKey` where two keys of a map have one form, and `TooLarge` where a bignum of at
-    /// most 16 bytes is negative and no `i128` holds it: such a value has no deterministic form. It
-    /// is the first of them, in the order of the encoding, where a map stands behind its pairs. The
-    /// value is then the same as before, but for the order of pairs and folded bignums.
+    /// `DuplicateKey` where two keys of a map have the same form, and `TooLarge` where a bignum of
+    /// at most 16 bytes is negative and no `i128` holds it: such a value has no deterministic form.
+    /// The error is the first of these in the order of the encoding, in which a map comes after its
+    /// pairs. The value is then the same as before, but for the order of pairs and folded bignums.
     pub fn make_deterministic(&mut self, order: KeyOrder) -> Result<(), Kind>
         ensures ok { IfOk result (λ u.
             deterministic_form order (tree_of self.old) ≡ gives (tree_of self.new)) }

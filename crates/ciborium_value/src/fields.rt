@@ -11,16 +11,17 @@ use crate::kind::Kind;
 use crate::serialize::Serialize;
 use crate::sink::Sink;
 
-/// A field by its name, and the fields behind it. It is written as a definite map of them all, in
+/// A field by its name, and the fields after it. It is written as a definite map of them all, in
 /// this order:
 ///
 ///     Field("version", &self.version, Field("body", &self.body, NoField)).serialize(sink)
 ///
-/// More fields than a `usize` counts, which no program has, are refused as `Kind::Other`.
+/// More fields than a `usize` counts, which is unreachable in practice, are refused as
+/// `Kind::Other`.
 #[derive(Clone, Copy, Debug, Drop)]
 pub struct Field<'a, V, R>(pub &'a str, pub &'a V, pub R);
 
-/// No field more.
+/// The end of the fields.
 #[derive(Clone, Copy, Debug, Drop)]
 pub struct NoField;
 
@@ -35,12 +36,12 @@ pub trait Fields {
     // Whether writing takes memory.
     ghost takes_memory: { Type 0 };
 
-    /// How many fields there are, where a `usize` holds it.
+    /// How many fields there are, or `None` where a `usize` does not hold it.
     fn count(&self) -> Option<usize>
         ensures count { result ≡ field_count (number self.now) }
         ensures in_pairs { length (parts self.now) ≡ number self.now + number self.now };
 
-    /// Adds each name and value to a map that was begun.
+    /// Adds each name and value to a map that has been begun.
     fn write_fields<S: Sink>(&self, sink: &mut S) -> Result<(), S::Error>
         requires { CanTake S.stands_at sink.old (parts self.now) }
         ensures ok { OnOk result (TakesAll S.stands_at sink.old sink.new (parts self.now)) }

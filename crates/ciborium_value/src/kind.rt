@@ -1,4 +1,4 @@
-//! What was met in place of the wanted item.
+//! What was found in place of the wanted item.
 
 ghost use Rattle.std.specs.Prelude.{◌≡◌, Some};
 ghost use Rattle.ciborium_value.specs.Messages.{kind_message};
@@ -6,16 +6,16 @@ ghost use Rattle.ciborium_value.specs.Messages.{kind_message};
 use std::{error, fmt};
 
 /// Why an item that was read, or a value to be written, is refused. Its message is a phrase that
-/// says what was met: `a floating-point number`, or `not an array`.
+/// says what was found, such as `a floating-point number` or `not an array`.
 #[derive(Clone, Copy, Debug, PartialEq, Eq)]
 pub enum Kind {
-    /// A float was met where a value is read.
+    /// A float was found where a value is read.
     Float,
-    /// An unassigned simple value was met where a value is read.
+    /// An unassigned simple value was found where a value is read.
     Simple,
     /// A break stands where an item must stand.
     Break,
-    /// A bignum is past its bounds.
+    /// A bignum is out of range.
     TooLarge,
     /// Another item stands where an integer is wanted.
     Integer,
@@ -37,24 +37,24 @@ pub enum Kind {
     Name,
     /// Another item stands where a variant of an enum is wanted.
     Variant,
-    /// A number is outside the wanted type.
+    /// A number is out of the range of the wanted type.
     Range,
     /// A required tag is missing, or another tag stands there.
     Tag,
     /// An array is too short for the wanted tuple.
     Length,
-    /// Free for implementations of users.
+    /// For user-defined types to use as they like.
     Other,
     /// A head is longer than it has to be, or undefined stands in place of null, where reading is
     /// deterministic.
     NotShortest,
-    /// An open string, array or map begins where reading is deterministic.
+    /// A string, array or map of indefinite length begins where reading is deterministic.
     Open,
-    /// A bignum is a number of 64 bits, or has leading zeros, where reading is deterministic.
+    /// A bignum fits in 64 bits, or has leading zeros, where reading is deterministic.
     NotFolded,
     /// A key does not follow the key before it in the order of keys where reading is deterministic.
     KeyOrder,
-    /// Two keys of a map are equal where it is put in order.
+    /// Two keys of a map are equal where its pairs are sorted.
     DuplicateKey,
 }
 

@@ -1,4 +1,4 @@
-//! Values as people read them: diagnostic notation (RFC 8949, section 8).
+//! Values in human-readable form: diagnostic notation (RFC 8949, section 8).
 
 ghost use Rattle.std.specs.Prelude.{◌≡◌, ◌≤◌, ◌<◌, ◌++◌, IfOk, IfSome, IsNone, Some, [], codes, length};
 ghost use Rattle.std.specs.Prelude.{decimal, slice_index, take, true};
@@ -17,12 +17,13 @@ use std::{fmt, str};
 /// each item and each pair on a line of its own, indented by two spaces a level. The other options
 /// of a formatter change nothing. It takes no memory.
 ///
-/// Numbers are decimal, and byte strings base16 in lower case, as `h'0aff'`. Texts stand in quotation marks,
-/// escaped as in JSON. A tag is its number before its content in parentheses, a bignum too.
+/// Numbers are decimal, and byte strings base16 in lower case, as `h'0aff'`. Texts stand in
+/// quotation marks, escaped as in JSON. A tag is its number before its content in parentheses, and
+/// so is a bignum.
 ///
 /// # Errors
 ///
-/// `fmt::Error` where the writer failed; a beginning of the notation went out.
+/// `fmt::Error` where the writer failed; a prefix of the notation was written.
 impl fmt::Display for Value {
     ghost output = { λ v. Some (notation (tree_of v)) };
 

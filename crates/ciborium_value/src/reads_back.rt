@@ -21,18 +21,18 @@ mod parts;
 mod scalars;
 mod values;
 
-/// A type of which what is written is read back.
+/// A type whose values are read back from what is written of them.
 ///
-/// A value's item is read with all that counts of the value, from its bytes under every limit that
-/// leaves as many levels as `levels` says, and from the tree that `Value::serialized` makes of it.
-/// Nothing is promised of a value that is refused in writing, and capacities do not count.
+/// Reading a value's item gives all that counts of the value, both from its bytes, under every
+/// limit that leaves as many levels as `levels` says, and from the tree that `Value::serialized`
+/// makes of it. Capacities do not count. Nothing is promised of a value that is refused in writing.
 ///
-/// `is_held` says of which values this holds: of the library's types, those that a program can
+/// `is_held` says for which values this holds: for the library's types, those that a program can
 /// have. Their numbers are in range, their characters have a code, and the keys of their maps rise.
 /// A type may ask for more, as `Value` does, and `Captured` in `ciborium`.
 ///
-/// `levels` counts one for an array or a map, above the most that one of its parts takes, and none
-/// for a number, a character or a string. A limit counts so too.
+/// `levels` is one more for an array or a map than the most that one of its parts takes, and 0 for
+/// a number, a character or a string. A limit counts in the same way.
 pub trait ReadsBack: Serialize + Deserialize {
     // What a value in a program is, where a proof knows too little of it.
     ghost is_held: { Self → Type 0 };
@@ -46,12 +46,12 @@ pub trait ReadsBack: Serialize + Deserialize {
         IsNameRead (Self.written v) Self.reading.taken (Self.reading.content v) (levels v) };
 }
 
-/// A type of which what is written in its deterministic form is read back.
+/// A type whose values are read back from what is written of them in deterministic form.
 ///
 /// The form sorts the pairs of each map by their keys, and folds bignums (RFC 8949, sections 3.4.3
-/// and 4.2). To such a type neither makes a difference: from the form of what a value names, in
-/// either order of keys, reading takes all that counts of the value. So it is of types that are
-/// read by what they are, and not of `Value` and its kin, to which the order of pairs counts.
+/// and 4.2). To such a type neither makes a difference: reading the form of the item that a value
+/// names, in either order of keys, gives all that counts of the value. `Value` and its kin are no
+/// such types, since the order of pairs counts for them.
 pub trait FormReadsBack: ReadsBack {
     // The form of what a value names is read as what counts of the value.
     ghost form_reads_back: { (o : KeyOrder) → (v : Self) → Self.is_held v →
@@ -62,7 +62,7 @@ pub trait FormReadsBack: ReadsBack {
 ///
 /// They may be written as a null under a tag, which is not read as `None`.
 pub trait NeverNull: Serialize {
-    // What the value names, if it names an item, is not null nor undefined.
+    // What the value names, if it names an item, is neither null nor undefined.
     ghost never_null: { (v : Self) → IsNeverNull (Self.written v) };
 }
 
@@ -73,7 +73,7 @@ pub trait NeverBytes: Serialize {
     ghost never_bytes: { (v : Self) → IsNeverBytes (Self.written v) };
 }
 
-/// A type of which values with equal contents are written alike.
+/// A type whose values are written alike where their contents are equal.
 ///
 /// Capacities do not count, so a copy is written as its original. With `ReadsBack`, what is read
 /// back is written again as the same bytes.

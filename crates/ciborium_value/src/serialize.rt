@@ -22,8 +22,8 @@ pub trait Serialize {
     /// Adds the value's item to the sink.
     ///
     /// At `Ok` exactly that item was added. A value without an item is refused with its kind, and
-    /// no other value for itself. Where there is an item, a proper beginning of it went out at an
-    /// error.
+    /// no value that has an item is refused with a kind. Where there is an item, at an error only
+    /// a strict prefix of it was written.
     fn serialize<S: Sink>(&self, sink: &mut S) -> Result<(), S::Error>
         requires { IsReady S.stands_at sink.old }
         ensures ok { OnOk result (AddsNamed S.stands_at sink.old sink.new (written self.now)) }

@@ -1,4 +1,4 @@
-//! Values as what is written to.
+//! Values as sinks to write to.
 
 ghost use Rattle.std.specs.Prelude.{◌≡◌, ◌∷◌, IfErr, IfOk, OnOk, Some};
 ghost use Rattle.ciborium_value.specs.Messages.{error_message};
@@ -18,13 +18,13 @@ use crate::tree::Value;
 use std::alloc::{AllocError, AllocFailed, Global};
 use std::{error, fmt};
 
-/// Why a value is not made from, or not read as, a value of another type. The message of `Custom`
-/// is that of its kind.
+/// Why a `Value` was not made from a value of another type, or not read as one. The message of
+/// `Custom` is that of its kind.
 #[derive(Clone, Copy, Debug, PartialEq, Eq)]
 pub enum Error {
     /// A part is refused for this reason.
     Custom(Kind),
-    /// Memory was refused.
+    /// An allocation failed.
     Memory,
 }
 
@@ -58,13 +58,13 @@ impl fmt::Display for Error {
 impl error::Error for Error {}
 
 impl Value {
-    /// The tree of the item that the value writes: an open array or map becomes a definite one, and
-    /// nothing is folded.
+    /// The tree of the item that the value writes. An array or map of indefinite length becomes a
+    /// definite one, and no bignum is folded.
     ///
     /// # Errors
     ///
-    /// `Custom` where the value has no item, with the kind that it names; `Memory` where a growth
-    /// was refused. The value is left as it was.
+    /// `Custom` where the value has no item, with the kind that it names; `Memory` where an
+    /// allocation failed. The value is left as it was.
     pub fn serialized<T: Serialize>(alloc: Global, value: &T) -> Result<Value, Error>
         ensures ok { IfOk result (IsTreeOf (T.written value.now)) }
         ensures refused { IfErr result (λ e. IsOwed (cause_of e) (T.written value.now)) }
@@ -178,7 +178,8 @@ impl Sink for TreeSink {
         }
     }
 
-    // What was announced is whole with its last part; only a break ends an open container.
+    // What was announced is whole with its last part; only a break ends a container of indefinite
+    // length.
     fn end(&mut self, count: Option<usize>) -> Result<(), Error> {
         match count {
             Some(_) => Ok(()),

@@ -13,10 +13,9 @@ use crate::kind::Kind;
 
 /// Where an item is written, part by part: to bytes, or into a tree.
 ///
-/// A sink takes one item, as a container of announced length 1 would that no `end` closes. Each
-/// call adds what it says where the sink stands; that is allowed where the innermost container has
-/// room, and `end` where it is complete. At an error a proper beginning of what the call adds went
-/// out, and nothing else.
+/// A sink takes exactly one top-level item. Each call adds what its comment says at the place where
+/// the sink stands. That is allowed where the innermost container has room for it, and `end` where
+/// this container is complete. At an error only a strict prefix of what the call adds was written.
 pub trait Sink {
     /// Why a call is refused.
     type Error: Drop;
@@ -33,8 +32,8 @@ pub trait Sink {
     // Why it refused.
     ghost cause: { Self.Error → Cause };
 
-    /// Adds a number: one head where that holds it, from -2^64 to 2^64 - 1, else tag 2 or 3 over
-    /// its bytes without leading zeros (RFC 8949, sections 3.1 and 3.4.3).
+    /// Adds a number: one head where it is from -2^64 to 2^64 - 1, else tag 2 or 3 over its bytes
+    /// without leading zeros (RFC 8949, sections 3.1 and 3.4.3).
     fn integer(&mut self, number: i128) -> Result<(), Self::Error>
         requires { IsReady stands_at self.old }
         ensures ok { OnOk result (Adds stands_at self.old self.new (number_item number)) }
@@ -94,7 +93,7 @@ pub trait Sink {
         ensures memory { IfErr result (λ e. IsGranted (cause e) takes_memory) }
         ensures err { OnErr result (BreaksTag stands_at out self.old self.new tag) };
 
-    /// Begins an array of so many items; with `None` an open one (section 3.2.2).
+    /// Begins an array of this many items; with `None` one of indefinite length (section 3.2.2).
     fn begin_array(&mut self, items: Option<usize>) -> Result<(), Self::Error>
         requires { IsReady stands_at self.old }
         ensures ok { OnOk result (Begins stands_at sequence self.old self.new items) }
@@ -102,7 +101,8 @@ pub trait Sink {
         ensures memory { IfErr result (λ e. IsGranted (cause e) takes_memory) }
         ensures err { OnErr result (BreaksBegin stands_at out sequence self.old self.new items) };
 
-    /// Begins a map of so many pairs; with `None` an open one. Each key is added before its value.
+    /// Begins a map of this many pairs; with `None` one of indefinite length. Each key is added
+    /// before its value.
     fn begin_map(&mut self, pairs: Option<usize>) -> Result<(), Self::Error>
         requires { IsReady stands_at self.old }
         ensures ok { OnOk result (Begins stands_at dictionary self.old self.new pairs) }
@@ -118,11 +118,11 @@ pub trait Sink {
         ensures memory { IfErr result (λ e. IsGranted (cause e) takes_memory) }
         ensures err { OnErr result (BreaksEnd stands_at out self.old self.new count) };
 
-    /// The error for a value that has no item, for an implementation of `Serialize` to answer.
+    /// The error of an implementation of `Serialize` whose value has no item.
     fn refuse(&self, kind: Kind) -> Self::Error
         ensures { cause result ≡ value kind };
 
-    /// The error for a growth that an implementation of `Serialize` was refused.
+    /// The error of an implementation of `Serialize` in which an allocation failed.
     fn memory(&self) -> Self::Error
         ensures { cause result ≡ memory };
 

@@ -23,11 +23,11 @@ use std::alloc::Global;
 
 /// Where an item is read from, part by part: from bytes, or from a tree.
 ///
-/// A source stands before one item. Each call takes what it says, or is refused: with a kind where
-/// the item is another one, for nesting where a container is entered and no level is left, and from
-/// bytes where no item stands there or the reader fails. Calls that skip tags skip any number of
-/// them, at no cost of levels (RFC 8949, section 3.4). A refused call has taken a beginning of what
-/// was unread and nothing else, and leaves no more to read.
+/// A source stands before one item. Each call takes what its comment says, or is refused: with a
+/// kind where another item stands there, for nesting where a container is entered and no level is
+/// left, and over bytes also where no item stands there or the reader fails. Calls that skip tags
+/// skip any number of them, which takes no levels (RFC 8949, section 3.4). A refused call has taken
+/// a prefix of what was unread and nothing else, and no more is left to read than before.
 pub trait Source {
     /// Why a call is refused.
     type Error: Drop;
@@ -35,7 +35,7 @@ pub trait Source {
     /// What is left of a container that is being read.
     type Seq: Drop;
 
-    /// A level that a tag or a variant took, to be given back behind its content.
+    /// The level that a tag or a variant took, to be given back after its content.
     type Level: Drop;
 
     // The levels that are left, and what the source stands before.
@@ -60,7 +60,7 @@ pub trait Source {
     // The first bytes began with a container, which is read up to the second.
     ghost owes: { Self.Seq → Shape → List ℕ → List ℕ → Type 0 };
 
-    // Since the first state just unread bytes were taken, a beginning of those that were there.
+    // Since the first state just unread bytes were taken, a prefix of those that were there.
     ghost has_taken: { Self → Self → Type 0 };
 
     // What a call of `value` did and answered.
@@ -69,10 +69,10 @@ pub trait Source {
     // Why it refused.
     ghost cause: { Self.Error → Fault };
 
-    /// A number: whether it is negative, and n for n or -1 - n. Skips tags other than 2 and 3;
-    /// takes an integer, or tag 2 or 3 over a byte string, definite or open, of at most 16 bytes
-    /// behind its leading zeros (sections 3.1 and 3.4.3). Refused as `TooLarge` where there are
-    /// more, as `Bytes` where another item stands under the tag, else as `Integer`.
+    /// A number: whether it is negative, and the n of the number n or -1 - n. Skips tags other than
+    /// 2 and 3. Takes an integer, or tag 2 or 3 over a byte string, of definite or indefinite
+    /// length, that has at most 16 bytes after its leading zeros (sections 3.1 and 3.4.3). A longer
+    /// one is refused as `TooLarge`, another item under the tag as `Bytes`, any other as `Integer`.
     fn integer(&mut self) -> Result<(bool, u128), Self::Error>
         ensures ok { IfOk result (λ v. Takes stands_before self.old self.new taken_integer v) }
         ensures refused { IfErr result
@@ -83,7 +83,7 @@ pub trait Source {
         ensures less { OnOk result (left self.new < left self.old) }
         ensures no_more { OnErr result (left self.new ≤ left self.old) };
 
-    /// False or true (section 3.3). Skips tags; refused as `Bool`.
+    /// False or true (section 3.3). Skips tags; another item is refused as `Bool`.
     fn boolean(&mut self) -> Result<bool, Self::Error>
         ensures ok { IfOk result (λ v. Takes stands_before self.old self.new taken_boolean v) }
         ensures refused { IfErr result
@@ -94,7 +94,7 @@ pub trait Source {
         ensures less { OnOk result (left self.new < left self.old) }
         ensures no_more { OnErr result (left self.new ≤ left self.old) };
 
-    /// Null or undefined (section 3.3). Skips tags; refused as `Unit`.
+    /// Null or undefined (section 3.3). Skips tags; another item is refused as `Unit`.
     fn unit(&mut self) -> Result<(), Self::Error>
         ensures ok { IfOk result (λ v. Takes stands_before self.old self.new taken_unit v) }
         ensures refused { IfErr result (λ e. Refuses stands_before self.old taken_unit (cause e)) }
@@ -104,7 +104,7 @@ pub trait Source {
         ensures less { OnOk result (left self.new < left self.old) }
         ensures no_more { OnErr result (left self.new ≤ left self.old) };
 
-    /// The one character of a definite text. Skips tags; refused as `Char`.
+    /// The one character of a definite text. Skips tags; another item is refused as `Char`.
     fn character(&mut self) -> Result<char, Self::Error>
         ensures ok { IfOk result (λ v. Takes stands_before self.old self.new taken_character v) }
         ensures refused { IfErr result
@@ -115,7 +115,8 @@ pub trait Source {
         ensures less { OnOk result (left self.new < left self.old) }
         ensures no_more { OnErr result (left self.new ≤ left self.old) };
 
-    /// A text, definite or open (section 3.1). Skips tags; refused as `Text`.
+    /// A text, of definite or indefinite length (section 3.1). Skips tags; another item is refused
+    /// as `Text`.
     fn text(&mut self, alloc: Global) -> Result<String, Self::Error>
         ensures ok { IfOk result
             (λ v. Takes stands_before self.old self.new taken_text (string_bytes v)) }
@@ -125,9 +126,9 @@ pub trait Source {
         ensures less { OnOk result (left self.new < left self.old) }
         ensures no_more { OnErr result (left self.new ≤ left self.old) };
 
-    /// The bytes of a byte string, definite or open (section 3.1); or, with a level, of an array
-    /// of numbers, each as `integer` reads it, from 0 to 255, else refused as `Range`. Skips tags;
-    /// another item is refused as `Bytes`.
+    /// The bytes of a byte string, of definite or indefinite length (section 3.1); or those of an
+    /// array, which takes a level, of numbers from 0 to 255, each as `integer` reads it: a number
+    /// out of this range is refused as `Range`. Skips tags; another item is refused as `Bytes`.
     fn bytes(&mut self, alloc: Global) -> Result<Vec<u8>, Self::Error>
         ensures ok { IfOk result (λ v. Takes stands_before self.old self.new taken_bytes v.items) }
         ensures refused { IfErr result (λ e. Refuses stands_before self.old taken_bytes (cause e)) }
@@ -136,8 +137,8 @@ pub trait Source {
         ensures less { OnOk result (left self.new < left self.old) }
         ensures no_more { OnErr result (left self.new ≤ left self.old) };
 
-    /// A name: a text, or a byte string that is UTF-8 once its parts are joined, each definite or
-    /// open (section 3.1). Skips tags; refused as `Name`.
+    /// A name: a text, or a byte string that is UTF-8 once its chunks are joined, either of
+    /// definite or indefinite length (section 3.1). Skips tags; another item is refused as `Name`.
     fn name(&mut self, alloc: Global) -> Result<String, Self::Error>
         ensures ok { IfOk result
             (λ v. Takes stands_before self.old self.new taken_name (string_bytes v)) }
@@ -147,7 +148,7 @@ pub trait Source {
         ensures less { OnOk result (left self.new < left self.old) }
         ensures no_more { OnErr result (left self.new ≤ left self.old) };
 
-    /// Whether the item ahead is null or undefined, under no tag. It is not taken.
+    /// Whether the item ahead is null or undefined, without a tag. It is not taken.
     fn null_ahead(&mut self) -> Result<bool, Self::Error>
         ensures ok { IfOk result (λ b. Tells stands_before self.old self.new b) }
         ensures refused { IfErr result (λ e. RefusesToTell stands_before self.old (cause e)) }
@@ -157,8 +158,9 @@ pub trait Source {
         ensures less { OnOk result (left self.new ≤ left self.old) }
         ensures no_more { OnErr result (left self.new ≤ left self.old) };
 
-    /// The tag of the item ahead, if it has one (section 3.4), that of a bignum too; the source
-    /// then stands before what is under it. Takes a level, tag or none, for `end_tag` to give back.
+    /// The tag of the item ahead, if it has one (section 3.4), even that of a bignum; the source
+    /// then stands before the content of the tag. With or without a tag this always uses one
+    /// level, which `end_tag` gives back.
     fn begin_tag(&mut self) -> Result<(Option<u64>, Self::Level), Self::Error>
         ensures ok { IfOk result (λ p. Holds stands_before level_stands self.old self.new
             taken_outer_tag p.0 p.1) }
@@ -170,17 +172,17 @@ pub trait Source {
         ensures less { IfOk result (λ p. left self.new + level_left p.1 ≤ left self.old) }
         ensures no_more { OnErr result (left self.new ≤ left self.old) };
 
-    /// Gives the level of a tag back, once the item under it was read.
+    /// Gives the level of a tag back, once its content has been read.
     fn end_tag(&mut self, level: Self::Level)
         ensures ok { GivesBack stands_before level_stands self.old self.new level }
         ensures took { TakesNothing is_unread self.old self.new }
         ensures only { TakesOnly has_taken self.old self.new }
         ensures less { left self.new ≤ left self.old + level_left level };
 
-    /// The name of a variant: a text, definite or open, whose data is then a null ahead; or the
-    /// key, as `name` reads it, of a definite map of one pair, whose value is then ahead. Takes a
-    /// level in both cases, for `end_variant` to give back. Skips tags; another item is refused as
-    /// `Variant`.
+    /// The name of a variant: a text, of definite or indefinite length, after which a null stands
+    /// ahead as the data; or the key, as `name` reads it, of a definite map of one pair, whose
+    /// value is then ahead. Always uses one level, which `end_variant` gives back. Skips tags;
+    /// another item is refused as `Variant`.
     fn begin_variant(&mut self, alloc: Global) -> Result<(String, Self::Level), Self::Error>
         ensures ok { IfOk result (λ p. Holds stands_before level_stands self.old self.new
             taken_variant (string_bytes p.0) p.1) }
@@ -191,15 +193,15 @@ pub trait Source {
         ensures less { IfOk result (λ p. left self.new + level_left p.1 ≤ left self.old) }
         ensures no_more { OnErr result (left self.new ≤ left self.old) };
 
-    /// Gives the level of a variant back, once its data was read.
+    /// Gives the level of a variant back, once its data has been read.
     fn end_variant(&mut self, level: Self::Level)
         ensures ok { GivesBack stands_before level_stands self.old self.new level }
         ensures took { TakesNothing is_unread self.old self.new }
         ensures only { TakesOnly has_taken self.old self.new }
         ensures less { left self.new ≤ left self.old + level_left level };
 
-    /// Enters an array, which takes a level; or a byte string, whose bytes are then its items, as
-    /// integers, without one. Skips tags; another item is refused as `Array`.
+    /// Enters an array, which takes a level; or a byte string, which takes none, and whose bytes
+    /// are then its items, as integers. Skips tags; another item is refused as `Array`.
     fn begin_seq(&mut self, alloc: Global) -> Result<Self::Seq, Self::Error>
         ensures ok { IfOk result (λ q. Enters stands_before seq_stands self.old self.new q) }
         ensures refused { IfErr result (λ e. Refuses stands_before self.old taken_seq (cause e)) }
@@ -218,8 +220,8 @@ pub trait Source {
         ensures less { IfOk result (λ q. left self.new + seq_left q < left self.old) }
         ensures no_more { OnErr result (left self.new ≤ left self.old) };
 
-    /// Whether a further item, or a further key, is ahead. A map's value is read right behind its
-    /// key. At `false` the container is left, its break taken and its level given back.
+    /// Whether a further item, or a further key, is ahead. A map's value is read right after its
+    /// key. At `false` the container is left: its break is taken and its level given back.
     fn next(&mut self, seq: &mut Self::Seq) -> Result<bool, Self::Error>
         ensures ok { IfOk result (λ b. MatchBool b
             (GoesOn stands_before seq_stands self.old self.new seq.old seq.new)
@@ -236,7 +238,7 @@ pub trait Source {
         ensures no_more { OnErr result
             (left self.new + seq_left seq.new ≤ left self.old + seq_left seq.old) };
 
-    /// Whatever item is ahead, as a `Value`: its meaning, bignums folded (section 3.4.3).
+    /// The item ahead, of any type, as a `Value`: its meaning, with bignums folded (section 3.4.3).
     fn value(&mut self, alloc: Global) -> Result<Value, Self::Error>
         ensures ok { IfOk result
             (λ v. Takes stands_before self.old self.new taken_value (tree_of v)) }
@@ -247,11 +249,11 @@ pub trait Source {
         ensures less { OnOk result (left self.new < left self.old) }
         ensures no_more { OnErr result (left self.new ≤ left self.old) };
 
-    /// The error for an item that is not wanted, for an implementation of `Deserialize` to answer.
+    /// The error with which an implementation of `Deserialize` refuses an item.
     fn refuse(&self, kind: Kind) -> Self::Error
         ensures { cause result ≡ of_kind kind };
 
-    /// The error for a growth that an implementation of `Deserialize` was refused.
+    /// The error of an implementation of `Deserialize` in which an allocation failed.
     fn memory(&self) -> Self::Error
         ensures { cause result ≡ of_memory };
 }

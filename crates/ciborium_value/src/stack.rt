@@ -14,7 +14,7 @@ use std::alloc::{AllocError, Global};
 use std::mem;
 
 /// A container or tag that begins. `behind` says how many items or pairs follow the first; with
-/// `None` as many as come before a break.
+/// `None` they are as many as come before a break.
 #[derive(Clone, Copy)]
 pub enum Opening {
     /// An array.
@@ -213,7 +213,8 @@ impl Stack {
         self.frames.len()
     }
 
-    /// Opens a container or tag inside those that are open. Refused, they are as they were.
+    /// Opens a container or tag inside those that are open. Where an allocation fails, they are as
+    /// they were.
     pub fn open(&mut self, opening: Opening) -> Result<(), AllocError>
         ensures ok { OnOk result (opens_of self.new ≡ opened opening ∷ opens_of self.old) }
         ensures err { OnErr result (opens_of self.new ≡ opens_of self.old) }
@@ -222,8 +223,8 @@ impl Stack {
         Ok(())
     }
 
-    /// Puts a value where one is due. Answers the value that it completes last, where nothing is
-    /// open any more. Refused, what was open is given up.
+    /// Puts a value where one is due. Returns the value that it completes last, where nothing is
+    /// open any more. Where an allocation fails, what was open is given up.
     #[inline(always)]
     pub fn place(&mut self, value: Value) -> Result<Option<Value>, AllocError>
         ensures { IfOk result (λ r. placed_of r (opens_of self.new) ≡
@@ -232,8 +233,8 @@ impl Stack {
         place(self.alloc, &mut self.frames, value)
     }
 
-    /// The key that waits for its value in the innermost container, behind the key before it: none
-    /// where that is no map, or no key waits, or the key is the first.
+    /// The key that waits for its value in the innermost container, and the key before it: none
+    /// where this is no map, or no key waits, or the key is the first.
     #[inline(always)]
     pub fn waiting_keys(&self) -> Option<(&Value, &Value)>
         ensures { option_map (λ keys. (tree_of keys.0.now, tree_of keys.1.now)) result ≡
@@ -254,9 +255,9 @@ impl Stack {
         }
     }
 
-    /// How many parts of the innermost container are due for sure, the one that is read now
-    /// included; a pair is two. None where no length was announced, under a tag, and where nothing
-    /// is open.
+    /// How many parts of the innermost container are due for sure, including the one that is read
+    /// now; a pair counts as two. None where no length was announced, under a tag, and where
+    /// nothing is open.
     #[inline(always)]
     pub fn due(&self) -> usize
         ensures { result ≡ min (parts_due (opens_of self.now)) usize.MAX }
@@ -282,8 +283,8 @@ impl Stack {
         }
     }
 
-    /// Ends the innermost container at a break and takes it off, if a break may stand there. `None`
-    /// gives up the innermost.
+    /// Ends the innermost container at a break and takes it off, if a break may stand there. At
+    /// `None` the innermost is given up.
     pub fn close(&mut self) -> Option<Value>
         ensures { MatchOption result
             ((closed (opens_of self.old) ≡ None) ×

@@ -20,8 +20,8 @@ ghost use Rattle.ciborium_value.specs.OrderLaws.{ValuesAreOrdered};
 ghost use Rattle.ciborium_value.specs.WrittenItems.{TreeIsWrittenAsItself, WrittenSpells};
 ghost use Rattle.ciborium_value.specs.WrittenItems.{WrittenTreeFolds, WrittenTreeIsProper};
 
-/// All bytes, at every offset and under every limit of levels, begin with a good item or are
-/// refused, never both, and with one refusal alone.
+/// All bytes, at every offset and under every limit of levels, either begin with a good item or are
+/// refused, never both, and there is one refusal alone.
 pub fn good_or_refused()
     ensures one_of { GoodOrRefused }
     ensures never_both { NeverBoth }
@@ -37,8 +37,8 @@ pub fn meaning_of_written_is_folded()
     ensures read_back { EncodingIsGood }
 {}
 
-/// What the definitions say of given bytes and trees, after RFC 8949, its section 8 and its appendix
-/// A.
+/// What the definitions say of given bytes and trees, after RFC 8949, its section 8 and its
+/// appendix A.
 pub fn worked_examples()
     ensures spelled { SpelledExamples }
     ensures folding { FoldingExamples }
@@ -52,7 +52,7 @@ pub fn worked_examples()
 {}
 
 /// The `==` of `Value` is equality of content, and its `cmp` is the order by variant and then by
-/// content: a total order, which ties equal values alone.
+/// content: a total order, in which only equal values compare as equal.
 pub fn order_of_values()
     ensures equal { EqualAsTrees }
     ensures equivalence { EqualityIsEquivalence }
@@ -71,15 +71,15 @@ pub fn bytes_of_bignums()
     ensures item { NumberTreeIsItem }
 {}
 
-/// The canonical order of two numbers, which `Integer::canonical_cmp` answers, is the canonical
+/// The canonical order of two numbers, which `Integer::canonical_cmp` returns, is the canonical
 /// order of them as trees (RFC 8949, section 4.2.3; RFC 7049, section 3.9).
 pub fn order_of_integers()
     ensures { IntegersAsTrees }
 {}
 
 /// The bytes of every item that typed writing writes spell it, and it means the folding of its
-/// tree. So what was written is read back as the folding of what `Value::serialized` makes. A value
-/// is made into itself.
+/// tree. So what was written is read back as the folding of what `Value::serialized` makes, which
+/// of a `Value` makes the same value.
 pub fn written_reads_back()
     ensures spells { WrittenSpells }
     ensures folds { WrittenTreeFolds }

@@ -13,8 +13,8 @@ use crate::kind::Kind;
 use crate::source::Source;
 use std::alloc::Global;
 
-/// A field by its name, what was read of it so far, and the fields behind it: a `Wanted` again, or
-/// `NoField`. They are read by `read_fields`, at first with nothing that was read of them:
+/// A field by its name, what has been read of it so far, and the fields after it: a `Wanted` again,
+/// or `NoField`. They are read by `read_fields`, and nothing has been read of them at first:
 ///
 ///     let mut fields = Wanted("version", None, Wanted("body", None, NoField));
 ///     read_fields(alloc, source, &mut fields)?;
@@ -32,10 +32,11 @@ pub trait WantedFields: Drop {
     // What an item gives them under a name, onto what was read.
     ghost fields: { Self → FieldsTaken Content };
 
-    /// Reads the item that the source stands before, which stands under this name: as the type of
-    /// the first field of the name, in the place of what was read of it, or else as a value, which
-    /// is dropped. Refused where the item is; a beginning of what was unread is then taken and
-    /// nothing else, and no more is left to read.
+    /// Reads the item that the source stands before, which is the value under this name: as the
+    /// type of the first field of this name, replacing what was read of it before, or, where there
+    /// is no such field, as a `Value`, which is dropped. It is refused where the item is. Then a
+    /// prefix of what was unread has been taken and nothing else, and no more is left to read than
+    /// before.
     fn read_field<S: Source>(
         &mut self,
         name: &str,
@@ -93,16 +94,16 @@ impl<V: Deserialize, R: WantedFields> WantedFields for Wanted<'_, V, R> {
     }
 }
 
-/// Reads a map by the names that are its keys, each as `Source::name` reads it: what stands under
-/// the name of a field as its type, where of a repeated name the last one counts, and what stands
-/// under another as a value, which is dropped. Skips tags. A field that does not come stays as it
-/// was.
+/// Reads a map whose keys are names, each as `Source::name` reads it. The value under the name of a
+/// field is read as the field's type, and of a repeated name the last one counts; the value under
+/// another name is read as a `Value`, and dropped. Skips tags. A field that does not occur stays as
+/// it was.
 ///
 /// # Errors
 ///
-/// Refused as `Map` where another item stands, as `Name` where a key is no name, for nesting where
-/// no level is left, and where what stands under a name is. A beginning of what was unread is then
-/// taken and nothing else, and no more is left to read.
+/// It is refused as `Map` where another item stands there, as `Name` where a key is no name, for
+/// nesting where no level is left, and where the value under a name is refused. Then a prefix of
+/// what was unread has been taken and nothing else, and no more is left to read than before.
 pub fn read_fields<F: WantedFields, S: Source>(
     alloc: Global,
     source: &mut S,
@@ -129,7 +130,7 @@ pub fn read_fields<F: WantedFields, S: Source>(
 ///
 /// # Errors
 ///
-/// Refused as `Other` where nothing was.
+/// It is refused as `Other` where nothing was read.
 pub fn required<T: Drop, S: Source>(source: &S, field: Option<T>) -> Result<T, S::Error>
     ensures found { IfOk result (λ v. field ≡ Some v) }
     ensures missing { IfErr result (λ e. (field ≡ None) × (S.cause e ≡ of_kind Other)) }

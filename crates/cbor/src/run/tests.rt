@@ -86,7 +86,7 @@ const RUNS: &[(&[&str], &str, &str, u8)] = &[
          ok f6\n",
         0,
     ),
-    // Open forms become definite, and bignums fold.
+    // Indefinite lengths become definite, and bignums fold.
     (
         &["canon"],
         "bf02000100ff\n9f01bf6162006161f7ffff\n7f6161ff\nC24200ff\r\nc25fff\n",
@@ -101,7 +101,8 @@ const RUNS: &[(&[&str], &str, &str, u8)] = &[
         1,
     ),
     (&["canon", "--core"], "a2c24101000101\n", "duplicate\n", 1),
-    // A bignum in an open byte string is read as it stands, and only its form is refused.
+    // A bignum over a byte string of indefinite length is read as it stands, and only its form is
+    // refused.
     (
         &["canon", "--core"],
         "c35f5080000000000000000000000000000000ff\nc35080000000000000000000000000000000\n",
@@ -162,7 +163,8 @@ const RUNS: &[(&[&str], &str, &str, u8)] = &[
          23(h'01020304')\n",
         0,
     ),
-    // Open forms are shown as definite ones, pairs in their order, and a long bignum as its tag.
+    // Indefinite lengths are shown as definite ones, pairs in their order, and a long bignum as its
+    // tag.
     (
         &["diag"],
         "9f018202039f0405ffff\n5f42010243030405ff\na202010100\nc2510100000000000000000000000000000000\n",
@@ -371,7 +373,7 @@ fn answers_a_line_longer_than_its_buffer(rt: HostRuntime) -> Result<(), Fail> {
     Ok(())
 }
 
-// A command, so many arrays, one in the other, how what is written for them begins, and the status.
+// A command, so many nested arrays, how what is written for them begins, and the status.
 const NESTED: [(&str, usize, &str, u8); 10] = [
     ("diag", 256, "[[[[", 0),
     ("diag", 257, "nesting\n", 1),

@@ -120,9 +120,9 @@ fn build<S: Rules, R: Read>(
     }
 }
 
-/// Reads the value ahead in this spelling, within this many levels. A reader's error is kept aside.
-/// Behind the value nothing is held that might not be read ahead before; behind a refusal nothing
-/// is, and no head is pushed.
+/// Reads the value ahead in this spelling, within this many levels. The reader's error is kept
+/// aside. After the value nothing is held that was not allowed to be read ahead before; after a
+/// refusal nothing is held, and no head is pushed back.
 pub(crate) fn read_value<S: Rules, R: Read>(
     alloc: Global,
     decoder: &mut Decoder<'_, R>,

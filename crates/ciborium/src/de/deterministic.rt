@@ -166,19 +166,20 @@ fn read_by<S: Rules, R: Read>(
     }
 }
 
-/// Reads one value as `from_reader_with_recursion_limit` does, but accepts one spelling of each
-/// value alone, its deterministic encoding (RFC 8949, section 4.2): every head is the shortest,
-/// every string, array and map is definite, null is `f6`, a bignum has no leading zeros and is no
-/// number of 64 bits, and the keys of each map strictly rise in the canonical order (section
+/// Reads one value as `from_reader_with_recursion_limit` does, but accepts only one encoding of
+/// each value, the deterministic one (RFC 8949, section 4.2): every head is the shortest, every
+/// string, array and map has a definite length, null is `f6`, a bignum has no leading zeros and
+/// does not fit in 64 bits, and the keys of each map strictly rise in the canonical order (section
 /// 4.2.3). It is what `into_writer` writes for the value. Comparing keys takes no memory.
 ///
 /// # Errors
 ///
-/// Those of `from_reader`, in the order of the bytes, and `Semantic` with the offset of the head:
-/// kind `Open` for a string, array or map of indefinite length; `NotShortest` for a longer head
-/// than need be, and for undefined; both before the limit and any payload are judged. `NotFolded`
-/// with the offset of the tag for a bignum with leading zeros or of at most 8 bytes; `KeyOrder`
-/// with the offset of a key that does not follow the key before it, before its value is read.
+/// Those of `from_reader`, in the order of the bytes, and `Semantic` with the following kinds.
+/// `Open`, with the offset of the head, for a string, array or map of indefinite length, and
+/// `NotShortest`, likewise, for a head that is longer than need be, and for undefined; both come
+/// before the limit and any payload are judged. `NotFolded`, with the offset of the tag, for a
+/// bignum with leading zeros or of at most 8 bytes. `KeyOrder`, with the offset of the key, for a
+/// key that does not follow the key before it; it comes before the key's value is read.
 pub fn from_reader_deterministic<R: Read>(
     alloc: Global,
     reader: &mut R,
@@ -190,20 +191,20 @@ pub fn from_reader_deterministic<R: Read>(
     read_by::<LengthFirst, R>(alloc, reader, limit)
 }
 
-/// Reads one value as `from_reader_deterministic` does, with the order that the keys of each map
-/// are to be in. By `KeyOrder::LengthFirst` it is that call: of two keys the one with the shorter
-/// encoding comes first, and of two of one size the one with the first lower byte (RFC 8949,
-/// section 4.2.3). By `KeyOrder::Bytewise` the key whose encoding has the first lower byte comes
-/// first, whatever the sizes, as in the core deterministic encoding (section 4.2.1). In either
-/// order no key of a map is equal to another, and all else is the same: every head is the shortest,
-/// every string, array and map is definite, null is `f6`, and a bignum has no leading zeros and is
-/// no number of 64 bits. What is read is what `into_writer` writes for the value, since that keeps
-/// the order of the pairs. Comparing keys takes no memory.
+/// Reads one value as `from_reader_deterministic` does, with the keys of each map in the given
+/// order. By `KeyOrder::LengthFirst` it is the same call: the key with the shorter encoding comes
+/// first, and of two of equal length the bytewise lower one (RFC 8949, section 4.2.3). By
+/// `KeyOrder::Bytewise` the key with the bytewise lower encoding comes first, whatever the lengths,
+/// as in the core deterministic encoding (section 4.2.1). In either order no key of a map is equal
+/// to another, and all else is the same: every head is the shortest, every string, array and map
+/// has a definite length, null is `f6`, and a bignum has no leading zeros and does not fit in 64
+/// bits. What is read is what `into_writer` writes for the value, since that keeps the order of the
+/// pairs. Comparing keys takes no memory.
 ///
 /// # Errors
 ///
-/// Those of `from_reader_deterministic`; `KeyOrder` with the offset of a key that does not follow
-/// the key before it in the order that is named, before its value is read.
+/// Those of `from_reader_deterministic`; `KeyOrder`, with the offset of the key, for a key that
+/// does not follow the key before it in the given order, before the key's value is read.
 pub fn from_reader_deterministic_with_order<R: Read>(
     alloc: Global,
     reader: &mut R,

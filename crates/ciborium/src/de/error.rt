@@ -1,4 +1,4 @@
-//! Why a read is refused.
+//! Why reading fails.
 
 ghost use Rattle.std.specs.Prelude.{◌≡◌};
 ghost use Rattle.ciborium.specs.Errors.{from_ll, refusal_of};
@@ -10,29 +10,29 @@ use std::alloc::{AllocError, AllocFailed};
 use std::io::{self, ErrorKind};
 use std::{error, fmt};
 
-/// Why a read is refused. Offsets count bytes, from where the call began to read.
+/// Why reading failed. Offsets count bytes, from where the call began to read.
 ///
-/// Each has a message of one line: `at byte 17: not an array`. That of `Io` is `reading failed: `
-/// and the reader's own, and a clause knows it where it knows that one; what an `io::Error` prints
-/// it does not know.
+/// Each has a message of one line, as `at byte 17: not an array`. That of `Io` is
+/// `reading failed: ` and then the message of the reader's error. A clause states it where that
+/// message is known to clauses, which that of an `io::Error` is not.
 #[derive(Debug, Drop)]
 pub enum Error<T> {
     /// The reader failed, or ended where bytes are needed.
     Io(T),
     /// What stands at this offset is not well-formed (RFC 8949, appendix F).
     Syntax(usize),
-    /// An item is well-formed and not wanted: where it begins, if that is known, and why.
+    /// An item is well-formed but not the wanted one: where it begins, if that is known, and why.
     Semantic(Option<usize>, Kind),
     /// An array, a map or a tag nests deeper than the limit.
     RecursionLimitExceeded,
-    /// A growth of memory was refused.
+    /// An allocation failed.
     Memory,
     /// The next bytes would take the offset past `usize::MAX`.
     TooLong,
 }
 
 impl<T> Error<T> {
-    /// An item that is not wanted, where it begins, if that is known, and why.
+    /// The error of an item that is not the wanted one: where it begins, if that is known, and why.
     pub fn semantic(offset: Option<usize>, kind: Kind) -> Error<T>
         ensures { result ≡ Error.Semantic offset kind }
     {

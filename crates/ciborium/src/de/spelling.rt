@@ -30,7 +30,7 @@ pub(crate) trait Rules {
             (λ at. HasKeyOutOfOrder spelling (opens_of stack.now) end at) };
 }
 
-/// Every width and form of a head, open lengths, and keys in any order (RFC 8949, section 3).
+/// Every width and form of a head, indefinite lengths, and keys in any order (RFC 8949, section 3).
 pub(crate) struct AnySpelling;
 
 impl Rules for AnySpelling {

@@ -78,8 +78,8 @@ fn read_bignum<S: Rules, R: Read>(
     fold(alloc, tag, payload, offset)
 }
 
-/// Reads what stands behind the head of a tag, which was pulled: what it folds over, or the next
-/// head, which is given back.
+/// Reads what follows the head of a tag, which was pulled: the string that it folds over, or the
+/// next head, which is pushed back.
 pub(crate) fn read_tag<S: Rules, R: Read>(
     alloc: Global,
     decoder: &mut Decoder<'_, R>,

@@ -12,24 +12,24 @@ use std::io::{self, Write};
 
 /// Writes the item of a value in its deterministic form, by this order of keys. Deterministic
 /// encoding (RFC 8949, section 4.2) asks for preferred serialization (section 4.1), for definite
-/// lengths, and for sorted keys. So every head is the shortest, every string, array and map is
-/// definite, a bignum has no leading zeros and is no number of 64 bits, and the pairs of each map
-/// are sorted by the encodings of their keys: by `KeyOrder::Bytewise` the key with the first lower
-/// byte comes first (section 4.2.1), by `KeyOrder::LengthFirst` the shorter key, and of two of one
-/// size the one with the first lower byte (section 4.2.3). Duplicate keys are refused, also where
-/// only their forms are equal.
+/// lengths, and for sorted keys. So every head is the shortest, every string, array and map has a
+/// definite length, a bignum has no leading zeros and does not fit in 64 bits, and the pairs of
+/// each map are sorted by the encodings of their keys: by `KeyOrder::Bytewise` the bytewise lower
+/// key comes first (section 4.2.1), by `KeyOrder::LengthFirst` the shorter key, and of two of equal
+/// length the bytewise lower one (section 4.2.3). Duplicate keys are refused, also where only their
+/// forms are equal.
 ///
-/// It takes memory for the tree of what the value names, as `Value::serialized` does, and writes
-/// once the whole tree is in its form. Nothing is flushed.
+/// It takes memory for the tree of the item that the value names, as `Value::serialized` does, and
+/// writes nothing before the whole tree is in its form. Nothing is flushed.
 ///
 /// # Errors
 ///
-/// `Value` is the kind that a value without an item names, or with which its tree has no form, as
-/// `Value::make_deterministic` says: `DuplicateKey` where two keys of a map have one form, and
-/// `TooLarge` where a bignum of at most 16 bytes is negative and no `i128` holds it. `Memory` comes
-/// where a growth for the tree was refused. At both nothing has gone out, and the writer is as it
-/// was. `Io` is the first error of the writer, as of `into_writer`: a proper beginning of the
-/// encoding of the form has gone out, and nothing else.
+/// `Value` holds the kind that a value without an item names, or the kind for which its tree has no
+/// form, as `Value::make_deterministic` says: `DuplicateKey` where two keys of a map have the same
+/// form, and `TooLarge` where a bignum of at most 16 bytes is negative and no `i128` holds it.
+/// `Memory` comes where an allocation for the tree failed. At both nothing was written, and the
+/// writer is as it was. `Io` holds the first error of the writer, as in `into_writer`: only a
+/// strict prefix of the encoding of the form was written.
 pub fn into_writer_deterministic<T: Serialize, W: Write>(
     alloc: Global,
     value: &T,
@@ -38,7 +38,7 @@ pub fn into_writer_deterministic<T: Serialize, W: Write>(
 ) -> Result<(), Error<io::Error>>
     ensures bytes { WritesForm (W.contents writer.old) (W.contents writer.new) result
         (named_form order (T.written value.now)) }
-    // Refused, or without memory, the writer is as it was.
+    // Refused, or where an allocation failed, the writer is as it was.
     ensures untouched { IfErr result (λ e. ¬ IsIo e → writer.new ≡ writer.old) }
     ensures refused { IfErr result (λ e.
         IsFormOwed (cause_of e) (named_form order (T.written value.now))) }

@@ -11,18 +11,18 @@ use std::io::{self, Write};
 
 /// Writes values as a CBOR sequence (RFC 8742, section 2): the item of each as `into_writer` writes
 /// it, one after the other with nothing between them, and nothing for an empty list. Sequences that
-/// are written in a row are one sequence.
+/// are written one after the other are one sequence.
 ///
 /// # Errors
 ///
-/// Those of `into_writer` for the first value that is refused; behind it nothing is written.
-/// `Value` is the kind that the first value without an item names. Where each value has an item, a
-/// proper beginning of all their bytes has gone out, and nothing else.
+/// Those of `into_writer` for the first value that is refused; nothing is written after it. `Value`
+/// holds the kind that the first value without an item names. Where each value has an item, only a
+/// strict prefix of all their bytes was written.
 pub fn write_sequence<T: Serialize, W: Write>(
     values: &[T],
     writer: &mut W,
 ) -> Result<(), Error<io::Error>>
-    // All the items, one after the other, at `Ok`; at `Err` a proper beginning of them.
+    // All the items, one after the other, at `Ok`; at `Err` a strict prefix of them.
     ensures bytes { WritesInTurn (W.contents writer.old) (W.contents writer.new) result
         (all_named (map T.written values.now)) }
     ensures refused { IfErr result (λ e. IsOwedAmong (cause_of e) (map T.written values.now)) }

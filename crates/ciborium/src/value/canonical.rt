@@ -38,8 +38,8 @@ use std::alloc::{AllocError, Global};
 use std::cmp::Ordering;
 use std::marker::Model;
 
-/// A value with the size of its encoding, measured once: for values that are compared often, as by
-/// a sort.
+/// A value with the size of its encoding, measured once: for values that are compared often, as in
+/// sorting.
 #[derive(Debug, Drop)]
 pub struct MeasuredValue {
     value: Value,
@@ -58,7 +58,7 @@ impl Model for MeasuredValue {
 }
 
 impl MeasuredValue {
-    /// The value, which it measures. It takes no memory.
+    /// Measures the value, and holds it. It takes no memory.
     pub fn new(value: Value) -> MeasuredValue
         ensures same { result ≡ value }
     {
@@ -74,8 +74,8 @@ impl MeasuredValue {
     }
 }
 
-/// The canonical order of two values, as `cmp_value` finds it, by the sizes that they have beside
-/// them: it walks over the values only where those are equal. It takes no memory.
+/// The canonical order of two values, as `cmp_value` finds it, by their measured sizes: it walks
+/// over the values only where these are equal. It takes no memory.
 pub fn cmp_measured(left: &MeasuredValue, right: &MeasuredValue) -> Ordering
     ensures order { result ≡ canonical_order (tree_of left.now) (tree_of right.now) }
     ensures left_proper { IsProperTree (tree_of left.now) }
@@ -87,7 +87,7 @@ pub fn cmp_measured(left: &MeasuredValue, right: &MeasuredValue) -> Ordering
     }
 }
 
-/// A value whose order is the canonical one, as of a map key. Two are equal where their contents
+/// A value whose order is the canonical one, as for a map key. Two are equal where their contents
 /// are.
 #[derive(Debug, Drop)]
 pub struct CanonicalValue {
@@ -122,7 +122,7 @@ impl From<CanonicalValue> for Value {
     }
 }
 
-/// A copy of equal content, or the error where memory was refused.
+/// A copy of equal content, or the error where an allocation failed.
 impl Clone for CanonicalValue {
     ghost is_clone = { λ v w. tree_of w ≡ tree_of v };
 
@@ -133,7 +133,7 @@ impl Clone for CanonicalValue {
     }
 }
 
-/// The definite item of the value, nothing folded. No memory is taken.
+/// The definite item of the value, with no bignum folded. No memory is taken.
 impl Serialize for CanonicalValue {
     ghost written = { named_value };
 
@@ -144,7 +144,7 @@ impl Serialize for CanonicalValue {
     }
 }
 
-/// Whatever item is ahead, as `Value` reads it.
+/// The item ahead, of any type, as `Value` reads it.
 impl Deserialize for CanonicalValue {
     ghost Content = { Tree };
 
@@ -156,7 +156,7 @@ impl Deserialize for CanonicalValue {
     }
 }
 
-/// Where folding changes nothing, as of `Value`.
+/// For a value in which folding changes nothing, as for `Value`.
 impl ReadsBack for CanonicalValue {
     ghost is_held = { λ c. folded (tree_of c) ≡ Some (tree_of c) };
 
@@ -191,7 +191,7 @@ impl Eq for CanonicalValue {
     ghost laws = { value_eq_equivalence };
 }
 
-/// The canonical order, as of `cmp_value`.
+/// The canonical order, that of `cmp_value`.
 impl PartialOrd for CanonicalValue {
     ghost partial_cmp = { as_partial_cmp canonical_value_cmp };
 
@@ -206,7 +206,7 @@ impl PartialOrd for CanonicalValue {
     }
 }
 
-/// The canonical order, as of `cmp_value`.
+/// The canonical order, that of `cmp_value`.
 impl Ord for CanonicalValue {
     ghost cmp = { canonical_value_cmp };
 

@@ -10,8 +10,8 @@ use crate::source::Source;
 use std::alloc::Global;
 use std::collections::BTreeMap;
 
-/// The pairs of a map, of which at equal keys the last one's value counts. Skips tags; refused as
-/// `Map` where another item stands.
+/// The pairs of a map; of equal keys the value of the last one counts. Skips tags; another item is
+/// refused as `Map`.
 impl<K: Key, V: Deserialize> Deserialize for BTreeMap<K, V> {
     ghost Content = { List (K.Content × V.Content) };
 

@@ -15,7 +15,7 @@ use crate::byte_buf::ByteBuf;
 use crate::source::Source;
 use std::alloc::Global;
 
-/// Null or undefined. Skips tags; refused as `Unit` where another item stands.
+/// Null or undefined. Skips tags; another item is refused as `Unit`.
 impl Deserialize for () {
     ghost Content = { Unit {0} };
 
@@ -31,7 +31,7 @@ impl Key for () {
     ghost orders = { λ a b. refl };
 }
 
-/// False or true. Skips tags; refused as `Bool` where another item stands.
+/// False or true. Skips tags; another item is refused as `Bool`.
 impl Deserialize for bool {
     ghost Content = { Bool };
 
@@ -47,7 +47,7 @@ impl Key for bool {
     ghost orders = { λ a b. refl };
 }
 
-/// The one character of a definite text. Skips tags; refused as `Char` where another item stands.
+/// The one character of a definite text. Skips tags; another item is refused as `Char`.
 impl Deserialize for char {
     ghost Content = { ℕ };
 
@@ -63,7 +63,7 @@ impl Key for char {
     ghost orders = { λ a b. refl };
 }
 
-/// A text, definite or open. Skips tags; refused as `Text` where another item stands.
+/// A text, of definite or indefinite length. Skips tags; another item is refused as `Text`.
 impl Deserialize for String {
     ghost Content = { List ℕ };
 
@@ -79,8 +79,8 @@ impl Key for String {
     ghost orders = { λ a b. refl };
 }
 
-/// A byte string, definite or open, or an array of numbers from 0 to 255, where another number is
-/// refused as `Range`. Skips tags; refused as `Bytes` where another item stands.
+/// A byte string, of definite or indefinite length, or an array of numbers from 0 to 255, in which
+/// another number is refused as `Range`. Skips tags; another item is refused as `Bytes`.
 impl Deserialize for ByteBuf {
     ghost Content = { List ℕ };
 
@@ -97,8 +97,7 @@ impl Key for ByteBuf {
     ghost orders = { λ a b. refl };
 }
 
-/// `None` where null or undefined stands, under no tag; else `Some` of what the item gives, or its
-/// refusal.
+/// `None` for null or undefined without a tag; else `Some` of what the item gives, or its refusal.
 impl<T: Deserialize> Deserialize for Option<T> {
     ghost Content = { Option T.Content };
 

@@ -58,8 +58,8 @@ fn drop_rest<S: Source>(alloc: Global, source: &mut S, seq: &mut S::Seq) -> Resu
     Ok(())
 }
 
-/// The items of an array, or of a byte string its bytes. Skips tags; refused as `Array` where
-/// another item stands.
+/// The items of an array, or the bytes of a byte string. Skips tags; another item is refused as
+/// `Array`.
 impl<T: Deserialize> Deserialize for Vec<T> {
     ghost Content = { List T.Content };
 
@@ -84,9 +84,9 @@ impl<T: Key> Key for Vec<T> {
         slice_cmp-map T.cmp T.reading.order T.reading.content T.orders a.items b.items };
 }
 
-/// The first item of an array, or of a byte string its first byte. Skips tags; none is refused as
-/// `Length`, further ones are read as values and dropped, and where another item stands it is
-/// refused as `Array`.
+/// The first item of an array, or the first byte of a byte string. Skips tags; an empty one is
+/// refused as `Length`, further items are read as values and dropped, and another item in place of
+/// the array is refused as `Array`.
 impl<A: Deserialize> Deserialize for (A,) {
     ghost Content = { A.Content };
 
@@ -104,9 +104,9 @@ impl<A: Key> Key for (A,) {
     ghost orders = { λ a b. A.orders a.0 b.0 };
 }
 
-/// The first two items of an array, or of a byte string its first two bytes. Skips tags; fewer
-/// items are refused as `Length`, further ones are read as values and dropped, and where another
-/// item stands it is refused as `Array`.
+/// The first two items of an array, or the first two bytes of a byte string. Skips tags; fewer
+/// items are refused as `Length`, further ones are read as values and dropped, and another item in
+/// place of the array is refused as `Array`.
 impl<A: Deserialize, B: Deserialize> Deserialize for (A, B) {
     ghost Content = { A.Content × B.Content };
 
@@ -125,9 +125,9 @@ impl<A: Key, B: Key> Key for (A, B) {
     ghost orders = { λ a b. ordering_then-same (A.orders a.0 b.0) (B.orders a.1 b.1) };
 }
 
-/// The first three items of an array, or of a byte string its first three bytes. Skips tags; fewer
-/// items are refused as `Length`, further ones are read as values and dropped, and where another
-/// item stands it is refused as `Array`.
+/// The first three items of an array, or the first three bytes of a byte string. Skips tags; fewer
+/// items are refused as `Length`, further ones are read as values and dropped, and another item in
+/// place of the array is refused as `Array`.
 impl<A: Deserialize, B: Deserialize, C: Deserialize> Deserialize for (A, B, C) {
     ghost Content = { A.Content × B.Content × C.Content };
 
@@ -149,9 +149,9 @@ impl<A: Key, B: Key, C: Key> Key for (A, B, C) {
         (C.orders a.2 b.2) };
 }
 
-/// The first four items of an array, or of a byte string its first four bytes. Skips tags; fewer
-/// items are refused as `Length`, further ones are read as values and dropped, and where another
-/// item stands it is refused as `Array`.
+/// The first four items of an array, or the first four bytes of a byte string. Skips tags; fewer
+/// items are refused as `Length`, further ones are read as values and dropped, and another item in
+/// place of the array is refused as `Array`.
 impl<A: Deserialize, B: Deserialize, C: Deserialize, D: Deserialize> Deserialize for (A, B, C, D) {
     ghost Content = { A.Content × B.Content × C.Content × D.Content };
 

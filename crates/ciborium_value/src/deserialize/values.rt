@@ -1,4 +1,4 @@
-//! Whatever item is ahead.
+//! The item ahead, of any type.
 
 ghost use Rattle.ciborium_value.specs.DerivedOrder.{value_cmp-is};
 ghost use Rattle.ciborium_value.specs.Readings.{whole_of};
@@ -10,8 +10,8 @@ use crate::source::Source;
 use crate::tree::Value;
 use std::alloc::Global;
 
-/// Whatever item is ahead: its meaning, bignums folded. Refused as `Float` or `Simple` where it
-/// holds a float or a simple value that has no meaning, and as `TooLarge` where a bignum is too
+/// The item ahead, of any type, with its bignums folded. It is refused as `Float` or `Simple` where
+/// it holds a float or a simple value that is not assigned, and as `TooLarge` where a bignum is too
 /// great (RFC 8949, section 3.4.3).
 impl Deserialize for Value {
     ghost Content = { Tree };

@@ -110,7 +110,7 @@ fn next<'a>(path: &mut Vec<Coming<'a>>) -> Result<Option<&'a Value>, AllocError>
     Ok(None)
 }
 
-/// A copy in which each tag 2 or 3 is folded that folds (RFC 8949, section 3.4.3). The walk keeps
+/// A copy in which each tag 2 or 3 that folds is folded (RFC 8949, section 3.4.3). The walk keeps
 /// what is open on a stack of its own.
 pub(super) fn fold_value(alloc: Global, value: &Value) -> Result<Value, Error>
     ensures ok { IfOk result (λ v. taken_value None (value_item value.now) ≡ gives (tree_of v)) }

@@ -10,9 +10,9 @@ ghost use Rattle.ciborium_value.specs.View.{tree_of};
 use super::ReadsBack;
 use crate::tree::Value;
 
-/// Where folding changes nothing: no tag 2 or 3 in it stands over a byte string that is read as an
-/// integer, or as a bignum without its leading zeros (RFC 8949, section 3.4.3). What was read is
-/// such a value. It takes as many levels as it nests.
+/// For a value in which folding changes nothing: no tag 2 or 3 in it stands over a byte string that
+/// is read as an integer, or as a bignum without its leading zeros (RFC 8949, section 3.4.3). What
+/// was read is such a value. It takes as many levels as it nests.
 impl ReadsBack for Value {
     ghost is_held = { λ v. folded (tree_of v) ≡ Some (tree_of v) };
 

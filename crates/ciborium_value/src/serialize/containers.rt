@@ -25,7 +25,7 @@ impl<T: Serialize> Serialize for Vec<T> {
     }
 }
 
-/// A definite array of the one.
+/// A definite array of the one item.
 impl<A: Serialize> Serialize for (A,) {
     ghost written = { λ t. container_of sequence (A.written t.0 ∷ []) };
 
@@ -38,7 +38,7 @@ impl<A: Serialize> Serialize for (A,) {
     }
 }
 
-/// A definite array of the two.
+/// A definite array of the two items.
 impl<A: Serialize, B: Serialize> Serialize for (A, B) {
     ghost written = { λ t. container_of sequence (A.written t.0 ∷ B.written t.1 ∷ []) };
 
@@ -52,7 +52,7 @@ impl<A: Serialize, B: Serialize> Serialize for (A, B) {
     }
 }
 
-/// A definite array of the three.
+/// A definite array of the three items.
 impl<A: Serialize, B: Serialize, C: Serialize> Serialize for (A, B, C) {
     ghost written = { λ t. container_of sequence
         (A.written t.0 ∷ B.written t.1 ∷ C.written t.2 ∷ []) };
@@ -68,7 +68,7 @@ impl<A: Serialize, B: Serialize, C: Serialize> Serialize for (A, B, C) {
     }
 }
 
-/// A definite array of the four.
+/// A definite array of the four items.
 impl<A: Serialize, B: Serialize, C: Serialize, D: Serialize> Serialize for (A, B, C, D) {
     ghost written = { λ t. container_of sequence
         (A.written t.0 ∷ B.written t.1 ∷ C.written t.2 ∷ D.written t.3 ∷ []) };

@@ -82,7 +82,7 @@ impl Serialize for ByteBuf {
     }
 }
 
-/// What it refers to.
+/// The item of what it refers to.
 impl<T: Serialize> Serialize for &T {
     ghost written = { λ r. T.written r.now };
 

@@ -22,7 +22,7 @@ use crate::tree::Value;
 use ciborium_ll::Integer;
 
 impl Value {
-    /// True exactly at an integer.
+    /// Whether the value is an integer.
     pub fn is_integer(&self) -> bool
         ensures value { IsTrue result ↔ IsInteger self.now }
         ensures tree { IsTrue result ↔ IsIntegerTree (tree_of self.now) }
@@ -30,7 +30,7 @@ impl Value {
         matches!(self, Value::Integer(_))
     }
 
-    /// The number at that variant, else None.
+    /// The number of that variant, else `None`.
     pub fn as_integer(&self) -> Option<Integer>
         ensures some { IfSome result (λ z. self.now ≡ value.Integer z) }
         ensures none { IfNone result (¬ IsInteger self.now) }
@@ -43,7 +43,7 @@ impl Value {
         }
     }
 
-    /// The number at that variant, else the value itself as the error.
+    /// The number of that variant, else the value itself as the error.
     pub fn into_integer(self) -> Result<Integer, Value>
         ensures ok { IfOk result (λ z. self ≡ value.Integer z) }
         ensures err { IfErr result (λ v. (v ≡ self) × ¬ IsInteger self) }
@@ -56,7 +56,7 @@ impl Value {
         }
     }
 
-    /// True exactly at a byte string.
+    /// Whether the value is a byte string.
     pub fn is_bytes(&self) -> bool
         ensures value { IsTrue result ↔ IsBytes self.now }
         ensures tree { IsTrue result ↔ IsBytesTree (tree_of self.now) }
@@ -64,7 +64,7 @@ impl Value {
         matches!(self, Value::Bytes(_))
     }
 
-    /// The bytes at that variant, else None.
+    /// The bytes of that variant, else `None`.
     pub fn as_bytes(&self) -> Option<&Vec<u8>>
         ensures some { IfSome result (λ b. self.now ≡ value.Bytes b.now) }
         ensures none { IfNone result (¬ IsBytes self.now) }
@@ -77,8 +77,8 @@ impl Value {
         }
     }
 
-    /// The bytes at that variant, else None. What is written there is the content afterwards, and
-    /// the variant stays.
+    /// The bytes of that variant, else `None`. What is written through the reference is the
+    /// content afterwards, and the variant stays.
     pub fn as_bytes_mut(&mut self) -> Option<&mut Vec<u8>>
         ensures* writes_back { sem 𝓛
             (LendsIf the_row bytes_row self.entry result value.Bytes self.old) }
@@ -94,7 +94,7 @@ impl Value {
         }
     }
 
-    /// The bytes at that variant, else the value itself as the error.
+    /// The bytes of that variant, else the value itself as the error.
     pub fn into_bytes(self) -> Result<Vec<u8>, Value>
         ensures ok { IfOk result (λ b. self ≡ value.Bytes b) }
         ensures err { IfErr result (λ v. (v ≡ self) × ¬ IsBytes self) }
@@ -107,7 +107,7 @@ impl Value {
         }
     }
 
-    /// True exactly at a text.
+    /// Whether the value is a text.
     pub fn is_text(&self) -> bool
         ensures value { IsTrue result ↔ IsText self.now }
         ensures tree { IsTrue result ↔ IsTextTree (tree_of self.now) }
@@ -115,7 +115,7 @@ impl Value {
         matches!(self, Value::Text(_))
     }
 
-    /// The text at that variant, else None.
+    /// The text of that variant, else `None`.
     pub fn as_text(&self) -> Option<&str>
         ensures some { IfSome result (λ t. IsTextOf self.now t.now) }
         ensures none { IfNone result (¬ IsText self.now) }
@@ -128,8 +128,8 @@ impl Value {
         }
     }
 
-    /// The text at that variant, else None. What is written there is the content afterwards, and
-    /// the variant stays.
+    /// The text of that variant, else `None`. What is written through the reference is the
+    /// content afterwards, and the variant stays.
     pub fn as_text_mut(&mut self) -> Option<&mut String>
         ensures* writes_back { sem 𝓛
             (LendsIf the_row text_row self.entry result value.Text self.old) }
@@ -145,7 +145,7 @@ impl Value {
         }
     }
 
-    /// The text at that variant, else the value itself as the error.
+    /// The text of that variant, else the value itself as the error.
     pub fn into_text(self) -> Result<String, Value>
         ensures ok { IfOk result (λ t. self ≡ value.Text t) }
         ensures err { IfErr result (λ v. (v ≡ self) × ¬ IsText self) }
@@ -158,7 +158,7 @@ impl Value {
         }
     }
 
-    /// True exactly at false and true.
+    /// Whether the value is false or true.
     pub fn is_bool(&self) -> bool
         ensures value { IsTrue result ↔ IsBool self.now }
         ensures tree { IsTrue result ↔ IsBoolTree (tree_of self.now) }
@@ -166,7 +166,7 @@ impl Value {
         matches!(self, Value::Bool(_))
     }
 
-    /// False or true at that variant, else None.
+    /// The boolean of that variant, else `None`.
     pub fn as_bool(&self) -> Option<bool>
         ensures some { IfSome result (λ b. self.now ≡ value.Bool b) }
         ensures none { IfNone result (¬ IsBool self.now) }
@@ -179,7 +179,7 @@ impl Value {
         }
     }
 
-    /// False or true at that variant, else the value itself as the error.
+    /// The boolean of that variant, else the value itself as the error.
     pub fn into_bool(self) -> Result<bool, Value>
         ensures ok { IfOk result (λ b. self ≡ value.Bool b) }
         ensures err { IfErr result (λ v. (v ≡ self) × ¬ IsBool self) }
@@ -192,7 +192,7 @@ impl Value {
         }
     }
 
-    /// True exactly at null.
+    /// Whether the value is null.
     pub fn is_null(&self) -> bool
         ensures value { IsTrue result ↔ (self.now ≡ value.Null) }
         ensures tree { IsTrue result ↔ (tree_of self.now ≡ trees.null) }
@@ -200,7 +200,7 @@ impl Value {
         matches!(self, Value::Null)
     }
 
-    /// True exactly at a tag.
+    /// Whether the value is a tag.
     pub fn is_tag(&self) -> bool
         ensures value { IsTrue result ↔ IsTag self.now }
         ensures tree { IsTrue result ↔ IsTagTree (tree_of self.now) }
@@ -208,7 +208,7 @@ impl Value {
         matches!(self, Value::Tag(_, _))
     }
 
-    /// The number and the content at that variant, else None.
+    /// The number and the content of that variant, else `None`.
     pub fn as_tag(&self) -> Option<(u64, &Value)>
         ensures some { IfSome result (λ p. IsTagOf self.now p.0 p.1.now) }
         ensures none { IfNone result (¬ IsTag self.now) }
@@ -221,8 +221,8 @@ impl Value {
         }
     }
 
-    /// The number and the content at that variant, else None. What is written there is the number
-    /// and the content afterwards, and the variant stays.
+    /// The number and the content of that variant, else `None`. What is written through the
+    /// references is the number and the content afterwards, and the variant stays.
     pub fn as_tag_mut(&mut self) -> Option<(&mut u64, &mut Value)>
         ensures* writes_back { sem 𝓛 (LendsTag self.entry result) }
         ensures some { IfSome result (λ p. IsTagOf self.old p.0.now p.1.now) }
@@ -237,7 +237,7 @@ impl Value {
         }
     }
 
-    /// The number and the content at that variant, else the value itself as the error.
+    /// The number and the content of that variant, else the value itself as the error.
     pub fn into_tag(self) -> Result<(u64, Box<Value>), Value>
         ensures ok { IfOk result (λ p. self ≡ value.Tag p.0 p.1) }
         ensures err { IfErr result (λ v. (v ≡ self) × ¬ IsTag self) }
@@ -250,7 +250,7 @@ impl Value {
         }
     }
 
-    /// True exactly at an array.
+    /// Whether the value is an array.
     pub fn is_array(&self) -> bool
         ensures value { IsTrue result ↔ IsArray self.now }
         ensures tree { IsTrue result ↔ IsArrayTree (tree_of self.now) }
@@ -258,7 +258,7 @@ impl Value {
         matches!(self, Value::Array(_))
     }
 
-    /// The items at that variant, else None.
+    /// The items of that variant, else `None`.
     pub fn as_array(&self) -> Option<&Vec<Value>>
         ensures some { IfSome result (λ vs. self.now ≡ value.Array vs.now) }
         ensures none { IfNone result (¬ IsArray self.now) }
@@ -271,8 +271,8 @@ impl Value {
         }
     }
 
-    /// The items at that variant, else None. What is written there is the content afterwards, and
-    /// the variant stays.
+    /// The items of that variant, else `None`. What is written through the reference is the
+    /// content afterwards, and the variant stays.
     pub fn as_array_mut(&mut self) -> Option<&mut Vec<Value>>
         ensures* writes_back { sem 𝓛
             (LendsIf the_row array_row self.entry result value.Array self.old) }
@@ -288,7 +288,7 @@ impl Value {
         }
     }
 
-    /// The items at that variant, else the value itself as the error.
+    /// The items of that variant, else the value itself as the error.
     pub fn into_array(self) -> Result<Vec<Value>, Value>
         ensures ok { IfOk result (λ vs. self ≡ value.Array vs) }
         ensures err { IfErr result (λ v. (v ≡ self) × ¬ IsArray self) }
@@ -301,7 +301,7 @@ impl Value {
         }
     }
 
-    /// True exactly at a map.
+    /// Whether the value is a map.
     pub fn is_map(&self) -> bool
         ensures value { IsTrue result ↔ IsMap self.now }
         ensures tree { IsTrue result ↔ IsMapTree (tree_of self.now) }
@@ -309,7 +309,7 @@ impl Value {
         matches!(self, Value::Map(_))
     }
 
-    /// The pairs at that variant, else None.
+    /// The pairs of that variant, else `None`.
     pub fn as_map(&self) -> Option<&Vec<(Value, Value)>>
         ensures some { IfSome result (λ ps. self.now ≡ value.Map ps.now) }
         ensures none { IfNone result (¬ IsMap self.now) }
@@ -322,8 +322,8 @@ impl Value {
         }
     }
 
-    /// The pairs at that variant, else None. What is written there is the content afterwards, and
-    /// the variant stays.
+    /// The pairs of that variant, else `None`. What is written through the reference is the
+    /// content afterwards, and the variant stays.
     pub fn as_map_mut(&mut self) -> Option<&mut Vec<(Value, Value)>>
         ensures* writes_back { sem 𝓛
             (LendsIf the_row map_row self.entry result value.Map self.old) }
@@ -339,7 +339,7 @@ impl Value {
         }
     }
 
-    /// The pairs at that variant, else the value itself as the error.
+    /// The pairs of that variant, else the value itself as the error.
     pub fn into_map(self) -> Result<Vec<(Value, Value)>, Value>
         ensures ok { IfOk result (λ ps. self ≡ value.Map ps) }
         ensures err { IfErr result (λ v. (v ≡ self) × ¬ IsMap self) }
@@ -353,7 +353,8 @@ impl Value {
     }
 }
 
-// The value in a box. It is lent here, so that the proof of `as_tag_mut` calls no generic function.
+// The value in a box. It is borrowed here, so that the proof of `as_tag_mut` calls no generic
+// function.
 fn lend_content(content: &mut Box<Value>) -> &mut Value
     ensures* writes_back { sem 𝓛 (box_follows the_row global.the_row ghosts content.entry result) }
     ensures value { result.now ≡ content.old.value }

@@ -1,4 +1,4 @@
-//! Values from what the language has.
+//! Values from types of the language.
 
 ghost use Rattle.std.specs.Prelude.{◌≡◌, pos, IfOk, encode_utf8};
 ghost use Rattle.ciborium_value.specs.Encoding.{item_of};
@@ -146,11 +146,11 @@ impl From<Vec<(Value, Value)>> for Value {
 
 // ---- with memory
 
-/// Each call leaves its arguments as they were, and answers the error only where memory was
-/// refused.
+/// Each call leaves its arguments as they were, and returns the error only where an allocation
+/// failed.
 impl Value {
-    /// The integer, where it is below 2^64. A greater number is tag 2 over its bytes, the most
-    /// significant first, without leading zeros (RFC 8949, section 3.4.3).
+    /// An integer, where the number is below 2^64. A greater number is tag 2 over its bytes, the
+    /// most significant first, without leading zeros (RFC 8949, section 3.4.3).
     pub fn from_u128(alloc: Global, number: u128) -> Result<Value, AllocError>
         ensures number { IfOk result (λ v. tree_of v ≡ number_tree (pos number)) }
         ensures item { IfOk result (λ v. item_of (tree_of v) ≡ number_item (pos number)) }
@@ -161,9 +161,9 @@ impl Value {
         }
     }
 
-    /// The integer, where it is from -2^64 to 2^64 - 1. A greater number is tag 2 over its bytes,
-    /// and a lower one tag 3 over those of n for -1 - n, the most significant first, without
-    /// leading zeros (section 3.4.3).
+    /// An integer, where the number is from -2^64 to 2^64 - 1. A greater number is tag 2 over its
+    /// bytes, and a lower one, -1 - n, tag 3 over the bytes of n, the most significant first,
+    /// without leading zeros (section 3.4.3).
     pub fn from_i128(alloc: Global, number: i128) -> Result<Value, AllocError>
         ensures number { IfOk result (λ v. tree_of v ≡ number_tree number) }
         ensures item { IfOk result (λ v. item_of (tree_of v) ≡ number_item number) }

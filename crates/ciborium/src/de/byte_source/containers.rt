@@ -33,7 +33,7 @@ fn counted_parts(left: &Left) -> usize
 }
 
 impl<'a, R: Read> ByteSource<'a, R> {
-    /// Takes a level for the container at this offset with so many parts (`None`: open).
+    /// Takes a level for the container at this offset with this many parts (`None`: indefinite).
     #[inline(always)]
     pub(crate) fn enter(&mut self, count: Option<usize>, offset: usize) -> Result<ByteSeq, Refusal>
         ensures decoder { self.new.decoder ≡ self.old.decoder }

@@ -16,7 +16,7 @@ use std::alloc::Global;
 use std::io::Read;
 
 impl<'a, R: Read> ByteSource<'a, R> {
-    /// A text, or a byte string that is UTF-8 once its parts are joined.
+    /// A text, or a byte string that is UTF-8 once its chunks are joined.
     #[inline(always)]
     pub(crate) fn read_name(&mut self, alloc: Global) -> Result<String, Refusal>
         ensures same_reader { HasSameReader self.old.decoder self.new.decoder }

@@ -30,7 +30,7 @@ use std::alloc::{AllocError, Global};
 use std::cmp::Ordering;
 use std::marker::Model;
 
-/// A value whose order is the bytewise one, as of a map key. Two are equal where their contents
+/// A value whose order is the bytewise one, as for a map key. Two are equal where their contents
 /// are.
 #[derive(Debug, Drop)]
 pub struct BytewiseValue {
@@ -65,7 +65,7 @@ impl From<BytewiseValue> for Value {
     }
 }
 
-/// A copy of equal content, or the error where memory was refused.
+/// A copy of equal content, or the error where an allocation failed.
 impl Clone for BytewiseValue {
     ghost is_clone = { λ v w. tree_of w ≡ tree_of v };
 
@@ -76,7 +76,7 @@ impl Clone for BytewiseValue {
     }
 }
 
-/// The definite item of the value, nothing folded. No memory is taken.
+/// The definite item of the value, with no bignum folded. No memory is taken.
 impl Serialize for BytewiseValue {
     ghost written = { named_value };
 
@@ -87,7 +87,7 @@ impl Serialize for BytewiseValue {
     }
 }
 
-/// Whatever item is ahead, as `Value` reads it.
+/// The item ahead, of any type, as `Value` reads it.
 impl Deserialize for BytewiseValue {
     ghost Content = { Tree };
 
@@ -99,7 +99,7 @@ impl Deserialize for BytewiseValue {
     }
 }
 
-/// Where folding changes nothing, as of `Value`.
+/// For a value in which folding changes nothing, as for `Value`.
 impl ReadsBack for BytewiseValue {
     ghost is_held = { λ c. folded (tree_of c) ≡ Some (tree_of c) };
 
@@ -134,7 +134,7 @@ impl Eq for BytewiseValue {
     ghost laws = { value_eq_equivalence };
 }
 
-/// The bytewise order, as of `cmp_bytewise`.
+/// The bytewise order, that of `cmp_bytewise`.
 impl PartialOrd for BytewiseValue {
     ghost partial_cmp = { as_partial_cmp bytewise_value_cmp };
 
@@ -149,7 +149,7 @@ impl PartialOrd for BytewiseValue {
     }
 }
 
-/// The bytewise order, as of `cmp_bytewise`.
+/// The bytewise order, that of `cmp_bytewise`.
 impl Ord for BytewiseValue {
     ghost cmp = { bytewise_value_cmp };
 
