@@ -22,10 +22,10 @@ use std::cmp::Ordering;
 
 impl Value {
     /// Puts the value into its deterministic form, in place: a bignum that fits in 64 bits becomes
-    /// an integer, another loses its leading zeros (RFC 8949, section 3.4.3), and the pairs of each
-    /// map, inner maps first, are sorted by the encodings of their keys in this order (sections
-    /// 4.2.1 and 4.2.3). Its encoding is then the one deterministic encoding. This takes no memory,
-    /// and n log n comparisons for a map of n pairs.
+    /// an integer, another of at most 16 bytes loses its leading zeros (RFC 8949, section 3.4.3),
+    /// and the pairs of each map, inner maps first, are sorted by the encodings of their keys in
+    /// this order (sections 4.2.1 and 4.2.3). Its encoding is then the one deterministic encoding.
+    /// This takes no memory, and n log n comparisons for a map of n pairs.
     ///
     /// # Errors
     ///

@@ -50,7 +50,8 @@ pub enum Kind {
     NotShortest,
     /// A string, array or map of indefinite length begins where reading is deterministic.
     Open,
-    /// A bignum fits in 64 bits, or has leading zeros, where reading is deterministic.
+    /// A bignum of at most 16 bytes fits in 64 bits, or has leading zeros, where reading is
+    /// deterministic.
     NotFolded,
     /// A key does not follow the key before it in the order of keys where reading is deterministic.
     KeyOrder,

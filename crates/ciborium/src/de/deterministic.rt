@@ -168,9 +168,10 @@ fn read_by<S: Rules, R: Read>(
 
 /// Reads one value as `from_reader_with_recursion_limit` does, but accepts only one encoding of
 /// each value, the deterministic one (RFC 8949, section 4.2): every head is the shortest, every
-/// string, array and map has a definite length, null is `f6`, a bignum has no leading zeros and
-/// does not fit in 64 bits, and the keys of each map strictly rise in the canonical order (section
-/// 4.2.3). It is what `into_writer` writes for the value. Comparing keys takes no memory.
+/// string, array and map has a definite length, null is `f6`, a bignum of at most 16 bytes has no
+/// leading zeros and does not fit in 64 bits, and the keys of each map strictly rise in the
+/// canonical order (section 4.2.3). It is what `into_writer` writes for the value. Comparing keys
+/// takes no memory.
 ///
 /// # Errors
 ///
@@ -178,8 +179,9 @@ fn read_by<S: Rules, R: Read>(
 /// `Open`, with the offset of the head, for a string, array or map of indefinite length, and
 /// `NotShortest`, likewise, for a head that is longer than need be, and for undefined; both come
 /// before the limit and any payload are judged. `NotFolded`, with the offset of the tag, for a
-/// bignum with leading zeros or of at most 8 bytes. `KeyOrder`, with the offset of the key, for a
-/// key that does not follow the key before it; it comes before the key's value is read.
+/// bignum of at most 16 bytes that has leading zeros or at most 8 bytes. `KeyOrder`, with the
+/// offset of the key, for a key that does not follow the key before it; it comes before the key's
+/// value is read.
 pub fn from_reader_deterministic<R: Read>(
     alloc: Global,
     reader: &mut R,
@@ -197,9 +199,9 @@ pub fn from_reader_deterministic<R: Read>(
 /// `KeyOrder::Bytewise` the key with the bytewise lower encoding comes first, whatever the lengths,
 /// as in the core deterministic encoding (section 4.2.1). In either order no key of a map is equal
 /// to another, and all else is the same: every head is the shortest, every string, array and map
-/// has a definite length, null is `f6`, and a bignum has no leading zeros and does not fit in 64
-/// bits. What is read is what `into_writer` writes for the value, since that keeps the order of the
-/// pairs. Comparing keys takes no memory.
+/// has a definite length, null is `f6`, and a bignum of at most 16 bytes has no leading zeros and
+/// does not fit in 64 bits. What is read is what `into_writer` writes for the value, since that
+/// keeps the order of the pairs. Comparing keys takes no memory.
 ///
 /// # Errors
 ///

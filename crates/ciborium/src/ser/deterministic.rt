@@ -13,11 +13,11 @@ use std::io::{self, Write};
 /// Writes the item of a value in its deterministic form, by this order of keys. Deterministic
 /// encoding (RFC 8949, section 4.2) asks for preferred serialization (section 4.1), for definite
 /// lengths, and for sorted keys. So every head is the shortest, every string, array and map has a
-/// definite length, a bignum has no leading zeros and does not fit in 64 bits, and the pairs of
-/// each map are sorted by the encodings of their keys: by `KeyOrder::Bytewise` the bytewise lower
-/// key comes first (section 4.2.1), by `KeyOrder::LengthFirst` the shorter key, and of two of equal
-/// length the bytewise lower one (section 4.2.3). Duplicate keys are refused, also where only their
-/// forms are equal.
+/// definite length, a bignum of at most 16 bytes has no leading zeros and does not fit in 64 bits,
+/// and the pairs of each map are sorted by the encodings of their keys: by `KeyOrder::Bytewise` the
+/// bytewise lower key comes first (section 4.2.1), by `KeyOrder::LengthFirst` the shorter key, and
+/// of two of equal length the bytewise lower one (section 4.2.3). Duplicate keys are refused, also
+/// where only their forms are equal.
 ///
 /// It takes memory for the tree of the item that the value names, as `Value::serialized` does, and
 /// writes nothing before the whole tree is in its form. Nothing is flushed.
