@@ -10,11 +10,7 @@ use Rattle.ciborium.specs.declared.de.error.Error.TheVariants.{Io, Syntax, Seman
 -- where the reader failed or ended, nothing is held
 abbrev pub IsSpent : {S E : Type 0} → Decoder S → Error E → Type 0
 IsSpent d (Io e) = HoldsNothing d
-IsSpent d (Syntax p) = Unit {0}
-IsSpent d (Semantic p k) = Unit {0}
-IsSpent d RecursionLimitExceeded = Unit {0}
-IsSpent d Memory = Unit {0}
-IsSpent d TooLong = Unit {0}
+IsSpent d _ = Unit {0}
 
 -- the head that was pushed back is taken already
 abbrev pub pushed_count : Option (Header × ℕ) → ℕ

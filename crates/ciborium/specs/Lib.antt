@@ -10,6 +10,7 @@ pub mod Writes
 pub mod DeterministicWrites
 pub mod AnswerLaws
 pub mod EncodingLaws
+pub mod Calls
 pub mod CanonicalLaws
 pub mod Unread
 pub mod ItemReads

@@ -20,11 +20,7 @@ Otherwise (Err e) P = P (Err e)
 -- `Io` is the only error
 abbrev pub IsIo : {E : Type 0} → Error E → Type 0
 IsIo (Io e) = Unit {0}
-IsIo (Syntax p) = ⊥
-IsIo (Semantic p k) = ⊥
-IsIo RecursionLimitExceeded = ⊥
-IsIo Memory = ⊥
-IsIo TooLong = ⊥
+IsIo _ = ⊥
 
 -- the end is answered where nothing is taken and, if the bytes are known, none are left; where none are left no item is answered, and
 -- the error of a reader that fails there is `Io`

@@ -12,6 +12,7 @@ pub mod HeaderLaws
 pub mod Reading
 pub mod Strings
 pub mod Windows
+pub mod Decoded
 pub mod Decoding
 pub mod FirstHeads
 pub mod Cursors

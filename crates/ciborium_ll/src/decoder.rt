@@ -30,6 +30,7 @@ impl<'a, R: Read> Decoder<'a, R> {
     ghost use Rattle.ciborium_ll.specs.Bytes.{greatest_offset};
     ghost use Rattle.ciborium_ll.specs.Decoding.{HasBegun, HasSameReader, HoldsNothing, IsAhead};
     ghost use Rattle.ciborium_ll.specs.Decoding.{IsHeld, IsSpent, IsUnread, MeasuresHead, Pulls};
+    ghost use Rattle.ciborium_ll.specs.Decoded.{HasAppended, HasFilled, HasPulled};
     ghost use Rattle.ciborium_ll.specs.Decoding.{Takes};
     ghost use Rattle.ciborium_ll.specs.Decoding.{allowed_of, count_of, head_len_of, last_of};
     ghost use Rattle.ciborium_ll.specs.Decoding.{left_of, offset_of, pushed_of, reach_of};
@@ -140,25 +141,7 @@ impl<'a, R: Read> Decoder<'a, R> {
     /// announces, would pass the greatest offset.
     #[inline(always)]
     pub fn pull(&mut self) -> Result<Header, Error<io::Error>>
-        ensures same_reader { HasSameReader self.old self.new }
-        ensures none_pushed { pushed_of self.new ≡ None }
-
-        // A pushed head is answered and takes nothing.
-        ensures pushed { IfSome (pushed_of self.old) (λ head.
-            (result ≡ Ok head.0) × (last_of self.new ≡ head.1) × IsUnread self.old self.new) }
-
-        // Otherwise just the bytes that determine the answer are taken.
-        ensures taken { IfNone (pushed_of self.old)
-            (Takes R.remaining self.old self.new (λ b. IsHeadTaken b (count_of self.old) result)) }
-        ensures last { IfNone (pushed_of self.old) (last_of self.new ≡ count_of self.old) }
-        ensures head_len { MeasuresHead self.old self.new result }
-
-        // The same, said of all that is unread.
-        ensures ahead { (b : List ℕ) (p : ℕ) → IsAhead R.remaining self.old b p →
-            Pulls R.remaining self.new b p result }
-
-        // Where the reader failed or ended, nothing is held.
-        ensures spent { IfErr result (λ e. IsSpent self.new e) }
+        ensures { HasPulled R.remaining self.old self.new result }
     {
         self.pull_keeping(&mut Answered)
     }
@@ -166,25 +149,7 @@ impl<'a, R: Read> Decoder<'a, R> {
     /// Does what `pull` does; the reader's error goes to `keep`.
     #[inline(always)]
     pub fn pull_keeping<K: Keep>(&mut self, keep: &mut K) -> Result<Header, Error<K::Kept>>
-        ensures same_reader { HasSameReader self.old self.new }
-        ensures none_pushed { pushed_of self.new ≡ None }
-
-        // A pushed head is answered and takes nothing.
-        ensures pushed { IfSome (pushed_of self.old) (λ head.
-            (result ≡ Ok head.0) × (last_of self.new ≡ head.1) × IsUnread self.old self.new) }
-
-        // Otherwise just the bytes that determine the answer are taken.
-        ensures taken { IfNone (pushed_of self.old)
-            (Takes R.remaining self.old self.new (λ b. IsHeadTaken b (count_of self.old) result)) }
-        ensures last { IfNone (pushed_of self.old) (last_of self.new ≡ count_of self.old) }
-        ensures head_len { MeasuresHead self.old self.new result }
-
-        // The same, said of all that is unread.
-        ensures ahead { (b : List ℕ) (p : ℕ) → IsAhead R.remaining self.old b p →
-            Pulls R.remaining self.new b p result }
-
-        // Where the reader failed or ended, nothing is held.
-        ensures spent { IfErr result (λ e. IsSpent self.new e) }
+        ensures { HasPulled R.remaining self.old self.new result }
     {
         if let Some((header, offset)) = self.pushed {
             self.forget();
@@ -331,14 +296,7 @@ impl<'a, R: Read> Decoder<'a, R> {
     #[inline(always)]
     pub fn read_exact(&mut self, buffer: &mut [u8]) -> Result<(), Error<io::Error>>
         requires { pushed_of self.old ≡ None }
-        ensures same_reader { HasSameReader self.old self.new }
-        ensures none_pushed { pushed_of self.new ≡ None }
-        ensures last { last_of self.new ≡ last_of self.old }
-        ensures head_len { head_len_of self.new ≡ head_len_of self.old }
-        ensures taken { Takes R.remaining self.old self.new
-            (λ b. IsFillTaken b (count_of self.old) buffer.new result) }
-        // Where the reader failed or ended, nothing is held.
-        ensures spent { IfErr result (λ e. IsSpent self.new e) }
+        ensures { HasFilled R.remaining self.old self.new buffer.new result }
     {
         self.read_exact_keeping(buffer, &mut Answered)
     }
@@ -351,14 +309,7 @@ impl<'a, R: Read> Decoder<'a, R> {
         keep: &mut K,
     ) -> Result<(), Error<K::Kept>>
         requires { pushed_of self.old ≡ None }
-        ensures same_reader { HasSameReader self.old self.new }
-        ensures none_pushed { pushed_of self.new ≡ None }
-        ensures last { last_of self.new ≡ last_of self.old }
-        ensures head_len { head_len_of self.new ≡ head_len_of self.old }
-        ensures taken { Takes R.remaining self.old self.new
-            (λ b. IsFillTaken b (count_of self.old) buffer.new result) }
-        // Where the reader failed or ended, nothing is held.
-        ensures spent { IfErr result (λ e. IsSpent self.new e) }
+        ensures { HasFilled R.remaining self.old self.new buffer.new result }
     {
         Cursor {
             reader: self.reader,
@@ -387,18 +338,8 @@ impl<'a, R: Read> Decoder<'a, R> {
         out: &mut Vec<u8>,
     ) -> Result<(), Error<io::Error>>
         requires { pushed_of self.old ≡ None }
-        ensures same_reader { HasSameReader self.old self.new }
-        ensures none_pushed { pushed_of self.new ≡ None }
-        ensures last { last_of self.new ≡ last_of self.old }
-        ensures head_len { head_len_of self.new ≡ head_len_of self.old }
-        ensures taken { Takes R.remaining self.old self.new
-            (λ b. Grows out.old.items out.new.items
-            (IsStringTaken of_bytes len (last_of self.old) b (count_of self.old) result)) }
-        ensures refused { (b : List ℕ) → left_of R.remaining self.old ≡ Some b →
-            IfErr result (λ e. IsRefusedBy (left_of R.remaining self.new) e
-            (ContentRefuses of_bytes len (last_of self.old) b (count_of self.old))) }
-        // Where the reader failed or ended, nothing is held.
-        ensures spent { IfErr result (λ e. IsSpent self.new e) }
+        ensures { HasAppended of_bytes len R.remaining self.old self.new
+            out.old.items out.new.items result }
     {
         self.bytes_into_keeping(len, scratch, out, &mut Answered)
     }
@@ -413,18 +354,8 @@ impl<'a, R: Read> Decoder<'a, R> {
         keep: &mut K,
     ) -> Result<(), Error<K::Kept>>
         requires { pushed_of self.old ≡ None }
-        ensures same_reader { HasSameReader self.old self.new }
-        ensures none_pushed { pushed_of self.new ≡ None }
-        ensures last { last_of self.new ≡ last_of self.old }
-        ensures head_len { head_len_of self.new ≡ head_len_of self.old }
-        ensures taken { Takes R.remaining self.old self.new
-            (λ b. Grows out.old.items out.new.items
-            (IsStringTaken of_bytes len (last_of self.old) b (count_of self.old) result)) }
-        ensures refused { (b : List ℕ) → left_of R.remaining self.old ≡ Some b →
-            IfErr result (λ e. IsRefusedBy (left_of R.remaining self.new) e
-            (ContentRefuses of_bytes len (last_of self.old) b (count_of self.old))) }
-        // Where the reader failed or ended, nothing is held.
-        ensures spent { IfErr result (λ e. IsSpent self.new e) }
+        ensures { HasAppended of_bytes len R.remaining self.old self.new
+            out.old.items out.new.items result }
     {
         let head = self.last;
         Cursor {
@@ -452,18 +383,8 @@ impl<'a, R: Read> Decoder<'a, R> {
         out: &mut String,
     ) -> Result<(), Error<io::Error>>
         requires { pushed_of self.old ≡ None }
-        ensures same_reader { HasSameReader self.old self.new }
-        ensures none_pushed { pushed_of self.new ≡ None }
-        ensures last { last_of self.new ≡ last_of self.old }
-        ensures head_len { head_len_of self.new ≡ head_len_of self.old }
-        ensures taken { Takes R.remaining self.old self.new
-            (λ b. Grows (string_bytes out.old) (string_bytes out.new)
-            (IsStringTaken of_text len (last_of self.old) b (count_of self.old) result)) }
-        ensures refused { (b : List ℕ) → left_of R.remaining self.old ≡ Some b →
-            IfErr result (λ e. IsRefusedBy (left_of R.remaining self.new) e
-            (ContentRefuses of_text len (last_of self.old) b (count_of self.old))) }
-        // Where the reader failed or ended, nothing is held.
-        ensures spent { IfErr result (λ e. IsSpent self.new e) }
+        ensures { HasAppended of_text len R.remaining self.old self.new
+            (string_bytes out.old) (string_bytes out.new) result }
     {
         self.text_into_keeping(len, scratch, out, &mut Answered)
     }
@@ -478,18 +399,8 @@ impl<'a, R: Read> Decoder<'a, R> {
         keep: &mut K,
     ) -> Result<(), Error<K::Kept>>
         requires { pushed_of self.old ≡ None }
-        ensures same_reader { HasSameReader self.old self.new }
-        ensures none_pushed { pushed_of self.new ≡ None }
-        ensures last { last_of self.new ≡ last_of self.old }
-        ensures head_len { head_len_of self.new ≡ head_len_of self.old }
-        ensures taken { Takes R.remaining self.old self.new
-            (λ b. Grows (string_bytes out.old) (string_bytes out.new)
-            (IsStringTaken of_text len (last_of self.old) b (count_of self.old) result)) }
-        ensures refused { (b : List ℕ) → left_of R.remaining self.old ≡ Some b →
-            IfErr result (λ e. IsRefusedBy (left_of R.remaining self.new) e
-            (ContentRefuses of_text len (last_of self.old) b (count_of self.old))) }
-        // Where the reader failed or ended, nothing is held.
-        ensures spent { IfErr result (λ e. IsSpent self.new e) }
+        ensures { HasAppended of_text len R.remaining self.old self.new
+            (string_bytes out.old) (string_bytes out.new) result }
     {
         let empty = String::new(*out.allocator());
         let mut bytes = mem::replace(out, empty).into_bytes();

@@ -42,12 +42,8 @@ IsOutside end of_length = greatest_offset < end
 
 -- want of memory comes only from those that take memory
 abbrev pub IsGranted : Fault → Bool → Type 0
-IsGranted (of_kind k) takes_memory = Unit {0}
-IsGranted of_nesting takes_memory = Unit {0}
-IsGranted of_syntax takes_memory = Unit {0}
 IsGranted of_memory takes_memory = IsTrue takes_memory
-IsGranted of_device takes_memory = Unit {0}
-IsGranted of_length takes_memory = Unit {0}
+IsGranted _ takes_memory = Unit {0}
 
 -- an answer by what counts of it
 abbrev pub read_as : {A B E : Type 0} → (A → B) → Result A E → Result B E

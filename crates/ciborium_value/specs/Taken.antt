@@ -81,15 +81,8 @@ magnitude b = if nat_le (length (without_zeros b)) 16 then gives (big_endian b) 
 
 -- the same of an item, which must be a byte string, definite or open
 abbrev pub bignum_of : Item → Outcome ℕ
-bignum_of (unsigned n) = refuses kinds.Bytes
-bignum_of (negative n) = refuses kinds.Bytes
 bignum_of (bytes open_ b) = magnitude b
-bignum_of (text open_ b) = refuses kinds.Bytes
-bignum_of (array open_ is) = refuses kinds.Bytes
-bignum_of (items.map open_ ps) = refuses kinds.Bytes
-bignum_of (tag t i) = refuses kinds.Bytes
-bignum_of (simple n) = refuses kinds.Bytes
-bignum_of (float raw) = refuses kinds.Bytes
+bignum_of _ = refuses kinds.Bytes
 
 abbrev pub taken_bignum : Taken ℕ
 taken_bignum l i = bignum_of i
@@ -107,13 +100,8 @@ number_under t i o = if is_bignum_tag t then with_sign (t == 3) (bignum_of i) el
 abbrev pub number_of : Item → Outcome (Bool × ℕ)
 number_of (unsigned n) = gives (false, n)
 number_of (negative n) = gives (true, n)
-number_of (bytes open_ b) = refuses kinds.Integer
-number_of (text open_ b) = refuses kinds.Integer
-number_of (array open_ is) = refuses kinds.Integer
-number_of (items.map open_ ps) = refuses kinds.Integer
 number_of (tag t i) = number_under t i (number_of i)
-number_of (simple n) = refuses kinds.Integer
-number_of (float raw) = refuses kinds.Integer
+number_of _ = refuses kinds.Integer
 
 abbrev pub taken_integer : Taken (Bool × ℕ)
 taken_integer l i = number_of i
@@ -133,15 +121,8 @@ abbrev pub boolean_of : ℕ → Outcome Bool
 boolean_of n = if n == 20 then gives false else if n == 21 then gives true else refuses kinds.Bool
 
 abbrev pub bare_boolean : Item → Outcome Bool
-bare_boolean (unsigned n) = refuses kinds.Bool
-bare_boolean (negative n) = refuses kinds.Bool
-bare_boolean (bytes open_ b) = refuses kinds.Bool
-bare_boolean (text open_ b) = refuses kinds.Bool
-bare_boolean (array open_ is) = refuses kinds.Bool
-bare_boolean (items.map open_ ps) = refuses kinds.Bool
-bare_boolean (tag t i) = refuses kinds.Bool
 bare_boolean (simple n) = boolean_of n
-bare_boolean (float raw) = refuses kinds.Bool
+bare_boolean _ = refuses kinds.Bool
 
 abbrev pub taken_boolean : Taken Bool
 taken_boolean l i = bare_boolean (untagged i)
@@ -154,30 +135,16 @@ abbrev pub unit_of : ℕ → Outcome (Unit {0})
 unit_of n = if is_null_simple n then gives tt else refuses kinds.Unit
 
 abbrev pub bare_unit : Item → Outcome (Unit {0})
-bare_unit (unsigned n) = refuses kinds.Unit
-bare_unit (negative n) = refuses kinds.Unit
-bare_unit (bytes open_ b) = refuses kinds.Unit
-bare_unit (text open_ b) = refuses kinds.Unit
-bare_unit (array open_ is) = refuses kinds.Unit
-bare_unit (items.map open_ ps) = refuses kinds.Unit
-bare_unit (tag t i) = refuses kinds.Unit
 bare_unit (simple n) = unit_of n
-bare_unit (float raw) = refuses kinds.Unit
+bare_unit _ = refuses kinds.Unit
 
 abbrev pub taken_unit : Taken (Unit {0})
 taken_unit l i = bare_unit (untagged i)
 
 -- null or undefined, under no tag
 abbrev pub is_null : Item → Bool
-is_null (unsigned n) = false
-is_null (negative n) = false
-is_null (bytes open_ b) = false
-is_null (text open_ b) = false
-is_null (array open_ is) = false
-is_null (items.map open_ ps) = false
-is_null (tag t i) = false
 is_null (simple n) = is_null_simple n
-is_null (float raw) = false
+is_null _ = false
 
 -- the one character of a text
 abbrev pub lone_character : List ℕ → Outcome ℕ
@@ -190,15 +157,8 @@ definite_character false b = lone_character (chars b)
 definite_character true b = refuses kinds.Char
 
 abbrev pub bare_character : Item → Outcome ℕ
-bare_character (unsigned n) = refuses kinds.Char
-bare_character (negative n) = refuses kinds.Char
-bare_character (bytes open_ b) = refuses kinds.Char
 bare_character (text open_ b) = definite_character open_ b
-bare_character (array open_ is) = refuses kinds.Char
-bare_character (items.map open_ ps) = refuses kinds.Char
-bare_character (tag t i) = refuses kinds.Char
-bare_character (simple n) = refuses kinds.Char
-bare_character (float raw) = refuses kinds.Char
+bare_character _ = refuses kinds.Char
 
 abbrev pub taken_character : Taken ℕ
 taken_character l i = bare_character (untagged i)
@@ -206,15 +166,8 @@ taken_character l i = bare_character (untagged i)
 -- ---- strings
 
 abbrev pub bare_text : Item → Outcome (List ℕ)
-bare_text (unsigned n) = refuses kinds.Text
-bare_text (negative n) = refuses kinds.Text
-bare_text (bytes open_ b) = refuses kinds.Text
 bare_text (text open_ b) = gives b
-bare_text (array open_ is) = refuses kinds.Text
-bare_text (items.map open_ ps) = refuses kinds.Text
-bare_text (tag t i) = refuses kinds.Text
-bare_text (simple n) = refuses kinds.Text
-bare_text (float raw) = refuses kinds.Text
+bare_text _ = refuses kinds.Text
 
 -- a text, definite or open, by the bytes of its UTF-8
 abbrev pub taken_text : Taken (List ℕ)
@@ -229,15 +182,9 @@ abbrev pub taken_byte : Taken ℕ
 taken_byte l i = then_take (taken_integer l i) (number_below 256)
 
 abbrev pub bare_bytes : Limit → Item → Outcome (List ℕ)
-bare_bytes l (unsigned n) = refuses kinds.Bytes
-bare_bytes l (negative n) = refuses kinds.Bytes
 bare_bytes l (bytes open_ b) = gives b
-bare_bytes l (text open_ b) = refuses kinds.Bytes
 bare_bytes l (array open_ is) = within_level l (take_each (taken_byte (deeper l)) (unpack is))
-bare_bytes l (items.map open_ ps) = refuses kinds.Bytes
-bare_bytes l (tag t i) = refuses kinds.Bytes
-bare_bytes l (simple n) = refuses kinds.Bytes
-bare_bytes l (float raw) = refuses kinds.Bytes
+bare_bytes l _ = refuses kinds.Bytes
 
 -- a byte string, definite or open; or, with a level, an array of numbers from 0 to 255
 abbrev pub taken_bytes : Taken (List ℕ)
@@ -246,15 +193,9 @@ taken_bytes l i = bare_bytes l (untagged i)
 -- ---- containers
 
 abbrev pub bare_seq : Limit → Item → Outcome (Limit × List Item)
-bare_seq l (unsigned n) = refuses kinds.Array
-bare_seq l (negative n) = refuses kinds.Array
 bare_seq l (bytes open_ b) = gives (l, map unsigned b)
-bare_seq l (text open_ b) = refuses kinds.Array
 bare_seq l (array open_ is) = within_level l (gives (deeper l, unpack is))
-bare_seq l (items.map open_ ps) = refuses kinds.Array
-bare_seq l (tag t i) = refuses kinds.Array
-bare_seq l (simple n) = refuses kinds.Array
-bare_seq l (float raw) = refuses kinds.Array
+bare_seq l _ = refuses kinds.Array
 
 -- the items of an array, with a level, or the bytes of a byte string, without one; and the levels left for them
 abbrev pub taken_seq : Taken (Limit × List Item)
@@ -265,15 +206,8 @@ unpack_pairs items.no_pairs = []
 unpack_pairs (items.pair k v ps) = (k, v) ∷ unpack_pairs ps
 
 abbrev pub bare_pairs : Limit → Item → Outcome (Limit × List (Item × Item))
-bare_pairs l (unsigned n) = refuses kinds.Map
-bare_pairs l (negative n) = refuses kinds.Map
-bare_pairs l (bytes open_ b) = refuses kinds.Map
-bare_pairs l (text open_ b) = refuses kinds.Map
-bare_pairs l (array open_ is) = refuses kinds.Map
 bare_pairs l (items.map open_ ps) = within_level l (gives (deeper l, unpack_pairs ps))
-bare_pairs l (tag t i) = refuses kinds.Map
-bare_pairs l (simple n) = refuses kinds.Map
-bare_pairs l (float raw) = refuses kinds.Map
+bare_pairs l _ = refuses kinds.Map
 
 -- the pairs of a map, with a level; and the levels left for them
 abbrev pub taken_pairs : Taken (Limit × List (Item × Item))
@@ -282,15 +216,9 @@ taken_pairs l i = bare_pairs l (untagged i)
 -- ---- names, tags and variants
 
 abbrev pub bare_name : Item → Outcome (List ℕ)
-bare_name (unsigned n) = refuses kinds.Name
-bare_name (negative n) = refuses kinds.Name
 bare_name (bytes open_ b) = if is_utf8 b then gives b else refuses kinds.Name
 bare_name (text open_ b) = gives b
-bare_name (array open_ is) = refuses kinds.Name
-bare_name (items.map open_ ps) = refuses kinds.Name
-bare_name (tag t i) = refuses kinds.Name
-bare_name (simple n) = refuses kinds.Name
-bare_name (float raw) = refuses kinds.Name
+bare_name _ = refuses kinds.Name
 
 -- a text, or a byte string that is UTF-8 once its parts are joined, by its bytes
 abbrev pub taken_name : Taken (List ℕ)
@@ -323,15 +251,9 @@ definite_pair l false ps = lone_pair l ps
 definite_pair l true ps = refuses kinds.Variant
 
 abbrev pub bare_variant : Limit → Item → Outcome (List ℕ × Item)
-bare_variant l (unsigned n) = refuses kinds.Variant
-bare_variant l (negative n) = refuses kinds.Variant
-bare_variant l (bytes open_ b) = refuses kinds.Variant
 bare_variant l (text open_ b) = within_level l (gives (b, simple 22))
-bare_variant l (array open_ is) = refuses kinds.Variant
 bare_variant l (items.map open_ ps) = definite_pair l open_ ps
-bare_variant l (tag t i) = refuses kinds.Variant
-bare_variant l (simple n) = refuses kinds.Variant
-bare_variant l (float raw) = refuses kinds.Variant
+bare_variant l _ = refuses kinds.Variant
 
 -- a text, which names a variant and stands for null as its data; or a definite map of one pair, a name and the data
 abbrev pub taken_variant : Taken (List ℕ × Item)
