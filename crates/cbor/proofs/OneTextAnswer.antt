@@ -8,7 +8,7 @@ use Rattle.ciborium_value.specs.Taken.{Outcome, gives, refuses, nests}
 use Rattle.ciborium_value.specs.Tree.{Tree}
 use Rattle.ciborium_value.specs.declared.key_order.KeyOrder.{KeyOrder}
 use Rattle.ciborium_value.specs.declared.kind.Kind.TheVariants as kinds
-use Rattle.ciborium_value.proofs.RefusedForms.{form_or_refused}
+use Rattle.ciborium_value.proofs.Forms.RefusedForms.{form_or_refused}
 use Rattle.cbor.specs.declared.answer.Reason.{Reason}
 use Rattle.cbor.specs.declared.answer.Reason.TheVariants as reasons
 use Rattle.cbor.specs.declared.answer.Refusal.{Refusal}

@@ -11,7 +11,7 @@ use Rattle.ciborium_value.specs.View.{tree_of}
 use Rattle.ciborium_value.specs.declared.key_order.KeyOrder.{KeyOrder}
 use Rattle.ciborium_value.specs.declared.key_order.KeyOrder.TheVariants.{LengthFirst, Bytewise}
 use Rattle.ciborium_value.specs.declared.tree.Value.{Value}
-use Rattle.ciborium_value.proofs.TotalOrders.{bytewise_order_total, canonical_order_total}
+use Rattle.ciborium_value.proofs.Orders.TotalOrders.{bytewise_order_total, canonical_order_total}
 use Rattle.cbor.specs.Sorted.{AreSorted}
 
 -- either order is total

@@ -6,8 +6,8 @@ use Rattle.ciborium_ll.specs.Refusal.{Refusal}
 use Rattle.ciborium_ll.proofs.UniqueSpelling.{one_at_front}
 use Rattle.ciborium_value.specs.Meaning.{meaning}
 use Rattle.ciborium_value.specs.Tree.{Tree}
-use Rattle.ciborium_value.proofs.Outcome as any
-use Rattle.ciborium.specs.DeterministicLaws.{DeterministicOrRefused, NeverBothDeterministically, OneDeterministicRefusal, OneDeterministicTree}
+use Rattle.ciborium_value.proofs.GoodItems.Outcome as any
+use Rattle.ciborium.specs.laws.DeterministicLaws.{DeterministicOrRefused, NeverBothDeterministically, OneDeterministicRefusal, OneDeterministicTree}
 use Rattle.cbor.specs.declared.reading.Spelling.{Spelling}
 use Rattle.cbor.specs.declared.reading.Spelling.TheVariants.{Any, Deterministic}
 use Rattle.cbor.specs.Spellings.{HasItemBefore, IsItem, RefusesItem}

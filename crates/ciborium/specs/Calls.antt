@@ -4,11 +4,11 @@ use Rattle.std.specs.Prelude.{ℕ, List, Option, Some, Result, IfErr, IfSome}
 use Rattle.ciborium_value.specs.Readings.{Reading}
 use Rattle.ciborium_value.specs.Sources.{IsGranted, read_as}
 use Rattle.ciborium.specs.declared.de.error.Error.{Error}
-use Rattle.ciborium.specs.Answers.{ReadsWhole}
-use Rattle.ciborium.specs.ByteSources.{cause_of}
+use Rattle.ciborium.specs.ValueAnswers.{ReadsWhole}
+use Rattle.ciborium.specs.Errors.{cause_of}
 use Rattle.ciborium.specs.NextItems.{Otherwise, TellsEnd}
 use Rattle.ciborium.specs.Spelling.{any}
-use Rattle.ciborium.specs.TypedReads.{RefusesTaken, TakesBeginning, TakesGiven}
+use Rattle.ciborium.specs.TypedAnswers.{RefusesTaken, TakesBeginning, TakesGiven}
 
 -- a value was read within so many levels, or is refused
 pub record HasRead {T C E : Type 0} (reading : Reading T C) (limit : ℕ) (before after : Option (List ℕ)) (result : Result T (Error E)) : Type 0 where

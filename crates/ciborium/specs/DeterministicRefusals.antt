@@ -4,7 +4,7 @@
 use Rattle.std.specs.Prelude.{◌≡◌, ℕ, suc, ◌+◌, ◌*◌, ◌^◌, ◌<◌, ◌≤◌, ◌⊎◌, List, [], ◌∷◌, ◌++◌, length, true, None}
 use Rattle.ciborium_ll.specs.Bytes.{AreBytes, greatest_offset}
 use Rattle.ciborium_ll.specs.Head.{open_byte, break_byte, shortest_head, IsSimple}
-use Rattle.ciborium_ll.specs.Proper.{IsArgument}
+use Rattle.ciborium_ll.specs.ProperItems.{IsArgument}
 use Rattle.ciborium_ll.specs.Refusal.{Refusal, semantic, recursion_limit_exceeded, HeadRefuses, IsUsable, HasHead}
 use Rattle.ciborium_ll.specs.Refusal.{Float, Simple, Break, TooLarge, NotShortest, NotFolded}
 use Rattle.ciborium_ll.specs.Refusal as refusal

@@ -4,6 +4,7 @@ use Rattle.ciborium_ll.specs.declared.header.Error.{Error as LlError}
 use Rattle.ciborium_ll.specs.declared.header.Error.TheVariants as ll
 use Rattle.ciborium_ll.specs.Refusal as refusal
 use Rattle.ciborium_ll.specs.Refusal.{Refusal}
+use Rattle.ciborium_value.specs.Sources.{Fault, of_device, of_kind, of_length, of_memory, of_nesting, of_syntax}
 use Rattle.ciborium_value.specs.declared.kind.Kind.{Kind}
 use Rattle.ciborium_value.specs.declared.kind.Kind.TheVariants as kinds
 use Rattle.ciborium.specs.declared.de.error.Error.{Error}
@@ -52,3 +53,11 @@ refusal_of (Semantic p k) = Semantic p k
 refusal_of RecursionLimitExceeded = RecursionLimitExceeded
 refusal_of Memory = Memory
 refusal_of TooLong = TooLong
+
+abbrev pub cause_of : {E : Type 0} → Error E → Fault
+cause_of (Io e) = of_device
+cause_of (Syntax p) = of_syntax
+cause_of (Semantic p k) = of_kind k
+cause_of RecursionLimitExceeded = of_nesting
+cause_of Memory = of_memory
+cause_of TooLong = of_length

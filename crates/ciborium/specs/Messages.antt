@@ -1,8 +1,8 @@
 -- What `{}` prints of an error of reading, and of one of writing.
 use Rattle.std.specs.Prelude.{ℕ, List, ◌++◌, Option, Some, None, codes}
 use Rattle.std.specs.Fmt.{◌++?◌}
-use Rattle.ciborium_ll.specs.Messages.{at_byte, syntax_message, too_long_message, memory_message, read_failure_message}
-use Rattle.ciborium_value.specs.Messages.{kind_message}
+use Rattle.ciborium_ll.specs.HeadMessages.{at_byte, syntax_message, too_long_message, memory_message, read_failure_message}
+use Rattle.ciborium_value.specs.RefusalMessages.{kind_message}
 use Rattle.ciborium.specs.declared.de.error.Error.{Error as ReadError}
 use Rattle.ciborium.specs.declared.de.error.Error.TheVariants as read
 use Rattle.ciborium.specs.declared.ser.Error.{Error as WriteError}

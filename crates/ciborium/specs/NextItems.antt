@@ -7,7 +7,8 @@ use Rattle.ciborium_value.specs.Sources.{IsGranted, Refuses, Takes, TakesItem, T
 use Rattle.ciborium.specs.declared.de.byte_source.ByteSource.{ByteSource}
 use Rattle.ciborium.specs.declared.de.error.Error.{Error}
 use Rattle.ciborium.specs.declared.de.error.Error.TheVariants.{Io, Syntax, Semantic, RecursionLimitExceeded, Memory, TooLong}
-use Rattle.ciborium.specs.ByteSources.{HasTakenSince, IsUnread, ReadsValue, StandsBefore, cause_of}
+use Rattle.ciborium.specs.inner.ByteSources.{HasTakenSince, IsUnread, ReadsValue, StandsBefore}
+use Rattle.ciborium.specs.Errors.{cause_of}
 
 -- ---- the clauses of a call that reads the next item: what the reader held before it, what it is left with, and the answer
 

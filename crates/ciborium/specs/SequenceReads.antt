@@ -6,8 +6,8 @@ use Rattle.ciborium_value.specs.Nesting.{Limit}
 use Rattle.ciborium_value.specs.Sources.{Fault, IsOutside}
 use Rattle.ciborium_value.specs.Taken.{gives, Taken}
 use Rattle.ciborium.specs.declared.de.error.Error.{Error}
-use Rattle.ciborium.specs.ByteSources.{cause_of}
-use Rattle.ciborium.specs.TypedReads.{IsFaultAhead}
+use Rattle.ciborium.specs.Errors.{cause_of}
+use Rattle.ciborium.specs.TypedAnswers.{IsFaultAhead}
 
 -- b begins with spellings of items that give these values within the limit, one after the other, and u follows them
 abbrev pub GivesThen : {A : Type 0} → Limit → Taken A → List ℕ → List A → List ℕ → Type 0

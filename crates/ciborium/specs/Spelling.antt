@@ -10,7 +10,7 @@ use Rattle.ciborium_value.specs.declared.kind.Kind.{Kind}
 use Rattle.ciborium_value.specs.declared.kind.Kind.TheVariants as kinds
 use Rattle.ciborium_value.specs.Canonical.{key_order}
 use Rattle.ciborium_value.specs.Encoding.{encoded_size}
-use Rattle.ciborium_value.specs.Open.{Open, waiting_keys}
+use Rattle.ciborium_value.specs.inner.Frames.{Open, waiting_keys}
 use Rattle.ciborium_value.specs.Refuses.{IsReadAs, Refuses}
 use Rattle.ciborium_value.specs.Tree.{Tree}
 use Rattle.ciborium_value.specs.Deterministic.{IsDeterministicAt}

@@ -2,12 +2,13 @@
 
 ghost use Rattle.std.specs.Prelude.{◌≡◌, IfErr, IfNone, IfSome, None, Ok, Some};
 ghost use Rattle.ciborium_value.specs.Sources.{IsGranted, TakesOnly, read_as};
-ghost use Rattle.ciborium.specs.Answers.{TakesBytesFrom};
-ghost use Rattle.ciborium.specs.ByteSources.{HasTakenSince, cause_of};
 ghost use Rattle.ciborium.specs.Calls.{HasRead, HasReadNext};
+ghost use Rattle.ciborium.specs.Errors.{cause_of};
 ghost use Rattle.ciborium.specs.NextItems.{GoesOn, IsReadFrom, behind_head};
 ghost use Rattle.ciborium.specs.Spelling.{any};
-ghost use Rattle.ciborium.specs.TypedReads.{RefusesTaken, TakesBeginning, TakesGiven};
+ghost use Rattle.ciborium.specs.TypedAnswers.{RefusesTaken, TakesBeginning, TakesGiven};
+ghost use Rattle.ciborium.specs.ValueAnswers.{TakesBytesFrom};
+ghost use Rattle.ciborium.specs.inner.ByteSources.{HasTakenSince};
 
 mod building;
 mod byte_source;

@@ -5,7 +5,8 @@ ghost use Rattle.std.specs.Prelude.{length};
 ghost use Rattle.ciborium_value.specs.Places.{dictionary};
 ghost use Rattle.ciborium_value.specs.Progress.{IsOwedAmong, field_count, record_of};
 ghost use Rattle.ciborium_value.specs.Sinks.{IsGranted, IsOwed, Named, container_of};
-ghost use Rattle.ciborium_value.specs.TreeSinks.{IsTreeOf, cause_of};
+ghost use Rattle.ciborium_value.specs.TreeAnswers.{IsTreeOf};
+ghost use Rattle.ciborium_value.specs.TreeAnswers.{cause_of};
 ghost use Rattle.ciborium.specs.Literals.{BreaksItems, CanTakeItems, TakesItems, array_of};
 
 use crate::cbor;

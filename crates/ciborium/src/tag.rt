@@ -1,17 +1,17 @@
 //! Tags around a value (RFC 8949, section 3.4).
 
 ghost use Rattle.std.specs.Prelude.{◌⊎◌, IfErr, OnErr, OnOk, Option, refl, suc, ℕ};
-ghost use Rattle.ciborium_value.specs.KeyOrders.{ordering_then-same};
+ghost use Rattle.ciborium_value.specs.lemmas.KeyOrders.{ordering_then-same};
 ghost use Rattle.ciborium_value.specs.Sinks.{AddsNamed, BreaksNamed, IsGranted, IsOwed, IsReady};
 ghost use Rattle.ciborium_value.specs.Sinks.{tag_of};
 ghost use Rattle.ciborium_value.specs.TagReadings.{tag_accepted, tag_required, with_tag};
-ghost use Rattle.ciborium.specs.FormsReadBackTags.{accepted-form, captured-form};
-ghost use Rattle.ciborium.specs.FormsReadBackTags.{no_bytes-captured, no_bytes-tag};
-ghost use Rattle.ciborium.specs.FormsReadBackTags.{required-form};
-ghost use Rattle.ciborium.specs.ReadsBackTags.{IsToldApart, accepted-back, captured-back};
-ghost use Rattle.ciborium.specs.ReadsBackTags.{captured-never, required-back, tag-never};
+ghost use Rattle.ciborium.specs.lemmas.FormsReadBackTags.{accepted-form, captured-form};
+ghost use Rattle.ciborium.specs.lemmas.FormsReadBackTags.{no_bytes-captured, no_bytes-tag};
+ghost use Rattle.ciborium.specs.lemmas.FormsReadBackTags.{required-form};
+ghost use Rattle.ciborium.specs.lemmas.ReadsBackTags.{IsToldApart, accepted-back, captured-back};
+ghost use Rattle.ciborium.specs.lemmas.ReadsBackTags.{captured-never, required-back, tag-never};
 ghost use Rattle.ciborium.specs.Tags.{captured_of};
-ghost use Rattle.ciborium.specs.WrittenTags.{captured-alike, tagged-alike};
+ghost use Rattle.ciborium.specs.lemmas.WrittenTags.{captured-alike, tagged-alike};
 
 use crate::de::{Deserialize, Key, Source};
 use crate::laws::{FormReadsBack, NeverBytes, NeverNull, ReadsBack, WritesContent};

@@ -6,7 +6,7 @@ use Rattle.ciborium_ll.specs.Item as items
 use Rattle.ciborium_ll.specs.Item.{Item}
 use Rattle.ciborium_value.specs.Sinks.{Named}
 use Rattle.ciborium_value.specs.Encoding.{written_bytes}
-use Rattle.ciborium_value.proofs.ReadBack.{written_item_spells}
+use Rattle.ciborium_value.proofs.Writing.ReadBack.{written_item_spells}
 use Rattle.ciborium.specs.ItemSequences.{IsSequence}
 use Rattle.ciborium.specs.Writes.{IsNamedWritten, WritesNamed}
 

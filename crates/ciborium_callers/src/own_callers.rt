@@ -5,7 +5,7 @@ ghost use Rattle.ciborium_ll.specs.Item as item;
 ghost use Rattle.ciborium_value.specs.Encoding.{written_bytes};
 ghost use Rattle.ciborium_value.specs.Sinks.{number_item};
 ghost use Rattle.ciborium_value.specs.Sources.{read_as};
-ghost use Rattle.ciborium.specs.TypedReads.{TakesGiven};
+ghost use Rattle.ciborium.specs.TypedAnswers.{TakesGiven};
 
 use crate::own_types::{Figure, Message, Moment};
 use ciborium::de::{self, Deserialize};

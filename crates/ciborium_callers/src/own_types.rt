@@ -5,11 +5,11 @@ ghost use Rattle.std.specs.Prelude.{◌<◌, ◌≡◌, ◌^◌, List, nat_le, r
 ghost use Rattle.ciborium_value.specs.Places.{dictionary, sequence};
 ghost use Rattle.ciborium_value.specs.Readings.{below, such_that, tuple2_of};
 ghost use Rattle.ciborium_value.specs.ReadsBack.{string_back};
-ghost use Rattle.ciborium_value.specs.ReadsBackNumbers.{u64_back, u8_back};
-ghost use Rattle.ciborium_value.specs.ReadsBackParts.{such_that_back, tuple2-back};
-ghost use Rattle.ciborium_value.specs.ReadsBackStructs.{field_back, fields_read_back};
-ghost use Rattle.ciborium_value.specs.ReadsBackStructs.{no_field_back};
-ghost use Rattle.ciborium_value.specs.ReadsBackVariants.{data_variant_back, unit_variant_back};
+ghost use Rattle.ciborium_value.specs.lemmas.ReadsBackNumbers.{u64_back, u8_back};
+ghost use Rattle.ciborium_value.specs.lemmas.ReadsBackParts.{such_that_back, tuple2-back};
+ghost use Rattle.ciborium_value.specs.lemmas.ReadsBackStructs.{field_back, fields_read_back};
+ghost use Rattle.ciborium_value.specs.lemmas.ReadsBackStructs.{no_field_back};
+ghost use Rattle.ciborium_value.specs.lemmas.ReadsBackVariants.{data_variant_back, unit_variant_back};
 ghost use Rattle.ciborium_value.specs.Sinks.{container_of, fields_of, in_turn, named_text};
 ghost use Rattle.ciborium_value.specs.Sinks.{number_item, open_container_of, tag_of};
 ghost use Rattle.ciborium_value.specs.StructReadings.{field, no_field, struct_of};
@@ -19,7 +19,7 @@ ghost use Rattle.ciborium_value.specs.declared.kind.Kind.TheVariants.{Other, Ran
 ghost use Rattle.ciborium_value.specs.WrittenContents.{field_alike, fields_alike, from_content};
 ghost use Rattle.ciborium_value.specs.WrittenContents.{no_field_alike, string-alike};
 ghost use Rattle.ciborium_value.specs.WrittenContents.{unsigned-alike};
-ghost use Rattle.ciborium.specs.ReadsBackTags.{required-back};
+ghost use Rattle.ciborium.specs.lemmas.ReadsBackTags.{required-back};
 ghost use Rattle.ciborium_callers.specs.declared.own_types.Figure.{Figure};
 ghost use Rattle.ciborium_callers.specs.declared.own_types.Figure.TheVariants.{Circle, Point};
 

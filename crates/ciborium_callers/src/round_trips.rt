@@ -5,8 +5,8 @@ ghost use Rattle.std.specs.Io.KnownBytes.{Appends, Consumes};
 ghost use Rattle.ciborium_value.specs.Taken.{gives};
 ghost use Rattle.ciborium_value.specs.View.{tree_of};
 ghost use Rattle.ciborium.specs.DeterministicWrites.{named_form};
-ghost use Rattle.ciborium.specs.FormsReadBack.{IsOwnForm};
-ghost use Rattle.ciborium.specs.Loaded.{AreCanonicalParts, entry_trees};
+ghost use Rattle.ciborium.specs.laws.FormRoundTrips.{IsOwnForm};
+ghost use Rattle.ciborium.specs.laws.Loaded.{AreCanonicalParts, entry_trees};
 
 use crate::own_types::Message;
 use ciborium::de::{from_reader_deterministic, from_reader_deterministic_with_order};

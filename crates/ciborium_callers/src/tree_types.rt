@@ -3,8 +3,8 @@ ghost use Rattle.std.specs.Prelude.{◌≡◌, ◌⊎◌, IfErr, IfOk, Ok, false
 ghost use Rattle.ciborium_value.specs.Encoding.{item_of};
 ghost use Rattle.ciborium_value.specs.Nesting.{nesting};
 ghost use Rattle.ciborium_value.specs.Readings.{such_that};
-ghost use Rattle.ciborium_value.specs.ReadsBackParts.{such_that_back};
-ghost use Rattle.ciborium_value.specs.ReadsBackValues.{value-back};
+ghost use Rattle.ciborium_value.specs.lemmas.ReadsBackParts.{such_that_back};
+ghost use Rattle.ciborium_value.specs.lemmas.ReadsBackValues.{value-back};
 ghost use Rattle.ciborium_value.specs.Tree as trees;
 ghost use Rattle.ciborium_value.specs.View.{tree_of, trees_of};
 ghost use Rattle.ciborium_value.specs.declared.kind.Kind.TheVariants.{Other};

@@ -5,7 +5,7 @@ use Rattle.std.proofs.lemmas.List.Elements.{All-append}
 use Rattle.ciborium_ll.specs.declared.header.Header.{Header}
 use Rattle.ciborium_ll.specs.declared.header.Error.{Error}
 use Rattle.ciborium_ll.specs.Bytes.{greatest_offset}
-use Rattle.ciborium_ll.specs.Reading.{Advances, IsFillTaken, IsHeadTaken}
+use Rattle.ciborium_ll.specs.ReaderSteps.{Advances, IsFillTaken, IsHeadTaken}
 use Rattle.ciborium_ll.specs.Refusal.{argument_length}
 use Rattle.ciborium_ll.proofs.HeadAnswers.{argument-refused}
 

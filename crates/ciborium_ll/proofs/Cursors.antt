@@ -6,7 +6,7 @@ use Rattle.std.specs.Io.KnownBytes.{Consumes, IsAtEnd, Keeps}
 use Rattle.std.proofs.KnownBytes.{Consumes-nil, Consumes-kept}
 use Rattle.ciborium_ll.specs.declared.window.Window.{Window}
 use Rattle.ciborium_ll.specs.Bytes.{AreBytes}
-use Rattle.ciborium_ll.specs.Reading.{Advances}
+use Rattle.ciborium_ll.specs.ReaderSteps.{Advances}
 use Rattle.ciborium_ll.specs.Windows.{unread, unread_at}
 use Rattle.ciborium_ll.proofs.HeldBytes.{consumes-end, unread-end}
 

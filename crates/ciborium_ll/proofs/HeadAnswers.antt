@@ -9,7 +9,7 @@ use Rattle.ciborium_ll.specs.declared.header.Error.TheVariants.{Io, Syntax, TooL
 use Rattle.ciborium_ll.specs.Bytes.{greatest_offset}
 use Rattle.ciborium_ll.specs.Head.{Width, capacity, information, argument_bytes, initial_byte, IsHead}
 use Rattle.ciborium_ll.specs.Header.{SpellsHeader, announced_length}
-use Rattle.ciborium_ll.specs.Reading.{IsFillTaken, IsHeadTaken, NoneIsSpare}
+use Rattle.ciborium_ll.specs.ReaderSteps.{IsFillTaken, IsHeadTaken, NoneIsSpare}
 use Rattle.ciborium_ll.specs.Refusal.{Refusal, io, syntax, too_long, argument_length, is_reserved, is_low_simple, is_ill_formed, payload_length, initial_refusal, head_refusal, HeadRefuses, IsUsable}
 use Rattle.ciborium_ll.proofs.UsableHeads.{pass, low, unreserved, not_low, and_false, information-below, argument-information, argument_length-information, HeadFits, usable-fits}
 use Rattle.ciborium_ll.proofs.ReadHeads.{payload_length-is}

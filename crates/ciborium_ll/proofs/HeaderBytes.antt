@@ -4,7 +4,7 @@ use Rattle.ciborium_ll.specs.declared.header.Header.{Header}
 use Rattle.ciborium_ll.specs.declared.header.Header.TheVariants.{Positive, Negative, Bytes, Text, Array, Map, Tag, Simple, Float, Break}
 use Rattle.ciborium_ll.specs.Head.{initial_byte, IsHead, shortest_head, IsSimple, simple_bytes, IsFloat}
 use Rattle.ciborium_ll.specs.Header.{IsCounted, counted_bytes, header_bytes, SpellsHeader, IsProperCount}
-use Rattle.ciborium_ll.specs.HeaderLaws.{HeaderBytesSpell, NoSpellingIsShorter, NoOtherSpellingIsAsShort}
+use Rattle.ciborium_ll.specs.laws.HeaderLaws.{HeaderBytesSpell, NoSpellingIsShorter, NoOtherSpellingIsAsShort}
 use Rattle.ciborium_ll.proofs.ShortestHead.{shortest_is_head, none_is_shorter, no_other_is_as_short}
 
 counted-spelled : (m : ℕ) (n : Option ℕ) → IsProperCount n → IsCounted (counted_bytes m n) m n

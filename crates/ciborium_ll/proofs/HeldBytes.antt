@@ -13,7 +13,7 @@ use Rattle.ciborium_ll.specs.Bytes.{AreBytes}
 use Rattle.ciborium_ll.specs.declared.decoder.Decoder.{Decoder}
 use Rattle.ciborium_ll.specs.Decoding.{HasBegun, HasSameReader, IsUnread, Takes, allowed_of, emptied, left_of, with_left}
 use Rattle.ciborium_ll.specs.Windows.{AllowsNothing, held, held_at, held_of, unread, unread_at}
-use Rattle.ciborium_ll.specs.Reading.{Advances, IsHeadTaken}
+use Rattle.ciborium_ll.specs.ReaderSteps.{Advances, IsHeadTaken}
 
 -- ---- what is held
 

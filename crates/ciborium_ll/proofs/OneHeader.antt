@@ -5,7 +5,7 @@ use lib.Seq.{drop_at}
 use Rattle.ciborium_ll.specs.declared.header.Header.{Header}
 use Rattle.ciborium_ll.specs.declared.header.Header.TheVariants.{Positive, Negative, Bytes, Text, Array, Map, Tag, Simple, Float, Break}
 use Rattle.ciborium_ll.specs.Header.{SpellsHeader, IsCounted}
-use Rattle.ciborium_ll.specs.HeaderLaws.{OneHeader, OneHeaderAtFront}
+use Rattle.ciborium_ll.specs.laws.HeaderLaws.{OneHeader, OneHeaderAtFront}
 use Rattle.ciborium_ll.proofs.FrontHeads.{Front, nothing, counted, opened, plain, raw, front, front_open, front-head, front-simple}
 
 abbrev counted_header : ℕ → ℕ → Header

@@ -8,7 +8,7 @@ use Rattle.ciborium_ll.specs.declared.strings.Part.TheVariants.{Other}
 use Rattle.ciborium_ll.specs.Bytes.{greatest_offset}
 use Rattle.ciborium_ll.specs.Head.{IsHead, break_byte}
 use Rattle.ciborium_ll.specs.Header.{SpellsHeader, announced_length}
-use Rattle.ciborium_ll.specs.Reading.{Advances, IsHeadTaken}
+use Rattle.ciborium_ll.specs.ReaderSteps.{Advances, IsHeadTaken}
 use Rattle.ciborium_ll.specs.Spells.{IsDefiniteString, AreParts, joined}
 use Rattle.ciborium_ll.specs.StringRefusal.{StringKind, of_bytes, of_text, major_of, IsAllowed}
 use Rattle.ciborium_ll.specs.Strings.{string_header, IsPart, IsPayloadTaken, IsPartTaken, IsPartsTaken}

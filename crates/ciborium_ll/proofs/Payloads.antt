@@ -9,7 +9,7 @@ use Rattle.ciborium_ll.specs.declared.header.Error.TheVariants.{Io, Syntax, TooL
 use Rattle.ciborium_ll.specs.Bytes.{greatest_offset}
 use Rattle.ciborium_ll.specs.declared.window.Window.{Window}
 use Rattle.ciborium_ll.specs.Windows.{unread}
-use Rattle.ciborium_ll.specs.Reading.{Advances, IsFillTaken}
+use Rattle.ciborium_ll.specs.ReaderSteps.{Advances, IsFillTaken}
 use Rattle.ciborium_ll.specs.StringRefusal.{IsAllowed, StringKind}
 use Rattle.ciborium_ll.specs.Strings.{Extends, Grows, IsPayloadTaken, IsPiecesTaken}
 use Rattle.ciborium_ll.proofs.Advancing.{Advances-map, Advances-then, Filled}

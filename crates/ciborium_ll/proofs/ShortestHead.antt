@@ -1,7 +1,7 @@
 -- The laws of the shortest head.
 use Rattle.std.proofs.Common.{◌≡◌, ℕ, suc, ◌^◌, ◌<◌, ◌≤◌, length, refl, ap, ◌∙◌, arith}
 use Rattle.ciborium_ll.specs.Head.{Width, within, one_byte, two_bytes, four_bytes, eight_bytes, capacity, argument_bytes, head_in, narrowest, shortest_head}
-use Rattle.ciborium_ll.specs.Laws.{ShortestIsHead, NoneIsShorter, NoOtherIsAsShort}
+use Rattle.ciborium_ll.specs.laws.SpellingLaws.{ShortestIsHead, NoneIsShorter, NoOtherIsAsShort}
 
 -- the narrowest width holds its number
 pub narrowest-holds : (n : ℕ) → n < 2 ^ 64 → n < capacity (narrowest n)

@@ -2,7 +2,7 @@
 use Rattle.std.proofs.Common.{◌≡◌, ℕ, ◌+◌, List, [], ◌++◌, Option, Some, None, sym, ap, ◌∙◌, arith, append-nil, refl}
 use Rattle.std.proofs.lemmas.List.{append_cancel_right}
 use Rattle.ciborium_ll.specs.Item.{Item}
-use Rattle.ciborium_ll.specs.Laws.{NoneBeginsAnother, OneItem, OneAtFront}
+use Rattle.ciborium_ll.specs.laws.SpellingLaws.{NoneBeginsAnother, OneItem, OneAtFront}
 use Rattle.ciborium_ll.proofs.ItemReader.{found, read, weight, read-again}
 
 -- the item that was found, or i

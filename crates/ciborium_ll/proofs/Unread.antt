@@ -10,7 +10,7 @@ use Rattle.ciborium_ll.specs.declared.header.Error.TheVariants.{Io, Syntax, TooL
 use Rattle.ciborium_ll.specs.Head.{break_byte}
 use Rattle.ciborium_ll.specs.Header.{SpellsHeader}
 use Rattle.ciborium_ll.specs.Decoding.{PullsTo}
-use Rattle.ciborium_ll.specs.Reading.{Advances, IsRefusedBy, IsHeadTaken}
+use Rattle.ciborium_ll.specs.ReaderSteps.{Advances, IsRefusedBy, IsHeadTaken}
 use Rattle.ciborium_ll.specs.Refusal.{Refusal, io, syntax, too_long, HeadRefuses, IsUsable, HasHead, IsAtFront}
 use Rattle.ciborium_ll.specs.Spells.{AreParts, joined}
 use Rattle.ciborium_ll.specs.StringRefusal.{StringKind, of_bytes, of_text, major_of, IsAllowed, PayloadRefuses, HasStringHead, PartRefuses, PartsRefuse, ContentRefuses}

@@ -4,7 +4,7 @@ use Rattle.ciborium_ll.specs.declared.header.Header.{Header}
 use Rattle.ciborium_ll.specs.declared.header.Error.{Error}
 use Rattle.ciborium_ll.specs.declared.decoder.Decoder.{Decoder}
 use Rattle.ciborium_ll.specs.Decoding.{HasSameReader, IsAhead, IsSpent, IsUnread, MeasuresHead, Pulls, Takes, count_of, head_len_of, last_of, left_of, pushed_of}
-use Rattle.ciborium_ll.specs.Reading.{IsFillTaken, IsHeadTaken, IsRefusedBy}
+use Rattle.ciborium_ll.specs.ReaderSteps.{IsFillTaken, IsHeadTaken, IsRefusedBy}
 use Rattle.ciborium_ll.specs.StringRefusal.{ContentRefuses, StringKind}
 use Rattle.ciborium_ll.specs.Strings.{Grows, IsStringTaken}
 

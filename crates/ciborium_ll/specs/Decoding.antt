@@ -7,7 +7,7 @@ use Rattle.ciborium_ll.specs.declared.decoder.Decoder.{Decoder}
 use Rattle.ciborium_ll.specs.declared.window.Window.{Window}
 use Rattle.ciborium_ll.specs.Windows.{AllowsNothing, IsSpentBy, held, unread}
 use Rattle.ciborium_ll.specs.Header.{SpellsHeader}
-use Rattle.ciborium_ll.specs.Reading.{Advances, IsRefusedBy}
+use Rattle.ciborium_ll.specs.ReaderSteps.{Advances, IsRefusedBy}
 use Rattle.ciborium_ll.specs.Refusal.{HeadRefuses, IsUsable}
 
 -- how many bytes were read, from the offset on at which the decoder began

@@ -5,7 +5,7 @@ use Rattle.ciborium_ll.specs.declared.header.Error.{Error}
 use Rattle.ciborium_ll.specs.declared.header.Error.TheVariants.{Io, Syntax, TooLong, Memory}
 use Rattle.ciborium_ll.specs.declared.decoder.Decoder.{Decoder}
 use Rattle.ciborium_ll.specs.Decoding.{PullsTo, left_of}
-use Rattle.ciborium_ll.specs.Reading.{IsHeadTaken}
+use Rattle.ciborium_ll.specs.ReaderSteps.{IsHeadTaken}
 
 -- `Io` is the only error
 abbrev pub IsIo : {E : Type 0} → Error E → Type 0

@@ -3,7 +3,7 @@ use Rattle.std.specs.Prelude.{◌≡◌, ℕ, ◌<◌, ◌≤◌, ◌⊎◌, Lis
 use Rattle.ciborium_ll.specs.declared.header.Header.{Header}
 use Rattle.ciborium_ll.specs.declared.header.Header.TheVariants.{Positive, Negative, Bytes, Text, Array, Map, Tag, Simple, Float, Break}
 use Rattle.ciborium_ll.specs.Head.{IsHead, shortest_head, open_byte, break_byte, IsSimple, simple_bytes, IsFloat}
-use Rattle.ciborium_ll.specs.Proper.{IsArgument}
+use Rattle.ciborium_ll.specs.ProperItems.{IsArgument}
 
 -- b is a head of the major type with this length or count, or the initial byte of an open item
 abbrev pub IsCounted : List ℕ → ℕ → Option ℕ → Type 0

@@ -4,7 +4,7 @@ use Rattle.std.specs.declared.cmp.Ordering.{Ordering}
 use Rattle.std.specs.Ordering.{nat_cmp, then_cmp, on}
 use Rattle.std.specs.Cmp.Lexicographic.{slice_cmp}
 use Rattle.ciborium_ll.specs.Head.{shortest_head}
-use Rattle.ciborium_ll.specs.Proper.{IsArgument}
+use Rattle.ciborium_ll.specs.ProperItems.{IsArgument}
 
 -- from -2^64 to 2^64 - 1
 abbrev pub IsInRange : ℤ → Type 0

@@ -10,7 +10,7 @@ use Rattle.ciborium_ll.specs.declared.strings.Part.{Part}
 use Rattle.ciborium_ll.specs.declared.strings.Part.TheVariants.{End, Definite, Other}
 use Rattle.ciborium_ll.specs.Bytes.{greatest_offset}
 use Rattle.ciborium_ll.specs.Head.{break_byte}
-use Rattle.ciborium_ll.specs.Reading.{IsHeadTaken}
+use Rattle.ciborium_ll.specs.ReaderSteps.{IsHeadTaken}
 use Rattle.ciborium_ll.specs.Spells.{AreParts, joined}
 use Rattle.ciborium_ll.specs.StringRefusal.{StringKind, of_bytes, of_text, major_of, IsAllowed}
 

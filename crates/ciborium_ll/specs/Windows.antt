@@ -2,7 +2,7 @@
 use Rattle.std.specs.Prelude.{◌≡◌, ℕ, ◌+◌, ◌-◌, List, [], ◌∷◌, max, min, slice_range, Option}
 use Rattle.std.specs.Io.KnownBytes.{prepend_known}
 use Rattle.ciborium_ll.specs.Bytes.{greatest_offset}
-use Rattle.ciborium_ll.specs.Reading.{Advances}
+use Rattle.ciborium_ll.specs.ReaderSteps.{Advances}
 use Rattle.ciborium_ll.specs.declared.header.Error.{Error}
 use Rattle.ciborium_ll.specs.declared.header.Error.TheVariants.{Io, Syntax, TooLong, Memory}
 use Rattle.ciborium_ll.specs.declared.lookahead.Lookahead.{Lookahead}

@@ -15,9 +15,9 @@ pub(crate) struct Cursor<'c, R, K> {
 
 impl<'c, R: Read, K: Keep> Cursor<'c, R, K> {
     ghost use Rattle.std.specs.Prelude.{◌≡◌, ◌+◌, ◌<◌, ◌≤◌, IfErr, IfOk, length};
-    ghost use Rattle.ciborium_ll.specs.Cursors.{GivesSome, HoldsNothing, IsSameCursor, IsSpentAt};
-    ghost use Rattle.ciborium_ll.specs.Cursors.{Moves, count_at};
-    ghost use Rattle.ciborium_ll.specs.Reading.{IsFillTaken};
+    ghost use Rattle.ciborium_ll.specs.inner.Cursors.{GivesSome, HoldsNothing, IsSameCursor, IsSpentAt};
+    ghost use Rattle.ciborium_ll.specs.inner.Cursors.{Moves, count_at};
+    ghost use Rattle.ciborium_ll.specs.ReaderSteps.{IsFillTaken};
 
     // Reads into the buffer, where nothing is held.
     #[inline(always)]

@@ -2,7 +2,7 @@
 
 ghost use Rattle.std.specs.Prelude.{◌≡◌, length, ℕ};
 ghost use Rattle.ciborium_ll.specs.Head.{shortest_head};
-ghost use Rattle.ciborium_ll.specs.Messages.{error_message};
+ghost use Rattle.ciborium_ll.specs.HeadMessages.{error_message};
 ghost use Rattle.ciborium_ll.specs.declared.header.Error.TheVariants.{Io, Memory};
 
 use std::alloc::{AllocError, AllocFailed};

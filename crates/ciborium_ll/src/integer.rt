@@ -2,7 +2,7 @@
 
 ghost use Rattle.std.specs.Prelude.{◌≡◌, Some, ℤ};
 ghost use Rattle.ciborium_ll.specs.Integer.{IsInRange};
-ghost use Rattle.ciborium_ll.specs.Messages.{range_message};
+ghost use Rattle.ciborium_ll.specs.HeadMessages.{range_message};
 
 mod widths;
 

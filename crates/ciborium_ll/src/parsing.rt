@@ -2,7 +2,7 @@
 
 ghost use Rattle.std.specs.Prelude.{◌≡◌, ◌+◌, ◌*◌, ◌/◌, ◌%◌, ◌<◌, ◌≤◌, ◌∷◌, List, [], length};
 ghost use Rattle.ciborium_ll.specs.Head.{Width, argument_bytes, capacity, information};
-ghost use Rattle.ciborium_ll.specs.Reading.{IsParsed};
+ghost use Rattle.ciborium_ll.specs.ReaderSteps.{IsParsed};
 ghost use Rattle.ciborium_ll.specs.Refusal.{argument_length};
 
 use crate::header::Header;

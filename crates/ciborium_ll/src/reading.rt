@@ -7,7 +7,7 @@ ghost use Rattle.std.specs.Prelude.{◌≡◌, ◌+◌, ◌≤◌, ◌%◌, ◌�
 ghost use Rattle.ciborium_ll.specs.FirstHeads.{IsIo};
 ghost use Rattle.ciborium_ll.specs.Header.{announced_length};
 ghost use Rattle.ciborium_ll.specs.Refusal.{argument_length};
-ghost use Rattle.ciborium_ll.specs.Reading.{IsHeadTaken};
+ghost use Rattle.ciborium_ll.specs.ReaderSteps.{IsHeadTaken};
 
 use crate::cursor::Cursor;
 use crate::header::{Error, Header};
@@ -93,7 +93,7 @@ impl Window {
 impl<'c, R: Read, K: Keep> Cursor<'c, R, K> {
     ghost use Rattle.std.specs.Prelude.{◌<◌, IfNone, IfOk};
     ghost use Rattle.std.specs.Io.KnownBytes.{IsAtEnd};
-    ghost use Rattle.ciborium_ll.specs.Cursors.{IsSameCursor, IsSpentAt, Moves, count_at, left_at};
+    ghost use Rattle.ciborium_ll.specs.inner.Cursors.{IsSameCursor, IsSpentAt, Moves, count_at, left_at};
     ghost use Rattle.ciborium_ll.specs.FirstHeads.{IsFirstTaken};
 
     // Reads the argument behind the initial byte of the head at this offset.

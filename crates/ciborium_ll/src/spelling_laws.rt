@@ -1,10 +1,10 @@
 //! What holds of heads, headers and spellings (their well-formed encodings), whatever the code:
 //! each law is the contract of a function that does nothing.
 
-ghost use Rattle.ciborium_ll.specs.HeaderLaws.{HeaderBytesSpell, OneHeader, OneHeaderAtFront};
-ghost use Rattle.ciborium_ll.specs.HeaderLaws.{NoOtherSpellingIsAsShort, NoSpellingIsShorter};
-ghost use Rattle.ciborium_ll.specs.Laws.{NoOtherIsAsShort, NoneIsShorter, ShortestIsHead};
-ghost use Rattle.ciborium_ll.specs.Laws.{NoneBeginsAnother, OneAtFront, OneItem};
+ghost use Rattle.ciborium_ll.specs.laws.HeaderLaws.{HeaderBytesSpell, OneHeader, OneHeaderAtFront};
+ghost use Rattle.ciborium_ll.specs.laws.HeaderLaws.{NoOtherSpellingIsAsShort, NoSpellingIsShorter};
+ghost use Rattle.ciborium_ll.specs.laws.SpellingLaws.{NoOtherIsAsShort, NoneIsShorter, ShortestIsHead};
+ghost use Rattle.ciborium_ll.specs.laws.SpellingLaws.{NoneBeginsAnother, OneAtFront, OneItem};
 
 /// No spelling of an item is a strict prefix of a spelling of any item, and no bytes spell two
 /// items (RFC 8949, section 3).

@@ -79,7 +79,7 @@ impl Window {
 
 impl<'c, R: Read, K: Keep> Cursor<'c, R, K> {
     ghost use Rattle.std.specs.Prelude.{◌+◌, ◌<◌, ◌≤◌, IfErr, length};
-    ghost use Rattle.ciborium_ll.specs.Cursors.{IsSameCursor, IsSpentAt, Moves, count_at};
+    ghost use Rattle.ciborium_ll.specs.inner.Cursors.{IsSameCursor, IsSpentAt, Moves, count_at};
     ghost use Rattle.ciborium_ll.specs.Strings.{Grows, IsPartsTaken, IsPayloadTaken};
     ghost use Rattle.ciborium_ll.specs.Strings.{IsPiecesTaken, IsStringTaken};
 

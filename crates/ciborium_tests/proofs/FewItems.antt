@@ -6,7 +6,7 @@ use Rattle.ciborium_value.specs.Nesting.{Limit}
 use Rattle.ciborium_value.specs.Sources.{Fault, of_kind, Takes, Refuses, Enters, GoesOn, Leaves}
 use Rattle.ciborium_value.specs.Taken.{Outcome, gives, refuses, nests, Taken, then_take, and_take, outcome_map}
 use Rattle.ciborium_value.specs.declared.kind.Kind.TheVariants as kinds
-use Rattle.ciborium_value.proofs.Sequences.{so, Follows, IsBefore, IsPast, IsInside, IsBlamed, goes_on, reads, blames_part, leaves, fault_map, fault_and}
+use Rattle.ciborium_value.proofs.Sources.Sequences.{so, Follows, IsBefore, IsPast, IsInside, IsBlamed, goes_on, reads, blames_part, leaves, fault_map, fault_and}
 use Rattle.ciborium_tests.specs.Few.{few_items, taken_few}
 
 -- what such a sequence becomes of which these items were read, and n more have room

@@ -2,7 +2,7 @@
 use Rattle.std.specs.Prelude.{ℕ, zero, suc, List, [], ◌∷◌, Some, None, refl}
 use Rattle.ciborium_ll.specs.Item.{Item}
 use Rattle.ciborium_value.specs.Nesting.{Limit}
-use Rattle.ciborium_value.specs.Steady.{IsNoNesting, IsSameUnlessNested, IsSteady, after_seq, steady-seq, same-and, no_nesting-and}
+use Rattle.ciborium_value.specs.lemmas.Steady.{IsNoNesting, IsSameUnlessNested, IsSteady, after_seq, steady-seq, same-and, no_nesting-and}
 use Rattle.ciborium_value.specs.Taken.{Outcome, Taken, gives, refuses, and_take}
 use Rattle.ciborium_value.specs.declared.kind.Kind.TheVariants as kinds
 

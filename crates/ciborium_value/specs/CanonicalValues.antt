@@ -5,7 +5,7 @@ use Rattle.std.specs.declared.cmp.Ordering.{Ordering}
 use Rattle.std.specs.Ordering.{ordering_then, then_cmp, on}
 use Rattle.ciborium_value.specs.Canonical.{bytewise_order, canonical_order}
 use Rattle.ciborium_value.specs.Derived.{value_cmp}
-use Rattle.ciborium_value.specs.DerivedOrder.{value_cmp-is}
+use Rattle.ciborium_value.specs.lemmas.DerivedOrder.{value_cmp-is}
 use Rattle.ciborium_value.specs.Order.{tree_cmp}
 use Rattle.ciborium_value.specs.Tree.{Tree}
 use Rattle.ciborium_value.specs.View.{tree_of}

@@ -7,7 +7,7 @@ use Rattle.ciborium_ll.specs.Item as items
 use Rattle.ciborium_ll.specs.Item.{Item}
 use Rattle.ciborium_value.specs.DeterministicForms.{deterministic_form}
 use Rattle.ciborium_value.specs.Encoding.{boolean_item, item_of, written_tree}
-use Rattle.ciborium_value.specs.GivenOutcomes.{one_given}
+use Rattle.ciborium_value.specs.lemmas.GivenOutcomes.{one_given}
 use Rattle.ciborium_value.specs.ReadsBack.{IsReadBack, boolean-back, by_tree, bytes-back, character-back, named, of_ok, string_back, unit-back}
 use Rattle.ciborium_value.specs.Sinks.{Named}
 use Rattle.ciborium_value.specs.Taken.{Taken, gives, taken_boolean, taken_bytes, taken_character, taken_text, taken_unit}

@@ -8,7 +8,7 @@ use Rattle.ciborium_value.specs.Encoding.{boolean_item}
 use Rattle.ciborium_value.specs.Nesting.{Limit}
 use Rattle.ciborium_value.specs.Places.{Shape, sequence, dictionary}
 use Rattle.ciborium_value.specs.ReadsBack.{IsDefinite, IsNameRead, IsReadBack, Way, by_bytes, by_tree, met, met-definite, named, of_ok}
-use Rattle.ciborium_value.specs.ReadsBackNumbers.{definite-number}
+use Rattle.ciborium_value.specs.lemmas.ReadsBackNumbers.{definite-number}
 use Rattle.ciborium_value.specs.Sinks.{Named, all_named, bignum_item, contained, container_of, number_item, option_of}
 use Rattle.ciborium_value.specs.Taken.{Taken, gives, outcome_map, is_null}
 use Rattle.ciborium_value.specs.TakenParts.{taken_option}

@@ -6,7 +6,7 @@ use Rattle.ciborium_ll.specs.Head.{shortest_head, break_byte}
 use Rattle.ciborium_ll.specs.Header.{counted_bytes}
 use Rattle.ciborium_ll.specs.Item as item
 use Rattle.ciborium_ll.specs.Item.{Item, Items, Pairs}
-use Rattle.ciborium_ll.specs.Proper.{IsArgument}
+use Rattle.ciborium_ll.specs.ProperItems.{IsArgument}
 use Rattle.ciborium_value.specs.Encoding.{items_bytes}
 use Rattle.ciborium_value.specs.WrittenItems.{AreWritten}
 

@@ -5,8 +5,8 @@ use Rattle.std.specs.Cmp.Lexicographic.{slice_cmp}
 use Rattle.std.specs.Option.{option_cmp, option_map}
 use Rattle.std.specs.declared.cmp.Ordering.{Ordering}
 use Rattle.std.specs.declared.cmp.Ordering.TheVariants.{Equal}
-use Rattle.ciborium_value.specs.Steady.{IsSteady, IsNoNesting}
-use Rattle.ciborium_value.specs.SteadyParts.{no_nesting-if, no_nesting-below, no_nesting-within, steady-integer, steady-then, steady-option, steady-list, steady-tuple1, steady-tuple2, steady-tuple3, steady-tuple4, steady-map, steady-value}
+use Rattle.ciborium_value.specs.lemmas.Steady.{IsSteady, IsNoNesting}
+use Rattle.ciborium_value.specs.lemmas.SteadyParts.{no_nesting-if, no_nesting-below, no_nesting-within, steady-integer, steady-then, steady-option, steady-list, steady-tuple1, steady-tuple2, steady-tuple3, steady-tuple4, steady-map, steady-value}
 use Rattle.ciborium_value.specs.Taken.{Outcome, Taken, gives, refuses, taken_integer, number_below, number_within, taken_value}
 use Rattle.ciborium_value.specs.TakenParts.{taken_then, taken_option, taken_list, taken_tuple1, taken_tuple2, taken_tuple3, taken_tuple4, taken_map}
 use Rattle.ciborium_value.specs.Order.{tree_cmp}

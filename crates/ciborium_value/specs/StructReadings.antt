@@ -3,8 +3,8 @@ use Rattle.std.specs.Prelude.{ℕ, List, [], ◌∷◌, refl, Option, Some, None
 use Rattle.ciborium_ll.specs.Item.{Item}
 use Rattle.ciborium_value.specs.Nesting.{Limit}
 use Rattle.ciborium_value.specs.Readings.{Reading, option_of, spacious, unordered}
-use Rattle.ciborium_value.specs.Steady.{IsSteady, IsSameUnlessNested, IsNoNesting, after_pairs, steady-pairs, same, same-then, no_nesting-then, same-map, no_nesting-map}
-use Rattle.ciborium_value.specs.SteadyParts.{no_nesting-if, steady-then, steady-value}
+use Rattle.ciborium_value.specs.lemmas.Steady.{IsSteady, IsSameUnlessNested, IsNoNesting, after_pairs, steady-pairs, same, same-then, no_nesting-then, same-map, no_nesting-map}
+use Rattle.ciborium_value.specs.lemmas.SteadyParts.{no_nesting-if, steady-then, steady-value}
 use Rattle.ciborium_value.specs.Taken.{Outcome, Taken, gives, refuses, then_take, outcome_map, untagged, taken_name, bare_name, taken_value}
 use Rattle.ciborium_value.specs.TakenParts.{taken_then}
 use Rattle.ciborium_value.specs.VariantReadings.{no_nesting-name, same-either}

@@ -4,8 +4,8 @@ use Rattle.std.specs.Ordering.{nat_cmp, ordering_then}
 use Rattle.std.specs.Option.{option_cmp}
 use Rattle.ciborium_ll.specs.Item.{Item}
 use Rattle.ciborium_value.specs.Readings.{Reading, checked}
-use Rattle.ciborium_value.specs.Steady.{IsSteady, IsSameUnlessNested, IsNoNesting, same-map, no_nesting-map}
-use Rattle.ciborium_value.specs.SteadyParts.{no_nesting-if}
+use Rattle.ciborium_value.specs.lemmas.Steady.{IsSteady, IsSameUnlessNested, IsNoNesting, same-map, no_nesting-map}
+use Rattle.ciborium_value.specs.lemmas.SteadyParts.{no_nesting-if}
 use Rattle.ciborium_value.specs.Taken.{Outcome, Taken, gives, refuses, then_take, outcome_map, within_level, deeper, outer_tag, taken_outer_tag}
 use Rattle.ciborium_value.specs.declared.kind.Kind.TheVariants as kinds
 

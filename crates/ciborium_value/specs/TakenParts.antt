@@ -5,7 +5,7 @@ use Rattle.std.specs.BTreeMap.{insert_entry}
 use Rattle.ciborium_ll.specs.Item.{Item}
 use Rattle.ciborium_value.specs.Nesting.{Limit}
 use Rattle.ciborium_value.specs.Taken.{Outcome, gives, refuses, Taken, then_take, take_each, outcome_map, is_null, taken_value}
-use Rattle.ciborium_value.specs.Steady.{after_seq, after_pairs}
+use Rattle.ciborium_value.specs.lemmas.Steady.{after_seq, after_pairs}
 use Rattle.ciborium_value.specs.declared.kind.Kind.TheVariants as kinds
 
 -- what was taken, looked at once more

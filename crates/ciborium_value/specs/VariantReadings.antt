@@ -4,8 +4,8 @@ use Rattle.ciborium_ll.specs.Item as items
 use Rattle.ciborium_ll.specs.Item.{Item, Pairs}
 use Rattle.ciborium_value.specs.Nesting.{Limit}
 use Rattle.ciborium_value.specs.Readings.{Reading, spacious, unordered}
-use Rattle.ciborium_value.specs.Steady.{IsSteady, IsSameUnlessNested, IsNoNesting, same, same-then, no_nesting-then, no_nesting-map}
-use Rattle.ciborium_value.specs.SteadyParts.{no_nesting-if, steady-then, steady-unit}
+use Rattle.ciborium_value.specs.lemmas.Steady.{IsSteady, IsSameUnlessNested, IsNoNesting, same, same-then, no_nesting-then, no_nesting-map}
+use Rattle.ciborium_value.specs.lemmas.SteadyParts.{no_nesting-if, steady-then, steady-unit}
 use Rattle.ciborium_value.specs.Taken.{Outcome, Taken, gives, refuses, then_take, outcome_map, deeper, untagged, bare_name, bare_variant, lone_pair, taken_variant, taken_unit}
 use Rattle.ciborium_value.specs.TakenParts.{taken_then}
 use Rattle.ciborium_value.specs.declared.kind.Kind.TheVariants as kinds

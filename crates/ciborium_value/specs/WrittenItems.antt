@@ -2,12 +2,12 @@
 use Rattle.std.specs.Prelude.{◌≡◌, ℕ, ◌≤◌, ◌<◌, Bool, true, false}
 use Rattle.ciborium_ll.specs.Bytes.{greatest_offset}
 use Rattle.ciborium_ll.specs.Item.{Item, unsigned, negative, bytes, text, array, map, tag, simple, float, Items, no_items, item, Pairs, no_pairs, pair, items_count, pairs_count}
-use Rattle.ciborium_ll.specs.Proper.{IsArgument, IsProperBytes, IsProperText}
+use Rattle.ciborium_ll.specs.ProperItems.{IsArgument, IsProperBytes, IsProperText}
 use Rattle.ciborium_ll.specs.Spells.{Spells}
 use Rattle.ciborium_value.specs.Encoding.{item_of, written_bytes, written_tree}
 use Rattle.ciborium_value.specs.Folded.{folded}
 use Rattle.ciborium_value.specs.Meaning.{meaning}
-use Rattle.ciborium_value.specs.Proper.{IsProperTree}
+use Rattle.ciborium_value.specs.ProperTrees.{IsProperTree}
 use Rattle.ciborium_value.specs.Tree.{Tree}
 
 -- a count that a head announces; an open container announces none

@@ -3,9 +3,12 @@
 ghost use Rattle.std.specs.Prelude.{◌≡◌, IfErr, IfOk, None};
 ghost use Rattle.ciborium_value.specs.Sources.{IsGranted};
 ghost use Rattle.ciborium_value.specs.Taken.{gives};
-ghost use Rattle.ciborium_value.specs.TreeSources.{IsErrorOf, IsTreeAt, IsTreeLevelAt, IsTreeSeqAt};
-ghost use Rattle.ciborium_value.specs.TreeSources.{fault_of, level_weight, pending_due, seq_weight};
-ghost use Rattle.ciborium_value.specs.TreeSources.{source_weight, value_item};
+ghost use Rattle.ciborium_value.specs.inner.TreeSources.{IsTreeAt, IsTreeLevelAt, IsTreeSeqAt};
+ghost use Rattle.ciborium_value.specs.TreeAnswers.{IsErrorOf};
+ghost use Rattle.ciborium_value.specs.inner.TreeSources.{level_weight, pending_due, seq_weight};
+ghost use Rattle.ciborium_value.specs.TreeAnswers.{fault_of};
+ghost use Rattle.ciborium_value.specs.inner.TreeSources.{source_weight};
+ghost use Rattle.ciborium_value.specs.TreeAnswers.{value_item};
 
 use crate::deserialize::Deserialize;
 use crate::kind::Kind;

@@ -6,7 +6,7 @@ ghost use Rattle.ciborium_value.specs.Deterministic.{AreApart, AreRising, keys_o
 ghost use Rattle.ciborium_value.specs.DeterministicForms.{deterministic_form, deterministic_forms};
 ghost use Rattle.ciborium_value.specs.DeterministicForms.{pair_forms, sorted_pairs};
 ghost use Rattle.ciborium_value.specs.Meaning.{bignum_meaning, is_bignum_tag, without_zeros};
-ghost use Rattle.ciborium_value.specs.OwnForms.{AreFormed, IsFormed, PairsAreFormed};
+ghost use Rattle.ciborium_value.specs.inner.OwnForms.{AreFormed, IsFormed, PairsAreFormed};
 ghost use Rattle.ciborium_value.specs.SameContents.{AreAlike, IsAlike, PairsAreAlike};
 ghost use Rattle.ciborium_value.specs.Taken.{gives, refuses};
 ghost use Rattle.ciborium_value.specs.Tree as trees;

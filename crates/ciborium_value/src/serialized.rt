@@ -1,12 +1,14 @@
 //! Values as sinks to write to.
 
 ghost use Rattle.std.specs.Prelude.{◌≡◌, ◌∷◌, IfErr, IfOk, OnOk, Some};
-ghost use Rattle.ciborium_value.specs.Messages.{error_message};
-ghost use Rattle.ciborium_value.specs.Open.{placed};
+ghost use Rattle.ciborium_value.specs.RefusalMessages.{error_message};
+ghost use Rattle.ciborium_value.specs.inner.Frames.{placed};
 ghost use Rattle.ciborium_value.specs.Sinks.{Cause, IsOwed, memory};
-ghost use Rattle.ciborium_value.specs.Stack.{opened, opens_of};
-ghost use Rattle.ciborium_value.specs.TreeSinks.{IsBuiltAt, IsTreeOf, cause_of, no_out};
-ghost use Rattle.ciborium_value.specs.TreeSinks.{nothing_shown, state_of};
+ghost use Rattle.ciborium_value.specs.inner.Stack.{opened, opens_of};
+ghost use Rattle.ciborium_value.specs.inner.TreeSinks.{IsBuiltAt, no_out};
+ghost use Rattle.ciborium_value.specs.TreeAnswers.{IsTreeOf};
+ghost use Rattle.ciborium_value.specs.TreeAnswers.{cause_of};
+ghost use Rattle.ciborium_value.specs.inner.TreeSinks.{nothing_shown, state_of};
 ghost use Rattle.ciborium_value.specs.View.{tree_of};
 ghost use Rattle.ciborium_value.specs.declared.serialized.Error.TheVariants.{Memory};
 

@@ -3,10 +3,10 @@
 ghost use Rattle.std.specs.Prelude.{◌≡◌, ◌∷◌, ◌++◌, [], IfOk, List, MatchOption, None, OnErr};
 ghost use Rattle.std.specs.Prelude.{OnOk, Some};
 ghost use Rattle.std.specs.Prelude.{drop, length, map, min, option_map};
-ghost use Rattle.ciborium_value.specs.Open.{array, closed, ended, fill, map as open_map, placed};
-ghost use Rattle.ciborium_value.specs.Open.{parts_due, waiting_keys};
-ghost use Rattle.ciborium_value.specs.Stack.{filled_of, open_of, opened, opens, opens_of};
-ghost use Rattle.ciborium_value.specs.Stack.{placed_of};
+ghost use Rattle.ciborium_value.specs.inner.Frames.{array, closed, ended, fill, map as open_map, placed};
+ghost use Rattle.ciborium_value.specs.inner.Frames.{parts_due, waiting_keys};
+ghost use Rattle.ciborium_value.specs.inner.Stack.{filled_of, open_of, opened, opens, opens_of};
+ghost use Rattle.ciborium_value.specs.inner.Stack.{placed_of};
 ghost use Rattle.ciborium_value.specs.View.{pair_trees, tree_of};
 
 use crate::tree::Value;
@@ -194,7 +194,7 @@ pub struct Stack {
     alloc: Global,
 }
 
-#[tactic(auto, using(crate::proofs::Stacked::opens_last))]
+#[tactic(auto, using(crate::proofs::Trees::Stacked::opens_last))]
 impl Stack {
     /// Nothing is open. This takes no memory.
     pub fn new(alloc: Global) -> Stack

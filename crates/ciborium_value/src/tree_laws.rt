@@ -1,22 +1,22 @@
 //! What holds of values and their encodings, whatever the code: each law is the contract of a
 //! function that does nothing.
 
-ghost use Rattle.ciborium_value.specs.Examples.{CornerExamples, CountedExamples, FoldingExamples};
-ghost use Rattle.ciborium_value.specs.Examples.{RefusedExamples, SpelledExamples, WrittenExamples};
-ghost use Rattle.ciborium_value.specs.FoldingLaws.{EncodingIsGood, FoldsOnce, WrittenMeansFolded};
-ghost use Rattle.ciborium_value.specs.FormLaws.{AcceptedWhereOwnForm, AlikeHaveOneForm};
-ghost use Rattle.ciborium_value.specs.FormLaws.{FormOrRefused, RefusedByDuplicates};
-ghost use Rattle.ciborium_value.specs.FormLaws.{FormIsAlike, FormIsItsOwn, FormIsProper};
-ghost use Rattle.ciborium_value.specs.FormLaws.{OneFormWhereAlike};
-ghost use Rattle.ciborium_value.specs.Laws.{GoodOrRefused, NeverBoth, OneRefusal};
-ghost use Rattle.ciborium_value.specs.NotationExamples.{EscapeExamples, IndentedExamples};
-ghost use Rattle.ciborium_value.specs.NotationExamples.{NotationExamples};
+ghost use Rattle.ciborium_value.specs.laws.Examples.{CornerExamples, CountedExamples, FoldingExamples};
+ghost use Rattle.ciborium_value.specs.laws.Examples.{RefusedExamples, SpelledExamples, WrittenExamples};
+ghost use Rattle.ciborium_value.specs.laws.FoldingLaws.{EncodingIsGood, FoldsOnce, WrittenMeansFolded};
+ghost use Rattle.ciborium_value.specs.laws.FormLaws.{AcceptedWhereOwnForm, AlikeHaveOneForm};
+ghost use Rattle.ciborium_value.specs.laws.FormLaws.{FormOrRefused, RefusedByDuplicates};
+ghost use Rattle.ciborium_value.specs.laws.FormLaws.{FormIsAlike, FormIsItsOwn, FormIsProper};
+ghost use Rattle.ciborium_value.specs.laws.FormLaws.{OneFormWhereAlike};
+ghost use Rattle.ciborium_value.specs.laws.RefusalLaws.{GoodOrRefused, NeverBoth, OneRefusal};
+ghost use Rattle.ciborium_value.specs.laws.NotationExamples.{EscapeExamples, IndentedExamples};
+ghost use Rattle.ciborium_value.specs.laws.NotationExamples.{NotationExamples};
 ghost use Rattle.ciborium_value.specs.Number.{BytesHoldNumber, NoLeadingZeros};
-ghost use Rattle.ciborium_value.specs.NumberItems.{NumberTreeIsItem};
-ghost use Rattle.ciborium_value.specs.OrderLaws.{EqualAsTrees, EqualityIsEquivalence};
-ghost use Rattle.ciborium_value.specs.OrderLaws.{IntegersAsTrees, OrderedAsTrees};
-ghost use Rattle.ciborium_value.specs.OrderLaws.{PartlyOrderedAsTrees, TiedWhereEqual};
-ghost use Rattle.ciborium_value.specs.OrderLaws.{ValuesAreOrdered};
+ghost use Rattle.ciborium_value.specs.laws.NumberItems.{NumberTreeIsItem};
+ghost use Rattle.ciborium_value.specs.laws.OrderLaws.{EqualAsTrees, EqualityIsEquivalence};
+ghost use Rattle.ciborium_value.specs.laws.OrderLaws.{IntegersAsTrees, OrderedAsTrees};
+ghost use Rattle.ciborium_value.specs.laws.OrderLaws.{PartlyOrderedAsTrees, TiedWhereEqual};
+ghost use Rattle.ciborium_value.specs.laws.OrderLaws.{ValuesAreOrdered};
 ghost use Rattle.ciborium_value.specs.WrittenItems.{TreeIsWrittenAsItself, WrittenSpells};
 ghost use Rattle.ciborium_value.specs.WrittenItems.{WrittenTreeFolds, WrittenTreeIsProper};
 

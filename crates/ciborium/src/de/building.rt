@@ -4,11 +4,11 @@ ghost use Rattle.std.specs.Prelude.{◌≡◌, ◌<◌, ◌≤◌, IfErr, IfOk, 
 ghost use Rattle.std.specs.Prelude.{Ok, OnOk, Some, length, ℕ};
 ghost use Rattle.ciborium_ll.specs.Decoding.{HasSameReader, TakesBeforeAny, count_of};
 ghost use Rattle.ciborium_ll.specs.Decoding.{head_len_of, left_of, pushed_of, reach_of};
-ghost use Rattle.ciborium_value.specs.Stack.{opens_of};
+ghost use Rattle.ciborium_value.specs.inner.Stack.{opens_of};
 ghost use Rattle.ciborium_value.specs.View.{tree_of};
-ghost use Rattle.ciborium.specs.Answers.{IsPlacedInOrder, IsReading, IsTurned, IsValueRead};
-ghost use Rattle.ciborium.specs.Due.{AllowsDue, AllowsNoMore, AllowsThen, IsSpent, LeavesReader};
-ghost use Rattle.ciborium.specs.Reads.{StandsAt, heads_left};
+ghost use Rattle.ciborium.specs.ValueAnswers.{IsPlacedInOrder, IsReading, IsTurned, IsValueRead};
+ghost use Rattle.ciborium.specs.inner.Due.{AllowsDue, AllowsNoMore, AllowsThen, IsSpent, LeavesReader};
+ghost use Rattle.ciborium.specs.inner.ValuesInBytes.{StandsAt, heads_left};
 
 use crate::de::error::{Error, Refusal};
 use crate::de::front::Part;

@@ -4,10 +4,10 @@ ghost use Rattle.std.specs.Prelude.{◌≡◌, IsFalse, IsTrue, MatchOption, ℕ
 ghost use Rattle.std.specs.declared.cmp.Ordering.TheVariants.{Less};
 ghost use Rattle.ciborium_value.specs.Canonical.{key_order};
 ghost use Rattle.ciborium_value.specs.Sources.{read_as};
-ghost use Rattle.ciborium_value.specs.Stack.{opens_of};
+ghost use Rattle.ciborium_value.specs.inner.Stack.{opens_of};
 ghost use Rattle.ciborium_value.specs.View.{tree_of};
 ghost use Rattle.ciborium_value.specs.declared.key_order.KeyOrder.TheVariants as orders;
-ghost use Rattle.ciborium.specs.Answers.{ReadsWhole};
+ghost use Rattle.ciborium.specs.ValueAnswers.{ReadsWhole};
 ghost use Rattle.ciborium.specs.DeterministicRefusals.{IsFoldable};
 ghost use Rattle.ciborium.specs.Spelling.{IsKeyInOrder, IsKeyOutOfOrder};
 ghost use Rattle.ciborium.specs.Spelling.{counted_fault, deterministic, deterministic_fault};

@@ -3,9 +3,9 @@
 ghost use Rattle.std.specs.Prelude.{◌≡◌, ◌+◌, ◌<◌, IfErr, List, None, OnOk, Some, ℕ};
 ghost use Rattle.ciborium_ll.specs.Decoding.{HasSameReader, IsAhead, TakesBeforeAny};
 ghost use Rattle.ciborium_ll.specs.Decoding.{count_of, head_len_of, offset_of, pushed_of};
-ghost use Rattle.ciborium.specs.Due.{IsSpent};
-ghost use Rattle.ciborium.specs.Parts.{IsHeadRead};
-ghost use Rattle.ciborium.specs.Reads.{IsMeasured, heads_left};
+ghost use Rattle.ciborium.specs.inner.Due.{IsSpent};
+ghost use Rattle.ciborium.specs.inner.Parts.{IsHeadRead};
+ghost use Rattle.ciborium.specs.inner.ValuesInBytes.{IsMeasured, heads_left};
 
 use crate::de::error::Error;
 use ciborium_ll::{Decoder, Header, Keep};

@@ -4,11 +4,11 @@
 ghost use Rattle.std.specs.Prelude.{◌≡◌, ◌+◌, ◌<◌, ◌≤◌, IfErr, IfOk, List, None, OnOk, Some, ℕ};
 ghost use Rattle.ciborium_ll.specs.Decoding.{HasSameReader, TakesBeforeAny};
 ghost use Rattle.ciborium_ll.specs.Decoding.{last_of, pushed_of};
-ghost use Rattle.ciborium.specs.Due.{IsSpent};
-ghost use Rattle.ciborium.specs.Parts.{HasRoom, IsArrayBegun, IsMapBegun, IsPartRead};
-ghost use Rattle.ciborium.specs.Parts.{IsAtRest, IsSimpleRead};
-ghost use Rattle.ciborium.specs.Reads.{IsAt, StandsAt, heads_left};
-ghost use Rattle.ciborium.specs.Strings.{IsStringRead};
+ghost use Rattle.ciborium.specs.inner.Due.{IsSpent};
+ghost use Rattle.ciborium.specs.inner.Parts.{HasRoom, IsArrayBegun, IsMapBegun, IsPartRead};
+ghost use Rattle.ciborium.specs.inner.Parts.{IsAtRest, IsSimpleRead};
+ghost use Rattle.ciborium.specs.inner.ValuesInBytes.{IsAt, StandsAt, heads_left};
+ghost use Rattle.ciborium.specs.inner.StringAnswers.{IsStringRead};
 ghost use Rattle.ciborium_ll.specs.StringRefusal.{of_bytes, of_text};
 
 use crate::de::error::{Error, Refusal};

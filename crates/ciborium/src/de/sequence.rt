@@ -3,7 +3,7 @@
 ghost use Rattle.std.specs.Prelude.{Some, map};
 ghost use Rattle.ciborium_value.specs.Sources.{read_as};
 ghost use Rattle.ciborium.specs.SequenceReads.{RefusesSequence, TakesSequence};
-ghost use Rattle.ciborium.specs.TypedReads.{TakesBeginning};
+ghost use Rattle.ciborium.specs.TypedAnswers.{TakesBeginning};
 
 use super::{Deserialize, Error, from_reader_next};
 use std::alloc::Global;

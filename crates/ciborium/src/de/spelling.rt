@@ -1,7 +1,7 @@
 //! The spellings that a value is read by: what each of them refuses.
 
 ghost use Rattle.std.specs.Prelude.{◌≡◌, IsFalse, IsTrue, MatchOption};
-ghost use Rattle.ciborium_value.specs.Stack.{opens_of};
+ghost use Rattle.ciborium_value.specs.inner.Stack.{opens_of};
 ghost use Rattle.ciborium.specs.Spelling as spellings;
 ghost use Rattle.ciborium.specs.Spelling.{HasKeysInOrder, HasKeyOutOfOrder, IsUnwanted, head_fault};
 

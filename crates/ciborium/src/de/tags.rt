@@ -4,10 +4,10 @@ ghost use Rattle.std.specs.Prelude.{◌≡◌, ◌≤◌, IfErr, IfOk, List, Non
 ghost use Rattle.ciborium_ll.specs.Decoding.{HasSameReader, TakesBeforeAny, pushed_of};
 ghost use Rattle.ciborium_ll.specs.declared.header.Header.TheVariants as header;
 ghost use Rattle.ciborium_value.specs.Meaning.{is_bignum_tag};
-ghost use Rattle.ciborium.specs.Due.{IsSpent};
-ghost use Rattle.ciborium.specs.Parts.{HasRoom, IsAtRest, IsBignumRead, IsFolded, IsFolding};
-ghost use Rattle.ciborium.specs.Parts.{IsHeadAccepted, IsPartRead};
-ghost use Rattle.ciborium.specs.Reads.{IsAt, heads_left};
+ghost use Rattle.ciborium.specs.inner.Due.{IsSpent};
+ghost use Rattle.ciborium.specs.inner.Parts.{HasRoom, IsAtRest, IsBignumRead, IsFolded, IsFolding};
+ghost use Rattle.ciborium.specs.inner.Parts.{IsHeadAccepted, IsPartRead};
+ghost use Rattle.ciborium.specs.inner.ValuesInBytes.{IsAt, heads_left};
 
 use crate::de::error::{Error, Refusal};
 use crate::de::front::{Part, pull};

@@ -11,20 +11,20 @@ ghost use Rattle.ciborium_value.specs.Derived.{value_eq};
 ghost use Rattle.ciborium_value.specs.Encoding.{encoded_size, item_of};
 ghost use Rattle.ciborium_value.specs.Folded.{folded};
 ghost use Rattle.ciborium_value.specs.Nesting.{nesting};
-ghost use Rattle.ciborium_value.specs.Proper.{IsProperTree};
+ghost use Rattle.ciborium_value.specs.ProperTrees.{IsProperTree};
 ghost use Rattle.ciborium_value.specs.Sinks.{named_value};
 ghost use Rattle.ciborium_value.specs.Readings.{whole_by};
-ghost use Rattle.ciborium_value.specs.ReadsBackValues.{value-back};
+ghost use Rattle.ciborium_value.specs.lemmas.ReadsBackValues.{value-back};
 ghost use Rattle.ciborium_value.specs.Tree.{Tree};
 ghost use Rattle.ciborium_value.specs.View.{tree_of};
 ghost use Rattle.ciborium_value.specs.WrittenContents.{from_content};
 ghost use Rattle.ciborium_value.specs.contracts.tree.Value as value_row;
 ghost use Rattle.ciborium_value.specs.declared.tree.Value as values;
-ghost use Rattle.ciborium_value.proofs.Derived.{value_eq_equivalence};
+ghost use Rattle.ciborium_value.proofs.Orders.Derived.{value_eq_equivalence};
 ghost use Rattle.ciborium_value.specs.CanonicalValues.{canonical_tree_cmp, canonical_value_cmp};
 ghost use Rattle.ciborium_value.specs.CanonicalValues.{canonical_value_cmp-trees};
-ghost use Rattle.ciborium_value.proofs.TotalOrders.{canonical_value_cmp_total};
-ghost use Rattle.ciborium_value.proofs.TotalOrders.{canonical_value_matches_eq};
+ghost use Rattle.ciborium_value.proofs.Orders.TotalOrders.{canonical_value_cmp_total};
+ghost use Rattle.ciborium_value.proofs.Orders.TotalOrders.{canonical_value_matches_eq};
 
 mod bytewise;
 

@@ -2,7 +2,7 @@
 
 ghost use Rattle.std.specs.Prelude.{List};
 ghost use Rattle.std.specs.Ordering.{ordering_then};
-ghost use Rattle.ciborium_value.specs.KeyOrders.{ordering_then-same, slice_cmp-map};
+ghost use Rattle.ciborium_value.specs.lemmas.KeyOrders.{ordering_then-same, slice_cmp-map};
 ghost use Rattle.ciborium_value.specs.Readings.{map_of};
 
 use super::{Deserialize, Key};

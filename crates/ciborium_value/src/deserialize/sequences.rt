@@ -1,11 +1,11 @@
 //! Lists and tuples.
 
 ghost use Rattle.std.specs.Prelude.{◌+◌, ◌<◌, ◌≤◌, IfErr, IfOk, List, OnErr, OnOk};
-ghost use Rattle.ciborium_value.specs.KeyOrders.{ordering_then-same, slice_cmp-map};
+ghost use Rattle.ciborium_value.specs.lemmas.KeyOrders.{ordering_then-same, slice_cmp-map};
 ghost use Rattle.ciborium_value.specs.Readings.{list_of, tuple1_of, tuple2_of, tuple3_of};
 ghost use Rattle.ciborium_value.specs.Readings.{tuple4_of};
-ghost use Rattle.ciborium_value.specs.Sequences.{DropsRest, RefusesPart, RefusesRest};
-ghost use Rattle.ciborium_value.specs.Sequences.{TakesOwed, TakesPart, TakesRest};
+ghost use Rattle.ciborium_value.specs.inner.EnteredContainers.{DropsRest, RefusesPart, RefusesRest};
+ghost use Rattle.ciborium_value.specs.inner.EnteredContainers.{TakesOwed, TakesPart, TakesRest};
 ghost use Rattle.ciborium_value.specs.Sources.{TakesOnly};
 
 use super::{Deserialize, Key};

@@ -1,6 +1,6 @@
 //! The item ahead, of any type.
 
-ghost use Rattle.ciborium_value.specs.DerivedOrder.{value_cmp-is};
+ghost use Rattle.ciborium_value.specs.lemmas.DerivedOrder.{value_cmp-is};
 ghost use Rattle.ciborium_value.specs.Readings.{whole_of};
 ghost use Rattle.ciborium_value.specs.Tree.{Tree};
 ghost use Rattle.ciborium_value.specs.View.{tree_of};

@@ -10,7 +10,10 @@ ghost use Rattle.ciborium_value.specs.Taken.{bignum_of, gives, outcome_map, refu
 ghost use Rattle.ciborium_value.specs.Taken.{taken_boolean, taken_byte, taken_bytes};
 ghost use Rattle.ciborium_value.specs.Taken.{taken_character, taken_integer, taken_name};
 ghost use Rattle.ciborium_value.specs.Taken.{taken_text, taken_unit};
-ghost use Rattle.ciborium_value.specs.TreeSources.{IsErrorOf, fault_of, value_item, weight};
+ghost use Rattle.ciborium_value.specs.inner.TreeSources.{weight};
+ghost use Rattle.ciborium_value.specs.TreeAnswers.{IsErrorOf};
+ghost use Rattle.ciborium_value.specs.TreeAnswers.{fault_of};
+ghost use Rattle.ciborium_value.specs.TreeAnswers.{value_item};
 ghost use Rattle.ciborium_value.specs.View.{tree_pairs_of};
 ghost use Rattle.ciborium_value.specs.declared.kind.Kind.TheVariants as kinds;
 

@@ -1,9 +1,9 @@
 //! Numbers, which are their own deterministic forms.
 
-ghost use Rattle.ciborium_value.specs.FormsReadBackNumbers.{i128_form, i16_form, i32_form};
-ghost use Rattle.ciborium_value.specs.FormsReadBackNumbers.{i64_form, i8_form, isize_form};
-ghost use Rattle.ciborium_value.specs.FormsReadBackNumbers.{u128_form, u16_form, u32_form};
-ghost use Rattle.ciborium_value.specs.FormsReadBackNumbers.{u64_form, u8_form, usize_form};
+ghost use Rattle.ciborium_value.specs.lemmas.FormsReadBackNumbers.{i128_form, i16_form, i32_form};
+ghost use Rattle.ciborium_value.specs.lemmas.FormsReadBackNumbers.{i64_form, i8_form, isize_form};
+ghost use Rattle.ciborium_value.specs.lemmas.FormsReadBackNumbers.{u128_form, u16_form, u32_form};
+ghost use Rattle.ciborium_value.specs.lemmas.FormsReadBackNumbers.{u64_form, u8_form, usize_form};
 
 use super::FormReadsBack;
 

@@ -2,10 +2,10 @@
 
 ghost use Rattle.ciborium_value.specs.FormsReadBack.{boolean-form, bytes-form, character-form};
 ghost use Rattle.ciborium_value.specs.FormsReadBack.{string-form, unit-form};
-ghost use Rattle.ciborium_value.specs.FormsReadBackMaps.{map-form};
-ghost use Rattle.ciborium_value.specs.FormsReadBackOptions.{option-form};
-ghost use Rattle.ciborium_value.specs.FormsReadBackParts.{list-form, tuple1-form, tuple2-form};
-ghost use Rattle.ciborium_value.specs.FormsReadBackParts.{tuple3-form, tuple4-form};
+ghost use Rattle.ciborium_value.specs.lemmas.FormsReadBackMaps.{map-form};
+ghost use Rattle.ciborium_value.specs.lemmas.FormsReadBackOptions.{option-form};
+ghost use Rattle.ciborium_value.specs.lemmas.FormsReadBackParts.{list-form, tuple1-form, tuple2-form};
+ghost use Rattle.ciborium_value.specs.lemmas.FormsReadBackParts.{tuple3-form, tuple4-form};
 
 use super::{FormReadsBack, NeverNull};
 use crate::byte_buf::ByteBuf;

@@ -1,8 +1,8 @@
 //! Maps.
 
 ghost use Rattle.std.specs.Prelude.{suc};
-ghost use Rattle.ciborium_value.specs.ReadsBackMaps.{IsMapHeld, entry_levels, map-back};
-ghost use Rattle.ciborium_value.specs.ReadsBackParts.{greatest};
+ghost use Rattle.ciborium_value.specs.lemmas.ReadsBackMaps.{IsMapHeld, entry_levels, map-back};
+ghost use Rattle.ciborium_value.specs.lemmas.ReadsBackParts.{greatest};
 
 use super::ReadsBack;
 use crate::deserialize::Key;

@@ -2,9 +2,9 @@
 
 ghost use Rattle.std.specs.Prelude.{◌<◌, ◌^◌};
 ghost use Rattle.ciborium_value.specs.Readings.{IsWithin};
-ghost use Rattle.ciborium_value.specs.ReadsBackNumbers.{i128_back, i16_back, i32_back, i64_back};
-ghost use Rattle.ciborium_value.specs.ReadsBackNumbers.{i8_back, isize_back, u128_back, u16_back};
-ghost use Rattle.ciborium_value.specs.ReadsBackNumbers.{u32_back, u64_back, u8_back, usize_back};
+ghost use Rattle.ciborium_value.specs.lemmas.ReadsBackNumbers.{i128_back, i16_back, i32_back, i64_back};
+ghost use Rattle.ciborium_value.specs.lemmas.ReadsBackNumbers.{i8_back, isize_back, u128_back, u16_back};
+ghost use Rattle.ciborium_value.specs.lemmas.ReadsBackNumbers.{u32_back, u64_back, u8_back, usize_back};
 
 use super::ReadsBack;
 

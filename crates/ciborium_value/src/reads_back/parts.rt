@@ -2,8 +2,8 @@
 
 ghost use Rattle.std.specs.List.{All};
 ghost use Rattle.std.specs.Prelude.{max, suc};
-ghost use Rattle.ciborium_value.specs.ReadsBackParts.{greatest, list-back, tuple1-back};
-ghost use Rattle.ciborium_value.specs.ReadsBackParts.{tuple2-back, tuple3-back, tuple4-back};
+ghost use Rattle.ciborium_value.specs.lemmas.ReadsBackParts.{greatest, list-back, tuple1-back};
+ghost use Rattle.ciborium_value.specs.lemmas.ReadsBackParts.{tuple2-back, tuple3-back, tuple4-back};
 
 use super::ReadsBack;
 

@@ -4,7 +4,7 @@ ghost use Rattle.std.specs.Prelude.{◌≡◌, Some};
 ghost use Rattle.ciborium_value.specs.Encoding.{item_of};
 ghost use Rattle.ciborium_value.specs.Folded.{folded};
 ghost use Rattle.ciborium_value.specs.Nesting.{nesting};
-ghost use Rattle.ciborium_value.specs.ReadsBackValues.{value-back};
+ghost use Rattle.ciborium_value.specs.lemmas.ReadsBackValues.{value-back};
 ghost use Rattle.ciborium_value.specs.View.{tree_of};
 
 use super::ReadsBack;

@@ -3,9 +3,9 @@ use Rattle.std.proofs.Common.{None, rules, arith, refl, sym, ap, ◌∙◌, ◌+
 use Rattle.std.specs.declared.io.Error.{Error}
 use Rattle.ciborium_ll.proofs.HeldBytes.{begun-left, nothing-allowed}
 use Rattle.ciborium_value.specs.Sources.{read_as}
-use Rattle.ciborium.proofs.HandedReaders.{handed-denied, handed-from, handed-given, some-map}
-use Rattle.ciborium.specs.ByteSources.{known_end}
-use Rattle.ciborium.proofs.TakenOnly.{taken-beginning, taken-none}
+use Rattle.ciborium.proofs.Readers.HandedReaders.{handed-denied, handed-from, handed-given, some-map}
+use Rattle.ciborium.specs.inner.ByteSources.{known_end}
+use Rattle.ciborium.proofs.Items.TakenOnly.{taken-beginning, taken-none}
 use Rattle.ciborium.proofs.de.from_reader_at.Goals as goal
 
 pub returns-clause-ok : goal.returns-clause-ok

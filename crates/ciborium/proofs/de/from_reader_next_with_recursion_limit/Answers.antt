@@ -5,9 +5,9 @@ use Rattle.std.specs.declared.io.Error.{Error}
 use Rattle.ciborium_ll.proofs.HeldBytes.{same-name, begun-left}
 use Rattle.ciborium.specs.Errors.{from_ll}
 use Rattle.ciborium.specs.Spelling.{any}
-use Rattle.ciborium.proofs.KnownReaders.{whole-of}
-use Rattle.ciborium.proofs.NextReaders.{first-denied, first-io, first-taken, next-ok, next-refused, next-value, some-all, tells-end}
-use Rattle.ciborium.proofs.TakenOnly.{taken-beginning, taken-none, taken-then, takes-only}
+use Rattle.ciborium.proofs.Readers.KnownReaders.{whole-of}
+use Rattle.ciborium.proofs.Readers.NextReaders.{first-denied, first-io, first-taken, next-ok, next-refused, next-value, some-all, tells-end}
+use Rattle.ciborium.proofs.Items.TakenOnly.{taken-beginning, taken-none, taken-then, takes-only}
 use Rattle.ciborium.proofs.de.from_reader_next_with_recursion_limit.Goals as goal
 
 pub returns-in_err-first : goal.returns-in_err-first

@@ -3,11 +3,11 @@ use Rattle.std.proofs.Common.{None, rules, arith, refl, sym, ap, ◌∙◌, ◌+
 use Rattle.std.specs.declared.io.Error.{Error}
 use Rattle.ciborium_ll.proofs.HeldBytes.{begun-left, nothing-allowed}
 use Rattle.ciborium_value.specs.Sources.{read_as}
-use Rattle.ciborium.proofs.HandedReaders.{handed-denied, handed-given, handed-whole, some-map}
+use Rattle.ciborium.proofs.Readers.HandedReaders.{handed-denied, handed-given, handed-whole, some-map}
 use Rattle.ciborium.specs.Spelling.{any}
-use Rattle.ciborium.proofs.KnownReaders.{whole-of}
-use Rattle.ciborium.specs.ByteSources.{known_end}
-use Rattle.ciborium.proofs.TakenOnly.{taken-beginning, taken-none}
+use Rattle.ciborium.proofs.Readers.KnownReaders.{whole-of}
+use Rattle.ciborium.specs.inner.ByteSources.{known_end}
+use Rattle.ciborium.proofs.Items.TakenOnly.{taken-beginning, taken-none}
 use Rattle.ciborium.proofs.de.read.Goals as goal
 
 pub returns : goal.returns

@@ -1,9 +1,10 @@
 -- The reader's error is put back behind a value that was refused.
 use Rattle.std.proofs.Common.{Err, sym, ap, ◌∙◌, subst}
 use Rattle.ciborium_value.specs.Sources.{IsGranted, Refuses}
-use Rattle.ciborium.specs.ByteSources.{HasTaken, ReadsValue, StandsBefore, cause_of}
-use Rattle.ciborium.proofs.HandedReaders.{some-map}
-use Rattle.ciborium.proofs.PutAside.{back-reads, same-cause, same-decoder}
+use Rattle.ciborium.specs.inner.ByteSources.{HasTaken, ReadsValue, StandsBefore}
+use Rattle.ciborium.specs.Errors.{cause_of}
+use Rattle.ciborium.proofs.Readers.HandedReaders.{some-map}
+use Rattle.ciborium.proofs.Readers.PutAside.{back-reads, same-cause, same-decoder}
 use Rattle.ciborium.proofs.de.read_from.Goals as goal
 
 pub returns-in-Err : goal.returns-in-Err

@@ -1,5 +1,5 @@
 use Rattle.ciborium_value.specs.ReadsBack.{by_bytes}
-use Rattle.ciborium.proofs.SequenceRoundTrips.{contents_read_back}
+use Rattle.ciborium.proofs.ReadBack.SequenceRoundTrips.{contents_read_back}
 use Rattle.ciborium.proofs.laws.are_read_back.Goals as goal
 
 pub returns : goal.returns

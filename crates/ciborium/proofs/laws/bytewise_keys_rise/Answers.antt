@@ -1,4 +1,4 @@
-use Rattle.ciborium.proofs.RisingKeys.{bytewise-keys}
+use Rattle.ciborium.proofs.Encodings.RisingKeys.{bytewise-keys}
 use Rattle.ciborium.proofs.laws.bytewise_keys_rise.Goals as goal
 
 pub returns-clause-rise : goal.returns-clause-rise

@@ -1,4 +1,4 @@
-use Rattle.ciborium.proofs.RisingKeys.{canonical-keys}
+use Rattle.ciborium.proofs.Encodings.RisingKeys.{canonical-keys}
 use Rattle.ciborium.proofs.laws.canonical_keys_rise.Goals as goal
 
 pub returns-clause-rise : goal.returns-clause-rise

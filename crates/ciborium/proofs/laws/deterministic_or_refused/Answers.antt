@@ -1,4 +1,4 @@
-use Rattle.ciborium.proofs.StrictOutcome.{one_of, never_both, one_refusal, one_tree}
+use Rattle.ciborium.proofs.Strict.StrictOutcome.{one_of, never_both, one_refusal, one_tree}
 use Rattle.ciborium.proofs.laws.deterministic_or_refused.Goals as goal
 
 pub returns : goal.returns

@@ -1,4 +1,4 @@
-use Rattle.ciborium.proofs.EncodingLaws.{one_tree, encoding_spells, others_are_longer, heads_rise}
+use Rattle.ciborium.proofs.Encodings.EncodingLaws.{one_tree, encoding_spells, others_are_longer, heads_rise}
 use Rattle.ciborium.proofs.laws.encoding_is_shortest.Goals as goal
 
 pub returns : goal.returns

@@ -1,4 +1,4 @@
-use Rattle.ciborium.proofs.EqualContents.{are_refused_alike, leave_same_bytes, write_same_bytes}
+use Rattle.ciborium.proofs.ReadBack.EqualContents.{are_refused_alike, leave_same_bytes, write_same_bytes}
 use Rattle.ciborium.proofs.laws.equal_contents_equal_bytes.Goals as goal
 
 pub returns : goal.returns

@@ -1,4 +1,4 @@
-use Rattle.ciborium.proofs.FormsReadBack.{form_gives_content}
+use Rattle.ciborium.proofs.ReadBack.FormRoundTrips.{form_gives_content}
 use Rattle.ciborium.proofs.laws.form_gives_content.Goals as goal
 
 pub returns : goal.returns

@@ -1,4 +1,4 @@
-use Rattle.ciborium.proofs.FormsReadBack as forms
+use Rattle.ciborium.proofs.ReadBack.FormRoundTrips as forms
 use Rattle.ciborium.proofs.laws.form_is_read_back.Goals as goal
 
 pub returns : goal.returns

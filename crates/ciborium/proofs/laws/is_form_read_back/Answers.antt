@@ -1,4 +1,4 @@
-use Rattle.ciborium.proofs.FormsReadBack.{form_read_back}
+use Rattle.ciborium.proofs.ReadBack.FormRoundTrips.{form_read_back}
 use Rattle.ciborium.proofs.laws.is_form_read_back.Goals as goal
 
 pub returns : goal.returns

@@ -1,5 +1,5 @@
 use Rattle.ciborium_value.specs.declared.key_order.KeyOrder.TheVariants.{LengthFirst}
-use Rattle.ciborium.proofs.Loaded.{content_loaded}
+use Rattle.ciborium.proofs.ReadBack.Loaded.{content_loaded}
 use Rattle.ciborium.proofs.laws.is_loaded.Goals as goal
 
 pub returns : goal.returns

@@ -1,4 +1,4 @@
-use Rattle.ciborium.proofs.RoundTrips.{content_read_back}
+use Rattle.ciborium.proofs.ReadBack.RoundTrips.{content_read_back}
 use Rattle.ciborium.proofs.laws.is_read_back.Goals as goal
 
 pub returns : goal.returns

@@ -1,4 +1,4 @@
-use Rattle.ciborium.proofs.Loaded as loaded
+use Rattle.ciborium.proofs.ReadBack.Loaded as loaded
 use Rattle.ciborium.proofs.laws.loaded_as_saved.Goals as goal
 
 pub returns : goal.returns

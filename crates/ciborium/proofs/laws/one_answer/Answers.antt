@@ -1,4 +1,4 @@
-use Rattle.ciborium.proofs.OneAnswer.{one_answer}
+use Rattle.ciborium.proofs.Encodings.OneAnswer.{one_answer}
 use Rattle.ciborium.proofs.laws.one_answer.Goals as goal
 
 pub returns : goal.returns

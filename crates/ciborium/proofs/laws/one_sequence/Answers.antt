@@ -1,4 +1,4 @@
-use Rattle.ciborium.proofs.Sequences.{one_sequence}
+use Rattle.ciborium.proofs.Encodings.Sequences.{one_sequence}
 use Rattle.ciborium.proofs.laws.one_sequence.Goals as goal
 
 pub returns : goal.returns

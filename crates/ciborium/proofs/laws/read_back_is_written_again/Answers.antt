@@ -1,4 +1,4 @@
-use Rattle.ciborium.proofs.EqualContents.{bytes_written_again, tree_written_again}
+use Rattle.ciborium.proofs.ReadBack.EqualContents.{bytes_written_again, tree_written_again}
 use Rattle.ciborium.proofs.laws.read_back_is_written_again.Goals as goal
 
 pub returns : goal.returns

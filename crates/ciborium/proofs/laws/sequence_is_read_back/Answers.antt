@@ -1,5 +1,5 @@
 use Rattle.ciborium_value.specs.ReadsBack.{by_bytes}
-use Rattle.ciborium.proofs.SequenceRoundTrips.{sequence_read_back}
+use Rattle.ciborium.proofs.ReadBack.SequenceRoundTrips.{sequence_read_back}
 use Rattle.ciborium.proofs.laws.sequence_is_read_back.Goals as goal
 
 pub returns : goal.returns

@@ -1,4 +1,4 @@
-use Rattle.ciborium.proofs.SourcesAgree.{sources_agree}
+use Rattle.ciborium.proofs.ReadBack.SourcesAgree.{sources_agree}
 use Rattle.ciborium.proofs.laws.sources_agree.Goals as goal
 
 pub returns : goal.returns

@@ -1,4 +1,4 @@
-use Rattle.ciborium.proofs.Loaded.{deterministic_store, store_held}
+use Rattle.ciborium.proofs.ReadBack.Loaded.{deterministic_store, store_held}
 use Rattle.ciborium.proofs.laws.store_is_deterministic.Goals as goal
 
 pub returns-clause-accepted : goal.returns-clause-accepted

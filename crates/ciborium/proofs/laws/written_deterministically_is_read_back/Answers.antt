@@ -1,4 +1,4 @@
-use Rattle.ciborium.proofs.FormsReadBack.{alike_read_back, own_read_back}
+use Rattle.ciborium.proofs.ReadBack.FormRoundTrips.{alike_read_back, own_read_back}
 use Rattle.ciborium.proofs.laws.written_deterministically_is_read_back.Goals as goal
 
 pub returns : goal.returns

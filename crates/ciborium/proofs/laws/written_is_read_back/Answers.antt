@@ -1,4 +1,4 @@
-use Rattle.ciborium.proofs.RoundTrips.{bytes_read_back, tree_gives_content, tree_read_back}
+use Rattle.ciborium.proofs.ReadBack.RoundTrips.{bytes_read_back, tree_gives_content, tree_read_back}
 use Rattle.ciborium.proofs.laws.written_is_read_back.Goals as goal
 
 pub returns : goal.returns

@@ -7,8 +7,9 @@ ghost use Rattle.ciborium_value.specs.Sources.{HasItem, IsFaultOf, Refuses, Take
 ghost use Rattle.ciborium_value.specs.Sources.{TakesOnly, TakesTo};
 ghost use Rattle.ciborium_value.specs.Taken.{gives, number_below, take_each, taken_byte};
 ghost use Rattle.ciborium_value.specs.Taken.{taken_bytes};
-ghost use Rattle.ciborium.specs.ByteSources.{HasTaken, IsUnread, Owes, ReadsRest, RefusesRest};
-ghost use Rattle.ciborium.specs.ByteSources.{StandsBefore, cause_of, seq_left, weight_left};
+ghost use Rattle.ciborium.specs.inner.ByteSources.{HasTaken, IsUnread, Owes, ReadsRest, RefusesRest};
+ghost use Rattle.ciborium.specs.inner.ByteSources.{StandsBefore, seq_left, weight_left};
+ghost use Rattle.ciborium.specs.Errors.{cause_of};
 
 use crate::de::byte_source::{ByteSeq, ByteSource};
 use crate::de::error::{Error, Refusal};

@@ -5,8 +5,9 @@ ghost use Rattle.std.specs.Prelude.{Some, chars, false, ℕ};
 ghost use Rattle.ciborium_ll.specs.Decoding.{HasSameReader};
 ghost use Rattle.ciborium_value.specs.Sources.{IsFaultOf, IsGranted, TakesOnly};
 ghost use Rattle.ciborium_value.specs.Taken.{gives, lone_character, taken_character};
-ghost use Rattle.ciborium.specs.ByteSources.{HasTaken, IsUnread, cause_of, end_at, weight_left};
-ghost use Rattle.ciborium.specs.ItemReads.{Denies, Reads};
+ghost use Rattle.ciborium.specs.inner.ByteSources.{HasTaken, IsUnread, end_at, weight_left};
+ghost use Rattle.ciborium.specs.Errors.{cause_of};
+ghost use Rattle.ciborium.specs.inner.FrontItems.{Denies, Reads};
 
 use crate::de::byte_source::ByteSource;
 use crate::de::error::{Error, Refusal};

@@ -3,10 +3,11 @@
 ghost use Rattle.std.specs.Prelude.{◌≡◌, ◌+◌, ◌≤◌, IfErr, IfOk, None, OnErr, OnOk, false};
 ghost use Rattle.ciborium_ll.specs.Decoding.{HasSameReader};
 ghost use Rattle.ciborium_value.specs.Sources.{IsGranted, TakesOnly};
-ghost use Rattle.ciborium.specs.ByteSources.{CountsHead, HasTaken, IsUnread, bytes_weight};
-ghost use Rattle.ciborium.specs.ByteSources.{cause_of, end_at, weight, weight_left};
-ghost use Rattle.ciborium.specs.ItemReads.{DeniesHead, DeniesItem, TakesHead};
-ghost use Rattle.ciborium.specs.Skips.{IsBare, IsEndTag, TakesBare};
+ghost use Rattle.ciborium.specs.inner.ByteSources.{CountsHead, HasTaken, IsUnread, bytes_weight};
+ghost use Rattle.ciborium.specs.inner.ByteSources.{end_at, weight, weight_left};
+ghost use Rattle.ciborium.specs.Errors.{cause_of};
+ghost use Rattle.ciborium.specs.inner.FrontItems.{DeniesHead, DeniesItem, TakesHead};
+ghost use Rattle.ciborium.specs.inner.Skips.{IsBare, IsEndTag, TakesBare};
 
 use crate::de::byte_source::ByteSource;
 use crate::de::error::{Error, Refusal};

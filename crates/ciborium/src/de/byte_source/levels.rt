@@ -5,10 +5,11 @@ ghost use Rattle.std.specs.Prelude.{false, string_bytes};
 ghost use Rattle.ciborium_ll.specs.Decoding.{HasSameReader};
 ghost use Rattle.ciborium_value.specs.Sources.{GivesBack, IsGranted, TakesOnly};
 ghost use Rattle.ciborium_value.specs.Taken.{taken_outer_tag, taken_variant};
-ghost use Rattle.ciborium.specs.ByteSources.{HasTaken, IsUnread, LevelStands, StandsBefore};
-ghost use Rattle.ciborium.specs.ByteSources.{TakesLevel, cause_of, end_at, weight_left};
-ghost use Rattle.ciborium.specs.ItemReads.{Denies};
-ghost use Rattle.ciborium.specs.Skips.{OpensLevel};
+ghost use Rattle.ciborium.specs.inner.ByteSources.{HasTaken, IsUnread, LevelStands, StandsBefore};
+ghost use Rattle.ciborium.specs.inner.ByteSources.{TakesLevel, end_at, weight_left};
+ghost use Rattle.ciborium.specs.Errors.{cause_of};
+ghost use Rattle.ciborium.specs.inner.FrontItems.{Denies};
+ghost use Rattle.ciborium.specs.inner.Skips.{OpensLevel};
 
 use crate::de::byte_source::{ByteLevel, ByteSource};
 use crate::de::error::{Error, Refusal};

@@ -7,11 +7,12 @@ ghost use Rattle.ciborium_ll.specs.StringRefusal.{of_bytes};
 ghost use Rattle.ciborium_ll.specs.declared.header.Header.TheVariants as heads;
 ghost use Rattle.ciborium_value.specs.Sources.{IsGranted, IsOutside, TakesOnly};
 ghost use Rattle.ciborium_value.specs.Taken.{taken_bignum, taken_integer};
-ghost use Rattle.ciborium.specs.ByteSources.{HasTaken, IsUnread, bytes_weight, cause_of, end_at};
-ghost use Rattle.ciborium.specs.ByteSources.{weight_left};
-ghost use Rattle.ciborium.specs.ItemReads.{Denies, Reads};
-ghost use Rattle.ciborium.specs.StringContents.{DeniesContent, DeniesJust, TakesDigits};
-ghost use Rattle.ciborium.specs.StringContents.{TakesNumber, one_digit_more};
+ghost use Rattle.ciborium.specs.inner.ByteSources.{HasTaken, IsUnread, bytes_weight, end_at};
+ghost use Rattle.ciborium.specs.Errors.{cause_of};
+ghost use Rattle.ciborium.specs.inner.ByteSources.{weight_left};
+ghost use Rattle.ciborium.specs.inner.FrontItems.{Denies, Reads};
+ghost use Rattle.ciborium.specs.inner.StringContents.{DeniesContent, DeniesJust, TakesDigits};
+ghost use Rattle.ciborium.specs.inner.StringContents.{TakesNumber, one_digit_more};
 
 use crate::de::byte_source::ByteSource;
 use crate::de::error::{Error, Refusal};

@@ -5,9 +5,10 @@ ghost use Rattle.std.specs.Prelude.{false};
 ghost use Rattle.ciborium_ll.specs.Decoding.{HasSameReader};
 ghost use Rattle.ciborium_value.specs.Sources.{IsGranted, TakesOnly, Tells};
 ghost use Rattle.ciborium_value.specs.Taken.{is_null_simple, taken_boolean, taken_unit};
-ghost use Rattle.ciborium.specs.ByteSources.{HasTaken, IsUnread, StandsBefore, cause_of, end_at};
-ghost use Rattle.ciborium.specs.ByteSources.{weight_left};
-ghost use Rattle.ciborium.specs.ItemReads.{Denies, Reads};
+ghost use Rattle.ciborium.specs.inner.ByteSources.{HasTaken, IsUnread, StandsBefore, end_at};
+ghost use Rattle.ciborium.specs.Errors.{cause_of};
+ghost use Rattle.ciborium.specs.inner.ByteSources.{weight_left};
+ghost use Rattle.ciborium.specs.inner.FrontItems.{Denies, Reads};
 
 use crate::de::byte_source::ByteSource;
 use crate::de::error::{Error, Refusal};

@@ -1,8 +1,9 @@
 //! The calls of a source.
 
-ghost use Rattle.ciborium.specs.ByteSources.{HasTakenSince, IsUnread, LevelStands, Owes};
-ghost use Rattle.ciborium.specs.ByteSources.{ReadsValue, SeqStands, StandsBefore, cause_of};
-ghost use Rattle.ciborium.specs.ByteSources.{seq_left, weight_left};
+ghost use Rattle.ciborium.specs.inner.ByteSources.{HasTakenSince, IsUnread, LevelStands, Owes};
+ghost use Rattle.ciborium.specs.inner.ByteSources.{ReadsValue, SeqStands, StandsBefore};
+ghost use Rattle.ciborium.specs.Errors.{cause_of};
+ghost use Rattle.ciborium.specs.inner.ByteSources.{seq_left, weight_left};
 
 use crate::de::byte_source::scalars::is_null;
 use crate::de::byte_source::{ByteLevel, ByteSeq, ByteSource};

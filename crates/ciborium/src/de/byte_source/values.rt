@@ -6,9 +6,10 @@ ghost use Rattle.ciborium_ll.specs.Decoding.{HasSameReader};
 ghost use Rattle.ciborium_value.specs.Sources.{TakesOnly, read_as};
 ghost use Rattle.ciborium_value.specs.Taken.{taken_value};
 ghost use Rattle.ciborium_value.specs.View.{tree_of};
-ghost use Rattle.ciborium.specs.ByteSources.{HasTaken, IsUnread, ReadsValue, StandsFor, cause_of};
-ghost use Rattle.ciborium.specs.ByteSources.{end_at, is_portable, weight_left};
-ghost use Rattle.ciborium.specs.ItemReads.{Denies, Reads};
+ghost use Rattle.ciborium.specs.inner.ByteSources.{HasTaken, IsUnread, ReadsValue, StandsFor};
+ghost use Rattle.ciborium.specs.Errors.{cause_of};
+ghost use Rattle.ciborium.specs.inner.ByteSources.{end_at, is_portable, weight_left};
+ghost use Rattle.ciborium.specs.inner.FrontItems.{Denies, Reads};
 
 use crate::de::building::read_value;
 use crate::de::byte_source::ByteSource;

@@ -1,7 +1,7 @@
 use Rattle.std.proofs.Common.{List, [], ◌∷◌, sym, ap, ◌∙◌, subst, lit<}
 use Rattle.std.specs.Box.{with_value}
 use Rattle.std.specs.Prelude.{All, IfNone, map, slice_index_or}
-use Rattle.ciborium_value.proofs.TagParts.{tag_with}
+use Rattle.ciborium_value.proofs.Trees.TagParts.{tag_with}
 use Rattle.ciborium_callers.proofs.value_callers.retag.Goals as goal
 use Rattle.ciborium_value.specs.LentParts.{with_tag}
 use Rattle.ciborium_value.specs.Variants.{IsTag}

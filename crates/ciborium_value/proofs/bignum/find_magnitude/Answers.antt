@@ -3,7 +3,7 @@ use Rattle.std.proofs.Common.{◌≤◌, length, le-leb, cond, ap, ◌∙◌, su
 use Rattle.ciborium_value.specs.Meaning.{big_endian, without_zeros}
 use Rattle.ciborium_value.specs.Taken.{gives, refuses}
 use Rattle.ciborium_value.specs.declared.kind.Kind.TheVariants as kinds
-use Rattle.ciborium_value.proofs.Bignums.{zeros_hold_nothing}
+use Rattle.ciborium_value.proofs.FoldedTrees.Bignums.{zeros_hold_nothing}
 use Rattle.ciborium_value.proofs.bignum.find_magnitude.Goals as goal
 
 pub returns : goal.returns

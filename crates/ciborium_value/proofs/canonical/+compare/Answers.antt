@@ -1,9 +1,9 @@
 use Rattle.std.proofs.Common.{◌≡◌, ◌<◌, ◌≤◌, length, get_or, rules, refl, sym, ap, ◌∙◌, subst, arith}
 use Rattle.ciborium_value.specs.Encoding.{encoding}
 use Rattle.ciborium_value.specs.declared.tree.Value.{the_lemmas}
-use Rattle.ciborium_value.proofs.VisitCounts.{items_visits-differ, items_visits-same, keys_visits-differ, values_visits-differ, pairs_visits-same}
-use Rattle.ciborium_value.proofs.SideBySide.{different_heads, contents_decide, payloads_decide, payloads_as_long, same_payload-Bytes, same_payload-Text, alone_tied, as_many_items, as_many_pairs, items_differ, items_same, items_all, keys_differ, values_differ, pairs_same, pairs_all, same_decides, tied}
-use Rattle.ciborium_value.proofs.TreeEncodings.{content_bytes-Bytes, content_bytes-Text, content_bytes-Tag, content_bytes-Array, content_bytes-Map, argument_of-Bytes, argument_of-Text}
+use Rattle.ciborium_value.proofs.Orders.VisitCounts.{items_visits-differ, items_visits-same, keys_visits-differ, values_visits-differ, pairs_visits-same}
+use Rattle.ciborium_value.proofs.Orders.SideBySide.{different_heads, contents_decide, payloads_decide, payloads_as_long, same_payload-Bytes, same_payload-Text, alone_tied, as_many_items, as_many_pairs, items_differ, items_same, items_all, keys_differ, values_differ, pairs_same, pairs_all, same_decides, tied}
+use Rattle.ciborium_value.proofs.Orders.TreeEncodings.{content_bytes-Bytes, content_bytes-Text, content_bytes-Tag, content_bytes-Array, content_bytes-Map, argument_of-Bytes, argument_of-Text}
 use Rattle.ciborium_value.proofs.canonical.+compare.Goals as goal
 
 pub compare-returns-then-is_ne-clause-decides : goal.compare-returns-then-is_ne-clause-decides

@@ -3,8 +3,8 @@ use Rattle.std.proofs.lemmas.Cmp.{tied_itself, nat_cmp_total}
 use Rattle.std.specs.Cmp.Lexicographic.{slice_cmp}
 use Rattle.ciborium_value.specs.Encoding.{encoding, encoded_size}
 use Rattle.ciborium_value.specs.View.{tree_of}
-use Rattle.ciborium_value.proofs.SideBySide.{decided_alone, equal_where_same}
-use Rattle.ciborium_value.proofs.VisitCounts.{both_walks-most, both_walks-all}
+use Rattle.ciborium_value.proofs.Orders.SideBySide.{decided_alone, equal_where_same}
+use Rattle.ciborium_value.proofs.Orders.VisitCounts.{both_walks-most, both_walks-all}
 use Rattle.ciborium_value.proofs.canonical.cmp_value_counted.Goals as goal
 
 pub returns-in-Equal-clause-order : goal.returns-in-Equal-clause-order

@@ -1,5 +1,5 @@
 use Rattle.std.proofs.Common.{◌^◌, ◌<◌, subst}
-use Rattle.ciborium_value.proofs.TreeEncodings.{argument_of-Array, argument_of-Map}
+use Rattle.ciborium_value.proofs.Orders.TreeEncodings.{argument_of-Array, argument_of-Map}
 use Rattle.ciborium_value.proofs.canonical.visit.Goals as goal
 
 pub returns-in-Array-clause-argument : goal.returns-in-Array-clause-argument

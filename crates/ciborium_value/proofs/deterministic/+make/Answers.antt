@@ -10,9 +10,9 @@ use Rattle.ciborium_value.specs.Tree as trees
 use Rattle.ciborium_value.specs.SameContents.{AreAlike, PairsAreAlike}
 use Rattle.ciborium_value.specs.View.{tree_of, trees_of, tree_pairs_of}
 use Rattle.ciborium_value.specs.declared.tree.Value.{Value, the_lemmas}
-use Rattle.ciborium_value.proofs.MadeForms.{AreAlike-refl, AreAlike-set, PairsAreAlike-set, all_made, all_pairs_made, one_refused, one_key_refused, one_value_refused, all_written, one_more_made, made_as, alike_as, made-tag, made-bignum, alike-bignum, alike-tag, alike-array, alike-map, refused-pairs, refused-order, made-map}
-use Rattle.ciborium_value.proofs.ReorderedPairs.{PairsAreAlike-refl}
-use Rattle.ciborium_value.proofs.Views.{tree_of-Tag, tree_of-Array, tree_of-Map, tree_of-Integer}
+use Rattle.ciborium_value.proofs.Forms.MadeForms.{AreAlike-refl, AreAlike-set, PairsAreAlike-set, all_made, all_pairs_made, one_refused, one_key_refused, one_value_refused, all_written, one_more_made, made_as, alike_as, made-tag, made-bignum, alike-bignum, alike-tag, alike-array, alike-map, refused-pairs, refused-order, made-map}
+use Rattle.ciborium_value.proofs.Forms.ReorderedPairs.{PairsAreAlike-refl}
+use Rattle.ciborium_value.proofs.Trees.Views.{tree_of-Tag, tree_of-Array, tree_of-Map, tree_of-Integer}
 use Rattle.ciborium_value.proofs.deterministic.+make.Goals as goal
 
 pub make-returns-in_err-number-in-Some-clause-alike : goal.make-returns-in_err-number-in-Some-clause-alike

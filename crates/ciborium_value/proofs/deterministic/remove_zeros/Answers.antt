@@ -1,7 +1,7 @@
 use Rattle.std.proofs.Common.{◌≡◌, length, rules, ap, ◌∙◌, arith}
 use Rattle.ciborium_value.specs.Meaning.{without_zeros}
-use Rattle.ciborium_value.proofs.Bignums.{zeros_dropped}
-use Rattle.ciborium_value.proofs.Bounded.{zeros-shorter}
+use Rattle.ciborium_value.proofs.FoldedTrees.Bignums.{zeros_dropped}
+use Rattle.ciborium_value.proofs.GoodItems.Bounded.{zeros-shorter}
 use Rattle.ciborium_value.proofs.deterministic.remove_zeros.Goals as goal
 
 pub overflow_sub-zeros : goal.overflow_sub-zeros

@@ -1,7 +1,7 @@
 use Rattle.std.proofs.Common.{rules, ◌∙◌}
 use Rattle.std.proofs.lemmas.Fn.{always_returns_same}
-use Rattle.ciborium_value.proofs.ReorderedPairs.{alike-reordered, permuted-reordered, sorted-in_order, sorted-reordered, stands_before, stands_before-orders}
-use Rattle.ciborium_value.proofs.SortedPairs.{apart_rising, rising_apart, rising-sorted, tied_refused}
+use Rattle.ciborium_value.proofs.Forms.ReorderedPairs.{alike-reordered, permuted-reordered, sorted-in_order, sorted-reordered, stands_before, stands_before-orders}
+use Rattle.ciborium_value.proofs.Forms.SortedPairs.{apart_rising, rising_apart, rising-sorted, tied_refused}
 use Rattle.ciborium_value.proofs.deterministic.sort_pairs.Goals as goal
 
 pub returns-then-keys_differ-clause-ok : goal.returns-then-keys_differ-clause-ok

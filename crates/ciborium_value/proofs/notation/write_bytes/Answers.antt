@@ -1,6 +1,6 @@
 use Rattle.std.proofs.Common.{rules, ◌≡◌, [], ◌++◌, codes, length, refl, sym, ap, ◌∙◌, append_assoc}
 use Rattle.hex.specs.Hex.{encode_lower}
-use Rattle.ciborium_value.proofs.Notations.{then, as_bytes, all_shown, encode_lower-append, encode_lower-nil}
+use Rattle.ciborium_value.proofs.Trees.Notations.{then, as_bytes, all_shown, encode_lower-append, encode_lower-nil}
 use Rattle.ciborium_value.proofs.notation.write_bytes.Goals as goal
 
 pub loop-rest-init : goal.loop-rest-init

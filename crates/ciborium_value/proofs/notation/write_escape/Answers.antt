@@ -1,5 +1,5 @@
 use Rattle.std.proofs.Common.{rules, refl}
-use Rattle.ciborium_value.proofs.Notations.{then, as_bytes}
+use Rattle.ciborium_value.proofs.Trees.Notations.{then, as_bytes}
 use Rattle.ciborium_value.proofs.notation.write_escape.Goals as goal
 
 pub returns-in_ok-write_str-in_default : goal.returns-in_ok-write_str-in_default

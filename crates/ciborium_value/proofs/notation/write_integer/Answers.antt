@@ -1,7 +1,7 @@
 use Rattle.std.proofs.Common.{◌∙◌, ap}
 use Rattle.std.proofs.Math.Facts.{to_z-of_z}
 use Rattle.std.specs.Fmt.{signed_decimal}
-use Rattle.ciborium_value.proofs.Notations.{as_bytes, digits_held}
+use Rattle.ciborium_value.proofs.Trees.Notations.{as_bytes, digits_held}
 use Rattle.ciborium_value.proofs.notation.write_integer.Goals as goal
 
 pub returns : goal.returns

@@ -1,5 +1,5 @@
 use Rattle.std.proofs.Common.{◌++◌, ◌∙◌, ap, codes, refl}
-use Rattle.ciborium_value.proofs.Notations.{as_bytes, digits_held, then}
+use Rattle.ciborium_value.proofs.Trees.Notations.{as_bytes, digits_held, then}
 use Rattle.ciborium_value.proofs.notation.write_tag.Goals as goal
 
 pub returns : goal.returns

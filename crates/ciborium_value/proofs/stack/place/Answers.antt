@@ -1,7 +1,7 @@
 use Rattle.std.proofs.Common.{rules, sym, ◌∙◌, ap}
-use Rattle.ciborium_value.specs.Stack.{filled_of, open_of}
+use Rattle.ciborium_value.specs.inner.Stack.{filled_of, open_of}
 use Rattle.ciborium_value.specs.View.{tree_of}
-use Rattle.ciborium_value.proofs.Stacked.{still-placed}
+use Rattle.ciborium_value.proofs.Trees.Stacked.{still-placed}
 use Rattle.ciborium_value.proofs.stack.place.Goals as goal
 
 pub returns-in-None : goal.returns-in-None

@@ -1,6 +1,6 @@
 use Rattle.std.proofs.Common.{◌≡◌, length}
-use Rattle.ciborium_value.specs.Open.{placed}
-use Rattle.ciborium_value.specs.Stack.{opens}
+use Rattle.ciborium_value.specs.inner.Frames.{placed}
+use Rattle.ciborium_value.specs.inner.Stack.{opens}
 use Rattle.ciborium_value.specs.View.{tree_of}
 use Rattle.ciborium_value.proofs.stack.place.Given as goal
 

@@ -1,7 +1,7 @@
-use Rattle.ciborium_value.proofs.AlikeForms.{alike_have_one_form, form_is_alike, one_form_where_alike}
-use Rattle.ciborium_value.proofs.OwnForms.{accepted_where_own_form, form_is_its_own}
-use Rattle.ciborium_value.proofs.ProperForms.{form_is_proper}
-use Rattle.ciborium_value.proofs.RefusedForms.{form_or_refused, refused_by_duplicates}
+use Rattle.ciborium_value.proofs.Forms.AlikeForms.{alike_have_one_form, form_is_alike, one_form_where_alike}
+use Rattle.ciborium_value.proofs.Forms.OwnForms.{accepted_where_own_form, form_is_its_own}
+use Rattle.ciborium_value.proofs.Forms.ProperForms.{form_is_proper}
+use Rattle.ciborium_value.proofs.Forms.RefusedForms.{form_or_refused, refused_by_duplicates}
 use Rattle.ciborium_value.proofs.tree_laws.deterministic_forms.Goals as goal
 
 pub returns : goal.returns

@@ -1,4 +1,4 @@
-use Rattle.ciborium_value.proofs.Outcome.{good_or_refused, never_both, one_refusal}
+use Rattle.ciborium_value.proofs.GoodItems.Outcome.{good_or_refused, never_both, one_refusal}
 use Rattle.ciborium_value.proofs.tree_laws.good_or_refused.Goals as goal
 
 pub returns : goal.returns

@@ -1,5 +1,5 @@
-use Rattle.ciborium_value.proofs.Folding.{written_means_folded, folds_once}
-use Rattle.ciborium_value.proofs.Written.{encoding_is_good}
+use Rattle.ciborium_value.proofs.FoldedTrees.Folding.{written_means_folded, folds_once}
+use Rattle.ciborium_value.proofs.Writing.Written.{encoding_is_good}
 use Rattle.ciborium_value.proofs.tree_laws.meaning_of_written_is_folded.Goals as goal
 
 pub returns : goal.returns

@@ -2,10 +2,10 @@
 use Rattle.std.proofs.Common.{string_bytes, arith, ◌∙◌, subst}
 use Rattle.ciborium_value.specs.Sources.{Refuses, Takes}
 use Rattle.ciborium_value.specs.StructReadings.{taken_fields}
-use Rattle.ciborium_value.proofs.Progress.{exits}
-use Rattle.ciborium_value.proofs.Sequences.{so, takes, blames}
-use Rattle.ciborium_value.proofs.Dictionaries.{owed_pair}
-use Rattle.ciborium_value.proofs.NamedFields.{fields_more, fields_blame_next, fields_blame_name, fields_blame_field, fields_end}
+use Rattle.ciborium_value.proofs.Writing.Progress.{exits}
+use Rattle.ciborium_value.proofs.Sources.Sequences.{so, takes, blames}
+use Rattle.ciborium_value.proofs.Sources.Dictionaries.{owed_pair}
+use Rattle.ciborium_value.proofs.Sources.NamedFields.{fields_more, fields_blame_next, fields_blame_name, fields_blame_field, fields_end}
 use Rattle.ciborium_value.proofs.wanted.read_fields.Goals as goal
 
 pub returns-in_err-next-clause-refused : goal.returns-in_err-next-clause-refused

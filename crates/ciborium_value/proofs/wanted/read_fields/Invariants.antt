@@ -2,8 +2,8 @@ use Rattle.std.proofs.Common.{◌≡◌, ◌+◌, ◌<◌}
 use Rattle.ciborium_value.specs.Places.{dictionary}
 use Rattle.ciborium_value.specs.Sources.{TakesTo, TakesOnly}
 use Rattle.ciborium_value.specs.StructReadings.{taken_fields}
-use Rattle.ciborium_value.proofs.Sequences.{Follows, IsBefore}
-use Rattle.ciborium_value.proofs.NamedFields.{IsInsideFields}
+use Rattle.ciborium_value.proofs.Sources.Sequences.{Follows, IsBefore}
+use Rattle.ciborium_value.proofs.Sources.NamedFields.{IsInsideFields}
 use Rattle.ciborium_value.proofs.wanted.read_fields.Given as goal
 
 -- the pairs that were read are in the fields, and the others are left

@@ -1,6 +1,6 @@
 use Rattle.std.proofs.Common.{arith}
-use Rattle.ciborium_value.specs.Stack.{opens_of}
-use Rattle.ciborium.proofs.DueParts.{allowed-parts}
+use Rattle.ciborium_value.specs.inner.Stack.{opens_of}
+use Rattle.ciborium.proofs.Turns.DueParts.{allowed-parts}
 use Rattle.ciborium.proofs.de.building.allow_due.Goals as goal
 
 pub returns-then-is_none-clause-due : goal.returns-then-is_none-clause-due

@@ -2,19 +2,19 @@ use Rattle.std.proofs.Common.{◌∙◌, arith, ◌≤◌, ℕ, List, length, re
 use Rattle.std.proofs.lemmas.Result.{err_from_is_err_and}
 use Rattle.ciborium_ll.specs.declared.decoder.Decoder.{Decoder}
 use Rattle.ciborium_value.specs.declared.tree.Value.{Value}
-use Rattle.ciborium_value.specs.Open.{Open}
-use Rattle.ciborium_value.specs.Stack.{opens_of}
+use Rattle.ciborium_value.specs.inner.Frames.{Open}
+use Rattle.ciborium_value.specs.inner.Stack.{opens_of}
 use Rattle.ciborium.specs.declared.de.error.Error.{Error}
-use Rattle.ciborium.specs.Answers.{IsReading, IsTurned}
-use Rattle.ciborium.specs.Reads.{StandsAt}
+use Rattle.ciborium.specs.ValueAnswers.{IsReading, IsTurned}
+use Rattle.ciborium.specs.inner.ValuesInBytes.{StandsAt}
 use Rattle.ciborium.specs.Spelling.{Spelling}
 use Rattle.ciborium_ll.specs.Decoding.{with_left}
 use Rattle.ciborium_ll.specs.Decoding.{reach_of}
 use Rattle.ciborium_ll.proofs.HeldBytes.{same-name}
-use Rattle.ciborium.specs.Due.{AllowsThen}
-use Rattle.ciborium.proofs.DueParts.{allowed-first, heads-same}
-use Rattle.ciborium.proofs.Turned.{begin}
-use Rattle.ciborium.proofs.WhateverFollows.{reading-moved, so-both, so-kept, so-unread}
+use Rattle.ciborium.specs.inner.Due.{AllowsThen}
+use Rattle.ciborium.proofs.Turns.DueParts.{allowed-first, heads-same}
+use Rattle.ciborium.proofs.Turns.Turned.{begin}
+use Rattle.ciborium.proofs.Readers.WhateverFollows.{reading-moved, so-both, so-kept, so-unread}
 use Rattle.ciborium.proofs.de.building.build.Goals as goal
 
 -- reading has come so far

@@ -1,9 +1,9 @@
 use Rattle.std.proofs.Common.{◌≡◌, ℕ, ◌≤◌, List, Some, length}
 use Rattle.ciborium_ll.specs.Decoding.{TakesBeforeAny, reach_of}
-use Rattle.ciborium_value.specs.Stack.{opens_of}
-use Rattle.ciborium.specs.Answers.{IsReading}
-use Rattle.ciborium.specs.Due.{AllowsDue}
-use Rattle.ciborium.specs.Reads.{StandsAt, heads_left}
+use Rattle.ciborium_value.specs.inner.Stack.{opens_of}
+use Rattle.ciborium.specs.ValueAnswers.{IsReading}
+use Rattle.ciborium.specs.inner.Due.{AllowsDue}
+use Rattle.ciborium.specs.inner.ValuesInBytes.{StandsAt, heads_left}
 use Rattle.ciborium.proofs.de.building.build.Given as goal
 
 abbrev pub invariant-turns : goal.invariant-turns

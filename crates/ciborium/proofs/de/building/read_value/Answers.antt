@@ -1,9 +1,9 @@
 use Rattle.std.proofs.Common.{◌∙◌, ℕ, List, Some, Ok, arith}
 use Rattle.ciborium_ll.proofs.HeldBytes.{same-name}
-use Rattle.ciborium.specs.Answers.{IsValueRead}
-use Rattle.ciborium.specs.Reads.{StandsAt}
-use Rattle.ciborium.proofs.DueParts.{heads-same, same-source}
-use Rattle.ciborium.proofs.WhateverFollows.{discarded, so-kept, value-moved}
+use Rattle.ciborium.specs.ValueAnswers.{IsValueRead}
+use Rattle.ciborium.specs.inner.ValuesInBytes.{StandsAt}
+use Rattle.ciborium.proofs.Turns.DueParts.{heads-same, same-source}
+use Rattle.ciborium.proofs.Readers.WhateverFollows.{discarded, so-kept, value-moved}
 use Rattle.ciborium.proofs.de.building.read_value.Goals as goal
 
 pub returns-in-Ok-clause-reader : goal.returns-in-Ok-clause-reader

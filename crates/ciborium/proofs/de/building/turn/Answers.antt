@@ -1,12 +1,12 @@
 use Rattle.std.proofs.Common.{◌++◌, Some, Ok, Err, ap, refl}
 use Rattle.std.proofs.lemmas.Result.{err_from_is_err_and}
 use Rattle.ciborium_ll.specs.Decoding.{with_left}
-use Rattle.ciborium_value.specs.Stack.{opens_of}
+use Rattle.ciborium_value.specs.inner.Stack.{opens_of}
 use Rattle.ciborium_value.specs.View.{tree_of}
 use Rattle.ciborium.specs.declared.de.front.Part.TheVariants.{Whole, Opened, Ended}
 use Rattle.ciborium_ll.proofs.HeldBytes.{same-reach}
-use Rattle.ciborium.proofs.DueParts.{allowed-opened, allowed-placed, due-closed, rests-as}
-use Rattle.ciborium.proofs.Turned.{turn-refused, turn-whole, turn-opened, turn-ended, turn-break, depth-placed, depth-closed}
+use Rattle.ciborium.proofs.Turns.DueParts.{allowed-opened, allowed-placed, due-closed, rests-as}
+use Rattle.ciborium.proofs.Turns.Turned.{turn-refused, turn-whole, turn-opened, turn-ended, turn-break, depth-placed, depth-closed}
 use Rattle.ciborium.proofs.de.building.turn.Goals as goal
 
 pub returns-in_err-value-clause-turn : goal.returns-in_err-value-clause-turn

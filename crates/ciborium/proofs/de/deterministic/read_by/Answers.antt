@@ -4,9 +4,9 @@ use Rattle.std.specs.declared.io.Error.{Error}
 use Rattle.ciborium_ll.specs.Decoding.{TakesBeforeAny}
 use Rattle.ciborium_ll.proofs.HeldBytes.{same-name}
 use Rattle.ciborium_value.specs.View.{tree_of}
-use Rattle.ciborium.proofs.KnownReaders.{whole-of}
-use Rattle.ciborium.proofs.PutAside.{back-tree}
-use Rattle.ciborium.proofs.WhateverFollows.{TreeSo, taken-lent}
+use Rattle.ciborium.proofs.Readers.KnownReaders.{whole-of}
+use Rattle.ciborium.proofs.Readers.PutAside.{back-tree}
+use Rattle.ciborium.proofs.Readers.WhateverFollows.{TreeSo, taken-lent}
 use Rattle.ciborium.proofs.de.deterministic.read_by.Goals as goal
 
 pub returns-in-Ok : goal.returns-in-Ok

@@ -3,9 +3,9 @@ use Rattle.std.proofs.lemmas.Result.{err_from_is_err_and}
 use Rattle.ciborium_ll.specs.Refusal.{HeadRefuses}
 use Rattle.ciborium.specs.Errors.{from_ll}
 use Rattle.ciborium_ll.specs.Decoding.{with_left}
-use Rattle.ciborium.proofs.AfterTag.{PullsSo}
-use Rattle.ciborium.proofs.WhateverFollows.{so-map, head-pulled, PullsAll}
-use Rattle.ciborium.proofs.Pulled.{refused-from, head-read, fewer-heads}
+use Rattle.ciborium.proofs.Turns.AfterTag.{PullsSo}
+use Rattle.ciborium.proofs.Readers.WhateverFollows.{so-map, head-pulled, PullsAll}
+use Rattle.ciborium.proofs.Turns.Pulled.{refused-from, head-read, fewer-heads}
 use Rattle.ciborium.proofs.de.front.pull.Goals as goal
 
 pub returns-in_err-pull_keeping-clause-head : goal.returns-in_err-pull_keeping-clause-head

@@ -7,13 +7,13 @@ use Rattle.ciborium_ll.specs.Refusal as refusal
 use Rattle.ciborium_ll.specs.StringRefusal.{of_bytes, of_text}
 use Rattle.ciborium_value.specs.Tree as trees
 use Rattle.ciborium_value.specs.View.{tree_of}
-use Rattle.ciborium_value.proofs.Views.{tree_of-Integer}
+use Rattle.ciborium_value.proofs.Trees.Views.{tree_of-Integer}
 use Rattle.ciborium.specs.Errors.{IsRefusedBy}
-use Rattle.ciborium.specs.Parts.{IsHeadAccepted, IsPartRead, RefusesPart}
+use Rattle.ciborium.specs.inner.Parts.{IsHeadAccepted, IsPartRead, RefusesPart}
 use Rattle.ciborium.specs.Spelling.{head_fault}
-use Rattle.ciborium.proofs.AfterTag.{PullsSo}
-use Rattle.ciborium.proofs.SpelledParts.{accepted-head, ahead-of, array-part, faulty-head, float-refuses, got-end, got-negative, got-positive, got-simple, got-string, head-refused, map-part, simple-refuses, stands-offset, string-fault}
-use Rattle.ciborium.proofs.WhateverFollows.{so-both, StringSo}
+use Rattle.ciborium.proofs.Turns.AfterTag.{PullsSo}
+use Rattle.ciborium.proofs.Spellings.SpelledParts.{accepted-head, ahead-of, array-part, faulty-head, float-refuses, got-end, got-negative, got-positive, got-simple, got-string, head-refused, map-part, simple-refuses, stands-offset, string-fault}
+use Rattle.ciborium.proofs.Readers.WhateverFollows.{so-both, StringSo}
 use Rattle.ciborium.proofs.de.parts.next.Goals as goal
 
 pub returns-in_err-header-clause-part : goal.returns-in_err-header-clause-part

@@ -2,9 +2,9 @@ use Rattle.std.proofs.Common.{rules, Some, refl, ◌≡◌, ◌++◌}
 use Rattle.std.proofs.lemmas.Result.{err_from_is_err_and}
 use Rattle.ciborium_ll.specs.StringRefusal.{of_bytes}
 use Rattle.ciborium_ll.specs.Decoding.{with_left}
-use Rattle.ciborium_value.proofs.Views.{tree_of-Bytes}
-use Rattle.ciborium.proofs.Contents.{string-read}
-use Rattle.ciborium.proofs.WhateverFollows.{string-refused}
+use Rattle.ciborium_value.proofs.Trees.Views.{tree_of-Bytes}
+use Rattle.ciborium.proofs.Turns.Contents.{string-read}
+use Rattle.ciborium.proofs.Readers.WhateverFollows.{string-refused}
 use Rattle.ciborium.proofs.de.parts.read_bytes.Goals as goal
 
 pub returns-in_err-bytes_into_keeping-clause-content : goal.returns-in_err-bytes_into_keeping-clause-content

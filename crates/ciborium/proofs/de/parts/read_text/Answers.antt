@@ -2,9 +2,9 @@ use Rattle.std.proofs.Common.{◌≡◌, ◌++◌, Some, refl, string_bytes}
 use Rattle.std.proofs.lemmas.Result.{err_from_is_err_and}
 use Rattle.ciborium_ll.specs.StringRefusal.{of_text}
 use Rattle.ciborium_ll.specs.Decoding.{with_left}
-use Rattle.ciborium_value.proofs.Views.{tree_of-Text}
-use Rattle.ciborium.proofs.Contents.{string-read}
-use Rattle.ciborium.proofs.WhateverFollows.{string-refused}
+use Rattle.ciborium_value.proofs.Trees.Views.{tree_of-Text}
+use Rattle.ciborium.proofs.Turns.Contents.{string-read}
+use Rattle.ciborium.proofs.Readers.WhateverFollows.{string-refused}
 use Rattle.ciborium.proofs.de.parts.read_text.Goals as goal
 
 pub returns-clause-content : goal.returns-clause-content

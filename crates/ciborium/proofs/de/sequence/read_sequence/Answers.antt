@@ -3,7 +3,7 @@ use Rattle.std.proofs.Common.{◌∷◌, [], Some, map, sym, ap, ◌∙◌, subs
 use Rattle.std.proofs.lemmas.List.{map-append}
 use Rattle.std.proofs.lemmas.Result.{err_from_is_err_and}
 use Rattle.std.specs.declared.io.Error.{Error as IoError}
-use Rattle.ciborium.proofs.ReadSequences.{HasRead, more-taken, no-memory-behind, none-read, none-taken, one-more-read, refused-behind}
+use Rattle.ciborium.proofs.Readers.ReadSequences.{HasRead, more-taken, no-memory-behind, none-read, none-taken, one-more-read, refused-behind}
 use Rattle.ciborium.proofs.de.sequence.read_sequence.Goals as goal
 
 pub loop-init : goal.loop-init

@@ -2,11 +2,11 @@ use Rattle.std.proofs.Common.{◌++◌, Some, Ok, Err, ap, sym, ◌∙◌, subst
 use Rattle.std.proofs.lemmas.Result.{err_from_is_err_and}
 use Rattle.ciborium_ll.specs.Decoding.{IsUnread, with_left}
 use Rattle.ciborium_ll.proofs.HeldBytes.{unread-with}
-use Rattle.ciborium.specs.Parts.{IsFolding}
+use Rattle.ciborium.specs.inner.Parts.{IsFolding}
 use Rattle.ciborium.specs.Spelling.{head_fault}
-use Rattle.ciborium.proofs.AfterTag.{PullsSo}
-use Rattle.ciborium.proofs.SpelledTags.{BignumSo, bignum-refused, got-bignum, tag-faulty, tag-no-level, tag-opened, tag-refused}
-use Rattle.ciborium.proofs.WhateverFollows.{so-both, so-unread}
+use Rattle.ciborium.proofs.Turns.AfterTag.{PullsSo}
+use Rattle.ciborium.proofs.Spellings.SpelledTags.{BignumSo, bignum-refused, got-bignum, tag-faulty, tag-no-level, tag-opened, tag-refused}
+use Rattle.ciborium.proofs.Readers.WhateverFollows.{so-both, so-unread}
 use Rattle.ciborium.proofs.de.tags.read_tag.Goals as goal
 
 pub returns-in_err-next-clause-part : goal.returns-in_err-next-clause-part

@@ -4,8 +4,8 @@ use Rattle.std.proofs.lemmas.Result.{on_ok_weaker, on_err_weaker}
 use Rattle.ciborium_value.specs.Places.{sequence}
 use Rattle.ciborium_value.specs.Progress.{Owes}
 use Rattle.ciborium_value.specs.Sinks.{Named, AddsNamed, BreaksNamed}
-use Rattle.ciborium_value.proofs.Progress.{on_err, owes_begin, owes_broken_begin, owes_can_end, owes_ends, owes_broken_end}
-use Rattle.ciborium.proofs.ArrayItems.{items_counted}
+use Rattle.ciborium_value.proofs.Writing.Progress.{on_err, owes_begin, owes_broken_begin, owes_can_end, owes_ends, owes_broken_end}
+use Rattle.ciborium.proofs.Writing.ArrayItems.{items_counted}
 use Rattle.ciborium.proofs.literals.ArraySerialize.serialize.Goals as goal
 
 pub returns-in_err-begin_array-in-Some-clause-err : goal.returns-in_err-begin_array-in-Some-clause-err

@@ -3,7 +3,7 @@ use Rattle.std.proofs.Common.{List, ◌∷◌}
 use Rattle.std.proofs.lemmas.Result.{on_ok_weaker, on_err_weaker}
 use Rattle.ciborium_value.specs.Places.{sequence}
 use Rattle.ciborium_value.specs.Sinks.{Named}
-use Rattle.ciborium_value.proofs.Progress.{on_err, owes_ready, owes_more, owes_broken}
+use Rattle.ciborium_value.proofs.Writing.Progress.{on_err, owes_ready, owes_more, owes_broken}
 use Rattle.ciborium.specs.Literals.{BreaksItems, TakesItems}
 use Rattle.ciborium.proofs.literals.ItemItems.write_items.Goals as goal
 

@@ -4,7 +4,7 @@ use Rattle.std.proofs.lemmas.Result.{on_ok_weaker, on_err_weaker}
 use Rattle.ciborium_value.specs.Places.{dictionary}
 use Rattle.ciborium_value.specs.Progress.{BreaksAll, TakesAll}
 use Rattle.ciborium_value.specs.Sinks.{Named}
-use Rattle.ciborium_value.proofs.Progress.{on_err, owes_ready, owes_more, owes_broken}
+use Rattle.ciborium_value.proofs.Writing.Progress.{on_err, owes_ready, owes_more, owes_broken}
 use Rattle.ciborium.proofs.literals.PairFields.write_fields.Goals as goal
 
 pub serialize-requires : goal.serialize-requires

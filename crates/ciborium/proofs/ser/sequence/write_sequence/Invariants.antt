@@ -1,5 +1,5 @@
 use Rattle.std.proofs.Common.{drop, map}
-use Rattle.ciborium.proofs.WrittenSequences.{HasWritten}
+use Rattle.ciborium.proofs.Writing.WrittenSequences.{HasWritten}
 use Rattle.ciborium.proofs.ser.sequence.write_sequence.Given as goal
 
 -- the values from here on are left

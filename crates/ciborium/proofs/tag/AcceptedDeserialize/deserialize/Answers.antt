@@ -1,8 +1,8 @@
 -- What was read with its tag is looked at once more.
 use Rattle.std.proofs.Common.{arith}
 use Rattle.std.proofs.lemmas.Result.{err_from_is_err_and}
-use Rattle.ciborium_value.proofs.Sequences.{fault_then}
-use Rattle.ciborium.proofs.TagsJudged.{kind-granted, no-tag-accepted, other-tag-refused, then-given, then-kind, this-tag-accepted}
+use Rattle.ciborium_value.proofs.Sources.Sequences.{fault_then}
+use Rattle.ciborium.proofs.Items.TagsJudged.{kind-granted, no-tag-accepted, other-tag-refused, then-given, then-kind, this-tag-accepted}
 use Rattle.ciborium.proofs.tag.AcceptedDeserialize.deserialize.Goals as goal
 
 pub returns-in_err-tag-clause-refused : goal.returns-in_err-tag-clause-refused

@@ -1,7 +1,7 @@
 -- Where memory is refused, nothing was written yet.
 use Rattle.ciborium_value.specs.Sinks.{named_text}
 use Rattle.std.proofs.Common.{string_bytes}
-use Rattle.ciborium_value.proofs.Progress.{broken_before}
+use Rattle.ciborium_value.proofs.Writing.Progress.{broken_before}
 use Rattle.ciborium_callers.proofs.own_types.CopiedSerialize.serialize.Goals as goal
 
 pub returns-in-Err-clause-err : goal.returns-in-Err-clause-err

@@ -5,7 +5,7 @@ use Rattle.std.proofs.lemmas.Result.{on_ok_weaker, on_err_weaker}
 use Rattle.ciborium_value.specs.Places.{sequence}
 use Rattle.ciborium_value.specs.Sinks.{Named, AddsNamed, BreaksNamed, IsOwed, open_container_of}
 use Rattle.ciborium_value.specs.Progress.{Owes}
-use Rattle.ciborium_value.proofs.Progress.{exits, on_err, owes_begin, owes_broken_begin, owes_ready, owes_more, owes_broken, owes_owed, owes_can_end, owes_ends, owes_broken_end, no_part}
+use Rattle.ciborium_value.proofs.Writing.Progress.{exits, on_err, owes_begin, owes_broken_begin, owes_ready, owes_more, owes_broken, owes_owed, owes_can_end, owes_ends, owes_broken_end, no_part}
 use Rattle.ciborium_callers.proofs.own_types.OpenSerialize.serialize.Goals as goal
 
 pub returns-in_err-begin_array-clause-err : goal.returns-in_err-begin_array-clause-err

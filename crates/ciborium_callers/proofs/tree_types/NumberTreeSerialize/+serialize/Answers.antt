@@ -7,8 +7,8 @@ use Rattle.ciborium_value.specs.Places.{sequence}
 use Rattle.ciborium_value.specs.Sinks.{AddsNamed, BreaksNamed, IsOwed, Named, container_of, number_item}
 use Rattle.ciborium_value.specs.Tree as trees
 use Rattle.ciborium_value.specs.View.{trees_from}
-use Rattle.ciborium_value.proofs.NumberItems.{number_tree-item}
-use Rattle.ciborium_value.proofs.WrittenValues.{named-parts}
+use Rattle.ciborium_value.proofs.FoldedTrees.NumberItems.{number_tree-item}
+use Rattle.ciborium_value.proofs.Writing.WrittenValues.{named-parts}
 use Rattle.ciborium_callers.specs.NumberTrees.{shape_of}
 use Rattle.ciborium_callers.specs.declared.tree_types.NumberTree as tree
 use Rattle.ciborium_callers.specs.declared.tree_types.NumberTree.{NumberTree, the_lemmas}

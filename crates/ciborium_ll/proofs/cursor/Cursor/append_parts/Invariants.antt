@@ -1,6 +1,6 @@
 use Rattle.std.proofs.Common.{◌≡◌, ◌-◌}
 use Rattle.ciborium_ll.specs.Bytes.{greatest_offset}
-use Rattle.ciborium_ll.specs.Cursors.{IsSameCursor, count_at, left_at}
+use Rattle.ciborium_ll.specs.inner.Cursors.{IsSameCursor, count_at, left_at}
 use Rattle.ciborium_ll.specs.Strings.{kind_of}
 use Rattle.ciborium_ll.proofs.OpenStrings.{GoodParts}
 use Rattle.ciborium_ll.proofs.cursor.Cursor.append_parts.Given as goal

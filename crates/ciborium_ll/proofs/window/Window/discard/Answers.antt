@@ -1,6 +1,6 @@
 use Rattle.std.proofs.Common.{arith, subst, ◌≡◌, ◌+◌, length, ◌∙◌}
 use Rattle.std.proofs.Math.Seq.{take-length}
-use Rattle.ciborium_ll.specs.Reading.{Advances}
+use Rattle.ciborium_ll.specs.ReaderSteps.{Advances}
 use Rattle.ciborium_ll.specs.Windows.{unread, unread_at}
 use Rattle.ciborium_ll.proofs.HeldBytes.{held-end, takes-some}
 use Rattle.ciborium_ll.proofs.window.Window.discard.Goals as goal

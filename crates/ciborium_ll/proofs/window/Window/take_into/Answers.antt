@@ -1,5 +1,5 @@
 use Rattle.std.proofs.Common.{arith, subst, ◌≡◌, ◌+◌}
-use Rattle.ciborium_ll.specs.Reading.{Advances}
+use Rattle.ciborium_ll.specs.ReaderSteps.{Advances}
 use Rattle.ciborium_ll.specs.Windows.{unread, unread_at}
 use Rattle.ciborium_ll.proofs.HeldBytes.{copied, takes-some}
 use Rattle.ciborium_ll.proofs.window.Window.take_into.Goals as goal

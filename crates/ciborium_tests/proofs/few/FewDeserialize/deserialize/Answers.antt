@@ -3,8 +3,8 @@ use Rattle.std.proofs.Common.{arith, ◌≡◌, ◌+◌, ◌-◌, ◌++◌, suc,
 use Rattle.ciborium_value.specs.Sources.{Refuses, of_kind}
 use Rattle.ciborium_value.specs.Taken.{taken_byte}
 use Rattle.ciborium_value.specs.declared.kind.Kind.TheVariants as kinds
-use Rattle.ciborium_value.proofs.Progress.{exits}
-use Rattle.ciborium_value.proofs.Sequences.{so, Follows, IsBefore, IsInside, takes, blames, blames_next, owed_more}
+use Rattle.ciborium_value.proofs.Writing.Progress.{exits}
+use Rattle.ciborium_value.proofs.Sources.Sequences.{so, Follows, IsBefore, IsInside, takes, blames, blames_next, owed_more}
 use Rattle.ciborium_tests.specs.Few.{taken_few}
 use Rattle.ciborium_tests.proofs.FewItems.{few_from, few_more, few_blames, few_refuses, few_ends}
 use Rattle.ciborium_tests.proofs.few.FewDeserialize.deserialize.Goals as goal

@@ -2,7 +2,7 @@ use Rattle.std.proofs.Common.{◌+◌, ◌-◌, ◌<◌, ◌≤◌, length}
 use Rattle.ciborium_value.specs.Places.{sequence}
 use Rattle.ciborium_value.specs.Sources.{TakesOnly, TakesTo}
 use Rattle.ciborium_value.specs.Taken.{taken_byte}
-use Rattle.ciborium_value.proofs.Sequences.{Follows, IsBefore, IsInside}
+use Rattle.ciborium_value.proofs.Sources.Sequences.{Follows, IsBefore, IsInside}
 use Rattle.ciborium_tests.specs.Few.{taken_few}
 use Rattle.ciborium_tests.proofs.FewItems.{few_from}
 use Rattle.ciborium_tests.proofs.few.FewDeserialize.deserialize.Given as goal

@@ -1,8 +1,8 @@
 -- What is left of a sequence is dropped item by item.
 use Rattle.std.proofs.Common.{arith}
-use Rattle.ciborium_value.specs.Sequences.{RefusesRest}
-use Rattle.ciborium_value.proofs.Progress.{exits}
-use Rattle.ciborium_value.proofs.Sequences.{so, blames_next, drop_more, drop_blames, drop_ends, drops, drop_refused, dropped, dropped_more, dropped_all}
+use Rattle.ciborium_value.specs.inner.EnteredContainers.{RefusesRest}
+use Rattle.ciborium_value.proofs.Writing.Progress.{exits}
+use Rattle.ciborium_value.proofs.Sources.Sequences.{so, blames_next, drop_more, drop_blames, drop_ends, drops, drop_refused, dropped, dropped_more, dropped_all}
 use Rattle.ciborium_value.proofs.deserialize.sequences.drop_rest.Goals as goal
 
 pub returns-in_err-next-clause-refused : goal.returns-in_err-next-clause-refused

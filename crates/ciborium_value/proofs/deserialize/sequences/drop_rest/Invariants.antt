@@ -1,7 +1,7 @@
 use Rattle.std.proofs.Common.{◌+◌, ◌≤◌}
-use Rattle.ciborium_value.specs.Sequences.{TakesOwed}
+use Rattle.ciborium_value.specs.inner.EnteredContainers.{TakesOwed}
 use Rattle.ciborium_value.specs.Sources.{TakesOnly}
-use Rattle.ciborium_value.proofs.Sequences.{Follows, IsInside, dropped}
+use Rattle.ciborium_value.proofs.Sources.Sequences.{Follows, IsInside, dropped}
 use Rattle.ciborium_value.proofs.deserialize.sequences.drop_rest.Given as goal
 
 -- the items that are left decide, since the others were values

@@ -2,11 +2,12 @@
 use Rattle.std.proofs.Common.{◌≡◌, ◌+◌, map, sym, ap, ◌∙◌, subst, arith}
 use Rattle.ciborium_value.specs.Ahead.{counted}
 use Rattle.ciborium_value.specs.Taken.{gives, taken_pairs, untagged, deeper}
-use Rattle.ciborium_value.specs.TreeSources.{IsPending, IsDue, value_item, pair_items, weight, pending_weight, pending_due, due_weight, left_weight}
+use Rattle.ciborium_value.specs.inner.TreeSources.{IsPending, IsDue, pair_items, weight, pending_weight, pending_due, due_weight, left_weight}
+use Rattle.ciborium_value.specs.TreeAnswers.{value_item}
 use Rattle.ciborium_value.specs.declared.deserialized.Left.TheVariants as left
 use Rattle.ciborium_value.specs.Counts.{tree_pairs_node_count, tree_pairs_payload_size}
 use Rattle.ciborium_value.specs.View.{tree_pairs_of}
-use Rattle.ciborium_value.proofs.TreeReading.{map_of, pairs_weigh_less}
+use Rattle.ciborium_value.proofs.Sources.TreeReading.{map_of, pairs_weigh_less}
 use Rattle.ciborium_value.proofs.deserialized.TreeSourceSource.begin_map.Goals as goal
 
 pub returns-in-Map-clause-ok : goal.returns-in-Map-clause-ok

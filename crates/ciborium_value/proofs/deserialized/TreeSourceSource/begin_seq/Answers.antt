@@ -2,8 +2,9 @@
 use Rattle.std.proofs.Common.{◌≡◌, map, sym, ap, ◌∙◌, subst}
 use Rattle.ciborium_value.specs.Ahead.{counted}
 use Rattle.ciborium_value.specs.Taken.{gives, taken_seq, untagged, deeper}
-use Rattle.ciborium_value.specs.TreeSources.{IsPending, IsDue, value_item}
-use Rattle.ciborium_value.proofs.TreeReading.{seq_of}
+use Rattle.ciborium_value.specs.inner.TreeSources.{IsPending, IsDue}
+use Rattle.ciborium_value.specs.TreeAnswers.{value_item}
+use Rattle.ciborium_value.proofs.Sources.TreeReading.{seq_of}
 use Rattle.ciborium_value.proofs.deserialized.TreeSourceSource.begin_seq.Goals as goal
 
 pub returns-in-Array-clause-ok : goal.returns-in-Array-clause-ok

@@ -3,14 +3,16 @@ use Rattle.std.proofs.Common.{◌≡◌, ◌+◌, None, refl, sym, ap, ◌∙◌
 use Rattle.ciborium_value.specs.Ahead.{end_of}
 use Rattle.ciborium_value.specs.Sources.{Refuses, IsFaultOf}
 use Rattle.ciborium_value.specs.Taken.{taken_variant, taken_name, untagged, deeper, outcome_map}
-use Rattle.ciborium_value.specs.TreeSources.{IsTreeAt, IsPending, IsDue, value_item, weight, pending_weight, due_weight, fault_of}
-use Rattle.ciborium_value.proofs.Progress.{exits}
-use Rattle.ciborium_value.proofs.Sequences.{fault_map}
+use Rattle.ciborium_value.specs.inner.TreeSources.{IsTreeAt, IsPending, IsDue, weight, pending_weight, due_weight}
+use Rattle.ciborium_value.specs.TreeAnswers.{fault_of}
+use Rattle.ciborium_value.specs.TreeAnswers.{value_item}
+use Rattle.ciborium_value.proofs.Writing.Progress.{exits}
+use Rattle.ciborium_value.proofs.Sources.Sequences.{fault_map}
 use Rattle.ciborium_value.specs.Counts.{tree_pairs_node_count, tree_pairs_payload_size}
 use Rattle.ciborium_value.specs.View.{tree_pairs_of}
-use Rattle.ciborium_value.proofs.TreeReading.{pairs_weigh_less}
-use Rattle.ciborium_value.proofs.TreeFaults.{fault_error}
-use Rattle.ciborium_value.proofs.TreeLevels.{variant_of_map}
+use Rattle.ciborium_value.proofs.Sources.TreeReading.{pairs_weigh_less}
+use Rattle.ciborium_value.proofs.Sources.TreeFaults.{fault_error}
+use Rattle.ciborium_value.proofs.Sources.TreeLevels.{variant_of_map}
 use Rattle.ciborium_value.proofs.deserialized.TreeSourceSource.begin_variant.Goals as goal
 
 pub returns-in_err-name-in-Some-clause-refused : goal.returns-in_err-name-in-Some-clause-refused

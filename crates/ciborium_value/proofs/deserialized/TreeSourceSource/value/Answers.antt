@@ -1,10 +1,10 @@
 use Rattle.std.proofs.Common.{◌≡◌, sym, ap, ◌∙◌, subst}
 use Rattle.ciborium_ll.specs.Item.{simple}
 use Rattle.ciborium_value.specs.Taken.{gives, taken_value}
-use Rattle.ciborium_value.specs.TreeSources.{IsPending, pending_weight, due_weight}
-use Rattle.ciborium_value.proofs.TreeReading.{on_ok, read_weighs_less, due_next}
-use Rattle.ciborium_value.proofs.TreeLevels.{due_is_ahead}
-use Rattle.ciborium_value.proofs.Views.{tree_of-Null}
+use Rattle.ciborium_value.specs.inner.TreeSources.{IsPending, pending_weight, due_weight}
+use Rattle.ciborium_value.proofs.Sources.TreeReading.{on_ok, read_weighs_less, due_next}
+use Rattle.ciborium_value.proofs.Sources.TreeLevels.{due_is_ahead}
+use Rattle.ciborium_value.proofs.Trees.Views.{tree_of-Null}
 use Rattle.ciborium_value.proofs.deserialized.TreeSourceSource.value.Goals as goal
 
 pub returns-in-Whole-clause-less : goal.returns-in-Whole-clause-less

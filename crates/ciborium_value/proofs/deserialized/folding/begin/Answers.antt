@@ -1,6 +1,6 @@
 -- A container that is not empty opens.
 use Rattle.std.proofs.Common.{rules, arith}
-use Rattle.ciborium_value.proofs.FoldedCopies.{opens_array, opens_map}
+use Rattle.ciborium_value.proofs.FoldedTrees.FoldedCopies.{opens_array, opens_map}
 use Rattle.ciborium_value.proofs.deserialized.folding.begin.Goals as goal
 
 pub returns-else-is_empty-clause-ok : goal.returns-else-is_empty-clause-ok

@@ -1,8 +1,8 @@
 -- What the value makes is what the trees that still come make of what is open.
 use Rattle.std.proofs.Common.{◌≡◌, [], ◌∷◌}
-use Rattle.ciborium_value.specs.FoldedCopies.{copied, path_trees, nodes_of}
-use Rattle.ciborium_value.specs.Open.{more}
-use Rattle.ciborium_value.specs.Stack.{opens_of}
+use Rattle.ciborium_value.specs.inner.FoldedCopies.{copied, path_trees, nodes_of}
+use Rattle.ciborium_value.specs.inner.Frames.{more}
+use Rattle.ciborium_value.specs.inner.Stack.{opens_of}
 use Rattle.ciborium_value.specs.View.{tree_of}
 use Rattle.ciborium_value.proofs.deserialized.folding.fold_value.Given as goal
 

@@ -1,6 +1,6 @@
 -- What comes is not changed by an entry that is used up.
 use Rattle.std.proofs.Common.{◌≡◌, length}
-use Rattle.ciborium_value.specs.FoldedCopies.{path_trees}
+use Rattle.ciborium_value.specs.inner.FoldedCopies.{path_trees}
 use Rattle.ciborium_value.proofs.deserialized.folding.next.Given as goal
 
 abbrev pub invariant-loop-coming : goal.invariant-loop-coming

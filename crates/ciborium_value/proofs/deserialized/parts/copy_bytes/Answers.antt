@@ -1,8 +1,9 @@
 -- The numbers of an array, behind its tags.
 use Rattle.std.proofs.Common.{◌≡◌, None, IfOk, IfErr, map, sym, ap, ◌∙◌, subst}
 use Rattle.ciborium_value.specs.Taken.{gives, take_each, taken_byte, taken_bytes}
-use Rattle.ciborium_value.specs.TreeSources.{IsErrorOf, value_item}
-use Rattle.ciborium_value.proofs.TreeReading.{numbers_of}
+use Rattle.ciborium_value.specs.TreeAnswers.{IsErrorOf}
+use Rattle.ciborium_value.specs.TreeAnswers.{value_item}
+use Rattle.ciborium_value.proofs.Sources.TreeReading.{numbers_of}
 use Rattle.ciborium_value.proofs.deserialized.parts.copy_bytes.Goals as goal
 
 pub returns-in-Array-clause-ok : goal.returns-in-Array-clause-ok

@@ -1,8 +1,8 @@
 -- A byte string as a name.
 use Rattle.std.proofs.Common.{◌∙◌, sym, ap}
 use Rattle.ciborium_value.specs.Taken.{gives}
-use Rattle.ciborium_value.proofs.TreeLevels.{name_of_bytes, no_name_of_bytes}
-use Rattle.ciborium_value.specs.TreeSources.{value_item}
+use Rattle.ciborium_value.proofs.Sources.TreeLevels.{name_of_bytes, no_name_of_bytes}
+use Rattle.ciborium_value.specs.TreeAnswers.{value_item}
 use Rattle.ciborium_value.proofs.deserialized.parts.copy_name.Goals as goal
 
 pub returns-in_ok-from_str-in-Ok-clause-ok : goal.returns-in_ok-from_str-in-Ok-clause-ok

@@ -1,6 +1,6 @@
 -- Behind the first pair another one stands.
 use Rattle.std.proofs.Common.{sym}
-use Rattle.ciborium_value.proofs.TreeLevels.{more_pairs}
+use Rattle.ciborium_value.proofs.Sources.TreeLevels.{more_pairs}
 use Rattle.ciborium_value.proofs.deserialized.parts.find_lone_pair.Goals as goal
 
 pub returns-else-is_empty-clause-none : goal.returns-else-is_empty-clause-none

@@ -1,5 +1,5 @@
 use Rattle.std.proofs.Common.{sym, ◌∙◌}
-use Rattle.ciborium_value.proofs.TreeReading.{lone, not_lone}
+use Rattle.ciborium_value.proofs.Sources.TreeReading.{lone, not_lone}
 use Rattle.ciborium_value.proofs.deserialized.parts.lone_character.Goals as goal
 
 pub returns-in-Some-next : goal.returns-in-Some-next

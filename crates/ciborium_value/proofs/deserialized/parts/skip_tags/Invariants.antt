@@ -1,7 +1,8 @@
 use Rattle.std.proofs.Common.{◌≡◌, ◌≤◌}
 use Rattle.ciborium_value.specs.Counts.{node_count}
 use Rattle.ciborium_value.specs.Taken.{untagged}
-use Rattle.ciborium_value.specs.TreeSources.{value_item, weight}
+use Rattle.ciborium_value.specs.inner.TreeSources.{weight}
+use Rattle.ciborium_value.specs.TreeAnswers.{value_item}
 use Rattle.ciborium_value.specs.View.{tree_of}
 use Rattle.ciborium_value.proofs.deserialized.parts.skip_tags.Given as goal
 

@@ -5,7 +5,7 @@ use Rattle.ciborium_ll.specs.Item as item
 use Rattle.ciborium_value.specs.Places.{dictionary}
 use Rattle.ciborium_value.specs.Progress.{BreaksAll, TakesAll}
 use Rattle.ciborium_value.specs.Sinks.{Named}
-use Rattle.ciborium_value.proofs.Progress.{on_err, owes_ready, owes_more, owes_broken}
+use Rattle.ciborium_value.proofs.Writing.Progress.{on_err, owes_ready, owes_more, owes_broken}
 use Rattle.ciborium_value.proofs.fields.FieldFields.write_fields.Goals as goal
 
 pub serialize-requires : goal.serialize-requires

@@ -5,7 +5,7 @@ use Rattle.ciborium_ll.specs.Item as item
 use Rattle.ciborium_value.specs.Places.{dictionary}
 use Rattle.ciborium_value.specs.Progress.{Owes}
 use Rattle.ciborium_value.specs.Sinks.{Named, AddsNamed, BreaksNamed}
-use Rattle.ciborium_value.proofs.Progress.{on_err, owes_begin, owes_broken_begin, owes_can_end, owes_ends, owes_broken_end, field_counted}
+use Rattle.ciborium_value.proofs.Writing.Progress.{on_err, owes_begin, owes_broken_begin, owes_can_end, owes_ends, owes_broken_end, field_counted}
 use Rattle.ciborium_value.proofs.fields.FieldSerialize.serialize.Goals as goal
 
 pub returns-in_err-begin_map-in-Some-clause-err : goal.returns-in_err-begin_map-in-Some-clause-err

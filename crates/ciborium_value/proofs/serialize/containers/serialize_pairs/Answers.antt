@@ -4,7 +4,7 @@ use Rattle.std.proofs.lemmas.Result.{on_ok_weaker, on_err_weaker}
 use Rattle.ciborium_value.specs.Places.{dictionary}
 use Rattle.ciborium_value.specs.Sinks.{AddsNamed, BreaksNamed, IsOwed, container_of, in_turn}
 use Rattle.ciborium_value.specs.Progress.{Owes}
-use Rattle.ciborium_value.proofs.Progress.{exits, on_err, owes_begin, owes_broken_begin, owes_ready, owes_more, owes_broken, owes_owed, owes_can_end, owes_ends, owes_broken_end, length-in_turn, next_pair, no_pair}
+use Rattle.ciborium_value.proofs.Writing.Progress.{exits, on_err, owes_begin, owes_broken_begin, owes_ready, owes_more, owes_broken, owes_owed, owes_can_end, owes_ends, owes_broken_end, length-in_turn, next_pair, no_pair}
 use Rattle.ciborium_value.proofs.serialize.containers.serialize_pairs.Goals as goal
 
 pub returns-in_err-begin_map-clause-err : goal.returns-in_err-begin_map-clause-err

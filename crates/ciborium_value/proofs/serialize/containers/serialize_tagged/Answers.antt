@@ -1,6 +1,6 @@
 -- A tag and its content are written in turn.
 use Rattle.std.proofs.lemmas.Result.{on_err_weaker}
-use Rattle.ciborium_value.proofs.Progress.{on_err, tag_broken, tag_broken_head}
+use Rattle.ciborium_value.proofs.Writing.Progress.{on_err, tag_broken, tag_broken_head}
 use Rattle.ciborium_value.proofs.serialize.containers.serialize_tagged.Goals as goal
 
 pub returns-in_err-tag-clause-err : goal.returns-in_err-tag-clause-err

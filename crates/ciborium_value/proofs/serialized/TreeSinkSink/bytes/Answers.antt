@@ -1,6 +1,6 @@
 use Rattle.std.proofs.Common.{false}
 use Rattle.ciborium_ll.specs.Item.{bytes}
-use Rattle.ciborium_value.proofs.TreeSinkSteps.{put_adds}
+use Rattle.ciborium_value.proofs.Writing.TreeSinkSteps.{put_adds}
 use Rattle.ciborium_value.proofs.serialized.TreeSinkSink.bytes.Goals as goal
 
 pub returns-clause-ok : goal.returns-clause-ok

@@ -1,4 +1,4 @@
-use Rattle.ciborium_value.proofs.TreeSinkSteps.{can_close, close_ends, whole_ends}
+use Rattle.ciborium_value.proofs.Writing.TreeSinkSteps.{can_close, close_ends, whole_ends}
 use Rattle.ciborium_value.proofs.serialized.TreeSinkSink.end.Goals as goal
 
 pub unreachable-requires : goal.unreachable-requires

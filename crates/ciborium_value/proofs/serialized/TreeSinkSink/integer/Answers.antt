@@ -2,7 +2,7 @@ use Rattle.std.proofs.Common.{◌≡◌, ◌∙◌, rules}
 use Rattle.ciborium_value.specs.Number.{number_tree}
 use Rattle.ciborium_value.specs.Sinks.{number_item}
 use Rattle.ciborium_value.specs.View.{tree_of}
-use Rattle.ciborium_value.proofs.TreeSinkSteps.{put_adds, number-tree}
+use Rattle.ciborium_value.proofs.Writing.TreeSinkSteps.{put_adds, number-tree}
 use Rattle.ciborium_value.proofs.serialized.TreeSinkSink.integer.Goals as goal
 
 pub returns-clause-ok : goal.returns-clause-ok

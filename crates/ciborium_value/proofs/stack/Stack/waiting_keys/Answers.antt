@@ -1,9 +1,9 @@
 use Rattle.std.proofs.Common.{◌∙◌, ap, sym, map, option_map, slice_get, ◌-◌, length}
 use Rattle.std.specs.Option.{option_copied}
 use Rattle.ciborium_value.specs.View.{pair_trees, tree_of}
-use Rattle.ciborium_value.specs.Open as open_
-use Rattle.ciborium_value.specs.Stack.{open_of}
-use Rattle.ciborium_value.proofs.Stacked.{waiting-last}
+use Rattle.ciborium_value.specs.inner.Frames as open_
+use Rattle.ciborium_value.specs.inner.Stack.{open_of}
+use Rattle.ciborium_value.proofs.Trees.Stacked.{waiting-last}
 use Rattle.ciborium_value.proofs.stack.Stack.waiting_keys.Goals as goal
 
 pub returns-in-Some : goal.returns-in-Some

@@ -41,8 +41,8 @@ use Rattle.std.proofs.raw_atomic.Walks.{proved}
 use Rattle.std.specs.Box.{with_value}
 use Rattle.std.specs.Prelude.{⊤}
 use Rattle.std.specs.declared.option.Option.TheVariants.{None, Some}
-use Rattle.ciborium_value.proofs.TagParts.{B, Tag, tag_with, tags, lends_two, then₂}
-use Rattle.ciborium_value.proofs.Views.{tree_of-Tag}
+use Rattle.ciborium_value.proofs.Trees.TagParts.{B, Tag, tag_with, tags, lends_two, then₂}
+use Rattle.ciborium_value.proofs.Trees.Views.{tree_of-Tag}
 use Rattle.ciborium_value.proofs.tree.Value.as_tag_mut.Code as code
 use Rattle.ciborium_value.proofs.tree.Value.as_tag_mut.Statement.{statement}
 use Rattle.ciborium_value.proofs.tree.accessors.lend_content.Met.{met}

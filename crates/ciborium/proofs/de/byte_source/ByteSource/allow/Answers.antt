@@ -1,4 +1,4 @@
-use Rattle.ciborium.proofs.TakenOnly.{takes-none}
+use Rattle.ciborium.proofs.Items.TakenOnly.{takes-none}
 use Rattle.ciborium.proofs.de.byte_source.ByteSource.allow.Goals as goal
 
 pub returns-clause-only : goal.returns-clause-only

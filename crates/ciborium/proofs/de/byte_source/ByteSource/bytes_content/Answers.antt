@@ -2,11 +2,12 @@ use Rattle.std.proofs.Common.{subst, ap, ◌∙◌, arith, sym}
 use Rattle.std.proofs.lemmas.Result.{err_from_is_err_and}
 use Rattle.ciborium_ll.specs.Decoding.{next_offset, left_of}
 use Rattle.ciborium_ll.specs.StringRefusal.{of_bytes}
-use Rattle.ciborium.specs.ByteSources.{IsUnreadBy, cause_of, known_end}
-use Rattle.ciborium.proofs.SpelledStrings.{content-outside}
-use Rattle.ciborium.proofs.StringPayloads.{content-taken, content-fewer}
+use Rattle.ciborium.specs.inner.ByteSources.{IsUnreadBy, known_end}
+use Rattle.ciborium.specs.Errors.{cause_of}
+use Rattle.ciborium.proofs.Payloads.SpelledStrings.{content-outside}
+use Rattle.ciborium.proofs.Payloads.StringPayloads.{content-taken, content-fewer}
 use Rattle.ciborium_ll.proofs.HeldBytes.{same-name}
-use Rattle.ciborium.proofs.TakenOnly.{takes-only}
+use Rattle.ciborium.proofs.Items.TakenOnly.{takes-only}
 use Rattle.ciborium_value.specs.Sources.{IsOutside}
 use Rattle.ciborium.specs.Errors.{from_ll}
 use Rattle.ciborium.proofs.de.byte_source.ByteSource.bytes_content.Goals as goal

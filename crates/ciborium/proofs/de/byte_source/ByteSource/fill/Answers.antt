@@ -1,11 +1,11 @@
 use Rattle.std.proofs.Common.{ap, ◌∙◌, arith, subst}
 use Rattle.ciborium_ll.specs.Decoding.{next_offset}
-use Rattle.ciborium.proofs.LoneCharacters.{just-taken}
-use Rattle.ciborium.proofs.ReadDigits.{fill-fewer, fill-outside}
+use Rattle.ciborium.proofs.Payloads.LoneCharacters.{just-taken}
+use Rattle.ciborium.proofs.Payloads.ReadDigits.{fill-fewer, fill-outside}
 use Rattle.ciborium_ll.proofs.HeldBytes.{same-name}
-use Rattle.ciborium.proofs.TakenOnly.{takes-only}
+use Rattle.ciborium.proofs.Items.TakenOnly.{takes-only}
 use Rattle.std.proofs.lemmas.Result.{err_from_is_err_and}
-use Rattle.ciborium.specs.ByteSources.{IsUnreadBy}
+use Rattle.ciborium.specs.inner.ByteSources.{IsUnreadBy}
 use Rattle.ciborium.proofs.de.byte_source.ByteSource.fill.Goals as goal
 
 pub returns-clause-ok : goal.returns-clause-ok

@@ -1,9 +1,10 @@
 use Rattle.std.proofs.Common.{◌∙◌, sym, subst, ◌≡◌, arith, ap}
 use Rattle.std.proofs.lemmas.Result.{err_from_is_err_and}
-use Rattle.ciborium.specs.ByteSources.{IsUnreadBy, bytes_weight, weight_left, cause_of, known_end}
-use Rattle.ciborium.proofs.FrontReads.{ahead-unpushed, counted-pending, counted-pulled, fewer-bytes, head-outside, weighs-none}
+use Rattle.ciborium.specs.inner.ByteSources.{IsUnreadBy, bytes_weight, weight_left, known_end}
+use Rattle.ciborium.specs.Errors.{cause_of}
+use Rattle.ciborium.proofs.Items.FrontReads.{ahead-unpushed, counted-pending, counted-pulled, fewer-bytes, head-outside, weighs-none}
 use Rattle.ciborium_ll.specs.Decoding.{left_of}
-use Rattle.ciborium.proofs.TakenOnly.{takes-only}
+use Rattle.ciborium.proofs.Items.TakenOnly.{takes-only}
 use Rattle.ciborium_ll.proofs.HeldBytes.{same-name}
 use Rattle.ciborium_value.specs.Sources.{IsOutside}
 use Rattle.ciborium.specs.Errors.{from_ll}

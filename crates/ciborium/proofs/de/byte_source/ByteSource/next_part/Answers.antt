@@ -5,9 +5,10 @@ use Rattle.std.proofs.lemmas.Result.{err_from_is_err_and}
 use Rattle.ciborium_ll.specs.declared.header.Header.TheVariants as header
 use Rattle.ciborium_ll.specs.Header.{SpellsHeader}
 use Rattle.ciborium.specs.declared.de.byte_source.Left.TheVariants as left
-use Rattle.ciborium.specs.ByteSources.{IsUnread, IsUnreadBy, cause_of, bytes_weight, weight, weight_left}
-use Rattle.ciborium.specs.ItemReads.{TakesHead}
-use Rattle.ciborium.proofs.NextParts.{aside-unread, goes-bytes, goes-counted, goes-open, leaves-counted, leaves-open, less-bytes, less-counted, less-open, is-none, no-next, nothing-allowed, nothing-open, wide, wide-head, leaves-bytes}
+use Rattle.ciborium.specs.inner.ByteSources.{IsUnread, IsUnreadBy, bytes_weight, weight, weight_left}
+use Rattle.ciborium.specs.Errors.{cause_of}
+use Rattle.ciborium.specs.inner.FrontItems.{TakesHead}
+use Rattle.ciborium.proofs.Containers.NextParts.{aside-unread, goes-bytes, goes-counted, goes-open, leaves-counted, leaves-open, less-bytes, less-counted, less-open, is-none, no-next, nothing-allowed, nothing-open, wide, wide-head, leaves-bytes}
 use Rattle.ciborium.proofs.de.byte_source.ByteSource.next_part.Goals as goal
 
 pub returns-then-n-eq0-clause-ok : goal.returns-then-n-eq0-clause-ok

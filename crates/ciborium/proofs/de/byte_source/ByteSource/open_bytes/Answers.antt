@@ -1,7 +1,7 @@
 use Rattle.std.proofs.Common.{length, ap, arith, subst, sym}
 use Rattle.ciborium_ll.specs.StringRefusal.{of_bytes}
-use Rattle.ciborium.specs.ByteSources.{IsUnread}
-use Rattle.ciborium.specs.StringContents.{TakesContent}
+use Rattle.ciborium.specs.inner.ByteSources.{IsUnread}
+use Rattle.ciborium.specs.inner.StringContents.{TakesContent}
 use Rattle.ciborium.proofs.de.byte_source.ByteSource.open_bytes.Goals as goal
 
 pub returns-clause-ok : goal.returns-clause-ok

@@ -4,11 +4,12 @@ use Rattle.ciborium_ll.specs.declared.header.Header.TheVariants as header
 use Rattle.ciborium_value.specs.Sources.{of_kind, of_nesting}
 use Rattle.ciborium_value.specs.Taken.{gives, taken_pairs}
 use Rattle.ciborium_value.specs.declared.kind.Kind.TheVariants as kinds
-use Rattle.ciborium.specs.ByteSources.{IsUnread, cause_of, end_at}
-use Rattle.ciborium.specs.ItemReads.{Denies}
-use Rattle.ciborium.specs.Skips.{TakesBare}
-use Rattle.ciborium.proofs.EnteredContainers.{map-entered, map-nests, map-other, pairs-given}
-use Rattle.ciborium.proofs.SkippedTags.{denies-bare, denies-of-item}
+use Rattle.ciborium.specs.inner.ByteSources.{IsUnread, end_at}
+use Rattle.ciborium.specs.Errors.{cause_of}
+use Rattle.ciborium.specs.inner.FrontItems.{Denies}
+use Rattle.ciborium.specs.inner.Skips.{TakesBare}
+use Rattle.ciborium.proofs.Containers.EnteredContainers.{map-entered, map-nests, map-other, pairs-given}
+use Rattle.ciborium.proofs.Items.SkippedTags.{denies-bare, denies-of-item}
 use Rattle.ciborium.proofs.de.byte_source.ByteSource.open_map.Goals as goal
 
 pub returns-in_err-header-clause-denied : goal.returns-in_err-header-clause-denied

@@ -6,13 +6,14 @@ use Rattle.ciborium_ll.specs.StringRefusal.{of_bytes}
 use Rattle.ciborium_value.specs.Sources.{of_kind, of_nesting}
 use Rattle.ciborium_value.specs.Taken.{gives, taken_seq}
 use Rattle.ciborium_value.specs.declared.kind.Kind.TheVariants as kinds
-use Rattle.ciborium.specs.ByteSources.{IsUnread, cause_of, end_at}
-use Rattle.ciborium.specs.ItemReads.{Denies}
-use Rattle.ciborium.specs.Skips.{TakesBare}
-use Rattle.ciborium.proofs.EnteredContainers.{array-entered, array-nests, bytes-entered, bytes-had, seq-given, seq-other}
-use Rattle.ciborium.proofs.SkippedTags.{denies-bare, denies-of-item}
-use Rattle.ciborium.proofs.StringPayloads.{denies-content}
-use Rattle.ciborium.proofs.TakenOnly.{same-end}
+use Rattle.ciborium.specs.inner.ByteSources.{IsUnread, end_at}
+use Rattle.ciborium.specs.Errors.{cause_of}
+use Rattle.ciborium.specs.inner.FrontItems.{Denies}
+use Rattle.ciborium.specs.inner.Skips.{TakesBare}
+use Rattle.ciborium.proofs.Containers.EnteredContainers.{array-entered, array-nests, bytes-entered, bytes-had, seq-given, seq-other}
+use Rattle.ciborium.proofs.Items.SkippedTags.{denies-bare, denies-of-item}
+use Rattle.ciborium.proofs.Payloads.StringPayloads.{denies-content}
+use Rattle.ciborium.proofs.Items.TakenOnly.{same-end}
 use Rattle.ciborium.proofs.de.byte_source.ByteSource.open_seq.Goals as goal
 
 pub returns-in_err-header-clause-denied : goal.returns-in_err-header-clause-denied

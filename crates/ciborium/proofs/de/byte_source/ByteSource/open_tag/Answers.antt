@@ -5,12 +5,13 @@ use Rattle.ciborium_ll.specs.Decoding.{source_of}
 use Rattle.ciborium_value.specs.Sources.{of_kind, of_nesting}
 use Rattle.ciborium_value.specs.Taken.{taken_outer_tag}
 use Rattle.ciborium_value.specs.declared.kind.Kind.TheVariants as kinds
-use Rattle.ciborium.specs.ByteSources.{HasTaken, IsUnread, IsUnreadBy, cause_of, end_at}
-use Rattle.ciborium.specs.ItemReads.{Denies, TakesHead}
-use Rattle.ciborium.proofs.EnteredContainers.{same-unread}
-use Rattle.ciborium.proofs.HeldLevels.{none-opened, tag-nests, tag-opened}
-use Rattle.ciborium.proofs.NextParts.{aside-unread}
-use Rattle.ciborium.proofs.SkippedTags.{denies-item, denies-break, denies-of-item, skips-none}
+use Rattle.ciborium.specs.inner.ByteSources.{HasTaken, IsUnread, IsUnreadBy, end_at}
+use Rattle.ciborium.specs.Errors.{cause_of}
+use Rattle.ciborium.specs.inner.FrontItems.{Denies, TakesHead}
+use Rattle.ciborium.proofs.Containers.EnteredContainers.{same-unread}
+use Rattle.ciborium.proofs.Containers.HeldLevels.{none-opened, tag-nests, tag-opened}
+use Rattle.ciborium.proofs.Containers.NextParts.{aside-unread}
+use Rattle.ciborium.proofs.Items.SkippedTags.{denies-item, denies-break, denies-of-item, skips-none}
 use Rattle.ciborium.proofs.de.byte_source.ByteSource.open_tag.Goals as goal
 
 pub returns-in_err-header-clause-denied : goal.returns-in_err-header-clause-denied

@@ -5,14 +5,15 @@ use Rattle.ciborium_ll.specs.StringRefusal.{of_text}
 use Rattle.ciborium_value.specs.Sources.{of_kind, of_nesting, IsOutside}
 use Rattle.ciborium_value.specs.Taken.{deeper, taken_name, taken_variant}
 use Rattle.ciborium_value.specs.declared.kind.Kind.TheVariants as kinds
-use Rattle.ciborium.specs.ByteSources.{IsUnread, cause_of, end_at, reader_of}
-use Rattle.ciborium.specs.ItemReads.{Denies, Reads}
-use Rattle.ciborium.specs.Skips.{TakesBare}
-use Rattle.ciborium.proofs.EnteredContainers.{deeper-is, same-unread}
-use Rattle.ciborium.proofs.NamedVariants.{key-denied, map-no-text, map-not-one, null-unread, pair-nests, pair-opened, text-nests, text-opened, variant-other}
-use Rattle.ciborium.proofs.SkippedTags.{denies-bare, denies-of-item}
-use Rattle.ciborium.proofs.StringPayloads.{denies-content}
-use Rattle.ciborium.proofs.TakenOnly.{same-end}
+use Rattle.ciborium.specs.inner.ByteSources.{IsUnread, end_at, reader_of}
+use Rattle.ciborium.specs.Errors.{cause_of}
+use Rattle.ciborium.specs.inner.FrontItems.{Denies, Reads}
+use Rattle.ciborium.specs.inner.Skips.{TakesBare}
+use Rattle.ciborium.proofs.Containers.EnteredContainers.{deeper-is, same-unread}
+use Rattle.ciborium.proofs.Containers.NamedVariants.{key-denied, map-no-text, map-not-one, null-unread, pair-nests, pair-opened, text-nests, text-opened, variant-other}
+use Rattle.ciborium.proofs.Items.SkippedTags.{denies-bare, denies-of-item}
+use Rattle.ciborium.proofs.Payloads.StringPayloads.{denies-content}
+use Rattle.ciborium.proofs.Items.TakenOnly.{same-end}
 use Rattle.ciborium.proofs.de.byte_source.ByteSource.open_variant.Goals as goal
 
 pub returns-in_err-header-clause-denied : goal.returns-in_err-header-clause-denied

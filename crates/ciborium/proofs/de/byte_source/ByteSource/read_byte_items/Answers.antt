@@ -2,8 +2,9 @@ use Rattle.std.proofs.Common.{◌≡◌, Bool, true, false, MatchBool, Some, ref
 use Rattle.std.proofs.lemmas.Result.{err_from_is_err_and}
 use Rattle.ciborium_value.specs.Sources.{GoesOn, Leaves, OwesLess, OwesNothing, Takes, TakesTo}
 use Rattle.ciborium_value.specs.Taken.{taken_byte, taken_integer}
-use Rattle.ciborium.specs.ByteSources.{IsUnread, Owes, SeqStands, StandsBefore, cause_of}
-use Rattle.ciborium.proofs.ByteItems.{ReadsPartly, byte-refuses, byte-takes, owes-end, owes-more, owes-none, partly-end, partly-fault, partly-more, partly-next-fault, partly-none, range-refuses, refuses-denied, takes-read, took-read}
+use Rattle.ciborium.specs.inner.ByteSources.{IsUnread, Owes, SeqStands, StandsBefore}
+use Rattle.ciborium.specs.Errors.{cause_of}
+use Rattle.ciborium.proofs.Containers.ByteItems.{ReadsPartly, byte-refuses, byte-takes, owes-end, owes-more, owes-none, partly-end, partly-fault, partly-more, partly-next-fault, partly-none, range-refuses, refuses-denied, takes-read, took-read}
 use Rattle.ciborium.proofs.de.byte_source.ByteSource.read_byte_items.Goals as goal
 
 yes : (P Q : Type 0) (t : Bool) → t ≡ true → MatchBool t P Q → P

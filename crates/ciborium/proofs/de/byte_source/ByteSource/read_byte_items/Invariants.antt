@@ -2,8 +2,8 @@ use Rattle.std.proofs.Common.{◌≤◌, ◌+◌}
 use Rattle.ciborium_ll.specs.Decoding.{HasSameReader}
 use Rattle.ciborium_value.specs.Sources.{TakesOnly}
 use Rattle.ciborium_value.specs.Taken.{taken_byte}
-use Rattle.ciborium.specs.ByteSources.{HasTaken, seq_left, weight_left}
-use Rattle.ciborium.proofs.ByteItems.{OwesPartly, ReadsPartly}
+use Rattle.ciborium.specs.inner.ByteSources.{HasTaken, seq_left, weight_left}
+use Rattle.ciborium.proofs.Containers.ByteItems.{OwesPartly, ReadsPartly}
 use Rattle.ciborium.proofs.de.byte_source.ByteSource.read_byte_items.Given as goal
 
 abbrev pub invariant-items : goal.invariant-items

@@ -3,18 +3,19 @@ use Rattle.std.proofs.lemmas.Result.{err_from_is_err_and}
 use Rattle.ciborium_ll.specs.declared.header.Header.TheVariants as header
 use Rattle.ciborium_ll.specs.StringRefusal.{of_bytes}
 use Rattle.ciborium_ll.specs.Decoding.{source_of}
-use Rattle.ciborium.proofs.Due.{entered-fewer, weight-bounds}
+use Rattle.ciborium.proofs.Items.Due.{entered-fewer, weight-bounds}
 use Rattle.ciborium_value.specs.Sources.{of_kind, of_nesting}
 use Rattle.ciborium_value.specs.Taken.{take_each, taken_byte, taken_bytes}
 use Rattle.ciborium_value.specs.declared.kind.Kind.TheVariants as kinds
-use Rattle.ciborium.specs.ByteSources.{IsUnread, OpensItems, cause_of, pending_weight, end_at, HasTaken}
-use Rattle.ciborium.specs.ItemReads.{Denies}
-use Rattle.ciborium.specs.Skips.{TakesBare}
-use Rattle.ciborium.proofs.ByteItems.{array-nests, array-refuses, array-takes, array-took, bytes-given, bytes-other, bytes-read, refuses-denied, takes-read, took-read}
-use Rattle.ciborium.proofs.EnteredContainers.{array-entered}
-use Rattle.ciborium.proofs.SkippedTags.{denies-bare, denies-of-item}
-use Rattle.ciborium.proofs.StringPayloads.{denies-content}
-use Rattle.ciborium.proofs.TakenOnly.{same-end}
+use Rattle.ciborium.specs.inner.ByteSources.{IsUnread, OpensItems, pending_weight, end_at, HasTaken}
+use Rattle.ciborium.specs.Errors.{cause_of}
+use Rattle.ciborium.specs.inner.FrontItems.{Denies}
+use Rattle.ciborium.specs.inner.Skips.{TakesBare}
+use Rattle.ciborium.proofs.Containers.ByteItems.{array-nests, array-refuses, array-takes, array-took, bytes-given, bytes-other, bytes-read, refuses-denied, takes-read, took-read}
+use Rattle.ciborium.proofs.Containers.EnteredContainers.{array-entered}
+use Rattle.ciborium.proofs.Items.SkippedTags.{denies-bare, denies-of-item}
+use Rattle.ciborium.proofs.Payloads.StringPayloads.{denies-content}
+use Rattle.ciborium.proofs.Items.TakenOnly.{same-end}
 use Rattle.ciborium.proofs.de.byte_source.ByteSource.read_bytes.Goals as goal
 
 pub returns-in_err-header-clause-refused : goal.returns-in_err-header-clause-refused

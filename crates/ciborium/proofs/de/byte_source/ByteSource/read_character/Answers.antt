@@ -6,13 +6,14 @@ use Rattle.ciborium_ll.specs.declared.header.Header.TheVariants as header
 use Rattle.ciborium_value.specs.Sources.{of_kind}
 use Rattle.ciborium_value.specs.Taken.{taken_character, lone_character}
 use Rattle.ciborium_value.specs.declared.kind.Kind.TheVariants as kinds
-use Rattle.ciborium_value.proofs.Sequences.{fault_outside}
-use Rattle.ciborium.specs.ByteSources.{IsUnread, cause_of, end_at}
-use Rattle.ciborium.specs.Skips.{TakesBare}
-use Rattle.ciborium.proofs.LoneCharacters.{character-given, character-open, character-other, long-denied, payload-denied, payload-taken, text-denied}
-use Rattle.ciborium.proofs.SkippedTags.{denies-bare, denies-of-item, reads-bare}
-use Rattle.ciborium.proofs.TakenOnly.{same-end}
-use Rattle.ciborium.proofs.StringPayloads.{string-behind}
+use Rattle.ciborium_value.proofs.Sources.Sequences.{fault_outside}
+use Rattle.ciborium.specs.inner.ByteSources.{IsUnread, end_at}
+use Rattle.ciborium.specs.Errors.{cause_of}
+use Rattle.ciborium.specs.inner.Skips.{TakesBare}
+use Rattle.ciborium.proofs.Payloads.LoneCharacters.{character-given, character-open, character-other, long-denied, payload-denied, payload-taken, text-denied}
+use Rattle.ciborium.proofs.Items.SkippedTags.{denies-bare, denies-of-item, reads-bare}
+use Rattle.ciborium.proofs.Items.TakenOnly.{same-end}
+use Rattle.ciborium.proofs.Payloads.StringPayloads.{string-behind}
 use Rattle.ciborium.proofs.de.byte_source.ByteSource.read_character.Goals as goal
 
 short : (n : ℕ) → n ≤ 4 → length {A = ℕ} (take n (0 ∷ 0 ∷ 0 ∷ 0 ∷ [])) ≡ n

@@ -1,9 +1,10 @@
 use Rattle.std.proofs.Common.{sym, ap, ◌∙◌, subst, arith, length, length-append, ◌+◌, ◌≡◌}
 use Rattle.ciborium_ll.specs.Decoding.{next_offset}
-use Rattle.ciborium.specs.ByteSources.{IsUnreadBy, cause_of}
-use Rattle.ciborium.proofs.ReadDigits.{digit-more, fill-fewer, fill-outside}
+use Rattle.ciborium.specs.inner.ByteSources.{IsUnreadBy}
+use Rattle.ciborium.specs.Errors.{cause_of}
+use Rattle.ciborium.proofs.Payloads.ReadDigits.{digit-more, fill-fewer, fill-outside}
 use Rattle.ciborium_ll.proofs.HeldBytes.{same-name}
-use Rattle.ciborium.proofs.TakenOnly.{takes-only, same-end}
+use Rattle.ciborium.proofs.Items.TakenOnly.{takes-only, same-end}
 use Rattle.std.proofs.lemmas.Result.{err_from_is_err_and}
 use Rattle.ciborium.specs.Errors.{from_ll}
 use Rattle.ciborium_value.specs.Sources.{IsOutside}

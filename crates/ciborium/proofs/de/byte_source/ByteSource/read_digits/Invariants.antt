@@ -2,8 +2,8 @@ use Rattle.std.proofs.Common.{◌≡◌, ◌≤◌, ◌+◌, ◌++◌, None, Lis
 use Rattle.ciborium_ll.specs.Bytes.{AreBytes}
 use Rattle.ciborium_ll.specs.Decoding.{HasSameReader}
 use Rattle.ciborium_value.specs.Sources.{TakesOnly}
-use Rattle.ciborium.specs.ByteSources.{HasTaken, IsUnread, bytes_weight}
-use Rattle.ciborium.specs.StringContents.{digits_of}
+use Rattle.ciborium.specs.inner.ByteSources.{HasTaken, IsUnread, bytes_weight}
+use Rattle.ciborium.specs.inner.StringContents.{digits_of}
 use Rattle.ciborium.proofs.de.byte_source.ByteSource.read_digits.Given as goal
 
 abbrev pub invariant-loop-left : goal.invariant-loop-left

@@ -6,12 +6,13 @@ use Rattle.ciborium_ll.specs.declared.header.Header.TheVariants as header
 use Rattle.ciborium_value.specs.Sources.{of_kind}
 use Rattle.ciborium_value.specs.Taken.{gives, taken_integer}
 use Rattle.ciborium_value.specs.declared.kind.Kind.TheVariants as kinds
-use Rattle.ciborium.specs.ByteSources.{IsUnread, cause_of, end_at}
-use Rattle.ciborium.specs.ItemReads.{Reads}
-use Rattle.ciborium.specs.Skips.{TakesBare, IsBare}
-use Rattle.ciborium.proofs.BareScalars.{integer-gives, integer-other, bignum-behind, bignum-denied}
-use Rattle.ciborium.proofs.SkippedTags.{denies-bare, denies-of-item, reads-bare, reads-whole}
-use Rattle.ciborium.proofs.TakenOnly.{same-end}
+use Rattle.ciborium.specs.inner.ByteSources.{IsUnread, end_at}
+use Rattle.ciborium.specs.Errors.{cause_of}
+use Rattle.ciborium.specs.inner.FrontItems.{Reads}
+use Rattle.ciborium.specs.inner.Skips.{TakesBare, IsBare}
+use Rattle.ciborium.proofs.Items.BareScalars.{integer-gives, integer-other, bignum-behind, bignum-denied}
+use Rattle.ciborium.proofs.Items.SkippedTags.{denies-bare, denies-of-item, reads-bare, reads-whole}
+use Rattle.ciborium.proofs.Items.TakenOnly.{same-end}
 use Rattle.ciborium.proofs.de.byte_source.ByteSource.read_integer.Goals as goal
 
 pub returns-in_err-header-clause-denied : goal.returns-in_err-header-clause-denied

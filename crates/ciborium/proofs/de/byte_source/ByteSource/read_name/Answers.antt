@@ -7,13 +7,14 @@ use Rattle.ciborium_ll.specs.StringRefusal.{of_bytes, of_text}
 use Rattle.ciborium_value.specs.Sources.{of_kind}
 use Rattle.ciborium_value.specs.Taken.{bare_name, taken_name}
 use Rattle.ciborium_value.specs.declared.kind.Kind.TheVariants as kinds
-use Rattle.ciborium.specs.ByteSources.{IsUnread, cause_of, end_at}
-use Rattle.ciborium.specs.Skips.{TakesBare}
-use Rattle.ciborium.specs.StringContents.{string_item, is_open}
-use Rattle.ciborium.proofs.NamedVariants.{bytes-name, bytes-no-name, name-other}
-use Rattle.ciborium.proofs.SkippedTags.{denies-bare, denies-of-item, reads-bare, untagged-under}
-use Rattle.ciborium.proofs.StringPayloads.{denies-content, string-behind}
-use Rattle.ciborium.proofs.TakenOnly.{same-end}
+use Rattle.ciborium.specs.inner.ByteSources.{IsUnread, end_at}
+use Rattle.ciborium.specs.Errors.{cause_of}
+use Rattle.ciborium.specs.inner.Skips.{TakesBare}
+use Rattle.ciborium.specs.inner.StringContents.{string_item, is_open}
+use Rattle.ciborium.proofs.Containers.NamedVariants.{bytes-name, bytes-no-name, name-other}
+use Rattle.ciborium.proofs.Items.SkippedTags.{denies-bare, denies-of-item, reads-bare, untagged-under}
+use Rattle.ciborium.proofs.Payloads.StringPayloads.{denies-content, string-behind}
+use Rattle.ciborium.proofs.Items.TakenOnly.{same-end}
 use Rattle.ciborium.proofs.de.byte_source.ByteSource.read_name.Goals as goal
 
 pub returns-in_err-header-clause-denied : goal.returns-in_err-header-clause-denied
@@ -53,7 +54,7 @@ returns-in-Ok-clause-ok g c =
     reads-bare (IsUnread g.R.Read.remaining) false (header.Bytes c.in-Bytes.len) l taken_name c.args.self.now c.bare_head.new.self c.bytes_content.new.self (string_bytes c.in-Ok.name)
     (subst (TakesBare (IsUnread g.R.Read.remaining) c.args.self.now c.bare_head.new.self false) c.in-Bytes.is c.in_ok-header.ensures.head)
     (string-behind (IsUnread g.R.Read.remaining) c.bare_head.new.self c.bytes_content.new.self of_bytes c.in-Bytes.len l taken_name payload (string_bytes c.in-Ok.name) c.in_ok-bytes-in-Bytes.ensures.ok
-    (λ ts all. subst (λ b. taken_name l (Rattle.ciborium.specs.Skips.under ts (string_item of_bytes c.in-Bytes.len payload)) ≡ Rattle.ciborium_value.specs.Taken.gives b) (sym same) (bytes-name ts l (is_open c.in-Bytes.len) payload utf8)))
+    (λ ts all. subst (λ b. taken_name l (Rattle.ciborium.specs.inner.Skips.under ts (string_item of_bytes c.in-Bytes.len payload)) ≡ Rattle.ciborium_value.specs.Taken.gives b) (sym same) (bytes-name ts l (is_open c.in-Bytes.len) payload utf8)))
 
 pub returns-in-Bytes-clause-denied : goal.returns-in-Bytes-clause-denied
 returns-in-Bytes-clause-denied g c =

@@ -3,12 +3,13 @@ use Rattle.std.proofs.lemmas.Result.{err_from_is_err_and}
 use Rattle.ciborium_ll.specs.declared.header.Header.TheVariants as header
 use Rattle.ciborium_ll.specs.StringRefusal.{of_bytes}
 use Rattle.ciborium_value.specs.Sources.{of_syntax}
-use Rattle.ciborium.specs.ByteSources.{IsUnread, cause_of, end_at}
-use Rattle.ciborium.specs.ItemReads.{TakesHead}
-use Rattle.ciborium.specs.StringContents.{DeniesContent, TakesNumber}
-use Rattle.ciborium.proofs.FrontReads.{weighs-none}
-use Rattle.ciborium.proofs.OpenNumbers.{parts-more, parts-end, parts-no-head, parts-other, no-break, no-definite, parts-cut}
-use Rattle.ciborium.proofs.TakenOnly.{same-end}
+use Rattle.ciborium.specs.inner.ByteSources.{IsUnread, end_at}
+use Rattle.ciborium.specs.Errors.{cause_of}
+use Rattle.ciborium.specs.inner.FrontItems.{TakesHead}
+use Rattle.ciborium.specs.inner.StringContents.{DeniesContent, TakesNumber}
+use Rattle.ciborium.proofs.Items.FrontReads.{weighs-none}
+use Rattle.ciborium.proofs.Payloads.OpenNumbers.{parts-more, parts-end, parts-no-head, parts-other, no-break, no-definite, parts-cut}
+use Rattle.ciborium.proofs.Items.TakenOnly.{same-end}
 use Rattle.ciborium.proofs.de.byte_source.ByteSource.read_number.Goals as goal
 
 pub returns-in_err-header-in-None-clause-denied : goal.returns-in_err-header-in-None-clause-denied

@@ -5,12 +5,13 @@ use Rattle.ciborium_ll.specs.StringRefusal.{of_text}
 use Rattle.ciborium_value.specs.Sources.{of_kind}
 use Rattle.ciborium_value.specs.Taken.{bare_text, taken_text}
 use Rattle.ciborium_value.specs.declared.kind.Kind.TheVariants as kinds
-use Rattle.ciborium.specs.ByteSources.{IsUnread, cause_of, end_at}
-use Rattle.ciborium.specs.Skips.{TakesBare}
-use Rattle.ciborium.specs.StringContents.{string_item}
-use Rattle.ciborium.proofs.SkippedTags.{denies-bare, denies-of-item, reads-bare, untagged-under}
-use Rattle.ciborium.proofs.StringPayloads.{denies-content, string-behind, text-other}
-use Rattle.ciborium.proofs.TakenOnly.{same-end}
+use Rattle.ciborium.specs.inner.ByteSources.{IsUnread, end_at}
+use Rattle.ciborium.specs.Errors.{cause_of}
+use Rattle.ciborium.specs.inner.Skips.{TakesBare}
+use Rattle.ciborium.specs.inner.StringContents.{string_item}
+use Rattle.ciborium.proofs.Items.SkippedTags.{denies-bare, denies-of-item, reads-bare, untagged-under}
+use Rattle.ciborium.proofs.Payloads.StringPayloads.{denies-content, string-behind, text-other}
+use Rattle.ciborium.proofs.Items.TakenOnly.{same-end}
 use Rattle.ciborium.proofs.de.byte_source.ByteSource.read_text.Goals as goal
 
 pub returns-in_err-header-clause-denied : goal.returns-in_err-header-clause-denied

@@ -5,10 +5,11 @@ use Rattle.ciborium_ll.specs.declared.header.Header.TheVariants as header
 use Rattle.ciborium_value.specs.Sources.{of_kind}
 use Rattle.ciborium_value.specs.Taken.{taken_unit}
 use Rattle.ciborium_value.specs.declared.kind.Kind.TheVariants as kinds
-use Rattle.ciborium.specs.ByteSources.{IsUnread, cause_of, end_at}
-use Rattle.ciborium.specs.Skips.{TakesBare}
-use Rattle.ciborium.proofs.BareScalars.{unit-gives, unit-none, unit-other}
-use Rattle.ciborium.proofs.SkippedTags.{denies-bare, denies-of-item, reads-whole}
+use Rattle.ciborium.specs.inner.ByteSources.{IsUnread, end_at}
+use Rattle.ciborium.specs.Errors.{cause_of}
+use Rattle.ciborium.specs.inner.Skips.{TakesBare}
+use Rattle.ciborium.proofs.Items.BareScalars.{unit-gives, unit-none, unit-other}
+use Rattle.ciborium.proofs.Items.SkippedTags.{denies-bare, denies-of-item, reads-whole}
 use Rattle.ciborium.proofs.de.byte_source.ByteSource.read_unit.Goals as goal
 
 pub returns-in_err-header-clause-denied : goal.returns-in_err-header-clause-denied

@@ -2,11 +2,12 @@ use Rattle.std.proofs.Common.{None, Some, Ok, Err, refl, sym, ◌∙◌, subst}
 use Rattle.std.proofs.lemmas.Result.{err_from_is_err_and}
 use Rattle.ciborium_ll.specs.Decoding.{next_offset, left_of}
 use Rattle.ciborium_value.specs.View.{tree_of}
-use Rattle.ciborium.specs.ByteSources.{IsUnreadBy, cause_of}
+use Rattle.ciborium.specs.inner.ByteSources.{IsUnreadBy}
+use Rattle.ciborium.specs.Errors.{cause_of}
 use Rattle.ciborium_ll.proofs.HeldBytes.{same-name, unread-count, unread-left}
-use Rattle.ciborium.proofs.TakenOnly.{takes-none, takes-only}
-use Rattle.ciborium.proofs.WhateverFollows.{leaves-name}
-use Rattle.ciborium.proofs.WholeValues.{ahead-by, known-read, portable-ahead, portable-reads, pushed-ahead, whole-faults, whole-reads, whole-end}
+use Rattle.ciborium.proofs.Items.TakenOnly.{takes-none, takes-only}
+use Rattle.ciborium.proofs.Readers.WhateverFollows.{leaves-name}
+use Rattle.ciborium.proofs.Items.WholeValues.{ahead-by, known-read, portable-ahead, portable-reads, pushed-ahead, whole-faults, whole-reads, whole-end}
 use Rattle.ciborium_value.specs.Sources.{IsFaultOf}
 use Rattle.ciborium_value.specs.Taken.{taken_value}
 use Rattle.ciborium.proofs.de.byte_source.ByteSource.read_whole_value.Goals as goal

@@ -1,4 +1,4 @@
-use Rattle.ciborium.proofs.LoneCharacters.{more-characters, one-character}
+use Rattle.ciborium.proofs.Payloads.LoneCharacters.{more-characters, one-character}
 use Rattle.ciborium.proofs.de.byte_source.characters.only_character.Goals as goal
 
 pub returns-in-Some-next-clause-refused : goal.returns-in-Some-next-clause-refused

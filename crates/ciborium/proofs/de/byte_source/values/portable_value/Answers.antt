@@ -1,7 +1,7 @@
 use Rattle.std.proofs.Common.{sym, subst, ◌∙◌}
-use Rattle.ciborium_value.proofs.Views.{tree_of-Integer, tree_of-Null}
-use Rattle.ciborium.specs.ByteSources.{StandsFor}
-use Rattle.ciborium.proofs.WholeValues.{portable-null, portable-number}
+use Rattle.ciborium_value.proofs.Trees.Views.{tree_of-Integer, tree_of-Null}
+use Rattle.ciborium.specs.inner.ByteSources.{StandsFor}
+use Rattle.ciborium.proofs.Items.WholeValues.{portable-null, portable-number}
 use Rattle.ciborium.proofs.de.byte_source.values.portable_value.Goals as goal
 
 pub returns-in-Positive : goal.returns-in-Positive

@@ -1,5 +1,5 @@
-use Rattle.ciborium.proofs.WritingSteps.{Writes-after, OnOk-always}
-use Rattle.ciborium.proofs.ByteSinks.{fitting_bytes}
+use Rattle.ciborium.proofs.Writing.WritingSteps.{Writes-after, OnOk-always}
+use Rattle.ciborium.proofs.Writing.ByteSinks.{fitting_bytes}
 use Rattle.ciborium.proofs.ser.byte_sink.ByteSink.write_string.Goals as goal
 
 pub returns-clause-bytes : goal.returns-clause-bytes

@@ -1,6 +1,6 @@
 use Rattle.std.proofs.Common.{rules}
 use Rattle.ciborium_value.specs.Places.{dictionary}
-use Rattle.ciborium.proofs.ByteSinks.{begins, breaks_begin}
+use Rattle.ciborium.proofs.Writing.ByteSinks.{begins, breaks_begin}
 use Rattle.ciborium.proofs.ser.byte_sink.ByteSinkSink.begin_map.Goals as goal
 
 pub returns-clause-ok : goal.returns-clause-ok

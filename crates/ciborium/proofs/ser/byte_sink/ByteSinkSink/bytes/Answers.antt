@@ -1,6 +1,6 @@
 use Rattle.std.proofs.Common.{false, rules}
 use Rattle.ciborium_ll.specs.Item.{bytes}
-use Rattle.ciborium.proofs.ByteSinks.{adds, breaks}
+use Rattle.ciborium.proofs.Writing.ByteSinks.{adds, breaks}
 use Rattle.ciborium.proofs.ser.byte_sink.ByteSinkSink.bytes.Goals as goal
 
 pub returns-clause-ok : goal.returns-clause-ok

@@ -1,4 +1,4 @@
-use Rattle.ciborium.proofs.ByteSinks.{ends, breaks_end, ends_silently}
+use Rattle.ciborium.proofs.Writing.ByteSinks.{ends, breaks_end, ends_silently}
 use Rattle.ciborium.proofs.ser.byte_sink.ByteSinkSink.end.Goals as goal
 
 pub returns-in-Some-clause-ok : goal.returns-in-Some-clause-ok

@@ -1,4 +1,4 @@
-use Rattle.ciborium.proofs.ByteSinks.{tags, breaks_tag}
+use Rattle.ciborium.proofs.Writing.ByteSinks.{tags, breaks_tag}
 use Rattle.ciborium.proofs.ser.byte_sink.ByteSinkSink.tag.Goals as goal
 
 pub returns-clause-ok : goal.returns-clause-ok

@@ -1,6 +1,6 @@
 use Rattle.std.proofs.Common.{◌≡◌, ap, ◌∙◌}
 use Rattle.ciborium_value.specs.CanonicalValues.{canonical_value_cmp}
-use Rattle.ciborium.proofs.CanonicalValues.{canonical_value_cmp-is}
+use Rattle.ciborium.proofs.Encodings.CanonicalValues.{canonical_value_cmp-is}
 use Rattle.ciborium.proofs.value.canonical.CanonicalValueOrd.cmp.Goals as goal
 
 pub returns-clause-gives : goal.returns-clause-gives

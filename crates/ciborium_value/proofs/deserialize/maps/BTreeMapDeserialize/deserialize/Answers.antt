@@ -2,9 +2,9 @@
 use Rattle.std.proofs.Common.{arith, map, sym, ap, ◌∙◌, subst}
 use Rattle.ciborium_value.specs.Sources.{Refuses}
 use Rattle.ciborium_value.specs.TakenParts.{taken_map}
-use Rattle.ciborium_value.proofs.Progress.{exits}
-use Rattle.ciborium_value.proofs.Sequences.{so, Follows, IsBefore, takes, blames}
-use Rattle.ciborium_value.proofs.Dictionaries.{IsInsideMap, map_begins, map_more, map_blames_next, map_blames_key, map_blames_value, map_ends, contents-insert, owed_pair, owed_pairs}
+use Rattle.ciborium_value.proofs.Writing.Progress.{exits}
+use Rattle.ciborium_value.proofs.Sources.Sequences.{so, Follows, IsBefore, takes, blames}
+use Rattle.ciborium_value.proofs.Sources.Dictionaries.{IsInsideMap, map_begins, map_more, map_blames_next, map_blames_key, map_blames_value, map_ends, contents-insert, owed_pair, owed_pairs}
 use Rattle.ciborium_value.proofs.deserialize.maps.BTreeMapDeserialize.deserialize.Goals as goal
 
 pub loop-entries-init : goal.loop-entries-init

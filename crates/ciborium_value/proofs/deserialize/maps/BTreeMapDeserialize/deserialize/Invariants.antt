@@ -2,8 +2,8 @@ use Rattle.std.proofs.Common.{◌+◌, ◌<◌, map}
 use Rattle.ciborium_value.specs.Places.{dictionary}
 use Rattle.ciborium_value.specs.Sources.{TakesTo, TakesOnly}
 use Rattle.ciborium_value.specs.TakenParts.{taken_map}
-use Rattle.ciborium_value.proofs.Sequences.{Follows, IsBefore}
-use Rattle.ciborium_value.proofs.Dictionaries.{IsInsideMap}
+use Rattle.ciborium_value.proofs.Sources.Sequences.{Follows, IsBefore}
+use Rattle.ciborium_value.proofs.Sources.Dictionaries.{IsInsideMap}
 use Rattle.ciborium_value.proofs.deserialize.maps.BTreeMapDeserialize.deserialize.Given as goal
 
 -- the pairs that were read are put in, and the others are left

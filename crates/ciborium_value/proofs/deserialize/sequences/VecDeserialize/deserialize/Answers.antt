@@ -3,8 +3,8 @@ use Rattle.std.proofs.Common.{arith, map, [], ◌∷◌, sym, ap, ◌∙◌, sub
 use Rattle.std.proofs.lemmas.List.{map-append}
 use Rattle.ciborium_value.specs.Sources.{Refuses}
 use Rattle.ciborium_value.specs.TakenParts.{taken_list}
-use Rattle.ciborium_value.proofs.Progress.{exits}
-use Rattle.ciborium_value.proofs.Sequences.{so, Follows, IsBefore, IsInside, takes, blames, blames_next, list_from, list_begins, list_more, list_blames, list_ends, owed_more, owed_all}
+use Rattle.ciborium_value.proofs.Writing.Progress.{exits}
+use Rattle.ciborium_value.proofs.Sources.Sequences.{so, Follows, IsBefore, IsInside, takes, blames, blames_next, list_from, list_begins, list_more, list_blames, list_ends, owed_more, owed_all}
 use Rattle.ciborium_value.proofs.deserialize.sequences.VecDeserialize.deserialize.Goals as goal
 
 pub loop-values-init : goal.loop-values-init

@@ -2,7 +2,7 @@ use Rattle.std.proofs.Common.{◌+◌, ◌<◌, map}
 use Rattle.ciborium_value.specs.Places.{sequence}
 use Rattle.ciborium_value.specs.Sources.{TakesTo, TakesOnly}
 use Rattle.ciborium_value.specs.TakenParts.{taken_list}
-use Rattle.ciborium_value.proofs.Sequences.{Follows, IsBefore, IsInside, list_from}
+use Rattle.ciborium_value.proofs.Sources.Sequences.{Follows, IsBefore, IsInside, list_from}
 use Rattle.ciborium_value.proofs.deserialize.sequences.VecDeserialize.deserialize.Given as goal
 
 -- the items that were read are the first, and the others are left

@@ -3,7 +3,7 @@ use Rattle.std.proofs.Common.{List, [], ◌∷◌, Some, refl}
 use Rattle.std.proofs.lemmas.Result.{on_err_weaker}
 use Rattle.ciborium_value.specs.Places.{sequence}
 use Rattle.ciborium_value.specs.Sinks.{Named}
-use Rattle.ciborium_value.proofs.Progress.{on_err, owes_begin, owes_broken_begin, owes_more, owes_broken, owes_broken_end}
+use Rattle.ciborium_value.proofs.Writing.Progress.{on_err, owes_begin, owes_broken_begin, owes_more, owes_broken, owes_broken_end}
 use Rattle.ciborium_value.proofs.serialize.containers.Tuple3Serialize.serialize.Goals as goal
 
 pub returns-in_err-begin_array-clause-err : goal.returns-in_err-begin_array-clause-err

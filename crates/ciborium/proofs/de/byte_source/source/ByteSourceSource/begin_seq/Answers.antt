@@ -1,8 +1,8 @@
-use Rattle.ciborium.proofs.EnteredContainers.{enters}
+use Rattle.ciborium.proofs.Containers.EnteredContainers.{enters}
 use Rattle.ciborium_value.specs.Taken.{taken_seq}
-use Rattle.ciborium.specs.ByteSources.{cause_of}
-use Rattle.ciborium.proofs.ByteItems.{refuses-denied}
-use Rattle.ciborium.proofs.HandedReaders.{err-map}
+use Rattle.ciborium.specs.Errors.{cause_of}
+use Rattle.ciborium.proofs.Containers.ByteItems.{refuses-denied}
+use Rattle.ciborium.proofs.Readers.HandedReaders.{err-map}
 use Rattle.ciborium.proofs.de.byte_source.source.ByteSourceSource.begin_seq.Goals as goal
 
 pub returns-clause-ok : goal.returns-clause-ok

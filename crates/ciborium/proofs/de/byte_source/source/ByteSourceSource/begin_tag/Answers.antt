@@ -1,10 +1,10 @@
 use Rattle.std.proofs.Common.{Some}
-use Rattle.ciborium.proofs.Due.{with-ok}
+use Rattle.ciborium.proofs.Items.Due.{with-ok}
 use Rattle.ciborium_value.specs.Taken.{taken_outer_tag}
-use Rattle.ciborium.proofs.HeldLevels.{completes-opened, holds-opened, ok-map-two, on-ok-so}
-use Rattle.ciborium.specs.ByteSources.{cause_of}
-use Rattle.ciborium.proofs.ByteItems.{refuses-denied}
-use Rattle.ciborium.proofs.HandedReaders.{err-map}
+use Rattle.ciborium.proofs.Containers.HeldLevels.{completes-opened, holds-opened, ok-map-two, on-ok-so}
+use Rattle.ciborium.specs.Errors.{cause_of}
+use Rattle.ciborium.proofs.Containers.ByteItems.{refuses-denied}
+use Rattle.ciborium.proofs.Readers.HandedReaders.{err-map}
 use Rattle.ciborium.proofs.de.byte_source.source.ByteSourceSource.begin_tag.Goals as goal
 
 pub returns-clause-ok : goal.returns-clause-ok

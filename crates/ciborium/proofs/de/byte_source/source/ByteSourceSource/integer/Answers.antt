@@ -1,7 +1,7 @@
 use Rattle.ciborium_value.specs.Taken.{taken_integer}
-use Rattle.ciborium.proofs.ByteItems.{takes-read, refuses-denied}
+use Rattle.ciborium.proofs.Containers.ByteItems.{takes-read, refuses-denied}
 use Rattle.std.proofs.lemmas.Result.{err_from_is_err_and}
-use Rattle.ciborium.specs.ByteSources.{cause_of}
+use Rattle.ciborium.specs.Errors.{cause_of}
 use Rattle.ciborium.proofs.de.byte_source.source.ByteSourceSource.integer.Goals as goal
 
 pub returns-clause-ok : goal.returns-clause-ok

@@ -1,9 +1,9 @@
 use Rattle.std.proofs.Common.{string_bytes}
-use Rattle.ciborium.proofs.Due.{on-both}
+use Rattle.ciborium.proofs.Items.Due.{on-both}
 use Rattle.ciborium_value.specs.Taken.{taken_name}
-use Rattle.ciborium.proofs.ByteItems.{ok-map, takes-read, refuses-denied}
-use Rattle.ciborium.specs.ByteSources.{cause_of}
-use Rattle.ciborium.proofs.HandedReaders.{err-map}
+use Rattle.ciborium.proofs.Containers.ByteItems.{ok-map, takes-read, refuses-denied}
+use Rattle.ciborium.specs.Errors.{cause_of}
+use Rattle.ciborium.proofs.Readers.HandedReaders.{err-map}
 use Rattle.ciborium.proofs.de.byte_source.source.ByteSourceSource.name.Goals as goal
 
 pub returns-clause-ok : goal.returns-clause-ok

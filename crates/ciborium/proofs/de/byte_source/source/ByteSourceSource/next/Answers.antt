@@ -1,6 +1,6 @@
 -- What is read ahead changes no answer.
-use Rattle.ciborium.specs.ByteSources.{cause_of}
-use Rattle.ciborium.proofs.NextParts.{still-next, still-refused}
+use Rattle.ciborium.specs.Errors.{cause_of}
+use Rattle.ciborium.proofs.Containers.NextParts.{still-next, still-refused}
 use Rattle.ciborium.proofs.de.byte_source.source.ByteSourceSource.next.Goals as goal
 
 pub returns-clause-ok : goal.returns-clause-ok

@@ -2,10 +2,11 @@ use Rattle.std.proofs.Common.{◌≡◌, ◌∙◌, ◌++◌, ◌+◌, ◌≤◌
 use Rattle.std.proofs.lemmas.Result.{err_from_is_err_and}
 use Rattle.ciborium_ll.specs.Header.{SpellsHeader}
 use Rattle.ciborium_ll.specs.declared.header.Header.TheVariants as header
-use Rattle.ciborium.specs.ByteSources.{CountsHead, IsUnread, IsUnreadBy, cause_of, bytes_weight, weight, weight_left}
-use Rattle.ciborium.specs.ItemReads.{TakesHead}
-use Rattle.ciborium.proofs.NextParts.{aside-unread}
-use Rattle.ciborium.proofs.NullAhead.{null-other, null-simple, refuses-to-tell, takes-nothing, tells}
+use Rattle.ciborium.specs.inner.ByteSources.{CountsHead, IsUnread, IsUnreadBy, bytes_weight, weight, weight_left}
+use Rattle.ciborium.specs.Errors.{cause_of}
+use Rattle.ciborium.specs.inner.FrontItems.{TakesHead}
+use Rattle.ciborium.proofs.Containers.NextParts.{aside-unread}
+use Rattle.ciborium.proofs.Containers.NullAhead.{null-other, null-simple, refuses-to-tell, takes-nothing, tells}
 use Rattle.ciborium.proofs.de.byte_source.source.ByteSourceSource.null_ahead.Goals as goal
 
 pub returns-in_err-header-clause-refused : goal.returns-in_err-header-clause-refused

@@ -1,6 +1,6 @@
 use Rattle.std.proofs.Common.{◌≡◌, ap, ◌∙◌}
 use Rattle.ciborium_value.specs.CanonicalValues.{bytewise_value_cmp}
-use Rattle.ciborium.proofs.CanonicalValues.{bytewise_value_cmp-is}
+use Rattle.ciborium.proofs.Encodings.CanonicalValues.{bytewise_value_cmp-is}
 use Rattle.ciborium.proofs.value.canonical.bytewise.BytewiseValueOrd.cmp.Goals as goal
 
 pub returns-clause-gives : goal.returns-clause-gives

@@ -1,0 +1,7 @@
+-- Containers, tags and variants that are entered, and their parts.
+pub mod EnteredContainers
+pub mod NextParts
+pub mod NullAhead
+pub mod HeldLevels
+pub mod NamedVariants
+pub mod ByteItems

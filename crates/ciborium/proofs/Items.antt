@@ -1,0 +1,11 @@
+-- What a source over bytes takes of the item ahead.
+pub mod ItemHeads
+pub mod SkippedTags
+pub mod BareScalars
+pub mod FrontReads
+pub mod TakenOnly
+pub mod Due
+pub mod ValuesGiven
+pub mod ValueFaults
+pub mod WholeValues
+pub mod TagsJudged

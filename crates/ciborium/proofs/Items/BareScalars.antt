@@ -1,0 +1,111 @@
+-- Numbers, booleans and null behind skipped tags.
+use Rattle.std.proofs.Common.{◌≡◌, ℕ, Bool, true, false, List, None, refl, sym, ap, ◌∙◌, subst, ◌==◌, arith}
+use Rattle.std.proofs.lemmas.Bool.Decides.{nat_tests}
+use Rattle.ciborium_ll.specs.declared.header.Header.{Header}
+use Rattle.ciborium_ll.specs.declared.header.Header.TheVariants as header
+use Rattle.ciborium_ll.specs.Item as items
+use Rattle.ciborium_ll.specs.Item.{Item, unsigned, negative, bytes, text, array, tag, simple, float}
+use Rattle.ciborium_value.specs.Meaning.{is_bignum_tag}
+use Rattle.ciborium_value.specs.Nesting.{Limit}
+use Rattle.ciborium_value.specs.Sources.{Fault, IsFaultOf, of_kind, of_nesting, of_syntax, of_memory, of_device, of_length}
+use Rattle.ciborium_value.specs.Taken.{gives, refuses, untagged, number_of, bignum_of, bare_boolean, bare_unit, boolean_of, is_null_simple, taken_bignum, taken_boolean, taken_integer, taken_unit}
+use Rattle.ciborium_value.specs.declared.kind.Kind.TheVariants as kinds
+use Rattle.ciborium.specs.inner.FrontItems.{Reads, Denies}
+use Rattle.ciborium.specs.inner.Skips.{under, AreSkipped, IsBare, TakesBare}
+use Rattle.ciborium.proofs.Items.ItemHeads.{header_of, tag-front}
+use Rattle.ciborium.proofs.Items.SkippedTags.{ReadsBehind, number-under, untagged-under}
+
+-- ---- integers
+
+pub integer-gives : (l : Limit) (i : Item) (v : Bool × ℕ) → number_of i ≡ gives v → (ts : List ℕ) → AreSkipped true ts → taken_integer l (under ts i) ≡ gives v
+integer-gives l i v e ts all = number-under ts i all ∙ e
+
+signed : (t n : ℕ) (i : Item) → is_bignum_tag t ≡ true → bignum_of i ≡ gives n → number_of (tag t i) ≡ gives (t == 3, n)
+signed t n i e f = rw (e, f) refl
+
+signed-fault : (end t : ℕ) (i : Item) (fault : Fault) → is_bignum_tag t ≡ true → IsFaultOf end fault (bignum_of i) → IsFaultOf end fault (number_of (tag t i))
+signed-fault end t i (of_kind k) e b = rw (e, b) refl
+signed-fault end t i of_nesting e b = rw (e, b) refl
+signed-fault end t i of_syntax e b = absurd b
+signed-fault end t i of_memory e b = tt
+signed-fault end t i of_device e b = tt
+signed-fault end t i of_length e b = b
+
+module _ {S : Type 0} (IsUnread : S → List ℕ → Type 0) (t : ℕ) (l : Limit) (is : is_bignum_tag t ≡ true) where
+  pub bignum-behind : (mid new : S) (n : ℕ) → Reads IsUnread mid new None taken_bignum n → (y : List ℕ) → IsUnread mid y → ReadsBehind IsUnread new true (header.Tag t) l taken_integer (t == 3, n) y
+  bignum-behind mid new n r y un =
+      let (i, s, z, sp, e, give, un') = r y un in
+      (tag t i, s, z, λ x hd. (x, s, hd, sp, refl), e, integer-gives l (tag t i) (t == 3, n) (signed t n i is give), un')
+
+  -- a bignum that is refused behind its tag
+  pub bignum-denied : (End : S → ℕ) (old mid : S) (fault : Fault) → ((b : List ℕ) → IsUnread old b → End mid ≡ End old) → TakesBare IsUnread old mid true (header.Tag t) → Denies IsUnread End mid None taken_bignum fault → Denies IsUnread End old l taken_integer fault
+  bignum-denied End old mid fault same bare d b s z j u sp e =
+      let (ts, w, x, y, tagged, all, hd, f, un) = bare b u in
+      let (i, r, io, sq, g) = tagged.inward j s z sp e in
+      let (k, c, ik, sr, q) = tag-front r z x y i t sq hd (sym g ∙ f) in
+      let blamed : IsFaultOf (End old) fault (number_of (tag t k)) = subst (λ n. IsFaultOf n fault (number_of (tag t k))) (same b u) (signed-fault _ t k fault is (d y c z k un sr q)) in
+      subst (λ o. IsFaultOf (End old) fault o) (sym (ap number_of (io ∙ ap (under ts) ik) ∙ number-under ts (tag t k) all)) blamed
+
+other-integer : (i : Item) (h : Header) → header_of i ≡ h → ((n : ℕ) → h ≡ header.Positive n → ⊥) → ((n : ℕ) → h ≡ header.Negative n → ⊥) → ((n : ℕ) → h ≡ header.Tag n → ⊥) → number_of i ≡ refuses kinds.Integer
+other-integer (unsigned n) h e p q r = absurd (p n (sym e))
+other-integer (negative n) h e p q r = absurd (q n (sym e))
+other-integer (bytes o b) h e p q r = refl
+other-integer (text o b) h e p q r = refl
+other-integer (array o b) h e p q r = refl
+other-integer (items.map o b) h e p q r = refl
+other-integer (tag t i) h e p q r = absurd (r t (sym e))
+other-integer (simple n) h e p q r = refl
+other-integer (float raw) h e p q r = refl
+
+pub integer-other : (l : Limit) (h : Header) → ((n : ℕ) → h ≡ header.Positive n → ⊥) → ((n : ℕ) → h ≡ header.Negative n → ⊥) → ((n : ℕ) → h ≡ header.Tag n → ⊥) →
+    (ts : List ℕ) (i : Item) → AreSkipped true ts → header_of i ≡ h → taken_integer l (under ts i) ≡ refuses kinds.Integer
+integer-other l h p q r ts i all e = number-under ts i all ∙ other-integer i h e p q r
+
+-- ---- booleans
+
+pub boolean-gives : (l : Limit) (n : ℕ) (v : Bool) → boolean_of n ≡ gives v → (ts : List ℕ) → AreSkipped false ts → taken_boolean l (under ts (simple n)) ≡ gives v
+boolean-gives l n v e ts all = ap bare_boolean (untagged-under ts (simple n)) ∙ e
+
+other-boolean : (i : Item) (h : Header) → header_of i ≡ h → IsBare false h → ((n : ℕ) → h ≡ header.Simple n → boolean_of n ≡ refuses kinds.Bool) → bare_boolean (untagged i) ≡ refuses kinds.Bool
+other-boolean (unsigned n) h e bare nope = refl
+other-boolean (negative n) h e bare nope = refl
+other-boolean (bytes o b) h e bare nope = refl
+other-boolean (text o b) h e bare nope = refl
+other-boolean (array o b) h e bare nope = refl
+other-boolean (items.map o b) h e bare nope = refl
+other-boolean (tag t i) h e bare nope = let s : IsBare false (header.Tag t) = subst (IsBare false) (sym e) bare in absurd (let k = s.0 in cc)
+other-boolean (simple n) h e bare nope = nope n (sym e)
+other-boolean (float raw) h e bare nope = refl
+
+pub boolean-other : (l : Limit) (h : Header) → IsBare false h → ((n : ℕ) → h ≡ header.Simple n → boolean_of n ≡ refuses kinds.Bool) →
+    (ts : List ℕ) (i : Item) → AreSkipped false ts → header_of i ≡ h → taken_boolean l (under ts i) ≡ refuses kinds.Bool
+boolean-other l h bare nope ts i all e = ap bare_boolean (untagged-under ts i) ∙ other-boolean i h e bare nope
+
+pub boolean-none : (h : Header) (m : ℕ) → h ≡ header.Simple m → (m ≡ 20 → ⊥) → (m ≡ 21 → ⊥) → (n : ℕ) → h ≡ header.Simple n → boolean_of n ≡ refuses kinds.Bool
+boolean-none h m e p q n f = let s : m ≡ n = cc in subst (λ k. boolean_of k ≡ refuses kinds.Bool) s (by m p q)
+  where
+    by : (m : ℕ) → (m ≡ 20 → ⊥) → (m ≡ 21 → ⊥) → boolean_of m ≡ refuses kinds.Bool
+    by m p q = grind (arith, nat_tests)
+
+-- ---- null
+
+pub unit-gives : (l : Limit) (n : ℕ) → is_null_simple n ≡ true → (ts : List ℕ) → AreSkipped false ts → taken_unit l (under ts (simple n)) ≡ gives tt
+unit-gives l n e ts all = ap bare_unit (untagged-under ts (simple n)) ∙ rw e refl
+
+other-unit : (i : Item) (h : Header) → header_of i ≡ h → IsBare false h → ((n : ℕ) → h ≡ header.Simple n → is_null_simple n ≡ false) → bare_unit (untagged i) ≡ refuses kinds.Unit
+other-unit (unsigned n) h e bare nope = refl
+other-unit (negative n) h e bare nope = refl
+other-unit (bytes o b) h e bare nope = refl
+other-unit (text o b) h e bare nope = refl
+other-unit (array o b) h e bare nope = refl
+other-unit (items.map o b) h e bare nope = refl
+other-unit (tag t i) h e bare nope = let s : IsBare false (header.Tag t) = subst (IsBare false) (sym e) bare in absurd (let k = s.0 in cc)
+other-unit (simple n) h e bare nope = let k = nope n (sym e) in rw k refl
+other-unit (float raw) h e bare nope = refl
+
+pub unit-other : (l : Limit) (h : Header) → IsBare false h → ((n : ℕ) → h ≡ header.Simple n → is_null_simple n ≡ false) →
+    (ts : List ℕ) (i : Item) → AreSkipped false ts → header_of i ≡ h → taken_unit l (under ts i) ≡ refuses kinds.Unit
+unit-other l h bare nope ts i all e = ap bare_unit (untagged-under ts i) ∙ other-unit i h e bare nope
+
+pub unit-none : (h : Header) (m : ℕ) → h ≡ header.Simple m → is_null_simple m ≡ false → (n : ℕ) → h ≡ header.Simple n → is_null_simple n ≡ false
+unit-none h m e p n f = let s : m ≡ n = cc in subst (λ k. is_null_simple k ≡ false) s p

@@ -1,0 +1,6 @@
+-- What calls put out one after the other.
+pub mod WritingSteps
+pub mod WrittenPlaces
+pub mod ByteSinks
+pub mod ArrayItems
+pub mod WrittenSequences

@@ -1,0 +1,77 @@
+-- What reading a value of any type answers, from bytes and from a tree.
+use Rattle.std.specs.Prelude.{◌≡◌, ℕ, ◌+◌, List, ◌++◌, length, Option, Some, None, Result, Ok, Err, IfOk, IfErr}
+use Rattle.std.specs.Io.KnownBytes.{Consumes}
+use Rattle.std.specs.declared.io.Error.{Error as IoError}
+use Rattle.ciborium_ll.specs.Item.{Item}
+use Rattle.ciborium_ll.specs.Spells.{Spells}
+use Rattle.ciborium_value.specs.Encoding.{encoding, item_of}
+use Rattle.ciborium_value.specs.Nesting.{Limit}
+use Rattle.ciborium_value.specs.ProperTrees.{IsProperTree}
+use Rattle.ciborium_value.specs.Sources.{Fault, of_kind, of_nesting, of_syntax, of_memory, of_device, of_length, IsFaultOf}
+use Rattle.ciborium_value.specs.Taken.{gives, Taken}
+use Rattle.ciborium_value.specs.Tree.{Tree}
+use Rattle.ciborium_value.specs.TreeAnswers.{IsErrorOf}
+use Rattle.ciborium_value.specs.declared.kind.Kind.{Kind}
+use Rattle.ciborium_value.specs.declared.serialized.Error.{Error as TreeError}
+use Rattle.ciborium_value.specs.declared.serialized.Error.TheVariants as of_tree
+use Rattle.ciborium.specs.Errors.{cause_of}
+use Rattle.ciborium.specs.declared.de.error.Error.{Error}
+
+-- ---- from bytes: what the reader held before, what it is left with, and the answer
+
+-- an item stood at the front that gives v within the limit, and just that item was taken
+abbrev pub TakesGiving : {A : Type 0} → Limit → Taken A → List ℕ → A → Option (List ℕ) → Type 0
+TakesGiving l taken b v after = (i : Item) × (s : List ℕ) × (left : List ℕ) × Spells s i × (b ≡ s ++ left) × (taken l i ≡ gives v) × (after ≡ Some left)
+
+-- where an item stands at the front, and what is there ends at this offset, it is refused so, or for what no item decides
+abbrev pub IsFaultAhead : {A : Type 0} → ℕ → Limit → Taken A → List ℕ → Fault → Type 0
+IsFaultAhead end l taken b fault = (i : Item) (s left : List ℕ) → Spells s i → b ≡ s ++ left → IsFaultOf end fault (taken l i)
+
+-- at Ok just an item was taken, and the answer is what it gives
+abbrev pub TakesGiven : {A E : Type 0} → Limit → Taken A → Option (List ℕ) → Option (List ℕ) → Result A (Error E) → Type 0
+TakesGiven l taken before after r = (b : List ℕ) → before ≡ Some b → IfOk r (λ v. TakesGiving l taken b v after)
+
+-- an item at the front, at offset p, is refused only as it is: as too long only where what is there passes the greatest offset
+abbrev pub RefusesTaken : {A E : Type 0} → ℕ → Limit → Taken A → Option (List ℕ) → Result A (Error E) → Type 0
+RefusesTaken p l taken before r = (b : List ℕ) → before ≡ Some b → IfErr r (λ e. IsFaultAhead (p + length b) l taken b (cause_of e))
+
+-- some bytes were taken, a beginning of those that are known, and nothing else
+abbrev pub TakesBeginning : Option (List ℕ) → Option (List ℕ) → Type 0
+TakesBeginning before after = (b : List ℕ) × Consumes before after b
+
+-- ---- from both
+
+-- the answer of a source over a tree whose item is i, where there is no limit
+abbrev pub AnswersTree : {A : Type 0} → Taken A → Item → Result A TreeError → Type 0
+AnswersTree taken i (Ok v) = taken None i ≡ gives v
+AnswersTree taken i (Err e) = IsErrorOf e (taken None i)
+
+-- the answer of a reader over these bytes within a limit
+abbrev pub AnswersBytes : {A E : Type 0} → Taken A → ℕ → List ℕ → Option (List ℕ) → Result A (Error E) → Type 0
+AnswersBytes taken l b after r = TakesGiven (Some l) taken (Some b) after r × RefusesTaken 0 (Some l) taken (Some b) r
+
+-- refused for nesting, for want of memory, as too long or by the device
+abbrev pub IsExcused : Fault → Type 0
+IsExcused (of_kind k) = ⊥
+IsExcused of_syntax = ⊥
+IsExcused _ = Unit {0}
+
+-- refused with this kind, or excused
+abbrev pub IsSameKind : Kind → Fault → Type 0
+IsSameKind k (of_kind j) = j ≡ k
+IsSameKind k of_syntax = ⊥
+IsSameKind k _ = Unit {0}
+
+-- the same value, or both are refused with the same kind; the second may be refused for nesting, and either for want of memory
+abbrev pub AreOneAnswer : {A E : Type 0} → Result A TreeError → Result A (Error E) → Type 0
+AreOneAnswer (Ok v) (Ok w) = v ≡ w
+AreOneAnswer (Ok v) (Err e) = IsExcused (cause_of e)
+AreOneAnswer (Err (of_tree.Custom k)) (Ok w) = ⊥
+AreOneAnswer (Err (of_tree.Custom k)) (Err e) = IsSameKind k (cause_of e)
+AreOneAnswer (Err of_tree.Memory) r = Unit {0}
+
+-- what a tree gives, and what its encoding gives within a limit, are one answer
+abbrev pub SourcesAgree : {A : Type 0} → Taken A → Type 0
+SourcesAgree {A} taken =
+    (v : Tree) (l : ℕ) (after : Option (List ℕ)) (r : Result A TreeError) (q : Result A (Error IoError)) →
+    IsProperTree v → AnswersTree taken (item_of v) r → AnswersBytes taken l (encoding v) after q → AreOneAnswer r q

@@ -1,0 +1,11 @@
+-- What only clauses of functions that no user calls rest on.
+pub mod Around
+pub mod Due
+pub mod FrontItems
+pub mod Parts
+pub mod ValuesInBytes
+pub mod Skips
+pub mod StringContents
+pub mod StringAnswers
+pub mod Unread
+pub mod ByteSources

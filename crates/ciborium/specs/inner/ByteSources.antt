@@ -1,0 +1,249 @@
+-- Where a source over bytes stands.
+use Rattle.std.specs.Prelude.{◌≡◌, ℕ, ◌+◌, ◌*◌, ◌-◌, ◌≤◌, List, ◌++◌, length, map, Option, Some, None, Bool, true, false, Result}
+use Rattle.std.specs.Borrow.{GName}
+use Rattle.std.specs.Vec.Iter.{into_iter_items}
+use Rattle.ciborium_ll.specs.declared.header.Header.{Header}
+use Rattle.ciborium_ll.specs.declared.header.Header.TheVariants as header
+use Rattle.ciborium_ll.specs.declared.decoder.Decoder.{Decoder}
+use Rattle.ciborium_ll.specs.Bytes.{greatest_offset}
+use Rattle.ciborium_ll.specs.Decoding.{IsAheadBy, Takes, TakesBeforeAny, allowed_of, left_of}
+use Rattle.ciborium_ll.specs.Header.{SpellsHeader}
+use Rattle.ciborium_ll.specs.Item.{Item, unsigned}
+use Rattle.ciborium_ll.specs.Refusal.{IsUsable}
+use Rattle.ciborium_ll.specs.Spells.{Spells}
+use Rattle.ciborium_value.specs.Ahead.{Ahead, Rest, Form, counted, until_break, bottom, parts, pairs, entry, held, item, after, of_bytes, past, inside, end_of}
+use Rattle.ciborium_value.specs.Meaning.{meaning}
+use Rattle.ciborium_value.specs.Nesting.{Limit, nesting}
+use Rattle.ciborium_value.specs.Places.{Shape, sequence, dictionary}
+use Rattle.ciborium_value.specs.Sources.{Fault, HasItem, IsFaultOf}
+use Rattle.ciborium_value.specs.Taken.{Outcome, Taken, gives, is_null_simple}
+use Rattle.ciborium_value.specs.Tree.{Tree}
+use Rattle.ciborium.specs.declared.de.error.Error.{Error}
+use Rattle.ciborium.specs.declared.de.byte_source.ByteSource.{ByteSource}
+use Rattle.ciborium.specs.declared.de.byte_source.ByteLevel.{ByteLevel}
+use Rattle.ciborium.specs.declared.de.byte_source.ByteSeq.{ByteSeq}
+use Rattle.ciborium.specs.declared.de.byte_source.Left.{Left}
+use Rattle.ciborium.specs.declared.de.byte_source.Left.TheVariants as left
+use Rattle.ciborium.specs.ValueAnswers.{IsTreeRead}
+use Rattle.ciborium.specs.inner.Due.{LeavesReader}
+use Rattle.ciborium.specs.inner.Skips.{Opens}
+use Rattle.ciborium.specs.Spelling.{any}
+use Rattle.ciborium.specs.inner.Unread.{SpellsPair, AreSpelled, Fits, ending, form_of, HasCount}
+
+-- ---- what is unread
+
+-- a head that means the same wherever it stands: it can be handed out where it is not in the bytes
+abbrev pub is_portable : Header → Bool
+is_portable (header.Positive n) = true
+is_portable (header.Simple n) = is_null_simple n
+is_portable _ = false
+
+-- the head with this spelling, at the front of b, was pulled: it is usable, and its bytes are counted
+abbrev pub IsHeadCounted : {S : Type 0} → Decoder S → Header × ℕ → List ℕ → List ℕ → Type 0
+IsHeadCounted d h b x = is_portable h.0 ≡ false → IsUsable b h.1 × (d.window.count ≡ h.1 + length x)
+
+-- b is unread, the spelling of a head that is pending included
+abbrev pub IsUnreadBy : {S : Type 0} → (S → Option (List ℕ)) → Decoder S → Option (Header × ℕ) → List ℕ → Type 0
+IsUnreadBy remaining d None b = left_of remaining d ≡ Some b
+IsUnreadBy remaining d (Some h) b = (x : List ℕ) × (y : List ℕ) × SpellsHeader x h.0 × (b ≡ x ++ y) × (left_of remaining d ≡ Some y) × IsHeadCounted d h b x
+
+abbrev pub IsUnread : {S : Type 0} → (S → Option (List ℕ)) → ByteSource S → List ℕ → Type 0
+IsUnread remaining s b = IsUnreadBy remaining s.decoder s.pending b
+
+-- the head that was taken from the front of what was unread is counted
+abbrev pub CountsHead : {S : Type 0} → (ByteSource S → List ℕ → Type 0) → ByteSource S → ByteSource S → Header × ℕ → Type 0
+CountsHead IsUnread old new h = (b x y : List ℕ) → IsUnread old b → SpellsHeader x h.0 → b ≡ x ++ y → IsHeadCounted new.decoder h b x
+
+-- ---- what was taken
+
+-- since the first state a beginning of what was unread was taken and counted, and nothing else
+unfoldable pub HasTaken : {S : Type 0} → (S → Option (List ℕ)) → Decoder S → Decoder S → Type 0
+HasTaken remaining first d = (d.reader.ghost_name ≡ first.reader.ghost_name) × Takes remaining first d (λ _. Unit {0})
+
+abbrev pub HasTakenSince : {S : Type 0} → (S → Option (List ℕ)) → ByteSource S → ByteSource S → Type 0
+HasTakenSince remaining first s = HasTaken remaining first.decoder s.decoder
+
+-- ---- where it stands
+
+-- the offset at which what is left ends, where it is known, of which so many bytes were counted
+abbrev pub known_end : Option (List ℕ) → ℕ → ℕ
+known_end None n = n
+known_end (Some b) n = n + length b
+
+-- the reader, by name, and where what is there ends
+abbrev pub reader_of : {S : Type 0} → (S → Option (List ℕ)) → Decoder S → GName × ℕ
+reader_of remaining d = (d.reader.ghost_name, known_end (left_of remaining d) d.window.count)
+
+abbrev pub end_at : {S : Type 0} → (S → Option (List ℕ)) → ByteSource S → ℕ
+end_at remaining s = (reader_of remaining s.decoder).1
+
+-- behind an item no head is pending
+abbrev pub HasNoneBehind : Option (Header × ℕ) → Ahead → Type 0
+HasNoneBehind pending (item i f) = Unit {0}
+HasNoneBehind pending (after f) = pending ≡ None
+
+-- ---- how much may be read ahead
+
+-- how many of n parts are still due in the bytes: those of a byte string were read with it
+abbrev pub due_parts : Form → ℕ → ℕ
+due_parts counted n = n
+due_parts until_break n = n
+due_parts of_bytes n = 0
+
+-- how many items are due behind an item, at least: of the pairs of a map the keys
+abbrev pub due_after : Rest → ℕ
+due_after (bottom name b) = 0
+due_after (parts form is f) = due_parts form (length is) + due_after f
+due_after (pairs form ps f) = due_parts form (length ps) + due_after f
+due_after (entry v form ps f) = 1 + (due_parts form (length ps) + due_after f)
+due_after (held f) = due_after f
+
+-- the same with the item that is ahead
+abbrev pub due : Ahead → ℕ
+due (item i f) = 1 + due_after f
+due (after f) = due_after f
+
+-- the head of the item that is ahead, where it was taken
+abbrev pub pending_count : Option (Header × ℕ) → ℕ
+pending_count None = 0
+pending_count (Some h) = 1
+
+-- each byte that may be read ahead is one of an item that is due, whose head was not taken
+abbrev pub HoldsDue : {S : Type 0} → ByteSource S → Ahead → Type 0
+HoldsDue s a = allowed_of s.decoder + pending_count s.pending ≤ due a
+
+abbrev pub StandsBefore : {S : Type 0} → (S → Option (List ℕ)) → ByteSource S → Limit → Ahead → Type 0
+StandsBefore remaining s l a = (b : List ℕ) × IsUnread remaining s b × Fits (reader_of remaining s.decoder) b a × (l ≡ Some s.levels) × HasNoneBehind s.pending a × HoldsDue s a
+
+-- what is left of a container with this count (None: open)
+abbrev pub parts_left : Option ℕ → Left
+parts_left (Some n) = left.Counted n
+parts_left None = left.Open
+
+-- so many parts are left, or any number up to a break
+abbrev pub HoldsParts : {X : Type 0} → Option ℕ → Form → List X → Type 0
+HoldsParts count form xs = (form ≡ form_of count) × HasCount count xs
+
+-- what is left of a sequence is these items
+abbrev pub HoldsItems : Left → Form → List Item → Type 0
+HoldsItems (left.Counted n) form is = HoldsParts (Some n) form is
+HoldsItems left.Open form is = HoldsParts None form is
+HoldsItems (left.Bytes v) form is = (form ≡ of_bytes) × (map unsigned (into_iter_items v) ≡ is)
+
+-- what is left of a map is these pairs
+abbrev pub HoldsPairs : Left → Form → List (Item × Item) → Type 0
+HoldsPairs (left.Counted n) form ps = HoldsParts (Some n) form ps
+HoldsPairs left.Open form ps = HoldsParts None form ps
+HoldsPairs (left.Bytes v) form ps = ⊥
+
+abbrev pub HoldsRest : Left → Rest → Type 0
+HoldsRest q (bottom name b) = ⊥
+HoldsRest q (parts form is f) = HoldsItems q form is
+HoldsRest q (pairs form ps f) = HoldsPairs q form ps
+HoldsRest q (entry v form ps f) = ⊥
+HoldsRest q (held f) = ⊥
+
+abbrev pub SeqStands : ByteSeq → Limit → Rest → Type 0
+SeqStands q l f = (l ≡ Some q.levels) × HoldsRest q.left f
+
+-- the levels to give back behind the content of a tag or a variant
+abbrev pub LevelStands : ByteLevel → Limit → Rest → Type 0
+LevelStands level l f = l ≡ Some level.levels
+
+-- a level was taken, which this one gives back
+abbrev pub TakesLevel : {S : Type 0} → ByteSource S → ByteSource S → ByteLevel → Type 0
+TakesLevel old new level = (level.levels ≡ old.levels) × (old.levels ≡ new.levels + 1)
+
+-- as many parts are left for sure
+abbrev pub counted_parts : Left → ℕ
+counted_parts (left.Counted n) = n
+counted_parts left.Open = 0
+counted_parts (left.Bytes v) = 0
+
+-- behind a part of a container, of which q is left, it stands where it stood
+abbrev pub StandsStill : {S : Type 0} → (S → Option (List ℕ)) → ByteSource S → ByteSource S → ByteSeq → Type 0
+StandsStill remaining old new q =
+    ((l : Limit) (form : Form) (is : List Item) (f : Rest) → StandsBefore remaining old (inside form l) (after (parts form is f)) → SeqStands q l (parts form is f) → StandsBefore remaining new (inside form l) (after (parts form is f))) ×
+    ((l : Limit) (form : Form) (ps : List (Item × Item)) (f : Rest) → StandsBefore remaining old (inside form l) (after (pairs form ps f)) → SeqStands q l (pairs form ps f) → StandsBefore remaining new (inside form l) (after (pairs form ps f)))
+
+-- ---- what is owed
+
+-- b began a container, and so many parts complete it, with a break where one is due
+abbrev pub OwesParts : {X : Type 0} → (List ℕ → X → Type 0) → Option ℕ → List ℕ → List ℕ → Type 0
+OwesParts {X} SpellsPart count b u = (t z : List ℕ) (xs : List X) → AreSpelled SpellsPart t xs → HasCount count xs → u ≡ t ++ (ending (form_of count) ++ z) → HasItem b z
+
+-- b began a container of which this is left, and it is read up to u
+abbrev pub LeftOwes : Left → Shape → List ℕ → List ℕ → Type 0
+LeftOwes (left.Counted n) sequence b u = OwesParts Spells (Some n) b u
+LeftOwes (left.Counted n) dictionary b u = OwesParts SpellsPair (Some n) b u
+LeftOwes left.Open sequence b u = OwesParts Spells None b u
+LeftOwes left.Open dictionary b u = OwesParts SpellsPair None b u
+LeftOwes (left.Bytes v) sequence b u = HasItem b u
+LeftOwes (left.Bytes v) dictionary b u = ⊥
+
+abbrev pub Owes : ByteSeq → Shape → List ℕ → List ℕ → Type 0
+Owes q s b u = LeftOwes q.left s b u
+
+-- a sequence was entered
+abbrev pub OpensItems : {S A : Type 0} → (S → Option (List ℕ)) → ByteSource S → ByteSource S → Taken A → (Limit → List Item → Outcome A) → ByteSeq → Type 0
+OpensItems remaining old new taken f q = Opens (IsUnread remaining) (λ p. Owes p sequence) Spells (λ p. HoldsItems p.left) old new (Some old.levels) (Some new.levels) taken f q
+
+-- a map was entered
+abbrev pub OpensPairs : {S A : Type 0} → (S → Option (List ℕ)) → ByteSource S → ByteSource S → Taken A → (Limit → List (Item × Item) → Outcome A) → ByteSeq → Type 0
+OpensPairs remaining old new taken f q = Opens (IsUnread remaining) (λ p. Owes p dictionary) SpellsPair (λ p. HoldsPairs p.left) old new (Some old.levels) (Some new.levels) taken f q
+
+-- what is left of a sequence was read: f takes this from its items, and the source stands past it
+abbrev pub ReadsRest : {S A : Type 0} → (S → Option (List ℕ)) → ByteSource S → ByteSource S → ByteSeq → (Limit → List Item → Outcome A) → A → Type 0
+ReadsRest remaining old new q f v = (l : Limit) (form : Form) (is : List Item) (r : Rest) → StandsBefore remaining old (inside form l) (after (parts form is r)) → SeqStands q l (parts form is r) →
+    (f (inside form l) is ≡ gives v) × StandsBefore remaining new l (past r)
+
+-- it is refused only where the items that are left are, and for that
+abbrev pub RefusesRest : {S A : Type 0} → (S → Option (List ℕ)) → ByteSource S → ByteSeq → (Limit → List Item → Outcome A) → Fault → Type 0
+RefusesRest remaining old q f fault = (l : Limit) (form : Form) (is : List Item) (r : Rest) → StandsBefore remaining old (inside form l) (after (parts form is r)) → SeqStands q l (parts form is r) →
+    IsFaultOf (end_of r) fault (f (inside form l) is)
+
+-- ---- how much can still be read
+
+-- a head that can be handed out where it is not in the bytes weighs less than others
+abbrev pub weight : Header → ℕ
+weight (header.Positive n) = 1
+weight (header.Simple n) = 1
+weight _ = 2
+
+abbrev pub pending_weight : Option (Header × ℕ) → ℕ
+pending_weight None = 0
+pending_weight (Some h) = weight h.0
+
+abbrev pub bytes_weight : {S : Type 0} → ByteSource S → ℕ
+bytes_weight s = 3 * (greatest_offset - s.decoder.window.count)
+
+abbrev pub weight_left : {S : Type 0} → ByteSource S → ℕ
+weight_left s = bytes_weight s + pending_weight s.pending
+
+abbrev pub bytes_left : Left → ℕ
+bytes_left (left.Counted n) = 0
+bytes_left left.Open = 0
+bytes_left (left.Bytes v) = length (into_iter_items v)
+
+abbrev pub seq_left : ByteSeq → ℕ
+seq_left q = bytes_left q.left
+
+-- a byte string is left, with bytes of which P holds
+abbrev pub HasBytes : Left → (List ℕ → Type 0) → Type 0
+HasBytes (left.Counted n) P = ⊥
+HasBytes left.Open P = ⊥
+HasBytes (left.Bytes v) P = P (into_iter_items v)
+
+-- ---- why it refused
+
+-- ---- a value of any shape
+
+-- the head alone spells an item, which means this tree and takes no level
+abbrev pub StandsFor : Header → Tree → Type 0
+StandsFor h v = (s : List ℕ) → SpellsHeader s h → (i : Item) × Spells s i × (meaning i ≡ Some v) × (nesting i ≡ 0)
+
+-- the value ahead, the bytes of a head that was pending included, was read so, whatever follows the bytes that were taken
+abbrev pub ReadsValue : {S E : Type 0} → (S → Option (List ℕ)) → ByteSource S → ByteSource S → Result Tree (Error E) → Type 0
+ReadsValue remaining old new r =
+    LeavesReader old.decoder new.decoder r ×
+    TakesBeforeAny remaining old.decoder new.decoder (λ d e. (xs : List ℕ) (p : ℕ) → IsAheadBy Some d xs p old.pending → IsTreeRead any Some e old.levels xs p r)

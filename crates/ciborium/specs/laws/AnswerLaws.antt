@@ -1,0 +1,47 @@
+-- That known bytes and a limit leave one answer, whatever the scratch, the pieces in which the reader gives them, and the call.
+use Rattle.std.specs.Prelude.{◌≡◌, ℕ, ◌⊎◌, List, Option, Some, None, option_map, Result, Ok, Err}
+use Rattle.std.specs.declared.io.Error.{Error as IoError}
+use Rattle.ciborium_ll.specs.Bytes.{AreBytes}
+use Rattle.ciborium_ll.specs.Refusal as refusal
+use Rattle.ciborium_ll.specs.Refusal.{Refusal}
+use Rattle.ciborium_value.specs.declared.kind.Kind.{Kind}
+use Rattle.ciborium_value.specs.declared.tree.Value.{Value}
+use Rattle.ciborium_value.specs.Refuses.{Refuses}
+use Rattle.ciborium_value.specs.View.{tree_of}
+use Rattle.ciborium.specs.declared.de.error.Error.{Error}
+use Rattle.ciborium.specs.declared.de.error.Error.TheVariants.{Io, Syntax, Semantic, RecursionLimitExceeded, Memory, TooLong}
+use Rattle.ciborium.specs.ValueAnswers.{TakesValue, IsFailed}
+use Rattle.ciborium.specs.Errors.{IsRefusedBy, kind_of}
+use Rattle.ciborium.specs.Spelling.{any}
+
+-- what the clauses of a call say of its answer: b were the known bytes, within l levels, and this is left of them
+abbrev pub IsAnswer : List ℕ → ℕ → Option (List ℕ) → Result Value (Error IoError) → Type 0
+IsAnswer b l left (Ok v) = TakesValue any b l (tree_of v) left
+IsAnswer b l left (Err e) = IsRefusedBy left e (λ r. Refuses b 0 (Some l) r)
+
+-- the refusal of a kind at an offset
+abbrev pub semantic_of : Option ℕ → Kind → Option Refusal
+semantic_of (Some p) k = option_map (refusal.semantic p) (kind_of k)
+semantic_of None k = None
+
+-- the refusal that an error names: `Io` is one where the reader came to its end
+abbrev pub refusal_of : Error IoError → Option Refusal
+refusal_of (Io e) = Some refusal.io
+refusal_of (Syntax p) = Some (refusal.syntax p)
+refusal_of (Semantic p k) = semantic_of p k
+refusal_of RecursionLimitExceeded = Some refusal.recursion_limit_exceeded
+refusal_of Memory = None
+refusal_of TooLong = Some refusal.too_long
+
+-- two answers are alike, with what is left behind each: the same tree and the same bytes, or the same refusal; or a call failed
+abbrev pub AreAlike : Option (List ℕ) → Result Value (Error IoError) → Option (List ℕ) → Result Value (Error IoError) → Type 0
+AreAlike left (Ok v) right (Ok w) = (tree_of v ≡ tree_of w) × (left ≡ right)
+AreAlike left (Ok v) right (Err f) = IsFailed right f
+AreAlike left (Err e) right (Ok w) = IsFailed left e
+AreAlike left (Err e) right (Err f) = IsFailed left e ⊎ IsFailed right f ⊎ (refusal_of e ≡ refusal_of f)
+
+-- any two answers for the same bytes and limit are alike
+abbrev pub OneAnswer : Type 0
+OneAnswer =
+    (b : List ℕ) (l : ℕ) (left right : Option (List ℕ)) (x y : Result Value (Error IoError)) → AreBytes b → IsAnswer b l left x → IsAnswer b l right y →
+    AreAlike left x right y

@@ -1,0 +1,2 @@
+-- What only clauses of functions that no user calls rest on.
+pub mod Cursors

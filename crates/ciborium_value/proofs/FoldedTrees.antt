@@ -1,0 +1,6 @@
+-- Bignums, and the folding of them at every place of a tree.
+pub mod Folding
+pub mod FoldedCopies
+pub mod Bignums
+pub mod BigEndian
+pub mod NumberItems

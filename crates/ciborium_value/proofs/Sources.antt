@@ -1,0 +1,7 @@
+-- What is read of containers and of trees, part by part.
+pub mod Sequences
+pub mod Dictionaries
+pub mod NamedFields
+pub mod TreeReading
+pub mod TreeFaults
+pub mod TreeLevels

@@ -1,0 +1,80 @@
+-- The tree of a value, variant by variant and along its lists.
+use Rattle.std.proofs.Common.{◌≡◌, ◌∙◌, ℕ, suc, ◌≤◌, List, [], ◌∷◌, length, map, string_bytes, String, Vec, Box, Global, ℤ, Bool, rules, refl, ap, arith}
+use Rattle.ciborium_value.specs.Tree as trees
+use Rattle.ciborium_value.specs.Tree.{Tree, TreePairs, Trees, trees_count, tree_pairs_count}
+use Rattle.ciborium_value.specs.ProperTrees.{IsProperTree, AreProperTrees, AreProperTreePairs}
+use Rattle.ciborium_ll.specs.Bytes.{greatest_offset}
+use Rattle.ciborium_value.specs.View.{pair_trees, tree_of, trees_of, tree_pairs_of}
+use Rattle.ciborium_value.specs.declared.tree.Value as value
+use Rattle.ciborium_value.specs.declared.tree.Value.{Value, the_lemmas}
+
+-- ---- each variant
+
+pub tree_of-Integer : (z : ℤ) → tree_of (value.Integer z) ≡ trees.integer z
+tree_of-Integer z = search (rules, the_lemmas)
+
+pub tree_of-Bytes : (v : Vec ℕ Global) → tree_of (value.Bytes v) ≡ trees.bytes v.items
+tree_of-Bytes v = search (rules, the_lemmas)
+
+pub tree_of-Text : (s : String Global) → tree_of (value.Text s) ≡ trees.text (string_bytes s)
+tree_of-Text s = search (rules, the_lemmas)
+
+pub tree_of-Bool : (b : Bool) → tree_of (value.Bool b) ≡ trees.boolean b
+tree_of-Bool b = search (rules, the_lemmas)
+
+pub tree_of-Null : tree_of value.Null ≡ trees.null
+tree_of-Null = search (rules, the_lemmas)
+
+pub tree_of-Tag : (t : ℕ) (v : Box Value Global) → tree_of (value.Tag t v) ≡ trees.tag t (tree_of v.value)
+tree_of-Tag t v = search (rules, the_lemmas)
+
+pub tree_of-Array : (v : Vec Value Global) → tree_of (value.Array v) ≡ trees.array (trees_of v.items)
+tree_of-Array v = search (rules, the_lemmas)
+
+pub tree_of-Map : (v : Vec (Value × Value) Global) → tree_of (value.Map v) ≡ trees.map (tree_pairs_of v.items)
+tree_of-Map v = search (rules, the_lemmas)
+
+-- ---- lists
+
+pub trees_count-trees_of : (vs : List Value) → trees_count (trees_of vs) ≡ length vs
+trees_count-trees_of [] = refl
+trees_count-trees_of (v ∷ vs) = ap suc (trees_count-trees_of vs)
+
+pub tree_pairs_count-tree_pairs_of : (ps : List (Value × Value)) → tree_pairs_count (tree_pairs_of ps) ≡ length ps
+tree_pairs_count-tree_pairs_of [] = refl
+tree_pairs_count-tree_pairs_of (p ∷ ps) = ap suc (tree_pairs_count-tree_pairs_of ps)
+
+-- ---- proper trees: a walk over a value has this much to show at a list, since no `Vec` is longer than the greatest offset
+
+fits : {A : Type 0} (v : Vec A Global) → length v.items ≤ greatest_offset
+fits v = let ok = v.ok in let small = v.small in omega arith
+
+pub is_proper-Array : (v : Vec Value Global) → AreProperTrees (trees_of v.items) → IsProperTree (tree_of (value.Array v))
+is_proper-Array v each = rw (tree_of-Array v, trees_count-trees_of v.items) (fits v, each)
+
+pub is_proper-Map : (v : Vec (Value × Value) Global) → AreProperTreePairs (tree_pairs_of v.items) → IsProperTree (tree_of (value.Map v))
+is_proper-Map v each = rw (tree_of-Map v, tree_pairs_count-tree_pairs_of v.items) (fits v, each)
+
+-- ---- equal trees
+
+same-item : (v w : Tree) (vs ws : Trees) → trees.tree v vs ≡ trees.tree w ws → (v ≡ w) × (vs ≡ ws)
+same-item v w vs ws e = (cc, cc)
+
+same-pair : (k v l w : Tree) (ps qs : TreePairs) → trees.tree_pair k v ps ≡ trees.tree_pair l w qs → (k ≡ l) × (v ≡ w) × (ps ≡ qs)
+same-pair k v l w ps qs e = (cc, cc, cc)
+
+-- arrays of equal trees have equal lists of trees
+pub trees_of-equal : (vs ws : List Value) → trees_of vs ≡ trees_of ws → map tree_of vs ≡ map tree_of ws
+trees_of-equal [] [] e = refl
+trees_of-equal [] (w ∷ ws) e = absurd cc
+trees_of-equal (v ∷ vs) [] e = absurd cc
+trees_of-equal (v ∷ vs) (w ∷ ws) e = let s = same-item (tree_of v) (tree_of w) (trees_of vs) (trees_of ws) e in ap (λ t. t ∷ map tree_of vs) s.0 ∙ ap (λ ts. tree_of w ∷ ts) (trees_of-equal vs ws s.1)
+
+-- maps of equal trees have equal lists of pairs
+pub tree_pairs_of-equal : (ps qs : List (Value × Value)) → tree_pairs_of ps ≡ tree_pairs_of qs → map pair_trees ps ≡ map pair_trees qs
+tree_pairs_of-equal [] [] e = refl
+tree_pairs_of-equal [] (q ∷ qs) e = absurd cc
+tree_pairs_of-equal (p ∷ ps) [] e = absurd cc
+tree_pairs_of-equal (p ∷ ps) (q ∷ qs) e =
+    let s = same-pair (tree_of p.0) (tree_of p.1) (tree_of q.0) (tree_of q.1) (tree_pairs_of ps) (tree_pairs_of qs) e in
+    ap (λ t. (t, tree_of p.1) ∷ map pair_trees ps) s.0 ∙ ap (λ t. (tree_of q.0, t) ∷ map pair_trees ps) s.1 ∙ ap (λ ts. pair_trees q ∷ ts) (tree_pairs_of-equal ps qs s.2)

@@ -1,0 +1,33 @@
+-- What writing a value as a tree, and reading one from a tree, answers.
+use Rattle.std.specs.Prelude.{◌≡◌, Ok, Err}
+use Rattle.ciborium_ll.specs.Item.{Item}
+use Rattle.ciborium_value.specs.Encoding.{item_of, written_tree}
+use Rattle.ciborium_value.specs.Sinks.{Cause, Named, memory, value}
+use Rattle.ciborium_value.specs.Sources.{Fault, of_kind, of_memory}
+use Rattle.ciborium_value.specs.Taken.{Outcome, refuses}
+use Rattle.ciborium_value.specs.View.{tree_of}
+use Rattle.ciborium_value.specs.declared.serialized.Error.{Error}
+use Rattle.ciborium_value.specs.declared.serialized.Error.TheVariants.{Custom, Memory}
+use Rattle.ciborium_value.specs.declared.tree.Value.{Value}
+
+abbrev pub cause_of : Error → Cause
+cause_of (Custom k) = value k
+cause_of Memory = memory
+
+-- the tree of the item that is named
+abbrev pub IsTreeOf : Named → Value → Type 0
+IsTreeOf (Ok i) v = tree_of v ≡ written_tree i
+IsTreeOf (Err k) v = ⊥
+
+-- the item of a value: definite, and nothing folded
+abbrev pub value_item : Value → Item
+value_item v = item_of (tree_of v)
+
+abbrev pub fault_of : Error → Fault
+fault_of (Custom k) = of_kind k
+fault_of Memory = of_memory
+
+-- an item that gives this outcome is refused so, or for want of memory
+abbrev pub IsErrorOf : {A : Type 0} → Error → Outcome A → Type 0
+IsErrorOf (Custom k) o = o ≡ refuses k
+IsErrorOf Memory o = Unit {0}

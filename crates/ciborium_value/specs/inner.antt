@@ -1,0 +1,11 @@
+-- What only clauses of functions that no user calls rest on.
+pub mod EncodedLists
+pub mod FoldedCopies
+pub mod TreeHeads
+pub mod Frames
+pub mod OwnForms
+pub mod EnteredContainers
+pub mod SideBySide
+pub mod Stack
+pub mod TreeSinks
+pub mod TreeSources

@@ -1,0 +1,126 @@
+-- Where a source over a tree stands.
+use Rattle.std.specs.Prelude.{◌≡◌, ℕ, ◌+◌, List, map, length, Option, Some, None}
+use Rattle.std.specs.Borrow.{Bor}
+use Rattle.ciborium_ll.specs.Item.{Item, simple, unsigned}
+use Rattle.ciborium_value.specs.Ahead.{Ahead, Rest, item, after, bottom, parts, pairs, entry, held}
+use Rattle.ciborium_value.specs.Counts.{node_count, payload_size, trees_node_count, trees_payload_size, tree_pairs_node_count, tree_pairs_payload_size}
+use Rattle.ciborium_value.specs.Nesting.{Limit}
+use Rattle.ciborium_value.specs.View.{tree_of, trees_of, tree_pairs_of}
+use Rattle.ciborium_value.specs.declared.deserialized.Pending.{Pending}
+use Rattle.ciborium_value.specs.declared.deserialized.Pending.TheVariants as pending
+use Rattle.ciborium_value.specs.declared.deserialized.Left.{Left}
+use Rattle.ciborium_value.specs.declared.deserialized.Left.TheVariants as left
+use Rattle.ciborium_value.specs.declared.deserialized.TreeLevel.{TreeLevel}
+use Rattle.ciborium_value.specs.declared.deserialized.TreeSeq.{TreeSeq}
+use Rattle.ciborium_value.specs.declared.deserialized.TreeSource.{TreeSource}
+use Rattle.ciborium_value.specs.declared.tree.Value.{Value}
+use Rattle.ciborium_value.specs.TreeAnswers.{value_item}
+
+abbrev pub pair_items : Value × Value → Item × Item
+pair_items p = (value_item p.0, value_item p.1)
+
+-- what is read next is this item
+abbrev pub IsPending : Pending → Item → Type 0
+IsPending pending.Nothing i = ⊥
+IsPending (pending.Whole v) i = value_item v.now ≡ i
+IsPending (pending.Byte n) i = unsigned n ≡ i
+IsPending pending.Null i = simple 22 ≡ i
+
+abbrev pub IsValue : Option (Bor Value) → Item → Type 0
+IsValue None i = ⊥
+IsValue (Some v) i = value_item v.now ≡ i
+
+-- a value that is due, once it is read next
+abbrev pub pending_due : Option (Bor Value) → Pending
+pending_due None = pending.Nothing
+pending_due (Some v) = pending.Whole v
+
+-- the value of a map that is due behind what is read next, if one is
+abbrev pub IsDue : Option (Bor Value) → Rest → Type 0
+IsDue due (bottom reader b) = Unit {0}
+IsDue due (parts form is f) = Unit {0}
+IsDue due (pairs form ps f) = Unit {0}
+IsDue due (entry v form ps f) = IsValue due v
+IsDue due (held f) = Unit {0}
+
+abbrev pub IsAhead : TreeSource → Ahead → Type 0
+IsAhead s (item i f) = IsPending s.ahead i × IsDue s.due f
+IsAhead s (after f) = Unit {0}
+
+-- a tree is read without a limit
+abbrev pub IsTreeAt : TreeSource → Limit → Ahead → Type 0
+IsTreeAt s l a = (l ≡ None) × IsAhead s a
+
+abbrev pub AreItems : List Value → Rest → Type 0
+AreItems vs (bottom reader b) = ⊥
+AreItems vs (parts form is f) = map value_item vs ≡ is
+AreItems vs (pairs form ps f) = ⊥
+AreItems vs (entry v form ps f) = ⊥
+AreItems vs (held f) = ⊥
+
+abbrev pub AreBytesOf : List ℕ → Rest → Type 0
+AreBytesOf bs (bottom reader b) = ⊥
+AreBytesOf bs (parts form is f) = map unsigned bs ≡ is
+AreBytesOf bs (pairs form ps f) = ⊥
+AreBytesOf bs (entry v form ps f) = ⊥
+AreBytesOf bs (held f) = ⊥
+
+abbrev pub ArePairs : List (Value × Value) → Rest → Type 0
+ArePairs qs (bottom reader b) = ⊥
+ArePairs qs (parts form is f) = ⊥
+ArePairs qs (pairs form ps f) = map pair_items qs ≡ ps
+ArePairs qs (entry v form ps f) = ⊥
+ArePairs qs (held f) = ⊥
+
+-- what is left of a container
+abbrev pub IsLeftOf : Left → Rest → Type 0
+IsLeftOf (left.Items vs) f = AreItems vs.now f
+IsLeftOf (left.Bytes bs) f = AreBytesOf bs.now f
+IsLeftOf (left.Pairs qs) f = ArePairs qs.now f
+
+-- what follows a container
+abbrev pub behind : Rest → Rest
+behind (bottom reader b) = bottom reader b
+behind (parts form is f) = f
+behind (pairs form ps f) = f
+behind (entry v form ps f) = f
+behind (held f) = f
+
+abbrev pub IsTreeSeqAt : TreeSeq → Limit → Rest → Type 0
+IsTreeSeqAt q l f = (l ≡ None) × IsLeftOf q.left f × IsDue q.due (behind f)
+
+-- a level of a tag or a variant
+abbrev pub IsTreeLevelAt : TreeLevel → Limit → Rest → Type 0
+IsTreeLevelAt level l f = (l ≡ None) × IsDue level.due f
+
+-- ---- how much can still be read
+
+-- the values and the bytes of strings that a tree holds
+abbrev pub weight : Value → ℕ
+weight v = node_count (tree_of v) + payload_size (tree_of v)
+
+abbrev pub pending_weight : Pending → ℕ
+pending_weight pending.Nothing = 0
+pending_weight (pending.Whole v) = weight v.now
+pending_weight (pending.Byte n) = 1
+pending_weight pending.Null = 1
+
+abbrev pub due_weight : Option (Bor Value) → ℕ
+due_weight None = 0
+due_weight (Some v) = weight v.now
+
+abbrev pub source_weight : TreeSource → ℕ
+source_weight s = pending_weight s.ahead + due_weight s.due
+
+abbrev pub left_weight : Left → ℕ
+left_weight (left.Items vs) = trees_node_count (trees_of vs.now) + trees_payload_size (trees_of vs.now)
+left_weight (left.Bytes bs) = length bs.now
+left_weight (left.Pairs qs) = tree_pairs_node_count (tree_pairs_of qs.now) + tree_pairs_payload_size (tree_pairs_of qs.now)
+
+abbrev pub seq_weight : TreeSeq → ℕ
+seq_weight q = left_weight q.left + due_weight q.due
+
+abbrev pub level_weight : TreeLevel → ℕ
+level_weight level = due_weight level.due
+
+-- ---- why it refused
