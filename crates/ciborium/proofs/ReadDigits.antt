@@ -127,9 +127,9 @@ digits-none bs h e = by (ltb 16 (length (without_zeros bs))) refl
 
 -- ---- one byte more
 
-pub fill-fewer : (E : Type 0) {S : Type 0} (remaining : S → Option (List ℕ)) (d e : Decoder S) (buffer : List ℕ) → e.window.count ≤ greatest_offset → Takes remaining d e (λ b. IsFillTaken {E = E} b d.window.count buffer (Ok tt)) →
+pub fill-fewer : (E : Type 0) {S : Type 0} (remaining : S → Option (List ℕ)) (d e : Decoder S) (buffer : List ℕ) → Takes remaining d e (λ b. IsFillTaken {E = E} b d.window.count buffer (Ok tt)) →
     3 * (greatest_offset - e.window.count) ≤ 3 * (greatest_offset - d.window.count)
-fill-fewer E remaining d e buffer fits (b, takes, count, taken, small) = omega (arith, fits, count)
+fill-fewer E remaining d e buffer (b, takes, count, taken, small) = let fits = e.window.fits in omega (arith, fits, count)
 
 pub digit-more : (E : Type 0) {S : Type 0} (remaining : S → Option (List ℕ)) (d e : Decoder S) (buffer : List ℕ) (x left n : ℕ) (start value next : Option ℕ) (y : List ℕ) → buffer ≡ x ∷ [] → 0 < left → next ≡ one_digit_more value x →
     Takes remaining d e (λ b. IsFillTaken {E = E} b d.window.count buffer (Ok tt)) → ((c : List ℕ) × (z : List ℕ) × (length c + left ≡ n) × AreBytes c × (value ≡ digits_of start c) × (y ≡ c ++ z) × (left_of remaining d ≡ Some z)) →

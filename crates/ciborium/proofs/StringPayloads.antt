@@ -97,10 +97,11 @@ content-long E kind None p q added c (ps, s, parts, room, split, same) =
     let m : length added ≡ length (joined ps) = ap length same in
     omega (arith, k, l, m)
 
-pub content-fewer : (E : Type 0) {S : Type 0} (remaining : S → Option (List ℕ)) (d e : Decoder S) (kind : StringKind) (len : Option ℕ) (start out : List ℕ) → start ≡ [] → e.window.count ≤ greatest_offset →
+pub content-fewer : (E : Type 0) {S : Type 0} (remaining : S → Option (List ℕ)) (d e : Decoder S) (kind : StringKind) (len : Option ℕ) (start out : List ℕ) → start ≡ [] →
     Takes remaining d e (λ b. (added : List ℕ) × (out ≡ start ++ added) × IsStringTaken {E = E} kind len d.last b d.window.count (Ok tt) added) →
     3 * (greatest_offset - e.window.count) + length out ≤ 3 * (greatest_offset - d.window.count)
-content-fewer E remaining d e kind len start out empty fits (b, takes, count, (added, is, taken), small) =
+content-fewer E remaining d e kind len start out empty (b, takes, count, (added, is, taken), small) =
+    let fits = e.window.fits in
     let k = content-long E kind len d.last d.window.count added b taken in
     let l : length out ≡ length added = ap length (is ∙ ap (λ (s : List ℕ). s ++ added) empty) in
     omega (arith, fits, count, k, l)

@@ -78,7 +78,6 @@ impl<'a, R: Read> ByteSource<'a, R> {
             let mut room = [0u8; 1];
             self.decoder
                 .read_exact_keeping(&mut room, &mut self.failure)?;
-            let _end = self.decoder.offset();
             number = with_digit(number, only_byte(&room));
             left -= 1;
         }

@@ -34,7 +34,6 @@ impl<'a, R: Read> ByteSource<'a, R> {
         ensures memory { IfErr result (λ e. IsGranted (cause_of e) false) }
     {
         self.decoder.read_exact_keeping(buffer, &mut self.failure)?;
-        let _end = self.decoder.offset();
         Ok(())
     }
 
@@ -61,7 +60,6 @@ impl<'a, R: Read> ByteSource<'a, R> {
         let mut out = Vec::new(alloc);
         self.decoder
             .bytes_into_keeping(len, self.scratch, &mut out, &mut self.failure)?;
-        let _end = self.decoder.offset();
         Ok(out)
     }
 
@@ -87,7 +85,6 @@ impl<'a, R: Read> ByteSource<'a, R> {
         let mut out = String::new(alloc);
         self.decoder
             .text_into_keeping(len, self.scratch, &mut out, &mut self.failure)?;
-        let _end = self.decoder.offset();
         Ok(out)
     }
 

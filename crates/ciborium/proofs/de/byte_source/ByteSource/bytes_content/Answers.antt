@@ -1,6 +1,6 @@
-use Rattle.std.proofs.Common.{subst, ap, ◌∙◌, arith, sym}
+use Rattle.std.proofs.Common.{subst, ap, sym}
 use Rattle.std.proofs.lemmas.Result.{err_from_is_err_and}
-use Rattle.ciborium_ll.specs.Decoding.{next_offset, left_of}
+use Rattle.ciborium_ll.specs.Decoding.{left_of}
 use Rattle.ciborium_ll.specs.StringRefusal.{of_bytes}
 use Rattle.ciborium.specs.ByteSources.{IsUnreadBy, cause_of, known_end}
 use Rattle.ciborium.proofs.SpelledStrings.{content-outside}
@@ -25,9 +25,7 @@ returns-clause-ok g c =
 
 pub returns-clause-fewer : goal.returns-clause-fewer
 returns-clause-fewer g c =
-    let less = c.offset-end.type_inv in
-    let at = c.offset-end.ensures ∙ ap (next_offset c.bytes_into_keeping.new.self.window.count) c.bytes_into_keeping.ensures.none_pushed in
-    content-fewer Unit g.R.Read.remaining c.args.self.now.decoder c.bytes_into_keeping.new.self of_bytes c.args.len c.new-out.result.items c.bytes_into_keeping.new.out.items c.new-out.ensures.items (omega (arith, less, at)) c.in_ok-bytes_into_keeping.ensures.taken
+    content-fewer Unit g.R.Read.remaining c.args.self.now.decoder c.bytes_into_keeping.new.self of_bytes c.args.len c.new-out.result.items c.bytes_into_keeping.new.out.items c.new-out.ensures.items c.in_ok-bytes_into_keeping.ensures.taken
 
 pub returns-in_err-bytes_into_keeping-clause-only : goal.returns-in_err-bytes_into_keeping-clause-only
 returns-in_err-bytes_into_keeping-clause-only g c = takes-only g.R.Read.remaining c.args.self.now.decoder c.bytes_into_keeping.new.self _ (same-name c.args.self.now.decoder c.bytes_into_keeping.new.self c.in_err-bytes_into_keeping.ensures.same_reader) c.in_err-bytes_into_keeping.ensures.taken

@@ -1,5 +1,4 @@
 use Rattle.std.proofs.Common.{sym, ap, ◌∙◌, subst, arith, length, length-append, ◌+◌, ◌≡◌}
-use Rattle.ciborium_ll.specs.Decoding.{next_offset}
 use Rattle.ciborium.specs.ByteSources.{IsUnreadBy, cause_of}
 use Rattle.ciborium.proofs.ReadDigits.{digit-more, fill-fewer, fill-outside}
 use Rattle.ciborium_ll.proofs.HeldBytes.{same-name}
@@ -15,9 +14,7 @@ loop-left-preserved g c =
     let e = c.read_exact_keeping.new.self in
     let none = c.loop-left.invariant.pending in
     let buffer = c.read_exact_keeping.new.buffer in
-    let fits = c.offset-end.type_inv in
-    let at = c.offset-end.ensures ∙ ap (next_offset e.window.count) c.in_ok-read_exact_keeping.ensures.none_pushed in
-    let fewer = fill-fewer Unit g.R.Read.remaining d e buffer (omega (arith, fits, at)) c.in_ok-read_exact_keeping.ensures.taken in record {
+    let fewer = fill-fewer Unit g.R.Read.remaining d e buffer c.in_ok-read_exact_keeping.ensures.taken in record {
       same_reader = c.in_ok-read_exact_keeping.ensures.same_reader ∙ c.loop-left.invariant.same_reader;
       only = λ first h. takes-only g.R.Read.remaining d e _ (same-name d e c.in_ok-read_exact_keeping.ensures.same_reader) c.in_ok-read_exact_keeping.ensures.taken first (c.loop-left.invariant.only first h);
       levels = c.loop-left.invariant.levels;
