@@ -7,7 +7,7 @@ use Rattle.std.specs.Io.BufRead.{drop_through}
 use Rattle.std.specs.Io.KnownBytes.{Keeps, append_known}
 use Rattle.std.specs.Io.Buffered.{reader_remaining, reader_inner, reader_buffer, reader_capacity}
 use Rattle.cbor.specs.Lines as lines
-use Rattle.cbor.specs.Lines.{AreLines, AreWritten, first_line, text_line}
+use Rattle.cbor.specs.Lines.{AreLines, AreLinesWritten, first_line, text_line}
 
 -- a new reader shows what the reader in it has
 pub begins-with : {T A : Type 0} (remaining : T → Option (List ℕ)) (r : BufReader T A) (inner : T) (b : List ℕ) → reader_inner r ≡ inner → reader_buffer r ≡ [] →
@@ -48,7 +48,7 @@ one-more Is b w left next held kept now line shown more (rest, texts, e, a, f) r
 
 -- no line is left
 pub none-left : (Is : List ℕ → List ℕ → Type 0) (b w : List ℕ) (left next held kept : Option (List ℕ)) (line : List ℕ) (more : Bool) → IsLeft Is b w left held →
-    LineIsRead left next line more → more ≡ false → IsHeld held kept → AreWritten Is b w kept
+    LineIsRead left next line more → more ≡ false → IsHeld held kept → AreLinesWritten Is b w kept
 none-left Is b w left next held kept line more (rest, texts, e, a, f) read m keeps =
     let h = subst (λ (v : Bool). MatchBool v ((0 < length rest) × (line ≡ first_line rest) × (next ≡ Some (drop_through 10 rest))) (rest ≡ [])) m (read rest e) in
     (texts, subst (λ (r : List ℕ). AreLines Is b r texts) h a, keeps (w ++ flat_map text_line texts) f)
@@ -59,11 +59,11 @@ still (Some ys) None xs k e = absurd k
 still (Some ys) (Some zs) xs k e = cc
 
 -- a flush keeps them
-pub held-still : (Is : List ℕ → List ℕ → Type 0) (b w : List ℕ) (held now : Option (List ℕ)) → Keeps held now → AreWritten Is b w held → AreWritten Is b w now
+pub held-still : (Is : List ℕ → List ℕ → Type 0) (b w : List ℕ) (held now : Option (List ℕ)) → Keeps held now → AreLinesWritten Is b w held → AreLinesWritten Is b w now
 held-still Is b w held now k (texts, a, e) = (texts, a, still held now (w ++ flat_map text_line texts) k e)
 
 -- texts that wait are written
-pub sent : (Is : List ℕ → List ℕ → Type 0) (b w : List ℕ) (held now : Option (List ℕ)) → AreWritten Is b w held → IsHeld held now → AreWritten Is b w now
+pub sent : (Is : List ℕ → List ℕ → Type 0) (b w : List ℕ) (held now : Option (List ℕ)) → AreLinesWritten Is b w held → IsHeld held now → AreLinesWritten Is b w now
 sent Is b w held now (texts, a, e) keeps = (texts, a, keeps (w ++ flat_map text_line texts) e)
 
 -- a text and its line feed are put behind what is held
@@ -79,19 +79,19 @@ held-empty w None waiting e none = absurd cc
 held-empty w (Some xs) waiting e none = rw none (ap Some (append-nil xs) ∙ e)
 
 pub sent-all : {T E : Type 0} (Is : List ℕ → List ℕ → Type 0) (b w : List ℕ) (held now : Option (List ℕ)) (r : Result T E) →
-    OnOk r (AreWritten Is b w held) → IsHeld held now → OnOk r (AreWritten Is b w now)
+    OnOk r (AreLinesWritten Is b w held) → IsHeld held now → OnOk r (AreLinesWritten Is b w now)
 sent-all Is b w held now (Ok v) h keeps = sent Is b w held now h keeps
 sent-all Is b w held now (Err x) h keeps = tt
 
 pub sent-ok : {E : Type 0} (Is : List ℕ → List ℕ → Type 0) (b w : List ℕ) (held now : Option (List ℕ)) (r : Result Bool E) →
-    IfOk r (λ all. IsTrue all → AreWritten Is b w held) → IsHeld held now → IfOk r (λ all. IsTrue all → AreWritten Is b w now)
+    IfOk r (λ all. IsTrue all → AreLinesWritten Is b w held) → IsHeld held now → IfOk r (λ all. IsTrue all → AreLinesWritten Is b w now)
 sent-ok Is b w held now (Ok v) h keeps = λ all. sent Is b w held now (h all) keeps
 sent-ok Is b w held now (Err x) h keeps = tt
 
 -- what a flush that did not fail leaves, where the run before it did not fail
 pub flushed-all : {E : Type 0} (Is : List ℕ → List ℕ → Type 0) (b w : List ℕ) (held now : Option (List ℕ)) (done r : Result Bool E) → IfOk r (λ all. done ≡ Ok all) →
-    Keeps held now → OnOk done (AreWritten Is b w held) → OnOk r (AreWritten Is b w now)
-flushed-all Is b w held now done (Ok v) same k h = held-still Is b w held now k (subst (λ (d : Result Bool _). OnOk d (AreWritten Is b w held)) same h)
+    Keeps held now → OnOk done (AreLinesWritten Is b w held) → OnOk r (AreLinesWritten Is b w now)
+flushed-all Is b w held now done (Ok v) same k h = held-still Is b w held now k (subst (λ (d : Result Bool _). OnOk d (AreLinesWritten Is b w held)) same h)
 flushed-all Is b w held now done (Err x) same k h = tt
 
 -- and so it is where each answer of the run says something

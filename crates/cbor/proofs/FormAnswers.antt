@@ -1,15 +1,14 @@
 -- What the text of a line says of the deterministic form of its item.
-use Rattle.std.proofs.Common.{◌≡◌, ◌⊎◌, ℕ, List, false, inl, inr, ap, ◌∙◌}
+use Rattle.std.proofs.Common.{◌≡◌, ◌⊎◌, ℕ, List, inl, inr, ap, ◌∙◌}
 use Rattle.ciborium_value.specs.DeterministicForms.{deterministic_form}
 use Rattle.ciborium_value.specs.Taken.{refuses}
 use Rattle.ciborium_value.specs.Tree.{Tree}
 use Rattle.ciborium_value.specs.declared.key_order.KeyOrder.{KeyOrder}
 use Rattle.ciborium_value.specs.declared.kind.Kind.{Kind}
 use Rattle.ciborium_value.specs.declared.kind.Kind.TheVariants.{DuplicateKey, TooLarge}
-use Rattle.cbor.specs.declared.answer.Refusal.{Refusal}
 use Rattle.cbor.specs.declared.reading.Layout.{Layout}
 use Rattle.cbor.specs.declared.reading.Spelling.TheVariants.{Any}
-use Rattle.cbor.specs.Answer.{IsMeant, IsRefused, refused_text, wants_memory}
+use Rattle.cbor.specs.Answer.{IsMeant, TellsRefusal}
 use Rattle.cbor.specs.Forms.{IsFormAnswer, duplicate, formless_text, no_item, too_large}
 use Rattle.cbor.specs.Shown.{IsNotationAnswer, unshown}
 use Rattle.cbor.proofs.JudgedAnswers.{not-memory}
@@ -20,12 +19,12 @@ pub formless-answers : (order : KeyOrder) (line : List ℕ) (limit : ℕ) (v : T
 formless-answers order line limit v k text means none (inl e) same = duplicate v means (none ∙ ap refuses e) (same ∙ ap formless_text e)
 formless-answers order line limit v k text means none (inr e) same = too_large v means (none ∙ ap refuses e) (same ∙ ap formless_text e)
 
--- the text of what refuses a line answers it
-pub no-item-answers : (order : KeyOrder) (line : List ℕ) (limit : ℕ) (e : Refusal) (text : List ℕ) → IsRefused Any line limit e →
-    (wants_memory e ≡ false) × (text ≡ refused_text e) → IsFormAnswer order line limit text
-no-item-answers order line limit e text h (m, same) = no_item e (not-memory e m) h same
+-- the text that tells why a line is refused answers it
+pub no-item-answers : (order : KeyOrder) (line : List ℕ) (limit : ℕ) (text : List ℕ) → TellsRefusal Any line limit text →
+    IsFormAnswer order line limit text
+no-item-answers order line limit text (e, h, m, same) = no_item e (not-memory e m) h same
 
 -- and its answer by its notation
-pub unshown-answers : (layout : Layout) (line : List ℕ) (limit : ℕ) (e : Refusal) (text : List ℕ) → IsRefused Any line limit e →
-    (wants_memory e ≡ false) × (text ≡ refused_text e) → IsNotationAnswer layout line limit text
-unshown-answers layout line limit e text h (m, same) = unshown e (not-memory e m) h same
+pub unshown-answers : (layout : Layout) (line : List ℕ) (limit : ℕ) (text : List ℕ) → TellsRefusal Any line limit text →
+    IsNotationAnswer layout line limit text
+unshown-answers layout line limit text (e, h, m, same) = unshown e (not-memory e m) h same

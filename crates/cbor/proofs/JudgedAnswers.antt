@@ -10,7 +10,7 @@ use Rattle.cbor.specs.declared.answer.Refusal.TheVariants.{Hex, Trailing, Io, Sy
 use Rattle.cbor.specs.declared.reading.Reading.TheVariants.{Item, Sequence}
 use Rattle.cbor.specs.declared.reading.Spelling.{Spelling}
 use Rattle.cbor.specs.declared.reading.Spelling.TheVariants.{Any}
-use Rattle.cbor.specs.Answer.{IsFrontRefused, IsHexRefused, IsRefused, kind_of_reason, refused_text, wants_memory}
+use Rattle.cbor.specs.Answer.{IsFrontRefused, IsHexRefused, TellsRefusal, kind_of_reason, refused_text, wants_memory}
 use Rattle.cbor.specs.Line.{IsLineAnswer, hex_text, refusal_text}
 use Rattle.cbor.specs.Lines.{IsOkText}
 use Rattle.cbor.specs.Sequence.{AreItemsBefore, AreSequence, HasSequenceAnswer, IsSequenceAnswer, refused, refused_item_text}
@@ -26,10 +26,10 @@ not-memory e m same = let no : true ≡ false = ap wants_memory (sym same) ∙ m
 pub item-answers : (spelling : Spelling) (line : List ℕ) (limit : ℕ) (text : List ℕ) → IsOkText (Item spelling limit) line text → IsLineAnswer spelling line limit text
 item-answers spelling line limit text (v, means, same) = item-answer spelling (decode_of line) limit v text means same
 
--- the text of what refuses a line answers it
-pub refusal-answers : (spelling : Spelling) (line : List ℕ) (limit : ℕ) (e : Refusal) (text : List ℕ) → IsRefused spelling line limit e →
-    (wants_memory e ≡ false) × (text ≡ refused_text e) → IsLineAnswer spelling line limit text
-refusal-answers spelling line limit e text h (m, same) =
+-- the text that tells why a line is refused answers it
+pub refusal-answers : (spelling : Spelling) (line : List ℕ) (limit : ℕ) (text : List ℕ) →
+    TellsRefusal spelling line limit text → IsLineAnswer spelling line limit text
+refusal-answers spelling line limit text (e, h, m, same) =
     subst (λ (t : List ℕ). IsLineAnswer spelling line limit t) (sym same) (refusal_is_answered spelling line limit e (λ is. absurd (not-memory e m is)) h)
 
 -- ---- sequences

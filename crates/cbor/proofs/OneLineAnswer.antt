@@ -7,7 +7,7 @@ use Rattle.hex.proofs.HexLemmas.{decode_of-ok}
 use Rattle.ciborium_ll.specs.Bytes.{AreBytes}
 use Rattle.ciborium_value.specs.Tree.{Tree}
 use Rattle.cbor.specs.declared.reading.Spelling.{Spelling}
-use Rattle.cbor.specs.Laws.{IsAnswered, OneAnswer}
+use Rattle.cbor.specs.Laws.{IsAnswered, OneAnswerToLine}
 use Rattle.cbor.specs.Line.{HasAnswer, good, trailing, refused, tree_text, trailing_text, refusal_text, hex_text}
 use Rattle.cbor.specs.Spellings.{HasItemBefore, IsItem}
 use Rattle.cbor.proofs.SpelledItems.{DeterministicLaw, HasItem, item-or-refused, not-both, one-refusal, one-tree}
@@ -72,5 +72,5 @@ one-by : DeterministicLaw → (spelling : Spelling) (d : Result (List ℕ) FromH
 one-by law spelling (Ok b) limit x y h p q = one-of-bytes law spelling b limit x y (h b refl) p q
 one-by law spelling (Err e) limit x y h p q = p ∙ sym q
 
-pub one_answer : DeterministicLaw → OneAnswer
+pub one_answer : DeterministicLaw → OneAnswerToLine
 one_answer law spelling line limit a b p q = one-by law spelling (decode_of line) limit a b (λ s e. decoded-bytes line s e) p q

@@ -5,7 +5,7 @@ use Rattle.std.proofs.lemmas.Bool.Decides.{nat_tests}
 use Rattle.ciborium_ll.specs.Refusal.{Refusal, Kind}
 use Rattle.ciborium.specs.declared.de.error.Error.{Error}
 use Rattle.ciborium.specs.declared.de.error.Error.TheVariants as errors
-use Rattle.ciborium.specs.Errors.{IsNamed, IsRefusedBy, kind_of}
+use Rattle.ciborium.specs.Errors.{IsNamed, IsRefusedBy, refusal_kind_of}
 use Rattle.cbor.specs.declared.answer.Refusal.{Refusal as Reason}
 use Rattle.cbor.specs.declared.answer.Refusal.TheVariants.{Memory}
 use Rattle.cbor.specs.declared.reading.Spelling.{Spelling}
@@ -21,7 +21,7 @@ pub named-anyway : {E : Type 0} (left : Option (List ℕ)) (e : Error E) (P : Re
     IsRefusedBy None e (λ _. Unit {0})
 named-anyway left (errors.Io x) P h = λ _. tt
 named-anyway left (errors.Syntax p) P h = tt
-named-anyway left (errors.Semantic p k) P h = some-name p (kind_of k) P h
+named-anyway left (errors.Semantic p k) P h = some-name p (refusal_kind_of k) P h
   where
     some-name : (p : Option ℕ) (k : Option Kind) (P : Refusal → Type 0) → IsNamed p k P → IsNamed p k (λ _. Unit {0})
     some-name (Some p) (Some k) P h = tt

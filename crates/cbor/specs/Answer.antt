@@ -81,3 +81,8 @@ abbrev pub IsHexRefused : List ℕ → Refusal → Type 0
 IsHexRefused line Hex = IsErr (decode_of line)
 IsHexRefused line Memory = Unit {0}
 IsHexRefused line other = ⊥
+
+-- the text tells why a line is no such item; want of memory is told elsewhere
+abbrev pub TellsRefusal : Spelling → List ℕ → ℕ → List ℕ → Type 0
+TellsRefusal spelling line limit text =
+    (e : Refusal) × IsRefused spelling line limit e × (wants_memory e ≡ false) × (text ≡ refused_text e)

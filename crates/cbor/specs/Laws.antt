@@ -17,8 +17,8 @@ abbrev pub IsAnswered : Type 0
 IsAnswered = (spelling : Spelling) (line : List ℕ) (limit : ℕ) → (answer : List ℕ) × IsLineAnswer spelling line limit answer
 
 -- and no other
-abbrev pub OneAnswer : Type 0
-OneAnswer =
+abbrev pub OneAnswerToLine : Type 0
+OneAnswerToLine =
     (spelling : Spelling) (line : List ℕ) (limit : ℕ) (a b : List ℕ) → IsLineAnswer spelling line limit a → IsLineAnswer spelling line limit b →
     a ≡ b
 

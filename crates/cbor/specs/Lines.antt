@@ -27,11 +27,11 @@ abbrev pub AreMeant : Spelling → List ℕ → ℕ → List ℕ → List Tree �
 AreMeant spelling b limit rest trees = AreLines (λ line tree. IsMeant spelling line limit tree) b rest trees
 
 -- the text answers a line that is read so
-abbrev pub IsAnswer : Reading → List ℕ → List ℕ → Type 0
-IsAnswer (Item spelling limit) line text = IsLineAnswer spelling line limit text
-IsAnswer Sequence line text = IsSequenceAnswer line 256 text
-IsAnswer (Form order limit) line text = IsFormAnswer order line limit text
-IsAnswer (Notation layout limit) line text = IsNotationAnswer layout line limit text
+abbrev pub AnswersLine : Reading → List ℕ → List ℕ → Type 0
+AnswersLine (Item spelling limit) line text = IsLineAnswer spelling line limit text
+AnswersLine Sequence line text = IsSequenceAnswer line 256 text
+AnswersLine (Form order limit) line text = IsFormAnswer order line limit text
+AnswersLine (Notation layout limit) line text = IsNotationAnswer layout line limit text
 
 -- a line is an item, a sequence, or an item that has a form, as it is read, and the text is the answer that says so
 abbrev pub IsOkText : Reading → List ℕ → List ℕ → Type 0
@@ -50,19 +50,19 @@ memory_text = codes "memory"
 
 -- the text answers a line that is read so, or says that memory was refused for it
 abbrev pub MayBeAnswer : Reading → List ℕ → List ℕ → Type 0
-MayBeAnswer reading line text = IsAnswer reading line text ⊎ (text ≡ memory_text)
+MayBeAnswer reading line text = AnswersLine reading line text ⊎ (text ≡ memory_text)
 
 -- there is a text for each line of b, in order, Is holds of the line and its text, and the texts are put behind w, a line each
-abbrev pub AreWritten : (List ℕ → List ℕ → Type 0) → List ℕ → List ℕ → Option (List ℕ) → Type 0
-AreWritten Is b w after = (texts : List (List ℕ)) × AreLines Is b [] texts × (after ≡ Some (w ++ flat_map text_line texts))
+abbrev pub AreLinesWritten : (List ℕ → List ℕ → Type 0) → List ℕ → List ℕ → Option (List ℕ) → Type 0
+AreLinesWritten Is b w after = (texts : List (List ℕ)) × AreLines Is b [] texts × (after ≡ Some (w ++ flat_map text_line texts))
 
 -- each line of b is answered, be it refused or not, and the answers are put behind w
 abbrev pub AreAnswered : Reading → List ℕ → List ℕ → Option (List ℕ) → Type 0
-AreAnswered reading b w after = AreWritten (MayBeAnswer reading) b w after
+AreAnswered reading b w after = AreLinesWritten (MayBeAnswer reading) b w after
 
 -- each line of b is an item, a sequence, or an item that has a form, as it is read, and the answers that say so are put behind w
 abbrev pub AreOk : Reading → List ℕ → List ℕ → Option (List ℕ) → Type 0
-AreOk reading b w after = AreWritten (IsOkText reading) b w after
+AreOk reading b w after = AreLinesWritten (IsOkText reading) b w after
 
 -- a line feed stands in b
 abbrev pub holds_line : List ℕ → Bool

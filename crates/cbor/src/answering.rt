@@ -1,14 +1,15 @@
 //! Lines that are answered, one by one.
 
-ghost use Rattle.std.specs.Prelude.{◌≡◌, ◌⊎◌, ◌++◌, ℕ, IfOk, IsTrue, List, OnOk, Some, false};
+ghost use Rattle.std.specs.Prelude.{◌≡◌, ◌⊎◌, ◌++◌, ℕ, IfNone, IfOk, IfSome, IsTrue, List, OnOk};
+ghost use Rattle.std.specs.Prelude.{Some, false};
 ghost use Rattle.std.specs.Io.Buffered.{reader_remaining};
 ghost use Rattle.std.specs.Io.KnownBytes.{append_known};
 ghost use Rattle.ciborium_value.specs.View.{tree_of};
 ghost use Rattle.ciborium_value.specs.declared.kind.Kind.TheVariants.{DuplicateKey, TooLarge};
-ghost use Rattle.cbor.specs.Answer.{refused_text, wants_memory};
+ghost use Rattle.cbor.specs.Answer.{IsMeant, TellsRefusal, refused_text, wants_memory};
 ghost use Rattle.cbor.specs.Forms.{IsFormAnswer, formless_text};
 ghost use Rattle.cbor.specs.Line.{IsLineAnswer, tree_text};
-ghost use Rattle.cbor.specs.Lines.{AreAnswered, AreOk, IsAnswer, IsOkText, MayBeAnswer, text_line};
+ghost use Rattle.cbor.specs.Lines.{AreAnswered, AreOk, AnswersLine, IsOkText, MayBeAnswer, text_line};
 ghost use Rattle.cbor.specs.Sequence.{IsSequenceAnswer};
 ghost use Rattle.cbor.specs.Shown.{IsNotationAnswer};
 ghost use Rattle.cbor.specs.declared.reading.Reading.TheVariants.{Form, Item, Notation, Sequence};
@@ -115,20 +116,17 @@ pub fn answer_canon(
     ensures item { IfOk result (λ is_ok. IsTrue is_ok →
         IsOkText (Form order limit) line.now rooms.new.text.items) }
 {
-    match read_item(alloc, line, Spelling::Any, limit, &mut rooms.bytes) {
-        Ok(mut value) => match value.make_deterministic(order) {
-            Ok(()) => {
-                write_encoding(&value, rooms)?;
-                Ok(true)
-            }
-            Err(kind) => {
-                rooms.text.clear();
-                rooms.text.extend_from_slice(name_want(kind))?;
-                Ok(false)
-            }
-        },
-        Err(refusal) => {
-            write_refusal(refusal, &mut rooms.text)?;
+    let Some(mut value) = read_or_refuse(alloc, line, Spelling::Any, limit, rooms)? else {
+        return Ok(false);
+    };
+    match value.make_deterministic(order) {
+        Ok(()) => {
+            write_encoding(&value, rooms)?;
+            Ok(true)
+        }
+        Err(kind) => {
+            rooms.text.clear();
+            rooms.text.extend_from_slice(name_want(kind))?;
             Ok(false)
         }
     }
@@ -151,17 +149,12 @@ pub fn answer_diag(
     ensures item { IfOk result (λ is_ok. IsTrue is_ok →
         IsOkText (Notation layout limit) line.now rooms.new.text.items) }
 {
-    match read_item(alloc, line, Spelling::Any, limit, &mut rooms.bytes) {
-        Ok(value) => {
-            rooms.text.clear();
-            push_notation(&value, layout, &mut rooms.text)?;
-            Ok(true)
-        }
-        Err(refusal) => {
-            write_refusal(refusal, &mut rooms.text)?;
-            Ok(false)
-        }
-    }
+    let Some(value) = read_or_refuse(alloc, line, Spelling::Any, limit, rooms)? else {
+        return Ok(false);
+    };
+    rooms.text.clear();
+    push_notation(&value, layout, &mut rooms.text)?;
+    Ok(true)
 }
 
 // Why a value has no deterministic form, in a word.
@@ -188,14 +181,32 @@ fn answer_item(
     ensures item { IfOk result (λ is_ok. IsTrue is_ok →
         IsOkText (Item spelling limit) line.now rooms.new.text.items) }
 {
+    let Some(value) = read_or_refuse(alloc, line, spelling, limit, rooms)? else {
+        return Ok(false);
+    };
+    write_encoding(&value, rooms)?;
+    Ok(true)
+}
+
+// The value of a line that is one item, spelled so; or none, and `rooms.text` is why the line is
+// refused.
+fn read_or_refuse(
+    alloc: Global,
+    line: &[u8],
+    spelling: Spelling,
+    limit: usize,
+    rooms: &mut Rooms,
+) -> Result<Option<Value>, AllocError>
+    ensures item { IfOk result (λ found. IfSome found (λ value.
+        IsMeant spelling line.now limit (tree_of value))) }
+    ensures refused { IfOk result (λ found. IfNone found
+        (TellsRefusal spelling line.now limit rooms.new.text.items)) }
+{
     match read_item(alloc, line, spelling, limit, &mut rooms.bytes) {
-        Ok(value) => {
-            write_encoding(&value, rooms)?;
-            Ok(true)
-        }
+        Ok(value) => Ok(Some(value)),
         Err(refusal) => {
             write_refusal(refusal, &mut rooms.text)?;
-            Ok(false)
+            Ok(None)
         }
     }
 }
@@ -231,7 +242,7 @@ fn answer_reading(
     reading: Reading,
     rooms: &mut Rooms,
 ) -> Result<bool, AllocError>
-    ensures answer { OnOk result (IsAnswer reading line.now rooms.new.text.items) }
+    ensures answer { OnOk result (AnswersLine reading line.now rooms.new.text.items) }
     ensures asked { IfOk result (λ is_ok. IsTrue is_ok →
         IsOkText reading line.now rooms.new.text.items) }
 {

@@ -5,8 +5,8 @@ ghost use Rattle.std.specs.Prelude.{Some, false};
 ghost use Rattle.hex.specs.Hex.{encode_lower};
 ghost use Rattle.ciborium_value.specs.Encoding.{encoding};
 ghost use Rattle.ciborium_value.specs.View.{tree_of};
-ghost use Rattle.ciborium.specs.Errors.{IsRefusedBy, kind_of};
-ghost use Rattle.ciborium.specs.NextItems.{IsIo};
+ghost use Rattle.ciborium.specs.Errors.{IsRefusedBy, refusal_kind_of};
+ghost use Rattle.ciborium.specs.NextItems.{IsReadIo};
 ghost use Rattle.cbor.specs.Answer.{AreRefused, IsFrontRefused, IsMeant, IsRefused, StandsFor};
 ghost use Rattle.cbor.specs.Answer.{kind_of_reason};
 ghost use Rattle.cbor.specs.Spellings.{HasItemBefore, IsItem, RefusesItem};
@@ -87,7 +87,7 @@ pub fn read_front(
 pub fn name_refusal(error: Error<io::Error>, is_at_end: bool) -> Option<Refusal>
     requires { IsRefusedBy None error (λ _. Unit {0}) }
     ensures refused { IfSome result (λ refusal. StandsFor error is_at_end refusal) }
-    ensures failed { IfNone result (IsIo error × (is_at_end ≡ false)) }
+    ensures failed { IfNone result (IsReadIo error × (is_at_end ≡ false)) }
 {
     match error {
         Error::Io(_) if is_at_end => Some(Refusal::Io),
@@ -125,8 +125,8 @@ fn read_value(
 
 // The reason for a kind that reading a value names.
 fn classify_kind(kind: Kind) -> Reason
-    requires { IsSome (kind_of kind) }
-    ensures { kind_of kind ≡ Some (kind_of_reason result) }
+    requires { IsSome (refusal_kind_of kind) }
+    ensures { refusal_kind_of kind ≡ Some (kind_of_reason result) }
 {
     match kind {
         Kind::Float => Reason::Float,

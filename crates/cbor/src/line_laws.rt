@@ -2,7 +2,7 @@
 //! that does nothing.
 
 ghost use Rattle.cbor.specs.Laws.{IsAnswered, IsFormAnswered, IsNotationAnswered};
-ghost use Rattle.cbor.specs.Laws.{IsSequenceAnswered, ItemIsAnswered, OneAnswer, OneFormAnswer};
+ghost use Rattle.cbor.specs.Laws.{IsSequenceAnswered, ItemIsAnswered, OneAnswerToLine, OneFormAnswer};
 ghost use Rattle.cbor.specs.Laws.{OneNotationAnswer, OneSequenceAnswer};
 ghost use Rattle.cbor.specs.Laws.{RefusalIsAnswered, RefusedMeansNothing};
 
@@ -14,7 +14,7 @@ use ciborium::laws::deterministic_or_refused;
 /// refusal's. No line that is refused means a tree.
 pub fn line_answer()
     ensures answered { IsAnswered }
-    ensures one { OneAnswer }
+    ensures one { OneAnswerToLine }
     ensures item { ItemIsAnswered }
     ensures refusal { RefusalIsAnswered }
     ensures nothing { RefusedMeansNothing }

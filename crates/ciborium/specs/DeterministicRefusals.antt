@@ -8,7 +8,7 @@ use Rattle.ciborium_ll.specs.ProperItems.{IsArgument}
 use Rattle.ciborium_ll.specs.Refusal.{Refusal, semantic, recursion_limit_exceeded, HeadRefuses, IsUsable, HasHead}
 use Rattle.ciborium_ll.specs.Refusal.{Float, Simple, Break, TooLarge, NotShortest, NotFolded}
 use Rattle.ciborium_ll.specs.Refusal as refusal
-use Rattle.ciborium_ll.specs.StringRefusal.{StringKind, of_bytes, major_of, PayloadRefuses}
+use Rattle.ciborium_ll.specs.StringRefusal.{StringKind, of_bytes, string_major, PayloadRefuses}
 use Rattle.ciborium_value.specs.Encoding.{encoding}
 use Rattle.ciborium_value.specs.Meaning.{simple_meaning, big_endian, is_bignum_tag}
 use Rattle.ciborium_value.specs.Refuses.{IsFoldingAt}
@@ -100,7 +100,7 @@ pub data DeterministicallyRefuses (order : KeyOrder) : List ℕ → ℕ → ℕ 
   undefined : {b : List ℕ} {p l : ℕ} (r : List ℕ) → IsUsable b p → b ≡ 0xf7 ∷ r → DeterministicallyRefuses order b p l (semantic p NotShortest)
   -- a string: its payload refuses
   string : {b : List ℕ} {p l : ℕ} {e : Refusal} (kind : StringKind) (n : ℕ) (r : List ℕ) (q : ℕ) →
-      HasShortHead (major_of kind) n b p r q → PayloadRefuses kind n p r e → DeterministicallyRefuses order b p l e
+      HasShortHead (string_major kind) n b p r q → PayloadRefuses kind n p r e → DeterministicallyRefuses order b p l e
   -- what has no meaning by itself: a float, an unassigned simple value, a break
   float : {x p l : ℕ} {b : List ℕ} → IsUsable (x ∷ b) p → 0xf9 ≤ x → x ≤ 0xfb → DeterministicallyRefuses order (x ∷ b) p l (semantic p Float)
   simple : {b : List ℕ} {p l : ℕ} (s : List ℕ) (n : ℕ) (r : List ℕ) →

@@ -18,16 +18,16 @@ from_ll ll.TooLong = TooLong
 from_ll ll.Memory = Memory
 
 -- the kinds that reading a value names
-abbrev pub kind_of : Kind → Option refusal.Kind
-kind_of kinds.Float = Some refusal.Float
-kind_of kinds.Simple = Some refusal.Simple
-kind_of kinds.Break = Some refusal.Break
-kind_of kinds.TooLarge = Some refusal.TooLarge
-kind_of kinds.NotShortest = Some refusal.NotShortest
-kind_of kinds.Open = Some refusal.Open
-kind_of kinds.NotFolded = Some refusal.NotFolded
-kind_of kinds.KeyOrder = Some refusal.KeyOrder
-kind_of _ = None
+abbrev pub refusal_kind_of : Kind → Option refusal.Kind
+refusal_kind_of kinds.Float = Some refusal.Float
+refusal_kind_of kinds.Simple = Some refusal.Simple
+refusal_kind_of kinds.Break = Some refusal.Break
+refusal_kind_of kinds.TooLarge = Some refusal.TooLarge
+refusal_kind_of kinds.NotShortest = Some refusal.NotShortest
+refusal_kind_of kinds.Open = Some refusal.Open
+refusal_kind_of kinds.NotFolded = Some refusal.NotFolded
+refusal_kind_of kinds.KeyOrder = Some refusal.KeyOrder
+refusal_kind_of _ = None
 
 -- P holds of a refusal of a kind at an offset, and both are named
 abbrev pub IsNamed : Option ℕ → Option refusal.Kind → (Refusal → Type 0) → Type 0
@@ -40,24 +40,24 @@ IsNamed None k P = ⊥
 abbrev pub IsRefusedBy : {E : Type 0} → Option (List ℕ) → Error E → (Refusal → Type 0) → Type 0
 IsRefusedBy left (Io e) P = left ≡ Some [] → P refusal.io
 IsRefusedBy left (Syntax p) P = P (refusal.syntax p)
-IsRefusedBy left (Semantic p k) P = IsNamed p (kind_of k) P
+IsRefusedBy left (Semantic p k) P = IsNamed p (refusal_kind_of k) P
 IsRefusedBy left RecursionLimitExceeded P = P refusal.recursion_limit_exceeded
 IsRefusedBy left Memory P = Unit {0}
 IsRefusedBy left TooLong P = P refusal.too_long
 
 -- what is left of an error where the reader's error is put aside
-abbrev pub refusal_of : {E : Type 0} → Error E → Error Unit
-refusal_of (Io e) = Io tt
-refusal_of (Syntax p) = Syntax p
-refusal_of (Semantic p k) = Semantic p k
-refusal_of RecursionLimitExceeded = RecursionLimitExceeded
-refusal_of Memory = Memory
-refusal_of TooLong = TooLong
+abbrev pub without_reader_error : {E : Type 0} → Error E → Error Unit
+without_reader_error (Io e) = Io tt
+without_reader_error (Syntax p) = Syntax p
+without_reader_error (Semantic p k) = Semantic p k
+without_reader_error RecursionLimitExceeded = RecursionLimitExceeded
+without_reader_error Memory = Memory
+without_reader_error TooLong = TooLong
 
-abbrev pub cause_of : {E : Type 0} → Error E → Fault
-cause_of (Io e) = of_device
-cause_of (Syntax p) = of_syntax
-cause_of (Semantic p k) = of_kind k
-cause_of RecursionLimitExceeded = of_nesting
-cause_of Memory = of_memory
-cause_of TooLong = of_length
+abbrev pub fault_of : {E : Type 0} → Error E → Fault
+fault_of (Io e) = of_device
+fault_of (Syntax p) = of_syntax
+fault_of (Semantic p k) = of_kind k
+fault_of RecursionLimitExceeded = of_nesting
+fault_of Memory = of_memory
+fault_of TooLong = of_length

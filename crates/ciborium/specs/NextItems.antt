@@ -3,12 +3,12 @@ use Rattle.std.specs.Prelude.{◌≡◌, ℕ, List, [], Option, Some, None, Resu
 use Rattle.std.specs.Io.KnownBytes.{Consumes, IsAtEnd}
 use Rattle.ciborium_ll.specs.declared.header.Header.{Header}
 use Rattle.ciborium_value.specs.Readings.{Reading}
-use Rattle.ciborium_value.specs.Sources.{IsGranted, Refuses, Takes, TakesItem, TakesOnly, read_as}
+use Rattle.ciborium_value.specs.Sources.{IsGrantedFault, RefusesAhead, TakesAhead, TakesItem, TakesOnly, read_as}
 use Rattle.ciborium.specs.declared.de.byte_source.ByteSource.{ByteSource}
 use Rattle.ciborium.specs.declared.de.error.Error.{Error}
 use Rattle.ciborium.specs.declared.de.error.Error.TheVariants.{Io, Syntax, Semantic, RecursionLimitExceeded, Memory, TooLong}
 use Rattle.ciborium.specs.inner.ByteSources.{HasTakenSince, IsUnread, ReadsValue, StandsBefore}
-use Rattle.ciborium.specs.Errors.{cause_of}
+use Rattle.ciborium.specs.Errors.{fault_of}
 
 -- ---- the clauses of a call that reads the next item: what the reader held before it, what it is left with, and the answer
 
@@ -19,24 +19,24 @@ Otherwise (Ok (Some v)) P = P (Ok v)
 Otherwise (Err e) P = P (Err e)
 
 -- `Io` is the only error
-abbrev pub IsIo : {E : Type 0} → Error E → Type 0
-IsIo (Io e) = Unit {0}
-IsIo _ = ⊥
+abbrev pub IsReadIo : {E : Type 0} → Error E → Type 0
+IsReadIo (Io e) = Unit {0}
+IsReadIo _ = ⊥
 
 -- the end is answered where nothing is taken and, if the bytes are known, none are left; where none are left no item is answered, and
 -- the error of a reader that fails there is `Io`
 abbrev pub TellsEnd : {A E : Type 0} → Option (List ℕ) → Option (List ℕ) → Result (Option A) (Error E) → Type 0
 TellsEnd before after (Ok None) = Consumes before after [] × IsAtEnd after
 TellsEnd before after (Ok (Some v)) = ¬ (before ≡ Some [])
-TellsEnd before after (Err e) = before ≡ Some [] → IsIo e
+TellsEnd before after (Err e) = before ≡ Some [] → IsReadIo e
 
 -- ---- how it is read
 
 -- P holds of the answer, which is not the end
-abbrev pub GoesOn : {A E : Type 0} → Result (Option A) E → (Result A E → Type 0) → Type 0
-GoesOn (Ok None) P = ⊥
-GoesOn (Ok (Some v)) P = P (Ok v)
-GoesOn (Err e) P = P (Err e)
+abbrev pub IfNotEnded : {A E : Type 0} → Result (Option A) E → (Result A E → Type 0) → Type 0
+IfNotEnded (Ok None) P = ⊥
+IfNotEnded (Ok (Some v)) P = P (Ok v)
+IfNotEnded (Err e) P = P (Err e)
 
 -- the source, where this head was pulled first and is pending
 abbrev pub behind_head : {S : Type 0} → ByteSource S → Header → ByteSource S
@@ -45,10 +45,10 @@ behind_head s h = record { decoder = s.decoder; pending = Some (h, 0); levels = 
 -- a value was read from the source: all that reading a value of the type says
 abbrev pub IsReadFrom : {S T A E : Type 0} → (S → Option (List ℕ)) → Reading T A → ByteSource S → ByteSource S → Result T (Error E) → Type 0
 IsReadFrom remaining reading old new r = record {
-  ok : IfOk r (λ v. Takes (StandsBefore remaining) old new reading.taken (reading.content v));
+  ok : IfOk r (λ v. TakesAhead (StandsBefore remaining) old new reading.taken (reading.content v));
   took : OnOk r (TakesItem (IsUnread remaining) old new);
   only : TakesOnly (HasTakenSince remaining) old new;
-  refused : IfErr r (λ e. Refuses (StandsBefore remaining) old reading.taken (cause_of e));
-  memory : IfErr r (λ e. IsGranted (cause_of e) reading.takes_memory);
+  refused : IfErr r (λ e. RefusesAhead (StandsBefore remaining) old reading.taken (fault_of e));
+  memory : IfErr r (λ e. IsGrantedFault (fault_of e) reading.takes_memory);
   whole : IfSome reading.whole (λ tree. ReadsValue remaining old new (read_as (λ v. tree (reading.content v)) r));
 }

@@ -3,10 +3,10 @@ use Rattle.std.specs.Prelude.{◌≡◌, ℕ, List, [], ◌∷◌, ◌++◌, len
 use Rattle.ciborium_ll.specs.Item.{Item}
 use Rattle.ciborium_ll.specs.Spells.{Spells}
 use Rattle.ciborium_value.specs.Nesting.{Limit}
-use Rattle.ciborium_value.specs.Sources.{Fault, IsOutside}
+use Rattle.ciborium_value.specs.Sources.{Fault, IsOutsideFault}
 use Rattle.ciborium_value.specs.Taken.{gives, Taken}
 use Rattle.ciborium.specs.declared.de.error.Error.{Error}
-use Rattle.ciborium.specs.Errors.{cause_of}
+use Rattle.ciborium.specs.Errors.{fault_of}
 use Rattle.ciborium.specs.TypedAnswers.{IsFaultAhead}
 
 -- b begins with spellings of items that give these values within the limit, one after the other, and u follows them
@@ -22,7 +22,7 @@ GivesInTurn l taken b cs = GivesThen l taken b cs []
 -- decides
 abbrev pub IsRefusedThen : {A : Type 0} → Limit → Taken A → List ℕ → Fault → Type 0
 IsRefusedThen {A} l taken b fault =
-    (cs : List A) × (u : List ℕ) × GivesThen l taken b cs u × IsFaultAhead (length u) l taken u fault × (u ≡ [] → IsOutside 0 fault)
+    (cs : List A) × (u : List ℕ) × GivesThen l taken b cs u × IsFaultAhead (length u) l taken u fault × (u ≡ [] → IsOutsideFault 0 fault)
 
 -- ---- what the reader held before, what it is left with, and the answer
 
@@ -32,4 +32,4 @@ TakesSequence l taken before after r = (b : List ℕ) → before ≡ Some b → 
 
 -- refused only behind items that give values, and as what follows them is
 abbrev pub RefusesSequence : {A E : Type 0} → Limit → Taken A → Option (List ℕ) → Result (List A) (Error E) → Type 0
-RefusesSequence l taken before r = (b : List ℕ) → before ≡ Some b → IfErr r (λ e. IsRefusedThen l taken b (cause_of e))
+RefusesSequence l taken before r = (b : List ℕ) → before ≡ Some b → IfErr r (λ e. IsRefusedThen l taken b (fault_of e))

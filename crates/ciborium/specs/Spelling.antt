@@ -10,7 +10,7 @@ use Rattle.ciborium_value.specs.declared.kind.Kind.{Kind}
 use Rattle.ciborium_value.specs.declared.kind.Kind.TheVariants as kinds
 use Rattle.ciborium_value.specs.Canonical.{key_order}
 use Rattle.ciborium_value.specs.Encoding.{encoded_size}
-use Rattle.ciborium_value.specs.inner.Frames.{Open, waiting_keys}
+use Rattle.ciborium_value.specs.inner.Frames.{TreeFrame, waiting_keys}
 use Rattle.ciborium_value.specs.Refuses.{IsReadAs, Refuses}
 use Rattle.ciborium_value.specs.Tree.{Tree}
 use Rattle.ciborium_value.specs.Deterministic.{IsDeterministicAt}
@@ -67,18 +67,18 @@ IsUnwanted (deterministic order) payload = IsFoldable payload
 -- ---- keys in order
 
 -- the key that waits for its value, if one does, is behind the key before it, if there is one
-abbrev pub IsKeyInOrder : KeyOrder → List Open → Type 0
+abbrev pub IsKeyInOrder : KeyOrder → List TreeFrame → Type 0
 IsKeyInOrder order os = MatchOption (waiting_keys os) (Unit {0}) (λ keys. key_order order keys.0 keys.1 ≡ Less)
 
 -- it is not, and its first byte is at this offset, where its last byte stands before offset r
-abbrev pub IsKeyOutOfOrder : KeyOrder → List Open → ℕ → ℕ → Type 0
+abbrev pub IsKeyOutOfOrder : KeyOrder → List TreeFrame → ℕ → ℕ → Type 0
 IsKeyOutOfOrder order os r at =
     (before : Tree) × (key : Tree) × (waiting_keys os ≡ Some (before, key)) × ¬ (key_order order before key ≡ Less) × (at ≡ r - encoded_size key)
 
-abbrev pub HasKeysInOrder : Spelling → List Open → Type 0
+abbrev pub HasKeysInOrder : Spelling → List TreeFrame → Type 0
 HasKeysInOrder any os = Unit {0}
 HasKeysInOrder (deterministic order) os = IsKeyInOrder order os
 
-abbrev pub HasKeyOutOfOrder : Spelling → List Open → ℕ → ℕ → Type 0
+abbrev pub HasKeyOutOfOrder : Spelling → List TreeFrame → ℕ → ℕ → Type 0
 HasKeyOutOfOrder any os r at = ⊥
 HasKeyOutOfOrder (deterministic order) os r at = IsKeyOutOfOrder order os r at

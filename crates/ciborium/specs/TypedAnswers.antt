@@ -14,7 +14,7 @@ use Rattle.ciborium_value.specs.TreeAnswers.{IsErrorOf}
 use Rattle.ciborium_value.specs.declared.kind.Kind.{Kind}
 use Rattle.ciborium_value.specs.declared.serialized.Error.{Error as TreeError}
 use Rattle.ciborium_value.specs.declared.serialized.Error.TheVariants as of_tree
-use Rattle.ciborium.specs.Errors.{cause_of}
+use Rattle.ciborium.specs.Errors.{fault_of}
 use Rattle.ciborium.specs.declared.de.error.Error.{Error}
 
 -- ---- from bytes: what the reader held before, what it is left with, and the answer
@@ -33,7 +33,7 @@ TakesGiven l taken before after r = (b : List ℕ) → before ≡ Some b → IfO
 
 -- an item at the front, at offset p, is refused only as it is: as too long only where what is there passes the greatest offset
 abbrev pub RefusesTaken : {A E : Type 0} → ℕ → Limit → Taken A → Option (List ℕ) → Result A (Error E) → Type 0
-RefusesTaken p l taken before r = (b : List ℕ) → before ≡ Some b → IfErr r (λ e. IsFaultAhead (p + length b) l taken b (cause_of e))
+RefusesTaken p l taken before r = (b : List ℕ) → before ≡ Some b → IfErr r (λ e. IsFaultAhead (p + length b) l taken b (fault_of e))
 
 -- some bytes were taken, a beginning of those that are known, and nothing else
 abbrev pub TakesBeginning : Option (List ℕ) → Option (List ℕ) → Type 0
@@ -65,9 +65,9 @@ IsSameKind k _ = Unit {0}
 -- the same value, or both are refused with the same kind; the second may be refused for nesting, and either for want of memory
 abbrev pub AreOneAnswer : {A E : Type 0} → Result A TreeError → Result A (Error E) → Type 0
 AreOneAnswer (Ok v) (Ok w) = v ≡ w
-AreOneAnswer (Ok v) (Err e) = IsExcused (cause_of e)
+AreOneAnswer (Ok v) (Err e) = IsExcused (fault_of e)
 AreOneAnswer (Err (of_tree.Custom k)) (Ok w) = ⊥
-AreOneAnswer (Err (of_tree.Custom k)) (Err e) = IsSameKind k (cause_of e)
+AreOneAnswer (Err (of_tree.Custom k)) (Err e) = IsSameKind k (fault_of e)
 AreOneAnswer (Err of_tree.Memory) r = Unit {0}
 
 -- what a tree gives, and what its encoding gives within a limit, are one answer

@@ -7,7 +7,7 @@ use Rattle.ciborium_ll.specs.Decoding.{IsAhead, left_of}
 use Rattle.ciborium_value.specs.declared.kind.Kind.TheVariants as kinds
 use Rattle.ciborium_value.specs.declared.tree.Value.{Value}
 use Rattle.ciborium_value.specs.Counts.{node_count, payload_size}
-use Rattle.ciborium_value.specs.inner.Frames.{Open, done, more, placed}
+use Rattle.ciborium_value.specs.inner.Frames.{TreeFrame, done, more, placed}
 use Rattle.ciborium_value.specs.ProperTrees.{IsProperTree}
 use Rattle.ciborium_value.specs.Sources.{read_as}
 use Rattle.ciborium_value.specs.Tree.{Tree}
@@ -20,7 +20,7 @@ use Rattle.ciborium.specs.inner.ValuesInBytes.{ReadsItem, StandsAt}
 use Rattle.ciborium.specs.Spelling.{Spelling, HasKeysInOrder, HasKeyOutOfOrder, IsReadBy, RefusesBy}
 
 -- a value within l levels is being read at xs, offset p: this is open, and the decoder stands inside it
-abbrev pub IsReading : {S : Type 0} → Spelling → (S → Option (List ℕ)) → Decoder S → List Open → ℕ → List ℕ → ℕ → Type 0
+abbrev pub IsReading : {S : Type 0} → Spelling → (S → Option (List ℕ)) → Decoder S → List TreeFrame → ℕ → List ℕ → ℕ → Type 0
 IsReading spelling remaining d os l xs p =
     (m : ℕ) × (zs : List ℕ) × (r : ℕ) × IsAround spelling l xs p os m zs r × StandsAt spelling remaining d zs r
 
@@ -33,14 +33,14 @@ abbrev pub IsValueRead : {S E : Type 0} → Spelling → (S → Option (List ℕ
 IsValueRead spelling remaining d l xs p r = IsTreeRead spelling remaining d l xs p (read_as tree_of r)
 
 -- the answer of one turn of the loop
-abbrev pub IsTurned : {S E : Type 0} → Spelling → (S → Option (List ℕ)) → Decoder S → List Open → ℕ → List ℕ → ℕ → Result (Option Value) (Error E) → Type 0
+abbrev pub IsTurned : {S E : Type 0} → Spelling → (S → Option (List ℕ)) → Decoder S → List TreeFrame → ℕ → List ℕ → ℕ → Result (Option Value) (Error E) → Type 0
 IsTurned spelling remaining d os l xs p (Ok None) = IsReading spelling remaining d os l xs p
 IsTurned spelling remaining d os l xs p (Ok (Some v)) =
     (zs : List ℕ) × (r : ℕ) × ReadsItem spelling l xs p (tree_of v) zs r × IsAhead remaining d zs r
 IsTurned spelling remaining d os l xs p (Err e) = IsRefusedBy (left_of remaining d) e (RefusesBy spelling xs p l)
 
 -- the answer of a call that places a value that ends before offset r
-abbrev pub IsPlacedInOrder : {E : Type 0} → Spelling → List Open → Tree → ℕ → List Open → Result (Option Value) (Error E) → Type 0
+abbrev pub IsPlacedInOrder : {E : Type 0} → Spelling → List TreeFrame → Tree → ℕ → List TreeFrame → Result (Option Value) (Error E) → Type 0
 IsPlacedInOrder spelling before v r after (Ok None) = (more after ≡ placed before v) × HasKeysInOrder spelling after
 IsPlacedInOrder spelling before v r after (Ok (Some w)) = done (tree_of w) ≡ placed before v
 IsPlacedInOrder spelling before v r after (Err e) =
@@ -57,9 +57,9 @@ IsFailed left Memory = Unit {0}
 IsFailed left _ = ⊥
 
 -- bytes that are read as v stood at the front, and left followed: they were taken, and v is the answer, or the call failed
-abbrev pub AnswersTree : {E : Type 0} → Tree → List ℕ → Option (List ℕ) → Result Tree (Error E) → Type 0
-AnswersTree v left after (Ok w) = (v ≡ w) × (after ≡ Some left)
-AnswersTree v left after (Err e) = IsFailed after e
+abbrev pub GivesTree : {E : Type 0} → Tree → List ℕ → Option (List ℕ) → Result Tree (Error E) → Type 0
+GivesTree v left after (Ok w) = (v ≡ w) × (after ≡ Some left)
+GivesTree v left after (Err e) = IsFailed after e
 
 -- ---- the clauses of a call that reads one value in a spelling, within l levels: what the reader held before it, what it is left with,
 -- and the answer by its tree
@@ -81,13 +81,13 @@ TakesBytes spelling before l after r =
     (s : List ℕ) × Consumes before after s × (length s ≤ greatest_offset) × IsTakenFrom spelling 0 s l r × AreBytes s
 
 -- at Ok just the bytes of one item were taken, which are read as the answer
-abbrev pub TakesItem : {E : Type 0} → Spelling → Option (List ℕ) → ℕ → Option (List ℕ) → Result Tree (Error E) → Type 0
-TakesItem spelling before l after r = (b : List ℕ) → before ≡ Some b → IfOk r (λ v. TakesValue spelling b l v after)
+abbrev pub TakesJustItem : {E : Type 0} → Spelling → Option (List ℕ) → ℕ → Option (List ℕ) → Result Tree (Error E) → Type 0
+TakesJustItem spelling before l after r = (b : List ℕ) → before ≡ Some b → IfOk r (λ v. TakesValue spelling b l v after)
 
 -- an item at the front that is accepted is taken and its tree answered, unless the call failed
 abbrev pub AnswersGoodItem : {E : Type 0} → Spelling → Option (List ℕ) → ℕ → Option (List ℕ) → Result Tree (Error E) → Type 0
 AnswersGoodItem spelling before l after r =
-    (b s left : List ℕ) (v : Tree) → before ≡ Some b → IsReadBy spelling s 0 l v → b ≡ s ++ left → AnswersTree v left after r
+    (b s left : List ℕ) (v : Tree) → before ≡ Some b → IsReadBy spelling s 0 l v → b ≡ s ++ left → GivesTree v left after r
 
 -- an error is the refusal of what the reader held
 abbrev pub RefusesBytes : {E : Type 0} → Spelling → Option (List ℕ) → ℕ → Option (List ℕ) → Result Tree (Error E) → Type 0
@@ -109,7 +109,7 @@ TakesWithin before after = (b left : List ℕ) → before ≡ Some b → after �
 -- all of this
 pub record ReadsWhole {E : Type 0} (spelling : Spelling) (before : Option (List ℕ)) (l : ℕ) (after : Option (List ℕ)) (r : Result Tree (Error E)) : Type 0 where
   pub taken : TakesBytes spelling before l after r
-  pub ok : TakesItem spelling before l after r
+  pub ok : TakesJustItem spelling before l after r
   pub exact : AnswersGoodItem spelling before l after r
   pub refused : RefusesBytes spelling before l after r
   pub bounded : HoldsNoMore before after r

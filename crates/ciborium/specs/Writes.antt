@@ -13,10 +13,10 @@ use Rattle.ciborium.specs.declared.ser.byte_sink.Refusal.{Refusal}
 use Rattle.ciborium.specs.declared.ser.byte_sink.Refusal.TheVariants as refusal
 
 -- the error is the writer's own
-abbrev pub IsIo : {T : Type 0} → Error T → Type 0
-IsIo (Io e) = Unit {0}
-IsIo (Value kind) = ⊥
-IsIo Memory = ⊥
+abbrev pub IsWriteIo : {T : Type 0} → Error T → Type 0
+IsWriteIo (Io e) = Unit {0}
+IsWriteIo (Value kind) = ⊥
+IsWriteIo Memory = ⊥
 
 -- why writing was refused
 abbrev pub cause_of : {T : Type 0} → Error T → Cause

@@ -1,10 +1,10 @@
 //! Bytes to values.
 
 ghost use Rattle.std.specs.Prelude.{◌≡◌, IfErr, IfNone, IfSome, None, Ok, Some};
-ghost use Rattle.ciborium_value.specs.Sources.{IsGranted, TakesOnly, read_as};
+ghost use Rattle.ciborium_value.specs.Sources.{IsGrantedFault, TakesOnly, read_as};
 ghost use Rattle.ciborium.specs.Calls.{HasRead, HasReadNext};
-ghost use Rattle.ciborium.specs.Errors.{cause_of};
-ghost use Rattle.ciborium.specs.NextItems.{GoesOn, IsReadFrom, behind_head};
+ghost use Rattle.ciborium.specs.Errors.{fault_of};
+ghost use Rattle.ciborium.specs.NextItems.{IfNotEnded, IsReadFrom, behind_head};
 ghost use Rattle.ciborium.specs.Spelling.{any};
 ghost use Rattle.ciborium.specs.TypedAnswers.{RefusesTaken, TakesBeginning, TakesGiven};
 ghost use Rattle.ciborium.specs.ValueAnswers.{TakesBytesFrom};
@@ -145,7 +145,7 @@ pub fn from_reader_at<T: Deserialize, R: Read>(
         (R.remaining reader.new) (read_as T.reading.content result) }
     ensures refused { RefusesTaken offset (Some limit) T.reading.taken (R.remaining reader.old)
         (read_as T.reading.content result) }
-    ensures memory { IfErr result (λ e. IsGranted (cause_of e) T.reading.takes_memory) }
+    ensures memory { IfErr result (λ e. IsGrantedFault (fault_of e) T.reading.takes_memory) }
     // Refused or not, a prefix of what was there was taken, and nothing else.
     ensures taken { TakesBeginning (R.remaining reader.old) (R.remaining reader.new) }
     // Where reading is one call of `value`, whatever the bytes.
@@ -173,7 +173,7 @@ fn read_item<T: Deserialize, R: Read>(
     ensures only { TakesOnly (HasTakenSince R.remaining) source.old source.new }
     ensures end { IfNone first
         ((result ≡ Ok None) × (source.new.decoder ≡ source.old.decoder)) }
-    ensures item { IfSome first (λ header. GoesOn result
+    ensures item { IfSome first (λ header. IfNotEnded result
         (λ r. IsReadFrom R.remaining T.reading (behind_head source.old header) source.new r)) }
 {
     let Some(header) = first else {

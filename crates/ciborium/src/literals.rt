@@ -6,7 +6,7 @@ ghost use Rattle.ciborium_value.specs.Places.{dictionary};
 ghost use Rattle.ciborium_value.specs.Progress.{IsOwedAmong, field_count, record_of};
 ghost use Rattle.ciborium_value.specs.Sinks.{IsGranted, IsOwed, Named, container_of};
 ghost use Rattle.ciborium_value.specs.TreeAnswers.{IsTreeOf};
-ghost use Rattle.ciborium_value.specs.TreeAnswers.{cause_of};
+ghost use Rattle.ciborium_value.specs.TreeAnswers.{tree_cause};
 ghost use Rattle.ciborium.specs.Literals.{BreaksItems, CanTakeItems, TakesItems, array_of};
 
 use crate::cbor;
@@ -165,7 +165,7 @@ pub fn map_of_two<K: Serialize, V: Serialize, L: Serialize, W: Serialize>(
     ensures ok { IfOk result (IsTreeOf (container_of dictionary
         (K.written key.now ∷ V.written value.now ∷
         L.written next_key.now ∷ W.written next_value.now ∷ []))) }
-    ensures refused { IfErr result (λ e. IsOwed (cause_of e) (container_of dictionary
+    ensures refused { IfErr result (λ e. IsOwed (tree_cause e) (container_of dictionary
         (K.written key.now ∷ V.written value.now ∷
         L.written next_key.now ∷ W.written next_value.now ∷ []))) }
 {

@@ -11,13 +11,13 @@ use Rattle.ciborium_callers.specs.declared.tree_types.NumberTree.{NumberTree, fo
 use Rattle.ciborium_callers.specs.declared.tree_types.NumberTree.TheOpen.{NumberTree-F}
 
 -- one level, where each value inside is its tree already
-abbrev pub level_tree : NumberTree-F Tree → Tree
-level_tree (NumberTree-F.Leaf n) = number_tree (pos n)
-level_tree (NumberTree-F.Node parts) = trees.array (trees_from parts.items)
+abbrev pub number_level_tree : NumberTree-F Tree → Tree
+number_level_tree (NumberTree-F.Leaf n) = number_tree (pos n)
+number_level_tree (NumberTree-F.Node parts) = trees.array (trees_from parts.items)
 
 -- a leaf is its number, and a node the array of its parts
 abbrev pub shape_of : NumberTree → Tree
-shape_of = fold-NumberTree Tree level_tree
+shape_of = fold-NumberTree Tree number_level_tree
 
 abbrev mutual
   -- a number below 256, or an array of such trees

@@ -12,7 +12,6 @@ use crate::round_trips::bytes_of_both;
 use crate::sequence_callers::{read_both, write_both};
 use crate::struct_types::Reply;
 use crate::tag_types::bytes_under_a_tag;
-use crate::test_bytes::decode_hex;
 use ciborium::laws::{
     equal_contents_equal_bytes, read_back_is_written_again, sources_agree, written_is_read_back,
 };
@@ -31,10 +30,10 @@ const NO_ITEMS: [&str; 3] = ["820161ff", "8301020304", ""];
 #[test]
 fn only_items(rt: HostRuntime) -> Result<(), Fail> {
     for text in NO_ITEMS {
-        let bytes = decode_hex(rt.alloc(), text)?;
+        let bytes = hex::decode(rt.alloc(), text)?;
         expect(!is_there(only_item(rt.alloc(), &bytes)), text)?;
     }
-    let bytes = decode_hex(rt.alloc(), ITEM)?;
+    let bytes = hex::decode(rt.alloc(), ITEM)?;
     expect_bytes(rt.alloc(), rewrite_item(rt.alloc(), &bytes), ITEM)
 }
 
@@ -60,7 +59,7 @@ const MESSAGES: [(&str, Option<u8>); 6] = [
 #[test]
 fn versions(rt: HostRuntime) -> Result<(), Fail> {
     for (text, expected) in MESSAGES {
-        let bytes = decode_hex(rt.alloc(), text)?;
+        let bytes = hex::decode(rt.alloc(), text)?;
         expect(version_of(rt.alloc(), &bytes)? == expected, text)?;
     }
     Ok(())
@@ -77,10 +76,10 @@ fn version_of(alloc: Global, bytes: &[u8]) -> Result<Option<u8>, Fail> {
 #[test]
 fn messages_are_read_by_names(rt: HostRuntime) -> Result<(), Fail> {
     let alloc = rt.alloc();
-    let no_body = decode_hex(alloc, "a2416318ff6776657273696f6e07")?;
+    let no_body = hex::decode(alloc, "a2416318ff6776657273696f6e07")?;
     let is_read = is_refused(read_message(alloc, &mut no_body.as_slice()));
     expect(is_read, "no body")?;
-    let bytes = decode_hex(alloc, "a36163f56776657273696f6e0764626f6479626869")?;
+    let bytes = hex::decode(alloc, "a36163f56776657273696f6e0764626f6479626869")?;
     let mut rest = bytes.as_slice();
     let message = read_message(alloc, &mut rest)?;
     sources_agree::<Message>();
@@ -136,7 +135,7 @@ const PAIRS: [(&str, bool); 5] = [
 #[test]
 fn sequences_of_two(rt: HostRuntime) -> Result<(), Fail> {
     for (text, is_pair) in PAIRS {
-        let bytes = decode_hex(rt.alloc(), text)?;
+        let bytes = hex::decode(rt.alloc(), text)?;
         let pair = read_both(rt.alloc(), &mut bytes.as_slice());
         expect(is_there(pair) == is_pair, text)?;
     }
@@ -225,7 +224,7 @@ const KEYS: [(&str, u8); 8] = [
 fn a_store_has_rising_keys(rt: HostRuntime) -> Result<(), Fail> {
     let mut store = BTreeMap::new(rt.alloc());
     for (text, number) in KEYS {
-        let bytes = decode_hex(rt.alloc(), text)?;
+        let bytes = hex::decode(rt.alloc(), text)?;
         insert(rt.alloc(), &mut store, &bytes, number)?;
     }
     let mut bytes = Vec::new(rt.alloc());
@@ -249,7 +248,7 @@ fn insert(
 // What is written stands behind what the writer holds.
 #[test]
 fn a_writer_keeps_what_it_holds(rt: HostRuntime) -> Result<(), Fail> {
-    let mut out = decode_hex(rt.alloc(), "01")?;
+    let mut out = hex::decode(rt.alloc(), "01")?;
     put(Value::Null, &mut out)?;
     put(Value::Bool(true), &mut out)?;
     expect_bytes(rt.alloc(), Some(out), "01f6f5")

@@ -13,10 +13,10 @@ ghost use Rattle.ciborium_value.specs.Tree.{integer, text};
 ghost use Rattle.ciborium_value.specs.View.{tree_of};
 ghost use Rattle.ciborium_value.specs.declared.tree.Value as value;
 ghost use Rattle.ciborium.specs.ValueAnswers.{AnswersGoodItem, AnswersProper, HoldsNoMore};
-ghost use Rattle.ciborium.specs.ValueAnswers.{RefusesBytes, TakesBytes, TakesItem, TakesWithin};
+ghost use Rattle.ciborium.specs.ValueAnswers.{RefusesBytes, TakesBytes, TakesJustItem, TakesWithin};
 ghost use Rattle.ciborium.specs.laws.CanonicalLaws.{RiseCanonically};
 ghost use Rattle.ciborium.specs.Spelling.{any};
-ghost use Rattle.ciborium.specs.Writes.{IsIo};
+ghost use Rattle.ciborium.specs.Writes.{IsWriteIo};
 
 use crate::own_types::Message;
 use ciborium::laws::{canonical_keys_rise, written_reads_back};
@@ -36,7 +36,7 @@ pub fn read_value<R: Read>(
 ) -> Result<Value, de::Error<io::Error>>
     ensures taken { TakesBytes any (R.remaining reader.old) limit (R.remaining reader.new)
         (read_as tree_of result) }
-    ensures ok { TakesItem any (R.remaining reader.old) limit (R.remaining reader.new)
+    ensures ok { TakesJustItem any (R.remaining reader.old) limit (R.remaining reader.new)
         (read_as tree_of result) }
     ensures exact { AnswersGoodItem any (R.remaining reader.old) limit (R.remaining reader.new)
         (read_as tree_of result) }
@@ -72,7 +72,7 @@ pub fn bytes_of(alloc: Global, value: &Value) -> Option<Vec<u8>>
 pub fn write_value<W: Write>(value: &Value, writer: &mut W) -> Result<(), Error<io::Error>>
     ensures bytes { Writes (W.contents writer.old) (W.contents writer.new) result
         (encoding (tree_of value.now)) }
-    ensures refused { IfErr result IsIo }
+    ensures refused { IfErr result IsWriteIo }
     ensures proper { OnOk result (IsProperTree (tree_of value.now)) }
 {
     written_reads_back();

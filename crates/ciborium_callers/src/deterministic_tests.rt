@@ -1,6 +1,5 @@
 //! Deterministic forms of values, and their two orders of keys (RFC 8949, section 4.2).
 use crate::expectations::{expect, expect_all, expect_bytes};
-use crate::test_bytes::decode_hex;
 use ciborium::value::canonical::{
     cmp_bytewise, cmp_bytewise_counted, cmp_keys, cmp_value, encoded_size,
 };
@@ -13,7 +12,7 @@ use std::test::Fail;
 
 // The value of these digits.
 fn value_of(alloc: Global, digits: &str) -> Result<Value, Fail> {
-    let bytes = decode_hex(alloc, digits)?;
+    let bytes = hex::decode(alloc, digits)?;
     Ok(from_reader(alloc, &mut bytes.as_slice())?)
 }
 
@@ -75,7 +74,7 @@ fn equal_keys_have_no_form(rt: HostRuntime) -> Result<(), Fail> {
 
 // The tag is made by hand, since reading folds it.
 fn duplicate_by_folding(alloc: Global) -> Result<Value, Fail> {
-    let bytes = Value::Bytes(decode_hex(alloc, "01")?);
+    let bytes = Value::Bytes(hex::decode(alloc, "01")?);
     let tag = Value::Tag(2, Box::new(alloc, bytes)?);
     let mut pairs = Vec::new(alloc);
     pairs.push((tag, Value::from(0u8)))?;
@@ -86,7 +85,7 @@ fn duplicate_by_folding(alloc: Global) -> Result<Value, Fail> {
 // A bignum of more than 64 bits loses its leading zeros.
 #[test]
 fn leading_zeros_are_taken(rt: HostRuntime) -> Result<(), Fail> {
-    let bytes = Value::Bytes(decode_hex(rt.alloc(), "000000010000000000000000")?);
+    let bytes = Value::Bytes(hex::decode(rt.alloc(), "000000010000000000000000")?);
     let mut tag = Value::Tag(2, Box::new(rt.alloc(), bytes)?);
     expect(
         !tag.is_deterministic(KeyOrder::LengthFirst),
@@ -122,7 +121,7 @@ fn orders_differ(rt: HostRuntime) -> Result<(), Fail> {
 // {"a": 1, 1000: 0} as a map by either order, written again.
 #[test]
 fn maps_are_keyed_by_either_order(rt: HostRuntime) -> Result<(), Fail> {
-    let bytes = decode_hex(rt.alloc(), BY_SIZE)?;
+    let bytes = hex::decode(rt.alloc(), BY_SIZE)?;
     let by_size: BTreeMap<CanonicalValue, u8> = from_reader(rt.alloc(), &mut bytes.as_slice())?;
     let bytewise: BTreeMap<BytewiseValue, u8> = from_reader(rt.alloc(), &mut bytes.as_slice())?;
     let mut written = Vec::new(rt.alloc());

@@ -1,5 +1,4 @@
 //! What tests expect, by calls that take what they compare.
-use crate::test_bytes::decode_hex;
 use ciborium::into_writer;
 use ciborium::ser::Serialize;
 use std::alloc::Global;
@@ -25,7 +24,7 @@ pub fn expect_all(hold: &[bool]) -> Result<(), Fail> {
 /// Fails unless there are bytes, and these hex digits name them.
 pub fn expect_bytes(alloc: Global, bytes: Option<Vec<u8>>, digits: &str) -> Result<(), Fail> {
     match bytes {
-        Some(found) => expect_same(found, decode_hex(alloc, digits)?, digits),
+        Some(found) => expect_same(found, hex::decode(alloc, digits)?, digits),
         None => Err(Fail::new(digits)),
     }
 }

@@ -4,7 +4,6 @@ use crate::own_types::{Figure, Message};
 use crate::round_trips::{
     message_through_form, through_form, through_own_form, through_sorted_form,
 };
-use crate::test_bytes::decode_hex;
 use ciborium::laws::form_is_read_back;
 use ciborium::ser::{Error, Serialize};
 use ciborium::tag::Required;
@@ -60,7 +59,7 @@ fn equal_keys_are_refused(rt: HostRuntime) -> Result<(), Fail> {
 
 // Fails unless the value is refused for its keys, and nothing is written behind what was there.
 fn expect_duplicate(alloc: Global, value: &Value, order: KeyOrder) -> Result<(), Fail> {
-    let mut bytes = decode_hex(alloc, "00")?;
+    let mut bytes = hex::decode(alloc, "00")?;
     match into_writer_deterministic(alloc, value, order, &mut bytes) {
         Err(Error::Value(Kind::DuplicateKey)) => expect_bytes(alloc, Some(bytes), "00"),
         _ => Err(Fail::new("equal keys")),

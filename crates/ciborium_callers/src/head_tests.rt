@@ -1,6 +1,5 @@
 //! The callers of the lowest layer are run.
 use crate::head_callers::{first_head, write_array};
-use crate::test_bytes::decode_hex;
 use ciborium::ll::Header;
 use std::test::Fail;
 
@@ -14,8 +13,8 @@ fn a_local_decoder_leaves_the_rest(rt: HostRuntime) -> Result<(), Fail> {
 
 #[test]
 fn a_local_encoder_writes_to_its_writer(rt: HostRuntime) -> Result<(), Fail> {
-    let mut out = decode_hex(rt.alloc(), "01")?;
+    let mut out = hex::decode(rt.alloc(), "01")?;
     write_array(&mut out)?;
-    assert_eq!(rt; out, decode_hex(rt.alloc(), "019f6161ff")?);
+    assert_eq!(rt; out, hex::decode(rt.alloc(), "019f6161ff")?);
     Ok(())
 }

@@ -2,7 +2,6 @@
 //! and of equal keys the last value counts.
 use crate::expectations::expect_bytes;
 use crate::key_types::{Release, Seat};
-use crate::test_bytes::decode_hex;
 use ciborium::de::Deserialize;
 use ciborium::ser::Serialize;
 use ciborium::tag::{Accepted, Captured, Required};
@@ -69,7 +68,7 @@ fn expect_rewritten<T: Deserialize + Serialize>(
     given: &str,
     written: &str,
 ) -> Result<(), Fail> {
-    let bytes = decode_hex(alloc, given)?;
+    let bytes = hex::decode(alloc, given)?;
     let mut reader = bytes.as_slice();
     let value: T = from_reader(alloc, &mut reader)?;
     let mut out = Vec::new(alloc);

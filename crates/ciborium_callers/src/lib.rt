@@ -43,8 +43,6 @@ mod sequence_tests;
 pub mod struct_types;
 pub mod tag_types;
 #[cfg(test)]
-mod test_bytes;
-#[cfg(test)]
 mod tree_tests;
 #[cfg(test)]
 mod tree_type_tests;

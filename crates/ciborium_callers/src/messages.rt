@@ -1,7 +1,7 @@
 //! What errors print, as a caller's contract says it.
 
 ghost use Rattle.std.specs.Prelude.{◌≡◌, IfOk, IfSome, None, string_bytes};
-ghost use Rattle.ciborium_value.specs.RefusalMessages.{error_message, kind_message};
+ghost use Rattle.ciborium_value.specs.RefusalMessages.{tree_error_message, kind_message};
 ghost use Rattle.ciborium.specs.Messages.{read_error_message, write_error_message};
 
 use ciborium::value::{self, Kind};
@@ -18,7 +18,7 @@ pub fn kind_text(alloc: Global, kind: Kind) -> Result<String, AllocError>
 
 /// What an error of a tree prints.
 pub fn tree_error_text(alloc: Global, error: value::Error) -> Result<String, AllocError>
-    ensures { IfOk result (λ s. string_bytes s ≡ error_message error) }
+    ensures { IfOk result (λ s. string_bytes s ≡ tree_error_message error) }
 {
     error.to_string(alloc)
 }

@@ -3,7 +3,6 @@ use crate::expectations::{expect, expect_bytes, expect_same, expect_written};
 use crate::own_types::{Figure, Message};
 use crate::round_trips::{copy_deterministic, through_bytes, through_store, through_tree};
 use crate::struct_types::{Notice, Reply};
-use crate::test_bytes::decode_hex;
 use ciborium::de::Error;
 use ciborium::laws::loaded_as_saved;
 use ciborium::value::{CanonicalValue, KeyOrder, Kind, Value};
@@ -82,7 +81,7 @@ const STORE: &str = "a60a002001186402617a0362616104811864a10506";
 
 #[test]
 fn a_store_is_loaded_as_it_was_saved(rt: HostRuntime) -> Result<(), Fail> {
-    let saved = decode_hex(rt.alloc(), STORE)?;
+    let saved = hex::decode(rt.alloc(), STORE)?;
     let store = load(rt.alloc(), &saved)?;
     let mut bytes = Vec::new(rt.alloc());
     into_writer(&store, &mut bytes)?;
@@ -131,7 +130,7 @@ fn read_by(
     digits: &str,
     order: KeyOrder,
 ) -> Result<Result<Value, Error<io::Error>>, Fail> {
-    let bytes = decode_hex(alloc, digits)?;
+    let bytes = hex::decode(alloc, digits)?;
     let mut reader: &[u8] = &bytes;
     Ok(from_reader_deterministic_with_order(alloc, &mut reader, 256, order))
 }

@@ -2,7 +2,6 @@
 use crate::expectations::{expect, expect_bytes};
 use crate::own_types::{Figure, Message};
 use crate::sequence_callers::{keep_all_messages, read_all_messages, write_all_messages};
-use crate::test_bytes::decode_hex;
 use ciborium::de::{self, Deserialize};
 use ciborium::laws::sequence_is_read_back;
 use ciborium::ser::{self, Serialize};
@@ -71,7 +70,7 @@ fn a_bad_item_in_the_middle(rt: HostRuntime) -> Result<(), Fail> {
 
 // Reads the bytes of these hex digits as a sequence of numbers.
 fn read_digits(alloc: Global, digits: &str) -> Result<Result<Vec<u8>, de::Error<io::Error>>, Fail> {
-    let bytes = decode_hex(alloc, digits)?;
+    let bytes = hex::decode(alloc, digits)?;
     let mut rest = bytes.as_slice();
     Ok(read_all_messages(alloc, &mut rest))
 }

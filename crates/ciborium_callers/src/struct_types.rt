@@ -11,7 +11,7 @@ ghost use Rattle.ciborium_value.specs.lemmas.ReadsBackParts.{either_back};
 ghost use Rattle.ciborium_value.specs.lemmas.ReadsBackStructs.{field_back, field_from_back};
 ghost use Rattle.ciborium_value.specs.lemmas.ReadsBackStructs.{fields_read_back, left_out_back};
 ghost use Rattle.ciborium_value.specs.lemmas.ReadsBackStructs.{no_field_back};
-ghost use Rattle.ciborium_value.specs.Sinks.{fields_of, named_text, number_item, option_of};
+ghost use Rattle.ciborium_value.specs.Sinks.{fields_of, named_text, number_item, or_null};
 ghost use Rattle.ciborium_value.specs.StructReadings.{field, field_or, no_field, optional_field};
 ghost use Rattle.ciborium_value.specs.StructReadings.{struct_of};
 ghost use Rattle.ciborium_value.specs.WrittenContents.{field_alike, fields_alike};
@@ -118,7 +118,7 @@ pub struct Reply {
 impl Serialize for Reply {
     ghost written = { λ r. fields_of ((codes "title", named_text (string_bytes r.title)) ∷
         (codes "number", Ok (number_item (pos r.number))) ∷
-        (codes "text", option_of (λ s. named_text (string_bytes s)) r.text) ∷ []) };
+        (codes "text", or_null (λ s. named_text (string_bytes s)) r.text) ∷ []) };
 
     ghost takes_memory = { ⊥ };
 

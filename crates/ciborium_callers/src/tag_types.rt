@@ -3,7 +3,7 @@ ghost use Rattle.std.specs.Prelude.{◌≡◌, ◌∷◌, IfSome, Ok, Option, []
 ghost use Rattle.ciborium_ll.specs.Item as item;
 ghost use Rattle.ciborium_value.specs.Encoding.{written_bytes};
 ghost use Rattle.ciborium_value.specs.Places.{sequence};
-ghost use Rattle.ciborium_value.specs.Sinks.{container_of, number_item, option_of};
+ghost use Rattle.ciborium_value.specs.Sinks.{container_of, number_item, or_null};
 ghost use Rattle.ciborium_value.specs.TagReadings.{with_tag};
 
 use ciborium::de::{Deserialize, Source};
@@ -18,8 +18,8 @@ pub struct Two<V>(pub Option<u64>, pub Option<u64>, pub V);
 
 /// An array of both tags, each null where there is none, and the value.
 impl<V: Serialize> Serialize for Two<V> {
-    ghost written = { λ t. container_of sequence (option_of (λ n. Ok (number_item (pos n))) t.0 ∷
-        option_of (λ n. Ok (number_item (pos n))) t.1 ∷ V.written t.2 ∷ []) };
+    ghost written = { λ t. container_of sequence (or_null (λ n. Ok (number_item (pos n))) t.0 ∷
+        or_null (λ n. Ok (number_item (pos n))) t.1 ∷ V.written t.2 ∷ []) };
 
     ghost takes_memory = { V.takes_memory };
 
@@ -51,7 +51,7 @@ pub struct Parted<V>(pub Option<u64>, pub V);
 
 /// An array of the tag, null where there is none, and the value.
 impl<V: Serialize> Serialize for Parted<V> {
-    ghost written = { λ t. container_of sequence (option_of (λ n. Ok (number_item (pos n))) t.0 ∷
+    ghost written = { λ t. container_of sequence (or_null (λ n. Ok (number_item (pos n))) t.0 ∷
         V.written t.1 ∷ []) };
 
     ghost takes_memory = { V.takes_memory };

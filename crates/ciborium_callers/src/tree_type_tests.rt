@@ -1,6 +1,5 @@
 //! A type that holds itself is read from bytes and from a tree, and written.
 use crate::expectations::{expect, expect_bytes, is_refused};
-use crate::test_bytes::decode_hex;
 use crate::tree_types::NumberTree;
 use ciborium::de::Error;
 use ciborium::value::{Kind, Value};
@@ -20,7 +19,7 @@ const TREES: [(&str, &str); 4] = [
 #[test]
 fn trees_are_written_as_read(rt: HostRuntime) -> Result<(), Fail> {
     for (given, written) in TREES {
-        let bytes = decode_hex(rt.alloc(), given)?;
+        let bytes = hex::decode(rt.alloc(), given)?;
         let tree = read(rt.alloc(), &bytes)?;
         expect_bytes(rt.alloc(), Some(write(rt.alloc(), &tree)?), written)?;
         let value = read_value(rt.alloc(), &bytes)?;
@@ -36,7 +35,7 @@ const OTHERS: [&str; 7] = ["190100", "20", "6161", "f6", "82018140", "a10102", "
 #[test]
 fn other_items_are_refused(rt: HostRuntime) -> Result<(), Fail> {
     for given in OTHERS {
-        let bytes = decode_hex(rt.alloc(), given)?;
+        let bytes = hex::decode(rt.alloc(), given)?;
         let answer = read(rt.alloc(), &bytes);
         expect(
             matches!(answer, Err(Error::Semantic(None, Kind::Other))),

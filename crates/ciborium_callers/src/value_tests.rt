@@ -1,7 +1,6 @@
 //! Copies and comparisons of values, and the error of a writer.
 use crate::callers::only_item;
 use crate::expectations::expect_all;
-use crate::test_bytes::decode_hex;
 use ciborium::from_reader;
 use ciborium::ser::Error;
 use ciborium::tag::{Accepted, Captured, Required};
@@ -13,7 +12,7 @@ use std::test::Fail;
 
 #[test]
 fn a_copy_is_equal(rt: HostRuntime) -> Result<(), Fail> {
-    let bytes = decode_hex(rt.alloc(), "8101")?;
+    let bytes = hex::decode(rt.alloc(), "8101")?;
     match only_item(rt.alloc(), &bytes) {
         Some(array) => copies(&array),
         None => Err(Fail::new("no item")),

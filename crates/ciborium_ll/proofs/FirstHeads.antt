@@ -5,7 +5,7 @@ use Rattle.ciborium_ll.specs.declared.header.Header.{Header}
 use Rattle.ciborium_ll.specs.declared.header.Error.{Error}
 use Rattle.ciborium_ll.specs.declared.header.Error.TheVariants.{Io, Syntax, TooLong, Memory}
 use Rattle.ciborium_ll.specs.Bytes.{greatest_offset}
-use Rattle.ciborium_ll.specs.FirstHeads.{IsEndOrFault, IsFirstTaken, IsIo, PullsFirstTo}
+use Rattle.ciborium_ll.specs.FirstHeads.{IsEndOrFault, IsFirstTaken, IsHeadIo, PullsFirstTo}
 use Rattle.ciborium_ll.specs.ReaderSteps.{Advances, IsHeadTaken}
 use Rattle.ciborium_ll.specs.Refusal.{Refusal, io, syntax, too_long, HeadRefuses, head_refusal}
 use Rattle.ciborium_ll.proofs.Advancing.{Advances-map, Filled}
@@ -14,7 +14,7 @@ use Rattle.ciborium_ll.proofs.Unread.{pulls-head, rest-of}
 none-refused : (p : ℕ) → p < greatest_offset → HeadRefuses [] p io
 none-refused p h = ap (λ t. cond t (Some io) (Some too_long)) (lt-ltb p greatest_offset h)
 
-none-needed : {E : Type 0} (p : ℕ) (e : Error E) → p < greatest_offset → IsIo e → IsHeadTaken {E = E} [] p (Err e)
+none-needed : {E : Type 0} (p : ℕ) (e : Error E) → p < greatest_offset → IsHeadIo e → IsHeadTaken {E = E} [] p (Err e)
 none-needed p (Io e) h i = record { answers = none-refused p h; needed = λ k lt. absurd (omega arith) }
 none-needed p (Syntax at) h i = absurd i
 none-needed p TooLong h i = absurd i
@@ -32,7 +32,7 @@ pub first-none : (E : Type 0) (a b : Option (List ℕ)) (p q n : ℕ) (buffer : 
 first-none E a b p q n buffer none = Advances-map a b p q (λ x. x ≡ take n buffer) (λ x. x ≡ []) (λ x h. h ∙ ap (λ k. take k buffer) none)
 
 -- it failed
-pub first-fault : {E : Type 0} (a b : Option (List ℕ)) (p q : ℕ) (e : Error E) → p < greatest_offset → Advances a b p q (λ x. x ≡ []) × IsIo e → Advances a b p q (λ x. IsFirstTaken {E = E} x p (Err e))
+pub first-fault : {E : Type 0} (a b : Option (List ℕ)) (p q : ℕ) (e : Error E) → p < greatest_offset → Advances a b p q (λ x. x ≡ []) × IsHeadIo e → Advances a b p q (λ x. IsFirstTaken {E = E} x p (Err e))
 first-fault {E} a b p q e room (taken, is) =
     Advances-map a b p q (λ x. x ≡ []) (λ x. IsHeadTaken {E = E} x p (Err e)) (λ x h. subst (λ z. IsHeadTaken {E = E} z p (Err e)) (sym h) (none-needed p e room is)) taken
 

@@ -11,7 +11,7 @@ use Rattle.ciborium_ll.specs.declared.lookahead.Lookahead.{Lookahead}
 use Rattle.ciborium_ll.specs.declared.window.Window.{Window}
 use Rattle.ciborium_ll.specs.Bytes.{AreBytes}
 use Rattle.ciborium_ll.specs.declared.decoder.Decoder.{Decoder}
-use Rattle.ciborium_ll.specs.Decoding.{HasBegun, HasSameReader, IsUnread, Takes, allowed_of, emptied, left_of, with_left}
+use Rattle.ciborium_ll.specs.Decoding.{HasBegun, HasSameReader, ReadsNothing, Takes, allowed_of, emptied, left_of, with_left}
 use Rattle.ciborium_ll.specs.Windows.{AllowsNothing, held, held_at, held_of, unread, unread_at}
 use Rattle.ciborium_ll.specs.ReaderSteps.{Advances, IsHeadTaken}
 
@@ -146,15 +146,15 @@ pub same-reach : {S : Type 0} (d e : Decoder S) → HasSameReader d e → e.wind
 same-reach {S} d e h = ap (λ (p : GName × ℕ). p.1) h
 
 -- where nothing was read, what is unread is what was
-pub unread-left : {S : Type 0} (remaining : S → Option (List ℕ)) (d e : Decoder S) → IsUnread d e → left_of remaining e ≡ left_of remaining d
+pub unread-left : {S : Type 0} (remaining : S → Option (List ℕ)) (d e : Decoder S) → ReadsNothing d e → left_of remaining e ≡ left_of remaining d
 unread-left remaining d e (now, window) = ap (λ r. unread (remaining r) e.window) now ∙ ap (λ (w : Window). unread (remaining d.reader.now) w) window
 
 -- as many bytes are counted
-pub unread-count : {S : Type 0} (d e : Decoder S) → IsUnread d e → e.window.count ≡ d.window.count
+pub unread-count : {S : Type 0} (d e : Decoder S) → ReadsNothing d e → e.window.count ≡ d.window.count
 unread-count d e (now, window) = ap (λ (w : Window). w.count) window
 
 -- the same, where the bytes are known that are left
-pub unread-with : {S : Type 0} (d e : Decoder S) (u : List ℕ) → IsUnread d e → IsUnread (with_left d u) (with_left e u)
+pub unread-with : {S : Type 0} (d e : Decoder S) (u : List ℕ) → ReadsNothing d e → ReadsNothing (with_left d u) (with_left e u)
 unread-with d e u (now, window) = (refl, ap emptied window)
 
 -- where nothing may be read ahead, nothing is held, and what is unread is what the reader has left

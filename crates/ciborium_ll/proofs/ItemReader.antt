@@ -5,7 +5,7 @@ use Rattle.std.proofs.Math.Seq.{take-append_seam, drop-append_seam}
 use Rattle.ciborium_ll.specs.Head.{IsHead, IsSimple, IsFloat}
 use Rattle.ciborium_ll.specs.Item.{Item, unsigned, negative, bytes, text, array, map, tag, simple, float, Items, no_items, item, Pairs, no_pairs, pair, items_count, pairs_count}
 use Rattle.ciborium_ll.specs.Bytes.{AreBytes}
-use Rattle.ciborium_ll.specs.Spells.{AreParts, joined, IsString, Spells, SpellsItems, SpellsPairs}
+use Rattle.ciborium_ll.specs.Spells.{AreChunks, joined, IsString, Spells, SpellsItems, SpellsPairs}
 use Rattle.ciborium_ll.proofs.FrontHeads.{Front, nothing, counted, opened, plain, raw, front, front_open, front-head, front-simple, head-length}
 
 abbrev pub Parse : Type 0 → Type 0
@@ -143,7 +143,7 @@ read-break d x h = read_is d (255 ∷ x) h ∙ ap (item_at (read (d - 1)) (d - 1
 taken : (c : List ℕ → Item) (p x : List ℕ) → found (c (take (length p) (p ++ x))) (drop (length p) (p ++ x)) ≡ found (c p) x
 taken c p x = ap (λ (t : List ℕ). found (c t) (drop (length p) (p ++ x))) (take-append_seam p x) ∙ ap (found (c p)) (drop-append_seam p x)
 
-parts-again : (m : ℕ) (IsAllowed : List ℕ → Type 0) (ps : List (List ℕ)) (k : ℕ) (b x : List ℕ) → m < 7 → length b < k → AreParts m IsAllowed b ps → parts k (b ++ (255 ∷ x)) ≡ found (joined ps) x
+parts-again : (m : ℕ) (IsAllowed : List ℕ → Type 0) (ps : List (List ℕ)) (k : ℕ) (b x : List ℕ) → m < 7 → length b < k → AreChunks m IsAllowed b ps → parts k (b ++ (255 ∷ x)) ≡ found (joined ps) x
 parts-again m IsAllowed [] zero b x lt le s = let never : ⊥ = omega arith in absurd never
 parts-again m IsAllowed [] (suc k) b x lt le s = ap (λ (c : List ℕ). part_in (parts k) (front (c ++ (255 ∷ x)))) s ∙ ap (part_in (parts k)) (front_open 7 x)
 parts-again m IsAllowed (p ∷ ps) zero b x lt le s = let never : ⊥ = omega arith in absurd never

@@ -9,9 +9,9 @@ use Rattle.ciborium_ll.specs.Bytes.{greatest_offset}
 use Rattle.ciborium_ll.specs.Head.{IsHead, break_byte}
 use Rattle.ciborium_ll.specs.Header.{SpellsHeader, announced_length}
 use Rattle.ciborium_ll.specs.ReaderSteps.{Advances, IsHeadTaken}
-use Rattle.ciborium_ll.specs.Spells.{IsDefiniteString, AreParts, joined}
-use Rattle.ciborium_ll.specs.StringRefusal.{StringKind, of_bytes, of_text, major_of, IsAllowed}
-use Rattle.ciborium_ll.specs.Strings.{string_header, IsPart, IsPayloadTaken, IsPartTaken, IsPartsTaken}
+use Rattle.ciborium_ll.specs.Spells.{IsDefiniteString, AreChunks, joined}
+use Rattle.ciborium_ll.specs.StringRefusal.{StringKind, of_bytes, of_text, string_major, IsAllowed}
+use Rattle.ciborium_ll.specs.Strings.{string_header, IsChunk, IsPayloadTaken, IsChunkTaken, AreChunksTaken}
 use Rattle.ciborium_ll.proofs.Advancing.{Advances-then}
 use Rattle.ciborium_ll.proofs.UsableHeads.{usable-fits}
 use Rattle.ciborium_ll.proofs.HeadAnswers.{header-fits}
@@ -19,7 +19,7 @@ use Rattle.std.proofs.KnownBytes.{Consumes-nil}
 
 -- ---- one part more at the end
 
-pub AreParts-more : (m : ℕ) (A : List ℕ → Type 0) (ps : List (List ℕ)) (s t p : List ℕ) → AreParts m A s ps → IsDefiniteString m A t p → AreParts m A (s ++ t) (ps ++ p ∷ [])
+pub AreParts-more : (m : ℕ) (A : List ℕ → Type 0) (ps : List (List ℕ)) (s t p : List ℕ) → AreChunks m A s ps → IsDefiniteString m A t p → AreChunks m A (s ++ t) (ps ++ p ∷ [])
 AreParts-more m A [] s t p e d = (t, [], d, refl, ap (λ (c : List ℕ). c ++ t) e ∙ sym (append-nil t))
 AreParts-more m A (q ∷ ps) s t p (u, v, str, rest, e) d =
     (u, v ++ t, str, AreParts-more m A ps v t p rest d, ap (λ (c : List ℕ). c ++ t) e ∙ append_assoc u v t)
@@ -33,10 +33,10 @@ joined-more (q ∷ ps) p = ap (λ (c : List ℕ). q ++ c) (joined-more ps p) ∙
 -- good parts were taken between the offsets p and q, and their payloads appended
 abbrev pub GoodParts : StringKind → Option (List ℕ) → Option (List ℕ) → ℕ → ℕ → List ℕ → List ℕ → Type 0
 GoodParts kind a b p q old new =
-    (payloads : List (List ℕ)) × (s : List ℕ) × AreParts (major_of kind) (IsAllowed kind) s payloads × (new ≡ old ++ joined payloads) ×
+    (payloads : List (List ℕ)) × (s : List ℕ) × AreChunks (string_major kind) (IsAllowed kind) s payloads × (new ≡ old ++ joined payloads) ×
     Advances a b p q (λ x. x ≡ s) × (q ≤ greatest_offset)
 
-string-head : (kind : StringKind) (h : List ℕ) (n : ℕ) → SpellsHeader h (string_header kind n) → IsHead h (major_of kind) n
+string-head : (kind : StringKind) (h : List ℕ) (n : ℕ) → SpellsHeader h (string_header kind n) → IsHead h (string_major kind) n
 string-head of_bytes h n s = s
 string-head of_text h n s = s
 
@@ -47,7 +47,7 @@ WholePayload kind n b added = (length b ≡ n) × IsAllowed kind b × (added ≡
 -- all parts were taken and appended, from offset p on
 abbrev pub WholeParts : StringKind → List ℕ → ℕ → List ℕ → Type 0
 WholeParts kind b p added =
-    (payloads : List (List ℕ)) × (s : List ℕ) × AreParts (major_of kind) (IsAllowed kind) s payloads × (p + length b ≤ greatest_offset) ×
+    (payloads : List (List ℕ)) × (s : List ℕ) × AreChunks (string_major kind) (IsAllowed kind) s payloads × (p + length b ≤ greatest_offset) ×
     (b ≡ s ++ break_byte ∷ []) × (added ≡ joined payloads)
 
 -- a part was taken
@@ -58,13 +58,13 @@ parts-more {E} kind a b c d p q r t n old mid new h is (ps, s, parts, was, taken
     let body : List ℕ = payload.0 in
     let added : List ℕ = payload.3.0 in
     let same : added ≡ body = payload.3.2.2 in
-    let spelled : IsHead head.0 (major_of kind) (length body) = subst (IsHead head.0 (major_of kind)) (sym payload.3.2.0) (string-head kind head.0 n (subst (SpellsHeader head.0) is head.3.answers.0)) in
+    let spelled : IsHead head.0 (string_major kind) (length body) = subst (IsHead head.0 (string_major kind)) (sym payload.3.2.0) (string-head kind head.0 n (subst (SpellsHeader head.0) is head.3.answers.0)) in
     let whole : Advances b d q t (λ x. x ≡ head.0 ++ body) =
     Advances-then b c d q r t (λ x. x ≡ head.0) (λ x. x ≡ body) (λ x. x ≡ head.0 ++ body)
     (λ x y e f. ap (λ (l : List ℕ). l ++ y) e ∙ ap (λ (l : List ℕ). head.0 ++ l) f) (head.0, head.1, head.2, refl, head.4) (body, payload.1, payload.2, refl, payload.4) in (
       ps ++ body ∷ [],
       s ++ (head.0 ++ body),
-      AreParts-more (major_of kind) (IsAllowed kind) ps s (head.0 ++ body) body parts (head.0, spelled, payload.3.2.1, refl),
+      AreParts-more (string_major kind) (IsAllowed kind) ps s (head.0 ++ body) body parts (head.0, spelled, payload.3.2.1, refl),
       payload.3.1 ∙ ap (λ (l : List ℕ). l ++ added) was ∙ append_assoc old (joined ps) added ∙ ap (λ (l : List ℕ). old ++ (joined ps ++ l)) same ∙ ap (λ (l : List ℕ). old ++ l) (sym (joined-more ps body)),
       Advances-then a b d p q t (λ x. x ≡ s) (λ x. x ≡ head.0 ++ body) (λ x. x ≡ s ++ (head.0 ++ body)) (λ x y e f. ap (λ (l : List ℕ). l ++ y) e ∙ ap (λ (l : List ℕ). s ++ l) f) taken whole,
       fits,
@@ -86,14 +86,14 @@ parts-end {E} kind a b c p q r old mid h is (ps, s, parts, was, taken, below) he
 
 -- a refusal behind some parts
 pub parts-refused : {E : Type 0} (kind : StringKind) (a b c : Option (List ℕ)) (p q r : ℕ) (old mid new : List ℕ) (e : Error E) → GoodParts kind a b p q old mid → new ≡ mid →
-    Advances b c q r (λ x. IsPartTaken {E = E} kind x q e) → Advances a c p r (λ x. (added : List ℕ) × (new ≡ old ++ added) × IsPartsTaken {E = E} kind x p (Err e) added)
+    Advances b c q r (λ x. IsChunkTaken {E = E} kind x q e) → Advances a c p r (λ x. (added : List ℕ) × (new ≡ old ++ added) × AreChunksTaken {E = E} kind x p (Err e) added)
 parts-refused {E} kind a b c p q r old mid new e (ps, s, parts, was, taken, below) same part =
     let at : q ≡ p + length s = taken.2 ∙ ap (λ (l : List ℕ). p + length l) taken.3 in
-    Advances-then a b c p q r (λ x. x ≡ s) (λ x. IsPartTaken {E = E} kind x q e) (λ x. (added : List ℕ) × (new ≡ old ++ added) × IsPartsTaken {E = E} kind x p (Err e) added)
+    Advances-then a b c p q r (λ x. x ≡ s) (λ x. IsChunkTaken {E = E} kind x q e) (λ x. (added : List ℕ) × (new ≡ old ++ added) × AreChunksTaken {E = E} kind x p (Err e) added)
     (λ x y f g. (
       joined ps,
       same ∙ was,
-      (ps, s, parts, omega (arith, at, below), (y, ap (λ (l : List ℕ). l ++ y) f, subst (λ k. IsPartTaken {E = E} kind y k e) at g), refl),
+      (ps, s, parts, omega (arith, at, below), (y, ap (λ (l : List ℕ). l ++ y) f, subst (λ k. IsChunkTaken {E = E} kind y k e) at g), refl),
     ))
     taken part
 
@@ -108,11 +108,11 @@ nothing-appended kind n p Memory added b h = (h.1, (h.0, refl))
 -- the payload of a part was refused
 pub payload-refused : {E : Type 0} (kind : StringKind) (b c d : Option (List ℕ)) (k q r t n : ℕ) (mid new : List ℕ) (h : Header) (e : Error E) → k ≡ q → h ≡ string_header kind n →
     Advances b c q r (λ x. IsHeadTaken {E = E} x q (Ok h)) → Advances c d r t (λ x. (added : List ℕ) × (new ≡ mid ++ added) × IsPayloadTaken {E = E} kind n k x (Err e) added) →
-    (new ≡ mid) × Advances b d q t (λ x. IsPartTaken {E = E} kind x q e)
+    (new ≡ mid) × Advances b d q t (λ x. IsChunkTaken {E = E} kind x q e)
 payload-refused {E} kind b c d k q r t n mid new h e here is head payload =
     let none = nothing-appended {E = E} kind n q e payload.3.0 payload.0 (subst (λ j. IsPayloadTaken {E = E} kind n j payload.0 (Err e) payload.3.0) here payload.3.2) in (
       payload.3.1 ∙ ap (λ (l : List ℕ). mid ++ l) none.0 ∙ append-nil mid,
-      Advances-then b c d q r t (λ x. IsHeadTaken {E = E} x q (Ok h)) (λ x. IsPayloadTaken {E = E} kind n q x (Err e) []) (λ x. IsPartTaken {E = E} kind x q e)
+      Advances-then b c d q r t (λ x. IsHeadTaken {E = E} x q (Ok h)) (λ x. IsPayloadTaken {E = E} kind n q x (Err e) []) (λ x. IsChunkTaken {E = E} kind x q e)
           (λ x y f g. inr (inr (n, x, y, refl, subst (λ k. IsHeadTaken {E = E} x q (Ok k)) is f, g)))
           head (payload.0, payload.1, payload.2, none.1, payload.4),
     )
@@ -122,12 +122,12 @@ pub parts-none : (kind : StringKind) (a : Option (List ℕ)) (p : ℕ) (old : Li
 parts-none kind a p old fits = ([], [], refl, sym (append-nil old), ([], Consumes-nil a, omega arith, refl, λ k d h. absurd (omega (arith, h))), fits)
 
 -- a head that is no part's
-pub other-refused : {E : Type 0} (kind : StringKind) (b c : Option (List ℕ)) (k q r : ℕ) (h : Header) → k ≡ q → IsPart kind h Other → Advances b c q r (λ x. IsHeadTaken {E = E} x q (Ok h)) →
-    Advances b c q r (λ x. IsPartTaken {E = E} kind x q (Syntax k))
+pub other-refused : {E : Type 0} (kind : StringKind) (b c : Option (List ℕ)) (k q r : ℕ) (h : Header) → k ≡ q → IsChunk kind h Other → Advances b c q r (λ x. IsHeadTaken {E = E} x q (Ok h)) →
+    Advances b c q r (λ x. IsChunkTaken {E = E} kind x q (Syntax k))
 other-refused {E} kind b c k q r h here other head = (head.0, head.1, head.2, inr (inl (h, head.3, other, ap Syntax here)), head.4)
 
 -- a head that was refused
-pub part-head-refused : {E : Type 0} (kind : StringKind) (b c : Option (List ℕ)) (q r : ℕ) (e : Error E) → Advances b c q r (λ x. IsHeadTaken {E = E} x q (Err e)) → Advances b c q r (λ x. IsPartTaken {E = E} kind x q e)
+pub part-head-refused : {E : Type 0} (kind : StringKind) (b c : Option (List ℕ)) (q r : ℕ) (e : Error E) → Advances b c q r (λ x. IsHeadTaken {E = E} x q (Err e)) → Advances b c q r (λ x. IsChunkTaken {E = E} kind x q e)
 part-head-refused {E} kind b c q r e head = (head.0, head.1, head.2, inl head.3, head.4)
 
 -- the payload of a part fits behind its head

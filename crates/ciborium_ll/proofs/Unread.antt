@@ -10,11 +10,11 @@ use Rattle.ciborium_ll.specs.declared.header.Error.TheVariants.{Io, Syntax, TooL
 use Rattle.ciborium_ll.specs.Head.{break_byte}
 use Rattle.ciborium_ll.specs.Header.{SpellsHeader}
 use Rattle.ciborium_ll.specs.Decoding.{PullsTo}
-use Rattle.ciborium_ll.specs.ReaderSteps.{Advances, IsRefusedBy, IsHeadTaken}
+use Rattle.ciborium_ll.specs.ReaderSteps.{Advances, IsRefusalOf, IsHeadTaken}
 use Rattle.ciborium_ll.specs.Refusal.{Refusal, io, syntax, too_long, HeadRefuses, IsUsable, HasHead, IsAtFront}
-use Rattle.ciborium_ll.specs.Spells.{AreParts, joined}
-use Rattle.ciborium_ll.specs.StringRefusal.{StringKind, of_bytes, of_text, major_of, IsAllowed, PayloadRefuses, HasStringHead, PartRefuses, PartsRefuse, ContentRefuses}
-use Rattle.ciborium_ll.specs.Strings.{string_header, IsPayloadTaken, IsPartTaken, IsPartsTaken, IsStringTaken}
+use Rattle.ciborium_ll.specs.Spells.{AreChunks, joined}
+use Rattle.ciborium_ll.specs.StringRefusal.{StringKind, of_bytes, of_text, string_major, IsAllowed, PayloadRefuses, HasStringHead, ChunkRefuses, ChunksRefuse, ContentRefuses}
+use Rattle.ciborium_ll.specs.Strings.{string_header, IsPayloadTaken, IsChunkTaken, AreChunksTaken, IsStringTaken}
 use Rattle.ciborium_ll.proofs.MoreBytes.{refusal-more}
 use Rattle.ciborium_ll.proofs.OneHeader.{one_header_at_front}
 
@@ -29,7 +29,7 @@ rest-of old new b x e h = known-rest b new x (subst (λ o. Consumes o new x) e h
 -- what reading a head at the front of b, from offset p on, answers and leaves
 abbrev pub ReadsHead : {E : Type 0} → Option (List ℕ) → List ℕ → ℕ → ℕ → Result Header (Error E) → Type 0
 ReadsHead new b p q (Ok h) = (x : List ℕ) × (r : List ℕ) × SpellsHeader x h × IsUsable b p × (b ≡ x ++ r) × (q ≡ p + length x) × (new ≡ Some r)
-ReadsHead new b p q (Err e) = IsRefusedBy new e (HeadRefuses b p)
+ReadsHead new b p q (Err e) = IsRefusalOf new e (HeadRefuses b p)
 
 -- ---- heads
 
@@ -54,7 +54,7 @@ taken-whole x r b left is rest end = is ∙ ap (λ (l : List ℕ). x ++ l) (insi
 
 -- bytes of a head that were refused, with what follows
 pub head-refuses : {E : Type 0} (x r b : List ℕ) (p : ℕ) (left : Option (List ℕ)) (e : Error E) → IsHeadTaken {E = E} x p (Err e) → b ≡ x ++ r → left ≡ Some r →
-    IsRefusedBy left e (HeadRefuses b p)
+    IsRefusalOf left e (HeadRefuses b p)
 head-refuses x r b p left (Io e) t is rest = λ end. subst (λ c. HeadRefuses c p io) (sym (taken-whole x r b left is rest end)) t.answers
 head-refuses x r b p left (Syntax at) t is rest = subst (λ c. HeadRefuses c p (syntax at)) (sym is) (refused-more x r p (syntax at) (λ k. cc) t.answers)
 head-refuses x r b p left TooLong t is rest = subst (λ c. HeadRefuses c p too_long) (sym is) (refused-more x r p too_long (λ k. cc) t.answers)
@@ -75,13 +75,13 @@ pulls-head {E} old new last count b q p (Ok h) (at, known) here taken =
     let r = reads-head {E = E} old new b q count (Ok h) known taken in
     (r.0, r.1, r.2, subst (IsUsable b) at r.3, r.4, here ∙ at, r.5 ∙ ap (λ k. k + length r.0) at, r.6)
 pulls-head {E} old new last count b q p (Err e) (at, known) here taken =
-    subst (λ k. IsRefusedBy new e (HeadRefuses b k)) at (reads-head {E = E} old new b q count (Err e) known taken)
+    subst (λ k. IsRefusalOf new e (HeadRefuses b k)) at (reads-head {E = E} old new b q count (Err e) known taken)
 
 -- ---- strings
 
 -- where a payload was refused, what was left refuses so
 pub payload-refuses : {E : Type 0} (kind : StringKind) (n p : ℕ) (left : Option (List ℕ)) (e : Error E) (added x r b : List ℕ) → IsPayloadTaken {E = E} kind n p x (Err e) added →
-    b ≡ x ++ r → left ≡ Some r → IsRefusedBy left e (PayloadRefuses kind n p b)
+    b ≡ x ++ r → left ≡ Some r → IsRefusalOf left e (PayloadRefuses kind n p b)
 payload-refuses kind n p left (Io e) added x r b t is rest =
     λ end. PayloadRefuses.ends_early (subst (λ (c : List ℕ). length c < n) (sym (taken-whole x r b left is rest end)) t.0)
 payload-refuses kind n p left (Syntax at) added x r b t is rest =
@@ -90,13 +90,13 @@ payload-refuses kind n p left TooLong added x r b t is rest = absurd t
 payload-refuses kind n p left Memory added x r b t is rest = tt
 
 -- one refusal in place of another that follows from it
-pub refused-map : {E : Type 0} (left : Option (List ℕ)) (e : Error E) (P Q : Refusal → Type 0) → ((f : Refusal) → P f → Q f) → IsRefusedBy left e P → IsRefusedBy left e Q
+pub refused-map : {E : Type 0} (left : Option (List ℕ)) (e : Error E) (P Q : Refusal → Type 0) → ((f : Refusal) → P f → Q f) → IsRefusalOf left e P → IsRefusalOf left e Q
 refused-map left (Io e) P Q f h = λ end. f io (h end)
 refused-map left (Syntax at) P Q f h = f (syntax at) h
 refused-map left TooLong P Q f h = f too_long h
 refused-map left Memory P Q f h = tt
 
-string-stands : (kind : StringKind) (n : ℕ) (x r b : List ℕ) → SpellsHeader x (string_header kind n) → b ≡ x ++ r → HasHead b (major_of kind) n (length x) r
+string-stands : (kind : StringKind) (n : ℕ) (x r b : List ℕ) → SpellsHeader x (string_header kind n) → b ≡ x ++ r → HasHead b (string_major kind) n (length x) r
 string-stands of_bytes n x r b s is = (x, s, refl, is)
 string-stands of_text n x r b s is = (x, s, refl, is)
 
@@ -109,28 +109,28 @@ break-begun : (x r b : List ℕ) (h : Header) → SpellsHeader x h → b ≡ x +
 break-begun x r b h s is (q, whole) = (one_header_at_front x (break_byte ∷ []) r q h header.Break s refl (sym is ∙ whole)).2
 
 -- where a part was refused, what was left refuses so
-pub part-refuses : {E : Type 0} (kind : StringKind) (x r b : List ℕ) (p : ℕ) (left : Option (List ℕ)) (e : Error E) → IsPartTaken {E = E} kind x p e → b ≡ x ++ r →
-    left ≡ Some r → IsRefusedBy left e (PartRefuses kind b p)
+pub part-refuses : {E : Type 0} (kind : StringKind) (x r b : List ℕ) (p : ℕ) (left : Option (List ℕ)) (e : Error E) → IsChunkTaken {E = E} kind x p e → b ≡ x ++ r →
+    left ≡ Some r → IsRefusalOf left e (ChunkRefuses kind b p)
 part-refuses {E} kind x r b p left e (inl t) is rest =
-    refused-map left e (HeadRefuses b p) (PartRefuses kind b p) (λ f h. PartRefuses.no_head h) (head-refuses {E = E} x r b p left e t is rest)
+    refused-map left e (HeadRefuses b p) (ChunkRefuses kind b p) (λ f h. ChunkRefuses.no_head h) (head-refuses {E = E} x r b p left e t is rest)
 part-refuses {E} kind x r b p left e (inr (inl (h, t, other, here))) is rest =
-    subst (λ k. IsRefusedBy left k (PartRefuses kind b p)) (sym here) (PartRefuses.other (subst (λ c. IsUsable c p) (sym is) (usable-more x r p t.answers.1))
+    subst (λ k. IsRefusalOf left k (ChunkRefuses kind b p)) (sym here) (ChunkRefuses.other (subst (λ c. IsUsable c p) (sym is) (usable-more x r p t.answers.1))
     (λ begun. let k = string-begun kind x r b h t.answers.0 is begun in other.1 k.0 k.1) (λ begun. other.0 (break-begun x r b h t.answers.0 is begun)))
 part-refuses {E} kind x r b p left e (inr (inr (n, s, y, split, t, payload))) is rest =
     let whole : b ≡ s ++ (y ++ r) = is ∙ ap (λ (c : List ℕ). c ++ r) split ∙ append_assoc s y r in
-    refused-map left e (PayloadRefuses kind n p (y ++ r)) (PartRefuses kind b p)
-    (λ f h. PartRefuses.part (subst (λ c. IsUsable c p) (sym whole) (usable-more s (y ++ r) p t.answers.1)) (n, length s, y ++ r, string-stands kind n s (y ++ r) b t.answers.0 whole, h))
+    refused-map left e (PayloadRefuses kind n p (y ++ r)) (ChunkRefuses kind b p)
+    (λ f h. ChunkRefuses.part (subst (λ c. IsUsable c p) (sym whole) (usable-more s (y ++ r) p t.answers.1)) (n, length s, y ++ r, string-stands kind n s (y ++ r) b t.answers.0 whole, h))
     (payload-refuses {E = E} kind n p left e [] y r (y ++ r) payload refl rest)
 
-pub parts-refuse : {E : Type 0} (kind : StringKind) (x r b : List ℕ) (q : ℕ) (left : Option (List ℕ)) (e : Error E) (added : List ℕ) → IsPartsTaken {E = E} kind x q (Err e) added → b ≡ x ++ r →
-    left ≡ Some r → IsRefusedBy left e (PartsRefuse kind b q)
+pub parts-refuse : {E : Type 0} (kind : StringKind) (x r b : List ℕ) (q : ℕ) (left : Option (List ℕ)) (e : Error E) (added : List ℕ) → AreChunksTaken {E = E} kind x q (Err e) added → b ≡ x ++ r →
+    left ≡ Some r → IsRefusalOf left e (ChunksRefuse kind b q)
 parts-refuse {E} kind x r b q left e added (ps, s, parts, fits, (y, split, part), same) is rest =
-    refused-map left e (PartRefuses kind (y ++ r) (q + length s)) (PartsRefuse kind b q)
+    refused-map left e (ChunkRefuses kind (y ++ r) (q + length s)) (ChunksRefuse kind b q)
     (λ f h. (s, ps, y ++ r, parts, fits, is ∙ ap (λ (c : List ℕ). c ++ r) split ∙ append_assoc s y r, h))
     (part-refuses {E = E} kind y r (y ++ r) (q + length s) left e part refl rest)
 
 pub string-refuses : {E : Type 0} (kind : StringKind) (len : Option ℕ) (p : ℕ) (x r b : List ℕ) (q : ℕ) (left : Option (List ℕ)) (e : Error E) (added : List ℕ) →
-    IsStringTaken {E = E} kind len p x q (Err e) added → b ≡ x ++ r → left ≡ Some r → IsRefusedBy left e (ContentRefuses kind len p b q)
+    IsStringTaken {E = E} kind len p x q (Err e) added → b ≡ x ++ r → left ≡ Some r → IsRefusalOf left e (ContentRefuses kind len p b q)
 string-refuses {E} kind (Some n) p x r b q left (Io e) added (inl (over, is, none, nothing)) split rest = absurd cc
 string-refuses {E} kind (Some n) p x r b q left (Syntax at) added (inl (over, is, none, nothing)) split rest = absurd cc
 string-refuses {E} kind (Some n) p x r b q left TooLong added (inl (over, is, none, nothing)) split rest = inl (over, refl)
@@ -141,18 +141,18 @@ string-refuses {E} kind None p x r b q left e added t split rest = parts-refuse 
 
 -- the same, where the bytes were known
 pub reads-string : {E : Type 0} (kind : StringKind) (len : Option ℕ) (p q t : ℕ) (old new : Option (List ℕ)) (e : Error E) (b : List ℕ) (A : List ℕ → List ℕ → Type 0) →
-    Advances old new q t (λ x. (added : List ℕ) × A added x × IsStringTaken {E = E} kind len p x q (Err e) added) → old ≡ Some b → IsRefusedBy new e (ContentRefuses kind len p b q)
+    Advances old new q t (λ x. (added : List ℕ) × A added x × IsStringTaken {E = E} kind len p x q (Err e) added) → old ≡ Some b → IsRefusalOf new e (ContentRefuses kind len p b q)
 reads-string {E} kind len p q t old new e b A (x, taken, count, (added, h, s), bytes) is =
     let k = rest-of old new b x is taken in string-refuses {E = E} kind len p x k.0 b q new e added s k.2 k.1
 
 pub refused-string : {E : Type 0} (kind : StringKind) (len : Option ℕ) (p q t : ℕ) (old new : Option (List ℕ)) (result : Result (Unit {0}) (Error E)) (b : List ℕ) (A : List ℕ → List ℕ → Type 0) →
-    Advances old new q t (λ x. (added : List ℕ) × A added x × IsStringTaken {E = E} kind len p x q result added) → old ≡ Some b → IfErr result (λ e. IsRefusedBy new e (ContentRefuses kind len p b q))
+    Advances old new q t (λ x. (added : List ℕ) × A added x × IsStringTaken {E = E} kind len p x q result added) → old ≡ Some b → IfErr result (λ e. IsRefusalOf new e (ContentRefuses kind len p b q))
 refused-string {E} kind len p q t old new (Ok u) b A h is = tt
 refused-string {E} kind len p q t old new (Err e) b A h is = reads-string {E = E} kind len p q t old new e b A h is
 
 -- ---- what is appended of a text is UTF-8
 
-joined-utf8 : (ps : List (List ℕ)) (s : List ℕ) → AreParts 3 (IsAllowed of_text) s ps → IsUtf8 (joined ps)
+joined-utf8 : (ps : List (List ℕ)) (s : List ℕ) → AreChunks 3 (IsAllowed of_text) s ps → IsUtf8 (joined ps)
 joined-utf8 [] s h = IsUtf8-nil
 joined-utf8 (p ∷ ps) s (t, r, (y, head, ok, is), rest, e) = IsUtf8-append p (joined ps) ok (joined-utf8 ps r rest)
 

@@ -3,8 +3,8 @@ use Rattle.std.specs.Prelude.{◌≡◌, ℕ, List, Option, Some, None, IfErr, I
 use Rattle.ciborium_ll.specs.declared.header.Header.{Header}
 use Rattle.ciborium_ll.specs.declared.header.Error.{Error}
 use Rattle.ciborium_ll.specs.declared.decoder.Decoder.{Decoder}
-use Rattle.ciborium_ll.specs.Decoding.{HasSameReader, IsAhead, IsSpent, IsUnread, MeasuresHead, Pulls, Takes, count_of, head_len_of, last_of, left_of, pushed_of}
-use Rattle.ciborium_ll.specs.ReaderSteps.{IsFillTaken, IsHeadTaken, IsRefusedBy}
+use Rattle.ciborium_ll.specs.Decoding.{HasSameReader, IsAhead, IsSpent, ReadsNothing, MeasuresHead, Pulls, Takes, count_of, head_len_of, last_of, left_of, pushed_of}
+use Rattle.ciborium_ll.specs.ReaderSteps.{IsFillTaken, IsHeadTaken, IsRefusalOf}
 use Rattle.ciborium_ll.specs.StringRefusal.{ContentRefuses, StringKind}
 use Rattle.ciborium_ll.specs.Strings.{Grows, IsStringTaken}
 
@@ -13,7 +13,7 @@ pub record HasPulled {S E : Type 0} (remaining : S → Option (List ℕ)) (old n
   pub same_reader : HasSameReader old new
   pub none_pushed : pushed_of new ≡ None
   -- a head that was pushed back is answered, and nothing is taken
-  pub pushed : IfSome (pushed_of old) (λ head. (result ≡ Ok head.0) × (last_of new ≡ head.1) × IsUnread old new)
+  pub pushed : IfSome (pushed_of old) (λ head. (result ≡ Ok head.0) × (last_of new ≡ head.1) × ReadsNothing old new)
   -- otherwise just the bytes that determine the answer are taken
   pub taken : IfNone (pushed_of old) (Takes remaining old new (λ b. IsHeadTaken b (count_of old) result))
   pub last : IfNone (pushed_of old) (last_of new ≡ count_of old)
@@ -42,6 +42,6 @@ pub record HasAppended {S E : Type 0} (kind : StringKind) (len : Option ℕ) (re
   pub taken : Takes remaining old new (λ b. Grows before after (IsStringTaken kind len (last_of old) b (count_of old) result))
   -- the same, said of all that is unread
   pub refused : (b : List ℕ) → left_of remaining old ≡ Some b →
-      IfErr result (λ e. IsRefusedBy (left_of remaining new) e (ContentRefuses kind len (last_of old) b (count_of old)))
+      IfErr result (λ e. IsRefusalOf (left_of remaining new) e (ContentRefuses kind len (last_of old) b (count_of old)))
   -- where the reader failed or ended, nothing is held
   pub spent : IfErr result (λ e. IsSpent new e)

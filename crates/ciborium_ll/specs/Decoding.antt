@@ -7,7 +7,7 @@ use Rattle.ciborium_ll.specs.declared.decoder.Decoder.{Decoder}
 use Rattle.ciborium_ll.specs.declared.window.Window.{Window}
 use Rattle.ciborium_ll.specs.Windows.{AllowsNothing, IsSpentBy, held, unread}
 use Rattle.ciborium_ll.specs.Header.{SpellsHeader}
-use Rattle.ciborium_ll.specs.ReaderSteps.{Advances, IsRefusedBy}
+use Rattle.ciborium_ll.specs.ReaderSteps.{Advances, IsRefusalOf}
 use Rattle.ciborium_ll.specs.Refusal.{HeadRefuses, IsUsable}
 
 -- how many bytes were read, from the offset on at which the decoder began
@@ -92,8 +92,8 @@ abbrev pub TakesBeforeAny : {S : Type 0} → (S → Option (List ℕ)) → Decod
 TakesBeforeAny remaining old new P = Takes remaining old new (λ b. (c : List ℕ) → P (with_left old (b ++ c)) (with_left new c))
 
 -- nothing is read
-abbrev pub IsUnread : {S : Type 0} → Decoder S → Decoder S → Type 0
-IsUnread old new = (new.reader.now ≡ old.reader.now) × (new.window ≡ old.window)
+abbrev pub ReadsNothing : {S : Type 0} → Decoder S → Decoder S → Type 0
+ReadsNothing old new = (new.reader.now ≡ old.reader.now) × (new.window ≡ old.window)
 
 -- the offset of the next head
 abbrev pub next_offset : ℕ → Option (Header × ℕ) → ℕ
@@ -119,7 +119,7 @@ IsAhead remaining d b p = IsAheadBy remaining d b p d.pushed
 abbrev pub PullsTo : {E : Type 0} → ℕ → ℕ → Option (List ℕ) → List ℕ → ℕ → Result Header (Error E) → Type 0
 PullsTo last count left b p (Ok header) =
     (h : List ℕ) × (r : List ℕ) × SpellsHeader h header × IsUsable b p × (b ≡ h ++ r) × (last ≡ p) × (count ≡ p + length h) × (left ≡ Some r)
-PullsTo last count left b p (Err e) = IsRefusedBy left e (HeadRefuses b p)
+PullsTo last count left b p (Err e) = IsRefusalOf left e (HeadRefuses b p)
 
 -- the decoder has read so
 abbrev pub Pulls : {S E : Type 0} → (S → Option (List ℕ)) → Decoder S → List ℕ → ℕ → Result Header (Error E) → Type 0

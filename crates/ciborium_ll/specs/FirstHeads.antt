@@ -8,11 +8,11 @@ use Rattle.ciborium_ll.specs.Decoding.{PullsTo, left_of}
 use Rattle.ciborium_ll.specs.ReaderSteps.{IsHeadTaken}
 
 -- `Io` is the only error
-abbrev pub IsIo : {E : Type 0} → Error E → Type 0
-IsIo (Io e) = Unit {0}
-IsIo (Syntax p) = ⊥
-IsIo TooLong = ⊥
-IsIo Memory = ⊥
+abbrev pub IsHeadIo : {E : Type 0} → Error E → Type 0
+IsHeadIo (Io e) = Unit {0}
+IsHeadIo (Syntax p) = ⊥
+IsHeadIo TooLong = ⊥
+IsHeadIo Memory = ⊥
 
 -- b are the bytes taken at offset p, where reading the first head answers so: none at the end, and otherwise just those that
 -- decide the answer
@@ -42,4 +42,4 @@ PullsFirst remaining d b p result = PullsFirstTo d.last d.window.count (left_of 
 abbrev pub IsEndOrFault : {E : Type 0} → Result (Option Header) (Error E) → Type 0
 IsEndOrFault (Ok None) = Unit {0}
 IsEndOrFault (Ok (Some header)) = ⊥
-IsEndOrFault (Err e) = IsIo e
+IsEndOrFault (Err e) = IsHeadIo e

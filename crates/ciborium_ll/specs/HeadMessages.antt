@@ -27,8 +27,8 @@ abbrev pub read_failure_message : Option (List ℕ) → Option (List ℕ)
 read_failure_message text = Some (codes "reading failed: ") ++? text
 
 -- the message of an error of the lowest layer, where `output` is what `{}` prints of the reader's errors
-abbrev pub error_message : {E : Type 0} → (E → Option (List ℕ)) → Error E → Option (List ℕ)
-error_message output (Io e) = read_failure_message (output e)
-error_message output (Syntax p) = Some (syntax_message p)
-error_message output TooLong = Some too_long_message
-error_message output Memory = Some memory_message
+abbrev pub head_error_message : {E : Type 0} → (E → Option (List ℕ)) → Error E → Option (List ℕ)
+head_error_message output (Io e) = read_failure_message (output e)
+head_error_message output (Syntax p) = Some (syntax_message p)
+head_error_message output TooLong = Some too_long_message
+head_error_message output Memory = Some memory_message

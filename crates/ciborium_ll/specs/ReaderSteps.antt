@@ -14,11 +14,11 @@ Advances old new p q P = (b : List ℕ) × Consumes old new b × (q ≡ p + leng
 
 -- an error other than `Memory`, of a call that leaves this of the reader, is a refusal of which P holds; `Io` is one where the reader
 -- came to its end
-abbrev pub IsRefusedBy : {E : Type 0} → Option (List ℕ) → Error E → (Refusal → Type 0) → Type 0
-IsRefusedBy left (Io e) P = left ≡ Some [] → P io
-IsRefusedBy left (Syntax p) P = P (syntax p)
-IsRefusedBy left TooLong P = P too_long
-IsRefusedBy left Memory P = Unit {0}
+abbrev pub IsRefusalOf : {E : Type 0} → Option (List ℕ) → Error E → (Refusal → Type 0) → Type 0
+IsRefusalOf left (Io e) P = left ≡ Some [] → P io
+IsRefusalOf left (Syntax p) P = P (syntax p)
+IsRefusalOf left TooLong P = P too_long
+IsRefusalOf left Memory P = Unit {0}
 
 -- what the bytes of a whole head are parsed as: the header that they spell, or none where they are ill-formed
 abbrev pub IsParsed : List ℕ → Option Header → Type 0

@@ -9,10 +9,10 @@ abbrev pub IsDefiniteString : ℕ → (List ℕ → Type 0) → List ℕ → Lis
 IsDefiniteString major IsAllowed b payload = (h : List ℕ) × IsHead h major (length payload) × IsAllowed payload × (b ≡ h ++ payload)
 
 -- definite strings of a major type in a row, with these payloads, each allowed by itself (section 3.2.3)
-abbrev pub AreParts : ℕ → (List ℕ → Type 0) → List ℕ → List (List ℕ) → Type 0
-AreParts major IsAllowed b [] = b ≡ []
-AreParts major IsAllowed b (payload ∷ payloads) =
-    (s : List ℕ) × (r : List ℕ) × IsDefiniteString major IsAllowed s payload × AreParts major IsAllowed r payloads × (b ≡ s ++ r)
+abbrev pub AreChunks : ℕ → (List ℕ → Type 0) → List ℕ → List (List ℕ) → Type 0
+AreChunks major IsAllowed b [] = b ≡ []
+AreChunks major IsAllowed b (payload ∷ payloads) =
+    (s : List ℕ) × (r : List ℕ) × IsDefiniteString major IsAllowed s payload × AreChunks major IsAllowed r payloads × (b ≡ s ++ r)
 
 -- lists joined in order
 abbrev pub joined : List (List ℕ) → List ℕ
@@ -22,7 +22,7 @@ joined (p ∷ ps) = p ++ joined ps
 -- an open string of a major type: its initial byte, parts whose payloads joined are this one, and the break (section 3.2.3)
 abbrev pub IsOpenString : ℕ → (List ℕ → Type 0) → List ℕ → List ℕ → Type 0
 IsOpenString major IsAllowed b payload =
-    (payloads : List (List ℕ)) × (r : List ℕ) × AreParts major IsAllowed r payloads × (payload ≡ joined payloads) ×
+    (payloads : List (List ℕ)) × (r : List ℕ) × AreChunks major IsAllowed r payloads × (payload ≡ joined payloads) ×
     (b ≡ open_byte major ∷ (r ++ (break_byte ∷ [])))
 
 -- a string of a major type, definite or open

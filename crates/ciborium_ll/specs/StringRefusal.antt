@@ -2,7 +2,7 @@
 use Rattle.std.specs.Prelude.{◌≡◌, ℕ, ◌+◌, ◌<◌, ◌≤◌, ◌⊎◌, List, ◌∷◌, ◌++◌, length, Option, Some, None, IsUtf8}
 use Rattle.ciborium_ll.specs.Bytes.{AreBytes, greatest_offset}
 use Rattle.ciborium_ll.specs.Head.{open_byte, break_byte}
-use Rattle.ciborium_ll.specs.Spells.{AreParts}
+use Rattle.ciborium_ll.specs.Spells.{AreChunks}
 use Rattle.ciborium_ll.specs.Refusal.{Refusal, io, syntax, too_long, HeadRefuses, IsUsable, HasHead, IsAtFront}
 
 -- the two kinds of string
@@ -11,9 +11,9 @@ pub data StringKind : Type 0 where
   of_text : StringKind
 
 -- the major type of a kind
-abbrev pub major_of : StringKind → ℕ
-major_of of_bytes = 2
-major_of of_text = 3
+abbrev pub string_major : StringKind → ℕ
+string_major of_bytes = 2
+string_major of_text = 3
 
 -- what a definite string of a kind may hold
 abbrev pub IsAllowed : StringKind → List ℕ → Type 0
@@ -28,32 +28,32 @@ pub data PayloadRefuses (kind : StringKind) (n p : ℕ) : List ℕ → Refusal �
 
 -- a definite string at offset p: its payload refuses
 abbrev pub StringRefuses : StringKind → List ℕ → ℕ → Refusal → Type 0
-StringRefuses kind b p e = (n : ℕ) × (k : ℕ) × (r : List ℕ) × HasHead b (major_of kind) n k r × PayloadRefuses kind n p r e
+StringRefuses kind b p e = (n : ℕ) × (k : ℕ) × (r : List ℕ) × HasHead b (string_major kind) n k r × PayloadRefuses kind n p r e
 
 -- a definite string of a kind begins here
 abbrev pub HasStringHead : StringKind → List ℕ → Type 0
-HasStringHead kind b = (n : ℕ) × (k : ℕ) × (r : List ℕ) × HasHead b (major_of kind) n k r
+HasStringHead kind b = (n : ℕ) × (k : ℕ) × (r : List ℕ) × HasHead b (string_major kind) n k r
 
 -- a part of an open string at offset p: its head refuses, it refuses as a string of the kind, or it is neither such a string
 -- nor the break
-pub data PartRefuses (kind : StringKind) : List ℕ → ℕ → Refusal → Type 0 where
-  no_head : {b : List ℕ} {p : ℕ} {e : Refusal} → HeadRefuses b p e → PartRefuses kind b p e
-  part : {b : List ℕ} {p : ℕ} {e : Refusal} → IsUsable b p → StringRefuses kind b p e → PartRefuses kind b p e
+pub data ChunkRefuses (kind : StringKind) : List ℕ → ℕ → Refusal → Type 0 where
+  no_head : {b : List ℕ} {p : ℕ} {e : Refusal} → HeadRefuses b p e → ChunkRefuses kind b p e
+  chunk : {b : List ℕ} {p : ℕ} {e : Refusal} → IsUsable b p → StringRefuses kind b p e → ChunkRefuses kind b p e
   other : {b : List ℕ} {p : ℕ} →
-      IsUsable b p → ¬ HasStringHead kind b → ¬ IsAtFront break_byte b → PartRefuses kind b p (syntax p)
+      IsUsable b p → ¬ HasStringHead kind b → ¬ IsAtFront break_byte b → ChunkRefuses kind b p (syntax p)
 
 -- what is left, from offset p on, refuses as the parts of an open string: behind good parts, which end within the greatest offset,
 -- a part refuses
-abbrev pub PartsRefuse : StringKind → List ℕ → ℕ → Refusal → Type 0
-PartsRefuse kind b p e =
-    (good : List ℕ) × (payloads : List (List ℕ)) × (r : List ℕ) × AreParts (major_of kind) (IsAllowed kind) good payloads ×
-    (p + length good ≤ greatest_offset) × (b ≡ good ++ r) × PartRefuses kind r (p + length good) e
+abbrev pub ChunksRefuse : StringKind → List ℕ → ℕ → Refusal → Type 0
+ChunksRefuse kind b p e =
+    (good : List ℕ) × (payloads : List (List ℕ)) × (r : List ℕ) × AreChunks (string_major kind) (IsAllowed kind) good payloads ×
+    (p + length good ≤ greatest_offset) × (b ≡ good ++ r) × ChunkRefuses kind r (p + length good) e
 
 -- an open string at offset p: its parts refuse
 abbrev pub OpenStringRefuses : StringKind → List ℕ → ℕ → Refusal → Type 0
-OpenStringRefuses kind b p e = (r : List ℕ) × (b ≡ open_byte (major_of kind) ∷ r) × PartsRefuse kind r (p + 1) e
+OpenStringRefuses kind b p e = (r : List ℕ) × (b ≡ open_byte (string_major kind) ∷ r) × ChunksRefuse kind r (p + 1) e
 
 -- what follows the head at offset p of a string of this length (None: open) refuses, its first byte at offset q
 abbrev pub ContentRefuses : StringKind → Option ℕ → ℕ → List ℕ → ℕ → Refusal → Type 0
 ContentRefuses kind (Some n) p b q e = ((greatest_offset < q + n) × (e ≡ too_long)) ⊎ ((q + n ≤ greatest_offset) × PayloadRefuses kind n p b e)
-ContentRefuses kind None p b q e = PartsRefuse kind b q e
+ContentRefuses kind None p b q e = ChunksRefuse kind b q e

@@ -11,13 +11,13 @@ use Rattle.ciborium_ll.specs.declared.strings.Part.TheVariants.{End, Definite, O
 use Rattle.ciborium_ll.specs.Bytes.{greatest_offset}
 use Rattle.ciborium_ll.specs.Head.{break_byte}
 use Rattle.ciborium_ll.specs.ReaderSteps.{IsHeadTaken}
-use Rattle.ciborium_ll.specs.Spells.{AreParts, joined}
-use Rattle.ciborium_ll.specs.StringRefusal.{StringKind, of_bytes, of_text, major_of, IsAllowed}
+use Rattle.ciborium_ll.specs.Spells.{AreChunks, joined}
+use Rattle.ciborium_ll.specs.StringRefusal.{StringKind, of_bytes, of_text, string_major, IsAllowed}
 
 -- the kind that the code names
-abbrev pub kind_of : Kind → StringKind
-kind_of kind.Bytes = of_bytes
-kind_of kind.Text = of_text
+abbrev pub string_kind_of : Kind → StringKind
+string_kind_of kind.Bytes = of_bytes
+string_kind_of kind.Text = of_text
 
 -- the head of a definite string of a kind
 abbrev pub string_header : StringKind → ℕ → Header
@@ -25,10 +25,10 @@ string_header of_bytes n = header.Bytes (Some n)
 string_header of_text n = header.Text (Some n)
 
 -- what a head is inside an open string
-abbrev pub IsPart : StringKind → Header → Part → Type 0
-IsPart kind h End = h ≡ header.Break
-IsPart kind h (Definite n) = h ≡ string_header kind n
-IsPart kind h Other = (h ≢ header.Break) × ((n : ℕ) → h ≢ string_header kind n)
+abbrev pub IsChunk : StringKind → Header → Part → Type 0
+IsChunk kind h End = h ≡ header.Break
+IsChunk kind h (Definite n) = h ≡ string_header kind n
+IsChunk kind h Other = (h ≢ header.Break) × ((n : ℕ) → h ≢ string_header kind n)
 
 -- bytes were put behind old ones
 abbrev pub Extends : List ℕ → List ℕ → Type 0
@@ -56,23 +56,23 @@ IsPayloadTaken kind n p b (Err TooLong) added = ⊥
 IsPayloadTaken kind n p b (Err Memory) added = (length b ≤ n) × (added ≡ [])
 
 -- b is taken at offset p, where a part of an open string is refused: its head is, or it is no part, or its payload is
-abbrev pub IsPartTaken : {E : Type 0} → StringKind → List ℕ → ℕ → Error E → Type 0
-IsPartTaken {E} kind b p e =
+abbrev pub IsChunkTaken : {E : Type 0} → StringKind → List ℕ → ℕ → Error E → Type 0
+IsChunkTaken {E} kind b p e =
     IsHeadTaken {E = E} b p (Err e)
-    ⊎ ((h : Header) × IsHeadTaken {E = E} b p (Ok h) × IsPart kind h Other × (e ≡ Syntax p))
+    ⊎ ((h : Header) × IsHeadTaken {E = E} b p (Ok h) × IsChunk kind h Other × (e ≡ Syntax p))
     ⊎ ((n : ℕ) × (s : List ℕ) × (r : List ℕ) × (b ≡ s ++ r) × IsHeadTaken {E = E} s p (Ok (string_header kind n)) × IsPayloadTaken {E = E} kind n p r (Err e) [])
 
 -- b is taken at offset p, where the parts of an open string are appended: good parts, and then the break, or a part that is refused
-abbrev pub IsPartsTaken : {E : Type 0} → StringKind → List ℕ → ℕ → Result (Unit {0}) (Error E) → List ℕ → Type 0
-IsPartsTaken kind b p (Ok u) added =
-    (payloads : List (List ℕ)) × (s : List ℕ) × AreParts (major_of kind) (IsAllowed kind) s payloads × (p + length b ≤ greatest_offset) ×
+abbrev pub AreChunksTaken : {E : Type 0} → StringKind → List ℕ → ℕ → Result (Unit {0}) (Error E) → List ℕ → Type 0
+AreChunksTaken kind b p (Ok u) added =
+    (payloads : List (List ℕ)) × (s : List ℕ) × AreChunks (string_major kind) (IsAllowed kind) s payloads × (p + length b ≤ greatest_offset) ×
     (b ≡ s ++ break_byte ∷ []) × (added ≡ joined payloads)
-IsPartsTaken kind b p (Err e) added =
-    (payloads : List (List ℕ)) × (s : List ℕ) × AreParts (major_of kind) (IsAllowed kind) s payloads × (p + length s ≤ greatest_offset) ×
-    ((r : List ℕ) × (b ≡ s ++ r) × IsPartTaken kind r (p + length s) e) × (added ≡ joined payloads)
+AreChunksTaken kind b p (Err e) added =
+    (payloads : List (List ℕ)) × (s : List ℕ) × AreChunks (string_major kind) (IsAllowed kind) s payloads × (p + length s ≤ greatest_offset) ×
+    ((r : List ℕ) × (b ≡ s ++ r) × IsChunkTaken kind r (p + length s) e) × (added ≡ joined payloads)
 
 -- b is taken at offset q, where the payload of a string of this length (None: open) is appended, whose head is at offset p
 abbrev pub IsStringTaken : {E : Type 0} → StringKind → Option ℕ → ℕ → List ℕ → ℕ → Result (Unit {0}) (Error E) → List ℕ → Type 0
 IsStringTaken kind (Some n) p b q r added =
     ((greatest_offset < q + n) × (r ≡ Err TooLong) × (added ≡ []) × (b ≡ [])) ⊎ ((q + n ≤ greatest_offset) × IsPayloadTaken kind n p b r added)
-IsStringTaken kind None p b q r added = IsPartsTaken kind b q r added
+IsStringTaken kind None p b q r added = AreChunksTaken kind b q r added

@@ -15,7 +15,7 @@ pub(crate) struct Cursor<'c, R, K> {
 
 impl<'c, R: Read, K: Keep> Cursor<'c, R, K> {
     ghost use Rattle.std.specs.Prelude.{◌≡◌, ◌+◌, ◌<◌, ◌≤◌, IfErr, IfOk, length};
-    ghost use Rattle.ciborium_ll.specs.inner.Cursors.{GivesSome, HoldsNothing, IsSameCursor, IsSpentAt};
+    ghost use Rattle.ciborium_ll.specs.inner.Cursors.{GivesSome, CursorHoldsNothing, IsSameCursor, IsSpentAt};
     ghost use Rattle.ciborium_ll.specs.inner.Cursors.{Moves, count_at};
     ghost use Rattle.ciborium_ll.specs.ReaderSteps.{IsFillTaken};
 
@@ -27,7 +27,7 @@ impl<'c, R: Read, K: Keep> Cursor<'c, R, K> {
         requires room { count_at self.old + length buffer.old ≤ usize.MAX }
         ensures same { IsSameCursor self.old self.new }
         ensures some { GivesSome R.remaining self.old self.new buffer.new result }
-        ensures spent { HoldsNothing self.new }
+        ensures spent { CursorHoldsNothing self.new }
     {
         match self.reader.read(buffer) {
             Ok(n) => {
@@ -48,7 +48,7 @@ impl<'c, R: Read, K: Keep> Cursor<'c, R, K> {
         ensures same { IsSameCursor self.old self.new }
         ensures some { GivesSome R.remaining self.old self.new buffer.new result }
         ensures spent { IfErr result (λ e. IsSpentAt self.new e) }
-        ensures spent_at_end { IfOk result (λ n. n ≡ 0 → HoldsNothing self.new) }
+        ensures spent_at_end { IfOk result (λ n. n ≡ 0 → CursorHoldsNothing self.new) }
     {
         if !self.window.is_used_up() {
             return Ok(self.window.take_into(buffer));

@@ -29,14 +29,14 @@ impl<'a, R: Read> Decoder<'a, R> {
     ghost use Rattle.std.specs.Io.KnownBytes.{IsAtEnd};
     ghost use Rattle.ciborium_ll.specs.Bytes.{greatest_offset};
     ghost use Rattle.ciborium_ll.specs.Decoding.{HasBegun, HasSameReader, HoldsNothing, IsAhead};
-    ghost use Rattle.ciborium_ll.specs.Decoding.{IsHeld, IsSpent, IsUnread, MeasuresHead, Pulls};
+    ghost use Rattle.ciborium_ll.specs.Decoding.{IsHeld, IsSpent, ReadsNothing, MeasuresHead, Pulls};
     ghost use Rattle.ciborium_ll.specs.Decoded.{HasAppended, HasFilled, HasPulled};
     ghost use Rattle.ciborium_ll.specs.Decoding.{Takes};
     ghost use Rattle.ciborium_ll.specs.Decoding.{allowed_of, count_of, head_len_of, last_of};
     ghost use Rattle.ciborium_ll.specs.Decoding.{left_of, offset_of, pushed_of, reach_of};
     ghost use Rattle.ciborium_ll.specs.FirstHeads.{IsEndOrFault, IsFirstTaken, MeasuresFirst};
     ghost use Rattle.ciborium_ll.specs.FirstHeads.{PullsFirst};
-    ghost use Rattle.ciborium_ll.specs.ReaderSteps.{IsFillTaken, IsHeadTaken, IsRefusedBy};
+    ghost use Rattle.ciborium_ll.specs.ReaderSteps.{IsFillTaken, IsHeadTaken, IsRefusalOf};
     ghost use Rattle.ciborium_ll.specs.StringRefusal.{ContentRefuses, of_bytes, of_text};
     ghost use Rattle.ciborium_ll.specs.Strings.{Grows, IsStringTaken};
 
@@ -97,7 +97,7 @@ impl<'a, R: Read> Decoder<'a, R> {
     pub fn push(&mut self, header: Header, offset: usize)
         requires { pushed_of self.old ≡ None }
         ensures same_reader { HasSameReader self.old self.new }
-        ensures unread { IsUnread self.old self.new }
+        ensures unread { ReadsNothing self.old self.new }
         ensures last { last_of self.new ≡ last_of self.old }
         ensures head_len { head_len_of self.new ≡ head_len_of self.old }
         ensures pushed { pushed_of self.new ≡ Some (header, offset) }
@@ -109,7 +109,7 @@ impl<'a, R: Read> Decoder<'a, R> {
     #[inline(always)]
     pub fn forget(&mut self)
         ensures same_reader { HasSameReader self.old self.new }
-        ensures unread { IsUnread self.old self.new }
+        ensures unread { ReadsNothing self.old self.new }
         ensures last { last_of self.new ≡ last_of self.old }
         ensures head_len { head_len_of self.new ≡ head_len_of self.old }
         ensures none_pushed { pushed_of self.new ≡ None }

@@ -2,7 +2,7 @@
 
 ghost use Rattle.std.specs.Prelude.{◌≡◌, length, ℕ};
 ghost use Rattle.ciborium_ll.specs.Head.{shortest_head};
-ghost use Rattle.ciborium_ll.specs.HeadMessages.{error_message};
+ghost use Rattle.ciborium_ll.specs.HeadMessages.{head_error_message};
 ghost use Rattle.ciborium_ll.specs.declared.header.Error.TheVariants.{Io, Memory};
 
 use std::alloc::{AllocError, AllocFailed};
@@ -81,7 +81,7 @@ impl<T: Drop> From<AllocFailed<T>> for Error<io::Error> {
 }
 
 impl<T: fmt::Display> fmt::Display for Error<T> {
-    ghost output = { error_message T.output };
+    ghost output = { head_error_message T.output };
 
     fn fmt<W: fmt::Write>(&self, f: &mut fmt::Formatter<W>) -> fmt::Result {
         match self {

@@ -4,7 +4,7 @@
 //! of a head.
 
 ghost use Rattle.std.specs.Prelude.{◌≡◌, ◌+◌, ◌≤◌, ◌%◌, ◌∷◌, IfErr, length};
-ghost use Rattle.ciborium_ll.specs.FirstHeads.{IsIo};
+ghost use Rattle.ciborium_ll.specs.FirstHeads.{IsHeadIo};
 ghost use Rattle.ciborium_ll.specs.Header.{announced_length};
 ghost use Rattle.ciborium_ll.specs.Refusal.{argument_length};
 ghost use Rattle.ciborium_ll.specs.ReaderSteps.{IsHeadTaken};
@@ -33,7 +33,7 @@ fn judge_head<E>(start: usize, end: usize, initial: u8, argument: &[u8]) -> Resu
     requires whole { length argument.now ≡ argument_length (initial % 32) }
     requires between { end ≡ start + 1 + length argument.now }
     ensures head { IsHeadTaken (initial ∷ argument.now) start result }
-    ensures no_io { IfErr result (λ e. ¬ IsIo e) }
+    ensures no_io { IfErr result (λ e. ¬ IsHeadIo e) }
 {
     let Some(header) = parse_head(initial, argument) else {
         return Err(Error::Syntax(start));
@@ -70,7 +70,7 @@ impl Window {
         ensures reach { self.new.reach ≡ self.old.reach }
         ensures some { IfSome result (λ r. (o : Option (List ℕ)) →
             TakesHeld o self.old self.new (λ b. IsHeadTaken b self.old.count r)) }
-        ensures no_io { IfSome result (λ r. IfErr r (λ e. ¬ IsIo e)) }
+        ensures no_io { IfSome result (λ r. IfErr r (λ e. ¬ IsHeadIo e)) }
         ensures none { IfNone result (self.new ≡ self.old) }
     {
         let start = self.count;

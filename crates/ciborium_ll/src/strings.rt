@@ -2,7 +2,7 @@
 
 ghost use Rattle.std.specs.Prelude.{◌≡◌, ◌↔◌, ℕ, List, IsTrue, Option};
 ghost use Rattle.ciborium_ll.specs.StringRefusal.{IsAllowed};
-ghost use Rattle.ciborium_ll.specs.Strings.{IsPart, kind_of};
+ghost use Rattle.ciborium_ll.specs.Strings.{IsChunk, string_kind_of};
 
 use crate::cursor::Cursor;
 use crate::header::{Error, Header};
@@ -23,7 +23,7 @@ const OWN_SCRATCH: usize = 64;
 // Whether a string of the kind may hold these bytes.
 #[inline(always)]
 fn is_allowed(kind: Kind, payload: &[u8]) -> bool
-    ensures { IsTrue result ↔ IsAllowed (kind_of kind) payload.now }
+    ensures { IsTrue result ↔ IsAllowed (string_kind_of kind) payload.now }
 {
     match kind {
         Kind::Bytes => true,
@@ -39,7 +39,7 @@ enum Part {
 }
 
 fn part_of(kind: Kind, header: Header) -> Part
-    ensures { IsPart (kind_of kind) header result }
+    ensures { IsChunk (string_kind_of kind) header result }
 {
     match (kind, header) {
         (_, Header::Break) => Part::End,
@@ -80,7 +80,7 @@ impl Window {
 impl<'c, R: Read, K: Keep> Cursor<'c, R, K> {
     ghost use Rattle.std.specs.Prelude.{◌+◌, ◌<◌, ◌≤◌, IfErr, length};
     ghost use Rattle.ciborium_ll.specs.inner.Cursors.{IsSameCursor, IsSpentAt, Moves, count_at};
-    ghost use Rattle.ciborium_ll.specs.Strings.{Grows, IsPartsTaken, IsPayloadTaken};
+    ghost use Rattle.ciborium_ll.specs.Strings.{Grows, AreChunksTaken, IsPayloadTaken};
     ghost use Rattle.ciborium_ll.specs.Strings.{IsPiecesTaken, IsStringTaken};
 
     // Appends n bytes, in pieces of at most the length of the scratch.
@@ -149,7 +149,7 @@ impl<'c, R: Read, K: Keep> Cursor<'c, R, K> {
         requires { count_at self.old + n ≤ usize.MAX }
         ensures same { IsSameCursor self.old self.new }
         ensures bytes { Moves R.remaining self.old self.new (λ b. Grows out.old.items out.new.items
-            (IsPayloadTaken (kind_of kind) n head b result)) }
+            (IsPayloadTaken (string_kind_of kind) n head b result)) }
         ensures spent { IfErr result (λ e. IsSpentAt self.new e) }
     {
         let start = out.len();
@@ -174,7 +174,7 @@ impl<'c, R: Read, K: Keep> Cursor<'c, R, K> {
     ) -> Result<(), Error<K::Kept>>
         ensures same { IsSameCursor self.old self.new }
         ensures bytes { Moves R.remaining self.old self.new (λ b. Grows out.old.items out.new.items
-            (IsPartsTaken (kind_of kind) b (count_at self.old) result)) }
+            (AreChunksTaken (string_kind_of kind) b (count_at self.old) result)) }
         ensures spent { IfErr result (λ e. IsSpentAt self.new e) }
     {
         let mut head = self.window.count;
@@ -202,7 +202,7 @@ impl<'c, R: Read, K: Keep> Cursor<'c, R, K> {
     ) -> Result<(), Error<K::Kept>>
         ensures same { IsSameCursor self.old self.new }
         ensures bytes { Moves R.remaining self.old self.new (λ b. Grows out.old.items out.new.items
-            (IsStringTaken (kind_of kind) len head b (count_at self.old) result)) }
+            (IsStringTaken (string_kind_of kind) len head b (count_at self.old) result)) }
         ensures spent { IfErr result (λ e. IsSpentAt self.new e) }
     {
         match len {

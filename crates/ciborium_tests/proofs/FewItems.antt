@@ -3,7 +3,7 @@ use Rattle.std.proofs.Common.{◌≡◌, ℕ, zero, suc, List, [], ◌∷◌, �
 use Rattle.ciborium_ll.specs.Item.{Item}
 use Rattle.ciborium_value.specs.Ahead.{Ahead, Rest, inside}
 use Rattle.ciborium_value.specs.Nesting.{Limit}
-use Rattle.ciborium_value.specs.Sources.{Fault, of_kind, Takes, Refuses, Enters, GoesOn, Leaves}
+use Rattle.ciborium_value.specs.Sources.{Fault, of_kind, TakesAhead, RefusesAhead, Enters, GoesOn, Leaves}
 use Rattle.ciborium_value.specs.Taken.{Outcome, gives, refuses, nests, Taken, then_take, and_take, outcome_map}
 use Rattle.ciborium_value.specs.declared.kind.Kind.TheVariants as kinds
 use Rattle.ciborium_value.proofs.Sources.Sequences.{so, Follows, IsBefore, IsPast, IsInside, IsBlamed, goes_on, reads, blames_part, leaves, fault_map, fault_and}
@@ -32,11 +32,11 @@ module _ {S Q : Type 0} (StandsBefore : S → Limit → Ahead → Type 0) (SeqSt
         (m.0, m.1, m.3, m.4, w.2 ∙ ap (λ p. then_take p (λ x. few_items taken x.0 x.1 n)) m.2 ∙ none_read r ∙ ap (λ x. outcome_map (λ ws. x ++ ws) r) (sym none));
   }
 
-  pub few_more : {old ahead new : S} {q q' : Q} {v : A} (n : ℕ) (vs : List A) → GoesOn StandsBefore SeqStands old ahead q q' → Takes StandsBefore ahead new taken v → Follows (IsInside StandsBefore SeqStands old q (few_from taken (suc n) vs)) (IsInside StandsBefore SeqStands new q' (few_from taken n (vs ++ v ∷ [])))
+  pub few_more : {old ahead new : S} {q q' : Q} {v : A} (n : ℕ) (vs : List A) → GoesOn StandsBefore SeqStands old ahead q q' → TakesAhead StandsBefore ahead new taken v → Follows (IsInside StandsBefore SeqStands old q (few_from taken (suc n) vs)) (IsInside StandsBefore SeqStands new q' (few_from taken n (vs ++ v ∷ [])))
   few_more {v = v} n vs h t = so (goes_on StandsBefore SeqStands (few_from taken (suc n) vs) h)
       (reads StandsBefore SeqStands (few_from taken (suc n) vs) (few_from taken n (vs ++ v ∷ [])) t (λ m i is e. ap (λ o. outcome_map (λ ws. vs ++ ws) (and_take o (few_items taken m is n))) e ∙ one_more_read vs v (few_items taken m is n)))
 
-  pub few_blames : {old ahead : S} {q q' : Q} (n : ℕ) (vs : List A) (fault : Fault) → GoesOn StandsBefore SeqStands old ahead q q' → Refuses StandsBefore ahead taken fault → Follows (IsInside StandsBefore SeqStands old q (few_from taken (suc n) vs)) (IsBlamed fault)
+  pub few_blames : {old ahead : S} {q q' : Q} (n : ℕ) (vs : List A) (fault : Fault) → GoesOn StandsBefore SeqStands old ahead q q' → RefusesAhead StandsBefore ahead taken fault → Follows (IsInside StandsBefore SeqStands old q (few_from taken (suc n) vs)) (IsBlamed fault)
   few_blames n vs fault h t = so (goes_on StandsBefore SeqStands (few_from taken (suc n) vs) h)
       (blames_part StandsBefore SeqStands (few_from taken (suc n) vs) taken fault t (λ end m i is e. fault_map _ fault (λ ws. vs ++ ws) (and_take (taken m i) (few_items taken m is n)) (fault_and _ fault (taken m i) (few_items taken m is n) e)))
 

@@ -14,6 +14,17 @@ pub enum Failure {
     End,
 }
 
+/// Ways to fail that are all tried.
+pub const FAILURES: [Failure; 7] = [
+    Failure::Kind(ErrorKind::Interrupted),
+    Failure::Kind(ErrorKind::WouldBlock),
+    Failure::Kind(ErrorKind::ConnectionReset),
+    Failure::Kind(ErrorKind::BrokenPipe),
+    Failure::Kind(ErrorKind::Other),
+    Failure::Nothing,
+    Failure::End,
+];
+
 impl Failure {
     /// The kind of error that a call then answers: of a reader that ended, or of a writer that took
     /// nothing, the one given.
@@ -120,31 +131,31 @@ impl<'a> Read for Source<'a> {
     }
 }
 
-/// Holds what is written, at most three bytes a write, and fails at one of its writes.
+/// Holds what is written, at most so many bytes a write, and may fail at one of its writes.
 #[derive(Drop)]
 pub struct Sink {
+    most: usize,
+    fault: Option<(usize, Failure)>,
     /// What was written.
     pub held: Vec<u8>,
+    /// How many writes were made.
+    pub writes: usize,
     /// Whether it was flushed.
     pub flushed: bool,
     /// Whether it has failed.
     pub failed: bool,
-    fault: (usize, Failure),
-    writes: usize,
 }
-
-// The most bytes of a write.
-const MOST: usize = 3;
 
 impl Sink {
     /// An empty sink. A fault is the number of a write, from 0 on, and how it fails.
-    pub fn new(alloc: Global, at: usize, failure: Failure) -> Sink {
+    pub fn new(alloc: Global, most: usize, fault: Option<(usize, Failure)>) -> Sink {
         Sink {
+            most,
+            fault,
             held: Vec::new(alloc),
+            writes: 0,
             flushed: false,
             failed: false,
-            fault: (at, failure),
-            writes: 0,
         }
     }
 }
@@ -153,25 +164,17 @@ impl Write for Sink {
     fn write(&mut self, buffer: &[u8]) -> io::Result<usize> {
         let number = self.writes;
         self.writes = number.saturating_add(1);
-        let (at, failure) = self.fault;
-        if number >= at {
+        if let Some((at, failure)) = self.fault
+            && at == number
+        {
+            self.failed = true;
             match failure {
-                Failure::Kind(kind) if number == at => {
-                    self.failed = true;
-                    return Err(io::Error::from(kind));
-                }
-                Failure::Nothing if number == at => {
-                    self.failed = true;
-                    return Ok(0);
-                }
-                Failure::Kind(_) | Failure::Nothing => {}
-                Failure::End => {
-                    self.failed = true;
-                    return Ok(0);
-                }
+                Failure::Kind(kind) => return Err(io::Error::from(kind)),
+                Failure::Nothing => return Ok(0),
+                Failure::End => self.most = 0,
             }
         }
-        let taken = buffer.len().min(MOST);
+        let taken = buffer.len().min(self.most);
         self.held.extend_from_slice(&buffer[..taken])?;
         Ok(taken)
     }

@@ -1,7 +1,7 @@
 //! What a call that reads answers where each read of its reader fails in turn.
 
 use crate::alike::Alike;
-use crate::devices::{Cut, Failure, Source, cuts_of};
+use crate::devices::{Cut, FAILURES, Failure, Source, cuts_of};
 use crate::fronts::{Call, ask_call, describe_front};
 use crate::refusals::name_io;
 use crate::types::Job;
@@ -9,16 +9,6 @@ use ciborium::de::Deserialize;
 use ciborium::ser::Serialize;
 use std::alloc::{AllocError, Global};
 use std::io::ErrorKind;
-
-// How a read fails.
-const FAILURES: [Failure; 6] = [
-    Failure::Kind(ErrorKind::Interrupted),
-    Failure::Kind(ErrorKind::WouldBlock),
-    Failure::Kind(ErrorKind::ConnectionReset),
-    Failure::Kind(ErrorKind::Other),
-    Failure::Nothing,
-    Failure::End,
-];
 
 /// What the call answers where each read fails in turn.
 #[derive(Clone, Copy)]

@@ -3,11 +3,11 @@
 ghost use Rattle.std.specs.Prelude.{IsTrue};
 ghost use Rattle.ciborium_ll.specs.Header.{IsWritable};
 
-use crate::devices::{Failure, Sink};
+use crate::devices::Sink;
 use crate::refusals::name_io;
 use ciborium::ll::{Encoder, Error, Header};
 use std::alloc::{AllocError, Global};
-use std::io::{self, Write};
+use std::io;
 
 /// A text for what was pulled, or for why it was refused.
 pub type Pulled = Result<String, String>;
@@ -106,44 +106,19 @@ fn is_writable(header: Header) -> bool
     }
 }
 
-// Holds what is written, and counts the writes.
-#[derive(Drop)]
-struct Written {
-    held: Vec<u8>,
-    writes: usize,
-    flushed: bool,
-}
-
-impl Write for Written {
-    fn write(&mut self, buffer: &[u8]) -> io::Result<usize> {
-        self.writes = self.writes.saturating_add(1);
-        self.held.extend_from_slice(buffer)?;
-        Ok(buffer.len())
-    }
-
-    fn flush(&mut self) -> io::Result<()> {
-        self.flushed = true;
-        Ok(())
-    }
-}
-
 // The head that an encoder writes, in hex. It is one write, or more where the writer takes few
 // bytes, and nothing is flushed.
 fn write_head(alloc: Global, header: Header) -> Result<String, AllocError>
     requires { IsWritable header }
 {
-    let mut writer = Written {
-        held: Vec::new(alloc),
-        writes: 0,
-        flushed: false,
-    };
+    let mut writer = Sink::new(alloc, usize::MAX, None);
     if Encoder::new(&mut writer).push(header).is_err() {
         return Err(AllocError);
     }
     if writer.writes != 1 || writer.flushed {
         return String::from_str(alloc, "not one write");
     }
-    let mut slow = Sink::new(alloc, usize::MAX, Failure::End);
+    let mut slow = Sink::new(alloc, 3, None);
     if Encoder::new(&mut slow).push(header).is_err() || slow.held != writer.held {
         return String::from_str(alloc, "other bytes by short writes");
     }

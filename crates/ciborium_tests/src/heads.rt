@@ -1,7 +1,7 @@
 //! Lines on heads: what a decoder pulls from the bytes of a line, and why it refuses.
 
 use crate::alike::Alike;
-use crate::devices::{Cut, Failure, Source, cuts_of};
+use crate::devices::{Cut, FAILURES, Failure, Source, cuts_of};
 use crate::faults::judge_fault;
 use crate::header_texts::{Front, Pulled, describe_front, describe_refusal, show_front};
 use ciborium::ll::{Decoder, Error, Header};
@@ -200,11 +200,7 @@ pub fn ask_failing(alloc: Global, question: Question, bytes: &[u8]) -> Result<St
         Failure::Kind(ErrorKind::Interrupted),
     )?;
     let mut alike = Alike::new(text);
-    for failure in [
-        Failure::Kind(ErrorKind::ConnectionReset),
-        Failure::Nothing,
-        Failure::End,
-    ] {
+    for failure in FAILURES {
         alike.compare(alloc, fail_by(alloc, question, bytes, failure))?;
     }
     Ok(alike.into_text())

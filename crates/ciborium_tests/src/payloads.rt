@@ -1,7 +1,7 @@
 //! Bytes that an encoder writes to a writer that fails.
 
 use crate::alike::Alike;
-use crate::devices::{Failure, Sink};
+use crate::devices::{FAILURES, Failure, Sink};
 use ciborium::ll::Encoder;
 use std::alloc::{AllocError, Global};
 use std::io::ErrorKind;
@@ -17,13 +17,8 @@ const MOST: usize = 3;
 ///
 /// `AllocError` where memory is refused for the text.
 pub fn write_failing(alloc: Global, bytes: &[u8]) -> Result<String, AllocError> {
-    let text = fail_by(alloc, bytes, Failure::Kind(ErrorKind::Interrupted))?;
-    let mut alike = Alike::new(text);
-    for failure in [
-        Failure::Kind(ErrorKind::BrokenPipe),
-        Failure::Nothing,
-        Failure::End,
-    ] {
+    let mut alike = Alike::new(fail_by(alloc, bytes, Failure::End)?);
+    for failure in FAILURES {
         alike.compare(alloc, fail_by(alloc, bytes, failure))?;
     }
     Ok(alike.into_text())
@@ -32,7 +27,7 @@ pub fn write_failing(alloc: Global, bytes: &[u8]) -> Result<String, AllocError> 
 // The same of faults of one kind.
 fn fail_by(alloc: Global, bytes: &[u8], failure: Failure) -> Result<String, AllocError> {
     for at in 0..usize::MAX {
-        let mut sink = Sink::new(alloc, at, failure);
+        let mut sink = Sink::new(alloc, MOST, Some((at, failure)));
         let answer = Encoder::new(&mut sink).write_all(bytes);
         if !sink.failed {
             let held = hex::encode(alloc, &sink.held)?;

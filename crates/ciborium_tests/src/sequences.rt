@@ -1,7 +1,7 @@
 //! Sequences of items, read one by one.
 
 use crate::alike::Alike;
-use crate::devices::{Cut, Failure, Source, cuts_of};
+use crate::devices::{Cut, FAILURES, Failure, Source, cuts_of};
 use crate::fronts::show_front;
 use crate::refusals::name_io;
 use crate::types::Job;
@@ -134,16 +134,6 @@ fn read_all<T: Deserialize + Serialize, R: Read>(
     text.push_str("end")?;
     Ok(text)
 }
-
-// How a read fails.
-const FAILURES: [Failure; 6] = [
-    Failure::Kind(ErrorKind::Interrupted),
-    Failure::Kind(ErrorKind::WouldBlock),
-    Failure::Kind(ErrorKind::ConnectionReset),
-    Failure::Kind(ErrorKind::Other),
-    Failure::Nothing,
-    Failure::End,
-];
 
 // `io after 0 1 1 items, then SEQUENCE` where each read of one byte, failing, ends the sequence as
 // that failure, behind the first so many of its items; else `read K: ..`, of the first such read. A

@@ -1,7 +1,7 @@
 //! What values write, also to a writer whose writes fail in turn.
 
 use crate::alike::Alike;
-use crate::devices::{Failure, Sink};
+use crate::devices::{FAILURES, Failure, Sink};
 use crate::fronts::encode_to_hex;
 use crate::refusals::{describe_tree, describe_write, name_io};
 use crate::types::Job;
@@ -20,16 +20,6 @@ pub enum Writing {
     /// What is answered where each write fails in turn.
     Failing,
 }
-
-// How a write fails.
-const FAILURES: [Failure; 6] = [
-    Failure::Kind(ErrorKind::Interrupted),
-    Failure::Kind(ErrorKind::WouldBlock),
-    Failure::Kind(ErrorKind::BrokenPipe),
-    Failure::Kind(ErrorKind::Other),
-    Failure::Nothing,
-    Failure::End,
-];
 
 /// What the value that these bytes give, read without a limit, writes.
 #[derive(Clone, Copy)]
@@ -132,7 +122,7 @@ fn fail_write<T: Serialize>(
     bytes: &[u8],
     (at, failure): (usize, Failure),
 ) -> Result<Option<String>, AllocError> {
-    let mut sink = Sink::new(alloc, at, failure);
+    let mut sink = Sink::new(alloc, 3, Some((at, failure)));
     let answer = describe_answer(alloc, into_writer(value, &mut sink))?;
     let text = answer.as_str();
     if is_cut(&sink, bytes) && text == name_io(failure.kind(ErrorKind::WriteZero)) {

@@ -13,15 +13,15 @@ use Rattle.ciborium_value.specs.declared.kind.Kind.TheVariants as kinds
 -- ---- pairs in order
 
 -- a pair before the first pair of others, or behind it, as their keys compare; equal keys are refused
-abbrev pub placed : Ordering → Tree → Tree → Tree → Tree → TreePairs → Outcome TreePairs → Outcome TreePairs
-placed Less k v l w ps behind = gives (tree_pair k v (tree_pair l w ps))
-placed Equal k v l w ps behind = refuses kinds.DuplicateKey
-placed Greater k v l w ps behind = outcome_map (tree_pair l w) behind
+abbrev pub placed_pair : Ordering → Tree → Tree → Tree → Tree → TreePairs → Outcome TreePairs → Outcome TreePairs
+placed_pair Less k v l w ps behind = gives (tree_pair k v (tree_pair l w ps))
+placed_pair Equal k v l w ps behind = refuses kinds.DuplicateKey
+placed_pair Greater k v l w ps behind = outcome_map (tree_pair l w) behind
 
 -- a pair put among pairs whose keys rise
 abbrev pub inserted : KeyOrder → Tree → Tree → TreePairs → Outcome TreePairs
 inserted o k v no_tree_pairs = gives (tree_pair k v no_tree_pairs)
-inserted o k v (tree_pair l w ps) = placed (key_order o k l) k v l w ps (inserted o k v ps)
+inserted o k v (tree_pair l w ps) = placed_pair (key_order o k l) k v l w ps (inserted o k v ps)
 
 -- pairs sorted by their keys, of which no two are equal
 abbrev pub sorted_pairs : KeyOrder → TreePairs → Outcome TreePairs

@@ -14,14 +14,14 @@ level_with_tag (Value-F.Tag s b) v t w = value.Tag t (with_value b w)
 level_with_tag _ v t w = v
 
 -- v with the number t and the content w, where it is a tag
-abbrev pub with_tag : Value → ℕ → Value → Value
-with_tag v t w = level_with_tag (out-Value v) v t w
+abbrev pub value_with_tag : Value → ℕ → Value → Value
+value_with_tag v t w = level_with_tag (out-Value v) v t w
 
 -- s ends as a tag of the last number behind the first reference of r, over the last value behind the
 -- second, in the box that it had
 abbrev pub LendsTag : MutBor Value → Option (MutBor ℕ × MutBor Value) → Fml
-LendsTag s r = LendsBothIf the_row u64 the_row s r (with_tag s.now) s.now
+LendsTag s r = LendsBothIf the_row u64 the_row s r (value_with_tag s.now) s.now
 
 -- the same of each value of a slice
 abbrev pub LendsTagIn : MutBor (List Value) → Option (MutBor ℕ × MutBor Value) → Fml
-LendsTagIn s r = LendsBothIf (Array the_row 0) u64 the_row s r (λ t w. map (λ v. with_tag v t w) s.now) s.now
+LendsTagIn s r = LendsBothIf (Array the_row 0) u64 the_row s r (λ t w. map (λ v. value_with_tag v t w) s.now) s.now

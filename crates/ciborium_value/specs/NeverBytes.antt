@@ -6,7 +6,7 @@ use Rattle.ciborium_value.specs.Encoding.{boolean_item, written_tree}
 use Rattle.ciborium_value.specs.Folded.{short_bytes}
 use Rattle.ciborium_value.specs.Places.{Shape, sequence, dictionary}
 use Rattle.ciborium_value.specs.ReadsBack.{named, of_ok}
-use Rattle.ciborium_value.specs.Sinks.{Named, all_named, bignum_item, contained, container_of, number_item, option_of}
+use Rattle.ciborium_value.specs.Sinks.{Named, all_named, bignum_item, contained, container_of, number_item, or_null}
 use Rattle.ciborium_value.specs.declared.kind.Kind.{Kind}
 
 -- the item is no byte string on which a tag folds
@@ -49,6 +49,6 @@ contained-no_bytes s (Err k) = tt
 pub no_bytes-container : (s : Shape) (parts : List Named) → IsNeverBytes (container_of s parts)
 no_bytes-container s parts i e = of_ok (container_of s parts) IsNoBytes (contained-no_bytes s (all_named parts)) i e
 
-pub no_bytes-option : {T : Type 0} {written : T → Named} → ((v : T) → IsNeverBytes (written v)) → (m : Option T) → IsNeverBytes (option_of written m)
+pub no_bytes-option : {T : Type 0} {written : T → Named} → ((v : T) → IsNeverBytes (written v)) → (m : Option T) → IsNeverBytes (or_null written m)
 no_bytes-option h None = no_bytes-null
 no_bytes-option h (Some v) = h v

@@ -9,7 +9,7 @@ use Rattle.ciborium_value.specs.Nesting.{Limit}
 use Rattle.ciborium_value.specs.Places.{Shape, sequence, dictionary}
 use Rattle.ciborium_value.specs.ReadsBack.{IsDefinite, IsNameRead, IsReadBack, Way, by_bytes, by_tree, met, met-definite, named, of_ok}
 use Rattle.ciborium_value.specs.lemmas.ReadsBackNumbers.{definite-number}
-use Rattle.ciborium_value.specs.Sinks.{Named, all_named, bignum_item, contained, container_of, number_item, option_of}
+use Rattle.ciborium_value.specs.Sinks.{Named, all_named, bignum_item, contained, container_of, number_item, or_null}
 use Rattle.ciborium_value.specs.Taken.{Taken, gives, outcome_map, is_null}
 use Rattle.ciborium_value.specs.TakenParts.{taken_option}
 use Rattle.ciborium_value.specs.declared.kind.Kind.{Kind}
@@ -75,13 +75,13 @@ something-back : {C : Type 0} (taken : Taken C) {r : Named} {c : C} {n : ℕ} �
 something-back taken {c = c} law never = record { back = λ way i e l fits. some-back taken l (met way i) c (never way i e) (law.back way i e l fits) }
 
 pub option-back : {T C : Type 0} {IsHeld : T → Type 0} {written : T → Named} {taken : Taken C} {content : T → C} {levels : T → ℕ} → IsReadBack IsHeld written taken content levels → ((v : T) → IsNeverNull (written v)) →
-    IsReadBack (λ o. IfSome o IsHeld) (option_of written) (taken_option taken) (option_map content) (option_levels levels)
+    IsReadBack (λ o. IfSome o IsHeld) (or_null written) (taken_option taken) (option_map content) (option_levels levels)
 option-back {taken = taken} back never None held = nothing-back taken 0
 option-back {taken = taken} back never (Some v) held = something-back taken (back v held) (never v)
 
 -- the same, of contents that all take so many levels
 pub optional-back : {T C : Type 0} {IsHeld : T → Type 0} {written : T → Named} {taken : Taken C} {content : T → C} {n : ℕ} → IsReadBack IsHeld written taken content (λ v. n) → ((v : T) → IsNeverNull (written v)) →
-    IsReadBack (λ o. IfSome o IsHeld) (option_of written) (taken_option taken) (option_map content) (λ o. n)
+    IsReadBack (λ o. IfSome o IsHeld) (or_null written) (taken_option taken) (option_map content) (λ o. n)
 optional-back {taken = taken} {n = n} back never None held = nothing-back taken n
 optional-back {taken = taken} back never (Some v) held = something-back taken (back v held) (never v)
 

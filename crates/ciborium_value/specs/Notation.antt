@@ -43,9 +43,9 @@ line_break None = []
 line_break (Some level) = codes "\n" ++ repeat level (codes "  ")
 
 -- one level more
-abbrev pub deeper : Option ℕ → Option ℕ
-deeper None = None
-deeper (Some level) = Some (suc level)
+abbrev pub one_level_more : Option ℕ → Option ℕ
+one_level_more None = None
+one_level_more (Some level) = Some (suc level)
 
 -- what stands between two parts, before the line break
 abbrev pub comma : Option ℕ → List ℕ
@@ -68,8 +68,8 @@ abbrev mutual
   notation_on lines (boolean true) = codes "true"
   notation_on lines null = codes "null"
   notation_on lines (tag n v) = decimal n ++ (codes "(" ++ (notation_on lines v ++ codes ")"))
-  notation_on lines (array vs) = codes "[" ++ (notations_on (deeper lines) [] vs ++ (last_break lines (trees_count vs) ++ codes "]"))
-  notation_on lines (map ps) = codes "{" ++ (pair_notations_on (deeper lines) [] ps ++ (last_break lines (tree_pairs_count ps) ++ codes "}"))
+  notation_on lines (array vs) = codes "[" ++ (notations_on (one_level_more lines) [] vs ++ (last_break lines (trees_count vs) ++ codes "]"))
+  notation_on lines (map ps) = codes "{" ++ (pair_notations_on (one_level_more lines) [] ps ++ (last_break lines (tree_pairs_count ps) ++ codes "}"))
 
   -- of each of some trees, the first behind `lead` and each other behind a comma
   pub notations_on : Option ℕ → List ℕ → Trees → List ℕ

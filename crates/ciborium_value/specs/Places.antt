@@ -37,13 +37,13 @@ abbrev pub container : Shape → Bool → List Item → Item
 container sequence open_ is = item.array open_ (items_from is)
 container dictionary open_ is = item.map open_ (pairs_from is)
 
-abbrev pub major_of : Shape → ℕ
-major_of sequence = 4
-major_of dictionary = 5
+abbrev pub shape_major : Shape → ℕ
+shape_major sequence = 4
+shape_major dictionary = 5
 
 -- what begins a container, open where nothing is announced
 abbrev pub begin_bytes : Shape → Option ℕ → List ℕ
-begin_bytes s n = counted_bytes (major_of s) n
+begin_bytes s n = counted_bytes (shape_major s) n
 
 -- what ends it
 abbrev pub end_bytes : Option ℕ → List ℕ

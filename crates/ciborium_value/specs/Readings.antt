@@ -63,13 +63,13 @@ abbrev pub below : ℕ → Reading ℕ ℕ
 below bound = checked (λ n. n) nat_cmp any_number (number_below bound) (no_nesting-below bound)
 
 -- n or -1 - n, for n below the bound
-abbrev pub within : ℕ → Reading ℤ ℤ
-within bound = checked (λ n. n) int_cmp any_number (number_within bound) (no_nesting-within bound)
+abbrev pub bounded : ℕ → Reading ℤ ℤ
+bounded bound = checked (λ n. n) int_cmp any_number (number_within bound) (no_nesting-within bound)
 
 -- such a number
-abbrev pub IsWithin : ℕ → ℤ → Type 0
-IsWithin bound (pos n) = n < bound
-IsWithin bound (negsuc n) = n < bound
+abbrev pub IsBounded : ℕ → ℤ → Type 0
+IsBounded bound (pos n) = n < bound
+IsBounded bound (negsuc n) = n < bound
 
 -- ---- options, lists and tuples
 

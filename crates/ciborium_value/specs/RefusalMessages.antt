@@ -34,6 +34,6 @@ kind_message kinds.KeyOrder = codes "a key out of order"
 kind_message kinds.DuplicateKey = codes "two equal keys in one map"
 
 -- the message of an error of trees
-abbrev pub error_message : Error → List ℕ
-error_message (Custom k) = kind_message k
-error_message Memory = memory_message
+abbrev pub tree_error_message : Error → List ℕ
+tree_error_message (Custom k) = kind_message k
+tree_error_message Memory = memory_message

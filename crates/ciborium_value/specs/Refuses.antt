@@ -54,11 +54,11 @@ IsDue keys_until_break r p = p < greatest_offset → ¬ IsAtFront break_byte r
 IsDue values_until_break r p = Unit {0}
 
 -- b begins with the head of an array or map, of k bytes, behind which r is left and this is due
-pub data HasOpening (b : List ℕ) (k : ℕ) (r : List ℕ) : Due → Type 0 where
-  array : (n : ℕ) → HasHead b 4 n k r → HasOpening b k r (exactly n)
-  open_array : k ≡ 1 → b ≡ open_byte 4 ∷ r → HasOpening b k r items_until_break
-  map : (n : ℕ) → HasHead b 5 n k r → HasOpening b k r (exactly (2 * n))
-  open_map : k ≡ 1 → b ≡ open_byte 5 ∷ r → HasOpening b k r keys_until_break
+pub data BeginsContainer (b : List ℕ) (k : ℕ) (r : List ℕ) : Due → Type 0 where
+  array : (n : ℕ) → HasHead b 4 n k r → BeginsContainer b k r (exactly n)
+  open_array : k ≡ 1 → b ≡ open_byte 4 ∷ r → BeginsContainer b k r items_until_break
+  map : (n : ℕ) → HasHead b 5 n k r → BeginsContainer b k r (exactly (2 * n))
+  open_map : k ≡ 1 → b ≡ open_byte 5 ∷ r → BeginsContainer b k r keys_until_break
 
 -- a tag folds over what begins here: the head of a definite byte string of at most 16 bytes
 abbrev pub IsFoldingAt : ℕ → List ℕ → Type 0
@@ -79,9 +79,9 @@ pub data Refuses : List ℕ → ℕ → Limit → Refusal → Type 0 where
   break : {p : ℕ} {b : List ℕ} {l : Limit} → IsUsable (break_byte ∷ b) p → Refuses (break_byte ∷ b) p l (semantic p Break)
   -- an array or map with no level left; with a level, the item behind good ones refuses where it is due
   no_level : {b : List ℕ} {p : ℕ} (k : ℕ) (r : List ℕ) (w : Due) →
-      IsUsable b p → HasOpening b k r w → Refuses b p (Some 0) recursion_limit_exceeded
+      IsUsable b p → BeginsContainer b k r w → Refuses b p (Some 0) recursion_limit_exceeded
   part : {b : List ℕ} {p : ℕ} {l : Limit} {e : Refusal} (k : ℕ) (w : Due) (good : List ℕ) (is : Items) (r : List ℕ) (below : Limit) →
-      IsUsable b p → HasOpening b k (good ++ r) w → IsOneLess l below → AreGood is below good (p + k) →
+      IsUsable b p → BeginsContainer b k (good ++ r) w → IsOneLess l below → AreGood is below good (p + k) →
       IsDue (due_after w is) r (p + k + length good) → Refuses r (p + k + length good) below e → Refuses b p l e
   -- a tag: the next head refuses, before anything else is judged
   tag_no_head : {b : List ℕ} {p : ℕ} {l : Limit} {e : Refusal} (t k : ℕ) (r : List ℕ) →

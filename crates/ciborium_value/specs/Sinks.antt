@@ -65,9 +65,9 @@ tag_of t (Ok i) = Ok (item.tag t i)
 tag_of t (Err k) = Err k
 
 -- null, or what the content names
-abbrev pub option_of : {A : Type 0} → (A → Named) → Option A → Named
-option_of f None = Ok (item.simple 22)
-option_of f (Some x) = f x
+abbrev pub or_null : {A : Type 0} → (A → Named) → Option A → Named
+or_null f None = Ok (item.simple 22)
+or_null f (Some x) = f x
 
 -- the item of a `Value`
 abbrev pub named_value : Value → Named

@@ -32,18 +32,18 @@ IsFaultOf end of_device o = Unit {0}
 IsFaultOf end of_length o = greatest_offset < end
 
 -- refused for what no item decides
-abbrev pub IsOutside : ℕ → Fault → Type 0
-IsOutside end (of_kind k) = ⊥
-IsOutside end of_nesting = ⊥
-IsOutside end of_syntax = ⊥
-IsOutside end of_memory = Unit {0}
-IsOutside end of_device = Unit {0}
-IsOutside end of_length = greatest_offset < end
+abbrev pub IsOutsideFault : ℕ → Fault → Type 0
+IsOutsideFault end (of_kind k) = ⊥
+IsOutsideFault end of_nesting = ⊥
+IsOutsideFault end of_syntax = ⊥
+IsOutsideFault end of_memory = Unit {0}
+IsOutsideFault end of_device = Unit {0}
+IsOutsideFault end of_length = greatest_offset < end
 
 -- want of memory comes only from those that take memory
-abbrev pub IsGranted : Fault → Bool → Type 0
-IsGranted of_memory takes_memory = IsTrue takes_memory
-IsGranted _ takes_memory = Unit {0}
+abbrev pub IsGrantedFault : Fault → Bool → Type 0
+IsGrantedFault of_memory takes_memory = IsTrue takes_memory
+IsGrantedFault _ takes_memory = Unit {0}
 
 -- an answer by what counts of it
 abbrev pub read_as : {A B E : Type 0} → (A → B) → Result A E → Result B E
@@ -54,12 +54,12 @@ read_as f (Err e) = Err e
 
 module _ {S : Type 0} (StandsBefore : S → Limit → Ahead → Type 0) where
   -- the answer is what the item gives, and the source stands past it
-  abbrev pub Takes : {A : Type 0} → S → S → Taken A → A → Type 0
-  Takes old new taken v = (l : Limit) (i : Item) (f : Rest) → StandsBefore old l (item i f) → (taken l i ≡ gives v) × StandsBefore new l (past f)
+  abbrev pub TakesAhead : {A : Type 0} → S → S → Taken A → A → Type 0
+  TakesAhead old new taken v = (l : Limit) (i : Item) (f : Rest) → StandsBefore old l (item i f) → (taken l i ≡ gives v) × StandsBefore new l (past f)
 
   -- it is refused only where the item is, and for that
-  abbrev pub Refuses : {A : Type 0} → S → Taken A → Fault → Type 0
-  Refuses old taken fault = (l : Limit) (i : Item) (f : Rest) → StandsBefore old l (item i f) → IsFaultOf (end_of f) fault (taken l i)
+  abbrev pub RefusesAhead : {A : Type 0} → S → Taken A → Fault → Type 0
+  RefusesAhead old taken fault = (l : Limit) (i : Item) (f : Rest) → StandsBefore old l (item i f) → IsFaultOf (end_of f) fault (taken l i)
 
   -- the answer says whether the item is null, and the source stands before it still
   abbrev pub Tells : S → S → Bool → Type 0
@@ -67,7 +67,7 @@ module _ {S : Type 0} (StandsBefore : S → Limit → Ahead → Type 0) where
 
   -- no item is to blame
   abbrev pub RefusesToTell : S → Fault → Type 0
-  RefusesToTell old fault = (l : Limit) (i : Item) (f : Rest) → StandsBefore old l (item i f) → IsOutside (end_of f) fault
+  RefusesToTell old fault = (l : Limit) (i : Item) (f : Rest) → StandsBefore old l (item i f) → IsOutsideFault (end_of f) fault
 
 -- ---- what is read of a container
 
@@ -98,8 +98,8 @@ module _ {S Q : Type 0} (StandsBefore : S → Limit → Ahead → Type 0) (SeqSt
 
   -- no part and no end is to blame
   abbrev pub RefusesNext : S → Q → Fault → Type 0
-  RefusesNext old q fault = ((l : Limit) (form : Form) (is : List Item) (f : Rest) → StandsBefore old (inside form l) (after (parts form is f)) → SeqStands q l (parts form is f) → IsOutside (end_of f) fault)
-      × ((l : Limit) (form : Form) (ps : List (Item × Item)) (f : Rest) → StandsBefore old (inside form l) (after (pairs form ps f)) → SeqStands q l (pairs form ps f) → IsOutside (end_of f) fault)
+  RefusesNext old q fault = ((l : Limit) (form : Form) (is : List Item) (f : Rest) → StandsBefore old (inside form l) (after (parts form is f)) → SeqStands q l (parts form is f) → IsOutsideFault (end_of f) fault)
+      × ((l : Limit) (form : Form) (ps : List (Item × Item)) (f : Rest) → StandsBefore old (inside form l) (after (pairs form ps f)) → SeqStands q l (pairs form ps f) → IsOutsideFault (end_of f) fault)
 
 -- ---- levels that are held
 

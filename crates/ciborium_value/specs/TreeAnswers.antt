@@ -10,9 +10,9 @@ use Rattle.ciborium_value.specs.declared.serialized.Error.{Error}
 use Rattle.ciborium_value.specs.declared.serialized.Error.TheVariants.{Custom, Memory}
 use Rattle.ciborium_value.specs.declared.tree.Value.{Value}
 
-abbrev pub cause_of : Error → Cause
-cause_of (Custom k) = value k
-cause_of Memory = memory
+abbrev pub tree_cause : Error → Cause
+tree_cause (Custom k) = value k
+tree_cause Memory = memory
 
 -- the tree of the item that is named
 abbrev pub IsTreeOf : Named → Value → Type 0
@@ -23,9 +23,9 @@ IsTreeOf (Err k) v = ⊥
 abbrev pub value_item : Value → Item
 value_item v = item_of (tree_of v)
 
-abbrev pub fault_of : Error → Fault
-fault_of (Custom k) = of_kind k
-fault_of Memory = of_memory
+abbrev pub tree_fault : Error → Fault
+tree_fault (Custom k) = of_kind k
+tree_fault Memory = of_memory
 
 -- an item that gives this outcome is refused so, or for want of memory
 abbrev pub IsErrorOf : {A : Type 0} → Error → Outcome A → Type 0

@@ -4,7 +4,7 @@ use Rattle.std.specs.Option.{option_map}
 use Rattle.std.specs.Prelude.{◌≡◌, ℕ, List, [], ◌∷◌, map, pos, Option, Some, None, Ok, String, string_bytes, refl}
 use Rattle.std.specs.declared.alloc.Global.{Global}
 use Rattle.ciborium_value.specs.Places.{dictionary, sequence}
-use Rattle.ciborium_value.specs.Sinks.{Named, container_of, fields_of, in_turn, named_text, number_item, option_of}
+use Rattle.ciborium_value.specs.Sinks.{Named, container_of, fields_of, in_turn, named_text, number_item, or_null}
 
 -- values with one content name the same item, or are refused with the same kind
 abbrev pub IsWrittenByContent : {T C : Type 0} → (T → Named) → (T → C) → Type 0
@@ -73,7 +73,7 @@ module _ {T C : Type 0} {written : T → Named} {content : T → C} (alike : IsW
   pub list-alike : (xs ys : List T) → map content xs ≡ map content ys → container_of sequence (map written xs) ≡ container_of sequence (map written ys)
   list-alike xs ys same = ap (container_of sequence) (each-alike xs ys same)
 
-  pub option-alike : (o p : Option T) → option_map content o ≡ option_map content p → option_of written o ≡ option_of written p
+  pub option-alike : (o p : Option T) → option_map content o ≡ option_map content p → or_null written o ≡ or_null written p
   option-alike None None same = refl
   option-alike None (Some w) same = cc
   option-alike (Some v) None same = cc

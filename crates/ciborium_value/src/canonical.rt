@@ -13,12 +13,12 @@ ghost use Rattle.ciborium_value.specs.Canonical.{bytewise_order, canonical_order
 ghost use Rattle.ciborium_value.specs.Counts.{node_count, trees_node_count, tree_pairs_node_count};
 ghost use Rattle.ciborium_value.specs.inner.EncodedLists.{encodings, pair_encodings};
 ghost use Rattle.ciborium_value.specs.Encoding.{encoding, encoded_size};
-ghost use Rattle.ciborium_value.specs.inner.TreeHeads.{major_of, argument_of, head_order};
+ghost use Rattle.ciborium_value.specs.inner.TreeHeads.{tree_major, argument_of, head_order};
 ghost use Rattle.ciborium_value.specs.ProperTrees.{IsProperTree, AreProperTrees, AreProperTreePairs};
 ghost use Rattle.ciborium_value.specs.inner.SideBySide.{Decides};
 ghost use Rattle.ciborium_value.specs.Tree.{integer};
 ghost use Rattle.ciborium_value.specs.View.{tree_of, trees_of, tree_pairs_of};
-ghost use Rattle.ciborium_value.specs.Visits.{AddsVisits, AddsAtMost, counted, both_node_count};
+ghost use Rattle.ciborium_value.specs.Visits.{AddsVisits, AddsAtMost, saturated, both_node_count};
 
 use crate::key_order::KeyOrder;
 use crate::tree::Value;
@@ -39,12 +39,12 @@ pub fn cmp_value(left: &Value, right: &Value) -> Ordering
 /// counted up to `u64::MAX`. A visit is one entry of the walk at one node of one value.
 pub fn cmp_value_counted(left: &Value, right: &Value) -> (Ordering, u64)
     ensures order { result.0 ≡ canonical_order (tree_of left.now) (tree_of right.now) }
-    ensures at_least_once { counted (both_node_count (tree_of left.now) (tree_of right.now))
+    ensures at_least_once { saturated (both_node_count (tree_of left.now) (tree_of right.now))
         ≤ result.1 }
     ensures at_most_twice { result.1 ≤
-        counted (2 * both_node_count (tree_of left.now) (tree_of right.now)) }
+        saturated (2 * both_node_count (tree_of left.now) (tree_of right.now)) }
     ensures twice_where_equal { tree_of left.now ≡ tree_of right.now →
-        result.1 ≡ counted (2 * both_node_count (tree_of left.now) (tree_of right.now)) }
+        result.1 ≡ saturated (2 * both_node_count (tree_of left.now) (tree_of right.now)) }
     ensures left_proper { IsProperTree (tree_of left.now) }
     ensures right_proper { IsProperTree (tree_of right.now) }
 {
@@ -73,9 +73,9 @@ pub fn cmp_bytewise_counted(left: &Value, right: &Value) -> (Ordering, u64)
     ensures order { result.0 ≡ bytewise_order (tree_of left.now) (tree_of right.now) }
     ensures equal { result.0 ≡ Equal → tree_of left.now ≡ tree_of right.now }
     ensures at_most_once { result.1 ≤
-        counted (both_node_count (tree_of left.now) (tree_of right.now)) }
+        saturated (both_node_count (tree_of left.now) (tree_of right.now)) }
     ensures once_where_equal { tree_of left.now ≡ tree_of right.now →
-        result.1 ≡ counted (both_node_count (tree_of left.now) (tree_of right.now)) }
+        result.1 ≡ saturated (both_node_count (tree_of left.now) (tree_of right.now)) }
 {
     let mut visits = Visits { count: 0 };
     let order = compare(left, right, &mut visits);
@@ -121,7 +121,7 @@ struct Head {
 #[inline(always)]
 fn visit(value: &Value, visits: &mut Visits) -> Head
     ensures visits { AddsVisits 1 visits.old.count visits.new.count }
-    ensures major { result.major ≡ major_of (tree_of value.now) }
+    ensures major { result.major ≡ tree_major (tree_of value.now) }
     ensures argument { result.argument ≡ argument_of (tree_of value.now) }
     ensures fits { argument_of (tree_of value.now) < 2 ^ 64 }
 {
@@ -166,7 +166,7 @@ fn visit(value: &Value, visits: &mut Visits) -> Head
 // The head that is all of a number.
 #[inline(always)]
 fn integer_head(number: Integer) -> Head
-    ensures major { result.major ≡ major_of (integer number) }
+    ensures major { result.major ≡ tree_major (integer number) }
     ensures argument { result.argument ≡ argument_of (integer number) }
 {
     let (negative, argument) = number.head();
@@ -210,7 +210,7 @@ fn measure(value: &Value, visits: &mut Visits) -> u64
 // The size of the encodings of values.
 #[cycle(measure)]
 fn measure_items(items: &Vec<Value>, visits: &mut Visits) -> u64
-    ensures size { result ≡ counted (length (encodings items.now.items)) }
+    ensures size { result ≡ saturated (length (encodings items.now.items)) }
     ensures visits { AddsVisits (trees_node_count (trees_of items.now.items))
         visits.old.count visits.new.count }
     ensures proper { AreProperTrees (trees_of items.now.items) }
@@ -225,7 +225,7 @@ fn measure_items(items: &Vec<Value>, visits: &mut Visits) -> u64
 // The size of the encodings of pairs.
 #[cycle(measure)]
 fn measure_pairs(pairs: &Vec<(Value, Value)>, visits: &mut Visits) -> u64
-    ensures size { result ≡ counted (length (pair_encodings pairs.now.items)) }
+    ensures size { result ≡ saturated (length (pair_encodings pairs.now.items)) }
     ensures visits { AddsVisits (tree_pairs_node_count (tree_pairs_of pairs.now.items))
         visits.old.count visits.new.count }
     ensures proper { AreProperTreePairs (tree_pairs_of pairs.now.items) }

@@ -2,7 +2,7 @@
 
 ghost use Rattle.std.specs.Prelude.{◌≡◌, ◌<◌, ◌≤◌, IfErr, IfOk, IfSome, OnErr, OnOk};
 ghost use Rattle.ciborium_value.specs.Readings.{Reading};
-ghost use Rattle.ciborium_value.specs.Sources.{IsGranted, Refuses, Takes, TakesItem};
+ghost use Rattle.ciborium_value.specs.Sources.{IsGrantedFault, RefusesAhead, TakesAhead, TakesItem};
 ghost use Rattle.ciborium_value.specs.Sources.{TakesOnly, read_as};
 
 use crate::source::Source;
@@ -29,10 +29,10 @@ pub trait Deserialize: Sized + Drop {
     /// unread and nothing else, and no more is left to read than before.
     fn deserialize<S: Source>(alloc: Global, source: &mut S) -> Result<Self, S::Error>
         ensures ok { IfOk result
-            (λ v. Takes S.stands_before source.old source.new reading.taken (reading.content v)) }
+            (λ v. TakesAhead S.stands_before source.old source.new reading.taken (reading.content v)) }
         ensures refused { IfErr result
-            (λ e. Refuses S.stands_before source.old reading.taken (S.cause e)) }
-        ensures memory { IfErr result (λ e. IsGranted (S.cause e) reading.takes_memory) }
+            (λ e. RefusesAhead S.stands_before source.old reading.taken (S.cause e)) }
+        ensures memory { IfErr result (λ e. IsGrantedFault (S.cause e) reading.takes_memory) }
         ensures whole { IfSome reading.whole (λ tree. S.reads source.old source.new
             (read_as (λ v. tree (reading.content v)) result)) }
         ensures took { OnOk result (TakesItem S.is_unread source.old source.new) }

@@ -1,12 +1,12 @@
 //! Values as sources to read from.
 
 ghost use Rattle.std.specs.Prelude.{◌≡◌, IfErr, IfOk, None};
-ghost use Rattle.ciborium_value.specs.Sources.{IsGranted};
+ghost use Rattle.ciborium_value.specs.Sources.{IsGrantedFault};
 ghost use Rattle.ciborium_value.specs.Taken.{gives};
 ghost use Rattle.ciborium_value.specs.inner.TreeSources.{IsTreeAt, IsTreeLevelAt, IsTreeSeqAt};
 ghost use Rattle.ciborium_value.specs.TreeAnswers.{IsErrorOf};
 ghost use Rattle.ciborium_value.specs.inner.TreeSources.{level_weight, pending_due, seq_weight};
-ghost use Rattle.ciborium_value.specs.TreeAnswers.{fault_of};
+ghost use Rattle.ciborium_value.specs.TreeAnswers.{tree_fault};
 ghost use Rattle.ciborium_value.specs.inner.TreeSources.{source_weight};
 ghost use Rattle.ciborium_value.specs.TreeAnswers.{value_item};
 
@@ -41,7 +41,7 @@ impl Value {
             (λ v. T.reading.taken None (value_item self.now) ≡ gives (T.reading.content v)) }
         ensures refused { IfErr result
             (λ e. IsErrorOf e (T.reading.taken None (value_item self.now))) }
-        ensures memory { IfErr result (λ e. IsGranted (fault_of e) T.reading.takes_memory) }
+        ensures memory { IfErr result (λ e. IsGrantedFault (tree_fault e) T.reading.takes_memory) }
     {
         let mut source = TreeSource {
             ahead: Pending::Whole(self),
@@ -132,7 +132,7 @@ impl<'a> Source for TreeSource<'a> {
 
     ghost reads = { λ old new answer. Unit {0} };
 
-    ghost cause = { fault_of };
+    ghost cause = { tree_fault };
 
     fn integer(&mut self) -> Result<(bool, u128), Error> {
         match self.take() {

@@ -4,7 +4,7 @@ ghost use Rattle.std.specs.Prelude.{◌≡◌, ◌≤◌, ◌<◌, ◌++◌, IfO
 ghost use Rattle.std.specs.Prelude.{decimal, slice_index, take, true};
 ghost use Rattle.std.specs.Fmt.{WritesStyledOnOk, signed_decimal, spec_alternate};
 ghost use Rattle.hex.specs.Hex.{encode_lower};
-ghost use Rattle.ciborium_value.specs.Notation.{IsPlain, comma, deeper, escape, line_break, needs_escape};
+ghost use Rattle.ciborium_value.specs.Notation.{IsPlain, comma, one_level_more, escape, line_break, needs_escape};
 ghost use Rattle.ciborium_value.specs.Notation.{last_break, notation, notation_on, notations_on};
 ghost use Rattle.ciborium_value.specs.Notation.{pair_notations_on, quoted, styled_notation};
 ghost use Rattle.ciborium_value.specs.View.{tree_of, tree_pairs_of, trees_of};
@@ -60,13 +60,13 @@ fn write_value<W: fmt::Write>(
         }
         Value::Array(items) => {
             f.write_str("[")?;
-            write_items(items, deeper(lines)?, f)?;
+            write_items(items, one_level_more(lines)?, f)?;
             write_last_break(items.len(), lines, f)?;
             f.write_str("]")
         }
         Value::Map(pairs) => {
             f.write_str("{")?;
-            write_pairs(pairs, deeper(lines)?, f)?;
+            write_pairs(pairs, one_level_more(lines)?, f)?;
             write_last_break(pairs.len(), lines, f)?;
             f.write_str("}")
         }
@@ -118,8 +118,8 @@ fn write_pairs<W: fmt::Write>(
 // ---- lines
 
 // One level more; there is none behind the last `usize`.
-fn deeper(lines: Option<usize>) -> Result<Option<usize>, fmt::Error>
-    ensures { IfOk result (λ inner. inner ≡ deeper lines) }
+fn one_level_more(lines: Option<usize>) -> Result<Option<usize>, fmt::Error>
+    ensures { IfOk result (λ inner. inner ≡ one_level_more lines) }
 {
     match lines {
         None => Ok(None),

@@ -1,13 +1,13 @@
 //! Values as sinks to write to.
 
 ghost use Rattle.std.specs.Prelude.{◌≡◌, ◌∷◌, IfErr, IfOk, OnOk, Some};
-ghost use Rattle.ciborium_value.specs.RefusalMessages.{error_message};
+ghost use Rattle.ciborium_value.specs.RefusalMessages.{tree_error_message};
 ghost use Rattle.ciborium_value.specs.inner.Frames.{placed};
 ghost use Rattle.ciborium_value.specs.Sinks.{Cause, IsOwed, memory};
-ghost use Rattle.ciborium_value.specs.inner.Stack.{opened, opens_of};
+ghost use Rattle.ciborium_value.specs.inner.Stack.{begun_frame, frames_of};
 ghost use Rattle.ciborium_value.specs.inner.TreeSinks.{IsBuiltAt, no_out};
 ghost use Rattle.ciborium_value.specs.TreeAnswers.{IsTreeOf};
-ghost use Rattle.ciborium_value.specs.TreeAnswers.{cause_of};
+ghost use Rattle.ciborium_value.specs.TreeAnswers.{tree_cause};
 ghost use Rattle.ciborium_value.specs.inner.TreeSinks.{nothing_shown, state_of};
 ghost use Rattle.ciborium_value.specs.View.{tree_of};
 ghost use Rattle.ciborium_value.specs.declared.serialized.Error.TheVariants.{Memory};
@@ -47,7 +47,7 @@ impl<T: Drop> From<AllocFailed<T>> for Error {
 }
 
 impl fmt::Display for Error {
-    ghost output = { λ e. Some (error_message e) };
+    ghost output = { λ e. Some (tree_error_message e) };
 
     fn fmt<W: fmt::Write>(&self, f: &mut fmt::Formatter<W>) -> fmt::Result {
         match self {
@@ -69,7 +69,7 @@ impl Value {
     /// allocation failed. The value is left as it was.
     pub fn serialized<T: Serialize>(alloc: Global, value: &T) -> Result<Value, Error>
         ensures ok { IfOk result (IsTreeOf (T.written value.now)) }
-        ensures refused { IfErr result (λ e. IsOwed (cause_of e) (T.written value.now)) }
+        ensures refused { IfErr result (λ e. IsOwed (tree_cause e) (T.written value.now)) }
     {
         let mut sink = TreeSink {
             stack: Stack::new(alloc),
@@ -96,8 +96,8 @@ impl TreeSink {
     // Puts a value where one is due.
     fn put(&mut self, value: Value) -> Result<(), Error>
         ensures ok { OnOk result
-            (state_of self.new ≡ placed (opens_of self.old.stack) (tree_of value)) }
-        ensures memory { IfErr result (λ e. cause_of e ≡ memory) }
+            (state_of self.new ≡ placed (frames_of self.old.stack) (tree_of value)) }
+        ensures memory { IfErr result (λ e. tree_cause e ≡ memory) }
     {
         self.whole = self.stack.place(value)?;
         Ok(())
@@ -106,9 +106,9 @@ impl TreeSink {
     // Opens a container or tag.
     fn open(&mut self, opening: Opening) -> Result<(), Error>
         ensures open { OnOk result
-            (opens_of self.new.stack ≡ opened opening ∷ opens_of self.old.stack) }
+            (frames_of self.new.stack ≡ begun_frame opening ∷ frames_of self.old.stack) }
         ensures whole { OnOk result (self.new.whole ≡ self.old.whole) }
-        ensures memory { IfErr result (λ e. cause_of e ≡ memory) }
+        ensures memory { IfErr result (λ e. tree_cause e ≡ memory) }
     {
         self.stack.open(opening)?;
         Ok(())
@@ -124,7 +124,7 @@ impl Sink for TreeSink {
 
     ghost takes_memory = { Unit {0} };
 
-    ghost cause = { cause_of };
+    ghost cause = { tree_cause };
 
     ghost shows = { nothing_shown };
 

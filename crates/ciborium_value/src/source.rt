@@ -6,9 +6,9 @@ ghost use Rattle.ciborium_value.specs.Ahead.{Ahead, Rest};
 ghost use Rattle.ciborium_value.specs.Nesting.{Limit};
 ghost use Rattle.ciborium_value.specs.Places.{Shape, dictionary, sequence};
 ghost use Rattle.ciborium_value.specs.Sources.{Completes, Enters, EntersMap, Fault, GivesBack};
-ghost use Rattle.ciborium_value.specs.Sources.{GoesOn, Holds, IsGranted, Leaves, OwesLess};
-ghost use Rattle.ciborium_value.specs.Sources.{OwesNothing, Refuses, RefusesNext, RefusesToTell};
-ghost use Rattle.ciborium_value.specs.Sources.{Takes, TakesItem, TakesNothing, TakesOnly};
+ghost use Rattle.ciborium_value.specs.Sources.{GoesOn, Holds, IsGrantedFault, Leaves, OwesLess};
+ghost use Rattle.ciborium_value.specs.Sources.{OwesNothing, RefusesAhead, RefusesNext, RefusesToTell};
+ghost use Rattle.ciborium_value.specs.Sources.{TakesAhead, TakesItem, TakesNothing, TakesOnly};
 ghost use Rattle.ciborium_value.specs.Sources.{TakesTo, Tells, of_kind, of_memory, read_as};
 ghost use Rattle.ciborium_value.specs.Taken.{taken_boolean, taken_bytes, taken_character};
 ghost use Rattle.ciborium_value.specs.Taken.{taken_integer, taken_name, taken_outer_tag};
@@ -74,10 +74,10 @@ pub trait Source {
     /// length, that has at most 16 bytes after its leading zeros (sections 3.1 and 3.4.3). A longer
     /// one is refused as `TooLarge`, another item under the tag as `Bytes`, any other as `Integer`.
     fn integer(&mut self) -> Result<(bool, u128), Self::Error>
-        ensures ok { IfOk result (λ v. Takes stands_before self.old self.new taken_integer v) }
+        ensures ok { IfOk result (λ v. TakesAhead stands_before self.old self.new taken_integer v) }
         ensures refused { IfErr result
-            (λ e. Refuses stands_before self.old taken_integer (cause e)) }
-        ensures memory { IfErr result (λ e. IsGranted (cause e) false) }
+            (λ e. RefusesAhead stands_before self.old taken_integer (cause e)) }
+        ensures memory { IfErr result (λ e. IsGrantedFault (cause e) false) }
         ensures took { OnOk result (TakesItem is_unread self.old self.new) }
         ensures only { TakesOnly has_taken self.old self.new }
         ensures less { OnOk result (left self.new < left self.old) }
@@ -85,10 +85,10 @@ pub trait Source {
 
     /// False or true (section 3.3). Skips tags; another item is refused as `Bool`.
     fn boolean(&mut self) -> Result<bool, Self::Error>
-        ensures ok { IfOk result (λ v. Takes stands_before self.old self.new taken_boolean v) }
+        ensures ok { IfOk result (λ v. TakesAhead stands_before self.old self.new taken_boolean v) }
         ensures refused { IfErr result
-            (λ e. Refuses stands_before self.old taken_boolean (cause e)) }
-        ensures memory { IfErr result (λ e. IsGranted (cause e) false) }
+            (λ e. RefusesAhead stands_before self.old taken_boolean (cause e)) }
+        ensures memory { IfErr result (λ e. IsGrantedFault (cause e) false) }
         ensures took { OnOk result (TakesItem is_unread self.old self.new) }
         ensures only { TakesOnly has_taken self.old self.new }
         ensures less { OnOk result (left self.new < left self.old) }
@@ -96,9 +96,9 @@ pub trait Source {
 
     /// Null or undefined (section 3.3). Skips tags; another item is refused as `Unit`.
     fn unit(&mut self) -> Result<(), Self::Error>
-        ensures ok { IfOk result (λ v. Takes stands_before self.old self.new taken_unit v) }
-        ensures refused { IfErr result (λ e. Refuses stands_before self.old taken_unit (cause e)) }
-        ensures memory { IfErr result (λ e. IsGranted (cause e) false) }
+        ensures ok { IfOk result (λ v. TakesAhead stands_before self.old self.new taken_unit v) }
+        ensures refused { IfErr result (λ e. RefusesAhead stands_before self.old taken_unit (cause e)) }
+        ensures memory { IfErr result (λ e. IsGrantedFault (cause e) false) }
         ensures took { OnOk result (TakesItem is_unread self.old self.new) }
         ensures only { TakesOnly has_taken self.old self.new }
         ensures less { OnOk result (left self.new < left self.old) }
@@ -106,10 +106,10 @@ pub trait Source {
 
     /// The one character of a definite text. Skips tags; another item is refused as `Char`.
     fn character(&mut self) -> Result<char, Self::Error>
-        ensures ok { IfOk result (λ v. Takes stands_before self.old self.new taken_character v) }
+        ensures ok { IfOk result (λ v. TakesAhead stands_before self.old self.new taken_character v) }
         ensures refused { IfErr result
-            (λ e. Refuses stands_before self.old taken_character (cause e)) }
-        ensures memory { IfErr result (λ e. IsGranted (cause e) false) }
+            (λ e. RefusesAhead stands_before self.old taken_character (cause e)) }
+        ensures memory { IfErr result (λ e. IsGrantedFault (cause e) false) }
         ensures took { OnOk result (TakesItem is_unread self.old self.new) }
         ensures only { TakesOnly has_taken self.old self.new }
         ensures less { OnOk result (left self.new < left self.old) }
@@ -119,8 +119,8 @@ pub trait Source {
     /// as `Text`.
     fn text(&mut self, alloc: Global) -> Result<String, Self::Error>
         ensures ok { IfOk result
-            (λ v. Takes stands_before self.old self.new taken_text (string_bytes v)) }
-        ensures refused { IfErr result (λ e. Refuses stands_before self.old taken_text (cause e)) }
+            (λ v. TakesAhead stands_before self.old self.new taken_text (string_bytes v)) }
+        ensures refused { IfErr result (λ e. RefusesAhead stands_before self.old taken_text (cause e)) }
         ensures took { OnOk result (TakesItem is_unread self.old self.new) }
         ensures only { TakesOnly has_taken self.old self.new }
         ensures less { OnOk result (left self.new < left self.old) }
@@ -130,8 +130,8 @@ pub trait Source {
     /// array, which takes a level, of numbers from 0 to 255, each as `integer` reads it: a number
     /// out of this range is refused as `Range`. Skips tags; another item is refused as `Bytes`.
     fn bytes(&mut self, alloc: Global) -> Result<Vec<u8>, Self::Error>
-        ensures ok { IfOk result (λ v. Takes stands_before self.old self.new taken_bytes v.items) }
-        ensures refused { IfErr result (λ e. Refuses stands_before self.old taken_bytes (cause e)) }
+        ensures ok { IfOk result (λ v. TakesAhead stands_before self.old self.new taken_bytes v.items) }
+        ensures refused { IfErr result (λ e. RefusesAhead stands_before self.old taken_bytes (cause e)) }
         ensures took { OnOk result (TakesItem is_unread self.old self.new) }
         ensures only { TakesOnly has_taken self.old self.new }
         ensures less { OnOk result (left self.new < left self.old) }
@@ -141,8 +141,8 @@ pub trait Source {
     /// definite or indefinite length (section 3.1). Skips tags; another item is refused as `Name`.
     fn name(&mut self, alloc: Global) -> Result<String, Self::Error>
         ensures ok { IfOk result
-            (λ v. Takes stands_before self.old self.new taken_name (string_bytes v)) }
-        ensures refused { IfErr result (λ e. Refuses stands_before self.old taken_name (cause e)) }
+            (λ v. TakesAhead stands_before self.old self.new taken_name (string_bytes v)) }
+        ensures refused { IfErr result (λ e. RefusesAhead stands_before self.old taken_name (cause e)) }
         ensures took { OnOk result (TakesItem is_unread self.old self.new) }
         ensures only { TakesOnly has_taken self.old self.new }
         ensures less { OnOk result (left self.new < left self.old) }
@@ -152,7 +152,7 @@ pub trait Source {
     fn null_ahead(&mut self) -> Result<bool, Self::Error>
         ensures ok { IfOk result (λ b. Tells stands_before self.old self.new b) }
         ensures refused { IfErr result (λ e. RefusesToTell stands_before self.old (cause e)) }
-        ensures memory { IfErr result (λ e. IsGranted (cause e) false) }
+        ensures memory { IfErr result (λ e. IsGrantedFault (cause e) false) }
         ensures took { OnOk result (TakesNothing is_unread self.old self.new) }
         ensures only { TakesOnly has_taken self.old self.new }
         ensures less { OnOk result (left self.new ≤ left self.old) }
@@ -165,8 +165,8 @@ pub trait Source {
         ensures ok { IfOk result (λ p. Holds stands_before level_stands self.old self.new
             taken_outer_tag p.0 p.1) }
         ensures refused { IfErr result
-            (λ e. Refuses stands_before self.old taken_outer_tag (cause e)) }
-        ensures memory { IfErr result (λ e. IsGranted (cause e) false) }
+            (λ e. RefusesAhead stands_before self.old taken_outer_tag (cause e)) }
+        ensures memory { IfErr result (λ e. IsGrantedFault (cause e) false) }
         ensures took { OnOk result (TakesTo is_unread self.old self.new Completes) }
         ensures only { TakesOnly has_taken self.old self.new }
         ensures less { IfOk result (λ p. left self.new + level_left p.1 ≤ left self.old) }
@@ -187,7 +187,7 @@ pub trait Source {
         ensures ok { IfOk result (λ p. Holds stands_before level_stands self.old self.new
             taken_variant (string_bytes p.0) p.1) }
         ensures refused { IfErr result
-            (λ e. Refuses stands_before self.old taken_variant (cause e)) }
+            (λ e. RefusesAhead stands_before self.old taken_variant (cause e)) }
         ensures took { OnOk result (TakesTo is_unread self.old self.new Completes) }
         ensures only { TakesOnly has_taken self.old self.new }
         ensures less { IfOk result (λ p. left self.new + level_left p.1 ≤ left self.old) }
@@ -204,7 +204,7 @@ pub trait Source {
     /// are then its items, as integers. Skips tags; another item is refused as `Array`.
     fn begin_seq(&mut self, alloc: Global) -> Result<Self::Seq, Self::Error>
         ensures ok { IfOk result (λ q. Enters stands_before seq_stands self.old self.new q) }
-        ensures refused { IfErr result (λ e. Refuses stands_before self.old taken_seq (cause e)) }
+        ensures refused { IfErr result (λ e. RefusesAhead stands_before self.old taken_seq (cause e)) }
         ensures took { IfOk result (λ q. TakesTo is_unread self.old self.new (owes q sequence)) }
         ensures only { TakesOnly has_taken self.old self.new }
         ensures less { IfOk result (λ q. left self.new + seq_left q < left self.old) }
@@ -213,8 +213,8 @@ pub trait Source {
     /// Enters a map, which takes a level. Skips tags; another item is refused as `Map`.
     fn begin_map(&mut self) -> Result<Self::Seq, Self::Error>
         ensures ok { IfOk result (λ q. EntersMap stands_before seq_stands self.old self.new q) }
-        ensures refused { IfErr result (λ e. Refuses stands_before self.old taken_pairs (cause e)) }
-        ensures memory { IfErr result (λ e. IsGranted (cause e) false) }
+        ensures refused { IfErr result (λ e. RefusesAhead stands_before self.old taken_pairs (cause e)) }
+        ensures memory { IfErr result (λ e. IsGrantedFault (cause e) false) }
         ensures took { IfOk result (λ q. TakesTo is_unread self.old self.new (owes q dictionary)) }
         ensures only { TakesOnly has_taken self.old self.new }
         ensures less { IfOk result (λ q. left self.new + seq_left q < left self.old) }
@@ -228,7 +228,7 @@ pub trait Source {
             (Leaves stands_before seq_stands self.old self.new seq.old)) }
         ensures refused { IfErr result
             (λ e. RefusesNext stands_before seq_stands self.old seq.old (cause e)) }
-        ensures memory { IfErr result (λ e. IsGranted (cause e) false) }
+        ensures memory { IfErr result (λ e. IsGrantedFault (cause e) false) }
         ensures took { IfOk result (λ b. MatchBool b
             (TakesTo is_unread self.old self.new (OwesLess owes seq.old seq.new))
             (TakesTo is_unread self.old self.new (OwesNothing owes seq.old))) }
@@ -241,8 +241,8 @@ pub trait Source {
     /// The item ahead, of any type, as a `Value`: its meaning, with bignums folded (section 3.4.3).
     fn value(&mut self, alloc: Global) -> Result<Value, Self::Error>
         ensures ok { IfOk result
-            (λ v. Takes stands_before self.old self.new taken_value (tree_of v)) }
-        ensures refused { IfErr result (λ e. Refuses stands_before self.old taken_value (cause e)) }
+            (λ v. TakesAhead stands_before self.old self.new taken_value (tree_of v)) }
+        ensures refused { IfErr result (λ e. RefusesAhead stands_before self.old taken_value (cause e)) }
         ensures reads { reads self.old self.new (read_as tree_of result) }
         ensures took { OnOk result (TakesItem is_unread self.old self.new) }
         ensures only { TakesOnly has_taken self.old self.new }

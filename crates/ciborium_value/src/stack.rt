@@ -3,9 +3,9 @@
 ghost use Rattle.std.specs.Prelude.{◌≡◌, ◌∷◌, ◌++◌, [], IfOk, List, MatchOption, None, OnErr};
 ghost use Rattle.std.specs.Prelude.{OnOk, Some};
 ghost use Rattle.std.specs.Prelude.{drop, length, map, min, option_map};
-ghost use Rattle.ciborium_value.specs.inner.Frames.{array, closed, ended, fill, map as open_map, placed};
+ghost use Rattle.ciborium_value.specs.inner.Frames.{array, closed, tree_ended, fill, map as open_map, placed};
 ghost use Rattle.ciborium_value.specs.inner.Frames.{parts_due, waiting_keys};
-ghost use Rattle.ciborium_value.specs.inner.Stack.{filled_of, open_of, opened, opens, opens_of};
+ghost use Rattle.ciborium_value.specs.inner.Stack.{filled_of, frame_of, begun_frame, tree_frames, frames_of};
 ghost use Rattle.ciborium_value.specs.inner.Stack.{placed_of};
 ghost use Rattle.ciborium_value.specs.View.{pair_trees, tree_of};
 
@@ -43,7 +43,7 @@ enum Frame {
 }
 
 fn begin(alloc: Global, opening: Opening) -> Frame
-    ensures { open_of result ≡ opened opening }
+    ensures { frame_of result ≡ begun_frame opening }
 {
     match opening {
         Opening::Array { behind } => Frame::Array {
@@ -141,8 +141,8 @@ fn fill_map(
 // Puts a value into a frame. Answers what it completes.
 #[inline(always)]
 fn fill(alloc: Global, frame: &mut Frame, value: Value) -> Result<Option<Value>, AllocError>
-    ensures { IfOk result (λ r. filled_of r (open_of frame.new) ≡
-        fill (open_of frame.old) (tree_of value)) }
+    ensures { IfOk result (λ r. filled_of r (frame_of frame.new) ≡
+        fill (frame_of frame.old) (tree_of value)) }
 {
     match frame {
         Frame::Array { items, behind } => fill_array(alloc, items, behind, value),
@@ -154,8 +154,8 @@ fn fill(alloc: Global, frame: &mut Frame, value: Value) -> Result<Option<Value>,
 // Puts a value into the innermost frame, and each value that this completes into the next one.
 #[inline(always)]
 fn place(alloc: Global, frames: &mut Vec<Frame>, value: Value) -> Result<Option<Value>, AllocError>
-    ensures { IfOk result (λ r. placed_of r (opens frames.new.items) ≡
-        placed (opens frames.old.items) (tree_of value)) }
+    ensures { IfOk result (λ r. placed_of r (tree_frames frames.new.items) ≡
+        placed (tree_frames frames.old.items) (tree_of value)) }
 {
     let mut value = value;
     while let Some(frame) = frames.last_mut() {
@@ -171,7 +171,7 @@ fn place(alloc: Global, frames: &mut Vec<Frame>, value: Value) -> Result<Option<
 }
 
 fn end(frame: Frame) -> Option<Value>
-    ensures { option_map (λ v. tree_of v) result ≡ ended (open_of frame) }
+    ensures { option_map (λ v. tree_of v) result ≡ tree_ended (frame_of frame) }
 {
     match frame {
         Frame::Array {
@@ -198,7 +198,7 @@ pub struct Stack {
 impl Stack {
     /// Nothing is open. This takes no memory.
     pub fn new(alloc: Global) -> Stack
-        ensures { opens_of result ≡ [] }
+        ensures { frames_of result ≡ [] }
     {
         Stack {
             frames: Vec::new(alloc),
@@ -208,7 +208,7 @@ impl Stack {
 
     /// How many containers and tags are open.
     pub fn depth(&self) -> usize
-        ensures { result ≡ length (opens_of self.now) }
+        ensures { result ≡ length (frames_of self.now) }
     {
         self.frames.len()
     }
@@ -216,8 +216,8 @@ impl Stack {
     /// Opens a container or tag inside those that are open. Where an allocation fails, they are as
     /// they were.
     pub fn open(&mut self, opening: Opening) -> Result<(), AllocError>
-        ensures ok { OnOk result (opens_of self.new ≡ opened opening ∷ opens_of self.old) }
-        ensures err { OnErr result (opens_of self.new ≡ opens_of self.old) }
+        ensures ok { OnOk result (frames_of self.new ≡ begun_frame opening ∷ frames_of self.old) }
+        ensures err { OnErr result (frames_of self.new ≡ frames_of self.old) }
     {
         self.frames.push(begin(self.alloc, opening))?;
         Ok(())
@@ -227,8 +227,8 @@ impl Stack {
     /// open any more. Where an allocation fails, what was open is given up.
     #[inline(always)]
     pub fn place(&mut self, value: Value) -> Result<Option<Value>, AllocError>
-        ensures { IfOk result (λ r. placed_of r (opens_of self.new) ≡
-            placed (opens_of self.old) (tree_of value)) }
+        ensures { IfOk result (λ r. placed_of r (frames_of self.new) ≡
+            placed (frames_of self.old) (tree_of value)) }
     {
         place(self.alloc, &mut self.frames, value)
     }
@@ -238,7 +238,7 @@ impl Stack {
     #[inline(always)]
     pub fn waiting_keys(&self) -> Option<(&Value, &Value)>
         ensures { option_map (λ keys. (tree_of keys.0.now, tree_of keys.1.now)) result ≡
-            waiting_keys (opens_of self.now) }
+            waiting_keys (frames_of self.now) }
     {
         match self.frames.last() {
             Some(
@@ -260,7 +260,7 @@ impl Stack {
     /// nothing is open.
     #[inline(always)]
     pub fn due(&self) -> usize
-        ensures { result ≡ min (parts_due (opens_of self.now)) usize.MAX }
+        ensures { result ≡ min (parts_due (frames_of self.now)) usize.MAX }
     {
         let Some(innermost) = self.frames.last() else {
             return 0;
@@ -287,9 +287,9 @@ impl Stack {
     /// `None` the innermost is given up.
     pub fn close(&mut self) -> Option<Value>
         ensures { MatchOption result
-            ((closed (opens_of self.old) ≡ None) ×
-            (opens_of self.new ≡ drop 1 (opens_of self.old)))
-            (λ v. closed (opens_of self.old) ≡ Some (tree_of v, opens_of self.new)) }
+            ((closed (frames_of self.old) ≡ None) ×
+            (frames_of self.new ≡ drop 1 (frames_of self.old)))
+            (λ v. closed (frames_of self.old) ≡ Some (tree_of v, frames_of self.new)) }
     {
         match self.frames.pop() {
             Some(frame) => end(frame),

@@ -2,7 +2,7 @@
 
 ghost use Rattle.std.specs.Prelude.{◌≡◌, ◌<◌, ◌≤◌, IfErr, IfOk, None, OnErr, OnOk, Option, Some};
 ghost use Rattle.std.specs.Option.{option_map};
-ghost use Rattle.ciborium_value.specs.Sources.{Refuses, Takes, TakesItem, TakesOnly, of_kind};
+ghost use Rattle.ciborium_value.specs.Sources.{RefusesAhead, TakesAhead, TakesItem, TakesOnly, of_kind};
 ghost use Rattle.ciborium_value.specs.StructReadings.{FieldsTaken, field_taken};
 ghost use Rattle.ciborium_value.specs.StructReadings.{no_field_taken, taken_fields};
 ghost use Rattle.ciborium_value.specs.declared.kind.Kind.TheVariants.{Other};
@@ -44,9 +44,9 @@ pub trait WantedFields: Drop {
         source: &mut S,
     ) -> Result<(), S::Error>
         ensures names { OnOk result (fields self.new ≡ fields self.old) }
-        ensures ok { OnOk result (Takes S.stands_before source.old source.new
+        ensures ok { OnOk result (TakesAhead S.stands_before source.old source.new
             ((fields self.old).taken name.now (content self.old)) (content self.new)) }
-        ensures refused { IfErr result (λ e. Refuses S.stands_before source.old
+        ensures refused { IfErr result (λ e. RefusesAhead S.stands_before source.old
             ((fields self.old).taken name.now (content self.old)) (S.cause e)) }
         ensures took { OnOk result (TakesItem S.is_unread source.old source.new) }
         ensures only { TakesOnly S.has_taken source.old source.new }
@@ -109,9 +109,9 @@ pub fn read_fields<F: WantedFields, S: Source>(
     source: &mut S,
     fields: &mut F,
 ) -> Result<(), S::Error>
-    ensures ok { OnOk result (Takes S.stands_before source.old source.new
+    ensures ok { OnOk result (TakesAhead S.stands_before source.old source.new
         (taken_fields (F.fields fields.old) (F.content fields.old)) (F.content fields.new)) }
-    ensures refused { IfErr result (λ e. Refuses S.stands_before source.old
+    ensures refused { IfErr result (λ e. RefusesAhead S.stands_before source.old
         (taken_fields (F.fields fields.old) (F.content fields.old)) (S.cause e)) }
     ensures took { OnOk result (TakesItem S.is_unread source.old source.new) }
     ensures only { TakesOnly S.has_taken source.old source.new }

@@ -11,17 +11,17 @@ use Rattle.ciborium.proofs.Items.Due.{due-past, held-past}
 use Rattle.ciborium_value.specs.Ahead.{Rest, Form, after, parts, past, inside, end_of}
 use Rattle.ciborium_value.specs.Nesting.{Limit}
 use Rattle.ciborium_value.specs.Places.{sequence}
-use Rattle.ciborium_value.specs.Sources.{Fault, IsFaultOf, of_kind, of_nesting, of_syntax, of_memory, of_device, of_length, Takes, Refuses, TakesItem, TakesTo, GoesOn, Leaves, RefusesNext, OwesLess, OwesNothing, HasItem}
+use Rattle.ciborium_value.specs.Sources.{Fault, IsFaultOf, of_kind, of_nesting, of_syntax, of_memory, of_device, of_length, TakesAhead, RefusesAhead, TakesItem, TakesTo, GoesOn, Leaves, RefusesNext, OwesLess, OwesNothing, HasItem}
 use Rattle.ciborium_value.specs.Taken.{Outcome, Taken, gives, refuses, nests, deeper, then_take, and_take, take_each, number_below, taken_integer, taken_byte, taken_bytes, bare_bytes, untagged}
 use Rattle.ciborium_value.specs.declared.kind.Kind.TheVariants as kinds
 use Rattle.ciborium_value.proofs.Sources.Sequences.{fault_outside, fault_then}
 use Rattle.ciborium.specs.declared.de.byte_source.ByteSource.{ByteSource}
 use Rattle.ciborium.specs.declared.de.byte_source.ByteSeq.{ByteSeq}
-use Rattle.ciborium.specs.inner.ByteSources.{IsUnread, StandsBefore, SeqStands, Owes, OpensItems, ReadsRest, RefusesRest, due_after, pending_count, weight_left, end_at, reader_of}
+use Rattle.ciborium.specs.inner.ByteSources.{IsUnread, StandsBefore, SeqStands, SeqOwes, EntersItemsUnread, ReadsRest, RefusesRest, items_due_behind, pending_count, weight_left, end_at, reader_of}
 use Rattle.ciborium.specs.inner.FrontItems.{Reads, Denies}
 use Rattle.ciborium.specs.inner.Skips.{under, AreSkipped, IsBare, TakesBare}
 use Rattle.ciborium.specs.inner.StringContents.{string_item, TakesContent}
-use Rattle.ciborium.specs.inner.Unread.{IsRest, Fits}
+use Rattle.ciborium.specs.inner.Unread.{IsRest, FitsAhead}
 use Rattle.ciborium.proofs.Containers.EnteredContainers.{HasItems, items-stand, within-is}
 use Rattle.ciborium.proofs.Items.ItemHeads.{header_of}
 use Rattle.ciborium.proofs.Containers.NextParts.{fits-past, none-past}
@@ -33,15 +33,15 @@ use Rattle.ciborium.proofs.Items.TakenOnly.{IsKept, kept-reader, rest-end}
 
 module _ {S : Type 0} (remaining : S → Option (List ℕ)) where
   pub takes-read : {A : Type 0} (old new : ByteSource S) (taken : Taken A) (v : A) → IsKept remaining old new → new.levels ≡ old.levels → new.pending ≡ None → weight_left new < weight_left old →
-      Reads (IsUnread remaining) old new (Some old.levels) taken v → Takes (StandsBefore remaining) old new taken v
+      Reads (IsUnread remaining) old new (Some old.levels) taken v → TakesAhead (StandsBefore remaining) old new taken v
   takes-read old new taken v kept levels none fewer h l i f (b, u, (s, r, sp, rest, e), is, ahead, few) =
       let (j, t, z, sq, e', give, un) = h b u in
       let same = one_at_front s t r z i j sp sq (sym e ∙ e') in (
         ap (λ k. taken k i) is ∙ ap (taken (Some old.levels)) same.2 ∙ give,
-        (z, un, subst (λ n. Fits n z (past f)) (sym (kept-reader remaining old new kept b u)) (fits-past (reader_of remaining old.decoder) z f (subst (λ y. IsRest (reader_of remaining old.decoder) y f) same.1 rest)), is ∙ ap Some (sym levels), none-past new.pending none f, subst (λ n. allowed_of new.decoder + pending_count new.pending ≤ n) (sym (due-past f)) (held-past old new kept.0 (due_after f) none fewer few)),
+        (z, un, subst (λ n. FitsAhead n z (past f)) (sym (kept-reader remaining old new kept b u)) (fits-past (reader_of remaining old.decoder) z f (subst (λ y. IsRest (reader_of remaining old.decoder) y f) same.1 rest)), is ∙ ap Some (sym levels), none-past new.pending none f, subst (λ n. allowed_of new.decoder + pending_count new.pending ≤ n) (sym (due-past f)) (held-past old new kept.0 (items_due_behind f) none fewer few)),
       )
 
-  pub refuses-denied : {A : Type 0} (old : ByteSource S) (taken : Taken A) (fault : Fault) → Denies (IsUnread remaining) (end_at remaining) old (Some old.levels) taken fault → Refuses (StandsBefore remaining) old taken fault
+  pub refuses-denied : {A : Type 0} (old : ByteSource S) (taken : Taken A) (fault : Fault) → Denies (IsUnread remaining) (end_at remaining) old (Some old.levels) taken fault → RefusesAhead (StandsBefore remaining) old taken fault
   refuses-denied old taken fault h l i f (b, u, (s, r, sp, rest, e), is, ahead, few) =
       subst (λ n. IsFaultOf n fault (taken l i)) (sym (rest-end (reader_of remaining old.decoder) r f rest)) (subst (λ k. IsFaultOf (end_at remaining old) fault (taken k i)) (sym is) (h b s r i u sp e))
 
@@ -97,13 +97,13 @@ ReadsPartly remaining taken old q new q' vs = (l : Limit) (form : Form) (is : Li
 
 -- of known bytes those of some items were taken
 abbrev pub OwesPartly : {S : Type 0} → (S → Option (List ℕ)) → ByteSource S → ByteSeq → ByteSource S → ByteSeq → Type 0
-OwesPartly remaining old q new q' = TakesTo (IsUnread remaining) old new (λ c u. (b : List ℕ) → Owes q sequence b c → Owes q' sequence b u)
+OwesPartly remaining old q new q' = TakesTo (IsUnread remaining) old new (λ c u. (b : List ℕ) → SeqOwes q sequence b c → SeqOwes q' sequence b u)
 
 module _ {S A : Type 0} (remaining : S → Option (List ℕ)) (taken : Taken A) (old : ByteSource S) (start : ByteSeq) where
   pub partly-none : ReadsPartly remaining taken old start old start []
   partly-none l form is r st hold = record { done = []; rest = is; split = refl; stands = st; holds = hold; read = refl }
 
-  pub partly-more : (mid ahead new : ByteSource S) (q q' : ByteSeq) (vs : List A) (v : A) → ReadsPartly remaining taken old start mid q vs → GoesOn (StandsBefore remaining) SeqStands mid ahead q q' → Takes (StandsBefore remaining) ahead new taken v →
+  pub partly-more : (mid ahead new : ByteSource S) (q q' : ByteSeq) (vs : List A) (v : A) → ReadsPartly remaining taken old start mid q vs → GoesOn (StandsBefore remaining) SeqStands mid ahead q q' → TakesAhead (StandsBefore remaining) ahead new taken v →
       ReadsPartly remaining taken old start new q' (vs ++ v ∷ [])
   partly-more mid ahead new q q' vs v w g t l form is r st hold =
       let n = w l form is r st hold in
@@ -129,7 +129,7 @@ module _ {S A : Type 0} (remaining : S → Option (List ℕ)) (taken : Taken A) 
       let n = w l form is r st hold in
       fault_outside _ fault (take_each (taken (inside form l)) is) (h.0 l form n.rest r n.stands n.holds)
 
-  pub partly-fault : (mid ahead : ByteSource S) (q q' : ByteSeq) (vs : List A) (fault : Fault) → ReadsPartly remaining taken old start mid q vs → GoesOn (StandsBefore remaining) SeqStands mid ahead q q' → Refuses (StandsBefore remaining) ahead taken fault →
+  pub partly-fault : (mid ahead : ByteSource S) (q q' : ByteSeq) (vs : List A) (fault : Fault) → ReadsPartly remaining taken old start mid q vs → GoesOn (StandsBefore remaining) SeqStands mid ahead q q' → RefusesAhead (StandsBefore remaining) ahead taken fault →
       RefusesRest remaining old start (λ l is. take_each (taken l) is) fault
   partly-fault mid ahead q q' vs fault w g h l form is r st hold =
       let n = w l form is r st hold in
@@ -140,14 +140,14 @@ module _ {S A : Type 0} (remaining : S → Option (List ℕ)) (taken : Taken A) 
   pub owes-none : OwesPartly remaining old start old start
   owes-none b u = (b, u, λ a owed. owed)
 
-  pub owes-more : (mid ahead new : ByteSource S) (q q' : ByteSeq) → OwesPartly remaining old start mid q → TakesTo (IsUnread remaining) mid ahead (OwesLess Owes q q') → TakesItem (IsUnread remaining) ahead new → OwesPartly remaining old start new q'
+  pub owes-more : (mid ahead new : ByteSource S) (q q' : ByteSeq) → OwesPartly remaining old start mid q → TakesTo (IsUnread remaining) mid ahead (OwesLess SeqOwes q q') → TakesItem (IsUnread remaining) ahead new → OwesPartly remaining old start new q'
   owes-more mid ahead new q q' h g t b u =
       let (c, un, owes) = h b u in
       let (d, un', less) = g c un in
       let (z, un'', front) = t d un' in
       (z, un'', λ a owed. less sequence a z (owes a owed) front)
 
-  pub owes-end : (mid new : ByteSource S) (q : ByteSeq) → OwesPartly remaining old start mid q → TakesTo (IsUnread remaining) mid new (OwesNothing Owes q) → TakesTo (IsUnread remaining) old new (λ c z. (b : List ℕ) → Owes start sequence b c → HasItem b z)
+  pub owes-end : (mid new : ByteSource S) (q : ByteSeq) → OwesPartly remaining old start mid q → TakesTo (IsUnread remaining) mid new (OwesNothing SeqOwes q) → TakesTo (IsUnread remaining) old new (λ c z. (b : List ℕ) → SeqOwes start sequence b c → HasItem b z)
   owes-end mid new q h g b u =
       let (c, un, owes) = h b u in
       let (z, un', done) = g c un in
@@ -155,14 +155,14 @@ module _ {S A : Type 0} (remaining : S → Option (List ℕ)) (taken : Taken A) 
 
 -- a byte is what its number is
 module _ {S : Type 0} (remaining : S → Option (List ℕ)) (ahead : ByteSource S) where
-  pub byte-takes : (new : ByteSource S) (n : Bool × ℕ) (v : ℕ) → number_below 256 n ≡ gives v → Takes (StandsBefore remaining) ahead new taken_integer n → Takes (StandsBefore remaining) ahead new taken_byte v
+  pub byte-takes : (new : ByteSource S) (n : Bool × ℕ) (v : ℕ) → number_below 256 n ≡ gives v → TakesAhead (StandsBefore remaining) ahead new taken_integer n → TakesAhead (StandsBefore remaining) ahead new taken_byte v
   byte-takes new n v e t l i f st = let k = t l i f st in (byte-given l i n v k.0 e, k.1)
 
-  pub byte-refuses : (fault : Fault) → Refuses (StandsBefore remaining) ahead taken_integer fault → Refuses (StandsBefore remaining) ahead taken_byte fault
+  pub byte-refuses : (fault : Fault) → RefusesAhead (StandsBefore remaining) ahead taken_integer fault → RefusesAhead (StandsBefore remaining) ahead taken_byte fault
   byte-refuses fault h l i f st = fault_then (end_of f) fault (taken_integer l i) (number_below 256) (h l i f st)
 
   -- a number that is no byte
-  pub range-refuses : (new : ByteSource S) (n : Bool × ℕ) (fault : Fault) → ((end : ℕ) → IsFaultOf end fault (number_below 256 n)) → Takes (StandsBefore remaining) ahead new taken_integer n → Refuses (StandsBefore remaining) ahead taken_byte fault
+  pub range-refuses : (new : ByteSource S) (n : Bool × ℕ) (fault : Fault) → ((end : ℕ) → IsFaultOf end fault (number_below 256 n)) → TakesAhead (StandsBefore remaining) ahead new taken_integer n → RefusesAhead (StandsBefore remaining) ahead taken_byte fault
   range-refuses new n fault b t l i f st = let k = t l i f st in subst (λ o. IsFaultOf (end_of f) fault (then_take o (number_below 256))) (sym k.0) (b (end_of f))
 
 -- ---- the array
@@ -171,19 +171,19 @@ pub bytes-given : (m : ℕ) → m ≢ 0 → (ts : List ℕ) (i : Item) (xs : Lis
 bytes-given m some ts i xs (o, js, is, all) = ap (bare_bytes (Some m)) (untagged-under ts i ∙ ap untagged is) ∙ within-is m _ some ∙ ap (take_each (taken_byte (deeper (Some m)))) all
 
 module _ {S : Type 0} (remaining : S → Option (List ℕ)) (old mid : ByteSource S) (q : ByteSeq) (name : IsKept remaining old mid) (levels : q.levels ≡ old.levels) (none : mid.pending ≡ None) (fewer : weight_left mid < weight_left old)
-    (opens : OpensItems remaining old mid taken_bytes (λ l is. take_each (taken_byte l) is) q) where
-  pub array-takes : (new : ByteSource S) (v : List ℕ) → ReadsRest remaining mid new q (λ l is. take_each (taken_byte l) is) v → Takes (StandsBefore remaining) old new taken_bytes v
+    (opens : EntersItemsUnread remaining old mid taken_bytes (λ l is. take_each (taken_byte l) is) q) where
+  pub array-takes : (new : ByteSource S) (v : List ℕ) → ReadsRest remaining mid new q (λ l is. take_each (taken_byte l) is) v → TakesAhead (StandsBefore remaining) old new taken_bytes v
   array-takes new v reads l i f st =
       let (form, is, give, stands, holds) = items-stand remaining old mid q name levels none fewer taken_bytes (λ k its. take_each (taken_byte k) its) opens l i f st in
       let (e, past) = reads l form is f stands holds in
       (give ∙ e, past)
 
-  pub array-refuses : (fault : Fault) → RefusesRest remaining mid q (λ l is. take_each (taken_byte l) is) fault → Refuses (StandsBefore remaining) old taken_bytes fault
+  pub array-refuses : (fault : Fault) → RefusesRest remaining mid q (λ l is. take_each (taken_byte l) is) fault → RefusesAhead (StandsBefore remaining) old taken_bytes fault
   array-refuses fault denied l i f st =
       let (form, is, give, stands, holds) = items-stand remaining old mid q name levels none fewer taken_bytes (λ k its. take_each (taken_byte k) its) opens l i f st in
       subst (λ o. IsFaultOf (end_of f) fault o) (sym give) (denied l form is f stands holds)
 
-  pub array-took : (new : ByteSource S) → TakesTo (IsUnread remaining) mid new (λ c z. (b : List ℕ) → Owes q sequence b c → HasItem b z) → TakesItem (IsUnread remaining) old new
+  pub array-took : (new : ByteSource S) → TakesTo (IsUnread remaining) mid new (λ c z. (b : List ℕ) → SeqOwes q sequence b c → HasItem b z) → TakesItem (IsUnread remaining) old new
   array-took new took b u =
       let (w, un, owes, rest) = opens b u in
       let (z, un', done) = took w un in

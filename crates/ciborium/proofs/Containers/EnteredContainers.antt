@@ -21,8 +21,8 @@ use Rattle.ciborium.specs.declared.de.byte_source.ByteSource.{ByteSource}
 use Rattle.ciborium.specs.declared.de.byte_source.ByteSeq.{ByteSeq}
 use Rattle.ciborium.specs.declared.de.byte_source.Left.{Left}
 use Rattle.ciborium.specs.declared.de.byte_source.Left.TheVariants as left
-use Rattle.ciborium.specs.inner.ByteSources.{IsUnread, IsUnreadBy, StandsBefore, SeqStands, HoldsItems, HoldsPairs, Owes, LeftOwes, OwesParts, OpensItems, OpensPairs, HasBytes, parts_left, due_after, weight_left, seq_left}
-use Rattle.ciborium.specs.inner.Skips.{under, AreSkipped, IsBare, TakesBare, Opens}
+use Rattle.ciborium.specs.inner.ByteSources.{IsUnread, IsUnreadBy, StandsBefore, SeqStands, HoldsItems, HoldsPairs, SeqOwes, LeftOwes, OwesParts, EntersItemsUnread, EntersPairsUnread, HasBytes, parts_left, items_due_behind, weight_left, seq_left}
+use Rattle.ciborium.specs.inner.Skips.{under, AreSkipped, IsBare, TakesBare, EntersUnread}
 use Rattle.ciborium.specs.inner.StringContents.{TakesContent, is_open}
 use Rattle.ciborium.specs.inner.Unread.{AreSpelled, AreLeft, SpellsPair, IsRest, ending, form_of, HasCount}
 use Rattle.ciborium.proofs.Items.ItemHeads.{header_of, packed, packed-pairs, counted-front, open-front, counted-pairs-front, open-pairs-front}
@@ -91,7 +91,7 @@ module _ {S X A : Type 0} (SpellsPart : List ℕ → X → Type 0) (head_with : 
     (IsUnread : S → List ℕ → Type 0) (taken : Taken A) (f : Limit → List X → Outcome A) where
   entered : (old mid new : S) (m : ℕ) (count : Option ℕ) (q : ByteSeq) → m ≢ 0 → TakesBare IsUnread old mid false (head_with count) → ((y : List ℕ) → IsUnread mid y → IsUnread new y) →
       ((b u : List ℕ) → OwesParts SpellsPart count b u → Owed q b u) → ((xs : List X) → HasCount count xs → Held q (form_of count) xs) →
-      ((ts : List ℕ) (i : Item) (xs : List X) → HasParts i xs → taken (Some m) (under ts i) ≡ f (deeper (Some m)) xs) → Opens IsUnread Owed SpellsPart Held old new (Some m) (Some (m - 1)) taken f q
+      ((ts : List ℕ) (i : Item) (xs : List X) → HasParts i xs → taken (Some m) (under ts i) ≡ f (deeper (Some m)) xs) → EntersUnread IsUnread Owed SpellsPart Held old new (Some m) (Some (m - 1)) taken f q
   entered old mid new m count q some bare into owes holds give b u =
       let (ts, w, x, y, tagged, all, hd, e, un) = bare b u in
       let owed : OwesParts SpellsPart count b y = λ t z xs sp len g.
@@ -116,11 +116,11 @@ module _ {S X A : Type 0} (SpellsPart : List ℕ → X → Type 0) (head_with : 
             ),
       )
 
-items-owed : (q : ByteSeq) (count : Option ℕ) → q.left ≡ parts_left count → (b u : List ℕ) → OwesParts Spells count b u → Owes q sequence b u
+items-owed : (q : ByteSeq) (count : Option ℕ) → q.left ≡ parts_left count → (b u : List ℕ) → OwesParts Spells count b u → SeqOwes q sequence b u
 items-owed q (Some n) e b u h = subst (λ k. LeftOwes k sequence b u) (sym e) h
 items-owed q None e b u h = subst (λ k. LeftOwes k sequence b u) (sym e) h
 
-pairs-owed : (q : ByteSeq) (count : Option ℕ) → q.left ≡ parts_left count → (b u : List ℕ) → OwesParts SpellsPair count b u → Owes q dictionary b u
+pairs-owed : (q : ByteSeq) (count : Option ℕ) → q.left ≡ parts_left count → (b u : List ℕ) → OwesParts SpellsPair count b u → SeqOwes q dictionary b u
 pairs-owed q (Some n) e b u h = subst (λ k. LeftOwes k dictionary b u) (sym e) h
 pairs-owed q None e b u h = subst (λ k. LeftOwes k dictionary b u) (sym e) h
 
@@ -143,19 +143,19 @@ same-unread remaining mid new e f y u = subst (λ d. IsUnreadBy remaining d new.
 
 module _ {S : Type 0} (remaining : S → Option (List ℕ)) (old mid new : ByteSource S) (count : Option ℕ) (q : ByteSeq) (same : mid.levels ≡ old.levels) (is : IsEntered mid new count q) where
   pub array-entered : {A : Type 0} (taken : Taken A) (f : Limit → List Item → Outcome A) → TakesBare (IsUnread remaining) old mid false (header.Array count) →
-      ((ts : List ℕ) (i : Item) (xs : List Item) → HasItems i xs → taken (Some old.levels) (under ts i) ≡ f (deeper (Some old.levels)) xs) → OpensItems remaining old new taken f q
+      ((ts : List ℕ) (i : Item) (xs : List Item) → HasItems i xs → taken (Some old.levels) (under ts i) ≡ f (deeper (Some old.levels)) xs) → EntersItemsUnread remaining old new taken f q
   array-entered taken f bare give =
       let some : old.levels ≢ 0 = λ z. is.2 (same ∙ z) in
-      subst (λ n. Opens (IsUnread remaining) (λ p. Owes p sequence) Spells (λ p. HoldsItems p.left) old new (Some old.levels) (Some n) taken f q) (sym (is.3 ∙ ap (λ n. n - 1) same))
-      (entered Spells header.Array HasItems array-container (λ p. Owes p sequence) (λ p. HoldsItems p.left) (IsUnread remaining) taken f old mid new old.levels count q some bare
+      subst (λ n. EntersUnread (IsUnread remaining) (λ p. SeqOwes p sequence) Spells (λ p. HoldsItems p.left) old new (Some old.levels) (Some n) taken f q) (sym (is.3 ∙ ap (λ n. n - 1) same))
+      (entered Spells header.Array HasItems array-container (λ p. SeqOwes p sequence) (λ p. HoldsItems p.left) (IsUnread remaining) taken f old mid new old.levels count q some bare
       (same-unread remaining mid new is.0 is.1) (items-owed q count is.4) (items-held q count is.4) give)
 
   pub map-entered : {A : Type 0} (taken : Taken A) (f : Limit → List (Item × Item) → Outcome A) → TakesBare (IsUnread remaining) old mid false (header.Map count) →
-      ((ts : List ℕ) (i : Item) (xs : List (Item × Item)) → HasPairs i xs → taken (Some old.levels) (under ts i) ≡ f (deeper (Some old.levels)) xs) → OpensPairs remaining old new taken f q
+      ((ts : List ℕ) (i : Item) (xs : List (Item × Item)) → HasPairs i xs → taken (Some old.levels) (under ts i) ≡ f (deeper (Some old.levels)) xs) → EntersPairsUnread remaining old new taken f q
   map-entered taken f bare give =
       let some : old.levels ≢ 0 = λ z. is.2 (same ∙ z) in
-      subst (λ n. Opens (IsUnread remaining) (λ p. Owes p dictionary) SpellsPair (λ p. HoldsPairs p.left) old new (Some old.levels) (Some n) taken f q) (sym (is.3 ∙ ap (λ n. n - 1) same))
-      (entered SpellsPair header.Map HasPairs map-container (λ p. Owes p dictionary) (λ p. HoldsPairs p.left) (IsUnread remaining) taken f old mid new old.levels count q some bare
+      subst (λ n. EntersUnread (IsUnread remaining) (λ p. SeqOwes p dictionary) SpellsPair (λ p. HoldsPairs p.left) old new (Some old.levels) (Some n) taken f q) (sym (is.3 ∙ ap (λ n. n - 1) same))
+      (entered SpellsPair header.Map HasPairs map-container (λ p. SeqOwes p dictionary) (λ p. HoldsPairs p.left) (IsUnread remaining) taken f old mid new old.levels count q some bare
       (same-unread remaining mid new is.0 is.1) (pairs-owed q count is.4) (pairs-held q count is.4) give)
 
 pub seq-given : (m : ℕ) → m ≢ 0 → (ts : List ℕ) (i : Item) (xs : List Item) → HasItems i xs → taken_seq (Some m) (under ts i) ≡ gives (deeper (Some m), xs)
@@ -171,7 +171,7 @@ bytes-had (left.Bytes v) P h = (v, refl, h)
 
 -- the bytes of a byte string that was read whole
 pub bytes-entered : {S : Type 0} (remaining : S → Option (List ℕ)) (old mid new : ByteSource S) (q : ByteSeq) (v : _) (len : Option ℕ) (payload : List ℕ) → q.left ≡ left.Bytes v → into_iter_items v ≡ payload → new.levels ≡ old.levels →
-    TakesBare (IsUnread remaining) old mid false (header.Bytes len) → TakesContent (IsUnread remaining mid) (IsUnread remaining new) bytes_kind len payload → OpensItems remaining old new taken_seq (λ l is. gives (l, is)) q
+    TakesBare (IsUnread remaining) old mid false (header.Bytes len) → TakesContent (IsUnread remaining mid) (IsUnread remaining new) bytes_kind len payload → EntersItemsUnread remaining old new taken_seq (λ l is. gives (l, is)) q
 bytes-entered remaining old mid new q v len payload is same levels bare content b u =
     let (ts, w, x, y, tagged, all, hd, e, un) = bare b u in
     let (c, z, make, f, un') = content y un in
@@ -259,7 +259,7 @@ map-other l h bare p ts i all e = ap (bare_pairs l) (untagged-under ts i) ∙ ot
 
 module _ {S : Type 0} (remaining : S → Option (List ℕ)) (old new : ByteSource S) (q : ByteSeq) (kept : IsKept remaining old new) (levels : q.levels ≡ old.levels) (none : new.pending ≡ None) (fewer : weight_left new < weight_left old) where
   -- the items of what was entered, which f takes, and where the source stands
-  pub items-stand : {A : Type 0} (taken : Taken A) (f : Limit → List Item → Outcome A) → OpensItems remaining old new taken f q → (l : Limit) (i : Item) (r : _) → StandsBefore remaining old l (item i r) →
+  pub items-stand : {A : Type 0} (taken : Taken A) (f : Limit → List Item → Outcome A) → EntersItemsUnread remaining old new taken f q → (l : Limit) (i : Item) (r : _) → StandsBefore remaining old l (item i r) →
       (form : Form) × (is : List Item) × (taken l i ≡ f (inside form l) is) × StandsBefore remaining new (inside form l) (after (parts form is r)) × SeqStands q l (parts form is r)
   items-stand taken f h l i r (b, u, (s, t, sp, rest, e), is, ahead, few) =
       let (w, un, owes, opens) = h b u in
@@ -267,12 +267,12 @@ module _ {S : Type 0} (remaining : S → Option (List ℕ)) (old new : ByteSourc
         form,
         its,
         ap (λ k. taken k i) is ∙ give ∙ ap (λ k. f (inside form k) its) (sym is),
-        (w, un, (c, t, stand, subst (λ n. IsRest n t r) (sym (kept-reader remaining old new kept b u)) rest, split), ap (inside form) is ∙ lv, none, (let less = held-past old new kept.0 (due_after r) none fewer few in omega (arith, less))),
+        (w, un, (c, t, stand, subst (λ n. IsRest n t r) (sym (kept-reader remaining old new kept b u)) rest, split), ap (inside form) is ∙ lv, none, (let less = held-past old new kept.0 (items_due_behind r) none fewer few in omega (arith, less))),
         (is ∙ ap Some (sym levels), hold),
       )
 
   -- the pairs, in the same way
-  pub pairs-stand : {A : Type 0} (taken : Taken A) (f : Limit → List (Item × Item) → Outcome A) → OpensPairs remaining old new taken f q → (l : Limit) (i : Item) (r : _) → StandsBefore remaining old l (item i r) →
+  pub pairs-stand : {A : Type 0} (taken : Taken A) (f : Limit → List (Item × Item) → Outcome A) → EntersPairsUnread remaining old new taken f q → (l : Limit) (i : Item) (r : _) → StandsBefore remaining old l (item i r) →
       (form : Form) × (is : List (Item × Item)) × (taken l i ≡ f (inside form l) is) × StandsBefore remaining new (inside form l) (after (pairs form is r)) × SeqStands q l (pairs form is r)
   pairs-stand taken f h l i r (b, u, (s, t, sp, rest, e), is, ahead, few) =
       let (w, un, owes, opens) = h b u in
@@ -280,18 +280,18 @@ module _ {S : Type 0} (remaining : S → Option (List ℕ)) (old new : ByteSourc
         form,
         its,
         ap (λ k. taken k i) is ∙ give ∙ ap (λ k. f (inside form k) its) (sym is),
-        (w, un, (c, t, stand, subst (λ n. IsRest n t r) (sym (kept-reader remaining old new kept b u)) rest, split), ap (inside form) is ∙ lv, none, (let less = held-past old new kept.0 (due_after r) none fewer few in omega (arith, less))),
+        (w, un, (c, t, stand, subst (λ n. IsRest n t r) (sym (kept-reader remaining old new kept b u)) rest, split), ap (inside form) is ∙ lv, none, (let less = held-past old new kept.0 (items_due_behind r) none fewer few in omega (arith, less))),
         (is ∙ ap Some (sym levels), hold),
       )
 
 -- what is answered where a sequence was entered, and where a map was
 module _ {S : Type 0} (remaining : S → Option (List ℕ)) (old new : ByteSource S) (kept : IsKept remaining old new) where
   pub enters : (E : Type 0) (r : Result ByteSeq E) → IfOk r (λ q. q.levels ≡ old.levels) → OnOk r (new.pending ≡ None) → IfOk r (λ q. weight_left new + seq_left q < weight_left old) →
-      IfOk r (OpensItems remaining old new taken_seq (λ l is. gives (l, is))) → IfOk r (λ q. Enters (StandsBefore remaining) SeqStands old new q)
+      IfOk r (EntersItemsUnread remaining old new taken_seq (λ l is. gives (l, is))) → IfOk r (λ q. Enters (StandsBefore remaining) SeqStands old new q)
   enters E (Ok q) levels none fewer opens = items-stand remaining old new q kept levels none (omega (arith, fewer)) taken_seq (λ l is. gives (l, is)) opens
   enters E (Err e) levels none fewer opens = tt
 
   pub enters-map : (E : Type 0) (r : Result ByteSeq E) → IfOk r (λ q. q.levels ≡ old.levels) → OnOk r (new.pending ≡ None) → IfOk r (λ q. weight_left new + seq_left q < weight_left old) →
-      IfOk r (OpensPairs remaining old new taken_pairs (λ l ps. gives (l, ps))) → IfOk r (λ q. EntersMap (StandsBefore remaining) SeqStands old new q)
+      IfOk r (EntersPairsUnread remaining old new taken_pairs (λ l ps. gives (l, ps))) → IfOk r (λ q. EntersMap (StandsBefore remaining) SeqStands old new q)
   enters-map E (Ok q) levels none fewer opens = pairs-stand remaining old new q kept levels none (omega (arith, fewer)) taken_pairs (λ l ps. gives (l, ps)) opens
   enters-map E (Err e) levels none fewer opens = tt

@@ -11,9 +11,9 @@ use Rattle.ciborium_value.specs.Sources.{Completes, Holds, GivesBack, TakesTo}
 use Rattle.ciborium_value.specs.Taken.{Taken, gives, deeper, within_level, outer_tag, taken_outer_tag}
 use Rattle.ciborium.specs.declared.de.byte_source.ByteSource.{ByteSource}
 use Rattle.ciborium.specs.declared.de.byte_source.ByteLevel.{ByteLevel}
-use Rattle.ciborium.specs.inner.ByteSources.{IsUnread, StandsBefore, LevelStands, TakesLevel, due_after, pending_count, weight_left, reader_of}
+use Rattle.ciborium.specs.inner.ByteSources.{IsUnread, StandsBefore, LevelStands, TakesLevel, items_due_behind, pending_count, weight_left, reader_of}
 use Rattle.ciborium.specs.inner.FrontItems.{TakesHead, Denies}
-use Rattle.ciborium.specs.inner.Skips.{OpensLevel}
+use Rattle.ciborium.specs.inner.Skips.{EntersLevelUnread}
 use Rattle.ciborium.specs.inner.Unread.{IsRest}
 use Rattle.ciborium.proofs.Containers.EnteredContainers.{within-is, deeper-is}
 use Rattle.ciborium.proofs.Items.ItemHeads.{header_of, tag-front, same-head}
@@ -23,31 +23,31 @@ use Rattle.ciborium.proofs.Items.TakenOnly.{IsKept, kept-reader}
 -- ---- where the source then stands
 
 module _ {S : Type 0} (remaining : S → Option (List ℕ)) (old new : ByteSource S) where
-  pub completes-opened : {A : Type 0} (l : _) (taken : Taken (A × Item)) (v : A) → OpensLevel (IsUnread remaining) old new l taken v → TakesTo (IsUnread remaining) old new Completes
+  pub completes-opened : {A : Type 0} (l : _) (taken : Taken (A × Item)) (v : A) → EntersLevelUnread (IsUnread remaining) old new l taken v → TakesTo (IsUnread remaining) old new Completes
   completes-opened l taken v h b u =
       let (w, un, leads) = h b u in
       (w, un, λ z (i, s, sp, e). let (j, t, sq, f) = leads.outward i s z sp e in (j, t, sq, f))
 
-  pub holds-opened : {A : Type 0} (taken : Taken (A × Item)) (v : A) (level : ByteLevel) → IsKept remaining old new → weight_left new ≤ weight_left old → TakesLevel old new level → OpensLevel (IsUnread remaining) old new (Some old.levels) taken v →
+  pub holds-opened : {A : Type 0} (taken : Taken (A × Item)) (v : A) (level : ByteLevel) → IsKept remaining old new → weight_left new ≤ weight_left old → TakesLevel old new level → EntersLevelUnread (IsUnread remaining) old new (Some old.levels) taken v →
       Holds (StandsBefore remaining) LevelStands old new taken v level
   holds-opened taken v level kept fewer (back, less) h l i f (b, u, (s, r, sp, rest, e), is, ahead, few) =
       let (w, un, leads) = h b u in
       let (j, t, give, sq, split) = leads.inward i s r sp e in (
         j,
         ap (λ k. taken k i) is ∙ give,
-        (w, un, (t, r, sq, subst (λ n. IsRest n r f) (sym (kept-reader remaining old new kept b u)) rest, split), ap deeper is ∙ deeper-is old.levels (λ z. absurd (omega (arith, z, less))) ∙ ap Some (omega (arith, less)), tt, held-level old new kept.0 (due_after f) fewer few),
+        (w, un, (t, r, sq, subst (λ n. IsRest n r f) (sym (kept-reader remaining old new kept b u)) rest, split), ap deeper is ∙ deeper-is old.levels (λ z. absurd (omega (arith, z, less))) ∙ ap Some (omega (arith, less)), tt, held-level old new kept.0 (items_due_behind f) fewer few),
         is ∙ ap Some (sym back),
       )
 
   pub gives-back : (level : ByteLevel) → new.decoder ≡ old.decoder → new.pending ≡ old.pending → new.levels ≡ level.levels → ((b : List ℕ) → IsUnread remaining old b → IsUnread remaining new b) → GivesBack (StandsBefore remaining) LevelStands old new level
   gives-back level same pending levels keeps l f (b, u, fits, is, none, few) outside =
-      (b, keeps b u, fits-past (reader_of remaining new.decoder) b f (subst (λ d. IsRest (reader_of remaining d) b f) (sym same) fits), outside ∙ ap Some (sym levels), none-past new.pending (pending ∙ none) f, subst (λ n. allowed_of new.decoder + pending_count new.pending ≤ n) (sym (due-past f)) (held-same old new (ap source_of same) (due_after f) (ap (λ d. d.window.count) same) pending few))
+      (b, keeps b u, fits-past (reader_of remaining new.decoder) b f (subst (λ d. IsRest (reader_of remaining d) b f) (sym same) fits), outside ∙ ap Some (sym levels), none-past new.pending (pending ∙ none) f, subst (λ n. allowed_of new.decoder + pending_count new.pending ≤ n) (sym (due-past f)) (held-same old new (ap source_of same) (items_due_behind f) (ap (λ d. d.window.count) same) pending few))
 
 -- ---- tags
 
 module _ {S : Type 0} (IsUnread : S → List ℕ → Type 0) (old mid new : S) (m : ℕ) (some : m ≢ 0) where
   -- the head of a tag was taken
-  pub tag-opened : (t : ℕ) → TakesHead IsUnread old mid (header.Tag t) → ((y : List ℕ) → IsUnread mid y → IsUnread new y) → OpensLevel IsUnread old new (Some m) taken_outer_tag (Some t)
+  pub tag-opened : (t : ℕ) → TakesHead IsUnread old mid (header.Tag t) → ((y : List ℕ) → IsUnread mid y → IsUnread new y) → EntersLevelUnread IsUnread old new (Some m) taken_outer_tag (Some t)
   tag-opened t took keeps b u =
       let (x, y, hd, e, un) = took b u in (
         y,
@@ -73,7 +73,7 @@ module _ {S : Type 0} (IsUnread : S → List ℕ → Type 0) (old mid new : S) (
 
   -- another head was looked at
   pub none-opened : (h : Header) → ((t : ℕ) → h ≡ header.Tag t → ⊥) → TakesHead IsUnread old mid h → ((b x y : List ℕ) → IsUnread old b → SpellsHeader x h → b ≡ x ++ y → IsUnread mid y → IsUnread new b) →
-      OpensLevel IsUnread old new (Some m) taken_outer_tag None
+      EntersLevelUnread IsUnread old new (Some m) taken_outer_tag None
   none-opened h p took aside b u =
       let (x, y, hd, e, un) = took b u in (
         b,

@@ -19,7 +19,7 @@ use Rattle.ciborium_value.specs.declared.kind.Kind.TheVariants as kinds
 use Rattle.ciborium_value.proofs.Sources.Sequences.{fault_map}
 use Rattle.ciborium.specs.inner.ByteSources.{IsUnreadBy}
 use Rattle.ciborium.specs.inner.FrontItems.{Reads, Denies}
-use Rattle.ciborium.specs.inner.Skips.{under, AreSkipped, IsBare, TakesBare, OpensLevel}
+use Rattle.ciborium.specs.inner.Skips.{under, AreSkipped, IsBare, TakesBare, EntersLevelUnread}
 use Rattle.ciborium.specs.inner.StringContents.{TakesContent, is_open}
 use Rattle.ciborium.proofs.Containers.EnteredContainers.{within-is}
 use Rattle.ciborium.proofs.Items.ItemHeads.{header_of, same-head}
@@ -73,7 +73,7 @@ null-unread remaining d pending p z none u = (0xf6 ∷ [], z, null-head, refl, s
 module _ {S : Type 0} (IsUnread : S → List ℕ → Type 0) (old mid new : S) (m : ℕ) (some : m ≢ 0) where
   -- a text
   pub text-opened : (len : Option ℕ) (name : List ℕ) → TakesBare IsUnread old mid false (header.Text len) → ((y : List ℕ) → IsUnread mid y → (c : List ℕ) × (z : List ℕ) ×
-      ((x : List ℕ) → SpellsHeader x (header.Text len) → Spells (x ++ c) (text (is_open len) name)) × (y ≡ c ++ z) × IsUnread new (0xf6 ∷ z)) → OpensLevel IsUnread old new (Some m) taken_variant name
+      ((x : List ℕ) → SpellsHeader x (header.Text len) → Spells (x ++ c) (text (is_open len) name)) × (y ≡ c ++ z) × IsUnread new (0xf6 ∷ z)) → EntersLevelUnread IsUnread old new (Some m) taken_variant name
   text-opened len name bare content b u =
       let (ts, w, x, y, tagged, all, hd, e, un) = bare b u in
       let (c, z, make, f, un') = content y un in
@@ -119,7 +119,7 @@ pair-front s r x y i sp hd e = by i sp (same-head s r x y i (header.Map (Some 1)
 
 module _ {S : Type 0} (IsUnread : S → List ℕ → Type 0) (old mid inner new : S) (m : ℕ) (some : m ≢ 0) (keeps : (y : List ℕ) → IsUnread mid y → IsUnread inner y) where
   -- a map of one pair, whose key was read as a name
-  pub pair-opened : (name : List ℕ) → TakesBare IsUnread old mid false (header.Map (Some 1)) → Reads IsUnread inner new (deeper (Some m)) taken_name name → OpensLevel IsUnread old new (Some m) taken_variant name
+  pub pair-opened : (name : List ℕ) → TakesBare IsUnread old mid false (header.Map (Some 1)) → Reads IsUnread inner new (deeper (Some m)) taken_name name → EntersLevelUnread IsUnread old new (Some m) taken_variant name
   pair-opened name bare key b u =
       let (ts, w, x, y, tagged, all, hd, e, un) = bare b u in
       let (k, a, z, ska, f, give, un') = key y (keeps y un) in

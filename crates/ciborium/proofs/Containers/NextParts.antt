@@ -13,18 +13,18 @@ use Rattle.ciborium.proofs.Items.Due.{due-most, due-next, due-none, due-past, he
 use Rattle.ciborium_value.specs.Ahead.{Form, Rest, bottom, parts, pairs, entry, held, item, past, inside}
 use Rattle.ciborium_value.specs.Nesting.{Limit}
 use Rattle.ciborium_value.specs.Places.{Shape, sequence, dictionary}
-use Rattle.ciborium_value.specs.Sources.{Fault, IsOutside, HasItem, HasPart, GoesOn, Leaves, RefusesNext, OwesLess, OwesNothing}
+use Rattle.ciborium_value.specs.Sources.{Fault, IsOutsideFault, HasItem, HasPart, GoesOn, Leaves, RefusesNext, OwesLess, OwesNothing}
 use Rattle.ciborium.specs.declared.de.byte_source.ByteSource.{ByteSource}
 use Rattle.ciborium.specs.declared.de.byte_source.ByteSeq.{ByteSeq}
 use Rattle.ciborium.specs.declared.de.byte_source.Left.TheVariants as left
-use Rattle.ciborium.specs.inner.ByteSources.{IsHeadCounted, IsUnread, IsUnreadBy, StandsBefore, SeqStands, HasNoneBehind, HoldsItems, HoldsPairs, HoldsParts, Owes, LeftOwes, OwesParts, bytes_weight, due_after, due_parts, pending_count, weight, weight_left, StandsStill, end_at, reader_of}
+use Rattle.ciborium.specs.inner.ByteSources.{IsHeadCounted, IsUnread, IsUnreadBy, StandsBefore, SeqStands, HasNoneBehind, HoldsItems, HoldsPairs, HoldsParts, SeqOwes, LeftOwes, OwesParts, bytes_weight, items_due_behind, due_parts, pending_count, head_weight, weight_left, StandsStill, end_at, reader_of}
 use Rattle.ciborium.specs.inner.FrontItems.{TakesHead, DeniesHead}
-use Rattle.ciborium.specs.inner.Unread.{AreSpelled, AreLeft, SpellsPair, Fits, IsRest, ending, form_of, HasCount}
+use Rattle.ciborium.specs.inner.Unread.{AreSpelled, AreLeft, SpellsPair, FitsAhead, IsRest, ending, form_of, HasCount}
 use Rattle.ciborium_ll.specs.Decoding.{left_of, allowed_of, source_of}
 use Rattle.ciborium.proofs.Items.TakenOnly.{IsKept, kept-reader, rest-end}
 use Rattle.ciborium.proofs.Items.ItemHeads.{header_of, first-head, first-payload, same-head, no-break-head}
 
-pub fits-past : (name : _) (b : List ℕ) (f : Rest) → IsRest name b f → Fits name b (past f)
+pub fits-past : (name : _) (b : List ℕ) (f : Rest) → IsRest name b f → FitsAhead name b (past f)
 fits-past name b (bottom m r) h = h
 fits-past name b (parts form is f) h = h
 fits-past name b (pairs form ps f) h = h
@@ -120,17 +120,17 @@ record IsAheadOf {S : Type 0} (remaining : S → Option (List ℕ)) (old new : B
   held : (n : ℕ) → allowed_of old.decoder + pending_count old.pending ≤ 1 + n → allowed_of new.decoder + pending_count new.pending ≤ 1 + n
 
 module _ {S : Type 0} (remaining : S → Option (List ℕ)) (old new : ByteSource S) (rest : Option ℕ) (b r : List ℕ) (f : Rest) (ahead : IsAheadOf remaining old new b) (q q' : ByteSeq) (same : q'.levels ≡ q.levels) where
-  stands-item : (l : Limit) (form : Form) (xs : List Item) → form ≡ form_of rest → HasNext Spells rest xs b r → IsRest (reader_of remaining old.decoder) r f → inside form l ≡ Some old.levels → allowed_of old.decoder + pending_count old.pending ≤ due_parts form (length xs) + due_after f → l ≡ Some q.levels → ((ys : List Item) → HasCount rest ys → HoldsItems q'.left form ys) →
+  stands-item : (l : Limit) (form : Form) (xs : List Item) → form ≡ form_of rest → HasNext Spells rest xs b r → IsRest (reader_of remaining old.decoder) r f → inside form l ≡ Some old.levels → allowed_of old.decoder + pending_count old.pending ≤ due_parts form (length xs) + items_due_behind f → l ≡ Some q.levels → ((ys : List Item) → HasCount rest ys → HoldsItems q'.left form ys) →
       (i : Item) × (js : List Item) × (xs ≡ i ∷ js) × StandsBefore remaining new (inside form l) (item i (parts form js f)) × SeqStands q' l (parts form js f)
   stands-item l form xs is (x, ys, whole, (a, c, sp, left, e), count) behind lv few lq hold = (
     x,
     ys,
     whole,
-    (b, ahead.unread, (a, c ++ (ending form ++ r), sp, (c, r, subst (λ k. AreLeft Spells k c ys) (sym is) left, subst (λ n. IsRest n r f) (sym ahead.reader) behind, refl), subst (λ k. b ≡ a ++ (c ++ (ending k ++ r))) (sym is) e), lv ∙ ap Some (sym ahead.levels), tt, ahead.held (due_parts form (length ys) + due_after f) (let len : length xs ≡ 1 + length ys = omega (arith, ap length whole) in let next = due-next form rest is (length ys) in omega (arith, few, ap (due_parts form) len, next))),
+    (b, ahead.unread, (a, c ++ (ending form ++ r), sp, (c, r, subst (λ k. AreLeft Spells k c ys) (sym is) left, subst (λ n. IsRest n r f) (sym ahead.reader) behind, refl), subst (λ k. b ≡ a ++ (c ++ (ending k ++ r))) (sym is) e), lv ∙ ap Some (sym ahead.levels), tt, ahead.held (due_parts form (length ys) + items_due_behind f) (let len : length xs ≡ 1 + length ys = omega (arith, ap length whole) in let next = due-next form rest is (length ys) in omega (arith, few, ap (due_parts form) len, next))),
     (lq ∙ ap Some (sym same), hold ys count),
   )
 
-  stands-pair : (l : Limit) (form : Form) (xs : List (Item × Item)) → form ≡ form_of rest → HasNext SpellsPair rest xs b r → IsRest (reader_of remaining old.decoder) r f → inside form l ≡ Some old.levels → allowed_of old.decoder + pending_count old.pending ≤ due_parts form (length xs) + due_after f → l ≡ Some q.levels → ((ys : List (Item × Item)) → HasCount rest ys → HoldsPairs q'.left form ys) →
+  stands-pair : (l : Limit) (form : Form) (xs : List (Item × Item)) → form ≡ form_of rest → HasNext SpellsPair rest xs b r → IsRest (reader_of remaining old.decoder) r f → inside form l ≡ Some old.levels → allowed_of old.decoder + pending_count old.pending ≤ due_parts form (length xs) + items_due_behind f → l ≡ Some q.levels → ((ys : List (Item × Item)) → HasCount rest ys → HoldsPairs q'.left form ys) →
       (k : Item) × (v : Item) × (qs : List (Item × Item)) × (xs ≡ (k, v) ∷ qs) × StandsBefore remaining new (inside form l) (item k (entry v form qs f)) × SeqStands q' l (pairs form qs f)
   stands-pair l form xs is (x, ys, whole, (a, c, (s, t, sp, sq, g), left, e), count) behind lv few lq hold = (
     x.0,
@@ -149,16 +149,16 @@ module _ {S : Type 0} (remaining : S → Option (List ℕ)) (old new : ByteSourc
       ),
       lv ∙ ap Some (sym ahead.levels),
       tt,
-      ahead.held (1 + (due_parts form (length ys) + due_after f)) (let len : length xs ≡ 1 + length ys = omega (arith, ap length whole) in let next = due-next form rest is (length ys) in omega (arith, few, ap (due_parts form) len, next)),
+      ahead.held (1 + (due_parts form (length ys) + items_due_behind f)) (let len : length xs ≡ 1 + length ys = omega (arith, ap length whole) in let next = due-next form rest is (length ys) in omega (arith, few, ap (due_parts form) len, next)),
     ),
     (lq ∙ ap Some (sym same), hold ys count),
   )
 
 -- behind the last part
-stands-past : {S : Type 0} (remaining : S → Option (List ℕ)) (old new : ByteSource S) (l : Limit) (q : ByteSeq) (b : List ℕ) (f : Rest) → reader_of remaining new.decoder ≡ reader_of remaining old.decoder → new.levels ≡ q.levels → new.pending ≡ None → allowed_of new.decoder + pending_count new.pending ≤ due_after f →
+stands-past : {S : Type 0} (remaining : S → Option (List ℕ)) (old new : ByteSource S) (l : Limit) (q : ByteSeq) (b : List ℕ) (f : Rest) → reader_of remaining new.decoder ≡ reader_of remaining old.decoder → new.levels ≡ q.levels → new.pending ≡ None → allowed_of new.decoder + pending_count new.pending ≤ items_due_behind f →
     IsUnread remaining new b → IsRest (reader_of remaining old.decoder) b f → l ≡ Some q.levels → StandsBefore remaining new l (past f)
 stands-past remaining old new l q b f name levels none few un rest lq =
-    (b, un, subst (λ n. Fits n b (past f)) (sym name) (fits-past (reader_of remaining old.decoder) b f rest), lq ∙ ap Some (sym levels), none-past new.pending none f, subst (λ n. allowed_of new.decoder + pending_count new.pending ≤ n) (sym (due-past f)) few)
+    (b, un, subst (λ n. FitsAhead n b (past f)) (sym name) (fits-past (reader_of remaining old.decoder) b f rest), lq ∙ ap Some (sym levels), none-past new.pending none f, subst (λ n. allowed_of new.decoder + pending_count new.pending ≤ n) (sym (due-past f)) few)
 
 -- ---- so many parts
 
@@ -179,10 +179,10 @@ module _ {S : Type 0} (remaining : S → Option (List ℕ)) where
   leaves-counted old new q is same same' levels = (
     λ l form its f (b, u, (s, r, stand, rest, e), lv, none, few) (lq, hold).
         let (empty, all) = counted-end Spells form its s r b (subst (λ k. HoldsItems k form its) is hold) stand e in
-        (empty, stands-past remaining old new l q b f (ap (reader_of remaining) same) levels (same' ∙ none) (held-same old new (ap source_of same) (due_after f) (ap (λ d. d.window.count) same) same' (let most = due-most form (length its) in omega (arith, few, most, ap length empty))) (into b u) (subst (λ k. IsRest (reader_of remaining old.decoder) k f) (sym all) rest) lq),
+        (empty, stands-past remaining old new l q b f (ap (reader_of remaining) same) levels (same' ∙ none) (held-same old new (ap source_of same) (items_due_behind f) (ap (λ d. d.window.count) same) same' (let most = due-most form (length its) in omega (arith, few, most, ap length empty))) (into b u) (subst (λ k. IsRest (reader_of remaining old.decoder) k f) (sym all) rest) lq),
     λ l form its f (b, u, (s, r, stand, rest, e), lv, none, few) (lq, hold).
         let (empty, all) = counted-end SpellsPair form its s r b (subst (λ k. HoldsPairs k form its) is hold) stand e in
-        (empty, stands-past remaining old new l q b f (ap (reader_of remaining) same) levels (same' ∙ none) (held-same old new (ap source_of same) (due_after f) (ap (λ d. d.window.count) same) same' (let most = due-most form (length its) in omega (arith, few, most, ap length empty))) (into b u) (subst (λ k. IsRest (reader_of remaining old.decoder) k f) (sym all) rest) lq),
+        (empty, stands-past remaining old new l q b f (ap (reader_of remaining) same) levels (same' ∙ none) (held-same old new (ap source_of same) (items_due_behind f) (ap (λ d. d.window.count) same) same' (let most = due-most form (length its) in omega (arith, few, most, ap length empty))) (into b u) (subst (λ k. IsRest (reader_of remaining old.decoder) k f) (sym all) rest) lq),
   )
     where
       into : (b : List ℕ) → IsUnread remaining old b → IsUnread remaining new b
@@ -215,29 +215,29 @@ open-nothing : (s : Shape) (b c z : List ℕ) → c ≡ break_byte ∷ z → Lef
 open-nothing sequence b c z e owed = owed [] z [] refl tt e
 open-nothing dictionary b c z e owed = owed [] z [] refl tt e
 
-pub less-counted : (P : List ℕ → Type 0) (q q' : ByteSeq) (n : ℕ) → q.left ≡ left.Counted n → n ≢ 0 → q'.left ≡ left.Counted (n - 1) → (b : List ℕ) → P b → (u : List ℕ) × P u × OwesLess Owes q q' b u
+pub less-counted : (P : List ℕ → Type 0) (q q' : ByteSeq) (n : ℕ) → q.left ≡ left.Counted n → n ≢ 0 → q'.left ≡ left.Counted (n - 1) → (b : List ℕ) → P b → (u : List ℕ) × P u × OwesLess SeqOwes q q' b u
 less-counted P q q' n is some is' b u = (b, u, λ s a z owed part. subst (λ k. LeftOwes k s a z) (sym is') (counted-less n s a b z some (subst (λ k. LeftOwes k s a b) is owed) part))
 
-pub nothing-allowed : (P : List ℕ → Type 0) (q : ByteSeq) → q.left ≡ left.Counted 0 → (b : List ℕ) → P b → (u : List ℕ) × P u × OwesNothing Owes q b u
+pub nothing-allowed : (P : List ℕ → Type 0) (q : ByteSeq) → q.left ≡ left.Counted 0 → (b : List ℕ) → P b → (u : List ℕ) × P u × OwesNothing SeqOwes q b u
 nothing-allowed P q is b u = (b, u, λ s a owed. counted-nothing s a b (subst (λ k. LeftOwes k s a b) is owed))
 
 -- ---- up to a break
 
 module _ {S : Type 0} (remaining : S → Option (List ℕ)) where
-  pub leaves-open : (old mid new : ByteSource S) (q : ByteSeq) → q.left ≡ left.Open → IsKept remaining old new → bytes_weight new + weight header.Break ≤ weight_left old → TakesHead (IsUnread remaining) old mid header.Break → new.levels ≡ q.levels → new.pending ≡ None →
+  pub leaves-open : (old mid new : ByteSource S) (q : ByteSeq) → q.left ≡ left.Open → IsKept remaining old new → bytes_weight new + head_weight header.Break ≤ weight_left old → TakesHead (IsUnread remaining) old mid header.Break → new.levels ≡ q.levels → new.pending ≡ None →
       ((y : List ℕ) → IsUnread remaining mid y → IsUnread remaining new y) → Leaves (StandsBefore remaining) SeqStands old new q
   leaves-open old mid new q is kept fewer took levels none into = (
     λ l form its f (b, u, (s, r, stand, rest, e), lv, ahead, few) (lq, hold).
         let (x, y, hd, g, un) = took b u in
         let (empty, all) = open-end Spells item-begins form its s r b x y (subst (λ k. HoldsItems k form its) is hold) stand e hd g in
-        (empty, stands-past remaining old new l q y f (kept-reader remaining old new kept b u) levels none (held-head old new kept.0 (due_after f) header.Break none fewer (let most = due-most form (length its) in omega (arith, few, most, ap length empty))) (into y un) (subst (λ k. IsRest (reader_of remaining old.decoder) k f) (sym all) rest) lq),
+        (empty, stands-past remaining old new l q y f (kept-reader remaining old new kept b u) levels none (held-head old new kept.0 (items_due_behind f) header.Break none fewer (let most = due-most form (length its) in omega (arith, few, most, ap length empty))) (into y un) (subst (λ k. IsRest (reader_of remaining old.decoder) k f) (sym all) rest) lq),
     λ l form its f (b, u, (s, r, stand, rest, e), lv, ahead, few) (lq, hold).
         let (x, y, hd, g, un) = took b u in
         let (empty, all) = open-end SpellsPair pair-begins form its s r b x y (subst (λ k. HoldsPairs k form its) is hold) stand e hd g in
-        (empty, stands-past remaining old new l q y f (kept-reader remaining old new kept b u) levels none (held-head old new kept.0 (due_after f) header.Break none fewer (let most = due-most form (length its) in omega (arith, few, most, ap length empty))) (into y un) (subst (λ k. IsRest (reader_of remaining old.decoder) k f) (sym all) rest) lq),
+        (empty, stands-past remaining old new l q y f (kept-reader remaining old new kept b u) levels none (held-head old new kept.0 (items_due_behind f) header.Break none fewer (let most = due-most form (length its) in omega (arith, few, most, ap length empty))) (into y un) (subst (λ k. IsRest (reader_of remaining old.decoder) k f) (sym all) rest) lq),
   )
 
-  pub goes-open : (old mid new : ByteSource S) (q q' : ByteSeq) (h : Header) → q.left ≡ left.Open → q'.left ≡ left.Open → q'.levels ≡ q.levels → IsKept remaining old new → bytes_weight new + weight h ≤ weight_left old → new.levels ≡ old.levels →
+  pub goes-open : (old mid new : ByteSource S) (q q' : ByteSeq) (h : Header) → q.left ≡ left.Open → q'.left ≡ left.Open → q'.levels ≡ q.levels → IsKept remaining old new → bytes_weight new + head_weight h ≤ weight_left old → new.levels ≡ old.levels →
       TakesHead (IsUnread remaining) old mid h → h ≢ header.Break → ((b x y : List ℕ) → IsUnread remaining old b → SpellsHeader x h → b ≡ x ++ y → IsUnread remaining mid y → IsUnread remaining new b) → GoesOn (StandsBefore remaining) SeqStands old new q q'
   goes-open old mid new q q' h is is' levels same fewer kept took other back = (
     λ l form its f (b, u, (s, r, stand, rest, e), lv, none, few) (lq, hold).
@@ -256,16 +256,16 @@ module _ {S : Type 0} (remaining : S → Option (List ℕ)) where
   no-next old q fault is denied = (
     λ l form its f (b, u, (s, r, stand, rest, e), lv, ahead, few) (lq, hold).
         let (h, x, y, hd, g, there) = open-head Spells item-begins form its s r b (subst (λ k. HoldsItems k form its) is hold) stand e in
-        subst (λ n. IsOutside n fault) (sym (rest-end (reader_of remaining old.decoder) r f rest)) (denied b x y h u hd g there),
+        subst (λ n. IsOutsideFault n fault) (sym (rest-end (reader_of remaining old.decoder) r f rest)) (denied b x y h u hd g there),
     λ l form its f (b, u, (s, r, stand, rest, e), lv, ahead, few) (lq, hold).
         let (h, x, y, hd, g, there) = open-head SpellsPair pair-begins form its s r b (subst (λ k. HoldsPairs k form its) is hold) stand e in
-        subst (λ n. IsOutside n fault) (sym (rest-end (reader_of remaining old.decoder) r f rest)) (denied b x y h u hd g there),
+        subst (λ n. IsOutsideFault n fault) (sym (rest-end (reader_of remaining old.decoder) r f rest)) (denied b x y h u hd g there),
   )
 
-pub less-open : (P Q : List ℕ → Type 0) (q q' : ByteSeq) → q.left ≡ left.Open → q'.left ≡ left.Open → ((b : List ℕ) → P b → Q b) → (b : List ℕ) → P b → (u : List ℕ) × Q u × OwesLess Owes q q' b u
+pub less-open : (P Q : List ℕ → Type 0) (q q' : ByteSeq) → q.left ≡ left.Open → q'.left ≡ left.Open → ((b : List ℕ) → P b → Q b) → (b : List ℕ) → P b → (u : List ℕ) × Q u × OwesLess SeqOwes q q' b u
 less-open P Q q q' is is' into b u = (b, into b u, λ s a z owed part. subst (λ k. LeftOwes k s a z) (sym is') (open-less s a b z (subst (λ k. LeftOwes k s a b) is owed) part))
 
-pub nothing-open : (P Q : List ℕ → Type 0) (q : ByteSeq) → q.left ≡ left.Open → ((b : List ℕ) → P b → (y : List ℕ) × (b ≡ break_byte ∷ y) × Q y) → (b : List ℕ) → P b → (u : List ℕ) × Q u × OwesNothing Owes q b u
+pub nothing-open : (P Q : List ℕ → Type 0) (q : ByteSeq) → q.left ≡ left.Open → ((b : List ℕ) → P b → (y : List ℕ) × (b ≡ break_byte ∷ y) × Q y) → (b : List ℕ) → P b → (u : List ℕ) × Q u × OwesNothing SeqOwes q b u
 nothing-open P Q q is took b u =
     let (y, e, un) = took b u in
     (y, un, λ s a owed. open-nothing s a b y e (subst (λ k. LeftOwes k s a b) is owed))
@@ -304,7 +304,7 @@ module _ {S : Type 0} (remaining : S → Option (List ℕ)) where
             ),
             lv ∙ ap Some (sym kept),
             tt,
-            held-byte old new (due_parts form (length (map unsigned (into_iter_items w))) + due_after f) same (ap pending_count none) (ap pending_count pushed) (let gone = due-none form (length its) held.0 in omega (arith, few, gone)),
+            held-byte old new (due_parts form (length (map unsigned (into_iter_items w))) + items_due_behind f) same (ap pending_count none) (ap pending_count pushed) (let gone = due-none form (length its) held.0 in omega (arith, few, gone)),
           ),
           (lq ∙ ap Some (sym levels), subst (λ k. HoldsItems k form (map unsigned (into_iter_items w))) (sym is') (held.0, refl)),
         ),
@@ -333,7 +333,7 @@ bytes-less : (v w : _) (s : Shape) (n : ℕ) (a b z : List ℕ) → n < 18446744
 bytes-less v w sequence n a b z lt owed (i, t, si, g) = subst (λ y. HasItem a y) (one_at_front (wide n) t b z (unsigned n) i (wide-head n lt) si g).1 owed
 bytes-less v w dictionary n a b z lt owed part = absurd owed
 
-pub less-bytes : (P Q : List ℕ → Type 0) (q q' : ByteSeq) (v w : _) (n : ℕ) → q.left ≡ left.Bytes v → q'.left ≡ left.Bytes w → n < 18446744073709551616 → ((b : List ℕ) → P b → Q (wide n ++ b)) → (b : List ℕ) → P b → (u : List ℕ) × Q u × OwesLess Owes q q' b u
+pub less-bytes : (P Q : List ℕ → Type 0) (q q' : ByteSeq) (v w : _) (n : ℕ) → q.left ≡ left.Bytes v → q'.left ≡ left.Bytes w → n < 18446744073709551616 → ((b : List ℕ) → P b → Q (wide n ++ b)) → (b : List ℕ) → P b → (u : List ℕ) × Q u × OwesLess SeqOwes q q' b u
 less-bytes P Q q q' v w n is is' lt into b u = (wide n ++ b, into b u, λ s a z owed part. subst (λ k. LeftOwes k s a z) (sym is') (bytes-less v w s n a b z lt (subst (λ k. LeftOwes k s a b) is owed) part))
 
 -- ---- heads that are put aside

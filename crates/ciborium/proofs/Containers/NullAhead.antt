@@ -9,10 +9,10 @@ use Rattle.ciborium_ll.specs.Decoding.{left_of}
 use Rattle.ciborium_ll.specs.Head.{initial_byte}
 use Rattle.ciborium_ll.specs.Spells.{Spells}
 use Rattle.ciborium.proofs.Items.Due.{held-pending}
-use Rattle.ciborium_value.specs.Sources.{Fault, IsOutside, RefusesToTell, TakesNothing, Tells}
+use Rattle.ciborium_value.specs.Sources.{Fault, IsOutsideFault, RefusesToTell, TakesNothing, Tells}
 use Rattle.ciborium_value.specs.Taken.{is_null, is_null_simple}
 use Rattle.ciborium.specs.declared.de.byte_source.ByteSource.{ByteSource}
-use Rattle.ciborium.specs.inner.ByteSources.{IsUnread, StandsBefore, bytes_weight, due_after, weight, weight_left, IsUnreadBy, end_at, reader_of}
+use Rattle.ciborium.specs.inner.ByteSources.{IsUnread, StandsBefore, bytes_weight, items_due_behind, head_weight, weight_left, IsUnreadBy, end_at, reader_of}
 use Rattle.ciborium.specs.inner.FrontItems.{TakesHead, DeniesHead}
 use Rattle.ciborium.specs.inner.Unread.{IsRest}
 use Rattle.ciborium.proofs.Items.ItemHeads.{header_of, first-head, first-payload, same-head}
@@ -45,10 +45,10 @@ null-other h p (float raw) e = refl
 
 module _ {S : Type 0} (remaining : S → Option (List ℕ)) (old mid new : ByteSource S) (h : Header) (took : TakesHead (IsUnread remaining) old mid h)
     (back : (b x y : List ℕ) → IsUnread remaining old b → SpellsHeader x h → b ≡ x ++ y → IsUnread remaining mid y → IsUnread remaining new b) where
-  pub tells : (answer : Bool) → IsKept remaining old new → bytes_weight new + weight h ≤ weight_left old → new.levels ≡ old.levels → ((i : Item) → header_of i ≡ h → answer ≡ is_null i) → Tells (StandsBefore remaining) old new answer
+  pub tells : (answer : Bool) → IsKept remaining old new → bytes_weight new + head_weight h ≤ weight_left old → new.levels ≡ old.levels → ((i : Item) → header_of i ≡ h → answer ≡ is_null i) → Tells (StandsBefore remaining) old new answer
   tells answer kept fewer levels said l i f (b, u, (s, r, sp, rest, e), is, ahead, few) =
       let (x, y, hd, g, un) = took b u in
-      (said i (same-head s r x y i h sp hd (sym e ∙ g)).0, (b, back b x y u hd g un, (s, r, sp, subst (λ n. IsRest n r f) (sym (kept-reader remaining old new kept b u)) rest, e), is ∙ ap Some (sym levels), tt, held-pending old new kept.0 (due_after f) h fewer few))
+      (said i (same-head s r x y i h sp hd (sym e ∙ g)).0, (b, back b x y u hd g un, (s, r, sp, subst (λ n. IsRest n r f) (sym (kept-reader remaining old new kept b u)) rest, e), is ∙ ap Some (sym levels), tt, held-pending old new kept.0 (items_due_behind f) h fewer few))
 
   pub takes-nothing : TakesNothing (IsUnread remaining) old new
   takes-nothing b u = let (x, y, hd, g, un) = took b u in (b, back b x y u hd g un, refl)
@@ -58,7 +58,7 @@ refuses-to-tell remaining old fault denied l i f (b, u, (s, r, sp, rest, e), is,
     let (x, y, hd, g) = first-head s i sp in
     let there = first-payload s i sp in
     let more = length-append y r in
-    subst (λ n. IsOutside n fault) (sym (rest-end (reader_of remaining old.decoder) r f rest))
+    subst (λ n. IsOutsideFault n fault) (sym (rest-end (reader_of remaining old.decoder) r f rest))
     (denied b x (y ++ r) (header_of i) u hd (e ∙ ap (λ (k : List ℕ). k ++ r) g ∙ append_assoc x y r) (omega (arith, there, more)))
 
 -- ---- where the first byte is held

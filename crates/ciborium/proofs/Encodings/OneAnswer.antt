@@ -13,7 +13,7 @@ use Rattle.ciborium.specs.declared.de.error.Error.{Error}
 use Rattle.ciborium.specs.declared.de.error.Error.TheVariants as errors
 use Rattle.ciborium.specs.laws.AnswerLaws.{refusal_of, OneAnswer}
 use Rattle.ciborium.specs.ValueAnswers.{IsFailed}
-use Rattle.ciborium.specs.Errors.{IsRefusedBy, IsNamed, kind_of}
+use Rattle.ciborium.specs.Errors.{IsRefusedBy, IsNamed, refusal_kind_of}
 use Rattle.ciborium.proofs.Readers.Outcomes.{only-fails}
 
 -- an error is a failure, or names a refusal of which P holds
@@ -22,7 +22,7 @@ names None (errors.Io x) P h = inl (λ end. absurd cc)
 names (Some []) (errors.Io x) P h = inr (refusal.io, refl, h refl)
 names (Some (n ∷ r)) (errors.Io x) P h = inl (λ end. absurd cc)
 names left (errors.Syntax p) P h = inr (refusal.syntax p, refl, h)
-names left (errors.Semantic (Some p) k) P h = by (kind_of k) h
+names left (errors.Semantic (Some p) k) P h = by (refusal_kind_of k) h
   where
     at : Error IoError
     at = errors.Semantic (Some p) k

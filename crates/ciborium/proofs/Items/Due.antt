@@ -7,17 +7,17 @@ use Rattle.ciborium_ll.proofs.HeldBytes.{same-reach}
 use Rattle.ciborium.specs.inner.Unread.{form_of}
 use Rattle.ciborium_value.specs.Ahead.{Rest, bottom, parts, pairs, entry, held, past, Form, counted, until_break, of_bytes}
 use Rattle.ciborium.specs.declared.de.byte_source.ByteSource.{ByteSource}
-use Rattle.ciborium.specs.inner.ByteSources.{bytes_weight, due, due_after, pending_count, pending_weight, weight, weight_left, due_parts}
+use Rattle.ciborium.specs.inner.ByteSources.{bytes_weight, items_due, items_due_behind, pending_count, pending_head_weight, head_weight, weight_left, due_parts}
 
 -- what is due where an item was read
-pub due-past : (f : Rest) → due (past f) ≡ due_after f
+pub due-past : (f : Rest) → items_due (past f) ≡ items_due_behind f
 due-past (bottom name b) = refl
 due-past (parts form is f) = refl
 due-past (pairs form ps f) = refl
 due-past (entry v form ps f) = refl
 due-past (held f) = refl
 
-pub weight-bounds : (h : Header) → (1 ≤ weight h) × (weight h ≤ 2)
+pub weight-bounds : (h : Header) → (1 ≤ head_weight h) × (head_weight h ≤ 2)
 weight-bounds (header.Positive n) = (omega arith, omega arith)
 weight-bounds (header.Negative n) = (omega arith, omega arith)
 weight-bounds (header.Bytes n) = (omega arith, omega arith)
@@ -30,7 +30,7 @@ weight-bounds (header.Float n) = (omega arith, omega arith)
 weight-bounds header.Break = (omega arith, omega arith)
 
 -- a head that is pending weighs, and counts as one
-pending-bounds : (o : Option (Header × ℕ)) → (pending_weight o ≤ 2 * pending_count o) × (pending_count o ≤ 1) × (pending_count o ≤ pending_weight o)
+pending-bounds : (o : Option (Header × ℕ)) → (pending_head_weight o ≤ 2 * pending_count o) × (pending_count o ≤ 1) × (pending_count o ≤ pending_head_weight o)
 pending-bounds None = (omega arith, omega arith, omega arith)
 pending-bounds (Some h) = let (low, high) = weight-bounds h.0 in (omega (arith, high), omega arith, omega (arith, low))
 
@@ -44,13 +44,13 @@ module _ {S : Type 0} (old new : ByteSource S) (same : HasSameReader old.decoder
       let (weighs, one, least) = pending-bounds old.pending in
       let low = old.decoder.window.fits in
       let high = new.decoder.window.fits in
-      let no-weight : pending_weight new.pending ≡ 0 = ap pending_weight none in
+      let no-weight : pending_head_weight new.pending ≡ 0 = ap pending_head_weight none in
       let no-head : pending_count new.pending ≡ 0 = ap pending_count none in
       let reach = further in
       omega (arith, fewer, few, weighs, one, low, high, no-weight, no-head, reach)
 
   -- a head was taken, and none is pending
-  pub held-head : (n : ℕ) (h : Header) → new.pending ≡ None → bytes_weight new + weight h ≤ weight_left old → allowed_of old.decoder + pending_count old.pending ≤ n → allowed_of new.decoder + pending_count new.pending ≤ n
+  pub held-head : (n : ℕ) (h : Header) → new.pending ≡ None → bytes_weight new + head_weight h ≤ weight_left old → allowed_of old.decoder + pending_count old.pending ≤ n → allowed_of new.decoder + pending_count new.pending ≤ n
   held-head n h none fewer few =
       let (weighs, one, least) = pending-bounds old.pending in
       let (some, two) = weight-bounds h in
@@ -61,7 +61,7 @@ module _ {S : Type 0} (old new : ByteSource S) (same : HasSameReader old.decoder
       omega (arith, fewer, few, weighs, one, some, two, low, high, no-head, reach)
 
   -- a head was taken, and is pending
-  pub held-pending : (n : ℕ) (h : Header) → bytes_weight new + weight h ≤ weight_left old → allowed_of old.decoder + pending_count old.pending ≤ 1 + n → allowed_of new.decoder + pending_count new.pending ≤ 1 + n
+  pub held-pending : (n : ℕ) (h : Header) → bytes_weight new + head_weight h ≤ weight_left old → allowed_of old.decoder + pending_count old.pending ≤ 1 + n → allowed_of new.decoder + pending_count new.pending ≤ 1 + n
   held-pending n h fewer few =
       let (weighs, one, least) = pending-bounds old.pending in
       let (none, also, most) = pending-bounds new.pending in
@@ -93,11 +93,11 @@ on-both A B (Ok v) a b = (a, b)
 on-both A B (Err e) a b = tt
 
 -- a container was entered
-pub entered-fewer : {S : Type 0} (old mid new : ByteSource S) (h : Header) → new.decoder ≡ mid.decoder → new.pending ≡ None → bytes_weight mid + weight h ≤ weight_left old → weight_left new < weight_left old
+pub entered-fewer : {S : Type 0} (old mid new : ByteSource S) (h : Header) → new.decoder ≡ mid.decoder → new.pending ≡ None → bytes_weight mid + head_weight h ≤ weight_left old → weight_left new < weight_left old
 entered-fewer old mid new h same none fewer =
     let (some, two) = weight-bounds h in
     let count = ap (λ d. d.window.count) same in
-    let no-weight : pending_weight new.pending ≡ 0 = ap pending_weight none in
+    let no-weight : pending_head_weight new.pending ≡ 0 = ap pending_head_weight none in
     omega (arith, fewer, some, count, no-weight)
 
 -- ---- parts

@@ -17,11 +17,11 @@ use Rattle.ciborium_ll.proofs.HeadAnswers.{header-begins, header-fits, Begins, F
 use Rattle.ciborium_ll.proofs.MoreBytes.{payload_length-more}
 use Rattle.ciborium_ll.proofs.OneHeader.{one_header_at_front}
 use Rattle.ciborium_ll.proofs.UsableHeads.{and_false}
-use Rattle.ciborium_value.specs.Sources.{IsOutside}
+use Rattle.ciborium_value.specs.Sources.{IsOutsideFault}
 use Rattle.ciborium.specs.declared.de.byte_source.ByteSource.{ByteSource}
 use Rattle.ciborium.specs.Errors.{from_ll}
-use Rattle.ciborium.specs.inner.ByteSources.{IsHeadCounted, IsUnreadBy, bytes_weight, pending_weight, weight, weight_left}
-use Rattle.ciborium.specs.Errors.{cause_of}
+use Rattle.ciborium.specs.inner.ByteSources.{IsHeadCounted, IsUnreadBy, bytes_weight, pending_head_weight, head_weight, weight_left}
+use Rattle.ciborium.specs.Errors.{fault_of}
 
 -- ---- a head that is spelled is not refused as ill-formed
 
@@ -98,7 +98,7 @@ head-passes x y h p s there r = by (header-begins x h s)
                 omega (arith, far, size, f.size, same, there)
 
 -- where a head is spelled, with its payload, pulling is refused for what it does not decide
-pub head-outside : {E : Type 0} (left : Option (List ℕ)) (e : LlError E) (b x y : List ℕ) (p : ℕ) (h : Header) → SpellsHeader x h → b ≡ x ++ y → announced_length h ≤ length y → reading.IsRefusedBy left e (HeadRefuses b p) → IsOutside (p + length b) (cause_of (from_ll e))
+pub head-outside : {E : Type 0} (left : Option (List ℕ)) (e : LlError E) (b x y : List ℕ) (p : ℕ) (h : Header) → SpellsHeader x h → b ≡ x ++ y → announced_length h ≤ length y → reading.IsRefusalOf left e (HeadRefuses b p) → IsOutsideFault (p + length b) (fault_of (from_ll e))
 head-outside left (ll.Io e) b x y p h s k there r = tt
 head-outside left (ll.Syntax q) b x y p h s k there r = absurd (never-syntax x y h p q s (subst (λ (z : List ℕ). HeadRefuses z p (syntax q)) k r))
 head-outside left ll.TooLong b x y p h s k there r = subst (λ (z : List ℕ). greatest_offset < p + length z) (sym k) (head-passes x y h p s there (subst (λ (z : List ℕ). HeadRefuses z p too_long) k r))
@@ -125,7 +125,7 @@ counted-pulled E left d h p at last b x y is (z, r, hd', usable, e', stood, coun
 
 -- ---- how much can still be read
 
-weight-most : (h : Header) → weight h ≤ 2
+weight-most : (h : Header) → head_weight h ≤ 2
 weight-most (header.Positive n) = omega arith
 weight-most (header.Negative n) = omega arith
 weight-most (header.Bytes n) = omega arith
@@ -144,7 +144,7 @@ head-some b h s = by (header-begins b h s)
     by (m, a, c, e, f) = let len : length b ≡ suc (length c) = ap length e in omega (arith, len)
 
 pub fewer-bytes : (E : Type 0) {S : Type 0} (remaining : S → Option (List ℕ)) (d e : Decoder S) (h : Header) →
-    Takes remaining d e (λ x. IsHeadTaken {E = E} x d.window.count (Ok h)) → 3 * (greatest_offset - e.window.count) + weight h ≤ 3 * (greatest_offset - d.window.count)
+    Takes remaining d e (λ x. IsHeadTaken {E = E} x d.window.count (Ok h)) → 3 * (greatest_offset - e.window.count) + head_weight h ≤ 3 * (greatest_offset - d.window.count)
 fewer-bytes E remaining d e h (b, t, count, u, bytes) =
     let some = head-some b h u.answers.0 in
     let fits = header-fits {E = E} b d.window.count h u in
@@ -152,4 +152,4 @@ fewer-bytes E remaining d e h (b, t, count, u, bytes) =
     omega (arith, some, fits, count, w)
 
 pub weighs-none : {S : Type 0} (s : ByteSource S) → s.pending ≡ None → weight_left s ≡ bytes_weight s
-weighs-none s e = ap (λ o. bytes_weight s + pending_weight o) e ∙ add-zero (bytes_weight s)
+weighs-none s e = ap (λ o. bytes_weight s + pending_head_weight o) e ∙ add-zero (bytes_weight s)

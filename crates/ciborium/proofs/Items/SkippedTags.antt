@@ -7,7 +7,7 @@ use Rattle.ciborium_ll.specs.Item.{Item, tag}
 use Rattle.ciborium_ll.specs.Spells.{Spells}
 use Rattle.ciborium_value.specs.Meaning.{is_bignum_tag}
 use Rattle.ciborium_value.specs.Nesting.{Limit}
-use Rattle.ciborium_value.specs.Sources.{Fault, IsFaultOf, IsOutside}
+use Rattle.ciborium_value.specs.Sources.{Fault, IsFaultOf, IsOutsideFault}
 use Rattle.ciborium_value.specs.Taken.{Taken, gives, untagged, number_of, number_under}
 use Rattle.ciborium_value.proofs.Sources.Sequences.{fault_outside}
 use Rattle.ciborium.specs.inner.FrontItems.{TakesHead, DeniesHead, DeniesItem, Reads, Denies}
@@ -77,7 +77,7 @@ module _ {S : Type 0} (IsUnread : S → List ℕ → Type 0) where
       let (x, y, hd, g) = first-head t j sq in
       let there = first-payload t j sq in
       let more = length-append y z in
-      subst (λ n. IsOutside n fault) (same b u) (k c x (y ++ z) (header_of j) un hd (f ∙ ap (λ (w : List ℕ). w ++ z) g ∙ append_assoc x y z) (omega (arith, there, more)))
+      subst (λ n. IsOutsideFault n fault) (same b u) (k c x (y ++ z) (header_of j) un hd (f ∙ ap (λ (w : List ℕ). w ++ z) g ∙ append_assoc x y z) (omega (arith, there, more)))
 
   -- where a break stands no item does
   pub denies-break : (End : S → ℕ) (old mid new : S) (numbers : Bool) (fault : Fault) → Skips IsUnread old mid numbers → TakesHead IsUnread mid new header.Break → DeniesItem IsUnread End old fault
@@ -107,7 +107,7 @@ module _ {S : Type 0} (IsUnread : S → List ℕ → Type 0) where
   denies-behind End old mid numbers fault same sk k b s z i u sp e =
       let (us, c, outer, some, un) = sk b u in
       let (j, t, is, sq, f) = outer.inward i s z sp e in
-      subst (λ n. IsOutside n fault) (same b u) (k c t z j un sq f)
+      subst (λ n. IsOutsideFault n fault) (same b u) (k c t z j un sq f)
 
 -- ---- what is read behind tags
 

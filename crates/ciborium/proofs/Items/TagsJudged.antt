@@ -1,7 +1,7 @@
 -- What was read with its tag is looked at once more.
 use Rattle.std.proofs.Common.{◌≡◌, ℕ, Bool, Option, Some, None, if◌then◌else◌, ap, ◌∙◌}
 use Rattle.std.proofs.lemmas.Bool.{ne_eqb, eq-eqb}
-use Rattle.ciborium_value.specs.Sources.{Fault, of_kind, IsFaultOf, IsGranted}
+use Rattle.ciborium_value.specs.Sources.{Fault, of_kind, IsFaultOf, IsGrantedFault}
 use Rattle.ciborium_value.specs.TagReadings.{under_tag, under_no_other_tag}
 use Rattle.ciborium_value.specs.Taken.{Outcome, gives, refuses, then_take}
 use Rattle.ciborium_value.specs.declared.kind.Kind.{Kind}
@@ -16,7 +16,7 @@ pub then-kind : {A C : Type 0} (end : ℕ) (fault : Fault) (k : Kind) (o : Outco
 then-kind end fault k o f x is given judged = rw is (then-given o f x (refuses k) given judged)
 
 -- no memory was wanted
-pub kind-granted : (fault : Fault) (k : Kind) (b : Bool) → fault ≡ of_kind k → IsGranted fault b
+pub kind-granted : (fault : Fault) (k : Kind) (b : Bool) → fault ≡ of_kind k → IsGrantedFault fault b
 kind-granted fault k b is = rw is tt
 
 module _ {C : Type 0} (t u : ℕ) (found : Option ℕ) (v : C) where

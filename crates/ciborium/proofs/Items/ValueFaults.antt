@@ -10,13 +10,13 @@ use Rattle.ciborium_ll.specs.Item.{Item, Items, Pairs, no_items, item, no_pairs,
 use Rattle.ciborium_ll.specs.Refusal as refusal
 use Rattle.ciborium_ll.specs.Refusal.{Refusal, io, syntax, too_long, semantic, recursion_limit_exceeded, HeadRefuses, IsUsable, HasHead, IsAtFront, head_refusal}
 use Rattle.ciborium_ll.specs.Spells.{Spells, SpellsItems}
-use Rattle.ciborium_ll.specs.StringRefusal.{StringKind, of_bytes, of_text, major_of, PayloadRefuses, StringRefuses, PartRefuses, PartsRefuse, OpenStringRefuses}
+use Rattle.ciborium_ll.specs.StringRefusal.{StringKind, of_bytes, of_text, string_major, PayloadRefuses, StringRefuses, ChunkRefuses, ChunksRefuse, OpenStringRefuses}
 use Rattle.ciborium_ll.proofs.OneHeader.{one_header_at_front}
 use Rattle.ciborium_ll.proofs.UniqueSpelling.{one_at_front}
 use Rattle.ciborium_value.specs.Meaning.{folding_bytes, bignum_meaning, big_endian}
 use Rattle.ciborium_value.specs.Nesting.{Limit, IsOneLess}
-use Rattle.ciborium_value.specs.Refuses.{AreGood, Due, exactly, items_until_break, keys_until_break, values_until_break, next_due, due_after, IsDue, HasOpening, Refuses}
-use Rattle.ciborium_value.specs.Sources.{Fault, of_kind, of_nesting, of_syntax, of_memory, of_device, of_length, IsFaultOf, IsOutside}
+use Rattle.ciborium_value.specs.Refuses.{AreGood, Due, exactly, items_until_break, keys_until_break, values_until_break, next_due, due_after, IsDue, BeginsContainer, Refuses}
+use Rattle.ciborium_value.specs.Sources.{Fault, of_kind, of_nesting, of_syntax, of_memory, of_device, of_length, IsFaultOf, IsOutsideFault}
 use Rattle.ciborium_value.specs.Taken.{Outcome, gives, refuses, nests, deeper, within_level, outcome_map, of_meaning, taken_tag, one_more, one_pair_more, taken_value, taken_items, taken_tree_pairs}
 use Rattle.ciborium_value.specs.Tree as trees
 use Rattle.ciborium_value.specs.Tree.{Tree, Trees, TreePairs}
@@ -109,10 +109,10 @@ payload-of_bytes : {kind : StringKind} {n p : ℕ} {r : List ℕ} {e : Refusal} 
 payload-of_bytes (PayloadRefuses.ends_early h) = tt
 payload-of_bytes (PayloadRefuses.not_allowed y r l h) = tt
 
-part-of_bytes : {kind : StringKind} {b : List ℕ} {p : ℕ} {e : Refusal} → PartRefuses kind b p e → IsOfBytes e
-part-of_bytes {b = b} {p = p} (PartRefuses.no_head h) = subst IsOfBytesIf h (head-of_bytes b p)
-part-of_bytes (PartRefuses.part u (n, k, r, st, w)) = payload-of_bytes w
-part-of_bytes (PartRefuses.other u s e) = tt
+part-of_bytes : {kind : StringKind} {b : List ℕ} {p : ℕ} {e : Refusal} → ChunkRefuses kind b p e → IsOfBytes e
+part-of_bytes {b = b} {p = p} (ChunkRefuses.no_head h) = subst IsOfBytesIf h (head-of_bytes b p)
+part-of_bytes (ChunkRefuses.part u (n, k, r, st, w)) = payload-of_bytes w
+part-of_bytes (ChunkRefuses.other u s e) = tt
 
 string-faults : {A : Type 0} (kind : StringKind) (b : List ℕ) (p : ℕ) (e : Refusal) (i : Item) (s z : List ℕ) (o : Outcome A) → StringRefuses kind b p e → Spells s i → b ≡ s ++ z → IsFaultOf (p + length b) (fault_of e) o
 string-faults kind b p e i s z o (n, k, r, (h, hd, len, g), w) sp f =
@@ -121,17 +121,17 @@ string-faults kind b p e i s z o (n, k, r, (h, hd, len, g), w) sp f =
     of_bytes-faults (p + length b) e o (payload-of_bytes w) (λ q same. definite-never kind n p q r h s z payload spelled (subst (Spells s) is sp) (sym g ∙ f) (subst (PayloadRefuses kind n p r) same w))
     (λ same. absurd (payload-long kind n p r e same w))
 
-open-head : (kind : StringKind) → SpellsHeader (open_byte (major_of kind) ∷ []) (head_of kind None)
+open-head : (kind : StringKind) → SpellsHeader (open_byte (string_major kind) ∷ []) (head_of kind None)
 open-head of_bytes = refl
 open-head of_text = refl
 
 open-faults : {A : Type 0} (kind : StringKind) (b : List ℕ) (p : ℕ) (e : Refusal) (i : Item) (s z : List ℕ) (o : Outcome A) → OpenStringRefuses kind b p e → Spells s i → b ≡ s ++ z → IsFaultOf (p + length b) (fault_of e) o
 open-faults kind b p e i s z o (r, g, w) sp f =
-    let h : List ℕ = open_byte (major_of kind) ∷ [] in
+    let h : List ℕ = open_byte (string_major kind) ∷ [] in
     let (payload, is) = string-only kind None i (same-head s z h r i (head_of kind None) sp (open-head kind) (sym f ∙ g)).0 in
     let (good, ps, rest, parts, room, split, v) = w in
-    of_bytes-faults (p + length b) e o (part-of_bytes v) (λ q same. content-never kind None p (p + 1) q r h s z payload (open-head kind) (subst (Spells s) is sp) (sym g ∙ f) (subst (PartsRefuse kind r (p + 1)) same w))
-    (λ same. let long = content-long kind None p (p + 1) r h s z payload (open-head kind) (subst (Spells s) is sp) (sym g ∙ f) (subst (PartsRefuse kind r (p + 1)) same w) in
+    of_bytes-faults (p + length b) e o (part-of_bytes v) (λ q same. content-never kind None p (p + 1) q r h s z payload (open-head kind) (subst (Spells s) is sp) (sym g ∙ f) (subst (ChunksRefuse kind r (p + 1)) same w))
+    (λ same. let long = content-long kind None p (p + 1) r h s z payload (open-head kind) (subst (Spells s) is sp) (sym g ∙ f) (subst (ChunksRefuse kind r (p + 1)) same w) in
     let size : length b ≡ 1 + length r = (let k : length b ≡ suc (length r) = ap length g in omega (arith, k)) in
     omega (arith, long, size))
 
@@ -244,11 +244,11 @@ holds-by h i w x r s z sp hd e o =
     let same = (same-head s z x r i h sp hd e).0 in
     holds-of i w x r s z sp (subst (SpellsHeader x) (sym same) hd) e (subst (λ k. IsOpening k w) (sym same) o)
 
-opens-at : {b r : List ℕ} {k : ℕ} {w : Due} → HasOpening b k r w → (i : Item) (s z : List ℕ) → Spells s i → b ≡ s ++ z → Holds i w r z
-opens-at {r = r} (HasOpening.array n (h, hd, len, g)) i s z sp f = holds-by (header.Array (Some n)) i (exactly n) h r s z sp hd (sym f ∙ g) refl
-opens-at {r = r} (HasOpening.open_array e g) i s z sp f = holds-by (header.Array None) i items_until_break (open_byte 4 ∷ []) r s z sp refl (sym f ∙ g) refl
-opens-at {r = r} (HasOpening.map n (h, hd, len, g)) i s z sp f = holds-by (header.Map (Some n)) i (exactly (2 * n)) h r s z sp hd (sym f ∙ g) refl
-opens-at {r = r} (HasOpening.open_map e g) i s z sp f = holds-by (header.Map None) i keys_until_break (open_byte 5 ∷ []) r s z sp refl (sym f ∙ g) refl
+opens-at : {b r : List ℕ} {k : ℕ} {w : Due} → BeginsContainer b k r w → (i : Item) (s z : List ℕ) → Spells s i → b ≡ s ++ z → Holds i w r z
+opens-at {r = r} (BeginsContainer.array n (h, hd, len, g)) i s z sp f = holds-by (header.Array (Some n)) i (exactly n) h r s z sp hd (sym f ∙ g) refl
+opens-at {r = r} (BeginsContainer.open_array e g) i s z sp f = holds-by (header.Array None) i items_until_break (open_byte 4 ∷ []) r s z sp refl (sym f ∙ g) refl
+opens-at {r = r} (BeginsContainer.map n (h, hd, len, g)) i s z sp f = holds-by (header.Map (Some n)) i (exactly (2 * n)) h r s z sp hd (sym f ∙ g) refl
+opens-at {r = r} (BeginsContainer.open_map e g) i s z sp f = holds-by (header.Map None) i keys_until_break (open_byte 5 ∷ []) r s z sp refl (sym f ∙ g) refl
 
 first-faults : (end : ℕ) (f : Fault) (o : Outcome Tree) (os : Outcome Trees) → IsFaultOf end f o → IsFaultOf end f (one_more o os)
 first-faults end (of_kind k) o os b = ap (λ x. one_more x os) b
@@ -333,7 +333,7 @@ all-next values_until_break i is end (v, js, e, (ps, g), f) = ((ps, g ∙ rest e
     rest e = cc
 
 -- where the parts ended, none is due
-none-due : (w : Due) (end r z : List ℕ) (p end-offset : ℕ) (f : Fault) → IsAll w no_items end → r ≡ end ++ z → IsDue w r p → ((y : List ℕ) → r ≡ break_byte ∷ y → (p < greatest_offset → ⊥) → IsOutside end-offset f) → IsOutside end-offset f
+none-due : (w : Due) (end r z : List ℕ) (p end-offset : ℕ) (f : Fault) → IsAll w no_items end → r ≡ end ++ z → IsDue w r p → ((y : List ℕ) → r ≡ break_byte ∷ y → (p < greatest_offset → ⊥) → IsOutsideFault end-offset f) → IsOutsideFault end-offset f
 none-due (exactly n) end r z p o f (e, g) h due br = let never : ⊥ = omega (arith, e, due) in absurd never
 none-due items_until_break end r z p o f g h due br = let e : r ≡ break_byte ∷ z = h ∙ ap (λ (k : List ℕ). k ++ z) g in br z e (λ lt. due lt (z, e))
 none-due keys_until_break end r z p o f (a, g) h due br = let e : r ≡ break_byte ∷ z = h ∙ ap (λ (k : List ℕ). k ++ z) g in br z e (λ lt. due lt (z, e))
@@ -348,7 +348,7 @@ none-good values_until_break i is s t end z r p (v, js, e, a, g) sp h due = cc
 
 -- behind good items the next one refuses, and so do all
 items-faults : (o : ℕ) (gs is : Items) (w : Due) (c good r end z : List ℕ) (p : ℕ) (l : Limit) (f : Fault) → SpellsItems c is → AreGood gs l good p → good ++ r ≡ c ++ (end ++ z) → IsAll w is end → IsDue (due_after w gs) r (p + length good) →
-    ((j : Item) (s y : List ℕ) → Spells s j → r ≡ s ++ y → IsFaultOf o f (taken_value l j)) → ((y : List ℕ) → r ≡ break_byte ∷ y → (p + length good < greatest_offset → ⊥) → IsOutside o f) → IsFaultOf o f (taken_items l is)
+    ((j : Item) (s y : List ℕ) → Spells s j → r ≡ s ++ y → IsFaultOf o f (taken_value l j)) → ((y : List ℕ) → r ≡ break_byte ∷ y → (p + length good < greatest_offset → ⊥) → IsOutsideFault o f) → IsFaultOf o f (taken_items l is)
 items-faults o no_items no_items w c good r end z p l f sp g e all due rec br =
     fault_outside o f (taken_items l no_items) (none-due w end r z (p + length good) o f all (ap (λ (k : List ℕ). k ++ r) (sym g.0) ∙ e ∙ ap (λ (k : List ℕ). k ++ (end ++ z)) sp) due br)
 items-faults o no_items (item i is) w c good r end z p l f (s, t, si, ts, ce) g e all due rec br =
@@ -390,7 +390,7 @@ at-end x y p past = by (ltb p greatest_offset) refl
     by true e = absurd (past (ltb-true p greatest_offset e))
     by false e = refl
 
-end-long : (r y : List ℕ) (x p : ℕ) (l : Limit) (e : Refusal) → Refuses r p l e → r ≡ x ∷ y → (p < greatest_offset → ⊥) → IsOutside (p + length r) (fault_of e)
+end-long : (r y : List ℕ) (x p : ℕ) (l : Limit) (e : Refusal) → Refuses r p l e → r ≡ x ∷ y → (p < greatest_offset → ⊥) → IsOutsideFault (p + length r) (fault_of e)
 end-long r y x p l e sub g past = by (usable-or-not sub)
   where
     late : head_refusal r p ≡ Some too_long
@@ -399,8 +399,8 @@ end-long r y x p l e sub g past = by (usable-or-not sub)
     size : length r ≡ suc (length y)
     size = ap length g
 
-    by : HeadRefuses r p e ⊎ IsUsable r p → IsOutside (p + length r) (fault_of e)
-    by (inl h) = subst (λ k. IsOutside (p + length r) (fault_of k)) (sym (some-same e too_long (sym h ∙ late))) (further (ltb p greatest_offset) refl)
+    by : HeadRefuses r p e ⊎ IsUsable r p → IsOutsideFault (p + length r) (fault_of e)
+    by (inl h) = subst (λ k. IsOutsideFault (p + length r) (fault_of k)) (sym (some-same e too_long (sym h ∙ late))) (further (ltb p greatest_offset) refl)
       where
         some-same : (a b : Refusal) → Some a ≡ Some b → a ≡ b
         some-same a b h = cc
@@ -415,11 +415,11 @@ end-long r y x p l e sub g past = by (usable-or-not sub)
 head-size : (b r : List ℕ) (m n k : ℕ) → HasHead b m n k r → length b ≡ k + length r
 head-size b r m n k (h, hd, len, g) = let all = ap length g in let both = length-append h r in omega (arith, all, both, len)
 
-opening-size : {b r : List ℕ} {k : ℕ} {w : Due} → HasOpening b k r w → length b ≡ k + length r
-opening-size {b = b} {r = r} {k = k} (HasOpening.array n h) = head-size b r 4 n k h
-opening-size {b = b} {r = r} {k = k} (HasOpening.open_array e g) = let size : length b ≡ suc (length r) = ap length g in omega (arith, size, e)
-opening-size {b = b} {r = r} {k = k} (HasOpening.map n h) = head-size b r 5 n k h
-opening-size {b = b} {r = r} {k = k} (HasOpening.open_map e g) = let size : length b ≡ suc (length r) = ap length g in omega (arith, size, e)
+opening-size : {b r : List ℕ} {k : ℕ} {w : Due} → BeginsContainer b k r w → length b ≡ k + length r
+opening-size {b = b} {r = r} {k = k} (BeginsContainer.array n h) = head-size b r 4 n k h
+opening-size {b = b} {r = r} {k = k} (BeginsContainer.open_array e g) = let size : length b ≡ suc (length r) = ap length g in omega (arith, size, e)
+opening-size {b = b} {r = r} {k = k} (BeginsContainer.map n h) = head-size b r 5 n k h
+opening-size {b = b} {r = r} {k = k} (BeginsContainer.open_map e g) = let size : length b ≡ suc (length r) = ap length g in omega (arith, size, e)
 
 -- ---- tags
 

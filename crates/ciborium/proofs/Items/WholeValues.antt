@@ -4,7 +4,7 @@ use Rattle.std.specs.Io.KnownBytes.{Consumes}
 use Rattle.ciborium_ll.specs.declared.header.Header.{Header}
 use Rattle.ciborium_ll.specs.declared.header.Header.TheVariants as header
 use Rattle.ciborium_ll.specs.declared.decoder.Decoder.{Decoder}
-use Rattle.ciborium_ll.specs.Decoding.{IsAhead, IsAheadBy, TakesBeforeAny, next_offset, with_left, left_of, IsUnread}
+use Rattle.ciborium_ll.specs.Decoding.{IsAhead, IsAheadBy, TakesBeforeAny, next_offset, with_left, left_of, ReadsNothing}
 use Rattle.ciborium_ll.specs.Header.{SpellsHeader}
 use Rattle.ciborium_ll.specs.Item.{Item, unsigned, simple}
 use Rattle.ciborium_ll.specs.Spells.{Spells}
@@ -24,9 +24,9 @@ use Rattle.ciborium_value.specs.View.{tree_of}
 use Rattle.ciborium.specs.declared.de.error.Error.{Error}
 use Rattle.ciborium.specs.declared.de.error.Error.TheVariants as errors
 use Rattle.ciborium.specs.ValueAnswers.{IsTreeRead, IsValueRead}
-use Rattle.ciborium.specs.inner.ByteSources.{StandsFor, is_portable, IsUnreadBy, known_end, reader_of}
-use Rattle.ciborium.specs.Errors.{cause_of}
-use Rattle.ciborium.specs.Errors.{IsRefusedBy, IsNamed, kind_of}
+use Rattle.ciborium.specs.inner.ByteSources.{MeansTree, is_portable, IsUnreadBy, known_end, reader_of}
+use Rattle.ciborium.specs.Errors.{fault_of}
+use Rattle.ciborium.specs.Errors.{IsRefusedBy, IsNamed, refusal_kind_of}
 use Rattle.ciborium.specs.Spelling.{any}
 use Rattle.ciborium.proofs.Turns.Fronts.{ahead-at, front-fits}
 use Rattle.ciborium.proofs.Turns.ItemsRead.{item-read}
@@ -49,10 +49,10 @@ null-meaning n h = by (eqb n 22) (eqb n 23) h (eqb-true n 22) (eqb-true n 23)
     by true v h f g = ap simple_meaning (f refl) ∙ null-22
     by false v h f g = ap simple_meaning (g h) ∙ null-23
 
-pub portable-null : (h : Header) (n : ℕ) → h ≡ header.Simple n → is_portable (header.Simple n) ≡ true → StandsFor h trees.null
+pub portable-null : (h : Header) (n : ℕ) → h ≡ header.Simple n → is_portable (header.Simple n) ≡ true → MeansTree h trees.null
 portable-null h n is stands s hd = (simple n, subst (SpellsHeader s) is hd, null-meaning n stands, refl)
 
-pub portable-number : (h : Header) (n : ℕ) (z : ℤ) → h ≡ header.Positive n → z ≡ pos n → StandsFor h (trees.integer z)
+pub portable-number : (h : Header) (n : ℕ) (z : ℤ) → h ≡ header.Positive n → z ≡ pos n → MeansTree h (trees.integer z)
 portable-number h n z is e s hd = (unsigned n, subst (SpellsHeader s) is hd, ap (λ k. Some (trees.integer k)) (sym e), refl)
 
 -- a pending head stands in the bytes
@@ -61,7 +61,7 @@ IsReal None = Unit {0}
 IsReal (Some h) = is_portable h.0 ≡ false
 
 -- the head that was pushed, or none, and what is unread with it
-pub ahead-by : {S : Type 0} (remaining : S → Option (List ℕ)) (d e : Decoder S) (pending : Option (Header × ℕ)) (b : List ℕ) → IsReal pending → e.pushed ≡ pending → IsUnread d e →
+pub ahead-by : {S : Type 0} (remaining : S → Option (List ℕ)) (d e : Decoder S) (pending : Option (Header × ℕ)) (b : List ℕ) → IsReal pending → e.pushed ≡ pending → ReadsNothing d e →
     IsUnreadBy remaining d pending b → IsAhead remaining e b (next_offset d.window.count pending)
 ahead-by remaining d e None b real pushed same u = subst (λ o. IsAheadBy remaining e b d.window.count o) (sym pushed) (unread-count d e same, unread-left remaining d e same ∙ u)
 ahead-by remaining d e (Some h) b real pushed same (x, y, hd, f, left, counted) =
@@ -111,13 +111,13 @@ whole-end remaining d (Some h) b real (x, y, hd, split, left, counted) =
     ap (λ o. known_end o d.window.count) left ∙ (omega (arith, at, size))
 
 -- an error is what the item there is refused for
-pub whole-faults : {E : Type 0} (left : Option (List ℕ)) (e : Error E) (l p : ℕ) (b s z : List ℕ) (i : Item) → Spells s i → b ≡ s ++ z → IsRefusedBy left e (λ r. Refuses b p (Some l) r) → IsFaultOf (p + length b) (cause_of e) (taken_value (Some l) i)
+pub whole-faults : {E : Type 0} (left : Option (List ℕ)) (e : Error E) (l p : ℕ) (b s z : List ℕ) (i : Item) → Spells s i → b ≡ s ++ z → IsRefusedBy left e (λ r. Refuses b p (Some l) r) → IsFaultOf (p + length b) (fault_of e) (taken_value (Some l) i)
 whole-faults left (errors.Io x) l p b s z i sp f h = tt
 whole-faults left (errors.Syntax q) l p b s z i sp f h = value-faults h i s z sp f
 whole-faults left (errors.Semantic None k) l p b s z i sp f h = absurd h
 whole-faults left (errors.Semantic (Some q) k) l p b s z i sp f h = by k h
   where
-    by : (k : Kind) → IsNamed (Some q) (kind_of k) (λ r. Refuses b p (Some l) r) → IsFaultOf (p + length b) (of_kind k) (taken_value (Some l) i)
+    by : (k : Kind) → IsNamed (Some q) (refusal_kind_of k) (λ r. Refuses b p (Some l) r) → IsFaultOf (p + length b) (of_kind k) (taken_value (Some l) i)
     by kinds.Float h = value-faults h i s z sp f
     by kinds.Simple h = value-faults h i s z sp f
     by kinds.Break h = value-faults h i s z sp f
@@ -150,7 +150,7 @@ no-level None n flat = tt
 no-level (Some l) n flat = omega arith
 
 -- a head that stands for an item is that item
-pub portable-reads : {S : Type 0} (remaining : S → Option (List ℕ)) (d : Decoder S) (pending : Option (Header × ℕ)) (h : Header) (p : ℕ) (b : List ℕ) (v : Tree) (l : Limit) → pending ≡ Some (h, p) → StandsFor h v → IsUnreadBy remaining d pending b →
+pub portable-reads : {S : Type 0} (remaining : S → Option (List ℕ)) (d : Decoder S) (pending : Option (Header × ℕ)) (h : Header) (p : ℕ) (b : List ℕ) (v : Tree) (l : Limit) → pending ≡ Some (h, p) → MeansTree h v → IsUnreadBy remaining d pending b →
     (i : Item) × (s : List ℕ) × (z : List ℕ) × Spells s i × (b ≡ s ++ z) × (taken_value l i ≡ gives v) × (left_of remaining d ≡ Some z)
 portable-reads remaining d pending h p b v l is for u =
     let (x, y, hd, e, left, counted) = subst (λ o. IsUnreadBy remaining d o b) is u in
@@ -164,7 +164,7 @@ abbrev pub ReadSo : {E : Type 0} → ℕ → Option (Header × ℕ) → Decoder 
 ReadSo {E} l pending d e r = (xs : List ℕ) (p : ℕ) → IsAheadBy Some d xs p pending → IsTreeRead {S = List ℕ} {E = E} any Some e l xs p r
 
 -- a head that stands for an item is read without a byte
-pub portable-ahead : (E : Type 0) {S : Type 0} (remaining : S → Option (List ℕ)) (d : Decoder S) (pending : Option (Header × ℕ)) (h : Header) (at l : ℕ) (v : Tree) → d.pushed ≡ None → pending ≡ Some (h, at) → StandsFor h v →
+pub portable-ahead : (E : Type 0) {S : Type 0} (remaining : S → Option (List ℕ)) (d : Decoder S) (pending : Option (Header × ℕ)) (h : Header) (at l : ℕ) (v : Tree) → d.pushed ≡ None → pending ≡ Some (h, at) → MeansTree h v →
     TakesBeforeAny remaining d d (λ f g. ReadSo {E = E} l pending f g (Ok v))
 portable-ahead E remaining d pending h at l v none is stands =
     so-unread remaining d d (λ f g. ReadSo {E = E} l pending f g (Ok v)) (refl, refl) (λ u xs p ahead.
@@ -174,7 +174,7 @@ portable-ahead E remaining d pending h at l v none is stands =
     (r, p + length x, item-read x i spelled means (omega (arith, flat)) split refl fits, ahead-at Some (with_left d u) (p + length x) r none (count, left)))
 
 -- the head was pushed first
-pub pushed-ahead : (E : Type 0) {S : Type 0} (remaining : S → Option (List ℕ)) (d e f : Decoder S) (pending : Option (Header × ℕ)) (l : ℕ) (x : Result Value (Error E)) → e.pushed ≡ pending → IsUnread d e →
+pub pushed-ahead : (E : Type 0) {S : Type 0} (remaining : S → Option (List ℕ)) (d e f : Decoder S) (pending : Option (Header × ℕ)) (l : ℕ) (x : Result Value (Error E)) → e.pushed ≡ pending → ReadsNothing d e →
     TakesBeforeAny remaining e f (λ a b. (xs : List ℕ) (p : ℕ) → IsAhead Some a xs p → IsValueRead {S = List ℕ} {E = E} any Some b l xs p x) → TakesBeforeAny remaining d f (λ a b. ReadSo {E = E} l pending a b (read_as tree_of x))
 pushed-ahead E remaining d e f pending l x pushed unread (s, taken, sum, h, bytes) = (
   s,

@@ -8,12 +8,12 @@ use Rattle.ciborium_ll.specs.Head.{IsHead, open_byte, break_byte}
 use Rattle.ciborium_ll.specs.Header.{SpellsHeader, announced_length}
 use Rattle.ciborium_ll.specs.Item as items
 use Rattle.ciborium_ll.specs.Item.{Item, unsigned, negative, bytes, text, array, tag, simple, float}
-use Rattle.ciborium_ll.specs.Spells.{Spells, AreParts, joined}
+use Rattle.ciborium_ll.specs.Spells.{Spells, AreChunks, joined}
 use Rattle.ciborium_ll.specs.StringRefusal.{of_bytes}
 use Rattle.ciborium_ll.proofs.OneHeader.{one_header_at_front}
 use Rattle.ciborium_ll.proofs.OpenStrings.{AreParts-more, joined-more}
 use Rattle.ciborium_ll.proofs.UniqueSpelling.{one_at_front}
-use Rattle.ciborium_value.specs.Sources.{Fault, IsOutside, of_kind}
+use Rattle.ciborium_value.specs.Sources.{Fault, IsOutsideFault, of_kind}
 use Rattle.ciborium_value.specs.Taken.{taken_bignum, bignum_of, refuses}
 use Rattle.ciborium_value.specs.declared.kind.Kind.TheVariants as kinds
 use Rattle.ciborium_value.proofs.Sources.Sequences.{fault_outside}
@@ -61,7 +61,7 @@ parts-end P M Q v parts head y u =
 abbrev HasNext : List ℕ → List ℕ → Type 0
 HasNext r z = (r ≡ break_byte ∷ z) ⊎ ((h : List ℕ) × (n : ℕ) × (a : List ℕ) × IsHead h 2 n × (r ≡ h ++ a) × (n ≤ length a))
 
-parts-front : (good t r z : List ℕ) (ps qs : List (List ℕ)) → AreParts 2 AreBytes good ps → AreParts 2 AreBytes t qs → good ++ r ≡ t ++ (break_byte ∷ z) → HasNext r z
+parts-front : (good t r z : List ℕ) (ps qs : List (List ℕ)) → AreChunks 2 AreBytes good ps → AreChunks 2 AreBytes t qs → good ++ r ≡ t ++ (break_byte ∷ z) → HasNext r z
 parts-front good t r z [] [] g h f = inl (ap (λ (k : List ℕ). k ++ r) (sym g) ∙ f ∙ ap (λ (k : List ℕ). k ++ (break_byte ∷ z)) h)
 parts-front good t r z [] (q ∷ qs) g (s, c, (x, hd, ok, i), rest, j) f =
     inr (x, length q, q ++ (c ++ (break_byte ∷ z)), hd, ap (λ (k : List ℕ). k ++ r) (sym g) ∙ f ∙ opened-up x q s c t (break_byte ∷ z) i j, (let more = length-append q (c ++ (break_byte ∷ z)) in omega (arith, more)))
@@ -84,12 +84,12 @@ module _ (P M : List ℕ → Type 0) (v : Option ℕ) (parts : TakesParts P M v)
       let behind : y ≡ (t ++ (break_byte ∷ [])) ++ z = same-rest (open_byte 2) y ((t ++ (break_byte ∷ [])) ++ z) (ap (λ (k : List ℕ). k ++ y) (sym hd) ∙ e ∙ ap (λ (k : List ℕ). k ++ z) f) in
       (r, un, parts-front c t r z ps qs are are' (sym split ∙ behind ∙ append_assoc t (break_byte ∷ []) z))
 
-  pub parts-no-head : (mid end : ℕ) (fault : Fault) → ((y : List ℕ) → P y → mid ≡ end) → ((b x y : List ℕ) (h : Header) → M b → SpellsHeader x h → b ≡ x ++ y → announced_length h ≤ length y → IsOutside mid fault) → DeniesContent P end of_bytes None fault
+  pub parts-no-head : (mid end : ℕ) (fault : Fault) → ((y : List ℕ) → P y → mid ≡ end) → ((b x y : List ℕ) (h : Header) → M b → SpellsHeader x h → b ≡ x ++ y → announced_length h ≤ length y → IsOutsideFault mid fault) → DeniesContent P end of_bytes None fault
   parts-no-head mid end fault same none y x s z payload u hd sp e =
       let (r, un, w) = front y x s z payload u hd sp e in
-      subst (λ n. IsOutside n fault) (same y u) (by r un w)
+      subst (λ n. IsOutsideFault n fault) (same y u) (by r un w)
     where
-      by : (r : List ℕ) → M r → HasNext r z → IsOutside mid fault
+      by : (r : List ℕ) → M r → HasNext r z → IsOutsideFault mid fault
       by r un (inl k) = none r (break_byte ∷ []) z header.Break un refl k (omega arith)
       by r un (inr (h, n, a, w, k, there)) = none r h a (header.Bytes (Some n)) un w k there
 
@@ -99,7 +99,7 @@ module _ (P M : List ℕ → Type 0) (v : Option ℕ) (parts : TakesParts P M v)
       let (a, b, ad, f) = head r un in
       by r a b ad f w
     where
-      by : (r a b : List ℕ) → SpellsHeader a h → r ≡ a ++ b → HasNext r z → IsOutside end fault
+      by : (r a b : List ℕ) → SpellsHeader a h → r ≡ a ++ b → HasNext r z → IsOutsideFault end fault
       by r a b ad f (inl k) = absurd (p (one_header_at_front a (break_byte ∷ []) b z h header.Break ad refl (sym f ∙ k)).2)
       by r a b ad f (inr (k, n, d, w, m, there)) = absurd (q n (one_header_at_front a k b d h (header.Bytes (Some n)) ad w (sym f ∙ m)).2)
 
@@ -108,7 +108,7 @@ module _ (P M : List ℕ → Type 0) (v : Option ℕ) (parts : TakesParts P M v)
   parts-cut Q mid end n fault same head denied y x s z payload u hd sp e =
       let (r, un, w) = front y x s z payload u hd sp e in
       let (a, b, ad, f, un') = head r un in
-      subst (λ k. IsOutside k fault) (same y u) (denied b un' (by r a b ad f w))
+      subst (λ k. IsOutsideFault k fault) (same y u) (denied b un' (by r a b ad f w))
     where
       by : (r a b : List ℕ) → SpellsHeader a (header.Bytes (Some n)) → r ≡ a ++ b → HasNext r z → n ≤ length b
       by r a b ad f (inl k) = absurd (no-break-bytes n (one_header_at_front a (break_byte ∷ []) b z (header.Bytes (Some n)) header.Break ad refl (sym f ∙ k)).2)
@@ -155,7 +155,7 @@ module _ {S : Type 0} (IsUnread : S → List ℕ → Type 0) (End : S → ℕ) (
   bignum-content len fault same took none b s z i u sp e =
       let (x, y, hd, f, un) = took b u in
       let (payload, io) = string-only of_bytes len i (same-head s z x y i (header.Bytes len) sp hd (sym e ∙ f)).0 in
-      fault_outside _ fault (bignum_of i) (subst (λ n. IsOutside n fault) (same b u) (none y x s z payload un hd (subst (Spells s) io sp) (sym f ∙ e)))
+      fault_outside _ fault (bignum_of i) (subst (λ n. IsOutsideFault n fault) (same b u) (none y x s z payload un hd (subst (Spells s) io sp) (sym f ∙ e)))
 
   pub bignum-no-head : (fault : Fault) → DeniesHead IsUnread End old fault → Denies IsUnread End old None taken_bignum fault
   bignum-no-head fault none b s z i u sp e =

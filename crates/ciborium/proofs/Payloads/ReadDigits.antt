@@ -11,11 +11,11 @@ use Rattle.ciborium_ll.specs.Decoding.{Takes, left_of}
 use Rattle.ciborium_ll.specs.ReaderSteps.{IsFillTaken}
 use Rattle.ciborium_ll.proofs.Unread.{rest-of}
 use Rattle.ciborium_value.specs.Meaning.{big_endian_behind, big_endian, without_zeros}
-use Rattle.ciborium_value.specs.Sources.{IsOutside}
+use Rattle.ciborium_value.specs.Sources.{IsOutsideFault}
 use Rattle.ciborium_value.specs.Taken.{magnitude, gives, refuses}
 use Rattle.ciborium_value.specs.declared.kind.Kind.TheVariants as kinds
 use Rattle.ciborium.specs.inner.ByteSources.{known_end, reader_of}
-use Rattle.ciborium.specs.Errors.{cause_of}
+use Rattle.ciborium.specs.Errors.{fault_of}
 use Rattle.ciborium.specs.Errors.{from_ll}
 use Rattle.ciborium.specs.inner.StringContents.{one_digit_more, digits_of}
 
@@ -128,9 +128,9 @@ digits-none bs h e = by (ltb 16 (length (without_zeros bs))) refl
 
 -- ---- one byte more
 
-pub fill-fewer : (E : Type 0) {S : Type 0} (remaining : S → Option (List ℕ)) (d e : Decoder S) (buffer : List ℕ) → e.window.count ≤ greatest_offset → Takes remaining d e (λ b. IsFillTaken {E = E} b d.window.count buffer (Ok tt)) →
+pub fill-fewer : (E : Type 0) {S : Type 0} (remaining : S → Option (List ℕ)) (d e : Decoder S) (buffer : List ℕ) → Takes remaining d e (λ b. IsFillTaken {E = E} b d.window.count buffer (Ok tt)) →
     3 * (greatest_offset - e.window.count) ≤ 3 * (greatest_offset - d.window.count)
-fill-fewer E remaining d e buffer fits (b, takes, count, taken, small) = omega (arith, fits, count)
+fill-fewer E remaining d e buffer (b, takes, count, taken, small) = let fits = e.window.fits in omega (arith, fits, count)
 
 pub digit-more : (E : Type 0) {S : Type 0} (remaining : S → Option (List ℕ)) (d e : Decoder S) (buffer : List ℕ) (x left n : ℕ) (start value next : Option ℕ) (y : List ℕ) → buffer ≡ x ∷ [] → 0 < left → next ≡ one_digit_more value x →
     Takes remaining d e (λ b. IsFillTaken {E = E} b d.window.count buffer (Ok tt)) → ((c : List ℕ) × (z : List ℕ) × (length c + left ≡ n) × AreBytes c × (value ≡ digits_of start c) × (y ≡ c ++ z) × (left_of remaining d ≡ Some z)) →
@@ -151,7 +151,7 @@ digit-more E remaining d e buffer x left n start value next y one some is (b, ta
 
 -- where so many bytes are there, filling a buffer with them is refused for what they do not decide
 pub fill-outside : {E : Type 0} {S : Type 0} (remaining : S → Option (List ℕ)) (d e : Decoder S) (buffer y : List ℕ) (x : LlError E) → left_of remaining d ≡ Some y → length buffer ≤ length y → Takes remaining d e (λ b. IsFillTaken {E = E} b d.window.count buffer (Err x)) →
-    IsOutside (reader_of remaining d).1 (cause_of (from_ll x))
+    IsOutsideFault (reader_of remaining d).1 (fault_of (from_ll x))
 fill-outside remaining d e buffer y (ll.Io x) left there (b, takes, counted, taken, bytes) = tt
 fill-outside remaining d e buffer y (ll.Syntax p) left there (b, takes, counted, taken, bytes) = absurd taken
 fill-outside remaining d e buffer y ll.TooLong left there (b, takes, counted, taken, bytes) =

@@ -9,18 +9,18 @@ use Rattle.ciborium_ll.specs.Head.{IsHead, open_byte, break_byte}
 use Rattle.ciborium_ll.specs.Header.{SpellsHeader, announced_length}
 use Rattle.ciborium_ll.specs.ReaderSteps as reading
 use Rattle.ciborium_ll.specs.Refusal.{Refusal, io, syntax, too_long, HeadRefuses}
-use Rattle.ciborium_ll.specs.Spells.{Spells, AreParts}
-use Rattle.ciborium_ll.specs.StringRefusal.{StringKind, of_bytes, of_text, major_of, IsAllowed, PayloadRefuses, PartRefuses, ContentRefuses}
+use Rattle.ciborium_ll.specs.Spells.{Spells, AreChunks}
+use Rattle.ciborium_ll.specs.StringRefusal.{StringKind, of_bytes, of_text, string_major, IsAllowed, PayloadRefuses, ChunkRefuses, ContentRefuses}
 use Rattle.ciborium_ll.proofs.OneHeader.{one_header_at_front}
-use Rattle.ciborium_value.specs.Sources.{IsOutside}
-use Rattle.ciborium.specs.Errors.{cause_of}
+use Rattle.ciborium_value.specs.Sources.{IsOutsideFault}
+use Rattle.ciborium.specs.Errors.{fault_of}
 use Rattle.ciborium.specs.Errors.{from_ll}
 use Rattle.ciborium.specs.inner.StringContents.{head_of, string_item}
 use Rattle.ciborium.proofs.Items.FrontReads.{head-passes, never-syntax}
 
 -- ---- one head, and behind it one payload
 
-pub string-spells : (kind : StringKind) (n : ℕ) (h : List ℕ) → IsHead h (major_of kind) n → SpellsHeader h (head_of kind (Some n))
+pub string-spells : (kind : StringKind) (n : ℕ) (h : List ℕ) → IsHead h (string_major kind) n → SpellsHeader h (head_of kind (Some n))
 string-spells of_bytes n h hd = hd
 string-spells of_text n h hd = hd
 
@@ -32,7 +32,7 @@ no-break : (kind : StringKind) (n : ℕ) → head_of kind (Some n) ≡ header.Br
 no-break of_bytes n e = cc
 no-break of_text n e = cc
 
-pub same-payload : (kind : StringKind) (h k p q a b : List ℕ) → IsHead h (major_of kind) (length p) → IsHead k (major_of kind) (length q) → h ++ (p ++ a) ≡ k ++ (q ++ b) → (p ≡ q) × (a ≡ b)
+pub same-payload : (kind : StringKind) (h k p q a b : List ℕ) → IsHead h (string_major kind) (length p) → IsHead k (string_major kind) (length q) → h ++ (p ++ a) ≡ k ++ (q ++ b) → (p ≡ q) × (a ≡ b)
 same-payload kind h k p q a b hd kd e =
     let one = one_header_at_front h k (p ++ a) (q ++ b) (head_of kind (Some (length p))) (head_of kind (Some (length q))) (string-spells kind (length p) h hd) (string-spells kind (length q) k kd) e in
     let size : length p ≡ length q = same-size kind (length p) (length q) one.2 in (
@@ -40,7 +40,7 @@ same-payload kind h k p q a b hd kd e =
       sym (drop-append_seam p a) ∙ ap (λ n. drop n (p ++ a)) size ∙ ap (drop (length q)) one.1 ∙ drop-append_seam q b,
     )
 
-pub string-break : (kind : StringKind) (h payload a z : List ℕ) → IsHead h (major_of kind) (length payload) → h ++ (payload ++ a) ≡ break_byte ∷ z → ⊥
+pub string-break : (kind : StringKind) (h payload a z : List ℕ) → IsHead h (string_major kind) (length payload) → h ++ (payload ++ a) ≡ break_byte ∷ z → ⊥
 string-break kind h payload a z hd e =
     no-break kind (length payload) (one_header_at_front h (break_byte ∷ []) (payload ++ a) z (head_of kind (Some (length payload))) header.Break (string-spells kind (length payload) h hd) refl e).2
 
@@ -59,23 +59,23 @@ payload-never kind n p at y e payload z is size ok f (PayloadRefuses.not_allowed
     bad (subst (IsAllowed kind) (sym same) ok)
 
 -- at a break
-break-never : (kind : StringKind) (p at : ℕ) (r z : List ℕ) (e : Refusal) → e ≡ syntax at → r ≡ break_byte ∷ z → PartRefuses kind r p e → ⊥
-break-never kind p at r z e is f (PartRefuses.no_head h) = never-syntax (break_byte ∷ []) z header.Break p at refl (subst (λ (k : List ℕ). HeadRefuses k p (syntax at)) f (subst (HeadRefuses r p) is h))
-break-never kind p at r z e is f (PartRefuses.part u (n, k, r', (h, hd, len, g), w)) =
+break-never : (kind : StringKind) (p at : ℕ) (r z : List ℕ) (e : Refusal) → e ≡ syntax at → r ≡ break_byte ∷ z → ChunkRefuses kind r p e → ⊥
+break-never kind p at r z e is f (ChunkRefuses.no_head h) = never-syntax (break_byte ∷ []) z header.Break p at refl (subst (λ (k : List ℕ). HeadRefuses k p (syntax at)) f (subst (HeadRefuses r p) is h))
+break-never kind p at r z e is f (ChunkRefuses.part u (n, k, r', (h, hd, len, g), w)) =
     no-break kind n (one_header_at_front h (break_byte ∷ []) r' z (head_of kind (Some n)) header.Break (string-spells kind n h hd) refl (sym g ∙ f)).2
-break-never kind p at r z e is f (PartRefuses.other u string end) = end (z, f)
+break-never kind p at r z e is f (ChunkRefuses.other u string end) = end (z, f)
 
 -- at a good part
-part-never : (kind : StringKind) (p at : ℕ) (r h payload z : List ℕ) (e : Refusal) → e ≡ syntax at → IsHead h (major_of kind) (length payload) → IsAllowed kind payload → r ≡ h ++ (payload ++ z) → PartRefuses kind r p e → ⊥
-part-never kind p at r h payload z e is hd ok f (PartRefuses.no_head w) =
+part-never : (kind : StringKind) (p at : ℕ) (r h payload z : List ℕ) (e : Refusal) → e ≡ syntax at → IsHead h (string_major kind) (length payload) → IsAllowed kind payload → r ≡ h ++ (payload ++ z) → ChunkRefuses kind r p e → ⊥
+part-never kind p at r h payload z e is hd ok f (ChunkRefuses.no_head w) =
     never-syntax h (payload ++ z) (head_of kind (Some (length payload))) p at (string-spells kind (length payload) h hd) (subst (λ (k : List ℕ). HeadRefuses k p (syntax at)) f (subst (HeadRefuses r p) is w))
-part-never kind p at r h payload z e is hd ok f (PartRefuses.part u (n, k, r', (x, xd, len, g), w)) =
+part-never kind p at r h payload z e is hd ok f (ChunkRefuses.part u (n, k, r', (x, xd, len, g), w)) =
     let one = one_header_at_front x h r' (payload ++ z) (head_of kind (Some n)) (head_of kind (Some (length payload))) (string-spells kind n x xd) (string-spells kind (length payload) h hd) (sym g ∙ f) in
     payload-never kind n p at r' e payload z is (same-size kind n (length payload) one.2) ok one.1 w
-part-never kind p at r h payload z e is hd ok f (PartRefuses.other u string end) = string (length payload, length h, payload ++ z, (h, hd, refl, f))
+part-never kind p at r h payload z e is hd ok f (ChunkRefuses.other u string end) = string (length payload, length h, payload ++ z, (h, hd, refl, f))
 
-parts-never : (kind : StringKind) (p at : ℕ) (good t r z : List ℕ) (ps qs : List (List ℕ)) (e : Refusal) → e ≡ syntax at → AreParts (major_of kind) (IsAllowed kind) good ps → AreParts (major_of kind) (IsAllowed kind) t qs →
-    good ++ r ≡ t ++ (break_byte ∷ z) → PartRefuses kind r p e → ⊥
+parts-never : (kind : StringKind) (p at : ℕ) (good t r z : List ℕ) (ps qs : List (List ℕ)) (e : Refusal) → e ≡ syntax at → AreChunks (string_major kind) (IsAllowed kind) good ps → AreChunks (string_major kind) (IsAllowed kind) t qs →
+    good ++ r ≡ t ++ (break_byte ∷ z) → ChunkRefuses kind r p e → ⊥
 parts-never kind p at good t r z [] [] e is g h f w = break-never kind p at r z e is (ap (λ (k : List ℕ). k ++ r) (sym g) ∙ f ∙ ap (λ (k : List ℕ). k ++ (break_byte ∷ z)) h) w
 parts-never kind p at good t r z [] (q ∷ qs) e is g (s, c, (x, hd, ok, i), rest, j) f w =
     part-never kind p at r x q (c ++ (break_byte ∷ z)) e is hd ok (ap (λ (k : List ℕ). k ++ r) (sym g) ∙ f ∙ opened-up x q s c t (break_byte ∷ z) i j) w
@@ -85,15 +85,15 @@ parts-never kind p at good t r z (m ∷ ps) (q ∷ qs) e is (s, c, (x, hd, ok, i
     let same = same-payload kind x x' m q (c ++ r) (c' ++ (break_byte ∷ z)) hd hd' (sym (opened-up x m s c good r i j) ∙ f ∙ opened-up x' q s' c' t (break_byte ∷ z) i' j') in
     parts-never kind p at c c' r z ps qs e is rest rest' same.1 w
 
-definite-parts : (kind : StringKind) (n : ℕ) (s payload : List ℕ) → Spells s (string_item kind (Some n) payload) → (h : List ℕ) × IsHead h (major_of kind) (length payload) × IsAllowed kind payload × (s ≡ h ++ payload)
+definite-parts : (kind : StringKind) (n : ℕ) (s payload : List ℕ) → Spells s (string_item kind (Some n) payload) → (h : List ℕ) × IsHead h (string_major kind) (length payload) × IsAllowed kind payload × (s ≡ h ++ payload)
 definite-parts of_bytes n s payload h = h
 definite-parts of_text n s payload h = h
 
-open-parts : (kind : StringKind) (s payload : List ℕ) → Spells s (string_item kind None payload) → (ps : List (List ℕ)) × (r : List ℕ) × AreParts (major_of kind) (IsAllowed kind) r ps × (s ≡ open_byte (major_of kind) ∷ (r ++ (break_byte ∷ [])))
+open-parts : (kind : StringKind) (s payload : List ℕ) → Spells s (string_item kind None payload) → (ps : List (List ℕ)) × (r : List ℕ) × AreChunks (string_major kind) (IsAllowed kind) r ps × (s ≡ open_byte (string_major kind) ∷ (r ++ (break_byte ∷ [])))
 open-parts of_bytes s payload (ps, r, a, j, e) = (ps, r, a, e)
 open-parts of_text s payload (ps, r, a, j, e) = (ps, r, a, e)
 
-open-spells : (kind : StringKind) (x : List ℕ) → SpellsHeader x (head_of kind None) → x ≡ open_byte (major_of kind) ∷ []
+open-spells : (kind : StringKind) (x : List ℕ) → SpellsHeader x (head_of kind None) → x ≡ open_byte (string_major kind) ∷ []
 open-spells of_bytes x h = h
 open-spells of_text x h = h
 
@@ -112,7 +112,7 @@ content-never kind (Some n) p q at y x s z payload hd sp e (inl (over, never)) =
 content-never kind (Some n) p q at y x s z payload hd sp e (inr (within, w)) = definite-never kind n p at y x s z payload hd sp e w
 content-never kind None p q at y x s z payload hd sp e (good, ps, r, parts, room, split, w) =
     let (qs, t, are, f) = open-parts kind s payload sp in
-    let o : ℕ = open_byte (major_of kind) in
+    let o : ℕ = open_byte (string_major kind) in
     let behind : y ≡ (t ++ (break_byte ∷ [])) ++ z = same-rest o y ((t ++ (break_byte ∷ [])) ++ z) (ap (λ (k : List ℕ). k ++ y) (sym (open-spells kind x hd)) ∙ e ∙ ap (λ (k : List ℕ). k ++ z) f) in
     parts-never kind (q + length good) at good t r z ps qs (syntax at) refl parts are (sym split ∙ behind ∙ append_assoc t (break_byte ∷ []) z) w
 
@@ -127,24 +127,24 @@ announced-string of_bytes n = refl
 announced-string of_text n = refl
 
 -- at a break
-break-long : (kind : StringKind) (p : ℕ) (r z : List ℕ) (e : Refusal) → e ≡ too_long → r ≡ break_byte ∷ z → PartRefuses kind r p e → greatest_offset < p + length r
-break-long kind p r z e is f (PartRefuses.no_head h) =
+break-long : (kind : StringKind) (p : ℕ) (r z : List ℕ) (e : Refusal) → e ≡ too_long → r ≡ break_byte ∷ z → ChunkRefuses kind r p e → greatest_offset < p + length r
+break-long kind p r z e is f (ChunkRefuses.no_head h) =
     subst (λ (k : List ℕ). greatest_offset < p + length k) (sym f) (head-passes (break_byte ∷ []) z header.Break p refl (omega arith) (subst (λ (k : List ℕ). HeadRefuses k p too_long) f (subst (HeadRefuses r p) is h)))
-break-long kind p r z e is f (PartRefuses.part u (n, k, r', (h, hd, len, g), w)) = absurd (payload-long kind n p r' e is w)
-break-long kind p r z e is f (PartRefuses.other u string end) = cc
+break-long kind p r z e is f (ChunkRefuses.part u (n, k, r', (h, hd, len, g), w)) = absurd (payload-long kind n p r' e is w)
+break-long kind p r z e is f (ChunkRefuses.other u string end) = cc
 
 -- at a good part
-part-long : (kind : StringKind) (p : ℕ) (r h payload z : List ℕ) (e : Refusal) → e ≡ too_long → IsHead h (major_of kind) (length payload) → r ≡ h ++ (payload ++ z) → PartRefuses kind r p e → greatest_offset < p + length r
-part-long kind p r h payload z e is hd f (PartRefuses.no_head w) =
+part-long : (kind : StringKind) (p : ℕ) (r h payload z : List ℕ) (e : Refusal) → e ≡ too_long → IsHead h (string_major kind) (length payload) → r ≡ h ++ (payload ++ z) → ChunkRefuses kind r p e → greatest_offset < p + length r
+part-long kind p r h payload z e is hd f (ChunkRefuses.no_head w) =
     let there = announced-string kind (length payload) in
     let more = length-append payload z in
     subst (λ (k : List ℕ). greatest_offset < p + length k) (sym f)
     (head-passes h (payload ++ z) (head_of kind (Some (length payload))) p (string-spells kind (length payload) h hd) (omega (arith, there, more)) (subst (λ (k : List ℕ). HeadRefuses k p too_long) f (subst (HeadRefuses r p) is w)))
-part-long kind p r h payload z e is hd f (PartRefuses.part u (n, k, r', (x, xd, len, g), w)) = absurd (payload-long kind n p r' e is w)
-part-long kind p r h payload z e is hd f (PartRefuses.other u string end) = cc
+part-long kind p r h payload z e is hd f (ChunkRefuses.part u (n, k, r', (x, xd, len, g), w)) = absurd (payload-long kind n p r' e is w)
+part-long kind p r h payload z e is hd f (ChunkRefuses.other u string end) = cc
 
-parts-long : (kind : StringKind) (p : ℕ) (good t r z : List ℕ) (ps qs : List (List ℕ)) (e : Refusal) → e ≡ too_long → AreParts (major_of kind) (IsAllowed kind) good ps → AreParts (major_of kind) (IsAllowed kind) t qs →
-    good ++ r ≡ t ++ (break_byte ∷ z) → PartRefuses kind r p e → greatest_offset < p + length r
+parts-long : (kind : StringKind) (p : ℕ) (good t r z : List ℕ) (ps qs : List (List ℕ)) (e : Refusal) → e ≡ too_long → AreChunks (string_major kind) (IsAllowed kind) good ps → AreChunks (string_major kind) (IsAllowed kind) t qs →
+    good ++ r ≡ t ++ (break_byte ∷ z) → ChunkRefuses kind r p e → greatest_offset < p + length r
 parts-long kind p good t r z [] [] e is g h f w = break-long kind p r z e is (ap (λ (k : List ℕ). k ++ r) (sym g) ∙ f ∙ ap (λ (k : List ℕ). k ++ (break_byte ∷ z)) h) w
 parts-long kind p good t r z [] (q ∷ qs) e is g (s, c, (x, hd, ok, i), rest, j) f w =
     part-long kind p r x q (c ++ (break_byte ∷ z)) e is hd (ap (λ (k : List ℕ). k ++ r) (sym g) ∙ f ∙ opened-up x q s c t (break_byte ∷ z) i j) w
@@ -163,14 +163,14 @@ content-long kind (Some n) p q y x s z payload hd sp e (inl (over, same)) =
 content-long kind (Some n) p q y x s z payload hd sp e (inr (within, w)) = absurd (payload-long kind n p y too_long refl w)
 content-long kind None p q y x s z payload hd sp e (good, ps, r, parts, room, split, w) =
     let (qs, t, are, f) = open-parts kind s payload sp in
-    let o : ℕ = open_byte (major_of kind) in
+    let o : ℕ = open_byte (string_major kind) in
     let behind : y ≡ (t ++ (break_byte ∷ [])) ++ z = same-rest o y ((t ++ (break_byte ∷ [])) ++ z) (ap (λ (k : List ℕ). k ++ y) (sym (open-spells kind x hd)) ∙ e ∙ ap (λ (k : List ℕ). k ++ z) f) in
     let long = parts-long kind (q + length good) good t r z ps qs too_long refl parts are (sym split ∙ behind ∙ append_assoc t (break_byte ∷ []) z) w in
     let size : length y ≡ length good + length r = ap length split ∙ length-append good r in
     omega (arith, long, size)
 
 pub content-outside : {E : Type 0} (left : Option (List ℕ)) (e : LlError E) (kind : StringKind) (len : Option ℕ) (p q : ℕ) (y x s z payload : List ℕ) → SpellsHeader x (head_of kind len) → Spells s (string_item kind len payload) → x ++ y ≡ s ++ z →
-    reading.IsRefusedBy left e (ContentRefuses kind len p y q) → IsOutside (q + length y) (cause_of (from_ll e))
+    reading.IsRefusalOf left e (ContentRefuses kind len p y q) → IsOutsideFault (q + length y) (fault_of (from_ll e))
 content-outside left (ll.Io e) kind len p q y x s z payload hd sp f r = tt
 content-outside left (ll.Syntax at) kind len p q y x s z payload hd sp f r = absurd (content-never kind len p q at y x s z payload hd sp f r)
 content-outside left ll.TooLong kind len p q y x s z payload hd sp f r = content-long kind len p q y x s z payload hd sp f r

@@ -8,12 +8,12 @@ use Rattle.ciborium_ll.specs.Decoding.{Takes, left_of}
 use Rattle.ciborium_ll.specs.Head.{IsHead, open_byte, break_byte}
 use Rattle.ciborium_ll.specs.Item as items
 use Rattle.ciborium_ll.specs.Item.{Item, unsigned, negative, bytes, text, array, tag, simple, float}
-use Rattle.ciborium_ll.specs.Spells.{Spells, AreParts, joined}
-use Rattle.ciborium_ll.specs.StringRefusal.{StringKind, of_bytes, of_text, major_of, IsAllowed}
+use Rattle.ciborium_ll.specs.Spells.{Spells, AreChunks, joined}
+use Rattle.ciborium_ll.specs.StringRefusal.{StringKind, of_bytes, of_text, string_major, IsAllowed}
 use Rattle.ciborium_ll.specs.Strings.{IsStringTaken}
 use Rattle.ciborium_ll.proofs.Unread.{rest-of}
 use Rattle.ciborium_value.specs.Nesting.{Limit}
-use Rattle.ciborium_value.specs.Sources.{Fault, IsOutside}
+use Rattle.ciborium_value.specs.Sources.{Fault, IsOutsideFault}
 use Rattle.ciborium_value.specs.Taken.{Taken, gives, refuses, untagged, bare_text, taken_text}
 use Rattle.ciborium_value.specs.declared.kind.Kind.TheVariants as kinds
 use Rattle.ciborium.specs.inner.ByteSources.{IsUnreadBy}
@@ -75,11 +75,11 @@ denies-content IsUnread End numbers old mid kind len fault same bare none b s z 
     let (ts, w, x, y, tagged, all, hd, f, un) = bare b u in
     let (i, t, is, sq, g) = tagged.inward j s z sp e in
     let (payload, io) = string-only kind len i (same-head t z x y i (head_of kind len) sq hd (sym g ∙ f)).0 in
-    subst (λ n. IsOutside n fault) (same b u) (none y x t z payload un hd (subst (Spells t) io sq) (sym f ∙ g))
+    subst (λ n. IsOutsideFault n fault) (same b u) (none y x t z payload un hd (subst (Spells t) io sq) (sym f ∙ g))
 
 -- ---- how long payloads are
 
-parts-long : (major : ℕ) (P : List ℕ → Type 0) (s : List ℕ) (ps : List (List ℕ)) → AreParts major P s ps → length (joined ps) ≤ length s
+parts-long : (major : ℕ) (P : List ℕ → Type 0) (s : List ℕ) (ps : List (List ℕ)) → AreChunks major P s ps → length (joined ps) ≤ length s
 parts-long major P s [] h = omega arith
 parts-long major P s (p ∷ ps) (a, r, (h, hd, ok, e), rest, f) =
     let k = parts-long major P r ps rest in
@@ -92,15 +92,16 @@ content-long : (E : Type 0) (kind : StringKind) (len : Option ℕ) (p q : ℕ) (
 content-long E kind (Some n) p q added c (inl (over, never, a, b)) = cc
 content-long E kind (Some n) p q added c (inr (w, (size, ok, same))) = let k : length added ≡ length c = ap length same in omega (arith, k)
 content-long E kind None p q added c (ps, s, parts, room, split, same) =
-    let k = parts-long (major_of kind) (IsAllowed kind) s ps parts in
+    let k = parts-long (string_major kind) (IsAllowed kind) s ps parts in
     let l : length c ≡ length s + 1 = ap length split ∙ length-append s (break_byte ∷ []) in
     let m : length added ≡ length (joined ps) = ap length same in
     omega (arith, k, l, m)
 
-pub content-fewer : (E : Type 0) {S : Type 0} (remaining : S → Option (List ℕ)) (d e : Decoder S) (kind : StringKind) (len : Option ℕ) (start out : List ℕ) → start ≡ [] → e.window.count ≤ greatest_offset →
+pub content-fewer : (E : Type 0) {S : Type 0} (remaining : S → Option (List ℕ)) (d e : Decoder S) (kind : StringKind) (len : Option ℕ) (start out : List ℕ) → start ≡ [] →
     Takes remaining d e (λ b. (added : List ℕ) × (out ≡ start ++ added) × IsStringTaken {E = E} kind len d.last b d.window.count (Ok tt) added) →
     3 * (greatest_offset - e.window.count) + length out ≤ 3 * (greatest_offset - d.window.count)
-content-fewer E remaining d e kind len start out empty fits (b, takes, count, (added, is, taken), small) =
+content-fewer E remaining d e kind len start out empty (b, takes, count, (added, is, taken), small) =
+    let fits = e.window.fits in
     let k = content-long E kind len d.last d.window.count added b taken in
     let l : length out ≡ length added = ap length (is ∙ ap (λ (s : List ℕ). s ++ added) empty) in
     omega (arith, fits, count, k, l)

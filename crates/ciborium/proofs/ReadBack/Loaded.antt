@@ -28,7 +28,7 @@ use Rattle.ciborium_value.specs.WrittenItems.{IsWritten}
 use Rattle.ciborium_value.specs.declared.tree.Value.{Value}
 use Rattle.ciborium_value.proofs.Writing.ReadBack.{written_item_spells, written_tree_is_proper}
 use Rattle.ciborium.specs.declared.de.error.Error.{Error}
-use Rattle.ciborium.specs.ValueAnswers.{AnswersGoodItem, AnswersTree, TakesValue}
+use Rattle.ciborium.specs.ValueAnswers.{AnswersGoodItem, GivesTree, TakesValue}
 use Rattle.ciborium_value.specs.Deterministic as rising
 use Rattle.ciborium_value.specs.Deterministic.{AreRising, HasRisingKeys, IsAccepted, IsCanonicalTree, PairsHaveRisingKeys}
 use Rattle.ciborium.specs.laws.Loaded.{AreCanonicalParts, IsContentLoaded, IsDeterministicStore, IsLoaded, IsStoreHeld, LoadedAsSaved, LoadingGivesContent, store_tree}
@@ -44,7 +44,7 @@ use Rattle.ciborium.proofs.Strict.StrictOutcome.{spells}
 pub loaded_as_saved : {T C : Type 0} (IsHeld : T → Type 0) (written : T → Named) (reading : Reading T C) (levels : T → ℕ) → IsReadBack IsHeld written reading.taken reading.content levels → LoadedAsSaved IsHeld written reading
 loaded_as_saved {T} {C} IsHeld written reading levels law v t l rest after r held names accepted fits answers = by r (answers (encoding t ++ rest) (encoding t) rest t refl ((refl, accepted.0), accepted.1, omega (arith, fits)) refl)
   where
-    by : (r : Result Tree (Error IoError)) → AnswersTree t rest after r → IsLoaded reading.taken (reading.content v) rest after r
+    by : (r : Result Tree (Error IoError)) → GivesTree t rest after r → IsLoaded reading.taken (reading.content v) rest after r
     by (Ok w) (same, left) = (left, ap (λ u. reading.taken None (item_of u)) (sym same) ∙ (law v held).back by_bytes (item_of t) names None tt)
     by (Err e) failed = failed
 

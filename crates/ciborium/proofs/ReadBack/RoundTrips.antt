@@ -8,12 +8,12 @@ use Rattle.ciborium_value.specs.Nesting.{IsWithin}
 use Rattle.ciborium_value.specs.Readings.{Reading}
 use Rattle.ciborium_value.specs.ReadsBack.{IsReadBack, by_bytes, by_tree}
 use Rattle.ciborium_value.specs.Sinks.{Named}
-use Rattle.ciborium_value.specs.Sources.{Fault, of_kind, of_nesting, of_syntax, of_memory, of_device, of_length, IsFaultOf, IsOutside}
+use Rattle.ciborium_value.specs.Sources.{Fault, of_kind, of_nesting, of_syntax, of_memory, of_device, of_length, IsFaultOf, IsOutsideFault}
 use Rattle.ciborium_value.specs.Taken.{Outcome, gives}
 use Rattle.ciborium_value.specs.WrittenItems.{IsWritten}
 use Rattle.ciborium_value.proofs.Writing.ReadBack.{written_item_spells}
 use Rattle.ciborium.specs.declared.de.error.Error.{Error}
-use Rattle.ciborium.specs.Errors.{cause_of}
+use Rattle.ciborium.specs.Errors.{fault_of}
 use Rattle.ciborium_value.specs.declared.serialized.Error.TheVariants as of_tree
 use Rattle.ciborium_value.specs.TreeAnswers.{IsTreeOf}
 use Rattle.ciborium_value.specs.TreeAnswers.{value_item}
@@ -24,7 +24,7 @@ use Rattle.ciborium.specs.TypedAnswers.{AnswersBytes, TakesGiving}
 use Rattle.ciborium.specs.Writes.{IsNamedWritten, WritesNamed}
 
 -- where a value is given no item is to blame
-pub not-blamed : {C : Type 0} (end : ℕ) (f : Fault) (o : Outcome C) (c : C) → o ≡ gives c → IsFaultOf end f o → IsOutside end f
+pub not-blamed : {C : Type 0} (end : ℕ) (f : Fault) (o : Outcome C) (c : C) → o ≡ gives c → IsFaultOf end f o → IsOutsideFault end f
 not-blamed end (of_kind k) o c e h = cc
 not-blamed end of_nesting o c e h = cc
 not-blamed end of_syntax o c e h = h
@@ -52,8 +52,8 @@ bytes_read_back {T} {C} IsHeld written reading levels law v i l rest after r hel
     by (Err e) (taken, refused) =
         let n : ℕ = length (written_bytes i ++ rest) in
         let none : 0 + n ≡ n = omega arith in
-        subst (λ m. IsOutside m (cause_of e)) none
-        (not-blamed (0 + n) (cause_of e) (reading.taken (Some l) i) (reading.content v) given (refused (written_bytes i ++ rest) refl i (written_bytes i) rest (written_item_spells i fits) refl))
+        subst (λ m. IsOutsideFault m (fault_of e)) none
+        (not-blamed (0 + n) (fault_of e) (reading.taken (Some l) i) (reading.content v) given (refused (written_bytes i ++ rest) refl i (written_bytes i) rest (written_item_spells i fits) refl))
 
 module _ {T C : Type 0} (IsHeld : T → Type 0) (written : T → Named) (reading : Reading T C) (levels : T → ℕ) (law : IsReadBack IsHeld written reading.taken reading.content levels) where
   -- an item that is named was written whole: what is read at its front is the content

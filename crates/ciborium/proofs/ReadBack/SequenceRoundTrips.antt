@@ -10,13 +10,13 @@ use Rattle.ciborium_value.specs.Nesting.{Limit, IsWithin}
 use Rattle.ciborium_value.specs.Places.{items_from}
 use Rattle.ciborium_value.specs.Readings.{Reading}
 use Rattle.ciborium_value.specs.Sinks.{Named, all_named}
-use Rattle.ciborium_value.specs.Sources.{Fault, of_kind, of_nesting, of_syntax, of_memory, of_device, of_length, IsOutside}
+use Rattle.ciborium_value.specs.Sources.{Fault, of_kind, of_nesting, of_syntax, of_memory, of_device, of_length, IsOutsideFault}
 use Rattle.ciborium_value.specs.Taken.{Taken, gives}
 use Rattle.ciborium_value.specs.WrittenItems.{AreWritten}
 use Rattle.ciborium_value.proofs.Writing.Progress.{and_then_is}
 use Rattle.ciborium_value.proofs.Writing.ReadBack.{written_item_spells}
 use Rattle.ciborium.specs.declared.de.error.Error.{Error}
-use Rattle.ciborium.specs.Errors.{cause_of}
+use Rattle.ciborium.specs.Errors.{fault_of}
 use Rattle.ciborium.specs.laws.RoundTrips.{IsGivenBack}
 use Rattle.ciborium.specs.SequenceReads.{GivesInTurn, GivesThen, TakesSequence}
 use Rattle.ciborium.specs.laws.SequenceRoundTrips.{AnswersSequence, AreContentsReadBack, SequenceReadsBack}
@@ -29,7 +29,7 @@ use Rattle.ciborium.proofs.Encodings.Sequences.{never-empty}
 -- ---- faults that no item decides
 
 -- what passes the greatest offset does so behind more bytes too
-outside-further : (n m : ℕ) (f : Fault) → n ≤ m → IsOutside n f → IsOutside m f
+outside-further : (n m : ℕ) (f : Fault) → n ≤ m → IsOutsideFault n f → IsOutsideFault m f
 outside-further n m (of_kind k) le h = h
 outside-further n m of_nesting le h = h
 outside-further n m of_syntax le h = h
@@ -64,14 +64,14 @@ module _ {C : Type 0} (l : Limit) (taken : Taken C) where
       ap (λ x. x ∷ ds) same ∙ ap (λ xs. c ∷ xs) (given-back is cs ds fits.1 given (subst (λ b. GivesInTurn l taken b ds) (sym behind) more))
 
   -- behind some of the items the fault is one that no item decides
-  outside-behind : (fault : Fault) (is : List Item) (cs ds : List C) (u : List ℕ) → AreWritten (items_from is) → AreGiven l taken is cs → GivesThen l taken (items_bytes (items_from is)) ds u → IsFaultAhead (length u) l taken u fault → (u ≡ [] → IsOutside 0 fault) →
-      IsOutside (length (items_bytes (items_from is))) fault
+  outside-behind : (fault : Fault) (is : List Item) (cs ds : List C) (u : List ℕ) → AreWritten (items_from is) → AreGiven l taken is cs → GivesThen l taken (items_bytes (items_from is)) ds u → IsFaultAhead (length u) l taken u fault → (u ≡ [] → IsOutsideFault 0 fault) →
+      IsOutsideFault (length (items_bytes (items_from is))) fault
   outside-behind fault [] [] [] u fits given gave ahead end = end (sym gave)
   outside-behind fault [] [] (d ∷ ds) u fits given (j, s, left, spelled, split, gave, more) ahead end = absurd (never-empty [] s left j spelled refl split)
   outside-behind fault [] (c ∷ cs) ds u fits given gave ahead end = absurd given
   outside-behind fault (i ∷ is) [] ds u fits given gave ahead end = absurd given
   outside-behind fault (i ∷ is) (c ∷ cs) [] u (first, rest) given gave ahead end =
-      subst (λ b. IsOutside (length b) fault) (sym gave)
+      subst (λ b. IsOutsideFault (length b) fault) (sym gave)
       (not-blamed (length u) fault (taken l i) c given.0 (ahead i (written_bytes i) (items_bytes (items_from is)) (written_item_spells i first) (sym gave)))
   outside-behind fault (i ∷ is) (c ∷ cs) (d ∷ ds) u fits (one, given) (j, s, left, spelled, split, gave, more) ahead end =
       let (behind, same) = same-front i j is s left c d fits one spelled split gave in
@@ -103,7 +103,7 @@ module _ {T C : Type 0} (IsHeld : T → Type 0) (written : T → Named) (reading
       by (Ok cs) (taken, refused) = let (gave, left) = taken (items_bytes (items_from is)) refl in (given-back (Some l) reading.taken is (map reading.content vs) cs fits given gave, left)
       by (Err e) (taken, refused) =
           let (cs, u, gave, ahead, end) = refused (items_bytes (items_from is)) refl in
-          outside-behind (Some l) reading.taken (cause_of e) is (map reading.content vs) cs u fits given gave ahead end
+          outside-behind (Some l) reading.taken (fault_of e) is (map reading.content vs) cs u fits given gave ahead end
 
   pub contents_read_back : (vs again : List T) (bytes rest : List ℕ) → AreContentsReadBack IsHeld written reading levels vs again bytes rest
   contents_read_back vs again bytes rest old new held within out fits taken none same = by (all_named (map written vs)) refl out fits

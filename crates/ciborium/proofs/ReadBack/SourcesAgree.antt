@@ -9,7 +9,7 @@ use Rattle.ciborium_value.specs.Taken.{Outcome, gives, refuses, Taken}
 use Rattle.ciborium_value.specs.declared.kind.Kind.{Kind}
 use Rattle.ciborium_value.specs.declared.serialized.Error.{Error as TreeError}
 use Rattle.ciborium_value.specs.declared.serialized.Error.TheVariants as of_tree
-use Rattle.ciborium.specs.Errors.{cause_of}
+use Rattle.ciborium.specs.Errors.{fault_of}
 use Rattle.ciborium.specs.TypedAnswers.{AnswersTree, AnswersBytes, AreOneAnswer, IsExcused, IsSameKind, SourcesAgree}
 use Rattle.ciborium.specs.declared.de.error.Error.{Error}
 use Rattle.ciborium_value.proofs.Orders.TreeEncodings.{encoding-spells}
@@ -57,10 +57,10 @@ sources_agree {A} taken steady v l after r q proper = by r q
         let (j, s, z, sp, e, g, left) = t (encoding v) refl in
         let one = one_at_front (encoding v) s [] z (item_of v) j (encoding-spells v proper) sp (append-nil (encoding v) ∙ e) in
         one-value (taken None (item_of v)) x y h (without-gives (taken (Some l) (item_of v)) (taken None (item_of v)) y same (ap (taken (Some l)) one.2 ∙ g))
-    by (Ok x) (Err e) h (t, f) = excused _ (taken (Some l) (item_of v)) (taken None (item_of v)) x (cause_of e) same h (f (encoding v) refl (item_of v) (encoding v) [] (encoding-spells v proper) (sym (append-nil (encoding v))))
+    by (Ok x) (Err e) h (t, f) = excused _ (taken (Some l) (item_of v)) (taken None (item_of v)) x (fault_of e) same h (f (encoding v) refl (item_of v) (encoding v) [] (encoding-spells v proper) (sym (append-nil (encoding v))))
     by (Err (of_tree.Custom k)) (Ok y) h (t, f) =
         let (j, s, z, sp, e, g, left) = t (encoding v) refl in
         let one = one_at_front (encoding v) s [] z (item_of v) j (encoding-spells v proper) sp (append-nil (encoding v) ∙ e) in
         not-both (taken None (item_of v)) y k (without-gives (taken (Some l) (item_of v)) (taken None (item_of v)) y same (ap (taken (Some l)) one.2 ∙ g)) h
-    by (Err (of_tree.Custom k)) (Err e) h (t, f) = same-kind _ (taken (Some l) (item_of v)) (taken None (item_of v)) k (cause_of e) same h (f (encoding v) refl (item_of v) (encoding v) [] (encoding-spells v proper) (sym (append-nil (encoding v))))
+    by (Err (of_tree.Custom k)) (Err e) h (t, f) = same-kind _ (taken (Some l) (item_of v)) (taken None (item_of v)) k (fault_of e) same h (f (encoding v) refl (item_of v) (encoding v) [] (encoding-spells v proper) (sym (append-nil (encoding v))))
     by (Err of_tree.Memory) q h k = tt

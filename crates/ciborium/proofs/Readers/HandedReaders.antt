@@ -5,14 +5,14 @@ use Rattle.ciborium_ll.specs.Decoding.{HasBegun, IsAheadBy, with_left, left_of, 
 use Rattle.ciborium_ll.proofs.HeldBytes.{begun-left, counted-left}
 use Rattle.ciborium_value.specs.Ahead.{bottom}
 use Rattle.ciborium_value.specs.Readings.{Reading}
-use Rattle.ciborium_value.specs.Sources.{Fault, Refuses, Takes, TakesItem, read_as}
+use Rattle.ciborium_value.specs.Sources.{Fault, RefusesAhead, TakesAhead, TakesItem, read_as}
 use Rattle.ciborium_value.specs.Taken.{Taken}
 use Rattle.ciborium_value.specs.Tree.{Tree}
 use Rattle.ciborium.specs.declared.de.byte_source.ByteSource.{ByteSource}
 use Rattle.ciborium.specs.declared.de.error.Error.{Error}
 use Rattle.ciborium.specs.ValueAnswers.{TakesBytes, TakesBytesFrom}
 use Rattle.ciborium.specs.inner.ByteSources.{IsUnread, IsUnreadBy, ReadsValue, StandsBefore, end_at, pending_count, reader_of}
-use Rattle.ciborium.specs.Errors.{cause_of}
+use Rattle.ciborium.specs.Errors.{fault_of}
 use Rattle.ciborium.specs.NextItems.{IsReadFrom}
 use Rattle.ciborium.specs.TypedAnswers.{IsFaultAhead, TakesGiving}
 use Rattle.ciborium.specs.Spelling.{any}
@@ -20,7 +20,7 @@ use Rattle.ciborium.proofs.Readers.WhateverFollows.{leaves-name, leaves-rest, ta
 
 module _ {S A : Type 0} (remaining : S → Option (List ℕ)) (old : ByteSource S) (taken : Taken A) (b : List ℕ) (front : IsUnread remaining old b) (few : allowed_of old.decoder + pending_count old.pending ≤ 1) where
   -- just the item at the front was taken, and the reader that was lent has what follows it
-  pub handed-ok : (new : ByteSource S) (v : A) (x : S) → (old.decoder.reader.ghost_name ≡ new.decoder.reader.ghost_name → x ≡ new.decoder.reader.now) → TakesItem (IsUnread remaining) old new → Takes (StandsBefore remaining) old new taken v →
+  pub handed-ok : (new : ByteSource S) (v : A) (x : S) → (old.decoder.reader.ghost_name ≡ new.decoder.reader.ghost_name → x ≡ new.decoder.reader.now) → TakesItem (IsUnread remaining) old new → TakesAhead (StandsBefore remaining) old new taken v →
       TakesGiving (Some old.levels) taken b v (remaining x)
   handed-ok new v x back took takes =
       let (z, un, (i, s, sp, e)) = took b front in
@@ -28,7 +28,7 @@ module _ {S A : Type 0} (remaining : S → Option (List ℕ)) (old : ByteSource 
       let left : left_of remaining new.decoder ≡ Some z' = subst (λ o. IsUnreadBy remaining new.decoder o z') none un' in
       (i, s, z, sp, e, give, ap remaining (back (ap (λ r. r.0) fits.1)) ∙ sym (counted-left remaining new.decoder (omega (arith, due))) ∙ left ∙ ap Some fits.0)
 
-  pub handed-refused : (fault : Fault) → Refuses (StandsBefore remaining) old taken fault → IsFaultAhead (end_at remaining old) (Some old.levels) taken b fault
+  pub handed-refused : (fault : Fault) → RefusesAhead (StandsBefore remaining) old taken fault → IsFaultAhead (end_at remaining old) (Some old.levels) taken b fault
   handed-refused fault h i s z sp e = h (Some old.levels) i (bottom (reader_of remaining old.decoder) z) (b, front, (s, z, sp, (refl, refl), e), refl, tt, omega (arith, few))
 
 -- the same, of what was read from the source
@@ -38,10 +38,10 @@ handed-given E remaining reading old new b front few x back (Ok v) h = handed-ok
 handed-given E remaining reading old new b front few x back (Err e) h = tt
 
 pub handed-denied : {S T A : Type 0} (E : Type 0) (remaining : S → Option (List ℕ)) (reading : Reading T A) (old new : ByteSource S) (b : List ℕ) (end : ℕ) → IsUnread remaining old b → allowed_of old.decoder + pending_count old.pending ≤ 1 → end_at remaining old ≡ end →
-    (r : Result T (Error E)) → IsReadFrom {E = E} remaining reading old new r → IfErr (read_as reading.content r) (λ e. IsFaultAhead end (Some old.levels) reading.taken b (cause_of e))
+    (r : Result T (Error E)) → IsReadFrom {E = E} remaining reading old new r → IfErr (read_as reading.content r) (λ e. IsFaultAhead end (Some old.levels) reading.taken b (fault_of e))
 handed-denied E remaining reading old new b end front few ends (Ok v) h = tt
 handed-denied E remaining reading old new b end front few ends (Err e) h =
-    subst (λ n. IsFaultAhead n (Some old.levels) reading.taken b (cause_of e)) ends (handed-refused remaining old reading.taken b front few (cause_of e) h.refused)
+    subst (λ n. IsFaultAhead n (Some old.levels) reading.taken b (fault_of e)) ends (handed-refused remaining old reading.taken b front few (fault_of e) h.refused)
 
 -- ---- where reading is one call of `value`
 

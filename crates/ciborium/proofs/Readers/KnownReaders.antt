@@ -18,7 +18,7 @@ use Rattle.ciborium_value.proofs.GoodItems.Outcome as outcome
 use Rattle.ciborium_value.proofs.GoodItems.ProperMeanings.{proper_meaning}
 use Rattle.ciborium.specs.declared.de.error.Error.{Error}
 use Rattle.ciborium.specs.declared.de.error.Error.TheVariants as errors
-use Rattle.ciborium.specs.ValueAnswers.{AnswersTree, IsFailed, ReadsWhole, TakesBytes, TakesValue}
+use Rattle.ciborium.specs.ValueAnswers.{GivesTree, IsFailed, ReadsWhole, TakesBytes, TakesValue}
 use Rattle.ciborium.specs.Errors.{IsRefusedBy}
 use Rattle.ciborium.specs.Spelling.{Spelling, any, deterministic, IsReadBy, RefusesBy}
 use Rattle.ciborium.proofs.Readers.Outcomes.{only-fails}
@@ -117,7 +117,7 @@ module _ {E : Type 0} (spelling : Spelling) (l : ℕ) where
         let same : k.0 ≡ left = inside k.0 left (sym k.1 ∙ e) in
         omega (arith, fits, ap length k.2, length-append s k.0, ap length same)
 
-    exact-of : (x : Result Tree (Error E)) (s left : List ℕ) (v : Tree) → IsReadBy spelling s 0 l v → b ≡ s ++ left → TakesBytes {E = E} spelling old l new x → AnswersTree v left new x
+    exact-of : (x : Result Tree (Error E)) (s left : List ℕ) (v : Tree) → IsReadBy spelling s 0 l v → b ≡ s ++ left → TakesBytes {E = E} spelling old l new x → GivesTree v left new x
     exact-of (Ok w) s left v good split (t, taken, fits, fine, bytes) =
         let k = rest-of old new b t known taken in
         let same = one-way l spelling s t left k.0 v w good fine (sym split ∙ k.2) in

@@ -16,7 +16,7 @@ use Rattle.ciborium_ll.proofs.Unread.{reads-head}
 use Rattle.ciborium_ll.proofs.HeldBytes.{begun-count, begun-left, begun-rest}
 use Rattle.ciborium_value.specs.Readings.{Reading}
 use Rattle.ciborium_value.specs.Refuses.{Refuses}
-use Rattle.ciborium_value.specs.Sources.{IsGranted, IsOutside, read_as}
+use Rattle.ciborium_value.specs.Sources.{IsGrantedFault, IsOutsideFault, read_as}
 use Rattle.ciborium_value.specs.Taken.{Taken}
 use Rattle.ciborium_value.specs.Tree.{Tree}
 use Rattle.ciborium_value.proofs.Sources.Sequences.{fault_outside}
@@ -24,9 +24,9 @@ use Rattle.ciborium.specs.declared.de.byte_source.ByteSource.{ByteSource}
 use Rattle.ciborium.specs.declared.de.error.Error.{Error}
 use Rattle.ciborium.specs.ValueAnswers.{ReadsWhole, TakesBytes}
 use Rattle.ciborium.specs.inner.ByteSources.{IsUnread, ReadsValue}
-use Rattle.ciborium.specs.Errors.{cause_of}
+use Rattle.ciborium.specs.Errors.{fault_of}
 use Rattle.ciborium.specs.Errors.{from_ll}
-use Rattle.ciborium.specs.NextItems.{GoesOn, IsIo, IsReadFrom, Otherwise, TellsEnd, behind_head}
+use Rattle.ciborium.specs.NextItems.{IfNotEnded, IsReadIo, IsReadFrom, Otherwise, TellsEnd, behind_head}
 use Rattle.ciborium.specs.TypedAnswers.{IsFaultAhead, RefusesTaken, TakesGiven}
 use Rattle.ciborium.specs.Spelling.{any}
 use Rattle.ciborium.proofs.Items.FrontReads.{head-outside}
@@ -84,7 +84,7 @@ module _ {S T A : Type 0} (E : Type 0) (remaining : S → Option (List ℕ)) (re
 
   -- what is known of the answer behind the first head
   abbrev pub Behind : Option Header → Result (Option T) (Error E) → Type 0
-  Behind first r = IfSome first (λ h. GoesOn r (λ q. IsReadFrom {E = E} remaining reading (behind_head s h) t q))
+  Behind first r = IfSome first (λ h. IfNotEnded r (λ q. IsReadFrom {E = E} remaining reading (behind_head s h) t q))
 
   abbrev pub End : Option Header → Result (Option T) (Error E) → Type 0
   End first r = IfNone first ((r ≡ Ok None) × (t.decoder ≡ s.decoder))
@@ -129,28 +129,28 @@ module _ {S T A : Type 0} (E : Type 0) (remaining : S → Option (List ℕ)) (re
   next-refused (Some h) (Err e) taken none item = λ b known. handed-denied E remaining reading (behind_head s h) t b (0 + length b) (front E remaining d s lent begins kept h taken b known) few
       (takes-end remaining d s.decoder _ b (begun-left remaining d lent 0 begins ∙ known) taken ∙ ap (λ n. n + length b) begins.count) (Err e) item
 
-  pub next-memory : (first : Option Header) (r : Result (Option T) (Error E)) → End first r → Behind first r → IfErr r (λ e. IsGranted (cause_of e) reading.takes_memory)
-  next-memory None r (is, same) item = subst (λ q. IfErr q (λ e. IsGranted (cause_of e) reading.takes_memory)) (sym is) tt
+  pub next-memory : (first : Option Header) (r : Result (Option T) (Error E)) → End first r → Behind first r → IfErr r (λ e. IsGrantedFault (fault_of e) reading.takes_memory)
+  next-memory None r (is, same) item = subst (λ q. IfErr q (λ e. IsGrantedFault (fault_of e) reading.takes_memory)) (sym is) tt
   next-memory (Some h) (Ok None) none item = absurd item
   next-memory (Some h) (Ok (Some v)) none item = tt
   next-memory (Some h) (Err e) none item = item.memory
 
 -- ---- the first head was refused
 
-pub first-io : {E : Type 0} (e : LlError E) → first_heads.IsIo e → IsIo (from_ll e)
+pub first-io : {E : Type 0} (e : LlError E) → first_heads.IsHeadIo e → IsReadIo (from_ll e)
 first-io (ll.Io e) h = tt
 first-io (ll.Syntax p) h = h
 first-io ll.TooLong h = h
 first-io ll.Memory h = h
 
 module _ {S : Type 0} (E : Type 0) (remaining : S → Option (List ℕ)) (d e : Decoder S) (lent : S) (begins : HasBegun d lent 0) (same : HasSameReader d e) (x : LlError E) (taken : Takes remaining d e (λ b. IsHeadTaken {E = E} b d.window.count (Err x))) where
-  pub first-denied : {A : Type 0} (l : Option ℕ) (given : Taken A) (b : List ℕ) → remaining lent ≡ Some b → IsFaultAhead (0 + length b) l given b (cause_of (from_ll x))
+  pub first-denied : {A : Type 0} (l : Option ℕ) (given : Taken A) (b : List ℕ) → remaining lent ≡ Some b → IsFaultAhead (0 + length b) l given b (fault_of (from_ll x))
   first-denied l given b known i s left spelled split =
       let (y, c, head, whole) = first-head s i spelled in
       let refused = reads-head {E = E} (left_of remaining d) (left_of remaining e) b d.window.count e.window.count (Err x) (begun-left remaining d lent 0 begins ∙ known) taken in
       let there = first-payload s i spelled in
       let more = length-append c left in
-      fault_outside _ (cause_of (from_ll x)) (given l i) (subst (λ n. IsOutside (n + length b) (cause_of (from_ll x))) begins.count
+      fault_outside _ (fault_of (from_ll x)) (given l i) (subst (λ n. IsOutsideFault (n + length b) (fault_of (from_ll x))) begins.count
       (head-outside (left_of remaining e) x b y (c ++ left) d.window.count (header_of i) head (split ∙ ap (λ (z : List ℕ). z ++ left) whole ∙ append_assoc y c left) (omega (arith, there, more)) refused))
 
   pub first-taken : (l : ℕ) (back : S) → back ≡ e.reader.now → TakesBytes {E = E} any (remaining lent) l (remaining back) (Err (from_ll x))
@@ -162,12 +162,12 @@ module _ {S : Type 0} (E : Type 0) (remaining : S → Option (List ℕ)) (d e : 
         subst (λ y. Consumes (remaining lent) (remaining y) b) (sym given) (subst (λ y. Consumes (remaining lent) y b) (begun-rest remaining d e lent 0 begins same) (subst (λ y. Consumes y (left_of remaining e) b) (begun-left remaining d lent 0 begins) consumed)),
         omega (arith, count, zero, less),
         (λ c. refused-map (Some c) (from_ll x) (HeadRefuses (b ++ c) 0) (λ r. Refuses (b ++ c) 0 (Some l) r) (λ r h. Refuses.no_head h)
-            (refused-from (Some c) x (HeadRefuses (b ++ c) 0) (subst (λ n. Rattle.ciborium_ll.specs.ReaderSteps.IsRefusedBy (Some c) x (HeadRefuses (b ++ c) n)) zero
+            (refused-from (Some c) x (HeadRefuses (b ++ c) 0) (subst (λ n. Rattle.ciborium_ll.specs.ReaderSteps.IsRefusalOf (Some c) x (HeadRefuses (b ++ c) n)) zero
             (reads-head {E = E} (Some (b ++ c)) (Some c) (b ++ c) d.window.count e.window.count (Err x) refl (b, refl, count, head, bytes))))),
         bytes,
       )
 
-pub first-granted : {E : Type 0} (e : LlError E) (b : List ℕ) (p : ℕ) (memory : Rattle.std.proofs.Common.Bool) → IsHeadTaken {E = E} b p (Err e) → IsGranted (cause_of (from_ll e)) memory
+pub first-granted : {E : Type 0} (e : LlError E) (b : List ℕ) (p : ℕ) (memory : Rattle.std.proofs.Common.Bool) → IsHeadTaken {E = E} b p (Err e) → IsGrantedFault (fault_of (from_ll e)) memory
 first-granted (ll.Io e) b p memory h = tt
 first-granted (ll.Syntax at) b p memory h = tt
 first-granted ll.TooLong b p memory h = tt

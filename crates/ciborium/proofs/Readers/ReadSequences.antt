@@ -2,12 +2,12 @@
 use Rattle.std.proofs.Common.{◌≡◌, ℕ, ◌+◌, List, [], ◌∷◌, ◌++◌, length, Option, Some, Ok, Err, refl, ap, ◌∙◌, subst, arith}
 use Rattle.std.proofs.KnownBytes.{Consumes-nil, Consumes-trans}
 use Rattle.ciborium_value.specs.Nesting.{Limit}
-use Rattle.ciborium_value.specs.Sources.{IsOutside}
+use Rattle.ciborium_value.specs.Sources.{IsOutsideFault}
 use Rattle.ciborium_value.specs.Taken.{Taken}
 use Rattle.ciborium.specs.declared.de.error.Error.{Error}
 use Rattle.ciborium.specs.declared.de.error.Error.TheVariants.{Io, Syntax, Semantic, RecursionLimitExceeded, Memory, TooLong}
-use Rattle.ciborium.specs.Errors.{cause_of}
-use Rattle.ciborium.specs.NextItems.{IsIo, TellsEnd}
+use Rattle.ciborium.specs.Errors.{fault_of}
+use Rattle.ciborium.specs.NextItems.{IsReadIo, TellsEnd}
 use Rattle.ciborium.specs.SequenceReads.{GivesThen, RefusesSequence}
 use Rattle.ciborium.specs.TypedAnswers.{IsFaultAhead, RefusesTaken, TakesBeginning, TakesGiven, TakesGiving}
 
@@ -22,7 +22,7 @@ more-taken before mid after (b, first) (c, next) = (b ++ c, Consumes-trans befor
 -- ---- the values that were read
 
 -- io, which no item decides
-outside-io : {E : Type 0} (e : Error E) → IsIo e → IsOutside 0 (cause_of e)
+outside-io : {E : Type 0} (e : Error E) → IsReadIo e → IsOutsideFault 0 (fault_of e)
 outside-io (Io e) h = tt
 outside-io (Syntax p) h = absurd h
 outside-io (Semantic p k) h = absurd h
@@ -53,7 +53,7 @@ module _ {A : Type 0} (l : Limit) (taken : Taken A) (before : Option (List ℕ))
   refused-behind T E mid after cs e read refused end b known =
       let (u, is, all) = read b known in
       let same : 0 + length u ≡ length u = omega arith in
-      (cs, u, all, subst (λ n. IsFaultAhead n l taken u (cause_of e)) same (refused u is), λ none. outside-io e (end (is ∙ ap Some none)))
+      (cs, u, all, subst (λ n. IsFaultAhead n l taken u (fault_of e)) same (refused u is), λ none. outside-io e (end (is ∙ ap Some none)))
 
   pub no-memory-behind : (E : Type 0) (after : Option (List ℕ)) (cs : List A) → HasRead after cs → RefusesSequence {E = E} l taken before (Err Memory)
   no-memory-behind E after cs read b known = let (u, is, all) = read b known in (cs, u, all, λ i s left spelled split. tt, λ none. tt)

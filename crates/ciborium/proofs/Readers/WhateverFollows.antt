@@ -6,7 +6,7 @@ use Rattle.std.proofs.lemmas.List.Elements.{All-append}
 use Rattle.ciborium_ll.specs.declared.header.Header.{Header}
 use Rattle.ciborium_ll.specs.declared.header.Error.{Error as LlError}
 use Rattle.ciborium_ll.specs.declared.decoder.Decoder.{Decoder}
-use Rattle.ciborium_ll.specs.Decoding.{HasBegun, HasSameReader, IsAhead, IsAheadBy, IsHeld, IsUnread, Pulls, PullsTo, Takes, TakesBeforeAny, with_left, left_of}
+use Rattle.ciborium_ll.specs.Decoding.{HasBegun, HasSameReader, IsAhead, IsAheadBy, IsHeld, ReadsNothing, Pulls, PullsTo, Takes, TakesBeforeAny, with_left, left_of}
 use Rattle.ciborium_ll.specs.Bytes.{AreBytes}
 use Rattle.ciborium_ll.specs.ReaderSteps as reading
 use Rattle.ciborium_ll.specs.ReaderSteps.{IsHeadTaken}
@@ -15,13 +15,13 @@ use Rattle.ciborium_ll.specs.Strings.{IsStringTaken}
 use Rattle.ciborium_ll.proofs.HeldBytes.{unread-left, begun-left, begun-rest, same-name, unread-count, unread-none}
 use Rattle.ciborium_ll.proofs.Unread.{pulls-head, reads-string}
 use Rattle.ciborium_ll.specs.Refusal.{Refusal}
-use Rattle.ciborium_value.specs.inner.Frames.{Open}
+use Rattle.ciborium_value.specs.inner.Frames.{TreeFrame}
 use Rattle.ciborium_value.specs.Tree.{Tree}
 use Rattle.ciborium_value.specs.declared.tree.Value.{Value}
 use Rattle.ciborium.specs.declared.de.error.Error.{Error}
 use Rattle.ciborium.specs.declared.de.error.Error.TheVariants as errors
 use Rattle.ciborium.specs.ValueAnswers.{IsReading, IsTakenFrom, IsTreeRead, IsValueRead, TakesBytes}
-use Rattle.ciborium.specs.inner.Due.{IsSpent, LeavesReader}
+use Rattle.ciborium.specs.inner.Due.{HoldsNothingAfter, LeavesReader}
 use Rattle.ciborium.specs.Errors.{IsRefusedBy, from_ll}
 use Rattle.ciborium.specs.inner.ValuesInBytes.{IsAt, StandsAt}
 use Rattle.ciborium.specs.inner.StringAnswers.{IsStringRead}
@@ -59,17 +59,17 @@ module _ {S : Type 0} (remaining : S → Option (List ℕ)) where
   so-kept a b c P Q left same f (x, taken, count, h, bytes) = (x, subst (λ r. Consumes (left_of remaining a) r x) (sym left) taken, same ∙ count, λ z. f (x ++ z) z (h z), bytes)
 
   -- nothing is read
-  pub so-unread : (a b : Decoder S) (P : Decoder (List ℕ) → Decoder (List ℕ) → Type 0) → IsUnread a b → ((u : List ℕ) → P (with_left a u) (with_left b u)) → TakesBeforeAny remaining a b P
+  pub so-unread : (a b : Decoder S) (P : Decoder (List ℕ) → Decoder (List ℕ) → Type 0) → ReadsNothing a b → ((u : List ℕ) → P (with_left a u) (with_left b u)) → TakesBeforeAny remaining a b P
   so-unread a b P unread h =
       ([], subst (λ s. Consumes (left_of remaining a) s []) (sym (unread-left remaining a b unread)) (Consumes-nil (left_of remaining a)), (let same = unread-count a b unread in omega (arith, same)), λ c. h c, no-bytes)
 
 -- a head that was pulled
 pub head-pulled : {S : Type 0} (E : Type 0) (remaining : S → Option (List ℕ)) (a b : Decoder S) (result : Result Header (LlError E)) →
-    IfSome a.pushed (λ head. (result ≡ Ok head.0) × (b.last ≡ head.1) × IsUnread a b) → IfNone a.pushed (Takes remaining a b (λ x. IsHeadTaken {E = E} x a.window.count result)) → IfNone a.pushed (b.last ≡ a.window.count) →
+    IfSome a.pushed (λ head. (result ≡ Ok head.0) × (b.last ≡ head.1) × ReadsNothing a b) → IfNone a.pushed (Takes remaining a b (λ x. IsHeadTaken {E = E} x a.window.count result)) → IfNone a.pushed (b.last ≡ a.window.count) →
     TakesBeforeAny remaining a b (λ d e. (xs : List ℕ) (p : ℕ) → IsAhead Some d xs p → Pulls {E = E} Some e xs p result)
 head-pulled {S} E remaining a b result pushed taken last = by a.pushed pushed taken last
   where
-    by : (o : Option (Header × ℕ)) → IfSome o (λ head. (result ≡ Ok head.0) × (b.last ≡ head.1) × IsUnread a b) → IfNone o (Takes remaining a b (λ x. IsHeadTaken {E = E} x a.window.count result)) → IfNone o (b.last ≡ a.window.count) →
+    by : (o : Option (Header × ℕ)) → IfSome o (λ head. (result ≡ Ok head.0) × (b.last ≡ head.1) × ReadsNothing a b) → IfNone o (Takes remaining a b (λ x. IsHeadTaken {E = E} x a.window.count result)) → IfNone o (b.last ≡ a.window.count) →
         Takes remaining a b (λ x. (c : List ℕ) (xs : List ℕ) (p : ℕ) → IsAheadBy Some (with_left a (x ++ c)) xs p o → Pulls {E = E} Some (with_left b c) xs p result)
     by None h (x, consumed, count, t, bytes) here =
         (x, consumed, count, λ c xs p s. pulls-head {E = E} (Some (x ++ c)) (Some c) b.last b.window.count xs a.window.count p result s here (x, refl, count, t, bytes), bytes)
@@ -97,7 +97,7 @@ string-refused E remaining a b kind len x A (y, taken, count, h, bytes) = (
   taken,
   count,
   λ c xs p s. refused-from (Some c) x (λ f. ContentRefuses kind len a.last xs p f)
-      (subst (λ q. reading.IsRefusedBy (Some c) x (λ f. ContentRefuses kind len a.last xs q f)) s.0 (reads-string {E = E} kind len a.last a.window.count b.window.count (Some (y ++ c)) (Some c) x xs A (y, refl, count, h, bytes) s.1)),
+      (subst (λ q. reading.IsRefusalOf (Some c) x (λ f. ContentRefuses kind len a.last xs q f)) s.0 (reads-string {E = E} kind len a.last a.window.count b.window.count (Some (y ++ c)) (Some c) x xs A (y, refl, count, h, bytes) s.1)),
   bytes,
 )
 
@@ -169,7 +169,7 @@ module _ {S : Type 0} (d e : Decoder S) (u : List ℕ) (pushed : e.pushed ≡ d.
       by None k = tt
       by (Some head) k = count ∙ k ∙ ap (λ n. head.1 + n) (sym size)
 
-  pub reading-moved : (spelling : Spelling) (os : List Open) (l : ℕ) (xs : List ℕ) (p : ℕ) → e.head_len ≡ d.head_len → IsReading spelling Some (with_left d u) os l xs p → IsReading spelling Some (with_left e u) os l xs p
+  pub reading-moved : (spelling : Spelling) (os : List TreeFrame) (l : ℕ) (xs : List ℕ) (p : ℕ) → e.head_len ≡ d.head_len → IsReading spelling Some (with_left d u) os l xs p → IsReading spelling Some (with_left e u) os l xs p
   reading-moved spelling os l xs p size (m, zs, r, around, stands) = (m, zs, r, around, stands-moved spelling zs r size stands)
 
   pub value-moved : (E : Type 0) (spelling : Spelling) (l : ℕ) (xs : List ℕ) (p : ℕ) (x : Result Value (Error E)) → IsValueRead {S = List ℕ} {E = E} spelling Some (with_left d u) l xs p x → IsValueRead {S = List ℕ} {E = E} spelling Some (with_left e u) l xs p x
@@ -178,7 +178,7 @@ module _ {S : Type 0} (d e : Decoder S) (u : List ℕ) (pushed : e.pushed ≡ d.
 
 -- ---- where what is held is taken behind a refusal
 
-spent-refused : {S E : Type 0} (d : Decoder S) (e : Error E) (y z : List ℕ) (P : Refusal → Type 0) → IsSpent d e → IsHeld d y → IsRefusedBy (Some (y ++ z)) e P → IsRefusedBy (Some z) e P
+spent-refused : {S E : Type 0} (d : Decoder S) (e : Error E) (y z : List ℕ) (P : Refusal → Type 0) → HoldsNothingAfter d e → IsHeld d y → IsRefusedBy (Some (y ++ z)) e P → IsRefusedBy (Some z) e P
 spent-refused d (errors.Io x) y z P spent is h = λ end. h (ap (λ k. Some (k ++ z)) (is ∙ spent) ∙ end)
 spent-refused d (errors.Syntax p) y z P spent is h = h
 spent-refused d (errors.Semantic p k) y z P spent is h = h
@@ -186,7 +186,7 @@ spent-refused d errors.RecursionLimitExceeded y z P spent is h = h
 spent-refused d errors.Memory y z P spent is h = h
 spent-refused d errors.TooLong y z P spent is h = h
 
-pub discarded : (E : Type 0) {S : Type 0} (spelling : Spelling) (remaining : S → Option (List ℕ)) (a b c : Decoder S) (l : ℕ) (e : Error E) → IsSpent b e → Takes remaining b c (λ x. IsHeld b x) →
+pub discarded : (E : Type 0) {S : Type 0} (spelling : Spelling) (remaining : S → Option (List ℕ)) (a b c : Decoder S) (l : ℕ) (e : Error E) → HoldsNothingAfter b e → Takes remaining b c (λ x. IsHeld b x) →
     TakesBeforeAny remaining a b (λ d f. (xs : List ℕ) (p : ℕ) → StandsAt spelling Some d xs p → IsValueRead {S = List ℕ} {E = E} spelling Some f l xs p (Err e)) →
     TakesBeforeAny remaining a c (λ d f. (xs : List ℕ) (p : ℕ) → StandsAt spelling Some d xs p → IsValueRead {S = List ℕ} {E = E} spelling Some f l xs p (Err e))
 discarded E spelling remaining a b c l e spent (y, more, sum, is, low_more) (x, taken, count, h, low) = (

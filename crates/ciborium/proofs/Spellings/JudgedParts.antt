@@ -8,7 +8,7 @@ use Rattle.ciborium_ll.specs.Head.{IsHead, shortest_head}
 use Rattle.ciborium_ll.specs.Header.{SpellsHeader}
 use Rattle.ciborium_ll.specs.Refusal.{Refusal, recursion_limit_exceeded, semantic, HeadRefuses, IsUsable}
 use Rattle.ciborium_ll.specs.Refusal as refusal
-use Rattle.ciborium_ll.specs.StringRefusal.{StringKind, of_bytes, of_text, major_of, IsAllowed, ContentRefuses, PayloadRefuses}
+use Rattle.ciborium_ll.specs.StringRefusal.{StringKind, of_bytes, of_text, string_major, IsAllowed, ContentRefuses, PayloadRefuses}
 use Rattle.ciborium_ll.specs.Strings.{IsStringTaken}
 use Rattle.ciborium_value.specs.declared.stack.Opening.{Opening}
 use Rattle.ciborium_value.specs.declared.tree.Value.{Value}
@@ -17,7 +17,7 @@ use Rattle.ciborium_value.specs.Encoding.{encoding, item_of}
 use Rattle.ciborium_value.specs.Meaning.{simple_meaning}
 use Rattle.ciborium_value.specs.Nesting.{nesting}
 use Rattle.ciborium_value.specs.inner.Frames as opened
-use Rattle.ciborium_value.specs.inner.Stack.{opened as opened_of}
+use Rattle.ciborium_value.specs.inner.Stack.{begun_frame as opened_of}
 use Rattle.ciborium_value.specs.Tree as trees
 use Rattle.ciborium_value.specs.Tree.{Tree}
 use Rattle.ciborium_value.specs.View.{tree_of}
@@ -28,7 +28,7 @@ use Rattle.ciborium_value.specs.Deterministic.{IsCanonicalTree}
 use Rattle.ciborium.specs.DeterministicRefusals.{ContainerKind, of_array, of_map, container_major, DeterministicallyRefuses, HasParts, HasShortHead, IsInOrder}
 use Rattle.ciborium.specs.Errors.{IsRefusedBy}
 use Rattle.ciborium.specs.inner.Around.{IsStrictlyInside}
-use Rattle.ciborium.specs.inner.Parts.{IsArrayBegun, IsBegun, IsMapBegun, IsBehind, IsPartRead}
+use Rattle.ciborium.specs.inner.Parts.{IsArrayBegun, IsFrameBegun, IsMapBegun, IsBehind, IsPartRead}
 use Rattle.ciborium.specs.inner.ValuesInBytes.{ReadsItem, IsAt, IsPulled, StandsAt}
 use Rattle.ciborium.specs.Spelling.{deterministic, deterministic_fault}
 use Rattle.ciborium.specs.inner.StringAnswers.{string_tree, IsStringRead}
@@ -47,34 +47,34 @@ module _ (order : KeyOrder) where
   string-canonical of_bytes b ok short = record { proper = (ok, short); folds = refl; rises = tt }
   string-canonical of_text b ok short = record { proper = (ok, (utf8_bytes b ok, short)); folds = refl; rises = tt }
 
-  string-bytes : (kind : StringKind) (b : List ℕ) → (encoding (string_tree kind b) ≡ shortest_head (major_of kind) (length b) ++ b) × (nesting (item_of (string_tree kind b)) ≡ 0)
+  string-bytes : (kind : StringKind) (b : List ℕ) → (encoding (string_tree kind b) ≡ shortest_head (string_major kind) (length b) ++ b) × (nesting (item_of (string_tree kind b)) ≡ 0)
   string-bytes of_bytes b = (refl, refl)
   string-bytes of_text b = (refl, refl)
 
-  definite-reads : (kind : StringKind) (l n : ℕ) (xs : List ℕ) (p q : ℕ) (r bs zs : List ℕ) → HasShortHead (major_of kind) n xs p r q → length bs ≡ n → IsAllowed kind bs → r ≡ bs ++ zs → q + length bs ≤ greatest_offset →
+  definite-reads : (kind : StringKind) (l n : ℕ) (xs : List ℕ) (p q : ℕ) (r bs zs : List ℕ) → HasShortHead (string_major kind) n xs p r q → length bs ≡ n → IsAllowed kind bs → r ≡ bs ++ zs → q + length bs ≤ greatest_offset →
       ReadsItem (deterministic order) l xs p (string_tree kind bs) zs (q + length bs)
   definite-reads kind l n xs p q r bs zs head size ok split fits =
       let w = string-bytes kind bs in
       let flat = w.1 in
       let at = head.at in
       let short : length bs ≤ greatest_offset = omega (arith, fits) in
-      let len : length (shortest_head (major_of kind) n ++ bs) ≡ length (shortest_head (major_of kind) n) + length bs = length-append (shortest_head (major_of kind) n) bs in
+      let len : length (shortest_head (string_major kind) n ++ bs) ≡ length (shortest_head (string_major kind) n) + length bs = length-append (shortest_head (string_major kind) n) bs in
       record {
-        taken = shortest_head (major_of kind) n ++ bs;
-        read = ((ap (λ k. shortest_head (major_of kind) k ++ bs) (sym size) ∙ sym w.0, string-canonical kind bs ok short), omega (arith, flat), omega (arith, len, at, fits));
-        split = head.split ∙ ap (λ (z : List ℕ). shortest_head (major_of kind) n ++ z) split ∙ sym (append_assoc (shortest_head (major_of kind) n) bs zs);
+        taken = shortest_head (string_major kind) n ++ bs;
+        read = ((ap (λ k. shortest_head (string_major kind) k ++ bs) (sym size) ∙ sym w.0, string-canonical kind bs ok short), omega (arith, flat), omega (arith, len, at, fits));
+        split = head.split ∙ ap (λ (z : List ℕ). shortest_head (string_major kind) n ++ z) split ∙ sym (append_assoc (shortest_head (string_major kind) n) bs zs);
         at = omega (arith, len, at);
       }
 
   -- the payload of the string whose head was pulled
-  taken-reads : (E : Type 0) (kind : StringKind) (l n at : ℕ) (xs : List ℕ) (p q : ℕ) (r bs added zs : List ℕ) → HasShortHead (major_of kind) n xs p r q → IsStringTaken {E = E} kind (Some n) at bs q (Ok tt) added → r ≡ bs ++ zs →
+  taken-reads : (E : Type 0) (kind : StringKind) (l n at : ℕ) (xs : List ℕ) (p q : ℕ) (r bs added zs : List ℕ) → HasShortHead (string_major kind) n xs p r q → IsStringTaken {E = E} kind (Some n) at bs q (Ok tt) added → r ≡ bs ++ zs →
       q + length bs ≤ greatest_offset → ReadsItem (deterministic order) l xs p (string_tree kind added) zs (q + length bs)
   taken-reads E kind l n at xs p q r bs added zs head (inl (over, never, none, nothing)) split fits = absurd cc
   taken-reads E kind l n at xs p q r bs added zs head (inr (room, (size, ok, same))) split fits =
       subst (λ b. ReadsItem (deterministic order) l xs p (string_tree kind b) zs (q + length bs)) (sym same) (definite-reads kind l n xs p q r bs zs head size ok split fits)
 
   short-string : {S : Type 0} (kind : StringKind) (remaining : S → Option (List ℕ)) (d : Decoder S) (h : Header) (n p : ℕ) (xs : List ℕ) → h ≡ header_of kind (Some n) → deterministic_fault h d.head_len ≡ None → d.window.count ≡ p + d.head_len →
-      (a : IsPulled remaining d h xs p) → HasShortHead (major_of kind) n xs p a.1 (p + length a.0)
+      (a : IsPulled remaining d h xs p) → HasShortHead (string_major kind) n xs p a.1 (p + length a.0)
   short-string of_bytes remaining d h n p xs is right size a = short-front remaining d h (header.Bytes (Some n)) 2 n p xs is (λ b s. s) (λ k. refl) right size a
   short-string of_text remaining d h n p xs is right size a = short-front remaining d h (header.Text (Some n)) 3 n p xs is (λ b s. s) (λ k. refl) right size a
 
@@ -100,18 +100,18 @@ module _ (order : KeyOrder) where
         let short = short-string kind remaining d h n p xs is right size a in
         refused-map (left_of remaining e) x (λ r. ContentRefuses kind (Some n) d.last a.1 (p + length a.0) r) (DeterministicallyRefuses order xs p l) (λ r f. refuses r short f) (read a.1 (p + length a.0) a.6)
       where
-        spelled : (k : StringKind) → SpellsHeader a.0 (header_of k (Some n)) → IsHead a.0 (major_of k) n
+        spelled : (k : StringKind) → SpellsHeader a.0 (header_of k (Some n)) → IsHead a.0 (string_major k) n
         spelled of_bytes s = s
         spelled of_text s = s
 
-        of-kind : (k : StringKind) → (major_of k ≡ 2) ⊎ (major_of k ≡ 3)
+        of-kind : (k : StringKind) → (string_major k ≡ 2) ⊎ (string_major k ≡ 3)
         of-kind of_bytes = inl refl
         of-kind of_text = inr refl
 
-        refuses : (r : Refusal) → HasShortHead (major_of kind) n xs p a.1 (p + length a.0) → ContentRefuses kind (Some n) d.last a.1 (p + length a.0) r → DeterministicallyRefuses order xs p l r
+        refuses : (r : Refusal) → HasShortHead (string_major kind) n xs p a.1 (p + length a.0) → ContentRefuses kind (Some n) d.last a.1 (p + length a.0) r → DeterministicallyRefuses order xs p l r
         refuses r short (inl (over, same)) =
             let u : Front xs p (header_of kind (Some n)) a.0 a.1 = front-of remaining d h (header_of kind (Some n)) xs p is a in
-            let room = string-room (major_of kind) n p xs a.0 a.1 (of-kind kind) (spelled kind u.spelled) u.usable u.split in
+            let room = string-room (string_major kind) n p xs a.0 a.1 (of-kind kind) (spelled kind u.spelled) u.usable u.split in
             absurd (omega (arith, room, over))
         refuses r short (inr (room, f)) = DeterministicallyRefuses.string kind n a.1 (p + length a.0) short (subst (λ k. PayloadRefuses kind n k a.1 r) a.5 f)
 
@@ -144,9 +144,9 @@ module _ (order : KeyOrder) where
     no-open-map is = let wrong = sym (ap (λ g. deterministic_fault g d.head_len) is) ∙ right in cc
 
     -- one was opened: n parts or pairs are due, the first of them and k more
-    opened-at : (f : Opening) (o : opened.Open) (kind : ContainerKind) (n : ℕ) → 0 < l → opened_of f ≡ o → ((m : ℕ) (r : List ℕ) (q : ℕ) → HasParts order kind n m xs p [] r q → IsStrictlyInside order o m xs p r q) →
+    opened-at : (f : Opening) (o : opened.TreeFrame) (kind : ContainerKind) (n : ℕ) → 0 < l → opened_of f ≡ o → ((m : ℕ) (r : List ℕ) (q : ℕ) → HasParts order kind n m xs p [] r q → IsStrictlyInside order o m xs p r q) →
         (a : IsPulled remaining d h xs p) → HasShortHead (container_major kind) n xs p a.1 (p + length a.0) →
-        (zs : List ℕ) × (r : ℕ) × IsBegun (deterministic order) l xs p (opened_of f) zs r × StandsAt (deterministic order) remaining d zs r
+        (zs : List ℕ) × (r : ℕ) × IsFrameBegun (deterministic order) l xs p (opened_of f) zs r × StandsAt (deterministic order) remaining d zs r
     opened-at f o kind n lt is inside a short =
         let q : ℕ = p + length a.0 in
         let less : l ≡ suc (l - 1) = omega (arith, lt) in

@@ -4,7 +4,7 @@ use Rattle.ciborium_ll.specs.declared.header.Header.{Header}
 use Rattle.ciborium_ll.specs.declared.header.Header.TheVariants as header
 use Rattle.ciborium_ll.specs.declared.decoder.Decoder.{Decoder}
 use Rattle.ciborium_ll.specs.Bytes.{AreBytes, greatest_offset}
-use Rattle.ciborium_ll.specs.Decoding.{IsAhead, IsAheadBy, IsUnread, offset_of, left_of}
+use Rattle.ciborium_ll.specs.Decoding.{IsAhead, IsAheadBy, ReadsNothing, offset_of, left_of}
 use Rattle.ciborium_ll.specs.Head.{shortest_head}
 use Rattle.ciborium_ll.specs.Refusal.{Refusal, semantic, recursion_limit_exceeded, HeadRefuses, IsUsable}
 use Rattle.ciborium_ll.specs.Refusal as refusal
@@ -21,13 +21,13 @@ use Rattle.ciborium_value.specs.Tree.{Tree}
 use Rattle.ciborium_value.proofs.FoldedTrees.Folding.{folded-bignum}
 use Rattle.ciborium_value.proofs.GoodItems.Found.{bignum_meaning-some}
 use Rattle.ciborium_value.proofs.GoodItems.Reader.{is_too_large}
-use Rattle.ciborium_value.specs.inner.Stack.{opened}
+use Rattle.ciborium_value.specs.inner.Stack.{begun_frame}
 use Rattle.ciborium_value.specs.View.{tree_of}
 use Rattle.ciborium.specs.declared.de.error.Error.{Error}
 use Rattle.ciborium.specs.declared.de.error.Error.TheVariants.{Semantic}
 use Rattle.ciborium.specs.DeterministicRefusals.{DeterministicallyRefuses, HasShortHead, IsFoldable}
 use Rattle.ciborium.specs.Errors.{IsRefusedBy}
-use Rattle.ciborium.specs.inner.Parts.{BignumRefuses, IsBegun, IsBignumRead, IsFolded, IsFolding}
+use Rattle.ciborium.specs.inner.Parts.{BignumRefuses, IsFrameBegun, IsBignumRead, IsFolded, IsFolding}
 use Rattle.ciborium.specs.inner.ValuesInBytes.{ReadsItem, IsAt, IsMeasured, StandsAt}
 use Rattle.ciborium.specs.Spelling.{Spelling, deterministic, deterministic_fault, IsUnwanted}
 use Rattle.ciborium_value.specs.Deterministic.{IsCanonicalTree}
@@ -60,9 +60,9 @@ module _ (order : KeyOrder) where
         let b = pull zs q ahead in
         subst (λ n. DeterministicallyRefuses order xs p n recursion_limit_exceeded) (sym none) (DeterministicallyRefuses.no_tag_level t zs q head b.3 (folds-not t k b.0 zs b.1 other b.2 b.4))
 
-    pub tag-opened : (E : Type 0) (e f : Decoder S) (k : Header) (here : ℕ) → PullsSo {E = E} remaining d e (Ok k) → IsFolding t k None → (l ≡ 0 → ⊥) → here ≡ offset_of d → IsUnread e f → f.pushed ≡ Some (k, here) →
+    pub tag-opened : (E : Type 0) (e f : Decoder S) (k : Header) (here : ℕ) → PullsSo {E = E} remaining d e (Ok k) → IsFolding t k None → (l ≡ 0 → ⊥) → here ≡ offset_of d → ReadsNothing e f → f.pushed ≡ Some (k, here) →
         f.head_len ≡ e.head_len → (IsMeasured d → e.window.count ≡ offset_of d + e.head_len) →
-        (us : List ℕ) × (r : ℕ) × IsBegun (deterministic order) l xs p (opened (opening.Tag t)) us r × StandsAt (deterministic order) remaining f us r
+        (us : List ℕ) × (r : ℕ) × IsFrameBegun (deterministic order) l xs p (begun_frame (opening.Tag t)) us r × StandsAt (deterministic order) remaining f us r
     tag-opened E e f k here pull other some same stays back kept size =
         let b = pull zs q ahead in
         let place : here ≡ q = same ∙ offset-at remaining d q zs ahead in

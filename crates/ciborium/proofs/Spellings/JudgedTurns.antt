@@ -10,13 +10,13 @@ use Rattle.ciborium_value.specs.Encoding.{encoding, encoded_size, item_of}
 use Rattle.ciborium_value.specs.Folded.{folded, tree_folding_bytes}
 use Rattle.ciborium_value.specs.Meaning.{folding_bytes, is_bignum_tag, tag_meaning}
 use Rattle.ciborium_value.specs.Nesting.{nesting, tag_nesting}
-use Rattle.ciborium_value.specs.inner.Frames.{Open, array, map, tag, Placed, done, more, placed, with_last}
+use Rattle.ciborium_value.specs.inner.Frames.{TreeFrame, array, map, tag, Placed, done, more, placed, with_last}
 use Rattle.ciborium_value.specs.Refuses.{IsFoldingAt}
 use Rattle.ciborium_value.specs.Tree as trees
 use Rattle.ciborium_value.specs.Tree.{Tree}
 use Rattle.ciborium_value.specs.View.{trees_from, tree_pairs_from}
 use Rattle.ciborium_value.specs.lemmas.ItemsOfTrees.{short_string-item_of}
-use Rattle.ciborium.specs.inner.Around.{in_turn, IsAround}
+use Rattle.ciborium.specs.inner.Around.{trees_in_turn, IsAround}
 use Rattle.ciborium_value.specs.Deterministic.{AreRising, IsAccepted}
 use Rattle.ciborium.specs.inner.ValuesInBytes.{ReadsItem}
 use Rattle.ciborium.specs.Spelling.{deterministic, IsKeyInOrder, IsKeyOutOfOrder}
@@ -34,15 +34,15 @@ trees-in : (vs : List Tree) → trees_in vs ≡ trees_from vs
 trees-in [] = refl
 trees-in (v ∷ vs) = ap (trees.tree v) (trees-in vs)
 
-pairs-in : (ps : List (Tree × Tree)) → pairs_in (in_turn ps None) ≡ tree_pairs_from ps
+pairs-in : (ps : List (Tree × Tree)) → pairs_in (trees_in_turn ps None) ≡ tree_pairs_from ps
 pairs-in [] = refl
 pairs-in (p ∷ ps) = ap (trees.tree_pair p.0 p.1) (pairs-in ps)
 
-turn-length : (ps : List (Tree × Tree)) → length (in_turn ps None) ≡ 2 * length ps
+turn-length : (ps : List (Tree × Tree)) → length (trees_in_turn ps None) ≡ 2 * length ps
 turn-length [] = refl
 turn-length (p ∷ ps) = let rest = turn-length ps in omega (arith, rest)
 
-key-length : (ps : List (Tree × Tree)) (k : Tree) → length (in_turn ps (Some k)) ≡ suc (2 * length ps)
+key-length : (ps : List (Tree × Tree)) (k : Tree) → length (trees_in_turn ps (Some k)) ≡ suc (2 * length ps)
 key-length [] k = refl
 key-length (p ∷ ps) k = let rest = key-length ps k in omega (arith, rest)
 
@@ -127,7 +127,7 @@ module _ (order : KeyOrder) where
   -- ---- a value is placed
 
   -- where reading stands behind a value that was placed: a key that waits is still to be judged
-  abbrev pub LandsIn : List Open → ℕ → List ℕ → ℕ → List ℕ → ℕ → Type 0
+  abbrev pub LandsIn : List TreeFrame → ℕ → List ℕ → ℕ → List ℕ → ℕ → Type 0
   LandsIn [] l xs p zs r = ⊥
   LandsIn (array vs b ∷ os) l xs p zs r = (m : ℕ) × IsAround (deterministic order) l xs p (array vs b ∷ os) m zs r
   LandsIn (map ps b None ∷ os) l xs p zs r = (m : ℕ) × IsAround (deterministic order) l xs p (map ps b None ∷ os) m zs r
@@ -145,7 +145,7 @@ module _ (order : KeyOrder) where
       let y : ReadsItem (deterministic order) l xs q v zs r = subst (λ b. ReadsItem (deterministic order) l b q v zs r) a.1 x in
       subst (λ n. ReadsItem (deterministic order) l xs n v zs r) a.2 y
 
-  pub landed : (l : ℕ) (xs : List ℕ) (p : ℕ) (os : List Open) (m : ℕ) (ys : List ℕ) (q : ℕ) (v : Tree) (zs : List ℕ) (r : ℕ) → IsAround (deterministic order) l xs p os m ys q → ReadsItem (deterministic order) m ys q v zs r → Lands (placed os v) l xs p zs r
+  pub landed : (l : ℕ) (xs : List ℕ) (p : ℕ) (os : List TreeFrame) (m : ℕ) (ys : List ℕ) (q : ℕ) (v : Tree) (zs : List ℕ) (r : ℕ) → IsAround (deterministic order) l xs p os m ys q → ReadsItem (deterministic order) m ys q v zs r → Lands (placed os v) l xs p zs r
   landed l xs p [] m ys q v zs r a i = top l xs p m ys q v zs r a i
   landed l xs p (array vs None ∷ os) m ys q v zs r (bs, b, around, c) i = absurd c
   landed l xs p (array vs (Some (suc n)) ∷ os) m ys q v zs r (bs, b, around, c) i =
@@ -161,21 +161,21 @@ module _ (order : KeyOrder) where
   landed l xs p (map ps None (Some k) ∷ os) m ys q v zs r (bs, b, around, c) i = absurd c
   landed l xs p (map ps (Some (suc n)) (Some k) ∷ os) m ys q v zs r (bs, b, around, c) i =
       let len : length (ps ++ (k, v) ∷ []) ≡ length ps + 1 = length-append ps ((k, v) ∷ []) in
-      let parts = more-parts of_map (length ps + suc (suc n)) (length (ps ++ (k, v) ∷ []) + suc n) m bs b (in_turn ps (Some k)) ys q v zs r (omega (arith, len)) c i (order-value order (in_turn ps (Some k)) v (length ps) (key-length ps k) c.in_order) in
+      let parts = more-parts of_map (length ps + suc (suc n)) (length (ps ++ (k, v) ∷ []) + suc n) m bs b (trees_in_turn ps (Some k)) ys q v zs r (omega (arith, len)) c i (order-value order (trees_in_turn ps (Some k)) v (length ps) (key-length ps k) c.in_order) in
       (m, (bs, b, around, subst (λ us. HasParts order of_map (length (ps ++ (k, v) ∷ []) + suc n) m bs b us zs r) (in_turn-value ps k v) parts))
   landed l xs p (map ps (Some zero) (Some k) ∷ os) m ys q v zs r (bs, b, around, c) i =
       let qs : List (Tree × Tree) = ps ++ (k, v) ∷ [] in
       let len : length qs ≡ length ps + 1 = length-append ps ((k, v) ∷ []) in
-      let parts = more-parts of_map (length ps + 1) (length qs) m bs b (in_turn ps (Some k)) ys q v zs r (omega (arith, len)) c i (order-value order (in_turn ps (Some k)) v (length ps) (key-length ps k) c.in_order) in
+      let parts = more-parts of_map (length ps + 1) (length qs) m bs b (trees_in_turn ps (Some k)) ys q v zs r (omega (arith, len)) c i (order-value order (trees_in_turn ps (Some k)) v (length ps) (key-length ps k) c.in_order) in
       landed l xs p os (suc m) bs b (trees.map (tree_pairs_from qs)) zs r around
-      (whole-parts of_map (length qs) m bs b (in_turn qs None) (trees.map (tree_pairs_from qs)) zs r (ap trees.map (pairs-in qs)) (turn-length qs)
+      (whole-parts of_map (length qs) m bs b (trees_in_turn qs None) (trees.map (tree_pairs_from qs)) zs r (ap trees.map (pairs-in qs)) (turn-length qs)
       (subst (λ us. HasParts order of_map (length qs) m bs b us zs r) (in_turn-value ps k v) parts))
   landed l xs p (tag t ∷ os) m ys q v zs r (bs, b, around, (head, usable, never)) i =
       landed l xs p os (suc m) bs b (trees.tag t v) zs r around (tag-whole m bs b t v ys q zs r head never i)
 
   -- ---- what refuses inside refuses around
 
-  pub refused-around : (l : ℕ) (xs : List ℕ) (p : ℕ) (os : List Open) (m : ℕ) (ys : List ℕ) (q : ℕ) (e : Refusal) → IsAround (deterministic order) l xs p os m ys q → DeterministicallyRefuses order ys q m e → DeterministicallyRefuses order xs p l e
+  pub refused-around : (l : ℕ) (xs : List ℕ) (p : ℕ) (os : List TreeFrame) (m : ℕ) (ys : List ℕ) (q : ℕ) (e : Refusal) → IsAround (deterministic order) l xs p os m ys q → DeterministicallyRefuses order ys q m e → DeterministicallyRefuses order xs p l e
   refused-around l xs p [] m ys q e a f =
       let x : DeterministicallyRefuses order ys q l e = subst (λ n. DeterministicallyRefuses order ys q n e) a.0 f in
       let y : DeterministicallyRefuses order xs q l e = subst (λ b. DeterministicallyRefuses order b q l e) a.1 x in
@@ -186,21 +186,21 @@ module _ (order : KeyOrder) where
   refused-around l xs p (map ps None key ∷ os) m ys q e (bs, b, around, c) f = absurd c
   refused-around l xs p (map ps (Some n) None ∷ os) m ys q e (bs, b, around, c) f =
       let len = turn-length ps in
-      refused-around l xs p os (suc m) bs b e around (DeterministicallyRefuses.part of_map (length ps + suc n) (in_turn ps None) ys q c (omega (arith, len)) f)
+      refused-around l xs p os (suc m) bs b e around (DeterministicallyRefuses.part of_map (length ps + suc n) (trees_in_turn ps None) ys q c (omega (arith, len)) f)
   refused-around l xs p (map ps (Some n) (Some k) ∷ os) m ys q e (bs, b, around, c) f =
       let len = key-length ps k in
-      refused-around l xs p os (suc m) bs b e around (DeterministicallyRefuses.part of_map (length ps + suc n) (in_turn ps (Some k)) ys q c (omega (arith, len)) f)
+      refused-around l xs p os (suc m) bs b e around (DeterministicallyRefuses.part of_map (length ps + suc n) (trees_in_turn ps (Some k)) ys q c (omega (arith, len)) f)
   refused-around l xs p (tag t ∷ os) m ys q e (bs, b, around, (head, usable, never)) f =
       refused-around l xs p os (suc m) bs b e around (DeterministicallyRefuses.tagged t ys q head usable never f)
 
   -- ---- the order of keys
 
-  rises-with : (ps : List (Tree × Tree)) (k : Tree) → AreRising order (keys_among (in_turn ps None)) → MatchOption (with_last ps k) (Unit {0}) (λ keys. key_order order keys.0 keys.1 ≡ Less) → AreRising order (keys_among (in_turn ps (Some k)))
+  rises-with : (ps : List (Tree × Tree)) (k : Tree) → AreRising order (keys_among (trees_in_turn ps None)) → MatchOption (with_last ps k) (Unit {0}) (λ keys. key_order order keys.0 keys.1 ≡ Less) → AreRising order (keys_among (trees_in_turn ps (Some k)))
   rises-with [] k h o = tt
   rises-with (p ∷ []) k h o = (o, tt)
   rises-with (p ∷ (q ∷ ps)) k h o = (h.0, rises-with (q ∷ ps) k h.1 o)
 
-  last-rises : (ps : List (Tree × Tree)) (k a b : Tree) → AreRising order (keys_among (in_turn ps (Some k))) → with_last ps k ≡ Some (a, b) → key_order order a b ≡ Less
+  last-rises : (ps : List (Tree × Tree)) (k a b : Tree) → AreRising order (keys_among (trees_in_turn ps (Some k))) → with_last ps k ≡ Some (a, b) → key_order order a b ≡ Less
   last-rises [] k a b h e = absurd cc
   last-rises (p ∷ []) k a b h e = same (p.0, k) (a, b) e h.0
     where
@@ -209,19 +209,19 @@ module _ (order : KeyOrder) where
   last-rises (p ∷ (q ∷ ps)) k a b h e = last-rises (q ∷ ps) k a b h.1 e
 
   -- in order, the key goes on
-  pub kept : (l : ℕ) (xs : List ℕ) (p : ℕ) (os : List Open) (zs : List ℕ) (r : ℕ) → LandsIn os l xs p zs r → IsKeyInOrder order os → (m : ℕ) × IsAround (deterministic order) l xs p os m zs r
+  pub kept : (l : ℕ) (xs : List ℕ) (p : ℕ) (os : List TreeFrame) (zs : List ℕ) (r : ℕ) → LandsIn os l xs p zs r → IsKeyInOrder order os → (m : ℕ) × IsAround (deterministic order) l xs p os m zs r
   kept l xs p [] zs r a o = absurd a
   kept l xs p (array vs b ∷ os) zs r a o = a
   kept l xs p (map ps b None ∷ os) zs r a o = a
   kept l xs p (map ps None (Some k) ∷ os) zs r (m, ys, q, (bs, b, around, c), i) o = absurd c
   kept l xs p (map ps (Some n) (Some k) ∷ os) zs r (m, ys, q, (bs, b, around, c), i) o =
-      let rises : IsInOrder order of_map (in_turn ps (Some k)) = rises-with ps k c.in_order o in
-      let parts = more-parts of_map (length ps + suc n) (length ps + suc n) m bs b (in_turn ps None) ys q k zs r refl c i (subst (IsInOrder order of_map) (sym (in_turn-key ps k)) rises) in
+      let rises : IsInOrder order of_map (trees_in_turn ps (Some k)) = rises-with ps k c.in_order o in
+      let parts = more-parts of_map (length ps + suc n) (length ps + suc n) m bs b (trees_in_turn ps None) ys q k zs r refl c i (subst (IsInOrder order of_map) (sym (in_turn-key ps k)) rises) in
       (m, (bs, b, around, subst (λ us. HasParts order of_map (length ps + suc n) m bs b us zs r) (in_turn-key ps k) parts))
   kept l xs p (tag t ∷ os) zs r a o = a
 
   -- out of order, it refuses
-  pub disordered : (l : ℕ) (xs : List ℕ) (p : ℕ) (os : List Open) (zs : List ℕ) (r at : ℕ) → LandsIn os l xs p zs r → IsKeyOutOfOrder order os r at → DeterministicallyRefuses order xs p l (semantic at refusal.KeyOrder)
+  pub disordered : (l : ℕ) (xs : List ℕ) (p : ℕ) (os : List TreeFrame) (zs : List ℕ) (r at : ℕ) → LandsIn os l xs p zs r → IsKeyOutOfOrder order os r at → DeterministicallyRefuses order xs p l (semantic at refusal.KeyOrder)
   disordered l xs p [] zs r at a o = absurd a
   disordered l xs p (array vs b ∷ os) zs r at a (x, y, is, never, here) = absurd cc
   disordered l xs p (map ps b None ∷ os) zs r at a (x, y, is, never, here) = absurd cc
@@ -233,10 +233,10 @@ module _ (order : KeyOrder) where
       let same : y ≡ k = key ps is in
       let size : encoded_size y ≡ min (length (encoding k)) (2 ^ 64 - 1) = ap encoded_size same in
       let place : at ≡ q = omega (arith, here, size, end, fits) in
-      let wrong : ¬ IsInOrder order of_map (in_turn ps None ++ k ∷ []) = λ h. never (last-rises ps k x y (subst (λ us. AreRising order (keys_among us)) (in_turn-key ps k) h) is) in
+      let wrong : ¬ IsInOrder order of_map (trees_in_turn ps None ++ k ∷ []) = λ h. never (last-rises ps k x y (subst (λ us. AreRising order (keys_among us)) (in_turn-key ps k) h) is) in
       refused-around l xs p os (suc m) bs b (semantic at refusal.KeyOrder) around
       (subst (λ j. DeterministicallyRefuses order bs b (suc m) (semantic j refusal.KeyOrder)) (sym place)
-      (DeterministicallyRefuses.key_out_of_order (length ps + suc n) (in_turn ps None) k ys zs q (length ps) c (turn-length ps) (omega arith) e.0 (accepted-of m ys q k zs r i) (omega (arith, end, fits)) wrong))
+      (DeterministicallyRefuses.key_out_of_order (length ps + suc n) (trees_in_turn ps None) k ys zs q (length ps) c (turn-length ps) (omega arith) e.0 (accepted-of m ys q k zs r i) (omega (arith, end, fits)) wrong))
     where
       key : (ps : List (Tree × Tree)) → with_last ps k ≡ Some (x, y) → y ≡ k
       key [] e = absurd cc

@@ -19,7 +19,7 @@ use Rattle.ciborium.specs.declared.de.error.Error.{Error}
 use Rattle.ciborium.specs.declared.de.error.Error.TheVariants.{Semantic}
 use Rattle.ciborium.specs.declared.de.front.Part.{Part}
 use Rattle.ciborium.specs.Errors.{IsRefusedBy}
-use Rattle.ciborium.specs.inner.Parts.{IsArrayBegun, IsHeadAccepted, IsMapBegun, IsPartRead, IsSized, RefusesPart}
+use Rattle.ciborium.specs.inner.Parts.{IsArrayBegun, IsHeadAccepted, IsMapBegun, IsPartRead, IsHeadMeasured, RefusesPart}
 use Rattle.ciborium.specs.inner.ValuesInBytes.{ReadsItem, IsAt, IsMeasured, IsPulled, StandsAt}
 use Rattle.ciborium.specs.Spelling.{Spelling, any, deterministic, head_fault}
 use Rattle.ciborium.specs.inner.StringAnswers.{IsStringRead}
@@ -49,7 +49,7 @@ stands-offset spelling remaining d p xs s = offset-at remaining d p xs (ahead-of
 
 module _ {S : Type 0} (spelling : Spelling) (remaining : S → Option (List ℕ)) (d e : Decoder S) (u v xs : List ℕ) (p : ℕ) (stands : StandsAt spelling Some (with_left d u) xs p)
     (size : IsMeasured d → e.window.count ≡ offset_of d + e.head_len) where
-  sized : (s : Spelling) → StandsAt s Some (with_left d u) xs p → IsSized s (with_left e v) p
+  sized : (s : Spelling) → StandsAt s Some (with_left d u) xs p → IsHeadMeasured s (with_left e v) p
   sized any at = tt
   sized (deterministic order) at = size at.1 ∙ ap (λ n. n + e.head_len) (offset-at Some (with_left d u) p xs at.0)
 
@@ -62,7 +62,7 @@ module _ {S : Type 0} (spelling : Spelling) (remaining : S → Option (List ℕ)
       IsRefusedBy {E = E} (Some v) (Semantic (Some offset) kind) (RefusesPart spelling xs p l)
   faulty-head E h l offset kind wrong here pulled = by spelling stands wrong (sized spelling stands)
     where
-      by : (s : Spelling) → StandsAt s Some (with_left d u) xs p → head_fault s h e.head_len ≡ Some kind → IsSized s (with_left e v) p → IsRefusedBy {E = E} (Some v) (Semantic (Some offset) kind) (RefusesPart s xs p l)
+      by : (s : Spelling) → StandsAt s Some (with_left d u) xs p → head_fault s h e.head_len ≡ Some kind → IsHeadMeasured s (with_left e v) p → IsRefusedBy {E = E} (Some v) (Semantic (Some offset) kind) (RefusesPart s xs p l)
       by any at wrong size = absurd cc
       by (deterministic order) at wrong size = fault-refuses order E Some (with_left e v) h l p offset xs kind wrong size (here ∙ offset-at Some (with_left d u) p xs at.0) pulled
 

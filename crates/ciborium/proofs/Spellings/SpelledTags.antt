@@ -3,18 +3,18 @@ use Rattle.std.proofs.Common.{◌≡◌, ℕ, ◌+◌, List, length, Option, Som
 use Rattle.ciborium_ll.specs.declared.decoder.Decoder.{Decoder}
 use Rattle.ciborium_ll.specs.declared.header.Header.{Header}
 use Rattle.ciborium_ll.specs.declared.header.Header.TheVariants as header
-use Rattle.ciborium_ll.specs.Decoding.{IsUnread, offset_of, left_of}
+use Rattle.ciborium_ll.specs.Decoding.{ReadsNothing, offset_of, left_of}
 use Rattle.ciborium_ll.specs.Refusal.{recursion_limit_exceeded}
 use Rattle.ciborium_value.specs.declared.kind.Kind.{Kind}
 use Rattle.ciborium_value.specs.declared.tree.Value.{Value}
 use Rattle.ciborium_value.specs.declared.stack.Opening.TheVariants as opening
-use Rattle.ciborium_value.specs.inner.Stack.{opened}
+use Rattle.ciborium_value.specs.inner.Stack.{begun_frame}
 use Rattle.ciborium_value.specs.View.{tree_of}
 use Rattle.ciborium.specs.declared.de.error.Error.{Error}
 use Rattle.ciborium.specs.declared.de.error.Error.TheVariants.{Semantic}
 use Rattle.ciborium.specs.DeterministicRefusals.{HasShortHead}
 use Rattle.ciborium.specs.Errors.{IsRefusedBy}
-use Rattle.ciborium.specs.inner.Parts.{IsBegun, IsBignumRead, IsFolding, IsHeadAccepted, RefusesPart}
+use Rattle.ciborium.specs.inner.Parts.{IsFrameBegun, IsBignumRead, IsFolding, IsHeadAccepted, RefusesPart}
 use Rattle.ciborium.specs.inner.ValuesInBytes.{IsAt, IsMeasured, StandsAt}
 use Rattle.ciborium.specs.Spelling.{Spelling, any, deterministic, head_fault}
 use Rattle.ciborium.proofs.Turns.AfterTag as after
@@ -42,9 +42,9 @@ module _ {S : Type 0} (remaining : S → Option (List ℕ)) (d : Decoder S) (t l
   tag-no-level any E e k pull other none a = after.tag-no-level E remaining d e t l xs p k pushed pull other none a.pulled
   tag-no-level (deterministic order) E e k pull other none a = judged.tag-no-level order remaining d t l p (p + length a.pulled.0) xs a.pulled.1 pushed (short order a) a.pulled.6 E e k pull other none
 
-  pub tag-opened : (spelling : Spelling) (E : Type 0) (e f : Decoder S) (k : Header) (here : ℕ) → PullsSo {E = E} remaining d e (Ok k) → IsFolding t k None → (l ≡ 0 → ⊥) → here ≡ offset_of d → IsUnread e f →
+  pub tag-opened : (spelling : Spelling) (E : Type 0) (e f : Decoder S) (k : Header) (here : ℕ) → PullsSo {E = E} remaining d e (Ok k) → IsFolding t k None → (l ≡ 0 → ⊥) → here ≡ offset_of d → ReadsNothing e f →
       f.pushed ≡ Some (k, here) → f.head_len ≡ e.head_len → (IsMeasured d → e.window.count ≡ offset_of d + e.head_len) → IsHeadAccepted spelling remaining d (header.Tag t) xs p →
-      (zs : List ℕ) × (r : ℕ) × IsBegun spelling l xs p (opened (opening.Tag t)) zs r × StandsAt spelling remaining f zs r
+      (zs : List ℕ) × (r : ℕ) × IsFrameBegun spelling l xs p (begun_frame (opening.Tag t)) zs r × StandsAt spelling remaining f zs r
   tag-opened any E e f k here pull other some same stays back kept size a = after.tag-opened E remaining d e f t l here xs p k pushed pull other some same stays back a.pulled
   tag-opened (deterministic order) E e f k here pull other some same stays back kept size a =
       judged.tag-opened order remaining d t l p (p + length a.pulled.0) xs a.pulled.1 pushed (short order a) a.pulled.6 E e f k here pull other some same stays back kept size

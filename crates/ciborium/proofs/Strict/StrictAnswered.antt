@@ -9,7 +9,7 @@ use Rattle.ciborium_ll.specs.Head.{within, one_byte, two_bytes, four_bytes, eigh
 use Rattle.ciborium_ll.specs.ProperItems.{IsArgument}
 use Rattle.ciborium_ll.specs.Refusal as refusal
 use Rattle.ciborium_ll.specs.Refusal.{Refusal, syntax, semantic, Float, Break, head_refusal, IsUsable, HasHead}
-use Rattle.ciborium_ll.specs.StringRefusal.{StringKind, of_bytes, of_text, major_of, IsAllowed, PayloadRefuses}
+use Rattle.ciborium_ll.specs.StringRefusal.{StringKind, of_bytes, of_text, string_major, IsAllowed, PayloadRefuses}
 use Rattle.ciborium_ll.proofs.FrontHeads.{Front, nothing, counted, opened, plain, raw, front}
 use Rattle.ciborium_ll.proofs.ReadHeads.{Face, faces}
 use Rattle.ciborium_ll.proofs.ShortestHead.{no_other_is_as_short}
@@ -72,7 +72,7 @@ module _ (order : KeyOrder) where
 
   -- ---- strings
 
-  string-encoding : (c : StringKind) (y : List ℕ) → encoding (string_tree c y) ≡ shortest_head (major_of c) (length y) ++ y
+  string-encoding : (c : StringKind) (y : List ℕ) → encoding (string_tree c y) ≡ shortest_head (string_major c) (length y) ++ y
   string-encoding of_bytes y = refl
   string-encoding of_text y = refl
 
@@ -83,7 +83,7 @@ module _ (order : KeyOrder) where
   string-accepted of_bytes y l ok h few = (record { proper = (ok, few); folds = refl; rises = tt }, omega arith)
   string-accepted of_text y l ok h few = (record { proper = (ok, (are_bytes y h, few)); folds = refl; rises = tt }, omega arith)
 
-  string-meets : (c : StringKind) (b r : List ℕ) (p l n q : ℕ) → HasShortHead (major_of c) n b p r q → EachIsByte b → q + n ≤ greatest_offset → Meets b p l (string c n r p q)
+  string-meets : (c : StringKind) (b r : List ℕ) (p l n q : ℕ) → HasShortHead (string_major c) n b p r q → EachIsByte b → q + n ≤ greatest_offset → Meets b p l (string c n r p q)
   string-meets c b r p l n q h each room =
       cond_both (ltb (length r) n) _ _ (Meets b p l) (λ t. DeterministicallyRefuses.string c n r q h (PayloadRefuses.ends_early (ltb-true _ _ t)))
       (λ t. let enough : n ≤ length r = ltb-false _ _ t in
@@ -91,12 +91,12 @@ module _ (order : KeyOrder) where
       let x : List ℕ = drop n r in
       let ly : length y ≡ n = length-take-le n r enough in
       let split : r ≡ y ++ x = sym (take-append-drop n r) in
-      let f : List ℕ = shortest_head (major_of c) n in
+      let f : List ℕ = shortest_head (string_major c) n in
       let bytes_of : EachIsByte y = take_bytes n r (rest-bytes b f r h.split each) in
-      let se : encoding (string_tree c y) ≡ f ++ y = string-encoding c y ∙ ap (λ j. shortest_head (major_of c) j ++ y) ly in
+      let se : encoding (string_tree c y) ≡ f ++ y = string-encoding c y ∙ ap (λ j. shortest_head (string_major c) j ++ y) ly in
       let ls : length (encoding (string_tree c y)) ≡ length f + length y = ap length se ∙ length-append f y in
       let at : q ≡ p + length f = h.at in
-      cond_both (allowed (major_of c) y) _ _ (Meets b p l)
+      cond_both (allowed (string_major c) y) _ _ (Meets b p l)
       (λ u. (
         string-accepted c y l (kind_ok c y bytes_of u) bytes_of (omega (arith, ly, room)),
         h.split ∙ ap (λ (z : List ℕ). f ++ z) split ∙ sym (append_assoc f y x) ∙ ap (λ (z : List ℕ). z ++ x) (sym se),

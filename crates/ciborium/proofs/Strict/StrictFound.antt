@@ -6,7 +6,7 @@ use Rattle.ciborium_ll.specs.Bytes.{greatest_offset}
 use Rattle.ciborium_ll.specs.Head.{shortest_head}
 use Rattle.ciborium_ll.specs.ProperItems.{IsArgument}
 use Rattle.ciborium_ll.specs.Refusal.{Refusal, HasHead, IsUsable}
-use Rattle.ciborium_ll.specs.StringRefusal.{StringKind, of_bytes, of_text, major_of, IsAllowed}
+use Rattle.ciborium_ll.specs.StringRefusal.{StringKind, of_bytes, of_text, string_major, IsAllowed}
 use Rattle.ciborium_ll.proofs.FrontHeads.{front, front-simple}
 use Rattle.ciborium_ll.proofs.ShortestHead.{shortest_is_head}
 use Rattle.ciborium_ll.proofs.UsableHeads.{stands-usable, stands-front, stands-length, IsStringMajor, pass}
@@ -45,12 +45,12 @@ pub short-usable : (m n p : ℕ) (b r : List ℕ) → m < 7 → IsArgument n →
 short-usable m n p b r lt h e room string_room =
     stands-usable b m n (length (shortest_head m n)) p r lt (short-stands m n b r h e) room string_room
 
-pub string-good : (c : StringKind) (n p q : ℕ) (y r x : List ℕ) → r ≡ y ++ x → n ≡ length y → allowed (major_of c) y ≡ true → string c n r p q ≡ ends (string_tree c y) x (q + n)
+pub string-good : (c : StringKind) (n p q : ℕ) (y r x : List ℕ) → r ≡ y ++ x → n ≡ length y → allowed (string_major c) y ≡ true → string c n r p q ≡ ends (string_tree c y) x (q + n)
 string-good c n p q y r x e k h =
     let room : length r ≡ length y + length x = ap length e ∙ length-append y x in
     let t : take n r ≡ y = ap (λ j. take j r) k ∙ ap (take (length y)) e ∙ take-append_seam y x in
     let u : drop n r ≡ x = ap (λ j. drop j r) k ∙ ap (drop (length y)) e ∙ drop-append_seam y x in
-    pass _ _ _ (le-ltb (length r) n (omega (arith, room, k))) ∙ hold _ _ _ (ap (allowed (major_of c)) t ∙ h) ∙
+    pass _ _ _ (le-ltb (length r) n (omega (arith, room, k))) ∙ hold _ _ _ (ap (allowed (string_major c)) t ∙ h) ∙
     ap (λ (z : List ℕ). ends (string_tree c z) (drop n r) (q + n)) t ∙ ap (λ (z : List ℕ). ends (string_tree c y) z (q + n)) u
 
 pub container_below : (kind : ContainerKind) → container_major kind < 7
@@ -91,14 +91,14 @@ module _ (order : KeyOrder) where
 
   -- ---- strings and simple values
 
-  pub string-chosen : (c : StringKind) (d n p q l : ℕ) (r : List ℕ) → counted_item (read order d) (opening d) (major_of c) n r p q l ≡ string c n r p q
+  pub string-chosen : (c : StringKind) (d n p q l : ℕ) (r : List ℕ) → counted_item (read order d) (opening d) (string_major c) n r p q l ≡ string c n r p q
   string-chosen of_bytes d n p q l r = refl
   string-chosen of_text d n p q l r = refl
 
-  string_found : (c : StringKind) (d p q l : ℕ) (y s x b : List ℕ) → IsAllowed c y → length y ≤ greatest_offset → s ≡ shortest_head (major_of c) (length y) ++ y →
+  string_found : (c : StringKind) (d p q l : ℕ) (y s x b : List ℕ) → IsAllowed c y → length y ≤ greatest_offset → s ≡ shortest_head (string_major c) (length y) ++ y →
       b ≡ s ++ x → q ≡ p + length s → q ≤ greatest_offset → read order (suc d) b p l ≡ ends (string_tree c y) x q
   string_found c d p q l y s x b ok few f e k room =
-      let m : ℕ = major_of c in
+      let m : ℕ = string_major c in
       let n : ℕ = length y in
       let h : List ℕ = shortest_head m n in
       let fits : IsArgument n = omega (arith, few) in

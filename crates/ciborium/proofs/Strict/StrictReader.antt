@@ -5,7 +5,7 @@ use Rattle.std.specs.declared.cmp.Ordering.TheVariants.{Less, Equal, Greater}
 use Rattle.ciborium_ll.specs.Head.{shortest_head}
 use Rattle.ciborium_ll.specs.Refusal.{Refusal, io, syntax, semantic, recursion_limit_exceeded, Float, Simple, Break, TooLarge, NotShortest, NotFolded, head_refusal}
 use Rattle.ciborium_ll.specs.Refusal as refusal
-use Rattle.ciborium_ll.specs.StringRefusal.{StringKind, of_bytes, of_text, major_of}
+use Rattle.ciborium_ll.specs.StringRefusal.{StringKind, of_bytes, of_text, string_major}
 use Rattle.ciborium_ll.proofs.FrontHeads.{Front, nothing, counted, opened, plain, raw, front}
 use Rattle.ciborium_value.specs.Canonical.{key_order}
 use Rattle.ciborium_value.specs.Tree.{Tree, integer, bytes, text, boolean, null, tag, array, map, Trees, no_trees, tree, TreePairs, no_tree_pairs, tree_pair}
@@ -43,7 +43,7 @@ string_tree of_text y = text y
 abbrev pub string : StringKind → ℕ → List ℕ → ℕ → ℕ → Answer
 string k n r p q =
     cond (ltb (length r) n) (refused io)
-    (cond (allowed (major_of k) (take n r)) (ends (string_tree k (take n r)) (drop n r) (q + n)) (refused (syntax p)))
+    (cond (allowed (string_major k) (take n r)) (ends (string_tree k (take n r)) (drop n r) (q + n)) (refused (syntax p)))
 
 -- ---- containers
 

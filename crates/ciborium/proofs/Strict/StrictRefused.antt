@@ -5,7 +5,7 @@ use Rattle.std.proofs.Math.Seq.{take-append_seam}
 use Rattle.ciborium_ll.specs.Head.{shortest_head}
 use Rattle.ciborium_ll.specs.Refusal as refusal
 use Rattle.ciborium_ll.specs.Refusal.{Refusal, semantic, Float, Simple, NotShortest, HeadRefuses, IsUsable, HasHead}
-use Rattle.ciborium_ll.specs.StringRefusal.{StringKind, of_bytes, major_of, PayloadRefuses}
+use Rattle.ciborium_ll.specs.StringRefusal.{StringKind, of_bytes, string_major, PayloadRefuses}
 use Rattle.ciborium_ll.proofs.FrontHeads.{Front, counted, opened, plain, raw, front, front_open}
 use Rattle.ciborium_ll.proofs.UsableHeads.{EachIsByte, bytes_after, stands-front, stands-length, pass}
 use Rattle.ciborium_value.specs.Encoding.{encoding}
@@ -57,7 +57,7 @@ module _ (order : KeyOrder) where
   payload-refused c {n} {r = r} (PayloadRefuses.ends_early h) each q = hold _ _ _ (lt-ltb (length r) n h)
   payload-refused c {n} {p} (PayloadRefuses.not_allowed y r l h) each q =
       pass _ _ _ (le-ltb (length (y ++ r)) n (omega (arith, l, length-append y r))) ∙
-      pass _ _ _ (ap (λ k. allowed (major_of c) (take k (y ++ r))) (sym l) ∙ ap (allowed (major_of c)) (take-append_seam y r) ∙
+      pass _ _ _ (ap (λ k. allowed (string_major c) (take k (y ++ r))) (sym l) ∙ ap (allowed (string_major c)) (take-append_seam y r) ∙
       not_so _ (λ t. h (kind_ok c y (front_bytes y r each) t)))
 
   no_meaning : (n p q : ℕ) (r : List ℕ) → simple_meaning n ≡ None → plain_item n r p q ≡ refused (semantic p Simple)
@@ -135,7 +135,7 @@ module _ (order : KeyOrder) where
   refusal-read {b} {p} {l} (DeterministicallyRefuses.undefined r h at) x d fuel =
       head-at d p l b (plain 23 r) (omega (arith, fuel)) h (ap front at)
   refusal-read {b} {p} {l} {e} (DeterministicallyRefuses.string c n r q h f) x d fuel =
-      short-at d p q (major_of c) n l b r (omega (arith, fuel)) (kind_below c) h ∙ string-chosen order c (d - 1) n p q l r ∙ payload-refused c f (short-bytes p q (major_of c) n b r h x) q
+      short-at d p q (string_major c) n l b r (omega (arith, fuel)) (kind_below c) h ∙ string-chosen order c (d - 1) n p q l r ∙ payload-refused c f (short-bytes p q (string_major c) n b r h x) q
   refusal-read {p = p} {l = l} (DeterministicallyRefuses.float {x} {b = b} h lo hi) y d fuel = float_refused d p l x b (omega (arith, fuel)) h lo hi
   refusal-read {b} {p} {l} (DeterministicallyRefuses.simple s n r h is none at) x d fuel =
       head-at d p l b (plain n r) (omega (arith, fuel)) h (ap front at ∙ simple-front s n r is) ∙ no_meaning n p (past p b r) r none

@@ -4,7 +4,7 @@ use Rattle.ciborium_ll.specs.declared.header.Header.{Header}
 use Rattle.ciborium_ll.specs.declared.header.Header.TheVariants as header
 use Rattle.ciborium_ll.specs.declared.decoder.Decoder.{Decoder}
 use Rattle.ciborium_ll.specs.Bytes.{AreBytes}
-use Rattle.ciborium_ll.specs.Decoding.{IsAhead, IsAheadBy, IsUnread, offset_of, left_of}
+use Rattle.ciborium_ll.specs.Decoding.{IsAhead, IsAheadBy, ReadsNothing, offset_of, left_of}
 use Rattle.ciborium_ll.specs.Head.{IsHead}
 use Rattle.ciborium_ll.specs.Header.{SpellsHeader}
 use Rattle.ciborium_ll.specs.Item as item
@@ -16,7 +16,7 @@ use Rattle.ciborium_value.specs.declared.stack.Opening.TheVariants as opening
 use Rattle.ciborium_value.specs.Meaning.{meaning, tag_meaning, folding_bytes, bignum_meaning, is_bignum_tag, big_endian}
 use Rattle.ciborium_value.specs.Nesting.{nesting, tag_nesting}
 use Rattle.ciborium_value.specs.Refuses.{Refuses, IsFoldingAt}
-use Rattle.ciborium_value.specs.inner.Stack.{opened}
+use Rattle.ciborium_value.specs.inner.Stack.{begun_frame}
 use Rattle.ciborium_value.specs.Tree.{Tree}
 use Rattle.ciborium_value.specs.View.{tree_of}
 use Rattle.ciborium_value.proofs.GoodItems.Found.{bignum_meaning-some}
@@ -24,7 +24,7 @@ use Rattle.ciborium.proofs.Turns.ItemsRead.{item-read}
 use Rattle.ciborium.specs.declared.de.error.Error.{Error}
 use Rattle.ciborium.specs.inner.Around.{IsInTag}
 use Rattle.ciborium_ll.specs.StringRefusal.{PayloadRefuses}
-use Rattle.ciborium.specs.inner.Parts.{IsHeadRead, IsBignumRead, BignumRefuses, IsFolding, IsBegun}
+use Rattle.ciborium.specs.inner.Parts.{IsHeadRead, IsBignumRead, BignumRefuses, IsFolding, IsFrameBegun}
 use Rattle.ciborium.specs.inner.ValuesInBytes.{ReadsItem, IsAt, IsPulled, IsBreakAt}
 use Rattle.ciborium.specs.Spelling.{any}
 use Rattle.ciborium.proofs.Turns.Contents.{string-room}
@@ -65,7 +65,7 @@ tag-no-level E remaining d e t l xs p k pushed pull other none a =
     (subst (λ n. Refuses xs p (Some n) recursion_limit_exceeded) (sym none) (Refuses.no_tag_level t (length a.0) a.1 a.3 (stands remaining d t xs p a) b.3 (folds-not t k b.0 a.1 b.1 other b.2 b.4)), no-break-tag remaining d t xs p a)
 
 pub tag-opened : (E : Type 0) {S : Type 0} (remaining : S → Option (List ℕ)) (d e f : Decoder S) (t l at : ℕ) (xs : List ℕ) (p : ℕ) (k : Header) → d.pushed ≡ None → PullsSo {E = E} remaining d e (Ok k) → IsFolding t k None → (l ≡ 0 → ⊥) →
-    at ≡ offset_of d → IsUnread e f → f.pushed ≡ Some (k, at) → IsPulled remaining d (header.Tag t) xs p → (zs : List ℕ) × (r : ℕ) × IsBegun any l xs p (opened (opening.Tag t)) zs r × IsAhead remaining f zs r
+    at ≡ offset_of d → ReadsNothing e f → f.pushed ≡ Some (k, at) → IsPulled remaining d (header.Tag t) xs p → (zs : List ℕ) × (r : ℕ) × IsFrameBegun any l xs p (begun_frame (opening.Tag t)) zs r × IsAhead remaining f zs r
 tag-opened E remaining d e f t l at xs p k pushed pull other some here stays back a =
     let ahead = behind remaining d t xs p pushed a in
     let b = pull a.1 (p + length a.0) ahead in

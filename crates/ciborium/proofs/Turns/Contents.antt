@@ -10,7 +10,7 @@ use Rattle.ciborium_ll.specs.Head.{IsHead, information, argument_bytes, initial_
 use Rattle.ciborium_ll.specs.Header.{SpellsHeader, IsCounted}
 use Rattle.ciborium_ll.specs.Item as item
 use Rattle.ciborium_ll.specs.Refusal.{Refusal, IsUsable, argument_length, payload_length}
-use Rattle.ciborium_ll.specs.StringRefusal.{StringKind, of_bytes, of_text, major_of, IsAllowed, ContentRefuses, PayloadRefuses, PartsRefuse}
+use Rattle.ciborium_ll.specs.StringRefusal.{StringKind, of_bytes, of_text, string_major, IsAllowed, ContentRefuses, PayloadRefuses, ChunksRefuse}
 use Rattle.ciborium_ll.specs.Strings.{IsStringTaken}
 use Rattle.ciborium_ll.proofs.ReadHeads.{payload_length-is}
 use Rattle.ciborium_ll.proofs.UsableHeads.{usable-fits, HeadFits, information-below, argument-information, argument_length-information}
@@ -32,7 +32,7 @@ abbrev pub header_of : StringKind → Option ℕ → Header
 header_of of_bytes len = header.Bytes len
 header_of of_text len = header.Text len
 
-counted : (kind : StringKind) (len : Option ℕ) (b : List ℕ) → SpellsHeader b (header_of kind len) → IsCounted b (major_of kind) len
+counted : (kind : StringKind) (len : Option ℕ) (b : List ℕ) → SpellsHeader b (header_of kind len) → IsCounted b (string_major kind) len
 counted of_bytes len b s = s
 counted of_text len b s = s
 
@@ -75,17 +75,17 @@ string-room m n p xs b r kind (w, h, i) u e =
     let len : length b ≡ suc (length c) = ap length i in
     omega (arith, f.3, paid, size, len)
 
-of-kind : (kind : StringKind) → (major_of kind ≡ 2) ⊎ (major_of kind ≡ 3)
+of-kind : (kind : StringKind) → (string_major kind ≡ 2) ⊎ (string_major kind ≡ 3)
 of-kind of_bytes = inl refl
 of-kind of_text = inr refl
 
 content-refuses : (kind : StringKind) (len : Option ℕ) (l at : ℕ) (xs : List ℕ) (p : ℕ) (b r : List ℕ) (e : Refusal) → at ≡ p → Front xs p (header_of kind len) b r → ContentRefuses kind len at r (p + length b) e → Refuses xs p (Some l) e
-content-refuses kind (Some n) l at xs p b r e here u (inl (over, is)) = let room = string-room (major_of kind) n p xs b r (of-kind kind) (counted kind (Some n) b u.spelled) u.usable u.split in absurd (omega (arith, room, over))
+content-refuses kind (Some n) l at xs p b r e here u (inl (over, is)) = let room = string-room (string_major kind) n p xs b r (of-kind kind) (counted kind (Some n) b u.spelled) u.usable u.split in absurd (omega (arith, room, over))
 content-refuses kind (Some n) l at xs p b r e here u (inr (within, refuses)) =
     Refuses.string kind u.usable (n, length b, r, (b, counted kind (Some n) b u.spelled, refl, u.split), subst (λ k. PayloadRefuses kind n k r e) here refuses)
 content-refuses kind None l at xs p b r e here u refuses =
     let is = counted kind None b u.spelled in
-    Refuses.open_string kind u.usable (r, u.split ∙ ap (λ (z : List ℕ). z ++ r) is, subst (λ k. PartsRefuse kind r (p + k) e) (ap length is) refuses)
+    Refuses.open_string kind u.usable (r, u.split ∙ ap (λ (z : List ℕ). z ++ r) is, subst (λ k. ChunksRefuse kind r (p + k) e) (ap length is) refuses)
 
 -- ---- answers
 

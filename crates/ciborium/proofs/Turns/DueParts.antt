@@ -6,8 +6,8 @@ use Rattle.ciborium_ll.specs.declared.header.Header.{Header}
 use Rattle.ciborium_ll.specs.Decoding.{HasSameReader, count_of, reach_of}
 use Rattle.ciborium_value.specs.declared.stack.Opening.{Opening}
 use Rattle.ciborium_value.specs.declared.tree.Value.{Value}
-use Rattle.ciborium_value.specs.inner.Frames.{Open, array, map, tag, done, more, placed, closed, parts_due, due_behind}
-use Rattle.ciborium_value.specs.inner.Stack.{opened}
+use Rattle.ciborium_value.specs.inner.Frames.{TreeFrame, array, map, tag, done, more, placed, closed, parts_due, due_behind}
+use Rattle.ciborium_value.specs.inner.Stack.{begun_frame}
 use Rattle.ciborium_value.specs.Tree as trees
 use Rattle.ciborium_value.specs.Tree.{Tree}
 use Rattle.ciborium_value.specs.View.{tree_of, trees_from, tree_pairs_from}
@@ -21,7 +21,7 @@ use Rattle.ciborium.specs.Spelling.{Spelling}
 
 -- ---- what is due
 
-due-inside : (os : List Open) → parts_due os ≤ 1 + due_behind os
+due-inside : (os : List TreeFrame) → parts_due os ≤ 1 + due_behind os
 due-inside [] = omega arith
 due-inside (array vs (Some n) ∷ os) = omega arith
 due-inside (array vs None ∷ os) = omega arith
@@ -31,7 +31,7 @@ due-inside (map ps None key ∷ os) = omega arith
 due-inside (tag t ∷ os) = omega arith
 
 -- a container or tag that is opened
-due-opened : (o : Open) (os : List Open) → due_behind os ≤ due_behind (o ∷ os)
+due-opened : (o : TreeFrame) (os : List TreeFrame) → due_behind os ≤ due_behind (o ∷ os)
 due-opened (array vs (Some n)) os = omega arith
 due-opened (array vs None) os = omega arith
 due-opened (map ps (Some n) None) os = omega arith
@@ -39,7 +39,7 @@ due-opened (map ps (Some n) (Some k)) os = omega arith
 due-opened (map ps None key) os = omega arith
 due-opened (tag t) os = omega arith
 
-parts-opened : (o : Open) (os : List Open) → parts_due (o ∷ os) ≡ parts_due (o ∷ [])
+parts-opened : (o : TreeFrame) (os : List TreeFrame) → parts_due (o ∷ os) ≡ parts_due (o ∷ [])
 parts-opened (array vs (Some n)) os = refl
 parts-opened (array vs None) os = refl
 parts-opened (map ps (Some n) None) os = refl
@@ -47,11 +47,11 @@ parts-opened (map ps (Some n) (Some k)) os = refl
 parts-opened (map ps None key) os = refl
 parts-opened (tag t) os = refl
 
-same-open : (os us : List Open) → more us ≡ more os → os ≡ us
+same-open : (os us : List TreeFrame) → more us ≡ more os → os ≡ us
 same-open os us e = cc
 
 -- a value that is placed is one part
-due-placed : (os us : List Open) (v : Tree) → more us ≡ placed os v → due_behind os ≤ 1 + due_behind us
+due-placed : (os us : List TreeFrame) (v : Tree) → more us ≡ placed os v → due_behind os ≤ 1 + due_behind us
 due-placed [] us v e = absurd cc
 due-placed (array vs None ∷ os) us v e = let k = ap due_behind (same-open (array (vs ++ v ∷ []) None ∷ os) us e) in omega (arith, k)
 due-placed (array vs (Some (suc n)) ∷ os) us v e = let k = ap due_behind (same-open (array (vs ++ v ∷ []) (Some n) ∷ os) us e) in omega (arith, k)
@@ -64,7 +64,7 @@ due-placed (map ps (Some zero) (Some k) ∷ os) us v e = let j = due-placed os u
 due-placed (tag t ∷ os) us v e = let k = due-placed os us (trees.tag t v) e in omega (arith, k)
 
 -- where it is the last, none is due
-due-done : (os : List Open) (v w : Tree) → done w ≡ placed os v → due_behind os ≡ 0
+due-done : (os : List TreeFrame) (v w : Tree) → done w ≡ placed os v → due_behind os ≡ 0
 due-done [] v w e = refl
 due-done (array vs None ∷ os) v w e = absurd cc
 due-done (array vs (Some (suc n)) ∷ os) v w e = absurd cc
@@ -76,14 +76,14 @@ due-done (map ps (Some (suc n)) (Some k) ∷ os) v w e = absurd cc
 due-done (map ps (Some zero) (Some k) ∷ os) v w e = let j = due-done os (trees.map (tree_pairs_from (ps ++ (k, v) ∷ []))) w e in omega (arith, j)
 due-done (tag t ∷ os) v w e = let k = due-done os (trees.tag t v) w e in omega (arith, k)
 
-abbrev both : Tree → List Open → Tree × List Open
+abbrev both : Tree → List TreeFrame → Tree × List TreeFrame
 both v os = (v, os)
 
-some-same : (v w : Tree) (os us : List Open) → Some (both v os) ≡ Some (both w us) → os ≡ us
+some-same : (v w : Tree) (os us : List TreeFrame) → Some (both v os) ≡ Some (both w us) → os ≡ us
 some-same v w os us e = let same : both v os ≡ both w us = cc in ap (λ x. x.1) same
 
 -- a break ends what announced nothing
-pub due-closed : (os us : List Open) (v : Tree) → closed os ≡ Some (v, us) → due_behind os ≡ due_behind us
+pub due-closed : (os us : List TreeFrame) (v : Tree) → closed os ≡ Some (v, us) → due_behind os ≡ due_behind us
 due-closed [] us v e = absurd cc
 due-closed (array vs None ∷ os) us v e = ap due_behind (some-same (trees.array (trees_from vs)) v os us e)
 due-closed (array vs (Some n) ∷ os) us v e = absurd cc
@@ -105,7 +105,7 @@ heads-are : (n : ℕ) (o : Option (Header × ℕ)) → (heads_by n o ≡ 2 * n +
 heads-are n None = (omega arith, omega arith)
 heads-are n (Some h) = (refl, omega arith)
 
-module _ {S : Type 0} (reach : ℕ) (d e : Decoder S) (os : List Open) (allows : AllowsDue reach d os) where
+module _ {S : Type 0} (reach : ℕ) (d e : Decoder S) (os : List TreeFrame) (allows : AllowsDue reach d os) where
   -- as many bytes more as parts are due in the innermost container
   pub allowed-parts : (n : ℕ) → n ≤ parts_due os → e.pushed ≡ d.pushed → count_of e ≡ count_of d → reach_of e ≡ max (reach_of d) (min (count_of d + n) greatest_offset) → AllowsDue reach e os
   allowed-parts n is pushed count far = (by (within-or (reach_of e) reach) allows.0, subst (λ o. MatchOption o (Unit {0}) (λ head. parts_due os ≡ 0)) (sym pushed) allows.1)
@@ -134,7 +134,7 @@ module _ {S : Type 0} (reach : ℕ) (d e : Decoder S) (os : List Open) (allows :
     fits = (d.window.fits, e.window.fits)
 
     -- one part was taken
-    taken-part : (us : List Open) → due_behind os ≤ 1 + due_behind us → e.pushed ≡ None → AllowsDue reach e us
+    taken-part : (us : List TreeFrame) → due_behind os ≤ 1 + due_behind us → e.pushed ≡ None → AllowsDue reach e us
     taken-part us less none = (by allows.0, subst (λ o. MatchOption o (Unit {0}) (λ head. parts_due us ≡ 0)) (sym none) tt)
       where
         by : (reach_of d ≤ reach) ⊎ (reach_of d + pushed_count d.pushed ≤ count_of d + 1 + due_behind os) → (reach_of e ≤ reach) ⊎ (reach_of e + pushed_count e.pushed ≤ count_of e + 1 + due_behind us)
@@ -150,23 +150,23 @@ module _ {S : Type 0} (reach : ℕ) (d e : Decoder S) (os : List Open) (allows :
         by (inr low) = let b = before in let a = after in let f = fits in omega (arith, same, low, last, fewer, ap pushed_count none, b.0, b.1, a.0, f.0, f.1)
 
     -- a value was placed in what is open, or in what a break left open
-    pub allowed-placed : {E : Type 0} (spelling : Spelling) (between after : List Open) (v : Tree) (end : ℕ) (x : Result (Option Value) (Error E)) → due_behind os ≡ due_behind between → e.pushed ≡ None → IsPlacedInOrder spelling between v end after x →
+    pub allowed-placed : {E : Type 0} (spelling : Spelling) (between after : List TreeFrame) (v : Tree) (end : ℕ) (x : Result (Option Value) (Error E)) → due_behind os ≡ due_behind between → e.pushed ≡ None → IsPlacedInOrder spelling between v end after x →
         IfOk x (AllowsThen reach e after)
     allowed-placed spelling between after v end (Ok None) same_due none (is, order) = let k = due-placed between after v is in taken-part after (omega (arith, k, same_due)) none
     allowed-placed spelling between after v end (Ok (Some w)) same_due none is = taken-last (same_due ∙ due-done between v (tree_of w) is) none
     allowed-placed spelling between after v end (Err x) same_due none is = tt
 
     -- a container or tag was opened
-    pub allowed-opened : (f : Opening) (after : List Open) → after ≡ opened f ∷ os → MatchOption e.pushed (Unit {0}) (λ head. parts_due (opened f ∷ []) ≡ 0) → AllowsDue reach e after
+    pub allowed-opened : (f : Opening) (after : List TreeFrame) → after ≡ begun_frame f ∷ os → MatchOption e.pushed (Unit {0}) (λ head. parts_due (begun_frame f ∷ []) ≡ 0) → AllowsDue reach e after
     allowed-opened f us is rests = subst (AllowsDue reach e) (sym is) (by allows.0, apart e.pushed rests)
       where
-        apart : (o : Option (Header × ℕ)) → MatchOption o (Unit {0}) (λ head. parts_due (opened f ∷ []) ≡ 0) → MatchOption o (Unit {0}) (λ head. parts_due (opened f ∷ os) ≡ 0)
+        apart : (o : Option (Header × ℕ)) → MatchOption o (Unit {0}) (λ head. parts_due (begun_frame f ∷ []) ≡ 0) → MatchOption o (Unit {0}) (λ head. parts_due (begun_frame f ∷ os) ≡ 0)
         apart None h = tt
-        apart (Some k) h = parts-opened (opened f) os ∙ h
+        apart (Some k) h = parts-opened (begun_frame f) os ∙ h
 
-        by : (reach_of d ≤ reach) ⊎ (reach_of d + pushed_count d.pushed ≤ count_of d + 1 + due_behind os) → (reach_of e ≤ reach) ⊎ (reach_of e + pushed_count e.pushed ≤ count_of e + 1 + due_behind (opened f ∷ os))
+        by : (reach_of d ≤ reach) ⊎ (reach_of d + pushed_count d.pushed ≤ count_of d + 1 + due_behind os) → (reach_of e ≤ reach) ⊎ (reach_of e + pushed_count e.pushed ≤ count_of e + 1 + due_behind (begun_frame f ∷ os))
         by (inl low) = inl (omega (arith, same, low))
-        by (inr low) = inr (let k = due-opened (opened f) os in let b = before in let a = after in let g = fits in omega (arith, same, low, k, fewer, b.0, b.1, a.0, a.1, g.0, g.1))
+        by (inr low) = inr (let k = due-opened (begun_frame f) os in let b = before in let a = after in let g = fits in omega (arith, same, low, k, fewer, b.0, b.1, a.0, a.1, g.0, g.1))
 
 -- ---- the same place
 
@@ -181,7 +181,7 @@ heads-same d e pushed count = ap (λ n. heads_by (greatest_offset - n) e.pushed)
 
 -- ---- the beginning
 
-pub allowed-first : {S : Type 0} (d : Decoder S) (os : List Open) → os ≡ [] → AllowsDue (reach_of d) d os
+pub allowed-first : {S : Type 0} (d : Decoder S) (os : List TreeFrame) → os ≡ [] → AllowsDue (reach_of d) d os
 allowed-first d os none = subst (AllowsDue (reach_of d) d) (sym none) (inl (omega arith), by d.pushed)
   where
     by : (o : Option (Header × ℕ)) → MatchOption o (Unit {0}) (λ head. parts_due [] ≡ 0)

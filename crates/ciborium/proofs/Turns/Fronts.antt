@@ -16,7 +16,7 @@ use Rattle.ciborium_ll.proofs.HeadAnswers as answers
 use Rattle.ciborium_ll.proofs.UsableHeads.{usable-fits, HeadFits}
 use Rattle.ciborium_ll.proofs.OneHeader.{one_header_at_front}
 use Rattle.ciborium_value.specs.Meaning.{simple_meaning}
-use Rattle.ciborium_value.specs.Refuses.{Refuses, HasOpening, exactly}
+use Rattle.ciborium_value.specs.Refuses.{Refuses, BeginsContainer, exactly}
 use Rattle.ciborium_value.specs.Tree as trees
 use Rattle.ciborium_value.specs.Tree.{Tree}
 use Rattle.ciborium_value.specs.View.{tree_of}
@@ -159,13 +159,13 @@ map-stands : (count : Option ℕ) (xs : List ℕ) (p : ℕ) (b r : List ℕ) →
 map-stands (Some n) xs p b r u = (b, u.spelled, refl, u.split)
 map-stands None xs p b r u = (ap length u.spelled, u.split ∙ ap (λ (z : List ℕ). z ++ r) u.spelled)
 
-array-opens : (count : Option ℕ) (xs : List ℕ) (p : ℕ) (b r : List ℕ) → Front xs p (header.Array count) b r → HasOpening xs (length b) r (array_due count)
-array-opens (Some n) xs p b r u = HasOpening.array n (b, u.spelled, refl, u.split)
-array-opens None xs p b r u = HasOpening.open_array (ap length u.spelled) (u.split ∙ ap (λ (z : List ℕ). z ++ r) u.spelled)
+array-opens : (count : Option ℕ) (xs : List ℕ) (p : ℕ) (b r : List ℕ) → Front xs p (header.Array count) b r → BeginsContainer xs (length b) r (array_due count)
+array-opens (Some n) xs p b r u = BeginsContainer.array n (b, u.spelled, refl, u.split)
+array-opens None xs p b r u = BeginsContainer.open_array (ap length u.spelled) (u.split ∙ ap (λ (z : List ℕ). z ++ r) u.spelled)
 
-map-opens : (count : Option ℕ) (xs : List ℕ) (p : ℕ) (b r : List ℕ) → Front xs p (header.Map count) b r → HasOpening xs (length b) r (map_due count)
-map-opens (Some n) xs p b r u = HasOpening.map n (b, u.spelled, refl, u.split)
-map-opens None xs p b r u = HasOpening.open_map (ap length u.spelled) (u.split ∙ ap (λ (z : List ℕ). z ++ r) u.spelled)
+map-opens : (count : Option ℕ) (xs : List ℕ) (p : ℕ) (b r : List ℕ) → Front xs p (header.Map count) b r → BeginsContainer xs (length b) r (map_due count)
+map-opens (Some n) xs p b r u = BeginsContainer.map n (b, u.spelled, refl, u.split)
+map-opens None xs p b r u = BeginsContainer.open_map (ap length u.spelled) (u.split ∙ ap (λ (z : List ℕ). z ++ r) u.spelled)
 
 array-inside : (count behind : Option ℕ) (l : ℕ) (xs : List ℕ) (p : ℕ) (b r : List ℕ) → IsBehind count behind → Front xs p (header.Array count) b r →
     IsInContainer 4 count (array_due count) (due_in (opened.array [] behind)) l xs p [] r (p + length b)

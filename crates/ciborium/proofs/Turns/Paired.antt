@@ -7,13 +7,13 @@ use Rattle.ciborium_value.specs.Tree.{Tree, Trees, TreePairs}
 use Rattle.ciborium_value.specs.Meaning.{meaning, items_meaning, pairs_meaning, trees_more, tree_pairs_more}
 use Rattle.ciborium_value.specs.Nesting.{items_nesting, pairs_nesting}
 use Rattle.ciborium_value.specs.View.{trees_from, tree_pairs_from}
-use Rattle.ciborium.specs.inner.Around.{in_turn}
+use Rattle.ciborium.specs.inner.Around.{trees_in_turn}
 
-pub in_turn-key : (ps : List (Tree × Tree)) (k : Tree) → in_turn ps None ++ k ∷ [] ≡ in_turn ps (Some k)
+pub in_turn-key : (ps : List (Tree × Tree)) (k : Tree) → trees_in_turn ps None ++ k ∷ [] ≡ trees_in_turn ps (Some k)
 in_turn-key [] k = refl
 in_turn-key (p ∷ ps) k = ap (λ vs. p.0 ∷ p.1 ∷ vs) (in_turn-key ps k)
 
-pub in_turn-value : (ps : List (Tree × Tree)) (k v : Tree) → in_turn ps (Some k) ++ v ∷ [] ≡ in_turn (ps ++ (k, v) ∷ []) None
+pub in_turn-value : (ps : List (Tree × Tree)) (k v : Tree) → trees_in_turn ps (Some k) ++ v ∷ [] ≡ trees_in_turn (ps ++ (k, v) ∷ []) None
 in_turn-value [] k v = refl
 in_turn-value (p ∷ ps) k v = ap (λ vs. p.0 ∷ p.1 ∷ vs) (in_turn-value ps k v)
 
@@ -41,16 +41,16 @@ more-none (Some w) (Some ws) e = cc
 pairs-more : (m n : Option Tree) (ms : Option TreePairs) (k v : Tree) (ps : TreePairs) → m ≡ Some k → n ≡ Some v → ms ≡ Some ps → tree_pairs_more m n ms ≡ Some (trees.tree_pair k v ps)
 pairs-more m n ms k v ps e f g = ap (λ x. tree_pairs_more x n ms) e ∙ ap (λ x. tree_pairs_more (Some k) x ms) f ∙ ap (λ x. tree_pairs_more (Some k) (Some v) x) g
 
-pub paired-is : (is : Items) (ps : List (Tree × Tree)) (b : List ℕ) → SpellsItems b is → items_meaning is ≡ Some (trees_from (in_turn ps None)) →
+pub paired-is : (is : Items) (ps : List (Tree × Tree)) (b : List ℕ) → SpellsItems b is → items_meaning is ≡ Some (trees_from (trees_in_turn ps None)) →
     SpellsPairs b (paired is) × (pairs_meaning (paired is) ≡ Some (tree_pairs_from ps)) × (2 * pairs_count (paired is) ≡ items_count is)
 paired-is no_items [] b s m = (s, refl, refl)
 paired-is no_items (p ∷ ps) b s m = absurd cc
 paired-is (item i no_items) [] b s m = absurd (more-none (meaning i) (items_meaning no_items) m)
-paired-is (item i no_items) (p ∷ ps) b s m = let x = more-is (meaning i) (items_meaning no_items) p.0 (trees.tree p.1 (trees_from (in_turn ps None))) m in let second = x.1 in absurd cc
+paired-is (item i no_items) (p ∷ ps) b s m = let x = more-is (meaning i) (items_meaning no_items) p.0 (trees.tree p.1 (trees_from (trees_in_turn ps None))) m in let second = x.1 in absurd cc
 paired-is (item i (item j is)) [] b s m = absurd (more-none (meaning i) (items_meaning (item j is)) m)
 paired-is (item i (item j is)) (p ∷ ps) b s m =
-    let x = more-is (meaning i) (items_meaning (item j is)) p.0 (trees.tree p.1 (trees_from (in_turn ps None))) m in
-    let y = more-is (meaning j) (items_meaning is) p.1 (trees_from (in_turn ps None)) x.1 in
+    let x = more-is (meaning i) (items_meaning (item j is)) p.0 (trees.tree p.1 (trees_from (trees_in_turn ps None))) m in
+    let y = more-is (meaning j) (items_meaning is) p.1 (trees_from (trees_in_turn ps None)) x.1 in
     let t = s.3 in
     let z = paired-is is ps t.1 t.3 y.1 in
     let n = z.2 in

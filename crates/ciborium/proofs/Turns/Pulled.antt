@@ -6,7 +6,7 @@ use Rattle.ciborium_ll.specs.declared.header.Error.{Error as LlError}
 use Rattle.ciborium_ll.specs.declared.header.Error.TheVariants as ll
 use Rattle.ciborium_ll.specs.declared.decoder.Decoder.{Decoder}
 use Rattle.ciborium_ll.specs.Bytes.{greatest_offset}
-use Rattle.ciborium_ll.specs.Decoding.{IsUnread, Takes, left_of}
+use Rattle.ciborium_ll.specs.Decoding.{ReadsNothing, Takes, left_of}
 use Rattle.ciborium_ll.specs.Header.{SpellsHeader, announced_length}
 use Rattle.ciborium_ll.specs.ReaderSteps as reading
 use Rattle.ciborium_ll.specs.ReaderSteps.{IsHeadTaken}
@@ -14,11 +14,11 @@ use Rattle.ciborium_ll.specs.Refusal.{Refusal, HeadRefuses, IsUsable, IsAtFront,
 use Rattle.ciborium_ll.proofs.HeadAnswers.{header-fits, header-begins}
 use Rattle.ciborium.specs.declared.de.error.Error.{Error}
 use Rattle.ciborium.specs.declared.de.error.Error.TheVariants as errors
-use Rattle.ciborium.specs.Errors.{from_ll, IsRefusedBy, IsNamed, kind_of}
+use Rattle.ciborium.specs.Errors.{from_ll, IsRefusedBy, IsNamed, refusal_kind_of}
 use Rattle.ciborium.specs.inner.ValuesInBytes.{IsPulled, heads_by, heads_left}
 
 -- the error that an error of the lowest layer becomes refuses as it does
-pub refused-from : {E : Type 0} (left : Option (List ℕ)) (e : LlError E) (P : Refusal → Type 0) → reading.IsRefusedBy left e P → IsRefusedBy left (from_ll e) P
+pub refused-from : {E : Type 0} (left : Option (List ℕ)) (e : LlError E) (P : Refusal → Type 0) → reading.IsRefusalOf left e P → IsRefusedBy left (from_ll e) P
 refused-from left (ll.Io e) P h = h
 refused-from left (ll.Syntax p) P h = h
 refused-from left ll.TooLong P h = h
@@ -27,7 +27,7 @@ refused-from left ll.Memory P h = tt
 pub refused-map : {E : Type 0} (left : Option (List ℕ)) (e : Error E) (P Q : Refusal → Type 0) → ((r : Refusal) → P r → Q r) → IsRefusedBy left e P → IsRefusedBy left e Q
 refused-map left (errors.Io x) P Q f a = λ end. f _ (a end)
 refused-map left (errors.Syntax p) P Q f a = f _ a
-refused-map left (errors.Semantic p k) P Q f a = named p (kind_of k) a
+refused-map left (errors.Semantic p k) P Q f a = named p (refusal_kind_of k) a
   where
     named : (p : Option ℕ) (k : Option Rattle.ciborium_ll.specs.Refusal.Kind) → IsNamed p k P → IsNamed p k Q
     named (Some p) (Some k) a = f _ a
@@ -52,10 +52,10 @@ abbrev pub answered : (E : Type 0) → Header → Result Header (LlError E)
 answered E h = Ok h
 
 pub fewer-heads : (E : Type 0) {S : Type 0} (remaining : S → Option (List ℕ)) (d e : Decoder S) (h : Header) → e.pushed ≡ None →
-    IfSome d.pushed (λ head. (answered E h ≡ answered E head.0) × (e.last ≡ head.1) × IsUnread d e) → IfNone d.pushed (Takes remaining d e (λ x. IsHeadTaken {E = E} x d.window.count (Ok h))) → heads_left e < heads_left d
+    IfSome d.pushed (λ head. (answered E h ≡ answered E head.0) × (e.last ≡ head.1) × ReadsNothing d e) → IfNone d.pushed (Takes remaining d e (λ x. IsHeadTaken {E = E} x d.window.count (Ok h))) → heads_left e < heads_left d
 fewer-heads E remaining d e h none pushed taken = subst (λ o. heads_by (greatest_offset - e.window.count) o < heads_by (greatest_offset - d.window.count) d.pushed) (sym none) (by d.pushed pushed taken)
   where
-    by : (o : Option (Header × ℕ)) → IfSome o (λ head. (answered E h ≡ answered E head.0) × (e.last ≡ head.1) × IsUnread d e) → IfNone o (Takes remaining d e (λ x. IsHeadTaken {E = E} x d.window.count (Ok h))) →
+    by : (o : Option (Header × ℕ)) → IfSome o (λ head. (answered E h ≡ answered E head.0) × (e.last ≡ head.1) × ReadsNothing d e) → IfNone o (Takes remaining d e (λ x. IsHeadTaken {E = E} x d.window.count (Ok h))) →
         heads_by (greatest_offset - e.window.count) None < heads_by (greatest_offset - d.window.count) o
     by None a (b, t, count, u, bytes) =
         let some = head-some b h u.answers.0 in

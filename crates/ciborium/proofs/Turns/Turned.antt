@@ -7,9 +7,9 @@ use Rattle.ciborium_ll.specs.Head.{break_byte}
 use Rattle.ciborium_ll.specs.Refusal.{Refusal, semantic, Break}
 use Rattle.ciborium_value.specs.declared.tree.Value.{Value}
 use Rattle.ciborium_value.specs.declared.stack.Opening.{Opening}
-use Rattle.ciborium_value.specs.inner.Frames.{Open, array, map, tag, Placed, more, placed, closed}
+use Rattle.ciborium_value.specs.inner.Frames.{TreeFrame, array, map, tag, Placed, more, placed, closed}
 use Rattle.ciborium_value.specs.Refuses.{Refuses}
-use Rattle.ciborium_value.specs.inner.Stack.{opened}
+use Rattle.ciborium_value.specs.inner.Stack.{begun_frame}
 use Rattle.ciborium_value.specs.Tree as trees
 use Rattle.ciborium_value.specs.Tree.{Tree}
 use Rattle.ciborium_value.specs.View.{tree_of, trees_from, tree_pairs_from}
@@ -32,12 +32,12 @@ use Rattle.ciborium.proofs.Turns.Turning.{EndsHere, IsPlaced, closed-item, place
 -- ---- what the spelling decides
 
 -- what refuses inside refuses around
-refused-inside : (spelling : Spelling) (l : ℕ) (xs : List ℕ) (p : ℕ) (os : List Open) (m : ℕ) (ys : List ℕ) (q : ℕ) (e : Refusal) → IsAround spelling l xs p os m ys q → RefusesPart spelling ys q m e → RefusesBy spelling xs p l e
+refused-inside : (spelling : Spelling) (l : ℕ) (xs : List ℕ) (p : ℕ) (os : List TreeFrame) (m : ℕ) (ys : List ℕ) (q : ℕ) (e : Refusal) → IsAround spelling l xs p os m ys q → RefusesPart spelling ys q m e → RefusesBy spelling xs p l e
 refused-inside any l xs p os m ys q e a f = refused-turn l xs p os m ys q e a f.0 (λ _. f.1)
 refused-inside (deterministic order) l xs p os m ys q e a f = refused-around order l xs p os m ys q e a f
 
 -- a value was placed, and its key judged
-turned : {S E : Type 0} (spelling : Spelling) (remaining : S → Option (List ℕ)) (e : Decoder S) (os after : List Open) (l : ℕ) (xs : List ℕ) (p m : ℕ) (ys : List ℕ) (q : ℕ) (v : Tree) (zs : List ℕ) (r end : ℕ) (x : Result (Option Value) (Error E)) →
+turned : {S E : Type 0} (spelling : Spelling) (remaining : S → Option (List ℕ)) (e : Decoder S) (os after : List TreeFrame) (l : ℕ) (xs : List ℕ) (p m : ℕ) (ys : List ℕ) (q : ℕ) (v : Tree) (zs : List ℕ) (r end : ℕ) (x : Result (Option Value) (Error E)) →
     end ≡ r → IsAround spelling l xs p os m ys q → ReadsItem spelling m ys q v zs r → StandsAt spelling remaining e zs r → IsPlacedInOrder spelling os v end after x → IsTurned spelling remaining e after l xs p x
 turned any remaining e os after l xs p m ys q v zs r end (Ok None) same a i stands (is, rises) =
     let b : IsPlaced l xs p (more after) zs r = subst (λ (x : Placed). IsPlaced l xs p x zs r) (sym is) (placed-turn l xs p os m ys q v zs r a i) in
@@ -57,10 +57,10 @@ turned (deterministic order) remaining e os after l xs p m ys q v zs r end (Err 
     (disordered order l xs p after zs end at (subst (λ n. LandsIn order after l xs p zs n) (sym same) (subst (λ (w : Placed). Lands order w l xs p zs r) (sym is) (landed order l xs p os m ys q v zs r a i))) never)
 
 -- the container that a break ends, with what is open around it
-Closes : Spelling → ℕ → List ℕ → ℕ → List Open → Tree → List ℕ → ℕ → Type 0
+Closes : Spelling → ℕ → List ℕ → ℕ → List TreeFrame → Tree → List ℕ → ℕ → Type 0
 Closes spelling l xs p os v zs r = (m : ℕ) × (ys : List ℕ) × (q : ℕ) × IsAround spelling l xs p os m ys q × ReadsItem spelling m ys q v zs r
 
-closing : (spelling : Spelling) (l : ℕ) (xs : List ℕ) (p : ℕ) (os us : List Open) (m : ℕ) (ys : List ℕ) (q : ℕ) (v : Tree) (zs : List ℕ) → IsAround spelling l xs p os m ys q → closed os ≡ Some (v, us) → ys ≡ break_byte ∷ zs →
+closing : (spelling : Spelling) (l : ℕ) (xs : List ℕ) (p : ℕ) (os us : List TreeFrame) (m : ℕ) (ys : List ℕ) (q : ℕ) (v : Tree) (zs : List ℕ) → IsAround spelling l xs p os m ys q → closed os ≡ Some (v, us) → ys ≡ break_byte ∷ zs →
     q < greatest_offset → Closes spelling l xs p us v zs (q + 1)
 unfolding Closes
 closing any l xs p os us m ys q v zs a e f g = closed-item l xs p os us m ys q v zs a e f g
@@ -71,11 +71,11 @@ closing (deterministic order) l xs p (tag t ∷ os) us m ys q v zs a e f g = abs
 closing (deterministic order) l xs p (map ps None key ∷ os) us m ys q v zs (bs, b, around, c) e f g = absurd c
 closing (deterministic order) l xs p (map ps (Some n) key ∷ os) us m ys q v zs a e f g = absurd cc
 
-ends-not : (os : List Open) → closed os ≡ None → EndsHere os → ⊥
+ends-not : (os : List TreeFrame) → closed os ≡ None → EndsHere os → ⊥
 ends-not os e h = let no = subst (λ o. IsSome o) e h in absurd cc
 
 -- a break that ends nothing
-broken : (spelling : Spelling) (l : ℕ) (xs : List ℕ) (p : ℕ) (os : List Open) (m : ℕ) (ys : List ℕ) (q : ℕ) (zs : List ℕ) → IsAround spelling l xs p os m ys q → closed os ≡ None → ys ≡ break_byte ∷ zs → q < greatest_offset →
+broken : (spelling : Spelling) (l : ℕ) (xs : List ℕ) (p : ℕ) (os : List TreeFrame) (m : ℕ) (ys : List ℕ) (q : ℕ) (zs : List ℕ) → IsAround spelling l xs p os m ys q → closed os ≡ None → ys ≡ break_byte ∷ zs → q < greatest_offset →
     RefusesBy spelling xs p l (semantic q Break)
 broken any l xs p os m ys q zs a none is less =
     let refuses : Refuses ys q (Some m) (semantic q Break) = subst (λ z. Refuses z q (Some m) (semantic q Break)) (sym is) (Refuses.break {p = q} {b = zs} (opened-has 7 q zs refl less)) in
@@ -89,16 +89,16 @@ broken (deterministic order) l xs p os m ys q zs a none is less =
 abbrev pub Answers : {S E : Type 0} → Spelling → (S → Option (List ℕ)) → Decoder S → Decoder S → ℕ → Result Part (Error E) → Type 0
 Answers spelling remaining d e l x = (xs : List ℕ) (p : ℕ) → StandsAt spelling remaining d xs p → IsPartRead spelling remaining e l xs p x
 
-levels-left : (spelling : Spelling) (l : ℕ) (xs : List ℕ) (p : ℕ) (os : List Open) (m : ℕ) (ys : List ℕ) (q : ℕ) → IsAround spelling l xs p os m ys q → length os + m ≡ l
+levels-left : (spelling : Spelling) (l : ℕ) (xs : List ℕ) (p : ℕ) (os : List TreeFrame) (m : ℕ) (ys : List ℕ) (q : ℕ) → IsAround spelling l xs p os m ys q → length os + m ≡ l
 levels-left spelling l xs p [] m ys q a = omega (arith, a.0)
 levels-left spelling l xs p (o ∷ os) m ys q a = omega (arith, levels-left spelling l xs p os (suc m) a.0 a.1 a.2)
 
-left : (spelling : Spelling) (l : ℕ) (xs : List ℕ) (p : ℕ) (os : List Open) (m : ℕ) (zs : List ℕ) (r : ℕ) → IsAround spelling l xs p os m zs r → l - length os ≡ m
+left : (spelling : Spelling) (l : ℕ) (xs : List ℕ) (p : ℕ) (os : List TreeFrame) (m : ℕ) (zs : List ℕ) (r : ℕ) → IsAround spelling l xs p os m zs r → l - length os ≡ m
 left spelling l xs p os m zs r a = omega (arith, levels-left spelling l xs p os m zs r a)
 
 -- ---- the answers of a turn
 
-module _ {S E : Type 0} (spelling : Spelling) (remaining : S → Option (List ℕ)) (d e : Decoder S) (os : List Open) (l : ℕ) (xs : List ℕ) (p : ℕ) (n : ℕ) (depth : n ≡ length os) (x y : Result Part (Error E)) (same : x ≡ y)
+module _ {S E : Type 0} (spelling : Spelling) (remaining : S → Option (List ℕ)) (d e : Decoder S) (os : List TreeFrame) (l : ℕ) (xs : List ℕ) (p : ℕ) (n : ℕ) (depth : n ≡ length os) (x y : Result Part (Error E)) (same : x ≡ y)
     (answers : Answers spelling remaining d e (l - n) x) (s : IsReading spelling remaining d os l xs p) where
   here : IsPartRead spelling remaining e s.0 s.1 s.2 y
   here =
@@ -110,18 +110,18 @@ module _ {S E : Type 0} (spelling : Spelling) (remaining : S → Option (List �
       refused-map (left_of remaining e) f (RefusesPart spelling s.1 s.2 s.0) (RefusesBy spelling xs p l) (λ r h. refused-inside spelling l xs p os s.0 s.1 s.2 r s.3 h)
       (subst (λ z. IsPartRead spelling remaining e s.0 s.1 s.2 z) is here)
 
-  pub turn-whole : (v : Value) (after : List Open) (end : ℕ) (z : Result (Option Value) (Error E)) → y ≡ Ok (Whole v) → end ≡ offset_of e → IsPlacedInOrder spelling os (tree_of v) end after z → IsTurned spelling remaining e after l xs p z
+  pub turn-whole : (v : Value) (after : List TreeFrame) (end : ℕ) (z : Result (Option Value) (Error E)) → y ≡ Ok (Whole v) → end ≡ offset_of e → IsPlacedInOrder spelling os (tree_of v) end after z → IsTurned spelling remaining e after l xs p z
   turn-whole v after end z is at placed =
       let a = subst (λ z. IsPartRead {E = E} spelling remaining e s.0 s.1 s.2 z) is here in
       turned spelling remaining e os after l xs p s.0 s.1 s.2 (tree_of v) a.0 a.1 end z (at ∙ stands-offset spelling remaining e a.1 a.0 a.3) s.3 a.2 a.3 placed
 
-  pub turn-opened : (f : Opening) (after : List Open) → y ≡ Ok (Opened f) → after ≡ opened f ∷ os → IsReading spelling remaining e after l xs p
+  pub turn-opened : (f : Opening) (after : List TreeFrame) → y ≡ Ok (Opened f) → after ≡ begun_frame f ∷ os → IsReading spelling remaining e after l xs p
   turn-opened f after is now =
       let a = subst (λ z. IsPartRead {E = E} spelling remaining e s.0 s.1 s.2 z) is here in
       let (m, more_levels, inside) = a.2 in
       (m, a.0, a.1, subst (λ us. IsAround spelling l xs p us m a.0 a.1) (sym now) (s.1, s.2, subst (λ k. IsAround spelling l xs p os k s.1 s.2) more_levels s.3, inside), a.3)
 
-  pub turn-ended : (v : Value) (between after : List Open) (end : ℕ) (z : Result (Option Value) (Error E)) → y ≡ Ok Ended → closed os ≡ Some (tree_of v, between) → end ≡ offset_of e →
+  pub turn-ended : (v : Value) (between after : List TreeFrame) (end : ℕ) (z : Result (Option Value) (Error E)) → y ≡ Ok Ended → closed os ≡ Some (tree_of v, between) → end ≡ offset_of e →
       IsPlacedInOrder spelling between (tree_of v) end after z → IsTurned spelling remaining e after l xs p z
   unfolding Closes
   turn-ended v between after end z is ends at placed =
@@ -137,11 +137,11 @@ module _ {S E : Type 0} (spelling : Spelling) (remaining : S → Option (List �
 
 -- ---- how many are open
 
-same-length : (os us : List Open) → more os ≡ more us → length us ≤ length os
+same-length : (os us : List TreeFrame) → more os ≡ more us → length us ≤ length os
 same-length os us e = let i : os ≡ us = cc e in omega (arith, ap length i)
 
 -- a value closes some, and opens none
-pub shallow : (os us : List Open) (v : Tree) → more us ≡ placed os v → length us ≤ length os
+pub shallow : (os us : List TreeFrame) (v : Tree) → more us ≡ placed os v → length us ≤ length os
 shallow [] us v e = absurd cc
 shallow (array vs None ∷ os) us v e = same-length (array (vs ++ v ∷ []) None ∷ os) us (sym e)
 shallow (array vs (Some (suc n)) ∷ os) us v e = same-length (array (vs ++ v ∷ []) (Some n) ∷ os) us (sym e)
@@ -152,19 +152,19 @@ shallow (map ps (Some (suc n)) (Some k) ∷ os) us v e = same-length (map (ps ++
 shallow (map ps (Some zero) (Some k) ∷ os) us v e = let less = shallow os us (trees.map (tree_pairs_from (ps ++ (k, v) ∷ []))) e in omega (arith, less)
 shallow (tag t ∷ os) us v e = let less = shallow os us (trees.tag t v) e in omega (arith, less)
 
-pub depth-placed : {E : Type 0} (spelling : Spelling) (x : Result (Option Value) (Error E)) (os after : List Open) (v : Tree) (end l : ℕ) → IsPlacedInOrder spelling os v end after x → length os ≤ l →
+pub depth-placed : {E : Type 0} (spelling : Spelling) (x : Result (Option Value) (Error E)) (os after : List TreeFrame) (v : Tree) (end l : ℕ) → IsPlacedInOrder spelling os v end after x → length os ≤ l →
     IfOk x (λ o. MatchOption o (length after ≤ l) (λ _. Unit {0}))
 depth-placed spelling (Ok None) os after v end l (is, rises) room = let less = shallow os after v is in omega (arith, less, room)
 depth-placed spelling (Ok (Some w)) os after v end l is room = tt
 depth-placed spelling (Err e) os after v end l is room = tt
 
-abbrev both : Tree → List Open → Tree × List Open
+abbrev both : Tree → List TreeFrame → Tree × List TreeFrame
 both v os = (v, os)
 
-some-same : (v w : Tree) (os us : List Open) → Some (both v os) ≡ Some (both w us) → os ≡ us
+some-same : (v w : Tree) (os us : List TreeFrame) → Some (both v os) ≡ Some (both w us) → os ≡ us
 some-same v w os us e = let same : both v os ≡ both w us = cc in ap (λ x. x.1) same
 
-pub depth-closed : (os us : List Open) (v : Tree) (l : ℕ) → closed os ≡ Some (v, us) → length os ≤ l → length us ≤ l
+pub depth-closed : (os us : List TreeFrame) (v : Tree) (l : ℕ) → closed os ≡ Some (v, us) → length os ≤ l → length us ≤ l
 depth-closed [] us v l e room = absurd cc
 depth-closed (array vs None ∷ os) us v l e room = let same = some-same (trees.array (trees_from vs)) v os us e in omega (arith, room, ap length same)
 depth-closed (array vs (Some n) ∷ os) us v l e room = absurd cc
@@ -175,5 +175,5 @@ depth-closed (map ps (Some n) key ∷ os) us v l e room = absurd cc
 
 -- ---- the beginning
 
-pub begin : {S : Type 0} (spelling : Spelling) (remaining : S → Option (List ℕ)) (d : Decoder S) (os : List Open) (l : ℕ) (xs : List ℕ) (p : ℕ) → os ≡ [] → StandsAt spelling remaining d xs p → IsReading spelling remaining d os l xs p
+pub begin : {S : Type 0} (spelling : Spelling) (remaining : S → Option (List ℕ)) (d : Decoder S) (os : List TreeFrame) (l : ℕ) (xs : List ℕ) (p : ℕ) → os ≡ [] → StandsAt spelling remaining d xs p → IsReading spelling remaining d os l xs p
 begin spelling remaining d os l xs p none s = (l, xs, p, subst (λ us. IsAround spelling l xs p us l xs p) (sym none) (refl, refl, refl), s)

@@ -11,14 +11,14 @@ use Rattle.ciborium_ll.specs.Refusal.{Refusal, IsUsable, HasHead, IsAtFront}
 use Rattle.ciborium_ll.specs.Spells.{Spells}
 use Rattle.ciborium_value.specs.Meaning.{meaning, items_meaning, tag_meaning, folding_bytes, is_bignum_tag}
 use Rattle.ciborium_value.specs.Nesting.{nesting, tag_nesting, pairs_nesting}
-use Rattle.ciborium_value.specs.inner.Frames.{Open, array, map, tag, Placed, done, more, placed, closed}
-use Rattle.ciborium_value.specs.Refuses.{Refuses, AreGood, HasOpening, Due, exactly, items_until_break, keys_until_break, values_until_break, next_due, due_after, IsDue, IsFoldingAt}
+use Rattle.ciborium_value.specs.inner.Frames.{TreeFrame, array, map, tag, Placed, done, more, placed, closed}
+use Rattle.ciborium_value.specs.Refuses.{Refuses, AreGood, BeginsContainer, Due, exactly, items_until_break, keys_until_break, values_until_break, next_due, due_after, IsDue, IsFoldingAt}
 use Rattle.ciborium_value.specs.Tree as trees
 use Rattle.ciborium_value.specs.Tree.{Tree, Trees}
 use Rattle.ciborium_value.specs.View.{trees_from, tree_pairs_from}
 use Rattle.ciborium_value.proofs.GoodItems.Parts.{then, then-after, then-count, after-left, after-items}
 use Rattle.ciborium.proofs.Turns.ItemsRead.{item-read, end-fits}
-use Rattle.ciborium.specs.inner.Around.{in_turn, due_in, array_due, map_due, HasContainerHead, IsRoom, IsInContainer, IsInTag, IsAnywayInside, IsAround}
+use Rattle.ciborium.specs.inner.Around.{trees_in_turn, due_in, array_due, map_due, HasContainerHead, IsRoom, IsInContainer, IsInTag, IsAnywayInside, IsAround}
 use Rattle.ciborium.specs.inner.ValuesInBytes.{ReadsItem, IsBreakAt}
 use Rattle.ciborium.specs.Spelling.{any}
 use Rattle.ciborium.proofs.Turns.Grown.{then-Spells, then-nesting, then-meaning}
@@ -127,7 +127,7 @@ array-ended None l ys q vs zs r us a e f =
     let at : r ≡ q + 1 + length a.good = a.at ∙ ap (λ k. q + k + length a.good) a.head.0 in
     item-read (open_byte 4 ∷ (a.good ++ (break_byte ∷ []))) (item.array true a.items) (a.good, a.spelled, refl) (ap (option_map trees.array) a.means) (omega (arith, nests)) (open-split 4 q r ys a.good zs us a.head.1 e at) (open-end 4 q r ys a.good zs us a.head.1 e at) (omega (arith, f))
 
-map-whole : (count : Option ℕ) (l : ℕ) (ys : List ℕ) (q : ℕ) (ps : List (Tree × Tree)) (us : List ℕ) (s : ℕ) → IsInContainer 5 count (map_due count) (exactly 0) l ys q (in_turn ps None) us s →
+map-whole : (count : Option ℕ) (l : ℕ) (ys : List ℕ) (q : ℕ) (ps : List (Tree × Tree)) (us : List ℕ) (s : ℕ) → IsInContainer 5 count (map_due count) (exactly 0) l ys q (trees_in_turn ps None) us s →
     ReadsItem any (suc l) ys q (trees.map (tree_pairs_from ps)) us s
 map-whole None l ys q ps us s a = absurd ((keys-or-values a.items).0 a.due)
 map-whole (Some n) l ys q ps us s a =
@@ -137,7 +137,7 @@ map-whole (Some n) l ys q ps us s a =
     let nests : pairs_nesting (paired a.items) ≤ l = paired-nesting a.items l a.nests in
     item-read (a.head.0 ++ a.good) (item.map false (paired a.items)) ((a.good, pairs.0, (a.head.0, subst (IsHead a.head.0 5) (sym count) a.head.1, refl))) (ap (option_map trees.map) pairs.1) (omega (arith, nests)) (counted-split 5 n a.size q s ys a.good us a.head a.at) (counted-end 5 n a.size q s ys a.good us a.head a.at) a.fits
 
-map-ended : (count : Option ℕ) (l : ℕ) (ys : List ℕ) (q : ℕ) (ps : List (Tree × Tree)) (zs : List ℕ) (r : ℕ) (us : List ℕ) → IsInContainer 5 count (map_due count) keys_until_break l ys q (in_turn ps None) zs r →
+map-ended : (count : Option ℕ) (l : ℕ) (ys : List ℕ) (q : ℕ) (ps : List (Tree × Tree)) (zs : List ℕ) (r : ℕ) (us : List ℕ) → IsInContainer 5 count (map_due count) keys_until_break l ys q (trees_in_turn ps None) zs r →
     zs ≡ break_byte ∷ us → r < greatest_offset → ReadsItem any (suc l) ys q (trees.map (tree_pairs_from ps)) us (r + 1)
 map-ended (Some n) l ys q ps zs r us a e f = absurd (never-breaks-keys (2 * n) a.items keys_until_break a.due refl)
 map-ended None l ys q ps zs r us a e f =
@@ -197,7 +197,7 @@ top l xs p m ys q v zs r a i =
     let y : ReadsItem any l xs q v zs r = subst (λ b. ReadsItem any l b q v zs r) a.1 x in
     subst (λ n. ReadsItem any l xs n v zs r) a.2 y
 
-pub placed-turn : (l : ℕ) (xs : List ℕ) (p : ℕ) (os : List Open) (m : ℕ) (ys : List ℕ) (q : ℕ) (v : Tree) (zs : List ℕ) (r : ℕ) → IsAround any l xs p os m ys q → ReadsItem any m ys q v zs r →
+pub placed-turn : (l : ℕ) (xs : List ℕ) (p : ℕ) (os : List TreeFrame) (m : ℕ) (ys : List ℕ) (q : ℕ) (v : Tree) (zs : List ℕ) (r : ℕ) → IsAround any l xs p os m ys q → ReadsItem any m ys q v zs r →
     IsPlaced l xs p (placed os v) zs r
 placed-turn l xs p [] m ys q v zs r a i = top l xs p m ys q v zs r a i
 placed-turn l xs p (array vs None ∷ os) m ys q v zs r (bs, b, around, (count, c)) i =
@@ -227,8 +227,8 @@ placed-turn l xs p (map ps None None ∷ os) m ys q v zs r (bs, b, around, (coun
     around,
     (
       count,
-      recast 5 count (map_due count) values_until_break values_until_break m bs b (in_turn ps None ++ v ∷ []) (in_turn ps (Some v)) zs r refl (in_turn-key ps v)
-          (one-more 5 count (map_due count) keys_until_break m bs b (in_turn ps None) v ys q zs r tt c i),
+      recast 5 count (map_due count) values_until_break values_until_break m bs b (trees_in_turn ps None ++ v ∷ []) (trees_in_turn ps (Some v)) zs r refl (in_turn-key ps v)
+          (one-more 5 count (map_due count) keys_until_break m bs b (trees_in_turn ps None) v ys q zs r tt c i),
     ),
   ),
 )
@@ -240,8 +240,8 @@ placed-turn l xs p (map ps (Some n) None ∷ os) m ys q v zs r (bs, b, around, (
     around,
     (
       count,
-      recast 5 count (map_due count) (exactly (2 * suc n - 1)) (exactly (suc (2 * n))) m bs b (in_turn ps None ++ v ∷ []) (in_turn ps (Some v)) zs r (ap exactly (omega arith)) (in_turn-key ps v)
-          (one-more 5 count (map_due count) (exactly (2 * suc n)) m bs b (in_turn ps None) v ys q zs r (omega arith) c i),
+      recast 5 count (map_due count) (exactly (2 * suc n - 1)) (exactly (suc (2 * n))) m bs b (trees_in_turn ps None ++ v ∷ []) (trees_in_turn ps (Some v)) zs r (ap exactly (omega arith)) (in_turn-key ps v)
+          (one-more 5 count (map_due count) (exactly (2 * suc n)) m bs b (trees_in_turn ps None) v ys q zs r (omega arith) c i),
     ),
   ),
 )
@@ -253,8 +253,8 @@ placed-turn l xs p (map ps None (Some k) ∷ os) m ys q v zs r (bs, b, around, (
     around,
     (
       count,
-      recast 5 count (map_due count) keys_until_break keys_until_break m bs b (in_turn ps (Some k) ++ v ∷ []) (in_turn (ps ++ (k, v) ∷ []) None) zs r refl (in_turn-value ps k v)
-          (one-more 5 count (map_due count) values_until_break m bs b (in_turn ps (Some k)) v ys q zs r tt c i),
+      recast 5 count (map_due count) keys_until_break keys_until_break m bs b (trees_in_turn ps (Some k) ++ v ∷ []) (trees_in_turn (ps ++ (k, v) ∷ []) None) zs r refl (in_turn-value ps k v)
+          (one-more 5 count (map_due count) values_until_break m bs b (trees_in_turn ps (Some k)) v ys q zs r tt c i),
     ),
   ),
 )
@@ -266,35 +266,35 @@ placed-turn l xs p (map ps (Some (suc n)) (Some k) ∷ os) m ys q v zs r (bs, b,
     around,
     (
       count,
-      recast 5 count (map_due count) (exactly (suc (2 * suc n) - 1)) (exactly (2 * suc n)) m bs b (in_turn ps (Some k) ++ v ∷ []) (in_turn (ps ++ (k, v) ∷ []) None) zs r (ap exactly (omega arith)) (in_turn-value ps k v)
-          (one-more 5 count (map_due count) (exactly (suc (2 * suc n))) m bs b (in_turn ps (Some k)) v ys q zs r (omega arith) c i),
+      recast 5 count (map_due count) (exactly (suc (2 * suc n) - 1)) (exactly (2 * suc n)) m bs b (trees_in_turn ps (Some k) ++ v ∷ []) (trees_in_turn (ps ++ (k, v) ∷ []) None) zs r (ap exactly (omega arith)) (in_turn-value ps k v)
+          (one-more 5 count (map_due count) (exactly (suc (2 * suc n))) m bs b (trees_in_turn ps (Some k)) v ys q zs r (omega arith) c i),
     ),
   ),
 )
 placed-turn l xs p (map ps (Some zero) (Some k) ∷ os) m ys q v zs r (bs, b, around, (count, c)) i =
     placed-turn l xs p os (suc m) bs b (trees.map (tree_pairs_from (ps ++ (k, v) ∷ []))) zs r around
     (map-whole count m bs b (ps ++ (k, v) ∷ []) zs r
-    (recast 5 count (map_due count) (exactly (1 - 1)) (exactly 0) m bs b (in_turn ps (Some k) ++ v ∷ []) (in_turn (ps ++ (k, v) ∷ []) None) zs r (ap exactly (omega arith)) (in_turn-value ps k v)
-    (one-more 5 count (map_due count) (exactly 1) m bs b (in_turn ps (Some k)) v ys q zs r (omega arith) c i)))
+    (recast 5 count (map_due count) (exactly (1 - 1)) (exactly 0) m bs b (trees_in_turn ps (Some k) ++ v ∷ []) (trees_in_turn (ps ++ (k, v) ∷ []) None) zs r (ap exactly (omega arith)) (in_turn-value ps k v)
+    (one-more 5 count (map_due count) (exactly 1) m bs b (trees_in_turn ps (Some k)) v ys q zs r (omega arith) c i)))
 placed-turn l xs p (tag t ∷ os) m ys q v zs r (bs, b, around, c) i =
     placed-turn l xs p os (suc m) bs b (trees.tag t v) zs r around (tag-whole m bs b t v ys q zs r c i)
 
 -- ---- a break ends a container
 
-abbrev both : Tree → List Open → Tree × List Open
+abbrev both : Tree → List TreeFrame → Tree × List TreeFrame
 both v os = (v, os)
 
-some-both : (v w : Tree) (os us : List Open) → Some (both v os) ≡ Some (both w us) → (v ≡ w) × (os ≡ us)
+some-both : (v w : Tree) (os us : List TreeFrame) → Some (both v os) ≡ Some (both w us) → (v ≡ w) × (os ≡ us)
 some-both v w os us e = let same : both v os ≡ both w us = cc in (ap (λ x. x.0) same, ap (λ x. x.1) same)
 
 -- the container that the break ends, with what is open around it
-abbrev pub Closes : ℕ → List ℕ → ℕ → List Open → Tree → List ℕ → ℕ → Type 0
+abbrev pub Closes : ℕ → List ℕ → ℕ → List TreeFrame → Tree → List ℕ → ℕ → Type 0
 Closes l xs p os v zs r = (m : ℕ) × (ys : List ℕ) × (q : ℕ) × IsAround any l xs p os m ys q × ReadsItem any m ys q v zs r
 
-closes-as : (l : ℕ) (xs : List ℕ) (p : ℕ) (os us : List Open) (m : ℕ) (ys : List ℕ) (q : ℕ) (t v : Tree) (zs : List ℕ) (r : ℕ) → (t ≡ v) × (os ≡ us) → IsAround any l xs p os m ys q → ReadsItem any m ys q t zs r → Closes l xs p us v zs r
+closes-as : (l : ℕ) (xs : List ℕ) (p : ℕ) (os us : List TreeFrame) (m : ℕ) (ys : List ℕ) (q : ℕ) (t v : Tree) (zs : List ℕ) (r : ℕ) → (t ≡ v) × (os ≡ us) → IsAround any l xs p os m ys q → ReadsItem any m ys q t zs r → Closes l xs p us v zs r
 closes-as l xs p os us m ys q t v zs r same a i = (m, ys, q, subst (λ o. IsAround any l xs p o m ys q) same.1 a, subst (λ x. ReadsItem any m ys q x zs r) same.0 i)
 
-pub closed-item : (l : ℕ) (xs : List ℕ) (p : ℕ) (os us : List Open) (m : ℕ) (ys : List ℕ) (q : ℕ) (v : Tree) (zs : List ℕ) → IsAround any l xs p os m ys q → closed os ≡ Some (v, us) → ys ≡ break_byte ∷ zs → q < greatest_offset →
+pub closed-item : (l : ℕ) (xs : List ℕ) (p : ℕ) (os us : List TreeFrame) (m : ℕ) (ys : List ℕ) (q : ℕ) (v : Tree) (zs : List ℕ) → IsAround any l xs p os m ys q → closed os ≡ Some (v, us) → ys ≡ break_byte ∷ zs → q < greatest_offset →
     Closes l xs p us v zs (q + 1)
 closed-item l xs p [] us m ys q v zs a e f g = absurd cc
 closed-item l xs p (array vs None ∷ os) us m ys q v zs (bs, b, around, (count, c)) e f g =
@@ -309,7 +309,7 @@ closed-item l xs p (map ps (Some n) key ∷ os) us m ys q v zs a e f g = absurd 
 -- ---- a refusal
 
 -- a break would end the innermost container
-abbrev pub EndsHere : List Open → Type 0
+abbrev pub EndsHere : List TreeFrame → Type 0
 EndsHere os = IsSome (closed os)
 
 some-IsSome : (m : Option Trees) (vs : Trees) → m ≡ Some vs → IsSome m
@@ -317,7 +317,7 @@ some-IsSome None vs e = absurd cc
 some-IsSome (Some us) vs e = refl
 
 -- an item is due where no break ends the container
-is-due : (o : Open) (os : List Open) (ys : List ℕ) (q : ℕ) → (EndsHere (o ∷ os) → ¬ IsBreakAt ys q) → IsDue (due_in o) ys q
+is-due : (o : TreeFrame) (os : List TreeFrame) (ys : List ℕ) (q : ℕ) → (EndsHere (o ∷ os) → ¬ IsBreakAt ys q) → IsDue (due_in o) ys q
 is-due (array vs (Some n)) os ys q h = omega arith
 is-due (array vs None) os ys q h = λ lt begins. h refl (lt, begins)
 is-due (map ps (Some n) None) os ys q h = omega arith
@@ -326,16 +326,16 @@ is-due (map ps None None) os ys q h = λ lt begins. h refl (lt, begins)
 is-due (map ps None (Some k)) os ys q h = tt
 is-due (tag t) os ys q h = omega arith
 
-array-opens : (b : List ℕ) (count : Option ℕ) (k : ℕ) (r : List ℕ) → HasContainerHead 4 b count k r → HasOpening b k r (array_due count)
-array-opens b (Some n) k r h = HasOpening.array n h
-array-opens b None k r h = HasOpening.open_array h.0 h.1
+array-opens : (b : List ℕ) (count : Option ℕ) (k : ℕ) (r : List ℕ) → HasContainerHead 4 b count k r → BeginsContainer b k r (array_due count)
+array-opens b (Some n) k r h = BeginsContainer.array n h
+array-opens b None k r h = BeginsContainer.open_array h.0 h.1
 
-map-opens : (b : List ℕ) (count : Option ℕ) (k : ℕ) (r : List ℕ) → HasContainerHead 5 b count k r → HasOpening b k r (map_due count)
-map-opens b (Some n) k r h = HasOpening.map n h
-map-opens b None k r h = HasOpening.open_map h.0 h.1
+map-opens : (b : List ℕ) (count : Option ℕ) (k : ℕ) (r : List ℕ) → HasContainerHead 5 b count k r → BeginsContainer b k r (map_due count)
+map-opens b (Some n) k r h = BeginsContainer.map n h
+map-opens b None k r h = BeginsContainer.open_map h.0 h.1
 
 part-refuses : (major : ℕ) (count : Option ℕ) (start now : Due) (l : ℕ) (ys : List ℕ) (q : ℕ) (vs : List Tree) (zs : List ℕ) (r : ℕ) (e : Refusal) →
-    ((k : ℕ) (s : List ℕ) → HasContainerHead major ys count k s → HasOpening ys k s start) → IsInContainer major count start now l ys q vs zs r → IsDue now zs r → Refuses zs r (Some l) e → Refuses ys q (Some (suc l)) e
+    ((k : ℕ) (s : List ℕ) → HasContainerHead major ys count k s → BeginsContainer ys k s start) → IsInContainer major count start now l ys q vs zs r → IsDue now zs r → Refuses zs r (Some l) e → Refuses ys q (Some (suc l)) e
 part-refuses major count start now l ys q vs zs r e opens a due f =
     let good : AreGood a.items (Some l) a.good (q + a.size) = (a.spelled, some-IsSome (items_meaning a.items) (trees_from vs) a.means, a.nests, (let x = a.at in let y = a.fits in omega (arith, x, y))) in
     Refuses.part a.size start a.good a.items zs (Some l) a.usable (opens a.size (a.good ++ zs) a.head) refl good
@@ -358,14 +358,14 @@ open-no-break : (m : ℕ) (b r : List ℕ) → m < 7 → b ≡ open_byte m ∷ r
 open-no-break m b r lt e (s, begins) = let first = same-first (open_byte m) break_byte r s (sym e ∙ begins) in absurd (omega (arith, first, lt))
 
 -- a container or tag does not begin with a break
-container-begins : (o : Open) (l : ℕ) (ys : List ℕ) (q : ℕ) (zs : List ℕ) (r : ℕ) → IsAnywayInside o l ys q zs r → ¬ IsAtFront break_byte ys
+container-begins : (o : TreeFrame) (l : ℕ) (ys : List ℕ) (q : ℕ) (zs : List ℕ) (r : ℕ) → IsAnywayInside o l ys q zs r → ¬ IsAtFront break_byte ys
 container-begins (array vs b) l ys q zs r (None, c) begins = open-no-break 4 ys (c.good ++ zs) (omega arith) c.head.1 begins
 container-begins (array vs b) l ys q zs r (Some n, c) begins = not-break 4 n c.head.0 ys (c.good ++ zs) (omega arith) c.head.1 c.head.3 begins
 container-begins (map ps b k) l ys q zs r (None, c) begins = open-no-break 5 ys (c.good ++ zs) (omega arith) c.head.1 begins
 container-begins (map ps b k) l ys q zs r (Some n, c) begins = not-break 5 n c.head.0 ys (c.good ++ zs) (omega arith) c.head.1 c.head.3 begins
 container-begins (tag t) l ys q zs r c begins = not-break 6 t c.head.0 ys zs (omega arith) c.head.1 c.head.3 begins
 
-pub refused-turn : (l : ℕ) (xs : List ℕ) (p : ℕ) (os : List Open) (m : ℕ) (ys : List ℕ) (q : ℕ) (e : Refusal) → IsAround any l xs p os m ys q → Refuses ys q (Some m) e → (EndsHere os → ¬ IsBreakAt ys q) →
+pub refused-turn : (l : ℕ) (xs : List ℕ) (p : ℕ) (os : List TreeFrame) (m : ℕ) (ys : List ℕ) (q : ℕ) (e : Refusal) → IsAround any l xs p os m ys q → Refuses ys q (Some m) e → (EndsHere os → ¬ IsBreakAt ys q) →
     Refuses xs p (Some l) e
 refused-turn l xs p [] m ys q e a f h =
     let x : Refuses ys q (Some l) e = subst (λ n. Refuses ys q (Some n) e) a.0 f in
@@ -375,7 +375,7 @@ refused-turn l xs p (array vs k ∷ os) m ys q e (bs, b, around, (count, c)) f h
     refused-turn l xs p os (suc m) bs b e around (part-refuses 4 count (array_due count) (due_in (array vs k)) m bs b vs ys q e (array-opens bs count) c (is-due (array vs k) os ys q h) f)
     (λ ends break. container-begins (array vs k) m bs b ys q (count, c) break.1)
 refused-turn l xs p (map ps k key ∷ os) m ys q e (bs, b, around, (count, c)) f h =
-    refused-turn l xs p os (suc m) bs b e around (part-refuses 5 count (map_due count) (due_in (map ps k key)) m bs b (in_turn ps key) ys q e (map-opens bs count) c (is-due (map ps k key) os ys q h) f)
+    refused-turn l xs p os (suc m) bs b e around (part-refuses 5 count (map_due count) (due_in (map ps k key)) m bs b (trees_in_turn ps key) ys q e (map-opens bs count) c (is-due (map ps k key) os ys q h) f)
     (λ ends break. container-begins (map ps k key) m bs b ys q (count, c) break.1)
 refused-turn l xs p (tag t ∷ os) m ys q e (bs, b, around, c) f h =
     let inside : Refuses ys (b + c.size) (Some m) e = subst (λ n. Refuses ys n (Some m) e) c.at f in

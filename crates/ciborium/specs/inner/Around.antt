@@ -7,7 +7,7 @@ use Rattle.ciborium_ll.specs.Refusal.{IsUsable, HasHead}
 use Rattle.ciborium_ll.specs.Spells.{SpellsItems}
 use Rattle.ciborium_value.specs.Meaning.{items_meaning}
 use Rattle.ciborium_value.specs.Nesting.{items_nesting}
-use Rattle.ciborium_value.specs.inner.Frames.{Open, array, map, tag}
+use Rattle.ciborium_value.specs.inner.Frames.{TreeFrame, array, map, tag}
 use Rattle.ciborium_value.specs.Refuses.{Due, exactly, items_until_break, keys_until_break, values_until_break, due_after, IsFoldingAt}
 use Rattle.ciborium_value.specs.Tree.{Tree}
 use Rattle.ciborium_value.specs.View.{trees_from}
@@ -16,13 +16,13 @@ use Rattle.ciborium.specs.DeterministicRefusals.{HasParts, HasShortHead, of_arra
 use Rattle.ciborium.specs.Spelling.{Spelling, any, deterministic}
 
 -- keys and values in turn, and then the key that waits
-abbrev pub in_turn : List (Tree × Tree) → Option Tree → List Tree
-in_turn [] None = []
-in_turn [] (Some k) = k ∷ []
-in_turn (p ∷ ps) key = p.0 ∷ p.1 ∷ in_turn ps key
+abbrev pub trees_in_turn : List (Tree × Tree) → Option Tree → List Tree
+trees_in_turn [] None = []
+trees_in_turn [] (Some k) = k ∷ []
+trees_in_turn (p ∷ ps) key = p.0 ∷ p.1 ∷ trees_in_turn ps key
 
 -- what is due in a container or tag that is open
-abbrev pub due_in : Open → Due
+abbrev pub due_in : TreeFrame → Due
 due_in (array vs (Some n)) = exactly (suc n)
 due_in (array vs None) = items_until_break
 due_in (map ps (Some n) None) = exactly (2 * suc n)
@@ -77,26 +77,26 @@ pub record IsInTag (ys : List ℕ) (q : ℕ) (t : ℕ) (zs : List ℕ) (r : ℕ)
   pub at : r ≡ q + size
 
 -- what begins at ys in any spelling is open at zs; inside it l levels are left
-abbrev pub IsAnywayInside : Open → ℕ → List ℕ → ℕ → List ℕ → ℕ → Type 0
+abbrev pub IsAnywayInside : TreeFrame → ℕ → List ℕ → ℕ → List ℕ → ℕ → Type 0
 IsAnywayInside (array vs behind) l ys q zs r =
     (count : Option ℕ) × IsInContainer 4 count (array_due count) (due_in (array vs behind)) l ys q vs zs r
 IsAnywayInside (map ps behind key) l ys q zs r =
-    (count : Option ℕ) × IsInContainer 5 count (map_due count) (due_in (map ps behind key)) l ys q (in_turn ps key) zs r
+    (count : Option ℕ) × IsInContainer 5 count (map_due count) (due_in (map ps behind key)) l ys q (trees_in_turn ps key) zs r
 IsAnywayInside (tag t) l ys q zs r = IsInTag ys q t zs r
 
 -- what begins at ys in the deterministic spelling of an order is open at zs
-abbrev pub IsStrictlyInside : KeyOrder → Open → ℕ → List ℕ → ℕ → List ℕ → ℕ → Type 0
+abbrev pub IsStrictlyInside : KeyOrder → TreeFrame → ℕ → List ℕ → ℕ → List ℕ → ℕ → Type 0
 IsStrictlyInside order (array vs (Some n)) l ys q zs r = HasParts order of_array (length vs + suc n) l ys q vs zs r
 IsStrictlyInside order (array vs None) l ys q zs r = ⊥
-IsStrictlyInside order (map ps (Some n) key) l ys q zs r = HasParts order of_map (length ps + suc n) l ys q (in_turn ps key) zs r
+IsStrictlyInside order (map ps (Some n) key) l ys q zs r = HasParts order of_map (length ps + suc n) l ys q (trees_in_turn ps key) zs r
 IsStrictlyInside order (map ps None key) l ys q zs r = ⊥
 IsStrictlyInside order (tag t) l ys q zs r = HasShortHead 6 t ys q zs r × IsUsable zs r × ¬ IsFoldingAt t zs
 
-abbrev pub IsInside : Spelling → Open → ℕ → List ℕ → ℕ → List ℕ → ℕ → Type 0
+abbrev pub IsInside : Spelling → TreeFrame → ℕ → List ℕ → ℕ → List ℕ → ℕ → Type 0
 IsInside any o l ys q zs r = IsAnywayInside o l ys q zs r
 IsInside (deterministic order) o l ys q zs r = IsStrictlyInside order o l ys q zs r
 
 -- all that is open, the innermost first
-abbrev pub IsAround : Spelling → ℕ → List ℕ → ℕ → List Open → ℕ → List ℕ → ℕ → Type 0
+abbrev pub IsAround : Spelling → ℕ → List ℕ → ℕ → List TreeFrame → ℕ → List ℕ → ℕ → Type 0
 IsAround spelling l xs p [] m zs r = (m ≡ l) × (zs ≡ xs) × (r ≡ p)
 IsAround spelling l xs p (o ∷ os) m zs r = (ys : List ℕ) × (q : ℕ) × IsAround spelling l xs p os (suc m) ys q × IsInside spelling o m ys q zs r

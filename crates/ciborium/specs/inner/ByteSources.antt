@@ -26,9 +26,9 @@ use Rattle.ciborium.specs.declared.de.byte_source.Left.{Left}
 use Rattle.ciborium.specs.declared.de.byte_source.Left.TheVariants as left
 use Rattle.ciborium.specs.ValueAnswers.{IsTreeRead}
 use Rattle.ciborium.specs.inner.Due.{LeavesReader}
-use Rattle.ciborium.specs.inner.Skips.{Opens}
+use Rattle.ciborium.specs.inner.Skips.{EntersUnread}
 use Rattle.ciborium.specs.Spelling.{any}
-use Rattle.ciborium.specs.inner.Unread.{SpellsPair, AreSpelled, Fits, ending, form_of, HasCount}
+use Rattle.ciborium.specs.inner.Unread.{SpellsPair, AreSpelled, FitsAhead, ending, form_of, HasCount}
 
 -- ---- what is unread
 
@@ -91,17 +91,17 @@ due_parts until_break n = n
 due_parts of_bytes n = 0
 
 -- how many items are due behind an item, at least: of the pairs of a map the keys
-abbrev pub due_after : Rest → ℕ
-due_after (bottom name b) = 0
-due_after (parts form is f) = due_parts form (length is) + due_after f
-due_after (pairs form ps f) = due_parts form (length ps) + due_after f
-due_after (entry v form ps f) = 1 + (due_parts form (length ps) + due_after f)
-due_after (held f) = due_after f
+abbrev pub items_due_behind : Rest → ℕ
+items_due_behind (bottom name b) = 0
+items_due_behind (parts form is f) = due_parts form (length is) + items_due_behind f
+items_due_behind (pairs form ps f) = due_parts form (length ps) + items_due_behind f
+items_due_behind (entry v form ps f) = 1 + (due_parts form (length ps) + items_due_behind f)
+items_due_behind (held f) = items_due_behind f
 
 -- the same with the item that is ahead
-abbrev pub due : Ahead → ℕ
-due (item i f) = 1 + due_after f
-due (after f) = due_after f
+abbrev pub items_due : Ahead → ℕ
+items_due (item i f) = 1 + items_due_behind f
+items_due (after f) = items_due_behind f
 
 -- the head of the item that is ahead, where it was taken
 abbrev pub pending_count : Option (Header × ℕ) → ℕ
@@ -110,10 +110,10 @@ pending_count (Some h) = 1
 
 -- each byte that may be read ahead is one of an item that is due, whose head was not taken
 abbrev pub HoldsDue : {S : Type 0} → ByteSource S → Ahead → Type 0
-HoldsDue s a = allowed_of s.decoder + pending_count s.pending ≤ due a
+HoldsDue s a = allowed_of s.decoder + pending_count s.pending ≤ items_due a
 
 abbrev pub StandsBefore : {S : Type 0} → (S → Option (List ℕ)) → ByteSource S → Limit → Ahead → Type 0
-StandsBefore remaining s l a = (b : List ℕ) × IsUnread remaining s b × Fits (reader_of remaining s.decoder) b a × (l ≡ Some s.levels) × HasNoneBehind s.pending a × HoldsDue s a
+StandsBefore remaining s l a = (b : List ℕ) × IsUnread remaining s b × FitsAhead (reader_of remaining s.decoder) b a × (l ≡ Some s.levels) × HasNoneBehind s.pending a × HoldsDue s a
 
 -- what is left of a container with this count (None: open)
 abbrev pub parts_left : Option ℕ → Left
@@ -181,16 +181,16 @@ LeftOwes left.Open dictionary b u = OwesParts SpellsPair None b u
 LeftOwes (left.Bytes v) sequence b u = HasItem b u
 LeftOwes (left.Bytes v) dictionary b u = ⊥
 
-abbrev pub Owes : ByteSeq → Shape → List ℕ → List ℕ → Type 0
-Owes q s b u = LeftOwes q.left s b u
+abbrev pub SeqOwes : ByteSeq → Shape → List ℕ → List ℕ → Type 0
+SeqOwes q s b u = LeftOwes q.left s b u
 
 -- a sequence was entered
-abbrev pub OpensItems : {S A : Type 0} → (S → Option (List ℕ)) → ByteSource S → ByteSource S → Taken A → (Limit → List Item → Outcome A) → ByteSeq → Type 0
-OpensItems remaining old new taken f q = Opens (IsUnread remaining) (λ p. Owes p sequence) Spells (λ p. HoldsItems p.left) old new (Some old.levels) (Some new.levels) taken f q
+abbrev pub EntersItemsUnread : {S A : Type 0} → (S → Option (List ℕ)) → ByteSource S → ByteSource S → Taken A → (Limit → List Item → Outcome A) → ByteSeq → Type 0
+EntersItemsUnread remaining old new taken f q = EntersUnread (IsUnread remaining) (λ p. SeqOwes p sequence) Spells (λ p. HoldsItems p.left) old new (Some old.levels) (Some new.levels) taken f q
 
 -- a map was entered
-abbrev pub OpensPairs : {S A : Type 0} → (S → Option (List ℕ)) → ByteSource S → ByteSource S → Taken A → (Limit → List (Item × Item) → Outcome A) → ByteSeq → Type 0
-OpensPairs remaining old new taken f q = Opens (IsUnread remaining) (λ p. Owes p dictionary) SpellsPair (λ p. HoldsPairs p.left) old new (Some old.levels) (Some new.levels) taken f q
+abbrev pub EntersPairsUnread : {S A : Type 0} → (S → Option (List ℕ)) → ByteSource S → ByteSource S → Taken A → (Limit → List (Item × Item) → Outcome A) → ByteSeq → Type 0
+EntersPairsUnread remaining old new taken f q = EntersUnread (IsUnread remaining) (λ p. SeqOwes p dictionary) SpellsPair (λ p. HoldsPairs p.left) old new (Some old.levels) (Some new.levels) taken f q
 
 -- what is left of a sequence was read: f takes this from its items, and the source stands past it
 abbrev pub ReadsRest : {S A : Type 0} → (S → Option (List ℕ)) → ByteSource S → ByteSource S → ByteSeq → (Limit → List Item → Outcome A) → A → Type 0
@@ -205,20 +205,20 @@ RefusesRest remaining old q f fault = (l : Limit) (form : Form) (is : List Item)
 -- ---- how much can still be read
 
 -- a head that can be handed out where it is not in the bytes weighs less than others
-abbrev pub weight : Header → ℕ
-weight (header.Positive n) = 1
-weight (header.Simple n) = 1
-weight _ = 2
+abbrev pub head_weight : Header → ℕ
+head_weight (header.Positive n) = 1
+head_weight (header.Simple n) = 1
+head_weight _ = 2
 
-abbrev pub pending_weight : Option (Header × ℕ) → ℕ
-pending_weight None = 0
-pending_weight (Some h) = weight h.0
+abbrev pub pending_head_weight : Option (Header × ℕ) → ℕ
+pending_head_weight None = 0
+pending_head_weight (Some h) = head_weight h.0
 
 abbrev pub bytes_weight : {S : Type 0} → ByteSource S → ℕ
 bytes_weight s = 3 * (greatest_offset - s.decoder.window.count)
 
 abbrev pub weight_left : {S : Type 0} → ByteSource S → ℕ
-weight_left s = bytes_weight s + pending_weight s.pending
+weight_left s = bytes_weight s + pending_head_weight s.pending
 
 abbrev pub bytes_left : Left → ℕ
 bytes_left (left.Counted n) = 0
@@ -239,8 +239,8 @@ HasBytes (left.Bytes v) P = P (into_iter_items v)
 -- ---- a value of any shape
 
 -- the head alone spells an item, which means this tree and takes no level
-abbrev pub StandsFor : Header → Tree → Type 0
-StandsFor h v = (s : List ℕ) → SpellsHeader s h → (i : Item) × Spells s i × (meaning i ≡ Some v) × (nesting i ≡ 0)
+abbrev pub MeansTree : Header → Tree → Type 0
+MeansTree h v = (s : List ℕ) → SpellsHeader s h → (i : Item) × Spells s i × (meaning i ≡ Some v) × (nesting i ≡ 0)
 
 -- the value ahead, the bytes of a head that was pending included, was read so, whatever follows the bytes that were taken
 abbrev pub ReadsValue : {S E : Type 0} → (S → Option (List ℕ)) → ByteSource S → ByteSource S → Result Tree (Error E) → Type 0

@@ -3,14 +3,14 @@ use Rattle.std.specs.Prelude.{◌≡◌, ℕ, ◌+◌, ◌-◌, ◌≤◌, ◌�
 use Rattle.ciborium_ll.specs.declared.decoder.Decoder.{Decoder}
 use Rattle.ciborium_ll.specs.declared.header.Header.{Header}
 use Rattle.ciborium_ll.specs.Decoding.{HasSameReader, HoldsNothing, allowed_of, count_of, reach_of}
-use Rattle.ciborium_value.specs.inner.Frames.{Open, parts_due, due_behind}
+use Rattle.ciborium_value.specs.inner.Frames.{TreeFrame, parts_due, due_behind}
 use Rattle.ciborium.specs.declared.de.error.Error.{Error}
 use Rattle.ciborium.specs.declared.de.error.Error.TheVariants.{Io, Syntax, Semantic, RecursionLimitExceeded, Memory, TooLong}
 
 -- where the reader failed or ended, nothing is held
-abbrev pub IsSpent : {S E : Type 0} → Decoder S → Error E → Type 0
-IsSpent d (Io e) = HoldsNothing d
-IsSpent d _ = Unit {0}
+abbrev pub HoldsNothingAfter : {S E : Type 0} → Decoder S → Error E → Type 0
+HoldsNothingAfter d (Io e) = HoldsNothing d
+HoldsNothingAfter d _ = Unit {0}
 
 -- the head that was pushed back is taken already
 abbrev pub pushed_count : Option (Header × ℕ) → ℕ
@@ -19,7 +19,7 @@ pushed_count (Some h) = 1
 
 -- while this is open, bytes may be read ahead up to the offset reach, or as many as parts are due; and a head was pushed back only
 -- where none is due for sure
-abbrev pub AllowsDue : {S : Type 0} → ℕ → Decoder S → List Open → Type 0
+abbrev pub AllowsDue : {S : Type 0} → ℕ → Decoder S → List TreeFrame → Type 0
 AllowsDue reach d os =
     ((reach_of d ≤ reach) ⊎ (reach_of d + pushed_count d.pushed ≤ count_of d + 1 + due_behind os)) ×
     MatchOption d.pushed (Unit {0}) (λ head. parts_due os ≡ 0)
@@ -29,7 +29,7 @@ abbrev pub AllowsNoMore : {S : Type 0} → ℕ → Decoder S → Type 0
 AllowsNoMore reach d = allowed_of d ≤ reach - count_of d
 
 -- after a turn: more is open, or the value is whole
-abbrev pub AllowsThen : {S A : Type 0} → ℕ → Decoder S → List Open → Option A → Type 0
+abbrev pub AllowsThen : {S A : Type 0} → ℕ → Decoder S → List TreeFrame → Option A → Type 0
 AllowsThen reach d os None = AllowsDue reach d os
 AllowsThen reach d os (Some v) = AllowsNoMore reach d
 

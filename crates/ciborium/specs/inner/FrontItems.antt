@@ -5,7 +5,7 @@ use Rattle.ciborium_ll.specs.Header.{SpellsHeader, announced_length}
 use Rattle.ciborium_ll.specs.Item.{Item}
 use Rattle.ciborium_ll.specs.Spells.{Spells}
 use Rattle.ciborium_value.specs.Nesting.{Limit}
-use Rattle.ciborium_value.specs.Sources.{Fault, IsFaultOf, IsOutside}
+use Rattle.ciborium_value.specs.Sources.{Fault, IsFaultOf, IsOutsideFault}
 use Rattle.ciborium_value.specs.Taken.{Taken, gives}
 
 module _ {S : Type 0} (IsUnread : S → List ℕ → Type 0) where
@@ -21,7 +21,7 @@ module _ {S : Type 0} (IsUnread : S → List ℕ → Type 0) where
 module _ {S : Type 0} (IsUnread : S → List ℕ → Type 0) (End : S → ℕ) where
   -- where a head stands, with its payload, it is refused for what no head decides
   abbrev pub DeniesHead : S → Fault → Type 0
-  DeniesHead old fault = (b x y : List ℕ) (h : Header) → IsUnread old b → SpellsHeader x h → b ≡ x ++ y → announced_length h ≤ length y → IsOutside (End old) fault
+  DeniesHead old fault = (b x y : List ℕ) (h : Header) → IsUnread old b → SpellsHeader x h → b ≡ x ++ y → announced_length h ≤ length y → IsOutsideFault (End old) fault
 
   -- where an item stands it is refused only where the item is, and for that
   abbrev pub Denies : {A : Type 0} → S → Limit → Taken A → Fault → Type 0
@@ -29,4 +29,4 @@ module _ {S : Type 0} (IsUnread : S → List ℕ → Type 0) (End : S → ℕ) w
 
   -- where an item stands it is refused for what no item decides
   abbrev pub DeniesItem : S → Fault → Type 0
-  DeniesItem old fault = (b s z : List ℕ) (i : Item) → IsUnread old b → Spells s i → b ≡ s ++ z → IsOutside (End old) fault
+  DeniesItem old fault = (b s z : List ℕ) (i : Item) → IsUnread old b → Spells s i → b ≡ s ++ z → IsOutsideFault (End old) fault

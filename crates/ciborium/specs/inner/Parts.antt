@@ -10,9 +10,9 @@ use Rattle.ciborium_ll.specs.Refusal.{Refusal, HeadRefuses, io, semantic, NotFol
 use Rattle.ciborium_value.specs.declared.kind.Kind.TheVariants as kinds
 use Rattle.ciborium_value.specs.declared.tree.Value.{Value}
 use Rattle.ciborium_value.specs.Meaning.{simple_meaning, bignum_meaning, is_bignum_tag}
-use Rattle.ciborium_value.specs.inner.Frames.{Open, array, map, parts_due}
+use Rattle.ciborium_value.specs.inner.Frames.{TreeFrame, array, map, parts_due}
 use Rattle.ciborium_value.specs.Refuses.{Refuses}
-use Rattle.ciborium_value.specs.inner.Stack.{opened}
+use Rattle.ciborium_value.specs.inner.Stack.{begun_frame}
 use Rattle.ciborium_value.specs.Tree as trees
 use Rattle.ciborium_value.specs.View.{tree_of}
 use Rattle.ciborium.specs.declared.de.error.Error.{Error}
@@ -35,14 +35,14 @@ IsBehind None None = Unit {0}
 -- what follows the head of an array with this count
 abbrev pub IsArrayBegun : {E : Type 0} → Option ℕ → ℕ → Result Part (Error E) → Type 0
 IsArrayBegun count l (Ok (Whole v)) = (count ≡ Some 0) × (0 < l) × (tree_of v ≡ trees.array trees.no_trees)
-IsArrayBegun count l (Ok (Opened f)) = (0 < l) × (behind : Option ℕ) × (opened f ≡ array [] behind) × IsBehind count behind
+IsArrayBegun count l (Ok (Opened f)) = (0 < l) × (behind : Option ℕ) × (begun_frame f ≡ array [] behind) × IsBehind count behind
 IsArrayBegun count l (Ok Ended) = ⊥
 IsArrayBegun count l (Err e) = (l ≡ 0) × (e ≡ RecursionLimitExceeded)
 
 -- what follows the head of a map with this count
 abbrev pub IsMapBegun : {E : Type 0} → Option ℕ → ℕ → Result Part (Error E) → Type 0
 IsMapBegun count l (Ok (Whole v)) = (count ≡ Some 0) × (0 < l) × (tree_of v ≡ trees.map trees.no_tree_pairs)
-IsMapBegun count l (Ok (Opened f)) = (0 < l) × (behind : Option ℕ) × (opened f ≡ map [] behind None) × IsBehind count behind
+IsMapBegun count l (Ok (Opened f)) = (0 < l) × (behind : Option ℕ) × (begun_frame f ≡ map [] behind None) × IsBehind count behind
 IsMapBegun count l (Ok Ended) = ⊥
 IsMapBegun count l (Err e) = (l ≡ 0) × (e ≡ RecursionLimitExceeded)
 
@@ -52,8 +52,8 @@ IsSimpleRead n p (Ok v) = simple_meaning n ≡ Some (tree_of v)
 IsSimpleRead n p (Err e) = (simple_meaning n ≡ None) × (e ≡ Semantic (Some p) kinds.Simple)
 
 -- a container or tag that is open at zs begins at ys
-abbrev pub IsBegun : Spelling → ℕ → List ℕ → ℕ → Open → List ℕ → ℕ → Type 0
-IsBegun spelling l ys q o zs r = (m : ℕ) × (l ≡ suc m) × IsInside spelling o m ys q zs r
+abbrev pub IsFrameBegun : Spelling → ℕ → List ℕ → ℕ → TreeFrame → List ℕ → ℕ → Type 0
+IsFrameBegun spelling l ys q o zs r = (m : ℕ) × (l ≡ suc m) × IsInside spelling o m ys q zs r
 
 -- xs refuses so, and is no break that may end what is open
 abbrev pub RefusesPart : Spelling → List ℕ → ℕ → ℕ → Refusal → Type 0
@@ -61,14 +61,14 @@ RefusesPart any xs p l = λ r. Refuses xs p (Some l) r × ¬ IsBreakAt xs p
 RefusesPart (deterministic order) xs p l = DeterministicallyRefuses order xs p l
 
 -- a head was pulled where xs was ahead from offset p on, and is accepted; for the deterministic spelling the decoder knows its size
-abbrev pub IsSized : {S : Type 0} → Spelling → Decoder S → ℕ → Type 0
-IsSized any d p = Unit {0}
-IsSized (deterministic order) d p = d.window.count ≡ p + d.head_len
+abbrev pub IsHeadMeasured : {S : Type 0} → Spelling → Decoder S → ℕ → Type 0
+IsHeadMeasured any d p = Unit {0}
+IsHeadMeasured (deterministic order) d p = d.window.count ≡ p + d.head_len
 
 pub record IsHeadAccepted {S : Type 0} (spelling : Spelling) (remaining : S → Option (List ℕ)) (d : Decoder S) (h : Header) (xs : List ℕ) (p : ℕ) : Type 0 where
   pub pulled : IsPulled remaining d h xs p
   pub right : head_fault spelling h d.head_len ≡ None
-  pub sized : IsSized spelling d p
+  pub sized : IsHeadMeasured spelling d p
 
 -- the answer of a call that pulls a head
 abbrev pub IsHeadRead : {S E : Type 0} → (S → Option (List ℕ)) → Decoder S → List ℕ → ℕ → Result Header (Error E) → Type 0
@@ -80,21 +80,21 @@ abbrev pub IsPartRead : {S E : Type 0} → Spelling → (S → Option (List ℕ)
 IsPartRead spelling remaining d l xs p (Ok (Whole v)) =
     (zs : List ℕ) × (r : ℕ) × ReadsItem spelling l xs p (tree_of v) zs r × StandsAt spelling remaining d zs r
 IsPartRead spelling remaining d l xs p (Ok (Opened f)) =
-    (zs : List ℕ) × (r : ℕ) × IsBegun spelling l xs p (opened f) zs r × StandsAt spelling remaining d zs r
+    (zs : List ℕ) × (r : ℕ) × IsFrameBegun spelling l xs p (begun_frame f) zs r × StandsAt spelling remaining d zs r
 IsPartRead spelling remaining d l xs p (Ok Ended) =
     (zs : List ℕ) × (xs ≡ break_byte ∷ zs) × (p < greatest_offset) × StandsAt spelling remaining d zs (p + 1)
 IsPartRead spelling remaining d l xs p (Err e) = IsRefusedBy (left_of remaining d) e (RefusesPart spelling xs p l)
 
 -- a level is left for what was opened
-abbrev pub HasRoom : Part → ℕ → Type 0
-HasRoom (Whole v) l = Unit {0}
-HasRoom (Opened f) l = 0 < l
-HasRoom Ended l = Unit {0}
+abbrev pub HasLevel : Part → ℕ → Type 0
+HasLevel (Whole v) l = Unit {0}
+HasLevel (Opened f) l = 0 < l
+HasLevel Ended l = Unit {0}
 
 -- no head is pushed behind a whole value or a break, nor behind what announced how many parts are due
 abbrev pub IsAtRest : Part → Option (Header × ℕ) → Type 0
 IsAtRest (Whole v) pushed = pushed ≡ None
-IsAtRest (Opened f) pushed = MatchOption pushed (Unit {0}) (λ head. parts_due (opened f ∷ []) ≡ 0)
+IsAtRest (Opened f) pushed = MatchOption pushed (Unit {0}) (λ head. parts_due (begun_frame f ∷ []) ≡ 0)
 IsAtRest Ended pushed = pushed ≡ None
 
 -- what the bytes over which a tag at offset p folds are read as

@@ -56,12 +56,12 @@ module _ {S : Type 0} (IsUnread : S → List ℕ → Type 0) where
       (b : List ℕ) → IsUnread old b → (ts : List ℕ) × (u : List ℕ) × (x : List ℕ) × (y : List ℕ) × IsTagged ts b u × AreSkipped numbers ts × SpellsHeader x h × (u ≡ x ++ y) × IsUnread new y
 
   -- a container was entered: what is owed is known, and which parts it has, of which f is taken
-  abbrev pub Opens : {Q X A : Type 0} → (Q → List ℕ → List ℕ → Type 0) → (List ℕ → X → Type 0) → (Q → Form → List X → Type 0) → S → S → Limit → Limit → Taken A → (Limit → List X → Outcome A) → Q → Type 0
-  Opens {X = X} Owes SpellsPart Holds old new l below taken f q =
+  abbrev pub EntersUnread : {Q X A : Type 0} → (Q → List ℕ → List ℕ → Type 0) → (List ℕ → X → Type 0) → (Q → Form → List X → Type 0) → S → S → Limit → Limit → Taken A → (Limit → List X → Outcome A) → Q → Type 0
+  EntersUnread {X = X} Owes SpellsPart Holds old new l below taken f q =
       (b : List ℕ) → IsUnread old b → (u : List ℕ) × IsUnread new u × Owes q b u ×
       ((j : Item) (t z : List ℕ) → Spells t j → b ≡ t ++ z →
       (form : Form) × (xs : List X) × (c : List ℕ) × (taken l j ≡ f (inside form l) xs) × (inside form l ≡ below) × AreLeft SpellsPart form c xs × (u ≡ c ++ (ending form ++ z)) × Holds q form xs)
 
   -- a tag or a variant was entered, and its content is ahead
-  abbrev pub OpensLevel : {A : Type 0} → S → S → Limit → Taken (A × Item) → A → Type 0
-  OpensLevel old new l taken v = (b : List ℕ) → IsUnread old b → (u : List ℕ) × IsUnread new u × Leads l taken v b u
+  abbrev pub EntersLevelUnread : {A : Type 0} → S → S → Limit → Taken (A × Item) → A → Type 0
+  EntersLevelUnread old new l taken v = (b : List ℕ) → IsUnread old b → (u : List ℕ) × IsUnread new u × Leads l taken v b u

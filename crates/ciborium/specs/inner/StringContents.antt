@@ -5,9 +5,9 @@ use Rattle.ciborium_ll.specs.declared.header.Header.TheVariants as header
 use Rattle.ciborium_ll.specs.Bytes.{AreBytes}
 use Rattle.ciborium_ll.specs.Header.{SpellsHeader}
 use Rattle.ciborium_ll.specs.Item.{Item, bytes, text}
-use Rattle.ciborium_ll.specs.Spells.{Spells, AreParts, joined}
+use Rattle.ciborium_ll.specs.Spells.{Spells, AreChunks, joined}
 use Rattle.ciborium_ll.specs.StringRefusal.{StringKind, of_bytes, of_text}
-use Rattle.ciborium_value.specs.Sources.{Fault, IsOutside}
+use Rattle.ciborium_value.specs.Sources.{Fault, IsOutsideFault}
 
 -- the head of a string of this length (None: open)
 abbrev pub head_of : StringKind → Option ℕ → Header
@@ -58,13 +58,13 @@ module _ (P Q : List ℕ → Type 0) where
   -- of an open byte string some parts were taken, which make this number
   abbrev pub TakesParts : Option ℕ → Type 0
   TakesParts v =
-      (y : List ℕ) → P y → (ps : List (List ℕ)) × (c : List ℕ) × (z : List ℕ) × AreParts 2 AreBytes c ps × (v ≡ digits_of (Some 0) (joined ps)) × AreBytes (joined ps) × (y ≡ c ++ z) × Q z
+      (y : List ℕ) → P y → (ps : List (List ℕ)) × (c : List ℕ) × (z : List ℕ) × AreChunks 2 AreBytes c ps × (v ≡ digits_of (Some 0) (joined ps)) × AreBytes (joined ps) × (y ≡ c ++ z) × Q z
 
 -- where a string with this head is spelled, and what is there ends at this offset, it is refused for what the string does not decide
 abbrev pub DeniesContent : (List ℕ → Type 0) → ℕ → StringKind → Option ℕ → Fault → Type 0
 DeniesContent P end kind len fault =
-    (y x s z payload : List ℕ) → P y → SpellsHeader x (head_of kind len) → Spells s (string_item kind len payload) → x ++ y ≡ s ++ z → IsOutside end fault
+    (y x s z payload : List ℕ) → P y → SpellsHeader x (head_of kind len) → Spells s (string_item kind len payload) → x ++ y ≡ s ++ z → IsOutsideFault end fault
 
 -- where n bytes are there
 abbrev pub DeniesJust : (List ℕ → Type 0) → ℕ → ℕ → Fault → Type 0
-DeniesJust P end n fault = (y : List ℕ) → P y → n ≤ length y → IsOutside end fault
+DeniesJust P end n fault = (y : List ℕ) → P y → n ≤ length y → IsOutsideFault end fault

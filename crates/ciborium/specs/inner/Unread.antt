@@ -49,6 +49,6 @@ module _ (reader : GName × ℕ) where
   IsRest b (held f) = IsRest b f
 
   -- b is what a source stands before
-  abbrev pub Fits : List ℕ → Ahead → Type 0
-  Fits b (item i f) = (s : List ℕ) × (r : List ℕ) × Spells s i × IsRest r f × (b ≡ s ++ r)
-  Fits b (after f) = IsRest b f
+  abbrev pub FitsAhead : List ℕ → Ahead → Type 0
+  FitsAhead b (item i f) = (s : List ℕ) × (r : List ℕ) × Spells s i × IsRest r f × (b ≡ s ++ r)
+  FitsAhead b (after f) = IsRest b f

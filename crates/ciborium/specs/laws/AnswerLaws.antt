@@ -11,17 +11,17 @@ use Rattle.ciborium_value.specs.View.{tree_of}
 use Rattle.ciborium.specs.declared.de.error.Error.{Error}
 use Rattle.ciborium.specs.declared.de.error.Error.TheVariants.{Io, Syntax, Semantic, RecursionLimitExceeded, Memory, TooLong}
 use Rattle.ciborium.specs.ValueAnswers.{TakesValue, IsFailed}
-use Rattle.ciborium.specs.Errors.{IsRefusedBy, kind_of}
+use Rattle.ciborium.specs.Errors.{IsRefusedBy, refusal_kind_of}
 use Rattle.ciborium.specs.Spelling.{any}
 
 -- what the clauses of a call say of its answer: b were the known bytes, within l levels, and this is left of them
-abbrev pub IsAnswer : List ℕ → ℕ → Option (List ℕ) → Result Value (Error IoError) → Type 0
-IsAnswer b l left (Ok v) = TakesValue any b l (tree_of v) left
-IsAnswer b l left (Err e) = IsRefusedBy left e (λ r. Refuses b 0 (Some l) r)
+abbrev pub IsReadAnswer : List ℕ → ℕ → Option (List ℕ) → Result Value (Error IoError) → Type 0
+IsReadAnswer b l left (Ok v) = TakesValue any b l (tree_of v) left
+IsReadAnswer b l left (Err e) = IsRefusedBy left e (λ r. Refuses b 0 (Some l) r)
 
 -- the refusal of a kind at an offset
 abbrev pub semantic_of : Option ℕ → Kind → Option Refusal
-semantic_of (Some p) k = option_map (refusal.semantic p) (kind_of k)
+semantic_of (Some p) k = option_map (refusal.semantic p) (refusal_kind_of k)
 semantic_of None k = None
 
 -- the refusal that an error names: `Io` is one where the reader came to its end
@@ -34,14 +34,14 @@ refusal_of Memory = None
 refusal_of TooLong = Some refusal.too_long
 
 -- two answers are alike, with what is left behind each: the same tree and the same bytes, or the same refusal; or a call failed
-abbrev pub AreAlike : Option (List ℕ) → Result Value (Error IoError) → Option (List ℕ) → Result Value (Error IoError) → Type 0
-AreAlike left (Ok v) right (Ok w) = (tree_of v ≡ tree_of w) × (left ≡ right)
-AreAlike left (Ok v) right (Err f) = IsFailed right f
-AreAlike left (Err e) right (Ok w) = IsFailed left e
-AreAlike left (Err e) right (Err f) = IsFailed left e ⊎ IsFailed right f ⊎ (refusal_of e ≡ refusal_of f)
+abbrev pub AreOneAnswer : Option (List ℕ) → Result Value (Error IoError) → Option (List ℕ) → Result Value (Error IoError) → Type 0
+AreOneAnswer left (Ok v) right (Ok w) = (tree_of v ≡ tree_of w) × (left ≡ right)
+AreOneAnswer left (Ok v) right (Err f) = IsFailed right f
+AreOneAnswer left (Err e) right (Ok w) = IsFailed left e
+AreOneAnswer left (Err e) right (Err f) = IsFailed left e ⊎ IsFailed right f ⊎ (refusal_of e ≡ refusal_of f)
 
 -- any two answers for the same bytes and limit are alike
 abbrev pub OneAnswer : Type 0
 OneAnswer =
-    (b : List ℕ) (l : ℕ) (left right : Option (List ℕ)) (x y : Result Value (Error IoError)) → AreBytes b → IsAnswer b l left x → IsAnswer b l right y →
-    AreAlike left x right y
+    (b : List ℕ) (l : ℕ) (left right : Option (List ℕ)) (x y : Result Value (Error IoError)) → AreBytes b → IsReadAnswer b l left x → IsReadAnswer b l right y →
+    AreOneAnswer left x right y

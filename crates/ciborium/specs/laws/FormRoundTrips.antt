@@ -14,7 +14,7 @@ use Rattle.ciborium_value.specs.View.{tree_of}
 use Rattle.ciborium_value.specs.declared.key_order.KeyOrder.{KeyOrder}
 use Rattle.ciborium_value.specs.declared.tree.Value.{Value}
 use Rattle.ciborium.specs.declared.de.error.Error.{Error}
-use Rattle.ciborium.specs.ValueAnswers.{AnswersGoodItem, AnswersTree, ReadsWhole}
+use Rattle.ciborium.specs.ValueAnswers.{AnswersGoodItem, GivesTree, ReadsWhole}
 use Rattle.ciborium.specs.DeterministicWrites.{IsFormWritten, WritesForm, named_form}
 use Rattle.ciborium.specs.Spelling.{deterministic}
 use Rattle.ciborium.specs.TypedAnswers.{TakesGiven}
@@ -25,7 +25,7 @@ abbrev pub FormIsReadBack : Type 0
 FormIsReadBack =
     (o : KeyOrder) (v t : Tree) (l : ℕ) (rest : List ℕ) (after : Option (List ℕ)) (r : Result Tree (Error IoError)) →
     IsProperTree v → deterministic_form o v ≡ gives t → nesting (item_of t) ≤ l → length (encoding t) ≤ greatest_offset →
-    AnswersGoodItem (deterministic o) (Some (encoding t ++ rest)) l after r → AnswersTree t rest after r
+    AnswersGoodItem (deterministic o) (Some (encoding t ++ rest)) l after r → GivesTree t rest after r
 
 -- where the form of what a value names was written into nothing, and the deterministic reader of that order read w at the front of the bytes, w is the form
 abbrev pub IsFormReadBack : KeyOrder → Named → ℕ → Value → List ℕ → List ℕ → Type 0

@@ -6,7 +6,7 @@ use Rattle.ciborium_value.specs.Encoding.{written_bytes}
 use Rattle.ciborium_value.specs.Nesting.{IsWithin}
 use Rattle.ciborium_value.specs.Readings.{Reading}
 use Rattle.ciborium_value.specs.Sinks.{Named}
-use Rattle.ciborium_value.specs.Sources.{IsOutside}
+use Rattle.ciborium_value.specs.Sources.{IsOutsideFault}
 use Rattle.ciborium_value.specs.Taken.{gives}
 use Rattle.ciborium_value.specs.TreeAnswers.{IsTreeOf}
 use Rattle.ciborium_value.specs.TreeAnswers.{value_item}
@@ -15,7 +15,7 @@ use Rattle.ciborium_value.specs.declared.kind.Kind.{Kind}
 use Rattle.ciborium_value.specs.declared.serialized.Error.{Error as TreeError}
 use Rattle.ciborium_value.specs.declared.serialized.Error.TheVariants as of_tree
 use Rattle.ciborium.specs.declared.de.error.Error.{Error}
-use Rattle.ciborium.specs.Errors.{cause_of}
+use Rattle.ciborium.specs.Errors.{fault_of}
 use Rattle.ciborium_value.specs.declared.tree.Value.{Value}
 use Rattle.ciborium.specs.declared.ser.Error.{Error as WriteError}
 use Rattle.ciborium.specs.TypedAnswers.{AnswersBytes, AnswersTree, TakesGiven, TakesGiving}
@@ -24,7 +24,7 @@ use Rattle.ciborium.specs.Writes.{IsNamedWritten, WritesNamed}
 -- the content is answered and what followed is left; or the call failed, for what no item decides
 abbrev pub IsGivenBack : {C E : Type 0} → C → List ℕ → ℕ → Option (List ℕ) → Result C (Error E) → Type 0
 IsGivenBack c rest end after (Ok d) = (d ≡ c) × (after ≡ Some rest)
-IsGivenBack c rest end after (Err e) = IsOutside end (cause_of e)
+IsGivenBack c rest end after (Err e) = IsOutsideFault end (fault_of e)
 
 -- reading the bytes of what a value names, where so many levels are left, whatever follows them
 abbrev pub BytesReadBack : {T C : Type 0} → (T → Type 0) → (T → Named) → Reading T C → (T → ℕ) → Type 0

@@ -4,10 +4,10 @@ ghost use Rattle.std.specs.Prelude.{◌≡◌, ◌<◌, ◌≤◌, IfErr, IfOk, 
 ghost use Rattle.std.specs.Prelude.{Ok, OnOk, Some, length, ℕ};
 ghost use Rattle.ciborium_ll.specs.Decoding.{HasSameReader, TakesBeforeAny, count_of};
 ghost use Rattle.ciborium_ll.specs.Decoding.{head_len_of, left_of, pushed_of, reach_of};
-ghost use Rattle.ciborium_value.specs.inner.Stack.{opens_of};
+ghost use Rattle.ciborium_value.specs.inner.Stack.{frames_of};
 ghost use Rattle.ciborium_value.specs.View.{tree_of};
 ghost use Rattle.ciborium.specs.ValueAnswers.{IsPlacedInOrder, IsReading, IsTurned, IsValueRead};
-ghost use Rattle.ciborium.specs.inner.Due.{AllowsDue, AllowsNoMore, AllowsThen, IsSpent, LeavesReader};
+ghost use Rattle.ciborium.specs.inner.Due.{AllowsDue, AllowsNoMore, AllowsThen, HoldsNothingAfter, LeavesReader};
 ghost use Rattle.ciborium.specs.inner.ValuesInBytes.{StandsAt, heads_left};
 
 use crate::de::error::{Error, Refusal};
@@ -23,8 +23,8 @@ use std::io::{self, Read};
 // Places a value whose last byte stands before offset `end`, and refuses a key out of order.
 #[inline(always)]
 fn place<S: Rules>(stack: &mut Stack, value: Value, end: usize) -> Result<Option<Value>, Refusal>
-    ensures { IsPlacedInOrder S.spelling (opens_of stack.old) (tree_of value) end
-        (opens_of stack.new) result }
+    ensures { IsPlacedInOrder S.spelling (frames_of stack.old) (tree_of value) end
+        (frames_of stack.new) result }
 {
     let placed = match stack.place(value) {
         Ok(placed) => placed,
@@ -48,20 +48,20 @@ fn turn<S: Rules, R: Read>(
     levels: usize,
     failure: &mut Option<io::Error>,
 ) -> Result<Option<Value>, Refusal>
-    requires { length (opens_of stack.old) ≤ levels }
+    requires { length (frames_of stack.old) ≤ levels }
     ensures same_reader { HasSameReader decoder.old decoder.new }
     ensures fewer { OnOk result (heads_left decoder.new < heads_left decoder.old) }
     ensures rests { IfOk result (λ o.
         MatchOption o (Unit {0}) (λ _. pushed_of decoder.new ≡ None)) }
-    ensures due { (reach : ℕ) → AllowsDue reach decoder.old (opens_of stack.old) →
-        IfOk result (AllowsThen reach decoder.new (opens_of stack.new)) }
-    ensures spent { IfErr result (λ e. IsSpent decoder.new e) }
+    ensures due { (reach : ℕ) → AllowsDue reach decoder.old (frames_of stack.old) →
+        IfOk result (AllowsThen reach decoder.new (frames_of stack.new)) }
+    ensures spent { IfErr result (λ e. HoldsNothingAfter decoder.new e) }
     ensures depth { IfOk result (λ o.
-        MatchOption o (length (opens_of stack.new) ≤ levels) (λ _. Unit {0})) }
+        MatchOption o (length (frames_of stack.new) ≤ levels) (λ _. Unit {0})) }
     ensures turn { TakesBeforeAny R.remaining decoder.old decoder.new
         (λ d e. (xs : List ℕ) (p : ℕ) →
-        IsReading S.spelling Some d (opens_of stack.old) levels xs p →
-        IsTurned S.spelling Some e (opens_of stack.new) levels xs p result) }
+        IsReading S.spelling Some d (frames_of stack.old) levels xs p →
+        IsTurned S.spelling Some e (frames_of stack.new) levels xs p result) }
 {
     let offset = decoder.offset();
     match next::<S, R>(alloc, decoder, scratch, levels - stack.depth(), failure)? {
@@ -85,8 +85,8 @@ fn allow_due<R: Read>(decoder: &mut Decoder<'_, R>, stack: &Stack)
     ensures head_len { head_len_of decoder.new ≡ head_len_of decoder.old }
     ensures count { count_of decoder.new ≡ count_of decoder.old }
     ensures unread { left_of R.remaining decoder.new ≡ left_of R.remaining decoder.old }
-    ensures due { (reach : ℕ) → AllowsDue reach decoder.old (opens_of stack.now) →
-        AllowsDue reach decoder.new (opens_of stack.now) }
+    ensures due { (reach : ℕ) → AllowsDue reach decoder.old (frames_of stack.now) →
+        AllowsDue reach decoder.new (frames_of stack.now) }
 {
     if decoder.held_byte().is_none() {
         decoder.allow(stack.due());
@@ -106,7 +106,7 @@ fn build<S: Rules, R: Read>(
     ensures rests { OnOk result (pushed_of decoder.new ≡ None) }
     ensures fewer { OnOk result (heads_left decoder.new < heads_left decoder.old) }
     ensures due { OnOk result (AllowsNoMore (reach_of decoder.old) decoder.new) }
-    ensures spent { IfErr result (λ e. IsSpent decoder.new e) }
+    ensures spent { IfErr result (λ e. HoldsNothingAfter decoder.new e) }
     ensures value { TakesBeforeAny R.remaining decoder.old decoder.new
         (λ d e. (xs : List ℕ) (p : ℕ) → StandsAt S.spelling Some d xs p →
         IsValueRead S.spelling Some e levels xs p result) }

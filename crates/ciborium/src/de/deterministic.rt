@@ -4,7 +4,7 @@ ghost use Rattle.std.specs.Prelude.{◌≡◌, IsFalse, IsTrue, MatchOption, ℕ
 ghost use Rattle.std.specs.declared.cmp.Ordering.TheVariants.{Less};
 ghost use Rattle.ciborium_value.specs.Canonical.{key_order};
 ghost use Rattle.ciborium_value.specs.Sources.{read_as};
-ghost use Rattle.ciborium_value.specs.inner.Stack.{opens_of};
+ghost use Rattle.ciborium_value.specs.inner.Stack.{frames_of};
 ghost use Rattle.ciborium_value.specs.View.{tree_of};
 ghost use Rattle.ciborium_value.specs.declared.key_order.KeyOrder.TheVariants as orders;
 ghost use Rattle.ciborium.specs.ValueAnswers.{ReadsWhole};
@@ -89,8 +89,8 @@ fn is_before(order: KeyOrder, left: &Value, right: &Value) -> bool
 // this order. Its last byte stands before offset `end`.
 #[inline(always)]
 fn find_key_out_of_order(order: KeyOrder, stack: &Stack, end: usize) -> Option<usize>
-    ensures { MatchOption result (IsKeyInOrder order (opens_of stack.now))
-        (λ at. IsKeyOutOfOrder order (opens_of stack.now) end at) }
+    ensures { MatchOption result (IsKeyInOrder order (frames_of stack.now))
+        (λ at. IsKeyOutOfOrder order (frames_of stack.now) end at) }
 {
     let (before, key) = stack.waiting_keys()?;
     if is_before(order, before, key) {

@@ -3,7 +3,7 @@
 ghost use Rattle.std.specs.Prelude.{◌≡◌, ◌+◌, ◌<◌, IfErr, List, None, OnOk, Some, ℕ};
 ghost use Rattle.ciborium_ll.specs.Decoding.{HasSameReader, IsAhead, TakesBeforeAny};
 ghost use Rattle.ciborium_ll.specs.Decoding.{count_of, head_len_of, offset_of, pushed_of};
-ghost use Rattle.ciborium.specs.inner.Due.{IsSpent};
+ghost use Rattle.ciborium.specs.inner.Due.{HoldsNothingAfter};
 ghost use Rattle.ciborium.specs.inner.Parts.{IsHeadRead};
 ghost use Rattle.ciborium.specs.inner.ValuesInBytes.{IsMeasured, heads_left};
 
@@ -33,7 +33,7 @@ pub(crate) fn pull<R: Read, K: Keep>(
     ensures same_reader { HasSameReader decoder.old decoder.new }
     ensures pushed { pushed_of decoder.new ≡ None }
     ensures fewer { OnOk result (heads_left decoder.new < heads_left decoder.old) }
-    ensures spent { IfErr result (λ e. IsSpent decoder.new e) }
+    ensures spent { IfErr result (λ e. HoldsNothingAfter decoder.new e) }
     ensures measured { OnOk result (IsMeasured decoder.old →
         count_of decoder.new ≡ offset_of decoder.old + head_len_of decoder.new) }
     ensures head { TakesBeforeAny R.remaining decoder.old decoder.new

@@ -4,8 +4,8 @@
 ghost use Rattle.std.specs.Prelude.{◌≡◌, ◌+◌, ◌<◌, ◌≤◌, IfErr, IfOk, List, None, OnOk, Some, ℕ};
 ghost use Rattle.ciborium_ll.specs.Decoding.{HasSameReader, TakesBeforeAny};
 ghost use Rattle.ciborium_ll.specs.Decoding.{last_of, pushed_of};
-ghost use Rattle.ciborium.specs.inner.Due.{IsSpent};
-ghost use Rattle.ciborium.specs.inner.Parts.{HasRoom, IsArrayBegun, IsMapBegun, IsPartRead};
+ghost use Rattle.ciborium.specs.inner.Due.{HoldsNothingAfter};
+ghost use Rattle.ciborium.specs.inner.Parts.{HasLevel, IsArrayBegun, IsMapBegun, IsPartRead};
 ghost use Rattle.ciborium.specs.inner.Parts.{IsAtRest, IsSimpleRead};
 ghost use Rattle.ciborium.specs.inner.ValuesInBytes.{IsAt, StandsAt, heads_left};
 ghost use Rattle.ciborium.specs.inner.StringAnswers.{IsStringRead};
@@ -86,7 +86,7 @@ pub(super) fn read_bytes<R: Read, K: Keep>(
     ensures same_reader { HasSameReader decoder.old decoder.new }
     ensures pushed { pushed_of decoder.new ≡ None }
     ensures fewer { OnOk result (heads_left decoder.new ≤ heads_left decoder.old) }
-    ensures spent { IfErr result (λ e. IsSpent decoder.new e) }
+    ensures spent { IfErr result (λ e. HoldsNothingAfter decoder.new e) }
     ensures content { TakesBeforeAny R.remaining decoder.old decoder.new
         (λ d e. (xs : List ℕ) (p : ℕ) → IsAt Some d xs p →
         IsStringRead of_bytes Some e len (last_of decoder.old) xs p result) }
@@ -108,7 +108,7 @@ pub(super) fn read_text<R: Read, K: Keep>(
     ensures same_reader { HasSameReader decoder.old decoder.new }
     ensures pushed { pushed_of decoder.new ≡ None }
     ensures fewer { OnOk result (heads_left decoder.new ≤ heads_left decoder.old) }
-    ensures spent { IfErr result (λ e. IsSpent decoder.new e) }
+    ensures spent { IfErr result (λ e. HoldsNothingAfter decoder.new e) }
     ensures content { TakesBeforeAny R.remaining decoder.old decoder.new
         (λ d e. (xs : List ℕ) (p : ℕ) → IsAt Some d xs p →
         IsStringRead of_text Some e len (last_of decoder.old) xs p result) }
@@ -130,8 +130,8 @@ pub(crate) fn next<S: Rules, R: Read>(
     ensures same_reader { HasSameReader decoder.old decoder.new }
     ensures fewer { OnOk result (heads_left decoder.new < heads_left decoder.old) }
     ensures rests { IfOk result (λ part. IsAtRest part (pushed_of decoder.new)) }
-    ensures room { IfOk result (λ part. HasRoom part levels) }
-    ensures spent { IfErr result (λ e. IsSpent decoder.new e) }
+    ensures room { IfOk result (λ part. HasLevel part levels) }
+    ensures spent { IfErr result (λ e. HoldsNothingAfter decoder.new e) }
     ensures part { TakesBeforeAny R.remaining decoder.old decoder.new
         (λ d e. (xs : List ℕ) (p : ℕ) → StandsAt S.spelling Some d xs p →
         IsPartRead S.spelling Some e levels xs p result) }

@@ -1,7 +1,7 @@
 //! The spellings that a value is read by: what each of them refuses.
 
 ghost use Rattle.std.specs.Prelude.{◌≡◌, IsFalse, IsTrue, MatchOption};
-ghost use Rattle.ciborium_value.specs.inner.Stack.{opens_of};
+ghost use Rattle.ciborium_value.specs.inner.Stack.{frames_of};
 ghost use Rattle.ciborium.specs.Spelling as spellings;
 ghost use Rattle.ciborium.specs.Spelling.{HasKeysInOrder, HasKeyOutOfOrder, IsUnwanted, head_fault};
 
@@ -26,8 +26,8 @@ pub(crate) trait Rules {
     /// The offset of the key that waits for its value, where it is out of order. Its last byte
     /// stands before offset `end`.
     fn find_disorder(stack: &Stack, end: usize) -> Option<usize>
-        ensures { MatchOption result (HasKeysInOrder spelling (opens_of stack.now))
-            (λ at. HasKeyOutOfOrder spelling (opens_of stack.now) end at) };
+        ensures { MatchOption result (HasKeysInOrder spelling (frames_of stack.now))
+            (λ at. HasKeyOutOfOrder spelling (frames_of stack.now) end at) };
 }
 
 /// Every width and form of a head, indefinite lengths, and keys in any order (RFC 8949, section 3).

@@ -4,8 +4,8 @@ ghost use Rattle.std.specs.Prelude.{◌≡◌, ◌≤◌, IfErr, IfOk, List, Non
 ghost use Rattle.ciborium_ll.specs.Decoding.{HasSameReader, TakesBeforeAny, pushed_of};
 ghost use Rattle.ciborium_ll.specs.declared.header.Header.TheVariants as header;
 ghost use Rattle.ciborium_value.specs.Meaning.{is_bignum_tag};
-ghost use Rattle.ciborium.specs.inner.Due.{IsSpent};
-ghost use Rattle.ciborium.specs.inner.Parts.{HasRoom, IsAtRest, IsBignumRead, IsFolded, IsFolding};
+ghost use Rattle.ciborium.specs.inner.Due.{HoldsNothingAfter};
+ghost use Rattle.ciborium.specs.inner.Parts.{HasLevel, IsAtRest, IsBignumRead, IsFolded, IsFolding};
 ghost use Rattle.ciborium.specs.inner.Parts.{IsHeadAccepted, IsPartRead};
 ghost use Rattle.ciborium.specs.inner.ValuesInBytes.{IsAt, heads_left};
 
@@ -64,7 +64,7 @@ fn read_bignum<S: Rules, R: Read>(
     ensures same_reader { HasSameReader decoder.old decoder.new }
     ensures pushed { pushed_of decoder.new ≡ None }
     ensures fewer { OnOk result (heads_left decoder.new ≤ heads_left decoder.old) }
-    ensures spent { IfErr result (λ e. IsSpent decoder.new e) }
+    ensures spent { IfErr result (λ e. HoldsNothingAfter decoder.new e) }
     ensures bignum { TakesBeforeAny R.remaining decoder.old decoder.new
         (λ d e. (xs : List ℕ) (p : ℕ) → IsAt Some d xs p →
         IsBignumRead S.spelling Some e tag n offset xs p result) }
@@ -92,8 +92,8 @@ pub(crate) fn read_tag<S: Rules, R: Read>(
     ensures same_reader { HasSameReader decoder.old decoder.new }
     ensures fewer { OnOk result (heads_left decoder.new ≤ heads_left decoder.old) }
     ensures rests { IfOk result (λ part. IsAtRest part (pushed_of decoder.new)) }
-    ensures room { IfOk result (λ part. HasRoom part levels) }
-    ensures spent { IfErr result (λ e. IsSpent decoder.new e) }
+    ensures room { IfOk result (λ part. HasLevel part levels) }
+    ensures spent { IfErr result (λ e. HoldsNothingAfter decoder.new e) }
     ensures part { TakesBeforeAny R.remaining decoder.old decoder.new
         (λ d e. (xs : List ℕ) (p : ℕ) →
         IsHeadAccepted S.spelling Some d (header.Tag tag) xs p → offset ≡ p →

@@ -3,7 +3,7 @@
 ghost use Rattle.std.specs.Prelude.{◌≡◌, IfErr, OnOk};
 ghost use Rattle.ciborium.specs.DeterministicWrites.{IsFormOwed, IsFormWritten, WritesForm};
 ghost use Rattle.ciborium.specs.DeterministicWrites.{named_form};
-ghost use Rattle.ciborium.specs.Writes.{IsIo, cause_of};
+ghost use Rattle.ciborium.specs.Writes.{IsWriteIo, cause_of};
 
 use super::{Error, Serialize, into_writer};
 use ciborium_value::{KeyOrder, Value, serialized};
@@ -39,7 +39,7 @@ pub fn into_writer_deterministic<T: Serialize, W: Write>(
     ensures bytes { WritesForm (W.contents writer.old) (W.contents writer.new) result
         (named_form order (T.written value.now)) }
     // Refused, or where an allocation failed, the writer is as it was.
-    ensures untouched { IfErr result (λ e. ¬ IsIo e → writer.new ≡ writer.old) }
+    ensures untouched { IfErr result (λ e. ¬ IsWriteIo e → writer.new ≡ writer.old) }
     ensures refused { IfErr result (λ e.
         IsFormOwed (cause_of e) (named_form order (T.written value.now))) }
     ensures written { OnOk result (IsFormWritten (named_form order (T.written value.now))) }

@@ -3,7 +3,7 @@ use Rattle.std.specs.Prelude.{◌≡◌, ℕ, ◌≤◌, List, [], length, take,
 use Rattle.std.specs.Io.KnownBytes.{IsAtEnd}
 use Rattle.ciborium_ll.specs.declared.cursor.Cursor.{Cursor}
 use Rattle.ciborium_ll.specs.declared.header.Error.{Error}
-use Rattle.ciborium_ll.specs.FirstHeads.{IsIo}
+use Rattle.ciborium_ll.specs.FirstHeads.{IsHeadIo}
 use Rattle.ciborium_ll.specs.ReaderSteps.{Advances}
 use Rattle.ciborium_ll.specs.Windows.{IsSpentBy, held, unread}
 
@@ -23,8 +23,8 @@ abbrev pub left_at : {S K : Type 0} → (S → Option (List ℕ)) → Cursor S K
 left_at remaining c = unread (remaining c.reader.now) c.window.now
 
 -- nothing is held
-abbrev pub HoldsNothing : {S K : Type 0} → Cursor S K → Type 0
-HoldsNothing c = held c.window.now ≡ []
+abbrev pub CursorHoldsNothing : {S K : Type 0} → Cursor S K → Type 0
+CursorHoldsNothing c = held c.window.now ≡ []
 
 -- where the reader failed or ended, nothing is held
 abbrev pub IsSpentAt : {S K E : Type 0} → Cursor S K → Error E → Type 0
@@ -37,4 +37,4 @@ Moves remaining old new P = Advances (left_at remaining old) (left_at remaining 
 -- so many bytes were taken, which stand at the front of the buffer; none came only at the end, or the reader failed
 abbrev pub GivesSome : {S K E : Type 0} → (S → Option (List ℕ)) → Cursor S K → Cursor S K → List ℕ → Result ℕ (Error E) → Type 0
 GivesSome remaining old new buffer (Ok n) = (n ≤ length buffer) × Moves remaining old new (λ b. b ≡ take n buffer) × (n ≡ 0 → IsAtEnd (left_at remaining new))
-GivesSome remaining old new buffer (Err e) = Moves remaining old new (λ b. b ≡ []) × IsIo e
+GivesSome remaining old new buffer (Err e) = Moves remaining old new (λ b. b ≡ []) × IsHeadIo e

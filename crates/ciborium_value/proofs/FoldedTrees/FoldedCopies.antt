@@ -7,7 +7,7 @@ use Rattle.ciborium_value.specs.Folded.{folded, trees_folded, tree_pairs_folded,
 use Rattle.ciborium_value.specs.inner.FoldedCopies.{where_folded, copied, pairs_in_turn, nodes_of}
 use Rattle.ciborium_value.specs.Meaning.{tag_meaning, trees_more, tree_pairs_more, simple_meaning, is_bignum_tag}
 use Rattle.ciborium_value.specs.inner.Frames as open_
-use Rattle.ciborium_value.specs.inner.Frames.{Open, Placed, done, more, placed}
+use Rattle.ciborium_value.specs.inner.Frames.{TreeFrame, Placed, done, more, placed}
 use Rattle.ciborium_value.specs.inner.FoldedCopies.{IsUnfolded, path_trees, coming_trees, all_coming}
 use Rattle.ciborium_value.specs.declared.deserialized.folding.Coming.{Coming}
 use Rattle.ciborium_value.specs.Sources.{Fault, of_kind, of_nesting, of_syntax, of_memory, of_device, of_length, IsFaultOf}
@@ -113,33 +113,33 @@ folded-trees [] = refl
 folded-trees (t ∷ ts) = ap (trees_more (folded t)) (folded-trees ts) ∙ folded-trees_more (folded t) (each_folded ts)
 
 -- the array of these, where one is due
-abbrev ends_array : List Open → List Tree → List Tree → List Tree → Option Placed
+abbrev ends_array : List TreeFrame → List Tree → List Tree → List Tree → Option Placed
 ends_array os acc ts xs = copied (placed os (trees.array (trees_from (acc ++ xs)))) ts
 
-last_item : (os : List Open) (acc ts : List Tree) (o : Option Tree) → where_folded o (λ v. copied (placed (open_.array acc (Some zero) ∷ os) v) ts) ≡ where_all (one_before o (Some [])) (ends_array os acc ts)
+last_item : (os : List TreeFrame) (acc ts : List Tree) (o : Option Tree) → where_folded o (λ v. copied (placed (open_.array acc (Some zero) ∷ os) v) ts) ≡ where_all (one_before o (Some [])) (ends_array os acc ts)
 last_item os acc ts None = refl
 last_item os acc ts (Some v) = refl
 
-behind_item : (os : List Open) (acc ts : List Tree) (v : Tree) (r : Option (List Tree)) → where_all r (ends_array os (acc ++ v ∷ []) ts) ≡ where_all (one_before (Some v) r) (ends_array os acc ts)
+behind_item : (os : List TreeFrame) (acc ts : List Tree) (v : Tree) (r : Option (List Tree)) → where_all r (ends_array os (acc ++ v ∷ []) ts) ≡ where_all (one_before (Some v) r) (ends_array os acc ts)
 behind_item os acc ts v None = refl
 behind_item os acc ts v (Some vs) = ap (λ xs. copied (placed os (trees.array (trees_from xs))) ts) (append_assoc acc (v ∷ []) vs)
 
-next_item : (os : List Open) (acc ts rest : List Tree) (n : ℕ) (o : Option Tree) (r : Option (List Tree)) →
+next_item : (os : List TreeFrame) (acc ts rest : List Tree) (n : ℕ) (o : Option Tree) (r : Option (List Tree)) →
     ((v : Tree) → copied (more (open_.array (acc ++ v ∷ []) (Some n) ∷ os)) rest ≡ where_all r (ends_array os (acc ++ v ∷ []) ts)) →
     where_folded o (λ v. copied (placed (open_.array acc (Some (suc n)) ∷ os) v) rest) ≡ where_all (one_before o r) (ends_array os acc ts)
 next_item os acc ts rest n None r h = refl
 next_item os acc ts rest n (Some v) r h = h v ∙ behind_item os acc ts v r
 
-copied-items : (os : List Open) (acc : List Tree) (t : Tree) (us ts : List Tree) → copied (more (open_.array acc (Some (length us)) ∷ os)) ((t ∷ us) ++ ts) ≡ where_all (each_folded (t ∷ us)) (ends_array os acc ts)
+copied-items : (os : List TreeFrame) (acc : List Tree) (t : Tree) (us ts : List Tree) → copied (more (open_.array acc (Some (length us)) ∷ os)) ((t ∷ us) ++ ts) ≡ where_all (each_folded (t ∷ us)) (ends_array os acc ts)
 copied-items os acc t [] ts = last_item os acc ts (folded t)
 copied-items os acc t (u ∷ us) ts = next_item os acc ts ((u ∷ us) ++ ts) (length us) (folded t) (each_folded (u ∷ us)) (λ v. copied-items os (acc ++ v ∷ []) u us ts)
 
-whole_array : (os : List Open) (ts : List Tree) (r : Option (List Tree)) → where_folded (option_map trees.array (option_map trees_from r)) (λ v. copied (placed os v) ts) ≡ where_all r (ends_array os [] ts)
+whole_array : (os : List TreeFrame) (ts : List Tree) (r : Option (List Tree)) → where_folded (option_map trees.array (option_map trees_from r)) (λ v. copied (placed os v) ts) ≡ where_all r (ends_array os [] ts)
 whole_array os ts None = refl
 whole_array os ts (Some vs) = refl
 
 -- an array is what its items make of it once it is open
-array_opens : (os : List Open) (us ts : List Tree) (n : ℕ) → length us ≡ suc n → copied (more os) (trees.array (trees_from us) ∷ ts) ≡ copied (more (open_.array [] (Some n) ∷ os)) (us ++ ts)
+array_opens : (os : List TreeFrame) (us ts : List Tree) (n : ℕ) → length us ≡ suc n → copied (more os) (trees.array (trees_from us) ∷ ts) ≡ copied (more (open_.array [] (Some n) ∷ os)) (us ++ ts)
 array_opens os [] ts n h = cc
 array_opens os (t ∷ us) ts n h =
     ap (λ o. where_folded (option_map trees.array o) (λ v. copied (placed os v) ts)) (folded-trees (t ∷ us)) ∙
@@ -166,41 +166,41 @@ folded-pairs : (ps : List (Value × Value)) → tree_pairs_folded (tree_pairs_of
 folded-pairs [] = refl
 folded-pairs (p ∷ ps) = ap (tree_pairs_more (folded (tree_of p.0)) (folded (tree_of p.1))) (folded-pairs ps) ∙ folded-pairs_more (folded (tree_of p.0)) (folded (tree_of p.1)) (each_pair_folded ps)
 
-abbrev ends_map : List Open → List (Tree × Tree) → List Tree → List (Tree × Tree) → Option Placed
+abbrev ends_map : List TreeFrame → List (Tree × Tree) → List Tree → List (Tree × Tree) → Option Placed
 ends_map os acc ts xs = copied (placed os (trees.map (tree_pairs_from (acc ++ xs)))) ts
 
 -- a key and its value are put in
-abbrev puts_pair : List Open → List (Tree × Tree) → ℕ → Option Tree → Option Tree → List Tree → Option Placed
+abbrev puts_pair : List TreeFrame → List (Tree × Tree) → ℕ → Option Tree → Option Tree → List Tree → Option Placed
 puts_pair os acc n k v rest = where_folded k (λ x. where_folded v (λ y. copied (placed (open_.map acc (Some n) (Some x) ∷ os) y) rest))
 
-last_pair : (os : List Open) (acc : List (Tree × Tree)) (ts : List Tree) (k v : Option Tree) → puts_pair os acc zero k v ts ≡ where_all (one_before (both k v) (Some [])) (ends_map os acc ts)
+last_pair : (os : List TreeFrame) (acc : List (Tree × Tree)) (ts : List Tree) (k v : Option Tree) → puts_pair os acc zero k v ts ≡ where_all (one_before (both k v) (Some [])) (ends_map os acc ts)
 last_pair os acc ts None v = refl
 last_pair os acc ts (Some x) None = refl
 last_pair os acc ts (Some x) (Some y) = refl
 
-behind_pair : (os : List Open) (acc : List (Tree × Tree)) (ts : List Tree) (p : Tree × Tree) (r : Option (List (Tree × Tree))) → where_all r (ends_map os (acc ++ p ∷ []) ts) ≡ where_all (one_before (Some p) r) (ends_map os acc ts)
+behind_pair : (os : List TreeFrame) (acc : List (Tree × Tree)) (ts : List Tree) (p : Tree × Tree) (r : Option (List (Tree × Tree))) → where_all r (ends_map os (acc ++ p ∷ []) ts) ≡ where_all (one_before (Some p) r) (ends_map os acc ts)
 behind_pair os acc ts p None = refl
 behind_pair os acc ts p (Some ps) = ap (λ xs. copied (placed os (trees.map (tree_pairs_from xs))) ts) (append_assoc acc (p ∷ []) ps)
 
-next_pair : (os : List Open) (acc : List (Tree × Tree)) (ts rest : List Tree) (n : ℕ) (k v : Option Tree) (r : Option (List (Tree × Tree))) →
+next_pair : (os : List TreeFrame) (acc : List (Tree × Tree)) (ts rest : List Tree) (n : ℕ) (k v : Option Tree) (r : Option (List (Tree × Tree))) →
     ((p : Tree × Tree) → copied (more (open_.map (acc ++ p ∷ []) (Some n) None ∷ os)) rest ≡ where_all r (ends_map os (acc ++ p ∷ []) ts)) →
     puts_pair os acc (suc n) k v rest ≡ where_all (one_before (both k v) r) (ends_map os acc ts)
 next_pair os acc ts rest n None v r h = refl
 next_pair os acc ts rest n (Some x) None r h = refl
 next_pair os acc ts rest n (Some x) (Some y) r h = h (x, y) ∙ behind_pair os acc ts (x, y) r
 
-copied-pairs : (os : List Open) (acc : List (Tree × Tree)) (p : Value × Value) (ps : List (Value × Value)) (ts : List Tree) →
+copied-pairs : (os : List TreeFrame) (acc : List (Tree × Tree)) (p : Value × Value) (ps : List (Value × Value)) (ts : List Tree) →
     copied (more (open_.map acc (Some (length ps)) None ∷ os)) (pairs_in_turn (p ∷ ps) ++ ts) ≡ where_all (each_pair_folded (p ∷ ps)) (ends_map os acc ts)
 copied-pairs os acc p [] ts = last_pair os acc ts (folded (tree_of p.0)) (folded (tree_of p.1))
 copied-pairs os acc p (q ∷ ps) ts =
     next_pair os acc ts (pairs_in_turn (q ∷ ps) ++ ts) (length ps) (folded (tree_of p.0)) (folded (tree_of p.1)) (each_pair_folded (q ∷ ps)) (λ x. copied-pairs os (acc ++ x ∷ []) q ps ts)
 
-whole_map : (os : List Open) (ts : List Tree) (r : Option (List (Tree × Tree))) → where_folded (option_map trees.map (option_map tree_pairs_from r)) (λ v. copied (placed os v) ts) ≡ where_all r (ends_map os [] ts)
+whole_map : (os : List TreeFrame) (ts : List Tree) (r : Option (List (Tree × Tree))) → where_folded (option_map trees.map (option_map tree_pairs_from r)) (λ v. copied (placed os v) ts) ≡ where_all r (ends_map os [] ts)
 whole_map os ts None = refl
 whole_map os ts (Some ps) = refl
 
 -- a map is what its keys and values make of it once it is open
-map_opens : (os : List Open) (ps : List (Value × Value)) (ts : List Tree) (n : ℕ) → length ps ≡ suc n → copied (more os) (trees.map (tree_pairs_of ps) ∷ ts) ≡ copied (more (open_.map [] (Some n) None ∷ os)) (pairs_in_turn ps ++ ts)
+map_opens : (os : List TreeFrame) (ps : List (Value × Value)) (ts : List Tree) (n : ℕ) → length ps ≡ suc n → copied (more os) (trees.map (tree_pairs_of ps) ∷ ts) ≡ copied (more (open_.map [] (Some n) None ∷ os)) (pairs_in_turn ps ++ ts)
 map_opens os [] ts n h = cc
 map_opens os (p ∷ ps) ts n h =
     ap (λ o. where_folded (option_map trees.map o) (λ v. copied (placed os v) ts)) (folded-pairs (p ∷ ps)) ∙
@@ -219,7 +219,7 @@ nodes-pairs (p ∷ ps) = let h = nodes-pairs ps in omega (arith, h)
 -- ---- values
 
 pub opens_array : (v : Value) (us : Vec Value Global) (vs : List Value) (n : ℕ) → v ≡ value.Array us → vs ≡ us.items → length us.items ≡ suc n →
-    ((os : List Open) (ts : List Tree) → copied (more os) (tree_of v ∷ ts) ≡ copied (more (open_.array [] (Some n) ∷ os)) (map tree_of vs ++ ts)) × (nodes_of (map tree_of vs) < node_count (tree_of v))
+    ((os : List TreeFrame) (ts : List Tree) → copied (more os) (tree_of v ∷ ts) ≡ copied (more (open_.array [] (Some n) ∷ os)) (map tree_of vs ++ ts)) × (nodes_of (map tree_of vs) < node_count (tree_of v))
 opens_array v us vs n is these h =
     let e : tree_of v ≡ trees.array (trees_of us.items) = ap tree_of is ∙ tree_of-Array us in
     let count : length (map tree_of us.items) ≡ suc n = length-map us.items tree_of ∙ h in
@@ -230,7 +230,7 @@ opens_array v us vs n is these h =
     )
 
 pub opens_map : (v : Value) (us : Vec (Value × Value) Global) (ps : List (Value × Value)) (n : ℕ) → v ≡ value.Map us → ps ≡ us.items → length us.items ≡ suc n →
-    ((os : List Open) (ts : List Tree) → copied (more os) (tree_of v ∷ ts) ≡ copied (more (open_.map [] (Some n) None ∷ os)) (pairs_in_turn ps ++ ts)) × (nodes_of (pairs_in_turn ps) < node_count (tree_of v))
+    ((os : List TreeFrame) (ts : List Tree) → copied (more os) (tree_of v ∷ ts) ≡ copied (more (open_.map [] (Some n) None ∷ os)) (pairs_in_turn ps ++ ts)) × (nodes_of (pairs_in_turn ps) < node_count (tree_of v))
 opens_map v us ps n is these h =
     let e : tree_of v ≡ trees.map (tree_pairs_of us.items) = ap tree_of is ∙ tree_of-Map us in
     let all : nodes_of (pairs_in_turn ps) ≡ tree_pairs_node_count (tree_pairs_of us.items) = ap (λ xs. nodes_of (pairs_in_turn xs)) these ∙ nodes-pairs us.items in

@@ -5,9 +5,9 @@ use Rattle.std.specs.Ordering.{nat_cmp, ordering_reverse, ordering_then}
 use Rattle.std.proofs.lemmas.Cmp.{nat_cmp_total, tied_itself}
 use Rattle.ciborium_value.specs.Canonical.{bytewise_order, key_order}
 use Rattle.ciborium_value.specs.Deterministic.{AreApart, AreRising, keys_of}
-use Rattle.ciborium_value.specs.DeterministicForms.{placed, inserted, sorted_pairs}
+use Rattle.ciborium_value.specs.DeterministicForms.{placed_pair, inserted, sorted_pairs}
 use Rattle.ciborium_value.specs.Encoding.{encoded_size, encoding}
-use Rattle.ciborium_value.specs.Visits.{counted}
+use Rattle.ciborium_value.specs.Visits.{saturated}
 use Rattle.ciborium_value.specs.declared.key_order.KeyOrder.TheVariants.{LengthFirst, Bytewise}
 use Rattle.ciborium_value.specs.Taken.{Outcome, gives, refuses, nests, then_take, outcome_map}
 use Rattle.ciborium_value.specs.Tree.{Tree, TreePairs, no_tree_pairs, tree_pair}
@@ -19,19 +19,19 @@ use Rattle.ciborium_value.proofs.Orders.TotalOrders.{key_order_total}
 
 module _ (o : KeyOrder) (k v p x : Tree) (ps : TreePairs) where
   pub inserted-Less : key_order o k p ≡ Less → inserted o k v (tree_pair p x ps) ≡ gives (tree_pair k v (tree_pair p x ps))
-  inserted-Less e = ap (λ r. placed r k v p x ps (inserted o k v ps)) e
+  inserted-Less e = ap (λ r. placed_pair r k v p x ps (inserted o k v ps)) e
 
   pub inserted-Equal : key_order o k p ≡ Equal → inserted o k v (tree_pair p x ps) ≡ refuses kinds.DuplicateKey
-  inserted-Equal e = ap (λ r. placed r k v p x ps (inserted o k v ps)) e
+  inserted-Equal e = ap (λ r. placed_pair r k v p x ps (inserted o k v ps)) e
 
   pub inserted-Greater : key_order o k p ≡ Greater → inserted o k v (tree_pair p x ps) ≡ outcome_map (tree_pair p x) (inserted o k v ps)
-  inserted-Greater e = ap (λ r. placed r k v p x ps (inserted o k v ps)) e
+  inserted-Greater e = ap (λ r. placed_pair r k v p x ps (inserted o k v ps)) e
 
 -- pairs, or a duplicate key
 abbrev pub IsSortedOrDuplicate : Outcome TreePairs → Type 0
 IsSortedOrDuplicate r = ((qs : TreePairs) × (r ≡ gives qs)) ⊎ (r ≡ refuses kinds.DuplicateKey)
 
-placed-either : (a : Ordering) (k v l w : Tree) (ps : TreePairs) (behind : Outcome TreePairs) → IsSortedOrDuplicate behind → IsSortedOrDuplicate (placed a k v l w ps behind)
+placed-either : (a : Ordering) (k v l w : Tree) (ps : TreePairs) (behind : Outcome TreePairs) → IsSortedOrDuplicate behind → IsSortedOrDuplicate (placed_pair a k v l w ps behind)
 placed-either Less k v l w ps behind h = inl (tree_pair k v (tree_pair l w ps), refl)
 placed-either Equal k v l w ps behind h = inr refl
 placed-either Greater k v l w ps behind (inl (qs, e)) = inl (tree_pair l w qs, ap (outcome_map (tree_pair l w)) e)
@@ -56,7 +56,7 @@ sorted-either o (tree_pair k v ps) = behind (sorted_pairs o ps) (sorted-either o
 
 -- of which neither stands before the other's place
 front_either : (a b : Ordering) (k v l w : Tree) (ps : TreePairs) → a ≡ ordering_reverse b
-    → placed a k v l w ps (gives (tree_pair k v ps)) ≡ placed b l w k v ps (gives (tree_pair l w ps))
+    → placed_pair a k v l w ps (gives (tree_pair k v ps)) ≡ placed_pair b l w k v ps (gives (tree_pair l w ps))
 front_either Less Less k v l w ps e = absurd cc
 front_either Less Equal k v l w ps e = absurd cc
 front_either Less Greater k v l w ps e = refl
@@ -101,9 +101,9 @@ module _ (o : KeyOrder) (k v l w p x : Tree) (ps : TreePairs) where
   less_less : key_order o k p ≡ Less → key_order o l p ≡ Less → Commutes o k v l w (tree_pair p x ps)
   less_less e h =
       let qs = tree_pair p x ps in
-      ap (λ z. then_take z (inserted o k v)) (inserted-Less o l w p x ps h) ∙ ap (placed (key_order o k l) k v l w qs) (inserted-Less o k v p x ps e)
+      ap (λ z. then_take z (inserted o k v)) (inserted-Less o l w p x ps h) ∙ ap (placed_pair (key_order o k l) k v l w qs) (inserted-Less o k v p x ps e)
       ∙ front_either (key_order o k l) (key_order o l k) k v l w qs ((key_order_total o).antisymm k l)
-      ∙ sym (ap (λ z. then_take z (inserted o l w)) (inserted-Less o k v p x ps e) ∙ ap (placed (key_order o l k) l w k v qs) (inserted-Less o l w p x ps h))
+      ∙ sym (ap (λ z. then_take z (inserted o l w)) (inserted-Less o k v p x ps e) ∙ ap (placed_pair (key_order o l k) l w k v qs) (inserted-Less o l w p x ps h))
 
   less_equal : key_order o k p ≡ Less → key_order o l p ≡ Equal → Commutes o k v l w (tree_pair p x ps)
   less_equal e h =
@@ -238,7 +238,7 @@ tied_bytewise Bytewise k l e = e
 bytewise_tied : (o : KeyOrder) (k l : Tree) → bytewise_order k l ≡ Equal → key_order o k l ≡ Equal
 bytewise_tied LengthFirst k l e =
     let same : encoding k ≡ encoding l = slice_cmp-IsAntisymmetric nat_cmp-IsAntisymmetric (encoding k) (encoding l) e in
-    let size : encoded_size k ≡ encoded_size l = ap (λ b. counted (length b)) same in
+    let size : encoded_size k ≡ encoded_size l = ap (λ b. saturated (length b)) same in
     ap (λ b. ordering_then (nat_cmp (encoded_size k) (encoded_size l)) b) e ∙ ap (λ n. ordering_then (nat_cmp n (encoded_size l)) Equal) size
     ∙ ap (λ a. ordering_then a Equal) (tied_itself nat_cmp_total (encoded_size l))
 bytewise_tied Bytewise k l e = e

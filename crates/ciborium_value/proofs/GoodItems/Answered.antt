@@ -7,13 +7,13 @@ use Rattle.ciborium_value.specs.Tree as trees
 use Rattle.ciborium_ll.specs.Head.{IsHead}
 use Rattle.ciborium_ll.specs.Item.{Item, unsigned, negative, Items, no_items, item, items_count, pairs_count}
 use Rattle.ciborium_value.specs.Tree.{Tree}
-use Rattle.ciborium_ll.specs.Spells.{IsDefiniteString, AreParts, joined, IsOpenString, Spells, SpellsItems}
+use Rattle.ciborium_ll.specs.Spells.{IsDefiniteString, AreChunks, joined, IsOpenString, Spells, SpellsItems}
 use Rattle.ciborium_value.specs.Meaning.{meaning, items_meaning, pairs_meaning, simple_meaning, big_endian, is_bignum_tag, folding_bytes, short_string, tag_meaning}
 use Rattle.ciborium_value.specs.Nesting.{nesting, items_nesting, pairs_nesting, tag_nesting, Limit, IsWithin, IsOneLess}
 use Rattle.ciborium_ll.specs.Refusal.{Refusal, syntax, semantic, recursion_limit_exceeded, Float, Break, IsUsable, HasHead, head_refusal, IsAtFront}
 use Rattle.ciborium_ll.specs.Bytes.{greatest_offset}
-use Rattle.ciborium_value.specs.Refuses.{IsGood, AreGood, Due, exactly, items_until_break, keys_until_break, values_until_break, next_due, due_after, HasOpening, IsDue, IsFoldingAt, Refuses}
-use Rattle.ciborium_ll.specs.StringRefusal.{StringKind, of_bytes, of_text, major_of, IsAllowed, PayloadRefuses, StringRefuses, PartRefuses, OpenStringRefuses, HasStringHead}
+use Rattle.ciborium_value.specs.Refuses.{IsGood, AreGood, Due, exactly, items_until_break, keys_until_break, values_until_break, next_due, due_after, BeginsContainer, IsDue, IsFoldingAt, Refuses}
+use Rattle.ciborium_ll.specs.StringRefusal.{StringKind, of_bytes, of_text, string_major, IsAllowed, PayloadRefuses, StringRefuses, ChunkRefuses, OpenStringRefuses, HasStringHead}
 use Rattle.ciborium_ll.proofs.FrontHeads.{Front, nothing, counted, opened, plain, raw, front, front_open}
 use Rattle.ciborium_ll.proofs.UsableHeads.{EachIsByte, bytes_after, take_bytes, stands-front, stands-length, IsStringMajor}
 use Rattle.ciborium_ll.proofs.ReadHeads.{Face, faces}
@@ -40,11 +40,11 @@ PartsMeet w b p l (refused e) =
     (s : List ℕ) × (is : Items) × (r : List ℕ) × AreGood is l s p × IsDue (due_after w is) r (p + length s) × Refuses r (p + length s) l e × (b ≡ s ++ r)
 
 abbrev PiecesMeet : StringKind → List ℕ → ℕ → Answer → Type 0
-PiecesMeet c b q (ends r u) = (s : List ℕ) × (ps : List (List ℕ)) × AreParts (major_of c) (IsAllowed c) s ps × (b ≡ s ++ (255 ∷ r)) × (u ≡ q + length s + 1) × (u ≤ greatest_offset)
-PiecesMeet c b q (refused e) = (s : List ℕ) × (ps : List (List ℕ)) × (r : List ℕ) × AreParts (major_of c) (IsAllowed c) s ps × (q + length s ≤ greatest_offset) × (b ≡ s ++ r) × PartRefuses c r (q + length s) e
+PiecesMeet c b q (ends r u) = (s : List ℕ) × (ps : List (List ℕ)) × AreChunks (string_major c) (IsAllowed c) s ps × (b ≡ s ++ (255 ∷ r)) × (u ≡ q + length s + 1) × (u ≤ greatest_offset)
+PiecesMeet c b q (refused e) = (s : List ℕ) × (ps : List (List ℕ)) × (r : List ℕ) × AreChunks (string_major c) (IsAllowed c) s ps × (q + length s ≤ greatest_offset) × (b ≡ s ++ r) × ChunkRefuses c r (q + length s) e
 
 abbrev StringMeets : StringKind → List ℕ → ℕ → List ℕ → Answer → Type 0
-StringMeets c b p y (ends x u) = (s : List ℕ) × IsDefiniteString (major_of c) (IsAllowed c) s y × (b ≡ s ++ x) × (u ≡ p + length s) × (u ≤ greatest_offset)
+StringMeets c b p y (ends x u) = (s : List ℕ) × IsDefiniteString (string_major c) (IsAllowed c) s y × (b ≡ s ++ x) × (u ≡ p + length s) × (u ≤ greatest_offset)
 StringMeets c b p y (refused e) = StringRefuses c b p e
 
 checked-meets : (P : Answer → Type 0) (o : Option Refusal) (a : Answer) → ((e : Refusal) → o ≡ Some e → P (refused e)) → (o ≡ None → P a) → P (checked o a)
@@ -61,16 +61,16 @@ rest-bytes b h r e x = bytes_after h r (subst EachIsByte e x)
 
 -- ---- strings
 
-string-meets : (c : StringKind) (b : List ℕ) (p q n k : ℕ) (r : List ℕ) → EachIsByte b → HasHead b (major_of c) n k r → p + k + n ≤ greatest_offset → q ≡ p + k → StringMeets c b p (take n r) (string (major_of c) n r p q)
+string-meets : (c : StringKind) (b : List ℕ) (p q n k : ℕ) (r : List ℕ) → EachIsByte b → HasHead b (string_major c) n k r → p + k + n ≤ greatest_offset → q ≡ p + k → StringMeets c b p (take n r) (string (string_major c) n r p q)
 string-meets c b p q n k r bytes st fits e =
     cond_both (ltb (length r) n) _ _ P (λ t. (n, k, r, st, PayloadRefuses.ends_early (ltb-true _ _ t)))
     (λ t. let room : n ≤ length r = ltb-false _ _ t in
     let ly : length (take n r) ≡ n = length-take-le n r room in
     let split : r ≡ take n r ++ drop n r = sym (take-append-drop n r) in
-    cond_both (allowed (major_of c) (take n r)) _ _ P
+    cond_both (allowed (string_major c) (take n r)) _ _ P
     (λ u. (
       st.0 ++ take n r,
-      (st.0, subst (IsHead st.0 (major_of c)) (sym ly) st.1, kind_ok c (take n r) (take_bytes n r (rest-bytes b st.0 r st.3 bytes)) u, refl),
+      (st.0, subst (IsHead st.0 (string_major c)) (sym ly) st.1, kind_ok c (take n r) (take_bytes n r (rest-bytes b st.0 r st.3 bytes)) u, refl),
       st.3 ∙ ap (λ (z : List ℕ). st.0 ++ z) split ∙ sym (append_assoc st.0 (take n r) (drop n r)),
       omega (arith, length-append st.0 (take n r), ly, st.2, e),
       omega arith,
@@ -88,22 +88,22 @@ string-meets c b p q n k r bytes st fits e =
 
 -- ---- the parts of an open string
 
-string-begins : (c : StringKind) (b : List ℕ) (f : Front) → front b ≡ f → ((n : ℕ) (r : List ℕ) → f ≡ counted (major_of c) n r → ⊥) → HasStringHead c b → ⊥
-string-begins c b f e h s = h s.0 s.2 (sym e ∙ stands-front b (major_of c) s.0 s.1 s.2 (kind_below c) s.3)
+string-begins : (c : StringKind) (b : List ℕ) (f : Front) → front b ≡ f → ((n : ℕ) (r : List ℕ) → f ≡ counted (string_major c) n r → ⊥) → HasStringHead c b → ⊥
+string-begins c b f e h s = h s.0 s.2 (sym e ∙ stands-front b (string_major c) s.0 s.1 s.2 (kind_below c) s.3)
 
 break-begins : (b : List ℕ) (f : Front) → front b ≡ f → ((r : List ℕ) → f ≡ opened 7 r → ⊥) → IsAtFront 255 b → ⊥
 break-begins b f e h s = h s.0 (sym e ∙ ap front s.1 ∙ front_open 7 s.0)
 
 module _ (k : StringKind) where
   abbrev m : ℕ
-  m = major_of k
+  m = string_major k
 
   abbrev PM : List ℕ → ℕ → Answer → Type 0
   PM b q a = PiecesMeet k b q a
 
   -- a part refuses here
-  here : (b : List ℕ) (q : ℕ) (e : Refusal) → q ≤ greatest_offset → PartRefuses k b q e → PM b q (refused e)
-  here b q e h f = ([], [], b, refl, omega arith, refl, subst (λ u. PartRefuses k b u e) (omega arith) f)
+  here : (b : List ℕ) (q : ℕ) (e : Refusal) → q ≤ greatest_offset → ChunkRefuses k b q e → PM b q (refused e)
+  here b q e h f = ([], [], b, refl, omega arith, refl, subst (λ u. ChunkRefuses k b u e) (omega arith) f)
 
   -- a good part stands before more
   before : (b s y x : List ℕ) (q u : ℕ) (a : Answer) → IsDefiniteString m (IsAllowed k) s y → b ≡ s ++ x → u ≡ q + length s → PM x u a → PM b q a
@@ -116,12 +116,12 @@ module _ (k : StringKind) where
     (s, t, str, g, refl),
     omega (arith, length-append s t),
     e ∙ ap (λ (c : List ℕ). s ++ c) f ∙ sym (append_assoc s t r),
-    subst (λ v. PartRefuses k r v e') (omega (arith, length-append s t)) fault,
+    subst (λ v. ChunkRefuses k r v e') (omega (arith, length-append s t)) fault,
   )
 
   after-part : (d : ℕ) (b y : List ℕ) (q : ℕ) (a : Answer) → IsUsable b q → q ≤ greatest_offset → EachIsByte b → StringMeets k b q y a →
       ((x : List ℕ) (u : ℕ) → EachIsByte x → length x < length b → u ≤ greatest_offset → PM x u (pieces d m x u)) → PM b q (and_then (pieces d m) a)
-  after-part d b y q (refused e) has room bytes sm rec = here b q e room (PartRefuses.part has sm)
+  after-part d b y q (refused e) has room bytes sm rec = here b q e room (ChunkRefuses.part has sm)
   after-part d b y q (ends x u) has room bytes sm rec =
       let s : List ℕ = sm.0 in
       let lb : length b ≡ length s + length x = ap length sm.2 ∙ length-append s x in
@@ -139,8 +139,8 @@ module _ (k : StringKind) where
       let st : HasHead b m n f.1 r = subst (λ j. HasHead b j n f.1 r) j f.2 in
       after-part d b (take n r) q (string m n r q (past q b r)) has room bytes
       (string-meets k b q (past q b r) n f.1 r bytes st (f.4 (subst IsStringMajor (sym j) (kind_major k))) (omega (arith, stands-length b m n f.1 r st))) rec)
-      (λ t. here b q (syntax q) room (PartRefuses.other has
-      (string-begins k b (counted z n r) e (λ n' r' g. eqb-false z m t (major_of (counted z n r) (counted m n' r') g)))
+      (λ t. here b q (syntax q) room (ChunkRefuses.other has
+      (string-begins k b (counted z n r) e (λ n' r' g. eqb-false z m t (string_major (counted z n r) (counted m n' r') g)))
       (break-begins b (counted z n r) e (λ r' g. absurd cc))))
     where
       number_of_front : Front → ℕ
@@ -150,23 +150,23 @@ module _ (k : StringKind) where
       number_of_front (plain a c) = 0
       number_of_front (raw a c) = 0
 
-      major_of : (g h : Front) → g ≡ h → number_of_front g ≡ number_of_front h
-      major_of g h e = ap number_of_front e
+      string_major : (g h : Front) → g ≡ h → number_of_front g ≡ number_of_front h
+      string_major g h e = ap number_of_front e
   piece-meets d b q has room bytes rec (opened z r) e f =
       cond_both (eqb z 7) _ _ (PM b q)
       (λ t. ([], [], refl, f.0 ∙ ap (λ j. (j * 32 + 31) ∷ r) (eqb-true z 7 t), omega arith, omega (arith, f.5)))
-      (λ t. here b q (syntax q) room (PartRefuses.other has
+      (λ t. here b q (syntax q) room (ChunkRefuses.other has
       (string-begins k b (opened z r) e (λ n' r' g. absurd cc))
       (break-begins b (opened z r) e (λ r' g. eqb-false z 7 t (cc)))))
   piece-meets d b q has room bytes rec (plain n r) e f =
-      here b q (syntax q) room (PartRefuses.other has (string-begins k b (plain n r) e (λ n' r' g. absurd cc)) (break-begins b (plain n r) e (λ r' g. absurd cc)))
+      here b q (syntax q) room (ChunkRefuses.other has (string-begins k b (plain n r) e (λ n' r' g. absurd cc)) (break-begins b (plain n r) e (λ r' g. absurd cc)))
   piece-meets d b q has room bytes rec (raw w r) e f =
-      here b q (syntax q) room (PartRefuses.other has (string-begins k b (raw w r) e (λ n' r' g. absurd cc)) (break-begins b (raw w r) e (λ r' g. absurd cc)))
+      here b q (syntax q) room (ChunkRefuses.other has (string-begins k b (raw w r) e (λ n' r' g. absurd cc)) (break-begins b (raw w r) e (λ r' g. absurd cc)))
 
   pub pieces-meet : (d : ℕ) (b : List ℕ) (q : ℕ) → q ≤ greatest_offset → EachIsByte b → length b < d → PM b q (pieces d m b q)
   pieces-meet zero b q room bytes fuel = let never : ⊥ = omega arith in absurd never
   pieces-meet (suc d) b q room bytes fuel =
-      checked-meets (PM b q) (head_refusal b q) _ (λ e h. here b q e room (PartRefuses.no_head h))
+      checked-meets (PM b q) (head_refusal b q) _ (λ e h. here b q e room (ChunkRefuses.no_head h))
       (λ h. piece-meets d b q h room bytes (λ x u bx lx rx. pieces-meet d x u rx bx (omega arith)) (front b) refl (faces b q bytes h))
 
 -- ---- a container's parts
@@ -249,21 +249,21 @@ ended-or w b p l (Some x) a h (t, end, e, k, z) f = ([], no_items, t, none-good 
 
 -- ---- items
 
-string-item : (c : StringKind) (b y : List ℕ) (p : ℕ) (l : Limit) (i : Item) (a : Answer) → ((s : List ℕ) → IsDefiniteString (major_of c) (IsAllowed c) s y → Spells s i) → IsSome (meaning i) → nesting i ≡ 0 →
+string-item : (c : StringKind) (b y : List ℕ) (p : ℕ) (l : Limit) (i : Item) (a : Answer) → ((s : List ℕ) → IsDefiniteString (string_major c) (IsAllowed c) s y → Spells s i) → IsSome (meaning i) → nesting i ≡ 0 →
     ((e : Refusal) → StringRefuses c b p e → Refuses b p l e) → StringMeets c b p y a → Meets b p l a
 string-item c b y p l i (ends x u) spells some flat-i fault sm =
     (sm.0, i, (spells sm.0 sm.1, some, subst (IsWithin l) (sym flat-i) (within-zero l), omega (arith, sm.3, sm.4)), sm.2, sm.3)
 string-item c b y p l i (refused e) spells some flat-i fault sm = fault e sm
 
-open-item : (c : StringKind) (b r : List ℕ) (p : ℕ) (l : Limit) (mk : List ℕ → Item) (a : Answer) → b ≡ (major_of c * 32 + 31) ∷ r → ((y : List ℕ) → IsSome (meaning (mk y))) → ((y : List ℕ) → nesting (mk y) ≡ 0) →
-    ((s y : List ℕ) → IsOpenString (major_of c) (IsAllowed c) s y → Spells s (mk y)) → ((e : Refusal) → OpenStringRefuses c b p e → Refuses b p l e) → PiecesMeet c r (p + 1) a → Meets b p l a
+open-item : (c : StringKind) (b r : List ℕ) (p : ℕ) (l : Limit) (mk : List ℕ → Item) (a : Answer) → b ≡ (string_major c * 32 + 31) ∷ r → ((y : List ℕ) → IsSome (meaning (mk y))) → ((y : List ℕ) → nesting (mk y) ≡ 0) →
+    ((s y : List ℕ) → IsOpenString (string_major c) (IsAllowed c) s y → Spells s (mk y)) → ((e : Refusal) → OpenStringRefuses c b p e → Refuses b p l e) → PiecesMeet c r (p + 1) a → Meets b p l a
 open-item c b r p l mk (ends x u) e some flat-i spells fault (s, ps, g, f, k, room) =
-    let h : List ℕ = (major_of c * 32 + 31) ∷ (s ++ (255 ∷ [])) in
+    let h : List ℕ = (string_major c * 32 + 31) ∷ (s ++ (255 ∷ [])) in
     let ls : length (s ++ (255 ∷ [])) ≡ length s + 1 = length-append s (255 ∷ []) in (
       h,
       mk (joined ps),
       (spells h (joined ps) (ps, s, g, refl, refl), some (joined ps), subst (IsWithin l) (sym (flat-i (joined ps))) (within-zero l), omega arith),
-      e ∙ ap (λ (z : List ℕ). (major_of c * 32 + 31) ∷ z) (f ∙ sym (append_assoc s (255 ∷ []) x)),
+      e ∙ ap (λ (z : List ℕ). (string_major c * 32 + 31) ∷ z) (f ∙ sym (append_assoc s (255 ∷ []) x)),
       omega arith,
     )
 open-item c b r p l mk (refused e') e some flat-i spells fault (s, ps, x, g, room, f, pf) =
@@ -273,8 +273,8 @@ key_places : (is : Items) → ((due_after keys_until_break is ≡ keys_until_bre
 key_places no_items = (inl refl, inr refl)
 key_places (item i is) = let z = key_places is in (z.1, z.0)
 
-opens-more : {b r s : List ℕ} {k : ℕ} {w : Due} → HasOpening b k r w → r ≡ s → HasOpening b k s w
-opens-more {b} {r} {s} {k} {w} o e = subst (λ c. HasOpening b k c w) e o
+opens-more : {b r s : List ℕ} {k : ℕ} {w : Due} → BeginsContainer b k r w → r ≡ s → BeginsContainer b k s w
+opens-more {b} {r} {s} {k} {w} o e = subst (λ c. BeginsContainer b k c w) e o
 
 counted-count : (is : Items) (n : ℕ) (t : List ℕ) → items_count is ≤ n → IsEnd (due_after (exactly n) is) t → (items_count is ≡ n) × (t ≡ [])
 counted-count is n t h e =
@@ -285,8 +285,8 @@ within-eq : (l : Limit) (m n : ℕ) → m ≡ n → IsWithin l m → IsWithin l 
 within-eq l m n e h = subst (IsWithin l) e h
 
 -- a container whose parts ended
-container-ends : (b r x : List ℕ) (p k q : ℕ) (l m : Limit) (w : Due) → HasOpening b k r w → IsOneLess l m → PartsMeet w r (p + k) m (ends x q) → Meets b p l (ends x q)
-container-ends b r x p k q l m w (HasOpening.array n st) onel (s, is, t, g, room, end, e, f, z) =
+container-ends : (b r x : List ℕ) (p k q : ℕ) (l m : Limit) (w : Due) → BeginsContainer b k r w → IsOneLess l m → PartsMeet w r (p + k) m (ends x q) → Meets b p l (ends x q)
+container-ends b r x p k q l m w (BeginsContainer.array n st) onel (s, is, t, g, room, end, e, f, z) =
     let c = counted-count is n t room end in
     let h : List ℕ = st.0 in
     let lt : length t ≡ 0 = ap length c.1 in (
@@ -296,7 +296,7 @@ container-ends b r x p k q l m w (HasOpening.array n st) onel (s, is, t, g, room
       st.3 ∙ ap (λ (c : List ℕ). h ++ c) (e ∙ ap (λ (c : List ℕ). s ++ (c ++ x)) c.1) ∙ sym (append_assoc h s x),
       omega (arith, length-append h s, st.2),
     )
-container-ends b r x p k q l m w (HasOpening.open_array k1 st) onel (s, is, t, g, room, end, e, f, z) =
+container-ends b r x p k q l m w (BeginsContainer.open_array k1 st) onel (s, is, t, g, room, end, e, f, z) =
     let c : t ≡ 255 ∷ [] = subst (λ w. IsEnd w t) (after-items is) end in
     let lt : length t ≡ 1 = ap length c in
     let h : List ℕ = 159 ∷ (s ++ (255 ∷ [])) in
@@ -307,7 +307,7 @@ container-ends b r x p k q l m w (HasOpening.open_array k1 st) onel (s, is, t, g
       st ∙ ap (λ (c : List ℕ). 159 ∷ c) (e ∙ ap (λ (c : List ℕ). s ++ (c ++ x)) c ∙ sym (append_assoc s (255 ∷ []) x)),
       omega arith,
     )
-container-ends b r x p k q l m w (HasOpening.map n st) onel (s, is, t, g, room, end, e, f, z) =
+container-ends b r x p k q l m w (BeginsContainer.map n st) onel (s, is, t, g, room, end, e, f, z) =
     let c = counted-count is (2 * n) t room end in
     let ps = pairs-counted is n c.0 in
     let cn : pairs_count ps.0 ≡ n = (let a = flat-count ps.0 in let d : items_count (flat ps.0) ≡ items_count is = ap items_count ps.1 in omega (arith, a, d, c.0)) in
@@ -324,7 +324,7 @@ container-ends b r x p k q l m w (HasOpening.map n st) onel (s, is, t, g, room, 
       st.3 ∙ ap (λ (c : List ℕ). h ++ c) (e ∙ ap (λ (c : List ℕ). s ++ (c ++ x)) c.1) ∙ sym (append_assoc h s x),
       omega (arith, length-append h s, st.2),
     )
-container-ends b r x p k q l m w (HasOpening.open_map k1 st) onel (s, is, t, g, room, end, e, f, z) = by ((key_places is).0)
+container-ends b r x p k q l m w (BeginsContainer.open_map k1 st) onel (s, is, t, g, room, end, e, f, z) = by ((key_places is).0)
   where
     by : (due_after keys_until_break is ≡ keys_until_break) ⊎ (due_after keys_until_break is ≡ values_until_break) → Meets b p l (ends x q)
     by (inr v) = absurd (subst (λ w. IsEnd w t) v end)
@@ -346,7 +346,7 @@ container-ends b r x p k q l m w (HasOpening.open_map k1 st) onel (s, is, t, g, 
           omega arith,
         )
 
-container-answer : (b r : List ℕ) (p k : ℕ) (l m : Limit) (w : Due) (a : Answer) → IsUsable b p → HasOpening b k r w → IsOneLess l m → PartsMeet w r (p + k) m a → Meets b p l a
+container-answer : (b r : List ℕ) (p k : ℕ) (l m : Limit) (w : Due) (a : Answer) → IsUsable b p → BeginsContainer b k r w → IsOneLess l m → PartsMeet w r (p + k) m a → Meets b p l a
 container-answer b r p k l m w (ends x q) has o onel pm = container-ends b r x p k q l m w o onel pm
 container-answer b r p k l m w (refused e) has o onel (s, is, x, g, come, fault, f) =
     Refuses.part k w s is x m has (opens-more o f) onel g come fault
@@ -354,7 +354,7 @@ container-answer b r p k l m w (refused e) has o onel (s, is, x, g, come, fault,
 PartsAt : ℕ → Type 0
 PartsAt d = (w : Due) (b : List ℕ) (p : ℕ) (l : Limit) → p ≤ greatest_offset → EachIsByte b → 2 * length b + 1 < d → PartsMeet w b p l (parts d w b p l)
 
-container-meets : (d : ℕ) (b r : List ℕ) (p k : ℕ) (l : Limit) (w : Due) → ((m : Limit) → PartsMeet w r (p + k) m (parts d w r (p + k) m)) → IsUsable b p → HasOpening b k r w → Meets b p l (levels l (parts d w r (p + k)))
+container-meets : (d : ℕ) (b r : List ℕ) (p k : ℕ) (l : Limit) (w : Due) → ((m : Limit) → PartsMeet w r (p + k) m (parts d w r (p + k) m)) → IsUsable b p → BeginsContainer b k r w → Meets b p l (levels l (parts d w r (p + k)))
 container-meets d b r p k l w rec has o =
     levels-meet l (parts d w r (p + k)) (Meets b p l)
     (λ z. subst (λ j. Refuses b p j recursion_limit_exceeded) (sym z) (Refuses.no_level k r w has o))
@@ -493,10 +493,10 @@ module _ (d : ℕ) (rec : (b : List ℕ) (p : ℕ) (l : Limit) → EachIsByte b 
       (string-meets of_text b p (p + k) n k r bytes st (sf (inr refl)) refl)
   counted-meets (suc (suc (suc (suc zero)))) n k r lt st fits sf =
       let lb = stands-length b 4 n k r st in
-      container-meets d b r p k l (exactly n) (λ m. recs (exactly n) r (p + k) m fits (rest-bytes b st.0 r st.3 bytes) (omega (arith, lb))) has (HasOpening.array n st)
+      container-meets d b r p k l (exactly n) (λ m. recs (exactly n) r (p + k) m fits (rest-bytes b st.0 r st.3 bytes) (omega (arith, lb))) has (BeginsContainer.array n st)
   counted-meets (suc (suc (suc (suc (suc zero))))) n k r lt st fits sf =
       let lb = stands-length b 5 n k r st in
-      container-meets d b r p k l (exactly (2 * n)) (λ m. recs (exactly (2 * n)) r (p + k) m fits (rest-bytes b st.0 r st.3 bytes) (omega (arith, lb))) has (HasOpening.map n st)
+      container-meets d b r p k l (exactly (2 * n)) (λ m. recs (exactly (2 * n)) r (p + k) m fits (rest-bytes b st.0 r st.3 bytes) (omega (arith, lb))) has (BeginsContainer.map n st)
   counted-meets (suc (suc (suc (suc (suc (suc zero)))))) n k r lt st fits sf = tag-meets d rec b r n p k l has st bytes fuel
   counted-meets (suc (suc (suc (suc (suc (suc (suc m))))))) n k r lt st fits sf = let never : ⊥ = omega arith in absurd never
 
@@ -513,10 +513,10 @@ module _ (d : ℕ) (rec : (b : List ℕ) (p : ℕ) (l : Limit) → EachIsByte b 
       (pieces-meet of_text d r (p + 1) (omega arith) (rest-bytes b (127 ∷ []) r e bytes) (omega arith))
   opened-meets (suc (suc (suc (suc zero)))) r e lt a0 a1 a6 room =
       let lb : length b ≡ suc (length r) = ap length e in
-      container-meets d b r p 1 l items_until_break (λ m. recs items_until_break r (p + 1) m (omega arith) (rest-bytes b (159 ∷ []) r e bytes) (omega arith)) has (HasOpening.open_array refl e)
+      container-meets d b r p 1 l items_until_break (λ m. recs items_until_break r (p + 1) m (omega arith) (rest-bytes b (159 ∷ []) r e bytes) (omega arith)) has (BeginsContainer.open_array refl e)
   opened-meets (suc (suc (suc (suc (suc zero))))) r e lt a0 a1 a6 room =
       let lb : length b ≡ suc (length r) = ap length e in
-      container-meets d b r p 1 l keys_until_break (λ m. recs keys_until_break r (p + 1) m (omega arith) (rest-bytes b (191 ∷ []) r e bytes) (omega arith)) has (HasOpening.open_map refl e)
+      container-meets d b r p 1 l keys_until_break (λ m. recs keys_until_break r (p + 1) m (omega arith) (rest-bytes b (191 ∷ []) r e bytes) (omega arith)) has (BeginsContainer.open_map refl e)
   opened-meets (suc (suc (suc (suc (suc (suc zero)))))) r e lt a0 a1 a6 room = absurd (a6 refl)
   opened-meets (suc (suc (suc (suc (suc (suc (suc zero))))))) r e lt a0 a1 a6 room =
       subst (λ c. Refuses c p l (semantic p Break)) (sym e) (Refuses.break (subst (λ c. IsUsable c p) e has))

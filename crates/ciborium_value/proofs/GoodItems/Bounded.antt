@@ -4,7 +4,7 @@ use Rattle.ciborium_value.specs.Tree as trees
 use Rattle.ciborium_value.specs.Tree.{Tree, Trees, TreePairs}
 use Rattle.ciborium_ll.specs.Bytes.{AreBytes}
 use Rattle.ciborium_ll.specs.Item.{Item, unsigned, negative, bytes, text, array, map, tag, simple, float, Items, no_items, item, items_count, Pairs, no_pairs, pair, pairs_count}
-use Rattle.ciborium_ll.specs.Spells.{AreParts, joined, IsString, IsContainer, Spells, SpellsItems, SpellsPairs}
+use Rattle.ciborium_ll.specs.Spells.{AreChunks, joined, IsString, IsContainer, Spells, SpellsItems, SpellsPairs}
 use Rattle.ciborium_value.specs.Meaning.{meaning, items_meaning, pairs_meaning, trees_more, tree_pairs_more, simple_meaning, big_endian, is_bignum_tag, bignum_meaning, unsigned_bignum, negative_bignum, without_zeros, folding_bytes, short_string, tag_meaning}
 use Rattle.ciborium_value.specs.Counts.{node_count, payload_size, trees_node_count, trees_payload_size, tree_pairs_node_count, tree_pairs_payload_size}
 use Rattle.ciborium_ll.proofs.FrontHeads.{head-length}
@@ -61,7 +61,7 @@ more_pairs-fit (Some v) (Some w) (Some ps) i j k n f g h e = omega (arith, f, g,
 
 -- ---- strings
 
-parts-longer : (m : ℕ) (IsAllowed : List ℕ → Type 0) (ys : List (List ℕ)) (r : List ℕ) → AreParts m IsAllowed r ys → length (joined ys) ≤ length r
+parts-longer : (m : ℕ) (IsAllowed : List ℕ → Type 0) (ys : List (List ℕ)) (r : List ℕ) → AreChunks m IsAllowed r ys → length (joined ys) ≤ length r
 parts-longer m IsAllowed [] r h = omega arith
 parts-longer m IsAllowed (y ∷ ys) r h =
     let rest = parts-longer m IsAllowed ys h.1 h.3 in

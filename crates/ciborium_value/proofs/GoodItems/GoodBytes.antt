@@ -9,7 +9,7 @@ use Rattle.ciborium_ll.specs.Bytes.{AreBytes}
 use Rattle.ciborium_ll.specs.Head.{IsHead, IsSimple, within, one_byte, two_bytes, four_bytes, eight_bytes, head_in}
 use Rattle.ciborium_ll.specs.Item as item
 use Rattle.ciborium_ll.specs.Item.{Item, Items, Pairs, items_count, pairs_count}
-use Rattle.ciborium_ll.specs.Spells.{AreParts, IsString, IsContainer, Spells, SpellsItems, SpellsPairs}
+use Rattle.ciborium_ll.specs.Spells.{AreChunks, IsString, IsContainer, Spells, SpellsItems, SpellsPairs}
 use Rattle.ciborium_value.specs.Meaning.{meaning, items_meaning, pairs_meaning, tag_meaning, is_bignum_tag, trees_more, tree_pairs_more}
 use Rattle.ciborium_value.specs.Nesting.{Limit}
 use Rattle.ciborium_value.specs.Refuses.{IsGood}
@@ -75,7 +75,7 @@ utf8_bytes b (cs, h) = subst AreBytes h.1 (text_bytes cs h.0)
 
 -- ---- strings
 
-parts_bytes : (m : ℕ) (IsAllowed : List ℕ → Type 0) → m < 7 → ((y : List ℕ) → IsAllowed y → AreBytes y) → (ys : List (List ℕ)) (r : List ℕ) → AreParts m IsAllowed r ys → AreBytes r
+parts_bytes : (m : ℕ) (IsAllowed : List ℕ → Type 0) → m < 7 → ((y : List ℕ) → IsAllowed y → AreBytes y) → (ys : List (List ℕ)) (r : List ℕ) → AreChunks m IsAllowed r ys → AreBytes r
 parts_bytes m IsAllowed small ok [] r e = subst AreBytes (sym e) (All-nil (λ x. x < 256))
 parts_bytes m IsAllowed small ok (y ∷ ys) r (s, t, (h, head, is_ok, is), rest, e) =
     subst AreBytes (sym e) (All-append (λ x. x < 256) s t (subst AreBytes (sym is) (All-append (λ x. x < 256) h y (head_bytes h m (length y) small head) (ok y is_ok))) (parts_bytes m IsAllowed small ok ys t rest))

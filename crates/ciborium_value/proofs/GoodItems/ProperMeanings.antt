@@ -6,7 +6,7 @@ use Rattle.ciborium_ll.specs.Bytes.{AreBytes, greatest_offset}
 use Rattle.ciborium_ll.specs.Head.{within, one_byte, two_bytes, four_bytes, eight_bytes, IsHead}
 use Rattle.ciborium_ll.specs.Item.{Item, unsigned, negative, bytes, text, array, map, tag, simple, float, Items, no_items, item, items_count, Pairs, no_pairs, pair, pairs_count}
 use Rattle.ciborium_ll.specs.ProperItems.{IsArgument, IsProperBytes}
-use Rattle.ciborium_ll.specs.Spells.{AreParts, joined, IsString, IsContainer, Spells, SpellsItems, SpellsPairs}
+use Rattle.ciborium_ll.specs.Spells.{AreChunks, joined, IsString, IsContainer, Spells, SpellsItems, SpellsPairs}
 use Rattle.ciborium_value.specs.Meaning.{meaning, items_meaning, pairs_meaning, trees_more, tree_pairs_more, simple_meaning, big_endian, is_bignum_tag, bignum_meaning, unsigned_bignum, negative_bignum, without_zeros, folding_bytes, short_string, tag_meaning}
 use Rattle.ciborium_value.specs.ProperTrees.{IsProperTree, AreProperTrees, AreProperTreePairs}
 use Rattle.ciborium_value.specs.Tree as trees
@@ -84,7 +84,7 @@ head-argument b m n (eight_bytes, lt, e) = lt
 
 -- ---- strings
 
-joined-bytes : (m : ℕ) (IsAllowed : List ℕ → Type 0) (ys : List (List ℕ)) (r : List ℕ) → AreParts m IsAllowed r ys → AreBytes r → AreBytes (joined ys)
+joined-bytes : (m : ℕ) (IsAllowed : List ℕ → Type 0) (ys : List (List ℕ)) (r : List ℕ) → AreChunks m IsAllowed r ys → AreBytes r → AreBytes (joined ys)
 joined-bytes m IsAllowed [] r h k = All-nil (λ n. n < 256)
 joined-bytes m IsAllowed (y ∷ ys) r (s, t, (h, head, ok, is), rest, e) k =
     let both = split-bytes r s t e k in
@@ -99,7 +99,7 @@ string-bytes true m IsAllowed s y (ys, r, parts, same, is) k =
 string-proper : (o : Bool) (m : ℕ) (IsAllowed : List ℕ → Type 0) (s y : List ℕ) → IsString o m IsAllowed s y → AreBytes s → length s ≤ greatest_offset → IsProperBytes y
 string-proper o m IsAllowed s y h k fits = let longer = string-longer o m IsAllowed s y h in (string-bytes o m IsAllowed s y h k, omega (arith, longer, fits))
 
-joined-utf8 : (ps : List (List ℕ)) (s : List ℕ) → AreParts 3 IsUtf8 s ps → IsUtf8 (joined ps)
+joined-utf8 : (ps : List (List ℕ)) (s : List ℕ) → AreChunks 3 IsUtf8 s ps → IsUtf8 (joined ps)
 joined-utf8 [] s h = IsUtf8-nil
 joined-utf8 (p ∷ ps) s (t, r, (y, head, ok, is), rest, e) = IsUtf8-append p (joined ps) ok (joined-utf8 ps r rest)
 

@@ -12,8 +12,8 @@ use Rattle.std.specs.List.{AllByRecursion}
 use Rattle.std.proofs.lemmas.List.Elements.{All-from_recursion}
 use Rattle.ciborium_ll.specs.Bytes.{AreBytes, greatest_offset}
 use Rattle.ciborium_value.specs.Nesting.{Limit}
-use Rattle.ciborium_ll.specs.StringRefusal.{StringKind, of_bytes, of_text, major_of, IsAllowed, PayloadRefuses, StringRefuses, PartRefuses, OpenStringRefuses, HasStringHead}
-use Rattle.ciborium_value.specs.Refuses.{Due, exactly, items_until_break, keys_until_break, values_until_break, next_due, due_after, HasOpening, IsDue, IsFoldingAt, Refuses}
+use Rattle.ciborium_ll.specs.StringRefusal.{StringKind, of_bytes, of_text, string_major, IsAllowed, PayloadRefuses, StringRefuses, ChunkRefuses, OpenStringRefuses, HasStringHead}
+use Rattle.ciborium_value.specs.Refuses.{Due, exactly, items_until_break, keys_until_break, values_until_break, next_due, due_after, BeginsContainer, IsDue, IsFoldingAt, Refuses}
 use Rattle.ciborium_ll.proofs.FrontHeads.{Front, nothing, counted, opened, plain, raw, front, front-simple}
 use Rattle.ciborium_ll.proofs.UsableHeads.{EachIsByte, bytes_after, stands-front, stands-length, IsStringMajor, pass}
 use Rattle.ciborium_ll.proofs.ReadHeads.{Face, faces}
@@ -61,29 +61,29 @@ pub front_bytes : (s r : List ℕ) → EachIsByte (s ++ r) → EachIsByte s
 front_bytes [] r h = tt
 front_bytes (x ∷ s) r h = (h.0, front_bytes s r h.1)
 
-pub kind_ok : (c : StringKind) (t : List ℕ) → EachIsByte t → allowed (major_of c) t ≡ true → IsAllowed c t
+pub kind_ok : (c : StringKind) (t : List ℕ) → EachIsByte t → allowed (string_major c) t ≡ true → IsAllowed c t
 kind_ok of_bytes t bytes h = All-from_recursion (λ n. n < 256) t (bytes_again t bytes)
 kind_ok of_text t bytes h = IsUtf8-from_is_utf8 t h
 
-pub kind_allowed : (c : StringKind) (t : List ℕ) → IsAllowed c t → allowed (major_of c) t ≡ true
+pub kind_allowed : (c : StringKind) (t : List ℕ) → IsAllowed c t → allowed (string_major c) t ≡ true
 kind_allowed of_bytes t h = refl
 kind_allowed of_text t h = utf8_allowed t h
 
-pub kind_major : (c : StringKind) → IsStringMajor (major_of c)
+pub kind_major : (c : StringKind) → IsStringMajor (string_major c)
 kind_major of_bytes = inl refl
 kind_major of_text = inr refl
 
-pub kind_below : (c : StringKind) → major_of c < 7
+pub kind_below : (c : StringKind) → string_major c < 7
 kind_below of_bytes = omega arith
 kind_below of_text = omega arith
 
-payload-refused : (c : StringKind) {n p : ℕ} {r : List ℕ} {e : Refusal} → PayloadRefuses c n p r e → EachIsByte r → (u : ℕ) → string (major_of c) n r p u ≡ refused e
+payload-refused : (c : StringKind) {n p : ℕ} {r : List ℕ} {e : Refusal} → PayloadRefuses c n p r e → EachIsByte r → (u : ℕ) → string (string_major c) n r p u ≡ refused e
 payload-refused c {n} {r = r} (PayloadRefuses.ends_early h) bytes u = hold _ _ _ (lt-ltb (length r) n h)
 payload-refused c {n} {p} (PayloadRefuses.not_allowed y r l h) bytes u =
     pass _ _ _ (le-ltb (length (y ++ r)) n (omega (arith, l, length-append y r))) ∙
-    pass _ _ _ (ap (λ k. allowed (major_of c) (take k (y ++ r))) (sym l) ∙ ap (allowed (major_of c)) (take-append_seam y r) ∙ not_ok _ (λ t. h (kind_ok c y (front_bytes y r bytes) t)))
+    pass _ _ _ (ap (λ k. allowed (string_major c) (take k (y ++ r))) (sym l) ∙ ap (allowed (string_major c)) (take-append_seam y r) ∙ not_ok _ (λ t. h (kind_ok c y (front_bytes y r bytes) t)))
 
-string-refusing : (c : StringKind) {b : List ℕ} {p : ℕ} {e : Refusal} → StringRefuses c b p e → EachIsByte b → Refusing (major_of c) b p e
+string-refusing : (c : StringKind) {b : List ℕ} {p : ℕ} {e : Refusal} → StringRefuses c b p e → EachIsByte b → Refusing (string_major c) b p e
 string-refusing c {b} (n, k, r, s, f) bytes = (n, k, r, s, payload-refused c f (rest-bytes b s.0 r s.3 bytes))
 
 string-at : (d p : ℕ) (b : List ℕ) (l : Limit) (m : ℕ) (e : Refusal) → IsStringMajor m → 0 < d → IsUsable b p → Refusing m b p e → read d b p l ≡ refused e
@@ -92,26 +92,26 @@ string-at d p b l m e (inl j) pos h s =
 string-at d p b l m e (inr j) pos h s =
     counted-at d p (p + s.1) b l m s.0 s.1 s.2 pos (omega arith) s.3 h refl ∙ ap (λ k. counted_item (read (d - 1)) (parts (d - 1)) k s.0 s.2 p (p + s.1) l) j ∙ ap (λ k. string k s.0 s.2 p (p + s.1)) (sym j) ∙ s.4 (p + s.1)
 
-other-refused : (c : StringKind) (b : List ℕ) (q : ℕ) (more : List ℕ → ℕ → Answer) → (HasStringHead c b → ⊥) → (IsAtFront 255 b → ⊥) → (f : Front) → Face b q f → piece more (major_of c) b q f ≡ refused (syntax q)
+other-refused : (c : StringKind) (b : List ℕ) (q : ℕ) (more : List ℕ → ℕ → Answer) → (HasStringHead c b → ⊥) → (IsAtFront 255 b → ⊥) → (f : Front) → Face b q f → piece more (string_major c) b q f ≡ refused (syntax q)
 other-refused c b q more x y nothing f = absurd f
-other-refused c b q more x y (counted k n r) f = pass _ _ _ (not_ok _ (λ t. x (n, f.1, r, subst (λ j. HasHead b j n f.1 r) (eqb-true k (major_of c) t) f.2)))
+other-refused c b q more x y (counted k n r) f = pass _ _ _ (not_ok _ (λ t. x (n, f.1, r, subst (λ j. HasHead b j n f.1 r) (eqb-true k (string_major c) t) f.2)))
 other-refused c b q more x y (opened k r) f = pass _ _ _ (not_ok _ (λ t. y (r, f.0 ∙ ap (λ j. (j * 32 + 31) ∷ r) (eqb-true k 7 t))))
 other-refused c b q more x y (plain n r) f = refl
 other-refused c b q more x y (raw w r) f = refl
 
-part-refused : (k : StringKind) (c : ℕ) → 0 < c → {b : List ℕ} {q : ℕ} {e : Refusal} → PartRefuses k b q e → EachIsByte b → pieces c (major_of k) b q ≡ refused e
+part-refused : (k : StringKind) (c : ℕ) → 0 < c → {b : List ℕ} {q : ℕ} {e : Refusal} → ChunkRefuses k b q e → EachIsByte b → pieces c (string_major k) b q ≡ refused e
 part-refused k zero pos f bytes = let never : ⊥ = omega arith in absurd never
-part-refused k (suc c) pos {b} {q} {e} (PartRefuses.no_head h) bytes = checked-some b q _ e h
-part-refused k (suc c) pos {b} {q} {e} (PartRefuses.part h s) bytes =
+part-refused k (suc c) pos {b} {q} {e} (ChunkRefuses.no_head h) bytes = checked-some b q _ e h
+part-refused k (suc c) pos {b} {q} {e} (ChunkRefuses.part h s) bytes =
     let t = string-refusing k s bytes in
-    checked-none b q _ h ∙ ap (piece (pieces c (major_of k)) (major_of k) b q) (stands-front b (major_of k) t.0 t.1 t.2 (kind_below k) t.3) ∙ hold _ _ _ (eq-eqb (major_of k) (major_of k) refl) ∙
-    ap (and_then (pieces c (major_of k))) (t.4 (past q b t.2))
-part-refused k (suc c) pos {b} {q} {e} (PartRefuses.other h x y) bytes =
-    checked-none b q _ h ∙ other-refused k b q (pieces c (major_of k)) x y (front b) (faces b q bytes h)
+    checked-none b q _ h ∙ ap (piece (pieces c (string_major k)) (string_major k) b q) (stands-front b (string_major k) t.0 t.1 t.2 (kind_below k) t.3) ∙ hold _ _ _ (eq-eqb (string_major k) (string_major k) refl) ∙
+    ap (and_then (pieces c (string_major k))) (t.4 (past q b t.2))
+part-refused k (suc c) pos {b} {q} {e} (ChunkRefuses.other h x y) bytes =
+    checked-none b q _ h ∙ other-refused k b q (pieces c (string_major k)) x y (front b) (faces b q bytes h)
 
 open-refused : (k : StringKind) (d p : ℕ) (b : List ℕ) (l : Limit) (e : Refusal) → IsUsable b p → OpenStringRefuses k b p e → EachIsByte b → 2 * length b < d → read d b p l ≡ refused e
 open-refused k d p b l e h (q, at, (good, payloads, r, parts_of, room, split, f)) bytes fuel =
-    let m : ℕ = major_of k in
+    let m : ℕ = string_major k in
     let wh : b ≡ (m * 32 + 31) ∷ (good ++ r) = at ∙ ap (λ (c : List ℕ). (m * 32 + 31) ∷ c) split in
     let lb : length b ≡ suc (length (good ++ r)) = ap length wh in
     let br : EachIsByte (((m * 32 + 31) ∷ good) ++ r) = subst EachIsByte wh bytes in
@@ -119,7 +119,7 @@ open-refused k d p b l e h (q, at, (good, payloads, r, parts_of, room, split, f)
     pieces-run m (IsAllowed k) (kind_below k) (kind_allowed k) (d - 1) payloads good r (good ++ r) (p + 1) (p + 1 + length good) (refused e) parts_of refl refl room (omega arith)
     (λ c lc. part-refused k c (omega arith) f (bytes_after ((m * 32 + 31) ∷ good) r br))
   where
-    chosen : (c : StringKind) → opened_item (parts (d - 1)) (pieces (d - 1)) (major_of c) (good ++ r) p l ≡ pieces (d - 1) (major_of c) (good ++ r) (p + 1)
+    chosen : (c : StringKind) → opened_item (parts (d - 1)) (pieces (d - 1)) (string_major c) (good ++ r) p l ≡ pieces (d - 1) (string_major c) (good ++ r) (p + 1)
     chosen of_bytes = refl
     chosen of_text = refl
 
@@ -143,11 +143,11 @@ simple-front s n r (inr h) = ap (λ (c : List ℕ). front (c ++ r)) h.2
 
 -- ---- containers
 
-opens-read : (d p k : ℕ) (b r : List ℕ) (w : Due) (l : Limit) → 0 < d → IsUsable b p → HasOpening b k r w → (read d b p l ≡ levels l (parts (d - 1) w r (p + k))) × (length b ≡ k + length r) × (0 < k)
-opens-read d p k b r w l pos h (HasOpening.array n s) = let z = stands-length b 4 n k r s in (counted-at d p (p + k) b l 4 n k r pos (omega arith) s h refl, z.0, z.1)
-opens-read d p k b r w l pos h (HasOpening.open_array e f) = (opened-at d p b l 4 r pos f h ∙ ap (λ u. levels l (parts (d - 1) items_until_break r u)) (omega arith), ap length f ∙ omega arith, omega arith)
-opens-read d p k b r w l pos h (HasOpening.map n s) = let z = stands-length b 5 n k r s in (counted-at d p (p + k) b l 5 n k r pos (omega arith) s h refl, z.0, z.1)
-opens-read d p k b r w l pos h (HasOpening.open_map e f) = (opened-at d p b l 5 r pos f h ∙ ap (λ u. levels l (parts (d - 1) keys_until_break r u)) (omega arith), ap length f ∙ omega arith, omega arith)
+opens-read : (d p k : ℕ) (b r : List ℕ) (w : Due) (l : Limit) → 0 < d → IsUsable b p → BeginsContainer b k r w → (read d b p l ≡ levels l (parts (d - 1) w r (p + k))) × (length b ≡ k + length r) × (0 < k)
+opens-read d p k b r w l pos h (BeginsContainer.array n s) = let z = stands-length b 4 n k r s in (counted-at d p (p + k) b l 4 n k r pos (omega arith) s h refl, z.0, z.1)
+opens-read d p k b r w l pos h (BeginsContainer.open_array e f) = (opened-at d p b l 4 r pos f h ∙ ap (λ u. levels l (parts (d - 1) items_until_break r u)) (omega arith), ap length f ∙ omega arith, omega arith)
+opens-read d p k b r w l pos h (BeginsContainer.map n s) = let z = stands-length b 5 n k r s in (counted-at d p (p + k) b l 5 n k r pos (omega arith) s h refl, z.0, z.1)
+opens-read d p k b r w l pos h (BeginsContainer.open_map e f) = (opened-at d p b l 5 r pos f h ∙ ap (λ u. levels l (parts (d - 1) keys_until_break r u)) (omega arith), ap length f ∙ omega arith, omega arith)
 
 no-break : (b : List ℕ) (p : ℕ) → (p < greatest_offset → IsAtFront 255 b → ⊥) → break_at b p ≡ None
 no-break [] p h = refl
@@ -204,11 +204,11 @@ not_folds t r p bytes h x = not_ok _ (λ e. let a = and_true _ _ e in x (of (fro
 tag-at : (d p t k : ℕ) (b r : List ℕ) (l : Limit) → 0 < d → IsUsable b p → HasHead b 6 t k r → read d b p l ≡ tagged (read (d - 1)) t r p (p + k) l
 tag-at d p t k b r l pos h s = counted-at d p (p + k) b l 6 t k r pos (omega arith) s h refl
 
-opens-bytes : (b r : List ℕ) (k : ℕ) (w : Due) → HasOpening b k r w → EachIsByte b → EachIsByte r
-opens-bytes b r k w (HasOpening.array n s) x = rest-bytes b s.0 r s.3 x
-opens-bytes b r k w (HasOpening.open_array e f) x = rest-bytes b (159 ∷ []) r f x
-opens-bytes b r k w (HasOpening.map n s) x = rest-bytes b s.0 r s.3 x
-opens-bytes b r k w (HasOpening.open_map e f) x = rest-bytes b (191 ∷ []) r f x
+opens-bytes : (b r : List ℕ) (k : ℕ) (w : Due) → BeginsContainer b k r w → EachIsByte b → EachIsByte r
+opens-bytes b r k w (BeginsContainer.array n s) x = rest-bytes b s.0 r s.3 x
+opens-bytes b r k w (BeginsContainer.open_array e f) x = rest-bytes b (159 ∷ []) r f x
+opens-bytes b r k w (BeginsContainer.map n s) x = rest-bytes b s.0 r s.3 x
+opens-bytes b r k w (BeginsContainer.open_map e f) x = rest-bytes b (191 ∷ []) r f x
 
 large-refused : (d p k : ℕ) (b s y r : List ℕ) (l : Limit) → 0 < d → 1 < d → IsUsable b p → HasHead b 6 3 k (s ++ r) → IsUsable (s ++ r) (p + k) → IsDefiniteString 2 AreBytes s y → length y ≤ 16 → 2 ^ 127 ≤ big_endian y → read d b p l ≡ refused (semantic p TooLarge)
 large-refused d p k b s y r l pos pos2 h st i str small large =
@@ -223,7 +223,7 @@ large-refused d p k b s y r l pos pos2 h st i str small large =
 
 pub refusal-read : {b : List ℕ} {p : ℕ} {l : Limit} {e : Refusal} → Refuses b p l e → EachIsByte b → (d : ℕ) → 2 * length b < d → read d b p l ≡ refused e
 refusal-read {b} {p} {l} {e} (Refuses.no_head h) bytes d fuel = head-refused d p b l e (omega arith) h
-refusal-read {b} {p} {l} {e} (Refuses.string c h s) bytes d fuel = string-at d p b l (major_of c) e (kind_major c) (omega arith) h (string-refusing c s bytes)
+refusal-read {b} {p} {l} {e} (Refuses.string c h s) bytes d fuel = string-at d p b l (string_major c) e (kind_major c) (omega arith) h (string-refusing c s bytes)
 refusal-read {b} {p} {l} {e} (Refuses.open_string c h s) bytes d fuel = open-refused c d p b l e h s bytes fuel
 refusal-read {p} {l} (Refuses.float {x} {b = b} h lo hi) bytes d fuel = float-refused d p x b l (omega arith) h lo hi
 refusal-read {b} {p} {l} {e} (Refuses.simple s n r h is none f) bytes d fuel =

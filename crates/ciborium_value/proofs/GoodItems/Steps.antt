@@ -3,7 +3,7 @@ use Rattle.std.proofs.Common.{◌≡◌, ℕ, zero, suc, ◌+◌, ◌*◌, ◌%�
 use Rattle.std.proofs.Math.Seq.{take-append_seam, drop-append_seam}
 use Rattle.std.proofs.lemmas.Nat.{div-mul-add, mod-mul-add}
 use Rattle.std.proofs.lemmas.Bool.Decides.{nat_tests}
-use Rattle.ciborium_ll.specs.Spells.{AreParts}
+use Rattle.ciborium_ll.specs.Spells.{AreChunks}
 use Rattle.ciborium_ll.specs.Refusal.{Refusal, head_refusal, IsUsable, HeadRefuses, HasHead, argument_length, is_reserved, is_low_simple, payload_length}
 use Rattle.ciborium_ll.specs.Bytes.{greatest_offset}
 use Rattle.ciborium_value.specs.Nesting.{Limit}
@@ -89,7 +89,7 @@ string-good m n p q y r x e k h =
 
 -- the good parts of an open string, and what is answered after them
 pub pieces-run : (m : ℕ) (IsAllowed : List ℕ → Type 0) → m < 7 → ((t : List ℕ) → IsAllowed t → allowed m t ≡ true) →
-    (d : ℕ) (ps : List (List ℕ)) (s x b : List ℕ) (q u : ℕ) (a : Answer) → AreParts m IsAllowed s ps → b ≡ s ++ x → u ≡ q + length s → u ≤ greatest_offset → length b < d →
+    (d : ℕ) (ps : List (List ℕ)) (s x b : List ℕ) (q u : ℕ) (a : Answer) → AreChunks m IsAllowed s ps → b ≡ s ++ x → u ≡ q + length s → u ≤ greatest_offset → length b < d →
     ((c : ℕ) → length x < c → pieces c m x u ≡ a) → pieces d m b q ≡ a
 pieces-run m IsAllowed lt ok d [] s x b q u a g e k room fuel then =
     let same : b ≡ x = e ∙ ap (λ (c : List ℕ). c ++ x) g in

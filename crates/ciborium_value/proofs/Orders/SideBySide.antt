@@ -16,7 +16,7 @@ use Rattle.ciborium_value.specs.declared.tree.Value.{Value, the_lemmas}
 use Rattle.ciborium_value.specs.declared.tree.Value.TheOpen.{Value-F}
 use Rattle.ciborium_value.specs.declared.tree.Value.TheViews.{out-Value, roll-Value}
 use Rattle.ciborium_value.proofs.Trees.Views.{tree_of-Integer, tree_of-Bytes, tree_of-Text, tree_of-Bool, tree_of-Null}
-use Rattle.ciborium_value.specs.inner.TreeHeads.{major_of, argument_of, content_bytes, head_order}
+use Rattle.ciborium_value.specs.inner.TreeHeads.{tree_major, argument_of, content_bytes, head_order}
 use Rattle.ciborium_value.specs.inner.EncodedLists.{encodings, pair_encodings}
 use Rattle.ciborium_value.proofs.Trees.Elements.{one_more}
 use Rattle.ciborium_value.proofs.Orders.Encodings.{encodings-around, pair_encodings-around}
@@ -92,10 +92,10 @@ heads_first : (v w : Tree) (x y : List ℕ) → argument_of v < 2 ^ 64 → argum
     → slice_cmp nat_cmp (encoding v ++ x) (encoding w ++ y) ≡ ordering_then (head_order v w) (slice_cmp nat_cmp (content_bytes v ++ x) (content_bytes w ++ y))
 heads_first v w x y h k =
     ap (λ l. slice_cmp nat_cmp (l ++ x) (encoding w ++ y)) (encoding-is v)
-    ∙ ap (λ l. slice_cmp nat_cmp ((shortest_head (major_of v) (argument_of v) ++ content_bytes v) ++ x) (l ++ y)) (encoding-is w)
-    ∙ ap (λ l. slice_cmp nat_cmp l ((shortest_head (major_of w) (argument_of w) ++ content_bytes w) ++ y)) (append_assoc (shortest_head (major_of v) (argument_of v)) (content_bytes v) x)
-    ∙ ap (slice_cmp nat_cmp (shortest_head (major_of v) (argument_of v) ++ (content_bytes v ++ x))) (append_assoc (shortest_head (major_of w) (argument_of w)) (content_bytes w) y)
-    ∙ heads_decide (major_of v) (major_of w) (argument_of v) (argument_of w) (content_bytes v ++ x) (content_bytes w ++ y) h k
+    ∙ ap (λ l. slice_cmp nat_cmp ((shortest_head (tree_major v) (argument_of v) ++ content_bytes v) ++ x) (l ++ y)) (encoding-is w)
+    ∙ ap (λ l. slice_cmp nat_cmp l ((shortest_head (tree_major w) (argument_of w) ++ content_bytes w) ++ y)) (append_assoc (shortest_head (tree_major v) (argument_of v)) (content_bytes v) x)
+    ∙ ap (slice_cmp nat_cmp (shortest_head (tree_major v) (argument_of v) ++ (content_bytes v ++ x))) (append_assoc (shortest_head (tree_major w) (argument_of w)) (content_bytes w) y)
+    ∙ heads_decide (tree_major v) (tree_major w) (argument_of v) (argument_of w) (content_bytes v ++ x) (content_bytes w ++ y) h k
 
 pub different_heads : (v w : Tree) (o : Ordering) (b : Bool) → argument_of v < 2 ^ 64 → argument_of w < 2 ^ 64 → o ≡ head_order v w → b ≡ is_ne o → b ≡ true
     → Decides o (encoding v) (encoding w)
@@ -111,16 +111,16 @@ contents_decide v w o p b c d h k e ne f is other decides x y =
     ∙ ap (λ l. slice_cmp nat_cmp (l ++ x) (content_bytes w ++ y)) is ∙ ap (λ l. slice_cmp nat_cmp (c ++ x) (l ++ y)) other ∙ decides x y
 
 -- equal heads have one major type and one argument
-one_major : (v w : Tree) → head_order v w ≡ Equal → major_of v ≡ major_of w
-one_major v w e = nat_cmp-IsAntisymmetric (major_of v) (major_of w) (both_tied (nat_cmp (major_of v) (major_of w)) (nat_cmp (argument_of v) (argument_of w)) e).0
+one_major : (v w : Tree) → head_order v w ≡ Equal → tree_major v ≡ tree_major w
+one_major v w e = nat_cmp-IsAntisymmetric (tree_major v) (tree_major w) (both_tied (nat_cmp (tree_major v) (tree_major w)) (nat_cmp (argument_of v) (argument_of w)) e).0
 
 one_argument : (v w : Tree) → head_order v w ≡ Equal → argument_of v ≡ argument_of w
-one_argument v w e = nat_cmp-IsAntisymmetric (argument_of v) (argument_of w) (both_tied (nat_cmp (major_of v) (major_of w)) (nat_cmp (argument_of v) (argument_of w)) e).1
+one_argument v w e = nat_cmp-IsAntisymmetric (argument_of v) (argument_of w) (both_tied (nat_cmp (tree_major v) (tree_major w)) (nat_cmp (argument_of v) (argument_of w)) e).1
 
 -- ---- values with nothing behind the head
 
 abbrev IsAlone : Tree → Type 0
-IsAlone v = (major_of v < 2) ⊎ (6 < major_of v)
+IsAlone v = (tree_major v < 2) ⊎ (6 < tree_major v)
 
 content_bytes-alone : (v : Tree) → IsAlone v → content_bytes v ≡ []
 content_bytes-alone (trees.integer z) h = refl
@@ -164,7 +164,7 @@ other_alone w h =
     subst (λ x. IsAlone (tree_of x)) same (level_alone (out-Value w) (subst IsOther (sym same) h))
 
 -- trees with nothing behind one head are one
-alone_same : (v w : Tree) → IsAlone v → major_of v ≡ major_of w → argument_of v ≡ argument_of w → v ≡ w
+alone_same : (v w : Tree) → IsAlone v → tree_major v ≡ tree_major w → argument_of v ≡ argument_of w → v ≡ w
 alone_same (trees.integer (pos n)) (trees.integer (pos k)) h m a = ap (λ z. trees.integer (pos z)) a
 alone_same (trees.integer (negsuc n)) (trees.integer (negsuc k)) h m a = ap (λ z. trees.integer (negsuc z)) a
 alone_same (trees.boolean false) (trees.boolean false) h m a = refl

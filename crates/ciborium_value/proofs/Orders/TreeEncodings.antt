@@ -12,12 +12,12 @@ use Rattle.ciborium_value.specs.declared.tree.Value as value
 use Rattle.ciborium_value.specs.declared.tree.Value.{Value}
 use Rattle.ciborium_value.proofs.Trees.Views.{tree_of-Integer, tree_of-Bytes, tree_of-Text, tree_of-Bool, tree_of-Null, tree_of-Tag, tree_of-Array, tree_of-Map, trees_count-trees_of, tree_pairs_count-tree_pairs_of}
 use Rattle.ciborium_value.proofs.Writing.Written.{written_spells, IsProperItem-item_of, items_count-items_of, pairs_count-pairs_of}
-use Rattle.ciborium_value.specs.inner.TreeHeads.{major_of, argument_of, content_bytes}
-use Rattle.ciborium_value.specs.Visits.{counted}
+use Rattle.ciborium_value.specs.inner.TreeHeads.{tree_major, argument_of, content_bytes}
+use Rattle.ciborium_value.specs.Visits.{saturated}
 use Rattle.ciborium_value.specs.inner.EncodedLists.{encodings, pair_encodings}
 use Rattle.ciborium_value.proofs.Orders.Encodings.{encodings-more, pair_encodings-more}
 
-pub encoding-is : (v : Tree) → encoding v ≡ shortest_head (major_of v) (argument_of v) ++ content_bytes v
+pub encoding-is : (v : Tree) → encoding v ≡ shortest_head (tree_major v) (argument_of v) ++ content_bytes v
 unfolding shortest_head
 encoding-is (integer (pos n)) = sym (append-nil (shortest_head 0 n))
 encoding-is (integer (negsuc n)) = sym (append-nil (shortest_head 1 n))
@@ -31,16 +31,16 @@ encoding-is (array vs) = ap (λ n. shortest_head 4 n ++ items_bytes (items_of vs
 encoding-is (map ps) = ap (λ n. shortest_head 5 n ++ pairs_bytes (pairs_of ps)) (pairs_count-pairs_of ps)
 
 -- a size is that of the head and of what stands behind it
-pub encoded_size-is : (v : Tree) (major argument head content size : ℕ) → major ≡ major_of v → argument ≡ argument_of v → head ≡ length (shortest_head major argument)
-    → content ≡ counted (length (content_bytes v)) → size ≡ counted (head + content) → size ≡ encoded_size v
+pub encoded_size-is : (v : Tree) (major argument head content size : ℕ) → major ≡ tree_major v → argument ≡ argument_of v → head ≡ length (shortest_head major argument)
+    → content ≡ saturated (length (content_bytes v)) → size ≡ saturated (head + content) → size ≡ encoded_size v
 encoded_size-is v major argument head content size m n h c s =
-    let first : head ≡ length (shortest_head (major_of v) (argument_of v)) = h ∙ ap (λ k. length (shortest_head k argument)) m ∙ ap (λ k. length (shortest_head (major_of v) k)) n in
-    let whole : length (encoding v) ≡ length (shortest_head (major_of v) (argument_of v)) + length (content_bytes v) =
-    ap length (encoding-is v) ∙ length-append (shortest_head (major_of v) (argument_of v)) (content_bytes v) in
+    let first : head ≡ length (shortest_head (tree_major v) (argument_of v)) = h ∙ ap (λ k. length (shortest_head k argument)) m ∙ ap (λ k. length (shortest_head (tree_major v) k)) n in
+    let whole : length (encoding v) ≡ length (shortest_head (tree_major v) (argument_of v)) + length (content_bytes v) =
+    ap length (encoding-is v) ∙ length-append (shortest_head (tree_major v) (argument_of v)) (content_bytes v) in
     omega (arith, first, c, s, whole)
 
 -- a head behind which nothing stands
-pub encoded_size-head : (v : Tree) (major argument head : ℕ) → major ≡ major_of v → argument ≡ argument_of v → head ≡ length (shortest_head major argument)
+pub encoded_size-head : (v : Tree) (major argument head : ℕ) → major ≡ tree_major v → argument ≡ argument_of v → head ≡ length (shortest_head major argument)
     → head < 2 ^ 64 → content_bytes v ≡ [] → head ≡ encoded_size v
 encoded_size-head v major argument head m n h fits none =
     let empty = ap length none in

@@ -5,7 +5,7 @@ use Rattle.ciborium_value.specs.Counts.{node_count, trees_node_count, tree_pairs
 use Rattle.ciborium_value.specs.Tree.{Tree}
 use Rattle.ciborium_value.specs.View.{tree_of, trees_of, tree_pairs_of}
 use Rattle.ciborium_value.specs.declared.tree.Value.{Value}
-use Rattle.ciborium_value.specs.Visits.{AddsVisits, AddsAtMost, both_node_count, counted}
+use Rattle.ciborium_value.specs.Visits.{AddsVisits, AddsAtMost, both_node_count, saturated}
 use Rattle.ciborium_value.proofs.Trees.Elements.{one_more}
 use Rattle.ciborium_value.proofs.Orders.SideBySide.{tied}
 
@@ -123,13 +123,13 @@ module _ (i : ℕ) (ps qs : List (Value × Value)) (p q : Value × Value) (h : i
 
 -- a walk over each value, and then one side by side
 pub both_walks-most : (v w : Tree) (answer : Ordering) (one two three : ℕ) → three < 2 ^ 64 → AddsVisits (node_count v) 0 one → AddsVisits (node_count w) one two
-    → AddsAtMost (both_node_count v w) answer two three → three ≤ counted (2 * both_node_count v w)
+    → AddsAtMost (both_node_count v w) answer two three → three ≤ saturated (2 * both_node_count v w)
 both_walks-most v w answer one two three fits h k l = let most = l.most in omega (arith, h, k, most)
 
 pub both_walks-all : (v w : Tree) (answer : Ordering) (one two three : ℕ) → AddsVisits (node_count v) 0 one → AddsVisits (node_count w) one two
-    → AddsAtMost (both_node_count v w) answer two three → answer ≡ Equal → three ≡ counted (2 * both_node_count v w)
+    → AddsAtMost (both_node_count v w) answer two three → answer ≡ Equal → three ≡ saturated (2 * both_node_count v w)
 both_walks-all v w answer one two three h k l e = let all = l.all e in omega (arith, h, k, all)
 
 -- one walk, side by side
-pub one_walk-all : (v w : Tree) (answer : Ordering) (new : ℕ) → AddsAtMost (both_node_count v w) answer 0 new → answer ≡ Equal → new ≡ counted (both_node_count v w)
+pub one_walk-all : (v w : Tree) (answer : Ordering) (new : ℕ) → AddsAtMost (both_node_count v w) answer 0 new → answer ≡ Equal → new ≡ saturated (both_node_count v w)
 one_walk-all v w answer new l e = let all = l.all e in omega (arith, all)

@@ -6,7 +6,7 @@ use Rattle.ciborium_ll.specs.Item.{Item}
 use Rattle.ciborium_value.specs.Ahead.{Ahead, Rest, Form, item, after, pairs, entry, inside, end_of}
 use Rattle.ciborium_value.specs.Nesting.{Limit}
 use Rattle.ciborium_value.specs.Places.{Shape, dictionary}
-use Rattle.ciborium_value.specs.Sources.{Fault, IsFaultOf, Takes, Refuses, EntersMap, GoesOn, Leaves, RefusesNext, TakesTo, TakesItem, OwesLess, OwesNothing}
+use Rattle.ciborium_value.specs.Sources.{Fault, IsFaultOf, TakesAhead, RefusesAhead, EntersMap, GoesOn, Leaves, RefusesNext, TakesTo, TakesItem, OwesLess, OwesNothing}
 use Rattle.ciborium_value.specs.Taken.{Outcome, gives, refuses, nests, Taken, then_take, and_take, take_each, outcome_map}
 use Rattle.ciborium_value.specs.TakenParts.{take_entry, put_all, map_entries, taken_map}
 use Rattle.ciborium_value.proofs.Sources.Sequences.{fault_then, fault_and, fault_map, fault_outside, Follows, so, IsBlamed, IsBefore, IsPast}
@@ -76,7 +76,7 @@ module _ {S Q : Type 0} (StandsBefore : S → Limit → Ahead → Type 0) (SeqSt
         (w.0, n.0, n.1, n.2, n.4, n.5, w.4 ∙ ap (map_from order key value es (inside w.0 l)) n.3);
   }
 
-  key_blames : {old : S} {q : Q} (es : List (A × B)) (fault : Fault) → Refuses StandsBefore old key fault → Follows (IsAtKey old q es) (IsBlamed fault)
+  key_blames : {old : S} {q : Q} (es : List (A × B)) (fault : Fault) → RefusesAhead StandsBefore old key fault → Follows (IsAtKey old q es) (IsBlamed fault)
   key_blames es fault h = record {
     at = λ l f o w.
         let m = inside w.0 l in
@@ -84,7 +84,7 @@ module _ {S Q : Type 0} (StandsBefore : S → Limit → Ahead → Type 0) (SeqSt
         (fault_map _ fault (put_all order es) _ (fault_and _ fault _ (take_each (take_entry (key m) (value m)) w.3) (fault_then _ fault (key m w.1) (λ a. then_take (value m w.2) (λ b. gives (a, b))) (h m w.1 (entry w.2 w.0 w.3 f) w.4))));
   }
 
-  at_value : {old new : S} {q : Q} (es : List (A × B)) {a : A} → Takes StandsBefore old new key a → Follows (IsAtKey old q es) (IsAtValue new q es a)
+  at_value : {old new : S} {q : Q} (es : List (A × B)) {a : A} → TakesAhead StandsBefore old new key a → Follows (IsAtKey old q es) (IsAtValue new q es a)
   at_value es h = record {
     at = λ l f o w.
         let m = inside w.0 l in
@@ -92,7 +92,7 @@ module _ {S Q : Type 0} (StandsBefore : S → Limit → Ahead → Type 0) (SeqSt
         (w.0, w.2, w.3, n.1, w.5, w.6 ∙ ap (λ x. outcome_map (put_all order es) (and_take (then_take x (λ a. then_take (value m w.2) (λ b. gives (a, b)))) (take_each (take_entry (key m) (value m)) w.3))) n.0);
   }
 
-  value_blames : {old : S} {q : Q} (es : List (A × B)) (a : A) (fault : Fault) → Refuses StandsBefore old value fault → Follows (IsAtValue old q es a) (IsBlamed fault)
+  value_blames : {old : S} {q : Q} (es : List (A × B)) (a : A) (fault : Fault) → RefusesAhead StandsBefore old value fault → Follows (IsAtValue old q es a) (IsBlamed fault)
   value_blames es a fault h = record {
     at = λ l f o w.
         let m = inside w.0 l in
@@ -100,7 +100,7 @@ module _ {S Q : Type 0} (StandsBefore : S → Limit → Ahead → Type 0) (SeqSt
         (fault_map _ fault (put_all order es) _ (fault_and _ fault _ (take_each (take_entry (key m) (value m)) w.2) (fault_then _ fault (value m w.1) (λ b. gives (a, b)) (h m w.1 (pairs w.0 w.2 f) w.3))));
   }
 
-  behind_value : {old new : S} {q : Q} (es : List (A × B)) (a : A) {b : B} → Takes StandsBefore old new value b → Follows (IsAtValue old q es a) (IsInsideMap new q (insert_entry order es a b))
+  behind_value : {old new : S} {q : Q} (es : List (A × B)) (a : A) {b : B} → TakesAhead StandsBefore old new value b → Follows (IsAtValue old q es a) (IsInsideMap new q (insert_entry order es a b))
   behind_value es a {b} h = record {
     at = λ l f o w.
         let m = inside w.0 l in
@@ -109,13 +109,13 @@ module _ {S Q : Type 0} (StandsBefore : S → Limit → Ahead → Type 0) (SeqSt
         (w.0, w.2, n.1, w.4, w.5 ∙ ap (λ x. outcome_map (put_all order es) (and_take (then_take x (λ b. gives (a, b))) r)) n.0 ∙ put_more order es (a, b) r);
   }
 
-  pub map_more : {old ahead mid new : S} {q q' : Q} (es : List (A × B)) {a : A} {b : B} → GoesOn StandsBefore SeqStands old ahead q q' → Takes StandsBefore ahead mid key a → Takes StandsBefore mid new value b → Follows (IsInsideMap old q es) (IsInsideMap new q' (insert_entry order es a b))
+  pub map_more : {old ahead mid new : S} {q q' : Q} (es : List (A × B)) {a : A} {b : B} → GoesOn StandsBefore SeqStands old ahead q q' → TakesAhead StandsBefore ahead mid key a → TakesAhead StandsBefore mid new value b → Follows (IsInsideMap old q es) (IsInsideMap new q' (insert_entry order es a b))
   map_more es {a} h k v = so (at_key es h) (so (at_value es k) (behind_value es a v))
 
-  pub map_blames_key : {old ahead : S} {q q' : Q} (es : List (A × B)) (fault : Fault) → GoesOn StandsBefore SeqStands old ahead q q' → Refuses StandsBefore ahead key fault → Follows (IsInsideMap old q es) (IsBlamed fault)
+  pub map_blames_key : {old ahead : S} {q q' : Q} (es : List (A × B)) (fault : Fault) → GoesOn StandsBefore SeqStands old ahead q q' → RefusesAhead StandsBefore ahead key fault → Follows (IsInsideMap old q es) (IsBlamed fault)
   map_blames_key es fault h k = so (at_key es h) (key_blames es fault k)
 
-  pub map_blames_value : {old ahead mid : S} {q q' : Q} (es : List (A × B)) {a : A} (fault : Fault) → GoesOn StandsBefore SeqStands old ahead q q' → Takes StandsBefore ahead mid key a → Refuses StandsBefore mid value fault → Follows (IsInsideMap old q es) (IsBlamed fault)
+  pub map_blames_value : {old ahead mid : S} {q q' : Q} (es : List (A × B)) {a : A} (fault : Fault) → GoesOn StandsBefore SeqStands old ahead q q' → TakesAhead StandsBefore ahead mid key a → RefusesAhead StandsBefore mid value fault → Follows (IsInsideMap old q es) (IsBlamed fault)
   map_blames_value es {a} fault h k v = so (at_key es h) (so (at_value es k) (value_blames es a fault v))
 
   pub map_ends : {old new : S} {q : Q} (es : List (A × B)) → Leaves StandsBefore SeqStands old new q → Follows (IsInsideMap old q es) (IsPast StandsBefore new es)

@@ -4,8 +4,8 @@ use Rattle.ciborium_ll.specs.Item.{Item}
 use Rattle.ciborium_value.specs.Ahead.{Ahead, Rest, Form, item, after, parts, past, inside, end_of}
 use Rattle.ciborium_value.specs.Nesting.{Limit}
 use Rattle.ciborium_value.specs.Places.{Shape, sequence}
-use Rattle.ciborium_value.specs.inner.EnteredContainers.{DropsRest, RefusesRest, TakesOwed, TakesRest}
-use Rattle.ciborium_value.specs.Sources.{Fault, of_kind, of_nesting, of_syntax, of_memory, of_device, of_length, IsFaultOf, IsOutside, Takes, Refuses, Enters, GoesOn, Leaves, RefusesNext, TakesTo, TakesItem, OwesLess, OwesNothing}
+use Rattle.ciborium_value.specs.inner.EnteredContainers.{DropsRest, RefusesDropping, TakesOwed, TakesRest}
+use Rattle.ciborium_value.specs.Sources.{Fault, of_kind, of_nesting, of_syntax, of_memory, of_device, of_length, IsFaultOf, IsOutsideFault, TakesAhead, RefusesAhead, Enters, GoesOn, Leaves, RefusesNext, TakesTo, TakesItem, OwesLess, OwesNothing}
 use Rattle.ciborium_value.specs.Taken.{Outcome, gives, refuses, nests, Taken, then_take, and_take, take_each, outcome_map, taken_value}
 use Rattle.ciborium_value.specs.TakenParts.{list_items, taken_list, tuple_rest}
 use Rattle.ciborium_value.specs.Tree.{Tree}
@@ -36,7 +36,7 @@ fault_and end of_memory o r h = tt
 fault_and end of_device o r h = tt
 fault_and end of_length o r h = h
 
-pub fault_outside : {A : Type 0} (end : ℕ) (fault : Fault) (o : Outcome A) → IsOutside end fault → IsFaultOf end fault o
+pub fault_outside : {A : Type 0} (end : ℕ) (fault : Fault) (o : Outcome A) → IsOutsideFault end fault → IsFaultOf end fault o
 fault_outside end (of_kind k) o h = absurd h
 fault_outside end of_nesting o h = absurd h
 fault_outside end of_syntax o h = h
@@ -66,10 +66,10 @@ module _ {S : Type 0} (StandsBefore : S → Limit → Ahead → Type 0) where
   abbrev pub IsPast : {C : Type 0} → S → C → Limit → Rest → Outcome C → Type 0
   IsPast now v l f o = (o ≡ gives v) × StandsBefore now l (past f)
 
-  pub takes : {C : Type 0} {old new : S} {taken : Taken C} {v : C} → Follows (IsBefore old taken) (IsPast new v) → Takes StandsBefore old new taken v
+  pub takes : {C : Type 0} {old new : S} {taken : Taken C} {v : C} → Follows (IsBefore old taken) (IsPast new v) → TakesAhead StandsBefore old new taken v
   takes h l i f st = h.at l f _ (i, st, refl)
 
-  pub blames : {C : Type 0} {old : S} {taken : Taken C} (fault : Fault) → Follows (IsBefore old taken) (IsBlamed fault) → Refuses StandsBefore old taken fault
+  pub blames : {C : Type 0} {old : S} {taken : Taken C} (fault : Fault) → Follows (IsBefore old taken) (IsBlamed fault) → RefusesAhead StandsBefore old taken fault
   blames fault h l i f st = h.at l f _ (i, st, refl)
 
 module _ {S Q : Type 0} (StandsBefore : S → Limit → Ahead → Type 0) (SeqStands : Q → Limit → Rest → Type 0) where
@@ -93,14 +93,14 @@ module _ {S Q : Type 0} (StandsBefore : S → Limit → Ahead → Type 0) (SeqSt
     blames_next fault h = record { at = λ l f o w. fault_outside _ fault o (h.0 l w.0 w.1 f w.2 w.3) }
 
     -- the part gives v, and k makes of it what k' makes of the rest
-    pub reads : {A : Type 0} {old new : S} {q : Q} {first : Taken A} {v : A} (k' : Limit → List Item → Outcome C) → Takes StandsBefore old new first v → ((m : Limit) (i : Item) (is : List Item) → first m i ≡ gives v → k m (i ∷ is) ≡ k' m is) → Follows (IsAtPart old q k) (IsInside new q k')
+    pub reads : {A : Type 0} {old new : S} {q : Q} {first : Taken A} {v : A} (k' : Limit → List Item → Outcome C) → TakesAhead StandsBefore old new first v → ((m : Limit) (i : Item) (is : List Item) → first m i ≡ gives v → k m (i ∷ is) ≡ k' m is) → Follows (IsAtPart old q k) (IsInside new q k')
     reads k' h step = record {
       at = λ l f o w.
           let n = h (inside w.0 l) w.1 (parts w.0 w.2 f) w.3 in
           (w.0, w.2, n.1, w.4, w.5 ∙ step (inside w.0 l) w.1 w.2 n.0);
     }
 
-    pub blames_part : {A : Type 0} {old : S} {q : Q} (first : Taken A) (fault : Fault) → Refuses StandsBefore old first fault → ((end : ℕ) (m : Limit) (i : Item) (is : List Item) → IsFaultOf end fault (first m i) → IsFaultOf end fault (k m (i ∷ is))) → Follows (IsAtPart old q k) (IsBlamed fault)
+    pub blames_part : {A : Type 0} {old : S} {q : Q} (first : Taken A) (fault : Fault) → RefusesAhead StandsBefore old first fault → ((end : ℕ) (m : Limit) (i : Item) (is : List Item) → IsFaultOf end fault (first m i) → IsFaultOf end fault (k m (i ∷ is))) → Follows (IsAtPart old q k) (IsBlamed fault)
     blames_part first fault h step = record { at = λ l f o w. subst (IsFaultOf (end_of f) fault) (sym w.5) (step (end_of f) (inside w.0 l) w.1 w.2 (h (inside w.0 l) w.1 (parts w.0 w.2 f) w.3)) }
 
     pub leaves : {old new : S} {q : Q} (v : C) → Leaves StandsBefore SeqStands old new q → ((m : Limit) → k m [] ≡ gives v) → Follows (IsInside old q k) (IsPast StandsBefore new v)
@@ -144,11 +144,11 @@ module _ {S Q : Type 0} (StandsBefore : S → Limit → Ahead → Type 0) (SeqSt
         (n.0, n.1, n.3, n.4, w.2 ∙ ap (λ p. then_take p (λ x. list_items taken x.0 x.1)) n.2 ∙ none_listed r ∙ ap (λ x. outcome_map (λ ws. x ++ ws) r) (sym none));
   }
 
-  pub list_more : {old ahead new : S} {q q' : Q} {v : A} (vs : List A) → GoesOn StandsBefore SeqStands old ahead q q' → Takes StandsBefore ahead new taken v → Follows (IsInside StandsBefore SeqStands old q (list_from taken vs)) (IsInside StandsBefore SeqStands new q' (list_from taken (vs ++ v ∷ [])))
+  pub list_more : {old ahead new : S} {q q' : Q} {v : A} (vs : List A) → GoesOn StandsBefore SeqStands old ahead q q' → TakesAhead StandsBefore ahead new taken v → Follows (IsInside StandsBefore SeqStands old q (list_from taken vs)) (IsInside StandsBefore SeqStands new q' (list_from taken (vs ++ v ∷ [])))
   list_more {v = v} vs h t = so (goes_on StandsBefore SeqStands (list_from taken vs) h)
       (reads StandsBefore SeqStands (list_from taken vs) (list_from taken (vs ++ v ∷ [])) t (λ m i is e. ap (λ o. outcome_map (λ ws. vs ++ ws) (and_take o (list_items taken m is))) e ∙ one_more_listed vs v (list_items taken m is)))
 
-  pub list_blames : {old ahead : S} {q q' : Q} (vs : List A) (fault : Fault) → GoesOn StandsBefore SeqStands old ahead q q' → Refuses StandsBefore ahead taken fault → Follows (IsInside StandsBefore SeqStands old q (list_from taken vs)) (IsBlamed fault)
+  pub list_blames : {old ahead : S} {q q' : Q} (vs : List A) (fault : Fault) → GoesOn StandsBefore SeqStands old ahead q q' → RefusesAhead StandsBefore ahead taken fault → Follows (IsInside StandsBefore SeqStands old q (list_from taken vs)) (IsBlamed fault)
   list_blames vs fault h t = so (goes_on StandsBefore SeqStands (list_from taken vs) h)
       (blames_part StandsBefore SeqStands (list_from taken vs) taken fault t (λ end m i is e. fault_map _ fault (λ ws. vs ++ ws) (and_take (taken m i) (list_items taken m is)) (fault_and _ fault (taken m i) (list_items taken m is) e)))
 
@@ -156,11 +156,11 @@ module _ {S Q : Type 0} (StandsBefore : S → Limit → Ahead → Type 0) (SeqSt
   list_ends vs h = leaves StandsBefore SeqStands (list_from taken vs) vs h (λ m. ap gives (append-nil vs))
 
 module _ {S Q : Type 0} (StandsBefore : S → Limit → Ahead → Type 0) (SeqStands : Q → Limit → Rest → Type 0) where
-  pub drop_more : {old ahead new : S} {q q' : Q} {v : Tree} → GoesOn StandsBefore SeqStands old ahead q q' → Takes StandsBefore ahead new taken_value v → Follows (IsInside StandsBefore SeqStands old q dropped) (IsInside StandsBefore SeqStands new q' dropped)
+  pub drop_more : {old ahead new : S} {q q' : Q} {v : Tree} → GoesOn StandsBefore SeqStands old ahead q q' → TakesAhead StandsBefore ahead new taken_value v → Follows (IsInside StandsBefore SeqStands old q dropped) (IsInside StandsBefore SeqStands new q' dropped)
   drop_more {v = v} h t = so (goes_on StandsBefore SeqStands dropped h)
       (reads StandsBefore SeqStands dropped dropped t (λ m i is e. ap (λ o. then_take (and_take o (take_each (taken_value m) is)) (λ _. gives tt)) e ∙ one_more_dropped v (take_each (taken_value m) is)))
 
-  pub drop_blames : {old ahead : S} {q q' : Q} (fault : Fault) → GoesOn StandsBefore SeqStands old ahead q q' → Refuses StandsBefore ahead taken_value fault → Follows (IsInside StandsBefore SeqStands old q dropped) (IsBlamed fault)
+  pub drop_blames : {old ahead : S} {q q' : Q} (fault : Fault) → GoesOn StandsBefore SeqStands old ahead q q' → RefusesAhead StandsBefore ahead taken_value fault → Follows (IsInside StandsBefore SeqStands old q dropped) (IsBlamed fault)
   drop_blames fault h t = so (goes_on StandsBefore SeqStands dropped h)
       (blames_part StandsBefore SeqStands dropped taken_value fault t (λ end m i is e. fault_then _ fault (and_take (taken_value m i) (take_each (taken_value m) is)) (λ _. gives tt) (fault_and _ fault (taken_value m i) (take_each (taken_value m) is) e)))
 
@@ -170,7 +170,7 @@ module _ {S Q : Type 0} (StandsBefore : S → Limit → Ahead → Type 0) (SeqSt
   pub drops : {old new : S} {q : Q} → Follows (IsInside StandsBefore SeqStands old q dropped) (IsPast StandsBefore new tt) → DropsRest StandsBefore SeqStands old new q
   drops h l form is f st sq = h.at l f _ (form, is, st, sq, refl)
 
-  pub drop_refused : {old : S} {q : Q} (fault : Fault) → Follows (IsInside StandsBefore SeqStands old q dropped) (IsBlamed fault) → RefusesRest StandsBefore SeqStands old q fault
+  pub drop_refused : {old : S} {q : Q} (fault : Fault) → Follows (IsInside StandsBefore SeqStands old q dropped) (IsBlamed fault) → RefusesDropping StandsBefore SeqStands old q fault
   drop_refused fault h l form is f st sq = h.at l f _ (form, is, st, sq, refl)
 
 -- ---- known bytes

@@ -3,14 +3,14 @@ use Rattle.std.proofs.Common.{ℕ}
 use Rattle.ciborium_value.specs.Sources.{IsFaultOf}
 use Rattle.ciborium_value.specs.Taken.{Outcome}
 use Rattle.ciborium_value.specs.TreeAnswers.{IsErrorOf}
-use Rattle.ciborium_value.specs.TreeAnswers.{fault_of}
+use Rattle.ciborium_value.specs.TreeAnswers.{tree_fault}
 use Rattle.ciborium_value.specs.declared.serialized.Error.{Error}
 use Rattle.ciborium_value.specs.declared.serialized.Error.TheVariants.{Custom, Memory}
 
-pub fault_error : {A : Type 0} (e : Error) (o : Outcome A) (end : ℕ) → IsErrorOf e o → IsFaultOf end (fault_of e) o
+pub fault_error : {A : Type 0} (e : Error) (o : Outcome A) (end : ℕ) → IsErrorOf e o → IsFaultOf end (tree_fault e) o
 fault_error (Custom k) o end h = h
 fault_error Memory o end h = tt
 
-pub error_fault : {A : Type 0} (e : Error) (o : Outcome A) (end : ℕ) → IsFaultOf end (fault_of e) o → IsErrorOf e o
+pub error_fault : {A : Type 0} (e : Error) (o : Outcome A) (end : ℕ) → IsFaultOf end (tree_fault e) o → IsErrorOf e o
 error_fault (Custom k) o end h = h
 error_fault Memory o end h = tt

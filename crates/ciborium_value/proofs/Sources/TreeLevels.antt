@@ -7,7 +7,7 @@ use Rattle.ciborium_value.specs.Encoding.{item_of, pairs_of}
 use Rattle.ciborium_value.specs.Taken.{gives, refuses, taken_name, bare_name, lone_pair, taken_variant, bare_variant, untagged}
 use Rattle.std.specs.Borrow.{Bor}
 use Rattle.ciborium_value.specs.Ahead.{Rest, bottom, parts, pairs, entry, held, past}
-use Rattle.ciborium_value.specs.inner.TreeSources.{IsAhead, IsDue, IsPending, pending_due}
+use Rattle.ciborium_value.specs.inner.TreeSources.{IsTreeAhead, IsDueValue, IsPending, pending_due}
 use Rattle.ciborium_value.specs.TreeAnswers.{value_item}
 use Rattle.ciborium_value.specs.declared.deserialized.TreeSource.{TreeSource}
 use Rattle.ciborium_value.specs.View.{tree_of, tree_pairs_of}
@@ -45,7 +45,7 @@ variant_of_map v ps qs i is h e = ap (bare_variant None) (sym h ∙ ap item_of (
 
 -- ---- what is due
 
-pub due_is_ahead : (new : TreeSource) (due : Option (Bor Value)) (f : Rest) → IsDue due f → new.ahead ≡ pending_due due → IsAhead new (past f)
+pub due_is_ahead : (new : TreeSource) (due : Option (Bor Value)) (f : Rest) → IsDueValue due f → new.ahead ≡ pending_due due → IsTreeAhead new (past f)
 due_is_ahead new due (bottom reader b) h e = tt
 due_is_ahead new due (parts form is f) h e = tt
 due_is_ahead new due (pairs form ps f) h e = tt

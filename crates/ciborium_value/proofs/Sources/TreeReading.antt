@@ -7,7 +7,7 @@ use Rattle.ciborium_ll.specs.Item.{Item, unsigned}
 use Rattle.ciborium_value.specs.Encoding.{item_of, items_of, pairs_of}
 use Rattle.ciborium_value.specs.Taken.{Outcome, gives, refuses, nests, and_take, outcome_map, unpack, unpack_pairs, taken_seq, taken_pairs, bare_seq, bare_pairs, untagged, lone_character, bare_bytes, taken_bytes, taken_byte, take_each}
 use Rattle.std.specs.Borrow.{Bor}
-use Rattle.ciborium_value.specs.inner.TreeSources.{pair_items, weight, pending_due, pending_weight, due_weight, source_weight}
+use Rattle.ciborium_value.specs.inner.TreeSources.{pair_items, value_weight, pending_due, pending_tree_weight, due_weight, source_weight}
 use Rattle.ciborium_value.specs.TreeAnswers.{value_item}
 use Rattle.ciborium_value.specs.Tree as trees
 use Rattle.ciborium_value.specs.Tree.{Tree}
@@ -43,17 +43,17 @@ pub map_of : (v : Value) (ps : Vec (Value × Value) Global) (i : Item) → v ≡
 map_of v ps i is h = ap (bare_pairs None) (sym h ∙ ap item_of (ap tree_of is ∙ tree_of-Map ps)) ∙ ap (λ qs. gives (None, qs)) (unpack-tree_pairs ps.items)
 
 -- what is in a container weighs less than it
-pub items_weigh_less : (v : Value) (vs : Vec Value Global) (n : ℕ) → v ≡ value.Array vs → weight v ≤ n → trees_node_count (trees_of vs.items) + trees_payload_size (trees_of vs.items) < n
+pub items_weigh_less : (v : Value) (vs : Vec Value Global) (n : ℕ) → v ≡ value.Array vs → value_weight v ≤ n → trees_node_count (trees_of vs.items) + trees_payload_size (trees_of vs.items) < n
 items_weigh_less v vs n is h =
-    let e : weight v ≡ suc (trees_node_count (trees_of vs.items)) + trees_payload_size (trees_of vs.items) = ap (λ t. node_count t + payload_size t) (ap tree_of is ∙ tree_of-Array vs) in omega (arith, e, h)
+    let e : value_weight v ≡ suc (trees_node_count (trees_of vs.items)) + trees_payload_size (trees_of vs.items) = ap (λ t. node_count t + payload_size t) (ap tree_of is ∙ tree_of-Array vs) in omega (arith, e, h)
 
-pub bytes_weigh_less : (v : Value) (bs : Vec ℕ Global) (n : ℕ) → v ≡ value.Bytes bs → weight v ≤ n → length bs.items < n
+pub bytes_weigh_less : (v : Value) (bs : Vec ℕ Global) (n : ℕ) → v ≡ value.Bytes bs → value_weight v ≤ n → length bs.items < n
 bytes_weigh_less v bs n is h =
-    let e : weight v ≡ 1 + length bs.items = ap (λ t. node_count t + payload_size t) (ap tree_of is ∙ tree_of-Bytes bs) in omega (arith, e, h)
+    let e : value_weight v ≡ 1 + length bs.items = ap (λ t. node_count t + payload_size t) (ap tree_of is ∙ tree_of-Bytes bs) in omega (arith, e, h)
 
-pub pairs_weigh_less : (v : Value) (ps : Vec (Value × Value) Global) (n : ℕ) → v ≡ value.Map ps → weight v ≤ n → tree_pairs_node_count (tree_pairs_of ps.items) + tree_pairs_payload_size (tree_pairs_of ps.items) < n
+pub pairs_weigh_less : (v : Value) (ps : Vec (Value × Value) Global) (n : ℕ) → v ≡ value.Map ps → value_weight v ≤ n → tree_pairs_node_count (tree_pairs_of ps.items) + tree_pairs_payload_size (tree_pairs_of ps.items) < n
 pairs_weigh_less v ps n is h =
-    let e : weight v ≡ suc (tree_pairs_node_count (tree_pairs_of ps.items)) + tree_pairs_payload_size (tree_pairs_of ps.items) = ap (λ t. node_count t + payload_size t) (ap tree_of is ∙ tree_of-Map ps) in omega (arith, e, h)
+    let e : value_weight v ≡ suc (tree_pairs_node_count (tree_pairs_of ps.items)) + tree_pairs_payload_size (tree_pairs_of ps.items) = ap (λ t. node_count t + payload_size t) (ap tree_of is ∙ tree_of-Map ps) in omega (arith, e, h)
 
 -- ---- characters
 
@@ -110,9 +110,9 @@ some_node (trees.array vs) = omega (arith)
 some_node (trees.map ps) = omega (arith)
 
 -- a value that was ahead is read, and the one that is due comes next
-pub read_weighs_less : (v : Value) (old new : TreeSource) → pending_weight old.ahead ≡ weight v → pending_weight new.ahead ≡ due_weight old.due → due_weight new.due ≡ 0 → source_weight new < source_weight old
+pub read_weighs_less : (v : Value) (old new : TreeSource) → pending_tree_weight old.ahead ≡ value_weight v → pending_tree_weight new.ahead ≡ due_weight old.due → due_weight new.due ≡ 0 → source_weight new < source_weight old
 read_weighs_less v old new here next none = let some = some_node (tree_of v) in omega (arith, here, next, none, some)
 
-pub due_next : (due : Option (Bor Value)) → pending_weight (pending_due due) ≡ due_weight due
+pub due_next : (due : Option (Bor Value)) → pending_tree_weight (pending_due due) ≡ due_weight due
 due_next None = refl
 due_next (Some v) = refl

@@ -10,7 +10,7 @@ use Rattle.std.proofs.lemmas.Grind.{flat_map-append}
 use Rattle.std.proofs.lemmas.Bool.Decides.{nat_tests}
 use Rattle.std.proofs.lemmas.List.Elements.{All-head, All-tail}
 use Rattle.hex.specs.Hex.{encode_lower, encode_with, lower_digits}
-use Rattle.ciborium_value.specs.Notation.{IsPlain, comma, deeper, escape, escaped, last_break, line_break, needs_escape, notation_on, notations_on, pair_notations_on}
+use Rattle.ciborium_value.specs.Notation.{IsPlain, comma, one_level_more, escape, escaped, last_break, line_break, needs_escape, notation_on, notations_on, pair_notations_on}
 use Rattle.ciborium_value.specs.Tree.{Tree, array, map, tag}
 use Rattle.ciborium_value.specs.View.{tree_of, trees_of, tree_pairs_of}
 use Rattle.ciborium_value.specs.declared.tree.Value.{Value}
@@ -152,16 +152,16 @@ pair_notations_on-more lines i ps p h e = rw (one_more i ps p h e) (sym (pair_no
 pub notation_on-tag : (lines : Option ℕ) (n : ℕ) (v : Tree) → ((decimal n ++ codes "(") ++ notation_on lines v) ++ codes ")" ≡ notation_on lines (tag n v)
 notation_on-tag lines n v = append_assoc (decimal n ++ codes "(") (notation_on lines v) (codes ")") ∙ append_assoc (decimal n) (codes "(") (notation_on lines v ++ codes ")")
 
-pub notation_on-array : (lines inner : Option ℕ) (vs : List Value) (count : ℕ) → inner ≡ deeper lines → count ≡ length vs
+pub notation_on-array : (lines inner : Option ℕ) (vs : List Value) (count : ℕ) → inner ≡ one_level_more lines → count ≡ length vs
     → ((codes "[" ++ notations_on inner [] (trees_of vs)) ++ last_break lines count) ++ codes "]" ≡ notation_on lines (array (trees_of vs))
 notation_on-array lines inner vs count e long =
     ap (λ l. ((codes "[" ++ notations_on l [] (trees_of vs)) ++ last_break lines count) ++ codes "]") e
-    ∙ append_assoc (codes "[" ++ notations_on (deeper lines) [] (trees_of vs)) (last_break lines count) (codes "]")
-    ∙ ap (λ n. codes "[" ++ (notations_on (deeper lines) [] (trees_of vs) ++ (last_break lines n ++ codes "]"))) (long ∙ sym (trees_count-trees_of vs))
+    ∙ append_assoc (codes "[" ++ notations_on (one_level_more lines) [] (trees_of vs)) (last_break lines count) (codes "]")
+    ∙ ap (λ n. codes "[" ++ (notations_on (one_level_more lines) [] (trees_of vs) ++ (last_break lines n ++ codes "]"))) (long ∙ sym (trees_count-trees_of vs))
 
-pub notation_on-map : (lines inner : Option ℕ) (ps : List (Value × Value)) (count : ℕ) → inner ≡ deeper lines → count ≡ length ps
+pub notation_on-map : (lines inner : Option ℕ) (ps : List (Value × Value)) (count : ℕ) → inner ≡ one_level_more lines → count ≡ length ps
     → ((codes "{" ++ pair_notations_on inner [] (tree_pairs_of ps)) ++ last_break lines count) ++ codes "}" ≡ notation_on lines (map (tree_pairs_of ps))
 notation_on-map lines inner ps count e long =
     ap (λ l. ((codes "{" ++ pair_notations_on l [] (tree_pairs_of ps)) ++ last_break lines count) ++ codes "}") e
-    ∙ append_assoc (codes "{" ++ pair_notations_on (deeper lines) [] (tree_pairs_of ps)) (last_break lines count) (codes "}")
-    ∙ ap (λ n. codes "{" ++ (pair_notations_on (deeper lines) [] (tree_pairs_of ps) ++ (last_break lines n ++ codes "}"))) (long ∙ sym (tree_pairs_count-tree_pairs_of ps))
+    ∙ append_assoc (codes "{" ++ pair_notations_on (one_level_more lines) [] (tree_pairs_of ps)) (last_break lines count) (codes "}")
+    ∙ ap (λ n. codes "{" ++ (pair_notations_on (one_level_more lines) [] (tree_pairs_of ps) ++ (last_break lines n ++ codes "}"))) (long ∙ sym (tree_pairs_count-tree_pairs_of ps))

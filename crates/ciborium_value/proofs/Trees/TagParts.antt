@@ -33,7 +33,7 @@ use Rattle.std.specs.contracts.alloc.Global as global
 use Rattle.std.specs.contracts.boxed.Box as box
 use Rattle.std.specs.contracts.impls.GlobalAllocator.TheImpl.{ghosts}
 use Rattle.ciborium_value.proofs.tree.Value.TheLaws.{the_alike, the_loose}
-use Rattle.ciborium_value.specs.LentParts.{with_tag, level_with_tag}
+use Rattle.ciborium_value.specs.LentParts.{value_with_tag, level_with_tag}
 use Rattle.ciborium_value.specs.contracts.tree.Value.{enum, the_type, the_row as R}
 use Rattle.ciborium_value.specs.declared.tree.Value.TheOpen.{Value-F}
 use Rattle.ciborium_value.specs.declared.tree.Value.TheViews.{outs-Tag}
@@ -53,7 +53,7 @@ abbrev pub Tag : ℕ → B.Denot → R.Denot
 Tag t c = at enum k (t, (c, tt))
 
 -- a tag whose two parts are set
-pub tag_with : (t : ℕ) (box : B.Denot) (x : ℕ) (w : R.Denot) → Tag x (with_value box w) ≡ with_tag (Tag t box) x w
+pub tag_with : (t : ℕ) (box : B.Denot) (x : ℕ) (w : R.Denot) → Tag x (with_value box w) ≡ value_with_tag (Tag t box) x w
 tag_with t box x w = sym (ap (λ (z : Value-F R.Denot). level_with_tag z (Tag t box) x w) (outs-Tag t box))
 
 -- the position of a tag

@@ -4,11 +4,11 @@ use Rattle.ciborium_ll.specs.Item as item
 use Rattle.ciborium_ll.specs.Item.{Item}
 use Rattle.ciborium_value.specs.Encoding.{written_tree, written_trees, written_pairs}
 use Rattle.ciborium_value.specs.inner.Frames as open_
-use Rattle.ciborium_value.specs.inner.Frames.{Open, Placed, done, more, placed, ended, closed}
+use Rattle.ciborium_value.specs.inner.Frames.{TreeFrame, Placed, done, more, placed, tree_ended, closed}
 use Rattle.ciborium_value.specs.Places.{Shape, sequence, dictionary, size_of, items_from, pairs_from, container, Place, top, within, tagged, HasRoom, added, IsFull}
 use Rattle.ciborium_value.specs.Tree as trees
 use Rattle.ciborium_value.specs.Tree.{Tree}
-use Rattle.ciborium_value.specs.inner.TreeSinks.{put, put_all, begun, tagged_by, built, IsSound}
+use Rattle.ciborium_value.specs.inner.TreeSinks.{put_tree, put_items, begun, tagged_by, built, IsSound}
 use Rattle.ciborium_value.specs.View.{trees_from, tree_pairs_from}
 
 -- ---- items in a row
@@ -31,25 +31,25 @@ tree_pairs-from [] = refl
 tree_pairs-from (k ∷ []) = refl
 tree_pairs-from (k ∷ v ∷ is) = ap (trees.tree_pair (written_tree k) (written_tree v)) (tree_pairs-from is)
 
-put_all-snoc : (s : Placed) (is : List Item) (i : Item) → put_all s (is ++ i ∷ []) ≡ put (put_all s is) (written_tree i)
+put_all-snoc : (s : Placed) (is : List Item) (i : Item) → put_items s (is ++ i ∷ []) ≡ put_tree (put_items s is) (written_tree i)
 put_all-snoc s [] i = refl
-put_all-snoc s (j ∷ is) i = put_all-snoc (put s (written_tree j)) is i
+put_all-snoc s (j ∷ is) i = put_all-snoc (put_tree s (written_tree j)) is i
 
 -- ---- arrays
 
-array_open : (vs : List Tree) (is : List Item) (os : List Open) → put_all (more (open_.array vs None ∷ os)) is ≡ more (open_.array (vs ++ tree_list is) None ∷ os)
+array_open : (vs : List Tree) (is : List Item) (os : List TreeFrame) → put_items (more (open_.array vs None ∷ os)) is ≡ more (open_.array (vs ++ tree_list is) None ∷ os)
 array_open vs [] os = ap (λ l. more (open_.array l None ∷ os)) (sym (append-nil vs))
 array_open vs (i ∷ is) os = array_open (vs ++ written_tree i ∷ []) is os ∙ ap (λ l. more (open_.array l None ∷ os)) (append_assoc vs (written_tree i ∷ []) (tree_list is))
 
 abbrev pub IsStill : Placed → Type 0
-IsStill s = (os : List Open) × (s ≡ more os)
+IsStill s = (os : List TreeFrame) × (s ≡ more os)
 
-array_still : (m : ℕ) (vs : List Tree) (is : List Item) (os : List Open) → length is < suc m → IsStill (put_all (more (open_.array vs (Some m) ∷ os)) is)
+array_still : (m : ℕ) (vs : List Tree) (is : List Item) (os : List TreeFrame) → length is < suc m → IsStill (put_items (more (open_.array vs (Some m) ∷ os)) is)
 array_still m vs [] os h = (_, refl)
 array_still zero vs (i ∷ is) os h = absurd (omega (arith, h))
 array_still (suc m) vs (i ∷ is) os h = array_still m (vs ++ written_tree i ∷ []) is os (omega (arith, h))
 
-array_whole : (m : ℕ) (vs : List Tree) (is : List Item) (os : List Open) → length is ≡ suc m → put_all (more (open_.array vs (Some m) ∷ os)) is ≡ placed os (trees.array (trees_from (vs ++ tree_list is)))
+array_whole : (m : ℕ) (vs : List Tree) (is : List Item) (os : List TreeFrame) → length is ≡ suc m → put_items (more (open_.array vs (Some m) ∷ os)) is ≡ placed os (trees.array (trees_from (vs ++ tree_list is)))
 array_whole m vs [] os h = absurd (omega (arith, h))
 array_whole zero vs (i ∷ []) os h = refl
 array_whole zero vs (i ∷ j ∷ is) os h = absurd (omega (arith, h))
@@ -58,7 +58,7 @@ array_whole (suc m) vs (i ∷ is) os h =
 
 -- ---- maps
 
-map_open : (n : ℕ) (ps : List (Tree × Tree)) (is : List Item) (os : List Open) → length is ≡ n + n → put_all (more (open_.map ps None None ∷ os)) is ≡ more (open_.map (ps ++ tree_pair_list is) None None ∷ os)
+map_open : (n : ℕ) (ps : List (Tree × Tree)) (is : List Item) (os : List TreeFrame) → length is ≡ n + n → put_items (more (open_.map ps None None ∷ os)) is ≡ more (open_.map (ps ++ tree_pair_list is) None None ∷ os)
 map_open n ps [] os h = ap (λ l. more (open_.map l None None ∷ os)) (sym (append-nil ps))
 map_open n ps (k ∷ []) os h = absurd (omega (arith, h))
 map_open zero ps (k ∷ v ∷ is) os h = absurd (omega (arith, h))
@@ -66,19 +66,19 @@ map_open (suc n) ps (k ∷ v ∷ is) os h =
     map_open n (ps ++ (written_tree k, written_tree v) ∷ []) is os (omega (arith, h)) ∙
     ap (λ l. more (open_.map l None None ∷ os)) (append_assoc ps ((written_tree k, written_tree v) ∷ []) (tree_pair_list is))
 
-map_open_still : (ps : List (Tree × Tree)) (is : List Item) (os : List Open) → IsStill (put_all (more (open_.map ps None None ∷ os)) is)
+map_open_still : (ps : List (Tree × Tree)) (is : List Item) (os : List TreeFrame) → IsStill (put_items (more (open_.map ps None None ∷ os)) is)
 map_open_still ps [] os = (_, refl)
 map_open_still ps (k ∷ []) os = (_, refl)
 map_open_still ps (k ∷ v ∷ is) os = map_open_still (ps ++ (written_tree k, written_tree v) ∷ []) is os
 
-map_still : (m : ℕ) (ps : List (Tree × Tree)) (is : List Item) (os : List Open) → length is < suc m + suc m → IsStill (put_all (more (open_.map ps (Some m) None ∷ os)) is)
+map_still : (m : ℕ) (ps : List (Tree × Tree)) (is : List Item) (os : List TreeFrame) → length is < suc m + suc m → IsStill (put_items (more (open_.map ps (Some m) None ∷ os)) is)
 map_still m ps [] os h = (_, refl)
 map_still m ps (k ∷ []) os h = (_, refl)
 map_still zero ps (k ∷ v ∷ is) os h = absurd (omega (arith, h))
 map_still (suc m) ps (k ∷ v ∷ is) os h = map_still m (ps ++ (written_tree k, written_tree v) ∷ []) is os (omega (arith, h))
 
-map_whole : (m : ℕ) (ps : List (Tree × Tree)) (is : List Item) (os : List Open) → length is ≡ suc m + suc m →
-    put_all (more (open_.map ps (Some m) None ∷ os)) is ≡ placed os (trees.map (tree_pairs_from (ps ++ tree_pair_list is)))
+map_whole : (m : ℕ) (ps : List (Tree × Tree)) (is : List Item) (os : List TreeFrame) → length is ≡ suc m + suc m →
+    put_items (more (open_.map ps (Some m) None ∷ os)) is ≡ placed os (trees.map (tree_pairs_from (ps ++ tree_pair_list is)))
 map_whole m ps [] os h = absurd (omega (arith, h))
 map_whole m ps (k ∷ []) os h = absurd (omega (arith, h))
 map_whole zero ps (k ∷ v ∷ []) os h = refl
@@ -89,7 +89,7 @@ map_whole (suc m) ps (k ∷ v ∷ is) os h =
 
 -- ---- where an item may come, something is still open
 
-begun_still : (s : Shape) (n : Option ℕ) (is : List Item) (os : List Open) (around : Place) → HasRoom (within s n is around) → IsStill (put_all (begun s n (more os)) is)
+begun_still : (s : Shape) (n : Option ℕ) (is : List Item) (os : List TreeFrame) (around : Place) → HasRoom (within s n is around) → IsStill (put_items (begun s n (more os)) is)
 begun_still sequence None is os around h = (_, array_open [] is os)
 begun_still dictionary None is os around h = map_open_still [] is os
 begun_still sequence (Some zero) is os around h = absurd (omega (arith, h))
@@ -102,16 +102,16 @@ still_open (top name before []) room sound = ([], refl)
 still_open (top name before (i ∷ is)) room sound = absurd (omega (arith, room))
 still_open (within s n is around) room sound =
     let k = still_open around sound.0 sound.1 in
-    subst (λ t. IsStill (put_all (begun s n t) is)) (sym k.1) (begun_still s n is k.0 around room)
+    subst (λ t. IsStill (put_items (begun s n t) is)) (sym k.1) (begun_still s n is k.0 around room)
 still_open (tagged t p) room sound = let k = still_open p room sound in (open_.tag t ∷ k.0, ap (tagged_by t) k.1)
 
 -- one more item puts its tree
-pub built-added : (p : Place) (i : Item) → HasRoom p → IsSound p → built (added p i) ≡ put (built p) (written_tree i)
+pub built-added : (p : Place) (i : Item) → HasRoom p → IsSound p → built (added p i) ≡ put_tree (built p) (written_tree i)
 built-added (top name before is) i room sound = put_all-snoc (more []) is i
 built-added (within s n is around) i room sound = put_all-snoc (begun s n (built around)) is i
 built-added (tagged t p) i room sound =
     let k = still_open p room sound in
-    built-added p (item.tag t i) room sound ∙ ap (λ s. put s (trees.tag t (written_tree i))) k.1 ∙ ap (λ s. put (tagged_by t s) (written_tree i)) (sym k.1)
+    built-added p (item.tag t i) room sound ∙ ap (λ s. put_tree s (trees.tag t (written_tree i))) k.1 ∙ ap (λ s. put_tree (tagged_by t s) (written_tree i)) (sym k.1)
 
 pub sound-added : (p : Place) (i : Item) → IsSound p → IsSound (added p i)
 sound-added (top name before is) i sound = tt
@@ -121,7 +121,7 @@ sound-added (tagged t p) i sound = sound-added p (item.tag t i) sound
 -- ---- the end of a container
 
 -- one that announced its count is whole with its last item
-full_whole : (s : Shape) (n : ℕ) (is : List Item) (os : List Open) → length is ≡ size_of s n → put_all (begun s (Some n) (more os)) is ≡ placed os (written_tree (container s false is))
+full_whole : (s : Shape) (n : ℕ) (is : List Item) (os : List TreeFrame) → length is ≡ size_of s n → put_items (begun s (Some n) (more os)) is ≡ placed os (written_tree (container s false is))
 full_whole sequence zero [] os h = refl
 full_whole sequence zero (i ∷ is) os h = absurd (omega (arith, h))
 full_whole dictionary zero [] os h = refl
@@ -133,16 +133,16 @@ pub built-ended : (s : Shape) (n : ℕ) (is : List Item) (around : Place) → Is
     built (within s (Some n) is around) ≡ built (added around (container s false is))
 built-ended s n is around sound h =
     let k = still_open around sound.0 sound.1 in
-    ap (λ t. put_all (begun s (Some n) t) is) k.1 ∙ full_whole s n is k.0 h ∙
-    sym (built-added around (container s false is) sound.0 sound.1 ∙ ap (λ t. put t (written_tree (container s false is))) k.1)
+    ap (λ t. put_items (begun s (Some n) t) is) k.1 ∙ full_whole s n is k.0 h ∙
+    sym (built-added around (container s false is) sound.0 sound.1 ∙ ap (λ t. put_tree t (written_tree (container s false is))) k.1)
 
 -- a break ends an open one
 pub record Breaks (s : Shape) (is : List Item) (around : Place) : Type 0 where
-  pub inner : Open
-  pub outer : List Open
+  pub inner : TreeFrame
+  pub outer : List TreeFrame
   pub around_is : built around ≡ more outer
   pub here : built (within s None is around) ≡ more (inner ∷ outer)
-  pub tree : ended inner ≡ Some (written_tree (container s true is))
+  pub tree : tree_ended inner ≡ Some (written_tree (container s true is))
 
 pub built-broken : (s : Shape) (is : List Item) (around : Place) → IsSound (within s None is around) → IsFull s None is → Breaks s is around
 built-broken sequence is around sound h =
@@ -151,7 +151,7 @@ built-broken sequence is around sound h =
       inner = open_.array (tree_list is) None;
       outer = k.0;
       around_is = k.1;
-      here = ap (λ t. put_all (begun sequence None t) is) k.1 ∙ array_open [] is k.0;
+      here = ap (λ t. put_items (begun sequence None t) is) k.1 ∙ array_open [] is k.0;
       tree = ap (λ l. Some (trees.array l)) (trees-from is);
     }
 built-broken dictionary is around sound h =
@@ -160,6 +160,6 @@ built-broken dictionary is around sound h =
       inner = open_.map (tree_pair_list is) None None;
       outer = k.0;
       around_is = k.1;
-      here = ap (λ t. put_all (begun dictionary None t) is) k.1 ∙ map_open h.0 [] is k.0 h.1;
+      here = ap (λ t. put_items (begun dictionary None t) is) k.1 ∙ map_open h.0 [] is k.0 h.1;
       tree = ap (λ l. Some (trees.map l)) (tree_pairs-from is);
     }

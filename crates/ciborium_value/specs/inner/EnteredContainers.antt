@@ -15,8 +15,8 @@ module _ {S Q : Type 0} (StandsBefore : S → Limit → Ahead → Type 0) (SeqSt
       (i : Item) × (js : List Item) × (is ≡ i ∷ js) × (taken (inside form l) i ≡ gives v) × StandsBefore new (inside form l) (after (parts form js f)) × SeqStands q' l (parts form js f)
 
   -- no part is there, or it is to blame
-  abbrev pub RefusesPart : {A : Type 0} → S → Q → Taken A → Fault → Type 0
-  RefusesPart old q taken fault = (l : Limit) (form : Form) (is : List Item) (f : Rest) → StandsBefore old (inside form l) (after (parts form is f)) → SeqStands q l (parts form is f) →
+  abbrev pub RefusesNextPart : {A : Type 0} → S → Q → Taken A → Fault → Type 0
+  RefusesNextPart old q taken fault = (l : Limit) (form : Form) (is : List Item) (f : Rest) → StandsBefore old (inside form l) (after (parts form is f)) → SeqStands q l (parts form is f) →
       IsFaultOf (end_of f) fault (tuple_part taken (inside form l) (λ v _. gives v) is)
 
   -- each item that was left is a value, and the source stands past the sequence
@@ -25,8 +25,8 @@ module _ {S Q : Type 0} (StandsBefore : S → Limit → Ahead → Type 0) (SeqSt
       (tuple_rest {A = Unit {0}} (inside form l) tt is ≡ gives tt) × StandsBefore new l (past f)
 
   -- one of them is to blame
-  abbrev pub RefusesRest : S → Q → Fault → Type 0
-  RefusesRest old q fault = (l : Limit) (form : Form) (is : List Item) (f : Rest) → StandsBefore old (inside form l) (after (parts form is f)) → SeqStands q l (parts form is f) →
+  abbrev pub RefusesDropping : S → Q → Fault → Type 0
+  RefusesDropping old q fault = (l : Limit) (form : Form) (is : List Item) (f : Rest) → StandsBefore old (inside form l) (after (parts form is f)) → SeqStands q l (parts form is f) →
       IsFaultOf (end_of f) fault (tuple_rest {A = Unit {0}} (inside form l) tt is)
 
 module _ {S Q : Type 0} (IsUnread : S → List ℕ → Type 0) (Owes : Q → Shape → List ℕ → List ℕ → Type 0) where

@@ -2,9 +2,9 @@
 use Rattle.std.specs.Prelude.{◌≡◌, ℕ, ◌+◌, ◌<◌, List, [], ◌∷◌, ◌++◌, map, reverse, Option, Some, None}
 use Rattle.ciborium_value.specs.Counts.{node_count}
 use Rattle.ciborium_value.specs.Folded.{folded}
-use Rattle.ciborium_value.specs.inner.Frames.{Open, Placed, done, more, placed}
+use Rattle.ciborium_value.specs.inner.Frames.{TreeFrame, Placed, done, more, placed}
 use Rattle.ciborium_value.specs.Sources.{Fault, of_kind, of_nesting, of_syntax, of_memory, of_device, of_length}
-use Rattle.ciborium_value.specs.inner.Stack.{opened}
+use Rattle.ciborium_value.specs.inner.Stack.{begun_frame}
 use Rattle.ciborium_value.specs.Tree.{Tree}
 use Rattle.ciborium_value.specs.View.{tree_of}
 use Rattle.ciborium_value.specs.declared.deserialized.folding.Coming.{Coming}
@@ -49,10 +49,10 @@ nodes_of [] = 0
 nodes_of (t ∷ ts) = node_count t + nodes_of ts
 
 -- what a tree begins with: it is whole, or it opens and its parts come
-abbrev pub IsBegun : Tree → Part → Type 0
-IsBegun t (part.Whole v) = folded t ≡ Some (tree_of v)
-IsBegun t (part.Opened o c) =
-    ((os : List Open) (ts : List Tree) → copied (more os) (t ∷ ts) ≡ copied (more (opened o ∷ os)) (coming_trees c ++ ts)) × (nodes_of (coming_trees c) < node_count t)
+abbrev pub IsCopyBegun : Tree → Part → Type 0
+IsCopyBegun t (part.Whole v) = folded t ≡ Some (tree_of v)
+IsCopyBegun t (part.Opened o c) =
+    ((os : List TreeFrame) (ts : List Tree) → copied (more os) (t ∷ ts) ≡ copied (more (begun_frame o ∷ os)) (coming_trees c ++ ts)) × (nodes_of (coming_trees c) < node_count t)
 
 -- refused as too large where it does not fold, or for want of memory
 abbrev pub IsUnfolded : Fault → Option Tree → Type 0

@@ -6,15 +6,15 @@ use Rattle.ciborium_value.specs.View.{trees_from, tree_pairs_from}
 
 -- a container with its parts so far, how many places follow the one that is filled next (None: as many as come before a break), and
 -- the key that waits for its value; or a tag that waits for its item
-pub data Open : Type 0 where
-  array : List Tree → Option ℕ → Open
-  map : List (Tree × Tree) → Option ℕ → Option Tree → Open
-  tag : ℕ → Open
+pub data TreeFrame : Type 0 where
+  array : List Tree → Option ℕ → TreeFrame
+  map : List (Tree × Tree) → Option ℕ → Option Tree → TreeFrame
+  tag : ℕ → TreeFrame
 
 -- what one more tree makes of it: a whole tree, or it stays open
 pub data Filled : Type 0 where
   whole : Tree → Filled
-  still : Open → Filled
+  still : TreeFrame → Filled
 
 abbrev pub fill_array : List Tree → Option ℕ → Filled
 fill_array vs (Some zero) = whole (trees.array (trees_from vs))
@@ -26,7 +26,7 @@ fill_map ps (Some zero) = whole (trees.map (tree_pairs_from ps))
 fill_map ps (Some (suc n)) = still (map ps (Some n) None)
 fill_map ps None = still (map ps None None)
 
-abbrev pub fill : Open → Tree → Filled
+abbrev pub fill : TreeFrame → Tree → Filled
 fill (array vs behind) v = fill_array (vs ++ v ∷ []) behind
 fill (map ps behind None) v = still (map ps behind (Some v))
 fill (map ps behind (Some k)) v = fill_map (ps ++ (k, v) ∷ []) behind
@@ -35,25 +35,25 @@ fill (tag n) v = whole (trees.tag n v)
 -- what one more tree makes of all that is open: the tree that it completes last, or what is still open
 pub data Placed : Type 0 where
   done : Tree → Placed
-  more : List Open → Placed
+  more : List TreeFrame → Placed
 
-abbrev pub placed : List Open → Tree → Placed
+abbrev pub placed : List TreeFrame → Tree → Placed
 placed [] v = done v
 placed (o ∷ os) v = elim (fill o v) [ whole w ↦ placed os w | still p ↦ more (p ∷ os) ]
 
 -- the tree of a container that a break ends here
-abbrev pub ended : Open → Option Tree
-ended (array vs None) = Some (trees.array (trees_from vs))
-ended (array vs (Some n)) = None
-ended (map ps None None) = Some (trees.map (tree_pairs_from ps))
-ended (map ps None (Some k)) = None
-ended (map ps (Some n) key) = None
-ended (tag n) = None
+abbrev pub tree_ended : TreeFrame → Option Tree
+tree_ended (array vs None) = Some (trees.array (trees_from vs))
+tree_ended (array vs (Some n)) = None
+tree_ended (map ps None None) = Some (trees.map (tree_pairs_from ps))
+tree_ended (map ps None (Some k)) = None
+tree_ended (map ps (Some n) key) = None
+tree_ended (tag n) = None
 
 -- the tree that a break ends, and what is still open around it
-abbrev pub closed : List Open → Option (Tree × List Open)
+abbrev pub closed : List TreeFrame → Option (Tree × List TreeFrame)
 closed [] = None
-closed (o ∷ os) = option_map (λ v. (v, os)) (ended o)
+closed (o ∷ os) = option_map (λ v. (v, os)) (tree_ended o)
 
 -- the last of some keys, and one more
 abbrev pub with_last : List (Tree × Tree) → Tree → Option (Tree × Tree)
@@ -62,7 +62,7 @@ with_last (p ∷ []) key = Some (p.0, key)
 with_last (p ∷ (q ∷ ps)) key = with_last (q ∷ ps) key
 
 -- the key that waits for its value in the innermost container, behind the key before it
-abbrev pub waiting_keys : List Open → Option (Tree × Tree)
+abbrev pub waiting_keys : List TreeFrame → Option (Tree × Tree)
 waiting_keys [] = None
 waiting_keys (array vs behind ∷ os) = None
 waiting_keys (map ps behind None ∷ os) = None
@@ -70,7 +70,7 @@ waiting_keys (map ps behind (Some key) ∷ os) = with_last ps key
 waiting_keys (tag n ∷ os) = None
 
 -- how many parts of the innermost container are due for sure, the one that is read now included; a pair is two
-abbrev pub parts_due : List Open → ℕ
+abbrev pub parts_due : List TreeFrame → ℕ
 parts_due [] = 0
 parts_due (array vs (Some n) ∷ os) = n + 1
 parts_due (array vs None ∷ os) = 0
@@ -80,7 +80,7 @@ parts_due (map ps None key ∷ os) = 0
 parts_due (tag t ∷ os) = 0
 
 -- how many are due for sure behind the part that is read now, in all that is open
-abbrev pub due_behind : List Open → ℕ
+abbrev pub due_behind : List TreeFrame → ℕ
 due_behind [] = 0
 due_behind (array vs (Some n) ∷ os) = n + due_behind os
 due_behind (array vs None ∷ os) = due_behind os

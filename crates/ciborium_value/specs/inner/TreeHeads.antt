@@ -6,16 +6,16 @@ use Rattle.ciborium_value.specs.Encoding.{encoding, items_of, pairs_of, items_by
 use Rattle.ciborium_value.specs.Tree.{Tree, integer, bytes, text, boolean, null, tag, array, map, trees_count, tree_pairs_count}
 
 -- the major type (section 3.1)
-abbrev pub major_of : Tree → ℕ
-major_of (integer (pos n)) = 0
-major_of (integer (negsuc n)) = 1
-major_of (bytes b) = 2
-major_of (text b) = 3
-major_of (array vs) = 4
-major_of (map ps) = 5
-major_of (tag t v) = 6
-major_of (boolean b) = 7
-major_of null = 7
+abbrev pub tree_major : Tree → ℕ
+tree_major (integer (pos n)) = 0
+tree_major (integer (negsuc n)) = 1
+tree_major (bytes b) = 2
+tree_major (text b) = 3
+tree_major (array vs) = 4
+tree_major (map ps) = 5
+tree_major (tag t v) = 6
+tree_major (boolean b) = 7
+tree_major null = 7
 
 -- the argument: the number, the length, the count, the tag's number, or the simple value
 abbrev pub argument_of : Tree → ℕ
@@ -43,4 +43,4 @@ content_bytes null = []
 
 -- the order of two heads, which is that of their bytes
 abbrev pub head_order : Tree → Tree → Ordering
-head_order = then_cmp (on major_of nat_cmp) (on argument_of nat_cmp)
+head_order = then_cmp (on tree_major nat_cmp) (on argument_of nat_cmp)

@@ -6,27 +6,27 @@ use Rattle.ciborium_value.specs.Encoding.{written_tree}
 use Rattle.ciborium_value.specs.inner.Frames as open_
 use Rattle.ciborium_value.specs.inner.Frames.{Placed, done, more, placed}
 use Rattle.ciborium_value.specs.Places.{Shape, sequence, dictionary, Place, top, within, tagged, HasRoom, writer_at, bytes_at, Out, IsOutOf, IsOutAt}
-use Rattle.ciborium_value.specs.inner.Stack.{opens_of, placed_of}
+use Rattle.ciborium_value.specs.inner.Stack.{frames_of, placed_of}
 use Rattle.ciborium_value.specs.Tree as trees
 use Rattle.ciborium_value.specs.Tree.{Tree}
 use Rattle.ciborium_value.specs.declared.serialized.TreeSink.{TreeSink}
 
 -- a tree is put where one is due
-abbrev pub put : Placed → Tree → Placed
-put (done v) w = done v
-put (more os) w = placed os w
+abbrev pub put_tree : Placed → Tree → Placed
+put_tree (done v) w = done v
+put_tree (more os) w = placed os w
 
 -- the trees of items, one after the other
-abbrev pub put_all : Placed → List Item → Placed
-put_all s [] = s
-put_all s (i ∷ is) = put_all (put s (written_tree i)) is
+abbrev pub put_items : Placed → List Item → Placed
+put_items s [] = s
+put_items s (i ∷ is) = put_items (put_tree s (written_tree i)) is
 
-abbrev pub empty : Shape → Tree
-empty sequence = trees.array trees.no_trees
-empty dictionary = trees.map trees.no_tree_pairs
+abbrev pub empty_container : Shape → Tree
+empty_container sequence = trees.array trees.no_trees
+empty_container dictionary = trees.map trees.no_tree_pairs
 
 -- a container with this many places behind the one that is filled first
-abbrev pub first : Shape → Option ℕ → open_.Open
+abbrev pub first : Shape → Option ℕ → open_.TreeFrame
 first sequence behind = open_.array [] behind
 first dictionary behind = open_.map [] behind None
 
@@ -34,7 +34,7 @@ first dictionary behind = open_.map [] behind None
 abbrev pub begun : Shape → Option ℕ → Placed → Placed
 begun s n (done v) = done v
 begun s None (more os) = more (first s None ∷ os)
-begun s (Some zero) (more os) = placed os (empty s)
+begun s (Some zero) (more os) = placed os (empty_container s)
 begun s (Some (suc n)) (more os) = more (first s (Some n) ∷ os)
 
 abbrev pub tagged_by : ℕ → Placed → Placed
@@ -42,8 +42,8 @@ tagged_by t (done v) = done v
 tagged_by t (more os) = more (open_.tag t ∷ os)
 
 abbrev pub built : Place → Placed
-built (top name before is) = put_all (more []) is
-built (within s n is around) = put_all (begun s n (built around)) is
+built (top name before is) = put_items (more []) is
+built (within s n is around) = put_items (begun s n (built around)) is
 built (tagged t p) = tagged_by t (built p)
 
 -- each container was begun where an item could come
@@ -54,7 +54,7 @@ IsSound (tagged t p) = IsSound p
 
 -- what a sink holds: the whole tree, or what is still open
 abbrev pub state_of : TreeSink → Placed
-state_of s = placed_of s.whole (opens_of s.stack)
+state_of s = placed_of s.whole (frames_of s.stack)
 
 abbrev pub IsBuiltAt : TreeSink → Place → Type 0
 IsBuiltAt s p = (writer_at p ≡ None) × IsSound p × (state_of s ≡ built p)

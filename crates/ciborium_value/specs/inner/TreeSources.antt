@@ -36,20 +36,20 @@ pending_due None = pending.Nothing
 pending_due (Some v) = pending.Whole v
 
 -- the value of a map that is due behind what is read next, if one is
-abbrev pub IsDue : Option (Bor Value) → Rest → Type 0
-IsDue due (bottom reader b) = Unit {0}
-IsDue due (parts form is f) = Unit {0}
-IsDue due (pairs form ps f) = Unit {0}
-IsDue due (entry v form ps f) = IsValue due v
-IsDue due (held f) = Unit {0}
+abbrev pub IsDueValue : Option (Bor Value) → Rest → Type 0
+IsDueValue due (bottom reader b) = Unit {0}
+IsDueValue due (parts form is f) = Unit {0}
+IsDueValue due (pairs form ps f) = Unit {0}
+IsDueValue due (entry v form ps f) = IsValue due v
+IsDueValue due (held f) = Unit {0}
 
-abbrev pub IsAhead : TreeSource → Ahead → Type 0
-IsAhead s (item i f) = IsPending s.ahead i × IsDue s.due f
-IsAhead s (after f) = Unit {0}
+abbrev pub IsTreeAhead : TreeSource → Ahead → Type 0
+IsTreeAhead s (item i f) = IsPending s.ahead i × IsDueValue s.due f
+IsTreeAhead s (after f) = Unit {0}
 
 -- a tree is read without a limit
 abbrev pub IsTreeAt : TreeSource → Limit → Ahead → Type 0
-IsTreeAt s l a = (l ≡ None) × IsAhead s a
+IsTreeAt s l a = (l ≡ None) × IsTreeAhead s a
 
 abbrev pub AreItems : List Value → Rest → Type 0
 AreItems vs (bottom reader b) = ⊥
@@ -79,38 +79,38 @@ IsLeftOf (left.Bytes bs) f = AreBytesOf bs.now f
 IsLeftOf (left.Pairs qs) f = ArePairs qs.now f
 
 -- what follows a container
-abbrev pub behind : Rest → Rest
-behind (bottom reader b) = bottom reader b
-behind (parts form is f) = f
-behind (pairs form ps f) = f
-behind (entry v form ps f) = f
-behind (held f) = f
+abbrev pub behind_container : Rest → Rest
+behind_container (bottom reader b) = bottom reader b
+behind_container (parts form is f) = f
+behind_container (pairs form ps f) = f
+behind_container (entry v form ps f) = f
+behind_container (held f) = f
 
 abbrev pub IsTreeSeqAt : TreeSeq → Limit → Rest → Type 0
-IsTreeSeqAt q l f = (l ≡ None) × IsLeftOf q.left f × IsDue q.due (behind f)
+IsTreeSeqAt q l f = (l ≡ None) × IsLeftOf q.left f × IsDueValue q.due (behind_container f)
 
 -- a level of a tag or a variant
 abbrev pub IsTreeLevelAt : TreeLevel → Limit → Rest → Type 0
-IsTreeLevelAt level l f = (l ≡ None) × IsDue level.due f
+IsTreeLevelAt level l f = (l ≡ None) × IsDueValue level.due f
 
 -- ---- how much can still be read
 
 -- the values and the bytes of strings that a tree holds
-abbrev pub weight : Value → ℕ
-weight v = node_count (tree_of v) + payload_size (tree_of v)
+abbrev pub value_weight : Value → ℕ
+value_weight v = node_count (tree_of v) + payload_size (tree_of v)
 
-abbrev pub pending_weight : Pending → ℕ
-pending_weight pending.Nothing = 0
-pending_weight (pending.Whole v) = weight v.now
-pending_weight (pending.Byte n) = 1
-pending_weight pending.Null = 1
+abbrev pub pending_tree_weight : Pending → ℕ
+pending_tree_weight pending.Nothing = 0
+pending_tree_weight (pending.Whole v) = value_weight v.now
+pending_tree_weight (pending.Byte n) = 1
+pending_tree_weight pending.Null = 1
 
 abbrev pub due_weight : Option (Bor Value) → ℕ
 due_weight None = 0
-due_weight (Some v) = weight v.now
+due_weight (Some v) = value_weight v.now
 
 abbrev pub source_weight : TreeSource → ℕ
-source_weight s = pending_weight s.ahead + due_weight s.due
+source_weight s = pending_tree_weight s.ahead + due_weight s.due
 
 abbrev pub left_weight : Left → ℕ
 left_weight (left.Items vs) = trees_node_count (trees_of vs.now) + trees_payload_size (trees_of vs.now)

@@ -46,12 +46,12 @@ AreInOrder [] = Unit {0}
 AreInOrder (v ∷ []) = Unit {0}
 AreInOrder (v ∷ w ∷ vs) = (canonical_order v w ≡ Less) × AreInOrder (w ∷ vs)
 
-abbrev pub unsigned : ℕ → Tree
-unsigned n = integer (pos n)
+abbrev pub unsigned_tree : ℕ → Tree
+unsigned_tree n = integer (pos n)
 
 -- the number -1 - n
-abbrev pub negative : ℕ → Tree
-negative n = integer (negsuc n)
+abbrev pub negative_tree : ℕ → Tree
+negative_tree n = integer (negsuc n)
 
 -- texts of one and two letters
 abbrev pub a : List ℕ
@@ -74,11 +74,11 @@ array_of_two v w = array (tree v (tree w no_trees))
 
 -- [1, [2, 3], [4, 5]]
 abbrev pub nested_arrays : Tree
-nested_arrays = array (tree (unsigned 1) (tree (array_of_two (unsigned 2) (unsigned 3)) (tree (array_of_two (unsigned 4) (unsigned 5)) no_trees)))
+nested_arrays = array (tree (unsigned_tree 1) (tree (array_of_two (unsigned_tree 2) (unsigned_tree 3)) (tree (array_of_two (unsigned_tree 4) (unsigned_tree 5)) no_trees)))
 
 -- {"a": 1, "b": [2, 3]}
 abbrev pub nested_map : Tree
-nested_map = map (tree_pair (text a) (unsigned 1) (tree_pair (text b) (array_of_two (unsigned 2) (unsigned 3)) no_tree_pairs))
+nested_map = map (tree_pair (text a) (unsigned_tree 1) (tree_pair (text b) (array_of_two (unsigned_tree 2) (unsigned_tree 3)) no_tree_pairs))
 
 -- 80 and fifteen zeros: 2^127
 abbrev pub two_to_127 : List ℕ
@@ -88,9 +88,9 @@ two_to_127 = 0x80 ∷ replicate 15 0
 
 -- every width, open forms (RFC 8949, sections 3.1 to 3.3 and appendix A)
 pub record SpelledExamples : Type 0 where
-  pub zero : HasMeaning (hex "00") (unsigned 0)
-  pub zero_in_a_wide_head : HasMeaning (hex "1800") (unsigned 0)
-  pub least_integer : HasMeaning (hex "3bffffffffffffffff") (negative (2 ^ 64 - 1))
+  pub zero : HasMeaning (hex "00") (unsigned_tree 0)
+  pub zero_in_a_wide_head : HasMeaning (hex "1800") (unsigned_tree 0)
+  pub least_integer : HasMeaning (hex "3bffffffffffffffff") (negative_tree (2 ^ 64 - 1))
   pub open_arrays : HasMeaning (hex "9f018202039f0405ffff") nested_arrays
   pub definite_arrays : HasMeaning (hex "8301820203820405") nested_arrays
   pub open_map : HasMeaning (hex "bf61610161629f0203ffff") nested_map
@@ -100,14 +100,14 @@ pub record SpelledExamples : Type 0 where
 
 -- bignums (RFC 8949, section 3.4.3)
 pub record FoldingExamples : Type 0 where
-  pub empty_is_zero : IsReadAs (hex "c240") 0 (Some 0) (unsigned 0)
-  pub empty_is_minus_one : IsReadAs (hex "c340") 0 (Some 0) (negative 0)
-  pub one : IsReadAs (hex "c24101") 0 (Some 0) (unsigned 1)
+  pub empty_is_zero : IsReadAs (hex "c240") 0 (Some 0) (unsigned_tree 0)
+  pub empty_is_minus_one : IsReadAs (hex "c340") 0 (Some 0) (negative_tree 0)
+  pub one : IsReadAs (hex "c24101") 0 (Some 0) (unsigned_tree 1)
   pub zeros_are_dropped : IsReadAs (hex "c24a00010000000000000000") 0 (Some 0) (tag 2 (bytes (0x01 ∷ replicate 8 0)))
   pub open_stays : HasMeaning (hex "c25f4101ff") (tag 2 (bytes (0x01 ∷ [])))
   pub too_large_has_none : meaning (item.tag 3 (item.bytes false two_to_127)) ≡ None
   pub unsigned_has : meaning (item.tag 2 (item.bytes false two_to_127)) ≡ Some (tag 2 (bytes two_to_127))
-  pub in_a_tree : folded (array_of_one (tag 2 (bytes (0x01 ∷ [])))) ≡ Some (array_of_one (unsigned 1))
+  pub in_a_tree : folded (array_of_one (tag 2 (bytes (0x01 ∷ [])))) ≡ Some (array_of_one (unsigned_tree 1))
 
 -- refusals under the default limit or none at all (RFC 8949, appendix F)
 pub record RefusedExamples : Type 0 where
@@ -145,7 +145,7 @@ pub record CornerExamples : Type 0 where
   pub reserved_at_the_last : Refuses (hex "1e") (greatest_offset - 1) (Some default_limit) (syntax (greatest_offset - 1))
   -- a break is read as far as it fits
   pub break_over : Refuses (hex "9f01ff") (greatest_offset - 2) (Some default_limit) too_long
-  pub break_fits : IsReadAs (hex "9f01ff") (greatest_offset - 3) (Some default_limit) (array_of_one (unsigned 1))
+  pub break_fits : IsReadAs (hex "9f01ff") (greatest_offset - 3) (Some default_limit) (array_of_one (unsigned_tree 1))
   -- what is empty ends at the greatest offset; a tag needs one byte more
   pub empty_array_at_the_last : IsReadAs (hex "80") (greatest_offset - 1) (Some default_limit) (array no_trees)
   pub empty_bytes_at_the_last : IsReadAs (hex "40") (greatest_offset - 1) (Some default_limit) (bytes [])
@@ -155,28 +155,28 @@ pub record CornerExamples : Type 0 where
 
 -- shortest heads (RFC 8949, section 4.1), and trees in canonical order (section 4.2.3)
 pub record WrittenExamples : Type 0 where
-  pub number_23 : encoding (unsigned 23) ≡ hex "17"
-  pub number_24 : encoding (unsigned 24) ≡ hex "1818"
-  pub number_255 : encoding (unsigned 255) ≡ hex "18ff"
-  pub number_256 : encoding (unsigned 256) ≡ hex "190100"
-  pub number_65535 : encoding (unsigned 65535) ≡ hex "19ffff"
-  pub number_65536 : encoding (unsigned 65536) ≡ hex "1a00010000"
-  pub number_4294967296 : encoding (unsigned 4294967296) ≡ hex "1b0000000100000000"
-  pub minus_24 : encoding (negative 23) ≡ hex "37"
-  pub minus_25 : encoding (negative 24) ≡ hex "3818"
-  pub minus_256 : encoding (negative 255) ≡ hex "38ff"
-  pub minus_257 : encoding (negative 256) ≡ hex "390100"
+  pub number_23 : encoding (unsigned_tree 23) ≡ hex "17"
+  pub number_24 : encoding (unsigned_tree 24) ≡ hex "1818"
+  pub number_255 : encoding (unsigned_tree 255) ≡ hex "18ff"
+  pub number_256 : encoding (unsigned_tree 256) ≡ hex "190100"
+  pub number_65535 : encoding (unsigned_tree 65535) ≡ hex "19ffff"
+  pub number_65536 : encoding (unsigned_tree 65536) ≡ hex "1a00010000"
+  pub number_4294967296 : encoding (unsigned_tree 4294967296) ≡ hex "1b0000000100000000"
+  pub minus_24 : encoding (negative_tree 23) ≡ hex "37"
+  pub minus_25 : encoding (negative_tree 24) ≡ hex "3818"
+  pub minus_256 : encoding (negative_tree 255) ≡ hex "38ff"
+  pub minus_257 : encoding (negative_tree 256) ≡ hex "390100"
   pub nested : encoding nested_map ≡ hex "a26161016162820203"
   pub nested_size : encoded_size nested_map ≡ 9
   pub nothing_is_folded : encoding (tag 2 (bytes (0x01 ∷ []))) ≡ hex "c24101"
   -- a typed value may be written as an open array; it stands for the same tree as a definite one
   pub open_array : written_bytes (item.array true (item.item (item.unsigned 1) item.no_items)) ≡ hex "9f01ff"
-  pub open_array_stands_for : written_tree (item.array true (item.item (item.unsigned 1) item.no_items)) ≡ array_of_one (unsigned 1)
+  pub open_array_stands_for : written_tree (item.array true (item.item (item.unsigned 1) item.no_items)) ≡ array_of_one (unsigned_tree 1)
   -- 10, -1, false, 100, "z", [-1], "aa", [100]
   pub in_order : AreInOrder
-      (unsigned 10 ∷ negative 0 ∷ boolean false ∷ unsigned 100 ∷ text z ∷ array_of_one (negative 0) ∷ text aa ∷ array_of_one (unsigned 100) ∷ [])
+      (unsigned_tree 10 ∷ negative_tree 0 ∷ boolean false ∷ unsigned_tree 100 ∷ text z ∷ array_of_one (negative_tree 0) ∷ text aa ∷ array_of_one (unsigned_tree 100) ∷ [])
   -- 10, false, -200, "z", 256: -200 takes two bytes
-  pub minus_200_before_256 : AreInOrder (unsigned 10 ∷ boolean false ∷ negative 199 ∷ text z ∷ unsigned 256 ∷ [])
+  pub minus_200_before_256 : AreInOrder (unsigned_tree 10 ∷ boolean false ∷ negative_tree 199 ∷ text z ∷ unsigned_tree 256 ∷ [])
 
 -- what a tree takes of memory
 pub record CountedExamples : Type 0 where

@@ -12,7 +12,7 @@ use Rattle.std.specs.declared.cmp.Ordering.{Ordering}
 use Rattle.std.specs.declared.cmp.Ordering.TheVariants.{Less, Equal, Greater}
 use Rattle.ciborium_ll.specs.Item.{Item}
 use Rattle.ciborium_value.specs.Canonical.{key_order}
-use Rattle.ciborium_value.specs.DeterministicForms.{deterministic_form, inserted, pair_forms, placed, sorted_pairs}
+use Rattle.ciborium_value.specs.DeterministicForms.{deterministic_form, inserted, pair_forms, placed_pair, sorted_pairs}
 use Rattle.ciborium_value.specs.Encoding.{item_of, pairs_of, written_pairs, written_tree}
 use Rattle.ciborium_value.specs.FormsReadBack.{IsFormRead, IsReadFromForm}
 use Rattle.ciborium_value.specs.lemmas.GivenOutcomes.{mapped_gives, one_given, pair_gives, then_gives}
@@ -58,25 +58,25 @@ module _ {K V : Type 0} (cmp : K → K → Ordering) (total : IsTotalOrder cmp) 
   abbrev IsApart : K × V → K × V → Type 0
   IsApart d e = cmp d.0 e.0 ≡ Equal → ⊥
 
-  abbrev AreApart : List (K × V) → Type 0
-  AreApart [] = Unit {0}
-  AreApart (e ∷ es) = AllByRecursion (IsApart e) es × AreApart es
+  abbrev AreKeysApart : List (K × V) → Type 0
+  AreKeysApart [] = Unit {0}
+  AreKeysApart (e ∷ es) = AllByRecursion (IsApart e) es × AreKeysApart es
 
-  abbrev put : List (K × V) → K × V → List (K × V)
-  put es e = insert_entry cmp es e.0 e.1
+  abbrev put_entry : List (K × V) → K × V → List (K × V)
+  put_entry es e = insert_entry cmp es e.0 e.1
 
   apart-turned : (d e : K × V) → IsApart d e → IsApart e d
   apart-turned d e h same = h (equal_where_equal total e.0 d.0 same)
 
   -- by how the key compares with that of the first entry
-  put-Less : (p : K × V) (es : List (K × V)) (e : K × V) → cmp e.0 p.0 ≡ Less → put (p ∷ es) e ≡ (e.0, e.1) ∷ p ∷ es
-  put-Less p es e h = ap (λ o. match_ordering o ((e.0, e.1) ∷ p ∷ es) ((p.0, e.1) ∷ es) (p ∷ put es e)) h
+  put-Less : (p : K × V) (es : List (K × V)) (e : K × V) → cmp e.0 p.0 ≡ Less → put_entry (p ∷ es) e ≡ (e.0, e.1) ∷ p ∷ es
+  put-Less p es e h = ap (λ o. match_ordering o ((e.0, e.1) ∷ p ∷ es) ((p.0, e.1) ∷ es) (p ∷ put_entry es e)) h
 
-  put-Equal : (p : K × V) (es : List (K × V)) (e : K × V) → cmp e.0 p.0 ≡ Equal → put (p ∷ es) e ≡ (p.0, e.1) ∷ es
-  put-Equal p es e h = ap (λ o. match_ordering o ((e.0, e.1) ∷ p ∷ es) ((p.0, e.1) ∷ es) (p ∷ put es e)) h
+  put-Equal : (p : K × V) (es : List (K × V)) (e : K × V) → cmp e.0 p.0 ≡ Equal → put_entry (p ∷ es) e ≡ (p.0, e.1) ∷ es
+  put-Equal p es e h = ap (λ o. match_ordering o ((e.0, e.1) ∷ p ∷ es) ((p.0, e.1) ∷ es) (p ∷ put_entry es e)) h
 
-  put-Greater : (p : K × V) (es : List (K × V)) (e : K × V) → cmp e.0 p.0 ≡ Greater → put (p ∷ es) e ≡ p ∷ put es e
-  put-Greater p es e h = ap (λ o. match_ordering o ((e.0, e.1) ∷ p ∷ es) ((p.0, e.1) ∷ es) (p ∷ put es e)) h
+  put-Greater : (p : K × V) (es : List (K × V)) (e : K × V) → cmp e.0 p.0 ≡ Greater → put_entry (p ∷ es) e ≡ p ∷ put_entry es e
+  put-Greater p es e h = ap (λ o. match_ordering o ((e.0, e.1) ∷ p ∷ es) ((p.0, e.1) ∷ es) (p ∷ put_entry es e)) h
 
   -- before the same entries
   front : (a b : Ordering) (d e : K × V) (es : List (K × V)) → a ≡ ordering_reverse b → (a ≡ Equal → ⊥) →
@@ -90,38 +90,38 @@ module _ {K V : Type 0} (cmp : K → K → Ordering) (total : IsTotalOrder cmp) 
   front Greater Equal d e es h apart = absurd cc
 
   abbrev Commutes : K × V → K × V → List (K × V) → Type 0
-  Commutes d e es = put (put es e) d ≡ put (put es d) e
+  Commutes d e es = put_entry (put_entry es e) d ≡ put_entry (put_entry es d) e
 
   module _ (d e p : K × V) (es : List (K × V)) where
     less_less : IsApart d e → cmp d.0 p.0 ≡ Less → cmp e.0 p.0 ≡ Less → Commutes d e (p ∷ es)
     less_less apart h j =
-        ap (λ xs. put xs d) (put-Less p es e j)
+        ap (λ xs. put_entry xs d) (put-Less p es e j)
         ∙ ap (match_ordering (cmp d.0 e.0) ((d.0, d.1) ∷ (e.0, e.1) ∷ p ∷ es) ((e.0, d.1) ∷ p ∷ es)) (ap (λ xs. (e.0, e.1) ∷ xs) (put-Less p es d h))
         ∙ front (cmp d.0 e.0) (cmp e.0 d.0) d e (p ∷ es) (total.antisymm d.0 e.0) apart
-        ∙ sym (ap (λ xs. put xs e) (put-Less p es d h)
+        ∙ sym (ap (λ xs. put_entry xs e) (put-Less p es d h)
         ∙ ap (match_ordering (cmp e.0 d.0) ((e.0, e.1) ∷ (d.0, d.1) ∷ p ∷ es) ((d.0, e.1) ∷ p ∷ es)) (ap (λ xs. (d.0, d.1) ∷ xs) (put-Less p es e j)))
 
     less_equal : cmp d.0 p.0 ≡ Less → cmp e.0 p.0 ≡ Equal → Commutes d e (p ∷ es)
     less_equal h j =
         let above : cmp e.0 d.0 ≡ Greater = total.congr e.0 p.0 d.0 j ∙ greater_where_less total d.0 p.0 h in
-        ap (λ xs. put xs d) (put-Equal p es e j) ∙ put-Less (p.0, e.1) es d h
-        ∙ sym (ap (λ xs. put xs e) (put-Less p es d h) ∙ put-Greater (d.0, d.1) (p ∷ es) e above ∙ ap (λ xs. (d.0, d.1) ∷ xs) (put-Equal p es e j))
+        ap (λ xs. put_entry xs d) (put-Equal p es e j) ∙ put-Less (p.0, e.1) es d h
+        ∙ sym (ap (λ xs. put_entry xs e) (put-Less p es d h) ∙ put-Greater (d.0, d.1) (p ∷ es) e above ∙ ap (λ xs. (d.0, d.1) ∷ xs) (put-Equal p es e j))
 
     less_greater : cmp d.0 p.0 ≡ Less → cmp e.0 p.0 ≡ Greater → Commutes d e (p ∷ es)
     less_greater h j =
         let above : cmp e.0 d.0 ≡ Greater = greater_where_less total d.0 e.0 (total.trans d.0 p.0 e.0 h (less_where_greater total e.0 p.0 j)) in
-        ap (λ xs. put xs d) (put-Greater p es e j) ∙ put-Less p (put es e) d h
-        ∙ sym (ap (λ xs. put xs e) (put-Less p es d h) ∙ put-Greater (d.0, d.1) (p ∷ es) e above ∙ ap (λ xs. (d.0, d.1) ∷ xs) (put-Greater p es e j))
+        ap (λ xs. put_entry xs d) (put-Greater p es e j) ∙ put-Less p (put_entry es e) d h
+        ∙ sym (ap (λ xs. put_entry xs e) (put-Less p es d h) ∙ put-Greater (d.0, d.1) (p ∷ es) e above ∙ ap (λ xs. (d.0, d.1) ∷ xs) (put-Greater p es e j))
 
     equal_greater : cmp d.0 p.0 ≡ Equal → cmp e.0 p.0 ≡ Greater → Commutes d e (p ∷ es)
     equal_greater h j =
-        ap (λ xs. put xs d) (put-Greater p es e j) ∙ put-Equal p (put es e) d h
-        ∙ sym (ap (λ xs. put xs e) (put-Equal p es d h) ∙ put-Greater (p.0, d.1) es e j)
+        ap (λ xs. put_entry xs d) (put-Greater p es e j) ∙ put-Equal p (put_entry es e) d h
+        ∙ sym (ap (λ xs. put_entry xs e) (put-Equal p es d h) ∙ put-Greater (p.0, d.1) es e j)
 
     greater_greater : cmp d.0 p.0 ≡ Greater → cmp e.0 p.0 ≡ Greater → Commutes d e es → Commutes d e (p ∷ es)
     greater_greater h j same =
-        ap (λ xs. put xs d) (put-Greater p es e j) ∙ put-Greater p (put es e) d h ∙ ap (λ xs. p ∷ xs) same
-        ∙ sym (ap (λ xs. put xs e) (put-Greater p es d h) ∙ put-Greater p (put es d) e j)
+        ap (λ xs. put_entry xs d) (put-Greater p es e j) ∙ put-Greater p (put_entry es e) d h ∙ ap (λ xs. p ∷ xs) same
+        ∙ sym (ap (λ xs. put_entry xs e) (put-Greater p es d h) ∙ put-Greater p (put_entry es d) e j)
 
   commutes : (d e : K × V) (es : List (K × V)) → IsApart d e → Commutes d e es
   commutes d e [] apart = front (cmp d.0 e.0) (cmp e.0 d.0) d e [] (total.antisymm d.0 e.0) apart
@@ -138,15 +138,15 @@ module _ {K V : Type 0} (cmp : K → K → Ordering) (total : IsTotalOrder cmp) 
       by same Greater Equal h j = sym (equal_greater e d p es j h)
       by same Greater Greater h j = greater_greater d e p es h j same
 
-  apart-reordered : {ds es : List (K × V)} → AreReordered ds es → AreApart ds → AreApart es
+  apart-reordered : {ds es : List (K × V)} → AreReordered ds es → AreKeysApart ds → AreKeysApart es
   apart-reordered as_they_are h = h
   apart-reordered (behind {x} r) h = (all-reordered (IsApart x) r h.0, apart-reordered r h.1)
   apart-reordered (neighbours {x} {y}) h = ((apart-turned x y h.0.0, h.1.0), (h.0.1, h.1.1))
   apart-reordered (then_again r s) h = apart-reordered s (apart-reordered r h)
 
-  put-reordered : {ds es : List (K × V)} → AreReordered ds es → AreApart ds → (xs : List (K × V)) → put_all cmp xs ds ≡ put_all cmp xs es
+  put-reordered : {ds es : List (K × V)} → AreReordered ds es → AreKeysApart ds → (xs : List (K × V)) → put_all cmp xs ds ≡ put_all cmp xs es
   put-reordered as_they_are h xs = refl
-  put-reordered (behind {x} r) h xs = put-reordered r h.1 (put xs x)
+  put-reordered (behind {x} r) h xs = put-reordered r h.1 (put_entry xs x)
   put-reordered (neighbours {x} {y} {xs = zs}) h xs = ap (λ ys. put_all cmp ys zs) (commutes y x xs (apart-turned x y h.0.0))
   put-reordered (then_again r s) h xs = put-reordered r h xs ∙ put-reordered s (apart-reordered r h) xs
 
@@ -154,20 +154,20 @@ module _ {K V : Type 0} (cmp : K → K → Ordering) (total : IsTotalOrder cmp) 
   above-apart e [] h = tt
   above-apart e (p ∷ es) h = ((λ same. absurd (let no : Less ≡ Equal = sym h.0 ∙ same in cc)), above-apart e es h.1)
 
-  sorted-apart : (es : List (K × V)) → IsStrictlySortedBy cmp (keys_of es) → AreApart es
+  sorted-apart : (es : List (K × V)) → IsStrictlySortedBy cmp (keys_of es) → AreKeysApart es
   unfolding IsStrictlySortedBy
   sorted-apart [] h = tt
   sorted-apart (e ∷ es) h = (above-apart e es h.0, sorted-apart es h.1)
 
   -- what counts of the entries is put in as they are
   module _ {A B : Type 0} (order : A → A → Ordering) (key : K → A) (value : V → B) (orders : (a b : K) → cmp a b ≡ order (key a) (key b)) where
-    matched : (a : Ordering) (e p : K × V) (es : List (K × V)) (cs : List (A × B)) → cs ≡ contents key value (put es e) →
-        match_ordering a ((key e.0, value e.1) ∷ contents key value (p ∷ es)) ((key p.0, value e.1) ∷ contents key value es) ((key p.0, value p.1) ∷ cs) ≡ contents key value (match_ordering a ((e.0, e.1) ∷ p ∷ es) ((p.0, e.1) ∷ es) (p ∷ put es e))
+    matched : (a : Ordering) (e p : K × V) (es : List (K × V)) (cs : List (A × B)) → cs ≡ contents key value (put_entry es e) →
+        match_ordering a ((key e.0, value e.1) ∷ contents key value (p ∷ es)) ((key p.0, value e.1) ∷ contents key value es) ((key p.0, value p.1) ∷ cs) ≡ contents key value (match_ordering a ((e.0, e.1) ∷ p ∷ es) ((p.0, e.1) ∷ es) (p ∷ put_entry es e))
     matched Less e p es cs h = refl
     matched Equal e p es cs h = refl
     matched Greater e p es cs h = ap (λ ds. (key p.0, value p.1) ∷ ds) h
 
-    one-put : (es : List (K × V)) (e : K × V) → insert_entry order (contents key value es) (key e.0) (value e.1) ≡ contents key value (put es e)
+    one-put : (es : List (K × V)) (e : K × V) → insert_entry order (contents key value es) (key e.0) (value e.1) ≡ contents key value (put_entry es e)
     one-put [] e = refl
     one-put (p ∷ es) e =
         let cs = insert_entry order (contents key value es) (key e.0) (value e.1) in
@@ -176,7 +176,7 @@ module _ {K V : Type 0} (cmp : K → K → Ordering) (total : IsTotalOrder cmp) 
 
     all-put : (xs es : List (K × V)) → put_all order (contents key value xs) (contents key value es) ≡ contents key value (put_all cmp xs es)
     all-put xs [] = refl
-    all-put xs (e ∷ es) = ap (λ ys. put_all order ys (contents key value es)) (one-put xs e) ∙ all-put (put xs e) es
+    all-put xs (e ∷ es) = ap (λ ys. put_all order ys (contents key value es)) (one-put xs e) ∙ all-put (put_entry xs e) es
 
     -- of a map's entries, in any order
     reordered-contents : (es fs : List (K × V)) → AreReordered es fs → IsStrictlySortedBy cmp (keys_of es) → put_all order [] (contents key value fs) ≡ contents key value es
@@ -206,12 +206,12 @@ module _ {K V A B : Type 0} (key : K → A) (value : V → B) (take : Item × It
   AreReadInSomeOrder ps es = (fs : List (K × V)) × AreReordered es fs × AreRead ps fs
 
   inserted-read : (o : KeyOrder) (k v : Tree) (e : K × V) (ps qs : TreePairs) (es : List (K × V)) → take (item_of k, item_of v) ≡ gives (key e.0, value e.1) → AreRead ps es → inserted o k v ps ≡ gives qs → AreReadInSomeOrder qs (e ∷ es)
-  inserted-read o k v e no_tree_pairs qs [] here h put = (e ∷ [], as_they_are, subst (λ rs. AreRead rs (e ∷ [])) (one_given (tree_pair k v no_tree_pairs) qs put) (here, tt))
-  inserted-read o k v e no_tree_pairs qs (d ∷ es) here h put = absurd h
-  inserted-read o k v e (tree_pair l w ps) qs [] here h put = absurd h
-  inserted-read o k v e (tree_pair l w ps) qs (d ∷ es) here h put = by (λ rs is. inserted-read o k v e ps rs es here h.1 is) (key_order o k l) put
+  inserted-read o k v e no_tree_pairs qs [] here h put_entry = (e ∷ [], as_they_are, subst (λ rs. AreRead rs (e ∷ [])) (one_given (tree_pair k v no_tree_pairs) qs put_entry) (here, tt))
+  inserted-read o k v e no_tree_pairs qs (d ∷ es) here h put_entry = absurd h
+  inserted-read o k v e (tree_pair l w ps) qs [] here h put_entry = absurd h
+  inserted-read o k v e (tree_pair l w ps) qs (d ∷ es) here h put_entry = by (λ rs is. inserted-read o k v e ps rs es here h.1 is) (key_order o k l) put_entry
     where
-      by : ((rs : TreePairs) → inserted o k v ps ≡ gives rs → AreReadInSomeOrder rs (e ∷ es)) → (a : Ordering) → placed a k v l w ps (inserted o k v ps) ≡ gives qs → AreReadInSomeOrder qs (e ∷ d ∷ es)
+      by : ((rs : TreePairs) → inserted o k v ps ≡ gives rs → AreReadInSomeOrder rs (e ∷ es)) → (a : Ordering) → placed_pair a k v l w ps (inserted o k v ps) ≡ gives qs → AreReadInSomeOrder qs (e ∷ d ∷ es)
       by more Less is = (e ∷ d ∷ es, as_they_are, subst (λ rs. AreRead rs (e ∷ d ∷ es)) (one_given (tree_pair k v (tree_pair l w ps)) qs is) (here, h))
       by more Equal is = absurd cc
       by more Greater is =
@@ -223,9 +223,9 @@ module _ {K V A B : Type 0} (key : K → A) (value : V → B) (take : Item × It
   sorted-read o no_tree_pairs qs es h sorted = (es, as_they_are, subst (λ rs. AreRead rs es) (one_given no_tree_pairs qs sorted) h)
   sorted-read o (tree_pair k v ps) qs [] h sorted = absurd h
   sorted-read o (tree_pair k v ps) qs (e ∷ es) h sorted =
-      let (rs, is, put) = then_gives (sorted_pairs o ps) (inserted o k v) qs sorted in
+      let (rs, is, put_entry) = then_gives (sorted_pairs o ps) (inserted o k v) qs sorted in
       let (fs, r, each) = sorted-read o ps rs es h.1 is in
-      let (gs, s, all) = inserted-read o k v e rs qs fs h.0 each put in
+      let (gs, s, all) = inserted-read o k v e rs qs fs h.0 each put_entry in
       (gs, then_again (behind r) s, all)
 
 -- ---- maps

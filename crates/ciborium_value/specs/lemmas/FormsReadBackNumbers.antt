@@ -9,7 +9,7 @@ use Rattle.ciborium_value.specs.FormsReadBack.{IsItsOwnForm, IsReadFromForm, own
 use Rattle.ciborium_value.specs.Meaning.{bignum_meaning, negative_bignum, unsigned_bignum, without_zeros}
 use Rattle.ciborium_value.specs.Number.{shortest_bytes}
 use Rattle.ciborium_value.specs.Readings as readings
-use Rattle.ciborium_value.specs.Readings.{below, within}
+use Rattle.ciborium_value.specs.Readings.{below, bounded}
 use Rattle.ciborium_value.specs.ReadsBack.{named}
 use Rattle.ciborium_value.specs.lemmas.ReadsBackBignums.{big_endian-shortest, length-shortest, without_zeros-shortest}
 use Rattle.ciborium_value.specs.lemmas.ReadsBackNumbers.{IsSignedBack, IsUnsignedBack, i128_back, i16_back, i32_back, i64_back, i8_back, isize_back, u128_back, u16_back, u32_back, u64_back, u8_back, usize_back}
@@ -67,7 +67,7 @@ unsigned-form k fits law o = own-form_read o law (λ n h.
     let le : 2 ^ k ≤ 2 ^ 128 = pow-le-pow_right {n = 2} (lit< tt) {i = k} {j = 128} (omega (arith, fits)) in
     own-unsigned o n (omega (arith, le, h)) (nat_lt n (2 ^ 64)) refl)
 
-own-signed : (o : KeyOrder) (k : ℕ) → k < 128 → (z : ℤ) → readings.IsWithin (2 ^ k) z → IsItsOwnForm o (number_item z)
+own-signed : (o : KeyOrder) (k : ℕ) → k < 128 → (z : ℤ) → readings.IsBounded (2 ^ k) z → IsItsOwnForm o (number_item z)
 own-signed o k fits (pos n) h =
     let le : 2 ^ k ≤ 2 ^ 128 = pow-le-pow_right {n = 2} (lit< tt) {i = k} {j = 128} (omega (arith, fits)) in
     own-unsigned o n (omega (arith, le, h)) (nat_lt n (2 ^ 64)) refl
@@ -76,7 +76,7 @@ own-signed o k fits (negsuc n) h =
     own-negative o n (omega (arith, le, h)) (nat_lt n (2 ^ 64)) refl
 
 -- n and -1 - n, for n of so many bits
-pub signed-form : (k : ℕ) → k < 128 → IsSignedBack k → (o : KeyOrder) → IsReadFromForm o (readings.IsWithin (2 ^ k)) (λ z. named (number_item z)) (within (2 ^ k)).taken (λ z. z)
+pub signed-form : (k : ℕ) → k < 128 → IsSignedBack k → (o : KeyOrder) → IsReadFromForm o (readings.IsBounded (2 ^ k)) (λ z. named (number_item z)) (bounded (2 ^ k)).taken (λ z. z)
 signed-form k fits law o = own-form_read o law (own-signed o k fits)
 
 -- ---- the types of numbers, by their names; `usize` and `isize` have 64 bits
@@ -85,7 +85,7 @@ abbrev pub IsUnsignedForm : ℕ → Type 0
 IsUnsignedForm k = (o : KeyOrder) → IsReadFromForm o (λ n. n < 2 ^ k) (λ n. named (number_item (pos n))) (below (2 ^ k)).taken (λ n. n)
 
 abbrev pub IsSignedForm : ℕ → Type 0
-IsSignedForm k = (o : KeyOrder) → IsReadFromForm o (readings.IsWithin (2 ^ k)) (λ z. named (number_item z)) (within (2 ^ k)).taken (λ z. z)
+IsSignedForm k = (o : KeyOrder) → IsReadFromForm o (readings.IsBounded (2 ^ k)) (λ z. named (number_item z)) (bounded (2 ^ k)).taken (λ z. z)
 
 pub u8_form : IsUnsignedForm 8
 u8_form = unsigned-form 8 (lit< tt) u8_back

@@ -11,7 +11,7 @@ use Rattle.ciborium_value.specs.lemmas.GivenOutcomes.{mapped_gives, meaning_give
 use Rattle.ciborium_value.specs.Meaning.{big_endian, bignum_meaning, negative_bignum, unsigned_bignum, without_zeros}
 use Rattle.ciborium_value.specs.NeverNull.{IsNeverNull, some-back}
 use Rattle.ciborium_value.specs.ReadsBack.{by_tree, of_ok}
-use Rattle.ciborium_value.specs.Sinks.{Named, option_of}
+use Rattle.ciborium_value.specs.Sinks.{Named, or_null}
 use Rattle.ciborium_value.specs.Taken.{Outcome, Taken, gives, is_null, then_take}
 use Rattle.ciborium_value.specs.TakenParts.{taken_option}
 use Rattle.ciborium_value.specs.Tree as trees
@@ -79,6 +79,6 @@ nothing-form o taken = record {
 }
 
 pub option-form : {T C : Type 0} (o : KeyOrder) {IsHeld : T → Type 0} {written : T → Named} {taken : Taken C} {content : T → C} → IsReadFromForm o IsHeld written taken content → ((v : T) → IsNeverNull (written v)) →
-    IsReadFromForm o (λ m. IfSome m IsHeld) (option_of written) (taken_option taken) (option_map content)
+    IsReadFromForm o (λ m. IfSome m IsHeld) (or_null written) (taken_option taken) (option_map content)
 option-form o {taken = taken} law never None held = nothing-form o taken
 option-form o law never (Some v) held = something-form o (law v held) (never v)

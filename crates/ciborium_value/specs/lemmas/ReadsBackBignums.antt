@@ -40,8 +40,8 @@ length-high_first : (k n : ℕ) → length (bytes_high_first k n) ≡ k
 length-high_first zero n = refl
 length-high_first (suc k) n = ap suc (length-high_first k n)
 
-one_more : (m d r p : ℕ) → (256 * m + d) * p + r ≡ m * (256 * p) + (d * p + r)
-one_more m d r p = omega (arith, add-mul (256 * m) d p, mul_assoc 256 m p, mul_left_comm 256 m p)
+one_digit_more : (m d r p : ℕ) → (256 * m + d) * p + r ≡ m * (256 * p) + (d * p + r)
+one_digit_more m d r p = omega (arith, add-mul (256 * m) d p, mul_assoc 256 m p, mul_left_comm 256 m p)
 
 -- the lowest k bytes of n, read behind m
 read_behind : (k m n : ℕ) → big_endian_behind m (bytes_high_first k n) ≡ m * 256 ^ k + n % 256 ^ k
@@ -50,7 +50,7 @@ read_behind zero m n = omega (arith, mod-one n)
 read_behind (suc k) m n =
     let p = 256 ^ k in
     let split : n % 256 ^ suc k ≡ (n / p % 256) * p + n % p = rw (pow-succ' 256 k) (mod-mul n {m = 256} {c = p} (omega arith) (power_above k)) in
-    rw (read_behind k (256 * m + byte_at k n) n, byte_at-is k n, split, pow-succ' 256 k) (one_more m (n / p % 256) (n % p) p)
+    rw (read_behind k (256 * m + byte_at k n) n, byte_at-is k n, split, pow-succ' 256 k) (one_digit_more m (n / p % 256) (n % p) p)
 
 pub length-shortest : (n : ℕ) → length (shortest_bytes n) ≤ 16
 unfolding shortest_bytes

@@ -35,9 +35,9 @@ module _ {A B : Type 0} (order : A → A → Ordering) where
   AreAbove es (p ∷ ps) = IsAbove p.0 es × AreAbove es ps
 
   -- each key is above those before it
-  abbrev AreRising : List (A × B) → Type 0
-  AreRising [] = Unit {0}
-  AreRising (p ∷ ps) = AreAbove (p ∷ []) ps × AreRising ps
+  abbrev AreKeysRising : List (A × B) → Type 0
+  AreKeysRising [] = Unit {0}
+  AreKeysRising (p ∷ ps) = AreAbove (p ∷ []) ps × AreKeysRising ps
 
   insert-last : (es : List (A × B)) (k : A) (v : B) → IsAbove k es → insert_entry order es k v ≡ es ++ (k, v) ∷ []
   insert-last [] k v h = refl
@@ -51,7 +51,7 @@ module _ {A B : Type 0} (order : A → A → Ordering) where
   all_above-both es p [] h j = tt
   all_above-both es p (q ∷ qs) h j = (above-both q.0 es p h.0 j.0, all_above-both es p qs h.1 j.1)
 
-  put-behind : (es ps : List (A × B)) → AreAbove es ps → AreRising ps → put_all order es ps ≡ es ++ ps
+  put-behind : (es ps : List (A × B)) → AreAbove es ps → AreKeysRising ps → put_all order es ps ≡ es ++ ps
   put-behind es [] h r = sym (append-nil es)
   put-behind es (p ∷ ps) h r =
       ap (λ xs. put_all order xs ps) (insert-last es p.0 p.1 h.0) ∙ put-behind (es ++ p ∷ []) ps (all_above-both es p ps h.1 r.0) r.1 ∙ append_assoc es (p ∷ []) ps
@@ -60,7 +60,7 @@ module _ {A B : Type 0} (order : A → A → Ordering) where
   above_none [] = tt
   above_none (p ∷ ps) = (tt, above_none ps)
 
-  put-rising : (ps : List (A × B)) → AreRising ps → put_all order [] ps ≡ ps
+  put-rising : (ps : List (A × B)) → AreKeysRising ps → put_all order [] ps ≡ ps
   put-rising ps r = put-behind [] ps (above_none ps) r
 
 -- what counts of the entries
@@ -72,7 +72,7 @@ module _ {K V A B : Type 0} (cmp : K → K → Ordering) (order : A → A → Or
   contents-above e [] h = tt
   contents-above e (p ∷ ps) h = ((sym (orders p.0 e.0) ∙ total.antisymm p.0 e.0 ∙ ap ordering_reverse h.0, tt), contents-above e ps h.1)
 
-  contents-rising : (es : List (K × V)) → IsStrictlySortedBy cmp (keys_of es) → AreRising order (contents key value es)
+  contents-rising : (es : List (K × V)) → IsStrictlySortedBy cmp (keys_of es) → AreKeysRising order (contents key value es)
   unfolding IsStrictlySortedBy
   contents-rising [] h = tt
   contents-rising (e ∷ es) h = (contents-above e es h.0, contents-rising es h.1)

@@ -8,7 +8,7 @@ use Rattle.ciborium_ll.specs.Item as items
 use Rattle.ciborium_ll.specs.Item.{Item}
 use Rattle.ciborium_value.specs.Nesting.{Limit}
 use Rattle.ciborium_value.specs.Readings as readings
-use Rattle.ciborium_value.specs.Readings.{below, within}
+use Rattle.ciborium_value.specs.Readings.{below, bounded}
 use Rattle.ciborium_value.specs.ReadsBack.{IsDefinite, IsReadBack, back-by_item, named}
 use Rattle.ciborium_value.specs.lemmas.ReadsBackBignums.{magnitude-shortest}
 use Rattle.ciborium_value.specs.Sinks.{bignum_item, number_item}
@@ -59,16 +59,16 @@ unsigned-back k fits =
     back-by_item (λ n. n < 2 ^ k) (λ n. number_item (pos n)) (below (2 ^ k)).taken (λ n. n) (λ n. definite-number (pos n))
     (λ n h l. ap (λ o. then_take o (number_below (2 ^ k))) (number_of-item (pos n) (below-power n k h fits)) ∙ is_below n (2 ^ k) h)
 
-signed-taken : (k : ℕ) → k < 129 → (z : ℤ) → readings.IsWithin (2 ^ k) z → (l : Limit) → (within (2 ^ k)).taken l (number_item z) ≡ gives z
+signed-taken : (k : ℕ) → k < 129 → (z : ℤ) → readings.IsBounded (2 ^ k) z → (l : Limit) → (bounded (2 ^ k)).taken l (number_item z) ≡ gives z
 signed-taken k fits (pos n) h l = ap (λ o. then_take o (number_within (2 ^ k))) (number_of-item (pos n) (below-power n k h fits)) ∙ is_within false n (2 ^ k) h
 signed-taken k fits (negsuc n) h l = ap (λ o. then_take o (number_within (2 ^ k))) (number_of-item (negsuc n) (below-power n k h fits)) ∙ is_within true n (2 ^ k) h
 
 -- a type of numbers n and -1 - n, for n of so many bits
 abbrev pub IsSignedBack : ℕ → Type 0
-IsSignedBack k = IsReadBack (readings.IsWithin (2 ^ k)) (λ z. named (number_item z)) (within (2 ^ k)).taken (λ z. z) (λ z. 0)
+IsSignedBack k = IsReadBack (readings.IsBounded (2 ^ k)) (λ z. named (number_item z)) (bounded (2 ^ k)).taken (λ z. z) (λ z. 0)
 
 signed-back : (k : ℕ) → k < 129 → IsSignedBack k
-signed-back k fits = back-by_item (readings.IsWithin (2 ^ k)) number_item (within (2 ^ k)).taken (λ z. z) definite-number (signed-taken k fits)
+signed-back k fits = back-by_item (readings.IsBounded (2 ^ k)) number_item (bounded (2 ^ k)).taken (λ z. z) definite-number (signed-taken k fits)
 
 -- ---- the types of numbers, by their names; `usize` and `isize` have 64 bits
 

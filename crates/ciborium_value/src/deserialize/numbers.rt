@@ -2,8 +2,8 @@
 
 ghost use Rattle.std.specs.Prelude.{◌+◌, ◌<◌, ◌^◌, ◌≤◌, IfErr, IfOk, OnErr, OnOk, false};
 ghost use Rattle.std.specs.Prelude.{refl, ℕ, ℤ};
-ghost use Rattle.ciborium_value.specs.Readings.{IsWithin, below, within};
-ghost use Rattle.ciborium_value.specs.Sources.{IsGranted, Refuses, Takes, TakesItem, TakesOnly};
+ghost use Rattle.ciborium_value.specs.Readings.{IsBounded, below, bounded};
+ghost use Rattle.ciborium_value.specs.Sources.{IsGrantedFault, RefusesAhead, TakesAhead, TakesItem, TakesOnly};
 
 use super::{Deserialize, Key};
 use crate::kind::Kind;
@@ -14,10 +14,10 @@ use std::alloc::Global;
 #[inline(always)]
 fn unsigned<S: Source>(source: &mut S, greatest: u128) -> Result<u128, S::Error>
     ensures ok { IfOk result
-        (λ n. Takes S.stands_before source.old source.new (below (greatest + 1)).taken n) }
+        (λ n. TakesAhead S.stands_before source.old source.new (below (greatest + 1)).taken n) }
     ensures refused { IfErr result
-        (λ e. Refuses S.stands_before source.old (below (greatest + 1)).taken (S.cause e)) }
-    ensures memory { IfErr result (λ e. IsGranted (S.cause e) false) }
+        (λ e. RefusesAhead S.stands_before source.old (below (greatest + 1)).taken (S.cause e)) }
+    ensures memory { IfErr result (λ e. IsGrantedFault (S.cause e) false) }
     ensures took { OnOk result (TakesItem S.is_unread source.old source.new) }
     ensures only { TakesOnly S.has_taken source.old source.new }
     ensures less { OnOk result (S.left source.new < S.left source.old) }
@@ -36,15 +36,15 @@ fn unsigned<S: Source>(source: &mut S, greatest: u128) -> Result<u128, S::Error>
 fn signed<S: Source>(source: &mut S, greatest: u128) -> Result<i128, S::Error>
     requires { greatest < 2 ^ 127 }
     ensures ok { IfOk result
-        (λ n. Takes S.stands_before source.old source.new (within (greatest + 1)).taken n) }
+        (λ n. TakesAhead S.stands_before source.old source.new (bounded (greatest + 1)).taken n) }
     ensures refused { IfErr result
-        (λ e. Refuses S.stands_before source.old (within (greatest + 1)).taken (S.cause e)) }
-    ensures memory { IfErr result (λ e. IsGranted (S.cause e) false) }
+        (λ e. RefusesAhead S.stands_before source.old (bounded (greatest + 1)).taken (S.cause e)) }
+    ensures memory { IfErr result (λ e. IsGrantedFault (S.cause e) false) }
     ensures took { OnOk result (TakesItem S.is_unread source.old source.new) }
     ensures only { TakesOnly S.has_taken source.old source.new }
     ensures less { OnOk result (S.left source.new < S.left source.old) }
     ensures no_more { OnErr result (S.left source.new ≤ S.left source.old) }
-    ensures fits { IfOk result (IsWithin (greatest + 1)) }
+    ensures fits { IfOk result (IsBounded (greatest + 1)) }
 {
     let (negative, n) = source.integer()?;
     if n > greatest {
@@ -171,7 +171,7 @@ impl Key for usize {
 impl Deserialize for i8 {
     ghost Content = { ℤ };
 
-    ghost reading = { within (2 ^ 7) };
+    ghost reading = { bounded (2 ^ 7) };
 
     #[inline(always)]
     fn deserialize<S: Source>(_alloc: Global, source: &mut S) -> Result<i8, S::Error> {
@@ -189,7 +189,7 @@ impl Key for i8 {
 impl Deserialize for i16 {
     ghost Content = { ℤ };
 
-    ghost reading = { within (2 ^ 15) };
+    ghost reading = { bounded (2 ^ 15) };
 
     #[inline(always)]
     fn deserialize<S: Source>(_alloc: Global, source: &mut S) -> Result<i16, S::Error> {
@@ -207,7 +207,7 @@ impl Key for i16 {
 impl Deserialize for i32 {
     ghost Content = { ℤ };
 
-    ghost reading = { within (2 ^ 31) };
+    ghost reading = { bounded (2 ^ 31) };
 
     #[inline(always)]
     fn deserialize<S: Source>(_alloc: Global, source: &mut S) -> Result<i32, S::Error> {
@@ -225,7 +225,7 @@ impl Key for i32 {
 impl Deserialize for i64 {
     ghost Content = { ℤ };
 
-    ghost reading = { within (2 ^ 63) };
+    ghost reading = { bounded (2 ^ 63) };
 
     #[inline(always)]
     fn deserialize<S: Source>(_alloc: Global, source: &mut S) -> Result<i64, S::Error> {
@@ -243,7 +243,7 @@ impl Key for i64 {
 impl Deserialize for i128 {
     ghost Content = { ℤ };
 
-    ghost reading = { within (2 ^ 127) };
+    ghost reading = { bounded (2 ^ 127) };
 
     #[inline(always)]
     fn deserialize<S: Source>(_alloc: Global, source: &mut S) -> Result<i128, S::Error> {
@@ -261,7 +261,7 @@ impl Key for i128 {
 impl Deserialize for isize {
     ghost Content = { ℤ };
 
-    ghost reading = { within (2 ^ 63) };
+    ghost reading = { bounded (2 ^ 63) };
 
     #[inline(always)]
     fn deserialize<S: Source>(_alloc: Global, source: &mut S) -> Result<isize, S::Error> {

@@ -4,7 +4,7 @@ ghost use Rattle.std.specs.Prelude.{◌+◌, ◌<◌, ◌≤◌, IfErr, IfOk, Li
 ghost use Rattle.ciborium_value.specs.lemmas.KeyOrders.{ordering_then-same, slice_cmp-map};
 ghost use Rattle.ciborium_value.specs.Readings.{list_of, tuple1_of, tuple2_of, tuple3_of};
 ghost use Rattle.ciborium_value.specs.Readings.{tuple4_of};
-ghost use Rattle.ciborium_value.specs.inner.EnteredContainers.{DropsRest, RefusesPart, RefusesRest};
+ghost use Rattle.ciborium_value.specs.inner.EnteredContainers.{DropsRest, RefusesNextPart, RefusesDropping};
 ghost use Rattle.ciborium_value.specs.inner.EnteredContainers.{TakesOwed, TakesPart, TakesRest};
 ghost use Rattle.ciborium_value.specs.Sources.{TakesOnly};
 
@@ -22,7 +22,7 @@ fn part<T: Deserialize, S: Source>(
 ) -> Result<T, S::Error>
     ensures ok { IfOk result (λ v. TakesPart S.stands_before S.seq_stands
         source.old source.new seq.old seq.new T.reading.taken (T.reading.content v)) }
-    ensures refused { IfErr result (λ e. RefusesPart S.stands_before S.seq_stands
+    ensures refused { IfErr result (λ e. RefusesNextPart S.stands_before S.seq_stands
         source.old seq.old T.reading.taken (S.cause e)) }
     ensures took { OnOk result
         (TakesOwed S.is_unread S.owes source.old source.new seq.old seq.new) }
@@ -45,7 +45,7 @@ fn drop_rest<S: Source>(alloc: Global, source: &mut S, seq: &mut S::Seq) -> Resu
     ensures ok { OnOk result
         (DropsRest S.stands_before S.seq_stands source.old source.new seq.old) }
     ensures refused { IfErr result
-        (λ e. RefusesRest S.stands_before S.seq_stands source.old seq.old (S.cause e)) }
+        (λ e. RefusesDropping S.stands_before S.seq_stands source.old seq.old (S.cause e)) }
     ensures took { OnOk result (TakesRest S.is_unread S.owes source.old source.new seq.old) }
     ensures only { TakesOnly S.has_taken source.old source.new }
     ensures less { OnOk result (S.left source.new ≤ S.left source.old + S.seq_left seq.old) }

@@ -3,11 +3,11 @@
 ghost use Rattle.std.specs.Prelude.{◌≡◌, ◌∷◌, ◌++◌, [], IfErr, IfOk, MatchOption, None};
 ghost use Rattle.std.specs.Prelude.{OnOk, Some};
 ghost use Rattle.ciborium_value.specs.Folded.{folded, tree_folding_bytes};
-ghost use Rattle.ciborium_value.specs.inner.FoldedCopies.{IsBegun, IsUnfolded, path_trees};
+ghost use Rattle.ciborium_value.specs.inner.FoldedCopies.{IsCopyBegun, IsUnfolded, path_trees};
 ghost use Rattle.ciborium_value.specs.Taken.{gives, taken_value};
 ghost use Rattle.ciborium_value.specs.Tree as trees;
 ghost use Rattle.ciborium_value.specs.TreeAnswers.{IsErrorOf};
-ghost use Rattle.ciborium_value.specs.TreeAnswers.{fault_of};
+ghost use Rattle.ciborium_value.specs.TreeAnswers.{tree_fault};
 ghost use Rattle.ciborium_value.specs.TreeAnswers.{value_item};
 ghost use Rattle.ciborium_value.specs.View.{tree_of};
 
@@ -34,9 +34,9 @@ enum Part<'a> {
 }
 
 fn begin_tag<'a>(alloc: Global, tag: u64, content: &'a Value) -> Result<Part<'a>, Error>
-    ensures ok { IfOk result (IsBegun (trees.tag tag (tree_of content.now))) }
+    ensures ok { IfOk result (IsCopyBegun (trees.tag tag (tree_of content.now))) }
     ensures refused { IfErr result
-        (λ e. IsUnfolded (fault_of e) (folded (trees.tag tag (tree_of content.now)))) }
+        (λ e. IsUnfolded (tree_fault e) (folded (trees.tag tag (tree_of content.now)))) }
 {
     match find_folding(tag, content) {
         Some(bytes) => match fold(alloc, tag, bytes) {
@@ -49,9 +49,9 @@ fn begin_tag<'a>(alloc: Global, tag: u64, content: &'a Value) -> Result<Part<'a>
 }
 
 fn begin<'a>(alloc: Global, value: &'a Value) -> Result<Part<'a>, Error>
-    ensures ok { IfOk result (IsBegun (tree_of value.now)) }
+    ensures ok { IfOk result (IsCopyBegun (tree_of value.now)) }
     ensures refused { IfErr result
-        (λ e. IsUnfolded (fault_of e) (folded (tree_of value.now))) }
+        (λ e. IsUnfolded (tree_fault e) (folded (tree_of value.now))) }
 {
     match value {
         Value::Integer(number) => Ok(Part::Whole(Value::Integer(*number))),

@@ -4,15 +4,15 @@ ghost use Rattle.std.specs.Prelude.{◌≡◌, ◌+◌, ◌<◌, ◌≤◌, IfEr
 ghost use Rattle.std.specs.Prelude.{None, chars, false, map, string_bytes};
 ghost use Rattle.ciborium_value.specs.Counts.{tree_pairs_node_count, tree_pairs_payload_size};
 ghost use Rattle.ciborium_value.specs.Encoding.{pairs_of};
-ghost use Rattle.ciborium_value.specs.Sources.{IsGranted};
+ghost use Rattle.ciborium_value.specs.Sources.{IsGrantedFault};
 ghost use Rattle.ciborium_value.specs.Taken as taken;
 ghost use Rattle.ciborium_value.specs.Taken.{bignum_of, gives, outcome_map, refuses, take_each};
 ghost use Rattle.ciborium_value.specs.Taken.{taken_boolean, taken_byte, taken_bytes};
 ghost use Rattle.ciborium_value.specs.Taken.{taken_character, taken_integer, taken_name};
 ghost use Rattle.ciborium_value.specs.Taken.{taken_text, taken_unit};
-ghost use Rattle.ciborium_value.specs.inner.TreeSources.{weight};
+ghost use Rattle.ciborium_value.specs.inner.TreeSources.{value_weight};
 ghost use Rattle.ciborium_value.specs.TreeAnswers.{IsErrorOf};
-ghost use Rattle.ciborium_value.specs.TreeAnswers.{fault_of};
+ghost use Rattle.ciborium_value.specs.TreeAnswers.{tree_fault};
 ghost use Rattle.ciborium_value.specs.TreeAnswers.{value_item};
 ghost use Rattle.ciborium_value.specs.View.{tree_pairs_of};
 ghost use Rattle.ciborium_value.specs.declared.kind.Kind.TheVariants as kinds;
@@ -27,7 +27,7 @@ use std::alloc::Global;
 // A value without its leading tags.
 pub(super) fn skip_tags(value: &Value) -> &Value
     ensures item { value_item result.now ≡ taken.untagged (value_item value.now) }
-    ensures less { weight result.now ≤ weight value.now }
+    ensures less { value_weight result.now ≤ value_weight value.now }
 {
     let mut bare = value;
     while let Value::Tag(_, content) = bare {
@@ -41,7 +41,7 @@ fn find_bignum(value: &Value) -> Result<u128, Error>
     ensures ok { IfOk result (λ n. bignum_of (value_item value.now) ≡ gives n) }
     ensures refused { IfErr result
         (λ e. IsErrorOf e (bignum_of (value_item value.now))) }
-    ensures memory { IfErr result (λ e. IsGranted (fault_of e) false) }
+    ensures memory { IfErr result (λ e. IsGrantedFault (tree_fault e) false) }
 {
     match value {
         Value::Bytes(bytes) => match find_magnitude(bytes) {
@@ -57,7 +57,7 @@ pub(super) fn find_number(value: &Value) -> Result<(bool, u128), Error>
     ensures ok { IfOk result (λ v. taken_integer None (value_item value.now) ≡ gives v) }
     ensures refused { IfErr result
         (λ e. IsErrorOf e (taken_integer None (value_item value.now))) }
-    ensures memory { IfErr result (λ e. IsGranted (fault_of e) false) }
+    ensures memory { IfErr result (λ e. IsGrantedFault (tree_fault e) false) }
 {
     let mut inner = value;
     'tags: loop {
@@ -82,7 +82,7 @@ pub(super) fn find_boolean(value: &Value) -> Result<bool, Error>
     ensures ok { IfOk result (λ v. taken_boolean None (value_item value.now) ≡ gives v) }
     ensures refused { IfErr result
         (λ e. IsErrorOf e (taken_boolean None (value_item value.now))) }
-    ensures memory { IfErr result (λ e. IsGranted (fault_of e) false) }
+    ensures memory { IfErr result (λ e. IsGrantedFault (tree_fault e) false) }
 {
     match skip_tags(value) {
         Value::Bool(boolean) => Ok(*boolean),
@@ -94,7 +94,7 @@ pub(super) fn find_null(value: &Value) -> Result<(), Error>
     ensures ok { IfOk result (λ v. taken_unit None (value_item value.now) ≡ gives v) }
     ensures refused { IfErr result
         (λ e. IsErrorOf e (taken_unit None (value_item value.now))) }
-    ensures memory { IfErr result (λ e. IsGranted (fault_of e) false) }
+    ensures memory { IfErr result (λ e. IsGrantedFault (tree_fault e) false) }
 {
     match skip_tags(value) {
         Value::Null => Ok(()),
@@ -106,7 +106,7 @@ pub(super) fn find_character(value: &Value) -> Result<char, Error>
     ensures ok { IfOk result (λ v. taken_character None (value_item value.now) ≡ gives v) }
     ensures refused { IfErr result
         (λ e. IsErrorOf e (taken_character None (value_item value.now))) }
-    ensures memory { IfErr result (λ e. IsGranted (fault_of e) false) }
+    ensures memory { IfErr result (λ e. IsGrantedFault (tree_fault e) false) }
 {
     let Value::Text(text) = skip_tags(value) else {
         return Err(Error::Custom(Kind::Char));
@@ -151,7 +151,7 @@ pub(super) fn find_lone_pair(pairs: &[(Value, Value)]) -> Option<(&Value, &Value
         ≡ refuses kinds.Variant) }
     ensures some { IfSome result (λ p. taken.lone_pair None (pairs_of (tree_pairs_of pairs.now))
         ≡ outcome_map (λ name. (name, value_item p.1.now)) (taken_name None (value_item p.0.now))) }
-    ensures less { IfSome result (λ p. weight p.1.now
+    ensures less { IfSome result (λ p. value_weight p.1.now
         < tree_pairs_node_count (tree_pairs_of pairs.now)
         + tree_pairs_payload_size (tree_pairs_of pairs.now)) }
 {

@@ -1,7 +1,7 @@
 //! Numbers.
 
 ghost use Rattle.std.specs.Prelude.{◌<◌, ◌^◌};
-ghost use Rattle.ciborium_value.specs.Readings.{IsWithin};
+ghost use Rattle.ciborium_value.specs.Readings.{IsBounded};
 ghost use Rattle.ciborium_value.specs.lemmas.ReadsBackNumbers.{i128_back, i16_back, i32_back, i64_back};
 ghost use Rattle.ciborium_value.specs.lemmas.ReadsBackNumbers.{i8_back, isize_back, u128_back, u16_back};
 ghost use Rattle.ciborium_value.specs.lemmas.ReadsBackNumbers.{u32_back, u64_back, u8_back, usize_back};
@@ -57,7 +57,7 @@ impl ReadsBack for usize {
 }
 
 impl ReadsBack for i8 {
-    ghost is_held = { IsWithin (2 ^ 7) };
+    ghost is_held = { IsBounded (2 ^ 7) };
 
     ghost levels = { λ n. 0 };
 
@@ -65,7 +65,7 @@ impl ReadsBack for i8 {
 }
 
 impl ReadsBack for i16 {
-    ghost is_held = { IsWithin (2 ^ 15) };
+    ghost is_held = { IsBounded (2 ^ 15) };
 
     ghost levels = { λ n. 0 };
 
@@ -73,7 +73,7 @@ impl ReadsBack for i16 {
 }
 
 impl ReadsBack for i32 {
-    ghost is_held = { IsWithin (2 ^ 31) };
+    ghost is_held = { IsBounded (2 ^ 31) };
 
     ghost levels = { λ n. 0 };
 
@@ -81,7 +81,7 @@ impl ReadsBack for i32 {
 }
 
 impl ReadsBack for i64 {
-    ghost is_held = { IsWithin (2 ^ 63) };
+    ghost is_held = { IsBounded (2 ^ 63) };
 
     ghost levels = { λ n. 0 };
 
@@ -89,7 +89,7 @@ impl ReadsBack for i64 {
 }
 
 impl ReadsBack for i128 {
-    ghost is_held = { IsWithin (2 ^ 127) };
+    ghost is_held = { IsBounded (2 ^ 127) };
 
     ghost levels = { λ n. 0 };
 
@@ -97,7 +97,7 @@ impl ReadsBack for i128 {
 }
 
 impl ReadsBack for isize {
-    ghost is_held = { IsWithin (2 ^ 63) };
+    ghost is_held = { IsBounded (2 ^ 63) };
 
     ghost levels = { λ n. 0 };
 

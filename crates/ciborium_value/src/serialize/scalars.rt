@@ -3,7 +3,7 @@
 ghost use Rattle.std.specs.Prelude.{Ok, encode_utf8, false, string_bytes};
 ghost use Rattle.ciborium_ll.specs.Item as item;
 ghost use Rattle.ciborium_value.specs.Encoding.{boolean_item};
-ghost use Rattle.ciborium_value.specs.Sinks.{option_of};
+ghost use Rattle.ciborium_value.specs.Sinks.{or_null};
 
 use super::Serialize;
 use crate::byte_buf::ByteBuf;
@@ -96,7 +96,7 @@ impl<T: Serialize> Serialize for &T {
 
 /// Null, or the item of the content.
 impl<T: Serialize> Serialize for Option<T> {
-    ghost written = { option_of T.written };
+    ghost written = { or_null T.written };
 
     ghost takes_memory = { T.takes_memory };
 

@@ -1,7 +1,7 @@
 //! The reader's error, which was kept aside, put back.
 
 ghost use Rattle.std.specs.Prelude.{◌≡◌};
-ghost use Rattle.ciborium.specs.Errors.{refusal_of};
+ghost use Rattle.ciborium.specs.Errors.{without_reader_error};
 
 use crate::de::byte_source::ByteSource;
 use crate::de::error::{self, Error, Refusal};
@@ -10,7 +10,7 @@ use std::io;
 impl<R> ByteSource<'_, R> {
     /// Puts back the reader's error, if there is one.
     pub(crate) fn put_back(&mut self, refusal: Refusal) -> Error<io::Error>
-        ensures refusal { refusal ≡ refusal_of result }
+        ensures refusal { refusal ≡ without_reader_error result }
         ensures decoder { self.new.decoder ≡ self.old.decoder }
     {
         error::put_back(refusal, self.failure.take())

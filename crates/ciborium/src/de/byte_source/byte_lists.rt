@@ -3,13 +3,13 @@
 ghost use Rattle.std.specs.Prelude.{◌≡◌, ◌+◌, ◌<◌, ◌≤◌, IfErr, IfOk, List, OnErr, OnOk, Some, ℕ};
 ghost use Rattle.ciborium_ll.specs.Decoding.{HasSameReader};
 ghost use Rattle.ciborium_value.specs.Places.{sequence};
-ghost use Rattle.ciborium_value.specs.Sources.{HasItem, IsFaultOf, Refuses, Takes, TakesItem};
+ghost use Rattle.ciborium_value.specs.Sources.{HasItem, IsFaultOf, RefusesAhead, TakesAhead, TakesItem};
 ghost use Rattle.ciborium_value.specs.Sources.{TakesOnly, TakesTo};
 ghost use Rattle.ciborium_value.specs.Taken.{gives, number_below, take_each, taken_byte};
 ghost use Rattle.ciborium_value.specs.Taken.{taken_bytes};
-ghost use Rattle.ciborium.specs.inner.ByteSources.{HasTaken, IsUnread, Owes, ReadsRest, RefusesRest};
+ghost use Rattle.ciborium.specs.inner.ByteSources.{HasTaken, IsUnread, SeqOwes, ReadsRest, RefusesRest};
 ghost use Rattle.ciborium.specs.inner.ByteSources.{StandsBefore, seq_left, weight_left};
-ghost use Rattle.ciborium.specs.Errors.{cause_of};
+ghost use Rattle.ciborium.specs.Errors.{fault_of};
 
 use crate::de::byte_source::{ByteSeq, ByteSource};
 use crate::de::error::{Error, Refusal};
@@ -22,7 +22,7 @@ use std::io::Read;
 #[inline(always)]
 fn to_byte(number: (bool, u128), offset: usize) -> Result<u8, Refusal>
     ensures ok { IfOk result (λ byte. number_below 256 number ≡ gives byte) }
-    ensures refused { IfErr result (λ e. (end : ℕ) → IsFaultOf end (cause_of e) (number_below 256 number)) }
+    ensures refused { IfErr result (λ e. (end : ℕ) → IsFaultOf end (fault_of e) (number_below 256 number)) }
     ensures at { IfErr result (λ e. e ≡ Error.Semantic (Some offset) Kind.Range) }
 {
     let (is_negative, n) = number;
@@ -46,9 +46,9 @@ impl<'a, R: Read> ByteSource<'a, R> {
         ensures ok { IfOk result (λ v. ReadsRest R.remaining self.old self.new seq
             (λ l is. take_each (taken_byte l) is) v.items) }
         ensures refused { IfErr result (λ e. RefusesRest R.remaining self.old seq
-            (λ l is. take_each (taken_byte l) is) (cause_of e)) }
+            (λ l is. take_each (taken_byte l) is) (fault_of e)) }
         ensures took { OnOk result (TakesTo (IsUnread R.remaining) self.old self.new
-            (λ c z. (b : List ℕ) → Owes seq sequence b c → HasItem b z)) }
+            (λ c z. (b : List ℕ) → SeqOwes seq sequence b c → HasItem b z)) }
         ensures fewer { OnOk result
             (weight_left self.new ≤ weight_left self.old + seq_left seq) }
     {
@@ -74,9 +74,9 @@ impl<'a, R: Read> ByteSource<'a, R> {
         ensures only { TakesOnly (HasTaken R.remaining) self.old.decoder self.new.decoder }
         ensures no_more { OnErr result (weight_left self.new ≤ weight_left self.old) }
         ensures ok { IfOk result (λ v.
-            Takes (StandsBefore R.remaining) self.old self.new taken_bytes v.items) }
+            TakesAhead (StandsBefore R.remaining) self.old self.new taken_bytes v.items) }
         ensures refused { IfErr result (λ e.
-            Refuses (StandsBefore R.remaining) self.old taken_bytes (cause_of e)) }
+            RefusesAhead (StandsBefore R.remaining) self.old taken_bytes (fault_of e)) }
         ensures took { OnOk result (TakesItem (IsUnread R.remaining) self.old self.new) }
         ensures fewer { OnOk result (weight_left self.new < weight_left self.old) }
     {

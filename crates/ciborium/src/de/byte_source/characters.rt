@@ -3,10 +3,10 @@
 ghost use Rattle.std.specs.Prelude.{◌≡◌, ◌<◌, ◌⊎◌, ◌≤◌, IfErr, IfOk, IsUtf8, None, OnErr, OnOk};
 ghost use Rattle.std.specs.Prelude.{Some, chars, false, ℕ};
 ghost use Rattle.ciborium_ll.specs.Decoding.{HasSameReader};
-ghost use Rattle.ciborium_value.specs.Sources.{IsFaultOf, IsGranted, TakesOnly};
+ghost use Rattle.ciborium_value.specs.Sources.{IsFaultOf, IsGrantedFault, TakesOnly};
 ghost use Rattle.ciborium_value.specs.Taken.{gives, lone_character, taken_character};
 ghost use Rattle.ciborium.specs.inner.ByteSources.{HasTaken, IsUnread, end_at, weight_left};
-ghost use Rattle.ciborium.specs.Errors.{cause_of};
+ghost use Rattle.ciborium.specs.Errors.{fault_of};
 ghost use Rattle.ciborium.specs.inner.FrontItems.{Denies, Reads};
 
 use crate::de::byte_source::ByteSource;
@@ -24,8 +24,8 @@ fn only_character(payload: &[u8], offset: usize) -> Result<char, Refusal>
     ensures utf8 { OnOk result (IsUtf8 payload.now) }
     ensures ok { IfOk result (λ c. lone_character (chars payload.now) ≡ gives c) }
     ensures refused { IfErr result (λ e.
-        (end : ℕ) → IsUtf8 payload.now → IsFaultOf end (cause_of e) (lone_character (chars payload.now))) }
-    ensures memory { IfErr result (λ e. IsGranted (cause_of e) false) }
+        (end : ℕ) → IsUtf8 payload.now → IsFaultOf end (fault_of e) (lone_character (chars payload.now))) }
+    ensures memory { IfErr result (λ e. IsGrantedFault (fault_of e) false) }
     ensures at { IfErr result (λ e.
         (e ≡ Error.Syntax offset) ⊎ (e ≡ Error.Semantic (Some offset) Kind.Char)) }
 {
@@ -56,8 +56,8 @@ impl<'a, R: Read> ByteSource<'a, R> {
         ensures ok { IfOk result (λ v. Reads (IsUnread R.remaining) self.old self.new
             (Some self.old.levels) taken_character v) }
         ensures denied { IfErr result (λ e. Denies (IsUnread R.remaining) (end_at R.remaining) self.old
-            (Some self.old.levels) taken_character (cause_of e)) }
-        ensures memory { IfErr result (λ e. IsGranted (cause_of e) false) }
+            (Some self.old.levels) taken_character (fault_of e)) }
+        ensures memory { IfErr result (λ e. IsGrantedFault (fault_of e) false) }
     {
         let (header, offset) = self.bare_head(false)?;
         match header {

@@ -4,13 +4,13 @@ ghost use Rattle.std.specs.Prelude.{◌≡◌, ◌≢◌, ℕ, List, ◌+◌, �
 ghost use Rattle.std.specs.Prelude.{OnErr, OnOk, Some, false};
 ghost use Rattle.ciborium_ll.specs.Decoding.{HasSameReader};
 ghost use Rattle.ciborium_ll.specs.StringRefusal.{of_bytes};
-ghost use Rattle.ciborium_value.specs.Sources.{GoesOn, IsGranted, Leaves, OwesLess, OwesNothing};
+ghost use Rattle.ciborium_value.specs.Sources.{GoesOn, IsGrantedFault, Leaves, OwesLess, OwesNothing};
 ghost use Rattle.ciborium_value.specs.Sources.{RefusesNext, TakesOnly, TakesTo};
 ghost use Rattle.ciborium_value.specs.Taken.{gives, taken_pairs, taken_seq};
-ghost use Rattle.ciborium.specs.inner.ByteSources.{HasBytes, HasTaken, IsUnread, OpensItems, OpensPairs};
-ghost use Rattle.ciborium.specs.inner.ByteSources.{Owes, SeqStands, StandsBefore, StandsStill};
+ghost use Rattle.ciborium.specs.inner.ByteSources.{HasBytes, HasTaken, IsUnread, EntersItemsUnread, EntersPairsUnread};
+ghost use Rattle.ciborium.specs.inner.ByteSources.{SeqOwes, SeqStands, StandsBefore, StandsStill};
 ghost use Rattle.ciborium.specs.inner.ByteSources.{bytes_weight, counted_parts, end_at};
-ghost use Rattle.ciborium.specs.Errors.{cause_of};
+ghost use Rattle.ciborium.specs.Errors.{fault_of};
 ghost use Rattle.ciborium.specs.inner.ByteSources.{parts_left, seq_left, weight_left};
 ghost use Rattle.ciborium.specs.inner.FrontItems.{Denies};
 ghost use Rattle.ciborium.specs.inner.StringContents.{DeniesContent, TakesContent};
@@ -86,7 +86,7 @@ impl<'a, R: Read> ByteSource<'a, R> {
         ensures ok { IfOk result (λ q. HasBytes q.left (TakesContent (IsUnread R.remaining self.old)
             (IsUnread R.remaining self.new) of_bytes len)) }
         ensures denied { IfErr result
-            (λ e. DeniesContent (IsUnread R.remaining self.old) (end_at R.remaining self.old) of_bytes len (cause_of e)) }
+            (λ e. DeniesContent (IsUnread R.remaining self.old) (end_at R.remaining self.old) of_bytes len (fault_of e)) }
     {
         let levels = self.levels;
         let bytes = self.bytes_content(alloc, len)?;
@@ -106,10 +106,10 @@ impl<'a, R: Read> ByteSource<'a, R> {
         ensures pending { OnOk result (self.new.pending ≡ None) }
         ensures fewer { IfOk result
             (λ q. weight_left self.new + seq_left q < weight_left self.old) }
-        ensures ok { IfOk result (OpensItems R.remaining self.old self.new taken_seq
+        ensures ok { IfOk result (EntersItemsUnread R.remaining self.old self.new taken_seq
             (λ l is. gives (l, is))) }
         ensures denied { IfErr result (λ e. Denies (IsUnread R.remaining) (end_at R.remaining) self.old
-            (Some self.old.levels) taken_seq (cause_of e)) }
+            (Some self.old.levels) taken_seq (fault_of e)) }
     {
         let (header, offset) = self.bare_head(false)?;
         match header {
@@ -134,11 +134,11 @@ impl<'a, R: Read> ByteSource<'a, R> {
         ensures pending { OnOk result (self.new.pending ≡ None) }
         ensures fewer { IfOk result
             (λ q. weight_left self.new + seq_left q < weight_left self.old) }
-        ensures ok { IfOk result (OpensPairs R.remaining self.old self.new taken_pairs
+        ensures ok { IfOk result (EntersPairsUnread R.remaining self.old self.new taken_pairs
             (λ l ps. gives (l, ps))) }
         ensures denied { IfErr result (λ e. Denies (IsUnread R.remaining) (end_at R.remaining) self.old
-            (Some self.old.levels) taken_pairs (cause_of e)) }
-        ensures memory { IfErr result (λ e. IsGranted (cause_of e) false) }
+            (Some self.old.levels) taken_pairs (fault_of e)) }
+        ensures memory { IfErr result (λ e. IsGrantedFault (fault_of e) false) }
     {
         let (header, offset) = self.bare_head(false)?;
         match header {
@@ -176,11 +176,11 @@ impl<'a, R: Read> ByteSource<'a, R> {
             (GoesOn (StandsBefore R.remaining) SeqStands self.old self.new seq.old seq.new)
             (Leaves (StandsBefore R.remaining) SeqStands self.old self.new seq.old)) }
         ensures refused { IfErr result (λ e.
-            RefusesNext (StandsBefore R.remaining) SeqStands self.old seq.old (cause_of e)) }
-        ensures memory { IfErr result (λ e. IsGranted (cause_of e) false) }
+            RefusesNext (StandsBefore R.remaining) SeqStands self.old seq.old (fault_of e)) }
+        ensures memory { IfErr result (λ e. IsGrantedFault (fault_of e) false) }
         ensures took { IfOk result (λ b. MatchBool b
-            (TakesTo (IsUnread R.remaining) self.old self.new (OwesLess Owes seq.old seq.new))
-            (TakesTo (IsUnread R.remaining) self.old self.new (OwesNothing Owes seq.old))) }
+            (TakesTo (IsUnread R.remaining) self.old self.new (OwesLess SeqOwes seq.old seq.new))
+            (TakesTo (IsUnread R.remaining) self.old self.new (OwesNothing SeqOwes seq.old))) }
         ensures fewer { OnOk result
             (weight_left self.new + seq_left seq.new ≤ weight_left self.old + seq_left seq.old) }
     {

@@ -2,10 +2,10 @@
 
 ghost use Rattle.std.specs.Prelude.{◌≡◌, ◌+◌, ◌≤◌, IfErr, IfOk, None, OnErr, OnOk, false};
 ghost use Rattle.ciborium_ll.specs.Decoding.{HasSameReader};
-ghost use Rattle.ciborium_value.specs.Sources.{IsGranted, TakesOnly};
+ghost use Rattle.ciborium_value.specs.Sources.{IsGrantedFault, TakesOnly};
 ghost use Rattle.ciborium.specs.inner.ByteSources.{CountsHead, HasTaken, IsUnread, bytes_weight};
-ghost use Rattle.ciborium.specs.inner.ByteSources.{end_at, weight, weight_left};
-ghost use Rattle.ciborium.specs.Errors.{cause_of};
+ghost use Rattle.ciborium.specs.inner.ByteSources.{end_at, head_weight, weight_left};
+ghost use Rattle.ciborium.specs.Errors.{fault_of};
 ghost use Rattle.ciborium.specs.inner.FrontItems.{DeniesHead, DeniesItem, TakesHead};
 ghost use Rattle.ciborium.specs.inner.Skips.{IsBare, IsEndTag, TakesBare};
 
@@ -34,13 +34,13 @@ impl<'a, R: Read> ByteSource<'a, R> {
         ensures levels { self.new.levels ≡ self.old.levels }
         ensures pending { self.new.pending ≡ None }
         ensures fewer { IfOk result
-            (λ h. bytes_weight self.new + weight h.0 ≤ weight_left self.old) }
+            (λ h. bytes_weight self.new + head_weight h.0 ≤ weight_left self.old) }
         ensures head { IfOk result
             (λ h. TakesHead (IsUnread R.remaining) self.old self.new h.0) }
         ensures counted { IfOk result (CountsHead (IsUnread R.remaining) self.old self.new) }
         ensures denied { IfErr result
-            (λ e. DeniesHead (IsUnread R.remaining) (end_at R.remaining) self.old (cause_of e)) }
-        ensures memory { IfErr result (λ e. IsGranted (cause_of e) false) }
+            (λ e. DeniesHead (IsUnread R.remaining) (end_at R.remaining) self.old (fault_of e)) }
+        ensures memory { IfErr result (λ e. IsGrantedFault (fault_of e) false) }
     {
         if let Some((header, offset)) = self.pending {
             self.pending = None;
@@ -60,13 +60,13 @@ impl<'a, R: Read> ByteSource<'a, R> {
         ensures levels { self.new.levels ≡ self.old.levels }
         ensures pending { OnOk result (self.new.pending ≡ None) }
         ensures fewer { IfOk result
-            (λ h. bytes_weight self.new + weight h.0 ≤ weight_left self.old) }
+            (λ h. bytes_weight self.new + head_weight h.0 ≤ weight_left self.old) }
         ensures bare { IfOk result (λ h. IsBare numbers h.0) }
         ensures head { IfOk result
             (λ h. TakesBare (IsUnread R.remaining) self.old self.new numbers h.0) }
         ensures denied { IfErr result
-            (λ e. DeniesItem (IsUnread R.remaining) (end_at R.remaining) self.old (cause_of e)) }
-        ensures memory { IfErr result (λ e. IsGranted (cause_of e) false) }
+            (λ e. DeniesItem (IsUnread R.remaining) (end_at R.remaining) self.old (fault_of e)) }
+        ensures memory { IfErr result (λ e. IsGrantedFault (fault_of e) false) }
     {
         'tags: loop {
             let (header, offset) = self.next_head()?;
@@ -92,13 +92,13 @@ impl<'a, R: Read> ByteSource<'a, R> {
         ensures levels { self.new.levels ≡ self.old.levels }
         ensures pending { OnOk result (self.new.pending ≡ None) }
         ensures fewer { IfOk result
-            (λ h. bytes_weight self.new + weight h.0 ≤ weight_left self.old) }
+            (λ h. bytes_weight self.new + head_weight h.0 ≤ weight_left self.old) }
         ensures bare { IfOk result (λ h. IsBare numbers h.0) }
         ensures head { IfOk result
             (λ h. TakesBare (IsUnread R.remaining) self.old self.new numbers h.0) }
         ensures denied { IfErr result
-            (λ e. DeniesItem (IsUnread R.remaining) (end_at R.remaining) self.old (cause_of e)) }
-        ensures memory { IfErr result (λ e. IsGranted (cause_of e) false) }
+            (λ e. DeniesItem (IsUnread R.remaining) (end_at R.remaining) self.old (fault_of e)) }
+        ensures memory { IfErr result (λ e. IsGrantedFault (fault_of e) false) }
     {
         let bare = self.behind_tags(numbers)?;
         Ok(bare)
@@ -118,13 +118,13 @@ impl<'a, R: Read> ByteSource<'a, R> {
         ensures levels { self.new.levels ≡ self.old.levels }
         ensures pending { OnOk result (self.new.pending ≡ None) }
         ensures fewer { IfOk result
-            (λ h. bytes_weight self.new + weight h.0 ≤ weight_left self.old) }
+            (λ h. bytes_weight self.new + head_weight h.0 ≤ weight_left self.old) }
         ensures bare { IfOk result (λ h. IsBare numbers h.0) }
         ensures head { IfOk result
             (λ h. TakesBare (IsUnread R.remaining) self.old self.new numbers h.0) }
         ensures denied { IfErr result
-            (λ e. DeniesItem (IsUnread R.remaining) (end_at R.remaining) self.old (cause_of e)) }
-        ensures memory { IfErr result (λ e. IsGranted (cause_of e) false) }
+            (λ e. DeniesItem (IsUnread R.remaining) (end_at R.remaining) self.old (fault_of e)) }
+        ensures memory { IfErr result (λ e. IsGrantedFault (fault_of e) false) }
     {
         let (header, offset) = self.next_head()?;
         match header {

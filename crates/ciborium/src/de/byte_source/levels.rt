@@ -3,13 +3,13 @@
 ghost use Rattle.std.specs.Prelude.{◌≡◌, ◌≢◌, ◌≤◌, IfErr, IfOk, MatchBool, OnErr, OnOk, Some};
 ghost use Rattle.std.specs.Prelude.{false, string_bytes};
 ghost use Rattle.ciborium_ll.specs.Decoding.{HasSameReader};
-ghost use Rattle.ciborium_value.specs.Sources.{GivesBack, IsGranted, TakesOnly};
+ghost use Rattle.ciborium_value.specs.Sources.{GivesBack, IsGrantedFault, TakesOnly};
 ghost use Rattle.ciborium_value.specs.Taken.{taken_outer_tag, taken_variant};
 ghost use Rattle.ciborium.specs.inner.ByteSources.{HasTaken, IsUnread, LevelStands, StandsBefore};
 ghost use Rattle.ciborium.specs.inner.ByteSources.{TakesLevel, end_at, weight_left};
-ghost use Rattle.ciborium.specs.Errors.{cause_of};
+ghost use Rattle.ciborium.specs.Errors.{fault_of};
 ghost use Rattle.ciborium.specs.inner.FrontItems.{Denies};
-ghost use Rattle.ciborium.specs.inner.Skips.{OpensLevel};
+ghost use Rattle.ciborium.specs.inner.Skips.{EntersLevelUnread};
 
 use crate::de::byte_source::{ByteLevel, ByteSource};
 use crate::de::error::{Error, Refusal};
@@ -64,11 +64,11 @@ impl<'a, R: Read> ByteSource<'a, R> {
         ensures no_more { OnErr result (weight_left self.new ≤ weight_left self.old) }
         ensures level { IfOk result (λ p. TakesLevel self.old self.new p.1) }
         ensures fewer { OnOk result (weight_left self.new ≤ weight_left self.old) }
-        ensures ok { IfOk result (λ p. OpensLevel (IsUnread R.remaining) self.old self.new
+        ensures ok { IfOk result (λ p. EntersLevelUnread (IsUnread R.remaining) self.old self.new
             (Some self.old.levels) taken_outer_tag p.0) }
         ensures denied { IfErr result (λ e. Denies (IsUnread R.remaining) (end_at R.remaining) self.old
-            (Some self.old.levels) taken_outer_tag (cause_of e)) }
-        ensures memory { IfErr result (λ e. IsGranted (cause_of e) false) }
+            (Some self.old.levels) taken_outer_tag (fault_of e)) }
+        ensures memory { IfErr result (λ e. IsGrantedFault (fault_of e) false) }
     {
         let (header, offset) = self.next_head()?;
         match header {
@@ -94,10 +94,10 @@ impl<'a, R: Read> ByteSource<'a, R> {
         ensures no_more { OnErr result (weight_left self.new ≤ weight_left self.old) }
         ensures level { IfOk result (λ p. TakesLevel self.old self.new p.1) }
         ensures fewer { OnOk result (weight_left self.new ≤ weight_left self.old) }
-        ensures ok { IfOk result (λ p. OpensLevel (IsUnread R.remaining) self.old self.new
+        ensures ok { IfOk result (λ p. EntersLevelUnread (IsUnread R.remaining) self.old self.new
             (Some self.old.levels) taken_variant (string_bytes p.0)) }
         ensures denied { IfErr result (λ e. Denies (IsUnread R.remaining) (end_at R.remaining) self.old
-            (Some self.old.levels) taken_variant (cause_of e)) }
+            (Some self.old.levels) taken_variant (fault_of e)) }
     {
         let (header, offset) = self.bare_head(false)?;
         match header {

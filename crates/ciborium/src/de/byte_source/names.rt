@@ -5,7 +5,7 @@ ghost use Rattle.std.specs.Prelude.{string_bytes};
 ghost use Rattle.ciborium_ll.specs.Decoding.{HasSameReader};
 ghost use Rattle.ciborium_value.specs.Taken.{taken_name};
 ghost use Rattle.ciborium.specs.inner.ByteSources.{HasTaken, IsUnread, end_at, weight_left};
-ghost use Rattle.ciborium.specs.Errors.{cause_of};
+ghost use Rattle.ciborium.specs.Errors.{fault_of};
 ghost use Rattle.ciborium.specs.inner.FrontItems.{Denies, Reads};
 ghost use Rattle.ciborium_value.specs.Sources.{TakesOnly};
 
@@ -29,7 +29,7 @@ impl<'a, R: Read> ByteSource<'a, R> {
         ensures ok { IfOk result (λ v. Reads (IsUnread R.remaining) self.old self.new
             (Some self.old.levels) taken_name (string_bytes v)) }
         ensures denied { IfErr result (λ e. Denies (IsUnread R.remaining) (end_at R.remaining) self.old
-            (Some self.old.levels) taken_name (cause_of e)) }
+            (Some self.old.levels) taken_name (fault_of e)) }
     {
         let (header, offset) = self.bare_head(false)?;
         match header {

@@ -5,10 +5,10 @@ ghost use Rattle.std.specs.Prelude.{[], false, true, ℕ};
 ghost use Rattle.ciborium_ll.specs.Decoding.{HasSameReader};
 ghost use Rattle.ciborium_ll.specs.StringRefusal.{of_bytes};
 ghost use Rattle.ciborium_ll.specs.declared.header.Header.TheVariants as heads;
-ghost use Rattle.ciborium_value.specs.Sources.{IsGranted, IsOutside, TakesOnly};
+ghost use Rattle.ciborium_value.specs.Sources.{IsGrantedFault, IsOutsideFault, TakesOnly};
 ghost use Rattle.ciborium_value.specs.Taken.{taken_bignum, taken_integer};
 ghost use Rattle.ciborium.specs.inner.ByteSources.{HasTaken, IsUnread, bytes_weight, end_at};
-ghost use Rattle.ciborium.specs.Errors.{cause_of};
+ghost use Rattle.ciborium.specs.Errors.{fault_of};
 ghost use Rattle.ciborium.specs.inner.ByteSources.{weight_left};
 ghost use Rattle.ciborium.specs.inner.FrontItems.{Denies, Reads};
 ghost use Rattle.ciborium.specs.inner.StringContents.{DeniesContent, DeniesJust, TakesDigits};
@@ -70,8 +70,8 @@ impl<'a, R: Read> ByteSource<'a, R> {
         ensures fewer { OnOk result (bytes_weight self.new ≤ bytes_weight self.old) }
         ensures ok { IfOk result (λ number. TakesDigits (IsUnread R.remaining self.old)
             (IsUnread R.remaining self.new) len start number) }
-        ensures outside { IfErr result (λ e. DeniesJust (IsUnread R.remaining self.old) (end_at R.remaining self.old) len (cause_of e)) }
-        ensures memory { IfErr result (λ e. IsGranted (cause_of e) false) }
+        ensures outside { IfErr result (λ e. DeniesJust (IsUnread R.remaining self.old) (end_at R.remaining self.old) len (fault_of e)) }
+        ensures memory { IfErr result (λ e. IsGrantedFault (fault_of e) false) }
     {
         let mut number = start;
         let mut left = len;
@@ -79,7 +79,6 @@ impl<'a, R: Read> ByteSource<'a, R> {
             let mut room = [0u8; 1];
             self.decoder
                 .read_exact_keeping(&mut room, &mut self.failure)?;
-            let _end = self.decoder.offset();
             number = with_digit(number, only_byte(&room));
             left -= 1;
         }
@@ -99,8 +98,8 @@ impl<'a, R: Read> ByteSource<'a, R> {
         ensures ok { IfOk result (λ number. TakesNumber (IsUnread R.remaining self.old)
             (IsUnread R.remaining self.new) len number) }
         ensures denied { IfErr result
-            (λ e. DeniesContent (IsUnread R.remaining self.old) (end_at R.remaining self.old) of_bytes len (cause_of e)) }
-        ensures memory { IfErr result (λ e. IsGranted (cause_of e) false) }
+            (λ e. DeniesContent (IsUnread R.remaining self.old) (end_at R.remaining self.old) of_bytes len (fault_of e)) }
+        ensures memory { IfErr result (λ e. IsGrantedFault (fault_of e) false) }
     {
         match len {
             Some(n) => {
@@ -136,8 +135,8 @@ impl<'a, R: Read> ByteSource<'a, R> {
         ensures ok { IfOk result
             (λ n. Reads (IsUnread R.remaining) self.old self.new None taken_bignum n) }
         ensures denied { IfErr result
-            (λ e. Denies (IsUnread R.remaining) (end_at R.remaining) self.old None taken_bignum (cause_of e)) }
-        ensures memory { IfErr result (λ e. IsGranted (cause_of e) false) }
+            (λ e. Denies (IsUnread R.remaining) (end_at R.remaining) self.old None taken_bignum (fault_of e)) }
+        ensures memory { IfErr result (λ e. IsGrantedFault (fault_of e) false) }
     {
         let (header, offset) = self.next_head()?;
         match header {
@@ -168,8 +167,8 @@ impl<'a, R: Read> ByteSource<'a, R> {
         ensures ok { IfOk result
             (λ v. Reads (IsUnread R.remaining) self.old self.new None taken_bignum v.0.1) }
         ensures denied { IfErr result
-            (λ e. Denies (IsUnread R.remaining) (end_at R.remaining) self.old None taken_bignum (cause_of e)) }
-        ensures memory { IfErr result (λ e. IsGranted (cause_of e) false) }
+            (λ e. Denies (IsUnread R.remaining) (end_at R.remaining) self.old None taken_bignum (fault_of e)) }
+        ensures memory { IfErr result (λ e. IsGrantedFault (fault_of e) false) }
     {
         let n = self.read_bignum(offset)?;
         Ok(((tag == BIGNEG, n), offset))
@@ -187,8 +186,8 @@ impl<'a, R: Read> ByteSource<'a, R> {
         ensures ok { IfOk result (λ v. Reads (IsUnread R.remaining) self.old self.new
             (Some self.old.levels) taken_integer v.0) }
         ensures denied { IfErr result (λ e. Denies (IsUnread R.remaining) (end_at R.remaining) self.old
-            (Some self.old.levels) taken_integer (cause_of e)) }
-        ensures memory { IfErr result (λ e. IsGranted (cause_of e) false) }
+            (Some self.old.levels) taken_integer (fault_of e)) }
+        ensures memory { IfErr result (λ e. IsGrantedFault (fault_of e) false) }
     {
         let (header, offset) = self.bare_head(true)?;
         let negative = is_negative(header);

@@ -3,10 +3,10 @@
 ghost use Rattle.std.specs.Prelude.{◌≡◌, ◌<◌, ◌≤◌, IfErr, IfOk, IfSome, None, OnErr, OnOk, Some};
 ghost use Rattle.std.specs.Prelude.{false};
 ghost use Rattle.ciborium_ll.specs.Decoding.{HasSameReader};
-ghost use Rattle.ciborium_value.specs.Sources.{IsGranted, TakesOnly, Tells};
+ghost use Rattle.ciborium_value.specs.Sources.{IsGrantedFault, TakesOnly, Tells};
 ghost use Rattle.ciborium_value.specs.Taken.{is_null_simple, taken_boolean, taken_unit};
 ghost use Rattle.ciborium.specs.inner.ByteSources.{HasTaken, IsUnread, StandsBefore, end_at};
-ghost use Rattle.ciborium.specs.Errors.{cause_of};
+ghost use Rattle.ciborium.specs.Errors.{fault_of};
 ghost use Rattle.ciborium.specs.inner.ByteSources.{weight_left};
 ghost use Rattle.ciborium.specs.inner.FrontItems.{Denies, Reads};
 
@@ -62,8 +62,8 @@ impl<'a, R: Read> ByteSource<'a, R> {
         ensures ok { IfOk result (λ v. Reads (IsUnread R.remaining) self.old self.new
             (Some self.old.levels) taken_boolean v) }
         ensures denied { IfErr result (λ e. Denies (IsUnread R.remaining) (end_at R.remaining) self.old
-            (Some self.old.levels) taken_boolean (cause_of e)) }
-        ensures memory { IfErr result (λ e. IsGranted (cause_of e) false) }
+            (Some self.old.levels) taken_boolean (fault_of e)) }
+        ensures memory { IfErr result (λ e. IsGrantedFault (fault_of e) false) }
     {
         let (header, offset) = self.bare_head(false)?;
         match header {
@@ -91,8 +91,8 @@ impl<'a, R: Read> ByteSource<'a, R> {
         ensures ok { IfOk result (λ v. Reads (IsUnread R.remaining) self.old self.new
             (Some self.old.levels) taken_unit v) }
         ensures denied { IfErr result (λ e. Denies (IsUnread R.remaining) (end_at R.remaining) self.old
-            (Some self.old.levels) taken_unit (cause_of e)) }
-        ensures memory { IfErr result (λ e. IsGranted (cause_of e) false) }
+            (Some self.old.levels) taken_unit (fault_of e)) }
+        ensures memory { IfErr result (λ e. IsGrantedFault (fault_of e) false) }
     {
         let (header, offset) = self.bare_head(false)?;
         match header {

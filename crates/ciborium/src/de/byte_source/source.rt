@@ -1,8 +1,8 @@
 //! The calls of a source.
 
-ghost use Rattle.ciborium.specs.inner.ByteSources.{HasTakenSince, IsUnread, LevelStands, Owes};
+ghost use Rattle.ciborium.specs.inner.ByteSources.{HasTakenSince, IsUnread, LevelStands, SeqOwes};
 ghost use Rattle.ciborium.specs.inner.ByteSources.{ReadsValue, SeqStands, StandsBefore};
-ghost use Rattle.ciborium.specs.Errors.{cause_of};
+ghost use Rattle.ciborium.specs.Errors.{fault_of};
 ghost use Rattle.ciborium.specs.inner.ByteSources.{seq_left, weight_left};
 
 use crate::de::byte_source::scalars::is_null;
@@ -36,11 +36,11 @@ impl<'a, R: Read> Source for ByteSource<'a, R> {
 
     ghost has_taken = { HasTakenSince R.remaining };
 
-    ghost owes = { Owes };
+    ghost owes = { SeqOwes };
 
     ghost reads = { ReadsValue R.remaining };
 
-    ghost cause = { cause_of };
+    ghost cause = { fault_of };
 
     #[inline(always)]
     fn integer(&mut self) -> Result<(bool, u128), Refusal> {

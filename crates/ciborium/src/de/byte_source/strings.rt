@@ -4,10 +4,10 @@ ghost use Rattle.std.specs.Prelude.{◌≡◌, ◌+◌, ◌<◌, ◌≤◌, IfEr
 ghost use Rattle.std.specs.Prelude.{false, length, string_bytes};
 ghost use Rattle.ciborium_ll.specs.Decoding.{HasSameReader};
 ghost use Rattle.ciborium_ll.specs.StringRefusal.{of_bytes, of_text};
-ghost use Rattle.ciborium_value.specs.Sources.{IsGranted, IsOutside, TakesOnly};
+ghost use Rattle.ciborium_value.specs.Sources.{IsGrantedFault, IsOutsideFault, TakesOnly};
 ghost use Rattle.ciborium_value.specs.Taken.{taken_text};
 ghost use Rattle.ciborium.specs.inner.ByteSources.{HasTaken, IsUnread, bytes_weight, end_at};
-ghost use Rattle.ciborium.specs.Errors.{cause_of};
+ghost use Rattle.ciborium.specs.Errors.{fault_of};
 ghost use Rattle.ciborium.specs.inner.ByteSources.{weight_left};
 ghost use Rattle.ciborium.specs.inner.FrontItems.{Denies, Reads};
 ghost use Rattle.ciborium.specs.inner.StringContents.{DeniesContent, DeniesJust, TakesContent, TakesJust};
@@ -31,11 +31,10 @@ impl<'a, R: Read> ByteSource<'a, R> {
         ensures fewer { OnOk result (bytes_weight self.new ≤ bytes_weight self.old) }
         ensures ok { OnOk result
             (TakesJust (IsUnread R.remaining self.old) (IsUnread R.remaining self.new) buffer.new) }
-        ensures outside { IfErr result (λ e. DeniesJust (IsUnread R.remaining self.old) (end_at R.remaining self.old) (length buffer.old) (cause_of e)) }
-        ensures memory { IfErr result (λ e. IsGranted (cause_of e) false) }
+        ensures outside { IfErr result (λ e. DeniesJust (IsUnread R.remaining self.old) (end_at R.remaining self.old) (length buffer.old) (fault_of e)) }
+        ensures memory { IfErr result (λ e. IsGrantedFault (fault_of e) false) }
     {
         self.decoder.read_exact_keeping(buffer, &mut self.failure)?;
-        let _end = self.decoder.offset();
         Ok(())
     }
 
@@ -57,12 +56,11 @@ impl<'a, R: Read> ByteSource<'a, R> {
         ensures ok { IfOk result (λ v. TakesContent (IsUnread R.remaining self.old)
             (IsUnread R.remaining self.new) of_bytes len v.items) }
         ensures denied { IfErr result
-            (λ e. DeniesContent (IsUnread R.remaining self.old) (end_at R.remaining self.old) of_bytes len (cause_of e)) }
+            (λ e. DeniesContent (IsUnread R.remaining self.old) (end_at R.remaining self.old) of_bytes len (fault_of e)) }
     {
         let mut out = Vec::new(alloc);
         self.decoder
             .bytes_into_keeping(len, self.scratch, &mut out, &mut self.failure)?;
-        let _end = self.decoder.offset();
         Ok(out)
     }
 
@@ -83,12 +81,11 @@ impl<'a, R: Read> ByteSource<'a, R> {
         ensures ok { IfOk result (λ v. TakesContent (IsUnread R.remaining self.old)
             (IsUnread R.remaining self.new) of_text len (string_bytes v)) }
         ensures denied { IfErr result
-            (λ e. DeniesContent (IsUnread R.remaining self.old) (end_at R.remaining self.old) of_text len (cause_of e)) }
+            (λ e. DeniesContent (IsUnread R.remaining self.old) (end_at R.remaining self.old) of_text len (fault_of e)) }
     {
         let mut out = String::new(alloc);
         self.decoder
             .text_into_keeping(len, self.scratch, &mut out, &mut self.failure)?;
-        let _end = self.decoder.offset();
         Ok(out)
     }
 
@@ -103,7 +100,7 @@ impl<'a, R: Read> ByteSource<'a, R> {
         ensures ok { IfOk result (λ v. Reads (IsUnread R.remaining) self.old self.new
             (Some self.old.levels) taken_text (string_bytes v)) }
         ensures denied { IfErr result (λ e. Denies (IsUnread R.remaining) (end_at R.remaining) self.old
-            (Some self.old.levels) taken_text (cause_of e)) }
+            (Some self.old.levels) taken_text (fault_of e)) }
     {
         let (header, offset) = self.bare_head(false)?;
         match header {

@@ -6,8 +6,8 @@ ghost use Rattle.ciborium_ll.specs.Decoding.{HasSameReader};
 ghost use Rattle.ciborium_value.specs.Sources.{TakesOnly, read_as};
 ghost use Rattle.ciborium_value.specs.Taken.{taken_value};
 ghost use Rattle.ciborium_value.specs.View.{tree_of};
-ghost use Rattle.ciborium.specs.inner.ByteSources.{HasTaken, IsUnread, ReadsValue, StandsFor};
-ghost use Rattle.ciborium.specs.Errors.{cause_of};
+ghost use Rattle.ciborium.specs.inner.ByteSources.{HasTaken, IsUnread, ReadsValue, MeansTree};
+ghost use Rattle.ciborium.specs.Errors.{fault_of};
 ghost use Rattle.ciborium.specs.inner.ByteSources.{end_at, is_portable, weight_left};
 ghost use Rattle.ciborium.specs.inner.FrontItems.{Denies, Reads};
 
@@ -24,7 +24,7 @@ use std::io::{self, Read};
 // The value of a head that means the same wherever it stands.
 fn portable_value(header: Header) -> Option<Value>
     ensures { MatchOption result (is_portable header ≡ false)
-        (λ v. StandsFor header (tree_of v)) }
+        (λ v. MeansTree header (tree_of v)) }
 {
     match header {
         Header::Positive(n) => Some(Value::Integer(Integer::from(n))),
@@ -49,7 +49,7 @@ impl<'a, R: Read> ByteSource<'a, R> {
         ensures ok { IfOk result (λ v. Reads (IsUnread R.remaining) self.old self.new
             (Some self.old.levels) taken_value (tree_of v)) }
         ensures denied { IfErr result (λ e. Denies (IsUnread R.remaining) (end_at R.remaining) self.old
-            (Some self.old.levels) taken_value (cause_of e)) }
+            (Some self.old.levels) taken_value (fault_of e)) }
         ensures reads { ReadsValue R.remaining self.old self.new (read_as tree_of result) }
     {
         match self.pending.take() {

@@ -44,7 +44,7 @@ use Rattle.ciborium_callers.proofs.LoneValue.{single, all_one, within_both, lend
 use Rattle.ciborium_value.proofs.tree.Value.as_tag_mut.Met.{met}
 use Rattle.ciborium_callers.proofs.value_callers.lone_tag_mut.Code as code
 use Rattle.ciborium_callers.proofs.value_callers.lone_tag_mut.Statement.{statement}
-use Rattle.ciborium_value.specs.LentParts.{with_tag, LendsTag}
+use Rattle.ciborium_value.specs.LentParts.{value_with_tag, LendsTag}
 use Rattle.ciborium_value.specs.Tree as trees
 use Rattle.ciborium_value.specs.TreeVariants.{IsTagTree}
 use Rattle.ciborium_value.specs.Variants.{IsTag, IsTagOf}
@@ -108,9 +108,9 @@ lone_tag_mut_spec 𝓤 𝓛 𝓜 𝓡 wired =
     await ! tt $ pick ! (λ r. split ! $ split ! $ split ! $ move ! (2 ∷ []) $ peeks ! (Out κs) (Is (Out κs)) (shows 𝓛 (Out κs)) r (v ∷ []) (λ shape.
     let word = val_is κs r v shape in rewrite ! 0 (λ (u : Val). ‵ ((Out κs).own_val r (u ∷ []))) word refl $
     move ! (3 ∷ []) $ pick ! (λ ws. split3 ! $ drop ! $ move ! (1 ∷ []) $ split3 ! $ heard ! _ (λ of_tag. heard ! _ (λ no_tag. drop ! $ move ! (4 ∷ 0 ∷ []) $
-    use2 𝓛 (‵ (follows_both_if (Array R 0) u64 R γ (ghost_names_of r) (λ t w. with_tag x t w ∷ []) (x ∷ [])))
-    (within_both 𝓛 (Array R 0) R u64 R (with_tag x) x (λ w. w ∷ []) γ δ (ghost_names_of r)) $
-    rewrite ! 0 (λ (zs : List R.Denot). ‵ (follows_both_if (Array R 0) u64 R γ (ghost_names_of r) (λ t w. map (λ d. with_tag d t w) zs) zs)) (sym is_one) refl $
+    use2 𝓛 (‵ (follows_both_if (Array R 0) u64 R γ (ghost_names_of r) (λ t w. value_with_tag x t w ∷ []) (x ∷ [])))
+    (within_both 𝓛 (Array R 0) R u64 R (value_with_tag x) x (λ w. w ∷ []) γ δ (ghost_names_of r)) $
+    rewrite ! 0 (λ (zs : List R.Denot). ‵ (follows_both_if (Array R 0) u64 R γ (ghost_names_of r) (λ t w. map (λ d. value_with_tag d t w) zs) zs)) (sym is_one) refl $
     lands_as ! word refl (typed r) $ returns ! (look_at ! 0 refl) $ free_all ! refl $
     suffices ! _ (ends_at 𝓛 f.ended stayed c y (val r) r (tt, tt) (tt, tt)) $ keep ! (1 ∷ 2 ∷ 0 ∷ []) $
     nothing ! $ nothing ! $ fjoin ! $ join ! $ nothing ! $ move ! (2 ∷ 0 ∷ []) $ join ! $ join ! $ frame ! $ frame ! $

@@ -1,5 +1,5 @@
 use Rattle.std.proofs.Common.{length, refl, sym, ap, ◌∙◌, arith}
-use Rattle.ciborium_value.specs.Visits.{counted}
+use Rattle.ciborium_value.specs.Visits.{saturated}
 use Rattle.ciborium_value.proofs.Orders.TreeEncodings.{encoded_size-is, encoded_size-head, content_bytes-none, content_bytes-Array, content_bytes-Map, encodings-more-length, pair_encodings-more-length}
 use Rattle.ciborium_value.proofs.Trees.ProperValues.{AreProperTrees-more, AreProperTreePairs-more, is_proper-Bytes, is_proper-Text}
 use Rattle.ciborium_value.proofs.Orders.VisitCounts.{AddsVisits-then, trees_node_count-more, tree_pairs_node_count-more}
@@ -21,12 +21,12 @@ measure-returns-in-Integer-3-clause-size t c =
 
 pub measure-returns-in-Array-clause-size : goal.measure-returns-in-Array-clause-size
 measure-returns-in-Array-clause-size t c =
-    let behind = ap (λ b. counted (length b)) (content_bytes-Array _ _ c.in-Array.is) in
+    let behind = ap (λ b. saturated (length b)) (content_bytes-Array _ _ c.in-Array.is) in
     encoded_size-is _ _ _ _ _ _ c.visit.ensures.major c.visit.ensures.argument (c.head_size-head.ensures c.visit.result.major) (c.measure_items.ensures.size ∙ sym behind) c.saturating_add-in-Array.ensures
 
 pub measure-returns-in-Map-clause-size : goal.measure-returns-in-Map-clause-size
 measure-returns-in-Map-clause-size t c =
-    let behind = ap (λ b. counted (length b)) (content_bytes-Map _ _ c.in-Map.is) in
+    let behind = ap (λ b. saturated (length b)) (content_bytes-Map _ _ c.in-Map.is) in
     encoded_size-is _ _ _ _ _ _ c.visit.ensures.major c.visit.ensures.argument (c.head_size-head.ensures c.visit.result.major) (c.measure_pairs.ensures.size ∙ sym behind) c.saturating_add-in-Map.ensures
 
 pub measure_items-loop-item-preserved : goal.measure_items-loop-item-preserved

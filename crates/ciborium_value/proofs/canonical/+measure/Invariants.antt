@@ -2,14 +2,14 @@ use Rattle.std.proofs.Common.{◌≡◌, length, take}
 use Rattle.ciborium_value.specs.Counts.{trees_node_count, tree_pairs_node_count}
 use Rattle.ciborium_value.specs.ProperTrees.{AreProperTrees, AreProperTreePairs}
 use Rattle.ciborium_value.specs.View.{trees_of, tree_pairs_of}
-use Rattle.ciborium_value.specs.Visits.{AddsVisits, counted}
+use Rattle.ciborium_value.specs.Visits.{AddsVisits, saturated}
 use Rattle.ciborium_value.specs.inner.EncodedLists.{encodings, pair_encodings}
 use Rattle.ciborium_value.proofs.canonical.+measure.Given as goal
 
 -- the items so far are measured
 abbrev pub invariant-measure_items-loop-item : goal.invariant-measure_items-loop-item
 invariant-measure_items-loop-item l = record {
-  size : l.size ≡ counted (length (encodings (take l.item-index l.item-items)));
+  size : l.size ≡ saturated (length (encodings (take l.item-index l.item-items)));
   visits : AddsVisits (trees_node_count (trees_of (take l.item-index l.item-items))) l.fn.visits.count l.visits.count;
   proper : AreProperTrees (trees_of (take l.item-index l.item-items));
 }
@@ -17,7 +17,7 @@ invariant-measure_items-loop-item l = record {
 -- the pairs so far are measured
 abbrev pub invariant-measure_pairs-loop-pair : goal.invariant-measure_pairs-loop-pair
 invariant-measure_pairs-loop-pair l = record {
-  size : l.size ≡ counted (length (pair_encodings (take l.pair-index l.pair-items)));
+  size : l.size ≡ saturated (length (pair_encodings (take l.pair-index l.pair-items)));
   visits : AddsVisits (tree_pairs_node_count (tree_pairs_of (take l.pair-index l.pair-items))) l.fn.visits.count l.visits.count;
   proper : AreProperTreePairs (tree_pairs_of (take l.pair-index l.pair-items));
 }

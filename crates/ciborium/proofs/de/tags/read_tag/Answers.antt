@@ -1,6 +1,6 @@
 use Rattle.std.proofs.Common.{◌++◌, Some, Ok, Err, ap, sym, ◌∙◌, subst}
 use Rattle.std.proofs.lemmas.Result.{err_from_is_err_and}
-use Rattle.ciborium_ll.specs.Decoding.{IsUnread, with_left}
+use Rattle.ciborium_ll.specs.Decoding.{ReadsNothing, with_left}
 use Rattle.ciborium_ll.proofs.HeldBytes.{unread-with}
 use Rattle.ciborium.specs.inner.Parts.{IsFolding}
 use Rattle.ciborium.specs.Spelling.{head_fault}
@@ -75,8 +75,8 @@ returns-then-levels-eq0-clause-part g c =
 
 pub returns-clause-part : goal.returns-clause-part
 returns-clause-part g c =
-    let t = so-both g.R.Read.remaining c.args.decoder.now c.pull.new.decoder c.push.new.self (λ d e. PullsSo {E = Unit} Some d e (Ok c.in_ok-next.next)) (λ d e. IsUnread d e)
-    c.in_ok-next.ensures.head (so-unread g.R.Read.remaining c.pull.new.decoder c.push.new.self (λ d e. IsUnread d e) c.push.ensures.unread (λ u. unread-with c.pull.new.decoder c.push.new.self u c.push.ensures.unread)) in (
+    let t = so-both g.R.Read.remaining c.args.decoder.now c.pull.new.decoder c.push.new.self (λ d e. PullsSo {E = Unit} Some d e (Ok c.in_ok-next.next)) (λ d e. ReadsNothing d e)
+    c.in_ok-next.ensures.head (so-unread g.R.Read.remaining c.pull.new.decoder c.push.new.self (λ d e. ReadsNothing d e) c.push.ensures.unread (λ u. unread-with c.pull.new.decoder c.push.new.self u c.push.ensures.unread)) in (
       t.0,
       t.1,
       t.2,

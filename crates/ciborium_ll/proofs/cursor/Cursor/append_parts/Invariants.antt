@@ -1,7 +1,7 @@
 use Rattle.std.proofs.Common.{◌≡◌, ◌-◌}
 use Rattle.ciborium_ll.specs.Bytes.{greatest_offset}
 use Rattle.ciborium_ll.specs.inner.Cursors.{IsSameCursor, count_at, left_at}
-use Rattle.ciborium_ll.specs.Strings.{kind_of}
+use Rattle.ciborium_ll.specs.Strings.{string_kind_of}
 use Rattle.ciborium_ll.proofs.OpenStrings.{GoodParts}
 use Rattle.ciborium_ll.proofs.cursor.Cursor.append_parts.Given as goal
 
@@ -10,7 +10,7 @@ abbrev pub invariant-parts : goal.invariant-parts
 invariant-parts g l = record {
   same : IsSameCursor l.fn.self l.self;
   head : l.head ≡ count_at l.self;
-  good : GoodParts (kind_of l.kind) (left_at g.R.Read.remaining l.fn.self) (left_at g.R.Read.remaining l.self) (count_at l.fn.self) (count_at l.self) l.fn.out.items l.out.items;
+  good : GoodParts (string_kind_of l.kind) (left_at g.R.Read.remaining l.fn.self) (left_at g.R.Read.remaining l.self) (count_at l.fn.self) (count_at l.self) l.fn.out.items l.out.items;
 }
 
 abbrev pub decreases-parts : goal.decreases-parts

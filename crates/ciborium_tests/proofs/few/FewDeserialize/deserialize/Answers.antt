@@ -1,6 +1,6 @@
 -- Few numbers are read one by one; where five were read a further item is refused.
 use Rattle.std.proofs.Common.{arith, ◌≡◌, ◌+◌, ◌-◌, ◌++◌, suc, [], ◌∷◌, length, sym, subst}
-use Rattle.ciborium_value.specs.Sources.{Refuses, of_kind}
+use Rattle.ciborium_value.specs.Sources.{RefusesAhead, of_kind}
 use Rattle.ciborium_value.specs.Taken.{taken_byte}
 use Rattle.ciborium_value.specs.declared.kind.Kind.TheVariants as kinds
 use Rattle.ciborium_value.proofs.Writing.Progress.{exits}
@@ -13,7 +13,7 @@ pub returns-in_err-next-clause-refused : goal.returns-in_err-next-clause-refused
 returns-in_err-next-clause-refused g c =
     let e = g.S.Source.cause c.in_err-next.field-0.0 in
     let vs = c.loop-numbers.numbers.items in
-    exits _ c.in_err-next.field-0.0 (λ x. Refuses g.S.Source.stands_before c.args.source.now (taken_few 5 taken_byte) (g.S.Source.cause x)) c.from_residual-in_err-next.ensures.1
+    exits _ c.in_err-next.field-0.0 (λ x. RefusesAhead g.S.Source.stands_before c.args.source.now (taken_few 5 taken_byte) (g.S.Source.cause x)) c.from_residual-in_err-next.ensures.1
     (blames g.S.Source.stands_before e (so c.loop-numbers.invariant.inside (blames_next g.S.Source.stands_before g.S.Source.seq_stands (few_from taken_byte (5 - length vs) vs) e c.in_err-next.ensures.refused)))
 
 pub returns-then-len-ge-MOST-clause-refused : goal.returns-then-len-ge-MOST-clause-refused
@@ -21,7 +21,7 @@ returns-then-len-ge-MOST-clause-refused g c =
     let vs = c.loop-numbers.numbers.items in
     let full : 5 - length vs ≡ 0 = omega (arith, c.if-len-ge-MOST.true, c.len.ensures) in
     let inside = subst (λ n. Follows (IsBefore g.S.Source.stands_before c.args.source.now (taken_few 5 taken_byte)) (IsInside g.S.Source.stands_before g.S.Source.seq_stands c.loop-numbers.source c.loop-numbers.seq (few_from taken_byte n vs))) full c.loop-numbers.invariant.inside in
-    subst (Refuses g.S.Source.stands_before c.args.source.now (taken_few 5 taken_byte)) (sym c.refuse.ensures)
+    subst (RefusesAhead g.S.Source.stands_before c.args.source.now (taken_few 5 taken_byte)) (sym c.refuse.ensures)
     (blames g.S.Source.stands_before (of_kind kinds.Length) (so inside (few_refuses g.S.Source.stands_before g.S.Source.seq_stands taken_byte vs (rw c.if-branch.true at c.in_ok-next.ensures.ok))))
 
 pub returns-in_err-number-clause-refused : goal.returns-in_err-number-clause-refused
@@ -30,7 +30,7 @@ returns-in_err-number-clause-refused g c =
     let vs = c.loop-numbers.numbers.items in
     let room : 5 - length vs ≡ suc (5 - (length vs + 1)) = omega (arith, c.if-len-ge-MOST.false, c.len.ensures) in
     let inside = subst (λ n. Follows (IsBefore g.S.Source.stands_before c.args.source.now (taken_few 5 taken_byte)) (IsInside g.S.Source.stands_before g.S.Source.seq_stands c.loop-numbers.source c.loop-numbers.seq (few_from taken_byte n vs))) room c.loop-numbers.invariant.inside in
-    exits _ c.in_err-number.field-0.0 (λ x. Refuses g.S.Source.stands_before c.args.source.now (taken_few 5 taken_byte) (g.S.Source.cause x)) c.from_residual-in_err-number.ensures.1
+    exits _ c.in_err-number.field-0.0 (λ x. RefusesAhead g.S.Source.stands_before c.args.source.now (taken_few 5 taken_byte) (g.S.Source.cause x)) c.from_residual-in_err-number.ensures.1
     (blames g.S.Source.stands_before e (so inside (few_blames g.S.Source.stands_before g.S.Source.seq_stands taken_byte (5 - (length vs + 1)) vs e (rw c.if-branch.true at c.in_ok-next.ensures.ok) c.in_err-number.ensures.refused)))
 
 pub loop-numbers-preserved : goal.loop-numbers-preserved

@@ -2,7 +2,7 @@
 use Rattle.std.proofs.Common.{◌≡◌, map, sym, ap, ◌∙◌, subst}
 use Rattle.ciborium_value.specs.Ahead.{counted}
 use Rattle.ciborium_value.specs.Taken.{gives, taken_seq, untagged, deeper}
-use Rattle.ciborium_value.specs.inner.TreeSources.{IsPending, IsDue}
+use Rattle.ciborium_value.specs.inner.TreeSources.{IsPending, IsDueValue}
 use Rattle.ciborium_value.specs.TreeAnswers.{value_item}
 use Rattle.ciborium_value.proofs.Sources.TreeReading.{seq_of}
 use Rattle.ciborium_value.proofs.deserialized.TreeSourceSource.begin_seq.Goals as goal
@@ -14,5 +14,5 @@ returns-in-Array-clause-ok c l i f st =
       map value_item c.in-Array.values.items,
       ap (λ x. taken_seq x i) st.0 ∙ (seq_of c.skip_tags.result.now c.in-Array.values i c.in-Array.is (c.skip_tags.ensures.item ∙ ap untagged here) ∙ ap (λ x. gives (deeper x, map value_item c.in-Array.values.items)) (sym st.0)),
       (ap deeper st.0, tt),
-      (st.0, ap (map value_item) c.deref.ensures.value, subst (λ o. IsDue o f) (sym c.take-due.ensures.value) st.1.1),
+      (st.0, ap (map value_item) c.deref.ensures.value, subst (λ o. IsDueValue o f) (sym c.take-due.ensures.value) st.1.1),
     )

@@ -1,7 +1,7 @@
 use Rattle.std.proofs.Common.{◌≡◌, ◌≤◌}
 use Rattle.ciborium_value.specs.Counts.{node_count}
 use Rattle.ciborium_value.specs.Taken.{untagged}
-use Rattle.ciborium_value.specs.inner.TreeSources.{weight}
+use Rattle.ciborium_value.specs.inner.TreeSources.{value_weight}
 use Rattle.ciborium_value.specs.TreeAnswers.{value_item}
 use Rattle.ciborium_value.specs.View.{tree_of}
 use Rattle.ciborium_value.proofs.deserialized.parts.skip_tags.Given as goal
@@ -9,7 +9,7 @@ use Rattle.ciborium_value.proofs.deserialized.parts.skip_tags.Given as goal
 abbrev pub invariant-loop-bare : goal.invariant-loop-bare
 invariant-loop-bare l = record {
   item : untagged (value_item l.bare) ≡ untagged (value_item l.value);
-  less : weight l.bare ≤ weight l.value;
+  less : value_weight l.bare ≤ value_weight l.value;
 }
 
 abbrev pub decreases-loop-bare : goal.decreases-loop-bare

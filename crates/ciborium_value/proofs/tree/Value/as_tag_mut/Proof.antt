@@ -46,7 +46,7 @@ use Rattle.ciborium_value.proofs.Trees.Views.{tree_of-Tag}
 use Rattle.ciborium_value.proofs.tree.Value.as_tag_mut.Code as code
 use Rattle.ciborium_value.proofs.tree.Value.as_tag_mut.Statement.{statement}
 use Rattle.ciborium_value.proofs.tree.accessors.lend_content.Met.{met}
-use Rattle.ciborium_value.specs.LentParts.{with_tag}
+use Rattle.ciborium_value.specs.LentParts.{value_with_tag}
 use Rattle.ciborium_value.specs.Tree as trees
 use Rattle.ciborium_value.specs.Tree.{Tree}
 use Rattle.ciborium_value.specs.TreeVariants.{IsTagTree}
@@ -143,7 +143,7 @@ as_tag_mut_spec 𝓤 𝓛 𝓜 𝓡 wired =
           await ! tt $ pick ! (λ r. split ! $ split ! $ split ! $ move ! (2 ∷ []) $ fsplit ! $ feq_l ! (λ is_ref. move ! (3 ∷ []) $ pick ! (λ ws. split3 ! $ drop ! $ move ! (1 ∷ []) $ heard ! _ (λ same.
           -- [the way of the box's name; the result's name and borrow; the token; true; the way of the names; the number's reference]
           move ! (4 ∷ 0 ∷ []) $ use2 𝓛 (‵ (follows_both R u64 R γ γs.0 r.ghost_name (λ x w. Tag x (with_value box w)))) (then₂ 𝓛 R u64 B R Tag (with_value box) γ γs.0 γs.1 r.ghost_name) $
-          rewrite ! 0 (λ (F : ℕ → R.Denot → R.Denot). ‵ (follows_both R u64 R γ γs.0 r.ghost_name F)) (λ i x w. (tag_with t box x w ∙ ap (λ (d : R.Denot). with_tag d x w) (sym is_tag)) i) refl $
+          rewrite ! 0 (λ (F : ℕ → R.Denot → R.Denot). ‵ (follows_both R u64 R γ γs.0 r.ghost_name F)) (λ i x w. (tag_with t box x w ∙ ap (λ (d : R.Denot). value_with_tag d x w) (sym is_tag)) i) refl $
           let n : MutBor ℕ = record { ref_ptr = (b, o + 8); ghost_name = γs.0; now = t } in
           lands_as ! (ap only is_ref) refl (tt, tt) $
           sets ! (agg ! (and_then ! (get ! refl) (and_then ! (get ! refl) (no_more !)))) refl (tt, (tt, (tt, tt))) $

@@ -1,5 +1,4 @@
-use Rattle.std.proofs.Common.{ap, ◌∙◌, arith, subst}
-use Rattle.ciborium_ll.specs.Decoding.{next_offset}
+use Rattle.std.proofs.Common.{arith, subst}
 use Rattle.ciborium.proofs.Payloads.LoneCharacters.{just-taken}
 use Rattle.ciborium.proofs.Payloads.ReadDigits.{fill-fewer, fill-outside}
 use Rattle.ciborium_ll.proofs.HeldBytes.{same-name}
@@ -13,9 +12,7 @@ returns-clause-ok g c = just-taken Unit g.R.Read.remaining c.args.self.now.decod
 
 pub returns-clause-fewer : goal.returns-clause-fewer
 returns-clause-fewer g c =
-    let fits = c.offset-end.type_inv in
-    let at = c.offset-end.ensures ∙ ap (next_offset c.read_exact_keeping.new.self.window.count) c.read_exact_keeping.ensures.none_pushed in
-    fill-fewer Unit g.R.Read.remaining c.args.self.now.decoder c.read_exact_keeping.new.self c.read_exact_keeping.new.buffer (omega (arith, fits, at)) c.in_ok-read_exact_keeping.ensures.taken
+    fill-fewer Unit g.R.Read.remaining c.args.self.now.decoder c.read_exact_keeping.new.self c.read_exact_keeping.new.buffer c.in_ok-read_exact_keeping.ensures.taken
 
 pub returns-in_err-read_exact_keeping-clause-only : goal.returns-in_err-read_exact_keeping-clause-only
 returns-in_err-read_exact_keeping-clause-only g c = takes-only g.R.Read.remaining c.args.self.now.decoder c.read_exact_keeping.new.self _ (same-name c.args.self.now.decoder c.read_exact_keeping.new.self c.in_err-read_exact_keeping.ensures.same_reader) c.in_err-read_exact_keeping.ensures.taken

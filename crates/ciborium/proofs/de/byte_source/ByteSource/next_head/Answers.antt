@@ -1,12 +1,12 @@
 use Rattle.std.proofs.Common.{◌∙◌, sym, subst, ◌≡◌, arith, ap}
 use Rattle.std.proofs.lemmas.Result.{err_from_is_err_and}
 use Rattle.ciborium.specs.inner.ByteSources.{IsUnreadBy, bytes_weight, weight_left, known_end}
-use Rattle.ciborium.specs.Errors.{cause_of}
+use Rattle.ciborium.specs.Errors.{fault_of}
 use Rattle.ciborium.proofs.Items.FrontReads.{ahead-unpushed, counted-pending, counted-pulled, fewer-bytes, head-outside, weighs-none}
 use Rattle.ciborium_ll.specs.Decoding.{left_of}
 use Rattle.ciborium.proofs.Items.TakenOnly.{takes-only}
 use Rattle.ciborium_ll.proofs.HeldBytes.{same-name}
-use Rattle.ciborium_value.specs.Sources.{IsOutside}
+use Rattle.ciborium_value.specs.Sources.{IsOutsideFault}
 use Rattle.ciborium.specs.Errors.{from_ll}
 use Rattle.ciborium.proofs.de.byte_source.ByteSource.next_head.Goals as goal
 
@@ -14,7 +14,7 @@ pub returns-in_err-header-clause-denied : goal.returns-in_err-header-clause-deni
 returns-in_err-header-clause-denied g c =
     let exit = err_from_is_err_and c.from_residual.result c.from_residual.ensures.1 in
     let d = c.args.self.now.decoder in
-    rw (exit.1, exit.2) (λ b x y h u s e there. subst (λ n. IsOutside n (cause_of (from_ll c.in_err-header.field-0.0))) (sym (ap (λ o. known_end o d.window.count) (subst (λ o. IsUnreadBy g.R.Read.remaining d o b) c.in_default.is u)))
+    rw (exit.1, exit.2) (λ b x y h u s e there. subst (λ n. IsOutsideFault n (fault_of (from_ll c.in_err-header.field-0.0))) (sym (ap (λ o. known_end o d.window.count) (subst (λ o. IsUnreadBy g.R.Read.remaining d o b) c.in_default.is u)))
     (head-outside (left_of g.R.Read.remaining c.pull_next_keeping.new.self) c.in_err-header.field-0.0 b x y d.window.count h s e there
     (c.in_err-header.ensures.ahead b d.window.count (ahead-unpushed g.R.Read.remaining d b c.args.self.now.unpushed (subst (λ o. IsUnreadBy g.R.Read.remaining d o b) c.in_default.is u)))))
 

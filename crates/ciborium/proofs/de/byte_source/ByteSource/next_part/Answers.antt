@@ -5,8 +5,8 @@ use Rattle.std.proofs.lemmas.Result.{err_from_is_err_and}
 use Rattle.ciborium_ll.specs.declared.header.Header.TheVariants as header
 use Rattle.ciborium_ll.specs.Header.{SpellsHeader}
 use Rattle.ciborium.specs.declared.de.byte_source.Left.TheVariants as left
-use Rattle.ciborium.specs.inner.ByteSources.{IsUnread, IsUnreadBy, bytes_weight, weight, weight_left}
-use Rattle.ciborium.specs.Errors.{cause_of}
+use Rattle.ciborium.specs.inner.ByteSources.{IsUnread, IsUnreadBy, bytes_weight, head_weight, weight_left}
+use Rattle.ciborium.specs.Errors.{fault_of}
 use Rattle.ciborium.specs.inner.FrontItems.{TakesHead}
 use Rattle.ciborium.proofs.Containers.NextParts.{aside-unread, goes-bytes, goes-counted, goes-open, leaves-counted, leaves-open, less-bytes, less-counted, less-open, is-none, no-next, nothing-allowed, nothing-open, wide, wide-head, leaves-bytes}
 use Rattle.ciborium.proofs.de.byte_source.ByteSource.next_part.Goals as goal
@@ -29,12 +29,12 @@ returns-else-n-eq0-clause-took g c =
 pub returns-in_err-header-in-Open-clause-refused : goal.returns-in_err-header-in-Open-clause-refused
 returns-in_err-header-in-Open-clause-refused g c =
     let exit = err_from_is_err_and c.from_residual.result c.from_residual.ensures.1 in
-    rw (exit.1, exit.2) (no-next g.R.Read.remaining c.args.self.now c.args.seq.now (cause_of c.in_err-header-in-Open.field-0.0) c.in-Open.is c.in_err-header-in-Open.ensures.denied)
+    rw (exit.1, exit.2) (no-next g.R.Read.remaining c.args.self.now c.args.seq.now (fault_of c.in_err-header-in-Open.field-0.0) c.in-Open.is c.in_err-header-in-Open.ensures.denied)
 
 pub returns-in-Break-clause-ok : goal.returns-in-Break-clause-ok
 returns-in-Break-clause-ok g c =
     leaves-open g.R.Read.remaining c.args.self.now c.next_head.new.self (record c.next_head.new.self { levels = c.args.seq.now.levels }) c.args.seq.now c.in-Open.is (c.in_ok-header-in-Open.ensures.same_reader, c.in_ok-header-in-Open.ensures.only)
-    (subst (λ k. bytes_weight c.next_head.new.self + weight k ≤ weight_left c.args.self.now) c.in-Break.is c.in_ok-header-in-Open.ensures.fewer) (subst (TakesHead (IsUnread g.R.Read.remaining) c.args.self.now c.next_head.new.self) c.in-Break.is c.in_ok-header-in-Open.ensures.head) refl c.in_ok-header-in-Open.ensures.pending (λ y u. u)
+    (subst (λ k. bytes_weight c.next_head.new.self + head_weight k ≤ weight_left c.args.self.now) c.in-Break.is c.in_ok-header-in-Open.ensures.fewer) (subst (TakesHead (IsUnread g.R.Read.remaining) c.args.self.now c.next_head.new.self) c.in-Break.is c.in_ok-header-in-Open.ensures.head) refl c.in_ok-header-in-Open.ensures.pending (λ y u. u)
 
 pub returns-in-Break-clause-took : goal.returns-in-Break-clause-took
 returns-in-Break-clause-took g c =

@@ -7,7 +7,7 @@ use Rattle.ciborium_value.specs.Sources.{of_kind, of_nesting}
 use Rattle.ciborium_value.specs.Taken.{gives, taken_seq}
 use Rattle.ciborium_value.specs.declared.kind.Kind.TheVariants as kinds
 use Rattle.ciborium.specs.inner.ByteSources.{IsUnread, end_at}
-use Rattle.ciborium.specs.Errors.{cause_of}
+use Rattle.ciborium.specs.Errors.{fault_of}
 use Rattle.ciborium.specs.inner.FrontItems.{Denies}
 use Rattle.ciborium.specs.inner.Skips.{TakesBare}
 use Rattle.ciborium.proofs.Containers.EnteredContainers.{array-entered, array-nests, bytes-entered, bytes-had, seq-given, seq-other}
@@ -19,7 +19,7 @@ use Rattle.ciborium.proofs.de.byte_source.ByteSource.open_seq.Goals as goal
 pub returns-in_err-header-clause-denied : goal.returns-in_err-header-clause-denied
 returns-in_err-header-clause-denied g c =
     let exit = err_from_is_err_and c.from_residual.result c.from_residual.ensures.1 in
-    rw (exit.1, exit.2) (denies-of-item (IsUnread g.R.Read.remaining) (end_at g.R.Read.remaining) (Some c.args.self.now.levels) taken_seq c.args.self.now (cause_of c.in_err-header.field-0.0) c.in_err-header.ensures.denied)
+    rw (exit.1, exit.2) (denies-of-item (IsUnread g.R.Read.remaining) (end_at g.R.Read.remaining) (Some c.args.self.now.levels) taken_seq c.args.self.now (fault_of c.in_err-header.field-0.0) c.in_err-header.ensures.denied)
 
 pub returns-in_ok-seq-in-Array-clause-ok : goal.returns-in_ok-seq-in-Array-clause-ok
 returns-in_ok-seq-in-Array-clause-ok g c =
@@ -33,7 +33,7 @@ returns-in_err-seq-in-Array-clause-denied g c =
     let exit = err_from_is_err_and c.from_residual-in_err-seq-in-Array.result c.from_residual-in_err-seq-in-Array.ensures.1 in
     let U = IsUnread g.R.Read.remaining in
     let l = Some c.args.self.now.levels in
-    let fault : cause_of c.in_err-seq-in-Array.field-0.0 ≡ of_nesting = ap cause_of c.in_err-seq-in-Array.ensures.err in
+    let fault : fault_of c.in_err-seq-in-Array.field-0.0 ≡ of_nesting = ap fault_of c.in_err-seq-in-Array.ensures.err in
     rw (exit.1, exit.2) (subst (λ f. Denies U (end_at g.R.Read.remaining) c.args.self.now l taken_seq f) (sym fault) (denies-bare U false (header.Array c.in-Array.count) l taken_seq (end_at g.R.Read.remaining) c.args.self.now c.bare_head.new.self of_nesting
     (subst (TakesBare U c.args.self.now c.bare_head.new.self false) c.in-Array.is c.in_ok-header.ensures.head) (array-nests c.args.self.now.levels c.in-Array.count (sym c.in_ok-header.ensures.levels ∙ c.in_err-seq-in-Array.ensures.none))))
 
@@ -47,8 +47,8 @@ returns-in_ok-seq-in-Bytes-clause-ok g c =
 pub returns-in_err-seq-in-Bytes-clause-denied : goal.returns-in_err-seq-in-Bytes-clause-denied
 returns-in_err-seq-in-Bytes-clause-denied g c =
     let exit = err_from_is_err_and c.from_residual-in_err-seq-in-Bytes.result c.from_residual-in_err-seq-in-Bytes.ensures.1 in
-    rw (exit.1, exit.2) (denies-of-item (IsUnread g.R.Read.remaining) (end_at g.R.Read.remaining) (Some c.args.self.now.levels) taken_seq c.args.self.now (cause_of c.in_err-seq-in-Bytes.field-0.0)
-    (denies-content (IsUnread g.R.Read.remaining) (end_at g.R.Read.remaining) false c.args.self.now c.bare_head.new.self of_bytes c.in-Bytes.len (cause_of c.in_err-seq-in-Bytes.field-0.0) (same-end g.R.Read.remaining c.args.self.now c.bare_head.new.self c.in_ok-header.ensures.only)
+    rw (exit.1, exit.2) (denies-of-item (IsUnread g.R.Read.remaining) (end_at g.R.Read.remaining) (Some c.args.self.now.levels) taken_seq c.args.self.now (fault_of c.in_err-seq-in-Bytes.field-0.0)
+    (denies-content (IsUnread g.R.Read.remaining) (end_at g.R.Read.remaining) false c.args.self.now c.bare_head.new.self of_bytes c.in-Bytes.len (fault_of c.in_err-seq-in-Bytes.field-0.0) (same-end g.R.Read.remaining c.args.self.now c.bare_head.new.self c.in_ok-header.ensures.only)
     (subst (TakesBare (IsUnread g.R.Read.remaining) c.args.self.now c.bare_head.new.self false) c.in-Bytes.is c.in_ok-header.ensures.head) c.in_err-seq-in-Bytes.ensures.denied))
 
 pub returns-in_default-clause-denied : goal.returns-in_default-clause-denied

@@ -2,11 +2,11 @@ use Rattle.std.proofs.Common.{◌≡◌, ◌≢◌, ap, ◌∙◌, sym, Some, fa
 use Rattle.std.proofs.lemmas.Result.{err_from_is_err_and}
 use Rattle.ciborium_ll.specs.declared.header.Header.TheVariants as header
 use Rattle.ciborium_ll.specs.StringRefusal.{of_text}
-use Rattle.ciborium_value.specs.Sources.{of_kind, of_nesting, IsOutside}
+use Rattle.ciborium_value.specs.Sources.{of_kind, of_nesting, IsOutsideFault}
 use Rattle.ciborium_value.specs.Taken.{deeper, taken_name, taken_variant}
 use Rattle.ciborium_value.specs.declared.kind.Kind.TheVariants as kinds
 use Rattle.ciborium.specs.inner.ByteSources.{IsUnread, end_at, reader_of}
-use Rattle.ciborium.specs.Errors.{cause_of}
+use Rattle.ciborium.specs.Errors.{fault_of}
 use Rattle.ciborium.specs.inner.FrontItems.{Denies, Reads}
 use Rattle.ciborium.specs.inner.Skips.{TakesBare}
 use Rattle.ciborium.proofs.Containers.EnteredContainers.{deeper-is, same-unread}
@@ -19,14 +19,14 @@ use Rattle.ciborium.proofs.de.byte_source.ByteSource.open_variant.Goals as goal
 pub returns-in_err-header-clause-denied : goal.returns-in_err-header-clause-denied
 returns-in_err-header-clause-denied g c =
     let exit = err_from_is_err_and c.from_residual.result c.from_residual.ensures.1 in
-    rw (exit.1, exit.2) (denies-of-item (IsUnread g.R.Read.remaining) (end_at g.R.Read.remaining) (Some c.args.self.now.levels) taken_variant c.args.self.now (cause_of c.in_err-header.field-0.0) c.in_err-header.ensures.denied)
+    rw (exit.1, exit.2) (denies-of-item (IsUnread g.R.Read.remaining) (end_at g.R.Read.remaining) (Some c.args.self.now.levels) taken_variant c.args.self.now (fault_of c.in_err-header.field-0.0) c.in_err-header.ensures.denied)
 
 pub returns-in_err-level-in-Text-clause-denied : goal.returns-in_err-level-in-Text-clause-denied
 returns-in_err-level-in-Text-clause-denied g c =
     let exit = err_from_is_err_and c.from_residual-in_err-level-in-Text.result c.from_residual-in_err-level-in-Text.ensures.1 in
     let U = IsUnread g.R.Read.remaining in
     let l = Some c.args.self.now.levels in
-    let fault : cause_of c.in_err-level-in-Text.field-0.0 ≡ of_nesting = ap cause_of c.in_err-level-in-Text.ensures.err in
+    let fault : fault_of c.in_err-level-in-Text.field-0.0 ≡ of_nesting = ap fault_of c.in_err-level-in-Text.ensures.err in
     rw (exit.1, exit.2) (subst (Denies U (end_at g.R.Read.remaining) c.args.self.now l taken_variant) (sym fault) (denies-bare U false (header.Text c.in-Text.len) l taken_variant (end_at g.R.Read.remaining) c.args.self.now c.bare_head.new.self of_nesting
     (subst (TakesBare U c.args.self.now c.bare_head.new.self false) c.in-Text.is c.in_ok-header.ensures.head) (text-nests c.args.self.now.levels c.in-Text.len (sym c.in_ok-header.ensures.levels ∙ c.in_err-level-in-Text.ensures.none))))
 
@@ -35,7 +35,7 @@ returns-in_err-level-in-Map-clause-denied g c =
     let exit = err_from_is_err_and c.from_residual-in_err-level-in-Map.result c.from_residual-in_err-level-in-Map.ensures.1 in
     let U = IsUnread g.R.Read.remaining in
     let l = Some c.args.self.now.levels in
-    let fault : cause_of c.in_err-level-in-Map.field-0.0 ≡ of_nesting = ap cause_of c.in_err-level-in-Map.ensures.err in
+    let fault : fault_of c.in_err-level-in-Map.field-0.0 ≡ of_nesting = ap fault_of c.in_err-level-in-Map.ensures.err in
     rw (exit.1, exit.2) (subst (Denies U (end_at g.R.Read.remaining) c.args.self.now l taken_variant) (sym fault) (denies-bare U false (header.Map (Some 1)) l taken_variant (end_at g.R.Read.remaining) c.args.self.now c.bare_head.new.self of_nesting
     (subst (TakesBare U c.args.self.now c.bare_head.new.self false) (c.in-Map.is ∙ ap header.Map c.if-not-is_one.ensures) c.in_ok-header.ensures.head) (pair-nests c.args.self.now.levels (sym c.in_ok-header.ensures.levels ∙ c.in_err-level-in-Map.ensures.none))))
 
@@ -43,12 +43,12 @@ pub returns-in_err-name-in-Text-clause-denied : goal.returns-in_err-name-in-Text
 returns-in_err-name-in-Text-clause-denied g c =
     let exit = err_from_is_err_and c.from_residual-in_err-name-in-Text.result c.from_residual-in_err-name-in-Text.ensures.1 in
     let U = IsUnread g.R.Read.remaining in
-    let fault = cause_of c.in_err-name-in-Text.field-0.0 in
+    let fault = fault_of c.in_err-name-in-Text.field-0.0 in
     let level = c.in_ok-level-in-Text.ensures in
     rw (exit.1, exit.2) (denies-of-item U (end_at g.R.Read.remaining) (Some c.args.self.now.levels) taken_variant c.args.self.now fault
     (denies-content U (end_at g.R.Read.remaining) false c.args.self.now c.bare_head.new.self of_text c.in-Text.len fault (same-end g.R.Read.remaining c.args.self.now c.bare_head.new.self c.in_ok-header.ensures.only)
     (subst (TakesBare U c.args.self.now c.bare_head.new.self false) c.in-Text.is c.in_ok-header.ensures.head)
-    (λ y x s z payload u hd sp e. subst (λ d. IsOutside (reader_of g.R.Read.remaining d).1 fault) level.decoder
+    (λ y x s z payload u hd sp e. subst (λ d. IsOutsideFault (reader_of g.R.Read.remaining d).1 fault) level.decoder
     (c.in_err-name-in-Text.ensures.denied y x s z payload (same-unread g.R.Read.remaining c.bare_head.new.self c.take_level.new.self level.decoder level.pending y u) hd sp e))))
 
 pub returns-in_ok-name-in-Text-clause-ok : goal.returns-in_ok-name-in-Text-clause-ok
@@ -80,7 +80,7 @@ pub returns-in_err-name-in-Map-clause-denied : goal.returns-in_err-name-in-Map-c
 returns-in_err-name-in-Map-clause-denied g c =
     let exit = err_from_is_err_and c.from_residual-in_err-name-in-Map.result c.from_residual-in_err-name-in-Map.ensures.1 in
     let U = IsUnread g.R.Read.remaining in
-    let fault = cause_of c.in_err-name-in-Map.field-0.0 in
+    let fault = fault_of c.in_err-name-in-Map.field-0.0 in
     let level = c.in_ok-level-in-Map.ensures in
     let less = level.some.1 in
     let same = c.in_ok-header.ensures.levels in

@@ -6,7 +6,7 @@ use Rattle.ciborium_value.specs.Sources.{of_kind}
 use Rattle.ciborium_value.specs.Taken.{boolean_of, taken_boolean}
 use Rattle.ciborium_value.specs.declared.kind.Kind.TheVariants as kinds
 use Rattle.ciborium.specs.inner.ByteSources.{IsUnread, end_at}
-use Rattle.ciborium.specs.Errors.{cause_of}
+use Rattle.ciborium.specs.Errors.{fault_of}
 use Rattle.ciborium.specs.inner.Skips.{TakesBare}
 use Rattle.ciborium.proofs.Items.BareScalars.{boolean-gives, boolean-none, boolean-other}
 use Rattle.ciborium.proofs.Items.SkippedTags.{denies-bare, denies-of-item, reads-whole}
@@ -15,7 +15,7 @@ use Rattle.ciborium.proofs.de.byte_source.ByteSource.read_boolean.Goals as goal
 pub returns-in_err-header-clause-denied : goal.returns-in_err-header-clause-denied
 returns-in_err-header-clause-denied g c =
     let exit = err_from_is_err_and c.from_residual.result c.from_residual.ensures.1 in
-    rw (exit.1, exit.2) (denies-of-item (IsUnread g.R.Read.remaining) (end_at g.R.Read.remaining) (Some c.args.self.now.levels) taken_boolean c.args.self.now (cause_of c.in_err-header.field-0.0) c.in_err-header.ensures.denied)
+    rw (exit.1, exit.2) (denies-of-item (IsUnread g.R.Read.remaining) (end_at g.R.Read.remaining) (Some c.args.self.now.levels) taken_boolean c.args.self.now (fault_of c.in_err-header.field-0.0) c.in_err-header.ensures.denied)
 
 pub returns-then-number-eq-FALSE-clause-ok : goal.returns-then-number-eq-FALSE-clause-ok
 returns-then-number-eq-FALSE-clause-ok g c =

@@ -1,9 +1,9 @@
 use Rattle.std.proofs.Common.{◌≡◌, Bool, true, false, MatchBool, Some, refl, sym, ◌∙◌, subst, arith}
 use Rattle.std.proofs.lemmas.Result.{err_from_is_err_and}
-use Rattle.ciborium_value.specs.Sources.{GoesOn, Leaves, OwesLess, OwesNothing, Takes, TakesTo}
+use Rattle.ciborium_value.specs.Sources.{GoesOn, Leaves, OwesLess, OwesNothing, TakesAhead, TakesTo}
 use Rattle.ciborium_value.specs.Taken.{taken_byte, taken_integer}
-use Rattle.ciborium.specs.inner.ByteSources.{IsUnread, Owes, SeqStands, StandsBefore}
-use Rattle.ciborium.specs.Errors.{cause_of}
+use Rattle.ciborium.specs.inner.ByteSources.{IsUnread, SeqOwes, SeqStands, StandsBefore}
+use Rattle.ciborium.specs.Errors.{fault_of}
 use Rattle.ciborium.proofs.Containers.ByteItems.{ReadsPartly, byte-refuses, byte-takes, owes-end, owes-more, owes-none, partly-end, partly-fault, partly-more, partly-next-fault, partly-none, range-refuses, refuses-denied, takes-read, took-read}
 use Rattle.ciborium.proofs.de.byte_source.ByteSource.read_byte_items.Goals as goal
 
@@ -25,7 +25,7 @@ items-init g c = record {
 pub returns-in_err-goes_on-clause-refused : goal.returns-in_err-goes_on-clause-refused
 returns-in_err-goes_on-clause-refused g c =
     let exit = err_from_is_err_and c.from_residual.result c.from_residual.ensures.1 in
-    rw (exit.1, exit.2) (partly-next-fault g.R.Read.remaining taken_byte c.args.self.now c.args.seq c.items.self c.items.left c.items.bytes.items (cause_of c.in_err-goes_on.field-0.0) c.items.invariant.read c.in_err-goes_on.ensures.refused)
+    rw (exit.1, exit.2) (partly-next-fault g.R.Read.remaining taken_byte c.args.self.now c.args.seq c.items.self c.items.left c.items.bytes.items (fault_of c.in_err-goes_on.field-0.0) c.items.invariant.read c.in_err-goes_on.ensures.refused)
 
 pub returns-then-not-goes_on-clause-ok : goal.returns-then-not-goes_on-clause-ok
 returns-then-not-goes_on-clause-ok g c =
@@ -36,13 +36,13 @@ returns-then-not-goes_on-clause-ok g c =
 pub returns-then-not-goes_on-clause-took : goal.returns-then-not-goes_on-clause-took
 returns-then-not-goes_on-clause-took g c =
     owes-end g.R.Read.remaining taken_byte c.args.self.now c.args.seq c.items.self c.next_part.new.self c.items.left c.items.invariant.owes
-    (no_more (TakesTo (IsUnread g.R.Read.remaining) c.items.self c.next_part.new.self (OwesLess Owes c.items.left c.next_part.new.seq)) (TakesTo (IsUnread g.R.Read.remaining) c.items.self c.next_part.new.self (OwesNothing Owes c.items.left))
+    (no_more (TakesTo (IsUnread g.R.Read.remaining) c.items.self c.next_part.new.self (OwesLess SeqOwes c.items.left c.next_part.new.seq)) (TakesTo (IsUnread g.R.Read.remaining) c.items.self c.next_part.new.self (OwesNothing SeqOwes c.items.left))
     c.in_ok-goes_on.goes_on c.if-not-goes_on.true c.in_ok-goes_on.ensures.took)
 
 pub returns-in_err-number-clause-refused : goal.returns-in_err-number-clause-refused
 returns-in_err-number-clause-refused g c =
     let exit = err_from_is_err_and c.from_residual-in_err-number.result c.from_residual-in_err-number.ensures.1 in
-    let fault = cause_of c.in_err-number.field-0.0 in
+    let fault = fault_of c.in_err-number.field-0.0 in
     let goes = yes (GoesOn (StandsBefore g.R.Read.remaining) SeqStands c.items.self c.next_part.new.self c.items.left c.next_part.new.seq) (Leaves (StandsBefore g.R.Read.remaining) SeqStands c.items.self c.next_part.new.self c.items.left)
     c.in_ok-goes_on.goes_on c.if-not-goes_on.false c.in_ok-goes_on.ensures.ok in
     rw (exit.1, exit.2) (partly-fault g.R.Read.remaining taken_byte c.args.self.now c.args.seq c.items.self c.next_part.new.self c.items.left c.next_part.new.seq c.items.bytes.items fault c.items.invariant.read goes
@@ -51,7 +51,7 @@ returns-in_err-number-clause-refused g c =
 pub returns-in_err-byte-clause-refused : goal.returns-in_err-byte-clause-refused
 returns-in_err-byte-clause-refused g c =
     let exit = err_from_is_err_and c.from_residual-in_err-byte.result c.from_residual-in_err-byte.ensures.1 in
-    let fault = cause_of c.in_err-byte.field-0.0 in
+    let fault = fault_of c.in_err-byte.field-0.0 in
     let read = c.in_ok-number.ensures in
     let goes = yes (GoesOn (StandsBefore g.R.Read.remaining) SeqStands c.items.self c.next_part.new.self c.items.left c.next_part.new.seq) (Leaves (StandsBefore g.R.Read.remaining) SeqStands c.items.self c.next_part.new.self c.items.left)
     c.in_ok-goes_on.goes_on c.if-not-goes_on.false c.in_ok-goes_on.ensures.ok in
@@ -64,9 +64,9 @@ items-preserved g c =
     let read = c.in_ok-number.ensures in
     let goes = yes (GoesOn (StandsBefore g.R.Read.remaining) SeqStands c.items.self c.next_part.new.self c.items.left c.next_part.new.seq) (Leaves (StandsBefore g.R.Read.remaining) SeqStands c.items.self c.next_part.new.self c.items.left)
     c.in_ok-goes_on.goes_on c.if-not-goes_on.false c.in_ok-goes_on.ensures.ok in
-    let less = yes (TakesTo (IsUnread g.R.Read.remaining) c.items.self c.next_part.new.self (OwesLess Owes c.items.left c.next_part.new.seq)) (TakesTo (IsUnread g.R.Read.remaining) c.items.self c.next_part.new.self (OwesNothing Owes c.items.left))
+    let less = yes (TakesTo (IsUnread g.R.Read.remaining) c.items.self c.next_part.new.self (OwesLess SeqOwes c.items.left c.next_part.new.seq)) (TakesTo (IsUnread g.R.Read.remaining) c.items.self c.next_part.new.self (OwesNothing SeqOwes c.items.left))
     c.in_ok-goes_on.goes_on c.if-not-goes_on.false c.in_ok-goes_on.ensures.took in
-    let takes : Takes (StandsBefore g.R.Read.remaining) c.next_part.new.self c.read_integer.new.self taken_byte c.in_ok-byte.byte =
+    let takes : TakesAhead (StandsBefore g.R.Read.remaining) c.next_part.new.self c.read_integer.new.self taken_byte c.in_ok-byte.byte =
     byte-takes g.R.Read.remaining c.next_part.new.self c.read_integer.new.self c.in_ok-number.number c.in_ok-byte.byte c.in_ok-byte.ensures.ok
     (takes-read g.R.Read.remaining c.next_part.new.self c.read_integer.new.self taken_integer c.in_ok-number.number (read.same_reader, read.only) read.levels read.pending read.fewer read.ok) in record {
       same_reader = read.same_reader ∙ c.in_ok-goes_on.ensures.same_reader ∙ c.items.invariant.same_reader;

@@ -1,13 +1,12 @@
 use Rattle.std.proofs.Common.{sym, ap, ◌∙◌, subst, arith, length, length-append, ◌+◌, ◌≡◌}
-use Rattle.ciborium_ll.specs.Decoding.{next_offset}
 use Rattle.ciborium.specs.inner.ByteSources.{IsUnreadBy}
-use Rattle.ciborium.specs.Errors.{cause_of}
+use Rattle.ciborium.specs.Errors.{fault_of}
 use Rattle.ciborium.proofs.Payloads.ReadDigits.{digit-more, fill-fewer, fill-outside}
 use Rattle.ciborium_ll.proofs.HeldBytes.{same-name}
 use Rattle.ciborium.proofs.Items.TakenOnly.{takes-only, same-end}
 use Rattle.std.proofs.lemmas.Result.{err_from_is_err_and}
 use Rattle.ciborium.specs.Errors.{from_ll}
-use Rattle.ciborium_value.specs.Sources.{IsOutside}
+use Rattle.ciborium_value.specs.Sources.{IsOutsideFault}
 use Rattle.ciborium.proofs.de.byte_source.ByteSource.read_digits.Goals as goal
 
 pub loop-left-preserved : goal.loop-left-preserved
@@ -16,9 +15,7 @@ loop-left-preserved g c =
     let e = c.read_exact_keeping.new.self in
     let none = c.loop-left.invariant.pending in
     let buffer = c.read_exact_keeping.new.buffer in
-    let fits = c.offset-end.type_inv in
-    let at = c.offset-end.ensures ∙ ap (next_offset e.window.count) c.in_ok-read_exact_keeping.ensures.none_pushed in
-    let fewer = fill-fewer Unit g.R.Read.remaining d e buffer (omega (arith, fits, at)) c.in_ok-read_exact_keeping.ensures.taken in record {
+    let fewer = fill-fewer Unit g.R.Read.remaining d e buffer c.in_ok-read_exact_keeping.ensures.taken in record {
       same_reader = c.in_ok-read_exact_keeping.ensures.same_reader ∙ c.loop-left.invariant.same_reader;
       only = λ first h. takes-only g.R.Read.remaining d e _ (same-name d e c.in_ok-read_exact_keeping.ensures.same_reader) c.in_ok-read_exact_keeping.ensures.taken first (c.loop-left.invariant.only first h);
       levels = c.loop-left.invariant.levels;
@@ -42,6 +39,6 @@ returns-in_err-read_exact_keeping-clause-outside g c =
     let (t, z, len, bytes, val, split, un) = c.loop-left.invariant.took y u in
     let more : length y ≡ length t + length z = ap length split ∙ length-append t z in
     let one = c.read_exact_keeping.auto.buffer in
-    subst (λ n. IsOutside n (cause_of (from_ll c.in_err-read_exact_keeping.field-0.0))) (same-end g.R.Read.remaining c.args.self.now c.loop-left.self c.loop-left.invariant.only y u)
+    subst (λ n. IsOutsideFault n (fault_of (from_ll c.in_err-read_exact_keeping.field-0.0))) (same-end g.R.Read.remaining c.args.self.now c.loop-left.self c.loop-left.invariant.only y u)
     (fill-outside g.R.Read.remaining d c.read_exact_keeping.new.self c.read_exact_keeping.new.buffer z c.in_err-read_exact_keeping.field-0.0 (subst (λ o. IsUnreadBy g.R.Read.remaining d o z) c.loop-left.invariant.pending un)
     (omega (arith, there, more, len, one, c.loop-left-test.true)) c.in_err-read_exact_keeping.ensures.taken))

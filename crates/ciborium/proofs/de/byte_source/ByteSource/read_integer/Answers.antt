@@ -7,7 +7,7 @@ use Rattle.ciborium_value.specs.Sources.{of_kind}
 use Rattle.ciborium_value.specs.Taken.{gives, taken_integer}
 use Rattle.ciborium_value.specs.declared.kind.Kind.TheVariants as kinds
 use Rattle.ciborium.specs.inner.ByteSources.{IsUnread, end_at}
-use Rattle.ciborium.specs.Errors.{cause_of}
+use Rattle.ciborium.specs.Errors.{fault_of}
 use Rattle.ciborium.specs.inner.FrontItems.{Reads}
 use Rattle.ciborium.specs.inner.Skips.{TakesBare, IsBare}
 use Rattle.ciborium.proofs.Items.BareScalars.{integer-gives, integer-other, bignum-behind, bignum-denied}
@@ -18,7 +18,7 @@ use Rattle.ciborium.proofs.de.byte_source.ByteSource.read_integer.Goals as goal
 pub returns-in_err-header-clause-denied : goal.returns-in_err-header-clause-denied
 returns-in_err-header-clause-denied g c =
     let exit = err_from_is_err_and c.from_residual.result c.from_residual.ensures.1 in
-    rw (exit.1, exit.2) (denies-of-item (IsUnread g.R.Read.remaining) (end_at g.R.Read.remaining) (Some c.args.self.now.levels) taken_integer c.args.self.now (cause_of c.in_err-header.field-0.0) c.in_err-header.ensures.denied)
+    rw (exit.1, exit.2) (denies-of-item (IsUnread g.R.Read.remaining) (end_at g.R.Read.remaining) (Some c.args.self.now.levels) taken_integer c.args.self.now (fault_of c.in_err-header.field-0.0) c.in_err-header.ensures.denied)
 
 either-sign : (h : Header) (n : ℕ) (P : Type 0) → (h ≡ header.Positive n) ⊎ (h ≡ header.Negative n) → (h ≡ header.Positive n → P) → (h ≡ header.Negative n → P) → P
 either-sign h n P (inl is) positive below = positive is
@@ -55,7 +55,7 @@ returns-in_err-number-in-Tag-clause-denied g c =
     let t = c.in-Tag.tag in
     let exit = err_from_is_err_and c.from_residual-in_err-number-in-Tag.result c.from_residual-in_err-number-in-Tag.ensures.1 in
     let bare : IsBare true (header.Tag t) = subst (IsBare true) c.in-Tag.is c.in_ok-header.ensures.bare in
-    rw (exit.1, exit.2) (bignum-denied (IsUnread g.R.Read.remaining) t l bare.1 (end_at g.R.Read.remaining) c.args.self.now c.bare_head.new.self (cause_of c.in_err-number-in-Tag.field-0.0) (same-end g.R.Read.remaining c.args.self.now c.bare_head.new.self c.in_ok-header.ensures.only)
+    rw (exit.1, exit.2) (bignum-denied (IsUnread g.R.Read.remaining) t l bare.1 (end_at g.R.Read.remaining) c.args.self.now c.bare_head.new.self (fault_of c.in_err-number-in-Tag.field-0.0) (same-end g.R.Read.remaining c.args.self.now c.bare_head.new.self c.in_ok-header.ensures.only)
     (subst (TakesBare (IsUnread g.R.Read.remaining) c.args.self.now c.bare_head.new.self true) c.in-Tag.is c.in_ok-header.ensures.head) c.in_err-number-in-Tag.ensures.denied)
 
 pub returns-in_default-clause-denied : goal.returns-in_default-clause-denied

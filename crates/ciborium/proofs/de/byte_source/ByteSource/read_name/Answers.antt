@@ -8,7 +8,7 @@ use Rattle.ciborium_value.specs.Sources.{of_kind}
 use Rattle.ciborium_value.specs.Taken.{bare_name, taken_name}
 use Rattle.ciborium_value.specs.declared.kind.Kind.TheVariants as kinds
 use Rattle.ciborium.specs.inner.ByteSources.{IsUnread, end_at}
-use Rattle.ciborium.specs.Errors.{cause_of}
+use Rattle.ciborium.specs.Errors.{fault_of}
 use Rattle.ciborium.specs.inner.Skips.{TakesBare}
 use Rattle.ciborium.specs.inner.StringContents.{string_item, is_open}
 use Rattle.ciborium.proofs.Containers.NamedVariants.{bytes-name, bytes-no-name, name-other}
@@ -20,13 +20,13 @@ use Rattle.ciborium.proofs.de.byte_source.ByteSource.read_name.Goals as goal
 pub returns-in_err-header-clause-denied : goal.returns-in_err-header-clause-denied
 returns-in_err-header-clause-denied g c =
     let exit = err_from_is_err_and c.from_residual.result c.from_residual.ensures.1 in
-    rw (exit.1, exit.2) (denies-of-item (IsUnread g.R.Read.remaining) (end_at g.R.Read.remaining) (Some c.args.self.now.levels) taken_name c.args.self.now (cause_of c.in_err-header.field-0.0) c.in_err-header.ensures.denied)
+    rw (exit.1, exit.2) (denies-of-item (IsUnread g.R.Read.remaining) (end_at g.R.Read.remaining) (Some c.args.self.now.levels) taken_name c.args.self.now (fault_of c.in_err-header.field-0.0) c.in_err-header.ensures.denied)
 
 pub returns-in_err-name-in-Text-clause-denied : goal.returns-in_err-name-in-Text-clause-denied
 returns-in_err-name-in-Text-clause-denied g c =
     let exit = err_from_is_err_and c.from_residual-in_err-name-in-Text.result c.from_residual-in_err-name-in-Text.ensures.1 in
-    rw (exit.1, exit.2) (denies-of-item (IsUnread g.R.Read.remaining) (end_at g.R.Read.remaining) (Some c.args.self.now.levels) taken_name c.args.self.now (cause_of c.in_err-name-in-Text.field-0.0)
-    (denies-content (IsUnread g.R.Read.remaining) (end_at g.R.Read.remaining) false c.args.self.now c.bare_head.new.self of_text c.in-Text.len (cause_of c.in_err-name-in-Text.field-0.0) (same-end g.R.Read.remaining c.args.self.now c.bare_head.new.self c.in_ok-header.ensures.only)
+    rw (exit.1, exit.2) (denies-of-item (IsUnread g.R.Read.remaining) (end_at g.R.Read.remaining) (Some c.args.self.now.levels) taken_name c.args.self.now (fault_of c.in_err-name-in-Text.field-0.0)
+    (denies-content (IsUnread g.R.Read.remaining) (end_at g.R.Read.remaining) false c.args.self.now c.bare_head.new.self of_text c.in-Text.len (fault_of c.in_err-name-in-Text.field-0.0) (same-end g.R.Read.remaining c.args.self.now c.bare_head.new.self c.in_ok-header.ensures.only)
     (subst (TakesBare (IsUnread g.R.Read.remaining) c.args.self.now c.bare_head.new.self false) c.in-Text.is c.in_ok-header.ensures.head) c.in_err-name-in-Text.ensures.denied))
 
 pub returns-in-Text-clause-ok : goal.returns-in-Text-clause-ok
@@ -41,8 +41,8 @@ returns-in-Text-clause-ok g c =
 pub returns-in_err-bytes-in-Bytes-clause-denied : goal.returns-in_err-bytes-in-Bytes-clause-denied
 returns-in_err-bytes-in-Bytes-clause-denied g c =
     let exit = err_from_is_err_and c.from_residual-in_err-bytes-in-Bytes.result c.from_residual-in_err-bytes-in-Bytes.ensures.1 in
-    rw (exit.1, exit.2) (denies-of-item (IsUnread g.R.Read.remaining) (end_at g.R.Read.remaining) (Some c.args.self.now.levels) taken_name c.args.self.now (cause_of c.in_err-bytes-in-Bytes.field-0.0)
-    (denies-content (IsUnread g.R.Read.remaining) (end_at g.R.Read.remaining) false c.args.self.now c.bare_head.new.self of_bytes c.in-Bytes.len (cause_of c.in_err-bytes-in-Bytes.field-0.0) (same-end g.R.Read.remaining c.args.self.now c.bare_head.new.self c.in_ok-header.ensures.only)
+    rw (exit.1, exit.2) (denies-of-item (IsUnread g.R.Read.remaining) (end_at g.R.Read.remaining) (Some c.args.self.now.levels) taken_name c.args.self.now (fault_of c.in_err-bytes-in-Bytes.field-0.0)
+    (denies-content (IsUnread g.R.Read.remaining) (end_at g.R.Read.remaining) false c.args.self.now c.bare_head.new.self of_bytes c.in-Bytes.len (fault_of c.in_err-bytes-in-Bytes.field-0.0) (same-end g.R.Read.remaining c.args.self.now c.bare_head.new.self c.in_ok-header.ensures.only)
     (subst (TakesBare (IsUnread g.R.Read.remaining) c.args.self.now c.bare_head.new.self false) c.in-Bytes.is c.in_ok-header.ensures.head) c.in_err-bytes-in-Bytes.ensures.denied))
 
 pub returns-in-Ok-clause-ok : goal.returns-in-Ok-clause-ok

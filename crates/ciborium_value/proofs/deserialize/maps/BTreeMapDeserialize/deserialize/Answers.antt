@@ -1,6 +1,6 @@
 -- A map is read pair by pair.
 use Rattle.std.proofs.Common.{arith, map, sym, ap, ◌∙◌, subst}
-use Rattle.ciborium_value.specs.Sources.{Refuses}
+use Rattle.ciborium_value.specs.Sources.{RefusesAhead}
 use Rattle.ciborium_value.specs.TakenParts.{taken_map}
 use Rattle.ciborium_value.proofs.Writing.Progress.{exits}
 use Rattle.ciborium_value.proofs.Sources.Sequences.{so, Follows, IsBefore, takes, blames}
@@ -18,19 +18,19 @@ loop-entries-init g c = record {
 pub returns-in_err-next-clause-refused : goal.returns-in_err-next-clause-refused
 returns-in_err-next-clause-refused g c =
     let e = g.S.Source.cause c.in_err-next.field-0.0 in
-    exits _ c.in_err-next.field-0.0 (λ x. Refuses g.S.Source.stands_before c.args.source.now (taken_map g.K.Deserialize.reading.order g.K.Deserialize.reading.taken g.V.Deserialize.reading.taken) (g.S.Source.cause x)) c.from_residual-in_err-next.ensures.1
+    exits _ c.in_err-next.field-0.0 (λ x. RefusesAhead g.S.Source.stands_before c.args.source.now (taken_map g.K.Deserialize.reading.order g.K.Deserialize.reading.taken g.V.Deserialize.reading.taken) (g.S.Source.cause x)) c.from_residual-in_err-next.ensures.1
     (blames g.S.Source.stands_before e (so c.loop-entries.invariant.inside (map_blames_next g.S.Source.stands_before g.S.Source.seq_stands g.K.Deserialize.reading.order g.K.Deserialize.reading.taken g.V.Deserialize.reading.taken (map (λ e. (g.K.Deserialize.reading.content e.0, g.V.Deserialize.reading.content e.1)) c.loop-entries.entries.entries) e c.in_err-next.ensures.refused)))
 
 pub returns-in_err-key-clause-refused : goal.returns-in_err-key-clause-refused
 returns-in_err-key-clause-refused g c =
     let e = g.S.Source.cause c.in_err-key.field-0.0 in
-    exits _ c.in_err-key.field-0.0 (λ x. Refuses g.S.Source.stands_before c.args.source.now (taken_map g.K.Deserialize.reading.order g.K.Deserialize.reading.taken g.V.Deserialize.reading.taken) (g.S.Source.cause x)) c.from_residual-in_err-key.ensures.1
+    exits _ c.in_err-key.field-0.0 (λ x. RefusesAhead g.S.Source.stands_before c.args.source.now (taken_map g.K.Deserialize.reading.order g.K.Deserialize.reading.taken g.V.Deserialize.reading.taken) (g.S.Source.cause x)) c.from_residual-in_err-key.ensures.1
     (blames g.S.Source.stands_before e (so c.loop-entries.invariant.inside (map_blames_key g.S.Source.stands_before g.S.Source.seq_stands g.K.Deserialize.reading.order g.K.Deserialize.reading.taken g.V.Deserialize.reading.taken (map (λ e. (g.K.Deserialize.reading.content e.0, g.V.Deserialize.reading.content e.1)) c.loop-entries.entries.entries) e (rw c.if-branch.true at c.in_ok-next.ensures.ok) c.in_err-key.ensures.refused)))
 
 pub returns-in_err-value-clause-refused : goal.returns-in_err-value-clause-refused
 returns-in_err-value-clause-refused g c =
     let e = g.S.Source.cause c.in_err-value.field-0.0 in
-    exits _ c.in_err-value.field-0.0 (λ x. Refuses g.S.Source.stands_before c.args.source.now (taken_map g.K.Deserialize.reading.order g.K.Deserialize.reading.taken g.V.Deserialize.reading.taken) (g.S.Source.cause x)) c.from_residual-in_err-value.ensures.1
+    exits _ c.in_err-value.field-0.0 (λ x. RefusesAhead g.S.Source.stands_before c.args.source.now (taken_map g.K.Deserialize.reading.order g.K.Deserialize.reading.taken g.V.Deserialize.reading.taken) (g.S.Source.cause x)) c.from_residual-in_err-value.ensures.1
     (blames g.S.Source.stands_before e (so c.loop-entries.invariant.inside (map_blames_value g.S.Source.stands_before g.S.Source.seq_stands g.K.Deserialize.reading.order g.K.Deserialize.reading.taken g.V.Deserialize.reading.taken (map (λ e. (g.K.Deserialize.reading.content e.0, g.V.Deserialize.reading.content e.1)) c.loop-entries.entries.entries) e (rw c.if-branch.true at c.in_ok-next.ensures.ok) c.in_ok-key.ensures.ok c.in_err-value.ensures.refused)))
 
 pub loop-entries-preserved : goal.loop-entries-preserved

@@ -1,7 +1,7 @@
 -- A list is read item by item.
 use Rattle.std.proofs.Common.{arith, map, [], ◌∷◌, sym, ap, ◌∙◌, subst}
 use Rattle.std.proofs.lemmas.List.{map-append}
-use Rattle.ciborium_value.specs.Sources.{Refuses}
+use Rattle.ciborium_value.specs.Sources.{RefusesAhead}
 use Rattle.ciborium_value.specs.TakenParts.{taken_list}
 use Rattle.ciborium_value.proofs.Writing.Progress.{exits}
 use Rattle.ciborium_value.proofs.Sources.Sequences.{so, Follows, IsBefore, IsInside, takes, blames, blames_next, list_from, list_begins, list_more, list_blames, list_ends, owed_more, owed_all}
@@ -18,13 +18,13 @@ loop-values-init g c = record {
 pub returns-in_err-next-clause-refused : goal.returns-in_err-next-clause-refused
 returns-in_err-next-clause-refused g c =
     let e = g.S.Source.cause c.in_err-next.field-0.0 in
-    exits _ c.in_err-next.field-0.0 (λ x. Refuses g.S.Source.stands_before c.args.source.now (taken_list g.T.Deserialize.reading.taken) (g.S.Source.cause x)) c.from_residual-in_err-next.ensures.1
+    exits _ c.in_err-next.field-0.0 (λ x. RefusesAhead g.S.Source.stands_before c.args.source.now (taken_list g.T.Deserialize.reading.taken) (g.S.Source.cause x)) c.from_residual-in_err-next.ensures.1
     (blames g.S.Source.stands_before e (so c.loop-values.invariant.inside (blames_next g.S.Source.stands_before g.S.Source.seq_stands (list_from g.T.Deserialize.reading.taken (map g.T.Deserialize.reading.content c.loop-values.values.items)) e c.in_err-next.ensures.refused)))
 
 pub returns-in_err-value-clause-refused : goal.returns-in_err-value-clause-refused
 returns-in_err-value-clause-refused g c =
     let e = g.S.Source.cause c.in_err-value.field-0.0 in
-    exits _ c.in_err-value.field-0.0 (λ x. Refuses g.S.Source.stands_before c.args.source.now (taken_list g.T.Deserialize.reading.taken) (g.S.Source.cause x)) c.from_residual-in_err-value.ensures.1
+    exits _ c.in_err-value.field-0.0 (λ x. RefusesAhead g.S.Source.stands_before c.args.source.now (taken_list g.T.Deserialize.reading.taken) (g.S.Source.cause x)) c.from_residual-in_err-value.ensures.1
     (blames g.S.Source.stands_before e (so c.loop-values.invariant.inside (list_blames g.S.Source.stands_before g.S.Source.seq_stands g.T.Deserialize.reading.taken _ e (rw c.if-branch.true at c.in_ok-next.ensures.ok) c.in_err-value.ensures.refused)))
 
 pub loop-values-preserved : goal.loop-values-preserved

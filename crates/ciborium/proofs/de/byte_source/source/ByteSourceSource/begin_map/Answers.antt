@@ -1,6 +1,6 @@
 use Rattle.ciborium.proofs.Containers.EnteredContainers.{enters-map}
 use Rattle.ciborium_value.specs.Taken.{taken_pairs}
-use Rattle.ciborium.specs.Errors.{cause_of}
+use Rattle.ciborium.specs.Errors.{fault_of}
 use Rattle.ciborium.proofs.Containers.ByteItems.{refuses-denied}
 use Rattle.ciborium.proofs.Readers.HandedReaders.{err-map}
 use Rattle.ciborium.proofs.de.byte_source.source.ByteSourceSource.begin_map.Goals as goal
@@ -10,4 +10,4 @@ returns-clause-ok g c =
     enters-map g.R.Read.remaining c.args.self.now c.open_map.new.self (c.open_map.ensures.same_reader, c.open_map.ensures.only) _ c.open_map.result c.open_map.ensures.levels c.open_map.ensures.pending c.open_map.ensures.fewer c.open_map.ensures.ok
 
 pub returns-clause-refused : goal.returns-clause-refused
-returns-clause-refused g c = err-map c.open_map.result c.open_map.ensures.denied (λ e h. refuses-denied g.R.Read.remaining c.args.self.now taken_pairs (cause_of e) h)
+returns-clause-refused g c = err-map c.open_map.result c.open_map.ensures.denied (λ e h. refuses-denied g.R.Read.remaining c.args.self.now taken_pairs (fault_of e) h)

@@ -1,6 +1,6 @@
 use Rattle.ciborium.proofs.Containers.EnteredContainers.{enters}
 use Rattle.ciborium_value.specs.Taken.{taken_seq}
-use Rattle.ciborium.specs.Errors.{cause_of}
+use Rattle.ciborium.specs.Errors.{fault_of}
 use Rattle.ciborium.proofs.Containers.ByteItems.{refuses-denied}
 use Rattle.ciborium.proofs.Readers.HandedReaders.{err-map}
 use Rattle.ciborium.proofs.de.byte_source.source.ByteSourceSource.begin_seq.Goals as goal
@@ -10,4 +10,4 @@ returns-clause-ok g c =
     enters g.R.Read.remaining c.args.self.now c.open_seq.new.self (c.open_seq.ensures.same_reader, c.open_seq.ensures.only) _ c.open_seq.result c.open_seq.ensures.levels c.open_seq.ensures.pending c.open_seq.ensures.fewer c.open_seq.ensures.ok
 
 pub returns-clause-refused : goal.returns-clause-refused
-returns-clause-refused g c = err-map c.open_seq.result c.open_seq.ensures.denied (λ e h. refuses-denied g.R.Read.remaining c.args.self.now taken_seq (cause_of e) h)
+returns-clause-refused g c = err-map c.open_seq.result c.open_seq.ensures.denied (λ e h. refuses-denied g.R.Read.remaining c.args.self.now taken_seq (fault_of e) h)

@@ -2,7 +2,7 @@ use Rattle.std.proofs.Common.{Some, string_bytes}
 use Rattle.ciborium.proofs.Items.Due.{with-ok}
 use Rattle.ciborium_value.specs.Taken.{taken_variant}
 use Rattle.ciborium.proofs.Containers.HeldLevels.{completes-opened, holds-opened, ok-map-two, on-ok-so}
-use Rattle.ciborium.specs.Errors.{cause_of}
+use Rattle.ciborium.specs.Errors.{fault_of}
 use Rattle.ciborium.proofs.Containers.ByteItems.{refuses-denied}
 use Rattle.ciborium.proofs.Readers.HandedReaders.{err-map}
 use Rattle.ciborium.proofs.de.byte_source.source.ByteSourceSource.begin_variant.Goals as goal
@@ -17,4 +17,4 @@ returns-clause-took g c =
     on-ok-so c.open_variant.result c.open_variant.ensures.ok (λ p k. completes-opened g.R.Read.remaining c.args.self.now c.open_variant.new.self (Some c.args.self.now.levels) taken_variant (string_bytes p.0) k)
 
 pub returns-clause-refused : goal.returns-clause-refused
-returns-clause-refused g c = err-map c.open_variant.result c.open_variant.ensures.denied (λ e h. refuses-denied g.R.Read.remaining c.args.self.now taken_variant (cause_of e) h)
+returns-clause-refused g c = err-map c.open_variant.result c.open_variant.ensures.denied (λ e h. refuses-denied g.R.Read.remaining c.args.self.now taken_variant (fault_of e) h)

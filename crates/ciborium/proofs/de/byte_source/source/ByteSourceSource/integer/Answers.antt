@@ -1,7 +1,7 @@
 use Rattle.ciborium_value.specs.Taken.{taken_integer}
 use Rattle.ciborium.proofs.Containers.ByteItems.{takes-read, refuses-denied}
 use Rattle.std.proofs.lemmas.Result.{err_from_is_err_and}
-use Rattle.ciborium.specs.Errors.{cause_of}
+use Rattle.ciborium.specs.Errors.{fault_of}
 use Rattle.ciborium.proofs.de.byte_source.source.ByteSourceSource.integer.Goals as goal
 
 pub returns-clause-ok : goal.returns-clause-ok
@@ -12,4 +12,4 @@ returns-clause-ok g c =
 pub returns-in_err-number-clause-refused : goal.returns-in_err-number-clause-refused
 returns-in_err-number-clause-refused g c =
     let exit = err_from_is_err_and c.from_residual.result c.from_residual.ensures.1 in
-    rw (exit.1, exit.2) (refuses-denied g.R.Read.remaining c.args.self.now taken_integer (cause_of c.in_err-number.field-0.0) c.in_err-number.ensures.denied)
+    rw (exit.1, exit.2) (refuses-denied g.R.Read.remaining c.args.self.now taken_integer (fault_of c.in_err-number.field-0.0) c.in_err-number.ensures.denied)

@@ -2,7 +2,7 @@ use Rattle.std.proofs.Common.{string_bytes}
 use Rattle.ciborium.proofs.Items.Due.{on-both}
 use Rattle.ciborium_value.specs.Taken.{taken_text}
 use Rattle.ciborium.proofs.Containers.ByteItems.{ok-map, takes-read, refuses-denied}
-use Rattle.ciborium.specs.Errors.{cause_of}
+use Rattle.ciborium.specs.Errors.{fault_of}
 use Rattle.ciborium.proofs.Readers.HandedReaders.{err-map}
 use Rattle.ciborium.proofs.de.byte_source.source.ByteSourceSource.text.Goals as goal
 
@@ -11,4 +11,4 @@ returns-clause-ok g c =
     ok-map c.read_text.result (on-both _ _ c.read_text.result c.read_text.ensures.pending c.read_text.ensures.fewer) c.read_text.ensures.ok (λ none v k. takes-read g.R.Read.remaining c.args.self.now c.read_text.new.self taken_text (string_bytes v) (c.read_text.ensures.same_reader, c.read_text.ensures.only) c.read_text.ensures.levels none.0 none.1 k)
 
 pub returns-clause-refused : goal.returns-clause-refused
-returns-clause-refused g c = err-map c.read_text.result c.read_text.ensures.denied (λ e h. refuses-denied g.R.Read.remaining c.args.self.now taken_text (cause_of e) h)
+returns-clause-refused g c = err-map c.read_text.result c.read_text.ensures.denied (λ e h. refuses-denied g.R.Read.remaining c.args.self.now taken_text (fault_of e) h)

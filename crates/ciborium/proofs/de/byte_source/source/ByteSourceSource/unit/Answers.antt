@@ -1,7 +1,7 @@
 use Rattle.ciborium.proofs.Items.Due.{on-both}
 use Rattle.ciborium_value.specs.Taken.{taken_unit}
 use Rattle.ciborium.proofs.Containers.ByteItems.{ok-map, takes-read, refuses-denied}
-use Rattle.ciborium.specs.Errors.{cause_of}
+use Rattle.ciborium.specs.Errors.{fault_of}
 use Rattle.ciborium.proofs.Readers.HandedReaders.{err-map}
 use Rattle.ciborium.proofs.de.byte_source.source.ByteSourceSource.unit.Goals as goal
 
@@ -10,4 +10,4 @@ returns-clause-ok g c =
     ok-map c.read_unit.result (on-both _ _ c.read_unit.result c.read_unit.ensures.pending c.read_unit.ensures.fewer) c.read_unit.ensures.ok (λ none v k. takes-read g.R.Read.remaining c.args.self.now c.read_unit.new.self taken_unit v (c.read_unit.ensures.same_reader, c.read_unit.ensures.only) c.read_unit.ensures.levels none.0 none.1 k)
 
 pub returns-clause-refused : goal.returns-clause-refused
-returns-clause-refused g c = err-map c.read_unit.result c.read_unit.ensures.denied (λ e h. refuses-denied g.R.Read.remaining c.args.self.now taken_unit (cause_of e) h)
+returns-clause-refused g c = err-map c.read_unit.result c.read_unit.ensures.denied (λ e h. refuses-denied g.R.Read.remaining c.args.self.now taken_unit (fault_of e) h)
