@@ -119,7 +119,7 @@ part-refuses {E} kind x r b p left e (inr (inl (h, t, other, here))) is rest =
 part-refuses {E} kind x r b p left e (inr (inr (n, s, y, split, t, payload))) is rest =
     let whole : b ≡ s ++ (y ++ r) = is ∙ ap (λ (c : List ℕ). c ++ r) split ∙ append_assoc s y r in
     refused-map left e (PayloadRefuses kind n p (y ++ r)) (ChunkRefuses kind b p)
-    (λ f h. ChunkRefuses.part (subst (λ c. IsUsable c p) (sym whole) (usable-more s (y ++ r) p t.answers.1)) (n, length s, y ++ r, string-stands kind n s (y ++ r) b t.answers.0 whole, h))
+    (λ f h. ChunkRefuses.chunk (subst (λ c. IsUsable c p) (sym whole) (usable-more s (y ++ r) p t.answers.1)) (n, length s, y ++ r, string-stands kind n s (y ++ r) b t.answers.0 whole, h))
     (payload-refuses {E = E} kind n p left e [] y r (y ++ r) payload refl rest)
 
 pub parts-refuse : {E : Type 0} (kind : StringKind) (x r b : List ℕ) (q : ℕ) (left : Option (List ℕ)) (e : Error E) (added : List ℕ) → AreChunksTaken {E = E} kind x q (Err e) added → b ≡ x ++ r →

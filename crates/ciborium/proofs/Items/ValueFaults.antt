@@ -111,7 +111,7 @@ payload-of_bytes (PayloadRefuses.not_allowed y r l h) = tt
 
 part-of_bytes : {kind : StringKind} {b : List ℕ} {p : ℕ} {e : Refusal} → ChunkRefuses kind b p e → IsOfBytes e
 part-of_bytes {b = b} {p = p} (ChunkRefuses.no_head h) = subst IsOfBytesIf h (head-of_bytes b p)
-part-of_bytes (ChunkRefuses.part u (n, k, r, st, w)) = payload-of_bytes w
+part-of_bytes (ChunkRefuses.chunk u (n, k, r, st, w)) = payload-of_bytes w
 part-of_bytes (ChunkRefuses.other u s e) = tt
 
 string-faults : {A : Type 0} (kind : StringKind) (b : List ℕ) (p : ℕ) (e : Refusal) (i : Item) (s z : List ℕ) (o : Outcome A) → StringRefuses kind b p e → Spells s i → b ≡ s ++ z → IsFaultOf (p + length b) (fault_of e) o

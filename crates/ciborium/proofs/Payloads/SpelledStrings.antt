@@ -61,7 +61,7 @@ payload-never kind n p at y e payload z is size ok f (PayloadRefuses.not_allowed
 -- at a break
 break-never : (kind : StringKind) (p at : ℕ) (r z : List ℕ) (e : Refusal) → e ≡ syntax at → r ≡ break_byte ∷ z → ChunkRefuses kind r p e → ⊥
 break-never kind p at r z e is f (ChunkRefuses.no_head h) = never-syntax (break_byte ∷ []) z header.Break p at refl (subst (λ (k : List ℕ). HeadRefuses k p (syntax at)) f (subst (HeadRefuses r p) is h))
-break-never kind p at r z e is f (ChunkRefuses.part u (n, k, r', (h, hd, len, g), w)) =
+break-never kind p at r z e is f (ChunkRefuses.chunk u (n, k, r', (h, hd, len, g), w)) =
     no-break kind n (one_header_at_front h (break_byte ∷ []) r' z (head_of kind (Some n)) header.Break (string-spells kind n h hd) refl (sym g ∙ f)).2
 break-never kind p at r z e is f (ChunkRefuses.other u string end) = end (z, f)
 
@@ -69,7 +69,7 @@ break-never kind p at r z e is f (ChunkRefuses.other u string end) = end (z, f)
 part-never : (kind : StringKind) (p at : ℕ) (r h payload z : List ℕ) (e : Refusal) → e ≡ syntax at → IsHead h (string_major kind) (length payload) → IsAllowed kind payload → r ≡ h ++ (payload ++ z) → ChunkRefuses kind r p e → ⊥
 part-never kind p at r h payload z e is hd ok f (ChunkRefuses.no_head w) =
     never-syntax h (payload ++ z) (head_of kind (Some (length payload))) p at (string-spells kind (length payload) h hd) (subst (λ (k : List ℕ). HeadRefuses k p (syntax at)) f (subst (HeadRefuses r p) is w))
-part-never kind p at r h payload z e is hd ok f (ChunkRefuses.part u (n, k, r', (x, xd, len, g), w)) =
+part-never kind p at r h payload z e is hd ok f (ChunkRefuses.chunk u (n, k, r', (x, xd, len, g), w)) =
     let one = one_header_at_front x h r' (payload ++ z) (head_of kind (Some n)) (head_of kind (Some (length payload))) (string-spells kind n x xd) (string-spells kind (length payload) h hd) (sym g ∙ f) in
     payload-never kind n p at r' e payload z is (same-size kind n (length payload) one.2) ok one.1 w
 part-never kind p at r h payload z e is hd ok f (ChunkRefuses.other u string end) = string (length payload, length h, payload ++ z, (h, hd, refl, f))
@@ -130,7 +130,7 @@ announced-string of_text n = refl
 break-long : (kind : StringKind) (p : ℕ) (r z : List ℕ) (e : Refusal) → e ≡ too_long → r ≡ break_byte ∷ z → ChunkRefuses kind r p e → greatest_offset < p + length r
 break-long kind p r z e is f (ChunkRefuses.no_head h) =
     subst (λ (k : List ℕ). greatest_offset < p + length k) (sym f) (head-passes (break_byte ∷ []) z header.Break p refl (omega arith) (subst (λ (k : List ℕ). HeadRefuses k p too_long) f (subst (HeadRefuses r p) is h)))
-break-long kind p r z e is f (ChunkRefuses.part u (n, k, r', (h, hd, len, g), w)) = absurd (payload-long kind n p r' e is w)
+break-long kind p r z e is f (ChunkRefuses.chunk u (n, k, r', (h, hd, len, g), w)) = absurd (payload-long kind n p r' e is w)
 break-long kind p r z e is f (ChunkRefuses.other u string end) = cc
 
 -- at a good part
@@ -140,7 +140,7 @@ part-long kind p r h payload z e is hd f (ChunkRefuses.no_head w) =
     let more = length-append payload z in
     subst (λ (k : List ℕ). greatest_offset < p + length k) (sym f)
     (head-passes h (payload ++ z) (head_of kind (Some (length payload))) p (string-spells kind (length payload) h hd) (omega (arith, there, more)) (subst (λ (k : List ℕ). HeadRefuses k p too_long) f (subst (HeadRefuses r p) is w)))
-part-long kind p r h payload z e is hd f (ChunkRefuses.part u (n, k, r', (x, xd, len, g), w)) = absurd (payload-long kind n p r' e is w)
+part-long kind p r h payload z e is hd f (ChunkRefuses.chunk u (n, k, r', (x, xd, len, g), w)) = absurd (payload-long kind n p r' e is w)
 part-long kind p r h payload z e is hd f (ChunkRefuses.other u string end) = cc
 
 parts-long : (kind : StringKind) (p : ℕ) (good t r z : List ℕ) (ps qs : List (List ℕ)) (e : Refusal) → e ≡ too_long → AreChunks (string_major kind) (IsAllowed kind) good ps → AreChunks (string_major kind) (IsAllowed kind) t qs →

@@ -121,7 +121,7 @@ module _ (k : StringKind) where
 
   after-part : (d : ℕ) (b y : List ℕ) (q : ℕ) (a : Answer) → IsUsable b q → q ≤ greatest_offset → EachIsByte b → StringMeets k b q y a →
       ((x : List ℕ) (u : ℕ) → EachIsByte x → length x < length b → u ≤ greatest_offset → PM x u (pieces d m x u)) → PM b q (and_then (pieces d m) a)
-  after-part d b y q (refused e) has room bytes sm rec = here b q e room (ChunkRefuses.part has sm)
+  after-part d b y q (refused e) has room bytes sm rec = here b q e room (ChunkRefuses.chunk has sm)
   after-part d b y q (ends x u) has room bytes sm rec =
       let s : List ℕ = sm.0 in
       let lb : length b ≡ length s + length x = ap length sm.2 ∙ length-append s x in

@@ -102,7 +102,7 @@ other-refused c b q more x y (raw w r) f = refl
 part-refused : (k : StringKind) (c : ℕ) → 0 < c → {b : List ℕ} {q : ℕ} {e : Refusal} → ChunkRefuses k b q e → EachIsByte b → pieces c (string_major k) b q ≡ refused e
 part-refused k zero pos f bytes = let never : ⊥ = omega arith in absurd never
 part-refused k (suc c) pos {b} {q} {e} (ChunkRefuses.no_head h) bytes = checked-some b q _ e h
-part-refused k (suc c) pos {b} {q} {e} (ChunkRefuses.part h s) bytes =
+part-refused k (suc c) pos {b} {q} {e} (ChunkRefuses.chunk h s) bytes =
     let t = string-refusing k s bytes in
     checked-none b q _ h ∙ ap (piece (pieces c (string_major k)) (string_major k) b q) (stands-front b (string_major k) t.0 t.1 t.2 (kind_below k) t.3) ∙ hold _ _ _ (eq-eqb (string_major k) (string_major k) refl) ∙
     ap (and_then (pieces c (string_major k))) (t.4 (past q b t.2))
