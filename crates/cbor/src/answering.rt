@@ -9,7 +9,8 @@ ghost use Rattle.ciborium_value.specs.declared.kind.Kind.TheVariants.{DuplicateK
 ghost use Rattle.cbor.specs.Answer.{IsMeant, TellsRefusal, refused_text, wants_memory};
 ghost use Rattle.cbor.specs.Forms.{IsFormAnswer, formless_text};
 ghost use Rattle.cbor.specs.Line.{IsLineAnswer, tree_text};
-ghost use Rattle.cbor.specs.Lines.{AreAnswered, AreOk, AnswersLine, IsOkText, MayBeAnswer, text_line};
+ghost use Rattle.cbor.specs.Lines.{AnswersLine, AreAnswered, AreOk, IsOkText, MayBeAnswer};
+ghost use Rattle.cbor.specs.Lines.{text_line};
 ghost use Rattle.cbor.specs.Sequence.{IsSequenceAnswer};
 ghost use Rattle.cbor.specs.Shown.{IsNotationAnswer};
 ghost use Rattle.cbor.specs.declared.reading.Reading.TheVariants.{Form, Item, Notation, Sequence};

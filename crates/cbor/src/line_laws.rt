@@ -2,7 +2,8 @@
 //! that does nothing.
 
 ghost use Rattle.cbor.specs.Laws.{IsAnswered, IsFormAnswered, IsNotationAnswered};
-ghost use Rattle.cbor.specs.Laws.{IsSequenceAnswered, ItemIsAnswered, OneAnswerToLine, OneFormAnswer};
+ghost use Rattle.cbor.specs.Laws.{IsSequenceAnswered, ItemIsAnswered, OneAnswerToLine};
+ghost use Rattle.cbor.specs.Laws.{OneFormAnswer};
 ghost use Rattle.cbor.specs.Laws.{OneNotationAnswer, OneSequenceAnswer};
 ghost use Rattle.cbor.specs.Laws.{RefusalIsAnswered, RefusedMeansNothing};
 

@@ -16,7 +16,7 @@ pub record HasRead {T C E : Type 0} (reading : Reading T C) (limit : ℕ) (befor
   pub ok : TakesGiven (Some limit) reading.taken before after (read_as reading.content result)
   -- an item at the front is refused as it is
   pub refused : RefusesTaken 0 (Some limit) reading.taken before (read_as reading.content result)
-  pub memory : IfErr result (λ e. IsGrantedFault (fault_of e) reading.takes_memory)
+  pub memory : IfErr result (λ e. IsGrantedFault (fault_of e) reading.needs_memory)
   -- refused or not, a prefix of what was there was taken, and nothing else
   pub taken : TakesBeginning before after
   -- where reading is one call of `value`, whatever the bytes
@@ -29,6 +29,6 @@ pub record HasReadNext {T C E : Type 0} (reading : Reading T C) (limit : ℕ) (b
   -- otherwise the same as of a value
   pub ok : Otherwise result (λ r. TakesGiven (Some limit) reading.taken before after (read_as reading.content r))
   pub refused : Otherwise result (λ r. RefusesTaken 0 (Some limit) reading.taken before (read_as reading.content r))
-  pub memory : IfErr result (λ e. IsGrantedFault (fault_of e) reading.takes_memory)
+  pub memory : IfErr result (λ e. IsGrantedFault (fault_of e) reading.needs_memory)
   pub taken : TakesBeginning before after
   pub value : Otherwise result (λ r. IfSome reading.whole (λ tree. ReadsWhole any before limit after (read_as (λ v. tree (reading.content v)) r)))

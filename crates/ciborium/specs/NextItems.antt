@@ -49,6 +49,6 @@ IsReadFrom remaining reading old new r = record {
   took : OnOk r (TakesItem (IsUnread remaining) old new);
   only : TakesOnly (HasTakenSince remaining) old new;
   refused : IfErr r (λ e. RefusesAhead (StandsBefore remaining) old reading.taken (fault_of e));
-  memory : IfErr r (λ e. IsGrantedFault (fault_of e) reading.takes_memory);
+  memory : IfErr r (λ e. IsGrantedFault (fault_of e) reading.needs_memory);
   whole : IfSome reading.whole (λ tree. ReadsValue remaining old new (read_as (λ v. tree (reading.content v)) r));
 }

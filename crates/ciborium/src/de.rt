@@ -145,7 +145,7 @@ pub fn from_reader_at<T: Deserialize, R: Read>(
         (R.remaining reader.new) (read_as T.reading.content result) }
     ensures refused { RefusesTaken offset (Some limit) T.reading.taken (R.remaining reader.old)
         (read_as T.reading.content result) }
-    ensures memory { IfErr result (λ e. IsGrantedFault (fault_of e) T.reading.takes_memory) }
+    ensures memory { IfErr result (λ e. IsGrantedFault (fault_of e) T.reading.needs_memory) }
     // Refused or not, a prefix of what was there was taken, and nothing else.
     ensures taken { TakesBeginning (R.remaining reader.old) (R.remaining reader.new) }
     // Where reading is one call of `value`, whatever the bytes.

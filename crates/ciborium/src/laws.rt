@@ -12,8 +12,10 @@ ghost use Rattle.ciborium.specs.laws.CanonicalLaws.{IsCanonical, IsTotal, RiseCa
 ghost use Rattle.ciborium.specs.laws.CanonicalLaws.{TiesEqualOnes};
 ghost use Rattle.ciborium.specs.laws.DeterministicLaws.{DeterministicOrRefused};
 ghost use Rattle.ciborium.specs.laws.DeterministicLaws.{NeverBothDeterministically};
-ghost use Rattle.ciborium.specs.laws.DeterministicLaws.{OneDeterministicRefusal, OneDeterministicTree};
-ghost use Rattle.ciborium.specs.laws.EncodingLaws.{EncodingSpells, HeadsRise, OneTree, OthersAreLonger};
+ghost use Rattle.ciborium.specs.laws.DeterministicLaws.{OneDeterministicRefusal};
+ghost use Rattle.ciborium.specs.laws.DeterministicLaws.{OneDeterministicTree};
+ghost use Rattle.ciborium.specs.laws.EncodingLaws.{EncodingSpells, HeadsRise, OneTree};
+ghost use Rattle.ciborium.specs.laws.EncodingLaws.{OthersAreLonger};
 ghost use Rattle.ciborium.specs.laws.FormRoundTrips.{FormIsReadBack, IsFormContentGiven};
 ghost use Rattle.ciborium.specs.laws.FormRoundTrips.{IsFormContentReadBack, IsFormReadAlike};
 ghost use Rattle.ciborium.specs.laws.FormRoundTrips.{IsFormReadBack, IsOwnForm};
@@ -22,7 +24,8 @@ ghost use Rattle.ciborium.specs.laws.Loaded.{AreCanonicalParts, IsContentLoaded}
 ghost use Rattle.ciborium.specs.laws.Loaded.{IsDeterministicStore, IsStoreHeld};
 ghost use Rattle.ciborium.specs.laws.Loaded.{LoadedAsSaved, LoadingGivesContent};
 ghost use Rattle.ciborium.specs.laws.RoundTrips.{AreRefusedAlike, BytesReadBack, BytesWrittenAgain};
-ghost use Rattle.ciborium.specs.laws.RoundTrips.{IsContentReadBack, LeaveSameBytes, TreeGivesContent};
+ghost use Rattle.ciborium.specs.laws.RoundTrips.{IsContentReadBack, LeaveSameBytes};
+ghost use Rattle.ciborium.specs.laws.RoundTrips.{TreeGivesContent};
 ghost use Rattle.ciborium.specs.laws.RoundTrips.{TreeReadBack, TreeWrittenAgain, WriteSameBytes};
 ghost use Rattle.ciborium.specs.laws.SequenceRoundTrips.{AreContentsReadBack, SequenceReadsBack};
 ghost use Rattle.ciborium.specs.TypedAnswers.{SourcesAgree};

@@ -8,7 +8,8 @@ ghost use Rattle.ciborium_value.specs.ReadsBack.{string_back};
 ghost use Rattle.ciborium_value.specs.lemmas.ReadsBackNumbers.{u8_back};
 ghost use Rattle.ciborium_value.specs.lemmas.ReadsBackStructs.{field_back, fields_read_back};
 ghost use Rattle.ciborium_value.specs.lemmas.ReadsBackStructs.{no_field_back};
-ghost use Rattle.ciborium_value.specs.lemmas.ReadsBackVariants.{data_variant_back, unit_variant_back};
+ghost use Rattle.ciborium_value.specs.lemmas.ReadsBackVariants.{data_variant_back};
+ghost use Rattle.ciborium_value.specs.lemmas.ReadsBackVariants.{unit_variant_back};
 ghost use Rattle.ciborium_value.specs.Sinks.{fields_of, named_text, number_item};
 ghost use Rattle.ciborium_value.specs.StructReadings.{field, no_field, struct_of};
 ghost use Rattle.ciborium_value.specs.VariantReadings.{data_variant, enum_of, unit_variant};
@@ -16,7 +17,7 @@ ghost use Rattle.ciborium_value.specs.WrittenContents.{field_alike, fields_alike
 ghost use Rattle.ciborium_value.specs.WrittenContents.{no_field_alike, string-alike};
 ghost use Rattle.ciborium_value.specs.WrittenContents.{unsigned-alike};
 ghost use Rattle.ciborium_callers.specs.declared.key_types.Seat.{Seat};
-ghost use Rattle.ciborium_callers.specs.declared.key_types.Seat.TheVariants.{Taken, Free};
+ghost use Rattle.ciborium_callers.specs.declared.key_types.Seat.TheVariants.{Free, Taken};
 
 use ciborium::de::{Deserialize, Key, Source, Wanted, read_fields, required};
 use ciborium::laws::{ReadsBack, WritesContent};

@@ -9,7 +9,8 @@ ghost use Rattle.ciborium_value.specs.lemmas.ReadsBackNumbers.{u64_back, u8_back
 ghost use Rattle.ciborium_value.specs.lemmas.ReadsBackParts.{such_that_back, tuple2-back};
 ghost use Rattle.ciborium_value.specs.lemmas.ReadsBackStructs.{field_back, fields_read_back};
 ghost use Rattle.ciborium_value.specs.lemmas.ReadsBackStructs.{no_field_back};
-ghost use Rattle.ciborium_value.specs.lemmas.ReadsBackVariants.{data_variant_back, unit_variant_back};
+ghost use Rattle.ciborium_value.specs.lemmas.ReadsBackVariants.{data_variant_back};
+ghost use Rattle.ciborium_value.specs.lemmas.ReadsBackVariants.{unit_variant_back};
 ghost use Rattle.ciborium_value.specs.Sinks.{container_of, fields_of, in_turn, named_text};
 ghost use Rattle.ciborium_value.specs.Sinks.{number_item, open_container_of, tag_of};
 ghost use Rattle.ciborium_value.specs.StructReadings.{field, no_field, struct_of};

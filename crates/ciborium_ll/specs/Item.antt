@@ -7,9 +7,9 @@ mutual
     unsigned : ℕ → Item
     -- the number -1 - n
     negative : ℕ → Item
-    -- a byte string; an open one holds its parts joined
+    -- a byte string; an open one holds its chunks joined
     bytes : Bool → List ℕ → Item
-    -- a text by the bytes of its UTF-8; an open one holds its parts joined
+    -- a text by the bytes of its UTF-8; an open one holds its chunks joined
     text : Bool → List ℕ → Item
     array : Bool → Items → Item
     map : Bool → Pairs → Item

@@ -19,7 +19,7 @@ abbrev pub joined : List (List ℕ) → List ℕ
 joined [] = []
 joined (p ∷ ps) = p ++ joined ps
 
--- an open string of a major type: its initial byte, parts whose payloads joined are this one, and the break (section 3.2.3)
+-- an open string of a major type: its initial byte, chunks whose payloads joined are this one, and the break (section 3.2.3)
 abbrev pub IsOpenString : ℕ → (List ℕ → Type 0) → List ℕ → List ℕ → Type 0
 IsOpenString major IsAllowed b payload =
     (payloads : List (List ℕ)) × (r : List ℕ) × AreChunks major IsAllowed r payloads × (payload ≡ joined payloads) ×

@@ -34,7 +34,7 @@ StringRefuses kind b p e = (n : ℕ) × (k : ℕ) × (r : List ℕ) × HasHead b
 abbrev pub HasStringHead : StringKind → List ℕ → Type 0
 HasStringHead kind b = (n : ℕ) × (k : ℕ) × (r : List ℕ) × HasHead b (string_major kind) n k r
 
--- a part of an open string at offset p: its head refuses, it refuses as a string of the kind, or it is neither such a string
+-- a chunk of an open string at offset p: its head refuses, it refuses as a string of the kind, or it is neither such a string
 -- nor the break
 pub data ChunkRefuses (kind : StringKind) : List ℕ → ℕ → Refusal → Type 0 where
   no_head : {b : List ℕ} {p : ℕ} {e : Refusal} → HeadRefuses b p e → ChunkRefuses kind b p e
@@ -42,14 +42,14 @@ pub data ChunkRefuses (kind : StringKind) : List ℕ → ℕ → Refusal → Typ
   other : {b : List ℕ} {p : ℕ} →
       IsUsable b p → ¬ HasStringHead kind b → ¬ IsAtFront break_byte b → ChunkRefuses kind b p (syntax p)
 
--- what is left, from offset p on, refuses as the parts of an open string: behind good parts, which end within the greatest offset,
--- a part refuses
+-- what is left, from offset p on, refuses as the chunks of an open string: behind good chunks, which end within the greatest offset,
+-- a chunk refuses
 abbrev pub ChunksRefuse : StringKind → List ℕ → ℕ → Refusal → Type 0
 ChunksRefuse kind b p e =
     (good : List ℕ) × (payloads : List (List ℕ)) × (r : List ℕ) × AreChunks (string_major kind) (IsAllowed kind) good payloads ×
     (p + length good ≤ greatest_offset) × (b ≡ good ++ r) × ChunkRefuses kind r (p + length good) e
 
--- an open string at offset p: its parts refuse
+-- an open string at offset p: its chunks refuse
 abbrev pub OpenStringRefuses : StringKind → List ℕ → ℕ → Refusal → Type 0
 OpenStringRefuses kind b p e = (r : List ℕ) × (b ≡ open_byte (string_major kind) ∷ r) × ChunksRefuse kind r (p + 1) e
 

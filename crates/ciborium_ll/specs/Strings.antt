@@ -6,8 +6,8 @@ use Rattle.ciborium_ll.specs.declared.header.Error.{Error}
 use Rattle.ciborium_ll.specs.declared.header.Error.TheVariants.{Io, Syntax, TooLong, Memory}
 use Rattle.ciborium_ll.specs.declared.strings.Kind.{Kind}
 use Rattle.ciborium_ll.specs.declared.strings.Kind.TheVariants as kind
-use Rattle.ciborium_ll.specs.declared.strings.Part.{Part}
-use Rattle.ciborium_ll.specs.declared.strings.Part.TheVariants.{End, Definite, Other}
+use Rattle.ciborium_ll.specs.declared.strings.Chunk.{Chunk}
+use Rattle.ciborium_ll.specs.declared.strings.Chunk.TheVariants.{End, Definite, Other}
 use Rattle.ciborium_ll.specs.Bytes.{greatest_offset}
 use Rattle.ciborium_ll.specs.Head.{break_byte}
 use Rattle.ciborium_ll.specs.ReaderSteps.{IsHeadTaken}
@@ -25,7 +25,7 @@ string_header of_bytes n = header.Bytes (Some n)
 string_header of_text n = header.Text (Some n)
 
 -- what a head is inside an open string
-abbrev pub IsChunk : StringKind → Header → Part → Type 0
+abbrev pub IsChunk : StringKind → Header → Chunk → Type 0
 IsChunk kind h End = h ≡ header.Break
 IsChunk kind h (Definite n) = h ≡ string_header kind n
 IsChunk kind h Other = (h ≢ header.Break) × ((n : ℕ) → h ≢ string_header kind n)
@@ -55,14 +55,14 @@ IsPayloadTaken kind n p b (Err (Syntax at)) added = (at ≡ p) × (length b ≡ 
 IsPayloadTaken kind n p b (Err TooLong) added = ⊥
 IsPayloadTaken kind n p b (Err Memory) added = (length b ≤ n) × (added ≡ [])
 
--- b is taken at offset p, where a part of an open string is refused: its head is, or it is no part, or its payload is
+-- b is taken at offset p, where a chunk of an open string is refused: its head is, or it is no chunk, or its payload is
 abbrev pub IsChunkTaken : {E : Type 0} → StringKind → List ℕ → ℕ → Error E → Type 0
 IsChunkTaken {E} kind b p e =
     IsHeadTaken {E = E} b p (Err e)
     ⊎ ((h : Header) × IsHeadTaken {E = E} b p (Ok h) × IsChunk kind h Other × (e ≡ Syntax p))
     ⊎ ((n : ℕ) × (s : List ℕ) × (r : List ℕ) × (b ≡ s ++ r) × IsHeadTaken {E = E} s p (Ok (string_header kind n)) × IsPayloadTaken {E = E} kind n p r (Err e) [])
 
--- b is taken at offset p, where the parts of an open string are appended: good parts, and then the break, or a part that is refused
+-- b is taken at offset p, where the chunks of an open string are appended: good chunks, and then the break, or a chunk that is refused
 abbrev pub AreChunksTaken : {E : Type 0} → StringKind → List ℕ → ℕ → Result (Unit {0}) (Error E) → List ℕ → Type 0
 AreChunksTaken kind b p (Ok u) added =
     (payloads : List (List ℕ)) × (s : List ℕ) × AreChunks (string_major kind) (IsAllowed kind) s payloads × (p + length b ≤ greatest_offset) ×

@@ -29,7 +29,8 @@ impl<'a, R: Read> Decoder<'a, R> {
     ghost use Rattle.std.specs.Io.KnownBytes.{IsAtEnd};
     ghost use Rattle.ciborium_ll.specs.Bytes.{greatest_offset};
     ghost use Rattle.ciborium_ll.specs.Decoding.{HasBegun, HasSameReader, HoldsNothing, IsAhead};
-    ghost use Rattle.ciborium_ll.specs.Decoding.{IsHeld, IsSpent, ReadsNothing, MeasuresHead, Pulls};
+    ghost use Rattle.ciborium_ll.specs.Decoding.{IsHeld, IsSpent, MeasuresHead, Pulls};
+    ghost use Rattle.ciborium_ll.specs.Decoding.{ReadsNothing};
     ghost use Rattle.ciborium_ll.specs.Decoded.{HasAppended, HasFilled, HasPulled};
     ghost use Rattle.ciborium_ll.specs.Decoding.{Takes};
     ghost use Rattle.ciborium_ll.specs.Decoding.{allowed_of, count_of, head_len_of, last_of};

@@ -93,7 +93,8 @@ impl Window {
 impl<'c, R: Read, K: Keep> Cursor<'c, R, K> {
     ghost use Rattle.std.specs.Prelude.{◌<◌, IfNone, IfOk};
     ghost use Rattle.std.specs.Io.KnownBytes.{IsAtEnd};
-    ghost use Rattle.ciborium_ll.specs.inner.Cursors.{IsSameCursor, IsSpentAt, Moves, count_at, left_at};
+    ghost use Rattle.ciborium_ll.specs.inner.Cursors.{IsSameCursor, IsSpentAt, Moves, count_at};
+    ghost use Rattle.ciborium_ll.specs.inner.Cursors.{left_at};
     ghost use Rattle.ciborium_ll.specs.FirstHeads.{IsFirstTaken};
 
     // Reads the argument behind the initial byte of the head at this offset.

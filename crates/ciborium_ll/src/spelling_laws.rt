@@ -3,7 +3,8 @@
 
 ghost use Rattle.ciborium_ll.specs.laws.HeaderLaws.{HeaderBytesSpell, OneHeader, OneHeaderAtFront};
 ghost use Rattle.ciborium_ll.specs.laws.HeaderLaws.{NoOtherSpellingIsAsShort, NoSpellingIsShorter};
-ghost use Rattle.ciborium_ll.specs.laws.SpellingLaws.{NoOtherIsAsShort, NoneIsShorter, ShortestIsHead};
+ghost use Rattle.ciborium_ll.specs.laws.SpellingLaws.{NoOtherIsAsShort, NoneIsShorter};
+ghost use Rattle.ciborium_ll.specs.laws.SpellingLaws.{ShortestIsHead};
 ghost use Rattle.ciborium_ll.specs.laws.SpellingLaws.{NoneBeginsAnother, OneAtFront, OneItem};
 
 /// No spelling of an item is a strict prefix of a spelling of any item, and no bytes spell two

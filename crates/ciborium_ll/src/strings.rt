@@ -32,20 +32,20 @@ fn is_allowed(kind: Kind, payload: &[u8]) -> bool
 }
 
 // What a head is inside a string of indefinite length.
-enum Part {
+enum Chunk {
     End,
     Definite(usize),
     Other,
 }
 
-fn part_of(kind: Kind, header: Header) -> Part
+fn chunk_of(kind: Kind, header: Header) -> Chunk
     ensures { IsChunk (string_kind_of kind) header result }
 {
     match (kind, header) {
-        (_, Header::Break) => Part::End,
-        (Kind::Bytes, Header::Bytes(Some(n))) => Part::Definite(n),
-        (Kind::Text, Header::Text(Some(n))) => Part::Definite(n),
-        _ => Part::Other,
+        (_, Header::Break) => Chunk::End,
+        (Kind::Bytes, Header::Bytes(Some(n))) => Chunk::Definite(n),
+        (Kind::Text, Header::Text(Some(n))) => Chunk::Definite(n),
+        _ => Chunk::Other,
     }
 }
 
@@ -80,7 +80,7 @@ impl Window {
 impl<'c, R: Read, K: Keep> Cursor<'c, R, K> {
     ghost use Rattle.std.specs.Prelude.{◌+◌, ◌<◌, ◌≤◌, IfErr, length};
     ghost use Rattle.ciborium_ll.specs.inner.Cursors.{IsSameCursor, IsSpentAt, Moves, count_at};
-    ghost use Rattle.ciborium_ll.specs.Strings.{Grows, AreChunksTaken, IsPayloadTaken};
+    ghost use Rattle.ciborium_ll.specs.Strings.{AreChunksTaken, Grows, IsPayloadTaken};
     ghost use Rattle.ciborium_ll.specs.Strings.{IsPiecesTaken, IsStringTaken};
 
     // Appends n bytes, in pieces of at most the length of the scratch.
@@ -166,7 +166,7 @@ impl<'c, R: Read, K: Keep> Cursor<'c, R, K> {
 
     // Appends the payloads of the chunks of a string of indefinite length, up to the break.
     #[inline(never)]
-    fn append_parts(
+    fn append_chunks(
         &mut self,
         kind: Kind,
         scratch: &mut [u8],
@@ -178,12 +178,12 @@ impl<'c, R: Read, K: Keep> Cursor<'c, R, K> {
         ensures spent { IfErr result (λ e. IsSpentAt self.new e) }
     {
         let mut head = self.window.count;
-        'parts: loop {
+        'chunks: loop {
             let header = self.read_head()?;
-            match part_of(kind, header) {
-                Part::End => return Ok(()),
-                Part::Definite(n) => self.append_payload(kind, n, head, scratch, out)?,
-                Part::Other => return Err(Error::Syntax(head)),
+            match chunk_of(kind, header) {
+                Chunk::End => return Ok(()),
+                Chunk::Definite(n) => self.append_payload(kind, n, head, scratch, out)?,
+                Chunk::Other => return Err(Error::Syntax(head)),
             }
             head = self.window.count;
         }
@@ -212,7 +212,7 @@ impl<'c, R: Read, K: Keep> Cursor<'c, R, K> {
                 }
                 self.append_payload(kind, n, head, scratch, out)
             }
-            None => self.append_parts(kind, scratch, out),
+            None => self.append_chunks(kind, scratch, out),
         }
     }
 }

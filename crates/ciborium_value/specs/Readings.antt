@@ -22,7 +22,7 @@ pub record Reading (T C : Type 0) : Type 0 where
   -- how contents compare, where the type is a key of maps
   pub order : C → C → Ordering
   -- whether reading takes memory
-  pub takes_memory : Bool
+  pub needs_memory : Bool
   -- where reading is one call of `value`, the tree that it answered
   pub whole : Option (C → Tree)
 
@@ -34,15 +34,15 @@ unordered x y = Equal
 
 -- what is read by one call that takes no memory
 abbrev pub plain : {T C : Type 0} → (T → C) → (C → C → Ordering) → (taken : Taken C) → IsSteady taken → Reading T C
-plain content order taken steady = record { content = content; taken = taken; steady = steady; order = order; takes_memory = false; whole = None }
+plain content order taken steady = record { content = content; taken = taken; steady = steady; order = order; needs_memory = false; whole = None }
 
 -- what is read by one call that may take memory
 abbrev pub spacious : {T C : Type 0} → (T → C) → (C → C → Ordering) → (taken : Taken C) → IsSteady taken → Reading T C
-spacious content order taken steady = record { content = content; taken = taken; steady = steady; order = order; takes_memory = true; whole = None }
+spacious content order taken steady = record { content = content; taken = taken; steady = steady; order = order; needs_memory = true; whole = None }
 
 -- what another type reads, looked at once more: it gives a content or is refused
 abbrev pub checked : {T U A C : Type 0} → (T → C) → (C → C → Ordering) → Reading U A → (f : A → Outcome C) → ((v : A) → IsNoNesting (f v)) → Reading T C
-checked content order r f h = record { content = content; taken = taken_then r.taken f; steady = steady-then r.taken f r.steady h; order = order; takes_memory = r.takes_memory; whole = None }
+checked content order r f h = record { content = content; taken = taken_then r.taken f; steady = steady-then r.taken f r.steady h; order = order; needs_memory = r.needs_memory; whole = None }
 
 -- what another type reads, where this test holds of it, else refused with the kind
 abbrev pub such_that : {T U A : Type 0} → (T → A) → Reading U A → (A → Bool) → Kind → Reading T A
@@ -50,7 +50,7 @@ such_that content r test kind = checked content r.order r (λ v. if test v then 
 
 -- the same, where contents compare so: for a type that is a key of maps
 abbrev pub ordered_by : {T C : Type 0} → (C → C → Ordering) → Reading T C → Reading T C
-ordered_by order r = record { content = r.content; taken = r.taken; steady = r.steady; order = order; takes_memory = r.takes_memory; whole = r.whole }
+ordered_by order r = record { content = r.content; taken = r.taken; steady = r.steady; order = order; needs_memory = r.needs_memory; whole = r.whole }
 
 -- ---- numbers
 
@@ -75,7 +75,7 @@ IsBounded bound (negsuc n) = n < bound
 
 -- nothing, or what the content is read from
 abbrev pub option_of : {T C : Type 0} → Reading T C → Reading (Option T) (Option C)
-option_of r = record { content = option_map r.content; taken = taken_option r.taken; steady = steady-option r.taken r.steady; order = option_cmp r.order; takes_memory = r.takes_memory; whole = None }
+option_of r = record { content = option_map r.content; taken = taken_option r.taken; steady = steady-option r.taken r.steady; order = option_cmp r.order; needs_memory = r.needs_memory; whole = None }
 
 -- a list by its items
 abbrev pub list_of : {L T C : Type 0} → (L → List T) → Reading T C → Reading L (List C)
@@ -107,7 +107,7 @@ map_of entries k v = spacious (λ m. map (λ e. (k.content e.0, v.content e.1)) 
 
 -- what one call of `value` reads, by its tree; trees compare so
 abbrev pub whole_by : {T : Type 0} → (Tree → Tree → Ordering) → (T → Tree) → Reading T Tree
-whole_by order tree = record { content = tree; taken = taken_value; steady = steady-value; order = order; takes_memory = true; whole = Some (λ v. v) }
+whole_by order tree = record { content = tree; taken = taken_value; steady = steady-value; order = order; needs_memory = true; whole = Some (λ v. v) }
 
 -- the same, in the derived order
 abbrev pub whole_of : {T : Type 0} → (T → Tree) → Reading T Tree

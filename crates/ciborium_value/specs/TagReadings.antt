@@ -31,7 +31,7 @@ with_tag tag value r = record {
   taken = taken_with_tag r.taken;
   steady = steady-with_tag r.taken r.steady;
   order = λ x y. ordering_then (option_cmp nat_cmp x.0 y.0) (r.order x.1 y.1);
-  takes_memory = r.takes_memory;
+  needs_memory = r.needs_memory;
   whole = None;
 }
 

@@ -85,7 +85,8 @@ module _ {T C : Type 0} {written : T → Named} {content : T → C} (alike : IsW
 abbrev content_of : {K V C D : Type 0} → (K → C) → (V → D) → K × V → C × D
 content_of key value e = (key e.0, value e.1)
 
-abbrev contents : {K V C D : Type 0} → (K → C) → (V → D) → List (K × V) → List (C × D)
+-- what counts of the entries
+abbrev pub contents : {K V C D : Type 0} → (K → C) → (V → D) → List (K × V) → List (C × D)
 contents key value es = map (content_of key value) es
 
 module _ {K C : Type 0} {key_written : K → Named} {key : K → C} (key_alike : IsWrittenByContent key_written key) where

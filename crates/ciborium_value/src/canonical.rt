@@ -10,15 +10,16 @@ ghost use Rattle.std.specs.Prelude.{◌≡◌, ◌+◌, ◌*◌, ◌^◌, ◌<�
 ghost use Rattle.std.specs.declared.cmp.Ordering.TheVariants.{Equal};
 ghost use Rattle.ciborium_ll.specs.Bytes.{AreBytes};
 ghost use Rattle.ciborium_value.specs.Canonical.{bytewise_order, canonical_order, key_order};
-ghost use Rattle.ciborium_value.specs.Counts.{node_count, trees_node_count, tree_pairs_node_count};
+ghost use Rattle.ciborium_value.specs.Counts.{node_count, tree_pairs_node_count, trees_node_count};
 ghost use Rattle.ciborium_value.specs.inner.EncodedLists.{encodings, pair_encodings};
-ghost use Rattle.ciborium_value.specs.Encoding.{encoding, encoded_size};
-ghost use Rattle.ciborium_value.specs.inner.TreeHeads.{tree_major, argument_of, head_order};
-ghost use Rattle.ciborium_value.specs.ProperTrees.{IsProperTree, AreProperTrees, AreProperTreePairs};
+ghost use Rattle.ciborium_value.specs.Encoding.{encoded_size, encoding};
+ghost use Rattle.ciborium_value.specs.inner.TreeHeads.{argument_of, head_order, tree_major};
+ghost use Rattle.ciborium_value.specs.ProperTrees.{AreProperTreePairs, AreProperTrees};
+ghost use Rattle.ciborium_value.specs.ProperTrees.{IsProperTree};
 ghost use Rattle.ciborium_value.specs.inner.SideBySide.{Decides};
 ghost use Rattle.ciborium_value.specs.Tree.{integer};
-ghost use Rattle.ciborium_value.specs.View.{tree_of, trees_of, tree_pairs_of};
-ghost use Rattle.ciborium_value.specs.Visits.{AddsVisits, AddsAtMost, saturated, both_node_count};
+ghost use Rattle.ciborium_value.specs.View.{tree_of, tree_pairs_of, trees_of};
+ghost use Rattle.ciborium_value.specs.Visits.{AddsAtMost, AddsVisits, both_node_count, saturated};
 
 use crate::key_order::KeyOrder;
 use crate::tree::Value;

@@ -41,7 +41,7 @@ impl Value {
             (λ v. T.reading.taken None (value_item self.now) ≡ gives (T.reading.content v)) }
         ensures refused { IfErr result
             (λ e. IsErrorOf e (T.reading.taken None (value_item self.now))) }
-        ensures memory { IfErr result (λ e. IsGrantedFault (tree_fault e) T.reading.takes_memory) }
+        ensures memory { IfErr result (λ e. IsGrantedFault (tree_fault e) T.reading.needs_memory) }
     {
         let mut source = TreeSource {
             ahead: Pending::Whole(self),

@@ -4,7 +4,8 @@ ghost use Rattle.std.specs.Prelude.{◌≡◌, ◌≤◌, ◌<◌, ◌++◌, IfO
 ghost use Rattle.std.specs.Prelude.{decimal, slice_index, take, true};
 ghost use Rattle.std.specs.Fmt.{WritesStyledOnOk, signed_decimal, spec_alternate};
 ghost use Rattle.hex.specs.Hex.{encode_lower};
-ghost use Rattle.ciborium_value.specs.Notation.{IsPlain, comma, one_level_more, escape, line_break, needs_escape};
+ghost use Rattle.ciborium_value.specs.Notation.{IsPlain, comma, escape, line_break, needs_escape};
+ghost use Rattle.ciborium_value.specs.Notation.{one_level_more};
 ghost use Rattle.ciborium_value.specs.Notation.{last_break, notation, notation_on, notations_on};
 ghost use Rattle.ciborium_value.specs.Notation.{pair_notations_on, quoted, styled_notation};
 ghost use Rattle.ciborium_value.specs.View.{tree_of, tree_pairs_of, trees_of};

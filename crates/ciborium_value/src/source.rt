@@ -7,7 +7,8 @@ ghost use Rattle.ciborium_value.specs.Nesting.{Limit};
 ghost use Rattle.ciborium_value.specs.Places.{Shape, dictionary, sequence};
 ghost use Rattle.ciborium_value.specs.Sources.{Completes, Enters, EntersMap, Fault, GivesBack};
 ghost use Rattle.ciborium_value.specs.Sources.{GoesOn, Holds, IsGrantedFault, Leaves, OwesLess};
-ghost use Rattle.ciborium_value.specs.Sources.{OwesNothing, RefusesAhead, RefusesNext, RefusesToTell};
+ghost use Rattle.ciborium_value.specs.Sources.{OwesNothing, RefusesAhead, RefusesNext};
+ghost use Rattle.ciborium_value.specs.Sources.{RefusesToTell};
 ghost use Rattle.ciborium_value.specs.Sources.{TakesAhead, TakesItem, TakesNothing, TakesOnly};
 ghost use Rattle.ciborium_value.specs.Sources.{TakesTo, Tells, of_kind, of_memory, read_as};
 ghost use Rattle.ciborium_value.specs.Taken.{taken_boolean, taken_bytes, taken_character};
@@ -97,7 +98,8 @@ pub trait Source {
     /// Null or undefined (section 3.3). Skips tags; another item is refused as `Unit`.
     fn unit(&mut self) -> Result<(), Self::Error>
         ensures ok { IfOk result (λ v. TakesAhead stands_before self.old self.new taken_unit v) }
-        ensures refused { IfErr result (λ e. RefusesAhead stands_before self.old taken_unit (cause e)) }
+        ensures refused { IfErr result
+            (λ e. RefusesAhead stands_before self.old taken_unit (cause e)) }
         ensures memory { IfErr result (λ e. IsGrantedFault (cause e) false) }
         ensures took { OnOk result (TakesItem is_unread self.old self.new) }
         ensures only { TakesOnly has_taken self.old self.new }
@@ -106,7 +108,8 @@ pub trait Source {
 
     /// The one character of a definite text. Skips tags; another item is refused as `Char`.
     fn character(&mut self) -> Result<char, Self::Error>
-        ensures ok { IfOk result (λ v. TakesAhead stands_before self.old self.new taken_character v) }
+        ensures ok { IfOk result
+            (λ v. TakesAhead stands_before self.old self.new taken_character v) }
         ensures refused { IfErr result
             (λ e. RefusesAhead stands_before self.old taken_character (cause e)) }
         ensures memory { IfErr result (λ e. IsGrantedFault (cause e) false) }
@@ -120,7 +123,8 @@ pub trait Source {
     fn text(&mut self, alloc: Global) -> Result<String, Self::Error>
         ensures ok { IfOk result
             (λ v. TakesAhead stands_before self.old self.new taken_text (string_bytes v)) }
-        ensures refused { IfErr result (λ e. RefusesAhead stands_before self.old taken_text (cause e)) }
+        ensures refused { IfErr result
+            (λ e. RefusesAhead stands_before self.old taken_text (cause e)) }
         ensures took { OnOk result (TakesItem is_unread self.old self.new) }
         ensures only { TakesOnly has_taken self.old self.new }
         ensures less { OnOk result (left self.new < left self.old) }
@@ -130,8 +134,10 @@ pub trait Source {
     /// array, which takes a level, of numbers from 0 to 255, each as `integer` reads it: a number
     /// out of this range is refused as `Range`. Skips tags; another item is refused as `Bytes`.
     fn bytes(&mut self, alloc: Global) -> Result<Vec<u8>, Self::Error>
-        ensures ok { IfOk result (λ v. TakesAhead stands_before self.old self.new taken_bytes v.items) }
-        ensures refused { IfErr result (λ e. RefusesAhead stands_before self.old taken_bytes (cause e)) }
+        ensures ok { IfOk result
+            (λ v. TakesAhead stands_before self.old self.new taken_bytes v.items) }
+        ensures refused { IfErr result
+            (λ e. RefusesAhead stands_before self.old taken_bytes (cause e)) }
         ensures took { OnOk result (TakesItem is_unread self.old self.new) }
         ensures only { TakesOnly has_taken self.old self.new }
         ensures less { OnOk result (left self.new < left self.old) }
@@ -142,7 +148,8 @@ pub trait Source {
     fn name(&mut self, alloc: Global) -> Result<String, Self::Error>
         ensures ok { IfOk result
             (λ v. TakesAhead stands_before self.old self.new taken_name (string_bytes v)) }
-        ensures refused { IfErr result (λ e. RefusesAhead stands_before self.old taken_name (cause e)) }
+        ensures refused { IfErr result
+            (λ e. RefusesAhead stands_before self.old taken_name (cause e)) }
         ensures took { OnOk result (TakesItem is_unread self.old self.new) }
         ensures only { TakesOnly has_taken self.old self.new }
         ensures less { OnOk result (left self.new < left self.old) }
@@ -204,7 +211,8 @@ pub trait Source {
     /// are then its items, as integers. Skips tags; another item is refused as `Array`.
     fn begin_seq(&mut self, alloc: Global) -> Result<Self::Seq, Self::Error>
         ensures ok { IfOk result (λ q. Enters stands_before seq_stands self.old self.new q) }
-        ensures refused { IfErr result (λ e. RefusesAhead stands_before self.old taken_seq (cause e)) }
+        ensures refused { IfErr result
+            (λ e. RefusesAhead stands_before self.old taken_seq (cause e)) }
         ensures took { IfOk result (λ q. TakesTo is_unread self.old self.new (owes q sequence)) }
         ensures only { TakesOnly has_taken self.old self.new }
         ensures less { IfOk result (λ q. left self.new + seq_left q < left self.old) }
@@ -213,7 +221,8 @@ pub trait Source {
     /// Enters a map, which takes a level. Skips tags; another item is refused as `Map`.
     fn begin_map(&mut self) -> Result<Self::Seq, Self::Error>
         ensures ok { IfOk result (λ q. EntersMap stands_before seq_stands self.old self.new q) }
-        ensures refused { IfErr result (λ e. RefusesAhead stands_before self.old taken_pairs (cause e)) }
+        ensures refused { IfErr result
+            (λ e. RefusesAhead stands_before self.old taken_pairs (cause e)) }
         ensures memory { IfErr result (λ e. IsGrantedFault (cause e) false) }
         ensures took { IfOk result (λ q. TakesTo is_unread self.old self.new (owes q dictionary)) }
         ensures only { TakesOnly has_taken self.old self.new }
@@ -242,7 +251,8 @@ pub trait Source {
     fn value(&mut self, alloc: Global) -> Result<Value, Self::Error>
         ensures ok { IfOk result
             (λ v. TakesAhead stands_before self.old self.new taken_value (tree_of v)) }
-        ensures refused { IfErr result (λ e. RefusesAhead stands_before self.old taken_value (cause e)) }
+        ensures refused { IfErr result
+            (λ e. RefusesAhead stands_before self.old taken_value (cause e)) }
         ensures reads { reads self.old self.new (read_as tree_of result) }
         ensures took { OnOk result (TakesItem is_unread self.old self.new) }
         ensures only { TakesOnly has_taken self.old self.new }

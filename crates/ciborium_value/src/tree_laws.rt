@@ -1,9 +1,12 @@
 //! What holds of values and their encodings, whatever the code: each law is the contract of a
 //! function that does nothing.
 
-ghost use Rattle.ciborium_value.specs.laws.Examples.{CornerExamples, CountedExamples, FoldingExamples};
-ghost use Rattle.ciborium_value.specs.laws.Examples.{RefusedExamples, SpelledExamples, WrittenExamples};
-ghost use Rattle.ciborium_value.specs.laws.FoldingLaws.{EncodingIsGood, FoldsOnce, WrittenMeansFolded};
+ghost use Rattle.ciborium_value.specs.laws.Examples.{CornerExamples, CountedExamples};
+ghost use Rattle.ciborium_value.specs.laws.Examples.{FoldingExamples};
+ghost use Rattle.ciborium_value.specs.laws.Examples.{RefusedExamples, SpelledExamples};
+ghost use Rattle.ciborium_value.specs.laws.Examples.{WrittenExamples};
+ghost use Rattle.ciborium_value.specs.laws.FoldingLaws.{EncodingIsGood, FoldsOnce};
+ghost use Rattle.ciborium_value.specs.laws.FoldingLaws.{WrittenMeansFolded};
 ghost use Rattle.ciborium_value.specs.laws.FormLaws.{AcceptedWhereOwnForm, AlikeHaveOneForm};
 ghost use Rattle.ciborium_value.specs.laws.FormLaws.{FormOrRefused, RefusedByDuplicates};
 ghost use Rattle.ciborium_value.specs.laws.FormLaws.{FormIsAlike, FormIsItsOwn, FormIsProper};

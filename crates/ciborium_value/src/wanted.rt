@@ -2,7 +2,8 @@
 
 ghost use Rattle.std.specs.Prelude.{◌≡◌, ◌<◌, ◌≤◌, IfErr, IfOk, None, OnErr, OnOk, Option, Some};
 ghost use Rattle.std.specs.Option.{option_map};
-ghost use Rattle.ciborium_value.specs.Sources.{RefusesAhead, TakesAhead, TakesItem, TakesOnly, of_kind};
+ghost use Rattle.ciborium_value.specs.Sources.{RefusesAhead, TakesAhead, TakesItem, TakesOnly};
+ghost use Rattle.ciborium_value.specs.Sources.{of_kind};
 ghost use Rattle.ciborium_value.specs.StructReadings.{FieldsTaken, field_taken};
 ghost use Rattle.ciborium_value.specs.StructReadings.{no_field_taken, taken_fields};
 ghost use Rattle.ciborium_value.specs.declared.kind.Kind.TheVariants.{Other};

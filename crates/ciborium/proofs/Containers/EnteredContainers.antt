@@ -14,7 +14,7 @@ use Rattle.ciborium_value.specs.Sources.{Enters, EntersMap}
 use Rattle.ciborium.proofs.Items.Due.{held-past}
 use Rattle.ciborium_value.specs.Ahead.{Form, parts, after, item, inside, of_bytes, pairs}
 use Rattle.ciborium_value.specs.Nesting.{Limit}
-use Rattle.ciborium_value.specs.Places.{sequence, dictionary}
+use Rattle.ciborium_value.specs.Places.{is_open, sequence, dictionary}
 use Rattle.ciborium_value.specs.Taken.{Outcome, Taken, gives, refuses, nests, untagged, deeper, within_level, unpack, unpack_pairs, bare_seq, bare_pairs, taken_seq, taken_pairs}
 use Rattle.ciborium_value.specs.declared.kind.Kind.TheVariants as kinds
 use Rattle.ciborium.specs.declared.de.byte_source.ByteSource.{ByteSource}
@@ -23,7 +23,7 @@ use Rattle.ciborium.specs.declared.de.byte_source.Left.{Left}
 use Rattle.ciborium.specs.declared.de.byte_source.Left.TheVariants as left
 use Rattle.ciborium.specs.inner.ByteSources.{IsUnread, IsUnreadBy, StandsBefore, SeqStands, HoldsItems, HoldsPairs, SeqOwes, LeftOwes, OwesParts, EntersItemsUnread, EntersPairsUnread, HasBytes, parts_left, items_due_behind, weight_left, seq_left}
 use Rattle.ciborium.specs.inner.Skips.{under, AreSkipped, IsBare, TakesBare, EntersUnread}
-use Rattle.ciborium.specs.inner.StringContents.{TakesContent, is_open}
+use Rattle.ciborium.specs.inner.StringContents.{TakesContent}
 use Rattle.ciborium.specs.inner.Unread.{AreSpelled, AreLeft, SpellsPair, IsRest, ending, form_of, HasCount}
 use Rattle.ciborium.proofs.Items.ItemHeads.{header_of, packed, packed-pairs, counted-front, open-front, counted-pairs-front, open-pairs-front}
 use Rattle.ciborium.proofs.Items.SkippedTags.{untagged-under}

@@ -20,7 +20,8 @@ use Rattle.ciborium_value.proofs.Sources.Sequences.{fault_map}
 use Rattle.ciborium.specs.inner.ByteSources.{IsUnreadBy}
 use Rattle.ciborium.specs.inner.FrontItems.{Reads, Denies}
 use Rattle.ciborium.specs.inner.Skips.{under, AreSkipped, IsBare, TakesBare, EntersLevelUnread}
-use Rattle.ciborium.specs.inner.StringContents.{TakesContent, is_open}
+use Rattle.ciborium.specs.inner.StringContents.{TakesContent}
+use Rattle.ciborium_value.specs.Places.{is_open}
 use Rattle.ciborium.proofs.Containers.EnteredContainers.{within-is}
 use Rattle.ciborium.proofs.Items.ItemHeads.{header_of, same-head}
 use Rattle.ciborium.proofs.Items.SkippedTags.{untagged-under}

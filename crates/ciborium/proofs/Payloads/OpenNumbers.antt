@@ -18,7 +18,8 @@ use Rattle.ciborium_value.specs.Taken.{taken_bignum, bignum_of, refuses}
 use Rattle.ciborium_value.specs.declared.kind.Kind.TheVariants as kinds
 use Rattle.ciborium_value.proofs.Sources.Sequences.{fault_outside}
 use Rattle.ciborium.specs.inner.FrontItems.{TakesHead, DeniesHead, Reads, Denies}
-use Rattle.ciborium.specs.inner.StringContents.{is_open, digits_of, TakesDigits, TakesNumber, TakesParts, DeniesContent, DeniesJust}
+use Rattle.ciborium.specs.inner.StringContents.{digits_of, TakesDigits, TakesNumber, TakesParts, DeniesContent, DeniesJust}
+use Rattle.ciborium_value.specs.Places.{is_open}
 use Rattle.ciborium.proofs.Items.ItemHeads.{header_of, first-head, first-payload, same-head, no-break-head}
 use Rattle.ciborium.proofs.Payloads.ReadDigits.{digits-append, digits-some, digits-none}
 use Rattle.ciborium.proofs.Payloads.SpelledStrings.{same-payload, string-break, opened-up, same-rest}

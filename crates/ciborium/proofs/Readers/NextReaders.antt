@@ -129,8 +129,8 @@ module _ {S T A : Type 0} (E : Type 0) (remaining : S → Option (List ℕ)) (re
   next-refused (Some h) (Err e) taken none item = λ b known. handed-denied E remaining reading (behind_head s h) t b (0 + length b) (front E remaining d s lent begins kept h taken b known) few
       (takes-end remaining d s.decoder _ b (begun-left remaining d lent 0 begins ∙ known) taken ∙ ap (λ n. n + length b) begins.count) (Err e) item
 
-  pub next-memory : (first : Option Header) (r : Result (Option T) (Error E)) → End first r → Behind first r → IfErr r (λ e. IsGrantedFault (fault_of e) reading.takes_memory)
-  next-memory None r (is, same) item = subst (λ q. IfErr q (λ e. IsGrantedFault (fault_of e) reading.takes_memory)) (sym is) tt
+  pub next-memory : (first : Option Header) (r : Result (Option T) (Error E)) → End first r → Behind first r → IfErr r (λ e. IsGrantedFault (fault_of e) reading.needs_memory)
+  next-memory None r (is, same) item = subst (λ q. IfErr q (λ e. IsGrantedFault (fault_of e) reading.needs_memory)) (sym is) tt
   next-memory (Some h) (Ok None) none item = absurd item
   next-memory (Some h) (Ok (Some v)) none item = tt
   next-memory (Some h) (Err e) none item = item.memory

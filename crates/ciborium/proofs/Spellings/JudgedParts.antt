@@ -16,7 +16,7 @@ use Rattle.ciborium_value.proofs.GoodItems.GoodBytes.{utf8_bytes}
 use Rattle.ciborium_value.specs.Encoding.{encoding, item_of}
 use Rattle.ciborium_value.specs.Meaning.{simple_meaning}
 use Rattle.ciborium_value.specs.Nesting.{nesting}
-use Rattle.ciborium_value.specs.inner.Frames as opened
+use Rattle.ciborium_value.specs.inner.Frames as frames
 use Rattle.ciborium_value.specs.inner.Stack.{begun_frame as opened_of}
 use Rattle.ciborium_value.specs.Tree as trees
 use Rattle.ciborium_value.specs.Tree.{Tree}
@@ -144,7 +144,7 @@ module _ (order : KeyOrder) where
     no-open-map is = let wrong = sym (ap (λ g. deterministic_fault g d.head_len) is) ∙ right in cc
 
     -- one was opened: n parts or pairs are due, the first of them and k more
-    opened-at : (f : Opening) (o : opened.TreeFrame) (kind : ContainerKind) (n : ℕ) → 0 < l → opened_of f ≡ o → ((m : ℕ) (r : List ℕ) (q : ℕ) → HasParts order kind n m xs p [] r q → IsStrictlyInside order o m xs p r q) →
+    opened-at : (f : Opening) (o : frames.TreeFrame) (kind : ContainerKind) (n : ℕ) → 0 < l → opened_of f ≡ o → ((m : ℕ) (r : List ℕ) (q : ℕ) → HasParts order kind n m xs p [] r q → IsStrictlyInside order o m xs p r q) →
         (a : IsPulled remaining d h xs p) → HasShortHead (container_major kind) n xs p a.1 (p + length a.0) →
         (zs : List ℕ) × (r : ℕ) × IsFrameBegun (deterministic order) l xs p (opened_of f) zs r × StandsAt (deterministic order) remaining d zs r
     opened-at f o kind n lt is inside a short =
@@ -163,9 +163,9 @@ module _ (order : KeyOrder) where
         got-leaf order remaining d l xs p h 4 n (trees.array trees.no_trees) (tree_of v) pushed s.2 (append-nil (shortest_head 4 0) ∙ ap (shortest_head 4) (sym none)) (record { proper = (omega arith, tt); folds = refl; rises = tt }) (omega (arith, some)) a (short-array n is a)
     array-part E (Some n) (Ok (Opened f)) is a (lt, behind, same, left) = by behind same left
       where
-        by : (behind : Option ℕ) → opened_of f ≡ opened.array [] behind → IsBehind (Some n) behind → IsPartRead {E = E} (deterministic order) remaining d l xs p (Ok (Opened f))
+        by : (behind : Option ℕ) → opened_of f ≡ frames.array [] behind → IsBehind (Some n) behind → IsPartRead {E = E} (deterministic order) remaining d l xs p (Ok (Opened f))
         by None same left = absurd left
-        by (Some k) same left = opened-at f (opened.array [] (Some k)) of_array n lt same (λ m r q t. subst (λ j. HasParts order of_array j m xs p [] r q) (omega (arith, left)) t) a (short-array n is a)
+        by (Some k) same left = opened-at f (frames.array [] (Some k)) of_array n lt same (λ m r q t. subst (λ j. HasParts order of_array j m xs p [] r q) (omega (arith, left)) t) a (short-array n is a)
     array-part E (Some n) (Ok Ended) is a s = absurd s
     array-part E (Some n) (Err e) is a s =
         subst (λ z. IsRefusedBy (left_of remaining d) z (DeterministicallyRefuses order xs p l)) (sym s.1) (no-level of_array n s.0 a (short-array n is a))
@@ -178,9 +178,9 @@ module _ (order : KeyOrder) where
         got-leaf order remaining d l xs p h 5 n (trees.map trees.no_tree_pairs) (tree_of v) pushed s.2 (append-nil (shortest_head 5 0) ∙ ap (shortest_head 5) (sym none)) (record { proper = (omega arith, tt); folds = refl; rises = (tt, tt) }) (omega (arith, some)) a (short-map n is a)
     map-part E (Some n) (Ok (Opened f)) is a (lt, behind, same, left) = by behind same left
       where
-        by : (behind : Option ℕ) → opened_of f ≡ opened.map [] behind None → IsBehind (Some n) behind → IsPartRead {E = E} (deterministic order) remaining d l xs p (Ok (Opened f))
+        by : (behind : Option ℕ) → opened_of f ≡ frames.map [] behind None → IsBehind (Some n) behind → IsPartRead {E = E} (deterministic order) remaining d l xs p (Ok (Opened f))
         by None same left = absurd left
-        by (Some k) same left = opened-at f (opened.map [] (Some k) None) of_map n lt same (λ m r q t. subst (λ j. HasParts order of_map j m xs p [] r q) (omega (arith, left)) t) a (short-map n is a)
+        by (Some k) same left = opened-at f (frames.map [] (Some k) None) of_map n lt same (λ m r q t. subst (λ j. HasParts order of_map j m xs p [] r q) (omega (arith, left)) t) a (short-map n is a)
     map-part E (Some n) (Ok Ended) is a s = absurd s
     map-part E (Some n) (Err e) is a s =
         subst (λ z. IsRefusedBy (left_of remaining d) z (DeterministicallyRefuses order xs p l)) (sym s.1) (no-level of_map n s.0 a (short-map n is a))

@@ -20,7 +20,7 @@ use Rattle.ciborium_value.specs.Refuses.{Refuses, BeginsContainer, exactly}
 use Rattle.ciborium_value.specs.Tree as trees
 use Rattle.ciborium_value.specs.Tree.{Tree}
 use Rattle.ciborium_value.specs.View.{tree_of}
-use Rattle.ciborium_value.specs.inner.Frames as opened
+use Rattle.ciborium_value.specs.inner.Frames as frames
 use Rattle.ciborium_value.proofs.GoodItems.Steps.{opened-has}
 use Rattle.ciborium.proofs.Turns.ItemsRead.{item-read}
 use Rattle.ciborium.specs.declared.de.error.Error.{Error}
@@ -168,7 +168,7 @@ map-opens (Some n) xs p b r u = BeginsContainer.map n (b, u.spelled, refl, u.spl
 map-opens None xs p b r u = BeginsContainer.open_map (ap length u.spelled) (u.split ∙ ap (λ (z : List ℕ). z ++ r) u.spelled)
 
 array-inside : (count behind : Option ℕ) (l : ℕ) (xs : List ℕ) (p : ℕ) (b r : List ℕ) → IsBehind count behind → Front xs p (header.Array count) b r →
-    IsInContainer 4 count (array_due count) (due_in (opened.array [] behind)) l xs p [] r (p + length b)
+    IsInContainer 4 count (array_due count) (due_in (frames.array [] behind)) l xs p [] r (p + length b)
 array-inside count behind l xs p b r e u = record {
   size = length b;
   good = [];
@@ -184,7 +184,7 @@ array-inside count behind l xs p b r e u = record {
   fits = front-fits xs p _ b r u;
 }
   where
-    due : (count behind : Option ℕ) → IsBehind count behind → array_due count ≡ due_in (opened.array [] behind)
+    due : (count behind : Option ℕ) → IsBehind count behind → array_due count ≡ due_in (frames.array [] behind)
     due (Some n) (Some k) e = ap exactly e
     due (Some n) None e = absurd e
     due None (Some k) e = absurd e
@@ -195,7 +195,7 @@ array-inside count behind l xs p b r e u = record {
     room None = tt
 
 map-inside : (count behind : Option ℕ) (l : ℕ) (xs : List ℕ) (p : ℕ) (b r : List ℕ) → IsBehind count behind → Front xs p (header.Map count) b r →
-    IsInContainer 5 count (map_due count) (due_in (opened.map [] behind None)) l xs p [] r (p + length b)
+    IsInContainer 5 count (map_due count) (due_in (frames.map [] behind None)) l xs p [] r (p + length b)
 map-inside count behind l xs p b r e u = record {
   size = length b;
   good = [];
@@ -211,7 +211,7 @@ map-inside count behind l xs p b r e u = record {
   fits = front-fits xs p _ b r u;
 }
   where
-    due : (count behind : Option ℕ) → IsBehind count behind → map_due count ≡ due_in (opened.map [] behind None)
+    due : (count behind : Option ℕ) → IsBehind count behind → map_due count ≡ due_in (frames.map [] behind None)
     due (Some n) (Some k) e = ap (λ m. exactly (2 * m)) e
     due (Some n) None e = absurd e
     due None (Some k) e = absurd e

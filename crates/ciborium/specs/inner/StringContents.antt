@@ -8,15 +8,12 @@ use Rattle.ciborium_ll.specs.Item.{Item, bytes, text}
 use Rattle.ciborium_ll.specs.Spells.{Spells, AreChunks, joined}
 use Rattle.ciborium_ll.specs.StringRefusal.{StringKind, of_bytes, of_text}
 use Rattle.ciborium_value.specs.Sources.{Fault, IsOutsideFault}
+use Rattle.ciborium_value.specs.Places.{is_open}
 
 -- the head of a string of this length (None: open)
 abbrev pub head_of : StringKind → Option ℕ → Header
 head_of of_bytes len = header.Bytes len
 head_of of_text len = header.Text len
-
-abbrev pub is_open : Option ℕ → Bool
-is_open (Some n) = false
-is_open None = true
 
 -- the string with this payload
 abbrev pub string_item : StringKind → Option ℕ → List ℕ → Item

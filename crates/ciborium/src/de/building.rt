@@ -7,7 +7,8 @@ ghost use Rattle.ciborium_ll.specs.Decoding.{head_len_of, left_of, pushed_of, re
 ghost use Rattle.ciborium_value.specs.inner.Stack.{frames_of};
 ghost use Rattle.ciborium_value.specs.View.{tree_of};
 ghost use Rattle.ciborium.specs.ValueAnswers.{IsPlacedInOrder, IsReading, IsTurned, IsValueRead};
-ghost use Rattle.ciborium.specs.inner.Due.{AllowsDue, AllowsNoMore, AllowsThen, HoldsNothingAfter, LeavesReader};
+ghost use Rattle.ciborium.specs.inner.Due.{AllowsDue, AllowsNoMore, AllowsThen, HoldsNothingAfter};
+ghost use Rattle.ciborium.specs.inner.Due.{LeavesReader};
 ghost use Rattle.ciborium.specs.inner.ValuesInBytes.{StandsAt, heads_left};
 
 use crate::de::error::{Error, Refusal};

@@ -6,7 +6,7 @@ use Rattle.ciborium_value.specs.Encoding.{item_of, items_of, pairs_of}
 use Rattle.ciborium_value.specs.Folded.{folded, trees_folded, tree_pairs_folded, tree_folding_bytes}
 use Rattle.ciborium_value.specs.inner.FoldedCopies.{where_folded, copied, pairs_in_turn, nodes_of}
 use Rattle.ciborium_value.specs.Meaning.{tag_meaning, trees_more, tree_pairs_more, simple_meaning, is_bignum_tag}
-use Rattle.ciborium_value.specs.inner.Frames as open_
+use Rattle.ciborium_value.specs.inner.Frames as frames
 use Rattle.ciborium_value.specs.inner.Frames.{TreeFrame, Placed, done, more, placed}
 use Rattle.ciborium_value.specs.inner.FoldedCopies.{IsUnfolded, path_trees, coming_trees, all_coming}
 use Rattle.ciborium_value.specs.declared.deserialized.folding.Coming.{Coming}
@@ -116,7 +116,7 @@ folded-trees (t ∷ ts) = ap (trees_more (folded t)) (folded-trees ts) ∙ folde
 abbrev ends_array : List TreeFrame → List Tree → List Tree → List Tree → Option Placed
 ends_array os acc ts xs = copied (placed os (trees.array (trees_from (acc ++ xs)))) ts
 
-last_item : (os : List TreeFrame) (acc ts : List Tree) (o : Option Tree) → where_folded o (λ v. copied (placed (open_.array acc (Some zero) ∷ os) v) ts) ≡ where_all (one_before o (Some [])) (ends_array os acc ts)
+last_item : (os : List TreeFrame) (acc ts : List Tree) (o : Option Tree) → where_folded o (λ v. copied (placed (frames.array acc (Some zero) ∷ os) v) ts) ≡ where_all (one_before o (Some [])) (ends_array os acc ts)
 last_item os acc ts None = refl
 last_item os acc ts (Some v) = refl
 
@@ -125,12 +125,12 @@ behind_item os acc ts v None = refl
 behind_item os acc ts v (Some vs) = ap (λ xs. copied (placed os (trees.array (trees_from xs))) ts) (append_assoc acc (v ∷ []) vs)
 
 next_item : (os : List TreeFrame) (acc ts rest : List Tree) (n : ℕ) (o : Option Tree) (r : Option (List Tree)) →
-    ((v : Tree) → copied (more (open_.array (acc ++ v ∷ []) (Some n) ∷ os)) rest ≡ where_all r (ends_array os (acc ++ v ∷ []) ts)) →
-    where_folded o (λ v. copied (placed (open_.array acc (Some (suc n)) ∷ os) v) rest) ≡ where_all (one_before o r) (ends_array os acc ts)
+    ((v : Tree) → copied (more (frames.array (acc ++ v ∷ []) (Some n) ∷ os)) rest ≡ where_all r (ends_array os (acc ++ v ∷ []) ts)) →
+    where_folded o (λ v. copied (placed (frames.array acc (Some (suc n)) ∷ os) v) rest) ≡ where_all (one_before o r) (ends_array os acc ts)
 next_item os acc ts rest n None r h = refl
 next_item os acc ts rest n (Some v) r h = h v ∙ behind_item os acc ts v r
 
-copied-items : (os : List TreeFrame) (acc : List Tree) (t : Tree) (us ts : List Tree) → copied (more (open_.array acc (Some (length us)) ∷ os)) ((t ∷ us) ++ ts) ≡ where_all (each_folded (t ∷ us)) (ends_array os acc ts)
+copied-items : (os : List TreeFrame) (acc : List Tree) (t : Tree) (us ts : List Tree) → copied (more (frames.array acc (Some (length us)) ∷ os)) ((t ∷ us) ++ ts) ≡ where_all (each_folded (t ∷ us)) (ends_array os acc ts)
 copied-items os acc t [] ts = last_item os acc ts (folded t)
 copied-items os acc t (u ∷ us) ts = next_item os acc ts ((u ∷ us) ++ ts) (length us) (folded t) (each_folded (u ∷ us)) (λ v. copied-items os (acc ++ v ∷ []) u us ts)
 
@@ -139,11 +139,11 @@ whole_array os ts None = refl
 whole_array os ts (Some vs) = refl
 
 -- an array is what its items make of it once it is open
-array_opens : (os : List TreeFrame) (us ts : List Tree) (n : ℕ) → length us ≡ suc n → copied (more os) (trees.array (trees_from us) ∷ ts) ≡ copied (more (open_.array [] (Some n) ∷ os)) (us ++ ts)
+array_opens : (os : List TreeFrame) (us ts : List Tree) (n : ℕ) → length us ≡ suc n → copied (more os) (trees.array (trees_from us) ∷ ts) ≡ copied (more (frames.array [] (Some n) ∷ os)) (us ++ ts)
 array_opens os [] ts n h = cc
 array_opens os (t ∷ us) ts n h =
     ap (λ o. where_folded (option_map trees.array o) (λ v. copied (placed os v) ts)) (folded-trees (t ∷ us)) ∙
-    (whole_array os ts (each_folded (t ∷ us)) ∙ (sym (copied-items os [] t us ts) ∙ ap (λ m. copied (more (open_.array [] (Some m) ∷ os)) ((t ∷ us) ++ ts)) (omega (arith, h))))
+    (whole_array os ts (each_folded (t ∷ us)) ∙ (sym (copied-items os [] t us ts) ∙ ap (λ m. copied (more (frames.array [] (Some m) ∷ os)) ((t ∷ us) ++ ts)) (omega (arith, h))))
 
 -- ---- the same for maps
 
@@ -171,7 +171,7 @@ ends_map os acc ts xs = copied (placed os (trees.map (tree_pairs_from (acc ++ xs
 
 -- a key and its value are put in
 abbrev puts_pair : List TreeFrame → List (Tree × Tree) → ℕ → Option Tree → Option Tree → List Tree → Option Placed
-puts_pair os acc n k v rest = where_folded k (λ x. where_folded v (λ y. copied (placed (open_.map acc (Some n) (Some x) ∷ os) y) rest))
+puts_pair os acc n k v rest = where_folded k (λ x. where_folded v (λ y. copied (placed (frames.map acc (Some n) (Some x) ∷ os) y) rest))
 
 last_pair : (os : List TreeFrame) (acc : List (Tree × Tree)) (ts : List Tree) (k v : Option Tree) → puts_pair os acc zero k v ts ≡ where_all (one_before (both k v) (Some [])) (ends_map os acc ts)
 last_pair os acc ts None v = refl
@@ -183,14 +183,14 @@ behind_pair os acc ts p None = refl
 behind_pair os acc ts p (Some ps) = ap (λ xs. copied (placed os (trees.map (tree_pairs_from xs))) ts) (append_assoc acc (p ∷ []) ps)
 
 next_pair : (os : List TreeFrame) (acc : List (Tree × Tree)) (ts rest : List Tree) (n : ℕ) (k v : Option Tree) (r : Option (List (Tree × Tree))) →
-    ((p : Tree × Tree) → copied (more (open_.map (acc ++ p ∷ []) (Some n) None ∷ os)) rest ≡ where_all r (ends_map os (acc ++ p ∷ []) ts)) →
+    ((p : Tree × Tree) → copied (more (frames.map (acc ++ p ∷ []) (Some n) None ∷ os)) rest ≡ where_all r (ends_map os (acc ++ p ∷ []) ts)) →
     puts_pair os acc (suc n) k v rest ≡ where_all (one_before (both k v) r) (ends_map os acc ts)
 next_pair os acc ts rest n None v r h = refl
 next_pair os acc ts rest n (Some x) None r h = refl
 next_pair os acc ts rest n (Some x) (Some y) r h = h (x, y) ∙ behind_pair os acc ts (x, y) r
 
 copied-pairs : (os : List TreeFrame) (acc : List (Tree × Tree)) (p : Value × Value) (ps : List (Value × Value)) (ts : List Tree) →
-    copied (more (open_.map acc (Some (length ps)) None ∷ os)) (pairs_in_turn (p ∷ ps) ++ ts) ≡ where_all (each_pair_folded (p ∷ ps)) (ends_map os acc ts)
+    copied (more (frames.map acc (Some (length ps)) None ∷ os)) (pairs_in_turn (p ∷ ps) ++ ts) ≡ where_all (each_pair_folded (p ∷ ps)) (ends_map os acc ts)
 copied-pairs os acc p [] ts = last_pair os acc ts (folded (tree_of p.0)) (folded (tree_of p.1))
 copied-pairs os acc p (q ∷ ps) ts =
     next_pair os acc ts (pairs_in_turn (q ∷ ps) ++ ts) (length ps) (folded (tree_of p.0)) (folded (tree_of p.1)) (each_pair_folded (q ∷ ps)) (λ x. copied-pairs os (acc ++ x ∷ []) q ps ts)
@@ -200,11 +200,11 @@ whole_map os ts None = refl
 whole_map os ts (Some ps) = refl
 
 -- a map is what its keys and values make of it once it is open
-map_opens : (os : List TreeFrame) (ps : List (Value × Value)) (ts : List Tree) (n : ℕ) → length ps ≡ suc n → copied (more os) (trees.map (tree_pairs_of ps) ∷ ts) ≡ copied (more (open_.map [] (Some n) None ∷ os)) (pairs_in_turn ps ++ ts)
+map_opens : (os : List TreeFrame) (ps : List (Value × Value)) (ts : List Tree) (n : ℕ) → length ps ≡ suc n → copied (more os) (trees.map (tree_pairs_of ps) ∷ ts) ≡ copied (more (frames.map [] (Some n) None ∷ os)) (pairs_in_turn ps ++ ts)
 map_opens os [] ts n h = cc
 map_opens os (p ∷ ps) ts n h =
     ap (λ o. where_folded (option_map trees.map o) (λ v. copied (placed os v) ts)) (folded-pairs (p ∷ ps)) ∙
-    (whole_map os ts (each_pair_folded (p ∷ ps)) ∙ (sym (copied-pairs os [] p ps ts) ∙ ap (λ m. copied (more (open_.map [] (Some m) None ∷ os)) (pairs_in_turn (p ∷ ps) ++ ts)) (omega (arith, h))))
+    (whole_map os ts (each_pair_folded (p ∷ ps)) ∙ (sym (copied-pairs os [] p ps ts) ∙ ap (λ m. copied (more (frames.map [] (Some m) None ∷ os)) (pairs_in_turn (p ∷ ps) ++ ts)) (omega (arith, h))))
 
 -- ---- what comes is less than what holds it
 
@@ -219,23 +219,23 @@ nodes-pairs (p ∷ ps) = let h = nodes-pairs ps in omega (arith, h)
 -- ---- values
 
 pub opens_array : (v : Value) (us : Vec Value Global) (vs : List Value) (n : ℕ) → v ≡ value.Array us → vs ≡ us.items → length us.items ≡ suc n →
-    ((os : List TreeFrame) (ts : List Tree) → copied (more os) (tree_of v ∷ ts) ≡ copied (more (open_.array [] (Some n) ∷ os)) (map tree_of vs ++ ts)) × (nodes_of (map tree_of vs) < node_count (tree_of v))
+    ((os : List TreeFrame) (ts : List Tree) → copied (more os) (tree_of v ∷ ts) ≡ copied (more (frames.array [] (Some n) ∷ os)) (map tree_of vs ++ ts)) × (nodes_of (map tree_of vs) < node_count (tree_of v))
 opens_array v us vs n is these h =
     let e : tree_of v ≡ trees.array (trees_of us.items) = ap tree_of is ∙ tree_of-Array us in
     let count : length (map tree_of us.items) ≡ suc n = length-map us.items tree_of ∙ h in
     let all : nodes_of (map tree_of vs) ≡ trees_node_count (trees_of us.items) = ap (λ xs. nodes_of (map tree_of xs)) these ∙ nodes-items us.items in
     let size : node_count (tree_of v) ≡ suc (trees_node_count (trees_of us.items)) = ap node_count e in (
-      (λ os ts. ap (λ t. copied (more os) (t ∷ ts)) e ∙ (array_opens os (map tree_of us.items) ts n count ∙ ap (λ xs. copied (more (open_.array [] (Some n) ∷ os)) (map tree_of xs ++ ts)) (sym these))),
+      (λ os ts. ap (λ t. copied (more os) (t ∷ ts)) e ∙ (array_opens os (map tree_of us.items) ts n count ∙ ap (λ xs. copied (more (frames.array [] (Some n) ∷ os)) (map tree_of xs ++ ts)) (sym these))),
       omega (arith, all, size),
     )
 
 pub opens_map : (v : Value) (us : Vec (Value × Value) Global) (ps : List (Value × Value)) (n : ℕ) → v ≡ value.Map us → ps ≡ us.items → length us.items ≡ suc n →
-    ((os : List TreeFrame) (ts : List Tree) → copied (more os) (tree_of v ∷ ts) ≡ copied (more (open_.map [] (Some n) None ∷ os)) (pairs_in_turn ps ++ ts)) × (nodes_of (pairs_in_turn ps) < node_count (tree_of v))
+    ((os : List TreeFrame) (ts : List Tree) → copied (more os) (tree_of v ∷ ts) ≡ copied (more (frames.map [] (Some n) None ∷ os)) (pairs_in_turn ps ++ ts)) × (nodes_of (pairs_in_turn ps) < node_count (tree_of v))
 opens_map v us ps n is these h =
     let e : tree_of v ≡ trees.map (tree_pairs_of us.items) = ap tree_of is ∙ tree_of-Map us in
     let all : nodes_of (pairs_in_turn ps) ≡ tree_pairs_node_count (tree_pairs_of us.items) = ap (λ xs. nodes_of (pairs_in_turn xs)) these ∙ nodes-pairs us.items in
     let size : node_count (tree_of v) ≡ suc (tree_pairs_node_count (tree_pairs_of us.items)) = ap node_count e in (
-      (λ os ts. ap (λ t. copied (more os) (t ∷ ts)) e ∙ (map_opens os us.items ts n h ∙ ap (λ xs. copied (more (open_.map [] (Some n) None ∷ os)) (pairs_in_turn xs ++ ts)) (sym these))),
+      (λ os ts. ap (λ t. copied (more os) (t ∷ ts)) e ∙ (map_opens os us.items ts n h ∙ ap (λ xs. copied (more (frames.map [] (Some n) None ∷ os)) (pairs_in_turn xs ++ ts)) (sym these))),
       omega (arith, all, size),
     )
 

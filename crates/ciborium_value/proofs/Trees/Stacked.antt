@@ -1,7 +1,7 @@
 -- The innermost frame stands last.
 use Rattle.std.proofs.Common.{◌≡◌, ℕ, zero, suc, ◌+◌, ◌-◌, ◌<◌, List, [], ◌∷◌, ◌++◌, length, map, slice_get, slice_index_or, slice_set, Option, Some, refl, sym, ap, ◌∙◌, arith, length-append}
 use Rattle.std.proofs.lemmas.List.{reverse-append}
-use Rattle.ciborium_value.specs.inner.Frames as open_
+use Rattle.ciborium_value.specs.inner.Frames as frames
 use Rattle.ciborium_value.specs.inner.Frames.{Filled, Placed, fill, placed, more, still, waiting_keys, whole, with_last}
 use Rattle.ciborium_value.specs.inner.Stack.{frame_of, tree_frames}
 use Rattle.ciborium_value.specs.Tree.{Tree}
@@ -39,7 +39,7 @@ still-placed xs n f g v size some at filled =
     let set : slice_set xs (n - 1) g ≡ ys ++ g ∷ [] = ap (λ i. slice_set xs i g) index ∙ ap (λ (l : List Frame). slice_set l (length ys) g) s.2 ∙ set-last ys s.1 g in
     ap (λ (l : List Frame). more (tree_frames l)) set ∙ ap more (frames_last ys g) ∙ stays (tree_frames ys) (frame_of s.1) (filled ∙ ap (λ k. fill (frame_of k) v) here) ∙ ap (λ os. placed os v) (sym (ap tree_frames s.2 ∙ frames_last ys s.1))
   where
-    stays : (os : List open_.TreeFrame) (o : open_.TreeFrame) → still (frame_of g) ≡ fill o v → more (frame_of g ∷ os) ≡ placed (o ∷ os) v
+    stays : (os : List frames.TreeFrame) (o : frames.TreeFrame) → still (frame_of g) ≡ fill o v → more (frame_of g ∷ os) ≡ placed (o ∷ os) v
     stays os o e = ap (λ (w : Filled). elim w [ whole t ↦ placed os t | still p ↦ more (p ∷ os) ]) e
 
 -- the last of a list
@@ -59,7 +59,7 @@ last-key (q ∷ (r ∷ ps)) (suc n) p k size e = last-key (r ∷ ps) n p k (omeg
 
 -- the key that waits in the innermost frame
 pub waiting-last : (xs : List Frame) (f : Frame) (ps : List (Value × Value)) (behind : Option ℕ) (k : Tree) (p : Value × Value) → slice_get xs (length xs - 1) ≡ Some f →
-    frame_of f ≡ open_.map (map pair_trees ps) behind (Some k) → slice_get ps (length ps - 1) ≡ Some p → waiting_keys (tree_frames xs) ≡ Some (tree_of p.0, k)
+    frame_of f ≡ frames.map (map pair_trees ps) behind (Some k) → slice_get ps (length ps - 1) ≡ Some p → waiting_keys (tree_frames xs) ≡ Some (tree_of p.0, k)
 waiting-last [] f ps behind k p e o last = absurd cc
 waiting-last (x ∷ xs) f ps behind k p e o last =
     let s = snoc (x ∷ xs) (omega arith) in
@@ -68,7 +68,7 @@ waiting-last (x ∷ xs) f ps behind k p e o last =
     let same : length (x ∷ xs) ≡ length (ys ++ s.1 ∷ []) = ap length s.2 in
     let index : length (x ∷ xs) - 1 ≡ length ys = omega (arith, same, len) in
     let here : s.1 ≡ f = some-is s.1 f (sym (get-last ys s.1) ∙ sym (ap (λ (l : List Frame). slice_get l (length ys)) s.2) ∙ ap (slice_get (x ∷ xs)) (sym index) ∙ e) in
-    ap (λ (l : List Frame). waiting_keys (tree_frames l)) s.2 ∙ ap waiting_keys (frames_last ys s.1) ∙ ap (λ (g : Frame). waiting_keys (frame_of g ∷ tree_frames ys)) here ∙ ap (λ (u : open_.TreeFrame). waiting_keys (u ∷ tree_frames ys)) o ∙ last-key ps (length ps - 1) p k (some-length ps) last
+    ap (λ (l : List Frame). waiting_keys (tree_frames l)) s.2 ∙ ap waiting_keys (frames_last ys s.1) ∙ ap (λ (g : Frame). waiting_keys (frame_of g ∷ tree_frames ys)) here ∙ ap (λ (u : frames.TreeFrame). waiting_keys (u ∷ tree_frames ys)) o ∙ last-key ps (length ps - 1) p k (some-length ps) last
   where
     none-there : (r : List (Value × Value)) → slice_get r (length r - 1) ≡ Some p → 0 < length r
     none-there [] h = absurd cc

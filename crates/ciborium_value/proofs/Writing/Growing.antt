@@ -3,7 +3,7 @@ use Rattle.std.proofs.Common.{◌≡◌, ℕ, zero, suc, ◌+◌, ◌<◌, true,
 use Rattle.ciborium_ll.specs.Item as item
 use Rattle.ciborium_ll.specs.Item.{Item}
 use Rattle.ciborium_value.specs.Encoding.{written_tree, written_trees, written_pairs}
-use Rattle.ciborium_value.specs.inner.Frames as open_
+use Rattle.ciborium_value.specs.inner.Frames as frames
 use Rattle.ciborium_value.specs.inner.Frames.{TreeFrame, Placed, done, more, placed, tree_ended, closed}
 use Rattle.ciborium_value.specs.Places.{Shape, sequence, dictionary, size_of, items_from, pairs_from, container, Place, top, within, tagged, HasRoom, added, IsFull}
 use Rattle.ciborium_value.specs.Tree as trees
@@ -37,19 +37,19 @@ put_all-snoc s (j ∷ is) i = put_all-snoc (put_tree s (written_tree j)) is i
 
 -- ---- arrays
 
-array_open : (vs : List Tree) (is : List Item) (os : List TreeFrame) → put_items (more (open_.array vs None ∷ os)) is ≡ more (open_.array (vs ++ tree_list is) None ∷ os)
-array_open vs [] os = ap (λ l. more (open_.array l None ∷ os)) (sym (append-nil vs))
-array_open vs (i ∷ is) os = array_open (vs ++ written_tree i ∷ []) is os ∙ ap (λ l. more (open_.array l None ∷ os)) (append_assoc vs (written_tree i ∷ []) (tree_list is))
+array_open : (vs : List Tree) (is : List Item) (os : List TreeFrame) → put_items (more (frames.array vs None ∷ os)) is ≡ more (frames.array (vs ++ tree_list is) None ∷ os)
+array_open vs [] os = ap (λ l. more (frames.array l None ∷ os)) (sym (append-nil vs))
+array_open vs (i ∷ is) os = array_open (vs ++ written_tree i ∷ []) is os ∙ ap (λ l. more (frames.array l None ∷ os)) (append_assoc vs (written_tree i ∷ []) (tree_list is))
 
 abbrev pub IsStill : Placed → Type 0
 IsStill s = (os : List TreeFrame) × (s ≡ more os)
 
-array_still : (m : ℕ) (vs : List Tree) (is : List Item) (os : List TreeFrame) → length is < suc m → IsStill (put_items (more (open_.array vs (Some m) ∷ os)) is)
+array_still : (m : ℕ) (vs : List Tree) (is : List Item) (os : List TreeFrame) → length is < suc m → IsStill (put_items (more (frames.array vs (Some m) ∷ os)) is)
 array_still m vs [] os h = (_, refl)
 array_still zero vs (i ∷ is) os h = absurd (omega (arith, h))
 array_still (suc m) vs (i ∷ is) os h = array_still m (vs ++ written_tree i ∷ []) is os (omega (arith, h))
 
-array_whole : (m : ℕ) (vs : List Tree) (is : List Item) (os : List TreeFrame) → length is ≡ suc m → put_items (more (open_.array vs (Some m) ∷ os)) is ≡ placed os (trees.array (trees_from (vs ++ tree_list is)))
+array_whole : (m : ℕ) (vs : List Tree) (is : List Item) (os : List TreeFrame) → length is ≡ suc m → put_items (more (frames.array vs (Some m) ∷ os)) is ≡ placed os (trees.array (trees_from (vs ++ tree_list is)))
 array_whole m vs [] os h = absurd (omega (arith, h))
 array_whole zero vs (i ∷ []) os h = refl
 array_whole zero vs (i ∷ j ∷ is) os h = absurd (omega (arith, h))
@@ -58,27 +58,27 @@ array_whole (suc m) vs (i ∷ is) os h =
 
 -- ---- maps
 
-map_open : (n : ℕ) (ps : List (Tree × Tree)) (is : List Item) (os : List TreeFrame) → length is ≡ n + n → put_items (more (open_.map ps None None ∷ os)) is ≡ more (open_.map (ps ++ tree_pair_list is) None None ∷ os)
-map_open n ps [] os h = ap (λ l. more (open_.map l None None ∷ os)) (sym (append-nil ps))
+map_open : (n : ℕ) (ps : List (Tree × Tree)) (is : List Item) (os : List TreeFrame) → length is ≡ n + n → put_items (more (frames.map ps None None ∷ os)) is ≡ more (frames.map (ps ++ tree_pair_list is) None None ∷ os)
+map_open n ps [] os h = ap (λ l. more (frames.map l None None ∷ os)) (sym (append-nil ps))
 map_open n ps (k ∷ []) os h = absurd (omega (arith, h))
 map_open zero ps (k ∷ v ∷ is) os h = absurd (omega (arith, h))
 map_open (suc n) ps (k ∷ v ∷ is) os h =
     map_open n (ps ++ (written_tree k, written_tree v) ∷ []) is os (omega (arith, h)) ∙
-    ap (λ l. more (open_.map l None None ∷ os)) (append_assoc ps ((written_tree k, written_tree v) ∷ []) (tree_pair_list is))
+    ap (λ l. more (frames.map l None None ∷ os)) (append_assoc ps ((written_tree k, written_tree v) ∷ []) (tree_pair_list is))
 
-map_open_still : (ps : List (Tree × Tree)) (is : List Item) (os : List TreeFrame) → IsStill (put_items (more (open_.map ps None None ∷ os)) is)
+map_open_still : (ps : List (Tree × Tree)) (is : List Item) (os : List TreeFrame) → IsStill (put_items (more (frames.map ps None None ∷ os)) is)
 map_open_still ps [] os = (_, refl)
 map_open_still ps (k ∷ []) os = (_, refl)
 map_open_still ps (k ∷ v ∷ is) os = map_open_still (ps ++ (written_tree k, written_tree v) ∷ []) is os
 
-map_still : (m : ℕ) (ps : List (Tree × Tree)) (is : List Item) (os : List TreeFrame) → length is < suc m + suc m → IsStill (put_items (more (open_.map ps (Some m) None ∷ os)) is)
+map_still : (m : ℕ) (ps : List (Tree × Tree)) (is : List Item) (os : List TreeFrame) → length is < suc m + suc m → IsStill (put_items (more (frames.map ps (Some m) None ∷ os)) is)
 map_still m ps [] os h = (_, refl)
 map_still m ps (k ∷ []) os h = (_, refl)
 map_still zero ps (k ∷ v ∷ is) os h = absurd (omega (arith, h))
 map_still (suc m) ps (k ∷ v ∷ is) os h = map_still m (ps ++ (written_tree k, written_tree v) ∷ []) is os (omega (arith, h))
 
 map_whole : (m : ℕ) (ps : List (Tree × Tree)) (is : List Item) (os : List TreeFrame) → length is ≡ suc m + suc m →
-    put_items (more (open_.map ps (Some m) None ∷ os)) is ≡ placed os (trees.map (tree_pairs_from (ps ++ tree_pair_list is)))
+    put_items (more (frames.map ps (Some m) None ∷ os)) is ≡ placed os (trees.map (tree_pairs_from (ps ++ tree_pair_list is)))
 map_whole m ps [] os h = absurd (omega (arith, h))
 map_whole m ps (k ∷ []) os h = absurd (omega (arith, h))
 map_whole zero ps (k ∷ v ∷ []) os h = refl
@@ -103,7 +103,7 @@ still_open (top name before (i ∷ is)) room sound = absurd (omega (arith, room)
 still_open (within s n is around) room sound =
     let k = still_open around sound.0 sound.1 in
     subst (λ t. IsStill (put_items (begun s n t) is)) (sym k.1) (begun_still s n is k.0 around room)
-still_open (tagged t p) room sound = let k = still_open p room sound in (open_.tag t ∷ k.0, ap (tagged_by t) k.1)
+still_open (tagged t p) room sound = let k = still_open p room sound in (frames.tag t ∷ k.0, ap (tagged_by t) k.1)
 
 -- one more item puts its tree
 pub built-added : (p : Place) (i : Item) → HasRoom p → IsSound p → built (added p i) ≡ put_tree (built p) (written_tree i)
@@ -148,7 +148,7 @@ pub built-broken : (s : Shape) (is : List Item) (around : Place) → IsSound (wi
 built-broken sequence is around sound h =
     let k = still_open around sound.0 sound.1 in
     record {
-      inner = open_.array (tree_list is) None;
+      inner = frames.array (tree_list is) None;
       outer = k.0;
       around_is = k.1;
       here = ap (λ t. put_items (begun sequence None t) is) k.1 ∙ array_open [] is k.0;
@@ -157,7 +157,7 @@ built-broken sequence is around sound h =
 built-broken dictionary is around sound h =
     let k = still_open around sound.0 sound.1 in
     record {
-      inner = open_.map (tree_pair_list is) None None;
+      inner = frames.map (tree_pair_list is) None None;
       outer = k.0;
       around_is = k.1;
       here = ap (λ t. put_items (begun dictionary None t) is) k.1 ∙ map_open h.0 [] is k.0 h.1;

@@ -1,4 +1,4 @@
--- Containers and tags that are open while a tree is put together, the innermost first.
+-- Frames: containers and tags that are unfinished while a tree is put together, the innermost first.
 use Rattle.std.specs.Prelude.{ℕ, zero, suc, ◌+◌, ◌*◌, List, [], ◌∷◌, ◌++◌, Option, Some, None, option_map}
 use Rattle.ciborium_value.specs.Tree as trees
 use Rattle.ciborium_value.specs.Tree.{Tree}
@@ -11,7 +11,7 @@ pub data TreeFrame : Type 0 where
   map : List (Tree × Tree) → Option ℕ → Option Tree → TreeFrame
   tag : ℕ → TreeFrame
 
--- what one more tree makes of it: a whole tree, or it stays open
+-- what one more tree makes of it: a whole tree, or it is still unfinished
 pub data Filled : Type 0 where
   whole : Tree → Filled
   still : TreeFrame → Filled
@@ -32,7 +32,7 @@ fill (map ps behind None) v = still (map ps behind (Some v))
 fill (map ps behind (Some k)) v = fill_map (ps ++ (k, v) ∷ []) behind
 fill (tag n) v = whole (trees.tag n v)
 
--- what one more tree makes of all that is open: the tree that it completes last, or what is still open
+-- what one more tree makes of all frames: the tree that it completes last, or the frames that are left
 pub data Placed : Type 0 where
   done : Tree → Placed
   more : List TreeFrame → Placed
@@ -50,7 +50,7 @@ tree_ended (map ps None (Some k)) = None
 tree_ended (map ps (Some n) key) = None
 tree_ended (tag n) = None
 
--- the tree that a break ends, and what is still open around it
+-- the tree that a break ends, and the frames around it
 abbrev pub closed : List TreeFrame → Option (Tree × List TreeFrame)
 closed [] = None
 closed (o ∷ os) = option_map (λ v. (v, os)) (tree_ended o)

@@ -1,6 +1,6 @@
--- What a stack of open containers shows.
+-- What a stack of frames shows.
 use Rattle.std.specs.Prelude.{List, [], map, reverse, Option, Some, None, option_map}
-use Rattle.ciborium_value.specs.inner.Frames as open_
+use Rattle.ciborium_value.specs.inner.Frames as frames
 use Rattle.ciborium_value.specs.inner.Frames.{TreeFrame, Filled, Placed}
 use Rattle.ciborium_value.specs.View.{tree_of, pair_trees}
 use Rattle.ciborium_value.specs.declared.tree.Value.{Value}
@@ -12,9 +12,9 @@ use Rattle.ciborium_value.specs.declared.stack.Stack.{Stack}
 
 -- what a frame holds
 abbrev pub frame_of : Frame → TreeFrame
-frame_of (frame.Array items behind) = open_.array (map tree_of items.items) behind
-frame_of (frame.Map pairs behind key) = open_.map (map pair_trees pairs.items) behind (option_map tree_of key)
-frame_of (frame.Tag n) = open_.tag n
+frame_of (frame.Array items behind) = frames.array (map tree_of items.items) behind
+frame_of (frame.Map pairs behind key) = frames.map (map pair_trees pairs.items) behind (option_map tree_of key)
+frame_of (frame.Tag n) = frames.tag n
 
 -- the frames in a list whose last is the innermost
 abbrev pub tree_frames : List Frame → List TreeFrame
@@ -24,18 +24,18 @@ tree_frames frames = map frame_of (reverse frames)
 abbrev pub frames_of : Stack → List TreeFrame
 frames_of stack = tree_frames stack.frames.items
 
--- what stands open when a container or tag begins
+-- the frame with which a container or tag begins
 abbrev pub begun_frame : Opening → TreeFrame
-begun_frame (opening.Array behind) = open_.array [] behind
-begun_frame (opening.Map behind) = open_.map [] behind None
-begun_frame (opening.Tag n) = open_.tag n
+begun_frame (opening.Array behind) = frames.array [] behind
+begun_frame (opening.Map behind) = frames.map [] behind None
+begun_frame (opening.Tag n) = frames.tag n
 
--- the answer of a call that fills what is open, with what it then is
+-- the answer of a call that fills a frame, with what it then is
 abbrev pub filled_of : Option Value → TreeFrame → Filled
-filled_of (Some v) o = open_.whole (tree_of v)
-filled_of None o = open_.still o
+filled_of (Some v) o = frames.whole (tree_of v)
+filled_of None o = frames.still o
 
--- the answer of a call that places a value, with what is open afterwards
+-- the answer of a call that places a value, with the frames afterwards
 abbrev pub placed_of : Option Value → List TreeFrame → Placed
-placed_of (Some v) os = open_.done (tree_of v)
-placed_of None os = open_.more os
+placed_of (Some v) os = frames.done (tree_of v)
+placed_of None os = frames.more os

@@ -3,7 +3,7 @@ use Rattle.std.proofs.Common.{sym, subst}
 use Rattle.std.specs.Prelude.{◌≡◌, ℕ, zero, suc, List, [], ◌∷◌, Option, Some, None}
 use Rattle.ciborium_ll.specs.Item.{Item}
 use Rattle.ciborium_value.specs.Encoding.{written_tree}
-use Rattle.ciborium_value.specs.inner.Frames as open_
+use Rattle.ciborium_value.specs.inner.Frames as frames
 use Rattle.ciborium_value.specs.inner.Frames.{Placed, done, more, placed}
 use Rattle.ciborium_value.specs.Places.{Shape, sequence, dictionary, Place, top, within, tagged, HasRoom, writer_at, bytes_at, Out, IsOutOf, IsOutAt}
 use Rattle.ciborium_value.specs.inner.Stack.{frames_of, placed_of}
@@ -26,9 +26,9 @@ empty_container sequence = trees.array trees.no_trees
 empty_container dictionary = trees.map trees.no_tree_pairs
 
 -- a container with this many places behind the one that is filled first
-abbrev pub first : Shape → Option ℕ → open_.TreeFrame
-first sequence behind = open_.array [] behind
-first dictionary behind = open_.map [] behind None
+abbrev pub first : Shape → Option ℕ → frames.TreeFrame
+first sequence behind = frames.array [] behind
+first dictionary behind = frames.map [] behind None
 
 -- a container is begun: one that announces nothing to come is whole at once
 abbrev pub begun : Shape → Option ℕ → Placed → Placed
@@ -39,7 +39,7 @@ begun s (Some (suc n)) (more os) = more (first s (Some n) ∷ os)
 
 abbrev pub tagged_by : ℕ → Placed → Placed
 tagged_by t (done v) = done v
-tagged_by t (more os) = more (open_.tag t ∷ os)
+tagged_by t (more os) = more (frames.tag t ∷ os)
 
 abbrev pub built : Place → Placed
 built (top name before is) = put_items (more []) is

@@ -18,7 +18,8 @@ use Rattle.ciborium_value.specs.FormsReadBack.{IsFormRead, IsReadFromForm}
 use Rattle.ciborium_value.specs.lemmas.GivenOutcomes.{mapped_gives, one_given, pair_gives, then_gives}
 use Rattle.ciborium_value.specs.Places.{dictionary, pairs_from}
 use Rattle.ciborium_value.specs.ReadsBack.{of_ok}
-use Rattle.ciborium_value.specs.lemmas.ReadsBackMaps.{IsMapHeld, contents, put-contents}
+use Rattle.ciborium_value.specs.lemmas.ReadsBackMaps.{IsMapHeld, put-contents}
+use Rattle.ciborium_value.specs.WrittenContents.{contents}
 use Rattle.ciborium_value.specs.Sinks.{Named, and_then, all_named, contained, container_of, in_turn}
 use Rattle.ciborium_value.specs.Taken.{Outcome, Taken, gives, and_take, outcome_map, take_each, then_take, unpack_pairs}
 use Rattle.ciborium_value.specs.TakenParts.{put_all, take_entry, taken_map}

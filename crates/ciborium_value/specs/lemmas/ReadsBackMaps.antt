@@ -20,6 +20,7 @@ use Rattle.ciborium_value.specs.lemmas.Steady.{after_pairs}
 use Rattle.ciborium_value.specs.Taken.{Outcome, Taken, gives, and_take, take_each, then_take, outcome_map, unpack_pairs}
 use Rattle.ciborium_value.specs.TakenParts.{map_entries, put_all, take_entry, taken_map}
 use Rattle.ciborium_value.specs.declared.kind.Kind.{Kind}
+use Rattle.ciborium_value.specs.WrittenContents.{contents}
 
 -- ---- keys that rise
 
@@ -62,10 +63,6 @@ module _ {A B : Type 0} (order : A → A → Ordering) where
 
   put-rising : (ps : List (A × B)) → AreKeysRising ps → put_all order [] ps ≡ ps
   put-rising ps r = put-behind [] ps (above_none ps) r
-
--- what counts of the entries
-abbrev pub contents : {K V A B : Type 0} → (K → A) → (V → B) → List (K × V) → List (A × B)
-contents key value es = map (λ e. (key e.0, value e.1)) es
 
 module _ {K V A B : Type 0} (cmp : K → K → Ordering) (order : A → A → Ordering) (key : K → A) (value : V → B) (total : IsTotalOrder cmp) (orders : (a b : K) → cmp a b ≡ order (key a) (key b)) where
   contents-above : (e : K × V) (es : List (K × V)) → AllByRecursion (λ k. cmp e.0 k ≡ Less) (keys_of es) → AreAbove order ((key e.0, value e.1) ∷ []) (contents key value es)

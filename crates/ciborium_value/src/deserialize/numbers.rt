@@ -3,7 +3,8 @@
 ghost use Rattle.std.specs.Prelude.{◌+◌, ◌<◌, ◌^◌, ◌≤◌, IfErr, IfOk, OnErr, OnOk, false};
 ghost use Rattle.std.specs.Prelude.{refl, ℕ, ℤ};
 ghost use Rattle.ciborium_value.specs.Readings.{IsBounded, below, bounded};
-ghost use Rattle.ciborium_value.specs.Sources.{IsGrantedFault, RefusesAhead, TakesAhead, TakesItem, TakesOnly};
+ghost use Rattle.ciborium_value.specs.Sources.{IsGrantedFault, RefusesAhead, TakesAhead, TakesItem};
+ghost use Rattle.ciborium_value.specs.Sources.{TakesOnly};
 
 use super::{Deserialize, Key};
 use crate::kind::Kind;

@@ -6,7 +6,8 @@ ghost use Rattle.std.specs.Ordering.{bool_cmp, nat_cmp};
 ghost use Rattle.ciborium_value.specs.lemmas.KeyOrders.{option_cmp-map};
 ghost use Rattle.ciborium_value.specs.Readings.{option_of, plain, spacious, unordered};
 ghost use Rattle.ciborium_value.specs.lemmas.SteadyParts.{steady-boolean, steady-bytes};
-ghost use Rattle.ciborium_value.specs.lemmas.SteadyParts.{steady-character, steady-text, steady-unit};
+ghost use Rattle.ciborium_value.specs.lemmas.SteadyParts.{steady-character, steady-text};
+ghost use Rattle.ciborium_value.specs.lemmas.SteadyParts.{steady-unit};
 ghost use Rattle.ciborium_value.specs.Taken.{taken_boolean, taken_bytes, taken_character};
 ghost use Rattle.ciborium_value.specs.Taken.{taken_text, taken_unit};
 

@@ -4,7 +4,8 @@ ghost use Rattle.std.specs.Prelude.{◌+◌, ◌<◌, ◌≤◌, IfErr, IfOk, Li
 ghost use Rattle.ciborium_value.specs.lemmas.KeyOrders.{ordering_then-same, slice_cmp-map};
 ghost use Rattle.ciborium_value.specs.Readings.{list_of, tuple1_of, tuple2_of, tuple3_of};
 ghost use Rattle.ciborium_value.specs.Readings.{tuple4_of};
-ghost use Rattle.ciborium_value.specs.inner.EnteredContainers.{DropsRest, RefusesNextPart, RefusesDropping};
+ghost use Rattle.ciborium_value.specs.inner.EnteredContainers.{DropsRest, RefusesDropping};
+ghost use Rattle.ciborium_value.specs.inner.EnteredContainers.{RefusesNextPart};
 ghost use Rattle.ciborium_value.specs.inner.EnteredContainers.{TakesOwed, TakesPart, TakesRest};
 ghost use Rattle.ciborium_value.specs.Sources.{TakesOnly};
 

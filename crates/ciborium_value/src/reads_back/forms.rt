@@ -4,7 +4,8 @@ ghost use Rattle.ciborium_value.specs.FormsReadBack.{boolean-form, bytes-form, c
 ghost use Rattle.ciborium_value.specs.FormsReadBack.{string-form, unit-form};
 ghost use Rattle.ciborium_value.specs.lemmas.FormsReadBackMaps.{map-form};
 ghost use Rattle.ciborium_value.specs.lemmas.FormsReadBackOptions.{option-form};
-ghost use Rattle.ciborium_value.specs.lemmas.FormsReadBackParts.{list-form, tuple1-form, tuple2-form};
+ghost use Rattle.ciborium_value.specs.lemmas.FormsReadBackParts.{list-form, tuple1-form};
+ghost use Rattle.ciborium_value.specs.lemmas.FormsReadBackParts.{tuple2-form};
 ghost use Rattle.ciborium_value.specs.lemmas.FormsReadBackParts.{tuple3-form, tuple4-form};
 
 use super::{FormReadsBack, NeverNull};

@@ -3,11 +3,13 @@
 ghost use Rattle.std.specs.Prelude.{◌≡◌, ◌+◌, ◌<◌, ◌≤◌, IfErr, IfOk, List, OnErr, OnOk, Some, ℕ};
 ghost use Rattle.ciborium_ll.specs.Decoding.{HasSameReader};
 ghost use Rattle.ciborium_value.specs.Places.{sequence};
-ghost use Rattle.ciborium_value.specs.Sources.{HasItem, IsFaultOf, RefusesAhead, TakesAhead, TakesItem};
+ghost use Rattle.ciborium_value.specs.Sources.{HasItem, IsFaultOf, RefusesAhead, TakesAhead};
+ghost use Rattle.ciborium_value.specs.Sources.{TakesItem};
 ghost use Rattle.ciborium_value.specs.Sources.{TakesOnly, TakesTo};
 ghost use Rattle.ciborium_value.specs.Taken.{gives, number_below, take_each, taken_byte};
 ghost use Rattle.ciborium_value.specs.Taken.{taken_bytes};
-ghost use Rattle.ciborium.specs.inner.ByteSources.{HasTaken, IsUnread, SeqOwes, ReadsRest, RefusesRest};
+ghost use Rattle.ciborium.specs.inner.ByteSources.{HasTaken, IsUnread, ReadsRest, RefusesRest};
+ghost use Rattle.ciborium.specs.inner.ByteSources.{SeqOwes};
 ghost use Rattle.ciborium.specs.inner.ByteSources.{StandsBefore, seq_left, weight_left};
 ghost use Rattle.ciborium.specs.Errors.{fault_of};
 
@@ -22,7 +24,8 @@ use std::io::Read;
 #[inline(always)]
 fn to_byte(number: (bool, u128), offset: usize) -> Result<u8, Refusal>
     ensures ok { IfOk result (λ byte. number_below 256 number ≡ gives byte) }
-    ensures refused { IfErr result (λ e. (end : ℕ) → IsFaultOf end (fault_of e) (number_below 256 number)) }
+    ensures refused { IfErr result
+        (λ e. (end : ℕ) → IsFaultOf end (fault_of e) (number_below 256 number)) }
     ensures at { IfErr result (λ e. e ≡ Error.Semantic (Some offset) Kind.Range) }
 {
     let (is_negative, n) = number;

@@ -4,10 +4,12 @@ ghost use Rattle.std.specs.Prelude.{◌≡◌, ◌≢◌, ℕ, List, ◌+◌, �
 ghost use Rattle.std.specs.Prelude.{OnErr, OnOk, Some, false};
 ghost use Rattle.ciborium_ll.specs.Decoding.{HasSameReader};
 ghost use Rattle.ciborium_ll.specs.StringRefusal.{of_bytes};
-ghost use Rattle.ciborium_value.specs.Sources.{GoesOn, IsGrantedFault, Leaves, OwesLess, OwesNothing};
+ghost use Rattle.ciborium_value.specs.Sources.{GoesOn, IsGrantedFault, Leaves, OwesLess};
+ghost use Rattle.ciborium_value.specs.Sources.{OwesNothing};
 ghost use Rattle.ciborium_value.specs.Sources.{RefusesNext, TakesOnly, TakesTo};
 ghost use Rattle.ciborium_value.specs.Taken.{gives, taken_pairs, taken_seq};
-ghost use Rattle.ciborium.specs.inner.ByteSources.{HasBytes, HasTaken, IsUnread, EntersItemsUnread, EntersPairsUnread};
+ghost use Rattle.ciborium.specs.inner.ByteSources.{EntersItemsUnread, EntersPairsUnread, HasBytes};
+ghost use Rattle.ciborium.specs.inner.ByteSources.{HasTaken, IsUnread};
 ghost use Rattle.ciborium.specs.inner.ByteSources.{SeqOwes, SeqStands, StandsBefore, StandsStill};
 ghost use Rattle.ciborium.specs.inner.ByteSources.{bytes_weight, counted_parts, end_at};
 ghost use Rattle.ciborium.specs.Errors.{fault_of};
@@ -108,7 +110,8 @@ impl<'a, R: Read> ByteSource<'a, R> {
             (λ q. weight_left self.new + seq_left q < weight_left self.old) }
         ensures ok { IfOk result (EntersItemsUnread R.remaining self.old self.new taken_seq
             (λ l is. gives (l, is))) }
-        ensures denied { IfErr result (λ e. Denies (IsUnread R.remaining) (end_at R.remaining) self.old
+        ensures denied { IfErr result
+            (λ e. Denies (IsUnread R.remaining) (end_at R.remaining) self.old
             (Some self.old.levels) taken_seq (fault_of e)) }
     {
         let (header, offset) = self.bare_head(false)?;
@@ -136,7 +139,8 @@ impl<'a, R: Read> ByteSource<'a, R> {
             (λ q. weight_left self.new + seq_left q < weight_left self.old) }
         ensures ok { IfOk result (EntersPairsUnread R.remaining self.old self.new taken_pairs
             (λ l ps. gives (l, ps))) }
-        ensures denied { IfErr result (λ e. Denies (IsUnread R.remaining) (end_at R.remaining) self.old
+        ensures denied { IfErr result
+            (λ e. Denies (IsUnread R.remaining) (end_at R.remaining) self.old
             (Some self.old.levels) taken_pairs (fault_of e)) }
         ensures memory { IfErr result (λ e. IsGrantedFault (fault_of e) false) }
     {

@@ -66,7 +66,8 @@ impl<'a, R: Read> ByteSource<'a, R> {
         ensures fewer { OnOk result (weight_left self.new ≤ weight_left self.old) }
         ensures ok { IfOk result (λ p. EntersLevelUnread (IsUnread R.remaining) self.old self.new
             (Some self.old.levels) taken_outer_tag p.0) }
-        ensures denied { IfErr result (λ e. Denies (IsUnread R.remaining) (end_at R.remaining) self.old
+        ensures denied { IfErr result
+            (λ e. Denies (IsUnread R.remaining) (end_at R.remaining) self.old
             (Some self.old.levels) taken_outer_tag (fault_of e)) }
         ensures memory { IfErr result (λ e. IsGrantedFault (fault_of e) false) }
     {
@@ -96,7 +97,8 @@ impl<'a, R: Read> ByteSource<'a, R> {
         ensures fewer { OnOk result (weight_left self.new ≤ weight_left self.old) }
         ensures ok { IfOk result (λ p. EntersLevelUnread (IsUnread R.remaining) self.old self.new
             (Some self.old.levels) taken_variant (string_bytes p.0)) }
-        ensures denied { IfErr result (λ e. Denies (IsUnread R.remaining) (end_at R.remaining) self.old
+        ensures denied { IfErr result
+            (λ e. Denies (IsUnread R.remaining) (end_at R.remaining) self.old
             (Some self.old.levels) taken_variant (fault_of e)) }
     {
         let (header, offset) = self.bare_head(false)?;

@@ -185,7 +185,8 @@ impl<'a, R: Read> ByteSource<'a, R> {
         ensures fewer { OnOk result (weight_left self.new < weight_left self.old) }
         ensures ok { IfOk result (λ v. Reads (IsUnread R.remaining) self.old self.new
             (Some self.old.levels) taken_integer v.0) }
-        ensures denied { IfErr result (λ e. Denies (IsUnread R.remaining) (end_at R.remaining) self.old
+        ensures denied { IfErr result
+            (λ e. Denies (IsUnread R.remaining) (end_at R.remaining) self.old
             (Some self.old.levels) taken_integer (fault_of e)) }
         ensures memory { IfErr result (λ e. IsGrantedFault (fault_of e) false) }
     {

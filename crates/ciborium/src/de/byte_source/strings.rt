@@ -10,7 +10,8 @@ ghost use Rattle.ciborium.specs.inner.ByteSources.{HasTaken, IsUnread, bytes_wei
 ghost use Rattle.ciborium.specs.Errors.{fault_of};
 ghost use Rattle.ciborium.specs.inner.ByteSources.{weight_left};
 ghost use Rattle.ciborium.specs.inner.FrontItems.{Denies, Reads};
-ghost use Rattle.ciborium.specs.inner.StringContents.{DeniesContent, DeniesJust, TakesContent, TakesJust};
+ghost use Rattle.ciborium.specs.inner.StringContents.{DeniesContent, DeniesJust, TakesContent};
+ghost use Rattle.ciborium.specs.inner.StringContents.{TakesJust};
 
 use crate::de::byte_source::ByteSource;
 use crate::de::error::{Error, Refusal};
@@ -99,7 +100,8 @@ impl<'a, R: Read> ByteSource<'a, R> {
         ensures fewer { OnOk result (weight_left self.new < weight_left self.old) }
         ensures ok { IfOk result (λ v. Reads (IsUnread R.remaining) self.old self.new
             (Some self.old.levels) taken_text (string_bytes v)) }
-        ensures denied { IfErr result (λ e. Denies (IsUnread R.remaining) (end_at R.remaining) self.old
+        ensures denied { IfErr result
+            (λ e. Denies (IsUnread R.remaining) (end_at R.remaining) self.old
             (Some self.old.levels) taken_text (fault_of e)) }
     {
         let (header, offset) = self.bare_head(false)?;

@@ -6,7 +6,7 @@ ghost use Rattle.ciborium_ll.specs.Decoding.{HasSameReader};
 ghost use Rattle.ciborium_value.specs.Sources.{TakesOnly, read_as};
 ghost use Rattle.ciborium_value.specs.Taken.{taken_value};
 ghost use Rattle.ciborium_value.specs.View.{tree_of};
-ghost use Rattle.ciborium.specs.inner.ByteSources.{HasTaken, IsUnread, ReadsValue, MeansTree};
+ghost use Rattle.ciborium.specs.inner.ByteSources.{HasTaken, IsUnread, MeansTree, ReadsValue};
 ghost use Rattle.ciborium.specs.Errors.{fault_of};
 ghost use Rattle.ciborium.specs.inner.ByteSources.{end_at, is_portable, weight_left};
 ghost use Rattle.ciborium.specs.inner.FrontItems.{Denies, Reads};
@@ -48,7 +48,8 @@ impl<'a, R: Read> ByteSource<'a, R> {
         ensures fewer { OnOk result (weight_left self.new < weight_left self.old) }
         ensures ok { IfOk result (λ v. Reads (IsUnread R.remaining) self.old self.new
             (Some self.old.levels) taken_value (tree_of v)) }
-        ensures denied { IfErr result (λ e. Denies (IsUnread R.remaining) (end_at R.remaining) self.old
+        ensures denied { IfErr result
+            (λ e. Denies (IsUnread R.remaining) (end_at R.remaining) self.old
             (Some self.old.levels) taken_value (fault_of e)) }
         ensures reads { ReadsValue R.remaining self.old self.new (read_as tree_of result) }
     {

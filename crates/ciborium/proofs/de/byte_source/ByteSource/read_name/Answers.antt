@@ -10,7 +10,8 @@ use Rattle.ciborium_value.specs.declared.kind.Kind.TheVariants as kinds
 use Rattle.ciborium.specs.inner.ByteSources.{IsUnread, end_at}
 use Rattle.ciborium.specs.Errors.{fault_of}
 use Rattle.ciborium.specs.inner.Skips.{TakesBare}
-use Rattle.ciborium.specs.inner.StringContents.{string_item, is_open}
+use Rattle.ciborium.specs.inner.StringContents.{string_item}
+use Rattle.ciborium_value.specs.Places.{is_open}
 use Rattle.ciborium.proofs.Containers.NamedVariants.{bytes-name, bytes-no-name, name-other}
 use Rattle.ciborium.proofs.Items.SkippedTags.{denies-bare, denies-of-item, reads-bare, untagged-under}
 use Rattle.ciborium.proofs.Payloads.StringPayloads.{denies-content, string-behind}

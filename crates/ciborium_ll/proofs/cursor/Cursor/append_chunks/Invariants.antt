@@ -3,15 +3,15 @@ use Rattle.ciborium_ll.specs.Bytes.{greatest_offset}
 use Rattle.ciborium_ll.specs.inner.Cursors.{IsSameCursor, count_at, left_at}
 use Rattle.ciborium_ll.specs.Strings.{string_kind_of}
 use Rattle.ciborium_ll.proofs.OpenStrings.{GoodParts}
-use Rattle.ciborium_ll.proofs.cursor.Cursor.append_parts.Given as goal
+use Rattle.ciborium_ll.proofs.cursor.Cursor.append_chunks.Given as goal
 
--- good parts were taken, and their payloads appended
-abbrev pub invariant-parts : goal.invariant-parts
-invariant-parts g l = record {
+-- good chunks were taken, and their payloads appended
+abbrev pub invariant-chunks : goal.invariant-chunks
+invariant-chunks g l = record {
   same : IsSameCursor l.fn.self l.self;
   head : l.head ≡ count_at l.self;
   good : GoodParts (string_kind_of l.kind) (left_at g.R.Read.remaining l.fn.self) (left_at g.R.Read.remaining l.self) (count_at l.fn.self) (count_at l.self) l.fn.out.items l.out.items;
 }
 
-abbrev pub decreases-parts : goal.decreases-parts
-decreases-parts g l = greatest_offset - count_at l.self
+abbrev pub decreases-chunks : goal.decreases-chunks
+decreases-chunks g l = greatest_offset - count_at l.self
