@@ -196,7 +196,7 @@ pub struct Stack {
     alloc: Global,
 }
 
-#[tactic(auto, using(crate::proofs::Trees::Stacked::opens_last))]
+#[tactic(auto, using(crate::proofs::Trees::Stacked::frames_last))]
 impl Stack {
     /// Nothing is open. This takes no memory.
     pub fn new(alloc: Global) -> Stack

@@ -17,7 +17,7 @@ pub write_value-returns-in_ok-write_last_break-in-Array : goal.write_value-retur
 write_value-returns-in_ok-write_last_break-in-Array g t c = λ flush ok.
     let tree = ap tree_of c.in-Array.is ∙ tree_of-Array _ in
     let long : c.len.result ≡ length c.in-Array.items.items = omega (arith, c.len.ensures, c.in-Array.items.ok.0) in
-    as_bytes (notation_on-array c.args.lines _ c.in-Array.items.items _ c.in_ok-deeper-in-Array.ensures long ∙ ap (notation_on c.args.lines) (sym tree))
+    as_bytes (notation_on-array c.args.lines _ c.in-Array.items.items _ c.in_ok-one_level_more-in-Array.ensures long ∙ ap (notation_on c.args.lines) (sym tree))
     (then (then (then (c.in_ok-write_str-in-Array.ensures.styled flush refl) (λ f. c.in_ok-write_items-in-Array.ensures f refl)) (λ f. c.in_ok-write_last_break-in-Array.ensures f refl))
     (λ f. c.write_str-in-Array-2.ensures.styled f ok))
 
@@ -25,7 +25,7 @@ pub write_value-returns-in_ok-write_last_break-in-Map : goal.write_value-returns
 write_value-returns-in_ok-write_last_break-in-Map g t c = λ flush ok.
     let tree = ap tree_of c.in-Map.is ∙ tree_of-Map _ in
     let long : c.len-in-Map.result ≡ length c.in-Map.pairs.items = omega (arith, c.len-in-Map.ensures, c.in-Map.pairs.ok.0) in
-    as_bytes (notation_on-map c.args.lines _ c.in-Map.pairs.items _ c.in_ok-deeper-in-Map.ensures long ∙ ap (notation_on c.args.lines) (sym tree))
+    as_bytes (notation_on-map c.args.lines _ c.in-Map.pairs.items _ c.in_ok-one_level_more-in-Map.ensures long ∙ ap (notation_on c.args.lines) (sym tree))
     (then (then (then (c.in_ok-write_str-in-Map.ensures.styled flush refl) (λ f. c.in_ok-write_pairs-in-Map.ensures f refl)) (λ f. c.in_ok-write_last_break-in-Map.ensures f refl))
     (λ f. c.write_str-in-Map-2.ensures.styled f ok))
 
