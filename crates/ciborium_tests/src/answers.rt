@@ -11,7 +11,7 @@ use crate::literals::write_literal;
 use crate::notations::{Lines, answer_notation};
 use crate::offsets::read_at_offset;
 use crate::orders::{answer_sort, answer_visits};
-use crate::pieces::{decode_pieces, parse_limited, split_number};
+use crate::pieces::{decode_pieces, parse_limited, parse_typed, split_number};
 use crate::sequences::{Asked, Sequence};
 use crate::types::ask_type;
 use crate::writes::Writing;
@@ -134,13 +134,14 @@ fn read_type(alloc: Global, name: &str, rest: &str) -> Result<Option<String>, Al
 // `again TYPE LIMIT HEX`: what `TYPE LIMIT HEX` answers, but `again` where all that is read is
 // written as these very bytes.
 fn read_again(alloc: Global, rest: &str) -> Result<Option<String>, AllocError> {
-    let Some((name, behind)) = rest.split_once(' ') else {
+    let Some((name, limit, bytes)) = parse_typed(alloc, rest)? else {
         return Ok(None);
     };
-    let Some((_, bytes)) = parse_limited(alloc, behind)? else {
-        return Ok(None);
+    let reading = Reading {
+        limit,
+        bytes: &bytes,
     };
-    let Some(text) = read_type(alloc, name, behind)? else {
+    let Some(text) = ask_type(alloc, name, &reading)? else {
         return Ok(None);
     };
     let digits = hex::encode(alloc, &bytes)?;
@@ -153,37 +154,26 @@ fn read_again(alloc: Global, rest: &str) -> Result<Option<String>, AllocError> {
 
 // `asked TYPE LIMIT HEX`: what the bytes give, and how often their reader is asked.
 fn count_reading(alloc: Global, rest: &str) -> Result<Option<String>, AllocError> {
-    let Some((name, behind)) = rest.split_once(' ') else {
+    let Some((name, limit, bytes)) = parse_typed(alloc, rest)? else {
         return Ok(None);
     };
-    match parse_limited(alloc, behind)? {
-        Some((limit, bytes)) => {
-            let counted = CountedReads {
-                limit,
-                bytes: &bytes,
-            };
-            ask_type(alloc, name, &counted)
-        }
-        None => Ok(None),
-    }
+    let counted = CountedReads {
+        limit,
+        bytes: &bytes,
+    };
+    ask_type(alloc, name, &counted)
 }
 
 // `faults TYPE LIMIT HEX`: what the bytes give where each read fails in turn.
 fn fail_reading(alloc: Global, rest: &str) -> Result<Option<String>, AllocError> {
-    let Some((name, behind)) = rest.split_once(' ') else {
+    let Some((name, limit, bytes)) = parse_typed(alloc, rest)? else {
         return Ok(None);
     };
-    match parse_limited(alloc, behind)? {
-        Some((limit, bytes)) => {
-            let call = Call::Limited(limit);
-            let faults = FailedReads {
-                call,
-                bytes: &bytes,
-            };
-            ask_type(alloc, name, &faults)
-        }
-        None => Ok(None),
-    }
+    let faults = FailedReads {
+        call: Call::Limited(limit),
+        bytes: &bytes,
+    };
+    ask_type(alloc, name, &faults)
 }
 
 // `det LIMIT HEX`: what a deterministic reader gives of the bytes.

@@ -3,7 +3,7 @@
 use crate::alike::Alike;
 use crate::devices::{Cut, Source, cuts_of};
 use crate::fronts::show_front;
-use crate::pieces::{parse_limited, split_number};
+use crate::pieces::{parse_typed, split_number};
 use crate::types::{Job, ask_type};
 use ciborium::de::{Deserialize, from_reader_at};
 use ciborium::ser::Serialize;
@@ -53,18 +53,13 @@ pub fn read_at_offset(alloc: Global, rest: &str) -> Result<Option<String>, Alloc
     let Some((offset, behind)) = split_number(rest) else {
         return Ok(None);
     };
-    let Some((name, limited)) = behind.split_once(' ') else {
+    let Some((name, limit, bytes)) = parse_typed(alloc, behind)? else {
         return Ok(None);
     };
-    match parse_limited(alloc, limited)? {
-        Some((limit, bytes)) => {
-            let reading = ReadingAt {
-                offset,
-                limit,
-                bytes: &bytes,
-            };
-            ask_type(alloc, name, &reading)
-        }
-        None => Ok(None),
-    }
+    let reading = ReadingAt {
+        offset,
+        limit,
+        bytes: &bytes,
+    };
+    ask_type(alloc, name, &reading)
 }

@@ -43,6 +43,25 @@ pub fn parse_limited(alloc: Global, text: &str) -> Result<Option<(usize, Vec<u8>
     }
 }
 
+/// `TYPE LIMIT HEX`: the type's name, the limit and the bytes, or none where the text is of another
+/// form.
+///
+/// # Errors
+///
+/// `AllocError` where memory is refused for the bytes.
+pub fn parse_typed(
+    alloc: Global,
+    text: &str,
+) -> Result<Option<(&str, usize, Vec<u8>)>, AllocError> {
+    let Some((name, behind)) = text.split_once(' ') else {
+        return Ok(None);
+    };
+    match parse_limited(alloc, behind)? {
+        Some((limit, bytes)) => Ok(Some((name, limit, bytes))),
+        None => Ok(None),
+    }
+}
+
 /// A number, and what stands behind the blank.
 pub fn split_number(text: &str) -> Option<(usize, &str)> {
     let (digits, behind) = text.split_once(' ')?;
