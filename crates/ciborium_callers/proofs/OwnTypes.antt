@@ -1,7 +1,7 @@
 -- What the types of a user's own name.
 use Rattle.std.proofs.Common.{◌≡◌, ℕ, ◌+◌, ◌<◌, List, ◌∷◌, length, map, drop, get_or, Ok, pos, sym}
 use Rattle.std.proofs.lemmas.Grind.{get_or_default_zero}
-use Rattle.ciborium_value.specs.Sinks.{Named, number_item}
+use Rattle.ciborium.specs.Sinks.{Named, number_item}
 use Rattle.ciborium_value.proofs.Writing.Progress.{next_part}
 
 abbrev pub named_number : ℕ → Named

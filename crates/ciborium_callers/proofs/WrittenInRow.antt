@@ -2,10 +2,10 @@
 use Rattle.std.proofs.Common.{◌≡◌, ℕ, List, [], ◌++◌, Option, Ok, Err, refl, sym, subst, append-nil}
 use Rattle.std.specs.Io.KnownBytes.{Appends}
 use Rattle.std.proofs.KnownBytes.{Appends-trans}
-use Rattle.ciborium_ll.specs.Item as items
-use Rattle.ciborium_ll.specs.Item.{Item}
-use Rattle.ciborium_value.specs.Sinks.{Named}
-use Rattle.ciborium_value.specs.Encoding.{written_bytes}
+use Rattle.ciborium.specs.Item as items
+use Rattle.ciborium.specs.Item.{Item}
+use Rattle.ciborium.specs.Sinks.{Named}
+use Rattle.ciborium.specs.Encoding.{written_bytes}
 use Rattle.ciborium_value.proofs.Writing.ReadBack.{written_item_spells}
 use Rattle.ciborium.specs.ItemSequences.{IsSequence}
 use Rattle.ciborium.specs.Writes.{IsNamedWritten, WritesNamed}

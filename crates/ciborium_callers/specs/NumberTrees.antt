@@ -1,12 +1,12 @@
 -- A type that holds itself: what its values are as trees, and which trees they are.
 use Rattle.std.proofs.Common.{ap, ◌∙◌}
 use Rattle.std.specs.Prelude.{◌≡◌, pos, negsuc, Bool, true, false, ◌&&◌, nat_lt, Some, option_map, refl}
-use Rattle.ciborium_value.specs.Folded.{folded, trees_folded}
-use Rattle.ciborium_value.specs.Meaning.{trees_more}
-use Rattle.ciborium_value.specs.Number.{number_tree}
-use Rattle.ciborium_value.specs.Tree as trees
-use Rattle.ciborium_value.specs.Tree.{Tree, Trees}
-use Rattle.ciborium_value.specs.View.{trees_from}
+use Rattle.ciborium.specs.Folded.{folded, trees_folded}
+use Rattle.ciborium.specs.Meaning.{trees_more}
+use Rattle.ciborium.specs.Number.{number_tree}
+use Rattle.ciborium.specs.Tree as trees
+use Rattle.ciborium.specs.Tree.{Tree, Trees}
+use Rattle.ciborium.specs.View.{trees_from}
 use Rattle.ciborium_callers.specs.declared.tree_types.NumberTree.{NumberTree, fold-NumberTree}
 use Rattle.ciborium_callers.specs.declared.tree_types.NumberTree.TheOpen.{NumberTree-F}
 

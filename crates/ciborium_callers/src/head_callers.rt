@@ -1,7 +1,7 @@
 //! Callers of the lowest layer, each with a decoder or an encoder of its own, and a contract.
 ghost use Rattle.std.specs.Prelude.{[], ◌∷◌, List, OnOk, ℕ};
 ghost use Rattle.std.specs.Io.KnownBytes.{Appends, Consumes};
-ghost use Rattle.ciborium_ll.specs.ReaderSteps.{IsHeadTaken};
+ghost use Rattle.ciborium.specs.ReaderSteps.{IsHeadTaken};
 
 use ciborium::ll::{Decoder, Encoder, Error, Header};
 use std::io::{self, Read, Write};

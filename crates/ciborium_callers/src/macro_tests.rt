@@ -1,7 +1,7 @@
 //! Trees as literals, as a user writes them, each with the tree that it is.
 ghost use Rattle.std.specs.Prelude.{◌≡◌, ◌⊎◌, IfErr, IfOk, IsErr, codes, negsuc, pos, true};
-ghost use Rattle.ciborium_value.specs.Tree as tree;
-ghost use Rattle.ciborium_value.specs.View.{tree_of};
+ghost use Rattle.ciborium.specs.Tree as tree;
+ghost use Rattle.ciborium.specs.View.{tree_of};
 ghost use Rattle.ciborium_value.specs.declared.kind.Kind.TheVariants.{Other};
 ghost use Rattle.ciborium_value.specs.declared.serialized.Error.TheVariants.{Custom, Memory};
 

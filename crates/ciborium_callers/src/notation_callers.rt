@@ -1,7 +1,7 @@
 //! Callers that show values, with contracts.
 ghost use Rattle.std.specs.Prelude.{◌≡◌, ◌++◌, IfOk, codes, string_bytes};
-ghost use Rattle.ciborium_value.specs.Notation.{indented_notation, notation};
-ghost use Rattle.ciborium_value.specs.View.{tree_of};
+ghost use Rattle.ciborium.specs.Notation.{indented_notation, notation};
+ghost use Rattle.ciborium.specs.View.{tree_of};
 
 use ciborium::value::Value;
 use std::alloc::{AllocError, Global};

@@ -1,10 +1,10 @@
 //! Callers that write and read types of their own: a struct by names, an enum by its variants, and
 //! an envelope by its tag.
 ghost use Rattle.std.specs.Prelude.{◌≡◌, IfSome, Some, codes, false, pos, string_bytes};
-ghost use Rattle.ciborium_ll.specs.Item as item;
-ghost use Rattle.ciborium_value.specs.Encoding.{written_bytes};
-ghost use Rattle.ciborium_value.specs.Sinks.{number_item};
-ghost use Rattle.ciborium_value.specs.Sources.{read_as};
+ghost use Rattle.ciborium.specs.Item as item;
+ghost use Rattle.ciborium.specs.Encoding.{written_bytes};
+ghost use Rattle.ciborium.specs.Sinks.{number_item};
+ghost use Rattle.ciborium.specs.Sources.{read_as};
 ghost use Rattle.ciborium.specs.TypedAnswers.{TakesGiven};
 
 use crate::own_types::{Figure, Message, Moment};

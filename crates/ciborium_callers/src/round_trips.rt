@@ -2,8 +2,8 @@
 //! one content: the bytes are the same.
 ghost use Rattle.std.specs.Prelude.{◌<◌, ◌^◌, ◌≡◌, ◌≤◌, IfOk, IfSome, List, string_bytes, ℕ};
 ghost use Rattle.std.specs.Io.KnownBytes.{Appends, Consumes};
-ghost use Rattle.ciborium_value.specs.Taken.{gives};
-ghost use Rattle.ciborium_value.specs.View.{tree_of};
+ghost use Rattle.ciborium.specs.Taken.{gives};
+ghost use Rattle.ciborium.specs.View.{tree_of};
 ghost use Rattle.ciborium.specs.DeterministicWrites.{named_form};
 ghost use Rattle.ciborium.specs.laws.FormRoundTrips.{IsOwnForm};
 ghost use Rattle.ciborium.specs.laws.Loaded.{AreCanonicalParts, entry_trees};

@@ -1,14 +1,14 @@
 //! Callers that write and read sequences (RFC 8742, section 2), each with a contract of its own.
 ghost use Rattle.std.specs.Prelude.{◌≡◌, ◌≤◌, All, IfOk, IfSome, List, Ok, OnOk, Some, map, ℕ};
 ghost use Rattle.std.specs.Io.KnownBytes.{Appends};
-ghost use Rattle.ciborium_ll.specs.Item as item;
-ghost use Rattle.ciborium_ll.specs.Item.{Item};
-ghost use Rattle.ciborium_value.specs.Encoding.{items_bytes};
-ghost use Rattle.ciborium_value.specs.Meaning.{meaning};
-ghost use Rattle.ciborium_value.specs.Places.{items_from};
-ghost use Rattle.ciborium_value.specs.Sinks.{all_named};
-ghost use Rattle.ciborium_value.specs.Sources.{read_as};
-ghost use Rattle.ciborium_value.specs.View.{tree_of};
+ghost use Rattle.ciborium.specs.Item as item;
+ghost use Rattle.ciborium.specs.Item.{Item};
+ghost use Rattle.ciborium.specs.Encoding.{items_bytes};
+ghost use Rattle.ciborium.specs.Meaning.{meaning};
+ghost use Rattle.ciborium.specs.Places.{items_from};
+ghost use Rattle.ciborium.specs.Sinks.{all_named};
+ghost use Rattle.ciborium.specs.Sources.{read_as};
+ghost use Rattle.ciborium.specs.View.{tree_of};
 ghost use Rattle.ciborium.specs.ItemSequences.{IsSequence};
 ghost use Rattle.ciborium.specs.SequenceReads.{TakesSequence};
 ghost use Rattle.ciborium.specs.SequenceWrites.{AreNamedWritten};

@@ -1,10 +1,10 @@
 //! A value under one tag or two, read by the calls of the source, and a caller that writes one.
 ghost use Rattle.std.specs.Prelude.{◌≡◌, ◌∷◌, IfSome, Ok, Option, [], pos, ℕ};
-ghost use Rattle.ciborium_ll.specs.Item as item;
-ghost use Rattle.ciborium_value.specs.Encoding.{written_bytes};
-ghost use Rattle.ciborium_value.specs.Places.{sequence};
-ghost use Rattle.ciborium_value.specs.Sinks.{container_of, number_item, or_null};
-ghost use Rattle.ciborium_value.specs.TagReadings.{with_tag};
+ghost use Rattle.ciborium.specs.Item as item;
+ghost use Rattle.ciborium.specs.Encoding.{written_bytes};
+ghost use Rattle.ciborium.specs.Places.{sequence};
+ghost use Rattle.ciborium.specs.Sinks.{container_of, number_item, or_null};
+ghost use Rattle.ciborium.specs.TagReadings.{with_tag};
 
 use ciborium::de::{Deserialize, Source};
 use ciborium::into_writer;

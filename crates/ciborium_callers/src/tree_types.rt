@@ -1,12 +1,12 @@
 //! A type that holds itself. It is read as a `Value`, of which it is made.
 ghost use Rattle.std.specs.Prelude.{◌≡◌, ◌⊎◌, IfErr, IfOk, Ok, false, map, true};
-ghost use Rattle.ciborium_value.specs.Encoding.{item_of};
-ghost use Rattle.ciborium_value.specs.Nesting.{nesting};
-ghost use Rattle.ciborium_value.specs.Readings.{such_that};
-ghost use Rattle.ciborium_value.specs.lemmas.ReadsBackParts.{such_that_back};
-ghost use Rattle.ciborium_value.specs.lemmas.ReadsBackValues.{value-back};
-ghost use Rattle.ciborium_value.specs.Tree as trees;
-ghost use Rattle.ciborium_value.specs.View.{tree_of, trees_of};
+ghost use Rattle.ciborium.specs.Encoding.{item_of};
+ghost use Rattle.ciborium.specs.Nesting.{nesting};
+ghost use Rattle.ciborium.specs.Readings.{such_that};
+ghost use Rattle.ciborium.specs.lemmas.ReadsBackParts.{such_that_back};
+ghost use Rattle.ciborium.specs.lemmas.ReadsBackValues.{value-back};
+ghost use Rattle.ciborium.specs.Tree as trees;
+ghost use Rattle.ciborium.specs.View.{tree_of, trees_of};
 ghost use Rattle.ciborium_value.specs.declared.kind.Kind.TheVariants.{Other};
 ghost use Rattle.ciborium_value.specs.declared.serialized.Error.TheVariants.{Custom, Memory};
 ghost use Rattle.ciborium_callers.specs.NumberTrees.{are_number_trees, folded-number_tree};

@@ -1,8 +1,8 @@
 //! Callers that write into a tag, with contracts.
 ghost use Rattle.std.specs.Prelude.{◌≡◌, All, IfNone, IfSome, length};
 ghost use Rattle.std.specs.Borrow.{sem};
-ghost use Rattle.ciborium_value.specs.LentParts.{LendsTagIn};
-ghost use Rattle.ciborium_value.specs.Variants.{IsTag, IsTagOf};
+ghost use Rattle.ciborium.specs.LentParts.{LendsTagIn};
+ghost use Rattle.ciborium.specs.Variants.{IsTag, IsTagOf};
 
 use ciborium::value::Value;
 

@@ -1,15 +1,15 @@
 //! Enums that are written and read by the names of their variants.
 ghost use Rattle.std.specs.Prelude.{◌∷◌, ◌<◌, ◌^◌, Ok, [], codes, pos, refl};
-ghost use Rattle.ciborium_value.specs.Places.{sequence};
-ghost use Rattle.ciborium_value.specs.Readings.{below, tuple2_of};
-ghost use Rattle.ciborium_value.specs.lemmas.ReadsBackNumbers.{u8_back};
-ghost use Rattle.ciborium_value.specs.lemmas.ReadsBackParts.{tuple2-back};
-ghost use Rattle.ciborium_value.specs.lemmas.ReadsBackStructs.{field_back, fields_read_back};
-ghost use Rattle.ciborium_value.specs.lemmas.ReadsBackStructs.{no_field_back};
-ghost use Rattle.ciborium_value.specs.lemmas.ReadsBackVariants.{data_variant_back};
-ghost use Rattle.ciborium_value.specs.lemmas.ReadsBackVariants.{unit_variant_back};
-ghost use Rattle.ciborium_value.specs.Sinks.{container_of, fields_of, named_text, number_item};
-ghost use Rattle.ciborium_value.specs.VariantReadings.{data_variant, enum_of, unit_variant};
+ghost use Rattle.ciborium.specs.Places.{sequence};
+ghost use Rattle.ciborium.specs.Readings.{below, tuple2_of};
+ghost use Rattle.ciborium.specs.lemmas.ReadsBackNumbers.{u8_back};
+ghost use Rattle.ciborium.specs.lemmas.ReadsBackParts.{tuple2-back};
+ghost use Rattle.ciborium.specs.lemmas.ReadsBackStructs.{field_back, fields_read_back};
+ghost use Rattle.ciborium.specs.lemmas.ReadsBackStructs.{no_field_back};
+ghost use Rattle.ciborium.specs.lemmas.ReadsBackVariants.{data_variant_back};
+ghost use Rattle.ciborium.specs.lemmas.ReadsBackVariants.{unit_variant_back};
+ghost use Rattle.ciborium.specs.Sinks.{container_of, fields_of, named_text, number_item};
+ghost use Rattle.ciborium.specs.VariantReadings.{data_variant, enum_of, unit_variant};
 ghost use Rattle.ciborium_callers.specs.declared.variant_types.Form.{Form};
 ghost use Rattle.ciborium_callers.specs.declared.variant_types.Form.TheVariants as form;
 ghost use Rattle.ciborium_callers.specs.declared.variant_types.Letter.{Letter};

@@ -1,6 +1,6 @@
 use Rattle.std.proofs.Common.{ℕ, List, rules, subst}
 use Rattle.std.specs.Io.KnownBytes.{Consumes}
-use Rattle.ciborium_ll.specs.ReaderSteps.{IsHeadTaken}
+use Rattle.ciborium.specs.ReaderSteps.{IsHeadTaken}
 use Rattle.ciborium_ll.proofs.HeldBytes.{first-taken}
 use Rattle.ciborium_callers.proofs.head_callers.first_head.Goals as goal
 

@@ -44,11 +44,11 @@ use Rattle.ciborium_callers.proofs.LoneValue.{single, all_one, within_both, lend
 use Rattle.ciborium_value.proofs.tree.Value.as_tag_mut.Met.{met}
 use Rattle.ciborium_callers.proofs.value_callers.lone_tag_mut.Code as code
 use Rattle.ciborium_callers.proofs.value_callers.lone_tag_mut.Statement.{statement}
-use Rattle.ciborium_value.specs.LentParts.{value_with_tag, LendsTag}
-use Rattle.ciborium_value.specs.Tree as trees
-use Rattle.ciborium_value.specs.TreeVariants.{IsTagTree}
-use Rattle.ciborium_value.specs.Variants.{IsTag, IsTagOf}
-use Rattle.ciborium_value.specs.View.{tree_of}
+use Rattle.ciborium.specs.LentParts.{value_with_tag, LendsTag}
+use Rattle.ciborium.specs.Tree as trees
+use Rattle.ciborium.specs.TreeVariants.{IsTagTree}
+use Rattle.ciborium.specs.Variants.{IsTag, IsTagOf}
+use Rattle.ciborium.specs.View.{tree_of}
 use Rattle.ciborium_value.specs.contracts.tree.Value.{the_row as R}
 use Rattle.ciborium_value.specs.contracts.tree.Value.as_tag_mut as g
 use Rattle.ciborium_callers.specs.contracts.value_callers.lone_tag_mut as f

@@ -3,8 +3,8 @@ use Rattle.std.specs.Box.{with_value}
 use Rattle.std.specs.Prelude.{All, IfNone, map, slice_index_or}
 use Rattle.ciborium_value.proofs.Trees.TagParts.{tag_with}
 use Rattle.ciborium_callers.proofs.value_callers.retag.Goals as goal
-use Rattle.ciborium_value.specs.LentParts.{value_with_tag}
-use Rattle.ciborium_value.specs.Variants.{IsTag}
+use Rattle.ciborium.specs.LentParts.{value_with_tag}
+use Rattle.ciborium.specs.Variants.{IsTag}
 use Rattle.ciborium_value.specs.declared.tree.Value.{Value}
 
 pub returns-in-Some : goal.returns-in-Some

@@ -1,5 +1,5 @@
 -- Where memory is refused, nothing was written yet.
-use Rattle.ciborium_value.specs.Sinks.{named_text}
+use Rattle.ciborium.specs.Sinks.{named_text}
 use Rattle.std.proofs.Common.{string_bytes}
 use Rattle.ciborium_value.proofs.Writing.Progress.{broken_before}
 use Rattle.ciborium_callers.proofs.own_types.CopiedSerialize.serialize.Goals as goal

@@ -4,9 +4,9 @@ use Rattle.std.proofs.Common.{None, refl, ◌≡◌, length, subst, rules}
 use Rattle.std.proofs.lemmas.Result.{on_ok_weaker, on_err_weaker}
 use Rattle.std.proofs.lemmas.Map.Iter.{rest_more, rest_all}
 use Rattle.std.specs.Map.Iter.{deref_pair}
-use Rattle.ciborium_value.specs.Places.{dictionary}
-use Rattle.ciborium_value.specs.Sinks.{IsOwed, open_container_of, in_turn}
-use Rattle.ciborium_value.specs.Progress.{Owes}
+use Rattle.ciborium.specs.Places.{dictionary}
+use Rattle.ciborium.specs.Sinks.{IsOwed, open_container_of, in_turn}
+use Rattle.ciborium.specs.Progress.{Owes}
 use Rattle.ciborium_value.proofs.Writing.Progress.{exits, on_err, owes_begin, owes_broken_begin, owes_ready, owes_more, owes_broken, owes_owed, owes_can_end, owes_ends, owes_broken_end, length-in_turn}
 use Rattle.ciborium_callers.proofs.own_types.OpenMapSerialize.serialize.Goals as goal
 

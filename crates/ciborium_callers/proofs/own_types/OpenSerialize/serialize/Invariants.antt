@@ -1,6 +1,6 @@
 use Rattle.std.proofs.Common.{map, drop, None}
-use Rattle.ciborium_value.specs.Places.{sequence}
-use Rattle.ciborium_value.specs.Progress.{Owes}
+use Rattle.ciborium.specs.Places.{sequence}
+use Rattle.ciborium.specs.Progress.{Owes}
 use Rattle.ciborium_callers.proofs.OwnTypes.{named_number}
 use Rattle.ciborium_callers.proofs.own_types.OpenSerialize.serialize.Given as goal
 

@@ -1,12 +1,12 @@
 -- A tree is written level by level.
 use Rattle.std.proofs.Common.{◌≡◌, ℕ, pos, Ok, Vec, Global, IfErr, map, rules, subst, sym, ap, ◌∙◌}
 use Rattle.std.proofs.lemmas.Result.{on_ok_weaker, on_err_weaker}
-use Rattle.ciborium_value.specs.Encoding.{item_of}
-use Rattle.ciborium_value.specs.Number.{number_tree}
-use Rattle.ciborium_value.specs.Places.{sequence}
-use Rattle.ciborium_value.specs.Sinks.{AddsNamed, BreaksNamed, IsOwed, Named, container_of, number_item}
-use Rattle.ciborium_value.specs.Tree as trees
-use Rattle.ciborium_value.specs.View.{trees_from}
+use Rattle.ciborium.specs.Encoding.{item_of}
+use Rattle.ciborium.specs.Number.{number_tree}
+use Rattle.ciborium.specs.Places.{sequence}
+use Rattle.ciborium.specs.Sinks.{AddsNamed, BreaksNamed, IsOwed, Named, container_of, number_item}
+use Rattle.ciborium.specs.Tree as trees
+use Rattle.ciborium.specs.View.{trees_from}
 use Rattle.ciborium_value.proofs.FoldedTrees.NumberItems.{number_tree-item}
 use Rattle.ciborium_value.proofs.Writing.WrittenValues.{named-parts}
 use Rattle.ciborium_callers.specs.NumberTrees.{shape_of}
