@@ -1,8 +1,7 @@
 //! Tags around a value (RFC 8949, section 3.4).
 
-ghost use Rattle.std.specs.Prelude.{◌⊎◌, IfErr, OnErr, OnOk, Option, refl, suc, ℕ};
+ghost use Rattle.std.specs.Prelude.{Option, refl, suc, ℕ};
 ghost use Rattle.ciborium_value.specs.lemmas.KeyOrders.{ordering_then-same};
-ghost use Rattle.ciborium_value.specs.Sinks.{AddsNamed, BreaksNamed, IsGranted, IsOwed, IsReady};
 ghost use Rattle.ciborium_value.specs.Sinks.{tag_of};
 ghost use Rattle.ciborium_value.specs.TagReadings.{tag_accepted, tag_required, with_tag};
 ghost use Rattle.ciborium.specs.lemmas.FormsReadBackTags.{accepted-form, captured-form};
@@ -17,6 +16,7 @@ use crate::de::{Deserialize, Key, Source};
 use crate::laws::{FormReadsBack, NeverBytes, NeverNull, ReadsBack, WritesContent};
 use crate::ser::{Serialize, Sink};
 use crate::value::Kind;
+use ciborium_value::serialize_tagged;
 use std::alloc::Global;
 
 /// A value, and the tag around it if there is one.
@@ -218,22 +218,4 @@ impl<V: WritesContent, const TAG: u64> WritesContent for Required<V, TAG> {
 
 impl<V: WritesContent, const TAG: u64> WritesContent for Accepted<V, TAG> {
     ghost writes_content = { λ v w same. tagged-alike V.writes_content TAG v.0 w.0 same };
-}
-
-// Adds the content under a tag.
-fn serialize_tagged<T: Serialize, S: Sink>(
-    tag: u64,
-    content: &T,
-    sink: &mut S,
-) -> Result<(), S::Error>
-    requires { IsReady S.stands_at sink.old }
-    ensures ok { OnOk result (AddsNamed S.stands_at sink.old sink.new
-        (tag_of tag (T.written content.now))) }
-    ensures cause { IfErr result (λ e. IsOwed (S.cause e) (tag_of tag (T.written content.now))) }
-    ensures memory { IfErr result (λ e. IsGranted (S.cause e) (S.takes_memory ⊎ T.takes_memory)) }
-    ensures err { OnErr result (BreaksNamed S.stands_at S.out sink.old sink.new
-        (tag_of tag (T.written content.now))) }
-{
-    sink.tag(tag)?;
-    content.serialize(sink)
 }

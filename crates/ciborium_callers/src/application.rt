@@ -1,4 +1,4 @@
-//! Functions of an application, with an error type of its own: `?` throughout, as README shows.
+//! Functions of an application, with an error type of its own: `?` throughout, as CALLING shows.
 
 ghost use Rattle.std.specs.Prelude.{◌≡◌};
 ghost use Rattle.ciborium_callers.specs.declared.application.CopyError.TheVariants.{File as file};

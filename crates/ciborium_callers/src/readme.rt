@@ -1,4 +1,4 @@
-//! The examples of README, as they stand there.
+//! The examples of README and CALLING, as they stand there.
 
 use ciborium::{Value, de, from_reader, from_reader_next};
 use std::fs::File;

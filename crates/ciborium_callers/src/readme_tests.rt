@@ -1,4 +1,4 @@
-//! The calls that README shows, as they stand there, and what they answer.
+//! The calls that README and CALLING show, as they stand there, and what they answer.
 use crate::expectations::{expect, expect_bytes, expect_same};
 use crate::readme::{read_file, sum_file};
 use ciborium::ll::{Decoder, Encoder, Header};

@@ -29,7 +29,7 @@ pub use fields::{Field, Fields, NoField};
 pub use key_order::KeyOrder;
 pub use kind::Kind;
 pub use reads_back::{FormReadsBack, NeverBytes, NeverNull, ReadsBack, WritesContent};
-pub use serialize::Serialize;
+pub use serialize::{Serialize, serialize_tagged};
 pub use sink::Sink;
 pub use source::Source;
 pub use tree::Value;

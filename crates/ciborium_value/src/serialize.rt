@@ -5,6 +5,7 @@ ghost use Rattle.ciborium_value.specs.Sinks.{AddsNamed, BreaksNamed, IsGranted, 
 ghost use Rattle.ciborium_value.specs.Sinks.{Named};
 
 use crate::sink::Sink;
+pub use containers::serialize_tagged;
 
 mod containers;
 mod numbers;

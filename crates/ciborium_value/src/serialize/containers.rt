@@ -126,8 +126,12 @@ pub(super) fn serialize_pairs<K: Serialize, V: Serialize, S: Sink>(
     sink.end(count)
 }
 
-// Adds the content under a tag.
-pub(super) fn serialize_tagged<T: Serialize, S: Sink>(
+/// Writes an item under a tag (RFC 8949, section 3.4): the head of the tag, and then the content.
+///
+/// # Errors
+///
+/// Those of the sink and of the content. At an error only a strict prefix of the item was added.
+pub fn serialize_tagged<T: Serialize, S: Sink>(
     tag: u64,
     content: &T,
     sink: &mut S,
