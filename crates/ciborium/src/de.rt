@@ -2,12 +2,11 @@
 
 ghost use Rattle.std.specs.Prelude.{◌≡◌, IfErr, IfNone, IfSome, None, Ok, Some};
 ghost use Rattle.ciborium_value.specs.Sources.{IsGrantedFault, TakesOnly, read_as};
-ghost use Rattle.ciborium.specs.Calls.{HasRead, HasReadNext};
 ghost use Rattle.ciborium.specs.Errors.{fault_of};
-ghost use Rattle.ciborium.specs.NextItems.{IfNotEnded, IsReadFrom, behind_head};
+ghost use Rattle.ciborium.specs.NextItems.{Otherwise, TellsEnd, IfNotEnded, IsReadFrom, behind_head};
 ghost use Rattle.ciborium.specs.Spelling.{any};
 ghost use Rattle.ciborium.specs.TypedAnswers.{RefusesTaken, TakesBeginning, TakesGiven};
-ghost use Rattle.ciborium.specs.ValueAnswers.{TakesBytesFrom};
+ghost use Rattle.ciborium.specs.ValueAnswers.{ReadsWhole, TakesBytesFrom};
 ghost use Rattle.ciborium.specs.inner.ByteSources.{HasTakenSince};
 
 mod building;
@@ -58,7 +57,18 @@ fn read<T: Deserialize, R: Read>(
     scratch: &mut [u8],
     limit: usize,
 ) -> Result<T, Error<io::Error>>
-    ensures { HasRead T.reading limit (R.remaining reader.old) (R.remaining reader.new) result }
+    // Where an item stands at the front: just it was taken, and the answer is what it gives; or it
+    // is refused as the item is.
+    ensures ok { TakesGiven (Some limit) T.reading.taken (R.remaining reader.old)
+        (R.remaining reader.new) (read_as T.reading.content result) }
+    ensures refused { RefusesTaken 0 (Some limit) T.reading.taken (R.remaining reader.old)
+        (read_as T.reading.content result) }
+    ensures memory { IfErr result (λ e. IsGrantedFault (fault_of e) T.reading.needs_memory) }
+    // Refused or not, a prefix of what was there was taken, and nothing else.
+    ensures taken { TakesBeginning (R.remaining reader.old) (R.remaining reader.new) }
+    // Where reading is one call of `value`, whatever the bytes.
+    ensures value { IfSome T.reading.whole (λ tree. ReadsWhole any (R.remaining reader.old) limit
+        (R.remaining reader.new) (read_as (λ v. tree (T.reading.content v)) result)) }
 {
     let mut source = ByteSource {
         decoder: Decoder::new(reader),
@@ -92,7 +102,18 @@ pub fn from_reader<T: Deserialize, R: Read>(
     alloc: Global,
     reader: &mut R,
 ) -> Result<T, Error<io::Error>>
-    ensures { HasRead T.reading 256 (R.remaining reader.old) (R.remaining reader.new) result }
+    // Where an item stands at the front: just it was taken, and the answer is what it gives; or it
+    // is refused as the item is.
+    ensures ok { TakesGiven (Some 256) T.reading.taken (R.remaining reader.old)
+        (R.remaining reader.new) (read_as T.reading.content result) }
+    ensures refused { RefusesTaken 0 (Some 256) T.reading.taken (R.remaining reader.old)
+        (read_as T.reading.content result) }
+    ensures memory { IfErr result (λ e. IsGrantedFault (fault_of e) T.reading.needs_memory) }
+    // Refused or not, a prefix of what was there was taken, and nothing else.
+    ensures taken { TakesBeginning (R.remaining reader.old) (R.remaining reader.new) }
+    // Where reading is one call of `value`, whatever the bytes.
+    ensures value { IfSome T.reading.whole (λ tree. ReadsWhole any (R.remaining reader.old) 256
+        (R.remaining reader.new) (read_as (λ v. tree (T.reading.content v)) result)) }
 {
     let mut scratch = [0u8; SCRATCH_SIZE];
     read(alloc, reader, &mut scratch, RECURSION_LIMIT)
@@ -105,7 +126,18 @@ pub fn from_reader_with_buffer<T: Deserialize, R: Read>(
     reader: &mut R,
     scratch: &mut [u8],
 ) -> Result<T, Error<io::Error>>
-    ensures { HasRead T.reading 256 (R.remaining reader.old) (R.remaining reader.new) result }
+    // Where an item stands at the front: just it was taken, and the answer is what it gives; or it
+    // is refused as the item is.
+    ensures ok { TakesGiven (Some 256) T.reading.taken (R.remaining reader.old)
+        (R.remaining reader.new) (read_as T.reading.content result) }
+    ensures refused { RefusesTaken 0 (Some 256) T.reading.taken (R.remaining reader.old)
+        (read_as T.reading.content result) }
+    ensures memory { IfErr result (λ e. IsGrantedFault (fault_of e) T.reading.needs_memory) }
+    // Refused or not, a prefix of what was there was taken, and nothing else.
+    ensures taken { TakesBeginning (R.remaining reader.old) (R.remaining reader.new) }
+    // Where reading is one call of `value`, whatever the bytes.
+    ensures value { IfSome T.reading.whole (λ tree. ReadsWhole any (R.remaining reader.old) 256
+        (R.remaining reader.new) (read_as (λ v. tree (T.reading.content v)) result)) }
 {
     read(alloc, reader, scratch, RECURSION_LIMIT)
 }
@@ -120,7 +152,18 @@ pub fn from_reader_with_recursion_limit<T: Deserialize, R: Read>(
     reader: &mut R,
     limit: usize,
 ) -> Result<T, Error<io::Error>>
-    ensures { HasRead T.reading limit (R.remaining reader.old) (R.remaining reader.new) result }
+    // Where an item stands at the front: just it was taken, and the answer is what it gives; or it
+    // is refused as the item is.
+    ensures ok { TakesGiven (Some limit) T.reading.taken (R.remaining reader.old)
+        (R.remaining reader.new) (read_as T.reading.content result) }
+    ensures refused { RefusesTaken 0 (Some limit) T.reading.taken (R.remaining reader.old)
+        (read_as T.reading.content result) }
+    ensures memory { IfErr result (λ e. IsGrantedFault (fault_of e) T.reading.needs_memory) }
+    // Refused or not, a prefix of what was there was taken, and nothing else.
+    ensures taken { TakesBeginning (R.remaining reader.old) (R.remaining reader.new) }
+    // Where reading is one call of `value`, whatever the bytes.
+    ensures value { IfSome T.reading.whole (λ tree. ReadsWhole any (R.remaining reader.old) limit
+        (R.remaining reader.new) (read_as (λ v. tree (T.reading.content v)) result)) }
 {
     let mut scratch = [0u8; SCRATCH_SIZE];
     read(alloc, reader, &mut scratch, limit)
@@ -198,7 +241,21 @@ pub fn from_reader_next<T: Deserialize, R: Read>(
     alloc: Global,
     reader: &mut R,
 ) -> Result<Option<T>, Error<io::Error>>
-    ensures { HasReadNext T.reading 256 (R.remaining reader.old) (R.remaining reader.new) result }
+    // At the end nothing is taken, and of known bytes none are left.
+    ensures end { TellsEnd (R.remaining reader.old) (R.remaining reader.new) result }
+    // Otherwise, where an item stands at the front: just it was taken, and the answer is what it
+    // gives; or it is refused as the item is.
+    ensures ok { Otherwise result (λ r. TakesGiven (Some 256) T.reading.taken
+        (R.remaining reader.old) (R.remaining reader.new) (read_as T.reading.content r)) }
+    ensures refused { Otherwise result (λ r. RefusesTaken 0 (Some 256) T.reading.taken
+        (R.remaining reader.old) (read_as T.reading.content r)) }
+    ensures memory { IfErr result (λ e. IsGrantedFault (fault_of e) T.reading.needs_memory) }
+    // Refused or not, a prefix of what was there was taken, and nothing else.
+    ensures taken { TakesBeginning (R.remaining reader.old) (R.remaining reader.new) }
+    // Where reading is one call of `value`, whatever the bytes.
+    ensures value { Otherwise result (λ r. IfSome T.reading.whole (λ tree.
+        ReadsWhole any (R.remaining reader.old) 256 (R.remaining reader.new)
+        (read_as (λ v. tree (T.reading.content v)) r))) }
 {
     from_reader_next_with_recursion_limit(alloc, reader, RECURSION_LIMIT)
 }
@@ -213,8 +270,21 @@ pub fn from_reader_next_with_recursion_limit<T: Deserialize, R: Read>(
     reader: &mut R,
     recursion_limit: usize,
 ) -> Result<Option<T>, Error<io::Error>>
-    ensures { HasReadNext T.reading recursion_limit (R.remaining reader.old) (R.remaining reader.new)
-        result }
+    // As in `from_reader_next`, but for the limit.
+    ensures end { TellsEnd (R.remaining reader.old) (R.remaining reader.new) result }
+    // Otherwise, where an item stands at the front: just it was taken, and the answer is what it
+    // gives; or it is refused as the item is.
+    ensures ok { Otherwise result (λ r. TakesGiven (Some recursion_limit) T.reading.taken
+        (R.remaining reader.old) (R.remaining reader.new) (read_as T.reading.content r)) }
+    ensures refused { Otherwise result (λ r. RefusesTaken 0 (Some recursion_limit) T.reading.taken
+        (R.remaining reader.old) (read_as T.reading.content r)) }
+    ensures memory { IfErr result (λ e. IsGrantedFault (fault_of e) T.reading.needs_memory) }
+    // Refused or not, a prefix of what was there was taken, and nothing else.
+    ensures taken { TakesBeginning (R.remaining reader.old) (R.remaining reader.new) }
+    // Where reading is one call of `value`, whatever the bytes.
+    ensures value { Otherwise result (λ r. IfSome T.reading.whole (λ tree.
+        ReadsWhole any (R.remaining reader.old) recursion_limit (R.remaining reader.new)
+        (read_as (λ v. tree (T.reading.content v)) r))) }
 {
     let mut scratch = [0u8; SCRATCH_SIZE];
     let mut source = ByteSource {
