@@ -53,14 +53,20 @@ AnswersBytes taken l b after r = TakesGiven (Some l) taken (Some b) after r × R
 -- refused for nesting, for want of memory, as too long or by the device
 abbrev pub IsExcused : Fault → Type 0
 IsExcused (of_kind k) = ⊥
+IsExcused of_nesting = Unit {0}
 IsExcused of_syntax = ⊥
-IsExcused _ = Unit {0}
+IsExcused of_memory = Unit {0}
+IsExcused of_device = Unit {0}
+IsExcused of_length = Unit {0}
 
 -- refused with this kind, or excused
 abbrev pub IsSameKind : Kind → Fault → Type 0
 IsSameKind k (of_kind j) = j ≡ k
+IsSameKind k of_nesting = Unit {0}
 IsSameKind k of_syntax = ⊥
-IsSameKind k _ = Unit {0}
+IsSameKind k of_memory = Unit {0}
+IsSameKind k of_device = Unit {0}
+IsSameKind k of_length = Unit {0}
 
 -- the same value, or both are refused with the same kind; the second may be refused for nesting, and either for want of memory
 abbrev pub AreOneAnswer : {A E : Type 0} → Result A TreeError → Result A (Error E) → Type 0

@@ -5,8 +5,14 @@ use Rattle.ciborium_value.specs.Meaning.{is_bignum_tag, tag_meaning, trees_more,
 
 -- the byte string of at most 16 bytes that a tree is
 abbrev pub short_bytes : Tree → Option (List ℕ)
+short_bytes (integer z) = None
 short_bytes (bytes b) = if nat_le (length b) 16 then Some b else None
-short_bytes _ = None
+short_bytes (text b) = None
+short_bytes (boolean b) = None
+short_bytes null = None
+short_bytes (tag t v) = None
+short_bytes (array vs) = None
+short_bytes (map ps) = None
 
 -- the bytes over which a tag in a tree folds
 abbrev pub tree_folding_bytes : ℕ → Tree → Option (List ℕ)

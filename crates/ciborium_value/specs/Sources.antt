@@ -42,8 +42,12 @@ IsOutsideFault end of_length = greatest_offset < end
 
 -- want of memory comes only from those that take memory
 abbrev pub IsGrantedFault : Fault → Bool → Type 0
+IsGrantedFault (of_kind k) takes_memory = Unit {0}
+IsGrantedFault of_nesting takes_memory = Unit {0}
+IsGrantedFault of_syntax takes_memory = Unit {0}
 IsGrantedFault of_memory takes_memory = IsTrue takes_memory
-IsGrantedFault _ takes_memory = Unit {0}
+IsGrantedFault of_device takes_memory = Unit {0}
+IsGrantedFault of_length takes_memory = Unit {0}
 
 -- an answer by what counts of it
 abbrev pub read_as : {A B E : Type 0} → (A → B) → Result A E → Result B E

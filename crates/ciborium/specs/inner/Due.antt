@@ -10,7 +10,11 @@ use Rattle.ciborium.specs.declared.de.error.Error.TheVariants.{Io, Syntax, Seman
 -- where the reader failed or ended, nothing is held
 abbrev pub HoldsNothingAfter : {S E : Type 0} → Decoder S → Error E → Type 0
 HoldsNothingAfter d (Io e) = HoldsNothing d
-HoldsNothingAfter d _ = Unit {0}
+HoldsNothingAfter d (Syntax p) = Unit {0}
+HoldsNothingAfter d (Semantic p k) = Unit {0}
+HoldsNothingAfter d RecursionLimitExceeded = Unit {0}
+HoldsNothingAfter d Memory = Unit {0}
+HoldsNothingAfter d TooLong = Unit {0}
 
 -- the head that was pushed back is taken already
 abbrev pub pushed_count : Option (Header × ℕ) → ℕ
