@@ -28,8 +28,9 @@ use std::io::{Read, Write};
 
 // What is told of words that ask for nothing.
 const USAGE: &str = "\
-usage: cbor read [--det [--core]] [limit] | cbor canon [--core] [limit] | cbor diag [--indent] [limit] \
-| cbor seq | cbor sort [--core] | cbor diag --binary [--indent] [limit] | cbor read --binary [limit] \
+usage: cbor read [--det [--core]] [limit] | cbor canon [--core] [limit] \
+| cbor diag [--indent] [limit] | cbor seq | cbor sort [--core] \
+| cbor diag --binary [--indent] [limit] | cbor read --binary [limit] \
 | cbor --help | cbor --version
 ";
 

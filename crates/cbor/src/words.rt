@@ -27,7 +27,8 @@ pub fn judge_words(words: &[String]) -> Option<Command>
 // What the words ask for that takes no limit.
 fn judge_alone(words: &[String]) -> Option<Command>
     ensures { MatchOption result
-        ((command : Command) → command_limit command ≡ None → ¬ AskFor (map string_bytes words.now) command)
+        ((command : Command) → command_limit command ≡ None →
+        ¬ AskFor (map string_bytes words.now) command)
         (λ command. AskFor (map string_bytes words.now) command) }
 {
     if are_words(words, &["sort"]) {
@@ -51,7 +52,8 @@ fn judge_alone(words: &[String]) -> Option<Command>
 // What the words ask for that takes a limit.
 fn judge_with_limit(words: &[String]) -> Option<Command>
     ensures { MatchOption result
-        ((command : Command) → IsSome (command_limit command) → ¬ AskFor (map string_bytes words.now) command)
+        ((command : Command) → IsSome (command_limit command) →
+        ¬ AskFor (map string_bytes words.now) command)
         (λ command. AskFor (map string_bytes words.now) command) }
 {
     if let Some(limit) = limit_behind(words, &["read"]) {

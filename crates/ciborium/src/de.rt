@@ -3,7 +3,8 @@
 ghost use Rattle.std.specs.Prelude.{◌≡◌, IfErr, IfNone, IfSome, None, Ok, Some};
 ghost use Rattle.ciborium_value.specs.Sources.{IsGrantedFault, TakesOnly, read_as};
 ghost use Rattle.ciborium.specs.Errors.{fault_of};
-ghost use Rattle.ciborium.specs.NextItems.{Otherwise, TellsEnd, IfNotEnded, IsReadFrom, behind_head};
+ghost use Rattle.ciborium.specs.NextItems.{IfNotEnded, IsReadFrom, Otherwise, TellsEnd};
+ghost use Rattle.ciborium.specs.NextItems.{behind_head};
 ghost use Rattle.ciborium.specs.Spelling.{any};
 ghost use Rattle.ciborium.specs.TypedAnswers.{RefusesTaken, TakesBeginning, TakesGiven};
 ghost use Rattle.ciborium.specs.ValueAnswers.{ReadsWhole, TakesBytesFrom};

@@ -29,7 +29,8 @@ pub trait Deserialize: Sized + Drop {
     /// unread and nothing else, and no more is left to read than before.
     fn deserialize<S: Source>(alloc: Global, source: &mut S) -> Result<Self, S::Error>
         ensures ok { IfOk result
-            (λ v. TakesAhead S.stands_before source.old source.new reading.taken (reading.content v)) }
+            (λ v. TakesAhead S.stands_before source.old source.new reading.taken (reading.content
+            v)) }
         ensures refused { IfErr result
             (λ e. RefusesAhead S.stands_before source.old reading.taken (S.cause e)) }
         ensures memory { IfErr result (λ e. IsGrantedFault (S.cause e) reading.needs_memory) }

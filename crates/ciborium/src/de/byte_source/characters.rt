@@ -24,7 +24,8 @@ fn only_character(payload: &[u8], offset: usize) -> Result<char, Refusal>
     ensures utf8 { OnOk result (IsUtf8 payload.now) }
     ensures ok { IfOk result (λ c. lone_character (chars payload.now) ≡ gives c) }
     ensures refused { IfErr result (λ e.
-        (end : ℕ) → IsUtf8 payload.now → IsFaultOf end (fault_of e) (lone_character (chars payload.now))) }
+        (end : ℕ) → IsUtf8 payload.now →
+        IsFaultOf end (fault_of e) (lone_character (chars payload.now))) }
     ensures memory { IfErr result (λ e. IsGrantedFault (fault_of e) false) }
     ensures at { IfErr result (λ e.
         (e ≡ Error.Syntax offset) ⊎ (e ≡ Error.Semantic (Some offset) Kind.Char)) }

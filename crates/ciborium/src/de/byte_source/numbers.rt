@@ -70,7 +70,9 @@ impl<'a, R: Read> ByteSource<'a, R> {
         ensures fewer { OnOk result (bytes_weight self.new ≤ bytes_weight self.old) }
         ensures ok { IfOk result (λ number. TakesDigits (IsUnread R.remaining self.old)
             (IsUnread R.remaining self.new) len start number) }
-        ensures outside { IfErr result (λ e. DeniesJust (IsUnread R.remaining self.old) (end_at R.remaining self.old) len (fault_of e)) }
+        ensures outside { IfErr result
+            (λ e. DeniesJust (IsUnread R.remaining self.old) (end_at R.remaining self.old) len
+            (fault_of e)) }
         ensures memory { IfErr result (λ e. IsGrantedFault (fault_of e) false) }
     {
         let mut number = start;
@@ -98,7 +100,8 @@ impl<'a, R: Read> ByteSource<'a, R> {
         ensures ok { IfOk result (λ number. TakesNumber (IsUnread R.remaining self.old)
             (IsUnread R.remaining self.new) len number) }
         ensures denied { IfErr result
-            (λ e. DeniesContent (IsUnread R.remaining self.old) (end_at R.remaining self.old) of_bytes len (fault_of e)) }
+            (λ e. DeniesContent (IsUnread R.remaining self.old) (end_at R.remaining self.old)
+            of_bytes len (fault_of e)) }
         ensures memory { IfErr result (λ e. IsGrantedFault (fault_of e) false) }
     {
         match len {
@@ -135,7 +138,8 @@ impl<'a, R: Read> ByteSource<'a, R> {
         ensures ok { IfOk result
             (λ n. Reads (IsUnread R.remaining) self.old self.new None taken_bignum n) }
         ensures denied { IfErr result
-            (λ e. Denies (IsUnread R.remaining) (end_at R.remaining) self.old None taken_bignum (fault_of e)) }
+            (λ e. Denies (IsUnread R.remaining) (end_at R.remaining) self.old None taken_bignum
+            (fault_of e)) }
         ensures memory { IfErr result (λ e. IsGrantedFault (fault_of e) false) }
     {
         let (header, offset) = self.next_head()?;
@@ -167,7 +171,8 @@ impl<'a, R: Read> ByteSource<'a, R> {
         ensures ok { IfOk result
             (λ v. Reads (IsUnread R.remaining) self.old self.new None taken_bignum v.0.1) }
         ensures denied { IfErr result
-            (λ e. Denies (IsUnread R.remaining) (end_at R.remaining) self.old None taken_bignum (fault_of e)) }
+            (λ e. Denies (IsUnread R.remaining) (end_at R.remaining) self.old None taken_bignum
+            (fault_of e)) }
         ensures memory { IfErr result (λ e. IsGrantedFault (fault_of e) false) }
     {
         let n = self.read_bignum(offset)?;

@@ -32,7 +32,9 @@ impl<'a, R: Read> ByteSource<'a, R> {
         ensures fewer { OnOk result (bytes_weight self.new ≤ bytes_weight self.old) }
         ensures ok { OnOk result
             (TakesJust (IsUnread R.remaining self.old) (IsUnread R.remaining self.new) buffer.new) }
-        ensures outside { IfErr result (λ e. DeniesJust (IsUnread R.remaining self.old) (end_at R.remaining self.old) (length buffer.old) (fault_of e)) }
+        ensures outside { IfErr result
+            (λ e. DeniesJust (IsUnread R.remaining self.old) (end_at R.remaining self.old) (length
+            buffer.old) (fault_of e)) }
         ensures memory { IfErr result (λ e. IsGrantedFault (fault_of e) false) }
     {
         self.decoder.read_exact_keeping(buffer, &mut self.failure)?;
@@ -57,7 +59,8 @@ impl<'a, R: Read> ByteSource<'a, R> {
         ensures ok { IfOk result (λ v. TakesContent (IsUnread R.remaining self.old)
             (IsUnread R.remaining self.new) of_bytes len v.items) }
         ensures denied { IfErr result
-            (λ e. DeniesContent (IsUnread R.remaining self.old) (end_at R.remaining self.old) of_bytes len (fault_of e)) }
+            (λ e. DeniesContent (IsUnread R.remaining self.old) (end_at R.remaining self.old)
+            of_bytes len (fault_of e)) }
     {
         let mut out = Vec::new(alloc);
         self.decoder
@@ -82,7 +85,8 @@ impl<'a, R: Read> ByteSource<'a, R> {
         ensures ok { IfOk result (λ v. TakesContent (IsUnread R.remaining self.old)
             (IsUnread R.remaining self.new) of_text len (string_bytes v)) }
         ensures denied { IfErr result
-            (λ e. DeniesContent (IsUnread R.remaining self.old) (end_at R.remaining self.old) of_text len (fault_of e)) }
+            (λ e. DeniesContent (IsUnread R.remaining self.old) (end_at R.remaining self.old)
+            of_text len (fault_of e)) }
     {
         let mut out = String::new(alloc);
         self.decoder
