@@ -1,6 +1,6 @@
 -- Encodings and their order; known bytes have one answer.
 pub mod EncodingLaws
-pub mod CanonicalValues
+pub mod OrderedValues
 pub mod RisingKeys
 pub mod Sequences
 pub mod OneAnswer

@@ -8,8 +8,8 @@ use Rattle.ciborium_value.specs.Taken.{Outcome, gives, refuses}
 use Rattle.ciborium_value.specs.Tree.{Tree}
 use Rattle.ciborium_value.specs.WrittenItems.{IsWritten}
 use Rattle.ciborium_value.specs.declared.key_order.KeyOrder.{KeyOrder}
-use Rattle.ciborium.specs.declared.ser.Error.{Error}
-use Rattle.ciborium.specs.declared.ser.Error.TheVariants.{Io, Value, Memory}
+use Rattle.ciborium.specs.declared.ser.error.Error.{Error}
+use Rattle.ciborium.specs.declared.ser.error.Error.TheVariants.{Io, Value, Memory}
 
 -- the deterministic form of what a value names: that of the tree of the item, or the kind with which the value is refused
 abbrev pub named_form : KeyOrder → Named → Outcome Tree

@@ -48,7 +48,7 @@ pub use Rattle.ciborium_value.specs.Variants
 pub use Rattle.ciborium_value.specs.TreeVariants
 pub use Rattle.ciborium_value.specs.Rows
 pub use Rattle.ciborium_value.specs.LentParts
-pub use Rattle.ciborium_value.specs.CanonicalValues
+pub use Rattle.ciborium_value.specs.OrderedValues
 pub use Rattle.ciborium_value.specs.WrittenItems
 pub use Rattle.ciborium_value.specs.Places
 pub use Rattle.ciborium_value.specs.Sinks

@@ -5,8 +5,8 @@ use Rattle.ciborium_ll.specs.HeadMessages.{at_byte, syntax_message, too_long_mes
 use Rattle.ciborium_value.specs.RefusalMessages.{kind_message}
 use Rattle.ciborium.specs.declared.de.error.Error.{Error as ReadError}
 use Rattle.ciborium.specs.declared.de.error.Error.TheVariants as read
-use Rattle.ciborium.specs.declared.ser.Error.{Error as WriteError}
-use Rattle.ciborium.specs.declared.ser.Error.TheVariants as write
+use Rattle.ciborium.specs.declared.ser.error.Error.{Error as WriteError}
+use Rattle.ciborium.specs.declared.ser.error.Error.TheVariants as write
 
 -- the message of an error of reading, where `output` is what `{}` prints of the reader's errors
 abbrev pub read_error_message : {E : Type 0} → (E → Option (List ℕ)) → ReadError E → Option (List ℕ)

@@ -12,8 +12,8 @@ use Rattle.ciborium_value.specs.Taken.{gives, Taken}
 use Rattle.ciborium_value.specs.Tree.{Tree}
 use Rattle.ciborium_value.specs.TreeAnswers.{IsErrorOf}
 use Rattle.ciborium_value.specs.declared.kind.Kind.{Kind}
-use Rattle.ciborium_value.specs.declared.serialized.Error.{Error as TreeError}
-use Rattle.ciborium_value.specs.declared.serialized.Error.TheVariants as of_tree
+use Rattle.ciborium_value.specs.declared.error.Error.{Error as TreeError}
+use Rattle.ciborium_value.specs.declared.error.Error.TheVariants as of_tree
 use Rattle.ciborium.specs.Errors.{fault_of}
 use Rattle.ciborium.specs.declared.de.error.Error.{Error}
 

@@ -6,8 +6,8 @@ use Rattle.ciborium_value.specs.Encoding.{written_bytes}
 use Rattle.ciborium_value.specs.Places.{Place, Out, IsOutAt, IsWrittenPlace}
 use Rattle.ciborium_value.specs.Sinks.{Named, Cause, value, memory, device}
 use Rattle.ciborium_value.specs.WrittenItems.{IsWritten}
-use Rattle.ciborium.specs.declared.ser.Error.{Error}
-use Rattle.ciborium.specs.declared.ser.Error.TheVariants.{Io, Value, Memory}
+use Rattle.ciborium.specs.declared.ser.error.Error.{Error}
+use Rattle.ciborium.specs.declared.ser.error.Error.TheVariants.{Io, Value, Memory}
 use Rattle.ciborium.specs.declared.ser.byte_sink.ByteSink.{ByteSink}
 use Rattle.ciborium.specs.declared.ser.byte_sink.Refusal.{Refusal}
 use Rattle.ciborium.specs.declared.ser.byte_sink.Refusal.TheVariants as refusal

@@ -1,6 +1,6 @@
 -- What functions that do nothing have as contracts: laws of encodings, of deterministic ones, and of what is read back.
 pub mod AnswerLaws
-pub mod CanonicalLaws
+pub mod OrdersOfValues
 pub mod DeterministicLaws
 pub mod EncodingLaws
 pub mod RoundTrips

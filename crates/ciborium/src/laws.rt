@@ -4,12 +4,10 @@ ghost use Rattle.std.specs.Prelude.{◌≡◌, length};
 ghost use Rattle.ciborium_value.specs.Places.{dictionary};
 ghost use Rattle.ciborium_value.specs.Sinks.{container_of, in_turn, named_value};
 ghost use Rattle.ciborium_value.specs.declared.key_order.KeyOrder.{KeyOrder};
-ghost use Rattle.ciborium_value.specs.declared.key_order.KeyOrder.TheVariants.{LengthFirst};
+ghost use Rattle.ciborium_value.specs.declared.key_order.KeyOrder.TheVariants.{Bytewise, LengthFirst};
 ghost use Rattle.ciborium.specs.laws.AnswerLaws.{OneAnswer};
-ghost use Rattle.ciborium.specs.laws.CanonicalLaws.{BytewiseTiesEqualOnes, IsBytewise};
-ghost use Rattle.ciborium.specs.laws.CanonicalLaws.{IsBytewiseTotal, RiseBytewise};
-ghost use Rattle.ciborium.specs.laws.CanonicalLaws.{IsCanonical, IsTotal, RiseCanonically};
-ghost use Rattle.ciborium.specs.laws.CanonicalLaws.{TiesEqualOnes};
+ghost use Rattle.ciborium.specs.laws.OrdersOfValues.{IsOrderOfTrees, IsTotal, KeysRise};
+ghost use Rattle.ciborium.specs.laws.OrdersOfValues.{TiesEqualOnes};
 ghost use Rattle.ciborium.specs.laws.DeterministicLaws.{DeterministicOrRefused};
 ghost use Rattle.ciborium.specs.laws.DeterministicLaws.{NeverBothDeterministically};
 ghost use Rattle.ciborium.specs.laws.DeterministicLaws.{OneDeterministicRefusal};
@@ -66,7 +64,7 @@ pub fn encoding_is_shortest()
 /// what `into_writer` says at `Ok`. The call counts the entries, which takes no memory.
 pub fn canonical_keys_rise<V: Serialize>(map: &BTreeMap<CanonicalValue, V>) -> usize
     ensures rise { IsNamedWritten (container_of dictionary
-        (in_turn named_value V.written map.now.entries)) → RiseCanonically map.now.entries }
+        (in_turn named_value V.written map.now.entries)) → KeysRise LengthFirst map.now.entries }
     ensures count { result ≡ length map.now.entries }
 {
     map.len()
@@ -77,7 +75,7 @@ pub fn canonical_keys_rise<V: Serialize>(map: &BTreeMap<CanonicalValue, V>) -> u
 /// canonical one. The call counts the entries, which takes no memory.
 pub fn bytewise_keys_rise<V: Serialize>(map: &BTreeMap<BytewiseValue, V>) -> usize
     ensures rise { IsNamedWritten (container_of dictionary
-        (in_turn named_value V.written map.now.entries)) → RiseBytewise map.now.entries }
+        (in_turn named_value V.written map.now.entries)) → KeysRise Bytewise map.now.entries }
     ensures count { result ≡ length map.now.entries }
 {
     map.len()
@@ -193,17 +191,17 @@ pub fn form_gives_content<T: FormReadsBack>(
 /// the canonical one for any two values that a program holds (RFC 8949, section 4.2.3). It is
 /// total, and only equal ones of such values compare as equal.
 pub fn order_of_canonical_values()
-    ensures canonical { IsCanonical }
-    ensures total { IsTotal }
-    ensures ties { TiesEqualOnes }
+    ensures canonical { IsOrderOfTrees LengthFirst }
+    ensures total { IsTotal LengthFirst }
+    ensures ties { TiesEqualOnes LengthFirst }
 {}
 
 /// The order of `BytewiseValue` is the bytewise one for any two values that a program holds (RFC
 /// 8949, section 4.2.1). It is total, and only equal ones of such values compare as equal.
 pub fn order_of_bytewise_values()
-    ensures bytewise { IsBytewise }
-    ensures total { IsBytewiseTotal }
-    ensures ties { BytewiseTiesEqualOnes }
+    ensures bytewise { IsOrderOfTrees Bytewise }
+    ensures total { IsTotal Bytewise }
+    ensures ties { TiesEqualOnes Bytewise }
 {}
 
 /// Each type is read as one function of the item: `deserialized` from a value, and `from_reader`

@@ -2,75 +2,19 @@
 
 ghost use Rattle.std.specs.Prelude.{◌≡◌, IfErr, OnOk};
 ghost use Rattle.ciborium_value.specs.Sinks.{IsGranted, IsOwed};
-ghost use Rattle.ciborium.specs.Messages.{write_error_message};
 ghost use Rattle.ciborium.specs.Writes.{IsNamedWritten, WritesNamed, cause_of};
-ghost use Rattle.ciborium.specs.declared.ser.Error.TheVariants.{Io, Memory};
 
 use byte_sink::{ByteSink, Refusal};
-use ciborium_value::Kind;
 pub use ciborium_value::{Field, Fields, NoField, Serialize, Sink};
 pub use deterministic::into_writer_deterministic;
+pub use error::Error;
 pub use sequence::write_sequence;
-use std::alloc::{AllocError, AllocFailed};
 use std::io::{self, Write};
-use std::{error, fmt};
 
 mod byte_sink;
 mod deterministic;
+mod error;
 mod sequence;
-
-/// Why writing failed.
-///
-/// Each has a message of one line, as `the value cannot be written: two equal keys in one map`.
-/// That of `Io` is `writing failed: ` and then the message of the writer's error. A clause states
-/// it where that message is known to clauses, which that of an `io::Error` is not.
-#[derive(Debug, Drop)]
-pub enum Error<T> {
-    /// The writer failed, or a write took nothing.
-    Io(T),
-    /// A value to be written has no item, or no deterministic form where that is written.
-    Value(Kind),
-    /// An allocation failed.
-    Memory,
-}
-
-impl<T> From<T> for Error<T> {
-    ghost from_gives = { λ e f. f ≡ Io e };
-
-    fn from(error: T) -> Error<T> {
-        Error::Io(error)
-    }
-}
-
-impl From<AllocError> for Error<io::Error> {
-    ghost from_gives = { λ _ f. f ≡ Memory };
-
-    fn from(_: AllocError) -> Error<io::Error> {
-        Error::Memory
-    }
-}
-
-impl<T: Drop> From<AllocFailed<T>> for Error<io::Error> {
-    ghost from_gives = { λ _ f. f ≡ Memory };
-
-    fn from(_: AllocFailed<T>) -> Error<io::Error> {
-        Error::Memory
-    }
-}
-
-impl<T: fmt::Display> fmt::Display for Error<T> {
-    ghost output = { write_error_message T.output };
-
-    fn fmt<W: fmt::Write>(&self, f: &mut fmt::Formatter<W>) -> fmt::Result {
-        match self {
-            Error::Io(error) => write!(f, "writing failed: {error}"),
-            Error::Value(kind) => write!(f, "the value cannot be written: {kind}"),
-            Error::Memory => f.write_str("an allocation failed"),
-        }
-    }
-}
-
-impl<T: fmt::Debug + fmt::Display + Drop> error::Error for Error<T> {}
 
 /// Writes the item of a value, each head in its shortest form (RFC 8949, section 4.1). A `Value` is
 /// written in its one shortest definite encoding: definite lengths, the pairs of a map in their

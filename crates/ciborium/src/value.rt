@@ -1,7 +1,8 @@
 //! Values, re-exported, and their canonical order.
 
 pub mod canonical;
+mod encoding_order;
 
-pub use canonical::{BytewiseValue, CanonicalValue, KeyOrder, MeasuredValue};
-pub use ciborium_value::serialized::Error;
+pub use canonical::{BytewiseValue, CanonicalValue, KeyOrder, MeasuredValue, OrderedValue};
+pub use ciborium_value::error::Error;
 pub use ciborium_value::{ByteBuf, Integer, Kind, OutOfRange, Value};

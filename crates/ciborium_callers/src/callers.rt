@@ -11,10 +11,11 @@ ghost use Rattle.ciborium.specs.Sinks.{number_item};
 ghost use Rattle.ciborium.specs.Sources.{read_as};
 ghost use Rattle.ciborium.specs.Tree.{integer, text};
 ghost use Rattle.ciborium.specs.View.{tree_of};
+ghost use Rattle.ciborium_value.specs.declared.key_order.KeyOrder.TheVariants.{LengthFirst};
 ghost use Rattle.ciborium_value.specs.declared.tree.Value as value;
 ghost use Rattle.ciborium.specs.ValueAnswers.{AnswersGoodItem, AnswersProper, HoldsNoMore};
 ghost use Rattle.ciborium.specs.ValueAnswers.{RefusesBytes, TakesBytes, TakesJustItem, TakesWithin};
-ghost use Rattle.ciborium.specs.laws.CanonicalLaws.{RiseCanonically};
+ghost use Rattle.ciborium.specs.laws.OrdersOfValues.{KeysRise};
 ghost use Rattle.ciborium.specs.Spelling.{any};
 ghost use Rattle.ciborium.specs.Writes.{IsWriteIo};
 
@@ -96,7 +97,7 @@ pub fn save<W: Write>(
     store: &BTreeMap<CanonicalValue, Value>,
     writer: &mut W,
 ) -> Result<(), Error<io::Error>>
-    ensures { OnOk result (RiseCanonically store.now.entries) }
+    ensures { OnOk result (KeysRise LengthFirst store.now.entries) }
 {
     into_writer(store, writer)?;
     canonical_keys_rise(store);

@@ -3,7 +3,7 @@ ghost use Rattle.std.specs.Prelude.{◌≡◌, ◌⊎◌, IfErr, IfOk, IsErr, co
 ghost use Rattle.ciborium.specs.Tree as tree;
 ghost use Rattle.ciborium.specs.View.{tree_of};
 ghost use Rattle.ciborium_value.specs.declared.kind.Kind.TheVariants.{Other};
-ghost use Rattle.ciborium_value.specs.declared.serialized.Error.TheVariants.{Custom, Memory};
+ghost use Rattle.ciborium_value.specs.declared.error.Error.TheVariants.{Custom, Memory};
 
 use crate::expectations::{expect, expect_written, is_error_of};
 use crate::own_types::Even;

@@ -8,7 +8,7 @@ ghost use Rattle.ciborium.specs.lemmas.ReadsBackValues.{value-back};
 ghost use Rattle.ciborium.specs.Tree as trees;
 ghost use Rattle.ciborium.specs.View.{tree_of, trees_of};
 ghost use Rattle.ciborium_value.specs.declared.kind.Kind.TheVariants.{Other};
-ghost use Rattle.ciborium_value.specs.declared.serialized.Error.TheVariants.{Custom, Memory};
+ghost use Rattle.ciborium_value.specs.declared.error.Error.TheVariants.{Custom, Memory};
 ghost use Rattle.ciborium_callers.specs.NumberTrees.{are_number_trees, folded-number_tree};
 ghost use Rattle.ciborium_callers.specs.NumberTrees.{is_number_tree, shape_of};
 

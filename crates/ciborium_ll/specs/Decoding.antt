@@ -33,6 +33,10 @@ MeasuresHead old new result =
     (MatchResult result (λ _. new.window.count ≡ old.window.count + new.head_len) (λ _. new.head_len ≡ old.head_len))
     (λ _. new.head_len ≡ old.head_len)
 
+-- a head that was pushed back is the one whose bytes are counted
+abbrev pub IsMeasured : {S : Type 0} → Decoder S → Type 0
+IsMeasured d = MatchOption d.pushed (Unit {0}) (λ head. d.window.count ≡ head.1 + d.head_len)
+
 -- what is unread: what the decoder holds, and then what its reader has left
 abbrev pub left_of : {S : Type 0} → (S → Option (List ℕ)) → Decoder S → Option (List ℕ)
 left_of remaining d = unread (remaining d.reader.now) d.window

@@ -14,7 +14,7 @@ pub mod Variants
 pub mod TreeVariants
 pub mod Rows
 pub mod LentParts
-pub mod CanonicalValues
+pub mod OrderedValues
 pub mod WrittenItems
 pub mod Places
 pub mod Sinks

@@ -3,8 +3,8 @@ use Rattle.std.specs.Prelude.{ℕ, List, codes}
 use Rattle.ciborium_ll.specs.HeadMessages.{memory_message, range_message}
 use Rattle.ciborium_value.specs.declared.kind.Kind.{Kind}
 use Rattle.ciborium_value.specs.declared.kind.Kind.TheVariants as kinds
-use Rattle.ciborium_value.specs.declared.serialized.Error.{Error}
-use Rattle.ciborium_value.specs.declared.serialized.Error.TheVariants.{Custom, Memory}
+use Rattle.ciborium_value.specs.declared.error.Error.{Error}
+use Rattle.ciborium_value.specs.declared.error.Error.TheVariants.{Custom, Memory}
 
 -- what was met, or what it is not
 abbrev pub kind_message : Kind → List ℕ

@@ -6,8 +6,8 @@ use Rattle.ciborium_value.specs.Sinks.{Cause, Named, memory, value}
 use Rattle.ciborium_value.specs.Sources.{Fault, of_kind, of_memory}
 use Rattle.ciborium_value.specs.Taken.{Outcome, refuses}
 use Rattle.ciborium_value.specs.View.{tree_of}
-use Rattle.ciborium_value.specs.declared.serialized.Error.{Error}
-use Rattle.ciborium_value.specs.declared.serialized.Error.TheVariants.{Custom, Memory}
+use Rattle.ciborium_value.specs.declared.error.Error.{Error}
+use Rattle.ciborium_value.specs.declared.error.Error.TheVariants.{Custom, Memory}
 use Rattle.ciborium_value.specs.declared.tree.Value.{Value}
 
 abbrev pub tree_cause : Error → Cause

@@ -30,6 +30,7 @@ use std::cmp::Ordering;
 /// two of equal length the bytewise lower one (RFC 8949, section 4.2.3). It takes no memory.
 pub fn cmp_value(left: &Value, right: &Value) -> Ordering
     ensures order { result ≡ canonical_order (tree_of left.now) (tree_of right.now) }
+    ensures equal { result ≡ Equal → tree_of left.now ≡ tree_of right.now }
     ensures left_proper { IsProperTree (tree_of left.now) }
     ensures right_proper { IsProperTree (tree_of right.now) }
 {
@@ -40,6 +41,7 @@ pub fn cmp_value(left: &Value, right: &Value) -> Ordering
 /// counted up to `u64::MAX`. A visit is one entry of the walk at one node of one value.
 pub fn cmp_value_counted(left: &Value, right: &Value) -> (Ordering, u64)
     ensures order { result.0 ≡ canonical_order (tree_of left.now) (tree_of right.now) }
+    ensures equal { result.0 ≡ Equal → tree_of left.now ≡ tree_of right.now }
     ensures at_least_once { saturated (both_node_count (tree_of left.now) (tree_of right.now))
         ≤ result.1 }
     ensures at_most_twice { result.1 ≤
@@ -87,6 +89,7 @@ pub fn cmp_bytewise_counted(left: &Value, right: &Value) -> (Ordering, u64)
 /// no memory.
 pub fn cmp_keys(order: KeyOrder, left: &Value, right: &Value) -> Ordering
     ensures order { result ≡ key_order order (tree_of left.now) (tree_of right.now) }
+    ensures equal { result ≡ Equal → tree_of left.now ≡ tree_of right.now }
 {
     match order {
         KeyOrder::LengthFirst => cmp_value(left, right),

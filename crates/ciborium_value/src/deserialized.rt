@@ -11,8 +11,8 @@ ghost use Rattle.ciborium_value.specs.inner.TreeSources.{source_weight};
 ghost use Rattle.ciborium_value.specs.TreeAnswers.{value_item};
 
 use crate::deserialize::Deserialize;
+use crate::error::Error;
 use crate::kind::Kind;
-use crate::serialized::Error;
 use crate::source::Source;
 use crate::tree::Value;
 use ciborium_ll::Integer;

@@ -1,7 +1,6 @@
 //! Values as sinks to write to.
 
-ghost use Rattle.std.specs.Prelude.{◌≡◌, ◌∷◌, IfErr, IfOk, OnOk, Some};
-ghost use Rattle.ciborium_value.specs.RefusalMessages.{tree_error_message};
+ghost use Rattle.std.specs.Prelude.{◌≡◌, ◌∷◌, IfErr, IfOk, OnOk};
 ghost use Rattle.ciborium_value.specs.inner.Frames.{placed};
 ghost use Rattle.ciborium_value.specs.Sinks.{Cause, IsOwed, memory};
 ghost use Rattle.ciborium_value.specs.inner.Stack.{begun_frame, frames_of};
@@ -10,54 +9,14 @@ ghost use Rattle.ciborium_value.specs.TreeAnswers.{IsTreeOf};
 ghost use Rattle.ciborium_value.specs.TreeAnswers.{tree_cause};
 ghost use Rattle.ciborium_value.specs.inner.TreeSinks.{nothing_shown, state_of};
 ghost use Rattle.ciborium_value.specs.View.{tree_of};
-ghost use Rattle.ciborium_value.specs.declared.serialized.Error.TheVariants.{Memory};
 
+use crate::error::Error;
 use crate::kind::Kind;
 use crate::serialize::Serialize;
 use crate::sink::Sink;
 use crate::stack::{Opening, Stack};
 use crate::tree::Value;
-use std::alloc::{AllocError, AllocFailed, Global};
-use std::{error, fmt};
-
-/// Why a `Value` was not made from a value of another type, or not read as one. The message of
-/// `Custom` is that of its kind.
-#[derive(Clone, Copy, Debug, PartialEq, Eq)]
-pub enum Error {
-    /// A part is refused for this reason.
-    Custom(Kind),
-    /// An allocation failed.
-    Memory,
-}
-
-impl From<AllocError> for Error {
-    ghost from_gives = { λ e f. f ≡ Memory };
-
-    fn from(_: AllocError) -> Error {
-        Error::Memory
-    }
-}
-
-impl<T: Drop> From<AllocFailed<T>> for Error {
-    ghost from_gives = { λ _ f. f ≡ Memory };
-
-    fn from(_: AllocFailed<T>) -> Error {
-        Error::Memory
-    }
-}
-
-impl fmt::Display for Error {
-    ghost output = { λ e. Some (tree_error_message e) };
-
-    fn fmt<W: fmt::Write>(&self, f: &mut fmt::Formatter<W>) -> fmt::Result {
-        match self {
-            Error::Custom(kind) => kind.fmt(f),
-            Error::Memory => f.write_str("an allocation failed"),
-        }
-    }
-}
-
-impl error::Error for Error {}
+use std::alloc::Global;
 
 impl Value {
     /// The tree of the item that the value writes. An array or map of indefinite length becomes a

@@ -1,24 +1,24 @@
--- The keys of a map by canonical values rise in the canonical order, and by bytewise ones in the bytewise order.
-use Rattle.std.proofs.Common.{false, Ordering, Less, ◌≡◌, List, [], ◌∷◌, map, Result, Ok, Err, refl, sym, ◌∙◌, ap, subst}
+-- The keys of a map by ordered values rise in the order of their encodings.
+use Rattle.std.proofs.Common.{false, Less, ◌≡◌, List, [], ◌∷◌, map, Result, Ok, Err, refl, sym, ◌∙◌, ap, subst}
 use Rattle.std.specs.List.Sorted.{IsStrictlySortedBy}
 use Rattle.std.specs.List.{AllByRecursion}
 use Rattle.std.specs.Map.{keys_of}
 use Rattle.ciborium_ll.specs.Item.{Item}
-use Rattle.ciborium_value.specs.Canonical.{bytewise_order, canonical_order}
-use Rattle.ciborium_value.specs.CanonicalValues.{bytewise_value_cmp, canonical_value_cmp}
+use Rattle.ciborium_value.specs.Canonical.{key_order}
+use Rattle.ciborium_value.specs.OrderedValues.{ordered_value_cmp}
 use Rattle.ciborium_value.specs.Encoding.{item_of}
 use Rattle.ciborium_value.specs.Places.{dictionary, pairs_from}
 use Rattle.ciborium_value.specs.ProperTrees.{IsProperTree}
 use Rattle.ciborium_value.specs.Sinks.{Named, and_then, all_named, contained, container_of, in_turn, named_value}
-use Rattle.ciborium_value.specs.Tree.{Tree}
 use Rattle.ciborium_value.specs.View.{tree_of}
 use Rattle.ciborium_value.specs.WrittenItems.{IsWritten, PairsAreWritten}
 use Rattle.ciborium_value.specs.declared.kind.Kind.{Kind}
+use Rattle.ciborium_value.specs.declared.key_order.KeyOrder.{KeyOrder}
 use Rattle.ciborium_value.specs.declared.tree.Value.{Value}
 use Rattle.ciborium_value.proofs.Writing.Progress.{and_then_is}
 use Rattle.ciborium_value.proofs.Writing.ReadBack.{written_tree_is_proper}
-use Rattle.ciborium.proofs.Encodings.CanonicalValues.{is_bytewise, is_canonical}
-use Rattle.ciborium.specs.laws.CanonicalLaws.{RiseBytewise, RiseCanonically}
+use Rattle.ciborium.proofs.Encodings.OrderedValues.{is_order_of_trees}
+use Rattle.ciborium.specs.laws.OrdersOfValues.{KeysRise}
 use Rattle.ciborium.specs.Writes.{IsNamedWritten}
 
 -- the keys of a map that can be written are trees that a program can hold
@@ -35,27 +35,20 @@ proper_keys f (e ∷ es) is h w =
     ok_is : (i j : Item) → ◌≡◌ {A = Named} (Ok i) (Ok j) → i ≡ j
     ok_is i j h = cc
 
--- an order of values that is this one of their trees, where a program can hold them
-module _ (cmp : Value → Value → Ordering) (order : Tree → Tree → Ordering) (agrees : (v w : Value) → IsProperTree (tree_of v) → IsProperTree (tree_of w) → cmp v w ≡ order (tree_of v) (tree_of w)) where
-  below_all : (v : Value) (ws : List Value) → IsProperTree (tree_of v) → AllByRecursion (λ w. IsProperTree (tree_of w)) ws → AllByRecursion (λ w. cmp v w ≡ Less) ws →
-      AllByRecursion (λ t. order (tree_of v) t ≡ Less) (map tree_of ws)
+module _ (o : KeyOrder) where
+  below_all : (v : Value) (ws : List Value) → IsProperTree (tree_of v) → AllByRecursion (λ w. IsProperTree (tree_of w)) ws → AllByRecursion (λ w. ordered_value_cmp o v w ≡ Less) ws →
+      AllByRecursion (λ t. key_order o (tree_of v) t ≡ Less) (map tree_of ws)
   below_all v [] proper each below = tt
-  below_all v (w ∷ ws) proper each below = (sym (agrees v w proper each.0) ∙ below.0, below_all v ws proper each.1 below.1)
+  below_all v (w ∷ ws) proper each below = (sym (is_order_of_trees o v w proper each.0) ∙ below.0, below_all v ws proper each.1 below.1)
 
-  rising : (vs : List Value) → AllByRecursion (λ v. IsProperTree (tree_of v)) vs → IsStrictlySortedBy cmp vs → IsStrictlySortedBy order (map tree_of vs)
+  rising : (vs : List Value) → AllByRecursion (λ v. IsProperTree (tree_of v)) vs → IsStrictlySortedBy (ordered_value_cmp o) vs → IsStrictlySortedBy (key_order o) (map tree_of vs)
   unfolding IsStrictlySortedBy
   rising [] proper h = tt
   rising (v ∷ vs) proper h = (below_all v vs proper.0 proper.1 h.0, rising vs proper.1 h.1)
 
-  keys-rise : {A : Type 0} (f : A → Named) (es : List (Value × A)) → IsStrictlySortedBy cmp (keys_of es) → IsNamedWritten (container_of dictionary (in_turn named_value f es)) → IsStrictlySortedBy order (map tree_of (keys_of es))
+  pub keys-rise : {A : Type 0} (f : A → Named) (es : List (Value × A)) → IsStrictlySortedBy (ordered_value_cmp o) (keys_of es) → IsNamedWritten (container_of dictionary (in_turn named_value f es)) → KeysRise o es
   keys-rise f es h w = by (all_named (in_turn named_value f es)) refl w
     where
-      by : (r : Result (List Item) Kind) → all_named (in_turn named_value f es) ≡ r → IsNamedWritten (contained dictionary false r) → IsStrictlySortedBy order (map tree_of (keys_of es))
+      by : (r : Result (List Item) Kind) → all_named (in_turn named_value f es) ≡ r → IsNamedWritten (contained dictionary false r) → KeysRise o es
       by (Err k) e w = absurd w
       by (Ok is) e w = rising (keys_of es) (proper_keys f es is e w.1) h
-
-pub canonical-keys : {A : Type 0} (f : A → Named) (es : List (Value × A)) → IsStrictlySortedBy canonical_value_cmp (keys_of es) → IsNamedWritten (container_of dictionary (in_turn named_value f es)) → RiseCanonically es
-canonical-keys = keys-rise canonical_value_cmp canonical_order is_canonical
-
-pub bytewise-keys : {A : Type 0} (f : A → Named) (es : List (Value × A)) → IsStrictlySortedBy bytewise_value_cmp (keys_of es) → IsNamedWritten (container_of dictionary (in_turn named_value f es)) → RiseBytewise es
-bytewise-keys = keys-rise bytewise_value_cmp bytewise_order is_bytewise

@@ -11,7 +11,7 @@ use Rattle.ciborium_value.specs.WrittenContents.{IsWrittenByContent}
 use Rattle.ciborium_value.proofs.Writing.ReadBack.{written_item_spells}
 use Rattle.ciborium.specs.laws.RoundTrips.{AreRefusedAlike, BytesWrittenAgain, LeaveSameBytes, TreeWrittenAgain, WriteSameBytes}
 use Rattle.ciborium.specs.Writes.{WritesNamed}
-use Rattle.ciborium.specs.declared.ser.Error.{Error as WriteError}
+use Rattle.ciborium.specs.declared.ser.error.Error.{Error as WriteError}
 use Rattle.ciborium.proofs.ReadBack.RoundTrips.{one-content, tree_gives_content}
 
 -- written into nothing, what names the same leaves the same

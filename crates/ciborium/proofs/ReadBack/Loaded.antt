@@ -10,7 +10,7 @@ use Rattle.ciborium_ll.specs.Item as items
 use Rattle.ciborium_ll.specs.Item.{Item}
 use Rattle.ciborium_ll.proofs.UniqueSpelling.{one_at_front}
 use Rattle.ciborium_value.specs.Canonical.{canonical_order}
-use Rattle.ciborium_value.specs.CanonicalValues.{canonical_value_cmp}
+use Rattle.ciborium_value.specs.OrderedValues.{ordered_value_cmp}
 use Rattle.ciborium_value.specs.Encoding.{encoding, item_of, pairs_of, written_bytes}
 use Rattle.ciborium_value.specs.Folded.{folded, tree_pairs_folded}
 use Rattle.ciborium_value.specs.Meaning.{tree_pairs_more}
@@ -33,9 +33,9 @@ use Rattle.ciborium_value.specs.Deterministic as rising
 use Rattle.ciborium_value.specs.Deterministic.{AreRising, HasRisingKeys, IsAccepted, IsCanonicalTree, PairsHaveRisingKeys}
 use Rattle.ciborium.specs.laws.Loaded.{AreCanonicalParts, IsContentLoaded, IsDeterministicStore, IsLoaded, IsStoreHeld, LoadedAsSaved, LoadingGivesContent, store_tree}
 use Rattle.ciborium.specs.Spelling.{deterministic}
-use Rattle.ciborium.specs.declared.ser.Error.{Error as WriteError}
+use Rattle.ciborium.specs.declared.ser.error.Error.{Error as WriteError}
 use Rattle.ciborium.specs.Writes.{IsNamedWritten, WritesNamed}
-use Rattle.ciborium.proofs.Encodings.RisingKeys.{canonical-keys}
+use Rattle.ciborium.proofs.Encodings.RisingKeys.{keys-rise}
 use Rattle.ciborium.proofs.ReadBack.RoundTrips.{one-content}
 use Rattle.ciborium.proofs.Strict.StrictOutcome.{spells}
 
@@ -115,17 +115,17 @@ neighbours-rise [] h = tt
 neighbours-rise (k ∷ []) h = tt
 neighbours-rise (k ∷ j ∷ ts) h = (h.0.0, neighbours-rise (j ∷ ts) h.1)
 
-pub deterministic_store : (es : List (Value × Value)) → IsStrictlySortedBy canonical_value_cmp (keys_of es) → IsNamedWritten (container_of dictionary (in_turn named_value named_value es)) → AreCanonicalParts es → IsDeterministicStore es
+pub deterministic_store : (es : List (Value × Value)) → IsStrictlySortedBy (ordered_value_cmp LengthFirst) (keys_of es) → IsNamedWritten (container_of dictionary (in_turn named_value named_value es)) → AreCanonicalParts es → IsDeterministicStore es
 deterministic_store es sorted written parts = (
   store-named es,
   record {
     proper = written_tree_is_proper (store_tree es) (subst IsNamedWritten (store-named es) written);
     folds = ap (option_map trees.map) (store-folds es parts);
-    rises = (neighbours-rise (rising.keys_of (tree_pairs_of es)) (subst (IsStrictlySortedBy canonical_order) (tree_keys es) (canonical-keys named_value es sorted written)), parts-rise es parts);
+    rises = (neighbours-rise (rising.keys_of (tree_pairs_of es)) (subst (IsStrictlySortedBy canonical_order) (tree_keys es) (keys-rise LengthFirst named_value es sorted written)), parts-rise es parts);
   },
 )
 
-pub store_held : (m : BTreeMap Value Value) → IsOrdered canonical_value_cmp m → AreCanonicalParts m.entries → IsStoreHeld m
+pub store_held : (m : BTreeMap Value Value) → IsOrdered (ordered_value_cmp LengthFirst) m → AreCanonicalParts m.entries → IsStoreHeld m
 store_held m ordered parts = (
   ordered,
   All-weaker (λ e. IsCanonicalTree LengthFirst (tree_of e.0) × IsCanonicalTree LengthFirst (tree_of e.1)) (λ e. (folded (tree_of e.0) ≡ Some (tree_of e.0)) × (folded (tree_of e.1) ≡ Some (tree_of e.1))) (λ e h. (h.0.folds, h.1.folds)) m.entries parts,

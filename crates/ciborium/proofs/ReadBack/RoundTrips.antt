@@ -14,11 +14,11 @@ use Rattle.ciborium_value.specs.WrittenItems.{IsWritten}
 use Rattle.ciborium_value.proofs.Writing.ReadBack.{written_item_spells}
 use Rattle.ciborium.specs.declared.de.error.Error.{Error}
 use Rattle.ciborium.specs.Errors.{fault_of}
-use Rattle.ciborium_value.specs.declared.serialized.Error.TheVariants as of_tree
+use Rattle.ciborium_value.specs.declared.error.Error.TheVariants as of_tree
 use Rattle.ciborium_value.specs.TreeAnswers.{IsTreeOf}
 use Rattle.ciborium_value.specs.TreeAnswers.{value_item}
 use Rattle.ciborium_value.specs.declared.tree.Value.{Value}
-use Rattle.ciborium.specs.declared.ser.Error.{Error as WriteError}
+use Rattle.ciborium.specs.declared.ser.error.Error.{Error as WriteError}
 use Rattle.ciborium.specs.laws.RoundTrips.{BytesReadBack, IsContentReadBack, IsGivenBack, TreeGivesContent, TreeReadBack}
 use Rattle.ciborium.specs.TypedAnswers.{AnswersBytes, TakesGiving}
 use Rattle.ciborium.specs.Writes.{IsNamedWritten, WritesNamed}

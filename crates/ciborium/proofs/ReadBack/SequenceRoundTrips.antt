@@ -21,7 +21,7 @@ use Rattle.ciborium.specs.laws.RoundTrips.{IsGivenBack}
 use Rattle.ciborium.specs.SequenceReads.{GivesInTurn, GivesThen, TakesSequence}
 use Rattle.ciborium.specs.laws.SequenceRoundTrips.{AnswersSequence, AreContentsReadBack, SequenceReadsBack}
 use Rattle.ciborium.specs.SequenceWrites.{AllNamed, AreNamedWritten, WritesInTurn}
-use Rattle.ciborium.specs.declared.ser.Error.{Error as WriteError}
+use Rattle.ciborium.specs.declared.ser.error.Error.{Error as WriteError}
 use Rattle.ciborium.specs.TypedAnswers.{IsFaultAhead}
 use Rattle.ciborium.proofs.ReadBack.RoundTrips.{not-blamed, one-content}
 use Rattle.ciborium.proofs.Encodings.Sequences.{never-empty}

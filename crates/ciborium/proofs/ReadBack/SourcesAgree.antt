@@ -7,8 +7,8 @@ use Rattle.ciborium_value.specs.Sources.{Fault, of_kind, of_nesting, of_syntax, 
 use Rattle.ciborium_value.specs.lemmas.Steady.{IsSteady, IsSameUnlessNested}
 use Rattle.ciborium_value.specs.Taken.{Outcome, gives, refuses, Taken}
 use Rattle.ciborium_value.specs.declared.kind.Kind.{Kind}
-use Rattle.ciborium_value.specs.declared.serialized.Error.{Error as TreeError}
-use Rattle.ciborium_value.specs.declared.serialized.Error.TheVariants as of_tree
+use Rattle.ciborium_value.specs.declared.error.Error.{Error as TreeError}
+use Rattle.ciborium_value.specs.declared.error.Error.TheVariants as of_tree
 use Rattle.ciborium.specs.Errors.{fault_of}
 use Rattle.ciborium.specs.TypedAnswers.{AnswersTree, AnswersBytes, AreOneAnswer, IsExcused, IsSameKind, SourcesAgree}
 use Rattle.ciborium.specs.declared.de.error.Error.{Error}

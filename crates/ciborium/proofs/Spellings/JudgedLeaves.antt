@@ -18,7 +18,8 @@ use Rattle.ciborium_value.specs.Tree as trees
 use Rattle.ciborium_value.specs.Tree.{Tree}
 use Rattle.ciborium_value.specs.Deterministic.{HasRisingKeys, IsCanonicalTree}
 use Rattle.ciborium.specs.DeterministicRefusals.{HasShortHead}
-use Rattle.ciborium.specs.inner.ValuesInBytes.{ReadsItem, IsAt, IsMeasured, IsPulled, StandsAt}
+use Rattle.ciborium.specs.inner.ValuesInBytes.{ReadsItem, IsAt, IsPulled, StandsAt}
+use Rattle.ciborium_ll.specs.Decoding.{IsMeasured}
 use Rattle.ciborium.specs.Spelling.{deterministic, deterministic_fault, long_fault}
 use Rattle.ciborium.proofs.Turns.Fronts.{Front, front-of, front-fits, ahead-at}
 use Rattle.ciborium.proofs.Spellings.JudgedHeads.{short-front}

@@ -28,7 +28,8 @@ use Rattle.ciborium.specs.declared.de.error.Error.TheVariants.{Semantic}
 use Rattle.ciborium.specs.DeterministicRefusals.{DeterministicallyRefuses, HasShortHead, IsFoldable}
 use Rattle.ciborium.specs.Errors.{IsRefusedBy}
 use Rattle.ciborium.specs.inner.Parts.{BignumRefuses, IsFrameBegun, IsBignumRead, IsFolded, IsFolding}
-use Rattle.ciborium.specs.inner.ValuesInBytes.{ReadsItem, IsAt, IsMeasured, StandsAt}
+use Rattle.ciborium.specs.inner.ValuesInBytes.{ReadsItem, IsAt, StandsAt}
+use Rattle.ciborium_ll.specs.Decoding.{IsMeasured}
 use Rattle.ciborium.specs.Spelling.{Spelling, deterministic, deterministic_fault, IsUnwanted}
 use Rattle.ciborium_value.specs.Deterministic.{IsCanonicalTree}
 use Rattle.ciborium.proofs.Turns.AfterTag.{PullsSo, folds-is, folds-not, too-large}

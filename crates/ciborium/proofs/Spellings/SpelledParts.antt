@@ -20,7 +20,8 @@ use Rattle.ciborium.specs.declared.de.error.Error.TheVariants.{Semantic}
 use Rattle.ciborium.specs.declared.de.front.Part.{Part}
 use Rattle.ciborium.specs.Errors.{IsRefusedBy}
 use Rattle.ciborium.specs.inner.Parts.{IsArrayBegun, IsHeadAccepted, IsMapBegun, IsPartRead, IsHeadMeasured, RefusesPart}
-use Rattle.ciborium.specs.inner.ValuesInBytes.{ReadsItem, IsAt, IsMeasured, IsPulled, StandsAt}
+use Rattle.ciborium.specs.inner.ValuesInBytes.{ReadsItem, IsAt, IsPulled, StandsAt}
+use Rattle.ciborium_ll.specs.Decoding.{IsMeasured}
 use Rattle.ciborium.specs.Spelling.{Spelling, any, deterministic, head_fault}
 use Rattle.ciborium.specs.inner.StringAnswers.{IsStringRead}
 use Rattle.ciborium.proofs.Turns.Contents as contents

@@ -15,7 +15,8 @@ use Rattle.ciborium.specs.declared.de.error.Error.TheVariants.{Semantic}
 use Rattle.ciborium.specs.DeterministicRefusals.{HasShortHead}
 use Rattle.ciborium.specs.Errors.{IsRefusedBy}
 use Rattle.ciborium.specs.inner.Parts.{IsFrameBegun, IsBignumRead, IsFolding, IsHeadAccepted, RefusesPart}
-use Rattle.ciborium.specs.inner.ValuesInBytes.{IsAt, IsMeasured, StandsAt}
+use Rattle.ciborium.specs.inner.ValuesInBytes.{IsAt, StandsAt}
+use Rattle.ciborium_ll.specs.Decoding.{IsMeasured}
 use Rattle.ciborium.specs.Spelling.{Spelling, any, deterministic, head_fault}
 use Rattle.ciborium.proofs.Turns.AfterTag as after
 use Rattle.ciborium.proofs.Turns.AfterTag.{PullsSo}

@@ -1,12 +1,12 @@
 -- What reading a value takes from known bytes.
-use Rattle.std.specs.Prelude.{◌≡◌, ℕ, ◌+◌, ◌*◌, ◌-◌, ◌<◌, List, ◌++◌, length, Option, Some, None, MatchOption}
+use Rattle.std.specs.Prelude.{◌≡◌, ℕ, ◌+◌, ◌*◌, ◌-◌, ◌<◌, List, ◌++◌, length, Option, Some, None}
 use Rattle.ciborium_ll.specs.declared.header.Header.{Header}
 use Rattle.ciborium_ll.specs.declared.decoder.Decoder.{Decoder}
 use Rattle.ciborium_ll.specs.Bytes.{greatest_offset}
 use Rattle.ciborium_ll.specs.Head.{break_byte}
 use Rattle.ciborium_ll.specs.Header.{SpellsHeader}
 use Rattle.ciborium_ll.specs.Refusal.{IsUsable, IsAtFront}
-use Rattle.ciborium_ll.specs.Decoding.{IsAhead, left_of}
+use Rattle.ciborium_ll.specs.Decoding.{IsAhead, IsMeasured, left_of}
 use Rattle.ciborium_value.specs.Tree.{Tree}
 use Rattle.ciborium.specs.Spelling.{Spelling, any, deterministic, IsReadBy}
 
@@ -16,10 +16,6 @@ pub record ReadsItem (spelling : Spelling) (l : ℕ) (ys : List ℕ) (q : ℕ) (
   pub read : IsReadBy spelling taken q l v
   pub split : ys ≡ taken ++ zs
   pub at : r ≡ q + length taken
-
--- a head that was pushed back is the one whose bytes are counted
-abbrev pub IsMeasured : {S : Type 0} → Decoder S → Type 0
-IsMeasured d = MatchOption d.pushed (Unit {0}) (λ head. d.window.count ≡ head.1 + d.head_len)
 
 -- b is ahead, its first byte at offset p; for the deterministic spelling the decoder knows how many bytes its last head has
 abbrev pub StandsAt : {S : Type 0} → Spelling → (S → Option (List ℕ)) → Decoder S → List ℕ → ℕ → Type 0

@@ -4,7 +4,7 @@ use Rattle.std.specs.List.{All}
 use Rattle.std.specs.BTreeMap.{BTreeMap}
 use Rattle.std.specs.declared.io.Error.{Error as IoError}
 use Rattle.ciborium_ll.specs.Bytes.{greatest_offset}
-use Rattle.ciborium_value.specs.CanonicalValues.{canonical_value_cmp}
+use Rattle.ciborium_value.specs.OrderedValues.{ordered_value_cmp}
 use Rattle.ciborium_value.specs.Encoding.{encoding, item_of}
 use Rattle.ciborium_value.specs.Folded.{folded}
 use Rattle.ciborium_value.specs.Places.{dictionary}
@@ -23,7 +23,7 @@ use Rattle.ciborium.specs.declared.de.error.Error.{Error}
 use Rattle.ciborium.specs.ValueAnswers.{AnswersGoodItem, IsFailed, ReadsWhole}
 use Rattle.ciborium_value.specs.Deterministic.{IsAccepted, IsCanonicalTree}
 use Rattle.ciborium.specs.Spelling.{deterministic}
-use Rattle.ciborium.specs.declared.ser.Error.{Error as WriteError}
+use Rattle.ciborium.specs.declared.ser.error.Error.{Error as WriteError}
 use Rattle.ciborium.specs.Writes.{IsNamedWritten, WritesNamed}
 
 -- just these bytes were taken, and `deserialized` makes the content of what is answered; or the reader failed, or memory was refused
@@ -71,4 +71,4 @@ IsDeterministicStore es = (container_of dictionary (in_turn named_value named_va
 
 -- a store is one of which what is written is read back
 abbrev pub IsStoreHeld : BTreeMap Value Value → Type 0
-IsStoreHeld m = IsMapHeld canonical_value_cmp (λ v. folded (tree_of v) ≡ Some (tree_of v)) (λ v. folded (tree_of v) ≡ Some (tree_of v)) m
+IsStoreHeld m = IsMapHeld (ordered_value_cmp LengthFirst) (λ v. folded (tree_of v) ≡ Some (tree_of v)) (λ v. folded (tree_of v) ≡ Some (tree_of v)) m

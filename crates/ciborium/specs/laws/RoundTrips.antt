@@ -12,12 +12,12 @@ use Rattle.ciborium_value.specs.TreeAnswers.{IsTreeOf}
 use Rattle.ciborium_value.specs.TreeAnswers.{value_item}
 use Rattle.ciborium_value.specs.WrittenItems.{IsWritten}
 use Rattle.ciborium_value.specs.declared.kind.Kind.{Kind}
-use Rattle.ciborium_value.specs.declared.serialized.Error.{Error as TreeError}
-use Rattle.ciborium_value.specs.declared.serialized.Error.TheVariants as of_tree
+use Rattle.ciborium_value.specs.declared.error.Error.{Error as TreeError}
+use Rattle.ciborium_value.specs.declared.error.Error.TheVariants as of_tree
 use Rattle.ciborium.specs.declared.de.error.Error.{Error}
 use Rattle.ciborium.specs.Errors.{fault_of}
 use Rattle.ciborium_value.specs.declared.tree.Value.{Value}
-use Rattle.ciborium.specs.declared.ser.Error.{Error as WriteError}
+use Rattle.ciborium.specs.declared.ser.error.Error.{Error as WriteError}
 use Rattle.ciborium.specs.TypedAnswers.{AnswersBytes, AnswersTree, TakesGiven, TakesGiving}
 use Rattle.ciborium.specs.Writes.{IsNamedWritten, WritesNamed}
 

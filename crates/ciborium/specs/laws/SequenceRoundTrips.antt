@@ -13,7 +13,7 @@ use Rattle.ciborium.specs.declared.de.error.Error.{Error}
 use Rattle.ciborium.specs.laws.RoundTrips.{IsGivenBack}
 use Rattle.ciborium.specs.SequenceReads.{RefusesSequence, TakesSequence}
 use Rattle.ciborium.specs.SequenceWrites.{AreNamedWritten, WritesInTurn}
-use Rattle.ciborium.specs.declared.ser.Error.{Error as WriteError}
+use Rattle.ciborium.specs.declared.ser.error.Error.{Error as WriteError}
 
 -- the answer of a reader over these bytes within a limit, as a sequence
 abbrev pub AnswersSequence : {A E : Type 0} → Taken A → ℕ → List ℕ → Option (List ℕ) → Result (List A) (Error E) → Type 0

@@ -17,18 +17,17 @@ use crate::de::SCRATCH_SIZE;
 use crate::de::building::read_value;
 use crate::de::error::{Error, put_back};
 use crate::de::spelling::Rules;
-use crate::value::canonical::{cmp_keys, encoded_size};
+use crate::value::canonical::{Bytewise, EncodingOrder, LengthFirst, cmp_keys, encoded_size};
 use ciborium_ll::{Decoder, Header, head_size, simple};
 use ciborium_value::stack::Stack;
 use ciborium_value::{KeyOrder, Kind, Value};
 use std::alloc::Global;
 use std::cmp::Ordering;
 use std::io::{self, Read};
+use std::marker::PhantomData;
 
 // The number of bytes up to which a bignum is a number of 64 bits.
 const GREATEST_INTEGER_SIZE: usize = 8;
-
-// ---- what both orders share
 
 // Why a head of `size` bytes with this argument is not accepted.
 #[inline(always)]
@@ -99,36 +98,15 @@ fn find_key_out_of_order(order: KeyOrder, stack: &Stack, end: usize) -> Option<u
     Some(end.saturating_sub(encoded_size(key) as usize))
 }
 
-// ---- the rules of each order
+// ---- the rules
 
-// The shortest heads, definite lengths, and keys that rise in the canonical order, the shorter
-// first (RFC 8949, section 4.2.3).
-struct LengthFirst;
-
-impl Rules for LengthFirst {
-    ghost spelling = { deterministic orders.LengthFirst };
-
-    #[inline(always)]
-    fn find_head_fault(header: Header, size: usize) -> Option<Kind> {
-        find_deterministic_fault(header, size)
-    }
-
-    #[inline(always)]
-    fn refuses_bignum(payload: &[u8]) -> bool {
-        is_foldable(payload)
-    }
-
-    #[inline(always)]
-    fn find_disorder(stack: &Stack, end: usize) -> Option<usize> {
-        find_key_out_of_order(KeyOrder::LengthFirst, stack, end)
-    }
+// The shortest heads, definite lengths, and keys that rise in the order that `O` names.
+struct Deterministic<O> {
+    order: PhantomData<O>,
 }
 
-// The same with keys that rise bytewise (RFC 8949, section 4.2.1).
-struct Bytewise;
-
-impl Rules for Bytewise {
-    ghost spelling = { deterministic orders.Bytewise };
+impl<O: EncodingOrder> Rules for Deterministic<O> {
+    ghost spelling = { deterministic O.order };
 
     #[inline(always)]
     fn find_head_fault(header: Header, size: usize) -> Option<Kind> {
@@ -142,7 +120,7 @@ impl Rules for Bytewise {
 
     #[inline(always)]
     fn find_disorder(stack: &Stack, end: usize) -> Option<usize> {
-        find_key_out_of_order(KeyOrder::Bytewise, stack, end)
+        find_key_out_of_order(O::order(), stack, end)
     }
 }
 
@@ -190,7 +168,7 @@ pub fn from_reader_deterministic<R: Read>(
     ensures { ReadsWhole (deterministic orders.LengthFirst) (R.remaining reader.old) limit
         (R.remaining reader.new) (read_as tree_of result) }
 {
-    read_by::<LengthFirst, R>(alloc, reader, limit)
+    read_by::<Deterministic<LengthFirst>, R>(alloc, reader, limit)
 }
 
 /// Reads one value as `from_reader_deterministic` does, with the keys of each map in the given
@@ -217,7 +195,7 @@ pub fn from_reader_deterministic_with_order<R: Read>(
         (R.remaining reader.new) (read_as tree_of result) }
 {
     match order {
-        KeyOrder::LengthFirst => read_by::<LengthFirst, R>(alloc, reader, limit),
-        KeyOrder::Bytewise => read_by::<Bytewise, R>(alloc, reader, limit),
+        KeyOrder::LengthFirst => read_by::<Deterministic<LengthFirst>, R>(alloc, reader, limit),
+        KeyOrder::Bytewise => read_by::<Deterministic<Bytewise>, R>(alloc, reader, limit),
     }
 }

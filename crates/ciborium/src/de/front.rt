@@ -5,7 +5,8 @@ ghost use Rattle.ciborium_ll.specs.Decoding.{HasSameReader, IsAhead, TakesBefore
 ghost use Rattle.ciborium_ll.specs.Decoding.{count_of, head_len_of, offset_of, pushed_of};
 ghost use Rattle.ciborium.specs.inner.Due.{HoldsNothingAfter};
 ghost use Rattle.ciborium.specs.inner.Parts.{IsHeadRead};
-ghost use Rattle.ciborium.specs.inner.ValuesInBytes.{IsMeasured, heads_left};
+ghost use Rattle.ciborium.specs.inner.ValuesInBytes.{heads_left};
+ghost use Rattle.ciborium_ll.specs.Decoding.{IsMeasured};
 
 use crate::de::error::Error;
 use ciborium_ll::{Decoder, Header, Keep};

@@ -6,7 +6,7 @@ ghost use Rattle.ciborium.specs.DeterministicWrites.{named_form};
 ghost use Rattle.ciborium.specs.Writes.{IsWriteIo, cause_of};
 
 use super::{Error, Serialize, into_writer};
-use ciborium_value::{KeyOrder, Value, serialized};
+use ciborium_value::{KeyOrder, Value, error};
 use std::alloc::Global;
 use std::io::{self, Write};
 
@@ -46,8 +46,8 @@ pub fn into_writer_deterministic<T: Serialize, W: Write>(
 {
     let mut tree = match Value::serialized(alloc, value) {
         Ok(tree) => tree,
-        Err(serialized::Error::Custom(kind)) => return Err(Error::Value(kind)),
-        Err(serialized::Error::Memory) => return Err(Error::Memory),
+        Err(error::Error::Custom(kind)) => return Err(Error::Value(kind)),
+        Err(error::Error::Memory) => return Err(Error::Memory),
     };
     match tree.make_deterministic(order) {
         Ok(()) => into_writer(&tree, writer),

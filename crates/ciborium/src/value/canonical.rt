@@ -6,7 +6,7 @@ ghost use Rattle.std.specs.Prelude.{Ok, Some};
 ghost use Rattle.std.specs.Cmp.{partial_equiv_from_equiv, partial_order_from_agreeing_total};
 ghost use Rattle.std.specs.Coded.{codes};
 ghost use Rattle.std.specs.Ordering.{as_partial_cmp};
-ghost use Rattle.ciborium_value.specs.Canonical.{canonical_order};
+ghost use Rattle.ciborium_value.specs.Canonical.{canonical_order, key_order};
 ghost use Rattle.ciborium_value.specs.Derived.{value_eq};
 ghost use Rattle.ciborium_value.specs.Encoding.{encoded_size, item_of};
 ghost use Rattle.ciborium_value.specs.Folded.{folded};
@@ -21,14 +21,12 @@ ghost use Rattle.ciborium_value.specs.WrittenContents.{from_content};
 ghost use Rattle.ciborium_value.specs.contracts.tree.Value as value_row;
 ghost use Rattle.ciborium_value.specs.declared.tree.Value as values;
 ghost use Rattle.ciborium_value.proofs.Orders.Derived.{value_eq_equivalence};
-ghost use Rattle.ciborium_value.specs.CanonicalValues.{canonical_tree_cmp, canonical_value_cmp};
-ghost use Rattle.ciborium_value.specs.CanonicalValues.{canonical_value_cmp-trees};
-ghost use Rattle.ciborium_value.proofs.Orders.TotalOrders.{canonical_value_cmp_total};
-ghost use Rattle.ciborium_value.proofs.Orders.TotalOrders.{canonical_value_matches_eq};
+ghost use Rattle.ciborium_value.specs.OrderedValues.{ordered_tree_cmp, ordered_value_cmp};
+ghost use Rattle.ciborium_value.specs.OrderedValues.{ordered_value_cmp-trees};
+ghost use Rattle.ciborium_value.proofs.Orders.TotalOrders.{ordered_value_cmp_total};
+ghost use Rattle.ciborium_value.proofs.Orders.TotalOrders.{ordered_value_matches_eq};
 
-mod bytewise;
-
-pub use bytewise::BytewiseValue;
+pub use crate::value::encoding_order::{Bytewise, EncodingOrder, LengthFirst};
 pub use ciborium_value::KeyOrder;
 pub use ciborium_value::canonical::{
     cmp_bytewise, cmp_bytewise_counted, cmp_keys, cmp_value, cmp_value_counted, encoded_size,
@@ -36,7 +34,7 @@ pub use ciborium_value::canonical::{
 use ciborium_value::{Deserialize, Key, ReadsBack, Serialize, Sink, Source, Value, WritesContent};
 use std::alloc::{AllocError, Global};
 use std::cmp::Ordering;
-use std::marker::Model;
+use std::marker::{Model, PhantomData};
 
 /// A value with the size of its encoding, measured once: for values that are compared often, as in
 /// sorting.
@@ -87,54 +85,62 @@ pub fn cmp_measured(left: &MeasuredValue, right: &MeasuredValue) -> Ordering
     }
 }
 
-/// A value whose order is the canonical one, as for a map key. Two are equal where their contents
-/// are.
+/// A value whose order is that of its encoding, as for a map key: the order that `O` names. Two are
+/// equal where their contents are.
 #[derive(Debug, Drop)]
-pub struct CanonicalValue {
+pub struct OrderedValue<O> {
     value: Value,
+    order: PhantomData<O>,
 }
 
-impl Model for CanonicalValue {
+/// A value in the canonical order, that of `cmp_value`.
+pub type CanonicalValue = OrderedValue<LengthFirst>;
+
+/// A value in the bytewise order, that of `cmp_bytewise`.
+pub type BytewiseValue = OrderedValue<Bytewise>;
+
+impl<O> Model for OrderedValue<O> {
     ghost Value = { values.Value };
 
     ghost view = { λ c. c.value };
 
-    ghost inverse = { λ v. record { value = v } };
+    ghost inverse = { λ v. record { value = v; order = record {} } };
 
     ghost coded = { Prim.hlevel (codes, value_row.the_row.coded) };
 }
 
 /// The same value.
-impl From<Value> for CanonicalValue {
-    ghost from_gives = { λ v c. c ≡ v };
+impl<O> From<Value> for OrderedValue<O> {
+    ghost from_gives = { λ v o. o ≡ v };
 
-    fn from(value: Value) -> CanonicalValue {
-        CanonicalValue { value }
+    fn from(value: Value) -> OrderedValue<O> {
+        OrderedValue {
+            value,
+            order: PhantomData,
+        }
     }
 }
 
 /// The same value.
-impl From<CanonicalValue> for Value {
-    ghost from_gives = { λ c v. v ≡ c };
+impl<O> From<OrderedValue<O>> for Value {
+    ghost from_gives = { λ o v. v ≡ o };
 
-    fn from(canonical: CanonicalValue) -> Value {
-        canonical.value
+    fn from(ordered: OrderedValue<O>) -> Value {
+        ordered.value
     }
 }
 
 /// A copy of equal content, or the error where an allocation failed.
-impl Clone for CanonicalValue {
+impl<O> Clone for OrderedValue<O> {
     ghost is_clone = { λ v w. tree_of w ≡ tree_of v };
 
-    fn clone(&self) -> Result<CanonicalValue, AllocError> {
-        Ok(CanonicalValue {
-            value: self.value.clone()?,
-        })
+    fn clone(&self) -> Result<OrderedValue<O>, AllocError> {
+        Ok(OrderedValue::from(self.value.clone()?))
     }
 }
 
 /// The definite item of the value, with no bignum folded. No memory is taken.
-impl Serialize for CanonicalValue {
+impl<O> Serialize for OrderedValue<O> {
     ghost written = { named_value };
 
     ghost takes_memory = { ⊥ };
@@ -145,19 +151,19 @@ impl Serialize for CanonicalValue {
 }
 
 /// The item ahead, of any type, as `Value` reads it.
-impl Deserialize for CanonicalValue {
+impl<O: EncodingOrder> Deserialize for OrderedValue<O> {
     ghost Content = { Tree };
 
-    ghost reading = { whole_by canonical_tree_cmp tree_of };
+    ghost reading = { whole_by (ordered_tree_cmp O.order) tree_of };
 
-    fn deserialize<S: Source>(alloc: Global, source: &mut S) -> Result<CanonicalValue, S::Error> {
+    fn deserialize<S: Source>(alloc: Global, source: &mut S) -> Result<OrderedValue<O>, S::Error> {
         let value = source.value(alloc)?;
-        Ok(CanonicalValue { value })
+        Ok(OrderedValue::from(value))
     }
 }
 
 /// For a value in which folding changes nothing, as for `Value`.
-impl ReadsBack for CanonicalValue {
+impl<O: EncodingOrder> ReadsBack for OrderedValue<O> {
     ghost is_held = { λ c. folded (tree_of c) ≡ Some (tree_of c) };
 
     ghost levels = { λ c. nesting (item_of (tree_of c)) };
@@ -165,21 +171,21 @@ impl ReadsBack for CanonicalValue {
     ghost reads_back = { λ c held. value-back (tree_of c) held };
 }
 
-impl WritesContent for CanonicalValue {
+impl<O: EncodingOrder> WritesContent for OrderedValue<O> {
     ghost writes_content = { from_content (λ t. Ok (item_of t)) _ };
 }
 
-impl Key for CanonicalValue {
-    ghost orders = { canonical_value_cmp-trees };
+impl<O: EncodingOrder> Key for OrderedValue<O> {
+    ghost orders = { ordered_value_cmp-trees O.order };
 }
 
 /// Equality of content.
-impl PartialEq for CanonicalValue {
+impl<O> PartialEq for OrderedValue<O> {
     ghost eq = { value_eq };
 
     ghost laws = { partial_equiv_from_equiv value_eq_equivalence };
 
-    fn eq(&self, other: &CanonicalValue) -> bool
+    fn eq(&self, other: &OrderedValue<O>) -> bool
         ensures gives { result ≡ value_eq self.now other.now }
         ensures same { IsTrue result ↔ (tree_of self.now ≡ tree_of other.now) }
     {
@@ -187,39 +193,39 @@ impl PartialEq for CanonicalValue {
     }
 }
 
-impl Eq for CanonicalValue {
+impl<O> Eq for OrderedValue<O> {
     ghost laws = { value_eq_equivalence };
 }
 
-/// The canonical order, that of `cmp_value`.
-impl PartialOrd for CanonicalValue {
-    ghost partial_cmp = { as_partial_cmp canonical_value_cmp };
+/// The order that `O` names.
+impl<O: EncodingOrder> PartialOrd for OrderedValue<O> {
+    ghost partial_cmp = { as_partial_cmp (ordered_value_cmp O.order) };
 
-    ghost laws = { partial_order_from_agreeing_total canonical_value_cmp canonical_value_cmp_total
-        (λ v w. refl) canonical_value_matches_eq };
+    ghost laws = { partial_order_from_agreeing_total (ordered_value_cmp O.order)
+        (ordered_value_cmp_total O.order) (λ v w. refl) (ordered_value_matches_eq O.order) };
 
-    fn partial_cmp(&self, other: &CanonicalValue) -> Option<Ordering>
-        ensures gives { result ≡ Some (canonical_value_cmp self.now other.now) }
-        ensures order { result ≡ Some (canonical_order (tree_of self.now) (tree_of other.now)) }
+    fn partial_cmp(&self, other: &OrderedValue<O>) -> Option<Ordering>
+        ensures gives { result ≡ Some (ordered_value_cmp O.order self.now other.now) }
+        ensures order { result ≡ Some (key_order O.order (tree_of self.now) (tree_of other.now)) }
     {
         Some(self.cmp(other))
     }
 }
 
-/// The canonical order, that of `cmp_value`.
-impl Ord for CanonicalValue {
-    ghost cmp = { canonical_value_cmp };
+/// The order that `O` names.
+impl<O: EncodingOrder> Ord for OrderedValue<O> {
+    ghost cmp = { ordered_value_cmp O.order };
 
-    ghost total = { canonical_value_cmp_total };
+    ghost total = { ordered_value_cmp_total O.order };
 
     ghost matches_partial_cmp = { λ v w. refl };
 
-    ghost matches_eq = { canonical_value_matches_eq };
+    ghost matches_eq = { ordered_value_matches_eq O.order };
 
-    fn cmp(&self, other: &CanonicalValue) -> Ordering
-        ensures gives { result ≡ canonical_value_cmp self.now other.now }
-        ensures order { result ≡ canonical_order (tree_of self.now) (tree_of other.now) }
+    fn cmp(&self, other: &OrderedValue<O>) -> Ordering
+        ensures gives { result ≡ ordered_value_cmp O.order self.now other.now }
+        ensures order { result ≡ key_order O.order (tree_of self.now) (tree_of other.now) }
     {
-        cmp_value(&self.value, &other.value)
+        cmp_keys(O::order(), &self.value, &other.value)
     }
 }

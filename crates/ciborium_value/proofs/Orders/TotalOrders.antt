@@ -1,4 +1,4 @@
--- The orders of canonical and of bytewise values are total, and tie equal values alone.
+-- The orders of values by their encodings are total, and tie equal values alone.
 use Rattle.std.proofs.Common.{◌≡◌, refl, sym, ap, ◌∙◌, Ordering, Less, Equal, Greater, is_eq}
 use Rattle.std.proofs.lemmas.Cmp.{tied_itself, nat_cmp_total, nat_list_cmp_total, then_total, on_total}
 use Rattle.std.specs.Cmp.{IsTotalOrder}
@@ -15,13 +15,20 @@ use Rattle.ciborium_value.specs.lemmas.DerivedOrder.{value_cmp-is}
 use Rattle.ciborium_value.proofs.Orders.OrderedTrees.{tied_where_equal}
 use Rattle.ciborium_value.specs.declared.key_order.KeyOrder.{KeyOrder}
 use Rattle.ciborium_value.specs.declared.key_order.KeyOrder.TheVariants.{LengthFirst, Bytewise}
-use Rattle.ciborium_value.specs.CanonicalValues.{bytewise_value_cmp, canonical_value_cmp}
+use Rattle.ciborium_value.specs.OrderedValues.{ordered_value_cmp}
 
 pub canonical_order_total : IsTotalOrder canonical_order
 canonical_order_total = then_total (on_total encoded_size nat_cmp_total) (on_total encoding nat_list_cmp_total)
 
-pub canonical_value_cmp_total : IsTotalOrder canonical_value_cmp
-canonical_value_cmp_total = then_total (on_total tree_of canonical_order_total) value_cmp_total
+pub bytewise_order_total : IsTotalOrder bytewise_order
+bytewise_order_total = on_total encoding nat_list_cmp_total
+
+pub key_order_total : (o : KeyOrder) → IsTotalOrder (key_order o)
+key_order_total LengthFirst = canonical_order_total
+key_order_total Bytewise = bytewise_order_total
+
+pub ordered_value_cmp_total : (o : KeyOrder) → IsTotalOrder (ordered_value_cmp o)
+ordered_value_cmp_total o = then_total (on_total tree_of (key_order_total o)) value_cmp_total
 
 -- where the second order ties only what the first does
 tests_agree : (o p : Ordering) → (p ≡ Equal → o ≡ Equal) → is_eq p ≡ is_eq (ordering_then o p)
@@ -44,22 +51,5 @@ matches_eq order total v w =
     ∙ tests_agree (order (tree_of v) (tree_of w)) (value_cmp v w)
     (λ e. ap (order (tree_of v)) (sym (value_cmp-tied v w e)) ∙ tied_itself total (tree_of v))
 
-pub canonical_value_matches_eq : (v w : Value) → value_eq v w ≡ is_eq (canonical_value_cmp v w)
-canonical_value_matches_eq = matches_eq canonical_order canonical_order_total
-
--- ---- bytewise
-
-pub bytewise_order_total : IsTotalOrder bytewise_order
-bytewise_order_total = on_total encoding nat_list_cmp_total
-
-pub bytewise_value_cmp_total : IsTotalOrder bytewise_value_cmp
-bytewise_value_cmp_total = then_total (on_total tree_of bytewise_order_total) value_cmp_total
-
-pub bytewise_value_matches_eq : (v w : Value) → value_eq v w ≡ is_eq (bytewise_value_cmp v w)
-bytewise_value_matches_eq = matches_eq bytewise_order bytewise_order_total
-
--- ---- by its name
-
-pub key_order_total : (o : KeyOrder) → IsTotalOrder (key_order o)
-key_order_total LengthFirst = canonical_order_total
-key_order_total Bytewise = bytewise_order_total
+pub ordered_value_matches_eq : (o : KeyOrder) (v w : Value) → value_eq v w ≡ is_eq (ordered_value_cmp o v w)
+ordered_value_matches_eq o = matches_eq (key_order o) (key_order_total o)

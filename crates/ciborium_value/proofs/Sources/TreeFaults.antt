@@ -4,8 +4,8 @@ use Rattle.ciborium_value.specs.Sources.{IsFaultOf}
 use Rattle.ciborium_value.specs.Taken.{Outcome}
 use Rattle.ciborium_value.specs.TreeAnswers.{IsErrorOf}
 use Rattle.ciborium_value.specs.TreeAnswers.{tree_fault}
-use Rattle.ciborium_value.specs.declared.serialized.Error.{Error}
-use Rattle.ciborium_value.specs.declared.serialized.Error.TheVariants.{Custom, Memory}
+use Rattle.ciborium_value.specs.declared.error.Error.{Error}
+use Rattle.ciborium_value.specs.declared.error.Error.TheVariants.{Custom, Memory}
 
 pub fault_error : {A : Type 0} (e : Error) (o : Outcome A) (end : ℕ) → IsErrorOf e o → IsFaultOf end (tree_fault e) o
 fault_error (Custom k) o end h = h

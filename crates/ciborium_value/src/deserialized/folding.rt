@@ -12,8 +12,8 @@ ghost use Rattle.ciborium_value.specs.TreeAnswers.{value_item};
 ghost use Rattle.ciborium_value.specs.View.{tree_of};
 
 use crate::bignum::{FoldError, find_folding, fold};
+use crate::error::Error;
 use crate::kind::Kind;
-use crate::serialized::Error;
 use crate::stack::{Opening, Stack};
 use crate::tree::Value;
 use std::alloc::{AllocError, Global};

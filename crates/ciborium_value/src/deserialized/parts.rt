@@ -18,8 +18,8 @@ ghost use Rattle.ciborium_value.specs.View.{tree_pairs_of};
 ghost use Rattle.ciborium_value.specs.declared.kind.Kind.TheVariants as kinds;
 
 use crate::bignum::find_magnitude;
+use crate::error::Error;
 use crate::kind::Kind;
-use crate::serialized::Error;
 use crate::tree::Value;
 use ciborium_ll::tag::{BIGNEG, BIGPOS};
 use std::alloc::Global;

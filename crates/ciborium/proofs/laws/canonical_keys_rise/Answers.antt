@@ -1,5 +1,6 @@
-use Rattle.ciborium.proofs.Encodings.RisingKeys.{canonical-keys}
+use Rattle.ciborium_value.specs.declared.key_order.KeyOrder.TheVariants.{LengthFirst}
+use Rattle.ciborium.proofs.Encodings.RisingKeys.{keys-rise}
 use Rattle.ciborium.proofs.laws.canonical_keys_rise.Goals as goal
 
 pub returns-clause-rise : goal.returns-clause-rise
-returns-clause-rise g c = canonical-keys g.V.Serialize.written c.args.map.now.entries c.len.ensures.ordered
+returns-clause-rise g c = keys-rise LengthFirst g.V.Serialize.written c.args.map.now.entries c.len.ensures.ordered

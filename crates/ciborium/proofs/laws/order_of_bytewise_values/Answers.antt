@@ -1,6 +1,7 @@
-use Rattle.ciborium_value.proofs.Orders.TotalOrders.{bytewise_value_cmp_total}
-use Rattle.ciborium.proofs.Encodings.CanonicalValues.{bytewise_ties_equal_ones, is_bytewise}
+use Rattle.ciborium_value.specs.declared.key_order.KeyOrder.TheVariants.{Bytewise}
+use Rattle.ciborium_value.proofs.Orders.TotalOrders.{ordered_value_cmp_total}
+use Rattle.ciborium.proofs.Encodings.OrderedValues.{is_order_of_trees, ties_equal_ones}
 use Rattle.ciborium.proofs.laws.order_of_bytewise_values.Goals as goal
 
 pub returns : goal.returns
-returns c = record { bytewise = is_bytewise; total = bytewise_value_cmp_total; ties = bytewise_ties_equal_ones }
+returns c = record { bytewise = is_order_of_trees Bytewise; total = ordered_value_cmp_total Bytewise; ties = ties_equal_ones Bytewise }

@@ -2,8 +2,8 @@
 use Rattle.std.proofs.Common.{Ok, Err, ap, sym, ◌∙◌, subst}
 use Rattle.std.specs.declared.io.Error.{Error as IoError}
 use Rattle.ciborium.specs.Writes.{WritesNamed}
-use Rattle.ciborium.specs.declared.ser.Error.{Error}
-use Rattle.ciborium.specs.declared.ser.Error.TheVariants.{Io, Memory}
+use Rattle.ciborium.specs.declared.ser.error.Error.{Error}
+use Rattle.ciborium.specs.declared.ser.error.Error.TheVariants.{Io, Memory}
 use Rattle.ciborium.proofs.Writing.ByteSinks.{begins_ready, wrote, wrote_part, named_written}
 use Rattle.ciborium.proofs.ser.into_writer.Goals as goal
 

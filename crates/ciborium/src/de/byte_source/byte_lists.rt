@@ -72,7 +72,7 @@ impl<'a, R: Read> ByteSource<'a, R> {
     }
 
     #[inline(always)]
-    pub(crate) fn read_bytes(&mut self, alloc: Global) -> Result<Vec<u8>, Refusal>
+    pub(crate) fn bytes(&mut self, alloc: Global) -> Result<Vec<u8>, Refusal>
         ensures same_reader { HasSameReader self.old.decoder self.new.decoder }
         ensures only { TakesOnly (HasTaken R.remaining) self.old.decoder self.new.decoder }
         ensures no_more { OnErr result (weight_left self.new ≤ weight_left self.old) }

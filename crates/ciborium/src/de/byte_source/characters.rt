@@ -47,7 +47,7 @@ fn only_character(payload: &[u8], offset: usize) -> Result<char, Refusal>
 
 impl<'a, R: Read> ByteSource<'a, R> {
     /// The one character of a definite text. A text that is longer than any character is not read.
-    pub(crate) fn read_character(&mut self) -> Result<char, Refusal>
+    pub(crate) fn character(&mut self) -> Result<char, Refusal>
         ensures same_reader { HasSameReader self.old.decoder self.new.decoder }
         ensures only { TakesOnly (HasTaken R.remaining) self.old.decoder self.new.decoder }
         ensures no_more { OnErr result (weight_left self.new ≤ weight_left self.old) }

@@ -68,7 +68,7 @@ impl<'a, R: Read> ByteSource<'a, R> {
         }
     }
 
-    // Enters the byte string at this offset whose head was taken last. Apart from `open_seq`, so
+    // Enters the byte string at this offset whose head was taken last. Apart from `begin_seq`, so
     // that the room for its bytes is made ready only here.
     #[inline(always)]
     fn open_bytes(
@@ -102,7 +102,7 @@ impl<'a, R: Read> ByteSource<'a, R> {
     }
 
     #[inline(always)]
-    pub(crate) fn open_seq(&mut self, alloc: Global) -> Result<ByteSeq, Refusal>
+    pub(crate) fn begin_seq(&mut self, alloc: Global) -> Result<ByteSeq, Refusal>
         ensures same_reader { HasSameReader self.old.decoder self.new.decoder }
         ensures only { TakesOnly (HasTaken R.remaining) self.old.decoder self.new.decoder }
         ensures no_more { OnErr result (weight_left self.new ≤ weight_left self.old) }
@@ -131,7 +131,7 @@ impl<'a, R: Read> ByteSource<'a, R> {
     }
 
     #[inline(always)]
-    pub(crate) fn open_map(&mut self) -> Result<ByteSeq, Refusal>
+    pub(crate) fn begin_map(&mut self) -> Result<ByteSeq, Refusal>
         ensures same_reader { HasSameReader self.old.decoder self.new.decoder }
         ensures only { TakesOnly (HasTaken R.remaining) self.old.decoder self.new.decoder }
         ensures no_more { OnErr result (weight_left self.new ≤ weight_left self.old) }

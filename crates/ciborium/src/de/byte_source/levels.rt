@@ -58,7 +58,7 @@ impl<'a, R: Read> ByteSource<'a, R> {
 
     /// The tag ahead, if there is one, and the level that was taken.
     #[inline(always)]
-    pub(crate) fn open_tag(&mut self) -> Result<(Option<u64>, ByteLevel), Refusal>
+    pub(crate) fn begin_tag(&mut self) -> Result<(Option<u64>, ByteLevel), Refusal>
         ensures same_reader { HasSameReader self.old.decoder self.new.decoder }
         ensures only { TakesOnly (HasTaken R.remaining) self.old.decoder self.new.decoder }
         ensures no_more { OnErr result (weight_left self.new ≤ weight_left self.old) }
@@ -89,7 +89,7 @@ impl<'a, R: Read> ByteSource<'a, R> {
     /// The name of a variant, and the level that was taken. Its data is ahead: for a text a null
     /// that is not in the bytes, with the offset of the text.
     #[inline(always)]
-    pub(crate) fn open_variant(&mut self, alloc: Global) -> Result<(String, ByteLevel), Refusal>
+    pub(crate) fn begin_variant(&mut self, alloc: Global) -> Result<(String, ByteLevel), Refusal>
         ensures same_reader { HasSameReader self.old.decoder self.new.decoder }
         ensures only { TakesOnly (HasTaken R.remaining) self.old.decoder self.new.decoder }
         ensures no_more { OnErr result (weight_left self.new ≤ weight_left self.old) }
@@ -114,7 +114,7 @@ impl<'a, R: Read> ByteSource<'a, R> {
                     return Err(Error::Semantic(Some(offset), Kind::Variant));
                 }
                 let level = self.take_level()?;
-                let name = self.read_name(alloc)?;
+                let name = self.name(alloc)?;
                 Ok((name, level))
             }
             _ => Err(Error::Semantic(Some(offset), Kind::Variant)),

@@ -19,7 +19,7 @@ use std::io::Read;
 impl<'a, R: Read> ByteSource<'a, R> {
     /// A text, or a byte string that is UTF-8 once its chunks are joined.
     #[inline(always)]
-    pub(crate) fn read_name(&mut self, alloc: Global) -> Result<String, Refusal>
+    pub(crate) fn name(&mut self, alloc: Global) -> Result<String, Refusal>
         ensures same_reader { HasSameReader self.old.decoder self.new.decoder }
         ensures only { TakesOnly (HasTaken R.remaining) self.old.decoder self.new.decoder }
         ensures no_more { OnErr result (weight_left self.new ≤ weight_left self.old) }

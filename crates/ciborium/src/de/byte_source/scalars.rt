@@ -52,7 +52,7 @@ impl<'a, R: Read> ByteSource<'a, R> {
     }
 
     #[inline(always)]
-    pub(crate) fn read_boolean(&mut self) -> Result<bool, Refusal>
+    pub(crate) fn boolean(&mut self) -> Result<bool, Refusal>
         ensures same_reader { HasSameReader self.old.decoder self.new.decoder }
         ensures only { TakesOnly (HasTaken R.remaining) self.old.decoder self.new.decoder }
         ensures no_more { OnErr result (weight_left self.new ≤ weight_left self.old) }
@@ -82,7 +82,7 @@ impl<'a, R: Read> ByteSource<'a, R> {
     }
 
     #[inline(always)]
-    pub(crate) fn read_unit(&mut self) -> Result<(), Refusal>
+    pub(crate) fn unit(&mut self) -> Result<(), Refusal>
         ensures same_reader { HasSameReader self.old.decoder self.new.decoder }
         ensures only { TakesOnly (HasTaken R.remaining) self.old.decoder self.new.decoder }
         ensures no_more { OnErr result (weight_left self.new ≤ weight_left self.old) }

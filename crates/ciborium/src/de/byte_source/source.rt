@@ -50,32 +50,32 @@ impl<'a, R: Read> Source for ByteSource<'a, R> {
 
     #[inline(always)]
     fn boolean(&mut self) -> Result<bool, Refusal> {
-        self.read_boolean()
+        self.boolean()
     }
 
     #[inline(always)]
     fn unit(&mut self) -> Result<(), Refusal> {
-        self.read_unit()
+        self.unit()
     }
 
     #[inline(always)]
     fn character(&mut self) -> Result<char, Refusal> {
-        self.read_character()
+        self.character()
     }
 
     #[inline(always)]
     fn text(&mut self, alloc: Global) -> Result<String, Refusal> {
-        self.read_text(alloc)
+        self.text(alloc)
     }
 
     #[inline(always)]
     fn bytes(&mut self, alloc: Global) -> Result<Vec<u8>, Refusal> {
-        self.read_bytes(alloc)
+        self.bytes(alloc)
     }
 
     #[inline(always)]
     fn name(&mut self, alloc: Global) -> Result<String, Refusal> {
-        self.read_name(alloc)
+        self.name(alloc)
     }
 
     #[inline(always)]
@@ -102,7 +102,7 @@ impl<'a, R: Read> Source for ByteSource<'a, R> {
 
     #[inline(always)]
     fn begin_tag(&mut self) -> Result<(Option<u64>, ByteLevel), Refusal> {
-        self.open_tag()
+        self.begin_tag()
     }
 
     #[inline(always)]
@@ -112,7 +112,7 @@ impl<'a, R: Read> Source for ByteSource<'a, R> {
 
     #[inline(always)]
     fn begin_variant(&mut self, alloc: Global) -> Result<(String, ByteLevel), Refusal> {
-        self.open_variant(alloc)
+        self.begin_variant(alloc)
     }
 
     #[inline(always)]
@@ -122,12 +122,12 @@ impl<'a, R: Read> Source for ByteSource<'a, R> {
 
     #[inline(always)]
     fn begin_seq(&mut self, alloc: Global) -> Result<ByteSeq, Refusal> {
-        self.open_seq(alloc)
+        self.begin_seq(alloc)
     }
 
     #[inline(always)]
     fn begin_map(&mut self) -> Result<ByteSeq, Refusal> {
-        self.open_map()
+        self.begin_map()
     }
 
     #[inline(always)]
@@ -138,7 +138,7 @@ impl<'a, R: Read> Source for ByteSource<'a, R> {
 
     #[inline(always)]
     fn value(&mut self, alloc: Global) -> Result<Value, Refusal> {
-        self.read_whole_value(alloc)
+        self.value(alloc)
     }
 
     #[inline(always)]

@@ -95,7 +95,7 @@ impl<'a, R: Read> ByteSource<'a, R> {
     }
 
     #[inline(always)]
-    pub(crate) fn read_text(&mut self, alloc: Global) -> Result<String, Refusal>
+    pub(crate) fn text(&mut self, alloc: Global) -> Result<String, Refusal>
         ensures same_reader { HasSameReader self.old.decoder self.new.decoder }
         ensures only { TakesOnly (HasTaken R.remaining) self.old.decoder self.new.decoder }
         ensures no_more { OnErr result (weight_left self.new ≤ weight_left self.old) }

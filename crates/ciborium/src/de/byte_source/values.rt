@@ -39,7 +39,7 @@ fn portable_value(header: Header) -> Option<Value>
 }
 
 impl<'a, R: Read> ByteSource<'a, R> {
-    pub(crate) fn read_whole_value(&mut self, alloc: Global) -> Result<Value, Refusal>
+    pub(crate) fn value(&mut self, alloc: Global) -> Result<Value, Refusal>
         ensures same_reader { OnOk result (HasSameReader self.old.decoder self.new.decoder) }
         ensures only { TakesOnly (HasTaken R.remaining) self.old.decoder self.new.decoder }
         ensures no_more { OnErr result (weight_left self.new ≤ weight_left self.old) }

@@ -1,5 +1,5 @@
 use Rattle.std.specs.declared.io.Error.{Error as IoError}
-use Rattle.ciborium.specs.declared.ser.Error.{Error}
+use Rattle.ciborium.specs.declared.ser.error.Error.{Error}
 use Rattle.ciborium_callers.proofs.WrittenInRow.{both-written, named-appends}
 use Rattle.ciborium_callers.proofs.sequence_callers.write_both.Goals as goal
 

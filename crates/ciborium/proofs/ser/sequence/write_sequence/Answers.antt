@@ -5,7 +5,7 @@ use Rattle.std.specs.declared.io.Error.{Error as IoError}
 use Rattle.ciborium_value.specs.Progress.{IsOwedAmong}
 use Rattle.ciborium_value.proofs.Writing.Progress.{exits, next_part, no_part}
 use Rattle.ciborium.specs.Writes.{cause_of}
-use Rattle.ciborium.specs.declared.ser.Error.{Error}
+use Rattle.ciborium.specs.declared.ser.error.Error.{Error}
 use Rattle.ciborium.proofs.Writing.WrittenSequences.{HasWritten, all-out, all-written, none-written, one-more-written, owed-among, part-out}
 use Rattle.ciborium.proofs.ser.sequence.write_sequence.Goals as goal
 

@@ -7,7 +7,7 @@ use Rattle.ciborium.proofs.de.byte_source.source.ByteSourceSource.begin_map.Goal
 
 pub returns-clause-ok : goal.returns-clause-ok
 returns-clause-ok g c =
-    enters-map g.R.Read.remaining c.args.self.now c.open_map.new.self (c.open_map.ensures.same_reader, c.open_map.ensures.only) _ c.open_map.result c.open_map.ensures.levels c.open_map.ensures.pending c.open_map.ensures.fewer c.open_map.ensures.ok
+    enters-map g.R.Read.remaining c.args.self.now c.begin_map.new.self (c.begin_map.ensures.same_reader, c.begin_map.ensures.only) _ c.begin_map.result c.begin_map.ensures.levels c.begin_map.ensures.pending c.begin_map.ensures.fewer c.begin_map.ensures.ok
 
 pub returns-clause-refused : goal.returns-clause-refused
-returns-clause-refused g c = err-map c.open_map.result c.open_map.ensures.denied (λ e h. refuses-denied g.R.Read.remaining c.args.self.now taken_pairs (fault_of e) h)
+returns-clause-refused g c = err-map c.begin_map.result c.begin_map.ensures.denied (λ e h. refuses-denied g.R.Read.remaining c.args.self.now taken_pairs (fault_of e) h)

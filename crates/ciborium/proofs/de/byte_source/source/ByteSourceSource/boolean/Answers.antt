@@ -7,7 +7,7 @@ use Rattle.ciborium.proofs.de.byte_source.source.ByteSourceSource.boolean.Goals 
 
 pub returns-clause-ok : goal.returns-clause-ok
 returns-clause-ok g c =
-    ok-map c.read_boolean.result (on-both _ _ c.read_boolean.result c.read_boolean.ensures.pending c.read_boolean.ensures.fewer) c.read_boolean.ensures.ok (λ none v k. takes-read g.R.Read.remaining c.args.self.now c.read_boolean.new.self taken_boolean v (c.read_boolean.ensures.same_reader, c.read_boolean.ensures.only) c.read_boolean.ensures.levels none.0 none.1 k)
+    ok-map c.boolean.result (on-both _ _ c.boolean.result c.boolean.ensures.pending c.boolean.ensures.fewer) c.boolean.ensures.ok (λ none v k. takes-read g.R.Read.remaining c.args.self.now c.boolean.new.self taken_boolean v (c.boolean.ensures.same_reader, c.boolean.ensures.only) c.boolean.ensures.levels none.0 none.1 k)
 
 pub returns-clause-refused : goal.returns-clause-refused
-returns-clause-refused g c = err-map c.read_boolean.result c.read_boolean.ensures.denied (λ e h. refuses-denied g.R.Read.remaining c.args.self.now taken_boolean (fault_of e) h)
+returns-clause-refused g c = err-map c.boolean.result c.boolean.ensures.denied (λ e h. refuses-denied g.R.Read.remaining c.args.self.now taken_boolean (fault_of e) h)

@@ -7,7 +7,7 @@ use Rattle.ciborium.proofs.de.byte_source.source.ByteSourceSource.character.Goal
 
 pub returns-clause-ok : goal.returns-clause-ok
 returns-clause-ok g c =
-    ok-map c.read_character.result (on-both _ _ c.read_character.result c.read_character.ensures.pending c.read_character.ensures.fewer) c.read_character.ensures.ok (λ none v k. takes-read g.R.Read.remaining c.args.self.now c.read_character.new.self taken_character v (c.read_character.ensures.same_reader, c.read_character.ensures.only) c.read_character.ensures.levels none.0 none.1 k)
+    ok-map c.character.result (on-both _ _ c.character.result c.character.ensures.pending c.character.ensures.fewer) c.character.ensures.ok (λ none v k. takes-read g.R.Read.remaining c.args.self.now c.character.new.self taken_character v (c.character.ensures.same_reader, c.character.ensures.only) c.character.ensures.levels none.0 none.1 k)
 
 pub returns-clause-refused : goal.returns-clause-refused
-returns-clause-refused g c = err-map c.read_character.result c.read_character.ensures.denied (λ e h. refuses-denied g.R.Read.remaining c.args.self.now taken_character (fault_of e) h)
+returns-clause-refused g c = err-map c.character.result c.character.ensures.denied (λ e h. refuses-denied g.R.Read.remaining c.args.self.now taken_character (fault_of e) h)

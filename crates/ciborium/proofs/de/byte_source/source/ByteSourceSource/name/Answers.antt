@@ -8,7 +8,7 @@ use Rattle.ciborium.proofs.de.byte_source.source.ByteSourceSource.name.Goals as 
 
 pub returns-clause-ok : goal.returns-clause-ok
 returns-clause-ok g c =
-    ok-map c.read_name.result (on-both _ _ c.read_name.result c.read_name.ensures.pending c.read_name.ensures.fewer) c.read_name.ensures.ok (λ none v k. takes-read g.R.Read.remaining c.args.self.now c.read_name.new.self taken_name (string_bytes v) (c.read_name.ensures.same_reader, c.read_name.ensures.only) c.read_name.ensures.levels none.0 none.1 k)
+    ok-map c.name.result (on-both _ _ c.name.result c.name.ensures.pending c.name.ensures.fewer) c.name.ensures.ok (λ none v k. takes-read g.R.Read.remaining c.args.self.now c.name.new.self taken_name (string_bytes v) (c.name.ensures.same_reader, c.name.ensures.only) c.name.ensures.levels none.0 none.1 k)
 
 pub returns-clause-refused : goal.returns-clause-refused
-returns-clause-refused g c = err-map c.read_name.result c.read_name.ensures.denied (λ e h. refuses-denied g.R.Read.remaining c.args.self.now taken_name (fault_of e) h)
+returns-clause-refused g c = err-map c.name.result c.name.ensures.denied (λ e h. refuses-denied g.R.Read.remaining c.args.self.now taken_name (fault_of e) h)

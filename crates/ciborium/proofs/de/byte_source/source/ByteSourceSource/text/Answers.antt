@@ -8,7 +8,7 @@ use Rattle.ciborium.proofs.de.byte_source.source.ByteSourceSource.text.Goals as 
 
 pub returns-clause-ok : goal.returns-clause-ok
 returns-clause-ok g c =
-    ok-map c.read_text.result (on-both _ _ c.read_text.result c.read_text.ensures.pending c.read_text.ensures.fewer) c.read_text.ensures.ok (λ none v k. takes-read g.R.Read.remaining c.args.self.now c.read_text.new.self taken_text (string_bytes v) (c.read_text.ensures.same_reader, c.read_text.ensures.only) c.read_text.ensures.levels none.0 none.1 k)
+    ok-map c.text.result (on-both _ _ c.text.result c.text.ensures.pending c.text.ensures.fewer) c.text.ensures.ok (λ none v k. takes-read g.R.Read.remaining c.args.self.now c.text.new.self taken_text (string_bytes v) (c.text.ensures.same_reader, c.text.ensures.only) c.text.ensures.levels none.0 none.1 k)
 
 pub returns-clause-refused : goal.returns-clause-refused
-returns-clause-refused g c = err-map c.read_text.result c.read_text.ensures.denied (λ e h. refuses-denied g.R.Read.remaining c.args.self.now taken_text (fault_of e) h)
+returns-clause-refused g c = err-map c.text.result c.text.ensures.denied (λ e h. refuses-denied g.R.Read.remaining c.args.self.now taken_text (fault_of e) h)

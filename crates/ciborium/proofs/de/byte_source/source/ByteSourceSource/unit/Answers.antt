@@ -7,7 +7,7 @@ use Rattle.ciborium.proofs.de.byte_source.source.ByteSourceSource.unit.Goals as 
 
 pub returns-clause-ok : goal.returns-clause-ok
 returns-clause-ok g c =
-    ok-map c.read_unit.result (on-both _ _ c.read_unit.result c.read_unit.ensures.pending c.read_unit.ensures.fewer) c.read_unit.ensures.ok (λ none v k. takes-read g.R.Read.remaining c.args.self.now c.read_unit.new.self taken_unit v (c.read_unit.ensures.same_reader, c.read_unit.ensures.only) c.read_unit.ensures.levels none.0 none.1 k)
+    ok-map c.unit.result (on-both _ _ c.unit.result c.unit.ensures.pending c.unit.ensures.fewer) c.unit.ensures.ok (λ none v k. takes-read g.R.Read.remaining c.args.self.now c.unit.new.self taken_unit v (c.unit.ensures.same_reader, c.unit.ensures.only) c.unit.ensures.levels none.0 none.1 k)
 
 pub returns-clause-refused : goal.returns-clause-refused
-returns-clause-refused g c = err-map c.read_unit.result c.read_unit.ensures.denied (λ e h. refuses-denied g.R.Read.remaining c.args.self.now taken_unit (fault_of e) h)
+returns-clause-refused g c = err-map c.unit.result c.unit.ensures.denied (λ e h. refuses-denied g.R.Read.remaining c.args.self.now taken_unit (fault_of e) h)

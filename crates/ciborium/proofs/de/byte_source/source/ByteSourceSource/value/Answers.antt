@@ -8,9 +8,9 @@ use Rattle.ciborium.proofs.de.byte_source.source.ByteSourceSource.value.Goals as
 
 pub returns-clause-ok : goal.returns-clause-ok
 returns-clause-ok g c =
-    let read = c.read_whole_value in
+    let read = c.value in
     ok-map read.result (on-both _ _ read.result read.ensures.same_reader (on-both _ _ read.result read.ensures.pending read.ensures.fewer)) read.ensures.ok
     (λ none v k. takes-read g.R.Read.remaining c.args.self.now read.new.self taken_value (tree_of v) (none.0, read.ensures.only) read.ensures.levels none.1.0 none.1.1 k)
 
 pub returns-clause-refused : goal.returns-clause-refused
-returns-clause-refused g c = err-map c.read_whole_value.result c.read_whole_value.ensures.denied (λ e h. refuses-denied g.R.Read.remaining c.args.self.now taken_value (fault_of e) h)
+returns-clause-refused g c = err-map c.value.result c.value.ensures.denied (λ e h. refuses-denied g.R.Read.remaining c.args.self.now taken_value (fault_of e) h)

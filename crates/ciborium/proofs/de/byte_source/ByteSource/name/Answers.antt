@@ -1,0 +1,69 @@
+use Rattle.std.proofs.Common.{◌≡◌, ap, sym, Some, false, subst, string_bytes}
+use Rattle.std.proofs.lemmas.Result.{err_from_is_err_and}
+use Rattle.std.proofs.lemmas.Str.{IsUtf8-string_bytes}
+use Rattle.std.specs.Str.{IsUtf8}
+use Rattle.ciborium_ll.specs.declared.header.Header.TheVariants as header
+use Rattle.ciborium_ll.specs.StringRefusal.{of_bytes, of_text}
+use Rattle.ciborium_value.specs.Sources.{of_kind}
+use Rattle.ciborium_value.specs.Taken.{bare_name, taken_name}
+use Rattle.ciborium_value.specs.declared.kind.Kind.TheVariants as kinds
+use Rattle.ciborium.specs.inner.ByteSources.{IsUnread, end_at}
+use Rattle.ciborium.specs.Errors.{fault_of}
+use Rattle.ciborium.specs.inner.Skips.{TakesBare}
+use Rattle.ciborium.specs.inner.StringContents.{string_item}
+use Rattle.ciborium_value.specs.Places.{is_open}
+use Rattle.ciborium.proofs.Containers.NamedVariants.{bytes-name, bytes-no-name, name-other}
+use Rattle.ciborium.proofs.Items.SkippedTags.{denies-bare, denies-of-item, reads-bare, untagged-under}
+use Rattle.ciborium.proofs.Payloads.StringPayloads.{denies-content, string-behind}
+use Rattle.ciborium.proofs.Items.TakenOnly.{same-end}
+use Rattle.ciborium.proofs.de.byte_source.ByteSource.name.Goals as goal
+
+pub returns-in_err-header-clause-denied : goal.returns-in_err-header-clause-denied
+returns-in_err-header-clause-denied g c =
+    let exit = err_from_is_err_and c.from_residual.result c.from_residual.ensures.1 in
+    rw (exit.1, exit.2) (denies-of-item (IsUnread g.R.Read.remaining) (end_at g.R.Read.remaining) (Some c.args.self.now.levels) taken_name c.args.self.now (fault_of c.in_err-header.field-0.0) c.in_err-header.ensures.denied)
+
+pub returns-in_err-name-in-Text-clause-denied : goal.returns-in_err-name-in-Text-clause-denied
+returns-in_err-name-in-Text-clause-denied g c =
+    let exit = err_from_is_err_and c.from_residual-in_err-name-in-Text.result c.from_residual-in_err-name-in-Text.ensures.1 in
+    rw (exit.1, exit.2) (denies-of-item (IsUnread g.R.Read.remaining) (end_at g.R.Read.remaining) (Some c.args.self.now.levels) taken_name c.args.self.now (fault_of c.in_err-name-in-Text.field-0.0)
+    (denies-content (IsUnread g.R.Read.remaining) (end_at g.R.Read.remaining) false c.args.self.now c.bare_head.new.self of_text c.in-Text.len (fault_of c.in_err-name-in-Text.field-0.0) (same-end g.R.Read.remaining c.args.self.now c.bare_head.new.self c.in_ok-header.ensures.only)
+    (subst (TakesBare (IsUnread g.R.Read.remaining) c.args.self.now c.bare_head.new.self false) c.in-Text.is c.in_ok-header.ensures.head) c.in_err-name-in-Text.ensures.denied))
+
+pub returns-in-Text-clause-ok : goal.returns-in-Text-clause-ok
+returns-in-Text-clause-ok g c =
+    let l = Some c.args.self.now.levels in
+    let payload = string_bytes c.in_ok-name-in-Text.name in
+    reads-bare (IsUnread g.R.Read.remaining) false (header.Text c.in-Text.len) l taken_name c.args.self.now c.bare_head.new.self c.text_content.new.self payload
+    (subst (TakesBare (IsUnread g.R.Read.remaining) c.args.self.now c.bare_head.new.self false) c.in-Text.is c.in_ok-header.ensures.head)
+    (string-behind (IsUnread g.R.Read.remaining) c.bare_head.new.self c.text_content.new.self of_text c.in-Text.len l taken_name payload payload c.in_ok-name-in-Text.ensures.ok
+    (λ ts all. ap bare_name (untagged-under ts (string_item of_text c.in-Text.len payload))))
+
+pub returns-in_err-bytes-in-Bytes-clause-denied : goal.returns-in_err-bytes-in-Bytes-clause-denied
+returns-in_err-bytes-in-Bytes-clause-denied g c =
+    let exit = err_from_is_err_and c.from_residual-in_err-bytes-in-Bytes.result c.from_residual-in_err-bytes-in-Bytes.ensures.1 in
+    rw (exit.1, exit.2) (denies-of-item (IsUnread g.R.Read.remaining) (end_at g.R.Read.remaining) (Some c.args.self.now.levels) taken_name c.args.self.now (fault_of c.in_err-bytes-in-Bytes.field-0.0)
+    (denies-content (IsUnread g.R.Read.remaining) (end_at g.R.Read.remaining) false c.args.self.now c.bare_head.new.self of_bytes c.in-Bytes.len (fault_of c.in_err-bytes-in-Bytes.field-0.0) (same-end g.R.Read.remaining c.args.self.now c.bare_head.new.self c.in_ok-header.ensures.only)
+    (subst (TakesBare (IsUnread g.R.Read.remaining) c.args.self.now c.bare_head.new.self false) c.in-Bytes.is c.in_ok-header.ensures.head) c.in_err-bytes-in-Bytes.ensures.denied))
+
+pub returns-in-Ok-clause-ok : goal.returns-in-Ok-clause-ok
+returns-in-Ok-clause-ok g c =
+    let l = Some c.args.self.now.levels in
+    let payload = c.in_ok-bytes-in-Bytes.bytes.items in
+    let same : string_bytes c.in-Ok.name ≡ payload = ap (λ v. v.items) c.in-Ok.ensures.ok in
+    let utf8 : IsUtf8 payload = subst IsUtf8 same (IsUtf8-string_bytes c.in-Ok.name) in
+    reads-bare (IsUnread g.R.Read.remaining) false (header.Bytes c.in-Bytes.len) l taken_name c.args.self.now c.bare_head.new.self c.bytes_content.new.self (string_bytes c.in-Ok.name)
+    (subst (TakesBare (IsUnread g.R.Read.remaining) c.args.self.now c.bare_head.new.self false) c.in-Bytes.is c.in_ok-header.ensures.head)
+    (string-behind (IsUnread g.R.Read.remaining) c.bare_head.new.self c.bytes_content.new.self of_bytes c.in-Bytes.len l taken_name payload (string_bytes c.in-Ok.name) c.in_ok-bytes-in-Bytes.ensures.ok
+    (λ ts all. subst (λ b. taken_name l (Rattle.ciborium.specs.inner.Skips.under ts (string_item of_bytes c.in-Bytes.len payload)) ≡ Rattle.ciborium_value.specs.Taken.gives b) (sym same) (bytes-name ts l (is_open c.in-Bytes.len) payload utf8)))
+
+pub returns-in-Bytes-clause-denied : goal.returns-in-Bytes-clause-denied
+returns-in-Bytes-clause-denied g c =
+    bytes-no-name (IsUnread g.R.Read.remaining) (end_at g.R.Read.remaining) c.args.self.now c.bare_head.new.self c.bytes_content.new.self c.in-Bytes.len (Some c.args.self.now.levels) c.in_ok-bytes-in-Bytes.bytes.items (λ u. let never = c.in-Err.ensures.succeeds u in cc)
+    (subst (TakesBare (IsUnread g.R.Read.remaining) c.args.self.now c.bare_head.new.self false) c.in-Bytes.is c.in_ok-header.ensures.head) c.in_ok-bytes-in-Bytes.ensures.ok
+
+pub returns-clause-denied : goal.returns-clause-denied
+returns-clause-denied g c =
+    let l = Some c.args.self.now.levels in
+    denies-bare (IsUnread g.R.Read.remaining) false c.in_ok-header.header l taken_name (end_at g.R.Read.remaining) c.args.self.now c.bare_head.new.self (of_kind kinds.Name) c.in_ok-header.ensures.head
+    (name-other l c.in_ok-header.header c.in_ok-header.ensures.bare c.in_default.not-Text c.in_default.not-Bytes)
