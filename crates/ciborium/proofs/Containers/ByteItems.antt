@@ -1,5 +1,5 @@
 -- Bytes that are read as the numbers of a sequence.
-use Rattle.std.proofs.Common.{◌≡◌, ◌≢◌, ℕ, ◌+◌, ◌<◌, ◌≤◌, Bool, false, List, [], ◌∷◌, ◌++◌, Option, Some, None, Result, Ok, Err, IfOk, OnOk, refl, sym, ap, ◌∙◌, subst, append_assoc, append-nil}
+use Rattle.std.proofs.Common.{◌≡◌, ◌≢◌, ℕ, ◌+◌, ◌<◌, ◌≤◌, Bool, false, List, [], ◌∷◌, ◌++◌, Option, Some, None, Result, Ok, Err, IfErr, IfOk, OnOk, refl, sym, ap, ◌∙◌, subst, append_assoc, append-nil}
 use Rattle.ciborium_ll.specs.declared.header.Header.{Header}
 use Rattle.ciborium_ll.specs.declared.header.Header.TheVariants as header
 use Rattle.ciborium_ll.specs.Item as items
@@ -7,7 +7,7 @@ use Rattle.ciborium_ll.specs.Item.{Item, unsigned, negative, bytes, text, array,
 use Rattle.ciborium_ll.specs.StringRefusal.{of_bytes as string_of_bytes}
 use Rattle.ciborium_ll.proofs.UniqueSpelling.{one_at_front}
 use Rattle.ciborium_ll.specs.Decoding.{allowed_of}
-use Rattle.ciborium.proofs.Items.Due.{due-past, held-past}
+use Rattle.ciborium.proofs.Items.Due.{due-past, held-past, on-both}
 use Rattle.ciborium_value.specs.Ahead.{Rest, Form, after, parts, past, inside, end_of}
 use Rattle.ciborium_value.specs.Nesting.{Limit}
 use Rattle.ciborium_value.specs.Places.{sequence}
@@ -17,7 +17,9 @@ use Rattle.ciborium_value.specs.declared.kind.Kind.TheVariants as kinds
 use Rattle.ciborium_value.proofs.Sources.Sequences.{fault_outside, fault_then}
 use Rattle.ciborium.specs.declared.de.byte_source.ByteSource.{ByteSource}
 use Rattle.ciborium.specs.declared.de.byte_source.ByteSeq.{ByteSeq}
-use Rattle.ciborium.specs.inner.ByteSources.{IsUnread, StandsBefore, SeqStands, SeqOwes, EntersItemsUnread, ReadsRest, RefusesRest, items_due_behind, pending_count, weight_left, end_at, reader_of}
+use Rattle.ciborium.specs.declared.de.error.Error.{Error}
+use Rattle.ciborium.specs.Errors.{fault_of}
+use Rattle.ciborium.specs.inner.ByteSources.{AnswersItem, KeepsSource, IsUnread, StandsBefore, SeqStands, SeqOwes, EntersItemsUnread, ReadsRest, RefusesRest, items_due_behind, pending_count, weight_left, end_at, reader_of}
 use Rattle.ciborium.specs.inner.FrontItems.{Reads, Denies}
 use Rattle.ciborium.specs.inner.Skips.{under, AreSkipped, IsBare, TakesBare}
 use Rattle.ciborium.specs.inner.StringContents.{string_item, TakesContent}
@@ -231,3 +233,19 @@ bytes-read remaining old mid new len payload bare content =
 pub ok-map : {T E : Type 0} {N : Type 0} {P Q : T → Type 0} (r : Result T E) → OnOk r N → IfOk r P → (N → (v : T) → P v → Q v) → IfOk r Q
 ok-map (Ok v) n p f = f n v p
 ok-map (Err e) n p f = tt
+
+-- ---- what is answered to a call for one item
+
+module _ {S T A : Type 0} (remaining : S → Option (List ℕ)) (old new : ByteSource S) (taken : Taken A) (content : T → A) where
+  pub answer-given : (r : Result T (Error (Unit {0}))) → AnswersItem remaining old new (Some old.levels) taken content r → IfOk r (λ v. Reads (IsUnread remaining) old new (Some old.levels) taken (content v))
+  answer-given (Ok v) h = h
+  answer-given (Err e) h = tt
+
+  pub answers-ok : (r : Result T (Error (Unit {0}))) → KeepsSource remaining old new r → new.levels ≡ old.levels → OnOk r (weight_left new < weight_left old) → AnswersItem remaining old new (Some old.levels) taken content r →
+      IfOk r (λ v. TakesAhead (StandsBefore remaining) old new taken (content v))
+  answers-ok r keeps levels fewer h =
+      ok-map r (on-both _ _ r keeps.pending fewer) (answer-given r h) (λ none v k. takes-read remaining old new taken (content v) (keeps.same_reader, keeps.only) levels none.0 none.1 k)
+
+  pub answers-refused : (r : Result T (Error (Unit {0}))) → AnswersItem remaining old new (Some old.levels) taken content r → IfErr r (λ e. RefusesAhead (StandsBefore remaining) old taken (fault_of e))
+  answers-refused (Ok v) h = tt
+  answers-refused (Err e) h = refuses-denied remaining old taken (fault_of e) h

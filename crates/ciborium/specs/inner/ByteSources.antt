@@ -1,12 +1,12 @@
 -- Where a source over bytes stands.
-use Rattle.std.specs.Prelude.{◌≡◌, ℕ, ◌+◌, ◌*◌, ◌-◌, ◌≤◌, List, ◌++◌, length, map, Option, Some, None, Bool, true, false, Result}
+use Rattle.std.specs.Prelude.{◌≡◌, ℕ, ◌+◌, ◌*◌, ◌-◌, ◌≤◌, List, ◌++◌, length, map, Option, Some, None, Bool, true, false, IfErr, IfOk, MatchResult, OnErr, OnOk, Result}
 use Rattle.std.specs.Borrow.{GName}
 use Rattle.std.specs.Vec.Iter.{into_iter_items}
 use Rattle.ciborium_ll.specs.declared.header.Header.{Header}
 use Rattle.ciborium_ll.specs.declared.header.Header.TheVariants as header
 use Rattle.ciborium_ll.specs.declared.decoder.Decoder.{Decoder}
 use Rattle.ciborium_ll.specs.Bytes.{greatest_offset}
-use Rattle.ciborium_ll.specs.Decoding.{IsAheadBy, Takes, TakesBeforeAny, allowed_of, left_of}
+use Rattle.ciborium_ll.specs.Decoding.{HasSameReader, IsAheadBy, Takes, TakesBeforeAny, allowed_of, left_of}
 use Rattle.ciborium_ll.specs.Header.{SpellsHeader}
 use Rattle.ciborium_ll.specs.Item.{Item, unsigned}
 use Rattle.ciborium_ll.specs.Refusal.{IsUsable}
@@ -15,7 +15,7 @@ use Rattle.ciborium_value.specs.Ahead.{Ahead, Rest, Form, counted, until_break, 
 use Rattle.ciborium_value.specs.Meaning.{meaning}
 use Rattle.ciborium_value.specs.Nesting.{Limit, nesting}
 use Rattle.ciborium_value.specs.Places.{Shape, sequence, dictionary}
-use Rattle.ciborium_value.specs.Sources.{Fault, HasItem, IsFaultOf}
+use Rattle.ciborium_value.specs.Sources.{Fault, HasItem, IsFaultOf, IsGrantedFault, TakesOnly}
 use Rattle.ciborium_value.specs.Taken.{Outcome, Taken, gives, is_null_simple}
 use Rattle.ciborium_value.specs.Tree.{Tree}
 use Rattle.ciborium.specs.declared.de.error.Error.{Error}
@@ -26,7 +26,9 @@ use Rattle.ciborium.specs.declared.de.byte_source.Left.{Left}
 use Rattle.ciborium.specs.declared.de.byte_source.Left.TheVariants as left
 use Rattle.ciborium.specs.ValueAnswers.{IsTreeRead}
 use Rattle.ciborium.specs.inner.Due.{LeavesReader}
-use Rattle.ciborium.specs.inner.Skips.{EntersUnread}
+use Rattle.ciborium.specs.Errors.{fault_of}
+use Rattle.ciborium.specs.inner.FrontItems.{Denies, Reads}
+use Rattle.ciborium.specs.inner.Skips.{EntersUnread, IsBare}
 use Rattle.ciborium.specs.Spelling.{any}
 use Rattle.ciborium.specs.inner.Unread.{SpellsPair, AreSpelled, FitsAhead, ending, form_of, HasCount}
 
@@ -234,7 +236,30 @@ HasBytes (left.Counted n) P = ⊥
 HasBytes left.Open P = ⊥
 HasBytes (left.Bytes v) P = P (into_iter_items v)
 
--- ---- why it refused
+-- ---- what a call leaves and answers
+
+-- the reader is the same, a beginning of what was unread was taken, no more is left to read, and behind an answer no head is pending
+pub record KeepsSource {S A E : Type 0} (remaining : S → Option (List ℕ)) (old new : ByteSource S) (result : Result A E) : Type 0 where
+  pub same_reader : HasSameReader old.decoder new.decoder
+  pub only : TakesOnly (HasTaken remaining) old.decoder new.decoder
+  pub no_more : OnErr result (weight_left new ≤ weight_left old)
+  pub pending : OnOk result (new.pending ≡ None)
+
+-- the same of the head behind any number of tags
+pub record ReadsBareHead {S : Type 0} (remaining : S → Option (List ℕ)) (old new : ByteSource S) (numbers : Bool) (result : Result (Header × ℕ) (Error (Unit {0}))) : Type 0 where
+  pub same_reader : HasSameReader old.decoder new.decoder
+  pub only : TakesOnly (HasTaken remaining) old.decoder new.decoder
+  pub no_more : OnErr result (weight_left new ≤ weight_left old)
+  pub pending : OnOk result (new.pending ≡ None)
+  pub levels : new.levels ≡ old.levels
+  pub fewer : IfOk result (λ h. bytes_weight new + head_weight h.0 ≤ weight_left old)
+  pub bare : IfOk result (λ h. IsBare numbers h.0)
+  pub memory : IfErr result (λ e. IsGrantedFault (fault_of e) false)
+
+-- the item ahead was taken and gives what counts of the answer, or it is refused, and only where the item is
+abbrev pub AnswersItem : {S A T : Type 0} → (S → Option (List ℕ)) → ByteSource S → ByteSource S → Limit → Taken A → (T → A) → Result T (Error (Unit {0})) → Type 0
+AnswersItem remaining old new l taken content result =
+    MatchResult result (λ v. Reads (IsUnread remaining) old new l taken (content v)) (λ e. Denies (IsUnread remaining) (end_at remaining) old l taken (fault_of e))
 
 -- ---- a value of any shape
 

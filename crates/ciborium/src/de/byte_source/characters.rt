@@ -1,13 +1,12 @@
 //! Characters.
 
-ghost use Rattle.std.specs.Prelude.{◌≡◌, ◌<◌, ◌⊎◌, ◌≤◌, IfErr, IfOk, IsUtf8, None, OnErr, OnOk};
+ghost use Rattle.std.specs.Prelude.{◌≡◌, ◌<◌, ◌⊎◌, IfErr, IfOk, IsUtf8, None, OnOk};
 ghost use Rattle.std.specs.Prelude.{Some, chars, false, ℕ};
-ghost use Rattle.ciborium_ll.specs.Decoding.{HasSameReader};
-ghost use Rattle.ciborium_value.specs.Sources.{IsFaultOf, IsGrantedFault, TakesOnly};
+ghost use Rattle.ciborium_value.specs.Sources.{IsFaultOf, IsGrantedFault};
 ghost use Rattle.ciborium_value.specs.Taken.{gives, lone_character, taken_character};
-ghost use Rattle.ciborium.specs.inner.ByteSources.{HasTaken, IsUnread, end_at, weight_left};
+ghost use Rattle.ciborium.specs.inner.ByteSources.{weight_left};
 ghost use Rattle.ciborium.specs.Errors.{fault_of};
-ghost use Rattle.ciborium.specs.inner.FrontItems.{Denies, Reads};
+ghost use Rattle.ciborium.specs.inner.ByteSources.{AnswersItem, KeepsSource};
 
 use crate::de::byte_source::ByteSource;
 use crate::de::error::{Error, Refusal};
@@ -48,17 +47,11 @@ fn only_character(payload: &[u8], offset: usize) -> Result<char, Refusal>
 impl<'a, R: Read> ByteSource<'a, R> {
     /// The one character of a definite text. A text that is longer than any character is not read.
     pub(crate) fn character(&mut self) -> Result<char, Refusal>
-        ensures same_reader { HasSameReader self.old.decoder self.new.decoder }
-        ensures only { TakesOnly (HasTaken R.remaining) self.old.decoder self.new.decoder }
-        ensures no_more { OnErr result (weight_left self.new ≤ weight_left self.old) }
+        ensures keeps { KeepsSource R.remaining self.old self.new result }
         ensures levels { self.new.levels ≡ self.old.levels }
-        ensures pending { OnOk result (self.new.pending ≡ None) }
         ensures fewer { OnOk result (weight_left self.new < weight_left self.old) }
-        ensures ok { IfOk result (λ v. Reads (IsUnread R.remaining) self.old self.new
-            (Some self.old.levels) taken_character v) }
-        ensures denied { IfErr result
-            (λ e. Denies (IsUnread R.remaining) (end_at R.remaining) self.old
-            (Some self.old.levels) taken_character (fault_of e)) }
+        ensures answer { AnswersItem R.remaining self.old self.new (Some self.old.levels)
+            taken_character (λ v. v) result }
         ensures memory { IfErr result (λ e. IsGrantedFault (fault_of e) false) }
     {
         let (header, offset) = self.bare_head(false)?;

@@ -17,6 +17,7 @@ ghost use Rattle.ciborium.specs.Errors.{fault_of};
 ghost use Rattle.ciborium.specs.inner.ByteSources.{parts_left, seq_left, weight_left};
 ghost use Rattle.ciborium.specs.inner.FrontItems.{Denies};
 ghost use Rattle.ciborium.specs.inner.StringContents.{DeniesContent, TakesContent};
+ghost use Rattle.ciborium.specs.inner.ByteSources.{KeepsSource};
 
 use crate::de::byte_source::{ByteSeq, ByteSource, Left};
 use crate::de::error::{Error, Refusal};
@@ -103,11 +104,8 @@ impl<'a, R: Read> ByteSource<'a, R> {
 
     #[inline(always)]
     pub(crate) fn begin_seq(&mut self, alloc: Global) -> Result<ByteSeq, Refusal>
-        ensures same_reader { HasSameReader self.old.decoder self.new.decoder }
-        ensures only { TakesOnly (HasTaken R.remaining) self.old.decoder self.new.decoder }
-        ensures no_more { OnErr result (weight_left self.new ≤ weight_left self.old) }
+        ensures keeps { KeepsSource R.remaining self.old self.new result }
         ensures levels { IfOk result (λ q. q.levels ≡ self.old.levels) }
-        ensures pending { OnOk result (self.new.pending ≡ None) }
         ensures fewer { IfOk result
             (λ q. weight_left self.new + seq_left q < weight_left self.old) }
         ensures ok { IfOk result (EntersItemsUnread R.remaining self.old self.new taken_seq
@@ -132,11 +130,8 @@ impl<'a, R: Read> ByteSource<'a, R> {
 
     #[inline(always)]
     pub(crate) fn begin_map(&mut self) -> Result<ByteSeq, Refusal>
-        ensures same_reader { HasSameReader self.old.decoder self.new.decoder }
-        ensures only { TakesOnly (HasTaken R.remaining) self.old.decoder self.new.decoder }
-        ensures no_more { OnErr result (weight_left self.new ≤ weight_left self.old) }
+        ensures keeps { KeepsSource R.remaining self.old self.new result }
         ensures levels { IfOk result (λ q. q.levels ≡ self.old.levels) }
-        ensures pending { OnOk result (self.new.pending ≡ None) }
         ensures fewer { IfOk result
             (λ q. weight_left self.new + seq_left q < weight_left self.old) }
         ensures ok { IfOk result (EntersPairsUnread R.remaining self.old self.new taken_pairs

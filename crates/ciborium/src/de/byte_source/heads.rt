@@ -1,13 +1,14 @@
 //! The next head, as it comes or behind tags.
 
-ghost use Rattle.std.specs.Prelude.{◌≡◌, ◌+◌, ◌≤◌, IfErr, IfOk, None, OnErr, OnOk, false};
+ghost use Rattle.std.specs.Prelude.{◌≡◌, ◌+◌, ◌≤◌, IfErr, IfOk, None, OnErr, false};
 ghost use Rattle.ciborium_ll.specs.Decoding.{HasSameReader};
 ghost use Rattle.ciborium_value.specs.Sources.{IsGrantedFault, TakesOnly};
 ghost use Rattle.ciborium.specs.inner.ByteSources.{CountsHead, HasTaken, IsUnread, bytes_weight};
 ghost use Rattle.ciborium.specs.inner.ByteSources.{end_at, head_weight, weight_left};
 ghost use Rattle.ciborium.specs.Errors.{fault_of};
 ghost use Rattle.ciborium.specs.inner.FrontItems.{DeniesHead, DeniesItem, TakesHead};
-ghost use Rattle.ciborium.specs.inner.Skips.{IsBare, IsEndTag, TakesBare};
+ghost use Rattle.ciborium.specs.inner.Skips.{IsEndTag, TakesBare};
+ghost use Rattle.ciborium.specs.inner.ByteSources.{ReadsBareHead};
 
 use crate::de::byte_source::ByteSource;
 use crate::de::error::{Error, Refusal};
@@ -54,19 +55,11 @@ impl<'a, R: Read> ByteSource<'a, R> {
     // The head behind any number of tags. Out of line: where it is called a tag was skipped.
     #[inline(never)]
     fn behind_tags(&mut self, numbers: bool) -> Result<(Header, usize), Refusal>
-        ensures same_reader { HasSameReader self.old.decoder self.new.decoder }
-        ensures only { TakesOnly (HasTaken R.remaining) self.old.decoder self.new.decoder }
-        ensures no_more { OnErr result (weight_left self.new ≤ weight_left self.old) }
-        ensures levels { self.new.levels ≡ self.old.levels }
-        ensures pending { OnOk result (self.new.pending ≡ None) }
-        ensures fewer { IfOk result
-            (λ h. bytes_weight self.new + head_weight h.0 ≤ weight_left self.old) }
-        ensures bare { IfOk result (λ h. IsBare numbers h.0) }
+        ensures reads { ReadsBareHead R.remaining self.old self.new numbers result }
         ensures head { IfOk result
             (λ h. TakesBare (IsUnread R.remaining) self.old self.new numbers h.0) }
         ensures denied { IfErr result
             (λ e. DeniesItem (IsUnread R.remaining) (end_at R.remaining) self.old (fault_of e)) }
-        ensures memory { IfErr result (λ e. IsGrantedFault (fault_of e) false) }
     {
         'tags: loop {
             let (header, offset) = self.next_head()?;
@@ -86,19 +79,11 @@ impl<'a, R: Read> ByteSource<'a, R> {
     // ready only behind a tag.
     #[inline(always)]
     fn skip_tags(&mut self, numbers: bool) -> Result<(Header, usize), Refusal>
-        ensures same_reader { HasSameReader self.old.decoder self.new.decoder }
-        ensures only { TakesOnly (HasTaken R.remaining) self.old.decoder self.new.decoder }
-        ensures no_more { OnErr result (weight_left self.new ≤ weight_left self.old) }
-        ensures levels { self.new.levels ≡ self.old.levels }
-        ensures pending { OnOk result (self.new.pending ≡ None) }
-        ensures fewer { IfOk result
-            (λ h. bytes_weight self.new + head_weight h.0 ≤ weight_left self.old) }
-        ensures bare { IfOk result (λ h. IsBare numbers h.0) }
+        ensures reads { ReadsBareHead R.remaining self.old self.new numbers result }
         ensures head { IfOk result
             (λ h. TakesBare (IsUnread R.remaining) self.old self.new numbers h.0) }
         ensures denied { IfErr result
             (λ e. DeniesItem (IsUnread R.remaining) (end_at R.remaining) self.old (fault_of e)) }
-        ensures memory { IfErr result (λ e. IsGrantedFault (fault_of e) false) }
     {
         let bare = self.behind_tags(numbers)?;
         Ok(bare)
@@ -112,19 +97,11 @@ impl<'a, R: Read> ByteSource<'a, R> {
     /// `Semantic` with `Break` where a break stands there.
     #[inline(always)]
     pub(crate) fn bare_head(&mut self, numbers: bool) -> Result<(Header, usize), Refusal>
-        ensures same_reader { HasSameReader self.old.decoder self.new.decoder }
-        ensures only { TakesOnly (HasTaken R.remaining) self.old.decoder self.new.decoder }
-        ensures no_more { OnErr result (weight_left self.new ≤ weight_left self.old) }
-        ensures levels { self.new.levels ≡ self.old.levels }
-        ensures pending { OnOk result (self.new.pending ≡ None) }
-        ensures fewer { IfOk result
-            (λ h. bytes_weight self.new + head_weight h.0 ≤ weight_left self.old) }
-        ensures bare { IfOk result (λ h. IsBare numbers h.0) }
+        ensures reads { ReadsBareHead R.remaining self.old self.new numbers result }
         ensures head { IfOk result
             (λ h. TakesBare (IsUnread R.remaining) self.old self.new numbers h.0) }
         ensures denied { IfErr result
             (λ e. DeniesItem (IsUnread R.remaining) (end_at R.remaining) self.old (fault_of e)) }
-        ensures memory { IfErr result (λ e. IsGrantedFault (fault_of e) false) }
     {
         let (header, offset) = self.next_head()?;
         match header {

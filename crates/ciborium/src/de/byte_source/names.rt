@@ -1,13 +1,10 @@
 //! Names.
 
-ghost use Rattle.std.specs.Prelude.{◌≡◌, ◌<◌, ◌≤◌, IfErr, IfOk, None, OnErr, OnOk, Some};
+ghost use Rattle.std.specs.Prelude.{◌≡◌, ◌<◌, OnOk, Some};
 ghost use Rattle.std.specs.Prelude.{string_bytes};
-ghost use Rattle.ciborium_ll.specs.Decoding.{HasSameReader};
 ghost use Rattle.ciborium_value.specs.Taken.{taken_name};
-ghost use Rattle.ciborium.specs.inner.ByteSources.{HasTaken, IsUnread, end_at, weight_left};
-ghost use Rattle.ciborium.specs.Errors.{fault_of};
-ghost use Rattle.ciborium.specs.inner.FrontItems.{Denies, Reads};
-ghost use Rattle.ciborium_value.specs.Sources.{TakesOnly};
+ghost use Rattle.ciborium.specs.inner.ByteSources.{weight_left};
+ghost use Rattle.ciborium.specs.inner.ByteSources.{AnswersItem, KeepsSource};
 
 use crate::de::byte_source::ByteSource;
 use crate::de::error::{Error, Refusal};
@@ -20,17 +17,11 @@ impl<'a, R: Read> ByteSource<'a, R> {
     /// A text, or a byte string that is UTF-8 once its chunks are joined.
     #[inline(always)]
     pub(crate) fn name(&mut self, alloc: Global) -> Result<String, Refusal>
-        ensures same_reader { HasSameReader self.old.decoder self.new.decoder }
-        ensures only { TakesOnly (HasTaken R.remaining) self.old.decoder self.new.decoder }
-        ensures no_more { OnErr result (weight_left self.new ≤ weight_left self.old) }
+        ensures keeps { KeepsSource R.remaining self.old self.new result }
         ensures levels { self.new.levels ≡ self.old.levels }
-        ensures pending { OnOk result (self.new.pending ≡ None) }
         ensures fewer { OnOk result (weight_left self.new < weight_left self.old) }
-        ensures ok { IfOk result (λ v. Reads (IsUnread R.remaining) self.old self.new
-            (Some self.old.levels) taken_name (string_bytes v)) }
-        ensures denied { IfErr result
-            (λ e. Denies (IsUnread R.remaining) (end_at R.remaining) self.old
-            (Some self.old.levels) taken_name (fault_of e)) }
+        ensures answer { AnswersItem R.remaining self.old self.new (Some self.old.levels)
+            taken_name string_bytes result }
     {
         let (header, offset) = self.bare_head(false)?;
         match header {

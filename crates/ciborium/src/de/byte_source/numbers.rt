@@ -5,14 +5,14 @@ ghost use Rattle.std.specs.Prelude.{[], false, true, ℕ};
 ghost use Rattle.ciborium_ll.specs.Decoding.{HasSameReader};
 ghost use Rattle.ciborium_ll.specs.StringRefusal.{of_bytes};
 ghost use Rattle.ciborium_ll.specs.declared.header.Header.TheVariants as heads;
-ghost use Rattle.ciborium_value.specs.Sources.{IsGrantedFault, IsOutsideFault, TakesOnly};
+ghost use Rattle.ciborium_value.specs.Sources.{IsGrantedFault, TakesOnly};
 ghost use Rattle.ciborium_value.specs.Taken.{taken_bignum, taken_integer};
 ghost use Rattle.ciborium.specs.inner.ByteSources.{HasTaken, IsUnread, bytes_weight, end_at};
 ghost use Rattle.ciborium.specs.Errors.{fault_of};
 ghost use Rattle.ciborium.specs.inner.ByteSources.{weight_left};
-ghost use Rattle.ciborium.specs.inner.FrontItems.{Denies, Reads};
 ghost use Rattle.ciborium.specs.inner.StringContents.{DeniesContent, DeniesJust, TakesDigits};
 ghost use Rattle.ciborium.specs.inner.StringContents.{TakesNumber, one_digit_more};
+ghost use Rattle.ciborium.specs.inner.ByteSources.{AnswersItem, KeepsSource};
 
 use crate::de::byte_source::ByteSource;
 use crate::de::error::{Error, Refusal};
@@ -129,17 +129,10 @@ impl<'a, R: Read> ByteSource<'a, R> {
     // The number under the tag of a bignum, which was taken last and stands at this offset.
     #[inline(never)]
     fn read_bignum(&mut self, tag_offset: usize) -> Result<u128, Refusal>
-        ensures same_reader { HasSameReader self.old.decoder self.new.decoder }
-        ensures only { TakesOnly (HasTaken R.remaining) self.old.decoder self.new.decoder }
-        ensures no_more { OnErr result (weight_left self.new ≤ weight_left self.old) }
+        ensures keeps { KeepsSource R.remaining self.old self.new result }
         ensures levels { self.new.levels ≡ self.old.levels }
-        ensures pending { OnOk result (self.new.pending ≡ None) }
         ensures fewer { OnOk result (weight_left self.new ≤ weight_left self.old) }
-        ensures ok { IfOk result
-            (λ n. Reads (IsUnread R.remaining) self.old self.new None taken_bignum n) }
-        ensures denied { IfErr result
-            (λ e. Denies (IsUnread R.remaining) (end_at R.remaining) self.old None taken_bignum
-            (fault_of e)) }
+        ensures answer { AnswersItem R.remaining self.old self.new None taken_bignum (λ v. v) result }
         ensures memory { IfErr result (λ e. IsGrantedFault (fault_of e) false) }
     {
         let (header, offset) = self.next_head()?;
@@ -160,19 +153,12 @@ impl<'a, R: Read> ByteSource<'a, R> {
     // from `read_integer`, so that the room for an error is made ready only behind a tag.
     #[inline(always)]
     fn read_tagged(&mut self, tag: u64, offset: usize) -> Result<((bool, u128), usize), Refusal>
-        ensures same_reader { HasSameReader self.old.decoder self.new.decoder }
-        ensures only { TakesOnly (HasTaken R.remaining) self.old.decoder self.new.decoder }
-        ensures no_more { OnErr result (weight_left self.new ≤ weight_left self.old) }
+        ensures keeps { KeepsSource R.remaining self.old self.new result }
         ensures levels { self.new.levels ≡ self.old.levels }
-        ensures pending { OnOk result (self.new.pending ≡ None) }
         ensures fewer { OnOk result (weight_left self.new ≤ weight_left self.old) }
         ensures sign { IfOk result (λ v. v.0.0 ≡ (tag == 3)) }
         ensures offset { IfOk result (λ v. v.1 ≡ offset) }
-        ensures ok { IfOk result
-            (λ v. Reads (IsUnread R.remaining) self.old self.new None taken_bignum v.0.1) }
-        ensures denied { IfErr result
-            (λ e. Denies (IsUnread R.remaining) (end_at R.remaining) self.old None taken_bignum
-            (fault_of e)) }
+        ensures answer { AnswersItem R.remaining self.old self.new None taken_bignum (λ v. v.0.1) result }
         ensures memory { IfErr result (λ e. IsGrantedFault (fault_of e) false) }
     {
         let n = self.read_bignum(offset)?;
@@ -182,17 +168,11 @@ impl<'a, R: Read> ByteSource<'a, R> {
     /// A number, and the offset of its head or, for a bignum, of the tag of it.
     #[inline(always)]
     pub(crate) fn read_integer(&mut self) -> Result<((bool, u128), usize), Refusal>
-        ensures same_reader { HasSameReader self.old.decoder self.new.decoder }
-        ensures only { TakesOnly (HasTaken R.remaining) self.old.decoder self.new.decoder }
-        ensures no_more { OnErr result (weight_left self.new ≤ weight_left self.old) }
+        ensures keeps { KeepsSource R.remaining self.old self.new result }
         ensures levels { self.new.levels ≡ self.old.levels }
-        ensures pending { OnOk result (self.new.pending ≡ None) }
         ensures fewer { OnOk result (weight_left self.new < weight_left self.old) }
-        ensures ok { IfOk result (λ v. Reads (IsUnread R.remaining) self.old self.new
-            (Some self.old.levels) taken_integer v.0) }
-        ensures denied { IfErr result
-            (λ e. Denies (IsUnread R.remaining) (end_at R.remaining) self.old
-            (Some self.old.levels) taken_integer (fault_of e)) }
+        ensures answer { AnswersItem R.remaining self.old self.new (Some self.old.levels)
+            taken_integer (λ v. v.0) result }
         ensures memory { IfErr result (λ e. IsGrantedFault (fault_of e) false) }
     {
         let (header, offset) = self.bare_head(true)?;

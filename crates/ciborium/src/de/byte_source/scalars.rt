@@ -1,14 +1,13 @@
 //! Booleans and null.
 
-ghost use Rattle.std.specs.Prelude.{◌≡◌, ◌<◌, ◌≤◌, IfErr, IfOk, IfSome, None, OnErr, OnOk, Some};
+ghost use Rattle.std.specs.Prelude.{◌≡◌, ◌<◌, IfErr, IfSome, None, OnOk, Some};
 ghost use Rattle.std.specs.Prelude.{false};
-ghost use Rattle.ciborium_ll.specs.Decoding.{HasSameReader};
-ghost use Rattle.ciborium_value.specs.Sources.{IsGrantedFault, TakesOnly, Tells};
+ghost use Rattle.ciborium_value.specs.Sources.{IsGrantedFault, Tells};
 ghost use Rattle.ciborium_value.specs.Taken.{is_null_simple, taken_boolean, taken_unit};
-ghost use Rattle.ciborium.specs.inner.ByteSources.{HasTaken, IsUnread, StandsBefore, end_at};
+ghost use Rattle.ciborium.specs.inner.ByteSources.{StandsBefore};
 ghost use Rattle.ciborium.specs.Errors.{fault_of};
 ghost use Rattle.ciborium.specs.inner.ByteSources.{weight_left};
-ghost use Rattle.ciborium.specs.inner.FrontItems.{Denies, Reads};
+ghost use Rattle.ciborium.specs.inner.ByteSources.{AnswersItem, KeepsSource};
 
 use crate::de::byte_source::ByteSource;
 use crate::de::error::{Error, Refusal};
@@ -53,17 +52,11 @@ impl<'a, R: Read> ByteSource<'a, R> {
 
     #[inline(always)]
     pub(crate) fn boolean(&mut self) -> Result<bool, Refusal>
-        ensures same_reader { HasSameReader self.old.decoder self.new.decoder }
-        ensures only { TakesOnly (HasTaken R.remaining) self.old.decoder self.new.decoder }
-        ensures no_more { OnErr result (weight_left self.new ≤ weight_left self.old) }
+        ensures keeps { KeepsSource R.remaining self.old self.new result }
         ensures levels { self.new.levels ≡ self.old.levels }
-        ensures pending { OnOk result (self.new.pending ≡ None) }
         ensures fewer { OnOk result (weight_left self.new < weight_left self.old) }
-        ensures ok { IfOk result (λ v. Reads (IsUnread R.remaining) self.old self.new
-            (Some self.old.levels) taken_boolean v) }
-        ensures denied { IfErr result
-            (λ e. Denies (IsUnread R.remaining) (end_at R.remaining) self.old
-            (Some self.old.levels) taken_boolean (fault_of e)) }
+        ensures answer { AnswersItem R.remaining self.old self.new (Some self.old.levels)
+            taken_boolean (λ v. v) result }
         ensures memory { IfErr result (λ e. IsGrantedFault (fault_of e) false) }
     {
         let (header, offset) = self.bare_head(false)?;
@@ -83,17 +76,11 @@ impl<'a, R: Read> ByteSource<'a, R> {
 
     #[inline(always)]
     pub(crate) fn unit(&mut self) -> Result<(), Refusal>
-        ensures same_reader { HasSameReader self.old.decoder self.new.decoder }
-        ensures only { TakesOnly (HasTaken R.remaining) self.old.decoder self.new.decoder }
-        ensures no_more { OnErr result (weight_left self.new ≤ weight_left self.old) }
+        ensures keeps { KeepsSource R.remaining self.old self.new result }
         ensures levels { self.new.levels ≡ self.old.levels }
-        ensures pending { OnOk result (self.new.pending ≡ None) }
         ensures fewer { OnOk result (weight_left self.new < weight_left self.old) }
-        ensures ok { IfOk result (λ v. Reads (IsUnread R.remaining) self.old self.new
-            (Some self.old.levels) taken_unit v) }
-        ensures denied { IfErr result
-            (λ e. Denies (IsUnread R.remaining) (end_at R.remaining) self.old
-            (Some self.old.levels) taken_unit (fault_of e)) }
+        ensures answer { AnswersItem R.remaining self.old self.new (Some self.old.levels)
+            taken_unit (λ v. v) result }
         ensures memory { IfErr result (λ e. IsGrantedFault (fault_of e) false) }
     {
         let (header, offset) = self.bare_head(false)?;

@@ -1,15 +1,14 @@
 //! The value ahead, of any shape.
 
-ghost use Rattle.std.specs.Prelude.{◌≡◌, ◌<◌, ◌≤◌, IfErr, IfOk, List, MatchOption, None, OnErr};
-ghost use Rattle.std.specs.Prelude.{OnOk, Some, false, ℕ};
+ghost use Rattle.std.specs.Prelude.{◌≡◌, ◌<◌, ◌≤◌, MatchOption, None, OnErr};
+ghost use Rattle.std.specs.Prelude.{OnOk, Some, false};
 ghost use Rattle.ciborium_ll.specs.Decoding.{HasSameReader};
 ghost use Rattle.ciborium_value.specs.Sources.{TakesOnly, read_as};
 ghost use Rattle.ciborium_value.specs.Taken.{taken_value};
 ghost use Rattle.ciborium_value.specs.View.{tree_of};
-ghost use Rattle.ciborium.specs.inner.ByteSources.{HasTaken, IsUnread, MeansTree, ReadsValue};
-ghost use Rattle.ciborium.specs.Errors.{fault_of};
-ghost use Rattle.ciborium.specs.inner.ByteSources.{end_at, is_portable, weight_left};
-ghost use Rattle.ciborium.specs.inner.FrontItems.{Denies, Reads};
+ghost use Rattle.ciborium.specs.inner.ByteSources.{HasTaken, MeansTree, ReadsValue};
+ghost use Rattle.ciborium.specs.inner.ByteSources.{is_portable, weight_left};
+ghost use Rattle.ciborium.specs.inner.ByteSources.{AnswersItem};
 
 use crate::de::building::read_value;
 use crate::de::byte_source::ByteSource;
@@ -46,11 +45,8 @@ impl<'a, R: Read> ByteSource<'a, R> {
         ensures levels { self.new.levels ≡ self.old.levels }
         ensures pending { OnOk result (self.new.pending ≡ None) }
         ensures fewer { OnOk result (weight_left self.new < weight_left self.old) }
-        ensures ok { IfOk result (λ v. Reads (IsUnread R.remaining) self.old self.new
-            (Some self.old.levels) taken_value (tree_of v)) }
-        ensures denied { IfErr result
-            (λ e. Denies (IsUnread R.remaining) (end_at R.remaining) self.old
-            (Some self.old.levels) taken_value (fault_of e)) }
+        ensures answer { AnswersItem R.remaining self.old self.new (Some self.old.levels)
+            taken_value tree_of result }
         ensures reads { ReadsValue R.remaining self.old self.new (read_as tree_of result) }
     {
         match self.pending.take() {

@@ -20,7 +20,7 @@ returns-in_err-header-clause-denied g c =
 pub returns-in_ok-seq-in-Map-clause-ok : goal.returns-in_ok-seq-in-Map-clause-ok
 returns-in_ok-seq-in-Map-clause-ok g c =
     let enter = c.in_ok-seq-in-Map.ensures in
-    let same = c.in_ok-header.ensures.levels in
+    let same = c.in_ok-header.ensures.reads.levels in
     map-entered g.R.Read.remaining c.args.self.now c.bare_head.new.self c.enter.new.self c.in-Map.count c.in_ok-seq-in-Map.seq same (enter.decoder, enter.pending, enter.some, enter.levels, enter.left) taken_pairs (λ l ps. gives (l, ps))
     (subst (TakesBare (IsUnread g.R.Read.remaining) c.args.self.now c.bare_head.new.self false) c.in-Map.is c.in_ok-header.ensures.head) (pairs-given c.args.self.now.levels (λ z. enter.some (same ∙ z)))
 
@@ -31,10 +31,10 @@ returns-in_err-seq-in-Map-clause-denied g c =
     let l = Some c.args.self.now.levels in
     let fault : fault_of c.in_err-seq-in-Map.field-0.0 ≡ of_nesting = ap fault_of c.in_err-seq-in-Map.ensures.err in
     rw (exit.1, exit.2) (subst (λ f. Denies U (end_at g.R.Read.remaining) c.args.self.now l taken_pairs f) (sym fault) (denies-bare U false (header.Map c.in-Map.count) l taken_pairs (end_at g.R.Read.remaining) c.args.self.now c.bare_head.new.self of_nesting
-    (subst (TakesBare U c.args.self.now c.bare_head.new.self false) c.in-Map.is c.in_ok-header.ensures.head) (map-nests c.args.self.now.levels c.in-Map.count (sym c.in_ok-header.ensures.levels ∙ c.in_err-seq-in-Map.ensures.none))))
+    (subst (TakesBare U c.args.self.now c.bare_head.new.self false) c.in-Map.is c.in_ok-header.ensures.head) (map-nests c.args.self.now.levels c.in-Map.count (sym c.in_ok-header.ensures.reads.levels ∙ c.in_err-seq-in-Map.ensures.none))))
 
 pub returns-in_default-clause-denied : goal.returns-in_default-clause-denied
 returns-in_default-clause-denied g c =
     let l = Some c.args.self.now.levels in
     denies-bare (IsUnread g.R.Read.remaining) false c.in_ok-header.header l taken_pairs (end_at g.R.Read.remaining) c.args.self.now c.bare_head.new.self (of_kind kinds.Map) c.in_ok-header.ensures.head
-    (map-other l c.in_ok-header.header c.in_ok-header.ensures.bare c.in_default.not-Map)
+    (map-other l c.in_ok-header.header c.in_ok-header.ensures.reads.bare c.in_default.not-Map)

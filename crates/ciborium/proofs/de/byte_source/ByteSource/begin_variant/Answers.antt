@@ -28,7 +28,7 @@ returns-in_err-level-in-Text-clause-denied g c =
     let l = Some c.args.self.now.levels in
     let fault : fault_of c.in_err-level-in-Text.field-0.0 ≡ of_nesting = ap fault_of c.in_err-level-in-Text.ensures.err in
     rw (exit.1, exit.2) (subst (Denies U (end_at g.R.Read.remaining) c.args.self.now l taken_variant) (sym fault) (denies-bare U false (header.Text c.in-Text.len) l taken_variant (end_at g.R.Read.remaining) c.args.self.now c.bare_head.new.self of_nesting
-    (subst (TakesBare U c.args.self.now c.bare_head.new.self false) c.in-Text.is c.in_ok-header.ensures.head) (text-nests c.args.self.now.levels c.in-Text.len (sym c.in_ok-header.ensures.levels ∙ c.in_err-level-in-Text.ensures.none))))
+    (subst (TakesBare U c.args.self.now c.bare_head.new.self false) c.in-Text.is c.in_ok-header.ensures.head) (text-nests c.args.self.now.levels c.in-Text.len (sym c.in_ok-header.ensures.reads.levels ∙ c.in_err-level-in-Text.ensures.none))))
 
 pub returns-in_err-level-in-Map-clause-denied : goal.returns-in_err-level-in-Map-clause-denied
 returns-in_err-level-in-Map-clause-denied g c =
@@ -37,7 +37,7 @@ returns-in_err-level-in-Map-clause-denied g c =
     let l = Some c.args.self.now.levels in
     let fault : fault_of c.in_err-level-in-Map.field-0.0 ≡ of_nesting = ap fault_of c.in_err-level-in-Map.ensures.err in
     rw (exit.1, exit.2) (subst (Denies U (end_at g.R.Read.remaining) c.args.self.now l taken_variant) (sym fault) (denies-bare U false (header.Map (Some 1)) l taken_variant (end_at g.R.Read.remaining) c.args.self.now c.bare_head.new.self of_nesting
-    (subst (TakesBare U c.args.self.now c.bare_head.new.self false) (c.in-Map.is ∙ ap header.Map c.if-not-is_one.ensures) c.in_ok-header.ensures.head) (pair-nests c.args.self.now.levels (sym c.in_ok-header.ensures.levels ∙ c.in_err-level-in-Map.ensures.none))))
+    (subst (TakesBare U c.args.self.now c.bare_head.new.self false) (c.in-Map.is ∙ ap header.Map c.if-not-is_one.ensures) c.in_ok-header.ensures.head) (pair-nests c.args.self.now.levels (sym c.in_ok-header.ensures.reads.levels ∙ c.in_err-level-in-Map.ensures.none))))
 
 pub returns-in_err-name-in-Text-clause-denied : goal.returns-in_err-name-in-Text-clause-denied
 returns-in_err-name-in-Text-clause-denied g c =
@@ -46,7 +46,7 @@ returns-in_err-name-in-Text-clause-denied g c =
     let fault = fault_of c.in_err-name-in-Text.field-0.0 in
     let level = c.in_ok-level-in-Text.ensures in
     rw (exit.1, exit.2) (denies-of-item U (end_at g.R.Read.remaining) (Some c.args.self.now.levels) taken_variant c.args.self.now fault
-    (denies-content U (end_at g.R.Read.remaining) false c.args.self.now c.bare_head.new.self of_text c.in-Text.len fault (same-end g.R.Read.remaining c.args.self.now c.bare_head.new.self c.in_ok-header.ensures.only)
+    (denies-content U (end_at g.R.Read.remaining) false c.args.self.now c.bare_head.new.self of_text c.in-Text.len fault (same-end g.R.Read.remaining c.args.self.now c.bare_head.new.self c.in_ok-header.ensures.reads.only)
     (subst (TakesBare U c.args.self.now c.bare_head.new.self false) c.in-Text.is c.in_ok-header.ensures.head)
     (λ y x s z payload u hd sp e. subst (λ d. IsOutsideFault (reader_of g.R.Read.remaining d).1 fault) level.decoder
     (c.in_err-name-in-Text.ensures.denied y x s z payload (same-unread g.R.Read.remaining c.bare_head.new.self c.take_level.new.self level.decoder level.pending y u) hd sp e))))
@@ -57,7 +57,7 @@ returns-in_ok-name-in-Text-clause-ok g c =
     let new = c.text_content.new.self in
     let level = c.in_ok-level-in-Text.ensures in
     let less = level.some.1 in
-    let same = c.in_ok-header.ensures.levels in
+    let same = c.in_ok-header.ensures.reads.levels in
     text-opened U c.args.self.now c.bare_head.new.self (record new { pending = Some (header.Simple 22, c.in_ok-header.offset) }) c.args.self.now.levels (λ z. absurd (omega (arith, z, less, same))) c.in-Text.len (string_bytes c.in_ok-name-in-Text.name)
     (subst (TakesBare U c.args.self.now c.bare_head.new.self false) c.in-Text.is c.in_ok-header.ensures.head)
     (λ y u.
@@ -69,12 +69,12 @@ returns-in_ok-name-in-Map-clause-ok g c =
     let U = IsUnread g.R.Read.remaining in
     let level = c.in_ok-level-in-Map.ensures in
     let less = level.some.1 in
-    let same = c.in_ok-header.ensures.levels in
+    let same = c.in_ok-header.ensures.reads.levels in
     let some : c.args.self.now.levels ≢ 0 = λ z. absurd (omega (arith, z, less, same)) in
     let inner : Some c.take_level-in-Map.new.self.levels ≡ deeper (Some c.args.self.now.levels) = ap Some (omega (arith, less, same)) ∙ sym (deeper-is c.args.self.now.levels some) in
     pair-opened U c.args.self.now c.bare_head.new.self c.take_level-in-Map.new.self c.name.new.self c.args.self.now.levels some (same-unread g.R.Read.remaining c.bare_head.new.self c.take_level-in-Map.new.self level.decoder level.pending) (string_bytes c.in_ok-name-in-Map.name)
     (subst (TakesBare U c.args.self.now c.bare_head.new.self false) (c.in-Map.is ∙ ap header.Map c.if-not-is_one.ensures) c.in_ok-header.ensures.head)
-    (subst (λ l. Reads U c.take_level-in-Map.new.self c.name.new.self l taken_name (string_bytes c.in_ok-name-in-Map.name)) inner c.in_ok-name-in-Map.ensures.ok)
+    (subst (λ l. Reads U c.take_level-in-Map.new.self c.name.new.self l taken_name (string_bytes c.in_ok-name-in-Map.name)) inner c.in_ok-name-in-Map.ensures.answer)
 
 pub returns-in_err-name-in-Map-clause-denied : goal.returns-in_err-name-in-Map-clause-denied
 returns-in_err-name-in-Map-clause-denied g c =
@@ -83,21 +83,21 @@ returns-in_err-name-in-Map-clause-denied g c =
     let fault = fault_of c.in_err-name-in-Map.field-0.0 in
     let level = c.in_ok-level-in-Map.ensures in
     let less = level.some.1 in
-    let same = c.in_ok-header.ensures.levels in
+    let same = c.in_ok-header.ensures.reads.levels in
     let some : c.args.self.now.levels ≢ 0 = λ z. absurd (omega (arith, z, less, same)) in
     let inner : Some c.take_level-in-Map.new.self.levels ≡ deeper (Some c.args.self.now.levels) = ap Some (omega (arith, less, same)) ∙ sym (deeper-is c.args.self.now.levels some) in
-    rw (exit.1, exit.2) (key-denied U c.args.self.now c.bare_head.new.self c.take_level-in-Map.new.self c.take_level-in-Map.new.self c.args.self.now.levels some (same-unread g.R.Read.remaining c.bare_head.new.self c.take_level-in-Map.new.self level.decoder level.pending) (end_at g.R.Read.remaining) fault (λ b u. ap (λ d. (reader_of g.R.Read.remaining d).1) level.decoder ∙ same-end g.R.Read.remaining c.args.self.now c.bare_head.new.self c.in_ok-header.ensures.only b u)
+    rw (exit.1, exit.2) (key-denied U c.args.self.now c.bare_head.new.self c.take_level-in-Map.new.self c.take_level-in-Map.new.self c.args.self.now.levels some (same-unread g.R.Read.remaining c.bare_head.new.self c.take_level-in-Map.new.self level.decoder level.pending) (end_at g.R.Read.remaining) fault (λ b u. ap (λ d. (reader_of g.R.Read.remaining d).1) level.decoder ∙ same-end g.R.Read.remaining c.args.self.now c.bare_head.new.self c.in_ok-header.ensures.reads.only b u)
     (subst (TakesBare U c.args.self.now c.bare_head.new.self false) (c.in-Map.is ∙ ap header.Map c.if-not-is_one.ensures) c.in_ok-header.ensures.head)
-    (subst (λ l. Denies U (end_at g.R.Read.remaining) c.take_level-in-Map.new.self l taken_name fault) inner c.in_err-name-in-Map.ensures.denied))
+    (subst (λ l. Denies U (end_at g.R.Read.remaining) c.take_level-in-Map.new.self l taken_name fault) inner c.in_err-name-in-Map.ensures.answer))
 
 pub returns-then-not-is_one-clause-denied : goal.returns-then-not-is_one-clause-denied
 returns-then-not-is_one-clause-denied g c =
     let l = Some c.args.self.now.levels in
     denies-bare (IsUnread g.R.Read.remaining) false c.in_ok-header.header l taken_variant (end_at g.R.Read.remaining) c.args.self.now c.bare_head.new.self (of_kind kinds.Variant) c.in_ok-header.ensures.head
-    (variant-other l c.in_ok-header.header c.in_ok-header.ensures.bare (map-no-text c.in_ok-header.header c.in-Map.count c.in-Map.is) (map-not-one c.in_ok-header.header c.in-Map.count c.in-Map.is c.if-not-is_one.ensures))
+    (variant-other l c.in_ok-header.header c.in_ok-header.ensures.reads.bare (map-no-text c.in_ok-header.header c.in-Map.count c.in-Map.is) (map-not-one c.in_ok-header.header c.in-Map.count c.in-Map.is c.if-not-is_one.ensures))
 
 pub returns-in_default-clause-denied : goal.returns-in_default-clause-denied
 returns-in_default-clause-denied g c =
     let l = Some c.args.self.now.levels in
     denies-bare (IsUnread g.R.Read.remaining) false c.in_ok-header.header l taken_variant (end_at g.R.Read.remaining) c.args.self.now c.bare_head.new.self (of_kind kinds.Variant) c.in_ok-header.ensures.head
-    (variant-other l c.in_ok-header.header c.in_ok-header.ensures.bare c.in_default.not-Text (c.in_default.not-Map (Some 1)))
+    (variant-other l c.in_ok-header.header c.in_ok-header.ensures.reads.bare c.in_default.not-Text (c.in_default.not-Map (Some 1)))

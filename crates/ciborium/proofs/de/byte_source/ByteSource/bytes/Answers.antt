@@ -30,8 +30,8 @@ pub returns-in_ok-bytes-in-Bytes-clause-ok : goal.returns-in_ok-bytes-in-Bytes-c
 returns-in_ok-bytes-in-Bytes-clause-ok g c =
     let content = c.in_ok-bytes-in-Bytes.ensures in
     let payload = c.in_ok-bytes-in-Bytes.bytes.items in
-    takes-read g.R.Read.remaining c.args.self.now c.bytes_content.new.self taken_bytes payload (content.same_reader ∙ c.in_ok-header.ensures.same_reader, λ first h. content.only first (c.in_ok-header.ensures.only first h)) (content.levels ∙ c.in_ok-header.ensures.levels) content.pending
-    (let (some, two) = weight-bounds c.in_ok-header.header in let none = ap pending_head_weight content.pending in omega (arith, some, none, content.fewer, c.in_ok-header.ensures.fewer))
+    takes-read g.R.Read.remaining c.args.self.now c.bytes_content.new.self taken_bytes payload (content.same_reader ∙ c.in_ok-header.ensures.reads.same_reader, λ first h. content.only first (c.in_ok-header.ensures.reads.only first h)) (content.levels ∙ c.in_ok-header.ensures.reads.levels) content.pending
+    (let (some, two) = weight-bounds c.in_ok-header.header in let none = ap pending_head_weight content.pending in omega (arith, some, none, content.fewer, c.in_ok-header.ensures.reads.fewer))
     (bytes-read g.R.Read.remaining c.args.self.now c.bare_head.new.self c.bytes_content.new.self c.in-Bytes.len payload
     (subst (TakesBare (IsUnread g.R.Read.remaining) c.args.self.now c.bare_head.new.self false) c.in-Bytes.is c.in_ok-header.ensures.head) content.ok)
 
@@ -47,7 +47,7 @@ returns-in_err-bytes-in-Bytes-clause-refused g c =
     let exit = err_from_is_err_and c.from_residual-in_err-bytes-in-Bytes.result c.from_residual-in_err-bytes-in-Bytes.ensures.1 in
     let fault = fault_of c.in_err-bytes-in-Bytes.field-0.0 in
     rw (exit.1, exit.2) (refuses-denied g.R.Read.remaining c.args.self.now taken_bytes fault (denies-of-item (IsUnread g.R.Read.remaining) (end_at g.R.Read.remaining) (Some c.args.self.now.levels) taken_bytes c.args.self.now fault
-    (denies-content (IsUnread g.R.Read.remaining) (end_at g.R.Read.remaining) false c.args.self.now c.bare_head.new.self of_bytes c.in-Bytes.len fault (same-end g.R.Read.remaining c.args.self.now c.bare_head.new.self c.in_ok-header.ensures.only)
+    (denies-content (IsUnread g.R.Read.remaining) (end_at g.R.Read.remaining) false c.args.self.now c.bare_head.new.self of_bytes c.in-Bytes.len fault (same-end g.R.Read.remaining c.args.self.now c.bare_head.new.self c.in_ok-header.ensures.reads.only)
     (subst (TakesBare (IsUnread g.R.Read.remaining) c.args.self.now c.bare_head.new.self false) c.in-Bytes.is c.in_ok-header.ensures.head) c.in_err-bytes-in-Bytes.ensures.denied)))
 
 -- ---- an array
@@ -60,40 +60,40 @@ returns-in_err-seq-in-Array-clause-refused g c =
     let fault : fault_of c.in_err-seq-in-Array.field-0.0 ≡ of_nesting = ap fault_of c.in_err-seq-in-Array.ensures.err in
     rw (exit.1, exit.2) (refuses-denied g.R.Read.remaining c.args.self.now taken_bytes (fault_of c.in_err-seq-in-Array.field-0.0)
     (subst (λ f. Denies U (end_at g.R.Read.remaining) c.args.self.now l taken_bytes f) (sym fault) (denies-bare U false (header.Array c.in-Array.count) l taken_bytes (end_at g.R.Read.remaining) c.args.self.now c.bare_head.new.self of_nesting
-    (subst (TakesBare U c.args.self.now c.bare_head.new.self false) c.in-Array.is c.in_ok-header.ensures.head) (array-nests c.args.self.now.levels c.in-Array.count (sym c.in_ok-header.ensures.levels ∙ c.in_err-seq-in-Array.ensures.none)))))
+    (subst (TakesBare U c.args.self.now c.bare_head.new.self false) c.in-Array.is c.in_ok-header.ensures.head) (array-nests c.args.self.now.levels c.in-Array.count (sym c.in_ok-header.ensures.reads.levels ∙ c.in_err-seq-in-Array.ensures.none)))))
 
 pub returns-in_ok-bytes-in-Array-clause-ok : goal.returns-in_ok-bytes-in-Array-clause-ok
 returns-in_ok-bytes-in-Array-clause-ok g c =
     let enter = c.in_ok-seq-in-Array.ensures in
-    let same = c.in_ok-header.ensures.levels in
+    let same = c.in_ok-header.ensures.reads.levels in
     let opens : EntersItemsUnread g.R.Read.remaining c.args.self.now c.enter.new.self taken_bytes (λ l is. take_each (taken_byte l) is) c.in_ok-seq-in-Array.seq =
     array-entered g.R.Read.remaining c.args.self.now c.bare_head.new.self c.enter.new.self c.in-Array.count c.in_ok-seq-in-Array.seq same (enter.decoder, enter.pending, enter.some, enter.levels, enter.left) taken_bytes (λ l is. take_each (taken_byte l) is)
     (subst (TakesBare (IsUnread g.R.Read.remaining) c.args.self.now c.bare_head.new.self false) c.in-Array.is c.in_ok-header.ensures.head) (bytes-given c.args.self.now.levels (λ z. enter.some (same ∙ z))) in
-    array-takes g.R.Read.remaining c.args.self.now c.enter.new.self c.in_ok-seq-in-Array.seq (ap source_of enter.decoder ∙ c.in_ok-header.ensures.same_reader, λ first h. subst (HasTaken g.R.Read.remaining first) (sym enter.decoder) (c.in_ok-header.ensures.only first h)) (enter.back ∙ same) (enter.pending ∙ c.in_ok-header.ensures.pending)
-    (entered-fewer c.args.self.now c.bare_head.new.self c.enter.new.self c.in_ok-header.header enter.decoder (enter.pending ∙ c.in_ok-header.ensures.pending) c.in_ok-header.ensures.fewer) opens
+    array-takes g.R.Read.remaining c.args.self.now c.enter.new.self c.in_ok-seq-in-Array.seq (ap source_of enter.decoder ∙ c.in_ok-header.ensures.reads.same_reader, λ first h. subst (HasTaken g.R.Read.remaining first) (sym enter.decoder) (c.in_ok-header.ensures.reads.only first h)) (enter.back ∙ same) (enter.pending ∙ c.in_ok-header.ensures.reads.pending)
+    (entered-fewer c.args.self.now c.bare_head.new.self c.enter.new.self c.in_ok-header.header enter.decoder (enter.pending ∙ c.in_ok-header.ensures.reads.pending) c.in_ok-header.ensures.reads.fewer) opens
     c.read_byte_items.new.self c.in_ok-bytes-in-Array.bytes.items c.in_ok-bytes-in-Array.ensures.ok
 
 pub returns-in_ok-bytes-in-Array-clause-took : goal.returns-in_ok-bytes-in-Array-clause-took
 returns-in_ok-bytes-in-Array-clause-took g c =
     let enter = c.in_ok-seq-in-Array.ensures in
-    let same = c.in_ok-header.ensures.levels in
+    let same = c.in_ok-header.ensures.reads.levels in
     let opens : EntersItemsUnread g.R.Read.remaining c.args.self.now c.enter.new.self taken_bytes (λ l is. take_each (taken_byte l) is) c.in_ok-seq-in-Array.seq =
     array-entered g.R.Read.remaining c.args.self.now c.bare_head.new.self c.enter.new.self c.in-Array.count c.in_ok-seq-in-Array.seq same (enter.decoder, enter.pending, enter.some, enter.levels, enter.left) taken_bytes (λ l is. take_each (taken_byte l) is)
     (subst (TakesBare (IsUnread g.R.Read.remaining) c.args.self.now c.bare_head.new.self false) c.in-Array.is c.in_ok-header.ensures.head) (bytes-given c.args.self.now.levels (λ z. enter.some (same ∙ z))) in
-    array-took g.R.Read.remaining c.args.self.now c.enter.new.self c.in_ok-seq-in-Array.seq (ap source_of enter.decoder ∙ c.in_ok-header.ensures.same_reader, λ first h. subst (HasTaken g.R.Read.remaining first) (sym enter.decoder) (c.in_ok-header.ensures.only first h)) (enter.back ∙ same) (enter.pending ∙ c.in_ok-header.ensures.pending)
-    (entered-fewer c.args.self.now c.bare_head.new.self c.enter.new.self c.in_ok-header.header enter.decoder (enter.pending ∙ c.in_ok-header.ensures.pending) c.in_ok-header.ensures.fewer) opens
+    array-took g.R.Read.remaining c.args.self.now c.enter.new.self c.in_ok-seq-in-Array.seq (ap source_of enter.decoder ∙ c.in_ok-header.ensures.reads.same_reader, λ first h. subst (HasTaken g.R.Read.remaining first) (sym enter.decoder) (c.in_ok-header.ensures.reads.only first h)) (enter.back ∙ same) (enter.pending ∙ c.in_ok-header.ensures.reads.pending)
+    (entered-fewer c.args.self.now c.bare_head.new.self c.enter.new.self c.in_ok-header.header enter.decoder (enter.pending ∙ c.in_ok-header.ensures.reads.pending) c.in_ok-header.ensures.reads.fewer) opens
     c.read_byte_items.new.self c.in_ok-bytes-in-Array.ensures.took
 
 pub returns-in_err-bytes-in-Array-clause-refused : goal.returns-in_err-bytes-in-Array-clause-refused
 returns-in_err-bytes-in-Array-clause-refused g c =
     let exit = err_from_is_err_and c.from_residual-in_err-bytes-in-Array.result c.from_residual-in_err-bytes-in-Array.ensures.1 in
     let enter = c.in_ok-seq-in-Array.ensures in
-    let same = c.in_ok-header.ensures.levels in
+    let same = c.in_ok-header.ensures.reads.levels in
     let opens : EntersItemsUnread g.R.Read.remaining c.args.self.now c.enter.new.self taken_bytes (λ l is. take_each (taken_byte l) is) c.in_ok-seq-in-Array.seq =
     array-entered g.R.Read.remaining c.args.self.now c.bare_head.new.self c.enter.new.self c.in-Array.count c.in_ok-seq-in-Array.seq same (enter.decoder, enter.pending, enter.some, enter.levels, enter.left) taken_bytes (λ l is. take_each (taken_byte l) is)
     (subst (TakesBare (IsUnread g.R.Read.remaining) c.args.self.now c.bare_head.new.self false) c.in-Array.is c.in_ok-header.ensures.head) (bytes-given c.args.self.now.levels (λ z. enter.some (same ∙ z))) in
-    rw (exit.1, exit.2) (array-refuses g.R.Read.remaining c.args.self.now c.enter.new.self c.in_ok-seq-in-Array.seq (ap source_of enter.decoder ∙ c.in_ok-header.ensures.same_reader, λ first h. subst (HasTaken g.R.Read.remaining first) (sym enter.decoder) (c.in_ok-header.ensures.only first h)) (enter.back ∙ same) (enter.pending ∙ c.in_ok-header.ensures.pending)
-    (entered-fewer c.args.self.now c.bare_head.new.self c.enter.new.self c.in_ok-header.header enter.decoder (enter.pending ∙ c.in_ok-header.ensures.pending) c.in_ok-header.ensures.fewer) opens
+    rw (exit.1, exit.2) (array-refuses g.R.Read.remaining c.args.self.now c.enter.new.self c.in_ok-seq-in-Array.seq (ap source_of enter.decoder ∙ c.in_ok-header.ensures.reads.same_reader, λ first h. subst (HasTaken g.R.Read.remaining first) (sym enter.decoder) (c.in_ok-header.ensures.reads.only first h)) (enter.back ∙ same) (enter.pending ∙ c.in_ok-header.ensures.reads.pending)
+    (entered-fewer c.args.self.now c.bare_head.new.self c.enter.new.self c.in_ok-header.header enter.decoder (enter.pending ∙ c.in_ok-header.ensures.reads.pending) c.in_ok-header.ensures.reads.fewer) opens
     (fault_of c.in_err-bytes-in-Array.field-0.0) c.in_err-bytes-in-Array.ensures.refused)
 
 pub returns-in_default-clause-refused : goal.returns-in_default-clause-refused
@@ -101,4 +101,4 @@ returns-in_default-clause-refused g c =
     let l = Some c.args.self.now.levels in
     refuses-denied g.R.Read.remaining c.args.self.now taken_bytes (of_kind kinds.Bytes)
     (denies-bare (IsUnread g.R.Read.remaining) false c.in_ok-header.header l taken_bytes (end_at g.R.Read.remaining) c.args.self.now c.bare_head.new.self (of_kind kinds.Bytes) c.in_ok-header.ensures.head
-    (bytes-other l c.in_ok-header.header c.in_ok-header.ensures.bare c.in_default.not-Array c.in_default.not-Bytes))
+    (bytes-other l c.in_ok-header.header c.in_ok-header.ensures.reads.bare c.in_default.not-Array c.in_default.not-Bytes))

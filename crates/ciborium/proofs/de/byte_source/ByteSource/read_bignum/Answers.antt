@@ -10,34 +10,34 @@ use Rattle.ciborium.proofs.Payloads.OpenNumbers.{bignum-reads, bignum-large, big
 use Rattle.ciborium.proofs.Items.TakenOnly.{same-end}
 use Rattle.ciborium.proofs.de.byte_source.ByteSource.read_bignum.Goals as goal
 
-pub returns-in_err-header-clause-denied : goal.returns-in_err-header-clause-denied
-returns-in_err-header-clause-denied g c =
+pub returns-in_err-header-clause-answer : goal.returns-in_err-header-clause-answer
+returns-in_err-header-clause-answer g c =
     let exit = err_from_is_err_and c.from_residual.result c.from_residual.ensures.1 in
     rw (exit.1, exit.2) (bignum-no-head (IsUnread g.R.Read.remaining) (end_at g.R.Read.remaining) c.args.self.now c.next_head.new.self (fault_of c.in_err-header.field-0.0) c.in_err-header.ensures.denied)
 
-pub returns-in_err-number-in-Bytes-clause-denied : goal.returns-in_err-number-in-Bytes-clause-denied
-returns-in_err-number-in-Bytes-clause-denied g c =
+pub returns-in_err-number-in-Bytes-clause-answer : goal.returns-in_err-number-in-Bytes-clause-answer
+returns-in_err-number-in-Bytes-clause-answer g c =
     let exit = err_from_is_err_and c.from_residual-in_err-number-in-Bytes.result c.from_residual-in_err-number-in-Bytes.ensures.1 in
     rw (exit.1, exit.2) (bignum-content (IsUnread g.R.Read.remaining) (end_at g.R.Read.remaining) c.args.self.now c.next_head.new.self c.in-Bytes.len (fault_of c.in_err-number-in-Bytes.field-0.0) (same-end g.R.Read.remaining c.args.self.now c.next_head.new.self c.in_ok-header.ensures.only)
     (subst (TakesHead (IsUnread g.R.Read.remaining) c.args.self.now c.next_head.new.self) c.in-Bytes.is c.in_ok-header.ensures.head) c.in_err-number-in-Bytes.ensures.denied)
 
-pub returns-in-Some-clause-ok : goal.returns-in-Some-clause-ok
-returns-in-Some-clause-ok g c =
+pub returns-in-Some-clause-answer : goal.returns-in-Some-clause-answer
+returns-in-Some-clause-answer g c =
     let U = IsUnread g.R.Read.remaining in
     bignum-reads U (end_at g.R.Read.remaining) c.args.self.now c.next_head.new.self c.read_number.new.self c.in-Bytes.len c.in-Some.n (subst (TakesHead U c.args.self.now c.next_head.new.self) c.in-Bytes.is c.in_ok-header.ensures.head)
     (subst (TakesNumber (U c.next_head.new.self) (U c.read_number.new.self) c.in-Bytes.len) c.in-Some.is c.in_ok-number-in-Bytes.ensures.ok)
 
-pub returns-in-None-clause-denied : goal.returns-in-None-clause-denied
-returns-in-None-clause-denied g c =
+pub returns-in-None-clause-answer : goal.returns-in-None-clause-answer
+returns-in-None-clause-answer g c =
     let U = IsUnread g.R.Read.remaining in
     bignum-large U (end_at g.R.Read.remaining) c.args.self.now c.next_head.new.self (U c.read_number.new.self) c.in-Bytes.len (subst (TakesHead U c.args.self.now c.next_head.new.self) c.in-Bytes.is c.in_ok-header.ensures.head)
     (subst (TakesNumber (U c.next_head.new.self) (U c.read_number.new.self) c.in-Bytes.len) c.in-None.is c.in_ok-number-in-Bytes.ensures.ok)
 
-pub returns-in-Break-clause-denied : goal.returns-in-Break-clause-denied
-returns-in-Break-clause-denied g c =
+pub returns-in-Break-clause-answer : goal.returns-in-Break-clause-answer
+returns-in-Break-clause-answer g c =
     let U = IsUnread g.R.Read.remaining in
     bignum-break U (end_at g.R.Read.remaining) c.args.self.now c.next_head.new.self (of_kind kinds.Break) (subst (TakesHead U c.args.self.now c.next_head.new.self) c.in-Break.is c.in_ok-header.ensures.head)
 
-pub returns-in_default-clause-denied : goal.returns-in_default-clause-denied
-returns-in_default-clause-denied g c =
+pub returns-in_default-clause-answer : goal.returns-in_default-clause-answer
+returns-in_default-clause-answer g c =
     bignum-other (IsUnread g.R.Read.remaining) (end_at g.R.Read.remaining) c.args.self.now c.next_head.new.self c.in_ok-header.header c.in_ok-header.ensures.head c.in_default.not-Bytes

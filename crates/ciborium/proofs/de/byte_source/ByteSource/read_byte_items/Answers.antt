@@ -46,7 +46,7 @@ returns-in_err-number-clause-refused g c =
     let goes = yes (GoesOn (StandsBefore g.R.Read.remaining) SeqStands c.items.self c.next_part.new.self c.items.left c.next_part.new.seq) (Leaves (StandsBefore g.R.Read.remaining) SeqStands c.items.self c.next_part.new.self c.items.left)
     c.in_ok-goes_on.goes_on c.if-not-goes_on.false c.in_ok-goes_on.ensures.ok in
     rw (exit.1, exit.2) (partly-fault g.R.Read.remaining taken_byte c.args.self.now c.args.seq c.items.self c.next_part.new.self c.items.left c.next_part.new.seq c.items.bytes.items fault c.items.invariant.read goes
-    (byte-refuses g.R.Read.remaining c.next_part.new.self fault (refuses-denied g.R.Read.remaining c.next_part.new.self taken_integer fault c.in_err-number.ensures.denied)))
+    (byte-refuses g.R.Read.remaining c.next_part.new.self fault (refuses-denied g.R.Read.remaining c.next_part.new.self taken_integer fault c.in_err-number.ensures.answer)))
 
 pub returns-in_err-byte-clause-refused : goal.returns-in_err-byte-clause-refused
 returns-in_err-byte-clause-refused g c =
@@ -57,7 +57,7 @@ returns-in_err-byte-clause-refused g c =
     c.in_ok-goes_on.goes_on c.if-not-goes_on.false c.in_ok-goes_on.ensures.ok in
     rw (exit.1, exit.2) (partly-fault g.R.Read.remaining taken_byte c.args.self.now c.args.seq c.items.self c.next_part.new.self c.items.left c.next_part.new.seq c.items.bytes.items fault c.items.invariant.read goes
     (range-refuses g.R.Read.remaining c.next_part.new.self c.read_integer.new.self c.in_ok-number.number fault c.in_err-byte.ensures.refused
-    (takes-read g.R.Read.remaining c.next_part.new.self c.read_integer.new.self taken_integer c.in_ok-number.number (read.same_reader, read.only) read.levels read.pending read.fewer read.ok)))
+    (takes-read g.R.Read.remaining c.next_part.new.self c.read_integer.new.self taken_integer c.in_ok-number.number (read.keeps.same_reader, read.keeps.only) read.levels read.keeps.pending read.fewer read.answer)))
 
 pub items-preserved : goal.items-preserved
 items-preserved g c =
@@ -68,12 +68,12 @@ items-preserved g c =
     c.in_ok-goes_on.goes_on c.if-not-goes_on.false c.in_ok-goes_on.ensures.took in
     let takes : TakesAhead (StandsBefore g.R.Read.remaining) c.next_part.new.self c.read_integer.new.self taken_byte c.in_ok-byte.byte =
     byte-takes g.R.Read.remaining c.next_part.new.self c.read_integer.new.self c.in_ok-number.number c.in_ok-byte.byte c.in_ok-byte.ensures.ok
-    (takes-read g.R.Read.remaining c.next_part.new.self c.read_integer.new.self taken_integer c.in_ok-number.number (read.same_reader, read.only) read.levels read.pending read.fewer read.ok) in record {
-      same_reader = read.same_reader ∙ c.in_ok-goes_on.ensures.same_reader ∙ c.items.invariant.same_reader;
-      only = λ first h. read.only first (c.in_ok-goes_on.ensures.only first (c.items.invariant.only first h));
+    (takes-read g.R.Read.remaining c.next_part.new.self c.read_integer.new.self taken_integer c.in_ok-number.number (read.keeps.same_reader, read.keeps.only) read.levels read.keeps.pending read.fewer read.answer) in record {
+      same_reader = read.keeps.same_reader ∙ c.in_ok-goes_on.ensures.same_reader ∙ c.items.invariant.same_reader;
+      only = λ first h. read.keeps.only first (c.in_ok-goes_on.ensures.only first (c.items.invariant.only first h));
       fewer = omega (arith, read.fewer, c.in_ok-goes_on.ensures.fewer, c.items.invariant.fewer);
       read = subst (λ vs. ReadsPartly g.R.Read.remaining taken_byte c.args.self.now c.args.seq c.read_integer.new.self c.next_part.new.seq vs) (sym c.in-Ok.ensures.items)
           (partly-more g.R.Read.remaining taken_byte c.args.self.now c.args.seq c.items.self c.next_part.new.self c.read_integer.new.self c.items.left c.next_part.new.seq c.items.bytes.items c.in_ok-byte.byte c.items.invariant.read goes takes);
       owes = owes-more g.R.Read.remaining taken_byte c.args.self.now c.args.seq c.items.self c.next_part.new.self c.read_integer.new.self c.items.left c.next_part.new.seq c.items.invariant.owes less
-          (took-read g.R.Read.remaining c.next_part.new.self c.read_integer.new.self (Some c.next_part.new.self.levels) taken_integer c.in_ok-number.number read.ok);
+          (took-read g.R.Read.remaining c.next_part.new.self c.read_integer.new.self (Some c.next_part.new.self.levels) taken_integer c.in_ok-number.number read.answer);
     }

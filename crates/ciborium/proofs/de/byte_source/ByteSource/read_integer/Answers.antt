@@ -15,8 +15,8 @@ use Rattle.ciborium.proofs.Items.SkippedTags.{denies-bare, denies-of-item, reads
 use Rattle.ciborium.proofs.Items.TakenOnly.{same-end}
 use Rattle.ciborium.proofs.de.byte_source.ByteSource.read_integer.Goals as goal
 
-pub returns-in_err-header-clause-denied : goal.returns-in_err-header-clause-denied
-returns-in_err-header-clause-denied g c =
+pub returns-in_err-header-clause-answer : goal.returns-in_err-header-clause-answer
+returns-in_err-header-clause-answer g c =
     let exit = err_from_is_err_and c.from_residual.result c.from_residual.ensures.1 in
     rw (exit.1, exit.2) (denies-of-item (IsUnread g.R.Read.remaining) (end_at g.R.Read.remaining) (Some c.args.self.now.levels) taken_integer c.args.self.now (fault_of c.in_err-header.field-0.0) c.in_err-header.ensures.denied)
 
@@ -24,8 +24,8 @@ either-sign : (h : Header) (n : ℕ) (P : Type 0) → (h ≡ header.Positive n) 
 either-sign h n P (inl is) positive below = positive is
 either-sign h n P (inr is) positive below = below is
 
-pub returns-in-Positive-clause-ok : goal.returns-in-Positive-clause-ok
-returns-in-Positive-clause-ok g c =
+pub returns-in-Positive-clause-answer : goal.returns-in-Positive-clause-answer
+returns-in-Positive-clause-answer g c =
     let U = IsUnread g.R.Read.remaining in
     let l = Some c.args.self.now.levels in
     let n = c.in-Positive.n in
@@ -38,28 +38,28 @@ returns-in-Positive-clause-ok g c =
     (subst (TakesBare U c.args.self.now c.bare_head.new.self true) is c.in_ok-header.ensures.head) (λ x hd. hd)
     (integer-gives l (negative n) v (ap (λ s. gives (s, n)) (sym (c.is_negative-negative.ensures.negative n is)) ∙ ap (λ m. gives (c.is_negative-negative.result, m)) (sym c.from.ensures))))
 
-pub returns-in_ok-number-in-Tag-clause-ok : goal.returns-in_ok-number-in-Tag-clause-ok
-returns-in_ok-number-in-Tag-clause-ok g c =
+pub returns-in_ok-number-in-Tag-clause-answer : goal.returns-in_ok-number-in-Tag-clause-answer
+returns-in_ok-number-in-Tag-clause-answer g c =
     let l = Some c.args.self.now.levels in
     let t = c.in-Tag.tag in
-    let bare : IsBare true (header.Tag t) = subst (IsBare true) c.in-Tag.is c.in_ok-header.ensures.bare in
+    let bare : IsBare true (header.Tag t) = subst (IsBare true) c.in-Tag.is c.in_ok-header.ensures.reads.bare in
     let v = c.in_ok-number-in-Tag.number.0 in
     subst (λ negative. Reads (IsUnread g.R.Read.remaining) c.args.self.now c.read_tagged.new.self l taken_integer (negative, v.1)) (sym c.in_ok-number-in-Tag.ensures.sign)
     (reads-bare (IsUnread g.R.Read.remaining) true (header.Tag t) l taken_integer c.args.self.now c.bare_head.new.self c.read_tagged.new.self (t == 3, v.1)
     (subst (TakesBare (IsUnread g.R.Read.remaining) c.args.self.now c.bare_head.new.self true) c.in-Tag.is c.in_ok-header.ensures.head)
-    (bignum-behind (IsUnread g.R.Read.remaining) t l bare.1 c.bare_head.new.self c.read_tagged.new.self v.1 c.in_ok-number-in-Tag.ensures.ok))
+    (bignum-behind (IsUnread g.R.Read.remaining) t l bare.1 c.bare_head.new.self c.read_tagged.new.self v.1 c.in_ok-number-in-Tag.ensures.answer))
 
-pub returns-in_err-number-in-Tag-clause-denied : goal.returns-in_err-number-in-Tag-clause-denied
-returns-in_err-number-in-Tag-clause-denied g c =
+pub returns-in_err-number-in-Tag-clause-answer : goal.returns-in_err-number-in-Tag-clause-answer
+returns-in_err-number-in-Tag-clause-answer g c =
     let l = Some c.args.self.now.levels in
     let t = c.in-Tag.tag in
     let exit = err_from_is_err_and c.from_residual-in_err-number-in-Tag.result c.from_residual-in_err-number-in-Tag.ensures.1 in
-    let bare : IsBare true (header.Tag t) = subst (IsBare true) c.in-Tag.is c.in_ok-header.ensures.bare in
-    rw (exit.1, exit.2) (bignum-denied (IsUnread g.R.Read.remaining) t l bare.1 (end_at g.R.Read.remaining) c.args.self.now c.bare_head.new.self (fault_of c.in_err-number-in-Tag.field-0.0) (same-end g.R.Read.remaining c.args.self.now c.bare_head.new.self c.in_ok-header.ensures.only)
-    (subst (TakesBare (IsUnread g.R.Read.remaining) c.args.self.now c.bare_head.new.self true) c.in-Tag.is c.in_ok-header.ensures.head) c.in_err-number-in-Tag.ensures.denied)
+    let bare : IsBare true (header.Tag t) = subst (IsBare true) c.in-Tag.is c.in_ok-header.ensures.reads.bare in
+    rw (exit.1, exit.2) (bignum-denied (IsUnread g.R.Read.remaining) t l bare.1 (end_at g.R.Read.remaining) c.args.self.now c.bare_head.new.self (fault_of c.in_err-number-in-Tag.field-0.0) (same-end g.R.Read.remaining c.args.self.now c.bare_head.new.self c.in_ok-header.ensures.reads.only)
+    (subst (TakesBare (IsUnread g.R.Read.remaining) c.args.self.now c.bare_head.new.self true) c.in-Tag.is c.in_ok-header.ensures.head) c.in_err-number-in-Tag.ensures.answer)
 
-pub returns-in_default-clause-denied : goal.returns-in_default-clause-denied
-returns-in_default-clause-denied g c =
+pub returns-in_default-clause-answer : goal.returns-in_default-clause-answer
+returns-in_default-clause-answer g c =
     let l = Some c.args.self.now.levels in
     denies-bare (IsUnread g.R.Read.remaining) true c.in_ok-header.header l taken_integer (end_at g.R.Read.remaining) c.args.self.now c.bare_head.new.self (of_kind kinds.Integer) c.in_ok-header.ensures.head
     (integer-other l c.in_ok-header.header c.in_default.not-Positive c.in_default.not-Negative c.in_default.not-Tag)

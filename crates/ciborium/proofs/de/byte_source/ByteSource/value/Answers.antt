@@ -12,14 +12,14 @@ use Rattle.ciborium_value.specs.Sources.{IsFaultOf}
 use Rattle.ciborium_value.specs.Taken.{taken_value}
 use Rattle.ciborium.proofs.de.byte_source.ByteSource.value.Goals as goal
 
-pub returns-in-Some-portable_value-clause-ok : goal.returns-in-Some-portable_value-clause-ok
-returns-in-Some-portable_value-clause-ok g c b u =
+pub returns-in-Some-portable_value-clause-answer : goal.returns-in-Some-portable_value-clause-answer
+returns-in-Some-portable_value-clause-answer g c b u =
     let d = c.args.self.now.decoder in
     let (i, s, z, sp, e, give, left) = portable-reads g.R.Read.remaining d c.args.self.now.pending c.in-Some.header c.in-Some.offset b (tree_of c.in-Some-portable_value.value) (Some c.args.self.now.levels) (sym c.take.ensures.value ∙ c.in-Some.is) c.in-Some-portable_value.ensures u in
     (i, s, z, sp, e, give, subst (λ o. IsUnreadBy g.R.Read.remaining d o z) (sym c.take.ensures.after) left)
 
-pub returns-in_ok-value-in-None-portable_value-clause-ok : goal.returns-in_ok-value-in-None-portable_value-clause-ok
-returns-in_ok-value-in-None-portable_value-clause-ok g c b u =
+pub returns-in_ok-value-in-None-portable_value-clause-answer : goal.returns-in_ok-value-in-None-portable_value-clause-answer
+returns-in_ok-value-in-None-portable_value-clause-answer g c b u =
     let d = c.args.self.now.decoder in
     let f = c.read_value.new.decoder in
     let pending = Some (c.in-Some.header, c.in-Some.offset) in
@@ -30,8 +30,8 @@ returns-in_ok-value-in-None-portable_value-clause-ok g c b u =
     (known-read g.R.Read.remaining Unit c.push.new.self f c.args.self.now.levels (Ok value) done.value b (next_offset d.window.count pending) ahead) in
     (i, s, z, sp, e, give, subst (λ o. IsUnreadBy g.R.Read.remaining f o z) (sym c.take.ensures.after) left)
 
-pub returns-in_ok-value-in-None-clause-ok : goal.returns-in_ok-value-in-None-clause-ok
-returns-in_ok-value-in-None-clause-ok g c b u =
+pub returns-in_ok-value-in-None-clause-answer : goal.returns-in_ok-value-in-None-clause-answer
+returns-in_ok-value-in-None-clause-answer g c b u =
     let d = c.args.self.now.decoder in
     let f = c.read_value-in-None.new.decoder in
     let value = c.in_ok-value-in-None.value in
@@ -40,8 +40,8 @@ returns-in_ok-value-in-None-clause-ok g c b u =
     let (i, s, z, sp, e, give, left) = whole-reads Unit g.R.Read.remaining f c.args.self.now.levels d.window.count b value done.rests (known-read g.R.Read.remaining Unit d f c.args.self.now.levels (Ok value) done.value b d.window.count ahead) in
     (i, s, z, sp, e, give, subst (λ o. IsUnreadBy g.R.Read.remaining f o z) (sym c.take.ensures.after) left)
 
-pub returns-in_err-value-in-None-portable_value-clause-denied : goal.returns-in_err-value-in-None-portable_value-clause-denied
-returns-in_err-value-in-None-portable_value-clause-denied g c =
+pub returns-in_err-value-in-None-portable_value-clause-answer : goal.returns-in_err-value-in-None-portable_value-clause-answer
+returns-in_err-value-in-None-portable_value-clause-answer g c =
     let exit = err_from_is_err_and c.from_residual.result c.from_residual.ensures.1 in
     let d = c.args.self.now.decoder in
     let f = c.read_value.new.decoder in
@@ -53,8 +53,8 @@ returns-in_err-value-in-None-portable_value-clause-denied g c =
     (whole-faults (left_of g.R.Read.remaining f) error c.args.self.now.levels (next_offset d.window.count pending) b s z i sp e
     (known-read g.R.Read.remaining Unit c.push.new.self f c.args.self.now.levels (Err error) c.in_err-value-in-None-portable_value.ensures.value b (next_offset d.window.count pending) ahead)))
 
-pub returns-in_err-value-in-None-clause-denied : goal.returns-in_err-value-in-None-clause-denied
-returns-in_err-value-in-None-clause-denied g c =
+pub returns-in_err-value-in-None-clause-answer : goal.returns-in_err-value-in-None-clause-answer
+returns-in_err-value-in-None-clause-answer g c =
     let exit = err_from_is_err_and c.from_residual-in_err-value-in-None.result c.from_residual-in_err-value-in-None.ensures.1 in
     let d = c.args.self.now.decoder in
     let f = c.read_value-in-None.new.decoder in
