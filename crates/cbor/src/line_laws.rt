@@ -3,8 +3,7 @@
 
 ghost use Rattle.cbor.specs.Laws.{IsAnswered, IsFormAnswered, IsNotationAnswered};
 ghost use Rattle.cbor.specs.Laws.{IsSequenceAnswered, ItemIsAnswered, OneAnswerToLine};
-ghost use Rattle.cbor.specs.Laws.{OneFormAnswer};
-ghost use Rattle.cbor.specs.Laws.{OneNotationAnswer, OneSequenceAnswer};
+ghost use Rattle.cbor.specs.Laws.{OneFormAnswer, OneNotationAnswer, OneSequenceAnswer};
 ghost use Rattle.cbor.specs.Laws.{RefusalIsAnswered, RefusedMeansNothing};
 
 use ciborium::laws::deterministic_or_refused;

@@ -3,8 +3,7 @@
 ghost use Rattle.std.specs.Prelude.{◌≡◌, ◌++◌, IfOk, IsTrue, OnOk, false};
 ghost use Rattle.ciborium_value.specs.View.{tree_of};
 ghost use Rattle.cbor.specs.Answer.{refused_text, wants_memory};
-ghost use Rattle.cbor.specs.Sequence.{AreSequence, HasSequenceAnswer, item_text};
-ghost use Rattle.cbor.specs.Sequence.{refused_item_text};
+ghost use Rattle.cbor.specs.Sequence.{AreSequence, HasSequenceAnswer, item_text, refused_item_text};
 
 use crate::answer::Refusal;
 use crate::items::{push_encoding, read_front};

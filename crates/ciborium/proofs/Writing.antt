@@ -2,5 +2,4 @@
 pub mod WritingSteps
 pub mod WrittenPlaces
 pub mod ByteSinks
-pub mod ArrayItems
 pub mod WrittenSequences

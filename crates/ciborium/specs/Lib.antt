@@ -2,7 +2,6 @@ pub mod Spelling
 pub mod Errors
 pub mod Writes
 pub mod DeterministicWrites
-pub mod Literals
 pub mod Tags
 pub mod DeterministicRefusals
 pub mod ItemSequences

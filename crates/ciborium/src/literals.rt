@@ -2,16 +2,16 @@
 
 ghost use Rattle.std.specs.Prelude.{◌≡◌, ℕ, ◌+◌, ◌∷◌, ◌⊎◌, [], IfErr, IfOk, List, OnErr, OnOk};
 ghost use Rattle.std.specs.Prelude.{length};
-ghost use Rattle.ciborium_value.specs.Places.{dictionary};
-ghost use Rattle.ciborium_value.specs.Progress.{IsOwedAmong, field_count, record_of};
+ghost use Rattle.ciborium_value.specs.Places.{dictionary, sequence};
+ghost use Rattle.ciborium_value.specs.Progress.{BreaksAll, CanTake, IsOwedAmong, TakesAll, counted};
+ghost use Rattle.ciborium_value.specs.Progress.{counted_of};
 ghost use Rattle.ciborium_value.specs.Sinks.{IsGranted, IsOwed, Named, container_of};
-ghost use Rattle.ciborium_value.specs.TreeAnswers.{IsTreeOf};
-ghost use Rattle.ciborium_value.specs.TreeAnswers.{tree_cause};
-ghost use Rattle.ciborium.specs.Literals.{BreaksItems, CanTakeItems, TakesItems, array_of};
+ghost use Rattle.ciborium_value.specs.TreeAnswers.{IsTreeOf, tree_cause};
 
 use crate::cbor;
 use crate::ser::{Fields, Serialize, Sink};
 use crate::value::{Error, Kind, Value};
+use ciborium_value::serialize_fields;
 use std::alloc::Global;
 
 /// An item and the items after it.
@@ -49,18 +49,18 @@ pub trait Items {
 
     /// How many items there are, or `None` where a `usize` does not hold it.
     fn count(&self) -> Option<usize>
-        ensures count { result ≡ field_count (number self.now) }
+        ensures count { result ≡ counted (number self.now) }
         ensures each { length (parts self.now) ≡ number self.now };
 
     /// Adds each item to an array that has been begun.
     fn write_items<S: Sink>(&self, sink: &mut S) -> Result<(), S::Error>
-        requires { CanTakeItems S.stands_at sink.old (parts self.now) }
-        ensures ok { OnOk result (TakesItems S.stands_at sink.old sink.new (parts self.now)) }
+        requires { CanTake sequence S.stands_at sink.old (parts self.now) }
+        ensures ok { OnOk result (TakesAll sequence S.stands_at sink.old sink.new (parts self.now)) }
         ensures cause { IfErr result (λ e. IsOwedAmong (S.cause e) (parts self.now)) }
         ensures memory { IfErr result
             (λ e. IsGranted (S.cause e) (S.takes_memory ⊎ takes_memory)) }
         ensures err { OnErr result
-            (BreaksItems S.stands_at S.out sink.old sink.new (parts self.now)) };
+            (BreaksAll sequence S.stands_at S.out sink.old sink.new (parts self.now)) };
 }
 
 impl Items for NoItem {
@@ -117,7 +117,7 @@ impl<K: Serialize, V: Serialize, R: Fields> Fields for Pair<K, V, R> {
 }
 
 impl<R: Items> Serialize for Array<R> {
-    ghost written = { λ a. array_of (R.number a.0) (R.parts a.0) };
+    ghost written = { λ a. counted_of sequence (R.number a.0) (R.parts a.0) };
 
     ghost takes_memory = { R.takes_memory };
 
@@ -134,19 +134,12 @@ impl<R: Items> Serialize for Array<R> {
 }
 
 impl<R: Fields> Serialize for Map<R> {
-    ghost written = { λ m. record_of (R.number m.0) (R.parts m.0) };
+    ghost written = { λ m. counted_of dictionary (R.number m.0) (R.parts m.0) };
 
     ghost takes_memory = { R.takes_memory };
 
     fn serialize<S: Sink>(&self, sink: &mut S) -> Result<(), S::Error> {
-        match self.0.count() {
-            Some(count) => {
-                sink.begin_map(Some(count))?;
-                self.0.write_fields(sink)?;
-                sink.end(Some(count))
-            }
-            None => Err(sink.refuse(Kind::Other)),
-        }
+        serialize_fields(&self.0, sink)
     }
 }
 

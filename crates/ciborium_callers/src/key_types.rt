@@ -1,6 +1,5 @@
 //! Types that are keys of maps: a struct and an enum, each with the order that it derives.
-ghost use Rattle.std.specs.Prelude.{◌∷◌, ◌<◌, ◌^◌, List, Ok, [], codes, pos, refl, ℕ};
-ghost use Rattle.std.specs.Prelude.{string_bytes};
+ghost use Rattle.std.specs.Prelude.{◌∷◌, ◌<◌, ◌^◌, List, Ok, [], codes, pos, refl, ℕ, string_bytes};
 ghost use Rattle.std.specs.Cmp.Lexicographic.{slice_cmp};
 ghost use Rattle.std.specs.Ordering.{nat_cmp, ordering_then};
 ghost use Rattle.ciborium.specs.Readings.{below, ordered_by};
@@ -8,14 +7,12 @@ ghost use Rattle.ciborium.specs.ReadsBack.{string_back};
 ghost use Rattle.ciborium.specs.lemmas.ReadsBackNumbers.{u8_back};
 ghost use Rattle.ciborium.specs.lemmas.ReadsBackStructs.{field_back, fields_read_back};
 ghost use Rattle.ciborium.specs.lemmas.ReadsBackStructs.{no_field_back};
-ghost use Rattle.ciborium.specs.lemmas.ReadsBackVariants.{data_variant_back};
-ghost use Rattle.ciborium.specs.lemmas.ReadsBackVariants.{unit_variant_back};
+ghost use Rattle.ciborium.specs.lemmas.ReadsBackVariants.{data_variant_back, unit_variant_back};
 ghost use Rattle.ciborium.specs.Sinks.{fields_of, named_text, number_item};
 ghost use Rattle.ciborium.specs.StructReadings.{field, no_field, struct_of};
 ghost use Rattle.ciborium.specs.VariantReadings.{data_variant, enum_of, unit_variant};
 ghost use Rattle.ciborium.specs.WrittenContents.{field_alike, fields_alike, from_content};
-ghost use Rattle.ciborium.specs.WrittenContents.{no_field_alike, string-alike};
-ghost use Rattle.ciborium.specs.WrittenContents.{unsigned-alike};
+ghost use Rattle.ciborium.specs.WrittenContents.{no_field_alike, string-alike, unsigned-alike};
 ghost use Rattle.ciborium_callers.specs.declared.key_types.Seat.{Seat};
 ghost use Rattle.ciborium_callers.specs.declared.key_types.Seat.TheVariants.{Free, Taken};
 

@@ -14,9 +14,8 @@ ghost use Rattle.ciborium.specs.lemmas.ReadsBackStructs.{no_field_back};
 ghost use Rattle.ciborium.specs.Sinks.{fields_of, named_text, number_item, or_null};
 ghost use Rattle.ciborium.specs.StructReadings.{field, field_or, no_field, optional_field};
 ghost use Rattle.ciborium.specs.StructReadings.{struct_of};
-ghost use Rattle.ciborium.specs.WrittenContents.{field_alike, fields_alike};
-ghost use Rattle.ciborium.specs.WrittenContents.{no_field_alike, option-alike};
-ghost use Rattle.ciborium.specs.WrittenContents.{string-alike, unsigned-alike};
+ghost use Rattle.ciborium.specs.WrittenContents.{field_alike, fields_alike, no_field_alike};
+ghost use Rattle.ciborium.specs.WrittenContents.{option-alike, string-alike, unsigned-alike};
 
 use ciborium::de::{Deserialize, Source, Wanted, read_fields, required};
 use ciborium::laws::{ReadsBack, WritesContent};

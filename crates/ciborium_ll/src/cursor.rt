@@ -16,8 +16,7 @@ pub(crate) struct Cursor<'c, R, K> {
 impl<'c, R: Read, K: Keep> Cursor<'c, R, K> {
     ghost use Rattle.std.specs.Prelude.{◌≡◌, ◌+◌, ◌<◌, ◌≤◌, IfErr, IfOk, length};
     ghost use Rattle.ciborium_ll.specs.inner.Cursors.{CursorHoldsNothing, GivesSome, IsSameCursor};
-    ghost use Rattle.ciborium_ll.specs.inner.Cursors.{IsSpentAt};
-    ghost use Rattle.ciborium_ll.specs.inner.Cursors.{Moves, count_at};
+    ghost use Rattle.ciborium_ll.specs.inner.Cursors.{IsSpentAt, Moves, count_at};
     ghost use Rattle.ciborium_ll.specs.ReaderSteps.{IsFillTaken};
 
     // Reads into the buffer, where nothing is held.

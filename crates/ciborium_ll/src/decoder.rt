@@ -30,11 +30,10 @@ impl<'a, R: Read> Decoder<'a, R> {
     ghost use Rattle.ciborium_ll.specs.Bytes.{greatest_offset};
     ghost use Rattle.ciborium_ll.specs.Decoding.{HasBegun, HasSameReader, HoldsNothing, IsAhead};
     ghost use Rattle.ciborium_ll.specs.Decoding.{IsHeld, IsSpent, MeasuresHead, Pulls};
-    ghost use Rattle.ciborium_ll.specs.Decoding.{ReadsNothing};
+    ghost use Rattle.ciborium_ll.specs.Decoding.{ReadsNothing, Takes, allowed_of, count_of};
+    ghost use Rattle.ciborium_ll.specs.Decoding.{head_len_of, last_of, left_of, offset_of};
+    ghost use Rattle.ciborium_ll.specs.Decoding.{pushed_of, reach_of};
     ghost use Rattle.ciborium_ll.specs.Decoded.{HasAppended, HasFilled, HasPulled};
-    ghost use Rattle.ciborium_ll.specs.Decoding.{Takes};
-    ghost use Rattle.ciborium_ll.specs.Decoding.{allowed_of, count_of, head_len_of, last_of};
-    ghost use Rattle.ciborium_ll.specs.Decoding.{left_of, offset_of, pushed_of, reach_of};
     ghost use Rattle.ciborium_ll.specs.FirstHeads.{IsEndOrFault, IsFirstTaken, MeasuresFirst};
     ghost use Rattle.ciborium_ll.specs.FirstHeads.{PullsFirst};
     ghost use Rattle.ciborium_ll.specs.ReaderSteps.{IsFillTaken, IsHeadTaken, IsRefusalOf};

@@ -2,7 +2,7 @@
 use Rattle.std.specs.Prelude.{◌≡◌, ℕ, List, [], ◌∷◌, ◌++◌, length, Option, Some, None, Ok, Err, nat_le, if◌then◌else◌}
 use Rattle.ciborium_ll.specs.Bytes.{greatest_offset}
 use Rattle.ciborium_ll.specs.Item.{Item}
-use Rattle.ciborium_value.specs.Places.{Shape, dictionary, size_of, Place, within, HasRoom, is_open, IsWhole, Out}
+use Rattle.ciborium_value.specs.Places.{Shape, size_of, Place, within, HasRoom, is_open, IsWhole, Out}
 use Rattle.ciborium_value.specs.Sinks.{Named, all_named, contained, container_of, Cause, value, memory, device, IsReady, BreaksNamed}
 use Rattle.ciborium_value.specs.declared.kind.Kind.TheVariants.{Other}
 
@@ -23,23 +23,23 @@ pub record Owes {S : Type 0} (StandsAt : S → Place → Type 0) (s : Shape) (n 
   pub size : IsSized s n parts
   pub inside : (p : Place) → StandsAt old p → HasRoom p → StandsAt new (within s n done p)
 
--- ---- the fields of a struct, inside a map that was begun
+-- ---- parts in a row, inside a container that was begun
 
--- a map that was begun can take these parts
-abbrev pub CanTake : {S : Type 0} → (S → Place → Type 0) → S → List Named → Type 0
-CanTake {S} StandsAt s parts =
-    (n : Option ℕ) × (whole : List Named) × (old : S) × (rest : List Named) × IsReady StandsAt old × Owes StandsAt dictionary n whole old s (parts ++ rest)
+-- it can take these parts
+abbrev pub CanTake : Shape → {S : Type 0} → (S → Place → Type 0) → S → List Named → Type 0
+CanTake shape {S} StandsAt s parts =
+    (n : Option ℕ) × (whole : List Named) × (old : S) × (rest : List Named) × IsReady StandsAt old × Owes StandsAt shape n whole old s (parts ++ rest)
 
 -- they are written, and what was left behind them is left
-abbrev pub TakesAll : {S : Type 0} → (S → Place → Type 0) → S → S → List Named → Type 0
-TakesAll {S} StandsAt old new parts =
-    (n : Option ℕ) (whole : List Named) (begun : S) (rest : List Named) → Owes StandsAt dictionary n whole begun old (parts ++ rest) → Owes StandsAt dictionary n whole begun new rest
+abbrev pub TakesAll : Shape → {S : Type 0} → (S → Place → Type 0) → S → S → List Named → Type 0
+TakesAll shape {S} StandsAt old new parts =
+    (n : Option ℕ) (whole : List Named) (begun : S) (rest : List Named) → Owes StandsAt shape n whole begun old (parts ++ rest) → Owes StandsAt shape n whole begun new rest
 
--- refused: a proper beginning of the map is out
-abbrev pub BreaksAll : {S : Type 0} → (S → Place → Type 0) → (S → Out) → S → S → List Named → Type 0
-BreaksAll {S} StandsAt out old new parts =
-    (n : Option ℕ) (whole : List Named) (begun : S) (rest : List Named) → Owes StandsAt dictionary n whole begun old (parts ++ rest) →
-    BreaksNamed StandsAt out begun new (contained dictionary (is_open n) (all_named whole))
+-- refused: a proper beginning of the container is out
+abbrev pub BreaksAll : Shape → {S : Type 0} → (S → Place → Type 0) → (S → Out) → S → S → List Named → Type 0
+BreaksAll shape {S} StandsAt out old new parts =
+    (n : Option ℕ) (whole : List Named) (begun : S) (rest : List Named) → Owes StandsAt shape n whole begun old (parts ++ rest) →
+    BreaksNamed StandsAt out begun new (contained shape (is_open n) (all_named whole))
 
 -- a refusal for a value is the first among the parts
 abbrev pub IsOwedAmong : Cause → List Named → Type 0
@@ -47,10 +47,10 @@ IsOwedAmong (value k) parts = all_named parts ≡ Err k
 IsOwedAmong memory parts = Unit {0}
 IsOwedAmong device parts = Unit {0}
 
--- a count of fields that a head can announce
-abbrev pub field_count : ℕ → Option ℕ
-field_count n = if nat_le n greatest_offset then Some n else None
+-- a count that a head can announce
+abbrev pub counted : ℕ → Option ℕ
+counted n = if nat_le n greatest_offset then Some n else None
 
--- the definite map of so many fields
-abbrev pub record_of : ℕ → List Named → Named
-record_of n parts = if nat_le n greatest_offset then container_of dictionary parts else Err Other
+-- the definite container of so many items or pairs
+abbrev pub counted_of : Shape → ℕ → List Named → Named
+counted_of shape n parts = if nat_le n greatest_offset then container_of shape parts else Err Other

@@ -4,11 +4,9 @@ ghost use Rattle.std.specs.Prelude.{◌≡◌, IfErr, IfOk, None};
 ghost use Rattle.ciborium_value.specs.Sources.{IsGrantedFault};
 ghost use Rattle.ciborium_value.specs.Taken.{gives};
 ghost use Rattle.ciborium_value.specs.inner.TreeSources.{IsTreeAt, IsTreeLevelAt, IsTreeSeqAt};
-ghost use Rattle.ciborium_value.specs.TreeAnswers.{IsErrorOf};
 ghost use Rattle.ciborium_value.specs.inner.TreeSources.{level_weight, pending_due, seq_weight};
-ghost use Rattle.ciborium_value.specs.TreeAnswers.{tree_fault};
 ghost use Rattle.ciborium_value.specs.inner.TreeSources.{source_weight};
-ghost use Rattle.ciborium_value.specs.TreeAnswers.{value_item};
+ghost use Rattle.ciborium_value.specs.TreeAnswers.{IsErrorOf, tree_fault, value_item};
 
 use crate::deserialize::Deserialize;
 use crate::error::Error;

@@ -3,9 +3,11 @@
 ghost use Rattle.std.specs.Prelude.{◌≡◌, ℕ, ◌+◌, ◌∷◌, ◌⊎◌, [], IfErr, List, OnErr, OnOk, Ok, false};
 ghost use Rattle.std.specs.Prelude.{length};
 ghost use Rattle.ciborium_ll.specs.Item as item;
-ghost use Rattle.ciborium_value.specs.Progress.{BreaksAll, CanTake, IsOwedAmong, TakesAll};
-ghost use Rattle.ciborium_value.specs.Progress.{field_count, record_of};
-ghost use Rattle.ciborium_value.specs.Sinks.{IsGranted, Named};
+ghost use Rattle.ciborium_value.specs.Places.{dictionary};
+ghost use Rattle.ciborium_value.specs.Progress.{BreaksAll, CanTake, IsOwedAmong, TakesAll, counted};
+ghost use Rattle.ciborium_value.specs.Progress.{counted_of};
+ghost use Rattle.ciborium_value.specs.Sinks.{AddsNamed, BreaksNamed, IsGranted, IsOwed, IsReady};
+ghost use Rattle.ciborium_value.specs.Sinks.{Named};
 
 use crate::kind::Kind;
 use crate::serialize::Serialize;
@@ -38,18 +40,18 @@ pub trait Fields {
 
     /// How many fields there are, or `None` where a `usize` does not hold it.
     fn count(&self) -> Option<usize>
-        ensures count { result ≡ field_count (number self.now) }
+        ensures count { result ≡ counted (number self.now) }
         ensures in_pairs { length (parts self.now) ≡ number self.now + number self.now };
 
     /// Adds each name and value to a map that has been begun.
     fn write_fields<S: Sink>(&self, sink: &mut S) -> Result<(), S::Error>
-        requires { CanTake S.stands_at sink.old (parts self.now) }
-        ensures ok { OnOk result (TakesAll S.stands_at sink.old sink.new (parts self.now)) }
+        requires { CanTake dictionary S.stands_at sink.old (parts self.now) }
+        ensures ok { OnOk result (TakesAll dictionary S.stands_at sink.old sink.new (parts self.now)) }
         ensures cause { IfErr result (λ e. IsOwedAmong (S.cause e) (parts self.now)) }
         ensures memory { IfErr result
             (λ e. IsGranted (S.cause e) (S.takes_memory ⊎ takes_memory)) }
         ensures err { OnErr result
-            (BreaksAll S.stands_at S.out sink.old sink.new (parts self.now)) };
+            (BreaksAll dictionary S.stands_at S.out sink.old sink.new (parts self.now)) };
 }
 
 impl Fields for NoField {
@@ -87,19 +89,38 @@ impl<V: Serialize, R: Fields> Fields for Field<'_, V, R> {
 }
 
 impl<V: Serialize, R: Fields> Serialize for Field<'_, V, R> {
-    ghost written = { λ f. record_of (R.number f.2 + 1)
+    ghost written = { λ f. counted_of dictionary (R.number f.2 + 1)
         (Ok (item.text false f.0.now) ∷ V.written f.1.now ∷ R.parts f.2) };
 
     ghost takes_memory = { V.takes_memory ⊎ R.takes_memory };
 
     fn serialize<S: Sink>(&self, sink: &mut S) -> Result<(), S::Error> {
-        match self.count() {
-            Some(count) => {
-                sink.begin_map(Some(count))?;
-                self.write_fields(sink)?;
-                sink.end(Some(count))
-            }
-            None => Err(sink.refuse(Kind::Other)),
+        serialize_fields(self, sink)
+    }
+}
+
+/// Writes the fields as a definite map, in their order.
+///
+/// # Errors
+///
+/// Those of the fields' values, and `Kind::Other` where a `usize` does not hold their count.
+#[inline(always)]
+pub fn serialize_fields<F: Fields, S: Sink>(fields: &F, sink: &mut S) -> Result<(), S::Error>
+    requires { IsReady S.stands_at sink.old }
+    ensures ok { OnOk result (AddsNamed S.stands_at sink.old sink.new
+        (counted_of dictionary (F.number fields.now) (F.parts fields.now))) }
+    ensures cause { IfErr result (λ e. IsOwed (S.cause e)
+        (counted_of dictionary (F.number fields.now) (F.parts fields.now))) }
+    ensures memory { IfErr result (λ e. IsGranted (S.cause e) (S.takes_memory ⊎ F.takes_memory)) }
+    ensures err { OnErr result (BreaksNamed S.stands_at S.out sink.old sink.new
+        (counted_of dictionary (F.number fields.now) (F.parts fields.now))) }
+{
+    match fields.count() {
+        Some(count) => {
+            sink.begin_map(Some(count))?;
+            fields.write_fields(sink)?;
+            sink.end(Some(count))
         }
+        None => Err(sink.refuse(Kind::Other)),
     }
 }

@@ -26,7 +26,7 @@ mod wanted;
 pub use byte_buf::ByteBuf;
 pub use ciborium_ll::{Integer, OutOfRange};
 pub use deserialize::{Deserialize, Key};
-pub use fields::{Field, Fields, NoField};
+pub use fields::{Field, Fields, NoField, serialize_fields};
 pub use key_order::KeyOrder;
 pub use kind::Kind;
 pub use reads_back::{FormReadsBack, NeverBytes, NeverNull, ReadsBack, WritesContent};

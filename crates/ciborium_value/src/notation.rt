@@ -1,8 +1,7 @@
 //! Values in human-readable form: diagnostic notation (RFC 8949, section 8).
 
-ghost use Rattle.std.specs.Prelude.{◌≡◌, ◌≤◌, ◌<◌, ◌++◌, IfOk, IfSome, IsNone, Some, []};
-ghost use Rattle.std.specs.Prelude.{codes, length};
-ghost use Rattle.std.specs.Prelude.{decimal, slice_index, take, true};
+ghost use Rattle.std.specs.Prelude.{◌≡◌, ◌≤◌, ◌<◌, ◌++◌, IfOk, IfSome, IsNone, Some, [], codes};
+ghost use Rattle.std.specs.Prelude.{length, decimal, slice_index, take, true};
 ghost use Rattle.std.specs.Fmt.{WritesStyledOnOk, signed_decimal, spec_alternate};
 ghost use Rattle.hex.specs.Hex.{encode_lower};
 ghost use Rattle.ciborium_value.specs.Notation.{IsPlain, comma, escape, line_break, needs_escape};

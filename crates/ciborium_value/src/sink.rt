@@ -5,9 +5,8 @@ ghost use Rattle.ciborium_ll.specs.Item as item;
 ghost use Rattle.ciborium_value.specs.Encoding.{boolean_item};
 ghost use Rattle.ciborium_value.specs.Places.{IsOutAt, Out, Place, dictionary, sequence};
 ghost use Rattle.ciborium_value.specs.Sinks.{Adds, Begins, Breaks, BreaksBegin, BreaksEnd};
-ghost use Rattle.ciborium_value.specs.Sinks.{BreaksTag};
-ghost use Rattle.ciborium_value.specs.Sinks.{CanEnd, Cause, Ends, IsGranted, IsOutside, IsReady};
-ghost use Rattle.ciborium_value.specs.Sinks.{Tags, memory, number_item, value};
+ghost use Rattle.ciborium_value.specs.Sinks.{BreaksTag, CanEnd, Cause, Ends, IsGranted, IsOutside};
+ghost use Rattle.ciborium_value.specs.Sinks.{IsReady, Tags, memory, number_item, value};
 
 use crate::kind::Kind;
 

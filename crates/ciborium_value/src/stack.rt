@@ -1,14 +1,11 @@
 //! The containers and tags that are open while a value is put together.
 
-ghost use Rattle.std.specs.Prelude.{◌≡◌, ◌∷◌, ◌++◌, [], IfOk, List, MatchOption, None, OnErr};
-ghost use Rattle.std.specs.Prelude.{OnOk, Some};
-ghost use Rattle.std.specs.Prelude.{drop, length, map, min, option_map};
+ghost use Rattle.std.specs.Prelude.{◌≡◌, ◌∷◌, ◌++◌, [], IfOk, List, MatchOption, None, OnErr, OnOk};
+ghost use Rattle.std.specs.Prelude.{Some, drop, length, map, min, option_map};
 ghost use Rattle.ciborium_value.specs.inner.Frames.{array, closed, fill, map as open_map, placed};
-ghost use Rattle.ciborium_value.specs.inner.Frames.{tree_ended};
-ghost use Rattle.ciborium_value.specs.inner.Frames.{parts_due, waiting_keys};
+ghost use Rattle.ciborium_value.specs.inner.Frames.{tree_ended, parts_due, waiting_keys};
 ghost use Rattle.ciborium_value.specs.inner.Stack.{begun_frame, filled_of, frame_of, frames_of};
-ghost use Rattle.ciborium_value.specs.inner.Stack.{tree_frames};
-ghost use Rattle.ciborium_value.specs.inner.Stack.{placed_of};
+ghost use Rattle.ciborium_value.specs.inner.Stack.{tree_frames, placed_of};
 ghost use Rattle.ciborium_value.specs.View.{pair_trees, tree_of};
 
 use crate::tree::Value;

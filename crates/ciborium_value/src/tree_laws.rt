@@ -2,9 +2,8 @@
 //! function that does nothing.
 
 ghost use Rattle.ciborium_value.specs.laws.Examples.{CornerExamples, CountedExamples};
-ghost use Rattle.ciborium_value.specs.laws.Examples.{FoldingExamples};
-ghost use Rattle.ciborium_value.specs.laws.Examples.{RefusedExamples, SpelledExamples};
-ghost use Rattle.ciborium_value.specs.laws.Examples.{WrittenExamples};
+ghost use Rattle.ciborium_value.specs.laws.Examples.{FoldingExamples, RefusedExamples};
+ghost use Rattle.ciborium_value.specs.laws.Examples.{SpelledExamples, WrittenExamples};
 ghost use Rattle.ciborium_value.specs.laws.FoldingLaws.{EncodingIsGood, FoldsOnce};
 ghost use Rattle.ciborium_value.specs.laws.FoldingLaws.{WrittenMeansFolded};
 ghost use Rattle.ciborium_value.specs.laws.FormLaws.{AcceptedWhereOwnForm, AlikeHaveOneForm};

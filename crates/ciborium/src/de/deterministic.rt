@@ -9,9 +9,8 @@ ghost use Rattle.ciborium_value.specs.View.{tree_of};
 ghost use Rattle.ciborium_value.specs.declared.key_order.KeyOrder.TheVariants as orders;
 ghost use Rattle.ciborium.specs.ValueAnswers.{ReadsWhole};
 ghost use Rattle.ciborium.specs.DeterministicRefusals.{IsFoldable};
-ghost use Rattle.ciborium.specs.Spelling.{IsKeyInOrder, IsKeyOutOfOrder};
-ghost use Rattle.ciborium.specs.Spelling.{counted_fault, deterministic, deterministic_fault};
-ghost use Rattle.ciborium.specs.Spelling.{long_fault};
+ghost use Rattle.ciborium.specs.Spelling.{IsKeyInOrder, IsKeyOutOfOrder, counted_fault};
+ghost use Rattle.ciborium.specs.Spelling.{deterministic, deterministic_fault, long_fault};
 
 use crate::de::SCRATCH_SIZE;
 use crate::de::building::read_value;

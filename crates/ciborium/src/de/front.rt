@@ -1,12 +1,11 @@
 //! What stands at the front, and its head.
 
 ghost use Rattle.std.specs.Prelude.{◌≡◌, ◌+◌, ◌<◌, IfErr, List, None, OnOk, Some, ℕ};
-ghost use Rattle.ciborium_ll.specs.Decoding.{HasSameReader, IsAhead, TakesBeforeAny};
-ghost use Rattle.ciborium_ll.specs.Decoding.{count_of, head_len_of, offset_of, pushed_of};
+ghost use Rattle.ciborium_ll.specs.Decoding.{HasSameReader, IsAhead, TakesBeforeAny, count_of};
+ghost use Rattle.ciborium_ll.specs.Decoding.{head_len_of, offset_of, pushed_of, IsMeasured};
 ghost use Rattle.ciborium.specs.inner.Due.{HoldsNothingAfter};
 ghost use Rattle.ciborium.specs.inner.Parts.{IsHeadRead};
 ghost use Rattle.ciborium.specs.inner.ValuesInBytes.{heads_left};
-ghost use Rattle.ciborium_ll.specs.Decoding.{IsMeasured};
 
 use crate::de::error::Error;
 use ciborium_ll::{Decoder, Header, Keep};

@@ -2,8 +2,7 @@
 //! or a break.
 
 ghost use Rattle.std.specs.Prelude.{◌≡◌, ◌+◌, ◌<◌, ◌≤◌, IfErr, IfOk, List, None, OnOk, Some, ℕ};
-ghost use Rattle.ciborium_ll.specs.Decoding.{HasSameReader, TakesBeforeAny};
-ghost use Rattle.ciborium_ll.specs.Decoding.{last_of, pushed_of};
+ghost use Rattle.ciborium_ll.specs.Decoding.{HasSameReader, TakesBeforeAny, last_of, pushed_of};
 ghost use Rattle.ciborium.specs.inner.Due.{HoldsNothingAfter};
 ghost use Rattle.ciborium.specs.inner.Parts.{HasLevel, IsArrayBegun, IsMapBegun, IsPartRead};
 ghost use Rattle.ciborium.specs.inner.Parts.{IsAtRest, IsSimpleRead};

@@ -1,8 +1,7 @@
 //! Values in the order of their encodings: the canonical order, the shorter encoding first (RFC
 //! 8949, section 4.2.3; RFC 7049, section 3.9), or the bytewise one (section 4.2.1).
 
-ghost use Rattle.std.specs.Prelude.{◌≡◌, ◌↔◌, IsTrue, refl};
-ghost use Rattle.std.specs.Prelude.{Ok, Some};
+ghost use Rattle.std.specs.Prelude.{◌≡◌, ◌↔◌, IsTrue, refl, Ok, Some};
 ghost use Rattle.std.specs.Cmp.{partial_equiv_from_equiv, partial_order_from_agreeing_total};
 ghost use Rattle.std.specs.Coded.{codes};
 ghost use Rattle.std.specs.Ordering.{as_partial_cmp};

@@ -4,7 +4,7 @@ use Rattle.std.proofs.lemmas.List.{drop_all}
 use Rattle.ciborium_ll.specs.Item as item
 use Rattle.ciborium_ll.specs.Item.{Item}
 use Rattle.ciborium_value.specs.Places.{Shape, sequence, dictionary, size_of, container, Place, within, tagged, HasRoom, added, is_open, IsFull, IsOutAt, Out}
-use Rattle.ciborium_value.specs.Progress.{oks, IsSized, Owes, field_count, record_of}
+use Rattle.ciborium_value.specs.Progress.{oks, IsSized, Owes, counted, counted_of}
 use Rattle.ciborium_value.specs.Sinks.{Named, and_then, all_named, contained, container_of, in_turn, tag_of, Cause, value, memory, device, IsOwed, IsReady, Begins, Tags, CanEnd, Ends, Breaks, BreaksBegin, BreaksTag, BreaksEnd, AddsNamed, BreaksNamed}
 use Rattle.ciborium_value.specs.declared.kind.Kind.{Kind}
 use Rattle.ciborium_value.specs.declared.kind.Kind.TheVariants.{Other}
@@ -155,11 +155,11 @@ length-in_turn f g (e ∷ es) = let h = length-in_turn f g es in omega (arith, h
 some_is : (a b : ℕ) → Some a ≡ Some b → b ≡ a
 some_is a b e = cc
 
--- a count that a head announces is that of the fields
-pub field_counted : (n count : ℕ) → field_count n ≡ Some count → (count ≡ n) × ((parts : List Named) → container_of dictionary parts ≡ record_of n parts)
-field_counted n count h = by (nat_le n greatest_offset) h
+-- a count that a head announces is that of the parts
+pub parts_counted : (shape : Shape) (n count : ℕ) → counted n ≡ Some count → (count ≡ n) × ((parts : List Named) → container_of shape parts ≡ counted_of shape n parts)
+parts_counted shape n count h = by (nat_le n greatest_offset) h
   where
-    by : (b : Bool) → cond b (Some n) None ≡ Some count → (count ≡ n) × ((parts : List Named) → container_of dictionary parts ≡ cond b (container_of dictionary parts) (Err Other))
+    by : (b : Bool) → cond b (Some n) None ≡ Some count → (count ≡ n) × ((parts : List Named) → container_of shape parts ≡ cond b (container_of shape parts) (Err Other))
     by true e = (some_is n count e, λ parts. refl)
     by false e = cc
 

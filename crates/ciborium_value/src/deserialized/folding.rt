@@ -1,14 +1,11 @@
 //! Copies of values in which bignums are folded.
 
-ghost use Rattle.std.specs.Prelude.{◌≡◌, ◌∷◌, ◌++◌, [], IfErr, IfOk, MatchOption, None};
-ghost use Rattle.std.specs.Prelude.{OnOk, Some};
+ghost use Rattle.std.specs.Prelude.{◌≡◌, ◌∷◌, ◌++◌, [], IfErr, IfOk, MatchOption, None, OnOk, Some};
 ghost use Rattle.ciborium_value.specs.Folded.{folded, tree_folding_bytes};
 ghost use Rattle.ciborium_value.specs.inner.FoldedCopies.{IsCopyBegun, IsUnfolded, path_trees};
 ghost use Rattle.ciborium_value.specs.Taken.{gives, taken_value};
 ghost use Rattle.ciborium_value.specs.Tree as trees;
-ghost use Rattle.ciborium_value.specs.TreeAnswers.{IsErrorOf};
-ghost use Rattle.ciborium_value.specs.TreeAnswers.{tree_fault};
-ghost use Rattle.ciborium_value.specs.TreeAnswers.{value_item};
+ghost use Rattle.ciborium_value.specs.TreeAnswers.{IsErrorOf, tree_fault, value_item};
 ghost use Rattle.ciborium_value.specs.View.{tree_of};
 
 use crate::bignum::{FoldError, find_folding, fold};

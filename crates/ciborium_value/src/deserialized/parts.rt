@@ -11,9 +11,7 @@ ghost use Rattle.ciborium_value.specs.Taken.{taken_boolean, taken_byte, taken_by
 ghost use Rattle.ciborium_value.specs.Taken.{taken_character, taken_integer, taken_name};
 ghost use Rattle.ciborium_value.specs.Taken.{taken_text, taken_unit};
 ghost use Rattle.ciborium_value.specs.inner.TreeSources.{value_weight};
-ghost use Rattle.ciborium_value.specs.TreeAnswers.{IsErrorOf};
-ghost use Rattle.ciborium_value.specs.TreeAnswers.{tree_fault};
-ghost use Rattle.ciborium_value.specs.TreeAnswers.{value_item};
+ghost use Rattle.ciborium_value.specs.TreeAnswers.{IsErrorOf, tree_fault, value_item};
 ghost use Rattle.ciborium_value.specs.View.{tree_pairs_of};
 ghost use Rattle.ciborium_value.specs.declared.kind.Kind.TheVariants as kinds;
 

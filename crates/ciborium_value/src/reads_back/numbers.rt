@@ -3,11 +3,9 @@
 ghost use Rattle.std.specs.Prelude.{◌<◌, ◌^◌};
 ghost use Rattle.ciborium_value.specs.Readings.{IsBounded};
 ghost use Rattle.ciborium_value.specs.lemmas.ReadsBackNumbers.{i128_back, i16_back, i32_back};
-ghost use Rattle.ciborium_value.specs.lemmas.ReadsBackNumbers.{i64_back};
-ghost use Rattle.ciborium_value.specs.lemmas.ReadsBackNumbers.{i8_back, isize_back, u128_back};
-ghost use Rattle.ciborium_value.specs.lemmas.ReadsBackNumbers.{u16_back};
-ghost use Rattle.ciborium_value.specs.lemmas.ReadsBackNumbers.{u32_back, u64_back, u8_back};
-ghost use Rattle.ciborium_value.specs.lemmas.ReadsBackNumbers.{usize_back};
+ghost use Rattle.ciborium_value.specs.lemmas.ReadsBackNumbers.{i64_back, i8_back, isize_back};
+ghost use Rattle.ciborium_value.specs.lemmas.ReadsBackNumbers.{u128_back, u16_back, u32_back};
+ghost use Rattle.ciborium_value.specs.lemmas.ReadsBackNumbers.{u64_back, u8_back, usize_back};
 
 use super::ReadsBack;
 

@@ -4,13 +4,11 @@ ghost use Rattle.std.specs.Prelude.{◌≡◌, ◌+◌, ◌<◌, ◌≤◌, IfEr
 ghost use Rattle.ciborium_ll.specs.Decoding.{HasSameReader};
 ghost use Rattle.ciborium_value.specs.Places.{sequence};
 ghost use Rattle.ciborium_value.specs.Sources.{HasItem, IsFaultOf, RefusesAhead, TakesAhead};
-ghost use Rattle.ciborium_value.specs.Sources.{TakesItem};
-ghost use Rattle.ciborium_value.specs.Sources.{TakesOnly, TakesTo};
+ghost use Rattle.ciborium_value.specs.Sources.{TakesItem, TakesOnly, TakesTo};
 ghost use Rattle.ciborium_value.specs.Taken.{gives, number_below, take_each, taken_byte};
 ghost use Rattle.ciborium_value.specs.Taken.{taken_bytes};
 ghost use Rattle.ciborium.specs.inner.ByteSources.{HasTaken, IsUnread, ReadsRest, RefusesRest};
-ghost use Rattle.ciborium.specs.inner.ByteSources.{SeqOwes};
-ghost use Rattle.ciborium.specs.inner.ByteSources.{StandsBefore, seq_left, weight_left};
+ghost use Rattle.ciborium.specs.inner.ByteSources.{SeqOwes, StandsBefore, seq_left, weight_left};
 ghost use Rattle.ciborium.specs.Errors.{fault_of};
 
 use crate::de::byte_source::{ByteSeq, ByteSource};

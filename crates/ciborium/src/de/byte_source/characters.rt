@@ -4,9 +4,8 @@ ghost use Rattle.std.specs.Prelude.{◌≡◌, ◌<◌, ◌⊎◌, IfErr, IfOk, 
 ghost use Rattle.std.specs.Prelude.{Some, chars, false, ℕ};
 ghost use Rattle.ciborium_value.specs.Sources.{IsFaultOf, IsGrantedFault};
 ghost use Rattle.ciborium_value.specs.Taken.{gives, lone_character, taken_character};
-ghost use Rattle.ciborium.specs.inner.ByteSources.{weight_left};
+ghost use Rattle.ciborium.specs.inner.ByteSources.{weight_left, AnswersItem, KeepsSource};
 ghost use Rattle.ciborium.specs.Errors.{fault_of};
-ghost use Rattle.ciborium.specs.inner.ByteSources.{AnswersItem, KeepsSource};
 
 use crate::de::byte_source::ByteSource;
 use crate::de::error::{Error, Refusal};

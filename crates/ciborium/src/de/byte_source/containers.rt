@@ -1,23 +1,20 @@
 //! Containers: how they are entered, and their parts in turn.
 
-ghost use Rattle.std.specs.Prelude.{◌≡◌, ◌≢◌, ℕ, List, ◌+◌, ◌-◌, ◌<◌, ◌≤◌, IfErr, IfOk};
-ghost use Rattle.std.specs.Prelude.{MatchBool, None};
-ghost use Rattle.std.specs.Prelude.{OnErr, OnOk, Some, false};
+ghost use Rattle.std.specs.Prelude.{◌≡◌, ◌≢◌, ℕ, List, ◌+◌, ◌-◌, ◌<◌, ◌≤◌, IfErr, IfOk, MatchBool};
+ghost use Rattle.std.specs.Prelude.{None, OnErr, OnOk, Some, false};
 ghost use Rattle.ciborium_ll.specs.Decoding.{HasSameReader};
 ghost use Rattle.ciborium_ll.specs.StringRefusal.{of_bytes};
 ghost use Rattle.ciborium_value.specs.Sources.{GoesOn, IsGrantedFault, Leaves, OwesLess};
-ghost use Rattle.ciborium_value.specs.Sources.{OwesNothing};
-ghost use Rattle.ciborium_value.specs.Sources.{RefusesNext, TakesOnly, TakesTo};
+ghost use Rattle.ciborium_value.specs.Sources.{OwesNothing, RefusesNext, TakesOnly, TakesTo};
 ghost use Rattle.ciborium_value.specs.Taken.{gives, taken_pairs, taken_seq};
 ghost use Rattle.ciborium.specs.inner.ByteSources.{EntersItemsUnread, EntersPairsUnread, HasBytes};
-ghost use Rattle.ciborium.specs.inner.ByteSources.{HasTaken, IsUnread};
-ghost use Rattle.ciborium.specs.inner.ByteSources.{SeqOwes, SeqStands, StandsBefore, StandsStill};
-ghost use Rattle.ciborium.specs.inner.ByteSources.{bytes_weight, counted_parts, end_at};
+ghost use Rattle.ciborium.specs.inner.ByteSources.{HasTaken, IsUnread, SeqOwes, SeqStands};
+ghost use Rattle.ciborium.specs.inner.ByteSources.{StandsBefore, StandsStill, bytes_weight};
+ghost use Rattle.ciborium.specs.inner.ByteSources.{counted_parts, end_at, parts_left, seq_left};
+ghost use Rattle.ciborium.specs.inner.ByteSources.{weight_left, KeepsSource};
 ghost use Rattle.ciborium.specs.Errors.{fault_of};
-ghost use Rattle.ciborium.specs.inner.ByteSources.{parts_left, seq_left, weight_left};
 ghost use Rattle.ciborium.specs.inner.FrontItems.{Denies};
 ghost use Rattle.ciborium.specs.inner.StringContents.{DeniesContent, TakesContent};
-ghost use Rattle.ciborium.specs.inner.ByteSources.{KeepsSource};
 
 use crate::de::byte_source::{ByteSeq, ByteSource, Left};
 use crate::de::error::{Error, Refusal};

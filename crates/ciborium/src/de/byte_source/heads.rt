@@ -4,11 +4,10 @@ ghost use Rattle.std.specs.Prelude.{◌≡◌, ◌+◌, ◌≤◌, IfErr, IfOk, 
 ghost use Rattle.ciborium_ll.specs.Decoding.{HasSameReader};
 ghost use Rattle.ciborium_value.specs.Sources.{IsGrantedFault, TakesOnly};
 ghost use Rattle.ciborium.specs.inner.ByteSources.{CountsHead, HasTaken, IsUnread, bytes_weight};
-ghost use Rattle.ciborium.specs.inner.ByteSources.{end_at, head_weight, weight_left};
+ghost use Rattle.ciborium.specs.inner.ByteSources.{end_at, head_weight, weight_left, ReadsBareHead};
 ghost use Rattle.ciborium.specs.Errors.{fault_of};
 ghost use Rattle.ciborium.specs.inner.FrontItems.{DeniesHead, DeniesItem, TakesHead};
 ghost use Rattle.ciborium.specs.inner.Skips.{IsEndTag, TakesBare};
-ghost use Rattle.ciborium.specs.inner.ByteSources.{ReadsBareHead};
 
 use crate::de::byte_source::ByteSource;
 use crate::de::error::{Error, Refusal};

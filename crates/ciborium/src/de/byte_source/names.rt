@@ -1,10 +1,8 @@
 //! Names.
 
-ghost use Rattle.std.specs.Prelude.{◌≡◌, ◌<◌, OnOk, Some};
-ghost use Rattle.std.specs.Prelude.{string_bytes};
+ghost use Rattle.std.specs.Prelude.{◌≡◌, ◌<◌, OnOk, Some, string_bytes};
 ghost use Rattle.ciborium_value.specs.Taken.{taken_name};
-ghost use Rattle.ciborium.specs.inner.ByteSources.{weight_left};
-ghost use Rattle.ciborium.specs.inner.ByteSources.{AnswersItem, KeepsSource};
+ghost use Rattle.ciborium.specs.inner.ByteSources.{weight_left, AnswersItem, KeepsSource};
 
 use crate::de::byte_source::ByteSource;
 use crate::de::error::{Error, Refusal};

@@ -8,11 +8,10 @@ ghost use Rattle.ciborium_ll.specs.declared.header.Header.TheVariants as heads;
 ghost use Rattle.ciborium_value.specs.Sources.{IsGrantedFault, TakesOnly};
 ghost use Rattle.ciborium_value.specs.Taken.{taken_bignum, taken_integer};
 ghost use Rattle.ciborium.specs.inner.ByteSources.{HasTaken, IsUnread, bytes_weight, end_at};
+ghost use Rattle.ciborium.specs.inner.ByteSources.{weight_left, AnswersItem, KeepsSource};
 ghost use Rattle.ciborium.specs.Errors.{fault_of};
-ghost use Rattle.ciborium.specs.inner.ByteSources.{weight_left};
 ghost use Rattle.ciborium.specs.inner.StringContents.{DeniesContent, DeniesJust, TakesDigits};
 ghost use Rattle.ciborium.specs.inner.StringContents.{TakesNumber, one_digit_more};
-ghost use Rattle.ciborium.specs.inner.ByteSources.{AnswersItem, KeepsSource};
 
 use crate::de::byte_source::ByteSource;
 use crate::de::error::{Error, Refusal};
@@ -132,7 +131,8 @@ impl<'a, R: Read> ByteSource<'a, R> {
         ensures keeps { KeepsSource R.remaining self.old self.new result }
         ensures levels { self.new.levels ≡ self.old.levels }
         ensures fewer { OnOk result (weight_left self.new ≤ weight_left self.old) }
-        ensures answer { AnswersItem R.remaining self.old self.new None taken_bignum (λ v. v) result }
+        ensures answer { AnswersItem R.remaining self.old self.new None
+            taken_bignum (λ v. v) result }
         ensures memory { IfErr result (λ e. IsGrantedFault (fault_of e) false) }
     {
         let (header, offset) = self.next_head()?;
@@ -158,7 +158,8 @@ impl<'a, R: Read> ByteSource<'a, R> {
         ensures fewer { OnOk result (weight_left self.new ≤ weight_left self.old) }
         ensures sign { IfOk result (λ v. v.0.0 ≡ (tag == 3)) }
         ensures offset { IfOk result (λ v. v.1 ≡ offset) }
-        ensures answer { AnswersItem R.remaining self.old self.new None taken_bignum (λ v. v.0.1) result }
+        ensures answer { AnswersItem R.remaining self.old self.new None
+            taken_bignum (λ v. v.0.1) result }
         ensures memory { IfErr result (λ e. IsGrantedFault (fault_of e) false) }
     {
         let n = self.read_bignum(offset)?;

@@ -1,13 +1,11 @@
 //! Booleans and null.
 
-ghost use Rattle.std.specs.Prelude.{◌≡◌, ◌<◌, IfErr, IfSome, None, OnOk, Some};
-ghost use Rattle.std.specs.Prelude.{false};
+ghost use Rattle.std.specs.Prelude.{◌≡◌, ◌<◌, IfErr, IfSome, None, OnOk, Some, false};
 ghost use Rattle.ciborium_value.specs.Sources.{IsGrantedFault, Tells};
 ghost use Rattle.ciborium_value.specs.Taken.{is_null_simple, taken_boolean, taken_unit};
-ghost use Rattle.ciborium.specs.inner.ByteSources.{StandsBefore};
+ghost use Rattle.ciborium.specs.inner.ByteSources.{StandsBefore, weight_left, AnswersItem};
+ghost use Rattle.ciborium.specs.inner.ByteSources.{KeepsSource};
 ghost use Rattle.ciborium.specs.Errors.{fault_of};
-ghost use Rattle.ciborium.specs.inner.ByteSources.{weight_left};
-ghost use Rattle.ciborium.specs.inner.ByteSources.{AnswersItem, KeepsSource};
 
 use crate::de::byte_source::ByteSource;
 use crate::de::error::{Error, Refusal};

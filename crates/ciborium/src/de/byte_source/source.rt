@@ -2,8 +2,8 @@
 
 ghost use Rattle.ciborium.specs.inner.ByteSources.{HasTakenSince, IsUnread, LevelStands, SeqOwes};
 ghost use Rattle.ciborium.specs.inner.ByteSources.{ReadsValue, SeqStands, StandsBefore};
-ghost use Rattle.ciborium.specs.Errors.{fault_of};
 ghost use Rattle.ciborium.specs.inner.ByteSources.{seq_left, weight_left};
+ghost use Rattle.ciborium.specs.Errors.{fault_of};
 
 use crate::de::byte_source::scalars::is_null;
 use crate::de::byte_source::{ByteLevel, ByteSeq, ByteSource};

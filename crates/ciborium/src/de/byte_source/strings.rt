@@ -7,11 +7,10 @@ ghost use Rattle.ciborium_ll.specs.StringRefusal.{of_bytes, of_text};
 ghost use Rattle.ciborium_value.specs.Sources.{IsGrantedFault, TakesOnly};
 ghost use Rattle.ciborium_value.specs.Taken.{taken_text};
 ghost use Rattle.ciborium.specs.inner.ByteSources.{HasTaken, IsUnread, bytes_weight, end_at};
+ghost use Rattle.ciborium.specs.inner.ByteSources.{weight_left, AnswersItem, KeepsSource};
 ghost use Rattle.ciborium.specs.Errors.{fault_of};
-ghost use Rattle.ciborium.specs.inner.ByteSources.{weight_left};
 ghost use Rattle.ciborium.specs.inner.StringContents.{DeniesContent, DeniesJust, TakesContent};
 ghost use Rattle.ciborium.specs.inner.StringContents.{TakesJust};
-ghost use Rattle.ciborium.specs.inner.ByteSources.{AnswersItem, KeepsSource};
 
 use crate::de::byte_source::ByteSource;
 use crate::de::error::{Error, Refusal};

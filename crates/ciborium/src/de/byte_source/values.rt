@@ -1,14 +1,12 @@
 //! The value ahead, of any shape.
 
-ghost use Rattle.std.specs.Prelude.{◌≡◌, ◌<◌, ◌≤◌, MatchOption, None, OnErr};
-ghost use Rattle.std.specs.Prelude.{OnOk, Some, false};
+ghost use Rattle.std.specs.Prelude.{◌≡◌, ◌<◌, ◌≤◌, MatchOption, None, OnErr, OnOk, Some, false};
 ghost use Rattle.ciborium_ll.specs.Decoding.{HasSameReader};
 ghost use Rattle.ciborium_value.specs.Sources.{TakesOnly, read_as};
 ghost use Rattle.ciborium_value.specs.Taken.{taken_value};
 ghost use Rattle.ciborium_value.specs.View.{tree_of};
-ghost use Rattle.ciborium.specs.inner.ByteSources.{HasTaken, MeansTree, ReadsValue};
-ghost use Rattle.ciborium.specs.inner.ByteSources.{is_portable, weight_left};
-ghost use Rattle.ciborium.specs.inner.ByteSources.{AnswersItem};
+ghost use Rattle.ciborium.specs.inner.ByteSources.{HasTaken, MeansTree, ReadsValue, is_portable};
+ghost use Rattle.ciborium.specs.inner.ByteSources.{weight_left, AnswersItem};
 
 use crate::de::building::read_value;
 use crate::de::byte_source::ByteSource;

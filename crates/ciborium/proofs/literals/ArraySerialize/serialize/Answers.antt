@@ -4,21 +4,20 @@ use Rattle.std.proofs.lemmas.Result.{on_ok_weaker, on_err_weaker}
 use Rattle.ciborium_value.specs.Places.{sequence}
 use Rattle.ciborium_value.specs.Progress.{Owes}
 use Rattle.ciborium_value.specs.Sinks.{Named, AddsNamed, BreaksNamed}
-use Rattle.ciborium_value.proofs.Writing.Progress.{on_err, owes_begin, owes_broken_begin, owes_can_end, owes_ends, owes_broken_end}
-use Rattle.ciborium.proofs.Writing.ArrayItems.{items_counted}
+use Rattle.ciborium_value.proofs.Writing.Progress.{on_err, owes_begin, owes_broken_begin, owes_can_end, owes_ends, owes_broken_end, parts_counted}
 use Rattle.ciborium.proofs.literals.ArraySerialize.serialize.Goals as goal
 
 pub returns-in_err-begin_array-in-Some-clause-err : goal.returns-in_err-begin_array-in-Some-clause-err
 returns-in_err-begin_array-in-Some-clause-err g c =
     let parts : List Named = g.R.Items.parts c.args.self.now.0 in
-    let k = items_counted (g.R.Items.number c.args.self.now.0) c.in-Some.count (sym c.count.ensures.count ∙ c.in-Some.is) in
+    let k = parts_counted sequence (g.R.Items.number c.args.self.now.0) c.in-Some.count (sym c.count.ensures.count ∙ c.in-Some.is) in
     let sized : length parts ≡ c.in-Some.count = c.count.ensures.each ∙ sym k.0 in
     on_err _ (subst (BreaksNamed g.S.Sink.stands_at g.S.Sink.out c.args.sink.now c.begin_array.new.self) (k.1 parts) (owes_broken_begin g.S.Sink.stands_at g.S.Sink.out sequence (Some c.in-Some.count) parts c.args.sink.now _ _ refl sized c.in_err-begin_array-in-Some.ensures.err))
 
 pub write_items-requires : goal.write_items-requires
 write_items-requires g c =
     let parts : List Named = g.R.Items.parts c.args.self.now.0 in
-    let k = items_counted (g.R.Items.number c.args.self.now.0) c.in-Some.count (sym c.count.ensures.count ∙ c.in-Some.is) in
+    let k = parts_counted sequence (g.R.Items.number c.args.self.now.0) c.in-Some.count (sym c.count.ensures.count ∙ c.in-Some.is) in
     let sized : length parts ≡ c.in-Some.count = c.count.ensures.each ∙ sym k.0 in
     let begun = owes_begin g.S.Sink.stands_at g.S.Sink.out sequence (Some c.in-Some.count) parts c.args.sink.now _ _ refl sized c.in_ok-begin_array-in-Some.ensures.ok in
     let given = subst (Owes g.S.Sink.stands_at sequence (Some c.in-Some.count) parts c.args.sink.now c.begin_array.new.self) (sym (append-nil parts)) begun in
@@ -27,7 +26,7 @@ write_items-requires g c =
 pub returns-in_err-write_items-in-Some-clause-err : goal.returns-in_err-write_items-in-Some-clause-err
 returns-in_err-write_items-in-Some-clause-err g c =
     let parts : List Named = g.R.Items.parts c.args.self.now.0 in
-    let k = items_counted (g.R.Items.number c.args.self.now.0) c.in-Some.count (sym c.count.ensures.count ∙ c.in-Some.is) in
+    let k = parts_counted sequence (g.R.Items.number c.args.self.now.0) c.in-Some.count (sym c.count.ensures.count ∙ c.in-Some.is) in
     let sized : length parts ≡ c.in-Some.count = c.count.ensures.each ∙ sym k.0 in
     let begun = owes_begin g.S.Sink.stands_at g.S.Sink.out sequence (Some c.in-Some.count) parts c.args.sink.now _ _ refl sized c.in_ok-begin_array-in-Some.ensures.ok in
     let given = subst (Owes g.S.Sink.stands_at sequence (Some c.in-Some.count) parts c.args.sink.now c.begin_array.new.self) (sym (append-nil parts)) begun in
@@ -36,7 +35,7 @@ returns-in_err-write_items-in-Some-clause-err g c =
 pub end-requires : goal.end-requires
 end-requires g c =
     let parts : List Named = g.R.Items.parts c.args.self.now.0 in
-    let k = items_counted (g.R.Items.number c.args.self.now.0) c.in-Some.count (sym c.count.ensures.count ∙ c.in-Some.is) in
+    let k = parts_counted sequence (g.R.Items.number c.args.self.now.0) c.in-Some.count (sym c.count.ensures.count ∙ c.in-Some.is) in
     let sized : length parts ≡ c.in-Some.count = c.count.ensures.each ∙ sym k.0 in
     let begun = owes_begin g.S.Sink.stands_at g.S.Sink.out sequence (Some c.in-Some.count) parts c.args.sink.now _ _ refl sized c.in_ok-begin_array-in-Some.ensures.ok in
     let given = subst (Owes g.S.Sink.stands_at sequence (Some c.in-Some.count) parts c.args.sink.now c.begin_array.new.self) (sym (append-nil parts)) begun in
@@ -46,7 +45,7 @@ end-requires g c =
 pub returns-in_ok-write_items-in-Some-clause-ok : goal.returns-in_ok-write_items-in-Some-clause-ok
 returns-in_ok-write_items-in-Some-clause-ok g c =
     let parts : List Named = g.R.Items.parts c.args.self.now.0 in
-    let k = items_counted (g.R.Items.number c.args.self.now.0) c.in-Some.count (sym c.count.ensures.count ∙ c.in-Some.is) in
+    let k = parts_counted sequence (g.R.Items.number c.args.self.now.0) c.in-Some.count (sym c.count.ensures.count ∙ c.in-Some.is) in
     let sized : length parts ≡ c.in-Some.count = c.count.ensures.each ∙ sym k.0 in
     let begun = owes_begin g.S.Sink.stands_at g.S.Sink.out sequence (Some c.in-Some.count) parts c.args.sink.now _ _ refl sized c.in_ok-begin_array-in-Some.ensures.ok in
     let given = subst (Owes g.S.Sink.stands_at sequence (Some c.in-Some.count) parts c.args.sink.now c.begin_array.new.self) (sym (append-nil parts)) begun in
@@ -56,7 +55,7 @@ returns-in_ok-write_items-in-Some-clause-ok g c =
 pub returns-in_ok-write_items-in-Some-clause-err : goal.returns-in_ok-write_items-in-Some-clause-err
 returns-in_ok-write_items-in-Some-clause-err g c =
     let parts : List Named = g.R.Items.parts c.args.self.now.0 in
-    let k = items_counted (g.R.Items.number c.args.self.now.0) c.in-Some.count (sym c.count.ensures.count ∙ c.in-Some.is) in
+    let k = parts_counted sequence (g.R.Items.number c.args.self.now.0) c.in-Some.count (sym c.count.ensures.count ∙ c.in-Some.is) in
     let sized : length parts ≡ c.in-Some.count = c.count.ensures.each ∙ sym k.0 in
     let begun = owes_begin g.S.Sink.stands_at g.S.Sink.out sequence (Some c.in-Some.count) parts c.args.sink.now _ _ refl sized c.in_ok-begin_array-in-Some.ensures.ok in
     let given = subst (Owes g.S.Sink.stands_at sequence (Some c.in-Some.count) parts c.args.sink.now c.begin_array.new.self) (sym (append-nil parts)) begun in

@@ -4,7 +4,7 @@ use Rattle.std.proofs.lemmas.Result.{on_ok_weaker, on_err_weaker}
 use Rattle.ciborium_value.specs.Places.{sequence}
 use Rattle.ciborium_value.specs.Sinks.{Named}
 use Rattle.ciborium_value.proofs.Writing.Progress.{on_err, owes_ready, owes_more, owes_broken}
-use Rattle.ciborium.specs.Literals.{BreaksItems, TakesItems}
+use Rattle.ciborium_value.specs.Progress.{BreaksAll, TakesAll}
 use Rattle.ciborium.proofs.literals.ItemItems.write_items.Goals as goal
 
 pub serialize-requires : goal.serialize-requires
@@ -13,7 +13,7 @@ serialize-requires g c = owes_ready g.S.Sink.stands_at g.S.Sink.out sequence _ _
 pub returns-in_err-serialize-clause-err : goal.returns-in_err-serialize-clause-err
 returns-in_err-serialize-clause-err g c =
     let parts : List Named = g.V.Serialize.written c.args.self.now.0 ∷ g.R.Items.parts c.args.self.now.1 in
-    let broken : BreaksItems g.S.Sink.stands_at g.S.Sink.out c.args.sink.now c.serialize.new.sink parts =
+    let broken : BreaksAll sequence g.S.Sink.stands_at g.S.Sink.out c.args.sink.now c.serialize.new.sink parts =
     λ n whole begun rest w. owes_broken g.S.Sink.stands_at g.S.Sink.out sequence n whole begun _ _ _ _ w c.in_err-serialize.ensures.err in
     on_err _ broken
 
@@ -25,13 +25,13 @@ write_items-requires g c =
 pub returns-clause-ok : goal.returns-clause-ok
 returns-clause-ok g c =
     let parts : List Named = g.V.Serialize.written c.args.self.now.0 ∷ g.R.Items.parts c.args.self.now.1 in
-    let taken : TakesItems g.S.Sink.stands_at c.serialize.new.sink c.write_items.new.sink (g.R.Items.parts c.args.self.now.1) → TakesItems g.S.Sink.stands_at c.args.sink.now c.write_items.new.sink parts =
+    let taken : TakesAll sequence g.S.Sink.stands_at c.serialize.new.sink c.write_items.new.sink (g.R.Items.parts c.args.self.now.1) → TakesAll sequence g.S.Sink.stands_at c.args.sink.now c.write_items.new.sink parts =
     λ h n whole begun rest w. h n whole begun rest (owes_more g.S.Sink.stands_at g.S.Sink.out sequence n whole begun _ _ _ _ w c.in_ok-serialize.ensures.ok) in
     on_ok_weaker _ taken c.write_items.ensures.ok
 
 pub returns-clause-err : goal.returns-clause-err
 returns-clause-err g c =
     let parts : List Named = g.V.Serialize.written c.args.self.now.0 ∷ g.R.Items.parts c.args.self.now.1 in
-    let broken : BreaksItems g.S.Sink.stands_at g.S.Sink.out c.serialize.new.sink c.write_items.new.sink (g.R.Items.parts c.args.self.now.1) → BreaksItems g.S.Sink.stands_at g.S.Sink.out c.args.sink.now c.write_items.new.sink parts =
+    let broken : BreaksAll sequence g.S.Sink.stands_at g.S.Sink.out c.serialize.new.sink c.write_items.new.sink (g.R.Items.parts c.args.self.now.1) → BreaksAll sequence g.S.Sink.stands_at g.S.Sink.out c.args.sink.now c.write_items.new.sink parts =
     λ h n whole begun rest w. h n whole begun rest (owes_more g.S.Sink.stands_at g.S.Sink.out sequence n whole begun _ _ _ _ w c.in_ok-serialize.ensures.ok) in
     on_err_weaker _ broken c.write_items.ensures.err
