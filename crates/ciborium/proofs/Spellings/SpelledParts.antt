@@ -1,10 +1,10 @@
 -- What stands at the front, in each spelling.
-use Rattle.std.proofs.Common.{◌≡◌, ℕ, ◌+◌, ◌<◌, List, ◌∷◌, Option, Some, None, Result, Ok, refl, ap, ◌∙◌, pos, negsuc}
+use Rattle.std.proofs.Common.{◌≡◌, ℕ, ◌+◌, ◌<◌, List, ◌∷◌, ◌++◌, Option, Some, None, Result, Ok, refl, ap, ◌∙◌, pos, negsuc}
 use Rattle.ciborium_ll.specs.declared.decoder.Decoder.{Decoder}
 use Rattle.ciborium_ll.specs.declared.header.Header.{Header}
 use Rattle.ciborium_ll.specs.declared.header.Header.TheVariants as header
 use Rattle.ciborium_ll.specs.Bytes.{greatest_offset}
-use Rattle.ciborium_ll.specs.Decoding.{IsAhead, offset_of, left_of, with_left}
+use Rattle.ciborium_ll.specs.Decoding.{IsAhead, Takes, TakesBeforeAny, offset_of, left_of, with_left}
 use Rattle.ciborium_ll.specs.Head.{break_byte}
 use Rattle.ciborium_ll.specs.Refusal.{HeadRefuses, semantic}
 use Rattle.ciborium_ll.specs.Refusal as refusal
@@ -24,6 +24,8 @@ use Rattle.ciborium.specs.inner.ValuesInBytes.{ReadsItem, IsAt, IsPulled, Stands
 use Rattle.ciborium_ll.specs.Decoding.{IsMeasured}
 use Rattle.ciborium.specs.Spelling.{Spelling, any, deterministic, head_fault}
 use Rattle.ciborium.specs.inner.StringAnswers.{IsStringRead}
+use Rattle.ciborium.proofs.Readers.WhateverFollows.{so-both}
+use Rattle.ciborium.proofs.Turns.AfterTag.{PullsSo}
 use Rattle.ciborium.proofs.Turns.Contents as contents
 use Rattle.ciborium.proofs.Turns.Contents.{header_of}
 use Rattle.ciborium.proofs.Turns.Fronts as fronts
@@ -66,6 +68,36 @@ module _ {S : Type 0} (spelling : Spelling) (remaining : S → Option (List ℕ)
       by : (s : Spelling) → StandsAt s Some (with_left d u) xs p → head_fault s h e.head_len ≡ Some kind → IsHeadMeasured s (with_left e v) p → IsRefusedBy {E = E} (Some v) (Semantic (Some offset) kind) (RefusesPart s xs p l)
       by any at wrong size = absurd cc
       by (deterministic order) at wrong size = fault-refuses order E Some (with_left e v) h l p offset xs kind wrong size (here ∙ offset-at Some (with_left d u) p xs at.0) pulled
+
+-- what is answered where it is accepted
+module _ {S : Type 0} (spelling : Spelling) (remaining : S → Option (List ℕ)) (d e : Decoder S) (h : Header) (size : IsMeasured d → e.window.count ≡ offset_of d + e.head_len) (right : head_fault spelling h e.head_len ≡ None)
+    (pull : TakesBeforeAny remaining d e (λ d e. PullsSo {E = Unit {0}} Some d e (Ok h))) where
+  -- by the head alone
+  pub part-of-head : (P : List ℕ → List ℕ → ℕ → Type 0) → ((z xs : List ℕ) (p : ℕ) → offset_of d ≡ p → IsHeadAccepted spelling Some (with_left e z) h xs p → P z xs p) →
+      Takes remaining d e (λ b. (z xs : List ℕ) (p : ℕ) → StandsAt spelling Some (with_left d (b ++ z)) xs p → P z xs p)
+  part-of-head P f = (
+    pull.0,
+    pull.1,
+    pull.2,
+    λ z xs p s. f z xs p (stands-offset spelling Some (with_left d (pull.0 ++ z)) p xs s)
+        (accepted-head spelling remaining d e (pull.0 ++ z) z xs p s size h right (pull.3 z xs p (ahead-of spelling Some (with_left d (pull.0 ++ z)) xs p s))),
+    pull.4,
+  )
+
+  -- by what was read behind it
+  pub part-behind-head : (f : Decoder S) (P : List ℕ → List ℕ → ℕ → Type 0) (Q : Decoder (List ℕ) → Decoder (List ℕ) → Type 0) → TakesBeforeAny remaining e f Q →
+      ((m z xs : List ℕ) (p : ℕ) → offset_of d ≡ p → IsHeadAccepted spelling Some (with_left e m) h xs p → Q (with_left e m) (with_left f z) → P z xs p) →
+      Takes remaining d f (λ b. (z xs : List ℕ) (p : ℕ) → StandsAt spelling Some (with_left d (b ++ z)) xs p → P z xs p)
+  part-behind-head f P Q read g =
+      let t = so-both remaining d e f (λ d e. PullsSo {E = Unit {0}} Some d e (Ok h)) Q pull read in (
+        t.0,
+        t.1,
+        t.2,
+        λ z xs p s. let m = t.3 z in
+            g m.0 z xs p (stands-offset spelling Some (with_left d (t.0 ++ z)) p xs s)
+            (accepted-head spelling remaining d e (t.0 ++ z) m.0 xs p s size h right (m.1 xs p (ahead-of spelling Some (with_left d (t.0 ++ z)) xs p s))) m.2,
+        t.4,
+      )
 
 pub head-refused : {E : Type 0} (spelling : Spelling) (left : Option (List ℕ)) (e : Error E) (xs : List ℕ) (p l : ℕ) → IsRefusedBy left e (HeadRefuses xs p) → IsRefusedBy left e (RefusesPart spelling xs p l)
 head-refused any left e xs p l h = fronts.head-refused left e xs p l h
