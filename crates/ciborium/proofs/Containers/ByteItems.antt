@@ -25,7 +25,7 @@ use Rattle.ciborium.specs.inner.Skips.{under, AreSkipped, IsBare, TakesBare}
 use Rattle.ciborium.specs.inner.StringContents.{string_item, TakesContent}
 use Rattle.ciborium.specs.inner.Unread.{IsRest, FitsAhead}
 use Rattle.ciborium.proofs.Containers.EnteredContainers.{HasItems, items-stand, within-is}
-use Rattle.ciborium.proofs.Items.ItemHeads.{header_of}
+use Rattle.ciborium.proofs.Items.ItemHeads.{header_of, by-shape, no-bare-tag}
 use Rattle.ciborium.proofs.Containers.NextParts.{fits-past, none-past}
 use Rattle.ciborium.proofs.Items.SkippedTags.{reads-bare, untagged-under}
 use Rattle.ciborium.proofs.Payloads.StringPayloads.{string-behind}
@@ -191,34 +191,14 @@ module _ {S : Type 0} (remaining : S → Option (List ℕ)) (old mid : ByteSourc
       let (z, un', done) = took w un in
       (z, un', done b owes)
 
-array-only : (i : Item) (count : Option ℕ) → header_of i ≡ header.Array count → bare_bytes (Some 0) (untagged i) ≡ nests
-array-only (unsigned n) count e = cc
-array-only (negative n) count e = cc
-array-only (bytes o b) count e = cc
-array-only (text o b) count e = cc
-array-only (array o b) count e = refl
-array-only (items.map o b) count e = cc
-array-only (tag t i) count e = cc
-array-only (simple n) count e = cc
-array-only (float raw) count e = cc
-
 pub array-nests : (m : ℕ) (count : Option ℕ) → m ≡ 0 → (ts : List ℕ) (i : Item) → AreSkipped false ts → header_of i ≡ header.Array count → taken_bytes (Some m) (under ts i) ≡ nests
-array-nests m count z ts i all e = ap (λ n. taken_bytes (Some n) (under ts i)) z ∙ ap (bare_bytes (Some 0)) (untagged-under ts i) ∙ array-only i count e
-
-other-bytes : (l : Limit) (i : Item) (h : Header) → header_of i ≡ h → IsBare false h → ((n : Option ℕ) → h ≡ header.Array n → ⊥) → ((n : Option ℕ) → h ≡ header.Bytes n → ⊥) → bare_bytes l (untagged i) ≡ refuses kinds.Bytes
-other-bytes l (unsigned n) h e bare p q = refl
-other-bytes l (negative n) h e bare p q = refl
-other-bytes l (bytes o b) h e bare p q = absurd (q _ (sym e))
-other-bytes l (text o b) h e bare p q = refl
-other-bytes l (array o b) h e bare p q = absurd (p _ (sym e))
-other-bytes l (items.map o b) h e bare p q = refl
-other-bytes l (tag t i) h e bare p q = let s : IsBare false (header.Tag t) = subst (IsBare false) (sym e) bare in absurd (let k = s.0 in cc)
-other-bytes l (simple n) h e bare p q = refl
-other-bytes l (float raw) h e bare p q = refl
+array-nests m count z ts i all e = ap (λ n. taken_bytes (Some n) (under ts i)) z ∙ ap (bare_bytes (Some 0)) (untagged-under ts i) ∙
+    by-shape (λ j. bare_bytes (Some 0) (untagged j) ≡ nests) (header.Array count) (λ n k. cc) (λ n k. cc) (λ o b k. cc) (λ o b k. cc) (λ o is k. refl) (λ o ps k. cc) (λ n k. cc) (λ raw k. cc) (λ t j k. cc) i e
 
 pub bytes-other : (l : Limit) (h : Header) → IsBare false h → ((n : Option ℕ) → h ≡ header.Array n → ⊥) → ((n : Option ℕ) → h ≡ header.Bytes n → ⊥) → (ts : List ℕ) (i : Item) → AreSkipped false ts → header_of i ≡ h →
     taken_bytes l (under ts i) ≡ refuses kinds.Bytes
-bytes-other l h bare p q ts i all e = ap (bare_bytes l) (untagged-under ts i) ∙ other-bytes l i h e bare p q
+bytes-other l h bare p q ts i all e = ap (bare_bytes l) (untagged-under ts i) ∙
+    by-shape (λ j. bare_bytes l (untagged j) ≡ refuses kinds.Bytes) h (λ n k. refl) (λ n k. refl) (λ o b k. absurd (q _ k)) (λ o b k. refl) (λ o is k. absurd (p _ k)) (λ o ps k. refl) (λ n k. refl) (λ raw k. refl) (λ t j k. no-bare-tag h t bare k) i e
 
 -- ---- the byte string
 

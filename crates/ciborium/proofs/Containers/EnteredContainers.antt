@@ -25,7 +25,7 @@ use Rattle.ciborium.specs.inner.ByteSources.{IsUnread, IsUnreadBy, StandsBefore,
 use Rattle.ciborium.specs.inner.Skips.{under, AreSkipped, IsBare, TakesBare, EntersUnread}
 use Rattle.ciborium.specs.inner.StringContents.{TakesContent}
 use Rattle.ciborium.specs.inner.Unread.{AreSpelled, AreLeft, SpellsPair, IsRest, ending, form_of, HasCount}
-use Rattle.ciborium.proofs.Items.ItemHeads.{header_of, packed, packed-pairs, counted-front, open-front, counted-pairs-front, open-pairs-front}
+use Rattle.ciborium.proofs.Items.ItemHeads.{header_of, packed, packed-pairs, counted-front, open-front, counted-pairs-front, open-pairs-front, by-shape, no-bare-tag}
 use Rattle.ciborium.proofs.Items.SkippedTags.{untagged-under}
 use Rattle.ciborium.proofs.Items.TakenOnly.{IsKept, kept-reader}
 
@@ -198,62 +198,22 @@ bytes-entered remaining old mid new q v len payload is same levels bare content 
 
 -- ---- what is refused
 
-array-only : (i : Item) (count : Option ℕ) → header_of i ≡ header.Array count → bare_seq (Some 0) (untagged i) ≡ nests
-array-only (unsigned n) count e = cc
-array-only (negative n) count e = cc
-array-only (bytes o b) count e = cc
-array-only (text o b) count e = cc
-array-only (array o b) count e = refl
-array-only (items.map o b) count e = cc
-array-only (tag t i) count e = cc
-array-only (simple n) count e = cc
-array-only (float raw) count e = cc
-
 pub array-nests : (m : ℕ) (count : Option ℕ) → m ≡ 0 → (ts : List ℕ) (i : Item) → AreSkipped false ts → header_of i ≡ header.Array count → taken_seq (Some m) (under ts i) ≡ nests
-array-nests m count z ts i all e = ap (λ n. taken_seq (Some n) (under ts i)) z ∙ ap (bare_seq (Some 0)) (untagged-under ts i) ∙ array-only i count e
-
-map-only : (i : Item) (count : Option ℕ) → header_of i ≡ header.Map count → bare_pairs (Some 0) (untagged i) ≡ nests
-map-only (unsigned n) count e = cc
-map-only (negative n) count e = cc
-map-only (bytes o b) count e = cc
-map-only (text o b) count e = cc
-map-only (array o b) count e = cc
-map-only (items.map o b) count e = refl
-map-only (tag t i) count e = cc
-map-only (simple n) count e = cc
-map-only (float raw) count e = cc
+array-nests m count z ts i all e = ap (λ n. taken_seq (Some n) (under ts i)) z ∙ ap (bare_seq (Some 0)) (untagged-under ts i) ∙
+    by-shape (λ j. bare_seq (Some 0) (untagged j) ≡ nests) (header.Array count) (λ n k. cc) (λ n k. cc) (λ o b k. cc) (λ o b k. cc) (λ o is k. refl) (λ o ps k. cc) (λ n k. cc) (λ raw k. cc) (λ t j k. cc) i e
 
 pub map-nests : (m : ℕ) (count : Option ℕ) → m ≡ 0 → (ts : List ℕ) (i : Item) → AreSkipped false ts → header_of i ≡ header.Map count → taken_pairs (Some m) (under ts i) ≡ nests
-map-nests m count z ts i all e = ap (λ n. taken_pairs (Some n) (under ts i)) z ∙ ap (bare_pairs (Some 0)) (untagged-under ts i) ∙ map-only i count e
-
-other-seq : (l : Limit) (i : Item) (h : Header) → header_of i ≡ h → IsBare false h → ((n : Option ℕ) → h ≡ header.Array n → ⊥) → ((n : Option ℕ) → h ≡ header.Bytes n → ⊥) → bare_seq l (untagged i) ≡ refuses kinds.Array
-other-seq l (unsigned n) h e bare p q = refl
-other-seq l (negative n) h e bare p q = refl
-other-seq l (bytes o b) h e bare p q = absurd (q _ (sym e))
-other-seq l (text o b) h e bare p q = refl
-other-seq l (array o b) h e bare p q = absurd (p _ (sym e))
-other-seq l (items.map o b) h e bare p q = refl
-other-seq l (tag t i) h e bare p q = let s : IsBare false (header.Tag t) = subst (IsBare false) (sym e) bare in absurd (let k = s.0 in cc)
-other-seq l (simple n) h e bare p q = refl
-other-seq l (float raw) h e bare p q = refl
+map-nests m count z ts i all e = ap (λ n. taken_pairs (Some n) (under ts i)) z ∙ ap (bare_pairs (Some 0)) (untagged-under ts i) ∙
+    by-shape (λ j. bare_pairs (Some 0) (untagged j) ≡ nests) (header.Map count) (λ n k. cc) (λ n k. cc) (λ o b k. cc) (λ o b k. cc) (λ o is k. cc) (λ o ps k. refl) (λ n k. cc) (λ raw k. cc) (λ t j k. cc) i e
 
 pub seq-other : (l : Limit) (h : Header) → IsBare false h → ((n : Option ℕ) → h ≡ header.Array n → ⊥) → ((n : Option ℕ) → h ≡ header.Bytes n → ⊥) → (ts : List ℕ) (i : Item) → AreSkipped false ts → header_of i ≡ h →
     taken_seq l (under ts i) ≡ refuses kinds.Array
-seq-other l h bare p q ts i all e = ap (bare_seq l) (untagged-under ts i) ∙ other-seq l i h e bare p q
-
-other-map : (l : Limit) (i : Item) (h : Header) → header_of i ≡ h → IsBare false h → ((n : Option ℕ) → h ≡ header.Map n → ⊥) → bare_pairs l (untagged i) ≡ refuses kinds.Map
-other-map l (unsigned n) h e bare p = refl
-other-map l (negative n) h e bare p = refl
-other-map l (bytes o b) h e bare p = refl
-other-map l (text o b) h e bare p = refl
-other-map l (array o b) h e bare p = refl
-other-map l (items.map o b) h e bare p = absurd (p _ (sym e))
-other-map l (tag t i) h e bare p = let s : IsBare false (header.Tag t) = subst (IsBare false) (sym e) bare in absurd (let k = s.0 in cc)
-other-map l (simple n) h e bare p = refl
-other-map l (float raw) h e bare p = refl
+seq-other l h bare p q ts i all e = ap (bare_seq l) (untagged-under ts i) ∙
+    by-shape (λ j. bare_seq l (untagged j) ≡ refuses kinds.Array) h (λ n k. refl) (λ n k. refl) (λ o b k. absurd (q _ k)) (λ o b k. refl) (λ o is k. absurd (p _ k)) (λ o ps k. refl) (λ n k. refl) (λ raw k. refl) (λ t j k. no-bare-tag h t bare k) i e
 
 pub map-other : (l : Limit) (h : Header) → IsBare false h → ((n : Option ℕ) → h ≡ header.Map n → ⊥) → (ts : List ℕ) (i : Item) → AreSkipped false ts → header_of i ≡ h → taken_pairs l (under ts i) ≡ refuses kinds.Map
-map-other l h bare p ts i all e = ap (bare_pairs l) (untagged-under ts i) ∙ other-map l i h e bare p
+map-other l h bare p ts i all e = ap (bare_pairs l) (untagged-under ts i) ∙
+    by-shape (λ j. bare_pairs l (untagged j) ≡ refuses kinds.Map) h (λ n k. refl) (λ n k. refl) (λ o b k. refl) (λ o b k. refl) (λ o is k. refl) (λ o ps k. absurd (p _ k)) (λ n k. refl) (λ raw k. refl) (λ t j k. no-bare-tag h t bare k) i e
 
 -- ---- where the source then stands
 

@@ -16,7 +16,7 @@ use Rattle.ciborium.specs.inner.FrontItems.{TakesHead, Denies}
 use Rattle.ciborium.specs.inner.Skips.{EntersLevelUnread}
 use Rattle.ciborium.specs.inner.Unread.{IsRest}
 use Rattle.ciborium.proofs.Containers.EnteredContainers.{within-is, deeper-is}
-use Rattle.ciborium.proofs.Items.ItemHeads.{header_of, tag-front, same-head}
+use Rattle.ciborium.proofs.Items.ItemHeads.{header_of, tag-front, same-head, by-shape}
 use Rattle.ciborium.proofs.Containers.NextParts.{fits-past, none-past}
 use Rattle.ciborium.proofs.Items.TakenOnly.{IsKept, kept-reader}
 
@@ -61,15 +61,8 @@ module _ {S : Type 0} (IsUnread : S → List ℕ → Type 0) (old mid new : S) (
       )
 
   untagged-alone : (h : Header) → ((t : ℕ) → h ≡ header.Tag t → ⊥) → (i : Item) → header_of i ≡ h → outer_tag i ≡ (None, i)
-  untagged-alone h p (unsigned n) e = refl
-  untagged-alone h p (negative n) e = refl
-  untagged-alone h p (bytes o b) e = refl
-  untagged-alone h p (text o b) e = refl
-  untagged-alone h p (array o is) e = refl
-  untagged-alone h p (items.map o ps) e = refl
-  untagged-alone h p (tag t i) e = absurd (p t (sym e))
-  untagged-alone h p (simple n) e = refl
-  untagged-alone h p (float raw) e = refl
+  untagged-alone h p i e =
+      by-shape (λ j. outer_tag j ≡ (None, j)) h (λ n k. refl) (λ n k. refl) (λ o b k. refl) (λ o b k. refl) (λ o is k. refl) (λ o ps k. refl) (λ n k. refl) (λ raw k. refl) (λ t j k. absurd (p t k)) i e
 
   -- another head was looked at
   pub none-opened : (h : Header) → ((t : ℕ) → h ≡ header.Tag t → ⊥) → TakesHead IsUnread old mid h → ((b x y : List ℕ) → IsUnread old b → SpellsHeader x h → b ≡ x ++ y → IsUnread mid y → IsUnread new b) →

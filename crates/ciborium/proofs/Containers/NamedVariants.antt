@@ -7,7 +7,7 @@ use Rattle.ciborium_ll.specs.declared.header.Header.TheVariants as header
 use Rattle.ciborium_ll.specs.declared.decoder.Decoder.{Decoder}
 use Rattle.ciborium_ll.specs.Header.{SpellsHeader}
 use Rattle.ciborium_ll.specs.Item as items
-use Rattle.ciborium_ll.specs.Item.{Item, unsigned, negative, bytes, text, array, tag, simple, float, Pairs, no_pairs, pair}
+use Rattle.ciborium_ll.specs.Item.{Item, unsigned, negative, bytes, text, array, tag, simple, float, Pairs, no_pairs, pair, pairs_count}
 use Rattle.ciborium_ll.specs.Spells.{Spells}
 use Rattle.ciborium_ll.specs.StringRefusal.{of_bytes}
 use Rattle.ciborium_ll.proofs.UniqueSpelling.{one_at_front}
@@ -23,7 +23,7 @@ use Rattle.ciborium.specs.inner.Skips.{under, AreSkipped, IsBare, TakesBare, Ent
 use Rattle.ciborium.specs.inner.StringContents.{TakesContent}
 use Rattle.ciborium_value.specs.Places.{is_open}
 use Rattle.ciborium.proofs.Containers.EnteredContainers.{within-is}
-use Rattle.ciborium.proofs.Items.ItemHeads.{header_of, same-head}
+use Rattle.ciborium.proofs.Items.ItemHeads.{header_of, same-head, by-shape, no-bare-tag, size_of}
 use Rattle.ciborium.proofs.Items.SkippedTags.{untagged-under}
 
 -- ---- names
@@ -47,19 +47,9 @@ bytes-no-name IsUnread End old mid new len l payload not bare content b s z j u 
     let one = one_at_front t (x ++ c) z r i (bytes (is_open len) payload) sq (make x hd) (sym k ∙ g ∙ ap (λ (q : List ℕ). x ++ q) f ∙ sym (append_assoc x c r)) in
     ap bare_name (ap untagged io ∙ untagged-under ts i ∙ ap untagged one.2) ∙ (rw bad refl)
 
-other-name : (i : Item) (h : Header) → header_of i ≡ h → IsBare false h → ((n : Option ℕ) → h ≡ header.Text n → ⊥) → ((n : Option ℕ) → h ≡ header.Bytes n → ⊥) → bare_name (untagged i) ≡ refuses kinds.Name
-other-name (unsigned n) h e bare p q = refl
-other-name (negative n) h e bare p q = refl
-other-name (bytes o b) h e bare p q = absurd (q _ (sym e))
-other-name (text o b) h e bare p q = absurd (p _ (sym e))
-other-name (array o b) h e bare p q = refl
-other-name (items.map o b) h e bare p q = refl
-other-name (tag t i) h e bare p q = let s : IsBare false (header.Tag t) = subst (IsBare false) (sym e) bare in absurd (let k = s.0 in cc)
-other-name (simple n) h e bare p q = refl
-other-name (float raw) h e bare p q = refl
-
 pub name-other : (l : Limit) (h : Header) → IsBare false h → ((n : Option ℕ) → h ≡ header.Text n → ⊥) → ((n : Option ℕ) → h ≡ header.Bytes n → ⊥) → (ts : List ℕ) (i : Item) → AreSkipped false ts → header_of i ≡ h → taken_name l (under ts i) ≡ refuses kinds.Name
-name-other l h bare p q ts i all e = ap bare_name (untagged-under ts i) ∙ other-name i h e bare p q
+name-other l h bare p q ts i all e = ap bare_name (untagged-under ts i) ∙
+    by-shape (λ j. bare_name (untagged j) ≡ refuses kinds.Name) h (λ n k. refl) (λ n k. refl) (λ o b k. absurd (q _ k)) (λ o b k. absurd (p _ k)) (λ o is k. refl) (λ o ps k. refl) (λ n k. refl) (λ raw k. refl) (λ t j k. no-bare-tag h t bare k) i e
 
 -- ---- variants
 
@@ -156,53 +146,29 @@ module _ {S : Type 0} (IsUnread : S → List ℕ → Type 0) (old mid inner new 
 
 -- ---- what is refused
 
-text-only : (i : Item) (len : Option ℕ) → header_of i ≡ header.Text len → bare_variant (Some 0) (untagged i) ≡ nests
-text-only (unsigned n) count e = cc
-text-only (negative n) count e = cc
-text-only (bytes o b) count e = cc
-text-only (text o b) count e = refl
-text-only (array o b) count e = cc
-text-only (items.map o b) count e = cc
-text-only (tag t i) count e = cc
-text-only (simple n) count e = cc
-text-only (float raw) count e = cc
+pair-only : (o : Bool) (ps : Pairs) → ◌≡◌ {A = Header} (header.Map (Some 1)) (header.Map (size_of o (pairs_count ps))) → bare_variant (Some 0) (items.map o ps) ≡ nests
+pair-only true ps e = cc
+pair-only false no_pairs e = cc
+pair-only false (pair k v no_pairs) e = refl
+pair-only false (pair k v (pair k' v' ps)) e = cc
 
-pair-only : (i : Item) → header_of i ≡ header.Map (Some 1) → bare_variant (Some 0) (untagged i) ≡ nests
-pair-only (unsigned n) e = cc
-pair-only (negative n) e = cc
-pair-only (bytes o b) e = cc
-pair-only (text o b) e = cc
-pair-only (array o b) e = cc
-pair-only (items.map true b) e = cc
-pair-only (items.map false no_pairs) e = cc
-pair-only (items.map false (pair k v no_pairs)) e = refl
-pair-only (items.map false (pair k v (pair k' v' ps))) e = cc
-pair-only (tag t i) e = cc
-pair-only (simple n) e = cc
-pair-only (float raw) e = cc
+other-pairs : (l : Limit) (h : Header) → (h ≡ header.Map (Some 1) → ⊥) → (o : Bool) (ps : Pairs) → h ≡ header.Map (size_of o (pairs_count ps)) → bare_variant l (items.map o ps) ≡ refuses kinds.Variant
+other-pairs l h q true ps e = refl
+other-pairs l h q false no_pairs e = refl
+other-pairs l h q false (pair k v no_pairs) e = absurd (q e)
+other-pairs l h q false (pair k v (pair k' v' ps)) e = refl
 
 pub text-nests : (m : ℕ) (len : Option ℕ) → m ≡ 0 → (ts : List ℕ) (i : Item) → AreSkipped false ts → header_of i ≡ header.Text len → taken_variant (Some m) (under ts i) ≡ nests
-text-nests m len z ts i all e = ap (λ n. taken_variant (Some n) (under ts i)) z ∙ ap (bare_variant (Some 0)) (untagged-under ts i) ∙ text-only i len e
+text-nests m len z ts i all e = ap (λ n. taken_variant (Some n) (under ts i)) z ∙ ap (bare_variant (Some 0)) (untagged-under ts i) ∙
+    by-shape (λ j. bare_variant (Some 0) (untagged j) ≡ nests) (header.Text len) (λ n k. cc) (λ n k. cc) (λ o b k. cc) (λ o b k. refl) (λ o is k. cc) (λ o ps k. cc) (λ n k. cc) (λ raw k. cc) (λ t j k. cc) i e
 
 pub pair-nests : (m : ℕ) → m ≡ 0 → (ts : List ℕ) (i : Item) → AreSkipped false ts → header_of i ≡ header.Map (Some 1) → taken_variant (Some m) (under ts i) ≡ nests
-pair-nests m z ts i all e = ap (λ n. taken_variant (Some n) (under ts i)) z ∙ ap (bare_variant (Some 0)) (untagged-under ts i) ∙ pair-only i e
-
-other-variant : (l : Limit) (i : Item) (h : Header) → header_of i ≡ h → IsBare false h → ((n : Option ℕ) → h ≡ header.Text n → ⊥) → (h ≡ header.Map (Some 1) → ⊥) → bare_variant l (untagged i) ≡ refuses kinds.Variant
-other-variant l (unsigned n) h e bare p q = refl
-other-variant l (negative n) h e bare p q = refl
-other-variant l (bytes o b) h e bare p q = refl
-other-variant l (text o b) h e bare p q = absurd (p _ (sym e))
-other-variant l (array o b) h e bare p q = refl
-other-variant l (items.map true b) h e bare p q = refl
-other-variant l (items.map false no_pairs) h e bare p q = refl
-other-variant l (items.map false (pair k v no_pairs)) h e bare p q = absurd (q (sym e))
-other-variant l (items.map false (pair k v (pair k' v' ps))) h e bare p q = refl
-other-variant l (tag t i) h e bare p q = let s : IsBare false (header.Tag t) = subst (IsBare false) (sym e) bare in absurd (let k = s.0 in cc)
-other-variant l (simple n) h e bare p q = refl
-other-variant l (float raw) h e bare p q = refl
+pair-nests m z ts i all e = ap (λ n. taken_variant (Some n) (under ts i)) z ∙ ap (bare_variant (Some 0)) (untagged-under ts i) ∙
+    by-shape (λ j. bare_variant (Some 0) (untagged j) ≡ nests) (header.Map (Some 1)) (λ n k. cc) (λ n k. cc) (λ o b k. cc) (λ o b k. cc) (λ o is k. cc) pair-only (λ n k. cc) (λ raw k. cc) (λ t j k. cc) i e
 
 pub variant-other : (l : Limit) (h : Header) → IsBare false h → ((n : Option ℕ) → h ≡ header.Text n → ⊥) → (h ≡ header.Map (Some 1) → ⊥) → (ts : List ℕ) (i : Item) → AreSkipped false ts → header_of i ≡ h → taken_variant l (under ts i) ≡ refuses kinds.Variant
-variant-other l h bare p q ts i all e = ap (bare_variant l) (untagged-under ts i) ∙ other-variant l i h e bare p q
+variant-other l h bare p q ts i all e = ap (bare_variant l) (untagged-under ts i) ∙
+    by-shape (λ j. bare_variant l (untagged j) ≡ refuses kinds.Variant) h (λ n k. refl) (λ n k. refl) (λ o b k. refl) (λ o b k. absurd (p _ k)) (λ o is k. refl) (other-pairs l h q) (λ n k. refl) (λ raw k. refl) (λ t j k. no-bare-tag h t bare k) i e
 
 pub map-no-text : (h : Header) (count : Option ℕ) → h ≡ header.Map count → (n : Option ℕ) → h ≡ header.Text n → ⊥
 map-no-text h count e n f = cc

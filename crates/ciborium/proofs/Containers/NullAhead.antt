@@ -15,7 +15,7 @@ use Rattle.ciborium.specs.declared.de.byte_source.ByteSource.{ByteSource}
 use Rattle.ciborium.specs.inner.ByteSources.{IsUnread, StandsBefore, bytes_weight, items_due_behind, head_weight, weight_left, IsUnreadBy, end_at, reader_of}
 use Rattle.ciborium.specs.inner.FrontItems.{TakesHead, DeniesHead}
 use Rattle.ciborium.specs.inner.Unread.{IsRest}
-use Rattle.ciborium.proofs.Items.ItemHeads.{header_of, first-head, first-payload, same-head}
+use Rattle.ciborium.proofs.Items.ItemHeads.{header_of, first-head, first-payload, same-head, by-shape}
 use Rattle.ciborium.proofs.Items.TakenOnly.{IsKept, kept-reader, rest-end}
 
 pub null-simple : (h : Header) (n : ℕ) → h ≡ header.Simple n → (i : Item) → header_of i ≡ h → is_null_simple n ≡ is_null i
@@ -33,15 +33,8 @@ null-simple h n is i e = by i (e ∙ is)
     by (float raw) e = cc
 
 pub null-other : (h : Header) → ((n : ℕ) → h ≡ header.Simple n → ⊥) → (i : Item) → header_of i ≡ h → false ≡ is_null i
-null-other h p (unsigned m) e = refl
-null-other h p (negative m) e = refl
-null-other h p (bytes o b) e = refl
-null-other h p (text o b) e = refl
-null-other h p (array o b) e = refl
-null-other h p (items.map o b) e = refl
-null-other h p (tag t b) e = refl
-null-other h p (simple m) e = absurd (p m (sym e))
-null-other h p (float raw) e = refl
+null-other h p i e =
+    by-shape (λ j. false ≡ is_null j) h (λ n k. refl) (λ n k. refl) (λ o b k. refl) (λ o b k. refl) (λ o is k. refl) (λ o ps k. refl) (λ n k. absurd (p n k)) (λ raw k. refl) (λ t j k. refl) i e
 
 module _ {S : Type 0} (remaining : S → Option (List ℕ)) (old mid new : ByteSource S) (h : Header) (took : TakesHead (IsUnread remaining) old mid h)
     (back : (b x y : List ℕ) → IsUnread remaining old b → SpellsHeader x h → b ≡ x ++ y → IsUnread remaining mid y → IsUnread remaining new b) where

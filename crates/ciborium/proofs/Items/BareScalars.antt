@@ -12,7 +12,7 @@ use Rattle.ciborium_value.specs.Taken.{gives, refuses, untagged, number_of, bign
 use Rattle.ciborium_value.specs.declared.kind.Kind.TheVariants as kinds
 use Rattle.ciborium.specs.inner.FrontItems.{Reads, Denies}
 use Rattle.ciborium.specs.inner.Skips.{under, AreSkipped, IsBare, TakesBare}
-use Rattle.ciborium.proofs.Items.ItemHeads.{header_of, tag-front}
+use Rattle.ciborium.proofs.Items.ItemHeads.{header_of, tag-front, by-shape, no-bare-tag}
 use Rattle.ciborium.proofs.Items.SkippedTags.{ReadsBehind, number-under, untagged-under}
 
 -- ---- integers
@@ -46,40 +46,20 @@ module _ {S : Type 0} (IsUnread : S → List ℕ → Type 0) (t : ℕ) (l : Limi
       let blamed : IsFaultOf (End old) fault (number_of (tag t k)) = subst (λ n. IsFaultOf n fault (number_of (tag t k))) (same b u) (signed-fault _ t k fault is (d y c z k un sr q)) in
       subst (λ o. IsFaultOf (End old) fault o) (sym (ap number_of (io ∙ ap (under ts) ik) ∙ number-under ts (tag t k) all)) blamed
 
-other-integer : (i : Item) (h : Header) → header_of i ≡ h → ((n : ℕ) → h ≡ header.Positive n → ⊥) → ((n : ℕ) → h ≡ header.Negative n → ⊥) → ((n : ℕ) → h ≡ header.Tag n → ⊥) → number_of i ≡ refuses kinds.Integer
-other-integer (unsigned n) h e p q r = absurd (p n (sym e))
-other-integer (negative n) h e p q r = absurd (q n (sym e))
-other-integer (bytes o b) h e p q r = refl
-other-integer (text o b) h e p q r = refl
-other-integer (array o b) h e p q r = refl
-other-integer (items.map o b) h e p q r = refl
-other-integer (tag t i) h e p q r = absurd (r t (sym e))
-other-integer (simple n) h e p q r = refl
-other-integer (float raw) h e p q r = refl
-
 pub integer-other : (l : Limit) (h : Header) → ((n : ℕ) → h ≡ header.Positive n → ⊥) → ((n : ℕ) → h ≡ header.Negative n → ⊥) → ((n : ℕ) → h ≡ header.Tag n → ⊥) →
     (ts : List ℕ) (i : Item) → AreSkipped true ts → header_of i ≡ h → taken_integer l (under ts i) ≡ refuses kinds.Integer
-integer-other l h p q r ts i all e = number-under ts i all ∙ other-integer i h e p q r
+integer-other l h p q r ts i all e = number-under ts i all ∙
+    by-shape (λ j. number_of j ≡ refuses kinds.Integer) h (λ n k. absurd (p n k)) (λ n k. absurd (q n k)) (λ o b k. refl) (λ o b k. refl) (λ o is k. refl) (λ o ps k. refl) (λ n k. refl) (λ raw k. refl) (λ t j k. absurd (r t k)) i e
 
 -- ---- booleans
 
 pub boolean-gives : (l : Limit) (n : ℕ) (v : Bool) → boolean_of n ≡ gives v → (ts : List ℕ) → AreSkipped false ts → taken_boolean l (under ts (simple n)) ≡ gives v
 boolean-gives l n v e ts all = ap bare_boolean (untagged-under ts (simple n)) ∙ e
 
-other-boolean : (i : Item) (h : Header) → header_of i ≡ h → IsBare false h → ((n : ℕ) → h ≡ header.Simple n → boolean_of n ≡ refuses kinds.Bool) → bare_boolean (untagged i) ≡ refuses kinds.Bool
-other-boolean (unsigned n) h e bare nope = refl
-other-boolean (negative n) h e bare nope = refl
-other-boolean (bytes o b) h e bare nope = refl
-other-boolean (text o b) h e bare nope = refl
-other-boolean (array o b) h e bare nope = refl
-other-boolean (items.map o b) h e bare nope = refl
-other-boolean (tag t i) h e bare nope = let s : IsBare false (header.Tag t) = subst (IsBare false) (sym e) bare in absurd (let k = s.0 in cc)
-other-boolean (simple n) h e bare nope = nope n (sym e)
-other-boolean (float raw) h e bare nope = refl
-
 pub boolean-other : (l : Limit) (h : Header) → IsBare false h → ((n : ℕ) → h ≡ header.Simple n → boolean_of n ≡ refuses kinds.Bool) →
     (ts : List ℕ) (i : Item) → AreSkipped false ts → header_of i ≡ h → taken_boolean l (under ts i) ≡ refuses kinds.Bool
-boolean-other l h bare nope ts i all e = ap bare_boolean (untagged-under ts i) ∙ other-boolean i h e bare nope
+boolean-other l h bare nope ts i all e = ap bare_boolean (untagged-under ts i) ∙
+    by-shape (λ j. bare_boolean (untagged j) ≡ refuses kinds.Bool) h (λ n k. refl) (λ n k. refl) (λ o b k. refl) (λ o b k. refl) (λ o is k. refl) (λ o ps k. refl) nope (λ raw k. refl) (λ t j k. no-bare-tag h t bare k) i e
 
 pub boolean-none : (h : Header) (m : ℕ) → h ≡ header.Simple m → (m ≡ 20 → ⊥) → (m ≡ 21 → ⊥) → (n : ℕ) → h ≡ header.Simple n → boolean_of n ≡ refuses kinds.Bool
 boolean-none h m e p q n f = let s : m ≡ n = cc in subst (λ k. boolean_of k ≡ refuses kinds.Bool) s (by m p q)
@@ -92,20 +72,10 @@ boolean-none h m e p q n f = let s : m ≡ n = cc in subst (λ k. boolean_of k �
 pub unit-gives : (l : Limit) (n : ℕ) → is_null_simple n ≡ true → (ts : List ℕ) → AreSkipped false ts → taken_unit l (under ts (simple n)) ≡ gives tt
 unit-gives l n e ts all = ap bare_unit (untagged-under ts (simple n)) ∙ rw e refl
 
-other-unit : (i : Item) (h : Header) → header_of i ≡ h → IsBare false h → ((n : ℕ) → h ≡ header.Simple n → is_null_simple n ≡ false) → bare_unit (untagged i) ≡ refuses kinds.Unit
-other-unit (unsigned n) h e bare nope = refl
-other-unit (negative n) h e bare nope = refl
-other-unit (bytes o b) h e bare nope = refl
-other-unit (text o b) h e bare nope = refl
-other-unit (array o b) h e bare nope = refl
-other-unit (items.map o b) h e bare nope = refl
-other-unit (tag t i) h e bare nope = let s : IsBare false (header.Tag t) = subst (IsBare false) (sym e) bare in absurd (let k = s.0 in cc)
-other-unit (simple n) h e bare nope = let k = nope n (sym e) in rw k refl
-other-unit (float raw) h e bare nope = refl
-
 pub unit-other : (l : Limit) (h : Header) → IsBare false h → ((n : ℕ) → h ≡ header.Simple n → is_null_simple n ≡ false) →
     (ts : List ℕ) (i : Item) → AreSkipped false ts → header_of i ≡ h → taken_unit l (under ts i) ≡ refuses kinds.Unit
-unit-other l h bare nope ts i all e = ap bare_unit (untagged-under ts i) ∙ other-unit i h e bare nope
+unit-other l h bare nope ts i all e = ap bare_unit (untagged-under ts i) ∙
+    by-shape (λ j. bare_unit (untagged j) ≡ refuses kinds.Unit) h (λ n k. refl) (λ n k. refl) (λ o b k. refl) (λ o b k. refl) (λ o is k. refl) (λ o ps k. refl) (λ n k. let no = nope n k in rw no refl) (λ raw k. refl) (λ t j k. no-bare-tag h t bare k) i e
 
 pub unit-none : (h : Header) (m : ℕ) → h ≡ header.Simple m → is_null_simple m ≡ false → (n : ℕ) → h ≡ header.Simple n → is_null_simple n ≡ false
 unit-none h m e p n f = let s : m ≡ n = cc in subst (λ k. is_null_simple k ≡ false) s p

@@ -1,5 +1,5 @@
 -- The head with which an item begins, and what stands behind it.
-use Rattle.std.proofs.Common.{◌≡◌, ℕ, suc, Bool, true, false, List, [], ◌∷◌, ◌++◌, length, Option, Some, None, refl, sym, ap, ◌∙◌, append_assoc, append-nil, ◌≤◌, arith}
+use Rattle.std.proofs.Common.{◌≡◌, ℕ, suc, Bool, true, false, List, [], ◌∷◌, ◌++◌, length, Option, Some, None, refl, sym, ap, ◌∙◌, subst, append_assoc, append-nil, ◌≤◌, arith}
 use Rattle.ciborium_ll.specs.declared.header.Header.{Header}
 use Rattle.ciborium_ll.specs.declared.header.Header.TheVariants as header
 use Rattle.ciborium_ll.specs.Head.{open_byte, break_byte}
@@ -9,6 +9,7 @@ use Rattle.ciborium_ll.specs.Item.{Item, Items, Pairs, unsigned, negative, bytes
 use Rattle.ciborium_ll.specs.Spells.{Spells, SpellsItems, SpellsPairs}
 use Rattle.ciborium_ll.proofs.OneHeader.{one_header_at_front}
 use Rattle.ciborium_value.specs.Taken.{unpack, unpack_pairs}
+use Rattle.ciborium.specs.inner.Skips.{IsBare}
 use Rattle.ciborium.specs.inner.Unread.{AreSpelled, SpellsPair}
 
 abbrev pub size_of : Bool → ℕ → Option ℕ
@@ -26,6 +27,26 @@ header_of (items.map open_ ps) = header.Map (size_of open_ (pairs_count ps))
 header_of (tag t i) = header.Tag t
 header_of (simple n) = header.Simple n
 header_of (float raw) = header.Float (length raw)
+
+-- what holds of each shape that may have this head holds of an item that has it
+module _ (P : Item → Type 0) (h : Header) where
+  pub by-shape : ((n : ℕ) → h ≡ header.Positive n → P (unsigned n)) → ((n : ℕ) → h ≡ header.Negative n → P (negative n)) → ((o : Bool) (b : List ℕ) → h ≡ header.Bytes (size_of o (length b)) → P (bytes o b)) →
+      ((o : Bool) (b : List ℕ) → h ≡ header.Text (size_of o (length b)) → P (text o b)) → ((o : Bool) (is : Items) → h ≡ header.Array (size_of o (items_count is)) → P (array o is)) →
+      ((o : Bool) (ps : Pairs) → h ≡ header.Map (size_of o (pairs_count ps)) → P (items.map o ps)) → ((n : ℕ) → h ≡ header.Simple n → P (simple n)) → ((raw : List ℕ) → h ≡ header.Float (length raw) → P (float raw)) →
+      ((t : ℕ) (i : Item) → h ≡ header.Tag t → P (tag t i)) → (i : Item) → header_of i ≡ h → P i
+  by-shape a b c d f g j k m (unsigned n) e = a n (sym e)
+  by-shape a b c d f g j k m (negative n) e = b n (sym e)
+  by-shape a b c d f g j k m (bytes o x) e = c o x (sym e)
+  by-shape a b c d f g j k m (text o x) e = d o x (sym e)
+  by-shape a b c d f g j k m (array o is) e = f o is (sym e)
+  by-shape a b c d f g j k m (items.map o ps) e = g o ps (sym e)
+  by-shape a b c d f g j k m (tag t i) e = m t i (sym e)
+  by-shape a b c d f g j k m (simple n) e = j n (sym e)
+  by-shape a b c d f g j k m (float raw) e = k raw (sym e)
+
+-- a head behind which no tag is skipped is that of no tag
+pub no-bare-tag : {A : Type 0} (h : Header) (t : ℕ) → IsBare false h → h ≡ header.Tag t → A
+no-bare-tag h t bare e = let s : IsBare false (header.Tag t) = subst (IsBare false) e bare in absurd (let k = s.0 in cc)
 
 pub first-head : (s : List ℕ) (i : Item) → Spells s i → (x : List ℕ) × (y : List ℕ) × SpellsHeader x (header_of i) × (s ≡ x ++ y)
 first-head s (unsigned n) h = (s, [], h, sym (append-nil s))

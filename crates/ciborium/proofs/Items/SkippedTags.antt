@@ -7,8 +7,8 @@ use Rattle.ciborium_ll.specs.Item.{Item, tag}
 use Rattle.ciborium_ll.specs.Spells.{Spells}
 use Rattle.ciborium_value.specs.Meaning.{is_bignum_tag}
 use Rattle.ciborium_value.specs.Nesting.{Limit}
-use Rattle.ciborium_value.specs.Sources.{Fault, IsFaultOf, IsOutsideFault}
-use Rattle.ciborium_value.specs.Taken.{Taken, gives, untagged, number_of, number_under}
+use Rattle.ciborium_value.specs.Sources.{Fault, IsFaultOf, IsOutsideFault, of_nesting}
+use Rattle.ciborium_value.specs.Taken.{Taken, gives, untagged, number_of, number_under, nests}
 use Rattle.ciborium_value.proofs.Sources.Sequences.{fault_outside}
 use Rattle.ciborium.specs.inner.FrontItems.{TakesHead, DeniesHead, DeniesItem, Reads, Denies}
 use Rattle.ciborium.specs.inner.Skips.{under, IsSkipped, AreSkipped, IsTagged, Skips, TakesBare}
@@ -133,3 +133,7 @@ module _ {S A : Type 0} (IsUnread : S → List ℕ → Type 0) (numbers : Bool) 
       let (ts, w, x, y, tagged, all, hd, f, un) = bare b u in
       let (i, t, is, sq, g) = tagged.inward j s z sp e in
       subst (λ k. IsFaultOf (End old) fault (taken l k)) (sym is) (blames ts i all (same-head t z x y i h sq hd (sym g ∙ f)).0)
+
+  -- no level is left for it
+  pub denies-nested : (End : S → ℕ) (old mid : S) (fault : Fault) → fault ≡ of_nesting → TakesBare IsUnread old mid numbers h → ((ts : List ℕ) (i : Item) → AreSkipped numbers ts → header_of i ≡ h → taken l (under ts i) ≡ nests) → Denies IsUnread End old l taken fault
+  denies-nested End old mid fault is bare nested = subst (Denies IsUnread End old l taken) (sym is) (denies-bare End old mid of_nesting bare nested)

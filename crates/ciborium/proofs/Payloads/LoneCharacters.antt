@@ -1,5 +1,5 @@
 -- Texts of one character.
-use Rattle.std.proofs.Common.{◌≡◌, ℕ, suc, ◌<◌, true, false, List, [], ◌∷◌, ◌++◌, length, take, chars, IsUtf8, Option, Some, None, Ok, refl, sym, ap, ◌∙◌, subst, length-append, arith}
+use Rattle.std.proofs.Common.{◌≡◌, ℕ, suc, ◌<◌, true, false, List, [], ◌∷◌, ◌++◌, length, take, chars, IsUtf8, Option, Some, None, Ok, refl, sym, ap, ◌∙◌, subst, length-append, arith, Bool}
 use Rattle.std.proofs.Math.Utf8.{encode, encodes}
 use Rattle.std.proofs.Math.Seq.{take-append_seam}
 use Rattle.std.proofs.lemmas.Str.{cons_from_encodes, encodes-chars, length-encode, len_utf8_bounds, length-le-encodes}
@@ -22,7 +22,7 @@ use Rattle.ciborium.specs.inner.ByteSources.{IsUnreadBy}
 use Rattle.ciborium.specs.inner.FrontItems.{Denies}
 use Rattle.ciborium.specs.inner.Skips.{under, AreSkipped, IsBare, TakesBare}
 use Rattle.ciborium.specs.inner.StringContents.{TakesContent, TakesJust}
-use Rattle.ciborium.proofs.Items.ItemHeads.{header_of, same-head}
+use Rattle.ciborium.proofs.Items.ItemHeads.{header_of, same-head, by-shape, no-bare-tag, size_of}
 use Rattle.ciborium.proofs.Items.SkippedTags.{untagged-under}
 use Rattle.ciborium.proofs.Payloads.SpelledStrings.{definite-payload}
 use Rattle.ciborium.proofs.Payloads.StringPayloads.{string-only}
@@ -112,31 +112,14 @@ just-taken E remaining d e pending buffer none (b, takes, count, taken, small) y
     let (z, left, split) = rest-of (left_of remaining d) (left_of remaining e) y b known takes in
     (z, split ∙ ap (λ (k : List ℕ). k ++ z) taken.0, subst (λ o. IsUnreadBy remaining e o z) (sym none) left)
 
-open-character : (i : Item) → header_of i ≡ header.Text None → bare_character (untagged i) ≡ refuses kinds.Char
-open-character (unsigned n) e = cc
-open-character (negative n) e = cc
-open-character (bytes o b) e = cc
-open-character (text true b) e = refl
-open-character (text false b) e = cc
-open-character (array o b) e = cc
-open-character (items.map o b) e = cc
-open-character (tag t i) e = cc
-open-character (simple n) e = cc
-open-character (float raw) e = cc
+open-text : (o : Bool) (b : List ℕ) → ◌≡◌ {A = Header} (header.Text None) (header.Text (size_of o (length b))) → bare_character (text o b) ≡ refuses kinds.Char
+open-text true b e = refl
+open-text false b e = cc
 
 pub character-open : (l : Limit) (ts : List ℕ) (i : Item) → AreSkipped false ts → header_of i ≡ header.Text None → taken_character l (under ts i) ≡ refuses kinds.Char
-character-open l ts i all e = ap bare_character (untagged-under ts i) ∙ open-character i e
-
-other-character : (i : Item) (h : Header) → header_of i ≡ h → IsBare false h → ((n : Option ℕ) → h ≡ header.Text n → ⊥) → bare_character (untagged i) ≡ refuses kinds.Char
-other-character (unsigned n) h e bare p = refl
-other-character (negative n) h e bare p = refl
-other-character (bytes o b) h e bare p = refl
-other-character (text o b) h e bare p = absurd (p _ (sym e))
-other-character (array o b) h e bare p = refl
-other-character (items.map o b) h e bare p = refl
-other-character (tag t i) h e bare p = let s : IsBare false (header.Tag t) = subst (IsBare false) (sym e) bare in absurd (let k = s.0 in cc)
-other-character (simple n) h e bare p = refl
-other-character (float raw) h e bare p = refl
+character-open l ts i all e = ap bare_character (untagged-under ts i) ∙
+    by-shape (λ j. bare_character (untagged j) ≡ refuses kinds.Char) (header.Text None) (λ n k. cc) (λ n k. cc) (λ o b k. cc) open-text (λ o is k. cc) (λ o ps k. cc) (λ n k. cc) (λ raw k. cc) (λ t j k. cc) i e
 
 pub character-other : (l : Limit) (h : Header) → IsBare false h → ((n : Option ℕ) → h ≡ header.Text n → ⊥) → (ts : List ℕ) (i : Item) → AreSkipped false ts → header_of i ≡ h → taken_character l (under ts i) ≡ refuses kinds.Char
-character-other l h bare p ts i all e = ap bare_character (untagged-under ts i) ∙ other-character i h e bare p
+character-other l h bare p ts i all e = ap bare_character (untagged-under ts i) ∙
+    by-shape (λ j. bare_character (untagged j) ≡ refuses kinds.Char) h (λ n k. refl) (λ n k. refl) (λ o b k. refl) (λ o b k. absurd (p _ k)) (λ o is k. refl) (λ o ps k. refl) (λ n k. refl) (λ raw k. refl) (λ t j k. no-bare-tag h t bare k) i e

@@ -20,7 +20,7 @@ use Rattle.ciborium_value.proofs.Sources.Sequences.{fault_outside}
 use Rattle.ciborium.specs.inner.FrontItems.{TakesHead, DeniesHead, Reads, Denies}
 use Rattle.ciborium.specs.inner.StringContents.{digits_of, TakesDigits, TakesNumber, TakesParts, DeniesContent, DeniesJust}
 use Rattle.ciborium_value.specs.Places.{is_open}
-use Rattle.ciborium.proofs.Items.ItemHeads.{header_of, first-head, first-payload, same-head, no-break-head}
+use Rattle.ciborium.proofs.Items.ItemHeads.{header_of, first-head, first-payload, same-head, no-break-head, by-shape}
 use Rattle.ciborium.proofs.Payloads.ReadDigits.{digits-append, digits-some, digits-none}
 use Rattle.ciborium.proofs.Payloads.SpelledStrings.{same-payload, string-break, opened-up, same-rest}
 use Rattle.ciborium.proofs.Payloads.StringPayloads.{string-only}
@@ -128,15 +128,8 @@ no-definite h e n f = cc
 -- ---- bignums
 
 other-bignum : (i : Item) (h : Header) → header_of i ≡ h → ((n : Option ℕ) → h ≡ header.Bytes n → ⊥) → bignum_of i ≡ refuses kinds.Bytes
-other-bignum (unsigned n) h e p = refl
-other-bignum (negative n) h e p = refl
-other-bignum (bytes o b) h e p = absurd (p _ (sym e))
-other-bignum (text o b) h e p = refl
-other-bignum (array o b) h e p = refl
-other-bignum (items.map o b) h e p = refl
-other-bignum (tag t i) h e p = refl
-other-bignum (simple n) h e p = refl
-other-bignum (float raw) h e p = refl
+other-bignum i h e p =
+    by-shape (λ j. bignum_of j ≡ refuses kinds.Bytes) h (λ n k. refl) (λ n k. refl) (λ o b k. absurd (p _ k)) (λ o b k. refl) (λ o is k. refl) (λ o ps k. refl) (λ n k. refl) (λ raw k. refl) (λ t j k. refl) i e
 
 module _ {S : Type 0} (IsUnread : S → List ℕ → Type 0) (End : S → ℕ) (old mid : S) where
   pub bignum-reads : (new : S) (len : Option ℕ) (v : ℕ) → TakesHead IsUnread old mid (header.Bytes len) → TakesNumber (IsUnread mid) (IsUnread new) len (Some v) → Reads IsUnread old new None taken_bignum v

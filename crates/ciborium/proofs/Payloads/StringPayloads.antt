@@ -20,7 +20,7 @@ use Rattle.ciborium.specs.inner.ByteSources.{IsUnreadBy}
 use Rattle.ciborium.specs.inner.FrontItems.{DeniesItem}
 use Rattle.ciborium.specs.inner.Skips.{under, AreSkipped, IsBare, TakesBare}
 use Rattle.ciborium.specs.inner.StringContents.{head_of, string_item, IsContent, TakesContent, DeniesContent}
-use Rattle.ciborium.proofs.Items.ItemHeads.{header_of, same-head}
+use Rattle.ciborium.proofs.Items.ItemHeads.{header_of, same-head, by-shape, no-bare-tag}
 use Rattle.ciborium.proofs.Items.SkippedTags.{ReadsBehind, untagged-under}
 
 -- the payload that was taken makes a string with its head
@@ -115,16 +115,6 @@ string-behind IsUnread mid new kind len l taken payload v content give y un =
     let (c, z, make, f, un') = content y un in
     (string_item kind len payload, c, z, make, f, give, un')
 
-other-text : (i : Item) (h : Header) → header_of i ≡ h → IsBare false h → ((n : Option ℕ) → h ≡ header.Text n → ⊥) → bare_text (untagged i) ≡ refuses kinds.Text
-other-text (unsigned n) h e bare p = refl
-other-text (negative n) h e bare p = refl
-other-text (bytes o b) h e bare p = refl
-other-text (text o b) h e bare p = absurd (p _ (sym e))
-other-text (array o b) h e bare p = refl
-other-text (items.map o b) h e bare p = refl
-other-text (tag t i) h e bare p = let s : IsBare false (header.Tag t) = subst (IsBare false) (sym e) bare in absurd (let k = s.0 in cc)
-other-text (simple n) h e bare p = refl
-other-text (float raw) h e bare p = refl
-
 pub text-other : (l : Limit) (h : Header) → IsBare false h → ((n : Option ℕ) → h ≡ header.Text n → ⊥) → (ts : List ℕ) (i : Item) → AreSkipped false ts → header_of i ≡ h → taken_text l (under ts i) ≡ refuses kinds.Text
-text-other l h bare p ts i all e = ap bare_text (untagged-under ts i) ∙ other-text i h e bare p
+text-other l h bare p ts i all e = ap bare_text (untagged-under ts i) ∙
+    by-shape (λ j. bare_text (untagged j) ≡ refuses kinds.Text) h (λ n k. refl) (λ n k. refl) (λ o b k. refl) (λ o b k. absurd (p _ k)) (λ o is k. refl) (λ o ps k. refl) (λ n k. refl) (λ raw k. refl) (λ t j k. no-bare-tag h t bare k) i e

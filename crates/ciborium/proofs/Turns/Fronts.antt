@@ -16,7 +16,7 @@ use Rattle.ciborium_ll.proofs.HeadAnswers as answers
 use Rattle.ciborium_ll.proofs.UsableHeads.{usable-fits, HeadFits}
 use Rattle.ciborium_ll.proofs.OneHeader.{one_header_at_front}
 use Rattle.ciborium_value.specs.Meaning.{simple_meaning}
-use Rattle.ciborium_value.specs.Refuses.{Refuses, BeginsContainer, exactly}
+use Rattle.ciborium_value.specs.Refuses.{Refuses, BeginsContainer, exactly, Due}
 use Rattle.ciborium_value.specs.Tree as trees
 use Rattle.ciborium_value.specs.Tree.{Tree}
 use Rattle.ciborium_value.specs.View.{tree_of}
@@ -167,22 +167,27 @@ map-opens : (count : Option ℕ) (xs : List ℕ) (p : ℕ) (b r : List ℕ) → 
 map-opens (Some n) xs p b r u = BeginsContainer.map n (b, u.spelled, refl, u.split)
 map-opens None xs p b r u = BeginsContainer.open_map (ap length u.spelled) (u.split ∙ ap (λ (z : List ℕ). z ++ r) u.spelled)
 
-array-inside : (count behind : Option ℕ) (l : ℕ) (xs : List ℕ) (p : ℕ) (b r : List ℕ) → IsBehind count behind → Front xs p (header.Array count) b r →
-    IsInContainer 4 count (array_due count) (due_in (frames.array [] behind)) l xs p [] r (p + length b)
-array-inside count behind l xs p b r e u = record {
+-- behind the head of a container
+container-inside : (major : ℕ) (count : Option ℕ) (start now : Due) (l : ℕ) (xs : List ℕ) (p : ℕ) (h : Header) (b r : List ℕ) → HasContainerHead major xs count (length b) r → start ≡ now → IsRoom start item.no_items → Front xs p h b r →
+    IsInContainer major count start now l xs p [] r (p + length b)
+container-inside major count start now l xs p h b r head due room u = record {
   size = length b;
   good = [];
   items = item.no_items;
   usable = u.usable;
-  head = array-stands count xs p b r u;
+  head = head;
   spelled = refl;
   means = refl;
   nests = omega arith;
-  due = due count behind e;
-  room = room count;
+  due = due;
+  room = room;
   at = omega arith;
-  fits = front-fits xs p _ b r u;
+  fits = front-fits xs p h b r u;
 }
+
+array-inside : (count behind : Option ℕ) (l : ℕ) (xs : List ℕ) (p : ℕ) (b r : List ℕ) → IsBehind count behind → Front xs p (header.Array count) b r →
+    IsInContainer 4 count (array_due count) (due_in (frames.array [] behind)) l xs p [] r (p + length b)
+array-inside count behind l xs p b r e u = container-inside 4 count (array_due count) (due_in (frames.array [] behind)) l xs p _ b r (array-stands count xs p b r u) (due count behind e) (room count) u
   where
     due : (count behind : Option ℕ) → IsBehind count behind → array_due count ≡ due_in (frames.array [] behind)
     due (Some n) (Some k) e = ap exactly e
@@ -196,20 +201,7 @@ array-inside count behind l xs p b r e u = record {
 
 map-inside : (count behind : Option ℕ) (l : ℕ) (xs : List ℕ) (p : ℕ) (b r : List ℕ) → IsBehind count behind → Front xs p (header.Map count) b r →
     IsInContainer 5 count (map_due count) (due_in (frames.map [] behind None)) l xs p [] r (p + length b)
-map-inside count behind l xs p b r e u = record {
-  size = length b;
-  good = [];
-  items = item.no_items;
-  usable = u.usable;
-  head = map-stands count xs p b r u;
-  spelled = refl;
-  means = refl;
-  nests = omega arith;
-  due = due count behind e;
-  room = room count;
-  at = omega arith;
-  fits = front-fits xs p _ b r u;
-}
+map-inside count behind l xs p b r e u = container-inside 5 count (map_due count) (due_in (frames.map [] behind None)) l xs p _ b r (map-stands count xs p b r u) (due count behind e) (room count) u
   where
     due : (count behind : Option ℕ) → IsBehind count behind → map_due count ≡ due_in (frames.map [] behind None)
     due (Some n) (Some k) e = ap (λ m. exactly (2 * m)) e

@@ -9,7 +9,7 @@ use Rattle.ciborium.specs.Errors.{fault_of}
 use Rattle.ciborium.specs.inner.FrontItems.{Denies}
 use Rattle.ciborium.specs.inner.Skips.{TakesBare}
 use Rattle.ciborium.proofs.Containers.EnteredContainers.{map-entered, map-nests, map-other, pairs-given}
-use Rattle.ciborium.proofs.Items.SkippedTags.{denies-bare, denies-of-item}
+use Rattle.ciborium.proofs.Items.SkippedTags.{denies-bare, denies-nested, denies-of-item}
 use Rattle.ciborium.proofs.de.byte_source.ByteSource.begin_map.Goals as goal
 
 pub returns-in_err-header-clause-denied : goal.returns-in_err-header-clause-denied
@@ -27,11 +27,8 @@ returns-in_ok-seq-in-Map-clause-ok g c =
 pub returns-in_err-seq-in-Map-clause-denied : goal.returns-in_err-seq-in-Map-clause-denied
 returns-in_err-seq-in-Map-clause-denied g c =
     let exit = err_from_is_err_and c.from_residual-in_err-seq-in-Map.result c.from_residual-in_err-seq-in-Map.ensures.1 in
-    let U = IsUnread g.R.Read.remaining in
-    let l = Some c.args.self.now.levels in
-    let fault : fault_of c.in_err-seq-in-Map.field-0.0 ≡ of_nesting = ap fault_of c.in_err-seq-in-Map.ensures.err in
-    rw (exit.1, exit.2) (subst (λ f. Denies U (end_at g.R.Read.remaining) c.args.self.now l taken_pairs f) (sym fault) (denies-bare U false (header.Map c.in-Map.count) l taken_pairs (end_at g.R.Read.remaining) c.args.self.now c.bare_head.new.self of_nesting
-    (subst (TakesBare U c.args.self.now c.bare_head.new.self false) c.in-Map.is c.in_ok-header.ensures.head) (map-nests c.args.self.now.levels c.in-Map.count (sym c.in_ok-header.ensures.reads.levels ∙ c.in_err-seq-in-Map.ensures.none))))
+    rw (exit.1, exit.2) (denies-nested (IsUnread g.R.Read.remaining) false (header.Map c.in-Map.count) (Some c.args.self.now.levels) taken_pairs (end_at g.R.Read.remaining) c.args.self.now c.bare_head.new.self (fault_of c.in_err-seq-in-Map.field-0.0) (ap fault_of c.in_err-seq-in-Map.ensures.err)
+    (subst (TakesBare (IsUnread g.R.Read.remaining) c.args.self.now c.bare_head.new.self false) c.in-Map.is c.in_ok-header.ensures.head) (map-nests c.args.self.now.levels c.in-Map.count (sym c.in_ok-header.ensures.reads.levels ∙ c.in_err-seq-in-Map.ensures.none)))
 
 pub returns-in_default-clause-denied : goal.returns-in_default-clause-denied
 returns-in_default-clause-denied g c =

@@ -11,7 +11,7 @@ use Rattle.ciborium.specs.Errors.{fault_of}
 use Rattle.ciborium.specs.inner.FrontItems.{Denies}
 use Rattle.ciborium.specs.inner.Skips.{TakesBare}
 use Rattle.ciborium.proofs.Containers.EnteredContainers.{array-entered, array-nests, bytes-entered, bytes-had, seq-given, seq-other}
-use Rattle.ciborium.proofs.Items.SkippedTags.{denies-bare, denies-of-item}
+use Rattle.ciborium.proofs.Items.SkippedTags.{denies-bare, denies-nested, denies-of-item}
 use Rattle.ciborium.proofs.Payloads.StringPayloads.{denies-content}
 use Rattle.ciborium.proofs.Items.TakenOnly.{same-end}
 use Rattle.ciborium.proofs.de.byte_source.ByteSource.begin_seq.Goals as goal
@@ -31,11 +31,8 @@ returns-in_ok-seq-in-Array-clause-ok g c =
 pub returns-in_err-seq-in-Array-clause-denied : goal.returns-in_err-seq-in-Array-clause-denied
 returns-in_err-seq-in-Array-clause-denied g c =
     let exit = err_from_is_err_and c.from_residual-in_err-seq-in-Array.result c.from_residual-in_err-seq-in-Array.ensures.1 in
-    let U = IsUnread g.R.Read.remaining in
-    let l = Some c.args.self.now.levels in
-    let fault : fault_of c.in_err-seq-in-Array.field-0.0 ≡ of_nesting = ap fault_of c.in_err-seq-in-Array.ensures.err in
-    rw (exit.1, exit.2) (subst (λ f. Denies U (end_at g.R.Read.remaining) c.args.self.now l taken_seq f) (sym fault) (denies-bare U false (header.Array c.in-Array.count) l taken_seq (end_at g.R.Read.remaining) c.args.self.now c.bare_head.new.self of_nesting
-    (subst (TakesBare U c.args.self.now c.bare_head.new.self false) c.in-Array.is c.in_ok-header.ensures.head) (array-nests c.args.self.now.levels c.in-Array.count (sym c.in_ok-header.ensures.reads.levels ∙ c.in_err-seq-in-Array.ensures.none))))
+    rw (exit.1, exit.2) (denies-nested (IsUnread g.R.Read.remaining) false (header.Array c.in-Array.count) (Some c.args.self.now.levels) taken_seq (end_at g.R.Read.remaining) c.args.self.now c.bare_head.new.self (fault_of c.in_err-seq-in-Array.field-0.0) (ap fault_of c.in_err-seq-in-Array.ensures.err)
+    (subst (TakesBare (IsUnread g.R.Read.remaining) c.args.self.now c.bare_head.new.self false) c.in-Array.is c.in_ok-header.ensures.head) (array-nests c.args.self.now.levels c.in-Array.count (sym c.in_ok-header.ensures.reads.levels ∙ c.in_err-seq-in-Array.ensures.none)))
 
 pub returns-in_ok-seq-in-Bytes-clause-ok : goal.returns-in_ok-seq-in-Bytes-clause-ok
 returns-in_ok-seq-in-Bytes-clause-ok g c =

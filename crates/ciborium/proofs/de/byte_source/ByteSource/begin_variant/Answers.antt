@@ -11,7 +11,7 @@ use Rattle.ciborium.specs.inner.FrontItems.{Denies, Reads}
 use Rattle.ciborium.specs.inner.Skips.{TakesBare}
 use Rattle.ciborium.proofs.Containers.EnteredContainers.{deeper-is, same-unread}
 use Rattle.ciborium.proofs.Containers.NamedVariants.{key-denied, map-no-text, map-not-one, null-unread, pair-nests, pair-opened, text-nests, text-opened, variant-other}
-use Rattle.ciborium.proofs.Items.SkippedTags.{denies-bare, denies-of-item}
+use Rattle.ciborium.proofs.Items.SkippedTags.{denies-bare, denies-nested, denies-of-item}
 use Rattle.ciborium.proofs.Payloads.StringPayloads.{denies-content}
 use Rattle.ciborium.proofs.Items.TakenOnly.{same-end}
 use Rattle.ciborium.proofs.de.byte_source.ByteSource.begin_variant.Goals as goal
@@ -24,20 +24,14 @@ returns-in_err-header-clause-denied g c =
 pub returns-in_err-level-in-Text-clause-denied : goal.returns-in_err-level-in-Text-clause-denied
 returns-in_err-level-in-Text-clause-denied g c =
     let exit = err_from_is_err_and c.from_residual-in_err-level-in-Text.result c.from_residual-in_err-level-in-Text.ensures.1 in
-    let U = IsUnread g.R.Read.remaining in
-    let l = Some c.args.self.now.levels in
-    let fault : fault_of c.in_err-level-in-Text.field-0.0 ≡ of_nesting = ap fault_of c.in_err-level-in-Text.ensures.err in
-    rw (exit.1, exit.2) (subst (Denies U (end_at g.R.Read.remaining) c.args.self.now l taken_variant) (sym fault) (denies-bare U false (header.Text c.in-Text.len) l taken_variant (end_at g.R.Read.remaining) c.args.self.now c.bare_head.new.self of_nesting
-    (subst (TakesBare U c.args.self.now c.bare_head.new.self false) c.in-Text.is c.in_ok-header.ensures.head) (text-nests c.args.self.now.levels c.in-Text.len (sym c.in_ok-header.ensures.reads.levels ∙ c.in_err-level-in-Text.ensures.none))))
+    rw (exit.1, exit.2) (denies-nested (IsUnread g.R.Read.remaining) false (header.Text c.in-Text.len) (Some c.args.self.now.levels) taken_variant (end_at g.R.Read.remaining) c.args.self.now c.bare_head.new.self (fault_of c.in_err-level-in-Text.field-0.0) (ap fault_of c.in_err-level-in-Text.ensures.err)
+    (subst (TakesBare (IsUnread g.R.Read.remaining) c.args.self.now c.bare_head.new.self false) c.in-Text.is c.in_ok-header.ensures.head) (text-nests c.args.self.now.levels c.in-Text.len (sym c.in_ok-header.ensures.reads.levels ∙ c.in_err-level-in-Text.ensures.none)))
 
 pub returns-in_err-level-in-Map-clause-denied : goal.returns-in_err-level-in-Map-clause-denied
 returns-in_err-level-in-Map-clause-denied g c =
     let exit = err_from_is_err_and c.from_residual-in_err-level-in-Map.result c.from_residual-in_err-level-in-Map.ensures.1 in
-    let U = IsUnread g.R.Read.remaining in
-    let l = Some c.args.self.now.levels in
-    let fault : fault_of c.in_err-level-in-Map.field-0.0 ≡ of_nesting = ap fault_of c.in_err-level-in-Map.ensures.err in
-    rw (exit.1, exit.2) (subst (Denies U (end_at g.R.Read.remaining) c.args.self.now l taken_variant) (sym fault) (denies-bare U false (header.Map (Some 1)) l taken_variant (end_at g.R.Read.remaining) c.args.self.now c.bare_head.new.self of_nesting
-    (subst (TakesBare U c.args.self.now c.bare_head.new.self false) (c.in-Map.is ∙ ap header.Map c.if-not-is_one.ensures) c.in_ok-header.ensures.head) (pair-nests c.args.self.now.levels (sym c.in_ok-header.ensures.reads.levels ∙ c.in_err-level-in-Map.ensures.none))))
+    rw (exit.1, exit.2) (denies-nested (IsUnread g.R.Read.remaining) false (header.Map (Some 1)) (Some c.args.self.now.levels) taken_variant (end_at g.R.Read.remaining) c.args.self.now c.bare_head.new.self (fault_of c.in_err-level-in-Map.field-0.0) (ap fault_of c.in_err-level-in-Map.ensures.err)
+    (subst (TakesBare (IsUnread g.R.Read.remaining) c.args.self.now c.bare_head.new.self false) (c.in-Map.is ∙ ap header.Map c.if-not-is_one.ensures) c.in_ok-header.ensures.head) (pair-nests c.args.self.now.levels (sym c.in_ok-header.ensures.reads.levels ∙ c.in_err-level-in-Map.ensures.none)))
 
 pub returns-in_err-name-in-Text-clause-denied : goal.returns-in_err-name-in-Text-clause-denied
 returns-in_err-name-in-Text-clause-denied g c =
