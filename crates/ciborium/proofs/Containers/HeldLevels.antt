@@ -3,8 +3,7 @@ use Rattle.std.proofs.Common.{◌≡◌, ◌≤◌, ◌+◌, ◌≢◌, ℕ, Lis
 use Rattle.ciborium_ll.specs.declared.header.Header.{Header}
 use Rattle.ciborium_ll.specs.declared.header.Header.TheVariants as header
 use Rattle.ciborium_ll.specs.Header.{SpellsHeader}
-use Rattle.ciborium_ll.specs.Item as items
-use Rattle.ciborium_ll.specs.Item.{Item, unsigned, negative, bytes, text, array, tag, simple, float}
+use Rattle.ciborium_ll.specs.Item.{Item, tag}
 use Rattle.ciborium_ll.specs.Decoding.{allowed_of, source_of}
 use Rattle.ciborium.proofs.Items.Due.{due-past, held-level, held-same}
 use Rattle.ciborium_value.specs.Sources.{Completes, Holds, GivesBack, TakesTo}

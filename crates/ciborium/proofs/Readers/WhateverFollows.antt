@@ -17,6 +17,7 @@ use Rattle.ciborium_ll.proofs.Unread.{pulls-head, reads-string}
 use Rattle.ciborium_ll.specs.Refusal.{Refusal}
 use Rattle.ciborium_value.specs.inner.Frames.{TreeFrame}
 use Rattle.ciborium_value.specs.Tree.{Tree}
+use Rattle.ciborium_value.specs.View.{tree_of}
 use Rattle.ciborium_value.specs.declared.tree.Value.{Value}
 use Rattle.ciborium.specs.declared.de.error.Error.{Error}
 use Rattle.ciborium.specs.declared.de.error.Error.TheVariants as errors
@@ -24,8 +25,9 @@ use Rattle.ciborium.specs.ValueAnswers.{IsReading, IsTakenFrom, IsTreeRead, IsVa
 use Rattle.ciborium.specs.inner.Due.{HoldsNothingAfter, LeavesReader}
 use Rattle.ciborium.specs.Errors.{IsRefusedBy, from_ll}
 use Rattle.ciborium.specs.inner.ValuesInBytes.{IsAt, StandsAt}
-use Rattle.ciborium.specs.inner.StringAnswers.{IsStringRead}
+use Rattle.ciborium.specs.inner.StringAnswers.{IsStringRead, string_tree}
 use Rattle.ciborium.specs.Spelling.{Spelling, any, deterministic, IsReadBy, RefusesBy}
+use Rattle.ciborium.proofs.Turns.Contents.{string-read}
 use Rattle.ciborium.proofs.Turns.Fronts.{ahead-at}
 use Rattle.ciborium.proofs.Readers.Outcomes.{left-at}
 use Rattle.ciborium.proofs.Turns.Pulled.{refused-from}
@@ -88,6 +90,17 @@ PullsAll {E} d e x = (xs : List ℕ) (p : ℕ) → IsAhead Some d xs p → Pulls
 -- what the calls that read a string answer
 abbrev pub StringSo : {E : Type 0} → StringKind → Option ℕ → ℕ → Decoder (List ℕ) → Decoder (List ℕ) → Result Value (Error E) → Type 0
 StringSo {E} kind len at d e x = (xs : List ℕ) (p : ℕ) → IsAt Some d xs p → IsStringRead {S = List ℕ} {E = E} kind Some e len at xs p x
+
+-- a string that was appended to an empty one
+pub string-taken : (E : Type 0) {S : Type 0} (remaining : S → Option (List ℕ)) (a b : Decoder S) (kind : StringKind) (len : Option ℕ) (old new : List ℕ) (v : Value) → old ≡ [] → tree_of v ≡ string_tree kind new →
+    Takes remaining a b (λ y. (added : List ℕ) × (new ≡ old ++ added) × IsStringTaken {E = E} kind len a.last y a.window.count (Ok tt) added) → TakesBeforeAny remaining a b (λ d e. StringSo {E = E} kind len a.last d e (Ok v))
+string-taken E remaining a b kind len old new v none tree t = (
+  t.0,
+  t.1,
+  t.2,
+  λ z xs p at. string-read E kind Some (with_left a (t.0 ++ z)) (with_left b z) len xs p old new v none tree (t.0, refl, t.2, t.3, t.4) at,
+  t.4,
+)
 
 -- a string that was refused
 pub string-refused : (E : Type 0) {S : Type 0} (remaining : S → Option (List ℕ)) (a b : Decoder S) (kind : StringKind) (len : Option ℕ) (x : LlError E) (A : List ℕ → List ℕ → Type 0) →

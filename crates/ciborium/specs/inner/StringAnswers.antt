@@ -1,5 +1,5 @@
 -- What reading the payload of a string answers.
-use Rattle.std.specs.Prelude.{◌≡◌, ℕ, ◌+◌, ◌≤◌, List, ◌++◌, length, Option, Result, Ok, Err}
+use Rattle.std.specs.Prelude.{◌≡◌, ℕ, ◌+◌, ◌≤◌, List, ◌++◌, length, Option, Result, Ok, Err, Bool, true, false}
 use Rattle.ciborium_ll.specs.declared.decoder.Decoder.{Decoder}
 use Rattle.ciborium_ll.specs.Bytes.{greatest_offset}
 use Rattle.ciborium_ll.specs.Decoding.{left_of}
@@ -12,6 +12,10 @@ use Rattle.ciborium_value.specs.View.{tree_of}
 use Rattle.ciborium.specs.declared.de.error.Error.{Error}
 use Rattle.ciborium.specs.Errors.{IsRefusedBy}
 use Rattle.ciborium.specs.inner.ValuesInBytes.{IsAt}
+
+abbrev pub string_kind : Bool → StringKind
+string_kind true = of_text
+string_kind false = of_bytes
 
 -- the tree of a string
 abbrev pub string_tree : StringKind → List ℕ → Tree

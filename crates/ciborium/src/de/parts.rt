@@ -7,14 +7,13 @@ ghost use Rattle.ciborium.specs.inner.Due.{HoldsNothingAfter};
 ghost use Rattle.ciborium.specs.inner.Parts.{HasLevel, IsArrayBegun, IsMapBegun, IsPartRead};
 ghost use Rattle.ciborium.specs.inner.Parts.{IsAtRest, IsSimpleRead};
 ghost use Rattle.ciborium.specs.inner.ValuesInBytes.{IsAt, StandsAt, heads_left};
-ghost use Rattle.ciborium.specs.inner.StringAnswers.{IsStringRead};
-ghost use Rattle.ciborium_ll.specs.StringRefusal.{of_bytes, of_text};
+ghost use Rattle.ciborium.specs.inner.StringAnswers.{IsStringRead, string_kind};
 
 use crate::de::error::{Error, Refusal};
 use crate::de::front::{Part, pull};
 use crate::de::spelling::Rules;
 use crate::de::tags::read_tag;
-use ciborium_ll::{Decoder, Header, Keep, simple};
+use ciborium_ll::{Decoder, Header, simple};
 use ciborium_value::stack::Opening;
 use ciborium_value::{Integer, Kind, Value};
 use std::alloc::Global;
@@ -73,14 +72,15 @@ pub(super) fn read_simple<E>(number: u8, offset: usize) -> Result<Value, Error<E
     }
 }
 
-// The payload of the byte string whose head was pulled last. A reader's error goes to `keep`.
-pub(super) fn read_bytes<R: Read, K: Keep>(
+// The payload of the string whose head was pulled last: of a text, or of a byte string.
+fn read_string<R: Read>(
     alloc: Global,
     decoder: &mut Decoder<'_, R>,
     scratch: &mut [u8],
+    is_text: bool,
     len: Option<usize>,
-    keep: &mut K,
-) -> Result<Value, Error<K::Kept>>
+    failure: &mut Option<io::Error>,
+) -> Result<Value, Refusal>
     requires { pushed_of decoder.old ≡ None }
     ensures same_reader { HasSameReader decoder.old decoder.new }
     ensures pushed { pushed_of decoder.new ≡ None }
@@ -88,33 +88,16 @@ pub(super) fn read_bytes<R: Read, K: Keep>(
     ensures spent { IfErr result (λ e. HoldsNothingAfter decoder.new e) }
     ensures content { TakesBeforeAny R.remaining decoder.old decoder.new
         (λ d e. (xs : List ℕ) (p : ℕ) → IsAt Some d xs p →
-        IsStringRead of_bytes Some e len (last_of decoder.old) xs p result) }
+        IsStringRead (string_kind is_text) Some e len (last_of decoder.old) xs p result) }
 {
-    let mut out = Vec::new(alloc);
-    decoder.bytes_into_keeping(len, scratch, &mut out, keep)?;
-    Ok(Value::Bytes(out))
-}
-
-// The payload of the text whose head was pulled last. A reader's error goes to `keep`.
-pub(super) fn read_text<R: Read, K: Keep>(
-    alloc: Global,
-    decoder: &mut Decoder<'_, R>,
-    scratch: &mut [u8],
-    len: Option<usize>,
-    keep: &mut K,
-) -> Result<Value, Error<K::Kept>>
-    requires { pushed_of decoder.old ≡ None }
-    ensures same_reader { HasSameReader decoder.old decoder.new }
-    ensures pushed { pushed_of decoder.new ≡ None }
-    ensures fewer { OnOk result (heads_left decoder.new ≤ heads_left decoder.old) }
-    ensures spent { IfErr result (λ e. HoldsNothingAfter decoder.new e) }
-    ensures content { TakesBeforeAny R.remaining decoder.old decoder.new
-        (λ d e. (xs : List ℕ) (p : ℕ) → IsAt Some d xs p →
-        IsStringRead of_text Some e len (last_of decoder.old) xs p result) }
-{
-    let mut out = String::new(alloc);
-    decoder.text_into_keeping(len, scratch, &mut out, keep)?;
-    Ok(Value::Text(out))
+    if is_text {
+        let mut text = String::new(alloc);
+        decoder.text_into_keeping(len, scratch, &mut text, failure)?;
+        return Ok(Value::Text(text));
+    }
+    let mut bytes = Vec::new(alloc);
+    decoder.bytes_into_keeping(len, scratch, &mut bytes, failure)?;
+    Ok(Value::Bytes(bytes))
 }
 
 /// Reads the next part, with this many levels left.
@@ -144,11 +127,11 @@ pub(crate) fn next<S: Rules, R: Read>(
         Header::Positive(n) => Ok(Part::Whole(Value::Integer(Integer::from(n)))),
         Header::Negative(n) => Ok(Part::Whole(Value::Integer(Integer::from_head(true, n)))),
         Header::Bytes(len) => {
-            let value = read_bytes(alloc, decoder, scratch, len, failure)?;
+            let value = read_string(alloc, decoder, scratch, false, len, failure)?;
             Ok(Part::Whole(value))
         }
         Header::Text(len) => {
-            let value = read_text(alloc, decoder, scratch, len, failure)?;
+            let value = read_string(alloc, decoder, scratch, true, len, failure)?;
             Ok(Part::Whole(value))
         }
         Header::Array(count) => begin_array(alloc, count, levels),

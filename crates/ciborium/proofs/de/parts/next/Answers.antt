@@ -53,32 +53,32 @@ returns-in-Negative-clause-part g c =
 pub returns-in_ok-value-in-Bytes-clause-part : goal.returns-in_ok-value-in-Bytes-clause-part
 returns-in_ok-value-in-Bytes-clause-part g c =
     part-behind-head g.S.Rules.spelling g.R.Read.remaining c.args.decoder.now c.pull.new.decoder c.in_ok-header.header c.in_ok-header.ensures.measured
-    (sym (c.find_head_fault.ensures ∙ ap (head_fault g.S.Rules.spelling c.in_ok-header.header) c.head_len.ensures) ∙ c.in_default.is) c.in_ok-header.ensures.head c.read_bytes.new.decoder _
+    (sym (c.find_head_fault.ensures ∙ ap (head_fault g.S.Rules.spelling c.in_ok-header.header) c.head_len.ensures) ∙ c.in_default.is) c.in_ok-header.ensures.head c.read_string.new.decoder _
     (λ d e. StringSo {E = Unit} of_bytes c.in-Bytes.len c.pull.new.decoder.last d e (Ok c.in_ok-value-in-Bytes.value)) c.in_ok-value-in-Bytes.ensures.content
-    (λ m z xs p at a read. got-string of_bytes Some (with_left c.pull.new.decoder m) (with_left c.read_bytes.new.decoder z) c.args.levels xs p c.in_ok-header.header g.S.Rules.spelling Unit c.in-Bytes.len c.in_ok-value-in-Bytes.value c.read_bytes.ensures.pushed c.in-Bytes.is read a)
+    (λ m z xs p at a read. got-string of_bytes Some (with_left c.pull.new.decoder m) (with_left c.read_string.new.decoder z) c.args.levels xs p c.in_ok-header.header g.S.Rules.spelling Unit c.in-Bytes.len c.in_ok-value-in-Bytes.value c.read_string.ensures.pushed c.in-Bytes.is read a)
 
 pub returns-in_err-value-in-Bytes-clause-part : goal.returns-in_err-value-in-Bytes-clause-part
 returns-in_err-value-in-Bytes-clause-part g c =
     let exit = err_from_is_err_and c.from_residual-in_err-value-in-Bytes.result c.from_residual-in_err-value-in-Bytes.ensures.1 in
     rw (exit.1, exit.2) (part-behind-head g.S.Rules.spelling g.R.Read.remaining c.args.decoder.now c.pull.new.decoder c.in_ok-header.header c.in_ok-header.ensures.measured
-    (sym (c.find_head_fault.ensures ∙ ap (head_fault g.S.Rules.spelling c.in_ok-header.header) c.head_len.ensures) ∙ c.in_default.is) c.in_ok-header.ensures.head c.read_bytes.new.decoder _
+    (sym (c.find_head_fault.ensures ∙ ap (head_fault g.S.Rules.spelling c.in_ok-header.header) c.head_len.ensures) ∙ c.in_default.is) c.in_ok-header.ensures.head c.read_string.new.decoder _
     (λ d e. StringSo {E = Unit} of_bytes c.in-Bytes.len c.pull.new.decoder.last d e (Err c.in_err-value-in-Bytes.field-0.0)) c.in_err-value-in-Bytes.ensures.content
-    (λ m z xs p at a read. string-fault of_bytes Some (with_left c.pull.new.decoder m) (with_left c.read_bytes.new.decoder z) c.args.levels xs p c.in_ok-header.header g.S.Rules.spelling Unit c.in-Bytes.len c.in_err-value-in-Bytes.field-0.0 c.in-Bytes.is read a))
+    (λ m z xs p at a read. string-fault of_bytes Some (with_left c.pull.new.decoder m) (with_left c.read_string.new.decoder z) c.args.levels xs p c.in_ok-header.header g.S.Rules.spelling Unit c.in-Bytes.len c.in_err-value-in-Bytes.field-0.0 c.in-Bytes.is read a))
 
 pub returns-in_ok-value-in-Text-clause-part : goal.returns-in_ok-value-in-Text-clause-part
 returns-in_ok-value-in-Text-clause-part g c =
     part-behind-head g.S.Rules.spelling g.R.Read.remaining c.args.decoder.now c.pull.new.decoder c.in_ok-header.header c.in_ok-header.ensures.measured
-    (sym (c.find_head_fault.ensures ∙ ap (head_fault g.S.Rules.spelling c.in_ok-header.header) c.head_len.ensures) ∙ c.in_default.is) c.in_ok-header.ensures.head c.read_text.new.decoder _
+    (sym (c.find_head_fault.ensures ∙ ap (head_fault g.S.Rules.spelling c.in_ok-header.header) c.head_len.ensures) ∙ c.in_default.is) c.in_ok-header.ensures.head c.read_string-in-Text.new.decoder _
     (λ d e. StringSo {E = Unit} of_text c.in-Text.len c.pull.new.decoder.last d e (Ok c.in_ok-value-in-Text.value)) c.in_ok-value-in-Text.ensures.content
-    (λ m z xs p at a read. got-string of_text Some (with_left c.pull.new.decoder m) (with_left c.read_text.new.decoder z) c.args.levels xs p c.in_ok-header.header g.S.Rules.spelling Unit c.in-Text.len c.in_ok-value-in-Text.value c.read_text.ensures.pushed c.in-Text.is read a)
+    (λ m z xs p at a read. got-string of_text Some (with_left c.pull.new.decoder m) (with_left c.read_string-in-Text.new.decoder z) c.args.levels xs p c.in_ok-header.header g.S.Rules.spelling Unit c.in-Text.len c.in_ok-value-in-Text.value c.read_string-in-Text.ensures.pushed c.in-Text.is read a)
 
 pub returns-in_err-value-in-Text-clause-part : goal.returns-in_err-value-in-Text-clause-part
 returns-in_err-value-in-Text-clause-part g c =
     let exit = err_from_is_err_and c.from_residual-in_err-value-in-Text.result c.from_residual-in_err-value-in-Text.ensures.1 in
     rw (exit.1, exit.2) (part-behind-head g.S.Rules.spelling g.R.Read.remaining c.args.decoder.now c.pull.new.decoder c.in_ok-header.header c.in_ok-header.ensures.measured
-    (sym (c.find_head_fault.ensures ∙ ap (head_fault g.S.Rules.spelling c.in_ok-header.header) c.head_len.ensures) ∙ c.in_default.is) c.in_ok-header.ensures.head c.read_text.new.decoder _
+    (sym (c.find_head_fault.ensures ∙ ap (head_fault g.S.Rules.spelling c.in_ok-header.header) c.head_len.ensures) ∙ c.in_default.is) c.in_ok-header.ensures.head c.read_string-in-Text.new.decoder _
     (λ d e. StringSo {E = Unit} of_text c.in-Text.len c.pull.new.decoder.last d e (Err c.in_err-value-in-Text.field-0.0)) c.in_err-value-in-Text.ensures.content
-    (λ m z xs p at a read. string-fault of_text Some (with_left c.pull.new.decoder m) (with_left c.read_text.new.decoder z) c.args.levels xs p c.in_ok-header.header g.S.Rules.spelling Unit c.in-Text.len c.in_err-value-in-Text.field-0.0 c.in-Text.is read a))
+    (λ m z xs p at a read. string-fault of_text Some (with_left c.pull.new.decoder m) (with_left c.read_string-in-Text.new.decoder z) c.args.levels xs p c.in_ok-header.header g.S.Rules.spelling Unit c.in-Text.len c.in_err-value-in-Text.field-0.0 c.in-Text.is read a))
 
 pub returns-in-Array-clause-part : goal.returns-in-Array-clause-part
 returns-in-Array-clause-part g c =
@@ -104,7 +104,7 @@ returns-in_err-read_simple-in-Simple-clause-part g c =
     rw (exit.1, exit.2) (part-of-head g.S.Rules.spelling g.R.Read.remaining c.args.decoder.now c.pull.new.decoder c.in_ok-header.header c.in_ok-header.ensures.measured
     (sym (c.find_head_fault.ensures ∙ ap (head_fault g.S.Rules.spelling c.in_ok-header.header) c.head_len.ensures) ∙ c.in_default.is) c.in_ok-header.ensures.head _
     (λ z xs p at a. subst (λ e. IsRefusedBy (Some z) e (RefusesPart g.S.Rules.spelling xs p c.args.levels)) (sym c.in_err-read_simple-in-Simple.ensures.1)
-          (subst (λ q. RefusesPart g.S.Rules.spelling xs p c.args.levels (semantic q refusal.Simple)) (sym (c.offset-offset.ensures ∙ at)) (simple-refuses Some (with_left c.pull.new.decoder z) c.args.levels xs p c.in_ok-header.header g.S.Rules.spelling c.in-Simple.n c.in_err-read_simple-in-Simple.ensures.0 c.in-Simple.is a))))
+    (subst (λ q. RefusesPart g.S.Rules.spelling xs p c.args.levels (semantic q refusal.Simple)) (sym (c.offset-offset.ensures ∙ at)) (simple-refuses Some (with_left c.pull.new.decoder z) c.args.levels xs p c.in_ok-header.header g.S.Rules.spelling c.in-Simple.n c.in_err-read_simple-in-Simple.ensures.0 c.in-Simple.is a))))
 
 pub returns-in-Float-clause-part : goal.returns-in-Float-clause-part
 returns-in-Float-clause-part g c =
@@ -124,4 +124,4 @@ returns-in-Tag-clause-part g c =
     (sym (c.find_head_fault.ensures ∙ ap (head_fault g.S.Rules.spelling c.in_ok-header.header) c.head_len.ensures) ∙ c.in_default.is) c.in_ok-header.ensures.head c.read_tag.new.decoder _
     (λ d e. (xs : List ℕ) (p : ℕ) → IsHeadAccepted g.S.Rules.spelling Some d (header.Tag c.in-Tag.tag) xs p → c.offset-offset.result ≡ p → IsPartRead {E = Unit} g.S.Rules.spelling Some e c.args.levels xs p c.read_tag.result) c.read_tag.ensures.part
     (λ m z xs p at a read. read xs p (subst (λ h. IsHeadAccepted g.S.Rules.spelling Some (with_left c.pull.new.decoder m) h xs p) c.in-Tag.is a)
-          (c.offset-offset.ensures ∙ at))
+    (c.offset-offset.ensures ∙ at))

@@ -1,12 +1,11 @@
-use Rattle.std.proofs.Common.{◌≡◌, ap, Some, false, sym, subst, ◌∙◌}
+use Rattle.std.proofs.Common.{ap, Some, false, sym, subst, ◌∙◌}
 use Rattle.std.proofs.lemmas.Result.{err_from_is_err_and}
 use Rattle.ciborium_ll.specs.declared.header.Header.TheVariants as header
-use Rattle.ciborium_value.specs.Sources.{of_kind, of_nesting}
+use Rattle.ciborium_value.specs.Sources.{of_kind}
 use Rattle.ciborium_value.specs.Taken.{gives, taken_pairs}
 use Rattle.ciborium_value.specs.declared.kind.Kind.TheVariants as kinds
 use Rattle.ciborium.specs.inner.ByteSources.{IsUnread, end_at}
 use Rattle.ciborium.specs.Errors.{fault_of}
-use Rattle.ciborium.specs.inner.FrontItems.{Denies}
 use Rattle.ciborium.specs.inner.Skips.{TakesBare}
 use Rattle.ciborium.proofs.Containers.EnteredContainers.{map-entered, map-nests, map-other, pairs-given}
 use Rattle.ciborium.proofs.Items.SkippedTags.{denies-bare, denies-nested, denies-of-item}

@@ -2,7 +2,7 @@ use Rattle.std.proofs.Common.{◌≡◌, ◌≢◌, ap, ◌∙◌, sym, Some, fa
 use Rattle.std.proofs.lemmas.Result.{err_from_is_err_and}
 use Rattle.ciborium_ll.specs.declared.header.Header.TheVariants as header
 use Rattle.ciborium_ll.specs.StringRefusal.{of_text}
-use Rattle.ciborium_value.specs.Sources.{of_kind, of_nesting, IsOutsideFault}
+use Rattle.ciborium_value.specs.Sources.{of_kind, IsOutsideFault}
 use Rattle.ciborium_value.specs.Taken.{deeper, taken_name, taken_variant}
 use Rattle.ciborium_value.specs.declared.kind.Kind.TheVariants as kinds
 use Rattle.ciborium.specs.inner.ByteSources.{IsUnread, end_at, reader_of}

@@ -1,15 +1,14 @@
-use Rattle.std.proofs.Common.{◌≡◌, ap, Some, false, sym, subst, ◌∙◌, arith}
+use Rattle.std.proofs.Common.{ap, Some, false, sym, subst, ◌∙◌, arith}
 use Rattle.std.proofs.lemmas.Result.{err_from_is_err_and}
 use Rattle.ciborium_ll.specs.declared.header.Header.TheVariants as header
 use Rattle.ciborium_ll.specs.StringRefusal.{of_bytes}
 use Rattle.ciborium_ll.specs.Decoding.{source_of}
 use Rattle.ciborium.proofs.Items.Due.{entered-fewer, weight-bounds}
-use Rattle.ciborium_value.specs.Sources.{of_kind, of_nesting}
+use Rattle.ciborium_value.specs.Sources.{of_kind}
 use Rattle.ciborium_value.specs.Taken.{take_each, taken_byte, taken_bytes}
 use Rattle.ciborium_value.specs.declared.kind.Kind.TheVariants as kinds
 use Rattle.ciborium.specs.inner.ByteSources.{IsUnread, EntersItemsUnread, pending_head_weight, end_at, HasTaken}
 use Rattle.ciborium.specs.Errors.{fault_of}
-use Rattle.ciborium.specs.inner.FrontItems.{Denies}
 use Rattle.ciborium.specs.inner.Skips.{TakesBare}
 use Rattle.ciborium.proofs.Containers.ByteItems.{array-nests, array-refuses, array-takes, array-took, bytes-given, bytes-other, bytes-read, refuses-denied, takes-read, took-read}
 use Rattle.ciborium.proofs.Containers.EnteredContainers.{array-entered}
