@@ -17,11 +17,11 @@ use Rattle.ciborium_value.specs.Sources.{Fault, IsOutsideFault}
 use Rattle.ciborium_value.specs.Taken.{Taken, gives, refuses, untagged, bare_text, taken_text}
 use Rattle.ciborium_value.specs.declared.kind.Kind.TheVariants as kinds
 use Rattle.ciborium.specs.inner.ByteSources.{IsUnreadBy}
-use Rattle.ciborium.specs.inner.FrontItems.{DeniesItem}
+use Rattle.ciborium.specs.inner.FrontItems.{DeniesItem, Denies, Reads}
 use Rattle.ciborium.specs.inner.Skips.{under, AreSkipped, IsBare, TakesBare}
 use Rattle.ciborium.specs.inner.StringContents.{head_of, string_item, IsContent, TakesContent, DeniesContent}
 use Rattle.ciborium.proofs.Items.ItemHeads.{header_of, same-head, by-shape, no-bare-tag}
-use Rattle.ciborium.proofs.Items.SkippedTags.{ReadsBehind, untagged-under}
+use Rattle.ciborium.proofs.Items.SkippedTags.{ReadsBehind, untagged-under, denies-of-item, reads-bare}
 
 -- the payload that was taken makes a string with its head
 content-spelled : (E : Type 0) (kind : StringKind) (len : Option ℕ) (p q : ℕ) (added c : List ℕ) → IsStringTaken {E = E} kind len p c q (Ok tt) added → IsContent kind len c added
@@ -77,6 +77,11 @@ denies-content IsUnread End numbers old mid kind len fault same bare none b s z 
     let (payload, io) = string-only kind len i (same-head t z x y i (head_of kind len) sq hd (sym g ∙ f)).0 in
     subst (λ n. IsOutsideFault n fault) (same b u) (none y x t z payload un hd (subst (Spells t) io sq) (sym f ∙ g))
 
+-- so the item that the string is in is refused
+pub denies-string : {S A : Type 0} (IsUnread : S → List ℕ → Type 0) (End : S → ℕ) (l : Limit) (taken : Taken A) (old mid : S) (kind : StringKind) (len : Option ℕ) (fault : Fault) → ((b : List ℕ) → IsUnread old b → End mid ≡ End old) →
+    TakesBare IsUnread old mid false (head_of kind len) → DeniesContent (IsUnread mid) (End mid) kind len fault → Denies IsUnread End old l taken fault
+denies-string IsUnread End l taken old mid kind len fault same bare none = denies-of-item IsUnread End l taken old fault (denies-content IsUnread End false old mid kind len fault same bare none)
+
 -- ---- how long payloads are
 
 parts-long : (major : ℕ) (P : List ℕ → Type 0) (s : List ℕ) (ps : List (List ℕ)) → AreChunks major P s ps → length (joined ps) ≤ length s
@@ -114,6 +119,10 @@ pub string-behind : {S A : Type 0} (IsUnread : S → List ℕ → Type 0) (mid n
 string-behind IsUnread mid new kind len l taken payload v content give y un =
     let (c, z, make, f, un') = content y un in
     (string_item kind len payload, c, z, make, f, give, un')
+
+pub reads-string : {S A : Type 0} (IsUnread : S → List ℕ → Type 0) (old mid new : S) (kind : StringKind) (len : Option ℕ) (l : Limit) (taken : Taken A) (payload : List ℕ) (v : A) → TakesBare IsUnread old mid false (head_of kind len) →
+    TakesContent (IsUnread mid) (IsUnread new) kind len payload → ((ts : List ℕ) → AreSkipped false ts → taken l (under ts (string_item kind len payload)) ≡ gives v) → Reads IsUnread old new l taken v
+reads-string IsUnread old mid new kind len l taken payload v bare content give = reads-bare IsUnread false (head_of kind len) l taken old mid new v bare (string-behind IsUnread mid new kind len l taken payload v content give)
 
 pub text-other : (l : Limit) (h : Header) → IsBare false h → ((n : Option ℕ) → h ≡ header.Text n → ⊥) → (ts : List ℕ) (i : Item) → AreSkipped false ts → header_of i ≡ h → taken_text l (under ts i) ≡ refuses kinds.Text
 text-other l h bare p ts i all e = ap bare_text (untagged-under ts i) ∙

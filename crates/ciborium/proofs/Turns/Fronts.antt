@@ -1,5 +1,5 @@
 -- What stands at the front, by its head.
-use Rattle.std.proofs.Common.{◌≡◌, ℕ, suc, ◌+◌, ◌*◌, ◌-◌, ◌%◌, ◌<◌, ◌≤◌, List, [], ◌∷◌, ◌++◌, length, Option, Some, None, Result, Ok, Err, pos, negsuc, refl, sym, ap, ◌∙◌, subst, arith, append-nil, inl, inr, false}
+use Rattle.std.proofs.Common.{◌≡◌, ℕ, suc, ◌+◌, ◌-◌, ◌%◌, ◌<◌, ◌≤◌, List, [], ◌∷◌, ◌++◌, length, Option, Some, None, Result, Ok, Err, pos, negsuc, refl, sym, ap, ◌∙◌, subst, arith, append-nil, inl, inr, false}
 use Rattle.std.proofs.lemmas.Nat.{div-mul-add, mod-mul-add}
 use Rattle.ciborium_ll.specs.declared.header.Header.{Header}
 use Rattle.ciborium_ll.specs.declared.header.Header.TheVariants as header
@@ -16,7 +16,7 @@ use Rattle.ciborium_ll.proofs.HeadAnswers as answers
 use Rattle.ciborium_ll.proofs.UsableHeads.{usable-fits, HeadFits}
 use Rattle.ciborium_ll.proofs.OneHeader.{one_header_at_front}
 use Rattle.ciborium_value.specs.Meaning.{simple_meaning}
-use Rattle.ciborium_value.specs.Refuses.{Refuses, BeginsContainer, exactly, Due}
+use Rattle.ciborium_value.specs.Refuses.{Refuses, BeginsContainer, Due}
 use Rattle.ciborium_value.specs.Tree as trees
 use Rattle.ciborium_value.specs.Tree.{Tree}
 use Rattle.ciborium_value.specs.View.{tree_of}
@@ -185,30 +185,24 @@ container-inside major count start now l xs p h b r head due room u = record {
   fits = front-fits xs p h b r u;
 }
 
+due-behind : (start now : Option ℕ → Due) → ((k : ℕ) → start (Some (suc k)) ≡ now (Some k)) → start None ≡ now None → (count behind : Option ℕ) → IsBehind count behind → start count ≡ now behind
+due-behind start now some none (Some n) (Some k) e = ap (λ m. start (Some m)) e ∙ some k
+due-behind start now some none (Some n) None e = absurd e
+due-behind start now some none None (Some k) e = absurd e
+due-behind start now some none None None e = none
+
 array-inside : (count behind : Option ℕ) (l : ℕ) (xs : List ℕ) (p : ℕ) (b r : List ℕ) → IsBehind count behind → Front xs p (header.Array count) b r →
     IsInContainer 4 count (array_due count) (due_in (frames.array [] behind)) l xs p [] r (p + length b)
-array-inside count behind l xs p b r e u = container-inside 4 count (array_due count) (due_in (frames.array [] behind)) l xs p _ b r (array-stands count xs p b r u) (due count behind e) (room count) u
+array-inside count behind l xs p b r e u = container-inside 4 count (array_due count) (due_in (frames.array [] behind)) l xs p _ b r (array-stands count xs p b r u) (due-behind array_due (λ behind. due_in (frames.array [] behind)) (λ k. refl) refl count behind e) (room count) u
   where
-    due : (count behind : Option ℕ) → IsBehind count behind → array_due count ≡ due_in (frames.array [] behind)
-    due (Some n) (Some k) e = ap exactly e
-    due (Some n) None e = absurd e
-    due None (Some k) e = absurd e
-    due None None e = refl
-
     room : (count : Option ℕ) → IsRoom (array_due count) item.no_items
     room (Some n) = omega arith
     room None = tt
 
 map-inside : (count behind : Option ℕ) (l : ℕ) (xs : List ℕ) (p : ℕ) (b r : List ℕ) → IsBehind count behind → Front xs p (header.Map count) b r →
     IsInContainer 5 count (map_due count) (due_in (frames.map [] behind None)) l xs p [] r (p + length b)
-map-inside count behind l xs p b r e u = container-inside 5 count (map_due count) (due_in (frames.map [] behind None)) l xs p _ b r (map-stands count xs p b r u) (due count behind e) (room count) u
+map-inside count behind l xs p b r e u = container-inside 5 count (map_due count) (due_in (frames.map [] behind None)) l xs p _ b r (map-stands count xs p b r u) (due-behind map_due (λ behind. due_in (frames.map [] behind None)) (λ k. refl) refl count behind e) (room count) u
   where
-    due : (count behind : Option ℕ) → IsBehind count behind → map_due count ≡ due_in (frames.map [] behind None)
-    due (Some n) (Some k) e = ap (λ m. exactly (2 * m)) e
-    due (Some n) None e = absurd e
-    due None (Some k) e = absurd e
-    due None None e = refl
-
     room : (count : Option ℕ) → IsRoom (map_due count) item.no_items
     room (Some n) = omega arith
     room None = tt

@@ -11,7 +11,7 @@ use Rattle.ciborium.specs.Errors.{fault_of}
 use Rattle.ciborium.specs.inner.Skips.{TakesBare}
 use Rattle.ciborium.proofs.Containers.EnteredContainers.{array-entered, array-nests, bytes-entered, bytes-had, seq-given, seq-other}
 use Rattle.ciborium.proofs.Items.SkippedTags.{denies-bare, denies-nested, denies-of-item}
-use Rattle.ciborium.proofs.Payloads.StringPayloads.{denies-content}
+use Rattle.ciborium.proofs.Payloads.StringPayloads.{denies-string}
 use Rattle.ciborium.proofs.Items.TakenOnly.{same-end}
 use Rattle.ciborium.proofs.de.byte_source.ByteSource.begin_seq.Goals as goal
 
@@ -43,9 +43,8 @@ returns-in_ok-seq-in-Bytes-clause-ok g c =
 pub returns-in_err-seq-in-Bytes-clause-denied : goal.returns-in_err-seq-in-Bytes-clause-denied
 returns-in_err-seq-in-Bytes-clause-denied g c =
     let exit = err_from_is_err_and c.from_residual-in_err-seq-in-Bytes.result c.from_residual-in_err-seq-in-Bytes.ensures.1 in
-    rw (exit.1, exit.2) (denies-of-item (IsUnread g.R.Read.remaining) (end_at g.R.Read.remaining) (Some c.args.self.now.levels) taken_seq c.args.self.now (fault_of c.in_err-seq-in-Bytes.field-0.0)
-    (denies-content (IsUnread g.R.Read.remaining) (end_at g.R.Read.remaining) false c.args.self.now c.bare_head.new.self of_bytes c.in-Bytes.len (fault_of c.in_err-seq-in-Bytes.field-0.0) (same-end g.R.Read.remaining c.args.self.now c.bare_head.new.self c.in_ok-header.ensures.reads.only)
-    (subst (TakesBare (IsUnread g.R.Read.remaining) c.args.self.now c.bare_head.new.self false) c.in-Bytes.is c.in_ok-header.ensures.head) c.in_err-seq-in-Bytes.ensures.denied))
+    rw (exit.1, exit.2) (denies-string (IsUnread g.R.Read.remaining) (end_at g.R.Read.remaining) (Some c.args.self.now.levels) taken_seq c.args.self.now c.bare_head.new.self of_bytes c.in-Bytes.len (fault_of c.in_err-seq-in-Bytes.field-0.0) (same-end g.R.Read.remaining c.args.self.now c.bare_head.new.self c.in_ok-header.ensures.reads.only)
+    (subst (TakesBare (IsUnread g.R.Read.remaining) c.args.self.now c.bare_head.new.self false) c.in-Bytes.is c.in_ok-header.ensures.head) c.in_err-seq-in-Bytes.ensures.denied)
 
 pub returns-in_default-clause-denied : goal.returns-in_default-clause-denied
 returns-in_default-clause-denied g c =

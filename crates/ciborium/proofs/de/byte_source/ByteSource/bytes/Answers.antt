@@ -13,7 +13,7 @@ use Rattle.ciborium.specs.inner.Skips.{TakesBare}
 use Rattle.ciborium.proofs.Containers.ByteItems.{array-nests, array-refuses, array-takes, array-took, bytes-given, bytes-other, bytes-read, refuses-denied, takes-read, took-read}
 use Rattle.ciborium.proofs.Containers.EnteredContainers.{array-entered}
 use Rattle.ciborium.proofs.Items.SkippedTags.{denies-bare, denies-nested, denies-of-item}
-use Rattle.ciborium.proofs.Payloads.StringPayloads.{denies-content}
+use Rattle.ciborium.proofs.Payloads.StringPayloads.{denies-string}
 use Rattle.ciborium.proofs.Items.TakenOnly.{same-end}
 use Rattle.ciborium.proofs.de.byte_source.ByteSource.bytes.Goals as goal
 
@@ -45,9 +45,8 @@ pub returns-in_err-bytes-in-Bytes-clause-refused : goal.returns-in_err-bytes-in-
 returns-in_err-bytes-in-Bytes-clause-refused g c =
     let exit = err_from_is_err_and c.from_residual-in_err-bytes-in-Bytes.result c.from_residual-in_err-bytes-in-Bytes.ensures.1 in
     let fault = fault_of c.in_err-bytes-in-Bytes.field-0.0 in
-    rw (exit.1, exit.2) (refuses-denied g.R.Read.remaining c.args.self.now taken_bytes fault (denies-of-item (IsUnread g.R.Read.remaining) (end_at g.R.Read.remaining) (Some c.args.self.now.levels) taken_bytes c.args.self.now fault
-    (denies-content (IsUnread g.R.Read.remaining) (end_at g.R.Read.remaining) false c.args.self.now c.bare_head.new.self of_bytes c.in-Bytes.len fault (same-end g.R.Read.remaining c.args.self.now c.bare_head.new.self c.in_ok-header.ensures.reads.only)
-    (subst (TakesBare (IsUnread g.R.Read.remaining) c.args.self.now c.bare_head.new.self false) c.in-Bytes.is c.in_ok-header.ensures.head) c.in_err-bytes-in-Bytes.ensures.denied)))
+    rw (exit.1, exit.2) (refuses-denied g.R.Read.remaining c.args.self.now taken_bytes fault (denies-string (IsUnread g.R.Read.remaining) (end_at g.R.Read.remaining) (Some c.args.self.now.levels) taken_bytes c.args.self.now c.bare_head.new.self of_bytes c.in-Bytes.len fault (same-end g.R.Read.remaining c.args.self.now c.bare_head.new.self c.in_ok-header.ensures.reads.only)
+    (subst (TakesBare (IsUnread g.R.Read.remaining) c.args.self.now c.bare_head.new.self false) c.in-Bytes.is c.in_ok-header.ensures.head) c.in_err-bytes-in-Bytes.ensures.denied))
 
 -- ---- an array
 
