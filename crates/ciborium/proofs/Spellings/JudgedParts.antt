@@ -18,8 +18,6 @@ use Rattle.ciborium_value.specs.Meaning.{simple_meaning}
 use Rattle.ciborium_value.specs.Nesting.{nesting}
 use Rattle.ciborium_value.specs.inner.Frames as frames
 use Rattle.ciborium_value.specs.inner.Stack.{begun_frame as opened_of}
-use Rattle.ciborium_value.specs.Tree as trees
-use Rattle.ciborium_value.specs.Tree.{Tree}
 use Rattle.ciborium_value.specs.View.{tree_of}
 use Rattle.ciborium.specs.declared.de.error.Error.{Error}
 use Rattle.ciborium.specs.declared.de.front.Part.{Part}
@@ -28,7 +26,7 @@ use Rattle.ciborium_value.specs.Deterministic.{IsCanonicalTree}
 use Rattle.ciborium.specs.DeterministicRefusals.{ContainerKind, of_array, of_map, container_major, DeterministicallyRefuses, HasParts, HasShortHead, IsInOrder}
 use Rattle.ciborium.specs.Errors.{IsRefusedBy}
 use Rattle.ciborium.specs.inner.Around.{IsStrictlyInside}
-use Rattle.ciborium.specs.inner.Parts.{IsArrayBegun, IsFrameBegun, IsMapBegun, IsBehind, IsPartRead}
+use Rattle.ciborium.specs.inner.Parts.{IsFrameBegun, IsBehind, IsPartRead, IsContainerBegun, begun_container, container_header, empty_container}
 use Rattle.ciborium.specs.inner.ValuesInBytes.{ReadsItem, IsAt, IsPulled, StandsAt}
 use Rattle.ciborium.specs.Spelling.{deterministic, deterministic_fault}
 use Rattle.ciborium.specs.inner.StringAnswers.{string_tree, IsStringRead}
@@ -131,17 +129,25 @@ module _ (order : KeyOrder) where
     fits-behind : (a : IsPulled remaining d h xs p) → p + length a.0 ≤ greatest_offset
     fits-behind a = front-fits xs p h a.0 a.1 (front-of remaining d h h xs p refl a)
 
-    short-array : (n : ℕ) → h ≡ header.Array (Some n) → (a : IsPulled remaining d h xs p) → HasShortHead 4 n xs p a.1 (p + length a.0)
-    short-array n is a = short-front remaining d h (header.Array (Some n)) 4 n p xs is (λ b s. s) (λ k. refl) right size a
+    short-container : (kind : ContainerKind) (n : ℕ) → h ≡ container_header kind (Some n) → (a : IsPulled remaining d h xs p) → HasShortHead (container_major kind) n xs p a.1 (p + length a.0)
+    short-container of_array n is a = short-front remaining d h (header.Array (Some n)) 4 n p xs is (λ b s. s) (λ k. refl) right size a
+    short-container of_map n is a = short-front remaining d h (header.Map (Some n)) 5 n p xs is (λ b s. s) (λ k. refl) right size a
 
-    short-map : (n : ℕ) → h ≡ header.Map (Some n) → (a : IsPulled remaining d h xs p) → HasShortHead 5 n xs p a.1 (p + length a.0)
-    short-map n is a = short-front remaining d h (header.Map (Some n)) 5 n p xs is (λ b s. s) (λ k. refl) right size a
+    no-open-container : (kind : ContainerKind) → h ≡ container_header kind None → ⊥
+    no-open-container of_array is = let wrong = sym (ap (λ g. deterministic_fault g d.head_len) is) ∙ right in cc
+    no-open-container of_map is = let wrong = sym (ap (λ g. deterministic_fault g d.head_len) is) ∙ right in cc
 
-    no-open-array : h ≡ header.Array None → ⊥
-    no-open-array is = let wrong = sym (ap (λ g. deterministic_fault g d.head_len) is) ∙ right in cc
+    empty-encoding : (kind : ContainerKind) → encoding (empty_container kind) ≡ shortest_head (container_major kind) 0
+    empty-encoding of_array = append-nil (shortest_head 4 0)
+    empty-encoding of_map = append-nil (shortest_head 5 0)
 
-    no-open-map : h ≡ header.Map None → ⊥
-    no-open-map is = let wrong = sym (ap (λ g. deterministic_fault g d.head_len) is) ∙ right in cc
+    empty-canonical : (kind : ContainerKind) → IsCanonicalTree order (empty_container kind) × (nesting (item_of (empty_container kind)) ≡ 1)
+    empty-canonical of_array = (record { proper = (omega arith, tt); folds = refl; rises = tt }, refl)
+    empty-canonical of_map = (record { proper = (omega arith, tt); folds = refl; rises = (tt, tt) }, refl)
+
+    strictly-inside : (kind : ContainerKind) (k m : ℕ) (r : List ℕ) (q : ℕ) → HasParts order kind (0 + suc k) m xs p [] r q → IsStrictlyInside order (begun_container kind (Some k)) m xs p r q
+    strictly-inside of_array k m r q t = t
+    strictly-inside of_map k m r q t = t
 
     -- one was opened: n parts or pairs are due, the first of them and k more
     opened-at : (f : Opening) (o : frames.TreeFrame) (kind : ContainerKind) (n : ℕ) → 0 < l → opened_of f ≡ o → ((m : ℕ) (r : List ℕ) (q : ℕ) → HasParts order kind n m xs p [] r q → IsStrictlyInside order o m xs p r q) →
@@ -155,35 +161,21 @@ module _ (order : KeyOrder) where
     no-level : (kind : ContainerKind) (n : ℕ) → l ≡ 0 → (a : IsPulled remaining d h xs p) → HasShortHead (container_major kind) n xs p a.1 (p + length a.0) → DeterministicallyRefuses order xs p l recursion_limit_exceeded
     no-level kind n none a short = subst (λ k. DeterministicallyRefuses order xs p k recursion_limit_exceeded) (sym none) (DeterministicallyRefuses.no_level kind n a.1 (p + length a.0) short)
 
-    pub array-part : (E : Type 0) (count : Option ℕ) (x : Result Part (Error E)) → h ≡ header.Array count → IsPulled remaining d h xs p → IsArrayBegun count l x → IsPartRead (deterministic order) remaining d l xs p x
-    array-part E None x is a s = absurd (no-open-array is)
-    array-part E (Some n) (Ok (Whole v)) is a s =
+    pub container-part : (E : Type 0) (kind : ContainerKind) (count : Option ℕ) (x : Result Part (Error E)) → h ≡ container_header kind count → IsPulled remaining d h xs p → IsContainerBegun kind count l x → IsPartRead (deterministic order) remaining d l xs p x
+    container-part E kind None x is a s = absurd (no-open-container kind is)
+    container-part E kind (Some n) (Ok (Whole v)) is a s =
         let none : n ≡ 0 = (let e = s.0 in cc) in
+        let (canonical, one) = empty-canonical kind in
         let some = s.1 in
-        got-leaf order remaining d l xs p h 4 n (trees.array trees.no_trees) (tree_of v) pushed s.2 (append-nil (shortest_head 4 0) ∙ ap (shortest_head 4) (sym none)) (record { proper = (omega arith, tt); folds = refl; rises = tt }) (omega (arith, some)) a (short-array n is a)
-    array-part E (Some n) (Ok (Opened f)) is a (lt, behind, same, left) = by behind same left
+        got-leaf order remaining d l xs p h (container_major kind) n (empty_container kind) (tree_of v) pushed s.2 (empty-encoding kind ∙ ap (shortest_head (container_major kind)) (sym none)) canonical (omega (arith, one, some)) a (short-container kind n is a)
+    container-part E kind (Some n) (Ok (Opened f)) is a (lt, behind, same, left) = by behind same left
       where
-        by : (behind : Option ℕ) → opened_of f ≡ frames.array [] behind → IsBehind (Some n) behind → IsPartRead {E = E} (deterministic order) remaining d l xs p (Ok (Opened f))
+        by : (behind : Option ℕ) → opened_of f ≡ begun_container kind behind → IsBehind (Some n) behind → IsPartRead {E = E} (deterministic order) remaining d l xs p (Ok (Opened f))
         by None same left = absurd left
-        by (Some k) same left = opened-at f (frames.array [] (Some k)) of_array n lt same (λ m r q t. subst (λ j. HasParts order of_array j m xs p [] r q) (omega (arith, left)) t) a (short-array n is a)
-    array-part E (Some n) (Ok Ended) is a s = absurd s
-    array-part E (Some n) (Err e) is a s =
-        subst (λ z. IsRefusedBy (left_of remaining d) z (DeterministicallyRefuses order xs p l)) (sym s.1) (no-level of_array n s.0 a (short-array n is a))
-
-    pub map-part : (E : Type 0) (count : Option ℕ) (x : Result Part (Error E)) → h ≡ header.Map count → IsPulled remaining d h xs p → IsMapBegun count l x → IsPartRead (deterministic order) remaining d l xs p x
-    map-part E None x is a s = absurd (no-open-map is)
-    map-part E (Some n) (Ok (Whole v)) is a s =
-        let none : n ≡ 0 = (let e = s.0 in cc) in
-        let some = s.1 in
-        got-leaf order remaining d l xs p h 5 n (trees.map trees.no_tree_pairs) (tree_of v) pushed s.2 (append-nil (shortest_head 5 0) ∙ ap (shortest_head 5) (sym none)) (record { proper = (omega arith, tt); folds = refl; rises = (tt, tt) }) (omega (arith, some)) a (short-map n is a)
-    map-part E (Some n) (Ok (Opened f)) is a (lt, behind, same, left) = by behind same left
-      where
-        by : (behind : Option ℕ) → opened_of f ≡ frames.map [] behind None → IsBehind (Some n) behind → IsPartRead {E = E} (deterministic order) remaining d l xs p (Ok (Opened f))
-        by None same left = absurd left
-        by (Some k) same left = opened-at f (frames.map [] (Some k) None) of_map n lt same (λ m r q t. subst (λ j. HasParts order of_map j m xs p [] r q) (omega (arith, left)) t) a (short-map n is a)
-    map-part E (Some n) (Ok Ended) is a s = absurd s
-    map-part E (Some n) (Err e) is a s =
-        subst (λ z. IsRefusedBy (left_of remaining d) z (DeterministicallyRefuses order xs p l)) (sym s.1) (no-level of_map n s.0 a (short-map n is a))
+        by (Some k) same left = opened-at f (begun_container kind (Some k)) kind n lt same (λ m r q t. strictly-inside kind k m r q (subst (λ j. HasParts order kind j m xs p [] r q) (omega (arith, left)) t)) a (short-container kind n is a)
+    container-part E kind (Some n) (Ok Ended) is a s = absurd s
+    container-part E kind (Some n) (Err e) is a s =
+        subst (λ z. IsRefusedBy (left_of remaining d) z (DeterministicallyRefuses order xs p l)) (sym s.1) (no-level kind n s.0 a (short-container kind n is a))
 
   -- ---- refusals of one head
 

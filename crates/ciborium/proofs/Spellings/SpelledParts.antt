@@ -15,11 +15,12 @@ use Rattle.ciborium_value.specs.Meaning.{simple_meaning}
 use Rattle.ciborium_value.specs.Tree as trees
 use Rattle.ciborium_value.specs.Tree.{Tree}
 use Rattle.ciborium_value.specs.View.{tree_of}
+use Rattle.ciborium.specs.DeterministicRefusals.{ContainerKind}
 use Rattle.ciborium.specs.declared.de.error.Error.{Error}
 use Rattle.ciborium.specs.declared.de.error.Error.TheVariants.{Semantic}
 use Rattle.ciborium.specs.declared.de.front.Part.{Part}
 use Rattle.ciborium.specs.Errors.{IsRefusedBy}
-use Rattle.ciborium.specs.inner.Parts.{IsArrayBegun, IsHeadAccepted, IsMapBegun, IsPartRead, IsHeadMeasured, RefusesPart}
+use Rattle.ciborium.specs.inner.Parts.{IsHeadAccepted, IsPartRead, IsHeadMeasured, RefusesPart, IsContainerBegun, container_header}
 use Rattle.ciborium.specs.inner.ValuesInBytes.{ReadsItem, IsAt, IsPulled, StandsAt}
 use Rattle.ciborium_ll.specs.Decoding.{IsMeasured}
 use Rattle.ciborium.specs.Spelling.{Spelling, any, deterministic, head_fault}
@@ -130,13 +131,9 @@ module _ {S : Type 0} (remaining : S → Option (List ℕ)) (d : Decoder S) (l :
       let b = got-break remaining d xs p h pushed is a.pulled in
       (b.0, b.1, b.2, (b.3, leaves.unpushed d pushed))
 
-  pub array-part : (spelling : Spelling) (E : Type 0) (count : Option ℕ) (x : Result Part (Error E)) → h ≡ header.Array count → IsHeadAccepted spelling remaining d h xs p → IsArrayBegun count l x → IsPartRead spelling remaining d l xs p x
-  array-part any E count x is a begun = fronts.array-part remaining d l xs p h count x pushed is a.pulled begun
-  array-part (deterministic order) E count x is a begun = judged.array-part order remaining d l xs p h a.right a.sized pushed E count x is a.pulled begun
-
-  pub map-part : (spelling : Spelling) (E : Type 0) (count : Option ℕ) (x : Result Part (Error E)) → h ≡ header.Map count → IsHeadAccepted spelling remaining d h xs p → IsMapBegun count l x → IsPartRead spelling remaining d l xs p x
-  map-part any E count x is a begun = fronts.map-part remaining d l xs p h count x pushed is a.pulled begun
-  map-part (deterministic order) E count x is a begun = judged.map-part order remaining d l xs p h a.right a.sized pushed E count x is a.pulled begun
+  pub container-part : (spelling : Spelling) (E : Type 0) (kind : ContainerKind) (count : Option ℕ) (x : Result Part (Error E)) → h ≡ container_header kind count → IsHeadAccepted spelling remaining d h xs p → IsContainerBegun kind count l x → IsPartRead spelling remaining d l xs p x
+  container-part any E kind count x is a begun = fronts.container-part remaining d l xs p h kind count x pushed is a.pulled begun
+  container-part (deterministic order) E kind count x is a begun = judged.container-part order remaining d l xs p h a.right a.sized pushed E kind count x is a.pulled begun
 
 -- ---- strings
 

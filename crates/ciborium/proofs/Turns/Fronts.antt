@@ -1,5 +1,5 @@
 -- What stands at the front, by its head.
-use Rattle.std.proofs.Common.{◌≡◌, ℕ, suc, ◌+◌, ◌-◌, ◌%◌, ◌<◌, ◌≤◌, List, [], ◌∷◌, ◌++◌, length, Option, Some, None, Result, Ok, Err, pos, negsuc, refl, sym, ap, ◌∙◌, subst, arith, append-nil, inl, inr, false}
+use Rattle.std.proofs.Common.{◌≡◌, ◌*◌, ℕ, suc, ◌+◌, ◌-◌, ◌%◌, ◌<◌, ◌≤◌, List, [], ◌∷◌, ◌++◌, length, Option, Some, None, Result, Ok, Err, pos, negsuc, refl, sym, ap, ◌∙◌, subst, arith, append-nil, inl, inr, false}
 use Rattle.std.proofs.lemmas.Nat.{div-mul-add, mod-mul-add}
 use Rattle.ciborium_ll.specs.declared.header.Header.{Header}
 use Rattle.ciborium_ll.specs.declared.header.Header.TheVariants as header
@@ -16,19 +16,19 @@ use Rattle.ciborium_ll.proofs.HeadAnswers as answers
 use Rattle.ciborium_ll.proofs.UsableHeads.{usable-fits, HeadFits}
 use Rattle.ciborium_ll.proofs.OneHeader.{one_header_at_front}
 use Rattle.ciborium_value.specs.Meaning.{simple_meaning}
-use Rattle.ciborium_value.specs.Refuses.{Refuses, BeginsContainer, Due}
+use Rattle.ciborium_value.specs.Refuses.{Refuses, BeginsContainer, Due, exactly}
 use Rattle.ciborium_value.specs.Tree as trees
 use Rattle.ciborium_value.specs.Tree.{Tree}
 use Rattle.ciborium_value.specs.View.{tree_of}
-use Rattle.ciborium_value.specs.inner.Frames as frames
 use Rattle.ciborium_value.proofs.GoodItems.Steps.{opened-has}
+use Rattle.ciborium.specs.DeterministicRefusals.{ContainerKind, of_array, of_map, container_major}
 use Rattle.ciborium.proofs.Turns.ItemsRead.{item-read}
 use Rattle.ciborium.specs.declared.de.error.Error.{Error}
 use Rattle.ciborium.specs.declared.de.front.Part.{Part}
 use Rattle.ciborium.specs.declared.de.front.Part.TheVariants.{Whole, Opened, Ended}
 use Rattle.ciborium.specs.inner.Around.{IsInContainer, IsAnywayInside, HasContainerHead, IsRoom, array_due, map_due, due_in}
 use Rattle.ciborium.specs.Errors.{IsRefusedBy}
-use Rattle.ciborium.specs.inner.Parts.{IsArrayBegun, IsMapBegun, IsBehind, IsPartRead, RefusesPart}
+use Rattle.ciborium.specs.inner.Parts.{IsBehind, IsPartRead, RefusesPart, IsContainerBegun, begun_container, container_header, empty_container}
 use Rattle.ciborium.specs.inner.ValuesInBytes.{ReadsItem, IsAt, IsPulled, IsBreakAt}
 use Rattle.ciborium.specs.Spelling.{any}
 use Rattle.ciborium.proofs.Turns.Pulled.{refused-map}
@@ -106,11 +106,9 @@ pub simple-reads : (l n : ℕ) (xs : List ℕ) (p : ℕ) (b r : List ℕ) (t : T
 simple-reads l n xs p b r t e u =
     item-read b (item.simple n) u.spelled e (omega arith) u.split refl (front-fits xs p _ b r u)
 
-empty-array : (l : ℕ) (xs : List ℕ) (p : ℕ) (b r : List ℕ) → 0 < l → Front xs p (header.Array (Some 0)) b r → ReadsItem any l xs p (trees.array trees.no_trees) r (p + length b)
-empty-array l xs p b r lt u = item-read b (item.array false item.no_items) (([], refl, (b, u.spelled, sym (append-nil b)))) refl (omega arith) u.split refl (front-fits xs p _ b r u)
-
-empty-map : (l : ℕ) (xs : List ℕ) (p : ℕ) (b r : List ℕ) → 0 < l → Front xs p (header.Map (Some 0)) b r → ReadsItem any l xs p (trees.map trees.no_tree_pairs) r (p + length b)
-empty-map l xs p b r lt u = item-read b (item.map false item.no_pairs) (([], refl, (b, u.spelled, sym (append-nil b)))) refl (omega arith) u.split refl (front-fits xs p _ b r u)
+empty-container : (kind : ContainerKind) (l : ℕ) (xs : List ℕ) (p : ℕ) (b r : List ℕ) → 0 < l → Front xs p (container_header kind (Some 0)) b r → ReadsItem any l xs p (empty_container kind) r (p + length b)
+empty-container of_array l xs p b r lt u = item-read b (item.array false item.no_items) (([], refl, (b, u.spelled, sym (append-nil b)))) refl (omega arith) u.split refl (front-fits xs p _ b r u)
+empty-container of_map l xs p b r lt u = item-read b (item.map false item.no_pairs) (([], refl, (b, u.spelled, sym (append-nil b)))) refl (omega arith) u.split refl (front-fits xs p _ b r u)
 
 -- ---- answers
 
@@ -151,90 +149,74 @@ float-refuses l size xs p b r u = by u.spelled
 
 -- ---- arrays and maps
 
-array-stands : (count : Option ℕ) (xs : List ℕ) (p : ℕ) (b r : List ℕ) → Front xs p (header.Array count) b r → HasContainerHead 4 xs count (length b) r
-array-stands (Some n) xs p b r u = (b, u.spelled, refl, u.split)
-array-stands None xs p b r u = (ap length u.spelled, u.split ∙ ap (λ (z : List ℕ). z ++ r) u.spelled)
+abbrev due_of : ContainerKind → Option ℕ → Due
+due_of of_array = array_due
+due_of of_map = map_due
 
-map-stands : (count : Option ℕ) (xs : List ℕ) (p : ℕ) (b r : List ℕ) → Front xs p (header.Map count) b r → HasContainerHead 5 xs count (length b) r
-map-stands (Some n) xs p b r u = (b, u.spelled, refl, u.split)
-map-stands None xs p b r u = (ap length u.spelled, u.split ∙ ap (λ (z : List ℕ). z ++ r) u.spelled)
+container-stands : (kind : ContainerKind) (count : Option ℕ) (xs : List ℕ) (p : ℕ) (b r : List ℕ) → Front xs p (container_header kind count) b r → HasContainerHead (container_major kind) xs count (length b) r
+container-stands of_array (Some n) xs p b r u = (b, u.spelled, refl, u.split)
+container-stands of_map (Some n) xs p b r u = (b, u.spelled, refl, u.split)
+container-stands of_array None xs p b r u = (ap length u.spelled, u.split ∙ ap (λ (z : List ℕ). z ++ r) u.spelled)
+container-stands of_map None xs p b r u = (ap length u.spelled, u.split ∙ ap (λ (z : List ℕ). z ++ r) u.spelled)
 
-array-opens : (count : Option ℕ) (xs : List ℕ) (p : ℕ) (b r : List ℕ) → Front xs p (header.Array count) b r → BeginsContainer xs (length b) r (array_due count)
-array-opens (Some n) xs p b r u = BeginsContainer.array n (b, u.spelled, refl, u.split)
-array-opens None xs p b r u = BeginsContainer.open_array (ap length u.spelled) (u.split ∙ ap (λ (z : List ℕ). z ++ r) u.spelled)
+container-opens : (kind : ContainerKind) (count : Option ℕ) (xs : List ℕ) (p : ℕ) (b r : List ℕ) → Front xs p (container_header kind count) b r → BeginsContainer xs (length b) r (due_of kind count)
+container-opens of_array (Some n) xs p b r u = BeginsContainer.array n (b, u.spelled, refl, u.split)
+container-opens of_map (Some n) xs p b r u = BeginsContainer.map n (b, u.spelled, refl, u.split)
+container-opens of_array None xs p b r u = BeginsContainer.open_array (ap length u.spelled) (u.split ∙ ap (λ (z : List ℕ). z ++ r) u.spelled)
+container-opens of_map None xs p b r u = BeginsContainer.open_map (ap length u.spelled) (u.split ∙ ap (λ (z : List ℕ). z ++ r) u.spelled)
 
-map-opens : (count : Option ℕ) (xs : List ℕ) (p : ℕ) (b r : List ℕ) → Front xs p (header.Map count) b r → BeginsContainer xs (length b) r (map_due count)
-map-opens (Some n) xs p b r u = BeginsContainer.map n (b, u.spelled, refl, u.split)
-map-opens None xs p b r u = BeginsContainer.open_map (ap length u.spelled) (u.split ∙ ap (λ (z : List ℕ). z ++ r) u.spelled)
+due-behind : (kind : ContainerKind) (count behind : Option ℕ) → IsBehind count behind → due_of kind count ≡ due_in (begun_container kind behind)
+due-behind of_array (Some n) (Some k) e = ap exactly e
+due-behind of_map (Some n) (Some k) e = ap (λ m. exactly (2 * m)) e
+due-behind kind (Some n) None e = absurd e
+due-behind kind None (Some k) e = absurd e
+due-behind of_array None None e = refl
+due-behind of_map None None e = refl
 
--- behind the head of a container
-container-inside : (major : ℕ) (count : Option ℕ) (start now : Due) (l : ℕ) (xs : List ℕ) (p : ℕ) (h : Header) (b r : List ℕ) → HasContainerHead major xs count (length b) r → start ≡ now → IsRoom start item.no_items → Front xs p h b r →
-    IsInContainer major count start now l xs p [] r (p + length b)
-container-inside major count start now l xs p h b r head due room u = record {
+room : (kind : ContainerKind) (count : Option ℕ) → IsRoom (due_of kind count) item.no_items
+room of_array (Some n) = omega arith
+room of_map (Some n) = omega arith
+room of_array None = tt
+room of_map None = tt
+
+container-inside : (kind : ContainerKind) (count behind : Option ℕ) (l : ℕ) (xs : List ℕ) (p : ℕ) (b r : List ℕ) → IsBehind count behind → Front xs p (container_header kind count) b r →
+    IsInContainer (container_major kind) count (due_of kind count) (due_in (begun_container kind behind)) l xs p [] r (p + length b)
+container-inside kind count behind l xs p b r e u = record {
   size = length b;
   good = [];
   items = item.no_items;
   usable = u.usable;
-  head = head;
+  head = container-stands kind count xs p b r u;
   spelled = refl;
   means = refl;
   nests = omega arith;
-  due = due;
-  room = room;
+  due = due-behind kind count behind e;
+  room = room kind count;
   at = omega arith;
-  fits = front-fits xs p h b r u;
+  fits = front-fits xs p _ b r u;
 }
 
-due-behind : (start now : Option ℕ → Due) → ((k : ℕ) → start (Some (suc k)) ≡ now (Some k)) → start None ≡ now None → (count behind : Option ℕ) → IsBehind count behind → start count ≡ now behind
-due-behind start now some none (Some n) (Some k) e = ap (λ m. start (Some m)) e ∙ some k
-due-behind start now some none (Some n) None e = absurd e
-due-behind start now some none None (Some k) e = absurd e
-due-behind start now some none None None e = none
+anyway-inside : (kind : ContainerKind) (count behind : Option ℕ) (l : ℕ) (ys : List ℕ) (q : ℕ) (zs : List ℕ) (r : ℕ) → IsInContainer (container_major kind) count (due_of kind count) (due_in (begun_container kind behind)) l ys q [] zs r →
+    IsAnywayInside (begun_container kind behind) l ys q zs r
+anyway-inside of_array count behind l ys q zs r i = (count, i)
+anyway-inside of_map count behind l ys q zs r i = (count, i)
 
-array-inside : (count behind : Option ℕ) (l : ℕ) (xs : List ℕ) (p : ℕ) (b r : List ℕ) → IsBehind count behind → Front xs p (header.Array count) b r →
-    IsInContainer 4 count (array_due count) (due_in (frames.array [] behind)) l xs p [] r (p + length b)
-array-inside count behind l xs p b r e u = container-inside 4 count (array_due count) (due_in (frames.array [] behind)) l xs p _ b r (array-stands count xs p b r u) (due-behind array_due (λ behind. due_in (frames.array [] behind)) (λ k. refl) refl count behind e) (room count) u
-  where
-    room : (count : Option ℕ) → IsRoom (array_due count) item.no_items
-    room (Some n) = omega arith
-    room None = tt
+no-container-break : (kind : ContainerKind) (count : Option ℕ) → IsNoBreak (container_header kind count)
+no-container-break of_array count = tt
+no-container-break of_map count = tt
 
-map-inside : (count behind : Option ℕ) (l : ℕ) (xs : List ℕ) (p : ℕ) (b r : List ℕ) → IsBehind count behind → Front xs p (header.Map count) b r →
-    IsInContainer 5 count (map_due count) (due_in (frames.map [] behind None)) l xs p [] r (p + length b)
-map-inside count behind l xs p b r e u = container-inside 5 count (map_due count) (due_in (frames.map [] behind None)) l xs p _ b r (map-stands count xs p b r u) (due-behind map_due (λ behind. due_in (frames.map [] behind None)) (λ k. refl) refl count behind e) (room count) u
-  where
-    room : (count : Option ℕ) → IsRoom (map_due count) item.no_items
-    room (Some n) = omega arith
-    room None = tt
-
-pub array-part : {S E : Type 0} (remaining : S → Option (List ℕ)) (d : Decoder S) (l : ℕ) (xs : List ℕ) (p : ℕ) (h : Header) (count : Option ℕ) (x : Result Part (Error E)) → d.pushed ≡ None → h ≡ header.Array count →
-    IsPulled remaining d h xs p → IsArrayBegun count l x → IsPartRead any remaining d l xs p x
-array-part remaining d l xs p h count (Ok (Whole v)) pushed is a s =
-    got-leaf remaining d l xs p h (header.Array (Some 0)) (trees.array trees.no_trees) (tree_of v) pushed s.2 (is ∙ ap header.Array s.0) (λ b r u. empty-array l xs p b r s.1 u) a
-array-part remaining d l xs p h count (Ok (Opened f)) pushed is a s =
-    let u : Front xs p (header.Array count) a.0 a.1 = front-of remaining d h (header.Array count) xs p is a in
+pub container-part : {S E : Type 0} (remaining : S → Option (List ℕ)) (d : Decoder S) (l : ℕ) (xs : List ℕ) (p : ℕ) (h : Header) (kind : ContainerKind) (count : Option ℕ) (x : Result Part (Error E)) → d.pushed ≡ None → h ≡ container_header kind count →
+    IsPulled remaining d h xs p → IsContainerBegun kind count l x → IsPartRead any remaining d l xs p x
+container-part remaining d l xs p h kind count (Ok (Whole v)) pushed is a s =
+    got-leaf remaining d l xs p h (container_header kind (Some 0)) (empty_container kind) (tree_of v) pushed s.2 (is ∙ ap (container_header kind) s.0) (λ b r u. empty-container kind l xs p b r s.1 u) a
+container-part remaining d l xs p h kind count (Ok (Opened f)) pushed is a s =
+    let u : Front xs p (container_header kind count) a.0 a.1 = front-of remaining d h (container_header kind count) xs p is a in
     let lt = s.0 in
     let less : l ≡ suc (l - 1) = omega (arith, lt) in
     let q : ℕ = p + length a.0 in
-    (a.1, q, (l - 1, less, subst (λ o. IsAnywayInside o (l - 1) xs p a.1 q) (sym s.2) (count, array-inside count s.1 (l - 1) xs p a.0 a.1 s.3 u)), ahead-at remaining d q a.1 pushed a.6)
-array-part remaining d l xs p h count (Ok Ended) pushed is a s = absurd s
-array-part remaining d l xs p h count (Err e) pushed is a s =
+    (a.1, q, (l - 1, less, subst (λ o. IsAnywayInside o (l - 1) xs p a.1 q) (sym s.2) (anyway-inside kind count s.1 (l - 1) xs p a.1 q (container-inside kind count s.1 (l - 1) xs p a.0 a.1 s.3 u))), ahead-at remaining d q a.1 pushed a.6)
+container-part remaining d l xs p h kind count (Ok Ended) pushed is a s = absurd s
+container-part remaining d l xs p h kind count (Err e) pushed is a s =
     subst (λ z. RefusesNoBreak (left_of remaining d) z xs p l) (sym s.1)
-    (at-head remaining d l xs p h (header.Array count) recursion_limit_exceeded is tt
-    (λ b r u. subst (λ n. Refuses xs p (Some n) recursion_limit_exceeded) (sym s.0) (Refuses.no_level (length b) r (array_due count) u.usable (array-opens count xs p b r u))) a)
-
-pub map-part : {S E : Type 0} (remaining : S → Option (List ℕ)) (d : Decoder S) (l : ℕ) (xs : List ℕ) (p : ℕ) (h : Header) (count : Option ℕ) (x : Result Part (Error E)) → d.pushed ≡ None → h ≡ header.Map count →
-    IsPulled remaining d h xs p → IsMapBegun count l x → IsPartRead any remaining d l xs p x
-map-part remaining d l xs p h count (Ok (Whole v)) pushed is a s =
-    got-leaf remaining d l xs p h (header.Map (Some 0)) (trees.map trees.no_tree_pairs) (tree_of v) pushed s.2 (is ∙ ap header.Map s.0) (λ b r u. empty-map l xs p b r s.1 u) a
-map-part remaining d l xs p h count (Ok (Opened f)) pushed is a s =
-    let u : Front xs p (header.Map count) a.0 a.1 = front-of remaining d h (header.Map count) xs p is a in
-    let lt = s.0 in
-    let less : l ≡ suc (l - 1) = omega (arith, lt) in
-    let q : ℕ = p + length a.0 in
-    (a.1, q, (l - 1, less, subst (λ o. IsAnywayInside o (l - 1) xs p a.1 q) (sym s.2) (count, map-inside count s.1 (l - 1) xs p a.0 a.1 s.3 u)), ahead-at remaining d q a.1 pushed a.6)
-map-part remaining d l xs p h count (Ok Ended) pushed is a s = absurd s
-map-part remaining d l xs p h count (Err e) pushed is a s =
-    subst (λ z. RefusesNoBreak (left_of remaining d) z xs p l) (sym s.1)
-    (at-head remaining d l xs p h (header.Map count) recursion_limit_exceeded is tt
-    (λ b r u. subst (λ n. Refuses xs p (Some n) recursion_limit_exceeded) (sym s.0) (Refuses.no_level (length b) r (map_due count) u.usable (map-opens count xs p b r u))) a)
+    (at-head remaining d l xs p h (container_header kind count) recursion_limit_exceeded is (no-container-break kind count)
+    (λ b r u. subst (λ n. Refuses xs p (Some n) recursion_limit_exceeded) (sym s.0) (Refuses.no_level (length b) r (due_of kind count) u.usable (container-opens kind count xs p b r u))) a)

@@ -1,5 +1,5 @@
 -- What stands at the front of what is ahead, with l levels left.
-use Rattle.std.specs.Prelude.{◌≡◌, ℕ, suc, ◌+◌, ◌<◌, ◌≤◌, ◌⊎◌, List, [], ◌∷◌, ◌++◌, length, Option, Some, None, MatchOption, Result, Ok, Err, true}
+use Rattle.std.specs.Prelude.{◌≡◌, ℕ, suc, ◌+◌, ◌<◌, ◌≤◌, ◌⊎◌, List, [], ◌∷◌, ◌++◌, length, Option, Some, None, MatchOption, Result, Ok, Err, Bool, true, false}
 use Rattle.ciborium_ll.specs.declared.header.Header.{Header}
 use Rattle.ciborium_ll.specs.declared.header.Header.TheVariants as header
 use Rattle.ciborium_ll.specs.declared.decoder.Decoder.{Decoder}
@@ -14,6 +14,7 @@ use Rattle.ciborium_value.specs.inner.Frames.{TreeFrame, array, map, parts_due}
 use Rattle.ciborium_value.specs.Refuses.{Refuses}
 use Rattle.ciborium_value.specs.inner.Stack.{begun_frame}
 use Rattle.ciborium_value.specs.Tree as trees
+use Rattle.ciborium_value.specs.Tree.{Tree}
 use Rattle.ciborium_value.specs.View.{tree_of}
 use Rattle.ciborium.specs.declared.de.error.Error.{Error}
 use Rattle.ciborium.specs.declared.de.error.Error.TheVariants.{Semantic, RecursionLimitExceeded, Memory}
@@ -21,7 +22,7 @@ use Rattle.ciborium.specs.declared.de.front.Part.{Part}
 use Rattle.ciborium.specs.declared.de.front.Part.TheVariants.{Whole, Opened, Ended}
 use Rattle.ciborium.specs.inner.Around.{IsInside}
 use Rattle.ciborium.specs.Errors.{IsRefusedBy}
-use Rattle.ciborium.specs.DeterministicRefusals.{DeterministicallyRefuses}
+use Rattle.ciborium.specs.DeterministicRefusals.{ContainerKind, of_array, of_map, DeterministicallyRefuses}
 use Rattle.ciborium.specs.inner.ValuesInBytes.{ReadsItem, IsAt, IsPulled, IsBreakAt, StandsAt}
 use Rattle.ciborium.specs.Spelling.{Spelling, any, deterministic, head_fault, IsUnwanted}
 
@@ -32,19 +33,29 @@ IsBehind (Some n) None = ⊥
 IsBehind None (Some k) = ⊥
 IsBehind None None = Unit {0}
 
--- what follows the head of an array with this count
-abbrev pub IsArrayBegun : {E : Type 0} → Option ℕ → ℕ → Result Part (Error E) → Type 0
-IsArrayBegun count l (Ok (Whole v)) = (count ≡ Some 0) × (0 < l) × (tree_of v ≡ trees.array trees.no_trees)
-IsArrayBegun count l (Ok (Opened f)) = (0 < l) × (behind : Option ℕ) × (begun_frame f ≡ array [] behind) × IsBehind count behind
-IsArrayBegun count l (Ok Ended) = ⊥
-IsArrayBegun count l (Err e) = (l ≡ 0) × (e ≡ RecursionLimitExceeded)
+abbrev pub container_kind : Bool → ContainerKind
+container_kind true = of_map
+container_kind false = of_array
 
--- what follows the head of a map with this count
-abbrev pub IsMapBegun : {E : Type 0} → Option ℕ → ℕ → Result Part (Error E) → Type 0
-IsMapBegun count l (Ok (Whole v)) = (count ≡ Some 0) × (0 < l) × (tree_of v ≡ trees.map trees.no_tree_pairs)
-IsMapBegun count l (Ok (Opened f)) = (0 < l) × (behind : Option ℕ) × (begun_frame f ≡ map [] behind None) × IsBehind count behind
-IsMapBegun count l (Ok Ended) = ⊥
-IsMapBegun count l (Err e) = (l ≡ 0) × (e ≡ RecursionLimitExceeded)
+-- the head of a container with this count (None: open), its tree where it has no parts, and its frame before the first part
+abbrev pub container_header : ContainerKind → Option ℕ → Header
+container_header of_array count = header.Array count
+container_header of_map count = header.Map count
+
+abbrev pub empty_container : ContainerKind → Tree
+empty_container of_array = trees.array trees.no_trees
+empty_container of_map = trees.map trees.no_tree_pairs
+
+abbrev pub begun_container : ContainerKind → Option ℕ → TreeFrame
+begun_container of_array behind = array [] behind
+begun_container of_map behind = map [] behind None
+
+-- what follows that head
+abbrev pub IsContainerBegun : {E : Type 0} → ContainerKind → Option ℕ → ℕ → Result Part (Error E) → Type 0
+IsContainerBegun kind count l (Ok (Whole v)) = (count ≡ Some 0) × (0 < l) × (tree_of v ≡ empty_container kind)
+IsContainerBegun kind count l (Ok (Opened f)) = (0 < l) × (behind : Option ℕ) × (begun_frame f ≡ begun_container kind behind) × IsBehind count behind
+IsContainerBegun kind count l (Ok Ended) = ⊥
+IsContainerBegun kind count l (Err e) = (l ≡ 0) × (e ≡ RecursionLimitExceeded)
 
 -- what a simple value at offset p is read as
 abbrev pub IsSimpleRead : {E : Type 0} → ℕ → ℕ → Result Value (Error E) → Type 0

@@ -4,7 +4,8 @@
 ghost use Rattle.std.specs.Prelude.{◌≡◌, ◌+◌, ◌<◌, ◌≤◌, IfErr, IfOk, List, None, OnOk, Some, ℕ};
 ghost use Rattle.ciborium_ll.specs.Decoding.{HasSameReader, TakesBeforeAny, last_of, pushed_of};
 ghost use Rattle.ciborium.specs.inner.Due.{HoldsNothingAfter};
-ghost use Rattle.ciborium.specs.inner.Parts.{HasLevel, IsArrayBegun, IsMapBegun, IsPartRead};
+ghost use Rattle.ciborium.specs.inner.Parts.{HasLevel, IsContainerBegun, IsPartRead};
+ghost use Rattle.ciborium.specs.inner.Parts.{container_kind};
 ghost use Rattle.ciborium.specs.inner.Parts.{IsAtRest, IsSimpleRead};
 ghost use Rattle.ciborium.specs.inner.ValuesInBytes.{IsAt, StandsAt, heads_left};
 ghost use Rattle.ciborium.specs.inner.StringAnswers.{IsStringRead, string_kind};
@@ -19,44 +20,35 @@ use ciborium_value::{Integer, Kind, Value};
 use std::alloc::Global;
 use std::io::{self, Read};
 
+// What follows the head of an array or a map with this many parts (`None`: open).
 #[inline(always)]
-pub(super) fn begin_array<E>(
+fn begin_container<E>(
     alloc: Global,
+    is_map: bool,
     count: Option<usize>,
     levels: usize,
 ) -> Result<Part, Error<E>>
-    ensures { IsArrayBegun count levels result }
+    ensures { IsContainerBegun (container_kind is_map) count levels result }
 {
     if levels == 0 {
         return Err(Error::RecursionLimitExceeded);
     }
-    match count {
-        Some(0) => Ok(Part::Whole(Value::Array(Vec::new(alloc)))),
-        Some(n) => Ok(Part::Opened(Opening::Array {
-            behind: Some(n - 1),
-        })),
-        None => Ok(Part::Opened(Opening::Array { behind: None })),
-    }
-}
-
-#[inline(always)]
-pub(super) fn begin_map<E>(
-    alloc: Global,
-    count: Option<usize>,
-    levels: usize,
-) -> Result<Part, Error<E>>
-    ensures { IsMapBegun count levels result }
-{
-    if levels == 0 {
-        return Err(Error::RecursionLimitExceeded);
-    }
-    match count {
-        Some(0) => Ok(Part::Whole(Value::Map(Vec::new(alloc)))),
-        Some(n) => Ok(Part::Opened(Opening::Map {
-            behind: Some(n - 1),
-        })),
-        None => Ok(Part::Opened(Opening::Map { behind: None })),
-    }
+    let behind = match count {
+        Some(0) => {
+            return Ok(Part::Whole(if is_map {
+                Value::Map(Vec::new(alloc))
+            } else {
+                Value::Array(Vec::new(alloc))
+            }));
+        }
+        Some(n) => Some(n - 1),
+        None => None,
+    };
+    Ok(Part::Opened(if is_map {
+        Opening::Map { behind }
+    } else {
+        Opening::Array { behind }
+    }))
 }
 
 #[tactic(auto, unfolding(ciborium_value::specs::Meaning::simple_meaning))]
@@ -134,8 +126,8 @@ pub(crate) fn next<S: Rules, R: Read>(
             let value = read_string(alloc, decoder, scratch, true, len, failure)?;
             Ok(Part::Whole(value))
         }
-        Header::Array(count) => begin_array(alloc, count, levels),
-        Header::Map(count) => begin_map(alloc, count, levels),
+        Header::Array(count) => begin_container(alloc, false, count, levels),
+        Header::Map(count) => begin_container(alloc, true, count, levels),
         Header::Tag(tag) => read_tag::<S, R>(alloc, decoder, tag, offset, levels, failure),
         Header::Simple(n) => Ok(Part::Whole(read_simple(n, offset)?)),
         Header::Float(_) => Err(Error::Semantic(Some(offset), Kind::Float)),

@@ -8,10 +8,11 @@ use Rattle.ciborium_ll.specs.StringRefusal.{of_bytes, of_text}
 use Rattle.ciborium_value.specs.Tree as trees
 use Rattle.ciborium_value.specs.View.{tree_of}
 use Rattle.ciborium_value.proofs.Trees.Views.{tree_of-Integer}
+use Rattle.ciborium.specs.DeterministicRefusals.{of_array, of_map}
 use Rattle.ciborium.specs.Errors.{IsRefusedBy}
 use Rattle.ciborium.specs.inner.Parts.{IsHeadAccepted, IsPartRead, RefusesPart}
 use Rattle.ciborium.specs.Spelling.{head_fault}
-use Rattle.ciborium.proofs.Spellings.SpelledParts.{ahead-of, array-part, faulty-head, float-refuses, got-end, got-negative, got-positive, got-simple, got-string, head-refused, map-part, part-behind-head, part-of-head, simple-refuses, string-fault}
+use Rattle.ciborium.proofs.Spellings.SpelledParts.{ahead-of, container-part, faulty-head, float-refuses, got-end, got-negative, got-positive, got-simple, got-string, head-refused, part-behind-head, part-of-head, simple-refuses, string-fault}
 use Rattle.ciborium.proofs.Readers.WhateverFollows.{StringSo}
 use Rattle.ciborium.proofs.de.parts.next.Goals as goal
 
@@ -84,13 +85,13 @@ pub returns-in-Array-clause-part : goal.returns-in-Array-clause-part
 returns-in-Array-clause-part g c =
     part-of-head g.S.Rules.spelling g.R.Read.remaining c.args.decoder.now c.pull.new.decoder c.in_ok-header.header c.in_ok-header.ensures.measured
     (sym (c.find_head_fault.ensures ∙ ap (head_fault g.S.Rules.spelling c.in_ok-header.header) c.head_len.ensures) ∙ c.in_default.is) c.in_ok-header.ensures.head _
-    (λ z xs p at a. array-part Some (with_left c.pull.new.decoder z) c.args.levels xs p c.in_ok-header.header c.pull.ensures.pushed g.S.Rules.spelling Unit c.in-Array.count c.begin_array.result c.in-Array.is a c.begin_array.ensures)
+    (λ z xs p at a. container-part Some (with_left c.pull.new.decoder z) c.args.levels xs p c.in_ok-header.header c.pull.ensures.pushed g.S.Rules.spelling Unit of_array c.in-Array.count c.begin_container.result c.in-Array.is a c.begin_container.ensures)
 
 pub returns-in-Map-clause-part : goal.returns-in-Map-clause-part
 returns-in-Map-clause-part g c =
     part-of-head g.S.Rules.spelling g.R.Read.remaining c.args.decoder.now c.pull.new.decoder c.in_ok-header.header c.in_ok-header.ensures.measured
     (sym (c.find_head_fault.ensures ∙ ap (head_fault g.S.Rules.spelling c.in_ok-header.header) c.head_len.ensures) ∙ c.in_default.is) c.in_ok-header.ensures.head _
-    (λ z xs p at a. map-part Some (with_left c.pull.new.decoder z) c.args.levels xs p c.in_ok-header.header c.pull.ensures.pushed g.S.Rules.spelling Unit c.in-Map.count c.begin_map.result c.in-Map.is a c.begin_map.ensures)
+    (λ z xs p at a. container-part Some (with_left c.pull.new.decoder z) c.args.levels xs p c.in_ok-header.header c.pull.ensures.pushed g.S.Rules.spelling Unit of_map c.in-Map.count c.begin_container-in-Map.result c.in-Map.is a c.begin_container-in-Map.ensures)
 
 pub returns-in_ok-read_simple-in-Simple-clause-part : goal.returns-in_ok-read_simple-in-Simple-clause-part
 returns-in_ok-read_simple-in-Simple-clause-part g c =
