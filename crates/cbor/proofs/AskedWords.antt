@@ -142,68 +142,9 @@ asks-for-one words c d p q =
 
 -- ---- words ask for nothing
 
-pub none-alone : (words : List (List ℕ)) →
-    words ≢ codes "sort" ∷ [] →
-    words ≢ codes "sort" ∷ (codes "--core" ∷ []) →
-    words ≢ codes "seq" ∷ [] →
-    words ≢ codes "--help" ∷ [] →
-    words ≢ codes "--version" ∷ [] →
-    (command : Command) → command_limit command ≡ None → ¬ AskFor words command
-none-alone words p0 p1 p2 p3 p4 (Answer (readings.Item Any n)) none asked = absurd cc
-none-alone words p0 p1 p2 p3 p4 (Answer (readings.Item (Deterministic LengthFirst) n)) none asked = absurd cc
-none-alone words p0 p1 p2 p3 p4 (Answer (readings.Item (Deterministic Bytewise) n)) none asked = absurd cc
-none-alone words p0 p1 p2 p3 p4 (Answer readings.Sequence) none asked = p2 asked
-none-alone words p0 p1 p2 p3 p4 (Answer (readings.Form LengthFirst n)) none asked = absurd cc
-none-alone words p0 p1 p2 p3 p4 (Answer (readings.Form Bytewise n)) none asked = absurd cc
-none-alone words p0 p1 p2 p3 p4 (Answer (readings.Notation OneLine n)) none asked = absurd cc
-none-alone words p0 p1 p2 p3 p4 (Answer (readings.Notation Indented n)) none asked = absurd cc
-none-alone words p0 p1 p2 p3 p4 (Sort LengthFirst) none asked = p0 asked
-none-alone words p0 p1 p2 p3 p4 (Sort Bytewise) none asked = p1 asked
-none-alone words p0 p1 p2 p3 p4 (Show showings.Encoding n) none asked = absurd cc
-none-alone words p0 p1 p2 p3 p4 (Show (showings.Notation OneLine) n) none asked = absurd cc
-none-alone words p0 p1 p2 p3 p4 (Show (showings.Notation Indented) n) none asked = absurd cc
-none-alone words p0 p1 p2 p3 p4 (Tell Help) none asked = p3 asked
-none-alone words p0 p1 p2 p3 p4 (Tell Version) none asked = p4 asked
-
 -- words name no limit behind these
 abbrev pub NameNone : List (List ℕ) → List (List ℕ) → Type 0
 NameNone flags words = (n : ℕ) → ¬ NameLimitBehind flags words n
-
-pub none-with-limit : (words : List (List ℕ)) →
-    NameNone (codes "read" ∷ []) words →
-    NameNone (codes "read" ∷ (codes "--det" ∷ [])) words →
-    NameNone (codes "read" ∷ (codes "--det" ∷ (codes "--core" ∷ []))) words →
-    NameNone (codes "read" ∷ (codes "--binary" ∷ [])) words →
-    NameNone (codes "canon" ∷ []) words →
-    NameNone (codes "canon" ∷ (codes "--core" ∷ [])) words →
-    NameNone (codes "diag" ∷ []) words →
-    NameNone (codes "diag" ∷ (codes "--indent" ∷ [])) words →
-    NameNone (codes "diag" ∷ (codes "--binary" ∷ [])) words →
-    NameNone (codes "diag" ∷ (codes "--binary" ∷ (codes "--indent" ∷ []))) words →
-    (command : Command) → IsSome (command_limit command) → ¬ AskFor words command
-none-with-limit words p0 p1 p2 p3 p4 p5 p6 p7 p8 p9 (Answer (readings.Item Any n)) some asked = p0 n asked
-none-with-limit words p0 p1 p2 p3 p4 p5 p6 p7 p8 p9 (Answer (readings.Item (Deterministic LengthFirst) n)) some asked = p1 n asked
-none-with-limit words p0 p1 p2 p3 p4 p5 p6 p7 p8 p9 (Answer (readings.Item (Deterministic Bytewise) n)) some asked = p2 n asked
-none-with-limit words p0 p1 p2 p3 p4 p5 p6 p7 p8 p9 (Answer readings.Sequence) some asked = absurd cc
-none-with-limit words p0 p1 p2 p3 p4 p5 p6 p7 p8 p9 (Answer (readings.Form LengthFirst n)) some asked = p4 n asked
-none-with-limit words p0 p1 p2 p3 p4 p5 p6 p7 p8 p9 (Answer (readings.Form Bytewise n)) some asked = p5 n asked
-none-with-limit words p0 p1 p2 p3 p4 p5 p6 p7 p8 p9 (Answer (readings.Notation OneLine n)) some asked = p6 n asked
-none-with-limit words p0 p1 p2 p3 p4 p5 p6 p7 p8 p9 (Answer (readings.Notation Indented n)) some asked = p7 n asked
-none-with-limit words p0 p1 p2 p3 p4 p5 p6 p7 p8 p9 (Sort LengthFirst) some asked = absurd cc
-none-with-limit words p0 p1 p2 p3 p4 p5 p6 p7 p8 p9 (Sort Bytewise) some asked = absurd cc
-none-with-limit words p0 p1 p2 p3 p4 p5 p6 p7 p8 p9 (Show showings.Encoding n) some asked = p3 n asked
-none-with-limit words p0 p1 p2 p3 p4 p5 p6 p7 p8 p9 (Show (showings.Notation OneLine) n) some asked = p8 n asked
-none-with-limit words p0 p1 p2 p3 p4 p5 p6 p7 p8 p9 (Show (showings.Notation Indented) n) some asked = p9 n asked
-none-with-limit words p0 p1 p2 p3 p4 p5 p6 p7 p8 p9 (Tell Help) some asked = absurd cc
-none-with-limit words p0 p1 p2 p3 p4 p5 p6 p7 p8 p9 (Tell Version) some asked = absurd cc
-
-pub none-at-all : (words : List (List ℕ)) → ((command : Command) → command_limit command ≡ None → ¬ AskFor words command) →
-    ((command : Command) → IsSome (command_limit command) → ¬ AskFor words command) → AreWrong words
-none-at-all words alone limited command asked = by (command_limit command) refl
-  where
-    by : (limit : Option ℕ) → command_limit command ≡ limit → ⊥
-    by None e = alone command e asked
-    by (Some n) e = limited command (subst (λ (o : Option ℕ). IsSome o) (sym e) refl) asked
 
 -- ---- words are compared one by one
 

@@ -14,9 +14,6 @@ use Rattle.cbor.proofs.JudgedAnswers.{item-refused}
 abbrev pub IsSoFar : List ℕ → List ℕ → List ℕ → ℕ → Type 0
 IsSoFar b rest text number = (trees : List Tree) × AreItemsBefore b 256 trees rest × (text ≡ sequence_text trees) × (number ≡ length trees + 1)
 
-pub no-items : (b text : List ℕ) → text ≡ codes "ok" → IsSoFar b b text 1
-no-items b text e = ([], refl, e ∙ sym (append-nil (codes "ok")), omega arith)
-
 -- one more item stands at the front of what was left
 pub one-more-before : (limit : ℕ) (trees : List Tree) (b rest left : List ℕ) (v : Tree) → AreItemsBefore b limit trees rest → HasItemBefore Any rest limit v left →
     AreItemsBefore b limit (trees ++ (v ∷ [])) left

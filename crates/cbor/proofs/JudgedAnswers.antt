@@ -64,21 +64,6 @@ item-refused b trees rest n e text a more count h (m, same) =
 pub bytes-answer : (line b text : List ℕ) → decode_of line ≡ Ok b → HasSequenceAnswer b 256 text → IsSequenceAnswer line 256 text
 bytes-answer line b text d h = subst (λ (r : Result (List ℕ) FromHexError). MatchResult r (λ c. HasSequenceAnswer c 256 text) (λ _. text ≡ hex_text)) (sym d) h
 
-pub bytes-text : (line b text : List ℕ) → decode_of line ≡ Ok b → AreSequence b 256 text → IsOkText Sequence line text
-bytes-text line b text d (trees, all, same) =
-    (trees, subst (λ (r : Result (List ℕ) FromHexError). MatchResult r (λ c. AreItemsBefore c 256 trees []) (λ _. ⊥)) (sym d) all, same)
-
 by-hex : (d : Result (List ℕ) FromHexError) (text : List ℕ) → IsErr d → text ≡ hex_text → MatchResult d (λ b. HasSequenceAnswer b 256 text) (λ _. text ≡ hex_text)
 by-hex (Ok b) text h same = absurd cc
 by-hex (Err e) text h same = same
-
--- the text of what keeps a line from being hex answers it
-pub hex-answers : (line : List ℕ) (e : Refusal) (text : List ℕ) → IsHexRefused line e → (wants_memory e ≡ false) × (text ≡ refused_text e) → IsSequenceAnswer line 256 text
-hex-answers line Hex text h (m, same) = by-hex (decode_of line) text h same
-hex-answers line (Trailing n) text h m = absurd h
-hex-answers line Io text h m = absurd h
-hex-answers line (Syntax p) text h m = absurd h
-hex-answers line (Semantic p reason) text h m = absurd h
-hex-answers line Nesting text h m = absurd h
-hex-answers line TooLong text h m = absurd h
-hex-answers line Memory text h (m, same) = absurd cc

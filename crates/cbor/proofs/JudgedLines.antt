@@ -36,11 +36,6 @@ refused-by spelling line limit b Nesting d h = (b, d, h)
 refused-by spelling line limit b TooLong d h = (b, d, h)
 refused-by spelling line limit b Memory d h = tt
 
-pub line-refused : {V : Type 0} (spelling : Spelling) (line : List ℕ) (limit : ℕ) (b : List ℕ) (r : Result V Refusal) → decode_of line ≡ Ok b →
-    IfErr r (λ e. AreRefused spelling b limit e) → IfErr r (λ e. IsRefused spelling line limit e)
-line-refused spelling line limit b (Ok v) d h = tt
-line-refused spelling line limit b (Err e) d h = refused-by spelling line limit b e d h
-
 pub item-answer : (spelling : Spelling) (d : Result (List ℕ) FromHexError) (limit : ℕ) (v : Tree) (answer : List ℕ) → MatchResult d (λ b. IsItem spelling b limit v) (λ _. ⊥) →
     answer ≡ tree_text v → MatchResult d (λ b. HasAnswer spelling b limit answer) (λ _. answer ≡ hex_text)
 item-answer spelling (Ok b) limit v answer means same = good v means same

@@ -55,10 +55,6 @@ AreShownSoFar showing b limit w left held number =
     (trees : List Tree) × (rest : List ℕ) × (left ≡ Some rest) × AreItemsBefore b limit trees rest ×
     AreShownBehind showing w trees held × (number ≡ length trees + 1)
 
-pub none-shown : (showing : Showing) (b : List ℕ) (limit : ℕ) (w : List ℕ) (left held : Option (List ℕ)) →
-    left ≡ Some b → held ≡ Some w → AreShownSoFar showing b limit w left held 1
-none-shown showing b limit w left held e f = ([], b, e, refl, f ∙ ap Some (sym (append-nil w)), omega arith)
-
 -- what looking at a reader says: whether it is at its end, and that it stays as it was
 abbrev pub EndIsTold : Option (List ℕ) → Bool → Type 0
 EndIsTold left is_end = (xs : List ℕ) → left ≡ Some xs → IsEndOf xs is_end

@@ -14,27 +14,12 @@ use Rattle.ciborium_ll.proofs.Unread.{pulls-head, rest-of}
 none-refused : (p : ℕ) → p < greatest_offset → HeadRefuses [] p io
 none-refused p h = ap (λ t. cond t (Some io) (Some too_long)) (lt-ltb p greatest_offset h)
 
-none-needed : {E : Type 0} (p : ℕ) (e : Error E) → p < greatest_offset → IsHeadIo e → IsHeadTaken {E = E} [] p (Err e)
-none-needed p (Io e) h i = record { answers = none-refused p h; needed = λ k lt. absurd (omega arith) }
-none-needed p (Syntax at) h i = absurd i
-none-needed p TooLong h i = absurd i
-none-needed p Memory h i = absurd i
-
 one-byte : (n : ℕ) (xs : List ℕ) → n ≤ length xs → length xs ≡ 1 → (n ≡ 0 → ⊥) → take n xs ≡ xs
 one-byte n [] h one some = absurd (omega (arith, one))
 one-byte zero (x ∷ xs) h one some = absurd (some refl)
 one-byte (suc zero) (x ∷ []) h one some = refl
 one-byte (suc (suc n)) (x ∷ []) h one some = absurd (omega (arith, h))
 one-byte n (x ∷ y ∷ xs) h one some = absurd (omega (arith, one))
-
--- the reader is at its end
-pub first-none : (E : Type 0) (a b : Option (List ℕ)) (p q n : ℕ) (buffer : List ℕ) → n ≡ 0 → Advances a b p q (λ x. x ≡ take n buffer) → Advances a b p q (λ x. IsFirstTaken {E = E} x p (Ok None))
-first-none E a b p q n buffer none = Advances-map a b p q (λ x. x ≡ take n buffer) (λ x. x ≡ []) (λ x h. h ∙ ap (λ k. take k buffer) none)
-
--- it failed
-pub first-fault : {E : Type 0} (a b : Option (List ℕ)) (p q : ℕ) (e : Error E) → p < greatest_offset → Advances a b p q (λ x. x ≡ []) × IsHeadIo e → Advances a b p q (λ x. IsFirstTaken {E = E} x p (Err e))
-first-fault {E} a b p q e room (taken, is) =
-    Advances-map a b p q (λ x. x ≡ []) (λ x. IsHeadTaken {E = E} x p (Err e)) (λ x h. subst (λ z. IsHeadTaken {E = E} z p (Err e)) (sym h) (none-needed p e room is)) taken
 
 -- it gave the initial byte
 pub first-given : (a b : Option (List ℕ)) (p q n : ℕ) (buffer : List ℕ) → p < greatest_offset → (n ≡ 0 → ⊥) → length buffer ≡ 1 → n ≤ length buffer → Advances a b p q (λ x. x ≡ take n buffer) → Advances a b p q (λ x. Filled x p buffer)

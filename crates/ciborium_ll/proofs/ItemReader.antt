@@ -118,17 +118,6 @@ read_is : (d : ℕ) (bs : List ℕ) → 0 < d → read d bs ≡ item_at (read (d
 read_is zero bs h = let never : ⊥ = omega arith in absurd never
 read_is (suc d) bs h = let e : d ≡ suc d - 1 = omega arith in ap (λ k. item_at (read k) k (front bs)) e
 
-weight-pos : (i : Item) → 0 < weight i
-weight-pos (unsigned n) = omega arith
-weight-pos (negative n) = omega arith
-weight-pos (bytes o p) = omega arith
-weight-pos (text o p) = omega arith
-weight-pos (array o is) = omega arith
-weight-pos (map o ps) = omega arith
-weight-pos (tag n i) = omega arith
-weight-pos (simple n) = omega arith
-weight-pos (float r) = omega arith
-
 -- a head h stands before q
 front-counted : (b h q x : List ℕ) (m n : ℕ) → m < 7 → IsHead h m n → b ≡ h ++ q → front (b ++ x) ≡ counted m n (q ++ x)
 front-counted b h q x m n k s e = ap (λ (c : List ℕ). front (c ++ x)) e ∙ ap front (append_assoc h q x) ∙ front-head h m n (q ++ x) k s

@@ -24,12 +24,6 @@ one_more_read vs v (refuses k) = refl
 one_more_read vs v nests = refl
 
 module _ {S Q : Type 0} (StandsBefore : S → Limit → Ahead → Type 0) (SeqStands : Q → Limit → Rest → Type 0) {A : Type 0} (taken : Taken A) where
-  pub few_begins : {old new : S} {q : Q} (n : ℕ) (vs : List A) → vs ≡ [] → Enters StandsBefore SeqStands old new q → Follows (IsBefore StandsBefore old (taken_few n taken)) (IsInside StandsBefore SeqStands new q (few_from taken n vs))
-  few_begins n vs none h = record {
-    at = λ l f o w.
-        let m = h l w.0 f w.1 in
-        let r = few_items taken (inside m.0 l) m.1 n in
-        (m.0, m.1, m.3, m.4, w.2 ∙ ap (λ p. then_take p (λ x. few_items taken x.0 x.1 n)) m.2 ∙ none_read r ∙ ap (λ x. outcome_map (λ ws. x ++ ws) r) (sym none));
   }
 
   pub few_more : {old ahead new : S} {q q' : Q} {v : A} (n : ℕ) (vs : List A) → GoesOn StandsBefore SeqStands old ahead q q' → TakesAhead StandsBefore ahead new taken v → Follows (IsInside StandsBefore SeqStands old q (few_from taken (suc n) vs)) (IsInside StandsBefore SeqStands new q' (few_from taken n (vs ++ v ∷ [])))

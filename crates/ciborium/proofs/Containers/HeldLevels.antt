@@ -1,22 +1,20 @@
 -- Tags that are entered, and the levels of tags and variants.
-use Rattle.std.proofs.Common.{◌≡◌, ◌≤◌, ◌+◌, ◌≢◌, ℕ, List, ◌++◌, Option, Some, None, Result, Ok, Err, IfOk, OnOk, refl, sym, ap, ◌∙◌, subst, append_assoc, arith}
+use Rattle.std.proofs.Common.{◌≡◌, ◌≤◌, ◌≢◌, ℕ, List, ◌++◌, Option, Some, None, Result, Ok, Err, IfOk, OnOk, refl, sym, ap, ◌∙◌, subst, append_assoc, arith}
 use Rattle.ciborium_ll.specs.declared.header.Header.{Header}
 use Rattle.ciborium_ll.specs.declared.header.Header.TheVariants as header
 use Rattle.ciborium_ll.specs.Header.{SpellsHeader}
 use Rattle.ciborium_ll.specs.Item.{Item, tag}
-use Rattle.ciborium_ll.specs.Decoding.{allowed_of, source_of}
-use Rattle.ciborium.proofs.Items.Due.{due-past, held-level, held-same}
+use Rattle.ciborium.proofs.Items.Due.{held-level}
 use Rattle.ciborium_value.specs.Sources.{Completes, Holds, GivesBack, TakesTo}
 use Rattle.ciborium_value.specs.Taken.{Taken, gives, deeper, within_level, outer_tag, taken_outer_tag}
 use Rattle.ciborium.specs.declared.de.byte_source.ByteSource.{ByteSource}
 use Rattle.ciborium.specs.declared.de.byte_source.ByteLevel.{ByteLevel}
-use Rattle.ciborium.specs.inner.ByteSources.{IsUnread, StandsBefore, LevelStands, TakesLevel, items_due_behind, pending_count, weight_left, reader_of}
+use Rattle.ciborium.specs.inner.ByteSources.{IsUnread, StandsBefore, LevelStands, TakesLevel, items_due_behind, weight_left}
 use Rattle.ciborium.specs.inner.FrontItems.{TakesHead, Denies}
 use Rattle.ciborium.specs.inner.Skips.{EntersLevelUnread}
 use Rattle.ciborium.specs.inner.Unread.{IsRest}
 use Rattle.ciborium.proofs.Containers.EnteredContainers.{within-is, deeper-is}
 use Rattle.ciborium.proofs.Items.ItemHeads.{header_of, tag-front, same-head, by-shape}
-use Rattle.ciborium.proofs.Containers.NextParts.{fits-past, none-past}
 use Rattle.ciborium.proofs.Items.TakenOnly.{IsKept, kept-reader}
 
 -- ---- where the source then stands
@@ -37,10 +35,6 @@ module _ {S : Type 0} (remaining : S → Option (List ℕ)) (old new : ByteSourc
         (w, un, (t, r, sq, subst (λ n. IsRest n r f) (sym (kept-reader remaining old new kept b u)) rest, split), ap deeper is ∙ deeper-is old.levels (λ z. absurd (omega (arith, z, less))) ∙ ap Some (omega (arith, less)), tt, held-level old new kept.0 (items_due_behind f) fewer few),
         is ∙ ap Some (sym back),
       )
-
-  pub gives-back : (level : ByteLevel) → new.decoder ≡ old.decoder → new.pending ≡ old.pending → new.levels ≡ level.levels → ((b : List ℕ) → IsUnread remaining old b → IsUnread remaining new b) → GivesBack (StandsBefore remaining) LevelStands old new level
-  gives-back level same pending levels keeps l f (b, u, fits, is, none, few) outside =
-      (b, keeps b u, fits-past (reader_of remaining new.decoder) b f (subst (λ d. IsRest (reader_of remaining d) b f) (sym same) fits), outside ∙ ap Some (sym levels), none-past new.pending (pending ∙ none) f, subst (λ n. allowed_of new.decoder + pending_count new.pending ≤ n) (sym (due-past f)) (held-same old new (ap source_of same) (items_due_behind f) (ap (λ d. d.window.count) same) pending few))
 
 -- ---- tags
 

@@ -75,12 +75,3 @@ err-map (Err e) p f = f e p
 pub some-map : {A : Type 0} {P Q : A → Type 0} (o : Option A) → IfSome o P → ((v : A) → P v → Q v) → IfSome o Q
 some-map (Some v) p f = f v p
 some-map None p f = tt
-
--- an error stays what it is where an answer is looked at by what counts of it
-pub err-as : {A B E : Type 0} (f : A → B) (r : Result A E) (P : E → Type 0) → IfErr r P → IfErr (read_as f r) P
-err-as f (Ok v) P h = tt
-err-as f (Err e) P h = h
-
-pub ok-as : {A B E : Type 0} (f : A → B) (r : Result A E) (P : B → Type 0) → IfOk r (λ v. P (f v)) → IfOk (read_as f r) P
-ok-as f (Ok v) P h = h
-ok-as f (Err e) P h = tt

@@ -1,5 +1,5 @@
 -- From the head that was pulled first, and what is read behind it, to the reader of a sequence.
-use Rattle.std.proofs.Common.{◌≡◌, ℕ, ◌+◌, ◌<◌, ◌≤◌, List, [], ◌++◌, length, Option, Some, None, Result, Ok, Err, IfErr, IfNone, IfOk, IfSome, refl, sym, ap, ◌∙◌, subst, append_assoc, arith, length-append}
+use Rattle.std.proofs.Common.{◌≡◌, ℕ, ◌+◌, ◌<◌, ◌≤◌, List, [], ◌++◌, length, Option, Some, None, Result, Ok, Err, IfNone, IfSome, refl, sym, ap, ◌∙◌, subst, append_assoc, arith, length-append}
 use Rattle.std.specs.Io.KnownBytes.{Consumes, IsAtEnd}
 use Rattle.std.proofs.KnownBytes.{Consumes-trans}
 use Rattle.std.proofs.lemmas.List.Elements.{All-append}
@@ -16,7 +16,7 @@ use Rattle.ciborium_ll.proofs.Unread.{reads-head}
 use Rattle.ciborium_ll.proofs.HeldBytes.{begun-count, begun-left, begun-rest}
 use Rattle.ciborium_value.specs.Readings.{Reading}
 use Rattle.ciborium_value.specs.Refuses.{Refuses}
-use Rattle.ciborium_value.specs.Sources.{IsGrantedFault, IsOutsideFault, read_as}
+use Rattle.ciborium_value.specs.Sources.{IsOutsideFault, read_as}
 use Rattle.ciborium_value.specs.Taken.{Taken}
 use Rattle.ciborium_value.specs.Tree.{Tree}
 use Rattle.ciborium_value.proofs.Sources.Sequences.{fault_outside}
@@ -129,12 +129,6 @@ module _ {S T A : Type 0} (E : Type 0) (remaining : S → Option (List ℕ)) (re
   next-refused (Some h) (Err e) taken none item = λ b known. handed-denied E remaining reading (behind_head s h) t b (0 + length b) (front E remaining d s lent begins kept h taken b known) few
       (takes-end remaining d s.decoder _ b (begun-left remaining d lent 0 begins ∙ known) taken ∙ ap (λ n. n + length b) begins.count) (Err e) item
 
-  pub next-memory : (first : Option Header) (r : Result (Option T) (Error E)) → End first r → Behind first r → IfErr r (λ e. IsGrantedFault (fault_of e) reading.needs_memory)
-  next-memory None r (is, same) item = subst (λ q. IfErr q (λ e. IsGrantedFault (fault_of e) reading.needs_memory)) (sym is) tt
-  next-memory (Some h) (Ok None) none item = absurd item
-  next-memory (Some h) (Ok (Some v)) none item = tt
-  next-memory (Some h) (Err e) none item = item.memory
-
 -- ---- the first head was refused
 
 pub first-io : {E : Type 0} (e : LlError E) → first_heads.IsHeadIo e → IsReadIo (from_ll e)
@@ -166,12 +160,6 @@ module _ {S : Type 0} (E : Type 0) (remaining : S → Option (List ℕ)) (d e : 
             (reads-head {E = E} (Some (b ++ c)) (Some c) (b ++ c) d.window.count e.window.count (Err x) refl (b, refl, count, head, bytes))))),
         bytes,
       )
-
-pub first-granted : {E : Type 0} (e : LlError E) (b : List ℕ) (p : ℕ) (memory : Rattle.std.proofs.Common.Bool) → IsHeadTaken {E = E} b p (Err e) → IsGrantedFault (fault_of (from_ll e)) memory
-first-granted (ll.Io e) b p memory h = tt
-first-granted (ll.Syntax at) b p memory h = tt
-first-granted ll.TooLong b p memory h = tt
-first-granted ll.Memory b p memory h = absurd h.answers
 
 pub some-all : {A : Type 0} {P : A → Type 0} (o : Option A) → ((v : A) → P v) → IfSome o P
 some-all (Some v) f = f v

@@ -42,10 +42,6 @@ pub ahead-of : {S : Type 0} (spelling : Spelling) (remaining : S → Option (Lis
 ahead-of any remaining d xs p s = s
 ahead-of (deterministic order) remaining d xs p s = s.0
 
-pub stands-at : {S : Type 0} (spelling : Spelling) (remaining : S → Option (List ℕ)) (d : Decoder S) (p : ℕ) (xs : List ℕ) → d.pushed ≡ None → IsAt remaining d xs p → StandsAt spelling remaining d xs p
-stands-at any remaining d p xs none at = ahead-at remaining d p xs none at
-stands-at (deterministic order) remaining d p xs none at = measured-at order remaining d p xs none at
-
 pub stands-offset : {S : Type 0} (spelling : Spelling) (remaining : S → Option (List ℕ)) (d : Decoder S) (p : ℕ) (xs : List ℕ) → StandsAt spelling remaining d xs p → offset_of d ≡ p
 stands-offset spelling remaining d p xs s = offset-at remaining d p xs (ahead-of spelling remaining d xs p s)
 

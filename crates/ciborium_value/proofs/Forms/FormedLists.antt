@@ -8,9 +8,6 @@ use Rattle.ciborium_value.proofs.Trees.Elements.{one_more}
 
 -- ---- tests
 
-pub passed : {P : Type 0} (b : Bool) → IsTrue b ↔ P → b ≡ true → P
-passed b h e = h.0 e
-
 pub failed : {P : Type 0} (b : Bool) → IsTrue b ↔ P → b ≡ false → ¬ P
 failed b h e p = let yes : b ≡ true = h.1 p in absurd (let no : true ≡ false = sym yes ∙ e in cc)
 

@@ -164,10 +164,6 @@ mutual
   pairs_rise_where_formed o no_tree_pairs h = tt
   pairs_rise_where_formed o (tree_pair k v ps) h = (rises_where_formed o k h.0, rises_where_formed o v h.1, pairs_rise_where_formed o ps h.2)
 
--- formed is: what it folds to, with rising keys
-pub canonical_where_formed : (o : KeyOrder) (t : Tree) → IsFormed o t ↔ ((folded t ≡ Some t) × HasRisingKeys o t)
-canonical_where_formed o t = ((λ h. (folded_where_formed o t h, rises_where_formed o t h)), (λ h. formed_where_canonical o t h.0 h.1))
-
 -- ---- a form is formed
 
 -- what a tag that folds means is formed

@@ -351,9 +351,6 @@ container-answer b r p k l m w (ends x q) has o onel pm = container-ends b r x p
 container-answer b r p k l m w (refused e) has o onel (s, is, x, g, come, fault, f) =
     Refuses.part k w s is x m has (opens-more o f) onel g come fault
 
-PartsAt : ℕ → Type 0
-PartsAt d = (w : Due) (b : List ℕ) (p : ℕ) (l : Limit) → p ≤ greatest_offset → EachIsByte b → 2 * length b + 1 < d → PartsMeet w b p l (parts d w b p l)
-
 container-meets : (d : ℕ) (b r : List ℕ) (p k : ℕ) (l : Limit) (w : Due) → ((m : Limit) → PartsMeet w r (p + k) m (parts d w r (p + k) m)) → IsUsable b p → BeginsContainer b k r w → Meets b p l (levels l (parts d w r (p + k)))
 container-meets d b r p k l w rec has o =
     levels-meet l (parts d w r (p + k)) (Meets b p l)
@@ -449,9 +446,6 @@ folding-folds t r q (counted m n z) face e =
 folding-folds t r q (opened m z) face e = absurd (not_short _ e)
 folding-folds t r q (plain n z) face e = absurd (not_short _ e)
 folding-folds t r q (raw w z) face e = absurd (not_short _ e)
-
-MeetsAt : ℕ → Type 0
-MeetsAt d = (b : List ℕ) (p : ℕ) (l : Limit) → EachIsByte b → 2 * length b < d → Meets b p l (read d b p l)
 
 tag-meets : (d : ℕ) → ((b : List ℕ) (p : ℕ) (l : Limit) → EachIsByte b → 2 * length b < d → Meets b p l (read d b p l)) → (b r : List ℕ) (t p k : ℕ) (l : Limit) → IsUsable b p → HasHead b 6 t k r → EachIsByte b → 2 * length b ≤ d → Meets b p l (tagged (read d) t r p (p + k) l)
 tag-meets d rec b r t p k l has st bytes fuel =

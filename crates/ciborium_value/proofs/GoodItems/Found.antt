@@ -254,9 +254,6 @@ parts-end : (d p q u : ℕ) (w : Due) (b x : List ℕ) (l : Limit) → 0 < d →
 parts-end zero p q u w b x l h e f = let never : ⊥ = omega arith in absurd never
 parts-end (suc d) p q u w b x l h e f = ap (λ o. or_end o (and_then (λ r v. parts d (next_due w) r v l) (read d b p l))) e ∙ ap (ends x) f
 
-abbrev FoundItem : ℕ → Type 0
-FoundItem d = (i : Item) (s x b : List ℕ) (p q : ℕ) (l : Limit) → IsGood i l s p → b ≡ s ++ x → q ≡ p + length s → 2 * length b < d → read d b p l ≡ ends x q
-
 abbrev RunsAt : ℕ → Type 0
 RunsAt d = (is : Items) (w : Due) (s x b : List ℕ) (p q : ℕ) (l : Limit) (a : Answer) → AreGood is l s p → b ≡ s ++ x → q ≡ p + length s → IsRoom w is →
     2 * length b + 1 < d → ((c : ℕ) → 2 * length x + 1 < c → parts c (due_after w is) x q l ≡ a) → parts d w b p l ≡ a

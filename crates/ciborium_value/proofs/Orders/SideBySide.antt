@@ -122,21 +122,6 @@ one_argument v w e = nat_cmp-IsAntisymmetric (argument_of v) (argument_of w) (bo
 abbrev IsAlone : Tree → Type 0
 IsAlone v = (tree_major v < 2) ⊎ (6 < tree_major v)
 
-content_bytes-alone : (v : Tree) → IsAlone v → content_bytes v ≡ []
-content_bytes-alone (trees.integer z) h = refl
-content_bytes-alone (trees.boolean b) h = refl
-content_bytes-alone trees.null h = refl
-content_bytes-alone (trees.bytes b) (inl h) = absurd (omega (arith, h))
-content_bytes-alone (trees.bytes b) (inr h) = absurd (omega (arith, h))
-content_bytes-alone (trees.text b) (inl h) = absurd (omega (arith, h))
-content_bytes-alone (trees.text b) (inr h) = absurd (omega (arith, h))
-content_bytes-alone (trees.tag t v) (inl h) = absurd (omega (arith, h))
-content_bytes-alone (trees.tag t v) (inr h) = absurd (omega (arith, h))
-content_bytes-alone (trees.array vs) (inl h) = absurd (omega (arith, h))
-content_bytes-alone (trees.array vs) (inr h) = absurd (omega (arith, h))
-content_bytes-alone (trees.map ps) (inl h) = absurd (omega (arith, h))
-content_bytes-alone (trees.map ps) (inr h) = absurd (omega (arith, h))
-
 integer_alone : (z : ℤ) → IsAlone (trees.integer z)
 integer_alone (pos n) = inl (lit< tt)
 integer_alone (negsuc n) = inl (lit< tt)

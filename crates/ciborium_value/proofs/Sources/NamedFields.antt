@@ -21,13 +21,6 @@ module _ {S Q : Type 0} (StandsBefore : S → Limit → Ahead → Type 0) (SeqSt
   abbrev IsAtField : S → Q → C → List ℕ → Limit → Rest → Outcome C → Type 0
   IsAtField now q c name l f o = (form : Form) × (v : Item) × (ps : List (Item × Item)) × StandsBefore now (inside form l) (item v (pairs form ps f)) × SeqStands q l (pairs form ps f) × (o ≡ then_take (fields.taken name c (inside form l) v) (λ d. take_fields fields (inside form l) d ps))
 
-  pub fields_begin : {old new : S} {q : Q} (c : C) → EntersMap StandsBefore SeqStands old new q → Follows (IsBefore StandsBefore old (taken_fields fields c)) (IsInsideFields new q c)
-  fields_begin c h = record {
-    at = λ l f o w.
-        let n = h l w.0 f w.1 in
-        (n.0, n.1, n.3, n.4, w.2 ∙ ap (λ p. then_take p (λ x. take_fields fields x.0 c x.1)) n.2);
-  }
-
   pub fields_blame_next : {old : S} {q : Q} (c : C) (fault : Fault) → RefusesNext StandsBefore SeqStands old q fault → Follows (IsInsideFields old q c) (IsBlamed fault)
   fields_blame_next c fault h = record { at = λ l f o w. fault_outside _ fault o (h.1 l w.0 w.1 f w.2 w.3) }
 

@@ -42,15 +42,6 @@ bytes_of v bs i is h = ap (bare_seq None) (sym h ∙ ap item_of (ap tree_of is �
 pub map_of : (v : Value) (ps : Vec (Value × Value) Global) (i : Item) → v ≡ value.Map ps → value_item v ≡ untagged i → taken_pairs None i ≡ gives (None, map pair_items ps.items)
 map_of v ps i is h = ap (bare_pairs None) (sym h ∙ ap item_of (ap tree_of is ∙ tree_of-Map ps)) ∙ ap (λ qs. gives (None, qs)) (unpack-tree_pairs ps.items)
 
--- what is in a container weighs less than it
-pub items_weigh_less : (v : Value) (vs : Vec Value Global) (n : ℕ) → v ≡ value.Array vs → value_weight v ≤ n → trees_node_count (trees_of vs.items) + trees_payload_size (trees_of vs.items) < n
-items_weigh_less v vs n is h =
-    let e : value_weight v ≡ suc (trees_node_count (trees_of vs.items)) + trees_payload_size (trees_of vs.items) = ap (λ t. node_count t + payload_size t) (ap tree_of is ∙ tree_of-Array vs) in omega (arith, e, h)
-
-pub bytes_weigh_less : (v : Value) (bs : Vec ℕ Global) (n : ℕ) → v ≡ value.Bytes bs → value_weight v ≤ n → length bs.items < n
-bytes_weigh_less v bs n is h =
-    let e : value_weight v ≡ 1 + length bs.items = ap (λ t. node_count t + payload_size t) (ap tree_of is ∙ tree_of-Bytes bs) in omega (arith, e, h)
-
 pub pairs_weigh_less : (v : Value) (ps : Vec (Value × Value) Global) (n : ℕ) → v ≡ value.Map ps → value_weight v ≤ n → tree_pairs_node_count (tree_pairs_of ps.items) + tree_pairs_payload_size (tree_pairs_of ps.items) < n
 pairs_weigh_less v ps n is h =
     let e : value_weight v ≡ suc (tree_pairs_node_count (tree_pairs_of ps.items)) + tree_pairs_payload_size (tree_pairs_of ps.items) = ap (λ t. node_count t + payload_size t) (ap tree_of is ∙ tree_of-Map ps) in omega (arith, e, h)
@@ -73,11 +64,6 @@ not_lone b rest c d u h s =
 -- behind what was read of them
 abbrev pub behind_these : {A : Type 0} → List A → Outcome (List A) → Outcome (List A)
 behind_these done o = outcome_map (λ vs. done ++ vs) o
-
-pub one_behind : {A : Type 0} (done : List A) (v : A) (o : Outcome (List A)) → behind_these done (and_take (gives v) o) ≡ behind_these (done ++ v ∷ []) o
-one_behind done v (gives vs) = ap gives (sym (append_assoc done (v ∷ []) vs))
-one_behind done v (refuses k) = refl
-one_behind done v nests = refl
 
 -- the numbers of an array
 pub numbers_of : (v : Value) (vs : Vec Value Global) (i : Item) → v ≡ value.Array vs → value_item v ≡ untagged i → taken_bytes None i ≡ take_each (taken_byte None) (map value_item vs.items)

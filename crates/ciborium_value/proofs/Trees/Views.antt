@@ -49,12 +49,6 @@ tree_pairs_count-tree_pairs_of (p ∷ ps) = ap suc (tree_pairs_count-tree_pairs_
 fits : {A : Type 0} (v : Vec A Global) → length v.items ≤ greatest_offset
 fits v = let ok = v.ok in let small = v.small in omega arith
 
-pub is_proper-Array : (v : Vec Value Global) → AreProperTrees (trees_of v.items) → IsProperTree (tree_of (value.Array v))
-is_proper-Array v each = rw (tree_of-Array v, trees_count-trees_of v.items) (fits v, each)
-
-pub is_proper-Map : (v : Vec (Value × Value) Global) → AreProperTreePairs (tree_pairs_of v.items) → IsProperTree (tree_of (value.Map v))
-is_proper-Map v each = rw (tree_of-Map v, tree_pairs_count-tree_pairs_of v.items) (fits v, each)
-
 -- ---- equal trees
 
 same-item : (v w : Tree) (vs ws : Trees) → trees.tree v vs ≡ trees.tree w ws → (v ≡ w) × (vs ≡ ws)

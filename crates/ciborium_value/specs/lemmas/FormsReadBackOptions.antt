@@ -32,10 +32,6 @@ either : (c : Bool) (m n : Option Tree) → IfThere m → IfThere n → IfThere 
 either true m n h k = h
 either false m n h k = k
 
-integer-not_null : (z : ℤ) → IsNotNull (trees.integer z)
-integer-not_null (pos n) = refl
-integer-not_null (negsuc n) = refl
-
 -- what bytes mean on which a tag folds
 bignum-not_null : (t : ℕ) (b : List ℕ) → IfThere (bignum_meaning t b)
 unfolding bignum_meaning
@@ -50,10 +46,6 @@ bignum-not_null t b =
 tag_form-not_null : (t : ℕ) (b : Option (List ℕ)) (r : Outcome Tree) (u : Tree) → tag_form t b r ≡ gives u → IsNotNull u
 tag_form-not_null t (Some b) r u form = subst IfThere (meaning_given kinds.TooLarge (bignum_meaning t b) u form) (bignum-not_null t b)
 tag_form-not_null t None r u form = let (w, is, same) = mapped_gives (trees.tag t) r u form in ap (λ v. is_null (item_of v)) (sym same)
-
-boolean-not_null : (b : Bool) → IsNotNull (trees.boolean b)
-boolean-not_null false = refl
-boolean-not_null true = refl
 
 form-not_null : (o : KeyOrder) (t u : Tree) → IsNotNull t → deterministic_form o t ≡ gives u → IsNotNull u
 form-not_null o (trees.integer z) u h form = subst IsNotNull (one_given (trees.integer z) u form) h
