@@ -24,8 +24,6 @@ one_more_read vs v (refuses k) = refl
 one_more_read vs v nests = refl
 
 module _ {S Q : Type 0} (StandsBefore : S → Limit → Ahead → Type 0) (SeqStands : Q → Limit → Rest → Type 0) {A : Type 0} (taken : Taken A) where
-  }
-
   pub few_more : {old ahead new : S} {q q' : Q} {v : A} (n : ℕ) (vs : List A) → GoesOn StandsBefore SeqStands old ahead q q' → TakesAhead StandsBefore ahead new taken v → Follows (IsInside StandsBefore SeqStands old q (few_from taken (suc n) vs)) (IsInside StandsBefore SeqStands new q' (few_from taken n (vs ++ v ∷ [])))
   few_more {v = v} n vs h t = so (goes_on StandsBefore SeqStands (few_from taken (suc n) vs) h)
       (reads StandsBefore SeqStands (few_from taken (suc n) vs) (few_from taken n (vs ++ v ∷ [])) t (λ m i is e. ap (λ o. outcome_map (λ ws. vs ++ ws) (and_take o (few_items taken m is n))) e ∙ one_more_read vs v (few_items taken m is n)))
