@@ -12,7 +12,7 @@ use Rattle.ciborium.specs.declared.ser.byte_sink.ByteSink.{ByteSink}
 use Rattle.ciborium.specs.declared.ser.byte_sink.Refusal.{Refusal}
 use Rattle.ciborium.specs.declared.ser.byte_sink.Refusal.TheVariants as refusal
 
--- the error is the writer's own
+-- the error is `Io`; of which error it holds nothing is said
 abbrev pub IsWriteIo : {T : Type 0} → Error T → Type 0
 IsWriteIo (Io e) = Unit {0}
 IsWriteIo (Value kind) = ⊥
