@@ -3,6 +3,7 @@
 #![tactic(auto)]
 
 mod frames;
+mod schema;
 mod settings;
 
 use std::io;
@@ -18,6 +19,7 @@ fn main(rt: HostRuntime) -> io::Result<()> {
         let (module, rest) = line.as_str().split_once(' ').unwrap_or((line.as_str(), ""));
         let answer = match module {
             "frames" => frames::answer(alloc, rest)?,
+            "schema" => schema::answer(alloc, rest)?,
             "settings" => settings::answer(alloc, rest)?,
             _ => String::from_str(alloc, "no such module")?,
         };
