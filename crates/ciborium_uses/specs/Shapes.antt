@@ -1,6 +1,7 @@
 -- Shapes of trees, as a small schema language: which trees have a shape.
 use Rattle.std.specs.List.{list_all}
-use Rattle.std.specs.Prelude.{ℕ, Bool, IsTrue, true, false, ◌&&◌, List, String, bytes_eq, box_value, if◌then◌else◌, int_le, not, string_bytes}
+use Rattle.std.specs.Prelude.{ℕ, Bool, IsTrue, true, false, ◌&&◌, List, String, bytes_eq, box_value}
+use Rattle.std.specs.Prelude.{if◌then◌else◌, int_le, not, string_bytes}
 use Rattle.std.specs.declared.alloc.Global.{Global}
 use Rattle.ciborium.specs.Tree as trees
 use Rattle.ciborium.specs.Tree.{Tree, TreePairs, Trees}
@@ -16,6 +17,7 @@ all_trees test (trees.tree v vs) = test v && all_trees test vs
 
 -- ---- maps
 
+-- a key is this text
 abbrev pub is_text_of : List ℕ → Tree → Bool
 is_text_of name (trees.text b) = bytes_eq b name
 is_text_of name _ = false
@@ -23,7 +25,8 @@ is_text_of name _ = false
 -- each value under this text passes the test, and there is one, or there need not be
 abbrev pub field_fits : Bool → List ℕ → (Tree → Bool) → TreePairs → Bool
 field_fits is_complete name test trees.no_tree_pairs = is_complete
-field_fits is_complete name test (trees.tree_pair k v ps) = if is_text_of name k then (test v && field_fits true name test ps) else field_fits is_complete name test ps
+field_fits is_complete name test (trees.tree_pair k v ps) =
+    if is_text_of name k then (test v && field_fits true name test ps) else field_fits is_complete name test ps
 
 -- a field: its name, whether it is required, and the test of its values
 abbrev pub has_field : TreePairs → String Global × Bool × (Tree → Bool) → Bool

@@ -17,13 +17,18 @@ topic_item Sound = text false (codes "sound")
 
 -- the topics by their names, as they are read
 abbrev pub topics : List (Variant Topic)
-topics = unit_variant (codes "network") Network ∷ unit_variant (codes "screen") Screen ∷ unit_variant (codes "sound") Sound ∷ []
+topics =
+    unit_variant (codes "network") Network ∷ unit_variant (codes "screen") Screen ∷
+    unit_variant (codes "sound") Sound ∷ []
 
 -- a topic that was written is read back, from its item and from the form of it
-pub topic_back : IsReadBack (λ topic. Unit {0}) (λ topic. Ok (topic_item topic)) (taken_enum topics) (λ topic. topic) (λ topic. 1)
+pub topic_back :
+    IsReadBack (λ topic. Unit {0}) (λ topic. Ok (topic_item topic)) (taken_enum topics) (λ topic. topic) (λ topic. 1)
 topic_back Network held = unit_variant_back topics (codes "network") (λ l. refl)
 topic_back Screen held = unit_variant_back topics (codes "screen") (λ l. refl)
 topic_back Sound held = unit_variant_back topics (codes "sound") (λ l. refl)
 
-pub topic_form : (order : KeyOrder) → IsReadFromForm order (λ topic. Unit {0}) (λ topic. Ok (topic_item topic)) (taken_enum topics) (λ topic. topic)
-topic_form order = own-form_read order topic_back (elim [ Network ↦ λ held. refl | Screen ↦ λ held. refl | Sound ↦ λ held. refl ])
+pub topic_form : (order : KeyOrder) →
+    IsReadFromForm order (λ topic. Unit {0}) (λ topic. Ok (topic_item topic)) (taken_enum topics) (λ topic. topic)
+topic_form order = own-form_read order topic_back
+    (elim [ Network ↦ λ held. refl | Screen ↦ λ held. refl | Sound ↦ λ held. refl ])

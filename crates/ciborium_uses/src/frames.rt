@@ -1,5 +1,5 @@
-//! Messages of a type of your own, one after another in a file: a sequence of CBOR items (RFC 8742),
-//! which needs no framing of its own, since each item says where it ends.
+//! Messages of a type of your own, one after another in a file: a sequence of CBOR items (RFC
+//! 8742), which needs no framing of its own, since each item says where it ends.
 ghost use Rattle.std.specs.Prelude.{All, IfOk, OnOk, Some, map, ◌≡◌};
 ghost use Rattle.std.specs.Io.KnownBytes.{Appends};
 ghost use Rattle.ciborium.specs.Encoding.{items_bytes};

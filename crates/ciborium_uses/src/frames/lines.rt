@@ -1,5 +1,5 @@
-//! The lines of the program: readings as words, such as `hall@1800=-5`, or `hall@0` without a level,
-//! and the bytes of a log as hex.
+//! The lines of the program: readings as words, such as `hall@1800=-5`, or `hall@0` without a
+//! level, and the bytes of a log as hex.
 use super::reading::Reading;
 use super::{LogError, read_log, through_memory, write_log};
 use std::alloc::{AllocError, Global};
