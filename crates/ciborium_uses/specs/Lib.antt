@@ -1,0 +1,4 @@
+pub mod Readings
+pub mod Settings
+pub mod Shapes
+pub mod Topics

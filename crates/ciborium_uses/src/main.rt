@@ -1,0 +1,29 @@
+//! What programs do with CBOR, in pages to copy: each module is one. The program answers lines of
+//! the standard input, each the name of a module and what it is asked; remarks stay as they are.
+#![tactic(auto)]
+
+mod frames;
+mod schema;
+mod settings;
+
+use std::io;
+
+fn main(rt: HostRuntime) -> io::Result<()> {
+    let alloc = rt.alloc();
+    for line in rt.lines(alloc) {
+        let line = line?;
+        if line.is_empty() || line.as_str().starts_with('#') {
+            println!(rt; "{line}")?;
+            continue;
+        }
+        let (module, rest) = line.as_str().split_once(' ').unwrap_or((line.as_str(), ""));
+        let answer = match module {
+            "frames" => frames::answer(alloc, rest)?,
+            "schema" => schema::answer(alloc, rest)?,
+            "settings" => settings::answer(alloc, rest)?,
+            _ => String::from_str(alloc, "no such module")?,
+        };
+        println!(rt; "{line} = {answer}")?;
+    }
+    Ok(())
+}
