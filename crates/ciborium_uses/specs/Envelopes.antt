@@ -1,0 +1,139 @@
+-- Signed messages of COSE (RFC 9052) that hold a CBOR Web Token (RFC 8392): which bytes they are, and what their signatures sign.
+use Rattle.std.specs.Prelude.{◌≡◌, ℕ, ℤ, pos, List, [], ◌∷◌, codes, length, map, Option, Some, None, option_map, String, string_bytes, false}
+use Rattle.std.specs.declared.alloc.Global.{Global}
+use Rattle.std.specs.Layout.BTreeMap.{BTreeMap}
+use Rattle.std.specs.BTreeMap.{is_at}
+use Rattle.std.specs.Map.{lookup}
+use Rattle.ciborium.specs.Item as item
+use Rattle.ciborium.specs.Item.{Item}
+use Rattle.ciborium.specs.Spells.{Spells}
+use Rattle.ciborium.specs.Encoding.{item_of}
+use Rattle.ciborium.specs.Errors.{fault_of}
+use Rattle.ciborium.specs.Order.{tree_cmp}
+use Rattle.ciborium.specs.TreeVariants.{IsMapTree}
+use Rattle.ciborium.specs.Sources.{Fault, of_device, of_kind, of_length, of_memory, of_nesting, of_syntax}
+use Rattle.ciborium.specs.TagReadings.{taken_with_tag, under_tag}
+use Rattle.ciborium.specs.Taken.{Taken, gives, taken_value}
+use Rattle.ciborium.specs.TakenParts.{taken_map, taken_then}
+use Rattle.ciborium.specs.Tree as trees
+use Rattle.ciborium.specs.Tree.{Tree, tree_pairs_count}
+use Rattle.ciborium.specs.View.{pair_trees}
+use Rattle.ciborium_value.specs.declared.byte_buf.ByteBuf.{ByteBuf}
+use Rattle.ciborium_value.specs.declared.tree.Value.{Value}
+use Rattle.ciborium_uses.specs.declared.envelopes.Envelope.{Envelope}
+use Rattle.ciborium_uses.specs.declared.envelopes.claims.Claims.{Claims}
+use Rattle.ciborium_uses.specs.declared.envelopes.error.EnvelopeError.{EnvelopeError}
+use Rattle.ciborium_uses.specs.declared.envelopes.error.EnvelopeError.TheVariants as errors
+use Rattle.ciborium_uses.specs.declared.envelopes.wrapping.Wrapping.{Wrapping}
+use Rattle.ciborium_uses.specs.declared.envelopes.wrapping.Wrapping.TheVariants.{Bare, Signed, Token}
+
+-- ---- items
+
+-- all of the bytes are one item, which gives v within 256 levels
+abbrev pub IsAllOf : {A : Type 0} → Taken A → List ℕ → A → Type 0
+IsAllOf taken bs v = (i : Item) × Spells bs i × (taken (Some 256) i ≡ gives v)
+
+-- no bytes are to blame: memory was refused, or the reader failed, which one over bytes in memory never does
+abbrev pub IsOutsideFault : Fault → Type 0
+IsOutsideFault (of_kind k) = ⊥
+IsOutsideFault of_nesting = ⊥
+IsOutsideFault of_syntax = ⊥
+IsOutsideFault of_memory = Unit {0}
+IsOutsideFault of_device = Unit {0}
+IsOutsideFault of_length = ⊥
+
+abbrev pub IsOutside : EnvelopeError → Type 0
+IsOutside (errors.Read part e) = IsOutsideFault (fault_of e)
+IsOutside errors.Memory = Unit {0}
+IsOutside _ = ⊥
+
+-- ---- maps of labels
+
+-- the entries of such a map, by their trees, in the order of labels
+abbrev pub entry_trees : BTreeMap Value Value → List (Tree × Tree)
+entry_trees m = map pair_trees m.entries
+
+abbrev pub pair_count : Tree → ℕ
+pair_count (trees.map ps) = tree_pairs_count ps
+pair_count _ = 0
+
+-- a map in which no label stands twice: it has as many entries as pairs (RFC 9052, section 3)
+abbrev pub AreLabels : Tree → List (Tree × Tree) → Type 0
+AreLabels t es = IsMapTree t × (taken_map tree_cmp taken_value taken_value None (item_of t) ≡ gives es) × (length es ≡ pair_count t)
+
+-- the bytes are one item, such a map
+abbrev pub AreLabelBytes : List ℕ → List (Tree × Tree) → Type 0
+AreLabelBytes bs es = (t : Tree) × IsAllOf taken_value bs t × AreLabels t es
+
+-- a protected header: no bytes, or those of such a map (RFC 9052, section 3)
+abbrev pub IsHeader : List ℕ → List (Tree × Tree) → Type 0
+IsHeader [] es = es ≡ []
+IsHeader (b ∷ bs) es = AreLabelBytes (b ∷ bs) es
+
+-- the value at a label that is a number
+abbrev pub value_at : ℕ → List (Tree × Tree) → Option Tree
+value_at n es = lookup (is_at (tree_cmp (trees.integer (pos n)))) es
+
+-- ---- claims
+
+-- a claim is missing, or it is of this type
+abbrev pub text_claim : Option (String Global) → Option Tree
+text_claim c = option_map (λ s. trees.text (string_bytes s)) c
+
+abbrev pub number_claim : Option ℤ → Option Tree
+number_claim c = option_map trees.integer c
+
+abbrev pub bytes_claim : Option ByteBuf → Option Tree
+bytes_claim c = option_map (λ b. trees.bytes b.0.items) c
+
+-- the claims of a token, each at its key (RFC 8392, section 4)
+pub record AreClaims (claims : Claims) : Type 0 where
+  pub issuer : value_at 1 (entry_trees claims.all) ≡ text_claim claims.issuer
+  pub subject : value_at 2 (entry_trees claims.all) ≡ text_claim claims.subject
+  pub audience : value_at 3 (entry_trees claims.all) ≡ text_claim claims.audience
+  pub expires : value_at 4 (entry_trees claims.all) ≡ number_claim claims.expires
+  pub not_before : value_at 5 (entry_trees claims.all) ≡ number_claim claims.not_before
+  pub issued : value_at 6 (entry_trees claims.all) ≡ number_claim claims.issued
+  pub id : value_at 7 (entry_trees claims.all) ≡ bytes_claim claims.id
+
+-- ---- messages
+
+-- a signed message: the protected header, the unprotected one, the payload and the signature (RFC 9052, section 4.2)
+abbrev pub message_tree : List ℕ → Tree → List ℕ → List ℕ → Tree
+message_tree protected unprotected payload signature =
+    trees.array (trees.tree (trees.bytes protected) (trees.tree unprotected (trees.tree (trees.bytes payload) (trees.tree (trees.bytes signature) trees.no_trees))))
+
+-- the message is this envelope: its parts, and what its headers and its payload hold
+pub record IsMessage (message : Tree) (e : Envelope) : Type 0 where
+  pub unprotected_tree : Tree
+  pub message : message ≡ message_tree e.protected.0.items unprotected_tree e.payload.0.items e.signature.0.items
+  pub unprotected : AreLabels unprotected_tree (entry_trees e.unprotected)
+  pub header : IsHeader e.protected.0.items (entry_trees e.header)
+  pub claim_set : AreLabelBytes e.payload.0.items (entry_trees e.claims.all)
+  pub claims : AreClaims e.claims
+
+-- the bytes are such a message under tag 18 (RFC 9052, section 4.2)
+abbrev pub IsEnvelope : List ℕ → Envelope → Type 0
+IsEnvelope bs e = (t : Tree) × IsAllOf (taken_then (taken_with_tag taken_value) (under_tag 18)) bs t × IsMessage t e
+
+-- the tags around a message, the outer one first: none, that of a signed message, or that one under the tag of a token (RFC 8392, section 6)
+abbrev pub tags_of : Wrapping → Option ℕ × Option ℕ
+tags_of Bare = (None, None)
+tags_of Signed = (Some 18, None)
+tags_of Token = (Some 61, Some 18)
+
+-- the bytes are a message under these tags and no others
+abbrev pub IsWrapped : List ℕ → Wrapping → Envelope → Type 0
+IsWrapped bs w e = (t : Tree) × IsAllOf (taken_with_tag (taken_with_tag taken_value)) bs ((tags_of w).0, ((tags_of w).1, t)) × IsMessage t e
+
+-- ---- what a signature signs
+
+-- the protected header in it: no bytes where the header is empty, however it was sent (RFC 9052, section 4.4)
+abbrev pub signed_header : List ℕ → List (Tree × Tree) → List ℕ
+signed_header bs [] = []
+signed_header bs (e ∷ es) = bs
+
+-- a Sig_structure: the context, the protected header, what the application adds, and the payload (RFC 9052, section 4.4)
+abbrev pub signed_item : List ℕ → List ℕ → List ℕ → Item
+signed_item protected external payload = item.array false (item.item (item.text false (codes "Signature1"))
+    (item.item (item.bytes false protected) (item.item (item.bytes false external) (item.item (item.bytes false payload) item.no_items))))

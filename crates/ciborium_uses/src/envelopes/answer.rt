@@ -1,0 +1,59 @@
+//! What the program prints of an envelope.
+
+use super::{Envelope, EnvelopeError, Wrapping, algorithm, read_envelope, read_wrapped};
+use super::signed_bytes;
+use ciborium::value::{ByteBuf, Integer, Value};
+use ciborium::ser;
+use std::alloc::Global;
+use std::io::{self, Write};
+
+/// Prints what an envelope in hex says and what its signature signs, or why it is refused.
+pub fn answer<W: Write>(alloc: Global, hex: &str, output: &mut W) -> io::Result<()> {
+    let Ok(bytes) = hex::decode(alloc, hex) else {
+        return writeln!(output, "refused: not hex");
+    };
+    match read_envelope(alloc, &bytes) {
+        Ok(envelope) => show(alloc, &envelope, output),
+        Err(error) => writeln!(output, "refused: {error}"),
+    }
+}
+
+/// Prints the same of an envelope under any of its tags, and which they are.
+pub fn answer_wrapped<W: Write>(alloc: Global, hex: &str, output: &mut W) -> io::Result<()> {
+    let Ok(bytes) = hex::decode(alloc, hex) else {
+        return writeln!(output, "refused: not hex");
+    };
+    match read_wrapped(alloc, &bytes) {
+        Ok((wrapping, envelope)) => {
+            writeln!(output, "tags: {}", tags(wrapping))?;
+            show(alloc, &envelope, output)
+        }
+        Err(error) => writeln!(output, "refused: {error}"),
+    }
+}
+
+fn tags(wrapping: Wrapping) -> &'static str {
+    match wrapping {
+        Wrapping::Bare => "none",
+        Wrapping::Signed => "18",
+        Wrapping::Token => "61 over 18",
+    }
+}
+
+// Prints the algorithm, the claims in the order of their keys, and the signed bytes.
+fn show<W: Write>(alloc: Global, envelope: &Envelope, output: &mut W) -> io::Result<()> {
+    match algorithm(envelope) {
+        Some(algorithm) if *algorithm == Value::from(-7i8) => writeln!(output, "algorithm: ES256")?,
+        Some(algorithm) => writeln!(output, "algorithm: {algorithm}")?,
+        None => writeln!(output, "algorithm: none")?,
+    }
+    let Ok(claims) = Value::serialized(alloc, &envelope.claims.all) else {
+        return writeln!(output, "refused: an allocation failed");
+    };
+    writeln!(output, "claims: {claims}")?;
+    let external = ByteBuf(Vec::new(alloc));
+    match signed_bytes(alloc, envelope, &external) {
+        Ok(bytes) => writeln!(output, "signed: {}", hex::encode(alloc, bytes)?),
+        Err(error) => writeln!(output, "refused: {error}"),
+    }
+}
