@@ -1,8 +1,8 @@
 -- Signed messages of COSE (RFC 9052) that hold a CBOR Web Token (RFC 8392): which bytes they are, and what their signatures sign.
 use Rattle.std.specs.Prelude.{◌≡◌, ℕ, ℤ, pos, List, [], ◌∷◌, codes, length, map, Option, Some, None, option_map, String, string_bytes, false}
 use Rattle.std.specs.declared.alloc.Global.{Global}
-use Rattle.std.specs.Layout.BTreeMap.{BTreeMap}
-use Rattle.std.specs.BTreeMap.{is_at}
+
+use Rattle.std.specs.BTreeMap.{BTreeMap, is_at}
 use Rattle.std.specs.Map.{lookup}
 use Rattle.ciborium.specs.Item as item
 use Rattle.ciborium.specs.Item.{Item}
@@ -86,15 +86,20 @@ number_claim c = option_map trees.integer c
 abbrev pub bytes_claim : Option ByteBuf → Option Tree
 bytes_claim c = option_map (λ b. trees.bytes b.0.items) c
 
--- the claims of a token, each at its key (RFC 8392, section 4)
-pub record AreClaims (claims : Claims) : Type 0 where
-  pub issuer : value_at 1 (entry_trees claims.all) ≡ text_claim claims.issuer
-  pub subject : value_at 2 (entry_trees claims.all) ≡ text_claim claims.subject
-  pub audience : value_at 3 (entry_trees claims.all) ≡ text_claim claims.audience
-  pub expires : value_at 4 (entry_trees claims.all) ≡ number_claim claims.expires
-  pub not_before : value_at 5 (entry_trees claims.all) ≡ number_claim claims.not_before
-  pub issued : value_at 6 (entry_trees claims.all) ≡ number_claim claims.issued
-  pub id : value_at 7 (entry_trees claims.all) ≡ bytes_claim claims.id
+-- of these labels the claims of a token are those at its keys, and all of them (RFC 8392, section 4)
+pub record AreClaims (es : List (Tree × Tree)) (claims : Claims) : Type 0 where
+  pub issuer : value_at 1 es ≡ text_claim claims.issuer
+  pub subject : value_at 2 es ≡ text_claim claims.subject
+  pub audience : value_at 3 es ≡ text_claim claims.audience
+  pub expires : value_at 4 es ≡ number_claim claims.expires
+  pub not_before : value_at 5 es ≡ number_claim claims.not_before
+  pub issued : value_at 6 es ≡ number_claim claims.issued
+  pub id : value_at 7 es ≡ bytes_claim claims.id
+  pub every : entry_trees claims.every ≡ es
+
+-- the bytes are one item, a map of these claims
+abbrev pub AreClaimBytes : List ℕ → Claims → Type 0
+AreClaimBytes bs claims = (es : List (Tree × Tree)) × AreLabelBytes bs es × AreClaims es claims
 
 -- ---- messages
 
@@ -104,13 +109,12 @@ message_tree protected unprotected payload signature =
     trees.array (trees.tree (trees.bytes protected) (trees.tree unprotected (trees.tree (trees.bytes payload) (trees.tree (trees.bytes signature) trees.no_trees))))
 
 -- the message is this envelope: its parts, and what its headers and its payload hold
-pub record IsMessage (message : Tree) (e : Envelope) : Type 0 where
+pub record IsMessage (t : Tree) (e : Envelope) : Type 0 where
   pub unprotected_tree : Tree
-  pub message : message ≡ message_tree e.protected.0.items unprotected_tree e.payload.0.items e.signature.0.items
+  pub parts : t ≡ message_tree e.protected.0.items unprotected_tree e.payload.0.items e.signature.0.items
   pub unprotected : AreLabels unprotected_tree (entry_trees e.unprotected)
   pub header : IsHeader e.protected.0.items (entry_trees e.header)
-  pub claim_set : AreLabelBytes e.payload.0.items (entry_trees e.claims.all)
-  pub claims : AreClaims e.claims
+  pub claims : AreClaimBytes e.payload.0.items e.claims
 
 -- the bytes are such a message under tag 18 (RFC 9052, section 4.2)
 abbrev pub IsEnvelope : List ℕ → Envelope → Type 0

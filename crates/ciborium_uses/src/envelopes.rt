@@ -1,7 +1,7 @@
 //! Signed messages of COSE (RFC 9052, section 4.2) that hold a CBOR Web Token (RFC 8392).
 
 ghost use Rattle.std.specs.Prelude.{◌≡◌, IfErr, IfOk};
-ghost use Rattle.std.specs.Option.{option_map};
+ghost use Rattle.std.specs.Option.{option_copied, option_map};
 ghost use Rattle.ciborium.specs.Encoding.{written_bytes};
 ghost use Rattle.ciborium.specs.View.{tree_of};
 ghost use Rattle.ciborium_uses.specs.Envelopes.{IsEnvelope, IsMessage, IsOutside, IsWrapped};
@@ -57,7 +57,7 @@ pub struct Envelope {
 /// `Memory`.
 pub fn read_envelope(alloc: Global, bytes: &[u8]) -> Result<Envelope, EnvelopeError>
     ensures ok { IfOk result (λ e. IsEnvelope bytes.now e) }
-    ensures refused { (e : Envelope) → IsEnvelope bytes.now e → IfErr result IsOutside }
+    ensures refused { IfErr result (λ e. (v : Envelope) → IsEnvelope bytes.now v → IsOutside e) }
 {
     let Required(message) = read_all::<Required<Value, 18>>(alloc, bytes, Part::Message)?;
     open(alloc, message)
@@ -71,8 +71,8 @@ pub fn read_envelope(alloc: Global, bytes: &[u8]) -> Result<Envelope, EnvelopeEr
 /// Those of `read_envelope`, and `Tags` where other tags stand there.
 pub fn read_wrapped(alloc: Global, bytes: &[u8]) -> Result<(Wrapping, Envelope), EnvelopeError>
     ensures ok { IfOk result (λ r. IsWrapped bytes.now r.0 r.1) }
-    ensures refused { (w : Wrapping) (e : Envelope) → IsWrapped bytes.now w e →
-        IfErr result IsOutside }
+    ensures refused { IfErr result (λ e. (w : Wrapping) (v : Envelope) →
+        IsWrapped bytes.now w v → IsOutside e) }
 {
     let Captured(outer, Captured(inner, message)) =
         read_all::<Captured<Captured<Value>>>(alloc, bytes, Part::Message)?;
@@ -89,7 +89,8 @@ pub fn read_wrapped(alloc: Global, bytes: &[u8]) -> Result<(Wrapping, Envelope),
 // Opens a message whose tags were read.
 fn open(alloc: Global, message: Value) -> Result<Envelope, EnvelopeError>
     ensures ok { IfOk result (λ e. IsMessage (tree_of message) e) }
-    ensures refused { (e : Envelope) → IsMessage (tree_of message) e → IfErr result IsOutside }
+    ensures refused { IfErr result
+        (λ e. (v : Envelope) → IsMessage (tree_of message) v → IsOutside e) }
 {
     let Some(parts) = message::split(message) else {
         return Err(EnvelopeError::Shape);
@@ -109,7 +110,7 @@ fn open(alloc: Global, message: Value) -> Result<Envelope, EnvelopeError>
 
 /// The algorithm of the signature, as the protected header names it (RFC 9052, section 3.1).
 pub fn algorithm<'a>(envelope: &'a Envelope) -> Option<&'a Value>
-    ensures { option_map (λ v. tree_of v.now) result
+    ensures { option_map tree_of (option_copied result)
         ≡ value_at 1 (entry_trees envelope.now.header) }
 {
     value_of(&envelope.header, 1)

@@ -47,7 +47,7 @@ fn show<W: Write>(alloc: Global, envelope: &Envelope, output: &mut W) -> io::Res
         Some(algorithm) => writeln!(output, "algorithm: {algorithm}")?,
         None => writeln!(output, "algorithm: none")?,
     }
-    let Ok(claims) = Value::serialized(alloc, &envelope.claims.all) else {
+    let Ok(claims) = Value::serialized(alloc, &envelope.claims.every) else {
         return writeln!(output, "refused: an allocation failed");
     };
     writeln!(output, "claims: {claims}")?;

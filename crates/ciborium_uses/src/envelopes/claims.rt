@@ -1,9 +1,9 @@
 //! The claims of a token (RFC 8392).
 
-ghost use Rattle.std.specs.Prelude.{◌≡◌, ◌×◌, IfErr, IfOk, Option, String, ℤ};
+ghost use Rattle.std.specs.Prelude.{◌≡◌, IfErr, IfOk, Option, String, ℤ};
 ghost use Rattle.std.specs.declared.alloc.Global.{Global};
 ghost use Rattle.ciborium_value.specs.declared.byte_buf.ByteBuf.{ByteBuf};
-ghost use Rattle.ciborium_uses.specs.Envelopes.{AreClaims, AreLabelBytes, IsOutside};
+ghost use Rattle.ciborium_uses.specs.Envelopes.{AreClaimBytes, AreClaims, IsOutside};
 ghost use Rattle.ciborium_uses.specs.Envelopes.{bytes_claim, entry_trees, number_claim, text_claim};
 ghost use Rattle.ciborium_uses.specs.Envelopes.{value_at};
 ghost use Rattle.ciborium_uses.specs.declared.envelopes.claims.Claims.{Claims};
@@ -32,7 +32,7 @@ pub struct Claims {
     /// What tells it from other tokens.
     pub id: Option<ByteBuf>,
     /// Every claim, of keys that are not registered too.
-    pub all: Labels,
+    pub every: Labels,
 }
 
 /// Reads all of a payload as claims.
@@ -41,29 +41,37 @@ pub struct Claims {
 ///
 /// Those of `read_labels`, and `Claim` where a registered claim has another type.
 pub fn read_claims(alloc: Global, payload: &[u8]) -> Result<Claims, EnvelopeError>
-    ensures set { IfOk result (λ c. AreLabelBytes payload.now (entry_trees c.all)) }
-    ensures claims { IfOk result AreClaims }
-    ensures refused { (c : Claims) → AreLabelBytes payload.now (entry_trees c.all) → AreClaims c →
-        IfErr result IsOutside }
+    ensures ok { IfOk result (λ c. AreClaimBytes payload.now c) }
+    ensures refused { IfErr result
+        (λ e. (c : Claims) → AreClaimBytes payload.now c → IsOutside e) }
 {
-    let all = read_labels(alloc, payload, Part::Claims)?;
+    let every = read_labels(alloc, payload, Part::Claims)?;
+    claims_of(alloc, every)
+}
+
+// The claims at their keys.
+fn claims_of(alloc: Global, every: Labels) -> Result<Claims, EnvelopeError>
+    ensures ok { IfOk result (λ c. AreClaims (entry_trees every) c) }
+    ensures refused { IfErr result
+        (λ e. (c : Claims) → AreClaims (entry_trees every) c → IsOutside e) }
+{
     Ok(Claims {
-        issuer: text_at(alloc, &all, 1)?,
-        subject: text_at(alloc, &all, 2)?,
-        audience: text_at(alloc, &all, 3)?,
-        expires: number_at(&all, 4)?,
-        not_before: number_at(&all, 5)?,
-        issued: number_at(&all, 6)?,
-        id: bytes_at(alloc, &all, 7)?,
-        all,
+        issuer: text_at(alloc, &every, 1)?,
+        subject: text_at(alloc, &every, 2)?,
+        audience: text_at(alloc, &every, 3)?,
+        expires: number_at(&every, 4)?,
+        not_before: number_at(&every, 5)?,
+        issued: number_at(&every, 6)?,
+        id: bytes_at(alloc, &every, 7)?,
+        every,
     })
 }
 
 // The claim at this key, which is a text.
 fn text_at(alloc: Global, claims: &Labels, key: u8) -> Result<Option<String>, EnvelopeError>
     ensures ok { IfOk result (λ c. value_at key (entry_trees claims.now) ≡ text_claim c) }
-    ensures refused { (c : Option (String Global)) →
-        value_at key (entry_trees claims.now) ≡ text_claim c → IfErr result IsOutside }
+    ensures refused { IfErr result (λ e. (c : Option (String Global)) →
+        value_at key (entry_trees claims.now) ≡ text_claim c → IsOutside e) }
 {
     let Some(value) = value_of(claims, key) else {
         return Ok(None);
@@ -80,8 +88,8 @@ fn text_at(alloc: Global, claims: &Labels, key: u8) -> Result<Option<String>, En
 // The claim at this key, which is a number.
 fn number_at(claims: &Labels, key: u8) -> Result<Option<Integer>, EnvelopeError>
     ensures ok { IfOk result (λ c. value_at key (entry_trees claims.now) ≡ number_claim c) }
-    ensures refused { (c : Option ℤ) →
-        value_at key (entry_trees claims.now) ≡ number_claim c → IfErr result IsOutside }
+    ensures refused { IfErr result (λ e. (c : Option ℤ) →
+        value_at key (entry_trees claims.now) ≡ number_claim c → IsOutside e) }
 {
     let Some(value) = value_of(claims, key) else {
         return Ok(None);
@@ -95,8 +103,8 @@ fn number_at(claims: &Labels, key: u8) -> Result<Option<Integer>, EnvelopeError>
 // The claim at this key, which is a byte string.
 fn bytes_at(alloc: Global, claims: &Labels, key: u8) -> Result<Option<ByteBuf>, EnvelopeError>
     ensures ok { IfOk result (λ c. value_at key (entry_trees claims.now) ≡ bytes_claim c) }
-    ensures refused { (c : Option ByteBuf) →
-        value_at key (entry_trees claims.now) ≡ bytes_claim c → IfErr result IsOutside }
+    ensures refused { IfErr result (λ e. (c : Option ByteBuf) →
+        value_at key (entry_trees claims.now) ≡ bytes_claim c → IsOutside e) }
 {
     let Some(value) = value_of(claims, key) else {
         return Ok(None);

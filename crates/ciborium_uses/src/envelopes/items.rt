@@ -1,7 +1,6 @@
 //! Items that are all of some bytes.
 
-ghost use Rattle.std.specs.Prelude.{◌≡◌, IfOk};
-ghost use Rattle.std.specs.Result.{MatchResult};
+ghost use Rattle.std.specs.Prelude.{◌≡◌, IfErr, IfOk};
 ghost use Rattle.ciborium_uses.specs.Envelopes.{IsAllOf, IsOutside};
 
 use super::error::{EnvelopeError, Part};
@@ -21,8 +20,10 @@ pub fn read_all<T: Deserialize>(
     part: Part,
 ) -> Result<T, EnvelopeError>
     ensures ok { IfOk result (λ v. IsAllOf T.reading.taken bytes.now (T.reading.content v)) }
-    ensures exact { (w : T.Content) → IsAllOf T.reading.taken bytes.now w →
-        MatchResult result (λ v. T.reading.content v ≡ w) IsOutside }
+    ensures only { IfOk result (λ v. (w : T.Content) → IsAllOf T.reading.taken bytes.now w →
+        T.reading.content v ≡ w) }
+    ensures refused { IfErr result (λ e. (w : T.Content) →
+        IsAllOf T.reading.taken bytes.now w → IsOutside e) }
 {
     unique_spelling();
     let mut rest = bytes;

@@ -1,8 +1,7 @@
 //! Maps of labels, as headers and claims are.
 
-ghost use Rattle.std.specs.Prelude.{◌≡◌, ◌×◌, IfOk, List};
-ghost use Rattle.std.specs.Option.{option_map};
-ghost use Rattle.std.specs.Result.{MatchResult};
+ghost use Rattle.std.specs.Prelude.{◌≡◌, IfErr, IfOk, List};
+ghost use Rattle.std.specs.Option.{option_copied, option_map};
 ghost use Rattle.ciborium.specs.Tree.{Tree};
 ghost use Rattle.ciborium.specs.View.{tree_of};
 ghost use Rattle.ciborium_uses.specs.Envelopes.{AreLabelBytes, AreLabels, IsHeader, IsOutside};
@@ -25,8 +24,10 @@ pub type Labels = BTreeMap<Value, Value>;
 /// `NotMap`, and `Repeated` where a label stands twice.
 pub fn labels_of(alloc: Global, map: &Value, part: Part) -> Result<Labels, EnvelopeError>
     ensures ok { IfOk result (λ m. AreLabels (tree_of map.now) (entry_trees m)) }
-    ensures exact { (es : List (Tree × Tree)) → AreLabels (tree_of map.now) es →
-        MatchResult result (λ m. entry_trees m ≡ es) IsOutside }
+    ensures only { IfOk result (λ m. (es : List (Tree × Tree)) →
+        AreLabels (tree_of map.now) es → entry_trees m ≡ es) }
+    ensures refused { IfErr result (λ e. (es : List (Tree × Tree)) →
+        AreLabels (tree_of map.now) es → IsOutside e) }
 {
     let Some(pairs) = map.as_map() else {
         return Err(EnvelopeError::NotMap(part));
@@ -51,8 +52,10 @@ pub fn labels_of(alloc: Global, map: &Value, part: Part) -> Result<Labels, Envel
 /// Those of `read_all` and of `labels_of`.
 pub fn read_labels(alloc: Global, bytes: &[u8], part: Part) -> Result<Labels, EnvelopeError>
     ensures ok { IfOk result (λ m. AreLabelBytes bytes.now (entry_trees m)) }
-    ensures exact { (es : List (Tree × Tree)) → AreLabelBytes bytes.now es →
-        MatchResult result (λ m. entry_trees m ≡ es) IsOutside }
+    ensures only { IfOk result (λ m. (es : List (Tree × Tree)) →
+        AreLabelBytes bytes.now es → entry_trees m ≡ es) }
+    ensures refused { IfErr result (λ e. (es : List (Tree × Tree)) →
+        AreLabelBytes bytes.now es → IsOutside e) }
 {
     let map: Value = read_all(alloc, bytes, part)?;
     labels_of(alloc, &map, part)
@@ -65,8 +68,10 @@ pub fn read_labels(alloc: Global, bytes: &[u8], part: Part) -> Result<Labels, En
 /// Those of `read_labels`.
 pub fn read_header(alloc: Global, bytes: &[u8]) -> Result<Labels, EnvelopeError>
     ensures ok { IfOk result (λ m. IsHeader bytes.now (entry_trees m)) }
-    ensures exact { (es : List (Tree × Tree)) → IsHeader bytes.now es →
-        MatchResult result (λ m. entry_trees m ≡ es) IsOutside }
+    ensures only { IfOk result (λ m. (es : List (Tree × Tree)) →
+        IsHeader bytes.now es → entry_trees m ≡ es) }
+    ensures refused { IfErr result (λ e. (es : List (Tree × Tree)) →
+        IsHeader bytes.now es → IsOutside e) }
 {
     if bytes.is_empty() {
         Ok(BTreeMap::new(alloc))
@@ -77,7 +82,7 @@ pub fn read_header(alloc: Global, bytes: &[u8]) -> Result<Labels, EnvelopeError>
 
 /// The value at a label that is a number.
 pub fn value_of<'a>(labels: &'a Labels, label: u8) -> Option<&'a Value>
-    ensures { option_map (λ v. tree_of v.now) result ≡ value_at label (entry_trees labels.now) }
+    ensures { option_map tree_of (option_copied result) ≡ value_at label (entry_trees labels.now) }
 {
     labels.get(&Value::from(label))
 }

@@ -28,13 +28,13 @@ pub fn split(message: Value) -> Option<Message>
     let unprotected = parts.next()?;
     let payload = parts.next()?.into_bytes().ok()?;
     let signature = parts.next()?.into_bytes().ok()?;
-    if parts.next().is_some() {
-        return None;
+    match parts.next() {
+        Some(_) => None,
+        None => Some(Message {
+            protected,
+            unprotected,
+            payload,
+            signature,
+        }),
     }
-    Some(Message {
-        protected,
-        unprotected,
-        payload,
-        signature,
-    })
 }

@@ -1,0 +1,2 @@
+mod WholeItems
+mod LabelMaps
