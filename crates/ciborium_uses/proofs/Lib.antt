@@ -1,2 +1,3 @@
-mod WholeItems
+mod Exits
 mod LabelMaps
+mod WholeItems

@@ -1,5 +1,5 @@
 -- One item that is all of the bytes.
-use Rattle.std.proofs.Common.{arith, ◌≡◌, refl, sym, ap, subst, ◌∙◌, ℕ, ◌<◌, List, [], ◌∷◌, ◌++◌, length, Some, Bool, true, false, ◌==◌, append-nil, Option}
+use Rattle.std.proofs.Common.{arith, ◌≡◌, refl, sym, ap, subst, ◌∙◌, ℕ, ◌<◌, List, [], ◌∷◌, ◌++◌, length, Some, Bool, true, false, ◌==◌, append-nil}
 use Rattle.std.proofs.lemmas.Bool.{true≢false}
 use Rattle.ciborium.specs.Bytes.{greatest_offset}
 use Rattle.ciborium.specs.Item.{Item}

@@ -62,8 +62,10 @@ abbrev pub AreLabels : Tree → List (Tree × Tree) → Type 0
 AreLabels t es = IsMapTree t × (taken_map tree_cmp taken_value taken_value None (item_of t) ≡ gives es) × (length es ≡ pair_count t)
 
 -- the bytes are one item, such a map
-abbrev pub AreLabelBytes : List ℕ → List (Tree × Tree) → Type 0
-AreLabelBytes bs es = (t : Tree) × IsAllOf taken_value bs t × AreLabels t es
+pub record AreLabelBytes (bs : List ℕ) (es : List (Tree × Tree)) : Type 0 where
+  pub tree : Tree
+  pub item : IsAllOf taken_value bs tree
+  pub labels : AreLabels tree es
 
 -- a protected header: no bytes, or those of such a map (RFC 9052, section 3)
 abbrev pub IsHeader : List ℕ → List (Tree × Tree) → Type 0
@@ -98,8 +100,10 @@ pub record AreClaims (es : List (Tree × Tree)) (claims : Claims) : Type 0 where
   pub every : entry_trees claims.every ≡ es
 
 -- the bytes are one item, a map of these claims
-abbrev pub AreClaimBytes : List ℕ → Claims → Type 0
-AreClaimBytes bs claims = (es : List (Tree × Tree)) × AreLabelBytes bs es × AreClaims es claims
+pub record AreClaimBytes (bs : List ℕ) (claims : Claims) : Type 0 where
+  pub entries : List (Tree × Tree)
+  pub labels : AreLabelBytes bs entries
+  pub claims_at : AreClaims entries claims
 
 -- ---- messages
 
@@ -117,8 +121,10 @@ pub record IsMessage (t : Tree) (e : Envelope) : Type 0 where
   pub claims : AreClaimBytes e.payload.0.items e.claims
 
 -- the bytes are such a message under tag 18 (RFC 9052, section 4.2)
-abbrev pub IsEnvelope : List ℕ → Envelope → Type 0
-IsEnvelope bs e = (t : Tree) × IsAllOf (taken_then (taken_with_tag taken_value) (under_tag 18)) bs t × IsMessage t e
+pub record IsEnvelope (bs : List ℕ) (e : Envelope) : Type 0 where
+  pub tree : Tree
+  pub item : IsAllOf (taken_then (taken_with_tag taken_value) (under_tag 18)) bs tree
+  pub message : IsMessage tree e
 
 -- the tags around a message, the outer one first: none, that of a signed message, or that one under the tag of a token (RFC 8392, section 6)
 abbrev pub tags_of : Wrapping → Option ℕ × Option ℕ
@@ -127,8 +133,10 @@ tags_of Signed = (Some 18, None)
 tags_of Token = (Some 61, Some 18)
 
 -- the bytes are a message under these tags and no others
-abbrev pub IsWrapped : List ℕ → Wrapping → Envelope → Type 0
-IsWrapped bs w e = (t : Tree) × IsAllOf (taken_with_tag (taken_with_tag taken_value)) bs ((tags_of w).0, ((tags_of w).1, t)) × IsMessage t e
+pub record IsWrapped (bs : List ℕ) (w : Wrapping) (e : Envelope) : Type 0 where
+  pub tree : Tree
+  pub item : IsAllOf (taken_with_tag (taken_with_tag taken_value)) bs ((tags_of w).0, ((tags_of w).1, tree))
+  pub message : IsMessage tree e
 
 -- ---- what a signature signs
 

@@ -76,11 +76,8 @@ pub fn read_wrapped(alloc: Global, bytes: &[u8]) -> Result<(Wrapping, Envelope),
 {
     let Captured(outer, Captured(inner, message)) =
         read_all::<Captured<Captured<Value>>>(alloc, bytes, Part::Message)?;
-    let wrapping = match (outer, inner) {
-        (None, None) => Wrapping::Bare,
-        (Some(18), None) => Wrapping::Signed,
-        (Some(61), Some(18)) => Wrapping::Token,
-        _ => return Err(EnvelopeError::Tags),
+    let Some(wrapping) = wrapping::wrapping_of(outer, inner) else {
+        return Err(EnvelopeError::Tags);
     };
     let envelope = open(alloc, message)?;
     Ok((wrapping, envelope))

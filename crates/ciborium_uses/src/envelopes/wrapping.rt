@@ -1,5 +1,9 @@
 //! The tags around a message.
 
+ghost use Rattle.std.specs.Prelude.{◌≡◌, IfNone, IfSome};
+ghost use Rattle.ciborium_uses.specs.Envelopes.{tags_of};
+ghost use Rattle.ciborium_uses.specs.declared.envelopes.wrapping.Wrapping.{Wrapping};
+
 /// The tags around a message, by which a receiver tells what it is given.
 #[derive(Clone, Copy, Debug, PartialEq, Eq)]
 pub enum Wrapping {
@@ -9,4 +13,17 @@ pub enum Wrapping {
     Signed,
     /// The same under that of a token, 61 (RFC 8392, section 6).
     Token,
+}
+
+/// What these tags are, the outer one and the one under it.
+pub fn wrapping_of(outer: Option<u64>, inner: Option<u64>) -> Option<Wrapping>
+    ensures some { IfSome result (λ w. tags_of w ≡ (outer, inner)) }
+    ensures none { IfNone result ((w : Wrapping) → ¬ (tags_of w ≡ (outer, inner))) }
+{
+    match (outer, inner) {
+        (None, None) => Some(Wrapping::Bare),
+        (Some(18), None) => Some(Wrapping::Signed),
+        (Some(61), Some(18)) => Some(Wrapping::Token),
+        _ => None,
+    }
 }
