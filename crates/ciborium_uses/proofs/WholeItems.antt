@@ -1,6 +1,6 @@
 -- One item that is all of the bytes.
-use Rattle.std.proofs.Common.{arith, ◌≡◌, refl, sym, ap, subst, ◌∙◌, ℕ, ◌<◌, List, [], ◌∷◌, ◌++◌, length, Some, Bool, true, false, ◌==◌, append-nil}
-use Rattle.std.proofs.lemmas.Bool.{true≢false}
+use Rattle.std.proofs.Common.{arith, ◌≡◌, refl, sym, ap, subst, ◌∙◌, ℕ, ◌<◌, ◌==◌, true, Some}
+use Rattle.std.proofs.Common.{List, [], ◌∷◌, ◌++◌, length, append-nil}
 use Rattle.ciborium.specs.Bytes.{greatest_offset}
 use Rattle.ciborium.specs.Item.{Item}
 use Rattle.ciborium.specs.Spells.{Spells}
@@ -8,30 +8,22 @@ use Rattle.ciborium.specs.Sources.{Fault, of_device, of_kind, of_length, of_memo
 use Rattle.ciborium.specs.Taken.{Taken, gives}
 use Rattle.ciborium.specs.TypedAnswers.{TakesGiving}
 use Rattle.ciborium.specs.laws.SpellingLaws.{OneAtFront}
-use Rattle.ciborium_uses.specs.Envelopes.{IsAllOf, IsOutsideFault}
-
-is_empty : List ℕ → Bool
-is_empty [] = true
-is_empty (x ∷ xs) = false
+use Rattle.ciborium_uses.specs.Envelopes.{IsAllOf, IsBlameless}
 
 pub none_left : (xs : List ℕ) → (length xs == 0) ≡ true → xs ≡ []
 none_left [] e = refl
 none_left (x ∷ xs) e = absurd (grind (arith, e))
 
-pub some_left : (xs : List ℕ) → (length xs == 0) ≡ false → ¬ (xs ≡ [])
-unfolding is_empty
-some_left [] e h = true≢false e
-some_left (x ∷ xs) e h = true≢false (sym (ap is_empty h))
-
 -- an item was taken, and nothing is left
-pub all_taken : {A : Type 0} (taken : Taken A) (b left : List ℕ) (v : A) → TakesGiving (Some 256) taken b v (Some left) → left ≡ [] → IsAllOf taken b v
+pub all_taken : {A : Type 0} (taken : Taken A) (b left : List ℕ) (v : A) →
+    TakesGiving (Some 256) taken b v (Some left) → left ≡ [] → IsAllOf taken b v
 all_taken taken b left v (i, s, r, spelled, split, given, after) empty =
     let rest : r ≡ [] = cc in
     (i, subst (λ x. Spells x i) (sym (split ∙ ap (λ x. s ++ x) rest ∙ append-nil s)) spelled, given)
 
 -- the item that all of the bytes are is the one that was taken
-pub same_taken : {A : Type 0} (taken : Taken A) (b left : List ℕ) (v w : A) → OneAtFront → TakesGiving (Some 256) taken b v (Some left) → IsAllOf taken b w →
-    (v ≡ w) × (left ≡ [])
+pub same_taken : {A : Type 0} (taken : Taken A) (b left : List ℕ) (v w : A) → OneAtFront →
+    TakesGiving (Some 256) taken b v (Some left) → IsAllOf taken b w → (v ≡ w) × (left ≡ [])
 same_taken taken b left v w one (i, s, r, spelled, split, given, after) (j, whole, gave) =
     let front = one s b r [] i j spelled whole (sym split ∙ sym (append-nil b)) in
     let same : gives v ≡ gives w = sym given ∙ ap (λ x. taken (Some 256) x) front.2 ∙ gave in
@@ -39,8 +31,8 @@ same_taken taken b left v w one (i, s, r, spelled, split, given, after) (j, whol
     (cc, cc)
 
 -- an item that gives a value is refused for what it does not decide
-pub no_blame : {A : Type 0} (taken : Taken A) (n : ℕ) (i : Item) (w : A) (fault : Fault) → taken (Some 256) i ≡ gives w → ¬ (greatest_offset < n) →
-    IsFaultOf n fault (taken (Some 256) i) → IsOutsideFault fault
+pub no_blame : {A : Type 0} (taken : Taken A) (n : ℕ) (i : Item) (w : A) (fault : Fault) →
+    taken (Some 256) i ≡ gives w → ¬ (greatest_offset < n) → IsFaultOf n fault (taken (Some 256) i) → IsBlameless fault
 no_blame taken n i w (of_kind k) given short e = cc
 no_blame taken n i w of_nesting given short e = cc
 no_blame taken n i w of_syntax given short e = e

@@ -1,7 +1,8 @@
--- Signed messages of COSE (RFC 9052) that hold a CBOR Web Token (RFC 8392): which bytes they are, and what their signatures sign.
-use Rattle.std.specs.Prelude.{◌≡◌, ℕ, ℤ, pos, List, [], ◌∷◌, codes, length, map, Option, Some, None, option_map, String, string_bytes, false}
+-- Signed messages of COSE (RFC 9052) that hold a CBOR Web Token (RFC 8392): which bytes they are, and what their
+-- signatures sign.
+use Rattle.std.specs.Prelude.{◌≡◌, ℕ, ℤ, pos, List, [], ◌∷◌, codes, length, map, false}
+use Rattle.std.specs.Prelude.{Option, Some, None, option_map, String, string_bytes}
 use Rattle.std.specs.declared.alloc.Global.{Global}
-
 use Rattle.std.specs.BTreeMap.{BTreeMap, is_at}
 use Rattle.std.specs.Map.{lookup}
 use Rattle.ciborium.specs.Item as item
@@ -34,16 +35,16 @@ abbrev pub IsAllOf : {A : Type 0} → Taken A → List ℕ → A → Type 0
 IsAllOf taken bs v = (i : Item) × Spells bs i × (taken (Some 256) i ≡ gives v)
 
 -- no bytes are to blame: memory was refused, or the reader failed, which one over bytes in memory never does
-abbrev pub IsOutsideFault : Fault → Type 0
-IsOutsideFault (of_kind k) = ⊥
-IsOutsideFault of_nesting = ⊥
-IsOutsideFault of_syntax = ⊥
-IsOutsideFault of_memory = Unit {0}
-IsOutsideFault of_device = Unit {0}
-IsOutsideFault of_length = ⊥
+abbrev pub IsBlameless : Fault → Type 0
+IsBlameless (of_kind k) = ⊥
+IsBlameless of_nesting = ⊥
+IsBlameless of_syntax = ⊥
+IsBlameless of_memory = Unit {0}
+IsBlameless of_device = Unit {0}
+IsBlameless of_length = ⊥
 
 abbrev pub IsOutside : EnvelopeError → Type 0
-IsOutside (errors.Read part e) = IsOutsideFault (fault_of e)
+IsOutside (errors.Read part e) = IsBlameless (fault_of e)
 IsOutside errors.Memory = Unit {0}
 IsOutside _ = ⊥
 
@@ -59,7 +60,8 @@ pair_count _ = 0
 
 -- a map in which no label stands twice: it has as many entries as pairs (RFC 9052, section 3)
 abbrev pub AreLabels : Tree → List (Tree × Tree) → Type 0
-AreLabels t es = IsMapTree t × (taken_map tree_cmp taken_value taken_value None (item_of t) ≡ gives es) × (length es ≡ pair_count t)
+AreLabels t es = IsMapTree t × (taken_map tree_cmp taken_value taken_value None (item_of t) ≡ gives es) ×
+    (length es ≡ pair_count t)
 
 -- the bytes are one item, such a map
 pub record AreLabelBytes (bs : List ℕ) (es : List (Tree × Tree)) : Type 0 where
@@ -110,7 +112,8 @@ pub record AreClaimBytes (bs : List ℕ) (claims : Claims) : Type 0 where
 -- a signed message: the protected header, the unprotected one, the payload and the signature (RFC 9052, section 4.2)
 abbrev pub message_tree : List ℕ → Tree → List ℕ → List ℕ → Tree
 message_tree protected unprotected payload signature =
-    trees.array (trees.tree (trees.bytes protected) (trees.tree unprotected (trees.tree (trees.bytes payload) (trees.tree (trees.bytes signature) trees.no_trees))))
+    trees.array (trees.tree (trees.bytes protected) (trees.tree unprotected
+    (trees.tree (trees.bytes payload) (trees.tree (trees.bytes signature) trees.no_trees))))
 
 -- the message is this envelope: its parts, and what its headers and its payload hold
 pub record IsMessage (t : Tree) (e : Envelope) : Type 0 where
@@ -126,7 +129,8 @@ pub record IsEnvelope (bs : List ℕ) (e : Envelope) : Type 0 where
   pub item : IsAllOf (taken_then (taken_with_tag taken_value) (under_tag 18)) bs tree
   pub message : IsMessage tree e
 
--- the tags around a message, the outer one first: none, that of a signed message, or that one under the tag of a token (RFC 8392, section 6)
+-- the tags around a message, the outer one first: none, that of a signed message, or that one under the tag of a token
+-- (RFC 8392, section 6)
 abbrev pub tags_of : Wrapping → Option ℕ × Option ℕ
 tags_of Bare = (None, None)
 tags_of Signed = (Some 18, None)
@@ -145,7 +149,9 @@ abbrev pub signed_header : List ℕ → List (Tree × Tree) → List ℕ
 signed_header bs [] = []
 signed_header bs (e ∷ es) = bs
 
--- a Sig_structure: the context, the protected header, what the application adds, and the payload (RFC 9052, section 4.4)
+-- a Sig_structure: the context, the protected header, what the application adds, and the payload (RFC 9052, section
+-- 4.4)
 abbrev pub signed_item : List ℕ → List ℕ → List ℕ → Item
 signed_item protected external payload = item.array false (item.item (item.text false (codes "Signature1"))
-    (item.item (item.bytes false protected) (item.item (item.bytes false external) (item.item (item.bytes false payload) item.no_items))))
+    (item.item (item.bytes false protected) (item.item (item.bytes false external)
+    (item.item (item.bytes false payload) item.no_items))))

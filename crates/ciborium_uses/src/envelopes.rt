@@ -18,10 +18,10 @@ mod message;
 mod wrapping;
 
 pub use answer::{answer, answer_wrapped};
-pub use claims::Claims;
 use ciborium::tag::{Captured, Required};
 use ciborium::value::{ByteBuf, Value};
 use ciborium::{into_writer, ser};
+pub use claims::Claims;
 pub use error::{EnvelopeError, Part};
 use items::read_all;
 pub use labels::Labels;
@@ -74,8 +74,11 @@ pub fn read_wrapped(alloc: Global, bytes: &[u8]) -> Result<(Wrapping, Envelope),
     ensures refused { IfErr result (λ e. (w : Wrapping) (v : Envelope) →
         IsWrapped bytes.now w v → IsOutside e) }
 {
-    let Captured(outer, Captured(inner, message)) =
-        read_all::<Captured<Captured<Value>>>(alloc, bytes, Part::Message)?;
+    let Captured(outer, Captured(inner, message)) = read_all::<Captured<Captured<Value>>>(
+        alloc,
+        bytes,
+        Part::Message,
+    )?;
     let Some(wrapping) = wrapping::wrapping_of(outer, inner) else {
         return Err(EnvelopeError::Tags);
     };
@@ -130,6 +133,9 @@ pub fn signed_bytes(
         &envelope.protected
     };
     let mut bytes = Vec::new(alloc);
-    into_writer(&("Signature1", header, external, &envelope.payload), &mut bytes)?;
+    into_writer(
+        &("Signature1", header, external, &envelope.payload),
+        &mut bytes,
+    )?;
     Ok(bytes)
 }

@@ -1,9 +1,10 @@
 //! What the program prints of an envelope.
 
-use super::{Envelope, EnvelopeError, Wrapping, algorithm, read_envelope, read_wrapped};
-use super::signed_bytes;
-use ciborium::value::{ByteBuf, Integer, Value};
+use super::{
+    Envelope, EnvelopeError, Wrapping, algorithm, read_envelope, read_wrapped, signed_bytes,
+};
 use ciborium::ser;
+use ciborium::value::{ByteBuf, Integer, Value};
 use std::alloc::Global;
 use std::io::{self, Write};
 

@@ -13,8 +13,8 @@ use super::labels::{Labels, read_labels, value_of};
 use ciborium::value::{ByteBuf, Integer};
 use std::alloc::Global;
 
-/// What a token claims: each registered claim that it has (RFC 8392, section 3.1), and all claims by
-/// their keys. Times are in seconds since 1970.
+/// What a token claims: each registered claim that it has (RFC 8392, section 3.1), and all claims
+/// by their keys. Times are in whole seconds since 1970; a float is refused, as in every `Value`.
 #[derive(Debug, Drop)]
 pub struct Claims {
     /// Who issued the token.

@@ -14,11 +14,7 @@ use std::alloc::Global;
 /// # Errors
 ///
 /// `Read` where they do not begin with such an item, `Trailing` where bytes follow it.
-pub fn read_all<T: Deserialize>(
-    alloc: Global,
-    bytes: &[u8],
-    part: Part,
-) -> Result<T, EnvelopeError>
+pub fn read_all<T: Deserialize>(alloc: Global, bytes: &[u8], part: Part) -> Result<T, EnvelopeError>
     ensures ok { IfOk result (λ v. IsAllOf T.reading.taken bytes.now (T.reading.content v)) }
     ensures only { IfOk result (λ v. (w : T.Content) → IsAllOf T.reading.taken bytes.now w →
         T.reading.content v ≡ w) }

@@ -1,13 +1,11 @@
 use Rattle.std.proofs.Common.{subst, sym}
-use Rattle.std.proofs.lemmas.Result.{err_from_is_err_and}
-use Rattle.ciborium_uses.proofs.Exits.{answered_by, refused_by}
+use Rattle.ciborium_uses.proofs.Exits.{answered_by, exit_by, refused_by}
 use Rattle.ciborium_uses.specs.Envelopes.{AreLabels}
 use Rattle.ciborium_uses.proofs.envelopes.labels.read_labels.Goals as goal
 
 pub returns-in_err-map-clause-refused : goal.returns-in_err-map-clause-refused
 returns-in_err-map-clause-refused c =
-    let exit = err_from_is_err_and c.from_residual.result c.from_residual.ensures.1 in
-    rw (exit.1, exit.2) (λ es h. c.in_err-map.ensures.refused h.tree h.item)
+    exit_by _ c.from_residual.result c.from_residual.ensures.1 (λ es h. c.in_err-map.ensures.refused h.tree h.item)
 
 -- the map that was read is the one that the bytes are
 pub returns-clause-only : goal.returns-clause-only

@@ -12,4 +12,5 @@ use Rattle.ciborium_uses.proofs.envelopes.labels.value_of.Goals as goal
 pub returns : goal.returns
 returns c =
     ap (option_map tree_of) c.get.ensures.value ∙ found_by_tree c.from.result c.args.labels.now.entries
-    ∙ ap (λ t. lookup (is_at (tree_cmp t)) (entry_trees c.args.labels.now)) (ap tree_of c.from.ensures ∙ tree_of-Integer _)
+    ∙ ap (λ t. lookup (is_at (tree_cmp t)) (entry_trees c.args.labels.now))
+    (ap tree_of c.from.ensures ∙ tree_of-Integer _)
