@@ -1,17 +1,15 @@
 //! What the program prints of an envelope.
 
-use super::{
-    Envelope, EnvelopeError, Wrapping, algorithm, read_envelope, read_wrapped, signed_bytes,
-};
-use ciborium::ser;
-use ciborium::value::{ByteBuf, Integer, Value};
+use super::{Envelope, algorithm, read_envelope, read_wrapped, signed_bytes};
+use ciborium::value::{ByteBuf, Value};
 use std::alloc::Global;
 use std::io::{self, Write};
 
 /// Prints what an envelope in hex says and what its signature signs, or why it is refused.
 pub fn answer<W: Write>(alloc: Global, hex: &str, output: &mut W) -> io::Result<()> {
-    let Ok(bytes) = hex::decode(alloc, hex) else {
-        return writeln!(output, "refused: not hex");
+    let bytes = match hex::decode(alloc, hex) {
+        Ok(bytes) => bytes,
+        Err(error) => return writeln!(output, "refused: {error}"),
     };
     match read_envelope(alloc, &bytes) {
         Ok(envelope) => show(alloc, &envelope, output),
@@ -21,23 +19,16 @@ pub fn answer<W: Write>(alloc: Global, hex: &str, output: &mut W) -> io::Result<
 
 /// Prints the same of an envelope under any of its tags, and which they are.
 pub fn answer_wrapped<W: Write>(alloc: Global, hex: &str, output: &mut W) -> io::Result<()> {
-    let Ok(bytes) = hex::decode(alloc, hex) else {
-        return writeln!(output, "refused: not hex");
+    let bytes = match hex::decode(alloc, hex) {
+        Ok(bytes) => bytes,
+        Err(error) => return writeln!(output, "refused: {error}"),
     };
     match read_wrapped(alloc, &bytes) {
         Ok((wrapping, envelope)) => {
-            writeln!(output, "tags: {}", tags(wrapping))?;
+            writeln!(output, "tags: {wrapping}")?;
             show(alloc, &envelope, output)
         }
         Err(error) => writeln!(output, "refused: {error}"),
-    }
-}
-
-fn tags(wrapping: Wrapping) -> &'static str {
-    match wrapping {
-        Wrapping::Bare => "none",
-        Wrapping::Signed => "18",
-        Wrapping::Token => "61 over 18",
     }
 }
 

@@ -4,6 +4,8 @@ ghost use Rattle.std.specs.Prelude.{◌≡◌, IfNone, IfSome};
 ghost use Rattle.ciborium_uses.specs.Envelopes.{tags_of};
 ghost use Rattle.ciborium_uses.specs.declared.envelopes.wrapping.Wrapping.{Wrapping};
 
+use std::fmt;
+
 /// The tags around a message, by which a receiver tells what it is given.
 #[derive(Clone, Copy, Debug, PartialEq, Eq)]
 pub enum Wrapping {
@@ -13,6 +15,16 @@ pub enum Wrapping {
     Signed,
     /// The same under that of a token, 61 (RFC 8392, section 6).
     Token,
+}
+
+impl fmt::Display for Wrapping {
+    fn fmt<W: fmt::Write>(&self, f: &mut fmt::Formatter<W>) -> fmt::Result {
+        f.write_str(match self {
+            Wrapping::Bare => "none",
+            Wrapping::Signed => "18",
+            Wrapping::Token => "61 over 18",
+        })
+    }
 }
 
 /// What these tags are, the outer one and the one under it.
