@@ -21,6 +21,7 @@ pub fn read_all<T: Deserialize>(alloc: Global, bytes: &[u8], part: Part) -> Resu
     ensures refused { IfErr result (λ e. (w : T.Content) →
         IsAllOf T.reading.taken bytes.now w → IsOutside e) }
 {
+    // The law that no bytes spell two items, for the clause `only`.
     unique_spelling();
     let mut rest = bytes;
     match from_reader::<T, _>(alloc, &mut rest) {
