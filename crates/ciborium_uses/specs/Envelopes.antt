@@ -25,6 +25,8 @@ use Rattle.ciborium_uses.specs.declared.envelopes.Envelope.{Envelope}
 use Rattle.ciborium_uses.specs.declared.envelopes.claims.Claims.{Claims}
 use Rattle.ciborium_uses.specs.declared.envelopes.error.EnvelopeError.{EnvelopeError}
 use Rattle.ciborium_uses.specs.declared.envelopes.error.EnvelopeError.TheVariants as errors
+use Rattle.ciborium_uses.specs.declared.envelopes.error.Part.{Part}
+use Rattle.ciborium_uses.specs.declared.envelopes.error.Part.TheVariants as parts
 use Rattle.ciborium_uses.specs.declared.envelopes.wrapping.Wrapping.{Wrapping}
 use Rattle.ciborium_uses.specs.declared.envelopes.wrapping.Wrapping.TheVariants.{Bare, Signed, Token}
 
@@ -155,3 +157,16 @@ abbrev pub signed_item : List ℕ → List ℕ → List ℕ → Item
 signed_item protected external payload = item.array false (item.item (item.text false (codes "Signature1"))
     (item.item (item.bytes false protected) (item.item (item.bytes false external)
     (item.item (item.bytes false payload) item.no_items))))
+
+-- ---- what is printed
+
+abbrev pub wrapping_text : Wrapping → List ℕ
+wrapping_text Bare = codes "none"
+wrapping_text Signed = codes "18"
+wrapping_text Token = codes "61 over 18"
+
+abbrev pub part_text : Part → List ℕ
+part_text parts.Message = codes "the message"
+part_text parts.Unprotected = codes "the unprotected header"
+part_text parts.Header = codes "the protected header"
+part_text parts.Claims = codes "the claims"

@@ -1,5 +1,8 @@
 //! Why bytes are no envelope.
 
+ghost use Rattle.std.specs.Prelude.{Some};
+ghost use Rattle.ciborium_uses.specs.Envelopes.{part_text};
+
 use ciborium::de;
 use std::alloc::AllocError;
 use std::{fmt, io};
@@ -19,13 +22,15 @@ pub enum Part {
 }
 
 impl fmt::Display for Part {
+    ghost output = { λ p. Some (part_text p) };
+
     fn fmt<W: fmt::Write>(&self, f: &mut fmt::Formatter<W>) -> fmt::Result {
-        f.write_str(match self {
-            Part::Message => "the message",
-            Part::Unprotected => "the unprotected header",
-            Part::Header => "the protected header",
-            Part::Claims => "the claims",
-        })
+        match self {
+            Part::Message => f.write_str("the message"),
+            Part::Unprotected => f.write_str("the unprotected header"),
+            Part::Header => f.write_str("the protected header"),
+            Part::Claims => f.write_str("the claims"),
+        }
     }
 }
 

@@ -1,7 +1,7 @@
 //! The tags around a message.
 
-ghost use Rattle.std.specs.Prelude.{◌≡◌, IfNone, IfSome};
-ghost use Rattle.ciborium_uses.specs.Envelopes.{tags_of};
+ghost use Rattle.std.specs.Prelude.{◌≡◌, IfNone, IfSome, Some};
+ghost use Rattle.ciborium_uses.specs.Envelopes.{tags_of, wrapping_text};
 ghost use Rattle.ciborium_uses.specs.declared.envelopes.wrapping.Wrapping.{Wrapping};
 
 use std::fmt;
@@ -18,12 +18,14 @@ pub enum Wrapping {
 }
 
 impl fmt::Display for Wrapping {
+    ghost output = { λ w. Some (wrapping_text w) };
+
     fn fmt<W: fmt::Write>(&self, f: &mut fmt::Formatter<W>) -> fmt::Result {
-        f.write_str(match self {
-            Wrapping::Bare => "none",
-            Wrapping::Signed => "18",
-            Wrapping::Token => "61 over 18",
-        })
+        match self {
+            Wrapping::Bare => f.write_str("none"),
+            Wrapping::Signed => f.write_str("18"),
+            Wrapping::Token => f.write_str("61 over 18"),
+        }
     }
 }
 
