@@ -1,6 +1,6 @@
 //! Signed messages of COSE (RFC 9052, section 4.2) that hold a CBOR Web Token (RFC 8392): what they
-//! say, and the bytes that their signature signs. Whether it is right is for a library of signatures
-//! to tell. A message whose payload is detached has no claims, and is refused.
+//! say, and the bytes that their signature signs. Whether the signature is right is for a library
+//! of signatures to tell. A message whose payload is detached has no claims, and is refused.
 
 ghost use Rattle.std.specs.Prelude.{◌≡◌, IfErr, IfOk};
 ghost use Rattle.std.specs.Option.{option_copied, option_map};
