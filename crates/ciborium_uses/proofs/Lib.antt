@@ -1,1 +1,4 @@
+mod Exits
+mod LabelMaps
 mod LoadedForms
+mod WholeItems

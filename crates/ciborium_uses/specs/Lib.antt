@@ -1,3 +1,4 @@
+pub mod Envelopes
 pub mod Readings
 pub mod Settings
 pub mod Shapes

@@ -2,11 +2,12 @@
 //! the standard input, each the name of a module and what it is asked; remarks stay as they are.
 #![tactic(auto)]
 
+mod envelopes;
 mod frames;
 mod schema;
 mod settings;
 
-use std::io;
+use std::io::{self, Lock};
 
 fn main(rt: HostRuntime) -> io::Result<()> {
     let alloc = rt.alloc();
@@ -17,6 +18,11 @@ fn main(rt: HostRuntime) -> io::Result<()> {
             continue;
         }
         let (module, rest) = line.as_str().split_once(' ').unwrap_or((line.as_str(), ""));
+        if module == "envelope" || module == "wrapped" {
+            println!(rt; "{line}")?;
+            envelopes::answer(alloc, module, rest, &mut rt.stdout().lock())?;
+            continue;
+        }
         let answer = match module {
             "frames" => frames::answer(alloc, rest)?,
             "schema" => schema::answer(alloc, rest)?,

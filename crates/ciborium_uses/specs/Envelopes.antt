@@ -1,0 +1,172 @@
+-- Signed messages of COSE (RFC 9052) that hold a CBOR Web Token (RFC 8392): which bytes they are, and what their
+-- signatures sign.
+use Rattle.std.specs.Prelude.{◌≡◌, ℕ, ℤ, pos, List, [], ◌∷◌, codes, length, map, false}
+use Rattle.std.specs.Prelude.{Option, Some, None, option_map, String, string_bytes}
+use Rattle.std.specs.declared.alloc.Global.{Global}
+use Rattle.std.specs.BTreeMap.{BTreeMap, is_at}
+use Rattle.std.specs.Map.{lookup}
+use Rattle.ciborium.specs.Item as item
+use Rattle.ciborium.specs.Item.{Item}
+use Rattle.ciborium.specs.Spells.{Spells}
+use Rattle.ciborium.specs.Encoding.{item_of}
+use Rattle.ciborium.specs.Errors.{fault_of}
+use Rattle.ciborium.specs.Order.{tree_cmp}
+use Rattle.ciborium.specs.TreeVariants.{IsMapTree}
+use Rattle.ciborium.specs.Sources.{Fault, of_device, of_kind, of_length, of_memory, of_nesting, of_syntax}
+use Rattle.ciborium.specs.TagReadings.{taken_with_tag, under_tag}
+use Rattle.ciborium.specs.Taken.{Taken, gives, taken_value}
+use Rattle.ciborium.specs.TakenParts.{taken_map, taken_then}
+use Rattle.ciborium.specs.Tree as trees
+use Rattle.ciborium.specs.Tree.{Tree, tree_pairs_count}
+use Rattle.ciborium.specs.View.{pair_trees}
+use Rattle.ciborium_value.specs.declared.byte_buf.ByteBuf.{ByteBuf}
+use Rattle.ciborium_value.specs.declared.tree.Value.{Value}
+use Rattle.ciborium_uses.specs.declared.envelopes.Envelope.{Envelope}
+use Rattle.ciborium_uses.specs.declared.envelopes.claims.Claims.{Claims}
+use Rattle.ciborium_uses.specs.declared.envelopes.error.EnvelopeError.{EnvelopeError}
+use Rattle.ciborium_uses.specs.declared.envelopes.error.EnvelopeError.TheVariants as errors
+use Rattle.ciborium_uses.specs.declared.envelopes.error.Part.{Part}
+use Rattle.ciborium_uses.specs.declared.envelopes.error.Part.TheVariants as parts
+use Rattle.ciborium_uses.specs.declared.envelopes.wrapping.Wrapping.{Wrapping}
+use Rattle.ciborium_uses.specs.declared.envelopes.wrapping.Wrapping.TheVariants.{Bare, Signed, Token}
+
+-- ---- items
+
+-- all of the bytes are one item, which gives v within 256 levels
+abbrev pub IsAllOf : {A : Type 0} → Taken A → List ℕ → A → Type 0
+IsAllOf taken bs v = (i : Item) × Spells bs i × (taken (Some 256) i ≡ gives v)
+
+-- no bytes are to blame: memory was refused, or the reader failed, which one over bytes in memory never does
+abbrev pub IsBlameless : Fault → Type 0
+IsBlameless (of_kind k) = ⊥
+IsBlameless of_nesting = ⊥
+IsBlameless of_syntax = ⊥
+IsBlameless of_memory = Unit {0}
+IsBlameless of_device = Unit {0}
+IsBlameless of_length = ⊥
+
+abbrev pub IsOutside : EnvelopeError → Type 0
+IsOutside (errors.Read part e) = IsBlameless (fault_of e)
+IsOutside errors.Memory = Unit {0}
+IsOutside _ = ⊥
+
+-- ---- maps of labels
+
+-- the entries of such a map, by their trees, in the order of labels
+abbrev pub entry_trees : BTreeMap Value Value → List (Tree × Tree)
+entry_trees m = map pair_trees m.entries
+
+abbrev pub pair_count : Tree → ℕ
+pair_count (trees.map ps) = tree_pairs_count ps
+pair_count _ = 0
+
+-- a map in which no label stands twice: it has as many entries as pairs (RFC 9052, section 3)
+abbrev pub AreLabels : Tree → List (Tree × Tree) → Type 0
+AreLabels t es = IsMapTree t × (taken_map tree_cmp taken_value taken_value None (item_of t) ≡ gives es) ×
+    (length es ≡ pair_count t)
+
+-- the bytes are one item, such a map
+pub record AreLabelBytes (bs : List ℕ) (es : List (Tree × Tree)) : Type 0 where
+  pub tree : Tree
+  pub item : IsAllOf taken_value bs tree
+  pub labels : AreLabels tree es
+
+-- a protected header: no bytes, or those of such a map (RFC 9052, section 3)
+abbrev pub IsHeader : List ℕ → List (Tree × Tree) → Type 0
+IsHeader [] es = es ≡ []
+IsHeader (b ∷ bs) es = AreLabelBytes (b ∷ bs) es
+
+-- the value at a label that is a number
+abbrev pub value_at : ℕ → List (Tree × Tree) → Option Tree
+value_at n es = lookup (is_at (tree_cmp (trees.integer (pos n)))) es
+
+-- ---- claims
+
+-- a claim is missing, or it is of this type
+abbrev pub text_claim : Option (String Global) → Option Tree
+text_claim c = option_map (λ s. trees.text (string_bytes s)) c
+
+abbrev pub number_claim : Option ℤ → Option Tree
+number_claim c = option_map trees.integer c
+
+abbrev pub bytes_claim : Option ByteBuf → Option Tree
+bytes_claim c = option_map (λ b. trees.bytes b.0.items) c
+
+-- of these labels the claims of a token are those at its keys, and all of them (RFC 8392, section 4)
+pub record AreClaims (es : List (Tree × Tree)) (claims : Claims) : Type 0 where
+  pub issuer : value_at 1 es ≡ text_claim claims.issuer
+  pub subject : value_at 2 es ≡ text_claim claims.subject
+  pub audience : value_at 3 es ≡ text_claim claims.audience
+  pub expires : value_at 4 es ≡ number_claim claims.expires
+  pub not_before : value_at 5 es ≡ number_claim claims.not_before
+  pub issued : value_at 6 es ≡ number_claim claims.issued
+  pub id : value_at 7 es ≡ bytes_claim claims.id
+  pub every : entry_trees claims.every ≡ es
+
+-- the bytes are one item, a map of these claims
+pub record AreClaimBytes (bs : List ℕ) (claims : Claims) : Type 0 where
+  pub entries : List (Tree × Tree)
+  pub labels : AreLabelBytes bs entries
+  pub claims_at : AreClaims entries claims
+
+-- ---- messages
+
+-- a signed message: the protected header, the unprotected one, the payload and the signature (RFC 9052, section 4.2)
+abbrev pub message_tree : List ℕ → Tree → List ℕ → List ℕ → Tree
+message_tree protected unprotected payload signature =
+    trees.array (trees.tree (trees.bytes protected) (trees.tree unprotected
+    (trees.tree (trees.bytes payload) (trees.tree (trees.bytes signature) trees.no_trees))))
+
+-- the message is this envelope: its parts, and what its headers and its payload hold
+pub record IsMessage (t : Tree) (e : Envelope) : Type 0 where
+  pub unprotected_tree : Tree
+  pub parts : t ≡ message_tree e.protected.0.items unprotected_tree e.payload.0.items e.signature.0.items
+  pub unprotected : AreLabels unprotected_tree (entry_trees e.unprotected)
+  pub header : IsHeader e.protected.0.items (entry_trees e.header)
+  pub claims : AreClaimBytes e.payload.0.items e.claims
+
+-- the bytes are such a message under tag 18 (RFC 9052, section 4.2)
+pub record IsEnvelope (bs : List ℕ) (e : Envelope) : Type 0 where
+  pub tree : Tree
+  pub item : IsAllOf (taken_then (taken_with_tag taken_value) (under_tag 18)) bs tree
+  pub message : IsMessage tree e
+
+-- the tags around a message, the outer one first: none, that of a signed message, or that one under the tag of a token
+-- (RFC 8392, section 6)
+abbrev pub tags_of : Wrapping → Option ℕ × Option ℕ
+tags_of Bare = (None, None)
+tags_of Signed = (Some 18, None)
+tags_of Token = (Some 61, Some 18)
+
+-- the bytes are a message under these tags and no others
+pub record IsWrapped (bs : List ℕ) (w : Wrapping) (e : Envelope) : Type 0 where
+  pub tree : Tree
+  pub item : IsAllOf (taken_with_tag (taken_with_tag taken_value)) bs ((tags_of w).0, ((tags_of w).1, tree))
+  pub message : IsMessage tree e
+
+-- ---- what a signature signs
+
+-- the protected header in it: no bytes where the header is empty, however it was sent (RFC 9052, section 4.4)
+abbrev pub signed_header : List ℕ → List (Tree × Tree) → List ℕ
+signed_header bs [] = []
+signed_header bs (e ∷ es) = bs
+
+-- a Sig_structure: the context, the protected header, what the application adds, and the payload (RFC 9052, section
+-- 4.4)
+abbrev pub signed_item : List ℕ → List ℕ → List ℕ → Item
+signed_item protected external payload = item.array false (item.item (item.text false (codes "Signature1"))
+    (item.item (item.bytes false protected) (item.item (item.bytes false external)
+    (item.item (item.bytes false payload) item.no_items))))
+
+-- ---- what is printed
+
+abbrev pub wrapping_text : Wrapping → List ℕ
+wrapping_text Bare = codes "none"
+wrapping_text Signed = codes "18"
+wrapping_text Token = codes "61 over 18"
+
+abbrev pub part_text : Part → List ℕ
+part_text parts.Message = codes "the message"
+part_text parts.Unprotected = codes "the unprotected header"
+part_text parts.Header = codes "the protected header"
+part_text parts.Claims = codes "the claims"

@@ -1,0 +1,143 @@
+//! Signed messages of COSE (RFC 9052, section 4.2) that hold a CBOR Web Token (RFC 8392): what they
+//! say, and the bytes that their signature signs. Whether the signature is right is for a library
+//! of signatures to tell. A message whose payload is detached has no claims, and is refused.
+
+ghost use Rattle.std.specs.Prelude.{◌≡◌, IfErr, IfOk};
+ghost use Rattle.std.specs.Option.{option_copied, option_map};
+ghost use Rattle.ciborium.specs.Encoding.{written_bytes};
+ghost use Rattle.ciborium.specs.View.{tree_of};
+ghost use Rattle.ciborium_uses.specs.Envelopes.{IsEnvelope, IsMessage, IsOutside, IsWrapped};
+ghost use Rattle.ciborium_uses.specs.Envelopes.{entry_trees, signed_header, signed_item, value_at};
+ghost use Rattle.ciborium_uses.specs.declared.envelopes.Envelope.{Envelope};
+ghost use Rattle.ciborium_uses.specs.declared.envelopes.wrapping.Wrapping.{Wrapping};
+
+mod answer;
+mod claims;
+mod error;
+mod items;
+mod labels;
+mod message;
+mod wrapping;
+
+pub use answer::answer;
+use ciborium::tag::{Captured, Required};
+use ciborium::value::{ByteBuf, Value};
+use ciborium::{into_writer, ser};
+pub use claims::Claims;
+pub use error::{EnvelopeError, Part};
+use items::read_all;
+pub use labels::Labels;
+use labels::{labels_of, read_header, value_of};
+use std::alloc::Global;
+use std::io;
+pub use wrapping::Wrapping;
+
+/// A signed message whose payload is a set of claims.
+#[derive(Debug, Drop)]
+pub struct Envelope {
+    /// The bytes of the protected header, as they came.
+    pub protected: ByteBuf,
+    /// The unprotected header.
+    pub unprotected: Labels,
+    /// The bytes of the payload.
+    pub payload: ByteBuf,
+    /// The signature, of which nothing is tested here.
+    pub signature: ByteBuf,
+    /// What the protected header holds.
+    pub header: Labels,
+    /// What the payload holds.
+    pub claims: Claims,
+}
+
+/// Reads all of the bytes as an envelope, under its tag 18.
+///
+/// # Errors
+///
+/// `Read` where the bytes of a part do not begin with its item, `Trailing` where bytes follow that,
+/// `Shape` where the message is no array of four, `NotMap` and `Repeated` where a header or the
+/// claims are no map, or a label stands there twice, `Claim` where a claim has another type, and
+/// `Memory`.
+pub fn read_envelope(alloc: Global, bytes: &[u8]) -> Result<Envelope, EnvelopeError>
+    ensures ok { IfOk result (λ e. IsEnvelope bytes.now e) }
+    ensures refused { IfErr result (λ e. (v : Envelope) → IsEnvelope bytes.now v → IsOutside e) }
+{
+    let Required(message) = read_all::<Required<Value, 18>>(alloc, bytes, Part::Message)?;
+    open(alloc, message)
+}
+
+/// Reads all of the bytes as an envelope, and says which tags stand around it: none, 18, or 18
+/// under 61.
+///
+/// # Errors
+///
+/// Those of `read_envelope`, and `Tags` where other tags stand there.
+pub fn read_wrapped(alloc: Global, bytes: &[u8]) -> Result<(Wrapping, Envelope), EnvelopeError>
+    ensures ok { IfOk result (λ r. IsWrapped bytes.now r.0 r.1) }
+    ensures refused { IfErr result (λ e. (w : Wrapping) (v : Envelope) →
+        IsWrapped bytes.now w v → IsOutside e) }
+{
+    let Captured(outer, Captured(inner, message)) = read_all::<Captured<Captured<Value>>>(
+        alloc,
+        bytes,
+        Part::Message,
+    )?;
+    let Some(wrapping) = wrapping::wrapping_of(outer, inner) else {
+        return Err(EnvelopeError::Tags);
+    };
+    let envelope = open(alloc, message)?;
+    Ok((wrapping, envelope))
+}
+
+// Opens a message whose tags were read.
+fn open(alloc: Global, message: Value) -> Result<Envelope, EnvelopeError>
+    ensures ok { IfOk result (λ e. IsMessage (tree_of message) e) }
+    ensures refused { IfErr result
+        (λ e. (v : Envelope) → IsMessage (tree_of message) v → IsOutside e) }
+{
+    let Some(parts) = message::split(message) else {
+        return Err(EnvelopeError::Shape);
+    };
+    let unprotected = labels_of(alloc, &parts.unprotected, Part::Unprotected)?;
+    let header = read_header(alloc, &parts.protected)?;
+    let claims = claims::read_claims(alloc, &parts.payload)?;
+    Ok(Envelope {
+        protected: ByteBuf(parts.protected),
+        unprotected,
+        payload: ByteBuf(parts.payload),
+        signature: ByteBuf(parts.signature),
+        header,
+        claims,
+    })
+}
+
+/// The algorithm of the signature, as the protected header names it (RFC 9052, section 3.1).
+pub fn algorithm<'a>(envelope: &'a Envelope) -> Option<&'a Value>
+    ensures { option_map tree_of (option_copied result)
+        ≡ value_at 1 (entry_trees envelope.now.header) }
+{
+    value_of(&envelope.header, 1)
+}
+
+/// The bytes that the signature of an envelope signs, where the application adds these.
+pub fn signed_bytes(
+    alloc: Global,
+    envelope: &Envelope,
+    external: &ByteBuf,
+) -> Result<Vec<u8>, ser::Error<io::Error>>
+    ensures { IfOk result (λ bytes. bytes.items ≡ written_bytes (signed_item
+        (signed_header envelope.now.protected.0.items (entry_trees envelope.now.header))
+        external.now.0.items envelope.now.payload.0.items)) }
+{
+    let none = ByteBuf(Vec::new(alloc));
+    let header = if envelope.header.is_empty() {
+        &none
+    } else {
+        &envelope.protected
+    };
+    let mut bytes = Vec::new(alloc);
+    into_writer(
+        &("Signature1", header, external, &envelope.payload),
+        &mut bytes,
+    )?;
+    Ok(bytes)
+}
