@@ -1,5 +1,5 @@
 // libcbor ROUNDS FILE: reads, writes and drops a document with libcbor, and prints the best of so many rounds, in
-// nanoseconds.
+// nanoseconds. In 0 rounds the document is read once, for its memory.
 #include <cbor.h>
 #include <stdio.h>
 #include <stdlib.h>
@@ -31,6 +31,10 @@ int main(int argc, char **argv) {
     unsigned char *bytes = malloc(size);
     if (bytes == NULL || fread(bytes, 1, size, file) != size) {
         return 1;
+    }
+    if (atoi(argv[1]) == 0) {
+        struct cbor_load_result result;
+        return cbor_load(bytes, size, &result) == NULL;
     }
     long long read = 1LL << 60, write = read, gone = read;
     for (int round = 0; round < atoi(argv[1]); round++) {

@@ -23,7 +23,7 @@ mod tags;
 use byte_source::ByteSource;
 use ciborium_ll::{Decoder, Header};
 pub use ciborium_value::{
-    Deserialize, Key, NoField, Source, Wanted, WantedFields, read_fields, required,
+    Deserialize, Key, Kind, NoField, Source, Wanted, WantedFields, read_fields, required,
 };
 pub use deterministic::{from_reader_deterministic, from_reader_deterministic_with_order};
 pub use error::Error;

@@ -12,12 +12,14 @@ use crate::round_trips::bytes_of_both;
 use crate::sequence_callers::{read_both, write_both};
 use crate::struct_types::Reply;
 use crate::tag_types::bytes_under_a_tag;
+use crate::variant_types::Remark;
 use ciborium::laws::{
     equal_contents_equal_bytes, read_back_is_written_again, sources_agree, written_is_read_back,
 };
 use ciborium::ser::Serialize;
 use ciborium::tag::{Accepted, Captured, Required};
 use ciborium::value::{CanonicalValue, Value};
+use ciborium::{from_reader, into_writer};
 use std::alloc::Global;
 use std::collections::BTreeMap;
 use std::test::Fail;
@@ -257,4 +259,20 @@ fn a_writer_keeps_what_it_holds(rt: HostRuntime) -> Result<(), Fail> {
 // Writes a value behind these bytes.
 fn put(value: Value, bytes: &mut Vec<u8>) -> Result<(), Fail> {
     Ok(write_value(&value, bytes)?)
+}
+
+// Remarks without and with a text: "Silent", {"Spoken": "a"}.
+const REMARKS: [&str; 2] = ["6653696c656e74", "a16653706f6b656e6161"];
+
+#[test]
+fn remarks(rt: HostRuntime) -> Result<(), Fail> {
+    for text in REMARKS {
+        let bytes = hex::decode(rt.alloc(), text)?;
+        let mut reader: &[u8] = &bytes;
+        let remark: Remark = from_reader(rt.alloc(), &mut reader)?;
+        let mut written = Vec::new(rt.alloc());
+        into_writer(&remark, &mut written)?;
+        expect(written.as_slice() == bytes.as_slice(), text)?;
+    }
+    Ok(())
 }

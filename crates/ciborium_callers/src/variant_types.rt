@@ -1,5 +1,6 @@
 //! Enums that are written and read by the names of their variants.
-ghost use Rattle.std.specs.Prelude.{◌∷◌, ◌<◌, ◌^◌, Ok, [], codes, pos, refl};
+ghost use Rattle.std.specs.Prelude.{◌∷◌, ◌<◌, ◌^◌, List, None, Ok, Option, Some, [], codes, pos};
+ghost use Rattle.std.specs.Prelude.{refl, string_bytes, ℕ};
 ghost use Rattle.ciborium.specs.Places.{sequence};
 ghost use Rattle.ciborium.specs.Readings.{below, tuple2_of};
 ghost use Rattle.ciborium.specs.lemmas.ReadsBackNumbers.{u8_back};
@@ -13,6 +14,8 @@ ghost use Rattle.ciborium_callers.specs.declared.variant_types.Form.{Form};
 ghost use Rattle.ciborium_callers.specs.declared.variant_types.Form.TheVariants as form;
 ghost use Rattle.ciborium_callers.specs.declared.variant_types.Letter.{Letter};
 ghost use Rattle.ciborium_callers.specs.declared.variant_types.Letter.TheVariants.{A, B};
+ghost use Rattle.ciborium_callers.specs.declared.variant_types.Remark.TheVariants.{Silent};
+ghost use Rattle.ciborium_callers.specs.declared.variant_types.Remark.TheVariants.{Spoken};
 
 use crate::struct_types::Ends;
 use ciborium::de::{Deserialize, Source};
@@ -77,6 +80,52 @@ impl ReadsBack for Letter {
           | B n ↦ λ held. data_variant_back variants (codes "B") B (below 256)
               (λ l i. refl) (u8_back n held)
         ] };
+}
+
+/// A remark, of which the text counts by its bytes.
+#[derive(Debug, Drop, PartialEq)]
+pub enum Remark {
+    Silent,
+    Spoken(String),
+}
+
+impl Serialize for Remark {
+    ghost written = { elim [
+      | Silent ↦ named_text (codes "Silent")
+      | Spoken s ↦ fields_of ((codes "Spoken", named_text (string_bytes s)) ∷ [])
+    ] };
+
+    ghost takes_memory = { ⊥ };
+
+    fn serialize<S: Sink>(&self, sink: &mut S) -> Result<(), S::Error> {
+        match self {
+            Remark::Silent => "Silent".serialize(sink),
+            Remark::Spoken(text) => Field("Spoken", text, NoField).serialize(sink),
+        }
+    }
+}
+
+impl Deserialize for Remark {
+    ghost Content = { Option (List ℕ) };
+
+    ghost reading = { enum_of (elim [ Silent ↦ None | Spoken s ↦ Some (string_bytes s) ])
+        (unit_variant (codes "Silent") None
+        ∷ data_variant (codes "Spoken") Some ⟦<String as Deserialize>⟧.reading ∷ []) };
+
+    fn deserialize<S: Source>(alloc: Global, source: &mut S) -> Result<Remark, S::Error> {
+        let (name, level) = source.begin_variant(alloc)?;
+        if name.as_str() == "Silent" {
+            source.unit()?;
+            source.end_variant(level);
+            return Ok(Remark::Silent);
+        }
+        if name.as_str() == "Spoken" {
+            let text = String::deserialize(alloc, source)?;
+            source.end_variant(level);
+            return Ok(Remark::Spoken(text));
+        }
+        Err(source.refuse(Kind::Variant))
+    }
 }
 
 /// A variant of each form: without data, over a value, over a tuple and over fields.
