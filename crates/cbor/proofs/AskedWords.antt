@@ -1,5 +1,7 @@
 -- What words ask for is one thing.
-use Rattle.std.proofs.Common.{◌≡◌, ◌≢◌, ℕ, ◌<◌, ◌≤◌, ◌-◌, ◌==◌, Bool, true, false, List, [], ◌∷◌, get_or, map, sum, length, take, drop, if◌then◌else◌, codes, Option, Some, None, IsSome, MatchOption, refl, sym, subst, ◌∙◌, ap, ap₂, arith}
+use Rattle.std.proofs.Common.{◌≡◌, ◌≢◌, ℕ, ◌<◌, ◌≤◌, ◌-◌, ◌==◌, Bool, true, false, List, [], ◌∷◌, get_or, map, sum}
+use Rattle.std.proofs.Common.{length, take, drop, if◌then◌else◌, codes, Option, Some, None, IsSome, MatchOption, refl}
+use Rattle.std.proofs.Common.{sym, subst, ◌∙◌, ap, ap₂, arith}
 use Rattle.std.proofs.lemmas.List.{take_all}
 use Rattle.std.specs.Bool.{MatchBool}
 use Rattle.std.specs.Char.{digit_value}
@@ -35,12 +37,15 @@ one-limit (limit ∷ []) m n p q = p.1 ∙ sym q.1
 one-limit (first ∷ (second ∷ others)) m n p q = absurd p
 
 -- words begin with the same names before a limit
-one-prefix : (f g words : List (List ℕ)) (m n : ℕ) → AreNames f → AreNames g → NameLimitBehind f words m → NameLimitBehind g words n → (f ≡ g) × (m ≡ n)
+one-prefix : (f g words : List (List ℕ)) (m n : ℕ) → AreNames f → AreNames g → NameLimitBehind f words m →
+    NameLimitBehind g words n → (f ≡ g) × (m ≡ n)
 one-prefix [] [] words m n a b p q = (refl, one-limit words m n p q)
 one-prefix [] (g ∷ gs) [] m n a b p q = absurd q
-one-prefix [] (g ∷ gs) (w ∷ ws) m n a b p q = absurd (no-limit g ws m b.0 (subst (λ (v : List ℕ). NameLimit (v ∷ ws) m) q.0 p))
+one-prefix [] (g ∷ gs) (w ∷ ws) m n a b p q = absurd (no-limit g ws m b.0
+    (subst (λ (v : List ℕ). NameLimit (v ∷ ws) m) q.0 p))
 one-prefix (f ∷ fs) [] [] m n a b p q = absurd p
-one-prefix (f ∷ fs) [] (w ∷ ws) m n a b p q = absurd (no-limit f ws n a.0 (subst (λ (v : List ℕ). NameLimit (v ∷ ws) n) p.0 q))
+one-prefix (f ∷ fs) [] (w ∷ ws) m n a b p q = absurd (no-limit f ws n a.0
+    (subst (λ (v : List ℕ). NameLimit (v ∷ ws) n) p.0 q))
 one-prefix (f ∷ fs) (g ∷ gs) [] m n a b p q = absurd p
 one-prefix (f ∷ fs) (g ∷ gs) (w ∷ ws) m n a b p q =
     let rest = one-prefix fs gs ws m n a.1 b.1 p.1 q.1 in
@@ -59,28 +64,36 @@ or-default (Some n) = n
 limit_of : Command → ℕ
 limit_of command = or-default (command_limit command)
 
-named : (words : List (List ℕ)) (command : Command) → AskFor words command → NameLimitBehind (command_words command) words (limit_of command)
+named : (words : List (List ℕ)) (command : Command) → AskFor words command →
+    NameLimitBehind (command_words command) words (limit_of command)
 unfolding limit_of or-default
 named words (Answer (readings.Item Any n)) asked = asked
 named words (Answer (readings.Item (Deterministic LengthFirst) n)) asked = asked
 named words (Answer (readings.Item (Deterministic Bytewise) n)) asked = asked
-named words (Answer readings.Sequence) asked = subst (λ (ws : List (List ℕ)). NameLimitBehind (command_words (Answer readings.Sequence)) ws 256) (sym asked) (no-others (command_words (Answer readings.Sequence)))
+named words (Answer readings.Sequence) asked = subst (λ (ws : List (List ℕ)). NameLimitBehind
+    (command_words (Answer readings.Sequence)) ws 256) (sym asked)
+    (no-others (command_words (Answer readings.Sequence)))
 named words (Answer (readings.Form LengthFirst n)) asked = asked
 named words (Answer (readings.Form Bytewise n)) asked = asked
 named words (Answer (readings.Notation OneLine n)) asked = asked
 named words (Answer (readings.Notation Indented n)) asked = asked
-named words (Sort LengthFirst) asked = subst (λ (ws : List (List ℕ)). NameLimitBehind (command_words (Sort LengthFirst)) ws 256) (sym asked) (no-others (command_words (Sort LengthFirst)))
-named words (Sort Bytewise) asked = subst (λ (ws : List (List ℕ)). NameLimitBehind (command_words (Sort Bytewise)) ws 256) (sym asked) (no-others (command_words (Sort Bytewise)))
+named words (Sort LengthFirst) asked = subst (λ (ws : List (List ℕ)). NameLimitBehind (command_words (Sort LengthFirst))
+    ws 256) (sym asked) (no-others (command_words (Sort LengthFirst)))
+named words (Sort Bytewise) asked = subst (λ (ws : List (List ℕ)). NameLimitBehind (command_words (Sort Bytewise)) ws
+    256) (sym asked) (no-others (command_words (Sort Bytewise)))
 named words (Show showings.Encoding n) asked = asked
 named words (Show (showings.Notation OneLine) n) asked = asked
 named words (Show (showings.Notation Indented) n) asked = asked
-named words (Tell Help) asked = subst (λ (ws : List (List ℕ)). NameLimitBehind (command_words (Tell Help)) ws 256) (sym asked) (no-others (command_words (Tell Help)))
-named words (Tell Version) asked = subst (λ (ws : List (List ℕ)). NameLimitBehind (command_words (Tell Version)) ws 256) (sym asked) (no-others (command_words (Tell Version)))
+named words (Tell Help) asked = subst (λ (ws : List (List ℕ)). NameLimitBehind (command_words (Tell Help)) ws 256)
+    (sym asked) (no-others (command_words (Tell Help)))
+named words (Tell Version) asked = subst (λ (ws : List (List ℕ)). NameLimitBehind (command_words (Tell Version)) ws 256)
+    (sym asked) (no-others (command_words (Tell Version)))
 
 are-names : (command : Command) → AreNames (command_words command)
 are-names (Answer (readings.Item Any n)) = (λ h. omega (arith, h), tt)
 are-names (Answer (readings.Item (Deterministic LengthFirst) n)) = (λ h. omega (arith, h), (λ h. omega (arith, h), tt))
-are-names (Answer (readings.Item (Deterministic Bytewise) n)) = (λ h. omega (arith, h), (λ h. omega (arith, h), (λ h. omega (arith, h), tt)))
+are-names (Answer (readings.Item (Deterministic Bytewise) n)) =
+    (λ h. omega (arith, h), (λ h. omega (arith, h), (λ h. omega (arith, h), tt)))
 are-names (Answer readings.Sequence) = (λ h. omega (arith, h), tt)
 are-names (Answer (readings.Form LengthFirst n)) = (λ h. omega (arith, h), tt)
 are-names (Answer (readings.Form Bytewise n)) = (λ h. omega (arith, h), (λ h. omega (arith, h), tt))
@@ -90,7 +103,10 @@ are-names (Sort LengthFirst) = (λ h. omega (arith, h), tt)
 are-names (Sort Bytewise) = (λ h. omega (arith, h), (λ h. omega (arith, h), tt))
 are-names (Show showings.Encoding n) = (λ h. omega (arith, h), (λ h. omega (arith, h), tt))
 are-names (Show (showings.Notation OneLine) n) = (λ h. omega (arith, h), (λ h. omega (arith, h), tt))
-are-names (Show (showings.Notation Indented) n) = (λ h. omega (arith, h), (λ h. omega (arith, h), (λ h. omega (arith, h), tt)))
+are-names (Show (showings.Notation Indented) n) = (
+  λ h. omega (arith, h),
+  (λ h. omega (arith, h), (λ h. omega (arith, h), tt)),
+)
 are-names (Tell Help) = (λ h. omega (arith, h), tt)
 are-names (Tell Version) = (λ h. omega (arith, h), tt)
 
@@ -137,7 +153,8 @@ told-apart (Tell Version) = refl
 -- what words ask for is one command
 pub asks-for-one : (words : List (List ℕ)) (c d : Command) → AskFor words c → AskFor words d → c ≡ d
 asks-for-one words c d p q =
-    let same = one-prefix (command_words c) (command_words d) words (limit_of c) (limit_of d) (are-names c) (are-names d) (named words c p) (named words d q) in
+    let same = one-prefix (command_words c) (command_words d) words (limit_of c) (limit_of d) (are-names c)
+    (are-names d) (named words c p) (named words d q) in
     sym (told-apart c) ∙ (ap₂ (λ (ws : List (List ℕ)) (n : ℕ). command-of (letters ws) n) same.0 same.1 ∙ told-apart d)
 
 -- ---- words ask for nothing
@@ -153,30 +170,38 @@ abbrev pub behind : {S : Type 0} → List S → List S
 behind words = take (length words - 1) (drop 1 words)
 
 -- the texts of words, the first of which is this one
-first-word : {S : Type 0} (text : S → List ℕ) (words : List S) (word : S) (name : List ℕ) → 1 ≤ length words → word ≡ get_or words 0 word →
+first-word : {S : Type 0} (text : S → List ℕ) (words : List S) (word : S) (name : List ℕ) → 1 ≤ length words →
+    word ≡ get_or words 0 word →
     text word ≡ name → map text words ≡ name ∷ map text (behind words)
 first-word text [] word name least e is = absurd (omega arith)
 first-word text (w ∷ ws) word name least e is =
     let rest : behind (w ∷ ws) ≡ ws = take_all (length (w ∷ ws) - 1) ws (omega arith) in
     rw rest (ap (λ (t : List ℕ). t ∷ map text ws) (ap text (sym e) ∙ is))
 
-same-first : {T : Type 0} (names : List T) (name : T) → 1 ≤ length names → get_or names 0 name ≡ get_or names 0 (get_or names 0 name)
+same-first : {T : Type 0} (names : List T) (name : T) → 1 ≤ length names →
+    get_or names 0 name ≡ get_or names 0 (get_or names 0 name)
 same-first [] name more = absurd (omega arith)
 same-first (n ∷ ns) name more = refl
 
 -- two lists of words begin with one name
-pub first-words : {S T : Type 0} (f : S → List ℕ) (g : T → List ℕ) (words : List S) (names : List T) (word : S) (name : T) → 1 ≤ length words →
+pub first-words : {S T : Type 0} (f : S → List ℕ) (g : T → List ℕ) (words : List S) (names : List T) (word : S)
+    (name : T) → 1 ≤ length words →
     1 ≤ length names → word ≡ get_or words 0 word → f word ≡ g (get_or names 0 name) →
-    (map f words ≡ g (get_or names 0 name) ∷ map f (behind words)) × (map g names ≡ g (get_or names 0 name) ∷ map g (behind names))
-first-words f g words names word name some more e is =
-    (first-word f words word (g (get_or names 0 name)) some e is, first-word g names (get_or names 0 name) (g (get_or names 0 name)) more (same-first names name more) refl)
+    (map f words ≡ g (get_or names 0 name) ∷ map f (behind words)) ×
+    (map g names ≡ g (get_or names 0 name) ∷ map g (behind names))
+first-words f g words names word name some more e is = (
+  first-word f words word (g (get_or names 0 name)) some e is,
+  first-word g names (get_or names 0 name) (g (get_or names 0 name)) more (same-first names name more) refl,
+)
 
-pub same-words : (r : Bool) (name : List ℕ) (xs ys us vs : List (List ℕ)) → (us ≡ name ∷ xs) × (vs ≡ name ∷ ys) → MatchBool r (xs ≡ ys) (xs ≢ ys) →
+pub same-words : (r : Bool) (name : List ℕ) (xs ys us vs : List (List ℕ)) → (us ≡ name ∷ xs) × (vs ≡ name ∷ ys) →
+    MatchBool r (xs ≡ ys) (xs ≢ ys) →
     MatchBool r (us ≡ vs) (us ≢ vs)
 same-words true name xs ys us vs (a, b) h = a ∙ (ap (λ (zs : List (List ℕ)). name ∷ zs) h ∙ sym b)
 same-words false name xs ys us vs (a, b) h = λ e. let same : name ∷ xs ≡ name ∷ ys = sym a ∙ (e ∙ b) in h cc
 
 pub same-limit : (r : Option ℕ) (name : List ℕ) (xs ys us vs : List (List ℕ)) → (us ≡ name ∷ xs) × (vs ≡ name ∷ ys) →
-    MatchOption r (NameNone ys xs) (λ n. NameLimitBehind ys xs n) → MatchOption r (NameNone vs us) (λ n. NameLimitBehind vs us n)
+    MatchOption r (NameNone ys xs) (λ n. NameLimitBehind ys xs n) →
+    MatchOption r (NameNone vs us) (λ n. NameLimitBehind vs us n)
 same-limit None name xs ys us vs (a, b) h = rw (a, b) (λ n asked. h n asked.1)
 same-limit (Some n) name xs ys us vs (a, b) h = rw (a, b) (refl, h)

@@ -14,13 +14,18 @@ use Rattle.cbor.specs.Shown.{IsNotationAnswer, unshown}
 use Rattle.cbor.proofs.JudgedAnswers.{not-memory}
 
 -- the word for why a tree has no form answers a line that means it
-pub formless-answers : (order : KeyOrder) (line : List ℕ) (limit : ℕ) (v : Tree) (k : Kind) (text : List ℕ) → IsMeant Any line limit v →
-    deterministic_form order v ≡ refuses k → (k ≡ DuplicateKey) ⊎ (k ≡ TooLarge) → text ≡ formless_text k → IsFormAnswer order line limit text
-formless-answers order line limit v k text means none (inl e) same = duplicate v means (none ∙ ap refuses e) (same ∙ ap formless_text e)
-formless-answers order line limit v k text means none (inr e) same = too_large v means (none ∙ ap refuses e) (same ∙ ap formless_text e)
+pub formless-answers : (order : KeyOrder) (line : List ℕ) (limit : ℕ) (v : Tree) (k : Kind) (text : List ℕ) →
+    IsMeant Any line limit v →
+    deterministic_form order v ≡ refuses k → (k ≡ DuplicateKey) ⊎ (k ≡ TooLarge) → text ≡ formless_text k →
+    IsFormAnswer order line limit text
+formless-answers order line limit v k text means none (inl e) same =
+    duplicate v means (none ∙ ap refuses e) (same ∙ ap formless_text e)
+formless-answers order line limit v k text means none (inr e) same =
+    too_large v means (none ∙ ap refuses e) (same ∙ ap formless_text e)
 
 -- the text that tells why a line is refused answers it
-pub no-item-answers : (order : KeyOrder) (line : List ℕ) (limit : ℕ) (text : List ℕ) → TellsRefusal Any line limit text →
+pub no-item-answers : (order : KeyOrder) (line : List ℕ) (limit : ℕ) (text : List ℕ) →
+    TellsRefusal Any line limit text →
     IsFormAnswer order line limit text
 no-item-answers order line limit text (e, h, m, same) = no_item e (not-memory e m) h same
 

@@ -1,5 +1,6 @@
 -- One more item of a sequence is read, and its hex is put behind the text.
-use Rattle.std.proofs.Common.{◌≡◌, ℕ, ◌+◌, List, [], ◌∷◌, ◌++◌, length, false, ◌==◌, refl, sym, subst, ap, ◌∙◌, arith, length-append, append-nil, codes}
+use Rattle.std.proofs.Common.{◌≡◌, ℕ, ◌+◌, List, [], ◌∷◌, ◌++◌, length, false, ◌==◌, refl, sym, subst, ap, ◌∙◌, arith}
+use Rattle.std.proofs.Common.{length-append, append-nil, codes}
 use Rattle.std.proofs.lemmas.List.{flat_map_more}
 use Rattle.std.proofs.lemmas.Bool.Decides.{nat_tests}
 use Rattle.ciborium_value.specs.Tree.{Tree}
@@ -12,29 +13,41 @@ use Rattle.cbor.proofs.JudgedAnswers.{item-refused}
 
 -- of b the rest is left: the items before it mean some trees, their hex is the text, and the next item has this number
 abbrev pub IsSoFar : List ℕ → List ℕ → List ℕ → ℕ → Type 0
-IsSoFar b rest text number = (trees : List Tree) × AreItemsBefore b 256 trees rest × (text ≡ sequence_text trees) × (number ≡ length trees + 1)
+IsSoFar b rest text number = (trees : List Tree) × AreItemsBefore b 256 trees rest × (text ≡ sequence_text trees) ×
+    (number ≡ length trees + 1)
 
 -- one more item stands at the front of what was left
-pub one-more-before : (limit : ℕ) (trees : List Tree) (b rest left : List ℕ) (v : Tree) → AreItemsBefore b limit trees rest → HasItemBefore Any rest limit v left →
+pub one-more-before : (limit : ℕ) (trees : List Tree) (b rest left : List ℕ) (v : Tree) →
+    AreItemsBefore b limit trees rest → HasItemBefore Any rest limit v left →
     AreItemsBefore b limit (trees ++ (v ∷ [])) left
-one-more-before limit [] b rest left v e item = (left, subst (λ (xs : List ℕ). HasItemBefore Any xs limit v left) (sym e) item, refl)
-one-more-before limit (t ∷ ts) b rest left v (next, first, others) item = (next, first, one-more-before limit ts next rest left v others item)
+one-more-before limit [] b rest left v e item = (
+  left,
+  subst (λ (xs : List ℕ). HasItemBefore Any xs limit v left) (sym e) item,
+  refl,
+)
+one-more-before limit (t ∷ ts) b rest left v (next, first, others) item =
+    (next, first, one-more-before limit ts next rest left v others item)
 
-pub one-more-item : (b rest left text longer : List ℕ) (number : ℕ) (v : Tree) → IsSoFar b rest text number → HasItemBefore Any rest 256 v left →
+pub one-more-item : (b rest left text longer : List ℕ) (number : ℕ) (v : Tree) → IsSoFar b rest text number →
+    HasItemBefore Any rest 256 v left →
     longer ≡ text ++ item_text v → IsSoFar b left longer (number + 1)
 one-more-item b rest left text longer number v (trees, a, same, count) item e = (
   trees ++ (v ∷ []),
   one-more-before 256 trees b rest left v a item,
   e ∙ (ap (λ (t : List ℕ). t ++ item_text v) same ∙ flat_map_more item_text (codes "ok") trees v),
-  (let more : length (trees ++ (v ∷ [])) ≡ length trees + 1 = length-append trees (v ∷ []) in omega (arith, more, count)),
+  (let more : length (trees ++ (v ∷ [])) ≡ length trees + 1 = length-append trees (v ∷ []) in
+      omega (arith, more, count)),
 )
 
 -- the text of all items answers the bytes
-pub all-items : (b rest text : List ℕ) (number : ℕ) → IsSoFar b rest text number → rest ≡ [] → HasSequenceAnswer b 256 text
-all-items b rest text number (trees, a, same, count) none = whole trees (subst (λ (r : List ℕ). AreItemsBefore b 256 trees r) none a) same
+pub all-items : (b rest text : List ℕ) (number : ℕ) → IsSoFar b rest text number → rest ≡ [] →
+    HasSequenceAnswer b 256 text
+all-items b rest text number (trees, a, same, count) none =
+    whole trees (subst (λ (r : List ℕ). AreItemsBefore b 256 trees r) none a) same
 
 -- and so does that of the first that is refused
-pub first-refused : (b rest text answer : List ℕ) (number : ℕ) (e : Refusal) → IsSoFar b rest text number → false ≡ (length rest == 0) → IsFrontRefused Any rest 256 e →
+pub first-refused : (b rest text answer : List ℕ) (number : ℕ) (e : Refusal) → IsSoFar b rest text number →
+    false ≡ (length rest == 0) → IsFrontRefused Any rest 256 e →
     (wants_memory e ≡ false) × (answer ≡ refused_item_text number (refused_text e)) → HasSequenceAnswer b 256 answer
 first-refused b rest text answer number e (trees, a, same, count) more h is =
     item-refused b trees rest number e answer a (let some = sym more in grind (arith, nat_tests)) count h is

@@ -1,5 +1,6 @@
 -- Each line has one answer.
-use Rattle.std.proofs.Common.{◌≡◌, ℕ, ◌<◌, List, [], ◌∷◌, length, inl, inr, Result, Ok, Err, MatchResult, refl, sym, ap, ◌∙◌, subst, arith, append-nil}
+use Rattle.std.proofs.Common.{◌≡◌, ℕ, ◌<◌, List, [], ◌∷◌, length, inl, inr, Result, Ok, Err, MatchResult, refl, sym, ap}
+use Rattle.std.proofs.Common.{◌∙◌, subst, arith, append-nil}
 use Rattle.std.proofs.lemmas.List.Elements.{All-from_get_or}
 use Rattle.hex.specs.Hex.{decode_of}
 use Rattle.hex.specs.declared.error.FromHexError.{FromHexError}
@@ -17,19 +18,28 @@ pub decoded-bytes : (line b : List ℕ) → decode_of line ≡ Ok b → AreBytes
 decoded-bytes line b e = All-from_get_or (λ x. x < 256) b 0 (λ i h. (decode_of-ok line b e).3 i)
 
 -- an item is at the front
-begun : (spelling : Spelling) (b : List ℕ) (limit : ℕ) → HasItem spelling b limit → (answer : List ℕ) × HasAnswer spelling b limit answer
+begun : (spelling : Spelling) (b : List ℕ) (limit : ℕ) → HasItem spelling b limit → (answer : List ℕ) ×
+    HasAnswer spelling b limit answer
 begun spelling b limit (v, [], (s, item, e)) =
-    let all : b ≡ s = e ∙ append-nil s in (tree_text v, good v (subst (λ (xs : List ℕ). IsItem spelling xs limit v) (sym all) item) refl)
-begun spelling b limit (v, (x ∷ left), before) = (trailing_text (length (x ∷ left)), trailing v (x ∷ left) before (omega arith) refl)
+    let all : b ≡ s = e ∙ append-nil s in (
+      tree_text v,
+      good v (subst (λ (xs : List ℕ). IsItem spelling xs limit v) (sym all) item) refl,
+    )
+begun spelling b limit (v, (x ∷ left), before) = (
+  trailing_text (length (x ∷ left)),
+  trailing v (x ∷ left) before (omega arith) refl,
+)
 
-bytes-answered : DeterministicLaw → (spelling : Spelling) (b : List ℕ) (limit : ℕ) → AreBytes b → (answer : List ℕ) × HasAnswer spelling b limit answer
+bytes-answered : DeterministicLaw → (spelling : Spelling) (b : List ℕ) (limit : ℕ) → AreBytes b → (answer : List ℕ) ×
+    HasAnswer spelling b limit answer
 bytes-answered law spelling b limit h =
     elim (item-or-refused law spelling b limit h) [
       | inl g ↦ begun spelling b limit g
       | inr r ↦ (refusal_text r.0, refused r.0 r.1 refl)
     ]
 
-answered-by : DeterministicLaw → (spelling : Spelling) (d : Result (List ℕ) FromHexError) (limit : ℕ) → ((b : List ℕ) → d ≡ Ok b → AreBytes b) →
+answered-by : DeterministicLaw → (spelling : Spelling) (d : Result (List ℕ) FromHexError) (limit : ℕ) →
+    ((b : List ℕ) → d ≡ Ok b → AreBytes b) →
     (answer : List ℕ) × MatchResult d (λ b. HasAnswer spelling b limit answer) (λ _. answer ≡ hex_text)
 answered-by law spelling (Ok b) limit h = bytes-answered law spelling b limit (h b refl)
 answered-by law spelling (Err e) limit h = (hex_text, refl)
@@ -42,7 +52,8 @@ whole : (spelling : Spelling) (b : List ℕ) (limit : ℕ) (v : Tree) → IsItem
 whole spelling b limit v item = (v, [], (b, item, sym (append-nil b)))
 
 -- nothing stands behind all of b
-none-behind : DeterministicLaw → (spelling : Spelling) (b left : List ℕ) (limit : ℕ) (v w : Tree) → IsItem spelling b limit v →
+none-behind : DeterministicLaw → (spelling : Spelling) (b left : List ℕ) (limit : ℕ) (v w : Tree) →
+    IsItem spelling b limit v →
     HasItemBefore spelling b limit w left → 0 < length left → ⊥
 none-behind law spelling b left limit v w item (s, other, e) more =
     let same = one-tree law spelling b s [] left limit v w item other (append-nil b ∙ e) in
@@ -50,27 +61,40 @@ none-behind law spelling b left limit v w item (s, other, e) more =
     omega arith
 
 -- what stands behind an item
-one-rest : DeterministicLaw → (spelling : Spelling) (b x y : List ℕ) (limit : ℕ) (v w : Tree) → HasItemBefore spelling b limit v x →
+one-rest : DeterministicLaw → (spelling : Spelling) (b x y : List ℕ) (limit : ℕ) (v w : Tree) →
+    HasItemBefore spelling b limit v x →
     HasItemBefore spelling b limit w y → x ≡ y
 one-rest law spelling b x y limit v w (s, p, e) (t, q, f) = (one-tree law spelling s t x y limit v w p q (sym e ∙ f)).1
 
-one-of-bytes : DeterministicLaw → (spelling : Spelling) (b : List ℕ) (limit : ℕ) (x y : List ℕ) → AreBytes b → HasAnswer spelling b limit x →
+one-of-bytes : DeterministicLaw → (spelling : Spelling) (b : List ℕ) (limit : ℕ) (x y : List ℕ) → AreBytes b →
+    HasAnswer spelling b limit x →
     HasAnswer spelling b limit y → x ≡ y
-one-of-bytes law spelling b limit x y h (good v p e) (good w q f) = e ∙ (ap tree_text (one-tree law spelling b b [] [] limit v w p q refl).0 ∙ sym f)
-one-of-bytes law spelling b limit x y h (good v p e) (trailing w left q more f) = absurd (none-behind law spelling b left limit v w p q more)
-one-of-bytes law spelling b limit x y h (good v p e) (refused u ref f) = absurd (not-both law spelling b limit u h (whole spelling b limit v p) ref)
-one-of-bytes law spelling b limit x y h (trailing v left p more e) (good w q f) = absurd (none-behind law spelling b left limit w v q p more)
+one-of-bytes law spelling b limit x y h (good v p e) (good w q f) = e ∙
+    (ap tree_text (one-tree law spelling b b [] [] limit v w p q refl).0 ∙ sym f)
+one-of-bytes law spelling b limit x y h (good v p e) (trailing w left q more f) =
+    absurd (none-behind law spelling b left limit v w p q more)
+one-of-bytes law spelling b limit x y h (good v p e) (refused u ref f) =
+    absurd (not-both law spelling b limit u h (whole spelling b limit v p) ref)
+one-of-bytes law spelling b limit x y h (trailing v left p more e) (good w q f) =
+    absurd (none-behind law spelling b left limit w v q p more)
 one-of-bytes law spelling b limit x y h (trailing v left p more e) (trailing w rest q also f) =
     e ∙ (ap (λ (z : List ℕ). trailing_text (length z)) (one-rest law spelling b left rest limit v w p q) ∙ sym f)
-one-of-bytes law spelling b limit x y h (trailing v left p more e) (refused u ref f) = absurd (not-both law spelling b limit u h (v, left, p) ref)
-one-of-bytes law spelling b limit x y h (refused t ref e) (good w q f) = absurd (not-both law spelling b limit t h (whole spelling b limit w q) ref)
-one-of-bytes law spelling b limit x y h (refused t ref e) (trailing w left q more f) = absurd (not-both law spelling b limit t h (w, left, q) ref)
-one-of-bytes law spelling b limit x y h (refused t ref e) (refused u fer f) = e ∙ (ap refusal_text (one-refusal law spelling b limit t u h ref fer) ∙ sym f)
+one-of-bytes law spelling b limit x y h (trailing v left p more e) (refused u ref f) =
+    absurd (not-both law spelling b limit u h (v, left, p) ref)
+one-of-bytes law spelling b limit x y h (refused t ref e) (good w q f) =
+    absurd (not-both law spelling b limit t h (whole spelling b limit w q) ref)
+one-of-bytes law spelling b limit x y h (refused t ref e) (trailing w left q more f) =
+    absurd (not-both law spelling b limit t h (w, left, q) ref)
+one-of-bytes law spelling b limit x y h (refused t ref e) (refused u fer f) = e ∙
+    (ap refusal_text (one-refusal law spelling b limit t u h ref fer) ∙ sym f)
 
-one-by : DeterministicLaw → (spelling : Spelling) (d : Result (List ℕ) FromHexError) (limit : ℕ) (x y : List ℕ) → ((b : List ℕ) → d ≡ Ok b → AreBytes b) →
-    MatchResult d (λ b. HasAnswer spelling b limit x) (λ _. x ≡ hex_text) → MatchResult d (λ b. HasAnswer spelling b limit y) (λ _. y ≡ hex_text) → x ≡ y
+one-by : DeterministicLaw → (spelling : Spelling) (d : Result (List ℕ) FromHexError) (limit : ℕ) (x y : List ℕ) →
+    ((b : List ℕ) → d ≡ Ok b → AreBytes b) →
+    MatchResult d (λ b. HasAnswer spelling b limit x) (λ _. x ≡ hex_text) →
+    MatchResult d (λ b. HasAnswer spelling b limit y) (λ _. y ≡ hex_text) → x ≡ y
 one-by law spelling (Ok b) limit x y h p q = one-of-bytes law spelling b limit x y (h b refl) p q
 one-by law spelling (Err e) limit x y h p q = p ∙ sym q
 
 pub one_answer : DeterministicLaw → OneAnswerToLine
-one_answer law spelling line limit a b p q = one-by law spelling (decode_of line) limit a b (λ s e. decoded-bytes line s e) p q
+one_answer law spelling line limit a b p q = one-by law spelling (decode_of line) limit a b
+    (λ s e. decoded-bytes line s e) p q

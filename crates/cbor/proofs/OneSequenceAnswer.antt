@@ -1,5 +1,6 @@
 -- Each line that is read as a sequence has one answer.
-use Rattle.std.proofs.Common.{◌≡◌, ℕ, zero, suc, ◌+◌, ◌<◌, ◌≤◌, ◌⊎◌, List, [], ◌∷◌, ◌++◌, length, inl, inr, Result, Ok, Err, MatchResult, refl, sym, ap, ◌∙◌, subst, arith, length-append}
+use Rattle.std.proofs.Common.{◌≡◌, ℕ, zero, suc, ◌+◌, ◌<◌, ◌≤◌, ◌⊎◌, List, [], ◌∷◌, ◌++◌, length, inl, inr, Result, Ok}
+use Rattle.std.proofs.Common.{Err, MatchResult, refl, sym, ap, ◌∙◌, subst, arith, length-append}
 use Rattle.std.proofs.lemmas.List.Elements.{All-tail}
 use Rattle.hex.specs.Hex.{decode_of}
 use Rattle.hex.specs.declared.error.FromHexError.{FromHexError}
@@ -27,18 +28,23 @@ behind-bytes (x ∷ s) left h = behind-bytes s left (All-tail (λ y. y < 256) x 
 bytes-left : (b left : List ℕ) (limit : ℕ) (v : Tree) → AreBytes b → HasItemBefore Any b limit v left → AreBytes left
 bytes-left b left limit v h (s, item, split) = behind-bytes s left (subst AreBytes split h)
 
-bytes-behind : (trees : List Tree) (b rest : List ℕ) (limit : ℕ) → AreBytes b → AreItemsBefore b limit trees rest → AreBytes rest
+bytes-behind : (trees : List Tree) (b rest : List ℕ) (limit : ℕ) → AreBytes b → AreItemsBefore b limit trees rest →
+    AreBytes rest
 bytes-behind [] b rest limit h e = subst AreBytes e h
-bytes-behind (v ∷ vs) b rest limit h (left, item, more) = bytes-behind vs left rest limit (bytes-left b left limit v h item) more
+bytes-behind (v ∷ vs) b rest limit h (left, item, more) =
+    bytes-behind vs left rest limit (bytes-left b left limit v h item) more
 
 -- items in a row end where the next is refused
-one-row : DeterministicLaw → (ts us : List Tree) (b r q : List ℕ) (limit : ℕ) (e f : Refusal) → AreBytes b → AreItemsBefore b limit ts r →
+one-row : DeterministicLaw → (ts us : List Tree) (b r q : List ℕ) (limit : ℕ) (e f : Refusal) → AreBytes b →
+    AreItemsBefore b limit ts r →
     AreItemsBefore b limit us q → RefusesItem Any r limit e → RefusesItem Any q limit f → (ts ≡ us) × (r ≡ q)
 one-row law [] [] b r q limit e f h m n p s = (refl, sym m ∙ n)
 one-row law [] (w ∷ us) b r q limit e f h m (left, item, more) p s =
-    absurd (not-both law Any b limit e h (w, left, item) (subst (λ (xs : List ℕ). RefusesItem Any xs limit e) (sym m) p))
+    absurd (not-both law Any b limit e h (w, left, item)
+    (subst (λ (xs : List ℕ). RefusesItem Any xs limit e) (sym m) p))
 one-row law (v ∷ ts) [] b r q limit e f h (left, item, more) n p s =
-    absurd (not-both law Any b limit f h (v, left, item) (subst (λ (xs : List ℕ). RefusesItem Any xs limit f) (sym n) s))
+    absurd (not-both law Any b limit f h (v, left, item)
+    (subst (λ (xs : List ℕ). RefusesItem Any xs limit f) (sym n) s))
 one-row law (v ∷ ts) (w ∷ us) b r q limit e f h (x, (s, i, split), m) (y, (t, j, other), n) p k =
     let same = one-tree law Any s t x y limit v w i j (sym split ∙ other) in
     let rest = one-row law ts us x r q limit e f (bytes-left b x limit v h (s, i, split)) m
@@ -48,9 +54,11 @@ one-row law (v ∷ ts) (w ∷ us) b r q limit e f h (x, (s, i, split), m) (y, (t
 not-empty : (xs : List ℕ) → [] ≡ xs → 0 < length xs → ⊥
 not-empty xs e more = let size : 0 ≡ length xs = ap (λ (ys : List ℕ). length ys) e in omega (arith, size, more)
 
-one-of-bytes : DeterministicLaw → (b : List ℕ) (limit : ℕ) (x y : List ℕ) → AreBytes b → HasSequenceAnswer b limit x → HasSequenceAnswer b limit y → x ≡ y
+one-of-bytes : DeterministicLaw → (b : List ℕ) (limit : ℕ) (x y : List ℕ) → AreBytes b → HasSequenceAnswer b limit x →
+    HasSequenceAnswer b limit y → x ≡ y
 one-of-bytes law b limit x y h (whole ts m e) (whole us n f) =
-    let same = one-row law ts us b [] [] limit io io h m n (nothing limit) (nothing limit) in e ∙ (ap sequence_text same.0 ∙ sym f)
+    let same = one-row law ts us b [] [] limit io io h m n (nothing limit) (nothing limit) in e ∙
+    (ap sequence_text same.0 ∙ sym f)
 one-of-bytes law b limit x y h (whole ts m e) (refused us rest u n more r f) =
     absurd (not-empty rest (one-row law ts us b [] rest limit io u h m n (nothing limit) r).1 more)
 one-of-bytes law b limit x y h (refused ts rest u m more r e) (whole us n f) =
@@ -58,15 +66,19 @@ one-of-bytes law b limit x y h (refused ts rest u m more r e) (whole us n f) =
 one-of-bytes law b limit x y h (refused ts rest u m more r e) (refused us left v n also s f) =
     let same = one-row law ts us b rest left limit u v h m n r s in
     let reason =
-    one-refusal law Any rest limit u v (bytes-behind ts b rest limit h m) r (subst (λ (zs : List ℕ). RefusesItem Any zs limit v) (sym same.1) s) in
+    one-refusal law Any rest limit u v (bytes-behind ts b rest limit h m) r
+    (subst (λ (zs : List ℕ). RefusesItem Any zs limit v) (sym same.1) s) in
     e ∙ (ap (λ (vs : List Tree). refused_item_text (length vs + 1) (refusal_text u)) same.0
     ∙ (ap (λ (k : Refusal). refused_item_text (length us + 1) (refusal_text k)) reason ∙ sym f))
 
 -- an item is some bytes
-less-left : DeterministicLaw → (b left s : List ℕ) (limit : ℕ) (v : Tree) → IsItem Any s limit v → b ≡ s ++ left → length left < length b
-less-left law b left [] limit v item split = absurd (not-both law Any [] limit io (λ i d below. absurd (omega arith)) (v, [], ([], item, refl)) (nothing limit))
+less-left : DeterministicLaw → (b left s : List ℕ) (limit : ℕ) (v : Tree) → IsItem Any s limit v → b ≡ s ++ left →
+    length left < length b
+less-left law b left [] limit v item split = absurd (not-both law Any [] limit io (λ i d below. absurd (omega arith))
+    (v, [], ([], item, refl)) (nothing limit))
 less-left law b left (x ∷ s) limit v item split =
-    let size : length b ≡ length (x ∷ s) + length left = ap (λ (ys : List ℕ). length ys) split ∙ length-append (x ∷ s) left in
+    let size : length b ≡ length (x ∷ s) + length left = ap (λ (ys : List ℕ). length ys) split ∙
+    length-append (x ∷ s) left in
     let one : length (x ∷ s) ≡ suc (length s) = refl in
     omega (arith, size, one)
 
@@ -82,12 +94,14 @@ found law (suc n) (x ∷ b) limit below h =
     elim (item-or-refused law Any (x ∷ b) limit h) [
       | inl (v, left, before) ↦
           (let shorter = less-left law (x ∷ b) left before.0 limit v before.1 before.2 in
-          let rest = found law n left limit (omega (arith, shorter, below)) (bytes-left (x ∷ b) left limit v h before) in
+          let rest = found law n left limit (omega (arith, shorter, below)) (bytes-left (x ∷ b) left limit v h before)
+          in
           (v ∷ rest.0, rest.1, (left, before, rest.2), rest.3))
       | inr r ↦ ([], x ∷ b, refl, inr (omega arith, r.0, r.1))
     ]
 
-bytes-answered : DeterministicLaw → (b : List ℕ) (limit : ℕ) → AreBytes b → (answer : List ℕ) × HasSequenceAnswer b limit answer
+bytes-answered : DeterministicLaw → (b : List ℕ) (limit : ℕ) → AreBytes b → (answer : List ℕ) ×
+    HasSequenceAnswer b limit answer
 bytes-answered law b limit h =
     let f = found law (length b) b limit (omega arith) h in
     elim f.3 [
@@ -95,7 +109,8 @@ bytes-answered law b limit h =
       | inr r ↦ (refused_item_text (length f.0 + 1) (refusal_text r.1), refused f.0 f.1 r.1 f.2 r.0 r.2 refl)
     ]
 
-answered-by : DeterministicLaw → (d : Result (List ℕ) FromHexError) (limit : ℕ) → ((b : List ℕ) → d ≡ Ok b → AreBytes b) →
+answered-by : DeterministicLaw → (d : Result (List ℕ) FromHexError) (limit : ℕ) →
+    ((b : List ℕ) → d ≡ Ok b → AreBytes b) →
     (answer : List ℕ) × MatchResult d (λ b. HasSequenceAnswer b limit answer) (λ _. answer ≡ hex_text)
 answered-by law (Ok b) limit h = bytes-answered law b limit (h b refl)
 answered-by law (Err e) limit h = (hex_text, refl)
@@ -103,8 +118,10 @@ answered-by law (Err e) limit h = (hex_text, refl)
 pub is_sequence_answered : DeterministicLaw → IsSequenceAnswered
 is_sequence_answered law line limit = answered-by law (decode_of line) limit (λ b e. decoded-bytes line b e)
 
-one-by : DeterministicLaw → (d : Result (List ℕ) FromHexError) (limit : ℕ) (x y : List ℕ) → ((b : List ℕ) → d ≡ Ok b → AreBytes b) →
-    MatchResult d (λ b. HasSequenceAnswer b limit x) (λ _. x ≡ hex_text) → MatchResult d (λ b. HasSequenceAnswer b limit y) (λ _. y ≡ hex_text) → x ≡ y
+one-by : DeterministicLaw → (d : Result (List ℕ) FromHexError) (limit : ℕ) (x y : List ℕ) →
+    ((b : List ℕ) → d ≡ Ok b → AreBytes b) →
+    MatchResult d (λ b. HasSequenceAnswer b limit x) (λ _. x ≡ hex_text) →
+    MatchResult d (λ b. HasSequenceAnswer b limit y) (λ _. y ≡ hex_text) → x ≡ y
 one-by law (Ok b) limit x y h p q = one-of-bytes law b limit x y (h b refl) p q
 one-by law (Err e) limit x y h p q = p ∙ sym q
 

@@ -1,5 +1,6 @@
 -- Each line has one answer by the deterministic form of its item, and one by its notation.
-use Rattle.std.proofs.Common.{◌≡◌, ◌≢◌, ◌⊎◌, ℕ, List, [], ◌∷◌, length, inl, inr, Result, Ok, Err, is_err, MatchResult, refl, sym, ap, ◌∙◌, subst, arith, append-nil}
+use Rattle.std.proofs.Common.{◌≡◌, ◌≢◌, ◌⊎◌, ℕ, List, [], ◌∷◌, length, inl, inr, Result, Ok, Err, is_err, MatchResult}
+use Rattle.std.proofs.Common.{refl, sym, ap, ◌∙◌, subst, arith, append-nil}
 use Rattle.hex.specs.Hex.{decode_of}
 use Rattle.hex.specs.declared.error.FromHexError.{FromHexError}
 use Rattle.ciborium_ll.specs.Refusal as refusal
@@ -12,7 +13,8 @@ use Rattle.ciborium_value.proofs.Forms.RefusedForms.{form_or_refused}
 use Rattle.cbor.specs.declared.answer.Reason.{Reason}
 use Rattle.cbor.specs.declared.answer.Reason.TheVariants as reasons
 use Rattle.cbor.specs.declared.answer.Refusal.{Refusal}
-use Rattle.cbor.specs.declared.answer.Refusal.TheVariants.{Hex, Trailing, Io, Syntax, Semantic, Nesting, TooLong, Memory}
+use Rattle.cbor.specs.declared.answer.Refusal.TheVariants.{Hex, Trailing, Io, Syntax, Semantic, Nesting, TooLong}
+use Rattle.cbor.specs.declared.answer.Refusal.TheVariants.{Memory}
 use Rattle.cbor.specs.declared.reading.Layout.{Layout}
 use Rattle.cbor.specs.declared.reading.Spelling.TheVariants.{Any}
 use Rattle.cbor.specs.Answer.{AreRefused, IsMeant, IsRefused, kind_of_reason, refused_text}
@@ -33,50 +35,63 @@ form_text (refuses k) = formless_text k
 form_text nests = []
 
 -- a line means one tree
-one-meant-by : DeterministicLaw → (d : Result (List ℕ) FromHexError) (limit : ℕ) (v w : Tree) → MatchResult d (λ b. IsItem Any b limit v) (λ _. ⊥) →
+one-meant-by : DeterministicLaw → (d : Result (List ℕ) FromHexError) (limit : ℕ) (v w : Tree) →
+    MatchResult d (λ b. IsItem Any b limit v) (λ _. ⊥) →
     MatchResult d (λ b. IsItem Any b limit w) (λ _. ⊥) → v ≡ w
 one-meant-by law (Ok b) limit v w p q = (one-tree law Any b b [] [] limit v w p q refl).0
 one-meant-by law (Err e) limit v w p q = absurd p
 
-one-meant : DeterministicLaw → (line : List ℕ) (limit : ℕ) (v w : Tree) → IsMeant Any line limit v → IsMeant Any line limit w → v ≡ w
+one-meant : DeterministicLaw → (line : List ℕ) (limit : ℕ) (v w : Tree) → IsMeant Any line limit v →
+    IsMeant Any line limit w → v ≡ w
 one-meant law line limit v w p q = one-meant-by law (decode_of line) limit v w p q
 
 -- an answer is the text of a tree that the line means, or of a refusal
 abbrev IsTextOrRefusal : (Tree → List ℕ) → List ℕ → ℕ → List ℕ → Type 0
 IsTextOrRefusal text line limit answer =
-    ((v : Tree) × IsMeant Any line limit v × (answer ≡ text v)) ⊎ ((e : Refusal) × (e ≢ Memory) × IsRefused Any line limit e × (answer ≡ refused_text e))
+    ((v : Tree) × IsMeant Any line limit v × (answer ≡ text v)) ⊎
+    ((e : Refusal) × (e ≢ Memory) × IsRefused Any line limit e × (answer ≡ refused_text e))
 
-one-of : DeterministicLaw → (text : Tree → List ℕ) (line : List ℕ) (limit : ℕ) (a b : List ℕ) → IsTextOrRefusal text line limit a →
+one-of : DeterministicLaw → (text : Tree → List ℕ) (line : List ℕ) (limit : ℕ) (a b : List ℕ) →
+    IsTextOrRefusal text line limit a →
     IsTextOrRefusal text line limit b → a ≡ b
-one-of law text line limit a b (inl (v, p, e)) (inl (w, q, f)) = e ∙ (ap text (one-meant law line limit v w p q) ∙ sym f)
-one-of law text line limit a b (inl (v, p, e)) (inr (r, m, h, f)) = absurd (refused_means_nothing law Any line limit r v m h p)
-one-of law text line limit a b (inr (r, m, h, e)) (inl (v, p, f)) = absurd (refused_means_nothing law Any line limit r v m h p)
+one-of law text line limit a b (inl (v, p, e)) (inl (w, q, f)) = e ∙
+    (ap text (one-meant law line limit v w p q) ∙ sym f)
+one-of law text line limit a b (inl (v, p, e)) (inr (r, m, h, f)) =
+    absurd (refused_means_nothing law Any line limit r v m h p)
+one-of law text line limit a b (inr (r, m, h, e)) (inl (v, p, f)) =
+    absurd (refused_means_nothing law Any line limit r v m h p)
 one-of law text line limit a b (inr (r, m, h, e)) (inr (s, n, i, f)) =
-    e ∙ (one_answer law Any line limit (refused_text r) (refused_text s) (refusal_is_answered Any line limit r m h) (refusal_is_answered Any line limit s n i) ∙ sym f)
+    e ∙ (one_answer law Any line limit (refused_text r) (refused_text s) (refusal_is_answered Any line limit r m h)
+    (refusal_is_answered Any line limit s n i) ∙ sym f)
 
 -- the text of a tree's form, or why there is none
 abbrev tree_form_text : KeyOrder → Tree → List ℕ
 tree_form_text order v = form_text (deterministic_form order v)
 
-form-or-refusal : (order : KeyOrder) (line : List ℕ) (limit : ℕ) (answer : List ℕ) → IsFormAnswer order line limit answer →
+form-or-refusal : (order : KeyOrder) (line : List ℕ) (limit : ℕ) (answer : List ℕ) →
+    IsFormAnswer order line limit answer →
     IsTextOrRefusal (tree_form_text order) line limit answer
-form-or-refusal order line limit answer (formed (v, u, means, form, same)) = inl (v, means, same ∙ ap form_text (sym form))
+form-or-refusal order line limit answer (formed (v, u, means, form, same)) =
+    inl (v, means, same ∙ ap form_text (sym form))
 form-or-refusal order line limit answer (duplicate v means none same) = inl (v, means, same ∙ ap form_text (sym none))
 form-or-refusal order line limit answer (too_large v means none same) = inl (v, means, same ∙ ap form_text (sym none))
 form-or-refusal order line limit answer (no_item e m h same) = inr (e, m, h, same)
 
 pub one_form_answer : DeterministicLaw → OneFormAnswer
 one_form_answer law order line limit a b p q =
-    one-of law (tree_form_text order) line limit a b (form-or-refusal order line limit a p) (form-or-refusal order line limit b q)
+    one-of law (tree_form_text order) line limit a b (form-or-refusal order line limit a p)
+    (form-or-refusal order line limit b q)
 
-notation-or-refusal : (layout : Layout) (line : List ℕ) (limit : ℕ) (answer : List ℕ) → IsNotationAnswer layout line limit answer →
+notation-or-refusal : (layout : Layout) (line : List ℕ) (limit : ℕ) (answer : List ℕ) →
+    IsNotationAnswer layout line limit answer →
     IsTextOrRefusal (notation_text layout) line limit answer
 notation-or-refusal layout line limit answer (shown h) = inl h
 notation-or-refusal layout line limit answer (unshown e m h same) = inr (e, m, h, same)
 
 pub one_notation_answer : DeterministicLaw → OneNotationAnswer
 one_notation_answer law layout line limit a b p q =
-    one-of law (notation_text layout) line limit a b (notation-or-refusal layout line limit a p) (notation-or-refusal layout line limit b q)
+    one-of law (notation_text layout) line limit a b (notation-or-refusal layout line limit a p)
+    (notation-or-refusal layout line limit b q)
 
 -- ---- each line means a tree or is refused
 
@@ -91,27 +106,42 @@ reason-of refusal.NotFolded = (reasons.NotFolded, refl)
 reason-of refusal.KeyOrder = (reasons.KeyOrder, refl)
 
 -- what refuses some bytes, as the program names it
-named : (b : List ℕ) (limit : ℕ) (e : refusal.Refusal) → RefusesItem Any b limit e → (r : Refusal) × (r ≢ Memory) × AreRefused Any b limit r
+named : (b : List ℕ) (limit : ℕ) (e : refusal.Refusal) → RefusesItem Any b limit e → (r : Refusal) × (r ≢ Memory) ×
+    AreRefused Any b limit r
 named b limit refusal.io h = (Io, not-memory Io refl, h)
 named b limit (refusal.syntax p) h = (Syntax p, not-memory (Syntax p) refl, h)
 named b limit refusal.too_long h = (TooLong, not-memory TooLong refl, h)
 named b limit (refusal.semantic p k) h =
-    let (reason, same) = reason-of k in
-    (Semantic p reason, not-memory (Semantic p reason) refl, subst (λ (j : refusal.Kind). RefusesItem Any b limit (refusal.semantic p j)) (sym same) h)
+    let (reason, same) = reason-of k in (
+      Semantic p reason,
+      not-memory (Semantic p reason) refl,
+      subst (λ (j : refusal.Kind). RefusesItem Any b limit (refusal.semantic p j)) (sym same) h,
+    )
 named b limit refusal.recursion_limit_exceeded h = (Nesting, not-memory Nesting refl, h)
 
 -- a line means a tree, or is refused
 abbrev IsMeantOrRefused : List ℕ → ℕ → Type 0
-IsMeantOrRefused line limit = ((v : Tree) × IsMeant Any line limit v) ⊎ ((e : Refusal) × (e ≢ Memory) × IsRefused Any line limit e)
+IsMeantOrRefused line limit = ((v : Tree) × IsMeant Any line limit v) ⊎
+    ((e : Refusal) × (e ≢ Memory) × IsRefused Any line limit e)
 
-meant-by : (line b : List ℕ) (limit : ℕ) (v : Tree) → decode_of line ≡ Ok b → IsItem Any b limit v → IsMeant Any line limit v
-meant-by line b limit v d item = subst (λ (r : Result (List ℕ) FromHexError). MatchResult r (λ s. IsItem Any s limit v) (λ _. ⊥)) (sym d) item
+meant-by : (line b : List ℕ) (limit : ℕ) (v : Tree) → decode_of line ≡ Ok b → IsItem Any b limit v →
+    IsMeant Any line limit v
+meant-by line b limit v d item = subst (λ (r : Result (List ℕ) FromHexError). MatchResult r (λ s. IsItem Any s limit v)
+    (λ _. ⊥)) (sym d) item
 
 begun : (line b : List ℕ) (limit : ℕ) → decode_of line ≡ Ok b → HasItem Any b limit → IsMeantOrRefused line limit
 begun line b limit d (v, [], (s, item, e)) =
-    let all : b ≡ s = e ∙ append-nil s in inl (v, meant-by line b limit v d (subst (λ (xs : List ℕ). IsItem Any xs limit v) (sym all) item))
+    let all : b ≡ s = e ∙ append-nil s in inl (
+      v,
+      meant-by line b limit v d
+          (subst (λ (xs : List ℕ). IsItem Any xs limit v) (sym all) item),
+    )
 begun line b limit d (v, (x ∷ left), before) =
-    inr (Trailing (length (x ∷ left)), not-memory (Trailing (length (x ∷ left))) refl, (b, d, (v, x ∷ left, before, omega arith, refl)))
+    inr (
+      Trailing (length (x ∷ left)),
+      not-memory (Trailing (length (x ∷ left))) refl,
+      (b, d, (v, x ∷ left, before, omega arith, refl)),
+    )
 
 of-bytes : DeterministicLaw → (line b : List ℕ) (limit : ℕ) → decode_of line ≡ Ok b → IsMeantOrRefused line limit
 of-bytes law line b limit d =
@@ -127,7 +157,8 @@ meant-or-refused law line limit = by (decode_of line) refl
     by (Ok b) d = of-bytes law line b limit d
     by (Err x) d = inr (Hex, not-memory Hex refl, ap is_err d)
 
-formed-or-not : (order : KeyOrder) (line : List ℕ) (limit : ℕ) (v : Tree) → IsMeant Any line limit v → (answer : List ℕ) × IsFormAnswer order line limit answer
+formed-or-not : (order : KeyOrder) (line : List ℕ) (limit : ℕ) (v : Tree) → IsMeant Any line limit v →
+    (answer : List ℕ) × IsFormAnswer order line limit answer
 formed-or-not order line limit v means =
     elim (form_or_refused order v) [
       | inl g ↦ (tree_text g.0, formed (v, g.0, means, g.1, refl))

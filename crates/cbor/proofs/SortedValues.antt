@@ -1,5 +1,6 @@
 -- What a sort by one of the two orders ensures.
-use Rattle.std.proofs.Common.{◌≡◌, ◌<◌, List, [], ◌∷◌, length, get_or, map, Bool, Greater, is_lt, true, false, sym, ap, ◌∙◌, arith}
+use Rattle.std.proofs.Common.{◌≡◌, ◌<◌, List, [], ◌∷◌, length, get_or, map, Bool, Greater, is_lt, true, false, sym, ap}
+use Rattle.std.proofs.Common.{◌∙◌, arith}
 use Rattle.std.proofs.lemmas.List.{get_or-map, length-map}
 use Rattle.std.proofs.lemmas.List.Sorted.{ranks_by, sorted_far}
 use Rattle.std.specs.Cmp.{IsStrictWeakOrder, IsTotalOrder}
@@ -30,7 +31,8 @@ stands_before-orders order = ranks_by (key_order_total order) tree_of
 turned : (order : KeyOrder) (s t : Tree) → key_order order s t ≡ Greater → is_lt (key_order order t s) ≡ true
 turned order s t e = ap is_lt ((key_order_total order).antisymm t s ∙ ap ordering_reverse e)
 
-pub sorted-trees : (order : KeyOrder) (vs : List Value) → IsSortedBy (stands_before order) vs → AreSorted order (map tree_of vs)
+pub sorted-trees : (order : KeyOrder) (vs : List Value) → IsSortedBy (stands_before order) vs →
+    AreSorted order (map tree_of vs)
 sorted-trees order [] up i j d le below after = absurd (omega arith)
 sorted-trees order (v ∷ vs) up i j d le below after =
     let count : length (map tree_of (v ∷ vs)) ≡ length (v ∷ vs) = length-map (v ∷ vs) tree_of in
@@ -38,5 +40,6 @@ sorted-trees order (v ∷ vs) up i j d le below after =
     let first = get_or-map tree_of (v ∷ vs) i v d (omega (arith, fits, le)) in
     let second = get_or-map tree_of (v ∷ vs) j v d fits in
     let far = sorted_far (stands_before order) (stands_before-orders order) (v ∷ vs) up i j v le fits in
-    let back = turned order (tree_of (get_or (v ∷ vs) i v)) (tree_of (get_or (v ∷ vs) j v)) (sym (λ k. key_order order (first k) (second k)) ∙ after) in
+    let back = turned order (tree_of (get_or (v ∷ vs) i v)) (tree_of (get_or (v ∷ vs) j v))
+    (sym (λ k. key_order order (first k) (second k)) ∙ after) in
     absurd (let no : true ≡ false = sym back ∙ far in cc)

@@ -7,7 +7,8 @@ use Rattle.ciborium_ll.proofs.UniqueSpelling.{one_at_front}
 use Rattle.ciborium_value.specs.Meaning.{meaning}
 use Rattle.ciborium_value.specs.Tree.{Tree}
 use Rattle.ciborium_value.proofs.GoodItems.Outcome as any
-use Rattle.ciborium.specs.laws.DeterministicLaws.{DeterministicOrRefused, NeverBothDeterministically, OneDeterministicRefusal, OneDeterministicTree}
+use Rattle.ciborium.specs.laws.DeterministicLaws.{DeterministicOrRefused, NeverBothDeterministically}
+use Rattle.ciborium.specs.laws.DeterministicLaws.{OneDeterministicRefusal, OneDeterministicTree}
 use Rattle.cbor.specs.declared.reading.Spelling.{Spelling}
 use Rattle.cbor.specs.declared.reading.Spelling.TheVariants.{Any, Deterministic}
 use Rattle.cbor.specs.Spellings.{HasItemBefore, IsItem, RefusesItem}
@@ -44,17 +45,22 @@ item-or-refused law (Deterministic order) b limit h =
       | inr r ↦ inr r
     ]
 
-pub not-both : DeterministicLaw → (spelling : Spelling) (b : List ℕ) (limit : ℕ) (e : Refusal) → AreBytes b → HasItem spelling b limit →
+pub not-both : DeterministicLaw → (spelling : Spelling) (b : List ℕ) (limit : ℕ) (e : Refusal) → AreBytes b →
+    HasItem spelling b limit →
     RefusesItem spelling b limit e → ⊥
-not-both law Any b limit e h (v, left, (s, (i, g, m), split)) r = any.never_both b 0 (Some limit) e h (s, i, left, g, split) r
-not-both law (Deterministic order) b limit e h (v, left, (s, d, split)) r = law.never_both order b 0 limit e h (s, v, left, d, split) r
+not-both law Any b limit e h (v, left, (s, (i, g, m), split)) r =
+    any.never_both b 0 (Some limit) e h (s, i, left, g, split) r
+not-both law (Deterministic order) b limit e h (v, left, (s, d, split)) r =
+    law.never_both order b 0 limit e h (s, v, left, d, split) r
 
-pub one-refusal : DeterministicLaw → (spelling : Spelling) (b : List ℕ) (limit : ℕ) (e f : Refusal) → AreBytes b → RefusesItem spelling b limit e →
+pub one-refusal : DeterministicLaw → (spelling : Spelling) (b : List ℕ) (limit : ℕ) (e f : Refusal) → AreBytes b →
+    RefusesItem spelling b limit e →
     RefusesItem spelling b limit f → e ≡ f
 one-refusal law Any b limit e f h p q = any.one_refusal b 0 (Some limit) e f h p q
 one-refusal law (Deterministic order) b limit e f h p q = law.one_refusal order b 0 limit e f h p q
 
-pub one-tree : DeterministicLaw → (spelling : Spelling) (s t x y : List ℕ) (limit : ℕ) (v w : Tree) → IsItem spelling s limit v → IsItem spelling t limit w →
+pub one-tree : DeterministicLaw → (spelling : Spelling) (s t x y : List ℕ) (limit : ℕ) (v w : Tree) →
+    IsItem spelling s limit v → IsItem spelling t limit w →
     s ++ x ≡ t ++ y → (v ≡ w) × (x ≡ y)
 one-tree law Any s t x y limit v w (i, g, m) (j, h, n) e =
     let same = one_at_front s t x y i j g.0 h.0 e in (same-tree i j v w same.2 m n, same.1)

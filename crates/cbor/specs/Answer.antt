@@ -1,5 +1,6 @@
 -- What a line means, or why it is refused, as the program answers it, and the text of a refusal.
-use Rattle.std.specs.Prelude.{◌≡◌, ℕ, ◌<◌, Bool, true, false, IsTrue, List, [], length, Option, Some, Ok, IsErr, MatchResult, codes}
+use Rattle.std.specs.Prelude.{◌≡◌, ℕ, ◌<◌, Bool, true, false, IsTrue, List, [], length, Option}
+use Rattle.std.specs.Prelude.{Some, Ok, IsErr, MatchResult, codes}
 use Rattle.hex.specs.Hex.{decode_of}
 use Rattle.ciborium_ll.specs.Refusal as refusal
 use Rattle.ciborium_value.specs.Tree.{Tree}
@@ -8,14 +9,16 @@ use Rattle.ciborium.specs.Errors.{IsRefusedBy}
 use Rattle.cbor.specs.declared.answer.Reason.{Reason}
 use Rattle.cbor.specs.declared.answer.Reason.TheVariants as reasons
 use Rattle.cbor.specs.declared.answer.Refusal.{Refusal}
-use Rattle.cbor.specs.declared.answer.Refusal.TheVariants.{Hex, Trailing, Io, Syntax, Semantic, Nesting, TooLong, Memory}
+use Rattle.cbor.specs.declared.answer.Refusal.TheVariants.{Hex, Trailing, Io, Syntax, Semantic}
+use Rattle.cbor.specs.declared.answer.Refusal.TheVariants.{Nesting, TooLong, Memory}
 use Rattle.cbor.specs.declared.reading.Spelling.{Spelling}
 use Rattle.cbor.specs.Spellings.{HasItemBefore, IsItem, RefusesItem}
 use Rattle.cbor.specs.Line.{hex_text, refusal_text, trailing_text}
 
 -- a line is the hex of bytes that are one item, spelled so and within so many levels, and mean v
 abbrev pub IsMeant : Spelling → List ℕ → ℕ → Tree → Type 0
-IsMeant spelling line limit v = MatchResult (decode_of line) (λ b. IsItem spelling b limit v) (λ _. ⊥)
+IsMeant spelling line limit v = MatchResult (decode_of line) (λ b. IsItem spelling b limit v)
+    (λ _. ⊥)
 
 -- the kind that a reason is
 abbrev pub kind_of_reason : Reason → refusal.Kind
@@ -30,7 +33,8 @@ kind_of_reason reasons.KeyOrder = refusal.KeyOrder
 
 -- an item is at the front of b, and n more bytes follow it
 abbrev pub HasTrailing : Spelling → List ℕ → ℕ → ℕ → Type 0
-HasTrailing spelling b limit n = (v : Tree) × (left : List ℕ) × HasItemBefore spelling b limit v left × (0 < length left) × (n ≡ length left)
+HasTrailing spelling b limit n = (v : Tree) × (left : List ℕ) ×
+    HasItemBefore spelling b limit v left × (0 < length left) × (n ≡ length left)
 
 -- b begins with no item, for this reason; `Memory` says nothing of it
 abbrev pub IsFrontRefused : Spelling → List ℕ → ℕ → Refusal → Type 0
@@ -38,15 +42,19 @@ IsFrontRefused spelling b limit Hex = ⊥
 IsFrontRefused spelling b limit (Trailing n) = ⊥
 IsFrontRefused spelling b limit Io = RefusesItem spelling b limit refusal.io
 IsFrontRefused spelling b limit (Syntax p) = RefusesItem spelling b limit (refusal.syntax p)
-IsFrontRefused spelling b limit (Semantic p reason) = RefusesItem spelling b limit (refusal.semantic p (kind_of_reason reason))
-IsFrontRefused spelling b limit Nesting = RefusesItem spelling b limit refusal.recursion_limit_exceeded
+IsFrontRefused spelling b limit (Semantic p reason) =
+    RefusesItem spelling b limit (refusal.semantic p (kind_of_reason reason))
+IsFrontRefused spelling b limit Nesting = RefusesItem spelling b limit
+    refusal.recursion_limit_exceeded
 IsFrontRefused spelling b limit TooLong = RefusesItem spelling b limit refusal.too_long
 IsFrontRefused spelling b limit Memory = Unit {0}
 
--- the refusal says of any bytes what an error of reading a value says of them, where the reader is then at its end or not
+-- the refusal says of any bytes what an error of reading a value says of them, where the reader is
+-- then at its end or not
 abbrev pub StandsFor : {E : Type 0} → Error E → Bool → Refusal → Type 0
 StandsFor error is_at_end e =
-    (spelling : Spelling) (b : List ℕ) (limit : ℕ) (left : Option (List ℕ)) → (IsTrue is_at_end → left ≡ Some []) →
+    (spelling : Spelling) (b : List ℕ) (limit : ℕ) (left : Option (List ℕ)) →
+    (IsTrue is_at_end → left ≡ Some []) →
     IsRefusedBy left error (RefusesItem spelling b limit) → IsFrontRefused spelling b limit e
 
 -- b is no item: more bytes follow one, or it begins with none
@@ -58,7 +66,8 @@ AreRefused spelling b limit other = IsFrontRefused spelling b limit other
 abbrev pub IsRefused : Spelling → List ℕ → ℕ → Refusal → Type 0
 IsRefused spelling line limit Hex = IsErr (decode_of line)
 IsRefused spelling line limit Memory = Unit {0}
-IsRefused spelling line limit other = (b : List ℕ) × (decode_of line ≡ Ok b) × AreRefused spelling b limit other
+IsRefused spelling line limit other = (b : List ℕ) × (decode_of line ≡ Ok b) ×
+    AreRefused spelling b limit other
 
 -- the text of a refusal
 abbrev pub refused_text : Refusal → List ℕ
@@ -85,4 +94,5 @@ IsHexRefused line other = ⊥
 -- the text tells why a line is no such item; want of memory is told elsewhere
 abbrev pub TellsRefusal : Spelling → List ℕ → ℕ → List ℕ → Type 0
 TellsRefusal spelling line limit text =
-    (e : Refusal) × IsRefused spelling line limit e × (wants_memory e ≡ false) × (text ≡ refused_text e)
+    (e : Refusal) × IsRefused spelling line limit e × (wants_memory e ≡ false) ×
+    (text ≡ refused_text e)

@@ -14,53 +14,66 @@ use Rattle.cbor.specs.Shown.{IsNotationAnswer}
 
 -- each line has an answer, however items may be spelled, within any number of levels
 abbrev pub IsAnswered : Type 0
-IsAnswered = (spelling : Spelling) (line : List ℕ) (limit : ℕ) → (answer : List ℕ) × IsLineAnswer spelling line limit answer
+IsAnswered = (spelling : Spelling) (line : List ℕ) (limit : ℕ) → (answer : List ℕ) ×
+    IsLineAnswer spelling line limit answer
 
 -- and no other
 abbrev pub OneAnswerToLine : Type 0
 OneAnswerToLine =
-    (spelling : Spelling) (line : List ℕ) (limit : ℕ) (a b : List ℕ) → IsLineAnswer spelling line limit a → IsLineAnswer spelling line limit b →
+    (spelling : Spelling) (line : List ℕ) (limit : ℕ) (a b : List ℕ) →
+    IsLineAnswer spelling line limit a → IsLineAnswer spelling line limit b →
     a ≡ b
 
 -- a line that means a tree is answered by the text of the tree
 abbrev pub ItemIsAnswered : Type 0
-ItemIsAnswered = (spelling : Spelling) (line : List ℕ) (limit : ℕ) (v : Tree) → IsMeant spelling line limit v → IsLineAnswer spelling line limit (tree_text v)
+ItemIsAnswered = (spelling : Spelling) (line : List ℕ) (limit : ℕ) (v : Tree) →
+    IsMeant spelling line limit v → IsLineAnswer spelling line limit (tree_text v)
 
 -- a line that is refused, but not for memory, is answered by the text of the refusal
 abbrev pub RefusalIsAnswered : Type 0
 RefusalIsAnswered =
-    (spelling : Spelling) (line : List ℕ) (limit : ℕ) (e : Refusal) → e ≢ Memory → IsRefused spelling line limit e →
+    (spelling : Spelling) (line : List ℕ) (limit : ℕ) (e : Refusal) → e ≢ Memory →
+    IsRefused spelling line limit e →
     IsLineAnswer spelling line limit (refused_text e)
 
 -- and means no tree
 abbrev pub RefusedMeansNothing : Type 0
 RefusedMeansNothing =
-    (spelling : Spelling) (line : List ℕ) (limit : ℕ) (e : Refusal) (v : Tree) → e ≢ Memory → IsRefused spelling line limit e →
+    (spelling : Spelling) (line : List ℕ) (limit : ℕ) (e : Refusal) (v : Tree) → e ≢ Memory →
+    IsRefused spelling line limit e →
     ¬ IsMeant spelling line limit v
 
 -- each line that is read as a sequence has an answer, within any number of levels
 abbrev pub IsSequenceAnswered : Type 0
-IsSequenceAnswered = (line : List ℕ) (limit : ℕ) → (answer : List ℕ) × IsSequenceAnswer line limit answer
+IsSequenceAnswered = (line : List ℕ) (limit : ℕ) → (answer : List ℕ) ×
+    IsSequenceAnswer line limit answer
 
 -- and no other
 abbrev pub OneSequenceAnswer : Type 0
-OneSequenceAnswer = (line : List ℕ) (limit : ℕ) (a b : List ℕ) → IsSequenceAnswer line limit a → IsSequenceAnswer line limit b → a ≡ b
+OneSequenceAnswer = (line : List ℕ) (limit : ℕ) (a b : List ℕ) → IsSequenceAnswer line limit a →
+    IsSequenceAnswer line limit b → a ≡ b
 
--- each line has an answer by the deterministic form of its item, in either order of keys and within any number of levels
+-- each line has an answer by the deterministic form of its item, in either order of keys and within
+-- any number of levels
 abbrev pub IsFormAnswered : Type 0
-IsFormAnswered = (order : KeyOrder) (line : List ℕ) (limit : ℕ) → (answer : List ℕ) × IsFormAnswer order line limit answer
+IsFormAnswered = (order : KeyOrder) (line : List ℕ) (limit : ℕ) → (answer : List ℕ) ×
+    IsFormAnswer order line limit answer
 
 -- and no other
 abbrev pub OneFormAnswer : Type 0
 OneFormAnswer =
-    (order : KeyOrder) (line : List ℕ) (limit : ℕ) (a b : List ℕ) → IsFormAnswer order line limit a → IsFormAnswer order line limit b → a ≡ b
+    (order : KeyOrder) (line : List ℕ) (limit : ℕ) (a b : List ℕ) →
+    IsFormAnswer order line limit a → IsFormAnswer order line limit b → a ≡ b
 
--- each line has an answer by the notation of its item, in either layout and within any number of levels
+-- each line has an answer by the notation of its item, in either layout and within any number of
+-- levels
 abbrev pub IsNotationAnswered : Type 0
-IsNotationAnswered = (layout : Layout) (line : List ℕ) (limit : ℕ) → (answer : List ℕ) × IsNotationAnswer layout line limit answer
+IsNotationAnswered = (layout : Layout) (line : List ℕ) (limit : ℕ) → (answer : List ℕ) ×
+    IsNotationAnswer layout line limit answer
 
 -- and no other
 abbrev pub OneNotationAnswer : Type 0
 OneNotationAnswer =
-    (layout : Layout) (line : List ℕ) (limit : ℕ) (a b : List ℕ) → IsNotationAnswer layout line limit a → IsNotationAnswer layout line limit b →
+    (layout : Layout) (line : List ℕ) (limit : ℕ) (a b : List ℕ) →
+    IsNotationAnswer layout line limit a → IsNotationAnswer layout line limit b →
     a ≡ b

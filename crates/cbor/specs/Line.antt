@@ -1,7 +1,9 @@
 -- What the program answers to a line of hex. Texts are lists of bytes.
 use Rattle.std.specs.Prelude.{◌≡◌, ℕ, ◌<◌, List, ◌++◌, length, MatchResult, codes, decimal}
 use Rattle.hex.specs.Hex.{decode_of, encode_lower}
-use Rattle.ciborium_ll.specs.Refusal.{Kind, Float, Simple, Break, TooLarge, NotShortest, Open, NotFolded, KeyOrder, Refusal, io, syntax, too_long, semantic, recursion_limit_exceeded}
+use Rattle.ciborium_ll.specs.Refusal.{Kind, Float, Simple, Break, TooLarge, NotShortest, Open}
+use Rattle.ciborium_ll.specs.Refusal.{NotFolded, KeyOrder, Refusal, io, syntax, too_long, semantic}
+use Rattle.ciborium_ll.specs.Refusal.{recursion_limit_exceeded}
 use Rattle.ciborium_value.specs.Encoding.{encoding}
 use Rattle.ciborium_value.specs.Tree.{Tree}
 use Rattle.cbor.specs.declared.reading.Spelling.{Spelling}
@@ -38,16 +40,21 @@ trailing_text n = codes "trailing " ++ decimal n
 abbrev pub hex_text : List ℕ
 hex_text = codes "hex"
 
--- the bytes b have this answer, where items are spelled so, within so many levels (RFC 8949, section 5.3)
+-- the bytes b have this answer, where items are spelled so, within so many levels (RFC 8949,
+-- section 5.3)
 pub data HasAnswer (spelling : Spelling) (b : List ℕ) (limit : ℕ) (answer : List ℕ) : Type 0 where
   -- all of b is an item
-  good : (v : Tree) → IsItem spelling b limit v → answer ≡ tree_text v → HasAnswer spelling b limit answer
+  good : (v : Tree) → IsItem spelling b limit v → answer ≡ tree_text v →
+      HasAnswer spelling b limit answer
   -- an item is at the front, and more bytes follow it
-  trailing : (v : Tree) (left : List ℕ) → HasItemBefore spelling b limit v left → 0 < length left → answer ≡ trailing_text (length left) →
+  trailing : (v : Tree) (left : List ℕ) → HasItemBefore spelling b limit v left → 0 < length left →
+      answer ≡ trailing_text (length left) →
       HasAnswer spelling b limit answer
   -- b is refused
-  refused : (e : Refusal) → RefusesItem spelling b limit e → answer ≡ refusal_text e → HasAnswer spelling b limit answer
+  refused : (e : Refusal) → RefusesItem spelling b limit e → answer ≡ refusal_text e →
+      HasAnswer spelling b limit answer
 
 -- the text answers a line: its bytes, or `hex` where it is not an even number of hex digits
 abbrev pub IsLineAnswer : Spelling → List ℕ → ℕ → List ℕ → Type 0
-IsLineAnswer spelling line limit answer = MatchResult (decode_of line) (λ b. HasAnswer spelling b limit answer) (λ _. answer ≡ hex_text)
+IsLineAnswer spelling line limit answer = MatchResult (decode_of line)
+    (λ b. HasAnswer spelling b limit answer) (λ _. answer ≡ hex_text)

@@ -1,6 +1,8 @@
--- CBOR sequences (RFC 8742, section 2): items one after the other, with nothing between them. And what the program answers to a line of
+-- CBOR sequences (RFC 8742, section 2): items one after the other, with nothing between them. And
+-- what the program answers to a line of
 -- hex that is read as one. Texts are lists of bytes.
-use Rattle.std.specs.Prelude.{◌≡◌, ℕ, ◌+◌, ◌<◌, List, [], ◌∷◌, ◌++◌, length, MatchResult, codes, decimal}
+use Rattle.std.specs.Prelude.{◌≡◌, ℕ, ◌+◌, ◌<◌, List, [], ◌∷◌, ◌++◌, length, MatchResult, codes}
+use Rattle.std.specs.Prelude.{decimal}
 use Rattle.std.specs.List.{flat_map}
 use Rattle.hex.specs.Hex.{decode_of, encode_lower}
 use Rattle.ciborium_ll.specs.Refusal.{Refusal}
@@ -10,15 +12,18 @@ use Rattle.cbor.specs.declared.reading.Spelling.TheVariants.{Any}
 use Rattle.cbor.specs.Line.{hex_text, refusal_text}
 use Rattle.cbor.specs.Spellings.{HasItemBefore, RefusesItem}
 
--- b begins with items one after the other, which mean these trees, and rest is left: each is good within so many levels, and offsets are
+-- b begins with items one after the other, which mean these trees, and rest is left: each is good
+-- within so many levels, and offsets are
 -- counted from its own first byte
 abbrev pub AreItemsBefore : List ℕ → ℕ → List Tree → List ℕ → Type 0
 AreItemsBefore b limit [] rest = b ≡ rest
-AreItemsBefore b limit (tree ∷ trees) rest = (left : List ℕ) × HasItemBefore Any b limit tree left × AreItemsBefore left limit trees rest
+AreItemsBefore b limit (tree ∷ trees) rest = (left : List ℕ) × HasItemBefore Any b limit tree left ×
+    AreItemsBefore left limit trees rest
 
 -- a line is the hex of a sequence of items that mean these trees
 abbrev pub IsSequenceOf : List ℕ → ℕ → List Tree → Type 0
-IsSequenceOf line limit trees = MatchResult (decode_of line) (λ b. AreItemsBefore b limit trees []) (λ _. ⊥)
+IsSequenceOf line limit trees = MatchResult (decode_of line) (λ b. AreItemsBefore b limit trees [])
+    (λ _. ⊥)
 
 -- a space, and the encoding of a tree in lower-case hex (RFC 8949, section 4.1)
 abbrev pub item_text : Tree → List ℕ
@@ -35,15 +40,21 @@ refused_item_text n reason = codes "item " ++ (decimal n ++ (codes ": " ++ reaso
 -- the bytes b, read as a sequence, have this answer
 pub data HasSequenceAnswer (b : List ℕ) (limit : ℕ) (answer : List ℕ) : Type 0 where
   -- all of b is a sequence
-  whole : (trees : List Tree) → AreItemsBefore b limit trees [] → answer ≡ sequence_text trees → HasSequenceAnswer b limit answer
+  whole : (trees : List Tree) → AreItemsBefore b limit trees [] → answer ≡ sequence_text trees →
+      HasSequenceAnswer b limit answer
   -- behind items one after the other more bytes follow, and are refused
-  refused : (trees : List Tree) (rest : List ℕ) (e : Refusal) → AreItemsBefore b limit trees rest → 0 < length rest → RefusesItem Any rest limit e →
-      answer ≡ refused_item_text (length trees + 1) (refusal_text e) → HasSequenceAnswer b limit answer
+  refused : (trees : List Tree) (rest : List ℕ) (e : Refusal) → AreItemsBefore b limit trees rest →
+      0 < length rest → RefusesItem Any rest limit e →
+      answer ≡ refused_item_text (length trees + 1) (refusal_text e) →
+      HasSequenceAnswer b limit answer
 
--- the text answers a line that is read as a sequence: its bytes, or `hex` where it is not an even number of hex digits
+-- the text answers a line that is read as a sequence: its bytes, or `hex` where it is not an even
+-- number of hex digits
 abbrev pub IsSequenceAnswer : List ℕ → ℕ → List ℕ → Type 0
-IsSequenceAnswer line limit answer = MatchResult (decode_of line) (λ b. HasSequenceAnswer b limit answer) (λ _. answer ≡ hex_text)
+IsSequenceAnswer line limit answer = MatchResult (decode_of line)
+    (λ b. HasSequenceAnswer b limit answer) (λ _. answer ≡ hex_text)
 
 -- all of b is a sequence, and the text is the answer that says so
 abbrev pub AreSequence : List ℕ → ℕ → List ℕ → Type 0
-AreSequence b limit text = (trees : List Tree) × AreItemsBefore b limit trees [] × (text ≡ sequence_text trees)
+AreSequence b limit text = (trees : List Tree) × AreItemsBefore b limit trees [] ×
+    (text ≡ sequence_text trees)

@@ -25,11 +25,14 @@ shown_text (Notation layout) v = notation_text layout v
 
 -- a line is an item in any spelling, within so many levels, and the text is its notation
 abbrev pub IsNotationText : Layout → List ℕ → ℕ → List ℕ → Type 0
-IsNotationText layout line limit text = (v : Tree) × IsMeant Any line limit v × (text ≡ notation_text layout v)
+IsNotationText layout line limit text = (v : Tree) × IsMeant Any line limit v ×
+    (text ≡ notation_text layout v)
 
 -- the text answers a line
-pub data IsNotationAnswer (layout : Layout) (line : List ℕ) (limit : ℕ) (answer : List ℕ) : Type 0 where
-  -- it is an item
-  shown : IsNotationText layout line limit answer → IsNotationAnswer layout line limit answer
-  -- it is no item
-  unshown : (e : Refusal) → e ≢ Memory → IsRefused Any line limit e → answer ≡ refused_text e → IsNotationAnswer layout line limit answer
+pub data IsNotationAnswer (layout : Layout) (line : List ℕ) (limit : ℕ) (answer : List ℕ) : Type 0
+  where
+    -- it is an item
+    shown : IsNotationText layout line limit answer → IsNotationAnswer layout line limit answer
+    -- it is no item
+    unshown : (e : Refusal) → e ≢ Memory → IsRefused Any line limit e → answer ≡ refused_text e →
+        IsNotationAnswer layout line limit answer

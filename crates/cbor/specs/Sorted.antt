@@ -7,4 +7,5 @@ use Rattle.ciborium_value.specs.declared.key_order.KeyOrder.{KeyOrder}
 
 -- no tree comes in this order after one that stands behind it
 abbrev pub AreSorted : KeyOrder → List Tree → Type 0
-AreSorted order ts = (i j : ℕ) (d : Tree) → i ≤ j → j < length ts → key_order order (slice_index_or ts i d) (slice_index_or ts j d) ≢ Greater
+AreSorted order ts = (i j : ℕ) (d : Tree) → i ≤ j → j < length ts →
+    key_order order (slice_index_or ts i d) (slice_index_or ts j d) ≢ Greater

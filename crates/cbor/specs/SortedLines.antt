@@ -13,7 +13,9 @@ use Rattle.cbor.specs.Sorted.{AreSorted}
 abbrev pub hex_line : Tree → List ℕ
 hex_line v = encode_lower (encoding v) ++ (10 ∷ [])
 
--- each line of b is an item; what they mean is put behind w in this order, each tree as often as it came
+-- each line of b is an item; what they mean is put behind w in this order, each tree as often as it
+-- came
 abbrev pub AreSortedLines : KeyOrder → List ℕ → ℕ → List ℕ → Option (List ℕ) → Type 0
-AreSortedLines order b limit w after = (came : List Tree) × (sorted : List Tree) × AreMeant Any b limit [] came × IsPermutation came sorted × AreSorted order sorted ×
+AreSortedLines order b limit w after = (came : List Tree) × (sorted : List Tree) ×
+    AreMeant Any b limit [] came × IsPermutation came sorted × AreSorted order sorted ×
     (after ≡ Some (w ++ flat_map hex_line sorted))

@@ -1,4 +1,5 @@
--- Bytes that are one item, or begin with none, as a spelling is asked for (RFC 8949, sections 3 and 4.2).
+-- Bytes that are one item, or begin with none, as a spelling is asked for (RFC 8949, sections 3 and
+-- 4.2).
 use Rattle.std.specs.Prelude.{◌≡◌, ℕ, List, ◌++◌, Some}
 use Rattle.ciborium_ll.specs.Refusal.{Refusal}
 use Rattle.ciborium_value.specs.Refuses.{IsReadAs, Refuses}
@@ -8,7 +9,8 @@ use Rattle.ciborium.specs.DeterministicRefusals.{DeterministicallyRefuses}
 use Rattle.cbor.specs.declared.reading.Spelling.{Spelling}
 use Rattle.cbor.specs.declared.reading.Spelling.TheVariants.{Any, Deterministic}
 
--- b is one item within so many levels, which means v: any good one, or the deterministic encoding of v by an order of keys
+-- b is one item within so many levels, which means v: any good one, or the deterministic encoding
+-- of v by an order of keys
 abbrev pub IsItem : Spelling → List ℕ → ℕ → Tree → Type 0
 IsItem Any b limit v = IsReadAs b 0 (Some limit) v
 IsItem (Deterministic order) b limit v = IsDeterministicAt order b 0 limit v

@@ -1,5 +1,6 @@
 -- What is written for an input that is a sequence of items as bytes (RFC 8742), not in hex.
-use Rattle.std.specs.Prelude.{◌≡◌, ℕ, ◌+◌, ◌<◌, Bool, true, false, List, [], ◌++◌, length, Option, Some, Result, MatchResult}
+use Rattle.std.specs.Prelude.{◌≡◌, ℕ, ◌+◌, ◌<◌, Bool, true, false, List, [], ◌++◌, length, Option}
+use Rattle.std.specs.Prelude.{Some, Result, MatchResult}
 use Rattle.std.specs.List.{flat_map}
 use Rattle.ciborium_ll.specs.Refusal.{Refusal}
 use Rattle.ciborium_value.specs.Tree.{Tree}
@@ -23,18 +24,26 @@ shown_line showing v = text_line (shown_text showing v)
 abbrev pub AreShownBehind : Showing → List ℕ → List Tree → Option (List ℕ) → Type 0
 AreShownBehind showing w trees after = after ≡ Some (w ++ flat_map (shown_line showing) trees)
 
--- the items of b are shown behind w, each within so many levels: of all of b, which is a sequence, or of those before the first that is
--- refused, and then comes the line that says its number, counted from 1, and why, with an offset that is counted from its own first byte
-pub data IsStreamShown (showing : Showing) (b : List ℕ) (limit : ℕ) (w : List ℕ) : Bool → Option (List ℕ) → Type 0 where
-  whole : (trees : List Tree) (after : Option (List ℕ)) → AreItemsBefore b limit trees [] → AreShownBehind showing w trees after →
+-- the items of b are shown behind w, each within so many levels: of all of b, which is a sequence,
+-- or of those before the first that is
+-- refused, and then comes the line that says its number, counted from 1, and why, with an offset
+-- that is counted from its own first byte
+pub data IsStreamShown (showing : Showing) (b : List ℕ) (limit : ℕ) (w : List ℕ) : Bool →
+    Option (List ℕ) → Type 0 where
+  whole : (trees : List Tree) (after : Option (List ℕ)) → AreItemsBefore b limit trees [] →
+      AreShownBehind showing w trees after →
       IsStreamShown showing b limit w true after
-  refused : (trees : List Tree) (rest : List ℕ) (e : Refusal) (after : Option (List ℕ)) → AreItemsBefore b limit trees rest → 0 < length rest →
+  refused : (trees : List Tree) (rest : List ℕ) (e : Refusal) (after : Option (List ℕ)) →
+      AreItemsBefore b limit trees rest → 0 < length rest →
       RefusesItem Any rest limit e →
-      after ≡ Some ((w ++ flat_map (shown_line showing) trees) ++ text_line (refused_item_text (length trees + 1) (refusal_text e))) →
+      after ≡ Some ((w ++ flat_map (shown_line showing) trees) ++ text_line
+      (refused_item_text (length trees + 1) (refusal_text e))) →
       IsStreamShown showing b limit w false after
 
--- of the bytes b the item at the front was read, within so many levels, and is the value, or is refused for this reason
+-- of the bytes b the item at the front was read, within so many levels, and is the value, or is
+-- refused for this reason
 abbrev pub IsReadNext : List ℕ → ℕ → Option (List ℕ) → Result Value Reason → Type 0
 IsReadNext b limit after next = MatchResult next
-    (λ value. (left : List ℕ) × HasItemBefore Any b limit (tree_of value) left × (after ≡ Some left))
+    (λ value. (left : List ℕ) × HasItemBefore Any b limit (tree_of value) left ×
+    (after ≡ Some left))
     (λ reason. IsFrontRefused Any b limit reason)

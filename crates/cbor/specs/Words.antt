@@ -1,5 +1,6 @@
 -- Which words the program is run with, and what they ask for.
-use Rattle.std.specs.Prelude.{◌≡◌, ℕ, ◌^◌, ◌<◌, List, [], ◌∷◌, Option, Some, None, MatchOption, codes}
+use Rattle.std.specs.Prelude.{◌≡◌, ℕ, ◌^◌, ◌<◌, List, [], ◌∷◌, Option, Some, None, MatchOption}
+use Rattle.std.specs.Prelude.{codes}
 use Rattle.std.specs.Str.Parse.{IsNumeral, digits_value}
 use Rattle.ciborium_value.specs.declared.key_order.KeyOrder.{KeyOrder}
 use Rattle.ciborium_value.specs.declared.key_order.KeyOrder.TheVariants.{LengthFirst, Bytewise}
@@ -29,12 +30,14 @@ NameLimitBehind [] words n = NameLimit words n
 NameLimitBehind (flag ∷ flags) [] n = ⊥
 NameLimitBehind (flag ∷ flags) (first ∷ others) n = (first ≡ flag) × NameLimitBehind flags others n
 
--- the flags for an order of keys: none for the canonical one, and `--core` for that of the core deterministic encoding
+-- the flags for an order of keys: none for the canonical one, and `--core` for that of the core
+-- deterministic encoding
 abbrev pub order_flags : KeyOrder → List (List ℕ)
 order_flags LengthFirst = []
 order_flags Bytewise = codes "--core" ∷ []
 
--- the flags for a spelling: none for any, and for the deterministic one `--det` and then those for its order
+-- the flags for a spelling: none for any, and for the deterministic one `--det` and then those for
+-- its order
 abbrev pub spelling_flags : Spelling → List (List ℕ)
 spelling_flags Any = []
 spelling_flags (Deterministic order) = codes "--det" ∷ order_flags order
@@ -52,7 +55,8 @@ command_words (Answer (readings.Form order n)) = codes "canon" ∷ order_flags o
 command_words (Answer (readings.Notation layout n)) = codes "diag" ∷ layout_flags layout
 command_words (Sort order) = codes "sort" ∷ order_flags order
 command_words (Show showings.Encoding n) = codes "read" ∷ (codes "--binary" ∷ [])
-command_words (Show (showings.Notation layout) n) = codes "diag" ∷ (codes "--binary" ∷ layout_flags layout)
+command_words (Show (showings.Notation layout) n) =
+    codes "diag" ∷ (codes "--binary" ∷ layout_flags layout)
 command_words (Tell Help) = codes "--help" ∷ []
 command_words (Tell Version) = codes "--version" ∷ []
 
@@ -69,7 +73,8 @@ command_limit (Tell topic) = None
 -- the words ask for this: they are the words for it, and a limit behind them where it takes one
 abbrev pub AskFor : List (List ℕ) → Command → Type 0
 AskFor words command =
-    MatchOption (command_limit command) (words ≡ command_words command) (λ n. NameLimitBehind (command_words command) words n)
+    MatchOption (command_limit command) (words ≡ command_words command)
+    (λ n. NameLimitBehind (command_words command) words n)
 
 -- the words ask for nothing that the program does
 abbrev pub AreWrong : List (List ℕ) → Type 0

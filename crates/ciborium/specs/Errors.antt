@@ -4,11 +4,14 @@ use Rattle.ciborium_ll.specs.declared.header.Error.{Error as LlError}
 use Rattle.ciborium_ll.specs.declared.header.Error.TheVariants as ll
 use Rattle.ciborium_ll.specs.Refusal as refusal
 use Rattle.ciborium_ll.specs.Refusal.{Refusal}
-use Rattle.ciborium_value.specs.Sources.{Fault, of_device, of_kind, of_length, of_memory, of_nesting, of_syntax}
+use Rattle.ciborium_value.specs.Sources.{Fault, of_device, of_kind, of_length, of_memory}
+use Rattle.ciborium_value.specs.Sources.{of_nesting, of_syntax}
 use Rattle.ciborium_value.specs.declared.kind.Kind.{Kind}
 use Rattle.ciborium_value.specs.declared.kind.Kind.TheVariants as kinds
 use Rattle.ciborium.specs.declared.de.error.Error.{Error}
-use Rattle.ciborium.specs.declared.de.error.Error.TheVariants.{Io, Syntax, Semantic, RecursionLimitExceeded, Memory, TooLong}
+use Rattle.ciborium.specs.declared.de.error.Error.TheVariants.{Io, Syntax, Semantic}
+use Rattle.ciborium.specs.declared.de.error.Error.TheVariants.{RecursionLimitExceeded, Memory}
+use Rattle.ciborium.specs.declared.de.error.Error.TheVariants.{TooLong}
 
 -- what an error of the lowest layer becomes
 abbrev pub from_ll : {E : Type 0} → LlError E → Error E
@@ -35,7 +38,8 @@ IsNamed (Some p) (Some k) P = P (refusal.semantic p k)
 IsNamed (Some p) None P = ⊥
 IsNamed None k P = ⊥
 
--- an error other than `Memory`, of a call that leaves this of the reader, is a refusal of which P holds; `Io` is one where the reader
+-- an error other than `Memory`, of a call that leaves this of the reader, is a refusal of which P
+-- holds; `Io` is one where the reader
 -- came to its end
 abbrev pub IsRefusedBy : {E : Type 0} → Option (List ℕ) → Error E → (Refusal → Type 0) → Type 0
 IsRefusedBy left (Io e) P = left ≡ Some [] → P refusal.io

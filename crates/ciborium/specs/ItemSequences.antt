@@ -9,4 +9,5 @@ IsSequence b items = SpellsItems b items
 
 -- no bytes are two sequences
 abbrev pub OneSequence : Type 0
-OneSequence = (b : List ℕ) (items others : Items) → IsSequence b items → IsSequence b others → items ≡ others
+OneSequence = (b : List ℕ) (items others : Items) → IsSequence b items → IsSequence b others →
+    items ≡ others

@@ -1,16 +1,22 @@
--- Reading the items of a sequence one after the other (RFC 8742, section 2): the next item, or the end where none follows.
-use Rattle.std.specs.Prelude.{◌≡◌, ℕ, List, [], Option, Some, None, Result, Ok, Err, IfErr, IfOk, IfSome, OnOk}
+-- Reading the items of a sequence one after the other (RFC 8742, section 2): the next item, or the
+-- end where none follows.
+use Rattle.std.specs.Prelude.{◌≡◌, ℕ, List, [], Option, Some, None, Result, Ok, Err, IfErr, IfOk}
+use Rattle.std.specs.Prelude.{IfSome, OnOk}
 use Rattle.std.specs.Io.KnownBytes.{Consumes, IsAtEnd}
 use Rattle.ciborium_ll.specs.declared.header.Header.{Header}
 use Rattle.ciborium_value.specs.Readings.{Reading}
-use Rattle.ciborium_value.specs.Sources.{IsGrantedFault, RefusesAhead, TakesAhead, TakesItem, TakesOnly, read_as}
+use Rattle.ciborium_value.specs.Sources.{IsGrantedFault, RefusesAhead, TakesAhead, TakesItem}
+use Rattle.ciborium_value.specs.Sources.{TakesOnly, read_as}
 use Rattle.ciborium.specs.declared.de.byte_source.ByteSource.{ByteSource}
 use Rattle.ciborium.specs.declared.de.error.Error.{Error}
-use Rattle.ciborium.specs.declared.de.error.Error.TheVariants.{Io, Syntax, Semantic, RecursionLimitExceeded, Memory, TooLong}
+use Rattle.ciborium.specs.declared.de.error.Error.TheVariants.{Io, Syntax, Semantic}
+use Rattle.ciborium.specs.declared.de.error.Error.TheVariants.{RecursionLimitExceeded, Memory}
+use Rattle.ciborium.specs.declared.de.error.Error.TheVariants.{TooLong}
 use Rattle.ciborium.specs.inner.ByteSources.{HasTakenSince, IsUnread, ReadsValue, StandsBefore}
 use Rattle.ciborium.specs.Errors.{fault_of}
 
--- ---- the clauses of a call that reads the next item: what the reader held before it, what it is left with, and the answer
+-- ---- the clauses of a call that reads the next item: what the reader held before it, what it is
+-- left with, and the answer
 
 -- P holds of the answer, unless it is the end
 abbrev pub Otherwise : {A E : Type 0} → Result (Option A) E → (Result A E → Type 0) → Type 0
@@ -27,9 +33,11 @@ IsReadIo RecursionLimitExceeded = ⊥
 IsReadIo Memory = ⊥
 IsReadIo TooLong = ⊥
 
--- the end is answered where nothing is taken and, if the bytes are known, none are left; where none are left no item is answered, and
+-- the end is answered where nothing is taken and, if the bytes are known, none are left; where none
+-- are left no item is answered, and
 -- the error of a reader that fails there is `Io`
-abbrev pub TellsEnd : {A E : Type 0} → Option (List ℕ) → Option (List ℕ) → Result (Option A) (Error E) → Type 0
+abbrev pub TellsEnd : {A E : Type 0} → Option (List ℕ) → Option (List ℕ) →
+    Result (Option A) (Error E) → Type 0
 TellsEnd before after (Ok None) = Consumes before after [] × IsAtEnd after
 TellsEnd before after (Ok (Some v)) = ¬ (before ≡ Some [])
 TellsEnd before after (Err e) = before ≡ Some [] → IsReadIo e
@@ -44,15 +52,25 @@ IfNotEnded (Err e) P = P (Err e)
 
 -- the source, where this head was pulled first and is pending
 abbrev pub behind_head : {S : Type 0} → ByteSource S → Header → ByteSource S
-behind_head s h = record { decoder = s.decoder; pending = Some (h, 0); levels = s.levels; scratch = s.scratch; failure = s.failure; unpushed = s.unpushed }
+behind_head s h = record {
+  decoder = s.decoder;
+  pending = Some (h, 0);
+  levels = s.levels;
+  scratch =
+      s.scratch;
+  failure = s.failure;
+  unpushed = s.unpushed;
+}
 
 -- a value was read from the source: all that reading a value of the type says
-abbrev pub IsReadFrom : {S T A E : Type 0} → (S → Option (List ℕ)) → Reading T A → ByteSource S → ByteSource S → Result T (Error E) → Type 0
+abbrev pub IsReadFrom : {S T A E : Type 0} → (S → Option (List ℕ)) → Reading T A → ByteSource S →
+    ByteSource S → Result T (Error E) → Type 0
 IsReadFrom remaining reading old new r = record {
   ok : IfOk r (λ v. TakesAhead (StandsBefore remaining) old new reading.taken (reading.content v));
   took : OnOk r (TakesItem (IsUnread remaining) old new);
   only : TakesOnly (HasTakenSince remaining) old new;
   refused : IfErr r (λ e. RefusesAhead (StandsBefore remaining) old reading.taken (fault_of e));
   memory : IfErr r (λ e. IsGrantedFault (fault_of e) reading.needs_memory);
-  whole : IfSome reading.whole (λ tree. ReadsValue remaining old new (read_as (λ v. tree (reading.content v)) r));
+  whole : IfSome reading.whole (λ tree. ReadsValue remaining old new
+      (read_as (λ v. tree (reading.content v)) r));
 }

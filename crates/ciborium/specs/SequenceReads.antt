@@ -1,5 +1,6 @@
 -- Reading a whole sequence of items (RFC 8742, section 2) as values of one type.
-use Rattle.std.specs.Prelude.{◌≡◌, ℕ, List, [], ◌∷◌, ◌++◌, length, Option, Some, Result, IfOk, IfErr}
+use Rattle.std.specs.Prelude.{◌≡◌, ℕ, List, [], ◌∷◌, ◌++◌, length, Option, Some, Result, IfOk}
+use Rattle.std.specs.Prelude.{IfErr}
 use Rattle.ciborium_ll.specs.Item.{Item}
 use Rattle.ciborium_ll.specs.Spells.{Spells}
 use Rattle.ciborium_value.specs.Nesting.{Limit}
@@ -9,27 +10,35 @@ use Rattle.ciborium.specs.declared.de.error.Error.{Error}
 use Rattle.ciborium.specs.Errors.{fault_of}
 use Rattle.ciborium.specs.TypedAnswers.{IsFaultAhead}
 
--- b begins with spellings of items that give these values within the limit, one after the other, and u follows them
+-- b begins with spellings of items that give these values within the limit, one after the other,
+-- and u follows them
 abbrev pub GivesThen : {A : Type 0} → Limit → Taken A → List ℕ → List A → List ℕ → Type 0
 GivesThen l taken b [] u = b ≡ u
-GivesThen l taken b (c ∷ cs) u = (i : Item) × (s : List ℕ) × (left : List ℕ) × Spells s i × (b ≡ s ++ left) × (taken l i ≡ gives c) × GivesThen l taken left cs u
+GivesThen l taken b (c ∷ cs) u = (i : Item) × (s : List ℕ) × (left : List ℕ) × Spells s i ×
+    (b ≡ s ++ left) × (taken l i ≡ gives c) × GivesThen l taken left cs u
 
 -- b is a sequence of items that give these values, and nothing else
 abbrev pub GivesInTurn : {A : Type 0} → Limit → Taken A → List ℕ → List A → Type 0
 GivesInTurn l taken b cs = GivesThen l taken b cs []
 
--- behind items that give values, what is left is refused: an item at its front as it is, and where nothing is left, for what no item
+-- behind items that give values, what is left is refused: an item at its front as it is, and where
+-- nothing is left, for what no item
 -- decides
 abbrev pub IsRefusedThen : {A : Type 0} → Limit → Taken A → List ℕ → Fault → Type 0
 IsRefusedThen {A} l taken b fault =
-    (cs : List A) × (u : List ℕ) × GivesThen l taken b cs u × IsFaultAhead (length u) l taken u fault × (u ≡ [] → IsOutsideFault 0 fault)
+    (cs : List A) × (u : List ℕ) × GivesThen l taken b cs u ×
+    IsFaultAhead (length u) l taken u fault × (u ≡ [] → IsOutsideFault 0 fault)
 
 -- ---- what the reader held before, what it is left with, and the answer
 
 -- at Ok all that was there is a sequence that gives the answer, and nothing is left
-abbrev pub TakesSequence : {A E : Type 0} → Limit → Taken A → Option (List ℕ) → Option (List ℕ) → Result (List A) (Error E) → Type 0
-TakesSequence l taken before after r = (b : List ℕ) → before ≡ Some b → IfOk r (λ cs. GivesInTurn l taken b cs × (after ≡ Some []))
+abbrev pub TakesSequence : {A E : Type 0} → Limit → Taken A → Option (List ℕ) → Option (List ℕ) →
+    Result (List A) (Error E) → Type 0
+TakesSequence l taken before after r = (b : List ℕ) → before ≡ Some b →
+    IfOk r (λ cs. GivesInTurn l taken b cs × (after ≡ Some []))
 
 -- refused only behind items that give values, and as what follows them is
-abbrev pub RefusesSequence : {A E : Type 0} → Limit → Taken A → Option (List ℕ) → Result (List A) (Error E) → Type 0
-RefusesSequence l taken before r = (b : List ℕ) → before ≡ Some b → IfErr r (λ e. IsRefusedThen l taken b (fault_of e))
+abbrev pub RefusesSequence : {A E : Type 0} → Limit → Taken A → Option (List ℕ) →
+    Result (List A) (Error E) → Type 0
+RefusesSequence l taken before r = (b : List ℕ) → before ≡ Some b →
+    IfErr r (λ e. IsRefusedThen l taken b (fault_of e))

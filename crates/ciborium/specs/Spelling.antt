@@ -1,5 +1,7 @@
--- The spellings that a value is read by: any (RFC 8949, section 3), and the deterministic one by each order of keys (section 4.2).
-use Rattle.std.specs.Prelude.{◌≡◌, ℕ, ◌-◌, List, length, if◌then◌else◌, ◌==◌, Option, Some, None, MatchOption}
+-- The spellings that a value is read by: any (RFC 8949, section 3), and the deterministic one by
+-- each order of keys (section 4.2).
+use Rattle.std.specs.Prelude.{◌≡◌, ℕ, ◌-◌, List, length, if◌then◌else◌, ◌==◌, Option, Some, None}
+use Rattle.std.specs.Prelude.{MatchOption}
 use Rattle.std.specs.declared.cmp.Ordering.TheVariants.{Less}
 use Rattle.ciborium_ll.specs.declared.header.Header.{Header}
 use Rattle.ciborium_ll.specs.declared.header.Header.TheVariants as header
@@ -34,7 +36,8 @@ RefusesBy (deterministic order) b p l = DeterministicallyRefuses order b p l
 
 -- why a head of so many bytes is no head of a deterministic encoding
 abbrev pub long_fault : ℕ → ℕ → ℕ → Option Kind
-long_fault major n size = if size == length (shortest_head major n) then None else Some kinds.NotShortest
+long_fault major n size = if size == length (shortest_head major n) then None else Some
+    kinds.NotShortest
 
 abbrev pub counted_fault : ℕ → Option ℕ → ℕ → Option Kind
 counted_fault major (Some n) size = long_fault major n size
@@ -68,12 +71,14 @@ IsUnwanted (deterministic order) payload = IsFoldable payload
 
 -- the key that waits for its value, if one does, is behind the key before it, if there is one
 abbrev pub IsKeyInOrder : KeyOrder → List TreeFrame → Type 0
-IsKeyInOrder order os = MatchOption (waiting_keys os) (Unit {0}) (λ keys. key_order order keys.0 keys.1 ≡ Less)
+IsKeyInOrder order os = MatchOption (waiting_keys os) (Unit {0})
+    (λ keys. key_order order keys.0 keys.1 ≡ Less)
 
 -- it is not, and its first byte is at this offset, where its last byte stands before offset r
 abbrev pub IsKeyOutOfOrder : KeyOrder → List TreeFrame → ℕ → ℕ → Type 0
 IsKeyOutOfOrder order os r at =
-    (before : Tree) × (key : Tree) × (waiting_keys os ≡ Some (before, key)) × ¬ (key_order order before key ≡ Less) × (at ≡ r - encoded_size key)
+    (before : Tree) × (key : Tree) × (waiting_keys os ≡ Some (before, key)) ×
+    ¬ (key_order order before key ≡ Less) × (at ≡ r - encoded_size key)
 
 abbrev pub HasKeysInOrder : Spelling → List TreeFrame → Type 0
 HasKeysInOrder any os = Unit {0}

@@ -1,5 +1,6 @@
 -- What reading a value of any type answers, from bytes and from a tree.
-use Rattle.std.specs.Prelude.{◌≡◌, ℕ, ◌+◌, List, ◌++◌, length, Option, Some, None, Result, Ok, Err, IfOk, IfErr}
+use Rattle.std.specs.Prelude.{◌≡◌, ℕ, ◌+◌, List, ◌++◌, length, Option, Some, None, Result, Ok, Err}
+use Rattle.std.specs.Prelude.{IfOk, IfErr}
 use Rattle.std.specs.Io.KnownBytes.{Consumes}
 use Rattle.std.specs.declared.io.Error.{Error as IoError}
 use Rattle.ciborium_ll.specs.Item.{Item}
@@ -7,7 +8,8 @@ use Rattle.ciborium_ll.specs.Spells.{Spells}
 use Rattle.ciborium_value.specs.Encoding.{encoding, item_of}
 use Rattle.ciborium_value.specs.Nesting.{Limit}
 use Rattle.ciborium_value.specs.ProperTrees.{IsProperTree}
-use Rattle.ciborium_value.specs.Sources.{Fault, of_kind, of_nesting, of_syntax, of_memory, of_device, of_length, IsFaultOf}
+use Rattle.ciborium_value.specs.Sources.{Fault, of_kind, of_nesting, of_syntax, of_memory}
+use Rattle.ciborium_value.specs.Sources.{of_device, of_length, IsFaultOf}
 use Rattle.ciborium_value.specs.Taken.{gives, Taken}
 use Rattle.ciborium_value.specs.Tree.{Tree}
 use Rattle.ciborium_value.specs.TreeAnswers.{IsErrorOf}
@@ -21,19 +23,27 @@ use Rattle.ciborium.specs.declared.de.error.Error.{Error}
 
 -- an item stood at the front that gives v within the limit, and just that item was taken
 abbrev pub TakesGiving : {A : Type 0} → Limit → Taken A → List ℕ → A → Option (List ℕ) → Type 0
-TakesGiving l taken b v after = (i : Item) × (s : List ℕ) × (left : List ℕ) × Spells s i × (b ≡ s ++ left) × (taken l i ≡ gives v) × (after ≡ Some left)
+TakesGiving l taken b v after = (i : Item) × (s : List ℕ) × (left : List ℕ) × Spells s i ×
+    (b ≡ s ++ left) × (taken l i ≡ gives v) × (after ≡ Some left)
 
--- where an item stands at the front, and what is there ends at this offset, it is refused so, or for what no item decides
+-- where an item stands at the front, and what is there ends at this offset, it is refused so, or
+-- for what no item decides
 abbrev pub IsFaultAhead : {A : Type 0} → ℕ → Limit → Taken A → List ℕ → Fault → Type 0
-IsFaultAhead end l taken b fault = (i : Item) (s left : List ℕ) → Spells s i → b ≡ s ++ left → IsFaultOf end fault (taken l i)
+IsFaultAhead end l taken b fault = (i : Item) (s left : List ℕ) → Spells s i → b ≡ s ++ left →
+    IsFaultOf end fault (taken l i)
 
 -- at Ok just an item was taken, and the answer is what it gives
-abbrev pub TakesGiven : {A E : Type 0} → Limit → Taken A → Option (List ℕ) → Option (List ℕ) → Result A (Error E) → Type 0
-TakesGiven l taken before after r = (b : List ℕ) → before ≡ Some b → IfOk r (λ v. TakesGiving l taken b v after)
+abbrev pub TakesGiven : {A E : Type 0} → Limit → Taken A → Option (List ℕ) → Option (List ℕ) →
+    Result A (Error E) → Type 0
+TakesGiven l taken before after r = (b : List ℕ) → before ≡ Some b →
+    IfOk r (λ v. TakesGiving l taken b v after)
 
--- an item at the front, at offset p, is refused only as it is: as too long only where what is there passes the greatest offset
-abbrev pub RefusesTaken : {A E : Type 0} → ℕ → Limit → Taken A → Option (List ℕ) → Result A (Error E) → Type 0
-RefusesTaken p l taken before r = (b : List ℕ) → before ≡ Some b → IfErr r (λ e. IsFaultAhead (p + length b) l taken b (fault_of e))
+-- an item at the front, at offset p, is refused only as it is: as too long only where what is there
+-- passes the greatest offset
+abbrev pub RefusesTaken : {A E : Type 0} → ℕ → Limit → Taken A → Option (List ℕ) →
+    Result A (Error E) → Type 0
+RefusesTaken p l taken before r = (b : List ℕ) → before ≡ Some b →
+    IfErr r (λ e. IsFaultAhead (p + length b) l taken b (fault_of e))
 
 -- some bytes were taken, a beginning of those that are known, and nothing else
 abbrev pub TakesBeginning : Option (List ℕ) → Option (List ℕ) → Type 0
@@ -47,8 +57,10 @@ AnswersTree taken i (Ok v) = taken None i ≡ gives v
 AnswersTree taken i (Err e) = IsErrorOf e (taken None i)
 
 -- the answer of a reader over these bytes within a limit
-abbrev pub AnswersBytes : {A E : Type 0} → Taken A → ℕ → List ℕ → Option (List ℕ) → Result A (Error E) → Type 0
-AnswersBytes taken l b after r = TakesGiven (Some l) taken (Some b) after r × RefusesTaken 0 (Some l) taken (Some b) r
+abbrev pub AnswersBytes : {A E : Type 0} → Taken A → ℕ → List ℕ → Option (List ℕ) →
+    Result A (Error E) → Type 0
+AnswersBytes taken l b after r = TakesGiven (Some l) taken (Some b) after r ×
+    RefusesTaken 0 (Some l) taken (Some b) r
 
 -- refused for nesting, for want of memory, as too long or by the device
 abbrev pub IsExcused : Fault → Type 0
@@ -68,7 +80,8 @@ IsSameKind k of_memory = Unit {0}
 IsSameKind k of_device = Unit {0}
 IsSameKind k of_length = Unit {0}
 
--- the same value, or both are refused with the same kind; the second may be refused for nesting, and either for want of memory
+-- the same value, or both are refused with the same kind; the second may be refused for nesting,
+-- and either for want of memory
 abbrev pub AreOneAnswer : {A E : Type 0} → Result A TreeError → Result A (Error E) → Type 0
 AreOneAnswer (Ok v) (Ok w) = v ≡ w
 AreOneAnswer (Ok v) (Err e) = IsExcused (fault_of e)
@@ -79,5 +92,7 @@ AreOneAnswer (Err of_tree.Memory) r = Unit {0}
 -- what a tree gives, and what its encoding gives within a limit, are one answer
 abbrev pub SourcesAgree : {A : Type 0} → Taken A → Type 0
 SourcesAgree {A} taken =
-    (v : Tree) (l : ℕ) (after : Option (List ℕ)) (r : Result A TreeError) (q : Result A (Error IoError)) →
-    IsProperTree v → AnswersTree taken (item_of v) r → AnswersBytes taken l (encoding v) after q → AreOneAnswer r q
+    (v : Tree) (l : ℕ) (after : Option (List ℕ)) (r : Result A TreeError)
+    (q : Result A (Error IoError)) →
+    IsProperTree v → AnswersTree taken (item_of v) r → AnswersBytes taken l (encoding v) after q →
+    AreOneAnswer r q

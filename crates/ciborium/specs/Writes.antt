@@ -24,9 +24,11 @@ cause_of (Io e) = device
 cause_of (Value kind) = value kind
 cause_of Memory = memory
 
--- the bytes of the item that a value names: all at `Ok`, a proper beginning of them at `Err`, and nothing else. A value that names
+-- the bytes of the item that a value names: all at `Ok`, a proper beginning of them at `Err`, and
+-- nothing else. A value that names
 -- none is never written
-abbrev pub WritesNamed : {E : Type 0} → Option (List ℕ) → Option (List ℕ) → Result (Unit {0}) E → Named → Type 0
+abbrev pub WritesNamed : {E : Type 0} → Option (List ℕ) → Option (List ℕ) → Result (Unit {0}) E →
+    Named → Type 0
 WritesNamed old new result (Ok i) = Writes old new result (written_bytes i)
 WritesNamed old new result (Err kind) = IsErr result
 
@@ -46,8 +48,10 @@ abbrev pub out_of : {W : Type 0} → (W → Option (List ℕ)) → ByteSink W �
 out_of contents s = named_out s.writer.ghost_name (contents s.writer.now)
 
 -- the bytes go out: all at `Ok`, and at `Err` a proper beginning of them
-abbrev pub PutsOut : {W E : Type 0} → (W → Option (List ℕ)) → ByteSink W → ByteSink W → Result (Unit {0}) E → List ℕ → Type 0
-PutsOut contents old new result bytes = Writes (contents old.writer.now) (contents new.writer.now) result bytes
+abbrev pub PutsOut : {W E : Type 0} → (W → Option (List ℕ)) → ByteSink W → ByteSink W →
+    Result (Unit {0}) E → List ℕ → Type 0
+PutsOut contents old new result bytes = Writes (contents old.writer.now) (contents new.writer.now)
+    result bytes
 
 -- just the bytes of the place are out, and they can be written
 abbrev pub IsOutFor : {W : Type 0} → (W → Option (List ℕ)) → ByteSink W → Place → Type 0

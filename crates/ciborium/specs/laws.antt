@@ -1,4 +1,5 @@
--- What functions that do nothing have as contracts: laws of encodings, of deterministic ones, and of what is read back.
+-- What functions that do nothing have as contracts: laws of encodings, of deterministic ones, and
+-- of what is read back.
 pub mod AnswerLaws
 pub mod OrdersOfValues
 pub mod DeterministicLaws

@@ -8,5 +8,6 @@ abbrev pub named_number : ℕ → Named
 named_number n = Ok (number_item (pos n))
 
 -- the numbers from place k on
-pub next_number : (xs : List ℕ) (k : ℕ) → k < length xs → map named_number (drop k xs) ≡ named_number (get_or xs k 0) ∷ map named_number (drop (k + 1) xs)
+pub next_number : (xs : List ℕ) (k : ℕ) → k < length xs →
+    map named_number (drop k xs) ≡ named_number (get_or xs k 0) ∷ map named_number (drop (k + 1) xs)
 next_number xs k lt = next_part named_number xs k (get_or xs k 0) lt (sym (get_or_default_zero xs k (get_or xs k 0) lt))

@@ -1,6 +1,7 @@
 -- A type that holds itself: what its values are as trees, and which trees they are.
 use Rattle.std.proofs.Common.{ap, ◌∙◌}
-use Rattle.std.specs.Prelude.{◌≡◌, pos, negsuc, Bool, true, false, ◌&&◌, nat_lt, Some, option_map, refl}
+use Rattle.std.specs.Prelude.{◌≡◌, pos, negsuc, Bool, true, false, ◌&&◌, nat_lt, Some, option_map}
+use Rattle.std.specs.Prelude.{refl}
 use Rattle.ciborium.specs.Folded.{folded, trees_folded}
 use Rattle.ciborium.specs.Meaning.{trees_more}
 use Rattle.ciborium.specs.Number.{number_tree}
@@ -56,4 +57,5 @@ mutual
   folded-number_trees trees.no_trees h = refl
   folded-number_trees (trees.tree v vs) h =
       let parts = both (is_number_tree v) (are_number_trees vs) h in
-      ap (λ o. trees_more o (trees_folded vs)) (folded-number_tree v parts.0) ∙ ap (trees_more (Some v)) (folded-number_trees vs parts.1)
+      ap (λ o. trees_more o (trees_folded vs)) (folded-number_tree v parts.0) ∙
+      ap (trees_more (Some v)) (folded-number_trees vs parts.1)

@@ -1,5 +1,6 @@
 -- The first head of a reader, from its first read on.
-use Rattle.std.proofs.Common.{◌≡◌, ℕ, zero, suc, ◌<◌, ◌≤◌, List, [], ◌∷◌, ◌++◌, length, take, cond, Option, Some, None, Result, Ok, Err, IfOk, IfNone, refl, sym, ap, ◌∙◌, subst, arith, lt-ltb}
+use Rattle.std.proofs.Common.{◌≡◌, ℕ, zero, suc, ◌<◌, ◌≤◌, List, [], ◌∷◌, ◌++◌, length, take, cond, Option, Some, None}
+use Rattle.std.proofs.Common.{Result, Ok, Err, IfOk, IfNone, refl, sym, ap, ◌∙◌, subst, arith, lt-ltb}
 use Rattle.std.specs.Io.KnownBytes.{IsAtEnd}
 use Rattle.ciborium_ll.specs.declared.header.Header.{Header}
 use Rattle.ciborium_ll.specs.declared.header.Error.{Error}
@@ -22,30 +23,39 @@ one-byte (suc (suc n)) (x ∷ []) h one some = absurd (omega (arith, h))
 one-byte n (x ∷ y ∷ xs) h one some = absurd (omega (arith, one))
 
 -- it gave the initial byte
-pub first-given : (a b : Option (List ℕ)) (p q n : ℕ) (buffer : List ℕ) → p < greatest_offset → (n ≡ 0 → ⊥) → length buffer ≡ 1 → n ≤ length buffer → Advances a b p q (λ x. x ≡ take n buffer) → Advances a b p q (λ x. Filled x p buffer)
+pub first-given : (a b : Option (List ℕ)) (p q n : ℕ) (buffer : List ℕ) → p < greatest_offset → (n ≡ 0 → ⊥) →
+    length buffer ≡ 1 → n ≤ length buffer → Advances a b p q (λ x. x ≡ take n buffer) →
+    Advances a b p q (λ x. Filled x p buffer)
 first-given a b p q n buffer room some one fits =
-    Advances-map a b p q (λ x. x ≡ take n buffer) (λ x. Filled x p buffer) (λ x h. (h ∙ one-byte n buffer fits one some, omega (arith, one, room)))
+    Advances-map a b p q (λ x. x ≡ take n buffer) (λ x. Filled x p buffer)
+    (λ x h. (h ∙ one-byte n buffer fits one some, omega (arith, one, room)))
 
 -- ---- what is said of all that is unread
 
-pub pulls-first : {E : Type 0} (old new : Option (List ℕ)) (last count : ℕ) (b : List ℕ) (q p : ℕ) (result : Result (Option Header) (Error E)) → (q ≡ p) × (old ≡ Some b) → last ≡ q →
-    Advances old new q count (λ x. IsFirstTaken {E = E} x q result) → IfOk result (λ o. IfNone o (IsAtEnd new)) → PullsFirstTo {E = E} last count new b p result
+pub pulls-first : {E : Type 0} (old new : Option (List ℕ)) (last count : ℕ) (b : List ℕ) (q p : ℕ)
+    (result : Result (Option Header) (Error E)) → (q ≡ p) × (old ≡ Some b) → last ≡ q →
+    Advances old new q count (λ x. IsFirstTaken {E = E} x q result) → IfOk result (λ o. IfNone o (IsAtEnd new)) →
+    PullsFirstTo {E = E} last count new b p result
 pulls-first old new last count b q p (Ok None) (at, known) here (x, taken, sum, none, bytes) end =
     let k = rest-of old new b x known taken in
     let left : k.0 ≡ [] = subst IsAtEnd k.1 end in
     (k.2 ∙ ap (λ (z : List ℕ). z ++ k.0) none ∙ left, omega (arith, sum, at, ap length none), k.1 ∙ ap Some left)
-pulls-first {E} old new last count b q p (Ok (Some h)) front here taken end = pulls-head {E = E} old new last count b q p (Ok h) front here taken
-pulls-first {E} old new last count b q p (Err e) front here taken end = pulls-head {E = E} old new last count b q p (Err e) front here taken
+pulls-first {E} old new last count b q p (Ok (Some h)) front here taken end =
+    pulls-head {E = E} old new last count b q p (Ok h) front here taken
+pulls-first {E} old new last count b q p (Err e) front here taken end =
+    pulls-head {E = E} old new last count b q p (Err e) front here taken
 
 nothing-in : (x r : List ℕ) → [] ≡ x ++ r → x ≡ []
 nothing-in [] r e = refl
 nothing-in (y ∷ x) r e = absurd cc
 
 -- where nothing is left
-pub first-empty : {E : Type 0} (old new : Option (List ℕ)) (q count : ℕ) (result : Result (Option Header) (Error E)) → q < greatest_offset → old ≡ Some [] → Advances old new q count (λ x. IsFirstTaken {E = E} x q result) →
+pub first-empty : {E : Type 0} (old new : Option (List ℕ)) (q count : ℕ) (result : Result (Option Header) (Error E)) →
+    q < greatest_offset → old ≡ Some [] → Advances old new q count (λ x. IsFirstTaken {E = E} x q result) →
     IsEndOrFault {E = E} result
 first-empty {E} old new q count result room known (x, taken, sum, t, bytes) =
-    let k = rest-of old new [] x known taken in by result (subst (λ z. IsFirstTaken {E = E} z q result) (nothing-in x k.0 k.2) t)
+    let k = rest-of old new [] x known taken in by result
+    (subst (λ z. IsFirstTaken {E = E} z q result) (nothing-in x k.0 k.2) t)
   where
     io-only : (o : Option Refusal) → head_refusal [] q ≡ o → Some io ≡ o
     io-only o h = sym (none-refused q room) ∙ h

@@ -1,11 +1,17 @@
 -- When the head at the front is usable, in terms of its initial byte and of the bytes behind it.
-use Rattle.std.proofs.Common.{◌≡◌, ℕ, zero, suc, ◌+◌, ◌*◌, ◌/◌, ◌%◌, ◌<◌, ◌≤◌, cond, ltb, eqb, Bool, true, false, ◌&&◌, ◌||◌, List, [], ◌∷◌, ◌++◌, length, get_or, take, Option, Some, None, refl, sym, ap, ◌∙◌, subst, arith, inl, inr, ◌⊎◌, ltb-true, ltb-false, lt-ltb, le-ltb, eqb-true, ne_eqb, length-append}
+use Rattle.std.proofs.Common.{◌≡◌, ℕ, zero, suc, ◌+◌, ◌*◌, ◌/◌, ◌%◌, ◌<◌, ◌≤◌, cond, ltb, eqb, Bool, true, false, ◌&&◌}
+use Rattle.std.proofs.Common.{◌||◌, List, [], ◌∷◌, ◌++◌, length, get_or, take, Option, Some, None, refl, sym, ap, ◌∙◌}
+use Rattle.std.proofs.Common.{subst, arith, inl, inr, ◌⊎◌, ltb-true, ltb-false, lt-ltb, le-ltb, eqb-true, ne_eqb}
+use Rattle.std.proofs.Common.{length-append}
 use Rattle.std.specs.Int.{from_be_bytes, w16, w32, w64}
 use Rattle.std.proofs.lemmas.Bool.{cond_both}
 use Rattle.std.proofs.lemmas.Bool.Decides.{nat_tests}
-use Rattle.std.proofs.lemmas.Nat.{div-mul-add, mod-mul-add, from_be_bytes-to_be_bytes_2, from_be_bytes-to_be_bytes_4, from_be_bytes-to_be_bytes_8}
-use Rattle.ciborium_ll.specs.Head.{Width, within, one_byte, two_bytes, four_bytes, eight_bytes, information, argument_bytes, head_in, capacity}
-use Rattle.ciborium_ll.specs.Refusal.{Refusal, syntax, too_long, argument_length, is_reserved, is_low_simple, argument, payload_length, initial_refusal, IsUsable, HasHead}
+use Rattle.std.proofs.lemmas.Nat.{div-mul-add, mod-mul-add, from_be_bytes-to_be_bytes_2, from_be_bytes-to_be_bytes_4}
+use Rattle.std.proofs.lemmas.Nat.{from_be_bytes-to_be_bytes_8}
+use Rattle.ciborium_ll.specs.Head.{Width, within, one_byte, two_bytes, four_bytes, eight_bytes, information}
+use Rattle.ciborium_ll.specs.Head.{argument_bytes, head_in, capacity}
+use Rattle.ciborium_ll.specs.Refusal.{Refusal, syntax, too_long, argument_length, is_reserved, is_low_simple, argument}
+use Rattle.ciborium_ll.specs.Refusal.{payload_length, initial_refusal, IsUsable, HasHead}
 use Rattle.ciborium_ll.specs.Bytes.{greatest_offset}
 use Rattle.ciborium_ll.proofs.FrontHeads.{counted, front, front-head}
 
@@ -47,7 +53,8 @@ rise false e o h = absurd cc
 -- ---- what a usable head says, and back
 
 abbrev pub HeadFits : ℕ → ℕ → List ℕ → ℕ → Type 0
-HeadFits m a b p = (is_reserved m a ≡ false) × (p + 1 + argument_length a ≤ greatest_offset) × (argument_length a ≤ length b) × (p + 1 + argument_length a + payload_length m a b ≤ greatest_offset)
+HeadFits m a b p = (is_reserved m a ≡ false) × (p + 1 + argument_length a ≤ greatest_offset) ×
+    (argument_length a ≤ length b) × (p + 1 + argument_length a + payload_length m a b ≤ greatest_offset)
 
 abbrev pub low : ℕ → List ℕ → ℕ → Bool
 low x b p = ltb (p + 1) greatest_offset && is_low_simple x b
@@ -64,20 +71,24 @@ fits-initial : (m a : ℕ) (b : List ℕ) (p : ℕ) → HeadFits m a b p → ini
 fits-initial m a b p u =
     pass _ _ _ u.0 ∙ pass _ _ _ (le-ltb _ _ u.1) ∙ pass _ _ _ (le-ltb _ _ u.2) ∙ pass _ _ _ (le-ltb _ _ u.3)
 
-pub usable-fits : (x : ℕ) (b : List ℕ) (p : ℕ) → IsUsable (x ∷ b) p → (p < greatest_offset) × (low x b p ≡ false) × HeadFits (x / 32) (x % 32) b p
+pub usable-fits : (x : ℕ) (b : List ℕ) (p : ℕ) → IsUsable (x ∷ b) p → (p < greatest_offset) × (low x b p ≡ false) ×
+    HeadFits (x / 32) (x % 32) b p
 usable-fits x b p h =
     let f = rise _ _ _ h in
     let g = fall _ _ _ f.1 in
     (ltb-true _ _ f.0, g.0, initial-fits (x / 32) (x % 32) b p g.1)
 
-pub fits-usable : (x : ℕ) (b : List ℕ) (p : ℕ) → p < greatest_offset → low x b p ≡ false → HeadFits (x / 32) (x % 32) b p → IsUsable (x ∷ b) p
+pub fits-usable : (x : ℕ) (b : List ℕ) (p : ℕ) → p < greatest_offset → low x b p ≡ false →
+    HeadFits (x / 32) (x % 32) b p → IsUsable (x ∷ b) p
 fits-usable x b p h e u =
-    ap (λ t. cond t (cond (low x b p) (Some (syntax p)) (initial_refusal (x / 32) (x % 32) b p)) (Some too_long)) (lt-ltb p greatest_offset h) ∙
+    ap (λ t. cond t (cond (low x b p) (Some (syntax p)) (initial_refusal (x / 32) (x % 32) b p)) (Some too_long))
+    (lt-ltb p greatest_offset h) ∙
     pass _ _ _ e ∙ fits-initial (x / 32) (x % 32) b p u
 
 -- ---- a head that stands at the front
 
-pub argument_length-information : (f : Width) (n : ℕ) → n < capacity f → argument_length (information f n) ≡ length (argument_bytes f n)
+pub argument_length-information : (f : Width) (n : ℕ) → n < capacity f →
+    argument_length (information f n) ≡ length (argument_bytes f n)
 argument_length-information within n h = grind (arith, nat_tests)
 argument_length-information one_byte n h = refl
 argument_length-information two_bytes n h = refl
@@ -91,8 +102,11 @@ information-below two_bytes n h = omega arith
 information-below four_bytes n h = omega arith
 information-below eight_bytes n h = omega arith
 
-pub argument-information : (f : Width) (n : ℕ) (r : List ℕ) → n < capacity f → argument (information f n) (argument_bytes f n ++ r) ≡ n
-argument-information within n r h = ap (λ t. cond t n (cond (eqb n 24) (get_or r 0 0) (cond (eqb n 25) (from_be_bytes w16 (take 2 r)) (cond (eqb n 26) (from_be_bytes w32 (take 4 r)) (from_be_bytes w64 (take 8 r)))))) (lt-ltb n 24 h)
+pub argument-information : (f : Width) (n : ℕ) (r : List ℕ) → n < capacity f →
+    argument (information f n) (argument_bytes f n ++ r) ≡ n
+argument-information within n r h = ap (λ t. cond t n (cond (eqb n 24) (get_or r 0 0)
+    (cond (eqb n 25) (from_be_bytes w16 (take 2 r)) (cond (eqb n 26) (from_be_bytes w32 (take 4 r))
+    (from_be_bytes w64 (take 8 r)))))) (lt-ltb n 24 h)
 argument-information one_byte n r h = refl
 argument-information two_bytes n r h = from_be_bytes-to_be_bytes_2 n h
 argument-information four_bytes n r h = from_be_bytes-to_be_bytes_4 n h
@@ -116,9 +130,12 @@ IsStringMajor m = (m ≡ 2) ⊎ (m ≡ 3)
 abbrev pub is_string_major : ℕ → Bool
 is_string_major m = eqb m 2 || eqb m 3
 
-payload_length-le : (m a n c : ℕ) (b : List ℕ) → argument a b ≡ n → (IsStringMajor m → c + n ≤ greatest_offset) → c ≤ greatest_offset → c + payload_length m a b ≤ greatest_offset
+payload_length-le : (m a n c : ℕ) (b : List ℕ) → argument a b ≡ n → (IsStringMajor m → c + n ≤ greatest_offset) →
+    c ≤ greatest_offset → c + payload_length m a b ≤ greatest_offset
 payload_length-le m a n c b e s z =
-    cond_both (is_string_major m && ltb a 28) (argument a b) 0 (λ v. c + v ≤ greatest_offset) (λ t. let k : c + n ≤ greatest_offset = s (string_major m (and_left_true _ _ t)) in omega (arith, e, k)) (λ t. omega arith)
+    cond_both (is_string_major m && ltb a 28) (argument a b) 0 (λ v. c + v ≤ greatest_offset)
+    (λ t. let k : c + n ≤ greatest_offset = s (string_major m (and_left_true _ _ t)) in omega (arith, e, k))
+    (λ t. omega arith)
   where
     and_left_true : (t u : Bool) → (t && u) ≡ true → t ≡ true
     and_left_true true u h = refl
@@ -127,12 +144,15 @@ payload_length-le m a n c b e s z =
     string_major : (k : ℕ) → is_string_major k ≡ true → IsStringMajor k
     string_major k t = cond_cases (eqb k 2) (eqb k 3) t (λ e. inl (eqb-true k 2 e)) (λ e. inr (eqb-true k 3 e))
       where
-        cond_cases : (t u : Bool) → (t || u) ≡ true → (t ≡ true → IsStringMajor k) → (u ≡ true → IsStringMajor k) → IsStringMajor k
+        cond_cases : (t u : Bool) → (t || u) ≡ true → (t ≡ true → IsStringMajor k) → (u ≡ true → IsStringMajor k) →
+            IsStringMajor k
         cond_cases true u h f g = f refl
         cond_cases false u h f g = g h
 
 -- a head of a width stands at the front
-pub head_in-usable : (f : Width) (m n p : ℕ) (r : List ℕ) → m < 7 → n < capacity f → p + suc (length (argument_bytes f n)) ≤ greatest_offset → (IsStringMajor m → p + suc (length (argument_bytes f n)) + n ≤ greatest_offset) → IsUsable (head_in f m n ++ r) p
+pub head_in-usable : (f : Width) (m n p : ℕ) (r : List ℕ) → m < 7 → n < capacity f →
+    p + suc (length (argument_bytes f n)) ≤ greatest_offset →
+    (IsStringMajor m → p + suc (length (argument_bytes f n)) + n ≤ greatest_offset) → IsUsable (head_in f m n ++ r) p
 head_in-usable f m n p r lt h room string =
     let x : ℕ = m * 32 + information f n in
     let b : List ℕ = argument_bytes f n ++ r in
@@ -143,15 +163,20 @@ head_in-usable f m n p r lt h room string =
       unreserved m (information f n) i,
       omega (arith, argument_length-information f n h),
       omega (arith, argument_length-information f n h, length-append (argument_bytes f n) r),
-      payload_length-le m (information f n) n (p + 1 + argument_length (information f n)) b (argument-information f n r h) (λ s. let k = string s in omega (arith, argument_length-information f n h, k)) (omega (arith, argument_length-information f n h)),
+      payload_length-le m (information f n) n (p + 1 + argument_length (information f n)) b
+          (argument-information f n r h) (λ s. let k = string s in omega (arith, argument_length-information f n h, k))
+          (omega (arith, argument_length-information f n h)),
     ) in
-    fits-usable x b p (omega arith) (and_false _ _ (not_low x b (omega arith))) (subst (λ k. HeadFits k (x % 32) b p) (sym d) (subst (λ k. HeadFits m k b p) (sym a) u))
+    fits-usable x b p (omega arith) (and_false _ _ (not_low x b (omega arith)))
+    (subst (λ k. HeadFits k (x % 32) b p) (sym d) (subst (λ k. HeadFits m k b p) (sym a) u))
 
-pub stands-usable : (b : List ℕ) (m n k p : ℕ) (r : List ℕ) → m < 7 → HasHead b m n k r → p + k ≤ greatest_offset → (IsStringMajor m → p + k + n ≤ greatest_offset) → IsUsable b p
+pub stands-usable : (b : List ℕ) (m n k p : ℕ) (r : List ℕ) → m < 7 → HasHead b m n k r → p + k ≤ greatest_offset →
+    (IsStringMajor m → p + k + n ≤ greatest_offset) → IsUsable b p
 stands-usable b m n k p r lt s room string =
     let f = s.1.0 in
     let l : k ≡ suc (length (argument_bytes f n)) = sym s.2 ∙ ap length s.1.2 in
-    subst (λ c. IsUsable c p) (sym (s.3 ∙ ap (λ (h : List ℕ). h ++ r) s.1.2)) (head_in-usable f m n p r lt s.1.1 (omega arith) (λ t. let q = string t in omega (arith, q, l)))
+    subst (λ c. IsUsable c p) (sym (s.3 ∙ ap (λ (h : List ℕ). h ++ r) s.1.2))
+    (head_in-usable f m n p r lt s.1.1 (omega arith) (λ t. let q = string t in omega (arith, q, l)))
 
 pub stands-front : (b : List ℕ) (m n k : ℕ) (r : List ℕ) → m < 7 → HasHead b m n k r → front b ≡ counted m n r
 stands-front b m n k r lt s = ap front s.3 ∙ front-head s.0 m n r lt s.1

@@ -1,21 +1,27 @@
--- What the calls on a decoder answer, of any reader, and what they leave: each in one record, for a call and for its twin that keeps the reader's error.
+-- What the calls on a decoder answer, of any reader, and what they leave: each in one record, for a
+-- call and for its twin that keeps the reader's error.
 use Rattle.std.specs.Prelude.{◌≡◌, ℕ, List, Option, Some, None, IfErr, IfNone, IfSome, Result, Ok}
 use Rattle.ciborium_ll.specs.declared.header.Header.{Header}
 use Rattle.ciborium_ll.specs.declared.header.Error.{Error}
 use Rattle.ciborium_ll.specs.declared.decoder.Decoder.{Decoder}
-use Rattle.ciborium_ll.specs.Decoding.{HasSameReader, IsAhead, IsSpent, ReadsNothing, MeasuresHead, Pulls, Takes, count_of, head_len_of, last_of, left_of, pushed_of}
+use Rattle.ciborium_ll.specs.Decoding.{HasSameReader, IsAhead, IsSpent, ReadsNothing, MeasuresHead}
+use Rattle.ciborium_ll.specs.Decoding.{Pulls, Takes, count_of, head_len_of, last_of, left_of}
+use Rattle.ciborium_ll.specs.Decoding.{pushed_of}
 use Rattle.ciborium_ll.specs.ReaderSteps.{IsFillTaken, IsHeadTaken, IsRefusalOf}
 use Rattle.ciborium_ll.specs.StringRefusal.{ContentRefuses, StringKind}
 use Rattle.ciborium_ll.specs.Strings.{Grows, IsStringTaken}
 
 -- a head was pulled, or refused
-pub record HasPulled {S E : Type 0} (remaining : S → Option (List ℕ)) (old new : Decoder S) (result : Result Header (Error E)) : Type 0 where
+pub record HasPulled {S E : Type 0} (remaining : S → Option (List ℕ)) (old new : Decoder S)
+    (result : Result Header (Error E)) : Type 0 where
   pub same_reader : HasSameReader old new
   pub none_pushed : pushed_of new ≡ None
   -- a head that was pushed back is answered, and nothing is taken
-  pub pushed : IfSome (pushed_of old) (λ head. (result ≡ Ok head.0) × (last_of new ≡ head.1) × ReadsNothing old new)
+  pub pushed : IfSome (pushed_of old) (λ head. (result ≡ Ok head.0) × (last_of new ≡ head.1) ×
+      ReadsNothing old new)
   -- otherwise just the bytes that determine the answer are taken
-  pub taken : IfNone (pushed_of old) (Takes remaining old new (λ b. IsHeadTaken b (count_of old) result))
+  pub taken : IfNone (pushed_of old) (Takes remaining old new
+      (λ b. IsHeadTaken b (count_of old) result))
   pub last : IfNone (pushed_of old) (last_of new ≡ count_of old)
   pub head_len : MeasuresHead old new result
   -- the same, said of all that is unread
@@ -24,7 +30,8 @@ pub record HasPulled {S E : Type 0} (remaining : S → Option (List ℕ)) (old n
   pub spent : IfErr result (λ e. IsSpent new e)
 
 -- a buffer was filled, or the reader failed or ended before
-pub record HasFilled {S E : Type 0} (remaining : S → Option (List ℕ)) (old new : Decoder S) (buffer : List ℕ) (result : Result (Unit {0}) (Error E)) : Type 0 where
+pub record HasFilled {S E : Type 0} (remaining : S → Option (List ℕ)) (old new : Decoder S)
+    (buffer : List ℕ) (result : Result (Unit {0}) (Error E)) : Type 0 where
   pub same_reader : HasSameReader old new
   pub none_pushed : pushed_of new ≡ None
   pub last : last_of new ≡ last_of old
@@ -33,15 +40,20 @@ pub record HasFilled {S E : Type 0} (remaining : S → Option (List ℕ)) (old n
   -- where the reader failed or ended, nothing is held
   pub spent : IfErr result (λ e. IsSpent new e)
 
--- what the last head, that of a string, announces was put behind `before`, whole or up to what is refused
-pub record HasAppended {S E : Type 0} (kind : StringKind) (len : Option ℕ) (remaining : S → Option (List ℕ)) (old new : Decoder S) (before after : List ℕ) (result : Result (Unit {0}) (Error E)) : Type 0 where
+-- what the last head, that of a string, announces was put behind `before`, whole or up to what is
+-- refused
+pub record HasAppended {S E : Type 0} (kind : StringKind) (len : Option ℕ)
+    (remaining : S → Option (List ℕ)) (old new : Decoder S) (before after : List ℕ)
+    (result : Result (Unit {0}) (Error E)) : Type 0 where
   pub same_reader : HasSameReader old new
   pub none_pushed : pushed_of new ≡ None
   pub last : last_of new ≡ last_of old
   pub head_len : head_len_of new ≡ head_len_of old
-  pub taken : Takes remaining old new (λ b. Grows before after (IsStringTaken kind len (last_of old) b (count_of old) result))
+  pub taken : Takes remaining old new (λ b. Grows before after
+      (IsStringTaken kind len (last_of old) b (count_of old) result))
   -- the same, said of all that is unread
   pub refused : (b : List ℕ) → left_of remaining old ≡ Some b →
-      IfErr result (λ e. IsRefusalOf (left_of remaining new) e (ContentRefuses kind len (last_of old) b (count_of old)))
+      IfErr result (λ e. IsRefusalOf (left_of remaining new) e
+      (ContentRefuses kind len (last_of old) b (count_of old)))
   -- where the reader failed or ended, nothing is held
   pub spent : IfErr result (λ e. IsSpent new e)

@@ -1,5 +1,7 @@
--- What a decoder shows: its reader, the count of bytes read, the head that was pushed back, and where the last head stood.
-use Rattle.std.specs.Prelude.{◌≡◌, ℕ, ◌+◌, ◌-◌, List, [], ◌++◌, length, Option, Some, None, MatchOption, MatchResult, Result, Ok, Err}
+-- What a decoder shows: its reader, the count of bytes read, the head that was pushed back, and
+-- where the last head stood.
+use Rattle.std.specs.Prelude.{◌≡◌, ℕ, ◌+◌, ◌-◌, List, [], ◌++◌, length, Option, Some, None}
+use Rattle.std.specs.Prelude.{MatchOption, MatchResult, Result, Ok, Err}
 use Rattle.std.specs.Borrow.{GName}
 use Rattle.ciborium_ll.specs.declared.header.Header.{Header}
 use Rattle.ciborium_ll.specs.declared.header.Error.{Error}
@@ -18,7 +20,8 @@ count_of d = d.window.count
 abbrev pub pushed_of : {S : Type 0} → Decoder S → Option (Header × ℕ)
 pushed_of d = d.pushed
 
--- the offset of the head that was pulled last, and before any pull the offset at which the decoder began
+-- the offset of the head that was pulled last, and before any pull the offset at which the decoder
+-- began
 abbrev pub last_of : {S : Type 0} → Decoder S → ℕ
 last_of d = d.last
 
@@ -26,11 +29,13 @@ last_of d = d.last
 abbrev pub head_len_of : {S : Type 0} → Decoder S → ℕ
 head_len_of d = d.head_len
 
--- a head that is taken from the reader is measured; a pushed one that is answered, or a refusal, changes nothing
+-- a head that is taken from the reader is measured; a pushed one that is answered, or a refusal,
+-- changes nothing
 abbrev pub MeasuresHead : {S E : Type 0} → Decoder S → Decoder S → Result Header (Error E) → Type 0
 MeasuresHead old new result =
     MatchOption old.pushed
-    (MatchResult result (λ _. new.window.count ≡ old.window.count + new.head_len) (λ _. new.head_len ≡ old.head_len))
+    (MatchResult result (λ _. new.window.count ≡ old.window.count + new.head_len)
+    (λ _. new.head_len ≡ old.head_len))
     (λ _. new.head_len ≡ old.head_len)
 
 -- a head that was pushed back is the one whose bytes are counted
@@ -45,7 +50,8 @@ left_of remaining d = unread (remaining d.reader.now) d.window
 abbrev pub source_of : {S : Type 0} → Decoder S → GName × ℕ
 source_of d = (d.reader.ghost_name, d.window.reach)
 
--- the decoder holds the reader that it held, so what is left in it is left to the one who lent it; and it may be read ahead no further
+-- the decoder holds the reader that it held, so what is left in it is left to the one who lent it;
+-- and it may be read ahead no further
 abbrev pub HasSameReader : {S : Type 0} → Decoder S → Decoder S → Type 0
 HasSameReader old new = source_of new ≡ source_of old
 
@@ -78,22 +84,53 @@ pub record HasBegun {S : Type 0} (d : Decoder S) (lent : S) (offset : ℕ) : Typ
   pub head_len : d.head_len ≡ 0
 
 -- some bytes are taken from the reader and counted, and nothing else, and P holds of them
-abbrev pub Takes : {S : Type 0} → (S → Option (List ℕ)) → Decoder S → Decoder S → (List ℕ → Type 0) → Type 0
-Takes remaining old new P = Advances (left_of remaining old) (left_of remaining new) old.window.count new.window.count P
+abbrev pub Takes : {S : Type 0} → (S → Option (List ℕ)) → Decoder S → Decoder S →
+    (List ℕ → Type 0) → Type 0
+Takes remaining old new P = Advances (left_of remaining old) (left_of remaining new)
+    old.window.count new.window.count P
 
 -- the same, holding nothing
 abbrev pub emptied : Window → Window
-emptied w = record { lookahead = record { bytes = []; base = w.lookahead.base; end = w.lookahead.end }; count = w.count; reach = w.reach; order = w.order; room = w.room; ahead = w.ahead; fits = w.fits; due = w.due }
+emptied w = record {
+  lookahead = record {
+    bytes = [];
+    base = w.lookahead.base;
+    end =
+        w.lookahead.end;
+  };
+  count = w.count;
+  reach = w.reach;
+  order = w.order;
+  room = w.room;
+  ahead =
+      w.ahead;
+  fits = w.fits;
+  due = w.due;
+}
 
 -- the decoder, as it stands where just u is left of its reader
 abbrev pub with_left : {S : Type 0} → Decoder S → List ℕ → Decoder (List ℕ)
 with_left d u =
-    record { reader = record { ref_ptr = d.reader.ref_ptr; ghost_name = d.reader.ghost_name; now = u }; window = emptied d.window; pushed = d.pushed; last = d.last; head_len = d.head_len }
+    record {
+      reader = record {
+        ref_ptr = d.reader.ref_ptr;
+        ghost_name = d.reader.ghost_name;
+        now =
+            u;
+      };
+      window = emptied d.window;
+      pushed = d.pushed;
+      last = d.last;
+      head_len = d.head_len;
+    }
 
--- some bytes are taken from the reader and counted, and nothing else; P holds of the decoder before and after, whatever follows
+-- some bytes are taken from the reader and counted, and nothing else; P holds of the decoder before
+-- and after, whatever follows
 -- those bytes. So it is said of a reader whose bytes nobody knows, too.
-abbrev pub TakesBeforeAny : {S : Type 0} → (S → Option (List ℕ)) → Decoder S → Decoder S → (Decoder (List ℕ) → Decoder (List ℕ) → Type 0) → Type 0
-TakesBeforeAny remaining old new P = Takes remaining old new (λ b. (c : List ℕ) → P (with_left old (b ++ c)) (with_left new c))
+abbrev pub TakesBeforeAny : {S : Type 0} → (S → Option (List ℕ)) → Decoder S → Decoder S →
+    (Decoder (List ℕ) → Decoder (List ℕ) → Type 0) → Type 0
+TakesBeforeAny remaining old new P = Takes remaining old new
+    (λ b. (c : List ℕ) → P (with_left old (b ++ c)) (with_left new c))
 
 -- nothing is read
 abbrev pub ReadsNothing : {S : Type 0} → Decoder S → Decoder S → Type 0
@@ -107,24 +144,31 @@ next_offset count (Some pushed) = pushed.1
 abbrev pub offset_of : {S : Type 0} → Decoder S → ℕ
 offset_of d = next_offset d.window.count d.pushed
 
--- b is unread, and its first byte is at offset p, where this head was pushed back: its bytes count as unread, and it is usable
-abbrev pub IsAheadBy : {S : Type 0} → (S → Option (List ℕ)) → Decoder S → List ℕ → ℕ → Option (Header × ℕ) → Type 0
+-- b is unread, and its first byte is at offset p, where this head was pushed back: its bytes count
+-- as unread, and it is usable
+abbrev pub IsAheadBy : {S : Type 0} → (S → Option (List ℕ)) → Decoder S → List ℕ → ℕ →
+    Option (Header × ℕ) → Type 0
 IsAheadBy remaining d b p None = (d.window.count ≡ p) × (left_of remaining d ≡ Some b)
 IsAheadBy remaining d b p (Some pushed) =
-    (pushed.1 ≡ p) × (h : List ℕ) × (r : List ℕ) × SpellsHeader h pushed.0 × IsUsable b p × (b ≡ h ++ r) ×
+    (pushed.1 ≡ p) × (h : List ℕ) × (r : List ℕ) × SpellsHeader h pushed.0 × IsUsable b p ×
+    (b ≡ h ++ r) ×
     (d.window.count ≡ p + length h) × (left_of remaining d ≡ Some r)
 
 -- b is unread, a head that was pushed back included, and its first byte is at offset p
 abbrev pub IsAhead : {S : Type 0} → (S → Option (List ℕ)) → Decoder S → List ℕ → ℕ → Type 0
 IsAhead remaining d b p = IsAheadBy remaining d b p d.pushed
 
--- reading the head at the front of b, whose first byte is at offset p, answers so: then the last head stood there, what follows it
+-- reading the head at the front of b, whose first byte is at offset p, answers so: then the last
+-- head stood there, what follows it
 -- is left, and this many bytes are counted; a refusal is the one of the definitions
-abbrev pub PullsTo : {E : Type 0} → ℕ → ℕ → Option (List ℕ) → List ℕ → ℕ → Result Header (Error E) → Type 0
+abbrev pub PullsTo : {E : Type 0} → ℕ → ℕ → Option (List ℕ) → List ℕ → ℕ → Result Header (Error E) →
+    Type 0
 PullsTo last count left b p (Ok header) =
-    (h : List ℕ) × (r : List ℕ) × SpellsHeader h header × IsUsable b p × (b ≡ h ++ r) × (last ≡ p) × (count ≡ p + length h) × (left ≡ Some r)
+    (h : List ℕ) × (r : List ℕ) × SpellsHeader h header × IsUsable b p × (b ≡ h ++ r) × (last ≡ p) ×
+    (count ≡ p + length h) × (left ≡ Some r)
 PullsTo last count left b p (Err e) = IsRefusalOf left e (HeadRefuses b p)
 
 -- the decoder has read so
-abbrev pub Pulls : {S E : Type 0} → (S → Option (List ℕ)) → Decoder S → List ℕ → ℕ → Result Header (Error E) → Type 0
+abbrev pub Pulls : {S E : Type 0} → (S → Option (List ℕ)) → Decoder S → List ℕ → ℕ →
+    Result Header (Error E) → Type 0
 Pulls remaining d b p result = PullsTo d.last d.window.count (left_of remaining d) b p result

@@ -26,7 +26,8 @@ range_message = codes "an integer out of the type's range"
 abbrev pub read_failure_message : Option (List ℕ) → Option (List ℕ)
 read_failure_message text = Some (codes "reading failed: ") ++? text
 
--- the message of an error of the lowest layer, where `output` is what `{}` prints of the reader's errors
+-- the message of an error of the lowest layer, where `output` is what `{}` prints of the reader's
+-- errors
 abbrev pub head_error_message : {E : Type 0} → (E → Option (List ℕ)) → Error E → Option (List ℕ)
 head_error_message output (Io e) = read_failure_message (output e)
 head_error_message output (Syntax p) = Some (syntax_message p)

@@ -1,8 +1,11 @@
 -- The heads that a `Header` stands for (RFC 8949, section 3).
 use Rattle.std.specs.Prelude.{◌≡◌, ℕ, ◌<◌, ◌≤◌, ◌⊎◌, List, [], ◌∷◌, length, Option, Some, None}
 use Rattle.ciborium_ll.specs.declared.header.Header.{Header}
-use Rattle.ciborium_ll.specs.declared.header.Header.TheVariants.{Positive, Negative, Bytes, Text, Array, Map, Tag, Simple, Float, Break}
-use Rattle.ciborium_ll.specs.Head.{IsHead, shortest_head, open_byte, break_byte, IsSimple, simple_bytes, IsFloat}
+use Rattle.ciborium_ll.specs.declared.header.Header.TheVariants.{Positive, Negative, Bytes, Text}
+use Rattle.ciborium_ll.specs.declared.header.Header.TheVariants.{Array, Map, Tag, Simple, Float}
+use Rattle.ciborium_ll.specs.declared.header.Header.TheVariants.{Break}
+use Rattle.ciborium_ll.specs.Head.{IsHead, shortest_head, open_byte, break_byte, IsSimple}
+use Rattle.ciborium_ll.specs.Head.{simple_bytes, IsFloat}
 use Rattle.ciborium_ll.specs.ProperItems.{IsArgument}
 
 -- b is a head of the major type with this length or count, or the initial byte of an open item
@@ -38,7 +41,8 @@ abbrev pub counted_bytes : ℕ → Option ℕ → List ℕ
 counted_bytes major (Some n) = shortest_head major n
 counted_bytes major None = open_byte major ∷ []
 
--- the shortest spelling of a head (section 4.1); a float's raw bytes are not in its `Header`, so it has none
+-- the shortest spelling of a head (section 4.1); a float's raw bytes are not in its `Header`, so it
+-- has none
 abbrev pub header_bytes : Header → List ℕ
 header_bytes (Positive n) = shortest_head 0 n
 header_bytes (Negative n) = shortest_head 1 n

@@ -1,4 +1,5 @@
--- The numbers that one head holds, and their canonical order (RFC 8949, section 3.1; section 4.2.3; RFC 7049, section 3.9).
+-- The numbers that one head holds, and their canonical order (RFC 8949, section 3.1; section 4.2.3;
+-- RFC 7049, section 3.9).
 use Rattle.std.specs.Prelude.{ℤ, pos, negsuc, List, ℕ, length}
 use Rattle.std.specs.declared.cmp.Ordering.{Ordering}
 use Rattle.std.specs.Ordering.{nat_cmp, then_cmp, on}
@@ -16,6 +17,8 @@ abbrev pub integer_bytes : ℤ → List ℕ
 integer_bytes (pos n) = shortest_head 0 n
 integer_bytes (negsuc n) = shortest_head 1 n
 
--- the sizes of the encodings, and where they are equal the bytes, of which the first that differs decides
+-- the sizes of the encodings, and where they are equal the bytes, of which the first that differs
+-- decides
 abbrev pub integer_order : ℤ → ℤ → Ordering
-integer_order = then_cmp (on (λ z. length (integer_bytes z)) nat_cmp) (on integer_bytes (slice_cmp nat_cmp))
+integer_order = then_cmp (on (λ z. length (integer_bytes z)) nat_cmp)
+    (on integer_bytes (slice_cmp nat_cmp))

@@ -1,4 +1,5 @@
--- Data items (RFC 8949, sections 3.1 to 3.3). The flag says that an item is open: it has no length, and a break ends it.
+-- Data items (RFC 8949, sections 3.1 to 3.3). The flag says that an item is open: it has no length,
+-- and a break ends it.
 use Rattle.std.specs.Prelude.{ℕ, suc, List, Bool}
 
 mutual

@@ -1,5 +1,8 @@
--- Why bytes are refused, and when no usable head stands at their front (RFC 8949, sections 3 and 3.3, and appendix F).
-use Rattle.std.specs.Prelude.{◌≡◌, ℕ, ◌+◌, ◌/◌, ◌%◌, List, [], ◌∷◌, ◌++◌, length, Bool, false, if◌then◌else◌, ◌==◌, ◌&&◌, ◌||◌, nat_lt, nat_le, slice_index, take, Option, Some, None}
+-- Why bytes are refused, and when no usable head stands at their front (RFC 8949, sections 3 and
+-- 3.3, and appendix F).
+use Rattle.std.specs.Prelude.{◌≡◌, ℕ, ◌+◌, ◌/◌, ◌%◌, List, [], ◌∷◌, ◌++◌, length, Bool, false}
+use Rattle.std.specs.Prelude.{if◌then◌else◌, ◌==◌, ◌&&◌, ◌||◌, nat_lt, nat_le, slice_index, take}
+use Rattle.std.specs.Prelude.{Option, Some, None}
 use Rattle.std.specs.Int.{from_be_bytes, w16, w32, w64}
 use Rattle.ciborium_ll.specs.Bytes.{greatest_offset}
 use Rattle.ciborium_ll.specs.Head.{IsHead}
@@ -29,13 +32,16 @@ pub data Refusal : Type 0 where
   -- a container or tag stands where no level is left
   recursion_limit_exceeded : Refusal
 
--- how many bytes follow an initial byte with this additional information, as its argument or as a float
+-- how many bytes follow an initial byte with this additional information, as its argument or as a
+-- float
 abbrev pub argument_length : ℕ → ℕ
-argument_length info = if info == 24 then 1 else if info == 25 then 2 else if info == 26 then 4 else if info == 27 then 8 else 0
+argument_length info = if info == 24 then 1 else if info == 25 then 2 else if info == 26 then 4 else
+    if info == 27 then 8 else 0
 
 -- additional information that the major type has not: 28 to 30, and 31 for numbers and tags
 abbrev pub is_reserved : ℕ → ℕ → Bool
-is_reserved major info = (nat_le 28 info && nat_le info 30) || ((info == 31) && ((major == 0) || (major == 1) || (major == 6)))
+is_reserved major info = (nat_le 28 info && nat_le info 30) ||
+    ((info == 31) && ((major == 0) || (major == 1) || (major == 6)))
 
 -- f8 before a byte below 32
 abbrev pub is_low_simple : ℕ → List ℕ → Bool
@@ -58,23 +64,28 @@ argument info b =
 
 -- the length of the payload that a definite string's head announces, and 0 for another head
 abbrev pub payload_length : ℕ → ℕ → List ℕ → ℕ
-payload_length major info b = if ((major == 2) || (major == 3)) && nat_lt info 28 then argument info b else 0
+payload_length major info b = if ((major == 2) || (major == 3)) && nat_lt info 28 then argument info
+    b else 0
 
--- the first reason why the head whose initial byte, at offset p, has this major type and additional information is not usable
+-- the first reason why the head whose initial byte, at offset p, has this major type and additional
+-- information is not usable
 abbrev pub initial_refusal : ℕ → ℕ → List ℕ → ℕ → Option Refusal
 initial_refusal major info b p =
     if is_reserved major info then Some (syntax p)
     else if nat_lt greatest_offset (p + 1 + argument_length info) then Some too_long
     else if nat_lt (length b) (argument_length info) then Some io
-    else if nat_lt greatest_offset (p + 1 + argument_length info + payload_length major info b) then Some too_long
+    else if nat_lt greatest_offset (p + 1 + argument_length info + payload_length major info b) then
+    Some too_long
     else None
 
--- why no usable head stands at the front of the bytes, whose first is at offset p, or None where one does
+-- why no usable head stands at the front of the bytes, whose first is at offset p, or None where
+-- one does
 abbrev pub head_refusal : List ℕ → ℕ → Option Refusal
 head_refusal [] p = if nat_lt p greatest_offset then Some io else Some too_long
 head_refusal (x ∷ b) p =
     if nat_lt p greatest_offset
-    then (if nat_lt (p + 1) greatest_offset && is_low_simple x b then Some (syntax p) else initial_refusal (x / 32) (x % 32) b p)
+    then (if nat_lt (p + 1) greatest_offset && is_low_simple x b then Some (syntax p) else
+    initial_refusal (x / 32) (x % 32) b p)
     else Some too_long
 
 -- the front is refused for its head

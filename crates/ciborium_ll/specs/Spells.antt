@@ -2,27 +2,35 @@
 use Rattle.std.specs.Prelude.{◌≡◌, ℕ, List, [], ◌∷◌, ◌++◌, length, Bool, true, false, IsUtf8}
 use Rattle.ciborium_ll.specs.Bytes.{AreBytes}
 use Rattle.ciborium_ll.specs.Head.{IsHead, open_byte, break_byte, IsSimple, IsFloat}
-use Rattle.ciborium_ll.specs.Item.{Item, unsigned, negative, bytes, text, array, map, tag, simple, float, Items, no_items, item, Pairs, no_pairs, pair, items_count, pairs_count}
+use Rattle.ciborium_ll.specs.Item.{Item, unsigned, negative, bytes, text, array, map, tag, simple}
+use Rattle.ciborium_ll.specs.Item.{float, Items, no_items, item, Pairs, no_pairs, pair, items_count}
+use Rattle.ciborium_ll.specs.Item.{pairs_count}
 
--- a definite string of a major type: a head with the payload's length, then an allowed payload (section 3.1)
+-- a definite string of a major type: a head with the payload's length, then an allowed payload
+-- (section 3.1)
 abbrev pub IsDefiniteString : ℕ → (List ℕ → Type 0) → List ℕ → List ℕ → Type 0
-IsDefiniteString major IsAllowed b payload = (h : List ℕ) × IsHead h major (length payload) × IsAllowed payload × (b ≡ h ++ payload)
+IsDefiniteString major IsAllowed b payload = (h : List ℕ) × IsHead h major (length payload) ×
+    IsAllowed payload × (b ≡ h ++ payload)
 
--- definite strings of a major type in a row, with these payloads, each allowed by itself (section 3.2.3)
+-- definite strings of a major type in a row, with these payloads, each allowed by itself (section
+-- 3.2.3)
 abbrev pub AreChunks : ℕ → (List ℕ → Type 0) → List ℕ → List (List ℕ) → Type 0
 AreChunks major IsAllowed b [] = b ≡ []
 AreChunks major IsAllowed b (payload ∷ payloads) =
-    (s : List ℕ) × (r : List ℕ) × IsDefiniteString major IsAllowed s payload × AreChunks major IsAllowed r payloads × (b ≡ s ++ r)
+    (s : List ℕ) × (r : List ℕ) × IsDefiniteString major IsAllowed s payload ×
+    AreChunks major IsAllowed r payloads × (b ≡ s ++ r)
 
 -- lists joined in order
 abbrev pub joined : List (List ℕ) → List ℕ
 joined [] = []
 joined (p ∷ ps) = p ++ joined ps
 
--- an open string of a major type: its initial byte, chunks whose payloads joined are this one, and the break (section 3.2.3)
+-- an open string of a major type: its initial byte, chunks whose payloads joined are this one, and
+-- the break (section 3.2.3)
 abbrev pub IsOpenString : ℕ → (List ℕ → Type 0) → List ℕ → List ℕ → Type 0
 IsOpenString major IsAllowed b payload =
-    (payloads : List (List ℕ)) × (r : List ℕ) × AreChunks major IsAllowed r payloads × (payload ≡ joined payloads) ×
+    (payloads : List (List ℕ)) × (r : List ℕ) × AreChunks major IsAllowed r payloads ×
+    (payload ≡ joined payloads) ×
     (b ≡ open_byte major ∷ (r ++ (break_byte ∷ [])))
 
 -- a string of a major type, definite or open
@@ -30,7 +38,8 @@ abbrev pub IsString : Bool → ℕ → (List ℕ → Type 0) → List ℕ → Li
 IsString false major IsAllowed b payload = IsDefiniteString major IsAllowed b payload
 IsString true major IsAllowed b payload = IsOpenString major IsAllowed b payload
 
--- b is an array or map with the parts r: behind a head with their count (section 3.1), or between an open initial byte and the
+-- b is an array or map with the parts r: behind a head with their count (section 3.1), or between
+-- an open initial byte and the
 -- break (section 3.2.2)
 abbrev pub IsContainer : Bool → ℕ → ℕ → List ℕ → List ℕ → Type 0
 IsContainer false major count b r = (h : List ℕ) × IsHead h major count × (b ≡ h ++ r)
@@ -43,8 +52,10 @@ abbrev mutual
   Spells b (negative n) = IsHead b 1 n
   Spells b (bytes open_ payload) = IsString open_ 2 AreBytes b payload
   Spells b (text open_ payload) = IsString open_ 3 IsUtf8 b payload
-  Spells b (array open_ is) = (r : List ℕ) × SpellsItems r is × IsContainer open_ 4 (items_count is) b r
-  Spells b (map open_ ps) = (r : List ℕ) × SpellsPairs r ps × IsContainer open_ 5 (pairs_count ps) b r
+  Spells b (array open_ is) = (r : List ℕ) × SpellsItems r is ×
+      IsContainer open_ 4 (items_count is) b r
+  Spells b (map open_ ps) = (r : List ℕ) × SpellsPairs r ps ×
+      IsContainer open_ 5 (pairs_count ps) b r
   Spells b (tag n i) = (h : List ℕ) × (r : List ℕ) × IsHead h 6 n × Spells r i × (b ≡ h ++ r)
   Spells b (simple n) = IsSimple b n
   Spells b (float raw) = IsFloat b raw
@@ -52,10 +63,12 @@ abbrev mutual
   -- each item in order
   pub SpellsItems : List ℕ → Items → Type 0
   SpellsItems b no_items = b ≡ []
-  SpellsItems b (item i is) = (s : List ℕ) × (r : List ℕ) × Spells s i × SpellsItems r is × (b ≡ s ++ r)
+  SpellsItems b (item i is) = (s : List ℕ) × (r : List ℕ) × Spells s i × SpellsItems r is ×
+      (b ≡ s ++ r)
 
   -- each pair in order, a key before its value
   pub SpellsPairs : List ℕ → Pairs → Type 0
   SpellsPairs b no_pairs = b ≡ []
   SpellsPairs b (pair k v ps) =
-      (s : List ℕ) × (t : List ℕ) × (r : List ℕ) × Spells s k × Spells t v × SpellsPairs r ps × (b ≡ s ++ (t ++ r))
+      (s : List ℕ) × (t : List ℕ) × (r : List ℕ) × Spells s k × Spells t v × SpellsPairs r ps ×
+      (b ≡ s ++ (t ++ r))

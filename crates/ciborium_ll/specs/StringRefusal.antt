@@ -1,9 +1,11 @@
 -- When a string is refused whose head is usable (RFC 8949, sections 3.1 and 3.2.3).
-use Rattle.std.specs.Prelude.{◌≡◌, ℕ, ◌+◌, ◌<◌, ◌≤◌, ◌⊎◌, List, ◌∷◌, ◌++◌, length, Option, Some, None, IsUtf8}
+use Rattle.std.specs.Prelude.{◌≡◌, ℕ, ◌+◌, ◌<◌, ◌≤◌, ◌⊎◌, List, ◌∷◌, ◌++◌, length, Option, Some}
+use Rattle.std.specs.Prelude.{None, IsUtf8}
 use Rattle.ciborium_ll.specs.Bytes.{AreBytes, greatest_offset}
 use Rattle.ciborium_ll.specs.Head.{open_byte, break_byte}
 use Rattle.ciborium_ll.specs.Spells.{AreChunks}
-use Rattle.ciborium_ll.specs.Refusal.{Refusal, io, syntax, too_long, HeadRefuses, IsUsable, HasHead, IsAtFront}
+use Rattle.ciborium_ll.specs.Refusal.{Refusal, io, syntax, too_long, HeadRefuses, IsUsable, HasHead}
+use Rattle.ciborium_ll.specs.Refusal.{IsAtFront}
 
 -- the two kinds of string
 pub data StringKind : Type 0 where
@@ -20,40 +22,51 @@ abbrev pub IsAllowed : StringKind → List ℕ → Type 0
 IsAllowed of_bytes payload = AreBytes payload
 IsAllowed of_text payload = IsUtf8 payload
 
--- what is left refuses as the payload, of n bytes, of a definite string whose head is at offset p: it ends early, or the payload
+-- what is left refuses as the payload, of n bytes, of a definite string whose head is at offset p:
+-- it ends early, or the payload
 -- was read whole and is not UTF-8
 pub data PayloadRefuses (kind : StringKind) (n p : ℕ) : List ℕ → Refusal → Type 0 where
   ends_early : {r : List ℕ} → length r < n → PayloadRefuses kind n p r io
-  not_allowed : (payload r : List ℕ) → length payload ≡ n → ¬ IsAllowed kind payload → PayloadRefuses kind n p (payload ++ r) (syntax p)
+  not_allowed : (payload r : List ℕ) → length payload ≡ n → ¬ IsAllowed kind payload →
+      PayloadRefuses kind n p (payload ++ r) (syntax p)
 
 -- a definite string at offset p: its payload refuses
 abbrev pub StringRefuses : StringKind → List ℕ → ℕ → Refusal → Type 0
-StringRefuses kind b p e = (n : ℕ) × (k : ℕ) × (r : List ℕ) × HasHead b (string_major kind) n k r × PayloadRefuses kind n p r e
+StringRefuses kind b p e = (n : ℕ) × (k : ℕ) × (r : List ℕ) × HasHead b (string_major kind) n k r ×
+    PayloadRefuses kind n p r e
 
 -- a definite string of a kind begins here
 abbrev pub HasStringHead : StringKind → List ℕ → Type 0
 HasStringHead kind b = (n : ℕ) × (k : ℕ) × (r : List ℕ) × HasHead b (string_major kind) n k r
 
--- a chunk of an open string at offset p: its head refuses, it refuses as a string of the kind, or it is neither such a string
+-- a chunk of an open string at offset p: its head refuses, it refuses as a string of the kind, or
+-- it is neither such a string
 -- nor the break
 pub data ChunkRefuses (kind : StringKind) : List ℕ → ℕ → Refusal → Type 0 where
   no_head : {b : List ℕ} {p : ℕ} {e : Refusal} → HeadRefuses b p e → ChunkRefuses kind b p e
-  chunk : {b : List ℕ} {p : ℕ} {e : Refusal} → IsUsable b p → StringRefuses kind b p e → ChunkRefuses kind b p e
+  chunk : {b : List ℕ} {p : ℕ} {e : Refusal} → IsUsable b p → StringRefuses kind b p e →
+      ChunkRefuses kind b p e
   other : {b : List ℕ} {p : ℕ} →
-      IsUsable b p → ¬ HasStringHead kind b → ¬ IsAtFront break_byte b → ChunkRefuses kind b p (syntax p)
+      IsUsable b p → ¬ HasStringHead kind b → ¬ IsAtFront break_byte b →
+      ChunkRefuses kind b p (syntax p)
 
--- what is left, from offset p on, refuses as the chunks of an open string: behind good chunks, which end within the greatest offset,
+-- what is left, from offset p on, refuses as the chunks of an open string: behind good chunks,
+-- which end within the greatest offset,
 -- a chunk refuses
 abbrev pub ChunksRefuse : StringKind → List ℕ → ℕ → Refusal → Type 0
 ChunksRefuse kind b p e =
-    (good : List ℕ) × (payloads : List (List ℕ)) × (r : List ℕ) × AreChunks (string_major kind) (IsAllowed kind) good payloads ×
+    (good : List ℕ) × (payloads : List (List ℕ)) × (r : List ℕ) ×
+    AreChunks (string_major kind) (IsAllowed kind) good payloads ×
     (p + length good ≤ greatest_offset) × (b ≡ good ++ r) × ChunkRefuses kind r (p + length good) e
 
 -- an open string at offset p: its chunks refuse
 abbrev pub OpenStringRefuses : StringKind → List ℕ → ℕ → Refusal → Type 0
-OpenStringRefuses kind b p e = (r : List ℕ) × (b ≡ open_byte (string_major kind) ∷ r) × ChunksRefuse kind r (p + 1) e
+OpenStringRefuses kind b p e = (r : List ℕ) × (b ≡ open_byte (string_major kind) ∷ r) ×
+    ChunksRefuse kind r (p + 1) e
 
--- what follows the head at offset p of a string of this length (None: open) refuses, its first byte at offset q
+-- what follows the head at offset p of a string of this length (None: open) refuses, its first byte
+-- at offset q
 abbrev pub ContentRefuses : StringKind → Option ℕ → ℕ → List ℕ → ℕ → Refusal → Type 0
-ContentRefuses kind (Some n) p b q e = ((greatest_offset < q + n) × (e ≡ too_long)) ⊎ ((q + n ≤ greatest_offset) × PayloadRefuses kind n p b e)
+ContentRefuses kind (Some n) p b q e = ((greatest_offset < q + n) × (e ≡ too_long)) ⊎
+    ((q + n ≤ greatest_offset) × PayloadRefuses kind n p b e)
 ContentRefuses kind None p b q e = ChunksRefuse kind b q e

@@ -1,5 +1,7 @@
--- What calls that append the payload of a string take, and what they append (RFC 8949, sections 3.1 and 3.2.3).
-use Rattle.std.specs.Prelude.{◌≡◌, ◌≢◌, ℕ, ◌+◌, ◌<◌, ◌≤◌, ◌⊎◌, List, [], ◌∷◌, ◌++◌, length, Option, Some, None, Result, Ok, Err}
+-- What calls that append the payload of a string take, and what they append (RFC 8949, sections 3.1
+-- and 3.2.3).
+use Rattle.std.specs.Prelude.{◌≡◌, ◌≢◌, ℕ, ◌+◌, ◌<◌, ◌≤◌, ◌⊎◌, List, [], ◌∷◌, ◌++◌, length, Option}
+use Rattle.std.specs.Prelude.{Some, None, Result, Ok, Err}
 use Rattle.ciborium_ll.specs.declared.header.Header.{Header}
 use Rattle.ciborium_ll.specs.declared.header.Header.TheVariants as header
 use Rattle.ciborium_ll.specs.declared.header.Error.{Error}
@@ -38,41 +40,58 @@ Extends old new = (added : List ℕ) × (new ≡ old ++ added)
 abbrev pub Grows : List ℕ → List ℕ → (List ℕ → Type 0) → Type 0
 Grows old new P = (added : List ℕ) × (new ≡ old ++ added) × P added
 
--- b is taken where n bytes are appended as they come: at Ok they were taken and appended, refused fewer were, or memory was refused
-abbrev pub IsPiecesTaken : {E : Type 0} → ℕ → List ℕ → Result (Unit {0}) (Error E) → List ℕ → List ℕ → Type 0
+-- b is taken where n bytes are appended as they come: at Ok they were taken and appended, refused
+-- fewer were, or memory was refused
+abbrev pub IsPiecesTaken : {E : Type 0} → ℕ → List ℕ → Result (Unit {0}) (Error E) → List ℕ →
+    List ℕ → Type 0
 IsPiecesTaken n b (Ok u) old new = (length b ≡ n) × (new ≡ old ++ b)
 IsPiecesTaken n b (Err (Io e)) old new = (length b < n) × Extends old new
 IsPiecesTaken n b (Err (Syntax at)) old new = ⊥
 IsPiecesTaken n b (Err TooLong) old new = ⊥
 IsPiecesTaken n b (Err Memory) old new = (length b ≤ n) × Extends old new
 
--- b is taken where the payload, of n bytes, of a definite string is appended whose head is at offset p: all of it is added, or
+-- b is taken where the payload, of n bytes, of a definite string is appended whose head is at
+-- offset p: all of it is added, or
 -- nothing
-abbrev pub IsPayloadTaken : {E : Type 0} → StringKind → ℕ → ℕ → List ℕ → Result (Unit {0}) (Error E) → List ℕ → Type 0
+abbrev pub IsPayloadTaken : {E : Type 0} → StringKind → ℕ → ℕ → List ℕ →
+    Result (Unit {0}) (Error E) → List ℕ → Type 0
 IsPayloadTaken kind n p b (Ok u) added = (length b ≡ n) × IsAllowed kind b × (added ≡ b)
 IsPayloadTaken kind n p b (Err (Io e)) added = (length b < n) × (added ≡ [])
-IsPayloadTaken kind n p b (Err (Syntax at)) added = (at ≡ p) × (length b ≡ n) × ¬ IsAllowed kind b × (added ≡ [])
+IsPayloadTaken kind n p b (Err (Syntax at)) added = (at ≡ p) × (length b ≡ n) × ¬ IsAllowed kind b ×
+    (added ≡ [])
 IsPayloadTaken kind n p b (Err TooLong) added = ⊥
 IsPayloadTaken kind n p b (Err Memory) added = (length b ≤ n) × (added ≡ [])
 
--- b is taken at offset p, where a chunk of an open string is refused: its head is, or it is no chunk, or its payload is
+-- b is taken at offset p, where a chunk of an open string is refused: its head is, or it is no
+-- chunk, or its payload is
 abbrev pub IsChunkTaken : {E : Type 0} → StringKind → List ℕ → ℕ → Error E → Type 0
 IsChunkTaken {E} kind b p e =
     IsHeadTaken {E = E} b p (Err e)
     ⊎ ((h : Header) × IsHeadTaken {E = E} b p (Ok h) × IsChunk kind h Other × (e ≡ Syntax p))
-    ⊎ ((n : ℕ) × (s : List ℕ) × (r : List ℕ) × (b ≡ s ++ r) × IsHeadTaken {E = E} s p (Ok (string_header kind n)) × IsPayloadTaken {E = E} kind n p r (Err e) [])
+    ⊎ ((n : ℕ) × (s : List ℕ) × (r : List ℕ) × (b ≡ s ++ r) ×
+    IsHeadTaken {E = E} s p (Ok (string_header kind n)) ×
+    IsPayloadTaken {E = E} kind n p r (Err e) [])
 
--- b is taken at offset p, where the chunks of an open string are appended: good chunks, and then the break, or a chunk that is refused
-abbrev pub AreChunksTaken : {E : Type 0} → StringKind → List ℕ → ℕ → Result (Unit {0}) (Error E) → List ℕ → Type 0
+-- b is taken at offset p, where the chunks of an open string are appended: good chunks, and then
+-- the break, or a chunk that is refused
+abbrev pub AreChunksTaken : {E : Type 0} → StringKind → List ℕ → ℕ → Result (Unit {0}) (Error E) →
+    List ℕ → Type 0
 AreChunksTaken kind b p (Ok u) added =
-    (payloads : List (List ℕ)) × (s : List ℕ) × AreChunks (string_major kind) (IsAllowed kind) s payloads × (p + length b ≤ greatest_offset) ×
+    (payloads : List (List ℕ)) × (s : List ℕ) ×
+    AreChunks (string_major kind) (IsAllowed kind) s payloads ×
+    (p + length b ≤ greatest_offset) ×
     (b ≡ s ++ break_byte ∷ []) × (added ≡ joined payloads)
 AreChunksTaken kind b p (Err e) added =
-    (payloads : List (List ℕ)) × (s : List ℕ) × AreChunks (string_major kind) (IsAllowed kind) s payloads × (p + length s ≤ greatest_offset) ×
+    (payloads : List (List ℕ)) × (s : List ℕ) ×
+    AreChunks (string_major kind) (IsAllowed kind) s payloads ×
+    (p + length s ≤ greatest_offset) ×
     ((r : List ℕ) × (b ≡ s ++ r) × IsChunkTaken kind r (p + length s) e) × (added ≡ joined payloads)
 
--- b is taken at offset q, where the payload of a string of this length (None: open) is appended, whose head is at offset p
-abbrev pub IsStringTaken : {E : Type 0} → StringKind → Option ℕ → ℕ → List ℕ → ℕ → Result (Unit {0}) (Error E) → List ℕ → Type 0
+-- b is taken at offset q, where the payload of a string of this length (None: open) is appended,
+-- whose head is at offset p
+abbrev pub IsStringTaken : {E : Type 0} → StringKind → Option ℕ → ℕ → List ℕ → ℕ →
+    Result (Unit {0}) (Error E) → List ℕ → Type 0
 IsStringTaken kind (Some n) p b q r added =
-    ((greatest_offset < q + n) × (r ≡ Err TooLong) × (added ≡ []) × (b ≡ [])) ⊎ ((q + n ≤ greatest_offset) × IsPayloadTaken kind n p b r added)
+    ((greatest_offset < q + n) × (r ≡ Err TooLong) × (added ≡ []) × (b ≡ [])) ⊎
+    ((q + n ≤ greatest_offset) × IsPayloadTaken kind n p b r added)
 IsStringTaken kind None p b q r added = AreChunksTaken kind b q r added

@@ -1,4 +1,5 @@
--- Signed messages of COSE (RFC 9052) that hold a CBOR Web Token (RFC 8392): which bytes they are, and what their
+-- Signed messages of COSE (RFC 9052) that hold a CBOR Web Token (RFC 8392): which bytes they are,
+-- and what their
 -- signatures sign.
 use Rattle.std.specs.Prelude.{◌≡◌, ℕ, ℤ, pos, List, [], ◌∷◌, codes, length, map, false}
 use Rattle.std.specs.Prelude.{Option, Some, None, option_map, String, string_bytes}
@@ -12,7 +13,8 @@ use Rattle.ciborium.specs.Encoding.{item_of}
 use Rattle.ciborium.specs.Errors.{fault_of}
 use Rattle.ciborium.specs.Order.{tree_cmp}
 use Rattle.ciborium.specs.TreeVariants.{IsMapTree}
-use Rattle.ciborium.specs.Sources.{Fault, of_device, of_kind, of_length, of_memory, of_nesting, of_syntax}
+use Rattle.ciborium.specs.Sources.{Fault, of_device, of_kind, of_length, of_memory, of_nesting}
+use Rattle.ciborium.specs.Sources.{of_syntax}
 use Rattle.ciborium.specs.TagReadings.{taken_with_tag, under_tag}
 use Rattle.ciborium.specs.Taken.{Taken, gives, taken_value}
 use Rattle.ciborium.specs.TakenParts.{taken_map, taken_then}
@@ -28,7 +30,8 @@ use Rattle.ciborium_uses.specs.declared.envelopes.error.EnvelopeError.TheVariant
 use Rattle.ciborium_uses.specs.declared.envelopes.error.Part.{Part}
 use Rattle.ciborium_uses.specs.declared.envelopes.error.Part.TheVariants as parts
 use Rattle.ciborium_uses.specs.declared.envelopes.wrapping.Wrapping.{Wrapping}
-use Rattle.ciborium_uses.specs.declared.envelopes.wrapping.Wrapping.TheVariants.{Bare, Signed, Token}
+use Rattle.ciborium_uses.specs.declared.envelopes.wrapping.Wrapping.TheVariants.{Bare, Signed}
+use Rattle.ciborium_uses.specs.declared.envelopes.wrapping.Wrapping.TheVariants.{Token}
 
 -- ---- items
 
@@ -36,7 +39,8 @@ use Rattle.ciborium_uses.specs.declared.envelopes.wrapping.Wrapping.TheVariants.
 abbrev pub IsAllOf : {A : Type 0} → Taken A → List ℕ → A → Type 0
 IsAllOf taken bs v = (i : Item) × Spells bs i × (taken (Some 256) i ≡ gives v)
 
--- no bytes are to blame: memory was refused, or the reader failed, which one over bytes in memory never does
+-- no bytes are to blame: memory was refused, or the reader failed, which one over bytes in memory
+-- never does
 abbrev pub IsBlameless : Fault → Type 0
 IsBlameless (of_kind k) = ⊥
 IsBlameless of_nesting = ⊥
@@ -62,7 +66,8 @@ pair_count _ = 0
 
 -- a map in which no label stands twice: it has as many entries as pairs (RFC 9052, section 3)
 abbrev pub AreLabels : Tree → List (Tree × Tree) → Type 0
-AreLabels t es = IsMapTree t × (taken_map tree_cmp taken_value taken_value None (item_of t) ≡ gives es) ×
+AreLabels t es = IsMapTree t × (taken_map tree_cmp taken_value taken_value None (item_of t) ≡ gives
+    es) ×
     (length es ≡ pair_count t)
 
 -- the bytes are one item, such a map
@@ -92,7 +97,8 @@ number_claim c = option_map trees.integer c
 abbrev pub bytes_claim : Option ByteBuf → Option Tree
 bytes_claim c = option_map (λ b. trees.bytes b.0.items) c
 
--- of these labels the claims of a token are those at its keys, and all of them (RFC 8392, section 4)
+-- of these labels the claims of a token are those at its keys, and all of them (RFC 8392, section
+-- 4)
 pub record AreClaims (es : List (Tree × Tree)) (claims : Claims) : Type 0 where
   pub issuer : value_at 1 es ≡ text_claim claims.issuer
   pub subject : value_at 2 es ≡ text_claim claims.subject
@@ -111,7 +117,8 @@ pub record AreClaimBytes (bs : List ℕ) (claims : Claims) : Type 0 where
 
 -- ---- messages
 
--- a signed message: the protected header, the unprotected one, the payload and the signature (RFC 9052, section 4.2)
+-- a signed message: the protected header, the unprotected one, the payload and the signature (RFC
+-- 9052, section 4.2)
 abbrev pub message_tree : List ℕ → Tree → List ℕ → List ℕ → Tree
 message_tree protected unprotected payload signature =
     trees.array (trees.tree (trees.bytes protected) (trees.tree unprotected
@@ -120,7 +127,8 @@ message_tree protected unprotected payload signature =
 -- the message is this envelope: its parts, and what its headers and its payload hold
 pub record IsMessage (t : Tree) (e : Envelope) : Type 0 where
   pub unprotected_tree : Tree
-  pub parts : t ≡ message_tree e.protected.0.items unprotected_tree e.payload.0.items e.signature.0.items
+  pub parts : t ≡ message_tree e.protected.0.items unprotected_tree e.payload.0.items
+      e.signature.0.items
   pub unprotected : AreLabels unprotected_tree (entry_trees e.unprotected)
   pub header : IsHeader e.protected.0.items (entry_trees e.header)
   pub claims : AreClaimBytes e.payload.0.items e.claims
@@ -131,7 +139,8 @@ pub record IsEnvelope (bs : List ℕ) (e : Envelope) : Type 0 where
   pub item : IsAllOf (taken_then (taken_with_tag taken_value) (under_tag 18)) bs tree
   pub message : IsMessage tree e
 
--- the tags around a message, the outer one first: none, that of a signed message, or that one under the tag of a token
+-- the tags around a message, the outer one first: none, that of a signed message, or that one under
+-- the tag of a token
 -- (RFC 8392, section 6)
 abbrev pub tags_of : Wrapping → Option ℕ × Option ℕ
 tags_of Bare = (None, None)
@@ -141,20 +150,24 @@ tags_of Token = (Some 61, Some 18)
 -- the bytes are a message under these tags and no others
 pub record IsWrapped (bs : List ℕ) (w : Wrapping) (e : Envelope) : Type 0 where
   pub tree : Tree
-  pub item : IsAllOf (taken_with_tag (taken_with_tag taken_value)) bs ((tags_of w).0, ((tags_of w).1, tree))
+  pub item : IsAllOf (taken_with_tag (taken_with_tag taken_value)) bs
+      ((tags_of w).0, ((tags_of w).1, tree))
   pub message : IsMessage tree e
 
 -- ---- what a signature signs
 
--- the protected header in it: no bytes where the header is empty, however it was sent (RFC 9052, section 4.4)
+-- the protected header in it: no bytes where the header is empty, however it was sent (RFC 9052,
+-- section 4.4)
 abbrev pub signed_header : List ℕ → List (Tree × Tree) → List ℕ
 signed_header bs [] = []
 signed_header bs (e ∷ es) = bs
 
--- a Sig_structure: the context, the protected header, what the application adds, and the payload (RFC 9052, section
+-- a Sig_structure: the context, the protected header, what the application adds, and the payload
+-- (RFC 9052, section
 -- 4.4)
 abbrev pub signed_item : List ℕ → List ℕ → List ℕ → Item
-signed_item protected external payload = item.array false (item.item (item.text false (codes "Signature1"))
+signed_item protected external payload = item.array false
+    (item.item (item.text false (codes "Signature1"))
     (item.item (item.bytes false protected) (item.item (item.bytes false external)
     (item.item (item.bytes false payload) item.no_items))))
 

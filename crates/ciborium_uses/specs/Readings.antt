@@ -1,4 +1,5 @@
--- The readings of a log: what counts of one, and the map by names that it is written as (RFC 8949, section 3.1).
+-- The readings of a log: what counts of one, and the map by names that it is written as (RFC 8949,
+-- section 3.1).
 use Rattle.std.specs.Option.{option_map}
 use Rattle.std.specs.Prelude.{ℕ, ◌<◌, ◌^◌, ℤ, pos, List, [], ◌∷◌, Option, Some, None, Ok, IfSome}
 use Rattle.std.specs.Prelude.{String, codes, string_bytes}
@@ -21,15 +22,18 @@ level_field (Some z) = (codes "level", Ok (number_item z)) ∷ []
 -- the fields that a reading is written as, in this order
 abbrev pub reading_fields : String Global → ℕ → Option ℤ → List (List ℕ × Named)
 reading_fields sensor at level =
-    (codes "sensor", named_text (string_bytes sensor)) ∷ (codes "at", Ok (number_item (pos at))) ∷ level_field level
+    (codes "sensor", named_text (string_bytes sensor)) ∷ (codes "at", Ok (number_item (pos at))) ∷
+    level_field level
 
 -- the numbers of a reading fit their types, as those of every reading in a program do
 abbrev pub IsReading : Reading → Type 0
 IsReading r = (r.at < 2 ^ 64) × IfSome r.level (IsBounded (2 ^ 15))
 
--- what is read back where there is nothing, and where there is something, is read back of every option
+-- what is read back where there is nothing, and where there is something, is read back of every
+-- option
 pub either_way_back :
-    {A C : Type 0} {n : ℕ} {taken : Taken C} (named : Option A → Named) (content : Option A → C) (IsHeld : A → Type 0) →
+    {A C : Type 0} {n : ℕ} {taken : Taken C} (named : Option A → Named) (content : Option A → C)
+    (IsHeld : A → Type 0) →
     IsNameRead (named None) taken (content None) n →
     ((v : A) → IsHeld v → IsNameRead (named (Some v)) taken (content (Some v)) n) →
     (o : Option A) → IfSome o IsHeld → IsNameRead (named o) taken (content o) n

@@ -18,9 +18,12 @@ setting_content s = (s.enabled, s.level)
 abbrev pub settings_content : BTreeMap Topic Setting → List (Topic × (Bool × ℕ))
 settings_content m = map (λ e. (e.0, setting_content e.1)) m.entries
 
--- where the bytes are known, at Ok they begin with the deterministic encoding of a tree, which was taken, and the tree
+-- where the bytes are known, at Ok they begin with the deterministic encoding of a tree, which was
+-- taken, and the tree
 -- gives the answer
-abbrev pub LoadsEncoding : {C E : Type 0} → Taken C → Option (List ℕ) → Option (List ℕ) → Result C E → Type 0
+abbrev pub LoadsEncoding : {C E : Type 0} → Taken C → Option (List ℕ) → Option (List ℕ) →
+    Result C E → Type 0
 LoadsEncoding taken before after r =
     (b : List ℕ) → before ≡ Some b → IfOk r (λ c.
-    (t : Tree) × TakesValue (deterministic LengthFirst) b 256 t after × (taken None (item_of t) ≡ gives c))
+    (t : Tree) × TakesValue (deterministic LengthFirst) b 256 t after ×
+    (taken None (item_of t) ≡ gives c))

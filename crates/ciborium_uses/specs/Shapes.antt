@@ -26,7 +26,8 @@ is_text_of name _ = false
 abbrev pub field_fits : Bool → List ℕ → (Tree → Bool) → TreePairs → Bool
 field_fits is_complete name test trees.no_tree_pairs = is_complete
 field_fits is_complete name test (trees.tree_pair k v ps) =
-    if is_text_of name k then (test v && field_fits true name test ps) else field_fits is_complete name test ps
+    if is_text_of name k then (test v && field_fits true name test ps) else field_fits is_complete
+    name test ps
 
 -- a field: its name, whether it is required, and the test of its values
 abbrev pub has_field : TreePairs → String Global × Bool × (Tree → Bool) → Bool

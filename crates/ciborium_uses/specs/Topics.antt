@@ -1,4 +1,5 @@
--- Topics, which are written as their names: a text, and so its own deterministic form (RFC 8949, sections 3.1 and 4.2).
+-- Topics, which are written as their names: a text, and so its own deterministic form (RFC 8949,
+-- sections 3.1 and 4.2).
 use Rattle.std.specs.Prelude.{List, [], ◌∷◌, Ok, codes, false, refl}
 use Rattle.ciborium.specs.FormsReadBack.{IsReadFromForm, own-form_read}
 use Rattle.ciborium.specs.Item.{Item, text}
@@ -23,12 +24,14 @@ topics =
 
 -- a topic that was written is read back, from its item and from the form of it
 pub topic_back :
-    IsReadBack (λ topic. Unit {0}) (λ topic. Ok (topic_item topic)) (taken_enum topics) (λ topic. topic) (λ topic. 1)
+    IsReadBack (λ topic. Unit {0}) (λ topic. Ok (topic_item topic)) (taken_enum topics)
+    (λ topic. topic) (λ topic. 1)
 topic_back Network held = unit_variant_back topics (codes "network") (λ l. refl)
 topic_back Screen held = unit_variant_back topics (codes "screen") (λ l. refl)
 topic_back Sound held = unit_variant_back topics (codes "sound") (λ l. refl)
 
 pub topic_form : (order : KeyOrder) →
-    IsReadFromForm order (λ topic. Unit {0}) (λ topic. Ok (topic_item topic)) (taken_enum topics) (λ topic. topic)
+    IsReadFromForm order (λ topic. Unit {0}) (λ topic. Ok (topic_item topic)) (taken_enum topics)
+    (λ topic. topic)
 topic_form order = own-form_read order topic_back
     (elim [ Network ↦ λ held. refl | Screen ↦ λ held. refl | Sound ↦ λ held. refl ])

@@ -1,4 +1,5 @@
--- Where a source stands: before an item or after one, and what follows in the containers that are open around it.
+-- Where a source stands: before an item or after one, and what follows in the containers that are
+-- open around it.
 use Rattle.std.specs.Prelude.{ℕ, List}
 use Rattle.std.specs.Borrow.{GName}
 use Rattle.ciborium_ll.specs.Item.{Item}

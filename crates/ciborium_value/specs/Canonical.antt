@@ -11,7 +11,8 @@ use Rattle.ciborium_value.specs.declared.key_order.KeyOrder.TheVariants.{LengthF
 abbrev pub bytewise_order : Tree → Tree → Ordering
 bytewise_order = on encoding (slice_cmp nat_cmp)
 
--- the canonical order: the shorter encoding first, then bytewise (RFC 8949, section 4.2.3; RFC 7049, section 3.9)
+-- the canonical order: the shorter encoding first, then bytewise (RFC 8949, section 4.2.3; RFC
+-- 7049, section 3.9)
 abbrev pub canonical_order : Tree → Tree → Ordering
 canonical_order = then_cmp (on encoded_size nat_cmp) (on encoding (slice_cmp nat_cmp))
 

@@ -1,6 +1,7 @@
 -- How many values a tree holds, and how many bytes of strings: what reading it may take of memory.
 use Rattle.std.specs.Prelude.{ℕ, suc, ◌+◌, length}
-use Rattle.ciborium_value.specs.Tree.{Tree, integer, bytes, text, boolean, null, tag, array, map, Trees, no_trees, tree, TreePairs, no_tree_pairs, tree_pair}
+use Rattle.ciborium_value.specs.Tree.{Tree, integer, bytes, text, boolean, null, tag, array, map}
+use Rattle.ciborium_value.specs.Tree.{Trees, no_trees, tree, TreePairs, no_tree_pairs, tree_pair}
 
 abbrev mutual
   -- the tree itself, keys and the contents of tags included
@@ -44,4 +45,5 @@ abbrev mutual
   -- of all keys and values together
   pub tree_pairs_payload_size : TreePairs → ℕ
   tree_pairs_payload_size no_tree_pairs = 0
-  tree_pairs_payload_size (tree_pair k v ps) = payload_size k + payload_size v + tree_pairs_payload_size ps
+  tree_pairs_payload_size (tree_pair k v ps) =
+      payload_size k + payload_size v + tree_pairs_payload_size ps

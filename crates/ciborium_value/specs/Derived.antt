@@ -1,4 +1,5 @@
--- What the derived `==`, `cmp` and `partial_cmp` of `Value` answer, by the names that the derives give to it.
+-- What the derived `==`, `cmp` and `partial_cmp` of `Value` answer, by the names that the derives
+-- give to it.
 use Rattle.std.specs.Prelude.{Bool, Option}
 use Rattle.std.specs.declared.cmp.Ordering.{Ordering}
 use Rattle.ciborium_value.specs.contracts.tree.ValueOrd.TheImpl.Laws as order

@@ -1,4 +1,5 @@
--- The one spelling that a deterministic reader accepts for a tree, by an order of keys (RFC 8949, sections 4.1 and 4.2; length-first: section 4.2.3, bytewise: section 4.2.1).
+-- The one spelling that a deterministic reader accepts for a tree, by an order of keys (RFC 8949,
+-- sections 4.1 and 4.2; length-first: section 4.2.3, bytewise: section 4.2.1).
 use Rattle.std.specs.Prelude.{◌≡◌, ℕ, ◌+◌, ◌≤◌, List, [], ◌∷◌, length, Some, false}
 use Rattle.std.specs.Ordering.{is_eq}
 use Rattle.std.specs.declared.cmp.Ordering.TheVariants.{Less}
@@ -8,7 +9,8 @@ use Rattle.ciborium_value.specs.Encoding.{encoding, item_of}
 use Rattle.ciborium_value.specs.Folded.{folded}
 use Rattle.ciborium_value.specs.Nesting.{nesting}
 use Rattle.ciborium_value.specs.ProperTrees.{IsProperTree}
-use Rattle.ciborium_value.specs.Tree.{Tree, integer, bytes, text, boolean, null, tag, array, map, Trees, no_trees, tree, TreePairs, no_tree_pairs, tree_pair}
+use Rattle.ciborium_value.specs.Tree.{Tree, integer, bytes, text, boolean, null, tag, array, map}
+use Rattle.ciborium_value.specs.Tree.{Trees, no_trees, tree, TreePairs, no_tree_pairs, tree_pair}
 use Rattle.ciborium_value.specs.declared.key_order.KeyOrder.{KeyOrder}
 
 -- each stands behind the one before it in the order
@@ -48,9 +50,11 @@ abbrev mutual
   -- of each key and each value
   pub PairsHaveRisingKeys : KeyOrder → TreePairs → Type 0
   PairsHaveRisingKeys o no_tree_pairs = Unit {0}
-  PairsHaveRisingKeys o (tree_pair k v ps) = HasRisingKeys o k × HasRisingKeys o v × PairsHaveRisingKeys o ps
+  PairsHaveRisingKeys o (tree_pair k v ps) = HasRisingKeys o k × HasRisingKeys o v ×
+      PairsHaveRisingKeys o ps
 
--- a tree that has an accepted spelling: a program can hold it, folding changes nothing, and the keys of its maps rise
+-- a tree that has an accepted spelling: a program can hold it, folding changes nothing, and the
+-- keys of its maps rise
 pub record IsCanonicalTree (o : KeyOrder) (v : Tree) : Type 0 where
   pub proper : IsProperTree v
   pub folds : folded v ≡ Some v
@@ -64,6 +68,8 @@ IsDeterministic o b v = (b ≡ encoding v) × IsCanonicalTree o v
 abbrev pub IsAccepted : KeyOrder → ℕ → Tree → Type 0
 IsAccepted o l v = IsCanonicalTree o v × (nesting (item_of v) ≤ l)
 
--- b, whose first byte is at offset p, is deterministic for v, which nests within l levels, and ends within the greatest offset
+-- b, whose first byte is at offset p, is deterministic for v, which nests within l levels, and ends
+-- within the greatest offset
 abbrev pub IsDeterministicAt : KeyOrder → List ℕ → ℕ → ℕ → Tree → Type 0
-IsDeterministicAt o b p l v = IsDeterministic o b v × (nesting (item_of v) ≤ l) × (p + length b ≤ greatest_offset)
+IsDeterministicAt o b p l v = IsDeterministic o b v × (nesting (item_of v) ≤ l) ×
+    (p + length b ≤ greatest_offset)

@@ -17,11 +17,13 @@ level_with_tag _ v t w = v
 abbrev pub value_with_tag : Value → ℕ → Value → Value
 value_with_tag v t w = level_with_tag (out-Value v) v t w
 
--- s ends as a tag of the last number behind the first reference of r, over the last value behind the
+-- s ends as a tag of the last number behind the first reference of r, over the last value behind
+-- the
 -- second, in the box that it had
 abbrev pub LendsTag : MutBor Value → Option (MutBor ℕ × MutBor Value) → Fml
 LendsTag s r = LendsBothIf the_row u64 the_row s r (value_with_tag s.now) s.now
 
 -- the same of each value of a slice
 abbrev pub LendsTagIn : MutBor (List Value) → Option (MutBor ℕ × MutBor Value) → Fml
-LendsTagIn s r = LendsBothIf (Array the_row 0) u64 the_row s r (λ t w. map (λ v. value_with_tag v t w) s.now) s.now
+LendsTagIn s r = LendsBothIf (Array the_row 0) u64 the_row s r
+    (λ t w. map (λ v. value_with_tag v t w) s.now) s.now

@@ -1,8 +1,11 @@
 -- The tree that an item means, or none (RFC 8949, sections 3.1 to 3.4; bignums: section 3.4.3).
-use Rattle.std.specs.Prelude.{ℕ, ◌+◌, ◌*◌, ◌^◌, List, [], ◌∷◌, length, Bool, true, false, if◌then◌else◌, ◌||◌, ◌==◌, nat_lt, nat_le, pos, negsuc, Option, Some, None, option_map}
+use Rattle.std.specs.Prelude.{ℕ, ◌+◌, ◌*◌, ◌^◌, List, [], ◌∷◌, length, Bool, true, false}
+use Rattle.std.specs.Prelude.{if◌then◌else◌, ◌||◌, ◌==◌, nat_lt, nat_le, pos, negsuc, Option, Some}
+use Rattle.std.specs.Prelude.{None, option_map}
 use Rattle.ciborium_ll.specs.Item as item
 use Rattle.ciborium_ll.specs.Item.{Item, Items, Pairs}
-use Rattle.ciborium_value.specs.Tree.{Tree, integer, bytes, text, boolean, null, tag, array, map, Trees, no_trees, tree, TreePairs, no_tree_pairs, tree_pair}
+use Rattle.ciborium_value.specs.Tree.{Tree, integer, bytes, text, boolean, null, tag, array, map}
+use Rattle.ciborium_value.specs.Tree.{Trees, no_trees, tree, TreePairs, no_tree_pairs, tree_pair}
 
 -- the number of bytes read behind the number n, the most significant first
 unfoldable pub big_endian_behind : ℕ → List ℕ → ℕ
@@ -25,12 +28,14 @@ unsigned_bignum n b = if nat_lt n (2 ^ 64) then Some (integer (pos n)) else Some
 -- a negative bignum, -1 - n; from n = 2^127 on an `i128` does not hold it, and it has no meaning
 abbrev pub negative_bignum : ℕ → List ℕ → Option Tree
 negative_bignum n b =
-    if nat_lt n (2 ^ 64) then Some (integer (negsuc n)) else if nat_lt n (2 ^ 127) then Some (tag 3 (bytes b)) else None
+    if nat_lt n (2 ^ 64) then Some (integer (negsuc n)) else if nat_lt n (2 ^ 127) then Some
+    (tag 3 (bytes b)) else None
 
 -- what a folding tag over these bytes means
 unfoldable pub bignum_meaning : ℕ → List ℕ → Option Tree
 bignum_meaning t b =
-    if t == 2 then unsigned_bignum (big_endian b) (without_zeros b) else negative_bignum (big_endian b) (without_zeros b)
+    if t == 2 then unsigned_bignum (big_endian b) (without_zeros b) else negative_bignum
+    (big_endian b) (without_zeros b)
 
 -- the tags of bignums
 abbrev pub is_bignum_tag : ℕ → Bool
@@ -53,7 +58,8 @@ short_string (item.float raw) = None
 abbrev pub folding_bytes : ℕ → Item → Option (List ℕ)
 folding_bytes t i = if is_bignum_tag t then short_string i else None
 
--- what a tag means: a number over the bytes on which it folds, else the tag over what its item means
+-- what a tag means: a number over the bytes on which it folds, else the tag over what its item
+-- means
 abbrev pub tag_meaning : ℕ → Option (List ℕ) → Option Tree → Option Tree
 tag_meaning t (Some b) content = bignum_meaning t b
 tag_meaning t None content = option_map (tag t) content
@@ -78,7 +84,8 @@ tree_pairs_more (Some k) None ps = None
 tree_pairs_more (Some k) (Some v) ps = option_map (tree_pair k v) ps
 
 abbrev mutual
-  -- an open item means what the definite one means, a map keeps every pair in order, and a float has no meaning
+  -- an open item means what the definite one means, a map keeps every pair in order, and a float
+  -- has no meaning
   pub meaning : Item → Option Tree
   meaning (item.unsigned n) = Some (integer (pos n))
   meaning (item.negative n) = Some (integer (negsuc n))

@@ -1,6 +1,8 @@
--- How deep an item nests, and the levels that a reader allows. RFC 8949, section 10, asks for such a limit; how levels count is ciborium's rule.
+-- How deep an item nests, and the levels that a reader allows. RFC 8949, section 10, asks for such
+-- a limit; how levels count is ciborium's rule.
 use Rattle.std.specs.Prelude.{◌≡◌, ℕ, suc, ◌≤◌, max, List, Option, Some, None}
-use Rattle.ciborium_ll.specs.Item.{Item, unsigned, negative, bytes, text, array, map, tag, simple, float, Items, no_items, item, Pairs, no_pairs, pair}
+use Rattle.ciborium_ll.specs.Item.{Item, unsigned, negative, bytes, text, array, map, tag, simple}
+use Rattle.ciborium_ll.specs.Item.{float, Items, no_items, item, Pairs, no_pairs, pair}
 use Rattle.ciborium_value.specs.Meaning.{folding_bytes}
 
 -- the levels that are left, or None for a tree in memory, where every depth is allowed
@@ -25,7 +27,8 @@ tag_nesting (Some b) n = 0
 tag_nesting None n = suc n
 
 abbrev mutual
-  -- the levels that an item takes: one for an array, a map or a tag that does not fold, above the greatest of its parts
+  -- the levels that an item takes: one for an array, a map or a tag that does not fold, above the
+  -- greatest of its parts
   pub nesting : Item → ℕ
   nesting (unsigned n) = 0
   nesting (negative n) = 0

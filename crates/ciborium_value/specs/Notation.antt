@@ -1,9 +1,13 @@
--- Diagnostic notation (RFC 8949, section 8): what is shown of a tree to a person, by its bytes of UTF-8.
-use Rattle.std.specs.Prelude.{◌≡◌, All, ℕ, suc, ◌==◌, ◌||◌, Bool, true, false, List, [], ◌∷◌, ◌++◌, Option, Some, None, if◌then◌else◌, nat_lt, codes, decimal}
+-- Diagnostic notation (RFC 8949, section 8): what is shown of a tree to a person, by its bytes of
+-- UTF-8.
+use Rattle.std.specs.Prelude.{◌≡◌, All, ℕ, suc, ◌==◌, ◌||◌, Bool, true, false, List, [], ◌∷◌, ◌++◌}
+use Rattle.std.specs.Prelude.{Option, Some, None, if◌then◌else◌, nat_lt, codes, decimal}
 use Rattle.std.specs.Fmt.{signed_decimal}
 use Rattle.std.specs.List.{flat_map, repeat}
 use Rattle.hex.specs.Hex.{encode_lower}
-use Rattle.ciborium_value.specs.Tree.{Tree, integer, bytes, text, boolean, null, tag, array, map, Trees, no_trees, tree, TreePairs, no_tree_pairs, tree_pair, trees_count, tree_pairs_count}
+use Rattle.ciborium_value.specs.Tree.{Tree, integer, bytes, text, boolean, null, tag, array, map}
+use Rattle.ciborium_value.specs.Tree.{Trees, no_trees, tree, TreePairs, no_tree_pairs, tree_pair}
+use Rattle.ciborium_value.specs.Tree.{trees_count, tree_pairs_count}
 
 -- ---- texts, as JSON writes them (RFC 8949, section 8; RFC 8259, section 7)
 
@@ -11,7 +15,8 @@ use Rattle.ciborium_value.specs.Tree.{Tree, integer, bytes, text, boolean, null,
 abbrev pub needs_escape : ℕ → Bool
 needs_escape b = nat_lt b 32 || b == 34 || b == 92
 
--- the escape of such a byte: a backslash before the character itself or a letter, or else two hex digits
+-- the escape of such a byte: a backslash before the character itself or a letter, or else two hex
+-- digits
 abbrev pub escape : ℕ → List ℕ
 escape b =
     if b == 34 then codes "\\\""
@@ -35,7 +40,8 @@ IsPlain t = All (λ b. needs_escape b ≡ false) t
 abbrev pub quoted : List ℕ → List ℕ
 quoted t = codes "\"" ++ (flat_map escaped t ++ codes "\"")
 
--- ---- lines: a tree stands on one line, `None`, or each of its parts on a line of its own, indented by so many levels
+-- ---- lines: a tree stands on one line, `None`, or each of its parts on a line of its own,
+-- indented by so many levels
 
 -- a line break and the indentation of the next line, two spaces a level
 abbrev pub line_break : Option ℕ → List ℕ
@@ -59,7 +65,8 @@ last_break lines count = if count == 0 then [] else line_break lines
 -- ---- trees (RFC 8949, section 8)
 
 abbrev mutual
-  -- of a tree: a number in decimal, a byte string in base16, a tag's number before its content in parentheses, and the rest as in JSON
+  -- of a tree: a number in decimal, a byte string in base16, a tag's number before its content in
+  -- parentheses, and the rest as in JSON
   pub notation_on : Option ℕ → Tree → List ℕ
   notation_on lines (integer z) = signed_decimal z
   notation_on lines (bytes b) = codes "h'" ++ (encode_lower b ++ codes "'")
@@ -68,18 +75,24 @@ abbrev mutual
   notation_on lines (boolean true) = codes "true"
   notation_on lines null = codes "null"
   notation_on lines (tag n v) = decimal n ++ (codes "(" ++ (notation_on lines v ++ codes ")"))
-  notation_on lines (array vs) = codes "[" ++ (notations_on (one_level_more lines) [] vs ++ (last_break lines (trees_count vs) ++ codes "]"))
-  notation_on lines (map ps) = codes "{" ++ (pair_notations_on (one_level_more lines) [] ps ++ (last_break lines (tree_pairs_count ps) ++ codes "}"))
+  notation_on lines (array vs) = codes "[" ++
+      (notations_on (one_level_more lines) [] vs ++
+      (last_break lines (trees_count vs) ++ codes "]"))
+  notation_on lines (map ps) = codes "{" ++ (pair_notations_on (one_level_more lines) [] ps ++
+      (last_break lines (tree_pairs_count ps) ++ codes "}"))
 
   -- of each of some trees, the first behind `lead` and each other behind a comma
   pub notations_on : Option ℕ → List ℕ → Trees → List ℕ
   notations_on lines lead no_trees = []
-  notations_on lines lead (tree v vs) = lead ++ (line_break lines ++ (notation_on lines v ++ notations_on lines (comma lines) vs))
+  notations_on lines lead (tree v vs) = lead ++
+      (line_break lines ++ (notation_on lines v ++ notations_on lines (comma lines) vs))
 
-  -- of each of some pairs, a key before its value, the first behind `lead` and each other behind a comma
+  -- of each of some pairs, a key before its value, the first behind `lead` and each other behind a
+  -- comma
   pub pair_notations_on : Option ℕ → List ℕ → TreePairs → List ℕ
   pair_notations_on lines lead no_tree_pairs = []
-  pair_notations_on lines lead (tree_pair k v ps) = lead ++ (line_break lines ++ (notation_on lines k ++ (codes ": " ++
+  pair_notations_on lines lead (tree_pair k v ps) =
+      lead ++ (line_break lines ++ (notation_on lines k ++ (codes ": " ++
       (notation_on lines v ++ pair_notations_on lines (comma lines) ps))))
 
 -- on one line, as `{}` shows a value

@@ -1,10 +1,12 @@
--- The order of values: by variant, in the order of its declaration, and then by content. Texts and bytes are ordered bytewise, lists by their first parts that differ.
+-- The order of values: by variant, in the order of its declaration, and then by content. Texts and
+-- bytes are ordered bytewise, lists by their first parts that differ.
 use Rattle.std.specs.Prelude.{ℕ}
 use Rattle.std.specs.declared.cmp.Ordering.{Ordering}
 use Rattle.std.specs.declared.cmp.Ordering.TheVariants.{Less, Equal, Greater}
 use Rattle.std.specs.Ordering.{nat_cmp, int_cmp, bool_cmp, ordering_then}
 use Rattle.std.specs.Cmp.Lexicographic.{slice_cmp}
-use Rattle.ciborium_value.specs.Tree.{Tree, integer, bytes, text, boolean, null, tag, array, map, Trees, no_trees, tree, TreePairs, no_tree_pairs, tree_pair}
+use Rattle.ciborium_value.specs.Tree.{Tree, integer, bytes, text, boolean, null, tag, array, map}
+use Rattle.ciborium_value.specs.Tree.{Trees, no_trees, tree, TreePairs, no_tree_pairs, tree_pair}
 
 -- the place of a variant in the declaration
 abbrev pub variant_place : Tree → ℕ
@@ -40,4 +42,5 @@ abbrev mutual
   tree_pairs_cmp no_tree_pairs no_tree_pairs = Equal
   tree_pairs_cmp no_tree_pairs (tree_pair k v ps) = Less
   tree_pairs_cmp (tree_pair k v ps) no_tree_pairs = Greater
-  tree_pairs_cmp (tree_pair k v ps) (tree_pair l w qs) = ordering_then (ordering_then (tree_cmp k l) (tree_cmp v w)) (tree_pairs_cmp ps qs)
+  tree_pairs_cmp (tree_pair k v ps) (tree_pair l w qs) =
+      ordering_then (ordering_then (tree_cmp k l) (tree_cmp v w)) (tree_pairs_cmp ps qs)

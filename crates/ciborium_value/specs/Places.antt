@@ -1,5 +1,6 @@
 -- Where a sink stands while a value is written (RFC 8949, sections 3.2 and 4.1).
-use Rattle.std.specs.Prelude.{◌≡◌, ℕ, ◌+◌, ◌<◌, ◌≤◌, Bool, true, false, List, [], ◌∷◌, ◌++◌, length, Option, Some, None}
+use Rattle.std.specs.Prelude.{◌≡◌, ℕ, ◌+◌, ◌<◌, ◌≤◌, Bool, true, false, List, [], ◌∷◌, ◌++◌, length}
+use Rattle.std.specs.Prelude.{Option, Some, None}
 use Rattle.std.specs.Borrow.{GName}
 use Rattle.ciborium_ll.specs.Bytes.{greatest_offset}
 use Rattle.ciborium_ll.specs.Head.{shortest_head, break_byte}
@@ -56,8 +57,10 @@ is_open (Some n) = false
 
 -- ---- places
 
--- the items that are done in the innermost container, what it announced, and what is open around it. The top holds the one item
--- that is written, the writer whose bytes are known, and the bytes before it; a tag waits for its item
+-- the items that are done in the innermost container, what it announced, and what is open around
+-- it. The top holds the one item
+-- that is written, the writer whose bytes are known, and the bytes before it; a tag waits for its
+-- item
 pub data Place : Type 0 where
   top : Option GName → List ℕ → List Item → Place
   within : Shape → Option ℕ → List Item → Place → Place
@@ -106,7 +109,8 @@ Fits (Some n) = n ≤ greatest_offset
 -- what is done and what waits can be written
 abbrev pub IsWrittenPlace : Place → Type 0
 IsWrittenPlace (top name before done) = AreWritten (items_from done)
-IsWrittenPlace (within s n done around) = Fits n × AreWritten (items_from done) × IsWrittenPlace around
+IsWrittenPlace (within s n done around) = Fits n × AreWritten (items_from done) ×
+    IsWrittenPlace around
 IsWrittenPlace (tagged t p) = IsArgument t × IsWrittenPlace p
 
 -- ---- bytes
@@ -114,7 +118,8 @@ IsWrittenPlace (tagged t p) = IsArgument t × IsWrittenPlace p
 -- the bytes that are out
 unfoldable pub bytes_at : Place → List ℕ
 bytes_at (top name before done) = before ++ items_bytes (items_from done)
-bytes_at (within s n done around) = bytes_at around ++ (begin_bytes s n ++ items_bytes (items_from done))
+bytes_at (within s n done around) = bytes_at around ++
+    (begin_bytes s n ++ items_bytes (items_from done))
 bytes_at (tagged t p) = bytes_at p ++ shortest_head 6 t
 
 -- the writer whose bytes are known
@@ -144,7 +149,8 @@ IsOutAt out p = IsOutOf (writer_at p) out (bytes_at p)
 
 abbrev pub IsOutBetween : Option GName → Out → List ℕ → List ℕ → Type 0
 IsOutBetween None out from to = Unit {0}
-IsOutBetween (Some name) out from to = (bs : List ℕ) × (out ≡ Some (name, bs)) × IsBeginning from bs × IsProperBeginning bs to
+IsOutBetween (Some name) out from to = (bs : List ℕ) × (out ≡ Some (name, bs)) ×
+    IsBeginning from bs × IsProperBeginning bs to
 
 -- the bytes of p are out, and a beginning of what q adds to them, but not all of it
 abbrev pub IsCutBetween : Out → Place → Place → Type 0

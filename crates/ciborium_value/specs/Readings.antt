@@ -1,14 +1,21 @@
 -- How types are read: what counts of a value, what an item gives, and what reading takes.
-use Rattle.std.specs.Prelude.{ℕ, ℤ, pos, negsuc, ◌<◌, Bool, true, false, List, map, Option, Some, None, if◌then◌else◌}
+use Rattle.std.specs.Prelude.{ℕ, ℤ, pos, negsuc, ◌<◌, Bool, true, false, List, map, Option, Some}
+use Rattle.std.specs.Prelude.{None, if◌then◌else◌}
 use Rattle.std.specs.Ordering.{nat_cmp, int_cmp, ordering_then}
 use Rattle.std.specs.Cmp.Lexicographic.{slice_cmp}
 use Rattle.std.specs.Option.{option_cmp, option_map}
 use Rattle.std.specs.declared.cmp.Ordering.{Ordering}
 use Rattle.std.specs.declared.cmp.Ordering.TheVariants.{Equal}
 use Rattle.ciborium_value.specs.lemmas.Steady.{IsSteady, IsNoNesting}
-use Rattle.ciborium_value.specs.lemmas.SteadyParts.{no_nesting-if, no_nesting-below, no_nesting-within, steady-integer, steady-then, steady-option, steady-list, steady-tuple1, steady-tuple2, steady-tuple3, steady-tuple4, steady-map, steady-value}
-use Rattle.ciborium_value.specs.Taken.{Outcome, Taken, gives, refuses, taken_integer, number_below, number_within, taken_value}
-use Rattle.ciborium_value.specs.TakenParts.{taken_then, taken_option, taken_list, taken_tuple1, taken_tuple2, taken_tuple3, taken_tuple4, taken_map}
+use Rattle.ciborium_value.specs.lemmas.SteadyParts.{no_nesting-if, no_nesting-below}
+use Rattle.ciborium_value.specs.lemmas.SteadyParts.{no_nesting-within, steady-integer, steady-then}
+use Rattle.ciborium_value.specs.lemmas.SteadyParts.{steady-option, steady-list, steady-tuple1}
+use Rattle.ciborium_value.specs.lemmas.SteadyParts.{steady-tuple2, steady-tuple3, steady-tuple4}
+use Rattle.ciborium_value.specs.lemmas.SteadyParts.{steady-map, steady-value}
+use Rattle.ciborium_value.specs.Taken.{Outcome, Taken, gives, refuses, taken_integer, number_below}
+use Rattle.ciborium_value.specs.Taken.{number_within, taken_value}
+use Rattle.ciborium_value.specs.TakenParts.{taken_then, taken_option, taken_list, taken_tuple1}
+use Rattle.ciborium_value.specs.TakenParts.{taken_tuple2, taken_tuple3, taken_tuple4, taken_map}
 use Rattle.ciborium_value.specs.Order.{tree_cmp}
 use Rattle.ciborium_value.specs.Tree.{Tree}
 use Rattle.ciborium_value.specs.declared.kind.Kind.{Kind}
@@ -33,24 +40,61 @@ abbrev pub unordered : {C : Type 0} → C → C → Ordering
 unordered x y = Equal
 
 -- what is read by one call that takes no memory
-abbrev pub plain : {T C : Type 0} → (T → C) → (C → C → Ordering) → (taken : Taken C) → IsSteady taken → Reading T C
-plain content order taken steady = record { content = content; taken = taken; steady = steady; order = order; needs_memory = false; whole = None }
+abbrev pub plain : {T C : Type 0} → (T → C) → (C → C → Ordering) → (taken : Taken C) →
+    IsSteady taken → Reading T C
+plain content order taken steady = record {
+  content = content;
+  taken = taken;
+  steady =
+      steady;
+  order = order;
+  needs_memory = false;
+  whole = None;
+}
 
 -- what is read by one call that may take memory
-abbrev pub spacious : {T C : Type 0} → (T → C) → (C → C → Ordering) → (taken : Taken C) → IsSteady taken → Reading T C
-spacious content order taken steady = record { content = content; taken = taken; steady = steady; order = order; needs_memory = true; whole = None }
+abbrev pub spacious : {T C : Type 0} → (T → C) → (C → C → Ordering) → (taken : Taken C) →
+    IsSteady taken → Reading T C
+spacious content order taken steady = record {
+  content = content;
+  taken = taken;
+  steady =
+      steady;
+  order = order;
+  needs_memory = true;
+  whole = None;
+}
 
 -- what another type reads, looked at once more: it gives a content or is refused
-abbrev pub checked : {T U A C : Type 0} → (T → C) → (C → C → Ordering) → Reading U A → (f : A → Outcome C) → ((v : A) → IsNoNesting (f v)) → Reading T C
-checked content order r f h = record { content = content; taken = taken_then r.taken f; steady = steady-then r.taken f r.steady h; order = order; needs_memory = r.needs_memory; whole = None }
+abbrev pub checked : {T U A C : Type 0} → (T → C) → (C → C → Ordering) → Reading U A →
+    (f : A → Outcome C) → ((v : A) → IsNoNesting (f v)) → Reading T C
+checked content order r f h = record {
+  content = content;
+  taken = taken_then r.taken f;
+  steady =
+      steady-then r.taken f r.steady h;
+  order = order;
+  needs_memory = r.needs_memory;
+  whole = None;
+}
 
 -- what another type reads, where this test holds of it, else refused with the kind
 abbrev pub such_that : {T U A : Type 0} → (T → A) → Reading U A → (A → Bool) → Kind → Reading T A
-such_that content r test kind = checked content r.order r (λ v. if test v then gives v else refuses kind) (λ v. no_nesting-if (test v) (gives v) (refuses kind) tt tt)
+such_that content r test kind = checked content r.order r
+    (λ v. if test v then gives v else refuses kind)
+    (λ v. no_nesting-if (test v) (gives v) (refuses kind) tt tt)
 
 -- the same, where contents compare so: for a type that is a key of maps
 abbrev pub ordered_by : {T C : Type 0} → (C → C → Ordering) → Reading T C → Reading T C
-ordered_by order r = record { content = r.content; taken = r.taken; steady = r.steady; order = order; needs_memory = r.needs_memory; whole = r.whole }
+ordered_by order r = record {
+  content = r.content;
+  taken = r.taken;
+  steady = r.steady;
+  order =
+      order;
+  needs_memory = r.needs_memory;
+  whole = r.whole;
+}
 
 -- ---- numbers
 
@@ -75,39 +119,70 @@ IsBounded bound (negsuc n) = n < bound
 
 -- nothing, or what the content is read from
 abbrev pub option_of : {T C : Type 0} → Reading T C → Reading (Option T) (Option C)
-option_of r = record { content = option_map r.content; taken = taken_option r.taken; steady = steady-option r.taken r.steady; order = option_cmp r.order; needs_memory = r.needs_memory; whole = None }
+option_of r = record {
+  content = option_map r.content;
+  taken = taken_option r.taken;
+  steady =
+      steady-option r.taken r.steady;
+  order = option_cmp r.order;
+  needs_memory =
+      r.needs_memory;
+  whole = None;
+}
 
 -- a list by its items
 abbrev pub list_of : {L T C : Type 0} → (L → List T) → Reading T C → Reading L (List C)
-list_of items r = spacious (λ v. map r.content (items v)) (slice_cmp r.order) (taken_list r.taken) (steady-list r.taken r.steady)
+list_of items r = spacious (λ v. map r.content (items v)) (slice_cmp r.order) (taken_list r.taken)
+    (steady-list r.taken r.steady)
 
 -- a tuple by its parts
 abbrev pub tuple1_of : {T A C : Type 0} → (T → A) → Reading A C → Reading T C
-tuple1_of part a = spacious (λ t. a.content (part t)) a.order (taken_tuple1 a.taken) (steady-tuple1 a.taken a.steady)
+tuple1_of part a = spacious (λ t. a.content (part t)) a.order (taken_tuple1 a.taken)
+    (steady-tuple1 a.taken a.steady)
 
 abbrev pub tuple2_of : {A B C D : Type 0} → Reading A C → Reading B D → Reading (A × B) (C × D)
-tuple2_of a b = spacious (λ t. (a.content t.0, b.content t.1)) (λ x y. ordering_then (a.order x.0 y.0) (b.order x.1 y.1)) (taken_tuple2 a.taken b.taken) (steady-tuple2 a.taken b.taken a.steady b.steady)
+tuple2_of a b = spacious (λ t. (a.content t.0, b.content t.1))
+    (λ x y. ordering_then (a.order x.0 y.0) (b.order x.1 y.1)) (taken_tuple2 a.taken b.taken)
+    (steady-tuple2 a.taken b.taken a.steady b.steady)
 
-abbrev pub tuple3_of : {A B C D E F : Type 0} → Reading A D → Reading B E → Reading C F → Reading (A × B × C) (D × E × F)
+abbrev pub tuple3_of : {A B C D E F : Type 0} → Reading A D → Reading B E → Reading C F →
+    Reading (A × B × C) (D × E × F)
 tuple3_of a b c =
-    spacious (λ t. (a.content t.0, b.content t.1, c.content t.2)) (λ x y. ordering_then (ordering_then (a.order x.0 y.0) (b.order x.1 y.1)) (c.order x.2 y.2)) (taken_tuple3 a.taken b.taken c.taken) (steady-tuple3 a.taken b.taken c.taken a.steady b.steady c.steady)
+    spacious (λ t. (a.content t.0, b.content t.1, c.content t.2))
+    (λ x y. ordering_then (ordering_then (a.order x.0 y.0) (b.order x.1 y.1)) (c.order x.2 y.2))
+    (taken_tuple3 a.taken b.taken c.taken)
+    (steady-tuple3 a.taken b.taken c.taken a.steady b.steady c.steady)
 
-abbrev pub tuple4_of : {A B C D E F G H : Type 0} → Reading A E → Reading B F → Reading C G → Reading D H → Reading (A × B × C × D) (E × F × G × H)
+abbrev pub tuple4_of : {A B C D E F G H : Type 0} → Reading A E → Reading B F → Reading C G →
+    Reading D H → Reading (A × B × C × D) (E × F × G × H)
 tuple4_of a b c d =
-    spacious (λ t. (a.content t.0, b.content t.1, c.content t.2, d.content t.3)) (λ x y. ordering_then (ordering_then (ordering_then (a.order x.0 y.0) (b.order x.1 y.1)) (c.order x.2 y.2)) (d.order x.3 y.3)) (taken_tuple4 a.taken b.taken c.taken d.taken)
+    spacious (λ t. (a.content t.0, b.content t.1, c.content t.2, d.content t.3))
+    (λ x y. ordering_then (ordering_then (ordering_then (a.order x.0 y.0) (b.order x.1 y.1))
+    (c.order x.2 y.2)) (d.order x.3 y.3)) (taken_tuple4 a.taken b.taken c.taken d.taken)
     (steady-tuple4 a.taken b.taken c.taken d.taken a.steady b.steady c.steady d.steady)
 
 -- ---- maps
 
 -- a map by its entries, which compare by their keys and then by their values
-abbrev pub map_of : {M K V C D : Type 0} → (M → List (K × V)) → Reading K C → Reading V D → Reading M (List (C × D))
-map_of entries k v = spacious (λ m. map (λ e. (k.content e.0, v.content e.1)) (entries m)) (slice_cmp (λ x y. ordering_then (k.order x.0 y.0) (v.order x.1 y.1))) (taken_map k.order k.taken v.taken) (steady-map k.order k.taken v.taken k.steady v.steady)
+abbrev pub map_of : {M K V C D : Type 0} → (M → List (K × V)) → Reading K C → Reading V D →
+    Reading M (List (C × D))
+map_of entries k v = spacious (λ m. map (λ e. (k.content e.0, v.content e.1)) (entries m))
+    (slice_cmp (λ x y. ordering_then (k.order x.0 y.0) (v.order x.1 y.1)))
+    (taken_map k.order k.taken v.taken) (steady-map k.order k.taken v.taken k.steady v.steady)
 
 -- ---- whatever is ahead
 
 -- what one call of `value` reads, by its tree; trees compare so
 abbrev pub whole_by : {T : Type 0} → (Tree → Tree → Ordering) → (T → Tree) → Reading T Tree
-whole_by order tree = record { content = tree; taken = taken_value; steady = steady-value; order = order; needs_memory = true; whole = Some (λ v. v) }
+whole_by order tree = record {
+  content = tree;
+  taken = taken_value;
+  steady = steady-value;
+  order =
+      order;
+  needs_memory = true;
+  whole = Some (λ v. v);
+}
 
 -- the same, in the derived order
 abbrev pub whole_of : {T : Type 0} → (T → Tree) → Reading T Tree

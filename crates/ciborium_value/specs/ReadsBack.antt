@@ -2,32 +2,40 @@
 use Rattle.std.proofs.Common.{sym, ap, subst, ◌∙◌, append-nil}
 use Rattle.std.proofs.lemmas.Str.{IsUtf8-encode, chars-nil, chars_past_char}
 use Rattle.std.specs.Char.{IsScalar}
-use Rattle.std.specs.Prelude.{◌≡◌, ℕ, Bool, true, false, List, [], ◌∷◌, Result, Ok, Err, IfOk, chars, encode_utf8, String, string_bytes, refl}
+use Rattle.std.specs.Prelude.{◌≡◌, ℕ, Bool, true, false, List, [], ◌∷◌, Result, Ok, Err, IfOk}
+use Rattle.std.specs.Prelude.{chars, encode_utf8, String, string_bytes, refl}
 use Rattle.std.specs.declared.alloc.Global.{Global}
 use Rattle.ciborium_ll.specs.Item as items
 use Rattle.ciborium_ll.specs.Item.{Item}
 use Rattle.ciborium_value.specs.Encoding.{boolean_item, item_of, written_tree}
 use Rattle.ciborium_value.specs.Nesting.{Limit, IsWithin}
 use Rattle.ciborium_value.specs.Sinks.{Named}
-use Rattle.ciborium_value.specs.Taken.{Taken, gives, lone_character, taken_boolean, taken_unit, taken_character, taken_text, taken_bytes}
+use Rattle.ciborium_value.specs.Taken.{Taken, gives, lone_character, taken_boolean, taken_unit}
+use Rattle.ciborium_value.specs.Taken.{taken_character, taken_text, taken_bytes}
 
--- how what was written is read: from its bytes, or from the tree that `Value::serialized` makes of it
+-- how what was written is read: from its bytes, or from the tree that `Value::serialized` makes of
+-- it
 pub data Way : Type 0 where
   by_bytes : Way
   by_tree : Way
 
--- the item that is then met where this one was written: in a tree strings, arrays and maps are definite
+-- the item that is then met where this one was written: in a tree strings, arrays and maps are
+-- definite
 abbrev pub met : Way → Item → Item
 met by_bytes i = i
 met by_tree i = item_of (written_tree i)
 
--- the item that is named, if there is one, is read as this content where so many levels are left, both ways
+-- the item that is named, if there is one, is read as this content where so many levels are left,
+-- both ways
 pub record IsNameRead {C : Type 0} (r : Named) (taken : Taken C) (c : C) (n : ℕ) : Type 0 where
-  pub back : (way : Way) (i : Item) → r ≡ Ok i → (l : Limit) → IsWithin l n → taken l (met way i) ≡ gives c
+  pub back : (way : Way) (i : Item) → r ≡ Ok i → (l : Limit) → IsWithin l n →
+      taken l (met way i) ≡ gives c
 
 -- what a value names is read as what counts of it, where so many levels are left
-abbrev pub IsReadBack : {T C : Type 0} → (T → Type 0) → (T → Named) → Taken C → (T → C) → (T → ℕ) → Type 0
-IsReadBack {T = T} IsHeld written taken content levels = (v : T) → IsHeld v → IsNameRead (written v) taken (content v) (levels v)
+abbrev pub IsReadBack : {T C : Type 0} → (T → Type 0) → (T → Named) → Taken C → (T → C) → (T → ℕ) →
+    Type 0
+IsReadBack {T = T} IsHeld written taken content levels = (v : T) → IsHeld v →
+    IsNameRead (written v) taken (content v) (levels v)
 
 -- ---- what holds of all that is answered
 
@@ -60,10 +68,13 @@ met-tag by_tree t i = refl
 abbrev pub named : Item → Named
 named i = Ok i
 
-pub back-by_item : {T C : Type 0} (IsHeld : T → Type 0) (written : T → Item) (taken : Taken C) (content : T → C) → ((v : T) → IsDefinite (written v)) → ((v : T) → IsHeld v → (l : Limit) → taken l (written v) ≡ gives (content v)) →
+pub back-by_item : {T C : Type 0} (IsHeld : T → Type 0) (written : T → Item) (taken : Taken C)
+    (content : T → C) → ((v : T) → IsDefinite (written v)) →
+    ((v : T) → IsHeld v → (l : Limit) → taken l (written v) ≡ gives (content v)) →
     IsReadBack IsHeld (λ v. named (written v)) taken content (λ v. 0)
 back-by_item IsHeld written taken content definite h v held = record {
-  back = λ way i e l fits. of_ok (named (written v)) (λ j. taken l (met way j) ≡ gives (content v)) (ap (taken l) (met-definite way (written v) (definite v)) ∙ h v held l) i e;
+  back = λ way i e l fits. of_ok (named (written v)) (λ j. taken l (met way j) ≡ gives (content v))
+      (ap (taken l) (met-definite way (written v) (definite v)) ∙ h v held l) i e;
 }
 
 definite-boolean : (b : Bool) → IsDefinite (boolean_item b)
@@ -74,23 +85,37 @@ boolean-taken : (b : Bool) → Unit {0} → (l : Limit) → taken_boolean l (boo
 boolean-taken false h l = refl
 boolean-taken true h l = refl
 
-pub boolean-back : IsReadBack (λ b. Unit {0}) (λ b. named (boolean_item b)) taken_boolean (λ b. b) (λ b. 0)
-boolean-back = back-by_item (λ b. Unit {0}) boolean_item taken_boolean (λ b. b) definite-boolean boolean-taken
+pub boolean-back : IsReadBack (λ b. Unit {0}) (λ b. named (boolean_item b)) taken_boolean (λ b. b)
+    (λ b. 0)
+boolean-back = back-by_item (λ b. Unit {0}) boolean_item taken_boolean (λ b. b) definite-boolean
+    boolean-taken
 
-pub unit-back : IsReadBack (λ u. Unit {0}) (λ u. named (items.simple 22)) taken_unit (λ u. u) (λ u. 0)
-unit-back = back-by_item (λ u. Unit {0}) (λ u. items.simple 22) taken_unit (λ u. u) (λ u. refl) (λ u h l. refl)
+pub unit-back : IsReadBack (λ u. Unit {0}) (λ u. named (items.simple 22)) taken_unit (λ u. u)
+    (λ u. 0)
+unit-back = back-by_item (λ u. Unit {0}) (λ u. items.simple 22) taken_unit (λ u. u) (λ u. refl)
+    (λ u h l. refl)
 
 lone-encoded : (c : ℕ) → IsScalar c → lone_character (chars (encode_utf8 c)) ≡ gives c
-lone-encoded c h = ap lone_character (chars_past_char (encode_utf8 c) [] c (IsUtf8-encode c h) (sym (append-nil (encode_utf8 c))) ∙ ap (λ cs. c ∷ cs) chars-nil)
+lone-encoded c h = ap lone_character (chars_past_char (encode_utf8 c) [] c (IsUtf8-encode c h)
+    (sym (append-nil (encode_utf8 c))) ∙ ap (λ cs. c ∷ cs) chars-nil)
 
-pub character-back : IsReadBack IsScalar (λ c. named (items.text false (encode_utf8 c))) taken_character (λ c. c) (λ c. 0)
-character-back = back-by_item IsScalar (λ c. items.text false (encode_utf8 c)) taken_character (λ c. c) (λ c. refl) (λ c h l. lone-encoded c h)
+pub character-back : IsReadBack IsScalar (λ c. named (items.text false (encode_utf8 c)))
+    taken_character (λ c. c) (λ c. 0)
+character-back = back-by_item IsScalar (λ c. items.text false (encode_utf8 c)) taken_character
+    (λ c. c) (λ c. refl) (λ c h l. lone-encoded c h)
 
-text-back : {T : Type 0} (content : T → List ℕ) → IsReadBack (λ s. Unit {0}) (λ s. named (items.text false (content s))) taken_text content (λ s. 0)
-text-back content = back-by_item (λ s. Unit {0}) (λ s. items.text false (content s)) taken_text content (λ s. refl) (λ s h l. refl)
+text-back : {T : Type 0} (content : T → List ℕ) →
+    IsReadBack (λ s. Unit {0}) (λ s. named (items.text false (content s))) taken_text content
+    (λ s. 0)
+text-back content = back-by_item (λ s. Unit {0}) (λ s. items.text false (content s)) taken_text
+    content (λ s. refl) (λ s h l. refl)
 
-pub bytes-back : {T : Type 0} (content : T → List ℕ) → IsReadBack (λ b. Unit {0}) (λ b. named (items.bytes false (content b))) taken_bytes content (λ b. 0)
-bytes-back content = back-by_item (λ b. Unit {0}) (λ b. items.bytes false (content b)) taken_bytes content (λ b. refl) (λ b h l. refl)
+pub bytes-back : {T : Type 0} (content : T → List ℕ) →
+    IsReadBack (λ b. Unit {0}) (λ b. named (items.bytes false (content b))) taken_bytes content
+    (λ b. 0)
+bytes-back content = back-by_item (λ b. Unit {0}) (λ b. items.bytes false (content b)) taken_bytes
+    content (λ b. refl) (λ b h l. refl)
 
-pub string_back : IsReadBack {T = String Global} (λ s. Unit {0}) (λ s. named (items.text false (string_bytes s))) taken_text string_bytes (λ s. 0)
+pub string_back : IsReadBack {T = String Global} (λ s. Unit {0})
+    (λ s. named (items.text false (string_bytes s))) taken_text string_bytes (λ s. 0)
 string_back = text-back string_bytes

@@ -27,7 +27,8 @@ kind_message kinds.Tag = codes "not the required tag"
 kind_message kinds.Length = codes "an array too short for the tuple"
 kind_message kinds.Other = codes "a value that the type refuses"
 -- RFC 8949, section 4.2
-kind_message kinds.NotShortest = codes "a head longer than it has to be, or undefined in place of null"
+kind_message kinds.NotShortest =
+    codes "a head longer than it has to be, or undefined in place of null"
 kind_message kinds.Open = codes "an indefinite length where only definite ones are accepted"
 kind_message kinds.NotFolded = codes "a bignum that fits in 64 bits, or has leading zeros"
 kind_message kinds.KeyOrder = codes "a key out of order"

@@ -3,15 +3,18 @@ use Rattle.std.specs.Prelude.{◌≡◌, ℕ, ◌<◌, Bool, List, [], ◌∷◌
 use Rattle.ciborium_ll.specs.Bytes.{greatest_offset}
 use Rattle.ciborium_ll.specs.Item.{Item}
 use Rattle.ciborium_ll.specs.Spells.{Spells}
-use Rattle.ciborium_value.specs.Ahead.{Ahead, Rest, Form, item, after, parts, pairs, entry, held, past, inside, end_of}
+use Rattle.ciborium_value.specs.Ahead.{Ahead, Rest, Form, item, after, parts, pairs, entry, held}
+use Rattle.ciborium_value.specs.Ahead.{past, inside, end_of}
 use Rattle.ciborium_value.specs.Nesting.{Limit}
 use Rattle.ciborium_value.specs.Places.{Shape, sequence, dictionary}
-use Rattle.ciborium_value.specs.Taken.{Outcome, gives, refuses, nests, Taken, taken_seq, taken_pairs, is_null, deeper}
+use Rattle.ciborium_value.specs.Taken.{Outcome, gives, refuses, nests, Taken, taken_seq}
+use Rattle.ciborium_value.specs.Taken.{taken_pairs, is_null, deeper}
 use Rattle.ciborium_value.specs.declared.kind.Kind.{Kind}
 
 -- ---- why a source refused
 
--- a kind, no level left, bytes that spell no item, want of memory, the device: its failure or its end; or the greatest offset would be
+-- a kind, no level left, bytes that spell no item, want of memory, the device: its failure or its
+-- end; or the greatest offset would be
 -- passed
 pub data Fault : Type 0 where
   of_kind : Kind → Fault
@@ -21,7 +24,8 @@ pub data Fault : Type 0 where
   of_device : Fault
   of_length : Fault
 
--- where what is there ends at this offset, an item that gives this outcome is refused for this, or for what it does not decide: as too
+-- where what is there ends at this offset, an item that gives this outcome is refused for this, or
+-- for what it does not decide: as too
 -- long only where what is there is
 abbrev pub IsFaultOf : {A : Type 0} → ℕ → Fault → Outcome A → Type 0
 IsFaultOf end (of_kind k) o = o ≡ refuses k
@@ -59,63 +63,90 @@ read_as f (Err e) = Err e
 module _ {S : Type 0} (StandsBefore : S → Limit → Ahead → Type 0) where
   -- the answer is what the item gives, and the source stands past it
   abbrev pub TakesAhead : {A : Type 0} → S → S → Taken A → A → Type 0
-  TakesAhead old new taken v = (l : Limit) (i : Item) (f : Rest) → StandsBefore old l (item i f) → (taken l i ≡ gives v) × StandsBefore new l (past f)
+  TakesAhead old new taken v = (l : Limit) (i : Item) (f : Rest) → StandsBefore old l (item i f) →
+      (taken l i ≡ gives v) × StandsBefore new l (past f)
 
   -- it is refused only where the item is, and for that
   abbrev pub RefusesAhead : {A : Type 0} → S → Taken A → Fault → Type 0
-  RefusesAhead old taken fault = (l : Limit) (i : Item) (f : Rest) → StandsBefore old l (item i f) → IsFaultOf (end_of f) fault (taken l i)
+  RefusesAhead old taken fault = (l : Limit) (i : Item) (f : Rest) → StandsBefore old l (item i f) →
+      IsFaultOf (end_of f) fault (taken l i)
 
   -- the answer says whether the item is null, and the source stands before it still
   abbrev pub Tells : S → S → Bool → Type 0
-  Tells old new answer = (l : Limit) (i : Item) (f : Rest) → StandsBefore old l (item i f) → (answer ≡ is_null i) × StandsBefore new l (item i f)
+  Tells old new answer = (l : Limit) (i : Item) (f : Rest) → StandsBefore old l (item i f) →
+      (answer ≡ is_null i) × StandsBefore new l (item i f)
 
   -- no item is to blame
   abbrev pub RefusesToTell : S → Fault → Type 0
-  RefusesToTell old fault = (l : Limit) (i : Item) (f : Rest) → StandsBefore old l (item i f) → IsOutsideFault (end_of f) fault
+  RefusesToTell old fault = (l : Limit) (i : Item) (f : Rest) → StandsBefore old l (item i f) →
+      IsOutsideFault (end_of f) fault
 
 -- ---- what is read of a container
 
-module _ {S Q : Type 0} (StandsBefore : S → Limit → Ahead → Type 0) (SeqStands : Q → Limit → Rest → Type 0) where
+module _ {S Q : Type 0} (StandsBefore : S → Limit → Ahead → Type 0)
+    (SeqStands : Q → Limit → Rest → Type 0) where
   -- a sequence was entered
   abbrev pub Enters : S → S → Q → Type 0
   Enters old new q = (l : Limit) (i : Item) (f : Rest) → StandsBefore old l (item i f) →
-      (form : Form) × (is : List Item) × (taken_seq l i ≡ gives (inside form l, is)) × StandsBefore new (inside form l) (after (parts form is f)) × SeqStands q l (parts form is f)
+      (form : Form) × (is : List Item) × (taken_seq l i ≡ gives (inside form l, is)) ×
+      StandsBefore new (inside form l) (after (parts form is f)) ×
+      SeqStands q l (parts form is f)
 
   -- a map was entered
   abbrev pub EntersMap : S → S → Q → Type 0
   EntersMap old new q = (l : Limit) (i : Item) (f : Rest) → StandsBefore old l (item i f) →
-      (form : Form) × (ps : List (Item × Item)) × (taken_pairs l i ≡ gives (inside form l, ps)) × StandsBefore new (inside form l) (after (pairs form ps f)) × SeqStands q l (pairs form ps f)
+      (form : Form) × (ps : List (Item × Item)) × (taken_pairs l i ≡ gives (inside form l, ps)) ×
+      StandsBefore new (inside form l) (after (pairs form ps f)) ×
+      SeqStands q l (pairs form ps f)
 
   -- a further item, or a further key, is ahead
   abbrev pub GoesOn : S → S → Q → Q → Type 0
-  GoesOn old new q q' = ((l : Limit) (form : Form) (is : List Item) (f : Rest) → StandsBefore old (inside form l) (after (parts form is f)) → SeqStands q l (parts form is f) →
-      (i : Item) × (js : List Item) × (is ≡ i ∷ js) × StandsBefore new (inside form l) (item i (parts form js f)) × SeqStands q' l (parts form js f))
-      × ((l : Limit) (form : Form) (ps : List (Item × Item)) (f : Rest) → StandsBefore old (inside form l) (after (pairs form ps f)) → SeqStands q l (pairs form ps f) →
-      (k : Item) × (v : Item) × (qs : List (Item × Item)) × (ps ≡ (k, v) ∷ qs) × StandsBefore new (inside form l) (item k (entry v form qs f)) × SeqStands q' l (pairs form qs f))
+  GoesOn old new q q' = ((l : Limit) (form : Form) (is : List Item) (f : Rest) →
+      StandsBefore old (inside form l) (after (parts form is f)) → SeqStands q l (parts form is f) →
+      (i : Item) × (js : List Item) × (is ≡ i ∷ js) ×
+      StandsBefore new (inside form l) (item i (parts form js f)) ×
+      SeqStands q' l (parts form js f))
+      × ((l : Limit) (form : Form) (ps : List (Item × Item)) (f : Rest) →
+      StandsBefore old (inside form l) (after (pairs form ps f)) →
+      SeqStands q l (pairs form ps f) →
+      (k : Item) × (v : Item) × (qs : List (Item × Item)) × (ps ≡ (k, v) ∷ qs) ×
+      StandsBefore new (inside form l) (item k (entry v form qs f)) ×
+      SeqStands q' l (pairs form qs f))
 
   -- nothing is left of the container, and the source stands past it
   abbrev pub Leaves : S → S → Q → Type 0
-  Leaves old new q = ((l : Limit) (form : Form) (is : List Item) (f : Rest) → StandsBefore old (inside form l) (after (parts form is f)) → SeqStands q l (parts form is f) →
+  Leaves old new q = ((l : Limit) (form : Form) (is : List Item) (f : Rest) →
+      StandsBefore old (inside form l) (after (parts form is f)) → SeqStands q l (parts form is f) →
       (is ≡ []) × StandsBefore new l (past f))
-      × ((l : Limit) (form : Form) (ps : List (Item × Item)) (f : Rest) → StandsBefore old (inside form l) (after (pairs form ps f)) → SeqStands q l (pairs form ps f) →
+      × ((l : Limit) (form : Form) (ps : List (Item × Item)) (f : Rest) →
+      StandsBefore old (inside form l) (after (pairs form ps f)) →
+      SeqStands q l (pairs form ps f) →
       (ps ≡ []) × StandsBefore new l (past f))
 
   -- no part and no end is to blame
   abbrev pub RefusesNext : S → Q → Fault → Type 0
-  RefusesNext old q fault = ((l : Limit) (form : Form) (is : List Item) (f : Rest) → StandsBefore old (inside form l) (after (parts form is f)) → SeqStands q l (parts form is f) → IsOutsideFault (end_of f) fault)
-      × ((l : Limit) (form : Form) (ps : List (Item × Item)) (f : Rest) → StandsBefore old (inside form l) (after (pairs form ps f)) → SeqStands q l (pairs form ps f) → IsOutsideFault (end_of f) fault)
+  RefusesNext old q fault = ((l : Limit) (form : Form) (is : List Item) (f : Rest) →
+      StandsBefore old (inside form l) (after (parts form is f)) → SeqStands q l (parts form is f) →
+      IsOutsideFault (end_of f) fault)
+      × ((l : Limit) (form : Form) (ps : List (Item × Item)) (f : Rest) →
+      StandsBefore old (inside form l) (after (pairs form ps f)) →
+      SeqStands q l (pairs form ps f) → IsOutsideFault (end_of f) fault)
 
 -- ---- levels that are held
 
-module _ {S V : Type 0} (StandsBefore : S → Limit → Ahead → Type 0) (LevelStands : V → Limit → Rest → Type 0) where
-  -- the answer and the item that is ahead now are what was taken, with a level that this one gives back
+module _ {S V : Type 0} (StandsBefore : S → Limit → Ahead → Type 0)
+    (LevelStands : V → Limit → Rest → Type 0) where
+  -- the answer and the item that is ahead now are what was taken, with a level that this one gives
+  -- back
   abbrev pub Holds : {A : Type 0} → S → S → Taken (A × Item) → A → V → Type 0
   Holds old new taken v level = (l : Limit) (i : Item) (f : Rest) → StandsBefore old l (item i f) →
-      (j : Item) × (taken l i ≡ gives (v, j)) × StandsBefore new (deeper l) (item j (held f)) × LevelStands level l f
+      (j : Item) × (taken l i ≡ gives (v, j)) × StandsBefore new (deeper l) (item j (held f)) ×
+      LevelStands level l f
 
   -- the level was given back behind that item
   abbrev pub GivesBack : S → S → V → Type 0
-  GivesBack old new level = (l : Limit) (f : Rest) → StandsBefore old (deeper l) (after (held f)) → LevelStands level l f → StandsBefore new l (past f)
+  GivesBack old new level = (l : Limit) (f : Rest) → StandsBefore old (deeper l) (after (held f)) →
+      LevelStands level l f → StandsBefore new l (past f)
 
 -- ---- what was taken where the unread bytes are known, whatever they are
 
@@ -123,13 +154,15 @@ module _ {S V : Type 0} (StandsBefore : S → Limit → Ahead → Type 0) (Level
 abbrev pub HasItem : List ℕ → List ℕ → Type 0
 HasItem b z = (i : Item) × (s : List ℕ) × Spells s i × (b ≡ s ++ z)
 
--- the next part of a container is at the front of b, and z follows it: an item, or in a map a key and its value
+-- the next part of a container is at the front of b, and z follows it: an item, or in a map a key
+-- and its value
 abbrev pub HasPart : Shape → List ℕ → List ℕ → Type 0
 HasPart sequence b z = HasItem b z
 HasPart dictionary b z = (c : List ℕ) × HasItem b c × HasItem c z
 
 -- of the bytes that were unread these are left, and P says how
-abbrev pub TakesTo : {S : Type 0} → (S → List ℕ → Type 0) → S → S → (List ℕ → List ℕ → Type 0) → Type 0
+abbrev pub TakesTo : {S : Type 0} → (S → List ℕ → Type 0) → S → S → (List ℕ → List ℕ → Type 0) →
+    Type 0
 TakesTo IsUnread old new P = (b : List ℕ) → IsUnread old b → (u : List ℕ) × IsUnread new u × P b u
 
 -- an item stood there and was taken

@@ -4,28 +4,38 @@ use Rattle.std.specs.Ordering.{nat_cmp, ordering_then}
 use Rattle.std.specs.Option.{option_cmp}
 use Rattle.ciborium_ll.specs.Item.{Item}
 use Rattle.ciborium_value.specs.Readings.{Reading, checked}
-use Rattle.ciborium_value.specs.lemmas.Steady.{IsSteady, IsSameUnlessNested, IsNoNesting, same-map, no_nesting-map}
+use Rattle.ciborium_value.specs.lemmas.Steady.{IsSteady, IsSameUnlessNested, IsNoNesting, same-map}
+use Rattle.ciborium_value.specs.lemmas.Steady.{no_nesting-map}
 use Rattle.ciborium_value.specs.lemmas.SteadyParts.{no_nesting-if}
-use Rattle.ciborium_value.specs.Taken.{Outcome, Taken, gives, refuses, then_take, outcome_map, within_level, deeper, outer_tag, taken_outer_tag}
+use Rattle.ciborium_value.specs.Taken.{Outcome, Taken, gives, refuses, then_take, outcome_map}
+use Rattle.ciborium_value.specs.Taken.{within_level, deeper, outer_tag, taken_outer_tag}
 use Rattle.ciborium_value.specs.declared.kind.Kind.TheVariants as kinds
 
 -- the outermost tag, if there is one, and what is taken from the item under it
 abbrev pub taken_with_tag : {A : Type 0} → Taken A → Taken (Option ℕ × A)
-taken_with_tag taken l i = then_take (taken_outer_tag l i) (λ p. outcome_map (λ v. (p.0, v)) (taken (deeper l) p.1))
+taken_with_tag taken l i = then_take (taken_outer_tag l i)
+    (λ p. outcome_map (λ v. (p.0, v)) (taken (deeper l) p.1))
 
 same-under : {A : Type 0} (taken : Taken A) (tag : Option ℕ) (j : Item) → IsSteady taken → (l : ℕ) →
-    IsSameUnlessNested {A = Option ℕ × A} (then_take {A = Option ℕ × Item} (within_level (Some l) (gives (tag, j))) (λ p. outcome_map (λ v. (p.0, v)) (taken (deeper (Some l)) p.1))) (outcome_map (λ v. (tag, v)) (taken None j))
+    IsSameUnlessNested {A = Option ℕ × A} (then_take {A = Option ℕ × Item}
+    (within_level (Some l) (gives (tag, j)))
+    (λ p. outcome_map (λ v. (p.0, v)) (taken (deeper (Some l)) p.1)))
+    (outcome_map (λ v. (tag, v)) (taken None j))
 same-under taken tag j h zero = tt
-same-under taken tag j h (suc n) = same-map (λ v. (tag, v)) (taken (Some n) j) (taken None j) (h.within n j)
+same-under taken tag j h (suc n) = same-map (λ v. (tag, v)) (taken (Some n) j) (taken None j)
+    (h.within n j)
 
-pub steady-with_tag : {A : Type 0} (taken : Taken A) → IsSteady taken → IsSteady (taken_with_tag taken)
+pub steady-with_tag : {A : Type 0} (taken : Taken A) → IsSteady taken →
+    IsSteady (taken_with_tag taken)
 steady-with_tag taken h = record {
   within = λ l i. same-under taken (outer_tag i).0 (outer_tag i).1 h l;
-  without = λ i. no_nesting-map (λ v. ((outer_tag i).0, v)) (taken None (outer_tag i).1) (h.without (outer_tag i).1);
+  without = λ i. no_nesting-map (λ v. ((outer_tag i).0, v)) (taken None (outer_tag i).1)
+      (h.without (outer_tag i).1);
 }
 
 -- a value with the tag around it, if there is one
-abbrev pub with_tag : {T V C : Type 0} → (T → Option ℕ) → (T → V) → Reading V C → Reading T (Option ℕ × C)
+abbrev pub with_tag : {T V C : Type 0} → (T → Option ℕ) → (T → V) → Reading V C →
+    Reading T (Option ℕ × C)
 with_tag tag value r = record {
   content = λ t. (tag t, r.content (value t));
   taken = taken_with_tag r.taken;
@@ -49,14 +59,18 @@ pub no_nesting-under_tag : {C : Type 0} (t : ℕ) (p : Option ℕ × C) → IsNo
 no_nesting-under_tag t (None, v) = tt
 no_nesting-under_tag t (Some u, v) = no_nesting-if (u == t) (gives v) (refuses kinds.Tag) tt tt
 
-pub no_nesting-no_other : {C : Type 0} (t : ℕ) (p : Option ℕ × C) → IsNoNesting (under_no_other_tag t p)
+pub no_nesting-no_other : {C : Type 0} (t : ℕ) (p : Option ℕ × C) →
+    IsNoNesting (under_no_other_tag t p)
 no_nesting-no_other t (None, v) = tt
 no_nesting-no_other t (Some u, v) = no_nesting-if (u == t) (gives v) (refuses kinds.Tag) tt tt
 
 -- a value that must stand under this tag; what its content refuses comes first
 abbrev pub tag_required : {T V C : Type 0} → ℕ → (T → V) → Reading V C → Reading T C
-tag_required {V = V} t value r = checked (λ x. r.content (value x)) r.order (with_tag {T = Option ℕ × V} (λ p. p.0) (λ p. p.1) r) (under_tag t) (no_nesting-under_tag t)
+tag_required {V = V} t value r = checked (λ x. r.content (value x)) r.order
+    (with_tag {T = Option ℕ × V} (λ p. p.0) (λ p. p.1) r) (under_tag t) (no_nesting-under_tag t)
 
 -- a value that may stand under this tag
 abbrev pub tag_accepted : {T V C : Type 0} → ℕ → (T → V) → Reading V C → Reading T C
-tag_accepted {V = V} t value r = checked (λ x. r.content (value x)) r.order (with_tag {T = Option ℕ × V} (λ p. p.0) (λ p. p.1) r) (under_no_other_tag t) (no_nesting-no_other t)
+tag_accepted {V = V} t value r = checked (λ x. r.content (value x)) r.order
+    (with_tag {T = Option ℕ × V} (λ p. p.0) (λ p. p.1) r) (under_no_other_tag t)
+    (no_nesting-no_other t)

@@ -1,10 +1,15 @@
--- What the calls of a source take from an item within a limit: a value, a refusal of a kind, or nesting where no level is left.
-use Rattle.std.specs.Prelude.{ℕ, zero, suc, ℤ, pos, negsuc, Bool, true, false, List, [], ◌∷◌, length, map, chars, Option, Some, None, if◌then◌else◌, ◌||◌, ◌==◌, nat_le, nat_lt}
+-- What the calls of a source take from an item within a limit: a value, a refusal of a kind, or
+-- nesting where no level is left.
+use Rattle.std.specs.Prelude.{ℕ, zero, suc, ℤ, pos, negsuc, Bool, true, false, List, [], ◌∷◌}
+use Rattle.std.specs.Prelude.{length, map, chars, Option, Some, None, if◌then◌else◌, ◌||◌, ◌==◌}
+use Rattle.std.specs.Prelude.{nat_le, nat_lt}
 use Rattle.std.specs.Int.{complement_if}
 use Rattle.std.specs.Str.{is_utf8}
 use Rattle.ciborium_ll.specs.Item as items
-use Rattle.ciborium_ll.specs.Item.{Item, Items, Pairs, unsigned, negative, bytes, text, array, tag, simple, float}
-use Rattle.ciborium_value.specs.Meaning.{big_endian, without_zeros, is_bignum_tag, folding_bytes, bignum_meaning, simple_meaning}
+use Rattle.ciborium_ll.specs.Item.{Item, Items, Pairs, unsigned, negative, bytes, text, array, tag}
+use Rattle.ciborium_ll.specs.Item.{simple, float}
+use Rattle.ciborium_value.specs.Meaning.{big_endian, without_zeros, is_bignum_tag, folding_bytes}
+use Rattle.ciborium_value.specs.Meaning.{bignum_meaning, simple_meaning}
 use Rattle.ciborium_value.specs.Nesting.{Limit}
 use Rattle.ciborium_value.specs.Tree as trees
 use Rattle.ciborium_value.specs.Tree.{Tree, Trees, TreePairs}
@@ -75,9 +80,11 @@ untagged (float raw) = float raw
 
 -- ---- numbers
 
--- the number of a byte string under tag 2 or 3: at most 16 bytes behind the leading zeros (RFC 8949, section 3.4.3)
+-- the number of a byte string under tag 2 or 3: at most 16 bytes behind the leading zeros (RFC
+-- 8949, section 3.4.3)
 abbrev pub magnitude : List ℕ → Outcome ℕ
-magnitude b = if nat_le (length (without_zeros b)) 16 then gives (big_endian b) else refuses kinds.TooLarge
+magnitude b = if nat_le (length (without_zeros b)) 16 then gives (big_endian b) else refuses
+    kinds.TooLarge
 
 -- the same of an item, which must be a byte string, definite or open
 abbrev pub bignum_of : Item → Outcome ℕ
@@ -113,7 +120,8 @@ number_below bound (false, n) = if nat_lt n bound then gives n else refuses kind
 
 -- a number n or -1 - n, where n is below the bound
 abbrev pub number_within : ℕ → Bool × ℕ → Outcome ℤ
-number_within bound p = if nat_lt p.1 bound then gives (complement_if p.0 p.1) else refuses kinds.Range
+number_within bound p = if nat_lt p.1 bound then gives (complement_if p.0 p.1) else refuses
+    kinds.Range
 
 -- ---- booleans, null, characters
 
@@ -197,7 +205,8 @@ bare_seq l (bytes open_ b) = gives (l, map unsigned b)
 bare_seq l (array open_ is) = within_level l (gives (deeper l, unpack is))
 bare_seq l _ = refuses kinds.Array
 
--- the items of an array, with a level, or the bytes of a byte string, without one; and the levels left for them
+-- the items of an array, with a level, or the bytes of a byte string, without one; and the levels
+-- left for them
 abbrev pub taken_seq : Taken (Limit × List Item)
 taken_seq l i = bare_seq l (untagged i)
 
@@ -243,7 +252,8 @@ taken_outer_tag l i = within_level l (gives (outer_tag i))
 -- one pair: its key as a name, with a level, and its value
 abbrev pub lone_pair : Limit → Pairs → Outcome (List ℕ × Item)
 lone_pair l items.no_pairs = refuses kinds.Variant
-lone_pair l (items.pair k v items.no_pairs) = within_level l (outcome_map (λ name. (name, v)) (taken_name (deeper l) k))
+lone_pair l (items.pair k v items.no_pairs) =
+    within_level l (outcome_map (λ name. (name, v)) (taken_name (deeper l) k))
 lone_pair l (items.pair k v (items.pair k' v' ps)) = refuses kinds.Variant
 
 abbrev pub definite_pair : Limit → Bool → Pairs → Outcome (List ℕ × Item)
@@ -255,7 +265,8 @@ bare_variant l (text open_ b) = within_level l (gives (b, simple 22))
 bare_variant l (items.map open_ ps) = definite_pair l open_ ps
 bare_variant l _ = refuses kinds.Variant
 
--- a text, which names a variant and stands for null as its data; or a definite map of one pair, a name and the data
+-- a text, which names a variant and stands for null as its data; or a definite map of one pair, a
+-- name and the data
 abbrev pub taken_variant : Taken (List ℕ × Item)
 taken_variant l i = bare_variant l (untagged i)
 
@@ -266,7 +277,8 @@ abbrev pub of_meaning : {A : Type 0} → Kind → Option A → Outcome A
 of_meaning k (Some v) = gives v
 of_meaning k None = refuses k
 
--- a tag: a number over the bytes on which it folds, else with a level the tag over what its item gives
+-- a tag: a number over the bytes on which it folds, else with a level the tag over what its item
+-- gives
 abbrev pub taken_tag : ℕ → Limit → Option (List ℕ) → Outcome Tree → Outcome Tree
 taken_tag t l (Some b) o = of_meaning kinds.TooLarge (bignum_meaning t b)
 taken_tag t l None o = within_level l (outcome_map (trees.tag t) o)
@@ -290,8 +302,10 @@ abbrev mutual
   taken_value l (items.negative n) = gives (trees.integer (negsuc n))
   taken_value l (items.bytes open_ b) = gives (trees.bytes b)
   taken_value l (items.text open_ b) = gives (trees.text b)
-  taken_value l (items.array open_ is) = within_level l (outcome_map trees.array (taken_items (deeper l) is))
-  taken_value l (items.map open_ ps) = within_level l (outcome_map trees.map (taken_tree_pairs (deeper l) ps))
+  taken_value l (items.array open_ is) = within_level l
+      (outcome_map trees.array (taken_items (deeper l) is))
+  taken_value l (items.map open_ ps) = within_level l
+      (outcome_map trees.map (taken_tree_pairs (deeper l) ps))
   taken_value l (items.tag t i) = taken_tag t l (folding_bytes t i) (taken_value (deeper l) i)
   taken_value l (items.simple n) = of_meaning kinds.Simple (simple_meaning n)
   taken_value l (items.float raw) = refuses kinds.Float
@@ -302,4 +316,5 @@ abbrev mutual
 
   pub taken_tree_pairs : Limit → Pairs → Outcome TreePairs
   taken_tree_pairs l items.no_pairs = gives trees.no_tree_pairs
-  taken_tree_pairs l (items.pair k v ps) = one_pair_more (taken_value l k) (taken_value l v) (taken_tree_pairs l ps)
+  taken_tree_pairs l (items.pair k v ps) = one_pair_more (taken_value l k) (taken_value l v)
+      (taken_tree_pairs l ps)

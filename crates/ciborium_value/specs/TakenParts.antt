@@ -4,7 +4,8 @@ use Rattle.std.specs.declared.cmp.Ordering.{Ordering}
 use Rattle.std.specs.BTreeMap.{insert_entry}
 use Rattle.ciborium_ll.specs.Item.{Item}
 use Rattle.ciborium_value.specs.Nesting.{Limit}
-use Rattle.ciborium_value.specs.Taken.{Outcome, gives, refuses, Taken, then_take, take_each, outcome_map, is_null, taken_value}
+use Rattle.ciborium_value.specs.Taken.{Outcome, gives, refuses, Taken, then_take, take_each}
+use Rattle.ciborium_value.specs.Taken.{outcome_map, is_null, taken_value}
 use Rattle.ciborium_value.specs.lemmas.Steady.{after_seq, after_pairs}
 use Rattle.ciborium_value.specs.declared.kind.Kind.TheVariants as kinds
 
@@ -26,12 +27,14 @@ abbrev pub taken_list : {A : Type 0} → Taken A → Taken (List A)
 taken_list taken = after_seq (list_items taken)
 
 -- the first item, and then what follows it
-abbrev pub take_part : {A B : Type 0} → Outcome B → (Item → Outcome A) → (A → List Item → Outcome B) → List Item → Outcome B
+abbrev pub take_part : {A B : Type 0} → Outcome B → (Item → Outcome A) →
+    (A → List Item → Outcome B) → List Item → Outcome B
 take_part none first k [] = none
 take_part none first k (i ∷ is) = then_take (first i) (λ v. k v is)
 
 -- a part of a tuple, which must be there
-abbrev pub tuple_part : {A B : Type 0} → Taken A → Limit → (A → List Item → Outcome B) → List Item → Outcome B
+abbrev pub tuple_part : {A B : Type 0} → Taken A → Limit → (A → List Item → Outcome B) → List Item →
+    Outcome B
 tuple_part taken l k is = take_part (refuses kinds.Length) (taken l) k is
 
 -- behind the parts further items are read as values, and dropped
@@ -44,11 +47,15 @@ tuple1_items a l = tuple_part a l (tuple_rest l)
 abbrev pub tuple2_items : {A B : Type 0} → Taken A → Taken B → Limit → List Item → Outcome (A × B)
 tuple2_items a b l = tuple_part a l (λ x. tuple_part b l (λ y. tuple_rest l (x, y)))
 
-abbrev pub tuple3_items : {A B C : Type 0} → Taken A → Taken B → Taken C → Limit → List Item → Outcome (A × B × C)
-tuple3_items a b c l = tuple_part a l (λ x. tuple_part b l (λ y. tuple_part c l (λ z. tuple_rest l (x, y, z))))
+abbrev pub tuple3_items : {A B C : Type 0} → Taken A → Taken B → Taken C → Limit → List Item →
+    Outcome (A × B × C)
+tuple3_items a b c l = tuple_part a l (λ x. tuple_part b l
+    (λ y. tuple_part c l (λ z. tuple_rest l (x, y, z))))
 
-abbrev pub tuple4_items : {A B C D : Type 0} → Taken A → Taken B → Taken C → Taken D → Limit → List Item → Outcome (A × B × C × D)
-tuple4_items a b c d l = tuple_part a l (λ x. tuple_part b l (λ y. tuple_part c l (λ z. tuple_part d l (λ w. tuple_rest l (x, y, z, w)))))
+abbrev pub tuple4_items : {A B C D : Type 0} → Taken A → Taken B → Taken C → Taken D → Limit →
+    List Item → Outcome (A × B × C × D)
+tuple4_items a b c d l = tuple_part a l (λ x. tuple_part b l
+    (λ y. tuple_part c l (λ z. tuple_part d l (λ w. tuple_rest l (x, y, z, w)))))
 
 abbrev pub taken_tuple1 : {A : Type 0} → Taken A → Taken A
 taken_tuple1 a = after_seq (tuple1_items a)
@@ -59,22 +66,27 @@ taken_tuple2 a b = after_seq (tuple2_items a b)
 abbrev pub taken_tuple3 : {A B C : Type 0} → Taken A → Taken B → Taken C → Taken (A × B × C)
 taken_tuple3 a b c = after_seq (tuple3_items a b c)
 
-abbrev pub taken_tuple4 : {A B C D : Type 0} → Taken A → Taken B → Taken C → Taken D → Taken (A × B × C × D)
+abbrev pub taken_tuple4 : {A B C D : Type 0} → Taken A → Taken B → Taken C → Taken D →
+    Taken (A × B × C × D)
 taken_tuple4 a b c d = after_seq (tuple4_items a b c d)
 
 -- ---- maps
 
-abbrev pub take_entry : {A B : Type 0} → (Item → Outcome A) → (Item → Outcome B) → Item × Item → Outcome (A × B)
+abbrev pub take_entry : {A B : Type 0} → (Item → Outcome A) → (Item → Outcome B) → Item × Item →
+    Outcome (A × B)
 take_entry f g p = then_take (f p.0) (λ a. then_take (g p.1) (λ b. gives (a, b)))
 
 -- the entries with these pairs put in, in turn: a later pair replaces the value at an equal key
-abbrev pub put_all : {K V : Type 0} → (K → K → Ordering) → List (K × V) → List (K × V) → List (K × V)
+abbrev pub put_all : {K V : Type 0} → (K → K → Ordering) → List (K × V) → List (K × V) →
+    List (K × V)
 put_all order es [] = es
 put_all order es (p ∷ ps) = put_all order (insert_entry order es p.0 p.1) ps
 
-abbrev pub map_entries : {K V : Type 0} → (K → K → Ordering) → Taken K → Taken V → Limit → List (Item × Item) → Outcome (List (K × V))
+abbrev pub map_entries : {K V : Type 0} → (K → K → Ordering) → Taken K → Taken V → Limit →
+    List (Item × Item) → Outcome (List (K × V))
 map_entries order k v l ps = outcome_map (put_all order []) (take_each (take_entry (k l) (v l)) ps)
 
 -- a map, whose entries stand in the keys' order
-abbrev pub taken_map : {K V : Type 0} → (K → K → Ordering) → Taken K → Taken V → Taken (List (K × V))
+abbrev pub taken_map : {K V : Type 0} → (K → K → Ordering) → Taken K → Taken V →
+    Taken (List (K × V))
 taken_map order k v = after_pairs (map_entries order k v)

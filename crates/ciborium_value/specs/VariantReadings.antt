@@ -1,12 +1,16 @@
 -- How an enum is read by the names of its variants.
-use Rattle.std.specs.Prelude.{ℕ, zero, suc, Bool, true, false, List, [], ◌∷◌, refl, Some, None, if◌then◌else◌, bytes_eq}
+use Rattle.std.specs.Prelude.{ℕ, zero, suc, Bool, true, false, List, [], ◌∷◌, refl, Some, None}
+use Rattle.std.specs.Prelude.{if◌then◌else◌, bytes_eq}
 use Rattle.ciborium_ll.specs.Item as items
 use Rattle.ciborium_ll.specs.Item.{Item, Pairs}
 use Rattle.ciborium_value.specs.Nesting.{Limit}
 use Rattle.ciborium_value.specs.Readings.{Reading, spacious, unordered}
-use Rattle.ciborium_value.specs.lemmas.Steady.{IsSteady, IsSameUnlessNested, IsNoNesting, same, same-then, no_nesting-then, no_nesting-map}
+use Rattle.ciborium_value.specs.lemmas.Steady.{IsSteady, IsSameUnlessNested, IsNoNesting, same}
+use Rattle.ciborium_value.specs.lemmas.Steady.{same-then, no_nesting-then, no_nesting-map}
 use Rattle.ciborium_value.specs.lemmas.SteadyParts.{no_nesting-if, steady-then, steady-unit}
-use Rattle.ciborium_value.specs.Taken.{Outcome, Taken, gives, refuses, then_take, outcome_map, deeper, untagged, bare_name, bare_variant, lone_pair, taken_variant, taken_unit}
+use Rattle.ciborium_value.specs.Taken.{Outcome, Taken, gives, refuses, then_take, outcome_map}
+use Rattle.ciborium_value.specs.Taken.{deeper, untagged, bare_name, bare_variant, lone_pair}
+use Rattle.ciborium_value.specs.Taken.{taken_variant, taken_unit}
 use Rattle.ciborium_value.specs.TakenParts.{taken_then}
 use Rattle.ciborium_value.specs.declared.kind.Kind.TheVariants as kinds
 
@@ -26,22 +30,29 @@ taken_enum vs l i = then_take (taken_variant l i) (λ p. taken_data vs p.0 (deep
 
 -- ---- it is steady
 
-pub same-either : {A : Type 0} (b : Bool) (x' x y' y : Outcome A) → IsSameUnlessNested x' x → IsSameUnlessNested y' y → IsSameUnlessNested (if b then x' else y') (if b then x else y)
+pub same-either : {A : Type 0} (b : Bool) (x' x y' y : Outcome A) → IsSameUnlessNested x' x →
+    IsSameUnlessNested y' y → IsSameUnlessNested (if b then x' else y') (if b then x else y)
 same-either true x' x y' y h k = h
 same-either false x' x y' y h k = k
 
-same-data : {C : Type 0} (vs : List (Variant C)) (name : List ℕ) (l : ℕ) (i : Item) → IsSameUnlessNested (taken_data vs name (Some l) i) (taken_data vs name None i)
+same-data : {C : Type 0} (vs : List (Variant C)) (name : List ℕ) (l : ℕ) (i : Item) →
+    IsSameUnlessNested (taken_data vs name (Some l) i) (taken_data vs name None i)
 same-data [] name l i = refl
-same-data (v ∷ vs) name l i = same-either (bytes_eq name v.name) (v.taken (Some l) i) (v.taken None i) (taken_data vs name (Some l) i) (taken_data vs name None i) (v.steady.within l i) (same-data vs name l i)
+same-data (v ∷ vs) name l i = same-either (bytes_eq name v.name) (v.taken (Some l) i)
+    (v.taken None i) (taken_data vs name (Some l) i) (taken_data vs name None i)
+    (v.steady.within l i) (same-data vs name l i)
 
-no_nesting-data : {C : Type 0} (vs : List (Variant C)) (name : List ℕ) (i : Item) → IsNoNesting (taken_data vs name None i)
+no_nesting-data : {C : Type 0} (vs : List (Variant C)) (name : List ℕ) (i : Item) →
+    IsNoNesting (taken_data vs name None i)
 no_nesting-data [] name i = tt
-no_nesting-data (v ∷ vs) name i = no_nesting-if (bytes_eq name v.name) (v.taken None i) (taken_data vs name None i) (v.steady.without i) (no_nesting-data vs name i)
+no_nesting-data (v ∷ vs) name i = no_nesting-if (bytes_eq name v.name) (v.taken None i)
+    (taken_data vs name None i) (v.steady.without i) (no_nesting-data vs name i)
 
 pub no_nesting-name : (i : Item) → IsNoNesting (bare_name i)
 no_nesting-name (items.unsigned n) = tt
 no_nesting-name (items.negative n) = tt
-no_nesting-name (items.bytes o b) = no_nesting-if (Rattle.std.specs.Str.is_utf8 b) (gives b) (refuses kinds.Name) tt tt
+no_nesting-name (items.bytes o b) = no_nesting-if (Rattle.std.specs.Str.is_utf8 b) (gives b)
+    (refuses kinds.Name) tt tt
 no_nesting-name (items.text o b) = tt
 no_nesting-name (items.array o is) = tt
 no_nesting-name (items.map o ps) = tt
@@ -53,20 +64,29 @@ module _ {C : Type 0} (vs : List (Variant C)) where
   abbrev data_at : Limit → List ℕ × Item → Outcome C
   data_at l p = taken_data vs p.0 (deeper l) p.1
 
-  same-pair : (l : ℕ) (ps : Pairs) → IsSameUnlessNested (then_take (lone_pair (Some l) ps) (data_at (Some l))) (then_take (lone_pair None ps) (data_at None))
+  same-pair : (l : ℕ) (ps : Pairs) → IsSameUnlessNested
+      (then_take (lone_pair (Some l) ps) (data_at (Some l)))
+      (then_take (lone_pair None ps) (data_at None))
   same-pair l items.no_pairs = refl
   same-pair zero (items.pair k v items.no_pairs) = tt
   same-pair (suc n) (items.pair k v items.no_pairs) =
-      same-then (outcome_map (λ name. (name, v)) (bare_name (untagged k))) (outcome_map (λ name. (name, v)) (bare_name (untagged k))) (data_at (Some (suc n))) (data_at None) (same (outcome_map (λ name. (name, v)) (bare_name (untagged k)))) (λ p. same-data vs p.0 n p.1)
+      same-then (outcome_map (λ name. (name, v)) (bare_name (untagged k)))
+      (outcome_map (λ name. (name, v)) (bare_name (untagged k))) (data_at (Some (suc n)))
+      (data_at None) (same (outcome_map (λ name. (name, v)) (bare_name (untagged k))))
+      (λ p. same-data vs p.0 n p.1)
   same-pair l (items.pair k v (items.pair k' v' ps)) = refl
 
   no_nesting-pair : (ps : Pairs) → IsNoNesting (then_take (lone_pair None ps) (data_at None))
   no_nesting-pair items.no_pairs = tt
   no_nesting-pair (items.pair k v items.no_pairs) =
-      no_nesting-then (outcome_map (λ name. (name, v)) (bare_name (untagged k))) (data_at None) (no_nesting-map (λ name. (name, v)) (bare_name (untagged k)) (no_nesting-name (untagged k))) (λ p. no_nesting-data vs p.0 p.1)
+      no_nesting-then (outcome_map (λ name. (name, v)) (bare_name (untagged k))) (data_at None)
+      (no_nesting-map (λ name. (name, v)) (bare_name (untagged k))
+      (no_nesting-name (untagged k))) (λ p. no_nesting-data vs p.0 p.1)
   no_nesting-pair (items.pair k v (items.pair k' v' ps)) = tt
 
-  same-variant : (l : ℕ) (i : Item) → IsSameUnlessNested (then_take (bare_variant (Some l) i) (data_at (Some l))) (then_take (bare_variant None i) (data_at None))
+  same-variant : (l : ℕ) (i : Item) → IsSameUnlessNested
+      (then_take (bare_variant (Some l) i) (data_at (Some l)))
+      (then_take (bare_variant None i) (data_at None))
   same-variant l (items.unsigned n) = refl
   same-variant l (items.negative n) = refl
   same-variant l (items.bytes o b) = refl
@@ -92,17 +112,32 @@ module _ {C : Type 0} (vs : List (Variant C)) where
   no_nesting-variant (items.float raw) = tt
 
   pub steady-enum : IsSteady (taken_enum vs)
-  steady-enum = record { within = λ l i. same-variant l (untagged i); without = λ i. no_nesting-variant (untagged i) }
+  steady-enum = record {
+    within = λ l i. same-variant l (untagged i);
+    without =
+        λ i. no_nesting-variant (untagged i);
+  }
 
 -- ---- the words
 
 -- a variant without data, which is null
 abbrev pub unit_variant : {C : Type 0} → List ℕ → C → Variant C
-unit_variant name c = record { name = name; taken = taken_then taken_unit (λ _. gives c); steady = steady-then taken_unit (λ _. gives c) steady-unit (λ _. tt) }
+unit_variant name c = record {
+  name = name;
+  taken = taken_then taken_unit (λ _. gives c);
+  steady =
+      steady-then taken_unit (λ _. gives c) steady-unit (λ _. tt);
+}
 
 -- a variant with data of another type
 abbrev pub data_variant : {C U A : Type 0} → List ℕ → (A → C) → Reading U A → Variant C
-data_variant name make r = record { name = name; taken = taken_then r.taken (λ v. gives (make v)); steady = steady-then r.taken (λ v. gives (make v)) r.steady (λ v. tt) }
+data_variant name make r = record {
+  name = name;
+  taken =
+      taken_then r.taken (λ v. gives (make v));
+  steady =
+      steady-then r.taken (λ v. gives (make v)) r.steady (λ v. tt);
+}
 
 -- an enum of these variants; another name is refused as Variant
 abbrev pub enum_of : {T C : Type 0} → (T → C) → List (Variant C) → Reading T C

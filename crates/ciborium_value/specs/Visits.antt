@@ -17,7 +17,8 @@ both_node_count v w = node_count v + node_count w
 abbrev pub AddsVisits : ℕ → ℕ → ℕ → Type 0
 AddsVisits n old new = new ≡ saturated (old + n)
 
--- a walk that gave this answer took the count from old to new: by at most n visits, and by n where it found no difference
+-- a walk that gave this answer took the count from old to new: by at most n visits, and by n where
+-- it found no difference
 pub record AddsAtMost (n : ℕ) (answer : Ordering) (old new : ℕ) : Type 0 where
   pub more : old ≤ new
   pub most : new ≤ saturated (old + n)

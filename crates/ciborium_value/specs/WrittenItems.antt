@@ -1,7 +1,10 @@
--- The items that typed writing writes, and what holds of their bytes (RFC 8949, sections 3.1 to 3.3 and 4.1).
+-- The items that typed writing writes, and what holds of their bytes (RFC 8949, sections 3.1 to 3.3
+-- and 4.1).
 use Rattle.std.specs.Prelude.{◌≡◌, ℕ, ◌≤◌, ◌<◌, Bool, true, false}
 use Rattle.ciborium_ll.specs.Bytes.{greatest_offset}
-use Rattle.ciborium_ll.specs.Item.{Item, unsigned, negative, bytes, text, array, map, tag, simple, float, Items, no_items, item, Pairs, no_pairs, pair, items_count, pairs_count}
+use Rattle.ciborium_ll.specs.Item.{Item, unsigned, negative, bytes, text, array, map, tag, simple}
+use Rattle.ciborium_ll.specs.Item.{float, Items, no_items, item, Pairs, no_pairs, pair, items_count}
+use Rattle.ciborium_ll.specs.Item.{pairs_count}
 use Rattle.ciborium_ll.specs.ProperItems.{IsArgument, IsProperBytes, IsProperText}
 use Rattle.ciborium_ll.specs.Spells.{Spells}
 use Rattle.ciborium_value.specs.Encoding.{item_of, written_bytes, written_tree}
@@ -16,7 +19,8 @@ IsAnnounced false count = count ≤ greatest_offset
 IsAnnounced true count = Unit {0}
 
 abbrev mutual
-  -- strings are definite, of the simple values there are false, true and null, and there is no float; arrays and maps may be open
+  -- strings are definite, of the simple values there are false, true and null, and there is no
+  -- float; arrays and maps may be open
   pub IsWritten : Item → Type 0
   IsWritten (unsigned n) = IsArgument n
   IsWritten (negative n) = IsArgument n

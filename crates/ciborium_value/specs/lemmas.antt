@@ -1,4 +1,5 @@
--- Lemmas that ghost members of traits need: what is proved of readings, of orders, and of what is read back.
+-- Lemmas that ghost members of traits need: what is proved of readings, of orders, and of what is
+-- read back.
 pub mod Steady
 pub mod SteadyParts
 pub mod KeyOrders

@@ -1,5 +1,6 @@
 -- Bytes that are read as the numbers of a sequence.
-use Rattle.std.proofs.Common.{◌≡◌, ◌≢◌, ℕ, ◌+◌, ◌<◌, ◌≤◌, Bool, false, List, [], ◌∷◌, ◌++◌, Option, Some, None, Result, Ok, Err, IfErr, IfOk, OnOk, refl, sym, ap, ◌∙◌, subst, append_assoc, append-nil}
+use Rattle.std.proofs.Common.{◌≡◌, ◌≢◌, ℕ, ◌+◌, ◌<◌, ◌≤◌, Bool, false, List, [], ◌∷◌, ◌++◌, Option, Some, None, Result}
+use Rattle.std.proofs.Common.{Ok, Err, IfErr, IfOk, OnOk, refl, sym, ap, ◌∙◌, subst, append_assoc, append-nil}
 use Rattle.ciborium_ll.specs.declared.header.Header.{Header}
 use Rattle.ciborium_ll.specs.declared.header.Header.TheVariants as header
 use Rattle.ciborium_ll.specs.Item.{Item}
@@ -10,15 +11,20 @@ use Rattle.ciborium.proofs.Items.Due.{due-past, held-past, on-both}
 use Rattle.ciborium_value.specs.Ahead.{Rest, Form, after, parts, past, inside, end_of}
 use Rattle.ciborium_value.specs.Nesting.{Limit}
 use Rattle.ciborium_value.specs.Places.{sequence}
-use Rattle.ciborium_value.specs.Sources.{Fault, IsFaultOf, of_kind, of_nesting, of_syntax, of_memory, of_device, of_length, TakesAhead, RefusesAhead, TakesItem, TakesTo, GoesOn, Leaves, RefusesNext, OwesLess, OwesNothing, HasItem}
-use Rattle.ciborium_value.specs.Taken.{Outcome, Taken, gives, refuses, nests, deeper, then_take, and_take, take_each, number_below, taken_integer, taken_byte, taken_bytes, bare_bytes, untagged}
+use Rattle.ciborium_value.specs.Sources.{Fault, IsFaultOf, of_kind, of_nesting, of_syntax, of_memory, of_device}
+use Rattle.ciborium_value.specs.Sources.{of_length, TakesAhead, RefusesAhead, TakesItem, TakesTo, GoesOn, Leaves}
+use Rattle.ciborium_value.specs.Sources.{RefusesNext, OwesLess, OwesNothing, HasItem}
+use Rattle.ciborium_value.specs.Taken.{Outcome, Taken, gives, refuses, nests, deeper, then_take, and_take, take_each}
+use Rattle.ciborium_value.specs.Taken.{number_below, taken_integer, taken_byte, taken_bytes, bare_bytes, untagged}
 use Rattle.ciborium_value.specs.declared.kind.Kind.TheVariants as kinds
 use Rattle.ciborium_value.proofs.Sources.Sequences.{fault_outside, fault_then}
 use Rattle.ciborium.specs.declared.de.byte_source.ByteSource.{ByteSource}
 use Rattle.ciborium.specs.declared.de.byte_source.ByteSeq.{ByteSeq}
 use Rattle.ciborium.specs.declared.de.error.Error.{Error}
 use Rattle.ciborium.specs.Errors.{fault_of}
-use Rattle.ciborium.specs.inner.ByteSources.{AnswersItem, KeepsSource, IsUnread, StandsBefore, SeqStands, SeqOwes, EntersItemsUnread, ReadsRest, RefusesRest, items_due_behind, pending_count, weight_left, end_at, reader_of}
+use Rattle.ciborium.specs.inner.ByteSources.{AnswersItem, KeepsSource, IsUnread, StandsBefore, SeqStands, SeqOwes}
+use Rattle.ciborium.specs.inner.ByteSources.{EntersItemsUnread, ReadsRest, RefusesRest, items_due_behind, pending_count}
+use Rattle.ciborium.specs.inner.ByteSources.{weight_left, end_at, reader_of}
 use Rattle.ciborium.specs.inner.FrontItems.{Reads, Denies}
 use Rattle.ciborium.specs.inner.Skips.{under, AreSkipped, IsBare, TakesBare}
 use Rattle.ciborium.specs.inner.StringContents.{string_item, TakesContent}
@@ -33,59 +39,83 @@ use Rattle.ciborium.proofs.Items.TakenOnly.{IsKept, kept-reader, rest-end}
 -- ---- from the front of unread bytes to where a source stands
 
 module _ {S : Type 0} (remaining : S → Option (List ℕ)) where
-  pub takes-read : {A : Type 0} (old new : ByteSource S) (taken : Taken A) (v : A) → IsKept remaining old new → new.levels ≡ old.levels → new.pending ≡ None → weight_left new < weight_left old →
+  pub takes-read : {A : Type 0} (old new : ByteSource S) (taken : Taken A) (v : A) → IsKept remaining old new →
+      new.levels ≡ old.levels → new.pending ≡ None → weight_left new < weight_left old →
       Reads (IsUnread remaining) old new (Some old.levels) taken v → TakesAhead (StandsBefore remaining) old new taken v
   takes-read old new taken v kept levels none fewer h l i f (b, u, (s, r, sp, rest, e), is, ahead, few) =
       let (j, t, z, sq, e', give, un) = h b u in
       let same = one_at_front s t r z i j sp sq (sym e ∙ e') in (
         ap (λ k. taken k i) is ∙ ap (taken (Some old.levels)) same.2 ∙ give,
-        (z, un, subst (λ n. FitsAhead n z (past f)) (sym (kept-reader remaining old new kept b u)) (fits-past (reader_of remaining old.decoder) z f (subst (λ y. IsRest (reader_of remaining old.decoder) y f) same.1 rest)), is ∙ ap Some (sym levels), none-past new.pending none f, subst (λ n. allowed_of new.decoder + pending_count new.pending ≤ n) (sym (due-past f)) (held-past old new kept.0 (items_due_behind f) none fewer few)),
+        (
+          z,
+          un,
+          subst (λ n. FitsAhead n z (past f)) (sym (kept-reader remaining old new kept b u))
+              (fits-past (reader_of remaining old.decoder) z f
+              (subst (λ y. IsRest (reader_of remaining old.decoder) y f) same.1 rest)),
+          is ∙ ap Some (sym levels),
+          none-past new.pending none f,
+          subst (λ n. allowed_of new.decoder + pending_count new.pending ≤ n)
+              (sym (due-past f)) (held-past old new kept.0 (items_due_behind f) none fewer few),
+        ),
       )
 
-  pub refuses-denied : {A : Type 0} (old : ByteSource S) (taken : Taken A) (fault : Fault) → Denies (IsUnread remaining) (end_at remaining) old (Some old.levels) taken fault → RefusesAhead (StandsBefore remaining) old taken fault
+  pub refuses-denied : {A : Type 0} (old : ByteSource S) (taken : Taken A) (fault : Fault) →
+      Denies (IsUnread remaining) (end_at remaining) old (Some old.levels) taken fault →
+      RefusesAhead (StandsBefore remaining) old taken fault
   refuses-denied old taken fault h l i f (b, u, (s, r, sp, rest, e), is, ahead, few) =
-      subst (λ n. IsFaultOf n fault (taken l i)) (sym (rest-end (reader_of remaining old.decoder) r f rest)) (subst (λ k. IsFaultOf (end_at remaining old) fault (taken k i)) (sym is) (h b s r i u sp e))
+      subst (λ n. IsFaultOf n fault (taken l i)) (sym (rest-end (reader_of remaining old.decoder) r f rest))
+      (subst (λ k. IsFaultOf (end_at remaining old) fault (taken k i)) (sym is) (h b s r i u sp e))
 
-  pub took-read : {A : Type 0} (old new : ByteSource S) (l : Limit) (taken : Taken A) (v : A) → Reads (IsUnread remaining) old new l taken v → TakesItem (IsUnread remaining) old new
+  pub took-read : {A : Type 0} (old new : ByteSource S) (l : Limit) (taken : Taken A) (v : A) →
+      Reads (IsUnread remaining) old new l taken v → TakesItem (IsUnread remaining) old new
   took-read old new l taken v h b u = let (j, t, z, sq, e, give, un) = h b u in (z, un, (j, t, sq, e))
 
 -- ---- a byte
 
-byte-given : (l : Limit) (i : Item) (n : Bool × ℕ) (v : ℕ) → taken_integer l i ≡ gives n → number_below 256 n ≡ gives v → taken_byte l i ≡ gives v
+byte-given : (l : Limit) (i : Item) (n : Bool × ℕ) (v : ℕ) → taken_integer l i ≡ gives n →
+    number_below 256 n ≡ gives v → taken_byte l i ≡ gives v
 byte-given l i n v e f = ap (λ o. then_take o (number_below 256)) e ∙ f
 
 -- ---- items in turn
 
-and_take-gives : {A : Type 0} (a : Outcome A) (b : Outcome (List A)) (vs : List A) → and_take a b ≡ gives vs → (v : A) × (ws : List A) × (a ≡ gives v) × (b ≡ gives ws) × (vs ≡ v ∷ ws)
+and_take-gives : {A : Type 0} (a : Outcome A) (b : Outcome (List A)) (vs : List A) → and_take a b ≡ gives vs → (v : A) ×
+    (ws : List A) × (a ≡ gives v) × (b ≡ gives ws) × (vs ≡ v ∷ ws)
 and_take-gives (gives v) (gives ws) vs h = (v, ws, refl, refl, cc)
 and_take-gives (gives v) (refuses k) vs h = cc
 and_take-gives (gives v) nests vs h = cc
 and_take-gives (refuses k) b vs h = cc
 and_take-gives nests b vs h = cc
 
-each-more : {X A : Type 0} (f : X → Outcome A) (done : List X) (i : X) (vs : List A) (v : A) → take_each f done ≡ gives vs → f i ≡ gives v → take_each f (done ++ i ∷ []) ≡ gives (vs ++ v ∷ [])
+each-more : {X A : Type 0} (f : X → Outcome A) (done : List X) (i : X) (vs : List A) (v : A) →
+    take_each f done ≡ gives vs → f i ≡ gives v → take_each f (done ++ i ∷ []) ≡ gives (vs ++ v ∷ [])
 each-more f [] i vs v h k = let e : vs ≡ [] = cc in rw (k, e) refl
 each-more f (j ∷ done) i vs v h k =
     let w = and_take-gives (f j) (take_each f done) vs h in
     let e = each-more f done i w.1 v w.3 k in
-    ap (λ r. and_take (f j) r) e ∙ ap (λ r. and_take r (gives (w.1 ++ v ∷ []))) w.2 ∙ ap (λ d. gives (d ++ v ∷ [])) (sym w.4)
+    ap (λ r. and_take (f j) r) e ∙ ap (λ r. and_take r (gives (w.1 ++ v ∷ []))) w.2 ∙
+    ap (λ d. gives (d ++ v ∷ [])) (sym w.4)
 
-each-fault : {X A : Type 0} (end : ℕ) (fault : Fault) (f : X → Outcome A) (done : List X) (i : X) (rest : List X) (vs : List A) → take_each f done ≡ gives vs → IsFaultOf end fault (f i) → IsFaultOf end fault (take_each f (done ++ i ∷ rest))
+each-fault : {X A : Type 0} (end : ℕ) (fault : Fault) (f : X → Outcome A) (done : List X) (i : X) (rest : List X)
+    (vs : List A) → take_each f done ≡ gives vs → IsFaultOf end fault (f i) →
+    IsFaultOf end fault (take_each f (done ++ i ∷ rest))
 each-fault end (of_kind k) f [] i rest vs h b = ap (λ o. and_take o (take_each f rest)) b
 each-fault end (of_kind k) f (j ∷ done) i rest vs h b =
     let w = and_take-gives (f j) (take_each f done) vs h in
-    ap (λ o. and_take o (take_each f (done ++ i ∷ rest))) w.2 ∙ ap (λ o. and_take (gives w.0) o) (each-fault end (of_kind k) f done i rest w.1 w.3 b)
+    ap (λ o. and_take o (take_each f (done ++ i ∷ rest))) w.2 ∙
+    ap (λ o. and_take (gives w.0) o) (each-fault end (of_kind k) f done i rest w.1 w.3 b)
 each-fault end of_nesting f [] i rest vs h b = ap (λ o. and_take o (take_each f rest)) b
 each-fault end of_nesting f (j ∷ done) i rest vs h b =
     let w = and_take-gives (f j) (take_each f done) vs h in
-    ap (λ o. and_take o (take_each f (done ++ i ∷ rest))) w.2 ∙ ap (λ o. and_take (gives w.0) o) (each-fault end of_nesting f done i rest w.1 w.3 b)
+    ap (λ o. and_take o (take_each f (done ++ i ∷ rest))) w.2 ∙
+    ap (λ o. and_take (gives w.0) o) (each-fault end of_nesting f done i rest w.1 w.3 b)
 each-fault end of_syntax f done i rest vs h b = absurd b
 each-fault end of_memory f done i rest vs h b = tt
 each-fault end of_device f done i rest vs h b = tt
 each-fault end of_length f done i rest vs h b = b
 
 -- some items of what was left were read
-pub record IsPartlyRead {S A : Type 0} (remaining : S → Option (List ℕ)) (taken : Taken A) (new : ByteSource S) (q : ByteSeq) (vs : List A) (l : Limit) (form : Form) (is : List Item) (r : Rest) : Type 0 where
+pub record IsPartlyRead {S A : Type 0} (remaining : S → Option (List ℕ)) (taken : Taken A) (new : ByteSource S)
+    (q : ByteSeq) (vs : List A) (l : Limit) (form : Form) (is : List Item) (r : Rest) : Type 0 where
   pub done : List Item
   pub rest : List Item
   pub split : is ≡ done ++ rest
@@ -93,18 +123,32 @@ pub record IsPartlyRead {S A : Type 0} (remaining : S → Option (List ℕ)) (ta
   pub holds : SeqStands q l (parts form rest r)
   pub read : take_each (taken (inside form l)) done ≡ gives vs
 
-abbrev pub ReadsPartly : {S A : Type 0} → (S → Option (List ℕ)) → Taken A → ByteSource S → ByteSeq → ByteSource S → ByteSeq → List A → Type 0
-ReadsPartly remaining taken old q new q' vs = (l : Limit) (form : Form) (is : List Item) (r : Rest) → StandsBefore remaining old (inside form l) (after (parts form is r)) → SeqStands q l (parts form is r) → IsPartlyRead remaining taken new q' vs l form is r
+abbrev pub ReadsPartly : {S A : Type 0} → (S → Option (List ℕ)) → Taken A → ByteSource S → ByteSeq → ByteSource S →
+    ByteSeq → List A → Type 0
+ReadsPartly remaining taken old q new q' vs = (l : Limit) (form : Form) (is : List Item) (r : Rest) →
+    StandsBefore remaining old (inside form l) (after (parts form is r)) → SeqStands q l (parts form is r) →
+    IsPartlyRead remaining taken new q' vs l form is r
 
 -- of known bytes those of some items were taken
 abbrev pub OwesPartly : {S : Type 0} → (S → Option (List ℕ)) → ByteSource S → ByteSeq → ByteSource S → ByteSeq → Type 0
-OwesPartly remaining old q new q' = TakesTo (IsUnread remaining) old new (λ c u. (b : List ℕ) → SeqOwes q sequence b c → SeqOwes q' sequence b u)
+OwesPartly remaining old q new q' = TakesTo (IsUnread remaining) old new
+    (λ c u. (b : List ℕ) → SeqOwes q sequence b c → SeqOwes q' sequence b u)
 
 module _ {S A : Type 0} (remaining : S → Option (List ℕ)) (taken : Taken A) (old : ByteSource S) (start : ByteSeq) where
   pub partly-none : ReadsPartly remaining taken old start old start []
-  partly-none l form is r st hold = record { done = []; rest = is; split = refl; stands = st; holds = hold; read = refl }
+  partly-none l form is r st hold = record {
+    done = [];
+    rest = is;
+    split = refl;
+    stands = st;
+    holds = hold;
+    read =
+        refl;
+  }
 
-  pub partly-more : (mid ahead new : ByteSource S) (q q' : ByteSeq) (vs : List A) (v : A) → ReadsPartly remaining taken old start mid q vs → GoesOn (StandsBefore remaining) SeqStands mid ahead q q' → TakesAhead (StandsBefore remaining) ahead new taken v →
+  pub partly-more : (mid ahead new : ByteSource S) (q q' : ByteSeq) (vs : List A) (v : A) →
+      ReadsPartly remaining taken old start mid q vs → GoesOn (StandsBefore remaining) SeqStands mid ahead q q' →
+      TakesAhead (StandsBefore remaining) ahead new taken v →
       ReadsPartly remaining taken old start new q' (vs ++ v ∷ [])
   partly-more mid ahead new q q' vs v w g t l form is r st hold =
       let n = w l form is r st hold in
@@ -119,36 +163,48 @@ module _ {S A : Type 0} (remaining : S → Option (List ℕ)) (taken : Taken A) 
         read = each-more (taken (inside form l)) n.done e.0 vs v n.read k.0;
       }
 
-  pub partly-end : (mid new : ByteSource S) (q : ByteSeq) (vs : List A) → ReadsPartly remaining taken old start mid q vs → Leaves (StandsBefore remaining) SeqStands mid new q → ReadsRest remaining old new start (λ l is. take_each (taken l) is) vs
+  pub partly-end : (mid new : ByteSource S) (q : ByteSeq) (vs : List A) →
+      ReadsPartly remaining taken old start mid q vs → Leaves (StandsBefore remaining) SeqStands mid new q →
+      ReadsRest remaining old new start (λ l is. take_each (taken l) is) vs
   partly-end mid new q vs w g l form is r st hold =
       let n = w l form is r st hold in
       let e = g.0 l form n.rest r n.stands n.holds in
       (ap (take_each (taken (inside form l))) (n.split ∙ ap (λ x. n.done ++ x) e.0 ∙ append-nil n.done) ∙ n.read, e.1)
 
-  pub partly-next-fault : (mid : ByteSource S) (q : ByteSeq) (vs : List A) (fault : Fault) → ReadsPartly remaining taken old start mid q vs → RefusesNext (StandsBefore remaining) SeqStands mid q fault → RefusesRest remaining old start (λ l is. take_each (taken l) is) fault
+  pub partly-next-fault : (mid : ByteSource S) (q : ByteSeq) (vs : List A) (fault : Fault) →
+      ReadsPartly remaining taken old start mid q vs → RefusesNext (StandsBefore remaining) SeqStands mid q fault →
+      RefusesRest remaining old start (λ l is. take_each (taken l) is) fault
   partly-next-fault mid q vs fault w h l form is r st hold =
       let n = w l form is r st hold in
       fault_outside _ fault (take_each (taken (inside form l)) is) (h.0 l form n.rest r n.stands n.holds)
 
-  pub partly-fault : (mid ahead : ByteSource S) (q q' : ByteSeq) (vs : List A) (fault : Fault) → ReadsPartly remaining taken old start mid q vs → GoesOn (StandsBefore remaining) SeqStands mid ahead q q' → RefusesAhead (StandsBefore remaining) ahead taken fault →
+  pub partly-fault : (mid ahead : ByteSource S) (q q' : ByteSeq) (vs : List A) (fault : Fault) →
+      ReadsPartly remaining taken old start mid q vs → GoesOn (StandsBefore remaining) SeqStands mid ahead q q' →
+      RefusesAhead (StandsBefore remaining) ahead taken fault →
       RefusesRest remaining old start (λ l is. take_each (taken l) is) fault
   partly-fault mid ahead q q' vs fault w g h l form is r st hold =
       let n = w l form is r st hold in
       let e = g.0 l form n.rest r n.stands n.holds in
       let b = h (inside form l) e.0 (parts form e.1 r) e.3 in
-      subst (λ o. IsFaultOf (end_of r) fault (take_each (taken (inside form l)) o)) (sym (n.split ∙ ap (λ x. n.done ++ x) e.2)) (each-fault (end_of r) fault (taken (inside form l)) n.done e.0 e.1 vs n.read b)
+      subst (λ o. IsFaultOf (end_of r) fault (take_each (taken (inside form l)) o))
+      (sym (n.split ∙ ap (λ x. n.done ++ x) e.2)) (each-fault (end_of r) fault (taken (inside form l)) n.done e.0
+      e.1 vs n.read b)
 
   pub owes-none : OwesPartly remaining old start old start
   owes-none b u = (b, u, λ a owed. owed)
 
-  pub owes-more : (mid ahead new : ByteSource S) (q q' : ByteSeq) → OwesPartly remaining old start mid q → TakesTo (IsUnread remaining) mid ahead (OwesLess SeqOwes q q') → TakesItem (IsUnread remaining) ahead new → OwesPartly remaining old start new q'
+  pub owes-more : (mid ahead new : ByteSource S) (q q' : ByteSeq) → OwesPartly remaining old start mid q →
+      TakesTo (IsUnread remaining) mid ahead (OwesLess SeqOwes q q') → TakesItem (IsUnread remaining) ahead new →
+      OwesPartly remaining old start new q'
   owes-more mid ahead new q q' h g t b u =
       let (c, un, owes) = h b u in
       let (d, un', less) = g c un in
       let (z, un'', front) = t d un' in
       (z, un'', λ a owed. less sequence a z (owes a owed) front)
 
-  pub owes-end : (mid new : ByteSource S) (q : ByteSeq) → OwesPartly remaining old start mid q → TakesTo (IsUnread remaining) mid new (OwesNothing SeqOwes q) → TakesTo (IsUnread remaining) old new (λ c z. (b : List ℕ) → SeqOwes start sequence b c → HasItem b z)
+  pub owes-end : (mid new : ByteSource S) (q : ByteSeq) → OwesPartly remaining old start mid q →
+      TakesTo (IsUnread remaining) mid new (OwesNothing SeqOwes q) →
+      TakesTo (IsUnread remaining) old new (λ c z. (b : List ℕ) → SeqOwes start sequence b c → HasItem b z)
   owes-end mid new q h g b u =
       let (c, un, owes) = h b u in
       let (z, un', done) = g c un in
@@ -156,75 +212,111 @@ module _ {S A : Type 0} (remaining : S → Option (List ℕ)) (taken : Taken A) 
 
 -- a byte is what its number is
 module _ {S : Type 0} (remaining : S → Option (List ℕ)) (ahead : ByteSource S) where
-  pub byte-takes : (new : ByteSource S) (n : Bool × ℕ) (v : ℕ) → number_below 256 n ≡ gives v → TakesAhead (StandsBefore remaining) ahead new taken_integer n → TakesAhead (StandsBefore remaining) ahead new taken_byte v
+  pub byte-takes : (new : ByteSource S) (n : Bool × ℕ) (v : ℕ) → number_below 256 n ≡ gives v →
+      TakesAhead (StandsBefore remaining) ahead new taken_integer n →
+      TakesAhead (StandsBefore remaining) ahead new taken_byte v
   byte-takes new n v e t l i f st = let k = t l i f st in (byte-given l i n v k.0 e, k.1)
 
-  pub byte-refuses : (fault : Fault) → RefusesAhead (StandsBefore remaining) ahead taken_integer fault → RefusesAhead (StandsBefore remaining) ahead taken_byte fault
+  pub byte-refuses : (fault : Fault) → RefusesAhead (StandsBefore remaining) ahead taken_integer fault →
+      RefusesAhead (StandsBefore remaining) ahead taken_byte fault
   byte-refuses fault h l i f st = fault_then (end_of f) fault (taken_integer l i) (number_below 256) (h l i f st)
 
   -- a number that is no byte
-  pub range-refuses : (new : ByteSource S) (n : Bool × ℕ) (fault : Fault) → ((end : ℕ) → IsFaultOf end fault (number_below 256 n)) → TakesAhead (StandsBefore remaining) ahead new taken_integer n → RefusesAhead (StandsBefore remaining) ahead taken_byte fault
-  range-refuses new n fault b t l i f st = let k = t l i f st in subst (λ o. IsFaultOf (end_of f) fault (then_take o (number_below 256))) (sym k.0) (b (end_of f))
+  pub range-refuses : (new : ByteSource S) (n : Bool × ℕ) (fault : Fault) →
+      ((end : ℕ) → IsFaultOf end fault (number_below 256 n)) →
+      TakesAhead (StandsBefore remaining) ahead new taken_integer n →
+      RefusesAhead (StandsBefore remaining) ahead taken_byte fault
+  range-refuses new n fault b t l i f st = let k = t l i f st in
+      subst (λ o. IsFaultOf (end_of f) fault (then_take o (number_below 256))) (sym k.0) (b (end_of f))
 
 -- ---- the array
 
-pub bytes-given : (m : ℕ) → m ≢ 0 → (ts : List ℕ) (i : Item) (xs : List Item) → HasItems i xs → taken_bytes (Some m) (under ts i) ≡ take_each (taken_byte (deeper (Some m))) xs
-bytes-given m some ts i xs (o, js, is, all) = ap (bare_bytes (Some m)) (untagged-under ts i ∙ ap untagged is) ∙ within-is m _ some ∙ ap (take_each (taken_byte (deeper (Some m)))) all
+pub bytes-given : (m : ℕ) → m ≢ 0 → (ts : List ℕ) (i : Item) (xs : List Item) → HasItems i xs →
+    taken_bytes (Some m) (under ts i) ≡ take_each (taken_byte (deeper (Some m))) xs
+bytes-given m some ts i xs (o, js, is, all) = ap (bare_bytes (Some m)) (untagged-under ts i ∙ ap untagged is) ∙
+    within-is m _ some ∙ ap (take_each (taken_byte (deeper (Some m)))) all
 
-module _ {S : Type 0} (remaining : S → Option (List ℕ)) (old mid : ByteSource S) (q : ByteSeq) (name : IsKept remaining old mid) (levels : q.levels ≡ old.levels) (none : mid.pending ≡ None) (fewer : weight_left mid < weight_left old)
+module _ {S : Type 0} (remaining : S → Option (List ℕ)) (old mid : ByteSource S) (q : ByteSeq)
+    (name : IsKept remaining old mid) (levels : q.levels ≡ old.levels) (none : mid.pending ≡ None)
+    (fewer : weight_left mid < weight_left old)
     (opens : EntersItemsUnread remaining old mid taken_bytes (λ l is. take_each (taken_byte l) is) q) where
-  pub array-takes : (new : ByteSource S) (v : List ℕ) → ReadsRest remaining mid new q (λ l is. take_each (taken_byte l) is) v → TakesAhead (StandsBefore remaining) old new taken_bytes v
+  pub array-takes : (new : ByteSource S) (v : List ℕ) →
+      ReadsRest remaining mid new q (λ l is. take_each (taken_byte l) is) v →
+      TakesAhead (StandsBefore remaining) old new taken_bytes v
   array-takes new v reads l i f st =
-      let (form, is, give, stands, holds) = items-stand remaining old mid q name levels none fewer taken_bytes (λ k its. take_each (taken_byte k) its) opens l i f st in
+      let (form, is, give, stands, holds) = items-stand remaining old mid q name levels none fewer taken_bytes
+      (λ k its. take_each (taken_byte k) its) opens l i f st in
       let (e, past) = reads l form is f stands holds in
       (give ∙ e, past)
 
-  pub array-refuses : (fault : Fault) → RefusesRest remaining mid q (λ l is. take_each (taken_byte l) is) fault → RefusesAhead (StandsBefore remaining) old taken_bytes fault
+  pub array-refuses : (fault : Fault) → RefusesRest remaining mid q (λ l is. take_each (taken_byte l) is) fault →
+      RefusesAhead (StandsBefore remaining) old taken_bytes fault
   array-refuses fault denied l i f st =
-      let (form, is, give, stands, holds) = items-stand remaining old mid q name levels none fewer taken_bytes (λ k its. take_each (taken_byte k) its) opens l i f st in
+      let (form, is, give, stands, holds) = items-stand remaining old mid q name levels none fewer taken_bytes
+      (λ k its. take_each (taken_byte k) its) opens l i f st in
       subst (λ o. IsFaultOf (end_of f) fault o) (sym give) (denied l form is f stands holds)
 
-  pub array-took : (new : ByteSource S) → TakesTo (IsUnread remaining) mid new (λ c z. (b : List ℕ) → SeqOwes q sequence b c → HasItem b z) → TakesItem (IsUnread remaining) old new
+  pub array-took : (new : ByteSource S) → TakesTo (IsUnread remaining) mid new
+      (λ c z. (b : List ℕ) → SeqOwes q sequence b c → HasItem b z) → TakesItem (IsUnread remaining) old new
   array-took new took b u =
       let (w, un, owes, rest) = opens b u in
       let (z, un', done) = took w un in
       (z, un', done b owes)
 
-pub array-nests : (m : ℕ) (count : Option ℕ) → m ≡ 0 → (ts : List ℕ) (i : Item) → AreSkipped false ts → header_of i ≡ header.Array count → taken_bytes (Some m) (under ts i) ≡ nests
-array-nests m count z ts i all e = ap (λ n. taken_bytes (Some n) (under ts i)) z ∙ ap (bare_bytes (Some 0)) (untagged-under ts i) ∙
-    by-shape (λ j. bare_bytes (Some 0) (untagged j) ≡ nests) (header.Array count) (λ n k. cc) (λ n k. cc) (λ o b k. cc) (λ o b k. cc) (λ o is k. refl) (λ o ps k. cc) (λ n k. cc) (λ raw k. cc) (λ t j k. cc) i e
+pub array-nests : (m : ℕ) (count : Option ℕ) → m ≡ 0 → (ts : List ℕ) (i : Item) → AreSkipped false ts →
+    header_of i ≡ header.Array count → taken_bytes (Some m) (under ts i) ≡ nests
+array-nests m count z ts i all e = ap (λ n. taken_bytes (Some n) (under ts i)) z ∙
+    ap (bare_bytes (Some 0)) (untagged-under ts i) ∙
+    by-shape (λ j. bare_bytes (Some 0) (untagged j) ≡ nests) (header.Array count) (λ n k. cc) (λ n k. cc) (λ o b k. cc)
+    (λ o b k. cc) (λ o is k. refl) (λ o ps k. cc) (λ n k. cc) (λ raw k. cc) (λ t j k. cc) i e
 
-pub bytes-other : (l : Limit) (h : Header) → IsBare false h → ((n : Option ℕ) → h ≡ header.Array n → ⊥) → ((n : Option ℕ) → h ≡ header.Bytes n → ⊥) → (ts : List ℕ) (i : Item) → AreSkipped false ts → header_of i ≡ h →
+pub bytes-other : (l : Limit) (h : Header) → IsBare false h → ((n : Option ℕ) → h ≡ header.Array n → ⊥) →
+    ((n : Option ℕ) → h ≡ header.Bytes n → ⊥) → (ts : List ℕ) (i : Item) → AreSkipped false ts → header_of i ≡ h →
     taken_bytes l (under ts i) ≡ refuses kinds.Bytes
 bytes-other l h bare p q ts i all e = ap (bare_bytes l) (untagged-under ts i) ∙
-    by-shape (λ j. bare_bytes l (untagged j) ≡ refuses kinds.Bytes) h (λ n k. refl) (λ n k. refl) (λ o b k. absurd (q _ k)) (λ o b k. refl) (λ o is k. absurd (p _ k)) (λ o ps k. refl) (λ n k. refl) (λ raw k. refl) (λ t j k. no-bare-tag h t bare k) i e
+    by-shape (λ j. bare_bytes l (untagged j) ≡ refuses kinds.Bytes) h (λ n k. refl) (λ n k. refl)
+    (λ o b k. absurd (q _ k)) (λ o b k. refl) (λ o is k. absurd (p _ k)) (λ o ps k. refl) (λ n k. refl)
+    (λ raw k. refl) (λ t j k. no-bare-tag h t bare k) i e
 
 -- ---- the byte string
 
-pub bytes-read : {S : Type 0} (remaining : S → Option (List ℕ)) (old mid new : ByteSource S) (len : Option ℕ) (payload : List ℕ) → TakesBare (IsUnread remaining) old mid false (header.Bytes len) →
-    TakesContent (IsUnread remaining mid) (IsUnread remaining new) string_of_bytes len payload → Reads (IsUnread remaining) old new (Some old.levels) taken_bytes payload
+pub bytes-read : {S : Type 0} (remaining : S → Option (List ℕ)) (old mid new : ByteSource S) (len : Option ℕ)
+    (payload : List ℕ) → TakesBare (IsUnread remaining) old mid false (header.Bytes len) →
+    TakesContent (IsUnread remaining mid) (IsUnread remaining new) string_of_bytes len payload →
+    Reads (IsUnread remaining) old new (Some old.levels) taken_bytes payload
 bytes-read remaining old mid new len payload bare content =
     reads-bare (IsUnread remaining) false (header.Bytes len) (Some old.levels) taken_bytes old mid new payload bare
-    (string-behind (IsUnread remaining) mid new string_of_bytes len (Some old.levels) taken_bytes payload payload content (λ ts all. ap (bare_bytes (Some old.levels)) (untagged-under ts (string_item string_of_bytes len payload))))
+    (string-behind (IsUnread remaining) mid new string_of_bytes len (Some old.levels) taken_bytes payload payload
+    content (λ ts all. ap (bare_bytes (Some old.levels))
+    (untagged-under ts (string_item string_of_bytes len payload))))
 
 -- ---- what a call that is handed on answers
 
-pub ok-map : {T E : Type 0} {N : Type 0} {P Q : T → Type 0} (r : Result T E) → OnOk r N → IfOk r P → (N → (v : T) → P v → Q v) → IfOk r Q
+pub ok-map : {T E : Type 0} {N : Type 0} {P Q : T → Type 0} (r : Result T E) → OnOk r N → IfOk r P →
+    (N → (v : T) → P v → Q v) → IfOk r Q
 ok-map (Ok v) n p f = f n v p
 ok-map (Err e) n p f = tt
 
 -- ---- what is answered to a call for one item
 
-module _ {S T A : Type 0} (remaining : S → Option (List ℕ)) (old new : ByteSource S) (taken : Taken A) (content : T → A) where
-  pub answer-given : (r : Result T (Error (Unit {0}))) → AnswersItem remaining old new (Some old.levels) taken content r → IfOk r (λ v. Reads (IsUnread remaining) old new (Some old.levels) taken (content v))
-  answer-given (Ok v) h = h
-  answer-given (Err e) h = tt
+module _ {S T A : Type 0} (remaining : S → Option (List ℕ)) (old new : ByteSource S) (taken : Taken A) (content : T → A)
+  where
+    pub answer-given : (r : Result T (Error (Unit {0}))) →
+        AnswersItem remaining old new (Some old.levels) taken content r →
+        IfOk r (λ v. Reads (IsUnread remaining) old new (Some old.levels) taken (content v))
+    answer-given (Ok v) h = h
+    answer-given (Err e) h = tt
 
-  pub answers-ok : (r : Result T (Error (Unit {0}))) → KeepsSource remaining old new r → new.levels ≡ old.levels → OnOk r (weight_left new < weight_left old) → AnswersItem remaining old new (Some old.levels) taken content r →
-      IfOk r (λ v. TakesAhead (StandsBefore remaining) old new taken (content v))
-  answers-ok r keeps levels fewer h =
-      ok-map r (on-both _ _ r keeps.pending fewer) (answer-given r h) (λ none v k. takes-read remaining old new taken (content v) (keeps.same_reader, keeps.only) levels none.0 none.1 k)
+    pub answers-ok : (r : Result T (Error (Unit {0}))) → KeepsSource remaining old new r → new.levels ≡ old.levels →
+        OnOk r (weight_left new < weight_left old) → AnswersItem remaining old new (Some old.levels) taken content r →
+        IfOk r (λ v. TakesAhead (StandsBefore remaining) old new taken (content v))
+    answers-ok r keeps levels fewer h =
+        ok-map r (on-both _ _ r keeps.pending fewer) (answer-given r h)
+        (λ none v k. takes-read remaining old new taken (content v) (keeps.same_reader, keeps.only) levels none.0
+        none.1 k)
 
-  pub answers-refused : (r : Result T (Error (Unit {0}))) → AnswersItem remaining old new (Some old.levels) taken content r → IfErr r (λ e. RefusesAhead (StandsBefore remaining) old taken (fault_of e))
-  answers-refused (Ok v) h = tt
-  answers-refused (Err e) h = refuses-denied remaining old taken (fault_of e) h
+    pub answers-refused : (r : Result T (Error (Unit {0}))) →
+        AnswersItem remaining old new (Some old.levels) taken content r →
+        IfErr r (λ e. RefusesAhead (StandsBefore remaining) old taken (fault_of e))
+    answers-refused (Ok v) h = tt
+    answers-refused (Err e) h = refuses-denied remaining old taken (fault_of e) h

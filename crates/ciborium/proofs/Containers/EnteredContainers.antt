@@ -1,5 +1,7 @@
 -- Containers that are entered behind skipped tags.
-use Rattle.std.proofs.Common.{◌≡◌, OnOk, IfOk, Err, Ok, Result, ◌<◌, ◌+◌, ◌≢◌, ℕ, zero, suc, ◌-◌, Bool, true, false, List, [], ◌∷◌, ◌++◌, map, Option, Some, None, refl, sym, ap, ◌∙◌, subst, append_assoc, append-nil, arith}
+use Rattle.std.proofs.Common.{◌≡◌, OnOk, IfOk, Err, Ok, Result, ◌<◌, ◌+◌, ◌≢◌, ℕ, zero, suc, ◌-◌, Bool, true, false}
+use Rattle.std.proofs.Common.{List, [], ◌∷◌, ◌++◌, map, Option, Some, None, refl, sym, ap, ◌∙◌, subst, append_assoc}
+use Rattle.std.proofs.Common.{append-nil, arith}
 use Rattle.std.specs.Vec.Iter.{into_iter_items}
 use Rattle.ciborium_ll.specs.declared.header.Header.{Header}
 use Rattle.ciborium_ll.specs.declared.header.Header.TheVariants as header
@@ -15,17 +17,21 @@ use Rattle.ciborium.proofs.Items.Due.{held-past}
 use Rattle.ciborium_value.specs.Ahead.{Form, parts, after, item, inside, of_bytes, pairs}
 use Rattle.ciborium_value.specs.Nesting.{Limit}
 use Rattle.ciborium_value.specs.Places.{is_open, sequence, dictionary}
-use Rattle.ciborium_value.specs.Taken.{Outcome, Taken, gives, refuses, nests, untagged, deeper, within_level, unpack, unpack_pairs, bare_seq, bare_pairs, taken_seq, taken_pairs}
+use Rattle.ciborium_value.specs.Taken.{Outcome, Taken, gives, refuses, nests, untagged, deeper, within_level, unpack}
+use Rattle.ciborium_value.specs.Taken.{unpack_pairs, bare_seq, bare_pairs, taken_seq, taken_pairs}
 use Rattle.ciborium_value.specs.declared.kind.Kind.TheVariants as kinds
 use Rattle.ciborium.specs.declared.de.byte_source.ByteSource.{ByteSource}
 use Rattle.ciborium.specs.declared.de.byte_source.ByteSeq.{ByteSeq}
 use Rattle.ciborium.specs.declared.de.byte_source.Left.{Left}
 use Rattle.ciborium.specs.declared.de.byte_source.Left.TheVariants as left
-use Rattle.ciborium.specs.inner.ByteSources.{IsUnread, IsUnreadBy, StandsBefore, SeqStands, HoldsItems, HoldsPairs, SeqOwes, LeftOwes, OwesParts, EntersItemsUnread, EntersPairsUnread, HasBytes, parts_left, items_due_behind, weight_left, seq_left}
+use Rattle.ciborium.specs.inner.ByteSources.{IsUnread, IsUnreadBy, StandsBefore, SeqStands, HoldsItems, HoldsPairs}
+use Rattle.ciborium.specs.inner.ByteSources.{SeqOwes, LeftOwes, OwesParts, EntersItemsUnread, EntersPairsUnread}
+use Rattle.ciborium.specs.inner.ByteSources.{HasBytes, parts_left, items_due_behind, weight_left, seq_left}
 use Rattle.ciborium.specs.inner.Skips.{under, AreSkipped, IsBare, TakesBare, EntersUnread}
 use Rattle.ciborium.specs.inner.StringContents.{TakesContent}
 use Rattle.ciborium.specs.inner.Unread.{AreSpelled, AreLeft, SpellsPair, IsRest, ending, form_of, HasCount}
-use Rattle.ciborium.proofs.Items.ItemHeads.{header_of, packed, packed-pairs, counted-front, open-front, counted-pairs-front, open-pairs-front, by-shape, no-bare-tag}
+use Rattle.ciborium.proofs.Items.ItemHeads.{header_of, packed, packed-pairs, counted-front, open-front}
+use Rattle.ciborium.proofs.Items.ItemHeads.{counted-pairs-front, open-pairs-front, by-shape, no-bare-tag}
 use Rattle.ciborium.proofs.Items.SkippedTags.{untagged-under}
 use Rattle.ciborium.proofs.Items.TakenOnly.{IsKept, kept-reader}
 
@@ -45,11 +51,16 @@ inside-form None l = refl
 
 -- ---- a container by its head and its parts
 
--- behind any head with this count the parts make a container, and where such a head stands a container's parts stand behind it
-record IsContainer {X : Type 0} (SpellsPart : List ℕ → X → Type 0) (head_with : Option ℕ → Header) (HasParts : Item → List X → Type 0) : Type 0 where
-  make : (count : Option ℕ) (t : List ℕ) (xs : List X) → AreSpelled SpellsPart t xs → HasCount count xs → (x : List ℕ) → SpellsHeader x (head_with count) → (i : Item) × Spells (x ++ (t ++ ending (form_of count))) i
-  front : (count : Option ℕ) (s r x y : List ℕ) (i : Item) → Spells s i → SpellsHeader x (head_with count) → s ++ r ≡ x ++ y →
-      (xs : List X) × (c : List ℕ) × HasParts i xs × AreSpelled SpellsPart c xs × HasCount count xs × (y ≡ c ++ (ending (form_of count) ++ r))
+-- behind any head with this count the parts make a container, and where such a head stands a container's parts stand
+-- behind it
+record IsContainer {X : Type 0} (SpellsPart : List ℕ → X → Type 0) (head_with : Option ℕ → Header)
+    (HasParts : Item → List X → Type 0) : Type 0 where
+  make : (count : Option ℕ) (t : List ℕ) (xs : List X) → AreSpelled SpellsPart t xs → HasCount count xs → (x : List ℕ) →
+      SpellsHeader x (head_with count) → (i : Item) × Spells (x ++ (t ++ ending (form_of count))) i
+  front : (count : Option ℕ) (s r x y : List ℕ) (i : Item) → Spells s i → SpellsHeader x (head_with count) →
+      s ++ r ≡ x ++ y →
+      (xs : List X) × (c : List ℕ) × HasParts i xs × AreSpelled SpellsPart c xs × HasCount count xs ×
+      (y ≡ c ++ (ending (form_of count) ++ r))
 
 abbrev pub HasItems : Item → List Item → Type 0
 HasItems i is = (o : Bool) × (js : Items) × (i ≡ array o js) × (unpack js ≡ is)
@@ -60,43 +71,84 @@ HasPairs i ps = (o : Bool) × (qs : Pairs) × (i ≡ items.map o qs) × (unpack_
 array-container : IsContainer Spells header.Array HasItems
 array-container = record { make = build; front = behind }
   where
-    build : (count : Option ℕ) (t : List ℕ) (xs : List Item) → AreSpelled Spells t xs → HasCount count xs → (x : List ℕ) → SpellsHeader x (header.Array count) → (i : Item) × Spells (x ++ (t ++ ending (form_of count))) i
-    build (Some n) t xs sp len x hd = let p = packed t xs sp in (array false p.0, (t, p.1, (x, subst (IsHead x 4) (sym (p.3 ∙ len)) hd, ap (λ (z : List ℕ). x ++ z) (append-nil t))))
-    build None t xs sp len x hd = let p = packed t xs sp in (array true p.0, (t, p.1, ap (λ (z : List ℕ). z ++ (t ++ (break_byte ∷ []))) hd))
+    build : (count : Option ℕ) (t : List ℕ) (xs : List Item) → AreSpelled Spells t xs → HasCount count xs →
+        (x : List ℕ) → SpellsHeader x (header.Array count) → (i : Item) × Spells (x ++ (t ++ ending (form_of count))) i
+    build (Some n) t xs sp len x hd = let p = packed t xs sp in (
+      array false p.0,
+      (
+        t,
+        p.1,
+        (
+          x,
+          subst (IsHead x 4) (sym (p.3 ∙ len)) hd,
+          ap (λ (z : List ℕ). x ++ z) (append-nil t),
+        ),
+      ),
+    )
+    build None t xs sp len x hd = let p = packed t xs sp in
+        (array true p.0, (t, p.1, ap (λ (z : List ℕ). z ++ (t ++ (break_byte ∷ []))) hd))
 
-    behind : (count : Option ℕ) (s r x y : List ℕ) (i : Item) → Spells s i → SpellsHeader x (header.Array count) → s ++ r ≡ x ++ y →
-        (xs : List Item) × (c : List ℕ) × HasItems i xs × AreSpelled Spells c xs × HasCount count xs × (y ≡ c ++ (ending (form_of count) ++ r))
-    behind (Some n) s r x y i sp hd e = let (its, c, is, sps, len, h) = counted-front s r x y i n sp hd e in (unpack its, c, (false, its, is, refl), sps, len, h)
-    behind None s r x y i sp hd e = let (its, c, is, sps, h) = open-front s r x y i sp hd e in (unpack its, c, (true, its, is, refl), sps, tt, h)
+    behind : (count : Option ℕ) (s r x y : List ℕ) (i : Item) → Spells s i → SpellsHeader x (header.Array count) →
+        s ++ r ≡ x ++ y →
+        (xs : List Item) × (c : List ℕ) × HasItems i xs × AreSpelled Spells c xs × HasCount count xs ×
+        (y ≡ c ++ (ending (form_of count) ++ r))
+    behind (Some n) s r x y i sp hd e = let (its, c, is, sps, len, h) = counted-front s r x y i n sp hd e in
+        (unpack its, c, (false, its, is, refl), sps, len, h)
+    behind None s r x y i sp hd e = let (its, c, is, sps, h) = open-front s r x y i sp hd e in
+        (unpack its, c, (true, its, is, refl), sps, tt, h)
 
 map-container : IsContainer SpellsPair header.Map HasPairs
 map-container = record { make = build; front = behind }
   where
-    build : (count : Option ℕ) (t : List ℕ) (xs : List (Item × Item)) → AreSpelled SpellsPair t xs → HasCount count xs → (x : List ℕ) → SpellsHeader x (header.Map count) → (i : Item) × Spells (x ++ (t ++ ending (form_of count))) i
-    build (Some n) t xs sp len x hd = let p = packed-pairs t xs sp in (items.map false p.0, (t, p.1, (x, subst (IsHead x 5) (sym (p.3 ∙ len)) hd, ap (λ (z : List ℕ). x ++ z) (append-nil t))))
-    build None t xs sp len x hd = let p = packed-pairs t xs sp in (items.map true p.0, (t, p.1, ap (λ (z : List ℕ). z ++ (t ++ (break_byte ∷ []))) hd))
+    build : (count : Option ℕ) (t : List ℕ) (xs : List (Item × Item)) → AreSpelled SpellsPair t xs → HasCount count xs →
+        (x : List ℕ) → SpellsHeader x (header.Map count) → (i : Item) × Spells (x ++ (t ++ ending (form_of count))) i
+    build (Some n) t xs sp len x hd = let p = packed-pairs t xs sp in (
+      items.map false p.0,
+      (
+        t,
+        p.1,
+        (
+          x,
+          subst (IsHead x 5) (sym (p.3 ∙ len)) hd,
+          ap (λ (z : List ℕ). x ++ z) (append-nil t),
+        ),
+      ),
+    )
+    build None t xs sp len x hd = let p = packed-pairs t xs sp in
+        (items.map true p.0, (t, p.1, ap (λ (z : List ℕ). z ++ (t ++ (break_byte ∷ []))) hd))
 
-    behind : (count : Option ℕ) (s r x y : List ℕ) (i : Item) → Spells s i → SpellsHeader x (header.Map count) → s ++ r ≡ x ++ y →
-        (xs : List (Item × Item)) × (c : List ℕ) × HasPairs i xs × AreSpelled SpellsPair c xs × HasCount count xs × (y ≡ c ++ (ending (form_of count) ++ r))
-    behind (Some n) s r x y i sp hd e = let (ps, c, is, sps, len, h) = counted-pairs-front s r x y i n sp hd e in (unpack_pairs ps, c, (false, ps, is, refl), sps, len, h)
-    behind None s r x y i sp hd e = let (ps, c, is, sps, h) = open-pairs-front s r x y i sp hd e in (unpack_pairs ps, c, (true, ps, is, refl), sps, tt, h)
+    behind : (count : Option ℕ) (s r x y : List ℕ) (i : Item) → Spells s i → SpellsHeader x (header.Map count) →
+        s ++ r ≡ x ++ y →
+        (xs : List (Item × Item)) × (c : List ℕ) × HasPairs i xs × AreSpelled SpellsPair c xs × HasCount count xs ×
+        (y ≡ c ++ (ending (form_of count) ++ r))
+    behind (Some n) s r x y i sp hd e = let (ps, c, is, sps, len, h) = counted-pairs-front s r x y i n sp hd e in
+        (unpack_pairs ps, c, (false, ps, is, refl), sps, len, h)
+    behind None s r x y i sp hd e = let (ps, c, is, sps, h) = open-pairs-front s r x y i sp hd e in
+        (unpack_pairs ps, c, (true, ps, is, refl), sps, tt, h)
 
 -- all parts of a container of counted parts, or up to a break, are in the bytes
-left-spelled : {X : Type 0} (SpellsPart : List ℕ → X → Type 0) (count : Option ℕ) (c : List ℕ) (xs : List X) → AreSpelled SpellsPart c xs → AreLeft SpellsPart (form_of count) c xs
+left-spelled : {X : Type 0} (SpellsPart : List ℕ → X → Type 0) (count : Option ℕ) (c : List ℕ) (xs : List X) →
+    AreSpelled SpellsPart c xs → AreLeft SpellsPart (form_of count) c xs
 left-spelled SpellsPart (Some n) c xs sp = sp
 left-spelled SpellsPart None c xs sp = sp
 
-module _ {S X A : Type 0} (SpellsPart : List ℕ → X → Type 0) (head_with : Option ℕ → Header) (HasParts : Item → List X → Type 0) (is_container : IsContainer SpellsPart head_with HasParts)
+module _ {S X A : Type 0} (SpellsPart : List ℕ → X → Type 0) (head_with : Option ℕ → Header)
+    (HasParts : Item → List X → Type 0) (is_container : IsContainer SpellsPart head_with HasParts)
     (Owed : ByteSeq → List ℕ → List ℕ → Type 0) (Held : ByteSeq → Form → List X → Type 0)
     (IsUnread : S → List ℕ → Type 0) (taken : Taken A) (f : Limit → List X → Outcome A) where
-  entered : (old mid new : S) (m : ℕ) (count : Option ℕ) (q : ByteSeq) → m ≢ 0 → TakesBare IsUnread old mid false (head_with count) → ((y : List ℕ) → IsUnread mid y → IsUnread new y) →
-      ((b u : List ℕ) → OwesParts SpellsPart count b u → Owed q b u) → ((xs : List X) → HasCount count xs → Held q (form_of count) xs) →
-      ((ts : List ℕ) (i : Item) (xs : List X) → HasParts i xs → taken (Some m) (under ts i) ≡ f (deeper (Some m)) xs) → EntersUnread IsUnread Owed SpellsPart Held old new (Some m) (Some (m - 1)) taken f q
+  entered : (old mid new : S) (m : ℕ) (count : Option ℕ) (q : ByteSeq) → m ≢ 0 →
+      TakesBare IsUnread old mid false (head_with count) → ((y : List ℕ) → IsUnread mid y → IsUnread new y) →
+      ((b u : List ℕ) → OwesParts SpellsPart count b u → Owed q b u) →
+      ((xs : List X) → HasCount count xs → Held q (form_of count) xs) →
+      ((ts : List ℕ) (i : Item) (xs : List X) → HasParts i xs → taken (Some m) (under ts i) ≡ f (deeper (Some m)) xs) →
+      EntersUnread IsUnread Owed SpellsPart Held old new (Some m) (Some (m - 1)) taken f q
   entered old mid new m count q some bare into owes holds give b u =
       let (ts, w, x, y, tagged, all, hd, e, un) = bare b u in
       let owed : OwesParts SpellsPart count b y = λ t z xs sp len g.
       let (i, made) = is_container.make count t xs sp len x hd in
-      let split : w ≡ (x ++ (t ++ ending (form_of count))) ++ z = e ∙ ap (λ (r : List ℕ). x ++ r) (g ∙ sym (append_assoc t (ending (form_of count)) z)) ∙ sym (append_assoc x (t ++ ending (form_of count)) z) in
+      let split : w ≡ (x ++ (t ++ ending (form_of count))) ++ z = e ∙
+      ap (λ (r : List ℕ). x ++ r) (g ∙ sym (append_assoc t (ending (form_of count)) z)) ∙
+      sym (append_assoc x (t ++ ending (form_of count)) z) in
       let (s, sq, k) = tagged.outward i (x ++ (t ++ ending (form_of count))) z made split in
       (under ts i, s, sq, k) in (
         y,
@@ -116,19 +168,23 @@ module _ {S X A : Type 0} (SpellsPart : List ℕ → X → Type 0) (head_with : 
             ),
       )
 
-items-owed : (q : ByteSeq) (count : Option ℕ) → q.left ≡ parts_left count → (b u : List ℕ) → OwesParts Spells count b u → SeqOwes q sequence b u
+items-owed : (q : ByteSeq) (count : Option ℕ) → q.left ≡ parts_left count → (b u : List ℕ) →
+    OwesParts Spells count b u → SeqOwes q sequence b u
 items-owed q (Some n) e b u h = subst (λ k. LeftOwes k sequence b u) (sym e) h
 items-owed q None e b u h = subst (λ k. LeftOwes k sequence b u) (sym e) h
 
-pairs-owed : (q : ByteSeq) (count : Option ℕ) → q.left ≡ parts_left count → (b u : List ℕ) → OwesParts SpellsPair count b u → SeqOwes q dictionary b u
+pairs-owed : (q : ByteSeq) (count : Option ℕ) → q.left ≡ parts_left count → (b u : List ℕ) →
+    OwesParts SpellsPair count b u → SeqOwes q dictionary b u
 pairs-owed q (Some n) e b u h = subst (λ k. LeftOwes k dictionary b u) (sym e) h
 pairs-owed q None e b u h = subst (λ k. LeftOwes k dictionary b u) (sym e) h
 
-items-held : (q : ByteSeq) (count : Option ℕ) → q.left ≡ parts_left count → (xs : List Item) → HasCount count xs → HoldsItems q.left (form_of count) xs
+items-held : (q : ByteSeq) (count : Option ℕ) → q.left ≡ parts_left count → (xs : List Item) → HasCount count xs →
+    HoldsItems q.left (form_of count) xs
 items-held q (Some n) e xs h = subst (λ k. HoldsItems k (form_of (Some n)) xs) (sym e) (refl, h)
 items-held q None e xs h = subst (λ k. HoldsItems k (form_of None) xs) (sym e) (refl, h)
 
-pairs-held : (q : ByteSeq) (count : Option ℕ) → q.left ≡ parts_left count → (xs : List (Item × Item)) → HasCount count xs → HoldsPairs q.left (form_of count) xs
+pairs-held : (q : ByteSeq) (count : Option ℕ) → q.left ≡ parts_left count → (xs : List (Item × Item)) →
+    HasCount count xs → HoldsPairs q.left (form_of count) xs
 pairs-held q (Some n) e xs h = subst (λ k. HoldsPairs k (form_of (Some n)) xs) (sym e) (refl, h)
 pairs-held q None e xs h = subst (λ k. HoldsPairs k (form_of None) xs) (sym e) (refl, h)
 
@@ -136,33 +192,51 @@ pairs-held q None e xs h = subst (λ k. HoldsPairs k (form_of None) xs) (sym e) 
 
 -- a container was entered, and its level was taken
 abbrev pub IsEntered : {S : Type 0} → ByteSource S → ByteSource S → Option ℕ → ByteSeq → Type 0
-IsEntered mid new count q = (new.decoder ≡ mid.decoder) × (new.pending ≡ mid.pending) × (mid.levels ≢ 0) × (new.levels ≡ mid.levels - 1) × (q.left ≡ parts_left count)
+IsEntered mid new count q = (new.decoder ≡ mid.decoder) × (new.pending ≡ mid.pending) × (mid.levels ≢ 0) ×
+    (new.levels ≡ mid.levels - 1) × (q.left ≡ parts_left count)
 
-pub same-unread : {S : Type 0} (remaining : S → Option (List ℕ)) (mid new : ByteSource S) → new.decoder ≡ mid.decoder → new.pending ≡ mid.pending → (y : List ℕ) → IsUnread remaining mid y → IsUnread remaining new y
-same-unread remaining mid new e f y u = subst (λ d. IsUnreadBy remaining d new.pending y) (sym e) (subst (λ o. IsUnreadBy remaining mid.decoder o y) (sym f) u)
+pub same-unread : {S : Type 0} (remaining : S → Option (List ℕ)) (mid new : ByteSource S) → new.decoder ≡ mid.decoder →
+    new.pending ≡ mid.pending → (y : List ℕ) → IsUnread remaining mid y → IsUnread remaining new y
+same-unread remaining mid new e f y u = subst (λ d. IsUnreadBy remaining d new.pending y) (sym e)
+    (subst (λ o. IsUnreadBy remaining mid.decoder o y) (sym f) u)
 
-module _ {S : Type 0} (remaining : S → Option (List ℕ)) (old mid new : ByteSource S) (count : Option ℕ) (q : ByteSeq) (same : mid.levels ≡ old.levels) (is : IsEntered mid new count q) where
-  pub array-entered : {A : Type 0} (taken : Taken A) (f : Limit → List Item → Outcome A) → TakesBare (IsUnread remaining) old mid false (header.Array count) →
-      ((ts : List ℕ) (i : Item) (xs : List Item) → HasItems i xs → taken (Some old.levels) (under ts i) ≡ f (deeper (Some old.levels)) xs) → EntersItemsUnread remaining old new taken f q
+module _ {S : Type 0} (remaining : S → Option (List ℕ)) (old mid new : ByteSource S) (count : Option ℕ) (q : ByteSeq)
+    (same : mid.levels ≡ old.levels) (is : IsEntered mid new count q) where
+  pub array-entered : {A : Type 0} (taken : Taken A) (f : Limit → List Item → Outcome A) →
+      TakesBare (IsUnread remaining) old mid false (header.Array count) →
+      ((ts : List ℕ) (i : Item) (xs : List Item) → HasItems i xs →
+      taken (Some old.levels) (under ts i) ≡ f (deeper (Some old.levels)) xs) →
+      EntersItemsUnread remaining old new taken f q
   array-entered taken f bare give =
       let some : old.levels ≢ 0 = λ z. is.2 (same ∙ z) in
-      subst (λ n. EntersUnread (IsUnread remaining) (λ p. SeqOwes p sequence) Spells (λ p. HoldsItems p.left) old new (Some old.levels) (Some n) taken f q) (sym (is.3 ∙ ap (λ n. n - 1) same))
-      (entered Spells header.Array HasItems array-container (λ p. SeqOwes p sequence) (λ p. HoldsItems p.left) (IsUnread remaining) taken f old mid new old.levels count q some bare
+      subst (λ n. EntersUnread (IsUnread remaining) (λ p. SeqOwes p sequence) Spells (λ p. HoldsItems p.left) old new
+      (Some old.levels) (Some n) taken f q) (sym (is.3 ∙ ap (λ n. n - 1) same))
+      (entered Spells header.Array HasItems array-container (λ p. SeqOwes p sequence) (λ p. HoldsItems p.left)
+      (IsUnread remaining) taken f old mid new old.levels count q some bare
       (same-unread remaining mid new is.0 is.1) (items-owed q count is.4) (items-held q count is.4) give)
 
-  pub map-entered : {A : Type 0} (taken : Taken A) (f : Limit → List (Item × Item) → Outcome A) → TakesBare (IsUnread remaining) old mid false (header.Map count) →
-      ((ts : List ℕ) (i : Item) (xs : List (Item × Item)) → HasPairs i xs → taken (Some old.levels) (under ts i) ≡ f (deeper (Some old.levels)) xs) → EntersPairsUnread remaining old new taken f q
+  pub map-entered : {A : Type 0} (taken : Taken A) (f : Limit → List (Item × Item) → Outcome A) →
+      TakesBare (IsUnread remaining) old mid false (header.Map count) →
+      ((ts : List ℕ) (i : Item) (xs : List (Item × Item)) → HasPairs i xs →
+      taken (Some old.levels) (under ts i) ≡ f (deeper (Some old.levels)) xs) →
+      EntersPairsUnread remaining old new taken f q
   map-entered taken f bare give =
       let some : old.levels ≢ 0 = λ z. is.2 (same ∙ z) in
-      subst (λ n. EntersUnread (IsUnread remaining) (λ p. SeqOwes p dictionary) SpellsPair (λ p. HoldsPairs p.left) old new (Some old.levels) (Some n) taken f q) (sym (is.3 ∙ ap (λ n. n - 1) same))
-      (entered SpellsPair header.Map HasPairs map-container (λ p. SeqOwes p dictionary) (λ p. HoldsPairs p.left) (IsUnread remaining) taken f old mid new old.levels count q some bare
+      subst (λ n. EntersUnread (IsUnread remaining) (λ p. SeqOwes p dictionary) SpellsPair (λ p. HoldsPairs p.left) old
+      new (Some old.levels) (Some n) taken f q) (sym (is.3 ∙ ap (λ n. n - 1) same))
+      (entered SpellsPair header.Map HasPairs map-container (λ p. SeqOwes p dictionary) (λ p. HoldsPairs p.left)
+      (IsUnread remaining) taken f old mid new old.levels count q some bare
       (same-unread remaining mid new is.0 is.1) (pairs-owed q count is.4) (pairs-held q count is.4) give)
 
-pub seq-given : (m : ℕ) → m ≢ 0 → (ts : List ℕ) (i : Item) (xs : List Item) → HasItems i xs → taken_seq (Some m) (under ts i) ≡ gives (deeper (Some m), xs)
-seq-given m some ts i xs (o, js, is, all) = ap (bare_seq (Some m)) (untagged-under ts i ∙ ap untagged is) ∙ within-is m _ some ∙ ap (λ z. gives (deeper (Some m), z)) all
+pub seq-given : (m : ℕ) → m ≢ 0 → (ts : List ℕ) (i : Item) (xs : List Item) → HasItems i xs →
+    taken_seq (Some m) (under ts i) ≡ gives (deeper (Some m), xs)
+seq-given m some ts i xs (o, js, is, all) = ap (bare_seq (Some m)) (untagged-under ts i ∙ ap untagged is) ∙
+    within-is m _ some ∙ ap (λ z. gives (deeper (Some m), z)) all
 
-pub pairs-given : (m : ℕ) → m ≢ 0 → (ts : List ℕ) (i : Item) (xs : List (Item × Item)) → HasPairs i xs → taken_pairs (Some m) (under ts i) ≡ gives (deeper (Some m), xs)
-pairs-given m some ts i xs (o, js, is, all) = ap (bare_pairs (Some m)) (untagged-under ts i ∙ ap untagged is) ∙ within-is m _ some ∙ ap (λ z. gives (deeper (Some m), z)) all
+pub pairs-given : (m : ℕ) → m ≢ 0 → (ts : List ℕ) (i : Item) (xs : List (Item × Item)) → HasPairs i xs →
+    taken_pairs (Some m) (under ts i) ≡ gives (deeper (Some m), xs)
+pairs-given m some ts i xs (o, js, is, all) = ap (bare_pairs (Some m)) (untagged-under ts i ∙ ap untagged is) ∙
+    within-is m _ some ∙ ap (λ z. gives (deeper (Some m), z)) all
 
 pub bytes-had : (k : Left) (P : List ℕ → Type 0) → HasBytes k P → (v : _) × (k ≡ left.Bytes v) × P (into_iter_items v)
 bytes-had (left.Counted n) P h = absurd h
@@ -170,8 +244,12 @@ bytes-had left.Open P h = absurd h
 bytes-had (left.Bytes v) P h = (v, refl, h)
 
 -- the bytes of a byte string that was read whole
-pub bytes-entered : {S : Type 0} (remaining : S → Option (List ℕ)) (old mid new : ByteSource S) (q : ByteSeq) (v : _) (len : Option ℕ) (payload : List ℕ) → q.left ≡ left.Bytes v → into_iter_items v ≡ payload → new.levels ≡ old.levels →
-    TakesBare (IsUnread remaining) old mid false (header.Bytes len) → TakesContent (IsUnread remaining mid) (IsUnread remaining new) bytes_kind len payload → EntersItemsUnread remaining old new taken_seq (λ l is. gives (l, is)) q
+pub bytes-entered : {S : Type 0} (remaining : S → Option (List ℕ)) (old mid new : ByteSource S) (q : ByteSeq) (v : _)
+    (len : Option ℕ) (payload : List ℕ) → q.left ≡ left.Bytes v → into_iter_items v ≡ payload →
+    new.levels ≡ old.levels →
+    TakesBare (IsUnread remaining) old mid false (header.Bytes len) →
+    TakesContent (IsUnread remaining mid) (IsUnread remaining new) bytes_kind len payload →
+    EntersItemsUnread remaining old new taken_seq (λ l is. gives (l, is)) q
 bytes-entered remaining old mid new q v len payload is same levels bare content b u =
     let (ts, w, x, y, tagged, all, hd, e, un) = bare b u in
     let (c, z, make, f, un') = content y un in
@@ -198,60 +276,102 @@ bytes-entered remaining old mid new q v len payload is same levels bare content 
 
 -- ---- what is refused
 
-pub array-nests : (m : ℕ) (count : Option ℕ) → m ≡ 0 → (ts : List ℕ) (i : Item) → AreSkipped false ts → header_of i ≡ header.Array count → taken_seq (Some m) (under ts i) ≡ nests
-array-nests m count z ts i all e = ap (λ n. taken_seq (Some n) (under ts i)) z ∙ ap (bare_seq (Some 0)) (untagged-under ts i) ∙
-    by-shape (λ j. bare_seq (Some 0) (untagged j) ≡ nests) (header.Array count) (λ n k. cc) (λ n k. cc) (λ o b k. cc) (λ o b k. cc) (λ o is k. refl) (λ o ps k. cc) (λ n k. cc) (λ raw k. cc) (λ t j k. cc) i e
+pub array-nests : (m : ℕ) (count : Option ℕ) → m ≡ 0 → (ts : List ℕ) (i : Item) → AreSkipped false ts →
+    header_of i ≡ header.Array count → taken_seq (Some m) (under ts i) ≡ nests
+array-nests m count z ts i all e = ap (λ n. taken_seq (Some n) (under ts i)) z ∙
+    ap (bare_seq (Some 0)) (untagged-under ts i) ∙
+    by-shape (λ j. bare_seq (Some 0) (untagged j) ≡ nests) (header.Array count) (λ n k. cc) (λ n k. cc) (λ o b k. cc)
+    (λ o b k. cc) (λ o is k. refl) (λ o ps k. cc) (λ n k. cc) (λ raw k. cc) (λ t j k. cc) i e
 
-pub map-nests : (m : ℕ) (count : Option ℕ) → m ≡ 0 → (ts : List ℕ) (i : Item) → AreSkipped false ts → header_of i ≡ header.Map count → taken_pairs (Some m) (under ts i) ≡ nests
-map-nests m count z ts i all e = ap (λ n. taken_pairs (Some n) (under ts i)) z ∙ ap (bare_pairs (Some 0)) (untagged-under ts i) ∙
-    by-shape (λ j. bare_pairs (Some 0) (untagged j) ≡ nests) (header.Map count) (λ n k. cc) (λ n k. cc) (λ o b k. cc) (λ o b k. cc) (λ o is k. cc) (λ o ps k. refl) (λ n k. cc) (λ raw k. cc) (λ t j k. cc) i e
+pub map-nests : (m : ℕ) (count : Option ℕ) → m ≡ 0 → (ts : List ℕ) (i : Item) → AreSkipped false ts →
+    header_of i ≡ header.Map count → taken_pairs (Some m) (under ts i) ≡ nests
+map-nests m count z ts i all e = ap (λ n. taken_pairs (Some n) (under ts i)) z ∙
+    ap (bare_pairs (Some 0)) (untagged-under ts i) ∙
+    by-shape (λ j. bare_pairs (Some 0) (untagged j) ≡ nests) (header.Map count) (λ n k. cc) (λ n k. cc) (λ o b k. cc)
+    (λ o b k. cc) (λ o is k. cc) (λ o ps k. refl) (λ n k. cc) (λ raw k. cc) (λ t j k. cc) i e
 
-pub seq-other : (l : Limit) (h : Header) → IsBare false h → ((n : Option ℕ) → h ≡ header.Array n → ⊥) → ((n : Option ℕ) → h ≡ header.Bytes n → ⊥) → (ts : List ℕ) (i : Item) → AreSkipped false ts → header_of i ≡ h →
+pub seq-other : (l : Limit) (h : Header) → IsBare false h → ((n : Option ℕ) → h ≡ header.Array n → ⊥) →
+    ((n : Option ℕ) → h ≡ header.Bytes n → ⊥) → (ts : List ℕ) (i : Item) → AreSkipped false ts → header_of i ≡ h →
     taken_seq l (under ts i) ≡ refuses kinds.Array
 seq-other l h bare p q ts i all e = ap (bare_seq l) (untagged-under ts i) ∙
-    by-shape (λ j. bare_seq l (untagged j) ≡ refuses kinds.Array) h (λ n k. refl) (λ n k. refl) (λ o b k. absurd (q _ k)) (λ o b k. refl) (λ o is k. absurd (p _ k)) (λ o ps k. refl) (λ n k. refl) (λ raw k. refl) (λ t j k. no-bare-tag h t bare k) i e
+    by-shape (λ j. bare_seq l (untagged j) ≡ refuses kinds.Array) h (λ n k. refl) (λ n k. refl)
+    (λ o b k. absurd (q _ k)) (λ o b k. refl) (λ o is k. absurd (p _ k)) (λ o ps k. refl) (λ n k. refl)
+    (λ raw k. refl) (λ t j k. no-bare-tag h t bare k) i e
 
-pub map-other : (l : Limit) (h : Header) → IsBare false h → ((n : Option ℕ) → h ≡ header.Map n → ⊥) → (ts : List ℕ) (i : Item) → AreSkipped false ts → header_of i ≡ h → taken_pairs l (under ts i) ≡ refuses kinds.Map
+pub map-other : (l : Limit) (h : Header) → IsBare false h → ((n : Option ℕ) → h ≡ header.Map n → ⊥) →
+    (ts : List ℕ) (i : Item) → AreSkipped false ts → header_of i ≡ h → taken_pairs l (under ts i) ≡ refuses kinds.Map
 map-other l h bare p ts i all e = ap (bare_pairs l) (untagged-under ts i) ∙
-    by-shape (λ j. bare_pairs l (untagged j) ≡ refuses kinds.Map) h (λ n k. refl) (λ n k. refl) (λ o b k. refl) (λ o b k. refl) (λ o is k. refl) (λ o ps k. absurd (p _ k)) (λ n k. refl) (λ raw k. refl) (λ t j k. no-bare-tag h t bare k) i e
+    by-shape (λ j. bare_pairs l (untagged j) ≡ refuses kinds.Map) h (λ n k. refl) (λ n k. refl) (λ o b k. refl)
+    (λ o b k. refl) (λ o is k. refl) (λ o ps k. absurd (p _ k)) (λ n k. refl) (λ raw k. refl)
+    (λ t j k. no-bare-tag h t bare k) i e
 
 -- ---- where the source then stands
 
-module _ {S : Type 0} (remaining : S → Option (List ℕ)) (old new : ByteSource S) (q : ByteSeq) (kept : IsKept remaining old new) (levels : q.levels ≡ old.levels) (none : new.pending ≡ None) (fewer : weight_left new < weight_left old) where
+module _ {S : Type 0} (remaining : S → Option (List ℕ)) (old new : ByteSource S) (q : ByteSeq)
+    (kept : IsKept remaining old new) (levels : q.levels ≡ old.levels) (none : new.pending ≡ None)
+    (fewer : weight_left new < weight_left old) where
   -- the items of what was entered, which f takes, and where the source stands
-  pub items-stand : {A : Type 0} (taken : Taken A) (f : Limit → List Item → Outcome A) → EntersItemsUnread remaining old new taken f q → (l : Limit) (i : Item) (r : _) → StandsBefore remaining old l (item i r) →
-      (form : Form) × (is : List Item) × (taken l i ≡ f (inside form l) is) × StandsBefore remaining new (inside form l) (after (parts form is r)) × SeqStands q l (parts form is r)
+  pub items-stand : {A : Type 0} (taken : Taken A) (f : Limit → List Item → Outcome A) →
+      EntersItemsUnread remaining old new taken f q → (l : Limit) (i : Item) (r : _) →
+      StandsBefore remaining old l (item i r) →
+      (form : Form) × (is : List Item) × (taken l i ≡ f (inside form l) is) ×
+      StandsBefore remaining new (inside form l) (after (parts form is r)) × SeqStands q l (parts form is r)
   items-stand taken f h l i r (b, u, (s, t, sp, rest, e), is, ahead, few) =
       let (w, un, owes, opens) = h b u in
       let (form, its, c, give, lv, stand, split, hold) = opens i s t sp e in (
         form,
         its,
         ap (λ k. taken k i) is ∙ give ∙ ap (λ k. f (inside form k) its) (sym is),
-        (w, un, (c, t, stand, subst (λ n. IsRest n t r) (sym (kept-reader remaining old new kept b u)) rest, split), ap (inside form) is ∙ lv, none, (let less = held-past old new kept.0 (items_due_behind r) none fewer few in omega (arith, less))),
+        (
+          w,
+          un,
+          (c, t, stand, subst (λ n. IsRest n t r) (sym (kept-reader remaining old new kept b u)) rest, split),
+          ap (inside form) is ∙ lv,
+          none,
+          (let less = held-past old new kept.0 (items_due_behind r) none fewer few in
+              omega (arith, less)),
+        ),
         (is ∙ ap Some (sym levels), hold),
       )
 
   -- the pairs, in the same way
-  pub pairs-stand : {A : Type 0} (taken : Taken A) (f : Limit → List (Item × Item) → Outcome A) → EntersPairsUnread remaining old new taken f q → (l : Limit) (i : Item) (r : _) → StandsBefore remaining old l (item i r) →
-      (form : Form) × (is : List (Item × Item)) × (taken l i ≡ f (inside form l) is) × StandsBefore remaining new (inside form l) (after (pairs form is r)) × SeqStands q l (pairs form is r)
+  pub pairs-stand : {A : Type 0} (taken : Taken A) (f : Limit → List (Item × Item) → Outcome A) →
+      EntersPairsUnread remaining old new taken f q → (l : Limit) (i : Item) (r : _) →
+      StandsBefore remaining old l (item i r) →
+      (form : Form) × (is : List (Item × Item)) × (taken l i ≡ f (inside form l) is) ×
+      StandsBefore remaining new (inside form l) (after (pairs form is r)) × SeqStands q l (pairs form is r)
   pairs-stand taken f h l i r (b, u, (s, t, sp, rest, e), is, ahead, few) =
       let (w, un, owes, opens) = h b u in
       let (form, its, c, give, lv, stand, split, hold) = opens i s t sp e in (
         form,
         its,
         ap (λ k. taken k i) is ∙ give ∙ ap (λ k. f (inside form k) its) (sym is),
-        (w, un, (c, t, stand, subst (λ n. IsRest n t r) (sym (kept-reader remaining old new kept b u)) rest, split), ap (inside form) is ∙ lv, none, (let less = held-past old new kept.0 (items_due_behind r) none fewer few in omega (arith, less))),
+        (
+          w,
+          un,
+          (c, t, stand, subst (λ n. IsRest n t r) (sym (kept-reader remaining old new kept b u)) rest, split),
+          ap (inside form) is ∙ lv,
+          none,
+          (let less = held-past old new kept.0 (items_due_behind r) none fewer few in
+              omega (arith, less)),
+        ),
         (is ∙ ap Some (sym levels), hold),
       )
 
 -- what is answered where a sequence was entered, and where a map was
 module _ {S : Type 0} (remaining : S → Option (List ℕ)) (old new : ByteSource S) (kept : IsKept remaining old new) where
-  pub enters : (E : Type 0) (r : Result ByteSeq E) → IfOk r (λ q. q.levels ≡ old.levels) → OnOk r (new.pending ≡ None) → IfOk r (λ q. weight_left new + seq_left q < weight_left old) →
-      IfOk r (EntersItemsUnread remaining old new taken_seq (λ l is. gives (l, is))) → IfOk r (λ q. Enters (StandsBefore remaining) SeqStands old new q)
-  enters E (Ok q) levels none fewer opens = items-stand remaining old new q kept levels none (omega (arith, fewer)) taken_seq (λ l is. gives (l, is)) opens
+  pub enters : (E : Type 0) (r : Result ByteSeq E) → IfOk r (λ q. q.levels ≡ old.levels) → OnOk r (new.pending ≡ None) →
+      IfOk r (λ q. weight_left new + seq_left q < weight_left old) →
+      IfOk r (EntersItemsUnread remaining old new taken_seq (λ l is. gives (l, is))) →
+      IfOk r (λ q. Enters (StandsBefore remaining) SeqStands old new q)
+  enters E (Ok q) levels none fewer opens = items-stand remaining old new q kept levels none (omega (arith, fewer))
+      taken_seq (λ l is. gives (l, is)) opens
   enters E (Err e) levels none fewer opens = tt
 
-  pub enters-map : (E : Type 0) (r : Result ByteSeq E) → IfOk r (λ q. q.levels ≡ old.levels) → OnOk r (new.pending ≡ None) → IfOk r (λ q. weight_left new + seq_left q < weight_left old) →
-      IfOk r (EntersPairsUnread remaining old new taken_pairs (λ l ps. gives (l, ps))) → IfOk r (λ q. EntersMap (StandsBefore remaining) SeqStands old new q)
-  enters-map E (Ok q) levels none fewer opens = pairs-stand remaining old new q kept levels none (omega (arith, fewer)) taken_pairs (λ l ps. gives (l, ps)) opens
+  pub enters-map : (E : Type 0) (r : Result ByteSeq E) → IfOk r (λ q. q.levels ≡ old.levels) →
+      OnOk r (new.pending ≡ None) → IfOk r (λ q. weight_left new + seq_left q < weight_left old) →
+      IfOk r (EntersPairsUnread remaining old new taken_pairs (λ l ps. gives (l, ps))) →
+      IfOk r (λ q. EntersMap (StandsBefore remaining) SeqStands old new q)
+  enters-map E (Ok q) levels none fewer opens = pairs-stand remaining old new q kept levels none (omega (arith, fewer))
+      taken_pairs (λ l ps. gives (l, ps)) opens
   enters-map E (Err e) levels none fewer opens = tt

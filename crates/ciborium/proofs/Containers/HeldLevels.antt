@@ -1,5 +1,6 @@
 -- Tags that are entered, and the levels of tags and variants.
-use Rattle.std.proofs.Common.{◌≡◌, ◌≤◌, ◌≢◌, ℕ, List, ◌++◌, Option, Some, None, Result, Ok, Err, IfOk, OnOk, refl, sym, ap, ◌∙◌, subst, append_assoc, arith}
+use Rattle.std.proofs.Common.{◌≡◌, ◌≤◌, ◌≢◌, ℕ, List, ◌++◌, Option, Some, None, Result, Ok, Err, IfOk, OnOk, refl, sym}
+use Rattle.std.proofs.Common.{ap, ◌∙◌, subst, append_assoc, arith}
 use Rattle.ciborium_ll.specs.declared.header.Header.{Header}
 use Rattle.ciborium_ll.specs.declared.header.Header.TheVariants as header
 use Rattle.ciborium_ll.specs.Header.{SpellsHeader}
@@ -9,7 +10,8 @@ use Rattle.ciborium_value.specs.Sources.{Completes, Holds, GivesBack, TakesTo}
 use Rattle.ciborium_value.specs.Taken.{Taken, gives, deeper, within_level, outer_tag, taken_outer_tag}
 use Rattle.ciborium.specs.declared.de.byte_source.ByteSource.{ByteSource}
 use Rattle.ciborium.specs.declared.de.byte_source.ByteLevel.{ByteLevel}
-use Rattle.ciborium.specs.inner.ByteSources.{IsUnread, StandsBefore, LevelStands, TakesLevel, items_due_behind, weight_left}
+use Rattle.ciborium.specs.inner.ByteSources.{IsUnread, StandsBefore, LevelStands, TakesLevel, items_due_behind}
+use Rattle.ciborium.specs.inner.ByteSources.{weight_left}
 use Rattle.ciborium.specs.inner.FrontItems.{TakesHead, Denies}
 use Rattle.ciborium.specs.inner.Skips.{EntersLevelUnread}
 use Rattle.ciborium.specs.inner.Unread.{IsRest}
@@ -20,19 +22,29 @@ use Rattle.ciborium.proofs.Items.TakenOnly.{IsKept, kept-reader}
 -- ---- where the source then stands
 
 module _ {S : Type 0} (remaining : S → Option (List ℕ)) (old new : ByteSource S) where
-  pub completes-opened : {A : Type 0} (l : _) (taken : Taken (A × Item)) (v : A) → EntersLevelUnread (IsUnread remaining) old new l taken v → TakesTo (IsUnread remaining) old new Completes
+  pub completes-opened : {A : Type 0} (l : _) (taken : Taken (A × Item)) (v : A) →
+      EntersLevelUnread (IsUnread remaining) old new l taken v → TakesTo (IsUnread remaining) old new Completes
   completes-opened l taken v h b u =
       let (w, un, leads) = h b u in
       (w, un, λ z (i, s, sp, e). let (j, t, sq, f) = leads.outward i s z sp e in (j, t, sq, f))
 
-  pub holds-opened : {A : Type 0} (taken : Taken (A × Item)) (v : A) (level : ByteLevel) → IsKept remaining old new → weight_left new ≤ weight_left old → TakesLevel old new level → EntersLevelUnread (IsUnread remaining) old new (Some old.levels) taken v →
+  pub holds-opened : {A : Type 0} (taken : Taken (A × Item)) (v : A) (level : ByteLevel) → IsKept remaining old new →
+      weight_left new ≤ weight_left old → TakesLevel old new level →
+      EntersLevelUnread (IsUnread remaining) old new (Some old.levels) taken v →
       Holds (StandsBefore remaining) LevelStands old new taken v level
   holds-opened taken v level kept fewer (back, less) h l i f (b, u, (s, r, sp, rest, e), is, ahead, few) =
       let (w, un, leads) = h b u in
       let (j, t, give, sq, split) = leads.inward i s r sp e in (
         j,
         ap (λ k. taken k i) is ∙ give,
-        (w, un, (t, r, sq, subst (λ n. IsRest n r f) (sym (kept-reader remaining old new kept b u)) rest, split), ap deeper is ∙ deeper-is old.levels (λ z. absurd (omega (arith, z, less))) ∙ ap Some (omega (arith, less)), tt, held-level old new kept.0 (items_due_behind f) fewer few),
+        (
+          w,
+          un,
+          (t, r, sq, subst (λ n. IsRest n r f) (sym (kept-reader remaining old new kept b u)) rest, split),
+          ap deeper is ∙ deeper-is old.levels (λ z. absurd (omega (arith, z, less))) ∙ ap Some (omega (arith, less)),
+          tt,
+          held-level old new kept.0 (items_due_behind f) fewer few,
+        ),
         is ∙ ap Some (sym back),
       )
 
@@ -40,25 +52,36 @@ module _ {S : Type 0} (remaining : S → Option (List ℕ)) (old new : ByteSourc
 
 module _ {S : Type 0} (IsUnread : S → List ℕ → Type 0) (old mid new : S) (m : ℕ) (some : m ≢ 0) where
   -- the head of a tag was taken
-  pub tag-opened : (t : ℕ) → TakesHead IsUnread old mid (header.Tag t) → ((y : List ℕ) → IsUnread mid y → IsUnread new y) → EntersLevelUnread IsUnread old new (Some m) taken_outer_tag (Some t)
+  pub tag-opened : (t : ℕ) → TakesHead IsUnread old mid (header.Tag t) →
+      ((y : List ℕ) → IsUnread mid y → IsUnread new y) →
+      EntersLevelUnread IsUnread old new (Some m) taken_outer_tag (Some t)
   tag-opened t took keeps b u =
       let (x, y, hd, e, un) = took b u in (
         y,
         keeps y un,
         record {
-          outward = λ i s z sp f. (tag t i, x ++ s, (x, s, hd, sp, refl), e ∙ ap (λ (w : List ℕ). x ++ w) f ∙ sym (append_assoc x s z));
+          outward = λ i s z sp f. (
+            tag t i,
+            x ++ s,
+            (x, s, hd, sp, refl),
+            e ∙ ap (λ (w : List ℕ). x ++ w) f ∙
+                sym (append_assoc x s z),
+          );
           inward = λ j c z sp g.
               let (i, d, is, sr, w) = tag-front c z x y j t sp hd (sym g ∙ e) in
               (i, d, within-is m _ some ∙ ap (λ k. gives (outer_tag k)) is, sr, w);
         },
       )
 
-  untagged-alone : (h : Header) → ((t : ℕ) → h ≡ header.Tag t → ⊥) → (i : Item) → header_of i ≡ h → outer_tag i ≡ (None, i)
+  untagged-alone : (h : Header) → ((t : ℕ) → h ≡ header.Tag t → ⊥) → (i : Item) → header_of i ≡ h →
+      outer_tag i ≡ (None, i)
   untagged-alone h p i e =
-      by-shape (λ j. outer_tag j ≡ (None, j)) h (λ n k. refl) (λ n k. refl) (λ o b k. refl) (λ o b k. refl) (λ o is k. refl) (λ o ps k. refl) (λ n k. refl) (λ raw k. refl) (λ t j k. absurd (p t k)) i e
+      by-shape (λ j. outer_tag j ≡ (None, j)) h (λ n k. refl) (λ n k. refl) (λ o b k. refl) (λ o b k. refl)
+      (λ o is k. refl) (λ o ps k. refl) (λ n k. refl) (λ raw k. refl) (λ t j k. absurd (p t k)) i e
 
   -- another head was looked at
-  pub none-opened : (h : Header) → ((t : ℕ) → h ≡ header.Tag t → ⊥) → TakesHead IsUnread old mid h → ((b x y : List ℕ) → IsUnread old b → SpellsHeader x h → b ≡ x ++ y → IsUnread mid y → IsUnread new b) →
+  pub none-opened : (h : Header) → ((t : ℕ) → h ≡ header.Tag t → ⊥) → TakesHead IsUnread old mid h →
+      ((b x y : List ℕ) → IsUnread old b → SpellsHeader x h → b ≡ x ++ y → IsUnread mid y → IsUnread new b) →
       EntersLevelUnread IsUnread old new (Some m) taken_outer_tag None
   none-opened h p took aside b u =
       let (x, y, hd, e, un) = took b u in (
@@ -66,15 +89,24 @@ module _ {S : Type 0} (IsUnread : S → List ℕ → Type 0) (old mid new : S) (
         aside b x y u hd e un,
         record {
           outward = λ i s z sp f. (i, s, sp, f);
-          inward = λ j t z sp g. (j, t, within-is m _ some ∙ ap gives (untagged-alone h p j (same-head t z x y j h sp hd (sym g ∙ e)).0), sp, g);
+          inward = λ j t z sp g. (
+            j,
+            t,
+            within-is m _ some ∙
+                ap gives (untagged-alone h p j (same-head t z x y j h sp hd (sym g ∙ e)).0),
+            sp,
+            g,
+          );
         },
       )
 
 -- no level is left for it
-pub tag-nests : {S : Type 0} (IsUnread : S → List ℕ → Type 0) (End : S → ℕ) (old : S) (m : ℕ) → m ≡ 0 → Denies IsUnread End old (Some m) taken_outer_tag Rattle.ciborium_value.specs.Sources.of_nesting
+pub tag-nests : {S : Type 0} (IsUnread : S → List ℕ → Type 0) (End : S → ℕ) (old : S) (m : ℕ) → m ≡ 0 →
+    Denies IsUnread End old (Some m) taken_outer_tag Rattle.ciborium_value.specs.Sources.of_nesting
 tag-nests IsUnread End old m none b s z i u sp e = ap (λ n. within_level (Some n) (gives (outer_tag i))) none
 
-pub ok-map-two : {T E : Type 0} {N P Q : T → Type 0} (r : Result T E) → IfOk r N → IfOk r P → ((v : T) → N v → P v → Q v) → IfOk r Q
+pub ok-map-two : {T E : Type 0} {N P Q : T → Type 0} (r : Result T E) → IfOk r N → IfOk r P →
+    ((v : T) → N v → P v → Q v) → IfOk r Q
 ok-map-two (Ok v) n p f = f v n p
 ok-map-two (Err e) n p f = tt
 

@@ -1,5 +1,7 @@
 -- The next part of a container that is read, or its end.
-use Rattle.std.proofs.Common.{◌≡◌, ◌≤◌, ◌+◌, ◌≢◌, ℕ, suc, ◌-◌, ◌<◌, Bool, false, is_some, List, [], ◌∷◌, ◌++◌, length, map, Option, Some, None, refl, sym, ap, ◌∙◌, subst, append_assoc, append-nil, arith, inl, inr, ◌⊎◌, Result, Ok, Err, IfOk, IfErr, MatchBool, true, length-append}
+use Rattle.std.proofs.Common.{◌≡◌, ◌≤◌, ◌+◌, ◌≢◌, ℕ, suc, ◌-◌, ◌<◌, Bool, false, is_some, List, [], ◌∷◌, ◌++◌, length}
+use Rattle.std.proofs.Common.{map, Option, Some, None, refl, sym, ap, ◌∙◌, subst, append_assoc, append-nil, arith, inl}
+use Rattle.std.proofs.Common.{inr, ◌⊎◌, Result, Ok, Err, IfOk, IfErr, MatchBool, true, length-append}
 use Rattle.std.specs.Vec.Iter.{into_iter_items}
 use Rattle.ciborium_ll.specs.declared.header.Header.{Header}
 use Rattle.ciborium_ll.specs.declared.header.Header.TheVariants as header
@@ -9,15 +11,20 @@ use Rattle.ciborium_ll.specs.Item.{Item, unsigned}
 use Rattle.ciborium_ll.specs.Spells.{Spells}
 use Rattle.ciborium_ll.proofs.OneHeader.{one_header_at_front}
 use Rattle.ciborium_ll.proofs.UniqueSpelling.{one_at_front}
-use Rattle.ciborium.proofs.Items.Due.{due-most, due-next, due-none, due-past, held-byte, held-head, held-pending, held-same}
+use Rattle.ciborium.proofs.Items.Due.{due-most, due-next, due-none, due-past, held-byte, held-head, held-pending}
+use Rattle.ciborium.proofs.Items.Due.{held-same}
 use Rattle.ciborium_value.specs.Ahead.{Form, Rest, bottom, parts, pairs, entry, held, item, past, inside}
 use Rattle.ciborium_value.specs.Nesting.{Limit}
 use Rattle.ciborium_value.specs.Places.{Shape, sequence, dictionary}
-use Rattle.ciborium_value.specs.Sources.{Fault, IsOutsideFault, HasItem, HasPart, GoesOn, Leaves, RefusesNext, OwesLess, OwesNothing}
+use Rattle.ciborium_value.specs.Sources.{Fault, IsOutsideFault, HasItem, HasPart, GoesOn, Leaves, RefusesNext, OwesLess}
+use Rattle.ciborium_value.specs.Sources.{OwesNothing}
 use Rattle.ciborium.specs.declared.de.byte_source.ByteSource.{ByteSource}
 use Rattle.ciborium.specs.declared.de.byte_source.ByteSeq.{ByteSeq}
 use Rattle.ciborium.specs.declared.de.byte_source.Left.TheVariants as left
-use Rattle.ciborium.specs.inner.ByteSources.{IsHeadCounted, IsUnread, IsUnreadBy, StandsBefore, SeqStands, HasNoneBehind, HoldsItems, HoldsPairs, HoldsParts, SeqOwes, LeftOwes, OwesParts, bytes_weight, items_due_behind, due_parts, pending_count, head_weight, weight_left, StandsStill, end_at, reader_of}
+use Rattle.ciborium.specs.inner.ByteSources.{IsHeadCounted, IsUnread, IsUnreadBy, StandsBefore, SeqStands}
+use Rattle.ciborium.specs.inner.ByteSources.{HasNoneBehind, HoldsItems, HoldsPairs, HoldsParts, SeqOwes, LeftOwes}
+use Rattle.ciborium.specs.inner.ByteSources.{OwesParts, bytes_weight, items_due_behind, due_parts, pending_count}
+use Rattle.ciborium.specs.inner.ByteSources.{head_weight, weight_left, StandsStill, end_at, reader_of}
 use Rattle.ciborium.specs.inner.FrontItems.{TakesHead, DeniesHead}
 use Rattle.ciborium.specs.inner.Unread.{AreSpelled, AreLeft, SpellsPair, FitsAhead, IsRest, ending, form_of, HasCount}
 use Rattle.ciborium_ll.specs.Decoding.{left_of, allowed_of, source_of}
@@ -42,7 +49,8 @@ none-past p e (held f) = e
 
 -- a part begins with an item
 BeginsWithItem : {X : Type 0} → (List ℕ → X → Type 0) → Type 0
-BeginsWithItem {X} SpellsPart = (a : List ℕ) (x : X) → SpellsPart a x → (i : Item) × (s : List ℕ) × (t : List ℕ) × Spells s i × (a ≡ s ++ t)
+BeginsWithItem {X} SpellsPart = (a : List ℕ) (x : X) → SpellsPart a x → (i : Item) × (s : List ℕ) × (t : List ℕ) ×
+    Spells s i × (a ≡ s ++ t)
 
 item-begins : BeginsWithItem Spells
 unfolding BeginsWithItem
@@ -55,18 +63,30 @@ pair-begins a p (s, t, sp, sq, e) = (p.0, s, t, sp, e)
 -- of the parts left one is next, at the front of b
 abbrev HasNext : {X : Type 0} → (List ℕ → X → Type 0) → Option ℕ → List X → List ℕ → List ℕ → Type 0
 HasNext {X} SpellsPart rest xs b r =
-    (x : X) × (ys : List X) × (xs ≡ x ∷ ys) × ((a : List ℕ) × (c : List ℕ) × SpellsPart a x × AreLeft SpellsPart (form_of rest) c ys × (b ≡ a ++ (c ++ (ending (form_of rest) ++ r)))) × HasCount rest ys
+    (x : X) × (ys : List X) × (xs ≡ x ∷ ys) × ((a : List ℕ) × (c : List ℕ) × SpellsPart a x ×
+    AreLeft SpellsPart (form_of rest) c ys × (b ≡ a ++ (c ++ (ending (form_of rest) ++ r)))) × HasCount rest ys
 
 module _ {X : Type 0} (SpellsPart : List ℕ → X → Type 0) where
-  counted-next : (n : ℕ) (form : Form) (xs : List X) (s r b : List ℕ) → n ≢ 0 → HoldsParts (Some n) form xs → AreLeft SpellsPart form s xs → b ≡ s ++ (ending form ++ r) → HasNext SpellsPart (Some (n - 1)) xs b r
-  counted-next n form xs s r b some (is, len) left e = by xs len (subst (λ k. AreLeft SpellsPart k s xs) is left) (e ∙ ap (λ k. s ++ (ending k ++ r)) is)
+  counted-next : (n : ℕ) (form : Form) (xs : List X) (s r b : List ℕ) → n ≢ 0 → HoldsParts (Some n) form xs →
+      AreLeft SpellsPart form s xs → b ≡ s ++ (ending form ++ r) → HasNext SpellsPart (Some (n - 1)) xs b r
+  counted-next n form xs s r b some (is, len) left e =
+      by xs len (subst (λ k. AreLeft SpellsPart k s xs) is left) (e ∙ ap (λ k. s ++ (ending k ++ r)) is)
     where
-      by : (xs : List X) → length xs ≡ n → AreSpelled SpellsPart s xs → b ≡ s ++ r → HasNext SpellsPart (Some (n - 1)) xs b r
+      by : (xs : List X) → length xs ≡ n → AreSpelled SpellsPart s xs → b ≡ s ++ r →
+          HasNext SpellsPart (Some (n - 1)) xs b r
       by [] len left e = absurd (some (sym len))
-      by (x ∷ ys) len (a, c, sp, sps, g) e = (x, ys, refl, (a, c, sp, sps, e ∙ ap (λ (z : List ℕ). z ++ r) g ∙ append_assoc a c r), (let k : suc (length ys) ≡ n = len in omega (arith, k)))
+      by (x ∷ ys) len (a, c, sp, sps, g) e = (
+        x,
+        ys,
+        refl,
+        (a, c, sp, sps, e ∙ ap (λ (z : List ℕ). z ++ r) g ∙ append_assoc a c r),
+        (let k : suc (length ys) ≡ n = len in omega (arith, k)),
+      )
 
-  counted-end : (form : Form) (xs : List X) (s r b : List ℕ) → HoldsParts (Some 0) form xs → AreLeft SpellsPart form s xs → b ≡ s ++ (ending form ++ r) → (xs ≡ []) × (b ≡ r)
-  counted-end form xs s r b (is, len) left e = by xs len (subst (λ k. AreLeft SpellsPart k s xs) is left) (e ∙ ap (λ k. s ++ (ending k ++ r)) is)
+  counted-end : (form : Form) (xs : List X) (s r b : List ℕ) → HoldsParts (Some 0) form xs →
+      AreLeft SpellsPart form s xs → b ≡ s ++ (ending form ++ r) → (xs ≡ []) × (b ≡ r)
+  counted-end form xs s r b (is, len) left e = by xs len (subst (λ k. AreLeft SpellsPart k s xs) is left)
+      (e ∙ ap (λ k. s ++ (ending k ++ r)) is)
     where
       by : (xs : List X) → length xs ≡ 0 → AreSpelled SpellsPart s xs → b ≡ s ++ r → (xs ≡ []) × (b ≡ r)
       by [] len left e = (refl, e ∙ ap (λ (z : List ℕ). z ++ r) left)
@@ -74,41 +94,79 @@ module _ {X : Type 0} (SpellsPart : List ℕ → X → Type 0) where
 
   module _ (begins : BeginsWithItem SpellsPart) where
     -- what stands at the front where parts are left up to a break: the break, or a head that is another one
-    open-front : (form : Form) (xs : List X) (s r b : List ℕ) → HoldsParts None form xs → AreLeft SpellsPart form s xs → b ≡ s ++ (ending form ++ r) →
-        ((xs ≡ []) × (b ≡ break_byte ∷ r)) ⊎ (HasNext SpellsPart None xs b r × ((i : Item) × (t : List ℕ) × (z : List ℕ) × Spells t i × (b ≡ t ++ z)))
+    open-front : (form : Form) (xs : List X) (s r b : List ℕ) → HoldsParts None form xs → AreLeft SpellsPart form s xs →
+        b ≡ s ++ (ending form ++ r) →
+        ((xs ≡ []) × (b ≡ break_byte ∷ r)) ⊎ (HasNext SpellsPart None xs b r ×
+        ((i : Item) × (t : List ℕ) × (z : List ℕ) × Spells t i × (b ≡ t ++ z)))
     unfolding BeginsWithItem
-    open-front form xs s r b (is, any) left e = by xs (subst (λ k. AreLeft SpellsPart k s xs) is left) (e ∙ ap (λ k. s ++ (ending k ++ r)) is)
+    open-front form xs s r b (is, any) left e = by xs (subst (λ k. AreLeft SpellsPart k s xs) is left)
+        (e ∙ ap (λ k. s ++ (ending k ++ r)) is)
       where
-        by : (xs : List X) → AreSpelled SpellsPart s xs → b ≡ s ++ (break_byte ∷ r) → ((xs ≡ []) × (b ≡ break_byte ∷ r)) ⊎ (HasNext SpellsPart None xs b r × ((i : Item) × (t : List ℕ) × (z : List ℕ) × Spells t i × (b ≡ t ++ z)))
+        by : (xs : List X) → AreSpelled SpellsPart s xs → b ≡ s ++ (break_byte ∷ r) →
+            ((xs ≡ []) × (b ≡ break_byte ∷ r)) ⊎ (HasNext SpellsPart None xs b r ×
+            ((i : Item) × (t : List ℕ) × (z : List ℕ) × Spells t i × (b ≡ t ++ z)))
         by [] left e = inl (refl, e ∙ ap (λ (z : List ℕ). z ++ (break_byte ∷ r)) left)
         by (x ∷ ys) (a, c, sp, sps, g) e =
-            let split : b ≡ a ++ (c ++ (break_byte ∷ r)) = e ∙ ap (λ (z : List ℕ). z ++ (break_byte ∷ r)) g ∙ append_assoc a c (break_byte ∷ r) in
+            let split : b ≡ a ++ (c ++ (break_byte ∷ r)) = e ∙ ap (λ (z : List ℕ). z ++ (break_byte ∷ r)) g ∙
+            append_assoc a c (break_byte ∷ r) in
             let (i, t, u, sq, h) = begins a x sp in
-            inr ((x, ys, refl, (a, c, sp, sps, split), tt), (i, t, u ++ (c ++ (break_byte ∷ r)), sq, split ∙ ap (λ (z : List ℕ). z ++ (c ++ (break_byte ∷ r))) h ∙ append_assoc t u (c ++ (break_byte ∷ r))))
+            inr (
+              (x, ys, refl, (a, c, sp, sps, split), tt),
+              (
+                i,
+                t,
+                u ++ (c ++ (break_byte ∷ r)),
+                sq,
+                split ∙ ap (λ (z : List ℕ). z ++ (c ++ (break_byte ∷ r))) h ∙
+                    append_assoc t u (c ++ (break_byte ∷ r)),
+              ),
+            )
 
-    open-end : (form : Form) (xs : List X) (s r b x y : List ℕ) → HoldsParts None form xs → AreLeft SpellsPart form s xs → b ≡ s ++ (ending form ++ r) → SpellsHeader x header.Break → b ≡ x ++ y → (xs ≡ []) × (y ≡ r)
+    open-end : (form : Form) (xs : List X) (s r b x y : List ℕ) → HoldsParts None form xs →
+        AreLeft SpellsPart form s xs → b ≡ s ++ (ending form ++ r) → SpellsHeader x header.Break → b ≡ x ++ y →
+        (xs ≡ []) × (y ≡ r)
     open-end form xs s r b x y hold left e hd f = by (open-front form xs s r b hold left e)
       where
-        by : ((xs ≡ []) × (b ≡ break_byte ∷ r)) ⊎ (HasNext SpellsPart None xs b r × ((i : Item) × (t : List ℕ) × (z : List ℕ) × Spells t i × (b ≡ t ++ z))) → (xs ≡ []) × (y ≡ r)
-        by (inl (none, g)) = (none, (one_header_at_front x (break_byte ∷ []) y r header.Break header.Break hd refl (sym f ∙ g)).1)
-        by (inr (next, (i, t, z, sp, g))) = absurd (no-break-head i (same-head t z x y i header.Break sp hd (sym g ∙ f)).0)
+        by : ((xs ≡ []) × (b ≡ break_byte ∷ r)) ⊎ (HasNext SpellsPart None xs b r ×
+            ((i : Item) × (t : List ℕ) × (z : List ℕ) × Spells t i × (b ≡ t ++ z))) → (xs ≡ []) × (y ≡ r)
+        by (inl (none, g)) = (
+          none,
+          (one_header_at_front x (break_byte ∷ []) y r header.Break header.Break hd refl
+              (sym f ∙ g)).1,
+        )
+        by (inr (next, (i, t, z, sp, g))) = absurd (no-break-head i
+            (same-head t z x y i header.Break sp hd (sym g ∙ f)).0)
 
-    open-next : (form : Form) (xs : List X) (s r b x y : List ℕ) (h : Header) → HoldsParts None form xs → AreLeft SpellsPart form s xs → b ≡ s ++ (ending form ++ r) → SpellsHeader x h → h ≢ header.Break → b ≡ x ++ y → HasNext SpellsPart None xs b r
+    open-next : (form : Form) (xs : List X) (s r b x y : List ℕ) (h : Header) → HoldsParts None form xs →
+        AreLeft SpellsPart form s xs → b ≡ s ++ (ending form ++ r) → SpellsHeader x h → h ≢ header.Break → b ≡ x ++ y →
+        HasNext SpellsPart None xs b r
     open-next form xs s r b x y h hold left e hd other f = by (open-front form xs s r b hold left e)
       where
-        by : ((xs ≡ []) × (b ≡ break_byte ∷ r)) ⊎ (HasNext SpellsPart None xs b r × ((i : Item) × (t : List ℕ) × (z : List ℕ) × Spells t i × (b ≡ t ++ z))) → HasNext SpellsPart None xs b r
-        by (inl (none, g)) = absurd (other (one_header_at_front x (break_byte ∷ []) y r h header.Break hd refl (sym f ∙ g)).2)
+        by : ((xs ≡ []) × (b ≡ break_byte ∷ r)) ⊎ (HasNext SpellsPart None xs b r ×
+            ((i : Item) × (t : List ℕ) × (z : List ℕ) × Spells t i × (b ≡ t ++ z))) → HasNext SpellsPart None xs b r
+        by (inl (none, g)) = absurd (other (one_header_at_front x (break_byte ∷ []) y r h header.Break hd refl
+            (sym f ∙ g)).2)
         by (inr (next, first)) = next
 
     -- some head stands there
-    open-head : (form : Form) (xs : List X) (s r b : List ℕ) → HoldsParts None form xs → AreLeft SpellsPart form s xs → b ≡ s ++ (ending form ++ r) → (h : Header) × (x : List ℕ) × (y : List ℕ) × SpellsHeader x h × (b ≡ x ++ y) × (announced_length h ≤ length y)
+    open-head : (form : Form) (xs : List X) (s r b : List ℕ) → HoldsParts None form xs → AreLeft SpellsPart form s xs →
+        b ≡ s ++ (ending form ++ r) → (h : Header) × (x : List ℕ) × (y : List ℕ) × SpellsHeader x h × (b ≡ x ++ y) ×
+        (announced_length h ≤ length y)
     open-head form xs s r b hold left e = by (open-front form xs s r b hold left e)
       where
-        by : ((xs ≡ []) × (b ≡ break_byte ∷ r)) ⊎ (HasNext SpellsPart None xs b r × ((i : Item) × (t : List ℕ) × (z : List ℕ) × Spells t i × (b ≡ t ++ z))) → (h : Header) × (x : List ℕ) × (y : List ℕ) × SpellsHeader x h × (b ≡ x ++ y) × (announced_length h ≤ length y)
+        by : ((xs ≡ []) × (b ≡ break_byte ∷ r)) ⊎ (HasNext SpellsPart None xs b r ×
+            ((i : Item) × (t : List ℕ) × (z : List ℕ) × Spells t i × (b ≡ t ++ z))) → (h : Header) × (x : List ℕ) ×
+            (y : List ℕ) × SpellsHeader x h × (b ≡ x ++ y) × (announced_length h ≤ length y)
         by (inl (none, g)) = (header.Break, break_byte ∷ [], r, refl, g, omega arith)
         by (inr (next, (i, t, z, sp, g))) =
-            let (x, y, hd, w) = first-head t i sp in
-            (header_of i, x, y ++ z, hd, g ∙ ap (λ (k : List ℕ). k ++ z) w ∙ append_assoc x y z, (let there = first-payload t i sp in let more = length-append y z in omega (arith, there, more)))
+            let (x, y, hd, w) = first-head t i sp in (
+              header_of i,
+              x,
+              y ++ z,
+              hd,
+              g ∙ ap (λ (k : List ℕ). k ++ z) w ∙ append_assoc x y z,
+              (let there = first-payload t i sp in let more = length-append y z in omega (arith, there, more)),
+            )
 
 -- ---- where the source stands before the next part
 
@@ -117,21 +175,52 @@ record IsAheadOf {S : Type 0} (remaining : S → Option (List ℕ)) (old new : B
   reader : reader_of remaining new.decoder ≡ reader_of remaining old.decoder
   levels : new.levels ≡ old.levels
   unread : IsUnread remaining new b
-  held : (n : ℕ) → allowed_of old.decoder + pending_count old.pending ≤ 1 + n → allowed_of new.decoder + pending_count new.pending ≤ 1 + n
+  held : (n : ℕ) → allowed_of old.decoder + pending_count old.pending ≤ 1 + n →
+      allowed_of new.decoder + pending_count new.pending ≤ 1 + n
 
-module _ {S : Type 0} (remaining : S → Option (List ℕ)) (old new : ByteSource S) (rest : Option ℕ) (b r : List ℕ) (f : Rest) (ahead : IsAheadOf remaining old new b) (q q' : ByteSeq) (same : q'.levels ≡ q.levels) where
-  stands-item : (l : Limit) (form : Form) (xs : List Item) → form ≡ form_of rest → HasNext Spells rest xs b r → IsRest (reader_of remaining old.decoder) r f → inside form l ≡ Some old.levels → allowed_of old.decoder + pending_count old.pending ≤ due_parts form (length xs) + items_due_behind f → l ≡ Some q.levels → ((ys : List Item) → HasCount rest ys → HoldsItems q'.left form ys) →
-      (i : Item) × (js : List Item) × (xs ≡ i ∷ js) × StandsBefore remaining new (inside form l) (item i (parts form js f)) × SeqStands q' l (parts form js f)
+module _ {S : Type 0} (remaining : S → Option (List ℕ)) (old new : ByteSource S) (rest : Option ℕ) (b r : List ℕ)
+    (f : Rest) (ahead : IsAheadOf remaining old new b) (q q' : ByteSeq) (same : q'.levels ≡ q.levels) where
+  stands-item : (l : Limit) (form : Form) (xs : List Item) → form ≡ form_of rest → HasNext Spells rest xs b r →
+      IsRest (reader_of remaining old.decoder) r f → inside form l ≡ Some old.levels →
+      allowed_of old.decoder + pending_count old.pending ≤ due_parts form (length xs) + items_due_behind f →
+      l ≡ Some q.levels → ((ys : List Item) → HasCount rest ys → HoldsItems q'.left form ys) →
+      (i : Item) × (js : List Item) × (xs ≡ i ∷ js) × StandsBefore remaining new (inside form l)
+      (item i (parts form js f)) × SeqStands q' l (parts form js f)
   stands-item l form xs is (x, ys, whole, (a, c, sp, left, e), count) behind lv few lq hold = (
     x,
     ys,
     whole,
-    (b, ahead.unread, (a, c ++ (ending form ++ r), sp, (c, r, subst (λ k. AreLeft Spells k c ys) (sym is) left, subst (λ n. IsRest n r f) (sym ahead.reader) behind, refl), subst (λ k. b ≡ a ++ (c ++ (ending k ++ r))) (sym is) e), lv ∙ ap Some (sym ahead.levels), tt, ahead.held (due_parts form (length ys) + items_due_behind f) (let len : length xs ≡ 1 + length ys = omega (arith, ap length whole) in let next = due-next form rest is (length ys) in omega (arith, few, ap (due_parts form) len, next))),
+    (
+      b,
+      ahead.unread,
+      (
+        a,
+        c ++ (ending form ++ r),
+        sp,
+        (
+          c,
+          r,
+          subst (λ k. AreLeft Spells k c ys) (sym is) left,
+          subst (λ n. IsRest n r f) (sym ahead.reader) behind,
+          refl,
+        ),
+        subst (λ k. b ≡ a ++ (c ++ (ending k ++ r))) (sym is) e,
+      ),
+      lv ∙ ap Some (sym ahead.levels),
+      tt,
+      ahead.held (due_parts form (length ys) + items_due_behind f)
+          (let len : length xs ≡ 1 + length ys = omega (arith, ap length whole) in let next =
+          due-next form rest is (length ys) in omega (arith, few, ap (due_parts form) len, next)),
+    ),
     (lq ∙ ap Some (sym same), hold ys count),
   )
 
-  stands-pair : (l : Limit) (form : Form) (xs : List (Item × Item)) → form ≡ form_of rest → HasNext SpellsPair rest xs b r → IsRest (reader_of remaining old.decoder) r f → inside form l ≡ Some old.levels → allowed_of old.decoder + pending_count old.pending ≤ due_parts form (length xs) + items_due_behind f → l ≡ Some q.levels → ((ys : List (Item × Item)) → HasCount rest ys → HoldsPairs q'.left form ys) →
-      (k : Item) × (v : Item) × (qs : List (Item × Item)) × (xs ≡ (k, v) ∷ qs) × StandsBefore remaining new (inside form l) (item k (entry v form qs f)) × SeqStands q' l (pairs form qs f)
+  stands-pair : (l : Limit) (form : Form) (xs : List (Item × Item)) → form ≡ form_of rest →
+      HasNext SpellsPair rest xs b r → IsRest (reader_of remaining old.decoder) r f → inside form l ≡ Some old.levels →
+      allowed_of old.decoder + pending_count old.pending ≤ due_parts form (length xs) + items_due_behind f →
+      l ≡ Some q.levels → ((ys : List (Item × Item)) → HasCount rest ys → HoldsPairs q'.left form ys) →
+      (k : Item) × (v : Item) × (qs : List (Item × Item)) × (xs ≡ (k, v) ∷ qs) ×
+      StandsBefore remaining new (inside form l) (item k (entry v form qs f)) × SeqStands q' l (pairs form qs f)
   stands-pair l form xs is (x, ys, whole, (a, c, (s, t, sp, sq, g), left, e), count) behind lv few lq hold = (
     x.0,
     x.1,
@@ -144,64 +233,118 @@ module _ {S : Type 0} (remaining : S → Option (List ℕ)) (old new : ByteSourc
         s,
         t ++ (c ++ (ending form ++ r)),
         sp,
-        (t, c ++ (ending form ++ r), sq, (c, r, subst (λ k. AreLeft SpellsPair k c ys) (sym is) left, subst (λ n. IsRest n r f) (sym ahead.reader) behind, refl), refl),
-        subst (λ k. b ≡ a ++ (c ++ (ending k ++ r))) (sym is) e ∙ ap (λ (z : List ℕ). z ++ (c ++ (ending form ++ r))) g ∙ append_assoc s t (c ++ (ending form ++ r)),
+        (
+          t,
+          c ++ (ending form ++ r),
+          sq,
+          (
+            c,
+            r,
+            subst (λ k. AreLeft SpellsPair k c ys) (sym is) left,
+            subst (λ n. IsRest n r f) (sym ahead.reader) behind,
+            refl,
+          ),
+          refl,
+        ),
+        subst (λ k. b ≡ a ++ (c ++ (ending k ++ r))) (sym is) e ∙
+            ap (λ (z : List ℕ). z ++ (c ++ (ending form ++ r))) g ∙ append_assoc s t (c ++ (ending form ++ r)),
       ),
       lv ∙ ap Some (sym ahead.levels),
       tt,
-      ahead.held (1 + (due_parts form (length ys) + items_due_behind f)) (let len : length xs ≡ 1 + length ys = omega (arith, ap length whole) in let next = due-next form rest is (length ys) in omega (arith, few, ap (due_parts form) len, next)),
+      ahead.held (1 + (due_parts form (length ys) + items_due_behind f))
+          (let len : length xs ≡ 1 + length ys = omega (arith, ap length whole) in let next =
+          due-next form rest is (length ys) in omega (arith, few, ap (due_parts form) len, next)),
     ),
     (lq ∙ ap Some (sym same), hold ys count),
   )
 
 -- behind the last part
-stands-past : {S : Type 0} (remaining : S → Option (List ℕ)) (old new : ByteSource S) (l : Limit) (q : ByteSeq) (b : List ℕ) (f : Rest) → reader_of remaining new.decoder ≡ reader_of remaining old.decoder → new.levels ≡ q.levels → new.pending ≡ None → allowed_of new.decoder + pending_count new.pending ≤ items_due_behind f →
-    IsUnread remaining new b → IsRest (reader_of remaining old.decoder) b f → l ≡ Some q.levels → StandsBefore remaining new l (past f)
-stands-past remaining old new l q b f name levels none few un rest lq =
-    (b, un, subst (λ n. FitsAhead n b (past f)) (sym name) (fits-past (reader_of remaining old.decoder) b f rest), lq ∙ ap Some (sym levels), none-past new.pending none f, subst (λ n. allowed_of new.decoder + pending_count new.pending ≤ n) (sym (due-past f)) few)
+stands-past : {S : Type 0} (remaining : S → Option (List ℕ)) (old new : ByteSource S) (l : Limit) (q : ByteSeq)
+    (b : List ℕ) (f : Rest) → reader_of remaining new.decoder ≡ reader_of remaining old.decoder →
+    new.levels ≡ q.levels → new.pending ≡ None → allowed_of new.decoder + pending_count new.pending ≤ items_due_behind f
+    →
+    IsUnread remaining new b → IsRest (reader_of remaining old.decoder) b f → l ≡ Some q.levels →
+    StandsBefore remaining new l (past f)
+stands-past remaining old new l q b f name levels none few un rest lq = (
+  b,
+  un,
+  subst (λ n. FitsAhead n b (past f)) (sym name) (fits-past (reader_of remaining old.decoder) b f rest),
+  lq ∙
+      ap Some (sym levels),
+  none-past new.pending none f,
+  subst (λ n. allowed_of new.decoder + pending_count new.pending ≤ n) (sym (due-past f)) few,
+)
 
 -- ---- so many parts
 
 module _ {S : Type 0} (remaining : S → Option (List ℕ)) where
-  pub goes-counted : (old : ByteSource S) (q q' : ByteSeq) (n : ℕ) → q.left ≡ left.Counted n → n ≢ 0 → q'.left ≡ left.Counted (n - 1) → q'.levels ≡ q.levels → GoesOn (StandsBefore remaining) SeqStands old old q q'
+  pub goes-counted : (old : ByteSource S) (q q' : ByteSeq) (n : ℕ) → q.left ≡ left.Counted n → n ≢ 0 →
+      q'.left ≡ left.Counted (n - 1) → q'.levels ≡ q.levels → GoesOn (StandsBefore remaining) SeqStands old old q q'
   goes-counted old q q' n is some is' levels = (
     λ l form its f (b, u, (s, r, stand, rest, e), lv, none, few) (lq, hold).
         let held : HoldsParts (Some n) form its = subst (λ k. HoldsItems k form its) is hold in
-        stands-item remaining old old (Some (n - 1)) b r f (record { reader = refl; levels = refl; unread = u; held = λ m few. few }) q q' levels l form its held.0 (counted-next Spells n form its s r b some held stand e) rest lv few lq
+        stands-item remaining old old (Some (n - 1)) b r f
+        (record { reader = refl; levels = refl; unread = u; held = λ m few. few }) q q' levels l form its held.0
+        (counted-next Spells n form its s r b some held stand e) rest lv few lq
         (λ ys count. subst (λ k. HoldsItems k form ys) (sym is') (held.0, count)),
     λ l form its f (b, u, (s, r, stand, rest, e), lv, none, few) (lq, hold).
         let held : HoldsParts (Some n) form its = subst (λ k. HoldsPairs k form its) is hold in
-        stands-pair remaining old old (Some (n - 1)) b r f (record { reader = refl; levels = refl; unread = u; held = λ m few. few }) q q' levels l form its held.0 (counted-next SpellsPair n form its s r b some held stand e) rest lv few lq
+        stands-pair remaining old old (Some (n - 1)) b r f
+        (record { reader = refl; levels = refl; unread = u; held = λ m few. few }) q q' levels l form its held.0
+        (counted-next SpellsPair n form its s r b some held stand e) rest lv few lq
         (λ ys count. subst (λ k. HoldsPairs k form ys) (sym is') (held.0, count)),
   )
 
-  pub leaves-counted : (old new : ByteSource S) (q : ByteSeq) → q.left ≡ left.Counted 0 → new.decoder ≡ old.decoder → new.pending ≡ old.pending → new.levels ≡ q.levels → Leaves (StandsBefore remaining) SeqStands old new q
+  pub leaves-counted : (old new : ByteSource S) (q : ByteSeq) → q.left ≡ left.Counted 0 → new.decoder ≡ old.decoder →
+      new.pending ≡ old.pending → new.levels ≡ q.levels → Leaves (StandsBefore remaining) SeqStands old new q
   leaves-counted old new q is same same' levels = (
     λ l form its f (b, u, (s, r, stand, rest, e), lv, none, few) (lq, hold).
-        let (empty, all) = counted-end Spells form its s r b (subst (λ k. HoldsItems k form its) is hold) stand e in
-        (empty, stands-past remaining old new l q b f (ap (reader_of remaining) same) levels (same' ∙ none) (held-same old new (ap source_of same) (items_due_behind f) (ap (λ d. d.window.count) same) same' (let most = due-most form (length its) in omega (arith, few, most, ap length empty))) (into b u) (subst (λ k. IsRest (reader_of remaining old.decoder) k f) (sym all) rest) lq),
+        let (empty, all) = counted-end Spells form its s r b (subst (λ k. HoldsItems k form its) is hold) stand e in (
+          empty,
+          stands-past remaining old new l q b f (ap (reader_of remaining) same) levels (same' ∙ none)
+              (held-same old new (ap source_of same) (items_due_behind f) (ap (λ d. d.window.count) same) same'
+              (let most = due-most form (length its) in omega (arith, few, most, ap length empty))) (into b u)
+              (subst (λ k. IsRest (reader_of remaining old.decoder) k f) (sym all) rest) lq,
+        ),
     λ l form its f (b, u, (s, r, stand, rest, e), lv, none, few) (lq, hold).
-        let (empty, all) = counted-end SpellsPair form its s r b (subst (λ k. HoldsPairs k form its) is hold) stand e in
-        (empty, stands-past remaining old new l q b f (ap (reader_of remaining) same) levels (same' ∙ none) (held-same old new (ap source_of same) (items_due_behind f) (ap (λ d. d.window.count) same) same' (let most = due-most form (length its) in omega (arith, few, most, ap length empty))) (into b u) (subst (λ k. IsRest (reader_of remaining old.decoder) k f) (sym all) rest) lq),
+        let (empty, all) = counted-end SpellsPair form its s r b (subst (λ k. HoldsPairs k form its) is hold) stand e in (
+          empty,
+          stands-past remaining old new l q b f (ap (reader_of remaining) same) levels (same' ∙ none)
+              (held-same old new (ap source_of same) (items_due_behind f) (ap (λ d. d.window.count) same) same'
+              (let most = due-most form (length its) in omega (arith, few, most, ap length empty))) (into b u)
+              (subst (λ k. IsRest (reader_of remaining old.decoder) k f) (sym all) rest) lq,
+        ),
   )
     where
       into : (b : List ℕ) → IsUnread remaining old b → IsUnread remaining new b
-      into b u = subst (λ d. IsUnreadBy remaining d new.pending b) (sym same) (subst (λ o. IsUnreadBy remaining old.decoder o b) (sym same') u)
+      into b u = subst (λ d. IsUnreadBy remaining d new.pending b) (sym same)
+          (subst (λ o. IsUnreadBy remaining old.decoder o b) (sym same') u)
 
 -- what is owed, where one part more was taken
-module _ {X : Type 0} (SpellsPart : List ℕ → X → Type 0) (b c z : List ℕ) (x : X) (a : List ℕ) (sp : SpellsPart a x) (e : c ≡ a ++ z) where
+module _ {X : Type 0} (SpellsPart : List ℕ → X → Type 0) (b c z : List ℕ) (x : X) (a : List ℕ) (sp : SpellsPart a x)
+    (e : c ≡ a ++ z) where
   counted-owed : (n : ℕ) → n ≢ 0 → OwesParts SpellsPart (Some n) b c → OwesParts SpellsPart (Some (n - 1)) b z
-  counted-owed n some owed t w xs sps len f = owed (a ++ t) w (x ∷ xs) (a, t, sp, sps, refl) (omega (arith, len, some)) (e ∙ ap (λ (k : List ℕ). a ++ k) f ∙ sym (append_assoc a t w))
+  counted-owed n some owed t w xs sps len f = owed (a ++ t) w (x ∷ xs) (a, t, sp, sps, refl) (omega (arith, len, some))
+      (e ∙ ap (λ (k : List ℕ). a ++ k) f ∙ sym (append_assoc a t w))
 
   open-owed : OwesParts SpellsPart None b c → OwesParts SpellsPart None b z
-  open-owed owed t w xs sps len f = owed (a ++ t) w (x ∷ xs) (a, t, sp, sps, refl) tt (e ∙ ap (λ (k : List ℕ). a ++ k) f ∙ sym (append_assoc a t (break_byte ∷ w)))
+  open-owed owed t w xs sps len f = owed (a ++ t) w (x ∷ xs) (a, t, sp, sps, refl) tt
+      (e ∙ ap (λ (k : List ℕ). a ++ k) f ∙ sym (append_assoc a t (break_byte ∷ w)))
 
 pair-at : (c z : List ℕ) → HasPart dictionary c z → (p : Item × Item) × (a : List ℕ) × SpellsPair a p × (c ≡ a ++ z)
-pair-at c z (m, (k, s, sp, e), (v, t, sq, f)) = ((k, v), s ++ t, (s, t, sp, sq, refl), e ∙ ap (λ (w : List ℕ). s ++ w) f ∙ sym (append_assoc s t z))
+pair-at c z (m, (k, s, sp, e), (v, t, sq, f)) = (
+  (k, v),
+  s ++ t,
+  (s, t, sp, sq, refl),
+  e ∙
+      ap (λ (w : List ℕ). s ++ w) f ∙ sym (append_assoc s t z),
+)
 
-counted-less : (n : ℕ) (s : Shape) (b c z : List ℕ) → n ≢ 0 → LeftOwes (left.Counted n) s b c → HasPart s c z → LeftOwes (left.Counted (n - 1)) s b z
+counted-less : (n : ℕ) (s : Shape) (b c z : List ℕ) → n ≢ 0 → LeftOwes (left.Counted n) s b c → HasPart s c z →
+    LeftOwes (left.Counted (n - 1)) s b z
 counted-less n sequence b c z some owed (i, a, sp, e) = counted-owed Spells b c z i a sp e n some owed
-counted-less n dictionary b c z some owed part = let (p, a, sp, e) = pair-at c z part in counted-owed SpellsPair b c z p a sp e n some owed
+counted-less n dictionary b c z some owed part = let (p, a, sp, e) = pair-at c z part in
+    counted-owed SpellsPair b c z p a sp e n some owed
 
 open-less : (s : Shape) (b c z : List ℕ) → LeftOwes left.Open s b c → HasPart s c z → LeftOwes left.Open s b z
 open-less sequence b c z owed (i, a, sp, e) = open-owed Spells b c z i a sp e owed
@@ -215,57 +358,111 @@ open-nothing : (s : Shape) (b c z : List ℕ) → c ≡ break_byte ∷ z → Lef
 open-nothing sequence b c z e owed = owed [] z [] refl tt e
 open-nothing dictionary b c z e owed = owed [] z [] refl tt e
 
-pub less-counted : (P : List ℕ → Type 0) (q q' : ByteSeq) (n : ℕ) → q.left ≡ left.Counted n → n ≢ 0 → q'.left ≡ left.Counted (n - 1) → (b : List ℕ) → P b → (u : List ℕ) × P u × OwesLess SeqOwes q q' b u
-less-counted P q q' n is some is' b u = (b, u, λ s a z owed part. subst (λ k. LeftOwes k s a z) (sym is') (counted-less n s a b z some (subst (λ k. LeftOwes k s a b) is owed) part))
+pub less-counted : (P : List ℕ → Type 0) (q q' : ByteSeq) (n : ℕ) → q.left ≡ left.Counted n → n ≢ 0 →
+    q'.left ≡ left.Counted (n - 1) → (b : List ℕ) → P b → (u : List ℕ) × P u × OwesLess SeqOwes q q' b u
+less-counted P q q' n is some is' b u = (
+  b,
+  u,
+  λ s a z owed part. subst (λ k. LeftOwes k s a z) (sym is')
+      (counted-less n s a b z some (subst (λ k. LeftOwes k s a b) is owed) part),
+)
 
-pub nothing-allowed : (P : List ℕ → Type 0) (q : ByteSeq) → q.left ≡ left.Counted 0 → (b : List ℕ) → P b → (u : List ℕ) × P u × OwesNothing SeqOwes q b u
+pub nothing-allowed : (P : List ℕ → Type 0) (q : ByteSeq) → q.left ≡ left.Counted 0 → (b : List ℕ) → P b →
+    (u : List ℕ) × P u × OwesNothing SeqOwes q b u
 nothing-allowed P q is b u = (b, u, λ s a owed. counted-nothing s a b (subst (λ k. LeftOwes k s a b) is owed))
 
 -- ---- up to a break
 
 module _ {S : Type 0} (remaining : S → Option (List ℕ)) where
-  pub leaves-open : (old mid new : ByteSource S) (q : ByteSeq) → q.left ≡ left.Open → IsKept remaining old new → bytes_weight new + head_weight header.Break ≤ weight_left old → TakesHead (IsUnread remaining) old mid header.Break → new.levels ≡ q.levels → new.pending ≡ None →
-      ((y : List ℕ) → IsUnread remaining mid y → IsUnread remaining new y) → Leaves (StandsBefore remaining) SeqStands old new q
+  pub leaves-open : (old mid new : ByteSource S) (q : ByteSeq) → q.left ≡ left.Open → IsKept remaining old new →
+      bytes_weight new + head_weight header.Break ≤ weight_left old →
+      TakesHead (IsUnread remaining) old mid header.Break → new.levels ≡ q.levels → new.pending ≡ None →
+      ((y : List ℕ) → IsUnread remaining mid y → IsUnread remaining new y) →
+      Leaves (StandsBefore remaining) SeqStands old new q
   leaves-open old mid new q is kept fewer took levels none into = (
     λ l form its f (b, u, (s, r, stand, rest, e), lv, ahead, few) (lq, hold).
         let (x, y, hd, g, un) = took b u in
-        let (empty, all) = open-end Spells item-begins form its s r b x y (subst (λ k. HoldsItems k form its) is hold) stand e hd g in
-        (empty, stands-past remaining old new l q y f (kept-reader remaining old new kept b u) levels none (held-head old new kept.0 (items_due_behind f) header.Break none fewer (let most = due-most form (length its) in omega (arith, few, most, ap length empty))) (into y un) (subst (λ k. IsRest (reader_of remaining old.decoder) k f) (sym all) rest) lq),
+        let (empty, all) = open-end Spells item-begins form its s r b x y (subst (λ k. HoldsItems k form its) is hold)
+        stand e hd g in (
+          empty,
+          stands-past remaining old new l q y f (kept-reader remaining old new kept b u) levels none
+              (held-head old new kept.0 (items_due_behind f) header.Break none fewer
+              (let most = due-most form (length its) in omega (arith, few, most, ap length empty))) (into y un)
+              (subst (λ k. IsRest (reader_of remaining old.decoder) k f) (sym all) rest) lq,
+        ),
     λ l form its f (b, u, (s, r, stand, rest, e), lv, ahead, few) (lq, hold).
         let (x, y, hd, g, un) = took b u in
-        let (empty, all) = open-end SpellsPair pair-begins form its s r b x y (subst (λ k. HoldsPairs k form its) is hold) stand e hd g in
-        (empty, stands-past remaining old new l q y f (kept-reader remaining old new kept b u) levels none (held-head old new kept.0 (items_due_behind f) header.Break none fewer (let most = due-most form (length its) in omega (arith, few, most, ap length empty))) (into y un) (subst (λ k. IsRest (reader_of remaining old.decoder) k f) (sym all) rest) lq),
+        let (empty, all) = open-end SpellsPair pair-begins form its s r b x y
+        (subst (λ k. HoldsPairs k form its) is hold) stand e hd g in (
+          empty,
+          stands-past remaining old new l q y f (kept-reader remaining old new kept b u) levels none
+              (held-head old new kept.0 (items_due_behind f) header.Break none fewer
+              (let most = due-most form (length its) in omega (arith, few, most, ap length empty))) (into y un)
+              (subst (λ k. IsRest (reader_of remaining old.decoder) k f) (sym all) rest) lq,
+        ),
   )
 
-  pub goes-open : (old mid new : ByteSource S) (q q' : ByteSeq) (h : Header) → q.left ≡ left.Open → q'.left ≡ left.Open → q'.levels ≡ q.levels → IsKept remaining old new → bytes_weight new + head_weight h ≤ weight_left old → new.levels ≡ old.levels →
-      TakesHead (IsUnread remaining) old mid h → h ≢ header.Break → ((b x y : List ℕ) → IsUnread remaining old b → SpellsHeader x h → b ≡ x ++ y → IsUnread remaining mid y → IsUnread remaining new b) → GoesOn (StandsBefore remaining) SeqStands old new q q'
+  pub goes-open : (old mid new : ByteSource S) (q q' : ByteSeq) (h : Header) → q.left ≡ left.Open →
+      q'.left ≡ left.Open → q'.levels ≡ q.levels → IsKept remaining old new →
+      bytes_weight new + head_weight h ≤ weight_left old → new.levels ≡ old.levels →
+      TakesHead (IsUnread remaining) old mid h → h ≢ header.Break →
+      ((b x y : List ℕ) → IsUnread remaining old b → SpellsHeader x h → b ≡ x ++ y → IsUnread remaining mid y →
+      IsUnread remaining new b) → GoesOn (StandsBefore remaining) SeqStands old new q q'
   goes-open old mid new q q' h is is' levels same fewer kept took other back = (
     λ l form its f (b, u, (s, r, stand, rest, e), lv, none, few) (lq, hold).
         let (x, y, hd, g, un) = took b u in
         let held : HoldsParts None form its = subst (λ k. HoldsItems k form its) is hold in
-        stands-item remaining old new None b r f (record { reader = kept-reader remaining old new same b u; levels = kept; unread = back b x y u hd g un; held = λ n. held-pending old new same.0 n h fewer }) q q' levels l form its held.0 (open-next Spells item-begins form its s r b x y h held stand e hd other g) rest lv few lq
+        stands-item remaining old new None b r f (record {
+          reader = kept-reader remaining old new same b u;
+          levels = kept;
+          unread = back b x y u hd g un;
+          held =
+              λ n. held-pending old new same.0 n h fewer;
+        }) q q' levels l form its held.0
+        (open-next Spells item-begins form its s r b x y h held stand e hd other g) rest lv few lq
         (λ ys count. subst (λ k. HoldsItems k form ys) (sym is') (held.0, count)),
     λ l form its f (b, u, (s, r, stand, rest, e), lv, none, few) (lq, hold).
         let (x, y, hd, g, un) = took b u in
         let held : HoldsParts None form its = subst (λ k. HoldsPairs k form its) is hold in
-        stands-pair remaining old new None b r f (record { reader = kept-reader remaining old new same b u; levels = kept; unread = back b x y u hd g un; held = λ n. held-pending old new same.0 n h fewer }) q q' levels l form its held.0 (open-next SpellsPair pair-begins form its s r b x y h held stand e hd other g) rest lv few lq
+        stands-pair remaining old new None b r f (record {
+          reader = kept-reader remaining old new same b u;
+          levels = kept;
+          unread = back b x y u hd g un;
+          held =
+              λ n. held-pending old new same.0 n h fewer;
+        }) q q' levels l form its held.0
+        (open-next SpellsPair pair-begins form its s r b x y h held stand e hd other g) rest lv few lq
         (λ ys count. subst (λ k. HoldsPairs k form ys) (sym is') (held.0, count)),
   )
 
-  pub no-next : (old : ByteSource S) (q : ByteSeq) (fault : Fault) → q.left ≡ left.Open → DeniesHead (IsUnread remaining) (end_at remaining) old fault → RefusesNext (StandsBefore remaining) SeqStands old q fault
+  pub no-next : (old : ByteSource S) (q : ByteSeq) (fault : Fault) → q.left ≡ left.Open →
+      DeniesHead (IsUnread remaining) (end_at remaining) old fault →
+      RefusesNext (StandsBefore remaining) SeqStands old q fault
   no-next old q fault is denied = (
     λ l form its f (b, u, (s, r, stand, rest, e), lv, ahead, few) (lq, hold).
-        let (h, x, y, hd, g, there) = open-head Spells item-begins form its s r b (subst (λ k. HoldsItems k form its) is hold) stand e in
-        subst (λ n. IsOutsideFault n fault) (sym (rest-end (reader_of remaining old.decoder) r f rest)) (denied b x y h u hd g there),
+        let (h, x, y, hd, g, there) = open-head Spells item-begins form its s r b
+        (subst (λ k. HoldsItems k form its) is hold) stand e in
+        subst (λ n. IsOutsideFault n fault) (sym (rest-end (reader_of remaining old.decoder) r f rest))
+        (denied b x y h u hd g there),
     λ l form its f (b, u, (s, r, stand, rest, e), lv, ahead, few) (lq, hold).
-        let (h, x, y, hd, g, there) = open-head SpellsPair pair-begins form its s r b (subst (λ k. HoldsPairs k form its) is hold) stand e in
-        subst (λ n. IsOutsideFault n fault) (sym (rest-end (reader_of remaining old.decoder) r f rest)) (denied b x y h u hd g there),
+        let (h, x, y, hd, g, there) = open-head SpellsPair pair-begins form its s r b
+        (subst (λ k. HoldsPairs k form its) is hold) stand e in
+        subst (λ n. IsOutsideFault n fault) (sym (rest-end (reader_of remaining old.decoder) r f rest))
+        (denied b x y h u hd g there),
   )
 
-pub less-open : (P Q : List ℕ → Type 0) (q q' : ByteSeq) → q.left ≡ left.Open → q'.left ≡ left.Open → ((b : List ℕ) → P b → Q b) → (b : List ℕ) → P b → (u : List ℕ) × Q u × OwesLess SeqOwes q q' b u
-less-open P Q q q' is is' into b u = (b, into b u, λ s a z owed part. subst (λ k. LeftOwes k s a z) (sym is') (open-less s a b z (subst (λ k. LeftOwes k s a b) is owed) part))
+pub less-open : (P Q : List ℕ → Type 0) (q q' : ByteSeq) → q.left ≡ left.Open → q'.left ≡ left.Open →
+    ((b : List ℕ) → P b → Q b) → (b : List ℕ) → P b → (u : List ℕ) × Q u × OwesLess SeqOwes q q' b u
+less-open P Q q q' is is' into b u = (
+  b,
+  into b u,
+  λ s a z owed part. subst (λ k. LeftOwes k s a z) (sym is')
+      (open-less s a b z (subst (λ k. LeftOwes k s a b) is owed) part),
+)
 
-pub nothing-open : (P Q : List ℕ → Type 0) (q : ByteSeq) → q.left ≡ left.Open → ((b : List ℕ) → P b → (y : List ℕ) × (b ≡ break_byte ∷ y) × Q y) → (b : List ℕ) → P b → (u : List ℕ) × Q u × OwesNothing SeqOwes q b u
+pub nothing-open : (P Q : List ℕ → Type 0) (q : ByteSeq) → q.left ≡ left.Open →
+    ((b : List ℕ) → P b → (y : List ℕ) × (b ≡ break_byte ∷ y) × Q y) → (b : List ℕ) → P b → (u : List ℕ) × Q u ×
+    OwesNothing SeqOwes q b u
 nothing-open P Q q is took b u =
     let (y, e, un) = took b u in
     (y, un, λ s a owed. open-nothing s a b y e (subst (λ k. LeftOwes k s a b) is owed))
@@ -280,8 +477,11 @@ pub wide-head : (n : ℕ) → n < 18446744073709551616 → IsHead (wide n) 0 n
 wide-head n lt = (eight_bytes, lt, refl)
 
 module _ {S : Type 0} (remaining : S → Option (List ℕ)) where
-  pub goes-bytes : (old new : ByteSource S) (q q' : ByteSeq) (v w : _) (n p : ℕ) → q.left ≡ left.Bytes v → q'.left ≡ left.Bytes w → q'.levels ≡ q.levels → into_iter_items v ≡ n ∷ into_iter_items w → n < 18446744073709551616 →
-      new.decoder ≡ old.decoder → new.levels ≡ old.levels → new.pending ≡ Some (header.Positive n, p) → GoesOn (StandsBefore remaining) SeqStands old new q q'
+  pub goes-bytes : (old new : ByteSource S) (q q' : ByteSeq) (v w : _) (n p : ℕ) → q.left ≡ left.Bytes v →
+      q'.left ≡ left.Bytes w → q'.levels ≡ q.levels → into_iter_items v ≡ n ∷ into_iter_items w →
+      n < 18446744073709551616 →
+      new.decoder ≡ old.decoder → new.levels ≡ old.levels → new.pending ≡ Some (header.Positive n, p) →
+      GoesOn (StandsBefore remaining) SeqStands old new q q'
   goes-bytes old new q q' v w n p is is' levels first lt same kept pushed = (
     λ l form its f (b, u, (s, r, stand, rest, e), lv, none, few) (lq, hold).
         let held : HoldsItems (left.Bytes v) form its = subst (λ k. HoldsItems k form its) is hold in
@@ -294,25 +494,41 @@ module _ {S : Type 0} (remaining : S → Option (List ℕ)) where
           sym held.1 ∙ ap (map unsigned) first,
           (
             wide n ++ b,
-            subst (λ o. IsUnreadBy remaining new.decoder o (wide n ++ b)) (sym pushed) (wide n, b, wide-head n lt, refl, known', λ fixed. cc),
+            subst (λ o. IsUnreadBy remaining new.decoder o (wide n ++ b)) (sym pushed)
+                (wide n, b, wide-head n lt, refl, known', λ fixed. cc),
             (
               wide n,
               b,
               wide-head n lt,
-              ([], r, subst (λ k. AreLeft Spells k [] (map unsigned (into_iter_items w))) (sym held.0) refl, subst (λ k. IsRest k r f) (ap (reader_of remaining) (sym same)) rest, all ∙ sym (ap (λ k. ending k ++ r) held.0)),
+              (
+                [],
+                r,
+                subst (λ k. AreLeft Spells k [] (map unsigned (into_iter_items w))) (sym held.0) refl,
+                subst (λ k. IsRest k r f) (ap (reader_of remaining) (sym same)) rest,
+                all ∙
+                    sym (ap (λ k. ending k ++ r) held.0),
+              ),
               refl,
             ),
             lv ∙ ap Some (sym kept),
             tt,
-            held-byte old new (due_parts form (length (map unsigned (into_iter_items w))) + items_due_behind f) same (ap pending_count none) (ap pending_count pushed) (let gone = due-none form (length its) held.0 in omega (arith, few, gone)),
+            held-byte old new (due_parts form (length (map unsigned (into_iter_items w))) + items_due_behind f) same
+                (ap pending_count none) (ap pending_count pushed)
+                (let gone = due-none form (length its) held.0 in omega (arith, few, gone)),
           ),
-          (lq ∙ ap Some (sym levels), subst (λ k. HoldsItems k form (map unsigned (into_iter_items w))) (sym is') (held.0, refl)),
+          (
+            lq ∙ ap Some (sym levels),
+            subst (λ k. HoldsItems k form (map unsigned (into_iter_items w))) (sym is')
+                (held.0, refl),
+          ),
         ),
-    λ l form its f (b, u, (s, r, stand, rest, e), lv, none, few) (lq, hold). absurd (subst (λ k. HoldsPairs k form its) is hold),
+    λ l form its f (b, u, (s, r, stand, rest, e), lv, none, few) (lq, hold). absurd
+        (subst (λ k. HoldsPairs k form its) is hold),
   )
 
 module _ {S : Type 0} (remaining : S → Option (List ℕ)) where
-  pub leaves-bytes : (old : ByteSource S) (q : ByteSeq) (v : _) → q.left ≡ left.Bytes v → into_iter_items v ≡ [] → Leaves (StandsBefore remaining) SeqStands old old q
+  pub leaves-bytes : (old : ByteSource S) (q : ByteSeq) (v : _) → q.left ≡ left.Bytes v → into_iter_items v ≡ [] →
+      Leaves (StandsBefore remaining) SeqStands old old q
   leaves-bytes old q v is nothing = (
     λ l form its f (b, u, (s, r, stand, rest, e), lv, none, few) (lq, hold).
         let held : HoldsItems (left.Bytes v) form its = subst (λ k. HoldsItems k form its) is hold in
@@ -321,26 +537,40 @@ module _ {S : Type 0} (remaining : S → Option (List ℕ)) where
         let at : l ≡ Some old.levels = ap (λ k. inside k l) (sym held.0) ∙ lv in
         let levels : old.levels ≡ q.levels = same-level old.levels q.levels (sym at ∙ lq) in (
           sym held.1 ∙ ap (map unsigned) nothing,
-          stands-past remaining old old l q b f refl levels none (let gone = due-none form (length its) held.0 in omega (arith, few, gone)) u (subst (λ k. IsRest (reader_of remaining old.decoder) k f) (sym all) rest) lq,
+          stands-past remaining old old l q b f refl levels none
+              (let gone = due-none form (length its) held.0 in omega (arith, few, gone)) u
+              (subst (λ k. IsRest (reader_of remaining old.decoder) k f) (sym all) rest) lq,
         ),
-    λ l form its f (b, u, (s, r, stand, rest, e), lv, none, few) (lq, hold). absurd (subst (λ k. HoldsPairs k form its) is hold),
+    λ l form its f (b, u, (s, r, stand, rest, e), lv, none, few) (lq, hold). absurd
+        (subst (λ k. HoldsPairs k form its) is hold),
   )
     where
       same-level : (n m : ℕ) → Some n ≡ Some m → n ≡ m
       same-level n m h = cc
 
-bytes-less : (v w : _) (s : Shape) (n : ℕ) (a b z : List ℕ) → n < 18446744073709551616 → LeftOwes (left.Bytes v) s a b → HasPart s (wide n ++ b) z → LeftOwes (left.Bytes w) s a z
-bytes-less v w sequence n a b z lt owed (i, t, si, g) = subst (λ y. HasItem a y) (one_at_front (wide n) t b z (unsigned n) i (wide-head n lt) si g).1 owed
+bytes-less : (v w : _) (s : Shape) (n : ℕ) (a b z : List ℕ) → n < 18446744073709551616 → LeftOwes (left.Bytes v) s a b →
+    HasPart s (wide n ++ b) z → LeftOwes (left.Bytes w) s a z
+bytes-less v w sequence n a b z lt owed (i, t, si, g) =
+    subst (λ y. HasItem a y) (one_at_front (wide n) t b z (unsigned n) i (wide-head n lt) si g).1 owed
 bytes-less v w dictionary n a b z lt owed part = absurd owed
 
-pub less-bytes : (P Q : List ℕ → Type 0) (q q' : ByteSeq) (v w : _) (n : ℕ) → q.left ≡ left.Bytes v → q'.left ≡ left.Bytes w → n < 18446744073709551616 → ((b : List ℕ) → P b → Q (wide n ++ b)) → (b : List ℕ) → P b → (u : List ℕ) × Q u × OwesLess SeqOwes q q' b u
-less-bytes P Q q q' v w n is is' lt into b u = (wide n ++ b, into b u, λ s a z owed part. subst (λ k. LeftOwes k s a z) (sym is') (bytes-less v w s n a b z lt (subst (λ k. LeftOwes k s a b) is owed) part))
+pub less-bytes : (P Q : List ℕ → Type 0) (q q' : ByteSeq) (v w : _) (n : ℕ) → q.left ≡ left.Bytes v →
+    q'.left ≡ left.Bytes w → n < 18446744073709551616 → ((b : List ℕ) → P b → Q (wide n ++ b)) → (b : List ℕ) → P b →
+    (u : List ℕ) × Q u × OwesLess SeqOwes q q' b u
+less-bytes P Q q q' v w n is is' lt into b u = (
+  wide n ++ b,
+  into b u,
+  λ s a z owed part. subst (λ k. LeftOwes k s a z) (sym is')
+      (bytes-less v w s n a b z lt (subst (λ k. LeftOwes k s a b) is owed) part),
+)
 
 -- ---- heads that are put aside
 
-pub aside-unread : {S : Type 0} (remaining : S → Option (List ℕ)) (s : _) (pending : Option (Header × ℕ)) (h : Header) (p : ℕ) (b x y : List ℕ) → pending ≡ None → SpellsHeader x h → b ≡ x ++ y → IsHeadCounted {S = S} s (h, p) b x →
+pub aside-unread : {S : Type 0} (remaining : S → Option (List ℕ)) (s : _) (pending : Option (Header × ℕ)) (h : Header)
+    (p : ℕ) (b x y : List ℕ) → pending ≡ None → SpellsHeader x h → b ≡ x ++ y → IsHeadCounted {S = S} s (h, p) b x →
     IsUnreadBy remaining s pending y → IsUnreadBy remaining s (Some (h, p)) b
-aside-unread remaining s pending h p b x y none hd e seen u = (x, y, hd, e, subst (λ o. IsUnreadBy remaining s o y) none u, seen)
+aside-unread remaining s pending h p b x y none hd e seen u =
+    (x, y, hd, e, subst (λ o. IsUnreadBy remaining s o y) none u, seen)
 
 pub is-none : {A : Type 0} (o : Option A) (t : Bool) → t ≡ false → t ≡ is_some o → o ≡ None
 is-none None t e f = refl
@@ -348,10 +578,13 @@ is-none (Some h) t e f = cc
 
 -- ---- what is read ahead before
 
-module _ {S : Type 0} (remaining : S → Option (List ℕ)) (old mid : ByteSource S) (q : ByteSeq) (still : StandsStill remaining old mid q) where
+module _ {S : Type 0} (remaining : S → Option (List ℕ)) (old mid : ByteSource S) (q : ByteSeq)
+    (still : StandsStill remaining old mid q) where
   pub still-next : (E : Type 0) (r : Result Bool E) (new : ByteSource S) (q' : ByteSeq) →
-      IfOk r (λ b. MatchBool b (GoesOn (StandsBefore remaining) SeqStands mid new q q') (Leaves (StandsBefore remaining) SeqStands mid new q)) →
-      IfOk r (λ b. MatchBool b (GoesOn (StandsBefore remaining) SeqStands old new q q') (Leaves (StandsBefore remaining) SeqStands old new q))
+      IfOk r (λ b. MatchBool b (GoesOn (StandsBefore remaining) SeqStands mid new q q')
+      (Leaves (StandsBefore remaining) SeqStands mid new q)) →
+      IfOk r (λ b. MatchBool b (GoesOn (StandsBefore remaining) SeqStands old new q q')
+      (Leaves (StandsBefore remaining) SeqStands old new q))
   still-next E (Ok true) new q' (goes, enters) = (
     λ l form is f st hold. goes l form is f (still.0 l form is f st hold) hold,
     λ l form ps f st hold. enters l form ps f (still.1 l form ps f st hold) hold,
@@ -362,7 +595,9 @@ module _ {S : Type 0} (remaining : S → Option (List ℕ)) (old mid : ByteSourc
   )
   still-next E (Err e) new q' h = tt
 
-  pub still-refused : (E : Type 0) (r : Result Bool E) (cause : E → Fault) → IfErr r (λ e. RefusesNext (StandsBefore remaining) SeqStands mid q (cause e)) → IfErr r (λ e. RefusesNext (StandsBefore remaining) SeqStands old q (cause e))
+  pub still-refused : (E : Type 0) (r : Result Bool E) (cause : E → Fault) →
+      IfErr r (λ e. RefusesNext (StandsBefore remaining) SeqStands mid q (cause e)) →
+      IfErr r (λ e. RefusesNext (StandsBefore remaining) SeqStands old q (cause e))
   still-refused E (Ok b) cause h = tt
   still-refused E (Err e) cause (items, ends) = (
     λ l form is f st hold. items l form is f (still.0 l form is f st hold) hold,

@@ -1,5 +1,6 @@
 -- A head that is looked at and not taken.
-use Rattle.std.proofs.Common.{◌≡◌, ◌≤◌, ◌+◌, ℕ, Bool, false, List, ◌++◌, Option, Some, refl, sym, ap, ◌∙◌, subst, append_assoc, arith, length-append}
+use Rattle.std.proofs.Common.{◌≡◌, ◌≤◌, ◌+◌, ℕ, Bool, false, List, ◌++◌, Option, Some, refl, sym, ap, ◌∙◌, subst}
+use Rattle.std.proofs.Common.{append_assoc, arith, length-append}
 use Rattle.ciborium_ll.specs.declared.header.Header.{Header}
 use Rattle.ciborium_ll.specs.declared.header.Header.TheVariants as header
 use Rattle.ciborium_ll.specs.Header.{SpellsHeader}
@@ -9,13 +10,15 @@ use Rattle.ciborium.proofs.Items.Due.{held-pending}
 use Rattle.ciborium_value.specs.Sources.{Fault, IsOutsideFault, RefusesToTell, TakesNothing, Tells}
 use Rattle.ciborium_value.specs.Taken.{is_null, is_null_simple}
 use Rattle.ciborium.specs.declared.de.byte_source.ByteSource.{ByteSource}
-use Rattle.ciborium.specs.inner.ByteSources.{IsUnread, StandsBefore, bytes_weight, items_due_behind, head_weight, weight_left, end_at, reader_of}
+use Rattle.ciborium.specs.inner.ByteSources.{IsUnread, StandsBefore, bytes_weight, items_due_behind, head_weight}
+use Rattle.ciborium.specs.inner.ByteSources.{weight_left, end_at, reader_of}
 use Rattle.ciborium.specs.inner.FrontItems.{TakesHead, DeniesHead}
 use Rattle.ciborium.specs.inner.Unread.{IsRest}
 use Rattle.ciborium.proofs.Items.ItemHeads.{header_of, first-head, first-payload, same-head, by-shape}
 use Rattle.ciborium.proofs.Items.TakenOnly.{IsKept, kept-reader, rest-end}
 
-pub null-simple : (h : Header) (n : ℕ) → h ≡ header.Simple n → (i : Item) → header_of i ≡ h → is_null_simple n ≡ is_null i
+pub null-simple : (h : Header) (n : ℕ) → h ≡ header.Simple n → (i : Item) → header_of i ≡ h →
+    is_null_simple n ≡ is_null i
 null-simple h n is i e = by i (e ∙ is)
   where
     by : (i : Item) → header_of i ≡ header.Simple n → is_null_simple n ≡ is_null i
@@ -31,22 +34,45 @@ null-simple h n is i e = by i (e ∙ is)
 
 pub null-other : (h : Header) → ((n : ℕ) → h ≡ header.Simple n → ⊥) → (i : Item) → header_of i ≡ h → false ≡ is_null i
 null-other h p i e =
-    by-shape (λ j. false ≡ is_null j) h (λ n k. refl) (λ n k. refl) (λ o b k. refl) (λ o b k. refl) (λ o is k. refl) (λ o ps k. refl) (λ n k. absurd (p n k)) (λ raw k. refl) (λ t j k. refl) i e
+    by-shape (λ j. false ≡ is_null j) h (λ n k. refl) (λ n k. refl) (λ o b k. refl) (λ o b k. refl) (λ o is k. refl)
+    (λ o ps k. refl) (λ n k. absurd (p n k)) (λ raw k. refl) (λ t j k. refl) i e
 
-module _ {S : Type 0} (remaining : S → Option (List ℕ)) (old mid new : ByteSource S) (h : Header) (took : TakesHead (IsUnread remaining) old mid h)
-    (back : (b x y : List ℕ) → IsUnread remaining old b → SpellsHeader x h → b ≡ x ++ y → IsUnread remaining mid y → IsUnread remaining new b) where
-  pub tells : (answer : Bool) → IsKept remaining old new → bytes_weight new + head_weight h ≤ weight_left old → new.levels ≡ old.levels → ((i : Item) → header_of i ≡ h → answer ≡ is_null i) → Tells (StandsBefore remaining) old new answer
+module _ {S : Type 0} (remaining : S → Option (List ℕ)) (old mid new : ByteSource S) (h : Header)
+    (took : TakesHead (IsUnread remaining) old mid h)
+    (back : (b x y : List ℕ) → IsUnread remaining old b → SpellsHeader x h → b ≡ x ++ y → IsUnread remaining mid y →
+    IsUnread remaining new b) where
+  pub tells : (answer : Bool) → IsKept remaining old new → bytes_weight new + head_weight h ≤ weight_left old →
+      new.levels ≡ old.levels → ((i : Item) → header_of i ≡ h → answer ≡ is_null i) →
+      Tells (StandsBefore remaining) old new answer
   tells answer kept fewer levels said l i f (b, u, (s, r, sp, rest, e), is, ahead, few) =
-      let (x, y, hd, g, un) = took b u in
-      (said i (same-head s r x y i h sp hd (sym e ∙ g)).0, (b, back b x y u hd g un, (s, r, sp, subst (λ n. IsRest n r f) (sym (kept-reader remaining old new kept b u)) rest, e), is ∙ ap Some (sym levels), tt, held-pending old new kept.0 (items_due_behind f) h fewer few))
+      let (x, y, hd, g, un) = took b u in (
+        said i (same-head s r x y i h sp hd (sym e ∙ g)).0,
+        (
+          b,
+          back b x y u hd g un,
+          (
+            s,
+            r,
+            sp,
+            subst (λ n. IsRest n r f) (sym (kept-reader remaining old new kept b u))
+                rest,
+            e,
+          ),
+          is ∙ ap Some (sym levels),
+          tt,
+          held-pending old new kept.0 (items_due_behind f) h fewer few,
+        ),
+      )
 
   pub takes-nothing : TakesNothing (IsUnread remaining) old new
   takes-nothing b u = let (x, y, hd, g, un) = took b u in (b, back b x y u hd g un, refl)
 
-pub refuses-to-tell : {S : Type 0} (remaining : S → Option (List ℕ)) (old : ByteSource S) (fault : Fault) → DeniesHead (IsUnread remaining) (end_at remaining) old fault → RefusesToTell (StandsBefore remaining) old fault
+pub refuses-to-tell : {S : Type 0} (remaining : S → Option (List ℕ)) (old : ByteSource S) (fault : Fault) →
+    DeniesHead (IsUnread remaining) (end_at remaining) old fault → RefusesToTell (StandsBefore remaining) old fault
 refuses-to-tell remaining old fault denied l i f (b, u, (s, r, sp, rest, e), is, ahead, few) =
     let (x, y, hd, g) = first-head s i sp in
     let there = first-payload s i sp in
     let more = length-append y r in
     subst (λ n. IsOutsideFault n fault) (sym (rest-end (reader_of remaining old.decoder) r f rest))
-    (denied b x (y ++ r) (header_of i) u hd (e ∙ ap (λ (k : List ℕ). k ++ r) g ∙ append_assoc x y r) (omega (arith, there, more)))
+    (denied b x (y ++ r) (header_of i) u hd (e ∙ ap (λ (k : List ℕ). k ++ r) g ∙ append_assoc x y r)
+    (omega (arith, there, more)))

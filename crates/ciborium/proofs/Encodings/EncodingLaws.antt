@@ -1,5 +1,7 @@
 -- The encoding of a tree is its own alone, and the shortest spelling.
-use Rattle.std.proofs.Common.{◌≡◌, ℕ, ◌<◌, ◌⊎◌, inl, inr, List, [], ◌++◌, length, true, false, pos, negsuc, IsUtf8, refl, sym, ap, ◌∙◌, subst, arith, length-append, append-nil, Ordering, Less, Equal, Greater, nat_cmp}
+use Rattle.std.proofs.Common.{◌≡◌, ℕ, ◌<◌, ◌⊎◌, inl, inr, List, [], ◌++◌, length, true, false, pos, negsuc, IsUtf8}
+use Rattle.std.proofs.Common.{refl, sym, ap, ◌∙◌, subst, arith, length-append, append-nil, Ordering, Less, Equal}
+use Rattle.std.proofs.Common.{Greater, nat_cmp}
 use Rattle.std.proofs.lemmas.Cmp.{tied_itself, nat_cmp_total}
 use Rattle.std.proofs.lemmas.Bool.Decides.{nat_tests}
 use Rattle.std.proofs.Math.Nat.{eq-or-lt_of_le}
@@ -11,8 +13,10 @@ use Rattle.ciborium_ll.specs.Item.{items_count, pairs_count}
 use Rattle.ciborium_ll.specs.Spells.{IsDefiniteString, IsContainer, Spells, SpellsItems, SpellsPairs}
 use Rattle.ciborium_ll.proofs.ShortestHead.{none_is_shorter, no_other_is_as_short}
 use Rattle.ciborium_ll.proofs.UniqueSpelling.{one_item}
-use Rattle.ciborium_value.specs.Encoding.{item_of, items_of, pairs_of, encoding, items_bytes, pairs_bytes, written_tree, written_trees, written_pairs}
-use Rattle.ciborium_value.specs.Tree.{Tree, integer, bytes, text, boolean, null, tag, array, map, Trees, no_trees, tree, TreePairs, no_tree_pairs, tree_pair}
+use Rattle.ciborium_value.specs.Encoding.{item_of, items_of, pairs_of, encoding, items_bytes, pairs_bytes, written_tree}
+use Rattle.ciborium_value.specs.Encoding.{written_trees, written_pairs}
+use Rattle.ciborium_value.specs.Tree.{Tree, integer, bytes, text, boolean, null, tag, array, map, Trees, no_trees, tree}
+use Rattle.ciborium_value.specs.Tree.{TreePairs, no_tree_pairs, tree_pair}
 use Rattle.ciborium.specs.laws.EncodingLaws.{OneTree, EncodingSpells, OthersAreLonger, HeadsRise}
 use Rattle.ciborium_value.proofs.Orders.HeadsInOrder.{heads_decide}
 use Rattle.ciborium_value.proofs.Orders.TreeEncodings.{encoding-spells}
@@ -37,7 +41,8 @@ mutual
 
   written_trees-items_of : (vs : Trees) → written_trees (items_of vs) ≡ vs
   written_trees-items_of no_trees = refl
-  written_trees-items_of (tree v vs) = ap (λ w. tree w (written_trees (items_of vs))) (written_tree-item_of v) ∙ ap (tree v) (written_trees-items_of vs)
+  written_trees-items_of (tree v vs) = ap (λ w. tree w (written_trees (items_of vs))) (written_tree-item_of v) ∙
+      ap (tree v) (written_trees-items_of vs)
 
   written_pairs-pairs_of : (ps : TreePairs) → written_pairs (pairs_of ps) ≡ ps
   written_pairs-pairs_of no_tree_pairs = refl
@@ -48,7 +53,8 @@ mutual
 
 pub one_tree : OneTree
 one_tree v w h k e =
-    let same : item_of v ≡ item_of w = one_item (encoding v) (item_of v) (item_of w) (encoding-spells v h) (subst (λ b. Spells b (item_of w)) (sym e) (encoding-spells w k)) in
+    let same : item_of v ≡ item_of w = one_item (encoding v) (item_of v) (item_of w) (encoding-spells v h)
+    (subst (λ b. Spells b (item_of w)) (sym e) (encoding-spells w k)) in
     sym (written_tree-item_of v) ∙ ap written_tree same ∙ written_tree-item_of w
 
 -- ---- the shortest spelling
@@ -66,17 +72,22 @@ joined_longer a b s t (inr h) (inr k) = inr (omega (arith, h, k, length-append a
 head_longer : (major n : ℕ) (s : List ℕ) → IsHead s major n → IsOrLonger (shortest_head major n) s
 head_longer major n s h = by_length (eq-or-lt_of_le (none_is_shorter s major n h))
   where
-    by_length : (length (shortest_head major n) ≡ length s) ⊎ (length (shortest_head major n) < length s) → IsOrLonger (shortest_head major n) s
+    by_length : (length (shortest_head major n) ≡ length s) ⊎ (length (shortest_head major n) < length s) →
+        IsOrLonger (shortest_head major n) s
     by_length (inl same) = inl (no_other_is_as_short s major n h (omega (arith, same)))
     by_length (inr long) = inr long
 
-string_longer : (major : ℕ) (IsAllowed : List ℕ → Type 0) (s b : List ℕ) → IsDefiniteString major IsAllowed s b → IsOrLonger (shortest_head major (length b) ++ b) s
+string_longer : (major : ℕ) (IsAllowed : List ℕ → Type 0) (s b : List ℕ) → IsDefiniteString major IsAllowed s b →
+    IsOrLonger (shortest_head major (length b) ++ b) s
 string_longer major IsAllowed s b (h, spelled, allowed, e) =
-    subst (IsOrLonger (shortest_head major (length b) ++ b)) (sym e) (joined_longer (shortest_head major (length b)) b h b (head_longer major (length b) h spelled) (inl refl))
+    subst (IsOrLonger (shortest_head major (length b) ++ b)) (sym e)
+    (joined_longer (shortest_head major (length b)) b h b (head_longer major (length b) h spelled) (inl refl))
 
-enclosed_longer : (major count : ℕ) (s r b : List ℕ) → IsContainer false major count s r → IsOrLonger b r → IsOrLonger (shortest_head major count ++ b) s
+enclosed_longer : (major count : ℕ) (s r b : List ℕ) → IsContainer false major count s r → IsOrLonger b r →
+    IsOrLonger (shortest_head major count ++ b) s
 enclosed_longer major count s r b (h, spelled, e) parts =
-    subst (IsOrLonger (shortest_head major count ++ b)) (sym e) (joined_longer (shortest_head major count) b h r (head_longer major count h spelled) parts)
+    subst (IsOrLonger (shortest_head major count ++ b)) (sym e)
+    (joined_longer (shortest_head major count) b h r (head_longer major count h spelled) parts)
 
 simple_longer : (n : ℕ) (s : List ℕ) → n < 24 → IsSimple s n → IsOrLonger (simple_bytes n) s
 simple_longer n s small (inl h) = inl (h.1 ∙ grind (arith, nat_tests, small))
@@ -92,22 +103,29 @@ mutual
   others_longer (boolean true) s h = simple_longer 21 s (omega arith) h
   others_longer null s h = simple_longer 22 s (omega arith) h
   others_longer (tag t v) s (h, r, spelled, content, e) =
-      subst (IsOrLonger (encoding (tag t v))) (sym e) (joined_longer (shortest_head 6 t) (encoding v) h r (head_longer 6 t h spelled) (others_longer v r content))
-  others_longer (array vs) s h = enclosed_longer 4 (items_count (items_of vs)) s h.0 (items_bytes (items_of vs)) h.2 (other_items_longer vs h.0 h.1)
-  others_longer (map ps) s h = enclosed_longer 5 (pairs_count (pairs_of ps)) s h.0 (pairs_bytes (pairs_of ps)) h.2 (other_pairs_longer ps h.0 h.1)
+      subst (IsOrLonger (encoding (tag t v))) (sym e) (joined_longer (shortest_head 6 t) (encoding v) h r
+      (head_longer 6 t h spelled) (others_longer v r content))
+  others_longer (array vs) s h = enclosed_longer 4 (items_count (items_of vs)) s h.0 (items_bytes (items_of vs)) h.2
+      (other_items_longer vs h.0 h.1)
+  others_longer (map ps) s h = enclosed_longer 5 (pairs_count (pairs_of ps)) s h.0 (pairs_bytes (pairs_of ps)) h.2
+      (other_pairs_longer ps h.0 h.1)
 
-  other_items_longer : (vs : Trees) (s : List ℕ) → SpellsItems s (items_of vs) → IsOrLonger (items_bytes (items_of vs)) s
+  other_items_longer : (vs : Trees) (s : List ℕ) → SpellsItems s (items_of vs) →
+      IsOrLonger (items_bytes (items_of vs)) s
   other_items_longer no_trees s h = inl h
   other_items_longer (tree v vs) s (t, r, first, more, e) =
       subst (IsOrLonger (items_bytes (items_of (tree v vs)))) (sym e)
-      (joined_longer (encoding v) (items_bytes (items_of vs)) t r (others_longer v t first) (other_items_longer vs r more))
+      (joined_longer (encoding v) (items_bytes (items_of vs)) t r (others_longer v t first)
+      (other_items_longer vs r more))
 
-  other_pairs_longer : (ps : TreePairs) (s : List ℕ) → SpellsPairs s (pairs_of ps) → IsOrLonger (pairs_bytes (pairs_of ps)) s
+  other_pairs_longer : (ps : TreePairs) (s : List ℕ) → SpellsPairs s (pairs_of ps) →
+      IsOrLonger (pairs_bytes (pairs_of ps)) s
   other_pairs_longer no_tree_pairs s h = inl h
   other_pairs_longer (tree_pair k v ps) s h =
       subst (IsOrLonger (pairs_bytes (pairs_of (tree_pair k v ps)))) (sym h.6)
       (joined_longer (encoding k) (encoding v ++ pairs_bytes (pairs_of ps)) h.0 (h.1 ++ h.2) (others_longer k h.0 h.3)
-      (joined_longer (encoding v) (pairs_bytes (pairs_of ps)) h.1 h.2 (others_longer v h.1 h.4) (other_pairs_longer ps h.2 h.5)))
+      (joined_longer (encoding v) (pairs_bytes (pairs_of ps)) h.1 h.2 (others_longer v h.1 h.4)
+      (other_pairs_longer ps h.2 h.5)))
 
 pub others_are_longer : OthersAreLonger
 others_are_longer v s h spelled = others_longer v s spelled

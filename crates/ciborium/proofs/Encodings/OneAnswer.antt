@@ -1,5 +1,6 @@
 -- Known bytes and a limit leave one answer.
-use Rattle.std.proofs.Common.{◌≡◌, ℕ, ◌⊎◌, List, [], ◌∷◌, Option, Some, None, option_map, Ok, Err, sym, ap, ◌∙◌, inl, inr, refl}
+use Rattle.std.proofs.Common.{◌≡◌, ℕ, ◌⊎◌, List, [], ◌∷◌, Option, Some, None, option_map, Ok, Err, sym, ap, ◌∙◌, inl}
+use Rattle.std.proofs.Common.{inr, refl}
 use Rattle.std.specs.declared.io.Error.{Error as IoError}
 use Rattle.ciborium_ll.specs.Refusal as refusal
 use Rattle.ciborium_ll.specs.Refusal.{Refusal}
@@ -17,7 +18,8 @@ use Rattle.ciborium.specs.Errors.{IsRefusedBy, IsNamed, refusal_kind_of}
 use Rattle.ciborium.proofs.Readers.Outcomes.{only-fails}
 
 -- an error is a failure, or names a refusal of which P holds
-names : (left : Option (List ℕ)) (e : Error IoError) (P : Refusal → Type 0) → IsRefusedBy left e P → IsFailed left e ⊎ ((r : Refusal) × (refusal_of e ≡ Some r) × P r)
+names : (left : Option (List ℕ)) (e : Error IoError) (P : Refusal → Type 0) → IsRefusedBy left e P →
+    IsFailed left e ⊎ ((r : Refusal) × (refusal_of e ≡ Some r) × P r)
 names None (errors.Io x) P h = inl (λ end. absurd cc)
 names (Some []) (errors.Io x) P h = inr (refusal.io, refl, h refl)
 names (Some (n ∷ r)) (errors.Io x) P h = inl (λ end. absurd cc)
@@ -27,7 +29,8 @@ names left (errors.Semantic (Some p) k) P h = by (refusal_kind_of k) h
     at : Error IoError
     at = errors.Semantic (Some p) k
 
-    by : (o : Option refusal.Kind) → IsNamed (Some p) o P → IsFailed left at ⊎ ((r : Refusal) × (option_map (refusal.semantic p) o ≡ Some r) × P r)
+    by : (o : Option refusal.Kind) → IsNamed (Some p) o P →
+        IsFailed left at ⊎ ((r : Refusal) × (option_map (refusal.semantic p) o ≡ Some r) × P r)
     by (Some n) h = inr (refusal.semantic p n, refl, h)
     by None h = absurd h
 names left (errors.Semantic None k) P h = absurd h
@@ -39,17 +42,21 @@ some-tree : (v w : Tree) → Some v ≡ Some w → v ≡ w
 some-tree v w e = cc e
 
 pub one_answer : OneAnswer
-one_answer b l left right (Ok v) (Ok w) bytes (s, zs, (i, good, means), split, at) (t, ys, (j, fine, same), whole, here) =
+one_answer b l left right (Ok v) (Ok w) bytes (s, zs, (i, good, means), split, at) (t, ys, (j, fine, same), whole, here)
+    =
     let one = one_at_front s t zs ys i j good.0 fine.0 (sym split ∙ whole) in
     (some-tree (tree_of v) (tree_of w) (sym means ∙ ap meaning one.2 ∙ same), at ∙ ap (λ z. Some z) one.1 ∙ sym here)
 one_answer b l left right (Ok v) (Err f) bytes (s, zs, (i, good, means), split, at) h =
     only-fails right f (λ r. Refuses b 0 (Some l) r) (λ r. never_both b 0 (Some l) r bytes (s, i, zs, good, split)) h
 one_answer b l left right (Err e) (Ok w) bytes h (t, ys, (j, fine, same), whole, here) =
     only-fails left e (λ r. Refuses b 0 (Some l) r) (λ r. never_both b 0 (Some l) r bytes (t, j, ys, fine, whole)) h
-one_answer b l left right (Err e) (Err f) bytes h k = by (names left e (λ r. Refuses b 0 (Some l) r) h) (names right f (λ r. Refuses b 0 (Some l) r) k)
+one_answer b l left right (Err e) (Err f) bytes h k = by (names left e (λ r. Refuses b 0 (Some l) r) h)
+    (names right f (λ r. Refuses b 0 (Some l) r) k)
   where
-    by : IsFailed left e ⊎ ((r : Refusal) × (refusal_of e ≡ Some r) × Refuses b 0 (Some l) r) → IsFailed right f ⊎ ((r : Refusal) × (refusal_of f ≡ Some r) × Refuses b 0 (Some l) r) →
+    by : IsFailed left e ⊎ ((r : Refusal) × (refusal_of e ≡ Some r) × Refuses b 0 (Some l) r) →
+        IsFailed right f ⊎ ((r : Refusal) × (refusal_of f ≡ Some r) × Refuses b 0 (Some l) r) →
         IsFailed left e ⊎ IsFailed right f ⊎ (refusal_of e ≡ refusal_of f)
     by (inl x) y = inl x
     by (inr x) (inl y) = inr (inl y)
-    by (inr (r, is, x)) (inr (s, at, y)) = inr (inr (is ∙ ap (λ z. Some z) (one_refusal b 0 (Some l) r s bytes x y) ∙ sym at))
+    by (inr (r, is, x)) (inr (s, at, y)) = inr (inr (is ∙ ap (λ z. Some z) (one_refusal b 0 (Some l) r s bytes x y) ∙
+        sym at))

@@ -34,17 +34,20 @@ second_tied Greater p e = absurd cc
 -- proper trees that it ties are one
 key_order-tied : (o : KeyOrder) (v w : Tree) → IsProperTree v → IsProperTree w → key_order o v w ≡ Equal → v ≡ w
 key_order-tied LengthFirst v w h k e =
-    one_tree v w h k (tied_encodings v w (second_tied (nat_cmp (encoded_size v) (encoded_size w)) (slice_cmp nat_cmp (encoding v) (encoding w)) e))
+    one_tree v w h k (tied_encodings v w (second_tied (nat_cmp (encoded_size v) (encoded_size w))
+    (slice_cmp nat_cmp (encoding v) (encoding w)) e))
 key_order-tied Bytewise v w h k e = one_tree v w h k (tied_encodings v w e)
 
 -- where values that are tied are one, it is the order of their trees
-pub ordered_value_cmp-is : (k : KeyOrder) (v w : Value) (o : Ordering) → (o ≡ Equal → tree_of v ≡ tree_of w) → o ≡ key_order k (tree_of v) (tree_of w) → o ≡ ordered_value_cmp k v w
+pub ordered_value_cmp-is : (k : KeyOrder) (v w : Value) (o : Ordering) → (o ≡ Equal → tree_of v ≡ tree_of w) →
+    o ≡ key_order k (tree_of v) (tree_of w) → o ≡ ordered_value_cmp k v w
 ordered_value_cmp-is k v w o ties e =
     e ∙ first_decides (key_order k (tree_of v) (tree_of w)) (value_cmp v w)
     (λ t. value_cmp-is v w ∙ (tied_where_equal (tree_of v) (tree_of w)).1 (ties (e ∙ t)))
 
 pub is_order_of_trees : (o : KeyOrder) → IsOrderOfTrees o
-is_order_of_trees o v w h k = sym (ordered_value_cmp-is o v w (key_order o (tree_of v) (tree_of w)) (key_order-tied o (tree_of v) (tree_of w) h k) refl)
+is_order_of_trees o v w h k = sym (ordered_value_cmp-is o v w (key_order o (tree_of v) (tree_of w))
+    (key_order-tied o (tree_of v) (tree_of w) h k) refl)
 
 pub ties_equal_ones : (o : KeyOrder) → TiesEqualOnes o
 ties_equal_ones o v w h k = (

@@ -22,7 +22,9 @@ use Rattle.ciborium.specs.laws.OrdersOfValues.{KeysRise}
 use Rattle.ciborium.specs.Writes.{IsNamedWritten}
 
 -- the keys of a map that can be written are trees that a program can hold
-proper_keys : {A : Type 0} (f : A → Named) (es : List (Value × A)) (is : List Item) → all_named (in_turn named_value f es) ≡ Ok is → PairsAreWritten (pairs_from is) → AllByRecursion (λ v. IsProperTree (tree_of v)) (keys_of es)
+proper_keys : {A : Type 0} (f : A → Named) (es : List (Value × A)) (is : List Item) →
+    all_named (in_turn named_value f es) ≡ Ok is → PairsAreWritten (pairs_from is) →
+    AllByRecursion (λ v. IsProperTree (tree_of v)) (keys_of es)
 proper_keys f [] is h w = tt
 proper_keys f (e ∷ es) is h w =
     let a = and_then_is (named_value e.0) (and_then (f e.1) (all_named (in_turn named_value f es))) is h in
@@ -36,19 +38,27 @@ proper_keys f (e ∷ es) is h w =
     ok_is i j h = cc
 
 module _ (o : KeyOrder) where
-  below_all : (v : Value) (ws : List Value) → IsProperTree (tree_of v) → AllByRecursion (λ w. IsProperTree (tree_of w)) ws → AllByRecursion (λ w. ordered_value_cmp o v w ≡ Less) ws →
+  below_all : (v : Value) (ws : List Value) → IsProperTree (tree_of v) →
+      AllByRecursion (λ w. IsProperTree (tree_of w)) ws → AllByRecursion (λ w. ordered_value_cmp o v w ≡ Less) ws →
       AllByRecursion (λ t. key_order o (tree_of v) t ≡ Less) (map tree_of ws)
   below_all v [] proper each below = tt
-  below_all v (w ∷ ws) proper each below = (sym (is_order_of_trees o v w proper each.0) ∙ below.0, below_all v ws proper each.1 below.1)
+  below_all v (w ∷ ws) proper each below = (
+    sym (is_order_of_trees o v w proper each.0) ∙ below.0,
+    below_all v ws proper each.1 below.1,
+  )
 
-  rising : (vs : List Value) → AllByRecursion (λ v. IsProperTree (tree_of v)) vs → IsStrictlySortedBy (ordered_value_cmp o) vs → IsStrictlySortedBy (key_order o) (map tree_of vs)
+  rising : (vs : List Value) → AllByRecursion (λ v. IsProperTree (tree_of v)) vs →
+      IsStrictlySortedBy (ordered_value_cmp o) vs → IsStrictlySortedBy (key_order o) (map tree_of vs)
   unfolding IsStrictlySortedBy
   rising [] proper h = tt
   rising (v ∷ vs) proper h = (below_all v vs proper.0 proper.1 h.0, rising vs proper.1 h.1)
 
-  pub keys-rise : {A : Type 0} (f : A → Named) (es : List (Value × A)) → IsStrictlySortedBy (ordered_value_cmp o) (keys_of es) → IsNamedWritten (container_of dictionary (in_turn named_value f es)) → KeysRise o es
+  pub keys-rise : {A : Type 0} (f : A → Named) (es : List (Value × A)) →
+      IsStrictlySortedBy (ordered_value_cmp o) (keys_of es) →
+      IsNamedWritten (container_of dictionary (in_turn named_value f es)) → KeysRise o es
   keys-rise f es h w = by (all_named (in_turn named_value f es)) refl w
     where
-      by : (r : Result (List Item) Kind) → all_named (in_turn named_value f es) ≡ r → IsNamedWritten (contained dictionary false r) → KeysRise o es
+      by : (r : Result (List Item) Kind) → all_named (in_turn named_value f es) ≡ r →
+          IsNamedWritten (contained dictionary false r) → KeysRise o es
       by (Err k) e w = absurd w
       by (Ok is) e w = rising (keys_of es) (proper_keys f es is e w.1) h

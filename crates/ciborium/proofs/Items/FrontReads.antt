@@ -1,5 +1,7 @@
 -- What stands at the front of unread bytes, where a head is read or refused.
-use Rattle.std.proofs.Common.{◌≡◌, ℕ, suc, ◌+◌, ◌-◌, ◌*◌, add-zero, Ok, ◌/◌, ◌%◌, ◌<◌, ◌≤◌, cond, ltb, Bool, true, false, ◌&&◌, List, [], ◌∷◌, ◌++◌, length, Option, Some, None, refl, sym, ap, ◌∙◌, subst, arith, ne_eqb, ◌⊎◌, inl, inr, length-append, ltb-true, ltb-false}
+use Rattle.std.proofs.Common.{◌≡◌, ℕ, suc, ◌+◌, ◌-◌, ◌*◌, add-zero, Ok, ◌/◌, ◌%◌, ◌<◌, ◌≤◌, cond, ltb, Bool, true}
+use Rattle.std.proofs.Common.{false, ◌&&◌, List, [], ◌∷◌, ◌++◌, length, Option, Some, None, refl, sym, ap, ◌∙◌, subst}
+use Rattle.std.proofs.Common.{arith, ne_eqb, ◌⊎◌, inl, inr, length-append, ltb-true, ltb-false}
 use Rattle.std.proofs.lemmas.Nat.{div-mul-add, mod-mul-add}
 use Rattle.ciborium_ll.specs.declared.header.Header.{Header}
 use Rattle.ciborium_ll.specs.declared.header.Header.TheVariants as header
@@ -12,7 +14,8 @@ use Rattle.ciborium_ll.specs.Head.{initial_byte}
 use Rattle.ciborium_ll.specs.Header.{SpellsHeader, announced_length}
 use Rattle.ciborium_ll.specs.ReaderSteps as reading
 use Rattle.ciborium_ll.specs.ReaderSteps.{IsHeadTaken}
-use Rattle.ciborium_ll.specs.Refusal.{Refusal, io, syntax, too_long, argument_length, payload_length, is_reserved, is_low_simple, initial_refusal, HeadRefuses, IsUsable, head_refusal}
+use Rattle.ciborium_ll.specs.Refusal.{Refusal, io, syntax, too_long, argument_length, payload_length, is_reserved}
+use Rattle.ciborium_ll.specs.Refusal.{is_low_simple, initial_refusal, HeadRefuses, IsUsable, head_refusal}
 use Rattle.ciborium_ll.proofs.HeadAnswers.{header-begins, header-fits, Begins, Facts}
 use Rattle.ciborium_ll.proofs.MoreBytes.{payload_length-more}
 use Rattle.ciborium_ll.proofs.OneHeader.{one_header_at_front}
@@ -20,26 +23,32 @@ use Rattle.ciborium_ll.proofs.UsableHeads.{and_false}
 use Rattle.ciborium_value.specs.Sources.{IsOutsideFault}
 use Rattle.ciborium.specs.declared.de.byte_source.ByteSource.{ByteSource}
 use Rattle.ciborium.specs.Errors.{from_ll}
-use Rattle.ciborium.specs.inner.ByteSources.{IsHeadCounted, IsUnreadBy, bytes_weight, pending_head_weight, head_weight, weight_left}
+use Rattle.ciborium.specs.inner.ByteSources.{IsHeadCounted, IsUnreadBy, bytes_weight, pending_head_weight, head_weight}
+use Rattle.ciborium.specs.inner.ByteSources.{weight_left}
 use Rattle.ciborium.specs.Errors.{fault_of}
 
 -- ---- a head that is spelled is not refused as ill-formed
 
-initial-never : (t u v w : Bool) (p q : ℕ) → t ≡ false → cond t (Some (syntax p)) (cond u (Some too_long) (cond v (Some io) (cond w (Some too_long) None))) ≡ Some (syntax q) → ⊥
+initial-never : (t u v w : Bool) (p q : ℕ) → t ≡ false →
+    cond t (Some (syntax p)) (cond u (Some too_long) (cond v (Some io) (cond w (Some too_long) None))) ≡ Some (syntax q)
+    → ⊥
 initial-never true u v w p q e h = cc
 initial-never false true v w p q e h = cc
 initial-never false false true w p q e h = cc
 initial-never false false false true p q e h = cc
 initial-never false false false false p q e h = cc
 
-head-never : (t u : Bool) (r : Option Refusal) (p q : ℕ) → u ≡ false → (r ≡ Some (syntax q) → ⊥) → cond t (cond u (Some (syntax p)) r) (Some too_long) ≡ Some (syntax q) → ⊥
+head-never : (t u : Bool) (r : Option Refusal) (p q : ℕ) → u ≡ false → (r ≡ Some (syntax q) → ⊥) →
+    cond t (cond u (Some (syntax p)) r) (Some too_long) ≡ Some (syntax q) → ⊥
 head-never true true r p q e f h = cc
 head-never true false r p q e f h = f h
 head-never false u r p q e f h = cc
 
-low-more : (m a : ℕ) (c y : List ℕ) → a < 32 → length c ≡ argument_length a → is_low_simple (initial_byte m a) c ≡ false → is_low_simple (initial_byte m a) (c ++ y) ≡ false
+low-more : (m a : ℕ) (c y : List ℕ) → a < 32 → length c ≡ argument_length a →
+    is_low_simple (initial_byte m a) c ≡ false → is_low_simple (initial_byte m a) (c ++ y) ≡ false
 low-more m a [] [] below size e = refl
-low-more m a [] (z ∷ y) below size e = ap (λ t. t && ltb z 32) (ne_eqb (initial_byte m a) 248 (λ k. not_wide (omega (arith, below, k))))
+low-more m a [] (z ∷ y) below size e = ap (λ t. t && ltb z 32)
+    (ne_eqb (initial_byte m a) 248 (λ k. not_wide (omega (arith, below, k))))
   where
     not_wide : a ≡ 24 → ⊥
     not_wide k = let n : 0 ≡ argument_length 24 = size ∙ ap argument_length k in cc
@@ -51,66 +60,92 @@ never-syntax x y h p q s r = by (header-begins x h s)
     by : Begins x (announced_length h) → ⊥
     by (m, a, c, e, f) =
         let i : ℕ = initial_byte m a in
-        let t : head_refusal (i ∷ (c ++ y)) p ≡ Some (syntax q) = ap (λ (z : List ℕ). head_refusal (z ++ y) p) (sym e) ∙ r in
-        head-never (ltb p greatest_offset) (ltb (p + 1) greatest_offset && is_low_simple i (c ++ y)) (initial_refusal (i / 32) (i % 32) (c ++ y) p) p q
+        let t : head_refusal (i ∷ (c ++ y)) p ≡ Some (syntax q) = ap (λ (z : List ℕ). head_refusal (z ++ y) p) (sym e) ∙
+        r in
+        head-never (ltb p greatest_offset) (ltb (p + 1) greatest_offset && is_low_simple i (c ++ y))
+        (initial_refusal (i / 32) (i % 32) (c ++ y) p) p q
         (and_false _ _ (low-more m a c y f.below f.size f.high))
         (initial-never (is_reserved (i / 32) (i % 32)) _ _ _ p q
-        (ap (λ k. is_reserved k (i % 32)) (div-mul-add m 32 a f.below) ∙ ap (is_reserved m) (mod-mul-add m 32 a f.below) ∙ f.fair))
+        (ap (λ k. is_reserved k (i % 32)) (div-mul-add m 32 a f.below) ∙
+        ap (is_reserved m) (mod-mul-add m 32 a f.below) ∙ f.fair))
         t
 
 -- ---- a head that is spelled, with its payload, is refused as too long only where what is there is
 
-initial-long : (t u v w : Bool) (p : ℕ) → t ≡ false → cond t (Some (syntax p)) (cond u (Some too_long) (cond v (Some io) (cond w (Some too_long) None))) ≡ Some too_long → (u ≡ true) ⊎ (w ≡ true)
+initial-long : (t u v w : Bool) (p : ℕ) → t ≡ false → cond t (Some (syntax p))
+    (cond u (Some too_long) (cond v (Some io) (cond w (Some too_long) None))) ≡ Some too_long → (u ≡ true) ⊎ (w ≡ true)
 initial-long true u v w p e h = cc
 initial-long false true v w p e h = inl refl
 initial-long false false true w p e h = cc
 initial-long false false false true p e h = inr refl
 initial-long false false false false p e h = cc
 
-head-long : (t u : Bool) (r : Option Refusal) (p : ℕ) → u ≡ false → cond t (cond u (Some (syntax p)) r) (Some too_long) ≡ Some too_long → (t ≡ false) ⊎ (r ≡ Some too_long)
+head-long : (t u : Bool) (r : Option Refusal) (p : ℕ) → u ≡ false →
+    cond t (cond u (Some (syntax p)) r) (Some too_long) ≡ Some too_long → (t ≡ false) ⊎ (r ≡ Some too_long)
 head-long true true r p e h = cc
 head-long true false r p e h = inr h
 head-long false u r p e h = inl refl
 
-pub head-passes : (x y : List ℕ) (h : Header) (p : ℕ) → SpellsHeader x h → announced_length h ≤ length y → HeadRefuses (x ++ y) p too_long → greatest_offset < p + length (x ++ y)
+pub head-passes : (x y : List ℕ) (h : Header) (p : ℕ) → SpellsHeader x h → announced_length h ≤ length y →
+    HeadRefuses (x ++ y) p too_long → greatest_offset < p + length (x ++ y)
 head-passes x y h p s there r = by (header-begins x h s)
   where
     by : Begins x (announced_length h) → greatest_offset < p + length (x ++ y)
     by (m, a, c, e, f) =
         let i : ℕ = initial_byte m a in
         let one : length x ≡ suc (length c) = ap length e in
-        let size : length (x ++ y) ≡ 1 + length c + length y = (let both = length-append x y in omega (arith, both, one)) in
-        let t : head_refusal (i ∷ (c ++ y)) p ≡ Some too_long = ap (λ (z : List ℕ). head_refusal (z ++ y) p) (sym e) ∙ r in
-        from m a c f size (head-long (ltb p greatest_offset) (ltb (p + 1) greatest_offset && is_low_simple i (c ++ y)) (initial_refusal (i / 32) (i % 32) (c ++ y) p) p
+        let size : length (x ++ y) ≡ 1 + length c + length y =
+        (let both = length-append x y in omega (arith, both, one)) in
+        let t : head_refusal (i ∷ (c ++ y)) p ≡ Some too_long = ap (λ (z : List ℕ). head_refusal (z ++ y) p) (sym e) ∙
+        r in
+        from m a c f size (head-long (ltb p greatest_offset) (ltb (p + 1) greatest_offset && is_low_simple i (c ++ y))
+        (initial_refusal (i / 32) (i % 32) (c ++ y) p) p
         (and_false _ _ (low-more m a c y f.below f.size f.high)) t)
       where
-        from : (m a : ℕ) (c : List ℕ) (f : Facts m a c (announced_length h)) → length (x ++ y) ≡ 1 + length c + length y → (ltb p greatest_offset ≡ false) ⊎ (initial_refusal (initial_byte m a / 32) (initial_byte m a % 32) (c ++ y) p ≡ Some too_long) → greatest_offset < p + length (x ++ y)
+        from : (m a : ℕ) (c : List ℕ) (f : Facts m a c (announced_length h)) →
+            length (x ++ y) ≡ 1 + length c + length y →
+            (ltb p greatest_offset ≡ false) ⊎ (initial_refusal (initial_byte m a / 32) (initial_byte m a % 32) (c ++ y)
+            p ≡ Some too_long) → greatest_offset < p + length (x ++ y)
         from m a c f size (inl past) = let over = ltb-false p greatest_offset past in omega (arith, over, size)
         from m a c f size (inr late) =
-            let plain : initial_refusal m a (c ++ y) p ≡ Some too_long = ap (λ k. initial_refusal k a (c ++ y) p) (sym (div-mul-add m 32 a f.below)) ∙ (ap (λ k. initial_refusal (initial_byte m a / 32) k (c ++ y) p) (sym (mod-mul-add m 32 a f.below)) ∙ late) in
+            let plain : initial_refusal m a (c ++ y) p ≡ Some too_long =
+            ap (λ k. initial_refusal k a (c ++ y) p) (sym (div-mul-add m 32 a f.below)) ∙
+            (ap (λ k. initial_refusal (initial_byte m a / 32) k (c ++ y) p) (sym (mod-mul-add m 32 a f.below)) ∙
+            late) in
             over (initial-long (is_reserved m a) _ _ _ p f.fair plain)
           where
-            over : (ltb greatest_offset (p + 1 + argument_length a) ≡ true) ⊎ (ltb greatest_offset (p + 1 + argument_length a + payload_length m a (c ++ y)) ≡ true) → greatest_offset < p + length (x ++ y)
-            over (inl k) = let far = ltb-true greatest_offset (p + 1 + argument_length a) k in omega (arith, far, size, f.size)
+            over : (ltb greatest_offset (p + 1 + argument_length a) ≡ true) ⊎
+                (ltb greatest_offset (p + 1 + argument_length a + payload_length m a (c ++ y)) ≡ true) →
+                greatest_offset < p + length (x ++ y)
+            over (inl k) = let far = ltb-true greatest_offset (p + 1 + argument_length a) k in
+                omega (arith, far, size, f.size)
             over (inr k) =
                 let far = ltb-true greatest_offset (p + 1 + argument_length a + payload_length m a (c ++ y)) k in
-                let same : payload_length m a (c ++ y) ≡ announced_length h = payload_length-more m a c y (omega (arith, f.size)) ∙ f.payload in
+                let same : payload_length m a (c ++ y) ≡ announced_length h =
+                payload_length-more m a c y (omega (arith, f.size)) ∙ f.payload in
                 omega (arith, far, size, f.size, same, there)
 
 -- where a head is spelled, with its payload, pulling is refused for what it does not decide
-pub head-outside : {E : Type 0} (left : Option (List ℕ)) (e : LlError E) (b x y : List ℕ) (p : ℕ) (h : Header) → SpellsHeader x h → b ≡ x ++ y → announced_length h ≤ length y → reading.IsRefusalOf left e (HeadRefuses b p) → IsOutsideFault (p + length b) (fault_of (from_ll e))
+pub head-outside : {E : Type 0} (left : Option (List ℕ)) (e : LlError E) (b x y : List ℕ) (p : ℕ) (h : Header) →
+    SpellsHeader x h → b ≡ x ++ y → announced_length h ≤ length y → reading.IsRefusalOf left e (HeadRefuses b p) →
+    IsOutsideFault (p + length b) (fault_of (from_ll e))
 head-outside left (ll.Io e) b x y p h s k there r = tt
-head-outside left (ll.Syntax q) b x y p h s k there r = absurd (never-syntax x y h p q s (subst (λ (z : List ℕ). HeadRefuses z p (syntax q)) k r))
-head-outside left ll.TooLong b x y p h s k there r = subst (λ (z : List ℕ). greatest_offset < p + length z) (sym k) (head-passes x y h p s there (subst (λ (z : List ℕ). HeadRefuses z p too_long) k r))
+head-outside left (ll.Syntax q) b x y p h s k there r =
+    absurd (never-syntax x y h p q s (subst (λ (z : List ℕ). HeadRefuses z p (syntax q)) k r))
+head-outside left ll.TooLong b x y p h s k there r = subst (λ (z : List ℕ). greatest_offset < p + length z) (sym k)
+    (head-passes x y h p s there (subst (λ (z : List ℕ). HeadRefuses z p too_long) k r))
 head-outside left ll.Memory b x y p h s k there r = tt
 
 -- ---- heads that are counted
 
-pub ahead-unpushed : {S : Type 0} (remaining : S → Option (List ℕ)) (d : Decoder S) (b : List ℕ) → d.pushed ≡ None → left_of remaining d ≡ Some b → IsAhead remaining d b d.window.count
+pub ahead-unpushed : {S : Type 0} (remaining : S → Option (List ℕ)) (d : Decoder S) (b : List ℕ) → d.pushed ≡ None →
+    left_of remaining d ≡ Some b → IsAhead remaining d b d.window.count
 ahead-unpushed remaining d b none e = subst (λ o. IsAheadBy remaining d b d.window.count o) (sym none) (refl, e)
 
 -- the head that was pending is counted as it was
-pub counted-pending : {S : Type 0} (remaining : S → Option (List ℕ)) (d : Decoder S) (pending : Option (Header × ℕ)) (h : Header × ℕ) (b x y : List ℕ) → pending ≡ Some h → IsUnreadBy remaining d pending b → SpellsHeader x h.0 → b ≡ x ++ y → IsHeadCounted d h b x
+pub counted-pending : {S : Type 0} (remaining : S → Option (List ℕ)) (d : Decoder S) (pending : Option (Header × ℕ))
+    (h : Header × ℕ) (b x y : List ℕ) → pending ≡ Some h → IsUnreadBy remaining d pending b → SpellsHeader x h.0 →
+    b ≡ x ++ y → IsHeadCounted d h b x
 counted-pending remaining d pending h b x y is u hd e fixed =
     let (z, r, hd', e', left, counted) = subst (λ o. IsUnreadBy remaining d o b) is u in
     let one = one_header_at_front z x r y h.0 h.0 hd' hd (sym e' ∙ e) in
@@ -118,10 +153,15 @@ counted-pending remaining d pending h b x y is u hd e fixed =
     (w.0, w.1 ∙ ap (λ (k : List ℕ). h.1 + length k) one.0)
 
 -- the head that was pulled is counted
-pub counted-pulled : (E : Type 0) {S : Type 0} (left : Option (List ℕ)) (d : Decoder S) (h : Header) (p at last : ℕ) (b x y : List ℕ) → at ≡ p → PullsTo {E = E} last d.window.count left b p (Ok h) → SpellsHeader x h → b ≡ x ++ y → IsHeadCounted d (h, at) b x
+pub counted-pulled : (E : Type 0) {S : Type 0} (left : Option (List ℕ)) (d : Decoder S) (h : Header) (p at last : ℕ)
+    (b x y : List ℕ) → at ≡ p → PullsTo {E = E} last d.window.count left b p (Ok h) → SpellsHeader x h → b ≡ x ++ y →
+    IsHeadCounted d (h, at) b x
 counted-pulled E left d h p at last b x y is (z, r, hd', usable, e', stood, counted, rest) hd e fixed =
-    let one = one_header_at_front z x r y h h hd' hd (sym e' ∙ e) in
-    (subst (IsUsable b) (sym is) usable, counted ∙ ap (λ (k : List ℕ). p + length k) one.0 ∙ ap (λ n. n + length x) (sym is))
+    let one = one_header_at_front z x r y h h hd' hd (sym e' ∙ e) in (
+      subst (IsUsable b) (sym is) usable,
+      counted ∙ ap (λ (k : List ℕ). p + length k) one.0 ∙
+          ap (λ n. n + length x) (sym is),
+    )
 
 -- ---- how much can still be read
 
@@ -144,7 +184,8 @@ head-some b h s = by (header-begins b h s)
     by (m, a, c, e, f) = let len : length b ≡ suc (length c) = ap length e in omega (arith, len)
 
 pub fewer-bytes : (E : Type 0) {S : Type 0} (remaining : S → Option (List ℕ)) (d e : Decoder S) (h : Header) →
-    Takes remaining d e (λ x. IsHeadTaken {E = E} x d.window.count (Ok h)) → 3 * (greatest_offset - e.window.count) + head_weight h ≤ 3 * (greatest_offset - d.window.count)
+    Takes remaining d e (λ x. IsHeadTaken {E = E} x d.window.count (Ok h)) →
+    3 * (greatest_offset - e.window.count) + head_weight h ≤ 3 * (greatest_offset - d.window.count)
 fewer-bytes E remaining d e h (b, t, count, u, bytes) =
     let some = head-some b h u.answers.0 in
     let fits = header-fits {E = E} b d.window.count h u in

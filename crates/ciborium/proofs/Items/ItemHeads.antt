@@ -1,11 +1,13 @@
 -- The head with which an item begins, and what stands behind it.
-use Rattle.std.proofs.Common.{◌≡◌, ℕ, suc, Bool, true, false, List, [], ◌∷◌, ◌++◌, length, Option, Some, None, refl, sym, ap, ◌∙◌, subst, append_assoc, append-nil, ◌≤◌, arith}
+use Rattle.std.proofs.Common.{◌≡◌, ℕ, suc, Bool, true, false, List, [], ◌∷◌, ◌++◌, length, Option, Some, None, refl}
+use Rattle.std.proofs.Common.{sym, ap, ◌∙◌, subst, append_assoc, append-nil, ◌≤◌, arith}
 use Rattle.ciborium_ll.specs.declared.header.Header.{Header}
 use Rattle.ciborium_ll.specs.declared.header.Header.TheVariants as header
 use Rattle.ciborium_ll.specs.Head.{open_byte, break_byte}
 use Rattle.ciborium_ll.specs.Header.{SpellsHeader, announced_length}
 use Rattle.ciborium_ll.specs.Item as items
-use Rattle.ciborium_ll.specs.Item.{Item, Items, Pairs, unsigned, negative, bytes, text, array, tag, simple, float, items_count, pairs_count}
+use Rattle.ciborium_ll.specs.Item.{Item, Items, Pairs, unsigned, negative, bytes, text, array, tag, simple, float}
+use Rattle.ciborium_ll.specs.Item.{items_count, pairs_count}
 use Rattle.ciborium_ll.specs.Spells.{Spells, SpellsItems, SpellsPairs}
 use Rattle.ciborium_ll.proofs.OneHeader.{one_header_at_front}
 use Rattle.ciborium_value.specs.Taken.{unpack, unpack_pairs}
@@ -30,9 +32,14 @@ header_of (float raw) = header.Float (length raw)
 
 -- what holds of each shape that may have this head holds of an item that has it
 module _ (P : Item → Type 0) (h : Header) where
-  pub by-shape : ((n : ℕ) → h ≡ header.Positive n → P (unsigned n)) → ((n : ℕ) → h ≡ header.Negative n → P (negative n)) → ((o : Bool) (b : List ℕ) → h ≡ header.Bytes (size_of o (length b)) → P (bytes o b)) →
-      ((o : Bool) (b : List ℕ) → h ≡ header.Text (size_of o (length b)) → P (text o b)) → ((o : Bool) (is : Items) → h ≡ header.Array (size_of o (items_count is)) → P (array o is)) →
-      ((o : Bool) (ps : Pairs) → h ≡ header.Map (size_of o (pairs_count ps)) → P (items.map o ps)) → ((n : ℕ) → h ≡ header.Simple n → P (simple n)) → ((raw : List ℕ) → h ≡ header.Float (length raw) → P (float raw)) →
+  pub by-shape : ((n : ℕ) → h ≡ header.Positive n → P (unsigned n)) →
+      ((n : ℕ) → h ≡ header.Negative n → P (negative n)) →
+      ((o : Bool) (b : List ℕ) → h ≡ header.Bytes (size_of o (length b)) → P (bytes o b)) →
+      ((o : Bool) (b : List ℕ) → h ≡ header.Text (size_of o (length b)) → P (text o b)) →
+      ((o : Bool) (is : Items) → h ≡ header.Array (size_of o (items_count is)) → P (array o is)) →
+      ((o : Bool) (ps : Pairs) → h ≡ header.Map (size_of o (pairs_count ps)) → P (items.map o ps)) →
+      ((n : ℕ) → h ≡ header.Simple n → P (simple n)) →
+      ((raw : List ℕ) → h ≡ header.Float (length raw) → P (float raw)) →
       ((t : ℕ) (i : Item) → h ≡ header.Tag t → P (tag t i)) → (i : Item) → header_of i ≡ h → P i
   by-shape a b c d f g j k m (unsigned n) e = a n (sym e)
   by-shape a b c d f g j k m (negative n) e = b n (sym e)
@@ -48,7 +55,8 @@ module _ (P : Item → Type 0) (h : Header) where
 pub no-bare-tag : {A : Type 0} (h : Header) (t : ℕ) → IsBare false h → h ≡ header.Tag t → A
 no-bare-tag h t bare e = let s : IsBare false (header.Tag t) = subst (IsBare false) e bare in absurd (let k = s.0 in cc)
 
-pub first-head : (s : List ℕ) (i : Item) → Spells s i → (x : List ℕ) × (y : List ℕ) × SpellsHeader x (header_of i) × (s ≡ x ++ y)
+pub first-head : (s : List ℕ) (i : Item) → Spells s i → (x : List ℕ) × (y : List ℕ) × SpellsHeader x (header_of i) ×
+    (s ≡ x ++ y)
 first-head s (unsigned n) h = (s, [], h, sym (append-nil s))
 first-head s (negative n) h = (s, [], h, sym (append-nil s))
 first-head s (bytes false b) (x, h, a, e) = (x, b, h, e)
@@ -67,7 +75,8 @@ nothing : (n : ℕ) → 0 ≤ n
 nothing n = omega arith
 
 -- with the payload that it announces
-pub first-payload : (s : List ℕ) (i : Item) (sp : Spells s i) → announced_length (header_of i) ≤ length (first-head s i sp).1
+pub first-payload : (s : List ℕ) (i : Item) (sp : Spells s i) →
+    announced_length (header_of i) ≤ length (first-head s i sp).1
 unfolding first-head
 first-payload s (unsigned n) h = nothing _
 first-payload s (negative n) h = nothing _
@@ -84,10 +93,12 @@ first-payload s (simple n) h = nothing _
 first-payload s (float raw) h = nothing _
 
 -- the head at the front is that of the item
-pub same-head : (s r x y : List ℕ) (i : Item) (h : Header) → Spells s i → SpellsHeader x h → s ++ r ≡ x ++ y → (header_of i ≡ h) × ((c : List ℕ) × (s ≡ x ++ c) × (y ≡ c ++ r))
+pub same-head : (s r x y : List ℕ) (i : Item) (h : Header) → Spells s i → SpellsHeader x h → s ++ r ≡ x ++ y →
+    (header_of i ≡ h) × ((c : List ℕ) × (s ≡ x ++ c) × (y ≡ c ++ r))
 same-head s r x y i h sp hd e =
     let k = first-head s i sp in
-    let o = one_header_at_front k.0 x (k.1 ++ r) y (header_of i) h k.2 hd (sym (append_assoc k.0 k.1 r) ∙ ap (λ (z : List ℕ). z ++ r) (sym k.3) ∙ e) in
+    let o = one_header_at_front k.0 x (k.1 ++ r) y (header_of i) h k.2 hd
+    (sym (append_assoc k.0 k.1 r) ∙ ap (λ (z : List ℕ). z ++ r) (sym k.3) ∙ e) in
     (o.2, (k.1, k.3 ∙ ap (λ (z : List ℕ). z ++ k.1) o.0, sym o.1))
 
 -- a break begins no item
@@ -103,10 +114,12 @@ no-break-head (simple n) h = cc
 no-break-head (float n) h = cc
 
 -- behind the head of a tag its item stands
-pub tag-front : (s r x y : List ℕ) (i : Item) (t : ℕ) → Spells s i → SpellsHeader x (header.Tag t) → s ++ r ≡ x ++ y → (j : Item) × (c : List ℕ) × (i ≡ tag t j) × Spells c j × (y ≡ c ++ r)
+pub tag-front : (s r x y : List ℕ) (i : Item) (t : ℕ) → Spells s i → SpellsHeader x (header.Tag t) → s ++ r ≡ x ++ y →
+    (j : Item) × (c : List ℕ) × (i ≡ tag t j) × Spells c j × (y ≡ c ++ r)
 tag-front s r x y i t sp hd e = by i sp (same-head s r x y i (header.Tag t) sp hd e).0
   where
-    by : (i : Item) → Spells s i → header_of i ≡ header.Tag t → (j : Item) × (c : List ℕ) × (i ≡ tag t j) × Spells c j × (y ≡ c ++ r)
+    by : (i : Item) → Spells s i → header_of i ≡ header.Tag t → (j : Item) × (c : List ℕ) × (i ≡ tag t j) × Spells c j ×
+        (y ≡ c ++ r)
     by (unsigned n) sp h = cc
     by (negative n) sp h = cc
     by (bytes o b) sp h = cc
@@ -114,7 +127,8 @@ tag-front s r x y i t sp hd e = by i sp (same-head s r x y i (header.Tag t) sp h
     by (array o b) sp h = cc
     by (items.map o b) sp h = cc
     by (tag u j) (a, c, k, sp, f) h =
-        let o = one_header_at_front a x (c ++ r) y (header.Tag u) (header.Tag t) k hd (sym (append_assoc a c r) ∙ ap (λ (z : List ℕ). z ++ r) (sym f) ∙ e) in
+        let o = one_header_at_front a x (c ++ r) y (header.Tag u) (header.Tag t) k hd
+        (sym (append_assoc a c r) ∙ ap (λ (z : List ℕ). z ++ r) (sym f) ∙ e) in
         (j, c, (let n : u ≡ t = cc in ap (λ v. tag v j) n), sp, sym o.1)
     by (simple n) sp h = cc
     by (float n) sp h = cc
@@ -125,27 +139,33 @@ unpacked : (b : List ℕ) (is : Items) → SpellsItems b is → AreSpelled Spell
 unpacked b items.no_items h = h
 unpacked b (items.item i is) (s, r, sp, k, e) = (s, r, sp, unpacked r is k, e)
 
-pub packed : (b : List ℕ) (is : List Item) → AreSpelled Spells b is → (js : Items) × SpellsItems b js × (unpack js ≡ is) × (items_count js ≡ length is)
+pub packed : (b : List ℕ) (is : List Item) → AreSpelled Spells b is → (js : Items) × SpellsItems b js ×
+    (unpack js ≡ is) × (items_count js ≡ length is)
 packed b [] h = (items.no_items, h, refl, refl)
-packed b (i ∷ is) (s, r, sp, k, e) = let p = packed r is k in (items.item i p.0, (s, r, sp, p.1, e), ap (λ l. i ∷ l) p.2, ap suc p.3)
+packed b (i ∷ is) (s, r, sp, k, e) = let p = packed r is k in
+    (items.item i p.0, (s, r, sp, p.1, e), ap (λ l. i ∷ l) p.2, ap suc p.3)
 
 unpacked-count : (is : Items) → length (unpack is) ≡ items_count is
 unpacked-count items.no_items = refl
 unpacked-count (items.item i is) = ap suc (unpacked-count is)
 
 -- behind the head of a definite array its items stand
-pub counted-front : (s r x y : List ℕ) (i : Item) (n : ℕ) → Spells s i → SpellsHeader x (header.Array (Some n)) → s ++ r ≡ x ++ y →
-    (is : Items) × (c : List ℕ) × (i ≡ array false is) × AreSpelled Spells c (unpack is) × (length (unpack is) ≡ n) × (y ≡ c ++ r)
+pub counted-front : (s r x y : List ℕ) (i : Item) (n : ℕ) → Spells s i → SpellsHeader x (header.Array (Some n)) →
+    s ++ r ≡ x ++ y →
+    (is : Items) × (c : List ℕ) × (i ≡ array false is) × AreSpelled Spells c (unpack is) × (length (unpack is) ≡ n) ×
+    (y ≡ c ++ r)
 counted-front s r x y i n sp hd e = by i sp (same-head s r x y i (header.Array (Some n)) sp hd e).0
   where
-    by : (i : Item) → Spells s i → header_of i ≡ header.Array (Some n) → (is : Items) × (c : List ℕ) × (i ≡ array false is) × AreSpelled Spells c (unpack is) × (length (unpack is) ≡ n) × (y ≡ c ++ r)
+    by : (i : Item) → Spells s i → header_of i ≡ header.Array (Some n) → (is : Items) × (c : List ℕ) ×
+        (i ≡ array false is) × AreSpelled Spells c (unpack is) × (length (unpack is) ≡ n) × (y ≡ c ++ r)
     by (unsigned n) sp h = cc
     by (negative n) sp h = cc
     by (bytes o b) sp h = cc
     by (text o b) sp h = cc
     by (array true b) sp h = cc
     by (array false is) (c, k, (a, g, f)) h =
-        let o = one_header_at_front a x (c ++ r) y (header.Array (Some (items_count is))) (header.Array (Some n)) g hd (sym (append_assoc a c r) ∙ ap (λ (z : List ℕ). z ++ r) (sym f) ∙ e) in
+        let o = one_header_at_front a x (c ++ r) y (header.Array (Some (items_count is))) (header.Array (Some n)) g hd
+        (sym (append_assoc a c r) ∙ ap (λ (z : List ℕ). z ++ r) (sym f) ∙ e) in
         (is, c, refl, unpacked c is k, unpacked-count is ∙ (let m : items_count is ≡ n = cc in m), sym o.1)
     by (items.map o b) sp h = cc
     by (tag u j) sp h = cc
@@ -157,14 +177,16 @@ pub open-front : (s r x y : List ℕ) (i : Item) → Spells s i → SpellsHeader
     (is : Items) × (c : List ℕ) × (i ≡ array true is) × AreSpelled Spells c (unpack is) × (y ≡ c ++ (break_byte ∷ r))
 open-front s r x y i sp hd e = by i sp (same-head s r x y i (header.Array None) sp hd e).0
   where
-    by : (i : Item) → Spells s i → header_of i ≡ header.Array None → (is : Items) × (c : List ℕ) × (i ≡ array true is) × AreSpelled Spells c (unpack is) × (y ≡ c ++ (break_byte ∷ r))
+    by : (i : Item) → Spells s i → header_of i ≡ header.Array None → (is : Items) × (c : List ℕ) × (i ≡ array true is) ×
+        AreSpelled Spells c (unpack is) × (y ≡ c ++ (break_byte ∷ r))
     by (unsigned n) sp h = cc
     by (negative n) sp h = cc
     by (bytes o b) sp h = cc
     by (text o b) sp h = cc
     by (array false b) sp h = cc
     by (array true is) (c, k, f) h =
-        let o = one_header_at_front (open_byte 4 ∷ []) x ((c ++ (break_byte ∷ [])) ++ r) y (header.Array None) (header.Array None) refl hd (ap (λ (z : List ℕ). z ++ r) (sym f) ∙ e) in
+        let o = one_header_at_front (open_byte 4 ∷ []) x ((c ++ (break_byte ∷ [])) ++ r) y (header.Array None)
+        (header.Array None) refl hd (ap (λ (z : List ℕ). z ++ r) (sym f) ∙ e) in
         (is, c, refl, unpacked c is k, sym o.1 ∙ append_assoc c (break_byte ∷ []) r)
     by (items.map o b) sp h = cc
     by (tag u j) sp h = cc
@@ -175,24 +197,34 @@ open-front s r x y i sp hd e = by i sp (same-head s r x y i (header.Array None) 
 
 unpacked-pairs : (b : List ℕ) (ps : Pairs) → SpellsPairs b ps → AreSpelled SpellsPair b (unpack_pairs ps)
 unpacked-pairs b items.no_pairs h = h
-unpacked-pairs b (items.pair k v ps) (s, t, r, sp, sq, more, e) = (s ++ t, r, (s, t, sp, sq, refl), unpacked-pairs r ps more, e ∙ sym (append_assoc s t r))
+unpacked-pairs b (items.pair k v ps) (s, t, r, sp, sq, more, e) =
+    (s ++ t, r, (s, t, sp, sq, refl), unpacked-pairs r ps more, e ∙ sym (append_assoc s t r))
 
-pub packed-pairs : (b : List ℕ) (ps : List (Item × Item)) → AreSpelled SpellsPair b ps → (qs : Pairs) × SpellsPairs b qs × (unpack_pairs qs ≡ ps) × (pairs_count qs ≡ length ps)
+pub packed-pairs : (b : List ℕ) (ps : List (Item × Item)) → AreSpelled SpellsPair b ps → (qs : Pairs) ×
+    SpellsPairs b qs × (unpack_pairs qs ≡ ps) × (pairs_count qs ≡ length ps)
 packed-pairs b [] h = (items.no_pairs, h, refl, refl)
 packed-pairs b (p ∷ ps) (s, r, (a, c, sp, sq, f), more, e) =
-    let w = packed-pairs r ps more in
-    (items.pair p.0 p.1 w.0, (a, c, r, sp, sq, w.1, e ∙ ap (λ (k : List ℕ). k ++ r) f ∙ append_assoc a c r), ap (λ l. p ∷ l) w.2, ap suc w.3)
+    let w = packed-pairs r ps more in (
+      items.pair p.0 p.1 w.0,
+      (a, c, r, sp, sq, w.1, e ∙ ap (λ (k : List ℕ). k ++ r) f ∙ append_assoc a c r),
+      ap (λ l. p ∷ l) w.2,
+      ap suc w.3,
+    )
 
 unpacked-pairs-count : (ps : Pairs) → length (unpack_pairs ps) ≡ pairs_count ps
 unpacked-pairs-count items.no_pairs = refl
 unpacked-pairs-count (items.pair k v ps) = ap suc (unpacked-pairs-count ps)
 
 -- behind the head of a definite map its pairs stand
-pub counted-pairs-front : (s r x y : List ℕ) (i : Item) (n : ℕ) → Spells s i → SpellsHeader x (header.Map (Some n)) → s ++ r ≡ x ++ y →
-    (ps : Pairs) × (c : List ℕ) × (i ≡ items.map false ps) × AreSpelled SpellsPair c (unpack_pairs ps) × (length (unpack_pairs ps) ≡ n) × (y ≡ c ++ r)
+pub counted-pairs-front : (s r x y : List ℕ) (i : Item) (n : ℕ) → Spells s i → SpellsHeader x (header.Map (Some n)) →
+    s ++ r ≡ x ++ y →
+    (ps : Pairs) × (c : List ℕ) × (i ≡ items.map false ps) × AreSpelled SpellsPair c (unpack_pairs ps) ×
+    (length (unpack_pairs ps) ≡ n) × (y ≡ c ++ r)
 counted-pairs-front s r x y i n sp hd e = by i sp (same-head s r x y i (header.Map (Some n)) sp hd e).0
   where
-    by : (i : Item) → Spells s i → header_of i ≡ header.Map (Some n) → (ps : Pairs) × (c : List ℕ) × (i ≡ items.map false ps) × AreSpelled SpellsPair c (unpack_pairs ps) × (length (unpack_pairs ps) ≡ n) × (y ≡ c ++ r)
+    by : (i : Item) → Spells s i → header_of i ≡ header.Map (Some n) → (ps : Pairs) × (c : List ℕ) ×
+        (i ≡ items.map false ps) × AreSpelled SpellsPair c (unpack_pairs ps) × (length (unpack_pairs ps) ≡ n) ×
+        (y ≡ c ++ r)
     by (unsigned n) sp h = cc
     by (negative n) sp h = cc
     by (bytes o b) sp h = cc
@@ -200,7 +232,8 @@ counted-pairs-front s r x y i n sp hd e = by i sp (same-head s r x y i (header.M
     by (array o b) sp h = cc
     by (items.map true b) sp h = cc
     by (items.map false ps) (c, k, (a, g, f)) h =
-        let o = one_header_at_front a x (c ++ r) y (header.Map (Some (pairs_count ps))) (header.Map (Some n)) g hd (sym (append_assoc a c r) ∙ ap (λ (z : List ℕ). z ++ r) (sym f) ∙ e) in
+        let o = one_header_at_front a x (c ++ r) y (header.Map (Some (pairs_count ps))) (header.Map (Some n)) g hd
+        (sym (append_assoc a c r) ∙ ap (λ (z : List ℕ). z ++ r) (sym f) ∙ e) in
         (ps, c, refl, unpacked-pairs c ps k, unpacked-pairs-count ps ∙ (let m : pairs_count ps ≡ n = cc in m), sym o.1)
     by (tag u j) sp h = cc
     by (simple n) sp h = cc
@@ -208,10 +241,12 @@ counted-pairs-front s r x y i n sp hd e = by i sp (same-head s r x y i (header.M
 
 -- behind the head of an open map its pairs stand, and the break
 pub open-pairs-front : (s r x y : List ℕ) (i : Item) → Spells s i → SpellsHeader x (header.Map None) → s ++ r ≡ x ++ y →
-    (ps : Pairs) × (c : List ℕ) × (i ≡ items.map true ps) × AreSpelled SpellsPair c (unpack_pairs ps) × (y ≡ c ++ (break_byte ∷ r))
+    (ps : Pairs) × (c : List ℕ) × (i ≡ items.map true ps) × AreSpelled SpellsPair c (unpack_pairs ps) ×
+    (y ≡ c ++ (break_byte ∷ r))
 open-pairs-front s r x y i sp hd e = by i sp (same-head s r x y i (header.Map None) sp hd e).0
   where
-    by : (i : Item) → Spells s i → header_of i ≡ header.Map None → (ps : Pairs) × (c : List ℕ) × (i ≡ items.map true ps) × AreSpelled SpellsPair c (unpack_pairs ps) × (y ≡ c ++ (break_byte ∷ r))
+    by : (i : Item) → Spells s i → header_of i ≡ header.Map None → (ps : Pairs) × (c : List ℕ) ×
+        (i ≡ items.map true ps) × AreSpelled SpellsPair c (unpack_pairs ps) × (y ≡ c ++ (break_byte ∷ r))
     by (unsigned n) sp h = cc
     by (negative n) sp h = cc
     by (bytes o b) sp h = cc
@@ -219,7 +254,8 @@ open-pairs-front s r x y i sp hd e = by i sp (same-head s r x y i (header.Map No
     by (array o b) sp h = cc
     by (items.map false b) sp h = cc
     by (items.map true ps) (c, k, f) h =
-        let o = one_header_at_front (open_byte 5 ∷ []) x ((c ++ (break_byte ∷ [])) ++ r) y (header.Map None) (header.Map None) refl hd (ap (λ (z : List ℕ). z ++ r) (sym f) ∙ e) in
+        let o = one_header_at_front (open_byte 5 ∷ []) x ((c ++ (break_byte ∷ [])) ++ r) y (header.Map None)
+        (header.Map None) refl hd (ap (λ (z : List ℕ). z ++ r) (sym f) ∙ e) in
         (ps, c, refl, unpacked-pairs c ps k, sym o.1 ∙ append_assoc c (break_byte ∷ []) r)
     by (tag u j) sp h = cc
     by (simple n) sp h = cc

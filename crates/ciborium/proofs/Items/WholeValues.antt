@@ -1,10 +1,12 @@
 -- The value ahead, read whole.
-use Rattle.std.proofs.Common.{◌≡◌, ℕ, ◌+◌, Bool, true, false, List, ◌++◌, length, Option, Some, None, Result, Ok, Err, refl, sym, ap, ◌∙◌, subst, arith, eqb, eqb-true, ◌||◌, ℤ, pos, length-append}
+use Rattle.std.proofs.Common.{◌≡◌, ℕ, ◌+◌, Bool, true, false, List, ◌++◌, length, Option, Some, None, Result, Ok, Err}
+use Rattle.std.proofs.Common.{refl, sym, ap, ◌∙◌, subst, arith, eqb, eqb-true, ◌||◌, ℤ, pos, length-append}
 use Rattle.std.specs.Io.KnownBytes.{Consumes}
 use Rattle.ciborium_ll.specs.declared.header.Header.{Header}
 use Rattle.ciborium_ll.specs.declared.header.Header.TheVariants as header
 use Rattle.ciborium_ll.specs.declared.decoder.Decoder.{Decoder}
-use Rattle.ciborium_ll.specs.Decoding.{IsAhead, IsAheadBy, TakesBeforeAny, next_offset, with_left, left_of, ReadsNothing}
+use Rattle.ciborium_ll.specs.Decoding.{IsAhead, IsAheadBy, TakesBeforeAny, next_offset, with_left, left_of}
+use Rattle.ciborium_ll.specs.Decoding.{ReadsNothing}
 use Rattle.ciborium_ll.specs.Header.{SpellsHeader}
 use Rattle.ciborium_ll.specs.Item.{Item, unsigned, simple}
 use Rattle.ciborium_ll.specs.Spells.{Spells}
@@ -49,11 +51,17 @@ null-meaning n h = by (eqb n 22) (eqb n 23) h (eqb-true n 22) (eqb-true n 23)
     by true v h f g = ap simple_meaning (f refl) ∙ null-22
     by false v h f g = ap simple_meaning (g h) ∙ null-23
 
-pub portable-null : (h : Header) (n : ℕ) → h ≡ header.Simple n → is_portable (header.Simple n) ≡ true → MeansTree h trees.null
+pub portable-null : (h : Header) (n : ℕ) → h ≡ header.Simple n → is_portable (header.Simple n) ≡ true →
+    MeansTree h trees.null
 portable-null h n is stands s hd = (simple n, subst (SpellsHeader s) is hd, null-meaning n stands, refl)
 
 pub portable-number : (h : Header) (n : ℕ) (z : ℤ) → h ≡ header.Positive n → z ≡ pos n → MeansTree h (trees.integer z)
-portable-number h n z is e s hd = (unsigned n, subst (SpellsHeader s) is hd, ap (λ k. Some (trees.integer k)) (sym e), refl)
+portable-number h n z is e s hd = (
+  unsigned n,
+  subst (SpellsHeader s) is hd,
+  ap (λ k. Some (trees.integer k)) (sym e),
+  refl,
+)
 
 -- a pending head stands in the bytes
 abbrev pub IsReal : Option (Header × ℕ) → Type 0
@@ -61,33 +69,45 @@ IsReal None = Unit {0}
 IsReal (Some h) = is_portable h.0 ≡ false
 
 -- the head that was pushed, or none, and what is unread with it
-pub ahead-by : {S : Type 0} (remaining : S → Option (List ℕ)) (d e : Decoder S) (pending : Option (Header × ℕ)) (b : List ℕ) → IsReal pending → e.pushed ≡ pending → ReadsNothing d e →
+pub ahead-by : {S : Type 0} (remaining : S → Option (List ℕ)) (d e : Decoder S) (pending : Option (Header × ℕ))
+    (b : List ℕ) → IsReal pending → e.pushed ≡ pending → ReadsNothing d e →
     IsUnreadBy remaining d pending b → IsAhead remaining e b (next_offset d.window.count pending)
-ahead-by remaining d e None b real pushed same u = subst (λ o. IsAheadBy remaining e b d.window.count o) (sym pushed) (unread-count d e same, unread-left remaining d e same ∙ u)
+ahead-by remaining d e None b real pushed same u = subst (λ o. IsAheadBy remaining e b d.window.count o) (sym pushed)
+    (unread-count d e same, unread-left remaining d e same ∙ u)
 ahead-by remaining d e (Some h) b real pushed same (x, y, hd, f, left, counted) =
     let k = counted real in
-    subst (λ o. IsAheadBy remaining e b h.1 o) (sym pushed) (refl, x, y, hd, k.0, f, unread-count d e same ∙ k.1, unread-left remaining d e same ∙ left)
+    subst (λ o. IsAheadBy remaining e b h.1 o) (sym pushed)
+    (refl, x, y, hd, k.0, f, unread-count d e same ∙ k.1, unread-left remaining d e same ∙ left)
 
 -- ---- from a decoder whatever follows what it takes, to one whose bytes are known
 
 module _ {S : Type 0} (remaining : S → Option (List ℕ)) where
-  known-left : (d : Decoder S) (b : List ℕ) (p : ℕ) (o : Option (Header × ℕ)) → IsAheadBy remaining d b p o → (u : List ℕ) × (left_of remaining d ≡ Some u)
+  known-left : (d : Decoder S) (b : List ℕ) (p : ℕ) (o : Option (Header × ℕ)) → IsAheadBy remaining d b p o →
+      (u : List ℕ) × (left_of remaining d ≡ Some u)
   known-left d b p None (count, e) = (b, e)
   known-left d b p (Some h) (at, x, r, sp, usable, split, count, e) = (r, e)
 
-  ahead-from : (d : Decoder S) (u b : List ℕ) (p : ℕ) (o : Option (Header × ℕ)) → left_of remaining d ≡ Some u → IsAheadBy remaining d b p o → IsAheadBy Some (with_left d u) b p o
+  ahead-from : (d : Decoder S) (u b : List ℕ) (p : ℕ) (o : Option (Header × ℕ)) → left_of remaining d ≡ Some u →
+      IsAheadBy remaining d b p o → IsAheadBy Some (with_left d u) b p o
   ahead-from d u b p None left (count, e) = (count, sym left ∙ e)
-  ahead-from d u b p (Some h) left (at, x, r, sp, usable, split, count, e) = (at, x, r, sp, usable, split, count, sym left ∙ e)
+  ahead-from d u b p (Some h) left (at, x, r, sp, usable, split, count, e) =
+      (at, x, r, sp, usable, split, count, sym left ∙ e)
 
-  ahead-to : (d : Decoder S) (u b : List ℕ) (p : ℕ) (o : Option (Header × ℕ)) → left_of remaining d ≡ Some u → IsAheadBy Some (with_left d u) b p o → IsAheadBy remaining d b p o
+  ahead-to : (d : Decoder S) (u b : List ℕ) (p : ℕ) (o : Option (Header × ℕ)) → left_of remaining d ≡ Some u →
+      IsAheadBy Some (with_left d u) b p o → IsAheadBy remaining d b p o
   ahead-to d u b p None left (count, e) = (count, left ∙ e)
-  ahead-to d u b p (Some h) left (at, x, r, sp, usable, split, count, e) = (at, x, r, sp, usable, split, count, left ∙ e)
+  ahead-to d u b p (Some h) left (at, x, r, sp, usable, split, count, e) =
+      (at, x, r, sp, usable, split, count, left ∙ e)
 
-  read-to : (E : Type 0) (e : Decoder S) (c : List ℕ) (l : ℕ) (b : List ℕ) (p : ℕ) (x : Result Value (Error E)) → left_of remaining e ≡ Some c → IsValueRead {S = List ℕ} {E = E} any Some (with_left e c) l b p x → IsValueRead {E = E} any remaining e l b p x
+  read-to : (E : Type 0) (e : Decoder S) (c : List ℕ) (l : ℕ) (b : List ℕ) (p : ℕ) (x : Result Value (Error E)) →
+      left_of remaining e ≡ Some c → IsValueRead {S = List ℕ} {E = E} any Some (with_left e c) l b p x →
+      IsValueRead {E = E} any remaining e l b p x
   read-to E e c l b p (Ok v) left (zs, r, item, ahead) = (zs, r, item, ahead-to e c zs r e.pushed left ahead)
   read-to E e c l b p (Err x) left h = subst (λ o. IsRefusedBy o x (Refuses b p (Some l))) (sym left) h
 
-  pub known-read : (E : Type 0) (d e : Decoder S) (l : ℕ) (x : Result Value (Error E)) → TakesBeforeAny remaining d e (λ f g. (xs : List ℕ) (q : ℕ) → IsAhead Some f xs q → IsValueRead {S = List ℕ} {E = E} any Some g l xs q x) →
+  pub known-read : (E : Type 0) (d e : Decoder S) (l : ℕ) (x : Result Value (Error E)) →
+      TakesBeforeAny remaining d e (λ f g. (xs : List ℕ) (q : ℕ) → IsAhead Some f xs q →
+      IsValueRead {S = List ℕ} {E = E} any Some g l xs q x) →
       (b : List ℕ) (p : ℕ) → IsAhead remaining d b p → IsValueRead {E = E} any remaining e l b p x
   known-read E d e l x (s, taken, count, h, small) b p ahead =
       let (u, known) = known-left d b p d.pushed ahead in
@@ -95,15 +115,19 @@ module _ {S : Type 0} (remaining : S → Option (List ℕ)) where
       read-to E e c l b p x left (h c b p (ahead-from d (s ++ c) b p d.pushed (known ∙ ap Some split) ahead))
 
 -- the value that was read is what the item there gives
-pub whole-reads : (E : Type 0) {S : Type 0} (remaining : S → Option (List ℕ)) (d : Decoder S) (l p : ℕ) (b : List ℕ) (v : Value) → d.pushed ≡ None → IsValueRead {E = E} any remaining d l b p (Ok v) →
-    (i : Item) × (s : List ℕ) × (z : List ℕ) × Spells s i × (b ≡ s ++ z) × (taken_value (Some l) i ≡ gives (tree_of v)) × (left_of remaining d ≡ Some z)
+pub whole-reads : (E : Type 0) {S : Type 0} (remaining : S → Option (List ℕ)) (d : Decoder S) (l p : ℕ) (b : List ℕ)
+    (v : Value) → d.pushed ≡ None → IsValueRead {E = E} any remaining d l b p (Ok v) →
+    (i : Item) × (s : List ℕ) × (z : List ℕ) × Spells s i × (b ≡ s ++ z) ×
+    (taken_value (Some l) i ≡ gives (tree_of v)) × (left_of remaining d ≡ Some z)
 whole-reads E remaining d l p b v none (z, r, item, ahead) =
     let at : IsAheadBy remaining d z r None = subst (λ o. IsAheadBy remaining d z r o) none ahead in
     let (i, good, means) = item.read in
     (i, item.taken, z, good.0, item.split, value-gives i (Some l) (tree_of v) means good.2, at.1)
 
 -- where what is unread ends, with the head that is pending
-pub whole-end : {S : Type 0} (remaining : S → Option (List ℕ)) (d : Decoder S) (pending : Option (Header × ℕ)) (b : List ℕ) → IsReal pending → IsUnreadBy remaining d pending b → (reader_of remaining d).1 ≡ next_offset d.window.count pending + length b
+pub whole-end : {S : Type 0} (remaining : S → Option (List ℕ)) (d : Decoder S) (pending : Option (Header × ℕ))
+    (b : List ℕ) → IsReal pending → IsUnreadBy remaining d pending b →
+    (reader_of remaining d).1 ≡ next_offset d.window.count pending + length b
 whole-end remaining d None b real left = ap (λ o. known_end o d.window.count) left
 whole-end remaining d (Some h) b real (x, y, hd, split, left, counted) =
     let at = (counted real).1 in
@@ -111,13 +135,16 @@ whole-end remaining d (Some h) b real (x, y, hd, split, left, counted) =
     ap (λ o. known_end o d.window.count) left ∙ (omega (arith, at, size))
 
 -- an error is what the item there is refused for
-pub whole-faults : {E : Type 0} (left : Option (List ℕ)) (e : Error E) (l p : ℕ) (b s z : List ℕ) (i : Item) → Spells s i → b ≡ s ++ z → IsRefusedBy left e (λ r. Refuses b p (Some l) r) → IsFaultOf (p + length b) (fault_of e) (taken_value (Some l) i)
+pub whole-faults : {E : Type 0} (left : Option (List ℕ)) (e : Error E) (l p : ℕ) (b s z : List ℕ) (i : Item) →
+    Spells s i → b ≡ s ++ z → IsRefusedBy left e (λ r. Refuses b p (Some l) r) →
+    IsFaultOf (p + length b) (fault_of e) (taken_value (Some l) i)
 whole-faults left (errors.Io x) l p b s z i sp f h = tt
 whole-faults left (errors.Syntax q) l p b s z i sp f h = value-faults h i s z sp f
 whole-faults left (errors.Semantic None k) l p b s z i sp f h = absurd h
 whole-faults left (errors.Semantic (Some q) k) l p b s z i sp f h = by k h
   where
-    by : (k : Kind) → IsNamed (Some q) (refusal_kind_of k) (λ r. Refuses b p (Some l) r) → IsFaultOf (p + length b) (of_kind k) (taken_value (Some l) i)
+    by : (k : Kind) → IsNamed (Some q) (refusal_kind_of k) (λ r. Refuses b p (Some l) r) →
+        IsFaultOf (p + length b) (of_kind k) (taken_value (Some l) i)
     by kinds.Float h = value-faults h i s z sp f
     by kinds.Simple h = value-faults h i s z sp f
     by kinds.Break h = value-faults h i s z sp f
@@ -150,8 +177,11 @@ no-level None n flat = tt
 no-level (Some l) n flat = omega arith
 
 -- a head that stands for an item is that item
-pub portable-reads : {S : Type 0} (remaining : S → Option (List ℕ)) (d : Decoder S) (pending : Option (Header × ℕ)) (h : Header) (p : ℕ) (b : List ℕ) (v : Tree) (l : Limit) → pending ≡ Some (h, p) → MeansTree h v → IsUnreadBy remaining d pending b →
-    (i : Item) × (s : List ℕ) × (z : List ℕ) × Spells s i × (b ≡ s ++ z) × (taken_value l i ≡ gives v) × (left_of remaining d ≡ Some z)
+pub portable-reads : {S : Type 0} (remaining : S → Option (List ℕ)) (d : Decoder S) (pending : Option (Header × ℕ))
+    (h : Header) (p : ℕ) (b : List ℕ) (v : Tree) (l : Limit) → pending ≡ Some (h, p) → MeansTree h v →
+    IsUnreadBy remaining d pending b →
+    (i : Item) × (s : List ℕ) × (z : List ℕ) × Spells s i × (b ≡ s ++ z) × (taken_value l i ≡ gives v) ×
+    (left_of remaining d ≡ Some z)
 portable-reads remaining d pending h p b v l is for u =
     let (x, y, hd, e, left, counted) = subst (λ o. IsUnreadBy remaining d o b) is u in
     let (i, sp, means, flat) = for x hd in
@@ -160,26 +190,38 @@ portable-reads remaining d pending h p b v l is for u =
 -- ---- the value ahead, whatever follows what is taken
 
 -- what the value ahead was read as, where this head was pending
-abbrev pub ReadSo : {E : Type 0} → ℕ → Option (Header × ℕ) → Decoder (List ℕ) → Decoder (List ℕ) → Result Tree (Error E) → Type 0
-ReadSo {E} l pending d e r = (xs : List ℕ) (p : ℕ) → IsAheadBy Some d xs p pending → IsTreeRead {S = List ℕ} {E = E} any Some e l xs p r
+abbrev pub ReadSo : {E : Type 0} → ℕ → Option (Header × ℕ) → Decoder (List ℕ) → Decoder (List ℕ) →
+    Result Tree (Error E) → Type 0
+ReadSo {E} l pending d e r = (xs : List ℕ) (p : ℕ) → IsAheadBy Some d xs p pending →
+    IsTreeRead {S = List ℕ} {E = E} any Some e l xs p r
 
 -- a head that stands for an item is read without a byte
-pub portable-ahead : (E : Type 0) {S : Type 0} (remaining : S → Option (List ℕ)) (d : Decoder S) (pending : Option (Header × ℕ)) (h : Header) (at l : ℕ) (v : Tree) → d.pushed ≡ None → pending ≡ Some (h, at) → MeansTree h v →
+pub portable-ahead : (E : Type 0) {S : Type 0} (remaining : S → Option (List ℕ)) (d : Decoder S)
+    (pending : Option (Header × ℕ)) (h : Header) (at l : ℕ) (v : Tree) → d.pushed ≡ None → pending ≡ Some (h, at) →
+    MeansTree h v →
     TakesBeforeAny remaining d d (λ f g. ReadSo {E = E} l pending f g (Ok v))
 portable-ahead E remaining d pending h at l v none is stands =
     so-unread remaining d d (λ f g. ReadSo {E = E} l pending f g (Ok v)) (refl, refl) (λ u xs p ahead.
     let (here, x, r, sp, usable, split, count, left) = subst (λ o. IsAheadBy Some (with_left d u) xs p o) is ahead in
     let (i, spelled, means, flat) = stands x sp in
-    let fits = front-fits xs p h x r (record { spelled = sp; usable = usable; split = split }) in
-    (r, p + length x, item-read x i spelled means (omega (arith, flat)) split refl fits, ahead-at Some (with_left d u) (p + length x) r none (count, left)))
+    let fits = front-fits xs p h x r (record { spelled = sp; usable = usable; split = split }) in (
+      r,
+      p + length x,
+      item-read x i spelled means (omega (arith, flat)) split refl fits,
+      ahead-at Some (with_left d u) (p + length x) r none (count, left),
+    ))
 
 -- the head was pushed first
-pub pushed-ahead : (E : Type 0) {S : Type 0} (remaining : S → Option (List ℕ)) (d e f : Decoder S) (pending : Option (Header × ℕ)) (l : ℕ) (x : Result Value (Error E)) → e.pushed ≡ pending → ReadsNothing d e →
-    TakesBeforeAny remaining e f (λ a b. (xs : List ℕ) (p : ℕ) → IsAhead Some a xs p → IsValueRead {S = List ℕ} {E = E} any Some b l xs p x) → TakesBeforeAny remaining d f (λ a b. ReadSo {E = E} l pending a b (read_as tree_of x))
+pub pushed-ahead : (E : Type 0) {S : Type 0} (remaining : S → Option (List ℕ)) (d e f : Decoder S)
+    (pending : Option (Header × ℕ)) (l : ℕ) (x : Result Value (Error E)) → e.pushed ≡ pending → ReadsNothing d e →
+    TakesBeforeAny remaining e f (λ a b. (xs : List ℕ) (p : ℕ) → IsAhead Some a xs p →
+    IsValueRead {S = List ℕ} {E = E} any Some b l xs p x) →
+    TakesBeforeAny remaining d f (λ a b. ReadSo {E = E} l pending a b (read_as tree_of x))
 pushed-ahead E remaining d e f pending l x pushed unread (s, taken, sum, h, bytes) = (
   s,
   subst (λ r. Consumes r (left_of remaining f) s) (unread-left remaining d e unread) taken,
   (let count = unread-count d e unread in omega (arith, sum, count)),
-  λ c xs p ahead. (h c xs p (subst (λ o. IsAheadBy Some (with_left e (s ++ c)) xs p o) (sym pushed) (ahead-same d e (s ++ c) xs p pending (unread-count d e unread) ahead))),
+  λ c xs p ahead. (h c xs p (subst (λ o. IsAheadBy Some (with_left e (s ++ c)) xs p o) (sym pushed)
+      (ahead-same d e (s ++ c) xs p pending (unread-count d e unread) ahead))),
   bytes,
 )

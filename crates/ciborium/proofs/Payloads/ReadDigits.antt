@@ -1,5 +1,7 @@
 -- Numbers that are read byte by byte.
-use Rattle.std.proofs.Common.{◌≡◌, ◌≢◌, ℕ, zero, suc, ◌+◌, ◌*◌, ◌-◌, ◌^◌, ◌<◌, ◌≤◌, ltb, Bool, true, false, List, [], ◌∷◌, ◌++◌, length, Option, Some, None, Ok, Err, refl, sym, ap, ◌∙◌, append_assoc, length-append, arith, lit<, add-one, lt-ltb, le-ltb, ne_eqb}
+use Rattle.std.proofs.Common.{◌≡◌, ◌≢◌, ℕ, zero, suc, ◌+◌, ◌*◌, ◌-◌, ◌^◌, ◌<◌, ◌≤◌, ltb, Bool, true, false, List, []}
+use Rattle.std.proofs.Common.{◌∷◌, ◌++◌, length, Option, Some, None, Ok, Err, refl, sym, ap, ◌∙◌, append_assoc}
+use Rattle.std.proofs.Common.{length-append, arith, lit<, add-one, lt-ltb, le-ltb, ne_eqb}
 use Rattle.std.proofs.Math.Nat.{pow-le-pow_right, pow-suc}
 use Rattle.std.proofs.lemmas.Bool.Decides.{nat_tests}
 use Rattle.std.proofs.lemmas.List.Elements.{All-append, All-head, All-tail}
@@ -46,21 +48,28 @@ room-none : (n b : ℕ) → 2 ^ 120 ≤ n → one_digit_more (Some n) b ≡ None
 room-none n b h = let e = le-ltb n (2 ^ 120) h in rw e refl
 
 abbrev AreMade : ℕ → ℕ → List ℕ → Type 0
-AreMade k n bs = ((k + 1 + length bs ≤ 16) → digits_of (Some n) bs ≡ Some (big_endian_behind n bs)) × ((16 < k + 1 + length bs) → digits_of (Some n) bs ≡ None)
+AreMade k n bs = ((k + 1 + length bs ≤ 16) → digits_of (Some n) bs ≡ Some (big_endian_behind n bs)) ×
+    ((16 < k + 1 + length bs) → digits_of (Some n) bs ≡ None)
 
-step : (k n b : ℕ) (bs : List ℕ) → b < 256 → 256 ^ k ≤ n → n < 256 ^ (k + 1) → k < 16 → ((256 ^ (k + 1) ≤ n * 256 + b) → (n * 256 + b < 256 ^ (k + 1 + 1)) → k + 1 < 16 → AreMade (k + 1) (n * 256 + b) bs) → AreMade k n (b ∷ bs)
+step : (k n b : ℕ) (bs : List ℕ) → b < 256 → 256 ^ k ≤ n → n < 256 ^ (k + 1) → k < 16 →
+    ((256 ^ (k + 1) ≤ n * 256 + b) → (n * 256 + b < 256 ^ (k + 1 + 1)) → k + 1 < 16 → AreMade (k + 1) (n * 256 + b) bs)
+    → AreMade k n (b ∷ bs)
 unfolding big_endian_behind
 step k n b bs small low high lt rec = by (ltb k 15) refl
   where
-    by : (t : Bool) → ltb k 15 ≡ t → ((k + 1 + suc (length bs) ≤ 16) → digits_of (one_digit_more (Some n) b) bs ≡ Some (big_endian_behind (256 * n + b) bs)) × ((16 < k + 1 + suc (length bs)) → digits_of (one_digit_more (Some n) b) bs ≡ None)
+    by : (t : Bool) → ltb k 15 ≡ t → ((k + 1 + suc (length bs) ≤ 16) →
+        digits_of (one_digit_more (Some n) b) bs ≡ Some (big_endian_behind (256 * n + b) bs)) ×
+        ((16 < k + 1 + suc (length bs)) → digits_of (one_digit_more (Some n) b) bs ≡ None)
     by true e =
         let below : k < 15 = grind (arith, nat_tests) in
-        let top : 256 ^ (k + 1) ≤ 256 ^ 15 = pow-le-pow_right {n = 256} (lit< tt) {i = k + 1} {j = 15} (omega (arith, below)) in
+        let top : 256 ^ (k + 1) ≤ 256 ^ 15 = pow-le-pow_right {n = 256} (lit< tt) {i = k + 1} {j = 15}
+        (omega (arith, below)) in
         let same : 256 ^ 15 ≡ 2 ^ 120 = refl in
         let room : n < 2 ^ 120 = omega (arith, high, top, same) in
         let next = rec (bound-least n b k low) (bound-more n b (k + 1) high small) (omega (arith, below)) in
         let swap : n * 256 + b ≡ 256 * n + b = omega arith in (
-          λ fits. ap (λ o. digits_of o bs) (room-more n b room) ∙ next.0 (omega (arith, fits)) ∙ ap (λ m. Some (big_endian_behind m bs)) swap,
+          λ fits. ap (λ o. digits_of o bs) (room-more n b room) ∙ next.0 (omega (arith, fits)) ∙
+              ap (λ m. Some (big_endian_behind m bs)) swap,
           λ over. ap (λ o. digits_of o bs) (room-more n b room) ∙ next.1 (omega (arith, over)),
         )
     by false e =
@@ -82,13 +91,15 @@ other-bytes x bs h = All-tail (λ n. n < 256) x bs h
 significant : (k n : ℕ) (bs : List ℕ) → AreBytes bs → 256 ^ k ≤ n → n < 256 ^ (k + 1) → k < 16 → AreMade k n bs
 unfolding big_endian_behind
 significant k n [] h low high lt = (λ fits. refl, λ over. absurd (omega (arith, over, lt)))
-significant k n (b ∷ bs) h low high lt = step k n b bs (first-byte b bs h) low high lt (λ l m r. significant (k + 1) (n * 256 + b) bs (other-bytes b bs h) l m r)
+significant k n (b ∷ bs) h low high lt = step k n b bs (first-byte b bs h) low high lt
+    (λ l m r. significant (k + 1) (n * 256 + b) bs (other-bytes b bs h) l m r)
 
 without-some : (x : ℕ) (bs : List ℕ) → x ≢ 0 → without_zeros (x ∷ bs) ≡ x ∷ bs
 without-some x bs p = let e = ne_eqb x 0 p in rw e refl
 
 abbrev AreNumber : List ℕ → Type 0
-AreNumber bs = ((length (without_zeros bs) ≤ 16) → digits_of (Some 0) bs ≡ Some (big_endian bs)) × ((16 < length (without_zeros bs)) → digits_of (Some 0) bs ≡ None)
+AreNumber bs = ((length (without_zeros bs) ≤ 16) → digits_of (Some 0) bs ≡ Some (big_endian bs)) ×
+    ((16 < length (without_zeros bs)) → digits_of (Some 0) bs ≡ None)
 
 number-some : (x : ℕ) (bs : List ℕ) → AreBytes (x ∷ bs) → x ≢ 0 → AreNumber (x ∷ bs)
 unfolding big_endian_behind
@@ -98,7 +109,8 @@ number-some x bs h p =
     let made = significant 0 x bs (other-bytes x bs h) (omega (arith, p)) (omega (arith, small)) (omega arith) in
     let first : one_digit_more (Some 0) x ≡ Some x = room-more 0 x (omega arith) ∙ ap Some (omega arith) in
     let same : x ≡ 256 * 0 + x = omega arith in (
-      λ fits. ap (λ o. digits_of o bs) first ∙ made.0 (omega (arith, fits, size)) ∙ ap (λ m. Some (big_endian_behind m bs)) same,
+      λ fits. ap (λ o. digits_of o bs) first ∙ made.0 (omega (arith, fits, size)) ∙
+          ap (λ m. Some (big_endian_behind m bs)) same,
       λ over. ap (λ o. digits_of o bs) first ∙ made.1 (omega (arith, over, size)),
     )
 
@@ -112,7 +124,8 @@ pub digits-some : (bs : List ℕ) (v : ℕ) → AreBytes bs → Some v ≡ digit
 digits-some bs v h e = by (ltb 16 (length (without_zeros bs))) refl
   where
     by : (t : Bool) → ltb 16 (length (without_zeros bs)) ≡ t → magnitude bs ≡ gives v
-    by true k = let over : 16 < length (without_zeros bs) = grind (arith, nat_tests) in let n : Some v ≡ None = e ∙ (number-of bs h).1 over in cc
+    by true k = let over : 16 < length (without_zeros bs) = grind (arith, nat_tests) in let n : Some v ≡ None = e ∙
+        (number-of bs h).1 over in cc
     by false k =
         let fits : length (without_zeros bs) ≤ 16 = grind (arith, nat_tests) in
         let n : Some v ≡ Some (big_endian bs) = e ∙ (number-of bs h).0 fits in
@@ -124,18 +137,27 @@ digits-none bs h e = by (ltb 16 (length (without_zeros bs))) refl
   where
     by : (t : Bool) → ltb 16 (length (without_zeros bs)) ≡ t → magnitude bs ≡ refuses kinds.TooLarge
     by true k = grind (arith, nat_tests)
-    by false k = let fits : length (without_zeros bs) ≤ 16 = grind (arith, nat_tests) in let n : None ≡ Some (big_endian bs) = e ∙ (number-of bs h).0 fits in cc
+    by false k = let fits : length (without_zeros bs) ≤ 16 = grind (arith, nat_tests) in
+        let n : None ≡ Some (big_endian bs) = e ∙ (number-of bs h).0 fits in cc
 
 -- ---- one byte more
 
-pub fill-fewer : (E : Type 0) {S : Type 0} (remaining : S → Option (List ℕ)) (d e : Decoder S) (buffer : List ℕ) → Takes remaining d e (λ b. IsFillTaken {E = E} b d.window.count buffer (Ok tt)) →
+pub fill-fewer : (E : Type 0) {S : Type 0} (remaining : S → Option (List ℕ)) (d e : Decoder S) (buffer : List ℕ) →
+    Takes remaining d e (λ b. IsFillTaken {E = E} b d.window.count buffer (Ok tt)) →
     3 * (greatest_offset - e.window.count) ≤ 3 * (greatest_offset - d.window.count)
-fill-fewer E remaining d e buffer (b, takes, count, taken, small) = let fits = e.window.fits in omega (arith, fits, count)
+fill-fewer E remaining d e buffer (b, takes, count, taken, small) = let fits = e.window.fits in
+    omega (arith, fits, count)
 
-pub digit-more : (E : Type 0) {S : Type 0} (remaining : S → Option (List ℕ)) (d e : Decoder S) (buffer : List ℕ) (x left n : ℕ) (start value next : Option ℕ) (y : List ℕ) → buffer ≡ x ∷ [] → 0 < left → next ≡ one_digit_more value x →
-    Takes remaining d e (λ b. IsFillTaken {E = E} b d.window.count buffer (Ok tt)) → ((c : List ℕ) × (z : List ℕ) × (length c + left ≡ n) × AreBytes c × (value ≡ digits_of start c) × (y ≡ c ++ z) × (left_of remaining d ≡ Some z)) →
-    (c : List ℕ) × (z : List ℕ) × (length c + (left - 1) ≡ n) × AreBytes c × (next ≡ digits_of start c) × (y ≡ c ++ z) × (left_of remaining e ≡ Some z)
-digit-more E remaining d e buffer x left n start value next y one some is (b, takes, count, taken, small) (c, z, len, low, val, split, known) =
+pub digit-more : (E : Type 0) {S : Type 0} (remaining : S → Option (List ℕ)) (d e : Decoder S) (buffer : List ℕ)
+    (x left n : ℕ) (start value next : Option ℕ) (y : List ℕ) → buffer ≡ x ∷ [] → 0 < left →
+    next ≡ one_digit_more value x →
+    Takes remaining d e (λ b. IsFillTaken {E = E} b d.window.count buffer (Ok tt)) →
+    ((c : List ℕ) × (z : List ℕ) × (length c + left ≡ n) × AreBytes c × (value ≡ digits_of start c) × (y ≡ c ++ z) ×
+    (left_of remaining d ≡ Some z)) →
+    (c : List ℕ) × (z : List ℕ) × (length c + (left - 1) ≡ n) × AreBytes c × (next ≡ digits_of start c) × (y ≡ c ++ z) ×
+    (left_of remaining e ≡ Some z)
+digit-more E remaining d e buffer x left n start value next y one some is (b, takes, count, taken, small)
+    (c, z, len, low, val, split, known) =
     let (r, left', f) = rest-of (left_of remaining d) (left_of remaining e) z b known takes in
     let same : b ≡ x ∷ [] = taken.0 ∙ one in
     let added = ap length same in
@@ -144,13 +166,16 @@ digit-more E remaining d e buffer x left n start value next y one some is (b, ta
       r,
       omega (arith, len, some, sum, added),
       All-append (λ k. k < 256) c b low small,
-      is ∙ ap (λ o. one_digit_more o x) val ∙ sym (ap (digits_of (digits_of start c)) same) ∙ sym (digits-append start c b),
+      is ∙ ap (λ o. one_digit_more o x) val ∙ sym (ap (digits_of (digits_of start c)) same) ∙
+          sym (digits-append start c b),
       split ∙ ap (λ (k : List ℕ). c ++ k) f ∙ sym (append_assoc c b r),
       left',
     )
 
 -- where so many bytes are there, filling a buffer with them is refused for what they do not decide
-pub fill-outside : {E : Type 0} {S : Type 0} (remaining : S → Option (List ℕ)) (d e : Decoder S) (buffer y : List ℕ) (x : LlError E) → left_of remaining d ≡ Some y → length buffer ≤ length y → Takes remaining d e (λ b. IsFillTaken {E = E} b d.window.count buffer (Err x)) →
+pub fill-outside : {E : Type 0} {S : Type 0} (remaining : S → Option (List ℕ)) (d e : Decoder S) (buffer y : List ℕ)
+    (x : LlError E) → left_of remaining d ≡ Some y → length buffer ≤ length y →
+    Takes remaining d e (λ b. IsFillTaken {E = E} b d.window.count buffer (Err x)) →
     IsOutsideFault (reader_of remaining d).1 (fault_of (from_ll x))
 fill-outside remaining d e buffer y (ll.Io x) left there (b, takes, counted, taken, bytes) = tt
 fill-outside remaining d e buffer y (ll.Syntax p) left there (b, takes, counted, taken, bytes) = absurd taken

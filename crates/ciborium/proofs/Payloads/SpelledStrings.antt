@@ -1,5 +1,6 @@
 -- Where a string is spelled, no part of it is refused as ill-formed.
-use Rattle.std.proofs.Common.{◌≡◌, ℕ, ◌+◌, List, [], ◌∷◌, ◌++◌, length, take, drop, Option, Some, None, refl, sym, ap, ◌∙◌, subst, append_assoc, inl, inr, ◌<◌, arith, length-append}
+use Rattle.std.proofs.Common.{◌≡◌, ℕ, ◌+◌, List, [], ◌∷◌, ◌++◌, length, take, drop, Option, Some, None, refl, sym, ap}
+use Rattle.std.proofs.Common.{◌∙◌, subst, append_assoc, inl, inr, ◌<◌, arith, length-append}
 use Rattle.std.proofs.Math.Seq.{take-append_seam, drop-append_seam}
 use Rattle.ciborium_ll.specs.declared.header.Header.TheVariants as header
 use Rattle.ciborium_ll.specs.declared.header.Error.{Error as LlError}
@@ -10,7 +11,8 @@ use Rattle.ciborium_ll.specs.Header.{SpellsHeader, announced_length}
 use Rattle.ciborium_ll.specs.ReaderSteps as reading
 use Rattle.ciborium_ll.specs.Refusal.{Refusal, io, syntax, too_long, HeadRefuses}
 use Rattle.ciborium_ll.specs.Spells.{Spells, AreChunks}
-use Rattle.ciborium_ll.specs.StringRefusal.{StringKind, of_bytes, of_text, string_major, IsAllowed, PayloadRefuses, ChunkRefuses, ContentRefuses}
+use Rattle.ciborium_ll.specs.StringRefusal.{StringKind, of_bytes, of_text, string_major, IsAllowed, PayloadRefuses}
+use Rattle.ciborium_ll.specs.StringRefusal.{ChunkRefuses, ContentRefuses}
 use Rattle.ciborium_ll.proofs.OneHeader.{one_header_at_front}
 use Rattle.ciborium_value.specs.Sources.{IsOutsideFault}
 use Rattle.ciborium.specs.Errors.{fault_of}
@@ -20,7 +22,8 @@ use Rattle.ciborium.proofs.Items.FrontReads.{head-passes, never-syntax}
 
 -- ---- one head, and behind it one payload
 
-pub string-spells : (kind : StringKind) (n : ℕ) (h : List ℕ) → IsHead h (string_major kind) n → SpellsHeader h (head_of kind (Some n))
+pub string-spells : (kind : StringKind) (n : ℕ) (h : List ℕ) → IsHead h (string_major kind) n →
+    SpellsHeader h (head_of kind (Some n))
 string-spells of_bytes n h hd = hd
 string-spells of_text n h hd = hd
 
@@ -32,93 +35,133 @@ no-break : (kind : StringKind) (n : ℕ) → head_of kind (Some n) ≡ header.Br
 no-break of_bytes n e = cc
 no-break of_text n e = cc
 
-pub same-payload : (kind : StringKind) (h k p q a b : List ℕ) → IsHead h (string_major kind) (length p) → IsHead k (string_major kind) (length q) → h ++ (p ++ a) ≡ k ++ (q ++ b) → (p ≡ q) × (a ≡ b)
+pub same-payload : (kind : StringKind) (h k p q a b : List ℕ) → IsHead h (string_major kind) (length p) →
+    IsHead k (string_major kind) (length q) → h ++ (p ++ a) ≡ k ++ (q ++ b) → (p ≡ q) × (a ≡ b)
 same-payload kind h k p q a b hd kd e =
-    let one = one_header_at_front h k (p ++ a) (q ++ b) (head_of kind (Some (length p))) (head_of kind (Some (length q))) (string-spells kind (length p) h hd) (string-spells kind (length q) k kd) e in
+    let one = one_header_at_front h k (p ++ a) (q ++ b) (head_of kind (Some (length p)))
+    (head_of kind (Some (length q))) (string-spells kind (length p) h hd) (string-spells kind (length q) k kd) e in
     let size : length p ≡ length q = same-size kind (length p) (length q) one.2 in (
       sym (take-append_seam p a) ∙ ap (λ n. take n (p ++ a)) size ∙ ap (take (length q)) one.1 ∙ take-append_seam q b,
       sym (drop-append_seam p a) ∙ ap (λ n. drop n (p ++ a)) size ∙ ap (drop (length q)) one.1 ∙ drop-append_seam q b,
     )
 
-pub string-break : (kind : StringKind) (h payload a z : List ℕ) → IsHead h (string_major kind) (length payload) → h ++ (payload ++ a) ≡ break_byte ∷ z → ⊥
+pub string-break : (kind : StringKind) (h payload a z : List ℕ) → IsHead h (string_major kind) (length payload) →
+    h ++ (payload ++ a) ≡ break_byte ∷ z → ⊥
 string-break kind h payload a z hd e =
-    no-break kind (length payload) (one_header_at_front h (break_byte ∷ []) (payload ++ a) z (head_of kind (Some (length payload))) header.Break (string-spells kind (length payload) h hd) refl e).2
+    no-break kind (length payload) (one_header_at_front h (break_byte ∷ []) (payload ++ a) z
+    (head_of kind (Some (length payload))) header.Break (string-spells kind (length payload) h hd) refl e).2
 
 pub opened-up : (h p s r g a : List ℕ) → s ≡ h ++ p → g ≡ s ++ r → g ++ a ≡ h ++ (p ++ (r ++ a))
-opened-up h p s r g a e f = ap (λ (k : List ℕ). k ++ a) (f ∙ ap (λ (k : List ℕ). k ++ r) e) ∙ append_assoc (h ++ p) r a ∙ append_assoc h p (r ++ a)
+opened-up h p s r g a e f = ap (λ (k : List ℕ). k ++ a) (f ∙ ap (λ (k : List ℕ). k ++ r) e) ∙
+    append_assoc (h ++ p) r a ∙ append_assoc h p (r ++ a)
 
 pub same-rest : (x : ℕ) (a b : List ℕ) → x ∷ a ≡ x ∷ b → a ≡ b
 same-rest x a b e = cc
 
 -- ---- none is refused
 
-payload-never : (kind : StringKind) (n p at : ℕ) (y : List ℕ) (e : Refusal) (payload z : List ℕ) → e ≡ syntax at → n ≡ length payload → IsAllowed kind payload → y ≡ payload ++ z → PayloadRefuses kind n p y e → ⊥
+payload-never : (kind : StringKind) (n p at : ℕ) (y : List ℕ) (e : Refusal) (payload z : List ℕ) → e ≡ syntax at →
+    n ≡ length payload → IsAllowed kind payload → y ≡ payload ++ z → PayloadRefuses kind n p y e → ⊥
 payload-never kind n p at y io payload z is size ok f (PayloadRefuses.ends_early lt) = cc
 payload-never kind n p at y e payload z is size ok f (PayloadRefuses.not_allowed other r len bad) =
-    let same : other ≡ payload = sym (take-append_seam other r) ∙ ap (λ k. take k (other ++ r)) (len ∙ size) ∙ ap (take (length payload)) f ∙ take-append_seam payload z in
+    let same : other ≡ payload = sym (take-append_seam other r) ∙ ap (λ k. take k (other ++ r)) (len ∙ size) ∙
+    ap (take (length payload)) f ∙ take-append_seam payload z in
     bad (subst (IsAllowed kind) (sym same) ok)
 
 -- at a break
-break-never : (kind : StringKind) (p at : ℕ) (r z : List ℕ) (e : Refusal) → e ≡ syntax at → r ≡ break_byte ∷ z → ChunkRefuses kind r p e → ⊥
-break-never kind p at r z e is f (ChunkRefuses.no_head h) = never-syntax (break_byte ∷ []) z header.Break p at refl (subst (λ (k : List ℕ). HeadRefuses k p (syntax at)) f (subst (HeadRefuses r p) is h))
+break-never : (kind : StringKind) (p at : ℕ) (r z : List ℕ) (e : Refusal) → e ≡ syntax at → r ≡ break_byte ∷ z →
+    ChunkRefuses kind r p e → ⊥
+break-never kind p at r z e is f (ChunkRefuses.no_head h) =
+    never-syntax (break_byte ∷ []) z header.Break p at refl
+    (subst (λ (k : List ℕ). HeadRefuses k p (syntax at)) f (subst (HeadRefuses r p) is h))
 break-never kind p at r z e is f (ChunkRefuses.chunk u (n, k, r', (h, hd, len, g), w)) =
-    no-break kind n (one_header_at_front h (break_byte ∷ []) r' z (head_of kind (Some n)) header.Break (string-spells kind n h hd) refl (sym g ∙ f)).2
+    no-break kind n (one_header_at_front h (break_byte ∷ []) r' z (head_of kind (Some n)) header.Break
+    (string-spells kind n h hd) refl (sym g ∙ f)).2
 break-never kind p at r z e is f (ChunkRefuses.other u string end) = end (z, f)
 
 -- at a good part
-part-never : (kind : StringKind) (p at : ℕ) (r h payload z : List ℕ) (e : Refusal) → e ≡ syntax at → IsHead h (string_major kind) (length payload) → IsAllowed kind payload → r ≡ h ++ (payload ++ z) → ChunkRefuses kind r p e → ⊥
+part-never : (kind : StringKind) (p at : ℕ) (r h payload z : List ℕ) (e : Refusal) → e ≡ syntax at →
+    IsHead h (string_major kind) (length payload) → IsAllowed kind payload → r ≡ h ++ (payload ++ z) →
+    ChunkRefuses kind r p e → ⊥
 part-never kind p at r h payload z e is hd ok f (ChunkRefuses.no_head w) =
-    never-syntax h (payload ++ z) (head_of kind (Some (length payload))) p at (string-spells kind (length payload) h hd) (subst (λ (k : List ℕ). HeadRefuses k p (syntax at)) f (subst (HeadRefuses r p) is w))
+    never-syntax h (payload ++ z) (head_of kind (Some (length payload))) p at (string-spells kind (length payload) h hd)
+    (subst (λ (k : List ℕ). HeadRefuses k p (syntax at)) f (subst (HeadRefuses r p) is w))
 part-never kind p at r h payload z e is hd ok f (ChunkRefuses.chunk u (n, k, r', (x, xd, len, g), w)) =
-    let one = one_header_at_front x h r' (payload ++ z) (head_of kind (Some n)) (head_of kind (Some (length payload))) (string-spells kind n x xd) (string-spells kind (length payload) h hd) (sym g ∙ f) in
+    let one = one_header_at_front x h r' (payload ++ z) (head_of kind (Some n)) (head_of kind (Some (length payload)))
+    (string-spells kind n x xd) (string-spells kind (length payload) h hd) (sym g ∙ f) in
     payload-never kind n p at r' e payload z is (same-size kind n (length payload) one.2) ok one.1 w
-part-never kind p at r h payload z e is hd ok f (ChunkRefuses.other u string end) = string (length payload, length h, payload ++ z, (h, hd, refl, f))
+part-never kind p at r h payload z e is hd ok f (ChunkRefuses.other u string end) =
+    string (length payload, length h, payload ++ z, (h, hd, refl, f))
 
-parts-never : (kind : StringKind) (p at : ℕ) (good t r z : List ℕ) (ps qs : List (List ℕ)) (e : Refusal) → e ≡ syntax at → AreChunks (string_major kind) (IsAllowed kind) good ps → AreChunks (string_major kind) (IsAllowed kind) t qs →
+parts-never : (kind : StringKind) (p at : ℕ) (good t r z : List ℕ) (ps qs : List (List ℕ)) (e : Refusal) →
+    e ≡ syntax at → AreChunks (string_major kind) (IsAllowed kind) good ps →
+    AreChunks (string_major kind) (IsAllowed kind) t qs →
     good ++ r ≡ t ++ (break_byte ∷ z) → ChunkRefuses kind r p e → ⊥
-parts-never kind p at good t r z [] [] e is g h f w = break-never kind p at r z e is (ap (λ (k : List ℕ). k ++ r) (sym g) ∙ f ∙ ap (λ (k : List ℕ). k ++ (break_byte ∷ z)) h) w
+parts-never kind p at good t r z [] [] e is g h f w = break-never kind p at r z e is
+    (ap (λ (k : List ℕ). k ++ r) (sym g) ∙ f ∙ ap (λ (k : List ℕ). k ++ (break_byte ∷ z)) h) w
 parts-never kind p at good t r z [] (q ∷ qs) e is g (s, c, (x, hd, ok, i), rest, j) f w =
-    part-never kind p at r x q (c ++ (break_byte ∷ z)) e is hd ok (ap (λ (k : List ℕ). k ++ r) (sym g) ∙ f ∙ opened-up x q s c t (break_byte ∷ z) i j) w
+    part-never kind p at r x q (c ++ (break_byte ∷ z)) e is hd ok
+    (ap (λ (k : List ℕ). k ++ r) (sym g) ∙ f ∙ opened-up x q s c t (break_byte ∷ z) i j) w
 parts-never kind p at good t r z (m ∷ ps) [] e is (s, c, (x, hd, ok, i), rest, j) h f w =
-    string-break kind x m (c ++ r) z hd (sym (opened-up x m s c good r i j) ∙ f ∙ ap (λ (k : List ℕ). k ++ (break_byte ∷ z)) h)
-parts-never kind p at good t r z (m ∷ ps) (q ∷ qs) e is (s, c, (x, hd, ok, i), rest, j) (s', c', (x', hd', ok', i'), rest', j') f w =
-    let same = same-payload kind x x' m q (c ++ r) (c' ++ (break_byte ∷ z)) hd hd' (sym (opened-up x m s c good r i j) ∙ f ∙ opened-up x' q s' c' t (break_byte ∷ z) i' j') in
+    string-break kind x m (c ++ r) z hd (sym (opened-up x m s c good r i j) ∙ f ∙
+    ap (λ (k : List ℕ). k ++ (break_byte ∷ z)) h)
+parts-never kind p at good t r z (m ∷ ps) (q ∷ qs) e is (s, c, (x, hd, ok, i), rest, j)
+    (s', c', (x', hd', ok', i'), rest', j') f w =
+    let same = same-payload kind x x' m q (c ++ r) (c' ++ (break_byte ∷ z)) hd hd'
+    (sym (opened-up x m s c good r i j) ∙ f ∙ opened-up x' q s' c' t (break_byte ∷ z) i' j') in
     parts-never kind p at c c' r z ps qs e is rest rest' same.1 w
 
-definite-parts : (kind : StringKind) (n : ℕ) (s payload : List ℕ) → Spells s (string_item kind (Some n) payload) → (h : List ℕ) × IsHead h (string_major kind) (length payload) × IsAllowed kind payload × (s ≡ h ++ payload)
+definite-parts : (kind : StringKind) (n : ℕ) (s payload : List ℕ) → Spells s (string_item kind (Some n) payload) →
+    (h : List ℕ) × IsHead h (string_major kind) (length payload) × IsAllowed kind payload × (s ≡ h ++ payload)
 definite-parts of_bytes n s payload h = h
 definite-parts of_text n s payload h = h
 
-open-parts : (kind : StringKind) (s payload : List ℕ) → Spells s (string_item kind None payload) → (ps : List (List ℕ)) × (r : List ℕ) × AreChunks (string_major kind) (IsAllowed kind) r ps × (s ≡ open_byte (string_major kind) ∷ (r ++ (break_byte ∷ [])))
+open-parts : (kind : StringKind) (s payload : List ℕ) → Spells s (string_item kind None payload) →
+    (ps : List (List ℕ)) × (r : List ℕ) × AreChunks (string_major kind) (IsAllowed kind) r ps ×
+    (s ≡ open_byte (string_major kind) ∷ (r ++ (break_byte ∷ [])))
 open-parts of_bytes s payload (ps, r, a, j, e) = (ps, r, a, e)
 open-parts of_text s payload (ps, r, a, j, e) = (ps, r, a, e)
 
-open-spells : (kind : StringKind) (x : List ℕ) → SpellsHeader x (head_of kind None) → x ≡ open_byte (string_major kind) ∷ []
+open-spells : (kind : StringKind) (x : List ℕ) → SpellsHeader x (head_of kind None) →
+    x ≡ open_byte (string_major kind) ∷ []
 open-spells of_bytes x h = h
 open-spells of_text x h = h
 
 -- behind the head of a definite string its payload stands
-pub definite-payload : (kind : StringKind) (n : ℕ) (y x s z payload : List ℕ) → SpellsHeader x (head_of kind (Some n)) → Spells s (string_item kind (Some n) payload) → x ++ y ≡ s ++ z → (n ≡ length payload) × IsAllowed kind payload × (y ≡ payload ++ z)
+pub definite-payload : (kind : StringKind) (n : ℕ) (y x s z payload : List ℕ) → SpellsHeader x (head_of kind (Some n)) →
+    Spells s (string_item kind (Some n) payload) → x ++ y ≡ s ++ z → (n ≡ length payload) × IsAllowed kind payload ×
+    (y ≡ payload ++ z)
 definite-payload kind n y x s z payload hd sp e =
     let (h, kd, ok, f) = definite-parts kind n s payload sp in
-    let one = one_header_at_front x h y (payload ++ z) (head_of kind (Some n)) (head_of kind (Some (length payload))) hd (string-spells kind (length payload) h kd) (e ∙ ap (λ (k : List ℕ). k ++ z) f ∙ append_assoc h payload z) in
+    let one = one_header_at_front x h y (payload ++ z) (head_of kind (Some n)) (head_of kind (Some (length payload))) hd
+    (string-spells kind (length payload) h kd) (e ∙ ap (λ (k : List ℕ). k ++ z) f ∙ append_assoc h payload z) in
     (same-size kind n (length payload) one.2, ok, one.1)
 
-pub definite-never : (kind : StringKind) (n p at : ℕ) (y x s z payload : List ℕ) → SpellsHeader x (head_of kind (Some n)) → Spells s (string_item kind (Some n) payload) → x ++ y ≡ s ++ z → PayloadRefuses kind n p y (syntax at) → ⊥
-definite-never kind n p at y x s z payload hd sp e w = let (size, ok, f) = definite-payload kind n y x s z payload hd sp e in payload-never kind n p at y (syntax at) payload z refl size ok f w
+pub definite-never : (kind : StringKind) (n p at : ℕ) (y x s z payload : List ℕ) →
+    SpellsHeader x (head_of kind (Some n)) → Spells s (string_item kind (Some n) payload) → x ++ y ≡ s ++ z →
+    PayloadRefuses kind n p y (syntax at) → ⊥
+definite-never kind n p at y x s z payload hd sp e w = let (size, ok, f) =
+    definite-payload kind n y x s z payload hd sp e in
+    payload-never kind n p at y (syntax at) payload z refl size ok f w
 
-pub content-never : (kind : StringKind) (len : Option ℕ) (p q at : ℕ) (y x s z payload : List ℕ) → SpellsHeader x (head_of kind len) → Spells s (string_item kind len payload) → x ++ y ≡ s ++ z → ContentRefuses kind len p y q (syntax at) → ⊥
+pub content-never : (kind : StringKind) (len : Option ℕ) (p q at : ℕ) (y x s z payload : List ℕ) →
+    SpellsHeader x (head_of kind len) → Spells s (string_item kind len payload) → x ++ y ≡ s ++ z →
+    ContentRefuses kind len p y q (syntax at) → ⊥
 content-never kind (Some n) p q at y x s z payload hd sp e (inl (over, never)) = cc
-content-never kind (Some n) p q at y x s z payload hd sp e (inr (within, w)) = definite-never kind n p at y x s z payload hd sp e w
+content-never kind (Some n) p q at y x s z payload hd sp e (inr (within, w)) =
+    definite-never kind n p at y x s z payload hd sp e w
 content-never kind None p q at y x s z payload hd sp e (good, ps, r, parts, room, split, w) =
     let (qs, t, are, f) = open-parts kind s payload sp in
     let o : ℕ = open_byte (string_major kind) in
-    let behind : y ≡ (t ++ (break_byte ∷ [])) ++ z = same-rest o y ((t ++ (break_byte ∷ [])) ++ z) (ap (λ (k : List ℕ). k ++ y) (sym (open-spells kind x hd)) ∙ e ∙ ap (λ (k : List ℕ). k ++ z) f) in
-    parts-never kind (q + length good) at good t r z ps qs (syntax at) refl parts are (sym split ∙ behind ∙ append_assoc t (break_byte ∷ []) z) w
+    let behind : y ≡ (t ++ (break_byte ∷ [])) ++ z = same-rest o y ((t ++ (break_byte ∷ [])) ++ z)
+    (ap (λ (k : List ℕ). k ++ y) (sym (open-spells kind x hd)) ∙ e ∙ ap (λ (k : List ℕ). k ++ z) f) in
+    parts-never kind (q + length good) at good t r z ps qs (syntax at) refl parts are
+    (sym split ∙ behind ∙ append_assoc t (break_byte ∷ []) z) w
 
 -- ---- what is refused as too long is
 
-pub payload-long : (kind : StringKind) (n p : ℕ) (y : List ℕ) (e : Refusal) → e ≡ too_long → PayloadRefuses kind n p y e → ⊥
+pub payload-long : (kind : StringKind) (n p : ℕ) (y : List ℕ) (e : Refusal) → e ≡ too_long →
+    PayloadRefuses kind n p y e → ⊥
 payload-long kind n p y io is (PayloadRefuses.ends_early lt) = cc
 payload-long kind n p y e is (PayloadRefuses.not_allowed other r len bad) = cc
 
@@ -127,51 +170,75 @@ announced-string of_bytes n = refl
 announced-string of_text n = refl
 
 -- at a break
-break-long : (kind : StringKind) (p : ℕ) (r z : List ℕ) (e : Refusal) → e ≡ too_long → r ≡ break_byte ∷ z → ChunkRefuses kind r p e → greatest_offset < p + length r
+break-long : (kind : StringKind) (p : ℕ) (r z : List ℕ) (e : Refusal) → e ≡ too_long → r ≡ break_byte ∷ z →
+    ChunkRefuses kind r p e → greatest_offset < p + length r
 break-long kind p r z e is f (ChunkRefuses.no_head h) =
-    subst (λ (k : List ℕ). greatest_offset < p + length k) (sym f) (head-passes (break_byte ∷ []) z header.Break p refl (omega arith) (subst (λ (k : List ℕ). HeadRefuses k p too_long) f (subst (HeadRefuses r p) is h)))
-break-long kind p r z e is f (ChunkRefuses.chunk u (n, k, r', (h, hd, len, g), w)) = absurd (payload-long kind n p r' e is w)
+    subst (λ (k : List ℕ). greatest_offset < p + length k) (sym f)
+    (head-passes (break_byte ∷ []) z header.Break p refl (omega arith)
+    (subst (λ (k : List ℕ). HeadRefuses k p too_long) f (subst (HeadRefuses r p) is h)))
+break-long kind p r z e is f (ChunkRefuses.chunk u (n, k, r', (h, hd, len, g), w)) =
+    absurd (payload-long kind n p r' e is w)
 break-long kind p r z e is f (ChunkRefuses.other u string end) = cc
 
 -- at a good part
-part-long : (kind : StringKind) (p : ℕ) (r h payload z : List ℕ) (e : Refusal) → e ≡ too_long → IsHead h (string_major kind) (length payload) → r ≡ h ++ (payload ++ z) → ChunkRefuses kind r p e → greatest_offset < p + length r
+part-long : (kind : StringKind) (p : ℕ) (r h payload z : List ℕ) (e : Refusal) → e ≡ too_long →
+    IsHead h (string_major kind) (length payload) → r ≡ h ++ (payload ++ z) → ChunkRefuses kind r p e →
+    greatest_offset < p + length r
 part-long kind p r h payload z e is hd f (ChunkRefuses.no_head w) =
     let there = announced-string kind (length payload) in
     let more = length-append payload z in
     subst (λ (k : List ℕ). greatest_offset < p + length k) (sym f)
-    (head-passes h (payload ++ z) (head_of kind (Some (length payload))) p (string-spells kind (length payload) h hd) (omega (arith, there, more)) (subst (λ (k : List ℕ). HeadRefuses k p too_long) f (subst (HeadRefuses r p) is w)))
-part-long kind p r h payload z e is hd f (ChunkRefuses.chunk u (n, k, r', (x, xd, len, g), w)) = absurd (payload-long kind n p r' e is w)
+    (head-passes h (payload ++ z) (head_of kind (Some (length payload))) p (string-spells kind (length payload) h hd)
+    (omega (arith, there, more)) (subst (λ (k : List ℕ). HeadRefuses k p too_long) f
+    (subst (HeadRefuses r p) is w)))
+part-long kind p r h payload z e is hd f (ChunkRefuses.chunk u (n, k, r', (x, xd, len, g), w)) =
+    absurd (payload-long kind n p r' e is w)
 part-long kind p r h payload z e is hd f (ChunkRefuses.other u string end) = cc
 
-parts-long : (kind : StringKind) (p : ℕ) (good t r z : List ℕ) (ps qs : List (List ℕ)) (e : Refusal) → e ≡ too_long → AreChunks (string_major kind) (IsAllowed kind) good ps → AreChunks (string_major kind) (IsAllowed kind) t qs →
+parts-long : (kind : StringKind) (p : ℕ) (good t r z : List ℕ) (ps qs : List (List ℕ)) (e : Refusal) → e ≡ too_long →
+    AreChunks (string_major kind) (IsAllowed kind) good ps → AreChunks (string_major kind) (IsAllowed kind) t qs →
     good ++ r ≡ t ++ (break_byte ∷ z) → ChunkRefuses kind r p e → greatest_offset < p + length r
-parts-long kind p good t r z [] [] e is g h f w = break-long kind p r z e is (ap (λ (k : List ℕ). k ++ r) (sym g) ∙ f ∙ ap (λ (k : List ℕ). k ++ (break_byte ∷ z)) h) w
+parts-long kind p good t r z [] [] e is g h f w = break-long kind p r z e is
+    (ap (λ (k : List ℕ). k ++ r) (sym g) ∙ f ∙ ap (λ (k : List ℕ). k ++ (break_byte ∷ z)) h) w
 parts-long kind p good t r z [] (q ∷ qs) e is g (s, c, (x, hd, ok, i), rest, j) f w =
-    part-long kind p r x q (c ++ (break_byte ∷ z)) e is hd (ap (λ (k : List ℕ). k ++ r) (sym g) ∙ f ∙ opened-up x q s c t (break_byte ∷ z) i j) w
+    part-long kind p r x q (c ++ (break_byte ∷ z)) e is hd
+    (ap (λ (k : List ℕ). k ++ r) (sym g) ∙ f ∙ opened-up x q s c t (break_byte ∷ z) i j) w
 parts-long kind p good t r z (m ∷ ps) [] e is (s, c, (x, hd, ok, i), rest, j) h f w =
-    absurd (string-break kind x m (c ++ r) z hd (sym (opened-up x m s c good r i j) ∙ f ∙ ap (λ (k : List ℕ). k ++ (break_byte ∷ z)) h))
-parts-long kind p good t r z (m ∷ ps) (q ∷ qs) e is (s, c, (x, hd, ok, i), rest, j) (s', c', (x', hd', ok', i'), rest', j') f w =
-    let same = same-payload kind x x' m q (c ++ r) (c' ++ (break_byte ∷ z)) hd hd' (sym (opened-up x m s c good r i j) ∙ f ∙ opened-up x' q s' c' t (break_byte ∷ z) i' j') in
+    absurd (string-break kind x m (c ++ r) z hd (sym (opened-up x m s c good r i j) ∙ f ∙
+    ap (λ (k : List ℕ). k ++ (break_byte ∷ z)) h))
+parts-long kind p good t r z (m ∷ ps) (q ∷ qs) e is (s, c, (x, hd, ok, i), rest, j)
+    (s', c', (x', hd', ok', i'), rest', j') f w =
+    let same = same-payload kind x x' m q (c ++ r) (c' ++ (break_byte ∷ z)) hd hd'
+    (sym (opened-up x m s c good r i j) ∙ f ∙ opened-up x' q s' c' t (break_byte ∷ z) i' j') in
     parts-long kind p c c' r z ps qs e is rest rest' same.1 w
 
 -- where a string is spelled, what follows its head is refused as too long only where what is there is
-pub content-long : (kind : StringKind) (len : Option ℕ) (p q : ℕ) (y x s z payload : List ℕ) → SpellsHeader x (head_of kind len) → Spells s (string_item kind len payload) → x ++ y ≡ s ++ z → ContentRefuses kind len p y q too_long → greatest_offset < q + length y
+pub content-long : (kind : StringKind) (len : Option ℕ) (p q : ℕ) (y x s z payload : List ℕ) →
+    SpellsHeader x (head_of kind len) → Spells s (string_item kind len payload) → x ++ y ≡ s ++ z →
+    ContentRefuses kind len p y q too_long → greatest_offset < q + length y
 content-long kind (Some n) p q y x s z payload hd sp e (inl (over, same)) =
     let (size, ok, f) = definite-payload kind n y x s z payload hd sp e in
     let long : length y ≡ length payload + length z = ap length f ∙ length-append payload z in
     omega (arith, over, size, long)
-content-long kind (Some n) p q y x s z payload hd sp e (inr (within, w)) = absurd (payload-long kind n p y too_long refl w)
+content-long kind (Some n) p q y x s z payload hd sp e (inr (within, w)) =
+    absurd (payload-long kind n p y too_long refl w)
 content-long kind None p q y x s z payload hd sp e (good, ps, r, parts, room, split, w) =
     let (qs, t, are, f) = open-parts kind s payload sp in
     let o : ℕ = open_byte (string_major kind) in
-    let behind : y ≡ (t ++ (break_byte ∷ [])) ++ z = same-rest o y ((t ++ (break_byte ∷ [])) ++ z) (ap (λ (k : List ℕ). k ++ y) (sym (open-spells kind x hd)) ∙ e ∙ ap (λ (k : List ℕ). k ++ z) f) in
-    let long = parts-long kind (q + length good) good t r z ps qs too_long refl parts are (sym split ∙ behind ∙ append_assoc t (break_byte ∷ []) z) w in
+    let behind : y ≡ (t ++ (break_byte ∷ [])) ++ z = same-rest o y ((t ++ (break_byte ∷ [])) ++ z)
+    (ap (λ (k : List ℕ). k ++ y) (sym (open-spells kind x hd)) ∙ e ∙ ap (λ (k : List ℕ). k ++ z) f) in
+    let long = parts-long kind (q + length good) good t r z ps qs too_long refl parts are
+    (sym split ∙ behind ∙ append_assoc t (break_byte ∷ []) z) w in
     let size : length y ≡ length good + length r = ap length split ∙ length-append good r in
     omega (arith, long, size)
 
-pub content-outside : {E : Type 0} (left : Option (List ℕ)) (e : LlError E) (kind : StringKind) (len : Option ℕ) (p q : ℕ) (y x s z payload : List ℕ) → SpellsHeader x (head_of kind len) → Spells s (string_item kind len payload) → x ++ y ≡ s ++ z →
+pub content-outside : {E : Type 0} (left : Option (List ℕ)) (e : LlError E) (kind : StringKind) (len : Option ℕ)
+    (p q : ℕ) (y x s z payload : List ℕ) → SpellsHeader x (head_of kind len) → Spells s (string_item kind len payload) →
+    x ++ y ≡ s ++ z →
     reading.IsRefusalOf left e (ContentRefuses kind len p y q) → IsOutsideFault (q + length y) (fault_of (from_ll e))
 content-outside left (ll.Io e) kind len p q y x s z payload hd sp f r = tt
-content-outside left (ll.Syntax at) kind len p q y x s z payload hd sp f r = absurd (content-never kind len p q at y x s z payload hd sp f r)
-content-outside left ll.TooLong kind len p q y x s z payload hd sp f r = content-long kind len p q y x s z payload hd sp f r
+content-outside left (ll.Syntax at) kind len p q y x s z payload hd sp f r =
+    absurd (content-never kind len p q at y x s z payload hd sp f r)
+content-outside left ll.TooLong kind len p q y x s z payload hd sp f r =
+    content-long kind len p q y x s z payload hd sp f r
 content-outside left ll.Memory kind len p q y x s z payload hd sp f r = tt

@@ -1,5 +1,6 @@
 -- Payloads that were taken behind the heads of strings.
-use Rattle.std.proofs.Common.{◌≡◌, ℕ, ◌+◌, ◌-◌, ◌*◌, ◌≤◌, Bool, true, false, List, [], ◌∷◌, ◌++◌, length, Option, Some, None, Ok, refl, sym, ap, ◌∙◌, subst, arith, inl, inr, length-append}
+use Rattle.std.proofs.Common.{◌≡◌, ℕ, ◌+◌, ◌-◌, ◌*◌, ◌≤◌, Bool, true, false, List, [], ◌∷◌, ◌++◌, length, Option, Some}
+use Rattle.std.proofs.Common.{None, Ok, refl, sym, ap, ◌∙◌, subst, arith, inl, inr, length-append}
 use Rattle.ciborium_ll.specs.declared.header.Header.{Header}
 use Rattle.ciborium_ll.specs.declared.header.Header.TheVariants as header
 use Rattle.ciborium_ll.specs.declared.decoder.Decoder.{Decoder}
@@ -24,25 +25,47 @@ use Rattle.ciborium.proofs.Items.ItemHeads.{header_of, same-head, by-shape, no-b
 use Rattle.ciborium.proofs.Items.SkippedTags.{ReadsBehind, untagged-under, denies-of-item, reads-bare}
 
 -- the payload that was taken makes a string with its head
-content-spelled : (E : Type 0) (kind : StringKind) (len : Option ℕ) (p q : ℕ) (added c : List ℕ) → IsStringTaken {E = E} kind len p c q (Ok tt) added → IsContent kind len c added
+content-spelled : (E : Type 0) (kind : StringKind) (len : Option ℕ) (p q : ℕ) (added c : List ℕ) →
+    IsStringTaken {E = E} kind len p c q (Ok tt) added → IsContent kind len c added
 content-spelled E kind (Some n) p q added c (inl (over, never, a, b)) x hd = cc
-content-spelled E of_bytes (Some n) p q added c (inr (w, (size, ok, same))) x hd = (x, subst (IsHead x 2) (sym size ∙ ap length (sym same)) hd, subst (IsAllowed of_bytes) (sym same) ok, ap (λ (z : List ℕ). x ++ z) (sym same))
-content-spelled E of_text (Some n) p q added c (inr (w, (size, ok, same))) x hd = (x, subst (IsHead x 3) (sym size ∙ ap length (sym same)) hd, subst (IsAllowed of_text) (sym same) ok, ap (λ (z : List ℕ). x ++ z) (sym same))
-content-spelled E of_bytes None p q added c (ps, s, parts, room, split, same) x hd = (ps, s, parts, same, ap (λ (z : List ℕ). z ++ c) hd ∙ ap (λ (z : List ℕ). open_byte 2 ∷ z) split)
-content-spelled E of_text None p q added c (ps, s, parts, room, split, same) x hd = (ps, s, parts, same, ap (λ (z : List ℕ). z ++ c) hd ∙ ap (λ (z : List ℕ). open_byte 3 ∷ z) split)
+content-spelled E of_bytes (Some n) p q added c (inr (w, (size, ok, same))) x hd = (
+  x,
+  subst (IsHead x 2) (sym size ∙ ap length (sym same)) hd,
+  subst (IsAllowed of_bytes) (sym same) ok,
+  ap (λ (z : List ℕ). x ++ z) (sym same),
+)
+content-spelled E of_text (Some n) p q added c (inr (w, (size, ok, same))) x hd = (
+  x,
+  subst (IsHead x 3) (sym size ∙ ap length (sym same)) hd,
+  subst (IsAllowed of_text) (sym same) ok,
+  ap (λ (z : List ℕ). x ++ z) (sym same),
+)
+content-spelled E of_bytes None p q added c (ps, s, parts, room, split, same) x hd =
+    (ps, s, parts, same, ap (λ (z : List ℕ). z ++ c) hd ∙ ap (λ (z : List ℕ). open_byte 2 ∷ z) split)
+content-spelled E of_text None p q added c (ps, s, parts, room, split, same) x hd =
+    (ps, s, parts, same, ap (λ (z : List ℕ). z ++ c) hd ∙ ap (λ (z : List ℕ). open_byte 3 ∷ z) split)
 
 -- a string that was appended to an empty one
-pub content-taken : (E : Type 0) {S : Type 0} (remaining : S → Option (List ℕ)) (d e : Decoder S) (pending : Option (Header × ℕ)) (kind : StringKind) (len : Option ℕ) (start out : List ℕ) → pending ≡ None → start ≡ [] →
-    Takes remaining d e (λ b. (added : List ℕ) × (out ≡ start ++ added) × IsStringTaken {E = E} kind len d.last b d.window.count (Ok tt) added) →
+pub content-taken : (E : Type 0) {S : Type 0} (remaining : S → Option (List ℕ)) (d e : Decoder S)
+    (pending : Option (Header × ℕ)) (kind : StringKind) (len : Option ℕ) (start out : List ℕ) → pending ≡ None →
+    start ≡ [] →
+    Takes remaining d e (λ b. (added : List ℕ) × (out ≡ start ++ added) ×
+    IsStringTaken {E = E} kind len d.last b d.window.count (Ok tt) added) →
     TakesContent (IsUnreadBy remaining d pending) (IsUnreadBy remaining e pending) kind len out
 content-taken E remaining d e pending kind len start out none empty (b, takes, count, (added, is, taken), small) y u =
     let known : left_of remaining d ≡ Some y = subst (λ o. IsUnreadBy remaining d o y) none u in
     let (z, left, split) = rest-of (left_of remaining d) (left_of remaining e) y b known takes in
-    let all : added ≡ out = sym (is ∙ ap (λ (s : List ℕ). s ++ added) empty) in
-    (b, z, subst (IsContent kind len b) all (content-spelled E kind len d.last d.window.count added b taken), split, subst (λ o. IsUnreadBy remaining e o z) (sym none) left)
+    let all : added ≡ out = sym (is ∙ ap (λ (s : List ℕ). s ++ added) empty) in (
+      b,
+      z,
+      subst (IsContent kind len b) all (content-spelled E kind len d.last d.window.count added b taken),
+      split,
+      subst (λ o. IsUnreadBy remaining e o z) (sym none) left,
+    )
 
 -- an item that begins with the head of a string is a string
-pub string-only : (kind : StringKind) (len : Option ℕ) (i : Item) → header_of i ≡ head_of kind len → (payload : List ℕ) × (i ≡ string_item kind len payload)
+pub string-only : (kind : StringKind) (len : Option ℕ) (i : Item) → header_of i ≡ head_of kind len →
+    (payload : List ℕ) × (i ≡ string_item kind len payload)
 string-only of_bytes len (unsigned n) e = cc
 string-only of_bytes len (negative n) e = cc
 string-only of_bytes (Some n) (bytes false b) e = (b, refl)
@@ -69,7 +92,9 @@ string-only of_text len (simple n) e = cc
 string-only of_text len (float raw) e = cc
 
 -- a string whose payload is refused stands in no item
-pub denies-content : {S : Type 0} (IsUnread : S → List ℕ → Type 0) (End : S → ℕ) (numbers : Bool) (old mid : S) (kind : StringKind) (len : Option ℕ) (fault : Fault) → ((b : List ℕ) → IsUnread old b → End mid ≡ End old) → TakesBare IsUnread old mid numbers (head_of kind len) → DeniesContent (IsUnread mid) (End mid) kind len fault →
+pub denies-content : {S : Type 0} (IsUnread : S → List ℕ → Type 0) (End : S → ℕ) (numbers : Bool) (old mid : S)
+    (kind : StringKind) (len : Option ℕ) (fault : Fault) → ((b : List ℕ) → IsUnread old b → End mid ≡ End old) →
+    TakesBare IsUnread old mid numbers (head_of kind len) → DeniesContent (IsUnread mid) (End mid) kind len fault →
     DeniesItem IsUnread End old fault
 denies-content IsUnread End numbers old mid kind len fault same bare none b s z j u sp e =
     let (ts, w, x, y, tagged, all, hd, f, un) = bare b u in
@@ -78,13 +103,19 @@ denies-content IsUnread End numbers old mid kind len fault same bare none b s z 
     subst (λ n. IsOutsideFault n fault) (same b u) (none y x t z payload un hd (subst (Spells t) io sq) (sym f ∙ g))
 
 -- so the item that the string is in is refused
-pub denies-string : {S A : Type 0} (IsUnread : S → List ℕ → Type 0) (End : S → ℕ) (l : Limit) (taken : Taken A) (old mid : S) (kind : StringKind) (len : Option ℕ) (fault : Fault) → ((b : List ℕ) → IsUnread old b → End mid ≡ End old) →
-    TakesBare IsUnread old mid false (head_of kind len) → DeniesContent (IsUnread mid) (End mid) kind len fault → Denies IsUnread End old l taken fault
-denies-string IsUnread End l taken old mid kind len fault same bare none = denies-of-item IsUnread End l taken old fault (denies-content IsUnread End false old mid kind len fault same bare none)
+pub denies-string : {S A : Type 0} (IsUnread : S → List ℕ → Type 0) (End : S → ℕ) (l : Limit) (taken : Taken A)
+    (old mid : S) (kind : StringKind) (len : Option ℕ) (fault : Fault) →
+    ((b : List ℕ) → IsUnread old b → End mid ≡ End old) →
+    TakesBare IsUnread old mid false (head_of kind len) → DeniesContent (IsUnread mid) (End mid) kind len fault →
+    Denies IsUnread End old l taken fault
+denies-string IsUnread End l taken old mid kind len fault same bare none =
+    denies-of-item IsUnread End l taken old fault (denies-content IsUnread End false old mid kind len fault same bare
+    none)
 
 -- ---- how long payloads are
 
-parts-long : (major : ℕ) (P : List ℕ → Type 0) (s : List ℕ) (ps : List (List ℕ)) → AreChunks major P s ps → length (joined ps) ≤ length s
+parts-long : (major : ℕ) (P : List ℕ → Type 0) (s : List ℕ) (ps : List (List ℕ)) → AreChunks major P s ps →
+    length (joined ps) ≤ length s
 parts-long major P s [] h = omega arith
 parts-long major P s (p ∷ ps) (a, r, (h, hd, ok, e), rest, f) =
     let k = parts-long major P r ps rest in
@@ -93,17 +124,21 @@ parts-long major P s (p ∷ ps) (a, r, (h, hd, ok, e), rest, f) =
     let n : length (p ++ joined ps) ≡ length p + length (joined ps) = length-append p (joined ps) in
     omega (arith, k, l, m, n)
 
-content-long : (E : Type 0) (kind : StringKind) (len : Option ℕ) (p q : ℕ) (added c : List ℕ) → IsStringTaken {E = E} kind len p c q (Ok tt) added → length added ≤ length c
+content-long : (E : Type 0) (kind : StringKind) (len : Option ℕ) (p q : ℕ) (added c : List ℕ) →
+    IsStringTaken {E = E} kind len p c q (Ok tt) added → length added ≤ length c
 content-long E kind (Some n) p q added c (inl (over, never, a, b)) = cc
-content-long E kind (Some n) p q added c (inr (w, (size, ok, same))) = let k : length added ≡ length c = ap length same in omega (arith, k)
+content-long E kind (Some n) p q added c (inr (w, (size, ok, same))) = let k : length added ≡ length c =
+    ap length same in omega (arith, k)
 content-long E kind None p q added c (ps, s, parts, room, split, same) =
     let k = parts-long (string_major kind) (IsAllowed kind) s ps parts in
     let l : length c ≡ length s + 1 = ap length split ∙ length-append s (break_byte ∷ []) in
     let m : length added ≡ length (joined ps) = ap length same in
     omega (arith, k, l, m)
 
-pub content-fewer : (E : Type 0) {S : Type 0} (remaining : S → Option (List ℕ)) (d e : Decoder S) (kind : StringKind) (len : Option ℕ) (start out : List ℕ) → start ≡ [] →
-    Takes remaining d e (λ b. (added : List ℕ) × (out ≡ start ++ added) × IsStringTaken {E = E} kind len d.last b d.window.count (Ok tt) added) →
+pub content-fewer : (E : Type 0) {S : Type 0} (remaining : S → Option (List ℕ)) (d e : Decoder S) (kind : StringKind)
+    (len : Option ℕ) (start out : List ℕ) → start ≡ [] →
+    Takes remaining d e (λ b. (added : List ℕ) × (out ≡ start ++ added) ×
+    IsStringTaken {E = E} kind len d.last b d.window.count (Ok tt) added) →
     3 * (greatest_offset - e.window.count) + length out ≤ 3 * (greatest_offset - d.window.count)
 content-fewer E remaining d e kind len start out empty (b, takes, count, (added, is, taken), small) =
     let fits = e.window.fits in
@@ -114,16 +149,28 @@ content-fewer E remaining d e kind len start out empty (b, takes, count, (added,
 -- ---- strings behind skipped tags
 
 -- the string whose payload was taken
-pub string-behind : {S A : Type 0} (IsUnread : S → List ℕ → Type 0) (mid new : S) (kind : StringKind) (len : Option ℕ) (l : Limit) (taken : Taken A) (payload : List ℕ) (v : A) → TakesContent (IsUnread mid) (IsUnread new) kind len payload →
-    ((ts : List ℕ) → AreSkipped false ts → taken l (under ts (string_item kind len payload)) ≡ gives v) → (y : List ℕ) → IsUnread mid y → ReadsBehind IsUnread new false (head_of kind len) l taken v y
+pub string-behind : {S A : Type 0} (IsUnread : S → List ℕ → Type 0) (mid new : S) (kind : StringKind) (len : Option ℕ)
+    (l : Limit) (taken : Taken A) (payload : List ℕ) (v : A) →
+    TakesContent (IsUnread mid) (IsUnread new) kind len payload →
+    ((ts : List ℕ) → AreSkipped false ts → taken l (under ts (string_item kind len payload)) ≡ gives v) → (y : List ℕ) →
+    IsUnread mid y → ReadsBehind IsUnread new false (head_of kind len) l taken v y
 string-behind IsUnread mid new kind len l taken payload v content give y un =
     let (c, z, make, f, un') = content y un in
     (string_item kind len payload, c, z, make, f, give, un')
 
-pub reads-string : {S A : Type 0} (IsUnread : S → List ℕ → Type 0) (old mid new : S) (kind : StringKind) (len : Option ℕ) (l : Limit) (taken : Taken A) (payload : List ℕ) (v : A) → TakesBare IsUnread old mid false (head_of kind len) →
-    TakesContent (IsUnread mid) (IsUnread new) kind len payload → ((ts : List ℕ) → AreSkipped false ts → taken l (under ts (string_item kind len payload)) ≡ gives v) → Reads IsUnread old new l taken v
-reads-string IsUnread old mid new kind len l taken payload v bare content give = reads-bare IsUnread false (head_of kind len) l taken old mid new v bare (string-behind IsUnread mid new kind len l taken payload v content give)
+pub reads-string : {S A : Type 0} (IsUnread : S → List ℕ → Type 0) (old mid new : S) (kind : StringKind)
+    (len : Option ℕ) (l : Limit) (taken : Taken A) (payload : List ℕ) (v : A) →
+    TakesBare IsUnread old mid false (head_of kind len) →
+    TakesContent (IsUnread mid) (IsUnread new) kind len payload →
+    ((ts : List ℕ) → AreSkipped false ts → taken l (under ts (string_item kind len payload)) ≡ gives v) →
+    Reads IsUnread old new l taken v
+reads-string IsUnread old mid new kind len l taken payload v bare content give =
+    reads-bare IsUnread false (head_of kind len) l taken old mid new v bare
+    (string-behind IsUnread mid new kind len l taken payload v content give)
 
-pub text-other : (l : Limit) (h : Header) → IsBare false h → ((n : Option ℕ) → h ≡ header.Text n → ⊥) → (ts : List ℕ) (i : Item) → AreSkipped false ts → header_of i ≡ h → taken_text l (under ts i) ≡ refuses kinds.Text
+pub text-other : (l : Limit) (h : Header) → IsBare false h → ((n : Option ℕ) → h ≡ header.Text n → ⊥) →
+    (ts : List ℕ) (i : Item) → AreSkipped false ts → header_of i ≡ h → taken_text l (under ts i) ≡ refuses kinds.Text
 text-other l h bare p ts i all e = ap bare_text (untagged-under ts i) ∙
-    by-shape (λ j. bare_text (untagged j) ≡ refuses kinds.Text) h (λ n k. refl) (λ n k. refl) (λ o b k. refl) (λ o b k. absurd (p _ k)) (λ o is k. refl) (λ o ps k. refl) (λ n k. refl) (λ raw k. refl) (λ t j k. no-bare-tag h t bare k) i e
+    by-shape (λ j. bare_text (untagged j) ≡ refuses kinds.Text) h (λ n k. refl) (λ n k. refl) (λ o b k. refl)
+    (λ o b k. absurd (p _ k)) (λ o is k. refl) (λ o ps k. refl) (λ n k. refl) (λ raw k. refl)
+    (λ t j k. no-bare-tag h t bare k) i e

@@ -9,17 +9,20 @@ use Rattle.ciborium_value.specs.Sinks.{Named}
 use Rattle.ciborium_value.specs.Taken.{gives}
 use Rattle.ciborium_value.specs.WrittenContents.{IsWrittenByContent}
 use Rattle.ciborium_value.proofs.Writing.ReadBack.{written_item_spells}
-use Rattle.ciborium.specs.laws.RoundTrips.{AreRefusedAlike, BytesWrittenAgain, LeaveSameBytes, TreeWrittenAgain, WriteSameBytes}
+use Rattle.ciborium.specs.laws.RoundTrips.{AreRefusedAlike, BytesWrittenAgain, LeaveSameBytes, TreeWrittenAgain}
+use Rattle.ciborium.specs.laws.RoundTrips.{WriteSameBytes}
 use Rattle.ciborium.specs.Writes.{WritesNamed}
 use Rattle.ciborium.specs.declared.ser.error.Error.{Error as WriteError}
 use Rattle.ciborium.proofs.ReadBack.RoundTrips.{one-content, tree_gives_content}
 
 -- written into nothing, what names the same leaves the same
-same-left : (m n : Named) (old new before after : List ℕ) → m ≡ n → WritesNamed {E = WriteError IoError} (Some old) (Some new) (Ok tt) m →
+same-left : (m n : Named) (old new before after : List ℕ) → m ≡ n →
+    WritesNamed {E = WriteError IoError} (Some old) (Some new) (Ok tt) m →
     WritesNamed {E = WriteError IoError} (Some before) (Some after) (Ok tt) n → old ≡ [] → before ≡ [] → new ≡ after
 same-left (Ok i) (Ok j) old new before after same first second none neither =
     let one : i ≡ j = cc in
-    first ∙ ap (λ (bytes : List ℕ). bytes ++ written_bytes i) (none ∙ sym neither) ∙ ap (λ k. before ++ written_bytes k) one ∙ sym second
+    first ∙ ap (λ (bytes : List ℕ). bytes ++ written_bytes i) (none ∙ sym neither) ∙
+    ap (λ k. before ++ written_bytes k) one ∙ sym second
 same-left (Ok i) (Err k) old new before after same first second none neither = cc
 same-left (Err k) n old new before after same first second none neither = cc
 
@@ -34,15 +37,20 @@ module _ {T C : Type 0} (written : T → Named) (content : T → C) (alike : IsW
   are_refused_alike v w k same refused = sym (alike v w same) ∙ refused
 
   pub leave_same_bytes : LeaveSameBytes written content
-  leave_same_bytes v w old new before after same first second none neither = same-left (written v) (written w) old new before after (alike v w same) first second none neither
+  leave_same_bytes v w old new before after same first second none neither =
+      same-left (written v) (written w) old new before after (alike v w same) first second none neither
 
-module _ {T C : Type 0} (IsHeld : T → Type 0) (written : T → Named) (reading : Reading T C) (levels : T → ℕ) (law : IsReadBack IsHeld written reading.taken reading.content levels) (alike : IsWrittenByContent written reading.content) where
+module _ {T C : Type 0} (IsHeld : T → Type 0) (written : T → Named) (reading : Reading T C) (levels : T → ℕ)
+    (law : IsReadBack IsHeld written reading.taken reading.content levels)
+    (alike : IsWrittenByContent written reading.content) where
   pub bytes_written_again : BytesWrittenAgain IsHeld written reading levels
   bytes_written_again v w i l rest after held names fits within (j, s, left, sp, e, give, is) =
       let one = one_at_front (written_bytes i) s rest left i j (written_item_spells i fits) sp e in
-      let given : reading.taken (Some l) i ≡ gives (reading.content v) = (law v held).back by_bytes i names (Some l) within in
+      let given : reading.taken (Some l) i ≡ gives (reading.content v) =
+      (law v held).back by_bytes i names (Some l) within in
       let taken : reading.taken (Some l) i ≡ gives (reading.content w) = ap (reading.taken (Some l)) one.2 ∙ give in
       alike w v (one-content (reading.taken (Some l) i) (reading.content v) (reading.content w) given taken) ∙ names
 
   pub tree_written_again : TreeWrittenAgain IsHeld written reading
-  tree_written_again v w made held is give = alike w v (tree_gives_content IsHeld written reading levels law v made (reading.content w) held is give)
+  tree_written_again v w made held is give = alike w v
+      (tree_gives_content IsHeld written reading levels law v made (reading.content w) held is give)

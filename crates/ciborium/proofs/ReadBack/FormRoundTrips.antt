@@ -1,5 +1,6 @@
 -- What was written in its deterministic form is read back.
-use Rattle.std.proofs.Common.{◌≡◌, ℕ, List, [], ◌++◌, Option, Some, None, Ok, Err, refl, sym, ap, ◌∙◌, subst, append-nil, arith}
+use Rattle.std.proofs.Common.{◌≡◌, ℕ, List, [], ◌++◌, Option, Some, None, Ok, Err, refl, sym, ap, ◌∙◌, subst}
+use Rattle.std.proofs.Common.{append-nil, arith}
 use Rattle.ciborium_ll.proofs.UniqueSpelling.{one_at_front}
 use Rattle.ciborium_value.specs.DeterministicForms.{deterministic_form}
 use Rattle.ciborium_value.specs.Encoding.{encoding, item_of, written_tree}
@@ -20,7 +21,8 @@ use Rattle.ciborium_value.proofs.Forms.ProperForms.{form_is_proper}
 use Rattle.ciborium_value.proofs.Writing.ReadBack.{written_item_spells}
 use Rattle.ciborium.specs.ValueAnswers.{TakesValue}
 use Rattle.ciborium.specs.DeterministicWrites.{named_form}
-use Rattle.ciborium.specs.laws.FormRoundTrips.{FormIsReadBack, IsFormContentGiven, IsFormContentReadBack, IsFormReadAlike, IsFormReadBack, IsOwnForm}
+use Rattle.ciborium.specs.laws.FormRoundTrips.{FormIsReadBack, IsFormContentGiven, IsFormContentReadBack}
+use Rattle.ciborium.specs.laws.FormRoundTrips.{IsFormReadAlike, IsFormReadBack, IsOwnForm}
 use Rattle.ciborium.specs.Spelling.{deterministic}
 use Rattle.ciborium.specs.TypedAnswers.{TakesGiving}
 use Rattle.ciborium.proofs.ReadBack.RoundTrips.{one-content}
@@ -29,7 +31,9 @@ use Rattle.ciborium.proofs.Strict.StrictOutcome.{spells}
 -- the encoding of the form stands at the front, and is the one that is accepted
 pub form_is_read_back : FormIsReadBack
 form_is_read_back o v t l rest after r proper form within fits answers =
-    answers (encoding t ++ rest) (encoding t) rest t refl ((accepted_where_own_form o t 0 l (form_is_proper o v t proper form)).1 (form_is_its_own o v t form, within, omega (arith, fits))) refl
+    answers (encoding t ++ rest) (encoding t) rest t refl
+    ((accepted_where_own_form o t 0 l (form_is_proper o v t proper form)).1
+    (form_is_its_own o v t form, within, omega (arith, fits))) refl
 
 -- the bytes that were written into nothing are just the encoding of the form
 form-bytes : (t : Tree) (old new bytes : List ℕ) → new ≡ old ++ encoding t → old ≡ [] → bytes ≡ new → bytes ≡ encoding t
@@ -40,60 +44,86 @@ one-form : (form : Outcome Tree) (t u : Tree) → form ≡ gives t → form ≡ 
 one-form form t u g h = cc
 
 -- what a deterministic reader read at the front of an encoding is the tree that it encodes
-read-tree : (o : KeyOrder) (t w : Tree) (bytes : List ℕ) (l : ℕ) (after : Option (List ℕ)) → IsWritten (item_of t) → bytes ≡ encoding t → TakesValue (deterministic o) bytes l w after → t ≡ w
+read-tree : (o : KeyOrder) (t w : Tree) (bytes : List ℕ) (l : ℕ) (after : Option (List ℕ)) → IsWritten (item_of t) →
+    bytes ≡ encoding t → TakesValue (deterministic o) bytes l w after → t ≡ w
 read-tree o t w bytes l after fits same (s, left, accepted, e, is) =
-    let one = one_at_front (encoding t) s [] left (item_of t) (item_of w) (written_item_spells (item_of t) fits) (spells o s 0 l w accepted) (append-nil (encoding t) ∙ sym same ∙ e) in
+    let one = one_at_front (encoding t) s [] left (item_of t) (item_of w) (written_item_spells (item_of t) fits)
+    (spells o s 0 l w accepted) (append-nil (encoding t) ∙ sym same ∙ e) in
     sym (tree_is_written_as_itself t) ∙ ap written_tree one.2 ∙ tree_is_written_as_itself w
 
-pub form_read_back : (o : KeyOrder) (named : Named) (l : ℕ) (w : Value) (bytes rest : List ℕ) → IsFormReadBack o named l w bytes rest
+pub form_read_back : (o : KeyOrder) (named : Named) (l : ℕ) (w : Value) (bytes rest : List ℕ) →
+    IsFormReadBack o named l w bytes rest
 form_read_back o named l w bytes rest old new (t, form, out) (u, own, fits) reads none same =
     let one : u ≡ t = one-form (named_form o named) u t own form in
     let t-fits : IsWritten (item_of t) = subst (λ v. IsWritten (item_of v)) one fits in
-    form ∙ ap gives (read-tree o t (tree_of w) bytes l (Some rest) t-fits (form-bytes t old new bytes out none same) (reads.ok bytes refl))
+    form ∙ ap gives (read-tree o t (tree_of w) bytes l (Some rest) t-fits (form-bytes t old new bytes out none same)
+    (reads.ok bytes refl))
 
 -- ---- as any type
 
 -- what is given within a limit is given without one
-given-without : {C : Type 0} (within without : Outcome C) (c : C) → IsSameUnlessNested within without → within ≡ gives c → without ≡ gives c
+given-without : {C : Type 0} (within without : Outcome C) (c : C) → IsSameUnlessNested within without →
+    within ≡ gives c → without ≡ gives c
 given-without within without c h e = subst (λ o. IsSameUnlessNested o without) e h
 
-own-alike : {C : Type 0} (taken : Taken C) (o : KeyOrder) (named : Named) → IsOwnForm o named → IsFormReadAlike taken o named
-own-alike taken o (Ok i) own = λ t form. ap (λ v. taken None (item_of v)) (one-form (deterministic_form o (written_tree i)) t (written_tree i) form own)
+own-alike : {C : Type 0} (taken : Taken C) (o : KeyOrder) (named : Named) → IsOwnForm o named →
+    IsFormReadAlike taken o named
+own-alike taken o (Ok i) own = λ t form. ap (λ v. taken None (item_of v))
+    (one-form (deterministic_form o (written_tree i)) t (written_tree i) form own)
 own-alike taken o (Err k) own = own
 
 module _ {T C : Type 0} (written : T → Named) (reading : Reading T C) where
   -- what is read at the front of its encoding is the content
-  read-content : (t : Tree) (l : ℕ) (bytes : List ℕ) (after : Option (List ℕ)) (c d : C) → IsWritten (item_of t) → bytes ≡ encoding t → reading.taken None (item_of t) ≡ gives d → TakesGiving (Some l) reading.taken bytes c after → c ≡ d
+  read-content : (t : Tree) (l : ℕ) (bytes : List ℕ) (after : Option (List ℕ)) (c d : C) → IsWritten (item_of t) →
+      bytes ≡ encoding t → reading.taken None (item_of t) ≡ gives d → TakesGiving (Some l) reading.taken bytes c after →
+      c ≡ d
   read-content t l bytes after c d fits same given (j, s, left, sp, e, give, is) =
-      let one = one_at_front (encoding t) s [] left (item_of t) j (written_item_spells (item_of t) fits) sp (append-nil (encoding t) ∙ sym same ∙ e) in
+      let one = one_at_front (encoding t) s [] left (item_of t) j (written_item_spells (item_of t) fits) sp
+      (append-nil (encoding t) ∙ sym same ∙ e) in
       let here : reading.taken (Some l) (item_of t) ≡ gives c = ap (reading.taken (Some l)) one.2 ∙ give in
-      one-content (reading.taken None (item_of t)) d c given (given-without (reading.taken (Some l) (item_of t)) (reading.taken None (item_of t)) c (reading.steady.within l (item_of t)) here)
+      one-content (reading.taken None (item_of t)) d c given
+      (given-without (reading.taken (Some l) (item_of t)) (reading.taken None (item_of t)) c
+      (reading.steady.within l (item_of t)) here)
 
   -- where reading takes the content from the form, the bytes that were written give it
-  content-read_back : (o : KeyOrder) (l : ℕ) (v again : T) (bytes rest : List ℕ) → ((t : Tree) → named_form o (written v) ≡ gives t → reading.taken None (item_of t) ≡ gives (reading.content v)) →
+  content-read_back : (o : KeyOrder) (l : ℕ) (v again : T) (bytes rest : List ℕ) →
+      ((t : Tree) → named_form o (written v) ≡ gives t → reading.taken None (item_of t) ≡ gives (reading.content v)) →
       IsFormContentGiven (λ w. Unit {0}) written reading o l v again bytes rest
   content-read_back o l v again bytes rest given old new held (t, form, out) (u, own, fits) takes none same =
       let one : u ≡ t = one-form (named_form o (written v)) u t own form in
       let t-fits : IsWritten (item_of t) = subst (λ w. IsWritten (item_of w)) one fits in
-      read-content t l bytes (Some rest) (reading.content again) (reading.content v) t-fits (form-bytes t old new bytes out none same) (given t form) (takes bytes refl)
+      read-content t l bytes (Some rest) (reading.content again) (reading.content v) t-fits
+      (form-bytes t old new bytes out none same) (given t form) (takes bytes refl)
 
 -- of a type to which the order of pairs and folding make no difference
-module _ {T C : Type 0} (IsHeld : T → Type 0) (written : T → Named) (reading : Reading T C) (law : (o : KeyOrder) → IsReadFromForm o IsHeld written reading.taken reading.content) where
-  from-form : (o : KeyOrder) (v : T) → IsHeld v → (n : Named) → written v ≡ n → (t : Tree) → named_form o n ≡ gives t → reading.taken None (item_of t) ≡ gives (reading.content v)
+module _ {T C : Type 0} (IsHeld : T → Type 0) (written : T → Named) (reading : Reading T C)
+    (law : (o : KeyOrder) → IsReadFromForm o IsHeld written reading.taken reading.content) where
+  from-form : (o : KeyOrder) (v : T) → IsHeld v → (n : Named) → written v ≡ n → (t : Tree) → named_form o n ≡ gives t →
+      reading.taken None (item_of t) ≡ gives (reading.content v)
   from-form o v held (Ok i) names t form = (law o v held).back i names t form
   from-form o v held (Err k) names t form = absurd cc
 
-  pub form_gives_content : (o : KeyOrder) (l : ℕ) (v again : T) (bytes rest : List ℕ) → IsFormContentGiven IsHeld written reading o l v again bytes rest
-  form_gives_content o l v again bytes rest old new held out fits takes none same = content-read_back written reading o l v again bytes rest (from-form o v held (written v) refl) old new tt out fits takes none same
+  pub form_gives_content : (o : KeyOrder) (l : ℕ) (v again : T) (bytes rest : List ℕ) →
+      IsFormContentGiven IsHeld written reading o l v again bytes rest
+  form_gives_content o l v again bytes rest old new held out fits takes none same =
+      content-read_back written reading o l v again bytes rest (from-form o v held (written v) refl) old new tt out fits
+      takes none same
 
-module _ {T C : Type 0} (IsHeld : T → Type 0) (written : T → Named) (reading : Reading T C) (levels : T → ℕ) (law : IsReadBack IsHeld written reading.taken reading.content levels) where
+module _ {T C : Type 0} (IsHeld : T → Type 0) (written : T → Named) (reading : Reading T C) (levels : T → ℕ)
+    (law : IsReadBack IsHeld written reading.taken reading.content levels) where
   -- reading takes the content from the form of what is named
-  form-content : (o : KeyOrder) (v : T) → IsHeld v → (n : Named) → written v ≡ n → IsFormReadAlike reading.taken o n → (t : Tree) → named_form o n ≡ gives t → reading.taken None (item_of t) ≡ gives (reading.content v)
+  form-content : (o : KeyOrder) (v : T) → IsHeld v → (n : Named) → written v ≡ n → IsFormReadAlike reading.taken o n →
+      (t : Tree) → named_form o n ≡ gives t → reading.taken None (item_of t) ≡ gives (reading.content v)
   form-content o v held (Ok i) names alike t form = alike t form ∙ (law v held).back by_tree i names None tt
   form-content o v held (Err k) names alike t form = absurd alike
 
-  pub alike_read_back : (o : KeyOrder) (l : ℕ) (v again : T) (bytes rest : List ℕ) → IsFormContentReadBack (IsFormReadAlike reading.taken o) IsHeld written reading o l v again bytes rest
-  alike_read_back o l v again bytes rest old new held alike out fits takes none same = content-read_back written reading o l v again bytes rest (form-content o v held (written v) refl alike) old new tt out fits takes none same
+  pub alike_read_back : (o : KeyOrder) (l : ℕ) (v again : T) (bytes rest : List ℕ) →
+      IsFormContentReadBack (IsFormReadAlike reading.taken o) IsHeld written reading o l v again bytes rest
+  alike_read_back o l v again bytes rest old new held alike out fits takes none same =
+      content-read_back written reading o l v again bytes rest (form-content o v held (written v) refl alike) old new tt
+      out fits takes none same
 
-  pub own_read_back : (o : KeyOrder) (l : ℕ) (v again : T) (bytes rest : List ℕ) → IsFormContentReadBack (IsOwnForm o) IsHeld written reading o l v again bytes rest
-  own_read_back o l v again bytes rest old new held own = alike_read_back o l v again bytes rest old new held (own-alike reading.taken o (written v) own)
+  pub own_read_back : (o : KeyOrder) (l : ℕ) (v again : T) (bytes rest : List ℕ) →
+      IsFormContentReadBack (IsOwnForm o) IsHeld written reading o l v again bytes rest
+  own_read_back o l v again bytes rest old new held own =
+      alike_read_back o l v again bytes rest old new held (own-alike reading.taken o (written v) own)

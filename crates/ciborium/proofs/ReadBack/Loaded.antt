@@ -1,5 +1,6 @@
 -- What is written of a value whose tree has an accepted spelling is read back by the deterministic reader.
-use Rattle.std.proofs.Common.{◌≡◌, ℕ, ◌≤◌, false, List, [], ◌∷◌, ◌++◌, length, map, Option, Some, None, option_map, Result, Ok, Err, refl, sym, ap, ◌∙◌, subst, append-nil, arith}
+use Rattle.std.proofs.Common.{◌≡◌, ℕ, ◌≤◌, false, List, [], ◌∷◌, ◌++◌, length, map, Option, Some, None, option_map}
+use Rattle.std.proofs.Common.{Result, Ok, Err, refl, sym, ap, ◌∙◌, subst, append-nil, arith}
 use Rattle.std.proofs.lemmas.List.Elements.{All-head, All-tail, All-weaker}
 use Rattle.std.specs.BTreeMap.{BTreeMap, IsOrdered}
 use Rattle.std.specs.List.Sorted.{IsStrictlySortedBy}
@@ -30,8 +31,10 @@ use Rattle.ciborium_value.proofs.Writing.ReadBack.{written_item_spells, written_
 use Rattle.ciborium.specs.declared.de.error.Error.{Error}
 use Rattle.ciborium.specs.ValueAnswers.{AnswersGoodItem, GivesTree, TakesValue}
 use Rattle.ciborium_value.specs.Deterministic as rising
-use Rattle.ciborium_value.specs.Deterministic.{AreRising, HasRisingKeys, IsAccepted, IsCanonicalTree, PairsHaveRisingKeys}
-use Rattle.ciborium.specs.laws.Loaded.{AreCanonicalParts, IsContentLoaded, IsDeterministicStore, IsLoaded, IsStoreHeld, LoadedAsSaved, LoadingGivesContent, store_tree}
+use Rattle.ciborium_value.specs.Deterministic.{AreRising, HasRisingKeys, IsAccepted, IsCanonicalTree}
+use Rattle.ciborium_value.specs.Deterministic.{PairsHaveRisingKeys}
+use Rattle.ciborium.specs.laws.Loaded.{AreCanonicalParts, IsContentLoaded, IsDeterministicStore, IsLoaded, IsStoreHeld}
+use Rattle.ciborium.specs.laws.Loaded.{LoadedAsSaved, LoadingGivesContent, store_tree}
 use Rattle.ciborium.specs.Spelling.{deterministic}
 use Rattle.ciborium.specs.declared.ser.error.Error.{Error as WriteError}
 use Rattle.ciborium.specs.Writes.{IsNamedWritten, WritesNamed}
@@ -41,44 +44,68 @@ use Rattle.ciborium.proofs.Strict.StrictOutcome.{spells}
 
 -- ---- any type
 
-pub loaded_as_saved : {T C : Type 0} (IsHeld : T → Type 0) (written : T → Named) (reading : Reading T C) (levels : T → ℕ) → IsReadBack IsHeld written reading.taken reading.content levels → LoadedAsSaved IsHeld written reading
-loaded_as_saved {T} {C} IsHeld written reading levels law v t l rest after r held names accepted fits answers = by r (answers (encoding t ++ rest) (encoding t) rest t refl ((refl, accepted.0), accepted.1, omega (arith, fits)) refl)
+pub loaded_as_saved : {T C : Type 0} (IsHeld : T → Type 0) (written : T → Named) (reading : Reading T C)
+    (levels : T → ℕ) → IsReadBack IsHeld written reading.taken reading.content levels →
+    LoadedAsSaved IsHeld written reading
+loaded_as_saved {T} {C} IsHeld written reading levels law v t l rest after r held names accepted fits answers =
+    by r (answers (encoding t ++ rest) (encoding t) rest t refl ((refl, accepted.0), accepted.1, omega (arith, fits))
+    refl)
   where
-    by : (r : Result Tree (Error IoError)) → GivesTree t rest after r → IsLoaded reading.taken (reading.content v) rest after r
-    by (Ok w) (same, left) = (left, ap (λ u. reading.taken None (item_of u)) (sym same) ∙ (law v held).back by_bytes (item_of t) names None tt)
+    by : (r : Result Tree (Error IoError)) → GivesTree t rest after r →
+        IsLoaded reading.taken (reading.content v) rest after r
+    by (Ok w) (same, left) = (
+      left,
+      ap (λ u. reading.taken None (item_of u)) (sym same) ∙
+          (law v held).back by_bytes (item_of t) names None tt,
+    )
     by (Err e) failed = failed
 
-pub loading_gives_content : {T C : Type 0} (IsHeld : T → Type 0) (written : T → Named) (reading : Reading T C) → LoadedAsSaved IsHeld written reading → LoadingGivesContent IsHeld written reading
-loading_gives_content IsHeld written reading law v t w l old new bytes after c held names accepted fits appends answers give none same =
-    let out : new ≡ old ++ encoding t = subst (λ n. WritesNamed {E = WriteError IoError} (Some old) (Some new) (Ok tt) n) names appends in
+pub loading_gives_content : {T C : Type 0} (IsHeld : T → Type 0) (written : T → Named) (reading : Reading T C) →
+    LoadedAsSaved IsHeld written reading → LoadingGivesContent IsHeld written reading
+loading_gives_content IsHeld written reading law v t w l old new bytes after c held names accepted fits appends answers
+    give none same =
+    let out : new ≡ old ++ encoding t = subst (λ n. WritesNamed {E = WriteError IoError} (Some old) (Some new) (Ok tt)
+    n) names appends in
     let whole : bytes ≡ encoding t = same ∙ out ∙ ap (λ (b : List ℕ). b ++ encoding t) none in
     let all : bytes ≡ encoding t ++ [] = whole ∙ sym (append-nil (encoding t)) in
-    let loaded = law v t l [] after (Ok w) held names accepted (subst (λ (b : List ℕ). length b ≤ greatest_offset) whole fits) (subst (λ b. AnswersGoodItem {E = IoError} (deterministic LengthFirst) (Some b) l after (Ok w)) all answers) in
+    let loaded = law v t l [] after (Ok w) held names accepted
+    (subst (λ (b : List ℕ). length b ≤ greatest_offset) whole fits)
+    (subst (λ b. AnswersGoodItem {E = IoError} (deterministic LengthFirst) (Some b) l after (Ok w)) all answers) in
     one-content (reading.taken None (item_of w)) (reading.content v) c loaded.1 give
 
-module _ {T C : Type 0} (IsHeld : T → Type 0) (written : T → Named) (reading : Reading T C) (levels : T → ℕ) (law : IsReadBack IsHeld written reading.taken reading.content levels) where
+module _ {T C : Type 0} (IsHeld : T → Type 0) (written : T → Named) (reading : Reading T C) (levels : T → ℕ)
+    (law : IsReadBack IsHeld written reading.taken reading.content levels) where
   -- an item that is named was written whole: a tree that is read at its front has just that item
-  front-content : (o : KeyOrder) (v : T) (l : ℕ) (w : Tree) (bytes : List ℕ) (after : Option (List ℕ)) (c : C) → IsHeld v → (i : Item) → written v ≡ Ok i → IsWritten i → bytes ≡ written_bytes i →
+  front-content : (o : KeyOrder) (v : T) (l : ℕ) (w : Tree) (bytes : List ℕ) (after : Option (List ℕ)) (c : C) →
+      IsHeld v → (i : Item) → written v ≡ Ok i → IsWritten i → bytes ≡ written_bytes i →
       TakesValue (deterministic o) bytes l w after → reading.taken None (item_of w) ≡ gives c → c ≡ reading.content v
   front-content o v l w bytes after c held i names fits same (s, left, accepted, e, is) give =
-      let one = one_at_front (written_bytes i) s [] left i (item_of w) (written_item_spells i fits) (spells o s 0 l w accepted) (append-nil (written_bytes i) ∙ sym same ∙ e) in
-      one-content (reading.taken None i) (reading.content v) c ((law v held).back by_bytes i names None tt) (ap (reading.taken None) one.2 ∙ give)
+      let one = one_at_front (written_bytes i) s [] left i (item_of w) (written_item_spells i fits)
+      (spells o s 0 l w accepted) (append-nil (written_bytes i) ∙ sym same ∙ e) in
+      one-content (reading.taken None i) (reading.content v) c ((law v held).back by_bytes i names None tt)
+      (ap (reading.taken None) one.2 ∙ give)
 
   -- the same, by cases on what is named
-  by-name : (o : KeyOrder) (v : T) (l : ℕ) (w : Tree) (old new bytes : List ℕ) (after : Option (List ℕ)) (c : C) → IsHeld v → (n : Named) → written v ≡ n → WritesNamed {E = WriteError IoError} (Some old) (Some new) (Ok tt) n → IsNamedWritten n →
-      TakesValue (deterministic o) bytes l w after → reading.taken None (item_of w) ≡ gives c → old ≡ [] → bytes ≡ new → c ≡ reading.content v
+  by-name : (o : KeyOrder) (v : T) (l : ℕ) (w : Tree) (old new bytes : List ℕ) (after : Option (List ℕ)) (c : C) →
+      IsHeld v → (n : Named) → written v ≡ n → WritesNamed {E = WriteError IoError} (Some old) (Some new) (Ok tt) n →
+      IsNamedWritten n →
+      TakesValue (deterministic o) bytes l w after → reading.taken None (item_of w) ≡ gives c → old ≡ [] → bytes ≡ new →
+      c ≡ reading.content v
   by-name o v l w old new bytes after c held (Ok i) names appends fits takes give none same =
       let all : new ≡ written_bytes i = appends ∙ ap (λ (b : List ℕ). b ++ written_bytes i) none in
       front-content o v l w bytes after c held i names fits (same ∙ all) takes give
   by-name o v l w old new bytes after c held (Err k) names appends fits takes give none same = absurd fits
 
-  pub content_loaded : (o : KeyOrder) (l : ℕ) (v : T) (w : Value) (again : T) (bytes rest : List ℕ) → IsContentLoaded o IsHeld written reading l v w again bytes rest
+  pub content_loaded : (o : KeyOrder) (l : ℕ) (v : T) (w : Value) (again : T) (bytes rest : List ℕ) →
+      IsContentLoaded o IsHeld written reading l v w again bytes rest
   content_loaded o l v w again bytes rest old new held appends fits reads give none same =
-      by-name o v l (tree_of w) old new bytes (Some rest) (reading.content again) held (written v) refl appends fits (reads.ok bytes refl) give none same
+      by-name o v l (tree_of w) old new bytes (Some rest) (reading.content again) held (written v) refl appends fits
+      (reads.ok bytes refl) give none same
 
 -- ---- stores
 
-store-items : (es : List (Value × Value)) → (is : List Item) × (all_named (in_turn named_value named_value es) ≡ Ok is) × (pairs_from is ≡ pairs_of (tree_pairs_of es))
+store-items : (es : List (Value × Value)) → (is : List Item) ×
+    (all_named (in_turn named_value named_value es) ≡ Ok is) × (pairs_from is ≡ pairs_of (tree_pairs_of es))
 store-items [] = ([], refl, refl)
 store-items (e ∷ es) =
     let (is, named, same) = store-items es in
@@ -88,22 +115,33 @@ store-items (e ∷ es) =
       ap (items.pair k v) same,
     )
 
-pub store-named : (es : List (Value × Value)) → container_of dictionary (in_turn named_value named_value es) ≡ Ok (item_of (store_tree es))
-store-named es = let (is, named, same) = store-items es in ap (contained dictionary false) named ∙ ap (λ ps. Ok (items.map false ps)) same
+pub store-named : (es : List (Value × Value)) → container_of dictionary (in_turn named_value named_value es) ≡ Ok
+    (item_of (store_tree es))
+store-named es = let (is, named, same) = store-items es in ap (contained dictionary false) named ∙
+    ap (λ ps. Ok (items.map false ps)) same
 
-store-folds : (es : List (Value × Value)) → AreCanonicalParts es → tree_pairs_folded (tree_pairs_of es) ≡ Some (tree_pairs_of es)
+store-folds : (es : List (Value × Value)) → AreCanonicalParts es →
+    tree_pairs_folded (tree_pairs_of es) ≡ Some (tree_pairs_of es)
 store-folds [] h = refl
 store-folds (e ∷ es) h =
-    let here = All-head (λ e. IsCanonicalTree LengthFirst (tree_of e.0) × IsCanonicalTree LengthFirst (tree_of e.1)) e es h in
+    let here = All-head (λ e. IsCanonicalTree LengthFirst (tree_of e.0) × IsCanonicalTree LengthFirst (tree_of e.1)) e
+    es h in
     ap (λ o. tree_pairs_more o (folded (tree_of e.1)) (tree_pairs_folded (tree_pairs_of es))) here.0.folds
     ∙ ap (λ o. tree_pairs_more (Some (tree_of e.0)) o (tree_pairs_folded (tree_pairs_of es))) here.1.folds
-    ∙ ap (tree_pairs_more (Some (tree_of e.0)) (Some (tree_of e.1))) (store-folds es (All-tail (λ e. IsCanonicalTree LengthFirst (tree_of e.0) × IsCanonicalTree LengthFirst (tree_of e.1)) e es h))
+    ∙ ap (tree_pairs_more (Some (tree_of e.0)) (Some (tree_of e.1)))
+    (store-folds es (All-tail (λ e. IsCanonicalTree LengthFirst (tree_of e.0) ×
+    IsCanonicalTree LengthFirst (tree_of e.1)) e es h))
 
 parts-rise : (es : List (Value × Value)) → AreCanonicalParts es → PairsHaveRisingKeys LengthFirst (tree_pairs_of es)
 parts-rise [] h = tt
 parts-rise (e ∷ es) h =
-    let here = All-head (λ e. IsCanonicalTree LengthFirst (tree_of e.0) × IsCanonicalTree LengthFirst (tree_of e.1)) e es h in
-    (here.0.rises, here.1.rises, parts-rise es (All-tail (λ e. IsCanonicalTree LengthFirst (tree_of e.0) × IsCanonicalTree LengthFirst (tree_of e.1)) e es h))
+    let here = All-head (λ e. IsCanonicalTree LengthFirst (tree_of e.0) × IsCanonicalTree LengthFirst (tree_of e.1)) e
+    es h in (
+      here.0.rises,
+      here.1.rises,
+      parts-rise es (All-tail
+          (λ e. IsCanonicalTree LengthFirst (tree_of e.0) × IsCanonicalTree LengthFirst (tree_of e.1)) e es h),
+    )
 
 tree_keys : (es : List (Value × Value)) → map tree_of (keys_of es) ≡ rising.keys_of (tree_pairs_of es)
 tree_keys [] = refl
@@ -115,18 +153,29 @@ neighbours-rise [] h = tt
 neighbours-rise (k ∷ []) h = tt
 neighbours-rise (k ∷ j ∷ ts) h = (h.0.0, neighbours-rise (j ∷ ts) h.1)
 
-pub deterministic_store : (es : List (Value × Value)) → IsStrictlySortedBy (ordered_value_cmp LengthFirst) (keys_of es) → IsNamedWritten (container_of dictionary (in_turn named_value named_value es)) → AreCanonicalParts es → IsDeterministicStore es
+pub deterministic_store : (es : List (Value × Value)) →
+    IsStrictlySortedBy (ordered_value_cmp LengthFirst) (keys_of es) →
+    IsNamedWritten (container_of dictionary (in_turn named_value named_value es)) → AreCanonicalParts es →
+    IsDeterministicStore es
 deterministic_store es sorted written parts = (
   store-named es,
   record {
     proper = written_tree_is_proper (store_tree es) (subst IsNamedWritten (store-named es) written);
     folds = ap (option_map trees.map) (store-folds es parts);
-    rises = (neighbours-rise (rising.keys_of (tree_pairs_of es)) (subst (IsStrictlySortedBy canonical_order) (tree_keys es) (keys-rise LengthFirst named_value es sorted written)), parts-rise es parts);
+    rises = (
+      neighbours-rise (rising.keys_of (tree_pairs_of es))
+          (subst (IsStrictlySortedBy canonical_order) (tree_keys es)
+          (keys-rise LengthFirst named_value es sorted written)),
+      parts-rise es parts,
+    );
   },
 )
 
-pub store_held : (m : BTreeMap Value Value) → IsOrdered (ordered_value_cmp LengthFirst) m → AreCanonicalParts m.entries → IsStoreHeld m
+pub store_held : (m : BTreeMap Value Value) → IsOrdered (ordered_value_cmp LengthFirst) m →
+    AreCanonicalParts m.entries → IsStoreHeld m
 store_held m ordered parts = (
   ordered,
-  All-weaker (λ e. IsCanonicalTree LengthFirst (tree_of e.0) × IsCanonicalTree LengthFirst (tree_of e.1)) (λ e. (folded (tree_of e.0) ≡ Some (tree_of e.0)) × (folded (tree_of e.1) ≡ Some (tree_of e.1))) (λ e h. (h.0.folds, h.1.folds)) m.entries parts,
+  All-weaker (λ e. IsCanonicalTree LengthFirst (tree_of e.0) × IsCanonicalTree LengthFirst (tree_of e.1))
+      (λ e. (folded (tree_of e.0) ≡ Some (tree_of e.0)) × (folded (tree_of e.1) ≡ Some (tree_of e.1)))
+      (λ e h. (h.0.folds, h.1.folds)) m.entries parts,
 )

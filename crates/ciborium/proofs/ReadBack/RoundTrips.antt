@@ -1,5 +1,6 @@
 -- What is written is read back, from bytes and from a tree.
-use Rattle.std.proofs.Common.{◌≡◌, ℕ, List, [], ◌++◌, length, Option, Some, None, Result, Ok, Err, refl, sym, ap, ◌∙◌, ◌+◌, subst, append-nil, arith}
+use Rattle.std.proofs.Common.{◌≡◌, ℕ, List, [], ◌++◌, length, Option, Some, None, Result, Ok, Err, refl, sym, ap, ◌∙◌}
+use Rattle.std.proofs.Common.{◌+◌, subst, append-nil, arith}
 use Rattle.std.specs.declared.io.Error.{Error as IoError}
 use Rattle.ciborium_ll.specs.Item.{Item}
 use Rattle.ciborium_ll.proofs.UniqueSpelling.{one_at_front}
@@ -8,7 +9,8 @@ use Rattle.ciborium_value.specs.Nesting.{IsWithin}
 use Rattle.ciborium_value.specs.Readings.{Reading}
 use Rattle.ciborium_value.specs.ReadsBack.{IsReadBack, by_bytes, by_tree}
 use Rattle.ciborium_value.specs.Sinks.{Named}
-use Rattle.ciborium_value.specs.Sources.{Fault, of_kind, of_nesting, of_syntax, of_memory, of_device, of_length, IsFaultOf, IsOutsideFault}
+use Rattle.ciborium_value.specs.Sources.{Fault, of_kind, of_nesting, of_syntax, of_memory, of_device, of_length}
+use Rattle.ciborium_value.specs.Sources.{IsFaultOf, IsOutsideFault}
 use Rattle.ciborium_value.specs.Taken.{Outcome, gives}
 use Rattle.ciborium_value.specs.WrittenItems.{IsWritten}
 use Rattle.ciborium_value.proofs.Writing.ReadBack.{written_item_spells}
@@ -19,12 +21,14 @@ use Rattle.ciborium_value.specs.TreeAnswers.{IsTreeOf}
 use Rattle.ciborium_value.specs.TreeAnswers.{value_item}
 use Rattle.ciborium_value.specs.declared.tree.Value.{Value}
 use Rattle.ciborium.specs.declared.ser.error.Error.{Error as WriteError}
-use Rattle.ciborium.specs.laws.RoundTrips.{BytesReadBack, IsContentReadBack, IsGivenBack, TreeGivesContent, TreeReadBack}
+use Rattle.ciborium.specs.laws.RoundTrips.{BytesReadBack, IsContentReadBack, IsGivenBack, TreeGivesContent}
+use Rattle.ciborium.specs.laws.RoundTrips.{TreeReadBack}
 use Rattle.ciborium.specs.TypedAnswers.{AnswersBytes, TakesGiving}
 use Rattle.ciborium.specs.Writes.{IsNamedWritten, WritesNamed}
 
 -- where a value is given no item is to blame
-pub not-blamed : {C : Type 0} (end : ℕ) (f : Fault) (o : Outcome C) (c : C) → o ≡ gives c → IsFaultOf end f o → IsOutsideFault end f
+pub not-blamed : {C : Type 0} (end : ℕ) (f : Fault) (o : Outcome C) (c : C) → o ≡ gives c → IsFaultOf end f o →
+    IsOutsideFault end f
 not-blamed end (of_kind k) o c e h = cc
 not-blamed end of_nesting o c e h = cc
 not-blamed end of_syntax o c e h = h
@@ -35,14 +39,17 @@ not-blamed end of_length o c e h = h
 pub one-content : {C : Type 0} (o : Outcome C) (c d : C) → o ≡ gives c → o ≡ gives d → d ≡ c
 one-content o c d h k = cc
 
-pub bytes_read_back : {T C : Type 0} (IsHeld : T → Type 0) (written : T → Named) (reading : Reading T C) (levels : T → ℕ) →
+pub bytes_read_back : {T C : Type 0} (IsHeld : T → Type 0) (written : T → Named) (reading : Reading T C)
+    (levels : T → ℕ) →
     IsReadBack IsHeld written reading.taken reading.content levels → BytesReadBack IsHeld written reading levels
-bytes_read_back {T} {C} IsHeld written reading levels law v i l rest after r held names fits within answers = by r answers
+bytes_read_back {T} {C} IsHeld written reading levels law v i l rest after r held names fits within answers =
+    by r answers
   where
     given : reading.taken (Some l) i ≡ gives (reading.content v)
     given = (law v held).back by_bytes i names (Some l) within
 
-    by : (r : Result C (Error IoError)) → AnswersBytes reading.taken l (written_bytes i ++ rest) after r → IsGivenBack (reading.content v) rest (length (written_bytes i ++ rest)) after r
+    by : (r : Result C (Error IoError)) → AnswersBytes reading.taken l (written_bytes i ++ rest) after r →
+        IsGivenBack (reading.content v) rest (length (written_bytes i ++ rest)) after r
     by (Ok c) (taken, refused) =
         let (j, s, left, sp, e, give, is) = taken (written_bytes i ++ rest) refl in
         let one = one_at_front (written_bytes i) s rest left i j (written_item_spells i fits) sp e in (
@@ -53,36 +60,49 @@ bytes_read_back {T} {C} IsHeld written reading levels law v i l rest after r hel
         let n : ℕ = length (written_bytes i ++ rest) in
         let none : 0 + n ≡ n = omega arith in
         subst (λ m. IsOutsideFault m (fault_of e)) none
-        (not-blamed (0 + n) (fault_of e) (reading.taken (Some l) i) (reading.content v) given (refused (written_bytes i ++ rest) refl i (written_bytes i) rest (written_item_spells i fits) refl))
+        (not-blamed (0 + n) (fault_of e) (reading.taken (Some l) i) (reading.content v) given
+        (refused (written_bytes i ++ rest) refl i (written_bytes i) rest (written_item_spells i fits) refl))
 
-module _ {T C : Type 0} (IsHeld : T → Type 0) (written : T → Named) (reading : Reading T C) (levels : T → ℕ) (law : IsReadBack IsHeld written reading.taken reading.content levels) where
+module _ {T C : Type 0} (IsHeld : T → Type 0) (written : T → Named) (reading : Reading T C) (levels : T → ℕ)
+    (law : IsReadBack IsHeld written reading.taken reading.content levels) where
   -- an item that is named was written whole: what is read at its front is the content
-  taken-content : (v : T) (l : ℕ) (bytes : List ℕ) (after : Option (List ℕ)) (c : C) → IsHeld v → IsWithin (Some l) (levels v) → (i : Item) → written v ≡ Ok i → IsWritten i → bytes ≡ written_bytes i →
+  taken-content : (v : T) (l : ℕ) (bytes : List ℕ) (after : Option (List ℕ)) (c : C) → IsHeld v →
+      IsWithin (Some l) (levels v) → (i : Item) → written v ≡ Ok i → IsWritten i → bytes ≡ written_bytes i →
       TakesGiving (Some l) reading.taken bytes c after → c ≡ reading.content v
   taken-content v l bytes after c held within i names fits same (j, s, left, sp, e, give, is) =
-      let one = one_at_front (written_bytes i) s [] left i j (written_item_spells i fits) sp (append-nil (written_bytes i) ∙ sym same ∙ e) in
-      one-content (reading.taken (Some l) i) (reading.content v) c ((law v held).back by_bytes i names (Some l) within) (ap (reading.taken (Some l)) one.2 ∙ give)
+      let one = one_at_front (written_bytes i) s [] left i j (written_item_spells i fits) sp
+      (append-nil (written_bytes i) ∙ sym same ∙ e) in
+      one-content (reading.taken (Some l) i) (reading.content v) c ((law v held).back by_bytes i names (Some l) within)
+      (ap (reading.taken (Some l)) one.2 ∙ give)
 
   -- the same, by cases on what is named
-  by-name : (v : T) (l : ℕ) (old new bytes : List ℕ) (after : Option (List ℕ)) (c : C) → IsHeld v → IsWithin (Some l) (levels v) → (n : Named) → written v ≡ n → WritesNamed {E = WriteError IoError} (Some old) (Some new) (Ok tt) n → IsNamedWritten n →
+  by-name : (v : T) (l : ℕ) (old new bytes : List ℕ) (after : Option (List ℕ)) (c : C) → IsHeld v →
+      IsWithin (Some l) (levels v) → (n : Named) → written v ≡ n →
+      WritesNamed {E = WriteError IoError} (Some old) (Some new) (Ok tt) n → IsNamedWritten n →
       TakesGiving (Some l) reading.taken bytes c after → old ≡ [] → bytes ≡ new → c ≡ reading.content v
   by-name v l old new bytes after c held within (Ok i) names appends fits takes none same =
       let all : new ≡ written_bytes i = appends ∙ ap (λ (w : List ℕ). w ++ written_bytes i) none in
       taken-content v l bytes after c held within i names fits (same ∙ all) takes
   by-name v l old new bytes after c held within (Err k) names appends fits takes none same = absurd fits
 
-  pub content_read_back : (l : ℕ) (v again : T) (bytes rest : List ℕ) → IsContentReadBack IsHeld written reading levels l v again bytes rest
+  pub content_read_back : (l : ℕ) (v again : T) (bytes rest : List ℕ) →
+      IsContentReadBack IsHeld written reading levels l v again bytes rest
   content_read_back l v again bytes rest old new held within appends fits takes none same =
-      by-name v l old new bytes (Some rest) (reading.content again) held within (written v) refl appends fits (takes bytes refl) none same
+      by-name v l old new bytes (Some rest) (reading.content again) held within (written v) refl appends fits
+      (takes bytes refl) none same
 
-  made-content : (v : T) (made : Value) → IsHeld v → (n : Named) → written v ≡ n → IsTreeOf n made → reading.taken None (value_item made) ≡ gives (reading.content v)
-  made-content v made held (Ok i) names is = ap (λ t. reading.taken None (item_of t)) is ∙ (law v held).back by_tree i names None tt
+  made-content : (v : T) (made : Value) → IsHeld v → (n : Named) → written v ≡ n → IsTreeOf n made →
+      reading.taken None (value_item made) ≡ gives (reading.content v)
+  made-content v made held (Ok i) names is = ap (λ t. reading.taken None (item_of t)) is ∙
+      (law v held).back by_tree i names None tt
   made-content v made held (Err k) names is = absurd is
 
   pub tree_gives_content : TreeGivesContent IsHeld written reading
-  tree_gives_content v made c held is give = one-content (reading.taken None (value_item made)) (reading.content v) c (made-content v made held (written v) refl is) give
+  tree_gives_content v made c held is give = one-content (reading.taken None (value_item made)) (reading.content v) c
+      (made-content v made held (written v) refl is) give
 
   pub tree_read_back : TreeReadBack IsHeld written reading
   tree_read_back v made (Ok d) held is answers = tree_gives_content v made d held is answers
-  tree_read_back v made (Err (of_tree.Custom k)) held is answers = let given = made-content v made held (written v) refl is in cc
+  tree_read_back v made (Err (of_tree.Custom k)) held is answers = let given =
+      made-content v made held (written v) refl is in cc
   tree_read_back v made (Err of_tree.Memory) held is answers = refl

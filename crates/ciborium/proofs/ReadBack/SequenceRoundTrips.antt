@@ -1,5 +1,6 @@
 -- What is written as a sequence is read back.
-use Rattle.std.proofs.Common.{◌≡◌, ℕ, suc, ◌<◌, ◌≤◌, List, [], ◌∷◌, ◌++◌, length, map, All, Some, Result, Ok, Err, refl, sym, ap, ◌∙◌, subst, arith, length-append}
+use Rattle.std.proofs.Common.{◌≡◌, ℕ, suc, ◌<◌, ◌≤◌, List, [], ◌∷◌, ◌++◌, length, map, All, Some, Result, Ok, Err, refl}
+use Rattle.std.proofs.Common.{sym, ap, ◌∙◌, subst, arith, length-append}
 use Rattle.std.specs.declared.io.Error.{Error as IoError}
 use Rattle.ciborium_ll.specs.Bytes.{greatest_offset}
 use Rattle.ciborium_ll.specs.Item.{Item}
@@ -10,7 +11,8 @@ use Rattle.ciborium_value.specs.Nesting.{Limit, IsWithin}
 use Rattle.ciborium_value.specs.Places.{items_from}
 use Rattle.ciborium_value.specs.Readings.{Reading}
 use Rattle.ciborium_value.specs.Sinks.{Named, all_named}
-use Rattle.ciborium_value.specs.Sources.{Fault, of_kind, of_nesting, of_syntax, of_memory, of_device, of_length, IsOutsideFault}
+use Rattle.ciborium_value.specs.Sources.{Fault, of_kind, of_nesting, of_syntax, of_memory, of_device, of_length}
+use Rattle.ciborium_value.specs.Sources.{IsOutsideFault}
 use Rattle.ciborium_value.specs.Taken.{Taken, gives}
 use Rattle.ciborium_value.specs.WrittenItems.{AreWritten}
 use Rattle.ciborium_value.proofs.Writing.Progress.{and_then_is}
@@ -48,48 +50,65 @@ AreGiven l taken (i ∷ is) (c ∷ cs) = (taken l i ≡ gives c) × AreGiven l t
 
 module _ {C : Type 0} (l : Limit) (taken : Taken C) where
   -- the same item stands at the front of its bytes and others, and gives its content alone
-  same-front : (i j : Item) (is : List Item) (s left : List ℕ) (c d : C) → AreWritten (items_from (i ∷ is)) → taken l i ≡ gives c → Spells s j → items_bytes (items_from (i ∷ is)) ≡ s ++ left → taken l j ≡ gives d → (items_bytes (items_from is) ≡ left) × (d ≡ c)
+  same-front : (i j : Item) (is : List Item) (s left : List ℕ) (c d : C) → AreWritten (items_from (i ∷ is)) →
+      taken l i ≡ gives c → Spells s j → items_bytes (items_from (i ∷ is)) ≡ s ++ left → taken l j ≡ gives d →
+      (items_bytes (items_from is) ≡ left) × (d ≡ c)
   same-front i j is s left c d (first, more) given spelled split gave =
-      let one = one_at_front (written_bytes i) s (items_bytes (items_from is)) left i j (written_item_spells i first) spelled split in
+      let one = one_at_front (written_bytes i) s (items_bytes (items_from is)) left i j (written_item_spells i first)
+      spelled split in
       (one.1, one-content (taken l i) c d given (ap (taken l) one.2 ∙ gave))
 
-  given-back : (is : List Item) (cs ds : List C) → AreWritten (items_from is) → AreGiven l taken is cs → GivesInTurn l taken (items_bytes (items_from is)) ds → ds ≡ cs
+  given-back : (is : List Item) (cs ds : List C) → AreWritten (items_from is) → AreGiven l taken is cs →
+      GivesInTurn l taken (items_bytes (items_from is)) ds → ds ≡ cs
   given-back [] [] [] fits given gave = refl
-  given-back [] [] (d ∷ ds) fits given (j, s, left, spelled, split, gave, more) = absurd (never-empty [] s left j spelled refl split)
+  given-back [] [] (d ∷ ds) fits given (j, s, left, spelled, split, gave, more) =
+      absurd (never-empty [] s left j spelled refl split)
   given-back [] (c ∷ cs) ds fits given gave = absurd given
   given-back (i ∷ is) [] ds fits given gave = absurd given
-  given-back (i ∷ is) (c ∷ cs) [] (first, rest) given gave = absurd (never-empty (items_bytes (items_from (i ∷ is))) (written_bytes i) (items_bytes (items_from is)) i (written_item_spells i first) gave refl)
+  given-back (i ∷ is) (c ∷ cs) [] (first, rest) given gave =
+      absurd (never-empty (items_bytes (items_from (i ∷ is))) (written_bytes i) (items_bytes (items_from is)) i
+      (written_item_spells i first) gave refl)
   given-back (i ∷ is) (c ∷ cs) (d ∷ ds) fits (one, given) (j, s, left, spelled, split, gave, more) =
       let (behind, same) = same-front i j is s left c d fits one spelled split gave in
-      ap (λ x. x ∷ ds) same ∙ ap (λ xs. c ∷ xs) (given-back is cs ds fits.1 given (subst (λ b. GivesInTurn l taken b ds) (sym behind) more))
+      ap (λ x. x ∷ ds) same ∙ ap (λ xs. c ∷ xs) (given-back is cs ds fits.1 given
+      (subst (λ b. GivesInTurn l taken b ds) (sym behind) more))
 
   -- behind some of the items the fault is one that no item decides
-  outside-behind : (fault : Fault) (is : List Item) (cs ds : List C) (u : List ℕ) → AreWritten (items_from is) → AreGiven l taken is cs → GivesThen l taken (items_bytes (items_from is)) ds u → IsFaultAhead (length u) l taken u fault → (u ≡ [] → IsOutsideFault 0 fault) →
+  outside-behind : (fault : Fault) (is : List Item) (cs ds : List C) (u : List ℕ) → AreWritten (items_from is) →
+      AreGiven l taken is cs → GivesThen l taken (items_bytes (items_from is)) ds u →
+      IsFaultAhead (length u) l taken u fault → (u ≡ [] → IsOutsideFault 0 fault) →
       IsOutsideFault (length (items_bytes (items_from is))) fault
   outside-behind fault [] [] [] u fits given gave ahead end = end (sym gave)
-  outside-behind fault [] [] (d ∷ ds) u fits given (j, s, left, spelled, split, gave, more) ahead end = absurd (never-empty [] s left j spelled refl split)
+  outside-behind fault [] [] (d ∷ ds) u fits given (j, s, left, spelled, split, gave, more) ahead end =
+      absurd (never-empty [] s left j spelled refl split)
   outside-behind fault [] (c ∷ cs) ds u fits given gave ahead end = absurd given
   outside-behind fault (i ∷ is) [] ds u fits given gave ahead end = absurd given
   outside-behind fault (i ∷ is) (c ∷ cs) [] u (first, rest) given gave ahead end =
       subst (λ b. IsOutsideFault (length b) fault) (sym gave)
-      (not-blamed (length u) fault (taken l i) c given.0 (ahead i (written_bytes i) (items_bytes (items_from is)) (written_item_spells i first) (sym gave)))
-  outside-behind fault (i ∷ is) (c ∷ cs) (d ∷ ds) u fits (one, given) (j, s, left, spelled, split, gave, more) ahead end =
+      (not-blamed (length u) fault (taken l i) c given.0
+      (ahead i (written_bytes i) (items_bytes (items_from is)) (written_item_spells i first) (sym gave)))
+  outside-behind fault (i ∷ is) (c ∷ cs) (d ∷ ds) u fits (one, given) (j, s, left, spelled, split, gave, more) ahead end
+      =
       let (behind, same) = same-front i j is s left c d fits one spelled split gave in
-      let less : length (items_bytes (items_from is)) ≤ length (items_bytes (items_from (i ∷ is))) = omega (arith, length-append (written_bytes i) (items_bytes (items_from is))) in
+      let less : length (items_bytes (items_from is)) ≤ length (items_bytes (items_from (i ∷ is))) =
+      omega (arith, length-append (written_bytes i) (items_bytes (items_from is))) in
       outside-further (length (items_bytes (items_from is))) (length (items_bytes (items_from (i ∷ is)))) fault less
       (outside-behind fault is cs ds u fits.1 given (subst (λ b. GivesThen l taken b ds u) (sym behind) more) ahead end)
 
 -- ---- values whose items are read as their contents
 
 module _ {T C : Type 0} (IsHeld : T → Type 0) (written : T → Named) (reading : Reading T C) (levels : T → ℕ)
-    (law : (v : T) → IsHeld v → (i : Item) → written v ≡ Ok i → (l : Limit) → IsWithin l (levels v) → reading.taken l i ≡ gives (reading.content v)) where
-  are-given : (l : Limit) (vs : List T) (is : List Item) → All IsHeld vs → all_named (map written vs) ≡ Ok is → All (λ v. IsWithin l (levels v)) vs → AreGiven l reading.taken is (map reading.content vs)
+    (law : (v : T) → IsHeld v → (i : Item) → written v ≡ Ok i → (l : Limit) → IsWithin l (levels v) →
+    reading.taken l i ≡ gives (reading.content v)) where
+  are-given : (l : Limit) (vs : List T) (is : List Item) → All IsHeld vs → all_named (map written vs) ≡ Ok is →
+      All (λ v. IsWithin l (levels v)) vs → AreGiven l reading.taken is (map reading.content vs)
   are-given l [] is held named within = let none : [] ≡ is = cc in subst (λ js. AreGiven l reading.taken js []) none tt
   are-given l (v ∷ vs) is held named within =
       let a = and_then_is (written v) (all_named (map written vs)) is named in
       let step : AreGiven l reading.taken (a.0 ∷ a.1) (map reading.content (v ∷ vs)) = (
         law v (held 0 v (omega arith)) a.0 a.2 l (within 0 v (omega arith)),
-        are-given l vs a.1 (λ k d lt. held (suc k) d (omega (arith, lt))) a.3 (λ k d lt. within (suc k) d (omega (arith, lt))),
+        are-given l vs a.1 (λ k d lt. held (suc k) d (omega (arith, lt))) a.3
+            (λ k d lt. within (suc k) d (omega (arith, lt))),
       ) in
       subst (λ js. AreGiven l reading.taken js (map reading.content (v ∷ vs))) (sym a.4) step
 
@@ -99,18 +118,28 @@ module _ {T C : Type 0} (IsHeld : T → Type 0) (written : T → Named) (reading
       given : AreGiven (Some l) reading.taken is (map reading.content vs)
       given = are-given (Some l) vs is held named within
 
-      by : (r : Result (List C) (Error IoError)) → AnswersSequence reading.taken l (items_bytes (items_from is)) after r → IsGivenBack (map reading.content vs) [] (length (items_bytes (items_from is))) after r
-      by (Ok cs) (taken, refused) = let (gave, left) = taken (items_bytes (items_from is)) refl in (given-back (Some l) reading.taken is (map reading.content vs) cs fits given gave, left)
+      by : (r : Result (List C) (Error IoError)) → AnswersSequence reading.taken l (items_bytes (items_from is)) after r
+          → IsGivenBack (map reading.content vs) [] (length (items_bytes (items_from is))) after r
+      by (Ok cs) (taken, refused) = let (gave, left) = taken (items_bytes (items_from is)) refl in
+          (given-back (Some l) reading.taken is (map reading.content vs) cs fits given gave, left)
       by (Err e) (taken, refused) =
           let (cs, u, gave, ahead, end) = refused (items_bytes (items_from is)) refl in
           outside-behind (Some l) reading.taken (fault_of e) is (map reading.content vs) cs u fits given gave ahead end
 
-  pub contents_read_back : (vs again : List T) (bytes rest : List ℕ) → AreContentsReadBack IsHeld written reading levels vs again bytes rest
-  contents_read_back vs again bytes rest old new held within out fits taken none same = by (all_named (map written vs)) refl out fits
+  pub contents_read_back : (vs again : List T) (bytes rest : List ℕ) →
+      AreContentsReadBack IsHeld written reading levels vs again bytes rest
+  contents_read_back vs again bytes rest old new held within out fits taken none same =
+      by (all_named (map written vs)) refl out fits
     where
-      by : (r : AllNamed) → all_named (map written vs) ≡ r → WritesInTurn {E = WriteError IoError} (Some old) (Some new) (Ok tt) r → AreNamedWritten r → map reading.content again ≡ map reading.content vs
+      by : (r : AllNamed) → all_named (map written vs) ≡ r →
+          WritesInTurn {E = WriteError IoError} (Some old) (Some new) (Ok tt) r → AreNamedWritten r →
+          map reading.content again ≡ map reading.content vs
       by (Ok is) named out fits =
-          let whole : bytes ≡ items_bytes (items_from is) = same ∙ out ∙ ap (λ (b : List ℕ). b ++ items_bytes (items_from is)) none in
-          (sequence_read_back vs is 256 (Some rest) (Ok (map reading.content again)) held named fits within
-          (subst (λ b. TakesSequence {E = IoError} (Some 256) reading.taken (Some b) (Some rest) (Ok (map reading.content again))) whole taken, λ b known. tt)).0
+          let whole : bytes ≡ items_bytes (items_from is) = same ∙ out ∙
+          ap (λ (b : List ℕ). b ++ items_bytes (items_from is)) none in
+          (sequence_read_back vs is 256 (Some rest) (Ok (map reading.content again)) held named fits within (
+            subst (λ b. TakesSequence {E = IoError} (Some 256) reading.taken (Some b) (Some rest)
+                (Ok (map reading.content again))) whole taken,
+            λ b known. tt,
+          )).0
       by (Err k) named out fits = absurd fits

@@ -1,5 +1,6 @@
 -- From a source that was begun on a lent reader to the reader.
-use Rattle.std.proofs.Common.{◌≡◌, ℕ, ◌+◌, ◌≤◌, List, ◌++◌, Option, Some, None, Result, Ok, Err, IfOk, IfErr, IfSome, OnOk, refl, sym, ap, ◌∙◌, subst, arith}
+use Rattle.std.proofs.Common.{◌≡◌, ℕ, ◌+◌, ◌≤◌, List, ◌++◌, Option, Some, None, Result, Ok, Err, IfOk, IfErr, IfSome}
+use Rattle.std.proofs.Common.{OnOk, refl, sym, ap, ◌∙◌, subst, arith}
 use Rattle.std.specs.Io.KnownBytes.{Consumes}
 use Rattle.ciborium_ll.specs.Decoding.{HasBegun, IsAheadBy, with_left, left_of, allowed_of}
 use Rattle.ciborium_ll.proofs.HeldBytes.{begun-left, counted-left}
@@ -11,37 +12,63 @@ use Rattle.ciborium_value.specs.Tree.{Tree}
 use Rattle.ciborium.specs.declared.de.byte_source.ByteSource.{ByteSource}
 use Rattle.ciborium.specs.declared.de.error.Error.{Error}
 use Rattle.ciborium.specs.ValueAnswers.{TakesBytes, TakesBytesFrom}
-use Rattle.ciborium.specs.inner.ByteSources.{IsUnread, IsUnreadBy, ReadsValue, StandsBefore, end_at, pending_count, reader_of}
+use Rattle.ciborium.specs.inner.ByteSources.{IsUnread, IsUnreadBy, ReadsValue, StandsBefore, end_at, pending_count}
+use Rattle.ciborium.specs.inner.ByteSources.{reader_of}
 use Rattle.ciborium.specs.Errors.{fault_of}
 use Rattle.ciborium.specs.NextItems.{IsReadFrom}
 use Rattle.ciborium.specs.TypedAnswers.{IsFaultAhead, TakesGiving}
 use Rattle.ciborium.specs.Spelling.{any}
 use Rattle.ciborium.proofs.Readers.WhateverFollows.{leaves-name, leaves-rest, taken-tree}
 
-module _ {S A : Type 0} (remaining : S → Option (List ℕ)) (old : ByteSource S) (taken : Taken A) (b : List ℕ) (front : IsUnread remaining old b) (few : allowed_of old.decoder + pending_count old.pending ≤ 1) where
+module _ {S A : Type 0} (remaining : S → Option (List ℕ)) (old : ByteSource S) (taken : Taken A) (b : List ℕ)
+    (front : IsUnread remaining old b) (few : allowed_of old.decoder + pending_count old.pending ≤ 1) where
   -- just the item at the front was taken, and the reader that was lent has what follows it
-  pub handed-ok : (new : ByteSource S) (v : A) (x : S) → (old.decoder.reader.ghost_name ≡ new.decoder.reader.ghost_name → x ≡ new.decoder.reader.now) → TakesItem (IsUnread remaining) old new → TakesAhead (StandsBefore remaining) old new taken v →
+  pub handed-ok : (new : ByteSource S) (v : A) (x : S) →
+      (old.decoder.reader.ghost_name ≡ new.decoder.reader.ghost_name → x ≡ new.decoder.reader.now) →
+      TakesItem (IsUnread remaining) old new → TakesAhead (StandsBefore remaining) old new taken v →
       TakesGiving (Some old.levels) taken b v (remaining x)
   handed-ok new v x back took takes =
       let (z, un, (i, s, sp, e)) = took b front in
-      let (give, (z', un', fits, lv, none, due)) = takes (Some old.levels) i (bottom (reader_of remaining old.decoder) z) (b, front, (s, z, sp, (refl, refl), e), refl, tt, omega (arith, few)) in
-      let left : left_of remaining new.decoder ≡ Some z' = subst (λ o. IsUnreadBy remaining new.decoder o z') none un' in
-      (i, s, z, sp, e, give, ap remaining (back (ap (λ r. r.0) fits.1)) ∙ sym (counted-left remaining new.decoder (omega (arith, due))) ∙ left ∙ ap Some fits.0)
+      let (give, (z', un', fits, lv, none, due)) = takes (Some old.levels) i
+      (bottom (reader_of remaining old.decoder) z)
+      (b, front, (s, z, sp, (refl, refl), e), refl, tt, omega (arith, few)) in
+      let left : left_of remaining new.decoder ≡ Some z' =
+      subst (λ o. IsUnreadBy remaining new.decoder o z') none un' in (
+        i,
+        s,
+        z,
+        sp,
+        e,
+        give,
+        ap remaining (back (ap (λ r. r.0) fits.1)) ∙
+            sym (counted-left remaining new.decoder (omega (arith, due))) ∙ left ∙ ap Some fits.0,
+      )
 
-  pub handed-refused : (fault : Fault) → RefusesAhead (StandsBefore remaining) old taken fault → IsFaultAhead (end_at remaining old) (Some old.levels) taken b fault
-  handed-refused fault h i s z sp e = h (Some old.levels) i (bottom (reader_of remaining old.decoder) z) (b, front, (s, z, sp, (refl, refl), e), refl, tt, omega (arith, few))
+  pub handed-refused : (fault : Fault) → RefusesAhead (StandsBefore remaining) old taken fault →
+      IsFaultAhead (end_at remaining old) (Some old.levels) taken b fault
+  handed-refused fault h i s z sp e = h (Some old.levels) i (bottom (reader_of remaining old.decoder) z)
+      (b, front, (s, z, sp, (refl, refl), e), refl, tt, omega (arith, few))
 
 -- the same, of what was read from the source
-pub handed-given : {S T A : Type 0} (E : Type 0) (remaining : S → Option (List ℕ)) (reading : Reading T A) (old new : ByteSource S) (b : List ℕ) → IsUnread remaining old b → allowed_of old.decoder + pending_count old.pending ≤ 1 → (x : S) → (old.decoder.reader.ghost_name ≡ new.decoder.reader.ghost_name → x ≡ new.decoder.reader.now) →
-    (r : Result T (Error E)) → IsReadFrom {E = E} remaining reading old new r → IfOk (read_as reading.content r) (λ v. TakesGiving (Some old.levels) reading.taken b v (remaining x))
-handed-given E remaining reading old new b front few x back (Ok v) h = handed-ok remaining old reading.taken b front few new (reading.content v) x back h.took h.ok
+pub handed-given : {S T A : Type 0} (E : Type 0) (remaining : S → Option (List ℕ)) (reading : Reading T A)
+    (old new : ByteSource S) (b : List ℕ) → IsUnread remaining old b →
+    allowed_of old.decoder + pending_count old.pending ≤ 1 → (x : S) →
+    (old.decoder.reader.ghost_name ≡ new.decoder.reader.ghost_name → x ≡ new.decoder.reader.now) →
+    (r : Result T (Error E)) → IsReadFrom {E = E} remaining reading old new r →
+    IfOk (read_as reading.content r) (λ v. TakesGiving (Some old.levels) reading.taken b v (remaining x))
+handed-given E remaining reading old new b front few x back (Ok v) h =
+    handed-ok remaining old reading.taken b front few new (reading.content v) x back h.took h.ok
 handed-given E remaining reading old new b front few x back (Err e) h = tt
 
-pub handed-denied : {S T A : Type 0} (E : Type 0) (remaining : S → Option (List ℕ)) (reading : Reading T A) (old new : ByteSource S) (b : List ℕ) (end : ℕ) → IsUnread remaining old b → allowed_of old.decoder + pending_count old.pending ≤ 1 → end_at remaining old ≡ end →
-    (r : Result T (Error E)) → IsReadFrom {E = E} remaining reading old new r → IfErr (read_as reading.content r) (λ e. IsFaultAhead end (Some old.levels) reading.taken b (fault_of e))
+pub handed-denied : {S T A : Type 0} (E : Type 0) (remaining : S → Option (List ℕ)) (reading : Reading T A)
+    (old new : ByteSource S) (b : List ℕ) (end : ℕ) → IsUnread remaining old b →
+    allowed_of old.decoder + pending_count old.pending ≤ 1 → end_at remaining old ≡ end →
+    (r : Result T (Error E)) → IsReadFrom {E = E} remaining reading old new r →
+    IfErr (read_as reading.content r) (λ e. IsFaultAhead end (Some old.levels) reading.taken b (fault_of e))
 handed-denied E remaining reading old new b end front few ends (Ok v) h = tt
 handed-denied E remaining reading old new b end front few ends (Err e) h =
-    subst (λ n. IsFaultAhead n (Some old.levels) reading.taken b (fault_of e)) ends (handed-refused remaining old reading.taken b front few (fault_of e) h.refused)
+    subst (λ n. IsFaultAhead n (Some old.levels) reading.taken b (fault_of e)) ends
+    (handed-refused remaining old reading.taken b front few (fault_of e) h.refused)
 
 -- ---- where reading is one call of `value`
 
@@ -49,24 +76,37 @@ pub on-ok : {T E : Type 0} {P : Type 0} (r : Result T E) → P → OnOk r P
 on-ok (Ok v) p = p
 on-ok (Err e) p = tt
 
-pub handed-from : (E : Type 0) {S : Type 0} (remaining : S → Option (List ℕ)) (old new : ByteSource S) (lent x : S) (p : ℕ) (r : Result Tree (Error E)) → HasBegun old.decoder lent p → old.pending ≡ None → (old.decoder.reader.ghost_name ≡ new.decoder.reader.ghost_name → x ≡ new.decoder.reader.now) → ReadsValue remaining old new r →
+pub handed-from : (E : Type 0) {S : Type 0} (remaining : S → Option (List ℕ)) (old new : ByteSource S) (lent x : S)
+    (p : ℕ) (r : Result Tree (Error E)) → HasBegun old.decoder lent p → old.pending ≡ None →
+    (old.decoder.reader.ghost_name ≡ new.decoder.reader.ghost_name → x ≡ new.decoder.reader.now) →
+    ReadsValue remaining old new r →
     TakesBytesFrom {E = E} any p (remaining lent) old.levels (remaining x) r
 handed-from E {S} remaining old new lent x p r begins none back reads =
     let (s, taken, count, h, bytes) = reads.1 in
     let begun : old.decoder.window.count ≡ p = begins.count in
     let less = new.decoder.window.fits in
-    let after : remaining x ≡ left_of remaining new.decoder = ap remaining (back (sym (leaves-name remaining old.decoder new.decoder r reads.0))) ∙ sym (leaves-rest remaining old.decoder new.decoder r lent p begins reads.0) in (
+    let after : remaining x ≡ left_of remaining new.decoder =
+    ap remaining (back (sym (leaves-name remaining old.decoder new.decoder r reads.0))) ∙
+    sym (leaves-rest remaining old.decoder new.decoder r lent p begins reads.0) in (
       s,
-      subst (λ o. Consumes (remaining lent) o s) (sym after) (subst (λ y. Consumes y (left_of remaining new.decoder) s) (begun-left remaining old.decoder lent p begins) taken),
+      subst (λ o. Consumes (remaining lent) o s) (sym after)
+          (subst (λ y. Consumes y (left_of remaining new.decoder) s) (begun-left remaining old.decoder lent p begins)
+          taken),
       omega (arith, count, begun, less),
-      taken-tree E any new.decoder old.levels p s r (on-ok r new.unpushed) (λ c. h c (s ++ c) p (subst (λ o. IsAheadBy Some (with_left old.decoder (s ++ c)) (s ++ c) p o) (sym none) (begins.count, refl))),
+      taken-tree E any new.decoder old.levels p s r (on-ok r new.unpushed)
+          (λ c. h c (s ++ c) p (subst (λ o. IsAheadBy Some (with_left old.decoder (s ++ c)) (s ++ c) p o) (sym none)
+          (begins.count, refl))),
       bytes,
     )
 
-pub handed-whole : (E : Type 0) {S : Type 0} (remaining : S → Option (List ℕ)) (old new : ByteSource S) (lent x : S) (r : Result Tree (Error E)) → HasBegun old.decoder lent 0 → old.pending ≡ None → (old.decoder.reader.ghost_name ≡ new.decoder.reader.ghost_name → x ≡ new.decoder.reader.now) → ReadsValue remaining old new r →
+pub handed-whole : (E : Type 0) {S : Type 0} (remaining : S → Option (List ℕ)) (old new : ByteSource S) (lent x : S)
+    (r : Result Tree (Error E)) → HasBegun old.decoder lent 0 → old.pending ≡ None →
+    (old.decoder.reader.ghost_name ≡ new.decoder.reader.ghost_name → x ≡ new.decoder.reader.now) →
+    ReadsValue remaining old new r →
     TakesBytes {E = E} any (remaining lent) old.levels (remaining x) r
 handed-whole E remaining old new lent x r begins none back reads =
-    let (s, consumes, fits, taken, bytes) = handed-from E remaining old new lent x 0 r begins none back reads in (s, consumes, omega (arith, fits), taken, bytes)
+    let (s, consumes, fits, taken, bytes) = handed-from E remaining old new lent x 0 r begins none back reads in
+    (s, consumes, omega (arith, fits), taken, bytes)
 
 pub err-map : {T E : Type 0} {P Q : E → Type 0} (r : Result T E) → IfErr r P → ((v : E) → P v → Q v) → IfErr r Q
 err-map (Ok v) p f = tt

@@ -1,5 +1,6 @@
 -- From the head that was pulled first, and what is read behind it, to the reader of a sequence.
-use Rattle.std.proofs.Common.{◌≡◌, ℕ, ◌+◌, ◌<◌, ◌≤◌, List, [], ◌++◌, length, Option, Some, None, Result, Ok, Err, IfNone, IfSome, refl, sym, ap, ◌∙◌, subst, append_assoc, arith, length-append}
+use Rattle.std.proofs.Common.{◌≡◌, ℕ, ◌+◌, ◌<◌, ◌≤◌, List, [], ◌++◌, length, Option, Some, None, Result, Ok, Err}
+use Rattle.std.proofs.Common.{IfNone, IfSome, refl, sym, ap, ◌∙◌, subst, append_assoc, arith, length-append}
 use Rattle.std.specs.Io.KnownBytes.{Consumes, IsAtEnd}
 use Rattle.std.proofs.KnownBytes.{Consumes-trans}
 use Rattle.std.proofs.lemmas.List.Elements.{All-append}
@@ -43,41 +44,76 @@ end-says r P is = subst (λ q. Otherwise q P) (sym is) tt
 
 -- ---- the head that was pulled first: d was begun on the reader that was lent, and has pulled it
 
-module _ {S : Type 0} (E : Type 0) (remaining : S → Option (List ℕ)) (d : Decoder S) (s : ByteSource S) (lent : S) (begins : HasBegun d lent 0) (same : HasSameReader d s.decoder) (h : Header) (taken : Takes remaining d s.decoder (λ b. IsHeadTaken {E = E} b d.window.count (Ok h))) where
+module _ {S : Type 0} (E : Type 0) (remaining : S → Option (List ℕ)) (d : Decoder S) (s : ByteSource S) (lent : S)
+    (begins : HasBegun d lent 0) (same : HasSameReader d s.decoder) (h : Header)
+    (taken : Takes remaining d s.decoder (λ b. IsHeadTaken {E = E} b d.window.count (Ok h))) where
   zero-count : d.window.count ≡ 0
   zero-count = begins.count
 
   -- it is pending
   front : (b : List ℕ) → remaining lent ≡ Some b → IsUnread remaining (behind_head s h) b
   front b known =
-      let (x, r, spelled, usable, split, count, left) = reads-head {E = E} (left_of remaining d) (left_of remaining s.decoder) b d.window.count s.decoder.window.count (Ok h) (begun-left remaining d lent 0 begins ∙ known) taken in
-      (x, r, spelled, split, left, λ fixed. (subst (IsUsable b) zero-count usable, count ∙ ap (λ n. n + length x) zero-count))
+      let (x, r, spelled, usable, split, count, left) =
+      reads-head {E = E} (left_of remaining d) (left_of remaining s.decoder) b d.window.count s.decoder.window.count
+      (Ok h) (begun-left remaining d lent 0 begins ∙ known) taken in (
+        x,
+        r,
+        spelled,
+        split,
+        left,
+        λ fixed. (
+          subst (IsUsable b) zero-count usable,
+          count ∙
+              ap (λ n. n + length x) zero-count,
+        ),
+      )
 
   -- whatever follows it
   front-any : (u : List ℕ) → IsAheadBy Some (with_left s.decoder u) (taken.0 ++ u) 0 (Some (h, 0))
   front-any u =
       let (x, consumed, count, t, bytes) = taken in
-      let (y, r, spelled, usable, split, sum, left) = reads-head {E = E} (Some (x ++ u)) (Some u) (x ++ u) d.window.count s.decoder.window.count (Ok h) refl (x, refl, count, t, bytes) in
-      (refl, y, r, spelled, subst (IsUsable (x ++ u)) zero-count usable, split, sum ∙ ap (λ n. n + length y) zero-count, left)
+      let (y, r, spelled, usable, split, sum, left) = reads-head {E = E} (Some (x ++ u)) (Some u) (x ++ u)
+      d.window.count s.decoder.window.count (Ok h) refl (x, refl, count, t, bytes) in (
+        refl,
+        y,
+        r,
+        spelled,
+        subst (IsUsable (x ++ u)) zero-count usable,
+        split,
+        sum ∙ ap (λ n. n + length y) zero-count,
+        left,
+      )
 
   -- with the bytes that were taken behind it
-  joined : (t : ByteSource S) (x : S) (r : Result Tree (Error E)) → (s.decoder.reader.ghost_name ≡ t.decoder.reader.ghost_name → x ≡ t.decoder.reader.now) → ReadsValue {E = E} remaining (behind_head s h) t r → TakesBytes {E = E} any (remaining lent) s.levels (remaining x) r
+  joined : (t : ByteSource S) (x : S) (r : Result Tree (Error E)) →
+      (s.decoder.reader.ghost_name ≡ t.decoder.reader.ghost_name → x ≡ t.decoder.reader.now) →
+      ReadsValue {E = E} remaining (behind_head s h) t r →
+      TakesBytes {E = E} any (remaining lent) s.levels (remaining x) r
   joined t x r back reads =
       let (b, consumed, count, head, bytes) = taken in
       let (c, more, sum, f, low) = reads.1 in
       let zero = zero-count in
       let less = t.decoder.window.fits in
-      let after : remaining x ≡ left_of remaining t.decoder = ap remaining (back (sym (leaves-name remaining s.decoder t.decoder r reads.0))) ∙ sym (leaves-rest remaining d t.decoder r lent 0 begins (leaves-then d s.decoder t.decoder r same reads.0)) in (
+      let after : remaining x ≡ left_of remaining t.decoder =
+      ap remaining (back (sym (leaves-name remaining s.decoder t.decoder r reads.0))) ∙
+      sym (leaves-rest remaining d t.decoder r lent 0 begins (leaves-then d s.decoder t.decoder r same reads.0)) in (
         b ++ c,
-        subst (λ o. Consumes (remaining lent) o (b ++ c)) (sym after) (Consumes-trans (remaining lent) (left_of remaining s.decoder) (left_of remaining t.decoder) b c (subst (λ y. Consumes y (left_of remaining s.decoder) b) (begun-left remaining d lent 0 begins) consumed) more),
+        subst (λ o. Consumes (remaining lent) o (b ++ c)) (sym after)
+            (Consumes-trans (remaining lent) (left_of remaining s.decoder) (left_of remaining t.decoder) b c
+            (subst (λ y. Consumes y (left_of remaining s.decoder) b) (begun-left remaining d lent 0 begins) consumed)
+            more),
         omega (arith, count, sum, zero, less, length-append b c),
-        taken-tree E any t.decoder s.levels 0 (b ++ c) r (on-ok r t.unpushed) (λ z. subst (λ u. Rattle.ciborium.specs.ValueAnswers.IsTreeRead {S = List ℕ} {E = E} any Some (with_left t.decoder z) s.levels u 0 r) (sym (append_assoc b c z)) (f z (b ++ (c ++ z)) 0 (front-any (c ++ z)))),
+        taken-tree E any t.decoder s.levels 0 (b ++ c) r (on-ok r t.unpushed)
+            (λ z. subst (λ u. Rattle.ciborium.specs.ValueAnswers.IsTreeRead {S = List ℕ} {E = E} any Some
+            (with_left t.decoder z) s.levels u 0 r) (sym (append_assoc b c z))
+            (f z (b ++ (c ++ z)) 0 (front-any (c ++ z)))),
         All-append (λ n. n < 256) b c bytes low,
       )
 
 -- ---- the answer of the call, with what was read behind the head
 
-module _ {S T A : Type 0} (E : Type 0) (remaining : S → Option (List ℕ)) (reading : Reading T A) (d : Decoder S) (s t : ByteSource S) (lent x : S) (begins : HasBegun d lent 0) (kept : HasSameReader d s.decoder) where
+module _ {S T A : Type 0} (E : Type 0) (remaining : S → Option (List ℕ)) (reading : Reading T A) (d : Decoder S)
+    (s t : ByteSource S) (lent x : S) (begins : HasBegun d lent 0) (kept : HasSameReader d s.decoder) where
   -- nothing is read ahead where the head is pending
   few : allowed_of s.decoder + 1 ≤ 1
   few = let none = begun-count d s.decoder lent 0 begins kept in omega (arith, none)
@@ -93,41 +129,66 @@ module _ {S T A : Type 0} (E : Type 0) (remaining : S → Option (List ℕ)) (re
   First first = Takes remaining d s.decoder (λ b. IsFirstTaken {E = E} b d.window.count (Ok first))
 
   module _ (back : s.decoder.reader.ghost_name ≡ t.decoder.reader.ghost_name → x ≡ t.decoder.reader.now) where
-    pub tells-end : (first : Option Header) (r : Result (Option T) (Error E)) → First first → IfNone first (IsAtEnd (left_of remaining s.decoder)) → (left_of remaining d ≡ Some [] → IsEndOrFault {E = E} (Ok first)) → End first r → Behind first r →
+    pub tells-end : (first : Option Header) (r : Result (Option T) (Error E)) → First first →
+        IfNone first (IsAtEnd (left_of remaining s.decoder)) →
+        (left_of remaining d ≡ Some [] → IsEndOrFault {E = E} (Ok first)) → End first r → Behind first r →
         TellsEnd {E = E} (remaining lent) (remaining x) r
     tells-end None r (b, consumed, count, none, bytes) end empty (is, same) item =
-        let after : x ≡ s.decoder.reader.now = back (ap (λ (u : Decoder S). u.reader.ghost_name) (sym same)) ∙ ap (λ (u : Decoder S). u.reader.now) same in
-        let rest : left_of remaining s.decoder ≡ remaining s.decoder.reader.now = begun-rest remaining d s.decoder lent 0 begins kept in
+        let after : x ≡ s.decoder.reader.now = back (ap (λ (u : Decoder S). u.reader.ghost_name) (sym same)) ∙
+        ap (λ (u : Decoder S). u.reader.now) same in
+        let rest : left_of remaining s.decoder ≡ remaining s.decoder.reader.now =
+        begun-rest remaining d s.decoder lent 0 begins kept in
         subst (λ q. TellsEnd {E = E} (remaining lent) (remaining x) q) (sym is) (
-          subst (λ y. Consumes (remaining lent) (remaining y) []) (sym after) (subst (λ y. Consumes (remaining lent) y []) rest (subst (λ y. Consumes y (left_of remaining s.decoder) []) (begun-left remaining d lent 0 begins) (subst (λ z. Consumes (left_of remaining d) (left_of remaining s.decoder) z) none consumed))),
+          subst (λ y. Consumes (remaining lent) (remaining y) []) (sym after)
+              (subst (λ y. Consumes (remaining lent) y []) rest
+              (subst (λ y. Consumes y (left_of remaining s.decoder) []) (begun-left remaining d lent 0 begins)
+              (subst (λ z. Consumes (left_of remaining d) (left_of remaining s.decoder) z) none consumed))),
           subst (λ y. IsAtEnd (remaining y)) (sym after) (subst IsAtEnd rest end),
         )
     tells-end (Some h) (Ok None) taken end empty none item = absurd item
-    tells-end (Some h) (Ok (Some v)) taken end empty none item = λ known. empty (begun-left remaining d lent 0 begins ∙ known)
-    tells-end (Some h) (Err e) taken end empty none item = λ known. absurd (empty (begun-left remaining d lent 0 begins ∙ known))
+    tells-end (Some h) (Ok (Some v)) taken end empty none item =
+        λ known. empty (begun-left remaining d lent 0 begins ∙ known)
+    tells-end (Some h) (Err e) taken end empty none item =
+        λ known. absurd (empty (begun-left remaining d lent 0 begins ∙ known))
 
-    pub next-ok : (first : Option Header) (r : Result (Option T) (Error E)) → First first → End first r → Behind first r →
-        Otherwise r (λ q. TakesGiven (Some s.levels) reading.taken (remaining lent) (remaining x) (read_as reading.content q))
-    next-ok None r taken (is, same) item = end-says r (λ q. TakesGiven (Some s.levels) reading.taken (remaining lent) (remaining x) (read_as reading.content q)) is
+    pub next-ok : (first : Option Header) (r : Result (Option T) (Error E)) → First first → End first r →
+        Behind first r →
+        Otherwise r (λ q. TakesGiven (Some s.levels) reading.taken (remaining lent) (remaining x)
+        (read_as reading.content q))
+    next-ok None r taken (is, same) item = end-says r (λ q. TakesGiven (Some s.levels) reading.taken (remaining lent)
+        (remaining x) (read_as reading.content q)) is
     next-ok (Some h) (Ok None) taken none item = absurd item
-    next-ok (Some h) (Ok (Some v)) taken none item = λ b known. handed-given E remaining reading (behind_head s h) t b (front E remaining d s lent begins kept h taken b known) few x back (Ok v) item
+    next-ok (Some h) (Ok (Some v)) taken none item = λ b known. handed-given E remaining reading (behind_head s h) t b
+        (front E remaining d s lent begins kept h taken b known) few x back (Ok v) item
     next-ok (Some h) (Err e) taken none item = λ b known. tt
 
-    pub next-value : (first : Option Header) (r : Result (Option T) (Error E)) → First first → End first r → Behind first r →
-        Otherwise r (λ q. IfSome reading.whole (λ tree. ReadsWhole any (remaining lent) s.levels (remaining x) (read_as (λ v. tree (reading.content v)) q)))
-    next-value None r taken (is, same) item = end-says r (λ q. IfSome reading.whole (λ tree. ReadsWhole any (remaining lent) s.levels (remaining x) (read_as (λ v. tree (reading.content v)) q))) is
+    pub next-value : (first : Option Header) (r : Result (Option T) (Error E)) → First first → End first r →
+        Behind first r →
+        Otherwise r (λ q. IfSome reading.whole (λ tree. ReadsWhole any (remaining lent) s.levels (remaining x)
+        (read_as (λ v. tree (reading.content v)) q)))
+    next-value None r taken (is, same) item = end-says r
+        (λ q. IfSome reading.whole (λ tree. ReadsWhole any (remaining lent) s.levels (remaining x)
+        (read_as (λ v. tree (reading.content v)) q))) is
     next-value (Some h) (Ok None) taken none item = absurd item
     next-value (Some h) (Ok (Some v)) taken none item =
-        some-map reading.whole item.whole (λ tree reads. whole-of {E = E} any s.levels (remaining lent) (remaining x) (Ok (tree (reading.content v))) (joined E remaining d s lent begins kept h taken t x (Ok (tree (reading.content v))) back reads))
+        some-map reading.whole item.whole (λ tree reads. whole-of {E = E} any s.levels (remaining lent) (remaining x)
+        (Ok (tree (reading.content v))) (joined E remaining d s lent begins kept h taken t x
+        (Ok (tree (reading.content v))) back reads))
     next-value (Some h) (Err e) taken none item =
-        some-map reading.whole item.whole (λ tree reads. whole-of {E = E} any s.levels (remaining lent) (remaining x) (Err e) (joined E remaining d s lent begins kept h taken t x (Err e) back reads))
+        some-map reading.whole item.whole (λ tree reads. whole-of {E = E} any s.levels (remaining lent) (remaining x)
+        (Err e) (joined E remaining d s lent begins kept h taken t x (Err e) back reads))
 
-  pub next-refused : (first : Option Header) (r : Result (Option T) (Error E)) → First first → End first r → Behind first r → Otherwise r (λ q. RefusesTaken 0 (Some s.levels) reading.taken (remaining lent) (read_as reading.content q))
-  next-refused None r taken (is, same) item = end-says r (λ q. RefusesTaken 0 (Some s.levels) reading.taken (remaining lent) (read_as reading.content q)) is
+  pub next-refused : (first : Option Header) (r : Result (Option T) (Error E)) → First first → End first r →
+      Behind first r → Otherwise r (λ q. RefusesTaken 0 (Some s.levels) reading.taken (remaining lent)
+      (read_as reading.content q))
+  next-refused None r taken (is, same) item = end-says r
+      (λ q. RefusesTaken 0 (Some s.levels) reading.taken (remaining lent) (read_as reading.content q)) is
   next-refused (Some h) (Ok None) taken none item = absurd item
   next-refused (Some h) (Ok (Some v)) taken none item = λ b known. tt
-  next-refused (Some h) (Err e) taken none item = λ b known. handed-denied E remaining reading (behind_head s h) t b (0 + length b) (front E remaining d s lent begins kept h taken b known) few
-      (takes-end remaining d s.decoder _ b (begun-left remaining d lent 0 begins ∙ known) taken ∙ ap (λ n. n + length b) begins.count) (Err e) item
+  next-refused (Some h) (Err e) taken none item = λ b known. handed-denied E remaining reading (behind_head s h) t b
+      (0 + length b) (front E remaining d s lent begins kept h taken b known) few
+      (takes-end remaining d s.decoder _ b (begun-left remaining d lent 0 begins ∙ known) taken ∙
+      ap (λ n. n + length b) begins.count) (Err e) item
 
 -- ---- the first head was refused
 
@@ -137,27 +198,39 @@ first-io (ll.Syntax p) h = h
 first-io ll.TooLong h = h
 first-io ll.Memory h = h
 
-module _ {S : Type 0} (E : Type 0) (remaining : S → Option (List ℕ)) (d e : Decoder S) (lent : S) (begins : HasBegun d lent 0) (same : HasSameReader d e) (x : LlError E) (taken : Takes remaining d e (λ b. IsHeadTaken {E = E} b d.window.count (Err x))) where
-  pub first-denied : {A : Type 0} (l : Option ℕ) (given : Taken A) (b : List ℕ) → remaining lent ≡ Some b → IsFaultAhead (0 + length b) l given b (fault_of (from_ll x))
+module _ {S : Type 0} (E : Type 0) (remaining : S → Option (List ℕ)) (d e : Decoder S) (lent : S)
+    (begins : HasBegun d lent 0) (same : HasSameReader d e) (x : LlError E)
+    (taken : Takes remaining d e (λ b. IsHeadTaken {E = E} b d.window.count (Err x))) where
+  pub first-denied : {A : Type 0} (l : Option ℕ) (given : Taken A) (b : List ℕ) → remaining lent ≡ Some b →
+      IsFaultAhead (0 + length b) l given b (fault_of (from_ll x))
   first-denied l given b known i s left spelled split =
       let (y, c, head, whole) = first-head s i spelled in
-      let refused = reads-head {E = E} (left_of remaining d) (left_of remaining e) b d.window.count e.window.count (Err x) (begun-left remaining d lent 0 begins ∙ known) taken in
+      let refused = reads-head {E = E} (left_of remaining d) (left_of remaining e) b d.window.count e.window.count
+      (Err x) (begun-left remaining d lent 0 begins ∙ known) taken in
       let there = first-payload s i spelled in
       let more = length-append c left in
-      fault_outside _ (fault_of (from_ll x)) (given l i) (subst (λ n. IsOutsideFault (n + length b) (fault_of (from_ll x))) begins.count
-      (head-outside (left_of remaining e) x b y (c ++ left) d.window.count (header_of i) head (split ∙ ap (λ (z : List ℕ). z ++ left) whole ∙ append_assoc y c left) (omega (arith, there, more)) refused))
+      fault_outside _ (fault_of (from_ll x)) (given l i)
+      (subst (λ n. IsOutsideFault (n + length b) (fault_of (from_ll x))) begins.count
+      (head-outside (left_of remaining e) x b y (c ++ left) d.window.count (header_of i) head
+      (split ∙ ap (λ (z : List ℕ). z ++ left) whole ∙ append_assoc y c left) (omega (arith, there, more)) refused))
 
-  pub first-taken : (l : ℕ) (back : S) → back ≡ e.reader.now → TakesBytes {E = E} any (remaining lent) l (remaining back) (Err (from_ll x))
+  pub first-taken : (l : ℕ) (back : S) → back ≡ e.reader.now →
+      TakesBytes {E = E} any (remaining lent) l (remaining back) (Err (from_ll x))
   first-taken l back given =
       let (b, consumed, count, head, bytes) = taken in
       let zero : d.window.count ≡ 0 = begins.count in
       let less = e.window.fits in (
         b,
-        subst (λ y. Consumes (remaining lent) (remaining y) b) (sym given) (subst (λ y. Consumes (remaining lent) y b) (begun-rest remaining d e lent 0 begins same) (subst (λ y. Consumes y (left_of remaining e) b) (begun-left remaining d lent 0 begins) consumed)),
+        subst (λ y. Consumes (remaining lent) (remaining y) b) (sym given)
+            (subst (λ y. Consumes (remaining lent) y b) (begun-rest remaining d e lent 0 begins same)
+            (subst (λ y. Consumes y (left_of remaining e) b) (begun-left remaining d lent 0 begins) consumed)),
         omega (arith, count, zero, less),
-        (λ c. refused-map (Some c) (from_ll x) (HeadRefuses (b ++ c) 0) (λ r. Refuses (b ++ c) 0 (Some l) r) (λ r h. Refuses.no_head h)
-            (refused-from (Some c) x (HeadRefuses (b ++ c) 0) (subst (λ n. Rattle.ciborium_ll.specs.ReaderSteps.IsRefusalOf (Some c) x (HeadRefuses (b ++ c) n)) zero
-            (reads-head {E = E} (Some (b ++ c)) (Some c) (b ++ c) d.window.count e.window.count (Err x) refl (b, refl, count, head, bytes))))),
+        (λ c. refused-map (Some c) (from_ll x) (HeadRefuses (b ++ c) 0) (λ r. Refuses (b ++ c) 0 (Some l) r)
+            (λ r h. Refuses.no_head h)
+            (refused-from (Some c) x (HeadRefuses (b ++ c) 0)
+            (subst (λ n. Rattle.ciborium_ll.specs.ReaderSteps.IsRefusalOf (Some c) x (HeadRefuses (b ++ c) n)) zero
+            (reads-head {E = E} (Some (b ++ c)) (Some c) (b ++ c) d.window.count e.window.count (Err x) refl
+            (b, refl, count, head, bytes))))),
         bytes,
       )
 

@@ -10,10 +10,13 @@ use Rattle.ciborium.specs.ValueAnswers.{IsFailed}
 use Rattle.ciborium.specs.Errors.{IsRefusedBy, IsNamed, refusal_kind_of}
 use Rattle.ciborium.specs.inner.ValuesInBytes.{IsAt}
 
-pub left-at : {S : Type 0} (remaining : S → Option (List ℕ)) (d : Decoder S) (r : ℕ) (zs : List ℕ) → d.pushed ≡ None → IsAhead remaining d zs r → left_of remaining d ≡ Some zs
-left-at remaining d r zs rests a = let at : IsAt remaining d zs r = subst (λ o. IsAheadBy remaining d zs r o) rests a in at.1
+pub left-at : {S : Type 0} (remaining : S → Option (List ℕ)) (d : Decoder S) (r : ℕ) (zs : List ℕ) → d.pushed ≡ None →
+    IsAhead remaining d zs r → left_of remaining d ≡ Some zs
+left-at remaining d r zs rests a = let at : IsAt remaining d zs r = subst (λ o. IsAheadBy remaining d zs r o) rests a in
+    at.1
 
-pub only-fails : {E : Type 0} (left : Option (List ℕ)) (e : Error E) (P : Refusal → Type 0) → ((r : Refusal) → P r → ⊥) → IsRefusedBy left e P → IsFailed left e
+pub only-fails : {E : Type 0} (left : Option (List ℕ)) (e : Error E) (P : Refusal → Type 0) →
+    ((r : Refusal) → P r → ⊥) → IsRefusedBy left e P → IsFailed left e
 only-fails left (errors.Io x) P never h = λ end. never refusal.io (h end)
 only-fails left (errors.Syntax p) P never h = never (refusal.syntax p) h
 only-fails left (errors.Semantic p k) P never h = named p (refusal_kind_of k) h

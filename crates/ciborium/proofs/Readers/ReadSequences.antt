@@ -1,11 +1,13 @@
 -- Values are read one after the other: how far, and what it says of all.
-use Rattle.std.proofs.Common.{◌≡◌, ℕ, ◌+◌, List, [], ◌∷◌, ◌++◌, length, Option, Some, Ok, Err, refl, ap, ◌∙◌, subst, arith}
+use Rattle.std.proofs.Common.{◌≡◌, ℕ, ◌+◌, List, [], ◌∷◌, ◌++◌, length, Option, Some, Ok, Err, refl, ap, ◌∙◌, subst}
+use Rattle.std.proofs.Common.{arith}
 use Rattle.std.proofs.KnownBytes.{Consumes-nil, Consumes-trans}
 use Rattle.ciborium_value.specs.Nesting.{Limit}
 use Rattle.ciborium_value.specs.Sources.{IsOutsideFault}
 use Rattle.ciborium_value.specs.Taken.{Taken}
 use Rattle.ciborium.specs.declared.de.error.Error.{Error}
-use Rattle.ciborium.specs.declared.de.error.Error.TheVariants.{Io, Syntax, Semantic, RecursionLimitExceeded, Memory, TooLong}
+use Rattle.ciborium.specs.declared.de.error.Error.TheVariants.{Io, Syntax, Semantic, RecursionLimitExceeded, Memory}
+use Rattle.ciborium.specs.declared.de.error.Error.TheVariants.{TooLong}
 use Rattle.ciborium.specs.Errors.{fault_of}
 use Rattle.ciborium.specs.NextItems.{IsReadIo, TellsEnd}
 use Rattle.ciborium.specs.SequenceReads.{GivesThen, RefusesSequence}
@@ -16,7 +18,8 @@ use Rattle.ciborium.specs.TypedAnswers.{IsFaultAhead, RefusesTaken, TakesBeginni
 pub none-taken : (before : Option (List ℕ)) → TakesBeginning before before
 none-taken before = ([], Consumes-nil before)
 
-pub more-taken : (before mid after : Option (List ℕ)) → TakesBeginning before mid → TakesBeginning mid after → TakesBeginning before after
+pub more-taken : (before mid after : Option (List ℕ)) → TakesBeginning before mid → TakesBeginning mid after →
+    TakesBeginning before after
 more-taken before mid after (b, first) (c, next) = (b ++ c, Consumes-trans before mid after b c first next)
 
 -- ---- the values that were read
@@ -38,22 +41,34 @@ module _ {A : Type 0} (l : Limit) (taken : Taken A) (before : Option (List ℕ))
   pub none-read : HasRead before []
   none-read b known = (b, known, refl)
 
-  gives-more : (b : List ℕ) (cs : List A) (u : List ℕ) (c : A) (after : Option (List ℕ)) → GivesThen l taken b cs u → TakesGiving l taken u c after → (left : List ℕ) × (after ≡ Some left) × GivesThen l taken b (cs ++ c ∷ []) left
-  gives-more b [] u c after all (i, s, left, spelled, split, gives, is) = (left, is, (i, s, left, spelled, all ∙ split, gives, refl))
+  gives-more : (b : List ℕ) (cs : List A) (u : List ℕ) (c : A) (after : Option (List ℕ)) → GivesThen l taken b cs u →
+      TakesGiving l taken u c after → (left : List ℕ) × (after ≡ Some left) × GivesThen l taken b (cs ++ c ∷ []) left
+  gives-more b [] u c after all (i, s, left, spelled, split, gives, is) =
+      (left, is, (i, s, left, spelled, all ∙ split, gives, refl))
   gives-more b (d ∷ cs) u c after (i, s, left, spelled, split, gives, all) next =
       let (rest, is, more) = gives-more left cs u c after all next in
       (rest, is, (i, s, left, spelled, split, gives, more))
 
-  pub one-more-read : (E : Type 0) (mid after : Option (List ℕ)) (cs : List A) (c : A) → HasRead mid cs → TakesGiven {E = E} l taken mid after (Ok c) → HasRead after (cs ++ c ∷ [])
+  pub one-more-read : (E : Type 0) (mid after : Option (List ℕ)) (cs : List A) (c : A) → HasRead mid cs →
+      TakesGiven {E = E} l taken mid after (Ok c) → HasRead after (cs ++ c ∷ [])
   one-more-read E mid after cs c read next b known =
       let (u, is, all) = read b known in
       gives-more b cs u c after all (next u is)
 
-  pub refused-behind : (T E : Type 0) (mid after : Option (List ℕ)) (cs : List A) (e : Error E) → HasRead mid cs → RefusesTaken {A = A} {E = E} 0 l taken mid (Err e) → TellsEnd {A = T} {E = E} mid after (Err e) → RefusesSequence {E = E} l taken before (Err e)
+  pub refused-behind : (T E : Type 0) (mid after : Option (List ℕ)) (cs : List A) (e : Error E) → HasRead mid cs →
+      RefusesTaken {A = A} {E = E} 0 l taken mid (Err e) → TellsEnd {A = T} {E = E} mid after (Err e) →
+      RefusesSequence {E = E} l taken before (Err e)
   refused-behind T E mid after cs e read refused end b known =
       let (u, is, all) = read b known in
-      let same : 0 + length u ≡ length u = omega arith in
-      (cs, u, all, subst (λ n. IsFaultAhead n l taken u (fault_of e)) same (refused u is), λ none. outside-io e (end (is ∙ ap Some none)))
+      let same : 0 + length u ≡ length u = omega arith in (
+        cs,
+        u,
+        all,
+        subst (λ n. IsFaultAhead n l taken u (fault_of e)) same (refused u is),
+        λ none. outside-io e (end (is ∙ ap Some none)),
+      )
 
-  pub no-memory-behind : (E : Type 0) (after : Option (List ℕ)) (cs : List A) → HasRead after cs → RefusesSequence {E = E} l taken before (Err Memory)
-  no-memory-behind E after cs read b known = let (u, is, all) = read b known in (cs, u, all, λ i s left spelled split. tt, λ none. tt)
+  pub no-memory-behind : (E : Type 0) (after : Option (List ℕ)) (cs : List A) → HasRead after cs →
+      RefusesSequence {E = E} l taken before (Err Memory)
+  no-memory-behind E after cs read b known = let (u, is, all) = read b known in
+      (cs, u, all, λ i s left spelled split. tt, λ none. tt)

@@ -1,5 +1,6 @@
 -- What a turn of the deterministic reader makes of what is open: a value placed, a key out of order, a refusal.
-use Rattle.std.proofs.Common.{◌≡◌, ℕ, zero, suc, ◌+◌, ◌*◌, ◌-◌, ◌^◌, ◌≤◌, min, List, [], ◌∷◌, ◌++◌, length, Some, None, MatchOption, cond, refl, sym, ap, ◌∙◌, subst, arith, append_assoc, length-append}
+use Rattle.std.proofs.Common.{◌≡◌, ℕ, zero, suc, ◌+◌, ◌*◌, ◌-◌, ◌^◌, ◌≤◌, min, List, [], ◌∷◌, ◌++◌, length, Some, None}
+use Rattle.std.proofs.Common.{MatchOption, cond, refl, sym, ap, ◌∙◌, subst, arith, append_assoc, length-append}
 use Rattle.std.specs.declared.cmp.Ordering.TheVariants.{Less}
 use Rattle.ciborium_ll.specs.Bytes.{greatest_offset}
 use Rattle.ciborium_ll.specs.Head.{shortest_head}
@@ -20,9 +21,12 @@ use Rattle.ciborium.specs.inner.Around.{trees_in_turn, IsAround}
 use Rattle.ciborium_value.specs.Deterministic.{AreRising, IsAccepted}
 use Rattle.ciborium.specs.inner.ValuesInBytes.{ReadsItem}
 use Rattle.ciborium.specs.Spelling.{deterministic, IsKeyInOrder, IsKeyOutOfOrder}
-use Rattle.ciborium.specs.DeterministicRefusals.{ContainerKind, of_array, of_map, container_major, part_count, parts_bytes, keys_among, IsInOrder, DeterministicallyRefuses, HasParts, HasShortHead}
+use Rattle.ciborium.specs.DeterministicRefusals.{ContainerKind, of_array, of_map, container_major, part_count}
+use Rattle.ciborium.specs.DeterministicRefusals.{parts_bytes, keys_among, IsInOrder, DeterministicallyRefuses, HasParts}
+use Rattle.ciborium.specs.DeterministicRefusals.{HasShortHead}
 use Rattle.ciborium.proofs.Turns.Paired.{in_turn-key, in_turn-value}
-use Rattle.ciborium.proofs.Strict.StrictParts.{accepted-more, order-value, parts_bytes-more, whole-accepted, whole-encoding}
+use Rattle.ciborium.proofs.Strict.StrictParts.{accepted-more, order-value, parts_bytes-more, whole-accepted}
+use Rattle.ciborium.proofs.Strict.StrictParts.{whole-encoding}
 use Rattle.ciborium.proofs.Strict.StrictReader.{trees_in, pairs_in, whole}
 use Rattle.ciborium_value.proofs.Orders.TreeEncodings.{encoding-spells}
 use Rattle.ciborium.proofs.Turns.Turning.{folds-not}
@@ -49,17 +53,22 @@ key-length (p ∷ ps) k = let rest = key-length ps k in omega (arith, rest)
 module _ (order : KeyOrder) where
   -- ---- one part more
 
-  accepted-of : (l : ℕ) (ys : List ℕ) (q : ℕ) (v : Tree) (zs : List ℕ) (r : ℕ) → ReadsItem (deterministic order) l ys q v zs r → IsAccepted order l v
+  accepted-of : (l : ℕ) (ys : List ℕ) (q : ℕ) (v : Tree) (zs : List ℕ) (r : ℕ) →
+      ReadsItem (deterministic order) l ys q v zs r → IsAccepted order l v
   accepted-of l ys q v zs r i = (i.read.0.1, i.read.1)
 
-  pub ends-at : (l : ℕ) (ys : List ℕ) (q : ℕ) (v : Tree) (zs : List ℕ) (r : ℕ) → ReadsItem (deterministic order) l ys q v zs r → (ys ≡ encoding v ++ zs) × (r ≡ q + length (encoding v)) × (r ≤ greatest_offset)
+  pub ends-at : (l : ℕ) (ys : List ℕ) (q : ℕ) (v : Tree) (zs : List ℕ) (r : ℕ) →
+      ReadsItem (deterministic order) l ys q v zs r → (ys ≡ encoding v ++ zs) × (r ≡ q + length (encoding v)) ×
+      (r ≤ greatest_offset)
   ends-at l ys q v zs r i =
       let at = i.at in
       let same : length i.taken ≡ length (encoding v) = ap length i.read.0.0 in
       let fits = i.read.2 in
       (i.split ∙ ap (λ (b : List ℕ). b ++ zs) i.read.0.0, omega (arith, at, same), omega (arith, at, fits))
 
-  more-parts : (kind : ContainerKind) (n m l : ℕ) (b : List ℕ) (p : ℕ) (vs : List Tree) (r : List ℕ) (q : ℕ) (v : Tree) (s : List ℕ) (u : ℕ) → n ≡ m → HasParts order kind n l b p vs r q → ReadsItem (deterministic order) l r q v s u → IsInOrder order kind (vs ++ v ∷ []) →
+  more-parts : (kind : ContainerKind) (n m l : ℕ) (b : List ℕ) (p : ℕ) (vs : List Tree) (r : List ℕ) (q : ℕ) (v : Tree)
+      (s : List ℕ) (u : ℕ) → n ≡ m → HasParts order kind n l b p vs r q → ReadsItem (deterministic order) l r q v s u →
+      IsInOrder order kind (vs ++ v ∷ []) →
       HasParts order kind m l b p (vs ++ v ∷ []) s u
   more-parts kind n m l b p vs r q v s u same h i rises =
       let e = ends-at l r q v s u i in
@@ -67,8 +76,10 @@ module _ (order : KeyOrder) where
       let end = e.1 in
       let head : List ℕ = shortest_head (container_major kind) n in
       let bytes : parts_bytes (vs ++ v ∷ []) ++ s ≡ parts_bytes vs ++ r =
-      ap (λ (z : List ℕ). z ++ s) (parts_bytes-more vs v) ∙ append_assoc (parts_bytes vs) (encoding v) s ∙ ap (λ (z : List ℕ). parts_bytes vs ++ z) (sym e.0) in
-      let len : length (parts_bytes (vs ++ v ∷ [])) ≡ length (parts_bytes vs) + length (encoding v) = ap length (parts_bytes-more vs v) ∙ length-append (parts_bytes vs) (encoding v) in
+      ap (λ (z : List ℕ). z ++ s) (parts_bytes-more vs v) ∙ append_assoc (parts_bytes vs) (encoding v) s ∙
+      ap (λ (z : List ℕ). parts_bytes vs ++ z) (sym e.0) in
+      let len : length (parts_bytes (vs ++ v ∷ [])) ≡ length (parts_bytes vs) + length (encoding v) =
+      ap length (parts_bytes-more vs v) ∙ length-append (parts_bytes vs) (encoding v) in
       subst (λ k. HasParts order kind k l b p (vs ++ v ∷ []) s u) same (record {
         usable = h.usable;
         argument = h.argument;
@@ -81,7 +92,9 @@ module _ (order : KeyOrder) where
 
   -- ---- a container is whole
 
-  whole-parts : (kind : ContainerKind) (n l : ℕ) (b : List ℕ) (p : ℕ) (vs : List Tree) (t : Tree) (r : List ℕ) (q : ℕ) → whole kind vs ≡ t → length vs ≡ part_count kind n → HasParts order kind n l b p vs r q → ReadsItem (deterministic order) (suc l) b p t r q
+  whole-parts : (kind : ContainerKind) (n l : ℕ) (b : List ℕ) (p : ℕ) (vs : List Tree) (t : Tree) (r : List ℕ) (q : ℕ) →
+      whole kind vs ≡ t → length vs ≡ part_count kind n → HasParts order kind n l b p vs r q →
+      ReadsItem (deterministic order) (suc l) b p t r q
   whole-parts kind n l b p vs t r q same count h =
       let argument = h.argument in
       let fits : n ≤ greatest_offset = omega (arith, argument) in
@@ -90,7 +103,8 @@ module _ (order : KeyOrder) where
       let bytes = whole-encoding kind n vs count in
       let at = h.at in
       let end = h.fits in
-      let len : length (head ++ parts_bytes vs) ≡ length head + length (parts_bytes vs) = length-append head (parts_bytes vs) in
+      let len : length (head ++ parts_bytes vs) ≡ length head + length (parts_bytes vs) =
+      length-append head (parts_bytes vs) in
       subst (λ w. ReadsItem (deterministic order) (suc l) b p w r q) same (record {
         taken = head ++ parts_bytes vs;
         read = ((sym bytes, accepted.0), accepted.1, omega (arith, at, end, len));
@@ -100,13 +114,18 @@ module _ (order : KeyOrder) where
 
   -- ---- a tag with its item
 
-  tag-whole : (l : ℕ) (ys : List ℕ) (q t : ℕ) (v : Tree) (zs : List ℕ) (r : ℕ) (us : List ℕ) (s : ℕ) → HasShortHead 6 t ys q zs r → ¬ IsFoldingAt t zs → ReadsItem (deterministic order) l zs r v us s → ReadsItem (deterministic order) (suc l) ys q (trees.tag t v) us s
+  tag-whole : (l : ℕ) (ys : List ℕ) (q t : ℕ) (v : Tree) (zs : List ℕ) (r : ℕ) (us : List ℕ) (s : ℕ) →
+      HasShortHead 6 t ys q zs r → ¬ IsFoldingAt t zs → ReadsItem (deterministic order) l zs r v us s →
+      ReadsItem (deterministic order) (suc l) ys q (trees.tag t v) us s
   tag-whole l ys q t v zs r us s head never i =
       let e = ends-at l zs r v us s i in
       let canonical = i.read.0.1 in
-      let none : folding_bytes t (item_of v) ≡ None = folds-not t zs (encoding v) us (item_of v) never (encoding-spells v canonical.proper) e.0 in
-      let none-tree : tree_folding_bytes t v ≡ None = ap (λ o. cond (is_bignum_tag t) o None) (sym (short_string-item_of v)) ∙ none in
-      let deep : nesting (item_of (trees.tag t v)) ≡ suc (nesting (item_of v)) = ap (λ f. tag_nesting f (nesting (item_of v))) none in
+      let none : folding_bytes t (item_of v) ≡ None = folds-not t zs (encoding v) us (item_of v) never
+      (encoding-spells v canonical.proper) e.0 in
+      let none-tree : tree_folding_bytes t v ≡ None = ap (λ o. cond (is_bignum_tag t) o None)
+      (sym (short_string-item_of v)) ∙ none in
+      let deep : nesting (item_of (trees.tag t v)) ≡ suc (nesting (item_of v)) =
+      ap (λ f. tag_nesting f (nesting (item_of v))) none in
       let nests = i.read.1 in
       let at = head.at in
       let end = e.1 in
@@ -116,7 +135,16 @@ module _ (order : KeyOrder) where
       record {
         taken = b ++ encoding v;
         read = (
-          (refl, record { proper = (head.argument, canonical.proper); folds = ap (λ f. tag_meaning t f (folded v)) none-tree ∙ ap (λ o. tag_meaning t None o) canonical.folds; rises = canonical.rises }),
+          (
+            refl,
+            record {
+              proper = (head.argument, canonical.proper);
+              folds =
+                  ap (λ f. tag_meaning t f (folded v)) none-tree ∙ ap (λ o. tag_meaning t None o) canonical.folds;
+              rises =
+                  canonical.rises;
+            },
+          ),
           omega (arith, nests, deep),
           omega (arith, at, end, fits, len),
         );
@@ -132,75 +160,112 @@ module _ (order : KeyOrder) where
   LandsIn (array vs b ∷ os) l xs p zs r = (m : ℕ) × IsAround (deterministic order) l xs p (array vs b ∷ os) m zs r
   LandsIn (map ps b None ∷ os) l xs p zs r = (m : ℕ) × IsAround (deterministic order) l xs p (map ps b None ∷ os) m zs r
   LandsIn (map ps b (Some k) ∷ os) l xs p zs r =
-      (m : ℕ) × (ys : List ℕ) × (q : ℕ) × IsAround (deterministic order) l xs p (map ps b None ∷ os) m ys q × ReadsItem (deterministic order) m ys q k zs r
+      (m : ℕ) × (ys : List ℕ) × (q : ℕ) × IsAround (deterministic order) l xs p (map ps b None ∷ os) m ys q ×
+      ReadsItem (deterministic order) m ys q k zs r
   LandsIn (tag t ∷ os) l xs p zs r = (m : ℕ) × IsAround (deterministic order) l xs p (tag t ∷ os) m zs r
 
   abbrev pub Lands : Placed → ℕ → List ℕ → ℕ → List ℕ → ℕ → Type 0
   Lands (done v) l xs p zs r = ReadsItem (deterministic order) l xs p v zs r
   Lands (more os) l xs p zs r = LandsIn os l xs p zs r
 
-  top : (l : ℕ) (xs : List ℕ) (p m : ℕ) (ys : List ℕ) (q : ℕ) (v : Tree) (zs : List ℕ) (r : ℕ) → IsAround (deterministic order) l xs p [] m ys q → ReadsItem (deterministic order) m ys q v zs r → ReadsItem (deterministic order) l xs p v zs r
+  top : (l : ℕ) (xs : List ℕ) (p m : ℕ) (ys : List ℕ) (q : ℕ) (v : Tree) (zs : List ℕ) (r : ℕ) →
+      IsAround (deterministic order) l xs p [] m ys q → ReadsItem (deterministic order) m ys q v zs r →
+      ReadsItem (deterministic order) l xs p v zs r
   top l xs p m ys q v zs r a i =
-      let x : ReadsItem (deterministic order) l ys q v zs r = subst (λ n. ReadsItem (deterministic order) n ys q v zs r) a.0 i in
-      let y : ReadsItem (deterministic order) l xs q v zs r = subst (λ b. ReadsItem (deterministic order) l b q v zs r) a.1 x in
+      let x : ReadsItem (deterministic order) l ys q v zs r =
+      subst (λ n. ReadsItem (deterministic order) n ys q v zs r) a.0 i in
+      let y : ReadsItem (deterministic order) l xs q v zs r =
+      subst (λ b. ReadsItem (deterministic order) l b q v zs r) a.1 x in
       subst (λ n. ReadsItem (deterministic order) l xs n v zs r) a.2 y
 
-  pub landed : (l : ℕ) (xs : List ℕ) (p : ℕ) (os : List TreeFrame) (m : ℕ) (ys : List ℕ) (q : ℕ) (v : Tree) (zs : List ℕ) (r : ℕ) → IsAround (deterministic order) l xs p os m ys q → ReadsItem (deterministic order) m ys q v zs r → Lands (placed os v) l xs p zs r
+  pub landed : (l : ℕ) (xs : List ℕ) (p : ℕ) (os : List TreeFrame) (m : ℕ) (ys : List ℕ) (q : ℕ) (v : Tree)
+      (zs : List ℕ) (r : ℕ) → IsAround (deterministic order) l xs p os m ys q →
+      ReadsItem (deterministic order) m ys q v zs r → Lands (placed os v) l xs p zs r
   landed l xs p [] m ys q v zs r a i = top l xs p m ys q v zs r a i
   landed l xs p (array vs None ∷ os) m ys q v zs r (bs, b, around, c) i = absurd c
   landed l xs p (array vs (Some (suc n)) ∷ os) m ys q v zs r (bs, b, around, c) i =
-      let len : length (vs ++ v ∷ []) ≡ length vs + 1 = length-append vs (v ∷ []) in
-      (m, (bs, b, around, more-parts of_array (length vs + suc (suc n)) (length (vs ++ v ∷ []) + suc n) m bs b vs ys q v zs r (omega (arith, len)) c i tt))
+      let len : length (vs ++ v ∷ []) ≡ length vs + 1 = length-append vs (v ∷ []) in (
+        m,
+        (
+          bs,
+          b,
+          around,
+          more-parts of_array (length vs + suc (suc n)) (length (vs ++ v ∷ []) + suc n) m bs b vs ys q v
+              zs r (omega (arith, len)) c i tt,
+        ),
+      )
   landed l xs p (array vs (Some zero) ∷ os) m ys q v zs r (bs, b, around, c) i =
       let len : length (vs ++ v ∷ []) ≡ length vs + 1 = length-append vs (v ∷ []) in
       landed l xs p os (suc m) bs b (trees.array (trees_from (vs ++ v ∷ []))) zs r around
-      (whole-parts of_array (length (vs ++ v ∷ [])) m bs b (vs ++ v ∷ []) (trees.array (trees_from (vs ++ v ∷ []))) zs r (ap trees.array (trees-in (vs ++ v ∷ []))) refl
+      (whole-parts of_array (length (vs ++ v ∷ [])) m bs b (vs ++ v ∷ []) (trees.array (trees_from (vs ++ v ∷ []))) zs r
+      (ap trees.array (trees-in (vs ++ v ∷ []))) refl
       (more-parts of_array (length vs + 1) (length (vs ++ v ∷ [])) m bs b vs ys q v zs r (omega (arith, len)) c i tt))
   landed l xs p (map ps None None ∷ os) m ys q v zs r (bs, b, around, c) i = absurd c
   landed l xs p (map ps (Some n) None ∷ os) m ys q v zs r a i = (m, ys, q, a, i)
   landed l xs p (map ps None (Some k) ∷ os) m ys q v zs r (bs, b, around, c) i = absurd c
   landed l xs p (map ps (Some (suc n)) (Some k) ∷ os) m ys q v zs r (bs, b, around, c) i =
       let len : length (ps ++ (k, v) ∷ []) ≡ length ps + 1 = length-append ps ((k, v) ∷ []) in
-      let parts = more-parts of_map (length ps + suc (suc n)) (length (ps ++ (k, v) ∷ []) + suc n) m bs b (trees_in_turn ps (Some k)) ys q v zs r (omega (arith, len)) c i (order-value order (trees_in_turn ps (Some k)) v (length ps) (key-length ps k) c.in_order) in
-      (m, (bs, b, around, subst (λ us. HasParts order of_map (length (ps ++ (k, v) ∷ []) + suc n) m bs b us zs r) (in_turn-value ps k v) parts))
+      let parts = more-parts of_map (length ps + suc (suc n)) (length (ps ++ (k, v) ∷ []) + suc n) m bs b
+      (trees_in_turn ps (Some k)) ys q v zs r (omega (arith, len)) c i
+      (order-value order (trees_in_turn ps (Some k)) v (length ps) (key-length ps k) c.in_order) in (
+        m,
+        (
+          bs,
+          b,
+          around,
+          subst (λ us. HasParts order of_map (length (ps ++ (k, v) ∷ []) + suc n) m bs b us zs r)
+              (in_turn-value ps k v) parts,
+        ),
+      )
   landed l xs p (map ps (Some zero) (Some k) ∷ os) m ys q v zs r (bs, b, around, c) i =
       let qs : List (Tree × Tree) = ps ++ (k, v) ∷ [] in
       let len : length qs ≡ length ps + 1 = length-append ps ((k, v) ∷ []) in
-      let parts = more-parts of_map (length ps + 1) (length qs) m bs b (trees_in_turn ps (Some k)) ys q v zs r (omega (arith, len)) c i (order-value order (trees_in_turn ps (Some k)) v (length ps) (key-length ps k) c.in_order) in
+      let parts = more-parts of_map (length ps + 1) (length qs) m bs b (trees_in_turn ps (Some k)) ys q v zs r
+      (omega (arith, len)) c i (order-value order (trees_in_turn ps (Some k)) v (length ps) (key-length ps k)
+      c.in_order) in
       landed l xs p os (suc m) bs b (trees.map (tree_pairs_from qs)) zs r around
-      (whole-parts of_map (length qs) m bs b (trees_in_turn qs None) (trees.map (tree_pairs_from qs)) zs r (ap trees.map (pairs-in qs)) (turn-length qs)
+      (whole-parts of_map (length qs) m bs b (trees_in_turn qs None) (trees.map (tree_pairs_from qs)) zs r
+      (ap trees.map (pairs-in qs)) (turn-length qs)
       (subst (λ us. HasParts order of_map (length qs) m bs b us zs r) (in_turn-value ps k v) parts))
   landed l xs p (tag t ∷ os) m ys q v zs r (bs, b, around, (head, usable, never)) i =
       landed l xs p os (suc m) bs b (trees.tag t v) zs r around (tag-whole m bs b t v ys q zs r head never i)
 
   -- ---- what refuses inside refuses around
 
-  pub refused-around : (l : ℕ) (xs : List ℕ) (p : ℕ) (os : List TreeFrame) (m : ℕ) (ys : List ℕ) (q : ℕ) (e : Refusal) → IsAround (deterministic order) l xs p os m ys q → DeterministicallyRefuses order ys q m e → DeterministicallyRefuses order xs p l e
+  pub refused-around : (l : ℕ) (xs : List ℕ) (p : ℕ) (os : List TreeFrame) (m : ℕ) (ys : List ℕ) (q : ℕ) (e : Refusal) →
+      IsAround (deterministic order) l xs p os m ys q → DeterministicallyRefuses order ys q m e →
+      DeterministicallyRefuses order xs p l e
   refused-around l xs p [] m ys q e a f =
       let x : DeterministicallyRefuses order ys q l e = subst (λ n. DeterministicallyRefuses order ys q n e) a.0 f in
       let y : DeterministicallyRefuses order xs q l e = subst (λ b. DeterministicallyRefuses order b q l e) a.1 x in
       subst (λ n. DeterministicallyRefuses order xs n l e) a.2 y
   refused-around l xs p (array vs None ∷ os) m ys q e (bs, b, around, c) f = absurd c
   refused-around l xs p (array vs (Some n) ∷ os) m ys q e (bs, b, around, c) f =
-      refused-around l xs p os (suc m) bs b e around (DeterministicallyRefuses.part of_array (length vs + suc n) vs ys q c (omega arith) f)
+      refused-around l xs p os (suc m) bs b e around (DeterministicallyRefuses.part of_array (length vs + suc n) vs ys q
+      c (omega arith) f)
   refused-around l xs p (map ps None key ∷ os) m ys q e (bs, b, around, c) f = absurd c
   refused-around l xs p (map ps (Some n) None ∷ os) m ys q e (bs, b, around, c) f =
       let len = turn-length ps in
-      refused-around l xs p os (suc m) bs b e around (DeterministicallyRefuses.part of_map (length ps + suc n) (trees_in_turn ps None) ys q c (omega (arith, len)) f)
+      refused-around l xs p os (suc m) bs b e around (DeterministicallyRefuses.part of_map (length ps + suc n)
+      (trees_in_turn ps None) ys q c (omega (arith, len)) f)
   refused-around l xs p (map ps (Some n) (Some k) ∷ os) m ys q e (bs, b, around, c) f =
       let len = key-length ps k in
-      refused-around l xs p os (suc m) bs b e around (DeterministicallyRefuses.part of_map (length ps + suc n) (trees_in_turn ps (Some k)) ys q c (omega (arith, len)) f)
+      refused-around l xs p os (suc m) bs b e around (DeterministicallyRefuses.part of_map (length ps + suc n)
+      (trees_in_turn ps (Some k)) ys q c (omega (arith, len)) f)
   refused-around l xs p (tag t ∷ os) m ys q e (bs, b, around, (head, usable, never)) f =
       refused-around l xs p os (suc m) bs b e around (DeterministicallyRefuses.tagged t ys q head usable never f)
 
   -- ---- the order of keys
 
-  rises-with : (ps : List (Tree × Tree)) (k : Tree) → AreRising order (keys_among (trees_in_turn ps None)) → MatchOption (with_last ps k) (Unit {0}) (λ keys. key_order order keys.0 keys.1 ≡ Less) → AreRising order (keys_among (trees_in_turn ps (Some k)))
+  rises-with : (ps : List (Tree × Tree)) (k : Tree) → AreRising order (keys_among (trees_in_turn ps None)) →
+      MatchOption (with_last ps k) (Unit {0}) (λ keys. key_order order keys.0 keys.1 ≡ Less) →
+      AreRising order (keys_among (trees_in_turn ps (Some k)))
   rises-with [] k h o = tt
   rises-with (p ∷ []) k h o = (o, tt)
   rises-with (p ∷ (q ∷ ps)) k h o = (h.0, rises-with (q ∷ ps) k h.1 o)
 
-  last-rises : (ps : List (Tree × Tree)) (k a b : Tree) → AreRising order (keys_among (trees_in_turn ps (Some k))) → with_last ps k ≡ Some (a, b) → key_order order a b ≡ Less
+  last-rises : (ps : List (Tree × Tree)) (k a b : Tree) → AreRising order (keys_among (trees_in_turn ps (Some k))) →
+      with_last ps k ≡ Some (a, b) → key_order order a b ≡ Less
   last-rises [] k a b h e = absurd cc
   last-rises (p ∷ []) k a b h e = same (p.0, k) (a, b) e h.0
     where
@@ -209,19 +274,31 @@ module _ (order : KeyOrder) where
   last-rises (p ∷ (q ∷ ps)) k a b h e = last-rises (q ∷ ps) k a b h.1 e
 
   -- in order, the key goes on
-  pub kept : (l : ℕ) (xs : List ℕ) (p : ℕ) (os : List TreeFrame) (zs : List ℕ) (r : ℕ) → LandsIn os l xs p zs r → IsKeyInOrder order os → (m : ℕ) × IsAround (deterministic order) l xs p os m zs r
+  pub kept : (l : ℕ) (xs : List ℕ) (p : ℕ) (os : List TreeFrame) (zs : List ℕ) (r : ℕ) → LandsIn os l xs p zs r →
+      IsKeyInOrder order os → (m : ℕ) × IsAround (deterministic order) l xs p os m zs r
   kept l xs p [] zs r a o = absurd a
   kept l xs p (array vs b ∷ os) zs r a o = a
   kept l xs p (map ps b None ∷ os) zs r a o = a
   kept l xs p (map ps None (Some k) ∷ os) zs r (m, ys, q, (bs, b, around, c), i) o = absurd c
   kept l xs p (map ps (Some n) (Some k) ∷ os) zs r (m, ys, q, (bs, b, around, c), i) o =
       let rises : IsInOrder order of_map (trees_in_turn ps (Some k)) = rises-with ps k c.in_order o in
-      let parts = more-parts of_map (length ps + suc n) (length ps + suc n) m bs b (trees_in_turn ps None) ys q k zs r refl c i (subst (IsInOrder order of_map) (sym (in_turn-key ps k)) rises) in
-      (m, (bs, b, around, subst (λ us. HasParts order of_map (length ps + suc n) m bs b us zs r) (in_turn-key ps k) parts))
+      let parts = more-parts of_map (length ps + suc n) (length ps + suc n) m bs b (trees_in_turn ps None) ys q k zs r
+      refl c i (subst (IsInOrder order of_map) (sym (in_turn-key ps k)) rises) in (
+        m,
+        (
+          bs,
+          b,
+          around,
+          subst (λ us. HasParts order of_map (length ps + suc n) m bs b us zs r) (in_turn-key ps k)
+              parts,
+        ),
+      )
   kept l xs p (tag t ∷ os) zs r a o = a
 
   -- out of order, it refuses
-  pub disordered : (l : ℕ) (xs : List ℕ) (p : ℕ) (os : List TreeFrame) (zs : List ℕ) (r at : ℕ) → LandsIn os l xs p zs r → IsKeyOutOfOrder order os r at → DeterministicallyRefuses order xs p l (semantic at refusal.KeyOrder)
+  pub disordered : (l : ℕ) (xs : List ℕ) (p : ℕ) (os : List TreeFrame) (zs : List ℕ) (r at : ℕ) →
+      LandsIn os l xs p zs r → IsKeyOutOfOrder order os r at →
+      DeterministicallyRefuses order xs p l (semantic at refusal.KeyOrder)
   disordered l xs p [] zs r at a o = absurd a
   disordered l xs p (array vs b ∷ os) zs r at a (x, y, is, never, here) = absurd cc
   disordered l xs p (map ps b None ∷ os) zs r at a (x, y, is, never, here) = absurd cc
@@ -233,10 +310,12 @@ module _ (order : KeyOrder) where
       let same : y ≡ k = key ps is in
       let size : encoded_size y ≡ min (length (encoding k)) (2 ^ 64 - 1) = ap encoded_size same in
       let place : at ≡ q = omega (arith, here, size, end, fits) in
-      let wrong : ¬ IsInOrder order of_map (trees_in_turn ps None ++ k ∷ []) = λ h. never (last-rises ps k x y (subst (λ us. AreRising order (keys_among us)) (in_turn-key ps k) h) is) in
+      let wrong : ¬ IsInOrder order of_map (trees_in_turn ps None ++ k ∷ []) =
+      λ h. never (last-rises ps k x y (subst (λ us. AreRising order (keys_among us)) (in_turn-key ps k) h) is) in
       refused-around l xs p os (suc m) bs b (semantic at refusal.KeyOrder) around
       (subst (λ j. DeterministicallyRefuses order bs b (suc m) (semantic j refusal.KeyOrder)) (sym place)
-      (DeterministicallyRefuses.key_out_of_order (length ps + suc n) (trees_in_turn ps None) k ys zs q (length ps) c (turn-length ps) (omega arith) e.0 (accepted-of m ys q k zs r i) (omega (arith, end, fits)) wrong))
+      (DeterministicallyRefuses.key_out_of_order (length ps + suc n) (trees_in_turn ps None) k ys zs q (length ps) c
+      (turn-length ps) (omega arith) e.0 (accepted-of m ys q k zs r i) (omega (arith, end, fits)) wrong))
     where
       key : (ps : List (Tree × Tree)) → with_last ps k ≡ Some (x, y) → y ≡ k
       key [] e = absurd cc

@@ -1,6 +1,8 @@
 -- Which strings a bignum's tag keeps: those of more than 8 bytes, with no zero first, whose number is not too large.
-use Rattle.std.proofs.Common.{◌≡◌, ℕ, zero, suc, ◌+◌, ◌*◌, ◌^◌, ◌<◌, ◌≤◌, ◌⊎◌, inl, inr, cond, ltb, leb, eqb, Bool, true, false, ◌&&◌, ◌||◌, List, [], ◌∷◌, length, Option, Some, None, pos}
-use Rattle.std.proofs.Common.{negsuc, refl, sym, ap, ◌∙◌, subst, lit<, arith, le-ltb, lt-ltb, ltb-true, ltb-false, leb-true, le-leb, eqb-true}
+use Rattle.std.proofs.Common.{◌≡◌, ℕ, zero, suc, ◌+◌, ◌*◌, ◌^◌, ◌<◌, ◌≤◌, ◌⊎◌, inl, inr, cond, ltb, leb, eqb, Bool}
+use Rattle.std.proofs.Common.{true, false, ◌&&◌, ◌||◌, List, [], ◌∷◌, length, Option, Some, None, pos}
+use Rattle.std.proofs.Common.{negsuc, refl, sym, ap, ◌∙◌, subst, lit<, arith, le-ltb, lt-ltb, ltb-true, ltb-false}
+use Rattle.std.proofs.Common.{leb-true, le-leb, eqb-true}
 use Rattle.std.proofs.Math.Nat.{pow-le-pow_right, pow-succ', add-mul, mul_assoc, mul_left_comm, mul-le-mul_right}
 use Rattle.ciborium_ll.proofs.UsableHeads.{EachIsByte, pass}
 use Rattle.ciborium_value.specs.Meaning.{big_endian_behind, big_endian, without_zeros, bignum_meaning, is_bignum_tag}
@@ -31,15 +33,18 @@ unfolding big_endian_behind
 at_least [] n = omega arith
 at_least (x ∷ s) n =
     let rest : (256 * n + x) * 256 ^ length s ≤ big_endian_behind (256 * n + x) s = at_least s (256 * n + x) in
-    let step : n * 256 ^ suc (length s) ≤ (256 * n + x) * 256 ^ length s = step-low n x (256 ^ length s) (256 ^ suc (length s)) (pow-succ' 256 (length s)) in
+    let step : n * 256 ^ suc (length s) ≤ (256 * n + x) * 256 ^ length s =
+    step-low n x (256 ^ length s) (256 ^ suc (length s)) (pow-succ' 256 (length s)) in
     omega (arith, rest, step)
 
 at_most : (s : List ℕ) (n : ℕ) → EachIsByte s → big_endian_behind n s + 1 ≤ (n + 1) * 256 ^ length s
 unfolding big_endian_behind
 at_most [] n h = omega arith
 at_most (x ∷ s) n h =
-    let rest : big_endian_behind (256 * n + x) s + 1 ≤ (256 * n + x + 1) * 256 ^ length s = at_most s (256 * n + x) h.1 in
-    let step : (256 * n + x + 1) * 256 ^ length s ≤ (n + 1) * 256 ^ suc (length s) = step-high n x (256 ^ length s) (256 ^ suc (length s)) h.0 (pow-succ' 256 (length s)) in
+    let rest : big_endian_behind (256 * n + x) s + 1 ≤ (256 * n + x + 1) * 256 ^ length s =
+    at_most s (256 * n + x) h.1 in
+    let step : (256 * n + x + 1) * 256 ^ length s ≤ (n + 1) * 256 ^ suc (length s) =
+    step-high n x (256 ^ length s) (256 ^ suc (length s)) h.0 (pow-succ' 256 (length s)) in
     omega (arith, rest, step)
 
 power : (i j : ℕ) → i ≤ j → 256 ^ i ≤ 256 ^ j
@@ -106,18 +111,22 @@ great-whole : (y : List ℕ) → EachIsByte y → IsGreat y → is_foldable y �
 great-whole y h g = not_so (is_foldable y) (λ e. no (foldable-is y e))
   where
     no : IsFoldable y → ⊥
-    no (inl few) = let less = below y 8 h few in let e : 256 ^ 8 ≡ 2 ^ 64 = refl in let much = g.1 in omega (arith, less, e, much)
+    no (inl few) = let less = below y 8 h few in let e : 256 ^ 8 ≡ 2 ^ 64 = refl in let much = g.1 in
+        omega (arith, less, e, much)
     no (inr (s, is)) =
         let l : length y ≡ suc (length s) = ap length is in
-        let e : length (without_zeros s) ≡ length y = ap (λ (c : List ℕ). length (without_zeros c)) (sym is) ∙ ap length g.0 in
+        let e : length (without_zeros s) ≡ length y = ap (λ (c : List ℕ). length (without_zeros c)) (sym is) ∙
+        ap length g.0 in
         omega (arith, l, e, zeros-shorter s)
 
 great-first : (x : ℕ) (s : List ℕ) → 8 ≤ length s → 2 ^ 64 ≤ big_endian (suc x ∷ s)
 unfolding big_endian_behind
 great-first x s h =
-    let much : (256 * 0 + suc x) * 256 ^ length s ≤ big_endian_behind (256 * 0 + suc x) s = at_least s (256 * 0 + suc x) in
+    let much : (256 * 0 + suc x) * 256 ^ length s ≤ big_endian_behind (256 * 0 + suc x) s =
+    at_least s (256 * 0 + suc x) in
     let more : 256 ^ 8 ≤ 256 ^ length s = power 8 (length s) h in
-    let once : 1 * 256 ^ length s ≤ (256 * 0 + suc x) * 256 ^ length s = mul-le-mul_right (256 ^ length s) (omega arith) in
+    let once : 1 * 256 ^ length s ≤ (256 * 0 + suc x) * 256 ^ length s =
+    mul-le-mul_right (256 ^ length s) (omega arith) in
     let e : 256 ^ 8 ≡ 2 ^ 64 = refl in
     omega (arith, much, more, once, e)
 
@@ -127,7 +136,8 @@ whole-great (zero ∷ s) e = let no : true ≡ false = sym (is-foldable (0 ∷ s
 whole-great (suc x ∷ s) e = (stays x s, great-first x s (long (leb (length (suc x ∷ s)) 8) refl))
   where
     long : (t : Bool) → leb (length (suc x ∷ s)) 8 ≡ t → 8 ≤ length s
-    long true f = let no : true ≡ false = sym (is-foldable (suc x ∷ s) (inl (leb-true (length (suc x ∷ s)) 8 f))) ∙ e in absurd cc
+    long true f = let no : true ≡ false = sym (is-foldable (suc x ∷ s) (inl (leb-true (length (suc x ∷ s)) 8 f))) ∙ e in
+        absurd cc
     long false f = more_than f
       where
         more_than : leb (length (suc x ∷ s)) 8 ≡ false → 8 ≤ length s
@@ -145,7 +155,8 @@ unfolding bignum_meaning
 kept-great_2 y = by (ltb (big_endian y) (2 ^ 64)) refl
   where
     by : (c : Bool) → ltb (big_endian y) (2 ^ 64) ≡ c →
-        ◌≡◌ {A = Option Tree} (cond c (Some (integer (pos (big_endian y)))) (Some (tag 2 (bytes (without_zeros y))))) (Some (tag 2 (bytes y))) → IsGreat y
+        ◌≡◌ {A = Option Tree} (cond c (Some (integer (pos (big_endian y)))) (Some (tag 2 (bytes (without_zeros y)))))
+        (Some (tag 2 (bytes y))) → IsGreat y
     by true e h = absurd cc
     by false e h = (cc, ltb-false _ _ e)
 
@@ -154,29 +165,37 @@ unfolding bignum_meaning
 kept-great_3 y = by (ltb (big_endian y) (2 ^ 64)) (ltb (big_endian y) (2 ^ 127)) refl refl
   where
     by : (c d : Bool) → ltb (big_endian y) (2 ^ 64) ≡ c → ltb (big_endian y) (2 ^ 127) ≡ d →
-        ◌≡◌ {A = Option Tree} (cond c (Some (integer (negsuc (big_endian y)))) (cond d (Some (tag 3 (bytes (without_zeros y)))) None)) (Some (tag 3 (bytes y))) → IsGreat y × (big_endian y < 2 ^ 127)
+        ◌≡◌ {A = Option Tree} (cond c (Some (integer (negsuc (big_endian y))))
+        (cond d (Some (tag 3 (bytes (without_zeros y)))) None)) (Some (tag 3 (bytes y))) → IsGreat y ×
+        (big_endian y < 2 ^ 127)
     by true d e f h = absurd cc
     by false false e f h = absurd cc
     by false true e f h = ((cc, ltb-false _ _ e), ltb-true _ _ f)
 
-pub kept-judged : (t : ℕ) (y : List ℕ) → is_bignum_tag t ≡ true → EachIsByte y → IsKept t y → (is_too_large t y ≡ false) × (is_foldable y ≡ false)
+pub kept-judged : (t : ℕ) (y : List ℕ) → is_bignum_tag t ≡ true → EachIsByte y → IsKept t y →
+    (is_too_large t y ≡ false) × (is_foldable y ≡ false)
 kept-judged t y is h kept = by (two_or_three t is)
   where
     by : (t ≡ 2) ⊎ (t ≡ 3) → (is_too_large t y ≡ false) × (is_foldable y ≡ false)
     by (inl e) =
-        let k : IsKept 2 y = subst (λ u. IsKept u y) e kept in (ap (λ u. is_too_large u y) e, great-whole y h (kept-great_2 y k))
+        let k : IsKept 2 y = subst (λ u. IsKept u y) e kept in
+        (ap (λ u. is_too_large u y) e, great-whole y h (kept-great_2 y k))
     by (inr e) =
         let k : IsKept 3 y = subst (λ u. IsKept u y) e kept in
         let g = kept-great_3 y k in
-        let less : big_endian y < 2 ^ 127 = g.1 in
-        (ap (λ u. is_too_large u y) e ∙ not_so (leb (2 ^ 127) (big_endian y)) (λ f. let more = leb-true (2 ^ 127) (big_endian y) f in omega (arith, less, more)), great-whole y h g.0)
+        let less : big_endian y < 2 ^ 127 = g.1 in (
+          ap (λ u. is_too_large u y) e ∙ not_so (leb (2 ^ 127) (big_endian y))
+              (λ f. let more = leb-true (2 ^ 127) (big_endian y) f in omega (arith, less, more)),
+          great-whole y h g.0,
+        )
 
 pub small-judged : (t : ℕ) (y : List ℕ) → big_endian y < 2 ^ 127 → is_too_large t y ≡ false
 small-judged t y h = by (eqb t 3)
   where
     by : (c : Bool) → (c && leb (2 ^ 127) (big_endian y)) ≡ false
     by false = refl
-    by true = not_so (leb (2 ^ 127) (big_endian y)) (λ f. let more = leb-true (2 ^ 127) (big_endian y) f in omega (arith, h, more))
+    by true = not_so (leb (2 ^ 127) (big_endian y)) (λ f. let more = leb-true (2 ^ 127) (big_endian y) f in
+        omega (arith, h, more))
 
 great-kept_2 : (y : List ℕ) → IsGreat y → IsKept 2 y
 unfolding bignum_meaning
@@ -184,9 +203,11 @@ great-kept_2 y g = pass _ _ _ (le-ltb (big_endian y) (2 ^ 64) g.1) ∙ ap (λ (c
 
 great-kept_3 : (y : List ℕ) → IsGreat y → big_endian y < 2 ^ 127 → IsKept 3 y
 unfolding bignum_meaning
-great-kept_3 y g h = pass _ _ _ (le-ltb (big_endian y) (2 ^ 64) g.1) ∙ hold _ _ _ (lt-ltb (big_endian y) (2 ^ 127) h) ∙ ap (λ (c : List ℕ). Some (tag 3 (bytes c))) g.0
+great-kept_3 y g h = pass _ _ _ (le-ltb (big_endian y) (2 ^ 64) g.1) ∙ hold _ _ _ (lt-ltb (big_endian y) (2 ^ 127) h) ∙
+    ap (λ (c : List ℕ). Some (tag 3 (bytes c))) g.0
 
-pub judged-kept : (t : ℕ) (y : List ℕ) → is_bignum_tag t ≡ true → is_too_large t y ≡ false → is_foldable y ≡ false → IsKept t y
+pub judged-kept : (t : ℕ) (y : List ℕ) → is_bignum_tag t ≡ true → is_too_large t y ≡ false → is_foldable y ≡ false →
+    IsKept t y
 judged-kept t y is large whole = by (two_or_three t is)
   where
     less : is_too_large 3 y ≡ false → big_endian y < 2 ^ 127
@@ -194,12 +215,14 @@ judged-kept t y is large whole = by (two_or_three t is)
 
     by : (t ≡ 2) ⊎ (t ≡ 3) → IsKept t y
     by (inl e) = subst (λ u. IsKept u y) (sym e) (great-kept_2 y (whole-great y whole))
-    by (inr e) = subst (λ u. IsKept u y) (sym e) (great-kept_3 y (whole-great y whole) (less (ap (λ u. is_too_large u y) (sym e) ∙ large)))
+    by (inr e) = subst (λ u. IsKept u y) (sym e) (great-kept_3 y (whole-great y whole)
+        (less (ap (λ u. is_too_large u y) (sym e) ∙ large)))
 
 -- what is too large
 pub large-is : (t : ℕ) (y : List ℕ) → is_too_large t y ≡ true → (t ≡ 3) × (2 ^ 127 ≤ big_endian y)
 large-is t y h = by (eqb t 3) (leb (2 ^ 127) (big_endian y)) h (eqb-true t 3) (leb-true (2 ^ 127) (big_endian y))
   where
-    by : (a b : Bool) → (a && b) ≡ true → (a ≡ true → t ≡ 3) → (b ≡ true → 2 ^ 127 ≤ big_endian y) → (t ≡ 3) × (2 ^ 127 ≤ big_endian y)
+    by : (a b : Bool) → (a && b) ≡ true → (a ≡ true → t ≡ 3) → (b ≡ true → 2 ^ 127 ≤ big_endian y) → (t ≡ 3) ×
+        (2 ^ 127 ≤ big_endian y)
     by true b e f g = (f refl, g e)
     by false b e f g = absurd cc

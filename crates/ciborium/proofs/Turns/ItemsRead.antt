@@ -13,10 +13,21 @@ some-tree : (m : Option Tree) (v : Tree) → m ≡ Some v → IsSome m
 some-tree None v e = absurd cc
 some-tree (Some w) v e = refl
 
-pub item-read : {l : ℕ} {ys : List ℕ} {q : ℕ} {v : Tree} {zs : List ℕ} {r : ℕ} (taken : List ℕ) (what : Item) → Spells taken what → meaning what ≡ Some v → nesting what ≤ l → ys ≡ taken ++ zs → r ≡ q + length taken →
+pub item-read : {l : ℕ} {ys : List ℕ} {q : ℕ} {v : Tree} {zs : List ℕ} {r : ℕ} (taken : List ℕ) (what : Item) →
+    Spells taken what → meaning what ≡ Some v → nesting what ≤ l → ys ≡ taken ++ zs → r ≡ q + length taken →
     r ≤ greatest_offset → ReadsItem any l ys q v zs r
 item-read {v = v} taken what spelled means nests split at fits =
-    record { taken = taken; read = (what, (spelled, some-tree (meaning what) v means, nests, omega (arith, at, fits)), means); split = split; at = at }
+    record {
+      taken = taken;
+      read = (
+        what,
+        (spelled, some-tree (meaning what) v means, nests, omega (arith, at, fits)),
+        means,
+      );
+      split = split;
+      at = at;
+    }
 
-pub end-fits : {l : ℕ} {ys : List ℕ} {q : ℕ} {v : Tree} {zs : List ℕ} {r : ℕ} → ReadsItem any l ys q v zs r → r ≤ greatest_offset
+pub end-fits : {l : ℕ} {ys : List ℕ} {q : ℕ} {v : Tree} {zs : List ℕ} {r : ℕ} → ReadsItem any l ys q v zs r →
+    r ≤ greatest_offset
 end-fits i = let at = i.at in let fits = i.read.1.3 in omega (arith, at, fits)

@@ -1,6 +1,7 @@
 -- Heads that are pulled.
 use Rattle.ciborium_ll.proofs.HeldBytes.{unread-count}
-use Rattle.std.proofs.Common.{◌≡◌, ℕ, suc, ◌+◌, ◌-◌, ◌<◌, List, ◌++◌, length, Option, Some, None, Result, Ok, IfSome, IfNone, sym, ap, subst, arith}
+use Rattle.std.proofs.Common.{◌≡◌, ℕ, suc, ◌+◌, ◌-◌, ◌<◌, List, ◌++◌, length, Option, Some, None, Result, Ok, IfSome}
+use Rattle.std.proofs.Common.{IfNone, sym, ap, subst, arith}
 use Rattle.ciborium_ll.specs.declared.header.Header.{Header}
 use Rattle.ciborium_ll.specs.declared.header.Error.{Error as LlError}
 use Rattle.ciborium_ll.specs.declared.header.Error.TheVariants as ll
@@ -18,13 +19,15 @@ use Rattle.ciborium.specs.Errors.{from_ll, IsRefusedBy, IsNamed, refusal_kind_of
 use Rattle.ciborium.specs.inner.ValuesInBytes.{IsPulled, heads_by, heads_left}
 
 -- the error that an error of the lowest layer becomes refuses as it does
-pub refused-from : {E : Type 0} (left : Option (List ℕ)) (e : LlError E) (P : Refusal → Type 0) → reading.IsRefusalOf left e P → IsRefusedBy left (from_ll e) P
+pub refused-from : {E : Type 0} (left : Option (List ℕ)) (e : LlError E) (P : Refusal → Type 0) →
+    reading.IsRefusalOf left e P → IsRefusedBy left (from_ll e) P
 refused-from left (ll.Io e) P h = h
 refused-from left (ll.Syntax p) P h = h
 refused-from left ll.TooLong P h = h
 refused-from left ll.Memory P h = tt
 
-pub refused-map : {E : Type 0} (left : Option (List ℕ)) (e : Error E) (P Q : Refusal → Type 0) → ((r : Refusal) → P r → Q r) → IsRefusedBy left e P → IsRefusedBy left e Q
+pub refused-map : {E : Type 0} (left : Option (List ℕ)) (e : Error E) (P Q : Refusal → Type 0) →
+    ((r : Refusal) → P r → Q r) → IsRefusedBy left e P → IsRefusedBy left e Q
 refused-map left (errors.Io x) P Q f a = λ end. f _ (a end)
 refused-map left (errors.Syntax p) P Q f a = f _ a
 refused-map left (errors.Semantic p k) P Q f a = named p (refusal_kind_of k) a
@@ -38,8 +41,10 @@ refused-map left errors.Memory P Q f a = tt
 refused-map left errors.TooLong P Q f a = f _ a
 
 pub head-read : {S : Type 0} (remaining : S → Option (List ℕ)) (d : Decoder S) (xs : List ℕ) (p : ℕ) (h : Header) →
-    ((x : List ℕ) × (r : List ℕ) × SpellsHeader x h × IsUsable xs p × (xs ≡ x ++ r) × (d.last ≡ p) × (d.window.count ≡ p + length x) × (left_of remaining d ≡ Some r)) → IsPulled remaining d h xs p
-head-read remaining d xs p h (x, r, spelled, usable, split, last, count, left) = (x, r, spelled, usable, split, last, (count, left))
+    ((x : List ℕ) × (r : List ℕ) × SpellsHeader x h × IsUsable xs p × (xs ≡ x ++ r) × (d.last ≡ p) ×
+    (d.window.count ≡ p + length x) × (left_of remaining d ≡ Some r)) → IsPulled remaining d h xs p
+head-read remaining d xs p h (x, r, spelled, usable, split, last, count, left) =
+    (x, r, spelled, usable, split, last, (count, left))
 
 -- a head has a byte at least
 head-some : (b : List ℕ) (h : Header) → SpellsHeader b h → 0 < length b
@@ -51,11 +56,17 @@ head-some b h s = by (header-begins b h s)
 abbrev pub answered : (E : Type 0) → Header → Result Header (LlError E)
 answered E h = Ok h
 
-pub fewer-heads : (E : Type 0) {S : Type 0} (remaining : S → Option (List ℕ)) (d e : Decoder S) (h : Header) → e.pushed ≡ None →
-    IfSome d.pushed (λ head. (answered E h ≡ answered E head.0) × (e.last ≡ head.1) × ReadsNothing d e) → IfNone d.pushed (Takes remaining d e (λ x. IsHeadTaken {E = E} x d.window.count (Ok h))) → heads_left e < heads_left d
-fewer-heads E remaining d e h none pushed taken = subst (λ o. heads_by (greatest_offset - e.window.count) o < heads_by (greatest_offset - d.window.count) d.pushed) (sym none) (by d.pushed pushed taken)
+pub fewer-heads : (E : Type 0) {S : Type 0} (remaining : S → Option (List ℕ)) (d e : Decoder S) (h : Header) →
+    e.pushed ≡ None →
+    IfSome d.pushed (λ head. (answered E h ≡ answered E head.0) × (e.last ≡ head.1) × ReadsNothing d e) →
+    IfNone d.pushed (Takes remaining d e (λ x. IsHeadTaken {E = E} x d.window.count (Ok h))) →
+    heads_left e < heads_left d
+fewer-heads E remaining d e h none pushed taken = subst
+    (λ o. heads_by (greatest_offset - e.window.count) o < heads_by (greatest_offset - d.window.count) d.pushed)
+    (sym none) (by d.pushed pushed taken)
   where
-    by : (o : Option (Header × ℕ)) → IfSome o (λ head. (answered E h ≡ answered E head.0) × (e.last ≡ head.1) × ReadsNothing d e) → IfNone o (Takes remaining d e (λ x. IsHeadTaken {E = E} x d.window.count (Ok h))) →
+    by : (o : Option (Header × ℕ)) → IfSome o (λ head. (answered E h ≡ answered E head.0) × (e.last ≡ head.1) ×
+        ReadsNothing d e) → IfNone o (Takes remaining d e (λ x. IsHeadTaken {E = E} x d.window.count (Ok h))) →
         heads_by (greatest_offset - e.window.count) None < heads_by (greatest_offset - d.window.count) o
     by None a (b, t, count, u, bytes) =
         let some = head-some b h u.answers.0 in

@@ -1,5 +1,6 @@
 -- The answers of one turn.
-use Rattle.std.proofs.Common.{◌≡◌, ℕ, zero, suc, ◌+◌, ◌-◌, ◌<◌, ◌≤◌, List, [], ◌∷◌, ◌++◌, length, Option, Some, None, Result, Ok, Err, IfOk, MatchOption, IsSome, refl, sym, ap, ◌∙◌, subst, arith, inl, inr}
+use Rattle.std.proofs.Common.{◌≡◌, ℕ, zero, suc, ◌+◌, ◌-◌, ◌<◌, ◌≤◌, List, [], ◌∷◌, ◌++◌, length, Option, Some, None}
+use Rattle.std.proofs.Common.{Result, Ok, Err, IfOk, MatchOption, IsSome, refl, sym, ap, ◌∙◌, subst, arith, inl, inr}
 use Rattle.ciborium_ll.specs.Bytes.{greatest_offset}
 use Rattle.ciborium_ll.specs.declared.decoder.Decoder.{Decoder}
 use Rattle.ciborium_ll.specs.Decoding.{offset_of, left_of}
@@ -32,35 +33,53 @@ use Rattle.ciborium.proofs.Turns.Turning.{EndsHere, IsPlaced, closed-item, place
 -- ---- what the spelling decides
 
 -- what refuses inside refuses around
-refused-inside : (spelling : Spelling) (l : ℕ) (xs : List ℕ) (p : ℕ) (os : List TreeFrame) (m : ℕ) (ys : List ℕ) (q : ℕ) (e : Refusal) → IsAround spelling l xs p os m ys q → RefusesPart spelling ys q m e → RefusesBy spelling xs p l e
+refused-inside : (spelling : Spelling) (l : ℕ) (xs : List ℕ) (p : ℕ) (os : List TreeFrame) (m : ℕ) (ys : List ℕ) (q : ℕ)
+    (e : Refusal) → IsAround spelling l xs p os m ys q → RefusesPart spelling ys q m e → RefusesBy spelling xs p l e
 refused-inside any l xs p os m ys q e a f = refused-turn l xs p os m ys q e a f.0 (λ _. f.1)
 refused-inside (deterministic order) l xs p os m ys q e a f = refused-around order l xs p os m ys q e a f
 
 -- a value was placed, and its key judged
-turned : {S E : Type 0} (spelling : Spelling) (remaining : S → Option (List ℕ)) (e : Decoder S) (os after : List TreeFrame) (l : ℕ) (xs : List ℕ) (p m : ℕ) (ys : List ℕ) (q : ℕ) (v : Tree) (zs : List ℕ) (r end : ℕ) (x : Result (Option Value) (Error E)) →
-    end ≡ r → IsAround spelling l xs p os m ys q → ReadsItem spelling m ys q v zs r → StandsAt spelling remaining e zs r → IsPlacedInOrder spelling os v end after x → IsTurned spelling remaining e after l xs p x
+turned : {S E : Type 0} (spelling : Spelling) (remaining : S → Option (List ℕ)) (e : Decoder S)
+    (os after : List TreeFrame) (l : ℕ) (xs : List ℕ) (p m : ℕ) (ys : List ℕ) (q : ℕ) (v : Tree) (zs : List ℕ)
+    (r end : ℕ) (x : Result (Option Value) (Error E)) →
+    end ≡ r → IsAround spelling l xs p os m ys q → ReadsItem spelling m ys q v zs r →
+    StandsAt spelling remaining e zs r → IsPlacedInOrder spelling os v end after x →
+    IsTurned spelling remaining e after l xs p x
 turned any remaining e os after l xs p m ys q v zs r end (Ok None) same a i stands (is, rises) =
-    let b : IsPlaced l xs p (more after) zs r = subst (λ (x : Placed). IsPlaced l xs p x zs r) (sym is) (placed-turn l xs p os m ys q v zs r a i) in
+    let b : IsPlaced l xs p (more after) zs r = subst (λ (x : Placed). IsPlaced l xs p x zs r) (sym is)
+    (placed-turn l xs p os m ys q v zs r a i) in
     (b.0, zs, r, b.1, stands)
 turned any remaining e os after l xs p m ys q v zs r end (Ok (Some w)) same a i stands is =
     (zs, r, subst (λ (x : Placed). IsPlaced l xs p x zs r) (sym is) (placed-turn l xs p os m ys q v zs r a i), stands)
-turned any remaining e os after l xs p m ys q v zs r end (Err x) same a i stands (inl memory) = subst (λ f. IsRefusedBy (left_of remaining e) f (Refuses xs p (Some l))) (sym memory) tt
-turned any remaining e os after l xs p m ys q v zs r end (Err x) same a i stands (inr (is, (at, never, error))) = absurd never
+turned any remaining e os after l xs p m ys q v zs r end (Err x) same a i stands (inl memory) =
+    subst (λ f. IsRefusedBy (left_of remaining e) f (Refuses xs p (Some l))) (sym memory) tt
+turned any remaining e os after l xs p m ys q v zs r end (Err x) same a i stands (inr (is, (at, never, error))) =
+    absurd never
 turned (deterministic order) remaining e os after l xs p m ys q v zs r end (Ok None) same a i stands (is, rises) =
-    let k = kept order l xs p after zs r (subst (λ (w : Placed). Lands order w l xs p zs r) (sym is) (landed order l xs p os m ys q v zs r a i)) rises in
+    let k = kept order l xs p after zs r (subst (λ (w : Placed). Lands order w l xs p zs r) (sym is)
+    (landed order l xs p os m ys q v zs r a i)) rises in
     (k.0, zs, r, k.1, stands)
-turned (deterministic order) remaining e os after l xs p m ys q v zs r end (Ok (Some w)) same a i stands is =
-    (zs, r, subst (λ (u : Placed). Lands order u l xs p zs r) (sym is) (landed order l xs p os m ys q v zs r a i), stands.0)
-turned (deterministic order) remaining e os after l xs p m ys q v zs r end (Err x) same a i stands (inl memory) = subst (λ f. IsRefusedBy (left_of remaining e) f (DeterministicallyRefuses order xs p l)) (sym memory) tt
-turned (deterministic order) remaining e os after l xs p m ys q v zs r end (Err x) same a i stands (inr (is, (at, never, error))) =
+turned (deterministic order) remaining e os after l xs p m ys q v zs r end (Ok (Some w)) same a i stands is = (
+  zs,
+  r,
+  subst (λ (u : Placed). Lands order u l xs p zs r) (sym is) (landed order l xs p os m ys q v zs r a i),
+  stands.0,
+)
+turned (deterministic order) remaining e os after l xs p m ys q v zs r end (Err x) same a i stands (inl memory) =
+    subst (λ f. IsRefusedBy (left_of remaining e) f (DeterministicallyRefuses order xs p l)) (sym memory) tt
+turned (deterministic order) remaining e os after l xs p m ys q v zs r end (Err x) same a i stands
+    (inr (is, (at, never, error))) =
     subst (λ f. IsRefusedBy (left_of remaining e) f (DeterministicallyRefuses order xs p l)) (sym error)
-    (disordered order l xs p after zs end at (subst (λ n. LandsIn order after l xs p zs n) (sym same) (subst (λ (w : Placed). Lands order w l xs p zs r) (sym is) (landed order l xs p os m ys q v zs r a i))) never)
+    (disordered order l xs p after zs end at (subst (λ n. LandsIn order after l xs p zs n) (sym same)
+    (subst (λ (w : Placed). Lands order w l xs p zs r) (sym is) (landed order l xs p os m ys q v zs r a i))) never)
 
 -- the container that a break ends, with what is open around it
 Closes : Spelling → ℕ → List ℕ → ℕ → List TreeFrame → Tree → List ℕ → ℕ → Type 0
-Closes spelling l xs p os v zs r = (m : ℕ) × (ys : List ℕ) × (q : ℕ) × IsAround spelling l xs p os m ys q × ReadsItem spelling m ys q v zs r
+Closes spelling l xs p os v zs r = (m : ℕ) × (ys : List ℕ) × (q : ℕ) × IsAround spelling l xs p os m ys q ×
+    ReadsItem spelling m ys q v zs r
 
-closing : (spelling : Spelling) (l : ℕ) (xs : List ℕ) (p : ℕ) (os us : List TreeFrame) (m : ℕ) (ys : List ℕ) (q : ℕ) (v : Tree) (zs : List ℕ) → IsAround spelling l xs p os m ys q → closed os ≡ Some (v, us) → ys ≡ break_byte ∷ zs →
+closing : (spelling : Spelling) (l : ℕ) (xs : List ℕ) (p : ℕ) (os us : List TreeFrame) (m : ℕ) (ys : List ℕ) (q : ℕ)
+    (v : Tree) (zs : List ℕ) → IsAround spelling l xs p os m ys q → closed os ≡ Some (v, us) → ys ≡ break_byte ∷ zs →
     q < greatest_offset → Closes spelling l xs p us v zs (q + 1)
 unfolding Closes
 closing any l xs p os us m ys q v zs a e f g = closed-item l xs p os us m ys q v zs a e f g
@@ -75,65 +94,91 @@ ends-not : (os : List TreeFrame) → closed os ≡ None → EndsHere os → ⊥
 ends-not os e h = let no = subst (λ o. IsSome o) e h in absurd cc
 
 -- a break that ends nothing
-broken : (spelling : Spelling) (l : ℕ) (xs : List ℕ) (p : ℕ) (os : List TreeFrame) (m : ℕ) (ys : List ℕ) (q : ℕ) (zs : List ℕ) → IsAround spelling l xs p os m ys q → closed os ≡ None → ys ≡ break_byte ∷ zs → q < greatest_offset →
+broken : (spelling : Spelling) (l : ℕ) (xs : List ℕ) (p : ℕ) (os : List TreeFrame) (m : ℕ) (ys : List ℕ) (q : ℕ)
+    (zs : List ℕ) → IsAround spelling l xs p os m ys q → closed os ≡ None → ys ≡ break_byte ∷ zs → q < greatest_offset →
     RefusesBy spelling xs p l (semantic q Break)
 broken any l xs p os m ys q zs a none is less =
-    let refuses : Refuses ys q (Some m) (semantic q Break) = subst (λ z. Refuses z q (Some m) (semantic q Break)) (sym is) (Refuses.break {p = q} {b = zs} (opened-has 7 q zs refl less)) in
+    let refuses : Refuses ys q (Some m) (semantic q Break) =
+    subst (λ z. Refuses z q (Some m) (semantic q Break)) (sym is)
+    (Refuses.break {p = q} {b = zs} (opened-has 7 q zs refl less)) in
     refused-turn l xs p os m ys q (semantic q Break) a refuses (λ h. absurd (ends-not os none h))
 broken (deterministic order) l xs p os m ys q zs a none is less =
-    let refuses : DeterministicallyRefuses order ys q m (semantic q Break) = subst (λ z. DeterministicallyRefuses order z q m (semantic q Break)) (sym is) (DeterministicallyRefuses.break {p = q} {l = m} {b = zs} (opened-has 7 q zs refl less)) in
+    let refuses : DeterministicallyRefuses order ys q m (semantic q Break) =
+    subst (λ z. DeterministicallyRefuses order z q m (semantic q Break)) (sym is)
+    (DeterministicallyRefuses.break {p = q} {l = m} {b = zs} (opened-has 7 q zs refl less)) in
     refused-around order l xs p os m ys q (semantic q Break) a refuses
 
 -- ---- what `next` answers, wherever the decoder stands
 
-abbrev pub Answers : {S E : Type 0} → Spelling → (S → Option (List ℕ)) → Decoder S → Decoder S → ℕ → Result Part (Error E) → Type 0
-Answers spelling remaining d e l x = (xs : List ℕ) (p : ℕ) → StandsAt spelling remaining d xs p → IsPartRead spelling remaining e l xs p x
+abbrev pub Answers : {S E : Type 0} → Spelling → (S → Option (List ℕ)) → Decoder S → Decoder S → ℕ →
+    Result Part (Error E) → Type 0
+Answers spelling remaining d e l x = (xs : List ℕ) (p : ℕ) → StandsAt spelling remaining d xs p →
+    IsPartRead spelling remaining e l xs p x
 
-levels-left : (spelling : Spelling) (l : ℕ) (xs : List ℕ) (p : ℕ) (os : List TreeFrame) (m : ℕ) (ys : List ℕ) (q : ℕ) → IsAround spelling l xs p os m ys q → length os + m ≡ l
+levels-left : (spelling : Spelling) (l : ℕ) (xs : List ℕ) (p : ℕ) (os : List TreeFrame) (m : ℕ) (ys : List ℕ) (q : ℕ) →
+    IsAround spelling l xs p os m ys q → length os + m ≡ l
 levels-left spelling l xs p [] m ys q a = omega (arith, a.0)
 levels-left spelling l xs p (o ∷ os) m ys q a = omega (arith, levels-left spelling l xs p os (suc m) a.0 a.1 a.2)
 
-left : (spelling : Spelling) (l : ℕ) (xs : List ℕ) (p : ℕ) (os : List TreeFrame) (m : ℕ) (zs : List ℕ) (r : ℕ) → IsAround spelling l xs p os m zs r → l - length os ≡ m
+left : (spelling : Spelling) (l : ℕ) (xs : List ℕ) (p : ℕ) (os : List TreeFrame) (m : ℕ) (zs : List ℕ) (r : ℕ) →
+    IsAround spelling l xs p os m zs r → l - length os ≡ m
 left spelling l xs p os m zs r a = omega (arith, levels-left spelling l xs p os m zs r a)
 
 -- ---- the answers of a turn
 
-module _ {S E : Type 0} (spelling : Spelling) (remaining : S → Option (List ℕ)) (d e : Decoder S) (os : List TreeFrame) (l : ℕ) (xs : List ℕ) (p : ℕ) (n : ℕ) (depth : n ≡ length os) (x y : Result Part (Error E)) (same : x ≡ y)
+module _ {S E : Type 0} (spelling : Spelling) (remaining : S → Option (List ℕ)) (d e : Decoder S) (os : List TreeFrame)
+    (l : ℕ) (xs : List ℕ) (p : ℕ) (n : ℕ) (depth : n ≡ length os) (x y : Result Part (Error E)) (same : x ≡ y)
     (answers : Answers spelling remaining d e (l - n) x) (s : IsReading spelling remaining d os l xs p) where
   here : IsPartRead spelling remaining e s.0 s.1 s.2 y
   here =
       subst (λ z. IsPartRead spelling remaining e s.0 s.1 s.2 z) same
-      (subst (λ m. IsPartRead spelling remaining e m s.1 s.2 x) (ap (λ k. l - k) depth ∙ left spelling l xs p os s.0 s.1 s.2 s.3) (answers s.1 s.2 s.4))
+      (subst (λ m. IsPartRead spelling remaining e m s.1 s.2 x)
+      (ap (λ k. l - k) depth ∙ left spelling l xs p os s.0 s.1 s.2 s.3) (answers s.1 s.2 s.4))
 
   pub turn-refused : (f : Error E) → y ≡ Err f → IsRefusedBy (left_of remaining e) f (RefusesBy spelling xs p l)
   turn-refused f is =
-      refused-map (left_of remaining e) f (RefusesPart spelling s.1 s.2 s.0) (RefusesBy spelling xs p l) (λ r h. refused-inside spelling l xs p os s.0 s.1 s.2 r s.3 h)
+      refused-map (left_of remaining e) f (RefusesPart spelling s.1 s.2 s.0) (RefusesBy spelling xs p l)
+      (λ r h. refused-inside spelling l xs p os s.0 s.1 s.2 r s.3 h)
       (subst (λ z. IsPartRead spelling remaining e s.0 s.1 s.2 z) is here)
 
-  pub turn-whole : (v : Value) (after : List TreeFrame) (end : ℕ) (z : Result (Option Value) (Error E)) → y ≡ Ok (Whole v) → end ≡ offset_of e → IsPlacedInOrder spelling os (tree_of v) end after z → IsTurned spelling remaining e after l xs p z
+  pub turn-whole : (v : Value) (after : List TreeFrame) (end : ℕ) (z : Result (Option Value) (Error E)) →
+      y ≡ Ok (Whole v) → end ≡ offset_of e → IsPlacedInOrder spelling os (tree_of v) end after z →
+      IsTurned spelling remaining e after l xs p z
   turn-whole v after end z is at placed =
       let a = subst (λ z. IsPartRead {E = E} spelling remaining e s.0 s.1 s.2 z) is here in
-      turned spelling remaining e os after l xs p s.0 s.1 s.2 (tree_of v) a.0 a.1 end z (at ∙ stands-offset spelling remaining e a.1 a.0 a.3) s.3 a.2 a.3 placed
+      turned spelling remaining e os after l xs p s.0 s.1 s.2 (tree_of v) a.0 a.1 end z
+      (at ∙ stands-offset spelling remaining e a.1 a.0 a.3) s.3 a.2 a.3 placed
 
-  pub turn-opened : (f : Opening) (after : List TreeFrame) → y ≡ Ok (Opened f) → after ≡ begun_frame f ∷ os → IsReading spelling remaining e after l xs p
+  pub turn-opened : (f : Opening) (after : List TreeFrame) → y ≡ Ok (Opened f) → after ≡ begun_frame f ∷ os →
+      IsReading spelling remaining e after l xs p
   turn-opened f after is now =
       let a = subst (λ z. IsPartRead {E = E} spelling remaining e s.0 s.1 s.2 z) is here in
-      let (m, more_levels, inside) = a.2 in
-      (m, a.0, a.1, subst (λ us. IsAround spelling l xs p us m a.0 a.1) (sym now) (s.1, s.2, subst (λ k. IsAround spelling l xs p os k s.1 s.2) more_levels s.3, inside), a.3)
+      let (m, more_levels, inside) = a.2 in (
+        m,
+        a.0,
+        a.1,
+        subst (λ us. IsAround spelling l xs p us m a.0 a.1) (sym now)
+            (s.1, s.2, subst (λ k. IsAround spelling l xs p os k s.1 s.2) more_levels s.3, inside),
+        a.3,
+      )
 
-  pub turn-ended : (v : Value) (between after : List TreeFrame) (end : ℕ) (z : Result (Option Value) (Error E)) → y ≡ Ok Ended → closed os ≡ Some (tree_of v, between) → end ≡ offset_of e →
+  pub turn-ended : (v : Value) (between after : List TreeFrame) (end : ℕ) (z : Result (Option Value) (Error E)) →
+      y ≡ Ok Ended → closed os ≡ Some (tree_of v, between) → end ≡ offset_of e →
       IsPlacedInOrder spelling between (tree_of v) end after z → IsTurned spelling remaining e after l xs p z
   unfolding Closes
   turn-ended v between after end z is ends at placed =
       let a = subst (λ z. IsPartRead {E = E} spelling remaining e s.0 s.1 s.2 z) is here in
       let (m, ys, q, around, item) = closing spelling l xs p os between s.0 s.1 s.2 (tree_of v) a.0 s.3 ends a.1 a.2 in
-      turned spelling remaining e between after l xs p m ys q (tree_of v) a.0 (s.2 + 1) end z (at ∙ stands-offset spelling remaining e (s.2 + 1) a.0 a.3) around item a.3 placed
+      turned spelling remaining e between after l xs p m ys q (tree_of v) a.0 (s.2 + 1) end z
+      (at ∙ stands-offset spelling remaining e (s.2 + 1) a.0 a.3) around item a.3 placed
 
-  pub turn-break : (offset : ℕ) → y ≡ Ok Ended → closed os ≡ None → offset ≡ offset_of d → RefusesBy spelling xs p l (semantic offset Break)
+  pub turn-break : (offset : ℕ) → y ≡ Ok Ended → closed os ≡ None → offset ≡ offset_of d →
+      RefusesBy spelling xs p l (semantic offset Break)
   turn-break offset is none at =
       let a = subst (λ z. IsPartRead {E = E} spelling remaining e s.0 s.1 s.2 z) is here in
       let place : offset ≡ s.2 = at ∙ stands-offset spelling remaining d s.2 s.1 s.4 in
-      subst (λ k. RefusesBy spelling xs p l (semantic k Break)) (sym place) (broken spelling l xs p os s.0 s.1 s.2 a.0 s.3 none a.1 a.2)
+      subst (λ k. RefusesBy spelling xs p l (semantic k Break)) (sym place)
+      (broken spelling l xs p os s.0 s.1 s.2 a.0 s.3 none a.1 a.2)
 
 -- ---- how many are open
 
@@ -145,16 +190,21 @@ pub shallow : (os us : List TreeFrame) (v : Tree) → more us ≡ placed os v �
 shallow [] us v e = absurd cc
 shallow (array vs None ∷ os) us v e = same-length (array (vs ++ v ∷ []) None ∷ os) us (sym e)
 shallow (array vs (Some (suc n)) ∷ os) us v e = same-length (array (vs ++ v ∷ []) (Some n) ∷ os) us (sym e)
-shallow (array vs (Some zero) ∷ os) us v e = let less = shallow os us (trees.array (trees_from (vs ++ v ∷ []))) e in omega (arith, less)
+shallow (array vs (Some zero) ∷ os) us v e = let less = shallow os us (trees.array (trees_from (vs ++ v ∷ []))) e in
+    omega (arith, less)
 shallow (map ps behind None ∷ os) us v e = same-length (map ps behind (Some v) ∷ os) us (sym e)
 shallow (map ps None (Some k) ∷ os) us v e = same-length (map (ps ++ (k, v) ∷ []) None None ∷ os) us (sym e)
-shallow (map ps (Some (suc n)) (Some k) ∷ os) us v e = same-length (map (ps ++ (k, v) ∷ []) (Some n) None ∷ os) us (sym e)
-shallow (map ps (Some zero) (Some k) ∷ os) us v e = let less = shallow os us (trees.map (tree_pairs_from (ps ++ (k, v) ∷ []))) e in omega (arith, less)
+shallow (map ps (Some (suc n)) (Some k) ∷ os) us v e =
+    same-length (map (ps ++ (k, v) ∷ []) (Some n) None ∷ os) us (sym e)
+shallow (map ps (Some zero) (Some k) ∷ os) us v e = let less =
+    shallow os us (trees.map (tree_pairs_from (ps ++ (k, v) ∷ []))) e in omega (arith, less)
 shallow (tag t ∷ os) us v e = let less = shallow os us (trees.tag t v) e in omega (arith, less)
 
-pub depth-placed : {E : Type 0} (spelling : Spelling) (x : Result (Option Value) (Error E)) (os after : List TreeFrame) (v : Tree) (end l : ℕ) → IsPlacedInOrder spelling os v end after x → length os ≤ l →
+pub depth-placed : {E : Type 0} (spelling : Spelling) (x : Result (Option Value) (Error E)) (os after : List TreeFrame)
+    (v : Tree) (end l : ℕ) → IsPlacedInOrder spelling os v end after x → length os ≤ l →
     IfOk x (λ o. MatchOption o (length after ≤ l) (λ _. Unit {0}))
-depth-placed spelling (Ok None) os after v end l (is, rises) room = let less = shallow os after v is in omega (arith, less, room)
+depth-placed spelling (Ok None) os after v end l (is, rises) room = let less = shallow os after v is in
+    omega (arith, less, room)
 depth-placed spelling (Ok (Some w)) os after v end l is room = tt
 depth-placed spelling (Err e) os after v end l is room = tt
 
@@ -164,16 +214,27 @@ both v os = (v, os)
 some-same : (v w : Tree) (os us : List TreeFrame) → Some (both v os) ≡ Some (both w us) → os ≡ us
 some-same v w os us e = let same : both v os ≡ both w us = cc in ap (λ x. x.1) same
 
-pub depth-closed : (os us : List TreeFrame) (v : Tree) (l : ℕ) → closed os ≡ Some (v, us) → length os ≤ l → length us ≤ l
+pub depth-closed : (os us : List TreeFrame) (v : Tree) (l : ℕ) → closed os ≡ Some (v, us) → length os ≤ l →
+    length us ≤ l
 depth-closed [] us v l e room = absurd cc
-depth-closed (array vs None ∷ os) us v l e room = let same = some-same (trees.array (trees_from vs)) v os us e in omega (arith, room, ap length same)
+depth-closed (array vs None ∷ os) us v l e room = let same = some-same (trees.array (trees_from vs)) v os us e in
+    omega (arith, room, ap length same)
 depth-closed (array vs (Some n) ∷ os) us v l e room = absurd cc
 depth-closed (tag t ∷ os) us v l e room = absurd cc
-depth-closed (map ps None None ∷ os) us v l e room = let same = some-same (trees.map (tree_pairs_from ps)) v os us e in omega (arith, room, ap length same)
+depth-closed (map ps None None ∷ os) us v l e room = let same = some-same (trees.map (tree_pairs_from ps)) v os us e in
+    omega (arith, room, ap length same)
 depth-closed (map ps None (Some k) ∷ os) us v l e room = absurd cc
 depth-closed (map ps (Some n) key ∷ os) us v l e room = absurd cc
 
 -- ---- the beginning
 
-pub begin : {S : Type 0} (spelling : Spelling) (remaining : S → Option (List ℕ)) (d : Decoder S) (os : List TreeFrame) (l : ℕ) (xs : List ℕ) (p : ℕ) → os ≡ [] → StandsAt spelling remaining d xs p → IsReading spelling remaining d os l xs p
-begin spelling remaining d os l xs p none s = (l, xs, p, subst (λ us. IsAround spelling l xs p us l xs p) (sym none) (refl, refl, refl), s)
+pub begin : {S : Type 0} (spelling : Spelling) (remaining : S → Option (List ℕ)) (d : Decoder S) (os : List TreeFrame)
+    (l : ℕ) (xs : List ℕ) (p : ℕ) → os ≡ [] → StandsAt spelling remaining d xs p →
+    IsReading spelling remaining d os l xs p
+begin spelling remaining d os l xs p none s = (
+  l,
+  xs,
+  p,
+  subst (λ us. IsAround spelling l xs p us l xs p) (sym none) (refl, refl, refl),
+  s,
+)

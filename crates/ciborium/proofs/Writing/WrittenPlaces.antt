@@ -3,11 +3,13 @@ use Rattle.std.proofs.Common.{ℕ, ◌≤◌, List, [], ◌∷◌, ◌++◌, Opt
 use Rattle.ciborium_ll.specs.Bytes.{greatest_offset}
 use Rattle.ciborium_ll.specs.Item as item
 use Rattle.ciborium_ll.specs.Item.{Item, items_count, pairs_count}
-use Rattle.ciborium_value.specs.Places.{Shape, sequence, dictionary, items_from, pairs_from, container, is_open, Place, top, within, tagged, added, IsFull, Fits, IsWrittenPlace}
+use Rattle.ciborium_value.specs.Places.{Shape, sequence, dictionary, items_from, pairs_from, container, is_open, Place}
+use Rattle.ciborium_value.specs.Places.{top, within, tagged, added, IsFull, Fits, IsWrittenPlace}
 use Rattle.ciborium_value.specs.WrittenItems.{IsWritten, AreWritten, PairsAreWritten}
 use Rattle.ciborium_value.proofs.Writing.Standing.{items_count-from, pairs-from}
 
-AreWritten-more : (is : List Item) (i : Item) → AreWritten (items_from is) → IsWritten i → AreWritten (items_from (is ++ i ∷ []))
+AreWritten-more : (is : List Item) (i : Item) → AreWritten (items_from is) → IsWritten i →
+    AreWritten (items_from (is ++ i ∷ []))
 AreWritten-more [] i h w = (w, tt)
 AreWritten-more (j ∷ is) i h w = (h.0, AreWritten-more is i h.1 w)
 
@@ -21,8 +23,14 @@ written-added (top name before is) i h w = AreWritten-more is i h w
 written-added (within s n is around) i h w = (h.0, AreWritten-more is i h.1 w, h.2)
 written-added (tagged t p) i h w = written-added p (item.tag t i) h.1 (h.0, w)
 
-pub written-container : (s : Shape) (n : Option ℕ) (is : List Item) → Fits n → AreWritten (items_from is) → IsFull s n is → IsWritten (container s (is_open n) is)
+pub written-container : (s : Shape) (n : Option ℕ) (is : List Item) → Fits n → AreWritten (items_from is) →
+    IsFull s n is → IsWritten (container s (is_open n) is)
 written-container sequence None is fits h full = (tt, h)
 written-container dictionary None is fits h full = (tt, pairs-written is h)
-written-container sequence (Some n) is fits h full = (subst (λ k. k ≤ greatest_offset) (sym (items_count-from is ∙ full)) fits, h)
-written-container dictionary (Some n) is fits h full = (subst (λ k. k ≤ greatest_offset) (sym (pairs-from is n full).1) fits, pairs-written is h)
+written-container sequence (Some n) is fits h full = (
+  subst (λ k. k ≤ greatest_offset)
+      (sym (items_count-from is ∙ full)) fits,
+  h,
+)
+written-container dictionary (Some n) is fits h full =
+    (subst (λ k. k ≤ greatest_offset) (sym (pairs-from is n full).1) fits, pairs-written is h)

@@ -1,5 +1,7 @@
--- What is open around the place where reading stands: reading began at offset p with l levels, and stands at offset r with m left.
-use Rattle.std.specs.Prelude.{◌≡◌, ℕ, suc, ◌+◌, ◌*◌, ◌≤◌, List, [], ◌∷◌, ◌++◌, length, Option, Some, None}
+-- What is open around the place where reading stands: reading began at offset p with l levels, and
+-- stands at offset r with m left.
+use Rattle.std.specs.Prelude.{◌≡◌, ℕ, suc, ◌+◌, ◌*◌, ◌≤◌, List, [], ◌∷◌, ◌++◌, length, Option, Some}
+use Rattle.std.specs.Prelude.{None}
 use Rattle.ciborium_ll.specs.Bytes.{greatest_offset}
 use Rattle.ciborium_ll.specs.Head.{open_byte}
 use Rattle.ciborium_ll.specs.Item.{Items, items_count}
@@ -8,7 +10,8 @@ use Rattle.ciborium_ll.specs.Spells.{SpellsItems}
 use Rattle.ciborium_value.specs.Meaning.{items_meaning}
 use Rattle.ciborium_value.specs.Nesting.{items_nesting}
 use Rattle.ciborium_value.specs.inner.Frames.{TreeFrame, array, map, tag}
-use Rattle.ciborium_value.specs.Refuses.{Due, exactly, items_until_break, keys_until_break, values_until_break, due_after, IsFoldingAt}
+use Rattle.ciborium_value.specs.Refuses.{Due, exactly, items_until_break, keys_until_break}
+use Rattle.ciborium_value.specs.Refuses.{values_until_break, due_after, IsFoldingAt}
 use Rattle.ciborium_value.specs.Tree.{Tree}
 use Rattle.ciborium_value.specs.View.{trees_from}
 use Rattle.ciborium_value.specs.declared.key_order.KeyOrder.{KeyOrder}
@@ -52,8 +55,10 @@ IsRoom items_until_break is = Unit {0}
 IsRoom keys_until_break is = Unit {0}
 IsRoom values_until_break is = Unit {0}
 
--- a container begins at ys, offset q; vs are the values of its parts so far, keys and values in turn, each within l levels; now is due
-pub record IsInContainer (major : ℕ) (count : Option ℕ) (start now : Due) (l : ℕ) (ys : List ℕ) (q : ℕ) (vs : List Tree) (zs : List ℕ) (r : ℕ) : Type 0 where
+-- a container begins at ys, offset q; vs are the values of its parts so far, keys and values in
+-- turn, each within l levels; now is due
+pub record IsInContainer (major : ℕ) (count : Option ℕ) (start now : Due) (l : ℕ) (ys : List ℕ)
+    (q : ℕ) (vs : List Tree) (zs : List ℕ) (r : ℕ) : Type 0 where
   pub size : ℕ
   pub good : List ℕ
   pub items : Items
@@ -79,18 +84,23 @@ pub record IsInTag (ys : List ℕ) (q : ℕ) (t : ℕ) (zs : List ℕ) (r : ℕ)
 -- what begins at ys in any spelling is open at zs; inside it l levels are left
 abbrev pub IsAnywayInside : TreeFrame → ℕ → List ℕ → ℕ → List ℕ → ℕ → Type 0
 IsAnywayInside (array vs behind) l ys q zs r =
-    (count : Option ℕ) × IsInContainer 4 count (array_due count) (due_in (array vs behind)) l ys q vs zs r
+    (count : Option ℕ) × IsInContainer 4 count (array_due count) (due_in (array vs behind)) l ys q
+    vs zs r
 IsAnywayInside (map ps behind key) l ys q zs r =
-    (count : Option ℕ) × IsInContainer 5 count (map_due count) (due_in (map ps behind key)) l ys q (trees_in_turn ps key) zs r
+    (count : Option ℕ) × IsInContainer 5 count (map_due count) (due_in (map ps behind key)) l ys q
+    (trees_in_turn ps key) zs r
 IsAnywayInside (tag t) l ys q zs r = IsInTag ys q t zs r
 
 -- what begins at ys in the deterministic spelling of an order is open at zs
 abbrev pub IsStrictlyInside : KeyOrder → TreeFrame → ℕ → List ℕ → ℕ → List ℕ → ℕ → Type 0
-IsStrictlyInside order (array vs (Some n)) l ys q zs r = HasParts order of_array (length vs + suc n) l ys q vs zs r
+IsStrictlyInside order (array vs (Some n)) l ys q zs r =
+    HasParts order of_array (length vs + suc n) l ys q vs zs r
 IsStrictlyInside order (array vs None) l ys q zs r = ⊥
-IsStrictlyInside order (map ps (Some n) key) l ys q zs r = HasParts order of_map (length ps + suc n) l ys q (trees_in_turn ps key) zs r
+IsStrictlyInside order (map ps (Some n) key) l ys q zs r =
+    HasParts order of_map (length ps + suc n) l ys q (trees_in_turn ps key) zs r
 IsStrictlyInside order (map ps None key) l ys q zs r = ⊥
-IsStrictlyInside order (tag t) l ys q zs r = HasShortHead 6 t ys q zs r × IsUsable zs r × ¬ IsFoldingAt t zs
+IsStrictlyInside order (tag t) l ys q zs r = HasShortHead 6 t ys q zs r × IsUsable zs r ×
+    ¬ IsFoldingAt t zs
 
 abbrev pub IsInside : Spelling → TreeFrame → ℕ → List ℕ → ℕ → List ℕ → ℕ → Type 0
 IsInside any o l ys q zs r = IsAnywayInside o l ys q zs r
@@ -99,4 +109,5 @@ IsInside (deterministic order) o l ys q zs r = IsStrictlyInside order o l ys q z
 -- all that is open, the innermost first
 abbrev pub IsAround : Spelling → ℕ → List ℕ → ℕ → List TreeFrame → ℕ → List ℕ → ℕ → Type 0
 IsAround spelling l xs p [] m zs r = (m ≡ l) × (zs ≡ xs) × (r ≡ p)
-IsAround spelling l xs p (o ∷ os) m zs r = (ys : List ℕ) × (q : ℕ) × IsAround spelling l xs p os (suc m) ys q × IsInside spelling o m ys q zs r
+IsAround spelling l xs p (o ∷ os) m zs r = (ys : List ℕ) × (q : ℕ) ×
+    IsAround spelling l xs p os (suc m) ys q × IsInside spelling o m ys q zs r

@@ -1,17 +1,22 @@
 -- Where a source over bytes stands.
-use Rattle.std.specs.Prelude.{◌≡◌, ℕ, ◌+◌, ◌*◌, ◌-◌, ◌≤◌, List, ◌++◌, length, map, Option, Some, None, Bool, true, false, IfErr, IfOk, MatchResult, OnErr, OnOk, Result}
+use Rattle.std.specs.Prelude.{◌≡◌, ℕ, ◌+◌, ◌*◌, ◌-◌, ◌≤◌, List, ◌++◌, length, map, Option, Some}
+use Rattle.std.specs.Prelude.{None, Bool, true, false, IfErr, IfOk, MatchResult, OnErr, OnOk}
+use Rattle.std.specs.Prelude.{Result}
 use Rattle.std.specs.Borrow.{GName}
 use Rattle.std.specs.Vec.Iter.{into_iter_items}
 use Rattle.ciborium_ll.specs.declared.header.Header.{Header}
 use Rattle.ciborium_ll.specs.declared.header.Header.TheVariants as header
 use Rattle.ciborium_ll.specs.declared.decoder.Decoder.{Decoder}
 use Rattle.ciborium_ll.specs.Bytes.{greatest_offset}
-use Rattle.ciborium_ll.specs.Decoding.{HasSameReader, IsAheadBy, Takes, TakesBeforeAny, allowed_of, left_of}
+use Rattle.ciborium_ll.specs.Decoding.{HasSameReader, IsAheadBy, Takes, TakesBeforeAny, allowed_of}
+use Rattle.ciborium_ll.specs.Decoding.{left_of}
 use Rattle.ciborium_ll.specs.Header.{SpellsHeader}
 use Rattle.ciborium_ll.specs.Item.{Item, unsigned}
 use Rattle.ciborium_ll.specs.Refusal.{IsUsable}
 use Rattle.ciborium_ll.specs.Spells.{Spells}
-use Rattle.ciborium_value.specs.Ahead.{Ahead, Rest, Form, counted, until_break, bottom, parts, pairs, entry, held, item, after, of_bytes, past, inside, end_of}
+use Rattle.ciborium_value.specs.Ahead.{Ahead, Rest, Form, counted, until_break, bottom, parts}
+use Rattle.ciborium_value.specs.Ahead.{pairs, entry, held, item, after, of_bytes, past, inside}
+use Rattle.ciborium_value.specs.Ahead.{end_of}
 use Rattle.ciborium_value.specs.Meaning.{meaning}
 use Rattle.ciborium_value.specs.Nesting.{Limit, nesting}
 use Rattle.ciborium_value.specs.Places.{Shape, sequence, dictionary}
@@ -30,7 +35,8 @@ use Rattle.ciborium.specs.Errors.{fault_of}
 use Rattle.ciborium.specs.inner.FrontItems.{Denies, Reads}
 use Rattle.ciborium.specs.inner.Skips.{EntersUnread, IsBare}
 use Rattle.ciborium.specs.Spelling.{any}
-use Rattle.ciborium.specs.inner.Unread.{SpellsPair, AreSpelled, FitsAhead, ending, form_of, HasCount}
+use Rattle.ciborium.specs.inner.Unread.{SpellsPair, AreSpelled, FitsAhead, ending, form_of}
+use Rattle.ciborium.specs.inner.Unread.{HasCount}
 
 -- ---- what is unread
 
@@ -40,29 +46,36 @@ is_portable (header.Positive n) = true
 is_portable (header.Simple n) = is_null_simple n
 is_portable _ = false
 
--- the head with this spelling, at the front of b, was pulled: it is usable, and its bytes are counted
+-- the head with this spelling, at the front of b, was pulled: it is usable, and its bytes are
+-- counted
 abbrev pub IsHeadCounted : {S : Type 0} → Decoder S → Header × ℕ → List ℕ → List ℕ → Type 0
 IsHeadCounted d h b x = is_portable h.0 ≡ false → IsUsable b h.1 × (d.window.count ≡ h.1 + length x)
 
 -- b is unread, the spelling of a head that is pending included
-abbrev pub IsUnreadBy : {S : Type 0} → (S → Option (List ℕ)) → Decoder S → Option (Header × ℕ) → List ℕ → Type 0
+abbrev pub IsUnreadBy : {S : Type 0} → (S → Option (List ℕ)) → Decoder S → Option (Header × ℕ) →
+    List ℕ → Type 0
 IsUnreadBy remaining d None b = left_of remaining d ≡ Some b
-IsUnreadBy remaining d (Some h) b = (x : List ℕ) × (y : List ℕ) × SpellsHeader x h.0 × (b ≡ x ++ y) × (left_of remaining d ≡ Some y) × IsHeadCounted d h b x
+IsUnreadBy remaining d (Some h) b = (x : List ℕ) × (y : List ℕ) × SpellsHeader x h.0 ×
+    (b ≡ x ++ y) × (left_of remaining d ≡ Some y) × IsHeadCounted d h b x
 
 abbrev pub IsUnread : {S : Type 0} → (S → Option (List ℕ)) → ByteSource S → List ℕ → Type 0
 IsUnread remaining s b = IsUnreadBy remaining s.decoder s.pending b
 
 -- the head that was taken from the front of what was unread is counted
-abbrev pub CountsHead : {S : Type 0} → (ByteSource S → List ℕ → Type 0) → ByteSource S → ByteSource S → Header × ℕ → Type 0
-CountsHead IsUnread old new h = (b x y : List ℕ) → IsUnread old b → SpellsHeader x h.0 → b ≡ x ++ y → IsHeadCounted new.decoder h b x
+abbrev pub CountsHead : {S : Type 0} → (ByteSource S → List ℕ → Type 0) → ByteSource S →
+    ByteSource S → Header × ℕ → Type 0
+CountsHead IsUnread old new h = (b x y : List ℕ) → IsUnread old b → SpellsHeader x h.0 →
+    b ≡ x ++ y → IsHeadCounted new.decoder h b x
 
 -- ---- what was taken
 
 -- since the first state a beginning of what was unread was taken and counted, and nothing else
 unfoldable pub HasTaken : {S : Type 0} → (S → Option (List ℕ)) → Decoder S → Decoder S → Type 0
-HasTaken remaining first d = (d.reader.ghost_name ≡ first.reader.ghost_name) × Takes remaining first d (λ _. Unit {0})
+HasTaken remaining first d = (d.reader.ghost_name ≡ first.reader.ghost_name) ×
+    Takes remaining first d (λ _. Unit {0})
 
-abbrev pub HasTakenSince : {S : Type 0} → (S → Option (List ℕ)) → ByteSource S → ByteSource S → Type 0
+abbrev pub HasTakenSince : {S : Type 0} → (S → Option (List ℕ)) → ByteSource S → ByteSource S →
+    Type 0
 HasTakenSince remaining first s = HasTaken remaining first.decoder s.decoder
 
 -- ---- where it stands
@@ -114,8 +127,11 @@ pending_count (Some h) = 1
 abbrev pub HoldsDue : {S : Type 0} → ByteSource S → Ahead → Type 0
 HoldsDue s a = allowed_of s.decoder + pending_count s.pending ≤ items_due a
 
-abbrev pub StandsBefore : {S : Type 0} → (S → Option (List ℕ)) → ByteSource S → Limit → Ahead → Type 0
-StandsBefore remaining s l a = (b : List ℕ) × IsUnread remaining s b × FitsAhead (reader_of remaining s.decoder) b a × (l ≡ Some s.levels) × HasNoneBehind s.pending a × HoldsDue s a
+abbrev pub StandsBefore : {S : Type 0} → (S → Option (List ℕ)) → ByteSource S → Limit → Ahead →
+    Type 0
+StandsBefore remaining s l a = (b : List ℕ) × IsUnread remaining s b ×
+    FitsAhead (reader_of remaining s.decoder) b a × (l ≡ Some s.levels) ×
+    HasNoneBehind s.pending a × HoldsDue s a
 
 -- what is left of a container with this count (None: open)
 abbrev pub parts_left : Option ℕ → Left
@@ -163,16 +179,24 @@ counted_parts left.Open = 0
 counted_parts (left.Bytes v) = 0
 
 -- behind a part of a container, of which q is left, it stands where it stood
-abbrev pub StandsStill : {S : Type 0} → (S → Option (List ℕ)) → ByteSource S → ByteSource S → ByteSeq → Type 0
+abbrev pub StandsStill : {S : Type 0} → (S → Option (List ℕ)) → ByteSource S → ByteSource S →
+    ByteSeq → Type 0
 StandsStill remaining old new q =
-    ((l : Limit) (form : Form) (is : List Item) (f : Rest) → StandsBefore remaining old (inside form l) (after (parts form is f)) → SeqStands q l (parts form is f) → StandsBefore remaining new (inside form l) (after (parts form is f))) ×
-    ((l : Limit) (form : Form) (ps : List (Item × Item)) (f : Rest) → StandsBefore remaining old (inside form l) (after (pairs form ps f)) → SeqStands q l (pairs form ps f) → StandsBefore remaining new (inside form l) (after (pairs form ps f)))
+    ((l : Limit) (form : Form) (is : List Item) (f : Rest) →
+    StandsBefore remaining old (inside form l) (after (parts form is f)) →
+    SeqStands q l (parts form is f) → StandsBefore remaining new (inside form l)
+    (after (parts form is f))) ×
+    ((l : Limit) (form : Form) (ps : List (Item × Item)) (f : Rest) →
+    StandsBefore remaining old (inside form l) (after (pairs form ps f)) →
+    SeqStands q l (pairs form ps f) → StandsBefore remaining new (inside form l)
+    (after (pairs form ps f)))
 
 -- ---- what is owed
 
 -- b began a container, and so many parts complete it, with a break where one is due
 abbrev pub OwesParts : {X : Type 0} → (List ℕ → X → Type 0) → Option ℕ → List ℕ → List ℕ → Type 0
-OwesParts {X} SpellsPart count b u = (t z : List ℕ) (xs : List X) → AreSpelled SpellsPart t xs → HasCount count xs → u ≡ t ++ (ending (form_of count) ++ z) → HasItem b z
+OwesParts {X} SpellsPart count b u = (t z : List ℕ) (xs : List X) → AreSpelled SpellsPart t xs →
+    HasCount count xs → u ≡ t ++ (ending (form_of count) ++ z) → HasItem b z
 
 -- b began a container of which this is left, and it is read up to u
 abbrev pub LeftOwes : Left → Shape → List ℕ → List ℕ → Type 0
@@ -187,21 +211,33 @@ abbrev pub SeqOwes : ByteSeq → Shape → List ℕ → List ℕ → Type 0
 SeqOwes q s b u = LeftOwes q.left s b u
 
 -- a sequence was entered
-abbrev pub EntersItemsUnread : {S A : Type 0} → (S → Option (List ℕ)) → ByteSource S → ByteSource S → Taken A → (Limit → List Item → Outcome A) → ByteSeq → Type 0
-EntersItemsUnread remaining old new taken f q = EntersUnread (IsUnread remaining) (λ p. SeqOwes p sequence) Spells (λ p. HoldsItems p.left) old new (Some old.levels) (Some new.levels) taken f q
+abbrev pub EntersItemsUnread : {S A : Type 0} → (S → Option (List ℕ)) → ByteSource S →
+    ByteSource S → Taken A → (Limit → List Item → Outcome A) → ByteSeq → Type 0
+EntersItemsUnread remaining old new taken f q =
+    EntersUnread (IsUnread remaining) (λ p. SeqOwes p sequence) Spells (λ p. HoldsItems p.left) old
+    new (Some old.levels) (Some new.levels) taken f q
 
 -- a map was entered
-abbrev pub EntersPairsUnread : {S A : Type 0} → (S → Option (List ℕ)) → ByteSource S → ByteSource S → Taken A → (Limit → List (Item × Item) → Outcome A) → ByteSeq → Type 0
-EntersPairsUnread remaining old new taken f q = EntersUnread (IsUnread remaining) (λ p. SeqOwes p dictionary) SpellsPair (λ p. HoldsPairs p.left) old new (Some old.levels) (Some new.levels) taken f q
+abbrev pub EntersPairsUnread : {S A : Type 0} → (S → Option (List ℕ)) → ByteSource S →
+    ByteSource S → Taken A → (Limit → List (Item × Item) → Outcome A) → ByteSeq → Type 0
+EntersPairsUnread remaining old new taken f q =
+    EntersUnread (IsUnread remaining) (λ p. SeqOwes p dictionary) SpellsPair
+    (λ p. HoldsPairs p.left) old new (Some old.levels) (Some new.levels) taken f q
 
 -- what is left of a sequence was read: f takes this from its items, and the source stands past it
-abbrev pub ReadsRest : {S A : Type 0} → (S → Option (List ℕ)) → ByteSource S → ByteSource S → ByteSeq → (Limit → List Item → Outcome A) → A → Type 0
-ReadsRest remaining old new q f v = (l : Limit) (form : Form) (is : List Item) (r : Rest) → StandsBefore remaining old (inside form l) (after (parts form is r)) → SeqStands q l (parts form is r) →
+abbrev pub ReadsRest : {S A : Type 0} → (S → Option (List ℕ)) → ByteSource S → ByteSource S →
+    ByteSeq → (Limit → List Item → Outcome A) → A → Type 0
+ReadsRest remaining old new q f v = (l : Limit) (form : Form) (is : List Item) (r : Rest) →
+    StandsBefore remaining old (inside form l) (after (parts form is r)) →
+    SeqStands q l (parts form is r) →
     (f (inside form l) is ≡ gives v) × StandsBefore remaining new l (past r)
 
 -- it is refused only where the items that are left are, and for that
-abbrev pub RefusesRest : {S A : Type 0} → (S → Option (List ℕ)) → ByteSource S → ByteSeq → (Limit → List Item → Outcome A) → Fault → Type 0
-RefusesRest remaining old q f fault = (l : Limit) (form : Form) (is : List Item) (r : Rest) → StandsBefore remaining old (inside form l) (after (parts form is r)) → SeqStands q l (parts form is r) →
+abbrev pub RefusesRest : {S A : Type 0} → (S → Option (List ℕ)) → ByteSource S → ByteSeq →
+    (Limit → List Item → Outcome A) → Fault → Type 0
+RefusesRest remaining old q f fault = (l : Limit) (form : Form) (is : List Item) (r : Rest) →
+    StandsBefore remaining old (inside form l) (after (parts form is r)) →
+    SeqStands q l (parts form is r) →
     IsFaultOf (end_of r) fault (f (inside form l) is)
 
 -- ---- how much can still be read
@@ -238,15 +274,18 @@ HasBytes (left.Bytes v) P = P (into_iter_items v)
 
 -- ---- what a call leaves and answers
 
--- the reader is the same, a beginning of what was unread was taken, no more is left to read, and behind an answer no head is pending
-pub record KeepsSource {S A E : Type 0} (remaining : S → Option (List ℕ)) (old new : ByteSource S) (result : Result A E) : Type 0 where
+-- the reader is the same, a beginning of what was unread was taken, no more is left to read, and
+-- behind an answer no head is pending
+pub record KeepsSource {S A E : Type 0} (remaining : S → Option (List ℕ)) (old new : ByteSource S)
+    (result : Result A E) : Type 0 where
   pub same_reader : HasSameReader old.decoder new.decoder
   pub only : TakesOnly (HasTaken remaining) old.decoder new.decoder
   pub no_more : OnErr result (weight_left new ≤ weight_left old)
   pub pending : OnOk result (new.pending ≡ None)
 
 -- the same of the head behind any number of tags
-pub record ReadsBareHead {S : Type 0} (remaining : S → Option (List ℕ)) (old new : ByteSource S) (numbers : Bool) (result : Result (Header × ℕ) (Error (Unit {0}))) : Type 0 where
+pub record ReadsBareHead {S : Type 0} (remaining : S → Option (List ℕ)) (old new : ByteSource S)
+    (numbers : Bool) (result : Result (Header × ℕ) (Error (Unit {0}))) : Type 0 where
   pub same_reader : HasSameReader old.decoder new.decoder
   pub only : TakesOnly (HasTaken remaining) old.decoder new.decoder
   pub no_more : OnErr result (weight_left new ≤ weight_left old)
@@ -256,19 +295,27 @@ pub record ReadsBareHead {S : Type 0} (remaining : S → Option (List ℕ)) (old
   pub bare : IfOk result (λ h. IsBare numbers h.0)
   pub memory : IfErr result (λ e. IsGrantedFault (fault_of e) false)
 
--- the item ahead was taken and gives what counts of the answer, or it is refused, and only where the item is
-abbrev pub AnswersItem : {S A T : Type 0} → (S → Option (List ℕ)) → ByteSource S → ByteSource S → Limit → Taken A → (T → A) → Result T (Error (Unit {0})) → Type 0
+-- the item ahead was taken and gives what counts of the answer, or it is refused, and only where
+-- the item is
+abbrev pub AnswersItem : {S A T : Type 0} → (S → Option (List ℕ)) → ByteSource S → ByteSource S →
+    Limit → Taken A → (T → A) → Result T (Error (Unit {0})) → Type 0
 AnswersItem remaining old new l taken content result =
-    MatchResult result (λ v. Reads (IsUnread remaining) old new l taken (content v)) (λ e. Denies (IsUnread remaining) (end_at remaining) old l taken (fault_of e))
+    MatchResult result (λ v. Reads (IsUnread remaining) old new l taken (content v))
+    (λ e. Denies (IsUnread remaining) (end_at remaining) old l taken (fault_of e))
 
 -- ---- a value of any shape
 
 -- the head alone spells an item, which means this tree and takes no level
 abbrev pub MeansTree : Header → Tree → Type 0
-MeansTree h v = (s : List ℕ) → SpellsHeader s h → (i : Item) × Spells s i × (meaning i ≡ Some v) × (nesting i ≡ 0)
+MeansTree h v = (s : List ℕ) → SpellsHeader s h → (i : Item) × Spells s i × (meaning i ≡ Some v) ×
+    (nesting i ≡ 0)
 
--- the value ahead, the bytes of a head that was pending included, was read so, whatever follows the bytes that were taken
-abbrev pub ReadsValue : {S E : Type 0} → (S → Option (List ℕ)) → ByteSource S → ByteSource S → Result Tree (Error E) → Type 0
+-- the value ahead, the bytes of a head that was pending included, was read so, whatever follows the
+-- bytes that were taken
+abbrev pub ReadsValue : {S E : Type 0} → (S → Option (List ℕ)) → ByteSource S → ByteSource S →
+    Result Tree (Error E) → Type 0
 ReadsValue remaining old new r =
     LeavesReader old.decoder new.decoder r ×
-    TakesBeforeAny remaining old.decoder new.decoder (λ d e. (xs : List ℕ) (p : ℕ) → IsAheadBy Some d xs p old.pending → IsTreeRead any Some e old.levels xs p r)
+    TakesBeforeAny remaining old.decoder new.decoder
+    (λ d e. (xs : List ℕ) (p : ℕ) → IsAheadBy Some d xs p old.pending →
+    IsTreeRead any Some e old.levels xs p r)

@@ -11,22 +11,27 @@ use Rattle.ciborium_value.specs.Taken.{Taken, gives}
 module _ {S : Type 0} (IsUnread : S → List ℕ → Type 0) where
   -- a head stood there, and was taken
   abbrev pub TakesHead : S → S → Header → Type 0
-  TakesHead old new h = (b : List ℕ) → IsUnread old b → (x : List ℕ) × (y : List ℕ) × SpellsHeader x h × (b ≡ x ++ y) × IsUnread new y
+  TakesHead old new h = (b : List ℕ) → IsUnread old b → (x : List ℕ) × (y : List ℕ) ×
+      SpellsHeader x h × (b ≡ x ++ y) × IsUnread new y
 
   -- an item stood there, was taken and gives this
   abbrev pub Reads : {A : Type 0} → S → S → Limit → Taken A → A → Type 0
-  Reads old new l taken v = (b : List ℕ) → IsUnread old b → (i : Item) × (s : List ℕ) × (z : List ℕ) × Spells s i × (b ≡ s ++ z) × (taken l i ≡ gives v) × IsUnread new z
+  Reads old new l taken v = (b : List ℕ) → IsUnread old b → (i : Item) × (s : List ℕ) ×
+      (z : List ℕ) × Spells s i × (b ≡ s ++ z) × (taken l i ≡ gives v) × IsUnread new z
 
 -- what is there ends at the offset that End says
 module _ {S : Type 0} (IsUnread : S → List ℕ → Type 0) (End : S → ℕ) where
   -- where a head stands, with its payload, it is refused for what no head decides
   abbrev pub DeniesHead : S → Fault → Type 0
-  DeniesHead old fault = (b x y : List ℕ) (h : Header) → IsUnread old b → SpellsHeader x h → b ≡ x ++ y → announced_length h ≤ length y → IsOutsideFault (End old) fault
+  DeniesHead old fault = (b x y : List ℕ) (h : Header) → IsUnread old b → SpellsHeader x h →
+      b ≡ x ++ y → announced_length h ≤ length y → IsOutsideFault (End old) fault
 
   -- where an item stands it is refused only where the item is, and for that
   abbrev pub Denies : {A : Type 0} → S → Limit → Taken A → Fault → Type 0
-  Denies old l taken fault = (b s z : List ℕ) (i : Item) → IsUnread old b → Spells s i → b ≡ s ++ z → IsFaultOf (End old) fault (taken l i)
+  Denies old l taken fault = (b s z : List ℕ) (i : Item) → IsUnread old b → Spells s i →
+      b ≡ s ++ z → IsFaultOf (End old) fault (taken l i)
 
   -- where an item stands it is refused for what no item decides
   abbrev pub DeniesItem : S → Fault → Type 0
-  DeniesItem old fault = (b s z : List ℕ) (i : Item) → IsUnread old b → Spells s i → b ≡ s ++ z → IsOutsideFault (End old) fault
+  DeniesItem old fault = (b s z : List ℕ) (i : Item) → IsUnread old b → Spells s i → b ≡ s ++ z →
+      IsOutsideFault (End old) fault

@@ -1,5 +1,6 @@
 -- What stands at the front of what is ahead, with l levels left.
-use Rattle.std.specs.Prelude.{◌≡◌, ℕ, suc, ◌+◌, ◌<◌, ◌≤◌, ◌⊎◌, List, [], ◌∷◌, ◌++◌, length, Option, Some, None, MatchOption, Result, Ok, Err, Bool, true, false}
+use Rattle.std.specs.Prelude.{◌≡◌, ℕ, suc, ◌+◌, ◌<◌, ◌≤◌, ◌⊎◌, List, [], ◌∷◌, ◌++◌, length, Option}
+use Rattle.std.specs.Prelude.{Some, None, MatchOption, Result, Ok, Err, Bool, true, false}
 use Rattle.ciborium_ll.specs.declared.header.Header.{Header}
 use Rattle.ciborium_ll.specs.declared.header.Header.TheVariants as header
 use Rattle.ciborium_ll.specs.declared.decoder.Decoder.{Decoder}
@@ -17,12 +18,14 @@ use Rattle.ciborium_value.specs.Tree as trees
 use Rattle.ciborium_value.specs.Tree.{Tree}
 use Rattle.ciborium_value.specs.View.{tree_of}
 use Rattle.ciborium.specs.declared.de.error.Error.{Error}
-use Rattle.ciborium.specs.declared.de.error.Error.TheVariants.{Semantic, RecursionLimitExceeded, Memory}
+use Rattle.ciborium.specs.declared.de.error.Error.TheVariants.{Semantic, RecursionLimitExceeded}
+use Rattle.ciborium.specs.declared.de.error.Error.TheVariants.{Memory}
 use Rattle.ciborium.specs.declared.de.front.Part.{Part}
 use Rattle.ciborium.specs.declared.de.front.Part.TheVariants.{Whole, Opened, Ended}
 use Rattle.ciborium.specs.inner.Around.{IsInside}
 use Rattle.ciborium.specs.Errors.{IsRefusedBy}
-use Rattle.ciborium.specs.DeterministicRefusals.{ContainerKind, of_array, of_map, DeterministicallyRefuses}
+use Rattle.ciborium.specs.DeterministicRefusals.{ContainerKind, of_array, of_map}
+use Rattle.ciborium.specs.DeterministicRefusals.{DeterministicallyRefuses}
 use Rattle.ciborium.specs.inner.ValuesInBytes.{ReadsItem, IsAt, IsPulled, IsBreakAt, StandsAt}
 use Rattle.ciborium.specs.Spelling.{Spelling, any, deterministic, head_fault, IsUnwanted}
 
@@ -37,7 +40,8 @@ abbrev pub container_kind : Bool → ContainerKind
 container_kind true = of_map
 container_kind false = of_array
 
--- the head of a container with this count (None: open), its tree where it has no parts, and its frame before the first part
+-- the head of a container with this count (None: open), its tree where it has no parts, and its
+-- frame before the first part
 abbrev pub container_header : ContainerKind → Option ℕ → Header
 container_header of_array count = header.Array count
 container_header of_map count = header.Map count
@@ -51,9 +55,12 @@ begun_container of_array behind = array [] behind
 begun_container of_map behind = map [] behind None
 
 -- what follows that head
-abbrev pub IsContainerBegun : {E : Type 0} → ContainerKind → Option ℕ → ℕ → Result Part (Error E) → Type 0
-IsContainerBegun kind count l (Ok (Whole v)) = (count ≡ Some 0) × (0 < l) × (tree_of v ≡ empty_container kind)
-IsContainerBegun kind count l (Ok (Opened f)) = (0 < l) × (behind : Option ℕ) × (begun_frame f ≡ begun_container kind behind) × IsBehind count behind
+abbrev pub IsContainerBegun : {E : Type 0} → ContainerKind → Option ℕ → ℕ → Result Part (Error E) →
+    Type 0
+IsContainerBegun kind count l (Ok (Whole v)) = (count ≡ Some 0) × (0 < l) ×
+    (tree_of v ≡ empty_container kind)
+IsContainerBegun kind count l (Ok (Opened f)) = (0 < l) × (behind : Option ℕ) ×
+    (begun_frame f ≡ begun_container kind behind) × IsBehind count behind
 IsContainerBegun kind count l (Ok Ended) = ⊥
 IsContainerBegun kind count l (Err e) = (l ≡ 0) × (e ≡ RecursionLimitExceeded)
 
@@ -71,30 +78,38 @@ abbrev pub RefusesPart : Spelling → List ℕ → ℕ → ℕ → Refusal → T
 RefusesPart any xs p l = λ r. Refuses xs p (Some l) r × ¬ IsBreakAt xs p
 RefusesPart (deterministic order) xs p l = DeterministicallyRefuses order xs p l
 
--- a head was pulled where xs was ahead from offset p on, and is accepted; for the deterministic spelling the decoder knows its size
+-- a head was pulled where xs was ahead from offset p on, and is accepted; for the deterministic
+-- spelling the decoder knows its size
 abbrev pub IsHeadMeasured : {S : Type 0} → Spelling → Decoder S → ℕ → Type 0
 IsHeadMeasured any d p = Unit {0}
 IsHeadMeasured (deterministic order) d p = d.window.count ≡ p + d.head_len
 
-pub record IsHeadAccepted {S : Type 0} (spelling : Spelling) (remaining : S → Option (List ℕ)) (d : Decoder S) (h : Header) (xs : List ℕ) (p : ℕ) : Type 0 where
+pub record IsHeadAccepted {S : Type 0} (spelling : Spelling) (remaining : S → Option (List ℕ))
+    (d : Decoder S) (h : Header) (xs : List ℕ) (p : ℕ) : Type 0 where
   pub pulled : IsPulled remaining d h xs p
   pub right : head_fault spelling h d.head_len ≡ None
   pub sized : IsHeadMeasured spelling d p
 
 -- the answer of a call that pulls a head
-abbrev pub IsHeadRead : {S E : Type 0} → (S → Option (List ℕ)) → Decoder S → List ℕ → ℕ → Result Header (Error E) → Type 0
+abbrev pub IsHeadRead : {S E : Type 0} → (S → Option (List ℕ)) → Decoder S → List ℕ → ℕ →
+    Result Header (Error E) → Type 0
 IsHeadRead remaining d xs p (Ok h) = IsPulled remaining d h xs p
 IsHeadRead remaining d xs p (Err e) = IsRefusedBy (left_of remaining d) e (HeadRefuses xs p)
 
 -- the answer of a call that reads a part
-abbrev pub IsPartRead : {S E : Type 0} → Spelling → (S → Option (List ℕ)) → Decoder S → ℕ → List ℕ → ℕ → Result Part (Error E) → Type 0
+abbrev pub IsPartRead : {S E : Type 0} → Spelling → (S → Option (List ℕ)) → Decoder S → ℕ → List ℕ →
+    ℕ → Result Part (Error E) → Type 0
 IsPartRead spelling remaining d l xs p (Ok (Whole v)) =
-    (zs : List ℕ) × (r : ℕ) × ReadsItem spelling l xs p (tree_of v) zs r × StandsAt spelling remaining d zs r
+    (zs : List ℕ) × (r : ℕ) × ReadsItem spelling l xs p (tree_of v) zs r ×
+    StandsAt spelling remaining d zs r
 IsPartRead spelling remaining d l xs p (Ok (Opened f)) =
-    (zs : List ℕ) × (r : ℕ) × IsFrameBegun spelling l xs p (begun_frame f) zs r × StandsAt spelling remaining d zs r
+    (zs : List ℕ) × (r : ℕ) × IsFrameBegun spelling l xs p (begun_frame f) zs r ×
+    StandsAt spelling remaining d zs r
 IsPartRead spelling remaining d l xs p (Ok Ended) =
-    (zs : List ℕ) × (xs ≡ break_byte ∷ zs) × (p < greatest_offset) × StandsAt spelling remaining d zs (p + 1)
-IsPartRead spelling remaining d l xs p (Err e) = IsRefusedBy (left_of remaining d) e (RefusesPart spelling xs p l)
+    (zs : List ℕ) × (xs ≡ break_byte ∷ zs) × (p < greatest_offset) ×
+    StandsAt spelling remaining d zs (p + 1)
+IsPartRead spelling remaining d l xs p (Err e) =
+    IsRefusedBy (left_of remaining d) e (RefusesPart spelling xs p l)
 
 -- a level is left for what was opened
 abbrev pub HasLevel : Part → ℕ → Type 0
@@ -102,31 +117,39 @@ HasLevel (Whole v) l = Unit {0}
 HasLevel (Opened f) l = 0 < l
 HasLevel Ended l = Unit {0}
 
--- no head is pushed behind a whole value or a break, nor behind what announced how many parts are due
+-- no head is pushed behind a whole value or a break, nor behind what announced how many parts are
+-- due
 abbrev pub IsAtRest : Part → Option (Header × ℕ) → Type 0
 IsAtRest (Whole v) pushed = pushed ≡ None
-IsAtRest (Opened f) pushed = MatchOption pushed (Unit {0}) (λ head. parts_due (begun_frame f ∷ []) ≡ 0)
+IsAtRest (Opened f) pushed = MatchOption pushed (Unit {0})
+    (λ head. parts_due (begun_frame f ∷ []) ≡ 0)
 IsAtRest Ended pushed = pushed ≡ None
 
 -- what the bytes over which a tag at offset p folds are read as
 abbrev pub IsFolded : {E : Type 0} → ℕ → List ℕ → ℕ → Result Value (Error E) → Type 0
 IsFolded t b p (Ok v) = bignum_meaning t b ≡ Some (tree_of v)
-IsFolded t b p (Err e) = (e ≡ Memory) ⊎ ((bignum_meaning t b ≡ None) × (e ≡ Semantic (Some p) kinds.TooLarge))
+IsFolded t b p (Err e) = (e ≡ Memory) ⊎ ((bignum_meaning t b ≡ None) ×
+    (e ≡ Semantic (Some p) kinds.TooLarge))
 
--- the n bytes at the front of xs, over which a tag at offset p folds, are refused: they end early, have another spelling, or their
+-- the n bytes at the front of xs, over which a tag at offset p folds, are refused: they end early,
+-- have another spelling, or their
 -- number is too large
 abbrev pub BignumRefuses : Spelling → ℕ → ℕ → ℕ → List ℕ → Refusal → Type 0
 BignumRefuses spelling t n p xs e =
     ((length xs < n) × (e ≡ io))
     ⊎ ((b : List ℕ) × (r : List ℕ) × (length b ≡ n) × AreBytes b × (xs ≡ b ++ r) ×
-    ((IsUnwanted spelling b × (e ≡ semantic p NotFolded)) ⊎ ((bignum_meaning t b ≡ None) × (e ≡ semantic p TooLarge))))
+    ((IsUnwanted spelling b × (e ≡ semantic p NotFolded)) ⊎
+    ((bignum_meaning t b ≡ None) × (e ≡ semantic p TooLarge))))
 
 -- the answer of a call that reads the n bytes over which a tag at offset at folds
-abbrev pub IsBignumRead : {S E : Type 0} → Spelling → (S → Option (List ℕ)) → Decoder S → ℕ → ℕ → ℕ → List ℕ → ℕ → Result Value (Error E) → Type 0
+abbrev pub IsBignumRead : {S E : Type 0} → Spelling → (S → Option (List ℕ)) → Decoder S → ℕ → ℕ →
+    ℕ → List ℕ → ℕ → Result Value (Error E) → Type 0
 IsBignumRead spelling remaining d t n at xs p (Ok v) =
-    (b : List ℕ) × (r : List ℕ) × (length b ≡ n) × AreBytes b × ¬ IsUnwanted spelling b × (bignum_meaning t b ≡ Some (tree_of v)) × (xs ≡ b ++ r) ×
+    (b : List ℕ) × (r : List ℕ) × (length b ≡ n) × AreBytes b × ¬ IsUnwanted spelling b ×
+    (bignum_meaning t b ≡ Some (tree_of v)) × (xs ≡ b ++ r) ×
     IsAt remaining d r (p + n)
-IsBignumRead spelling remaining d t n at xs p (Err e) = p + n ≤ greatest_offset → IsRefusedBy (left_of remaining d) e (BignumRefuses spelling t n at xs)
+IsBignumRead spelling remaining d t n at xs p (Err e) = p + n ≤ greatest_offset →
+    IsRefusedBy (left_of remaining d) e (BignumRefuses spelling t n at xs)
 
 -- whether a tag folds over what has this header behind it, and over how many bytes
 abbrev pub IsFolding : ℕ → Header → Option ℕ → Type 0

@@ -1,5 +1,6 @@
 -- What reading the payload of a string answers.
-use Rattle.std.specs.Prelude.{◌≡◌, ℕ, ◌+◌, ◌≤◌, List, ◌++◌, length, Option, Result, Ok, Err, Bool, true, false}
+use Rattle.std.specs.Prelude.{◌≡◌, ℕ, ◌+◌, ◌≤◌, List, ◌++◌, length, Option, Result, Ok, Err, Bool}
+use Rattle.std.specs.Prelude.{true, false}
 use Rattle.ciborium_ll.specs.declared.decoder.Decoder.{Decoder}
 use Rattle.ciborium_ll.specs.Bytes.{greatest_offset}
 use Rattle.ciborium_ll.specs.Decoding.{left_of}
@@ -23,8 +24,11 @@ string_tree of_bytes b = trees.bytes b
 string_tree of_text b = trees.text b
 
 -- the payload of a string of this length, whose head is at offset at, stands at xs, offset p
-abbrev pub IsStringRead : {S E : Type 0} → StringKind → (S → Option (List ℕ)) → Decoder S → Option ℕ → ℕ → List ℕ → ℕ → Result Value (Error E) → Type 0
+abbrev pub IsStringRead : {S E : Type 0} → StringKind → (S → Option (List ℕ)) → Decoder S →
+    Option ℕ → ℕ → List ℕ → ℕ → Result Value (Error E) → Type 0
 IsStringRead {S} {E} kind remaining d len at xs p (Ok v) =
-    (b : List ℕ) × (added : List ℕ) × (r : List ℕ) × IsStringTaken {E = E} kind len at b p (Ok tt) added × (tree_of v ≡ string_tree kind added) ×
+    (b : List ℕ) × (added : List ℕ) × (r : List ℕ) ×
+    IsStringTaken {E = E} kind len at b p (Ok tt) added × (tree_of v ≡ string_tree kind added) ×
     (xs ≡ b ++ r) × IsAt remaining d r (p + length b) × (p + length b ≤ greatest_offset)
-IsStringRead kind remaining d len at xs p (Err e) = IsRefusedBy (left_of remaining d) e (ContentRefuses kind len at xs p)
+IsStringRead kind remaining d len at xs p (Err e) =
+    IsRefusedBy (left_of remaining d) e (ContentRefuses kind len at xs p)

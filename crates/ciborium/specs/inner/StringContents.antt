@@ -1,5 +1,6 @@
 -- What is read behind the head of a string: its payload, or the number that its bytes make.
-use Rattle.std.specs.Prelude.{◌≡◌, ℕ, ◌+◌, ◌≤◌, ◌*◌, ◌^◌, List, [], ◌∷◌, ◌++◌, length, Option, Some, None, if◌then◌else◌, nat_lt}
+use Rattle.std.specs.Prelude.{◌≡◌, ℕ, ◌+◌, ◌≤◌, ◌*◌, ◌^◌, List, [], ◌∷◌, ◌++◌, length, Option, Some}
+use Rattle.std.specs.Prelude.{None, if◌then◌else◌, nat_lt}
 use Rattle.ciborium_ll.specs.declared.header.Header.{Header}
 use Rattle.ciborium_ll.specs.declared.header.Header.TheVariants as header
 use Rattle.ciborium_ll.specs.Bytes.{AreBytes}
@@ -22,7 +23,8 @@ string_item of_text len b = text (is_open len) b
 
 -- c, behind any head of the string, makes the string with this payload
 abbrev pub IsContent : StringKind → Option ℕ → List ℕ → List ℕ → Type 0
-IsContent kind len c payload = (x : List ℕ) → SpellsHeader x (head_of kind len) → Spells (x ++ c) (string_item kind len payload)
+IsContent kind len c payload = (x : List ℕ) → SpellsHeader x (head_of kind len) →
+    Spells (x ++ c) (string_item kind len payload)
 
 -- the number so far and one byte more, where 128 bits hold it
 abbrev pub one_digit_more : Option ℕ → ℕ → Option ℕ
@@ -41,26 +43,34 @@ module _ (P Q : List ℕ → Type 0) where
 
   -- the payload was taken
   abbrev pub TakesContent : StringKind → Option ℕ → List ℕ → Type 0
-  TakesContent kind len payload = (y : List ℕ) → P y → (c : List ℕ) × (z : List ℕ) × IsContent kind len c payload × (y ≡ c ++ z) × Q z
+  TakesContent kind len payload = (y : List ℕ) → P y → (c : List ℕ) × (z : List ℕ) ×
+      IsContent kind len c payload × (y ≡ c ++ z) × Q z
 
   -- n bytes were taken, which make the number start this one
   abbrev pub TakesDigits : ℕ → Option ℕ → Option ℕ → Type 0
-  TakesDigits n start v = (y : List ℕ) → P y → (c : List ℕ) × (z : List ℕ) × (length c ≡ n) × AreBytes c × (v ≡ digits_of start c) × (y ≡ c ++ z) × Q z
+  TakesDigits n start v = (y : List ℕ) → P y → (c : List ℕ) × (z : List ℕ) × (length c ≡ n) ×
+      AreBytes c × (v ≡ digits_of start c) × (y ≡ c ++ z) × Q z
 
   -- the payload of a byte string was taken, which makes this number
   abbrev pub TakesNumber : Option ℕ → Option ℕ → Type 0
   TakesNumber len v =
-      (y : List ℕ) → P y → (payload : List ℕ) × (c : List ℕ) × (z : List ℕ) × IsContent of_bytes len c payload × (v ≡ digits_of (Some 0) payload) × AreBytes payload × (y ≡ c ++ z) × Q z
+      (y : List ℕ) → P y → (payload : List ℕ) × (c : List ℕ) × (z : List ℕ) ×
+      IsContent of_bytes len c payload × (v ≡ digits_of (Some 0) payload) × AreBytes payload ×
+      (y ≡ c ++ z) × Q z
 
   -- of an open byte string some parts were taken, which make this number
   abbrev pub TakesParts : Option ℕ → Type 0
   TakesParts v =
-      (y : List ℕ) → P y → (ps : List (List ℕ)) × (c : List ℕ) × (z : List ℕ) × AreChunks 2 AreBytes c ps × (v ≡ digits_of (Some 0) (joined ps)) × AreBytes (joined ps) × (y ≡ c ++ z) × Q z
+      (y : List ℕ) → P y → (ps : List (List ℕ)) × (c : List ℕ) × (z : List ℕ) ×
+      AreChunks 2 AreBytes c ps × (v ≡ digits_of (Some 0) (joined ps)) × AreBytes (joined ps) ×
+      (y ≡ c ++ z) × Q z
 
--- where a string with this head is spelled, and what is there ends at this offset, it is refused for what the string does not decide
+-- where a string with this head is spelled, and what is there ends at this offset, it is refused
+-- for what the string does not decide
 abbrev pub DeniesContent : (List ℕ → Type 0) → ℕ → StringKind → Option ℕ → Fault → Type 0
 DeniesContent P end kind len fault =
-    (y x s z payload : List ℕ) → P y → SpellsHeader x (head_of kind len) → Spells s (string_item kind len payload) → x ++ y ≡ s ++ z → IsOutsideFault end fault
+    (y x s z payload : List ℕ) → P y → SpellsHeader x (head_of kind len) →
+    Spells s (string_item kind len payload) → x ++ y ≡ s ++ z → IsOutsideFault end fault
 
 -- where n bytes are there
 abbrev pub DeniesJust : (List ℕ → Type 0) → ℕ → ℕ → Fault → Type 0

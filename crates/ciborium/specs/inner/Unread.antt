@@ -4,7 +4,8 @@ use Rattle.std.specs.Borrow.{GName}
 use Rattle.ciborium_ll.specs.Head.{break_byte}
 use Rattle.ciborium_ll.specs.Item.{Item}
 use Rattle.ciborium_ll.specs.Spells.{Spells}
-use Rattle.ciborium_value.specs.Ahead.{Ahead, Rest, Form, counted, until_break, of_bytes, bottom, parts, pairs, entry, held, item, after}
+use Rattle.ciborium_value.specs.Ahead.{Ahead, Rest, Form, counted, until_break, of_bytes, bottom}
+use Rattle.ciborium_value.specs.Ahead.{parts, pairs, entry, held, item, after}
 
 -- a key and its value, in the bytes
 abbrev pub SpellsPair : List ℕ → Item × Item → Type 0
@@ -30,9 +31,11 @@ module _ {X : Type 0} (SpellsPart : List ℕ → X → Type 0) where
   -- each part in turn
   abbrev pub AreSpelled : List ℕ → List X → Type 0
   AreSpelled b [] = b ≡ []
-  AreSpelled b (x ∷ xs) = (s : List ℕ) × (r : List ℕ) × SpellsPart s x × AreSpelled r xs × (b ≡ s ++ r)
+  AreSpelled b (x ∷ xs) = (s : List ℕ) × (r : List ℕ) × SpellsPart s x × AreSpelled r xs ×
+      (b ≡ s ++ r)
 
-  -- the parts left of a container of this form; the bytes of a byte string are read before its parts are
+  -- the parts left of a container of this form; the bytes of a byte string are read before its
+  -- parts are
   abbrev pub AreLeft : Form → List ℕ → List X → Type 0
   AreLeft counted b xs = AreSpelled b xs
   AreLeft until_break b xs = AreSpelled b xs
@@ -42,10 +45,14 @@ module _ (reader : GName × ℕ) where
   -- b is this rest, in the reader of this name, up to this offset
   abbrev pub IsRest : List ℕ → Rest → Type 0
   IsRest b (bottom m r) = (b ≡ r) × (m ≡ reader)
-  IsRest b (parts form is f) = (s : List ℕ) × (r : List ℕ) × AreLeft Spells form s is × IsRest r f × (b ≡ s ++ (ending form ++ r))
-  IsRest b (pairs form ps f) = (s : List ℕ) × (r : List ℕ) × AreLeft SpellsPair form s ps × IsRest r f × (b ≡ s ++ (ending form ++ r))
+  IsRest b (parts form is f) = (s : List ℕ) × (r : List ℕ) × AreLeft Spells form s is × IsRest r f ×
+      (b ≡ s ++ (ending form ++ r))
+  IsRest b (pairs form ps f) = (s : List ℕ) × (r : List ℕ) × AreLeft SpellsPair form s ps ×
+      IsRest r f × (b ≡ s ++ (ending form ++ r))
   IsRest b (entry v form ps f) =
-      (t : List ℕ) × (c : List ℕ) × Spells t v × ((s : List ℕ) × (r : List ℕ) × AreLeft SpellsPair form s ps × IsRest r f × (c ≡ s ++ (ending form ++ r))) × (b ≡ t ++ c)
+      (t : List ℕ) × (c : List ℕ) × Spells t v ×
+      ((s : List ℕ) × (r : List ℕ) × AreLeft SpellsPair form s ps × IsRest r f ×
+      (c ≡ s ++ (ending form ++ r))) × (b ≡ t ++ c)
   IsRest b (held f) = IsRest b f
 
   -- b is what a source stands before

@@ -10,15 +10,19 @@ use Rattle.ciborium_ll.specs.Decoding.{IsAhead, IsMeasured, left_of}
 use Rattle.ciborium_value.specs.Tree.{Tree}
 use Rattle.ciborium.specs.Spelling.{Spelling, any, deterministic, IsReadBy}
 
--- ys, whose first byte is at offset q, begins with an item that is read as v within l levels; zs follows it, at offset r
-pub record ReadsItem (spelling : Spelling) (l : ℕ) (ys : List ℕ) (q : ℕ) (v : Tree) (zs : List ℕ) (r : ℕ) : Type 0 where
+-- ys, whose first byte is at offset q, begins with an item that is read as v within l levels; zs
+-- follows it, at offset r
+pub record ReadsItem (spelling : Spelling) (l : ℕ) (ys : List ℕ) (q : ℕ) (v : Tree) (zs : List ℕ)
+    (r : ℕ) : Type 0 where
   pub taken : List ℕ
   pub read : IsReadBy spelling taken q l v
   pub split : ys ≡ taken ++ zs
   pub at : r ≡ q + length taken
 
--- b is ahead, its first byte at offset p; for the deterministic spelling the decoder knows how many bytes its last head has
-abbrev pub StandsAt : {S : Type 0} → Spelling → (S → Option (List ℕ)) → Decoder S → List ℕ → ℕ → Type 0
+-- b is ahead, its first byte at offset p; for the deterministic spelling the decoder knows how many
+-- bytes its last head has
+abbrev pub StandsAt : {S : Type 0} → Spelling → (S → Option (List ℕ)) → Decoder S → List ℕ → ℕ →
+    Type 0
 StandsAt any remaining d b p = IsAhead remaining d b p
 StandsAt (deterministic order) remaining d b p = IsAhead remaining d b p × IsMeasured d
 
@@ -27,9 +31,11 @@ abbrev pub IsAt : {S : Type 0} → (S → Option (List ℕ)) → Decoder S → L
 IsAt remaining d xs p = (d.window.count ≡ p) × (left_of remaining d ≡ Some xs)
 
 -- a head was pulled where xs was ahead from offset p on
-abbrev pub IsPulled : {S : Type 0} → (S → Option (List ℕ)) → Decoder S → Header → List ℕ → ℕ → Type 0
+abbrev pub IsPulled : {S : Type 0} → (S → Option (List ℕ)) → Decoder S → Header → List ℕ → ℕ →
+    Type 0
 IsPulled remaining d header xs p =
-    (h : List ℕ) × (r : List ℕ) × SpellsHeader h header × IsUsable xs p × (xs ≡ h ++ r) × (d.last ≡ p) × IsAt remaining d r (p + length h)
+    (h : List ℕ) × (r : List ℕ) × SpellsHeader h header × IsUsable xs p × (xs ≡ h ++ r) ×
+    (d.last ≡ p) × IsAt remaining d r (p + length h)
 
 -- a break stands at the front and may be read
 abbrev pub IsBreakAt : List ℕ → ℕ → Type 0

@@ -19,8 +19,10 @@ EncodingSpells = (v : Tree) → IsProperTree v → Spells (encoding v) (item_of 
 
 -- and each other spelling of that item is longer
 abbrev pub OthersAreLonger : Type 0
-OthersAreLonger = (v : Tree) (s : List ℕ) → IsProperTree v → Spells s (item_of v) → (s ≡ encoding v) ⊎ (length (encoding v) < length s)
+OthersAreLonger = (v : Tree) (s : List ℕ) → IsProperTree v → Spells s (item_of v) →
+    (s ≡ encoding v) ⊎ (length (encoding v) < length s)
 
 -- the shortest heads of one major type are ordered bytewise as their numbers
 abbrev pub HeadsRise : Type 0
-HeadsRise = (major n k : ℕ) → IsArgument n → IsArgument k → slice_cmp nat_cmp (shortest_head major n) (shortest_head major k) ≡ nat_cmp n k
+HeadsRise = (major n k : ℕ) → IsArgument n → IsArgument k →
+    slice_cmp nat_cmp (shortest_head major n) (shortest_head major k) ≡ nat_cmp n k

@@ -1,5 +1,7 @@
--- What is written of a value whose tree has an accepted spelling is read back by the deterministic reader (RFC 8949, section 4.2).
-use Rattle.std.specs.Prelude.{◌≡◌, ℕ, ◌≤◌, List, [], ◌++◌, length, map, Option, Some, None, Result, Ok, Err}
+-- What is written of a value whose tree has an accepted spelling is read back by the deterministic
+-- reader (RFC 8949, section 4.2).
+use Rattle.std.specs.Prelude.{◌≡◌, ℕ, ◌≤◌, List, [], ◌++◌, length, map, Option, Some, None, Result}
+use Rattle.std.specs.Prelude.{Ok, Err}
 use Rattle.std.specs.List.{All}
 use Rattle.std.specs.BTreeMap.{BTreeMap}
 use Rattle.std.specs.declared.io.Error.{Error as IoError}
@@ -26,32 +28,46 @@ use Rattle.ciborium.specs.Spelling.{deterministic}
 use Rattle.ciborium.specs.declared.ser.error.Error.{Error as WriteError}
 use Rattle.ciborium.specs.Writes.{IsNamedWritten, WritesNamed}
 
--- just these bytes were taken, and `deserialized` makes the content of what is answered; or the reader failed, or memory was refused
-abbrev pub IsLoaded : {C E : Type 0} → Taken C → C → List ℕ → Option (List ℕ) → Result Tree (Error E) → Type 0
+-- just these bytes were taken, and `deserialized` makes the content of what is answered; or the
+-- reader failed, or memory was refused
+abbrev pub IsLoaded : {C E : Type 0} → Taken C → C → List ℕ → Option (List ℕ) →
+    Result Tree (Error E) → Type 0
 IsLoaded taken c rest after (Ok t) = (after ≡ Some rest) × (taken None (item_of t) ≡ gives c)
 IsLoaded taken c rest after (Err e) = IsFailed after e
 
--- a value names the item of a tree that the deterministic reader accepts within l levels: what is read of its bytes, whatever follows them
+-- a value names the item of a tree that the deterministic reader accepts within l levels: what is
+-- read of its bytes, whatever follows them
 abbrev pub LoadedAsSaved : {T C : Type 0} → (T → Type 0) → (T → Named) → Reading T C → Type 0
 LoadedAsSaved {T} IsHeld written reading =
-    (v : T) (t : Tree) (l : ℕ) (rest : List ℕ) (after : Option (List ℕ)) (r : Result Tree (Error IoError)) →
-    IsHeld v → written v ≡ Ok (item_of t) → IsAccepted LengthFirst l t → length (encoding t) ≤ greatest_offset →
-    AnswersGoodItem (deterministic LengthFirst) (Some (encoding t ++ rest)) l after r → IsLoaded reading.taken (reading.content v) rest after r
+    (v : T) (t : Tree) (l : ℕ) (rest : List ℕ) (after : Option (List ℕ))
+    (r : Result Tree (Error IoError)) →
+    IsHeld v → written v ≡ Ok (item_of t) → IsAccepted LengthFirst l t →
+    length (encoding t) ≤ greatest_offset →
+    AnswersGoodItem (deterministic LengthFirst) (Some (encoding t ++ rest)) l after r →
+    IsLoaded reading.taken (reading.content v) rest after r
 
--- of bytes that were written into nothing, read so, and made into the type again, the content is that of the value
+-- of bytes that were written into nothing, read so, and made into the type again, the content is
+-- that of the value
 abbrev pub LoadingGivesContent : {T C : Type 0} → (T → Type 0) → (T → Named) → Reading T C → Type 0
 LoadingGivesContent {T} {C} IsHeld written reading =
     (v : T) (t w : Tree) (l : ℕ) (old new bytes : List ℕ) (after : Option (List ℕ)) (c : C) →
-    IsHeld v → written v ≡ Ok (item_of t) → IsAccepted LengthFirst l t → length bytes ≤ greatest_offset →
+    IsHeld v → written v ≡ Ok (item_of t) → IsAccepted LengthFirst l t →
+    length bytes ≤ greatest_offset →
     WritesNamed {E = WriteError IoError} (Some old) (Some new) (Ok tt) (written v) →
-    AnswersGoodItem {E = IoError} (deterministic LengthFirst) (Some bytes) l after (Ok w) → reading.taken None (item_of w) ≡ gives c → old ≡ [] → bytes ≡ new → c ≡ reading.content v
+    AnswersGoodItem {E = IoError} (deterministic LengthFirst) (Some bytes) l after (Ok w) →
+    reading.taken None (item_of w) ≡ gives c → old ≡ [] → bytes ≡ new → c ≡ reading.content v
 
--- where bytes were written into nothing, of the one value, the deterministic reader of an order of keys read w at their front within l levels, and the other
+-- where bytes were written into nothing, of the one value, the deterministic reader of an order of
+-- keys read w at their front within l levels, and the other
 -- was made of w, the contents are equal
-abbrev pub IsContentLoaded : {T C : Type 0} → KeyOrder → (T → Type 0) → (T → Named) → Reading T C → ℕ → T → Value → T → List ℕ → List ℕ → Type 0
+abbrev pub IsContentLoaded : {T C : Type 0} → KeyOrder → (T → Type 0) → (T → Named) → Reading T C →
+    ℕ → T → Value → T → List ℕ → List ℕ → Type 0
 IsContentLoaded o IsHeld written reading l v w again bytes rest =
-    (old new : List ℕ) → IsHeld v → WritesNamed {E = WriteError IoError} (Some old) (Some new) (Ok tt) (written v) → IsNamedWritten (written v) →
-    ReadsWhole {E = IoError} (deterministic o) (Some bytes) l (Some rest) (Ok (tree_of w)) → reading.taken None (value_item w) ≡ gives (reading.content again) → old ≡ [] → bytes ≡ new → reading.content again ≡ reading.content v
+    (old new : List ℕ) → IsHeld v → WritesNamed {E = WriteError IoError} (Some old) (Some new)
+    (Ok tt) (written v) → IsNamedWritten (written v) →
+    ReadsWhole {E = IoError} (deterministic o) (Some bytes) l (Some rest) (Ok (tree_of w)) →
+    reading.taken None (value_item w) ≡ gives (reading.content again) → old ≡ [] → bytes ≡ new →
+    reading.content again ≡ reading.content v
 
 -- the tree of a store
 abbrev pub store_tree : List (Value × Value) → Tree
@@ -63,12 +79,15 @@ entry_trees es = map (λ e. (tree_of e.0, tree_of e.1)) es
 
 -- each key and each value of a store has an accepted spelling of its own
 abbrev pub AreCanonicalParts : List (Value × Value) → Type 0
-AreCanonicalParts es = All (λ e. IsCanonicalTree LengthFirst (tree_of e.0) × IsCanonicalTree LengthFirst (tree_of e.1)) es
+AreCanonicalParts es = All (λ e. IsCanonicalTree LengthFirst (tree_of e.0) ×
+    IsCanonicalTree LengthFirst (tree_of e.1)) es
 
 -- a store names the item of its tree, and that has an accepted spelling
 abbrev pub IsDeterministicStore : List (Value × Value) → Type 0
-IsDeterministicStore es = (container_of dictionary (in_turn named_value named_value es) ≡ Ok (item_of (store_tree es))) × IsCanonicalTree LengthFirst (store_tree es)
+IsDeterministicStore es = (container_of dictionary (in_turn named_value named_value es) ≡ Ok
+    (item_of (store_tree es))) × IsCanonicalTree LengthFirst (store_tree es)
 
 -- a store is one of which what is written is read back
 abbrev pub IsStoreHeld : BTreeMap Value Value → Type 0
-IsStoreHeld m = IsMapHeld (ordered_value_cmp LengthFirst) (λ v. folded (tree_of v) ≡ Some (tree_of v)) (λ v. folded (tree_of v) ≡ Some (tree_of v)) m
+IsStoreHeld m = IsMapHeld (ordered_value_cmp LengthFirst)
+    (λ v. folded (tree_of v) ≡ Some (tree_of v)) (λ v. folded (tree_of v) ≡ Some (tree_of v)) m

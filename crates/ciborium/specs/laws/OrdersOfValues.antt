@@ -1,4 +1,5 @@
--- What holds of the orders of `CanonicalValue` and `BytewiseValue`: the canonical one (RFC 8949, section 4.2.3; RFC 7049, section 3.9) and the bytewise one (RFC 8949, section 4.2.1).
+-- What holds of the orders of `CanonicalValue` and `BytewiseValue`: the canonical one (RFC 8949,
+-- section 4.2.3; RFC 7049, section 3.9) and the bytewise one (RFC 8949, section 4.2.1).
 use Rattle.std.specs.Prelude.{◌≡◌, ◌↔◌, List, map}
 use Rattle.std.specs.Cmp.{IsTotalOrder}
 use Rattle.std.specs.List.Sorted.{IsStrictlySortedBy}
@@ -11,9 +12,11 @@ use Rattle.ciborium_value.specs.View.{tree_of}
 use Rattle.ciborium_value.specs.declared.key_order.KeyOrder.{KeyOrder}
 use Rattle.ciborium_value.specs.declared.tree.Value.{Value}
 
--- of any two values that a program holds, the order that `Ord` names is the named order of their trees
+-- of any two values that a program holds, the order that `Ord` names is the named order of their
+-- trees
 abbrev pub IsOrderOfTrees : KeyOrder → Type 0
-IsOrderOfTrees o = (v w : Value) → IsProperTree (tree_of v) → IsProperTree (tree_of w) → ordered_value_cmp o v w ≡ key_order o (tree_of v) (tree_of w)
+IsOrderOfTrees o = (v w : Value) → IsProperTree (tree_of v) → IsProperTree (tree_of w) →
+    ordered_value_cmp o v w ≡ key_order o (tree_of v) (tree_of w)
 
 -- it is total
 abbrev pub IsTotal : KeyOrder → Type 0
@@ -21,7 +24,8 @@ IsTotal o = IsTotalOrder (ordered_value_cmp o)
 
 -- of values that a program holds it ties equal ones alone
 abbrev pub TiesEqualOnes : KeyOrder → Type 0
-TiesEqualOnes o = (v w : Value) → IsProperTree (tree_of v) → IsProperTree (tree_of w) → (ordered_value_cmp o v w ≡ Equal) ↔ (tree_of v ≡ tree_of w)
+TiesEqualOnes o = (v w : Value) → IsProperTree (tree_of v) → IsProperTree (tree_of w) →
+    (ordered_value_cmp o v w ≡ Equal) ↔ (tree_of v ≡ tree_of w)
 
 -- the keys of entries strictly rise in the named order
 abbrev pub KeysRise : {A : Type 0} → KeyOrder → List (Value × A) → Type 0

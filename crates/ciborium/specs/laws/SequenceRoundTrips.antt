@@ -16,20 +16,32 @@ use Rattle.ciborium.specs.SequenceWrites.{AreNamedWritten, WritesInTurn}
 use Rattle.ciborium.specs.declared.ser.error.Error.{Error as WriteError}
 
 -- the answer of a reader over these bytes within a limit, as a sequence
-abbrev pub AnswersSequence : {A E : Type 0} → Taken A → ℕ → List ℕ → Option (List ℕ) → Result (List A) (Error E) → Type 0
-AnswersSequence taken l b after r = TakesSequence (Some l) taken (Some b) after r × RefusesSequence (Some l) taken (Some b) r
+abbrev pub AnswersSequence : {A E : Type 0} → Taken A → ℕ → List ℕ → Option (List ℕ) →
+    Result (List A) (Error E) → Type 0
+AnswersSequence taken l b after r = TakesSequence (Some l) taken (Some b) after r ×
+    RefusesSequence (Some l) taken (Some b) r
 
--- reading the bytes of what values name, where so many levels are left, gives their contents and leaves nothing, or fails for what no
+-- reading the bytes of what values name, where so many levels are left, gives their contents and
+-- leaves nothing, or fails for what no
 -- item decides
-abbrev pub SequenceReadsBack : {T C : Type 0} → (T → Type 0) → (T → Named) → Reading T C → (T → ℕ) → Type 0
+abbrev pub SequenceReadsBack : {T C : Type 0} → (T → Type 0) → (T → Named) → Reading T C → (T → ℕ) →
+    Type 0
 SequenceReadsBack {T} {C} IsHeld written reading levels =
-    (vs : List T) (is : List Item) (l : ℕ) (after : Option (List ℕ)) (r : Result (List C) (Error IoError)) →
-    All IsHeld vs → all_named (map written vs) ≡ Ok is → AreWritten (items_from is) → All (λ v. IsWithin (Some l) (levels v)) vs →
+    (vs : List T) (is : List Item) (l : ℕ) (after : Option (List ℕ))
+    (r : Result (List C) (Error IoError)) →
+    All IsHeld vs → all_named (map written vs) ≡ Ok is → AreWritten (items_from is) →
+    All (λ v. IsWithin (Some l) (levels v)) vs →
     AnswersSequence reading.taken l (items_bytes (items_from is)) after r →
     IsGivenBack (map reading.content vs) [] (length (items_bytes (items_from is))) after r
 
--- where bytes were written into nothing, of the values of one list, and the others were read of all of them, the contents are equal
-abbrev pub AreContentsReadBack : {T C : Type 0} → (T → Type 0) → (T → Named) → Reading T C → (T → ℕ) → List T → List T → List ℕ → List ℕ → Type 0
+-- where bytes were written into nothing, of the values of one list, and the others were read of all
+-- of them, the contents are equal
+abbrev pub AreContentsReadBack : {T C : Type 0} → (T → Type 0) → (T → Named) → Reading T C →
+    (T → ℕ) → List T → List T → List ℕ → List ℕ → Type 0
 AreContentsReadBack IsHeld written reading levels vs again bytes rest =
-    (old new : List ℕ) → All IsHeld vs → All (λ v. levels v ≤ 256) vs → WritesInTurn {E = WriteError IoError} (Some old) (Some new) (Ok tt) (all_named (map written vs)) → AreNamedWritten (all_named (map written vs)) →
-    TakesSequence {E = IoError} (Some 256) reading.taken (Some bytes) (Some rest) (Ok (map reading.content again)) → old ≡ [] → bytes ≡ new → map reading.content again ≡ map reading.content vs
+    (old new : List ℕ) → All IsHeld vs → All (λ v. levels v ≤ 256) vs →
+    WritesInTurn {E = WriteError IoError} (Some old) (Some new) (Ok tt)
+    (all_named (map written vs)) → AreNamedWritten (all_named (map written vs)) →
+    TakesSequence {E = IoError} (Some 256) reading.taken (Some bytes) (Some rest)
+    (Ok (map reading.content again)) → old ≡ [] → bytes ≡ new →
+    map reading.content again ≡ map reading.content vs

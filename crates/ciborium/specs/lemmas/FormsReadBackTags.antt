@@ -1,9 +1,12 @@
--- What is written under a tag in its deterministic form is read back, where no tag folds over it (RFC 8949, sections 3.4 and 3.4.3).
+-- What is written under a tag in its deterministic form is read back, where no tag folds over it
+-- (RFC 8949, sections 3.4 and 3.4.3).
 use Rattle.std.proofs.Common.{ap, sym, subst, arith, ◌∙◌}
 use Rattle.std.proofs.lemmas.Bool.Decides.{nat_tests}
-use Rattle.std.specs.Prelude.{◌≡◌, ℕ, Bool, true, false, List, Option, Some, None, Ok, Err, IfOk, if◌then◌else◌, refl}
+use Rattle.std.specs.Prelude.{◌≡◌, ℕ, Bool, true, false, List, Option, Some, None, Ok, Err, IfOk}
+use Rattle.std.specs.Prelude.{if◌then◌else◌, refl}
 use Rattle.ciborium_ll.specs.Item.{Item}
-use Rattle.ciborium_value.specs.DeterministicForms.{deterministic_form, deterministic_forms, pair_forms, sorted_pairs, tag_form}
+use Rattle.ciborium_value.specs.DeterministicForms.{deterministic_form, deterministic_forms}
+use Rattle.ciborium_value.specs.DeterministicForms.{pair_forms, sorted_pairs, tag_form}
 use Rattle.ciborium_value.specs.Encoding.{item_of, written_tree}
 use Rattle.ciborium_value.specs.Folded.{short_bytes, tree_folding_bytes}
 use Rattle.ciborium_value.specs.FormsReadBack.{IsFormRead}
@@ -25,15 +28,19 @@ abbrev IsUntagged : Tree → Type 0
 IsUntagged t = outer_tag (item_of t) ≡ (None, item_of t)
 
 -- nor then the item of its form
-form-untagged : (o : KeyOrder) (t u : Tree) → IsUntagged t → deterministic_form o t ≡ gives u → IsUntagged u
+form-untagged : (o : KeyOrder) (t u : Tree) → IsUntagged t → deterministic_form o t ≡ gives u →
+    IsUntagged u
 form-untagged o (trees.integer z) u h form = subst IsUntagged (one_given (trees.integer z) u form) h
 form-untagged o (trees.bytes b) u h form = subst IsUntagged (one_given (trees.bytes b) u form) h
 form-untagged o (trees.text b) u h form = subst IsUntagged (one_given (trees.text b) u form) h
 form-untagged o (trees.boolean b) u h form = subst IsUntagged (one_given (trees.boolean b) u form) h
 form-untagged o trees.null u h form = subst IsUntagged (one_given trees.null u form) h
 form-untagged o (trees.tag t v) u h form = absurd (let some : Some t ≡ None = ap (λ p. p.0) h in cc)
-form-untagged o (trees.array vs) u h form = let (ws, is, same) = mapped_gives trees.array (deterministic_forms o vs) u form in subst IsUntagged same refl
-form-untagged o (trees.map ps) u h form = let (qs, is, same) = mapped_gives trees.map (then_take (pair_forms o ps) (sorted_pairs o)) u form in subst IsUntagged same refl
+form-untagged o (trees.array vs) u h form = let (ws, is, same) =
+    mapped_gives trees.array (deterministic_forms o vs) u form in subst IsUntagged same refl
+form-untagged o (trees.map ps) u h form = let (qs, is, same) =
+    mapped_gives trees.map (then_take (pair_forms o ps) (sorted_pairs o)) u form in
+    subst IsUntagged same refl
 
 either_none : (c : Bool) (m : Option (List ℕ)) → m ≡ None → (if c then m else None) ≡ None
 either_none true m h = h
@@ -44,37 +51,62 @@ not_folding : (t : ℕ) (v : Tree) → short_bytes v ≡ None → tree_folding_b
 not_folding t v h = either_none (is_bignum_tag t) (short_bytes v) h
 
 -- so the form of a tag over it is the tag over its form
-under_form : (o : KeyOrder) (t : ℕ) (v u : Tree) → short_bytes v ≡ None → deterministic_form o (trees.tag t v) ≡ gives u → (w : Tree) × (deterministic_form o v ≡ gives w) × (trees.tag t w ≡ u)
-under_form o t v u h form = mapped_gives (trees.tag t) (deterministic_form o v) u (sym (ap (λ b. tag_form t b (deterministic_form o v)) (not_folding t v h)) ∙ form)
+under_form : (o : KeyOrder) (t : ℕ) (v u : Tree) → short_bytes v ≡ None →
+    deterministic_form o (trees.tag t v) ≡ gives u → (w : Tree) ×
+    (deterministic_form o v ≡ gives w) × (trees.tag t w ≡ u)
+under_form o t v u h form = mapped_gives (trees.tag t) (deterministic_form o v) u
+    (sym (ap (λ b. tag_form t b (deterministic_form o v)) (not_folding t v h)) ∙ form)
 
-read-tagged : {C : Type 0} (taken : Taken C) (c : C) (o : KeyOrder) (t : ℕ) (j : Item) → IsNoBytes j → ((u : Tree) → deterministic_form o (written_tree j) ≡ gives u → taken None (item_of u) ≡ gives c) →
-    (u : Tree) → deterministic_form o (trees.tag t (written_tree j)) ≡ gives u → taken_with_tag taken None (item_of u) ≡ gives (Some t, c)
+read-tagged : {C : Type 0} (taken : Taken C) (c : C) (o : KeyOrder) (t : ℕ) (j : Item) →
+    IsNoBytes j → ((u : Tree) → deterministic_form o (written_tree j) ≡ gives u →
+    taken None (item_of u) ≡ gives c) →
+    (u : Tree) → deterministic_form o (trees.tag t (written_tree j)) ≡ gives u →
+    taken_with_tag taken None (item_of u) ≡ gives (Some t, c)
 read-tagged taken c o t j none h u form =
     let (w, is, same) = under_form o t (written_tree j) u none form in
-    subst (λ x. taken_with_tag taken None (item_of x) ≡ gives (Some t, c)) same (ap (outcome_map (λ v. (Some t, v))) (h w is))
+    subst (λ x. taken_with_tag taken None (item_of x) ≡ gives (Some t, c)) same
+    (ap (outcome_map (λ v. (Some t, v))) (h w is))
 
 module _ {C : Type 0} {taken : Taken C} {c : C} (o : KeyOrder) where
-  read-captured : (m : Option ℕ) (r : Named) → IsToldApart m r → IsNeverBytes r → IsFormRead o r taken c →
-      IfOk (captured_of m r) (λ i. (u : Tree) → deterministic_form o (written_tree i) ≡ gives u → taken_with_tag taken None (item_of u) ≡ gives (m, c))
-  read-captured (Some t) (Ok j) told never h = read-tagged taken c o t j (never j refl) (h.back j refl)
+  read-captured : (m : Option ℕ) (r : Named) → IsToldApart m r → IsNeverBytes r →
+      IsFormRead o r taken c →
+      IfOk (captured_of m r) (λ i. (u : Tree) → deterministic_form o (written_tree i) ≡ gives u →
+      taken_with_tag taken None (item_of u) ≡ gives (m, c))
+  read-captured (Some t) (Ok j) told never h =
+      read-tagged taken c o t j (never j refl) (h.back j refl)
   read-captured (Some t) (Err k) told never h = tt
   read-captured None (Ok i) told never h = λ u form.
-      ap (λ p. outcome_map (λ v. (p.0, v)) (taken None p.1)) (form-untagged o (written_tree i) u (met-untagged by_tree i told) form) ∙ ap (outcome_map (λ v. (None, v))) (h.back i refl u form)
+      ap (λ p. outcome_map (λ v. (p.0, v)) (taken None p.1))
+      (form-untagged o (written_tree i) u (met-untagged by_tree i told) form) ∙
+      ap (outcome_map (λ v. (None, v))) (h.back i refl u form)
   read-captured None (Err k) told never h = tt
 
-  pub captured-form : (m : Option ℕ) {r : Named} → IsToldApart m r → IsNeverBytes r → IsFormRead o r taken c → IsFormRead o (captured_of m r) (taken_with_tag taken) (m, c)
+  pub captured-form : (m : Option ℕ) {r : Named} → IsToldApart m r → IsNeverBytes r →
+      IsFormRead o r taken c → IsFormRead o (captured_of m r) (taken_with_tag taken) (m, c)
   captured-form m {r = r} told never h = record {
-    back = of_ok (captured_of m r) (λ i. (u : Tree) → deterministic_form o (written_tree i) ≡ gives u → taken_with_tag taken None (item_of u) ≡ gives (m, c)) (read-captured m r told never h);
+    back = of_ok (captured_of m r) (λ i. (u : Tree) →
+        deterministic_form o (written_tree i) ≡ gives u →
+        taken_with_tag taken None (item_of u) ≡ gives (m, c)) (read-captured m r told never h);
   }
 
-  pub required-form : (t : ℕ) {r : Named} → IsNeverBytes r → IsFormRead o r taken c → IsFormRead o (tag_of t r) (λ l i. then_take (taken_with_tag taken l i) (under_tag t)) c
-  required-form t never h = record { back = λ i e u form. ap (λ p. then_take p (under_tag t)) ((captured-form (Some t) tt never h).back i e u form) ∙ same t }
+  pub required-form : (t : ℕ) {r : Named} → IsNeverBytes r → IsFormRead o r taken c →
+      IsFormRead o (tag_of t r) (λ l i. then_take (taken_with_tag taken l i) (under_tag t)) c
+  required-form t never h = record {
+    back = λ i e u form. ap (λ p. then_take p (under_tag t))
+        ((captured-form (Some t) tt never h).back i e u form) ∙ same t;
+  }
     where
       same : (t : ℕ) → under_tag t (Some t, c) ≡ gives c
       same t = grind (arith, nat_tests)
 
-  pub accepted-form : (t : ℕ) {r : Named} → IsNeverBytes r → IsFormRead o r taken c → IsFormRead o (tag_of t r) (λ l i. then_take (taken_with_tag taken l i) (under_no_other_tag t)) c
-  accepted-form t never h = record { back = λ i e u form. ap (λ p. then_take p (under_no_other_tag t)) ((captured-form (Some t) tt never h).back i e u form) ∙ same t }
+  pub accepted-form : (t : ℕ) {r : Named} → IsNeverBytes r → IsFormRead o r taken c →
+      IsFormRead o (tag_of t r) (λ l i. then_take (taken_with_tag taken l i) (under_no_other_tag t))
+      c
+  accepted-form t never h = record {
+    back = λ i e u form. ap
+        (λ p. then_take p (under_no_other_tag t))
+        ((captured-form (Some t) tt never h).back i e u form) ∙ same t;
+  }
     where
       same : (t : ℕ) → under_no_other_tag t (Some t, c) ≡ gives c
       same t = grind (arith, nat_tests)

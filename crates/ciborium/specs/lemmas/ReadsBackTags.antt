@@ -1,7 +1,8 @@
 -- What is written under a tag is read back (RFC 8949, section 3.4).
 use Rattle.std.proofs.Common.{ap, ◌∙◌, arith, zero}
 use Rattle.std.proofs.lemmas.Bool.Decides.{nat_tests}
-use Rattle.std.specs.Prelude.{◌≡◌, ℕ, suc, Bool, true, false, nat_lt, Option, Some, None, Ok, Err, IfOk, if◌then◌else◌, refl}
+use Rattle.std.specs.Prelude.{◌≡◌, ℕ, suc, Bool, true, false, nat_lt, Option, Some, None, Ok, Err}
+use Rattle.std.specs.Prelude.{IfOk, if◌then◌else◌, refl}
 use Rattle.ciborium_ll.specs.Item as items
 use Rattle.ciborium_ll.specs.Item.{Item}
 use Rattle.ciborium_value.specs.Encoding.{item_of}
@@ -21,11 +22,14 @@ IsToldApart (Some t) r = Unit {0}
 IsToldApart None r = IfOk r (λ i. outer_tag i ≡ (None, i))
 
 -- what has no tag is met without one
-untagged-either : (t : Bool) (v w : Tree) → outer_tag (item_of v) ≡ (None, item_of v) → outer_tag (item_of w) ≡ (None, item_of w) → outer_tag (item_of (if t then v else w)) ≡ (None, item_of (if t then v else w))
+untagged-either : (t : Bool) (v w : Tree) → outer_tag (item_of v) ≡ (None, item_of v) →
+    outer_tag (item_of w) ≡ (None, item_of w) →
+    outer_tag (item_of (if t then v else w)) ≡ (None, item_of (if t then v else w))
 untagged-either true v w h k = h
 untagged-either false v w h k = k
 
-pub met-untagged : (way : Way) (i : Item) → outer_tag i ≡ (None, i) → outer_tag (met way i) ≡ (None, met way i)
+pub met-untagged : (way : Way) (i : Item) → outer_tag i ≡ (None, i) →
+    outer_tag (met way i) ≡ (None, met way i)
 met-untagged by_bytes i e = e
 met-untagged by_tree (items.unsigned n) e = refl
 met-untagged by_tree (items.negative n) e = refl
@@ -35,47 +39,72 @@ met-untagged by_tree (items.array o is) e = refl
 met-untagged by_tree (items.map o ps) e = refl
 met-untagged by_tree (items.tag t i) e = let some : Some t ≡ None = ap (λ p. p.0) e in cc
 met-untagged by_tree (items.simple n) e =
-    untagged-either (nat_lt n 21) (tree.boolean false) (if nat_lt n 22 then tree.boolean true else tree.null) refl
+    untagged-either (nat_lt n 21) (tree.boolean false)
+    (if nat_lt n 22 then tree.boolean true else tree.null) refl
     (untagged-either (nat_lt n 22) (tree.boolean true) tree.null refl refl)
 met-untagged by_tree (items.float raw) e = refl
 
 -- an item is read with its outermost tag, where what is under it is read with a level less
-under : {C : Type 0} (taken : Taken C) (o : Option ℕ) (i j : Item) (c : C) (n : ℕ) → outer_tag i ≡ (o, j) → ((l : Limit) → IsWithin l n → taken l j ≡ gives c) →
+under : {C : Type 0} (taken : Taken C) (o : Option ℕ) (i j : Item) (c : C) (n : ℕ) →
+    outer_tag i ≡ (o, j) → ((l : Limit) → IsWithin l n → taken l j ≡ gives c) →
     (l : Limit) → IsWithin l (suc n) → taken_with_tag taken l i ≡ gives (o, c)
-under taken o i j c n e h None fits = ap (λ p. outcome_map (λ v. (p.0, v)) (taken None p.1)) e ∙ ap (outcome_map (λ v. (o, v))) (h None tt)
+under taken o i j c n e h None fits = ap (λ p. outcome_map (λ v. (p.0, v)) (taken None p.1)) e ∙
+    ap (outcome_map (λ v. (o, v))) (h None tt)
 under taken o i j c n e h (Some zero) fits = absurd (omega (arith, fits))
-under taken o i j c n e h (Some (suc m)) fits = ap (λ p. outcome_map (λ v. (p.0, v)) (taken (Some m) p.1)) e ∙ ap (outcome_map (λ v. (o, v))) (h (Some m) (omega (arith, fits)))
+under taken o i j c n e h (Some (suc m)) fits =
+    ap (λ p. outcome_map (λ v. (p.0, v)) (taken (Some m) p.1)) e ∙
+    ap (outcome_map (λ v. (o, v))) (h (Some m) (omega (arith, fits)))
 
 module _ {C : Type 0} {taken : Taken C} {c : C} {n : ℕ} where
-  named : (o : Option ℕ) (r : Named) → IsToldApart o r → IsNameRead r taken c n → (way : Way) (l : Limit) → IsWithin l (suc n) → IfOk (captured_of o r) (λ i. taken_with_tag taken l (met way i) ≡ gives (o, c))
-  named (Some t) (Ok j) told h way l fits = ap (taken_with_tag taken l) (met-tag way t j) ∙ under taken (Some t) (items.tag t (met way j)) (met way j) c n refl (h.back way j refl) l fits
+  named : (o : Option ℕ) (r : Named) → IsToldApart o r → IsNameRead r taken c n →
+      (way : Way) (l : Limit) → IsWithin l (suc n) →
+      IfOk (captured_of o r) (λ i. taken_with_tag taken l (met way i) ≡ gives (o, c))
+  named (Some t) (Ok j) told h way l fits = ap (taken_with_tag taken l) (met-tag way t j) ∙
+      under taken (Some t) (items.tag t (met way j)) (met way j) c n refl (h.back way j refl) l fits
   named (Some t) (Err k) told h way l fits = tt
-  named None (Ok i) told h way l fits = under taken None (met way i) (met way i) c n (met-untagged way i told) (h.back way i refl) l fits
+  named None (Ok i) told h way l fits = under taken None (met way i) (met way i) c n
+      (met-untagged way i told) (h.back way i refl) l fits
   named None (Err k) told h way l fits = tt
 
-  pub captured-back : (o : Option ℕ) {r : Named} → IsToldApart o r → IsNameRead r taken c n → IsNameRead (captured_of o r) (taken_with_tag taken) (o, c) (suc n)
-  captured-back o {r = r} told h = record { back = λ way i e l fits. of_ok (captured_of o r) (λ j. taken_with_tag taken l (met way j) ≡ gives (o, c)) (named o r told h way l fits) i e }
+  pub captured-back : (o : Option ℕ) {r : Named} → IsToldApart o r → IsNameRead r taken c n →
+      IsNameRead (captured_of o r) (taken_with_tag taken) (o, c) (suc n)
+  captured-back o {r = r} told h = record {
+    back =
+        λ way i e l fits. of_ok (captured_of o r)
+        (λ j. taken_with_tag taken l (met way j) ≡ gives (o, c)) (named o r told h way l fits) i e;
+  }
 
-  pub required-back : (t : ℕ) {r : Named} → IsNameRead r taken c n → IsNameRead (tag_of t r) (λ l i. then_take (taken_with_tag taken l i) (under_tag t)) c (suc n)
-  required-back t h = record { back = λ way i e l fits. ap (λ o. then_take o (under_tag t)) ((captured-back (Some t) tt h).back way i e l fits) ∙ same t }
+  pub required-back : (t : ℕ) {r : Named} → IsNameRead r taken c n →
+      IsNameRead (tag_of t r) (λ l i. then_take (taken_with_tag taken l i) (under_tag t)) c (suc n)
+  required-back t h = record {
+    back = λ way i e l fits. ap (λ o. then_take o (under_tag t))
+        ((captured-back (Some t) tt h).back way i e l fits) ∙ same t;
+  }
     where
       same : (t : ℕ) → under_tag t (Some t, c) ≡ gives c
       same t = grind (arith, nat_tests)
 
-  pub accepted-back : (t : ℕ) {r : Named} → IsNameRead r taken c n → IsNameRead (tag_of t r) (λ l i. then_take (taken_with_tag taken l i) (under_no_other_tag t)) c (suc n)
-  accepted-back t h = record { back = λ way i e l fits. ap (λ o. then_take o (under_no_other_tag t)) ((captured-back (Some t) tt h).back way i e l fits) ∙ same t }
+  pub accepted-back : (t : ℕ) {r : Named} → IsNameRead r taken c n →
+      IsNameRead (tag_of t r) (λ l i. then_take (taken_with_tag taken l i) (under_no_other_tag t)) c
+      (suc n)
+  accepted-back t h = record {
+    back = λ way i e l fits. ap (λ o. then_take o (under_no_other_tag t))
+        ((captured-back (Some t) tt h).back way i e l fits) ∙ same t;
+  }
     where
       same : (t : ℕ) → under_no_other_tag t (Some t, c) ≡ gives c
       same t = grind (arith, nat_tests)
 
 -- ---- never null: a tag is no null, whatever stands under it
 
-tag-never_null : (way : Way) (t : ℕ) (r : Named) → IfOk (tag_of t r) (λ i. is_null (met way i) ≡ false)
+tag-never_null : (way : Way) (t : ℕ) (r : Named) →
+    IfOk (tag_of t r) (λ i. is_null (met way i) ≡ false)
 tag-never_null way t (Ok j) = ap is_null (met-tag way t j)
 tag-never_null way t (Err k) = tt
 
 pub tag-never : (t : ℕ) (r : Named) → IsNeverNull (tag_of t r)
-tag-never t r way i e = of_ok (tag_of t r) (λ j. is_null (met way j) ≡ false) (tag-never_null way t r) i e
+tag-never t r way i e = of_ok (tag_of t r) (λ j. is_null (met way j) ≡ false)
+    (tag-never_null way t r) i e
 
 pub captured-never : (o : Option ℕ) {r : Named} → IsNeverNull r → IsNeverNull (captured_of o r)
 captured-never (Some t) {r = r} h = tag-never t r

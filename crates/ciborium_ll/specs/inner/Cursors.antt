@@ -31,10 +31,15 @@ abbrev pub IsSpentAt : {S K E : Type 0} → Cursor S K → Error E → Type 0
 IsSpentAt c e = IsSpentBy c.window.now e
 
 -- some bytes are taken and counted, and P holds of them
-abbrev pub Moves : {S K : Type 0} → (S → Option (List ℕ)) → Cursor S K → Cursor S K → (List ℕ → Type 0) → Type 0
-Moves remaining old new P = Advances (left_at remaining old) (left_at remaining new) (count_at old) (count_at new) P
+abbrev pub Moves : {S K : Type 0} → (S → Option (List ℕ)) → Cursor S K → Cursor S K →
+    (List ℕ → Type 0) → Type 0
+Moves remaining old new P = Advances (left_at remaining old) (left_at remaining new) (count_at old)
+    (count_at new) P
 
--- so many bytes were taken, which stand at the front of the buffer; none came only at the end, or the reader failed
-abbrev pub GivesSome : {S K E : Type 0} → (S → Option (List ℕ)) → Cursor S K → Cursor S K → List ℕ → Result ℕ (Error E) → Type 0
-GivesSome remaining old new buffer (Ok n) = (n ≤ length buffer) × Moves remaining old new (λ b. b ≡ take n buffer) × (n ≡ 0 → IsAtEnd (left_at remaining new))
+-- so many bytes were taken, which stand at the front of the buffer; none came only at the end, or
+-- the reader failed
+abbrev pub GivesSome : {S K E : Type 0} → (S → Option (List ℕ)) → Cursor S K → Cursor S K → List ℕ →
+    Result ℕ (Error E) → Type 0
+GivesSome remaining old new buffer (Ok n) = (n ≤ length buffer) ×
+    Moves remaining old new (λ b. b ≡ take n buffer) × (n ≡ 0 → IsAtEnd (left_at remaining new))
 GivesSome remaining old new buffer (Err e) = Moves remaining old new (λ b. b ≡ []) × IsHeadIo e

@@ -1,5 +1,6 @@
 -- The bytes of a bignum hold its number.
-use Rattle.std.proofs.Common.{◌≡◌, ℕ, zero, suc, ◌+◌, ◌-◌, ◌*◌, ◌/◌, ◌%◌, ◌^◌, ◌≤◌, ◌==◌, List, [], ◌∷◌, length, drop, false, refl, sym, ap, ◌∙◌, arith}
+use Rattle.std.proofs.Common.{◌≡◌, ℕ, zero, suc, ◌+◌, ◌-◌, ◌*◌, ◌/◌, ◌%◌, ◌^◌, ◌≤◌, ◌==◌, List, [], ◌∷◌, length, drop}
+use Rattle.std.proofs.Common.{false, refl, sym, ap, ◌∙◌, arith}
 use Rattle.std.proofs.Math.Nat.{add-mul, mul_assoc, mul_left_comm, mod-one, mod-eq_of_lt, pow-succ'}
 use Rattle.std.specs.Int.{byte_at, bytes_high_first}
 use Rattle.std.proofs.lemmas.Bool.Decides.{nat_tests}
@@ -17,8 +18,10 @@ unfolding big_endian_behind
 read_behind zero m n = omega (arith, mod-one n)
 read_behind (suc k) m n =
     let p = 256 ^ k in
-    let split : n % 256 ^ suc k ≡ (n / p % 256) * p + n % p = rw (pow-succ' 256 k) (mod-mul n {m = 256} {c = p} (omega arith) (power_above k)) in
-    rw (read_behind k (256 * m + byte_at k n) n, byte_at-is k n, split, pow-succ' 256 k) (one_more m (n / p % 256) (n % p) p)
+    let split : n % 256 ^ suc k ≡ (n / p % 256) * p + n % p =
+    rw (pow-succ' 256 k) (mod-mul n {m = 256} {c = p} (omega arith) (power_above k)) in
+    rw (read_behind k (256 * m + byte_at k n) n, byte_at-is k n, split, pow-succ' 256 k)
+    (one_more m (n / p % 256) (n % p) p)
 
 not_zero : (b : ℕ) → (suc b == 0) ≡ false
 not_zero b = grind (arith, nat_tests)
@@ -40,7 +43,8 @@ no_zeros_twice (suc b ∷ bs) = ap without_zeros (stays b bs)
 
 pub bytes_hold_number : BytesHoldNumber
 unfolding shortest_bytes
-bytes_hold_number n h = zeros_hold_nothing (bytes_high_first 16 n) ∙ read_behind 16 0 n ∙ rw (mod-eq_of_lt h) (omega arith)
+bytes_hold_number n h = zeros_hold_nothing (bytes_high_first 16 n) ∙ read_behind 16 0 n ∙
+    rw (mod-eq_of_lt h) (omega arith)
 
 pub no_leading_zeros : NoLeadingZeros
 unfolding shortest_bytes
@@ -56,7 +60,8 @@ pub zeros_dropped : (bs : List ℕ) → drop (length bs - length (without_zeros 
 zeros_dropped [] = refl
 zeros_dropped (zero ∷ bs) =
     let less = zeros_counted bs in
-    let one_more : suc (length bs) - length (without_zeros bs) ≡ suc (length bs - length (without_zeros bs)) = omega (arith, less) in
+    let one_more : suc (length bs) - length (without_zeros bs) ≡ suc (length bs - length (without_zeros bs)) =
+    omega (arith, less) in
     ap (λ n. drop n (zero ∷ bs)) one_more ∙ zeros_dropped bs
 zeros_dropped (suc b ∷ bs) =
     let none : length (suc b ∷ bs) - length (without_zeros (suc b ∷ bs)) ≡ 0 = rw (stays b bs) (omega arith) in

@@ -1,11 +1,16 @@
 -- The item of a tree means the folded tree, and what is folded folds no further.
-use Rattle.std.proofs.Common.{le-leb, leb-true, subst, ◌≡◌, ℕ, zero, suc, ◌^◌, ◌≤◌, cond, ltb, leb, eqb, Bool, true, false, List, [], ◌∷◌, length, Option, Some, None, refl, ap, ◌∙◌, arith, pos, negsuc, option_map}
+use Rattle.std.proofs.Common.{le-leb, leb-true, subst, ◌≡◌, ℕ, zero, suc, ◌^◌, ◌≤◌, cond, ltb, leb, eqb, Bool, true}
+use Rattle.std.proofs.Common.{false, List, [], ◌∷◌, length, Option, Some, None, refl, ap, ◌∙◌, arith, pos, negsuc}
+use Rattle.std.proofs.Common.{option_map}
 use Rattle.ciborium_value.specs.Encoding.{item_of, items_of, pairs_of}
 use Rattle.ciborium_value.specs.Folded.{short_bytes, tree_folding_bytes, folded, trees_folded, tree_pairs_folded}
 use Rattle.ciborium_value.specs.laws.FoldingLaws.{WrittenMeansFolded, FoldsOnce}
-use Rattle.ciborium_value.specs.Meaning.{big_endian, without_zeros, bignum_meaning, unsigned_bignum, negative_bignum, is_bignum_tag, tag_meaning, simple_meaning, trees_more, tree_pairs_more, meaning, items_meaning, pairs_meaning}
+use Rattle.ciborium_value.specs.Meaning.{big_endian, without_zeros, bignum_meaning, unsigned_bignum, negative_bignum}
+use Rattle.ciborium_value.specs.Meaning.{is_bignum_tag, tag_meaning, simple_meaning, trees_more, tree_pairs_more}
+use Rattle.ciborium_value.specs.Meaning.{meaning, items_meaning, pairs_meaning}
 use Rattle.ciborium_value.specs.lemmas.ItemsOfTrees.{short_string-item_of}
-use Rattle.ciborium_value.specs.Tree.{Tree, integer, bytes, text, boolean, null, tag, array, map, Trees, no_trees, tree, TreePairs, no_tree_pairs, tree_pair}
+use Rattle.ciborium_value.specs.Tree.{Tree, integer, bytes, text, boolean, null, tag, array, map, Trees, no_trees, tree}
+use Rattle.ciborium_value.specs.Tree.{TreePairs, no_tree_pairs, tree_pair}
 use Rattle.ciborium_value.proofs.FoldedTrees.Bignums.{stays, zeros_hold_nothing, no_zeros_twice}
 
 -- ---- what is written means the folded tree
@@ -30,7 +35,8 @@ mutual
   items_meaning-items_of : (vs : Trees) → items_meaning (items_of vs) ≡ trees_folded vs
   items_meaning-items_of no_trees = refl
   items_meaning-items_of (tree v vs) =
-      ap (λ o. trees_more o (items_meaning (items_of vs))) (written_means_folded v) ∙ ap (trees_more (folded v)) (items_meaning-items_of vs)
+      ap (λ o. trees_more o (items_meaning (items_of vs))) (written_means_folded v) ∙
+      ap (trees_more (folded v)) (items_meaning-items_of vs)
 
   pairs_meaning-pairs_of : (ps : TreePairs) → pairs_meaning (pairs_of ps) ≡ tree_pairs_folded ps
   pairs_meaning-pairs_of no_tree_pairs = refl
@@ -45,7 +51,8 @@ mutual
 bignum_meaning-without_zeros : (t : ℕ) (b : List ℕ) → bignum_meaning t (without_zeros b) ≡ bignum_meaning t b
 unfolding bignum_meaning
 bignum_meaning-without_zeros t b =
-    ap (λ n. cond (eqb t 2) (unsigned_bignum n (without_zeros (without_zeros b))) (negative_bignum n (without_zeros (without_zeros b)))) (zeros_hold_nothing b) ∙
+    ap (λ n. cond (eqb t 2) (unsigned_bignum n (without_zeros (without_zeros b)))
+    (negative_bignum n (without_zeros (without_zeros b)))) (zeros_hold_nothing b) ∙
     ap (λ c. cond (eqb t 2) (unsigned_bignum (big_endian b) c) (negative_bignum (big_endian b) c)) (no_zeros_twice b)
 
 -- no bytes are left in front of those that are no leading zeros
@@ -78,14 +85,16 @@ KeepsBytes o None = Unit {0}
 KeepsBytes o (Some w) = short_bytes w ≡ o
 
 -- a bignum tag over few bytes folds
-pub folded-bignum : (t : ℕ) (b : List ℕ) → is_bignum_tag t ≡ true → length b ≤ 16 → folded (tag t (bytes b)) ≡ bignum_meaning t b
+pub folded-bignum : (t : ℕ) (b : List ℕ) → is_bignum_tag t ≡ true → length b ≤ 16 →
+    folded (tag t (bytes b)) ≡ bignum_meaning t b
 folded-bignum t b is h =
     ap (λ c. tag_meaning t (cond c (short_bytes (bytes b)) None) (Some (bytes b))) is ∙
     ap (λ c. tag_meaning t (cond c (Some b) None) (Some (bytes b))) (le-leb (length b) 16 h)
 
 -- a bignum that stays a tag is folded
 bignum_stays : (t : ℕ) (b : List ℕ) → is_bignum_tag t ≡ true → length b ≤ 16 →
-    bignum_meaning t b ≡ Some (tag t (bytes (without_zeros b))) → folded (tag t (bytes (without_zeros b))) ≡ Some (tag t (bytes (without_zeros b)))
+    bignum_meaning t b ≡ Some (tag t (bytes (without_zeros b))) →
+    folded (tag t (bytes (without_zeros b))) ≡ Some (tag t (bytes (without_zeros b)))
 bignum_stays t b is h e =
     let short : length (without_zeros b) ≤ 16 = omega (arith, without_zeros-length b) in
     folded-bignum t (without_zeros b) is short ∙ bignum_meaning-without_zeros t b ∙ e
@@ -95,34 +104,41 @@ IsFolded-unsigned : (b : List ℕ) → length b ≤ 16 → (c : Bool) → ltb (b
 unfolding bignum_meaning
 IsFolded-unsigned b h true e = refl
 IsFolded-unsigned b h false e =
-    bignum_stays 2 b refl h (ap (λ c. cond c (Some (integer (pos (big_endian b)))) (Some (tag 2 (bytes (without_zeros b))))) e)
+    bignum_stays 2 b refl h (ap (λ c. cond c (Some (integer (pos (big_endian b))))
+    (Some (tag 2 (bytes (without_zeros b))))) e)
 
-IsFolded-negative : (b : List ℕ) → length b ≤ 16 → (c d : Bool) → ltb (big_endian b) (2 ^ 64) ≡ c → ltb (big_endian b) (2 ^ 127) ≡ d →
+IsFolded-negative : (b : List ℕ) → length b ≤ 16 → (c d : Bool) → ltb (big_endian b) (2 ^ 64) ≡ c →
+    ltb (big_endian b) (2 ^ 127) ≡ d →
     IsFolded (cond c (Some (integer (negsuc (big_endian b)))) (cond d (Some (tag 3 (bytes (without_zeros b)))) None))
 unfolding bignum_meaning
 IsFolded-negative b h true d e f = refl
 IsFolded-negative b h false false e f = tt
 IsFolded-negative b h false true e f =
     bignum_stays 3 b refl h
-    (ap (λ c. cond c (Some (integer (negsuc (big_endian b)))) (cond (ltb (big_endian b) (2 ^ 127)) (Some (tag 3 (bytes (without_zeros b)))) None)) e ∙
+    (ap (λ c. cond c (Some (integer (negsuc (big_endian b))))
+    (cond (ltb (big_endian b) (2 ^ 127)) (Some (tag 3 (bytes (without_zeros b)))) None)) e ∙
     ap (λ c. cond c (Some (tag 3 (bytes (without_zeros b)))) None) f)
 
 IsFolded-bignum : (t : ℕ) (b : List ℕ) → length b ≤ 16 → IsFolded (bignum_meaning t b)
 unfolding bignum_meaning
 IsFolded-bignum t b h = by (eqb t 2)
   where
-    by : (c : Bool) → IsFolded (cond c (unsigned_bignum (big_endian b) (without_zeros b)) (negative_bignum (big_endian b) (without_zeros b)))
+    by : (c : Bool) → IsFolded (cond c (unsigned_bignum (big_endian b) (without_zeros b))
+        (negative_bignum (big_endian b) (without_zeros b)))
     by true = IsFolded-unsigned b h (ltb (big_endian b) (2 ^ 64)) refl
     by false = IsFolded-negative b h (ltb (big_endian b) (2 ^ 64)) (ltb (big_endian b) (2 ^ 127)) refl refl
 
-IsFolded-tag : (t : ℕ) (c : Bool) (o : Option (List ℕ)) (m : Option Tree) → is_bignum_tag t ≡ c → IsShort o → KeepsBytes o m → IsFolded m →
+IsFolded-tag : (t : ℕ) (c : Bool) (o : Option (List ℕ)) (m : Option Tree) → is_bignum_tag t ≡ c → IsShort o →
+    KeepsBytes o m → IsFolded m →
     IsFolded (tag_meaning t (cond c o None) m)
 IsFolded-tag t true (Some b) m is short keeps h = IsFolded-bignum t b short
 IsFolded-tag t true None None is short keeps h = tt
 IsFolded-tag t true None (Some w) is short keeps h =
-    ap (λ c. tag_meaning t (cond c (short_bytes w) None) (folded w)) is ∙ ap (λ o. tag_meaning t o (folded w)) keeps ∙ ap (option_map (tag t)) h
+    ap (λ c. tag_meaning t (cond c (short_bytes w) None) (folded w)) is ∙ ap (λ o. tag_meaning t o (folded w)) keeps ∙
+    ap (option_map (tag t)) h
 IsFolded-tag t false o None is short keeps h = tt
-IsFolded-tag t false o (Some w) is short keeps h = ap (λ c. tag_meaning t (cond c (short_bytes w) None) (folded w)) is ∙ ap (option_map (tag t)) h
+IsFolded-tag t false o (Some w) is short keeps h = ap (λ c. tag_meaning t (cond c (short_bytes w) None) (folded w)) is ∙
+    ap (option_map (tag t)) h
 
 IsFolded-array : (o : Option Trees) → AreFolded o → IsFolded (option_map array o)
 IsFolded-array None h = tt
@@ -137,12 +153,14 @@ AreFolded-more None ms h k = tt
 AreFolded-more (Some v) None h k = tt
 AreFolded-more (Some v) (Some vs) h k = ap (λ o. trees_more o (trees_folded vs)) h ∙ ap (trees_more (Some v)) k
 
-PairsAreFolded-more : (m n : Option Tree) (ms : Option TreePairs) → IsFolded m → IsFolded n → PairsAreFolded ms → PairsAreFolded (tree_pairs_more m n ms)
+PairsAreFolded-more : (m n : Option Tree) (ms : Option TreePairs) → IsFolded m → IsFolded n → PairsAreFolded ms →
+    PairsAreFolded (tree_pairs_more m n ms)
 PairsAreFolded-more None n ms h i j = tt
 PairsAreFolded-more (Some k) None ms h i j = tt
 PairsAreFolded-more (Some k) (Some v) None h i j = tt
 PairsAreFolded-more (Some k) (Some v) (Some ps) h i j =
-    ap (λ o. tree_pairs_more o (folded v) (tree_pairs_folded ps)) h ∙ ap (λ o. tree_pairs_more (Some k) o (tree_pairs_folded ps)) i ∙
+    ap (λ o. tree_pairs_more o (folded v) (tree_pairs_folded ps)) h ∙
+    ap (λ o. tree_pairs_more (Some k) o (tree_pairs_folded ps)) i ∙
     ap (tree_pairs_more (Some k) (Some v)) j
 
 IsShort-short_bytes : (v : Tree) → IsShort (short_bytes v)
@@ -173,7 +191,8 @@ KeepsBytes-folded (tag t v) = tagged (tree_folding_bytes t v) (folded v)
     chosen false o p h k = k
 
     tagged : (o : Option (List ℕ)) (m : Option Tree) → KeepsBytes None (tag_meaning t o m)
-    tagged (Some b) m = chosen (eqb t 2) _ _ (chosen (ltb (big_endian b) (2 ^ 64)) _ _ refl refl) (chosen (ltb (big_endian b) (2 ^ 64)) _ _ refl (chosen (ltb (big_endian b) (2 ^ 127)) _ _ refl tt))
+    tagged (Some b) m = chosen (eqb t 2) _ _ (chosen (ltb (big_endian b) (2 ^ 64)) _ _ refl refl)
+        (chosen (ltb (big_endian b) (2 ^ 64)) _ _ refl (chosen (ltb (big_endian b) (2 ^ 127)) _ _ refl tt))
     tagged None None = tt
     tagged None (Some w) = refl
 KeepsBytes-folded (array vs) = by (trees_folded vs)
@@ -195,18 +214,21 @@ mutual
   IsFolded-folded (boolean b) = refl
   IsFolded-folded null = refl
   IsFolded-folded (tag t v) =
-      IsFolded-tag t (is_bignum_tag t) (short_bytes v) (folded v) refl (IsShort-short_bytes v) (KeepsBytes-folded v) (IsFolded-folded v)
+      IsFolded-tag t (is_bignum_tag t) (short_bytes v) (folded v) refl (IsShort-short_bytes v) (KeepsBytes-folded v)
+      (IsFolded-folded v)
   IsFolded-folded (array vs) = IsFolded-array (trees_folded vs) (AreFolded-trees_folded vs)
   IsFolded-folded (map ps) = IsFolded-map (tree_pairs_folded ps) (PairsAreFolded-tree_pairs_folded ps)
 
   AreFolded-trees_folded : (vs : Trees) → AreFolded (trees_folded vs)
   AreFolded-trees_folded no_trees = refl
-  AreFolded-trees_folded (tree v vs) = AreFolded-more (folded v) (trees_folded vs) (IsFolded-folded v) (AreFolded-trees_folded vs)
+  AreFolded-trees_folded (tree v vs) = AreFolded-more (folded v) (trees_folded vs) (IsFolded-folded v)
+      (AreFolded-trees_folded vs)
 
   PairsAreFolded-tree_pairs_folded : (ps : TreePairs) → PairsAreFolded (tree_pairs_folded ps)
   PairsAreFolded-tree_pairs_folded no_tree_pairs = refl
   PairsAreFolded-tree_pairs_folded (tree_pair k v ps) =
-      PairsAreFolded-more (folded k) (folded v) (tree_pairs_folded ps) (IsFolded-folded k) (IsFolded-folded v) (PairsAreFolded-tree_pairs_folded ps)
+      PairsAreFolded-more (folded k) (folded v) (tree_pairs_folded ps) (IsFolded-folded k) (IsFolded-folded v)
+      (PairsAreFolded-tree_pairs_folded ps)
 
 pub folds_once : FoldsOnce
 folds_once v w h = subst IsFolded h (IsFolded-folded v)

@@ -6,7 +6,8 @@ use Rattle.ciborium_value.specs.Number.{number_tree}
 use Rattle.ciborium_value.specs.Sinks.{number_item}
 use Rattle.ciborium_value.specs.Tree.{Tree}
 
-either : (t : Bool) (v w : Tree) (i j : Item) → item_of v ≡ i → item_of w ≡ j → item_of (if t then v else w) ≡ (if t then i else j)
+either : (t : Bool) (v w : Tree) (i j : Item) → item_of v ≡ i → item_of w ≡ j →
+    item_of (if t then v else w) ≡ (if t then i else j)
 either true v w i j h k = h
 either false v w i j h k = k
 

@@ -1,8 +1,10 @@
 -- What a bignum tag stands over, and what it means: an integer, or a tag over bytes.
-use Rattle.std.proofs.Common.{◌≡◌, ℕ, ◌^◌, Bool, true, false, cond, eqb, ltb, List, Option, Some, None, refl, subst, ℤ, pos, negsuc}
+use Rattle.std.proofs.Common.{◌≡◌, ℕ, ◌^◌, Bool, true, false, cond, eqb, ltb, List, Option, Some, None, refl, subst, ℤ}
+use Rattle.std.proofs.Common.{pos, negsuc}
 use Rattle.ciborium_value.specs.Deterministic.{HasRisingKeys}
 use Rattle.ciborium_value.specs.Folded.{short_bytes, tree_folding_bytes}
-use Rattle.ciborium_value.specs.Meaning.{is_bignum_tag, big_endian, without_zeros, bignum_meaning, unsigned_bignum, negative_bignum}
+use Rattle.ciborium_value.specs.Meaning.{is_bignum_tag, big_endian, without_zeros, bignum_meaning, unsigned_bignum}
+use Rattle.ciborium_value.specs.Meaning.{negative_bignum}
 use Rattle.ciborium_value.specs.Tree.{Tree, integer, bytes, text, boolean, null, tag, array, map}
 use Rattle.ciborium_value.specs.declared.key_order.KeyOrder.{KeyOrder}
 
@@ -35,7 +37,9 @@ Holds IsSome None = Unit {0}
 Holds IsSome (Some u) = IsSome u
 
 -- what holds of integers and of tags over bytes holds of what bytes mean
-pub bignum-holds : (IsSome : Tree → Type 0) → ((z : ℤ) → IsSome (integer z)) → ((t : ℕ) (b : List ℕ) → IsSome (tag t (bytes b))) → (t : ℕ) (b : List ℕ) (u : Tree) → bignum_meaning t b ≡ Some u → IsSome u
+pub bignum-holds : (IsSome : Tree → Type 0) → ((z : ℤ) → IsSome (integer z)) →
+    ((t : ℕ) (b : List ℕ) → IsSome (tag t (bytes b))) → (t : ℕ) (b : List ℕ) (u : Tree) → bignum_meaning t b ≡ Some u →
+    IsSome u
 unfolding bignum_meaning
 bignum-holds IsSome number tagged t b u e =
     let n : ℕ = big_endian b in
@@ -43,7 +47,8 @@ bignum-holds IsSome number tagged t b u e =
     subst (Holds IsSome) e
     (chosen (eqb t 2) (unsigned_bignum n c) (negative_bignum n c)
     (chosen (ltb n (2 ^ 64)) (Some (integer (pos n))) (Some (tag 2 (bytes c))) (number (pos n)) (tagged 2 c))
-    (chosen (ltb n (2 ^ 64)) (Some (integer (negsuc n))) (cond (ltb n (2 ^ 127)) (Some (tag 3 (bytes c))) None) (number (negsuc n))
+    (chosen (ltb n (2 ^ 64)) (Some (integer (negsuc n))) (cond (ltb n (2 ^ 127)) (Some (tag 3 (bytes c))) None)
+    (number (negsuc n))
     (chosen (ltb n (2 ^ 127)) (Some (tag 3 (bytes c))) None (tagged 3 c) tt)))
   where
     chosen : (a : Bool) (m n : Option Tree) → Holds IsSome m → Holds IsSome n → Holds IsSome (cond a m n)

@@ -24,7 +24,8 @@ given-map f (refuses j) = refl
 given-map f nests = refl
 
 -- the value of one outcome after another
-pub given-then : {A B : Type 0} (r : Outcome A) (f : A → Outcome B) → given (then_take r f) ≡ option_and_then (λ x. given (f x)) (given r)
+pub given-then : {A B : Type 0} (r : Outcome A) (f : A → Outcome B) →
+    given (then_take r f) ≡ option_and_then (λ x. given (f x)) (given r)
 given-then (gives x) f = refl
 given-then (refuses j) f = refl
 given-then nests f = refl

@@ -1,20 +1,25 @@
 -- The form of a tree that a program can hold is such a tree.
-use Rattle.std.proofs.Common.{◌≡◌, ℕ, ◌≤◌, suc, cond, Bool, true, false, leb, List, length, Option, Some, None, refl, ap, ◌∙◌, subst}
+use Rattle.std.proofs.Common.{◌≡◌, ℕ, ◌≤◌, suc, cond, Bool, true, false, leb, List, length, Option, Some, None, refl}
+use Rattle.std.proofs.Common.{ap, ◌∙◌, subst}
 use Rattle.ciborium_ll.specs.Bytes.{greatest_offset}
 use Rattle.ciborium_ll.specs.ProperItems.{IsProperBytes}
-use Rattle.ciborium_value.specs.DeterministicForms.{sorted_pairs, tag_form, deterministic_form, deterministic_forms, pair_forms}
+use Rattle.ciborium_value.specs.DeterministicForms.{sorted_pairs, tag_form, deterministic_form, deterministic_forms}
+use Rattle.ciborium_value.specs.DeterministicForms.{pair_forms}
 use Rattle.ciborium_value.specs.Folded.{short_bytes, tree_folding_bytes}
 use Rattle.ciborium_value.specs.laws.FormLaws.{FormIsProper}
 use Rattle.ciborium_value.specs.Meaning.{bignum_meaning}
 use Rattle.ciborium_value.specs.ProperTrees.{IsProperTree, AreProperTrees, AreProperTreePairs}
 use Rattle.ciborium_value.specs.Taken.{gives, then_take}
-use Rattle.ciborium_value.specs.Tree.{Tree, integer, bytes, text, boolean, null, tag, array, map, Trees, no_trees, tree, trees_count, TreePairs, no_tree_pairs, tree_pair, tree_pairs_count}
+use Rattle.ciborium_value.specs.Tree.{Tree, integer, bytes, text, boolean, null, tag, array, map, Trees, no_trees, tree}
+use Rattle.ciborium_value.specs.Tree.{trees_count, TreePairs, no_tree_pairs, tree_pair, tree_pairs_count}
 use Rattle.ciborium_value.specs.declared.key_order.KeyOrder.{KeyOrder}
 use Rattle.ciborium_value.specs.declared.kind.Kind.TheVariants as kinds
 use Rattle.ciborium_value.proofs.Forms.BignumShapes.{short_where_folding}
-use Rattle.ciborium_value.specs.lemmas.GivenOutcomes.{one_given, mapped_gives, then_gives, more_gives, pair_gives, meaning_given}
+use Rattle.ciborium_value.specs.lemmas.GivenOutcomes.{one_given, mapped_gives, then_gives, more_gives, pair_gives}
+use Rattle.ciborium_value.specs.lemmas.GivenOutcomes.{meaning_given}
 use Rattle.ciborium_value.proofs.GoodItems.ProperMeanings.{proper_bignum}
-use Rattle.ciborium_value.proofs.Forms.ReorderedPairs.{AreReordered, as_they_are, behind, neighbours, then_again, sorted-reorders}
+use Rattle.ciborium_value.proofs.Forms.ReorderedPairs.{AreReordered, as_they_are, behind, neighbours, then_again}
+use Rattle.ciborium_value.proofs.Forms.ReorderedPairs.{sorted-reorders}
 
 -- ---- bytes on which a tag folds
 
@@ -59,10 +64,12 @@ forms-count o (tree v vs) us e =
     ap suc (forms-count o vs ws are) ∙ ap trees_count made
 
 -- and as many pairs of forms as pairs
-pair_forms-count : (o : KeyOrder) (ps us : TreePairs) → pair_forms o ps ≡ gives us → tree_pairs_count ps ≡ tree_pairs_count us
+pair_forms-count : (o : KeyOrder) (ps us : TreePairs) → pair_forms o ps ≡ gives us →
+    tree_pairs_count ps ≡ tree_pairs_count us
 pair_forms-count o no_tree_pairs us e = ap tree_pairs_count (one_given _ _ e)
 pair_forms-count o (tree_pair k v ps) us e =
-    let (l, w, qs, isl, isw, are, made) = pair_gives (deterministic_form o k) (deterministic_form o v) (pair_forms o ps) us e in
+    let (l, w, qs, isl, isw, are, made) = pair_gives (deterministic_form o k) (deterministic_form o v) (pair_forms o ps)
+    us e in
     ap suc (pair_forms-count o ps qs are) ∙ ap tree_pairs_count made
 
 -- ---- forms
@@ -77,28 +84,45 @@ mutual
   form_is_proper o null u h e = subst IsProperTree (one_given _ _ e) h
   form_is_proper o (tag t v) u h e = by (λ w. form_is_proper o v w h.1) (tree_folding_bytes t v) refl e
     where
-      by : ((w : Tree) → deterministic_form o v ≡ gives w → IsProperTree w) → (m : Option (List ℕ)) → tree_folding_bytes t v ≡ m → tag_form t m (deterministic_form o v) ≡ gives u → IsProperTree u
-      by inner (Some b) is f = proper_bignum t b u (short_bytes-proper v b h.1 (short_where_folding t v b is)) (meaning_given kinds.TooLarge (bignum_meaning t b) u f)
-      by inner None is f = let (w, isw, made) = mapped_gives (tag t) (deterministic_form o v) u f in subst IsProperTree made (h.0, inner w isw)
+      by : ((w : Tree) → deterministic_form o v ≡ gives w → IsProperTree w) → (m : Option (List ℕ)) →
+          tree_folding_bytes t v ≡ m → tag_form t m (deterministic_form o v) ≡ gives u → IsProperTree u
+      by inner (Some b) is f = proper_bignum t b u (short_bytes-proper v b h.1 (short_where_folding t v b is))
+          (meaning_given kinds.TooLarge (bignum_meaning t b) u f)
+      by inner None is f = let (w, isw, made) = mapped_gives (tag t) (deterministic_form o v) u f in
+          subst IsProperTree made (h.0, inner w isw)
   form_is_proper o (array vs) u h e =
       let (ws, is, made) = mapped_gives array (deterministic_forms o vs) u e in
-      subst IsProperTree made (subst (λ n. n ≤ greatest_offset) (forms-count o vs ws is) h.0, forms_are_proper o vs ws h.1 is)
+      subst IsProperTree made (
+        subst (λ n. n ≤ greatest_offset) (forms-count o vs ws is) h.0,
+        forms_are_proper o vs ws h.1 is,
+      )
   form_is_proper o (map ps) u h e =
       let (qs, is, made) = mapped_gives map (then_take (pair_forms o ps) (sorted_pairs o)) u e in
       let (rs, each, sorted) = then_gives (pair_forms o ps) (sorted_pairs o) qs is in
       let order : AreReordered rs qs = sorted-reorders o rs qs sorted in
-      subst IsProperTree made (subst (λ n. n ≤ greatest_offset) (pair_forms-count o ps rs each ∙ reordered-count order) h.0, reordered-proper order (pair_forms_are_proper o ps rs h.1 each))
+      subst IsProperTree made (
+        subst (λ n. n ≤ greatest_offset) (pair_forms-count o ps rs each ∙ reordered-count order)
+            h.0,
+        reordered-proper order (pair_forms_are_proper o ps rs h.1 each),
+      )
 
   -- so is each of a list
-  forms_are_proper : (o : KeyOrder) (vs us : Trees) → AreProperTrees vs → deterministic_forms o vs ≡ gives us → AreProperTrees us
+  forms_are_proper : (o : KeyOrder) (vs us : Trees) → AreProperTrees vs → deterministic_forms o vs ≡ gives us →
+      AreProperTrees us
   forms_are_proper o no_trees us h e = subst AreProperTrees (one_given _ _ e) tt
   forms_are_proper o (tree v vs) us h e =
       let (w, ws, is, are, made) = more_gives (deterministic_form o v) (deterministic_forms o vs) us e in
       subst AreProperTrees made (form_is_proper o v w h.0 is, forms_are_proper o vs ws h.1 are)
 
   -- and each key and value of pairs
-  pair_forms_are_proper : (o : KeyOrder) (ps us : TreePairs) → AreProperTreePairs ps → pair_forms o ps ≡ gives us → AreProperTreePairs us
+  pair_forms_are_proper : (o : KeyOrder) (ps us : TreePairs) → AreProperTreePairs ps → pair_forms o ps ≡ gives us →
+      AreProperTreePairs us
   pair_forms_are_proper o no_tree_pairs us h e = subst AreProperTreePairs (one_given _ _ e) tt
   pair_forms_are_proper o (tree_pair k v ps) us h e =
-      let (l, w, qs, isl, isw, are, made) = pair_gives (deterministic_form o k) (deterministic_form o v) (pair_forms o ps) us e in
-      subst AreProperTreePairs made (form_is_proper o k l h.0 isl, form_is_proper o v w h.1 isw, pair_forms_are_proper o ps qs h.2 are)
+      let (l, w, qs, isl, isw, are, made) = pair_gives (deterministic_form o k) (deterministic_form o v)
+      (pair_forms o ps) us e in
+      subst AreProperTreePairs made (
+        form_is_proper o k l h.0 isl,
+        form_is_proper o v w h.1 isw,
+        pair_forms_are_proper o ps qs h.2 are,
+      )

@@ -1,5 +1,7 @@
--- The worked examples. What is spelled is given by its items and heads; a refusal is computed by the reader, which answers what the definitions say.
-use Rattle.std.proofs.Common.{◌<◌, ◌≡◌, ℕ, ltb, List, [], ◌∷◌, refl, subst, inl, lit<, lit≤, arith, Bool, true, false, ◌&&◌}
+-- The worked examples. What is spelled is given by its items and heads; a refusal is computed by the reader, which
+-- answers what the definitions say.
+use Rattle.std.proofs.Common.{◌<◌, ◌≡◌, ℕ, ltb, List, [], ◌∷◌, refl, subst, inl, lit<, lit≤, arith, Bool, true, false}
+use Rattle.std.proofs.Common.{◌&&◌}
 use Rattle.std.specs.Str.{is_utf8, chars}
 use Rattle.std.specs.Prelude.{IsUtf8}
 use Rattle.std.proofs.lemmas.Bool.{ltb-true}
@@ -14,7 +16,8 @@ use Rattle.ciborium_value.proofs.GoodItems.Refused.{bytes_again}
 use Rattle.ciborium_value.specs.Nesting.{Limit}
 use Rattle.ciborium_value.specs.Meaning.{big_endian_behind, bignum_meaning, simple_meaning}
 use Rattle.ciborium_value.specs.Refuses.{Refuses}
-use Rattle.ciborium_value.specs.laws.Examples.{hex, SpelledExamples, FoldingExamples, RefusedExamples, CornerExamples, WrittenExamples, CountedExamples}
+use Rattle.ciborium_value.specs.laws.Examples.{hex, SpelledExamples, FoldingExamples, RefusedExamples, CornerExamples}
+use Rattle.ciborium_value.specs.laws.Examples.{WrittenExamples, CountedExamples}
 use Rattle.ciborium_value.proofs.GoodItems.Reader.{refused, read}
 use Rattle.ciborium_value.proofs.GoodItems.Answered.{Meets, read-meets}
 use Rattle.ciborium_value.proofs.GoodItems.Outcome.{enough}
@@ -25,7 +28,10 @@ are_bytes (x ∷ b) = ltb x 256 && are_bytes b
 
 bytes-tested : (b : List ℕ) → are_bytes b ≡ true → EachIsByte b
 bytes-tested [] h = tt
-bytes-tested (x ∷ b) h = (ltb-true x 256 (first (ltb x 256) (are_bytes b) h), bytes-tested b (second (ltb x 256) (are_bytes b) h))
+bytes-tested (x ∷ b) h = (
+  ltb-true x 256 (first (ltb x 256) (are_bytes b) h),
+  bytes-tested b (second (ltb x 256) (are_bytes b) h),
+)
   where
     first : (t u : Bool) → (t && u) ≡ true → t ≡ true
     first true u e = refl
@@ -39,8 +45,10 @@ bytes-tested (x ∷ b) h = (ltb-true x 256 (first (ltb x 256) (are_bytes b) h), 
 low : (b : List ℕ) → are_bytes b ≡ true → AreBytes b
 low b h = All-from_recursion (λ n. n < 256) b (bytes_again b (bytes-tested b h))
 
-refused-by-reading : {b : List ℕ} {p : ℕ} {l : Limit} {e : Refusal} → are_bytes b ≡ true → read (enough b) b p l ≡ refused e → Refuses b p l e
-refused-by-reading {b} {p} {l} t h = subst (Meets b p l) h (read-meets (enough b) b p l (bytes-tested b t) (omega arith))
+refused-by-reading : {b : List ℕ} {p : ℕ} {l : Limit} {e : Refusal} → are_bytes b ≡ true →
+    read (enough b) b p l ≡ refused e → Refuses b p l e
+refused-by-reading {b} {p} {l} t h = subst (Meets b p l) h
+    (read-meets (enough b) b p l (bytes-tested b t) (omega arith))
 
 letter : (c : ℕ) → is_utf8 (c ∷ []) ≡ true → IsUtf8 (c ∷ [])
 letter c h = IsUtf8-from_is_utf8 (c ∷ []) h
@@ -52,10 +60,160 @@ spelled_examples =
       zero = (item.unsigned 0, (within, lit< tt, refl), refl);
       zero_in_a_wide_head = (item.unsigned 0, (one_byte, lit< tt, refl), refl);
       least_integer = (item.negative 18446744073709551615, (eight_bytes, lit< tt, refl), refl);
-      open_arrays = (item.array true (item.item (item.unsigned 1) (item.item (item.array false (item.item (item.unsigned 2) (item.item (item.unsigned 3) item.no_items))) (item.item (item.array true (item.item (item.unsigned 4) (item.item (item.unsigned 5) item.no_items))) item.no_items))), (hex "018202039f0405ff", (hex "01", hex "8202039f0405ff", (within, lit< tt, refl), (hex "820203", hex "9f0405ff", (hex "0203", (hex "02", hex "03", (within, lit< tt, refl), (hex "03", [], (within, lit< tt, refl), refl, refl), refl), (hex "82", (within, lit< tt, refl), refl)), (hex "9f0405ff", [], (hex "0405", (hex "04", hex "05", (within, lit< tt, refl), (hex "05", [], (within, lit< tt, refl), refl, refl), refl), refl), refl, refl), refl), refl), refl), refl);
-      definite_arrays = (item.array false (item.item (item.unsigned 1) (item.item (item.array false (item.item (item.unsigned 2) (item.item (item.unsigned 3) item.no_items))) (item.item (item.array false (item.item (item.unsigned 4) (item.item (item.unsigned 5) item.no_items))) item.no_items))), (hex "01820203820405", (hex "01", hex "820203820405", (within, lit< tt, refl), (hex "820203", hex "820405", (hex "0203", (hex "02", hex "03", (within, lit< tt, refl), (hex "03", [], (within, lit< tt, refl), refl, refl), refl), (hex "82", (within, lit< tt, refl), refl)), (hex "820405", [], (hex "0405", (hex "04", hex "05", (within, lit< tt, refl), (hex "05", [], (within, lit< tt, refl), refl, refl), refl), (hex "82", (within, lit< tt, refl), refl)), refl, refl), refl), refl), (hex "83", (within, lit< tt, refl), refl)), refl);
-      open_map = (item.map true (item.pair (item.text false (hex "61")) (item.unsigned 1) (item.pair (item.text false (hex "62")) (item.array true (item.item (item.unsigned 2) (item.item (item.unsigned 3) item.no_items))) item.no_pairs)), (hex "61610161629f0203ff", (hex "6161", hex "01", hex "61629f0203ff", (hex "61", (within, lit< tt, refl), letter _ refl, refl), (within, lit< tt, refl), (hex "6162", hex "9f0203ff", [], (hex "61", (within, lit< tt, refl), letter _ refl, refl), (hex "0203", (hex "02", hex "03", (within, lit< tt, refl), (hex "03", [], (within, lit< tt, refl), refl, refl), refl), refl), refl, refl), refl), refl), refl);
-      open_bytes = (item.bytes true (hex "0102030405"), ((hex "0102") ∷ (hex "030405") ∷ [], hex "42010243030405", (hex "420102", hex "43030405", (hex "42", (within, lit< tt, refl), low (hex "0102") refl, refl), (hex "43030405", [], (hex "43", (within, lit< tt, refl), low (hex "030405") refl, refl), refl, refl), refl), refl, refl), refl);
+      open_arrays = (
+        item.array true (item.item (item.unsigned 1)
+            (item.item (item.array false (item.item (item.unsigned 2) (item.item (item.unsigned 3) item.no_items)))
+            (item.item (item.array true (item.item (item.unsigned 4) (item.item (item.unsigned 5) item.no_items)))
+            item.no_items))),
+        (
+          hex "018202039f0405ff",
+          (
+            hex "01",
+            hex "8202039f0405ff",
+            (within, lit< tt, refl),
+            (
+              hex "820203",
+              hex "9f0405ff",
+              (
+                hex "0203",
+                (
+                  hex "02",
+                  hex "03",
+                  (within, lit< tt, refl),
+                  (hex "03", [], (within, lit< tt, refl), refl, refl),
+                  refl,
+                ),
+                (hex "82", (within, lit< tt, refl), refl),
+              ),
+              (
+                hex "9f0405ff",
+                [],
+                (
+                  hex "0405",
+                  (
+                    hex "04",
+                    hex "05",
+                    (within, lit< tt, refl),
+                    (hex "05", [], (within, lit< tt, refl), refl, refl),
+                    refl,
+                  ),
+                  refl,
+                ),
+                refl,
+                refl,
+              ),
+              refl,
+            ),
+            refl,
+          ),
+          refl,
+        ),
+        refl,
+      );
+      definite_arrays = (
+        item.array false (item.item (item.unsigned 1)
+            (item.item (item.array false (item.item (item.unsigned 2) (item.item (item.unsigned 3) item.no_items)))
+            (item.item (item.array false (item.item (item.unsigned 4) (item.item (item.unsigned 5) item.no_items)))
+            item.no_items))),
+        (
+          hex "01820203820405",
+          (
+            hex "01",
+            hex "820203820405",
+            (within, lit< tt, refl),
+            (
+              hex "820203",
+              hex "820405",
+              (
+                hex "0203",
+                (
+                  hex "02",
+                  hex "03",
+                  (within, lit< tt, refl),
+                  (hex "03", [], (within, lit< tt, refl), refl, refl),
+                  refl,
+                ),
+                (hex "82", (within, lit< tt, refl), refl),
+              ),
+              (
+                hex "820405",
+                [],
+                (
+                  hex "0405",
+                  (
+                    hex "04",
+                    hex "05",
+                    (within, lit< tt, refl),
+                    (hex "05", [], (within, lit< tt, refl), refl, refl),
+                    refl,
+                  ),
+                  (hex "82", (within, lit< tt, refl), refl),
+                ),
+                refl,
+                refl,
+              ),
+              refl,
+            ),
+            refl,
+          ),
+          (hex "83", (within, lit< tt, refl), refl),
+        ),
+        refl,
+      );
+      open_map = (
+        item.map true (item.pair (item.text false (hex "61")) (item.unsigned 1)
+            (item.pair (item.text false (hex "62")) (item.array true
+            (item.item (item.unsigned 2) (item.item (item.unsigned 3) item.no_items))) item.no_pairs)),
+        (
+          hex "61610161629f0203ff",
+          (
+            hex "6161",
+            hex "01",
+            hex "61629f0203ff",
+            (hex "61", (within, lit< tt, refl), letter _ refl, refl),
+            (within, lit< tt, refl),
+            (
+              hex "6162",
+              hex "9f0203ff",
+              [],
+              (hex "61", (within, lit< tt, refl), letter _ refl, refl),
+              (
+                hex "0203",
+                (
+                  hex "02",
+                  hex "03",
+                  (within, lit< tt, refl),
+                  (hex "03", [], (within, lit< tt, refl), refl, refl),
+                  refl,
+                ),
+                refl,
+              ),
+              refl,
+              refl,
+            ),
+            refl,
+          ),
+          refl,
+        ),
+        refl,
+      );
+      open_bytes = (
+        item.bytes true (hex "0102030405"),
+        (
+          (hex "0102") ∷ (hex "030405") ∷ [],
+          hex "42010243030405",
+          (
+            hex "420102",
+            hex "43030405",
+            (hex "42", (within, lit< tt, refl), low (hex "0102") refl, refl),
+            (hex "43030405", [], (hex "43", (within, lit< tt, refl), low (hex "030405") refl, refl), refl, refl),
+            refl,
+          ),
+          refl,
+          refl,
+        ),
+        refl,
+      );
       undefined = (item.simple 23, inl (lit< tt, refl), refl);
       null_is_written = refl;
     }
@@ -64,11 +222,81 @@ pub folding_examples : FoldingExamples
 unfolding is_utf8 chars lib.Utf8.encode big_endian_behind bignum_meaning simple_meaning shortest_head
 folding_examples =
     record {
-      empty_is_zero = (item.tag 2 (item.bytes false ([])), ((hex "c2", hex "40", (within, lit< tt, refl), (hex "40", (within, lit< tt, refl), low [] refl, refl), refl), refl, lit≤ tt, lit≤ tt), refl);
-      empty_is_minus_one = (item.tag 3 (item.bytes false ([])), ((hex "c3", hex "40", (within, lit< tt, refl), (hex "40", (within, lit< tt, refl), low [] refl, refl), refl), refl, lit≤ tt, lit≤ tt), refl);
-      one = (item.tag 2 (item.bytes false (hex "01")), ((hex "c2", hex "4101", (within, lit< tt, refl), (hex "41", (within, lit< tt, refl), low (hex "01") refl, refl), refl), refl, lit≤ tt, lit≤ tt), refl);
-      zeros_are_dropped = (item.tag 2 (item.bytes false (hex "00010000000000000000")), ((hex "c2", hex "4a00010000000000000000", (within, lit< tt, refl), (hex "4a", (within, lit< tt, refl), low (hex "00010000000000000000") refl, refl), refl), refl, lit≤ tt, lit≤ tt), refl);
-      open_stays = (item.tag 2 (item.bytes true (hex "01")), (hex "c2", hex "5f4101ff", (within, lit< tt, refl), ((hex "01") ∷ [], hex "4101", (hex "4101", [], (hex "41", (within, lit< tt, refl), low (hex "01") refl, refl), refl, refl), refl, refl), refl), refl);
+      empty_is_zero = (
+        item.tag 2 (item.bytes false ([])),
+        (
+          (hex "c2", hex "40", (within, lit< tt, refl), (hex "40", (within, lit< tt, refl), low [] refl, refl), refl),
+          refl,
+          lit≤ tt,
+          lit≤ tt,
+        ),
+        refl,
+      );
+      empty_is_minus_one = (
+        item.tag 3 (item.bytes false ([])),
+        (
+          (hex "c3", hex "40", (within, lit< tt, refl), (hex "40", (within, lit< tt, refl), low [] refl, refl), refl),
+          refl,
+          lit≤ tt,
+          lit≤ tt,
+        ),
+        refl,
+      );
+      one = (
+        item.tag 2 (item.bytes false (hex "01")),
+        (
+          (
+            hex "c2",
+            hex "4101",
+            (within, lit< tt, refl),
+            (hex "41", (within, lit< tt, refl), low (hex "01") refl, refl),
+            refl,
+          ),
+          refl,
+          lit≤ tt,
+          lit≤ tt,
+        ),
+        refl,
+      );
+      zeros_are_dropped = (
+        item.tag 2 (item.bytes false (hex "00010000000000000000")),
+        (
+          (
+            hex "c2",
+            hex "4a00010000000000000000",
+            (within, lit< tt, refl),
+            (hex "4a", (within, lit< tt, refl), low (hex "00010000000000000000") refl, refl),
+            refl,
+          ),
+          refl,
+          lit≤ tt,
+          lit≤ tt,
+        ),
+        refl,
+      );
+      open_stays = (
+        item.tag 2 (item.bytes true (hex "01")),
+        (
+          hex "c2",
+          hex "5f4101ff",
+          (within, lit< tt, refl),
+          (
+            (hex "01") ∷ [],
+            hex "4101",
+            (
+              hex "4101",
+              [],
+              (hex "41", (within, lit< tt, refl), low (hex "01") refl, refl),
+              refl,
+              refl,
+            ),
+            refl,
+            refl,
+          ),
+          refl,
+        ),
+        refl,
+      );
       too_large_has_none = refl;
       unsigned_has = refl;
       in_a_tree = refl;
@@ -110,9 +338,21 @@ corner_examples =
       low_simple_fits = refused-by-reading refl refl;
       reserved_at_the_last = refused-by-reading refl refl;
       break_over = refused-by-reading refl refl;
-      break_fits = (item.array true (item.item (item.unsigned 1) item.no_items), ((hex "01", (hex "01", [], (within, lit< tt, refl), refl, refl), refl), refl, lit≤ tt, lit≤ tt), refl);
-      empty_array_at_the_last = (item.array false item.no_items, (([], refl, (hex "80", (within, lit< tt, refl), refl)), refl, lit≤ tt, lit≤ tt), refl);
-      empty_bytes_at_the_last = (item.bytes false ([]), ((hex "40", (within, lit< tt, refl), low [] refl, refl), refl, lit≤ tt, lit≤ tt), refl);
+      break_fits = (
+        item.array true (item.item (item.unsigned 1) item.no_items),
+        ((hex "01", (hex "01", [], (within, lit< tt, refl), refl, refl), refl), refl, lit≤ tt, lit≤ tt),
+        refl,
+      );
+      empty_array_at_the_last = (
+        item.array false item.no_items,
+        (([], refl, (hex "80", (within, lit< tt, refl), refl)), refl, lit≤ tt, lit≤ tt),
+        refl,
+      );
+      empty_bytes_at_the_last = (
+        item.bytes false ([]),
+        ((hex "40", (within, lit< tt, refl), low [] refl, refl), refl, lit≤ tt, lit≤ tt),
+        refl,
+      );
       tag_at_the_last = refused-by-reading refl refl;
       large_bignum_over = refused-by-reading refl refl;
     }

@@ -1,5 +1,6 @@
 -- Whatever is a good item is a list of bytes.
-use Rattle.std.proofs.Common.{◌≡◌, ℕ, ◌+◌, ◌*◌, ◌/◌, ◌%◌, ◌<◌, cond, ltb, ltb-true, Bool, true, false, List, [], ◌∷◌, ◌++◌, length, Option, Some, None, IsSome, option_map, refl, sym, subst, arith, inl, inr}
+use Rattle.std.proofs.Common.{◌≡◌, ℕ, ◌+◌, ◌*◌, ◌/◌, ◌%◌, ◌<◌, cond, ltb, ltb-true, Bool, true, false, List, [], ◌∷◌}
+use Rattle.std.proofs.Common.{◌++◌, length, Option, Some, None, IsSome, option_map, refl, sym, subst, arith, inl, inr}
 use Rattle.std.specs.Prelude.{IsUtf8}
 use Rattle.std.proofs.lemmas.Bool.{and_parts}
 use Rattle.std.proofs.lemmas.List.Elements.{All-append, All-nil, All-from_recursion}
@@ -10,7 +11,8 @@ use Rattle.ciborium_ll.specs.Head.{IsHead, IsSimple, within, one_byte, two_bytes
 use Rattle.ciborium_ll.specs.Item as item
 use Rattle.ciborium_ll.specs.Item.{Item, Items, Pairs, items_count, pairs_count}
 use Rattle.ciborium_ll.specs.Spells.{AreChunks, IsString, IsContainer, Spells, SpellsItems, SpellsPairs}
-use Rattle.ciborium_value.specs.Meaning.{meaning, items_meaning, pairs_meaning, tag_meaning, is_bignum_tag, trees_more, tree_pairs_more}
+use Rattle.ciborium_value.specs.Meaning.{meaning, items_meaning, pairs_meaning, tag_meaning, is_bignum_tag, trees_more}
+use Rattle.ciborium_value.specs.Meaning.{tree_pairs_more}
 use Rattle.ciborium_value.specs.Nesting.{Limit}
 use Rattle.ciborium_value.specs.Refuses.{IsGood}
 use Rattle.ciborium_value.specs.Tree.{Tree, Trees, TreePairs, tag, array, map}
@@ -18,18 +20,42 @@ use Rattle.ciborium_value.specs.Tree.{Tree, Trees, TreePairs, tag, array, map}
 -- ---- heads
 
 head_bytes : (b : List ℕ) (m n : ℕ) → m < 7 → IsHead b m n → AreBytes b
-head_bytes b m n small (within, lt, e) = subst AreBytes (sym e) (All-from_recursion (λ x. x < 256) (head_in within m n) (omega (arith, small, lt), tt))
-head_bytes b m n small (one_byte, lt, e) = subst AreBytes (sym e) (All-from_recursion (λ x. x < 256) (head_in one_byte m n) (omega (arith, small), (lt, tt)))
-head_bytes b m n small (two_bytes, lt, e) = subst AreBytes (sym e) (All-from_recursion (λ x. x < 256) (head_in two_bytes m n) (omega (arith, small), (low 256, (mod_below n 256 (omega arith), tt))))
+head_bytes b m n small (within, lt, e) = subst AreBytes (sym e)
+    (All-from_recursion (λ x. x < 256) (head_in within m n) (omega (arith, small, lt), tt))
+head_bytes b m n small (one_byte, lt, e) = subst AreBytes (sym e)
+    (All-from_recursion (λ x. x < 256) (head_in one_byte m n) (omega (arith, small), (lt, tt)))
+head_bytes b m n small (two_bytes, lt, e) = subst AreBytes (sym e)
+    (All-from_recursion (λ x. x < 256) (head_in two_bytes m n)
+    (omega (arith, small), (low 256, (mod_below n 256 (omega arith), tt))))
   where
     low : (d : ℕ) → n / d % 256 < 256
     low d = mod_below (n / d) 256 (omega arith)
-head_bytes b m n small (four_bytes, lt, e) = subst AreBytes (sym e) (All-from_recursion (λ x. x < 256) (head_in four_bytes m n) (omega (arith, small), (low 16777216, (low 65536, (low 256, (mod_below n 256 (omega arith), tt))))))
+head_bytes b m n small (four_bytes, lt, e) = subst AreBytes (sym e)
+    (All-from_recursion (λ x. x < 256) (head_in four_bytes m n)
+    (omega (arith, small), (low 16777216, (low 65536, (low 256, (mod_below n 256 (omega arith), tt))))))
   where
     low : (d : ℕ) → n / d % 256 < 256
     low d = mod_below (n / d) 256 (omega arith)
-head_bytes b m n small (eight_bytes, lt, e) = subst AreBytes (sym e) (All-from_recursion (λ x. x < 256) (head_in eight_bytes m n)
-    (omega (arith, small), (low 72057594037927936, (low 281474976710656, (low 1099511627776, (low 4294967296, (low 16777216, (low 65536, (low 256, (mod_below n 256 (omega arith), tt))))))))))
+head_bytes b m n small (eight_bytes, lt, e) = subst AreBytes (sym e)
+    (All-from_recursion (λ x. x < 256) (head_in eight_bytes m n) (
+      omega (arith, small),
+      (
+        low 72057594037927936,
+        (
+          low 281474976710656,
+          (
+            low 1099511627776,
+            (
+              low 4294967296,
+              (
+                low 16777216,
+                (low 65536, (low 256, (mod_below n 256 (omega arith), tt))),
+              ),
+            ),
+          ),
+        ),
+      ),
+    ))
   where
     low : (d : ℕ) → n / d % 256 < 256
     low d = mod_below (n / d) 256 (omega arith)
@@ -63,41 +89,55 @@ char_bytes c ok =
     (λ t. either (ltb c 2048) (two c) (cond (ltb c 65536) (three c) (four c))
     (λ u. let h = ltb-true c 2048 u in All-from_recursion (λ x. x < 256) (two c) (omega (arith, h), (next_low c, tt)))
     (λ u. either (ltb c 65536) (three c) (four c)
-    (λ v. let h = ltb-true c 65536 v in All-from_recursion (λ x. x < 256) (three c) (omega (arith, h), (next_low (c / 64), (next_low c, tt))))
-    (λ v. let h = scalar_below c ok in All-from_recursion (λ x. x < 256) (four c) (omega (arith, h), (next_low (c / 4096), (next_low (c / 64), (next_low c, tt)))))))
+    (λ v. let h = ltb-true c 65536 v in All-from_recursion (λ x. x < 256) (three c)
+    (omega (arith, h), (next_low (c / 64), (next_low c, tt))))
+    (λ v. let h = scalar_below c ok in All-from_recursion (λ x. x < 256) (four c)
+    (omega (arith, h), (next_low (c / 4096), (next_low (c / 64), (next_low c, tt)))))))
 
 text_bytes : (cs : List ℕ) → scalars cs ≡ true → AreBytes (encodes cs)
 text_bytes [] h = All-nil (λ x. x < 256)
-text_bytes (c ∷ cs) h = let p = and_parts _ _ h in All-append (λ x. x < 256) (encode c) (encodes cs) (char_bytes c p.0) (text_bytes cs p.1)
+text_bytes (c ∷ cs) h = let p = and_parts _ _ h in All-append (λ x. x < 256) (encode c) (encodes cs) (char_bytes c p.0)
+    (text_bytes cs p.1)
 
 pub utf8_bytes : (b : List ℕ) → IsUtf8 b → AreBytes b
 utf8_bytes b (cs, h) = subst AreBytes h.1 (text_bytes cs h.0)
 
 -- ---- strings
 
-parts_bytes : (m : ℕ) (IsAllowed : List ℕ → Type 0) → m < 7 → ((y : List ℕ) → IsAllowed y → AreBytes y) → (ys : List (List ℕ)) (r : List ℕ) → AreChunks m IsAllowed r ys → AreBytes r
+parts_bytes : (m : ℕ) (IsAllowed : List ℕ → Type 0) → m < 7 → ((y : List ℕ) → IsAllowed y → AreBytes y) →
+    (ys : List (List ℕ)) (r : List ℕ) → AreChunks m IsAllowed r ys → AreBytes r
 parts_bytes m IsAllowed small ok [] r e = subst AreBytes (sym e) (All-nil (λ x. x < 256))
 parts_bytes m IsAllowed small ok (y ∷ ys) r (s, t, (h, head, is_ok, is), rest, e) =
-    subst AreBytes (sym e) (All-append (λ x. x < 256) s t (subst AreBytes (sym is) (All-append (λ x. x < 256) h y (head_bytes h m (length y) small head) (ok y is_ok))) (parts_bytes m IsAllowed small ok ys t rest))
+    subst AreBytes (sym e) (All-append (λ x. x < 256) s t
+    (subst AreBytes (sym is) (All-append (λ x. x < 256) h y (head_bytes h m (length y) small head) (ok y is_ok)))
+    (parts_bytes m IsAllowed small ok ys t rest))
 
 broken_bytes : (r : List ℕ) (x : ℕ) → x < 256 → AreBytes r → AreBytes (x ∷ (r ++ 255 ∷ []))
 broken_bytes r x low bytes =
     All-append (λ n. n < 256) (x ∷ []) (r ++ 255 ∷ []) (All-from_recursion (λ n. n < 256) (x ∷ []) (low, tt))
     (All-append (λ n. n < 256) r (255 ∷ []) bytes (All-from_recursion (λ n. n < 256) (255 ∷ []) (omega arith, tt)))
 
-string_bytes : (o : Bool) (m : ℕ) (IsAllowed : List ℕ → Type 0) → m < 7 → ((y : List ℕ) → IsAllowed y → AreBytes y) → (s y : List ℕ) → IsString o m IsAllowed s y → AreBytes s
-string_bytes false m IsAllowed small ok s y (h, head, is_ok, is) = subst AreBytes (sym is) (All-append (λ x. x < 256) h y (head_bytes h m (length y) small head) (ok y is_ok))
-string_bytes true m IsAllowed small ok s y (ys, r, parts, same, is) = subst AreBytes (sym is) (broken_bytes r (m * 32 + 31) (omega (arith, small)) (parts_bytes m IsAllowed small ok ys r parts))
+string_bytes : (o : Bool) (m : ℕ) (IsAllowed : List ℕ → Type 0) → m < 7 → ((y : List ℕ) → IsAllowed y → AreBytes y) →
+    (s y : List ℕ) → IsString o m IsAllowed s y → AreBytes s
+string_bytes false m IsAllowed small ok s y (h, head, is_ok, is) =
+    subst AreBytes (sym is) (All-append (λ x. x < 256) h y (head_bytes h m (length y) small head) (ok y is_ok))
+string_bytes true m IsAllowed small ok s y (ys, r, parts, same, is) =
+    subst AreBytes (sym is) (broken_bytes r (m * 32 + 31) (omega (arith, small))
+    (parts_bytes m IsAllowed small ok ys r parts))
 
 enclosed_bytes : (o : Bool) (m n : ℕ) → m < 7 → (s r : List ℕ) → IsContainer o m n s r → AreBytes r → AreBytes s
-enclosed_bytes false m n small s r (h, head, is) bytes = subst AreBytes (sym is) (All-append (λ x. x < 256) h r (head_bytes h m n small head) bytes)
-enclosed_bytes true m n small s r is bytes = subst AreBytes (sym is) (broken_bytes r (m * 32 + 31) (omega (arith, small)) bytes)
+enclosed_bytes false m n small s r (h, head, is) bytes =
+    subst AreBytes (sym is) (All-append (λ x. x < 256) h r (head_bytes h m n small head) bytes)
+enclosed_bytes true m n small s r is bytes = subst AreBytes (sym is)
+    (broken_bytes r (m * 32 + 31) (omega (arith, small)) bytes)
 
 -- ---- items
 
 simple_bytes : (s : List ℕ) (n : ℕ) → IsSimple s n → AreBytes s
-simple_bytes s n (inl (lt, is)) = subst AreBytes (sym is) (All-from_recursion (λ x. x < 256) ((224 + n) ∷ []) (omega (arith, lt), tt))
-simple_bytes s n (inr (le, lt, is)) = subst AreBytes (sym is) (All-from_recursion (λ x. x < 256) (248 ∷ n ∷ []) (omega arith, (lt, tt)))
+simple_bytes s n (inl (lt, is)) = subst AreBytes (sym is)
+    (All-from_recursion (λ x. x < 256) ((224 + n) ∷ []) (omega (arith, lt), tt))
+simple_bytes s n (inr (le, lt, is)) = subst AreBytes (sym is)
+    (All-from_recursion (λ x. x < 256) (248 ∷ n ∷ []) (omega arith, (lt, tt)))
 
 -- where a tag has a meaning, so has its item
 some-mapped : (t : ℕ) (m : Option Tree) → IsSome (option_map (tag t) m) → IsSome m
@@ -132,7 +172,8 @@ some-more None n h = absurd cc
 some-more (Some v) None h = absurd cc
 some-more (Some v) (Some vs) h = (refl, refl)
 
-some-pairs : (k v : Option Tree) (n : Option TreePairs) → IsSome (tree_pairs_more k v n) → IsSome k × IsSome v × IsSome n
+some-pairs : (k v : Option Tree) (n : Option TreePairs) → IsSome (tree_pairs_more k v n) → IsSome k × IsSome v ×
+    IsSome n
 some-pairs None v n h = absurd cc
 some-pairs (Some k) None n h = absurd cc
 some-pairs (Some k) (Some v) None h = absurd cc
@@ -144,10 +185,13 @@ mutual
   item_bytes (item.negative n) s h m = head_bytes s 1 n (omega arith) h
   item_bytes (item.bytes o y) s h m = string_bytes o 2 AreBytes (omega arith) (λ z k. k) s y h
   item_bytes (item.text o y) s h m = string_bytes o 3 IsUtf8 (omega arith) utf8_bytes s y h
-  item_bytes (item.array o is) s (r, h, e) m = enclosed_bytes o 4 (items_count is) (omega arith) s r e (items_bytes is r h (some-array (items_meaning is) m))
-  item_bytes (item.map o ps) s (r, h, e) m = enclosed_bytes o 5 (pairs_count ps) (omega arith) s r e (pairs_bytes ps r h (some-map (pairs_meaning ps) m))
+  item_bytes (item.array o is) s (r, h, e) m = enclosed_bytes o 4 (items_count is) (omega arith) s r e
+      (items_bytes is r h (some-array (items_meaning is) m))
+  item_bytes (item.map o ps) s (r, h, e) m = enclosed_bytes o 5 (pairs_count ps) (omega arith) s r e
+      (pairs_bytes ps r h (some-map (pairs_meaning ps) m))
   item_bytes (item.tag t i) s (h, r, head, k, e) m =
-      subst AreBytes (sym e) (All-append (λ x. x < 256) h r (head_bytes h 6 t (omega arith) head) (item_bytes i r k (content-means t i m)))
+      subst AreBytes (sym e) (All-append (λ x. x < 256) h r (head_bytes h 6 t (omega arith) head)
+      (item_bytes i r k (content-means t i m)))
   item_bytes (item.simple n) s h m = simple_bytes s n h
   item_bytes (item.float raw) s h m = absurd cc
 

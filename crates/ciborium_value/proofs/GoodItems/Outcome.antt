@@ -27,13 +27,21 @@ enough b = 2 * length b + 1
 pub answers : (b : List ℕ) (p : ℕ) (l : Limit) → AreBytes b → Meets b p l (read (enough b) b p l)
 answers b p l h = read-meets (enough b) b p l (each_is_byte b h) (omega arith)
 
-good-answer : (b : List ℕ) (p : ℕ) (l : Limit) → HasGoodItem b p l → (r : List ℕ) × (q : ℕ) × (read (enough b) b p l ≡ ends r q)
-good-answer b p l (s, i, r, g, e) = (r, p + length s, read-good (enough b) i s r b p (p + length s) l g e refl (omega arith))
+good-answer : (b : List ℕ) (p : ℕ) (l : Limit) → HasGoodItem b p l → (r : List ℕ) × (q : ℕ) ×
+    (read (enough b) b p l ≡ ends r q)
+good-answer b p l (s, i, r, g, e) = (
+  r,
+  p + length s,
+  read-good (enough b) i s r b p (p + length s) l g e refl
+      (omega arith),
+)
 
-refusal-answer : (b : List ℕ) (p : ℕ) (l : Limit) (e : Refusal) → AreBytes b → Refuses b p l e → read (enough b) b p l ≡ refused e
+refusal-answer : (b : List ℕ) (p : ℕ) (l : Limit) (e : Refusal) → AreBytes b → Refuses b p l e →
+    read (enough b) b p l ≡ refused e
 refusal-answer b p l e h f = refusal-read f (each_is_byte b h) (enough b) (omega arith)
 
-one_of : (b : List ℕ) (p : ℕ) (l : Limit) (a : Answer) → Meets b p l a → HasGoodItem b p l ⊎ ((e : Refusal) × Refuses b p l e)
+one_of : (b : List ℕ) (p : ℕ) (l : Limit) (a : Answer) → Meets b p l a →
+    HasGoodItem b p l ⊎ ((e : Refusal) × Refuses b p l e)
 one_of b p l (ends r q) m = inl (m.0, m.1, r, m.2, m.3)
 one_of b p l (refused e) m = inr (e, m)
 

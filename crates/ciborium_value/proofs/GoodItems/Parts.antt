@@ -1,12 +1,15 @@
 -- Items in a row, pairs as items, and limits.
-use Rattle.std.proofs.Common.{◌≡◌, ℕ, zero, suc, ◌+◌, ◌-◌, ◌*◌, ◌≤◌, max, List, [], ◌++◌, length, Option, Some, None, IsSome, refl, sym, ap, ◌∙◌, subst, arith, length-append, append_assoc, append-nil, option_map}
+use Rattle.std.proofs.Common.{◌≡◌, ℕ, zero, suc, ◌+◌, ◌-◌, ◌*◌, ◌≤◌, max, List, [], ◌++◌, length, Option, Some, None}
+use Rattle.std.proofs.Common.{IsSome, refl, sym, ap, ◌∙◌, subst, arith, length-append, append_assoc, append-nil}
+use Rattle.std.proofs.Common.{option_map}
 use Rattle.ciborium_ll.specs.Item.{Item, Items, no_items, item, Pairs, no_pairs, pair, items_count, pairs_count}
 use Rattle.ciborium_value.specs.Tree.{Tree, Trees, TreePairs}
 use Rattle.ciborium_ll.specs.Spells.{Spells, SpellsItems, SpellsPairs}
 use Rattle.ciborium_value.specs.Meaning.{items_meaning, pairs_meaning, trees_more, tree_pairs_more}
 use Rattle.ciborium_value.specs.Nesting.{items_nesting, pairs_nesting, Limit, IsWithin, IsOneLess}
 use Rattle.ciborium_ll.specs.Bytes.{greatest_offset}
-use Rattle.ciborium_value.specs.Refuses.{AreGood, IsGood, Due, exactly, items_until_break, keys_until_break, next_due, due_after}
+use Rattle.ciborium_value.specs.Refuses.{AreGood, IsGood, Due, exactly, items_until_break, keys_until_break, next_due}
+use Rattle.ciborium_value.specs.Refuses.{due_after}
 use Rattle.ciborium_value.proofs.GoodItems.Reader.{Answer, levels}
 
 -- ---- meanings
@@ -21,13 +24,15 @@ some-more None ms h k = absurd cc
 some-more (Some v) None h k = absurd cc
 some-more (Some v) (Some vs) h k = refl
 
-more_pairs-some : (m n : Option Tree) (ms : Option TreePairs) → IsSome (tree_pairs_more m n ms) → IsSome m × IsSome n × IsSome ms
+more_pairs-some : (m n : Option Tree) (ms : Option TreePairs) → IsSome (tree_pairs_more m n ms) → IsSome m × IsSome n ×
+    IsSome ms
 more_pairs-some None n ms h = absurd cc
 more_pairs-some (Some k) None ms h = absurd cc
 more_pairs-some (Some k) (Some v) None h = absurd cc
 more_pairs-some (Some k) (Some v) (Some ms) h = (refl, refl, refl)
 
-some-more_pairs : (m n : Option Tree) (ms : Option TreePairs) → IsSome m → IsSome n → IsSome ms → IsSome (tree_pairs_more m n ms)
+some-more_pairs : (m n : Option Tree) (ms : Option TreePairs) → IsSome m → IsSome n → IsSome ms →
+    IsSome (tree_pairs_more m n ms)
 some-more_pairs None n ms h k j = absurd cc
 some-more_pairs (Some k) None ms h i j = absurd cc
 some-more_pairs (Some k) (Some v) None h i j = absurd cc
@@ -59,15 +64,18 @@ within-zero (Some l) = omega arith
 
 -- ---- good items
 
-pub first-good : (i : Item) (is : Items) (l : Limit) (p : ℕ) (s t : List ℕ) → Spells s i → AreGood (item i is) l (s ++ t) p → IsGood i l s p
+pub first-good : (i : Item) (is : Items) (l : Limit) (p : ℕ) (s t : List ℕ) → Spells s i →
+    AreGood (item i is) l (s ++ t) p → IsGood i l s p
 first-good i is l p s t h g =
     (h, (more-some _ _ g.1).0, within-left l _ _ g.2, omega (arith, length-append s t, g.3))
 
-pub rest-good : (i : Item) (is : Items) (l : Limit) (p : ℕ) (s t : List ℕ) → SpellsItems t is → AreGood (item i is) l (s ++ t) p → AreGood is l t (p + length s)
+pub rest-good : (i : Item) (is : Items) (l : Limit) (p : ℕ) (s t : List ℕ) → SpellsItems t is →
+    AreGood (item i is) l (s ++ t) p → AreGood is l t (p + length s)
 rest-good i is l p s t h g =
     (h, (more-some _ _ g.1).1, within-right l _ _ g.2, omega (arith, length-append s t, g.3))
 
-pub more-good : (i : Item) (is : Items) (l : Limit) (p : ℕ) (s t : List ℕ) → IsGood i l s p → AreGood is l t (p + length s) → AreGood (item i is) l (s ++ t) p
+pub more-good : (i : Item) (is : Items) (l : Limit) (p : ℕ) (s t : List ℕ) → IsGood i l s p →
+    AreGood is l t (p + length s) → AreGood (item i is) l (s ++ t) p
 more-good i is l p s t g h =
     ((s, t, g.0, h.0, refl), some-more _ _ g.1 h.1, within-max l _ _ g.2 h.2, omega (arith, length-append s t, h.3))
 
@@ -86,7 +94,16 @@ flat-Spells (pair k v ps) b h = (h.0, h.1 ++ h.2, h.3, (h.1, h.2, h.4, flat-Spel
 
 pub Spells-flat : (ps : Pairs) (b : List ℕ) → SpellsItems b (flat ps) → SpellsPairs b ps
 Spells-flat no_pairs b h = h
-Spells-flat (pair k v ps) b h = (h.0, h.3.0, h.3.1, h.2, h.3.2, Spells-flat ps h.3.1 h.3.3, h.4 ∙ ap (λ (c : List ℕ). h.0 ++ c) h.3.4)
+Spells-flat (pair k v ps) b h = (
+  h.0,
+  h.3.0,
+  h.3.1,
+  h.2,
+  h.3.2,
+  Spells-flat ps h.3.1 h.3.3,
+  h.4 ∙
+      ap (λ (c : List ℕ). h.0 ++ c) h.3.4,
+)
 
 pub flat-meaning : (ps : Pairs) → IsSome (pairs_meaning ps) → IsSome (items_meaning (flat ps))
 flat-meaning no_pairs h = refl
@@ -131,7 +148,8 @@ pairs-open (item k (item v is)) h = let q = pairs-open is h in (pair k v q.0, ap
 pub pairs-counted : (is : Items) (n : ℕ) → items_count is ≡ 2 * n → ArePairs is
 pairs-counted no_items n h = (no_pairs, refl)
 pairs-counted (item k no_items) n h = let never : ⊥ = omega arith in absurd never
-pairs-counted (item k (item v is)) n h = let q = pairs-counted is (n - 1) (omega arith) in (pair k v q.0, ap (λ js. item k (item v js)) q.1)
+pairs-counted (item k (item v is)) n h = let q = pairs-counted is (n - 1) (omega arith) in
+    (pair k v q.0, ap (λ js. item k (item v js)) q.1)
 
 -- ---- limits
 
@@ -167,16 +185,21 @@ pub then-count : (is : Items) (j : Item) → items_count (then is j) ≡ suc (it
 then-count no_items j = refl
 then-count (item i is) j = ap suc (then-count is j)
 
-pub then-good : (is : Items) (j : Item) (l : Limit) (p : ℕ) (s t : List ℕ) → AreGood is l s p → IsGood j l t (p + length s) → AreGood (then is j) l (s ++ t) p
+pub then-good : (is : Items) (j : Item) (l : Limit) (p : ℕ) (s t : List ℕ) → AreGood is l s p →
+    IsGood j l t (p + length s) → AreGood (then is j) l (s ++ t) p
 then-good no_items j l p s t g h =
     let e : s ++ t ≡ t = ap (λ (c : List ℕ). c ++ t) g.0 in
     let n : length s ≡ 0 = ap length g.0 in
-    subst (λ c. AreGood (item j no_items) l c p) (append-nil t ∙ sym e) (more-good j no_items l p t [] (h.0, h.1, h.2, omega (arith, h.3)) (none-good l (p + length t) (omega (arith, h.3, n))))
+    subst (λ c. AreGood (item j no_items) l c p) (append-nil t ∙ sym e)
+    (more-good j no_items l p t [] (h.0, h.1, h.2, omega (arith, h.3))
+    (none-good l (p + length t) (omega (arith, h.3, n))))
 then-good (item i is) j l p s t g h =
     let u : List ℕ = g.0.0 in
     let v : List ℕ = g.0.1 in
     let g2 : AreGood (item i is) l (u ++ v) p = subst (λ c. AreGood (item i is) l c p) g.0.4 g in
     let ls : length s ≡ length u + length v = ap length g.0.4 ∙ length-append u v in
     let at : p + length s ≡ p + length u + length v = omega (arith, ls) in
-    let rest : AreGood (then is j) l (v ++ t) (p + length u) = then-good is j l (p + length u) v t (rest-good i is l p u v g.0.3 g2) (subst (IsGood j l t) at h) in
-    subst (λ c. AreGood (item i (then is j)) l c p) (sym (append_assoc u v t) ∙ ap (λ (c : List ℕ). c ++ t) (sym g.0.4)) (more-good i (then is j) l p u (v ++ t) (first-good i is l p u v g.0.2 g2) rest)
+    let rest : AreGood (then is j) l (v ++ t) (p + length u) =
+    then-good is j l (p + length u) v t (rest-good i is l p u v g.0.3 g2) (subst (IsGood j l t) at h) in
+    subst (λ c. AreGood (item i (then is j)) l c p) (sym (append_assoc u v t) ∙ ap (λ (c : List ℕ). c ++ t) (sym g.0.4))
+    (more-good i (then is j) l p u (v ++ t) (first-good i is l p u v g.0.2 g2) rest)

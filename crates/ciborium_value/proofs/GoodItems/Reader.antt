@@ -1,11 +1,14 @@
 -- A reader over lists, for proofs alone, that answers what a good item leaves, or a refusal.
-use Rattle.std.proofs.Common.{ℕ, zero, suc, ◌+◌, ◌-◌, ◌*◌, ◌^◌, cond, ltb, leb, eqb, Bool, true, false, ◌&&◌, List, [], ◌∷◌, length, take, drop, Option, Some, None, is_some}
+use Rattle.std.proofs.Common.{ℕ, zero, suc, ◌+◌, ◌-◌, ◌*◌, ◌^◌, cond, ltb, leb, eqb, Bool, true, false, ◌&&◌, List, []}
+use Rattle.std.proofs.Common.{◌∷◌, length, take, drop, Option, Some, None, is_some}
 use Rattle.std.specs.Str.{is_utf8}
 use Rattle.ciborium_value.specs.Meaning.{simple_meaning, big_endian, is_bignum_tag}
-use Rattle.ciborium_ll.specs.Refusal.{Refusal, io, syntax, semantic, recursion_limit_exceeded, Float, Simple, Break, TooLarge, head_refusal}
+use Rattle.ciborium_ll.specs.Refusal.{Refusal, io, syntax, semantic, recursion_limit_exceeded, Float, Simple, Break}
+use Rattle.ciborium_ll.specs.Refusal.{TooLarge, head_refusal}
 use Rattle.ciborium_ll.specs.Bytes.{greatest_offset}
 use Rattle.ciborium_value.specs.Nesting.{Limit}
-use Rattle.ciborium_value.specs.Refuses.{Due, exactly, items_until_break, keys_until_break, values_until_break, next_due}
+use Rattle.ciborium_value.specs.Refuses.{Due, exactly, items_until_break, keys_until_break, values_until_break}
+use Rattle.ciborium_value.specs.Refuses.{next_due}
 use Rattle.ciborium_ll.proofs.FrontHeads.{Front, nothing, counted, opened, plain, raw, front}
 
 pub data Answer : Type 0 where
@@ -32,7 +35,8 @@ allowed m s = cond (eqb m 3) (is_utf8 s) true
 
 -- a definite string of major m and length n, whose head begins at p and whose payload at q
 abbrev pub string : ℕ → ℕ → List ℕ → ℕ → ℕ → Answer
-string m n r p q = cond (ltb (length r) n) (refused io) (cond (allowed m (take n r)) (ends (drop n r) (q + n)) (refused (syntax p)))
+string m n r p q = cond (ltb (length r) n) (refused io)
+    (cond (allowed m (take n r)) (ends (drop n r) (q + n)) (refused (syntax p)))
 
 abbrev pub piece : (List ℕ → ℕ → Answer) → ℕ → List ℕ → ℕ → Front → Answer
 piece more m b q nothing = refused (syntax q)
@@ -98,25 +102,29 @@ Reader = List ℕ → ℕ → Limit → Answer
 
 -- tag t at p, whose item begins at q
 abbrev pub tagged : Reader → ℕ → List ℕ → ℕ → ℕ → Limit → Answer
-tagged rd t r p q l = checked (head_refusal r q) (cond (folding t (front r)) (bignum t (payload (front r)) p (rd r q l)) (levels l (rd r q)))
+tagged rd t r p q l = checked (head_refusal r q) (cond (folding t (front r)) (bignum t (payload (front r)) p (rd r q l))
+    (levels l (rd r q)))
 
 -- ---- items
 
 abbrev pub counted_item : Reader → (Due → Reader) → ℕ → ℕ → List ℕ → ℕ → ℕ → Limit → Answer
 counted_item rd more m n r p q l =
-    cond (eqb m 2) (string 2 n r p q) (cond (eqb m 3) (string 3 n r p q) (cond (eqb m 4) (levels l (more (exactly n) r q))
+    cond (eqb m 2) (string 2 n r p q) (cond (eqb m 3) (string 3 n r p q)
+    (cond (eqb m 4) (levels l (more (exactly n) r q))
     (cond (eqb m 5) (levels l (more (exactly (2 * n)) r q)) (cond (eqb m 6) (tagged rd n r p q l) (ends r q)))))
 
 abbrev pub opened_item : (Due → Reader) → (ℕ → List ℕ → ℕ → Answer) → ℕ → List ℕ → ℕ → Limit → Answer
 opened_item more strings m r p l =
-    cond (eqb m 2) (strings 2 r (p + 1)) (cond (eqb m 3) (strings 3 r (p + 1)) (cond (eqb m 4) (levels l (more items_until_break r (p + 1)))
+    cond (eqb m 2) (strings 2 r (p + 1)) (cond (eqb m 3) (strings 3 r (p + 1))
+    (cond (eqb m 4) (levels l (more items_until_break r (p + 1)))
     (cond (eqb m 5) (levels l (more keys_until_break r (p + 1))) (refused (semantic p Break)))))
 
 abbrev pub item_at : Reader → (Due → Reader) → (ℕ → List ℕ → ℕ → Answer) → List ℕ → ℕ → Limit → Front → Answer
 item_at rd more strings b p l nothing = refused io
 item_at rd more strings b p l (counted m n r) = counted_item rd more m n r p (past p b r) l
 item_at rd more strings b p l (opened m r) = opened_item more strings m r p l
-item_at rd more strings b p l (plain n r) = cond (is_some (simple_meaning n)) (ends r (past p b r)) (refused (semantic p Simple))
+item_at rd more strings b p l (plain n r) = cond (is_some (simple_meaning n)) (ends r (past p b r))
+    (refused (semantic p Simple))
 item_at rd more strings b p l (raw w r) = refused (semantic p Float)
 
 -- its fuel bounds the nesting and the parts

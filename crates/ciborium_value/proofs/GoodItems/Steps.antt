@@ -1,15 +1,19 @@
 -- One step of the reader, by the head at the front.
-use Rattle.std.proofs.Common.{◌≡◌, ℕ, zero, suc, ◌+◌, ◌*◌, ◌%◌, ◌<◌, ◌≤◌, cond, ltb, eqb, Bool, true, false, ◌&&◌, ◌||◌, List, [], ◌∷◌, ◌++◌, length, take, drop, Option, Some, None, refl, sym, ap, ◌∙◌, subst, arith, length-append, append_assoc, le-ltb, eq-eqb, ne_eqb}
+use Rattle.std.proofs.Common.{◌≡◌, ℕ, zero, suc, ◌+◌, ◌*◌, ◌%◌, ◌<◌, ◌≤◌, cond, ltb, eqb, Bool, true, false, ◌&&◌, ◌||◌}
+use Rattle.std.proofs.Common.{List, [], ◌∷◌, ◌++◌, length, take, drop, Option, Some, None, refl, sym, ap, ◌∙◌, subst}
+use Rattle.std.proofs.Common.{arith, length-append, append_assoc, le-ltb, eq-eqb, ne_eqb}
 use Rattle.std.proofs.Math.Seq.{take-append_seam, drop-append_seam}
 use Rattle.std.proofs.lemmas.Nat.{div-mul-add, mod-mul-add}
 use Rattle.std.proofs.lemmas.Bool.Decides.{nat_tests}
 use Rattle.ciborium_ll.specs.Spells.{AreChunks}
-use Rattle.ciborium_ll.specs.Refusal.{Refusal, head_refusal, IsUsable, HeadRefuses, HasHead, argument_length, is_reserved, is_low_simple, payload_length}
+use Rattle.ciborium_ll.specs.Refusal.{Refusal, head_refusal, IsUsable, HeadRefuses, HasHead, argument_length}
+use Rattle.ciborium_ll.specs.Refusal.{is_reserved, is_low_simple, payload_length}
 use Rattle.ciborium_ll.specs.Bytes.{greatest_offset}
 use Rattle.ciborium_value.specs.Nesting.{Limit}
 use Rattle.ciborium_ll.proofs.FrontHeads.{Front, counted, opened, front, front_open}
 use Rattle.ciborium_ll.proofs.UsableHeads.{HeadFits, low, fits-usable, stands-usable, stands-front, stands-length, pass}
-use Rattle.ciborium_value.proofs.GoodItems.Reader.{Answer, ends, refused, checked, and_then, past, allowed, string, piece, pieces, counted_item, opened_item, item_at, read, parts}
+use Rattle.ciborium_value.proofs.GoodItems.Reader.{Answer, ends, refused, checked, and_then, past, allowed, string}
+use Rattle.ciborium_value.proofs.GoodItems.Reader.{piece, pieces, counted_item, opened_item, item_at, read, parts}
 
 pub hold : {A : Type 0} (t : Bool) (x y : A) → t ≡ true → cond t x y ≡ x
 hold t x y e = ap (λ u. cond u x y) e
@@ -26,19 +30,23 @@ payload_length-open : (m a : ℕ) (b : List ℕ) → 28 ≤ a → payload_length
 payload_length-open m a b h = pass _ _ _ (and_false _ _ (le-ltb a 28 h))
 
 pub payload_length-other : (m a : ℕ) (b : List ℕ) → 4 ≤ m → payload_length m a b ≡ 0
-payload_length-other m a b h = pass _ _ _ (left_false _ _ (let e : (eqb m 2 || eqb m 3) ≡ false = grind (arith, nat_tests) in e))
+payload_length-other m a b h = pass _ _ _ (left_false _ _
+    (let e : (eqb m 2 || eqb m 3) ≡ false = grind (arith, nat_tests) in e))
   where
     left_false : (t u : Bool) → t ≡ false → (t && u) ≡ false
     left_false true u e = absurd cc
     left_false false u e = refl
 
 -- an initial byte of major type m with additional information a is usable
-pub byte-has : (m a : ℕ) (b : List ℕ) (p : ℕ) → a < 32 → p < greatest_offset → low (m * 32 + a) b p ≡ false → HeadFits m a b p → IsUsable ((m * 32 + a) ∷ b) p
+pub byte-has : (m a : ℕ) (b : List ℕ) (p : ℕ) → a < 32 → p < greatest_offset → low (m * 32 + a) b p ≡ false →
+    HeadFits m a b p → IsUsable ((m * 32 + a) ∷ b) p
 byte-has m a b p h lp lo u =
     let x : ℕ = m * 32 + a in
-    fits-usable x b p lp lo (subst (λ k. HeadFits k (x % 32) b p) (sym (div-mul-add m 32 a h)) (subst (λ k. HeadFits m k b p) (sym (mod-mul-add m 32 a h)) u))
+    fits-usable x b p lp lo (subst (λ k. HeadFits k (x % 32) b p) (sym (div-mul-add m 32 a h))
+    (subst (λ k. HeadFits m k b p) (sym (mod-mul-add m 32 a h)) u))
 
-pub opened-has : (m p : ℕ) (r : List ℕ) → is_reserved m 31 ≡ false → p < greatest_offset → IsUsable ((m * 32 + 31) ∷ r) p
+pub opened-has : (m p : ℕ) (r : List ℕ) → is_reserved m 31 ≡ false → p < greatest_offset →
+    IsUsable ((m * 32 + 31) ∷ r) p
 opened-has m p r e h =
     byte-has m 31 r p (omega arith) h (and_false _ _ (not_low (m * 32 + 31) r (λ k. omega arith)))
     (e, omega arith, omega arith, omega (arith, payload_length-open m 31 r (omega arith)))
@@ -46,30 +54,39 @@ opened-has m p r e h =
 pub simple-has : (n p : ℕ) (r : List ℕ) → n < 24 → p < greatest_offset → IsUsable ((224 + n) ∷ r) p
 simple-has n p r h k =
     let x : argument_length n ≡ 0 = grind (arith, nat_tests) in
-    byte-has 7 n r p (omega arith) k (and_false _ _ (not_low (224 + n) r (λ e. omega arith)))
-    ((let e : is_reserved 7 n ≡ false = grind (arith, nat_tests) in e), omega (arith, x), omega (arith, x), omega (arith, x, payload_length-other 7 n r (omega arith)))
+    byte-has 7 n r p (omega arith) k (and_false _ _ (not_low (224 + n) r (λ e. omega arith))) (
+      (let e : is_reserved 7 n ≡ false = grind (arith, nat_tests) in e),
+      omega (arith, x),
+      omega (arith, x),
+      omega (arith, x, payload_length-other 7 n r (omega arith)),
+    )
 
 -- ---- steps
 
 pub checked-none : (b : List ℕ) (p : ℕ) (a : Answer) → IsUsable b p → checked (head_refusal b p) a ≡ a
 checked-none b p a h = ap (λ o. checked o a) h
 
-pub checked-some : (b : List ℕ) (p : ℕ) (a : Answer) (e : Refusal) → HeadRefuses b p e → checked (head_refusal b p) a ≡ refused e
+pub checked-some : (b : List ℕ) (p : ℕ) (a : Answer) (e : Refusal) → HeadRefuses b p e →
+    checked (head_refusal b p) a ≡ refused e
 checked-some b p a e h = ap (λ o. checked o a) h
 
-pub read-head : (d p : ℕ) (b : List ℕ) (l : Limit) (f : Front) → IsUsable b p → front b ≡ f → read (suc d) b p l ≡ item_at (read d) (parts d) (pieces d) b p l f
+pub read-head : (d p : ℕ) (b : List ℕ) (l : Limit) (f : Front) → IsUsable b p → front b ≡ f →
+    read (suc d) b p l ≡ item_at (read d) (parts d) (pieces d) b p l f
 read-head d p b l f h e = checked-none b p _ h ∙ ap (item_at (read d) (parts d) (pieces d) b p l) e
 
 pub past-stands : (b : List ℕ) (m n k p q : ℕ) (r : List ℕ) → HasHead b m n k r → q ≡ p + k → past p b r ≡ q
 past-stands b m n k p q r s e = omega (arith, stands-length b m n k r s)
 
 -- a usable head with an argument
-pub read-counted : (d p q : ℕ) (b : List ℕ) (l : Limit) (m n k : ℕ) (r : List ℕ) → m < 7 → HasHead b m n k r → IsUsable b p → q ≡ p + k →
+pub read-counted : (d p q : ℕ) (b : List ℕ) (l : Limit) (m n k : ℕ) (r : List ℕ) → m < 7 → HasHead b m n k r →
+    IsUsable b p → q ≡ p + k →
     read (suc d) b p l ≡ counted_item (read d) (parts d) m n r p q l
 read-counted d p q b l m n k r lt s h e =
-    read-head d p b l (counted m n r) h (stands-front b m n k r lt s) ∙ ap (λ z. counted_item (read d) (parts d) m n r p z l) (past-stands b m n k p q r s e)
+    read-head d p b l (counted m n r) h (stands-front b m n k r lt s) ∙
+    ap (λ z. counted_item (read d) (parts d) m n r p z l) (past-stands b m n k p q r s e)
 
-pub read-opened : (d p : ℕ) (b : List ℕ) (l : Limit) (m : ℕ) (r : List ℕ) → b ≡ (m * 32 + 31) ∷ r → IsUsable b p → read (suc d) b p l ≡ opened_item (parts d) (pieces d) m r p l
+pub read-opened : (d p : ℕ) (b : List ℕ) (l : Limit) (m : ℕ) (r : List ℕ) → b ≡ (m * 32 + 31) ∷ r → IsUsable b p →
+    read (suc d) b p l ≡ opened_item (parts d) (pieces d) m r p l
 read-opened d p b l m r e h = read-head d p b l (opened m r) h (ap front e ∙ front_open m r)
 
 pub ended-has : (d p q : ℕ) (b r : List ℕ) (l : Limit) → read d b p l ≡ ends r q → IsUsable b p
@@ -80,28 +97,33 @@ ended-has (suc d) p q b r l e = has (head_refusal b p) _ e
     has None a h = refl
     has (Some f) a h = absurd cc
 
-pub string-good : (m n p q : ℕ) (y r x : List ℕ) → r ≡ y ++ x → n ≡ length y → allowed m y ≡ true → string m n r p q ≡ ends x (q + n)
+pub string-good : (m n p q : ℕ) (y r x : List ℕ) → r ≡ y ++ x → n ≡ length y → allowed m y ≡ true →
+    string m n r p q ≡ ends x (q + n)
 string-good m n p q y r x e k h =
     let room : length r ≡ length y + length x = ap length e ∙ length-append y x in
     let t : take n r ≡ y = ap (λ j. take j r) k ∙ ap (take (length y)) e ∙ take-append_seam y x in
     let u : drop n r ≡ x = ap (λ j. drop j r) k ∙ ap (drop (length y)) e ∙ drop-append_seam y x in
-    pass _ _ _ (le-ltb (length r) n (omega arith)) ∙ hold _ _ _ (ap (allowed m) t ∙ h) ∙ ap (λ (c : List ℕ). ends c (q + n)) u
+    pass _ _ _ (le-ltb (length r) n (omega arith)) ∙ hold _ _ _ (ap (allowed m) t ∙ h) ∙
+    ap (λ (c : List ℕ). ends c (q + n)) u
 
 -- the good parts of an open string, and what is answered after them
 pub pieces-run : (m : ℕ) (IsAllowed : List ℕ → Type 0) → m < 7 → ((t : List ℕ) → IsAllowed t → allowed m t ≡ true) →
-    (d : ℕ) (ps : List (List ℕ)) (s x b : List ℕ) (q u : ℕ) (a : Answer) → AreChunks m IsAllowed s ps → b ≡ s ++ x → u ≡ q + length s → u ≤ greatest_offset → length b < d →
+    (d : ℕ) (ps : List (List ℕ)) (s x b : List ℕ) (q u : ℕ) (a : Answer) → AreChunks m IsAllowed s ps → b ≡ s ++ x →
+    u ≡ q + length s → u ≤ greatest_offset → length b < d →
     ((c : ℕ) → length x < c → pieces c m x u ≡ a) → pieces d m b q ≡ a
 pieces-run m IsAllowed lt ok d [] s x b q u a g e k room fuel then =
     let same : b ≡ x = e ∙ ap (λ (c : List ℕ). c ++ x) g in
     let l : length b ≡ length x = ap length same in
     let none : length s ≡ 0 = ap length g in
     ap (λ (c : List ℕ). pieces d m c q) same ∙ ap (pieces d m x) (omega arith) ∙ then d (omega arith)
-pieces-run m IsAllowed lt ok zero (y ∷ ps) s x b q u a g e k room fuel then = let never : ⊥ = omega arith in absurd never
+pieces-run m IsAllowed lt ok zero (y ∷ ps) s x b q u a g e k room fuel then = let never : ⊥ = omega arith in
+    absurd never
 pieces-run m IsAllowed lt ok (suc d) (y ∷ ps) s x b q u a g e k room fuel then =
     let w = g.2 in
     let h : List ℕ = w.0 in
     let r : List ℕ = y ++ (g.1 ++ x) in
-    let is : b ≡ h ++ r = e ∙ ap (λ (c : List ℕ). c ++ x) (g.4 ∙ ap (λ (c : List ℕ). c ++ g.1) w.3) ∙ append_assoc (h ++ y) g.1 x ∙ append_assoc h y (g.1 ++ x) in
+    let is : b ≡ h ++ r = e ∙ ap (λ (c : List ℕ). c ++ x) (g.4 ∙ ap (λ (c : List ℕ). c ++ g.1) w.3) ∙
+    append_assoc (h ++ y) g.1 x ∙ append_assoc h y (g.1 ++ x) in
     let st : HasHead b m (length y) (length h) r = (h, w.1, refl, is) in
     let l1 : length s ≡ length g.0 + length g.1 = ap length g.4 ∙ length-append g.0 g.1 in
     let l2 : length g.0 ≡ length h + length y = ap length w.3 ∙ length-append h y in
@@ -111,10 +133,13 @@ pieces-run m IsAllowed lt ok (suc d) (y ∷ ps) s x b q u a g e k room fuel then
     checked-none b q _ has ∙ ap (piece (pieces d m) m b q) (stands-front b m (length y) (length h) r lt st) ∙
     hold _ _ _ (eq-eqb m m refl) ∙
     ap (and_then (pieces d m)) (string-good m (length y) q (past q b r) y r (g.1 ++ x) refl refl (ok y w.2)) ∙
-    pieces-run m IsAllowed lt ok d ps g.1 x (g.1 ++ x) (past q b r + length y) u a g.3 refl (omega arith) room (omega arith) then
+    pieces-run m IsAllowed lt ok d ps g.1 x (g.1 ++ x) (past q b r + length y) u a g.3 refl (omega arith) room
+    (omega arith) then
 
 -- the break that ends an open string
-pub pieces-break : (m d q u : ℕ) (x : List ℕ) → 0 < d → q < greatest_offset → u ≡ q + 1 → pieces d m (255 ∷ x) q ≡ ends x u
+pub pieces-break : (m d q u : ℕ) (x : List ℕ) → 0 < d → q < greatest_offset → u ≡ q + 1 →
+    pieces d m (255 ∷ x) q ≡ ends x u
 pieces-break m zero q u x h lt e = let never : ⊥ = omega arith in absurd never
 pieces-break m (suc d) q u x h lt e =
-    checked-none (255 ∷ x) q _ (opened-has 7 q x refl lt) ∙ ap (piece (pieces d m) m (255 ∷ x) q) (front_open 7 x) ∙ ap (ends x) (sym e)
+    checked-none (255 ∷ x) q _ (opened-has 7 q x refl lt) ∙ ap (piece (pieces d m) m (255 ∷ x) q) (front_open 7 x) ∙
+    ap (ends x) (sym e)

@@ -1,11 +1,13 @@
 -- Shortest heads are ordered bytewise: by the major type, and then by the argument.
-use Rattle.std.proofs.Common.{◌≡◌, ℕ, zero, suc, ◌^◌, ◌<◌, ◌≤◌, List, [], ◌∷◌, ◌++◌, length, refl, sym, ap, ◌∙◌, lit<, arith, length-append, Ordering, Less, Equal, Greater, nat_cmp}
+use Rattle.std.proofs.Common.{◌≡◌, ℕ, zero, suc, ◌^◌, ◌<◌, ◌≤◌, List, [], ◌∷◌, ◌++◌, length, refl, sym, ap, ◌∙◌, lit<}
+use Rattle.std.proofs.Common.{arith, length-append, Ordering, Less, Equal, Greater, nat_cmp}
 use Rattle.std.proofs.lemmas.Bool.Decides.{nat_tests}
 use Rattle.std.specs.Cmp.Lexicographic.{slice_cmp}
 use Rattle.std.specs.FinMap.{nat_cmp-IsAntisymmetric}
 use Rattle.std.specs.Int.{bytes_high_first}
 use Rattle.std.specs.Ordering.{ordering_then}
-use Rattle.ciborium_ll.specs.Head.{Width, within, one_byte, two_bytes, four_bytes, eight_bytes, capacity, information, argument_bytes, narrowest, shortest_head}
+use Rattle.ciborium_ll.specs.Head.{Width, within, one_byte, two_bytes, four_bytes, eight_bytes, capacity, information}
+use Rattle.ciborium_ll.specs.Head.{argument_bytes, narrowest, shortest_head}
 use Rattle.ciborium_ll.proofs.ShortestHead.{narrowest-holds}
 use Rattle.ciborium_ll.proofs.HeadOrder.{places, arguments_in_order}
 
@@ -21,7 +23,8 @@ then-then Equal p q = refl
 then-then Greater p q = refl
 
 -- where the first part does not decide, two orders agree
-by_first : (o p q r : Ordering) → (o ≡ Equal → p ≡ ordering_then q r) → ordering_then o p ≡ ordering_then (ordering_then o q) r
+by_first : (o p q r : Ordering) → (o ≡ Equal → p ≡ ordering_then q r) →
+    ordering_then o p ≡ ordering_then (ordering_then o q) r
 by_first Less p q r h = refl
 by_first Equal p q r h = h refl
 by_first Greater p q r h = refl
@@ -59,7 +62,8 @@ narrowest-least n = grind (arith, least, narrowest)
 
 -- what stands behind the major type
 abbrev behind_major : Width → ℕ → List ℕ → Width → ℕ → List ℕ → Ordering
-behind_major f n x g k y = ordering_then (nat_cmp (information f n) (information g k)) (slice_cmp nat_cmp (argument_bytes f n ++ x) (argument_bytes g k ++ y))
+behind_major f n x g k y = ordering_then (nat_cmp (information f n) (information g k))
+    (slice_cmp nat_cmp (argument_bytes f n ++ x) (argument_bytes g k ++ y))
 
 -- the arguments decide, and then what stands behind the heads
 abbrev by_arguments : ℕ → List ℕ → ℕ → List ℕ → Ordering
@@ -73,8 +77,10 @@ length-bytes_high_first (suc size) n = ap suc (length-bytes_high_first size n)
 one_width : (size n k : ℕ) (x y : List ℕ) → n < 256 ^ size → k < 256 ^ size
     → slice_cmp nat_cmp (bytes_high_first size n ++ x) (bytes_high_first size k ++ y) ≡ by_arguments n x k y
 one_width size n k x y h l =
-    let long : length (bytes_high_first size n) ≡ length (bytes_high_first size k) = length-bytes_high_first size n ∙ sym (length-bytes_high_first size k) in
-    fronts_decide _ _ x y (one_length _ _ long) (one_length _ _ (sym long)) ∙ ap (λ o. ordering_then o (slice_cmp nat_cmp x y)) (arguments_in_order size n k h l)
+    let long : length (bytes_high_first size n) ≡ length (bytes_high_first size k) = length-bytes_high_first size n ∙
+    sym (length-bytes_high_first size k) in
+    fronts_decide _ _ x y (one_length _ _ long) (one_length _ _ (sym long)) ∙
+    ap (λ o. ordering_then o (slice_cmp nat_cmp x y)) (arguments_in_order size n k h l)
 
 -- the information and the arguments decide, and then what stands behind the heads
 in_two_widths : (f g : Width) (n k : ℕ) (x y : List ℕ) → n < capacity f → k < capacity g → least f ≤ n → least g ≤ k
@@ -104,7 +110,9 @@ heads_decide major other n k x y h l =
     let fits : n < capacity f = narrowest-holds n h in
     let other_fits : k < capacity g = narrowest-holds k l in
     let behind = slice_cmp nat_cmp (argument_bytes f n ++ x) (argument_bytes g k ++ y) in
-    ap (λ o. ordering_then o behind) (sym (places major other (information f n) (information g k) 32 (information-below f n fits) (information-below g k other_fits)))
+    ap (λ o. ordering_then o behind) (sym (places major other (information f n) (information g k) 32
+    (information-below f n fits) (information-below g k other_fits)))
     ∙ then-then (nat_cmp major other) (nat_cmp (information f n) (information g k)) behind
-    ∙ ap (ordering_then (nat_cmp major other)) (in_two_widths f g n k x y fits other_fits (narrowest-least n) (narrowest-least k))
+    ∙ ap (ordering_then (nat_cmp major other)) (in_two_widths f g n k x y fits other_fits (narrowest-least n)
+    (narrowest-least k))
     ∙ sym (then-then (nat_cmp major other) (nat_cmp n k) (slice_cmp nat_cmp x y))

@@ -2,7 +2,8 @@
 use Rattle.std.proofs.Common.{◌≡◌, ℕ, ℤ, pos, negsuc, ◌≤◌, length, refl, ap, ◌∙◌, arith, nat_cmp}
 use Rattle.std.specs.Cmp.Lexicographic.{slice_cmp}
 use Rattle.std.specs.Ordering.{ordering_then}
-use Rattle.ciborium_ll.specs.Head.{Width, within, one_byte, two_bytes, four_bytes, eight_bytes, head_in, narrowest, shortest_head}
+use Rattle.ciborium_ll.specs.Head.{Width, within, one_byte, two_bytes, four_bytes, eight_bytes, head_in, narrowest}
+use Rattle.ciborium_ll.specs.Head.{shortest_head}
 use Rattle.ciborium_ll.specs.Integer.{integer_bytes}
 use Rattle.ciborium_value.specs.Encoding.{encoding, encoded_size}
 use Rattle.ciborium_value.specs.laws.OrderLaws.{IntegersAsTrees}
@@ -26,7 +27,11 @@ same_size (negsuc n) = omega (arith, head-size (narrowest n) 1 n)
 
 pub integers_as_trees : IntegersAsTrees
 integers_as_trees z y =
-    ap (λ n. ordering_then (nat_cmp n (length (integer_bytes y))) (slice_cmp nat_cmp (integer_bytes z) (integer_bytes y))) (same_size z)
-    ∙ ap (λ n. ordering_then (nat_cmp (encoded_size (integer z)) n) (slice_cmp nat_cmp (integer_bytes z) (integer_bytes y))) (same_size y)
-    ∙ ap (λ s. ordering_then (nat_cmp (encoded_size (integer z)) (encoded_size (integer y))) (slice_cmp nat_cmp s (integer_bytes y))) (same_bytes z)
-    ∙ ap (λ s. ordering_then (nat_cmp (encoded_size (integer z)) (encoded_size (integer y))) (slice_cmp nat_cmp (encoding (integer z)) s)) (same_bytes y)
+    ap (λ n. ordering_then (nat_cmp n (length (integer_bytes y)))
+    (slice_cmp nat_cmp (integer_bytes z) (integer_bytes y))) (same_size z)
+    ∙ ap (λ n. ordering_then (nat_cmp (encoded_size (integer z)) n)
+    (slice_cmp nat_cmp (integer_bytes z) (integer_bytes y))) (same_size y)
+    ∙ ap (λ s. ordering_then (nat_cmp (encoded_size (integer z)) (encoded_size (integer y)))
+    (slice_cmp nat_cmp s (integer_bytes y))) (same_bytes z)
+    ∙ ap (λ s. ordering_then (nat_cmp (encoded_size (integer z)) (encoded_size (integer y)))
+    (slice_cmp nat_cmp (encoding (integer z)) s)) (same_bytes y)

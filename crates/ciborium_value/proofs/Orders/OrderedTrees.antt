@@ -1,10 +1,12 @@
 -- The order of trees ties a tree with itself alone.
-use Rattle.std.proofs.Common.{◌≡◌, Bool, true, false, refl, sym, ap, ◌∙◌, Ordering, Less, Equal, Greater, is_eq, IsTrue, ◌↔◌}
+use Rattle.std.proofs.Common.{◌≡◌, Bool, true, false, refl, sym, ap, ◌∙◌, Ordering, Less, Equal, Greater, is_eq, IsTrue}
+use Rattle.std.proofs.Common.{◌↔◌}
 use Rattle.std.proofs.lemmas.Cmp.{tied_itself, nat_list_cmp_total, nat_cmp_total, int_cmp_total}
 use Rattle.std.specs.Cmp.{bool_cmp_total}
 use Rattle.std.specs.FinMap.{nat_cmp-IsAntisymmetric, int_cmp-IsAntisymmetric, slice_cmp-IsAntisymmetric}
 use Rattle.std.specs.Ordering.{nat_cmp, bool_cmp, ordering_then}
-use Rattle.ciborium_value.specs.Tree.{Tree, integer, bytes, text, boolean, null, tag, array, map, Trees, no_trees, tree, TreePairs, no_tree_pairs, tree_pair}
+use Rattle.ciborium_value.specs.Tree.{Tree, integer, bytes, text, boolean, null, tag, array, map, Trees, no_trees, tree}
+use Rattle.ciborium_value.specs.Tree.{TreePairs, no_tree_pairs, tree_pair}
 use Rattle.ciborium_value.specs.Order.{tree_cmp, trees_cmp, tree_pairs_cmp}
 use Rattle.ciborium_value.specs.laws.OrderLaws.{TiedWhereEqual, EqualAsTrees, OrderedAsTrees, PartlyOrderedAsTrees}
 use Rattle.ciborium_value.specs.Derived.{value_eq}
@@ -52,7 +54,8 @@ mutual
   same_pairs (tree_pair k v ps) (tree_pair l w qs) e =
       let tied = both_tied (ordering_then (tree_cmp k l) (tree_cmp v w)) (tree_pairs_cmp ps qs) e in
       let pair_tied = both_tied (tree_cmp k l) (tree_cmp v w) tied.0 in
-      ap (λ z. tree_pair z v ps) (same_tree k l pair_tied.0) ∙ ap (λ z. tree_pair l z ps) (same_tree v w pair_tied.1) ∙ ap (tree_pair l w) (same_pairs ps qs tied.1)
+      ap (λ z. tree_pair z v ps) (same_tree k l pair_tied.0) ∙ ap (λ z. tree_pair l z ps) (same_tree v w pair_tied.1) ∙
+      ap (tree_pair l w) (same_pairs ps qs tied.1)
 
 mutual
   itself : (v : Tree) → tree_cmp v v ≡ Equal
@@ -72,7 +75,8 @@ mutual
   pairs_itself : (ps : TreePairs) → tree_pairs_cmp ps ps ≡ Equal
   pairs_itself no_tree_pairs = refl
   pairs_itself (tree_pair k v ps) =
-      ap (λ o. ordering_then (ordering_then o (tree_cmp v v)) (tree_pairs_cmp ps ps)) (itself k) ∙ ap (λ o. ordering_then o (tree_pairs_cmp ps ps)) (itself v) ∙ pairs_itself ps
+      ap (λ o. ordering_then (ordering_then o (tree_cmp v v)) (tree_pairs_cmp ps ps)) (itself k) ∙
+      ap (λ o. ordering_then o (tree_pairs_cmp ps ps)) (itself v) ∙ pairs_itself ps
 
 pub tied_where_equal : TiedWhereEqual
 tied_where_equal v w = (same_tree v w, λ e. ap (tree_cmp v) (sym e) ∙ itself v)

@@ -1,5 +1,9 @@
--- Two trees side by side: the first heads or payloads that differ decide as the encodings do, and trees that none tells apart are one.
-use Rattle.std.proofs.Common.{◌≡◌, ℕ, suc, ◌+◌, ◌^◌, ◌<◌, ◌≤◌, List, [], ◌∷◌, ◌++◌, length, take, drop, get_or, map, Bool, true, false, ℤ, pos, negsuc, ◌⊎◌, inl, inr, Vec, vec_len, String, string_bytes, Box, Global, rules, refl, sym, ap, ◌∙◌, subst, lit<, arith, Ordering, Less, Equal, Greater, nat_cmp, append_assoc, append-nil}
+-- Two trees side by side: the first heads or payloads that differ decide as the encodings do, and trees that none tells
+-- apart are one.
+use Rattle.std.proofs.Common.{◌≡◌, ℕ, suc, ◌+◌, ◌^◌, ◌<◌, ◌≤◌, List, [], ◌∷◌, ◌++◌, length, take, drop, get_or, map}
+use Rattle.std.proofs.Common.{Bool, true, false, ℤ, pos, negsuc, ◌⊎◌, inl, inr, Vec, vec_len, String, string_bytes, Box}
+use Rattle.std.proofs.Common.{Global, rules, refl, sym, ap, ◌∙◌, subst, lit<, arith, Ordering, Less, Equal, Greater}
+use Rattle.std.proofs.Common.{nat_cmp, append_assoc, append-nil}
 use Rattle.std.proofs.lemmas.List.{map-append, take_all}
 use Rattle.std.proofs.lemmas.Cmp.{tied_itself, nat_cmp_total, nat_list_cmp_total}
 use Rattle.std.specs.Cmp.Lexicographic.{slice_cmp}
@@ -43,7 +47,8 @@ both_tied Greater p e = absurd cc
 -- a front that both have
 behind_front : (a x y : List ℕ) → slice_cmp nat_cmp (a ++ x) (a ++ y) ≡ slice_cmp nat_cmp x y
 behind_front [] x y = refl
-behind_front (n ∷ a) x y = ap (λ o. ordering_then o (slice_cmp nat_cmp (a ++ x) (a ++ y))) (tied_itself nat_cmp_total n) ∙ behind_front a x y
+behind_front (n ∷ a) x y = ap (λ o. ordering_then o (slice_cmp nat_cmp (a ++ x) (a ++ y))) (tied_itself nat_cmp_total n)
+    ∙ behind_front a x y
 
 -- ---- what follows two lists that differ
 
@@ -61,61 +66,79 @@ same_decides a b e x y = ap (λ l. slice_cmp nat_cmp (l ++ x) (b ++ y)) e ∙ be
 pub behind_decides : (o : Ordering) (a b c d : List ℕ) → a ≡ b → Decides o c d → Decides o (a ++ c) (b ++ d)
 behind_decides o a b c d e h x y =
     ap (λ l. slice_cmp nat_cmp ((l ++ c) ++ x) ((b ++ d) ++ y)) e
-    ∙ ap (λ l. slice_cmp nat_cmp l ((b ++ d) ++ y)) (append_assoc b c x) ∙ ap (slice_cmp nat_cmp (b ++ (c ++ x))) (append_assoc b d y)
+    ∙ ap (λ l. slice_cmp nat_cmp l ((b ++ d) ++ y)) (append_assoc b c x) ∙
+    ap (slice_cmp nat_cmp (b ++ (c ++ x))) (append_assoc b d y)
     ∙ behind_front b (c ++ x) (d ++ y) ∙ h x y
 
 -- before any two lists, where it is not `Equal`
-pub before_decides : (o : Ordering) (b : Bool) (a c d e : List ℕ) → b ≡ is_ne o → b ≡ true → Decides o a c → Decides o (a ++ d) (c ++ e)
+pub before_decides : (o : Ordering) (b : Bool) (a c d e : List ℕ) → b ≡ is_ne o → b ≡ true → Decides o a c →
+    Decides o (a ++ d) (c ++ e)
 before_decides o b a c d e ne t h x y =
-    ap (λ l. slice_cmp nat_cmp l ((c ++ e) ++ y)) (append_assoc a d x) ∙ ap (slice_cmp nat_cmp (a ++ (d ++ x))) (append_assoc c e y)
+    ap (λ l. slice_cmp nat_cmp l ((c ++ e) ++ y)) (append_assoc a d x) ∙
+    ap (slice_cmp nat_cmp (a ++ (d ++ x))) (append_assoc c e y)
     ∙ h (d ++ x) (e ++ y) ∙ nothing_left o (slice_cmp nat_cmp (d ++ x) (e ++ y)) (slice_cmp nat_cmp x y) b ne t
 
 -- two payloads of one length
 pub payloads_decide : (a b : List ℕ) (o : Ordering) → length a ≡ length b → o ≡ slice_cmp nat_cmp a b → Decides o a b
 payloads_decide a b o long e x y =
-    fronts_decide a b x y (one_length a b long) (one_length b a (sym long)) ∙ ap (λ p. ordering_then p (slice_cmp nat_cmp x y)) (sym e)
+    fronts_decide a b x y (one_length a b long) (one_length b a (sym long)) ∙
+    ap (λ p. ordering_then p (slice_cmp nat_cmp x y)) (sym e)
 
 -- alone, without anything behind them, they compare so
 pub decided_alone : (o : Ordering) (a b : List ℕ) → Decides o a b → o ≡ slice_cmp nat_cmp a b
 decided_alone o a b h =
-    sym (then_equal o) ∙ sym (h [] []) ∙ ap (λ l. slice_cmp nat_cmp l (b ++ [])) (append-nil a) ∙ ap (slice_cmp nat_cmp a) (append-nil b)
+    sym (then_equal o) ∙ sym (h [] []) ∙ ap (λ l. slice_cmp nat_cmp l (b ++ [])) (append-nil a) ∙
+    ap (slice_cmp nat_cmp a) (append-nil b)
 
 -- the encodings of one tree
 pub equal_where_same : (o : Ordering) (v w : Tree) → Decides o (encoding v) (encoding w) → v ≡ w → o ≡ Equal
 equal_where_same o v w h e =
-    decided_alone o (encoding v) (encoding w) h ∙ ap (λ t. slice_cmp nat_cmp (encoding t) (encoding w)) e ∙ tied_itself nat_list_cmp_total (encoding w)
+    decided_alone o (encoding v) (encoding w) h ∙ ap (λ t. slice_cmp nat_cmp (encoding t) (encoding w)) e ∙
+    tied_itself nat_list_cmp_total (encoding w)
 
 -- ---- heads
 
 -- two trees by their heads, and then by what stands behind those
 heads_first : (v w : Tree) (x y : List ℕ) → argument_of v < 2 ^ 64 → argument_of w < 2 ^ 64
-    → slice_cmp nat_cmp (encoding v ++ x) (encoding w ++ y) ≡ ordering_then (head_order v w) (slice_cmp nat_cmp (content_bytes v ++ x) (content_bytes w ++ y))
+    → slice_cmp nat_cmp (encoding v ++ x) (encoding w ++ y) ≡ ordering_then (head_order v w)
+    (slice_cmp nat_cmp (content_bytes v ++ x) (content_bytes w ++ y))
 heads_first v w x y h k =
     ap (λ l. slice_cmp nat_cmp (l ++ x) (encoding w ++ y)) (encoding-is v)
-    ∙ ap (λ l. slice_cmp nat_cmp ((shortest_head (tree_major v) (argument_of v) ++ content_bytes v) ++ x) (l ++ y)) (encoding-is w)
-    ∙ ap (λ l. slice_cmp nat_cmp l ((shortest_head (tree_major w) (argument_of w) ++ content_bytes w) ++ y)) (append_assoc (shortest_head (tree_major v) (argument_of v)) (content_bytes v) x)
-    ∙ ap (slice_cmp nat_cmp (shortest_head (tree_major v) (argument_of v) ++ (content_bytes v ++ x))) (append_assoc (shortest_head (tree_major w) (argument_of w)) (content_bytes w) y)
-    ∙ heads_decide (tree_major v) (tree_major w) (argument_of v) (argument_of w) (content_bytes v ++ x) (content_bytes w ++ y) h k
+    ∙ ap (λ l. slice_cmp nat_cmp ((shortest_head (tree_major v) (argument_of v) ++ content_bytes v) ++ x) (l ++ y))
+    (encoding-is w)
+    ∙ ap (λ l. slice_cmp nat_cmp l ((shortest_head (tree_major w) (argument_of w) ++ content_bytes w) ++ y))
+    (append_assoc (shortest_head (tree_major v) (argument_of v)) (content_bytes v) x)
+    ∙ ap (slice_cmp nat_cmp (shortest_head (tree_major v) (argument_of v) ++ (content_bytes v ++ x)))
+    (append_assoc (shortest_head (tree_major w) (argument_of w)) (content_bytes w) y)
+    ∙ heads_decide (tree_major v) (tree_major w) (argument_of v) (argument_of w) (content_bytes v ++ x)
+    (content_bytes w ++ y) h k
 
-pub different_heads : (v w : Tree) (o : Ordering) (b : Bool) → argument_of v < 2 ^ 64 → argument_of w < 2 ^ 64 → o ≡ head_order v w → b ≡ is_ne o → b ≡ true
+pub different_heads : (v w : Tree) (o : Ordering) (b : Bool) → argument_of v < 2 ^ 64 → argument_of w < 2 ^ 64 →
+    o ≡ head_order v w → b ≡ is_ne o → b ≡ true
     → Decides o (encoding v) (encoding w)
 different_heads v w o b h k e ne t x y =
-    heads_first v w x y h k ∙ ap (λ p. ordering_then p (slice_cmp nat_cmp (content_bytes v ++ x) (content_bytes w ++ y))) (sym e)
+    heads_first v w x y h k ∙ ap (λ p. ordering_then p
+    (slice_cmp nat_cmp (content_bytes v ++ x) (content_bytes w ++ y))) (sym e)
     ∙ nothing_left o (slice_cmp nat_cmp (content_bytes v ++ x) (content_bytes w ++ y)) (slice_cmp nat_cmp x y) b ne t
 
 -- behind equal heads
-pub contents_decide : (v w : Tree) (o p : Ordering) (b : Bool) (c d : List ℕ) → argument_of v < 2 ^ 64 → argument_of w < 2 ^ 64 → o ≡ head_order v w → b ≡ is_ne o → b ≡ false
+pub contents_decide : (v w : Tree) (o p : Ordering) (b : Bool) (c d : List ℕ) → argument_of v < 2 ^ 64 →
+    argument_of w < 2 ^ 64 → o ≡ head_order v w → b ≡ is_ne o → b ≡ false
     → content_bytes v ≡ c → content_bytes w ≡ d → Decides p c d → Decides p (encoding v) (encoding w)
 contents_decide v w o p b c d h k e ne f is other decides x y =
-    heads_first v w x y h k ∙ ap (λ q. ordering_then q (slice_cmp nat_cmp (content_bytes v ++ x) (content_bytes w ++ y))) (sym e ∙ tied o b ne f)
-    ∙ ap (λ l. slice_cmp nat_cmp (l ++ x) (content_bytes w ++ y)) is ∙ ap (λ l. slice_cmp nat_cmp (c ++ x) (l ++ y)) other ∙ decides x y
+    heads_first v w x y h k ∙ ap (λ q. ordering_then q
+    (slice_cmp nat_cmp (content_bytes v ++ x) (content_bytes w ++ y))) (sym e ∙ tied o b ne f)
+    ∙ ap (λ l. slice_cmp nat_cmp (l ++ x) (content_bytes w ++ y)) is ∙
+    ap (λ l. slice_cmp nat_cmp (c ++ x) (l ++ y)) other ∙ decides x y
 
 -- equal heads have one major type and one argument
 one_major : (v w : Tree) → head_order v w ≡ Equal → tree_major v ≡ tree_major w
-one_major v w e = nat_cmp-IsAntisymmetric (tree_major v) (tree_major w) (both_tied (nat_cmp (tree_major v) (tree_major w)) (nat_cmp (argument_of v) (argument_of w)) e).0
+one_major v w e = nat_cmp-IsAntisymmetric (tree_major v) (tree_major w)
+    (both_tied (nat_cmp (tree_major v) (tree_major w)) (nat_cmp (argument_of v) (argument_of w)) e).0
 
 one_argument : (v w : Tree) → head_order v w ≡ Equal → argument_of v ≡ argument_of w
-one_argument v w e = nat_cmp-IsAntisymmetric (argument_of v) (argument_of w) (both_tied (nat_cmp (tree_major v) (tree_major w)) (nat_cmp (argument_of v) (argument_of w)) e).1
+one_argument v w e = nat_cmp-IsAntisymmetric (argument_of v) (argument_of w)
+    (both_tied (nat_cmp (tree_major v) (tree_major w)) (nat_cmp (argument_of v) (argument_of w)) e).1
 
 -- ---- values with nothing behind the head
 
@@ -129,7 +152,8 @@ integer_alone (negsuc n) = inl (lit< tt)
 -- none of the variants with something behind the head
 abbrev pub IsOther : Value → Type 0
 IsOther w =
-    ((v : Vec ℕ Global) → ¬ (w ≡ value.Bytes v)) × ((s : String Global) → ¬ (w ≡ value.Text s)) × ((t : ℕ) (v : Box Value Global) → ¬ (w ≡ value.Tag t v)) ×
+    ((v : Vec ℕ Global) → ¬ (w ≡ value.Bytes v)) × ((s : String Global) → ¬ (w ≡ value.Text s)) ×
+    ((t : ℕ) (v : Box Value Global) → ¬ (w ≡ value.Tag t v)) ×
     ((v : Vec Value Global) → ¬ (w ≡ value.Array v)) × ((v : Vec (Value × Value) Global) → ¬ (w ≡ value.Map v))
 
 level_alone : (y : Value-F Value) → IsOther (roll-Value y) → IsAlone (tree_of (roll-Value y))
@@ -176,57 +200,76 @@ alone_same trees.null (trees.boolean false) h m a = absurd (omega (arith, a))
 alone_same v w h m a = absurd (omega (arith, m, a))
 
 -- equal heads, and nothing behind them
-pub alone_tied : (w u : Value) (o : Ordering) (b : Bool) → o ≡ head_order (tree_of w) (tree_of u) → b ≡ is_ne o → b ≡ false → IsOther w → tree_of w ≡ tree_of u
+pub alone_tied : (w u : Value) (o : Ordering) (b : Bool) → o ≡ head_order (tree_of w) (tree_of u) → b ≡ is_ne o →
+    b ≡ false → IsOther w → tree_of w ≡ tree_of u
 alone_tied w u o b e ne f other =
     let tie = sym e ∙ tied o b ne f in
-    alone_same (tree_of w) (tree_of u) (other_alone w other) (one_major (tree_of w) (tree_of u) tie) (one_argument (tree_of w) (tree_of u) tie)
+    alone_same (tree_of w) (tree_of u) (other_alone w other) (one_major (tree_of w) (tree_of u) tie)
+    (one_argument (tree_of w) (tree_of u) tie)
 
 -- ---- arrays and maps behind equal heads
 
-pub as_many_items : (w u : Value) (v x : Vec Value Global) (o : Ordering) (b : Bool) → o ≡ head_order (tree_of w) (tree_of u) → b ≡ is_ne o → b ≡ false
+pub as_many_items : (w u : Value) (v x : Vec Value Global) (o : Ordering) (b : Bool) →
+    o ≡ head_order (tree_of w) (tree_of u) → b ≡ is_ne o → b ≡ false
     → w ≡ value.Array v → u ≡ value.Array x → vec_len v ≡ vec_len x
 as_many_items w u v x o b e f g is other =
-    argument_of-Array w v (vec_len v) is refl ∙ one_argument (tree_of w) (tree_of u) (sym e ∙ tied o b f g) ∙ sym (argument_of-Array u x (vec_len x) other refl)
+    argument_of-Array w v (vec_len v) is refl ∙ one_argument (tree_of w) (tree_of u) (sym e ∙ tied o b f g) ∙
+    sym (argument_of-Array u x (vec_len x) other refl)
 
-pub as_many_pairs : (w u : Value) (v x : Vec (Value × Value) Global) (o : Ordering) (b : Bool) → o ≡ head_order (tree_of w) (tree_of u) → b ≡ is_ne o → b ≡ false
+pub as_many_pairs : (w u : Value) (v x : Vec (Value × Value) Global) (o : Ordering) (b : Bool) →
+    o ≡ head_order (tree_of w) (tree_of u) → b ≡ is_ne o → b ≡ false
     → w ≡ value.Map v → u ≡ value.Map x → vec_len v ≡ vec_len x
 as_many_pairs w u v x o b e f g is other =
-    argument_of-Map w v (vec_len v) is refl ∙ one_argument (tree_of w) (tree_of u) (sym e ∙ tied o b f g) ∙ sym (argument_of-Map u x (vec_len x) other refl)
+    argument_of-Map w v (vec_len v) is refl ∙ one_argument (tree_of w) (tree_of u) (sym e ∙ tied o b f g) ∙
+    sym (argument_of-Map u x (vec_len x) other refl)
 
 -- payloads behind equal heads
 
-pub payloads_as_long : (w u : Value) (o : Ordering) (b : Bool) (x y : List ℕ) → o ≡ head_order (tree_of w) (tree_of u) → b ≡ is_ne o → b ≡ false
+pub payloads_as_long : (w u : Value) (o : Ordering) (b : Bool) (x y : List ℕ) → o ≡ head_order (tree_of w) (tree_of u) →
+    b ≡ is_ne o → b ≡ false
     → argument_of (tree_of w) ≡ length x → argument_of (tree_of u) ≡ length y → length x ≡ length y
-payloads_as_long w u o b x y e ne f is other = sym is ∙ one_argument (tree_of w) (tree_of u) (sym e ∙ tied o b ne f) ∙ other
+payloads_as_long w u o b x y e ne f is other = sym is ∙ one_argument (tree_of w) (tree_of u) (sym e ∙ tied o b ne f) ∙
+    other
 
-pub same_payload-Bytes : (w u : Value) (v x : Vec ℕ Global) → w ≡ value.Bytes v → u ≡ value.Bytes x → slice_cmp nat_cmp v.items x.items ≡ Equal → tree_of w ≡ tree_of u
+pub same_payload-Bytes : (w u : Value) (v x : Vec ℕ Global) → w ≡ value.Bytes v → u ≡ value.Bytes x →
+    slice_cmp nat_cmp v.items x.items ≡ Equal → tree_of w ≡ tree_of u
 same_payload-Bytes w u v x is other e =
-    ap tree_of is ∙ tree_of-Bytes v ∙ ap trees.bytes (slice_cmp-IsAntisymmetric nat_cmp-IsAntisymmetric v.items x.items e) ∙ sym (ap tree_of other ∙ tree_of-Bytes x)
+    ap tree_of is ∙ tree_of-Bytes v ∙ ap trees.bytes (slice_cmp-IsAntisymmetric nat_cmp-IsAntisymmetric v.items x.items
+    e) ∙ sym (ap tree_of other ∙ tree_of-Bytes x)
 
-pub same_payload-Text : (w u : Value) (s z : String Global) → w ≡ value.Text s → u ≡ value.Text z → slice_cmp nat_cmp (string_bytes s) (string_bytes z) ≡ Equal → tree_of w ≡ tree_of u
+pub same_payload-Text : (w u : Value) (s z : String Global) → w ≡ value.Text s → u ≡ value.Text z →
+    slice_cmp nat_cmp (string_bytes s) (string_bytes z) ≡ Equal → tree_of w ≡ tree_of u
 same_payload-Text w u s z is other e =
-    ap tree_of is ∙ tree_of-Text s ∙ ap trees.text (slice_cmp-IsAntisymmetric nat_cmp-IsAntisymmetric (string_bytes s) (string_bytes z) e) ∙ sym (ap tree_of other ∙ tree_of-Text z)
+    ap tree_of is ∙ tree_of-Text s ∙ ap trees.text (slice_cmp-IsAntisymmetric nat_cmp-IsAntisymmetric (string_bytes s)
+    (string_bytes z) e) ∙ sym (ap tree_of other ∙ tree_of-Text z)
 
 -- ---- along lists
 
 -- one more value that is the same
-pub items_same : (i : ℕ) (vs ws : List Value) (v w : Value) → i < length vs → v ≡ get_or vs i v → i < length ws → w ≡ get_or ws i w
-    → map tree_of (take i vs) ≡ map tree_of (take i ws) → tree_of v ≡ tree_of w → map tree_of (take (i + 1) vs) ≡ map tree_of (take (i + 1) ws)
+pub items_same : (i : ℕ) (vs ws : List Value) (v w : Value) → i < length vs → v ≡ get_or vs i v → i < length ws →
+    w ≡ get_or ws i w
+    → map tree_of (take i vs) ≡ map tree_of (take i ws) → tree_of v ≡ tree_of w →
+    map tree_of (take (i + 1) vs) ≡ map tree_of (take (i + 1) ws)
 items_same i vs ws v w h e k f before same =
     ap (map tree_of) (one_more i vs v h e) ∙ map-append tree_of (take i vs) (v ∷ [])
     ∙ ap (λ l. l ++ (tree_of v ∷ [])) before ∙ ap (λ t. map tree_of (take i ws) ++ (t ∷ [])) same
     ∙ sym (ap (map tree_of) (one_more i ws w k f) ∙ map-append tree_of (take i ws) (w ∷ []))
 
 -- behind values that are the same, two that differ decide
-pub items_differ : (i : ℕ) (vs ws : List Value) (v w : Value) (o : Ordering) (b : Bool) → i < length vs → v ≡ get_or vs i v → i < length ws → w ≡ get_or ws i w
-    → map tree_of (take i vs) ≡ map tree_of (take i ws) → b ≡ is_ne o → b ≡ true → Decides o (encoding (tree_of v)) (encoding (tree_of w)) → Decides o (encodings vs) (encodings ws)
+pub items_differ : (i : ℕ) (vs ws : List Value) (v w : Value) (o : Ordering) (b : Bool) → i < length vs →
+    v ≡ get_or vs i v → i < length ws → w ≡ get_or ws i w
+    → map tree_of (take i vs) ≡ map tree_of (take i ws) → b ≡ is_ne o → b ≡ true →
+    Decides o (encoding (tree_of v)) (encoding (tree_of w)) → Decides o (encodings vs) (encodings ws)
 items_differ i vs ws v w o b h e k f before ne t decides =
     let whole = encodings-around i vs v h e in
     let other = encodings-around i ws w k f in
-    rw (whole, other) (behind_decides o _ _ _ _ (ap (λ ts. items_bytes (items_of (trees_from ts))) before) (before_decides o b (encoding (tree_of v)) (encoding (tree_of w)) (encodings (drop (suc i) vs)) (encodings (drop (suc i) ws)) ne t decides))
+    rw (whole, other) (behind_decides o _ _ _ _ (ap (λ ts. items_bytes (items_of (trees_from ts))) before)
+    (before_decides o b (encoding (tree_of v)) (encoding (tree_of w)) (encodings (drop (suc i) vs))
+    (encodings (drop (suc i) ws)) ne t decides))
 
 -- one more pair that is the same
-pub pairs_same : (i : ℕ) (ps qs : List (Value × Value)) (p q : Value × Value) → i < length ps → p ≡ get_or ps i p → i < length qs → q ≡ get_or qs i q
+pub pairs_same : (i : ℕ) (ps qs : List (Value × Value)) (p q : Value × Value) → i < length ps → p ≡ get_or ps i p →
+    i < length qs → q ≡ get_or qs i q
     → map pair_trees (take i ps) ≡ map pair_trees (take i qs) → tree_of p.0 ≡ tree_of q.0 → tree_of p.1 ≡ tree_of q.1
     → map pair_trees (take (i + 1) ps) ≡ map pair_trees (take (i + 1) qs)
 pairs_same i ps qs p q h e k f before keys values =
@@ -236,29 +279,41 @@ pairs_same i ps qs p q h e k f before keys values =
     ∙ sym (ap (map pair_trees) (one_more i qs q k f) ∙ map-append pair_trees (take i qs) (q ∷ []))
 
 -- behind pairs that are the same, two keys that differ decide
-pub keys_differ : (i : ℕ) (ps qs : List (Value × Value)) (p q : Value × Value) (o : Ordering) (b : Bool) → i < length ps → p ≡ get_or ps i p → i < length qs → q ≡ get_or qs i q
-    → map pair_trees (take i ps) ≡ map pair_trees (take i qs) → b ≡ is_ne o → b ≡ true → Decides o (encoding (tree_of p.0)) (encoding (tree_of q.0)) → Decides o (pair_encodings ps) (pair_encodings qs)
+pub keys_differ : (i : ℕ) (ps qs : List (Value × Value)) (p q : Value × Value) (o : Ordering) (b : Bool) →
+    i < length ps → p ≡ get_or ps i p → i < length qs → q ≡ get_or qs i q
+    → map pair_trees (take i ps) ≡ map pair_trees (take i qs) → b ≡ is_ne o → b ≡ true →
+    Decides o (encoding (tree_of p.0)) (encoding (tree_of q.0)) → Decides o (pair_encodings ps) (pair_encodings qs)
 keys_differ i ps qs p q o b h e k f before ne t decides =
     let whole = pair_encodings-around i ps p h e in
     let other = pair_encodings-around i qs q k f in
-    rw (whole, other) (behind_decides o _ _ _ _ (ap (λ ts. pairs_bytes (pairs_of (tree_pairs_from ts))) before) (before_decides o b (encoding (tree_of p.0)) (encoding (tree_of q.0)) (encoding (tree_of p.1) ++ pair_encodings (drop (suc i) ps)) (encoding (tree_of q.1) ++ pair_encodings (drop (suc i) qs)) ne t decides))
+    rw (whole, other) (behind_decides o _ _ _ _ (ap (λ ts. pairs_bytes (pairs_of (tree_pairs_from ts))) before)
+    (before_decides o b (encoding (tree_of p.0)) (encoding (tree_of q.0))
+    (encoding (tree_of p.1) ++ pair_encodings (drop (suc i) ps))
+    (encoding (tree_of q.1) ++ pair_encodings (drop (suc i) qs)) ne t decides))
 
 -- or two values behind keys that are the same
-pub values_differ : (i : ℕ) (ps qs : List (Value × Value)) (p q : Value × Value) (o : Ordering) (b : Bool) → i < length ps → p ≡ get_or ps i p → i < length qs → q ≡ get_or qs i q
-    → map pair_trees (take i ps) ≡ map pair_trees (take i qs) → tree_of p.0 ≡ tree_of q.0 → b ≡ is_ne o → b ≡ true → Decides o (encoding (tree_of p.1)) (encoding (tree_of q.1))
+pub values_differ : (i : ℕ) (ps qs : List (Value × Value)) (p q : Value × Value) (o : Ordering) (b : Bool) →
+    i < length ps → p ≡ get_or ps i p → i < length qs → q ≡ get_or qs i q
+    → map pair_trees (take i ps) ≡ map pair_trees (take i qs) → tree_of p.0 ≡ tree_of q.0 → b ≡ is_ne o → b ≡ true →
+    Decides o (encoding (tree_of p.1)) (encoding (tree_of q.1))
     → Decides o (pair_encodings ps) (pair_encodings qs)
 values_differ i ps qs p q o b h e k f before keys ne t decides =
     let whole = pair_encodings-around i ps p h e in
     let other = pair_encodings-around i qs q k f in
     rw (whole, other) (behind_decides o _ _ _ _ (ap (λ ts. pairs_bytes (pairs_of (tree_pairs_from ts))) before)
-    (behind_decides o _ _ _ _ (ap encoding keys) (before_decides o b (encoding (tree_of p.1)) (encoding (tree_of q.1)) (pair_encodings (drop (suc i) ps)) (pair_encodings (drop (suc i) qs)) ne t decides)))
+    (behind_decides o _ _ _ _ (ap encoding keys) (before_decides o b (encoding (tree_of p.1)) (encoding (tree_of q.1))
+    (pair_encodings (drop (suc i) ps)) (pair_encodings (drop (suc i) qs)) ne t decides)))
 
 -- ---- lists that are the same up to beyond their ends
 
-pub items_all : (i : ℕ) (vs ws : List Value) → length vs ≤ i → length ws ≤ i → map tree_of (take i vs) ≡ map tree_of (take i ws) → encodings vs ≡ encodings ws
+pub items_all : (i : ℕ) (vs ws : List Value) → length vs ≤ i → length ws ≤ i →
+    map tree_of (take i vs) ≡ map tree_of (take i ws) → encodings vs ≡ encodings ws
 items_all i vs ws beyond other same =
-    ap (λ ts. items_bytes (items_of (trees_from ts))) (sym (ap (map tree_of) (take_all i vs beyond)) ∙ same ∙ ap (map tree_of) (take_all i ws other))
+    ap (λ ts. items_bytes (items_of (trees_from ts))) (sym (ap (map tree_of) (take_all i vs beyond)) ∙ same ∙
+    ap (map tree_of) (take_all i ws other))
 
-pub pairs_all : (i : ℕ) (ps qs : List (Value × Value)) → length ps ≤ i → length qs ≤ i → map pair_trees (take i ps) ≡ map pair_trees (take i qs) → pair_encodings ps ≡ pair_encodings qs
+pub pairs_all : (i : ℕ) (ps qs : List (Value × Value)) → length ps ≤ i → length qs ≤ i →
+    map pair_trees (take i ps) ≡ map pair_trees (take i qs) → pair_encodings ps ≡ pair_encodings qs
 pairs_all i ps qs beyond other same =
-    ap (λ ts. pairs_bytes (pairs_of (tree_pairs_from ts))) (sym (ap (map pair_trees) (take_all i ps beyond)) ∙ same ∙ ap (map pair_trees) (take_all i qs other))
+    ap (λ ts. pairs_bytes (pairs_of (tree_pairs_from ts)))
+    (sym (ap (map pair_trees) (take_all i ps beyond)) ∙ same ∙ ap (map pair_trees) (take_all i qs other))

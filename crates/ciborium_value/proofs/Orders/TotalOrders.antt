@@ -45,7 +45,8 @@ value_cmp-tied : (v w : Value) → value_cmp v w ≡ Equal → tree_of v ≡ tre
 value_cmp-tied v w e = (tied_where_equal (tree_of v) (tree_of w)).0 (sym (value_cmp-is v w) ∙ e)
 
 -- an order by encodings, and then that of values
-matches_eq : (order : Tree → Tree → Ordering) → IsTotalOrder order → (v w : Value) → value_eq v w ≡ is_eq (ordering_then (order (tree_of v) (tree_of w)) (value_cmp v w))
+matches_eq : (order : Tree → Tree → Ordering) → IsTotalOrder order → (v w : Value) →
+    value_eq v w ≡ is_eq (ordering_then (order (tree_of v) (tree_of w)) (value_cmp v w))
 matches_eq order total v w =
     matches_eq-law v w
     ∙ tests_agree (order (tree_of v) (tree_of w)) (value_cmp v w)

@@ -1,5 +1,7 @@
 -- The encoding of a tree as its head and what stands behind it.
-use Rattle.std.proofs.Common.{◌≡◌, ℕ, ◌+◌, ◌^◌, ◌<◌, List, [], ◌++◌, length, take, get_or, Bool, true, false, Vec, vec_len, String, string_bytes, Box, Global, ℤ, pos, negsuc, ◌⊎◌, inl, inr, refl, sym, ap, ◌∙◌, arith, length-append, append-nil, Equal, nat_cmp}
+use Rattle.std.proofs.Common.{◌≡◌, ℕ, ◌+◌, ◌^◌, ◌<◌, List, [], ◌++◌, length, take, get_or, Bool, true, false, Vec}
+use Rattle.std.proofs.Common.{vec_len, String, string_bytes, Box, Global, ℤ, pos, negsuc, ◌⊎◌, inl, inr, refl, sym, ap}
+use Rattle.std.proofs.Common.{◌∙◌, arith, length-append, append-nil, Equal, nat_cmp}
 use Rattle.std.specs.Cmp.Lexicographic.{slice_cmp}
 use Rattle.std.specs.FinMap.{nat_cmp-IsAntisymmetric, slice_cmp-IsAntisymmetric}
 use Rattle.ciborium_ll.specs.Head.{shortest_head}
@@ -10,8 +12,11 @@ use Rattle.ciborium_value.specs.Tree.{Tree, integer, bytes, text, boolean, null,
 use Rattle.ciborium_value.specs.View.{tree_of}
 use Rattle.ciborium_value.specs.declared.tree.Value as value
 use Rattle.ciborium_value.specs.declared.tree.Value.{Value}
-use Rattle.ciborium_value.proofs.Trees.Views.{tree_of-Integer, tree_of-Bytes, tree_of-Text, tree_of-Bool, tree_of-Null, tree_of-Tag, tree_of-Array, tree_of-Map, trees_count-trees_of, tree_pairs_count-tree_pairs_of}
-use Rattle.ciborium_value.proofs.Writing.Written.{written_spells, IsProperItem-item_of, items_count-items_of, pairs_count-pairs_of}
+use Rattle.ciborium_value.proofs.Trees.Views.{tree_of-Integer, tree_of-Bytes, tree_of-Text, tree_of-Bool, tree_of-Null}
+use Rattle.ciborium_value.proofs.Trees.Views.{tree_of-Tag, tree_of-Array, tree_of-Map, trees_count-trees_of}
+use Rattle.ciborium_value.proofs.Trees.Views.{tree_pairs_count-tree_pairs_of}
+use Rattle.ciborium_value.proofs.Writing.Written.{written_spells, IsProperItem-item_of, items_count-items_of}
+use Rattle.ciborium_value.proofs.Writing.Written.{pairs_count-pairs_of}
 use Rattle.ciborium_value.specs.inner.TreeHeads.{tree_major, argument_of, content_bytes}
 use Rattle.ciborium_value.specs.Visits.{saturated}
 use Rattle.ciborium_value.specs.inner.EncodedLists.{encodings, pair_encodings}
@@ -31,16 +36,19 @@ encoding-is (array vs) = ap (λ n. shortest_head 4 n ++ items_bytes (items_of vs
 encoding-is (map ps) = ap (λ n. shortest_head 5 n ++ pairs_bytes (pairs_of ps)) (pairs_count-pairs_of ps)
 
 -- a size is that of the head and of what stands behind it
-pub encoded_size-is : (v : Tree) (major argument head content size : ℕ) → major ≡ tree_major v → argument ≡ argument_of v → head ≡ length (shortest_head major argument)
+pub encoded_size-is : (v : Tree) (major argument head content size : ℕ) → major ≡ tree_major v →
+    argument ≡ argument_of v → head ≡ length (shortest_head major argument)
     → content ≡ saturated (length (content_bytes v)) → size ≡ saturated (head + content) → size ≡ encoded_size v
 encoded_size-is v major argument head content size m n h c s =
-    let first : head ≡ length (shortest_head (tree_major v) (argument_of v)) = h ∙ ap (λ k. length (shortest_head k argument)) m ∙ ap (λ k. length (shortest_head (tree_major v) k)) n in
+    let first : head ≡ length (shortest_head (tree_major v) (argument_of v)) = h ∙
+    ap (λ k. length (shortest_head k argument)) m ∙ ap (λ k. length (shortest_head (tree_major v) k)) n in
     let whole : length (encoding v) ≡ length (shortest_head (tree_major v) (argument_of v)) + length (content_bytes v) =
     ap length (encoding-is v) ∙ length-append (shortest_head (tree_major v) (argument_of v)) (content_bytes v) in
     omega (arith, first, c, s, whole)
 
 -- a head behind which nothing stands
-pub encoded_size-head : (v : Tree) (major argument head : ℕ) → major ≡ tree_major v → argument ≡ argument_of v → head ≡ length (shortest_head major argument)
+pub encoded_size-head : (v : Tree) (major argument head : ℕ) → major ≡ tree_major v → argument ≡ argument_of v →
+    head ≡ length (shortest_head major argument)
     → head < 2 ^ 64 → content_bytes v ≡ [] → head ≡ encoded_size v
 encoded_size-head v major argument head m n h fits none =
     let empty = ap length none in
@@ -55,26 +63,35 @@ tied_encodings v w e = slice_cmp-IsAntisymmetric nat_cmp-IsAntisymmetric (encodi
 
 -- ---- what stands behind the head of a value
 
-pub content_bytes-Bytes : (w : Value) (v : Vec ℕ Global) (b : List ℕ) → w ≡ value.Bytes v → b ≡ v.items → content_bytes (tree_of w) ≡ b
-content_bytes-Bytes w v b is payload = ap (λ x. content_bytes (tree_of x)) is ∙ ap content_bytes (tree_of-Bytes v) ∙ sym payload
+pub content_bytes-Bytes : (w : Value) (v : Vec ℕ Global) (b : List ℕ) → w ≡ value.Bytes v → b ≡ v.items →
+    content_bytes (tree_of w) ≡ b
+content_bytes-Bytes w v b is payload = ap (λ x. content_bytes (tree_of x)) is ∙ ap content_bytes (tree_of-Bytes v) ∙
+    sym payload
 
-pub content_bytes-Text : (w : Value) (s : String Global) (b : List ℕ) → w ≡ value.Text s → b ≡ string_bytes s → content_bytes (tree_of w) ≡ b
-content_bytes-Text w s b is payload = ap (λ x. content_bytes (tree_of x)) is ∙ ap content_bytes (tree_of-Text s) ∙ sym payload
+pub content_bytes-Text : (w : Value) (s : String Global) (b : List ℕ) → w ≡ value.Text s → b ≡ string_bytes s →
+    content_bytes (tree_of w) ≡ b
+content_bytes-Text w s b is payload = ap (λ x. content_bytes (tree_of x)) is ∙ ap content_bytes (tree_of-Text s) ∙
+    sym payload
 
 -- a number, a boolean or null
-pub content_bytes-none : (w : Value) → ((z : ℤ) × (w ≡ value.Integer z)) ⊎ (((b : Bool) × (w ≡ value.Bool b)) ⊎ (w ≡ value.Null)) → content_bytes (tree_of w) ≡ []
+pub content_bytes-none : (w : Value) → ((z : ℤ) × (w ≡ value.Integer z)) ⊎
+    (((b : Bool) × (w ≡ value.Bool b)) ⊎ (w ≡ value.Null)) → content_bytes (tree_of w) ≡ []
 content_bytes-none w (inl is) = ap (λ x. content_bytes (tree_of x)) is.1 ∙ ap content_bytes (tree_of-Integer is.0)
 content_bytes-none w (inr (inl is)) = ap (λ x. content_bytes (tree_of x)) is.1 ∙ ap content_bytes (tree_of-Bool is.0)
 content_bytes-none w (inr (inr is)) = ap (λ x. content_bytes (tree_of x)) is ∙ ap content_bytes tree_of-Null
 
-pub content_bytes-Tag : (w : Value) (t : ℕ) (b : Box Value Global) (v : Value) → w ≡ value.Tag t b → v ≡ b.value → content_bytes (tree_of w) ≡ encoding (tree_of v)
+pub content_bytes-Tag : (w : Value) (t : ℕ) (b : Box Value Global) (v : Value) → w ≡ value.Tag t b → v ≡ b.value →
+    content_bytes (tree_of w) ≡ encoding (tree_of v)
 content_bytes-Tag w t b v is content =
-    ap (λ x. content_bytes (tree_of x)) is ∙ ap content_bytes (tree_of-Tag t b) ∙ ap (λ x. encoding (tree_of x)) (sym content)
+    ap (λ x. content_bytes (tree_of x)) is ∙ ap content_bytes (tree_of-Tag t b) ∙
+    ap (λ x. encoding (tree_of x)) (sym content)
 
-pub content_bytes-Array : (w : Value) (v : Vec Value Global) → w ≡ value.Array v → content_bytes (tree_of w) ≡ encodings v.items
+pub content_bytes-Array : (w : Value) (v : Vec Value Global) → w ≡ value.Array v →
+    content_bytes (tree_of w) ≡ encodings v.items
 content_bytes-Array w v is = ap (λ x. content_bytes (tree_of x)) is ∙ ap content_bytes (tree_of-Array v)
 
-pub content_bytes-Map : (w : Value) (v : Vec (Value × Value) Global) → w ≡ value.Map v → content_bytes (tree_of w) ≡ pair_encodings v.items
+pub content_bytes-Map : (w : Value) (v : Vec (Value × Value) Global) → w ≡ value.Map v →
+    content_bytes (tree_of w) ≡ pair_encodings v.items
 content_bytes-Map w v is = ap (λ x. content_bytes (tree_of x)) is ∙ ap content_bytes (tree_of-Map v)
 
 -- ---- lengths along lists
@@ -82,11 +99,14 @@ content_bytes-Map w v is = ap (λ x. content_bytes (tree_of x)) is ∙ ap conten
 -- one more value
 pub encodings-more-length : (i : ℕ) (vs : List Value) (v : Value) → i < length vs → v ≡ get_or vs i v
     → length (encodings (take (i + 1) vs)) ≡ length (encodings (take i vs)) + length (encoding (tree_of v))
-encodings-more-length i vs v h e = ap length (encodings-more i vs v h e) ∙ length-append (encodings (take i vs)) (encoding (tree_of v))
+encodings-more-length i vs v h e = ap length (encodings-more i vs v h e) ∙
+    length-append (encodings (take i vs)) (encoding (tree_of v))
 
 -- one more pair
-pub pair_encodings-more-length : (i : ℕ) (ps : List (Value × Value)) (p : Value × Value) → i < length ps → p ≡ get_or ps i p
-    → length (pair_encodings (take (i + 1) ps)) ≡ length (pair_encodings (take i ps)) + (length (encoding (tree_of p.0)) + length (encoding (tree_of p.1)))
+pub pair_encodings-more-length : (i : ℕ) (ps : List (Value × Value)) (p : Value × Value) → i < length ps →
+    p ≡ get_or ps i p
+    → length (pair_encodings (take (i + 1) ps)) ≡ length (pair_encodings (take i ps)) +
+    (length (encoding (tree_of p.0)) + length (encoding (tree_of p.1)))
 pair_encodings-more-length i ps p h e =
     let key = encoding (tree_of p.0) in
     let mapped = encoding (tree_of p.1) in
@@ -95,16 +115,24 @@ pair_encodings-more-length i ps p h e =
 
 -- ---- counts
 
-pub argument_of-Array : (w : Value) (v : Vec Value Global) (n : ℕ) → w ≡ value.Array v → n ≡ vec_len v → n ≡ argument_of (tree_of w)
+pub argument_of-Array : (w : Value) (v : Vec Value Global) (n : ℕ) → w ≡ value.Array v → n ≡ vec_len v →
+    n ≡ argument_of (tree_of w)
 argument_of-Array w v n is count =
-    count ∙ v.ok.0 ∙ sym (trees_count-trees_of v.items) ∙ sym (ap (λ x. argument_of (tree_of x)) is ∙ ap argument_of (tree_of-Array v))
+    count ∙ v.ok.0 ∙ sym (trees_count-trees_of v.items) ∙
+    sym (ap (λ x. argument_of (tree_of x)) is ∙ ap argument_of (tree_of-Array v))
 
-pub argument_of-Map : (w : Value) (v : Vec (Value × Value) Global) (n : ℕ) → w ≡ value.Map v → n ≡ vec_len v → n ≡ argument_of (tree_of w)
+pub argument_of-Map : (w : Value) (v : Vec (Value × Value) Global) (n : ℕ) → w ≡ value.Map v → n ≡ vec_len v →
+    n ≡ argument_of (tree_of w)
 argument_of-Map w v n is count =
-    count ∙ v.ok.0 ∙ sym (tree_pairs_count-tree_pairs_of v.items) ∙ sym (ap (λ x. argument_of (tree_of x)) is ∙ ap argument_of (tree_of-Map v))
+    count ∙ v.ok.0 ∙ sym (tree_pairs_count-tree_pairs_of v.items) ∙
+    sym (ap (λ x. argument_of (tree_of x)) is ∙ ap argument_of (tree_of-Map v))
 
-pub argument_of-Bytes : (w : Value) (v : Vec ℕ Global) (b : List ℕ) → w ≡ value.Bytes v → b ≡ v.items → argument_of (tree_of w) ≡ length b
-argument_of-Bytes w v b is payload = ap (λ x. argument_of (tree_of x)) is ∙ ap argument_of (tree_of-Bytes v) ∙ ap length (sym payload)
+pub argument_of-Bytes : (w : Value) (v : Vec ℕ Global) (b : List ℕ) → w ≡ value.Bytes v → b ≡ v.items →
+    argument_of (tree_of w) ≡ length b
+argument_of-Bytes w v b is payload = ap (λ x. argument_of (tree_of x)) is ∙ ap argument_of (tree_of-Bytes v) ∙
+    ap length (sym payload)
 
-pub argument_of-Text : (w : Value) (s : String Global) (b : List ℕ) → w ≡ value.Text s → b ≡ string_bytes s → argument_of (tree_of w) ≡ length b
-argument_of-Text w s b is payload = ap (λ x. argument_of (tree_of x)) is ∙ ap argument_of (tree_of-Text s) ∙ ap length (sym payload)
+pub argument_of-Text : (w : Value) (s : String Global) (b : List ℕ) → w ≡ value.Text s → b ≡ string_bytes s →
+    argument_of (tree_of w) ≡ length b
+argument_of-Text w s b is payload = ap (λ x. argument_of (tree_of x)) is ∙ ap argument_of (tree_of-Text s) ∙
+    ap length (sym payload)

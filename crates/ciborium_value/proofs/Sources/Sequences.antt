@@ -5,14 +5,18 @@ use Rattle.ciborium_value.specs.Ahead.{Ahead, Rest, Form, item, after, parts, pa
 use Rattle.ciborium_value.specs.Nesting.{Limit}
 use Rattle.ciborium_value.specs.Places.{Shape, sequence}
 use Rattle.ciborium_value.specs.inner.EnteredContainers.{DropsRest, RefusesDropping, TakesOwed, TakesRest}
-use Rattle.ciborium_value.specs.Sources.{Fault, of_kind, of_nesting, of_syntax, of_memory, of_device, of_length, IsFaultOf, IsOutsideFault, TakesAhead, RefusesAhead, Enters, GoesOn, Leaves, RefusesNext, TakesTo, TakesItem, OwesLess, OwesNothing}
-use Rattle.ciborium_value.specs.Taken.{Outcome, gives, refuses, nests, Taken, then_take, and_take, take_each, outcome_map, taken_value}
+use Rattle.ciborium_value.specs.Sources.{Fault, of_kind, of_nesting, of_syntax, of_memory, of_device, of_length}
+use Rattle.ciborium_value.specs.Sources.{IsFaultOf, IsOutsideFault, TakesAhead, RefusesAhead, Enters, GoesOn, Leaves}
+use Rattle.ciborium_value.specs.Sources.{RefusesNext, TakesTo, TakesItem, OwesLess, OwesNothing}
+use Rattle.ciborium_value.specs.Taken.{Outcome, gives, refuses, nests, Taken, then_take, and_take, take_each}
+use Rattle.ciborium_value.specs.Taken.{outcome_map, taken_value}
 use Rattle.ciborium_value.specs.TakenParts.{list_items, taken_list, tuple_rest}
 use Rattle.ciborium_value.specs.Tree.{Tree}
 
 -- ---- who is to blame
 
-pub fault_then : {A B : Type 0} (end : ℕ) (fault : Fault) (o : Outcome A) (f : A → Outcome B) → IsFaultOf end fault o → IsFaultOf end fault (then_take o f)
+pub fault_then : {A B : Type 0} (end : ℕ) (fault : Fault) (o : Outcome A) (f : A → Outcome B) → IsFaultOf end fault o →
+    IsFaultOf end fault (then_take o f)
 fault_then end (of_kind k) o f h = ap (λ x. then_take x f) h
 fault_then end of_nesting o f h = ap (λ x. then_take x f) h
 fault_then end of_syntax o f h = h
@@ -20,7 +24,8 @@ fault_then end of_memory o f h = tt
 fault_then end of_device o f h = tt
 fault_then end of_length o f h = h
 
-pub fault_map : {A B : Type 0} (end : ℕ) (fault : Fault) (f : A → B) (o : Outcome A) → IsFaultOf end fault o → IsFaultOf end fault (outcome_map f o)
+pub fault_map : {A B : Type 0} (end : ℕ) (fault : Fault) (f : A → B) (o : Outcome A) → IsFaultOf end fault o →
+    IsFaultOf end fault (outcome_map f o)
 fault_map end (of_kind k) f o h = ap (outcome_map f) h
 fault_map end of_nesting f o h = ap (outcome_map f) h
 fault_map end of_syntax f o h = h
@@ -28,7 +33,8 @@ fault_map end of_memory f o h = tt
 fault_map end of_device f o h = tt
 fault_map end of_length f o h = h
 
-pub fault_and : {A : Type 0} (end : ℕ) (fault : Fault) (o : Outcome A) (r : Outcome (List A)) → IsFaultOf end fault o → IsFaultOf end fault (and_take o r)
+pub fault_and : {A : Type 0} (end : ℕ) (fault : Fault) (o : Outcome A) (r : Outcome (List A)) → IsFaultOf end fault o →
+    IsFaultOf end fault (and_take o r)
 fault_and end (of_kind k) o r h = ap (λ x. and_take x r) h
 fault_and end of_nesting o r h = ap (λ x. and_take x r) h
 fault_and end of_syntax o r h = h
@@ -36,7 +42,8 @@ fault_and end of_memory o r h = tt
 fault_and end of_device o r h = tt
 fault_and end of_length o r h = h
 
-pub fault_outside : {A : Type 0} (end : ℕ) (fault : Fault) (o : Outcome A) → IsOutsideFault end fault → IsFaultOf end fault o
+pub fault_outside : {A : Type 0} (end : ℕ) (fault : Fault) (o : Outcome A) → IsOutsideFault end fault →
+    IsFaultOf end fault o
 fault_outside end (of_kind k) o h = absurd h
 fault_outside end of_nesting o h = absurd h
 fault_outside end of_syntax o h = h
@@ -66,44 +73,61 @@ module _ {S : Type 0} (StandsBefore : S → Limit → Ahead → Type 0) where
   abbrev pub IsPast : {C : Type 0} → S → C → Limit → Rest → Outcome C → Type 0
   IsPast now v l f o = (o ≡ gives v) × StandsBefore now l (past f)
 
-  pub takes : {C : Type 0} {old new : S} {taken : Taken C} {v : C} → Follows (IsBefore old taken) (IsPast new v) → TakesAhead StandsBefore old new taken v
+  pub takes : {C : Type 0} {old new : S} {taken : Taken C} {v : C} → Follows (IsBefore old taken) (IsPast new v) →
+      TakesAhead StandsBefore old new taken v
   takes h l i f st = h.at l f _ (i, st, refl)
 
-  pub blames : {C : Type 0} {old : S} {taken : Taken C} (fault : Fault) → Follows (IsBefore old taken) (IsBlamed fault) → RefusesAhead StandsBefore old taken fault
+  pub blames : {C : Type 0} {old : S} {taken : Taken C} (fault : Fault) →
+      Follows (IsBefore old taken) (IsBlamed fault) → RefusesAhead StandsBefore old taken fault
   blames fault h l i f st = h.at l f _ (i, st, refl)
 
 module _ {S Q : Type 0} (StandsBefore : S → Limit → Ahead → Type 0) (SeqStands : Q → Limit → Rest → Type 0) where
   -- items of a sequence are left, of which k makes the outcome
   abbrev pub IsInside : {C : Type 0} → S → Q → (Limit → List Item → Outcome C) → Limit → Rest → Outcome C → Type 0
-  IsInside now q k l f o = (form : Form) × (is : List Item) × StandsBefore now (inside form l) (after (parts form is f)) × SeqStands q l (parts form is f) × (o ≡ k (inside form l) is)
+  IsInside now q k l f o = (form : Form) × (is : List Item) ×
+      StandsBefore now (inside form l) (after (parts form is f)) × SeqStands q l (parts form is f) ×
+      (o ≡ k (inside form l) is)
 
   -- one of them is ahead
   abbrev pub IsAtPart : {C : Type 0} → S → Q → (Limit → List Item → Outcome C) → Limit → Rest → Outcome C → Type 0
-  IsAtPart now q k l f o = (form : Form) × (i : Item) × (is : List Item) × StandsBefore now (inside form l) (item i (parts form is f)) × SeqStands q l (parts form is f) × (o ≡ k (inside form l) (i ∷ is))
+  IsAtPart now q k l f o = (form : Form) × (i : Item) × (is : List Item) ×
+      StandsBefore now (inside form l) (item i (parts form is f)) × SeqStands q l (parts form is f) ×
+      (o ≡ k (inside form l) (i ∷ is))
 
   module _ {C : Type 0} (k : Limit → List Item → Outcome C) where
-    pub goes_on : {old new : S} {q q' : Q} → GoesOn StandsBefore SeqStands old new q q' → Follows (IsInside old q k) (IsAtPart new q' k)
+    pub goes_on : {old new : S} {q q' : Q} → GoesOn StandsBefore SeqStands old new q q' →
+        Follows (IsInside old q k) (IsAtPart new q' k)
     goes_on h = record {
       at = λ l f o w.
           let n = h.0 l w.0 w.1 f w.2 w.3 in
           (w.0, n.0, n.1, n.3, n.4, w.4 ∙ ap (k (inside w.0 l)) n.2);
     }
 
-    pub blames_next : {old : S} {q : Q} (fault : Fault) → RefusesNext StandsBefore SeqStands old q fault → Follows (IsInside old q k) (IsBlamed fault)
+    pub blames_next : {old : S} {q : Q} (fault : Fault) → RefusesNext StandsBefore SeqStands old q fault →
+        Follows (IsInside old q k) (IsBlamed fault)
     blames_next fault h = record { at = λ l f o w. fault_outside _ fault o (h.0 l w.0 w.1 f w.2 w.3) }
 
     -- the part gives v, and k makes of it what k' makes of the rest
-    pub reads : {A : Type 0} {old new : S} {q : Q} {first : Taken A} {v : A} (k' : Limit → List Item → Outcome C) → TakesAhead StandsBefore old new first v → ((m : Limit) (i : Item) (is : List Item) → first m i ≡ gives v → k m (i ∷ is) ≡ k' m is) → Follows (IsAtPart old q k) (IsInside new q k')
+    pub reads : {A : Type 0} {old new : S} {q : Q} {first : Taken A} {v : A} (k' : Limit → List Item → Outcome C) →
+        TakesAhead StandsBefore old new first v → ((m : Limit) (i : Item) (is : List Item) → first m i ≡ gives v →
+        k m (i ∷ is) ≡ k' m is) → Follows (IsAtPart old q k) (IsInside new q k')
     reads k' h step = record {
       at = λ l f o w.
           let n = h (inside w.0 l) w.1 (parts w.0 w.2 f) w.3 in
           (w.0, w.2, n.1, w.4, w.5 ∙ step (inside w.0 l) w.1 w.2 n.0);
     }
 
-    pub blames_part : {A : Type 0} {old : S} {q : Q} (first : Taken A) (fault : Fault) → RefusesAhead StandsBefore old first fault → ((end : ℕ) (m : Limit) (i : Item) (is : List Item) → IsFaultOf end fault (first m i) → IsFaultOf end fault (k m (i ∷ is))) → Follows (IsAtPart old q k) (IsBlamed fault)
-    blames_part first fault h step = record { at = λ l f o w. subst (IsFaultOf (end_of f) fault) (sym w.5) (step (end_of f) (inside w.0 l) w.1 w.2 (h (inside w.0 l) w.1 (parts w.0 w.2 f) w.3)) }
+    pub blames_part : {A : Type 0} {old : S} {q : Q} (first : Taken A) (fault : Fault) →
+        RefusesAhead StandsBefore old first fault → ((end : ℕ) (m : Limit) (i : Item) (is : List Item) →
+        IsFaultOf end fault (first m i) → IsFaultOf end fault (k m (i ∷ is))) →
+        Follows (IsAtPart old q k) (IsBlamed fault)
+    blames_part first fault h step = record {
+      at = λ l f o w. subst (IsFaultOf (end_of f) fault) (sym w.5)
+          (step (end_of f) (inside w.0 l) w.1 w.2 (h (inside w.0 l) w.1 (parts w.0 w.2 f) w.3));
+    }
 
-    pub leaves : {old new : S} {q : Q} (v : C) → Leaves StandsBefore SeqStands old new q → ((m : Limit) → k m [] ≡ gives v) → Follows (IsInside old q k) (IsPast StandsBefore new v)
+    pub leaves : {old new : S} {q : Q} (v : C) → Leaves StandsBefore SeqStands old new q →
+        ((m : Limit) → k m [] ≡ gives v) → Follows (IsInside old q k) (IsPast StandsBefore new v)
     leaves v h none = record {
       at = λ l f o w.
           let n = h.0 l w.0 w.1 f w.2 w.3 in
@@ -121,12 +145,14 @@ none_listed (gives ws) = refl
 none_listed (refuses k) = refl
 none_listed nests = refl
 
-one_more_listed : {A : Type 0} (vs : List A) (v : A) (r : Outcome (List A)) → outcome_map (λ ws. vs ++ ws) (and_take (gives v) r) ≡ outcome_map (λ ws. (vs ++ v ∷ []) ++ ws) r
+one_more_listed : {A : Type 0} (vs : List A) (v : A) (r : Outcome (List A)) →
+    outcome_map (λ ws. vs ++ ws) (and_take (gives v) r) ≡ outcome_map (λ ws. (vs ++ v ∷ []) ++ ws) r
 one_more_listed vs v (gives ws) = ap gives (sym (append_assoc vs (v ∷ []) ws))
 one_more_listed vs v (refuses k) = refl
 one_more_listed vs v nests = refl
 
-one_more_dropped : {A : Type 0} (v : A) (r : Outcome (List A)) → then_take (and_take (gives v) r) (λ _. gives (tt {0})) ≡ then_take r (λ _. gives tt)
+one_more_dropped : {A : Type 0} (v : A) (r : Outcome (List A)) →
+    then_take (and_take (gives v) r) (λ _. gives (tt {0})) ≡ then_take r (λ _. gives tt)
 one_more_dropped v (gives ws) = refl
 one_more_dropped v (refuses k) = refl
 one_more_dropped v nests = refl
@@ -135,68 +161,104 @@ one_more_dropped v nests = refl
 abbrev pub dropped : Limit → List Item → Outcome (Unit {0})
 dropped l is = tuple_rest l tt is
 
-module _ {S Q : Type 0} (StandsBefore : S → Limit → Ahead → Type 0) (SeqStands : Q → Limit → Rest → Type 0) {A : Type 0} (taken : Taken A) where
-  pub list_begins : {old new : S} {q : Q} (vs : List A) → vs ≡ [] → Enters StandsBefore SeqStands old new q → Follows (IsBefore StandsBefore old (taken_list taken)) (IsInside StandsBefore SeqStands new q (list_from taken vs))
+module _ {S Q : Type 0} (StandsBefore : S → Limit → Ahead → Type 0) (SeqStands : Q → Limit → Rest → Type 0) {A : Type 0}
+    (taken : Taken A) where
+  pub list_begins : {old new : S} {q : Q} (vs : List A) → vs ≡ [] → Enters StandsBefore SeqStands old new q →
+      Follows (IsBefore StandsBefore old (taken_list taken))
+      (IsInside StandsBefore SeqStands new q (list_from taken vs))
   list_begins vs none h = record {
     at = λ l f o w.
         let n = h l w.0 f w.1 in
-        let r = list_items taken (inside n.0 l) n.1 in
-        (n.0, n.1, n.3, n.4, w.2 ∙ ap (λ p. then_take p (λ x. list_items taken x.0 x.1)) n.2 ∙ none_listed r ∙ ap (λ x. outcome_map (λ ws. x ++ ws) r) (sym none));
+        let r = list_items taken (inside n.0 l) n.1 in (
+          n.0,
+          n.1,
+          n.3,
+          n.4,
+          w.2 ∙ ap (λ p. then_take p (λ x. list_items taken x.0 x.1)) n.2 ∙ none_listed r ∙
+              ap (λ x. outcome_map (λ ws. x ++ ws) r) (sym none),
+        );
   }
 
-  pub list_more : {old ahead new : S} {q q' : Q} {v : A} (vs : List A) → GoesOn StandsBefore SeqStands old ahead q q' → TakesAhead StandsBefore ahead new taken v → Follows (IsInside StandsBefore SeqStands old q (list_from taken vs)) (IsInside StandsBefore SeqStands new q' (list_from taken (vs ++ v ∷ [])))
+  pub list_more : {old ahead new : S} {q q' : Q} {v : A} (vs : List A) → GoesOn StandsBefore SeqStands old ahead q q' →
+      TakesAhead StandsBefore ahead new taken v → Follows (IsInside StandsBefore SeqStands old q (list_from taken vs))
+      (IsInside StandsBefore SeqStands new q' (list_from taken (vs ++ v ∷ [])))
   list_more {v = v} vs h t = so (goes_on StandsBefore SeqStands (list_from taken vs) h)
-      (reads StandsBefore SeqStands (list_from taken vs) (list_from taken (vs ++ v ∷ [])) t (λ m i is e. ap (λ o. outcome_map (λ ws. vs ++ ws) (and_take o (list_items taken m is))) e ∙ one_more_listed vs v (list_items taken m is)))
+      (reads StandsBefore SeqStands (list_from taken vs) (list_from taken (vs ++ v ∷ [])) t
+      (λ m i is e. ap (λ o. outcome_map (λ ws. vs ++ ws) (and_take o (list_items taken m is))) e ∙
+      one_more_listed vs v (list_items taken m is)))
 
-  pub list_blames : {old ahead : S} {q q' : Q} (vs : List A) (fault : Fault) → GoesOn StandsBefore SeqStands old ahead q q' → RefusesAhead StandsBefore ahead taken fault → Follows (IsInside StandsBefore SeqStands old q (list_from taken vs)) (IsBlamed fault)
+  pub list_blames : {old ahead : S} {q q' : Q} (vs : List A) (fault : Fault) →
+      GoesOn StandsBefore SeqStands old ahead q q' → RefusesAhead StandsBefore ahead taken fault →
+      Follows (IsInside StandsBefore SeqStands old q (list_from taken vs)) (IsBlamed fault)
   list_blames vs fault h t = so (goes_on StandsBefore SeqStands (list_from taken vs) h)
-      (blames_part StandsBefore SeqStands (list_from taken vs) taken fault t (λ end m i is e. fault_map _ fault (λ ws. vs ++ ws) (and_take (taken m i) (list_items taken m is)) (fault_and _ fault (taken m i) (list_items taken m is) e)))
+      (blames_part StandsBefore SeqStands (list_from taken vs) taken fault t
+      (λ end m i is e. fault_map _ fault (λ ws. vs ++ ws) (and_take (taken m i) (list_items taken m is))
+      (fault_and _ fault (taken m i) (list_items taken m is) e)))
 
-  pub list_ends : {old new : S} {q : Q} (vs : List A) → Leaves StandsBefore SeqStands old new q → Follows (IsInside StandsBefore SeqStands old q (list_from taken vs)) (IsPast StandsBefore new vs)
+  pub list_ends : {old new : S} {q : Q} (vs : List A) → Leaves StandsBefore SeqStands old new q →
+      Follows (IsInside StandsBefore SeqStands old q (list_from taken vs)) (IsPast StandsBefore new vs)
   list_ends vs h = leaves StandsBefore SeqStands (list_from taken vs) vs h (λ m. ap gives (append-nil vs))
 
 module _ {S Q : Type 0} (StandsBefore : S → Limit → Ahead → Type 0) (SeqStands : Q → Limit → Rest → Type 0) where
-  pub drop_more : {old ahead new : S} {q q' : Q} {v : Tree} → GoesOn StandsBefore SeqStands old ahead q q' → TakesAhead StandsBefore ahead new taken_value v → Follows (IsInside StandsBefore SeqStands old q dropped) (IsInside StandsBefore SeqStands new q' dropped)
+  pub drop_more : {old ahead new : S} {q q' : Q} {v : Tree} → GoesOn StandsBefore SeqStands old ahead q q' →
+      TakesAhead StandsBefore ahead new taken_value v →
+      Follows (IsInside StandsBefore SeqStands old q dropped) (IsInside StandsBefore SeqStands new q' dropped)
   drop_more {v = v} h t = so (goes_on StandsBefore SeqStands dropped h)
-      (reads StandsBefore SeqStands dropped dropped t (λ m i is e. ap (λ o. then_take (and_take o (take_each (taken_value m) is)) (λ _. gives tt)) e ∙ one_more_dropped v (take_each (taken_value m) is)))
+      (reads StandsBefore SeqStands dropped dropped t (λ m i is e. ap
+      (λ o. then_take (and_take o (take_each (taken_value m) is)) (λ _. gives tt)) e ∙
+      one_more_dropped v (take_each (taken_value m) is)))
 
-  pub drop_blames : {old ahead : S} {q q' : Q} (fault : Fault) → GoesOn StandsBefore SeqStands old ahead q q' → RefusesAhead StandsBefore ahead taken_value fault → Follows (IsInside StandsBefore SeqStands old q dropped) (IsBlamed fault)
+  pub drop_blames : {old ahead : S} {q q' : Q} (fault : Fault) → GoesOn StandsBefore SeqStands old ahead q q' →
+      RefusesAhead StandsBefore ahead taken_value fault →
+      Follows (IsInside StandsBefore SeqStands old q dropped) (IsBlamed fault)
   drop_blames fault h t = so (goes_on StandsBefore SeqStands dropped h)
-      (blames_part StandsBefore SeqStands dropped taken_value fault t (λ end m i is e. fault_then _ fault (and_take (taken_value m i) (take_each (taken_value m) is)) (λ _. gives tt) (fault_and _ fault (taken_value m i) (take_each (taken_value m) is) e)))
+      (blames_part StandsBefore SeqStands dropped taken_value fault t
+      (λ end m i is e. fault_then _ fault (and_take (taken_value m i) (take_each (taken_value m) is))
+      (λ _. gives tt) (fault_and _ fault (taken_value m i) (take_each (taken_value m) is) e)))
 
-  pub drop_ends : {old new : S} {q : Q} → Leaves StandsBefore SeqStands old new q → Follows (IsInside StandsBefore SeqStands old q dropped) (IsPast StandsBefore new tt)
+  pub drop_ends : {old new : S} {q : Q} → Leaves StandsBefore SeqStands old new q →
+      Follows (IsInside StandsBefore SeqStands old q dropped) (IsPast StandsBefore new tt)
   drop_ends h = leaves StandsBefore SeqStands dropped tt h (λ m. refl)
 
-  pub drops : {old new : S} {q : Q} → Follows (IsInside StandsBefore SeqStands old q dropped) (IsPast StandsBefore new tt) → DropsRest StandsBefore SeqStands old new q
+  pub drops : {old new : S} {q : Q} → Follows (IsInside StandsBefore SeqStands old q dropped)
+      (IsPast StandsBefore new tt) → DropsRest StandsBefore SeqStands old new q
   drops h l form is f st sq = h.at l f _ (form, is, st, sq, refl)
 
-  pub drop_refused : {old : S} {q : Q} (fault : Fault) → Follows (IsInside StandsBefore SeqStands old q dropped) (IsBlamed fault) → RefusesDropping StandsBefore SeqStands old q fault
+  pub drop_refused : {old : S} {q : Q} (fault : Fault) →
+      Follows (IsInside StandsBefore SeqStands old q dropped) (IsBlamed fault) →
+      RefusesDropping StandsBefore SeqStands old q fault
   drop_refused fault h l form is f st sq = h.at l f _ (form, is, st, sq, refl)
 
 -- ---- known bytes
 
 module _ {S Q : Type 0} (IsUnread : S → List ℕ → Type 0) (Owes : Q → Shape → List ℕ → List ℕ → Type 0) where
-  pub owed_more : (old mid ahead new : S) (q q' : Q) → TakesTo IsUnread old mid (Owes q sequence) → TakesTo IsUnread mid ahead (OwesLess Owes q q') → TakesItem IsUnread ahead new → TakesTo IsUnread old new (Owes q' sequence)
+  pub owed_more : (old mid ahead new : S) (q q' : Q) → TakesTo IsUnread old mid (Owes q sequence) →
+      TakesTo IsUnread mid ahead (OwesLess Owes q q') → TakesItem IsUnread ahead new →
+      TakesTo IsUnread old new (Owes q' sequence)
   owed_more old mid ahead new q q' h g t b u =
       let (c, un, ow) = h b u in
       let (d, un', less) = g c un in
       let (z, un'', has) = t d un' in
       (z, un'', less sequence b z ow has)
 
-  pub owed_all : (old mid new : S) (q : Q) → TakesTo IsUnread old mid (Owes q sequence) → TakesTo IsUnread mid new (OwesNothing Owes q) → TakesItem IsUnread old new
+  pub owed_all : (old mid new : S) (q : Q) → TakesTo IsUnread old mid (Owes q sequence) →
+      TakesTo IsUnread mid new (OwesNothing Owes q) → TakesItem IsUnread old new
   owed_all old mid new q h g b u =
       let (c, un, ow) = h b u in
       let (z, un', done) = g c un in
       (z, un', done sequence b ow)
 
-  pub dropped_more : (old mid ahead new : S) (p q q' : Q) → TakesOwed IsUnread Owes old mid p q → TakesTo IsUnread mid ahead (OwesLess Owes q q') → TakesItem IsUnread ahead new → TakesOwed IsUnread Owes old new p q'
+  pub dropped_more : (old mid ahead new : S) (p q q' : Q) → TakesOwed IsUnread Owes old mid p q →
+      TakesTo IsUnread mid ahead (OwesLess Owes q q') → TakesItem IsUnread ahead new →
+      TakesOwed IsUnread Owes old new p q'
   dropped_more old mid ahead new p q q' h g t b u =
       let (c, un, ow) = h b u in
       let (d, un', less) = g c un in
       let (z, un'', has) = t d un' in
       (z, un'', λ a w. less sequence a z (ow a w) has)
 
-  pub dropped_all : (old mid new : S) (p q : Q) → TakesOwed IsUnread Owes old mid p q → TakesTo IsUnread mid new (OwesNothing Owes q) → TakesRest IsUnread Owes old new p
+  pub dropped_all : (old mid new : S) (p q : Q) → TakesOwed IsUnread Owes old mid p q →
+      TakesTo IsUnread mid new (OwesNothing Owes q) → TakesRest IsUnread Owes old new p
   dropped_all old mid new p q h g a b u w =
       let (c, un, ow) = h b u in
       let (z, un', done) = g c un in

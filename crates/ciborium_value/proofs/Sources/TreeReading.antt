@@ -1,13 +1,18 @@
 -- What a source finds at a value.
-use Rattle.std.proofs.Common.{◌≡◌, ℕ, suc, ◌+◌, ◌<◌, ◌≤◌, List, [], ◌∷◌, ◌++◌, map, length, chars, IsUtf8, encode_utf8, slice_get, Option, Some, None, Result, Ok, Err, IfOk, IfErr, OnOk, Vec, Global, refl, sym, ap, ◌∙◌, arith}
+use Rattle.std.proofs.Common.{◌≡◌, ℕ, suc, ◌+◌, ◌<◌, ◌≤◌, List, [], ◌∷◌, ◌++◌, map, length, chars, IsUtf8, encode_utf8}
+use Rattle.std.proofs.Common.{slice_get, Option, Some, None, Result, Ok, Err, IfOk, IfErr, OnOk, Vec, Global, refl, sym}
+use Rattle.std.proofs.Common.{ap, ◌∙◌, arith}
 use Rattle.std.proofs.lemmas.Str.{chars_past_char, chars-nil}
 use Rattle.std.proofs.lemmas.List.{nil_from_length}
 use Rattle.std.proofs.Common.{append_assoc}
 use Rattle.ciborium_ll.specs.Item.{Item, unsigned}
 use Rattle.ciborium_value.specs.Encoding.{item_of, items_of, pairs_of}
-use Rattle.ciborium_value.specs.Taken.{Outcome, gives, refuses, nests, and_take, outcome_map, unpack, unpack_pairs, taken_seq, taken_pairs, bare_seq, bare_pairs, untagged, lone_character, bare_bytes, taken_bytes, taken_byte, take_each}
+use Rattle.ciborium_value.specs.Taken.{Outcome, gives, refuses, nests, and_take, outcome_map, unpack, unpack_pairs}
+use Rattle.ciborium_value.specs.Taken.{taken_seq, taken_pairs, bare_seq, bare_pairs, untagged, lone_character}
+use Rattle.ciborium_value.specs.Taken.{bare_bytes, taken_bytes, taken_byte, take_each}
 use Rattle.std.specs.Borrow.{Bor}
-use Rattle.ciborium_value.specs.inner.TreeSources.{pair_items, value_weight, pending_due, pending_tree_weight, due_weight, source_weight}
+use Rattle.ciborium_value.specs.inner.TreeSources.{pair_items, value_weight, pending_due, pending_tree_weight}
+use Rattle.ciborium_value.specs.inner.TreeSources.{due_weight, source_weight}
 use Rattle.ciborium_value.specs.TreeAnswers.{value_item}
 use Rattle.ciborium_value.specs.Tree as trees
 use Rattle.ciborium_value.specs.Tree.{Tree}
@@ -16,7 +21,8 @@ use Rattle.ciborium_value.specs.View.{tree_of, trees_of, tree_pairs_of}
 use Rattle.ciborium_value.specs.declared.kind.Kind.TheVariants as kinds
 use Rattle.ciborium_value.specs.declared.tree.Value as value
 use Rattle.ciborium_value.specs.declared.tree.Value.{Value}
-use Rattle.ciborium_value.specs.Counts.{node_count, payload_size, trees_node_count, trees_payload_size, tree_pairs_node_count, tree_pairs_payload_size}
+use Rattle.ciborium_value.specs.Counts.{node_count, payload_size, trees_node_count, trees_payload_size}
+use Rattle.ciborium_value.specs.Counts.{tree_pairs_node_count, tree_pairs_payload_size}
 use Rattle.ciborium_value.proofs.Writing.TreeSinkSteps.{some_is}
 use Rattle.ciborium_value.proofs.Trees.Views.{tree_of-Array, tree_of-Map, tree_of-Bytes}
 
@@ -31,31 +37,42 @@ unpack-tree_pairs [] = refl
 unpack-tree_pairs (p ∷ ps) = ap (λ qs. pair_items p ∷ qs) (unpack-tree_pairs ps)
 
 -- a value, behind the tags of an item, is an array
-pub seq_of : (v : Value) (vs : Vec Value Global) (i : Item) → v ≡ value.Array vs → value_item v ≡ untagged i → taken_seq None i ≡ gives (None, map value_item vs.items)
-seq_of v vs i is h = ap (bare_seq None) (sym h ∙ ap item_of (ap tree_of is ∙ tree_of-Array vs)) ∙ ap (λ js. gives (None, js)) (unpack-trees vs.items)
+pub seq_of : (v : Value) (vs : Vec Value Global) (i : Item) → v ≡ value.Array vs → value_item v ≡ untagged i →
+    taken_seq None i ≡ gives (None, map value_item vs.items)
+seq_of v vs i is h = ap (bare_seq None) (sym h ∙ ap item_of (ap tree_of is ∙ tree_of-Array vs)) ∙
+    ap (λ js. gives (None, js)) (unpack-trees vs.items)
 
 -- a byte string
-pub bytes_of : (v : Value) (bs : Vec ℕ Global) (i : Item) → v ≡ value.Bytes bs → value_item v ≡ untagged i → taken_seq None i ≡ gives (None, map unsigned bs.items)
+pub bytes_of : (v : Value) (bs : Vec ℕ Global) (i : Item) → v ≡ value.Bytes bs → value_item v ≡ untagged i →
+    taken_seq None i ≡ gives (None, map unsigned bs.items)
 bytes_of v bs i is h = ap (bare_seq None) (sym h ∙ ap item_of (ap tree_of is ∙ tree_of-Bytes bs))
 
 -- a map
-pub map_of : (v : Value) (ps : Vec (Value × Value) Global) (i : Item) → v ≡ value.Map ps → value_item v ≡ untagged i → taken_pairs None i ≡ gives (None, map pair_items ps.items)
-map_of v ps i is h = ap (bare_pairs None) (sym h ∙ ap item_of (ap tree_of is ∙ tree_of-Map ps)) ∙ ap (λ qs. gives (None, qs)) (unpack-tree_pairs ps.items)
+pub map_of : (v : Value) (ps : Vec (Value × Value) Global) (i : Item) → v ≡ value.Map ps → value_item v ≡ untagged i →
+    taken_pairs None i ≡ gives (None, map pair_items ps.items)
+map_of v ps i is h = ap (bare_pairs None) (sym h ∙ ap item_of (ap tree_of is ∙ tree_of-Map ps)) ∙
+    ap (λ qs. gives (None, qs)) (unpack-tree_pairs ps.items)
 
-pub pairs_weigh_less : (v : Value) (ps : Vec (Value × Value) Global) (n : ℕ) → v ≡ value.Map ps → value_weight v ≤ n → tree_pairs_node_count (tree_pairs_of ps.items) + tree_pairs_payload_size (tree_pairs_of ps.items) < n
+pub pairs_weigh_less : (v : Value) (ps : Vec (Value × Value) Global) (n : ℕ) → v ≡ value.Map ps → value_weight v ≤ n →
+    tree_pairs_node_count (tree_pairs_of ps.items) + tree_pairs_payload_size (tree_pairs_of ps.items) < n
 pairs_weigh_less v ps n is h =
-    let e : value_weight v ≡ suc (tree_pairs_node_count (tree_pairs_of ps.items)) + tree_pairs_payload_size (tree_pairs_of ps.items) = ap (λ t. node_count t + payload_size t) (ap tree_of is ∙ tree_of-Map ps) in omega (arith, e, h)
+    let e : value_weight v ≡ suc (tree_pairs_node_count (tree_pairs_of ps.items)) + tree_pairs_payload_size
+    (tree_pairs_of ps.items) = ap (λ t. node_count t + payload_size t) (ap tree_of is ∙ tree_of-Map ps) in
+    omega (arith, e, h)
 
 -- ---- characters
 
-pub lone : (b rest : List ℕ) (c : ℕ) → IsUtf8 b → b ≡ encode_utf8 c ++ rest → length rest ≡ 0 → lone_character (chars b) ≡ gives c
-lone b rest c u h none = ap lone_character (chars_past_char b rest c u h ∙ ap (λ cs. c ∷ cs) (ap chars (nil_from_length rest none) ∙ chars-nil))
+pub lone : (b rest : List ℕ) (c : ℕ) → IsUtf8 b → b ≡ encode_utf8 c ++ rest → length rest ≡ 0 →
+    lone_character (chars b) ≡ gives c
+lone b rest c u h none = ap lone_character (chars_past_char b rest c u h ∙
+    ap (λ cs. c ∷ cs) (ap chars (nil_from_length rest none) ∙ chars-nil))
 
 first_of : (cs : List ℕ) (d : ℕ) → Some d ≡ slice_get cs 0 → (ds : List ℕ) × (cs ≡ d ∷ ds)
 first_of [] d h = cc
 first_of (c ∷ cs) d h = (cs, ap (λ x. x ∷ cs) (some_is c d (sym h)))
 
-pub not_lone : (b rest : List ℕ) (c d : ℕ) → IsUtf8 b → b ≡ encode_utf8 c ++ rest → Some d ≡ slice_get (chars rest) 0 → lone_character (chars b) ≡ refuses kinds.Char
+pub not_lone : (b rest : List ℕ) (c d : ℕ) → IsUtf8 b → b ≡ encode_utf8 c ++ rest → Some d ≡ slice_get (chars rest) 0 →
+    lone_character (chars b) ≡ refuses kinds.Char
 not_lone b rest c d u h s =
     let more = first_of (chars rest) d s in ap lone_character (chars_past_char b rest c u h ∙ ap (λ ds. c ∷ ds) more.1)
 
@@ -66,8 +83,10 @@ abbrev pub behind_these : {A : Type 0} → List A → Outcome (List A) → Outco
 behind_these done o = outcome_map (λ vs. done ++ vs) o
 
 -- the numbers of an array
-pub numbers_of : (v : Value) (vs : Vec Value Global) (i : Item) → v ≡ value.Array vs → value_item v ≡ untagged i → taken_bytes None i ≡ take_each (taken_byte None) (map value_item vs.items)
-numbers_of v vs i is h = ap (bare_bytes None) (sym h ∙ ap item_of (ap tree_of is ∙ tree_of-Array vs)) ∙ ap (take_each (taken_byte None)) (unpack-trees vs.items)
+pub numbers_of : (v : Value) (vs : Vec Value Global) (i : Item) → v ≡ value.Array vs → value_item v ≡ untagged i →
+    taken_bytes None i ≡ take_each (taken_byte None) (map value_item vs.items)
+numbers_of v vs i is h = ap (bare_bytes None) (sym h ∙ ap item_of (ap tree_of is ∙ tree_of-Array vs)) ∙
+    ap (take_each (taken_byte None)) (unpack-trees vs.items)
 
 -- ---- answers
 
@@ -96,7 +115,8 @@ some_node (trees.array vs) = omega (arith)
 some_node (trees.map ps) = omega (arith)
 
 -- a value that was ahead is read, and the one that is due comes next
-pub read_weighs_less : (v : Value) (old new : TreeSource) → pending_tree_weight old.ahead ≡ value_weight v → pending_tree_weight new.ahead ≡ due_weight old.due → due_weight new.due ≡ 0 → source_weight new < source_weight old
+pub read_weighs_less : (v : Value) (old new : TreeSource) → pending_tree_weight old.ahead ≡ value_weight v →
+    pending_tree_weight new.ahead ≡ due_weight old.due → due_weight new.due ≡ 0 → source_weight new < source_weight old
 read_weighs_less v old new here next none = let some = some_node (tree_of v) in omega (arith, here, next, none, some)
 
 pub due_next : (due : Option (Bor Value)) → pending_tree_weight (pending_due due) ≡ due_weight due

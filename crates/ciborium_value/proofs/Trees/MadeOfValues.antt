@@ -1,5 +1,7 @@
--- What is made of the values of a list, one by one: the parts of a type that holds itself, whose values are trees of one shape.
-use Rattle.std.proofs.Common.{◌≡◌, ℕ, zero, suc, ◌+◌, ◌<◌, Bool, true, false, ◌&&◌, List, [], ◌∷◌, ◌++◌, length, map, take, get_or, refl, sym, ap, ◌∙◌, add-one, arith}
+-- What is made of the values of a list, one by one: the parts of a type that holds itself, whose values are trees of
+-- one shape.
+use Rattle.std.proofs.Common.{◌≡◌, ℕ, zero, suc, ◌+◌, ◌<◌, Bool, true, false, ◌&&◌, List, [], ◌∷◌, ◌++◌, length, map}
+use Rattle.std.proofs.Common.{take, get_or, refl, sym, ap, ◌∙◌, add-one, arith}
 use Rattle.std.proofs.Math.Seq.{take-suc}
 use Rattle.ciborium_value.specs.Tree as trees
 use Rattle.ciborium_value.specs.Tree.{Tree, Trees}
@@ -7,7 +9,8 @@ use Rattle.ciborium_value.specs.View.{tree_of, trees_of}
 use Rattle.ciborium_value.specs.declared.tree.Value.{Value}
 
 -- the next element
-one_more : {A : Type 0} (i : ℕ) (xs : List A) (x : A) → i < length xs → x ≡ get_or xs i x → take (i + 1) xs ≡ take i xs ++ x ∷ []
+one_more : {A : Type 0} (i : ℕ) (xs : List A) (x : A) → i < length xs → x ≡ get_or xs i x →
+    take (i + 1) xs ≡ take i xs ++ x ∷ []
 one_more i xs x h e = ap (λ n. take n xs) (add-one i) ∙ take-suc xs i x h ∙ ap (λ y. take i xs ++ (y ∷ [])) (sym e)
 
 map-append : {A B : Type 0} (f : A → B) (xs : List A) (x : A) → map f (xs ++ x ∷ []) ≡ map f xs ++ f x ∷ []
@@ -15,10 +18,13 @@ map-append f [] x = refl
 map-append f (y ∷ ys) x = ap (λ zs. f y ∷ zs) (map-append f ys x)
 
 -- one part more was made, of the next value
-pub one_made : {T : Type 0} (f : T → Tree) (i : ℕ) (vs : List Value) (v : Value) (ts us : List T) (t : T) → i < length vs → v ≡ get_or vs i v →
+pub one_made : {T : Type 0} (f : T → Tree) (i : ℕ) (vs : List Value) (v : Value) (ts us : List T) (t : T) →
+    i < length vs → v ≡ get_or vs i v →
     map f ts ≡ map tree_of (take i vs) → us ≡ ts ++ t ∷ [] → f t ≡ tree_of v → map f us ≡ map tree_of (take (i + 1) vs)
 one_made f i vs v ts us t h e before more same =
-    ap (map f) more ∙ map-append f ts t ∙ ap (λ l. l ++ f t ∷ []) before ∙ ap (λ x. map tree_of (take i vs) ++ x ∷ []) same ∙ sym (map-append tree_of (take i vs) v) ∙ ap (map tree_of) (sym (one_more i vs v h e))
+    ap (map f) more ∙ map-append f ts t ∙ ap (λ l. l ++ f t ∷ []) before ∙
+    ap (λ x. map tree_of (take i vs) ++ x ∷ []) same ∙ sym (map-append tree_of (take i vs) v) ∙
+    ap (map tree_of) (sym (one_more i vs v h e))
 
 both : (a b : Bool) → a ≡ true → b ≡ true → (a && b) ≡ true
 both true b h k = k
@@ -37,19 +43,27 @@ other_wrong true b h = h
 other_wrong false b h = refl
 
 -- a test of trees, and of lists of trees: each passes it
-module _ (is : Tree → Bool) (are : Trees → Bool) (none : are trees.no_trees ≡ true) (each : (v : Tree) (vs : Trees) → are (trees.tree v vs) ≡ (is v && are vs)) where
-  right-append : (vs : List Value) (v : Value) → are (trees_of vs) ≡ true → is (tree_of v) ≡ true → are (trees_of (vs ++ v ∷ [])) ≡ true
+module _ (is : Tree → Bool) (are : Trees → Bool) (none : are trees.no_trees ≡ true)
+    (each : (v : Tree) (vs : Trees) → are (trees.tree v vs) ≡ (is v && are vs)) where
+  right-append : (vs : List Value) (v : Value) → are (trees_of vs) ≡ true → is (tree_of v) ≡ true →
+      are (trees_of (vs ++ v ∷ [])) ≡ true
   right-append [] v h k = each (tree_of v) trees.no_trees ∙ both (is (tree_of v)) (are trees.no_trees) k none
   right-append (w ∷ ws) v h k =
       let parts = first_and_rest (is (tree_of w)) (are (trees_of ws)) (sym (each (tree_of w) (trees_of ws)) ∙ h) in
-      each (tree_of w) (trees_of (ws ++ v ∷ [])) ∙ both (is (tree_of w)) (are (trees_of (ws ++ v ∷ []))) parts.0 (right-append ws v parts.1 k)
+      each (tree_of w) (trees_of (ws ++ v ∷ [])) ∙ both (is (tree_of w)) (are (trees_of (ws ++ v ∷ []))) parts.0
+      (right-append ws v parts.1 k)
 
   -- the next value passes it
-  pub one_right : (i : ℕ) (vs : List Value) (v : Value) → i < length vs → v ≡ get_or vs i v → are (trees_of (take i vs)) ≡ true → is (tree_of v) ≡ true → are (trees_of (take (i + 1) vs)) ≡ true
-  one_right i vs v h e before right = ap (λ l. are (trees_of l)) (one_more i vs v h e) ∙ right-append (take i vs) v before right
+  pub one_right : (i : ℕ) (vs : List Value) (v : Value) → i < length vs → v ≡ get_or vs i v →
+      are (trees_of (take i vs)) ≡ true → is (tree_of v) ≡ true → are (trees_of (take (i + 1) vs)) ≡ true
+  one_right i vs v h e before right = ap (λ l. are (trees_of l)) (one_more i vs v h e) ∙
+      right-append (take i vs) v before right
 
   -- one value that does not is enough
-  pub one_wrong : (i : ℕ) (vs : List Value) (v : Value) → i < length vs → v ≡ get_or vs i v → is (tree_of v) ≡ false → are (trees_of vs) ≡ false
+  pub one_wrong : (i : ℕ) (vs : List Value) (v : Value) → i < length vs → v ≡ get_or vs i v → is (tree_of v) ≡ false →
+      are (trees_of vs) ≡ false
   one_wrong i [] v h e wrong = absurd (omega (arith, h))
-  one_wrong zero (w ∷ ws) v h e wrong = each (tree_of w) (trees_of ws) ∙ first_wrong (is (tree_of w)) (are (trees_of ws)) (ap (λ x. is (tree_of x)) (sym e) ∙ wrong)
-  one_wrong (suc i) (w ∷ ws) v h e wrong = each (tree_of w) (trees_of ws) ∙ other_wrong (is (tree_of w)) (are (trees_of ws)) (one_wrong i ws v (omega (arith, h)) e wrong)
+  one_wrong zero (w ∷ ws) v h e wrong = each (tree_of w) (trees_of ws) ∙
+      first_wrong (is (tree_of w)) (are (trees_of ws)) (ap (λ x. is (tree_of x)) (sym e) ∙ wrong)
+  one_wrong (suc i) (w ∷ ws) v h e wrong = each (tree_of w) (trees_of ws) ∙
+      other_wrong (is (tree_of w)) (are (trees_of ws)) (one_wrong i ws v (omega (arith, h)) e wrong)

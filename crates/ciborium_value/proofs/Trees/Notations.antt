@@ -1,5 +1,7 @@
 -- What was written of a notation so far.
-use Rattle.std.proofs.Common.{◌≡◌, ℕ, ◌+◌, ◌/◌, ◌%◌, ◌<◌, true, false, Option, List, [], ◌∷◌, ◌++◌, length, take, drop, get_or, slice_index, codes, decimal, refl, sym, ap, subst, ◌∙◌, arith, append-nil, append_assoc, add-one, suc, take-append-drop, drop-cons}
+use Rattle.std.proofs.Common.{◌≡◌, ℕ, ◌+◌, ◌/◌, ◌%◌, ◌<◌, true, false, Option, List, [], ◌∷◌, ◌++◌, length, take, drop}
+use Rattle.std.proofs.Common.{get_or, slice_index, codes, decimal, refl, sym, ap, subst, ◌∙◌, arith, append-nil}
+use Rattle.std.proofs.Common.{append_assoc, add-one, suc, take-append-drop, drop-cons}
 use Rattle.std.specs.Fmt.{HasWrittenStyled, IsFlush, WritesInCalls}
 use Rattle.std.specs.Fmt.InlineText.{AppendsIfIntact, IsIntact, inline_text}
 use Rattle.std.specs.List.{FoldsTo, concat, flat_map}
@@ -10,7 +12,8 @@ use Rattle.std.proofs.lemmas.Grind.{flat_map-append}
 use Rattle.std.proofs.lemmas.Bool.Decides.{nat_tests}
 use Rattle.std.proofs.lemmas.List.Elements.{All-head, All-tail}
 use Rattle.hex.specs.Hex.{encode_lower, encode_with, lower_digits}
-use Rattle.ciborium_value.specs.Notation.{IsPlain, comma, one_level_more, escape, escaped, last_break, line_break, needs_escape, notation_on, notations_on, pair_notations_on}
+use Rattle.ciborium_value.specs.Notation.{IsPlain, comma, one_level_more, escape, escaped, last_break, line_break}
+use Rattle.ciborium_value.specs.Notation.{needs_escape, notation_on, notations_on, pair_notations_on}
 use Rattle.ciborium_value.specs.Tree.{Tree, array, map, tag}
 use Rattle.ciborium_value.specs.View.{tree_of, trees_of, tree_pairs_of}
 use Rattle.ciborium_value.specs.declared.tree.Value.{Value}
@@ -21,7 +24,8 @@ use Rattle.ciborium_value.proofs.Trees.Views.{trees_count-trees_of, tree_pairs_c
 
 module _ {W : Type 0} {took : W → List ℕ → W → Type 0} where
   -- the second write starts where the first left the formatter
-  pub then : {f g h : Formatter W} {a b : List ℕ} → HasWrittenStyled took f a g → (IsFlush g → HasWrittenStyled took g b h) → HasWrittenStyled took f (a ++ b) h
+  pub then : {f g h : Formatter W} {a b : List ℕ} → HasWrittenStyled took f a g →
+      (IsFlush g → HasWrittenStyled took g b h) → HasWrittenStyled took f (a ++ b) h
   then p q = has_written_styled_append _ _ _ _ _ _ p (q p.flush)
 
   -- the same bytes in another form
@@ -31,13 +35,16 @@ module _ {W : Type 0} {took : W → List ℕ → W → Type 0} where
 -- ---- numbers
 
 module _ {n : ℕ} where
-  held : (parts : List (List ℕ)) (s t : InlineText n) → FoldsTo AppendsIfIntact s parts t → IsIntact s → inline_text t ≡ inline_text s ++ concat parts
+  held : (parts : List (List ℕ)) (s t : InlineText n) → FoldsTo AppendsIfIntact s parts t → IsIntact s →
+      inline_text t ≡ inline_text s ++ concat parts
   held [] s t e intact = subst (λ u. inline_text u ≡ inline_text s ++ []) e (sym (append-nil (inline_text s)))
   held (x ∷ xs) s t (j, taken, rest) intact =
-      held xs j t rest (taken intact).0 ∙ (ap (λ l. l ++ concat xs) (taken intact).1 ∙ append_assoc (inline_text s) x (concat xs))
+      held xs j t rest (taken intact).0 ∙ (ap (λ l. l ++ concat xs) (taken intact).1 ∙
+      append_assoc (inline_text s) x (concat xs))
 
   -- a text that began empty holds what was written to it
-  pub digits_held : (s t : InlineText n) (bs : List ℕ) → WritesInCalls AppendsIfIntact s bs t → IsIntact s → inline_text s ≡ [] → inline_text t ≡ bs
+  pub digits_held : (s t : InlineText n) (bs : List ℕ) → WritesInCalls AppendsIfIntact s bs t → IsIntact s →
+      inline_text s ≡ [] → inline_text t ≡ bs
   digits_held s t bs w intact empty = held w.parts s t w.calls intact ∙ (ap (λ l. l ++ concat w.parts) empty ∙ w.whole)
 
 -- ---- byte strings
@@ -45,7 +52,8 @@ module _ {n : ℕ} where
 encode_with-append : (t xs ys : List ℕ) → encode_with t (xs ++ ys) ≡ encode_with t xs ++ encode_with t ys
 unfolding encode_with
 encode_with-append t [] ys = refl
-encode_with-append t (x ∷ xs) ys = ap (λ l. slice_index t (x / 16) ∷ slice_index t (x % 16) ∷ l) (encode_with-append t xs ys)
+encode_with-append t (x ∷ xs) ys = ap (λ l. slice_index t (x / 16) ∷ slice_index t (x % 16) ∷ l)
+    (encode_with-append t xs ys)
 
 pub encode_lower-append : (xs ys : List ℕ) → encode_lower (xs ++ ys) ≡ encode_lower xs ++ encode_lower ys
 encode_lower-append = encode_with-append lower_digits
@@ -67,7 +75,8 @@ escaped-append = flat_map-append escaped
 -- bytes that need no escape stand as they are
 pub escaped-plain : (xs : List ℕ) → IsPlain xs → flat_map escaped xs ≡ xs
 escaped-plain [] h = refl
-escaped-plain (x ∷ xs) h = rw (All-head (λ b. needs_escape b ≡ false) x xs h) (ap (λ l. x ∷ l) (escaped-plain xs (All-tail (λ b. needs_escape b ≡ false) x xs h)))
+escaped-plain (x ∷ xs) h = rw (All-head (λ b. needs_escape b ≡ false) x xs h)
+    (ap (λ l. x ∷ l) (escaped-plain xs (All-tail (λ b. needs_escape b ≡ false) x xs h)))
 
 -- a byte that is escaped is ASCII
 pub escaped_is_ascii : (b : ℕ) → needs_escape b ≡ true → b < 128
@@ -75,18 +84,25 @@ escaped_is_ascii b h = grind (arith, nat_tests, h)
 
 -- a text round a byte
 pub around_byte : (i : ℕ) (t : List ℕ) → i < length t → t ≡ (take i t ++ (get_or t i 0 ∷ [])) ++ drop (i + 1) t
-around_byte i t h = sym (take-append-drop i t) ∙ ap (λ l. take i t ++ l) (drop-cons t i 0 h) ∙ sym (append_assoc (take i t) (get_or t i 0 ∷ []) (drop (suc i) t)) ∙ ap (λ n. (take i t ++ (get_or t i 0 ∷ [])) ++ drop n t) (sym (add-one i))
+around_byte i t h = sym (take-append-drop i t) ∙ ap (λ l. take i t ++ l) (drop-cons t i 0 h) ∙
+    sym (append_assoc (take i t) (get_or t i 0 ∷ []) (drop (suc i) t)) ∙
+    ap (λ n. (take i t ++ (get_or t i 0 ∷ [])) ++ drop n t) (sym (add-one i))
 
 -- a run that stands as it is, and the escape behind it
-pub escaped-more : (shown run : List ℕ) (b : ℕ) → IsPlain run → needs_escape b ≡ true → (flat_map escaped shown ++ run) ++ escape b ≡ flat_map escaped (shown ++ (run ++ (b ∷ [])))
+pub escaped-more : (shown run : List ℕ) (b : ℕ) → IsPlain run → needs_escape b ≡ true →
+    (flat_map escaped shown ++ run) ++ escape b ≡ flat_map escaped (shown ++ (run ++ (b ∷ [])))
 escaped-more shown run b plain found =
     let one : flat_map escaped (b ∷ []) ≡ escape b = append-nil (escaped b) ∙ rw found refl in
-    let behind : flat_map escaped (run ++ (b ∷ [])) ≡ run ++ escape b = escaped-append run (b ∷ []) ∙ ap (λ l. l ++ flat_map escaped (b ∷ [])) (escaped-plain run plain) ∙ ap (λ l. run ++ l) one in
-    append_assoc (flat_map escaped shown) run (escape b) ∙ sym (escaped-append shown (run ++ (b ∷ [])) ∙ ap (λ l. flat_map escaped shown ++ l) behind)
+    let behind : flat_map escaped (run ++ (b ∷ [])) ≡ run ++ escape b = escaped-append run (b ∷ []) ∙
+    ap (λ l. l ++ flat_map escaped (b ∷ [])) (escaped-plain run plain) ∙ ap (λ l. run ++ l) one in
+    append_assoc (flat_map escaped shown) run (escape b) ∙
+    sym (escaped-append shown (run ++ (b ∷ [])) ∙ ap (λ l. flat_map escaped shown ++ l) behind)
 
 -- the last run
-pub escaped-last : (all shown rest : List ℕ) → all ≡ shown ++ rest → IsPlain rest → flat_map escaped shown ++ rest ≡ flat_map escaped all
-escaped-last all shown rest e plain = sym (ap (flat_map escaped) e ∙ escaped-append shown rest ∙ ap (λ l. flat_map escaped shown ++ l) (escaped-plain rest plain))
+pub escaped-last : (all shown rest : List ℕ) → all ≡ shown ++ rest → IsPlain rest →
+    flat_map escaped shown ++ rest ≡ flat_map escaped all
+escaped-last all shown rest e plain = sym (ap (flat_map escaped) e ∙ escaped-append shown rest ∙
+    ap (λ l. flat_map escaped shown ++ l) (escaped-plain rest plain))
 
 -- ---- lists of values
 
@@ -99,7 +115,8 @@ lead_behind-comma : {A : Type 0} (lines : Option ℕ) (xs : List A) → lead_beh
 lead_behind-comma lines [] = refl
 lead_behind-comma lines (x ∷ xs) = refl
 
-pub lead_behind-more : {A : Type 0} (lines : Option ℕ) (lead : List ℕ) (i : ℕ) (xs : List A) (x : A) → i < length xs → x ≡ get_or xs i x
+pub lead_behind-more : {A : Type 0} (lines : Option ℕ) (lead : List ℕ) (i : ℕ) (xs : List A) (x : A) → i < length xs →
+    x ≡ get_or xs i x
     → lead_behind lines lead (take (i + 1) xs) ≡ comma lines
 lead_behind-more {A = A} lines lead i xs x h e = rw (one_more i xs x h e) (last (take i xs))
   where
@@ -110,13 +127,16 @@ lead_behind-more {A = A} lines lead i xs x h e = rw (one_more i xs x h e) (last 
 apart : (a b c : List ℕ) → a ++ (b ++ c) ≡ (a ++ b) ++ c
 apart a b c = sym (append_assoc a b c)
 
-notations_on-append : (lines : Option ℕ) (lead : List ℕ) (vs : List Value) (v : Value) → notations_on lines lead (trees_of (vs ++ (v ∷ [])))
-    ≡ notations_on lines lead (trees_of vs) ++ (lead_behind lines lead vs ++ (line_break lines ++ notation_on lines (tree_of v)))
+notations_on-append : (lines : Option ℕ) (lead : List ℕ) (vs : List Value) (v : Value) →
+    notations_on lines lead (trees_of (vs ++ (v ∷ [])))
+    ≡ notations_on lines lead (trees_of vs) ++ (lead_behind lines lead vs ++
+    (line_break lines ++ notation_on lines (tree_of v)))
 notations_on-append lines lead [] v = ap (λ l. lead ++ (line_break lines ++ l)) (append-nil _)
 notations_on-append lines lead (x ∷ xs) v =
     let rest = notations_on lines (comma lines) (trees_of xs) in
     let one = line_break lines ++ notation_on lines (tree_of v) in
-    let there = notations_on-append lines (comma lines) xs v ∙ ap (λ l. rest ++ (l ++ one)) (lead_behind-comma lines xs) in
+    let there = notations_on-append lines (comma lines) xs v ∙
+    ap (λ l. rest ++ (l ++ one)) (lead_behind-comma lines xs) in
     ap (λ l. lead ++ (line_break lines ++ (notation_on lines (tree_of x) ++ l))) there
     ∙ ap (λ l. lead ++ (line_break lines ++ l)) (apart (notation_on lines (tree_of x)) rest _)
     ∙ ap (λ l. lead ++ l) (apart (line_break lines) _ _)
@@ -124,44 +144,67 @@ notations_on-append lines lead (x ∷ xs) v =
 
 -- one more item
 pub notations_on-more : (lines : Option ℕ) (i : ℕ) (vs : List Value) (v : Value) → i < length vs → v ≡ get_or vs i v
-    → notations_on lines [] (trees_of (take i vs)) ++ (lead_behind lines [] (take i vs) ++ (line_break lines ++ notation_on lines (tree_of v)))
+    → notations_on lines [] (trees_of (take i vs)) ++ (lead_behind lines [] (take i vs) ++
+    (line_break lines ++ notation_on lines (tree_of v)))
     ≡ notations_on lines [] (trees_of (take (i + 1) vs))
 notations_on-more lines i vs v h e = rw (one_more i vs v h e) (sym (notations_on-append lines [] (take i vs) v))
 
-pair_notations_on-append : (lines : Option ℕ) (lead : List ℕ) (ps : List (Value × Value)) (p : Value × Value) → pair_notations_on lines lead (tree_pairs_of (ps ++ (p ∷ [])))
-    ≡ pair_notations_on lines lead (tree_pairs_of ps) ++ (lead_behind lines lead ps ++ (line_break lines ++ (notation_on lines (tree_of p.0) ++ (codes ": " ++ notation_on lines (tree_of p.1)))))
-pair_notations_on-append lines lead [] p = ap (λ l. lead ++ (line_break lines ++ (notation_on lines (tree_of p.0) ++ (codes ": " ++ l)))) (append-nil _)
+pair_notations_on-append : (lines : Option ℕ) (lead : List ℕ) (ps : List (Value × Value)) (p : Value × Value) →
+    pair_notations_on lines lead (tree_pairs_of (ps ++ (p ∷ [])))
+    ≡ pair_notations_on lines lead (tree_pairs_of ps) ++
+    (lead_behind lines lead ps ++ (line_break lines ++
+    (notation_on lines (tree_of p.0) ++ (codes ": " ++ notation_on lines (tree_of p.1)))))
+pair_notations_on-append lines lead [] p = ap (λ l. lead ++
+    (line_break lines ++ (notation_on lines (tree_of p.0) ++ (codes ": " ++ l)))) (append-nil _)
 pair_notations_on-append lines lead (x ∷ xs) p =
     let rest = pair_notations_on lines (comma lines) (tree_pairs_of xs) in
-    let one = line_break lines ++ (notation_on lines (tree_of p.0) ++ (codes ": " ++ notation_on lines (tree_of p.1))) in
-    let there = pair_notations_on-append lines (comma lines) xs p ∙ ap (λ l. rest ++ (l ++ one)) (lead_behind-comma lines xs) in
-    ap (λ l. lead ++ (line_break lines ++ (notation_on lines (tree_of x.0) ++ (codes ": " ++ (notation_on lines (tree_of x.1) ++ l))))) there
-    ∙ ap (λ l. lead ++ (line_break lines ++ (notation_on lines (tree_of x.0) ++ (codes ": " ++ l)))) (apart (notation_on lines (tree_of x.1)) rest _)
+    let one = line_break lines ++ (notation_on lines (tree_of p.0) ++ (codes ": " ++ notation_on lines (tree_of p.1)))
+    in
+    let there = pair_notations_on-append lines (comma lines) xs p ∙
+    ap (λ l. rest ++ (l ++ one)) (lead_behind-comma lines xs) in
+    ap (λ l. lead ++ (line_break lines ++ (notation_on lines (tree_of x.0) ++
+    (codes ": " ++ (notation_on lines (tree_of x.1) ++ l))))) there
+    ∙ ap (λ l. lead ++ (line_break lines ++ (notation_on lines (tree_of x.0) ++ (codes ": " ++ l))))
+    (apart (notation_on lines (tree_of x.1)) rest _)
     ∙ ap (λ l. lead ++ (line_break lines ++ l)) (apart (notation_on lines (tree_of x.0)) _ _)
     ∙ ap (λ l. lead ++ l) (apart (line_break lines) _ _)
     ∙ apart lead _ _
 
 -- one more pair
-pub pair_notations_on-more : (lines : Option ℕ) (i : ℕ) (ps : List (Value × Value)) (p : Value × Value) → i < length ps → p ≡ get_or ps i p
-    → pair_notations_on lines [] (tree_pairs_of (take i ps)) ++ (lead_behind lines [] (take i ps) ++ (line_break lines ++ (notation_on lines (tree_of p.0) ++ (codes ": " ++ notation_on lines (tree_of p.1)))))
+pub pair_notations_on-more : (lines : Option ℕ) (i : ℕ) (ps : List (Value × Value)) (p : Value × Value) →
+    i < length ps → p ≡ get_or ps i p
+    → pair_notations_on lines [] (tree_pairs_of (take i ps)) ++
+    (lead_behind lines [] (take i ps) ++ (line_break lines ++
+    (notation_on lines (tree_of p.0) ++ (codes ": " ++ notation_on lines (tree_of p.1)))))
     ≡ pair_notations_on lines [] (tree_pairs_of (take (i + 1) ps))
-pair_notations_on-more lines i ps p h e = rw (one_more i ps p h e) (sym (pair_notations_on-append lines [] (take i ps) p))
+pair_notations_on-more lines i ps p h e = rw (one_more i ps p h e)
+    (sym (pair_notations_on-append lines [] (take i ps) p))
 
 -- ---- trees
 
-pub notation_on-tag : (lines : Option ℕ) (n : ℕ) (v : Tree) → ((decimal n ++ codes "(") ++ notation_on lines v) ++ codes ")" ≡ notation_on lines (tag n v)
-notation_on-tag lines n v = append_assoc (decimal n ++ codes "(") (notation_on lines v) (codes ")") ∙ append_assoc (decimal n) (codes "(") (notation_on lines v ++ codes ")")
+pub notation_on-tag : (lines : Option ℕ) (n : ℕ) (v : Tree) →
+    ((decimal n ++ codes "(") ++ notation_on lines v) ++ codes ")" ≡ notation_on lines (tag n v)
+notation_on-tag lines n v = append_assoc (decimal n ++ codes "(") (notation_on lines v) (codes ")") ∙
+    append_assoc (decimal n) (codes "(") (notation_on lines v ++ codes ")")
 
-pub notation_on-array : (lines inner : Option ℕ) (vs : List Value) (count : ℕ) → inner ≡ one_level_more lines → count ≡ length vs
-    → ((codes "[" ++ notations_on inner [] (trees_of vs)) ++ last_break lines count) ++ codes "]" ≡ notation_on lines (array (trees_of vs))
+pub notation_on-array : (lines inner : Option ℕ) (vs : List Value) (count : ℕ) → inner ≡ one_level_more lines →
+    count ≡ length vs
+    → ((codes "[" ++ notations_on inner [] (trees_of vs)) ++ last_break lines count) ++ codes "]" ≡ notation_on lines
+    (array (trees_of vs))
 notation_on-array lines inner vs count e long =
     ap (λ l. ((codes "[" ++ notations_on l [] (trees_of vs)) ++ last_break lines count) ++ codes "]") e
-    ∙ append_assoc (codes "[" ++ notations_on (one_level_more lines) [] (trees_of vs)) (last_break lines count) (codes "]")
-    ∙ ap (λ n. codes "[" ++ (notations_on (one_level_more lines) [] (trees_of vs) ++ (last_break lines n ++ codes "]"))) (long ∙ sym (trees_count-trees_of vs))
+    ∙ append_assoc (codes "[" ++ notations_on (one_level_more lines) [] (trees_of vs)) (last_break lines count)
+    (codes "]")
+    ∙ ap (λ n. codes "[" ++ (notations_on (one_level_more lines) [] (trees_of vs) ++ (last_break lines n ++ codes "]")))
+    (long ∙ sym (trees_count-trees_of vs))
 
-pub notation_on-map : (lines inner : Option ℕ) (ps : List (Value × Value)) (count : ℕ) → inner ≡ one_level_more lines → count ≡ length ps
-    → ((codes "{" ++ pair_notations_on inner [] (tree_pairs_of ps)) ++ last_break lines count) ++ codes "}" ≡ notation_on lines (map (tree_pairs_of ps))
+pub notation_on-map : (lines inner : Option ℕ) (ps : List (Value × Value)) (count : ℕ) → inner ≡ one_level_more lines →
+    count ≡ length ps
+    → ((codes "{" ++ pair_notations_on inner [] (tree_pairs_of ps)) ++ last_break lines count) ++ codes "}" ≡
+    notation_on lines (map (tree_pairs_of ps))
 notation_on-map lines inner ps count e long =
     ap (λ l. ((codes "{" ++ pair_notations_on l [] (tree_pairs_of ps)) ++ last_break lines count) ++ codes "}") e
-    ∙ append_assoc (codes "{" ++ pair_notations_on (one_level_more lines) [] (tree_pairs_of ps)) (last_break lines count) (codes "}")
-    ∙ ap (λ n. codes "{" ++ (pair_notations_on (one_level_more lines) [] (tree_pairs_of ps) ++ (last_break lines n ++ codes "}"))) (long ∙ sym (tree_pairs_count-tree_pairs_of ps))
+    ∙ append_assoc (codes "{" ++ pair_notations_on (one_level_more lines) [] (tree_pairs_of ps))
+    (last_break lines count) (codes "}")
+    ∙ ap (λ n. codes "{" ++ (pair_notations_on (one_level_more lines) [] (tree_pairs_of ps) ++
+    (last_break lines n ++ codes "}"))) (long ∙ sym (tree_pairs_count-tree_pairs_of ps))

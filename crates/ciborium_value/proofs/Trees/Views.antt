@@ -1,5 +1,6 @@
 -- The tree of a value, variant by variant and along its lists.
-use Rattle.std.proofs.Common.{◌≡◌, ◌∙◌, ℕ, suc, ◌≤◌, List, [], ◌∷◌, length, map, string_bytes, String, Vec, Box, Global, ℤ, Bool, rules, refl, ap, arith}
+use Rattle.std.proofs.Common.{◌≡◌, ◌∙◌, ℕ, suc, ◌≤◌, List, [], ◌∷◌, length, map, string_bytes, String, Vec, Box, Global}
+use Rattle.std.proofs.Common.{ℤ, Bool, rules, refl, ap, arith}
 use Rattle.ciborium_value.specs.Tree as trees
 use Rattle.ciborium_value.specs.Tree.{Tree, TreePairs, Trees, trees_count, tree_pairs_count}
 use Rattle.ciborium_value.specs.ProperTrees.{IsProperTree, AreProperTrees, AreProperTreePairs}
@@ -44,7 +45,8 @@ pub tree_pairs_count-tree_pairs_of : (ps : List (Value × Value)) → tree_pairs
 tree_pairs_count-tree_pairs_of [] = refl
 tree_pairs_count-tree_pairs_of (p ∷ ps) = ap suc (tree_pairs_count-tree_pairs_of ps)
 
--- ---- proper trees: a walk over a value has this much to show at a list, since no `Vec` is longer than the greatest offset
+-- ---- proper trees: a walk over a value has this much to show at a list, since no `Vec` is longer than the greatest
+-- offset
 
 fits : {A : Type 0} (v : Vec A Global) → length v.items ≤ greatest_offset
 fits v = let ok = v.ok in let small = v.small in omega arith
@@ -54,7 +56,8 @@ fits v = let ok = v.ok in let small = v.small in omega arith
 same-item : (v w : Tree) (vs ws : Trees) → trees.tree v vs ≡ trees.tree w ws → (v ≡ w) × (vs ≡ ws)
 same-item v w vs ws e = (cc, cc)
 
-same-pair : (k v l w : Tree) (ps qs : TreePairs) → trees.tree_pair k v ps ≡ trees.tree_pair l w qs → (k ≡ l) × (v ≡ w) × (ps ≡ qs)
+same-pair : (k v l w : Tree) (ps qs : TreePairs) → trees.tree_pair k v ps ≡ trees.tree_pair l w qs → (k ≡ l) × (v ≡ w) ×
+    (ps ≡ qs)
 same-pair k v l w ps qs e = (cc, cc, cc)
 
 -- arrays of equal trees have equal lists of trees
@@ -62,13 +65,16 @@ pub trees_of-equal : (vs ws : List Value) → trees_of vs ≡ trees_of ws → ma
 trees_of-equal [] [] e = refl
 trees_of-equal [] (w ∷ ws) e = absurd cc
 trees_of-equal (v ∷ vs) [] e = absurd cc
-trees_of-equal (v ∷ vs) (w ∷ ws) e = let s = same-item (tree_of v) (tree_of w) (trees_of vs) (trees_of ws) e in ap (λ t. t ∷ map tree_of vs) s.0 ∙ ap (λ ts. tree_of w ∷ ts) (trees_of-equal vs ws s.1)
+trees_of-equal (v ∷ vs) (w ∷ ws) e = let s = same-item (tree_of v) (tree_of w) (trees_of vs) (trees_of ws) e in
+    ap (λ t. t ∷ map tree_of vs) s.0 ∙ ap (λ ts. tree_of w ∷ ts) (trees_of-equal vs ws s.1)
 
 -- maps of equal trees have equal lists of pairs
-pub tree_pairs_of-equal : (ps qs : List (Value × Value)) → tree_pairs_of ps ≡ tree_pairs_of qs → map pair_trees ps ≡ map pair_trees qs
+pub tree_pairs_of-equal : (ps qs : List (Value × Value)) → tree_pairs_of ps ≡ tree_pairs_of qs →
+    map pair_trees ps ≡ map pair_trees qs
 tree_pairs_of-equal [] [] e = refl
 tree_pairs_of-equal [] (q ∷ qs) e = absurd cc
 tree_pairs_of-equal (p ∷ ps) [] e = absurd cc
 tree_pairs_of-equal (p ∷ ps) (q ∷ qs) e =
     let s = same-pair (tree_of p.0) (tree_of p.1) (tree_of q.0) (tree_of q.1) (tree_pairs_of ps) (tree_pairs_of qs) e in
-    ap (λ t. (t, tree_of p.1) ∷ map pair_trees ps) s.0 ∙ ap (λ t. (tree_of q.0, t) ∷ map pair_trees ps) s.1 ∙ ap (λ ts. pair_trees q ∷ ts) (tree_pairs_of-equal ps qs s.2)
+    ap (λ t. (t, tree_of p.1) ∷ map pair_trees ps) s.0 ∙ ap (λ t. (tree_of q.0, t) ∷ map pair_trees ps) s.1 ∙
+    ap (λ ts. pair_trees q ∷ ts) (tree_pairs_of-equal ps qs s.2)

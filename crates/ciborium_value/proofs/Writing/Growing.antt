@@ -1,11 +1,13 @@
 -- What a sink over a tree holds while items are added.
-use Rattle.std.proofs.Common.{◌≡◌, ℕ, zero, suc, ◌+◌, ◌<◌, true, false, List, [], ◌∷◌, ◌++◌, length, map, Option, Some, None, refl, sym, ◌∙◌, ap, subst, append_assoc, append-nil, arith}
+use Rattle.std.proofs.Common.{◌≡◌, ℕ, zero, suc, ◌+◌, ◌<◌, true, false, List, [], ◌∷◌, ◌++◌, length, map, Option, Some}
+use Rattle.std.proofs.Common.{None, refl, sym, ◌∙◌, ap, subst, append_assoc, append-nil, arith}
 use Rattle.ciborium_ll.specs.Item as item
 use Rattle.ciborium_ll.specs.Item.{Item}
 use Rattle.ciborium_value.specs.Encoding.{written_tree, written_trees, written_pairs}
 use Rattle.ciborium_value.specs.inner.Frames as frames
 use Rattle.ciborium_value.specs.inner.Frames.{TreeFrame, Placed, done, more, placed, tree_ended, closed}
-use Rattle.ciborium_value.specs.Places.{Shape, sequence, dictionary, size_of, items_from, pairs_from, container, Place, top, within, tagged, HasRoom, added, IsFull}
+use Rattle.ciborium_value.specs.Places.{Shape, sequence, dictionary, size_of, items_from, pairs_from, container, Place}
+use Rattle.ciborium_value.specs.Places.{top, within, tagged, HasRoom, added, IsFull}
 use Rattle.ciborium_value.specs.Tree as trees
 use Rattle.ciborium_value.specs.Tree.{Tree}
 use Rattle.ciborium_value.specs.inner.TreeSinks.{put_tree, put_items, begun, tagged_by, built, IsSound}
@@ -31,65 +33,79 @@ tree_pairs-from [] = refl
 tree_pairs-from (k ∷ []) = refl
 tree_pairs-from (k ∷ v ∷ is) = ap (trees.tree_pair (written_tree k) (written_tree v)) (tree_pairs-from is)
 
-put_all-snoc : (s : Placed) (is : List Item) (i : Item) → put_items s (is ++ i ∷ []) ≡ put_tree (put_items s is) (written_tree i)
+put_all-snoc : (s : Placed) (is : List Item) (i : Item) →
+    put_items s (is ++ i ∷ []) ≡ put_tree (put_items s is) (written_tree i)
 put_all-snoc s [] i = refl
 put_all-snoc s (j ∷ is) i = put_all-snoc (put_tree s (written_tree j)) is i
 
 -- ---- arrays
 
-array_open : (vs : List Tree) (is : List Item) (os : List TreeFrame) → put_items (more (frames.array vs None ∷ os)) is ≡ more (frames.array (vs ++ tree_list is) None ∷ os)
+array_open : (vs : List Tree) (is : List Item) (os : List TreeFrame) →
+    put_items (more (frames.array vs None ∷ os)) is ≡ more (frames.array (vs ++ tree_list is) None ∷ os)
 array_open vs [] os = ap (λ l. more (frames.array l None ∷ os)) (sym (append-nil vs))
-array_open vs (i ∷ is) os = array_open (vs ++ written_tree i ∷ []) is os ∙ ap (λ l. more (frames.array l None ∷ os)) (append_assoc vs (written_tree i ∷ []) (tree_list is))
+array_open vs (i ∷ is) os = array_open (vs ++ written_tree i ∷ []) is os ∙
+    ap (λ l. more (frames.array l None ∷ os)) (append_assoc vs (written_tree i ∷ []) (tree_list is))
 
 abbrev pub IsStill : Placed → Type 0
 IsStill s = (os : List TreeFrame) × (s ≡ more os)
 
-array_still : (m : ℕ) (vs : List Tree) (is : List Item) (os : List TreeFrame) → length is < suc m → IsStill (put_items (more (frames.array vs (Some m) ∷ os)) is)
+array_still : (m : ℕ) (vs : List Tree) (is : List Item) (os : List TreeFrame) → length is < suc m →
+    IsStill (put_items (more (frames.array vs (Some m) ∷ os)) is)
 array_still m vs [] os h = (_, refl)
 array_still zero vs (i ∷ is) os h = absurd (omega (arith, h))
 array_still (suc m) vs (i ∷ is) os h = array_still m (vs ++ written_tree i ∷ []) is os (omega (arith, h))
 
-array_whole : (m : ℕ) (vs : List Tree) (is : List Item) (os : List TreeFrame) → length is ≡ suc m → put_items (more (frames.array vs (Some m) ∷ os)) is ≡ placed os (trees.array (trees_from (vs ++ tree_list is)))
+array_whole : (m : ℕ) (vs : List Tree) (is : List Item) (os : List TreeFrame) → length is ≡ suc m →
+    put_items (more (frames.array vs (Some m) ∷ os)) is ≡ placed os (trees.array (trees_from (vs ++ tree_list is)))
 array_whole m vs [] os h = absurd (omega (arith, h))
 array_whole zero vs (i ∷ []) os h = refl
 array_whole zero vs (i ∷ j ∷ is) os h = absurd (omega (arith, h))
 array_whole (suc m) vs (i ∷ is) os h =
-    array_whole m (vs ++ written_tree i ∷ []) is os (omega (arith, h)) ∙ ap (λ l. placed os (trees.array (trees_from l))) (append_assoc vs (written_tree i ∷ []) (tree_list is))
+    array_whole m (vs ++ written_tree i ∷ []) is os (omega (arith, h)) ∙
+    ap (λ l. placed os (trees.array (trees_from l))) (append_assoc vs (written_tree i ∷ []) (tree_list is))
 
 -- ---- maps
 
-map_open : (n : ℕ) (ps : List (Tree × Tree)) (is : List Item) (os : List TreeFrame) → length is ≡ n + n → put_items (more (frames.map ps None None ∷ os)) is ≡ more (frames.map (ps ++ tree_pair_list is) None None ∷ os)
+map_open : (n : ℕ) (ps : List (Tree × Tree)) (is : List Item) (os : List TreeFrame) → length is ≡ n + n →
+    put_items (more (frames.map ps None None ∷ os)) is ≡ more (frames.map (ps ++ tree_pair_list is) None None ∷ os)
 map_open n ps [] os h = ap (λ l. more (frames.map l None None ∷ os)) (sym (append-nil ps))
 map_open n ps (k ∷ []) os h = absurd (omega (arith, h))
 map_open zero ps (k ∷ v ∷ is) os h = absurd (omega (arith, h))
 map_open (suc n) ps (k ∷ v ∷ is) os h =
     map_open n (ps ++ (written_tree k, written_tree v) ∷ []) is os (omega (arith, h)) ∙
-    ap (λ l. more (frames.map l None None ∷ os)) (append_assoc ps ((written_tree k, written_tree v) ∷ []) (tree_pair_list is))
+    ap (λ l. more (frames.map l None None ∷ os)) (append_assoc ps ((written_tree k, written_tree v) ∷ [])
+    (tree_pair_list is))
 
-map_open_still : (ps : List (Tree × Tree)) (is : List Item) (os : List TreeFrame) → IsStill (put_items (more (frames.map ps None None ∷ os)) is)
+map_open_still : (ps : List (Tree × Tree)) (is : List Item) (os : List TreeFrame) →
+    IsStill (put_items (more (frames.map ps None None ∷ os)) is)
 map_open_still ps [] os = (_, refl)
 map_open_still ps (k ∷ []) os = (_, refl)
 map_open_still ps (k ∷ v ∷ is) os = map_open_still (ps ++ (written_tree k, written_tree v) ∷ []) is os
 
-map_still : (m : ℕ) (ps : List (Tree × Tree)) (is : List Item) (os : List TreeFrame) → length is < suc m + suc m → IsStill (put_items (more (frames.map ps (Some m) None ∷ os)) is)
+map_still : (m : ℕ) (ps : List (Tree × Tree)) (is : List Item) (os : List TreeFrame) → length is < suc m + suc m →
+    IsStill (put_items (more (frames.map ps (Some m) None ∷ os)) is)
 map_still m ps [] os h = (_, refl)
 map_still m ps (k ∷ []) os h = (_, refl)
 map_still zero ps (k ∷ v ∷ is) os h = absurd (omega (arith, h))
-map_still (suc m) ps (k ∷ v ∷ is) os h = map_still m (ps ++ (written_tree k, written_tree v) ∷ []) is os (omega (arith, h))
+map_still (suc m) ps (k ∷ v ∷ is) os h = map_still m (ps ++ (written_tree k, written_tree v) ∷ []) is os
+    (omega (arith, h))
 
 map_whole : (m : ℕ) (ps : List (Tree × Tree)) (is : List Item) (os : List TreeFrame) → length is ≡ suc m + suc m →
-    put_items (more (frames.map ps (Some m) None ∷ os)) is ≡ placed os (trees.map (tree_pairs_from (ps ++ tree_pair_list is)))
+    put_items (more (frames.map ps (Some m) None ∷ os)) is ≡ placed os
+    (trees.map (tree_pairs_from (ps ++ tree_pair_list is)))
 map_whole m ps [] os h = absurd (omega (arith, h))
 map_whole m ps (k ∷ []) os h = absurd (omega (arith, h))
 map_whole zero ps (k ∷ v ∷ []) os h = refl
 map_whole zero ps (k ∷ v ∷ i ∷ is) os h = absurd (omega (arith, h))
 map_whole (suc m) ps (k ∷ v ∷ is) os h =
     map_whole m (ps ++ (written_tree k, written_tree v) ∷ []) is os (omega (arith, h)) ∙
-    ap (λ l. placed os (trees.map (tree_pairs_from l))) (append_assoc ps ((written_tree k, written_tree v) ∷ []) (tree_pair_list is))
+    ap (λ l. placed os (trees.map (tree_pairs_from l)))
+    (append_assoc ps ((written_tree k, written_tree v) ∷ []) (tree_pair_list is))
 
 -- ---- where an item may come, something is still open
 
-begun_still : (s : Shape) (n : Option ℕ) (is : List Item) (os : List TreeFrame) (around : Place) → HasRoom (within s n is around) → IsStill (put_items (begun s n (more os)) is)
+begun_still : (s : Shape) (n : Option ℕ) (is : List Item) (os : List TreeFrame) (around : Place) →
+    HasRoom (within s n is around) → IsStill (put_items (begun s n (more os)) is)
 begun_still sequence None is os around h = (_, array_open [] is os)
 begun_still dictionary None is os around h = map_open_still [] is os
 begun_still sequence (Some zero) is os around h = absurd (omega (arith, h))
@@ -106,12 +122,14 @@ still_open (within s n is around) room sound =
 still_open (tagged t p) room sound = let k = still_open p room sound in (frames.tag t ∷ k.0, ap (tagged_by t) k.1)
 
 -- one more item puts its tree
-pub built-added : (p : Place) (i : Item) → HasRoom p → IsSound p → built (added p i) ≡ put_tree (built p) (written_tree i)
+pub built-added : (p : Place) (i : Item) → HasRoom p → IsSound p →
+    built (added p i) ≡ put_tree (built p) (written_tree i)
 built-added (top name before is) i room sound = put_all-snoc (more []) is i
 built-added (within s n is around) i room sound = put_all-snoc (begun s n (built around)) is i
 built-added (tagged t p) i room sound =
     let k = still_open p room sound in
-    built-added p (item.tag t i) room sound ∙ ap (λ s. put_tree s (trees.tag t (written_tree i))) k.1 ∙ ap (λ s. put_tree (tagged_by t s) (written_tree i)) (sym k.1)
+    built-added p (item.tag t i) room sound ∙ ap (λ s. put_tree s (trees.tag t (written_tree i))) k.1 ∙
+    ap (λ s. put_tree (tagged_by t s) (written_tree i)) (sym k.1)
 
 pub sound-added : (p : Place) (i : Item) → IsSound p → IsSound (added p i)
 sound-added (top name before is) i sound = tt
@@ -121,7 +139,8 @@ sound-added (tagged t p) i sound = sound-added p (item.tag t i) sound
 -- ---- the end of a container
 
 -- one that announced its count is whole with its last item
-full_whole : (s : Shape) (n : ℕ) (is : List Item) (os : List TreeFrame) → length is ≡ size_of s n → put_items (begun s (Some n) (more os)) is ≡ placed os (written_tree (container s false is))
+full_whole : (s : Shape) (n : ℕ) (is : List Item) (os : List TreeFrame) → length is ≡ size_of s n →
+    put_items (begun s (Some n) (more os)) is ≡ placed os (written_tree (container s false is))
 full_whole sequence zero [] os h = refl
 full_whole sequence zero (i ∷ is) os h = absurd (omega (arith, h))
 full_whole dictionary zero [] os h = refl
@@ -129,12 +148,14 @@ full_whole dictionary zero (i ∷ is) os h = absurd (omega (arith, h))
 full_whole sequence (suc m) is os h = array_whole m [] is os h ∙ ap (λ l. placed os (trees.array l)) (trees-from is)
 full_whole dictionary (suc m) is os h = map_whole m [] is os h ∙ ap (λ l. placed os (trees.map l)) (tree_pairs-from is)
 
-pub built-ended : (s : Shape) (n : ℕ) (is : List Item) (around : Place) → IsSound (within s (Some n) is around) → length is ≡ size_of s n →
+pub built-ended : (s : Shape) (n : ℕ) (is : List Item) (around : Place) → IsSound (within s (Some n) is around) →
+    length is ≡ size_of s n →
     built (within s (Some n) is around) ≡ built (added around (container s false is))
 built-ended s n is around sound h =
     let k = still_open around sound.0 sound.1 in
     ap (λ t. put_items (begun s (Some n) t) is) k.1 ∙ full_whole s n is k.0 h ∙
-    sym (built-added around (container s false is) sound.0 sound.1 ∙ ap (λ t. put_tree t (written_tree (container s false is))) k.1)
+    sym (built-added around (container s false is) sound.0 sound.1 ∙
+    ap (λ t. put_tree t (written_tree (container s false is))) k.1)
 
 -- a break ends an open one
 pub record Breaks (s : Shape) (is : List Item) (around : Place) : Type 0 where
@@ -144,7 +165,8 @@ pub record Breaks (s : Shape) (is : List Item) (around : Place) : Type 0 where
   pub here : built (within s None is around) ≡ more (inner ∷ outer)
   pub tree : tree_ended inner ≡ Some (written_tree (container s true is))
 
-pub built-broken : (s : Shape) (is : List Item) (around : Place) → IsSound (within s None is around) → IsFull s None is → Breaks s is around
+pub built-broken : (s : Shape) (is : List Item) (around : Place) → IsSound (within s None is around) →
+    IsFull s None is → Breaks s is around
 built-broken sequence is around sound h =
     let k = still_open around sound.0 sound.1 in
     record {

@@ -1,15 +1,21 @@
 -- A definite container that is written part by part, whatever the sink.
-use Rattle.std.proofs.Common.{Bool, true, cond, nat_le, ◌≡◌, ℕ, ◌+◌, suc, map, ◌<◌, ◌≤◌, false, List, [], ◌∷◌, ◌++◌, length, Option, Some, None, Result, Ok, Err, OnErr, IfErr, IsErrAnd, refl, sym, ◌∙◌, ap, subst, append_assoc, append-nil, arith, length-append, drop, drop-cons, get_or}
+use Rattle.std.proofs.Common.{Bool, true, cond, nat_le, ◌≡◌, ℕ, ◌+◌, suc, map, ◌<◌, ◌≤◌, false, List, [], ◌∷◌, ◌++◌}
+use Rattle.std.proofs.Common.{length, Option, Some, None, Result, Ok, Err, OnErr, IfErr, IsErrAnd, refl, sym, ◌∙◌, ap}
+use Rattle.std.proofs.Common.{subst, append_assoc, append-nil, arith, length-append, drop, drop-cons, get_or}
 use Rattle.std.proofs.lemmas.List.{drop_all}
 use Rattle.ciborium_ll.specs.Item as item
 use Rattle.ciborium_ll.specs.Item.{Item}
-use Rattle.ciborium_value.specs.Places.{Shape, sequence, dictionary, size_of, container, Place, within, tagged, HasRoom, added, is_open, IsFull, IsOutAt, Out}
+use Rattle.ciborium_value.specs.Places.{Shape, sequence, dictionary, size_of, container, Place, within, tagged, HasRoom}
+use Rattle.ciborium_value.specs.Places.{added, is_open, IsFull, IsOutAt, Out}
 use Rattle.ciborium_value.specs.Progress.{oks, IsSized, Owes, counted, counted_of}
-use Rattle.ciborium_value.specs.Sinks.{Named, and_then, all_named, contained, container_of, in_turn, tag_of, Cause, value, memory, device, IsOwed, IsReady, Begins, Tags, CanEnd, Ends, Breaks, BreaksBegin, BreaksTag, BreaksEnd, AddsNamed, BreaksNamed}
+use Rattle.ciborium_value.specs.Sinks.{Named, and_then, all_named, contained, container_of, in_turn, tag_of, Cause}
+use Rattle.ciborium_value.specs.Sinks.{value, memory, device, IsOwed, IsReady, Begins, Tags, CanEnd, Ends, Breaks}
+use Rattle.ciborium_value.specs.Sinks.{BreaksBegin, BreaksTag, BreaksEnd, AddsNamed, BreaksNamed}
 use Rattle.ciborium_value.specs.declared.kind.Kind.{Kind}
 use Rattle.ciborium_value.specs.declared.kind.Kind.TheVariants.{Other}
 use Rattle.ciborium_ll.specs.Bytes.{greatest_offset}
-use Rattle.ciborium_value.proofs.Writing.Standing.{IsBefore, before_itself, before_within, before_full, before_tagged, tagged_before, cut_nothing, cut_wider}
+use Rattle.ciborium_value.proofs.Writing.Standing.{IsBefore, before_itself, before_within, before_full, before_tagged}
+use Rattle.ciborium_value.proofs.Writing.Standing.{tagged_before, cut_nothing, cut_wider}
 
 -- ---- results
 
@@ -29,13 +35,15 @@ oks-snoc [] i rest = refl
 oks-snoc (d ∷ done) i rest = ap (λ l. Ok d ∷ l) (oks-snoc done i rest)
 
 -- what it takes that all are named
-pub and_then_is : (x : Named) (r : Result (List Item) Kind) (is : List Item) → and_then x r ≡ Ok is → (i : Item) × (js : List Item) × (x ≡ Ok i) × (r ≡ Ok js) × (is ≡ i ∷ js)
+pub and_then_is : (x : Named) (r : Result (List Item) Kind) (is : List Item) → and_then x r ≡ Ok is → (i : Item) ×
+    (js : List Item) × (x ≡ Ok i) × (r ≡ Ok js) × (is ≡ i ∷ js)
 and_then_is (Err k) r is h = cc
 and_then_is (Ok i) (Err k) is h = cc
 and_then_is (Ok i) (Ok js) is h = (i, js, refl, refl, cc)
 
 -- where all are named, the first are those that are done
-named_after : (done : List Item) (rest : List Named) (is : List Item) → all_named (oks done ++ rest) ≡ Ok is → (js : List Item) × (all_named rest ≡ Ok js) × (is ≡ done ++ js)
+named_after : (done : List Item) (rest : List Named) (is : List Item) → all_named (oks done ++ rest) ≡ Ok is →
+    (js : List Item) × (all_named rest ≡ Ok js) × (is ≡ done ++ js)
 named_after [] rest is h = (is, h, refl)
 named_after (d ∷ done) rest is h =
     let a = and_then_is (Ok d) (all_named (oks done ++ rest)) is h in
@@ -60,7 +68,8 @@ length-named (x ∷ parts) is h =
 -- ---- a container that was begun
 
 -- where parts are left there is room
-room_for : (s : Shape) (n : Option ℕ) (parts : List Named) (done : List Item) (x : Named) (rest : List Named) (p : Place) → IsSized s n parts → parts ≡ oks done ++ x ∷ rest → HasRoom (within s n done p)
+room_for : (s : Shape) (n : Option ℕ) (parts : List Named) (done : List Item) (x : Named) (rest : List Named)
+    (p : Place) → IsSized s n parts → parts ≡ oks done ++ x ∷ rest → HasRoom (within s n done p)
 room_for s None parts done x rest p size split = tt
 room_for s (Some n) parts done x rest p size split =
     let l : length (oks done ++ x ∷ rest) ≡ size_of s n = ap length (sym split) ∙ size in
@@ -68,53 +77,83 @@ room_for s (Some n) parts done x rest p size split =
     omega (arith, k, simp length-append at l)
 
 -- all parts make it full
-full_of : (s : Shape) (n : Option ℕ) (parts : List Named) (is : List Item) → IsSized s n parts → length is ≡ length parts → IsFull s n is
+full_of : (s : Shape) (n : Option ℕ) (parts : List Named) (is : List Item) → IsSized s n parts →
+    length is ≡ length parts → IsFull s n is
 full_of sequence None parts is size same = tt
 full_of dictionary None parts is size same = (size.0, same ∙ size.1)
 full_of s (Some n) parts is size same = same ∙ size
 
-module _ {S : Type 0} (StandsAt : S → Place → Type 0) (out : S → Out) (s : Shape) (n : Option ℕ) (parts : List Named) (old : S) where
-  named_by : (new : S) → ((is : List Item) → all_named parts ≡ Ok is → Breaks StandsAt out old new (container s (is_open n) is)) → BreaksNamed StandsAt out old new (contained s (is_open n) (all_named parts))
+module _ {S : Type 0} (StandsAt : S → Place → Type 0) (out : S → Out) (s : Shape) (n : Option ℕ) (parts : List Named)
+    (old : S) where
+  named_by : (new : S) → ((is : List Item) → all_named parts ≡ Ok is →
+      Breaks StandsAt out old new (container s (is_open n) is)) →
+      BreaksNamed StandsAt out old new (contained s (is_open n) (all_named parts))
   named_by new h = by (all_named parts) h
     where
-      by : (r : Result (List Item) Kind) → ((is : List Item) → r ≡ Ok is → Breaks StandsAt out old new (container s (is_open n) is)) → BreaksNamed StandsAt out old new (contained s (is_open n) r)
+      by : (r : Result (List Item) Kind) → ((is : List Item) → r ≡ Ok is →
+          Breaks StandsAt out old new (container s (is_open n) is)) →
+          BreaksNamed StandsAt out old new (contained s (is_open n) r)
       by (Ok is) h = h is refl
       by (Err k) h = tt
 
-  pub owes_begin : (new : S) (m : Option ℕ) → m ≡ n → IsSized s n parts → Begins StandsAt s old new m → Owes StandsAt s n parts old new parts
-  owes_begin new m same size h = record { done = []; split = refl; size = size; inside = subst (Begins StandsAt s old new) same h }
+  pub owes_begin : (new : S) (m : Option ℕ) → m ≡ n → IsSized s n parts → Begins StandsAt s old new m →
+      Owes StandsAt s n parts old new parts
+  owes_begin new m same size h = record {
+    done = [];
+    split = refl;
+    size = size;
+    inside =
+        subst (Begins StandsAt s old new) same h;
+  }
 
-  pub owes_broken_begin : (new : S) (m : Option ℕ) → m ≡ n → IsSized s n parts → BreaksBegin StandsAt out s old new m → BreaksNamed StandsAt out old new (contained s (is_open n) (all_named parts))
+  pub owes_broken_begin : (new : S) (m : Option ℕ) → m ≡ n → IsSized s n parts → BreaksBegin StandsAt out s old new m →
+      BreaksNamed StandsAt out old new (contained s (is_open n) (all_named parts))
   owes_broken_begin new m same size h = named_by new (λ is e p st room.
-      cut_wider (out new) p p (within s n [] p) _ (before_itself p) refl (before_full p s n [] is (full_of s n parts is size (length-named parts is e)))
+      cut_wider (out new) p p (within s n [] p) _ (before_itself p) refl
+      (before_full p s n [] is (full_of s n parts is size (length-named parts is e)))
       (subst (BreaksBegin StandsAt out s old new) same h p st room))
 
-  pub owes_ready : (mid : S) (x : Named) (rest : List Named) → IsReady StandsAt old → Owes StandsAt s n parts old mid (x ∷ rest) → IsReady StandsAt mid
-  owes_ready mid x rest h w = (within s n w.done h.0, w.inside h.0 h.1 h.2, room_for s n parts w.done x rest h.0 w.size w.split)
+  pub owes_ready : (mid : S) (x : Named) (rest : List Named) → IsReady StandsAt old →
+      Owes StandsAt s n parts old mid (x ∷ rest) → IsReady StandsAt mid
+  owes_ready mid x rest h w = (
+    within s n w.done h.0,
+    w.inside h.0 h.1 h.2,
+    room_for s n parts w.done x rest h.0 w.size w.split,
+  )
 
-  pub owes_more : (mid new : S) (x : Named) (rest : List Named) → Owes StandsAt s n parts old mid (x ∷ rest) → AddsNamed StandsAt mid new x → Owes StandsAt s n parts old new rest
+  pub owes_more : (mid new : S) (x : Named) (rest : List Named) → Owes StandsAt s n parts old mid (x ∷ rest) →
+      AddsNamed StandsAt mid new x → Owes StandsAt s n parts old new rest
   owes_more mid new (Err k) rest w h = absurd h
   owes_more mid new (Ok i) rest w h = record {
     done = w.done ++ i ∷ [];
     split = w.split ∙ sym (oks-snoc w.done i rest);
     size = w.size;
-    inside = λ p st room. h (within s n w.done p) (w.inside p st room) (room_for s n parts w.done (Ok i) rest p w.size w.split);
+    inside = λ p st room. h (within s n w.done p) (w.inside p st room)
+        (room_for s n parts w.done (Ok i) rest p w.size w.split);
   }
 
-  pub owes_broken : (mid new : S) (x : Named) (rest : List Named) → Owes StandsAt s n parts old mid (x ∷ rest) → BreaksNamed StandsAt out mid new x → BreaksNamed StandsAt out old new (contained s (is_open n) (all_named parts))
+  pub owes_broken : (mid new : S) (x : Named) (rest : List Named) → Owes StandsAt s n parts old mid (x ∷ rest) →
+      BreaksNamed StandsAt out mid new x → BreaksNamed StandsAt out old new (contained s (is_open n) (all_named parts))
   owes_broken mid new x rest w h = named_by new (λ is e p st room.
       let a = named_after w.done (x ∷ rest) is (ap all_named (sym w.split) ∙ e) in
       let b = and_then_is x (all_named rest) a.0 a.1 in
-      let same : is ≡ (w.done ++ b.0 ∷ []) ++ b.1 = a.2 ∙ ap (λ l. w.done ++ l) b.4 ∙ sym (append_assoc w.done (b.0 ∷ []) b.1) in
-      let full : IsFull s n ((w.done ++ b.0 ∷ []) ++ b.1) = full_of s n parts ((w.done ++ b.0 ∷ []) ++ b.1) w.size (ap length (sym same) ∙ length-named parts is e) in
+      let same : is ≡ (w.done ++ b.0 ∷ []) ++ b.1 = a.2 ∙ ap (λ l. w.done ++ l) b.4 ∙
+      sym (append_assoc w.done (b.0 ∷ []) b.1) in
+      let full : IsFull s n ((w.done ++ b.0 ∷ []) ++ b.1) =
+      full_of s n parts ((w.done ++ b.0 ∷ []) ++ b.1) w.size (ap length (sym same) ∙ length-named parts is e) in
       let q : Place = within s n w.done p in
       let broken : Breaks StandsAt out mid new b.0 = subst (BreaksNamed StandsAt out mid new) b.2 h in
       let last : IsBefore (added q b.0) (added p (container s (is_open n) is)) =
-      subst (λ l. IsBefore (added q b.0) (added p (container s (is_open n) l))) (sym same) (before_full p s n (w.done ++ b.0 ∷ []) b.1 full) in
-      cut_wider (out new) p q (added q b.0) _ (before_within p s n w.done) refl last (broken q (w.inside p st room) (room_for s n parts w.done x rest p w.size w.split)))
+      subst (λ l. IsBefore (added q b.0) (added p (container s (is_open n) l))) (sym same)
+      (before_full p s n (w.done ++ b.0 ∷ []) b.1 full) in
+      cut_wider (out new) p q (added q b.0) _ (before_within p s n w.done) refl last
+      (broken q (w.inside p st room) (room_for s n parts w.done x rest p w.size w.split)))
 
-  pub owes_owed : (mid : S) (x : Named) (rest : List Named) (cause : Cause) → Owes StandsAt s n parts old mid (x ∷ rest) → IsOwed cause x → IsOwed cause (contained s (is_open n) (all_named parts))
-  owes_owed mid x rest (value k) w h = ap (contained s (is_open n)) (ap all_named (w.split ∙ ap (λ y. oks w.done ++ y ∷ rest) h) ∙ refused_at w.done rest k)
+  pub owes_owed : (mid : S) (x : Named) (rest : List Named) (cause : Cause) →
+      Owes StandsAt s n parts old mid (x ∷ rest) → IsOwed cause x →
+      IsOwed cause (contained s (is_open n) (all_named parts))
+  owes_owed mid x rest (value k) w h = ap (contained s (is_open n))
+      (ap all_named (w.split ∙ ap (λ y. oks w.done ++ y ∷ rest) h) ∙ refused_at w.done rest k)
   owes_owed mid x rest memory w h = tt
   owes_owed mid x rest device w h = tt
 
@@ -128,15 +167,18 @@ module _ {S : Type 0} (StandsAt : S → Place → Type 0) (out : S → Out) (s :
   full : (mid : S) (w : Owes StandsAt s n parts old mid []) → IsFull s n w.done
   full mid w = full_of s n parts w.done w.size (length-named parts w.done (oks-named mid w))
 
-  pub owes_can_end : (mid : S) (m : Option ℕ) → m ≡ n → IsReady StandsAt old → Owes StandsAt s n parts old mid [] → CanEnd StandsAt mid m
+  pub owes_can_end : (mid : S) (m : Option ℕ) → m ≡ n → IsReady StandsAt old → Owes StandsAt s n parts old mid [] →
+      CanEnd StandsAt mid m
   owes_can_end mid m same h w = (within s n w.done h.0, w.inside h.0 h.1 h.2, (sym same, full mid w))
 
-  pub owes_ends : (mid new : S) (m : Option ℕ) → m ≡ n → Owes StandsAt s n parts old mid [] → Ends StandsAt mid new m → AddsNamed StandsAt old new (contained s (is_open n) (all_named parts))
+  pub owes_ends : (mid new : S) (m : Option ℕ) → m ≡ n → Owes StandsAt s n parts old mid [] → Ends StandsAt mid new m →
+      AddsNamed StandsAt old new (contained s (is_open n) (all_named parts))
   owes_ends mid new m same w h =
       subst (AddsNamed StandsAt old new) (ap (contained s (is_open n)) (sym (oks-named mid w)))
       (λ p st room. h (within s n w.done p) (w.inside p st room) (sym same, full mid w))
 
-  pub owes_broken_end : (mid new : S) (m : Option ℕ) → m ≡ n → Owes StandsAt s n parts old mid [] → BreaksEnd StandsAt out mid new m → BreaksNamed StandsAt out old new (contained s (is_open n) (all_named parts))
+  pub owes_broken_end : (mid new : S) (m : Option ℕ) → m ≡ n → Owes StandsAt s n parts old mid [] →
+      BreaksEnd StandsAt out mid new m → BreaksNamed StandsAt out old new (contained s (is_open n) (all_named parts))
   owes_broken_end mid new m same w h =
       subst (BreaksNamed StandsAt out old new) (ap (contained s (is_open n)) (sym (oks-named mid w)))
       (λ p st room. cut_wider (out new) p (within s n w.done p) _ _ (before_within p s n w.done) refl (before_itself _)
@@ -148,7 +190,8 @@ pub length-map : {A B : Type 0} (f : A → B) (xs : List A) → length (map f xs
 length-map f [] = refl
 length-map f (x ∷ xs) = ap suc (length-map f xs)
 
-pub length-in_turn : {A B : Type 0} (f : A → Named) (g : B → Named) (es : List (A × B)) → length (in_turn f g es) ≡ length es + length es
+pub length-in_turn : {A B : Type 0} (f : A → Named) (g : B → Named) (es : List (A × B)) →
+    length (in_turn f g es) ≡ length es + length es
 length-in_turn f g [] = refl
 length-in_turn f g (e ∷ es) = let h = length-in_turn f g es in omega (arith, h)
 
@@ -156,16 +199,19 @@ some_is : (a b : ℕ) → Some a ≡ Some b → b ≡ a
 some_is a b e = cc
 
 -- a count that a head announces is that of the parts
-pub parts_counted : (shape : Shape) (n count : ℕ) → counted n ≡ Some count → (count ≡ n) × ((parts : List Named) → container_of shape parts ≡ counted_of shape n parts)
+pub parts_counted : (shape : Shape) (n count : ℕ) → counted n ≡ Some count → (count ≡ n) ×
+    ((parts : List Named) → container_of shape parts ≡ counted_of shape n parts)
 parts_counted shape n count h = by (nat_le n greatest_offset) h
   where
-    by : (b : Bool) → cond b (Some n) None ≡ Some count → (count ≡ n) × ((parts : List Named) → container_of shape parts ≡ cond b (container_of shape parts) (Err Other))
+    by : (b : Bool) → cond b (Some n) None ≡ Some count → (count ≡ n) ×
+        ((parts : List Named) → container_of shape parts ≡ cond b (container_of shape parts) (Err Other))
     by true e = (some_is n count e, λ parts. refl)
     by false e = cc
 
 -- ---- what is left of a list from place k on
 
-pub next_part : {A : Type 0} (f : A → Named) (xs : List A) (k : ℕ) (x : A) → k < length xs → x ≡ get_or xs k x → map f (drop k xs) ≡ f x ∷ map f (drop (k + 1) xs)
+pub next_part : {A : Type 0} (f : A → Named) (xs : List A) (k : ℕ) (x : A) → k < length xs → x ≡ get_or xs k x →
+    map f (drop k xs) ≡ f x ∷ map f (drop (k + 1) xs)
 next_part f xs k x lt is =
     let e : suc k ≡ k + 1 = omega arith in
     ap (map f) (drop-cons xs k x lt ∙ ap (λ y. y ∷ drop (suc k) xs) (sym is) ∙ ap (λ j. x ∷ drop j xs) e)
@@ -173,28 +219,35 @@ next_part f xs k x lt is =
 pub no_part : {A : Type 0} (f : A → Named) (xs : List A) (k : ℕ) → length xs ≤ k → map f (drop k xs) ≡ []
 no_part f xs k le = ap (map f) (drop_all k xs le)
 
-pub next_pair : {A B : Type 0} (f : A → Named) (g : B → Named) (es : List (A × B)) (k : ℕ) (e : A × B) → k < length es → e ≡ get_or es k e →
+pub next_pair : {A B : Type 0} (f : A → Named) (g : B → Named) (es : List (A × B)) (k : ℕ) (e : A × B) → k < length es →
+    e ≡ get_or es k e →
     in_turn f g (drop k es) ≡ f e.0 ∷ g e.1 ∷ in_turn f g (drop (k + 1) es)
 next_pair f g es k e lt is =
     let same : suc k ≡ k + 1 = omega arith in
     ap (in_turn f g) (drop-cons es k e lt ∙ ap (λ y. y ∷ drop (suc k) es) (sym is) ∙ ap (λ j. e ∷ drop j es) same)
 
-pub no_pair : {A B : Type 0} (f : A → Named) (g : B → Named) (es : List (A × B)) (k : ℕ) → length es ≤ k → in_turn f g (drop k es) ≡ []
+pub no_pair : {A B : Type 0} (f : A → Named) (g : B → Named) (es : List (A × B)) (k : ℕ) → length es ≤ k →
+    in_turn f g (drop k es) ≡ []
 no_pair f g es k le = ap (in_turn f g) (drop_all k es le)
 
 -- ---- a refusal before anything was written
 
-pub broken_before : {S : Type 0} (StandsAt : S → Place → Type 0) (out : S → Out) (s : S) (n : Named) → ((s : S) (p : Place) → StandsAt s p → IsOutAt (out s) p) → BreaksNamed StandsAt out s s n
+pub broken_before : {S : Type 0} (StandsAt : S → Place → Type 0) (out : S → Out) (s : S) (n : Named) →
+    ((s : S) (p : Place) → StandsAt s p → IsOutAt (out s) p) → BreaksNamed StandsAt out s s n
 broken_before StandsAt out s (Err k) shows = tt
 broken_before StandsAt out s (Ok i) shows = λ p st room. cut_nothing (out s) p i (shows s p st)
 
 -- ---- a tag and its content
 
 module _ {S : Type 0} (StandsAt : S → Place → Type 0) (out : S → Out) (old : S) (t : ℕ) where
-  pub tag_broken : (mid new : S) (r : Named) → Tags StandsAt old mid t → BreaksNamed StandsAt out mid new r → BreaksNamed StandsAt out old new (tag_of t r)
-  tag_broken mid new (Ok i) k h = λ p st room. cut_wider (out new) p (tagged t p) (added p (item.tag t i)) (added p (item.tag t i)) (before_tagged p t) refl (before_itself _) (h (tagged t p) (k p st room) room)
+  pub tag_broken : (mid new : S) (r : Named) → Tags StandsAt old mid t → BreaksNamed StandsAt out mid new r →
+      BreaksNamed StandsAt out old new (tag_of t r)
+  tag_broken mid new (Ok i) k h = λ p st room. cut_wider (out new) p (tagged t p) (added p (item.tag t i))
+      (added p (item.tag t i)) (before_tagged p t) refl (before_itself _) (h (tagged t p) (k p st room) room)
   tag_broken mid new (Err e) k h = tt
 
-  pub tag_broken_head : (new : S) (r : Named) → BreaksTag StandsAt out old new t → BreaksNamed StandsAt out old new (tag_of t r)
-  tag_broken_head new (Ok i) h = λ p st room. cut_wider (out new) p p (tagged t p) (added p (item.tag t i)) (before_itself _) refl (tagged_before p t i) (h p st room)
+  pub tag_broken_head : (new : S) (r : Named) → BreaksTag StandsAt out old new t →
+      BreaksNamed StandsAt out old new (tag_of t r)
+  tag_broken_head new (Ok i) h = λ p st room. cut_wider (out new) p p (tagged t p) (added p (item.tag t i))
+      (before_itself _) refl (tagged_before p t i) (h p st room)
   tag_broken_head new (Err e) h = tt

@@ -1,22 +1,29 @@
 -- What typed writing puts out is read back.
-use Rattle.std.proofs.Common.{◌≡◌, ℕ, zero, suc, ◌+◌, ◌-◌, ◌<◌, ◌≤◌, Bool, true, false, List, pos, negsuc, cond, None, option_map, inl, IsUtf8, refl, sym, ◌∙◌, ap, subst, arith}
+use Rattle.std.proofs.Common.{◌≡◌, ℕ, zero, suc, ◌+◌, ◌-◌, ◌<◌, ◌≤◌, Bool, true, false, List, pos, negsuc, cond, None}
+use Rattle.std.proofs.Common.{option_map, inl, IsUtf8, refl, sym, ◌∙◌, ap, subst, arith}
 use Rattle.ciborium_ll.specs.Bytes.{AreBytes}
 use Rattle.ciborium_ll.specs.Head.{shortest_head}
-use Rattle.ciborium_ll.specs.Item.{Item, unsigned, negative, bytes, text, array, map, tag, simple, float, Items, no_items, item, items_count, Pairs, no_pairs, pair, pairs_count}
+use Rattle.ciborium_ll.specs.Item.{Item, unsigned, negative, bytes, text, array, map, tag, simple, float, Items}
+use Rattle.ciborium_ll.specs.Item.{no_items, item, items_count, Pairs, no_pairs, pair, pairs_count}
 use Rattle.ciborium_ll.specs.Spells.{Spells, SpellsItems, SpellsPairs, IsContainer}
 use Rattle.ciborium_ll.proofs.ShortestHead.{shortest_is_head}
-use Rattle.ciborium_value.specs.Encoding.{item_of, items_of, pairs_of, enclosed, written_bytes, items_bytes, pairs_bytes, written_tree, written_trees, written_pairs, simple_tree}
+use Rattle.ciborium_value.specs.Encoding.{item_of, items_of, pairs_of, enclosed, written_bytes, items_bytes}
+use Rattle.ciborium_value.specs.Encoding.{pairs_bytes, written_tree, written_trees, written_pairs, simple_tree}
 use Rattle.ciborium_value.specs.Folded.{folded, trees_folded, tree_pairs_folded, short_bytes, tree_folding_bytes}
-use Rattle.ciborium_value.specs.Meaning.{meaning, items_meaning, pairs_meaning, simple_meaning, short_string, is_bignum_tag, tag_meaning, trees_more, tree_pairs_more}
+use Rattle.ciborium_value.specs.Meaning.{meaning, items_meaning, pairs_meaning, simple_meaning, short_string}
+use Rattle.ciborium_value.specs.Meaning.{is_bignum_tag, tag_meaning, trees_more, tree_pairs_more}
 use Rattle.ciborium_value.specs.ProperTrees.{IsProperTree, AreProperTrees, AreProperTreePairs}
 use Rattle.ciborium_value.specs.Tree as trees
 use Rattle.ciborium_value.specs.Tree.{Tree, Trees, TreePairs}
-use Rattle.ciborium_value.specs.WrittenItems.{IsAnnounced, IsWritten, AreWritten, PairsAreWritten, WrittenSpells, WrittenTreeFolds, WrittenTreeIsProper}
-use Rattle.ciborium_value.proofs.Writing.Written.{string_written, parts_enclosed, simple_written, items_count-items_of, pairs_count-pairs_of}
+use Rattle.ciborium_value.specs.WrittenItems.{IsAnnounced, IsWritten, AreWritten, PairsAreWritten, WrittenSpells}
+use Rattle.ciborium_value.specs.WrittenItems.{WrittenTreeFolds, WrittenTreeIsProper}
+use Rattle.ciborium_value.proofs.Writing.Written.{string_written, parts_enclosed, simple_written, items_count-items_of}
+use Rattle.ciborium_value.proofs.Writing.Written.{pairs_count-pairs_of}
 
 -- ---- it spells the item
 
-enclosed_as_announced : (open_ : Bool) (major count : ℕ) (r : List ℕ) → IsAnnounced open_ count → IsContainer open_ major count (enclosed open_ major count r) r
+enclosed_as_announced : (open_ : Bool) (major count : ℕ) (r : List ℕ) → IsAnnounced open_ count →
+    IsContainer open_ major count (enclosed open_ major count r) r
 enclosed_as_announced false major count r fits = parts_enclosed false major count r fits
 enclosed_as_announced true major count r fits = refl
 
@@ -28,20 +35,47 @@ mutual
   written_item_spells (bytes true b) h = let no : true ≡ false = h.0 in cc
   written_item_spells (text false b) h = string_written false 3 IsUtf8 b h.1.0 h.1.1.1
   written_item_spells (text true b) h = let no : true ≡ false = h.0 in cc
-  written_item_spells (array open_ is) h = (items_bytes is, written_items_spell is h.1, enclosed_as_announced open_ 4 (items_count is) (items_bytes is) h.0)
-  written_item_spells (map open_ ps) h = (pairs_bytes ps, written_pairs_spell ps h.1, enclosed_as_announced open_ 5 (pairs_count ps) (pairs_bytes ps) h.0)
-  written_item_spells (tag t i) h = (shortest_head 6 t, written_bytes i, shortest_is_head 6 t h.0, written_item_spells i h.1, refl)
+  written_item_spells (array open_ is) h = (
+    items_bytes is,
+    written_items_spell is h.1,
+    enclosed_as_announced open_ 4 (items_count is) (items_bytes is) h.0,
+  )
+  written_item_spells (map open_ ps) h = (
+    pairs_bytes ps,
+    written_pairs_spell ps h.1,
+    enclosed_as_announced open_ 5 (pairs_count ps) (pairs_bytes ps) h.0,
+  )
+  written_item_spells (tag t i) h = (
+    shortest_head 6 t,
+    written_bytes i,
+    shortest_is_head 6 t h.0,
+    written_item_spells i h.1,
+    refl,
+  )
   written_item_spells (simple n) h = let small : n < 23 = h.1 in simple_written n (inl (omega (arith, small)))
   written_item_spells (float raw) h = absurd h
 
   written_items_spell : (is : Items) → AreWritten is → SpellsItems (items_bytes is) is
   written_items_spell no_items h = refl
-  written_items_spell (item i is) h = (written_bytes i, items_bytes is, written_item_spells i h.0, written_items_spell is h.1, refl)
+  written_items_spell (item i is) h = (
+    written_bytes i,
+    items_bytes is,
+    written_item_spells i h.0,
+    written_items_spell is h.1,
+    refl,
+  )
 
   written_pairs_spell : (ps : Pairs) → PairsAreWritten ps → SpellsPairs (pairs_bytes ps) ps
   written_pairs_spell no_pairs h = refl
-  written_pairs_spell (pair k v ps) h =
-      (written_bytes k, written_bytes v, pairs_bytes ps, written_item_spells k h.0, written_item_spells v h.1, written_pairs_spell ps h.2, refl)
+  written_pairs_spell (pair k v ps) h = (
+    written_bytes k,
+    written_bytes v,
+    pairs_bytes ps,
+    written_item_spells k h.0,
+    written_item_spells v h.1,
+    written_pairs_spell ps h.2,
+    refl,
+  )
 
 pub written_spells_item : WrittenSpells
 written_spells_item i h = written_item_spells i h
@@ -86,13 +120,15 @@ mutual
   written_item_folds (array open_ is) h = ap (option_map trees.array) (written_items_fold is h.1)
   written_item_folds (map open_ ps) h = ap (option_map trees.map) (written_pairs_fold ps h.1)
   written_item_folds (tag t i) h =
-      ap (λ o. tag_meaning t (cond (is_bignum_tag t) o None) (meaning i)) (short-bytes i h.1) ∙ ap (tag_meaning t (tree_folding_bytes t (written_tree i))) (written_item_folds i h.1)
+      ap (λ o. tag_meaning t (cond (is_bignum_tag t) o None) (meaning i)) (short-bytes i h.1) ∙
+      ap (tag_meaning t (tree_folding_bytes t (written_tree i))) (written_item_folds i h.1)
   written_item_folds (simple n) h = simple-folds n h.0 h.1
   written_item_folds (float raw) h = absurd h
 
   written_items_fold : (is : Items) → AreWritten is → items_meaning is ≡ trees_folded (written_trees is)
   written_items_fold no_items h = refl
-  written_items_fold (item i is) h = ap (λ m. trees_more m (items_meaning is)) (written_item_folds i h.0) ∙ ap (trees_more (folded (written_tree i))) (written_items_fold is h.1)
+  written_items_fold (item i is) h = ap (λ m. trees_more m (items_meaning is)) (written_item_folds i h.0) ∙
+      ap (trees_more (folded (written_tree i))) (written_items_fold is h.1)
 
   written_pairs_fold : (ps : Pairs) → PairsAreWritten ps → pairs_meaning ps ≡ tree_pairs_folded (written_pairs ps)
   written_pairs_fold no_pairs h = refl

@@ -1,13 +1,16 @@
 -- What is written for an item spells it.
-use Rattle.std.proofs.Common.{◌≡◌, ℕ, suc, ◌<◌, ◌≤◌, Bool, true, false, List, [], ◌∷◌, ◌++◌, length, is_some, refl, sym, ap, ◌∙◌, lit<, arith, ◌⊎◌, inl, inr, pos, negsuc, IsUtf8, append-nil}
+use Rattle.std.proofs.Common.{◌≡◌, ℕ, suc, ◌<◌, ◌≤◌, Bool, true, false, List, [], ◌∷◌, ◌++◌, length, is_some, refl, sym}
+use Rattle.std.proofs.Common.{ap, ◌∙◌, lit<, arith, ◌⊎◌, inl, inr, pos, negsuc, IsUtf8, append-nil}
 use Rattle.std.proofs.lemmas.Bool.Decides.{nat_tests}
 use Rattle.ciborium_ll.specs.Bytes.{AreBytes, greatest_offset}
 use Rattle.ciborium_ll.specs.Head.{shortest_head, simple_bytes, IsSimple, IsFloat}
-use Rattle.ciborium_ll.specs.Item.{Item, unsigned, negative, bytes, text, array, map, tag, simple, float, Items, no_items, item, items_count, Pairs, no_pairs, pair, pairs_count}
+use Rattle.ciborium_ll.specs.Item.{Item, unsigned, negative, bytes, text, array, map, tag, simple, float, Items}
+use Rattle.ciborium_ll.specs.Item.{no_items, item, items_count, Pairs, no_pairs, pair, pairs_count}
 use Rattle.ciborium_ll.specs.ProperItems.{IsProperItem, AreProperItems, AreProperPairs}
 use Rattle.ciborium_ll.specs.Spells.{IsDefiniteString, IsString, IsContainer, Spells, SpellsItems, SpellsPairs}
 use Rattle.ciborium_ll.proofs.ShortestHead.{shortest_is_head}
-use Rattle.ciborium_value.specs.Encoding.{item_of, items_of, pairs_of, enclosed, string_bytes, float_bytes, written_bytes, items_bytes, pairs_bytes}
+use Rattle.ciborium_value.specs.Encoding.{item_of, items_of, pairs_of, enclosed, string_bytes, float_bytes}
+use Rattle.ciborium_value.specs.Encoding.{written_bytes, items_bytes, pairs_bytes}
 use Rattle.ciborium_value.specs.laws.FoldingLaws.{EncodingIsGood}
 use Rattle.ciborium_value.specs.ProperTrees.{IsProperTree, AreProperTrees, AreProperTreePairs}
 use Rattle.ciborium_value.specs.Tree as trees
@@ -16,15 +19,27 @@ use Rattle.ciborium_value.proofs.FoldedTrees.Folding.{written_means_folded}
 
 -- ---- strings, containers, simple values and floats
 
-pub string_written : (open_ : Bool) (major : ℕ) (IsAllowed : List ℕ → Type 0) (b : List ℕ) → IsAllowed b → length b ≤ greatest_offset →
+pub string_written : (open_ : Bool) (major : ℕ) (IsAllowed : List ℕ → Type 0) (b : List ℕ) → IsAllowed b →
+    length b ≤ greatest_offset →
     IsString open_ major IsAllowed (string_bytes open_ major b) b
-string_written false major IsAllowed b h fits = (shortest_head major (length b), shortest_is_head major (length b) (omega arith), h, refl)
+string_written false major IsAllowed b h fits = (
+  shortest_head major (length b),
+  shortest_is_head major (length b) (omega arith),
+  h,
+  refl,
+)
 string_written true major IsAllowed b h fits =
     let s : List ℕ = shortest_head major (length b) ++ b in
-    let part : IsDefiniteString major IsAllowed s b = (shortest_head major (length b), shortest_is_head major (length b) (omega arith), h, refl) in
+    let part : IsDefiniteString major IsAllowed s b = (
+      shortest_head major (length b),
+      shortest_is_head major (length b) (omega arith),
+      h,
+      refl,
+    ) in
     (b ∷ [], s, (s, [], part, refl, sym (append-nil s)), sym (append-nil b), refl)
 
-pub parts_enclosed : (open_ : Bool) (major count : ℕ) (r : List ℕ) → count ≤ greatest_offset → IsContainer open_ major count (enclosed open_ major count r) r
+pub parts_enclosed : (open_ : Bool) (major count : ℕ) (r : List ℕ) → count ≤ greatest_offset →
+    IsContainer open_ major count (enclosed open_ major count r) r
 parts_enclosed false major count r fits = (shortest_head major count, shortest_is_head major count (omega arith), refl)
 parts_enclosed true major count r fits = refl
 
@@ -45,9 +60,23 @@ mutual
   written_spells (negative n) h = shortest_is_head 1 n h
   written_spells (bytes open_ b) h = string_written open_ 2 AreBytes b h.0 h.1
   written_spells (text open_ b) h = string_written open_ 3 IsUtf8 b h.0 h.1.1
-  written_spells (array open_ is) h = (items_bytes is, items_written is h.1, parts_enclosed open_ 4 (items_count is) (items_bytes is) h.0)
-  written_spells (map open_ ps) h = (pairs_bytes ps, pairs_written ps h.1, parts_enclosed open_ 5 (pairs_count ps) (pairs_bytes ps) h.0)
-  written_spells (tag t i) h = (shortest_head 6 t, written_bytes i, shortest_is_head 6 t h.0, written_spells i h.1, refl)
+  written_spells (array open_ is) h = (
+    items_bytes is,
+    items_written is h.1,
+    parts_enclosed open_ 4 (items_count is) (items_bytes is) h.0,
+  )
+  written_spells (map open_ ps) h = (
+    pairs_bytes ps,
+    pairs_written ps h.1,
+    parts_enclosed open_ 5 (pairs_count ps) (pairs_bytes ps) h.0,
+  )
+  written_spells (tag t i) h = (
+    shortest_head 6 t,
+    written_bytes i,
+    shortest_is_head 6 t h.0,
+    written_spells i h.1,
+    refl,
+  )
   written_spells (simple n) h = simple_written n h
   written_spells (float raw) h = float_written raw h.1
 
@@ -57,8 +86,15 @@ mutual
 
   pairs_written : (ps : Pairs) → AreProperPairs ps → SpellsPairs (pairs_bytes ps) ps
   pairs_written no_pairs h = refl
-  pairs_written (pair k v ps) h =
-      (written_bytes k, written_bytes v, pairs_bytes ps, written_spells k h.0, written_spells v h.1, pairs_written ps h.2, refl)
+  pairs_written (pair k v ps) h = (
+    written_bytes k,
+    written_bytes v,
+    pairs_bytes ps,
+    written_spells k h.0,
+    written_spells v h.1,
+    pairs_written ps h.2,
+    refl,
+  )
 
 -- ---- the item of a proper tree is proper
 
@@ -89,10 +125,15 @@ mutual
 
   AreProperPairs-pairs_of : (ps : TreePairs) → AreProperTreePairs ps → AreProperPairs (pairs_of ps)
   AreProperPairs-pairs_of trees.no_tree_pairs h = tt
-  AreProperPairs-pairs_of (trees.tree_pair k v ps) h = (IsProperItem-item_of k h.0, IsProperItem-item_of v h.1, AreProperPairs-pairs_of ps h.2)
+  AreProperPairs-pairs_of (trees.tree_pair k v ps) h =
+      (IsProperItem-item_of k h.0, IsProperItem-item_of v h.1, AreProperPairs-pairs_of ps h.2)
 
 -- ---- so it is good
 
 pub encoding_is_good : EncodingIsGood
-encoding_is_good v w l proper folds within fits =
-    (written_spells (item_of v) (IsProperItem-item_of v proper), ap is_some (written_means_folded v ∙ folds), within, omega (arith, fits))
+encoding_is_good v w l proper folds within fits = (
+  written_spells (item_of v) (IsProperItem-item_of v proper),
+  ap is_some (written_means_folded v ∙ folds),
+  within,
+  omega (arith, fits),
+)

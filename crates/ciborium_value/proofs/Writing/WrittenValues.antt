@@ -26,10 +26,13 @@ module _ {T : Type 0} (shape : T → Tree) where
   from-items [] = refl
   from-items (v ∷ vs) = ap (item.item (item_of (shape v))) (from-items vs)
 
-  pub named-parts : (vs : List T) (v : T) → shape v ≡ trees.array (trees_from (map shape vs)) → container_of sequence (map (λ w. Ok (item_of (shape w))) vs) ≡ Ok (item_of (shape v))
-  named-parts vs v is = ap (contained sequence false) (all-items vs) ∙ ap (λ l. Ok (item.array false l)) (from-items vs) ∙ ap (λ t. Ok (item_of t)) (sym is)
+  pub named-parts : (vs : List T) (v : T) → shape v ≡ trees.array (trees_from (map shape vs)) →
+      container_of sequence (map (λ w. Ok (item_of (shape w))) vs) ≡ Ok (item_of (shape v))
+  named-parts vs v is = ap (contained sequence false) (all-items vs) ∙
+      ap (λ l. Ok (item.array false l)) (from-items vs) ∙ ap (λ t. Ok (item_of t)) (sym is)
 
-pub named-Array : (v : Value) (vs : Vec Value Global) → v ≡ value.Array vs → container_of sequence (map named_value vs.items) ≡ named_value v
+pub named-Array : (v : Value) (vs : Vec Value Global) → v ≡ value.Array vs →
+    container_of sequence (map named_value vs.items) ≡ named_value v
 named-Array v vs is = named-parts tree_of vs.items v (ap tree_of is ∙ tree_of-Array vs)
 
 -- each key and value of a list of pairs
@@ -45,9 +48,13 @@ from-pair_items : (ps : List (Value × Value)) → pairs_from (pair_items ps) �
 from-pair_items [] = refl
 from-pair_items (p ∷ ps) = ap (item.pair (item_of (tree_of p.0)) (item_of (tree_of p.1))) (from-pair_items ps)
 
-pub named-Map : (v : Value) (ps : Vec (Value × Value) Global) → v ≡ value.Map ps → container_of dictionary (in_turn named_value named_value ps.items) ≡ named_value v
+pub named-Map : (v : Value) (ps : Vec (Value × Value) Global) → v ≡ value.Map ps →
+    container_of dictionary (in_turn named_value named_value ps.items) ≡ named_value v
 named-Map v ps is =
-    ap (contained dictionary false) (all-pair_items ps.items) ∙ ap (λ l. Ok (item.map false l)) (from-pair_items ps.items) ∙ ap (λ t. Ok (item_of t)) (sym (ap tree_of is ∙ tree_of-Map ps))
+    ap (contained dictionary false) (all-pair_items ps.items) ∙
+    ap (λ l. Ok (item.map false l)) (from-pair_items ps.items) ∙
+    ap (λ t. Ok (item_of t)) (sym (ap tree_of is ∙ tree_of-Map ps))
 
-pub named-Tag : (v : Value) (t : ℕ) (content : Box Value Global) → v ≡ value.Tag t content → tag_of t (named_value content.value) ≡ named_value v
+pub named-Tag : (v : Value) (t : ℕ) (content : Box Value Global) → v ≡ value.Tag t content →
+    tag_of t (named_value content.value) ≡ named_value v
 named-Tag v t content is = ap (λ t. Ok (item_of t)) (sym (ap tree_of is ∙ tree_of-Tag t content))

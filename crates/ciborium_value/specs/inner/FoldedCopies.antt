@@ -1,9 +1,11 @@
 -- The copying of a tree, folded, by a walk that keeps what is open and what is still to come.
-use Rattle.std.specs.Prelude.{◌≡◌, ℕ, ◌+◌, ◌<◌, List, [], ◌∷◌, ◌++◌, map, reverse, Option, Some, None}
+use Rattle.std.specs.Prelude.{◌≡◌, ℕ, ◌+◌, ◌<◌, List, [], ◌∷◌, ◌++◌, map, reverse, Option, Some}
+use Rattle.std.specs.Prelude.{None}
 use Rattle.ciborium_value.specs.Counts.{node_count}
 use Rattle.ciborium_value.specs.Folded.{folded}
 use Rattle.ciborium_value.specs.inner.Frames.{TreeFrame, Placed, done, more, placed}
-use Rattle.ciborium_value.specs.Sources.{Fault, of_kind, of_nesting, of_syntax, of_memory, of_device, of_length}
+use Rattle.ciborium_value.specs.Sources.{Fault, of_kind, of_nesting, of_syntax, of_memory}
+use Rattle.ciborium_value.specs.Sources.{of_device, of_length}
 use Rattle.ciborium_value.specs.inner.Stack.{begun_frame}
 use Rattle.ciborium_value.specs.Tree.{Tree}
 use Rattle.ciborium_value.specs.View.{tree_of}
@@ -18,7 +20,8 @@ abbrev pub where_folded : Option Tree → (Tree → Option Placed) → Option Pl
 where_folded None f = None
 where_folded (Some v) f = f v
 
--- trees are folded and put one after the other where one is due, until all is whole; or one of them does not fold
+-- trees are folded and put one after the other where one is due, until all is whole; or one of them
+-- does not fold
 abbrev pub copied : Placed → List Tree → Option Placed
 copied (done v) ts = Some (done v)
 copied (more os) [] = Some (more os)
@@ -52,7 +55,9 @@ nodes_of (t ∷ ts) = node_count t + nodes_of ts
 abbrev pub IsCopyBegun : Tree → Part → Type 0
 IsCopyBegun t (part.Whole v) = folded t ≡ Some (tree_of v)
 IsCopyBegun t (part.Opened o c) =
-    ((os : List TreeFrame) (ts : List Tree) → copied (more os) (t ∷ ts) ≡ copied (more (begun_frame o ∷ os)) (coming_trees c ++ ts)) × (nodes_of (coming_trees c) < node_count t)
+    ((os : List TreeFrame) (ts : List Tree) →
+    copied (more os) (t ∷ ts) ≡ copied (more (begun_frame o ∷ os)) (coming_trees c ++ ts)) ×
+    (nodes_of (coming_trees c) < node_count t)
 
 -- refused as too large where it does not fold, or for want of memory
 abbrev pub IsUnfolded : Fault → Option Tree → Type 0

@@ -1,10 +1,13 @@
--- Frames: containers and tags that are unfinished while a tree is put together, the innermost first.
-use Rattle.std.specs.Prelude.{ℕ, zero, suc, ◌+◌, ◌*◌, List, [], ◌∷◌, ◌++◌, Option, Some, None, option_map}
+-- Frames: containers and tags that are unfinished while a tree is put together, the innermost
+-- first.
+use Rattle.std.specs.Prelude.{ℕ, zero, suc, ◌+◌, ◌*◌, List, [], ◌∷◌, ◌++◌, Option, Some, None}
+use Rattle.std.specs.Prelude.{option_map}
 use Rattle.ciborium_value.specs.Tree as trees
 use Rattle.ciborium_value.specs.Tree.{Tree}
 use Rattle.ciborium_value.specs.View.{trees_from, tree_pairs_from}
 
--- a container with its parts so far, how many places follow the one that is filled next (None: as many as come before a break), and
+-- a container with its parts so far, how many places follow the one that is filled next (None: as
+-- many as come before a break), and
 -- the key that waits for its value; or a tag that waits for its item
 pub data TreeFrame : Type 0 where
   array : List Tree → Option ℕ → TreeFrame
@@ -32,7 +35,8 @@ fill (map ps behind None) v = still (map ps behind (Some v))
 fill (map ps behind (Some k)) v = fill_map (ps ++ (k, v) ∷ []) behind
 fill (tag n) v = whole (trees.tag n v)
 
--- what one more tree makes of all frames: the tree that it completes last, or the frames that are left
+-- what one more tree makes of all frames: the tree that it completes last, or the frames that are
+-- left
 pub data Placed : Type 0 where
   done : Tree → Placed
   more : List TreeFrame → Placed
@@ -69,7 +73,8 @@ waiting_keys (map ps behind None ∷ os) = None
 waiting_keys (map ps behind (Some key) ∷ os) = with_last ps key
 waiting_keys (tag n ∷ os) = None
 
--- how many parts of the innermost container are due for sure, the one that is read now included; a pair is two
+-- how many parts of the innermost container are due for sure, the one that is read now included; a
+-- pair is two
 abbrev pub parts_due : List TreeFrame → ℕ
 parts_due [] = 0
 parts_due (array vs (Some n) ∷ os) = n + 1

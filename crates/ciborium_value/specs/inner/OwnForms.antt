@@ -1,9 +1,11 @@
--- Trees that are their own deterministic form: each bignum is what it folds to, and the keys of each map rise (RFC 8949, sections 3.4.3 and 4.2).
+-- Trees that are their own deterministic form: each bignum is what it folds to, and the keys of
+-- each map rise (RFC 8949, sections 3.4.3 and 4.2).
 use Rattle.std.specs.Prelude.{◌≡◌, Some, MatchOption}
 use Rattle.ciborium_value.specs.Deterministic.{AreRising, keys_of}
 use Rattle.ciborium_value.specs.Folded.{tree_folding_bytes}
 use Rattle.ciborium_value.specs.Meaning.{bignum_meaning}
-use Rattle.ciborium_value.specs.Tree.{Tree, integer, bytes, text, boolean, null, tag, array, map, Trees, no_trees, tree, TreePairs, no_tree_pairs, tree_pair}
+use Rattle.ciborium_value.specs.Tree.{Tree, integer, bytes, text, boolean, null, tag, array, map}
+use Rattle.ciborium_value.specs.Tree.{Trees, no_trees, tree, TreePairs, no_tree_pairs, tree_pair}
 use Rattle.ciborium_value.specs.declared.key_order.KeyOrder.{KeyOrder}
 
 abbrev mutual
@@ -14,7 +16,8 @@ abbrev mutual
   IsFormed o (text b) = Unit {0}
   IsFormed o (boolean b) = Unit {0}
   IsFormed o null = Unit {0}
-  IsFormed o (tag t v) = MatchOption (tree_folding_bytes t v) (IsFormed o v) (λ b. bignum_meaning t b ≡ Some (tag t v))
+  IsFormed o (tag t v) = MatchOption (tree_folding_bytes t v) (IsFormed o v)
+      (λ b. bignum_meaning t b ≡ Some (tag t v))
   IsFormed o (array vs) = AreFormed o vs
   IsFormed o (map ps) = AreRising o (keys_of ps) × PairsAreFormed o ps
 

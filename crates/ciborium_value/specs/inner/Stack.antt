@@ -13,7 +13,8 @@ use Rattle.ciborium_value.specs.declared.stack.Stack.{Stack}
 -- what a frame holds
 abbrev pub frame_of : Frame → TreeFrame
 frame_of (frame.Array items behind) = frames.array (map tree_of items.items) behind
-frame_of (frame.Map pairs behind key) = frames.map (map pair_trees pairs.items) behind (option_map tree_of key)
+frame_of (frame.Map pairs behind key) = frames.map (map pair_trees pairs.items) behind
+    (option_map tree_of key)
 frame_of (frame.Tag n) = frames.tag n
 
 -- the frames in a list whose last is the innermost

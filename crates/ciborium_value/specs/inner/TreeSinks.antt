@@ -5,7 +5,8 @@ use Rattle.ciborium_ll.specs.Item.{Item}
 use Rattle.ciborium_value.specs.Encoding.{written_tree}
 use Rattle.ciborium_value.specs.inner.Frames as frames
 use Rattle.ciborium_value.specs.inner.Frames.{Placed, done, more, placed}
-use Rattle.ciborium_value.specs.Places.{Shape, sequence, dictionary, Place, top, within, tagged, HasRoom, writer_at, bytes_at, Out, IsOutOf, IsOutAt}
+use Rattle.ciborium_value.specs.Places.{Shape, sequence, dictionary, Place, top, within, tagged}
+use Rattle.ciborium_value.specs.Places.{HasRoom, writer_at, bytes_at, Out, IsOutOf, IsOutAt}
 use Rattle.ciborium_value.specs.inner.Stack.{frames_of, placed_of}
 use Rattle.ciborium_value.specs.Tree as trees
 use Rattle.ciborium_value.specs.Tree.{Tree}

@@ -3,7 +3,9 @@ use Rattle.std.specs.Prelude.{◌≡◌, ℕ, ◌+◌, List, map, length, Option
 use Rattle.std.specs.Borrow.{Bor}
 use Rattle.ciborium_ll.specs.Item.{Item, simple, unsigned}
 use Rattle.ciborium_value.specs.Ahead.{Ahead, Rest, item, after, bottom, parts, pairs, entry, held}
-use Rattle.ciborium_value.specs.Counts.{node_count, payload_size, trees_node_count, trees_payload_size, tree_pairs_node_count, tree_pairs_payload_size}
+use Rattle.ciborium_value.specs.Counts.{node_count, payload_size, trees_node_count}
+use Rattle.ciborium_value.specs.Counts.{trees_payload_size, tree_pairs_node_count}
+use Rattle.ciborium_value.specs.Counts.{tree_pairs_payload_size}
 use Rattle.ciborium_value.specs.Nesting.{Limit}
 use Rattle.ciborium_value.specs.View.{tree_of, trees_of, tree_pairs_of}
 use Rattle.ciborium_value.specs.declared.deserialized.Pending.{Pending}
@@ -113,9 +115,11 @@ abbrev pub source_weight : TreeSource → ℕ
 source_weight s = pending_tree_weight s.ahead + due_weight s.due
 
 abbrev pub left_weight : Left → ℕ
-left_weight (left.Items vs) = trees_node_count (trees_of vs.now) + trees_payload_size (trees_of vs.now)
+left_weight (left.Items vs) = trees_node_count (trees_of vs.now) + trees_payload_size
+    (trees_of vs.now)
 left_weight (left.Bytes bs) = length bs.now
-left_weight (left.Pairs qs) = tree_pairs_node_count (tree_pairs_of qs.now) + tree_pairs_payload_size (tree_pairs_of qs.now)
+left_weight (left.Pairs qs) = tree_pairs_node_count (tree_pairs_of qs.now) + tree_pairs_payload_size
+    (tree_pairs_of qs.now)
 
 abbrev pub seq_weight : TreeSeq → ℕ
 seq_weight q = left_weight q.left + due_weight q.due

@@ -1,13 +1,17 @@
--- Worked examples: what the definitions say of bytes that RFC 8949 and its appendix A speak of, and of corners.
+-- Worked examples: what the definitions say of bytes that RFC 8949 and its appendix A speak of, and
+-- of corners.
 use Prim.Native.String.{String}
-use Rattle.std.specs.Prelude.{◌≡◌, ℕ, ◌+◌, ◌-◌, ◌*◌, ◌^◌, List, [], ◌∷◌, replicate, codes, if◌then◌else◌, nat_lt, true, false, pos, negsuc, Some, None}
+use Rattle.std.specs.Prelude.{◌≡◌, ℕ, ◌+◌, ◌-◌, ◌*◌, ◌^◌, List, [], ◌∷◌, replicate, codes}
+use Rattle.std.specs.Prelude.{if◌then◌else◌, nat_lt, true, false, pos, negsuc, Some, None}
 use Rattle.std.specs.declared.cmp.Ordering.TheVariants.{Less}
 use Rattle.ciborium_ll.specs.Bytes.{greatest_offset}
 use Rattle.ciborium_ll.specs.Item as item
 use Rattle.ciborium_ll.specs.Item.{Item}
-use Rattle.ciborium_ll.specs.Refusal.{io, syntax, too_long, semantic, recursion_limit_exceeded, Float, Simple, Break, TooLarge}
+use Rattle.ciborium_ll.specs.Refusal.{io, syntax, too_long, semantic, recursion_limit_exceeded}
+use Rattle.ciborium_ll.specs.Refusal.{Float, Simple, Break, TooLarge}
 use Rattle.ciborium_ll.specs.Spells.{Spells}
-use Rattle.ciborium_value.specs.Tree.{Tree, integer, bytes, text, boolean, null, tag, array, map, no_trees, tree, no_tree_pairs, tree_pair}
+use Rattle.ciborium_value.specs.Tree.{Tree, integer, bytes, text, boolean, null, tag, array, map}
+use Rattle.ciborium_value.specs.Tree.{no_trees, tree, no_tree_pairs, tree_pair}
 use Rattle.ciborium_value.specs.Meaning.{meaning}
 use Rattle.ciborium_value.specs.Folded.{folded}
 use Rattle.ciborium_value.specs.Encoding.{encoding, encoded_size, written_bytes, written_tree}
@@ -74,11 +78,14 @@ array_of_two v w = array (tree v (tree w no_trees))
 
 -- [1, [2, 3], [4, 5]]
 abbrev pub nested_arrays : Tree
-nested_arrays = array (tree (unsigned_tree 1) (tree (array_of_two (unsigned_tree 2) (unsigned_tree 3)) (tree (array_of_two (unsigned_tree 4) (unsigned_tree 5)) no_trees)))
+nested_arrays = array (tree (unsigned_tree 1)
+    (tree (array_of_two (unsigned_tree 2) (unsigned_tree 3))
+    (tree (array_of_two (unsigned_tree 4) (unsigned_tree 5)) no_trees)))
 
 -- {"a": 1, "b": [2, 3]}
 abbrev pub nested_map : Tree
-nested_map = map (tree_pair (text a) (unsigned_tree 1) (tree_pair (text b) (array_of_two (unsigned_tree 2) (unsigned_tree 3)) no_tree_pairs))
+nested_map = map (tree_pair (text a) (unsigned_tree 1)
+    (tree_pair (text b) (array_of_two (unsigned_tree 2) (unsigned_tree 3)) no_tree_pairs))
 
 -- 80 and fifteen zeros: 2^127
 abbrev pub two_to_127 : List ℕ
@@ -103,11 +110,14 @@ pub record FoldingExamples : Type 0 where
   pub empty_is_zero : IsReadAs (hex "c240") 0 (Some 0) (unsigned_tree 0)
   pub empty_is_minus_one : IsReadAs (hex "c340") 0 (Some 0) (negative_tree 0)
   pub one : IsReadAs (hex "c24101") 0 (Some 0) (unsigned_tree 1)
-  pub zeros_are_dropped : IsReadAs (hex "c24a00010000000000000000") 0 (Some 0) (tag 2 (bytes (0x01 ∷ replicate 8 0)))
+  pub zeros_are_dropped : IsReadAs (hex "c24a00010000000000000000") 0 (Some 0)
+      (tag 2 (bytes (0x01 ∷ replicate 8 0)))
   pub open_stays : HasMeaning (hex "c25f4101ff") (tag 2 (bytes (0x01 ∷ [])))
   pub too_large_has_none : meaning (item.tag 3 (item.bytes false two_to_127)) ≡ None
-  pub unsigned_has : meaning (item.tag 2 (item.bytes false two_to_127)) ≡ Some (tag 2 (bytes two_to_127))
-  pub in_a_tree : folded (array_of_one (tag 2 (bytes (0x01 ∷ [])))) ≡ Some (array_of_one (unsigned_tree 1))
+  pub unsigned_has : meaning (item.tag 2 (item.bytes false two_to_127)) ≡ Some
+      (tag 2 (bytes two_to_127))
+  pub in_a_tree : folded (array_of_one (tag 2 (bytes (0x01 ∷ [])))) ≡ Some
+      (array_of_one (unsigned_tree 1))
 
 -- refusals under the default limit or none at all (RFC 8949, appendix F)
 pub record RefusedExamples : Type 0 where
@@ -123,7 +133,8 @@ pub record RefusedExamples : Type 0 where
   pub break_for_a_value : Refuses (hex "bf01ff") 0 (Some default_limit) (semantic 2 Break)
   pub break_alone : Refuses (hex "ff") 0 (Some default_limit) (semantic 0 Break)
   pub long_string : Refuses (hex "5bffffffffffffffff") 0 (Some default_limit) too_long
-  pub large_bignum : Refuses (0xc3 ∷ 0x50 ∷ replicate 16 0xff) 0 (Some default_limit) (semantic 0 TooLarge)
+  pub large_bignum : Refuses (0xc3 ∷ 0x50 ∷ replicate 16 0xff) 0 (Some default_limit)
+      (semantic 0 TooLarge)
   pub no_level_for_a_tag : Refuses (hex "c101") 0 (Some 0) recursion_limit_exceeded
   pub no_level_for_an_array : Refuses (hex "80") 0 (Some 0) recursion_limit_exceeded
   pub head_before_the_limit : Refuses (hex "c11e") 0 (Some 0) (syntax 1)
@@ -141,17 +152,23 @@ pub record CornerExamples : Type 0 where
   pub empty_at_the_greatest : Refuses [] greatest_offset (Some default_limit) too_long
   -- the second byte of a simple value is not read past the greatest offset
   pub low_simple_over : Refuses (hex "f814") (greatest_offset - 1) (Some default_limit) too_long
-  pub low_simple_fits : Refuses (hex "f814") (greatest_offset - 2) (Some default_limit) (syntax (greatest_offset - 2))
-  pub reserved_at_the_last : Refuses (hex "1e") (greatest_offset - 1) (Some default_limit) (syntax (greatest_offset - 1))
+  pub low_simple_fits : Refuses (hex "f814") (greatest_offset - 2) (Some default_limit)
+      (syntax (greatest_offset - 2))
+  pub reserved_at_the_last : Refuses (hex "1e") (greatest_offset - 1) (Some default_limit)
+      (syntax (greatest_offset - 1))
   -- a break is read as far as it fits
   pub break_over : Refuses (hex "9f01ff") (greatest_offset - 2) (Some default_limit) too_long
-  pub break_fits : IsReadAs (hex "9f01ff") (greatest_offset - 3) (Some default_limit) (array_of_one (unsigned_tree 1))
+  pub break_fits : IsReadAs (hex "9f01ff") (greatest_offset - 3) (Some default_limit)
+      (array_of_one (unsigned_tree 1))
   -- what is empty ends at the greatest offset; a tag needs one byte more
-  pub empty_array_at_the_last : IsReadAs (hex "80") (greatest_offset - 1) (Some default_limit) (array no_trees)
-  pub empty_bytes_at_the_last : IsReadAs (hex "40") (greatest_offset - 1) (Some default_limit) (bytes [])
+  pub empty_array_at_the_last : IsReadAs (hex "80") (greatest_offset - 1) (Some default_limit)
+      (array no_trees)
+  pub empty_bytes_at_the_last : IsReadAs (hex "40") (greatest_offset - 1) (Some default_limit)
+      (bytes [])
   pub tag_at_the_last : Refuses (hex "c1") (greatest_offset - 1) (Some default_limit) too_long
   -- a bignum's payload is judged before its number
-  pub large_bignum_over : Refuses (0xc3 ∷ 0x50 ∷ two_to_127) (greatest_offset - 17) (Some default_limit) too_long
+  pub large_bignum_over : Refuses (0xc3 ∷ 0x50 ∷ two_to_127) (greatest_offset - 17)
+      (Some default_limit) too_long
 
 -- shortest heads (RFC 8949, section 4.1), and trees in canonical order (section 4.2.3)
 pub record WrittenExamples : Type 0 where
@@ -170,13 +187,17 @@ pub record WrittenExamples : Type 0 where
   pub nested_size : encoded_size nested_map ≡ 9
   pub nothing_is_folded : encoding (tag 2 (bytes (0x01 ∷ []))) ≡ hex "c24101"
   -- a typed value may be written as an open array; it stands for the same tree as a definite one
-  pub open_array : written_bytes (item.array true (item.item (item.unsigned 1) item.no_items)) ≡ hex "9f01ff"
-  pub open_array_stands_for : written_tree (item.array true (item.item (item.unsigned 1) item.no_items)) ≡ array_of_one (unsigned_tree 1)
+  pub open_array : written_bytes (item.array true (item.item (item.unsigned 1) item.no_items)) ≡ hex
+      "9f01ff"
+  pub open_array_stands_for : written_tree (item.array true
+      (item.item (item.unsigned 1) item.no_items)) ≡ array_of_one (unsigned_tree 1)
   -- 10, -1, false, 100, "z", [-1], "aa", [100]
   pub in_order : AreInOrder
-      (unsigned_tree 10 ∷ negative_tree 0 ∷ boolean false ∷ unsigned_tree 100 ∷ text z ∷ array_of_one (negative_tree 0) ∷ text aa ∷ array_of_one (unsigned_tree 100) ∷ [])
+      (unsigned_tree 10 ∷ negative_tree 0 ∷ boolean false ∷ unsigned_tree 100 ∷ text z ∷
+      array_of_one (negative_tree 0) ∷ text aa ∷ array_of_one (unsigned_tree 100) ∷ [])
   -- 10, false, -200, "z", 256: -200 takes two bytes
-  pub minus_200_before_256 : AreInOrder (unsigned_tree 10 ∷ boolean false ∷ negative_tree 199 ∷ text z ∷ unsigned_tree 256 ∷ [])
+  pub minus_200_before_256 : AreInOrder (unsigned_tree 10 ∷ boolean false ∷ negative_tree 199 ∷ text
+      z ∷ unsigned_tree 256 ∷ [])
 
 -- what a tree takes of memory
 pub record CountedExamples : Type 0 where

@@ -17,8 +17,10 @@ WrittenMeansFolded = (v : Tree) → meaning (item_of v) ≡ folded v
 abbrev pub FoldsOnce : Type 0
 FoldsOnce = (v w : Tree) → folded v ≡ Some w → folded w ≡ Some w
 
--- the encoding of a proper tree that folds is a good item, where it nests within the limit and ends within the greatest offset
+-- the encoding of a proper tree that folds is a good item, where it nests within the limit and ends
+-- within the greatest offset
 abbrev pub EncodingIsGood : Type 0
 EncodingIsGood =
-    (v w : Tree) (l : Limit) → IsProperTree v → folded v ≡ Some w → IsWithin l (nesting (item_of v)) →
+    (v w : Tree) (l : Limit) → IsProperTree v → folded v ≡ Some w →
+    IsWithin l (nesting (item_of v)) →
     length (encoding v) ≤ greatest_offset → IsGood (item_of v) l (encoding v) 0

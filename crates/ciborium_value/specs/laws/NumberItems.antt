@@ -1,4 +1,5 @@
--- The tree of a number is that of the item which typed writing names for it (RFC 8949, section 3.4.3).
+-- The tree of a number is that of the item which typed writing names for it (RFC 8949, section
+-- 3.4.3).
 use Rattle.std.specs.Prelude.{◌≡◌, ℤ}
 use Rattle.ciborium_value.specs.Encoding.{item_of}
 use Rattle.ciborium_value.specs.Number.{number_tree}

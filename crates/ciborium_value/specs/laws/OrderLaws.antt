@@ -19,13 +19,15 @@ abbrev pub OrderedAsTrees : Type 0
 OrderedAsTrees = (v w : Value) → value_cmp v w ≡ tree_cmp (tree_of v) (tree_of w)
 
 abbrev pub PartlyOrderedAsTrees : Type 0
-PartlyOrderedAsTrees = (v w : Value) → value_partial_cmp v w ≡ Some (tree_cmp (tree_of v) (tree_of w))
+PartlyOrderedAsTrees = (v w : Value) → value_partial_cmp v w ≡ Some
+    (tree_cmp (tree_of v) (tree_of w))
 
 -- the order does not tell two trees apart exactly where they are one
 abbrev pub TiedWhereEqual : Type 0
 TiedWhereEqual = (v w : Tree) → (tree_cmp v w ≡ Equal) ↔ (v ≡ w)
 
--- each of two values is less, equal or greater as the other is greater, equal or less; less is transitive; equal values compare alike
+-- each of two values is less, equal or greater as the other is greater, equal or less; less is
+-- transitive; equal values compare alike
 abbrev pub ValuesAreOrdered : Type 0
 ValuesAreOrdered = IsTotalOrder value_cmp
 

@@ -12,12 +12,15 @@ HasGoodItem b p l = (s : List ℕ) × (i : Item) × (r : List ℕ) × IsGood i l
 
 -- all bytes begin with a good item, or something refuses them
 abbrev pub GoodOrRefused : Type 0
-GoodOrRefused = (b : List ℕ) (p : ℕ) (l : Limit) → AreBytes b → HasGoodItem b p l ⊎ ((e : Refusal) × Refuses b p l e)
+GoodOrRefused = (b : List ℕ) (p : ℕ) (l : Limit) → AreBytes b →
+    HasGoodItem b p l ⊎ ((e : Refusal) × Refuses b p l e)
 
 -- never both
 abbrev pub NeverBoth : Type 0
-NeverBoth = (b : List ℕ) (p : ℕ) (l : Limit) (e : Refusal) → AreBytes b → HasGoodItem b p l → ¬ Refuses b p l e
+NeverBoth = (b : List ℕ) (p : ℕ) (l : Limit) (e : Refusal) → AreBytes b → HasGoodItem b p l →
+    ¬ Refuses b p l e
 
 -- and with one refusal alone
 abbrev pub OneRefusal : Type 0
-OneRefusal = (b : List ℕ) (p : ℕ) (l : Limit) (e f : Refusal) → AreBytes b → Refuses b p l e → Refuses b p l f → e ≡ f
+OneRefusal = (b : List ℕ) (p : ℕ) (l : Limit) (e f : Refusal) → AreBytes b → Refuses b p l e →
+    Refuses b p l f → e ≡ f

@@ -8,14 +8,16 @@ use Rattle.ciborium_value.specs.Order.{tree_cmp, trees_cmp, tree_pairs_cmp}
 use Rattle.ciborium_value.specs.View.{tree_of, trees_of, tree_pairs_of}
 use Rattle.ciborium_value.specs.contracts.tree.ValueOrd.TheImpl.{the_step}
 use Rattle.ciborium_value.specs.contracts.tree.ValueOrd.TheImpl.Laws.{local, unfolded}
-use Rattle.ciborium_value.specs.declared.tree.Value.TheBlock.{the_members, the_depth, the_family, member-Value}
+use Rattle.ciborium_value.specs.declared.tree.Value.TheBlock.{the_members, the_depth, the_family}
+use Rattle.ciborium_value.specs.declared.tree.Value.TheBlock.{member-Value}
 use Rattle.ciborium_value.specs.declared.tree.Value.{Value, the_lemmas}
 use Rattle.ciborium_value.specs.declared.tree.Value.TheOpen.{Value-F}
 use Rattle.ciborium_value.specs.declared.tree.Value.TheViews.{out-Value, roll-Value}
 use Rattle.ciborium_value.specs.declared.tree.Value.TheFolds.{map-Value, ind-Value}
 
 cmp_unfolded : (v w : Value) → value_cmp v w ≡ unfolded v w
-cmp_unfolded = compared_is the_members the_family the_depth Ordering Equal the_step local member-Value
+cmp_unfolded = compared_is the_members the_family the_depth Ordering Equal the_step local
+    member-Value
 
 -- against every other value the answer is that of the trees
 abbrev IsOfTrees : Value → Type 0
@@ -25,7 +27,9 @@ IsOfTrees v = (w : Value) → value_cmp v w ≡ tree_cmp (tree_of v) (tree_of w)
 abbrev Known : Type 0
 Known = (v : Value) × IsOfTrees v
 
-values_agree : (es : List Known) (ws : List Value) → slice_cmp value_cmp (map (λ e. e.0) es) ws ≡ trees_cmp (trees_of (map (λ e. e.0) es)) (trees_of ws)
+values_agree : (es : List Known) (ws : List Value) →
+    slice_cmp value_cmp (map (λ e. e.0) es) ws ≡ trees_cmp (trees_of (map (λ e. e.0) es))
+    (trees_of ws)
 values_agree [] [] = refl
 values_agree [] (w ∷ ws) = refl
 values_agree (e ∷ es) [] = refl
@@ -37,7 +41,9 @@ pair_cmp p q = ordering_then (value_cmp p.0 q.0) (value_cmp p.1 q.1)
 abbrev pair_of : Known × Known → Value × Value
 pair_of e = (e.0.0, e.1.0)
 
-pairs_agree : (es : List (Known × Known)) (ws : List (Value × Value)) → slice_cmp pair_cmp (map pair_of es) ws ≡ tree_pairs_cmp (tree_pairs_of (map pair_of es)) (tree_pairs_of ws)
+pairs_agree : (es : List (Known × Known)) (ws : List (Value × Value)) →
+    slice_cmp pair_cmp (map pair_of es) ws ≡ tree_pairs_cmp (tree_pairs_of (map pair_of es))
+    (tree_pairs_of ws)
 pairs_agree [] [] = refl
 pairs_agree [] (w ∷ ws) = refl
 pairs_agree (e ∷ es) [] = refl
@@ -46,14 +52,21 @@ pairs_agree (e ∷ es) (w ∷ ws) = rw (e.0.1, e.1.1, pairs_agree es ws)
 abbrev bare : Value-F Known → Value-F Value
 bare y = map-Value Known Value (λ e. e.0) y
 
-level_agrees : (y : Value-F Known) (z : Value-F Value) → value_cmp (roll-Value (bare y)) (roll-Value z) ≡ tree_cmp (tree_of (roll-Value (bare y))) (tree_of (roll-Value z))
-level_agrees (Value-F.Array vs) (Value-F.Array ws) = let e = values_agree vs.items ws.items in cmp_unfolded _ _ ∙ search (rules, the_lemmas, e)
-level_agrees (Value-F.Map vs) (Value-F.Map ws) = let e = pairs_agree vs.items ws.items in cmp_unfolded _ _ ∙ search (rules, the_lemmas, e)
-level_agrees (Value-F.Tag t v) (Value-F.Tag u w) = let e = v.value.1 w.value in cmp_unfolded _ _ ∙ search (rules, the_lemmas, e)
+level_agrees : (y : Value-F Known) (z : Value-F Value) →
+    value_cmp (roll-Value (bare y)) (roll-Value z) ≡ tree_cmp (tree_of (roll-Value (bare y)))
+    (tree_of (roll-Value z))
+level_agrees (Value-F.Array vs) (Value-F.Array ws) = let e = values_agree vs.items ws.items in
+    cmp_unfolded _ _ ∙ search (rules, the_lemmas, e)
+level_agrees (Value-F.Map vs) (Value-F.Map ws) = let e = pairs_agree vs.items ws.items in
+    cmp_unfolded _ _ ∙ search (rules, the_lemmas, e)
+level_agrees (Value-F.Tag t v) (Value-F.Tag u w) = let e = v.value.1 w.value in cmp_unfolded _ _ ∙
+    search (rules, the_lemmas, e)
 level_agrees (Value-F.Text x) (Value-F.Text z) = cmp_unfolded _ _ ∙ search (rules, the_lemmas)
 level_agrees y z = cmp_unfolded _ _ ∙ search (rules, the_lemmas)
 
 pub value_cmp-is : (v w : Value) → value_cmp v w ≡ tree_cmp (tree_of v) (tree_of w)
 value_cmp-is = ind-Value IsOfTrees (λ x y is w.
-    let Agrees : Value-F Value → Value → Type 0 = λ t u. value_cmp (roll-Value t) u ≡ tree_cmp (tree_of (roll-Value t)) (tree_of u) in
-    subst (Agrees x) (search (rules, the_lemmas)) (subst (λ t. Agrees t (roll-Value (out-Value w))) is (level_agrees y (out-Value w))))
+    let Agrees : Value-F Value → Value → Type 0 =
+    λ t u. value_cmp (roll-Value t) u ≡ tree_cmp (tree_of (roll-Value t)) (tree_of u) in
+    subst (Agrees x) (search (rules, the_lemmas))
+    (subst (λ t. Agrees t (roll-Value (out-Value w))) is (level_agrees y (out-Value w))))

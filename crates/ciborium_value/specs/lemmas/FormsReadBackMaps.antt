@@ -1,4 +1,5 @@
--- What is written of a map in its deterministic form is read back: the form has the same pairs in another order, and reading puts them in the order of the keys again.
+-- What is written of a map in its deterministic form is read back: the form has the same pairs in
+-- another order, and reading puts them in the order of the keys again.
 use Rattle.std.proofs.Common.{ap, sym, subst, ◌∙◌}
 use Rattle.std.proofs.lemmas.List.Elements.{All-head, All-tail}
 use Rattle.std.specs.BTreeMap.{BTreeMap, insert_entry}
@@ -12,16 +13,19 @@ use Rattle.std.specs.declared.cmp.Ordering.{Ordering}
 use Rattle.std.specs.declared.cmp.Ordering.TheVariants.{Less, Equal, Greater}
 use Rattle.ciborium_ll.specs.Item.{Item}
 use Rattle.ciborium_value.specs.Canonical.{key_order}
-use Rattle.ciborium_value.specs.DeterministicForms.{deterministic_form, inserted, pair_forms, placed_pair, sorted_pairs}
+use Rattle.ciborium_value.specs.DeterministicForms.{deterministic_form, inserted, pair_forms}
+use Rattle.ciborium_value.specs.DeterministicForms.{placed_pair, sorted_pairs}
 use Rattle.ciborium_value.specs.Encoding.{item_of, pairs_of, written_pairs, written_tree}
 use Rattle.ciborium_value.specs.FormsReadBack.{IsFormRead, IsReadFromForm}
-use Rattle.ciborium_value.specs.lemmas.GivenOutcomes.{mapped_gives, one_given, pair_gives, then_gives}
+use Rattle.ciborium_value.specs.lemmas.GivenOutcomes.{mapped_gives, one_given, pair_gives}
+use Rattle.ciborium_value.specs.lemmas.GivenOutcomes.{then_gives}
 use Rattle.ciborium_value.specs.Places.{dictionary, pairs_from}
 use Rattle.ciborium_value.specs.ReadsBack.{of_ok}
 use Rattle.ciborium_value.specs.lemmas.ReadsBackMaps.{IsMapHeld, put-contents}
 use Rattle.ciborium_value.specs.WrittenContents.{contents}
 use Rattle.ciborium_value.specs.Sinks.{Named, and_then, all_named, contained, container_of, in_turn}
-use Rattle.ciborium_value.specs.Taken.{Outcome, Taken, gives, and_take, outcome_map, take_each, then_take, unpack_pairs}
+use Rattle.ciborium_value.specs.Taken.{Outcome, Taken, gives, and_take, outcome_map, take_each}
+use Rattle.ciborium_value.specs.Taken.{then_take, unpack_pairs}
 use Rattle.ciborium_value.specs.TakenParts.{put_all, take_entry, taken_map}
 use Rattle.ciborium_value.specs.Tree as trees
 use Rattle.ciborium_value.specs.Tree.{Tree, TreePairs, no_tree_pairs, tree_pair}
@@ -36,7 +40,8 @@ data AreReordered {X : Type 0} : List X → List X → Type 0 where
   neighbours : {x y : X} {xs : List X} → AreReordered (x ∷ y ∷ xs) (y ∷ x ∷ xs)
   then_again : {xs ys zs : List X} → AreReordered xs ys → AreReordered ys zs → AreReordered xs zs
 
-all-reordered : {X : Type 0} (P : X → Type 0) {xs ys : List X} → AreReordered xs ys → AllByRecursion P xs → AllByRecursion P ys
+all-reordered : {X : Type 0} (P : X → Type 0) {xs ys : List X} → AreReordered xs ys →
+    AllByRecursion P xs → AllByRecursion P ys
 all-reordered P as_they_are h = h
 all-reordered P (behind r) h = (h.0, all-reordered P r h.1)
 all-reordered P neighbours h = (h.1.0, (h.0, h.1.1))
@@ -70,18 +75,27 @@ module _ {K V : Type 0} (cmp : K → K → Ordering) (total : IsTotalOrder cmp) 
   apart-turned d e h same = h (equal_where_equal total e.0 d.0 same)
 
   -- by how the key compares with that of the first entry
-  put-Less : (p : K × V) (es : List (K × V)) (e : K × V) → cmp e.0 p.0 ≡ Less → put_entry (p ∷ es) e ≡ (e.0, e.1) ∷ p ∷ es
-  put-Less p es e h = ap (λ o. match_ordering o ((e.0, e.1) ∷ p ∷ es) ((p.0, e.1) ∷ es) (p ∷ put_entry es e)) h
+  put-Less : (p : K × V) (es : List (K × V)) (e : K × V) → cmp e.0 p.0 ≡ Less →
+      put_entry (p ∷ es) e ≡ (e.0, e.1) ∷ p ∷ es
+  put-Less p es e h = ap (λ o. match_ordering o ((e.0, e.1) ∷ p ∷ es) ((p.0, e.1) ∷ es)
+      (p ∷ put_entry es e)) h
 
-  put-Equal : (p : K × V) (es : List (K × V)) (e : K × V) → cmp e.0 p.0 ≡ Equal → put_entry (p ∷ es) e ≡ (p.0, e.1) ∷ es
-  put-Equal p es e h = ap (λ o. match_ordering o ((e.0, e.1) ∷ p ∷ es) ((p.0, e.1) ∷ es) (p ∷ put_entry es e)) h
+  put-Equal : (p : K × V) (es : List (K × V)) (e : K × V) → cmp e.0 p.0 ≡ Equal →
+      put_entry (p ∷ es) e ≡ (p.0, e.1) ∷ es
+  put-Equal p es e h = ap (λ o. match_ordering o ((e.0, e.1) ∷ p ∷ es) ((p.0, e.1) ∷ es)
+      (p ∷ put_entry es e)) h
 
-  put-Greater : (p : K × V) (es : List (K × V)) (e : K × V) → cmp e.0 p.0 ≡ Greater → put_entry (p ∷ es) e ≡ p ∷ put_entry es e
-  put-Greater p es e h = ap (λ o. match_ordering o ((e.0, e.1) ∷ p ∷ es) ((p.0, e.1) ∷ es) (p ∷ put_entry es e)) h
+  put-Greater : (p : K × V) (es : List (K × V)) (e : K × V) → cmp e.0 p.0 ≡ Greater →
+      put_entry (p ∷ es) e ≡ p ∷ put_entry es e
+  put-Greater p es e h = ap (λ o. match_ordering o ((e.0, e.1) ∷ p ∷ es) ((p.0, e.1) ∷ es)
+      (p ∷ put_entry es e)) h
 
   -- before the same entries
-  front : (a b : Ordering) (d e : K × V) (es : List (K × V)) → a ≡ ordering_reverse b → (a ≡ Equal → ⊥) →
-      match_ordering a ((d.0, d.1) ∷ (e.0, e.1) ∷ es) ((e.0, d.1) ∷ es) ((e.0, e.1) ∷ (d.0, d.1) ∷ es) ≡ match_ordering b ((e.0, e.1) ∷ (d.0, d.1) ∷ es) ((d.0, e.1) ∷ es) ((d.0, d.1) ∷ (e.0, e.1) ∷ es)
+  front : (a b : Ordering) (d e : K × V) (es : List (K × V)) → a ≡ ordering_reverse b →
+      (a ≡ Equal → ⊥) →
+      match_ordering a ((d.0, d.1) ∷ (e.0, e.1) ∷ es) ((e.0, d.1) ∷ es)
+      ((e.0, e.1) ∷ (d.0, d.1) ∷ es) ≡ match_ordering b ((e.0, e.1) ∷ (d.0, d.1) ∷ es)
+      ((d.0, e.1) ∷ es) ((d.0, d.1) ∷ (e.0, e.1) ∷ es)
   front Less Greater d e es h apart = refl
   front Greater Less d e es h apart = refl
   front Equal b d e es h apart = absurd (apart refl)
@@ -97,43 +111,56 @@ module _ {K V : Type 0} (cmp : K → K → Ordering) (total : IsTotalOrder cmp) 
     less_less : IsApart d e → cmp d.0 p.0 ≡ Less → cmp e.0 p.0 ≡ Less → Commutes d e (p ∷ es)
     less_less apart h j =
         ap (λ xs. put_entry xs d) (put-Less p es e j)
-        ∙ ap (match_ordering (cmp d.0 e.0) ((d.0, d.1) ∷ (e.0, e.1) ∷ p ∷ es) ((e.0, d.1) ∷ p ∷ es)) (ap (λ xs. (e.0, e.1) ∷ xs) (put-Less p es d h))
+        ∙ ap (match_ordering (cmp d.0 e.0) ((d.0, d.1) ∷ (e.0, e.1) ∷ p ∷ es) ((e.0, d.1) ∷ p ∷ es))
+        (ap (λ xs. (e.0, e.1) ∷ xs) (put-Less p es d h))
         ∙ front (cmp d.0 e.0) (cmp e.0 d.0) d e (p ∷ es) (total.antisymm d.0 e.0) apart
         ∙ sym (ap (λ xs. put_entry xs e) (put-Less p es d h)
-        ∙ ap (match_ordering (cmp e.0 d.0) ((e.0, e.1) ∷ (d.0, d.1) ∷ p ∷ es) ((d.0, e.1) ∷ p ∷ es)) (ap (λ xs. (d.0, d.1) ∷ xs) (put-Less p es e j)))
+        ∙ ap (match_ordering (cmp e.0 d.0) ((e.0, e.1) ∷ (d.0, d.1) ∷ p ∷ es) ((d.0, e.1) ∷ p ∷ es))
+        (ap (λ xs. (d.0, d.1) ∷ xs) (put-Less p es e j)))
 
     less_equal : cmp d.0 p.0 ≡ Less → cmp e.0 p.0 ≡ Equal → Commutes d e (p ∷ es)
     less_equal h j =
-        let above : cmp e.0 d.0 ≡ Greater = total.congr e.0 p.0 d.0 j ∙ greater_where_less total d.0 p.0 h in
+        let above : cmp e.0 d.0 ≡ Greater = total.congr e.0 p.0 d.0 j ∙
+        greater_where_less total d.0 p.0 h in
         ap (λ xs. put_entry xs d) (put-Equal p es e j) ∙ put-Less (p.0, e.1) es d h
-        ∙ sym (ap (λ xs. put_entry xs e) (put-Less p es d h) ∙ put-Greater (d.0, d.1) (p ∷ es) e above ∙ ap (λ xs. (d.0, d.1) ∷ xs) (put-Equal p es e j))
+        ∙ sym (ap (λ xs. put_entry xs e) (put-Less p es d h) ∙
+        put-Greater (d.0, d.1) (p ∷ es) e above ∙
+        ap (λ xs. (d.0, d.1) ∷ xs) (put-Equal p es e j))
 
     less_greater : cmp d.0 p.0 ≡ Less → cmp e.0 p.0 ≡ Greater → Commutes d e (p ∷ es)
     less_greater h j =
-        let above : cmp e.0 d.0 ≡ Greater = greater_where_less total d.0 e.0 (total.trans d.0 p.0 e.0 h (less_where_greater total e.0 p.0 j)) in
+        let above : cmp e.0 d.0 ≡ Greater = greater_where_less total d.0 e.0
+        (total.trans d.0 p.0 e.0 h (less_where_greater total e.0 p.0 j)) in
         ap (λ xs. put_entry xs d) (put-Greater p es e j) ∙ put-Less p (put_entry es e) d h
-        ∙ sym (ap (λ xs. put_entry xs e) (put-Less p es d h) ∙ put-Greater (d.0, d.1) (p ∷ es) e above ∙ ap (λ xs. (d.0, d.1) ∷ xs) (put-Greater p es e j))
+        ∙ sym (ap (λ xs. put_entry xs e) (put-Less p es d h) ∙
+        put-Greater (d.0, d.1) (p ∷ es) e above ∙
+        ap (λ xs. (d.0, d.1) ∷ xs) (put-Greater p es e j))
 
     equal_greater : cmp d.0 p.0 ≡ Equal → cmp e.0 p.0 ≡ Greater → Commutes d e (p ∷ es)
     equal_greater h j =
         ap (λ xs. put_entry xs d) (put-Greater p es e j) ∙ put-Equal p (put_entry es e) d h
         ∙ sym (ap (λ xs. put_entry xs e) (put-Equal p es d h) ∙ put-Greater (p.0, d.1) es e j)
 
-    greater_greater : cmp d.0 p.0 ≡ Greater → cmp e.0 p.0 ≡ Greater → Commutes d e es → Commutes d e (p ∷ es)
+    greater_greater : cmp d.0 p.0 ≡ Greater → cmp e.0 p.0 ≡ Greater → Commutes d e es →
+        Commutes d e (p ∷ es)
     greater_greater h j same =
-        ap (λ xs. put_entry xs d) (put-Greater p es e j) ∙ put-Greater p (put_entry es e) d h ∙ ap (λ xs. p ∷ xs) same
-        ∙ sym (ap (λ xs. put_entry xs e) (put-Greater p es d h) ∙ put-Greater p (put_entry es d) e j)
+        ap (λ xs. put_entry xs d) (put-Greater p es e j) ∙ put-Greater p (put_entry es e) d h ∙
+        ap (λ xs. p ∷ xs) same
+        ∙ sym (ap (λ xs. put_entry xs e) (put-Greater p es d h) ∙
+        put-Greater p (put_entry es d) e j)
 
   commutes : (d e : K × V) (es : List (K × V)) → IsApart d e → Commutes d e es
   commutes d e [] apart = front (cmp d.0 e.0) (cmp e.0 d.0) d e [] (total.antisymm d.0 e.0) apart
   commutes d e (p ∷ es) apart = by (commutes d e es apart) (cmp d.0 p.0) (cmp e.0 p.0) refl refl
     where
-      by : Commutes d e es → (a b : Ordering) → cmp d.0 p.0 ≡ a → cmp e.0 p.0 ≡ b → Commutes d e (p ∷ es)
+      by : Commutes d e es → (a b : Ordering) → cmp d.0 p.0 ≡ a → cmp e.0 p.0 ≡ b →
+          Commutes d e (p ∷ es)
       by same Less Less h j = less_less d e p es apart h j
       by same Less Equal h j = less_equal d e p es h j
       by same Less Greater h j = less_greater d e p es h j
       by same Equal Less h j = sym (less_equal e d p es j h)
-      by same Equal Equal h j = absurd (apart (total.congr d.0 p.0 e.0 h ∙ equal_where_equal total e.0 p.0 j))
+      by same Equal Equal h j = absurd (apart
+          (total.congr d.0 p.0 e.0 h ∙ equal_where_equal total e.0 p.0 j))
       by same Equal Greater h j = equal_greater d e p es h j
       by same Greater Less h j = sym (less_greater e d p es j h)
       by same Greater Equal h j = sym (equal_greater e d p es j h)
@@ -145,15 +172,22 @@ module _ {K V : Type 0} (cmp : K → K → Ordering) (total : IsTotalOrder cmp) 
   apart-reordered (neighbours {x} {y}) h = ((apart-turned x y h.0.0, h.1.0), (h.0.1, h.1.1))
   apart-reordered (then_again r s) h = apart-reordered s (apart-reordered r h)
 
-  put-reordered : {ds es : List (K × V)} → AreReordered ds es → AreKeysApart ds → (xs : List (K × V)) → put_all cmp xs ds ≡ put_all cmp xs es
+  put-reordered : {ds es : List (K × V)} → AreReordered ds es → AreKeysApart ds →
+      (xs : List (K × V)) → put_all cmp xs ds ≡ put_all cmp xs es
   put-reordered as_they_are h xs = refl
   put-reordered (behind {x} r) h xs = put-reordered r h.1 (put_entry xs x)
-  put-reordered (neighbours {x} {y} {xs = zs}) h xs = ap (λ ys. put_all cmp ys zs) (commutes y x xs (apart-turned x y h.0.0))
-  put-reordered (then_again r s) h xs = put-reordered r h xs ∙ put-reordered s (apart-reordered r h) xs
+  put-reordered (neighbours {x} {y} {xs = zs}) h xs =
+      ap (λ ys. put_all cmp ys zs) (commutes y x xs (apart-turned x y h.0.0))
+  put-reordered (then_again r s) h xs = put-reordered r h xs ∙
+      put-reordered s (apart-reordered r h) xs
 
-  above-apart : (e : K × V) (es : List (K × V)) → AllByRecursion (λ k. cmp e.0 k ≡ Less) (keys_of es) → AllByRecursion (IsApart e) es
+  above-apart : (e : K × V) (es : List (K × V)) →
+      AllByRecursion (λ k. cmp e.0 k ≡ Less) (keys_of es) → AllByRecursion (IsApart e) es
   above-apart e [] h = tt
-  above-apart e (p ∷ es) h = ((λ same. absurd (let no : Less ≡ Equal = sym h.0 ∙ same in cc)), above-apart e es h.1)
+  above-apart e (p ∷ es) h = (
+    (λ same. absurd (let no : Less ≡ Equal = sym h.0 ∙ same in cc)),
+    above-apart e es h.1,
+  )
 
   sorted-apart : (es : List (K × V)) → IsStrictlySortedBy cmp (keys_of es) → AreKeysApart es
   unfolding IsStrictlySortedBy
@@ -161,118 +195,196 @@ module _ {K V : Type 0} (cmp : K → K → Ordering) (total : IsTotalOrder cmp) 
   sorted-apart (e ∷ es) h = (above-apart e es h.0, sorted-apart es h.1)
 
   -- what counts of the entries is put in as they are
-  module _ {A B : Type 0} (order : A → A → Ordering) (key : K → A) (value : V → B) (orders : (a b : K) → cmp a b ≡ order (key a) (key b)) where
-    matched : (a : Ordering) (e p : K × V) (es : List (K × V)) (cs : List (A × B)) → cs ≡ contents key value (put_entry es e) →
-        match_ordering a ((key e.0, value e.1) ∷ contents key value (p ∷ es)) ((key p.0, value e.1) ∷ contents key value es) ((key p.0, value p.1) ∷ cs) ≡ contents key value (match_ordering a ((e.0, e.1) ∷ p ∷ es) ((p.0, e.1) ∷ es) (p ∷ put_entry es e))
+  module _ {A B : Type 0} (order : A → A → Ordering) (key : K → A) (value : V → B)
+      (orders : (a b : K) → cmp a b ≡ order (key a) (key b)) where
+    matched : (a : Ordering) (e p : K × V) (es : List (K × V)) (cs : List (A × B)) →
+        cs ≡ contents key value (put_entry es e) →
+        match_ordering a ((key e.0, value e.1) ∷ contents key value (p ∷ es))
+        ((key p.0, value e.1) ∷ contents key value es) ((key p.0, value p.1) ∷ cs) ≡ contents
+        key value (match_ordering a ((e.0, e.1) ∷ p ∷ es) ((p.0, e.1) ∷ es)
+        (p ∷ put_entry es e))
     matched Less e p es cs h = refl
     matched Equal e p es cs h = refl
     matched Greater e p es cs h = ap (λ ds. (key p.0, value p.1) ∷ ds) h
 
-    one-put : (es : List (K × V)) (e : K × V) → insert_entry order (contents key value es) (key e.0) (value e.1) ≡ contents key value (put_entry es e)
+    one-put : (es : List (K × V)) (e : K × V) →
+        insert_entry order (contents key value es) (key e.0) (value e.1) ≡ contents key value
+        (put_entry es e)
     one-put [] e = refl
     one-put (p ∷ es) e =
         let cs = insert_entry order (contents key value es) (key e.0) (value e.1) in
-        ap (λ a. match_ordering a ((key e.0, value e.1) ∷ contents key value (p ∷ es)) ((key p.0, value e.1) ∷ contents key value es) ((key p.0, value p.1) ∷ cs)) (sym (orders e.0 p.0))
+        ap (λ a. match_ordering a ((key e.0, value e.1) ∷ contents key value (p ∷ es))
+        ((key p.0, value e.1) ∷ contents key value es) ((key p.0, value p.1) ∷ cs))
+        (sym (orders e.0 p.0))
         ∙ matched (cmp e.0 p.0) e p es cs (one-put es e)
 
-    all-put : (xs es : List (K × V)) → put_all order (contents key value xs) (contents key value es) ≡ contents key value (put_all cmp xs es)
+    all-put : (xs es : List (K × V)) → put_all order (contents key value xs) (contents key value es)
+        ≡ contents key value (put_all cmp xs es)
     all-put xs [] = refl
-    all-put xs (e ∷ es) = ap (λ ys. put_all order ys (contents key value es)) (one-put xs e) ∙ all-put (put_entry xs e) es
+    all-put xs (e ∷ es) = ap (λ ys. put_all order ys (contents key value es)) (one-put xs e) ∙
+        all-put (put_entry xs e) es
 
     -- of a map's entries, in any order
-    reordered-contents : (es fs : List (K × V)) → AreReordered es fs → IsStrictlySortedBy cmp (keys_of es) → put_all order [] (contents key value fs) ≡ contents key value es
+    reordered-contents : (es fs : List (K × V)) → AreReordered es fs →
+        IsStrictlySortedBy cmp (keys_of es) →
+        put_all order [] (contents key value fs) ≡ contents key value es
     reordered-contents es fs r h =
-        all-put [] fs ∙ sym (all-put [] es ∙ ap (contents key value) (put-reordered r (sorted-apart es h) [])) ∙ put-contents cmp order key value total orders es h
+        all-put [] fs ∙ sym (all-put [] es ∙ ap (contents key value)
+        (put-reordered r (sorted-apart es h) [])) ∙
+        put-contents cmp order key value total orders es h
 
 -- ---- the pairs of a form
 
 -- a test of a pair's items: they are read as what counts of an entry
-module _ {K V A B : Type 0} (key : K → A) (value : V → B) (take : Item × Item → Outcome (A × B)) where
-  -- of each pair, and as many
-  abbrev AreRead : TreePairs → List (K × V) → Type 0
-  AreRead no_tree_pairs [] = Unit {0}
-  AreRead no_tree_pairs (e ∷ es) = ⊥
-  AreRead (tree_pair k v ps) [] = ⊥
-  AreRead (tree_pair k v ps) (e ∷ es) = (take (item_of k, item_of v) ≡ gives (key e.0, value e.1)) × AreRead ps es
+module _ {K V A B : Type 0} (key : K → A) (value : V → B) (take : Item × Item → Outcome (A × B))
+  where
+    -- of each pair, and as many
+    abbrev AreRead : TreePairs → List (K × V) → Type 0
+    AreRead no_tree_pairs [] = Unit {0}
+    AreRead no_tree_pairs (e ∷ es) = ⊥
+    AreRead (tree_pair k v ps) [] = ⊥
+    AreRead (tree_pair k v ps) (e ∷ es) = (take (item_of k, item_of v) ≡ gives (key e.0, value e.1))
+        ×
+        AreRead ps es
 
-  each-read : (ps : TreePairs) (es : List (K × V)) → AreRead ps es → take_each take (unpack_pairs (pairs_of ps)) ≡ gives (contents key value es)
-  each-read no_tree_pairs [] h = refl
-  each-read no_tree_pairs (e ∷ es) h = absurd h
-  each-read (tree_pair k v ps) [] h = absurd h
-  each-read (tree_pair k v ps) (e ∷ es) h =
-      ap (λ o. and_take o (take_each take (unpack_pairs (pairs_of ps)))) h.0 ∙ ap (and_take (gives (key e.0, value e.1))) (each-read ps es h.1)
+    each-read : (ps : TreePairs) (es : List (K × V)) → AreRead ps es →
+        take_each take (unpack_pairs (pairs_of ps)) ≡ gives (contents key value es)
+    each-read no_tree_pairs [] h = refl
+    each-read no_tree_pairs (e ∷ es) h = absurd h
+    each-read (tree_pair k v ps) [] h = absurd h
+    each-read (tree_pair k v ps) (e ∷ es) h =
+        ap (λ o. and_take o (take_each take (unpack_pairs (pairs_of ps)))) h.0 ∙
+        ap (and_take (gives (key e.0, value e.1))) (each-read ps es h.1)
 
-  -- these pairs are read as those entries, in some order
-  abbrev AreReadInSomeOrder : TreePairs → List (K × V) → Type 0
-  AreReadInSomeOrder ps es = (fs : List (K × V)) × AreReordered es fs × AreRead ps fs
+    -- these pairs are read as those entries, in some order
+    abbrev AreReadInSomeOrder : TreePairs → List (K × V) → Type 0
+    AreReadInSomeOrder ps es = (fs : List (K × V)) × AreReordered es fs × AreRead ps fs
 
-  inserted-read : (o : KeyOrder) (k v : Tree) (e : K × V) (ps qs : TreePairs) (es : List (K × V)) → take (item_of k, item_of v) ≡ gives (key e.0, value e.1) → AreRead ps es → inserted o k v ps ≡ gives qs → AreReadInSomeOrder qs (e ∷ es)
-  inserted-read o k v e no_tree_pairs qs [] here h put_entry = (e ∷ [], as_they_are, subst (λ rs. AreRead rs (e ∷ [])) (one_given (tree_pair k v no_tree_pairs) qs put_entry) (here, tt))
-  inserted-read o k v e no_tree_pairs qs (d ∷ es) here h put_entry = absurd h
-  inserted-read o k v e (tree_pair l w ps) qs [] here h put_entry = absurd h
-  inserted-read o k v e (tree_pair l w ps) qs (d ∷ es) here h put_entry = by (λ rs is. inserted-read o k v e ps rs es here h.1 is) (key_order o k l) put_entry
-    where
-      by : ((rs : TreePairs) → inserted o k v ps ≡ gives rs → AreReadInSomeOrder rs (e ∷ es)) → (a : Ordering) → placed_pair a k v l w ps (inserted o k v ps) ≡ gives qs → AreReadInSomeOrder qs (e ∷ d ∷ es)
-      by more Less is = (e ∷ d ∷ es, as_they_are, subst (λ rs. AreRead rs (e ∷ d ∷ es)) (one_given (tree_pair k v (tree_pair l w ps)) qs is) (here, h))
-      by more Equal is = absurd cc
-      by more Greater is =
-          let (rs, there, same) = mapped_gives (tree_pair l w) (inserted o k v ps) qs is in
-          let (fs, r, each) = more rs there in
-          (d ∷ fs, then_again neighbours (behind r), subst (λ us. AreRead us (d ∷ fs)) same (h.0, each))
+    inserted-read : (o : KeyOrder) (k v : Tree) (e : K × V) (ps qs : TreePairs) (es : List (K × V))
+        →
+        take (item_of k, item_of v) ≡ gives (key e.0, value e.1) → AreRead ps es →
+        inserted o k v ps ≡ gives qs → AreReadInSomeOrder qs (e ∷ es)
+    inserted-read o k v e no_tree_pairs qs [] here h put_entry = (
+      e ∷ [],
+      as_they_are,
+      subst (λ rs. AreRead rs (e ∷ []))
+          (one_given (tree_pair k v no_tree_pairs) qs put_entry) (here, tt),
+    )
+    inserted-read o k v e no_tree_pairs qs (d ∷ es) here h put_entry = absurd h
+    inserted-read o k v e (tree_pair l w ps) qs [] here h put_entry = absurd h
+    inserted-read o k v e (tree_pair l w ps) qs (d ∷ es) here h put_entry =
+        by (λ rs is. inserted-read o k v e ps rs es here h.1 is) (key_order o k l) put_entry
+      where
+        by : ((rs : TreePairs) → inserted o k v ps ≡ gives rs → AreReadInSomeOrder rs (e ∷ es)) →
+            (a : Ordering) → placed_pair a k v l w ps (inserted o k v ps) ≡ gives qs →
+            AreReadInSomeOrder qs (e ∷ d ∷ es)
+        by more Less is = (
+          e ∷ d ∷ es,
+          as_they_are,
+          subst (λ rs. AreRead rs (e ∷ d ∷ es)) (one_given (tree_pair k v (tree_pair l w ps)) qs is)
+              (here, h),
+        )
+        by more Equal is = absurd cc
+        by more Greater is =
+            let (rs, there, same) = mapped_gives (tree_pair l w) (inserted o k v ps) qs is in
+            let (fs, r, each) = more rs there in (
+              d ∷ fs,
+              then_again neighbours (behind r),
+              subst (λ us. AreRead us (d ∷ fs)) same (h.0, each),
+            )
 
-  sorted-read : (o : KeyOrder) (ps qs : TreePairs) (es : List (K × V)) → AreRead ps es → sorted_pairs o ps ≡ gives qs → AreReadInSomeOrder qs es
-  sorted-read o no_tree_pairs qs es h sorted = (es, as_they_are, subst (λ rs. AreRead rs es) (one_given no_tree_pairs qs sorted) h)
-  sorted-read o (tree_pair k v ps) qs [] h sorted = absurd h
-  sorted-read o (tree_pair k v ps) qs (e ∷ es) h sorted =
-      let (rs, is, put_entry) = then_gives (sorted_pairs o ps) (inserted o k v) qs sorted in
-      let (fs, r, each) = sorted-read o ps rs es h.1 is in
-      let (gs, s, all) = inserted-read o k v e rs qs fs h.0 each put_entry in
-      (gs, then_again (behind r) s, all)
+    sorted-read : (o : KeyOrder) (ps qs : TreePairs) (es : List (K × V)) → AreRead ps es →
+        sorted_pairs o ps ≡ gives qs → AreReadInSomeOrder qs es
+    sorted-read o no_tree_pairs qs es h sorted =
+        (es, as_they_are, subst (λ rs. AreRead rs es) (one_given no_tree_pairs qs sorted) h)
+    sorted-read o (tree_pair k v ps) qs [] h sorted = absurd h
+    sorted-read o (tree_pair k v ps) qs (e ∷ es) h sorted =
+        let (rs, is, put_entry) = then_gives (sorted_pairs o ps) (inserted o k v) qs sorted in
+        let (fs, r, each) = sorted-read o ps rs es h.1 is in
+        let (gs, s, all) = inserted-read o k v e rs qs fs h.0 each put_entry in
+        (gs, then_again (behind r) s, all)
 
 -- ---- maps
 
 module _ (o : KeyOrder) where
-  -- the forms of the keys and values that are named, if there are such, are read as these entries, as they stand
+  -- the forms of the keys and values that are named, if there are such, are read as these entries,
+  -- as they stand
   module _ {K V A B : Type 0} (key : K → A) (value : V → B) (f : Taken A) (g : Taken B) where
     abbrev take : Item × Item → Outcome (A × B)
     take p = take_entry (f None) (g None) p
 
     abbrev AreEntriesRead : Result (List Item) Kind → List (K × V) → Type 0
-    AreEntriesRead s es = IfOk s (λ is. (ps : TreePairs) → pair_forms o (written_pairs (pairs_from is)) ≡ gives ps → AreRead key value take ps es)
+    AreEntriesRead s es = IfOk s (λ is. (ps : TreePairs) →
+        pair_forms o (written_pairs (pairs_from is)) ≡ gives ps → AreRead key value take ps es)
 
-    entry-read : (i j : Item) (e : K × V) → f None i ≡ gives (key e.0) → g None j ≡ gives (value e.1) → take (i, j) ≡ gives (key e.0, value e.1)
-    entry-read i j e h m = ap (λ r. then_take r (λ a. then_take (g None j) (λ b. gives (a, b)))) h ∙ ap (λ r. then_take r (λ b. gives (key e.0, b))) m
+    entry-read : (i j : Item) (e : K × V) → f None i ≡ gives (key e.0) →
+        g None j ≡ gives (value e.1) → take (i, j) ≡ gives (key e.0, value e.1)
+    entry-read i j e h m = ap (λ r. then_take r (λ a. then_take (g None j) (λ b. gives (a, b)))) h ∙
+        ap (λ r. then_take r (λ b. gives (key e.0, b))) m
 
-    pair-form : (r s : Named) (t : Result (List Item) Kind) (e : K × V) (es : List (K × V)) → IsFormRead o r f (key e.0) → IsFormRead o s g (value e.1) → AreEntriesRead t es → AreEntriesRead (and_then r (and_then s t)) (e ∷ es)
+    pair-form : (r s : Named) (t : Result (List Item) Kind) (e : K × V) (es : List (K × V)) →
+        IsFormRead o r f (key e.0) → IsFormRead o s g (value e.1) → AreEntriesRead t es →
+        AreEntriesRead (and_then r (and_then s t)) (e ∷ es)
     pair-form (Ok i) (Ok j) (Ok is) e es h m rest = λ ps forms.
-        let (k, v, qs, one, other, more, same) = pair_gives (deterministic_form o (written_tree i)) (deterministic_form o (written_tree j)) (pair_forms o (written_pairs (pairs_from is))) ps forms in
-        subst (λ us. AreRead key value take us (e ∷ es)) same (entry-read (item_of k) (item_of v) e (h.back i refl k one) (m.back j refl v other), rest qs more)
+        let (k, v, qs, one, other, more, same) =
+        pair_gives (deterministic_form o (written_tree i))
+        (deterministic_form o (written_tree j)) (pair_forms o (written_pairs (pairs_from is)))
+        ps forms in
+        subst (λ us. AreRead key value take us (e ∷ es)) same (
+          entry-read (item_of k) (item_of v) e (h.back i refl k one) (m.back j refl v other),
+          rest qs more,
+        )
     pair-form (Ok i) (Ok j) (Err k) e es h m rest = tt
     pair-form (Ok i) (Err k) t e es h m rest = tt
     pair-form (Err k) s t e es h m rest = tt
 
-    inside : (order : A → A → Ordering) (s : Result (List Item) Kind) (es : List (K × V)) → ((fs : List (K × V)) → AreReordered es fs → put_all order [] (contents key value fs) ≡ contents key value es) → AreEntriesRead s es →
-        IfOk (contained dictionary false s) (λ i. (t : Tree) → deterministic_form o (written_tree i) ≡ gives t → taken_map order f g None (item_of t) ≡ gives (contents key value es))
+    inside : (order : A → A → Ordering) (s : Result (List Item) Kind) (es : List (K × V)) →
+        ((fs : List (K × V)) → AreReordered es fs →
+        put_all order [] (contents key value fs) ≡ contents key value es) → AreEntriesRead s es →
+        IfOk (contained dictionary false s) (λ i. (t : Tree) →
+        deterministic_form o (written_tree i) ≡ gives t →
+        taken_map order f g None (item_of t) ≡ gives (contents key value es))
     inside order (Ok is) es h each = λ t form.
-        let (qs, there, same) = mapped_gives trees.map (then_take (pair_forms o (written_pairs (pairs_from is))) (sorted_pairs o)) t form in
-        let (ps, forms, sorted) = then_gives (pair_forms o (written_pairs (pairs_from is))) (sorted_pairs o) qs there in
+        let (qs, there, same) = mapped_gives trees.map
+        (then_take (pair_forms o (written_pairs (pairs_from is))) (sorted_pairs o)) t form in
+        let (ps, forms, sorted) = then_gives (pair_forms o (written_pairs (pairs_from is)))
+        (sorted_pairs o) qs there in
         let (fs, r, all) = sorted-read key value take o ps qs es (each ps forms) sorted in
-        subst (λ u. taken_map order f g None (item_of u) ≡ gives (contents key value es)) same (ap (outcome_map (put_all order [])) (each-read key value take qs fs all) ∙ ap gives (h fs r))
+        subst (λ u. taken_map order f g None (item_of u) ≡ gives (contents key value es)) same
+        (ap (outcome_map (put_all order [])) (each-read key value take qs fs all) ∙
+        ap gives (h fs r))
     inside order (Err k) es h each = tt
 
-  module _ {K A : Type 0} {IsKeyHeld : K → Type 0} {key_written : K → Named} {key_taken : Taken A} {key : K → A} (key_form : IsReadFromForm o IsKeyHeld key_written key_taken key) where
-    module _ {V B : Type 0} {IsValueHeld : V → Type 0} {value_written : V → Named} {value_taken : Taken B} {value : V → B} (value_form : IsReadFromForm o IsValueHeld value_written value_taken value) where
-      entries-form : (es : List (K × V)) → All (λ e. IsKeyHeld e.0 × IsValueHeld e.1) es → AreEntriesRead key value key_taken value_taken (all_named (in_turn key_written value_written es)) es
-      entries-form [] held = λ ps forms. subst (λ us. AreRead key value (take key value key_taken value_taken) us []) (one_given no_tree_pairs ps forms) tt
+  module _ {K A : Type 0} {IsKeyHeld : K → Type 0} {key_written : K → Named} {key_taken : Taken A}
+      {key : K → A} (key_form : IsReadFromForm o IsKeyHeld key_written key_taken key) where
+    module _ {V B : Type 0} {IsValueHeld : V → Type 0} {value_written : V → Named}
+        {value_taken : Taken B} {value : V → B}
+        (value_form : IsReadFromForm o IsValueHeld value_written value_taken value) where
+      entries-form : (es : List (K × V)) → All (λ e. IsKeyHeld e.0 × IsValueHeld e.1) es →
+          AreEntriesRead key value key_taken value_taken
+          (all_named (in_turn key_written value_written es)) es
+      entries-form [] held = λ ps forms. subst
+          (λ us. AreRead key value (take key value key_taken value_taken) us [])
+          (one_given no_tree_pairs ps forms) tt
       entries-form (e ∷ es) held =
           let first = All-head (λ e. IsKeyHeld e.0 × IsValueHeld e.1) e es held in
-          pair-form key value key_taken value_taken (key_written e.0) (value_written e.1) (all_named (in_turn key_written value_written es)) e es
-          (key_form e.0 first.0) (value_form e.1 first.1) (entries-form es (All-tail (λ e. IsKeyHeld e.0 × IsValueHeld e.1) e es held))
+          pair-form key value key_taken value_taken (key_written e.0) (value_written e.1)
+          (all_named (in_turn key_written value_written es)) e es
+          (key_form e.0 first.0) (value_form e.1 first.1)
+          (entries-form es (All-tail (λ e. IsKeyHeld e.0 × IsValueHeld e.1) e es held))
 
-      pub map-form : (cmp : K → K → Ordering) (order : A → A → Ordering) → IsTotalOrder cmp → ((a b : K) → cmp a b ≡ order (key a) (key b)) → (m : BTreeMap K V) → IsMapHeld cmp IsKeyHeld IsValueHeld m →
-          IsFormRead o (container_of dictionary (in_turn key_written value_written m.entries)) (taken_map order key_taken value_taken) (contents key value m.entries)
+      pub map-form : (cmp : K → K → Ordering) (order : A → A → Ordering) → IsTotalOrder cmp →
+          ((a b : K) → cmp a b ≡ order (key a) (key b)) → (m : BTreeMap K V) →
+          IsMapHeld cmp IsKeyHeld IsValueHeld m →
+          IsFormRead o (container_of dictionary (in_turn key_written value_written m.entries))
+          (taken_map order key_taken value_taken) (contents key value m.entries)
       map-form cmp order total orders m held =
           let parts = all_named (in_turn key_written value_written m.entries) in record {
-            back = of_ok (contained dictionary false parts) (λ i. (t : Tree) → deterministic_form o (written_tree i) ≡ gives t → taken_map order key_taken value_taken None (item_of t) ≡ gives (contents key value m.entries))
-                (inside key value key_taken value_taken order parts m.entries (λ fs r. reordered-contents cmp total order key value orders m.entries fs r held.0) (entries-form m.entries held.1));
+            back = of_ok (contained dictionary false parts)
+                (λ i. (t : Tree) → deterministic_form o (written_tree i) ≡ gives t →
+                taken_map order key_taken value_taken None (item_of t) ≡ gives
+                (contents key value m.entries))
+                (inside key value key_taken value_taken order parts m.entries
+                (λ fs r. reordered-contents cmp total order key value orders m.entries fs r
+                held.0) (entries-form m.entries held.1));
           }

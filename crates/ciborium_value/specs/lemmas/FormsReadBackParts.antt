@@ -1,4 +1,5 @@
--- What is written in its deterministic form is read back, for what is made of others: lists and tuples.
+-- What is written in its deterministic form is read back, for what is made of others: lists and
+-- tuples.
 use Rattle.std.proofs.Common.{ap, ◌∙◌, subst}
 use Rattle.std.proofs.lemmas.List.Elements.{All-head, All-tail}
 use Rattle.std.specs.List.{All}
@@ -13,8 +14,11 @@ use Rattle.ciborium_value.specs.Places.{sequence, items_from}
 use Rattle.ciborium_value.specs.ReadsBack.{of_ok}
 use Rattle.ciborium_value.specs.Sinks.{Named, and_then, all_named, contained, container_of}
 use Rattle.ciborium_value.specs.lemmas.Steady.{after_seq}
-use Rattle.ciborium_value.specs.Taken.{Outcome, Taken, gives, and_take, take_each, then_take, unpack}
-use Rattle.ciborium_value.specs.TakenParts.{list_items, taken_list, tuple_part, tuple_rest, tuple1_items, taken_tuple1, tuple2_items, taken_tuple2, tuple3_items, taken_tuple3, tuple4_items, taken_tuple4}
+use Rattle.ciborium_value.specs.Taken.{Outcome, Taken, gives, and_take, take_each, then_take}
+use Rattle.ciborium_value.specs.Taken.{unpack}
+use Rattle.ciborium_value.specs.TakenParts.{list_items, taken_list, tuple_part, tuple_rest}
+use Rattle.ciborium_value.specs.TakenParts.{tuple1_items, taken_tuple1, tuple2_items, taken_tuple2}
+use Rattle.ciborium_value.specs.TakenParts.{tuple3_items, taken_tuple3, tuple4_items, taken_tuple4}
 use Rattle.ciborium_value.specs.Tree as trees
 use Rattle.ciborium_value.specs.Tree.{Tree, Trees}
 use Rattle.ciborium_value.specs.declared.key_order.KeyOrder.{KeyOrder}
@@ -22,77 +26,123 @@ use Rattle.ciborium_value.specs.declared.kind.Kind.{Kind}
 
 module _ (o : KeyOrder) where
   -- the forms of all that is named, if there are such, are read as this content
-  abbrev AreFormsRead : {C : Type 0} → Result (List Item) Kind → (List Item → Outcome C) → C → Type 0
-  AreFormsRead s k c = IfOk s (λ is. (ts : Trees) → deterministic_forms o (written_trees (items_from is)) ≡ gives ts → k (unpack (items_of ts)) ≡ gives c)
+  abbrev AreFormsRead : {C : Type 0} → Result (List Item) Kind → (List Item → Outcome C) → C →
+      Type 0
+  AreFormsRead s k c = IfOk s (λ is. (ts : Trees) →
+      deterministic_forms o (written_trees (items_from is)) ≡ gives ts →
+      k (unpack (items_of ts)) ≡ gives c)
 
-  inside : {C : Type 0} (k : Limit → List Item → Outcome C) (s : Result (List Item) Kind) (c : C) → AreFormsRead s (k None) c →
-      IfOk (contained sequence false s) (λ i. (t : Tree) → deterministic_form o (written_tree i) ≡ gives t → after_seq k None (item_of t) ≡ gives c)
+  inside : {C : Type 0} (k : Limit → List Item → Outcome C) (s : Result (List Item) Kind) (c : C) →
+      AreFormsRead s (k None) c →
+      IfOk (contained sequence false s) (λ i. (t : Tree) →
+      deterministic_form o (written_tree i) ≡ gives t → after_seq k None (item_of t) ≡ gives c)
   inside k (Ok is) c h = λ t form.
-      let (ts, forms, same) = mapped_gives trees.array (deterministic_forms o (written_trees (items_from is))) t form in
+      let (ts, forms, same) = mapped_gives trees.array
+      (deterministic_forms o (written_trees (items_from is))) t form in
       subst (λ u. after_seq k None (item_of u) ≡ gives c) same (h ts forms)
   inside k (Err e) c h = tt
 
-  sequence-form : {C : Type 0} (k : Limit → List Item → Outcome C) (s : Result (List Item) Kind) (c : C) → AreFormsRead s (k None) c → IsFormRead o (contained sequence false s) (after_seq k) c
-  sequence-form k s c h = record { back = of_ok (contained sequence false s) (λ i. (t : Tree) → deterministic_form o (written_tree i) ≡ gives t → after_seq k None (item_of t) ≡ gives c) (inside k s c h) }
+  sequence-form : {C : Type 0} (k : Limit → List Item → Outcome C) (s : Result (List Item) Kind)
+      (c : C) → AreFormsRead s (k None) c → IsFormRead o (contained sequence false s) (after_seq k)
+      c
+  sequence-form k s c h = record {
+    back = of_ok (contained sequence false s)
+        (λ i. (t : Tree) → deterministic_form o (written_tree i) ≡ gives t →
+        after_seq k None (item_of t) ≡ gives c) (inside k s c h);
+  }
 
   -- the form of one before those of others
   module _ {C : Type 0} (k : List Item → Outcome C) (c : C) where
     both : (r : Named) (s : Result (List Item) Kind) →
-        ((i : Item) (is : List Item) → r ≡ Ok i → s ≡ Ok is → (w : Tree) (ws : Trees) → deterministic_form o (written_tree i) ≡ gives w → deterministic_forms o (written_trees (items_from is)) ≡ gives ws → k (item_of w ∷ unpack (items_of ws)) ≡ gives c) →
+        ((i : Item) (is : List Item) → r ≡ Ok i → s ≡ Ok is → (w : Tree) (ws : Trees) →
+        deterministic_form o (written_tree i) ≡ gives w →
+        deterministic_forms o (written_trees (items_from is)) ≡ gives ws →
+        k (item_of w ∷ unpack (items_of ws)) ≡ gives c) →
         AreFormsRead (and_then r s) k c
     both (Ok i) (Ok is) h = λ ts forms.
-        let (w, ws, one, rest, same) = more_gives (deterministic_form o (written_tree i)) (deterministic_forms o (written_trees (items_from is))) ts forms in
+        let (w, ws, one, rest, same) = more_gives (deterministic_form o (written_tree i))
+        (deterministic_forms o (written_trees (items_from is))) ts forms in
         subst (λ us. k (unpack (items_of us)) ≡ gives c) same (h i is refl refl w ws one rest)
     both (Ok i) (Err e) h = tt
     both (Err e) s h = tt
 
-  rest-read : {C : Type 0} (s : Result (List Item) Kind) (k : List Item → Outcome C) (c : C) → AreFormsRead s k c → (is : List Item) → s ≡ Ok is → (ts : Trees) → deterministic_forms o (written_trees (items_from is)) ≡ gives ts → k (unpack (items_of ts)) ≡ gives c
-  rest-read s k c h = of_ok s (λ is. (ts : Trees) → deterministic_forms o (written_trees (items_from is)) ≡ gives ts → k (unpack (items_of ts)) ≡ gives c) h
+  rest-read : {C : Type 0} (s : Result (List Item) Kind) (k : List Item → Outcome C) (c : C) →
+      AreFormsRead s k c → (is : List Item) → s ≡ Ok is → (ts : Trees) →
+      deterministic_forms o (written_trees (items_from is)) ≡ gives ts →
+      k (unpack (items_of ts)) ≡ gives c
+  rest-read s k c h = of_ok s (λ is. (ts : Trees) →
+      deterministic_forms o (written_trees (items_from is)) ≡ gives ts →
+      k (unpack (items_of ts)) ≡ gives c) h
 
-  none-read : {C : Type 0} (k : List Item → Outcome C) (c : C) → k [] ≡ gives c → AreFormsRead (Ok []) k c
-  none-read k c h = λ ts forms. subst (λ us. k (unpack (items_of us)) ≡ gives c) (one_given trees.no_trees ts forms) h
+  none-read : {C : Type 0} (k : List Item → Outcome C) (c : C) → k [] ≡ gives c →
+      AreFormsRead (Ok []) k c
+  none-read k c h = λ ts forms. subst (λ us. k (unpack (items_of us)) ≡ gives c)
+      (one_given trees.no_trees ts forms) h
 
   -- ---- lists
 
-  and-form : {C : Type 0} (taken : Taken C) (r : Named) (s : Result (List Item) Kind) (c : C) (cs : List C) → IsFormRead o r taken c → AreFormsRead s (take_each (taken None)) cs → AreFormsRead (and_then r s) (take_each (taken None)) (c ∷ cs)
-  and-form taken r s c cs h rest = both (take_each (taken None)) (c ∷ cs) r s (λ i is named more w ws one forms.
-      ap (λ p. and_take p (take_each (taken None) (unpack (items_of ws)))) (h.back i named w one) ∙ ap (and_take (gives c)) (rest-read s (take_each (taken None)) cs rest is more ws forms))
+  and-form : {C : Type 0} (taken : Taken C) (r : Named) (s : Result (List Item) Kind) (c : C)
+      (cs : List C) → IsFormRead o r taken c → AreFormsRead s (take_each (taken None)) cs →
+      AreFormsRead (and_then r s) (take_each (taken None)) (c ∷ cs)
+  and-form taken r s c cs h rest = both (take_each (taken None)) (c ∷ cs) r s
+      (λ i is named more w ws one forms.
+      ap (λ p. and_take p (take_each (taken None) (unpack (items_of ws)))) (h.back i named w one) ∙
+      ap (and_take (gives c)) (rest-read s (take_each (taken None)) cs rest is more ws forms))
 
-  module _ {T C : Type 0} {IsHeld : T → Type 0} {written : T → Named} {taken : Taken C} {content : T → C} (law : IsReadFromForm o IsHeld written taken content) where
-    each-form : (xs : List T) → All IsHeld xs → AreFormsRead (all_named (map written xs)) (take_each (taken None)) (map content xs)
+  module _ {T C : Type 0} {IsHeld : T → Type 0} {written : T → Named} {taken : Taken C}
+      {content : T → C} (law : IsReadFromForm o IsHeld written taken content) where
+    each-form : (xs : List T) → All IsHeld xs →
+        AreFormsRead (all_named (map written xs)) (take_each (taken None)) (map content xs)
     each-form [] held = none-read (take_each (taken None)) [] refl
     each-form (x ∷ xs) held =
-        and-form taken (written x) (all_named (map written xs)) (content x) (map content xs) (law x (All-head IsHeld x xs held)) (each-form xs (All-tail IsHeld x xs held))
+        and-form taken (written x) (all_named (map written xs)) (content x) (map content xs)
+        (law x (All-head IsHeld x xs held)) (each-form xs (All-tail IsHeld x xs held))
 
-    pub list-form : (xs : List T) → All IsHeld xs → IsFormRead o (container_of sequence (map written xs)) (taken_list taken) (map content xs)
-    list-form xs held = sequence-form (list_items taken) (all_named (map written xs)) (map content xs) (each-form xs held)
+    pub list-form : (xs : List T) → All IsHeld xs →
+        IsFormRead o (container_of sequence (map written xs)) (taken_list taken) (map content xs)
+    list-form xs held = sequence-form (list_items taken) (all_named (map written xs))
+        (map content xs) (each-form xs held)
 
   -- ---- tuples
 
   -- a part, and what follows it
-  part-form : {A C : Type 0} (taken : Taken A) (k : A → List Item → Outcome C) (r : Named) (s : Result (List Item) Kind) (v : A) (c : C) → IsFormRead o r taken v → AreFormsRead s (k v) c → AreFormsRead (and_then r s) (tuple_part taken None k) c
-  part-form taken k r s v c h rest = both (tuple_part taken None k) c r s (λ i is named more w ws one forms.
-      ap (λ p. then_take p (λ x. k x (unpack (items_of ws)))) (h.back i named w one) ∙ rest-read s (k v) c rest is more ws forms)
+  part-form : {A C : Type 0} (taken : Taken A) (k : A → List Item → Outcome C) (r : Named)
+      (s : Result (List Item) Kind) (v : A) (c : C) → IsFormRead o r taken v →
+      AreFormsRead s (k v) c → AreFormsRead (and_then r s) (tuple_part taken None k) c
+  part-form taken k r s v c h rest = both (tuple_part taken None k) c r s
+      (λ i is named more w ws one forms.
+      ap (λ p. then_take p (λ x. k x (unpack (items_of ws)))) (h.back i named w one) ∙
+      rest-read s (k v) c rest is more ws forms)
 
   module _ {A : Type 0} {r : Named} {f : Taken A} {a : A} (h : IsFormRead o r f a) where
     pub tuple1-form : IsFormRead o (container_of sequence (r ∷ [])) (taken_tuple1 f) a
-    tuple1-form = sequence-form (tuple1_items f) (and_then r (Ok [])) a (part-form f (tuple_rest None) r (Ok []) a a h (none-read (tuple_rest None a) a refl))
+    tuple1-form = sequence-form (tuple1_items f) (and_then r (Ok [])) a
+        (part-form f (tuple_rest None) r (Ok []) a a h (none-read (tuple_rest None a) a refl))
 
     module _ {B : Type 0} {s : Named} {g : Taken B} {b : B} (j : IsFormRead o s g b) where
       pub tuple2-form : IsFormRead o (container_of sequence (r ∷ s ∷ [])) (taken_tuple2 f g) (a, b)
       tuple2-form =
           sequence-form (tuple2_items f g) (and_then r (and_then s (Ok []))) (a, b)
-          (part-form f _ r _ a (a, b) h (part-form g _ s (Ok []) b (a, b) j (none-read (tuple_rest None (a, b)) (a, b) refl)))
+          (part-form f _ r _ a (a, b) h (part-form g _ s (Ok []) b (a, b) j
+          (none-read (tuple_rest None (a, b)) (a, b) refl)))
 
       module _ {D : Type 0} {t : Named} {p : Taken D} {d : D} (q : IsFormRead o t p d) where
-        pub tuple3-form : IsFormRead o (container_of sequence (r ∷ s ∷ t ∷ [])) (taken_tuple3 f g p) (a, b, d)
+        pub tuple3-form : IsFormRead o (container_of sequence (r ∷ s ∷ t ∷ [])) (taken_tuple3 f g p)
+            (a, b, d)
         tuple3-form =
-            sequence-form (tuple3_items f g p) (and_then r (and_then s (and_then t (Ok [])))) (a, b, d)
-            (part-form f _ r _ a (a, b, d) h (part-form g _ s _ b (a, b, d) j (part-form p _ t (Ok []) d (a, b, d) q (none-read (tuple_rest None (a, b, d)) (a, b, d) refl))))
+            sequence-form (tuple3_items f g p) (and_then r (and_then s (and_then t (Ok []))))
+            (a, b, d)
+            (part-form f _ r _ a (a, b, d) h (part-form g _ s _ b (a, b, d) j
+            (part-form p _ t (Ok []) d (a, b, d) q
+            (none-read (tuple_rest None (a, b, d)) (a, b, d) refl))))
 
         module _ {E : Type 0} {u : Named} {w : Taken E} {e : E} (x : IsFormRead o u w e) where
-          pub tuple4-form : IsFormRead o (container_of sequence (r ∷ s ∷ t ∷ u ∷ [])) (taken_tuple4 f g p w) (a, b, d, e)
+          pub tuple4-form : IsFormRead o (container_of sequence (r ∷ s ∷ t ∷ u ∷ []))
+              (taken_tuple4 f g p w) (a, b, d, e)
           tuple4-form =
-              sequence-form (tuple4_items f g p w) (and_then r (and_then s (and_then t (and_then u (Ok []))))) (a, b, d, e)
-              (part-form f _ r _ a (a, b, d, e) h (part-form g _ s _ b (a, b, d, e) j (part-form p _ t _ d (a, b, d, e) q
-              (part-form w _ u (Ok []) e (a, b, d, e) x (none-read (tuple_rest None (a, b, d, e)) (a, b, d, e) refl)))))
+              sequence-form (tuple4_items f g p w)
+              (and_then r (and_then s (and_then t (and_then u (Ok []))))) (a, b, d, e)
+              (part-form f _ r _ a (a, b, d, e) h
+              (part-form g _ s _ b (a, b, d, e) j (part-form p _ t _ d (a, b, d, e) q
+              (part-form w _ u (Ok []) e (a, b, d, e) x
+              (none-read (tuple_rest None (a, b, d, e)) (a, b, d, e) refl)))))

@@ -1,6 +1,7 @@
 -- Outcomes that give a value: what they are made of.
 use Rattle.std.proofs.Common.{◌≡◌, Option, Some, None, refl, ap}
-use Rattle.ciborium_value.specs.Taken.{Outcome, gives, refuses, nests, then_take, outcome_map, of_meaning, one_more, one_pair_more}
+use Rattle.ciborium_value.specs.Taken.{Outcome, gives, refuses, nests, then_take, outcome_map}
+use Rattle.ciborium_value.specs.Taken.{of_meaning, one_more, one_pair_more}
 use Rattle.ciborium_value.specs.Tree.{Tree, Trees, tree, TreePairs, tree_pair}
 use Rattle.ciborium_value.specs.declared.kind.Kind.{Kind}
 
@@ -10,30 +11,38 @@ one_given x y e = cc
 pub refused_or_given : {A : Type 0} (j : Kind) (y : A) → refuses j ≡ gives y → ⊥
 refused_or_given j y e = cc
 
-pub mapped_gives : {A B : Type 0} (f : A → B) (r : Outcome A) (y : B) → outcome_map f r ≡ gives y → (x : A) × (r ≡ gives x) × (f x ≡ y)
+pub mapped_gives : {A B : Type 0} (f : A → B) (r : Outcome A) (y : B) → outcome_map f r ≡ gives y →
+    (x : A) × (r ≡ gives x) × (f x ≡ y)
 mapped_gives f (gives x) y e = (x, refl, one_given (f x) y e)
 mapped_gives f (refuses j) y e = absurd cc
 mapped_gives f nests y e = absurd cc
 
-pub then_gives : {A B : Type 0} (r : Outcome A) (f : A → Outcome B) (y : B) → then_take r f ≡ gives y → (x : A) × (r ≡ gives x) × (f x ≡ gives y)
+pub then_gives : {A B : Type 0} (r : Outcome A) (f : A → Outcome B) (y : B) →
+    then_take r f ≡ gives y → (x : A) × (r ≡ gives x) × (f x ≡ gives y)
 then_gives (gives x) f y e = (x, refl, e)
 then_gives (refuses j) f y e = absurd cc
 then_gives nests f y e = absurd cc
 
-pub more_gives : (r : Outcome Tree) (s : Outcome Trees) (y : Trees) → one_more r s ≡ gives y → (v : Tree) × (vs : Trees) × (r ≡ gives v) × (s ≡ gives vs) × (tree v vs ≡ y)
-more_gives (gives v) s y e = let (vs, is, given) = mapped_gives (tree v) s y e in (v, vs, refl, is, given)
+pub more_gives : (r : Outcome Tree) (s : Outcome Trees) (y : Trees) → one_more r s ≡ gives y →
+    (v : Tree) × (vs : Trees) × (r ≡ gives v) × (s ≡ gives vs) × (tree v vs ≡ y)
+more_gives (gives v) s y e = let (vs, is, given) = mapped_gives (tree v) s y e in
+    (v, vs, refl, is, given)
 more_gives (refuses j) s y e = absurd cc
 more_gives nests s y e = absurd cc
 
-pub pair_gives : (q r : Outcome Tree) (s : Outcome TreePairs) (y : TreePairs) → one_pair_more q r s ≡ gives y
-    → (k : Tree) × (v : Tree) × (ps : TreePairs) × (q ≡ gives k) × (r ≡ gives v) × (s ≡ gives ps) × (tree_pair k v ps ≡ y)
-pair_gives (gives k) (gives v) s y e = let (ps, is, given) = mapped_gives (tree_pair k v) s y e in (k, v, ps, refl, refl, is, given)
+pub pair_gives : (q r : Outcome Tree) (s : Outcome TreePairs) (y : TreePairs) →
+    one_pair_more q r s ≡ gives y
+    → (k : Tree) × (v : Tree) × (ps : TreePairs) × (q ≡ gives k) × (r ≡ gives v) × (s ≡ gives ps) ×
+    (tree_pair k v ps ≡ y)
+pair_gives (gives k) (gives v) s y e = let (ps, is, given) = mapped_gives (tree_pair k v) s y e in
+    (k, v, ps, refl, refl, is, given)
 pair_gives (gives k) (refuses j) s y e = absurd cc
 pair_gives (gives k) nests s y e = absurd cc
 pair_gives (refuses j) r s y e = absurd cc
 pair_gives nests r s y e = absurd cc
 
 -- a meaning that gives a value is there
-pub meaning_given : {A : Type 0} (j : Kind) (m : Option A) (y : A) → of_meaning j m ≡ gives y → m ≡ Some y
+pub meaning_given : {A : Type 0} (j : Kind) (m : Option A) (y : A) → of_meaning j m ≡ gives y →
+    m ≡ Some y
 meaning_given j (Some x) y e = ap Some (one_given x y e)
 meaning_given j None y e = absurd cc

@@ -1,7 +1,8 @@
 -- The item of a tree: it folds where the tree does, and it is written as that tree.
 use Rattle.std.proofs.Common.{ap, ◌∙◌}
 use Rattle.std.specs.Prelude.{◌≡◌, pos, negsuc, false, true, refl}
-use Rattle.ciborium_value.specs.Encoding.{item_of, items_of, pairs_of, written_tree, written_trees, written_pairs}
+use Rattle.ciborium_value.specs.Encoding.{item_of, items_of, pairs_of, written_tree, written_trees}
+use Rattle.ciborium_value.specs.Encoding.{written_pairs}
 use Rattle.ciborium_value.specs.Folded.{short_bytes}
 use Rattle.ciborium_value.specs.Meaning.{short_string}
 use Rattle.ciborium_value.specs.Tree as trees
@@ -36,13 +37,16 @@ mutual
 
   all_itself : (vs : Trees) → written_trees (items_of vs) ≡ vs
   all_itself trees.no_trees = refl
-  all_itself (trees.tree v vs) = ap (λ w. trees.tree w (written_trees (items_of vs))) (itself v) ∙ ap (trees.tree v) (all_itself vs)
+  all_itself (trees.tree v vs) = ap (λ w. trees.tree w (written_trees (items_of vs))) (itself v) ∙
+      ap (trees.tree v) (all_itself vs)
 
   pairs_itself : (ps : TreePairs) → written_pairs (pairs_of ps) ≡ ps
   pairs_itself trees.no_tree_pairs = refl
   pairs_itself (trees.tree_pair k v ps) =
-      ap (λ w. trees.tree_pair w (written_tree (item_of v)) (written_pairs (pairs_of ps))) (itself k) ∙
-      ap (λ w. trees.tree_pair k w (written_pairs (pairs_of ps))) (itself v) ∙ ap (trees.tree_pair k v) (pairs_itself ps)
+      ap (λ w. trees.tree_pair w (written_tree (item_of v)) (written_pairs (pairs_of ps)))
+      (itself k) ∙
+      ap (λ w. trees.tree_pair k w (written_pairs (pairs_of ps))) (itself v) ∙
+      ap (trees.tree_pair k v) (pairs_itself ps)
 
 pub tree_is_written_as_itself : TreeIsWrittenAsItself
 tree_is_written_as_itself v = itself v

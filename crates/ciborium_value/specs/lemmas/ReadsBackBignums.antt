@@ -4,7 +4,8 @@ use Rattle.std.proofs.Math.Arith.{mod-mul}
 use Rattle.std.proofs.Math.Nat.{add-mul, mul_assoc, mul_left_comm, mod-one, mod-eq_of_lt, pow-succ'}
 use Rattle.std.proofs.lemmas.Bool.Decides.{nat_tests}
 use Rattle.std.specs.Int.{byte_at, bytes_high_first}
-use Rattle.std.specs.Prelude.{◌≡◌, ℕ, ◌+◌, ◌*◌, ◌/◌, ◌%◌, ◌^◌, ◌==◌, ◌<◌, ◌≤◌, List, [], ◌∷◌, false, refl}
+use Rattle.std.specs.Prelude.{◌≡◌, ℕ, ◌+◌, ◌*◌, ◌/◌, ◌%◌, ◌^◌, ◌==◌, ◌<◌, ◌≤◌, List, [], ◌∷◌, false}
+use Rattle.std.specs.Prelude.{refl}
 use Rattle.ciborium_ll.proofs.HeadOrder.{byte_at-is, power_above}
 use Rattle.ciborium_value.specs.Meaning.{big_endian_behind, big_endian, without_zeros}
 use Rattle.ciborium_value.specs.Number.{shortest_bytes}
@@ -41,7 +42,12 @@ length-high_first zero n = refl
 length-high_first (suc k) n = ap suc (length-high_first k n)
 
 one_digit_more : (m d r p : ℕ) → (256 * m + d) * p + r ≡ m * (256 * p) + (d * p + r)
-one_digit_more m d r p = omega (arith, add-mul (256 * m) d p, mul_assoc 256 m p, mul_left_comm 256 m p)
+one_digit_more m d r p = omega (
+  arith,
+  add-mul (256 * m) d p,
+  mul_assoc 256 m p,
+  mul_left_comm 256 m p,
+)
 
 -- the lowest k bytes of n, read behind m
 read_behind : (k m n : ℕ) → big_endian_behind m (bytes_high_first k n) ≡ m * 256 ^ k + n % 256 ^ k
@@ -49,16 +55,23 @@ unfolding big_endian_behind
 read_behind zero m n = omega (arith, mod-one n)
 read_behind (suc k) m n =
     let p = 256 ^ k in
-    let split : n % 256 ^ suc k ≡ (n / p % 256) * p + n % p = rw (pow-succ' 256 k) (mod-mul n {m = 256} {c = p} (omega arith) (power_above k)) in
-    rw (read_behind k (256 * m + byte_at k n) n, byte_at-is k n, split, pow-succ' 256 k) (one_digit_more m (n / p % 256) (n % p) p)
+    let split : n % 256 ^ suc k ≡ (n / p % 256) * p + n % p =
+    rw (pow-succ' 256 k) (mod-mul n {m = 256} {c = p} (omega arith) (power_above k)) in
+    rw (read_behind k (256 * m + byte_at k n) n, byte_at-is k n, split, pow-succ' 256 k)
+    (one_digit_more m (n / p % 256) (n % p) p)
 
 pub length-shortest : (n : ℕ) → length (shortest_bytes n) ≤ 16
 unfolding shortest_bytes
-length-shortest n = omega (arith, length-without_zeros (bytes_high_first 16 n), length-high_first 16 n)
+length-shortest n = omega (
+  arith,
+  length-without_zeros (bytes_high_first 16 n),
+  length-high_first 16 n,
+)
 
 pub big_endian-shortest : (n : ℕ) → n < 2 ^ 128 → big_endian (shortest_bytes n) ≡ n
 unfolding shortest_bytes
-big_endian-shortest n h = zeros_hold_nothing (bytes_high_first 16 n) ∙ read_behind 16 0 n ∙ rw (mod-eq_of_lt h) (omega arith)
+big_endian-shortest n h = zeros_hold_nothing (bytes_high_first 16 n) ∙ read_behind 16 0 n ∙
+    rw (mod-eq_of_lt h) (omega arith)
 
 pub without_zeros-shortest : (n : ℕ) → without_zeros (shortest_bytes n) ≡ shortest_bytes n
 unfolding shortest_bytes
@@ -66,6 +79,8 @@ without_zeros-shortest n = none_left (bytes_high_first 16 n)
 
 pub magnitude-shortest : (n : ℕ) → n < 2 ^ 128 → magnitude (shortest_bytes n) ≡ gives n
 magnitude-shortest n h =
-    let fits : length (without_zeros (shortest_bytes n)) ≤ 16 = omega (arith, length-without_zeros (shortest_bytes n), length-shortest n) in
-    let read : magnitude (shortest_bytes n) ≡ gives (big_endian (shortest_bytes n)) = grind (arith, nat_tests) in
+    let fits : length (without_zeros (shortest_bytes n)) ≤ 16 =
+    omega (arith, length-without_zeros (shortest_bytes n), length-shortest n) in
+    let read : magnitude (shortest_bytes n) ≡ gives (big_endian (shortest_bytes n)) =
+    grind (arith, nat_tests) in
     read ∙ ap gives (big_endian-shortest n h)

@@ -6,7 +6,13 @@ use Rattle.cbor.proofs.line_laws.line_answer.Goals as goal
 pub returns : goal.returns
 returns c =
     let said = c.deterministic_or_refused.ensures in
-    let law : DeterministicLaw = record { one_of = said.one_of; never_both = said.never_both; one_refusal = said.one_refusal; one_tree = said.one_tree } in
+    let law : DeterministicLaw = record {
+      one_of = said.one_of;
+      never_both = said.never_both;
+      one_refusal =
+          said.one_refusal;
+      one_tree = said.one_tree;
+    } in
     record {
       answered = is_answered law;
       one = one_answer law;

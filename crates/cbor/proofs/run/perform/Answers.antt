@@ -10,7 +10,8 @@ use Rattle.cbor.proofs.run.perform.Goals as goal
 pub returns-in-Answer-clause-answered : goal.returns-in-Answer-clause-answered
 returns-in-Answer-clause-answered g c reading b w same e f =
     let is : c.in-Answer.reading ≡ reading = cc in
-    flushed-all (MayBeAnswer reading) b w _ _ c.answer_lines-answered.result c.finish.result c.finish.ensures.same c.finish.ensures.kept
+    flushed-all (MayBeAnswer reading) b w _ _ c.answer_lines-answered.result c.finish.result c.finish.ensures.same
+    c.finish.ensures.kept
     (rw is at c.answer_lines-answered.ensures.answered b w e f)
 
 pub returns-in-Answer-clause-ok : goal.returns-in-Answer-clause-ok
@@ -24,7 +25,8 @@ pub returns-in-Sort-clause-sorted : goal.returns-in-Sort-clause-sorted
 returns-in-Sort-clause-sorted g c order b w same e f =
     let finish = c.finish-in-Sort in
     let is : c.in-Sort.order ≡ order = cc in
-    flushed-ok _ _ c.sort_lines-sorted.result finish.result finish.ensures.same (sorted-still order b 256 w _ _ finish.ensures.kept)
+    flushed-ok _ _ c.sort_lines-sorted.result finish.result finish.ensures.same
+    (sorted-still order b 256 w _ _ finish.ensures.kept)
     (rw is at c.sort_lines-sorted.ensures b w e f)
 
 pub returns-in-Show-clause-shown : goal.returns-in-Show-clause-shown
@@ -32,7 +34,8 @@ returns-in-Show-clause-shown g c showing limit b w same e f =
     let finish = c.finish-in-Show in
     let so : c.in-Show.showing ≡ showing = cc in
     let within : c.in-Show.limit ≡ limit = cc in
-    flushed-each (λ all. IsStreamShown showing b limit w all _) (λ all. IsStreamShown showing b limit w all _) c.show_items-shown.result finish.result finish.ensures.same
+    flushed-each (λ all. IsStreamShown showing b limit w all _) (λ all. IsStreamShown showing b limit w all _)
+    c.show_items-shown.result finish.result finish.ensures.same
     (λ all. shown-still showing b limit w all _ _ finish.ensures.kept)
     (rw (so, within) at c.show_items-shown.ensures b w e f)
 
@@ -40,4 +43,5 @@ pub returns-in-Tell-clause-told : goal.returns-in-Tell-clause-told
 returns-in-Tell-clause-told g c topic w same e =
     let finish = c.finish-in-Tell in
     let of : c.in-Tell.topic ≡ topic = cc in
-    flushed-told (w ++ topic_text topic) _ _ c.tell-told.result finish.result finish.ensures.same finish.ensures.kept (rw of at c.tell-told.ensures.told w e)
+    flushed-told (w ++ topic_text topic) _ _ c.tell-told.result finish.result finish.ensures.same finish.ensures.kept
+    (rw of at c.tell-told.ensures.told w e)

@@ -10,8 +10,10 @@ pub loop-value-preserved : goal.loop-value-preserved
 loop-value-preserved g c w e =
     let v = c.value-item.result in
     let digits : c.push_encoding.new.text.items ≡ encode_lower (encoding (tree_of v)) = search rules in
-    one-more-written _ _ _ w c.push_encoding.new.text.items _ c.args.values.now c.loop-value.value-index v (c.loop-value.invariant w e)
-    (rw c.deref.ensures.value at c.in_ok-put_text.ensures) c.in_ok-put_text-2.ensures digits refl (search rules) c.value-item.is
+    one-more-written _ _ _ w c.push_encoding.new.text.items _ c.args.values.now c.loop-value.value-index v
+    (c.loop-value.invariant w e)
+    (rw c.deref.ensures.value at c.in_ok-put_text.ensures) c.in_ok-put_text-2.ensures digits refl (search rules)
+    c.value-item.is
 
 pub returns : goal.returns
 returns g c w e =

@@ -7,4 +7,5 @@ use Rattle.cbor.proofs.sorting.sort_values.Goals as goal
 pub returns-in_ok-sort_by-in-Bytewise-clause-sorted : goal.returns-in_ok-sort_by-in-Bytewise-clause-sorted
 returns-in_ok-sort_by-in-Bytewise-clause-sorted c =
     rw c.in-Bytewise.is
-    (sorted-trees Bytewise _ (c.in_ok-sort_by-in-Bytewise.ensures.sorted (stands_before Bytewise) (stands_before-orders Bytewise) (always_returns_same _ _ _ (λ a r f k. search rules))))
+    (sorted-trees Bytewise _ (c.in_ok-sort_by-in-Bytewise.ensures.sorted (stands_before Bytewise)
+    (stands_before-orders Bytewise) (always_returns_same _ _ _ (λ a r f k. search rules))))

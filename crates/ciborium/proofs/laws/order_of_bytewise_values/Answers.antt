@@ -4,4 +4,9 @@ use Rattle.ciborium.proofs.Encodings.OrderedValues.{is_order_of_trees, ties_equa
 use Rattle.ciborium.proofs.laws.order_of_bytewise_values.Goals as goal
 
 pub returns : goal.returns
-returns c = record { bytewise = is_order_of_trees Bytewise; total = ordered_value_cmp_total Bytewise; ties = ties_equal_ones Bytewise }
+returns c = record {
+  bytewise = is_order_of_trees Bytewise;
+  total = ordered_value_cmp_total Bytewise;
+  ties =
+      ties_equal_ones Bytewise;
+}

@@ -4,4 +4,9 @@ use Rattle.ciborium.proofs.Encodings.OrderedValues.{is_order_of_trees, ties_equa
 use Rattle.ciborium.proofs.laws.order_of_canonical_values.Goals as goal
 
 pub returns : goal.returns
-returns c = record { canonical = is_order_of_trees LengthFirst; total = ordered_value_cmp_total LengthFirst; ties = ties_equal_ones LengthFirst }
+returns c = record {
+  canonical = is_order_of_trees LengthFirst;
+  total = ordered_value_cmp_total LengthFirst;
+  ties =
+      ties_equal_ones LengthFirst;
+}

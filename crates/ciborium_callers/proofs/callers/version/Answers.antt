@@ -3,4 +3,8 @@ use Rattle.std.proofs.Common.{rules}
 use Rattle.ciborium_callers.proofs.callers.version.Goals as goal
 
 pub returns-in-Some : goal.returns-in-Some
-returns-in-Some c = (c.in_ok-as_map.field-0.now, search rules, (c.loop-key.key-index, c.loop-key-item.result, search rules, search rules, (search rules, search rules)))
+returns-in-Some c = (
+  c.in_ok-as_map.field-0.now,
+  search rules,
+  (c.loop-key.key-index, c.loop-key-item.result, search rules, search rules, (search rules, search rules)),
+)

@@ -7,5 +7,7 @@ use Rattle.ciborium_callers.proofs.head_callers.first_head.Goals as goal
 pub returns : goal.returns
 returns g c =
     let remaining = g.R.Read.remaining in
-    subst (λ r. (b : List ℕ) × Consumes (remaining c.args.reader.now) (remaining r) b × IsHeadTaken b 0 c.pull.result) {x = c.pull.new.self.reader.now} (search rules)
-    (first-taken remaining c.new-decoder.result c.pull.new.self _ _ _ c.new-decoder.ensures.begins c.pull.ensures.same_reader c.pull.ensures.taken)
+    subst (λ r. (b : List ℕ) × Consumes (remaining c.args.reader.now) (remaining r) b × IsHeadTaken b 0 c.pull.result)
+    {x = c.pull.new.self.reader.now} (search rules)
+    (first-taken remaining c.new-decoder.result c.pull.new.self _ _ _ c.new-decoder.ensures.begins
+    c.pull.ensures.same_reader c.pull.ensures.taken)

@@ -1,4 +1,5 @@
-use Rattle.std.proofs.Common.{arith, ◌≡◌, ℕ, ◌-◌, List, ◌++◌, length, take, drop, subst, sym, ap, ◌∙◌, take_all, length-drop}
+use Rattle.std.proofs.Common.{arith, ◌≡◌, ℕ, ◌-◌, List, ◌++◌, length, take, drop, subst, sym, ap, ◌∙◌, take_all}
+use Rattle.std.proofs.Common.{length-drop}
 use Rattle.std.specs.Io.KnownBytes.{Appends}
 use Rattle.std.proofs.KnownBytes.{Appends-trans}
 use lib.Seq.{take-add}
@@ -19,5 +20,7 @@ loop-written-preserved g c =
     let rest : length (take (length bytes - at) (drop at bytes)) ≡ length (drop at bytes) = ap length whole in
     record {
       within = omega (arith, rest, len, c.in-Ok.ensures.bound, c.loop-written.invariant.within);
-      appended = subst (Appends _ _) (ap (λ l. take at bytes ++ take c.in-Ok.n l) whole ∙ sym (take-add at c.in-Ok.n bytes)) (Appends-trans _ _ _ _ _ c.loop-written.invariant.appended c.in-Ok.ensures.bytes);
+      appended = subst (Appends _ _) (ap (λ l. take at bytes ++ take c.in-Ok.n l) whole ∙
+          sym (take-add at c.in-Ok.n bytes)) (Appends-trans _ _ _ _ _ c.loop-written.invariant.appended
+          c.in-Ok.ensures.bytes);
     }

@@ -1,62 +1,90 @@
 use Rattle.std.proofs.Common.{◌≡◌, ◌<◌, ◌≤◌, length, get_or, rules, refl, sym, ap, ◌∙◌, subst, arith}
 use Rattle.ciborium_value.specs.Encoding.{encoding}
 use Rattle.ciborium_value.specs.declared.tree.Value.{the_lemmas}
-use Rattle.ciborium_value.proofs.Orders.VisitCounts.{items_visits-differ, items_visits-same, keys_visits-differ, values_visits-differ, pairs_visits-same}
-use Rattle.ciborium_value.proofs.Orders.SideBySide.{different_heads, contents_decide, payloads_decide, payloads_as_long, same_payload-Bytes, same_payload-Text, alone_tied, as_many_items, as_many_pairs, items_differ, items_same, items_all, keys_differ, values_differ, pairs_same, pairs_all, same_decides, tied}
-use Rattle.ciborium_value.proofs.Orders.TreeEncodings.{content_bytes-Bytes, content_bytes-Text, content_bytes-Tag, content_bytes-Array, content_bytes-Map, argument_of-Bytes, argument_of-Text}
+use Rattle.ciborium_value.proofs.Orders.VisitCounts.{items_visits-differ, items_visits-same, keys_visits-differ}
+use Rattle.ciborium_value.proofs.Orders.VisitCounts.{values_visits-differ, pairs_visits-same}
+use Rattle.ciborium_value.proofs.Orders.SideBySide.{different_heads, contents_decide, payloads_decide, payloads_as_long}
+use Rattle.ciborium_value.proofs.Orders.SideBySide.{same_payload-Bytes, same_payload-Text, alone_tied, as_many_items}
+use Rattle.ciborium_value.proofs.Orders.SideBySide.{as_many_pairs, items_differ, items_same, items_all, keys_differ}
+use Rattle.ciborium_value.proofs.Orders.SideBySide.{values_differ, pairs_same, pairs_all, same_decides, tied}
+use Rattle.ciborium_value.proofs.Orders.TreeEncodings.{content_bytes-Bytes, content_bytes-Text, content_bytes-Tag}
+use Rattle.ciborium_value.proofs.Orders.TreeEncodings.{content_bytes-Array, content_bytes-Map, argument_of-Bytes}
+use Rattle.ciborium_value.proofs.Orders.TreeEncodings.{argument_of-Text}
 use Rattle.ciborium_value.proofs.canonical.+compare.Goals as goal
 
 pub compare-returns-then-is_ne-clause-decides : goal.compare-returns-then-is_ne-clause-decides
 compare-returns-then-is_ne-clause-decides t c =
-    different_heads _ _ _ _ c.compare_heads-order.ensures.left_fits c.compare_heads-order.ensures.right_fits c.compare_heads-order.ensures.order c.is_ne.ensures c.if-is_ne.true
+    different_heads _ _ _ _ c.compare_heads-order.ensures.left_fits c.compare_heads-order.ensures.right_fits
+    c.compare_heads-order.ensures.order c.is_ne.ensures c.if-is_ne.true
 
 pub compare-compare_items-requires : goal.compare-compare_items-requires
 compare-compare_items-requires t c =
-    let many = as_many_items _ _ _ _ _ _ c.compare_heads-order.ensures.order c.is_ne.ensures c.if-is_ne.false c.in-Array-Array.is-0 c.in-Array-Array.is-1 in
+    let many = as_many_items _ _ _ _ _ _ c.compare_heads-order.ensures.order c.is_ne.ensures c.if-is_ne.false
+    c.in-Array-Array.is-0 c.in-Array-Array.is-1 in
     search (rules, the_lemmas, many)
 
 pub compare-compare_pairs-requires : goal.compare-compare_pairs-requires
 compare-compare_pairs-requires t c =
-    let many = as_many_pairs _ _ _ _ _ _ c.compare_heads-order.ensures.order c.is_ne.ensures c.if-is_ne.false c.in-Map-Map.is-0 c.in-Map-Map.is-1 in
+    let many = as_many_pairs _ _ _ _ _ _ c.compare_heads-order.ensures.order c.is_ne.ensures c.if-is_ne.false
+    c.in-Map-Map.is-0 c.in-Map-Map.is-1 in
     search (rules, the_lemmas, many)
 
 pub compare-returns-in-Bytes-Bytes-clause-decides : goal.compare-returns-in-Bytes-Bytes-clause-decides
 compare-returns-in-Bytes-Bytes-clause-decides t c =
-    let long = payloads_as_long _ _ _ _ _ _ c.compare_heads-order.ensures.order c.is_ne.ensures c.if-is_ne.false (argument_of-Bytes _ _ _ c.in-Bytes-Bytes.is-0 refl) (argument_of-Bytes _ _ _ c.in-Bytes-Bytes.is-1 refl) in
-    contents_decide _ _ _ _ _ _ _ c.compare_heads-order.ensures.left_fits c.compare_heads-order.ensures.right_fits c.compare_heads-order.ensures.order c.is_ne.ensures c.if-is_ne.false
-    (content_bytes-Bytes _ _ _ c.in-Bytes-Bytes.is-0 refl) (content_bytes-Bytes _ _ _ c.in-Bytes-Bytes.is-1 refl) (payloads_decide _ _ _ long c.cmp.ensures)
+    let long = payloads_as_long _ _ _ _ _ _ c.compare_heads-order.ensures.order c.is_ne.ensures c.if-is_ne.false
+    (argument_of-Bytes _ _ _ c.in-Bytes-Bytes.is-0 refl) (argument_of-Bytes _ _ _ c.in-Bytes-Bytes.is-1 refl) in
+    contents_decide _ _ _ _ _ _ _ c.compare_heads-order.ensures.left_fits c.compare_heads-order.ensures.right_fits
+    c.compare_heads-order.ensures.order c.is_ne.ensures c.if-is_ne.false
+    (content_bytes-Bytes _ _ _ c.in-Bytes-Bytes.is-0 refl) (content_bytes-Bytes _ _ _ c.in-Bytes-Bytes.is-1 refl)
+    (payloads_decide _ _ _ long c.cmp.ensures)
 
 pub compare-returns-in-Bytes-Bytes-clause-equal : goal.compare-returns-in-Bytes-Bytes-clause-equal
-compare-returns-in-Bytes-Bytes-clause-equal t c e = same_payload-Bytes _ _ _ _ c.in-Bytes-Bytes.is-0 c.in-Bytes-Bytes.is-1 (sym c.cmp.ensures ∙ e)
+compare-returns-in-Bytes-Bytes-clause-equal t c e = same_payload-Bytes _ _ _ _ c.in-Bytes-Bytes.is-0
+    c.in-Bytes-Bytes.is-1 (sym c.cmp.ensures ∙ e)
 
 pub compare-returns-in-Text-Text-clause-decides : goal.compare-returns-in-Text-Text-clause-decides
 compare-returns-in-Text-Text-clause-decides t c =
-    let long = payloads_as_long _ _ _ _ _ _ c.compare_heads-order.ensures.order c.is_ne.ensures c.if-is_ne.false (argument_of-Text _ _ _ c.in-Text-Text.is-0 refl) (argument_of-Text _ _ _ c.in-Text-Text.is-1 refl) in
-    contents_decide _ _ _ _ _ _ _ c.compare_heads-order.ensures.left_fits c.compare_heads-order.ensures.right_fits c.compare_heads-order.ensures.order c.is_ne.ensures c.if-is_ne.false
-    (content_bytes-Text _ _ _ c.in-Text-Text.is-0 refl) (content_bytes-Text _ _ _ c.in-Text-Text.is-1 refl) (payloads_decide _ _ _ long c.cmp-in-Text-Text.ensures)
+    let long = payloads_as_long _ _ _ _ _ _ c.compare_heads-order.ensures.order c.is_ne.ensures c.if-is_ne.false
+    (argument_of-Text _ _ _ c.in-Text-Text.is-0 refl) (argument_of-Text _ _ _ c.in-Text-Text.is-1 refl) in
+    contents_decide _ _ _ _ _ _ _ c.compare_heads-order.ensures.left_fits c.compare_heads-order.ensures.right_fits
+    c.compare_heads-order.ensures.order c.is_ne.ensures c.if-is_ne.false
+    (content_bytes-Text _ _ _ c.in-Text-Text.is-0 refl) (content_bytes-Text _ _ _ c.in-Text-Text.is-1 refl)
+    (payloads_decide _ _ _ long c.cmp-in-Text-Text.ensures)
 
 pub compare-returns-in-Text-Text-clause-equal : goal.compare-returns-in-Text-Text-clause-equal
-compare-returns-in-Text-Text-clause-equal t c e = same_payload-Text _ _ _ _ c.in-Text-Text.is-0 c.in-Text-Text.is-1 (sym c.cmp-in-Text-Text.ensures ∙ e)
+compare-returns-in-Text-Text-clause-equal t c e = same_payload-Text _ _ _ _ c.in-Text-Text.is-0 c.in-Text-Text.is-1
+    (sym c.cmp-in-Text-Text.ensures ∙ e)
 
 pub compare-returns-in-Tag-Tag-clause-decides : goal.compare-returns-in-Tag-Tag-clause-decides
 compare-returns-in-Tag-Tag-clause-decides t c =
-    contents_decide _ _ _ _ _ _ _ c.compare_heads-order.ensures.left_fits c.compare_heads-order.ensures.right_fits c.compare_heads-order.ensures.order c.is_ne.ensures c.if-is_ne.false
-    (content_bytes-Tag _ _ _ _ c.in-Tag-Tag.is-0 c.deref.ensures) (content_bytes-Tag _ _ _ _ c.in-Tag-Tag.is-1 c.deref-in-Tag-Tag.ensures) c.compare.ensures.decides
+    contents_decide _ _ _ _ _ _ _ c.compare_heads-order.ensures.left_fits c.compare_heads-order.ensures.right_fits
+    c.compare_heads-order.ensures.order c.is_ne.ensures c.if-is_ne.false
+    (content_bytes-Tag _ _ _ _ c.in-Tag-Tag.is-0 c.deref.ensures)
+    (content_bytes-Tag _ _ _ _ c.in-Tag-Tag.is-1 c.deref-in-Tag-Tag.ensures) c.compare.ensures.decides
 
 pub compare-returns-in-Array-Array-clause-decides : goal.compare-returns-in-Array-Array-clause-decides
 compare-returns-in-Array-Array-clause-decides t c =
-    contents_decide _ _ _ _ _ _ _ c.compare_heads-order.ensures.left_fits c.compare_heads-order.ensures.right_fits c.compare_heads-order.ensures.order c.is_ne.ensures c.if-is_ne.false
-    (content_bytes-Array _ _ c.in-Array-Array.is-0) (content_bytes-Array _ _ c.in-Array-Array.is-1) c.compare_items.ensures.decides
+    contents_decide _ _ _ _ _ _ _ c.compare_heads-order.ensures.left_fits c.compare_heads-order.ensures.right_fits
+    c.compare_heads-order.ensures.order c.is_ne.ensures c.if-is_ne.false
+    (content_bytes-Array _ _ c.in-Array-Array.is-0) (content_bytes-Array _ _ c.in-Array-Array.is-1)
+    c.compare_items.ensures.decides
 
 pub compare-returns-in-Map-Map-clause-decides : goal.compare-returns-in-Map-Map-clause-decides
 compare-returns-in-Map-Map-clause-decides t c =
-    contents_decide _ _ _ _ _ _ _ c.compare_heads-order.ensures.left_fits c.compare_heads-order.ensures.right_fits c.compare_heads-order.ensures.order c.is_ne.ensures c.if-is_ne.false
+    contents_decide _ _ _ _ _ _ _ c.compare_heads-order.ensures.left_fits c.compare_heads-order.ensures.right_fits
+    c.compare_heads-order.ensures.order c.is_ne.ensures c.if-is_ne.false
     (content_bytes-Map _ _ c.in-Map-Map.is-0) (content_bytes-Map _ _ c.in-Map-Map.is-1) c.compare_pairs.ensures.decides
 
 pub compare-returns-in_default-6-clause-decides : goal.compare-returns-in_default-6-clause-decides
 compare-returns-in_default-6-clause-decides t c =
-    same_decides _ _ (ap encoding (alone_tied _ _ _ _ c.compare_heads-order.ensures.order c.is_ne.ensures c.if-is_ne.false
-    (c.in_default.not-Bytes-0, c.in_default.not-Text-0, c.in_default.not-Tag-0, c.in_default.not-Array-0, c.in_default.not-Map-0)))
+    same_decides _ _ (ap encoding (alone_tied _ _ _ _ c.compare_heads-order.ensures.order c.is_ne.ensures
+    c.if-is_ne.false (
+      c.in_default.not-Bytes-0,
+      c.in_default.not-Text-0,
+      c.in_default.not-Tag-0,
+      c.in_default.not-Array-0,
+      c.in_default.not-Map-0,
+    )))
 
 pub compare_items-returns-then-is_ne-clause-decides : goal.compare_items-returns-then-is_ne-clause-decides
 compare_items-returns-then-is_ne-clause-decides t c =
@@ -64,8 +92,10 @@ compare_items-returns-then-is_ne-clause-decides t c =
     let list = c.deref-item-items.ensures.value in
     let item = subst (λ l. c.item-item.result ≡ get_or l i c.item-item.result) list c.item-item.is in
     let within : i < length c.args.left.now.items = subst (λ l. i < length l) list c.loop-index-test.true in
-    let other_within : i < length c.args.right.now.items = omega (arith, within, c.requires.as_many, c.args.left.now.ok.0, c.args.right.now.ok.0) in
-    items_differ i _ _ _ _ _ _ within item other_within c.index.ensures c.loop-index.invariant.same c.is_ne.ensures c.if-is_ne.true c.compare-order.ensures.decides
+    let other_within : i < length c.args.right.now.items =
+    omega (arith, within, c.requires.as_many, c.args.left.now.ok.0, c.args.right.now.ok.0) in
+    items_differ i _ _ _ _ _ _ within item other_within c.index.ensures c.loop-index.invariant.same c.is_ne.ensures
+    c.if-is_ne.true c.compare-order.ensures.decides
 
 pub compare_items-returns-then-is_ne-clause-visits : goal.compare_items-returns-then-is_ne-clause-visits
 compare_items-returns-then-is_ne-clause-visits t c =
@@ -73,8 +103,10 @@ compare_items-returns-then-is_ne-clause-visits t c =
     let list = c.deref-item-items.ensures.value in
     let item = subst (λ l. c.item-item.result ≡ get_or l i c.item-item.result) list c.item-item.is in
     let within : i < length c.args.left.now.items = subst (λ l. i < length l) list c.loop-index-test.true in
-    let other_within : i < length c.args.right.now.items = omega (arith, within, c.requires.as_many, c.args.left.now.ok.0, c.args.right.now.ok.0) in
-    items_visits-differ i _ _ _ _ within item other_within c.index.ensures _ _ _ _ _ c.args.visits.now.in_range c.is_ne.ensures c.if-is_ne.true c.loop-index.invariant.visits c.compare-order.ensures.visits
+    let other_within : i < length c.args.right.now.items =
+    omega (arith, within, c.requires.as_many, c.args.left.now.ok.0, c.args.right.now.ok.0) in
+    items_visits-differ i _ _ _ _ within item other_within c.index.ensures _ _ _ _ _ c.args.visits.now.in_range
+    c.is_ne.ensures c.if-is_ne.true c.loop-index.invariant.visits c.compare-order.ensures.visits
 
 pub compare_items-loop-index-preserved : goal.compare_items-loop-index-preserved
 compare_items-loop-index-preserved t c =
@@ -82,16 +114,21 @@ compare_items-loop-index-preserved t c =
     let list = c.deref-item-items.ensures.value in
     let item = subst (λ l. c.item-item.result ≡ get_or l i c.item-item.result) list c.item-item.is in
     let within : i < length c.args.left.now.items = subst (λ l. i < length l) list c.loop-index-test.true in
-    let other_within : i < length c.args.right.now.items = omega (arith, within, c.requires.as_many, c.args.left.now.ok.0, c.args.right.now.ok.0) in
+    let other_within : i < length c.args.right.now.items =
+    omega (arith, within, c.requires.as_many, c.args.left.now.ok.0, c.args.right.now.ok.0) in
     record {
-      same = items_same i _ _ _ _ within item other_within c.index.ensures c.loop-index.invariant.same (c.compare-order.ensures.equal (tied _ _ c.is_ne.ensures c.if-is_ne.false));
-      visits = items_visits-same i _ _ _ _ within item other_within c.index.ensures _ _ _ _ _ c.is_ne.ensures c.if-is_ne.false c.loop-index.invariant.visits c.compare-order.ensures.visits;
+      same = items_same i _ _ _ _ within item other_within c.index.ensures c.loop-index.invariant.same
+          (c.compare-order.ensures.equal (tied _ _ c.is_ne.ensures c.if-is_ne.false));
+      visits = items_visits-same i _ _ _ _ within item other_within c.index.ensures _ _ _ _ _ c.is_ne.ensures
+          c.if-is_ne.false c.loop-index.invariant.visits c.compare-order.ensures.visits;
     }
 
 pub compare_items-returns-clause-decides : goal.compare_items-returns-clause-decides
 compare_items-returns-clause-decides t c =
-    let beyond : length c.args.left.now.items ≤ c.loop-index.index = subst (λ l. length l ≤ c.loop-index.index) c.deref-item-items.ensures.value c.loop-index-test.false in
-    let other_beyond : length c.args.right.now.items ≤ c.loop-index.index = omega (arith, beyond, c.requires.as_many, c.args.left.now.ok.0, c.args.right.now.ok.0) in
+    let beyond : length c.args.left.now.items ≤ c.loop-index.index =
+    subst (λ l. length l ≤ c.loop-index.index) c.deref-item-items.ensures.value c.loop-index-test.false in
+    let other_beyond : length c.args.right.now.items ≤ c.loop-index.index =
+    omega (arith, beyond, c.requires.as_many, c.args.left.now.ok.0, c.args.right.now.ok.0) in
     same_decides _ _ (items_all _ _ _ beyond other_beyond c.loop-index.invariant.same)
 
 pub compare_pairs-returns-then-is_ne-clause-decides : goal.compare_pairs-returns-then-is_ne-clause-decides
@@ -100,8 +137,10 @@ compare_pairs-returns-then-is_ne-clause-decides t c =
     let list = c.deref-pair-items.ensures.value in
     let item = subst (λ l. c.pair-item.result ≡ get_or l i c.pair-item.result) list c.pair-item.is in
     let within : i < length c.args.left.now.items = subst (λ l. i < length l) list c.loop-index-test.true in
-    let other_within : i < length c.args.right.now.items = omega (arith, within, c.requires.as_many, c.args.left.now.ok.0, c.args.right.now.ok.0) in
-    keys_differ i _ _ _ _ _ _ within item other_within c.index-other.ensures c.loop-index.invariant.same c.is_ne.ensures c.if-is_ne.true c.compare-keys.ensures.decides
+    let other_within : i < length c.args.right.now.items =
+    omega (arith, within, c.requires.as_many, c.args.left.now.ok.0, c.args.right.now.ok.0) in
+    keys_differ i _ _ _ _ _ _ within item other_within c.index-other.ensures c.loop-index.invariant.same c.is_ne.ensures
+    c.if-is_ne.true c.compare-keys.ensures.decides
 
 pub compare_pairs-returns-then-is_ne-clause-visits : goal.compare_pairs-returns-then-is_ne-clause-visits
 compare_pairs-returns-then-is_ne-clause-visits t c =
@@ -109,8 +148,10 @@ compare_pairs-returns-then-is_ne-clause-visits t c =
     let list = c.deref-pair-items.ensures.value in
     let item = subst (λ l. c.pair-item.result ≡ get_or l i c.pair-item.result) list c.pair-item.is in
     let within : i < length c.args.left.now.items = subst (λ l. i < length l) list c.loop-index-test.true in
-    let other_within : i < length c.args.right.now.items = omega (arith, within, c.requires.as_many, c.args.left.now.ok.0, c.args.right.now.ok.0) in
-    keys_visits-differ i _ _ _ _ within item other_within c.index-other.ensures _ _ _ _ _ c.args.visits.now.in_range c.is_ne.ensures c.if-is_ne.true c.loop-index.invariant.visits c.compare-keys.ensures.visits
+    let other_within : i < length c.args.right.now.items =
+    omega (arith, within, c.requires.as_many, c.args.left.now.ok.0, c.args.right.now.ok.0) in
+    keys_visits-differ i _ _ _ _ within item other_within c.index-other.ensures _ _ _ _ _ c.args.visits.now.in_range
+    c.is_ne.ensures c.if-is_ne.true c.loop-index.invariant.visits c.compare-keys.ensures.visits
 
 pub compare_pairs-returns-then-is_ne-2-clause-decides : goal.compare_pairs-returns-then-is_ne-2-clause-decides
 compare_pairs-returns-then-is_ne-2-clause-decides t c =
@@ -118,8 +159,10 @@ compare_pairs-returns-then-is_ne-2-clause-decides t c =
     let list = c.deref-pair-items.ensures.value in
     let item = subst (λ l. c.pair-item.result ≡ get_or l i c.pair-item.result) list c.pair-item.is in
     let within : i < length c.args.left.now.items = subst (λ l. i < length l) list c.loop-index-test.true in
-    let other_within : i < length c.args.right.now.items = omega (arith, within, c.requires.as_many, c.args.left.now.ok.0, c.args.right.now.ok.0) in
-    values_differ i _ _ _ _ _ _ within item other_within c.index-other.ensures c.loop-index.invariant.same (c.compare-keys.ensures.equal (tied _ _ c.is_ne.ensures c.if-is_ne.false))
+    let other_within : i < length c.args.right.now.items =
+    omega (arith, within, c.requires.as_many, c.args.left.now.ok.0, c.args.right.now.ok.0) in
+    values_differ i _ _ _ _ _ _ within item other_within c.index-other.ensures c.loop-index.invariant.same
+    (c.compare-keys.ensures.equal (tied _ _ c.is_ne.ensures c.if-is_ne.false))
     c.is_ne-in-loop-index.ensures c.if-is_ne-2.true c.compare-values.ensures.decides
 
 pub compare_pairs-returns-then-is_ne-2-clause-visits : goal.compare_pairs-returns-then-is_ne-2-clause-visits
@@ -128,8 +171,10 @@ compare_pairs-returns-then-is_ne-2-clause-visits t c =
     let list = c.deref-pair-items.ensures.value in
     let item = subst (λ l. c.pair-item.result ≡ get_or l i c.pair-item.result) list c.pair-item.is in
     let within : i < length c.args.left.now.items = subst (λ l. i < length l) list c.loop-index-test.true in
-    let other_within : i < length c.args.right.now.items = omega (arith, within, c.requires.as_many, c.args.left.now.ok.0, c.args.right.now.ok.0) in
-    values_visits-differ i _ _ _ _ within item other_within c.index-other.ensures _ _ _ _ _ _ _ _ c.args.visits.now.in_range c.is_ne.ensures c.if-is_ne.false c.is_ne-in-loop-index.ensures c.if-is_ne-2.true
+    let other_within : i < length c.args.right.now.items =
+    omega (arith, within, c.requires.as_many, c.args.left.now.ok.0, c.args.right.now.ok.0) in
+    values_visits-differ i _ _ _ _ within item other_within c.index-other.ensures _ _ _ _ _ _ _ _
+    c.args.visits.now.in_range c.is_ne.ensures c.if-is_ne.false c.is_ne-in-loop-index.ensures c.if-is_ne-2.true
     c.loop-index.invariant.visits c.compare-keys.ensures.visits c.compare-values.ensures.visits
 
 pub compare_pairs-loop-index-preserved : goal.compare_pairs-loop-index-preserved
@@ -138,16 +183,21 @@ compare_pairs-loop-index-preserved t c =
     let list = c.deref-pair-items.ensures.value in
     let item = subst (λ l. c.pair-item.result ≡ get_or l i c.pair-item.result) list c.pair-item.is in
     let within : i < length c.args.left.now.items = subst (λ l. i < length l) list c.loop-index-test.true in
-    let other_within : i < length c.args.right.now.items = omega (arith, within, c.requires.as_many, c.args.left.now.ok.0, c.args.right.now.ok.0) in
+    let other_within : i < length c.args.right.now.items =
+    omega (arith, within, c.requires.as_many, c.args.left.now.ok.0, c.args.right.now.ok.0) in
     record {
       same = pairs_same i _ _ _ _ within item other_within c.index-other.ensures c.loop-index.invariant.same
-          (c.compare-keys.ensures.equal (tied _ _ c.is_ne.ensures c.if-is_ne.false)) (c.compare-values.ensures.equal (tied _ _ c.is_ne-in-loop-index.ensures c.if-is_ne-2.false));
-      visits = pairs_visits-same i _ _ _ _ within item other_within c.index-other.ensures _ _ _ _ _ _ _ _ c.is_ne.ensures c.if-is_ne.false c.is_ne-in-loop-index.ensures c.if-is_ne-2.false
+          (c.compare-keys.ensures.equal (tied _ _ c.is_ne.ensures c.if-is_ne.false))
+          (c.compare-values.ensures.equal (tied _ _ c.is_ne-in-loop-index.ensures c.if-is_ne-2.false));
+      visits = pairs_visits-same i _ _ _ _ within item other_within c.index-other.ensures _ _ _ _ _ _ _ _
+          c.is_ne.ensures c.if-is_ne.false c.is_ne-in-loop-index.ensures c.if-is_ne-2.false
           c.loop-index.invariant.visits c.compare-keys.ensures.visits c.compare-values.ensures.visits;
     }
 
 pub compare_pairs-returns-clause-decides : goal.compare_pairs-returns-clause-decides
 compare_pairs-returns-clause-decides t c =
-    let beyond : length c.args.left.now.items ≤ c.loop-index.index = subst (λ l. length l ≤ c.loop-index.index) c.deref-pair-items.ensures.value c.loop-index-test.false in
-    let other_beyond : length c.args.right.now.items ≤ c.loop-index.index = omega (arith, beyond, c.requires.as_many, c.args.left.now.ok.0, c.args.right.now.ok.0) in
+    let beyond : length c.args.left.now.items ≤ c.loop-index.index =
+    subst (λ l. length l ≤ c.loop-index.index) c.deref-pair-items.ensures.value c.loop-index-test.false in
+    let other_beyond : length c.args.right.now.items ≤ c.loop-index.index =
+    omega (arith, beyond, c.requires.as_many, c.args.left.now.ok.0, c.args.right.now.ok.0) in
     same_decides _ _ (pairs_all _ _ _ beyond other_beyond c.loop-index.invariant.same)

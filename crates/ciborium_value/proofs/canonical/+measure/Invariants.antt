@@ -18,6 +18,7 @@ invariant-measure_items-loop-item l = record {
 abbrev pub invariant-measure_pairs-loop-pair : goal.invariant-measure_pairs-loop-pair
 invariant-measure_pairs-loop-pair l = record {
   size : l.size ≡ saturated (length (pair_encodings (take l.pair-index l.pair-items)));
-  visits : AddsVisits (tree_pairs_node_count (tree_pairs_of (take l.pair-index l.pair-items))) l.fn.visits.count l.visits.count;
+  visits : AddsVisits (tree_pairs_node_count (tree_pairs_of (take l.pair-index l.pair-items))) l.fn.visits.count
+      l.visits.count;
   proper : AreProperTreePairs (tree_pairs_of (take l.pair-index l.pair-items));
 }

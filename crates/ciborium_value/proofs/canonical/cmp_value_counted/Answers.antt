@@ -11,16 +11,19 @@ pub returns-in-Equal-clause-order : goal.returns-in-Equal-clause-order
 returns-in-Equal-clause-order c =
     let left = encoding (tree_of c.args.left.now) in
     let right = encoding (tree_of c.args.right.now) in
-    let order : c.compare-order.result ≡ slice_cmp nat_cmp left right = decided_alone c.compare-order.result left right c.compare-order.ensures.decides in
+    let order : c.compare-order.result ≡ slice_cmp nat_cmp left right =
+    decided_alone c.compare-order.result left right c.compare-order.ensures.decides in
     search (rules, order)
 
 pub returns-in-Equal-clause-at_most_twice : goal.returns-in-Equal-clause-at_most_twice
 returns-in-Equal-clause-at_most_twice c =
-    both_walks-most _ _ _ _ _ _ c.compare-order.new.visits.in_range c.measure-left_size.ensures.visits c.measure-right_size.ensures.visits c.compare-order.ensures.visits
+    both_walks-most _ _ _ _ _ _ c.compare-order.new.visits.in_range c.measure-left_size.ensures.visits
+    c.measure-right_size.ensures.visits c.compare-order.ensures.visits
 
 pub returns-in-Equal-clause-twice_where_equal : goal.returns-in-Equal-clause-twice_where_equal
 returns-in-Equal-clause-twice_where_equal c e =
-    both_walks-all _ _ _ _ _ _ c.measure-left_size.ensures.visits c.measure-right_size.ensures.visits c.compare-order.ensures.visits
+    both_walks-all _ _ _ _ _ _ c.measure-left_size.ensures.visits c.measure-right_size.ensures.visits
+    c.compare-order.ensures.visits
     (equal_where_same _ _ _ c.compare-order.ensures.decides e)
 
 pub returns-in_default-clause-twice_where_equal : goal.returns-in_default-clause-twice_where_equal

@@ -10,12 +10,15 @@ pub returns-in-Ok-None : goal.returns-in-Ok-None
 returns-in-Ok-None c =
     let bytes = c.args.bytes.now in
     let rest : c.without_leading_zeros.result.now ≡ without_zeros bytes = c.without_leading_zeros.ensures in
-    let meant : bignum_meaning c.args.tag bytes ≡ Some (trees.tag c.args.tag (trees.bytes (without_zeros bytes))) = search (rules) in (
+    let meant : bignum_meaning c.args.tag bytes ≡ Some (trees.tag c.args.tag (trees.bytes (without_zeros bytes))) =
+    search (rules) in (
       λ yes.
-          let long : length (without_zeros bytes) ≡ length bytes = ap length (sym rest) ∙ equal_where_true (length c.without_leading_zeros.result.now) (length bytes) yes in
+          let long : length (without_zeros bytes) ≡ length bytes = ap length (sym rest) ∙
+          equal_where_true (length c.without_leading_zeros.result.now) (length bytes) yes in
           meant ∙ ap (λ b. Some (trees.tag c.args.tag (trees.bytes b))) (zeros_absent bytes long),
       λ whole.
-          let long : length c.without_leading_zeros.result.now ≡ length bytes = ap length rest ∙ ap length (one_string c.args.tag (without_zeros bytes) bytes (sym meant ∙ whole)) in
+          let long : length c.without_leading_zeros.result.now ≡ length bytes = ap length rest ∙
+          ap length (one_string c.args.tag (without_zeros bytes) bytes (sym meant ∙ whole)) in
           true_where_equal (length c.without_leading_zeros.result.now) (length bytes) long,
     )
   where

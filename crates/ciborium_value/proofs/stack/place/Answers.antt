@@ -6,4 +6,7 @@ use Rattle.ciborium_value.proofs.stack.place.Goals as goal
 
 pub returns-in-None : goal.returns-in-None
 returns-in-None c =
-    still-placed c.loop-frame.frames.items _ c.in-Some.frame.now c.fill.new.frame (tree_of c.loop-frame.value) (search rules) (search rules) c.in-Some.ensures.value (ap (λ r. filled_of r (frame_of c.fill.new.frame)) (sym c.in-None.is) ∙ c.in_ok-fill.ensures) ∙ c.loop-frame.invariant
+    still-placed c.loop-frame.frames.items _ c.in-Some.frame.now c.fill.new.frame (tree_of c.loop-frame.value)
+    (search rules) (search rules) c.in-Some.ensures.value
+    (ap (λ r. filled_of r (frame_of c.fill.new.frame)) (sym c.in-None.is) ∙ c.in_ok-fill.ensures) ∙
+    c.loop-frame.invariant

@@ -6,7 +6,8 @@ use Rattle.ciborium_value.proofs.stack.place.Given as goal
 
 -- what the value makes of what is open is what the first value makes of what was
 abbrev pub invariant-loop-frame : goal.invariant-loop-frame
-invariant-loop-frame l = placed (tree_frames l.frames.items) (tree_of l.value) ≡ placed (tree_frames l.fn.frames.items) (tree_of l.fn.value)
+invariant-loop-frame l = placed (tree_frames l.frames.items) (tree_of l.value) ≡ placed (tree_frames l.fn.frames.items)
+    (tree_of l.fn.value)
 
 abbrev pub decreases-loop-frame : goal.decreases-loop-frame
 decreases-loop-frame l = length l.frames.items

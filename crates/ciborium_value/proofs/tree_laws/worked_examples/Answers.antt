@@ -1,4 +1,5 @@
-use Rattle.ciborium_value.proofs.GoodItems.Examples.{spelled_examples, folding_examples, refused_examples, corner_examples, written_examples, counted_examples}
+use Rattle.ciborium_value.proofs.GoodItems.Examples.{spelled_examples, folding_examples, refused_examples}
+use Rattle.ciborium_value.proofs.GoodItems.Examples.{corner_examples, written_examples, counted_examples}
 use Rattle.ciborium_value.proofs.Trees.NotationExamples.{escape_examples, indented_examples, notation_examples}
 use Rattle.ciborium_value.proofs.tree_laws.worked_examples.Goals as goal
 

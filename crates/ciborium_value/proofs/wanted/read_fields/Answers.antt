@@ -5,41 +5,73 @@ use Rattle.ciborium_value.specs.StructReadings.{taken_fields}
 use Rattle.ciborium_value.proofs.Writing.Progress.{exits}
 use Rattle.ciborium_value.proofs.Sources.Sequences.{so, takes, blames}
 use Rattle.ciborium_value.proofs.Sources.Dictionaries.{owed_pair}
-use Rattle.ciborium_value.proofs.Sources.NamedFields.{fields_more, fields_blame_next, fields_blame_name, fields_blame_field, fields_end}
+use Rattle.ciborium_value.proofs.Sources.NamedFields.{fields_more, fields_blame_next, fields_blame_name}
+use Rattle.ciborium_value.proofs.Sources.NamedFields.{fields_blame_field, fields_end}
 use Rattle.ciborium_value.proofs.wanted.read_fields.Goals as goal
 
 pub returns-in_err-next-clause-refused : goal.returns-in_err-next-clause-refused
 returns-in_err-next-clause-refused g c =
     let e = g.S.Source.cause c.in_err-next.field-0.0 in
     let fields = g.F.WantedFields.fields c.args.fields.now in
-    exits _ c.in_err-next.field-0.0 (λ x. RefusesAhead g.S.Source.stands_before c.args.source.now (taken_fields fields (g.F.WantedFields.content c.args.fields.now)) (g.S.Source.cause x)) c.from_residual-in_err-next.ensures.1
-    (blames g.S.Source.stands_before e (so c.loop-seq.invariant.inside (fields_blame_next g.S.Source.stands_before g.S.Source.seq_stands fields (g.F.WantedFields.content c.loop-seq.fields) e c.in_err-next.ensures.refused)))
+    exits _ c.in_err-next.field-0.0 (λ x. RefusesAhead g.S.Source.stands_before c.args.source.now
+    (taken_fields fields (g.F.WantedFields.content c.args.fields.now)) (g.S.Source.cause x))
+    c.from_residual-in_err-next.ensures.1
+    (blames g.S.Source.stands_before e (so c.loop-seq.invariant.inside
+    (fields_blame_next g.S.Source.stands_before g.S.Source.seq_stands fields
+    (g.F.WantedFields.content c.loop-seq.fields) e c.in_err-next.ensures.refused)))
 
 pub returns-in_err-name-clause-refused : goal.returns-in_err-name-clause-refused
 returns-in_err-name-clause-refused g c =
     let e = g.S.Source.cause c.in_err-name.field-0.0 in
     let fields = g.F.WantedFields.fields c.args.fields.now in
-    exits _ c.in_err-name.field-0.0 (λ x. RefusesAhead g.S.Source.stands_before c.args.source.now (taken_fields fields (g.F.WantedFields.content c.args.fields.now)) (g.S.Source.cause x)) c.from_residual-in_err-name.ensures.1
-    (blames g.S.Source.stands_before e (so c.loop-seq.invariant.inside (fields_blame_name g.S.Source.stands_before g.S.Source.seq_stands fields (g.F.WantedFields.content c.loop-seq.fields) e (rw c.if-branch.true at c.in_ok-next.ensures.ok) c.in_err-name.ensures.refused)))
+    exits _ c.in_err-name.field-0.0 (λ x. RefusesAhead g.S.Source.stands_before c.args.source.now
+    (taken_fields fields (g.F.WantedFields.content c.args.fields.now)) (g.S.Source.cause x))
+    c.from_residual-in_err-name.ensures.1
+    (blames g.S.Source.stands_before e (so c.loop-seq.invariant.inside
+    (fields_blame_name g.S.Source.stands_before g.S.Source.seq_stands fields
+    (g.F.WantedFields.content c.loop-seq.fields) e (rw c.if-branch.true at c.in_ok-next.ensures.ok)
+    c.in_err-name.ensures.refused)))
 
 pub returns-in_err-read_field-clause-refused : goal.returns-in_err-read_field-clause-refused
 returns-in_err-read_field-clause-refused g c =
     let e = g.S.Source.cause c.in_err-read_field.field-0.0 in
     let fields = g.F.WantedFields.fields c.args.fields.now in
-    exits _ c.in_err-read_field.field-0.0 (λ x. RefusesAhead g.S.Source.stands_before c.args.source.now (taken_fields fields (g.F.WantedFields.content c.args.fields.now)) (g.S.Source.cause x)) c.from_residual-in_err-read_field.ensures.1
-    (blames g.S.Source.stands_before e (so c.loop-seq.invariant.inside (fields_blame_field g.S.Source.stands_before g.S.Source.seq_stands fields (g.F.WantedFields.content c.loop-seq.fields) e (rw c.if-branch.true at c.in_ok-next.ensures.ok) c.in_ok-name.ensures.ok
-    (subst (λ x. RefusesAhead g.S.Source.stands_before c.name.new.self (x.taken (string_bytes c.in_ok-name.name) (g.F.WantedFields.content c.loop-seq.fields)) e) c.loop-seq.invariant.names (rw c.deref.ensures at c.in_err-read_field.ensures.refused)))))
+    exits _ c.in_err-read_field.field-0.0 (λ x. RefusesAhead g.S.Source.stands_before c.args.source.now
+    (taken_fields fields (g.F.WantedFields.content c.args.fields.now)) (g.S.Source.cause x))
+    c.from_residual-in_err-read_field.ensures.1
+    (blames g.S.Source.stands_before e (so c.loop-seq.invariant.inside
+    (fields_blame_field g.S.Source.stands_before g.S.Source.seq_stands fields
+    (g.F.WantedFields.content c.loop-seq.fields) e (rw c.if-branch.true at c.in_ok-next.ensures.ok)
+    c.in_ok-name.ensures.ok
+    (subst (λ x. RefusesAhead g.S.Source.stands_before c.name.new.self
+    (x.taken (string_bytes c.in_ok-name.name) (g.F.WantedFields.content c.loop-seq.fields)) e)
+    c.loop-seq.invariant.names (rw c.deref.ensures at c.in_err-read_field.ensures.refused)))))
 
 pub loop-seq-preserved : goal.loop-seq-preserved
 loop-seq-preserved g c = record {
   names = c.in_ok-read_field.ensures.names ∙ c.loop-seq.invariant.names;
-  inside = so c.loop-seq.invariant.inside (fields_more g.S.Source.stands_before g.S.Source.seq_stands (g.F.WantedFields.fields c.args.fields.now) (g.F.WantedFields.content c.loop-seq.fields) (rw c.if-branch.true at c.in_ok-next.ensures.ok) c.in_ok-name.ensures.ok
-      (subst (λ x. TakesAhead g.S.Source.stands_before c.name.new.self c.read_field.new.source (x.taken (string_bytes c.in_ok-name.name) (g.F.WantedFields.content c.loop-seq.fields)) (g.F.WantedFields.content c.read_field.new.self)) c.loop-seq.invariant.names (rw c.deref.ensures at c.in_ok-read_field.ensures.ok)));
-  owed = owed_pair g.S.Source.is_unread g.S.Source.owes _ _ _ _ _ _ _ c.loop-seq.invariant.owed (rw c.if-branch.true at c.in_ok-next.ensures.took) c.in_ok-name.ensures.took c.in_ok-read_field.ensures.took;
-  only = λ first h. c.read_field.ensures.only first (c.name.ensures.only first (c.next.ensures.only first (c.loop-seq.invariant.only first h)));
-  less = omega (arith, c.in_ok-next.ensures.less, c.in_ok-name.ensures.less, c.in_ok-read_field.ensures.less, c.loop-seq.invariant.less);
+  inside = so c.loop-seq.invariant.inside (fields_more g.S.Source.stands_before g.S.Source.seq_stands
+      (g.F.WantedFields.fields c.args.fields.now) (g.F.WantedFields.content c.loop-seq.fields)
+      (rw c.if-branch.true at c.in_ok-next.ensures.ok) c.in_ok-name.ensures.ok
+      (subst (λ x. TakesAhead g.S.Source.stands_before c.name.new.self c.read_field.new.source
+      (x.taken (string_bytes c.in_ok-name.name) (g.F.WantedFields.content c.loop-seq.fields))
+      (g.F.WantedFields.content c.read_field.new.self)) c.loop-seq.invariant.names
+      (rw c.deref.ensures at c.in_ok-read_field.ensures.ok)));
+  owed = owed_pair g.S.Source.is_unread g.S.Source.owes _ _ _ _ _ _ _ c.loop-seq.invariant.owed
+      (rw c.if-branch.true at c.in_ok-next.ensures.took) c.in_ok-name.ensures.took c.in_ok-read_field.ensures.took;
+  only = λ first h. c.read_field.ensures.only first (c.name.ensures.only first
+      (c.next.ensures.only first (c.loop-seq.invariant.only first h)));
+  less = omega (
+    arith,
+    c.in_ok-next.ensures.less,
+    c.in_ok-name.ensures.less,
+    c.in_ok-read_field.ensures.less,
+    c.loop-seq.invariant.less,
+  );
 }
 
 pub returns-clause-ok : goal.returns-clause-ok
 returns-clause-ok g c =
-    takes g.S.Source.stands_before (so c.loop-seq.invariant.inside (fields_end g.S.Source.stands_before g.S.Source.seq_stands (g.F.WantedFields.fields c.args.fields.now) (g.F.WantedFields.content c.loop-seq.fields) (rw c.if-branch.false at c.in_ok-next.ensures.ok)))
+    takes g.S.Source.stands_before (so c.loop-seq.invariant.inside
+    (fields_end g.S.Source.stands_before g.S.Source.seq_stands (g.F.WantedFields.fields c.args.fields.now)
+    (g.F.WantedFields.content c.loop-seq.fields) (rw c.if-branch.false at c.in_ok-next.ensures.ok)))

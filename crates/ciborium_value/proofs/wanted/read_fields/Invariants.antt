@@ -10,8 +10,10 @@ use Rattle.ciborium_value.proofs.wanted.read_fields.Given as goal
 abbrev pub invariant-loop-seq : goal.invariant-loop-seq
 invariant-loop-seq g l = record {
   names : g.F.WantedFields.fields l.fields ≡ g.F.WantedFields.fields l.fn.fields;
-  inside : Follows (IsBefore g.S.Source.stands_before l.fn.source (taken_fields (g.F.WantedFields.fields l.fn.fields) (g.F.WantedFields.content l.fn.fields)))
-      (IsInsideFields g.S.Source.stands_before g.S.Source.seq_stands (g.F.WantedFields.fields l.fn.fields) l.source l.seq (g.F.WantedFields.content l.fields));
+  inside : Follows (IsBefore g.S.Source.stands_before l.fn.source
+      (taken_fields (g.F.WantedFields.fields l.fn.fields) (g.F.WantedFields.content l.fn.fields)))
+      (IsInsideFields g.S.Source.stands_before g.S.Source.seq_stands (g.F.WantedFields.fields l.fn.fields) l.source
+      l.seq (g.F.WantedFields.content l.fields));
   owed : TakesTo g.S.Source.is_unread l.fn.source l.source (g.S.Source.owes l.seq dictionary);
   only : TakesOnly g.S.Source.has_taken l.fn.source l.source;
   less : g.S.Source.left l.source + g.S.Source.seq_left l.seq < g.S.Source.left l.fn.source;

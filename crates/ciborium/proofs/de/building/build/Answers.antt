@@ -1,4 +1,5 @@
-use Rattle.std.proofs.Common.{◌∙◌, arith, ◌≤◌, ℕ, List, length, refl, rules, Some, Ok, Err, Result, Option, subst, MatchOption}
+use Rattle.std.proofs.Common.{◌∙◌, arith, ◌≤◌, ℕ, List, length, refl, rules, Some, Ok, Err, Result, Option, subst}
+use Rattle.std.proofs.Common.{MatchOption}
 use Rattle.std.proofs.lemmas.Result.{err_from_is_err_and}
 use Rattle.ciborium_ll.specs.declared.decoder.Decoder.{Decoder}
 use Rattle.ciborium_value.specs.declared.tree.Value.{Value}
@@ -22,8 +23,10 @@ abbrev Reading : Spelling → List TreeFrame → ℕ → Decoder (List ℕ) → 
 Reading spelling os l d e = (xs : List ℕ) (p : ℕ) → StandsAt spelling Some d xs p → IsReading spelling Some e os l xs p
 
 -- a turn goes on
-abbrev Turns : Spelling → List TreeFrame → List TreeFrame → ℕ → Result (Option Value) (Error Unit) → Decoder (List ℕ) → Decoder (List ℕ) → Type 0
-Turns spelling os us l x d e = (xs : List ℕ) (p : ℕ) → IsReading spelling Some d os l xs p → IsTurned spelling Some e us l xs p x
+abbrev Turns : Spelling → List TreeFrame → List TreeFrame → ℕ → Result (Option Value) (Error Unit) → Decoder (List ℕ) →
+    Decoder (List ℕ) → Type 0
+Turns spelling os us l x d e = (xs : List ℕ) (p : ℕ) → IsReading spelling Some d os l xs p →
+    IsTurned spelling Some e us l xs p x
 
 pub turns-init : goal.turns-init
 turns-init g c = record {
@@ -31,27 +34,45 @@ turns-init g c = record {
   due = allowed-first c.args.decoder.now (frames_of c.new-stack.result) c.new-stack.ensures;
   depth = search rules;
   fewer = omega arith;
-  reading = so-unread g.R.Read.remaining c.args.decoder.now c.args.decoder.now (Reading g.S.Rules.spelling (frames_of c.new-stack.result) c.args.levels) (refl, refl)
-      (λ u xs p s. begin g.S.Rules.spelling Some (with_left c.args.decoder.now u) (frames_of c.new-stack.result) c.args.levels xs p c.new-stack.ensures s);
+  reading = so-unread g.R.Read.remaining c.args.decoder.now c.args.decoder.now
+      (Reading g.S.Rules.spelling (frames_of c.new-stack.result) c.args.levels) (refl, refl)
+      (λ u xs p s. begin g.S.Rules.spelling Some (with_left c.args.decoder.now u) (frames_of c.new-stack.result)
+      c.args.levels xs p c.new-stack.ensures s);
 }
 
 pub turns-preserved : goal.turns-preserved
 turns-preserved g c = record {
-  name = same-name c.allow_due.new.decoder c.turn.new.decoder c.in_ok-value.ensures.same_reader ∙ c.allow_due.ensures.name ∙ c.turns.invariant.name;
-  due = subst (AllowsThen (reach_of c.args.decoder.now) c.turn.new.decoder (frames_of c.turn.new.stack)) c.in_default.is (c.in_ok-value.ensures.due (reach_of c.args.decoder.now)
+  name = same-name c.allow_due.new.decoder c.turn.new.decoder c.in_ok-value.ensures.same_reader ∙
+      c.allow_due.ensures.name ∙ c.turns.invariant.name;
+  due = subst (AllowsThen (reach_of c.args.decoder.now) c.turn.new.decoder (frames_of c.turn.new.stack)) c.in_default.is
+      (c.in_ok-value.ensures.due (reach_of c.args.decoder.now)
       (c.allow_due.ensures.due (reach_of c.args.decoder.now) c.turns.invariant.due));
-  depth = subst (λ o. MatchOption o (length (frames_of c.turn.new.stack) ≤ c.args.levels) (λ _. Unit {0})) c.in_default.is c.in_ok-value.ensures.depth;
-  fewer = omega (arith, c.in_ok-value.ensures.fewer, c.turns.invariant.fewer, heads-same c.turns.decoder c.allow_due.new.decoder c.allow_due.ensures.pushed c.allow_due.ensures.count);
+  depth = subst (λ o. MatchOption o (length (frames_of c.turn.new.stack) ≤ c.args.levels) (λ _. Unit {0}))
+      c.in_default.is c.in_ok-value.ensures.depth;
+  fewer = omega (
+    arith,
+    c.in_ok-value.ensures.fewer,
+    c.turns.invariant.fewer,
+    heads-same c.turns.decoder c.allow_due.new.decoder c.allow_due.ensures.pushed c.allow_due.ensures.count,
+  );
   reading = (
-      let t = so-both g.R.Read.remaining c.args.decoder.now c.allow_due.new.decoder c.turn.new.decoder (Reading g.S.Rules.spelling (frames_of c.turns.stack) c.args.levels)
-      (Turns g.S.Rules.spelling (frames_of c.turns.stack) (frames_of c.turn.new.stack) c.args.levels (Ok c.in_ok-value.field-0))
-      (so-kept g.R.Read.remaining c.args.decoder.now c.turns.decoder c.allow_due.new.decoder (Reading g.S.Rules.spelling (frames_of c.turns.stack) c.args.levels) (Reading g.S.Rules.spelling (frames_of c.turns.stack) c.args.levels) c.allow_due.ensures.unread c.allow_due.ensures.count
-      (λ u v h xs p s. reading-moved c.turns.decoder c.allow_due.new.decoder v c.allow_due.ensures.pushed c.allow_due.ensures.count g.S.Rules.spelling (frames_of c.turns.stack) c.args.levels xs p c.allow_due.ensures.head_len (h xs p s)) c.turns.invariant.reading) c.in_ok-value.ensures.turn in (
+      let t = so-both g.R.Read.remaining c.args.decoder.now c.allow_due.new.decoder c.turn.new.decoder
+      (Reading g.S.Rules.spelling (frames_of c.turns.stack) c.args.levels)
+      (Turns g.S.Rules.spelling (frames_of c.turns.stack) (frames_of c.turn.new.stack) c.args.levels
+      (Ok c.in_ok-value.field-0))
+      (so-kept g.R.Read.remaining c.args.decoder.now c.turns.decoder c.allow_due.new.decoder
+      (Reading g.S.Rules.spelling (frames_of c.turns.stack) c.args.levels)
+      (Reading g.S.Rules.spelling (frames_of c.turns.stack) c.args.levels) c.allow_due.ensures.unread
+      c.allow_due.ensures.count
+      (λ u v h xs p s. reading-moved c.turns.decoder c.allow_due.new.decoder v c.allow_due.ensures.pushed
+      c.allow_due.ensures.count g.S.Rules.spelling (frames_of c.turns.stack) c.args.levels xs p
+      c.allow_due.ensures.head_len (h xs p s)) c.turns.invariant.reading) c.in_ok-value.ensures.turn in (
         t.0,
         t.1,
         t.2,
         λ z xs p s. let m = t.3 z in
-            subst (λ o. IsTurned {E = Unit} g.S.Rules.spelling Some (with_left c.turn.new.decoder z) (frames_of c.turn.new.stack) c.args.levels xs p (Ok o)) c.in_default.is (m.2 xs p (m.1 xs p s)),
+            subst (λ o. IsTurned {E = Unit} g.S.Rules.spelling Some (with_left c.turn.new.decoder z)
+            (frames_of c.turn.new.stack) c.args.levels xs p (Ok o)) c.in_default.is (m.2 xs p (m.1 xs p s)),
         t.4,
       )
       );
@@ -59,28 +80,44 @@ turns-preserved g c = record {
 
 pub returns-in-Some-clause-due : goal.returns-in-Some-clause-due
 returns-in-Some-clause-due g c =
-    subst (AllowsThen (reach_of c.args.decoder.now) c.turn.new.decoder (frames_of c.turn.new.stack)) c.in-Some.is (c.in_ok-value.ensures.due (reach_of c.args.decoder.now)
+    subst (AllowsThen (reach_of c.args.decoder.now) c.turn.new.decoder (frames_of c.turn.new.stack)) c.in-Some.is
+    (c.in_ok-value.ensures.due (reach_of c.args.decoder.now)
     (c.allow_due.ensures.due (reach_of c.args.decoder.now) c.turns.invariant.due))
 
 pub returns-in-Some-clause-value : goal.returns-in-Some-clause-value
 returns-in-Some-clause-value g c =
-    let t = so-both g.R.Read.remaining c.args.decoder.now c.allow_due.new.decoder c.turn.new.decoder (Reading g.S.Rules.spelling (frames_of c.turns.stack) c.args.levels)
-    (Turns g.S.Rules.spelling (frames_of c.turns.stack) (frames_of c.turn.new.stack) c.args.levels (Ok c.in_ok-value.field-0))
-    (so-kept g.R.Read.remaining c.args.decoder.now c.turns.decoder c.allow_due.new.decoder (Reading g.S.Rules.spelling (frames_of c.turns.stack) c.args.levels) (Reading g.S.Rules.spelling (frames_of c.turns.stack) c.args.levels) c.allow_due.ensures.unread c.allow_due.ensures.count
-    (λ u v h xs p s. reading-moved c.turns.decoder c.allow_due.new.decoder v c.allow_due.ensures.pushed c.allow_due.ensures.count g.S.Rules.spelling (frames_of c.turns.stack) c.args.levels xs p c.allow_due.ensures.head_len (h xs p s)) c.turns.invariant.reading) c.in_ok-value.ensures.turn in (
+    let t = so-both g.R.Read.remaining c.args.decoder.now c.allow_due.new.decoder c.turn.new.decoder
+    (Reading g.S.Rules.spelling (frames_of c.turns.stack) c.args.levels)
+    (Turns g.S.Rules.spelling (frames_of c.turns.stack) (frames_of c.turn.new.stack) c.args.levels
+    (Ok c.in_ok-value.field-0))
+    (so-kept g.R.Read.remaining c.args.decoder.now c.turns.decoder c.allow_due.new.decoder
+    (Reading g.S.Rules.spelling (frames_of c.turns.stack) c.args.levels)
+    (Reading g.S.Rules.spelling (frames_of c.turns.stack) c.args.levels) c.allow_due.ensures.unread
+    c.allow_due.ensures.count
+    (λ u v h xs p s. reading-moved c.turns.decoder c.allow_due.new.decoder v c.allow_due.ensures.pushed
+    c.allow_due.ensures.count g.S.Rules.spelling (frames_of c.turns.stack) c.args.levels xs p
+    c.allow_due.ensures.head_len (h xs p s)) c.turns.invariant.reading) c.in_ok-value.ensures.turn in (
       t.0,
       t.1,
       t.2,
       λ z xs p s. let m = t.3 z in
-          subst (λ o. IsTurned {E = Unit} g.S.Rules.spelling Some (with_left c.turn.new.decoder z) (frames_of c.turn.new.stack) c.args.levels xs p (Ok o)) c.in-Some.is (m.2 xs p (m.1 xs p s)),
+          subst (λ o. IsTurned {E = Unit} g.S.Rules.spelling Some (with_left c.turn.new.decoder z)
+          (frames_of c.turn.new.stack) c.args.levels xs p (Ok o)) c.in-Some.is (m.2 xs p (m.1 xs p s)),
       t.4,
     )
 
 pub returns-in_err-value-clause-value : goal.returns-in_err-value-clause-value
 returns-in_err-value-clause-value g c =
     let exit = err_from_is_err_and c.from_residual.result c.from_residual.ensures.1 in
-    let t = so-both g.R.Read.remaining c.args.decoder.now c.allow_due.new.decoder c.turn.new.decoder (Reading g.S.Rules.spelling (frames_of c.turns.stack) c.args.levels)
-    (Turns g.S.Rules.spelling (frames_of c.turns.stack) (frames_of c.turn.new.stack) c.args.levels (Err c.in_err-value.field-0.0))
-    (so-kept g.R.Read.remaining c.args.decoder.now c.turns.decoder c.allow_due.new.decoder (Reading g.S.Rules.spelling (frames_of c.turns.stack) c.args.levels) (Reading g.S.Rules.spelling (frames_of c.turns.stack) c.args.levels) c.allow_due.ensures.unread c.allow_due.ensures.count
-    (λ u v h xs p s. reading-moved c.turns.decoder c.allow_due.new.decoder v c.allow_due.ensures.pushed c.allow_due.ensures.count g.S.Rules.spelling (frames_of c.turns.stack) c.args.levels xs p c.allow_due.ensures.head_len (h xs p s)) c.turns.invariant.reading) c.in_err-value.ensures.turn in
+    let t = so-both g.R.Read.remaining c.args.decoder.now c.allow_due.new.decoder c.turn.new.decoder
+    (Reading g.S.Rules.spelling (frames_of c.turns.stack) c.args.levels)
+    (Turns g.S.Rules.spelling (frames_of c.turns.stack) (frames_of c.turn.new.stack) c.args.levels
+    (Err c.in_err-value.field-0.0))
+    (so-kept g.R.Read.remaining c.args.decoder.now c.turns.decoder c.allow_due.new.decoder
+    (Reading g.S.Rules.spelling (frames_of c.turns.stack) c.args.levels)
+    (Reading g.S.Rules.spelling (frames_of c.turns.stack) c.args.levels) c.allow_due.ensures.unread
+    c.allow_due.ensures.count
+    (λ u v h xs p s. reading-moved c.turns.decoder c.allow_due.new.decoder v c.allow_due.ensures.pushed
+    c.allow_due.ensures.count g.S.Rules.spelling (frames_of c.turns.stack) c.args.levels xs p
+    c.allow_due.ensures.head_len (h xs p s)) c.turns.invariant.reading) c.in_err-value.ensures.turn in
     rw (exit.1, exit.2) (t.0, t.1, t.2, λ z xs p s. let m = t.3 z in m.2 xs p (m.1 xs p s), t.4)

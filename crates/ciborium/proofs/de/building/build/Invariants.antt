@@ -12,7 +12,9 @@ invariant-turns g l = record {
   due : AllowsDue (reach_of l.initial.decoder) l.decoder (frames_of l.stack);
   depth : length (frames_of l.stack) ≤ l.levels;
   fewer : heads_left l.decoder ≤ heads_left l.initial.decoder;
-  reading : TakesBeforeAny g.R.Read.remaining l.initial.decoder l.decoder (λ d e. (xs : List ℕ) (p : ℕ) → StandsAt g.S.Rules.spelling Some d xs p → IsReading g.S.Rules.spelling Some e (frames_of l.stack) l.levels xs p);
+  reading : TakesBeforeAny g.R.Read.remaining l.initial.decoder l.decoder
+      (λ d e. (xs : List ℕ) (p : ℕ) → StandsAt g.S.Rules.spelling Some d xs p →
+      IsReading g.S.Rules.spelling Some e (frames_of l.stack) l.levels xs p);
 }
 
 abbrev pub decreases-turns : goal.decreases-turns

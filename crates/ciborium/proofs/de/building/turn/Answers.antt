@@ -6,7 +6,8 @@ use Rattle.ciborium_value.specs.View.{tree_of}
 use Rattle.ciborium.specs.declared.de.front.Part.TheVariants.{Whole, Opened, Ended}
 use Rattle.ciborium_ll.proofs.HeldBytes.{same-reach}
 use Rattle.ciborium.proofs.Turns.DueParts.{allowed-opened, allowed-placed, due-closed, rests-as}
-use Rattle.ciborium.proofs.Turns.Turned.{turn-refused, turn-whole, turn-opened, turn-ended, turn-break, depth-placed, depth-closed}
+use Rattle.ciborium.proofs.Turns.Turned.{turn-refused, turn-whole, turn-opened, turn-ended, turn-break, depth-placed}
+use Rattle.ciborium.proofs.Turns.Turned.{depth-closed}
 use Rattle.ciborium.proofs.de.building.turn.Goals as goal
 
 pub returns-in_err-value-clause-turn : goal.returns-in_err-value-clause-turn
@@ -17,14 +18,17 @@ returns-in_err-value-clause-turn g c =
       t.0,
       t.1,
       t.2,
-      λ z xs p s. turn-refused {E = Unit} g.S.Rules.spelling Some (with_left c.args.decoder.now (t.0 ++ z)) (with_left c.next.new.decoder z) (frames_of c.args.stack.now) c.args.levels xs p c.depth.result c.depth.ensures (Err c.in_err-value.field-0.0)
+      λ z xs p s. turn-refused {E = Unit} g.S.Rules.spelling Some (with_left c.args.decoder.now (t.0 ++ z))
+          (with_left c.next.new.decoder z) (frames_of c.args.stack.now) c.args.levels xs p c.depth.result
+          c.depth.ensures (Err c.in_err-value.field-0.0)
           (Err c.in_err-value.field-0.0) refl (t.3 z) s c.in_err-value.field-0.0 refl,
       t.4,
     )
 
 pub returns-in-Whole-clause-depth : goal.returns-in-Whole-clause-depth
 returns-in-Whole-clause-depth g c =
-    depth-placed g.S.Rules.spelling c.place.result (frames_of c.args.stack.now) (frames_of c.place.new.stack) (tree_of c.in-Whole.value) c.offset.result c.args.levels c.place.ensures c.requires
+    depth-placed g.S.Rules.spelling c.place.result (frames_of c.args.stack.now) (frames_of c.place.new.stack)
+    (tree_of c.in-Whole.value) c.offset.result c.args.levels c.place.ensures c.requires
 
 pub returns-in-Whole-clause-turn : goal.returns-in-Whole-clause-turn
 returns-in-Whole-clause-turn g c =
@@ -32,8 +36,11 @@ returns-in-Whole-clause-turn g c =
       t.0,
       t.1,
       t.2,
-      λ z xs p s. turn-whole {E = Unit} g.S.Rules.spelling Some (with_left c.args.decoder.now (t.0 ++ z)) (with_left c.next.new.decoder z) (frames_of c.args.stack.now) c.args.levels xs p c.depth.result c.depth.ensures (Ok c.in_ok-value.field-0)
-          (Ok (Whole c.in-Whole.value)) (ap Ok c.in-Whole.is) (t.3 z) s c.in-Whole.value (frames_of c.place.new.stack) c.offset.result c.place.result refl c.offset.ensures c.place.ensures,
+      λ z xs p s. turn-whole {E = Unit} g.S.Rules.spelling Some (with_left c.args.decoder.now (t.0 ++ z))
+          (with_left c.next.new.decoder z) (frames_of c.args.stack.now) c.args.levels xs p c.depth.result
+          c.depth.ensures (Ok c.in_ok-value.field-0)
+          (Ok (Whole c.in-Whole.value)) (ap Ok c.in-Whole.is) (t.3 z) s c.in-Whole.value (frames_of c.place.new.stack)
+          c.offset.result c.place.result refl c.offset.ensures c.place.ensures,
       t.4,
     )
 
@@ -43,15 +50,21 @@ returns-in-Ok-clause-turn g c =
       t.0,
       t.1,
       t.2,
-      λ z xs p s. turn-opened {E = Unit} g.S.Rules.spelling Some (with_left c.args.decoder.now (t.0 ++ z)) (with_left c.next.new.decoder z) (frames_of c.args.stack.now) c.args.levels xs p c.depth.result c.depth.ensures (Ok c.in_ok-value.field-0)
-          (Ok (Opened c.in-Opened.opening)) (ap Ok c.in-Opened.is) (t.3 z) s c.in-Opened.opening (frames_of c.open.new.self) refl c.in-Ok.ensures.ok,
+      λ z xs p s. turn-opened {E = Unit} g.S.Rules.spelling Some (with_left c.args.decoder.now (t.0 ++ z))
+          (with_left c.next.new.decoder z) (frames_of c.args.stack.now) c.args.levels xs p c.depth.result
+          c.depth.ensures (Ok c.in_ok-value.field-0)
+          (Ok (Opened c.in-Opened.opening)) (ap Ok c.in-Opened.is) (t.3 z) s c.in-Opened.opening
+          (frames_of c.open.new.self) refl c.in-Ok.ensures.ok,
       t.4,
     )
 
 pub returns-in-Some-clause-depth : goal.returns-in-Some-clause-depth
 returns-in-Some-clause-depth g c =
-    depth-placed g.S.Rules.spelling c.place-in-Some.result (frames_of c.close.new.self) (frames_of c.place-in-Some.new.stack) (tree_of c.in-Some.value) c.offset-in-Some.result c.args.levels c.place-in-Some.ensures
-    (depth-closed (frames_of c.args.stack.now) (frames_of c.close.new.self) (tree_of c.in-Some.value) c.args.levels c.in-Some.ensures c.requires)
+    depth-placed g.S.Rules.spelling c.place-in-Some.result (frames_of c.close.new.self)
+    (frames_of c.place-in-Some.new.stack) (tree_of c.in-Some.value) c.offset-in-Some.result c.args.levels
+    c.place-in-Some.ensures
+    (depth-closed (frames_of c.args.stack.now) (frames_of c.close.new.self) (tree_of c.in-Some.value) c.args.levels
+    c.in-Some.ensures c.requires)
 
 pub returns-in-Some-clause-turn : goal.returns-in-Some-clause-turn
 returns-in-Some-clause-turn g c =
@@ -59,8 +72,12 @@ returns-in-Some-clause-turn g c =
       t.0,
       t.1,
       t.2,
-      λ z xs p s. turn-ended {E = Unit} g.S.Rules.spelling Some (with_left c.args.decoder.now (t.0 ++ z)) (with_left c.next.new.decoder z) (frames_of c.args.stack.now) c.args.levels xs p c.depth.result c.depth.ensures (Ok c.in_ok-value.field-0)
-          (Ok Ended) (ap Ok c.in-Ended.is) (t.3 z) s c.in-Some.value (frames_of c.close.new.self) (frames_of c.place-in-Some.new.stack) c.offset-in-Some.result c.place-in-Some.result refl c.in-Some.ensures c.offset-in-Some.ensures c.place-in-Some.ensures,
+      λ z xs p s. turn-ended {E = Unit} g.S.Rules.spelling Some (with_left c.args.decoder.now (t.0 ++ z))
+          (with_left c.next.new.decoder z) (frames_of c.args.stack.now) c.args.levels xs p c.depth.result
+          c.depth.ensures (Ok c.in_ok-value.field-0)
+          (Ok Ended) (ap Ok c.in-Ended.is) (t.3 z) s c.in-Some.value (frames_of c.close.new.self)
+          (frames_of c.place-in-Some.new.stack) c.offset-in-Some.result c.place-in-Some.result refl
+          c.in-Some.ensures c.offset-in-Some.ensures c.place-in-Some.ensures,
       t.4,
     )
 
@@ -70,23 +87,38 @@ returns-in-None-clause-turn g c =
       t.0,
       t.1,
       t.2,
-      λ z xs p s. turn-break {E = Unit} g.S.Rules.spelling Some (with_left c.args.decoder.now (t.0 ++ z)) (with_left c.next.new.decoder z) (frames_of c.args.stack.now) c.args.levels xs p c.depth.result c.depth.ensures (Ok c.in_ok-value.field-0)
-          (Ok Ended) (ap Ok c.in-Ended.is) (t.3 z) s c.offset-offset.result refl c.in-None.ensures.0 c.offset-offset.ensures,
+      λ z xs p s. turn-break {E = Unit} g.S.Rules.spelling Some (with_left c.args.decoder.now (t.0 ++ z))
+          (with_left c.next.new.decoder z) (frames_of c.args.stack.now) c.args.levels xs p c.depth.result
+          c.depth.ensures (Ok c.in_ok-value.field-0)
+          (Ok Ended) (ap Ok c.in-Ended.is) (t.3 z) s c.offset-offset.result refl c.in-None.ensures.0
+          c.offset-offset.ensures,
       t.4,
     )
 
 pub returns-in-Whole-clause-due : goal.returns-in-Whole-clause-due
 returns-in-Whole-clause-due g c reach allows =
-    allowed-placed reach c.args.decoder.now c.next.new.decoder (frames_of c.args.stack.now) allows (same-reach c.args.decoder.now c.next.new.decoder c.next.ensures.same_reader) c.in_ok-value.ensures.fewer g.S.Rules.spelling
-    (frames_of c.args.stack.now) (frames_of c.place.new.stack) (tree_of c.in-Whole.value) c.offset.result c.place.result refl (rests-as c.in_ok-value.field-0 (Whole c.in-Whole.value) c.next.new.decoder.pushed c.in-Whole.is c.in_ok-value.ensures.rests) c.place.ensures
+    allowed-placed reach c.args.decoder.now c.next.new.decoder (frames_of c.args.stack.now) allows
+    (same-reach c.args.decoder.now c.next.new.decoder c.next.ensures.same_reader) c.in_ok-value.ensures.fewer
+    g.S.Rules.spelling
+    (frames_of c.args.stack.now) (frames_of c.place.new.stack) (tree_of c.in-Whole.value) c.offset.result c.place.result
+    refl (rests-as c.in_ok-value.field-0 (Whole c.in-Whole.value) c.next.new.decoder.pushed c.in-Whole.is
+    c.in_ok-value.ensures.rests) c.place.ensures
 
 pub returns-in-Some-clause-due : goal.returns-in-Some-clause-due
 returns-in-Some-clause-due g c reach allows =
-    allowed-placed reach c.args.decoder.now c.next.new.decoder (frames_of c.args.stack.now) allows (same-reach c.args.decoder.now c.next.new.decoder c.next.ensures.same_reader) c.in_ok-value.ensures.fewer g.S.Rules.spelling
-    (frames_of c.close.new.self) (frames_of c.place-in-Some.new.stack) (tree_of c.in-Some.value) c.offset-in-Some.result c.place-in-Some.result (due-closed (frames_of c.args.stack.now) (frames_of c.close.new.self) (tree_of c.in-Some.value) c.in-Some.ensures)
-    (rests-as c.in_ok-value.field-0 Ended c.next.new.decoder.pushed c.in-Ended.is c.in_ok-value.ensures.rests) c.place-in-Some.ensures
+    allowed-placed reach c.args.decoder.now c.next.new.decoder (frames_of c.args.stack.now) allows
+    (same-reach c.args.decoder.now c.next.new.decoder c.next.ensures.same_reader) c.in_ok-value.ensures.fewer
+    g.S.Rules.spelling
+    (frames_of c.close.new.self) (frames_of c.place-in-Some.new.stack) (tree_of c.in-Some.value) c.offset-in-Some.result
+    c.place-in-Some.result (due-closed (frames_of c.args.stack.now) (frames_of c.close.new.self)
+    (tree_of c.in-Some.value) c.in-Some.ensures)
+    (rests-as c.in_ok-value.field-0 Ended c.next.new.decoder.pushed c.in-Ended.is c.in_ok-value.ensures.rests)
+    c.place-in-Some.ensures
 
 pub returns-in-Ok-clause-due : goal.returns-in-Ok-clause-due
 returns-in-Ok-clause-due g c reach allows =
-    allowed-opened reach c.args.decoder.now c.next.new.decoder (frames_of c.args.stack.now) allows (same-reach c.args.decoder.now c.next.new.decoder c.next.ensures.same_reader) c.in_ok-value.ensures.fewer c.in-Opened.opening
-    (frames_of c.open.new.self) c.in-Ok.ensures.ok (rests-as c.in_ok-value.field-0 (Opened c.in-Opened.opening) c.next.new.decoder.pushed c.in-Opened.is c.in_ok-value.ensures.rests)
+    allowed-opened reach c.args.decoder.now c.next.new.decoder (frames_of c.args.stack.now) allows
+    (same-reach c.args.decoder.now c.next.new.decoder c.next.ensures.same_reader) c.in_ok-value.ensures.fewer
+    c.in-Opened.opening
+    (frames_of c.open.new.self) c.in-Ok.ensures.ok (rests-as c.in_ok-value.field-0 (Opened c.in-Opened.opening)
+    c.next.new.decoder.pushed c.in-Opened.is c.in_ok-value.ensures.rests)

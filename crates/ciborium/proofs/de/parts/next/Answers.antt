@@ -12,7 +12,9 @@ use Rattle.ciborium.specs.DeterministicRefusals.{of_array, of_map}
 use Rattle.ciborium.specs.Errors.{IsRefusedBy}
 use Rattle.ciborium.specs.inner.Parts.{IsHeadAccepted, IsPartRead, RefusesPart}
 use Rattle.ciborium.specs.Spelling.{head_fault}
-use Rattle.ciborium.proofs.Spellings.SpelledParts.{ahead-of, container-part, faulty-head, float-refuses, got-end, got-negative, got-positive, got-simple, got-string, head-refused, part-behind-head, part-of-head, simple-refuses, string-fault}
+use Rattle.ciborium.proofs.Spellings.SpelledParts.{ahead-of, container-part, faulty-head, float-refuses, got-end}
+use Rattle.ciborium.proofs.Spellings.SpelledParts.{got-negative, got-positive, got-simple, got-string, head-refused}
+use Rattle.ciborium.proofs.Spellings.SpelledParts.{part-behind-head, part-of-head, simple-refuses, string-fault}
 use Rattle.ciborium.proofs.Readers.WhateverFollows.{StringSo}
 use Rattle.ciborium.proofs.de.parts.next.Goals as goal
 
@@ -24,7 +26,8 @@ returns-in_err-header-clause-part g c =
       t.0,
       t.1,
       t.2,
-      λ z xs p s. head-refused g.S.Rules.spelling (Some z) c.in_err-header.field-0.0 xs p c.args.levels (t.3 z xs p (ahead-of g.S.Rules.spelling Some (with_left c.args.decoder.now (t.0 ++ z)) xs p s)),
+      λ z xs p s. head-refused g.S.Rules.spelling (Some z) c.in_err-header.field-0.0 xs p c.args.levels
+          (t.3 z xs p (ahead-of g.S.Rules.spelling Some (with_left c.args.decoder.now (t.0 ++ z)) xs p s)),
       t.4,
     )
 
@@ -34,95 +37,160 @@ returns-in-Some-clause-part g c =
       t.0,
       t.1,
       t.2,
-      λ z xs p s. faulty-head g.S.Rules.spelling g.R.Read.remaining c.args.decoder.now c.pull.new.decoder (t.0 ++ z) z xs p s c.in_ok-header.ensures.measured Unit c.in_ok-header.header c.args.levels c.offset-offset.result c.in-Some.kind
-          (sym (c.find_head_fault.ensures ∙ ap (head_fault g.S.Rules.spelling c.in_ok-header.header) c.head_len.ensures) ∙ c.in-Some.is) c.offset-offset.ensures (t.3 z xs p (ahead-of g.S.Rules.spelling Some (with_left c.args.decoder.now (t.0 ++ z)) xs p s)),
+      λ z xs p s. faulty-head g.S.Rules.spelling g.R.Read.remaining c.args.decoder.now c.pull.new.decoder (t.0 ++ z) z
+          xs p s c.in_ok-header.ensures.measured Unit c.in_ok-header.header c.args.levels c.offset-offset.result
+          c.in-Some.kind
+          (sym (c.find_head_fault.ensures ∙ ap (head_fault g.S.Rules.spelling c.in_ok-header.header) c.head_len.ensures)
+          ∙ c.in-Some.is) c.offset-offset.ensures (t.3 z xs p
+          (ahead-of g.S.Rules.spelling Some (with_left c.args.decoder.now (t.0 ++ z)) xs p s)),
       t.4,
     )
 
 pub returns-in-Positive-clause-part : goal.returns-in-Positive-clause-part
 returns-in-Positive-clause-part g c =
-    part-of-head g.S.Rules.spelling g.R.Read.remaining c.args.decoder.now c.pull.new.decoder c.in_ok-header.header c.in_ok-header.ensures.measured
-    (sym (c.find_head_fault.ensures ∙ ap (head_fault g.S.Rules.spelling c.in_ok-header.header) c.head_len.ensures) ∙ c.in_default.is) c.in_ok-header.ensures.head _
-    (λ z xs p at a. got-positive Some (with_left c.pull.new.decoder z) c.args.levels xs p c.in_ok-header.header c.pull.ensures.pushed g.S.Rules.spelling c.in-Positive.n _ (tree_of-Integer c.from.result ∙ ap trees.integer c.from.ensures) c.in-Positive.is a)
+    part-of-head g.S.Rules.spelling g.R.Read.remaining c.args.decoder.now c.pull.new.decoder c.in_ok-header.header
+    c.in_ok-header.ensures.measured
+    (sym (c.find_head_fault.ensures ∙ ap (head_fault g.S.Rules.spelling c.in_ok-header.header) c.head_len.ensures) ∙
+    c.in_default.is) c.in_ok-header.ensures.head _
+    (λ z xs p at a. got-positive Some (with_left c.pull.new.decoder z) c.args.levels xs p c.in_ok-header.header
+    c.pull.ensures.pushed g.S.Rules.spelling c.in-Positive.n _
+    (tree_of-Integer c.from.result ∙ ap trees.integer c.from.ensures) c.in-Positive.is a)
 
 pub returns-in-Negative-clause-part : goal.returns-in-Negative-clause-part
 returns-in-Negative-clause-part g c =
-    part-of-head g.S.Rules.spelling g.R.Read.remaining c.args.decoder.now c.pull.new.decoder c.in_ok-header.header c.in_ok-header.ensures.measured
-    (sym (c.find_head_fault.ensures ∙ ap (head_fault g.S.Rules.spelling c.in_ok-header.header) c.head_len.ensures) ∙ c.in_default.is) c.in_ok-header.ensures.head _
-    (λ z xs p at a. got-negative Some (with_left c.pull.new.decoder z) c.args.levels xs p c.in_ok-header.header c.pull.ensures.pushed g.S.Rules.spelling c.in-Negative.n _ (tree_of-Integer c.from_head.result ∙ ap trees.integer c.from_head.ensures) c.in-Negative.is a)
+    part-of-head g.S.Rules.spelling g.R.Read.remaining c.args.decoder.now c.pull.new.decoder c.in_ok-header.header
+    c.in_ok-header.ensures.measured
+    (sym (c.find_head_fault.ensures ∙ ap (head_fault g.S.Rules.spelling c.in_ok-header.header) c.head_len.ensures) ∙
+    c.in_default.is) c.in_ok-header.ensures.head _
+    (λ z xs p at a. got-negative Some (with_left c.pull.new.decoder z) c.args.levels xs p c.in_ok-header.header
+    c.pull.ensures.pushed g.S.Rules.spelling c.in-Negative.n _
+    (tree_of-Integer c.from_head.result ∙ ap trees.integer c.from_head.ensures) c.in-Negative.is a)
 
 pub returns-in_ok-value-in-Bytes-clause-part : goal.returns-in_ok-value-in-Bytes-clause-part
 returns-in_ok-value-in-Bytes-clause-part g c =
-    part-behind-head g.S.Rules.spelling g.R.Read.remaining c.args.decoder.now c.pull.new.decoder c.in_ok-header.header c.in_ok-header.ensures.measured
-    (sym (c.find_head_fault.ensures ∙ ap (head_fault g.S.Rules.spelling c.in_ok-header.header) c.head_len.ensures) ∙ c.in_default.is) c.in_ok-header.ensures.head c.read_string.new.decoder _
-    (λ d e. StringSo {E = Unit} of_bytes c.in-Bytes.len c.pull.new.decoder.last d e (Ok c.in_ok-value-in-Bytes.value)) c.in_ok-value-in-Bytes.ensures.content
-    (λ m z xs p at a read. got-string of_bytes Some (with_left c.pull.new.decoder m) (with_left c.read_string.new.decoder z) c.args.levels xs p c.in_ok-header.header g.S.Rules.spelling Unit c.in-Bytes.len c.in_ok-value-in-Bytes.value c.read_string.ensures.pushed c.in-Bytes.is read a)
+    part-behind-head g.S.Rules.spelling g.R.Read.remaining c.args.decoder.now c.pull.new.decoder c.in_ok-header.header
+    c.in_ok-header.ensures.measured
+    (sym (c.find_head_fault.ensures ∙ ap (head_fault g.S.Rules.spelling c.in_ok-header.header) c.head_len.ensures) ∙
+    c.in_default.is) c.in_ok-header.ensures.head c.read_string.new.decoder _
+    (λ d e. StringSo {E = Unit} of_bytes c.in-Bytes.len c.pull.new.decoder.last d e (Ok c.in_ok-value-in-Bytes.value))
+    c.in_ok-value-in-Bytes.ensures.content
+    (λ m z xs p at a read. got-string of_bytes Some (with_left c.pull.new.decoder m)
+    (with_left c.read_string.new.decoder z) c.args.levels xs p c.in_ok-header.header g.S.Rules.spelling Unit
+    c.in-Bytes.len c.in_ok-value-in-Bytes.value c.read_string.ensures.pushed c.in-Bytes.is read a)
 
 pub returns-in_err-value-in-Bytes-clause-part : goal.returns-in_err-value-in-Bytes-clause-part
 returns-in_err-value-in-Bytes-clause-part g c =
-    let exit = err_from_is_err_and c.from_residual-in_err-value-in-Bytes.result c.from_residual-in_err-value-in-Bytes.ensures.1 in
-    rw (exit.1, exit.2) (part-behind-head g.S.Rules.spelling g.R.Read.remaining c.args.decoder.now c.pull.new.decoder c.in_ok-header.header c.in_ok-header.ensures.measured
-    (sym (c.find_head_fault.ensures ∙ ap (head_fault g.S.Rules.spelling c.in_ok-header.header) c.head_len.ensures) ∙ c.in_default.is) c.in_ok-header.ensures.head c.read_string.new.decoder _
-    (λ d e. StringSo {E = Unit} of_bytes c.in-Bytes.len c.pull.new.decoder.last d e (Err c.in_err-value-in-Bytes.field-0.0)) c.in_err-value-in-Bytes.ensures.content
-    (λ m z xs p at a read. string-fault of_bytes Some (with_left c.pull.new.decoder m) (with_left c.read_string.new.decoder z) c.args.levels xs p c.in_ok-header.header g.S.Rules.spelling Unit c.in-Bytes.len c.in_err-value-in-Bytes.field-0.0 c.in-Bytes.is read a))
+    let exit = err_from_is_err_and c.from_residual-in_err-value-in-Bytes.result
+    c.from_residual-in_err-value-in-Bytes.ensures.1 in
+    rw (exit.1, exit.2) (part-behind-head g.S.Rules.spelling g.R.Read.remaining c.args.decoder.now c.pull.new.decoder
+    c.in_ok-header.header c.in_ok-header.ensures.measured
+    (sym (c.find_head_fault.ensures ∙ ap (head_fault g.S.Rules.spelling c.in_ok-header.header) c.head_len.ensures) ∙
+    c.in_default.is) c.in_ok-header.ensures.head c.read_string.new.decoder _
+    (λ d e. StringSo {E = Unit} of_bytes c.in-Bytes.len c.pull.new.decoder.last d e
+    (Err c.in_err-value-in-Bytes.field-0.0)) c.in_err-value-in-Bytes.ensures.content
+    (λ m z xs p at a read. string-fault of_bytes Some (with_left c.pull.new.decoder m)
+    (with_left c.read_string.new.decoder z) c.args.levels xs p c.in_ok-header.header g.S.Rules.spelling Unit
+    c.in-Bytes.len c.in_err-value-in-Bytes.field-0.0 c.in-Bytes.is read a))
 
 pub returns-in_ok-value-in-Text-clause-part : goal.returns-in_ok-value-in-Text-clause-part
 returns-in_ok-value-in-Text-clause-part g c =
-    part-behind-head g.S.Rules.spelling g.R.Read.remaining c.args.decoder.now c.pull.new.decoder c.in_ok-header.header c.in_ok-header.ensures.measured
-    (sym (c.find_head_fault.ensures ∙ ap (head_fault g.S.Rules.spelling c.in_ok-header.header) c.head_len.ensures) ∙ c.in_default.is) c.in_ok-header.ensures.head c.read_string-in-Text.new.decoder _
-    (λ d e. StringSo {E = Unit} of_text c.in-Text.len c.pull.new.decoder.last d e (Ok c.in_ok-value-in-Text.value)) c.in_ok-value-in-Text.ensures.content
-    (λ m z xs p at a read. got-string of_text Some (with_left c.pull.new.decoder m) (with_left c.read_string-in-Text.new.decoder z) c.args.levels xs p c.in_ok-header.header g.S.Rules.spelling Unit c.in-Text.len c.in_ok-value-in-Text.value c.read_string-in-Text.ensures.pushed c.in-Text.is read a)
+    part-behind-head g.S.Rules.spelling g.R.Read.remaining c.args.decoder.now c.pull.new.decoder c.in_ok-header.header
+    c.in_ok-header.ensures.measured
+    (sym (c.find_head_fault.ensures ∙ ap (head_fault g.S.Rules.spelling c.in_ok-header.header) c.head_len.ensures) ∙
+    c.in_default.is) c.in_ok-header.ensures.head c.read_string-in-Text.new.decoder _
+    (λ d e. StringSo {E = Unit} of_text c.in-Text.len c.pull.new.decoder.last d e (Ok c.in_ok-value-in-Text.value))
+    c.in_ok-value-in-Text.ensures.content
+    (λ m z xs p at a read. got-string of_text Some (with_left c.pull.new.decoder m)
+    (with_left c.read_string-in-Text.new.decoder z) c.args.levels xs p c.in_ok-header.header g.S.Rules.spelling Unit
+    c.in-Text.len c.in_ok-value-in-Text.value c.read_string-in-Text.ensures.pushed c.in-Text.is read a)
 
 pub returns-in_err-value-in-Text-clause-part : goal.returns-in_err-value-in-Text-clause-part
 returns-in_err-value-in-Text-clause-part g c =
-    let exit = err_from_is_err_and c.from_residual-in_err-value-in-Text.result c.from_residual-in_err-value-in-Text.ensures.1 in
-    rw (exit.1, exit.2) (part-behind-head g.S.Rules.spelling g.R.Read.remaining c.args.decoder.now c.pull.new.decoder c.in_ok-header.header c.in_ok-header.ensures.measured
-    (sym (c.find_head_fault.ensures ∙ ap (head_fault g.S.Rules.spelling c.in_ok-header.header) c.head_len.ensures) ∙ c.in_default.is) c.in_ok-header.ensures.head c.read_string-in-Text.new.decoder _
-    (λ d e. StringSo {E = Unit} of_text c.in-Text.len c.pull.new.decoder.last d e (Err c.in_err-value-in-Text.field-0.0)) c.in_err-value-in-Text.ensures.content
-    (λ m z xs p at a read. string-fault of_text Some (with_left c.pull.new.decoder m) (with_left c.read_string-in-Text.new.decoder z) c.args.levels xs p c.in_ok-header.header g.S.Rules.spelling Unit c.in-Text.len c.in_err-value-in-Text.field-0.0 c.in-Text.is read a))
+    let exit = err_from_is_err_and c.from_residual-in_err-value-in-Text.result
+    c.from_residual-in_err-value-in-Text.ensures.1 in
+    rw (exit.1, exit.2) (part-behind-head g.S.Rules.spelling g.R.Read.remaining c.args.decoder.now c.pull.new.decoder
+    c.in_ok-header.header c.in_ok-header.ensures.measured
+    (sym (c.find_head_fault.ensures ∙ ap (head_fault g.S.Rules.spelling c.in_ok-header.header) c.head_len.ensures) ∙
+    c.in_default.is) c.in_ok-header.ensures.head c.read_string-in-Text.new.decoder _
+    (λ d e. StringSo {E = Unit} of_text c.in-Text.len c.pull.new.decoder.last d e
+    (Err c.in_err-value-in-Text.field-0.0)) c.in_err-value-in-Text.ensures.content
+    (λ m z xs p at a read. string-fault of_text Some (with_left c.pull.new.decoder m)
+    (with_left c.read_string-in-Text.new.decoder z) c.args.levels xs p c.in_ok-header.header g.S.Rules.spelling Unit
+    c.in-Text.len c.in_err-value-in-Text.field-0.0 c.in-Text.is read a))
 
 pub returns-in-Array-clause-part : goal.returns-in-Array-clause-part
 returns-in-Array-clause-part g c =
-    part-of-head g.S.Rules.spelling g.R.Read.remaining c.args.decoder.now c.pull.new.decoder c.in_ok-header.header c.in_ok-header.ensures.measured
-    (sym (c.find_head_fault.ensures ∙ ap (head_fault g.S.Rules.spelling c.in_ok-header.header) c.head_len.ensures) ∙ c.in_default.is) c.in_ok-header.ensures.head _
-    (λ z xs p at a. container-part Some (with_left c.pull.new.decoder z) c.args.levels xs p c.in_ok-header.header c.pull.ensures.pushed g.S.Rules.spelling Unit of_array c.in-Array.count c.begin_container.result c.in-Array.is a c.begin_container.ensures)
+    part-of-head g.S.Rules.spelling g.R.Read.remaining c.args.decoder.now c.pull.new.decoder c.in_ok-header.header
+    c.in_ok-header.ensures.measured
+    (sym (c.find_head_fault.ensures ∙ ap (head_fault g.S.Rules.spelling c.in_ok-header.header) c.head_len.ensures) ∙
+    c.in_default.is) c.in_ok-header.ensures.head _
+    (λ z xs p at a. container-part Some (with_left c.pull.new.decoder z) c.args.levels xs p c.in_ok-header.header
+    c.pull.ensures.pushed g.S.Rules.spelling Unit of_array c.in-Array.count c.begin_container.result c.in-Array.is a
+    c.begin_container.ensures)
 
 pub returns-in-Map-clause-part : goal.returns-in-Map-clause-part
 returns-in-Map-clause-part g c =
-    part-of-head g.S.Rules.spelling g.R.Read.remaining c.args.decoder.now c.pull.new.decoder c.in_ok-header.header c.in_ok-header.ensures.measured
-    (sym (c.find_head_fault.ensures ∙ ap (head_fault g.S.Rules.spelling c.in_ok-header.header) c.head_len.ensures) ∙ c.in_default.is) c.in_ok-header.ensures.head _
-    (λ z xs p at a. container-part Some (with_left c.pull.new.decoder z) c.args.levels xs p c.in_ok-header.header c.pull.ensures.pushed g.S.Rules.spelling Unit of_map c.in-Map.count c.begin_container-in-Map.result c.in-Map.is a c.begin_container-in-Map.ensures)
+    part-of-head g.S.Rules.spelling g.R.Read.remaining c.args.decoder.now c.pull.new.decoder c.in_ok-header.header
+    c.in_ok-header.ensures.measured
+    (sym (c.find_head_fault.ensures ∙ ap (head_fault g.S.Rules.spelling c.in_ok-header.header) c.head_len.ensures) ∙
+    c.in_default.is) c.in_ok-header.ensures.head _
+    (λ z xs p at a. container-part Some (with_left c.pull.new.decoder z) c.args.levels xs p c.in_ok-header.header
+    c.pull.ensures.pushed g.S.Rules.spelling Unit of_map c.in-Map.count c.begin_container-in-Map.result c.in-Map.is
+    a c.begin_container-in-Map.ensures)
 
 pub returns-in_ok-read_simple-in-Simple-clause-part : goal.returns-in_ok-read_simple-in-Simple-clause-part
 returns-in_ok-read_simple-in-Simple-clause-part g c =
-    part-of-head g.S.Rules.spelling g.R.Read.remaining c.args.decoder.now c.pull.new.decoder c.in_ok-header.header c.in_ok-header.ensures.measured
-    (sym (c.find_head_fault.ensures ∙ ap (head_fault g.S.Rules.spelling c.in_ok-header.header) c.head_len.ensures) ∙ c.in_default.is) c.in_ok-header.ensures.head _
-    (λ z xs p at a. got-simple Some (with_left c.pull.new.decoder z) c.args.levels xs p c.in_ok-header.header c.pull.ensures.pushed g.S.Rules.spelling c.in-Simple.n (tree_of c.in_ok-read_simple-in-Simple.field-0) c.in_ok-read_simple-in-Simple.ensures c.in-Simple.is a)
+    part-of-head g.S.Rules.spelling g.R.Read.remaining c.args.decoder.now c.pull.new.decoder c.in_ok-header.header
+    c.in_ok-header.ensures.measured
+    (sym (c.find_head_fault.ensures ∙ ap (head_fault g.S.Rules.spelling c.in_ok-header.header) c.head_len.ensures) ∙
+    c.in_default.is) c.in_ok-header.ensures.head _
+    (λ z xs p at a. got-simple Some (with_left c.pull.new.decoder z) c.args.levels xs p c.in_ok-header.header
+    c.pull.ensures.pushed g.S.Rules.spelling c.in-Simple.n (tree_of c.in_ok-read_simple-in-Simple.field-0)
+    c.in_ok-read_simple-in-Simple.ensures c.in-Simple.is a)
 
 pub returns-in_err-read_simple-in-Simple-clause-part : goal.returns-in_err-read_simple-in-Simple-clause-part
 returns-in_err-read_simple-in-Simple-clause-part g c =
-    let exit = err_from_is_err_and c.from_residual-in_err-read_simple-in-Simple.result c.from_residual-in_err-read_simple-in-Simple.ensures.1 in
-    rw (exit.1, exit.2) (part-of-head g.S.Rules.spelling g.R.Read.remaining c.args.decoder.now c.pull.new.decoder c.in_ok-header.header c.in_ok-header.ensures.measured
-    (sym (c.find_head_fault.ensures ∙ ap (head_fault g.S.Rules.spelling c.in_ok-header.header) c.head_len.ensures) ∙ c.in_default.is) c.in_ok-header.ensures.head _
-    (λ z xs p at a. subst (λ e. IsRefusedBy (Some z) e (RefusesPart g.S.Rules.spelling xs p c.args.levels)) (sym c.in_err-read_simple-in-Simple.ensures.1)
-    (subst (λ q. RefusesPart g.S.Rules.spelling xs p c.args.levels (semantic q refusal.Simple)) (sym (c.offset-offset.ensures ∙ at)) (simple-refuses Some (with_left c.pull.new.decoder z) c.args.levels xs p c.in_ok-header.header g.S.Rules.spelling c.in-Simple.n c.in_err-read_simple-in-Simple.ensures.0 c.in-Simple.is a))))
+    let exit = err_from_is_err_and c.from_residual-in_err-read_simple-in-Simple.result
+    c.from_residual-in_err-read_simple-in-Simple.ensures.1 in
+    rw (exit.1, exit.2) (part-of-head g.S.Rules.spelling g.R.Read.remaining c.args.decoder.now c.pull.new.decoder
+    c.in_ok-header.header c.in_ok-header.ensures.measured
+    (sym (c.find_head_fault.ensures ∙ ap (head_fault g.S.Rules.spelling c.in_ok-header.header) c.head_len.ensures) ∙
+    c.in_default.is) c.in_ok-header.ensures.head _
+    (λ z xs p at a. subst (λ e. IsRefusedBy (Some z) e (RefusesPart g.S.Rules.spelling xs p c.args.levels))
+    (sym c.in_err-read_simple-in-Simple.ensures.1)
+    (subst (λ q. RefusesPart g.S.Rules.spelling xs p c.args.levels (semantic q refusal.Simple))
+    (sym (c.offset-offset.ensures ∙ at)) (simple-refuses Some (with_left c.pull.new.decoder z) c.args.levels xs p
+    c.in_ok-header.header g.S.Rules.spelling c.in-Simple.n c.in_err-read_simple-in-Simple.ensures.0 c.in-Simple.is
+    a))))
 
 pub returns-in-Float-clause-part : goal.returns-in-Float-clause-part
 returns-in-Float-clause-part g c =
-    part-of-head g.S.Rules.spelling g.R.Read.remaining c.args.decoder.now c.pull.new.decoder c.in_ok-header.header c.in_ok-header.ensures.measured
-    (sym (c.find_head_fault.ensures ∙ ap (head_fault g.S.Rules.spelling c.in_ok-header.header) c.head_len.ensures) ∙ c.in_default.is) c.in_ok-header.ensures.head _
-    (λ z xs p at a. subst (λ q. RefusesPart g.S.Rules.spelling xs p c.args.levels (semantic q refusal.Float)) (sym (c.offset-offset.ensures ∙ at)) (float-refuses Some (with_left c.pull.new.decoder z) c.args.levels xs p c.in_ok-header.header g.S.Rules.spelling c.in-Float.field-0 c.in-Float.is a))
+    part-of-head g.S.Rules.spelling g.R.Read.remaining c.args.decoder.now c.pull.new.decoder c.in_ok-header.header
+    c.in_ok-header.ensures.measured
+    (sym (c.find_head_fault.ensures ∙ ap (head_fault g.S.Rules.spelling c.in_ok-header.header) c.head_len.ensures) ∙
+    c.in_default.is) c.in_ok-header.ensures.head _
+    (λ z xs p at a. subst (λ q. RefusesPart g.S.Rules.spelling xs p c.args.levels (semantic q refusal.Float))
+    (sym (c.offset-offset.ensures ∙ at)) (float-refuses Some (with_left c.pull.new.decoder z) c.args.levels xs p
+    c.in_ok-header.header g.S.Rules.spelling c.in-Float.field-0 c.in-Float.is a))
 
 pub returns-in-Break-clause-part : goal.returns-in-Break-clause-part
 returns-in-Break-clause-part g c =
-    part-of-head g.S.Rules.spelling g.R.Read.remaining c.args.decoder.now c.pull.new.decoder c.in_ok-header.header c.in_ok-header.ensures.measured
-    (sym (c.find_head_fault.ensures ∙ ap (head_fault g.S.Rules.spelling c.in_ok-header.header) c.head_len.ensures) ∙ c.in_default.is) c.in_ok-header.ensures.head _
-    (λ z xs p at a. got-end Some (with_left c.pull.new.decoder z) c.args.levels xs p c.in_ok-header.header c.pull.ensures.pushed g.S.Rules.spelling c.in-Break.is a)
+    part-of-head g.S.Rules.spelling g.R.Read.remaining c.args.decoder.now c.pull.new.decoder c.in_ok-header.header
+    c.in_ok-header.ensures.measured
+    (sym (c.find_head_fault.ensures ∙ ap (head_fault g.S.Rules.spelling c.in_ok-header.header) c.head_len.ensures) ∙
+    c.in_default.is) c.in_ok-header.ensures.head _
+    (λ z xs p at a. got-end Some (with_left c.pull.new.decoder z) c.args.levels xs p c.in_ok-header.header
+    c.pull.ensures.pushed g.S.Rules.spelling c.in-Break.is a)
 
 pub returns-in-Tag-clause-part : goal.returns-in-Tag-clause-part
 returns-in-Tag-clause-part g c =
-    part-behind-head g.S.Rules.spelling g.R.Read.remaining c.args.decoder.now c.pull.new.decoder c.in_ok-header.header c.in_ok-header.ensures.measured
-    (sym (c.find_head_fault.ensures ∙ ap (head_fault g.S.Rules.spelling c.in_ok-header.header) c.head_len.ensures) ∙ c.in_default.is) c.in_ok-header.ensures.head c.read_tag.new.decoder _
-    (λ d e. (xs : List ℕ) (p : ℕ) → IsHeadAccepted g.S.Rules.spelling Some d (header.Tag c.in-Tag.tag) xs p → c.offset-offset.result ≡ p → IsPartRead {E = Unit} g.S.Rules.spelling Some e c.args.levels xs p c.read_tag.result) c.read_tag.ensures.part
-    (λ m z xs p at a read. read xs p (subst (λ h. IsHeadAccepted g.S.Rules.spelling Some (with_left c.pull.new.decoder m) h xs p) c.in-Tag.is a)
+    part-behind-head g.S.Rules.spelling g.R.Read.remaining c.args.decoder.now c.pull.new.decoder c.in_ok-header.header
+    c.in_ok-header.ensures.measured
+    (sym (c.find_head_fault.ensures ∙ ap (head_fault g.S.Rules.spelling c.in_ok-header.header) c.head_len.ensures) ∙
+    c.in_default.is) c.in_ok-header.ensures.head c.read_tag.new.decoder _
+    (λ d e. (xs : List ℕ) (p : ℕ) → IsHeadAccepted g.S.Rules.spelling Some d (header.Tag c.in-Tag.tag) xs p →
+    c.offset-offset.result ≡ p → IsPartRead {E = Unit} g.S.Rules.spelling Some e c.args.levels xs p
+    c.read_tag.result) c.read_tag.ensures.part
+    (λ m z xs p at a read. read xs p (subst (λ h. IsHeadAccepted g.S.Rules.spelling Some
+    (with_left c.pull.new.decoder m) h xs p) c.in-Tag.is a)
     (c.offset-offset.ensures ∙ at))

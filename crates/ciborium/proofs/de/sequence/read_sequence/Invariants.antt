@@ -6,6 +6,7 @@ use Rattle.ciborium.proofs.de.sequence.read_sequence.Given as goal
 -- the items that were read are the first, and nothing else was taken
 abbrev pub invariant-loop : goal.invariant-loop
 invariant-loop g l = record {
-  read : HasRead (Some 256) g.T.Deserialize.reading.taken (g.R.Read.remaining l.fn.reader) (g.R.Read.remaining l.reader) (map g.T.Deserialize.reading.content l.items.items);
+  read : HasRead (Some 256) g.T.Deserialize.reading.taken (g.R.Read.remaining l.fn.reader) (g.R.Read.remaining l.reader)
+      (map g.T.Deserialize.reading.content l.items.items);
   only : TakesBeginning (g.R.Read.remaining l.fn.reader) (g.R.Read.remaining l.reader);
 }

@@ -8,8 +8,15 @@ use Rattle.ciborium.proofs.de.tags.read_bignum.Goals as goal
 pub returns-then-refuses_bignum-clause-bignum : goal.returns-then-refuses_bignum-clause-bignum
 returns-then-refuses_bignum-clause-bignum g c =
     let t = c.in_ok-read_exact_keeping.ensures.taken in
-    let len : length c.read_exact_keeping.new.buffer ≡ c.args.n = search rules in
-    (t.0, t.1, t.2, λ z xs p at fits. bignum-unwanted g.S.Rules.spelling c.args.tag c.args.n c.args.offset t.0 z xs (ap length t.3.0 ∙ len) t.4 (subst (IsUnwanted g.S.Rules.spelling) (sym t.3.0) (c.if-refuses_bignum.ensures.yes refl)) at.1, t.4)
+    let len : length c.read_exact_keeping.new.buffer ≡ c.args.n = search rules in (
+      t.0,
+      t.1,
+      t.2,
+      λ z xs p at fits. bignum-unwanted g.S.Rules.spelling c.args.tag c.args.n c.args.offset t.0 z xs
+          (ap length t.3.0 ∙ len) t.4 (subst (IsUnwanted g.S.Rules.spelling) (sym t.3.0)
+          (c.if-refuses_bignum.ensures.yes refl)) at.1,
+      t.4,
+    )
 
 pub returns-clause-bignum : goal.returns-clause-bignum
 returns-clause-bignum g c =
@@ -18,8 +25,10 @@ returns-clause-bignum g c =
       t.0,
       t.1,
       t.2,
-      λ z xs p at. bignum-folded g.S.Rules.spelling (with_left c.read_exact_keeping.new.self z) c.args.tag c.args.n c.args.offset p t.0 z xs c.fold.result (ap length t.3.0 ∙ len) t.4
-          (subst (λ b. ¬ IsUnwanted g.S.Rules.spelling b) (sym t.3.0) (c.if-refuses_bignum.ensures.no refl)) at.1 (t.2 ∙ ap (λ n. n + length t.0) at.0 ∙ ap (λ n. p + n) (ap length t.3.0 ∙ len), refl)
+      λ z xs p at. bignum-folded g.S.Rules.spelling (with_left c.read_exact_keeping.new.self z) c.args.tag c.args.n
+          c.args.offset p t.0 z xs c.fold.result (ap length t.3.0 ∙ len) t.4
+          (subst (λ b. ¬ IsUnwanted g.S.Rules.spelling b) (sym t.3.0) (c.if-refuses_bignum.ensures.no refl)) at.1
+          (t.2 ∙ ap (λ n. n + length t.0) at.0 ∙ ap (λ n. p + n) (ap length t.3.0 ∙ len), refl)
           (subst (λ b. IsFolded c.args.tag b c.args.offset c.fold.result) (sym t.3.0) c.fold.ensures),
       t.4,
     )

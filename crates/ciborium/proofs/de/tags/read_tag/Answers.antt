@@ -5,7 +5,8 @@ use Rattle.ciborium_ll.proofs.HeldBytes.{unread-with}
 use Rattle.ciborium.specs.inner.Parts.{IsFolding}
 use Rattle.ciborium.specs.Spelling.{head_fault}
 use Rattle.ciborium.proofs.Turns.AfterTag.{PullsSo}
-use Rattle.ciborium.proofs.Spellings.SpelledTags.{BignumSo, bignum-refused, got-bignum, tag-faulty, tag-no-level, tag-opened, tag-refused}
+use Rattle.ciborium.proofs.Spellings.SpelledTags.{BignumSo, bignum-refused, got-bignum, tag-faulty, tag-no-level}
+use Rattle.ciborium.proofs.Spellings.SpelledTags.{tag-opened, tag-refused}
 use Rattle.ciborium.proofs.Readers.WhateverFollows.{so-both, so-unread}
 use Rattle.ciborium.proofs.de.tags.read_tag.Goals as goal
 
@@ -17,7 +18,8 @@ returns-in_err-next-clause-part g c =
       t.0,
       t.1,
       t.2,
-      λ z xs p a here. tag-refused Some (with_left c.args.decoder.now (t.0 ++ z)) c.args.tag c.args.levels xs p c.requires g.S.Rules.spelling Unit (with_left c.pull.new.decoder z) c.in_err-next.field-0.0 (t.3 z) a,
+      λ z xs p a here. tag-refused Some (with_left c.args.decoder.now (t.0 ++ z)) c.args.tag c.args.levels xs p
+          c.requires g.S.Rules.spelling Unit (with_left c.pull.new.decoder z) c.in_err-next.field-0.0 (t.3 z) a,
       t.4,
     )
 
@@ -27,38 +29,53 @@ returns-in-Some-find_head_fault-clause-part g c =
       t.0,
       t.1,
       t.2,
-      λ z xs p a here. tag-faulty Some (with_left c.args.decoder.now (t.0 ++ z)) c.args.tag c.args.levels xs p c.requires Unit (with_left c.pull.new.decoder z) c.in_ok-next.next c.in-Some.n (t.3 z) c.in-Some.ensures c.in_ok-next.ensures.measured
-          g.S.Rules.spelling c.offset-at.result c.in-Some-find_head_fault.kind (sym (c.find_head_fault.ensures ∙ ap (head_fault g.S.Rules.spelling c.in_ok-next.next) c.head_len.ensures) ∙ c.in-Some-find_head_fault.is) c.offset-at.ensures a,
+      λ z xs p a here. tag-faulty Some (with_left c.args.decoder.now (t.0 ++ z)) c.args.tag c.args.levels xs p
+          c.requires Unit (with_left c.pull.new.decoder z) c.in_ok-next.next c.in-Some.n (t.3 z) c.in-Some.ensures
+          c.in_ok-next.ensures.measured
+          g.S.Rules.spelling c.offset-at.result c.in-Some-find_head_fault.kind
+          (sym (c.find_head_fault.ensures ∙ ap (head_fault g.S.Rules.spelling c.in_ok-next.next) c.head_len.ensures)
+          ∙ c.in-Some-find_head_fault.is) c.offset-at.ensures a,
       t.4,
     )
 
 pub returns-in_err-value-clause-part : goal.returns-in_err-value-clause-part
 returns-in_err-value-clause-part g c =
     let exit = err_from_is_err_and c.from_residual-in_err-value.result c.from_residual-in_err-value.ensures.1 in
-    let t = so-both g.R.Read.remaining c.args.decoder.now c.pull.new.decoder c.read_bignum.new.decoder (λ d e. PullsSo {E = Unit} Some d e (Ok c.in_ok-next.next))
-    (λ d e. BignumSo {E = Unit} g.S.Rules.spelling Some d e c.args.tag c.in-Some.n c.args.offset (Err c.in_err-value.field-0.0)) c.in_ok-next.ensures.head c.in_err-value.ensures.bignum in
+    let t = so-both g.R.Read.remaining c.args.decoder.now c.pull.new.decoder c.read_bignum.new.decoder
+    (λ d e. PullsSo {E = Unit} Some d e (Ok c.in_ok-next.next))
+    (λ d e. BignumSo {E = Unit} g.S.Rules.spelling Some d e c.args.tag c.in-Some.n c.args.offset
+    (Err c.in_err-value.field-0.0)) c.in_ok-next.ensures.head c.in_err-value.ensures.bignum in
     rw (exit.1, exit.2) (
       t.0,
       t.1,
       t.2,
       λ z xs p a here. let m = t.3 z in
-          bignum-refused Some (with_left c.args.decoder.now (t.0 ++ z)) c.args.tag c.args.levels xs p c.requires Unit (with_left c.pull.new.decoder m.0) c.in_ok-next.next c.in-Some.n m.1 c.in-Some.ensures c.in_ok-next.ensures.measured
+          bignum-refused Some (with_left c.args.decoder.now (t.0 ++ z)) c.args.tag c.args.levels xs p c.requires Unit
+          (with_left c.pull.new.decoder m.0) c.in_ok-next.next c.in-Some.n m.1 c.in-Some.ensures
+          c.in_ok-next.ensures.measured
           g.S.Rules.spelling (with_left c.read_bignum.new.decoder z) c.args.offset c.in_err-value.field-0.0 here
-          (sym (c.find_head_fault.ensures ∙ ap (head_fault g.S.Rules.spelling c.in_ok-next.next) c.head_len.ensures) ∙ c.in_default-find_head_fault.is) m.2 a,
+          (sym (c.find_head_fault.ensures ∙ ap (head_fault g.S.Rules.spelling c.in_ok-next.next) c.head_len.ensures) ∙
+          c.in_default-find_head_fault.is) m.2 a,
       t.4,
     )
 
 pub returns-in-Some-clause-part : goal.returns-in-Some-clause-part
 returns-in-Some-clause-part g c =
-    let t = so-both g.R.Read.remaining c.args.decoder.now c.pull.new.decoder c.read_bignum.new.decoder (λ d e. PullsSo {E = Unit} Some d e (Ok c.in_ok-next.next))
-    (λ d e. BignumSo {E = Unit} g.S.Rules.spelling Some d e c.args.tag c.in-Some.n c.args.offset (Ok c.in_ok-value.value)) c.in_ok-next.ensures.head c.in_ok-value.ensures.bignum in (
+    let t = so-both g.R.Read.remaining c.args.decoder.now c.pull.new.decoder c.read_bignum.new.decoder
+    (λ d e. PullsSo {E = Unit} Some d e (Ok c.in_ok-next.next))
+    (λ d e. BignumSo {E = Unit} g.S.Rules.spelling Some d e c.args.tag c.in-Some.n c.args.offset
+    (Ok c.in_ok-value.value)) c.in_ok-next.ensures.head c.in_ok-value.ensures.bignum in (
       t.0,
       t.1,
       t.2,
       λ z xs p a here. let m = t.3 z in
-          got-bignum Some (with_left c.args.decoder.now (t.0 ++ z)) c.args.tag c.args.levels xs p c.requires Unit (with_left c.pull.new.decoder m.0) c.in_ok-next.next c.in-Some.n m.1 c.in-Some.ensures c.in_ok-next.ensures.measured
-          g.S.Rules.spelling (with_left c.read_bignum.new.decoder z) c.args.offset c.in_ok-value.value c.read_bignum.ensures.pushed
-          (sym (c.find_head_fault.ensures ∙ ap (head_fault g.S.Rules.spelling c.in_ok-next.next) c.head_len.ensures) ∙ c.in_default-find_head_fault.is) m.2 a,
+          got-bignum Some (with_left c.args.decoder.now (t.0 ++ z)) c.args.tag c.args.levels xs p c.requires Unit
+          (with_left c.pull.new.decoder m.0) c.in_ok-next.next c.in-Some.n m.1 c.in-Some.ensures
+          c.in_ok-next.ensures.measured
+          g.S.Rules.spelling (with_left c.read_bignum.new.decoder z) c.args.offset c.in_ok-value.value
+          c.read_bignum.ensures.pushed
+          (sym (c.find_head_fault.ensures ∙ ap (head_fault g.S.Rules.spelling c.in_ok-next.next) c.head_len.ensures) ∙
+          c.in_default-find_head_fault.is) m.2 a,
       t.4,
     )
 
@@ -68,21 +85,28 @@ returns-then-levels-eq0-clause-part g c =
       t.0,
       t.1,
       t.2,
-      λ z xs p a here. tag-no-level Some (with_left c.args.decoder.now (t.0 ++ z)) c.args.tag c.args.levels xs p c.requires g.S.Rules.spelling Unit (with_left c.pull.new.decoder z) c.in_ok-next.next
-          (t.3 z) (subst (λ o. IsFolding c.args.tag c.in_ok-next.next o) c.in_default.is c.find_folding.ensures) c.if-levels-eq0.true a,
+      λ z xs p a here. tag-no-level Some (with_left c.args.decoder.now (t.0 ++ z)) c.args.tag c.args.levels xs p
+          c.requires g.S.Rules.spelling Unit (with_left c.pull.new.decoder z) c.in_ok-next.next
+          (t.3 z) (subst (λ o. IsFolding c.args.tag c.in_ok-next.next o) c.in_default.is c.find_folding.ensures)
+          c.if-levels-eq0.true a,
       t.4,
     )
 
 pub returns-clause-part : goal.returns-clause-part
 returns-clause-part g c =
-    let t = so-both g.R.Read.remaining c.args.decoder.now c.pull.new.decoder c.push.new.self (λ d e. PullsSo {E = Unit} Some d e (Ok c.in_ok-next.next)) (λ d e. ReadsNothing d e)
-    c.in_ok-next.ensures.head (so-unread g.R.Read.remaining c.pull.new.decoder c.push.new.self (λ d e. ReadsNothing d e) c.push.ensures.unread (λ u. unread-with c.pull.new.decoder c.push.new.self u c.push.ensures.unread)) in (
+    let t = so-both g.R.Read.remaining c.args.decoder.now c.pull.new.decoder c.push.new.self
+    (λ d e. PullsSo {E = Unit} Some d e (Ok c.in_ok-next.next)) (λ d e. ReadsNothing d e)
+    c.in_ok-next.ensures.head (so-unread g.R.Read.remaining c.pull.new.decoder c.push.new.self (λ d e. ReadsNothing d e)
+    c.push.ensures.unread (λ u. unread-with c.pull.new.decoder c.push.new.self u c.push.ensures.unread)) in (
       t.0,
       t.1,
       t.2,
       λ z xs p a here. let m = t.3 z in
-          tag-opened Some (with_left c.args.decoder.now (t.0 ++ z)) c.args.tag c.args.levels xs p c.requires g.S.Rules.spelling Unit (with_left c.pull.new.decoder m.0) (with_left c.push.new.self z) c.in_ok-next.next c.offset-at.result
-          m.1 (subst (λ o. IsFolding c.args.tag c.in_ok-next.next o) c.in_default.is c.find_folding.ensures) c.if-levels-eq0.false c.offset-at.ensures
+          tag-opened Some (with_left c.args.decoder.now (t.0 ++ z)) c.args.tag c.args.levels xs p c.requires
+          g.S.Rules.spelling Unit (with_left c.pull.new.decoder m.0) (with_left c.push.new.self z) c.in_ok-next.next
+          c.offset-at.result
+          m.1 (subst (λ o. IsFolding c.args.tag c.in_ok-next.next o) c.in_default.is c.find_folding.ensures)
+          c.if-levels-eq0.false c.offset-at.ensures
           m.2 c.push.ensures.pushed c.push.ensures.head_len c.in_ok-next.ensures.measured a,
       t.4,
     )

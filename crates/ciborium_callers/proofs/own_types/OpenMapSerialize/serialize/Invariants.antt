@@ -7,4 +7,5 @@ use Rattle.ciborium_callers.proofs.own_types.OpenMapSerialize.serialize.Given as
 
 -- the entries that the iterator has not yielded are left
 abbrev pub invariant-loop-key : goal.invariant-loop-key
-invariant-loop-key g l = Owes g.S.Sink.stands_at dictionary None (in_turn named_number named_number l.self.0.entries) l.fn.sink l.sink (in_turn named_number named_number l.key-iterator)
+invariant-loop-key g l = Owes g.S.Sink.stands_at dictionary None (in_turn named_number named_number l.self.0.entries)
+    l.fn.sink l.sink (in_turn named_number named_number l.key-iterator)

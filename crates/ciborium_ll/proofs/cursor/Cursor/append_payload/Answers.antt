@@ -4,13 +4,16 @@ use Rattle.ciborium_ll.proofs.Payloads.{payload-dropped, payload-refused, payloa
 use Rattle.ciborium_ll.proofs.cursor.Cursor.append_payload.Goals as goal
 
 pub returns-in-Err-clause-bytes : goal.returns-in-Err-clause-bytes
-returns-in-Err-clause-bytes g c = payload-dropped _ _ _ _ _ _ _ _ _ _ _ _ (search rules) c.truncate.ensures.items c.in-Err.ensures.bytes
+returns-in-Err-clause-bytes g c = payload-dropped _ _ _ _ _ _ _ _ _ _ _ _ (search rules) c.truncate.ensures.items
+    c.in-Err.ensures.bytes
 
 pub returns-then-not-is_allowed-clause-bytes : goal.returns-then-not-is_allowed-clause-bytes
 returns-then-not-is_allowed-clause-bytes g c =
     let not = rw (c.if-not-is_allowed.true, c.deref.ensures.value) at c.is_allowed.ensures.1 in
-    payload-refused _ _ _ _ _ _ _ _ _ _ _ (search rules) c.truncate-then-not-is_allowed.ensures.items (λ h. false≢true (not h)) c.in_default.ensures.bytes
+    payload-refused _ _ _ _ _ _ _ _ _ _ _ (search rules) c.truncate-then-not-is_allowed.ensures.items
+    (λ h. false≢true (not h)) c.in_default.ensures.bytes
 
 pub returns-clause-bytes : goal.returns-clause-bytes
 returns-clause-bytes g c =
-    payload-whole _ _ _ _ _ _ _ _ _ (search rules) (rw c.deref.ensures.value at (c.is_allowed.ensures.0 c.if-not-is_allowed.false)) c.in_default.ensures.bytes
+    payload-whole _ _ _ _ _ _ _ _ _ (search rules) (rw c.deref.ensures.value at
+    (c.is_allowed.ensures.0 c.if-not-is_allowed.false)) c.in_default.ensures.bytes

@@ -9,9 +9,13 @@ pub returns-in_err-header-clause-head : goal.returns-in_err-header-clause-head
 returns-in_err-header-clause-head g c =
     let exit = err_from_is_err_and c.from_residual-in_err-header.result c.from_residual-in_err-header.ensures.1 in
     let (fits, taken, end) = c.in_ok-take_some.ensures.some in
-    rw (exit.1, exit.2) (head-behind _ _ _ _ _ _ _ _ _ c.take_some.auto.buffer (first-given _ _ _ _ _ c.take_some.new.buffer c.requires (λ z. omega (arith, z, c.if-branch-eq0.false)) c.take_some.auto.buffer fits taken) c.in_err-header.ensures.head)
+    rw (exit.1, exit.2) (head-behind _ _ _ _ _ _ _ _ _ c.take_some.auto.buffer
+    (first-given _ _ _ _ _ c.take_some.new.buffer c.requires (λ z. omega (arith, z, c.if-branch-eq0.false))
+    c.take_some.auto.buffer fits taken) c.in_err-header.ensures.head)
 
 pub returns-clause-head : goal.returns-clause-head
 returns-clause-head g c =
     let (fits, taken, end) = c.in_ok-take_some.ensures.some in
-    head-behind _ _ _ _ _ _ _ _ _ c.take_some.auto.buffer (first-given _ _ _ _ _ c.take_some.new.buffer c.requires (λ z. omega (arith, z, c.if-branch-eq0.false)) c.take_some.auto.buffer fits taken) c.in_ok-header.ensures.head
+    head-behind _ _ _ _ _ _ _ _ _ c.take_some.auto.buffer
+    (first-given _ _ _ _ _ c.take_some.new.buffer c.requires (λ z. omega (arith, z, c.if-branch-eq0.false))
+    c.take_some.auto.buffer fits taken) c.in_ok-header.ensures.head

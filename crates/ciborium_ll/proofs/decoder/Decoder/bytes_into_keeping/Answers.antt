@@ -10,6 +10,7 @@ returns g c = record {
   last = search rules;
   head_len = search rules;
   taken = search rules;
-  refused = λ b known. refused-string of_bytes c.args.len c.args.self.now.last _ _ _ _ _ b _ c.append_string.ensures.bytes known;
+  refused = λ b known. refused-string of_bytes c.args.len c.args.self.now.last _ _ _ _ _ b _
+      c.append_string.ensures.bytes known;
   spent = search rules;
 }

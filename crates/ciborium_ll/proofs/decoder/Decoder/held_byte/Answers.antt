@@ -7,4 +7,5 @@ some-map (Some x) p f = f x p
 some-map None p f = tt
 
 pub returns : goal.returns
-returns g c = some-map c.byte.result c.byte.ensures.some (λ x is b known. first-unread (g.R.Read.remaining c.args.self.now.reader.now) c.args.self.now.window x _ b is known)
+returns g c = some-map c.byte.result c.byte.ensures.some
+    (λ x is b known. first-unread (g.R.Read.remaining c.args.self.now.reader.now) c.args.self.now.window x _ b is known)

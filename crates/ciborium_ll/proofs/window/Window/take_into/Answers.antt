@@ -9,4 +9,6 @@ returns-clause-taken c o =
     let n = c.min-n.result in
     let w = c.args.self.now in
     let held = c.held-held.result.now in
-    subst (λ l. Advances (unread o w) (unread_at o w.lookahead (w.count + n)) w.count (w.count + n) (λ b. b ≡ l)) (copied n held c.copy_from_slice.new.self _ (omega (arith, c.min-n.ensures)) c.copy_from_slice.ensures.after) (takes-some w o n held c.held-held.ensures.held (omega (arith, c.min-n.ensures)) c.held-held.ensures.bytes)
+    subst (λ l. Advances (unread o w) (unread_at o w.lookahead (w.count + n)) w.count (w.count + n) (λ b. b ≡ l))
+    (copied n held c.copy_from_slice.new.self _ (omega (arith, c.min-n.ensures)) c.copy_from_slice.ensures.after)
+    (takes-some w o n held c.held-held.ensures.held (omega (arith, c.min-n.ensures)) c.held-held.ensures.bytes)

@@ -12,7 +12,8 @@ abbrev pub invariant-loop-numbers : goal.invariant-loop-numbers
 invariant-loop-numbers g l = record {
   most : length l.numbers.items ≤ 5;
   inside : Follows (IsBefore g.S.Source.stands_before l.fn.source (taken_few 5 taken_byte))
-      (IsInside g.S.Source.stands_before g.S.Source.seq_stands l.source l.seq (few_from taken_byte (5 - length l.numbers.items) l.numbers.items));
+      (IsInside g.S.Source.stands_before g.S.Source.seq_stands l.source l.seq
+      (few_from taken_byte (5 - length l.numbers.items) l.numbers.items));
   owed : TakesTo g.S.Source.is_unread l.fn.source l.source (g.S.Source.owes l.seq sequence);
   only : TakesOnly g.S.Source.has_taken l.fn.source l.source;
   less : g.S.Source.left l.source + g.S.Source.seq_left l.seq < g.S.Source.left l.fn.source;

@@ -2,32 +2,44 @@
 use Rattle.std.proofs.Common.{arith}
 use Rattle.ciborium_value.specs.inner.EnteredContainers.{RefusesDropping}
 use Rattle.ciborium_value.proofs.Writing.Progress.{exits}
-use Rattle.ciborium_value.proofs.Sources.Sequences.{so, blames_next, drop_more, drop_blames, drop_ends, drops, drop_refused, dropped, dropped_more, dropped_all}
+use Rattle.ciborium_value.proofs.Sources.Sequences.{so, blames_next, drop_more, drop_blames, drop_ends, drops}
+use Rattle.ciborium_value.proofs.Sources.Sequences.{drop_refused, dropped, dropped_more, dropped_all}
 use Rattle.ciborium_value.proofs.deserialize.sequences.drop_rest.Goals as goal
 
 pub returns-in_err-next-clause-refused : goal.returns-in_err-next-clause-refused
 returns-in_err-next-clause-refused g c =
     let e = g.S.Source.cause c.in_err-next.field-0.0 in
-    exits _ c.in_err-next.field-0.0 (λ x. RefusesDropping g.S.Source.stands_before g.S.Source.seq_stands c.args.source.now c.args.seq.now (g.S.Source.cause x)) c.from_residual.ensures.1
-    (drop_refused g.S.Source.stands_before g.S.Source.seq_stands e (so c.loop-source.invariant.inside (blames_next g.S.Source.stands_before g.S.Source.seq_stands dropped e c.in_err-next.ensures.refused)))
+    exits _ c.in_err-next.field-0.0 (λ x. RefusesDropping g.S.Source.stands_before g.S.Source.seq_stands
+    c.args.source.now c.args.seq.now (g.S.Source.cause x)) c.from_residual.ensures.1
+    (drop_refused g.S.Source.stands_before g.S.Source.seq_stands e
+    (so c.loop-source.invariant.inside (blames_next g.S.Source.stands_before g.S.Source.seq_stands dropped e
+    c.in_err-next.ensures.refused)))
 
 pub returns-in_err-value-clause-refused : goal.returns-in_err-value-clause-refused
 returns-in_err-value-clause-refused g c =
     let e = g.S.Source.cause c.in_err-value.field-0.0 in
-    exits _ c.in_err-value.field-0.0 (λ x. RefusesDropping g.S.Source.stands_before g.S.Source.seq_stands c.args.source.now c.args.seq.now (g.S.Source.cause x)) c.from_residual-in_err-value.ensures.1
-    (drop_refused g.S.Source.stands_before g.S.Source.seq_stands e (so c.loop-source.invariant.inside (drop_blames g.S.Source.stands_before g.S.Source.seq_stands e (rw c.if-branch.true at c.in_ok-next.ensures.ok) c.in_err-value.ensures.refused)))
+    exits _ c.in_err-value.field-0.0 (λ x. RefusesDropping g.S.Source.stands_before g.S.Source.seq_stands
+    c.args.source.now c.args.seq.now (g.S.Source.cause x)) c.from_residual-in_err-value.ensures.1
+    (drop_refused g.S.Source.stands_before g.S.Source.seq_stands e
+    (so c.loop-source.invariant.inside (drop_blames g.S.Source.stands_before g.S.Source.seq_stands e
+    (rw c.if-branch.true at c.in_ok-next.ensures.ok) c.in_err-value.ensures.refused)))
 
 pub loop-source-preserved : goal.loop-source-preserved
 loop-source-preserved g c = record {
-  inside = so c.loop-source.invariant.inside (drop_more g.S.Source.stands_before g.S.Source.seq_stands (rw c.if-branch.true at c.in_ok-next.ensures.ok) c.in_ok-value.ensures.ok);
-  owed = dropped_more g.S.Source.is_unread g.S.Source.owes _ _ _ _ _ _ _ c.loop-source.invariant.owed (rw c.if-branch.true at c.in_ok-next.ensures.took) c.in_ok-value.ensures.took;
+  inside = so c.loop-source.invariant.inside (drop_more g.S.Source.stands_before g.S.Source.seq_stands
+      (rw c.if-branch.true at c.in_ok-next.ensures.ok) c.in_ok-value.ensures.ok);
+  owed = dropped_more g.S.Source.is_unread g.S.Source.owes _ _ _ _ _ _ _ c.loop-source.invariant.owed
+      (rw c.if-branch.true at c.in_ok-next.ensures.took) c.in_ok-value.ensures.took;
   only = λ first h. c.value.ensures.only first (c.next.ensures.only first (c.loop-source.invariant.only first h));
   less = omega (arith, c.in_ok-next.ensures.less, c.in_ok-value.ensures.less, c.loop-source.invariant.less);
 }
 
 pub returns-clause-ok : goal.returns-clause-ok
 returns-clause-ok g c =
-    drops g.S.Source.stands_before g.S.Source.seq_stands (so c.loop-source.invariant.inside (drop_ends g.S.Source.stands_before g.S.Source.seq_stands (rw c.if-branch.false at c.in_ok-next.ensures.ok)))
+    drops g.S.Source.stands_before g.S.Source.seq_stands
+    (so c.loop-source.invariant.inside (drop_ends g.S.Source.stands_before g.S.Source.seq_stands
+    (rw c.if-branch.false at c.in_ok-next.ensures.ok)))
 
 pub returns-clause-took : goal.returns-clause-took
-returns-clause-took g c = dropped_all g.S.Source.is_unread g.S.Source.owes _ _ _ _ _ c.loop-source.invariant.owed (rw c.if-branch.false at c.in_ok-next.ensures.took)
+returns-clause-took g c = dropped_all g.S.Source.is_unread g.S.Source.owes _ _ _ _ _ c.loop-source.invariant.owed
+    (rw c.if-branch.false at c.in_ok-next.ensures.took)

@@ -11,7 +11,8 @@ invariant-loop-source g l = record {
       (IsInside g.S.Source.stands_before g.S.Source.seq_stands l.source l.seq dropped);
   owed : TakesOwed g.S.Source.is_unread g.S.Source.owes l.fn.source l.source l.fn.seq l.seq;
   only : TakesOnly g.S.Source.has_taken l.fn.source l.source;
-  less : g.S.Source.left l.source + g.S.Source.seq_left l.seq ≤ g.S.Source.left l.fn.source + g.S.Source.seq_left l.fn.seq;
+  less : g.S.Source.left l.source + g.S.Source.seq_left l.seq ≤ g.S.Source.left l.fn.source + g.S.Source.seq_left
+      l.fn.seq;
 }
 
 abbrev pub decreases-loop-source : goal.decreases-loop-source

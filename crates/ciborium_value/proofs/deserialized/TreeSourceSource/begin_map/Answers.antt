@@ -2,7 +2,8 @@
 use Rattle.std.proofs.Common.{◌≡◌, ◌+◌, map, sym, ap, ◌∙◌, subst, arith}
 use Rattle.ciborium_value.specs.Ahead.{counted}
 use Rattle.ciborium_value.specs.Taken.{gives, taken_pairs, untagged, deeper}
-use Rattle.ciborium_value.specs.inner.TreeSources.{IsPending, IsDueValue, pair_items, value_weight, pending_tree_weight, pending_due, due_weight, left_weight}
+use Rattle.ciborium_value.specs.inner.TreeSources.{IsPending, IsDueValue, pair_items, value_weight, pending_tree_weight}
+use Rattle.ciborium_value.specs.inner.TreeSources.{pending_due, due_weight, left_weight}
 use Rattle.ciborium_value.specs.TreeAnswers.{value_item}
 use Rattle.ciborium_value.specs.declared.deserialized.Left.TheVariants as left
 use Rattle.ciborium_value.specs.Counts.{tree_pairs_node_count, tree_pairs_payload_size}
@@ -15,17 +16,29 @@ returns-in-Map-clause-ok c l i f st =
     let here : value_item c.in-Whole.value.now ≡ i = subst (λ o. IsPending o i) (sym c.in-Whole.ensures.ahead) st.1.0 in (
       counted,
       map pair_items c.in-Map.pairs.items,
-      ap (λ x. taken_pairs x i) st.0 ∙ (map_of c.skip_tags.result.now c.in-Map.pairs i c.in-Map.is (c.skip_tags.ensures.item ∙ ap untagged here) ∙ ap (λ x. gives (deeper x, map pair_items c.in-Map.pairs.items)) (sym st.0)),
+      ap (λ x. taken_pairs x i) st.0 ∙ (map_of c.skip_tags.result.now c.in-Map.pairs i c.in-Map.is
+          (c.skip_tags.ensures.item ∙ ap untagged here) ∙
+          ap (λ x. gives (deeper x, map pair_items c.in-Map.pairs.items)) (sym st.0)),
       (ap deeper st.0, tt),
-      (st.0, ap (map pair_items) c.deref.ensures.value, subst (λ o. IsDueValue o f) (sym c.take-due.ensures.value) st.1.1),
+      (
+        st.0,
+        ap (map pair_items) c.deref.ensures.value,
+        subst (λ o. IsDueValue o f) (sym c.take-due.ensures.value) st.1.1,
+      ),
     )
 
 pub returns-in-Map-clause-less : goal.returns-in-Map-clause-less
 returns-in-Map-clause-less c =
-    let whole = pairs_weigh_less c.skip_tags.result.now c.in-Map.pairs (value_weight c.in-Whole.value.now) c.in-Map.is c.skip_tags.ensures.less in
-    let parts : left_weight (left.Pairs c.deref.result) ≡ tree_pairs_node_count (tree_pairs_of c.in-Map.pairs.items) + tree_pairs_payload_size (tree_pairs_of c.in-Map.pairs.items) =
-    ap (λ qs. tree_pairs_node_count (tree_pairs_of qs) + tree_pairs_payload_size (tree_pairs_of qs)) c.deref.ensures.value in
-    let here : pending_tree_weight c.args.self.now.ahead ≡ value_weight c.in-Whole.value.now = ap pending_tree_weight (sym c.in-Whole.ensures.ahead) in
+    let whole = pairs_weigh_less c.skip_tags.result.now c.in-Map.pairs (value_weight c.in-Whole.value.now) c.in-Map.is
+    c.skip_tags.ensures.less in
+    let parts : left_weight (left.Pairs c.deref.result) ≡ tree_pairs_node_count (tree_pairs_of c.in-Map.pairs.items) +
+    tree_pairs_payload_size (tree_pairs_of c.in-Map.pairs.items) =
+    ap (λ qs. tree_pairs_node_count (tree_pairs_of qs) + tree_pairs_payload_size (tree_pairs_of qs))
+    c.deref.ensures.value in
+    let here : pending_tree_weight c.args.self.now.ahead ≡ value_weight c.in-Whole.value.now =
+    ap pending_tree_weight (sym c.in-Whole.ensures.ahead) in
     let due : due_weight c.take-due.result ≡ due_weight c.args.self.now.due = ap due_weight c.take-due.ensures.value in
-    let emptied : pending_tree_weight c.take.new.self.ahead ≡ 0 = ap pending_tree_weight (c.take.ensures.next ∙ ap pending_due c.take-due.ensures.after) in
-    let none_due : due_weight c.take.new.self.due ≡ 0 = ap due_weight c.take.ensures.due in omega (arith, whole, parts, here, due, emptied, none_due)
+    let emptied : pending_tree_weight c.take.new.self.ahead ≡ 0 =
+    ap pending_tree_weight (c.take.ensures.next ∙ ap pending_due c.take-due.ensures.after) in
+    let none_due : due_weight c.take.new.self.due ≡ 0 = ap due_weight c.take.ensures.due in
+    omega (arith, whole, parts, here, due, emptied, none_due)

@@ -7,7 +7,8 @@ use Rattle.ciborium_value.specs.View.{tree_of}
 use Rattle.ciborium_value.proofs.deserialized.folding.fold_value.Given as goal
 
 abbrev pub invariant-values : goal.invariant-values
-invariant-values l = copied (more (frames_of l.stack)) (path_trees l.path.items) ≡ copied (more []) (tree_of l.fn.value ∷ [])
+invariant-values l = copied (more (frames_of l.stack)) (path_trees l.path.items) ≡ copied (more [])
+    (tree_of l.fn.value ∷ [])
 
 abbrev pub decreases-values : goal.decreases-values
 decreases-values l = nodes_of (path_trees l.path.items)

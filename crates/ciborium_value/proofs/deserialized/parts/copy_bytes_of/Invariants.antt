@@ -6,4 +6,5 @@ use Rattle.ciborium_value.proofs.Sources.TreeReading.{behind_these}
 use Rattle.ciborium_value.proofs.deserialized.parts.copy_bytes_of.Given as goal
 
 abbrev pub invariant-loop-value : goal.invariant-loop-value
-invariant-loop-value l = take_each (taken_byte None) (map value_item l.fn.values) ≡ behind_these l.bytes.items (take_each (taken_byte None) (map value_item (drop l.value-index l.values)))
+invariant-loop-value l = take_each (taken_byte None) (map value_item l.fn.values) ≡ behind_these l.bytes.items
+    (take_each (taken_byte None) (map value_item (drop l.value-index l.values)))

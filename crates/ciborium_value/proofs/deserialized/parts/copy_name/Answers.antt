@@ -7,9 +7,11 @@ use Rattle.ciborium_value.proofs.deserialized.parts.copy_name.Goals as goal
 
 pub returns-in_ok-from_str-in-Ok-clause-ok : goal.returns-in_ok-from_str-in-Ok-clause-ok
 returns-in_ok-from_str-in-Ok-clause-ok c =
-    name_of_bytes c.skip_tags.result.now c.in-Bytes.bytes (value_item c.args.value.now) c.deref-in-Bytes.result.now c.in-Bytes.is c.skip_tags.ensures.item c.deref-in-Bytes.ensures.value c.in-Ok.ensures.cases.1
+    name_of_bytes c.skip_tags.result.now c.in-Bytes.bytes (value_item c.args.value.now) c.deref-in-Bytes.result.now
+    c.in-Bytes.is c.skip_tags.ensures.item c.deref-in-Bytes.ensures.value c.in-Ok.ensures.cases.1
     ∙ ap gives (sym (c.in_ok-from_str-in-Ok.ensures.ok ∙ c.in-Ok.ensures.cases.0))
 
 pub returns-in-Err-clause-refused : goal.returns-in-Err-clause-refused
 returns-in-Err-clause-refused c =
-    no_name_of_bytes c.skip_tags.result.now c.in-Bytes.bytes (value_item c.args.value.now) c.deref-in-Bytes.result.now c.in-Bytes.is c.skip_tags.ensures.item c.deref-in-Bytes.ensures.value c.in-Err.ensures.cases.0
+    no_name_of_bytes c.skip_tags.result.now c.in-Bytes.bytes (value_item c.args.value.now) c.deref-in-Bytes.result.now
+    c.in-Bytes.is c.skip_tags.ensures.item c.deref-in-Bytes.ensures.value c.in-Err.ensures.cases.0

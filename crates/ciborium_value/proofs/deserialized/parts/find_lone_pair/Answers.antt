@@ -4,4 +4,5 @@ use Rattle.ciborium_value.proofs.Sources.TreeLevels.{more_pairs}
 use Rattle.ciborium_value.proofs.deserialized.parts.find_lone_pair.Goals as goal
 
 pub returns-else-is_empty-clause-none : goal.returns-else-is_empty-clause-none
-returns-else-is_empty-clause-none c = more_pairs c.args.pairs.now c.in_ok-key.field-0-0.now c.in_ok-key.rest.now c.in_ok-key.ensures.cases.0 (sym c.if-is_empty.ensures)
+returns-else-is_empty-clause-none c = more_pairs c.args.pairs.now c.in_ok-key.field-0-0.now c.in_ok-key.rest.now
+    c.in_ok-key.ensures.cases.0 (sym c.if-is_empty.ensures)

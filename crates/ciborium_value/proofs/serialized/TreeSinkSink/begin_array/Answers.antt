@@ -9,4 +9,5 @@ use Rattle.ciborium_value.proofs.serialized.TreeSinkSink.begin_array.Goals as go
 -- a container of nothing is whole at once
 pub returns-in-Some-eq0-clause-ok : goal.returns-in-Some-eq0-clause-ok
 returns-in-Some-eq0-clause-ok c =
-    put_begins c.put.result c.args.self.now c.put.new.self sequence c.args.items _ (search rules) (tree_of-Array c.new.result ∙ ap (λ l. array (trees_of l)) c.new.ensures.items) c.put.ensures.ok
+    put_begins c.put.result c.args.self.now c.put.new.self sequence c.args.items _ (search rules)
+    (tree_of-Array c.new.result ∙ ap (λ l. array (trees_of l)) c.new.ensures.items) c.put.ensures.ok

@@ -5,4 +5,5 @@ use Rattle.ciborium_value.proofs.Trees.Views.{tree_of-Bool}
 use Rattle.ciborium_value.proofs.serialized.TreeSinkSink.boolean.Goals as goal
 
 pub returns-clause-ok : goal.returns-clause-ok
-returns-clause-ok c = put_adds c.put.result c.args.self.now c.put.new.self (boolean_item c.args.boolean) _ (tree_of-Bool c.args.boolean ∙ boolean-tree c.args.boolean) c.put.ensures.ok
+returns-clause-ok c = put_adds c.put.result c.args.self.now c.put.new.self (boolean_item c.args.boolean) _
+    (tree_of-Bool c.args.boolean ∙ boolean-tree c.args.boolean) c.put.ensures.ok

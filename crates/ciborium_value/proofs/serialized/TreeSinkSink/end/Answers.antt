@@ -10,4 +10,5 @@ pub returns-in-Some-clause-ok : goal.returns-in-Some-clause-ok
 returns-in-Some-clause-ok c = whole_ends c.args.self.now c.args.count c.in-Some.field-0 c.in-Some.is
 
 pub returns-in-Some-close-clause-ok : goal.returns-in-Some-close-clause-ok
-returns-in-Some-close-clause-ok c = close_ends c.put.result c.args.self.now c.put.new.self c.args.count _ _ c.in-None.is c.in-Some-close.ensures c.put.ensures.ok
+returns-in-Some-close-clause-ok c = close_ends c.put.result c.args.self.now c.put.new.self c.args.count _ _ c.in-None.is
+    c.in-Some-close.ensures c.put.ensures.ok

@@ -7,39 +7,56 @@ use Rattle.ciborium.specs.inner.ByteSources.{IsUnread, end_at}
 use Rattle.ciborium.specs.Errors.{fault_of}
 use Rattle.ciborium.specs.inner.FrontItems.{TakesHead}
 use Rattle.ciborium.specs.inner.Skips.{IsEndTag}
-use Rattle.ciborium.proofs.Items.SkippedTags.{bare-head, bare-behind, skips-none, skips-more, denies-item, denies-break, denies-behind}
+use Rattle.ciborium.proofs.Items.SkippedTags.{bare-head, bare-behind, skips-none, skips-more, denies-item, denies-break}
+use Rattle.ciborium.proofs.Items.SkippedTags.{denies-behind}
 use Rattle.ciborium.proofs.Items.TakenOnly.{same-end}
 use Rattle.ciborium.proofs.de.byte_source.ByteSource.bare_head.Goals as goal
 
 pub returns-in_err-header-clause-denied : goal.returns-in_err-header-clause-denied
 returns-in_err-header-clause-denied g c =
     let exit = err_from_is_err_and c.from_residual.result c.from_residual.ensures.1 in
-    rw (exit.1, exit.2) (denies-item (IsUnread g.R.Read.remaining) (end_at g.R.Read.remaining) c.args.self.now c.args.self.now c.args.numbers (fault_of c.in_err-header.field-0.0) (λ b u. refl) (skips-none (IsUnread g.R.Read.remaining) c.args.self.now c.args.numbers) c.in_err-header.ensures.denied)
+    rw (exit.1, exit.2) (denies-item (IsUnread g.R.Read.remaining) (end_at g.R.Read.remaining) c.args.self.now
+    c.args.self.now c.args.numbers (fault_of c.in_err-header.field-0.0) (λ b u. refl)
+    (skips-none (IsUnread g.R.Read.remaining) c.args.self.now c.args.numbers) c.in_err-header.ensures.denied)
 
 pub returns-then-is_end_tag-clause-head : goal.returns-then-is_end_tag-clause-head
 returns-then-is_end_tag-clause-head g c =
-    bare-head (IsUnread g.R.Read.remaining) c.args.self.now c.next_head.new.self c.args.numbers (header.Tag c.in-Tag.tag) (subst (TakesHead (IsUnread g.R.Read.remaining) c.args.self.now c.next_head.new.self) c.in-Tag.is c.in_ok-header.ensures.head)
+    bare-head (IsUnread g.R.Read.remaining) c.args.self.now c.next_head.new.self c.args.numbers
+    (header.Tag c.in-Tag.tag) (subst (TakesHead (IsUnread g.R.Read.remaining) c.args.self.now c.next_head.new.self)
+    c.in-Tag.is c.in_ok-header.ensures.head)
 
 pub returns-in_err-bare-in-Tag-clause-denied : goal.returns-in_err-bare-in-Tag-clause-denied
 returns-in_err-bare-in-Tag-clause-denied g c =
     let I = IsUnread g.R.Read.remaining in
-    let one = skips-more I c.args.self.now c.args.self.now c.next_head.new.self c.args.numbers c.in-Tag.tag (subst (IsEndTag c.args.numbers c.in-Tag.tag) c.if-is_end_tag.false c.is_end_tag.ensures)
-    (skips-none I c.args.self.now c.args.numbers) (subst (TakesHead I c.args.self.now c.next_head.new.self) c.in-Tag.is c.in_ok-header.ensures.head) in
-    let exit = err_from_is_err_and c.from_residual-in_err-bare-in-Tag.result c.from_residual-in_err-bare-in-Tag.ensures.1 in
-    rw (exit.1, exit.2) (denies-behind I (end_at g.R.Read.remaining) c.args.self.now c.next_head.new.self c.args.numbers (fault_of c.in_err-bare-in-Tag.field-0.0) (same-end g.R.Read.remaining c.args.self.now c.next_head.new.self c.in_ok-header.ensures.only) one c.in_err-bare-in-Tag.ensures.denied)
+    let one = skips-more I c.args.self.now c.args.self.now c.next_head.new.self c.args.numbers c.in-Tag.tag
+    (subst (IsEndTag c.args.numbers c.in-Tag.tag) c.if-is_end_tag.false c.is_end_tag.ensures)
+    (skips-none I c.args.self.now c.args.numbers) (subst (TakesHead I c.args.self.now c.next_head.new.self) c.in-Tag.is
+    c.in_ok-header.ensures.head) in
+    let exit = err_from_is_err_and c.from_residual-in_err-bare-in-Tag.result
+    c.from_residual-in_err-bare-in-Tag.ensures.1 in
+    rw (exit.1, exit.2) (denies-behind I (end_at g.R.Read.remaining) c.args.self.now c.next_head.new.self c.args.numbers
+    (fault_of c.in_err-bare-in-Tag.field-0.0) (same-end g.R.Read.remaining c.args.self.now c.next_head.new.self
+    c.in_ok-header.ensures.only) one c.in_err-bare-in-Tag.ensures.denied)
 
 pub returns-in_ok-bare-in-Tag-clause-head : goal.returns-in_ok-bare-in-Tag-clause-head
 returns-in_ok-bare-in-Tag-clause-head g c =
     let I = IsUnread g.R.Read.remaining in
-    let one = skips-more I c.args.self.now c.args.self.now c.next_head.new.self c.args.numbers c.in-Tag.tag (subst (IsEndTag c.args.numbers c.in-Tag.tag) c.if-is_end_tag.false c.is_end_tag.ensures)
-    (skips-none I c.args.self.now c.args.numbers) (subst (TakesHead I c.args.self.now c.next_head.new.self) c.in-Tag.is c.in_ok-header.ensures.head) in
-    bare-behind I c.args.self.now c.next_head.new.self c.skip_tags.new.self c.args.numbers c.in_ok-bare-in-Tag.bare.0 one c.in_ok-bare-in-Tag.ensures.head
+    let one = skips-more I c.args.self.now c.args.self.now c.next_head.new.self c.args.numbers c.in-Tag.tag
+    (subst (IsEndTag c.args.numbers c.in-Tag.tag) c.if-is_end_tag.false c.is_end_tag.ensures)
+    (skips-none I c.args.self.now c.args.numbers) (subst (TakesHead I c.args.self.now c.next_head.new.self) c.in-Tag.is
+    c.in_ok-header.ensures.head) in
+    bare-behind I c.args.self.now c.next_head.new.self c.skip_tags.new.self c.args.numbers c.in_ok-bare-in-Tag.bare.0
+    one c.in_ok-bare-in-Tag.ensures.head
 
 pub returns-in-Break-clause-denied : goal.returns-in-Break-clause-denied
 returns-in-Break-clause-denied g c =
-    denies-break (IsUnread g.R.Read.remaining) (end_at g.R.Read.remaining) c.args.self.now c.args.self.now c.next_head.new.self c.args.numbers (of_kind kinds.Break) (skips-none (IsUnread g.R.Read.remaining) c.args.self.now c.args.numbers)
-    (subst (TakesHead (IsUnread g.R.Read.remaining) c.args.self.now c.next_head.new.self) c.in-Break.is c.in_ok-header.ensures.head)
+    denies-break (IsUnread g.R.Read.remaining) (end_at g.R.Read.remaining) c.args.self.now c.args.self.now
+    c.next_head.new.self c.args.numbers (of_kind kinds.Break)
+    (skips-none (IsUnread g.R.Read.remaining) c.args.self.now c.args.numbers)
+    (subst (TakesHead (IsUnread g.R.Read.remaining) c.args.self.now c.next_head.new.self) c.in-Break.is
+    c.in_ok-header.ensures.head)
 
 pub returns-in_default-clause-head : goal.returns-in_default-clause-head
 returns-in_default-clause-head g c =
-    bare-head (IsUnread g.R.Read.remaining) c.args.self.now c.next_head.new.self c.args.numbers c.in_ok-header.header c.in_ok-header.ensures.head
+    bare-head (IsUnread g.R.Read.remaining) c.args.self.now c.next_head.new.self c.args.numbers c.in_ok-header.header
+    c.in_ok-header.ensures.head

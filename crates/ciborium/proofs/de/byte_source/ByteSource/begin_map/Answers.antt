@@ -14,23 +14,34 @@ use Rattle.ciborium.proofs.de.byte_source.ByteSource.begin_map.Goals as goal
 pub returns-in_err-header-clause-denied : goal.returns-in_err-header-clause-denied
 returns-in_err-header-clause-denied g c =
     let exit = err_from_is_err_and c.from_residual.result c.from_residual.ensures.1 in
-    rw (exit.1, exit.2) (denies-of-item (IsUnread g.R.Read.remaining) (end_at g.R.Read.remaining) (Some c.args.self.now.levels) taken_pairs c.args.self.now (fault_of c.in_err-header.field-0.0) c.in_err-header.ensures.denied)
+    rw (exit.1, exit.2) (denies-of-item (IsUnread g.R.Read.remaining) (end_at g.R.Read.remaining)
+    (Some c.args.self.now.levels) taken_pairs c.args.self.now (fault_of c.in_err-header.field-0.0)
+    c.in_err-header.ensures.denied)
 
 pub returns-in_ok-seq-in-Map-clause-ok : goal.returns-in_ok-seq-in-Map-clause-ok
 returns-in_ok-seq-in-Map-clause-ok g c =
     let enter = c.in_ok-seq-in-Map.ensures in
     let same = c.in_ok-header.ensures.reads.levels in
-    map-entered g.R.Read.remaining c.args.self.now c.bare_head.new.self c.enter.new.self c.in-Map.count c.in_ok-seq-in-Map.seq same (enter.decoder, enter.pending, enter.some, enter.levels, enter.left) taken_pairs (λ l ps. gives (l, ps))
-    (subst (TakesBare (IsUnread g.R.Read.remaining) c.args.self.now c.bare_head.new.self false) c.in-Map.is c.in_ok-header.ensures.head) (pairs-given c.args.self.now.levels (λ z. enter.some (same ∙ z)))
+    map-entered g.R.Read.remaining c.args.self.now c.bare_head.new.self c.enter.new.self c.in-Map.count
+    c.in_ok-seq-in-Map.seq same (enter.decoder, enter.pending, enter.some, enter.levels, enter.left) taken_pairs
+    (λ l ps. gives (l, ps))
+    (subst (TakesBare (IsUnread g.R.Read.remaining) c.args.self.now c.bare_head.new.self false) c.in-Map.is
+    c.in_ok-header.ensures.head) (pairs-given c.args.self.now.levels (λ z. enter.some (same ∙ z)))
 
 pub returns-in_err-seq-in-Map-clause-denied : goal.returns-in_err-seq-in-Map-clause-denied
 returns-in_err-seq-in-Map-clause-denied g c =
-    let exit = err_from_is_err_and c.from_residual-in_err-seq-in-Map.result c.from_residual-in_err-seq-in-Map.ensures.1 in
-    rw (exit.1, exit.2) (denies-nested (IsUnread g.R.Read.remaining) false (header.Map c.in-Map.count) (Some c.args.self.now.levels) taken_pairs (end_at g.R.Read.remaining) c.args.self.now c.bare_head.new.self (fault_of c.in_err-seq-in-Map.field-0.0) (ap fault_of c.in_err-seq-in-Map.ensures.err)
-    (subst (TakesBare (IsUnread g.R.Read.remaining) c.args.self.now c.bare_head.new.self false) c.in-Map.is c.in_ok-header.ensures.head) (map-nests c.args.self.now.levels c.in-Map.count (sym c.in_ok-header.ensures.reads.levels ∙ c.in_err-seq-in-Map.ensures.none)))
+    let exit = err_from_is_err_and c.from_residual-in_err-seq-in-Map.result c.from_residual-in_err-seq-in-Map.ensures.1
+    in
+    rw (exit.1, exit.2) (denies-nested (IsUnread g.R.Read.remaining) false (header.Map c.in-Map.count)
+    (Some c.args.self.now.levels) taken_pairs (end_at g.R.Read.remaining) c.args.self.now c.bare_head.new.self
+    (fault_of c.in_err-seq-in-Map.field-0.0) (ap fault_of c.in_err-seq-in-Map.ensures.err)
+    (subst (TakesBare (IsUnread g.R.Read.remaining) c.args.self.now c.bare_head.new.self false) c.in-Map.is
+    c.in_ok-header.ensures.head) (map-nests c.args.self.now.levels c.in-Map.count
+    (sym c.in_ok-header.ensures.reads.levels ∙ c.in_err-seq-in-Map.ensures.none)))
 
 pub returns-in_default-clause-denied : goal.returns-in_default-clause-denied
 returns-in_default-clause-denied g c =
     let l = Some c.args.self.now.levels in
-    denies-bare (IsUnread g.R.Read.remaining) false c.in_ok-header.header l taken_pairs (end_at g.R.Read.remaining) c.args.self.now c.bare_head.new.self (of_kind kinds.Map) c.in_ok-header.ensures.head
+    denies-bare (IsUnread g.R.Read.remaining) false c.in_ok-header.header l taken_pairs (end_at g.R.Read.remaining)
+    c.args.self.now c.bare_head.new.self (of_kind kinds.Map) c.in_ok-header.ensures.head
     (map-other l c.in_ok-header.header c.in_ok-header.ensures.reads.bare c.in_default.not-Map)

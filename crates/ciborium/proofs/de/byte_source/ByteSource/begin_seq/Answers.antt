@@ -9,7 +9,8 @@ use Rattle.ciborium_value.specs.declared.kind.Kind.TheVariants as kinds
 use Rattle.ciborium.specs.inner.ByteSources.{IsUnread, end_at}
 use Rattle.ciborium.specs.Errors.{fault_of}
 use Rattle.ciborium.specs.inner.Skips.{TakesBare}
-use Rattle.ciborium.proofs.Containers.EnteredContainers.{array-entered, array-nests, bytes-entered, bytes-had, seq-given, seq-other}
+use Rattle.ciborium.proofs.Containers.EnteredContainers.{array-entered, array-nests, bytes-entered, bytes-had}
+use Rattle.ciborium.proofs.Containers.EnteredContainers.{seq-given, seq-other}
 use Rattle.ciborium.proofs.Items.SkippedTags.{denies-bare, denies-nested, denies-of-item}
 use Rattle.ciborium.proofs.Payloads.StringPayloads.{denies-string}
 use Rattle.ciborium.proofs.Items.TakenOnly.{same-end}
@@ -18,36 +19,54 @@ use Rattle.ciborium.proofs.de.byte_source.ByteSource.begin_seq.Goals as goal
 pub returns-in_err-header-clause-denied : goal.returns-in_err-header-clause-denied
 returns-in_err-header-clause-denied g c =
     let exit = err_from_is_err_and c.from_residual.result c.from_residual.ensures.1 in
-    rw (exit.1, exit.2) (denies-of-item (IsUnread g.R.Read.remaining) (end_at g.R.Read.remaining) (Some c.args.self.now.levels) taken_seq c.args.self.now (fault_of c.in_err-header.field-0.0) c.in_err-header.ensures.denied)
+    rw (exit.1, exit.2) (denies-of-item (IsUnread g.R.Read.remaining) (end_at g.R.Read.remaining)
+    (Some c.args.self.now.levels) taken_seq c.args.self.now (fault_of c.in_err-header.field-0.0)
+    c.in_err-header.ensures.denied)
 
 pub returns-in_ok-seq-in-Array-clause-ok : goal.returns-in_ok-seq-in-Array-clause-ok
 returns-in_ok-seq-in-Array-clause-ok g c =
     let enter = c.in_ok-seq-in-Array.ensures in
     let same = c.in_ok-header.ensures.reads.levels in
-    array-entered g.R.Read.remaining c.args.self.now c.bare_head.new.self c.enter.new.self c.in-Array.count c.in_ok-seq-in-Array.seq same (enter.decoder, enter.pending, enter.some, enter.levels, enter.left) taken_seq (λ l is. gives (l, is))
-    (subst (TakesBare (IsUnread g.R.Read.remaining) c.args.self.now c.bare_head.new.self false) c.in-Array.is c.in_ok-header.ensures.head) (seq-given c.args.self.now.levels (λ z. enter.some (same ∙ z)))
+    array-entered g.R.Read.remaining c.args.self.now c.bare_head.new.self c.enter.new.self c.in-Array.count
+    c.in_ok-seq-in-Array.seq same (enter.decoder, enter.pending, enter.some, enter.levels, enter.left) taken_seq
+    (λ l is. gives (l, is))
+    (subst (TakesBare (IsUnread g.R.Read.remaining) c.args.self.now c.bare_head.new.self false) c.in-Array.is
+    c.in_ok-header.ensures.head) (seq-given c.args.self.now.levels (λ z. enter.some (same ∙ z)))
 
 pub returns-in_err-seq-in-Array-clause-denied : goal.returns-in_err-seq-in-Array-clause-denied
 returns-in_err-seq-in-Array-clause-denied g c =
-    let exit = err_from_is_err_and c.from_residual-in_err-seq-in-Array.result c.from_residual-in_err-seq-in-Array.ensures.1 in
-    rw (exit.1, exit.2) (denies-nested (IsUnread g.R.Read.remaining) false (header.Array c.in-Array.count) (Some c.args.self.now.levels) taken_seq (end_at g.R.Read.remaining) c.args.self.now c.bare_head.new.self (fault_of c.in_err-seq-in-Array.field-0.0) (ap fault_of c.in_err-seq-in-Array.ensures.err)
-    (subst (TakesBare (IsUnread g.R.Read.remaining) c.args.self.now c.bare_head.new.self false) c.in-Array.is c.in_ok-header.ensures.head) (array-nests c.args.self.now.levels c.in-Array.count (sym c.in_ok-header.ensures.reads.levels ∙ c.in_err-seq-in-Array.ensures.none)))
+    let exit = err_from_is_err_and c.from_residual-in_err-seq-in-Array.result
+    c.from_residual-in_err-seq-in-Array.ensures.1 in
+    rw (exit.1, exit.2) (denies-nested (IsUnread g.R.Read.remaining) false (header.Array c.in-Array.count)
+    (Some c.args.self.now.levels) taken_seq (end_at g.R.Read.remaining) c.args.self.now c.bare_head.new.self
+    (fault_of c.in_err-seq-in-Array.field-0.0) (ap fault_of c.in_err-seq-in-Array.ensures.err)
+    (subst (TakesBare (IsUnread g.R.Read.remaining) c.args.self.now c.bare_head.new.self false) c.in-Array.is
+    c.in_ok-header.ensures.head) (array-nests c.args.self.now.levels c.in-Array.count
+    (sym c.in_ok-header.ensures.reads.levels ∙ c.in_err-seq-in-Array.ensures.none)))
 
 pub returns-in_ok-seq-in-Bytes-clause-ok : goal.returns-in_ok-seq-in-Bytes-clause-ok
 returns-in_ok-seq-in-Bytes-clause-ok g c =
     let levels = c.in_ok-seq-in-Bytes.ensures.levels ∙ c.in_ok-header.ensures.reads.levels in
     let (v, is, content) = bytes-had c.in_ok-seq-in-Bytes.seq.left _ c.in_ok-seq-in-Bytes.ensures.ok in
-    bytes-entered g.R.Read.remaining c.args.self.now c.bare_head.new.self c.open_bytes.new.self c.in_ok-seq-in-Bytes.seq v c.in-Bytes.len (into_iter_items v) is refl levels
-    (subst (TakesBare (IsUnread g.R.Read.remaining) c.args.self.now c.bare_head.new.self false) c.in-Bytes.is c.in_ok-header.ensures.head) content
+    bytes-entered g.R.Read.remaining c.args.self.now c.bare_head.new.self c.open_bytes.new.self c.in_ok-seq-in-Bytes.seq
+    v c.in-Bytes.len (into_iter_items v) is refl levels
+    (subst (TakesBare (IsUnread g.R.Read.remaining) c.args.self.now c.bare_head.new.self false) c.in-Bytes.is
+    c.in_ok-header.ensures.head) content
 
 pub returns-in_err-seq-in-Bytes-clause-denied : goal.returns-in_err-seq-in-Bytes-clause-denied
 returns-in_err-seq-in-Bytes-clause-denied g c =
-    let exit = err_from_is_err_and c.from_residual-in_err-seq-in-Bytes.result c.from_residual-in_err-seq-in-Bytes.ensures.1 in
-    rw (exit.1, exit.2) (denies-string (IsUnread g.R.Read.remaining) (end_at g.R.Read.remaining) (Some c.args.self.now.levels) taken_seq c.args.self.now c.bare_head.new.self of_bytes c.in-Bytes.len (fault_of c.in_err-seq-in-Bytes.field-0.0) (same-end g.R.Read.remaining c.args.self.now c.bare_head.new.self c.in_ok-header.ensures.reads.only)
-    (subst (TakesBare (IsUnread g.R.Read.remaining) c.args.self.now c.bare_head.new.self false) c.in-Bytes.is c.in_ok-header.ensures.head) c.in_err-seq-in-Bytes.ensures.denied)
+    let exit = err_from_is_err_and c.from_residual-in_err-seq-in-Bytes.result
+    c.from_residual-in_err-seq-in-Bytes.ensures.1 in
+    rw (exit.1, exit.2) (denies-string (IsUnread g.R.Read.remaining) (end_at g.R.Read.remaining)
+    (Some c.args.self.now.levels) taken_seq c.args.self.now c.bare_head.new.self of_bytes c.in-Bytes.len
+    (fault_of c.in_err-seq-in-Bytes.field-0.0) (same-end g.R.Read.remaining c.args.self.now c.bare_head.new.self
+    c.in_ok-header.ensures.reads.only)
+    (subst (TakesBare (IsUnread g.R.Read.remaining) c.args.self.now c.bare_head.new.self false) c.in-Bytes.is
+    c.in_ok-header.ensures.head) c.in_err-seq-in-Bytes.ensures.denied)
 
 pub returns-in_default-clause-denied : goal.returns-in_default-clause-denied
 returns-in_default-clause-denied g c =
     let l = Some c.args.self.now.levels in
-    denies-bare (IsUnread g.R.Read.remaining) false c.in_ok-header.header l taken_seq (end_at g.R.Read.remaining) c.args.self.now c.bare_head.new.self (of_kind kinds.Array) c.in_ok-header.ensures.head
+    denies-bare (IsUnread g.R.Read.remaining) false c.in_ok-header.header l taken_seq (end_at g.R.Read.remaining)
+    c.args.self.now c.bare_head.new.self (of_kind kinds.Array) c.in_ok-header.ensures.head
     (seq-other l c.in_ok-header.header c.in_ok-header.ensures.reads.bare c.in_default.not-Array c.in_default.not-Bytes)

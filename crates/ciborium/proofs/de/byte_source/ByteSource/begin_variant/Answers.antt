@@ -10,7 +10,8 @@ use Rattle.ciborium.specs.Errors.{fault_of}
 use Rattle.ciborium.specs.inner.FrontItems.{Denies, Reads}
 use Rattle.ciborium.specs.inner.Skips.{TakesBare}
 use Rattle.ciborium.proofs.Containers.EnteredContainers.{deeper-is, same-unread}
-use Rattle.ciborium.proofs.Containers.NamedVariants.{key-denied, map-no-text, map-not-one, null-unread, pair-nests, pair-opened, text-nests, text-opened, variant-other}
+use Rattle.ciborium.proofs.Containers.NamedVariants.{key-denied, map-no-text, map-not-one, null-unread, pair-nests}
+use Rattle.ciborium.proofs.Containers.NamedVariants.{pair-opened, text-nests, text-opened, variant-other}
 use Rattle.ciborium.proofs.Items.SkippedTags.{denies-bare, denies-nested, denies-of-item}
 use Rattle.ciborium.proofs.Payloads.StringPayloads.{denies-content}
 use Rattle.ciborium.proofs.Items.TakenOnly.{same-end}
@@ -19,31 +20,49 @@ use Rattle.ciborium.proofs.de.byte_source.ByteSource.begin_variant.Goals as goal
 pub returns-in_err-header-clause-denied : goal.returns-in_err-header-clause-denied
 returns-in_err-header-clause-denied g c =
     let exit = err_from_is_err_and c.from_residual.result c.from_residual.ensures.1 in
-    rw (exit.1, exit.2) (denies-of-item (IsUnread g.R.Read.remaining) (end_at g.R.Read.remaining) (Some c.args.self.now.levels) taken_variant c.args.self.now (fault_of c.in_err-header.field-0.0) c.in_err-header.ensures.denied)
+    rw (exit.1, exit.2) (denies-of-item (IsUnread g.R.Read.remaining) (end_at g.R.Read.remaining)
+    (Some c.args.self.now.levels) taken_variant c.args.self.now (fault_of c.in_err-header.field-0.0)
+    c.in_err-header.ensures.denied)
 
 pub returns-in_err-level-in-Text-clause-denied : goal.returns-in_err-level-in-Text-clause-denied
 returns-in_err-level-in-Text-clause-denied g c =
-    let exit = err_from_is_err_and c.from_residual-in_err-level-in-Text.result c.from_residual-in_err-level-in-Text.ensures.1 in
-    rw (exit.1, exit.2) (denies-nested (IsUnread g.R.Read.remaining) false (header.Text c.in-Text.len) (Some c.args.self.now.levels) taken_variant (end_at g.R.Read.remaining) c.args.self.now c.bare_head.new.self (fault_of c.in_err-level-in-Text.field-0.0) (ap fault_of c.in_err-level-in-Text.ensures.err)
-    (subst (TakesBare (IsUnread g.R.Read.remaining) c.args.self.now c.bare_head.new.self false) c.in-Text.is c.in_ok-header.ensures.head) (text-nests c.args.self.now.levels c.in-Text.len (sym c.in_ok-header.ensures.reads.levels ∙ c.in_err-level-in-Text.ensures.none)))
+    let exit = err_from_is_err_and c.from_residual-in_err-level-in-Text.result
+    c.from_residual-in_err-level-in-Text.ensures.1 in
+    rw (exit.1, exit.2) (denies-nested (IsUnread g.R.Read.remaining) false (header.Text c.in-Text.len)
+    (Some c.args.self.now.levels) taken_variant (end_at g.R.Read.remaining) c.args.self.now c.bare_head.new.self
+    (fault_of c.in_err-level-in-Text.field-0.0) (ap fault_of c.in_err-level-in-Text.ensures.err)
+    (subst (TakesBare (IsUnread g.R.Read.remaining) c.args.self.now c.bare_head.new.self false) c.in-Text.is
+    c.in_ok-header.ensures.head) (text-nests c.args.self.now.levels c.in-Text.len
+    (sym c.in_ok-header.ensures.reads.levels ∙ c.in_err-level-in-Text.ensures.none)))
 
 pub returns-in_err-level-in-Map-clause-denied : goal.returns-in_err-level-in-Map-clause-denied
 returns-in_err-level-in-Map-clause-denied g c =
-    let exit = err_from_is_err_and c.from_residual-in_err-level-in-Map.result c.from_residual-in_err-level-in-Map.ensures.1 in
-    rw (exit.1, exit.2) (denies-nested (IsUnread g.R.Read.remaining) false (header.Map (Some 1)) (Some c.args.self.now.levels) taken_variant (end_at g.R.Read.remaining) c.args.self.now c.bare_head.new.self (fault_of c.in_err-level-in-Map.field-0.0) (ap fault_of c.in_err-level-in-Map.ensures.err)
-    (subst (TakesBare (IsUnread g.R.Read.remaining) c.args.self.now c.bare_head.new.self false) (c.in-Map.is ∙ ap header.Map c.if-not-is_one.ensures) c.in_ok-header.ensures.head) (pair-nests c.args.self.now.levels (sym c.in_ok-header.ensures.reads.levels ∙ c.in_err-level-in-Map.ensures.none)))
+    let exit = err_from_is_err_and c.from_residual-in_err-level-in-Map.result
+    c.from_residual-in_err-level-in-Map.ensures.1 in
+    rw (exit.1, exit.2) (denies-nested (IsUnread g.R.Read.remaining) false (header.Map (Some 1))
+    (Some c.args.self.now.levels) taken_variant (end_at g.R.Read.remaining) c.args.self.now c.bare_head.new.self
+    (fault_of c.in_err-level-in-Map.field-0.0) (ap fault_of c.in_err-level-in-Map.ensures.err)
+    (subst (TakesBare (IsUnread g.R.Read.remaining) c.args.self.now c.bare_head.new.self false)
+    (c.in-Map.is ∙ ap header.Map c.if-not-is_one.ensures) c.in_ok-header.ensures.head)
+    (pair-nests c.args.self.now.levels (sym c.in_ok-header.ensures.reads.levels ∙
+    c.in_err-level-in-Map.ensures.none)))
 
 pub returns-in_err-name-in-Text-clause-denied : goal.returns-in_err-name-in-Text-clause-denied
 returns-in_err-name-in-Text-clause-denied g c =
-    let exit = err_from_is_err_and c.from_residual-in_err-name-in-Text.result c.from_residual-in_err-name-in-Text.ensures.1 in
+    let exit = err_from_is_err_and c.from_residual-in_err-name-in-Text.result
+    c.from_residual-in_err-name-in-Text.ensures.1 in
     let U = IsUnread g.R.Read.remaining in
     let fault = fault_of c.in_err-name-in-Text.field-0.0 in
     let level = c.in_ok-level-in-Text.ensures in
-    rw (exit.1, exit.2) (denies-of-item U (end_at g.R.Read.remaining) (Some c.args.self.now.levels) taken_variant c.args.self.now fault
-    (denies-content U (end_at g.R.Read.remaining) false c.args.self.now c.bare_head.new.self of_text c.in-Text.len fault (same-end g.R.Read.remaining c.args.self.now c.bare_head.new.self c.in_ok-header.ensures.reads.only)
+    rw (exit.1, exit.2) (denies-of-item U (end_at g.R.Read.remaining) (Some c.args.self.now.levels) taken_variant
+    c.args.self.now fault
+    (denies-content U (end_at g.R.Read.remaining) false c.args.self.now c.bare_head.new.self of_text c.in-Text.len fault
+    (same-end g.R.Read.remaining c.args.self.now c.bare_head.new.self c.in_ok-header.ensures.reads.only)
     (subst (TakesBare U c.args.self.now c.bare_head.new.self false) c.in-Text.is c.in_ok-header.ensures.head)
     (λ y x s z payload u hd sp e. subst (λ d. IsOutsideFault (reader_of g.R.Read.remaining d).1 fault) level.decoder
-    (c.in_err-name-in-Text.ensures.denied y x s z payload (same-unread g.R.Read.remaining c.bare_head.new.self c.take_level.new.self level.decoder level.pending y u) hd sp e))))
+    (c.in_err-name-in-Text.ensures.denied y x s z payload
+    (same-unread g.R.Read.remaining c.bare_head.new.self c.take_level.new.self level.decoder level.pending y u) hd
+    sp e))))
 
 pub returns-in_ok-name-in-Text-clause-ok : goal.returns-in_ok-name-in-Text-clause-ok
 returns-in_ok-name-in-Text-clause-ok g c =
@@ -52,11 +71,20 @@ returns-in_ok-name-in-Text-clause-ok g c =
     let level = c.in_ok-level-in-Text.ensures in
     let less = level.some.1 in
     let same = c.in_ok-header.ensures.reads.levels in
-    text-opened U c.args.self.now c.bare_head.new.self (record new { pending = Some (header.Simple 22, c.in_ok-header.offset) }) c.args.self.now.levels (λ z. absurd (omega (arith, z, less, same))) c.in-Text.len (string_bytes c.in_ok-name-in-Text.name)
+    text-opened U c.args.self.now c.bare_head.new.self
+    (record new { pending = Some (header.Simple 22, c.in_ok-header.offset) }) c.args.self.now.levels
+    (λ z. absurd (omega (arith, z, less, same))) c.in-Text.len (string_bytes c.in_ok-name-in-Text.name)
     (subst (TakesBare U c.args.self.now c.bare_head.new.self false) c.in-Text.is c.in_ok-header.ensures.head)
     (λ y u.
-    let (d, z, make, f, un) = c.in_ok-name-in-Text.ensures.ok y (same-unread g.R.Read.remaining c.bare_head.new.self c.take_level.new.self level.decoder level.pending y u) in
-    (d, z, make, f, null-unread g.R.Read.remaining new.decoder new.pending c.in_ok-header.offset z c.in_ok-name-in-Text.ensures.pending un))
+    let (d, z, make, f, un) = c.in_ok-name-in-Text.ensures.ok y
+    (same-unread g.R.Read.remaining c.bare_head.new.self c.take_level.new.self level.decoder level.pending y u) in (
+      d,
+      z,
+      make,
+      f,
+      null-unread g.R.Read.remaining new.decoder new.pending c.in_ok-header.offset z
+          c.in_ok-name-in-Text.ensures.pending un,
+    ))
 
 pub returns-in_ok-name-in-Map-clause-ok : goal.returns-in_ok-name-in-Map-clause-ok
 returns-in_ok-name-in-Map-clause-ok g c =
@@ -65,33 +93,51 @@ returns-in_ok-name-in-Map-clause-ok g c =
     let less = level.some.1 in
     let same = c.in_ok-header.ensures.reads.levels in
     let some : c.args.self.now.levels ≢ 0 = λ z. absurd (omega (arith, z, less, same)) in
-    let inner : Some c.take_level-in-Map.new.self.levels ≡ deeper (Some c.args.self.now.levels) = ap Some (omega (arith, less, same)) ∙ sym (deeper-is c.args.self.now.levels some) in
-    pair-opened U c.args.self.now c.bare_head.new.self c.take_level-in-Map.new.self c.name.new.self c.args.self.now.levels some (same-unread g.R.Read.remaining c.bare_head.new.self c.take_level-in-Map.new.self level.decoder level.pending) (string_bytes c.in_ok-name-in-Map.name)
-    (subst (TakesBare U c.args.self.now c.bare_head.new.self false) (c.in-Map.is ∙ ap header.Map c.if-not-is_one.ensures) c.in_ok-header.ensures.head)
-    (subst (λ l. Reads U c.take_level-in-Map.new.self c.name.new.self l taken_name (string_bytes c.in_ok-name-in-Map.name)) inner c.in_ok-name-in-Map.ensures.answer)
+    let inner : Some c.take_level-in-Map.new.self.levels ≡ deeper (Some c.args.self.now.levels) =
+    ap Some (omega (arith, less, same)) ∙ sym (deeper-is c.args.self.now.levels some) in
+    pair-opened U c.args.self.now c.bare_head.new.self c.take_level-in-Map.new.self c.name.new.self
+    c.args.self.now.levels some (same-unread g.R.Read.remaining c.bare_head.new.self c.take_level-in-Map.new.self
+    level.decoder level.pending) (string_bytes c.in_ok-name-in-Map.name)
+    (subst (TakesBare U c.args.self.now c.bare_head.new.self false)
+    (c.in-Map.is ∙ ap header.Map c.if-not-is_one.ensures) c.in_ok-header.ensures.head)
+    (subst (λ l. Reads U c.take_level-in-Map.new.self c.name.new.self l taken_name
+    (string_bytes c.in_ok-name-in-Map.name)) inner c.in_ok-name-in-Map.ensures.answer)
 
 pub returns-in_err-name-in-Map-clause-denied : goal.returns-in_err-name-in-Map-clause-denied
 returns-in_err-name-in-Map-clause-denied g c =
-    let exit = err_from_is_err_and c.from_residual-in_err-name-in-Map.result c.from_residual-in_err-name-in-Map.ensures.1 in
+    let exit = err_from_is_err_and c.from_residual-in_err-name-in-Map.result
+    c.from_residual-in_err-name-in-Map.ensures.1 in
     let U = IsUnread g.R.Read.remaining in
     let fault = fault_of c.in_err-name-in-Map.field-0.0 in
     let level = c.in_ok-level-in-Map.ensures in
     let less = level.some.1 in
     let same = c.in_ok-header.ensures.reads.levels in
     let some : c.args.self.now.levels ≢ 0 = λ z. absurd (omega (arith, z, less, same)) in
-    let inner : Some c.take_level-in-Map.new.self.levels ≡ deeper (Some c.args.self.now.levels) = ap Some (omega (arith, less, same)) ∙ sym (deeper-is c.args.self.now.levels some) in
-    rw (exit.1, exit.2) (key-denied U c.args.self.now c.bare_head.new.self c.take_level-in-Map.new.self c.take_level-in-Map.new.self c.args.self.now.levels some (same-unread g.R.Read.remaining c.bare_head.new.self c.take_level-in-Map.new.self level.decoder level.pending) (end_at g.R.Read.remaining) fault (λ b u. ap (λ d. (reader_of g.R.Read.remaining d).1) level.decoder ∙ same-end g.R.Read.remaining c.args.self.now c.bare_head.new.self c.in_ok-header.ensures.reads.only b u)
-    (subst (TakesBare U c.args.self.now c.bare_head.new.self false) (c.in-Map.is ∙ ap header.Map c.if-not-is_one.ensures) c.in_ok-header.ensures.head)
-    (subst (λ l. Denies U (end_at g.R.Read.remaining) c.take_level-in-Map.new.self l taken_name fault) inner c.in_err-name-in-Map.ensures.answer))
+    let inner : Some c.take_level-in-Map.new.self.levels ≡ deeper (Some c.args.self.now.levels) =
+    ap Some (omega (arith, less, same)) ∙ sym (deeper-is c.args.self.now.levels some) in
+    rw (exit.1, exit.2) (key-denied U c.args.self.now c.bare_head.new.self c.take_level-in-Map.new.self
+    c.take_level-in-Map.new.self c.args.self.now.levels some
+    (same-unread g.R.Read.remaining c.bare_head.new.self c.take_level-in-Map.new.self level.decoder level.pending)
+    (end_at g.R.Read.remaining) fault (λ b u. ap (λ d. (reader_of g.R.Read.remaining d).1) level.decoder ∙
+    same-end g.R.Read.remaining c.args.self.now c.bare_head.new.self c.in_ok-header.ensures.reads.only b u)
+    (subst (TakesBare U c.args.self.now c.bare_head.new.self false)
+    (c.in-Map.is ∙ ap header.Map c.if-not-is_one.ensures) c.in_ok-header.ensures.head)
+    (subst (λ l. Denies U (end_at g.R.Read.remaining) c.take_level-in-Map.new.self l taken_name fault) inner
+    c.in_err-name-in-Map.ensures.answer))
 
 pub returns-then-not-is_one-clause-denied : goal.returns-then-not-is_one-clause-denied
 returns-then-not-is_one-clause-denied g c =
     let l = Some c.args.self.now.levels in
-    denies-bare (IsUnread g.R.Read.remaining) false c.in_ok-header.header l taken_variant (end_at g.R.Read.remaining) c.args.self.now c.bare_head.new.self (of_kind kinds.Variant) c.in_ok-header.ensures.head
-    (variant-other l c.in_ok-header.header c.in_ok-header.ensures.reads.bare (map-no-text c.in_ok-header.header c.in-Map.count c.in-Map.is) (map-not-one c.in_ok-header.header c.in-Map.count c.in-Map.is c.if-not-is_one.ensures))
+    denies-bare (IsUnread g.R.Read.remaining) false c.in_ok-header.header l taken_variant (end_at g.R.Read.remaining)
+    c.args.self.now c.bare_head.new.self (of_kind kinds.Variant) c.in_ok-header.ensures.head
+    (variant-other l c.in_ok-header.header c.in_ok-header.ensures.reads.bare
+    (map-no-text c.in_ok-header.header c.in-Map.count c.in-Map.is)
+    (map-not-one c.in_ok-header.header c.in-Map.count c.in-Map.is c.if-not-is_one.ensures))
 
 pub returns-in_default-clause-denied : goal.returns-in_default-clause-denied
 returns-in_default-clause-denied g c =
     let l = Some c.args.self.now.levels in
-    denies-bare (IsUnread g.R.Read.remaining) false c.in_ok-header.header l taken_variant (end_at g.R.Read.remaining) c.args.self.now c.bare_head.new.self (of_kind kinds.Variant) c.in_ok-header.ensures.head
-    (variant-other l c.in_ok-header.header c.in_ok-header.ensures.reads.bare c.in_default.not-Text (c.in_default.not-Map (Some 1)))
+    denies-bare (IsUnread g.R.Read.remaining) false c.in_ok-header.header l taken_variant (end_at g.R.Read.remaining)
+    c.args.self.now c.bare_head.new.self (of_kind kinds.Variant) c.in_ok-header.ensures.head
+    (variant-other l c.in_ok-header.header c.in_ok-header.ensures.reads.bare c.in_default.not-Text
+    (c.in_default.not-Map (Some 1)))

@@ -8,17 +8,23 @@ use Rattle.ciborium.specs.inner.ByteSources.{IsUnreadBy}
 use Rattle.ciborium.proofs.de.byte_source.ByteSource.fill.Goals as goal
 
 pub returns-clause-ok : goal.returns-clause-ok
-returns-clause-ok g c = just-taken Unit g.R.Read.remaining c.args.self.now.decoder c.read_exact_keeping.new.self c.args.self.now.pending c.read_exact_keeping.new.buffer c.requires c.in_ok-read_exact_keeping.ensures.taken
+returns-clause-ok g c = just-taken Unit g.R.Read.remaining c.args.self.now.decoder c.read_exact_keeping.new.self
+    c.args.self.now.pending c.read_exact_keeping.new.buffer c.requires c.in_ok-read_exact_keeping.ensures.taken
 
 pub returns-clause-fewer : goal.returns-clause-fewer
 returns-clause-fewer g c =
-    fill-fewer Unit g.R.Read.remaining c.args.self.now.decoder c.read_exact_keeping.new.self c.read_exact_keeping.new.buffer c.in_ok-read_exact_keeping.ensures.taken
+    fill-fewer Unit g.R.Read.remaining c.args.self.now.decoder c.read_exact_keeping.new.self
+    c.read_exact_keeping.new.buffer c.in_ok-read_exact_keeping.ensures.taken
 
 pub returns-in_err-read_exact_keeping-clause-only : goal.returns-in_err-read_exact_keeping-clause-only
-returns-in_err-read_exact_keeping-clause-only g c = takes-only g.R.Read.remaining c.args.self.now.decoder c.read_exact_keeping.new.self _ (same-name c.args.self.now.decoder c.read_exact_keeping.new.self c.in_err-read_exact_keeping.ensures.same_reader) c.in_err-read_exact_keeping.ensures.taken
+returns-in_err-read_exact_keeping-clause-only g c = takes-only g.R.Read.remaining c.args.self.now.decoder
+    c.read_exact_keeping.new.self _ (same-name c.args.self.now.decoder c.read_exact_keeping.new.self
+    c.in_err-read_exact_keeping.ensures.same_reader) c.in_err-read_exact_keeping.ensures.taken
 
 pub returns-clause-only : goal.returns-clause-only
-returns-clause-only g c = takes-only g.R.Read.remaining c.args.self.now.decoder c.read_exact_keeping.new.self _ (same-name c.args.self.now.decoder c.read_exact_keeping.new.self c.in_ok-read_exact_keeping.ensures.same_reader) c.in_ok-read_exact_keeping.ensures.taken
+returns-clause-only g c = takes-only g.R.Read.remaining c.args.self.now.decoder c.read_exact_keeping.new.self _
+    (same-name c.args.self.now.decoder c.read_exact_keeping.new.self c.in_ok-read_exact_keeping.ensures.same_reader)
+    c.in_ok-read_exact_keeping.ensures.taken
 
 pub returns-in_err-read_exact_keeping-clause-outside : goal.returns-in_err-read_exact_keeping-clause-outside
 returns-in_err-read_exact_keeping-clause-outside g c =
@@ -26,4 +32,6 @@ returns-in_err-read_exact_keeping-clause-outside g c =
     let d = c.args.self.now.decoder in
     rw (exit.1, exit.2) (λ y u there.
     let same = c.read_exact_keeping.auto.buffer in
-    fill-outside g.R.Read.remaining d c.read_exact_keeping.new.self c.read_exact_keeping.new.buffer y c.in_err-read_exact_keeping.field-0.0 (subst (λ o. IsUnreadBy g.R.Read.remaining d o y) c.requires u) (omega (arith, there, same)) c.in_err-read_exact_keeping.ensures.taken)
+    fill-outside g.R.Read.remaining d c.read_exact_keeping.new.self c.read_exact_keeping.new.buffer y
+    c.in_err-read_exact_keeping.field-0.0 (subst (λ o. IsUnreadBy g.R.Read.remaining d o y) c.requires u)
+    (omega (arith, there, same)) c.in_err-read_exact_keeping.ensures.taken)

@@ -20,27 +20,41 @@ use Rattle.ciborium.proofs.de.byte_source.ByteSource.name.Goals as goal
 pub returns-in_err-header-clause-answer : goal.returns-in_err-header-clause-answer
 returns-in_err-header-clause-answer g c =
     let exit = err_from_is_err_and c.from_residual.result c.from_residual.ensures.1 in
-    rw (exit.1, exit.2) (denies-of-item (IsUnread g.R.Read.remaining) (end_at g.R.Read.remaining) (Some c.args.self.now.levels) taken_name c.args.self.now (fault_of c.in_err-header.field-0.0) c.in_err-header.ensures.denied)
+    rw (exit.1, exit.2) (denies-of-item (IsUnread g.R.Read.remaining) (end_at g.R.Read.remaining)
+    (Some c.args.self.now.levels) taken_name c.args.self.now (fault_of c.in_err-header.field-0.0)
+    c.in_err-header.ensures.denied)
 
 pub returns-in_err-name-in-Text-clause-answer : goal.returns-in_err-name-in-Text-clause-answer
 returns-in_err-name-in-Text-clause-answer g c =
-    let exit = err_from_is_err_and c.from_residual-in_err-name-in-Text.result c.from_residual-in_err-name-in-Text.ensures.1 in
-    rw (exit.1, exit.2) (denies-string (IsUnread g.R.Read.remaining) (end_at g.R.Read.remaining) (Some c.args.self.now.levels) taken_name c.args.self.now c.bare_head.new.self of_text c.in-Text.len (fault_of c.in_err-name-in-Text.field-0.0) (same-end g.R.Read.remaining c.args.self.now c.bare_head.new.self c.in_ok-header.ensures.reads.only)
-    (subst (TakesBare (IsUnread g.R.Read.remaining) c.args.self.now c.bare_head.new.self false) c.in-Text.is c.in_ok-header.ensures.head) c.in_err-name-in-Text.ensures.denied)
+    let exit = err_from_is_err_and c.from_residual-in_err-name-in-Text.result
+    c.from_residual-in_err-name-in-Text.ensures.1 in
+    rw (exit.1, exit.2) (denies-string (IsUnread g.R.Read.remaining) (end_at g.R.Read.remaining)
+    (Some c.args.self.now.levels) taken_name c.args.self.now c.bare_head.new.self of_text c.in-Text.len
+    (fault_of c.in_err-name-in-Text.field-0.0) (same-end g.R.Read.remaining c.args.self.now c.bare_head.new.self
+    c.in_ok-header.ensures.reads.only)
+    (subst (TakesBare (IsUnread g.R.Read.remaining) c.args.self.now c.bare_head.new.self false) c.in-Text.is
+    c.in_ok-header.ensures.head) c.in_err-name-in-Text.ensures.denied)
 
 pub returns-in-Text-clause-answer : goal.returns-in-Text-clause-answer
 returns-in-Text-clause-answer g c =
     let l = Some c.args.self.now.levels in
     let payload = string_bytes c.in_ok-name-in-Text.name in
-    reads-string (IsUnread g.R.Read.remaining) c.args.self.now c.bare_head.new.self c.text_content.new.self of_text c.in-Text.len l taken_name payload payload
-    (subst (TakesBare (IsUnread g.R.Read.remaining) c.args.self.now c.bare_head.new.self false) c.in-Text.is c.in_ok-header.ensures.head) c.in_ok-name-in-Text.ensures.ok
+    reads-string (IsUnread g.R.Read.remaining) c.args.self.now c.bare_head.new.self c.text_content.new.self of_text
+    c.in-Text.len l taken_name payload payload
+    (subst (TakesBare (IsUnread g.R.Read.remaining) c.args.self.now c.bare_head.new.self false) c.in-Text.is
+    c.in_ok-header.ensures.head) c.in_ok-name-in-Text.ensures.ok
     (λ ts all. ap bare_name (untagged-under ts (string_item of_text c.in-Text.len payload)))
 
 pub returns-in_err-bytes-in-Bytes-clause-answer : goal.returns-in_err-bytes-in-Bytes-clause-answer
 returns-in_err-bytes-in-Bytes-clause-answer g c =
-    let exit = err_from_is_err_and c.from_residual-in_err-bytes-in-Bytes.result c.from_residual-in_err-bytes-in-Bytes.ensures.1 in
-    rw (exit.1, exit.2) (denies-string (IsUnread g.R.Read.remaining) (end_at g.R.Read.remaining) (Some c.args.self.now.levels) taken_name c.args.self.now c.bare_head.new.self of_bytes c.in-Bytes.len (fault_of c.in_err-bytes-in-Bytes.field-0.0) (same-end g.R.Read.remaining c.args.self.now c.bare_head.new.self c.in_ok-header.ensures.reads.only)
-    (subst (TakesBare (IsUnread g.R.Read.remaining) c.args.self.now c.bare_head.new.self false) c.in-Bytes.is c.in_ok-header.ensures.head) c.in_err-bytes-in-Bytes.ensures.denied)
+    let exit = err_from_is_err_and c.from_residual-in_err-bytes-in-Bytes.result
+    c.from_residual-in_err-bytes-in-Bytes.ensures.1 in
+    rw (exit.1, exit.2) (denies-string (IsUnread g.R.Read.remaining) (end_at g.R.Read.remaining)
+    (Some c.args.self.now.levels) taken_name c.args.self.now c.bare_head.new.self of_bytes c.in-Bytes.len
+    (fault_of c.in_err-bytes-in-Bytes.field-0.0) (same-end g.R.Read.remaining c.args.self.now c.bare_head.new.self
+    c.in_ok-header.ensures.reads.only)
+    (subst (TakesBare (IsUnread g.R.Read.remaining) c.args.self.now c.bare_head.new.self false) c.in-Bytes.is
+    c.in_ok-header.ensures.head) c.in_err-bytes-in-Bytes.ensures.denied)
 
 pub returns-in-Ok-clause-answer : goal.returns-in-Ok-clause-answer
 returns-in-Ok-clause-answer g c =
@@ -48,17 +62,25 @@ returns-in-Ok-clause-answer g c =
     let payload = c.in_ok-bytes-in-Bytes.bytes.items in
     let same : string_bytes c.in-Ok.name ≡ payload = ap (λ v. v.items) c.in-Ok.ensures.ok in
     let utf8 : IsUtf8 payload = subst IsUtf8 same (IsUtf8-string_bytes c.in-Ok.name) in
-    reads-string (IsUnread g.R.Read.remaining) c.args.self.now c.bare_head.new.self c.bytes_content.new.self of_bytes c.in-Bytes.len l taken_name payload (string_bytes c.in-Ok.name)
-    (subst (TakesBare (IsUnread g.R.Read.remaining) c.args.self.now c.bare_head.new.self false) c.in-Bytes.is c.in_ok-header.ensures.head) c.in_ok-bytes-in-Bytes.ensures.ok
-    (λ ts all. subst (λ b. taken_name l (Rattle.ciborium.specs.inner.Skips.under ts (string_item of_bytes c.in-Bytes.len payload)) ≡ Rattle.ciborium_value.specs.Taken.gives b) (sym same) (bytes-name ts l (is_open c.in-Bytes.len) payload utf8))
+    reads-string (IsUnread g.R.Read.remaining) c.args.self.now c.bare_head.new.self c.bytes_content.new.self of_bytes
+    c.in-Bytes.len l taken_name payload (string_bytes c.in-Ok.name)
+    (subst (TakesBare (IsUnread g.R.Read.remaining) c.args.self.now c.bare_head.new.self false) c.in-Bytes.is
+    c.in_ok-header.ensures.head) c.in_ok-bytes-in-Bytes.ensures.ok
+    (λ ts all. subst (λ b. taken_name l (Rattle.ciborium.specs.inner.Skips.under ts
+    (string_item of_bytes c.in-Bytes.len payload)) ≡ Rattle.ciborium_value.specs.Taken.gives b) (sym same)
+    (bytes-name ts l (is_open c.in-Bytes.len) payload utf8))
 
 pub returns-in-Bytes-clause-answer : goal.returns-in-Bytes-clause-answer
 returns-in-Bytes-clause-answer g c =
-    bytes-no-name (IsUnread g.R.Read.remaining) (end_at g.R.Read.remaining) c.args.self.now c.bare_head.new.self c.bytes_content.new.self c.in-Bytes.len (Some c.args.self.now.levels) c.in_ok-bytes-in-Bytes.bytes.items (λ u. let never = c.in-Err.ensures.succeeds u in cc)
-    (subst (TakesBare (IsUnread g.R.Read.remaining) c.args.self.now c.bare_head.new.self false) c.in-Bytes.is c.in_ok-header.ensures.head) c.in_ok-bytes-in-Bytes.ensures.ok
+    bytes-no-name (IsUnread g.R.Read.remaining) (end_at g.R.Read.remaining) c.args.self.now c.bare_head.new.self
+    c.bytes_content.new.self c.in-Bytes.len (Some c.args.self.now.levels) c.in_ok-bytes-in-Bytes.bytes.items
+    (λ u. let never = c.in-Err.ensures.succeeds u in cc)
+    (subst (TakesBare (IsUnread g.R.Read.remaining) c.args.self.now c.bare_head.new.self false) c.in-Bytes.is
+    c.in_ok-header.ensures.head) c.in_ok-bytes-in-Bytes.ensures.ok
 
 pub returns-clause-answer : goal.returns-clause-answer
 returns-clause-answer g c =
     let l = Some c.args.self.now.levels in
-    denies-bare (IsUnread g.R.Read.remaining) false c.in_ok-header.header l taken_name (end_at g.R.Read.remaining) c.args.self.now c.bare_head.new.self (of_kind kinds.Name) c.in_ok-header.ensures.head
+    denies-bare (IsUnread g.R.Read.remaining) false c.in_ok-header.header l taken_name (end_at g.R.Read.remaining)
+    c.args.self.now c.bare_head.new.self (of_kind kinds.Name) c.in_ok-header.ensures.head
     (name-other l c.in_ok-header.header c.in_ok-header.ensures.reads.bare c.in_default.not-Text c.in_default.not-Bytes)

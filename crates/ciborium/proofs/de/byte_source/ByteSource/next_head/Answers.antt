@@ -2,7 +2,8 @@ use Rattle.std.proofs.Common.{◌∙◌, sym, subst, ◌≡◌, arith, ap}
 use Rattle.std.proofs.lemmas.Result.{err_from_is_err_and}
 use Rattle.ciborium.specs.inner.ByteSources.{IsUnreadBy, bytes_weight, weight_left, known_end}
 use Rattle.ciborium.specs.Errors.{fault_of}
-use Rattle.ciborium.proofs.Items.FrontReads.{ahead-unpushed, counted-pending, counted-pulled, fewer-bytes, head-outside, weighs-none}
+use Rattle.ciborium.proofs.Items.FrontReads.{ahead-unpushed, counted-pending, counted-pulled, fewer-bytes, head-outside}
+use Rattle.ciborium.proofs.Items.FrontReads.{weighs-none}
 use Rattle.ciborium_ll.specs.Decoding.{left_of}
 use Rattle.ciborium.proofs.Items.TakenOnly.{takes-only}
 use Rattle.ciborium_ll.proofs.HeldBytes.{same-name}
@@ -14,34 +15,56 @@ pub returns-in_err-header-clause-denied : goal.returns-in_err-header-clause-deni
 returns-in_err-header-clause-denied g c =
     let exit = err_from_is_err_and c.from_residual.result c.from_residual.ensures.1 in
     let d = c.args.self.now.decoder in
-    rw (exit.1, exit.2) (λ b x y h u s e there. subst (λ n. IsOutsideFault n (fault_of (from_ll c.in_err-header.field-0.0))) (sym (ap (λ o. known_end o d.window.count) (subst (λ o. IsUnreadBy g.R.Read.remaining d o b) c.in_default.is u)))
-    (head-outside (left_of g.R.Read.remaining c.pull_next_keeping.new.self) c.in_err-header.field-0.0 b x y d.window.count h s e there
-    (c.in_err-header.ensures.ahead b d.window.count (ahead-unpushed g.R.Read.remaining d b c.args.self.now.unpushed (subst (λ o. IsUnreadBy g.R.Read.remaining d o b) c.in_default.is u)))))
+    rw (exit.1, exit.2) (λ b x y h u s e there. subst (λ n. IsOutsideFault n
+    (fault_of (from_ll c.in_err-header.field-0.0)))
+    (sym (ap (λ o. known_end o d.window.count) (subst (λ o. IsUnreadBy g.R.Read.remaining d o b) c.in_default.is
+    u)))
+    (head-outside (left_of g.R.Read.remaining c.pull_next_keeping.new.self) c.in_err-header.field-0.0 b x y
+    d.window.count h s e there
+    (c.in_err-header.ensures.ahead b d.window.count (ahead-unpushed g.R.Read.remaining d b c.args.self.now.unpushed
+    (subst (λ o. IsUnreadBy g.R.Read.remaining d o b) c.in_default.is u)))))
 
 pub returns-clause-fewer : goal.returns-clause-fewer
 returns-clause-fewer g c =
-    let fewer = fewer-bytes Unit g.R.Read.remaining c.args.self.now.decoder c.pull_next_keeping.new.self c.in_ok-header.header c.in_ok-header.ensures.taken in
-    let none : weight_left c.args.self.now ≡ bytes_weight c.args.self.now = weighs-none c.args.self.now c.in_default.is in
+    let fewer = fewer-bytes Unit g.R.Read.remaining c.args.self.now.decoder c.pull_next_keeping.new.self
+    c.in_ok-header.header c.in_ok-header.ensures.taken in
+    let none : weight_left c.args.self.now ≡ bytes_weight c.args.self.now =
+    weighs-none c.args.self.now c.in_default.is in
     omega (arith, fewer, none)
 
 pub returns-in-Some-clause-counted : goal.returns-in-Some-clause-counted
-returns-in-Some-clause-counted g c b x y u = counted-pending g.R.Read.remaining c.args.self.now.decoder c.args.self.now.pending (c.in-Some.header, c.in-Some.offset) b x y c.in-Some.is u
+returns-in-Some-clause-counted g c b x y u = counted-pending g.R.Read.remaining c.args.self.now.decoder
+    c.args.self.now.pending (c.in-Some.header, c.in-Some.offset) b x y c.in-Some.is u
 
 pub returns-clause-counted : goal.returns-clause-counted
 returns-clause-counted g c b x y u =
     let d = c.args.self.now.decoder in
-    counted-pulled Unit (left_of g.R.Read.remaining c.pull_next_keeping.new.self) c.pull_next_keeping.new.self c.in_ok-header.header d.window.count c.last_offset-offset.result c.pull_next_keeping.new.self.last b x y
+    counted-pulled Unit (left_of g.R.Read.remaining c.pull_next_keeping.new.self) c.pull_next_keeping.new.self
+    c.in_ok-header.header d.window.count c.last_offset-offset.result c.pull_next_keeping.new.self.last b x y
     (c.last_offset-offset.ensures ∙ c.in_ok-header.ensures.last)
-    (c.in_ok-header.ensures.ahead b d.window.count (ahead-unpushed g.R.Read.remaining d b c.args.self.now.unpushed (subst (λ o. IsUnreadBy g.R.Read.remaining d o b) c.in_default.is u)))
+    (c.in_ok-header.ensures.ahead b d.window.count (ahead-unpushed g.R.Read.remaining d b c.args.self.now.unpushed
+    (subst (λ o. IsUnreadBy g.R.Read.remaining d o b) c.in_default.is u)))
 
 pub returns-clause-head : goal.returns-clause-head
 returns-clause-head g c b u =
     let d = c.args.self.now.decoder in
-    let (x, y, hd, usable, e, stood, counted, rest) = c.in_ok-header.ensures.ahead b d.window.count (ahead-unpushed g.R.Read.remaining d b c.args.self.now.unpushed (subst (λ o. IsUnreadBy g.R.Read.remaining d o b) c.in_default.is u)) in
-    (x, y, hd, e, subst (λ o. IsUnreadBy g.R.Read.remaining c.pull_next_keeping.new.self o y) (sym c.in_default.is) rest)
+    let (x, y, hd, usable, e, stood, counted, rest) = c.in_ok-header.ensures.ahead b d.window.count
+    (ahead-unpushed g.R.Read.remaining d b c.args.self.now.unpushed
+    (subst (λ o. IsUnreadBy g.R.Read.remaining d o b) c.in_default.is u)) in (
+      x,
+      y,
+      hd,
+      e,
+      subst (λ o. IsUnreadBy g.R.Read.remaining c.pull_next_keeping.new.self o y) (sym c.in_default.is)
+          rest,
+    )
 
 pub returns-in_err-header-clause-only : goal.returns-in_err-header-clause-only
-returns-in_err-header-clause-only g c = takes-only g.R.Read.remaining c.args.self.now.decoder c.pull_next_keeping.new.self _ (same-name c.args.self.now.decoder c.pull_next_keeping.new.self c.in_err-header.ensures.same_reader) c.in_err-header.ensures.taken
+returns-in_err-header-clause-only g c = takes-only g.R.Read.remaining c.args.self.now.decoder
+    c.pull_next_keeping.new.self _ (same-name c.args.self.now.decoder c.pull_next_keeping.new.self
+    c.in_err-header.ensures.same_reader) c.in_err-header.ensures.taken
 
 pub returns-clause-only : goal.returns-clause-only
-returns-clause-only g c = takes-only g.R.Read.remaining c.args.self.now.decoder c.pull_next_keeping.new.self _ (same-name c.args.self.now.decoder c.pull_next_keeping.new.self c.in_ok-header.ensures.same_reader) c.in_ok-header.ensures.taken
+returns-clause-only g c = takes-only g.R.Read.remaining c.args.self.now.decoder c.pull_next_keeping.new.self _
+    (same-name c.args.self.now.decoder c.pull_next_keeping.new.self c.in_ok-header.ensures.same_reader)
+    c.in_ok-header.ensures.taken

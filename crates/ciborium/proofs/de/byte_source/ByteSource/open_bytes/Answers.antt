@@ -6,7 +6,9 @@ use Rattle.ciborium.proofs.de.byte_source.ByteSource.open_bytes.Goals as goal
 
 pub returns-clause-ok : goal.returns-clause-ok
 returns-clause-ok g c =
-    subst (TakesContent (IsUnread g.R.Read.remaining c.args.self.now) (IsUnread g.R.Read.remaining c.bytes_content.new.self) of_bytes c.args.len) (sym c.into_iter.ensures.rest) c.in_ok-bytes.ensures.ok
+    subst (TakesContent (IsUnread g.R.Read.remaining c.args.self.now)
+    (IsUnread g.R.Read.remaining c.bytes_content.new.self) of_bytes c.args.len) (sym c.into_iter.ensures.rest)
+    c.in_ok-bytes.ensures.ok
 
 pub returns-clause-fewer : goal.returns-clause-fewer
 returns-clause-fewer g c = omega (arith, c.in_ok-bytes.ensures.fewer, ap length c.into_iter.ensures.rest)

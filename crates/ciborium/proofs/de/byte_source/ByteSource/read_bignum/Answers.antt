@@ -6,38 +6,52 @@ use Rattle.ciborium.specs.inner.ByteSources.{IsUnread, end_at}
 use Rattle.ciborium.specs.Errors.{fault_of}
 use Rattle.ciborium.specs.inner.FrontItems.{TakesHead}
 use Rattle.ciborium.specs.inner.StringContents.{TakesNumber}
-use Rattle.ciborium.proofs.Payloads.OpenNumbers.{bignum-reads, bignum-large, bignum-content, bignum-no-head, bignum-break, bignum-other}
+use Rattle.ciborium.proofs.Payloads.OpenNumbers.{bignum-reads, bignum-large, bignum-content, bignum-no-head}
+use Rattle.ciborium.proofs.Payloads.OpenNumbers.{bignum-break, bignum-other}
 use Rattle.ciborium.proofs.Items.TakenOnly.{same-end}
 use Rattle.ciborium.proofs.de.byte_source.ByteSource.read_bignum.Goals as goal
 
 pub returns-in_err-header-clause-answer : goal.returns-in_err-header-clause-answer
 returns-in_err-header-clause-answer g c =
     let exit = err_from_is_err_and c.from_residual.result c.from_residual.ensures.1 in
-    rw (exit.1, exit.2) (bignum-no-head (IsUnread g.R.Read.remaining) (end_at g.R.Read.remaining) c.args.self.now c.next_head.new.self (fault_of c.in_err-header.field-0.0) c.in_err-header.ensures.denied)
+    rw (exit.1, exit.2) (bignum-no-head (IsUnread g.R.Read.remaining) (end_at g.R.Read.remaining) c.args.self.now
+    c.next_head.new.self (fault_of c.in_err-header.field-0.0) c.in_err-header.ensures.denied)
 
 pub returns-in_err-number-in-Bytes-clause-answer : goal.returns-in_err-number-in-Bytes-clause-answer
 returns-in_err-number-in-Bytes-clause-answer g c =
-    let exit = err_from_is_err_and c.from_residual-in_err-number-in-Bytes.result c.from_residual-in_err-number-in-Bytes.ensures.1 in
-    rw (exit.1, exit.2) (bignum-content (IsUnread g.R.Read.remaining) (end_at g.R.Read.remaining) c.args.self.now c.next_head.new.self c.in-Bytes.len (fault_of c.in_err-number-in-Bytes.field-0.0) (same-end g.R.Read.remaining c.args.self.now c.next_head.new.self c.in_ok-header.ensures.only)
-    (subst (TakesHead (IsUnread g.R.Read.remaining) c.args.self.now c.next_head.new.self) c.in-Bytes.is c.in_ok-header.ensures.head) c.in_err-number-in-Bytes.ensures.denied)
+    let exit = err_from_is_err_and c.from_residual-in_err-number-in-Bytes.result
+    c.from_residual-in_err-number-in-Bytes.ensures.1 in
+    rw (exit.1, exit.2) (bignum-content (IsUnread g.R.Read.remaining) (end_at g.R.Read.remaining) c.args.self.now
+    c.next_head.new.self c.in-Bytes.len (fault_of c.in_err-number-in-Bytes.field-0.0)
+    (same-end g.R.Read.remaining c.args.self.now c.next_head.new.self c.in_ok-header.ensures.only)
+    (subst (TakesHead (IsUnread g.R.Read.remaining) c.args.self.now c.next_head.new.self) c.in-Bytes.is
+    c.in_ok-header.ensures.head) c.in_err-number-in-Bytes.ensures.denied)
 
 pub returns-in-Some-clause-answer : goal.returns-in-Some-clause-answer
 returns-in-Some-clause-answer g c =
     let U = IsUnread g.R.Read.remaining in
-    bignum-reads U (end_at g.R.Read.remaining) c.args.self.now c.next_head.new.self c.read_number.new.self c.in-Bytes.len c.in-Some.n (subst (TakesHead U c.args.self.now c.next_head.new.self) c.in-Bytes.is c.in_ok-header.ensures.head)
-    (subst (TakesNumber (U c.next_head.new.self) (U c.read_number.new.self) c.in-Bytes.len) c.in-Some.is c.in_ok-number-in-Bytes.ensures.ok)
+    bignum-reads U (end_at g.R.Read.remaining) c.args.self.now c.next_head.new.self c.read_number.new.self
+    c.in-Bytes.len c.in-Some.n (subst (TakesHead U c.args.self.now c.next_head.new.self) c.in-Bytes.is
+    c.in_ok-header.ensures.head)
+    (subst (TakesNumber (U c.next_head.new.self) (U c.read_number.new.self) c.in-Bytes.len) c.in-Some.is
+    c.in_ok-number-in-Bytes.ensures.ok)
 
 pub returns-in-None-clause-answer : goal.returns-in-None-clause-answer
 returns-in-None-clause-answer g c =
     let U = IsUnread g.R.Read.remaining in
-    bignum-large U (end_at g.R.Read.remaining) c.args.self.now c.next_head.new.self (U c.read_number.new.self) c.in-Bytes.len (subst (TakesHead U c.args.self.now c.next_head.new.self) c.in-Bytes.is c.in_ok-header.ensures.head)
-    (subst (TakesNumber (U c.next_head.new.self) (U c.read_number.new.self) c.in-Bytes.len) c.in-None.is c.in_ok-number-in-Bytes.ensures.ok)
+    bignum-large U (end_at g.R.Read.remaining) c.args.self.now c.next_head.new.self (U c.read_number.new.self)
+    c.in-Bytes.len (subst (TakesHead U c.args.self.now c.next_head.new.self) c.in-Bytes.is
+    c.in_ok-header.ensures.head)
+    (subst (TakesNumber (U c.next_head.new.self) (U c.read_number.new.self) c.in-Bytes.len) c.in-None.is
+    c.in_ok-number-in-Bytes.ensures.ok)
 
 pub returns-in-Break-clause-answer : goal.returns-in-Break-clause-answer
 returns-in-Break-clause-answer g c =
     let U = IsUnread g.R.Read.remaining in
-    bignum-break U (end_at g.R.Read.remaining) c.args.self.now c.next_head.new.self (of_kind kinds.Break) (subst (TakesHead U c.args.self.now c.next_head.new.self) c.in-Break.is c.in_ok-header.ensures.head)
+    bignum-break U (end_at g.R.Read.remaining) c.args.self.now c.next_head.new.self (of_kind kinds.Break)
+    (subst (TakesHead U c.args.self.now c.next_head.new.self) c.in-Break.is c.in_ok-header.ensures.head)
 
 pub returns-in_default-clause-answer : goal.returns-in_default-clause-answer
 returns-in_default-clause-answer g c =
-    bignum-other (IsUnread g.R.Read.remaining) (end_at g.R.Read.remaining) c.args.self.now c.next_head.new.self c.in_ok-header.header c.in_ok-header.ensures.head c.in_default.not-Bytes
+    bignum-other (IsUnread g.R.Read.remaining) (end_at g.R.Read.remaining) c.args.self.now c.next_head.new.self
+    c.in_ok-header.header c.in_ok-header.ensures.head c.in_default.not-Bytes

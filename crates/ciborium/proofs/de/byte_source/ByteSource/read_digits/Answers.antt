@@ -17,19 +17,27 @@ loop-left-preserved g c =
     let buffer = c.read_exact_keeping.new.buffer in
     let fewer = fill-fewer Unit g.R.Read.remaining d e buffer c.in_ok-read_exact_keeping.ensures.taken in record {
       same_reader = c.in_ok-read_exact_keeping.ensures.same_reader ∙ c.loop-left.invariant.same_reader;
-      only = λ first h. takes-only g.R.Read.remaining d e _ (same-name d e c.in_ok-read_exact_keeping.ensures.same_reader) c.in_ok-read_exact_keeping.ensures.taken first (c.loop-left.invariant.only first h);
+      only = λ first h. takes-only g.R.Read.remaining d e _
+          (same-name d e c.in_ok-read_exact_keeping.ensures.same_reader) c.in_ok-read_exact_keeping.ensures.taken first
+          (c.loop-left.invariant.only first h);
       levels = c.loop-left.invariant.levels;
       pending = none;
       fewer = omega (arith, fewer, c.loop-left.invariant.fewer);
       took = λ y u.
           let (t, z, len, bytes, val, split, un) = c.loop-left.invariant.took y u in
-          let (t', z', len', bytes', val', split', left') = digit-more Unit g.R.Read.remaining d e buffer c.only_byte.result c.loop-left.left c.args.len c.args.start c.loop-left.number c.with_digit-number.result y c.only_byte.ensures c.loop-left-test.true c.with_digit-number.ensures c.in_ok-read_exact_keeping.ensures.taken
+          let (t', z', len', bytes', val', split', left') =
+          digit-more Unit g.R.Read.remaining d e buffer c.only_byte.result c.loop-left.left c.args.len c.args.start
+          c.loop-left.number c.with_digit-number.result y c.only_byte.ensures c.loop-left-test.true
+          c.with_digit-number.ensures c.in_ok-read_exact_keeping.ensures.taken
           (t, z, len, bytes, val, split, subst (λ o. IsUnreadBy g.R.Read.remaining d o z) none un) in
           (t', z', len', bytes', val', split', subst (λ o. IsUnreadBy g.R.Read.remaining e o z') (sym none) left');
     }
 
 pub returns-in_err-read_exact_keeping-clause-only : goal.returns-in_err-read_exact_keeping-clause-only
-returns-in_err-read_exact_keeping-clause-only g c first h = takes-only g.R.Read.remaining c.loop-left.self.decoder c.read_exact_keeping.new.self _ (same-name c.loop-left.self.decoder c.read_exact_keeping.new.self c.in_err-read_exact_keeping.ensures.same_reader) c.in_err-read_exact_keeping.ensures.taken first (c.loop-left.invariant.only first h)
+returns-in_err-read_exact_keeping-clause-only g c first h =
+    takes-only g.R.Read.remaining c.loop-left.self.decoder c.read_exact_keeping.new.self _
+    (same-name c.loop-left.self.decoder c.read_exact_keeping.new.self c.in_err-read_exact_keeping.ensures.same_reader)
+    c.in_err-read_exact_keeping.ensures.taken first (c.loop-left.invariant.only first h)
 
 pub returns-in_err-read_exact_keeping-clause-outside : goal.returns-in_err-read_exact_keeping-clause-outside
 returns-in_err-read_exact_keeping-clause-outside g c =
@@ -39,6 +47,9 @@ returns-in_err-read_exact_keeping-clause-outside g c =
     let (t, z, len, bytes, val, split, un) = c.loop-left.invariant.took y u in
     let more : length y ≡ length t + length z = ap length split ∙ length-append t z in
     let one = c.read_exact_keeping.auto.buffer in
-    subst (λ n. IsOutsideFault n (fault_of (from_ll c.in_err-read_exact_keeping.field-0.0))) (same-end g.R.Read.remaining c.args.self.now c.loop-left.self c.loop-left.invariant.only y u)
-    (fill-outside g.R.Read.remaining d c.read_exact_keeping.new.self c.read_exact_keeping.new.buffer z c.in_err-read_exact_keeping.field-0.0 (subst (λ o. IsUnreadBy g.R.Read.remaining d o z) c.loop-left.invariant.pending un)
+    subst (λ n. IsOutsideFault n (fault_of (from_ll c.in_err-read_exact_keeping.field-0.0)))
+    (same-end g.R.Read.remaining c.args.self.now c.loop-left.self c.loop-left.invariant.only y u)
+    (fill-outside g.R.Read.remaining d c.read_exact_keeping.new.self c.read_exact_keeping.new.buffer z
+    c.in_err-read_exact_keeping.field-0.0 (subst (λ o. IsUnreadBy g.R.Read.remaining d o z)
+    c.loop-left.invariant.pending un)
     (omega (arith, there, more, len, one, c.loop-left-test.true)) c.in_err-read_exact_keeping.ensures.taken))

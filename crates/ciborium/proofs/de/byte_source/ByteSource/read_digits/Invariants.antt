@@ -13,7 +13,9 @@ invariant-loop-left g l = record {
   levels : l.self.levels ≡ l.fn.self.levels;
   pending : l.self.pending ≡ None;
   fewer : bytes_weight l.self ≤ bytes_weight l.fn.self;
-  took : (y : List ℕ) → IsUnread g.R.Read.remaining l.fn.self y → (c : List ℕ) × (z : List ℕ) × (length c + l.left ≡ l.len) × AreBytes c × (l.number ≡ digits_of l.fn.start c) × (y ≡ c ++ z) × IsUnread g.R.Read.remaining l.self z;
+  took : (y : List ℕ) → IsUnread g.R.Read.remaining l.fn.self y → (c : List ℕ) × (z : List ℕ) ×
+      (length c + l.left ≡ l.len) × AreBytes c × (l.number ≡ digits_of l.fn.start c) × (y ≡ c ++ z) ×
+      IsUnread g.R.Read.remaining l.self z;
 }
 
 abbrev pub decreases-loop-left : goal.decreases-loop-left

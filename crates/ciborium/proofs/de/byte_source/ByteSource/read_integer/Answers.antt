@@ -18,9 +18,12 @@ use Rattle.ciborium.proofs.de.byte_source.ByteSource.read_integer.Goals as goal
 pub returns-in_err-header-clause-answer : goal.returns-in_err-header-clause-answer
 returns-in_err-header-clause-answer g c =
     let exit = err_from_is_err_and c.from_residual.result c.from_residual.ensures.1 in
-    rw (exit.1, exit.2) (denies-of-item (IsUnread g.R.Read.remaining) (end_at g.R.Read.remaining) (Some c.args.self.now.levels) taken_integer c.args.self.now (fault_of c.in_err-header.field-0.0) c.in_err-header.ensures.denied)
+    rw (exit.1, exit.2) (denies-of-item (IsUnread g.R.Read.remaining) (end_at g.R.Read.remaining)
+    (Some c.args.self.now.levels) taken_integer c.args.self.now (fault_of c.in_err-header.field-0.0)
+    c.in_err-header.ensures.denied)
 
-either-sign : (h : Header) (n : ℕ) (P : Type 0) → (h ≡ header.Positive n) ⊎ (h ≡ header.Negative n) → (h ≡ header.Positive n → P) → (h ≡ header.Negative n → P) → P
+either-sign : (h : Header) (n : ℕ) (P : Type 0) → (h ≡ header.Positive n) ⊎ (h ≡ header.Negative n) →
+    (h ≡ header.Positive n → P) → (h ≡ header.Negative n → P) → P
 either-sign h n P (inl is) positive below = positive is
 either-sign h n P (inr is) positive below = below is
 
@@ -30,13 +33,16 @@ returns-in-Positive-clause-answer g c =
     let l = Some c.args.self.now.levels in
     let n = c.in-Positive.n in
     let v : Bool × ℕ = (c.is_negative-negative.result, c.from.result) in
-    either-sign c.in_ok-header.header n (Reads U c.args.self.now c.bare_head.new.self l taken_integer v) c.in-Positive.is
+    either-sign c.in_ok-header.header n (Reads U c.args.self.now c.bare_head.new.self l taken_integer v)
+    c.in-Positive.is
     (λ is. reads-whole U true (header.Positive n) l taken_integer c.args.self.now c.bare_head.new.self v (unsigned n)
     (subst (TakesBare U c.args.self.now c.bare_head.new.self true) is c.in_ok-header.ensures.head) (λ x hd. hd)
-    (integer-gives l (unsigned n) v (ap (λ s. gives (s, n)) (sym (c.is_negative-negative.ensures.positive n is)) ∙ ap (λ m. gives (c.is_negative-negative.result, m)) (sym c.from.ensures))))
+    (integer-gives l (unsigned n) v (ap (λ s. gives (s, n)) (sym (c.is_negative-negative.ensures.positive n is)) ∙
+    ap (λ m. gives (c.is_negative-negative.result, m)) (sym c.from.ensures))))
     (λ is. reads-whole U true (header.Negative n) l taken_integer c.args.self.now c.bare_head.new.self v (negative n)
     (subst (TakesBare U c.args.self.now c.bare_head.new.self true) is c.in_ok-header.ensures.head) (λ x hd. hd)
-    (integer-gives l (negative n) v (ap (λ s. gives (s, n)) (sym (c.is_negative-negative.ensures.negative n is)) ∙ ap (λ m. gives (c.is_negative-negative.result, m)) (sym c.from.ensures))))
+    (integer-gives l (negative n) v (ap (λ s. gives (s, n)) (sym (c.is_negative-negative.ensures.negative n is)) ∙
+    ap (λ m. gives (c.is_negative-negative.result, m)) (sym c.from.ensures))))
 
 pub returns-in_ok-number-in-Tag-clause-answer : goal.returns-in_ok-number-in-Tag-clause-answer
 returns-in_ok-number-in-Tag-clause-answer g c =
@@ -44,22 +50,31 @@ returns-in_ok-number-in-Tag-clause-answer g c =
     let t = c.in-Tag.tag in
     let bare : IsBare true (header.Tag t) = subst (IsBare true) c.in-Tag.is c.in_ok-header.ensures.reads.bare in
     let v = c.in_ok-number-in-Tag.number.0 in
-    subst (λ negative. Reads (IsUnread g.R.Read.remaining) c.args.self.now c.read_tagged.new.self l taken_integer (negative, v.1)) (sym c.in_ok-number-in-Tag.ensures.sign)
-    (reads-bare (IsUnread g.R.Read.remaining) true (header.Tag t) l taken_integer c.args.self.now c.bare_head.new.self c.read_tagged.new.self (t == 3, v.1)
-    (subst (TakesBare (IsUnread g.R.Read.remaining) c.args.self.now c.bare_head.new.self true) c.in-Tag.is c.in_ok-header.ensures.head)
-    (bignum-behind (IsUnread g.R.Read.remaining) t l bare.1 c.bare_head.new.self c.read_tagged.new.self v.1 c.in_ok-number-in-Tag.ensures.answer))
+    subst (λ negative. Reads (IsUnread g.R.Read.remaining) c.args.self.now c.read_tagged.new.self l taken_integer
+    (negative, v.1)) (sym c.in_ok-number-in-Tag.ensures.sign)
+    (reads-bare (IsUnread g.R.Read.remaining) true (header.Tag t) l taken_integer c.args.self.now c.bare_head.new.self
+    c.read_tagged.new.self (t == 3, v.1)
+    (subst (TakesBare (IsUnread g.R.Read.remaining) c.args.self.now c.bare_head.new.self true) c.in-Tag.is
+    c.in_ok-header.ensures.head)
+    (bignum-behind (IsUnread g.R.Read.remaining) t l bare.1 c.bare_head.new.self c.read_tagged.new.self v.1
+    c.in_ok-number-in-Tag.ensures.answer))
 
 pub returns-in_err-number-in-Tag-clause-answer : goal.returns-in_err-number-in-Tag-clause-answer
 returns-in_err-number-in-Tag-clause-answer g c =
     let l = Some c.args.self.now.levels in
     let t = c.in-Tag.tag in
-    let exit = err_from_is_err_and c.from_residual-in_err-number-in-Tag.result c.from_residual-in_err-number-in-Tag.ensures.1 in
+    let exit = err_from_is_err_and c.from_residual-in_err-number-in-Tag.result
+    c.from_residual-in_err-number-in-Tag.ensures.1 in
     let bare : IsBare true (header.Tag t) = subst (IsBare true) c.in-Tag.is c.in_ok-header.ensures.reads.bare in
-    rw (exit.1, exit.2) (bignum-denied (IsUnread g.R.Read.remaining) t l bare.1 (end_at g.R.Read.remaining) c.args.self.now c.bare_head.new.self (fault_of c.in_err-number-in-Tag.field-0.0) (same-end g.R.Read.remaining c.args.self.now c.bare_head.new.self c.in_ok-header.ensures.reads.only)
-    (subst (TakesBare (IsUnread g.R.Read.remaining) c.args.self.now c.bare_head.new.self true) c.in-Tag.is c.in_ok-header.ensures.head) c.in_err-number-in-Tag.ensures.answer)
+    rw (exit.1, exit.2) (bignum-denied (IsUnread g.R.Read.remaining) t l bare.1 (end_at g.R.Read.remaining)
+    c.args.self.now c.bare_head.new.self (fault_of c.in_err-number-in-Tag.field-0.0)
+    (same-end g.R.Read.remaining c.args.self.now c.bare_head.new.self c.in_ok-header.ensures.reads.only)
+    (subst (TakesBare (IsUnread g.R.Read.remaining) c.args.self.now c.bare_head.new.self true) c.in-Tag.is
+    c.in_ok-header.ensures.head) c.in_err-number-in-Tag.ensures.answer)
 
 pub returns-in_default-clause-answer : goal.returns-in_default-clause-answer
 returns-in_default-clause-answer g c =
     let l = Some c.args.self.now.levels in
-    denies-bare (IsUnread g.R.Read.remaining) true c.in_ok-header.header l taken_integer (end_at g.R.Read.remaining) c.args.self.now c.bare_head.new.self (of_kind kinds.Integer) c.in_ok-header.ensures.head
+    denies-bare (IsUnread g.R.Read.remaining) true c.in_ok-header.header l taken_integer (end_at g.R.Read.remaining)
+    c.args.self.now c.bare_head.new.self (of_kind kinds.Integer) c.in_ok-header.ensures.head
     (integer-other l c.in_ok-header.header c.in_default.not-Positive c.in_default.not-Negative c.in_default.not-Tag)

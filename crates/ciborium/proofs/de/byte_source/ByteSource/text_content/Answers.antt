@@ -16,16 +16,25 @@ pub returns-in_err-text_into_keeping-clause-denied : goal.returns-in_err-text_in
 returns-in_err-text_into_keeping-clause-denied g c =
     let exit = err_from_is_err_and c.from_residual.result c.from_residual.ensures.1 in
     let d = c.args.self.now.decoder in
-    rw (exit.1, exit.2) (λ y x s z payload u hd sp e. subst (λ n. IsOutsideFault n (fault_of (from_ll c.in_err-text_into_keeping.field-0.0))) (sym (ap (λ o. known_end o d.window.count) (subst (λ o. IsUnreadBy g.R.Read.remaining d o y) c.requires u)))
-    (content-outside (left_of g.R.Read.remaining c.text_into_keeping.new.self) c.in_err-text_into_keeping.field-0.0 of_text c.args.len d.last d.window.count y x s z payload hd sp e
+    rw (exit.1, exit.2) (λ y x s z payload u hd sp e. subst
+    (λ n. IsOutsideFault n (fault_of (from_ll c.in_err-text_into_keeping.field-0.0)))
+    (sym (ap (λ o. known_end o d.window.count) (subst (λ o. IsUnreadBy g.R.Read.remaining d o y) c.requires u)))
+    (content-outside (left_of g.R.Read.remaining c.text_into_keeping.new.self) c.in_err-text_into_keeping.field-0.0
+    of_text c.args.len d.last d.window.count y x s z payload hd sp e
     (c.in_err-text_into_keeping.ensures.refused y (subst (λ o. IsUnreadBy g.R.Read.remaining d o y) c.requires u))))
 
 pub returns-clause-ok : goal.returns-clause-ok
 returns-clause-ok g c =
-    content-taken Unit g.R.Read.remaining c.args.self.now.decoder c.text_into_keeping.new.self c.args.self.now.pending of_text c.args.len (string_bytes c.new-out.result) (string_bytes c.text_into_keeping.new.out) c.requires c.new-out.ensures.bytes c.in_ok-text_into_keeping.ensures.taken
+    content-taken Unit g.R.Read.remaining c.args.self.now.decoder c.text_into_keeping.new.self c.args.self.now.pending
+    of_text c.args.len (string_bytes c.new-out.result) (string_bytes c.text_into_keeping.new.out) c.requires
+    c.new-out.ensures.bytes c.in_ok-text_into_keeping.ensures.taken
 
 pub returns-in_err-text_into_keeping-clause-only : goal.returns-in_err-text_into_keeping-clause-only
-returns-in_err-text_into_keeping-clause-only g c = takes-only g.R.Read.remaining c.args.self.now.decoder c.text_into_keeping.new.self _ (same-name c.args.self.now.decoder c.text_into_keeping.new.self c.in_err-text_into_keeping.ensures.same_reader) c.in_err-text_into_keeping.ensures.taken
+returns-in_err-text_into_keeping-clause-only g c = takes-only g.R.Read.remaining c.args.self.now.decoder
+    c.text_into_keeping.new.self _ (same-name c.args.self.now.decoder c.text_into_keeping.new.self
+    c.in_err-text_into_keeping.ensures.same_reader) c.in_err-text_into_keeping.ensures.taken
 
 pub returns-clause-only : goal.returns-clause-only
-returns-clause-only g c = takes-only g.R.Read.remaining c.args.self.now.decoder c.text_into_keeping.new.self _ (same-name c.args.self.now.decoder c.text_into_keeping.new.self c.in_ok-text_into_keeping.ensures.same_reader) c.in_ok-text_into_keeping.ensures.taken
+returns-clause-only g c = takes-only g.R.Read.remaining c.args.self.now.decoder c.text_into_keeping.new.self _
+    (same-name c.args.self.now.decoder c.text_into_keeping.new.self c.in_ok-text_into_keeping.ensures.same_reader)
+    c.in_ok-text_into_keeping.ensures.taken

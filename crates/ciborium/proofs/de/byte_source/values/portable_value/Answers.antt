@@ -5,7 +5,9 @@ use Rattle.ciborium.proofs.Items.WholeValues.{portable-null, portable-number}
 use Rattle.ciborium.proofs.de.byte_source.values.portable_value.Goals as goal
 
 pub returns-in-Positive : goal.returns-in-Positive
-returns-in-Positive c = subst (MeansTree c.args.header) (sym (tree_of-Integer c.from.result)) (portable-number c.args.header c.in-Positive.n c.from.result c.in-Positive.is c.from.ensures)
+returns-in-Positive c = subst (MeansTree c.args.header) (sym (tree_of-Integer c.from.result))
+    (portable-number c.args.header c.in-Positive.n c.from.result c.in-Positive.is c.from.ensures)
 
 pub returns-then-is_null : goal.returns-then-is_null
-returns-then-is_null c = subst (MeansTree c.args.header) (sym tree_of-Null) (portable-null c.args.header c.in-Simple.number c.in-Simple.is (sym c.is_null.ensures ∙ c.if-is_null.true))
+returns-then-is_null c = subst (MeansTree c.args.header) (sym tree_of-Null)
+    (portable-null c.args.header c.in-Simple.number c.in-Simple.is (sym c.is_null.ensures ∙ c.if-is_null.true))

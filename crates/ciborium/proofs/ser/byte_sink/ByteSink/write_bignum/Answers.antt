@@ -14,13 +14,21 @@ use Rattle.ciborium.proofs.ser.byte_sink.ByteSink.write_bignum.Goals as goal
 
 pub returns-clause-bytes : goal.returns-clause-bytes
 returns-clause-bytes g c =
-    let payload : c.without_leading_zeros-shortest.result.now ≡ shortest_bytes c.args.number = c.without_leading_zeros-shortest.ensures ∙ (ap without_zeros c.to_be_bytes-bytes.ensures ∙ shortest-is c.args.number) in
-    subst (λ l. Writes (g.W.Write.contents c.args.self.now.writer.now) (g.W.Write.contents c.write_string.new.self.writer.now) c.write_string.result (shortest_head 6 c.args.tag ++ (shortest_head 2 (length l) ++ l))) payload
+    let payload : c.without_leading_zeros-shortest.result.now ≡ shortest_bytes c.args.number =
+    c.without_leading_zeros-shortest.ensures ∙ (ap without_zeros c.to_be_bytes-bytes.ensures ∙
+    shortest-is c.args.number) in
+    subst (λ l. Writes (g.W.Write.contents c.args.self.now.writer.now)
+    (g.W.Write.contents c.write_string.new.self.writer.now) c.write_string.result
+    (shortest_head 6 c.args.tag ++ (shortest_head 2 (length l) ++ l))) payload
     (Writes-after _ _ _ _ _ _ c.in_ok-push.ensures.bytes c.write_string.ensures.bytes)
 
 pub returns-clause-written : goal.returns-clause-written
 returns-clause-written g c =
-    let payload : c.without_leading_zeros-shortest.result.now ≡ shortest_bytes c.args.number = c.without_leading_zeros-shortest.ensures ∙ (ap without_zeros c.to_be_bytes-bytes.ensures ∙ shortest-is c.args.number) in
+    let payload : c.without_leading_zeros-shortest.result.now ≡ shortest_bytes c.args.number =
+    c.without_leading_zeros-shortest.ensures ∙ (ap without_zeros c.to_be_bytes-bytes.ensures ∙
+    shortest-is c.args.number) in
     let small : length c.without_leading_zeros-shortest.result.now ≤ greatest_offset = search rules in
-    let written : AreBytes c.without_leading_zeros-shortest.result.now → IsWritten (bignum_item c.args.tag c.args.number) = λ h. (c.ranges.tag.fits, (refl, subst IsProperBytes payload (h, small))) in
+    let written : AreBytes c.without_leading_zeros-shortest.result.now →
+    IsWritten (bignum_item c.args.tag c.args.number) =
+    λ h. (c.ranges.tag.fits, (refl, subst IsProperBytes payload (h, small))) in
     on_ok_weaker _ written c.write_string.ensures.payload

@@ -7,4 +7,5 @@ use Rattle.ciborium.proofs.value.canonical.OrderedValuePartialEq.eq.Goals as goa
 pub returns-clause-same : goal.returns-clause-same
 returns-clause-same g c =
     let gives : c.eq.result ≡ value_eq c.args.self.now c.args.other.now = search rules in
-    subst (λ b. IsTrue b ↔ (tree_of c.args.self.now ≡ tree_of c.args.other.now)) (sym gives) (equal_as_trees c.args.self.now c.args.other.now)
+    subst (λ b. IsTrue b ↔ (tree_of c.args.self.now ≡ tree_of c.args.other.now)) (sym gives)
+    (equal_as_trees c.args.self.now c.args.other.now)

@@ -4,12 +4,17 @@ use Rattle.ciborium_value.specs.Sources.{RefusesAhead}
 use Rattle.ciborium_value.specs.TakenParts.{taken_map}
 use Rattle.ciborium_value.proofs.Writing.Progress.{exits}
 use Rattle.ciborium_value.proofs.Sources.Sequences.{so, Follows, IsBefore, takes, blames}
-use Rattle.ciborium_value.proofs.Sources.Dictionaries.{IsInsideMap, map_begins, map_more, map_blames_next, map_blames_key, map_blames_value, map_ends, contents-insert, owed_pair, owed_pairs}
+use Rattle.ciborium_value.proofs.Sources.Dictionaries.{IsInsideMap, map_begins, map_more, map_blames_next}
+use Rattle.ciborium_value.proofs.Sources.Dictionaries.{map_blames_key, map_blames_value, map_ends, contents-insert}
+use Rattle.ciborium_value.proofs.Sources.Dictionaries.{owed_pair, owed_pairs}
 use Rattle.ciborium_value.proofs.deserialize.maps.BTreeMapDeserialize.deserialize.Goals as goal
 
 pub loop-entries-init : goal.loop-entries-init
 loop-entries-init g c = record {
-  inside = map_begins g.S.Source.stands_before g.S.Source.seq_stands g.K.Deserialize.reading.order g.K.Deserialize.reading.taken g.V.Deserialize.reading.taken _ (ap (map (λ e. (g.K.Deserialize.reading.content e.0, g.V.Deserialize.reading.content e.1))) c.new-entries.ensures.empty) c.in_ok-seq.ensures.ok;
+  inside = map_begins g.S.Source.stands_before g.S.Source.seq_stands g.K.Deserialize.reading.order
+      g.K.Deserialize.reading.taken g.V.Deserialize.reading.taken _
+      (ap (map (λ e. (g.K.Deserialize.reading.content e.0, g.V.Deserialize.reading.content e.1)))
+      c.new-entries.ensures.empty) c.in_ok-seq.ensures.ok;
   owed = c.in_ok-seq.ensures.took;
   only = c.begin_map.ensures.only;
   less = c.in_ok-seq.ensures.less;
@@ -18,34 +23,78 @@ loop-entries-init g c = record {
 pub returns-in_err-next-clause-refused : goal.returns-in_err-next-clause-refused
 returns-in_err-next-clause-refused g c =
     let e = g.S.Source.cause c.in_err-next.field-0.0 in
-    exits _ c.in_err-next.field-0.0 (λ x. RefusesAhead g.S.Source.stands_before c.args.source.now (taken_map g.K.Deserialize.reading.order g.K.Deserialize.reading.taken g.V.Deserialize.reading.taken) (g.S.Source.cause x)) c.from_residual-in_err-next.ensures.1
-    (blames g.S.Source.stands_before e (so c.loop-entries.invariant.inside (map_blames_next g.S.Source.stands_before g.S.Source.seq_stands g.K.Deserialize.reading.order g.K.Deserialize.reading.taken g.V.Deserialize.reading.taken (map (λ e. (g.K.Deserialize.reading.content e.0, g.V.Deserialize.reading.content e.1)) c.loop-entries.entries.entries) e c.in_err-next.ensures.refused)))
+    exits _ c.in_err-next.field-0.0 (λ x. RefusesAhead g.S.Source.stands_before c.args.source.now
+    (taken_map g.K.Deserialize.reading.order g.K.Deserialize.reading.taken g.V.Deserialize.reading.taken)
+    (g.S.Source.cause x)) c.from_residual-in_err-next.ensures.1
+    (blames g.S.Source.stands_before e (so c.loop-entries.invariant.inside
+    (map_blames_next g.S.Source.stands_before g.S.Source.seq_stands g.K.Deserialize.reading.order
+    g.K.Deserialize.reading.taken g.V.Deserialize.reading.taken
+    (map (λ e. (g.K.Deserialize.reading.content e.0, g.V.Deserialize.reading.content e.1))
+    c.loop-entries.entries.entries) e c.in_err-next.ensures.refused)))
 
 pub returns-in_err-key-clause-refused : goal.returns-in_err-key-clause-refused
 returns-in_err-key-clause-refused g c =
     let e = g.S.Source.cause c.in_err-key.field-0.0 in
-    exits _ c.in_err-key.field-0.0 (λ x. RefusesAhead g.S.Source.stands_before c.args.source.now (taken_map g.K.Deserialize.reading.order g.K.Deserialize.reading.taken g.V.Deserialize.reading.taken) (g.S.Source.cause x)) c.from_residual-in_err-key.ensures.1
-    (blames g.S.Source.stands_before e (so c.loop-entries.invariant.inside (map_blames_key g.S.Source.stands_before g.S.Source.seq_stands g.K.Deserialize.reading.order g.K.Deserialize.reading.taken g.V.Deserialize.reading.taken (map (λ e. (g.K.Deserialize.reading.content e.0, g.V.Deserialize.reading.content e.1)) c.loop-entries.entries.entries) e (rw c.if-branch.true at c.in_ok-next.ensures.ok) c.in_err-key.ensures.refused)))
+    exits _ c.in_err-key.field-0.0 (λ x. RefusesAhead g.S.Source.stands_before c.args.source.now
+    (taken_map g.K.Deserialize.reading.order g.K.Deserialize.reading.taken g.V.Deserialize.reading.taken)
+    (g.S.Source.cause x)) c.from_residual-in_err-key.ensures.1
+    (blames g.S.Source.stands_before e (so c.loop-entries.invariant.inside
+    (map_blames_key g.S.Source.stands_before g.S.Source.seq_stands g.K.Deserialize.reading.order
+    g.K.Deserialize.reading.taken g.V.Deserialize.reading.taken
+    (map (λ e. (g.K.Deserialize.reading.content e.0, g.V.Deserialize.reading.content e.1))
+    c.loop-entries.entries.entries) e (rw c.if-branch.true at c.in_ok-next.ensures.ok)
+    c.in_err-key.ensures.refused)))
 
 pub returns-in_err-value-clause-refused : goal.returns-in_err-value-clause-refused
 returns-in_err-value-clause-refused g c =
     let e = g.S.Source.cause c.in_err-value.field-0.0 in
-    exits _ c.in_err-value.field-0.0 (λ x. RefusesAhead g.S.Source.stands_before c.args.source.now (taken_map g.K.Deserialize.reading.order g.K.Deserialize.reading.taken g.V.Deserialize.reading.taken) (g.S.Source.cause x)) c.from_residual-in_err-value.ensures.1
-    (blames g.S.Source.stands_before e (so c.loop-entries.invariant.inside (map_blames_value g.S.Source.stands_before g.S.Source.seq_stands g.K.Deserialize.reading.order g.K.Deserialize.reading.taken g.V.Deserialize.reading.taken (map (λ e. (g.K.Deserialize.reading.content e.0, g.V.Deserialize.reading.content e.1)) c.loop-entries.entries.entries) e (rw c.if-branch.true at c.in_ok-next.ensures.ok) c.in_ok-key.ensures.ok c.in_err-value.ensures.refused)))
+    exits _ c.in_err-value.field-0.0 (λ x. RefusesAhead g.S.Source.stands_before c.args.source.now
+    (taken_map g.K.Deserialize.reading.order g.K.Deserialize.reading.taken g.V.Deserialize.reading.taken)
+    (g.S.Source.cause x)) c.from_residual-in_err-value.ensures.1
+    (blames g.S.Source.stands_before e (so c.loop-entries.invariant.inside
+    (map_blames_value g.S.Source.stands_before g.S.Source.seq_stands g.K.Deserialize.reading.order
+    g.K.Deserialize.reading.taken g.V.Deserialize.reading.taken
+    (map (λ e. (g.K.Deserialize.reading.content e.0, g.V.Deserialize.reading.content e.1))
+    c.loop-entries.entries.entries) e (rw c.if-branch.true at c.in_ok-next.ensures.ok) c.in_ok-key.ensures.ok
+    c.in_err-value.ensures.refused)))
 
 pub loop-entries-preserved : goal.loop-entries-preserved
 loop-entries-preserved g c = record {
-  inside = subst (λ es. Follows (IsBefore g.S.Source.stands_before c.args.source.now (taken_map g.K.Deserialize.reading.order g.K.Deserialize.reading.taken g.V.Deserialize.reading.taken)) (IsInsideMap g.S.Source.stands_before g.S.Source.seq_stands g.K.Deserialize.reading.order g.K.Deserialize.reading.taken g.V.Deserialize.reading.taken c.deserialize-in-loop-entries.new.source c.next.new.seq es))
-      (sym (ap (map (λ e. (g.K.Deserialize.reading.content e.0, g.V.Deserialize.reading.content e.1))) c.in-Ok.ensures.entries ∙ contents-insert g.K.Ord.cmp g.K.Deserialize.reading.order g.K.Deserialize.reading.content g.V.Deserialize.reading.content g.met.K.Key.orders c.loop-entries.entries.entries c.in_ok-key.key c.in_ok-value.value))
-      (so c.loop-entries.invariant.inside (map_more g.S.Source.stands_before g.S.Source.seq_stands g.K.Deserialize.reading.order g.K.Deserialize.reading.taken g.V.Deserialize.reading.taken (map (λ e. (g.K.Deserialize.reading.content e.0, g.V.Deserialize.reading.content e.1)) c.loop-entries.entries.entries) (rw c.if-branch.true at c.in_ok-next.ensures.ok) c.in_ok-key.ensures.ok c.in_ok-value.ensures.ok));
-  owed = owed_pair g.S.Source.is_unread g.S.Source.owes _ _ _ _ _ _ _ c.loop-entries.invariant.owed (rw c.if-branch.true at c.in_ok-next.ensures.took) c.in_ok-key.ensures.took c.in_ok-value.ensures.took;
-  only = λ first h. c.deserialize-in-loop-entries.ensures.only first (c.deserialize.ensures.only first (c.next.ensures.only first (c.loop-entries.invariant.only first h)));
-  less = omega (arith, c.in_ok-next.ensures.less, c.in_ok-key.ensures.less, c.in_ok-value.ensures.less, c.loop-entries.invariant.less);
+  inside = subst (λ es. Follows (IsBefore g.S.Source.stands_before c.args.source.now
+      (taken_map g.K.Deserialize.reading.order g.K.Deserialize.reading.taken g.V.Deserialize.reading.taken))
+      (IsInsideMap g.S.Source.stands_before g.S.Source.seq_stands g.K.Deserialize.reading.order
+      g.K.Deserialize.reading.taken g.V.Deserialize.reading.taken c.deserialize-in-loop-entries.new.source
+      c.next.new.seq es))
+      (sym (ap (map (λ e. (g.K.Deserialize.reading.content e.0, g.V.Deserialize.reading.content e.1)))
+      c.in-Ok.ensures.entries ∙ contents-insert g.K.Ord.cmp g.K.Deserialize.reading.order
+      g.K.Deserialize.reading.content g.V.Deserialize.reading.content g.met.K.Key.orders
+      c.loop-entries.entries.entries c.in_ok-key.key c.in_ok-value.value))
+      (so c.loop-entries.invariant.inside (map_more g.S.Source.stands_before g.S.Source.seq_stands
+      g.K.Deserialize.reading.order g.K.Deserialize.reading.taken g.V.Deserialize.reading.taken
+      (map (λ e. (g.K.Deserialize.reading.content e.0, g.V.Deserialize.reading.content e.1))
+      c.loop-entries.entries.entries) (rw c.if-branch.true at c.in_ok-next.ensures.ok) c.in_ok-key.ensures.ok
+      c.in_ok-value.ensures.ok));
+  owed = owed_pair g.S.Source.is_unread g.S.Source.owes _ _ _ _ _ _ _ c.loop-entries.invariant.owed
+      (rw c.if-branch.true at c.in_ok-next.ensures.took) c.in_ok-key.ensures.took c.in_ok-value.ensures.took;
+  only = λ first h. c.deserialize-in-loop-entries.ensures.only first
+      (c.deserialize.ensures.only first (c.next.ensures.only first (c.loop-entries.invariant.only first h)));
+  less = omega (
+    arith,
+    c.in_ok-next.ensures.less,
+    c.in_ok-key.ensures.less,
+    c.in_ok-value.ensures.less,
+    c.loop-entries.invariant.less,
+  );
 }
 
 pub returns-clause-ok : goal.returns-clause-ok
 returns-clause-ok g c =
-    takes g.S.Source.stands_before (so c.loop-entries.invariant.inside (map_ends g.S.Source.stands_before g.S.Source.seq_stands g.K.Deserialize.reading.order g.K.Deserialize.reading.taken g.V.Deserialize.reading.taken (map (λ e. (g.K.Deserialize.reading.content e.0, g.V.Deserialize.reading.content e.1)) c.loop-entries.entries.entries) (rw c.if-branch.false at c.in_ok-next.ensures.ok)))
+    takes g.S.Source.stands_before (so c.loop-entries.invariant.inside
+    (map_ends g.S.Source.stands_before g.S.Source.seq_stands g.K.Deserialize.reading.order
+    g.K.Deserialize.reading.taken g.V.Deserialize.reading.taken
+    (map (λ e. (g.K.Deserialize.reading.content e.0, g.V.Deserialize.reading.content e.1))
+    c.loop-entries.entries.entries) (rw c.if-branch.false at c.in_ok-next.ensures.ok)))
 
 pub returns-clause-took : goal.returns-clause-took
-returns-clause-took g c = owed_pairs g.S.Source.is_unread g.S.Source.owes _ _ _ _ c.loop-entries.invariant.owed (rw c.if-branch.false at c.in_ok-next.ensures.took)
+returns-clause-took g c = owed_pairs g.S.Source.is_unread g.S.Source.owes _ _ _ _ c.loop-entries.invariant.owed
+    (rw c.if-branch.false at c.in_ok-next.ensures.took)

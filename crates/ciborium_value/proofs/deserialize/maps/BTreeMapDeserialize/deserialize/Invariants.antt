@@ -9,8 +9,11 @@ use Rattle.ciborium_value.proofs.deserialize.maps.BTreeMapDeserialize.deserializ
 -- the pairs that were read are put in, and the others are left
 abbrev pub invariant-loop-entries : goal.invariant-loop-entries
 invariant-loop-entries g l = record {
-  inside : Follows (IsBefore g.S.Source.stands_before l.fn.source (taken_map g.K.Deserialize.reading.order g.K.Deserialize.reading.taken g.V.Deserialize.reading.taken))
-      (IsInsideMap g.S.Source.stands_before g.S.Source.seq_stands g.K.Deserialize.reading.order g.K.Deserialize.reading.taken g.V.Deserialize.reading.taken l.source l.seq (map (λ e. (g.K.Deserialize.reading.content e.0, g.V.Deserialize.reading.content e.1)) l.entries.entries));
+  inside : Follows (IsBefore g.S.Source.stands_before l.fn.source
+      (taken_map g.K.Deserialize.reading.order g.K.Deserialize.reading.taken g.V.Deserialize.reading.taken))
+      (IsInsideMap g.S.Source.stands_before g.S.Source.seq_stands g.K.Deserialize.reading.order
+      g.K.Deserialize.reading.taken g.V.Deserialize.reading.taken l.source l.seq
+      (map (λ e. (g.K.Deserialize.reading.content e.0, g.V.Deserialize.reading.content e.1)) l.entries.entries));
   owed : TakesTo g.S.Source.is_unread l.fn.source l.source (g.S.Source.owes l.seq dictionary);
   only : TakesOnly g.S.Source.has_taken l.fn.source l.source;
   less : g.S.Source.left l.source + g.S.Source.seq_left l.seq < g.S.Source.left l.fn.source;

@@ -9,7 +9,8 @@ use Rattle.ciborium_value.proofs.deserialize.sequences.VecDeserialize.deserializ
 abbrev pub invariant-loop-values : goal.invariant-loop-values
 invariant-loop-values g l = record {
   inside : Follows (IsBefore g.S.Source.stands_before l.fn.source (taken_list g.T.Deserialize.reading.taken))
-      (IsInside g.S.Source.stands_before g.S.Source.seq_stands l.source l.seq (list_from g.T.Deserialize.reading.taken (map g.T.Deserialize.reading.content l.values.items)));
+      (IsInside g.S.Source.stands_before g.S.Source.seq_stands l.source l.seq
+      (list_from g.T.Deserialize.reading.taken (map g.T.Deserialize.reading.content l.values.items)));
   owed : TakesTo g.S.Source.is_unread l.fn.source l.source (g.S.Source.owes l.seq sequence);
   only : TakesOnly g.S.Source.has_taken l.fn.source l.source;
   less : g.S.Source.left l.source + g.S.Source.seq_left l.seq < g.S.Source.left l.fn.source;

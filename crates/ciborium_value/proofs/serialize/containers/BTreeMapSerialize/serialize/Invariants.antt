@@ -6,4 +6,6 @@ use Rattle.ciborium_value.proofs.serialize.containers.BTreeMapSerialize.serializ
 
 -- the entries that the iterator has not yielded are left
 abbrev pub invariant-loop-key : goal.invariant-loop-key
-invariant-loop-key g l = Owes g.S.Sink.stands_at dictionary (Some (length l.self.entries)) (in_turn g.K.Serialize.written g.V.Serialize.written l.self.entries) l.fn.sink l.sink (in_turn g.K.Serialize.written g.V.Serialize.written l.key-iterator)
+invariant-loop-key g l = Owes g.S.Sink.stands_at dictionary (Some (length l.self.entries))
+    (in_turn g.K.Serialize.written g.V.Serialize.written l.self.entries) l.fn.sink l.sink
+    (in_turn g.K.Serialize.written g.V.Serialize.written l.key-iterator)

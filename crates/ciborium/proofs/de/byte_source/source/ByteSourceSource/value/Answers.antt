@@ -7,8 +7,13 @@ use Rattle.ciborium.proofs.de.byte_source.source.ByteSourceSource.value.Goals as
 pub returns-clause-ok : goal.returns-clause-ok
 returns-clause-ok g c =
     let read = c.value in
-    ok-map read.result (on-both _ _ read.result read.ensures.same_reader (on-both _ _ read.result read.ensures.pending read.ensures.fewer)) (answer-given g.R.Read.remaining c.args.self.now read.new.self taken_value tree_of read.result read.ensures.answer)
-    (λ none v k. takes-read g.R.Read.remaining c.args.self.now read.new.self taken_value (tree_of v) (none.0, read.ensures.only) read.ensures.levels none.1.0 none.1.1 k)
+    ok-map read.result (on-both _ _ read.result read.ensures.same_reader
+    (on-both _ _ read.result read.ensures.pending read.ensures.fewer))
+    (answer-given g.R.Read.remaining c.args.self.now read.new.self taken_value tree_of read.result
+    read.ensures.answer)
+    (λ none v k. takes-read g.R.Read.remaining c.args.self.now read.new.self taken_value (tree_of v)
+    (none.0, read.ensures.only) read.ensures.levels none.1.0 none.1.1 k)
 
 pub returns-clause-refused : goal.returns-clause-refused
-returns-clause-refused g c = answers-refused g.R.Read.remaining c.args.self.now c.value.new.self taken_value tree_of c.value.result c.value.ensures.answer
+returns-clause-refused g c = answers-refused g.R.Read.remaining c.args.self.now c.value.new.self taken_value tree_of
+    c.value.result c.value.ensures.answer
