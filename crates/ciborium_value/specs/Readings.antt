@@ -45,8 +45,7 @@ abbrev pub plain : {T C : Type 0} → (T → C) → (C → C → Ordering) → (
 plain content order taken steady = record {
   content = content;
   taken = taken;
-  steady =
-      steady;
+  steady = steady;
   order = order;
   needs_memory = false;
   whole = None;
@@ -58,8 +57,7 @@ abbrev pub spacious : {T C : Type 0} → (T → C) → (C → C → Ordering) �
 spacious content order taken steady = record {
   content = content;
   taken = taken;
-  steady =
-      steady;
+  steady = steady;
   order = order;
   needs_memory = true;
   whole = None;
@@ -71,8 +69,7 @@ abbrev pub checked : {T U A C : Type 0} → (T → C) → (C → C → Ordering)
 checked content order r f h = record {
   content = content;
   taken = taken_then r.taken f;
-  steady =
-      steady-then r.taken f r.steady h;
+  steady = steady-then r.taken f r.steady h;
   order = order;
   needs_memory = r.needs_memory;
   whole = None;
@@ -90,8 +87,7 @@ ordered_by order r = record {
   content = r.content;
   taken = r.taken;
   steady = r.steady;
-  order =
-      order;
+  order = order;
   needs_memory = r.needs_memory;
   whole = r.whole;
 }
@@ -122,11 +118,9 @@ abbrev pub option_of : {T C : Type 0} → Reading T C → Reading (Option T) (Op
 option_of r = record {
   content = option_map r.content;
   taken = taken_option r.taken;
-  steady =
-      steady-option r.taken r.steady;
+  steady = steady-option r.taken r.steady;
   order = option_cmp r.order;
-  needs_memory =
-      r.needs_memory;
+  needs_memory = r.needs_memory;
   whole = None;
 }
 
@@ -178,8 +172,7 @@ whole_by order tree = record {
   content = tree;
   taken = taken_value;
   steady = steady-value;
-  order =
-      order;
+  order = order;
   needs_memory = true;
   whole = Some (λ v. v);
 }

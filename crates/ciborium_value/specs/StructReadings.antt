@@ -54,8 +54,7 @@ abbrev pub field_taken : {A C : Type 0} (wanted : List ℕ) (taken : Taken A) �
     FieldsTaken C → FieldsTaken (Option A × C)
 field_taken wanted taken h behind = record {
   taken = taken_field wanted taken behind.taken;
-  steady =
-      steady-field wanted taken behind h;
+  steady = steady-field wanted taken behind h;
 }
 
 -- ---- a map of them

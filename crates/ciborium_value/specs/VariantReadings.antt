@@ -49,16 +49,9 @@ no_nesting-data (v ∷ vs) name i = no_nesting-if (bytes_eq name v.name) (v.take
     (taken_data vs name None i) (v.steady.without i) (no_nesting-data vs name i)
 
 pub no_nesting-name : (i : Item) → IsNoNesting (bare_name i)
-no_nesting-name (items.unsigned n) = tt
-no_nesting-name (items.negative n) = tt
 no_nesting-name (items.bytes o b) = no_nesting-if (Rattle.std.specs.Str.is_utf8 b) (gives b)
     (refuses kinds.Name) tt tt
-no_nesting-name (items.text o b) = tt
-no_nesting-name (items.array o is) = tt
-no_nesting-name (items.map o ps) = tt
-no_nesting-name (items.tag t i) = tt
-no_nesting-name (items.simple n) = tt
-no_nesting-name (items.float raw) = tt
+no_nesting-name _ = tt
 
 module _ {C : Type 0} (vs : List (Variant C)) where
   abbrev data_at : Limit → List ℕ × Item → Outcome C
@@ -87,35 +80,20 @@ module _ {C : Type 0} (vs : List (Variant C)) where
   same-variant : (l : ℕ) (i : Item) → IsSameUnlessNested
       (then_take (bare_variant (Some l) i) (data_at (Some l)))
       (then_take (bare_variant None i) (data_at None))
-  same-variant l (items.unsigned n) = refl
-  same-variant l (items.negative n) = refl
-  same-variant l (items.bytes o b) = refl
   same-variant zero (items.text o b) = tt
   same-variant (suc n) (items.text o b) = same-data vs b n (items.simple 22)
-  same-variant l (items.array o is) = refl
   same-variant l (items.map false ps) = same-pair l ps
-  same-variant l (items.map true ps) = refl
-  same-variant l (items.tag t i) = refl
-  same-variant l (items.simple n) = refl
-  same-variant l (items.float raw) = refl
+  same-variant l _ = refl
 
   no_nesting-variant : (i : Item) → IsNoNesting (then_take (bare_variant None i) (data_at None))
-  no_nesting-variant (items.unsigned n) = tt
-  no_nesting-variant (items.negative n) = tt
-  no_nesting-variant (items.bytes o b) = tt
   no_nesting-variant (items.text o b) = no_nesting-data vs b (items.simple 22)
-  no_nesting-variant (items.array o is) = tt
   no_nesting-variant (items.map false ps) = no_nesting-pair ps
-  no_nesting-variant (items.map true ps) = tt
-  no_nesting-variant (items.tag t i) = tt
-  no_nesting-variant (items.simple n) = tt
-  no_nesting-variant (items.float raw) = tt
+  no_nesting-variant _ = tt
 
   pub steady-enum : IsSteady (taken_enum vs)
   steady-enum = record {
     within = λ l i. same-variant l (untagged i);
-    without =
-        λ i. no_nesting-variant (untagged i);
+    without = λ i. no_nesting-variant (untagged i);
   }
 
 -- ---- the words
@@ -125,18 +103,15 @@ abbrev pub unit_variant : {C : Type 0} → List ℕ → C → Variant C
 unit_variant name c = record {
   name = name;
   taken = taken_then taken_unit (λ _. gives c);
-  steady =
-      steady-then taken_unit (λ _. gives c) steady-unit (λ _. tt);
+  steady = steady-then taken_unit (λ _. gives c) steady-unit (λ _. tt);
 }
 
 -- a variant with data of another type
 abbrev pub data_variant : {C U A : Type 0} → List ℕ → (A → C) → Reading U A → Variant C
 data_variant name make r = record {
   name = name;
-  taken =
-      taken_then r.taken (λ v. gives (make v));
-  steady =
-      steady-then r.taken (λ v. gives (make v)) r.steady (λ v. tt);
+  taken = taken_then r.taken (λ v. gives (make v));
+  steady = steady-then r.taken (λ v. gives (make v)) r.steady (λ v. tt);
 }
 
 -- an enum of these variants; another name is refused as Variant

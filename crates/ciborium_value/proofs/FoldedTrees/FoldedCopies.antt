@@ -56,11 +56,8 @@ mutual
   pub taken-folded : (t : Tree) → taken_value None (item_of t) ≡ of_meaning kinds.TooLarge (folded t)
   taken-folded (trees.integer (pos n)) = refl
   taken-folded (trees.integer (negsuc n)) = refl
-  taken-folded (trees.bytes b) = refl
-  taken-folded (trees.text b) = refl
   taken-folded (trees.boolean false) = refl
   taken-folded (trees.boolean true) = refl
-  taken-folded trees.null = refl
   taken-folded (trees.tag t v) =
       ap (λ o. taken_tag t None (cond (is_bignum_tag t) o None) (taken_value None (item_of v))) (short_string-item_of v)
       ∙ (ap (taken_tag t None (tree_folding_bytes t v)) (taken-folded v) ∙
@@ -69,6 +66,7 @@ mutual
       map-meaning kinds.TooLarge trees.array (trees_folded vs)
   taken-folded (trees.map ps) = ap (outcome_map trees.map) (pairs-folded ps) ∙
       map-meaning kinds.TooLarge trees.map (tree_pairs_folded ps)
+  taken-folded _ = refl
 
   items-folded : (vs : Trees) → taken_items None (items_of vs) ≡ of_meaning kinds.TooLarge (trees_folded vs)
   items-folded trees.no_trees = refl

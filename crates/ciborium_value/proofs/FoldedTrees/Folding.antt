@@ -164,26 +164,15 @@ PairsAreFolded-more (Some k) (Some v) (Some ps) h i j =
     ap (tree_pairs_more (Some k) (Some v)) j
 
 IsShort-short_bytes : (v : Tree) → IsShort (short_bytes v)
-IsShort-short_bytes (integer z) = tt
 IsShort-short_bytes (bytes b) = by (leb (length b) 16) refl
   where
     by : (c : Bool) → leb (length b) 16 ≡ c → IsShort (cond c (Some b) None)
     by true e = leb-true (length b) 16 e
     by false e = tt
-IsShort-short_bytes (text b) = tt
-IsShort-short_bytes (boolean b) = tt
-IsShort-short_bytes null = tt
-IsShort-short_bytes (tag t v) = tt
-IsShort-short_bytes (array vs) = tt
-IsShort-short_bytes (map ps) = tt
+IsShort-short_bytes _ = tt
 
 KeepsBytes-folded : (v : Tree) → KeepsBytes (short_bytes v) (folded v)
 unfolding bignum_meaning
-KeepsBytes-folded (integer z) = refl
-KeepsBytes-folded (bytes b) = refl
-KeepsBytes-folded (text b) = refl
-KeepsBytes-folded (boolean b) = refl
-KeepsBytes-folded null = refl
 KeepsBytes-folded (tag t v) = tagged (tree_folding_bytes t v) (folded v)
   where
     chosen : (c : Bool) (o p : Option Tree) → KeepsBytes None o → KeepsBytes None p → KeepsBytes None (cond c o p)
@@ -205,19 +194,16 @@ KeepsBytes-folded (map ps) = by (tree_pairs_folded ps)
     by : (o : Option TreePairs) → KeepsBytes None (option_map map o)
     by None = tt
     by (Some qs) = refl
+KeepsBytes-folded _ = refl
 
 mutual
   IsFolded-folded : (v : Tree) → IsFolded (folded v)
-  IsFolded-folded (integer z) = refl
-  IsFolded-folded (bytes b) = refl
-  IsFolded-folded (text b) = refl
-  IsFolded-folded (boolean b) = refl
-  IsFolded-folded null = refl
   IsFolded-folded (tag t v) =
       IsFolded-tag t (is_bignum_tag t) (short_bytes v) (folded v) refl (IsShort-short_bytes v) (KeepsBytes-folded v)
       (IsFolded-folded v)
   IsFolded-folded (array vs) = IsFolded-array (trees_folded vs) (AreFolded-trees_folded vs)
   IsFolded-folded (map ps) = IsFolded-map (tree_pairs_folded ps) (PairsAreFolded-tree_pairs_folded ps)
+  IsFolded-folded _ = refl
 
   AreFolded-trees_folded : (vs : Trees) → AreFolded (trees_folded vs)
   AreFolded-trees_folded no_trees = refl

@@ -5,21 +5,17 @@ use Rattle.ciborium_value.specs.Deterministic.{HasRisingKeys}
 use Rattle.ciborium_value.specs.Folded.{short_bytes, tree_folding_bytes}
 use Rattle.ciborium_value.specs.Meaning.{is_bignum_tag, big_endian, without_zeros, bignum_meaning, unsigned_bignum}
 use Rattle.ciborium_value.specs.Meaning.{negative_bignum}
-use Rattle.ciborium_value.specs.Tree.{Tree, integer, bytes, text, boolean, null, tag, array, map}
+use Rattle.ciborium_value.specs.Tree.{Tree, integer, bytes, tag, array, map}
 use Rattle.ciborium_value.specs.declared.key_order.KeyOrder.{KeyOrder}
 
 -- ---- the bytes on which a tag folds
 
 -- in a byte string over which a tag folds there is no map
 pub rises_where_short : (o : KeyOrder) (v : Tree) (b : List ℕ) → short_bytes v ≡ Some b → HasRisingKeys o v
-rises_where_short o (bytes c) b e = tt
-rises_where_short o (integer z) b e = tt
-rises_where_short o (text c) b e = tt
-rises_where_short o (boolean c) b e = tt
-rises_where_short o null b e = tt
 rises_where_short o (tag t v) b e = absurd cc
 rises_where_short o (array vs) b e = absurd cc
 rises_where_short o (map ps) b e = absurd cc
+rises_where_short o _ b e = tt
 
 -- the content of a tag that folds is such a string
 pub short_where_folding : (t : ℕ) (v : Tree) (b : List ℕ) → tree_folding_bytes t v ≡ Some b → short_bytes v ≡ Some b

@@ -27,11 +27,6 @@ use Rattle.ciborium_value.proofs.Forms.SortedPairs.{rising-sorted}
 mutual
   -- a formed tree has a form, which is the tree itself
   pub own_form : (o : KeyOrder) (t : Tree) → IsFormed o t → deterministic_form o t ≡ gives t
-  own_form o (integer z) h = refl
-  own_form o (bytes b) h = refl
-  own_form o (text b) h = refl
-  own_form o (boolean b) h = refl
-  own_form o null h = refl
   own_form o (tag t v) h = by (own_form o v) (tree_folding_bytes t v) h
     where
       by : (IsFormed o v → deterministic_form o v ≡ gives v) → (m : Option (List ℕ)) →
@@ -42,6 +37,7 @@ mutual
   own_form o (array vs) h = ap (outcome_map array) (own_forms o vs h)
   own_form o (map ps) h = ap (λ r. outcome_map map (then_take r (sorted_pairs o))) (own_pairs o ps h.1) ∙
       ap (outcome_map map) (rising-sorted o ps h.0)
+  own_form o _ h = refl
 
   -- so has each of a list
   pub own_forms : (o : KeyOrder) (vs : Trees) → AreFormed o vs → deterministic_forms o vs ≡ gives vs
@@ -97,11 +93,6 @@ pairs_folded k v ps (Some l) (Some w) (Some qs) e = (cc, cc, cc)
 mutual
   -- a tree that is what it folds to, and whose keys rise, is formed
   pub formed_where_canonical : (o : KeyOrder) (t : Tree) → folded t ≡ Some t → HasRisingKeys o t → IsFormed o t
-  formed_where_canonical o (integer z) e h = tt
-  formed_where_canonical o (bytes b) e h = tt
-  formed_where_canonical o (text b) e h = tt
-  formed_where_canonical o (boolean b) e h = tt
-  formed_where_canonical o null e h = tt
   formed_where_canonical o (tag t v) e h = by (λ f. formed_where_canonical o v f h) (tree_folding_bytes t v) e
     where
       by : (folded v ≡ Some v → IsFormed o v) → (m : Option (List ℕ)) → tag_meaning t m (folded v) ≡ Some (tag t v) →
@@ -114,6 +105,7 @@ mutual
     pairs_formed_where_canonical o ps
         (pairs_given ps (tree_pairs_folded ps) e) h.1,
   )
+  formed_where_canonical o _ e h = tt
 
   -- so is each of a list
   all_formed_where_canonical : (o : KeyOrder) (vs : Trees) → trees_folded vs ≡ Some vs → HaveRisingKeys o vs →
@@ -137,11 +129,6 @@ mutual
 mutual
   -- a formed tree is what it folds to
   pub folded_where_formed : (o : KeyOrder) (t : Tree) → IsFormed o t → folded t ≡ Some t
-  folded_where_formed o (integer z) h = refl
-  folded_where_formed o (bytes b) h = refl
-  folded_where_formed o (text b) h = refl
-  folded_where_formed o (boolean b) h = refl
-  folded_where_formed o null h = refl
   folded_where_formed o (tag t v) h = by (folded_where_formed o v) (tree_folding_bytes t v) h
     where
       by : (IsFormed o v → folded v ≡ Some v) → (m : Option (List ℕ)) →
@@ -151,6 +138,7 @@ mutual
       by inner None f = ap (option_map (tag t)) (inner f)
   folded_where_formed o (array vs) h = ap (option_map array) (all_folded_where_formed o vs h)
   folded_where_formed o (map ps) h = ap (option_map map) (pairs_folded_where_formed o ps h.1)
+  folded_where_formed o _ h = refl
 
   -- so is each of a list
   all_folded_where_formed : (o : KeyOrder) (vs : Trees) → AreFormed o vs → trees_folded vs ≡ Some vs
@@ -169,11 +157,6 @@ mutual
 mutual
   -- the keys of a formed tree rise
   pub rises_where_formed : (o : KeyOrder) (t : Tree) → IsFormed o t → HasRisingKeys o t
-  rises_where_formed o (integer z) h = tt
-  rises_where_formed o (bytes b) h = tt
-  rises_where_formed o (text b) h = tt
-  rises_where_formed o (boolean b) h = tt
-  rises_where_formed o null h = tt
   rises_where_formed o (tag t v) h = by (rises_where_formed o v) (tree_folding_bytes t v) refl h
     where
       by : (IsFormed o v → HasRisingKeys o v) → (m : Option (List ℕ)) → tree_folding_bytes t v ≡ m →
@@ -182,6 +165,7 @@ mutual
       by inner None e f = inner f
   rises_where_formed o (array vs) h = all_rise_where_formed o vs h
   rises_where_formed o (map ps) h = (h.0, pairs_rise_where_formed o ps h.1)
+  rises_where_formed o _ h = tt
 
   -- in each of a list
   all_rise_where_formed : (o : KeyOrder) (vs : Trees) → AreFormed o vs → HaveRisingKeys o vs

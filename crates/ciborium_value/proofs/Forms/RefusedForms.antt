@@ -169,15 +169,11 @@ reason_tag t None r h = reason_mapped (tag t) r h
 
 mutual
   reason : (o : KeyOrder) (v : Tree) → HasReason (deterministic_form o v)
-  reason o (integer z) = tt
-  reason o (bytes b) = tt
-  reason o (text b) = tt
-  reason o (boolean b) = tt
-  reason o null = tt
   reason o (tag t v) = reason_tag t (tree_folding_bytes t v) (deterministic_form o v) (reason o v)
   reason o (array vs) = reason_mapped array (deterministic_forms o vs) (reasons o vs)
   reason o (map ps) = reason_mapped map (then_take (pair_forms o ps) (sorted_pairs o))
       (reason_sorted o (pair_forms o ps) (pair_reasons o ps))
+  reason o _ = tt
 
   reasons : (o : KeyOrder) (vs : Trees) → HasReason (deterministic_forms o vs)
   reasons o no_trees = tt

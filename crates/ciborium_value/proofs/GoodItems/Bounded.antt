@@ -93,17 +93,9 @@ string-longer true m IsAllowed s y h =
     omega (arith, l, lr, ly, rest)
 
 short-fits : (i : Item) (s : List ℕ) → Spells s i → PayloadFits (length s) (short_string i)
-short-fits (unsigned n) s h = tt
-short-fits (negative n) s h = tt
 short-fits (bytes false y) s h = payload-chosen (leb (length y) 16) (Some y) (length s)
     (string-longer false 2 AreBytes s y h)
-short-fits (bytes true y) s h = tt
-short-fits (text o y) s h = tt
-short-fits (array o is) s h = tt
-short-fits (map o ps) s h = tt
-short-fits (tag n i) s h = tt
-short-fits (simple n) s h = tt
-short-fits (float r) s h = tt
+short-fits _ s h = tt
 
 -- ---- bignums and tags
 

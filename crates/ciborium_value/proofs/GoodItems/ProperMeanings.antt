@@ -125,17 +125,9 @@ chosen-proper false o h = tt
 
 short-proper : (i : Item) (s : List ℕ) → Spells s i → AreBytes s → length s ≤ greatest_offset →
     ProperBytes (short_string i)
-short-proper (unsigned n) s h k fits = tt
-short-proper (negative n) s h k fits = tt
 short-proper (bytes false y) s h k fits = chosen-proper (leb (length y) 16) (Some y)
     (string-proper false 2 AreBytes s y h k fits)
-short-proper (bytes true y) s h k fits = tt
-short-proper (text o y) s h k fits = tt
-short-proper (array o is) s h k fits = tt
-short-proper (map o ps) s h k fits = tt
-short-proper (tag n i) s h k fits = tt
-short-proper (simple n) s h k fits = tt
-short-proper (float r) s h k fits = tt
+short-proper _ s h k fits = tt
 
 -- ---- bignums and tags
 

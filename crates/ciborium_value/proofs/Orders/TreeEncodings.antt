@@ -8,7 +8,7 @@ use Rattle.ciborium_ll.specs.Head.{shortest_head}
 use Rattle.ciborium_ll.specs.Spells.{Spells}
 use Rattle.ciborium_value.specs.Encoding.{encoding, encoded_size, item_of, items_of, pairs_of, items_bytes, pairs_bytes}
 use Rattle.ciborium_value.specs.ProperTrees.{IsProperTree}
-use Rattle.ciborium_value.specs.Tree.{Tree, integer, bytes, text, boolean, null, tag, array, map}
+use Rattle.ciborium_value.specs.Tree.{Tree, integer, boolean, array, map}
 use Rattle.ciborium_value.specs.View.{tree_of}
 use Rattle.ciborium_value.specs.declared.tree.Value as value
 use Rattle.ciborium_value.specs.declared.tree.Value.{Value}
@@ -26,14 +26,11 @@ pub encoding-is : (v : Tree) → encoding v ≡ shortest_head (tree_major v) (ar
 unfolding shortest_head
 encoding-is (integer (pos n)) = sym (append-nil (shortest_head 0 n))
 encoding-is (integer (negsuc n)) = sym (append-nil (shortest_head 1 n))
-encoding-is (bytes b) = refl
-encoding-is (text b) = refl
 encoding-is (boolean false) = refl
 encoding-is (boolean true) = refl
-encoding-is null = refl
-encoding-is (tag t v) = refl
 encoding-is (array vs) = ap (λ n. shortest_head 4 n ++ items_bytes (items_of vs)) (items_count-items_of vs)
 encoding-is (map ps) = ap (λ n. shortest_head 5 n ++ pairs_bytes (pairs_of ps)) (pairs_count-pairs_of ps)
+encoding-is _ = refl
 
 -- a size is that of the head and of what stands behind it
 pub encoded_size-is : (v : Tree) (major argument head content size : ℕ) → major ≡ tree_major v →

@@ -3,11 +3,11 @@ use Rattle.std.proofs.Common.{◌≡◌, ℕ, List, ◌∷◌, sym, ◌∙◌, a
 use Rattle.ciborium_ll.specs.Item.{Item}
 use Rattle.ciborium_value.specs.Ahead.{Ahead, Rest, Form, item, after, pairs, entry, inside, end_of}
 use Rattle.ciborium_value.specs.Nesting.{Limit}
-use Rattle.ciborium_value.specs.Sources.{Fault, IsFaultOf, TakesAhead, RefusesAhead, EntersMap, GoesOn, Leaves}
+use Rattle.ciborium_value.specs.Sources.{Fault, IsFaultOf, TakesAhead, RefusesAhead, GoesOn, Leaves}
 use Rattle.ciborium_value.specs.Sources.{RefusesNext}
-use Rattle.ciborium_value.specs.StructReadings.{FieldsTaken, take_fields, take_named, taken_fields}
+use Rattle.ciborium_value.specs.StructReadings.{FieldsTaken, take_fields, take_named}
 use Rattle.ciborium_value.specs.Taken.{Outcome, then_take, taken_name}
-use Rattle.ciborium_value.proofs.Sources.Sequences.{fault_then, fault_outside, Follows, so, IsBlamed, IsBefore, IsPast}
+use Rattle.ciborium_value.proofs.Sources.Sequences.{fault_then, fault_outside, Follows, so, IsBlamed, IsPast}
 
 module _ {S Q : Type 0} (StandsBefore : S → Limit → Ahead → Type 0) (SeqStands : Q → Limit → Rest → Type 0) {C : Type 0}
     (fields : FieldsTaken C) where

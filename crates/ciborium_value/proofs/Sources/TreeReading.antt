@@ -4,10 +4,9 @@ use Rattle.std.proofs.Common.{slice_get, Option, Some, None, Result, Ok, Err, If
 use Rattle.std.proofs.Common.{ap, ◌∙◌, arith}
 use Rattle.std.proofs.lemmas.Str.{chars_past_char, chars-nil}
 use Rattle.std.proofs.lemmas.List.{nil_from_length}
-use Rattle.std.proofs.Common.{append_assoc}
 use Rattle.ciborium_ll.specs.Item.{Item, unsigned}
 use Rattle.ciborium_value.specs.Encoding.{item_of, items_of, pairs_of}
-use Rattle.ciborium_value.specs.Taken.{Outcome, gives, refuses, nests, and_take, outcome_map, unpack, unpack_pairs}
+use Rattle.ciborium_value.specs.Taken.{Outcome, gives, refuses, outcome_map, unpack, unpack_pairs}
 use Rattle.ciborium_value.specs.Taken.{taken_seq, taken_pairs, bare_seq, bare_pairs, untagged, lone_character}
 use Rattle.ciborium_value.specs.Taken.{bare_bytes, taken_bytes, taken_byte, take_each}
 use Rattle.std.specs.Borrow.{Bor}
@@ -21,7 +20,7 @@ use Rattle.ciborium_value.specs.View.{tree_of, trees_of, tree_pairs_of}
 use Rattle.ciborium_value.specs.declared.kind.Kind.TheVariants as kinds
 use Rattle.ciborium_value.specs.declared.tree.Value as value
 use Rattle.ciborium_value.specs.declared.tree.Value.{Value}
-use Rattle.ciborium_value.specs.Counts.{node_count, payload_size, trees_node_count, trees_payload_size}
+use Rattle.ciborium_value.specs.Counts.{node_count, payload_size}
 use Rattle.ciborium_value.specs.Counts.{tree_pairs_node_count, tree_pairs_payload_size}
 use Rattle.ciborium_value.proofs.Writing.TreeSinkSteps.{some_is}
 use Rattle.ciborium_value.proofs.Trees.Views.{tree_of-Array, tree_of-Map, tree_of-Bytes}
@@ -106,13 +105,7 @@ if_err_so (Err e) f h = f e h
 
 some_node : (t : Tree) → 0 < node_count t
 some_node (trees.integer z) = omega (arith)
-some_node (trees.bytes b) = omega (arith)
-some_node (trees.text b) = omega (arith)
-some_node (trees.boolean b) = omega (arith)
-some_node trees.null = omega (arith)
-some_node (trees.tag t v) = omega (arith)
-some_node (trees.array vs) = omega (arith)
-some_node (trees.map ps) = omega (arith)
+some_node _ = omega (arith)
 
 -- a value that was ahead is read, and the one that is due comes next
 pub read_weighs_less : (v : Value) (old new : TreeSource) → pending_tree_weight old.ahead ≡ value_weight v →

@@ -7,7 +7,7 @@ use Rattle.ciborium_ll.specs.Item as item
 use Rattle.ciborium_ll.specs.Item.{Item}
 use Rattle.ciborium_value.specs.Places.{Shape, sequence, dictionary, size_of, container, Place, within, tagged, HasRoom}
 use Rattle.ciborium_value.specs.Places.{added, is_open, IsFull, IsOutAt, Out}
-use Rattle.ciborium_value.specs.Progress.{oks, IsSized, Owes, counted, counted_of}
+use Rattle.ciborium_value.specs.Progress.{oks, BreaksAll, CanTake, IsSized, Owes, TakesAll, counted, counted_of}
 use Rattle.ciborium_value.specs.Sinks.{Named, and_then, all_named, contained, container_of, in_turn, tag_of, Cause}
 use Rattle.ciborium_value.specs.Sinks.{value, memory, device, IsOwed, IsReady, Begins, Tags, CanEnd, Ends, Breaks}
 use Rattle.ciborium_value.specs.Sinks.{BreaksBegin, BreaksTag, BreaksEnd, AddsNamed, BreaksNamed}
@@ -102,8 +102,7 @@ module _ {S : Type 0} (StandsAt : S → Place → Type 0) (out : S → Out) (s :
     done = [];
     split = refl;
     size = size;
-    inside =
-        subst (Begins StandsAt s old new) same h;
+    inside = subst (Begins StandsAt s old new) same h;
   }
 
   pub owes_broken_begin : (new : S) (m : Option ℕ) → m ≡ n → IsSized s n parts → BreaksBegin StandsAt out s old new m →
@@ -207,6 +206,111 @@ parts_counted shape n count h = by (nat_le n greatest_offset) h
         ((parts : List Named) → container_of shape parts ≡ cond b (container_of shape parts) (Err Other))
     by true e = (some_is n count e, λ parts. refl)
     by false e = cc
+
+-- ---- the parts of a definite container
+
+module _ {S : Type 0} (StandsAt : S → Place → Type 0) (out : S → Out) (s : Shape) (number count : ℕ)
+    (parts : List Named) (old : S) (counts : counted number ≡ Some count) (sized : length parts ≡ size_of s number) where
+  fits : length parts ≡ size_of s count
+  fits = sized ∙ ap (size_of s) (sym (parts_counted s number count counts).0)
+
+  whole : container_of s parts ≡ counted_of s number parts
+  whole = (parts_counted s number count counts).1 parts
+
+  begun : (mid : S) → Begins StandsAt s old mid (Some count) → Owes StandsAt s (Some count) parts old mid (parts ++ [])
+  begun mid h = subst (Owes StandsAt s (Some count) parts old mid) (sym (append-nil parts))
+      (owes_begin StandsAt out s (Some count) parts old mid (Some count) refl fits h)
+
+  pub parts_begin_broken : (new : S) → BreaksBegin StandsAt out s old new (Some count) →
+      BreaksNamed StandsAt out old new (counted_of s number parts)
+  parts_begin_broken new h = subst (BreaksNamed StandsAt out old new) whole
+      (owes_broken_begin StandsAt out s (Some count) parts old new (Some count) refl fits h)
+
+  pub parts_ahead : (mid : S) → IsReady StandsAt old → Begins StandsAt s old mid (Some count) →
+      CanTake s StandsAt mid parts
+  parts_ahead mid ready h = (Some count, parts, old, [], ready, begun mid h)
+
+  pub parts_broken : (mid new : S) → Begins StandsAt s old mid (Some count) → BreaksAll s StandsAt out mid new parts →
+      BreaksNamed StandsAt out old new (counted_of s number parts)
+  parts_broken mid new h broken = subst (BreaksNamed StandsAt out old new) whole
+      (broken (Some count) parts old [] (begun mid h))
+
+  pub parts_can_end : (mid last : S) → IsReady StandsAt old → Begins StandsAt s old mid (Some count) →
+      TakesAll s StandsAt mid last parts → CanEnd StandsAt last (Some count)
+  parts_can_end mid last ready h taken = owes_can_end StandsAt out s (Some count) parts old last (Some count) refl ready
+      (taken (Some count) parts old [] (begun mid h))
+
+  pub parts_added : (mid last new : S) → Begins StandsAt s old mid (Some count) → TakesAll s StandsAt mid last parts →
+      Ends StandsAt last new (Some count) → AddsNamed StandsAt old new (counted_of s number parts)
+  parts_added mid last new h taken ends = subst (AddsNamed StandsAt old new) whole
+      (owes_ends StandsAt out s (Some count) parts old last new (Some count) refl
+      (taken (Some count) parts old [] (begun mid h)) ends)
+
+  pub parts_end_broken : (mid last new : S) → Begins StandsAt s old mid (Some count) →
+      TakesAll s StandsAt mid last parts → BreaksEnd StandsAt out last new (Some count) →
+      BreaksNamed StandsAt out old new (counted_of s number parts)
+  parts_end_broken mid last new h taken broken = subst (BreaksNamed StandsAt out old new) whole
+      (owes_broken_end StandsAt out s (Some count) parts old last new (Some count) refl
+      (taken (Some count) parts old [] (begun mid h)) broken)
+
+-- ---- one part, and the parts behind it
+
+module _ {S : Type 0} (StandsAt : S → Place → Type 0) (out : S → Out) (s : Shape) (old : S) (x : Named)
+    (rest : List Named) where
+  pub ready_for_one : CanTake s StandsAt old (x ∷ rest) → IsReady StandsAt old
+  ready_for_one h = owes_ready StandsAt out s h.0 h.1 h.2 old x (rest ++ h.3) h.4 h.5
+
+  pub one_taken : (mid : S) → CanTake s StandsAt old (x ∷ rest) → AddsNamed StandsAt old mid x →
+      CanTake s StandsAt mid rest
+  one_taken mid h first = (
+    h.0,
+    h.1,
+    h.2,
+    h.3,
+    h.4,
+    owes_more StandsAt out s h.0 h.1 h.2 old mid x (rest ++ h.3) h.5 first,
+  )
+
+  pub breaks_at_one : (new : S) → BreaksNamed StandsAt out old new x → BreaksAll s StandsAt out old new (x ∷ rest)
+  breaks_at_one new h = λ n whole begun more w. owes_broken StandsAt out s n whole begun old new x (rest ++ more) w h
+
+  pub takes_one_more : (mid new : S) → AddsNamed StandsAt old mid x → TakesAll s StandsAt mid new rest →
+      TakesAll s StandsAt old new (x ∷ rest)
+  takes_one_more mid new first h = λ n whole begun more w.
+      h n whole begun more (owes_more StandsAt out s n whole begun old mid x (rest ++ more) w first)
+
+  pub breaks_behind_one : (mid new : S) → AddsNamed StandsAt old mid x → BreaksAll s StandsAt out mid new rest →
+      BreaksAll s StandsAt out old new (x ∷ rest)
+  breaks_behind_one mid new first h = λ n whole begun more w.
+      h n whole begun more (owes_more StandsAt out s n whole begun old mid x (rest ++ more) w first)
+
+-- ---- one pair, and the parts behind it
+
+module _ {S : Type 0} (StandsAt : S → Place → Type 0) (out : S → Out) (s : Shape) (old mid : S) (key val : Named)
+    (rest : List Named) (first : AddsNamed StandsAt old mid key) where
+  pub ready_for_value : CanTake s StandsAt old (key ∷ val ∷ rest) → IsReady StandsAt mid
+  ready_for_value h = ready_for_one StandsAt out s mid val rest
+      (one_taken StandsAt out s old key (val ∷ rest) mid h first)
+
+  pub pair_taken : (last : S) → CanTake s StandsAt old (key ∷ val ∷ rest) → AddsNamed StandsAt mid last val →
+      CanTake s StandsAt last rest
+  pair_taken last h second = one_taken StandsAt out s mid val rest last
+      (one_taken StandsAt out s old key (val ∷ rest) mid h first) second
+
+  pub breaks_at_value : (new : S) → BreaksNamed StandsAt out mid new val →
+      BreaksAll s StandsAt out old new (key ∷ val ∷ rest)
+  breaks_at_value new h = breaks_behind_one StandsAt out s old key (val ∷ rest) mid new first
+      (breaks_at_one StandsAt out s mid val rest new h)
+
+  pub takes_pair_more : (last new : S) → AddsNamed StandsAt mid last val → TakesAll s StandsAt last new rest →
+      TakesAll s StandsAt old new (key ∷ val ∷ rest)
+  takes_pair_more last new second h = takes_one_more StandsAt out s old key (val ∷ rest) mid new first
+      (takes_one_more StandsAt out s mid val rest last new second h)
+
+  pub breaks_behind_pair : (last new : S) → AddsNamed StandsAt mid last val → BreaksAll s StandsAt out last new rest →
+      BreaksAll s StandsAt out old new (key ∷ val ∷ rest)
+  breaks_behind_pair last new second h = breaks_behind_one StandsAt out s old key (val ∷ rest) mid new first
+      (breaks_behind_one StandsAt out s mid val rest last new second h)
 
 -- ---- what is left of a list from place k on
 

@@ -100,23 +100,13 @@ simple-no_bytes : (n : ℕ) → 20 ≤ n → n < 23 → None ≡ short_bytes (si
 simple-no_bytes n low high = by_simple (λ n. None ≡ short_bytes (simple_tree n)) refl refl refl n low high
 
 short-bytes : (i : Item) → IsWritten i → short_string i ≡ short_bytes (written_tree i)
-short-bytes (unsigned n) h = refl
-short-bytes (negative n) h = refl
-short-bytes (bytes false b) h = refl
 short-bytes (bytes true b) h = let no : true ≡ false = h.0 in cc
-short-bytes (text open_ b) h = refl
-short-bytes (array open_ is) h = refl
-short-bytes (map open_ ps) h = refl
-short-bytes (tag t i) h = refl
 short-bytes (simple n) h = simple-no_bytes n h.0 h.1
 short-bytes (float raw) h = absurd h
+short-bytes _ h = refl
 
 mutual
   pub written_item_folds : (i : Item) → IsWritten i → meaning i ≡ folded (written_tree i)
-  written_item_folds (unsigned n) h = refl
-  written_item_folds (negative n) h = refl
-  written_item_folds (bytes open_ b) h = refl
-  written_item_folds (text open_ b) h = refl
   written_item_folds (array open_ is) h = ap (option_map trees.array) (written_items_fold is h.1)
   written_item_folds (map open_ ps) h = ap (option_map trees.map) (written_pairs_fold ps h.1)
   written_item_folds (tag t i) h =
@@ -124,6 +114,7 @@ mutual
       ap (tag_meaning t (tree_folding_bytes t (written_tree i))) (written_item_folds i h.1)
   written_item_folds (simple n) h = simple-folds n h.0 h.1
   written_item_folds (float raw) h = absurd h
+  written_item_folds _ h = refl
 
   written_items_fold : (is : Items) → AreWritten is → items_meaning is ≡ trees_folded (written_trees is)
   written_items_fold no_items h = refl

@@ -2,7 +2,7 @@
 -- is not null.
 use Rattle.std.proofs.Common.{ap, subst, sym}
 use Rattle.std.specs.Option.{option_map}
-use Rattle.std.specs.Prelude.{◌≡◌, ℕ, ◌^◌, ℤ, pos, negsuc, Bool, true, false, List, Option, Some}
+use Rattle.std.specs.Prelude.{◌≡◌, ℕ, ◌^◌, pos, negsuc, Bool, true, false, List, Option, Some}
 use Rattle.std.specs.Prelude.{None, Ok, IfSome, if◌then◌else◌, ◌==◌, nat_lt, refl}
 use Rattle.ciborium_ll.specs.Item as items
 use Rattle.ciborium_value.specs.DeterministicForms.{deterministic_form, deterministic_forms}

@@ -13,27 +13,20 @@ use Rattle.ciborium_value.specs.WrittenItems.{TreeIsWrittenAsItself}
 pub short_string-item_of : (v : Tree) → short_string (item_of v) ≡ short_bytes v
 short_string-item_of (trees.integer (pos n)) = refl
 short_string-item_of (trees.integer (negsuc n)) = refl
-short_string-item_of (trees.bytes b) = refl
-short_string-item_of (trees.text b) = refl
 short_string-item_of (trees.boolean false) = refl
 short_string-item_of (trees.boolean true) = refl
-short_string-item_of trees.null = refl
-short_string-item_of (trees.tag t v) = refl
-short_string-item_of (trees.array vs) = refl
-short_string-item_of (trees.map ps) = refl
+short_string-item_of _ = refl
 
 mutual
   itself : (v : Tree) → written_tree (item_of v) ≡ v
   itself (trees.integer (pos n)) = refl
   itself (trees.integer (negsuc n)) = refl
-  itself (trees.bytes b) = refl
-  itself (trees.text b) = refl
   itself (trees.boolean false) = refl
   itself (trees.boolean true) = refl
-  itself trees.null = refl
   itself (trees.tag t v) = ap (trees.tag t) (itself v)
   itself (trees.array vs) = ap trees.array (all_itself vs)
   itself (trees.map ps) = ap trees.map (pairs_itself ps)
+  itself _ = refl
 
   all_itself : (vs : Trees) → written_trees (items_of vs) ≡ vs
   all_itself trees.no_trees = refl

@@ -103,36 +103,23 @@ module _ {B : Type 0} (k : Limit → List Item → Outcome B) where
   same-bare_seq : ((m : ℕ) (is : List Item) → IsSameUnlessNested (k (Some m) is) (k None is)) →
       (l : ℕ) (j : Item) → IsSameUnlessNested (then_take (bare_seq (Some l) j) (λ p. k p.0 p.1))
       (then_take (bare_seq None j) (λ p. k p.0 p.1))
-  same-bare_seq h l (items.unsigned n) = refl
-  same-bare_seq h l (items.negative n) = refl
   same-bare_seq h l (items.bytes o b) = h l (map unsigned b)
-  same-bare_seq h l (items.text o b) = refl
   same-bare_seq h zero (items.array o is) = tt
   same-bare_seq h (suc n) (items.array o is) = h n (unpack is)
-  same-bare_seq h l (items.map o ps) = refl
-  same-bare_seq h l (items.tag t i) = refl
-  same-bare_seq h l (items.simple n) = refl
-  same-bare_seq h l (items.float raw) = refl
+  same-bare_seq h l _ = refl
 
   no_nesting-bare_seq : ((is : List Item) → IsNoNesting (k None is)) → (j : Item) →
       IsNoNesting (then_take (bare_seq None j) (λ p. k p.0 p.1))
-  no_nesting-bare_seq h (items.unsigned n) = tt
-  no_nesting-bare_seq h (items.negative n) = tt
   no_nesting-bare_seq h (items.bytes o b) = h (map unsigned b)
-  no_nesting-bare_seq h (items.text o b) = tt
   no_nesting-bare_seq h (items.array o is) = h (unpack is)
-  no_nesting-bare_seq h (items.map o ps) = tt
-  no_nesting-bare_seq h (items.tag t i) = tt
-  no_nesting-bare_seq h (items.simple n) = tt
-  no_nesting-bare_seq h (items.float raw) = tt
+  no_nesting-bare_seq h _ = tt
 
   -- the items of a sequence, read on so
   pub steady-seq : ((m : ℕ) (is : List Item) → IsSameUnlessNested (k (Some m) is) (k None is)) →
       ((is : List Item) → IsNoNesting (k None is)) → IsSteady after_seq
   steady-seq h n = record {
     within = λ l i. same-bare_seq h l (untagged i);
-    without =
-        λ i. no_nesting-bare_seq n (untagged i);
+    without = λ i. no_nesting-bare_seq n (untagged i);
   }
 
 module _ {B : Type 0} (k : Limit → List (Item × Item) → Outcome B) where
@@ -143,28 +130,14 @@ module _ {B : Type 0} (k : Limit → List (Item × Item) → Outcome B) where
       IsSameUnlessNested (k (Some m) ps) (k None ps)) → (l : ℕ) (j : Item) →
       IsSameUnlessNested (then_take (bare_pairs (Some l) j) (λ p. k p.0 p.1))
       (then_take (bare_pairs None j) (λ p. k p.0 p.1))
-  same-bare_pairs h l (items.unsigned n) = refl
-  same-bare_pairs h l (items.negative n) = refl
-  same-bare_pairs h l (items.bytes o b) = refl
-  same-bare_pairs h l (items.text o b) = refl
-  same-bare_pairs h l (items.array o is) = refl
   same-bare_pairs h zero (items.map o ps) = tt
   same-bare_pairs h (suc n) (items.map o ps) = h n (unpack_pairs ps)
-  same-bare_pairs h l (items.tag t i) = refl
-  same-bare_pairs h l (items.simple n) = refl
-  same-bare_pairs h l (items.float raw) = refl
+  same-bare_pairs h l _ = refl
 
   no_nesting-bare_pairs : ((ps : List (Item × Item)) → IsNoNesting (k None ps)) → (j : Item) →
       IsNoNesting (then_take (bare_pairs None j) (λ p. k p.0 p.1))
-  no_nesting-bare_pairs h (items.unsigned n) = tt
-  no_nesting-bare_pairs h (items.negative n) = tt
-  no_nesting-bare_pairs h (items.bytes o b) = tt
-  no_nesting-bare_pairs h (items.text o b) = tt
-  no_nesting-bare_pairs h (items.array o is) = tt
   no_nesting-bare_pairs h (items.map o ps) = h (unpack_pairs ps)
-  no_nesting-bare_pairs h (items.tag t i) = tt
-  no_nesting-bare_pairs h (items.simple n) = tt
-  no_nesting-bare_pairs h (items.float raw) = tt
+  no_nesting-bare_pairs h _ = tt
 
   -- the pairs of a map, read on so
   pub steady-pairs : ((m : ℕ) (ps : List (Item × Item)) →
@@ -172,6 +145,5 @@ module _ {B : Type 0} (k : Limit → List (Item × Item) → Outcome B) where
       ((ps : List (Item × Item)) → IsNoNesting (k None ps)) → IsSteady after_pairs
   steady-pairs h n = record {
     within = λ l i. same-bare_pairs h l (untagged i);
-    without =
-        λ i. no_nesting-bare_pairs n (untagged i);
+    without = λ i. no_nesting-bare_pairs n (untagged i);
   }

@@ -49,15 +49,8 @@ no_nesting-magnitude b = no_nesting-if (nat_le (length (without_zeros b)) 16) (g
     (refuses kinds.TooLarge) tt tt
 
 no_nesting-bignum : (i : Item) → IsNoNesting (bignum_of i)
-no_nesting-bignum (items.unsigned n) = tt
-no_nesting-bignum (items.negative n) = tt
 no_nesting-bignum (items.bytes o b) = no_nesting-magnitude b
-no_nesting-bignum (items.text o b) = tt
-no_nesting-bignum (items.array o is) = tt
-no_nesting-bignum (items.map o ps) = tt
-no_nesting-bignum (items.tag t i) = tt
-no_nesting-bignum (items.simple n) = tt
-no_nesting-bignum (items.float raw) = tt
+no_nesting-bignum _ = tt
 
 no_nesting-sign : (s : Bool) (o : Outcome ℕ) → IsNoNesting o → IsNoNesting (with_sign s o)
 no_nesting-sign s (gives n) h = tt
@@ -65,17 +58,10 @@ no_nesting-sign s (refuses k) h = tt
 no_nesting-sign s nests h = elim h [ ]
 
 no_nesting-number : (i : Item) → IsNoNesting (number_of i)
-no_nesting-number (items.unsigned n) = tt
-no_nesting-number (items.negative n) = tt
-no_nesting-number (items.bytes o b) = tt
-no_nesting-number (items.text o b) = tt
-no_nesting-number (items.array o is) = tt
-no_nesting-number (items.map o ps) = tt
 no_nesting-number (items.tag t i) =
     no_nesting-if (is_bignum_tag t) (with_sign (t == 3) (bignum_of i)) (number_of i)
     (no_nesting-sign (t == 3) (bignum_of i) (no_nesting-bignum i)) (no_nesting-number i)
-no_nesting-number (items.simple n) = tt
-no_nesting-number (items.float raw) = tt
+no_nesting-number _ = tt
 
 pub steady-integer : IsSteady taken_integer
 steady-integer = steady-by_item number_of no_nesting-number
@@ -90,33 +76,19 @@ no_nesting-within bound n = no_nesting-if (nat_lt n.1 bound) (gives (complement_
     (refuses kinds.Range) tt tt
 
 no_nesting-boolean : (i : Item) → IsNoNesting (bare_boolean i)
-no_nesting-boolean (items.unsigned n) = tt
-no_nesting-boolean (items.negative n) = tt
-no_nesting-boolean (items.bytes o b) = tt
-no_nesting-boolean (items.text o b) = tt
-no_nesting-boolean (items.array o is) = tt
-no_nesting-boolean (items.map o ps) = tt
-no_nesting-boolean (items.tag t i) = tt
 no_nesting-boolean (items.simple n) = no_nesting-if (n == 20) (gives false)
     (if n == 21 then gives true else refuses kinds.Bool) tt
     (no_nesting-if (n == 21) (gives true) (refuses kinds.Bool) tt tt)
-no_nesting-boolean (items.float raw) = tt
+no_nesting-boolean _ = tt
 
 pub steady-boolean : IsSteady taken_boolean
 steady-boolean = steady-by_item (λ i. bare_boolean (untagged i))
     (λ i. no_nesting-boolean (untagged i))
 
 no_nesting-unit : (i : Item) → IsNoNesting (bare_unit i)
-no_nesting-unit (items.unsigned n) = tt
-no_nesting-unit (items.negative n) = tt
-no_nesting-unit (items.bytes o b) = tt
-no_nesting-unit (items.text o b) = tt
-no_nesting-unit (items.array o is) = tt
-no_nesting-unit (items.map o ps) = tt
-no_nesting-unit (items.tag t i) = tt
 no_nesting-unit (items.simple n) = no_nesting-if (is_null_simple n) (gives tt) (refuses kinds.Unit)
     tt tt
-no_nesting-unit (items.float raw) = tt
+no_nesting-unit _ = tt
 
 pub steady-unit : IsSteady taken_unit
 steady-unit = steady-by_item (λ i. bare_unit (untagged i)) (λ i. no_nesting-unit (untagged i))
@@ -131,30 +103,16 @@ no_nesting-definite false b = no_nesting-lone (chars b)
 no_nesting-definite true b = tt
 
 no_nesting-character : (i : Item) → IsNoNesting (bare_character i)
-no_nesting-character (items.unsigned n) = tt
-no_nesting-character (items.negative n) = tt
-no_nesting-character (items.bytes o b) = tt
 no_nesting-character (items.text o b) = no_nesting-definite o b
-no_nesting-character (items.array o is) = tt
-no_nesting-character (items.map o ps) = tt
-no_nesting-character (items.tag t i) = tt
-no_nesting-character (items.simple n) = tt
-no_nesting-character (items.float raw) = tt
+no_nesting-character _ = tt
 
 pub steady-character : IsSteady taken_character
 steady-character = steady-by_item (λ i. bare_character (untagged i))
     (λ i. no_nesting-character (untagged i))
 
 no_nesting-text : (i : Item) → IsNoNesting (bare_text i)
-no_nesting-text (items.unsigned n) = tt
-no_nesting-text (items.negative n) = tt
-no_nesting-text (items.bytes o b) = tt
 no_nesting-text (items.text o b) = tt
-no_nesting-text (items.array o is) = tt
-no_nesting-text (items.map o ps) = tt
-no_nesting-text (items.tag t i) = tt
-no_nesting-text (items.simple n) = tt
-no_nesting-text (items.float raw) = tt
+no_nesting-text _ = tt
 
 pub steady-text : IsSteady taken_text
 steady-text = steady-by_item (λ i. bare_text (untagged i)) (λ i. no_nesting-text (untagged i))
@@ -162,37 +120,22 @@ steady-text = steady-by_item (λ i. bare_text (untagged i)) (λ i. no_nesting-te
 -- ---- byte strings
 
 same-bytes : (l : ℕ) (i : Item) → IsSameUnlessNested (bare_bytes (Some l) i) (bare_bytes None i)
-same-bytes l (items.unsigned n) = refl
-same-bytes l (items.negative n) = refl
-same-bytes l (items.bytes o b) = refl
-same-bytes l (items.text o b) = refl
 same-bytes l (items.array o is) = same-level l (λ m. take_each (taken_byte m) (unpack is))
     (λ m. same (take_each (taken_byte None) (unpack is)))
-same-bytes l (items.map o ps) = refl
-same-bytes l (items.tag t i) = refl
-same-bytes l (items.simple n) = refl
-same-bytes l (items.float raw) = refl
+same-bytes l _ = refl
 
 no_nesting-byte : (i : Item) → IsNoNesting (taken_byte None i)
 no_nesting-byte i = no_nesting-then (number_of i) (number_below 256) (no_nesting-number i)
     (no_nesting-below 256)
 
 no_nesting-bytes : (i : Item) → IsNoNesting (bare_bytes None i)
-no_nesting-bytes (items.unsigned n) = tt
-no_nesting-bytes (items.negative n) = tt
-no_nesting-bytes (items.bytes o b) = tt
-no_nesting-bytes (items.text o b) = tt
 no_nesting-bytes (items.array o is) = no_nesting-each (taken_byte None) no_nesting-byte (unpack is)
-no_nesting-bytes (items.map o ps) = tt
-no_nesting-bytes (items.tag t i) = tt
-no_nesting-bytes (items.simple n) = tt
-no_nesting-bytes (items.float raw) = tt
+no_nesting-bytes _ = tt
 
 pub steady-bytes : IsSteady taken_bytes
 steady-bytes = record {
   within = λ l i. same-bytes l (untagged i);
-  without =
-      λ i. no_nesting-bytes (untagged i);
+  without = λ i. no_nesting-bytes (untagged i);
 }
 
 -- ---- values
@@ -250,10 +193,6 @@ no_nesting-pair_more nests p r g h k = elim g [ ]
 
 mutual
   same-value : (i : Item) (l : ℕ) → IsSameUnlessNested (taken_value (Some l) i) (taken_value None i)
-  same-value (items.unsigned n) l = refl
-  same-value (items.negative n) l = refl
-  same-value (items.bytes o b) l = refl
-  same-value (items.text o b) l = refl
   same-value (items.array o is) l = same-level l (λ m. outcome_map trees.array (taken_items m is))
       (λ m. same-map trees.array (taken_items (Some m) is) (taken_items None is) (same-items is m))
   same-value (items.map o ps) l = same-level l (λ m. outcome_map trees.map (taken_tree_pairs m ps))
@@ -262,7 +201,7 @@ mutual
   same-value (items.tag t i) l = same-tag t l (folding_bytes t i) (λ m. taken_value m i)
       (λ m. same-value i m)
   same-value (items.simple n) l = same (of_meaning kinds.Simple (simple_meaning n))
-  same-value (items.float raw) l = refl
+  same-value _ l = refl
 
   same-items : (is : Items) (l : ℕ) → IsSameUnlessNested (taken_items (Some l) is)
       (taken_items None is)
@@ -280,10 +219,6 @@ mutual
 
 mutual
   no_nesting-value : (i : Item) → IsNoNesting (taken_value None i)
-  no_nesting-value (items.unsigned n) = tt
-  no_nesting-value (items.negative n) = tt
-  no_nesting-value (items.bytes o b) = tt
-  no_nesting-value (items.text o b) = tt
   no_nesting-value (items.array o is) = no_nesting-map trees.array (taken_items None is)
       (no_nesting-items is)
   no_nesting-value (items.map o ps) = no_nesting-map trees.map (taken_tree_pairs None ps)
@@ -291,7 +226,7 @@ mutual
   no_nesting-value (items.tag t i) = no_nesting-tag t (folding_bytes t i) (taken_value None i)
       (no_nesting-value i)
   no_nesting-value (items.simple n) = no_nesting-meaning kinds.Simple (simple_meaning n)
-  no_nesting-value (items.float raw) = tt
+  no_nesting-value _ = tt
 
   no_nesting-items : (is : Items) → IsNoNesting (taken_items None is)
   no_nesting-items items.no_items = tt

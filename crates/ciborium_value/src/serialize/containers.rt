@@ -6,6 +6,7 @@ ghost use Rattle.ciborium_value.specs.Sinks.{AddsNamed, BreaksNamed, IsGranted, 
 ghost use Rattle.ciborium_value.specs.Sinks.{container_of, in_turn, tag_of};
 
 use super::Serialize;
+use crate::items::{Array, Item, NoItem};
 use crate::sink::Sink;
 use std::collections::BTreeMap;
 
@@ -32,9 +33,7 @@ impl<A: Serialize> Serialize for (A,) {
     ghost takes_memory = { A.takes_memory };
 
     fn serialize<S: Sink>(&self, sink: &mut S) -> Result<(), S::Error> {
-        sink.begin_array(Some(1))?;
-        self.0.serialize(sink)?;
-        sink.end(Some(1))
+        Array(Item(&self.0, NoItem)).serialize(sink)
     }
 }
 
@@ -45,10 +44,7 @@ impl<A: Serialize, B: Serialize> Serialize for (A, B) {
     ghost takes_memory = { A.takes_memory ⊎ B.takes_memory };
 
     fn serialize<S: Sink>(&self, sink: &mut S) -> Result<(), S::Error> {
-        sink.begin_array(Some(2))?;
-        self.0.serialize(sink)?;
-        self.1.serialize(sink)?;
-        sink.end(Some(2))
+        Array(Item(&self.0, Item(&self.1, NoItem))).serialize(sink)
     }
 }
 
@@ -60,11 +56,7 @@ impl<A: Serialize, B: Serialize, C: Serialize> Serialize for (A, B, C) {
     ghost takes_memory = { A.takes_memory ⊎ B.takes_memory ⊎ C.takes_memory };
 
     fn serialize<S: Sink>(&self, sink: &mut S) -> Result<(), S::Error> {
-        sink.begin_array(Some(3))?;
-        self.0.serialize(sink)?;
-        self.1.serialize(sink)?;
-        self.2.serialize(sink)?;
-        sink.end(Some(3))
+        Array(Item(&self.0, Item(&self.1, Item(&self.2, NoItem)))).serialize(sink)
     }
 }
 
@@ -76,12 +68,7 @@ impl<A: Serialize, B: Serialize, C: Serialize, D: Serialize> Serialize for (A, B
     ghost takes_memory = { A.takes_memory ⊎ B.takes_memory ⊎ C.takes_memory ⊎ D.takes_memory };
 
     fn serialize<S: Sink>(&self, sink: &mut S) -> Result<(), S::Error> {
-        sink.begin_array(Some(4))?;
-        self.0.serialize(sink)?;
-        self.1.serialize(sink)?;
-        self.2.serialize(sink)?;
-        self.3.serialize(sink)?;
-        sink.end(Some(4))
+        Array(Item(&self.0, Item(&self.1, Item(&self.2, Item(&self.3, NoItem))))).serialize(sink)
     }
 }
 

@@ -6,7 +6,6 @@ pub returns : goal.returns
 returns c = record {
   spells = written_spells_item;
   folds = written_tree_folds;
-  itself =
-      tree_is_written_as_itself;
+  itself = tree_is_written_as_itself;
   proper = written_tree_is_proper;
 }
