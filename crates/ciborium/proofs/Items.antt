@@ -1,4 +1,5 @@
 -- What a source over bytes takes of the item ahead.
+pub mod BareHeads
 pub mod ItemHeads
 pub mod SkippedTags
 pub mod BareScalars

@@ -14,6 +14,9 @@ use Rattle.ciborium.specs.declared.de.error.Error.TheVariants.{RecursionLimitExc
 use Rattle.ciborium.specs.declared.de.error.Error.TheVariants.{TooLong}
 use Rattle.ciborium.specs.inner.ByteSources.{HasTakenSince, IsUnread, ReadsValue, StandsBefore}
 use Rattle.ciborium.specs.Errors.{fault_of}
+use Rattle.ciborium.specs.Spelling.{any}
+use Rattle.ciborium.specs.TypedAnswers.{RefusesTaken, TakesBeginning, TakesGiven}
+use Rattle.ciborium.specs.ValueAnswers.{ReadsWhole}
 
 -- ---- the clauses of a call that reads the next item: what the reader held before it, what it is
 -- left with, and the answer
@@ -42,6 +45,20 @@ TellsEnd before after (Ok None) = Consumes before after [] × IsAtEnd after
 TellsEnd before after (Ok (Some v)) = ¬ (before ≡ Some [])
 TellsEnd before after (Err e) = before ≡ Some [] → IsReadIo e
 
+-- a call that reads the next item within so many levels: the end; or otherwise what a call says
+-- that reads one value at offset 0
+pub record ReadsNextAsType {T A E : Type 0} (l : ℕ) (reading : Reading T A)
+    (before after : Option (List ℕ)) (r : Result (Option T) (Error E)) : Type 0 where
+  pub end : TellsEnd before after r
+  pub ok : Otherwise r (λ q. TakesGiven (Some l) reading.taken before after
+      (read_as reading.content q))
+  pub refused : Otherwise r (λ q. RefusesTaken 0 (Some l) reading.taken before
+      (read_as reading.content q))
+  pub memory : IfErr r (λ e. IsGrantedFault (fault_of e) reading.needs_memory)
+  pub taken : TakesBeginning before after
+  pub value : Otherwise r (λ q. IfSome reading.whole (λ tree. ReadsWhole any before l after
+      (read_as (λ v. tree (reading.content v)) q)))
+
 -- ---- how it is read
 
 -- P holds of the answer, which is not the end
@@ -56,8 +73,7 @@ behind_head s h = record {
   decoder = s.decoder;
   pending = Some (h, 0);
   levels = s.levels;
-  scratch =
-      s.scratch;
+  scratch = s.scratch;
   failure = s.failure;
   unpushed = s.unpushed;
 }

@@ -1,6 +1,6 @@
 -- What reading a value of any type answers, from bytes and from a tree.
 use Rattle.std.specs.Prelude.{◌≡◌, ℕ, ◌+◌, List, ◌++◌, length, Option, Some, None, Result, Ok, Err}
-use Rattle.std.specs.Prelude.{IfOk, IfErr}
+use Rattle.std.specs.Prelude.{IfOk, IfErr, IfSome}
 use Rattle.std.specs.Io.KnownBytes.{Consumes}
 use Rattle.std.specs.declared.io.Error.{Error as IoError}
 use Rattle.ciborium_ll.specs.Item.{Item}
@@ -8,8 +8,10 @@ use Rattle.ciborium_ll.specs.Spells.{Spells}
 use Rattle.ciborium_value.specs.Encoding.{encoding, item_of}
 use Rattle.ciborium_value.specs.Nesting.{Limit}
 use Rattle.ciborium_value.specs.ProperTrees.{IsProperTree}
+use Rattle.ciborium_value.specs.Readings.{Reading}
 use Rattle.ciborium_value.specs.Sources.{Fault, of_kind, of_nesting, of_syntax, of_memory}
-use Rattle.ciborium_value.specs.Sources.{of_device, of_length, IsFaultOf}
+use Rattle.ciborium_value.specs.Sources.{of_device, of_length, IsFaultOf, IsGrantedFault}
+use Rattle.ciborium_value.specs.Sources.{read_as}
 use Rattle.ciborium_value.specs.Taken.{gives, Taken}
 use Rattle.ciborium_value.specs.Tree.{Tree}
 use Rattle.ciborium_value.specs.TreeAnswers.{IsErrorOf}
@@ -48,6 +50,21 @@ RefusesTaken p l taken before r = (b : List ℕ) → before ≡ Some b →
 -- some bytes were taken, a beginning of those that are known, and nothing else
 abbrev pub TakesBeginning : Option (List ℕ) → Option (List ℕ) → Type 0
 TakesBeginning before after = (b : List ℕ) × Consumes before after b
+
+-- a call that reads one value, whose bytes begin at offset p, within a limit: what the reader held
+-- before, what it is left with, what holds of the tree where reading is one call of `value`, and
+-- the answer
+pub record ReadsAsType {T A E : Type 0} (p : ℕ) (l : Limit) (reading : Reading T A)
+    (before after : Option (List ℕ)) (P : Result Tree (Error E) → Type 0)
+    (r : Result T (Error E)) : Type 0 where
+  -- where an item stands at the front: just it was taken, and the answer is what it gives; or it is
+  -- refused as the item is
+  pub ok : TakesGiven l reading.taken before after (read_as reading.content r)
+  pub refused : RefusesTaken p l reading.taken before (read_as reading.content r)
+  pub memory : IfErr r (λ e. IsGrantedFault (fault_of e) reading.needs_memory)
+  -- refused or not
+  pub taken : TakesBeginning before after
+  pub value : IfSome reading.whole (λ tree. P (read_as (λ v. tree (reading.content v)) r))
 
 -- ---- from both
 

@@ -1,12 +1,10 @@
 //! Bytes to values.
 
-ghost use Rattle.std.specs.Prelude.{◌≡◌, IfErr, IfNone, IfSome, None, Ok, Some};
-ghost use Rattle.ciborium_value.specs.Sources.{IsGrantedFault, TakesOnly, read_as};
-ghost use Rattle.ciborium.specs.Errors.{fault_of};
-ghost use Rattle.ciborium.specs.NextItems.{IfNotEnded, IsReadFrom, Otherwise, TellsEnd};
-ghost use Rattle.ciborium.specs.NextItems.{behind_head};
+ghost use Rattle.std.specs.Prelude.{◌≡◌, IfNone, IfSome, None, Ok, Some};
+ghost use Rattle.ciborium_value.specs.Sources.{TakesOnly};
+ghost use Rattle.ciborium.specs.NextItems.{IfNotEnded, IsReadFrom, ReadsNextAsType, behind_head};
 ghost use Rattle.ciborium.specs.Spelling.{any};
-ghost use Rattle.ciborium.specs.TypedAnswers.{RefusesTaken, TakesBeginning, TakesGiven};
+ghost use Rattle.ciborium.specs.TypedAnswers.{ReadsAsType};
 ghost use Rattle.ciborium.specs.ValueAnswers.{ReadsWhole, TakesBytesFrom};
 ghost use Rattle.ciborium.specs.inner.ByteSources.{HasTakenSince};
 
@@ -51,6 +49,28 @@ fn read_from<T: Deserialize, R: Read>(
     }
 }
 
+// Reads one value from a source of its own, before which `offset` bytes stand.
+fn read_at<T: Deserialize, R: Read>(
+    alloc: Global,
+    reader: &mut R,
+    offset: usize,
+    scratch: &mut [u8],
+    limit: usize,
+) -> Result<T, Error<io::Error>>
+    ensures { ReadsAsType offset (Some limit) T.reading (R.remaining reader.old)
+        (R.remaining reader.new) (TakesBytesFrom any offset (R.remaining reader.old) limit
+        (R.remaining reader.new)) result }
+{
+    let mut source = ByteSource {
+        decoder: Decoder::at(reader, offset),
+        pending: None,
+        levels: limit,
+        scratch,
+        failure: None,
+    };
+    read_from(alloc, &mut source)
+}
+
 // Reads one value from a source of its own.
 fn read<T: Deserialize, R: Read>(
     alloc: Global,
@@ -58,27 +78,11 @@ fn read<T: Deserialize, R: Read>(
     scratch: &mut [u8],
     limit: usize,
 ) -> Result<T, Error<io::Error>>
-    // Where an item stands at the front: just it was taken, and the answer is what it gives; or it
-    // is refused as the item is.
-    ensures ok { TakesGiven (Some limit) T.reading.taken (R.remaining reader.old)
-        (R.remaining reader.new) (read_as T.reading.content result) }
-    ensures refused { RefusesTaken 0 (Some limit) T.reading.taken (R.remaining reader.old)
-        (read_as T.reading.content result) }
-    ensures memory { IfErr result (λ e. IsGrantedFault (fault_of e) T.reading.needs_memory) }
-    // Refused or not, a prefix of what was there was taken, and nothing else.
-    ensures taken { TakesBeginning (R.remaining reader.old) (R.remaining reader.new) }
-    // Where reading is one call of `value`, whatever the bytes.
-    ensures value { IfSome T.reading.whole (λ tree. ReadsWhole any (R.remaining reader.old) limit
-        (R.remaining reader.new) (read_as (λ v. tree (T.reading.content v)) result)) }
+    ensures { ReadsAsType 0 (Some limit) T.reading (R.remaining reader.old)
+        (R.remaining reader.new) (ReadsWhole any (R.remaining reader.old) limit
+        (R.remaining reader.new)) result }
 {
-    let mut source = ByteSource {
-        decoder: Decoder::new(reader),
-        pending: None,
-        levels: limit,
-        scratch,
-        failure: None,
-    };
-    read_from(alloc, &mut source)
+    read_at(alloc, reader, 0, scratch, limit)
 }
 
 /// Reads one value of any type that implements `Deserialize`: just the bytes of the item at the
@@ -103,18 +107,9 @@ pub fn from_reader<T: Deserialize, R: Read>(
     alloc: Global,
     reader: &mut R,
 ) -> Result<T, Error<io::Error>>
-    // Where an item stands at the front: just it was taken, and the answer is what it gives; or it
-    // is refused as the item is.
-    ensures ok { TakesGiven (Some 256) T.reading.taken (R.remaining reader.old)
-        (R.remaining reader.new) (read_as T.reading.content result) }
-    ensures refused { RefusesTaken 0 (Some 256) T.reading.taken (R.remaining reader.old)
-        (read_as T.reading.content result) }
-    ensures memory { IfErr result (λ e. IsGrantedFault (fault_of e) T.reading.needs_memory) }
-    // Refused or not, a prefix of what was there was taken, and nothing else.
-    ensures taken { TakesBeginning (R.remaining reader.old) (R.remaining reader.new) }
-    // Where reading is one call of `value`, whatever the bytes.
-    ensures value { IfSome T.reading.whole (λ tree. ReadsWhole any (R.remaining reader.old) 256
-        (R.remaining reader.new) (read_as (λ v. tree (T.reading.content v)) result)) }
+    ensures { ReadsAsType 0 (Some 256) T.reading (R.remaining reader.old)
+        (R.remaining reader.new) (ReadsWhole any (R.remaining reader.old) 256
+        (R.remaining reader.new)) result }
 {
     let mut scratch = [0u8; SCRATCH_SIZE];
     read(alloc, reader, &mut scratch, RECURSION_LIMIT)
@@ -127,18 +122,9 @@ pub fn from_reader_with_buffer<T: Deserialize, R: Read>(
     reader: &mut R,
     scratch: &mut [u8],
 ) -> Result<T, Error<io::Error>>
-    // Where an item stands at the front: just it was taken, and the answer is what it gives; or it
-    // is refused as the item is.
-    ensures ok { TakesGiven (Some 256) T.reading.taken (R.remaining reader.old)
-        (R.remaining reader.new) (read_as T.reading.content result) }
-    ensures refused { RefusesTaken 0 (Some 256) T.reading.taken (R.remaining reader.old)
-        (read_as T.reading.content result) }
-    ensures memory { IfErr result (λ e. IsGrantedFault (fault_of e) T.reading.needs_memory) }
-    // Refused or not, a prefix of what was there was taken, and nothing else.
-    ensures taken { TakesBeginning (R.remaining reader.old) (R.remaining reader.new) }
-    // Where reading is one call of `value`, whatever the bytes.
-    ensures value { IfSome T.reading.whole (λ tree. ReadsWhole any (R.remaining reader.old) 256
-        (R.remaining reader.new) (read_as (λ v. tree (T.reading.content v)) result)) }
+    ensures { ReadsAsType 0 (Some 256) T.reading (R.remaining reader.old)
+        (R.remaining reader.new) (ReadsWhole any (R.remaining reader.old) 256
+        (R.remaining reader.new)) result }
 {
     read(alloc, reader, scratch, RECURSION_LIMIT)
 }
@@ -153,18 +139,9 @@ pub fn from_reader_with_recursion_limit<T: Deserialize, R: Read>(
     reader: &mut R,
     limit: usize,
 ) -> Result<T, Error<io::Error>>
-    // Where an item stands at the front: just it was taken, and the answer is what it gives; or it
-    // is refused as the item is.
-    ensures ok { TakesGiven (Some limit) T.reading.taken (R.remaining reader.old)
-        (R.remaining reader.new) (read_as T.reading.content result) }
-    ensures refused { RefusesTaken 0 (Some limit) T.reading.taken (R.remaining reader.old)
-        (read_as T.reading.content result) }
-    ensures memory { IfErr result (λ e. IsGrantedFault (fault_of e) T.reading.needs_memory) }
-    // Refused or not, a prefix of what was there was taken, and nothing else.
-    ensures taken { TakesBeginning (R.remaining reader.old) (R.remaining reader.new) }
-    // Where reading is one call of `value`, whatever the bytes.
-    ensures value { IfSome T.reading.whole (λ tree. ReadsWhole any (R.remaining reader.old) limit
-        (R.remaining reader.new) (read_as (λ v. tree (T.reading.content v)) result)) }
+    ensures { ReadsAsType 0 (Some limit) T.reading (R.remaining reader.old)
+        (R.remaining reader.new) (ReadsWhole any (R.remaining reader.old) limit
+        (R.remaining reader.new)) result }
 {
     let mut scratch = [0u8; SCRATCH_SIZE];
     read(alloc, reader, &mut scratch, limit)
@@ -183,29 +160,12 @@ pub fn from_reader_at<T: Deserialize, R: Read>(
     offset: usize,
     limit: usize,
 ) -> Result<T, Error<io::Error>>
-    // Where an item stands at the front: just it was taken, and the answer is what it gives; or it
-    // is refused as the item is.
-    ensures ok { TakesGiven (Some limit) T.reading.taken (R.remaining reader.old)
-        (R.remaining reader.new) (read_as T.reading.content result) }
-    ensures refused { RefusesTaken offset (Some limit) T.reading.taken (R.remaining reader.old)
-        (read_as T.reading.content result) }
-    ensures memory { IfErr result (λ e. IsGrantedFault (fault_of e) T.reading.needs_memory) }
-    // Refused or not, a prefix of what was there was taken, and nothing else.
-    ensures taken { TakesBeginning (R.remaining reader.old) (R.remaining reader.new) }
-    // Where reading is one call of `value`, whatever the bytes.
-    ensures value { IfSome T.reading.whole (λ tree. TakesBytesFrom any offset
-        (R.remaining reader.old) limit (R.remaining reader.new)
-        (read_as (λ v. tree (T.reading.content v)) result)) }
+    ensures { ReadsAsType offset (Some limit) T.reading (R.remaining reader.old)
+        (R.remaining reader.new) (TakesBytesFrom any offset (R.remaining reader.old) limit
+        (R.remaining reader.new)) result }
 {
     let mut scratch = [0u8; SCRATCH_SIZE];
-    let mut source = ByteSource {
-        decoder: Decoder::at(reader, offset),
-        pending: None,
-        levels: limit,
-        scratch: &mut scratch,
-        failure: None,
-    };
-    read_from(alloc, &mut source)
+    read_at(alloc, reader, offset, &mut scratch, limit)
 }
 
 // Reads the item that a source's first head begins, or answers the end where there is no head.
@@ -242,21 +202,8 @@ pub fn from_reader_next<T: Deserialize, R: Read>(
     alloc: Global,
     reader: &mut R,
 ) -> Result<Option<T>, Error<io::Error>>
-    // At the end nothing is taken, and of known bytes none are left.
-    ensures end { TellsEnd (R.remaining reader.old) (R.remaining reader.new) result }
-    // Otherwise, where an item stands at the front: just it was taken, and the answer is what it
-    // gives; or it is refused as the item is.
-    ensures ok { Otherwise result (λ r. TakesGiven (Some 256) T.reading.taken
-        (R.remaining reader.old) (R.remaining reader.new) (read_as T.reading.content r)) }
-    ensures refused { Otherwise result (λ r. RefusesTaken 0 (Some 256) T.reading.taken
-        (R.remaining reader.old) (read_as T.reading.content r)) }
-    ensures memory { IfErr result (λ e. IsGrantedFault (fault_of e) T.reading.needs_memory) }
-    // Refused or not, a prefix of what was there was taken, and nothing else.
-    ensures taken { TakesBeginning (R.remaining reader.old) (R.remaining reader.new) }
-    // Where reading is one call of `value`, whatever the bytes.
-    ensures value { Otherwise result (λ r. IfSome T.reading.whole (λ tree.
-        ReadsWhole any (R.remaining reader.old) 256 (R.remaining reader.new)
-        (read_as (λ v. tree (T.reading.content v)) r))) }
+    ensures { ReadsNextAsType 256 T.reading (R.remaining reader.old) (R.remaining reader.new)
+        result }
 {
     from_reader_next_with_recursion_limit(alloc, reader, RECURSION_LIMIT)
 }
@@ -271,21 +218,8 @@ pub fn from_reader_next_with_recursion_limit<T: Deserialize, R: Read>(
     reader: &mut R,
     recursion_limit: usize,
 ) -> Result<Option<T>, Error<io::Error>>
-    // As in `from_reader_next`, but for the limit.
-    ensures end { TellsEnd (R.remaining reader.old) (R.remaining reader.new) result }
-    // Otherwise, where an item stands at the front: just it was taken, and the answer is what it
-    // gives; or it is refused as the item is.
-    ensures ok { Otherwise result (λ r. TakesGiven (Some recursion_limit) T.reading.taken
-        (R.remaining reader.old) (R.remaining reader.new) (read_as T.reading.content r)) }
-    ensures refused { Otherwise result (λ r. RefusesTaken 0 (Some recursion_limit) T.reading.taken
-        (R.remaining reader.old) (read_as T.reading.content r)) }
-    ensures memory { IfErr result (λ e. IsGrantedFault (fault_of e) T.reading.needs_memory) }
-    // Refused or not, a prefix of what was there was taken, and nothing else.
-    ensures taken { TakesBeginning (R.remaining reader.old) (R.remaining reader.new) }
-    // Where reading is one call of `value`, whatever the bytes.
-    ensures value { Otherwise result (λ r. IfSome T.reading.whole (λ tree.
-        ReadsWhole any (R.remaining reader.old) recursion_limit (R.remaining reader.new)
-        (read_as (λ v. tree (T.reading.content v)) r))) }
+    ensures { ReadsNextAsType recursion_limit T.reading (R.remaining reader.old)
+        (R.remaining reader.new) result }
 {
     let mut scratch = [0u8; SCRATCH_SIZE];
     let mut source = ByteSource {

@@ -46,12 +46,7 @@ mutual
   pub folded-number_tree : (t : Tree) → is_number_tree t ≡ true → folded t ≡ Some t
   folded-number_tree (trees.integer z) h = refl
   folded-number_tree (trees.array vs) h = ap (option_map trees.array) (folded-number_trees vs h)
-  folded-number_tree (trees.bytes b) h = cc
-  folded-number_tree (trees.text b) h = cc
-  folded-number_tree (trees.boolean b) h = cc
-  folded-number_tree trees.null h = cc
-  folded-number_tree (trees.tag t v) h = cc
-  folded-number_tree (trees.map ps) h = cc
+  folded-number_tree _ h = cc
 
   folded-number_trees : (vs : Trees) → are_number_trees vs ≡ true → trees_folded vs ≡ Some vs
   folded-number_trees trees.no_trees h = refl

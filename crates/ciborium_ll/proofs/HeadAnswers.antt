@@ -81,8 +81,7 @@ first-refused b p buffer TooLong one h =
     let none : HeadRefuses [] p too_long = pass _ _ _ (le-ltb p greatest_offset over) in
     record {
       answers = subst (λ c. HeadRefuses c p too_long) (sym h.0) none;
-      needed =
-          subst (λ c. NoneIsSpare c p) (sym h.0) (no-spare p);
+      needed = subst (λ c. NoneIsSpare c p) (sym h.0) (no-spare p);
     }
 first-refused b p buffer Memory one h = absurd h
 
@@ -95,8 +94,7 @@ argument-refused x b p buffer (Io e) first len h =
     let room : p + 1 + argument_length (x % 32) ≤ greatest_offset = omega (arith, h.1, len) in
     record {
       answers = short-io x b p (omega (arith, h.0, len)) room;
-      needed =
-          none-spare x b p (omega arith) (omega (arith, h.0, len)) (λ z. room);
+      needed = none-spare x b p (omega arith) (omega (arith, h.0, len)) (λ z. room);
     }
 argument-refused x b p buffer (Syntax at) first len h = absurd h
 argument-refused x b p buffer TooLong first len h =
@@ -108,8 +106,7 @@ argument-refused x b p buffer TooLong first len h =
     let spare : NoneIsSpare (x ∷ []) p = none-spare x [] p (omega arith) (omega arith) (λ z. absurd (omega arith)) in
     record {
       answers = subst (λ c. HeadRefuses (x ∷ c) p too_long) (sym h.0) alone;
-      needed =
-          subst (λ c. NoneIsSpare (x ∷ c) p) (sym h.0) spare;
+      needed = subst (λ c. NoneIsSpare (x ∷ c) p) (sym h.0) spare;
     }
 argument-refused x b p buffer Memory first len h = absurd h
 
@@ -174,10 +171,8 @@ plain-begins b m n lt none (w, h, e) =
       record {
         below = omega arith;
         fair = unreserved m (information w n) i;
-        high =
-            not_low (initial_byte m (information w n)) (argument_bytes w n) (omega arith);
-        payload =
-            none (information w n) (argument_bytes w n);
+        high = not_low (initial_byte m (information w n)) (argument_bytes w n) (omega arith);
+        payload = none (information w n) (argument_bytes w n);
         size = sym (argument_length-information w n h);
       },
     )
@@ -193,12 +188,9 @@ string-begins b m n kind (w, h, e) =
       record {
         below = omega arith;
         fair = unreserved m (information w n) i;
-        high =
-            not_low (initial_byte m (information w n)) (argument_bytes w n) (omega arith);
-        payload =
-            payload_length-is m (information w n) n (argument_bytes w n) i (argument-whole w n h) kind;
-        size =
-            sym (argument_length-information w n h);
+        high = not_low (initial_byte m (information w n)) (argument_bytes w n) (omega arith);
+        payload = payload_length-is m (information w n) n (argument_bytes w n) i (argument-whole w n h) kind;
+        size = sym (argument_length-information w n h);
       },
     )
   where
@@ -242,8 +234,7 @@ header-begins b (Simple n) (inl s) = (
     below = omega (arith, s.0);
     fair = grind (arith, nat_tests);
     high = refl;
-    payload =
-        refl;
+    payload = refl;
     size = grind (arith, nat_tests);
   },
 )
@@ -257,8 +248,7 @@ header-begins b (Simple n) (inr s) = (
     fair = refl;
     high = le-ltb n 32 s.0;
     payload = refl;
-    size =
-        refl;
+    size = refl;
   },
 )
 header-begins b (Float size) (raw, (inl s), l) = (
@@ -277,8 +267,7 @@ header-begins b (Float size) (raw, (inr (inl s)), l) = (
     below = omega arith;
     fair = refl;
     high = not_low-float 250 raw (omega arith);
-    payload =
-        refl;
+    payload = refl;
     size = s.0;
   },
 )
@@ -291,8 +280,7 @@ header-begins b (Float size) (raw, (inr (inr s)), l) = (
     below = omega arith;
     fair = refl;
     high = not_low-float 251 raw (omega arith);
-    payload =
-        refl;
+    payload = refl;
     size = s.0;
   },
 )
@@ -306,8 +294,7 @@ header-begins b Break s = (
     fair = refl;
     high = refl;
     payload = refl;
-    size =
-        refl;
+    size = refl;
   },
 )
 

@@ -95,15 +95,13 @@ emptied w = record {
   lookahead = record {
     bytes = [];
     base = w.lookahead.base;
-    end =
-        w.lookahead.end;
+    end = w.lookahead.end;
   };
   count = w.count;
   reach = w.reach;
   order = w.order;
   room = w.room;
-  ahead =
-      w.ahead;
+  ahead = w.ahead;
   fits = w.fits;
   due = w.due;
 }
@@ -115,8 +113,7 @@ with_left d u =
       reader = record {
         ref_ptr = d.reader.ref_ptr;
         ghost_name = d.reader.ghost_name;
-        now =
-            u;
+        now = u;
       };
       window = emptied d.window;
       pushed = d.pushed;

@@ -1,13 +1,13 @@
 -- Bytes that are read as the numbers of a sequence.
-use Rattle.std.proofs.Common.{◌≡◌, ◌≢◌, ℕ, ◌+◌, ◌<◌, ◌≤◌, Bool, false, List, [], ◌∷◌, ◌++◌, Option, Some, None, Result}
+use Rattle.std.proofs.Common.{◌≡◌, ◌≢◌, ℕ, ◌+◌, ◌-◌, ◌<◌, ◌≤◌, Bool, false, List, [], ◌∷◌, ◌++◌, Option, Some, None, Result}
 use Rattle.std.proofs.Common.{Ok, Err, IfErr, IfOk, OnOk, refl, sym, ap, ◌∙◌, subst, append_assoc, append-nil}
 use Rattle.ciborium_ll.specs.declared.header.Header.{Header}
 use Rattle.ciborium_ll.specs.declared.header.Header.TheVariants as header
 use Rattle.ciborium_ll.specs.Item.{Item}
 use Rattle.ciborium_ll.specs.StringRefusal.{of_bytes as string_of_bytes}
 use Rattle.ciborium_ll.proofs.UniqueSpelling.{one_at_front}
-use Rattle.ciborium_ll.specs.Decoding.{allowed_of}
-use Rattle.ciborium.proofs.Items.Due.{due-past, held-past, on-both}
+use Rattle.ciborium_ll.specs.Decoding.{allowed_of, source_of}
+use Rattle.ciborium.proofs.Items.Due.{due-past, entered-fewer, held-past, on-both}
 use Rattle.ciborium_value.specs.Ahead.{Rest, Form, after, parts, past, inside, end_of}
 use Rattle.ciborium_value.specs.Nesting.{Limit}
 use Rattle.ciborium_value.specs.Places.{sequence}
@@ -24,12 +24,12 @@ use Rattle.ciborium.specs.declared.de.error.Error.{Error}
 use Rattle.ciborium.specs.Errors.{fault_of}
 use Rattle.ciborium.specs.inner.ByteSources.{AnswersItem, KeepsSource, IsUnread, StandsBefore, SeqStands, SeqOwes}
 use Rattle.ciborium.specs.inner.ByteSources.{EntersItemsUnread, ReadsRest, RefusesRest, items_due_behind, pending_count}
-use Rattle.ciborium.specs.inner.ByteSources.{weight_left, end_at, reader_of}
+use Rattle.ciborium.specs.inner.ByteSources.{HasTaken, ReadsBareHead, end_at, parts_left, reader_of, weight_left}
 use Rattle.ciborium.specs.inner.FrontItems.{Reads, Denies}
 use Rattle.ciborium.specs.inner.Skips.{under, AreSkipped, IsBare, TakesBare}
 use Rattle.ciborium.specs.inner.StringContents.{string_item, TakesContent}
 use Rattle.ciborium.specs.inner.Unread.{IsRest, FitsAhead}
-use Rattle.ciborium.proofs.Containers.EnteredContainers.{HasItems, items-stand, within-is}
+use Rattle.ciborium.proofs.Containers.EnteredContainers.{HasItems, array-entered, items-stand, within-is}
 use Rattle.ciborium.proofs.Items.ItemHeads.{header_of, by-shape, no-bare-tag}
 use Rattle.ciborium.proofs.Containers.NextParts.{fits-past, none-past}
 use Rattle.ciborium.proofs.Items.SkippedTags.{reads-bare, untagged-under}
@@ -142,8 +142,7 @@ module _ {S A : Type 0} (remaining : S → Option (List ℕ)) (taken : Taken A) 
     split = refl;
     stands = st;
     holds = hold;
-    read =
-        refl;
+    read = refl;
   }
 
   pub partly-more : (mid ahead new : ByteSource S) (q q' : ByteSeq) (vs : List A) (v : A) →
@@ -236,39 +235,58 @@ pub bytes-given : (m : ℕ) → m ≢ 0 → (ts : List ℕ) (i : Item) (xs : Lis
 bytes-given m some ts i xs (o, js, is, all) = ap (bare_bytes (Some m)) (untagged-under ts i ∙ ap untagged is) ∙
     within-is m _ some ∙ ap (take_each (taken_byte (deeper (Some m)))) all
 
+-- an array was entered whose items are read as bytes
+pub record HasOpenedArray {S : Type 0} (remaining : S → Option (List ℕ)) (old mid : ByteSource S) (q : ByteSeq) : Type 0
+  where
+    pub kept : IsKept remaining old mid
+    pub levels : q.levels ≡ old.levels
+    pub none : mid.pending ≡ None
+    pub fewer : weight_left mid < weight_left old
+    pub opens : EntersItemsUnread remaining old mid taken_bytes (λ l is. take_each (taken_byte l) is) q
+
+pub array-opened : {S : Type 0} (remaining : S → Option (List ℕ)) (old mid new : ByteSource S) (count : Option ℕ)
+    (q : ByteSeq) (h : Header) (offset : ℕ) → h ≡ header.Array count →
+    TakesBare (IsUnread remaining) old mid false h → ReadsBareHead remaining old mid false (Ok (h, offset)) →
+    ((new.decoder ≡ mid.decoder) × (new.pending ≡ mid.pending) × (mid.levels ≢ 0) ×
+    (new.levels ≡ mid.levels - 1) × (q.left ≡ parts_left count)) → q.levels ≡ mid.levels →
+    HasOpenedArray remaining old new q
+array-opened remaining old mid new count q h offset is head reads entered back = record {
+  kept = (
+    ap source_of entered.0 ∙ reads.same_reader,
+    λ first t. subst (HasTaken remaining first) (sym entered.0) (reads.only first t),
+  );
+  levels = back ∙ reads.levels;
+  none = entered.1 ∙ reads.pending;
+  fewer = entered-fewer old mid new h entered.0 (entered.1 ∙ reads.pending) reads.fewer;
+  opens = array-entered remaining old mid new count q reads.levels entered taken_bytes
+      (λ l is. take_each (taken_byte l) is) (subst (TakesBare (IsUnread remaining) old mid false) is head)
+      (bytes-given old.levels (λ z. entered.2 (reads.levels ∙ z)));
+}
+
 module _ {S : Type 0} (remaining : S → Option (List ℕ)) (old mid : ByteSource S) (q : ByteSeq)
-    (name : IsKept remaining old mid) (levels : q.levels ≡ old.levels) (none : mid.pending ≡ None)
-    (fewer : weight_left mid < weight_left old)
-    (opens : EntersItemsUnread remaining old mid taken_bytes (λ l is. take_each (taken_byte l) is) q) where
+    (opened : HasOpenedArray remaining old mid q) where
   pub array-takes : (new : ByteSource S) (v : List ℕ) →
       ReadsRest remaining mid new q (λ l is. take_each (taken_byte l) is) v →
       TakesAhead (StandsBefore remaining) old new taken_bytes v
   array-takes new v reads l i f st =
-      let (form, is, give, stands, holds) = items-stand remaining old mid q name levels none fewer taken_bytes
-      (λ k its. take_each (taken_byte k) its) opens l i f st in
+      let (form, is, give, stands, holds) = items-stand remaining old mid q opened.kept opened.levels opened.none opened.fewer taken_bytes
+      (λ k its. take_each (taken_byte k) its) opened.opens l i f st in
       let (e, past) = reads l form is f stands holds in
       (give ∙ e, past)
 
   pub array-refuses : (fault : Fault) → RefusesRest remaining mid q (λ l is. take_each (taken_byte l) is) fault →
       RefusesAhead (StandsBefore remaining) old taken_bytes fault
   array-refuses fault denied l i f st =
-      let (form, is, give, stands, holds) = items-stand remaining old mid q name levels none fewer taken_bytes
-      (λ k its. take_each (taken_byte k) its) opens l i f st in
+      let (form, is, give, stands, holds) = items-stand remaining old mid q opened.kept opened.levels opened.none opened.fewer taken_bytes
+      (λ k its. take_each (taken_byte k) its) opened.opens l i f st in
       subst (λ o. IsFaultOf (end_of f) fault o) (sym give) (denied l form is f stands holds)
 
   pub array-took : (new : ByteSource S) → TakesTo (IsUnread remaining) mid new
       (λ c z. (b : List ℕ) → SeqOwes q sequence b c → HasItem b z) → TakesItem (IsUnread remaining) old new
   array-took new took b u =
-      let (w, un, owes, rest) = opens b u in
+      let (w, un, owes, rest) = opened.opens b u in
       let (z, un', done) = took w un in
       (z, un', done b owes)
-
-pub array-nests : (m : ℕ) (count : Option ℕ) → m ≡ 0 → (ts : List ℕ) (i : Item) → AreSkipped false ts →
-    header_of i ≡ header.Array count → taken_bytes (Some m) (under ts i) ≡ nests
-array-nests m count z ts i all e = ap (λ n. taken_bytes (Some n) (under ts i)) z ∙
-    ap (bare_bytes (Some 0)) (untagged-under ts i) ∙
-    by-shape (λ j. bare_bytes (Some 0) (untagged j) ≡ nests) (header.Array count) (λ n k. cc) (λ n k. cc) (λ o b k. cc)
-    (λ o b k. cc) (λ o is k. refl) (λ o ps k. cc) (λ n k. cc) (λ raw k. cc) (λ t j k. cc) i e
 
 pub bytes-other : (l : Limit) (h : Header) → IsBare false h → ((n : Option ℕ) → h ≡ header.Array n → ⊥) →
     ((n : Option ℕ) → h ≡ header.Bytes n → ⊥) → (ts : List ℕ) (i : Item) → AreSkipped false ts → header_of i ≡ h →

@@ -1,7 +1,7 @@
 -- Containers that are entered behind skipped tags.
 use Rattle.std.proofs.Common.{◌≡◌, OnOk, IfOk, Err, Ok, Result, ◌<◌, ◌+◌, ◌≢◌, ℕ, zero, suc, ◌-◌, Bool, true, false}
 use Rattle.std.proofs.Common.{List, [], ◌∷◌, ◌++◌, map, Option, Some, None, refl, sym, ap, ◌∙◌, subst, append_assoc}
-use Rattle.std.proofs.Common.{append-nil, arith}
+use Rattle.std.proofs.Common.{◌≤◌, append-nil, arith, length}
 use Rattle.std.specs.Vec.Iter.{into_iter_items}
 use Rattle.ciborium_ll.specs.declared.header.Header.{Header}
 use Rattle.ciborium_ll.specs.declared.header.Header.TheVariants as header
@@ -10,11 +10,12 @@ use Rattle.ciborium_ll.specs.Header.{SpellsHeader}
 use Rattle.ciborium_ll.specs.Item as items
 use Rattle.ciborium_ll.specs.Item.{Item, Items, Pairs, unsigned, negative, bytes, text, array, tag, simple, float}
 use Rattle.ciborium_ll.specs.Spells.{Spells}
+use Rattle.ciborium_ll.specs.Decoding.{allowed_of}
 use Rattle.ciborium_ll.specs.StringRefusal.{of_bytes as bytes_kind}
 use Rattle.ciborium_ll.proofs.UniqueSpelling.{one_at_front}
 use Rattle.ciborium_value.specs.Sources.{Enters, EntersMap}
 use Rattle.ciborium.proofs.Items.Due.{held-past}
-use Rattle.ciborium_value.specs.Ahead.{Form, parts, after, item, inside, of_bytes, pairs}
+use Rattle.ciborium_value.specs.Ahead.{Form, Rest, parts, after, item, inside, of_bytes, pairs}
 use Rattle.ciborium_value.specs.Nesting.{Limit}
 use Rattle.ciborium_value.specs.Places.{is_open, sequence, dictionary}
 use Rattle.ciborium_value.specs.Taken.{Outcome, Taken, gives, refuses, nests, untagged, deeper, within_level, unpack}
@@ -26,7 +27,8 @@ use Rattle.ciborium.specs.declared.de.byte_source.Left.{Left}
 use Rattle.ciborium.specs.declared.de.byte_source.Left.TheVariants as left
 use Rattle.ciborium.specs.inner.ByteSources.{IsUnread, IsUnreadBy, StandsBefore, SeqStands, HoldsItems, HoldsPairs}
 use Rattle.ciborium.specs.inner.ByteSources.{SeqOwes, LeftOwes, OwesParts, EntersItemsUnread, EntersPairsUnread}
-use Rattle.ciborium.specs.inner.ByteSources.{HasBytes, parts_left, items_due_behind, weight_left, seq_left}
+use Rattle.ciborium.specs.inner.ByteSources.{HasBytes, parts_left, due_parts, items_due_behind, pending_count, weight_left}
+use Rattle.ciborium.specs.inner.ByteSources.{reader_of, seq_left}
 use Rattle.ciborium.specs.inner.Skips.{under, AreSkipped, IsBare, TakesBare, EntersUnread}
 use Rattle.ciborium.specs.inner.StringContents.{TakesContent}
 use Rattle.ciborium.specs.inner.Unread.{AreSpelled, AreLeft, SpellsPair, IsRest, ending, form_of, HasCount}
@@ -276,12 +278,15 @@ bytes-entered remaining old mid new q v len payload is same levels bare content 
 
 -- ---- what is refused
 
-pub array-nests : (m : ℕ) (count : Option ℕ) → m ≡ 0 → (ts : List ℕ) (i : Item) → AreSkipped false ts →
-    header_of i ≡ header.Array count → taken_seq (Some m) (under ts i) ≡ nests
-array-nests m count z ts i all e = ap (λ n. taken_seq (Some n) (under ts i)) z ∙
-    ap (bare_seq (Some 0)) (untagged-under ts i) ∙
-    by-shape (λ j. bare_seq (Some 0) (untagged j) ≡ nests) (header.Array count) (λ n k. cc) (λ n k. cc) (λ o b k. cc)
-    (λ o b k. cc) (λ o is k. refl) (λ o ps k. cc) (λ n k. cc) (λ raw k. cc) (λ t j k. cc) i e
+-- what an array is read as, behind tags, where no level is left
+pub array-nests : {A : Type 0} (bare : Limit → Item → Outcome A) →
+    ((o : Bool) (is : Items) → bare (Some 0) (array o is) ≡ nests) → (m : ℕ) (count : Option ℕ) → m ≡ 0 →
+    (ts : List ℕ) (i : Item) → AreSkipped false ts → header_of i ≡ header.Array count →
+    bare (Some m) (untagged (under ts i)) ≡ nests
+array-nests bare none m count z ts i all e = ap (λ n. bare (Some n) (untagged (under ts i))) z ∙
+    ap (bare (Some 0)) (untagged-under ts i) ∙
+    by-shape (λ j. bare (Some 0) (untagged j) ≡ nests) (header.Array count) (λ n k. cc) (λ n k. cc) (λ o b k. cc)
+    (λ o b k. cc) (λ o is k. none o is) (λ o ps k. cc) (λ n k. cc) (λ raw k. cc) (λ t j k. cc) i e
 
 pub map-nests : (m : ℕ) (count : Option ℕ) → m ≡ 0 → (ts : List ℕ) (i : Item) → AreSkipped false ts →
     header_of i ≡ header.Map count → taken_pairs (Some m) (under ts i) ≡ nests
@@ -310,53 +315,48 @@ map-other l h bare p ts i all e = ap (bare_pairs l) (untagged-under ts i) ∙
 module _ {S : Type 0} (remaining : S → Option (List ℕ)) (old new : ByteSource S) (q : ByteSeq)
     (kept : IsKept remaining old new) (levels : q.levels ≡ old.levels) (none : new.pending ≡ None)
     (fewer : weight_left new < weight_left old) where
-  -- the items of what was entered, which f takes, and where the source stands
-  pub items-stand : {A : Type 0} (taken : Taken A) (f : Limit → List Item → Outcome A) →
-      EntersItemsUnread remaining old new taken f q → (l : Limit) (i : Item) (r : _) →
-      StandsBefore remaining old l (item i r) →
-      (form : Form) × (is : List Item) × (taken l i ≡ f (inside form l) is) ×
-      StandsBefore remaining new (inside form l) (after (parts form is r)) × SeqStands q l (parts form is r)
-  items-stand taken f h l i r (b, u, (s, t, sp, rest, e), is, ahead, few) =
+  -- what was entered, whatever its parts are: f takes them, and the source stands before them
+  parts-stand : {A X : Type 0} (Owes : ByteSeq → List ℕ → List ℕ → Type 0) (SpellsPart : List ℕ → X → Type 0)
+      (Holds : ByteSeq → Form → List X → Type 0) (taken : Taken A) (f : Limit → List X → Outcome A) →
+      EntersUnread (IsUnread remaining) Owes SpellsPart Holds old new (Some old.levels) (Some new.levels) taken f q →
+      (l : Limit) (i : Item) (r : Rest) → StandsBefore remaining old l (item i r) →
+      (form : Form) × (xs : List X) × (taken l i ≡ f (inside form l) xs) × ((w : List ℕ) × IsUnread remaining new w ×
+      ((c : List ℕ) × (t : List ℕ) × AreLeft SpellsPart form c xs × IsRest (reader_of remaining new.decoder) t r ×
+      (w ≡ c ++ (ending form ++ t))) × (inside form l ≡ Some new.levels) × (new.pending ≡ None) ×
+      (allowed_of new.decoder + pending_count new.pending ≤ due_parts form (length xs) + items_due_behind r)) ×
+      ((l ≡ Some q.levels) × Holds q form xs)
+  parts-stand Owes SpellsPart Holds taken f h l i r (b, u, (s, t, sp, rest, e), is, ahead, few) =
       let (w, un, owes, opens) = h b u in
-      let (form, its, c, give, lv, stand, split, hold) = opens i s t sp e in (
+      let (form, xs, c, give, lv, stand, split, hold) = opens i s t sp e in (
         form,
-        its,
-        ap (λ k. taken k i) is ∙ give ∙ ap (λ k. f (inside form k) its) (sym is),
+        xs,
+        ap (λ k. taken k i) is ∙ give ∙ ap (λ k. f (inside form k) xs) (sym is),
         (
           w,
           un,
           (c, t, stand, subst (λ n. IsRest n t r) (sym (kept-reader remaining old new kept b u)) rest, split),
           ap (inside form) is ∙ lv,
           none,
-          (let less = held-past old new kept.0 (items_due_behind r) none fewer few in
-              omega (arith, less)),
+          (let less = held-past old new kept.0 (items_due_behind r) none fewer few in omega (arith, less)),
         ),
         (is ∙ ap Some (sym levels), hold),
       )
 
-  -- the pairs, in the same way
-  pub pairs-stand : {A : Type 0} (taken : Taken A) (f : Limit → List (Item × Item) → Outcome A) →
-      EntersPairsUnread remaining old new taken f q → (l : Limit) (i : Item) (r : _) →
+  -- the items of what was entered
+  pub items-stand : {A : Type 0} (taken : Taken A) (f : Limit → List Item → Outcome A) →
+      EntersItemsUnread remaining old new taken f q → (l : Limit) (i : Item) (r : Rest) →
       StandsBefore remaining old l (item i r) →
-      (form : Form) × (is : List (Item × Item)) × (taken l i ≡ f (inside form l) is) ×
-      StandsBefore remaining new (inside form l) (after (pairs form is r)) × SeqStands q l (pairs form is r)
-  pairs-stand taken f h l i r (b, u, (s, t, sp, rest, e), is, ahead, few) =
-      let (w, un, owes, opens) = h b u in
-      let (form, its, c, give, lv, stand, split, hold) = opens i s t sp e in (
-        form,
-        its,
-        ap (λ k. taken k i) is ∙ give ∙ ap (λ k. f (inside form k) its) (sym is),
-        (
-          w,
-          un,
-          (c, t, stand, subst (λ n. IsRest n t r) (sym (kept-reader remaining old new kept b u)) rest, split),
-          ap (inside form) is ∙ lv,
-          none,
-          (let less = held-past old new kept.0 (items_due_behind r) none fewer few in
-              omega (arith, less)),
-        ),
-        (is ∙ ap Some (sym levels), hold),
-      )
+      (form : Form) × (is : List Item) × (taken l i ≡ f (inside form l) is) ×
+      StandsBefore remaining new (inside form l) (after (parts form is r)) × SeqStands q l (parts form is r)
+  items-stand = parts-stand (λ p. SeqOwes p sequence) Spells (λ p. HoldsItems p.left)
+
+  -- the pairs
+  pub pairs-stand : {A : Type 0} (taken : Taken A) (f : Limit → List (Item × Item) → Outcome A) →
+      EntersPairsUnread remaining old new taken f q → (l : Limit) (i : Item) (r : Rest) →
+      StandsBefore remaining old l (item i r) →
+      (form : Form) × (ps : List (Item × Item)) × (taken l i ≡ f (inside form l) ps) ×
+      StandsBefore remaining new (inside form l) (after (pairs form ps r)) × SeqStands q l (pairs form ps r)
+  pairs-stand = parts-stand (λ p. SeqOwes p dictionary) SpellsPair (λ p. HoldsPairs p.left)
 
 -- what is answered where a sequence was entered, and where a map was
 module _ {S : Type 0} (remaining : S → Option (List ℕ)) (old new : ByteSource S) (kept : IsKept remaining old new) where

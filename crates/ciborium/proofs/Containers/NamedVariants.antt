@@ -125,14 +125,6 @@ pair-front s r x y i sp hd e = by i sp (same-head s r x y i (header.Map (Some 1)
   where
     by : (i : Item) → Spells s i → header_of i ≡ header.Map (Some 1) → (k : Item) × (v : Item) × (a : List ℕ) ×
         (d : List ℕ) × (i ≡ items.map false (pair k v no_pairs)) × Spells a k × Spells d v × (y ≡ a ++ (d ++ r))
-    by (unsigned n) sp h = cc
-    by (negative n) sp h = cc
-    by (bytes o b) sp h = cc
-    by (text o b) sp h = cc
-    by (array o b) sp h = cc
-    by (items.map true ps) sp h = cc
-    by (items.map false no_pairs) sp h = cc
-    by (items.map false (pair k v (pair k' v' ps))) sp h = cc
     by (items.map false (pair k v no_pairs)) (c, (a, d, q, ska, sdv, none, f), (hh, g, w)) h =
         let o = one_header_at_front hh x (c ++ r) y (header.Map (Some 1)) (header.Map (Some 1)) g hd
         (sym (append_assoc hh c r) ∙ ap (λ (z : List ℕ). z ++ r) (sym w) ∙ e) in (
@@ -147,9 +139,7 @@ pair-front s r x y i sp hd e = by i sp (same-head s r x y i (header.Map (Some 1)
               (f ∙ ap (λ (z : List ℕ). a ++ (d ++ z)) none ∙ ap (λ (z : List ℕ). a ++ z) (append-nil d)) ∙
               append_assoc a d r,
         )
-    by (tag u j) sp h = cc
-    by (simple n) sp h = cc
-    by (float n) sp h = cc
+    by _ sp h = cc
 
 module _ {S : Type 0} (IsUnread : S → List ℕ → Type 0) (old mid inner new : S) (m : ℕ) (some : m ≢ 0)
     (keeps : (y : List ℕ) → IsUnread mid y → IsUnread inner y) where

@@ -416,8 +416,7 @@ module _ {S : Type 0} (remaining : S → Option (List ℕ)) where
           reader = kept-reader remaining old new same b u;
           levels = kept;
           unread = back b x y u hd g un;
-          held =
-              λ n. held-pending old new same.0 n h fewer;
+          held = λ n. held-pending old new same.0 n h fewer;
         }) q q' levels l form its held.0
         (open-next Spells item-begins form its s r b x y h held stand e hd other g) rest lv few lq
         (λ ys count. subst (λ k. HoldsItems k form ys) (sym is') (held.0, count)),
@@ -428,8 +427,7 @@ module _ {S : Type 0} (remaining : S → Option (List ℕ)) where
           reader = kept-reader remaining old new same b u;
           levels = kept;
           unread = back b x y u hd g un;
-          held =
-              λ n. held-pending old new same.0 n h fewer;
+          held = λ n. held-pending old new same.0 n h fewer;
         }) q q' levels l form its held.0
         (open-next SpellsPair pair-begins form its s r b x y h held stand e hd other g) rest lv few lq
         (λ ys count. subst (λ k. HoldsPairs k form ys) (sym is') (held.0, count)),

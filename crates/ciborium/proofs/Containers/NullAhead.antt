@@ -1,41 +1,26 @@
 -- A head that is looked at and not taken.
-use Rattle.std.proofs.Common.{◌≡◌, ◌≤◌, ◌+◌, ℕ, Bool, false, List, ◌++◌, Option, Some, refl, sym, ap, ◌∙◌, subst}
+use Rattle.std.proofs.Common.{◌≡◌, ◌≤◌, ◌+◌, ℕ, Bool, List, ◌++◌, Option, Some, refl, sym, ap, ◌∙◌, subst}
 use Rattle.std.proofs.Common.{append_assoc, arith, length-append}
 use Rattle.ciborium_ll.specs.declared.header.Header.{Header}
-use Rattle.ciborium_ll.specs.declared.header.Header.TheVariants as header
 use Rattle.ciborium_ll.specs.Header.{SpellsHeader}
-use Rattle.ciborium_ll.specs.Item as items
-use Rattle.ciborium_ll.specs.Item.{Item, unsigned, negative, bytes, text, array, tag, simple, float}
+use Rattle.ciborium_ll.specs.Item.{Item, simple}
 use Rattle.ciborium.proofs.Items.Due.{held-pending}
 use Rattle.ciborium_value.specs.Sources.{Fault, IsOutsideFault, RefusesToTell, TakesNothing, Tells}
-use Rattle.ciborium_value.specs.Taken.{is_null, is_null_simple}
+use Rattle.ciborium_value.specs.Taken.{is_null}
 use Rattle.ciborium.specs.declared.de.byte_source.ByteSource.{ByteSource}
 use Rattle.ciborium.specs.inner.ByteSources.{IsUnread, StandsBefore, bytes_weight, items_due_behind, head_weight}
-use Rattle.ciborium.specs.inner.ByteSources.{weight_left, end_at, reader_of}
+use Rattle.ciborium.specs.inner.ByteSources.{weight_left, end_at, reader_of, tells_null}
 use Rattle.ciborium.specs.inner.FrontItems.{TakesHead, DeniesHead}
 use Rattle.ciborium.specs.inner.Unread.{IsRest}
-use Rattle.ciborium.proofs.Items.ItemHeads.{header_of, first-head, first-payload, same-head, by-shape}
+use Rattle.ciborium.proofs.Items.ItemHeads.{header_of, first-head, first-payload, same-head}
 use Rattle.ciborium.proofs.Items.TakenOnly.{IsKept, kept-reader, rest-end}
 
-pub null-simple : (h : Header) (n : ℕ) → h ≡ header.Simple n → (i : Item) → header_of i ≡ h →
-    is_null_simple n ≡ is_null i
-null-simple h n is i e = by i (e ∙ is)
+pub null-head : (h : Header) (i : Item) → header_of i ≡ h → tells_null h ≡ is_null i
+null-head h i e = subst (λ k. tells_null k ≡ is_null i) e (by i)
   where
-    by : (i : Item) → header_of i ≡ header.Simple n → is_null_simple n ≡ is_null i
-    by (unsigned m) e = cc
-    by (negative m) e = cc
-    by (bytes o b) e = cc
-    by (text o b) e = cc
-    by (array o b) e = cc
-    by (items.map o b) e = cc
-    by (tag t b) e = cc
-    by (simple m) e = let same : n ≡ m = cc in ap is_null_simple same
-    by (float raw) e = cc
-
-pub null-other : (h : Header) → ((n : ℕ) → h ≡ header.Simple n → ⊥) → (i : Item) → header_of i ≡ h → false ≡ is_null i
-null-other h p i e =
-    by-shape (λ j. false ≡ is_null j) h (λ n k. refl) (λ n k. refl) (λ o b k. refl) (λ o b k. refl) (λ o is k. refl)
-    (λ o ps k. refl) (λ n k. absurd (p n k)) (λ raw k. refl) (λ t j k. refl) i e
+    by : (i : Item) → tells_null (header_of i) ≡ is_null i
+    by (simple n) = refl
+    by _ = refl
 
 module _ {S : Type 0} (remaining : S → Option (List ℕ)) (old mid new : ByteSource S) (h : Header)
     (took : TakesHead (IsUnread remaining) old mid h)

@@ -104,14 +104,7 @@ same-head s r x y i h sp hd e =
 -- a break begins no item
 pub no-break-head : (i : Item) → header_of i ≡ header.Break → ⊥
 no-break-head (unsigned n) h = cc
-no-break-head (negative n) h = cc
-no-break-head (bytes o b) h = cc
-no-break-head (text o b) h = cc
-no-break-head (array o b) h = cc
-no-break-head (items.map o b) h = cc
-no-break-head (tag t b) h = cc
-no-break-head (simple n) h = cc
-no-break-head (float n) h = cc
+no-break-head _ h = cc
 
 -- behind the head of a tag its item stands
 pub tag-front : (s r x y : List ℕ) (i : Item) (t : ℕ) → Spells s i → SpellsHeader x (header.Tag t) → s ++ r ≡ x ++ y →
@@ -120,18 +113,11 @@ tag-front s r x y i t sp hd e = by i sp (same-head s r x y i (header.Tag t) sp h
   where
     by : (i : Item) → Spells s i → header_of i ≡ header.Tag t → (j : Item) × (c : List ℕ) × (i ≡ tag t j) × Spells c j ×
         (y ≡ c ++ r)
-    by (unsigned n) sp h = cc
-    by (negative n) sp h = cc
-    by (bytes o b) sp h = cc
-    by (text o b) sp h = cc
-    by (array o b) sp h = cc
-    by (items.map o b) sp h = cc
     by (tag u j) (a, c, k, sp, f) h =
         let o = one_header_at_front a x (c ++ r) y (header.Tag u) (header.Tag t) k hd
         (sym (append_assoc a c r) ∙ ap (λ (z : List ℕ). z ++ r) (sym f) ∙ e) in
         (j, c, (let n : u ≡ t = cc in ap (λ v. tag v j) n), sp, sym o.1)
-    by (simple n) sp h = cc
-    by (float n) sp h = cc
+    by _ sp h = cc
 
 -- ---- items in a row
 
@@ -158,19 +144,11 @@ counted-front s r x y i n sp hd e = by i sp (same-head s r x y i (header.Array (
   where
     by : (i : Item) → Spells s i → header_of i ≡ header.Array (Some n) → (is : Items) × (c : List ℕ) ×
         (i ≡ array false is) × AreSpelled Spells c (unpack is) × (length (unpack is) ≡ n) × (y ≡ c ++ r)
-    by (unsigned n) sp h = cc
-    by (negative n) sp h = cc
-    by (bytes o b) sp h = cc
-    by (text o b) sp h = cc
-    by (array true b) sp h = cc
     by (array false is) (c, k, (a, g, f)) h =
         let o = one_header_at_front a x (c ++ r) y (header.Array (Some (items_count is))) (header.Array (Some n)) g hd
         (sym (append_assoc a c r) ∙ ap (λ (z : List ℕ). z ++ r) (sym f) ∙ e) in
         (is, c, refl, unpacked c is k, unpacked-count is ∙ (let m : items_count is ≡ n = cc in m), sym o.1)
-    by (items.map o b) sp h = cc
-    by (tag u j) sp h = cc
-    by (simple n) sp h = cc
-    by (float n) sp h = cc
+    by _ sp h = cc
 
 -- behind the head of an open array its items stand, and the break
 pub open-front : (s r x y : List ℕ) (i : Item) → Spells s i → SpellsHeader x (header.Array None) → s ++ r ≡ x ++ y →
@@ -179,19 +157,11 @@ open-front s r x y i sp hd e = by i sp (same-head s r x y i (header.Array None) 
   where
     by : (i : Item) → Spells s i → header_of i ≡ header.Array None → (is : Items) × (c : List ℕ) × (i ≡ array true is) ×
         AreSpelled Spells c (unpack is) × (y ≡ c ++ (break_byte ∷ r))
-    by (unsigned n) sp h = cc
-    by (negative n) sp h = cc
-    by (bytes o b) sp h = cc
-    by (text o b) sp h = cc
-    by (array false b) sp h = cc
     by (array true is) (c, k, f) h =
         let o = one_header_at_front (open_byte 4 ∷ []) x ((c ++ (break_byte ∷ [])) ++ r) y (header.Array None)
         (header.Array None) refl hd (ap (λ (z : List ℕ). z ++ r) (sym f) ∙ e) in
         (is, c, refl, unpacked c is k, sym o.1 ∙ append_assoc c (break_byte ∷ []) r)
-    by (items.map o b) sp h = cc
-    by (tag u j) sp h = cc
-    by (simple n) sp h = cc
-    by (float n) sp h = cc
+    by _ sp h = cc
 
 -- ---- pairs in a row
 
@@ -225,19 +195,11 @@ counted-pairs-front s r x y i n sp hd e = by i sp (same-head s r x y i (header.M
     by : (i : Item) → Spells s i → header_of i ≡ header.Map (Some n) → (ps : Pairs) × (c : List ℕ) ×
         (i ≡ items.map false ps) × AreSpelled SpellsPair c (unpack_pairs ps) × (length (unpack_pairs ps) ≡ n) ×
         (y ≡ c ++ r)
-    by (unsigned n) sp h = cc
-    by (negative n) sp h = cc
-    by (bytes o b) sp h = cc
-    by (text o b) sp h = cc
-    by (array o b) sp h = cc
-    by (items.map true b) sp h = cc
     by (items.map false ps) (c, k, (a, g, f)) h =
         let o = one_header_at_front a x (c ++ r) y (header.Map (Some (pairs_count ps))) (header.Map (Some n)) g hd
         (sym (append_assoc a c r) ∙ ap (λ (z : List ℕ). z ++ r) (sym f) ∙ e) in
         (ps, c, refl, unpacked-pairs c ps k, unpacked-pairs-count ps ∙ (let m : pairs_count ps ≡ n = cc in m), sym o.1)
-    by (tag u j) sp h = cc
-    by (simple n) sp h = cc
-    by (float n) sp h = cc
+    by _ sp h = cc
 
 -- behind the head of an open map its pairs stand, and the break
 pub open-pairs-front : (s r x y : List ℕ) (i : Item) → Spells s i → SpellsHeader x (header.Map None) → s ++ r ≡ x ++ y →
@@ -247,16 +209,8 @@ open-pairs-front s r x y i sp hd e = by i sp (same-head s r x y i (header.Map No
   where
     by : (i : Item) → Spells s i → header_of i ≡ header.Map None → (ps : Pairs) × (c : List ℕ) ×
         (i ≡ items.map true ps) × AreSpelled SpellsPair c (unpack_pairs ps) × (y ≡ c ++ (break_byte ∷ r))
-    by (unsigned n) sp h = cc
-    by (negative n) sp h = cc
-    by (bytes o b) sp h = cc
-    by (text o b) sp h = cc
-    by (array o b) sp h = cc
-    by (items.map false b) sp h = cc
     by (items.map true ps) (c, k, f) h =
         let o = one_header_at_front (open_byte 5 ∷ []) x ((c ++ (break_byte ∷ [])) ++ r) y (header.Map None)
         (header.Map None) refl hd (ap (λ (z : List ℕ). z ++ r) (sym f) ∙ e) in
         (ps, c, refl, unpacked-pairs c ps k, sym o.1 ∙ append_assoc c (break_byte ∷ []) r)
-    by (tag u j) sp h = cc
-    by (simple n) sp h = cc
-    by (float n) sp h = cc
+    by _ sp h = cc

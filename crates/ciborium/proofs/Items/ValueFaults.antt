@@ -214,15 +214,8 @@ float-only x b s z (simple n) (inr (a, c, g)) e lo hi = let k = same-first x 248
 float-only x b s z (float raw) sp e lo hi = (raw, refl)
 
 simple-only : (i : Item) (n : ℕ) → header_of i ≡ header.Simple n → i ≡ simple n
-simple-only (unsigned m) n e = cc
-simple-only (negative m) n e = cc
-simple-only (bytes o b) n e = cc
-simple-only (text o b) n e = cc
-simple-only (array o is) n e = cc
-simple-only (items.map o ps) n e = cc
-simple-only (tag t i) n e = cc
 simple-only (simple m) n e = let k : m ≡ n = cc in ap simple k
-simple-only (float raw) n e = cc
+simple-only _ n e = cc
 
 -- ---- containers
 
@@ -278,8 +271,7 @@ holds-of (array false js) w x r s z (c, k, (a, g, f)) hd e o =
       end = [];
       spelled = k;
       split = sym one.1;
-      all =
-          subst (λ d. IsAll d js []) (sym o) (refl, refl);
+      all = subst (λ d. IsAll d js []) (sym o) (refl, refl);
       holds = refl;
     }
 holds-of (array true js) w x r s z (c, k, f) hd e o =
@@ -305,8 +297,7 @@ holds-of (items.map false ps) w x r s z (c, k, (a, g, f)) hd e o =
       end = [];
       spelled = flat-Spells ps c k;
       split = sym one.1;
-      all =
-          subst (λ d. IsAll d (flat ps) []) (sym o) (flat-count ps, refl);
+      all = subst (λ d. IsAll d (flat ps) []) (sym o) (flat-count ps, refl);
       holds = refl;
     }
 holds-of (items.map true ps) w x r s z (c, k, f) hd e o =
@@ -402,10 +393,6 @@ flat-faults end of_length l ps b = b
 
 container-faults : (end : ℕ) (i : Item) (is : Items) (f : Fault) (l m : Limit) → IsContainer i is → IsOneLess l m →
     IsFaultOf end f (taken_items m is) → IsFaultOf end f (taken_value l i)
-container-faults end (unsigned n) is f l m h one b = absurd h
-container-faults end (negative n) is f l m h one b = absurd h
-container-faults end (bytes o p) is f l m h one b = absurd h
-container-faults end (text o p) is f l m h one b = absurd h
 container-faults end (array o js) is f l m h one b = level-faults end f l m
     (λ k. outcome_map trees.array (taken_items k js)) one
     (fault_map end f trees.array (taken_items m js) (subst (λ ks. IsFaultOf end f (taken_items m ks)) (sym h) b))
@@ -413,20 +400,12 @@ container-faults end (items.map o ps) is f l m h one b =
     level-faults end f l m (λ k. outcome_map trees.map (taken_tree_pairs k ps)) one
     (fault_map end f trees.map (taken_tree_pairs m ps)
     (flat-faults end f m ps (subst (λ ks. IsFaultOf end f (taken_items m ks)) (sym h) b)))
-container-faults end (tag t i) is f l m h one b = absurd h
-container-faults end (simple n) is f l m h one b = absurd h
-container-faults end (float raw) is f l m h one b = absurd h
+container-faults end _ is f l m h one b = absurd h
 
 container-nests : (i : Item) (is : Items) → IsContainer i is → taken_value (Some 0) i ≡ nests
-container-nests (unsigned n) is h = absurd h
-container-nests (negative n) is h = absurd h
-container-nests (bytes o p) is h = absurd h
-container-nests (text o p) is h = absurd h
 container-nests (array o js) is h = refl
 container-nests (items.map o ps) is h = refl
-container-nests (tag t i) is h = absurd h
-container-nests (simple n) is h = absurd h
-container-nests (float raw) is h = absurd h
+container-nests _ is h = absurd h
 
 all-next : (w : Due) (i : Item) (is : Items) (end : List ℕ) → IsAll w (item i is) end → IsAll (next_due w) is end
 all-next (exactly n) i is end (e, f) = (omega (arith, e), f)

@@ -59,10 +59,6 @@ tag-gives t None c n l w v h k rec = container-gives (trees.tag t) c n l w v h k
 mutual
   pub value-gives : (i : Item) (l : Limit) (v : Tree) → meaning i ≡ Some v → IsWithin l (nesting i) →
       taken_value l i ≡ gives v
-  value-gives (items.unsigned n) l v h k = cc
-  value-gives (items.negative n) l v h k = cc
-  value-gives (items.bytes o b) l v h k = cc
-  value-gives (items.text o b) l v h k = cc
   value-gives (items.array o is) l v h k = container-gives trees.array (items_meaning is) (items_nesting is) l
       (λ m. taken_items m is) v h k (λ m a. values-give is m a)
   value-gives (items.map o ps) l v h k = container-gives trees.map (pairs_meaning ps) (pairs_nesting ps) l
@@ -70,7 +66,7 @@ mutual
   value-gives (items.tag t i) l v h k = tag-gives t (folding_bytes t i) (meaning i) (nesting i) l (λ m. taken_value m i)
       v h k (λ m a. value-gives i m a)
   value-gives (items.simple n) l v h k = ap (of_meaning kinds.Simple) h
-  value-gives (items.float raw) l v h k = cc
+  value-gives _ l v h k = cc
 
   values-give : (is : Items) (l : Limit) (vs : Trees) → items_meaning is ≡ Some vs → IsWithin l (items_nesting is) →
       taken_items l is ≡ gives vs

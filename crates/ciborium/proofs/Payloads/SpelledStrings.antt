@@ -2,7 +2,10 @@
 use Rattle.std.proofs.Common.{◌≡◌, ℕ, ◌+◌, List, [], ◌∷◌, ◌++◌, length, take, drop, Option, Some, None, refl, sym, ap}
 use Rattle.std.proofs.Common.{◌∙◌, subst, append_assoc, inl, inr, ◌<◌, arith, length-append}
 use Rattle.std.proofs.Math.Seq.{take-append_seam, drop-append_seam}
+use Rattle.ciborium_ll.specs.declared.decoder.Decoder.{Decoder}
+use Rattle.ciborium_ll.specs.declared.header.Header.{Header}
 use Rattle.ciborium_ll.specs.declared.header.Header.TheVariants as header
+use Rattle.ciborium_ll.specs.Decoding.{left_of}
 use Rattle.ciborium_ll.specs.declared.header.Error.{Error as LlError}
 use Rattle.ciborium_ll.specs.declared.header.Error.TheVariants as ll
 use Rattle.ciborium_ll.specs.Bytes.{greatest_offset}
@@ -17,7 +20,8 @@ use Rattle.ciborium_ll.proofs.OneHeader.{one_header_at_front}
 use Rattle.ciborium_value.specs.Sources.{IsOutsideFault}
 use Rattle.ciborium.specs.Errors.{fault_of}
 use Rattle.ciborium.specs.Errors.{from_ll}
-use Rattle.ciborium.specs.inner.StringContents.{head_of, string_item}
+use Rattle.ciborium.specs.inner.ByteSources.{IsUnreadBy, known_end}
+use Rattle.ciborium.specs.inner.StringContents.{DeniesContent, head_of, string_item}
 use Rattle.ciborium.proofs.Items.FrontReads.{head-passes, never-syntax}
 
 -- ---- one head, and behind it one payload
@@ -232,7 +236,7 @@ content-long kind None p q y x s z payload hd sp e (good, ps, r, parts, room, sp
     let size : length y ≡ length good + length r = ap length split ∙ length-append good r in
     omega (arith, long, size)
 
-pub content-outside : {E : Type 0} (left : Option (List ℕ)) (e : LlError E) (kind : StringKind) (len : Option ℕ)
+content-outside : {E : Type 0} (left : Option (List ℕ)) (e : LlError E) (kind : StringKind) (len : Option ℕ)
     (p q : ℕ) (y x s z payload : List ℕ) → SpellsHeader x (head_of kind len) → Spells s (string_item kind len payload) →
     x ++ y ≡ s ++ z →
     reading.IsRefusalOf left e (ContentRefuses kind len p y q) → IsOutsideFault (q + length y) (fault_of (from_ll e))
@@ -242,3 +246,15 @@ content-outside left (ll.Syntax at) kind len p q y x s z payload hd sp f r =
 content-outside left ll.TooLong kind len p q y x s z payload hd sp f r =
     content-long kind len p q y x s z payload hd sp f r
 content-outside left ll.Memory kind len p q y x s z payload hd sp f r = tt
+
+-- the payload of a string whose head was taken is refused for what no string decides
+pub content-denied : {S E : Type 0} (remaining : S → Option (List ℕ)) (d e : Decoder S) (pending : Option (Header × ℕ))
+    (x : LlError E) (kind : StringKind) (len : Option ℕ) → pending ≡ None →
+    ((y : List ℕ) → left_of remaining d ≡ Some y →
+    reading.IsRefusalOf (left_of remaining e) x (ContentRefuses kind len d.last y d.window.count)) →
+    DeniesContent (IsUnreadBy remaining d pending) (known_end (left_of remaining d) d.window.count) kind len
+    (fault_of (from_ll x))
+content-denied remaining d e pending x kind len none refused y b s z payload u hd sp split =
+    let left = subst (λ o. IsUnreadBy remaining d o y) none u in
+    subst (λ n. IsOutsideFault n (fault_of (from_ll x))) (sym (ap (λ o. known_end o d.window.count) left))
+    (content-outside (left_of remaining e) x kind len d.last d.window.count y b s z payload hd sp split (refused y left))

@@ -7,8 +7,7 @@ use Rattle.ciborium_ll.specs.declared.decoder.Decoder.{Decoder}
 use Rattle.ciborium_ll.specs.Bytes.{greatest_offset}
 use Rattle.ciborium_ll.specs.Decoding.{Takes, left_of}
 use Rattle.ciborium_ll.specs.Head.{IsHead, open_byte, break_byte}
-use Rattle.ciborium_ll.specs.Item as items
-use Rattle.ciborium_ll.specs.Item.{Item, unsigned, negative, bytes, text, array, tag, simple, float}
+use Rattle.ciborium_ll.specs.Item.{Item, bytes, text}
 use Rattle.ciborium_ll.specs.Spells.{Spells, AreChunks, joined}
 use Rattle.ciborium_ll.specs.StringRefusal.{StringKind, of_bytes, of_text, string_major, IsAllowed}
 use Rattle.ciborium_ll.specs.Strings.{IsStringTaken}
@@ -66,30 +65,11 @@ content-taken E remaining d e pending kind len start out none empty (b, takes, c
 -- an item that begins with the head of a string is a string
 pub string-only : (kind : StringKind) (len : Option ℕ) (i : Item) → header_of i ≡ head_of kind len →
     (payload : List ℕ) × (i ≡ string_item kind len payload)
-string-only of_bytes len (unsigned n) e = cc
-string-only of_bytes len (negative n) e = cc
 string-only of_bytes (Some n) (bytes false b) e = (b, refl)
-string-only of_bytes (Some n) (bytes true b) e = cc
-string-only of_bytes None (bytes false b) e = cc
 string-only of_bytes None (bytes true b) e = (b, refl)
-string-only of_bytes len (text o b) e = cc
-string-only of_bytes len (array o b) e = cc
-string-only of_bytes len (items.map o b) e = cc
-string-only of_bytes len (tag t i) e = cc
-string-only of_bytes len (simple n) e = cc
-string-only of_bytes len (float raw) e = cc
-string-only of_text len (unsigned n) e = cc
-string-only of_text len (negative n) e = cc
-string-only of_text len (bytes o b) e = cc
 string-only of_text (Some n) (text false b) e = (b, refl)
-string-only of_text (Some n) (text true b) e = cc
-string-only of_text None (text false b) e = cc
 string-only of_text None (text true b) e = (b, refl)
-string-only of_text len (array o b) e = cc
-string-only of_text len (items.map o b) e = cc
-string-only of_text len (tag t i) e = cc
-string-only of_text len (simple n) e = cc
-string-only of_text len (float raw) e = cc
+string-only _ _ _ e = cc
 
 -- a string whose payload is refused stands in no item
 pub denies-content : {S : Type 0} (IsUnread : S → List ℕ → Type 0) (End : S → ℕ) (numbers : Bool) (old mid : S)

@@ -1,9 +1,9 @@
 -- From a source that was begun on a lent reader to the reader.
 use Rattle.std.proofs.Common.{◌≡◌, ℕ, ◌+◌, ◌≤◌, List, ◌++◌, Option, Some, None, Result, Ok, Err, IfOk, IfErr, IfSome}
-use Rattle.std.proofs.Common.{OnOk, refl, sym, ap, ◌∙◌, subst, arith}
+use Rattle.std.proofs.Common.{OnOk, length, refl, sym, ap, ◌∙◌, subst, arith}
 use Rattle.std.specs.Io.KnownBytes.{Consumes}
 use Rattle.ciborium_ll.specs.Decoding.{HasBegun, IsAheadBy, with_left, left_of, allowed_of}
-use Rattle.ciborium_ll.proofs.HeldBytes.{begun-left, counted-left}
+use Rattle.ciborium_ll.proofs.HeldBytes.{begun-left, counted-left, nothing-allowed}
 use Rattle.ciborium_value.specs.Ahead.{bottom}
 use Rattle.ciborium_value.specs.Readings.{Reading}
 use Rattle.ciborium_value.specs.Sources.{Fault, RefusesAhead, TakesAhead, TakesItem, read_as}
@@ -13,11 +13,12 @@ use Rattle.ciborium.specs.declared.de.byte_source.ByteSource.{ByteSource}
 use Rattle.ciborium.specs.declared.de.error.Error.{Error}
 use Rattle.ciborium.specs.ValueAnswers.{TakesBytes, TakesBytesFrom}
 use Rattle.ciborium.specs.inner.ByteSources.{IsUnread, IsUnreadBy, ReadsValue, StandsBefore, end_at, pending_count}
-use Rattle.ciborium.specs.inner.ByteSources.{reader_of}
+use Rattle.ciborium.specs.inner.ByteSources.{known_end, reader_of}
 use Rattle.ciborium.specs.Errors.{fault_of}
 use Rattle.ciborium.specs.NextItems.{IsReadFrom}
-use Rattle.ciborium.specs.TypedAnswers.{IsFaultAhead, TakesGiving}
+use Rattle.ciborium.specs.TypedAnswers.{IsFaultAhead, ReadsAsType, TakesGiving}
 use Rattle.ciborium.specs.Spelling.{any}
+use Rattle.ciborium.proofs.Items.TakenOnly.{taken-beginning, taken-none}
 use Rattle.ciborium.proofs.Readers.WhateverFollows.{leaves-name, leaves-rest, taken-tree}
 
 module _ {S A : Type 0} (remaining : S → Option (List ℕ)) (old : ByteSource S) (taken : Taken A) (b : List ℕ)
@@ -99,14 +100,10 @@ handed-from E {S} remaining old new lent x p r begins none back reads =
       bytes,
     )
 
-pub handed-whole : (E : Type 0) {S : Type 0} (remaining : S → Option (List ℕ)) (old new : ByteSource S) (lent x : S)
-    (r : Result Tree (Error E)) → HasBegun old.decoder lent 0 → old.pending ≡ None →
-    (old.decoder.reader.ghost_name ≡ new.decoder.reader.ghost_name → x ≡ new.decoder.reader.now) →
-    ReadsValue remaining old new r →
-    TakesBytes {E = E} any (remaining lent) old.levels (remaining x) r
-handed-whole E remaining old new lent x r begins none back reads =
-    let (s, consumes, fits, taken, bytes) = handed-from E remaining old new lent x 0 r begins none back reads in
-    (s, consumes, omega (arith, fits), taken, bytes)
+-- from offset 0 on
+pub from-first : (E : Type 0) (before : Option (List ℕ)) (l : ℕ) (after : Option (List ℕ)) (r : Result Tree (Error E)) →
+    TakesBytesFrom {E = E} any 0 before l after r → TakesBytes {E = E} any before l after r
+from-first E before l after r (s, consumes, fits, taken, bytes) = (s, consumes, omega (arith, fits), taken, bytes)
 
 pub err-map : {T E : Type 0} {P Q : E → Type 0} (r : Result T E) → IfErr r P → ((v : E) → P v → Q v) → IfErr r Q
 err-map (Ok v) p f = tt
@@ -115,3 +112,30 @@ err-map (Err e) p f = f e p
 pub some-map : {A : Type 0} {P Q : A → Type 0} (o : Option A) → IfSome o P → ((v : A) → P v → Q v) → IfSome o Q
 some-map (Some v) p f = f v p
 some-map None p f = tt
+
+-- all that a call says that reads one value from a source of its own
+pub handed-all : {S T A : Type 0} (E : Type 0) (remaining : S → Option (List ℕ)) (reading : Reading T A)
+    (old new : ByteSource S) (lent x : S) (p : ℕ) → HasBegun old.decoder lent p → old.pending ≡ None →
+    (old.decoder.reader.ghost_name ≡ new.decoder.reader.ghost_name → x ≡ new.decoder.reader.now) →
+    (r : Result T (Error E)) → IsReadFrom {E = E} remaining reading old new r →
+    ReadsAsType {E = E} p (Some old.levels) reading (remaining lent) (remaining x)
+    (TakesBytesFrom any p (remaining lent) old.levels (remaining x)) r
+handed-all E remaining reading old new lent x p begins none back r h =
+    let front : (b : List ℕ) → remaining lent ≡ Some b → IsUnread remaining old b =
+    λ b e. subst (λ o. IsUnreadBy remaining old.decoder o b) (sym none)
+    (begun-left remaining old.decoder lent p begins ∙ e) in
+    let few : allowed_of old.decoder + pending_count old.pending ≤ 1 =
+    let allowed = nothing-allowed old.decoder begins.nothing in
+    let pending : pending_count old.pending ≡ pending_count None = ap pending_count none in
+    omega (arith, allowed, pending) in
+    record {
+      ok = λ b e. handed-given E remaining reading old new b (front b e) few x back r h;
+      refused = λ b e. handed-denied E remaining reading old new b (p + length b) (front b e) few
+          (ap (λ o. known_end o old.decoder.window.count) (begun-left remaining old.decoder lent p begins ∙ e) ∙
+          ap (λ n. n + length b) begins.count) r h;
+      memory = h.memory;
+      taken = taken-beginning remaining old.decoder new.decoder lent x p begins back
+          (h.only old (taken-none remaining old.decoder));
+      value = some-map reading.whole h.whole (λ tree reads. handed-from E remaining old new lent x p
+          (read_as (λ v. tree (reading.content v)) r) begins none back reads);
+    }

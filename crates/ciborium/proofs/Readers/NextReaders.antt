@@ -1,6 +1,6 @@
 -- From the head that was pulled first, and what is read behind it, to the reader of a sequence.
 use Rattle.std.proofs.Common.{◌≡◌, ℕ, ◌+◌, ◌<◌, ◌≤◌, List, [], ◌++◌, length, Option, Some, None, Result, Ok, Err}
-use Rattle.std.proofs.Common.{IfNone, IfSome, refl, sym, ap, ◌∙◌, subst, append_assoc, arith, length-append}
+use Rattle.std.proofs.Common.{Bool, IfErr, IfNone, IfSome, refl, sym, ap, ◌∙◌, subst, append_assoc, arith, length-append}
 use Rattle.std.specs.Io.KnownBytes.{Consumes, IsAtEnd}
 use Rattle.std.proofs.KnownBytes.{Consumes-trans}
 use Rattle.std.proofs.lemmas.List.Elements.{All-append}
@@ -14,20 +14,21 @@ use Rattle.ciborium_ll.specs.FirstHeads.{IsEndOrFault, IsFirstTaken}
 use Rattle.ciborium_ll.specs.ReaderSteps.{Advances, IsHeadTaken}
 use Rattle.ciborium_ll.specs.Refusal.{HeadRefuses, IsUsable}
 use Rattle.ciborium_ll.proofs.Unread.{reads-head}
-use Rattle.ciborium_ll.proofs.HeldBytes.{begun-count, begun-left, begun-rest}
+use Rattle.ciborium_ll.proofs.HeldBytes.{begun-count, begun-left, begun-rest, same-name}
 use Rattle.ciborium_value.specs.Readings.{Reading}
 use Rattle.ciborium_value.specs.Refuses.{Refuses}
-use Rattle.ciborium_value.specs.Sources.{IsOutsideFault, read_as}
+use Rattle.ciborium_value.specs.Sources.{IsGrantedFault, IsOutsideFault, TakesOnly, read_as}
 use Rattle.ciborium_value.specs.Taken.{Taken}
 use Rattle.ciborium_value.specs.Tree.{Tree}
 use Rattle.ciborium_value.proofs.Sources.Sequences.{fault_outside}
 use Rattle.ciborium.specs.declared.de.byte_source.ByteSource.{ByteSource}
 use Rattle.ciborium.specs.declared.de.error.Error.{Error}
 use Rattle.ciborium.specs.ValueAnswers.{ReadsWhole, TakesBytes}
-use Rattle.ciborium.specs.inner.ByteSources.{IsUnread, ReadsValue}
+use Rattle.ciborium.specs.inner.ByteSources.{HasTakenSince, IsUnread, ReadsValue}
 use Rattle.ciborium.specs.Errors.{fault_of}
 use Rattle.ciborium.specs.Errors.{from_ll}
-use Rattle.ciborium.specs.NextItems.{IfNotEnded, IsReadIo, IsReadFrom, Otherwise, TellsEnd, behind_head}
+use Rattle.ciborium.specs.NextItems.{IfNotEnded, IsReadIo, IsReadFrom, Otherwise, ReadsNextAsType, TellsEnd}
+use Rattle.ciborium.specs.NextItems.{behind_head}
 use Rattle.ciborium.specs.TypedAnswers.{IsFaultAhead, RefusesTaken, TakesGiven}
 use Rattle.ciborium.specs.Spelling.{any}
 use Rattle.ciborium.proofs.Items.FrontReads.{head-outside}
@@ -35,7 +36,7 @@ use Rattle.ciborium.proofs.Readers.HandedReaders.{handed-denied, handed-given, o
 use Rattle.ciborium.proofs.Items.ItemHeads.{first-head, first-payload, header_of}
 use Rattle.ciborium.proofs.Readers.KnownReaders.{whole-of}
 use Rattle.ciborium.proofs.Turns.Pulled.{refused-from, refused-map}
-use Rattle.ciborium.proofs.Items.TakenOnly.{takes-end}
+use Rattle.ciborium.proofs.Items.TakenOnly.{taken-beginning, taken-none, taken-then, takes-end, takes-only}
 use Rattle.ciborium.proofs.Readers.WhateverFollows.{leaves-name, leaves-rest, leaves-then, taken-tree}
 
 -- what an answer says where none is the end
@@ -129,7 +130,7 @@ module _ {S T A : Type 0} (E : Type 0) (remaining : S → Option (List ℕ)) (re
   First first = Takes remaining d s.decoder (λ b. IsFirstTaken {E = E} b d.window.count (Ok first))
 
   module _ (back : s.decoder.reader.ghost_name ≡ t.decoder.reader.ghost_name → x ≡ t.decoder.reader.now) where
-    pub tells-end : (first : Option Header) (r : Result (Option T) (Error E)) → First first →
+    tells-end : (first : Option Header) (r : Result (Option T) (Error E)) → First first →
         IfNone first (IsAtEnd (left_of remaining s.decoder)) →
         (left_of remaining d ≡ Some [] → IsEndOrFault {E = E} (Ok first)) → End first r → Behind first r →
         TellsEnd {E = E} (remaining lent) (remaining x) r
@@ -151,7 +152,7 @@ module _ {S T A : Type 0} (E : Type 0) (remaining : S → Option (List ℕ)) (re
     tells-end (Some h) (Err e) taken end empty none item =
         λ known. absurd (empty (begun-left remaining d lent 0 begins ∙ known))
 
-    pub next-ok : (first : Option Header) (r : Result (Option T) (Error E)) → First first → End first r →
+    next-ok : (first : Option Header) (r : Result (Option T) (Error E)) → First first → End first r →
         Behind first r →
         Otherwise r (λ q. TakesGiven (Some s.levels) reading.taken (remaining lent) (remaining x)
         (read_as reading.content q))
@@ -162,7 +163,7 @@ module _ {S T A : Type 0} (E : Type 0) (remaining : S → Option (List ℕ)) (re
         (front E remaining d s lent begins kept h taken b known) few x back (Ok v) item
     next-ok (Some h) (Err e) taken none item = λ b known. tt
 
-    pub next-value : (first : Option Header) (r : Result (Option T) (Error E)) → First first → End first r →
+    next-value : (first : Option Header) (r : Result (Option T) (Error E)) → First first → End first r →
         Behind first r →
         Otherwise r (λ q. IfSome reading.whole (λ tree. ReadsWhole any (remaining lent) s.levels (remaining x)
         (read_as (λ v. tree (reading.content v)) q)))
@@ -178,7 +179,7 @@ module _ {S T A : Type 0} (E : Type 0) (remaining : S → Option (List ℕ)) (re
         some-map reading.whole item.whole (λ tree reads. whole-of {E = E} any s.levels (remaining lent) (remaining x)
         (Err e) (joined E remaining d s lent begins kept h taken t x (Err e) back reads))
 
-  pub next-refused : (first : Option Header) (r : Result (Option T) (Error E)) → First first → End first r →
+  next-refused : (first : Option Header) (r : Result (Option T) (Error E)) → First first → End first r →
       Behind first r → Otherwise r (λ q. RefusesTaken 0 (Some s.levels) reading.taken (remaining lent)
       (read_as reading.content q))
   next-refused None r taken (is, same) item = end-says r
@@ -190,9 +191,47 @@ module _ {S T A : Type 0} (E : Type 0) (remaining : S → Option (List ℕ)) (re
       (takes-end remaining d s.decoder _ b (begun-left remaining d lent 0 begins ∙ known) taken ∙
       ap (λ n. n + length b) begins.count) (Err e) item
 
+  next-memory : (first : Option Header) (r : Result (Option T) (Error E)) → End first r → Behind first r →
+      IfErr r (λ e. IsGrantedFault (fault_of e) reading.needs_memory)
+  next-memory None r (is, same) item =
+      subst (λ q. IfErr q (λ e. IsGrantedFault (fault_of e) reading.needs_memory)) (sym is) tt
+  next-memory (Some h) (Ok v) none item = tt
+  next-memory (Some h) (Err e) none item = item.memory
+
+  -- all of it
+  pub reads-next : (s.decoder.reader.ghost_name ≡ t.decoder.reader.ghost_name → x ≡ t.decoder.reader.now) →
+      TakesOnly (HasTakenSince remaining) s t → (first : Option Header) (r : Result (Option T) (Error E)) →
+      First first → IfNone first (IsAtEnd (left_of remaining s.decoder)) →
+      (left_of remaining d ≡ Some [] → IsEndOrFault {E = E} (Ok first)) → End first r → Behind first r →
+      ReadsNextAsType s.levels reading (remaining lent) (remaining x) r
+  reads-next back only first r taken end empty none item =
+      let same = same-name d s.decoder kept in record {
+        end = tells-end back first r taken end empty none item;
+        ok = next-ok back first r taken none item;
+        refused = next-refused first r taken none item;
+        memory = next-memory first r none item;
+        taken = taken-beginning remaining d t.decoder lent x 0 begins (λ e. back (same ∙ e))
+            (taken-then remaining d s.decoder t.decoder
+            (takes-only remaining d s.decoder _ same taken d (taken-none remaining d))
+            (only s (taken-none remaining s.decoder)));
+        value = next-value back first r taken none item;
+      }
+
 -- ---- the first head was refused
 
-pub first-io : {E : Type 0} (e : LlError E) → first_heads.IsHeadIo e → IsReadIo (from_ll e)
+some-all : {A : Type 0} {P : A → Type 0} (o : Option A) → ((v : A) → P v) → IfSome o P
+some-all (Some v) f = f v
+some-all None f = tt
+
+-- never for want of memory
+first-granted : {E : Type 0} (x : LlError E) (b : List ℕ) (p : ℕ) (needs : Bool) → IsHeadTaken {E = E} b p (Err x) →
+    IsGrantedFault (fault_of (from_ll x)) needs
+first-granted ll.Memory b p needs h = absurd h.answers
+first-granted (ll.Io e) b p needs h = tt
+first-granted (ll.Syntax at) b p needs h = tt
+first-granted ll.TooLong b p needs h = tt
+
+first-io : {E : Type 0} (e : LlError E) → first_heads.IsHeadIo e → IsReadIo (from_ll e)
 first-io (ll.Io e) h = tt
 first-io (ll.Syntax p) h = h
 first-io ll.TooLong h = h
@@ -201,7 +240,7 @@ first-io ll.Memory h = h
 module _ {S : Type 0} (E : Type 0) (remaining : S → Option (List ℕ)) (d e : Decoder S) (lent : S)
     (begins : HasBegun d lent 0) (same : HasSameReader d e) (x : LlError E)
     (taken : Takes remaining d e (λ b. IsHeadTaken {E = E} b d.window.count (Err x))) where
-  pub first-denied : {A : Type 0} (l : Option ℕ) (given : Taken A) (b : List ℕ) → remaining lent ≡ Some b →
+  first-denied : {A : Type 0} (l : Option ℕ) (given : Taken A) (b : List ℕ) → remaining lent ≡ Some b →
       IsFaultAhead (0 + length b) l given b (fault_of (from_ll x))
   first-denied l given b known i s left spelled split =
       let (y, c, head, whole) = first-head s i spelled in
@@ -214,7 +253,7 @@ module _ {S : Type 0} (E : Type 0) (remaining : S → Option (List ℕ)) (d e : 
       (head-outside (left_of remaining e) x b y (c ++ left) d.window.count (header_of i) head
       (split ∙ ap (λ (z : List ℕ). z ++ left) whole ∙ append_assoc y c left) (omega (arith, there, more)) refused))
 
-  pub first-taken : (l : ℕ) (back : S) → back ≡ e.reader.now →
+  first-taken : (l : ℕ) (back : S) → back ≡ e.reader.now →
       TakesBytes {E = E} any (remaining lent) l (remaining back) (Err (from_ll x))
   first-taken l back given =
       let (b, consumed, count, head, bytes) = taken in
@@ -234,6 +273,17 @@ module _ {S : Type 0} (E : Type 0) (remaining : S → Option (List ℕ)) (d e : 
         bytes,
       )
 
-pub some-all : {A : Type 0} {P : A → Type 0} (o : Option A) → ((v : A) → P v) → IfSome o P
-some-all (Some v) f = f v
-some-all None f = tt
+  -- all of it
+  pub refuses-first : {T A : Type 0} (l : ℕ) (reading : Reading T A) (back : S) →
+      (left_of remaining d ≡ Some [] → first_heads.IsHeadIo x) → back ≡ e.reader.now →
+      ReadsNextAsType l reading (remaining lent) (remaining back) (Err (from_ll x))
+  refuses-first l reading back empty given = record {
+    end = λ known. first-io x (empty (begun-left remaining d lent 0 begins ∙ known));
+    ok = λ b known. tt;
+    refused = λ b known. first-denied (Some l) reading.taken b known;
+    memory = first-granted x taken.0 d.window.count reading.needs_memory taken.3;
+    taken = taken-beginning remaining d e lent back 0 begins (λ _. given)
+        (takes-only remaining d e _ (same-name d e same) taken d (taken-none remaining d));
+    value = some-all reading.whole (λ tree. whole-of {E = E} any l (remaining lent) (remaining back) (Err (from_ll x))
+        (first-taken l back given));
+  }

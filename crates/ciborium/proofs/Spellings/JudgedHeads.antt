@@ -48,8 +48,7 @@ short-head m n p xs h r size is usable split len none =
       usable = usable;
       argument = head-argument h m n is;
       split = split ∙ ap (λ (z : List ℕ). z ++ r) short;
-      at =
-          omega (arith, same);
+      at = omega (arith, same);
     }
 
 -- one that is longer

@@ -52,8 +52,7 @@ module _ (order : KeyOrder) where
       record {
         taken = shortest_head m n;
         read = ((sym bytes, canonical), flat, omega (arith, at, fits));
-        split =
-            short.split;
+        split = short.split;
         at = at;
       } in (
         a.1,
@@ -120,8 +119,7 @@ module _ (order : KeyOrder) where
         record {
           taken = a.0;
           read = ((sym s.0, s.1), omega (arith, flat), fits);
-          split =
-              u.split;
+          split = u.split;
           at = refl;
         },
         measured-at remaining d (p + length a.0) a.1 pushed a.6,

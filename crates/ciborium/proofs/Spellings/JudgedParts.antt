@@ -169,8 +169,7 @@ module _ (order : KeyOrder) where
         argument = head.argument;
         split = head.split;
         accepted = tt;
-        in_order =
-            none kind;
+        in_order = none kind;
         at = omega (arith, at);
         fits = fits;
       }

@@ -139,10 +139,8 @@ module _ (order : KeyOrder) where
             refl,
             record {
               proper = (head.argument, canonical.proper);
-              folds =
-                  ap (λ f. tag_meaning t f (folded v)) none-tree ∙ ap (λ o. tag_meaning t None o) canonical.folds;
-              rises =
-                  canonical.rises;
+              folds = ap (λ f. tag_meaning t f (folded v)) none-tree ∙ ap (λ o. tag_meaning t None o) canonical.folds;
+              rises = canonical.rises;
             },
           ),
           omega (arith, nests, deep),

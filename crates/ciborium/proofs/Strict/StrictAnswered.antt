@@ -236,8 +236,7 @@ module _ (order : KeyOrder) where
         argument = h.argument;
         split = h.split;
         accepted = tt;
-        in_order =
-            none-in_order kind;
+        in_order = none-in_order kind;
         at = omega (arith, at);
         fits = fits;
       } in

@@ -233,8 +233,7 @@ module _ (order : KeyOrder) where
         record {
           proper = (omega (arith, count, fits), a.0);
           folds = ap (option_map map) a.1;
-          rises =
-              (subst (AreRising order) (sym (keys-in vs n e)) o, a.2);
+          rises = (subst (AreRising order) (sym (keys-in vs n e)) o, a.2);
         },
         omega (arith, deep),
       )

@@ -99,8 +99,7 @@ tag-opened E remaining d e f t l at xs p k pushed pull other some here stays bac
     let tag : IsInTag xs p t a.1 r = record {
       size = length a.0;
       usable = a.3;
-      head =
-          stands remaining d t xs p a;
+      head = stands remaining d t xs p a;
       next_usable = b.3;
       folds_not = folds-not t k b.0 a.1 b.1 other b.2 b.4;
       at = refl;

@@ -44,11 +44,9 @@ due-opened (tag t) os = omega arith
 
 parts-opened : (o : TreeFrame) (os : List TreeFrame) → parts_due (o ∷ os) ≡ parts_due (o ∷ [])
 parts-opened (array vs (Some n)) os = refl
-parts-opened (array vs None) os = refl
 parts-opened (map ps (Some n) None) os = refl
 parts-opened (map ps (Some n) (Some k)) os = refl
-parts-opened (map ps None key) os = refl
-parts-opened (tag t) os = refl
+parts-opened _ os = refl
 
 same-open : (os us : List TreeFrame) → more us ≡ more os → os ≡ us
 same-open os us e = cc

@@ -201,9 +201,6 @@ folds-short t p never = by (is_bignum_tag t) (nat_le (length p) 16) never (leb-t
 
 pub folds-not : (t : ℕ) (zs taken us : List ℕ) (i : Item) → ¬ IsFoldingAt t zs → Spells taken i → zs ≡ taken ++ us →
     folding_bytes t i ≡ None
-folds-not t zs taken us (item.unsigned n) never s e = cond-nothing (is_bignum_tag t)
-folds-not t zs taken us (item.negative n) never s e = cond-nothing (is_bignum_tag t)
-folds-not t zs taken us (item.bytes true p) never s e = cond-nothing (is_bignum_tag t)
 folds-not t zs taken us (item.bytes false p) never (h, head, ok, is) e =
     folds-short t p (λ big small. never (
       big,
@@ -213,12 +210,7 @@ folds-not t zs taken us (item.bytes false p) never (h, head, ok, is) e =
       (h, head, refl, e ∙ ap (λ (z : List ℕ). z ++ us) is ∙ append_assoc h p us),
       small,
     ))
-folds-not t zs taken us (item.text o p) never s e = cond-nothing (is_bignum_tag t)
-folds-not t zs taken us (item.array o is) never s e = cond-nothing (is_bignum_tag t)
-folds-not t zs taken us (item.map o ps) never s e = cond-nothing (is_bignum_tag t)
-folds-not t zs taken us (item.tag n i) never s e = cond-nothing (is_bignum_tag t)
-folds-not t zs taken us (item.simple n) never s e = cond-nothing (is_bignum_tag t)
-folds-not t zs taken us (item.float p) never s e = cond-nothing (is_bignum_tag t)
+folds-not t zs taken us _ never s e = cond-nothing (is_bignum_tag t)
 
 tag-whole : (l : ℕ) (ys : List ℕ) (q t : ℕ) (v : Tree) (zs : List ℕ) (r : ℕ) (us : List ℕ) (s : ℕ) →
     IsInTag ys q t zs r → ReadsItem any l zs r v us s → ReadsItem any (suc l) ys q (trees.tag t v) us s

@@ -46,6 +46,11 @@ is_portable (header.Positive n) = true
 is_portable (header.Simple n) = is_null_simple n
 is_portable _ = false
 
+-- the head of null or undefined
+abbrev pub tells_null : Header → Bool
+tells_null (header.Simple n) = is_null_simple n
+tells_null _ = false
+
 -- the head with this spelling, at the front of b, was pulled: it is usable, and its bytes are
 -- counted
 abbrev pub IsHeadCounted : {S : Type 0} → Decoder S → Header × ℕ → List ℕ → List ℕ → Type 0

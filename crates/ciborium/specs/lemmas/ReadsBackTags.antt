@@ -31,18 +31,12 @@ untagged-either false v w h k = k
 pub met-untagged : (way : Way) (i : Item) → outer_tag i ≡ (None, i) →
     outer_tag (met way i) ≡ (None, met way i)
 met-untagged by_bytes i e = e
-met-untagged by_tree (items.unsigned n) e = refl
-met-untagged by_tree (items.negative n) e = refl
-met-untagged by_tree (items.bytes o b) e = refl
-met-untagged by_tree (items.text o b) e = refl
-met-untagged by_tree (items.array o is) e = refl
-met-untagged by_tree (items.map o ps) e = refl
 met-untagged by_tree (items.tag t i) e = let some : Some t ≡ None = ap (λ p. p.0) e in cc
 met-untagged by_tree (items.simple n) e =
     untagged-either (nat_lt n 21) (tree.boolean false)
     (if nat_lt n 22 then tree.boolean true else tree.null) refl
     (untagged-either (nat_lt n 22) (tree.boolean true) tree.null refl refl)
-met-untagged by_tree (items.float raw) e = refl
+met-untagged by_tree _ e = refl
 
 -- an item is read with its outermost tag, where what is under it is read with a level less
 under : {C : Type 0} (taken : Taken C) (o : Option ℕ) (i j : Item) (c : C) (n : ℕ) →
@@ -69,8 +63,7 @@ module _ {C : Type 0} {taken : Taken C} {c : C} {n : ℕ} where
   pub captured-back : (o : Option ℕ) {r : Named} → IsToldApart o r → IsNameRead r taken c n →
       IsNameRead (captured_of o r) (taken_with_tag taken) (o, c) (suc n)
   captured-back o {r = r} told h = record {
-    back =
-        λ way i e l fits. of_ok (captured_of o r)
+    back = λ way i e l fits. of_ok (captured_of o r)
         (λ j. taken_with_tag taken l (met way j) ≡ gives (o, c)) (named o r told h way l fits) i e;
   }
 

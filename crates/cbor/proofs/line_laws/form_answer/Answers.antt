@@ -8,8 +8,7 @@ returns c =
     let law : DeterministicLaw = record {
       one_of = said.one_of;
       never_both = said.never_both;
-      one_refusal =
-          said.one_refusal;
+      one_refusal = said.one_refusal;
       one_tree = said.one_tree;
     } in
     record { answered = is_form_answered law; one = one_form_answer law }

@@ -7,6 +7,5 @@ pub returns : goal.returns
 returns c = record {
   bytewise = is_order_of_trees Bytewise;
   total = ordered_value_cmp_total Bytewise;
-  ties =
-      ties_equal_ones Bytewise;
+  ties = ties_equal_ones Bytewise;
 }

@@ -7,6 +7,5 @@ pub returns : goal.returns
 returns c = record {
   canonical = is_order_of_trees LengthFirst;
   total = ordered_value_cmp_total LengthFirst;
-  ties =
-      ties_equal_ones LengthFirst;
+  ties = ties_equal_ones LengthFirst;
 }

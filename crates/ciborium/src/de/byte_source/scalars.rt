@@ -4,7 +4,7 @@ ghost use Rattle.std.specs.Prelude.{◌≡◌, ◌<◌, IfErr, IfSome, None, OnO
 ghost use Rattle.ciborium_value.specs.Sources.{IsGrantedFault, Tells};
 ghost use Rattle.ciborium_value.specs.Taken.{is_null_simple, taken_boolean, taken_unit};
 ghost use Rattle.ciborium.specs.inner.ByteSources.{StandsBefore, weight_left, AnswersItem};
-ghost use Rattle.ciborium.specs.inner.ByteSources.{KeepsSource};
+ghost use Rattle.ciborium.specs.inner.ByteSources.{KeepsSource, tells_null};
 ghost use Rattle.ciborium.specs.Errors.{fault_of};
 
 use crate::de::byte_source::ByteSource;
@@ -19,6 +19,17 @@ pub(crate) fn is_null(number: u8) -> bool
     ensures { result ≡ is_null_simple number }
 {
     number == simple::NULL || number == simple::UNDEFINED
+}
+
+/// Whether a head is that of null or undefined.
+#[inline(always)]
+pub(crate) fn is_null_head(header: &Header) -> bool
+    ensures { result ≡ tells_null header.now }
+{
+    match header {
+        Header::Simple(number) => is_null(*number),
+        _ => false,
+    }
 }
 
 // The head of null, and the first initial byte of the simple values (RFC 8949, section 3.3).

@@ -5,10 +5,9 @@ ghost use Rattle.ciborium.specs.inner.ByteSources.{ReadsValue, SeqStands, Stands
 ghost use Rattle.ciborium.specs.inner.ByteSources.{seq_left, weight_left};
 ghost use Rattle.ciborium.specs.Errors.{fault_of};
 
-use crate::de::byte_source::scalars::is_null;
+use crate::de::byte_source::scalars::is_null_head;
 use crate::de::byte_source::{ByteLevel, ByteSeq, ByteSource};
 use crate::de::error::{Error, Refusal};
-use ciborium_ll::Header;
 use ciborium_value::{Kind, Source, Value};
 use std::alloc::Global;
 use std::io::Read;
@@ -84,20 +83,9 @@ impl<'a, R: Read> Source for ByteSource<'a, R> {
             return Ok(answer);
         }
         let (header, offset) = self.next_head()?;
-        match header {
-            Header::Simple(number) => {
-                self.pending = Some((Header::Simple(number), offset));
-                Ok(is_null(number))
-            }
-            Header::Positive(n) => {
-                self.pending = Some((Header::Positive(n), offset));
-                Ok(false)
-            }
-            _ => {
-                self.pending = Some((header, offset));
-                Ok(false)
-            }
-        }
+        let answer = is_null_head(&header);
+        self.pending = Some((header, offset));
+        Ok(answer)
     }
 
     #[inline(always)]

@@ -5,6 +5,5 @@ pub returns : goal.returns
 returns c = record {
   spelled = header_bytes_spelled;
   none_shorter = no_spelling_is_shorter;
-  no_other =
-      no_other_spelling_is_as_short;
+  no_other = no_other_spelling_is_as_short;
 }

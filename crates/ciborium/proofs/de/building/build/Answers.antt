@@ -1,4 +1,4 @@
-use Rattle.std.proofs.Common.{◌∙◌, arith, ◌≤◌, ℕ, List, length, refl, rules, Some, Ok, Err, Result, Option, subst}
+use Rattle.std.proofs.Common.{◌∙◌, arith, ◌≤◌, ℕ, List, length, refl, rules, None, Some, Ok, Err, Result, Option, subst, ◌≡◌}
 use Rattle.std.proofs.Common.{MatchOption}
 use Rattle.std.proofs.lemmas.Result.{err_from_is_err_and}
 use Rattle.ciborium_ll.specs.declared.decoder.Decoder.{Decoder}
@@ -9,13 +9,12 @@ use Rattle.ciborium.specs.declared.de.error.Error.{Error}
 use Rattle.ciborium.specs.ValueAnswers.{IsReading, IsTurned}
 use Rattle.ciborium.specs.inner.ValuesInBytes.{StandsAt}
 use Rattle.ciborium.specs.Spelling.{Spelling}
-use Rattle.ciborium_ll.specs.Decoding.{with_left}
-use Rattle.ciborium_ll.specs.Decoding.{reach_of}
+use Rattle.ciborium_ll.specs.Decoding.{TakesBeforeAny, count_of, head_len_of, left_of, pushed_of, reach_of, with_left}
 use Rattle.ciborium_ll.proofs.HeldBytes.{same-name}
 use Rattle.ciborium.specs.inner.Due.{AllowsThen}
 use Rattle.ciborium.proofs.Turns.DueParts.{allowed-first, heads-same}
 use Rattle.ciborium.proofs.Turns.Turned.{begin}
-use Rattle.ciborium.proofs.Readers.WhateverFollows.{reading-moved, so-both, so-kept, so-unread}
+use Rattle.ciborium.proofs.Readers.WhateverFollows.{reading-moved, so-kept, so-then, so-unread}
 use Rattle.ciborium.proofs.de.building.build.Goals as goal
 
 -- reading has come so far
@@ -27,6 +26,22 @@ abbrev Turns : Spelling → List TreeFrame → List TreeFrame → ℕ → Result
     Decoder (List ℕ) → Type 0
 Turns spelling os us l x d e = (xs : List ℕ) (p : ℕ) → IsReading spelling Some d os l xs p →
     IsTurned spelling Some e us l xs p x
+
+-- a turn is taken, where the parts that are due were allowed before it
+turned : {S : Type 0} (remaining : S → Option (List ℕ)) (first before allowed after : Decoder S) (spelling : Spelling)
+    (os us : List TreeFrame) (l : ℕ) (x : Result (Option Value) (Error Unit)) →
+    pushed_of allowed ≡ pushed_of before → head_len_of allowed ≡ head_len_of before →
+    count_of allowed ≡ count_of before → left_of remaining allowed ≡ left_of remaining before →
+    TakesBeforeAny remaining first before (Reading spelling os l) →
+    TakesBeforeAny remaining allowed after (Turns spelling os us l x) →
+    TakesBeforeAny remaining first after (λ d e. (xs : List ℕ) (p : ℕ) → StandsAt spelling Some d xs p →
+    IsTurned spelling Some e us l xs p x)
+turned remaining first before allowed after spelling os us l x pushed measured count left reading turn =
+    so-then remaining first allowed after (Reading spelling os l) (Turns spelling os us l x)
+    (λ d e. (xs : List ℕ) (p : ℕ) → StandsAt spelling Some d xs p → IsTurned spelling Some e us l xs p x)
+    (λ u v w h k xs p s. k xs p (h xs p s))
+    (so-kept remaining first before allowed (Reading spelling os l) (Reading spelling os l) left count
+    (λ u v h xs p s. reading-moved before allowed v pushed count spelling os l xs p measured (h xs p s)) reading) turn
 
 pub turns-init : goal.turns-init
 turns-init g c = record {
@@ -55,27 +70,12 @@ turns-preserved g c = record {
     c.turns.invariant.fewer,
     heads-same c.turns.decoder c.allow_due.new.decoder c.allow_due.ensures.pushed c.allow_due.ensures.count,
   );
-  reading = (
-      let t = so-both g.R.Read.remaining c.args.decoder.now c.allow_due.new.decoder c.turn.new.decoder
-      (Reading g.S.Rules.spelling (frames_of c.turns.stack) c.args.levels)
-      (Turns g.S.Rules.spelling (frames_of c.turns.stack) (frames_of c.turn.new.stack) c.args.levels
-      (Ok c.in_ok-value.field-0))
-      (so-kept g.R.Read.remaining c.args.decoder.now c.turns.decoder c.allow_due.new.decoder
-      (Reading g.S.Rules.spelling (frames_of c.turns.stack) c.args.levels)
-      (Reading g.S.Rules.spelling (frames_of c.turns.stack) c.args.levels) c.allow_due.ensures.unread
-      c.allow_due.ensures.count
-      (λ u v h xs p s. reading-moved c.turns.decoder c.allow_due.new.decoder v c.allow_due.ensures.pushed
-      c.allow_due.ensures.count g.S.Rules.spelling (frames_of c.turns.stack) c.args.levels xs p
-      c.allow_due.ensures.head_len (h xs p s)) c.turns.invariant.reading) c.in_ok-value.ensures.turn in (
-        t.0,
-        t.1,
-        t.2,
-        λ z xs p s. let m = t.3 z in
-            subst (λ o. IsTurned {E = Unit} g.S.Rules.spelling Some (with_left c.turn.new.decoder z)
-            (frames_of c.turn.new.stack) c.args.levels xs p (Ok o)) c.in_default.is (m.2 xs p (m.1 xs p s)),
-        t.4,
-      )
-      );
+  reading = turned g.R.Read.remaining c.args.decoder.now c.turns.decoder c.allow_due.new.decoder c.turn.new.decoder
+      g.S.Rules.spelling (frames_of c.turns.stack) (frames_of c.turn.new.stack) c.args.levels (Ok None)
+      c.allow_due.ensures.pushed c.allow_due.ensures.head_len c.allow_due.ensures.count c.allow_due.ensures.unread
+      c.turns.invariant.reading (subst (λ o. TakesBeforeAny g.R.Read.remaining c.allow_due.new.decoder c.turn.new.decoder
+      (Turns g.S.Rules.spelling (frames_of c.turns.stack) (frames_of c.turn.new.stack) c.args.levels (Ok o))) c.in_default.is
+      c.in_ok-value.ensures.turn);
 }
 
 pub returns-in-Some-clause-due : goal.returns-in-Some-clause-due
@@ -86,38 +86,17 @@ returns-in-Some-clause-due g c =
 
 pub returns-in-Some-clause-value : goal.returns-in-Some-clause-value
 returns-in-Some-clause-value g c =
-    let t = so-both g.R.Read.remaining c.args.decoder.now c.allow_due.new.decoder c.turn.new.decoder
-    (Reading g.S.Rules.spelling (frames_of c.turns.stack) c.args.levels)
-    (Turns g.S.Rules.spelling (frames_of c.turns.stack) (frames_of c.turn.new.stack) c.args.levels
-    (Ok c.in_ok-value.field-0))
-    (so-kept g.R.Read.remaining c.args.decoder.now c.turns.decoder c.allow_due.new.decoder
-    (Reading g.S.Rules.spelling (frames_of c.turns.stack) c.args.levels)
-    (Reading g.S.Rules.spelling (frames_of c.turns.stack) c.args.levels) c.allow_due.ensures.unread
-    c.allow_due.ensures.count
-    (λ u v h xs p s. reading-moved c.turns.decoder c.allow_due.new.decoder v c.allow_due.ensures.pushed
-    c.allow_due.ensures.count g.S.Rules.spelling (frames_of c.turns.stack) c.args.levels xs p
-    c.allow_due.ensures.head_len (h xs p s)) c.turns.invariant.reading) c.in_ok-value.ensures.turn in (
-      t.0,
-      t.1,
-      t.2,
-      λ z xs p s. let m = t.3 z in
-          subst (λ o. IsTurned {E = Unit} g.S.Rules.spelling Some (with_left c.turn.new.decoder z)
-          (frames_of c.turn.new.stack) c.args.levels xs p (Ok o)) c.in-Some.is (m.2 xs p (m.1 xs p s)),
-      t.4,
-    )
+    turned g.R.Read.remaining c.args.decoder.now c.turns.decoder c.allow_due.new.decoder c.turn.new.decoder
+    g.S.Rules.spelling (frames_of c.turns.stack) (frames_of c.turn.new.stack) c.args.levels (Ok (Some c.in-Some.value))
+    c.allow_due.ensures.pushed c.allow_due.ensures.head_len c.allow_due.ensures.count c.allow_due.ensures.unread
+    c.turns.invariant.reading (subst (λ o. TakesBeforeAny g.R.Read.remaining c.allow_due.new.decoder c.turn.new.decoder
+    (Turns g.S.Rules.spelling (frames_of c.turns.stack) (frames_of c.turn.new.stack) c.args.levels (Ok o))) c.in-Some.is
+    c.in_ok-value.ensures.turn)
 
 pub returns-in_err-value-clause-value : goal.returns-in_err-value-clause-value
 returns-in_err-value-clause-value g c =
     let exit = err_from_is_err_and c.from_residual.result c.from_residual.ensures.1 in
-    let t = so-both g.R.Read.remaining c.args.decoder.now c.allow_due.new.decoder c.turn.new.decoder
-    (Reading g.S.Rules.spelling (frames_of c.turns.stack) c.args.levels)
-    (Turns g.S.Rules.spelling (frames_of c.turns.stack) (frames_of c.turn.new.stack) c.args.levels
-    (Err c.in_err-value.field-0.0))
-    (so-kept g.R.Read.remaining c.args.decoder.now c.turns.decoder c.allow_due.new.decoder
-    (Reading g.S.Rules.spelling (frames_of c.turns.stack) c.args.levels)
-    (Reading g.S.Rules.spelling (frames_of c.turns.stack) c.args.levels) c.allow_due.ensures.unread
-    c.allow_due.ensures.count
-    (λ u v h xs p s. reading-moved c.turns.decoder c.allow_due.new.decoder v c.allow_due.ensures.pushed
-    c.allow_due.ensures.count g.S.Rules.spelling (frames_of c.turns.stack) c.args.levels xs p
-    c.allow_due.ensures.head_len (h xs p s)) c.turns.invariant.reading) c.in_err-value.ensures.turn in
-    rw (exit.1, exit.2) (t.0, t.1, t.2, λ z xs p s. let m = t.3 z in m.2 xs p (m.1 xs p s), t.4)
+    rw (exit.1, exit.2) (turned g.R.Read.remaining c.args.decoder.now c.turns.decoder c.allow_due.new.decoder c.turn.new.decoder
+    g.S.Rules.spelling (frames_of c.turns.stack) (frames_of c.turn.new.stack) c.args.levels (Err c.in_err-value.field-0.0)
+    c.allow_due.ensures.pushed c.allow_due.ensures.head_len c.allow_due.ensures.count c.allow_due.ensures.unread
+    c.turns.invariant.reading c.in_err-value.ensures.turn)

@@ -8,8 +8,7 @@ pub chunks-init : goal.chunks-init
 chunks-init g c = record {
   same = search rules;
   head = refl;
-  good =
-      parts-none _ _ _ _ (let fits = c.args.self.now.window.now.fits in omega (arith, fits));
+  good = parts-none _ _ _ _ (let fits = c.args.self.now.window.now.fits in omega (arith, fits));
 }
 
 pub returns-in_err-header-clause-bytes : goal.returns-in_err-header-clause-bytes

@@ -1,22 +1,20 @@
-use Rattle.std.proofs.Common.{ap, Some, false, sym, subst, ◌∙◌}
+use Rattle.std.proofs.Common.{Some, false, sym, subst, ◌∙◌}
 use Rattle.std.proofs.lemmas.Result.{err_from_is_err_and}
 use Rattle.ciborium_ll.specs.declared.header.Header.TheVariants as header
-use Rattle.ciborium_value.specs.Sources.{of_kind}
 use Rattle.ciborium_value.specs.Taken.{gives, taken_pairs}
 use Rattle.ciborium_value.specs.declared.kind.Kind.TheVariants as kinds
-use Rattle.ciborium.specs.inner.ByteSources.{IsUnread, end_at}
+use Rattle.ciborium.specs.inner.ByteSources.{IsUnread}
 use Rattle.ciborium.specs.Errors.{fault_of}
 use Rattle.ciborium.specs.inner.Skips.{TakesBare}
 use Rattle.ciborium.proofs.Containers.EnteredContainers.{map-entered, map-nests, map-other, pairs-given}
-use Rattle.ciborium.proofs.Items.SkippedTags.{denies-bare, denies-nested, denies-of-item}
+use Rattle.ciborium.proofs.Items.BareHeads.{head-denied, nested-denied, other-denied}
 use Rattle.ciborium.proofs.de.byte_source.ByteSource.begin_map.Goals as goal
 
 pub returns-in_err-header-clause-denied : goal.returns-in_err-header-clause-denied
 returns-in_err-header-clause-denied g c =
     let exit = err_from_is_err_and c.from_residual.result c.from_residual.ensures.1 in
-    rw (exit.1, exit.2) (denies-of-item (IsUnread g.R.Read.remaining) (end_at g.R.Read.remaining)
-    (Some c.args.self.now.levels) taken_pairs c.args.self.now (fault_of c.in_err-header.field-0.0)
-    c.in_err-header.ensures.denied)
+    rw (exit.1, exit.2) (head-denied g.R.Read.remaining c.args.self.now taken_pairs (fault_of
+    c.in_err-header.field-0.0) c.in_err-header.ensures.denied)
 
 pub returns-in_ok-seq-in-Map-clause-ok : goal.returns-in_ok-seq-in-Map-clause-ok
 returns-in_ok-seq-in-Map-clause-ok g c =
@@ -30,18 +28,15 @@ returns-in_ok-seq-in-Map-clause-ok g c =
 
 pub returns-in_err-seq-in-Map-clause-denied : goal.returns-in_err-seq-in-Map-clause-denied
 returns-in_err-seq-in-Map-clause-denied g c =
-    let exit = err_from_is_err_and c.from_residual-in_err-seq-in-Map.result c.from_residual-in_err-seq-in-Map.ensures.1
-    in
-    rw (exit.1, exit.2) (denies-nested (IsUnread g.R.Read.remaining) false (header.Map c.in-Map.count)
-    (Some c.args.self.now.levels) taken_pairs (end_at g.R.Read.remaining) c.args.self.now c.bare_head.new.self
-    (fault_of c.in_err-seq-in-Map.field-0.0) (ap fault_of c.in_err-seq-in-Map.ensures.err)
-    (subst (TakesBare (IsUnread g.R.Read.remaining) c.args.self.now c.bare_head.new.self false) c.in-Map.is
-    c.in_ok-header.ensures.head) (map-nests c.args.self.now.levels c.in-Map.count
+    let exit = err_from_is_err_and c.from_residual-in_err-seq-in-Map.result
+    c.from_residual-in_err-seq-in-Map.ensures.1 in
+    rw (exit.1, exit.2) (nested-denied g.R.Read.remaining c.args.self.now taken_pairs c.bare_head.new.self
+    c.in_ok-header.header c.in_ok-header.ensures.head (header.Map c.in-Map.count) c.in-Map.is
+    c.in_err-seq-in-Map.field-0.0 c.in_err-seq-in-Map.ensures.err (map-nests c.args.self.now.levels c.in-Map.count
     (sym c.in_ok-header.ensures.reads.levels ∙ c.in_err-seq-in-Map.ensures.none)))
 
 pub returns-in_default-clause-denied : goal.returns-in_default-clause-denied
 returns-in_default-clause-denied g c =
-    let l = Some c.args.self.now.levels in
-    denies-bare (IsUnread g.R.Read.remaining) false c.in_ok-header.header l taken_pairs (end_at g.R.Read.remaining)
-    c.args.self.now c.bare_head.new.self (of_kind kinds.Map) c.in_ok-header.ensures.head
-    (map-other l c.in_ok-header.header c.in_ok-header.ensures.reads.bare c.in_default.not-Map)
+    other-denied g.R.Read.remaining c.args.self.now taken_pairs c.bare_head.new.self c.in_ok-header.header
+    c.in_ok-header.ensures.head kinds.Map (map-other (Some c.args.self.now.levels) c.in_ok-header.header
+    c.in_ok-header.ensures.reads.bare c.in_default.not-Map)

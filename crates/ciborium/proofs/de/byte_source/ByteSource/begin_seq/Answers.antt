@@ -1,26 +1,22 @@
-use Rattle.std.proofs.Common.{ap, refl, Some, false, sym, subst, ◌∙◌}
+use Rattle.std.proofs.Common.{refl, Some, false, sym, subst, ◌∙◌}
 use Rattle.std.proofs.lemmas.Result.{err_from_is_err_and}
 use Rattle.std.specs.Vec.Iter.{into_iter_items}
 use Rattle.ciborium_ll.specs.declared.header.Header.TheVariants as header
 use Rattle.ciborium_ll.specs.StringRefusal.{of_bytes}
-use Rattle.ciborium_value.specs.Sources.{of_kind}
-use Rattle.ciborium_value.specs.Taken.{gives, taken_seq}
+use Rattle.ciborium_value.specs.Taken.{bare_seq, gives, taken_seq}
 use Rattle.ciborium_value.specs.declared.kind.Kind.TheVariants as kinds
-use Rattle.ciborium.specs.inner.ByteSources.{IsUnread, end_at}
+use Rattle.ciborium.specs.inner.ByteSources.{IsUnread}
 use Rattle.ciborium.specs.Errors.{fault_of}
 use Rattle.ciborium.specs.inner.Skips.{TakesBare}
 use Rattle.ciborium.proofs.Containers.EnteredContainers.{array-entered, array-nests, bytes-entered, bytes-had}
 use Rattle.ciborium.proofs.Containers.EnteredContainers.{seq-given, seq-other}
-use Rattle.ciborium.proofs.Items.SkippedTags.{denies-bare, denies-nested, denies-of-item}
-use Rattle.ciborium.proofs.Payloads.StringPayloads.{denies-string}
-use Rattle.ciborium.proofs.Items.TakenOnly.{same-end}
+use Rattle.ciborium.proofs.Items.BareHeads.{head-denied, nested-denied, other-denied, string-denied}
 use Rattle.ciborium.proofs.de.byte_source.ByteSource.begin_seq.Goals as goal
 
 pub returns-in_err-header-clause-denied : goal.returns-in_err-header-clause-denied
 returns-in_err-header-clause-denied g c =
     let exit = err_from_is_err_and c.from_residual.result c.from_residual.ensures.1 in
-    rw (exit.1, exit.2) (denies-of-item (IsUnread g.R.Read.remaining) (end_at g.R.Read.remaining)
-    (Some c.args.self.now.levels) taken_seq c.args.self.now (fault_of c.in_err-header.field-0.0)
+    rw (exit.1, exit.2) (head-denied g.R.Read.remaining c.args.self.now taken_seq (fault_of c.in_err-header.field-0.0)
     c.in_err-header.ensures.denied)
 
 pub returns-in_ok-seq-in-Array-clause-ok : goal.returns-in_ok-seq-in-Array-clause-ok
@@ -37,12 +33,11 @@ pub returns-in_err-seq-in-Array-clause-denied : goal.returns-in_err-seq-in-Array
 returns-in_err-seq-in-Array-clause-denied g c =
     let exit = err_from_is_err_and c.from_residual-in_err-seq-in-Array.result
     c.from_residual-in_err-seq-in-Array.ensures.1 in
-    rw (exit.1, exit.2) (denies-nested (IsUnread g.R.Read.remaining) false (header.Array c.in-Array.count)
-    (Some c.args.self.now.levels) taken_seq (end_at g.R.Read.remaining) c.args.self.now c.bare_head.new.self
-    (fault_of c.in_err-seq-in-Array.field-0.0) (ap fault_of c.in_err-seq-in-Array.ensures.err)
-    (subst (TakesBare (IsUnread g.R.Read.remaining) c.args.self.now c.bare_head.new.self false) c.in-Array.is
-    c.in_ok-header.ensures.head) (array-nests c.args.self.now.levels c.in-Array.count
-    (sym c.in_ok-header.ensures.reads.levels ∙ c.in_err-seq-in-Array.ensures.none)))
+    rw (exit.1, exit.2) (nested-denied g.R.Read.remaining c.args.self.now taken_seq c.bare_head.new.self
+    c.in_ok-header.header c.in_ok-header.ensures.head (header.Array c.in-Array.count) c.in-Array.is
+    c.in_err-seq-in-Array.field-0.0 c.in_err-seq-in-Array.ensures.err (array-nests bare_seq (λ o is. refl)
+    c.args.self.now.levels c.in-Array.count (sym c.in_ok-header.ensures.reads.levels ∙
+    c.in_err-seq-in-Array.ensures.none)))
 
 pub returns-in_ok-seq-in-Bytes-clause-ok : goal.returns-in_ok-seq-in-Bytes-clause-ok
 returns-in_ok-seq-in-Bytes-clause-ok g c =
@@ -57,16 +52,12 @@ pub returns-in_err-seq-in-Bytes-clause-denied : goal.returns-in_err-seq-in-Bytes
 returns-in_err-seq-in-Bytes-clause-denied g c =
     let exit = err_from_is_err_and c.from_residual-in_err-seq-in-Bytes.result
     c.from_residual-in_err-seq-in-Bytes.ensures.1 in
-    rw (exit.1, exit.2) (denies-string (IsUnread g.R.Read.remaining) (end_at g.R.Read.remaining)
-    (Some c.args.self.now.levels) taken_seq c.args.self.now c.bare_head.new.self of_bytes c.in-Bytes.len
-    (fault_of c.in_err-seq-in-Bytes.field-0.0) (same-end g.R.Read.remaining c.args.self.now c.bare_head.new.self
-    c.in_ok-header.ensures.reads.only)
-    (subst (TakesBare (IsUnread g.R.Read.remaining) c.args.self.now c.bare_head.new.self false) c.in-Bytes.is
-    c.in_ok-header.ensures.head) c.in_err-seq-in-Bytes.ensures.denied)
+    rw (exit.1, exit.2) (string-denied g.R.Read.remaining c.args.self.now taken_seq c.bare_head.new.self
+    c.in_ok-header.header c.in_ok-header.ensures.head of_bytes c.in-Bytes.len c.in-Bytes.is
+    c.in_ok-header.ensures.reads.only (fault_of c.in_err-seq-in-Bytes.field-0.0) c.in_err-seq-in-Bytes.ensures.denied)
 
 pub returns-in_default-clause-denied : goal.returns-in_default-clause-denied
 returns-in_default-clause-denied g c =
-    let l = Some c.args.self.now.levels in
-    denies-bare (IsUnread g.R.Read.remaining) false c.in_ok-header.header l taken_seq (end_at g.R.Read.remaining)
-    c.args.self.now c.bare_head.new.self (of_kind kinds.Array) c.in_ok-header.ensures.head
-    (seq-other l c.in_ok-header.header c.in_ok-header.ensures.reads.bare c.in_default.not-Array c.in_default.not-Bytes)
+    other-denied g.R.Read.remaining c.args.self.now taken_seq c.bare_head.new.self c.in_ok-header.header
+    c.in_ok-header.ensures.head kinds.Array (seq-other (Some c.args.self.now.levels) c.in_ok-header.header
+    c.in_ok-header.ensures.reads.bare c.in_default.not-Array c.in_default.not-Bytes)

@@ -2,7 +2,7 @@ use Rattle.std.proofs.Common.{◌≡◌, ◌≢◌, ap, ◌∙◌, sym, Some, fa
 use Rattle.std.proofs.lemmas.Result.{err_from_is_err_and}
 use Rattle.ciborium_ll.specs.declared.header.Header.TheVariants as header
 use Rattle.ciborium_ll.specs.StringRefusal.{of_text}
-use Rattle.ciborium_value.specs.Sources.{of_kind, IsOutsideFault}
+use Rattle.ciborium_value.specs.Sources.{IsOutsideFault}
 use Rattle.ciborium_value.specs.Taken.{deeper, taken_name, taken_variant}
 use Rattle.ciborium_value.specs.declared.kind.Kind.TheVariants as kinds
 use Rattle.ciborium.specs.inner.ByteSources.{IsUnread, end_at, reader_of}
@@ -12,40 +12,35 @@ use Rattle.ciborium.specs.inner.Skips.{TakesBare}
 use Rattle.ciborium.proofs.Containers.EnteredContainers.{deeper-is, same-unread}
 use Rattle.ciborium.proofs.Containers.NamedVariants.{key-denied, map-no-text, map-not-one, null-unread, pair-nests}
 use Rattle.ciborium.proofs.Containers.NamedVariants.{pair-opened, text-nests, text-opened, variant-other}
-use Rattle.ciborium.proofs.Items.SkippedTags.{denies-bare, denies-nested, denies-of-item}
+use Rattle.ciborium.proofs.Items.SkippedTags.{denies-of-item}
 use Rattle.ciborium.proofs.Payloads.StringPayloads.{denies-content}
 use Rattle.ciborium.proofs.Items.TakenOnly.{same-end}
+use Rattle.ciborium.proofs.Items.BareHeads.{head-denied, nested-denied, other-denied}
 use Rattle.ciborium.proofs.de.byte_source.ByteSource.begin_variant.Goals as goal
 
 pub returns-in_err-header-clause-denied : goal.returns-in_err-header-clause-denied
 returns-in_err-header-clause-denied g c =
     let exit = err_from_is_err_and c.from_residual.result c.from_residual.ensures.1 in
-    rw (exit.1, exit.2) (denies-of-item (IsUnread g.R.Read.remaining) (end_at g.R.Read.remaining)
-    (Some c.args.self.now.levels) taken_variant c.args.self.now (fault_of c.in_err-header.field-0.0)
-    c.in_err-header.ensures.denied)
+    rw (exit.1, exit.2) (head-denied g.R.Read.remaining c.args.self.now taken_variant (fault_of
+    c.in_err-header.field-0.0) c.in_err-header.ensures.denied)
 
 pub returns-in_err-level-in-Text-clause-denied : goal.returns-in_err-level-in-Text-clause-denied
 returns-in_err-level-in-Text-clause-denied g c =
     let exit = err_from_is_err_and c.from_residual-in_err-level-in-Text.result
     c.from_residual-in_err-level-in-Text.ensures.1 in
-    rw (exit.1, exit.2) (denies-nested (IsUnread g.R.Read.remaining) false (header.Text c.in-Text.len)
-    (Some c.args.self.now.levels) taken_variant (end_at g.R.Read.remaining) c.args.self.now c.bare_head.new.self
-    (fault_of c.in_err-level-in-Text.field-0.0) (ap fault_of c.in_err-level-in-Text.ensures.err)
-    (subst (TakesBare (IsUnread g.R.Read.remaining) c.args.self.now c.bare_head.new.self false) c.in-Text.is
-    c.in_ok-header.ensures.head) (text-nests c.args.self.now.levels c.in-Text.len
-    (sym c.in_ok-header.ensures.reads.levels ∙ c.in_err-level-in-Text.ensures.none)))
+    rw (exit.1, exit.2) (nested-denied g.R.Read.remaining c.args.self.now taken_variant c.bare_head.new.self
+    c.in_ok-header.header c.in_ok-header.ensures.head (header.Text c.in-Text.len) c.in-Text.is
+    c.in_err-level-in-Text.field-0.0 c.in_err-level-in-Text.ensures.err (text-nests c.args.self.now.levels
+    c.in-Text.len (sym c.in_ok-header.ensures.reads.levels ∙ c.in_err-level-in-Text.ensures.none)))
 
 pub returns-in_err-level-in-Map-clause-denied : goal.returns-in_err-level-in-Map-clause-denied
 returns-in_err-level-in-Map-clause-denied g c =
     let exit = err_from_is_err_and c.from_residual-in_err-level-in-Map.result
     c.from_residual-in_err-level-in-Map.ensures.1 in
-    rw (exit.1, exit.2) (denies-nested (IsUnread g.R.Read.remaining) false (header.Map (Some 1))
-    (Some c.args.self.now.levels) taken_variant (end_at g.R.Read.remaining) c.args.self.now c.bare_head.new.self
-    (fault_of c.in_err-level-in-Map.field-0.0) (ap fault_of c.in_err-level-in-Map.ensures.err)
-    (subst (TakesBare (IsUnread g.R.Read.remaining) c.args.self.now c.bare_head.new.self false)
-    (c.in-Map.is ∙ ap header.Map c.if-not-is_one.ensures) c.in_ok-header.ensures.head)
-    (pair-nests c.args.self.now.levels (sym c.in_ok-header.ensures.reads.levels ∙
-    c.in_err-level-in-Map.ensures.none)))
+    rw (exit.1, exit.2) (nested-denied g.R.Read.remaining c.args.self.now taken_variant c.bare_head.new.self
+    c.in_ok-header.header c.in_ok-header.ensures.head (header.Map (Some 1)) (c.in-Map.is ∙ ap header.Map
+    c.if-not-is_one.ensures) c.in_err-level-in-Map.field-0.0 c.in_err-level-in-Map.ensures.err (pair-nests
+    c.args.self.now.levels (sym c.in_ok-header.ensures.reads.levels ∙ c.in_err-level-in-Map.ensures.none)))
 
 pub returns-in_err-name-in-Text-clause-denied : goal.returns-in_err-name-in-Text-clause-denied
 returns-in_err-name-in-Text-clause-denied g c =
@@ -127,17 +122,13 @@ returns-in_err-name-in-Map-clause-denied g c =
 
 pub returns-then-not-is_one-clause-denied : goal.returns-then-not-is_one-clause-denied
 returns-then-not-is_one-clause-denied g c =
-    let l = Some c.args.self.now.levels in
-    denies-bare (IsUnread g.R.Read.remaining) false c.in_ok-header.header l taken_variant (end_at g.R.Read.remaining)
-    c.args.self.now c.bare_head.new.self (of_kind kinds.Variant) c.in_ok-header.ensures.head
-    (variant-other l c.in_ok-header.header c.in_ok-header.ensures.reads.bare
-    (map-no-text c.in_ok-header.header c.in-Map.count c.in-Map.is)
-    (map-not-one c.in_ok-header.header c.in-Map.count c.in-Map.is c.if-not-is_one.ensures))
+    other-denied g.R.Read.remaining c.args.self.now taken_variant c.bare_head.new.self c.in_ok-header.header
+    c.in_ok-header.ensures.head kinds.Variant (variant-other (Some c.args.self.now.levels) c.in_ok-header.header
+    c.in_ok-header.ensures.reads.bare (map-no-text c.in_ok-header.header c.in-Map.count c.in-Map.is) (map-not-one
+    c.in_ok-header.header c.in-Map.count c.in-Map.is c.if-not-is_one.ensures))
 
 pub returns-in_default-clause-denied : goal.returns-in_default-clause-denied
 returns-in_default-clause-denied g c =
-    let l = Some c.args.self.now.levels in
-    denies-bare (IsUnread g.R.Read.remaining) false c.in_ok-header.header l taken_variant (end_at g.R.Read.remaining)
-    c.args.self.now c.bare_head.new.self (of_kind kinds.Variant) c.in_ok-header.ensures.head
-    (variant-other l c.in_ok-header.header c.in_ok-header.ensures.reads.bare c.in_default.not-Text
-    (c.in_default.not-Map (Some 1)))
+    other-denied g.R.Read.remaining c.args.self.now taken_variant c.bare_head.new.self c.in_ok-header.header
+    c.in_ok-header.ensures.head kinds.Variant (variant-other (Some c.args.self.now.levels) c.in_ok-header.header
+    c.in_ok-header.ensures.reads.bare c.in_default.not-Text (c.in_default.not-Map (Some 1)))

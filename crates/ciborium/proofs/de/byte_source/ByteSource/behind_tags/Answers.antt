@@ -17,8 +17,7 @@ tags-init g c = record {
   only = λ first h. h;
   levels = refl;
   fewer = omega arith;
-  skipped =
-      skips-none (IsUnread g.R.Read.remaining) c.args.self.now c.args.numbers;
+  skipped = skips-none (IsUnread g.R.Read.remaining) c.args.self.now c.args.numbers;
 }
 
 pub returns-in_err-header-clause-denied : goal.returns-in_err-header-clause-denied

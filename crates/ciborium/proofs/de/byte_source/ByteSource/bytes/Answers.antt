@@ -1,30 +1,26 @@
-use Rattle.std.proofs.Common.{ap, Some, false, sym, subst, ◌∙◌, arith}
+use Rattle.std.proofs.Common.{ap, refl, Some, false, sym, subst, ◌∙◌, arith}
 use Rattle.std.proofs.lemmas.Result.{err_from_is_err_and}
 use Rattle.ciborium_ll.specs.declared.header.Header.TheVariants as header
 use Rattle.ciborium_ll.specs.StringRefusal.{of_bytes}
-use Rattle.ciborium_ll.specs.Decoding.{source_of}
-use Rattle.ciborium.proofs.Items.Due.{entered-fewer, weight-bounds}
+use Rattle.ciborium.proofs.Items.Due.{weight-bounds}
 use Rattle.ciborium_value.specs.Sources.{of_kind}
-use Rattle.ciborium_value.specs.Taken.{take_each, taken_byte, taken_bytes}
+use Rattle.ciborium_value.specs.Taken.{bare_bytes, taken_bytes}
 use Rattle.ciborium_value.specs.declared.kind.Kind.TheVariants as kinds
-use Rattle.ciborium.specs.inner.ByteSources.{IsUnread, EntersItemsUnread, pending_head_weight, end_at, HasTaken}
+use Rattle.ciborium.specs.inner.ByteSources.{IsUnread, pending_head_weight}
 use Rattle.ciborium.specs.Errors.{fault_of}
 use Rattle.ciborium.specs.inner.Skips.{TakesBare}
-use Rattle.ciborium.proofs.Containers.ByteItems.{array-nests, array-refuses, array-takes, array-took, bytes-given}
+use Rattle.ciborium.proofs.Containers.ByteItems.{array-opened, array-refuses, array-takes, array-took}
 use Rattle.ciborium.proofs.Containers.ByteItems.{bytes-other, bytes-read, refuses-denied, takes-read, took-read}
-use Rattle.ciborium.proofs.Containers.EnteredContainers.{array-entered}
-use Rattle.ciborium.proofs.Items.SkippedTags.{denies-bare, denies-nested, denies-of-item}
-use Rattle.ciborium.proofs.Payloads.StringPayloads.{denies-string}
-use Rattle.ciborium.proofs.Items.TakenOnly.{same-end}
+use Rattle.ciborium.proofs.Containers.EnteredContainers.{array-nests}
+use Rattle.ciborium.proofs.Items.BareHeads.{head-denied, nested-denied, other-denied, string-denied}
 use Rattle.ciborium.proofs.de.byte_source.ByteSource.bytes.Goals as goal
 
 pub returns-in_err-header-clause-refused : goal.returns-in_err-header-clause-refused
 returns-in_err-header-clause-refused g c =
     let exit = err_from_is_err_and c.from_residual.result c.from_residual.ensures.1 in
-    rw (exit.1, exit.2) (refuses-denied g.R.Read.remaining c.args.self.now taken_bytes
-    (fault_of c.in_err-header.field-0.0)
-    (denies-of-item (IsUnread g.R.Read.remaining) (end_at g.R.Read.remaining) (Some c.args.self.now.levels) taken_bytes
-    c.args.self.now (fault_of c.in_err-header.field-0.0) c.in_err-header.ensures.denied))
+    rw (exit.1, exit.2) (refuses-denied g.R.Read.remaining c.args.self.now taken_bytes (fault_of
+    c.in_err-header.field-0.0) (head-denied g.R.Read.remaining c.args.self.now taken_bytes (fault_of
+    c.in_err-header.field-0.0) c.in_err-header.ensures.denied))
 
 -- ---- a byte string
 
@@ -57,12 +53,10 @@ returns-in_err-bytes-in-Bytes-clause-refused g c =
     let exit = err_from_is_err_and c.from_residual-in_err-bytes-in-Bytes.result
     c.from_residual-in_err-bytes-in-Bytes.ensures.1 in
     let fault = fault_of c.in_err-bytes-in-Bytes.field-0.0 in
-    rw (exit.1, exit.2) (refuses-denied g.R.Read.remaining c.args.self.now taken_bytes fault
-    (denies-string (IsUnread g.R.Read.remaining) (end_at g.R.Read.remaining) (Some c.args.self.now.levels)
-    taken_bytes c.args.self.now c.bare_head.new.self of_bytes c.in-Bytes.len fault
-    (same-end g.R.Read.remaining c.args.self.now c.bare_head.new.self c.in_ok-header.ensures.reads.only)
-    (subst (TakesBare (IsUnread g.R.Read.remaining) c.args.self.now c.bare_head.new.self false) c.in-Bytes.is
-    c.in_ok-header.ensures.head) c.in_err-bytes-in-Bytes.ensures.denied))
+    rw (exit.1, exit.2) (refuses-denied g.R.Read.remaining c.args.self.now taken_bytes fault (string-denied
+    g.R.Read.remaining c.args.self.now taken_bytes c.bare_head.new.self c.in_ok-header.header
+    c.in_ok-header.ensures.head of_bytes c.in-Bytes.len c.in-Bytes.is c.in_ok-header.ensures.reads.only fault
+    c.in_err-bytes-in-Bytes.ensures.denied))
 
 -- ---- an array
 
@@ -70,85 +64,45 @@ pub returns-in_err-seq-in-Array-clause-refused : goal.returns-in_err-seq-in-Arra
 returns-in_err-seq-in-Array-clause-refused g c =
     let exit = err_from_is_err_and c.from_residual-in_err-seq-in-Array.result
     c.from_residual-in_err-seq-in-Array.ensures.1 in
-    rw (exit.1, exit.2) (refuses-denied g.R.Read.remaining c.args.self.now taken_bytes
-    (fault_of c.in_err-seq-in-Array.field-0.0)
-    (denies-nested (IsUnread g.R.Read.remaining) false (header.Array c.in-Array.count) (Some c.args.self.now.levels)
-    taken_bytes (end_at g.R.Read.remaining) c.args.self.now c.bare_head.new.self
-    (fault_of c.in_err-seq-in-Array.field-0.0) (ap fault_of c.in_err-seq-in-Array.ensures.err)
-    (subst (TakesBare (IsUnread g.R.Read.remaining) c.args.self.now c.bare_head.new.self false) c.in-Array.is
-    c.in_ok-header.ensures.head) (array-nests c.args.self.now.levels c.in-Array.count
-    (sym c.in_ok-header.ensures.reads.levels ∙ c.in_err-seq-in-Array.ensures.none))))
+    rw (exit.1, exit.2) (refuses-denied g.R.Read.remaining c.args.self.now taken_bytes (fault_of
+    c.in_err-seq-in-Array.field-0.0) (nested-denied g.R.Read.remaining c.args.self.now taken_bytes
+    c.bare_head.new.self c.in_ok-header.header c.in_ok-header.ensures.head (header.Array c.in-Array.count)
+    c.in-Array.is c.in_err-seq-in-Array.field-0.0 c.in_err-seq-in-Array.ensures.err (array-nests bare_bytes (λ o is.
+    refl) c.args.self.now.levels c.in-Array.count (sym c.in_ok-header.ensures.reads.levels ∙
+    c.in_err-seq-in-Array.ensures.none))))
 
 pub returns-in_ok-bytes-in-Array-clause-ok : goal.returns-in_ok-bytes-in-Array-clause-ok
 returns-in_ok-bytes-in-Array-clause-ok g c =
     let enter = c.in_ok-seq-in-Array.ensures in
-    let same = c.in_ok-header.ensures.reads.levels in
-    let opens : EntersItemsUnread g.R.Read.remaining c.args.self.now c.enter.new.self taken_bytes
-    (λ l is. take_each (taken_byte l) is) c.in_ok-seq-in-Array.seq =
-    array-entered g.R.Read.remaining c.args.self.now c.bare_head.new.self c.enter.new.self c.in-Array.count
-    c.in_ok-seq-in-Array.seq same (enter.decoder, enter.pending, enter.some, enter.levels, enter.left) taken_bytes
-    (λ l is. take_each (taken_byte l) is)
-    (subst (TakesBare (IsUnread g.R.Read.remaining) c.args.self.now c.bare_head.new.self false) c.in-Array.is
-    c.in_ok-header.ensures.head) (bytes-given c.args.self.now.levels (λ z. enter.some (same ∙ z))) in
-    array-takes g.R.Read.remaining c.args.self.now c.enter.new.self c.in_ok-seq-in-Array.seq (
-      ap source_of enter.decoder ∙ c.in_ok-header.ensures.reads.same_reader,
-      λ first h. subst (HasTaken g.R.Read.remaining first) (sym enter.decoder)
-          (c.in_ok-header.ensures.reads.only first h),
-    ) (enter.back ∙ same)
-    (enter.pending ∙ c.in_ok-header.ensures.reads.pending)
-    (entered-fewer c.args.self.now c.bare_head.new.self c.enter.new.self c.in_ok-header.header enter.decoder
-    (enter.pending ∙ c.in_ok-header.ensures.reads.pending) c.in_ok-header.ensures.reads.fewer) opens
-    c.read_byte_items.new.self c.in_ok-bytes-in-Array.bytes.items c.in_ok-bytes-in-Array.ensures.ok
+    let opened = array-opened g.R.Read.remaining c.args.self.now c.bare_head.new.self c.enter.new.self c.in-Array.count
+    c.in_ok-seq-in-Array.seq c.in_ok-header.header c.in_ok-header.offset c.in-Array.is c.in_ok-header.ensures.head
+    c.in_ok-header.ensures.reads (enter.decoder, enter.pending, enter.some, enter.levels, enter.left) enter.back in
+    array-takes g.R.Read.remaining c.args.self.now c.enter.new.self c.in_ok-seq-in-Array.seq opened c.read_byte_items.new.self
+    c.in_ok-bytes-in-Array.bytes.items c.in_ok-bytes-in-Array.ensures.ok
 
 pub returns-in_ok-bytes-in-Array-clause-took : goal.returns-in_ok-bytes-in-Array-clause-took
 returns-in_ok-bytes-in-Array-clause-took g c =
     let enter = c.in_ok-seq-in-Array.ensures in
-    let same = c.in_ok-header.ensures.reads.levels in
-    let opens : EntersItemsUnread g.R.Read.remaining c.args.self.now c.enter.new.self taken_bytes
-    (λ l is. take_each (taken_byte l) is) c.in_ok-seq-in-Array.seq =
-    array-entered g.R.Read.remaining c.args.self.now c.bare_head.new.self c.enter.new.self c.in-Array.count
-    c.in_ok-seq-in-Array.seq same (enter.decoder, enter.pending, enter.some, enter.levels, enter.left) taken_bytes
-    (λ l is. take_each (taken_byte l) is)
-    (subst (TakesBare (IsUnread g.R.Read.remaining) c.args.self.now c.bare_head.new.self false) c.in-Array.is
-    c.in_ok-header.ensures.head) (bytes-given c.args.self.now.levels (λ z. enter.some (same ∙ z))) in
-    array-took g.R.Read.remaining c.args.self.now c.enter.new.self c.in_ok-seq-in-Array.seq (
-      ap source_of enter.decoder ∙ c.in_ok-header.ensures.reads.same_reader,
-      λ first h. subst (HasTaken g.R.Read.remaining first) (sym enter.decoder)
-          (c.in_ok-header.ensures.reads.only first h),
-    ) (enter.back ∙ same)
-    (enter.pending ∙ c.in_ok-header.ensures.reads.pending)
-    (entered-fewer c.args.self.now c.bare_head.new.self c.enter.new.self c.in_ok-header.header enter.decoder
-    (enter.pending ∙ c.in_ok-header.ensures.reads.pending) c.in_ok-header.ensures.reads.fewer) opens
-    c.read_byte_items.new.self c.in_ok-bytes-in-Array.ensures.took
+    let opened = array-opened g.R.Read.remaining c.args.self.now c.bare_head.new.self c.enter.new.self c.in-Array.count
+    c.in_ok-seq-in-Array.seq c.in_ok-header.header c.in_ok-header.offset c.in-Array.is c.in_ok-header.ensures.head
+    c.in_ok-header.ensures.reads (enter.decoder, enter.pending, enter.some, enter.levels, enter.left) enter.back in
+    array-took g.R.Read.remaining c.args.self.now c.enter.new.self c.in_ok-seq-in-Array.seq opened c.read_byte_items.new.self
+    c.in_ok-bytes-in-Array.ensures.took
 
 pub returns-in_err-bytes-in-Array-clause-refused : goal.returns-in_err-bytes-in-Array-clause-refused
 returns-in_err-bytes-in-Array-clause-refused g c =
     let exit = err_from_is_err_and c.from_residual-in_err-bytes-in-Array.result
     c.from_residual-in_err-bytes-in-Array.ensures.1 in
     let enter = c.in_ok-seq-in-Array.ensures in
-    let same = c.in_ok-header.ensures.reads.levels in
-    let opens : EntersItemsUnread g.R.Read.remaining c.args.self.now c.enter.new.self taken_bytes
-    (λ l is. take_each (taken_byte l) is) c.in_ok-seq-in-Array.seq =
-    array-entered g.R.Read.remaining c.args.self.now c.bare_head.new.self c.enter.new.self c.in-Array.count
-    c.in_ok-seq-in-Array.seq same (enter.decoder, enter.pending, enter.some, enter.levels, enter.left) taken_bytes
-    (λ l is. take_each (taken_byte l) is)
-    (subst (TakesBare (IsUnread g.R.Read.remaining) c.args.self.now c.bare_head.new.self false) c.in-Array.is
-    c.in_ok-header.ensures.head) (bytes-given c.args.self.now.levels (λ z. enter.some (same ∙ z))) in
-    rw (exit.1, exit.2) (array-refuses g.R.Read.remaining c.args.self.now c.enter.new.self c.in_ok-seq-in-Array.seq (
-      ap source_of enter.decoder ∙ c.in_ok-header.ensures.reads.same_reader,
-      λ first h. subst (HasTaken g.R.Read.remaining first) (sym enter.decoder)
-          (c.in_ok-header.ensures.reads.only first h),
-    ) (enter.back ∙ same)
-    (enter.pending ∙ c.in_ok-header.ensures.reads.pending)
-    (entered-fewer c.args.self.now c.bare_head.new.self c.enter.new.self c.in_ok-header.header enter.decoder
-    (enter.pending ∙ c.in_ok-header.ensures.reads.pending) c.in_ok-header.ensures.reads.fewer) opens
-    (fault_of c.in_err-bytes-in-Array.field-0.0) c.in_err-bytes-in-Array.ensures.refused)
+    let opened = array-opened g.R.Read.remaining c.args.self.now c.bare_head.new.self c.enter.new.self c.in-Array.count
+    c.in_ok-seq-in-Array.seq c.in_ok-header.header c.in_ok-header.offset c.in-Array.is c.in_ok-header.ensures.head
+    c.in_ok-header.ensures.reads (enter.decoder, enter.pending, enter.some, enter.levels, enter.left) enter.back in
+    rw (exit.1, exit.2) (array-refuses g.R.Read.remaining c.args.self.now c.enter.new.self c.in_ok-seq-in-Array.seq
+    opened (fault_of c.in_err-bytes-in-Array.field-0.0) c.in_err-bytes-in-Array.ensures.refused)
 
 pub returns-in_default-clause-refused : goal.returns-in_default-clause-refused
 returns-in_default-clause-refused g c =
-    let l = Some c.args.self.now.levels in
-    refuses-denied g.R.Read.remaining c.args.self.now taken_bytes (of_kind kinds.Bytes)
-    (denies-bare (IsUnread g.R.Read.remaining) false c.in_ok-header.header l taken_bytes (end_at g.R.Read.remaining)
-    c.args.self.now c.bare_head.new.self (of_kind kinds.Bytes) c.in_ok-header.ensures.head
-    (bytes-other l c.in_ok-header.header c.in_ok-header.ensures.reads.bare c.in_default.not-Array
-    c.in_default.not-Bytes))
+    refuses-denied g.R.Read.remaining c.args.self.now taken_bytes (of_kind kinds.Bytes) (other-denied
+    g.R.Read.remaining c.args.self.now taken_bytes c.bare_head.new.self c.in_ok-header.header
+    c.in_ok-header.ensures.head kinds.Bytes (bytes-other (Some c.args.self.now.levels) c.in_ok-header.header
+    c.in_ok-header.ensures.reads.bare c.in_default.not-Array c.in_default.not-Bytes))

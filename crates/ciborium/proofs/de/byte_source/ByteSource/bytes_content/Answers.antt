@@ -1,27 +1,17 @@
-use Rattle.std.proofs.Common.{subst, ap, sym}
 use Rattle.std.proofs.lemmas.Result.{err_from_is_err_and}
-use Rattle.ciborium_ll.specs.Decoding.{left_of}
 use Rattle.ciborium_ll.specs.StringRefusal.{of_bytes}
-use Rattle.ciborium.specs.inner.ByteSources.{IsUnreadBy, known_end}
-use Rattle.ciborium.specs.Errors.{fault_of}
-use Rattle.ciborium.proofs.Payloads.SpelledStrings.{content-outside}
+use Rattle.ciborium.proofs.Payloads.SpelledStrings.{content-denied}
 use Rattle.ciborium.proofs.Payloads.StringPayloads.{content-taken, content-fewer}
 use Rattle.ciborium_ll.proofs.HeldBytes.{same-name}
 use Rattle.ciborium.proofs.Items.TakenOnly.{takes-only}
-use Rattle.ciborium_value.specs.Sources.{IsOutsideFault}
-use Rattle.ciborium.specs.Errors.{from_ll}
 use Rattle.ciborium.proofs.de.byte_source.ByteSource.bytes_content.Goals as goal
 
 pub returns-in_err-bytes_into_keeping-clause-denied : goal.returns-in_err-bytes_into_keeping-clause-denied
 returns-in_err-bytes_into_keeping-clause-denied g c =
     let exit = err_from_is_err_and c.from_residual.result c.from_residual.ensures.1 in
-    let d = c.args.self.now.decoder in
-    rw (exit.1, exit.2) (λ y x s z payload u hd sp e. subst
-    (λ n. IsOutsideFault n (fault_of (from_ll c.in_err-bytes_into_keeping.field-0.0)))
-    (sym (ap (λ o. known_end o d.window.count) (subst (λ o. IsUnreadBy g.R.Read.remaining d o y) c.requires u)))
-    (content-outside (left_of g.R.Read.remaining c.bytes_into_keeping.new.self) c.in_err-bytes_into_keeping.field-0.0
-    of_bytes c.args.len d.last d.window.count y x s z payload hd sp e
-    (c.in_err-bytes_into_keeping.ensures.refused y (subst (λ o. IsUnreadBy g.R.Read.remaining d o y) c.requires u))))
+    rw (exit.1, exit.2) (content-denied g.R.Read.remaining c.args.self.now.decoder c.bytes_into_keeping.new.self
+    c.args.self.now.pending c.in_err-bytes_into_keeping.field-0.0 of_bytes c.args.len c.requires
+    c.in_err-bytes_into_keeping.ensures.refused)
 
 pub returns-clause-ok : goal.returns-clause-ok
 returns-clause-ok g c =

@@ -13,9 +13,10 @@ use Rattle.ciborium.specs.Errors.{fault_of}
 use Rattle.ciborium.specs.inner.Skips.{TakesBare}
 use Rattle.ciborium.proofs.Payloads.LoneCharacters.{character-given, character-open, character-other, long-denied}
 use Rattle.ciborium.proofs.Payloads.LoneCharacters.{payload-denied, payload-taken, text-denied}
-use Rattle.ciborium.proofs.Items.SkippedTags.{denies-bare, denies-of-item, reads-bare}
+use Rattle.ciborium.proofs.Items.SkippedTags.{denies-bare, reads-bare}
 use Rattle.ciborium.proofs.Items.TakenOnly.{same-end}
 use Rattle.ciborium.proofs.Payloads.StringPayloads.{string-behind}
+use Rattle.ciborium.proofs.Items.BareHeads.{head-denied, other-denied}
 use Rattle.ciborium.proofs.de.byte_source.ByteSource.character.Goals as goal
 
 short : (n : ℕ) → n ≤ 4 → length {A = ℕ} (take n (0 ∷ 0 ∷ 0 ∷ 0 ∷ [])) ≡ n
@@ -24,9 +25,8 @@ short n h = grind (arith, common_steps)
 pub returns-in_err-header-clause-answer : goal.returns-in_err-header-clause-answer
 returns-in_err-header-clause-answer g c =
     let exit = err_from_is_err_and c.from_residual.result c.from_residual.ensures.1 in
-    rw (exit.1, exit.2) (denies-of-item (IsUnread g.R.Read.remaining) (end_at g.R.Read.remaining)
-    (Some c.args.self.now.levels) taken_character c.args.self.now (fault_of c.in_err-header.field-0.0)
-    c.in_err-header.ensures.denied)
+    rw (exit.1, exit.2) (head-denied g.R.Read.remaining c.args.self.now taken_character (fault_of
+    c.in_err-header.field-0.0) c.in_err-header.ensures.denied)
 
 pub returns-then-n-gt-GREATEST_CHARACTER_SIZE-clause-answer :
     goal.returns-then-n-gt-GREATEST_CHARACTER_SIZE-clause-answer
@@ -101,7 +101,6 @@ returns-in-None-clause-answer g c =
 
 pub returns-in_default-clause-answer : goal.returns-in_default-clause-answer
 returns-in_default-clause-answer g c =
-    let l = Some c.args.self.now.levels in
-    denies-bare (IsUnread g.R.Read.remaining) false c.in_ok-header.header l taken_character (end_at g.R.Read.remaining)
-    c.args.self.now c.bare_head.new.self (of_kind kinds.Char) c.in_ok-header.ensures.head
-    (character-other l c.in_ok-header.header c.in_ok-header.ensures.reads.bare c.in_default.not-Text)
+    other-denied g.R.Read.remaining c.args.self.now taken_character c.bare_head.new.self c.in_ok-header.header
+    c.in_ok-header.ensures.head kinds.Char (character-other (Some c.args.self.now.levels) c.in_ok-header.header
+    c.in_ok-header.ensures.reads.bare c.in_default.not-Text)

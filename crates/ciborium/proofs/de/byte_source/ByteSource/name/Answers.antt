@@ -3,7 +3,6 @@ use Rattle.std.proofs.lemmas.Result.{err_from_is_err_and}
 use Rattle.std.proofs.lemmas.Str.{IsUtf8-string_bytes}
 use Rattle.std.specs.Str.{IsUtf8}
 use Rattle.ciborium_ll.specs.StringRefusal.{of_bytes, of_text}
-use Rattle.ciborium_value.specs.Sources.{of_kind}
 use Rattle.ciborium_value.specs.Taken.{bare_name, taken_name}
 use Rattle.ciborium_value.specs.declared.kind.Kind.TheVariants as kinds
 use Rattle.ciborium.specs.inner.ByteSources.{IsUnread, end_at}
@@ -12,49 +11,40 @@ use Rattle.ciborium.specs.inner.Skips.{TakesBare}
 use Rattle.ciborium.specs.inner.StringContents.{string_item}
 use Rattle.ciborium_value.specs.Places.{is_open}
 use Rattle.ciborium.proofs.Containers.NamedVariants.{bytes-name, bytes-no-name, name-other}
-use Rattle.ciborium.proofs.Items.SkippedTags.{denies-bare, denies-of-item, untagged-under}
-use Rattle.ciborium.proofs.Payloads.StringPayloads.{denies-string, reads-string}
-use Rattle.ciborium.proofs.Items.TakenOnly.{same-end}
+use Rattle.ciborium.proofs.Items.SkippedTags.{untagged-under}
+use Rattle.ciborium.proofs.Items.BareHeads.{head-denied, other-denied, string-denied, string-read}
 use Rattle.ciborium.proofs.de.byte_source.ByteSource.name.Goals as goal
 
 pub returns-in_err-header-clause-answer : goal.returns-in_err-header-clause-answer
 returns-in_err-header-clause-answer g c =
     let exit = err_from_is_err_and c.from_residual.result c.from_residual.ensures.1 in
-    rw (exit.1, exit.2) (denies-of-item (IsUnread g.R.Read.remaining) (end_at g.R.Read.remaining)
-    (Some c.args.self.now.levels) taken_name c.args.self.now (fault_of c.in_err-header.field-0.0)
-    c.in_err-header.ensures.denied)
+    rw (exit.1, exit.2) (head-denied g.R.Read.remaining c.args.self.now taken_name (fault_of
+    c.in_err-header.field-0.0) c.in_err-header.ensures.denied)
 
 pub returns-in_err-name-in-Text-clause-answer : goal.returns-in_err-name-in-Text-clause-answer
 returns-in_err-name-in-Text-clause-answer g c =
     let exit = err_from_is_err_and c.from_residual-in_err-name-in-Text.result
     c.from_residual-in_err-name-in-Text.ensures.1 in
-    rw (exit.1, exit.2) (denies-string (IsUnread g.R.Read.remaining) (end_at g.R.Read.remaining)
-    (Some c.args.self.now.levels) taken_name c.args.self.now c.bare_head.new.self of_text c.in-Text.len
-    (fault_of c.in_err-name-in-Text.field-0.0) (same-end g.R.Read.remaining c.args.self.now c.bare_head.new.self
-    c.in_ok-header.ensures.reads.only)
-    (subst (TakesBare (IsUnread g.R.Read.remaining) c.args.self.now c.bare_head.new.self false) c.in-Text.is
-    c.in_ok-header.ensures.head) c.in_err-name-in-Text.ensures.denied)
+    rw (exit.1, exit.2) (string-denied g.R.Read.remaining c.args.self.now taken_name c.bare_head.new.self
+    c.in_ok-header.header c.in_ok-header.ensures.head of_text c.in-Text.len c.in-Text.is
+    c.in_ok-header.ensures.reads.only (fault_of c.in_err-name-in-Text.field-0.0) c.in_err-name-in-Text.ensures.denied)
 
 pub returns-in-Text-clause-answer : goal.returns-in-Text-clause-answer
 returns-in-Text-clause-answer g c =
-    let l = Some c.args.self.now.levels in
     let payload = string_bytes c.in_ok-name-in-Text.name in
-    reads-string (IsUnread g.R.Read.remaining) c.args.self.now c.bare_head.new.self c.text_content.new.self of_text
-    c.in-Text.len l taken_name payload payload
-    (subst (TakesBare (IsUnread g.R.Read.remaining) c.args.self.now c.bare_head.new.self false) c.in-Text.is
-    c.in_ok-header.ensures.head) c.in_ok-name-in-Text.ensures.ok
-    (λ ts all. ap bare_name (untagged-under ts (string_item of_text c.in-Text.len payload)))
+    string-read g.R.Read.remaining c.args.self.now taken_name c.bare_head.new.self c.in_ok-header.header
+    c.in_ok-header.ensures.head of_text c.in-Text.len c.in-Text.is c.text_content.new.self payload payload
+    c.in_ok-name-in-Text.ensures.ok (λ ts all. ap bare_name (untagged-under ts (string_item of_text c.in-Text.len
+    payload)))
 
 pub returns-in_err-bytes-in-Bytes-clause-answer : goal.returns-in_err-bytes-in-Bytes-clause-answer
 returns-in_err-bytes-in-Bytes-clause-answer g c =
     let exit = err_from_is_err_and c.from_residual-in_err-bytes-in-Bytes.result
     c.from_residual-in_err-bytes-in-Bytes.ensures.1 in
-    rw (exit.1, exit.2) (denies-string (IsUnread g.R.Read.remaining) (end_at g.R.Read.remaining)
-    (Some c.args.self.now.levels) taken_name c.args.self.now c.bare_head.new.self of_bytes c.in-Bytes.len
-    (fault_of c.in_err-bytes-in-Bytes.field-0.0) (same-end g.R.Read.remaining c.args.self.now c.bare_head.new.self
-    c.in_ok-header.ensures.reads.only)
-    (subst (TakesBare (IsUnread g.R.Read.remaining) c.args.self.now c.bare_head.new.self false) c.in-Bytes.is
-    c.in_ok-header.ensures.head) c.in_err-bytes-in-Bytes.ensures.denied)
+    rw (exit.1, exit.2) (string-denied g.R.Read.remaining c.args.self.now taken_name c.bare_head.new.self
+    c.in_ok-header.header c.in_ok-header.ensures.head of_bytes c.in-Bytes.len c.in-Bytes.is
+    c.in_ok-header.ensures.reads.only (fault_of c.in_err-bytes-in-Bytes.field-0.0)
+    c.in_err-bytes-in-Bytes.ensures.denied)
 
 pub returns-in-Ok-clause-answer : goal.returns-in-Ok-clause-answer
 returns-in-Ok-clause-answer g c =
@@ -62,13 +52,11 @@ returns-in-Ok-clause-answer g c =
     let payload = c.in_ok-bytes-in-Bytes.bytes.items in
     let same : string_bytes c.in-Ok.name ≡ payload = ap (λ v. v.items) c.in-Ok.ensures.ok in
     let utf8 : IsUtf8 payload = subst IsUtf8 same (IsUtf8-string_bytes c.in-Ok.name) in
-    reads-string (IsUnread g.R.Read.remaining) c.args.self.now c.bare_head.new.self c.bytes_content.new.self of_bytes
-    c.in-Bytes.len l taken_name payload (string_bytes c.in-Ok.name)
-    (subst (TakesBare (IsUnread g.R.Read.remaining) c.args.self.now c.bare_head.new.self false) c.in-Bytes.is
-    c.in_ok-header.ensures.head) c.in_ok-bytes-in-Bytes.ensures.ok
-    (λ ts all. subst (λ b. taken_name l (Rattle.ciborium.specs.inner.Skips.under ts
-    (string_item of_bytes c.in-Bytes.len payload)) ≡ Rattle.ciborium_value.specs.Taken.gives b) (sym same)
-    (bytes-name ts l (is_open c.in-Bytes.len) payload utf8))
+    string-read g.R.Read.remaining c.args.self.now taken_name c.bare_head.new.self c.in_ok-header.header
+    c.in_ok-header.ensures.head of_bytes c.in-Bytes.len c.in-Bytes.is c.bytes_content.new.self payload (string_bytes
+    c.in-Ok.name) c.in_ok-bytes-in-Bytes.ensures.ok (λ ts all. subst (λ b. taken_name l
+    (Rattle.ciborium.specs.inner.Skips.under ts (string_item of_bytes c.in-Bytes.len payload)) ≡
+    Rattle.ciborium_value.specs.Taken.gives b) (sym same) (bytes-name ts l (is_open c.in-Bytes.len) payload utf8))
 
 pub returns-in-Bytes-clause-answer : goal.returns-in-Bytes-clause-answer
 returns-in-Bytes-clause-answer g c =
@@ -80,7 +68,6 @@ returns-in-Bytes-clause-answer g c =
 
 pub returns-clause-answer : goal.returns-clause-answer
 returns-clause-answer g c =
-    let l = Some c.args.self.now.levels in
-    denies-bare (IsUnread g.R.Read.remaining) false c.in_ok-header.header l taken_name (end_at g.R.Read.remaining)
-    c.args.self.now c.bare_head.new.self (of_kind kinds.Name) c.in_ok-header.ensures.head
-    (name-other l c.in_ok-header.header c.in_ok-header.ensures.reads.bare c.in_default.not-Text c.in_default.not-Bytes)
+    other-denied g.R.Read.remaining c.args.self.now taken_name c.bare_head.new.self c.in_ok-header.header
+    c.in_ok-header.ensures.head kinds.Name (name-other (Some c.args.self.now.levels) c.in_ok-header.header
+    c.in_ok-header.ensures.reads.bare c.in_default.not-Text c.in_default.not-Bytes)

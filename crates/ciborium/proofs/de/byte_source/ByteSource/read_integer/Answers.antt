@@ -11,16 +11,16 @@ use Rattle.ciborium.specs.Errors.{fault_of}
 use Rattle.ciborium.specs.inner.FrontItems.{Reads}
 use Rattle.ciborium.specs.inner.Skips.{TakesBare, IsBare}
 use Rattle.ciborium.proofs.Items.BareScalars.{integer-gives, integer-other, bignum-behind, bignum-denied}
-use Rattle.ciborium.proofs.Items.SkippedTags.{denies-bare, denies-of-item, reads-bare, reads-whole}
+use Rattle.ciborium.proofs.Items.SkippedTags.{denies-bare, reads-bare, reads-whole}
 use Rattle.ciborium.proofs.Items.TakenOnly.{same-end}
+use Rattle.ciborium.proofs.Items.BareHeads.{head-denied}
 use Rattle.ciborium.proofs.de.byte_source.ByteSource.read_integer.Goals as goal
 
 pub returns-in_err-header-clause-answer : goal.returns-in_err-header-clause-answer
 returns-in_err-header-clause-answer g c =
     let exit = err_from_is_err_and c.from_residual.result c.from_residual.ensures.1 in
-    rw (exit.1, exit.2) (denies-of-item (IsUnread g.R.Read.remaining) (end_at g.R.Read.remaining)
-    (Some c.args.self.now.levels) taken_integer c.args.self.now (fault_of c.in_err-header.field-0.0)
-    c.in_err-header.ensures.denied)
+    rw (exit.1, exit.2) (head-denied g.R.Read.remaining c.args.self.now taken_integer (fault_of
+    c.in_err-header.field-0.0) c.in_err-header.ensures.denied)
 
 either-sign : (h : Header) (n : ℕ) (P : Type 0) → (h ≡ header.Positive n) ⊎ (h ≡ header.Negative n) →
     (h ≡ header.Positive n → P) → (h ≡ header.Negative n → P) → P

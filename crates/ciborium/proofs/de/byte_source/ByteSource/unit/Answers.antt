@@ -2,22 +2,21 @@ use Rattle.std.proofs.Common.{false, subst, Some, sym, ◌∙◌}
 use Rattle.std.proofs.lemmas.Result.{err_from_is_err_and}
 use Rattle.ciborium_ll.specs.Item.{simple}
 use Rattle.ciborium_ll.specs.declared.header.Header.TheVariants as header
-use Rattle.ciborium_value.specs.Sources.{of_kind}
 use Rattle.ciborium_value.specs.Taken.{taken_unit}
 use Rattle.ciborium_value.specs.declared.kind.Kind.TheVariants as kinds
-use Rattle.ciborium.specs.inner.ByteSources.{IsUnread, end_at}
+use Rattle.ciborium.specs.inner.ByteSources.{IsUnread}
 use Rattle.ciborium.specs.Errors.{fault_of}
 use Rattle.ciborium.specs.inner.Skips.{TakesBare}
 use Rattle.ciborium.proofs.Items.BareScalars.{unit-gives, unit-none, unit-other}
-use Rattle.ciborium.proofs.Items.SkippedTags.{denies-bare, denies-of-item, reads-whole}
+use Rattle.ciborium.proofs.Items.SkippedTags.{reads-whole}
+use Rattle.ciborium.proofs.Items.BareHeads.{head-denied, other-denied}
 use Rattle.ciborium.proofs.de.byte_source.ByteSource.unit.Goals as goal
 
 pub returns-in_err-header-clause-answer : goal.returns-in_err-header-clause-answer
 returns-in_err-header-clause-answer g c =
     let exit = err_from_is_err_and c.from_residual.result c.from_residual.ensures.1 in
-    rw (exit.1, exit.2) (denies-of-item (IsUnread g.R.Read.remaining) (end_at g.R.Read.remaining)
-    (Some c.args.self.now.levels) taken_unit c.args.self.now (fault_of c.in_err-header.field-0.0)
-    c.in_err-header.ensures.denied)
+    rw (exit.1, exit.2) (head-denied g.R.Read.remaining c.args.self.now taken_unit (fault_of
+    c.in_err-header.field-0.0) c.in_err-header.ensures.denied)
 
 pub returns-then-is_null-clause-answer : goal.returns-then-is_null-clause-answer
 returns-then-is_null-clause-answer g c =
@@ -30,16 +29,13 @@ returns-then-is_null-clause-answer g c =
 
 pub returns-else-is_null-clause-answer : goal.returns-else-is_null-clause-answer
 returns-else-is_null-clause-answer g c =
-    let l = Some c.args.self.now.levels in
-    denies-bare (IsUnread g.R.Read.remaining) false c.in_ok-header.header l taken_unit (end_at g.R.Read.remaining)
-    c.args.self.now c.bare_head.new.self (of_kind kinds.Unit) c.in_ok-header.ensures.head
-    (unit-other l c.in_ok-header.header c.in_ok-header.ensures.reads.bare
-    (unit-none c.in_ok-header.header c.in-Simple.number c.in-Simple.is
-    (sym c.is_null.ensures ∙ c.if-is_null.false)))
+    other-denied g.R.Read.remaining c.args.self.now taken_unit c.bare_head.new.self c.in_ok-header.header
+    c.in_ok-header.ensures.head kinds.Unit (unit-other (Some c.args.self.now.levels) c.in_ok-header.header
+    c.in_ok-header.ensures.reads.bare (unit-none c.in_ok-header.header c.in-Simple.number c.in-Simple.is (sym
+    c.is_null.ensures ∙ c.if-is_null.false)))
 
 pub returns-in_default-clause-answer : goal.returns-in_default-clause-answer
 returns-in_default-clause-answer g c =
-    let l = Some c.args.self.now.levels in
-    denies-bare (IsUnread g.R.Read.remaining) false c.in_ok-header.header l taken_unit (end_at g.R.Read.remaining)
-    c.args.self.now c.bare_head.new.self (of_kind kinds.Unit) c.in_ok-header.ensures.head
-    (unit-other l c.in_ok-header.header c.in_ok-header.ensures.reads.bare (λ n e. absurd (c.in_default.not-Simple n e)))
+    other-denied g.R.Read.remaining c.args.self.now taken_unit c.bare_head.new.self c.in_ok-header.header
+    c.in_ok-header.ensures.head kinds.Unit (unit-other (Some c.args.self.now.levels) c.in_ok-header.header
+    c.in_ok-header.ensures.reads.bare (λ n e. absurd (c.in_default.not-Simple n e)))

@@ -1,0 +1,61 @@
+-- What an exit says behind the next head that is not a tag.
+use Rattle.std.proofs.Common.{◌≡◌, ℕ, List, Option, Some, false, ap, subst}
+use Rattle.ciborium_ll.specs.declared.header.Header.{Header}
+use Rattle.ciborium_ll.specs.Item.{Item}
+use Rattle.ciborium_ll.specs.StringRefusal.{StringKind}
+use Rattle.ciborium_value.specs.Sources.{Fault, TakesOnly, of_kind}
+use Rattle.ciborium_value.specs.Taken.{Taken, gives, nests, refuses}
+use Rattle.ciborium_value.specs.declared.kind.Kind.{Kind}
+use Rattle.ciborium.specs.declared.de.byte_source.ByteSource.{ByteSource}
+use Rattle.ciborium.specs.declared.de.error.Error.{Error}
+use Rattle.ciborium.specs.declared.de.error.Error.TheVariants.{RecursionLimitExceeded}
+use Rattle.ciborium.specs.Errors.{fault_of}
+use Rattle.ciborium.specs.inner.ByteSources.{HasTaken, IsUnread, end_at}
+use Rattle.ciborium.specs.inner.FrontItems.{Denies, DeniesItem, Reads}
+use Rattle.ciborium.specs.inner.Skips.{AreSkipped, TakesBare, under}
+use Rattle.ciborium.specs.inner.StringContents.{DeniesContent, TakesContent, head_of, string_item}
+use Rattle.ciborium.proofs.Items.ItemHeads.{header_of}
+use Rattle.ciborium.proofs.Items.SkippedTags.{denies-bare, denies-nested, denies-of-item}
+use Rattle.ciborium.proofs.Items.TakenOnly.{same-end}
+use Rattle.ciborium.proofs.Payloads.StringPayloads.{denies-string, reads-string}
+
+module _ {S A : Type 0} (remaining : S → Option (List ℕ)) (old : ByteSource S) (taken : Taken A) where
+  abbrev pub IsDenied : Fault → Type 0
+  IsDenied = Denies (IsUnread remaining) (end_at remaining) old (Some old.levels) taken
+
+  -- no head was read
+  pub head-denied : (fault : Fault) → DeniesItem (IsUnread remaining) (end_at remaining) old fault → IsDenied fault
+  head-denied = denies-of-item (IsUnread remaining) (end_at remaining) (Some old.levels) taken old
+
+  -- the head was taken, and is this
+  module _ (mid : ByteSource S) (h : Header) (head : TakesBare (IsUnread remaining) old mid false h) where
+    -- no item of the type begins with it
+    pub other-denied : (k : Kind) → ((ts : List ℕ) (i : Item) → AreSkipped false ts → header_of i ≡ h →
+        taken (Some old.levels) (under ts i) ≡ refuses k) → IsDenied (of_kind k)
+    other-denied k blames = denies-bare (IsUnread remaining) false h (Some old.levels) taken (end_at remaining) old mid
+        (of_kind k) head blames
+
+    -- no level is left for what it begins
+    pub nested-denied : (k : Header) → h ≡ k → (e : Error Unit) → e ≡ RecursionLimitExceeded →
+        ((ts : List ℕ) (i : Item) → AreSkipped false ts → header_of i ≡ k →
+        taken (Some old.levels) (under ts i) ≡ nests) → IsDenied (fault_of e)
+    nested-denied k is e err nested = denies-nested (IsUnread remaining) false k (Some old.levels) taken
+        (end_at remaining) old mid (fault_of e) (ap fault_of err)
+        (subst (TakesBare (IsUnread remaining) old mid false) is head) nested
+
+    module _ (kind : StringKind) (len : Option ℕ) (is : h ≡ head_of kind len) where
+      -- the payload of the string that it begins was refused
+      pub string-denied : TakesOnly (HasTaken remaining) old.decoder mid.decoder → (fault : Fault) →
+          DeniesContent (IsUnread remaining mid) (end_at remaining mid) kind len fault → IsDenied fault
+      string-denied only fault content = denies-string (IsUnread remaining) (end_at remaining) (Some old.levels) taken old
+          mid kind len fault (same-end remaining old mid only)
+          (subst (TakesBare (IsUnread remaining) old mid false) is head) content
+
+      -- it was taken, and the string gives v
+      pub string-read : (new : ByteSource S) (payload : List ℕ) (v : A) →
+          TakesContent (IsUnread remaining mid) (IsUnread remaining new) kind len payload →
+          ((ts : List ℕ) → AreSkipped false ts →
+          taken (Some old.levels) (under ts (string_item kind len payload)) ≡ gives v) →
+          Reads (IsUnread remaining) old new (Some old.levels) taken v
+      string-read new payload v content give = reads-string (IsUnread remaining) old mid new kind len (Some old.levels)
+          taken payload v (subst (TakesBare (IsUnread remaining) old mid false) is head) content give
