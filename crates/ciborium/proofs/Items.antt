@@ -9,4 +9,3 @@ pub mod Due
 pub mod ValuesGiven
 pub mod ValueFaults
 pub mod WholeValues
-pub mod TagsJudged

@@ -1,9 +1,10 @@
 //! Tags around a value (RFC 8949, section 3.4).
 
-ghost use Rattle.std.specs.Prelude.{Option, refl, suc, ℕ};
+ghost use Rattle.std.specs.Prelude.{◌≡◌, Option, refl, suc, ℕ};
 ghost use Rattle.ciborium_value.specs.lemmas.KeyOrders.{ordering_then-same};
 ghost use Rattle.ciborium_value.specs.Sinks.{tag_of};
-ghost use Rattle.ciborium_value.specs.TagReadings.{tag_accepted, tag_required, with_tag};
+ghost use Rattle.ciborium_value.specs.TagReadings.{is_no_other_tag, is_tag, tag_accepted};
+ghost use Rattle.ciborium_value.specs.TagReadings.{tag_required, with_tag};
 ghost use Rattle.ciborium.specs.lemmas.FormsReadBackTags.{accepted-form, captured-form};
 ghost use Rattle.ciborium.specs.lemmas.FormsReadBackTags.{no_bytes-captured, no_bytes-tag};
 ghost use Rattle.ciborium.specs.lemmas.FormsReadBackTags.{required-form};
@@ -82,6 +83,26 @@ impl<V: Deserialize> Deserialize for Captured<V> {
     }
 }
 
+// Whether it is this tag.
+fn is_tag(found: Option<u64>, tag: u64) -> bool
+    ensures { result ≡ is_tag tag found }
+{
+    match found {
+        Some(number) => number == tag,
+        None => false,
+    }
+}
+
+// Whether it is this tag or none.
+fn is_no_other_tag(found: Option<u64>, tag: u64) -> bool
+    ensures { result ≡ is_no_other_tag tag found }
+{
+    match found {
+        Some(number) => number == tag,
+        None => true,
+    }
+}
+
 /// The value under the tag, as `Captured` reads it; without the tag, or under another one, it is
 /// refused as `Tag`.
 impl<V: Deserialize, const TAG: u64> Deserialize for Required<V, TAG> {
@@ -91,16 +112,10 @@ impl<V: Deserialize, const TAG: u64> Deserialize for Required<V, TAG> {
 
     fn deserialize<S: Source>(alloc: Global, source: &mut S) -> Result<Required<V, TAG>, S::Error> {
         let Captured(tag, value) = Captured::<V>::deserialize(alloc, source)?;
-        match tag {
-            Some(found) => {
-                if found == TAG {
-                    Ok(Required(value))
-                } else {
-                    Err(source.refuse(Kind::Tag))
-                }
-            }
-            None => Err(source.refuse(Kind::Tag)),
+        if !is_tag(tag, TAG) {
+            return Err(source.refuse(Kind::Tag));
         }
+        Ok(Required(value))
     }
 }
 
@@ -113,16 +128,10 @@ impl<V: Deserialize, const TAG: u64> Deserialize for Accepted<V, TAG> {
 
     fn deserialize<S: Source>(alloc: Global, source: &mut S) -> Result<Accepted<V, TAG>, S::Error> {
         let Captured(tag, value) = Captured::<V>::deserialize(alloc, source)?;
-        match tag {
-            Some(number) => {
-                if number == TAG {
-                    Ok(Accepted(value))
-                } else {
-                    Err(source.refuse(Kind::Tag))
-                }
-            }
-            None => Ok(Accepted(value)),
+        if !is_no_other_tag(tag, TAG) {
+            return Err(source.refuse(Kind::Tag));
         }
+        Ok(Accepted(value))
     }
 }
 

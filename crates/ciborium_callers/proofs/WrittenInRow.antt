@@ -6,7 +6,7 @@ use Rattle.ciborium.specs.Item as items
 use Rattle.ciborium.specs.Item.{Item}
 use Rattle.ciborium.specs.Sinks.{Named}
 use Rattle.ciborium.specs.Encoding.{written_bytes}
-use Rattle.ciborium_value.proofs.Writing.ReadBack.{written_item_spells}
+use Rattle.ciborium_value.proofs.Writing.ReadBack.{written_spells_item}
 use Rattle.ciborium.specs.ItemSequences.{IsSequence}
 use Rattle.ciborium.specs.Writes.{IsNamedWritten, WritesNamed}
 
@@ -24,8 +24,8 @@ both-written old mid new (Ok i) (Ok j) w v first second = (
   (
     written_bytes i,
     written_bytes j,
-    written_item_spells i w,
-    (written_bytes j, [], written_item_spells j v, refl, sym (append-nil (written_bytes j))),
+    written_spells_item i w,
+    (written_bytes j, [], written_spells_item j v, refl, sym (append-nil (written_bytes j))),
     refl,
   ),
   Appends-trans old mid new (written_bytes i) (written_bytes j) (first i refl) (second j refl),

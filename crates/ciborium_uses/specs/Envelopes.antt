@@ -15,7 +15,7 @@ use Rattle.ciborium.specs.Order.{tree_cmp}
 use Rattle.ciborium.specs.TreeVariants.{IsMapTree}
 use Rattle.ciborium.specs.Sources.{Fault, of_device, of_kind, of_length, of_memory, of_nesting}
 use Rattle.ciborium.specs.Sources.{of_syntax}
-use Rattle.ciborium.specs.TagReadings.{taken_with_tag, under_tag}
+use Rattle.ciborium.specs.TagReadings.{if_tag, is_tag, taken_with_tag}
 use Rattle.ciborium.specs.Taken.{Taken, gives, taken_value}
 use Rattle.ciborium.specs.TakenParts.{taken_map, taken_then}
 use Rattle.ciborium.specs.Tree as trees
@@ -136,7 +136,7 @@ pub record IsMessage (t : Tree) (e : Envelope) : Type 0 where
 -- the bytes are such a message under tag 18 (RFC 9052, section 4.2)
 pub record IsEnvelope (bs : List ℕ) (e : Envelope) : Type 0 where
   pub tree : Tree
-  pub item : IsAllOf (taken_then (taken_with_tag taken_value) (under_tag 18)) bs tree
+  pub item : IsAllOf (taken_then (taken_with_tag taken_value) (if_tag (is_tag 18))) bs tree
   pub message : IsMessage tree e
 
 -- the tags around a message, the outer one first: none, that of a signed message, or that one under

@@ -1,10 +1,11 @@
 -- How a type is read under a tag (RFC 8949, section 3.4), which takes a level, tag or none.
-use Rattle.std.specs.Prelude.{ℕ, zero, suc, Option, Some, None, if◌then◌else◌, ◌==◌}
+use Rattle.std.specs.Prelude.{ℕ, zero, suc, Bool, true, false, Option, Some, None, if◌then◌else◌}
+use Rattle.std.specs.Prelude.{◌==◌}
 use Rattle.std.specs.Ordering.{nat_cmp, ordering_then}
 use Rattle.std.specs.Option.{option_cmp}
 use Rattle.ciborium_ll.specs.Item.{Item}
 use Rattle.ciborium_value.specs.Readings.{Reading, checked}
-use Rattle.ciborium_value.specs.lemmas.Steady.{IsSteady, IsSameUnlessNested, IsNoNesting, same-map}
+use Rattle.ciborium_value.specs.lemmas.Steady.{IsSteady, IsSameUnlessNested, same-map}
 use Rattle.ciborium_value.specs.lemmas.Steady.{no_nesting-map}
 use Rattle.ciborium_value.specs.lemmas.SteadyParts.{no_nesting-if}
 use Rattle.ciborium_value.specs.Taken.{Outcome, Taken, gives, refuses, then_take, outcome_map}
@@ -45,32 +46,30 @@ with_tag tag value r = record {
   whole = None;
 }
 
--- the value under this tag; one under another or none is refused
-abbrev pub under_tag : {C : Type 0} → ℕ → Option ℕ × C → Outcome C
-under_tag t (None, v) = refuses kinds.Tag
-under_tag t (Some u, v) = if u == t then gives v else refuses kinds.Tag
+-- whether it is this tag
+abbrev pub is_tag : ℕ → Option ℕ → Bool
+is_tag t None = false
+is_tag t (Some u) = u == t
 
--- the value under this tag or none; one under another is refused
-abbrev pub under_no_other_tag : {C : Type 0} → ℕ → Option ℕ × C → Outcome C
-under_no_other_tag t (None, v) = gives v
-under_no_other_tag t (Some u, v) = if u == t then gives v else refuses kinds.Tag
+-- whether it is this tag or none
+abbrev pub is_no_other_tag : ℕ → Option ℕ → Bool
+is_no_other_tag t None = true
+is_no_other_tag t (Some u) = u == t
 
-pub no_nesting-under_tag : {C : Type 0} (t : ℕ) (p : Option ℕ × C) → IsNoNesting (under_tag t p)
-no_nesting-under_tag t (None, v) = tt
-no_nesting-under_tag t (Some u, v) = no_nesting-if (u == t) (gives v) (refuses kinds.Tag) tt tt
+-- the value under a tag, or none, for which the test holds; another one is refused
+abbrev pub if_tag : {C : Type 0} → (Option ℕ → Bool) → Option ℕ × C → Outcome C
+if_tag test p = if test p.0 then gives p.1 else refuses kinds.Tag
 
-pub no_nesting-no_other : {C : Type 0} (t : ℕ) (p : Option ℕ × C) →
-    IsNoNesting (under_no_other_tag t p)
-no_nesting-no_other t (None, v) = tt
-no_nesting-no_other t (Some u, v) = no_nesting-if (u == t) (gives v) (refuses kinds.Tag) tt tt
+-- a value whose tag is tested; what its content refuses comes first
+abbrev pub tag_tested : {T V C : Type 0} → (Option ℕ → Bool) → (T → V) → Reading V C → Reading T C
+tag_tested {V = V} test value r = checked (λ x. r.content (value x)) r.order
+    (with_tag {T = Option ℕ × V} (λ p. p.0) (λ p. p.1) r) (if_tag test)
+    (λ p. no_nesting-if (test p.0) (gives p.1) (refuses kinds.Tag) tt tt)
 
--- a value that must stand under this tag; what its content refuses comes first
+-- a value that must stand under this tag
 abbrev pub tag_required : {T V C : Type 0} → ℕ → (T → V) → Reading V C → Reading T C
-tag_required {V = V} t value r = checked (λ x. r.content (value x)) r.order
-    (with_tag {T = Option ℕ × V} (λ p. p.0) (λ p. p.1) r) (under_tag t) (no_nesting-under_tag t)
+tag_required t value r = tag_tested (is_tag t) value r
 
 -- a value that may stand under this tag
 abbrev pub tag_accepted : {T V C : Type 0} → ℕ → (T → V) → Reading V C → Reading T C
-tag_accepted {V = V} t value r = checked (λ x. r.content (value x)) r.order
-    (with_tag {T = Option ℕ × V} (λ p. p.0) (λ p. p.1) r) (under_no_other_tag t)
-    (no_nesting-no_other t)
+tag_accepted t value r = tag_tested (is_no_other_tag t) value r

@@ -22,7 +22,7 @@ use Rattle.ciborium.specs.declared.de.byte_source.ByteSource.{ByteSource}
 use Rattle.ciborium.specs.declared.de.byte_source.ByteSeq.{ByteSeq}
 use Rattle.ciborium.specs.declared.de.error.Error.{Error}
 use Rattle.ciborium.specs.Errors.{fault_of}
-use Rattle.ciborium.specs.inner.ByteSources.{AnswersItem, KeepsSource, IsUnread, StandsBefore, SeqStands, SeqOwes}
+use Rattle.ciborium.specs.inner.ByteSources.{AnswersItem, PassesItem, IsUnread, StandsBefore, SeqStands, SeqOwes}
 use Rattle.ciborium.specs.inner.ByteSources.{EntersItemsUnread, ReadsRest, RefusesRest, items_due_behind, pending_count}
 use Rattle.ciborium.specs.inner.ByteSources.{HasTaken, ReadsBareHead, end_at, parts_left, reader_of, weight_left}
 use Rattle.ciborium.specs.inner.FrontItems.{Reads, Denies}
@@ -325,12 +325,12 @@ module _ {S T A : Type 0} (remaining : S → Option (List ℕ)) (old new : ByteS
     answer-given (Ok v) h = h
     answer-given (Err e) h = tt
 
-    pub answers-ok : (r : Result T (Error (Unit {0}))) → KeepsSource remaining old new r → new.levels ≡ old.levels →
-        OnOk r (weight_left new < weight_left old) → AnswersItem remaining old new (Some old.levels) taken content r →
+    pub answers-ok : (r : Result T (Error (Unit {0}))) → PassesItem remaining old new r →
+        AnswersItem remaining old new (Some old.levels) taken content r →
         IfOk r (λ v. TakesAhead (StandsBefore remaining) old new taken (content v))
-    answers-ok r keeps levels fewer h =
-        ok-map r (on-both _ _ r keeps.pending fewer) (answer-given r h)
-        (λ none v k. takes-read remaining old new taken (content v) (keeps.same_reader, keeps.only) levels none.0
+    answers-ok r keeps h =
+        ok-map r (on-both _ _ r keeps.pending keeps.fewer) (answer-given r h)
+        (λ none v k. takes-read remaining old new taken (content v) (keeps.same_reader, keeps.only) keeps.levels none.0
         none.1 k)
 
     pub answers-refused : (r : Result T (Error (Unit {0}))) →

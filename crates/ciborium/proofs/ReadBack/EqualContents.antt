@@ -8,7 +8,7 @@ use Rattle.ciborium_value.specs.ReadsBack.{IsReadBack, by_bytes}
 use Rattle.ciborium_value.specs.Sinks.{Named}
 use Rattle.ciborium_value.specs.Taken.{gives}
 use Rattle.ciborium_value.specs.WrittenContents.{IsWrittenByContent}
-use Rattle.ciborium_value.proofs.Writing.ReadBack.{written_item_spells}
+use Rattle.ciborium_value.proofs.Writing.ReadBack.{written_spells_item}
 use Rattle.ciborium.specs.laws.RoundTrips.{AreRefusedAlike, BytesWrittenAgain, LeaveSameBytes, TreeWrittenAgain}
 use Rattle.ciborium.specs.laws.RoundTrips.{WriteSameBytes}
 use Rattle.ciborium.specs.Writes.{WritesNamed}
@@ -45,7 +45,7 @@ module _ {T C : Type 0} (IsHeld : T → Type 0) (written : T → Named) (reading
     (alike : IsWrittenByContent written reading.content) where
   pub bytes_written_again : BytesWrittenAgain IsHeld written reading levels
   bytes_written_again v w i l rest after held names fits within (j, s, left, sp, e, give, is) =
-      let one = one_at_front (written_bytes i) s rest left i j (written_item_spells i fits) sp e in
+      let one = one_at_front (written_bytes i) s rest left i j (written_spells_item i fits) sp e in
       let given : reading.taken (Some l) i ≡ gives (reading.content v) =
       (law v held).back by_bytes i names (Some l) within in
       let taken : reading.taken (Some l) i ≡ gives (reading.content w) = ap (reading.taken (Some l)) one.2 ∙ give in

@@ -18,7 +18,7 @@ use Rattle.ciborium_value.specs.declared.key_order.KeyOrder.{KeyOrder}
 use Rattle.ciborium_value.specs.declared.tree.Value.{Value}
 use Rattle.ciborium_value.proofs.Forms.OwnForms.{accepted_where_own_form, form_is_its_own}
 use Rattle.ciborium_value.proofs.Forms.ProperForms.{form_is_proper}
-use Rattle.ciborium_value.proofs.Writing.ReadBack.{written_item_spells}
+use Rattle.ciborium_value.proofs.Writing.ReadBack.{written_spells_item}
 use Rattle.ciborium.specs.ValueAnswers.{TakesValue}
 use Rattle.ciborium.specs.DeterministicWrites.{named_form}
 use Rattle.ciborium.specs.laws.FormRoundTrips.{FormIsReadBack, IsFormContentGiven, IsFormContentReadBack}
@@ -47,7 +47,7 @@ one-form form t u g h = cc
 read-tree : (o : KeyOrder) (t w : Tree) (bytes : List ℕ) (l : ℕ) (after : Option (List ℕ)) → IsWritten (item_of t) →
     bytes ≡ encoding t → TakesValue (deterministic o) bytes l w after → t ≡ w
 read-tree o t w bytes l after fits same (s, left, accepted, e, is) =
-    let one = one_at_front (encoding t) s [] left (item_of t) (item_of w) (written_item_spells (item_of t) fits)
+    let one = one_at_front (encoding t) s [] left (item_of t) (item_of w) (written_spells_item (item_of t) fits)
     (spells o s 0 l w accepted) (append-nil (encoding t) ∙ sym same ∙ e) in
     sym (tree_is_written_as_itself t) ∙ ap written_tree one.2 ∙ tree_is_written_as_itself w
 
@@ -78,7 +78,7 @@ module _ {T C : Type 0} (written : T → Named) (reading : Reading T C) where
       bytes ≡ encoding t → reading.taken None (item_of t) ≡ gives d → TakesGiving (Some l) reading.taken bytes c after →
       c ≡ d
   read-content t l bytes after c d fits same given (j, s, left, sp, e, give, is) =
-      let one = one_at_front (encoding t) s [] left (item_of t) j (written_item_spells (item_of t) fits) sp
+      let one = one_at_front (encoding t) s [] left (item_of t) j (written_spells_item (item_of t) fits) sp
       (append-nil (encoding t) ∙ sym same ∙ e) in
       let here : reading.taken (Some l) (item_of t) ≡ gives c = ap (reading.taken (Some l)) one.2 ∙ give in
       one-content (reading.taken None (item_of t)) d c given

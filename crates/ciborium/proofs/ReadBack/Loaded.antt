@@ -27,7 +27,7 @@ use Rattle.ciborium_value.specs.declared.key_order.KeyOrder.{KeyOrder}
 use Rattle.ciborium_value.specs.declared.key_order.KeyOrder.TheVariants.{LengthFirst}
 use Rattle.ciborium_value.specs.WrittenItems.{IsWritten}
 use Rattle.ciborium_value.specs.declared.tree.Value.{Value}
-use Rattle.ciborium_value.proofs.Writing.ReadBack.{written_item_spells, written_tree_is_proper}
+use Rattle.ciborium_value.proofs.Writing.ReadBack.{written_spells_item, written_tree_is_proper}
 use Rattle.ciborium.specs.declared.de.error.Error.{Error}
 use Rattle.ciborium.specs.ValueAnswers.{AnswersGoodItem, GivesTree, TakesValue}
 use Rattle.ciborium_value.specs.Deterministic as rising
@@ -80,7 +80,7 @@ module _ {T C : Type 0} (IsHeld : T → Type 0) (written : T → Named) (reading
       IsHeld v → (i : Item) → written v ≡ Ok i → IsWritten i → bytes ≡ written_bytes i →
       TakesValue (deterministic o) bytes l w after → reading.taken None (item_of w) ≡ gives c → c ≡ reading.content v
   front-content o v l w bytes after c held i names fits same (s, left, accepted, e, is) give =
-      let one = one_at_front (written_bytes i) s [] left i (item_of w) (written_item_spells i fits)
+      let one = one_at_front (written_bytes i) s [] left i (item_of w) (written_spells_item i fits)
       (spells o s 0 l w accepted) (append-nil (written_bytes i) ∙ sym same ∙ e) in
       one-content (reading.taken None i) (reading.content v) c ((law v held).back by_bytes i names None tt)
       (ap (reading.taken None) one.2 ∙ give)

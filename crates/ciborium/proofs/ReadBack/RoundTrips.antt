@@ -13,7 +13,7 @@ use Rattle.ciborium_value.specs.Sources.{Fault, of_kind, of_nesting, of_syntax, 
 use Rattle.ciborium_value.specs.Sources.{IsFaultOf, IsOutsideFault}
 use Rattle.ciborium_value.specs.Taken.{Outcome, gives}
 use Rattle.ciborium_value.specs.WrittenItems.{IsWritten}
-use Rattle.ciborium_value.proofs.Writing.ReadBack.{written_item_spells}
+use Rattle.ciborium_value.proofs.Writing.ReadBack.{written_spells_item}
 use Rattle.ciborium.specs.declared.de.error.Error.{Error}
 use Rattle.ciborium.specs.Errors.{fault_of}
 use Rattle.ciborium_value.specs.declared.error.Error.TheVariants as of_tree
@@ -52,7 +52,7 @@ bytes_read_back {T} {C} IsHeld written reading levels law v i l rest after r hel
         IsGivenBack (reading.content v) rest (length (written_bytes i ++ rest)) after r
     by (Ok c) (taken, refused) =
         let (j, s, left, sp, e, give, is) = taken (written_bytes i ++ rest) refl in
-        let one = one_at_front (written_bytes i) s rest left i j (written_item_spells i fits) sp e in (
+        let one = one_at_front (written_bytes i) s rest left i j (written_spells_item i fits) sp e in (
           one-content (reading.taken (Some l) i) (reading.content v) c given (ap (reading.taken (Some l)) one.2 ∙ give),
           is ∙ ap Some (sym one.1),
         )
@@ -61,7 +61,7 @@ bytes_read_back {T} {C} IsHeld written reading levels law v i l rest after r hel
         let none : 0 + n ≡ n = omega arith in
         subst (λ m. IsOutsideFault m (fault_of e)) none
         (not-blamed (0 + n) (fault_of e) (reading.taken (Some l) i) (reading.content v) given
-        (refused (written_bytes i ++ rest) refl i (written_bytes i) rest (written_item_spells i fits) refl))
+        (refused (written_bytes i ++ rest) refl i (written_bytes i) rest (written_spells_item i fits) refl))
 
 module _ {T C : Type 0} (IsHeld : T → Type 0) (written : T → Named) (reading : Reading T C) (levels : T → ℕ)
     (law : IsReadBack IsHeld written reading.taken reading.content levels) where
@@ -70,7 +70,7 @@ module _ {T C : Type 0} (IsHeld : T → Type 0) (written : T → Named) (reading
       IsWithin (Some l) (levels v) → (i : Item) → written v ≡ Ok i → IsWritten i → bytes ≡ written_bytes i →
       TakesGiving (Some l) reading.taken bytes c after → c ≡ reading.content v
   taken-content v l bytes after c held within i names fits same (j, s, left, sp, e, give, is) =
-      let one = one_at_front (written_bytes i) s [] left i j (written_item_spells i fits) sp
+      let one = one_at_front (written_bytes i) s [] left i j (written_spells_item i fits) sp
       (append-nil (written_bytes i) ∙ sym same ∙ e) in
       one-content (reading.taken (Some l) i) (reading.content v) c ((law v held).back by_bytes i names (Some l) within)
       (ap (reading.taken (Some l)) one.2 ∙ give)

@@ -16,7 +16,7 @@ use Rattle.ciborium_value.specs.Sources.{IsOutsideFault}
 use Rattle.ciborium_value.specs.Taken.{Taken, gives}
 use Rattle.ciborium_value.specs.WrittenItems.{AreWritten}
 use Rattle.ciborium_value.proofs.Writing.Progress.{and_then_is}
-use Rattle.ciborium_value.proofs.Writing.ReadBack.{written_item_spells}
+use Rattle.ciborium_value.proofs.Writing.ReadBack.{written_spells_item}
 use Rattle.ciborium.specs.declared.de.error.Error.{Error}
 use Rattle.ciborium.specs.Errors.{fault_of}
 use Rattle.ciborium.specs.laws.RoundTrips.{IsGivenBack}
@@ -54,7 +54,7 @@ module _ {C : Type 0} (l : Limit) (taken : Taken C) where
       taken l i ≡ gives c → Spells s j → items_bytes (items_from (i ∷ is)) ≡ s ++ left → taken l j ≡ gives d →
       (items_bytes (items_from is) ≡ left) × (d ≡ c)
   same-front i j is s left c d (first, more) given spelled split gave =
-      let one = one_at_front (written_bytes i) s (items_bytes (items_from is)) left i j (written_item_spells i first)
+      let one = one_at_front (written_bytes i) s (items_bytes (items_from is)) left i j (written_spells_item i first)
       spelled split in
       (one.1, one-content (taken l i) c d given (ap (taken l) one.2 ∙ gave))
 
@@ -67,7 +67,7 @@ module _ {C : Type 0} (l : Limit) (taken : Taken C) where
   given-back (i ∷ is) [] ds fits given gave = absurd given
   given-back (i ∷ is) (c ∷ cs) [] (first, rest) given gave =
       absurd (never-empty (items_bytes (items_from (i ∷ is))) (written_bytes i) (items_bytes (items_from is)) i
-      (written_item_spells i first) gave refl)
+      (written_spells_item i first) gave refl)
   given-back (i ∷ is) (c ∷ cs) (d ∷ ds) fits (one, given) (j, s, left, spelled, split, gave, more) =
       let (behind, same) = same-front i j is s left c d fits one spelled split gave in
       ap (λ x. x ∷ ds) same ∙ ap (λ xs. c ∷ xs) (given-back is cs ds fits.1 given
@@ -86,7 +86,7 @@ module _ {C : Type 0} (l : Limit) (taken : Taken C) where
   outside-behind fault (i ∷ is) (c ∷ cs) [] u (first, rest) given gave ahead end =
       subst (λ b. IsOutsideFault (length b) fault) (sym gave)
       (not-blamed (length u) fault (taken l i) c given.0
-      (ahead i (written_bytes i) (items_bytes (items_from is)) (written_item_spells i first) (sym gave)))
+      (ahead i (written_bytes i) (items_bytes (items_from is)) (written_spells_item i first) (sym gave)))
   outside-behind fault (i ∷ is) (c ∷ cs) (d ∷ ds) u fits (one, given) (j, s, left, spelled, split, gave, more) ahead end
       =
       let (behind, same) = same-front i j is s left c d fits one spelled split gave in

@@ -1,5 +1,5 @@
 -- Where a source over bytes stands.
-use Rattle.std.specs.Prelude.{◌≡◌, ℕ, ◌+◌, ◌*◌, ◌-◌, ◌≤◌, List, ◌++◌, length, map, Option, Some}
+use Rattle.std.specs.Prelude.{◌<◌, ◌≡◌, ℕ, ◌+◌, ◌*◌, ◌-◌, ◌≤◌, List, ◌++◌, length, map, Option, Some}
 use Rattle.std.specs.Prelude.{None, Bool, true, false, IfErr, IfOk, MatchResult, OnErr, OnOk}
 use Rattle.std.specs.Prelude.{Result}
 use Rattle.std.specs.Borrow.{GName}
@@ -287,6 +287,16 @@ pub record KeepsSource {S A E : Type 0} (remaining : S → Option (List ℕ)) (o
   pub only : TakesOnly (HasTaken remaining) old.decoder new.decoder
   pub no_more : OnErr result (weight_left new ≤ weight_left old)
   pub pending : OnOk result (new.pending ≡ None)
+
+-- the same where an item is read: the levels stay, and behind an answer less is left
+pub record PassesItem {S A E : Type 0} (remaining : S → Option (List ℕ)) (old new : ByteSource S)
+    (result : Result A E) : Type 0 where
+  pub same_reader : HasSameReader old.decoder new.decoder
+  pub only : TakesOnly (HasTaken remaining) old.decoder new.decoder
+  pub no_more : OnErr result (weight_left new ≤ weight_left old)
+  pub pending : OnOk result (new.pending ≡ None)
+  pub levels : new.levels ≡ old.levels
+  pub fewer : OnOk result (weight_left new < weight_left old)
 
 -- the same of the head behind any number of tags
 pub record ReadsBareHead {S : Type 0} (remaining : S → Option (List ℕ)) (old new : ByteSource S)

@@ -15,7 +15,7 @@ use Rattle.ciborium_value.specs.Meaning.{is_bignum_tag}
 use Rattle.ciborium_value.specs.NeverBytes.{IsNeverBytes, IsNoBytes}
 use Rattle.ciborium_value.specs.ReadsBack.{by_tree, of_ok}
 use Rattle.ciborium_value.specs.Sinks.{Named, tag_of}
-use Rattle.ciborium_value.specs.TagReadings.{taken_with_tag, under_tag, under_no_other_tag}
+use Rattle.ciborium_value.specs.TagReadings.{if_tag, is_no_other_tag, is_tag, taken_with_tag}
 use Rattle.ciborium_value.specs.Taken.{Taken, gives, outer_tag, outcome_map, then_take}
 use Rattle.ciborium_value.specs.Tree as trees
 use Rattle.ciborium_value.specs.Tree.{Tree}
@@ -90,25 +90,25 @@ module _ {C : Type 0} {taken : Taken C} {c : C} (o : KeyOrder) where
   }
 
   pub required-form : (t : ℕ) {r : Named} → IsNeverBytes r → IsFormRead o r taken c →
-      IsFormRead o (tag_of t r) (λ l i. then_take (taken_with_tag taken l i) (under_tag t)) c
+      IsFormRead o (tag_of t r) (λ l i. then_take (taken_with_tag taken l i) (if_tag (is_tag t))) c
   required-form t never h = record {
-    back = λ i e u form. ap (λ p. then_take p (under_tag t))
+    back = λ i e u form. ap (λ p. then_take p (if_tag (is_tag t)))
         ((captured-form (Some t) tt never h).back i e u form) ∙ same t;
   }
     where
-      same : (t : ℕ) → under_tag t (Some t, c) ≡ gives c
+      same : (t : ℕ) → if_tag (is_tag t) (Some t, c) ≡ gives c
       same t = grind (arith, nat_tests)
 
   pub accepted-form : (t : ℕ) {r : Named} → IsNeverBytes r → IsFormRead o r taken c →
-      IsFormRead o (tag_of t r) (λ l i. then_take (taken_with_tag taken l i) (under_no_other_tag t))
+      IsFormRead o (tag_of t r) (λ l i. then_take (taken_with_tag taken l i) (if_tag (is_no_other_tag t)))
       c
   accepted-form t never h = record {
     back = λ i e u form. ap
-        (λ p. then_take p (under_no_other_tag t))
+        (λ p. then_take p (if_tag (is_no_other_tag t)))
         ((captured-form (Some t) tt never h).back i e u form) ∙ same t;
   }
     where
-      same : (t : ℕ) → under_no_other_tag t (Some t, c) ≡ gives c
+      same : (t : ℕ) → if_tag (is_no_other_tag t) (Some t, c) ≡ gives c
       same t = grind (arith, nat_tests)
 
 -- ---- what is written under a tag is no byte string

@@ -10,7 +10,7 @@ use Rattle.ciborium_value.specs.Nesting.{Limit, IsWithin}
 use Rattle.ciborium_value.specs.NeverNull.{IsNeverNull}
 use Rattle.ciborium_value.specs.ReadsBack.{IsNameRead, Way, by_bytes, by_tree, met, met-tag, of_ok}
 use Rattle.ciborium_value.specs.Sinks.{Named, tag_of}
-use Rattle.ciborium_value.specs.TagReadings.{taken_with_tag, under_tag, under_no_other_tag}
+use Rattle.ciborium_value.specs.TagReadings.{if_tag, is_no_other_tag, is_tag, taken_with_tag}
 use Rattle.ciborium_value.specs.Taken.{Taken, gives, is_null, outer_tag, outcome_map, then_take}
 use Rattle.ciborium_value.specs.Tree as tree
 use Rattle.ciborium_value.specs.Tree.{Tree}
@@ -68,24 +68,24 @@ module _ {C : Type 0} {taken : Taken C} {c : C} {n : ℕ} where
   }
 
   pub required-back : (t : ℕ) {r : Named} → IsNameRead r taken c n →
-      IsNameRead (tag_of t r) (λ l i. then_take (taken_with_tag taken l i) (under_tag t)) c (suc n)
+      IsNameRead (tag_of t r) (λ l i. then_take (taken_with_tag taken l i) (if_tag (is_tag t))) c (suc n)
   required-back t h = record {
-    back = λ way i e l fits. ap (λ o. then_take o (under_tag t))
+    back = λ way i e l fits. ap (λ o. then_take o (if_tag (is_tag t)))
         ((captured-back (Some t) tt h).back way i e l fits) ∙ same t;
   }
     where
-      same : (t : ℕ) → under_tag t (Some t, c) ≡ gives c
+      same : (t : ℕ) → if_tag (is_tag t) (Some t, c) ≡ gives c
       same t = grind (arith, nat_tests)
 
   pub accepted-back : (t : ℕ) {r : Named} → IsNameRead r taken c n →
-      IsNameRead (tag_of t r) (λ l i. then_take (taken_with_tag taken l i) (under_no_other_tag t)) c
+      IsNameRead (tag_of t r) (λ l i. then_take (taken_with_tag taken l i) (if_tag (is_no_other_tag t))) c
       (suc n)
   accepted-back t h = record {
-    back = λ way i e l fits. ap (λ o. then_take o (under_no_other_tag t))
+    back = λ way i e l fits. ap (λ o. then_take o (if_tag (is_no_other_tag t)))
         ((captured-back (Some t) tt h).back way i e l fits) ∙ same t;
   }
     where
-      same : (t : ℕ) → under_no_other_tag t (Some t, c) ≡ gives c
+      same : (t : ℕ) → if_tag (is_no_other_tag t) (Some t, c) ≡ gives c
       same t = grind (arith, nat_tests)
 
 -- ---- never null: a tag is no null, whatever stands under it

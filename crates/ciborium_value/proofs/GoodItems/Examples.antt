@@ -1,7 +1,7 @@
 -- The worked examples. What is spelled is given by its items and heads; a refusal is computed by the reader, which
 -- answers what the definitions say.
 use Rattle.std.proofs.Common.{◌<◌, ◌≡◌, ℕ, ltb, List, [], ◌∷◌, refl, subst, inl, lit<, lit≤, arith, Bool, true, false}
-use Rattle.std.proofs.Common.{◌&&◌}
+use Rattle.std.proofs.Common.{◌&&◌, ◌++◌, ap, append-nil, cond, sym}
 use Rattle.std.specs.Str.{is_utf8, chars}
 use Rattle.std.specs.Prelude.{IsUtf8}
 use Rattle.std.proofs.lemmas.Bool.{ltb-true}
@@ -9,6 +9,7 @@ use Rattle.std.proofs.lemmas.Str.{IsUtf8-from_is_utf8}
 use Rattle.ciborium_ll.specs.Head.{within, one_byte, eight_bytes, shortest_head}
 use Rattle.ciborium_ll.specs.Item as item
 use Rattle.ciborium_ll.specs.Refusal.{Refusal}
+use Rattle.ciborium_ll.specs.Spells.{IsContainer, Spells, SpellsItems}
 use Rattle.std.proofs.lemmas.List.Elements.{All-from_recursion}
 use Rattle.ciborium_ll.specs.Bytes.{AreBytes}
 use Rattle.ciborium_ll.proofs.UsableHeads.{EachIsByte}
@@ -53,6 +54,50 @@ refused-by-reading {b} {p} {l} t h = subst (Meets b p l) h
 letter : (c : ℕ) → is_utf8 (c ∷ []) ≡ true → IsUtf8 (c ∷ [])
 letter c h = IsUtf8-from_is_utf8 (c ∷ []) h
 
+-- arrays of two numbers below 24
+abbrev two_numbers : ℕ → ℕ → item.Items
+two_numbers m n = item.item (item.unsigned m) (item.item (item.unsigned n) item.no_items)
+
+abbrev short_bytes : Bool → ℕ → ℕ → List ℕ
+short_bytes open_ m n = cond open_ 0x9f 0x82 ∷ m ∷ n ∷ cond open_ (0xff ∷ []) []
+
+small_number : (m : ℕ) → m < 24 → Spells (m ∷ []) (item.unsigned m)
+small_number m h = (within, h, ap (λ k. k ∷ []) (omega arith))
+
+short_array : (open_ : Bool) (m n : ℕ) → m < 24 → n < 24 → Spells (short_bytes open_ m n)
+    (item.array open_ (two_numbers m n))
+short_array open_ m n h k = (
+  m ∷ n ∷ [],
+  (m ∷ [], n ∷ [], small_number m h, (n ∷ [], [], small_number n k, refl, refl), refl),
+  as_announced open_,
+)
+  where
+    as_announced : (o : Bool) → IsContainer o 4 2 (short_bytes o m n) (m ∷ n ∷ [])
+    as_announced true = refl
+    as_announced false = (hex "82", (within, lit< tt, refl), refl)
+
+-- the number 1, a definite array and another one
+abbrev one_and : item.Items → Bool → item.Items → item.Items
+one_and is open_ js = item.item (item.unsigned 1) (item.item (item.array false is) (item.item (item.array open_ js)
+    item.no_items))
+
+one_and_two : (open_ : Bool) (m n x y : ℕ) → m < 24 → n < 24 → x < 24 → y < 24 →
+    SpellsItems (1 ∷ (short_bytes false m n ++ short_bytes open_ x y))
+    (one_and (two_numbers m n) open_ (two_numbers x y))
+one_and_two open_ m n x y a b c d = (
+  1 ∷ [],
+  short_bytes false m n ++ short_bytes open_ x y,
+  (within, lit< tt, refl),
+  (
+    short_bytes false m n,
+    short_bytes open_ x y,
+    short_array false m n a b,
+    (short_bytes open_ x y, [], short_array open_ x y c d, refl, sym (append-nil (short_bytes open_ x y))),
+    refl,
+  ),
+  refl,
+)
+
 pub spelled_examples : SpelledExamples
 unfolding is_utf8 chars lib.Utf8.encode big_endian_behind bignum_meaning simple_meaning shortest_head
 spelled_examples =
@@ -61,109 +106,22 @@ spelled_examples =
       zero_in_a_wide_head = (item.unsigned 0, (one_byte, lit< tt, refl), refl);
       least_integer = (item.negative 18446744073709551615, (eight_bytes, lit< tt, refl), refl);
       open_arrays = (
-        item.array true (item.item (item.unsigned 1)
-            (item.item (item.array false (item.item (item.unsigned 2) (item.item (item.unsigned 3) item.no_items)))
-            (item.item (item.array true (item.item (item.unsigned 4) (item.item (item.unsigned 5) item.no_items)))
-            item.no_items))),
-        (
-          hex "018202039f0405ff",
-          (
-            hex "01",
-            hex "8202039f0405ff",
-            (within, lit< tt, refl),
-            (
-              hex "820203",
-              hex "9f0405ff",
-              (
-                hex "0203",
-                (
-                  hex "02",
-                  hex "03",
-                  (within, lit< tt, refl),
-                  (hex "03", [], (within, lit< tt, refl), refl, refl),
-                  refl,
-                ),
-                (hex "82", (within, lit< tt, refl), refl),
-              ),
-              (
-                hex "9f0405ff",
-                [],
-                (
-                  hex "0405",
-                  (
-                    hex "04",
-                    hex "05",
-                    (within, lit< tt, refl),
-                    (hex "05", [], (within, lit< tt, refl), refl, refl),
-                    refl,
-                  ),
-                  refl,
-                ),
-                refl,
-                refl,
-              ),
-              refl,
-            ),
-            refl,
-          ),
-          refl,
-        ),
+        item.array true (one_and (two_numbers 2 3) true (two_numbers 4 5)),
+        (hex "018202039f0405ff", one_and_two true 2 3 4 5 (lit< tt) (lit< tt) (lit< tt) (lit< tt), refl),
         refl,
       );
       definite_arrays = (
-        item.array false (item.item (item.unsigned 1)
-            (item.item (item.array false (item.item (item.unsigned 2) (item.item (item.unsigned 3) item.no_items)))
-            (item.item (item.array false (item.item (item.unsigned 4) (item.item (item.unsigned 5) item.no_items)))
-            item.no_items))),
+        item.array false (one_and (two_numbers 2 3) false (two_numbers 4 5)),
         (
           hex "01820203820405",
-          (
-            hex "01",
-            hex "820203820405",
-            (within, lit< tt, refl),
-            (
-              hex "820203",
-              hex "820405",
-              (
-                hex "0203",
-                (
-                  hex "02",
-                  hex "03",
-                  (within, lit< tt, refl),
-                  (hex "03", [], (within, lit< tt, refl), refl, refl),
-                  refl,
-                ),
-                (hex "82", (within, lit< tt, refl), refl),
-              ),
-              (
-                hex "820405",
-                [],
-                (
-                  hex "0405",
-                  (
-                    hex "04",
-                    hex "05",
-                    (within, lit< tt, refl),
-                    (hex "05", [], (within, lit< tt, refl), refl, refl),
-                    refl,
-                  ),
-                  (hex "82", (within, lit< tt, refl), refl),
-                ),
-                refl,
-                refl,
-              ),
-              refl,
-            ),
-            refl,
-          ),
+          one_and_two false 2 3 4 5 (lit< tt) (lit< tt) (lit< tt) (lit< tt),
           (hex "83", (within, lit< tt, refl), refl),
         ),
         refl,
       );
       open_map = (
         item.map true (item.pair (item.text false (hex "61")) (item.unsigned 1)
-            (item.pair (item.text false (hex "62")) (item.array true
-            (item.item (item.unsigned 2) (item.item (item.unsigned 3) item.no_items))) item.no_pairs)),
+            (item.pair (item.text false (hex "62")) (item.array true (two_numbers 2 3)) item.no_pairs)),
         (
           hex "61610161629f0203ff",
           (
@@ -177,17 +135,7 @@ spelled_examples =
               hex "9f0203ff",
               [],
               (hex "61", (within, lit< tt, refl), letter _ refl, refl),
-              (
-                hex "0203",
-                (
-                  hex "02",
-                  hex "03",
-                  (within, lit< tt, refl),
-                  (hex "03", [], (within, lit< tt, refl), refl, refl),
-                  refl,
-                ),
-                refl,
-              ),
+              short_array true 2 3 (lit< tt) (lit< tt),
               refl,
               refl,
             ),

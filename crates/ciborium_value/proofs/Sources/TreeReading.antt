@@ -1,16 +1,18 @@
 -- What a source finds at a value.
 use Rattle.std.proofs.Common.{◌≡◌, ℕ, suc, ◌+◌, ◌<◌, ◌≤◌, List, [], ◌∷◌, ◌++◌, map, length, chars, IsUtf8, encode_utf8}
 use Rattle.std.proofs.Common.{slice_get, Option, Some, None, Result, Ok, Err, IfOk, IfErr, OnOk, Vec, Global, refl, sym}
-use Rattle.std.proofs.Common.{ap, ◌∙◌, arith}
+use Rattle.std.proofs.Common.{ap, ◌∙◌, arith, subst}
 use Rattle.std.proofs.lemmas.Str.{chars_past_char, chars-nil}
 use Rattle.std.proofs.lemmas.List.{nil_from_length}
 use Rattle.ciborium_ll.specs.Item.{Item, unsigned}
+use Rattle.ciborium_value.specs.Ahead.{Form, Rest, counted, inside}
 use Rattle.ciborium_value.specs.Encoding.{item_of, items_of, pairs_of}
-use Rattle.ciborium_value.specs.Taken.{Outcome, gives, refuses, outcome_map, unpack, unpack_pairs}
+use Rattle.ciborium_value.specs.Nesting.{Limit}
+use Rattle.ciborium_value.specs.Taken.{Outcome, Taken, deeper, gives, refuses, outcome_map, unpack, unpack_pairs}
 use Rattle.ciborium_value.specs.Taken.{taken_seq, taken_pairs, bare_seq, bare_pairs, untagged, lone_character}
 use Rattle.ciborium_value.specs.Taken.{bare_bytes, taken_bytes, taken_byte, take_each}
 use Rattle.std.specs.Borrow.{Bor}
-use Rattle.ciborium_value.specs.inner.TreeSources.{pair_items, value_weight, pending_due, pending_tree_weight}
+use Rattle.ciborium_value.specs.inner.TreeSources.{IsDueValue, pair_items, value_weight, pending_due, pending_tree_weight}
 use Rattle.ciborium_value.specs.inner.TreeSources.{due_weight, source_weight}
 use Rattle.ciborium_value.specs.TreeAnswers.{value_item}
 use Rattle.ciborium_value.specs.Tree as trees
@@ -51,6 +53,20 @@ pub map_of : (v : Value) (ps : Vec (Value × Value) Global) (i : Item) → v ≡
     taken_pairs None i ≡ gives (None, map pair_items ps.items)
 map_of v ps i is h = ap (bare_pairs None) (sym h ∙ ap item_of (ap tree_of is ∙ tree_of-Map ps)) ∙
     ap (λ qs. gives (None, qs)) (unpack-tree_pairs ps.items)
+
+-- a source that stood before a container stands before its parts, and what is due behind it is kept
+pub opened : {V X : Type 0} (taken : Taken (Limit × List X)) (part : V → X) (all left : List V) → left ≡ all →
+    (old new : Option (Bor Value)) → new ≡ old → (l : Limit) (i : Item) (f : Rest) → l ≡ None → IsDueValue old f →
+    taken None i ≡ gives (None, map part all) →
+    (form : Form) × (xs : List X) × (taken l i ≡ gives (inside form l, xs)) × ((inside form l ≡ None) × Unit {0}) ×
+    ((l ≡ None) × (map part left ≡ xs) × IsDueValue new f)
+opened taken part all left same old new due l i f none at give = (
+  counted,
+  map part all,
+  ap (λ k. taken k i) none ∙ give ∙ ap (λ k. gives (deeper k, map part all)) (sym none),
+  (ap deeper none, tt),
+  (none, ap (map part) same, subst (λ o. IsDueValue o f) (sym due) at),
+)
 
 pub pairs_weigh_less : (v : Value) (ps : Vec (Value × Value) Global) (n : ℕ) → v ≡ value.Map ps → value_weight v ≤ n →
     tree_pairs_node_count (tree_pairs_of ps.items) + tree_pairs_payload_size (tree_pairs_of ps.items) < n

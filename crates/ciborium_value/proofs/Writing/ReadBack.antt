@@ -1,14 +1,12 @@
 -- What typed writing puts out is read back.
 use Rattle.std.proofs.Common.{◌≡◌, ℕ, zero, suc, ◌+◌, ◌-◌, ◌<◌, ◌≤◌, Bool, true, false, List, pos, negsuc, cond, None}
-use Rattle.std.proofs.Common.{option_map, inl, IsUtf8, refl, sym, ◌∙◌, ap, subst, arith}
-use Rattle.ciborium_ll.specs.Bytes.{AreBytes}
-use Rattle.ciborium_ll.specs.Head.{shortest_head}
+use Rattle.std.proofs.Common.{option_map, inl, IsUtf8, length, refl, sym, ◌∙◌, ap, subst, arith}
+use Rattle.ciborium_ll.specs.Bytes.{AreBytes, greatest_offset}
 use Rattle.ciborium_ll.specs.Item.{Item, unsigned, negative, bytes, text, array, map, tag, simple, float, Items}
 use Rattle.ciborium_ll.specs.Item.{no_items, item, items_count, Pairs, no_pairs, pair, pairs_count}
-use Rattle.ciborium_ll.specs.Spells.{Spells, SpellsItems, SpellsPairs, IsContainer}
-use Rattle.ciborium_ll.proofs.ShortestHead.{shortest_is_head}
-use Rattle.ciborium_value.specs.Encoding.{item_of, items_of, pairs_of, enclosed, written_bytes, items_bytes}
-use Rattle.ciborium_value.specs.Encoding.{pairs_bytes, written_tree, written_trees, written_pairs, simple_tree}
+use Rattle.ciborium_ll.specs.Spells.{IsContainer, IsString}
+use Rattle.ciborium_value.specs.Encoding.{item_of, items_of, pairs_of, enclosed, items_bytes, pairs_bytes}
+use Rattle.ciborium_value.specs.Encoding.{simple_tree, string_bytes, written_pairs, written_tree, written_trees}
 use Rattle.ciborium_value.specs.Folded.{folded, trees_folded, tree_pairs_folded, short_bytes, tree_folding_bytes}
 use Rattle.ciborium_value.specs.Meaning.{meaning, items_meaning, pairs_meaning, simple_meaning, short_string}
 use Rattle.ciborium_value.specs.Meaning.{is_bignum_tag, tag_meaning, trees_more, tree_pairs_more}
@@ -17,7 +15,7 @@ use Rattle.ciborium_value.specs.Tree as trees
 use Rattle.ciborium_value.specs.Tree.{Tree, Trees, TreePairs}
 use Rattle.ciborium_value.specs.WrittenItems.{IsAnnounced, IsWritten, AreWritten, PairsAreWritten, WrittenSpells}
 use Rattle.ciborium_value.specs.WrittenItems.{WrittenTreeFolds, WrittenTreeIsProper}
-use Rattle.ciborium_value.proofs.Writing.Written.{string_written, parts_enclosed, simple_written, items_count-items_of}
+use Rattle.ciborium_value.proofs.Writing.Written.{string_written, parts_enclosed, simple_written, spells_item, items_count-items_of}
 use Rattle.ciborium_value.proofs.Writing.Written.{pairs_count-pairs_of}
 
 -- ---- it spells the item
@@ -27,58 +25,19 @@ enclosed_as_announced : (open_ : Bool) (major count : ℕ) (r : List ℕ) → Is
 enclosed_as_announced false major count r fits = parts_enclosed false major count r fits
 enclosed_as_announced true major count r fits = refl
 
-mutual
-  pub written_item_spells : (i : Item) → IsWritten i → Spells (written_bytes i) i
-  written_item_spells (unsigned n) h = shortest_is_head 0 n h
-  written_item_spells (negative n) h = shortest_is_head 1 n h
-  written_item_spells (bytes false b) h = string_written false 2 AreBytes b h.1.0 h.1.1
-  written_item_spells (bytes true b) h = let no : true ≡ false = h.0 in cc
-  written_item_spells (text false b) h = string_written false 3 IsUtf8 b h.1.0 h.1.1.1
-  written_item_spells (text true b) h = let no : true ≡ false = h.0 in cc
-  written_item_spells (array open_ is) h = (
-    items_bytes is,
-    written_items_spell is h.1,
-    enclosed_as_announced open_ 4 (items_count is) (items_bytes is) h.0,
-  )
-  written_item_spells (map open_ ps) h = (
-    pairs_bytes ps,
-    written_pairs_spell ps h.1,
-    enclosed_as_announced open_ 5 (pairs_count ps) (pairs_bytes ps) h.0,
-  )
-  written_item_spells (tag t i) h = (
-    shortest_head 6 t,
-    written_bytes i,
-    shortest_is_head 6 t h.0,
-    written_item_spells i h.1,
-    refl,
-  )
-  written_item_spells (simple n) h = let small : n < 23 = h.1 in simple_written n (inl (omega (arith, small)))
-  written_item_spells (float raw) h = absurd h
-
-  written_items_spell : (is : Items) → AreWritten is → SpellsItems (items_bytes is) is
-  written_items_spell no_items h = refl
-  written_items_spell (item i is) h = (
-    written_bytes i,
-    items_bytes is,
-    written_item_spells i h.0,
-    written_items_spell is h.1,
-    refl,
-  )
-
-  written_pairs_spell : (ps : Pairs) → PairsAreWritten ps → SpellsPairs (pairs_bytes ps) ps
-  written_pairs_spell no_pairs h = refl
-  written_pairs_spell (pair k v ps) h = (
-    written_bytes k,
-    written_bytes v,
-    pairs_bytes ps,
-    written_item_spells k h.0,
-    written_item_spells v h.1,
-    written_pairs_spell ps h.2,
-    refl,
-  )
+string_as_written : (o : Bool) (major : ℕ) (IsAllowed : List ℕ → Type 0) (b : List ℕ) → o ≡ false → IsAllowed b →
+    length b ≤ greatest_offset → IsString o major IsAllowed (string_bytes o major b) b
+string_as_written false major IsAllowed b closed h fits = string_written false major IsAllowed b h fits
+string_as_written true major IsAllowed b closed h fits = cc
 
 pub written_spells_item : WrittenSpells
-written_spells_item i h = written_item_spells i h
+written_spells_item = spells_item IsWritten AreWritten PairsAreWritten (λ n h. h) (λ n h. h)
+    (λ o b h. string_as_written o 2 AreBytes b h.0 h.1.0 h.1.1)
+    (λ o b h. string_as_written o 3 IsUtf8 b h.0 h.1.0 h.1.1.1)
+    (λ o is h. (enclosed_as_announced o 4 (items_count is) (items_bytes is) h.0, h.1))
+    (λ o ps h. (enclosed_as_announced o 5 (pairs_count ps) (pairs_bytes ps) h.0, h.1)) (λ t i h. h)
+    (λ n h. let small : n < 23 = h.1 in simple_written n (inl (omega (arith, small)))) (λ raw h. absurd h)
+    (λ i is h. h) (λ k v ps h. h)
 
 -- ---- it means the folding of its tree
 

@@ -6,7 +6,7 @@ use Rattle.ciborium_ll.specs.Bytes.{AreBytes, greatest_offset}
 use Rattle.ciborium_ll.specs.Head.{shortest_head, simple_bytes, IsSimple, IsFloat}
 use Rattle.ciborium_ll.specs.Item.{Item, unsigned, negative, bytes, text, array, map, tag, simple, float, Items}
 use Rattle.ciborium_ll.specs.Item.{no_items, item, items_count, Pairs, no_pairs, pair, pairs_count}
-use Rattle.ciborium_ll.specs.ProperItems.{IsProperItem, AreProperItems, AreProperPairs}
+use Rattle.ciborium_ll.specs.ProperItems.{IsArgument, IsProperItem, AreProperItems, AreProperPairs}
 use Rattle.ciborium_ll.specs.Spells.{IsDefiniteString, IsString, IsContainer, Spells, SpellsItems, SpellsPairs}
 use Rattle.ciborium_ll.proofs.ShortestHead.{shortest_is_head}
 use Rattle.ciborium_value.specs.Encoding.{item_of, items_of, pairs_of, enclosed, string_bytes, float_bytes}
@@ -52,49 +52,59 @@ float_written raw (inl h) = inl (h, grind (arith, nat_tests))
 float_written raw (inr (inl h)) = inr (inl (h, grind (arith, nat_tests)))
 float_written raw (inr (inr h)) = inr (inr (h, grind (arith, nat_tests)))
 
--- ---- what is written for a proper item spells it
+-- ---- what is written for an item spells it
 
-mutual
-  pub written_spells : (i : Item) → IsProperItem i → Spells (written_bytes i) i
-  written_spells (unsigned n) h = shortest_is_head 0 n h
-  written_spells (negative n) h = shortest_is_head 1 n h
-  written_spells (bytes open_ b) h = string_written open_ 2 AreBytes b h.0 h.1
-  written_spells (text open_ b) h = string_written open_ 3 IsUtf8 b h.0 h.1.1
-  written_spells (array open_ is) h = (
-    items_bytes is,
-    items_written is h.1,
-    parts_enclosed open_ 4 (items_count is) (items_bytes is) h.0,
-  )
-  written_spells (map open_ ps) h = (
-    pairs_bytes ps,
-    pairs_written ps h.1,
-    parts_enclosed open_ 5 (pairs_count ps) (pairs_bytes ps) h.0,
-  )
-  written_spells (tag t i) h = (
-    shortest_head 6 t,
-    written_bytes i,
-    shortest_is_head 6 t h.0,
-    written_spells i h.1,
-    refl,
-  )
-  written_spells (simple n) h = simple_written n h
-  written_spells (float raw) h = float_written raw h.1
+-- for these items, lists of items and lists of pairs it does, where it does for those without parts
+module _ (Is : Item → Type 0) (Are : Items → Type 0) (ArePairs : Pairs → Type 0)
+    (argument : (n : ℕ) → Is (unsigned n) → IsArgument n) (below : (n : ℕ) → Is (negative n) → IsArgument n)
+    (of_bytes : (o : Bool) (b : List ℕ) → Is (bytes o b) → Spells (written_bytes (bytes o b)) (bytes o b))
+    (of_text : (o : Bool) (b : List ℕ) → Is (text o b) → Spells (written_bytes (text o b)) (text o b))
+    (items : (o : Bool) (is : Items) → Is (array o is) →
+    IsContainer o 4 (items_count is) (written_bytes (array o is)) (items_bytes is) × Are is)
+    (entries : (o : Bool) (ps : Pairs) → Is (map o ps) →
+    IsContainer o 5 (pairs_count ps) (written_bytes (map o ps)) (pairs_bytes ps) × ArePairs ps)
+    (content : (t : ℕ) (i : Item) → Is (tag t i) → IsArgument t × Is i)
+    (of_simple : (n : ℕ) → Is (simple n) → Spells (written_bytes (simple n)) (simple n))
+    (of_float : (raw : List ℕ) → Is (float raw) → Spells (written_bytes (float raw)) (float raw))
+    (first : (i : Item) (is : Items) → Are (item i is) → Is i × Are is)
+    (entry : (k v : Item) (ps : Pairs) → ArePairs (pair k v ps) → Is k × Is v × ArePairs ps) where
+  mutual
+    pub spells_item : (i : Item) → Is i → Spells (written_bytes i) i
+    spells_item (unsigned n) h = shortest_is_head 0 n (argument n h)
+    spells_item (negative n) h = shortest_is_head 1 n (below n h)
+    spells_item (bytes o b) h = of_bytes o b h
+    spells_item (text o b) h = of_text o b h
+    spells_item (array o is) h = let (open_, all) = items o is h in (items_bytes is, spells_items is all, open_)
+    spells_item (map o ps) h = let (open_, all) = entries o ps h in (pairs_bytes ps, spells_pairs ps all, open_)
+    spells_item (tag t i) h = let (n, is) = content t i h in
+        (shortest_head 6 t, written_bytes i, shortest_is_head 6 t n, spells_item i is, refl)
+    spells_item (simple n) h = of_simple n h
+    spells_item (float raw) h = of_float raw h
 
-  items_written : (is : Items) → AreProperItems is → SpellsItems (items_bytes is) is
-  items_written no_items h = refl
-  items_written (item i is) h = (written_bytes i, items_bytes is, written_spells i h.0, items_written is h.1, refl)
+    spells_items : (is : Items) → Are is → SpellsItems (items_bytes is) is
+    spells_items no_items h = refl
+    spells_items (item i is) h = let (one, all) = first i is h in
+        (written_bytes i, items_bytes is, spells_item i one, spells_items is all, refl)
 
-  pairs_written : (ps : Pairs) → AreProperPairs ps → SpellsPairs (pairs_bytes ps) ps
-  pairs_written no_pairs h = refl
-  pairs_written (pair k v ps) h = (
-    written_bytes k,
-    written_bytes v,
-    pairs_bytes ps,
-    written_spells k h.0,
-    written_spells v h.1,
-    pairs_written ps h.2,
-    refl,
-  )
+    spells_pairs : (ps : Pairs) → ArePairs ps → SpellsPairs (pairs_bytes ps) ps
+    spells_pairs no_pairs h = refl
+    spells_pairs (pair k v ps) h = let (key, value, all) = entry k v ps h in (
+      written_bytes k,
+      written_bytes v,
+      pairs_bytes ps,
+      spells_item k key,
+      spells_item v value,
+      spells_pairs ps all,
+      refl,
+    )
+
+-- a proper one
+pub written_spells : (i : Item) → IsProperItem i → Spells (written_bytes i) i
+written_spells = spells_item IsProperItem AreProperItems AreProperPairs (λ n h. h) (λ n h. h)
+    (λ o b h. string_written o 2 AreBytes b h.0 h.1) (λ o b h. string_written o 3 IsUtf8 b h.0 h.1.1)
+    (λ o is h. (parts_enclosed o 4 (items_count is) (items_bytes is) h.0, h.1))
+    (λ o ps h. (parts_enclosed o 5 (pairs_count ps) (pairs_bytes ps) h.0, h.1)) (λ t i h. h) simple_written
+    (λ raw h. float_written raw h.1) (λ i is h. h) (λ k v ps h. h)
 
 -- ---- the item of a proper tree is proper
 

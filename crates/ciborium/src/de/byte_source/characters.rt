@@ -4,7 +4,7 @@ ghost use Rattle.std.specs.Prelude.{◌≡◌, ◌<◌, ◌⊎◌, IfErr, IfOk, 
 ghost use Rattle.std.specs.Prelude.{Some, chars, false, ℕ};
 ghost use Rattle.ciborium_value.specs.Sources.{IsFaultOf, IsGrantedFault};
 ghost use Rattle.ciborium_value.specs.Taken.{gives, lone_character, taken_character};
-ghost use Rattle.ciborium.specs.inner.ByteSources.{weight_left, AnswersItem, KeepsSource};
+ghost use Rattle.ciborium.specs.inner.ByteSources.{AnswersItem, PassesItem};
 ghost use Rattle.ciborium.specs.Errors.{fault_of};
 
 use crate::de::byte_source::ByteSource;
@@ -46,9 +46,7 @@ fn only_character(payload: &[u8], offset: usize) -> Result<char, Refusal>
 impl<'a, R: Read> ByteSource<'a, R> {
     /// The one character of a definite text. A text that is longer than any character is not read.
     pub(crate) fn character(&mut self) -> Result<char, Refusal>
-        ensures keeps { KeepsSource R.remaining self.old self.new result }
-        ensures levels { self.new.levels ≡ self.old.levels }
-        ensures fewer { OnOk result (weight_left self.new < weight_left self.old) }
+        ensures keeps { PassesItem R.remaining self.old self.new result }
         ensures answer { AnswersItem R.remaining self.old self.new (Some self.old.levels)
             taken_character (λ v. v) result }
         ensures memory { IfErr result (λ e. IsGrantedFault (fault_of e) false) }

@@ -2,7 +2,7 @@
 
 ghost use Rattle.std.specs.Prelude.{◌≡◌, ◌<◌, OnOk, Some, string_bytes};
 ghost use Rattle.ciborium_value.specs.Taken.{taken_name};
-ghost use Rattle.ciborium.specs.inner.ByteSources.{weight_left, AnswersItem, KeepsSource};
+ghost use Rattle.ciborium.specs.inner.ByteSources.{AnswersItem, PassesItem};
 
 use crate::de::byte_source::ByteSource;
 use crate::de::error::{Error, Refusal};
@@ -15,9 +15,7 @@ impl<'a, R: Read> ByteSource<'a, R> {
     /// A text, or a byte string that is UTF-8 once its chunks are joined.
     #[inline(always)]
     pub(crate) fn name(&mut self, alloc: Global) -> Result<String, Refusal>
-        ensures keeps { KeepsSource R.remaining self.old self.new result }
-        ensures levels { self.new.levels ≡ self.old.levels }
-        ensures fewer { OnOk result (weight_left self.new < weight_left self.old) }
+        ensures keeps { PassesItem R.remaining self.old self.new result }
         ensures answer { AnswersItem R.remaining self.old self.new (Some self.old.levels)
             taken_name string_bytes result }
     {

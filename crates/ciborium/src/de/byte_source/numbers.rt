@@ -8,7 +8,7 @@ ghost use Rattle.ciborium_ll.specs.declared.header.Header.TheVariants as heads;
 ghost use Rattle.ciborium_value.specs.Sources.{IsGrantedFault, TakesOnly};
 ghost use Rattle.ciborium_value.specs.Taken.{taken_bignum, taken_integer};
 ghost use Rattle.ciborium.specs.inner.ByteSources.{HasTaken, IsUnread, bytes_weight, end_at};
-ghost use Rattle.ciborium.specs.inner.ByteSources.{weight_left, AnswersItem, KeepsSource};
+ghost use Rattle.ciborium.specs.inner.ByteSources.{AnswersItem, KeepsSource, PassesItem, weight_left};
 ghost use Rattle.ciborium.specs.Errors.{fault_of};
 ghost use Rattle.ciborium.specs.inner.StringContents.{DeniesContent, DeniesJust, TakesDigits};
 ghost use Rattle.ciborium.specs.inner.StringContents.{TakesNumber, one_digit_more};
@@ -169,9 +169,7 @@ impl<'a, R: Read> ByteSource<'a, R> {
     /// A number, and the offset of its head or, for a bignum, of the tag of it.
     #[inline(always)]
     pub(crate) fn read_integer(&mut self) -> Result<((bool, u128), usize), Refusal>
-        ensures keeps { KeepsSource R.remaining self.old self.new result }
-        ensures levels { self.new.levels ≡ self.old.levels }
-        ensures fewer { OnOk result (weight_left self.new < weight_left self.old) }
+        ensures keeps { PassesItem R.remaining self.old self.new result }
         ensures answer { AnswersItem R.remaining self.old self.new (Some self.old.levels)
             taken_integer (λ v. v.0) result }
         ensures memory { IfErr result (λ e. IsGrantedFault (fault_of e) false) }

@@ -4,7 +4,7 @@ ghost use Rattle.std.specs.Prelude.{◌≡◌, ◌<◌, IfErr, IfSome, None, OnO
 ghost use Rattle.ciborium_value.specs.Sources.{IsGrantedFault, Tells};
 ghost use Rattle.ciborium_value.specs.Taken.{is_null_simple, taken_boolean, taken_unit};
 ghost use Rattle.ciborium.specs.inner.ByteSources.{StandsBefore, weight_left, AnswersItem};
-ghost use Rattle.ciborium.specs.inner.ByteSources.{KeepsSource, tells_null};
+ghost use Rattle.ciborium.specs.inner.ByteSources.{PassesItem, tells_null};
 ghost use Rattle.ciborium.specs.Errors.{fault_of};
 
 use crate::de::byte_source::ByteSource;
@@ -61,9 +61,7 @@ impl<'a, R: Read> ByteSource<'a, R> {
 
     #[inline(always)]
     pub(crate) fn boolean(&mut self) -> Result<bool, Refusal>
-        ensures keeps { KeepsSource R.remaining self.old self.new result }
-        ensures levels { self.new.levels ≡ self.old.levels }
-        ensures fewer { OnOk result (weight_left self.new < weight_left self.old) }
+        ensures keeps { PassesItem R.remaining self.old self.new result }
         ensures answer { AnswersItem R.remaining self.old self.new (Some self.old.levels)
             taken_boolean (λ v. v) result }
         ensures memory { IfErr result (λ e. IsGrantedFault (fault_of e) false) }
@@ -85,9 +83,7 @@ impl<'a, R: Read> ByteSource<'a, R> {
 
     #[inline(always)]
     pub(crate) fn unit(&mut self) -> Result<(), Refusal>
-        ensures keeps { KeepsSource R.remaining self.old self.new result }
-        ensures levels { self.new.levels ≡ self.old.levels }
-        ensures fewer { OnOk result (weight_left self.new < weight_left self.old) }
+        ensures keeps { PassesItem R.remaining self.old self.new result }
         ensures answer { AnswersItem R.remaining self.old self.new (Some self.old.levels)
             taken_unit (λ v. v) result }
         ensures memory { IfErr result (λ e. IsGrantedFault (fault_of e) false) }

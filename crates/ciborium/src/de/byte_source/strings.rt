@@ -7,7 +7,7 @@ ghost use Rattle.ciborium_ll.specs.StringRefusal.{of_bytes, of_text};
 ghost use Rattle.ciborium_value.specs.Sources.{IsGrantedFault, TakesOnly};
 ghost use Rattle.ciborium_value.specs.Taken.{taken_text};
 ghost use Rattle.ciborium.specs.inner.ByteSources.{HasTaken, IsUnread, bytes_weight, end_at};
-ghost use Rattle.ciborium.specs.inner.ByteSources.{weight_left, AnswersItem, KeepsSource};
+ghost use Rattle.ciborium.specs.inner.ByteSources.{AnswersItem, PassesItem, weight_left};
 ghost use Rattle.ciborium.specs.Errors.{fault_of};
 ghost use Rattle.ciborium.specs.inner.StringContents.{DeniesContent, DeniesJust, TakesContent};
 ghost use Rattle.ciborium.specs.inner.StringContents.{TakesJust};
@@ -95,9 +95,7 @@ impl<'a, R: Read> ByteSource<'a, R> {
 
     #[inline(always)]
     pub(crate) fn text(&mut self, alloc: Global) -> Result<String, Refusal>
-        ensures keeps { KeepsSource R.remaining self.old self.new result }
-        ensures levels { self.new.levels ≡ self.old.levels }
-        ensures fewer { OnOk result (weight_left self.new < weight_left self.old) }
+        ensures keeps { PassesItem R.remaining self.old self.new result }
         ensures answer { AnswersItem R.remaining self.old self.new (Some self.old.levels)
             taken_text string_bytes result }
     {

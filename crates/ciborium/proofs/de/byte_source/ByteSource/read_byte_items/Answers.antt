@@ -77,7 +77,7 @@ returns-in_err-byte-clause-refused g c =
     (range-refuses g.R.Read.remaining c.next_part.new.self c.read_integer.new.self c.in_ok-number.number fault
     c.in_err-byte.ensures.refused
     (takes-read g.R.Read.remaining c.next_part.new.self c.read_integer.new.self taken_integer c.in_ok-number.number
-    (read.keeps.same_reader, read.keeps.only) read.levels read.keeps.pending read.fewer read.answer)))
+    (read.keeps.same_reader, read.keeps.only) read.keeps.levels read.keeps.pending read.keeps.fewer read.answer)))
 
 pub items-preserved : goal.items-preserved
 items-preserved g c =
@@ -95,10 +95,10 @@ items-preserved g c =
     byte-takes g.R.Read.remaining c.next_part.new.self c.read_integer.new.self c.in_ok-number.number c.in_ok-byte.byte
     c.in_ok-byte.ensures.ok
     (takes-read g.R.Read.remaining c.next_part.new.self c.read_integer.new.self taken_integer c.in_ok-number.number
-    (read.keeps.same_reader, read.keeps.only) read.levels read.keeps.pending read.fewer read.answer) in record {
+    (read.keeps.same_reader, read.keeps.only) read.keeps.levels read.keeps.pending read.keeps.fewer read.answer) in record {
       same_reader = read.keeps.same_reader ∙ c.in_ok-goes_on.ensures.same_reader ∙ c.items.invariant.same_reader;
       only = λ first h. read.keeps.only first (c.in_ok-goes_on.ensures.only first (c.items.invariant.only first h));
-      fewer = omega (arith, read.fewer, c.in_ok-goes_on.ensures.fewer, c.items.invariant.fewer);
+      fewer = omega (arith, read.keeps.fewer, c.in_ok-goes_on.ensures.fewer, c.items.invariant.fewer);
       read = subst (λ vs. ReadsPartly g.R.Read.remaining taken_byte c.args.self.now c.args.seq c.read_integer.new.self
           c.next_part.new.seq vs) (sym c.in-Ok.ensures.items)
           (partly-more g.R.Read.remaining taken_byte c.args.self.now c.args.seq c.items.self c.next_part.new.self

@@ -4,7 +4,7 @@ use Rattle.ciborium.proofs.de.byte_source.source.ByteSourceSource.boolean.Goals 
 
 pub returns-clause-ok : goal.returns-clause-ok
 returns-clause-ok g c = answers-ok g.R.Read.remaining c.args.self.now c.boolean.new.self taken_boolean (λ v. v)
-    c.boolean.result c.boolean.ensures.keeps c.boolean.ensures.levels c.boolean.ensures.fewer c.boolean.ensures.answer
+    c.boolean.result c.boolean.ensures.keeps c.boolean.ensures.answer
 
 pub returns-clause-refused : goal.returns-clause-refused
 returns-clause-refused g c = answers-refused g.R.Read.remaining c.args.self.now c.boolean.new.self taken_boolean

@@ -4,8 +4,7 @@ use Rattle.ciborium.proofs.de.byte_source.source.ByteSourceSource.character.Goal
 
 pub returns-clause-ok : goal.returns-clause-ok
 returns-clause-ok g c = answers-ok g.R.Read.remaining c.args.self.now c.character.new.self taken_character (λ v. v)
-    c.character.result c.character.ensures.keeps c.character.ensures.levels c.character.ensures.fewer
-    c.character.ensures.answer
+    c.character.result c.character.ensures.keeps c.character.ensures.answer
 
 pub returns-clause-refused : goal.returns-clause-refused
 returns-clause-refused g c = answers-refused g.R.Read.remaining c.args.self.now c.character.new.self taken_character

@@ -8,7 +8,7 @@ pub returns-clause-ok : goal.returns-clause-ok
 returns-clause-ok g c =
     let read = c.in_ok-number.ensures in
     takes-read g.R.Read.remaining c.args.self.now c.read_integer.new.self taken_integer c.in_ok-number.number
-    (read.keeps.same_reader, read.keeps.only) read.levels read.keeps.pending read.fewer read.answer
+    (read.keeps.same_reader, read.keeps.only) read.keeps.levels read.keeps.pending read.keeps.fewer read.answer
 
 pub returns-in_err-number-clause-refused : goal.returns-in_err-number-clause-refused
 returns-in_err-number-clause-refused g c =

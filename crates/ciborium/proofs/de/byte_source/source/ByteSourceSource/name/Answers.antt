@@ -5,7 +5,7 @@ use Rattle.ciborium.proofs.de.byte_source.source.ByteSourceSource.name.Goals as 
 
 pub returns-clause-ok : goal.returns-clause-ok
 returns-clause-ok g c = answers-ok g.R.Read.remaining c.args.self.now c.name.new.self taken_name string_bytes
-    c.name.result c.name.ensures.keeps c.name.ensures.levels c.name.ensures.fewer c.name.ensures.answer
+    c.name.result c.name.ensures.keeps c.name.ensures.answer
 
 pub returns-clause-refused : goal.returns-clause-refused
 returns-clause-refused g c = answers-refused g.R.Read.remaining c.args.self.now c.name.new.self taken_name string_bytes

@@ -5,7 +5,7 @@ use Rattle.ciborium.proofs.de.byte_source.source.ByteSourceSource.text.Goals as 
 
 pub returns-clause-ok : goal.returns-clause-ok
 returns-clause-ok g c = answers-ok g.R.Read.remaining c.args.self.now c.text.new.self taken_text string_bytes
-    c.text.result c.text.ensures.keeps c.text.ensures.levels c.text.ensures.fewer c.text.ensures.answer
+    c.text.result c.text.ensures.keeps c.text.ensures.answer
 
 pub returns-clause-refused : goal.returns-clause-refused
 returns-clause-refused g c = answers-refused g.R.Read.remaining c.args.self.now c.text.new.self taken_text string_bytes

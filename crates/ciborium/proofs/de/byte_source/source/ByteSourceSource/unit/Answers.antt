@@ -4,7 +4,7 @@ use Rattle.ciborium.proofs.de.byte_source.source.ByteSourceSource.unit.Goals as 
 
 pub returns-clause-ok : goal.returns-clause-ok
 returns-clause-ok g c = answers-ok g.R.Read.remaining c.args.self.now c.unit.new.self taken_unit (λ v. v) c.unit.result
-    c.unit.ensures.keeps c.unit.ensures.levels c.unit.ensures.fewer c.unit.ensures.answer
+    c.unit.ensures.keeps c.unit.ensures.answer
 
 pub returns-clause-refused : goal.returns-clause-refused
 returns-clause-refused g c = answers-refused g.R.Read.remaining c.args.self.now c.unit.new.self taken_unit (λ v. v)
