@@ -3,5 +3,6 @@ pub mod Sequences
 pub mod Dictionaries
 pub mod NamedFields
 pub mod TreeReading
+pub mod TreeCalls
 pub mod TreeFaults
 pub mod TreeLevels

@@ -1,5 +1,6 @@
 -- The words of the contracts of `Source` and `Deserialize`.
-use Rattle.std.specs.Prelude.{◌≡◌, ℕ, ◌<◌, Bool, List, [], ◌∷◌, ◌++◌, IsTrue, Result, Ok, Err}
+use Rattle.std.specs.Prelude.{◌≡◌, ℕ, ◌<◌, ◌≤◌, Bool, List, [], ◌∷◌, ◌++◌, IsTrue, Result, Ok, Err}
+use Rattle.std.specs.Prelude.{IfErr, IfOk, OnErr, OnOk}
 use Rattle.ciborium_ll.specs.Bytes.{greatest_offset}
 use Rattle.ciborium_ll.specs.Item.{Item}
 use Rattle.ciborium_ll.specs.Spells.{Spells}
@@ -176,6 +177,18 @@ TakesNothing IsUnread old new = TakesTo IsUnread old new (λ b u. u ≡ b)
 -- on top of what was taken since any first state, just a beginning of what was unread is taken
 abbrev pub TakesOnly : {S : Type 0} → (S → S → Type 0) → S → S → Type 0
 TakesOnly {S = S} HasTaken old new = (first : S) → HasTaken first old → HasTaken first new
+
+-- what is said of a call for one item: the answer is what the item gives, and just the item was
+-- taken; or it is refused only where the item is, and for that; and no more is left than before
+pub record TakesOneItem {S A V E : Type 0} (StandsBefore : S → Limit → Ahead → Type 0)
+    (IsUnread : S → List ℕ → Type 0) (HasTaken : S → S → Type 0) (left : S → ℕ) (cause : E → Fault)
+    (old new : S) (taken : Taken A) (content : V → A) (result : Result V E) : Type 0 where
+  pub ok : IfOk result (λ v. TakesAhead StandsBefore old new taken (content v))
+  pub refused : IfErr result (λ e. RefusesAhead StandsBefore old taken (cause e))
+  pub took : OnOk result (TakesItem IsUnread old new)
+  pub only : TakesOnly HasTaken old new
+  pub less : OnOk result (left new < left old)
+  pub no_more : OnErr result (left new ≤ left old)
 
 -- an item at the front of u completes one at the front of b, with the same end
 abbrev pub Completes : List ℕ → List ℕ → Type 0

@@ -8,9 +8,9 @@ ghost use Rattle.ciborium_value.specs.Places.{Shape, dictionary, sequence};
 ghost use Rattle.ciborium_value.specs.Sources.{Completes, Enters, EntersMap, Fault, GivesBack};
 ghost use Rattle.ciborium_value.specs.Sources.{GoesOn, Holds, IsGrantedFault, Leaves, OwesLess};
 ghost use Rattle.ciborium_value.specs.Sources.{OwesNothing, RefusesAhead, RefusesNext};
-ghost use Rattle.ciborium_value.specs.Sources.{RefusesToTell};
-ghost use Rattle.ciborium_value.specs.Sources.{TakesAhead, TakesItem, TakesNothing, TakesOnly};
-ghost use Rattle.ciborium_value.specs.Sources.{TakesTo, Tells, of_kind, of_memory, read_as};
+ghost use Rattle.ciborium_value.specs.Sources.{RefusesToTell, TakesNothing, TakesOneItem};
+ghost use Rattle.ciborium_value.specs.Sources.{TakesOnly, TakesTo, Tells, of_kind, of_memory};
+ghost use Rattle.ciborium_value.specs.Sources.{read_as};
 ghost use Rattle.ciborium_value.specs.Taken.{taken_boolean, taken_bytes, taken_character};
 ghost use Rattle.ciborium_value.specs.Taken.{taken_integer, taken_name, taken_outer_tag};
 ghost use Rattle.ciborium_value.specs.Taken.{taken_pairs, taken_seq, taken_text, taken_unit};
@@ -75,85 +75,46 @@ pub trait Source {
     /// length, that has at most 16 bytes after its leading zeros (sections 3.1 and 3.4.3). A longer
     /// one is refused as `TooLarge`, another item under the tag as `Bytes`, any other as `Integer`.
     fn integer(&mut self) -> Result<(bool, u128), Self::Error>
-        ensures ok { IfOk result (λ v. TakesAhead stands_before self.old self.new taken_integer v) }
-        ensures refused { IfErr result
-            (λ e. RefusesAhead stands_before self.old taken_integer (cause e)) }
-        ensures memory { IfErr result (λ e. IsGrantedFault (cause e) false) }
-        ensures took { OnOk result (TakesItem is_unread self.old self.new) }
-        ensures only { TakesOnly has_taken self.old self.new }
-        ensures less { OnOk result (left self.new < left self.old) }
-        ensures no_more { OnErr result (left self.new ≤ left self.old) };
+        ensures takes { TakesOneItem stands_before is_unread has_taken left cause self.old self.new
+            taken_integer (λ v. v) result }
+        ensures memory { IfErr result (λ e. IsGrantedFault (cause e) false) };
 
     /// False or true (section 3.3). Skips tags; another item is refused as `Bool`.
     fn boolean(&mut self) -> Result<bool, Self::Error>
-        ensures ok { IfOk result (λ v. TakesAhead stands_before self.old self.new taken_boolean v) }
-        ensures refused { IfErr result
-            (λ e. RefusesAhead stands_before self.old taken_boolean (cause e)) }
-        ensures memory { IfErr result (λ e. IsGrantedFault (cause e) false) }
-        ensures took { OnOk result (TakesItem is_unread self.old self.new) }
-        ensures only { TakesOnly has_taken self.old self.new }
-        ensures less { OnOk result (left self.new < left self.old) }
-        ensures no_more { OnErr result (left self.new ≤ left self.old) };
+        ensures takes { TakesOneItem stands_before is_unread has_taken left cause self.old self.new
+            taken_boolean (λ v. v) result }
+        ensures memory { IfErr result (λ e. IsGrantedFault (cause e) false) };
 
     /// Null or undefined (section 3.3). Skips tags; another item is refused as `Unit`.
     fn unit(&mut self) -> Result<(), Self::Error>
-        ensures ok { IfOk result (λ v. TakesAhead stands_before self.old self.new taken_unit v) }
-        ensures refused { IfErr result
-            (λ e. RefusesAhead stands_before self.old taken_unit (cause e)) }
-        ensures memory { IfErr result (λ e. IsGrantedFault (cause e) false) }
-        ensures took { OnOk result (TakesItem is_unread self.old self.new) }
-        ensures only { TakesOnly has_taken self.old self.new }
-        ensures less { OnOk result (left self.new < left self.old) }
-        ensures no_more { OnErr result (left self.new ≤ left self.old) };
+        ensures takes { TakesOneItem stands_before is_unread has_taken left cause self.old self.new
+            taken_unit (λ v. v) result }
+        ensures memory { IfErr result (λ e. IsGrantedFault (cause e) false) };
 
     /// The one character of a definite text. Skips tags; another item is refused as `Char`.
     fn character(&mut self) -> Result<char, Self::Error>
-        ensures ok { IfOk result
-            (λ v. TakesAhead stands_before self.old self.new taken_character v) }
-        ensures refused { IfErr result
-            (λ e. RefusesAhead stands_before self.old taken_character (cause e)) }
-        ensures memory { IfErr result (λ e. IsGrantedFault (cause e) false) }
-        ensures took { OnOk result (TakesItem is_unread self.old self.new) }
-        ensures only { TakesOnly has_taken self.old self.new }
-        ensures less { OnOk result (left self.new < left self.old) }
-        ensures no_more { OnErr result (left self.new ≤ left self.old) };
+        ensures takes { TakesOneItem stands_before is_unread has_taken left cause self.old self.new
+            taken_character (λ v. v) result }
+        ensures memory { IfErr result (λ e. IsGrantedFault (cause e) false) };
 
     /// A text, of definite or indefinite length (section 3.1). Skips tags; another item is refused
     /// as `Text`.
     fn text(&mut self, alloc: Global) -> Result<String, Self::Error>
-        ensures ok { IfOk result
-            (λ v. TakesAhead stands_before self.old self.new taken_text (string_bytes v)) }
-        ensures refused { IfErr result
-            (λ e. RefusesAhead stands_before self.old taken_text (cause e)) }
-        ensures took { OnOk result (TakesItem is_unread self.old self.new) }
-        ensures only { TakesOnly has_taken self.old self.new }
-        ensures less { OnOk result (left self.new < left self.old) }
-        ensures no_more { OnErr result (left self.new ≤ left self.old) };
+        ensures takes { TakesOneItem stands_before is_unread has_taken left cause self.old self.new
+            taken_text string_bytes result };
 
     /// The bytes of a byte string, of definite or indefinite length (section 3.1); or those of an
     /// array, which takes a level, of numbers from 0 to 255, each as `integer` reads it: a number
     /// out of this range is refused as `Range`. Skips tags; another item is refused as `Bytes`.
     fn bytes(&mut self, alloc: Global) -> Result<Vec<u8>, Self::Error>
-        ensures ok { IfOk result
-            (λ v. TakesAhead stands_before self.old self.new taken_bytes v.items) }
-        ensures refused { IfErr result
-            (λ e. RefusesAhead stands_before self.old taken_bytes (cause e)) }
-        ensures took { OnOk result (TakesItem is_unread self.old self.new) }
-        ensures only { TakesOnly has_taken self.old self.new }
-        ensures less { OnOk result (left self.new < left self.old) }
-        ensures no_more { OnErr result (left self.new ≤ left self.old) };
+        ensures takes { TakesOneItem stands_before is_unread has_taken left cause self.old self.new
+            taken_bytes (λ v. v.items) result };
 
     /// A name: a text, or a byte string that is UTF-8 once its chunks are joined, either of
     /// definite or indefinite length (section 3.1). Skips tags; another item is refused as `Name`.
     fn name(&mut self, alloc: Global) -> Result<String, Self::Error>
-        ensures ok { IfOk result
-            (λ v. TakesAhead stands_before self.old self.new taken_name (string_bytes v)) }
-        ensures refused { IfErr result
-            (λ e. RefusesAhead stands_before self.old taken_name (cause e)) }
-        ensures took { OnOk result (TakesItem is_unread self.old self.new) }
-        ensures only { TakesOnly has_taken self.old self.new }
-        ensures less { OnOk result (left self.new < left self.old) }
-        ensures no_more { OnErr result (left self.new ≤ left self.old) };
+        ensures takes { TakesOneItem stands_before is_unread has_taken left cause self.old self.new
+            taken_name string_bytes result };
 
     /// Whether the item ahead is null or undefined, without a tag. It is not taken.
     fn null_ahead(&mut self) -> Result<bool, Self::Error>
@@ -249,15 +210,9 @@ pub trait Source {
 
     /// The item ahead, of any type, as a `Value`: its meaning, with bignums folded (section 3.4.3).
     fn value(&mut self, alloc: Global) -> Result<Value, Self::Error>
-        ensures ok { IfOk result
-            (λ v. TakesAhead stands_before self.old self.new taken_value (tree_of v)) }
-        ensures refused { IfErr result
-            (λ e. RefusesAhead stands_before self.old taken_value (cause e)) }
-        ensures reads { reads self.old self.new (read_as tree_of result) }
-        ensures took { OnOk result (TakesItem is_unread self.old self.new) }
-        ensures only { TakesOnly has_taken self.old self.new }
-        ensures less { OnOk result (left self.new < left self.old) }
-        ensures no_more { OnErr result (left self.new ≤ left self.old) };
+        ensures takes { TakesOneItem stands_before is_unread has_taken left cause self.old self.new
+            taken_value tree_of result }
+        ensures reads { reads self.old self.new (read_as tree_of result) };
 
     /// The error with which an implementation of `Deserialize` refuses an item.
     fn refuse(&self, kind: Kind) -> Self::Error

@@ -1,19 +1,19 @@
 -- Bytes that are read as the numbers of a sequence.
 use Rattle.std.proofs.Common.{◌≡◌, ◌≢◌, ℕ, ◌+◌, ◌-◌, ◌<◌, ◌≤◌, Bool, false, List, [], ◌∷◌, ◌++◌, Option, Some, None, Result}
-use Rattle.std.proofs.Common.{Ok, Err, IfErr, IfOk, OnOk, refl, sym, ap, ◌∙◌, subst, append_assoc, append-nil}
+use Rattle.std.proofs.Common.{Ok, Err, IfErr, IfOk, OnErr, OnOk, refl, sym, ap, ◌∙◌, subst, append_assoc, append-nil}
 use Rattle.ciborium_ll.specs.declared.header.Header.{Header}
 use Rattle.ciborium_ll.specs.declared.header.Header.TheVariants as header
 use Rattle.ciborium_ll.specs.Item.{Item}
 use Rattle.ciborium_ll.specs.StringRefusal.{of_bytes as string_of_bytes}
 use Rattle.ciborium_ll.proofs.UniqueSpelling.{one_at_front}
-use Rattle.ciborium_ll.specs.Decoding.{allowed_of, source_of}
+use Rattle.ciborium_ll.specs.Decoding.{HasSameReader, allowed_of, source_of}
 use Rattle.ciborium.proofs.Items.Due.{due-past, entered-fewer, held-past, on-both}
 use Rattle.ciborium_value.specs.Ahead.{Rest, Form, after, parts, past, inside, end_of}
 use Rattle.ciborium_value.specs.Nesting.{Limit}
 use Rattle.ciborium_value.specs.Places.{sequence}
 use Rattle.ciborium_value.specs.Sources.{Fault, IsFaultOf, of_kind, of_nesting, of_syntax, of_memory, of_device}
 use Rattle.ciborium_value.specs.Sources.{of_length, TakesAhead, RefusesAhead, TakesItem, TakesTo, GoesOn, Leaves}
-use Rattle.ciborium_value.specs.Sources.{RefusesNext, OwesLess, OwesNothing, HasItem}
+use Rattle.ciborium_value.specs.Sources.{RefusesNext, OwesLess, OwesNothing, HasItem, TakesOneItem, TakesOnly}
 use Rattle.ciborium_value.specs.Taken.{Outcome, Taken, gives, refuses, nests, deeper, then_take, and_take, take_each}
 use Rattle.ciborium_value.specs.Taken.{number_below, taken_integer, taken_byte, taken_bytes, bare_bytes, untagged}
 use Rattle.ciborium_value.specs.declared.kind.Kind.TheVariants as kinds
@@ -24,7 +24,7 @@ use Rattle.ciborium.specs.declared.de.error.Error.{Error}
 use Rattle.ciborium.specs.Errors.{fault_of}
 use Rattle.ciborium.specs.inner.ByteSources.{AnswersItem, PassesItem, IsUnread, StandsBefore, SeqStands, SeqOwes}
 use Rattle.ciborium.specs.inner.ByteSources.{EntersItemsUnread, ReadsRest, RefusesRest, items_due_behind, pending_count}
-use Rattle.ciborium.specs.inner.ByteSources.{HasTaken, ReadsBareHead, end_at, parts_left, reader_of, weight_left}
+use Rattle.ciborium.specs.inner.ByteSources.{HasTaken, HasTakenSince, ReadsBareHead, end_at, parts_left, reader_of, weight_left}
 use Rattle.ciborium.specs.inner.FrontItems.{Reads, Denies}
 use Rattle.ciborium.specs.inner.Skips.{under, AreSkipped, IsBare, TakesBare}
 use Rattle.ciborium.specs.inner.StringContents.{string_item, TakesContent}
@@ -308,33 +308,47 @@ bytes-read remaining old mid new len payload bare content =
     content (λ ts all. ap (bare_bytes (Some old.levels))
     (untagged-under ts (string_item string_of_bytes len payload))))
 
--- ---- what a call that is handed on answers
-
-pub ok-map : {T E : Type 0} {N : Type 0} {P Q : T → Type 0} (r : Result T E) → OnOk r N → IfOk r P →
-    (N → (v : T) → P v → Q v) → IfOk r Q
-ok-map (Ok v) n p f = f n v p
-ok-map (Err e) n p f = tt
-
 -- ---- what is answered to a call for one item
 
 module _ {S T A : Type 0} (remaining : S → Option (List ℕ)) (old new : ByteSource S) (taken : Taken A) (content : T → A)
   where
-    pub answer-given : (r : Result T (Error (Unit {0}))) →
-        AnswersItem remaining old new (Some old.levels) taken content r →
-        IfOk r (λ v. Reads (IsUnread remaining) old new (Some old.levels) taken (content v))
-    answer-given (Ok v) h = h
-    answer-given (Err e) h = tt
+    abbrev pub TakesOne : Result T (Error (Unit {0})) → Type 0
+    TakesOne = TakesOneItem (StandsBefore remaining) (IsUnread remaining) (HasTakenSince remaining) weight_left fault_of
+        old new taken content
 
-    pub answers-ok : (r : Result T (Error (Unit {0}))) → PassesItem remaining old new r →
-        AnswersItem remaining old new (Some old.levels) taken content r →
-        IfOk r (λ v. TakesAhead (StandsBefore remaining) old new taken (content v))
-    answers-ok r keeps h =
-        ok-map r (on-both _ _ r keeps.pending keeps.fewer) (answer-given r h)
-        (λ none v k. takes-read remaining old new taken (content v) (keeps.same_reader, keeps.only) keeps.levels none.0
-        none.1 k)
+    pub takes-given : (v : T) → IsKept remaining old new → new.levels ≡ old.levels → new.pending ≡ None →
+        weight_left new < weight_left old →
+        Reads (IsUnread remaining) old new (Some old.levels) taken (content v) → TakesOne (Ok v)
+    takes-given v kept levels none fewer h = record {
+      ok = takes-read remaining old new taken (content v) kept levels none fewer h;
+      refused = tt;
+      took = took-read remaining old new (Some old.levels) taken (content v) h;
+      only = λ first t. kept.1 first.decoder t;
+      less = fewer;
+      no_more = tt;
+    }
 
-    pub answers-refused : (r : Result T (Error (Unit {0}))) →
-        AnswersItem remaining old new (Some old.levels) taken content r →
-        IfErr r (λ e. RefusesAhead (StandsBefore remaining) old taken (fault_of e))
-    answers-refused (Ok v) h = tt
-    answers-refused (Err e) h = refuses-denied remaining old taken (fault_of e) h
+    pub takes-denied : (e : Error (Unit {0})) → TakesOnly (HasTaken remaining) old.decoder new.decoder →
+        weight_left new ≤ weight_left old →
+        Denies (IsUnread remaining) (end_at remaining) old (Some old.levels) taken (fault_of e) → TakesOne (Err e)
+    takes-denied e only no_more h = record {
+      ok = tt;
+      refused = refuses-denied remaining old taken (fault_of e) h;
+      took = tt;
+      only = λ first t. only first.decoder t;
+      less = tt;
+      no_more = no_more;
+    }
+
+    pub takes-one : (r : Result T (Error (Unit {0}))) → PassesItem remaining old new r →
+        AnswersItem remaining old new (Some old.levels) taken content r → TakesOne r
+    takes-one (Ok v) keeps h = takes-given v (keeps.same_reader, keeps.only) keeps.levels keeps.pending keeps.fewer h
+    takes-one (Err e) keeps h = takes-denied e keeps.only keeps.no_more h
+
+    -- the reader is the same at least behind an answer
+    pub takes-behind : (r : Result T (Error (Unit {0}))) → OnOk r (HasSameReader old.decoder new.decoder) →
+        TakesOnly (HasTaken remaining) old.decoder new.decoder → OnErr r (weight_left new ≤ weight_left old) →
+        new.levels ≡ old.levels → OnOk r (new.pending ≡ None) → OnOk r (weight_left new < weight_left old) →
+        AnswersItem remaining old new (Some old.levels) taken content r → TakesOne r
+    takes-behind (Ok v) same only no_more levels none fewer h = takes-given v (same, only) levels none fewer h
+    takes-behind (Err e) same only no_more levels none fewer h = takes-denied e only no_more h

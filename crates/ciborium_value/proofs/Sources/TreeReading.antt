@@ -105,10 +105,6 @@ numbers_of v vs i is h = ap (bare_bytes None) (sym h ∙ ap item_of (ap tree_of 
 
 -- ---- answers
 
-pub on_ok : {T E : Type 0} {P : Type 0} (r : Result T E) → P → OnOk r P
-on_ok (Ok v) h = h
-on_ok (Err e) h = tt
-
 pub if_ok_so : {T E : Type 0} {P Q : T → Type 0} (r : Result T E) → ((v : T) → P v → Q v) → IfOk r P → IfOk r Q
 if_ok_so (Ok v) f h = f v h
 if_ok_so (Err e) f h = tt
@@ -119,14 +115,9 @@ if_err_so (Err e) f h = f e h
 
 -- ---- weights
 
-some_node : (t : Tree) → 0 < node_count t
+pub some_node : (t : Tree) → 0 < node_count t
 some_node (trees.integer z) = omega (arith)
 some_node _ = omega (arith)
-
--- a value that was ahead is read, and the one that is due comes next
-pub read_weighs_less : (v : Value) (old new : TreeSource) → pending_tree_weight old.ahead ≡ value_weight v →
-    pending_tree_weight new.ahead ≡ due_weight old.due → due_weight new.due ≡ 0 → source_weight new < source_weight old
-read_weighs_less v old new here next none = let some = some_node (tree_of v) in omega (arith, here, next, none, some)
 
 pub due_next : (due : Option (Bor Value)) → pending_tree_weight (pending_due due) ≡ due_weight due
 due_next None = refl

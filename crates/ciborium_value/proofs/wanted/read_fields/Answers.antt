@@ -30,7 +30,7 @@ returns-in_err-name-clause-refused g c =
     (blames g.S.Source.stands_before e (so c.loop-seq.invariant.inside
     (fields_blame_name g.S.Source.stands_before g.S.Source.seq_stands fields
     (g.F.WantedFields.content c.loop-seq.fields) e (rw c.if-branch.true at c.in_ok-next.ensures.ok)
-    c.in_err-name.ensures.refused)))
+    c.in_err-name.ensures.takes.refused)))
 
 pub returns-in_err-read_field-clause-refused : goal.returns-in_err-read_field-clause-refused
 returns-in_err-read_field-clause-refused g c =
@@ -42,7 +42,7 @@ returns-in_err-read_field-clause-refused g c =
     (blames g.S.Source.stands_before e (so c.loop-seq.invariant.inside
     (fields_blame_field g.S.Source.stands_before g.S.Source.seq_stands fields
     (g.F.WantedFields.content c.loop-seq.fields) e (rw c.if-branch.true at c.in_ok-next.ensures.ok)
-    c.in_ok-name.ensures.ok
+    c.in_ok-name.ensures.takes.ok
     (subst (λ x. RefusesAhead g.S.Source.stands_before c.name.new.self
     (x.taken (string_bytes c.in_ok-name.name) (g.F.WantedFields.content c.loop-seq.fields)) e)
     c.loop-seq.invariant.names (rw c.deref.ensures at c.in_err-read_field.ensures.refused)))))
@@ -52,19 +52,19 @@ loop-seq-preserved g c = record {
   names = c.in_ok-read_field.ensures.names ∙ c.loop-seq.invariant.names;
   inside = so c.loop-seq.invariant.inside (fields_more g.S.Source.stands_before g.S.Source.seq_stands
       (g.F.WantedFields.fields c.args.fields.now) (g.F.WantedFields.content c.loop-seq.fields)
-      (rw c.if-branch.true at c.in_ok-next.ensures.ok) c.in_ok-name.ensures.ok
+      (rw c.if-branch.true at c.in_ok-next.ensures.ok) c.in_ok-name.ensures.takes.ok
       (subst (λ x. TakesAhead g.S.Source.stands_before c.name.new.self c.read_field.new.source
       (x.taken (string_bytes c.in_ok-name.name) (g.F.WantedFields.content c.loop-seq.fields))
       (g.F.WantedFields.content c.read_field.new.self)) c.loop-seq.invariant.names
       (rw c.deref.ensures at c.in_ok-read_field.ensures.ok)));
   owed = owed_pair g.S.Source.is_unread g.S.Source.owes _ _ _ _ _ _ _ c.loop-seq.invariant.owed
-      (rw c.if-branch.true at c.in_ok-next.ensures.took) c.in_ok-name.ensures.took c.in_ok-read_field.ensures.took;
-  only = λ first h. c.read_field.ensures.only first (c.name.ensures.only first
+      (rw c.if-branch.true at c.in_ok-next.ensures.took) c.in_ok-name.ensures.takes.took c.in_ok-read_field.ensures.took;
+  only = λ first h. c.read_field.ensures.only first (c.name.ensures.takes.only first
       (c.next.ensures.only first (c.loop-seq.invariant.only first h)));
   less = omega (
     arith,
     c.in_ok-next.ensures.less,
-    c.in_ok-name.ensures.less,
+    c.in_ok-name.ensures.takes.less,
     c.in_ok-read_field.ensures.less,
     c.loop-seq.invariant.less,
   );

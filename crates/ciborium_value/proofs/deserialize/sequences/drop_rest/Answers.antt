@@ -22,16 +22,16 @@ returns-in_err-value-clause-refused g c =
     c.args.source.now c.args.seq.now (g.S.Source.cause x)) c.from_residual-in_err-value.ensures.1
     (drop_refused g.S.Source.stands_before g.S.Source.seq_stands e
     (so c.loop-source.invariant.inside (drop_blames g.S.Source.stands_before g.S.Source.seq_stands e
-    (rw c.if-branch.true at c.in_ok-next.ensures.ok) c.in_err-value.ensures.refused)))
+    (rw c.if-branch.true at c.in_ok-next.ensures.ok) c.in_err-value.ensures.takes.refused)))
 
 pub loop-source-preserved : goal.loop-source-preserved
 loop-source-preserved g c = record {
   inside = so c.loop-source.invariant.inside (drop_more g.S.Source.stands_before g.S.Source.seq_stands
-      (rw c.if-branch.true at c.in_ok-next.ensures.ok) c.in_ok-value.ensures.ok);
+      (rw c.if-branch.true at c.in_ok-next.ensures.ok) c.in_ok-value.ensures.takes.ok);
   owed = dropped_more g.S.Source.is_unread g.S.Source.owes _ _ _ _ _ _ _ c.loop-source.invariant.owed
-      (rw c.if-branch.true at c.in_ok-next.ensures.took) c.in_ok-value.ensures.took;
-  only = λ first h. c.value.ensures.only first (c.next.ensures.only first (c.loop-source.invariant.only first h));
-  less = omega (arith, c.in_ok-next.ensures.less, c.in_ok-value.ensures.less, c.loop-source.invariant.less);
+      (rw c.if-branch.true at c.in_ok-next.ensures.took) c.in_ok-value.ensures.takes.took;
+  only = λ first h. c.value.ensures.takes.only first (c.next.ensures.only first (c.loop-source.invariant.only first h));
+  less = omega (arith, c.in_ok-next.ensures.less, c.in_ok-value.ensures.takes.less, c.loop-source.invariant.less);
 }
 
 pub returns-clause-ok : goal.returns-clause-ok
