@@ -1,20 +1,16 @@
-//! Types that are keys of maps: a struct and an enum, each with the order that it derives.
+//! A struct that is a key of maps, with the order that it derives; `Letter` is an enum that is one.
 ghost use Rattle.std.specs.Prelude.{◌∷◌, ◌<◌, ◌^◌, List, Ok, [], codes, pos, refl, ℕ, string_bytes};
 ghost use Rattle.std.specs.Cmp.Lexicographic.{slice_cmp};
 ghost use Rattle.std.specs.Ordering.{nat_cmp, ordering_then};
-ghost use Rattle.ciborium.specs.Readings.{below, ordered_by};
+ghost use Rattle.ciborium.specs.Readings.{ordered_by};
 ghost use Rattle.ciborium.specs.ReadsBack.{string_back};
 ghost use Rattle.ciborium.specs.lemmas.ReadsBackNumbers.{u8_back};
 ghost use Rattle.ciborium.specs.lemmas.ReadsBackStructs.{field_back, fields_read_back};
 ghost use Rattle.ciborium.specs.lemmas.ReadsBackStructs.{no_field_back};
-ghost use Rattle.ciborium.specs.lemmas.ReadsBackVariants.{data_variant_back, unit_variant_back};
 ghost use Rattle.ciborium.specs.Sinks.{fields_of, named_text, number_item};
 ghost use Rattle.ciborium.specs.StructReadings.{field, no_field, struct_of};
-ghost use Rattle.ciborium.specs.VariantReadings.{data_variant, enum_of, unit_variant};
-ghost use Rattle.ciborium.specs.WrittenContents.{field_alike, fields_alike, from_content};
+ghost use Rattle.ciborium.specs.WrittenContents.{field_alike, fields_alike};
 ghost use Rattle.ciborium.specs.WrittenContents.{no_field_alike, string-alike, unsigned-alike};
-ghost use Rattle.ciborium_callers.specs.declared.key_types.Seat.{Seat};
-ghost use Rattle.ciborium_callers.specs.declared.key_types.Seat.TheVariants.{Free, Taken};
 
 use ciborium::de::{Deserialize, Key, Source, Wanted, read_fields, required};
 use ciborium::laws::{ReadsBack, WritesContent};
@@ -78,72 +74,5 @@ impl WritesContent for Release {
 }
 
 impl Key for Release {
-    ghost orders = { λ a b. refl };
-}
-
-/// An enum: it is ordered by its variants, the first one first, and then by what they hold.
-#[derive(Debug, Drop, PartialEq, Eq, PartialOrd, Ord)]
-pub enum Seat {
-    Free,
-    Taken(u8),
-}
-
-impl Serialize for Seat {
-    ghost written = { elim [
-      | Free ↦ named_text (codes "Free")
-      | Taken n ↦ fields_of ((codes "Taken", Ok (number_item (pos n))) ∷ [])
-    ] };
-
-    ghost takes_memory = { ⊥ };
-
-    fn serialize<S: Sink>(&self, sink: &mut S) -> Result<(), S::Error> {
-        match self {
-            Seat::Free => "Free".serialize(sink),
-            Seat::Taken(number) => Field("Taken", number, NoField).serialize(sink),
-        }
-    }
-}
-
-impl Deserialize for Seat {
-    ghost Content = { Seat };
-
-    ghost reading = { ordered_by ⟦<Seat as Ord>⟧.cmp (enum_of (λ seat. seat)
-        (unit_variant (codes "Free") Free
-        ∷ data_variant (codes "Taken") Taken (below 256) ∷ [])) };
-
-    fn deserialize<S: Source>(alloc: Global, source: &mut S) -> Result<Seat, S::Error> {
-        let (name, level) = source.begin_variant(alloc)?;
-        if name.as_str() == "Free" {
-            source.unit()?;
-            source.end_variant(level);
-            return Ok(Seat::Free);
-        }
-        if name.as_str() == "Taken" {
-            let number = u8::deserialize(alloc, source)?;
-            source.end_variant(level);
-            return Ok(Seat::Taken(number));
-        }
-        Err(source.refuse(Kind::Variant))
-    }
-}
-
-impl ReadsBack for Seat {
-    ghost is_held = { elim [ Free ↦ Unit {0} | Taken n ↦ n < 2 ^ 8 ] };
-
-    ghost levels = { λ s. 1 };
-
-    ghost reads_back = { let variants = unit_variant (codes "Free") Free
-        ∷ data_variant (codes "Taken") Taken (below 256) ∷ [] in elim [
-          | Free ↦ λ held. unit_variant_back variants (codes "Free") (λ l. refl)
-          | Taken n ↦ λ held. data_variant_back variants (codes "Taken") Taken (below 256)
-              (λ l i. refl) (u8_back n held)
-        ] };
-}
-
-impl WritesContent for Seat {
-    ghost writes_content = { from_content ⟦<Seat as Serialize>⟧.written _ };
-}
-
-impl Key for Seat {
     ghost orders = { λ a b. refl };
 }

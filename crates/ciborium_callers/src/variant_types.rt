@@ -2,7 +2,7 @@
 ghost use Rattle.std.specs.Prelude.{◌∷◌, ◌<◌, ◌^◌, List, None, Ok, Option, Some, [], codes, pos};
 ghost use Rattle.std.specs.Prelude.{refl, string_bytes, ℕ};
 ghost use Rattle.ciborium.specs.Places.{sequence};
-ghost use Rattle.ciborium.specs.Readings.{below, tuple2_of};
+ghost use Rattle.ciborium.specs.Readings.{below, ordered_by, tuple2_of};
 ghost use Rattle.ciborium.specs.lemmas.ReadsBackNumbers.{u8_back};
 ghost use Rattle.ciborium.specs.lemmas.ReadsBackParts.{tuple2-back};
 ghost use Rattle.ciborium.specs.lemmas.ReadsBackStructs.{field_back, fields_read_back};
@@ -10,6 +10,7 @@ ghost use Rattle.ciborium.specs.lemmas.ReadsBackStructs.{no_field_back};
 ghost use Rattle.ciborium.specs.lemmas.ReadsBackVariants.{data_variant_back, unit_variant_back};
 ghost use Rattle.ciborium.specs.Sinks.{container_of, fields_of, named_text, number_item};
 ghost use Rattle.ciborium.specs.VariantReadings.{data_variant, enum_of, unit_variant};
+ghost use Rattle.ciborium.specs.WrittenContents.{from_content};
 ghost use Rattle.ciborium_callers.specs.declared.variant_types.Form.{Form};
 ghost use Rattle.ciborium_callers.specs.declared.variant_types.Form.TheVariants as form;
 ghost use Rattle.ciborium_callers.specs.declared.variant_types.Letter.{Letter};
@@ -18,14 +19,15 @@ ghost use Rattle.ciborium_callers.specs.declared.variant_types.Remark.TheVariant
 ghost use Rattle.ciborium_callers.specs.declared.variant_types.Remark.TheVariants.{Spoken};
 
 use crate::struct_types::Ends;
-use ciborium::de::{Deserialize, Source};
-use ciborium::laws::ReadsBack;
+use ciborium::de::{Deserialize, Key, Source};
+use ciborium::laws::{ReadsBack, WritesContent};
 use ciborium::ser::{Field, NoField, Serialize, Sink};
 use ciborium::value::Kind;
 use std::alloc::Global;
 
-/// A has no data, B a number.
-#[derive(Debug, Drop, PartialEq)]
+/// A has no data, B a number. As a key of maps it is ordered by its variants, the first one first,
+/// and then by what they hold.
+#[derive(Debug, Drop, PartialEq, Eq, PartialOrd, Ord)]
 pub enum Letter {
     A,
     B(u8),
@@ -50,8 +52,8 @@ impl Serialize for Letter {
 impl Deserialize for Letter {
     ghost Content = { Letter };
 
-    ghost reading = { enum_of (λ l. l) (unit_variant (codes "A") A
-        ∷ data_variant (codes "B") B (below 256) ∷ []) };
+    ghost reading = { ordered_by ⟦<Letter as Ord>⟧.cmp (enum_of (λ l. l)
+        (unit_variant (codes "A") A ∷ data_variant (codes "B") B (below 256) ∷ [])) };
 
     fn deserialize<S: Source>(alloc: Global, source: &mut S) -> Result<Letter, S::Error> {
         let (name, level) = source.begin_variant(alloc)?;
@@ -80,6 +82,14 @@ impl ReadsBack for Letter {
           | B n ↦ λ held. data_variant_back variants (codes "B") B (below 256)
               (λ l i. refl) (u8_back n held)
         ] };
+}
+
+impl WritesContent for Letter {
+    ghost writes_content = { from_content ⟦<Letter as Serialize>⟧.written _ };
+}
+
+impl Key for Letter {
+    ghost orders = { λ a b. refl };
 }
 
 /// A remark, of which the text counts by its bytes.

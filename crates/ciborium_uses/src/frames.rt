@@ -12,8 +12,6 @@ ghost use Rattle.ciborium.specs.TypedAnswers.{TakesGiven};
 ghost use Rattle.ciborium.specs.Writes.{WritesNamed};
 ghost use Rattle.ciborium_uses.specs.Readings.{IsReading, content_of};
 
-#[cfg(test)]
-mod file_tests;
 mod lines;
 pub mod reading;
 

@@ -24,7 +24,7 @@ fn main(rt: HostRuntime) -> io::Result<()> {
             continue;
         }
         let answer = match module {
-            "frames" => frames::answer(alloc, rest)?,
+            "frames" => frames::answer(&rt, rest)?,
             "schema" => schema::answer(alloc, rest)?,
             "settings" => settings::answer(alloc, rest)?,
             _ => String::from_str(alloc, "no such module")?,

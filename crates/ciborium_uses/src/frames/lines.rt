@@ -1,20 +1,31 @@
 //! The lines of the program: readings as words, such as `hall@1800=-5`, or `hall@0` without a
 //! level, and the bytes of a log as hex.
 use super::reading::Reading;
-use super::{LogError, read_log, through_memory, write_log};
+use super::{
+    LogError, load_log, load_sensor, read_log, save_log, through_memory, write_log, write_reading,
+};
 use std::alloc::{AllocError, Global};
+use std::fs::File;
 
-/// Answers `write WORDS` with hex, `read HEX` with words, and `keep WORDS` with the words again.
+/// Answers `write WORDS` with hex, `read HEX` with words, and `keep WORDS` with the words again. Of
+/// a file, `save PATH WORDS` makes a log of it, and so does `grow PATH WORDS`, reading by reading;
+/// `load PATH` answers its words, and `sensor PATH NAME` those of one sensor.
 ///
 /// # Errors
 ///
 /// `AllocError` where an allocation failed.
-pub fn answer(alloc: Global, line: &str) -> Result<String, AllocError> {
+pub fn answer(rt: &HostRuntime, line: &str) -> Result<String, AllocError> {
+    let alloc = rt.alloc();
     let (command, rest) = line.split_once(' ').unwrap_or((line, ""));
+    let (path, words) = rest.split_once(' ').unwrap_or((rest, ""));
     let answer = match command {
         "write" => write(alloc, rest),
         "read" => read(alloc, rest),
         "keep" => keep(alloc, rest),
+        "save" => save(rt, path, words),
+        "grow" => grow(rt, path, words),
+        "load" => load(rt, rest),
+        "sensor" => return show_sensor(rt, path, words),
         _ => String::from_str(alloc, "no such command").map_err(LogError::from),
     };
     match answer {
@@ -43,6 +54,33 @@ fn keep(alloc: Global, words: &str) -> Result<String, LogError> {
     let readings = parse_readings(alloc, words)?;
     let again = through_memory(alloc, &readings)?;
     Ok(show_readings(alloc, &again)?)
+}
+
+fn save(rt: &HostRuntime, path: &str, words: &str) -> Result<String, LogError> {
+    let readings = parse_readings(rt.alloc(), words)?;
+    save_log(rt, path, &readings)?;
+    Ok(String::from_str(rt.alloc(), "saved")?)
+}
+
+fn grow(rt: &HostRuntime, path: &str, words: &str) -> Result<String, LogError> {
+    let readings = parse_readings(rt.alloc(), words)?;
+    let mut file = File::create(rt, path)?;
+    for reading in &readings {
+        write_reading(reading, &mut file)?;
+    }
+    Ok(String::from_str(rt.alloc(), "saved")?)
+}
+
+fn load(rt: &HostRuntime, path: &str) -> Result<String, LogError> {
+    let readings = load_log(rt, path)?;
+    Ok(show_readings(rt.alloc(), &readings)?)
+}
+
+fn show_sensor(rt: &HostRuntime, path: &str, sensor: &str) -> Result<String, AllocError> {
+    match load_sensor(rt, path, sensor) {
+        Ok(readings) => show_readings(rt.alloc(), &readings),
+        Err(error) => format!(in rt.alloc(); "{error}"),
+    }
 }
 
 // The readings of words; a word that is none is passed over.

@@ -1,18 +1,5 @@
 //! The callers with contracts are run.
-use crate::callers::{
-    bytes_of, bytes_of_message, only_item, read_value, save, version, write_value,
-};
 use crate::expectations::{expect, expect_all, expect_bytes, expect_same, is_refused, is_there};
-use crate::key_types::{Release, Seat};
-use crate::own_callers::{
-    bytes_of_circle, bytes_of_moment, read_figure, read_message, read_moment,
-};
-use crate::own_types::{Figure, Message, Moment, Span};
-use crate::round_trips::bytes_of_both;
-use crate::sequence_callers::{read_both, write_both};
-use crate::struct_types::Reply;
-use crate::tag_types::bytes_under_a_tag;
-use crate::variant_types::Remark;
 use ciborium::laws::{
     equal_contents_equal_bytes, read_back_is_written_again, sources_agree, written_is_read_back,
 };
@@ -20,6 +7,19 @@ use ciborium::ser::Serialize;
 use ciborium::tag::{Accepted, Captured, Required};
 use ciborium::value::{CanonicalValue, Value};
 use ciborium::{from_reader, into_writer};
+use ciborium_callers::callers::{
+    bytes_of, bytes_of_message, only_item, read_value, save, version, write_value,
+};
+use ciborium_callers::key_types::Release;
+use ciborium_callers::own_callers::{
+    bytes_of_circle, bytes_of_moment, read_figure, read_message, read_moment,
+};
+use ciborium_callers::own_types::{Figure, Message, Moment, Span};
+use ciborium_callers::round_trips::bytes_of_both;
+use ciborium_callers::sequence_callers::{read_both, write_both};
+use ciborium_callers::struct_types::Reply;
+use ciborium_callers::tag_types::bytes_under_a_tag;
+use ciborium_callers::variant_types::{Letter, Remark};
 use std::alloc::Global;
 use std::collections::BTreeMap;
 use std::test::Fail;
@@ -206,7 +206,7 @@ fn equal_contents_have_equal_bytes(rt: HostRuntime) -> Result<(), Fail> {
     equal_contents_equal_bytes::<Required<Vec<Captured<Value>>, 7>>();
     read_back_is_written_again::<Vec<Message>>();
     read_back_is_written_again::<(Reply, Figure, Span)>();
-    read_back_is_written_again::<BTreeMap<Release, Seat>>();
+    read_back_is_written_again::<BTreeMap<Release, Letter>>();
     expect_same(first, second, "other bytes")
 }
 

@@ -1,12 +1,13 @@
 //! Maps by keys of every kind are read and written: the entries stand in the order of their keys,
 //! and of equal keys the last value counts.
 use crate::expectations::expect_bytes;
-use crate::key_types::{Release, Seat};
 use ciborium::de::Deserialize;
 use ciborium::ser::Serialize;
 use ciborium::tag::{Accepted, Captured, Required};
 use ciborium::value::Value;
 use ciborium::{from_reader, into_writer};
+use ciborium_callers::key_types::Release;
+use ciborium_callers::variant_types::Letter;
 use std::alloc::Global;
 use std::collections::BTreeMap;
 use std::test::Fail;
@@ -24,14 +25,14 @@ fn structs_are_keys(rt: HostRuntime) -> Result<(), Fail> {
     expect_rewritten::<BTreeMap<Release, u8>>(rt.alloc(), RELEASES, RELEASES_IN_ORDER)
 }
 
-// {{"Taken": 2}: 1, "Free": 2, {"Taken": 1}: 3}
-const SEATS: &str = "a3a16554616b656e0201644672656502a16554616b656e0103";
+// {{"B": 2}: 1, "A": 2, {"B": 1}: 3}
+const LETTERS: &str = "a3a161420201614102a161420103";
 
-const SEATS_IN_ORDER: &str = "a3644672656502a16554616b656e0103a16554616b656e0201";
+const LETTERS_IN_ORDER: &str = "a3614102a161420103a161420201";
 
 #[test]
 fn enums_are_keys(rt: HostRuntime) -> Result<(), Fail> {
-    expect_rewritten::<BTreeMap<Seat, u8>>(rt.alloc(), SEATS, SEATS_IN_ORDER)
+    expect_rewritten::<BTreeMap<Letter, u8>>(rt.alloc(), LETTERS, LETTERS_IN_ORDER)
 }
 
 // {1(5): 1, 5: 2, 1(4): 3}; a key without a tag comes first.

@@ -1,7 +1,7 @@
 //! Values of each variant: orders, accessors, conversions, what is lent, and copies.
 use crate::expectations::{expect, expect_all, expect_same, is_ok_of};
-use crate::value_callers::retag;
 use ciborium::value::{Integer, Value};
+use ciborium_callers::value_callers::retag;
 use ciborium_value::stack::{Opening, Stack};
 use std::alloc::{AllocError, Global};
 use std::cmp::Ordering;

@@ -6,10 +6,10 @@ ghost use Rattle.ciborium_value.specs.declared.kind.Kind.TheVariants.{Other};
 ghost use Rattle.ciborium_value.specs.declared.error.Error.TheVariants.{Custom, Memory};
 
 use crate::expectations::{expect, expect_written, is_error_of};
-use crate::own_types::Even;
 use ciborium::cbor;
 use ciborium::literals::map_of_two;
 use ciborium::value::{Error, Kind, Value};
+use ciborium_callers::own_types::Even;
 use std::alloc::Global;
 use std::test::Fail;
 

@@ -1,8 +1,8 @@
 //! What each error prints, written out.
 use crate::expectations::{expect, expect_text};
-use crate::messages::{kind_text, read_error_text, tree_error_text, write_error_text};
 use ciborium::value::{self, Kind, OutOfRange};
 use ciborium::{de, from_reader, ll, ser, write_sequence};
+use ciborium_callers::messages::{kind_text, read_error_text, tree_error_text, write_error_text};
 use std::alloc::{AllocError, AllocFailed};
 use std::io;
 use std::test::Fail;

@@ -1,6 +1,5 @@
 //! The calls that README and CALLING show, as they stand there, and what they answer.
 use crate::expectations::{expect, expect_bytes, expect_same};
-use crate::readme::{read_file, sum_file};
 use ciborium::ll::{Decoder, Encoder, Header};
 use ciborium::tag::Required;
 use ciborium::value::canonical::cmp_value;
@@ -9,6 +8,7 @@ use ciborium::{
     Value, cbor, from_reader, from_reader_deterministic, from_reader_with_recursion_limit,
     into_writer, into_writer_deterministic,
 };
+use ciborium_callers::readme::{read_file, sum_file};
 use std::cmp::Ordering;
 use std::convert::TryFrom;
 use std::test::Fail;

@@ -1,14 +1,14 @@
 //! Values written in their deterministic forms, in either order of keys (RFC 8949, section 4.2).
 use crate::expectations::{expect, expect_bytes, expect_same, expect_written};
-use crate::own_types::{Figure, Message};
-use crate::round_trips::{
-    message_through_form, through_form, through_own_form, through_sorted_form,
-};
 use ciborium::laws::form_is_read_back;
 use ciborium::ser::{Error, Serialize};
 use ciborium::tag::Required;
 use ciborium::value::{KeyOrder, Kind, Value};
 use ciborium::{cbor, into_writer_deterministic};
+use ciborium_callers::own_types::{Figure, Message};
+use ciborium_callers::round_trips::{
+    message_through_form, through_form, through_own_form, through_sorted_form,
+};
 use std::alloc::Global;
 use std::collections::BTreeMap;
 use std::io;

@@ -1,9 +1,9 @@
 //! A type that holds itself is read from bytes and from a tree, and written.
 use crate::expectations::{expect, expect_bytes, is_refused};
-use crate::tree_types::NumberTree;
 use ciborium::de::Error;
 use ciborium::value::{Kind, Value};
 use ciborium::{from_reader, into_writer};
+use ciborium_callers::tree_types::NumberTree;
 use std::alloc::Global;
 use std::io;
 use std::test::Fail;

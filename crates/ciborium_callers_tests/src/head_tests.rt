@@ -1,6 +1,6 @@
 //! The callers of the lowest layer are run.
-use crate::head_callers::{first_head, write_array};
 use ciborium::ll::Header;
+use ciborium_callers::head_callers::{first_head, write_array};
 use std::test::Fail;
 
 #[test]

@@ -1,6 +1,6 @@
 //! Values that are shown.
-use crate::notation_callers::{describe, describe_over_lines, tell};
 use ciborium::cbor;
+use ciborium_callers::notation_callers::{describe, describe_over_lines, tell};
 use std::test::Fail;
 
 #[test]

@@ -1,10 +1,12 @@
 //! Sequences of values of any type are written and read whole.
 use crate::expectations::{expect, expect_bytes};
-use crate::own_types::{Figure, Message};
-use crate::sequence_callers::{keep_all_messages, read_all_messages, write_all_messages};
 use ciborium::de::{self, Deserialize};
 use ciborium::laws::sequence_is_read_back;
 use ciborium::ser::{self, Serialize};
+use ciborium_callers::own_types::{Figure, Message};
+use ciborium_callers::sequence_callers::{
+    keep_all_messages, read_all_messages, write_all_messages,
+};
 use std::alloc::Global;
 use std::io::{self, ErrorKind};
 use std::test::Fail;

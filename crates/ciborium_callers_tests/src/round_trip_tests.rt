@@ -1,14 +1,16 @@
 //! What is written and read again is the value: from bytes, over a tree, and as a store.
 use crate::expectations::{expect, expect_bytes, expect_same, expect_written};
-use crate::own_types::{Figure, Message};
-use crate::round_trips::{copy_deterministic, through_bytes, through_store, through_tree};
-use crate::struct_types::{Notice, Reply};
 use ciborium::de::Error;
 use ciborium::laws::loaded_as_saved;
 use ciborium::value::{CanonicalValue, KeyOrder, Kind, Value};
 use ciborium::{
     from_reader, from_reader_deterministic, from_reader_deterministic_with_order, into_writer,
 };
+use ciborium_callers::own_types::{Figure, Message};
+use ciborium_callers::round_trips::{
+    copy_deterministic, through_bytes, through_store, through_tree,
+};
+use ciborium_callers::struct_types::{Notice, Reply};
 use std::alloc::Global;
 use std::collections::BTreeMap;
 use std::io;

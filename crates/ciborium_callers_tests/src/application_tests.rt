@@ -1,8 +1,8 @@
 //! The functions of an application are run, on files of their own.
-use crate::application::{copy_version, read_version};
 use crate::expectations::{expect, expect_text};
-use crate::own_types::Message;
 use ciborium::write_sequence;
+use ciborium_callers::application::{copy_version, read_version};
+use ciborium_callers::own_types::Message;
 use std::alloc::{AllocError, Global};
 use std::fs::{self, File};
 use std::test::Fail;
