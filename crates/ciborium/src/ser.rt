@@ -5,7 +5,7 @@ ghost use Rattle.ciborium_value.specs.Sinks.{IsGranted, IsOwed};
 ghost use Rattle.ciborium.specs.Writes.{IsNamedWritten, WritesNamed, cause_of};
 
 use byte_sink::{ByteSink, Refusal};
-pub use ciborium_value::{Field, Kind, NoField, Serialize, Sink};
+pub use ciborium_value::{Array, Field, Item, Kind, NoField, NoItem, Serialize, Sink};
 pub use deterministic::into_writer_deterministic;
 pub use error::Error;
 pub use sequence::write_sequence;

@@ -36,11 +36,13 @@ pub fn write_literal(alloc: Global, text: &str) -> Result<Option<String>, AllocE
 
 fn find_literal(alloc: Global, text: &str, bytes: &ByteBuf) -> Made {
     with_null(alloc, text)
+        .or_else(|| nested_null(alloc, text))
         .or_else(|| with_true(alloc, text))
         .or_else(|| with_false(alloc, text))
         .or_else(|| with_positive(alloc, text))
         .or_else(|| with_negative(alloc, text))
         .or_else(|| with_text(alloc, text))
+        .or_else(|| nested_text(alloc, text))
         .or_else(|| with_bytes(alloc, text, bytes))
         .or_else(|| with_empty_list(alloc, text))
         .or_else(|| with_list(alloc, text))
@@ -50,95 +52,86 @@ fn find_literal(alloc: Global, text: &str, bytes: &ByteBuf) -> Made {
         .or_else(|| with_all(alloc, text, bytes))
 }
 
-// Null alone, and as an item, a key and a value in lists and maps, and in lists and maps in these.
+// Null alone, and as an item, a key and a value.
 fn with_null(alloc: Global, text: &str) -> Made {
     find_tree!(alloc, text,
-        (null) ([null]) ([null, 1]) ([1, null]) ({null => 1}) ({1 => null}) ([[null]])
-        ([{null => 1}]) ([{1 => null}]) ({[null] => 1}) ({1 => [null]}) ({{null => 1} => 1})
-        ({{1 => null} => 1}) ({1 => {null => 1}}) ({1 => {1 => null}})
+        (null) ([null]) ([null, 1]) ([1, null]) ({null => 1}) ({1 => null})
+    )
+}
+
+// The same in lists and maps that stand in these.
+fn nested_null(alloc: Global, text: &str) -> Made {
+    find_tree!(alloc, text,
+        ([[null]]) ([{null => 1}]) ([{1 => null}]) ({[null] => 1}) ({1 => [null]})
+        ({{null => 1} => 1}) ({{1 => null} => 1}) ({1 => {null => 1}}) ({1 => {1 => null}})
     )
 }
 
 // The same of other parts.
 fn with_true(alloc: Global, text: &str) -> Made {
     find_tree!(alloc, text,
-        (true) ([true]) ([true, 1]) ([1, true]) ({true => 1}) ({1 => true}) ([[true]])
-        ([{true => 1}]) ([{1 => true}]) ({[true] => 1}) ({1 => [true]}) ({{true => 1} => 1})
-        ({{1 => true} => 1}) ({1 => {true => 1}}) ({1 => {1 => true}})
+        (true) ([true]) ([true, 1]) ([1, true]) ({true => 1}) ({1 => true})
     )
 }
 
 fn with_false(alloc: Global, text: &str) -> Made {
     find_tree!(alloc, text,
-        (false) ([false]) ([false, 1]) ([1, false]) ({false => 1}) ({1 => false}) ([[false]])
-        ([{false => 1}]) ([{1 => false}]) ({[false] => 1}) ({1 => [false]}) ({{false => 1} => 1})
-        ({{1 => false} => 1}) ({1 => {false => 1}}) ({1 => {1 => false}})
+        (false) ([false]) ([false, 1]) ([1, false]) ({false => 1}) ({1 => false})
     )
 }
 
 fn with_positive(alloc: Global, text: &str) -> Made {
     find_tree!(alloc, text,
         (1000000) ([1000000]) ([1000000, 1]) ([1, 1000000]) ({1000000 => 1}) ({1 => 1000000})
-        ([[1000000]]) ([{1000000 => 1}]) ([{1 => 1000000}]) ({[1000000] => 1}) ({1 => [1000000]})
-        ({{1000000 => 1} => 1}) ({{1 => 1000000} => 1}) ({1 => {1000000 => 1}})
-        ({1 => {1 => 1000000}})
     )
 }
 
 fn with_negative(alloc: Global, text: &str) -> Made {
     find_tree!(alloc, text,
-        (-500) ([-500]) ([-500, 1]) ([1, -500]) ({-500 => 1}) ({1 => -500}) ([[-500]])
-        ([{-500 => 1}]) ([{1 => -500}]) ({[-500] => 1}) ({1 => [-500]}) ({{-500 => 1} => 1})
-        ({{1 => -500} => 1}) ({1 => {-500 => 1}}) ({1 => {1 => -500}})
+        (-500) ([-500]) ([-500, 1]) ([1, -500]) ({-500 => 1}) ({1 => -500})
     )
 }
 
 fn with_text(alloc: Global, text: &str) -> Made {
     find_tree!(alloc, text,
-        ("text") (["text"]) (["text", 1]) ([1, "text"]) ({"text" => 1}) ({1 => "text"}) ([["text"]])
-        ([{"text" => 1}]) ([{1 => "text"}]) ({["text"] => 1}) ({1 => ["text"]})
+        ("text") (["text"]) (["text", 1]) ([1, "text"]) ({"text" => 1}) ({1 => "text"})
+    )
+}
+
+fn nested_text(alloc: Global, text: &str) -> Made {
+    find_tree!(alloc, text,
+        ([["text"]]) ([{"text" => 1}]) ([{1 => "text"}]) ({["text"] => 1}) ({1 => ["text"]})
         ({{"text" => 1} => 1}) ({{1 => "text"} => 1}) ({1 => {"text" => 1}}) ({1 => {1 => "text"}})
     )
 }
 
 fn with_bytes(alloc: Global, text: &str, bytes: &ByteBuf) -> Made {
     find_tree!(alloc, text,
-        (bytes) ([bytes]) ([bytes, 1]) ([1, bytes]) ({bytes => 1}) ({1 => bytes}) ([[bytes]])
-        ([{bytes => 1}]) ([{1 => bytes}]) ({[bytes] => 1}) ({1 => [bytes]}) ({{bytes => 1} => 1})
-        ({{1 => bytes} => 1}) ({1 => {bytes => 1}}) ({1 => {1 => bytes}})
+        (bytes) ([bytes]) ([bytes, 1]) ([1, bytes]) ({bytes => 1}) ({1 => bytes})
     )
 }
 
 fn with_empty_list(alloc: Global, text: &str) -> Made {
     find_tree!(alloc, text,
-        ([]) ([[]]) ([[], 1]) ([1, []]) ({[] => 1}) ({1 => []}) ([[[]]]) ([{[] => 1}]) ([{1 => []}])
-        ({[[]] => 1}) ({1 => [[]]}) ({{[] => 1} => 1}) ({{1 => []} => 1}) ({1 => {[] => 1}})
-        ({1 => {1 => []}})
+        ([]) ([[]]) ([[], 1]) ([1, []]) ({[] => 1}) ({1 => []})
     )
 }
 
 fn with_list(alloc: Global, text: &str) -> Made {
     find_tree!(alloc, text,
-        ([2, 3]) ([[2, 3]]) ([[2, 3], 1]) ([1, [2, 3]]) ({[2, 3] => 1}) ({1 => [2, 3]}) ([[[2, 3]]])
-        ([{[2, 3] => 1}]) ([{1 => [2, 3]}]) ({[[2, 3]] => 1}) ({1 => [[2, 3]]})
-        ({{[2, 3] => 1} => 1}) ({{1 => [2, 3]} => 1}) ({1 => {[2, 3] => 1}}) ({1 => {1 => [2, 3]}})
+        ([2, 3]) ([[2, 3]]) ([[2, 3], 1]) ([1, [2, 3]]) ({[2, 3] => 1}) ({1 => [2, 3]})
     )
 }
 
 fn with_empty_map(alloc: Global, text: &str) -> Made {
     find_tree!(alloc, text,
-        ({}) ([{}]) ([{}, 1]) ([1, {}]) ({{} => 1}) ({1 => {}}) ([[{}]]) ([{{} => 1}]) ([{1 => {}}])
-        ({[{}] => 1}) ({1 => [{}]}) ({{{} => 1} => 1}) ({{1 => {}} => 1}) ({1 => {{} => 1}})
-        ({1 => {1 => {}}})
+        ({}) ([{}]) ([{}, 1]) ([1, {}]) ({{} => 1}) ({1 => {}})
     )
 }
 
 fn with_map(alloc: Global, text: &str) -> Made {
     find_tree!(alloc, text,
         ({2 => 3}) ([{2 => 3}]) ([{2 => 3}, 1]) ([1, {2 => 3}]) ({{2 => 3} => 1}) ({1 => {2 => 3}})
-        ([[{2 => 3}]]) ([{{2 => 3} => 1}]) ([{1 => {2 => 3}}]) ({[{2 => 3}] => 1})
-        ({1 => [{2 => 3}]}) ({{{2 => 3} => 1} => 1}) ({{1 => {2 => 3}} => 1})
-        ({1 => {{2 => 3} => 1}}) ({1 => {1 => {2 => 3}}})
     )
 }
 
