@@ -1,12 +1,11 @@
 //! The lines of an input, each with its answer.
 
 use crate::counts::CountedReads;
-use crate::fault::Fault;
 use crate::faults::{FailedReads, fail_reads};
 use crate::forms::{answer_falling, answer_form};
 use crate::fronts::{Call, Reading, read_alike};
 use crate::head_lines::answer_head_line;
-use crate::lines::{read_line, write_bytes};
+use crate::lines::read_line;
 use crate::literals::write_literal;
 use crate::notations::{Lines, answer_notation};
 use crate::offsets::read_at_offset;
@@ -18,31 +17,29 @@ use crate::writes::Writing;
 use crate::written_types::write_type;
 use ciborium::value::{BytewiseValue, CanonicalValue, KeyOrder, Value};
 use std::alloc::{AllocError, Global};
-use std::io::{BufReader, Read, Write};
+use std::io::{self, BufReader, ErrorKind, Read, Write};
 
 /// Answers each line of the input by `LINE = ANSWER` on the output. An empty line, and one that
 /// begins with `#`, is written as it is. The answer to a line of no known form is `unknown line`.
 ///
 /// # Errors
 ///
-/// The first fault: the input or the output fails, or memory is refused for a line.
+/// The first one: the input or the output fails, or memory is refused for a line.
 pub fn answer_lines<R: Read, W: Write>(
     alloc: Global,
     input: &mut R,
     output: &mut W,
-) -> Result<(), Fault> {
-    let Ok(mut reader) = BufReader::new(alloc, input) else {
-        return Err(Fault::Memory);
-    };
+) -> io::Result<()> {
+    let mut reader = BufReader::new(alloc, input)?;
     let mut line = Vec::new(alloc);
     for _ in 0..u64::MAX {
         if !read_line(&mut reader, &mut line)? {
             return Ok(());
         }
         complete_line(alloc, &mut line)?;
-        write_bytes(&line, output)?;
+        output.write_all(&line)?;
     }
-    Err(Fault::Input)
+    Err(io::Error::from(ErrorKind::Other))
 }
 
 // Puts the answer behind a line that has one, and a line feed.

@@ -7,7 +7,6 @@ mod alike;
 mod answers;
 mod counts;
 mod devices;
-mod fault;
 mod faults;
 mod few;
 mod forms;
