@@ -38,7 +38,8 @@ fn five_items_are_an_array(rt: HostRuntime) -> Result<(), Fail> {
     let items = Item(1u8, Item("a", Item(true, Item((), Item(2u8, NoItem)))));
     let mut written = Vec::new(rt.alloc());
     into_writer(&Array(items), &mut written)?;
-    expect_all(&[written.as_slice() == [0x85, 0x01, 0x61, 0x61, 0xf5, 0xf6, 0x02]])
+    let wanted = [0x85u8, 0x01, 0x61, 0x61, 0xf5, 0xf6, 0x02];
+    expect_all(&[written.as_slice() == wanted.as_slice()])
 }
 
 // No tag is skipped before the null of an option, which both are written as.

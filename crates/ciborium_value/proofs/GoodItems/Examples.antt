@@ -282,15 +282,6 @@ corner_examples =
       text_ends = refused-by-reading refl refl;
       head_ends = refused-by-reading refl refl;
       empty_at_the_greatest = refused-by-reading refl refl;
-      low_simple_over = refused-by-reading refl refl;
-      low_simple_fits = refused-by-reading refl refl;
-      reserved_at_the_last = refused-by-reading refl refl;
-      break_over = refused-by-reading refl refl;
-      break_fits = (
-        item.array true (item.item (item.unsigned 1) item.no_items),
-        ((hex "01", (hex "01", [], (within, lit< tt, refl), refl, refl), refl), refl, lit≤ tt, lit≤ tt),
-        refl,
-      );
       empty_array_at_the_last = (
         item.array false item.no_items,
         (([], refl, (hex "80", (within, lit< tt, refl), refl)), refl, lit≤ tt, lit≤ tt),
@@ -299,6 +290,15 @@ corner_examples =
       empty_bytes_at_the_last = (
         item.bytes false ([]),
         ((hex "40", (within, lit< tt, refl), low [] refl, refl), refl, lit≤ tt, lit≤ tt),
+        refl,
+      );
+      low_simple_over = refused-by-reading refl refl;
+      low_simple_fits = refused-by-reading refl refl;
+      reserved_at_the_last = refused-by-reading refl refl;
+      break_over = refused-by-reading refl refl;
+      break_fits = (
+        item.array true (item.item (item.unsigned 1) item.no_items),
+        ((hex "01", (hex "01", [], (within, lit< tt, refl), refl, refl), refl), refl, lit≤ tt, lit≤ tt),
         refl,
       );
       tag_at_the_last = refused-by-reading refl refl;

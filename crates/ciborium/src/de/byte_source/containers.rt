@@ -139,13 +139,11 @@ impl<'a, R: Read> ByteSource<'a, R> {
         ensures memory { IfErr result (λ e. IsGrantedFault (fault_of e) false) }
     {
         let (header, offset) = self.bare_head(false)?;
-        match header {
-            Header::Map(count) => {
-                let seq = self.enter(count, offset)?;
-                Ok(seq)
-            }
-            _ => Err(Error::Semantic(Some(offset), Kind::Map)),
-        }
+        let Header::Map(count) = header else {
+            return Err(Error::Semantic(Some(offset), Kind::Map));
+        };
+        let seq = self.enter(count, offset)?;
+        Ok(seq)
     }
 
     /// Allows a byte to be read ahead for each part of a container that is left for sure: each part
