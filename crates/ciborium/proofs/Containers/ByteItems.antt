@@ -1,6 +1,6 @@
 -- Bytes that are read as the numbers of a sequence.
-use Rattle.std.proofs.Common.{◌≡◌, ◌≢◌, ℕ, ◌+◌, ◌-◌, ◌<◌, ◌≤◌, Bool, false, List, [], ◌∷◌, ◌++◌, Option, Some, None, Result}
-use Rattle.std.proofs.Common.{Ok, Err, IfErr, IfOk, OnErr, OnOk, refl, sym, ap, ◌∙◌, subst, append_assoc, append-nil}
+use Rattle.std.proofs.Common.{◌≡◌, ◌≢◌, ℕ, ◌+◌, ◌-◌, ◌<◌, ◌≤◌, Bool, false, List, [], ◌∷◌, ◌++◌, Option, Some, None}
+use Rattle.std.proofs.Common.{Result, Ok, Err, IfErr, IfOk, OnErr, OnOk, refl, sym, ap, ◌∙◌, subst, append_assoc, append-nil}
 use Rattle.ciborium_ll.specs.declared.header.Header.{Header}
 use Rattle.ciborium_ll.specs.declared.header.Header.TheVariants as header
 use Rattle.ciborium_ll.specs.Item.{Item}
@@ -24,7 +24,8 @@ use Rattle.ciborium.specs.declared.de.error.Error.{Error}
 use Rattle.ciborium.specs.Errors.{fault_of}
 use Rattle.ciborium.specs.inner.ByteSources.{AnswersItem, PassesItem, IsUnread, StandsBefore, SeqStands, SeqOwes}
 use Rattle.ciborium.specs.inner.ByteSources.{EntersItemsUnread, ReadsRest, RefusesRest, items_due_behind, pending_count}
-use Rattle.ciborium.specs.inner.ByteSources.{HasTaken, HasTakenSince, ReadsBareHead, end_at, parts_left, reader_of, weight_left}
+use Rattle.ciborium.specs.inner.ByteSources.{HasTaken, HasTakenSince, ReadsBareHead, end_at, parts_left, reader_of}
+use Rattle.ciborium.specs.inner.ByteSources.{weight_left}
 use Rattle.ciborium.specs.inner.FrontItems.{Reads, Denies}
 use Rattle.ciborium.specs.inner.Skips.{under, AreSkipped, IsBare, TakesBare}
 use Rattle.ciborium.specs.inner.StringContents.{string_item, TakesContent}
@@ -269,16 +270,16 @@ module _ {S : Type 0} (remaining : S → Option (List ℕ)) (old mid : ByteSourc
       ReadsRest remaining mid new q (λ l is. take_each (taken_byte l) is) v →
       TakesAhead (StandsBefore remaining) old new taken_bytes v
   array-takes new v reads l i f st =
-      let (form, is, give, stands, holds) = items-stand remaining old mid q opened.kept opened.levels opened.none opened.fewer taken_bytes
-      (λ k its. take_each (taken_byte k) its) opened.opens l i f st in
+      let (form, is, give, stands, holds) = items-stand remaining old mid q opened.kept opened.levels opened.none
+      opened.fewer taken_bytes (λ k its. take_each (taken_byte k) its) opened.opens l i f st in
       let (e, past) = reads l form is f stands holds in
       (give ∙ e, past)
 
   pub array-refuses : (fault : Fault) → RefusesRest remaining mid q (λ l is. take_each (taken_byte l) is) fault →
       RefusesAhead (StandsBefore remaining) old taken_bytes fault
   array-refuses fault denied l i f st =
-      let (form, is, give, stands, holds) = items-stand remaining old mid q opened.kept opened.levels opened.none opened.fewer taken_bytes
-      (λ k its. take_each (taken_byte k) its) opened.opens l i f st in
+      let (form, is, give, stands, holds) = items-stand remaining old mid q opened.kept opened.levels opened.none
+      opened.fewer taken_bytes (λ k its. take_each (taken_byte k) its) opened.opens l i f st in
       subst (λ o. IsFaultOf (end_of f) fault o) (sym give) (denied l form is f stands holds)
 
   pub array-took : (new : ByteSource S) → TakesTo (IsUnread remaining) mid new

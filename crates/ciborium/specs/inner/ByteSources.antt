@@ -1,6 +1,6 @@
 -- Where a source over bytes stands.
-use Rattle.std.specs.Prelude.{◌<◌, ◌≡◌, ℕ, ◌+◌, ◌*◌, ◌-◌, ◌≤◌, List, ◌++◌, length, map, Option, Some}
-use Rattle.std.specs.Prelude.{None, Bool, true, false, IfErr, IfOk, MatchResult, OnErr, OnOk}
+use Rattle.std.specs.Prelude.{◌<◌, ◌≡◌, ℕ, ◌+◌, ◌*◌, ◌-◌, ◌≤◌, List, ◌++◌, length, map, Option}
+use Rattle.std.specs.Prelude.{Some, None, Bool, true, false, IfErr, IfOk, MatchResult, OnErr, OnOk}
 use Rattle.std.specs.Prelude.{Result}
 use Rattle.std.specs.Borrow.{GName}
 use Rattle.std.specs.Vec.Iter.{into_iter_items}

@@ -100,7 +100,8 @@ module _ {C : Type 0} {taken : Taken C} {c : C} (o : KeyOrder) where
       same t = grind (arith, nat_tests)
 
   pub accepted-form : (t : ℕ) {r : Named} → IsNeverBytes r → IsFormRead o r taken c →
-      IsFormRead o (tag_of t r) (λ l i. then_take (taken_with_tag taken l i) (if_tag (is_no_other_tag t)))
+      IsFormRead o (tag_of t r)
+      (λ l i. then_take (taken_with_tag taken l i) (if_tag (is_no_other_tag t)))
       c
   accepted-form t never h = record {
     back = λ i e u form. ap

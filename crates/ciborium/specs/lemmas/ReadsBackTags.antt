@@ -68,7 +68,8 @@ module _ {C : Type 0} {taken : Taken C} {c : C} {n : ℕ} where
   }
 
   pub required-back : (t : ℕ) {r : Named} → IsNameRead r taken c n →
-      IsNameRead (tag_of t r) (λ l i. then_take (taken_with_tag taken l i) (if_tag (is_tag t))) c (suc n)
+      IsNameRead (tag_of t r) (λ l i. then_take (taken_with_tag taken l i) (if_tag (is_tag t))) c
+      (suc n)
   required-back t h = record {
     back = λ way i e l fits. ap (λ o. then_take o (if_tag (is_tag t)))
         ((captured-back (Some t) tt h).back way i e l fits) ∙ same t;
@@ -78,7 +79,8 @@ module _ {C : Type 0} {taken : Taken C} {c : C} {n : ℕ} where
       same t = grind (arith, nat_tests)
 
   pub accepted-back : (t : ℕ) {r : Named} → IsNameRead r taken c n →
-      IsNameRead (tag_of t r) (λ l i. then_take (taken_with_tag taken l i) (if_tag (is_no_other_tag t))) c
+      IsNameRead (tag_of t r)
+      (λ l i. then_take (taken_with_tag taken l i) (if_tag (is_no_other_tag t))) c
       (suc n)
   accepted-back t h = record {
     back = λ way i e l fits. ap (λ o. then_take o (if_tag (is_no_other_tag t)))

@@ -12,8 +12,8 @@ use Rattle.ciborium_value.specs.Taken.{Outcome, Taken, deeper, gives, refuses, o
 use Rattle.ciborium_value.specs.Taken.{taken_seq, taken_pairs, bare_seq, bare_pairs, untagged, lone_character}
 use Rattle.ciborium_value.specs.Taken.{bare_bytes, taken_bytes, taken_byte, take_each}
 use Rattle.std.specs.Borrow.{Bor}
-use Rattle.ciborium_value.specs.inner.TreeSources.{IsDueValue, pair_items, value_weight, pending_due, pending_tree_weight}
-use Rattle.ciborium_value.specs.inner.TreeSources.{due_weight, source_weight}
+use Rattle.ciborium_value.specs.inner.TreeSources.{IsDueValue, pair_items, value_weight, pending_due}
+use Rattle.ciborium_value.specs.inner.TreeSources.{pending_tree_weight, due_weight, source_weight}
 use Rattle.ciborium_value.specs.TreeAnswers.{value_item}
 use Rattle.ciborium_value.specs.Tree as trees
 use Rattle.ciborium_value.specs.Tree.{Tree}

@@ -15,8 +15,8 @@ use Rattle.ciborium_value.specs.Tree as trees
 use Rattle.ciborium_value.specs.Tree.{Tree, Trees, TreePairs}
 use Rattle.ciborium_value.specs.WrittenItems.{IsAnnounced, IsWritten, AreWritten, PairsAreWritten, WrittenSpells}
 use Rattle.ciborium_value.specs.WrittenItems.{WrittenTreeFolds, WrittenTreeIsProper}
-use Rattle.ciborium_value.proofs.Writing.Written.{string_written, parts_enclosed, simple_written, spells_item, items_count-items_of}
-use Rattle.ciborium_value.proofs.Writing.Written.{pairs_count-pairs_of}
+use Rattle.ciborium_value.proofs.Writing.Written.{string_written, parts_enclosed, simple_written, spells_item}
+use Rattle.ciborium_value.proofs.Writing.Written.{items_count-items_of, pairs_count-pairs_of}
 
 -- ---- it spells the item
 

@@ -58,7 +58,8 @@ loop-seq-preserved g c = record {
       (g.F.WantedFields.content c.read_field.new.self)) c.loop-seq.invariant.names
       (rw c.deref.ensures at c.in_ok-read_field.ensures.ok)));
   owed = owed_pair g.S.Source.is_unread g.S.Source.owes _ _ _ _ _ _ _ c.loop-seq.invariant.owed
-      (rw c.if-branch.true at c.in_ok-next.ensures.took) c.in_ok-name.ensures.takes.took c.in_ok-read_field.ensures.took;
+      (rw c.if-branch.true at c.in_ok-next.ensures.took) c.in_ok-name.ensures.takes.took
+      c.in_ok-read_field.ensures.took;
   only = λ first h. c.read_field.ensures.only first (c.name.ensures.takes.only first
       (c.next.ensures.only first (c.loop-seq.invariant.only first h)));
   less = omega (

@@ -5,5 +5,6 @@ use Rattle.ciborium_value.proofs.deserialized.TreeSourceSource.bytes.Goals as go
 pub returns-in-Whole : goal.returns-in-Whole
 returns-in-Whole c = record {
   takes = taken-there taken_bytes (λ v. v.items) c.args.self.now c.take.new.self c.take.ensures.next c.take.ensures.due
-      c.in-Whole.value c.in-Whole.ensures.ahead c.copy_bytes.result c.copy_bytes.ensures.ok c.copy_bytes.ensures.refused;
+      c.in-Whole.value c.in-Whole.ensures.ahead c.copy_bytes.result c.copy_bytes.ensures.ok
+      c.copy_bytes.ensures.refused;
 }

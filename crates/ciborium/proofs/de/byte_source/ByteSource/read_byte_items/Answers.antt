@@ -95,7 +95,8 @@ items-preserved g c =
     byte-takes g.R.Read.remaining c.next_part.new.self c.read_integer.new.self c.in_ok-number.number c.in_ok-byte.byte
     c.in_ok-byte.ensures.ok
     (takes-read g.R.Read.remaining c.next_part.new.self c.read_integer.new.self taken_integer c.in_ok-number.number
-    (read.keeps.same_reader, read.keeps.only) read.keeps.levels read.keeps.pending read.keeps.fewer read.answer) in record {
+    (read.keeps.same_reader, read.keeps.only) read.keeps.levels read.keeps.pending read.keeps.fewer read.answer) in
+    record {
       same_reader = read.keeps.same_reader ∙ c.in_ok-goes_on.ensures.same_reader ∙ c.items.invariant.same_reader;
       only = λ first h. read.keeps.only first (c.in_ok-goes_on.ensures.only first (c.items.invariant.only first h));
       fewer = omega (arith, read.keeps.fewer, c.in_ok-goes_on.ensures.fewer, c.items.invariant.fewer);
