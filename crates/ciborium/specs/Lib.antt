@@ -61,14 +61,13 @@ pub use Rattle.ciborium_value.specs.TagReadings
 pub use Rattle.ciborium_value.specs.VariantReadings
 pub use Rattle.ciborium_value.specs.StructReadings
 pub use Rattle.ciborium_value.specs.ReadsBack
-pub use Rattle.ciborium_value.specs.NeverNull
+pub use Rattle.ciborium_value.specs.NeverWritten
 pub use Rattle.ciborium_value.specs.WrittenContents
 pub use Rattle.ciborium_value.specs.Visits
 pub use Rattle.ciborium_value.specs.Deterministic
 pub use Rattle.ciborium_value.specs.DeterministicForms
 pub use Rattle.ciborium_value.specs.SameContents
 pub use Rattle.ciborium_value.specs.FormsReadBack
-pub use Rattle.ciborium_value.specs.NeverBytes
 pub use Rattle.ciborium_value.specs.Notation
 pub use Rattle.ciborium_value.specs.TreeAnswers
 pub use Rattle.ciborium_value.specs.ProperTrees

@@ -10,6 +10,7 @@ pub use Rattle.ciborium_value.specs.lemmas.ItemsOfTrees
 pub use Rattle.ciborium_value.specs.lemmas.GivenOutcomes
 pub use Rattle.ciborium_value.specs.lemmas.ReadsBackBignums
 pub use Rattle.ciborium_value.specs.lemmas.ReadsBackNumbers
+pub use Rattle.ciborium_value.specs.lemmas.ReadsBackOptions
 pub use Rattle.ciborium_value.specs.lemmas.ReadsBackParts
 pub use Rattle.ciborium_value.specs.lemmas.ReadsBackStructs
 pub use Rattle.ciborium_value.specs.lemmas.ReadsBackVariants

@@ -38,7 +38,9 @@ pub use ciborium_value::tree_laws::{
     bytes_of_bignums, deterministic_forms, good_or_refused, meaning_of_written_is_folded,
     order_of_integers, order_of_values, worked_examples, written_reads_back,
 };
-pub use ciborium_value::{FormReadsBack, NeverBytes, NeverNull, ReadsBack, WritesContent};
+pub use ciborium_value::{
+    Avoidable, ByteString, FormReadsBack, NeverWrites, Null, ReadsBack, WritesContent,
+};
 use ciborium_value::{Deserialize, KeyOrder, Serialize, Value};
 use std::collections::BTreeMap;
 

@@ -6,7 +6,6 @@ ghost use Rattle.ciborium_value.specs.Sinks.{tag_of};
 ghost use Rattle.ciborium_value.specs.TagReadings.{is_no_other_tag, is_tag, tag_accepted};
 ghost use Rattle.ciborium_value.specs.TagReadings.{tag_required, with_tag};
 ghost use Rattle.ciborium.specs.lemmas.FormsReadBackTags.{accepted-form, captured-form};
-ghost use Rattle.ciborium.specs.lemmas.FormsReadBackTags.{no_bytes-captured, no_bytes-tag};
 ghost use Rattle.ciborium.specs.lemmas.FormsReadBackTags.{required-form};
 ghost use Rattle.ciborium.specs.lemmas.ReadsBackTags.{IsToldApart, accepted-back, captured-back};
 ghost use Rattle.ciborium.specs.lemmas.ReadsBackTags.{captured-never, required-back, tag-never};
@@ -14,7 +13,7 @@ ghost use Rattle.ciborium.specs.Tags.{captured_of};
 ghost use Rattle.ciborium.specs.lemmas.WrittenTags.{captured-alike, tagged-alike};
 
 use crate::de::{Deserialize, Key, Source};
-use crate::laws::{FormReadsBack, NeverBytes, NeverNull, ReadsBack, WritesContent};
+use crate::laws::{Avoidable, ByteString, FormReadsBack, NeverWrites, ReadsBack, WritesContent};
 use crate::ser::{Serialize, Sink};
 use crate::value::Kind;
 use ciborium_value::serialize_tagged;
@@ -176,45 +175,35 @@ impl<V: ReadsBack, const TAG: u64> ReadsBack for Accepted<V, TAG> {
 }
 
 /// For a content that no tag makes a bignum of.
-impl<V: FormReadsBack + NeverBytes> FormReadsBack for Captured<V> {
+impl<V: FormReadsBack + NeverWrites<ByteString>> FormReadsBack for Captured<V> {
     ghost form_reads_back = { λ o c held. captured-form o
-        c.0 held.0 (V.never_bytes c.1) (V.form_reads_back o c.1 held.1) };
+        c.0 held.0 (V.never c.1) (V.form_reads_back o c.1 held.1) };
 }
 
 /// For a content that no tag makes a bignum of.
-impl<V: FormReadsBack + NeverBytes, const TAG: u64> FormReadsBack for Required<V, TAG> {
+impl<V: FormReadsBack + NeverWrites<ByteString>, const TAG: u64> FormReadsBack
+    for Required<V, TAG> {
     ghost form_reads_back = { λ o r held. required-form o
-        TAG (V.never_bytes r.0) (V.form_reads_back o r.0 held) };
+        TAG (V.never r.0) (V.form_reads_back o r.0 held) };
 }
 
 /// For a content that no tag makes a bignum of.
-impl<V: FormReadsBack + NeverBytes, const TAG: u64> FormReadsBack for Accepted<V, TAG> {
+impl<V: FormReadsBack + NeverWrites<ByteString>, const TAG: u64> FormReadsBack
+    for Accepted<V, TAG> {
     ghost form_reads_back = { λ o a held. accepted-form o
-        TAG (V.never_bytes a.0) (V.form_reads_back o a.0 held) };
+        TAG (V.never a.0) (V.form_reads_back o a.0 held) };
 }
 
-impl<V: NeverBytes> NeverBytes for Captured<V> {
-    ghost never_bytes = { λ c. no_bytes-captured c.0 (V.never_bytes c.1) };
+impl<V: NeverWrites<I>, I: Avoidable> NeverWrites<I> for Captured<V> {
+    ghost never = { λ c. captured-never I.avoided c.0 (V.never c.1) };
 }
 
-impl<V: Serialize, const TAG: u64> NeverBytes for Required<V, TAG> {
-    ghost never_bytes = { λ r. no_bytes-tag TAG (V.written r.0) };
+impl<V: Serialize, I: Avoidable, const TAG: u64> NeverWrites<I> for Required<V, TAG> {
+    ghost never = { λ r. tag-never I.avoided TAG (V.written r.0) };
 }
 
-impl<V: Serialize, const TAG: u64> NeverBytes for Accepted<V, TAG> {
-    ghost never_bytes = { λ a. no_bytes-tag TAG (V.written a.0) };
-}
-
-impl<V: NeverNull> NeverNull for Captured<V> {
-    ghost never_null = { λ c. captured-never c.0 (V.never_null c.1) };
-}
-
-impl<V: Serialize, const TAG: u64> NeverNull for Required<V, TAG> {
-    ghost never_null = { λ r. tag-never TAG (V.written r.0) };
-}
-
-impl<V: Serialize, const TAG: u64> NeverNull for Accepted<V, TAG> {
-    ghost never_null = { λ a. tag-never TAG (V.written a.0) };
+impl<V: Serialize, I: Avoidable, const TAG: u64> NeverWrites<I> for Accepted<V, TAG> {
+    ghost never = { λ a. tag-never I.avoided TAG (V.written a.0) };
 }
 
 impl<V: WritesContent> WritesContent for Captured<V> {

@@ -28,14 +28,13 @@ pub mod TagReadings
 pub mod VariantReadings
 pub mod StructReadings
 pub mod ReadsBack
-pub mod NeverNull
+pub mod NeverWritten
 pub mod WrittenContents
 pub mod Visits
 pub mod Deterministic
 pub mod DeterministicForms
 pub mod SameContents
 pub mod FormsReadBack
-pub mod NeverBytes
 pub mod Notation
 pub mod TreeAnswers
 pub mod laws

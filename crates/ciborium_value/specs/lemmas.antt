@@ -8,6 +8,7 @@ pub mod ItemsOfTrees
 pub mod GivenOutcomes
 pub mod ReadsBackBignums
 pub mod ReadsBackNumbers
+pub mod ReadsBackOptions
 pub mod ReadsBackParts
 pub mod ReadsBackStructs
 pub mod ReadsBackVariants

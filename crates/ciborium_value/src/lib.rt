@@ -33,7 +33,9 @@ pub use items::{Array, Item, NoItem};
 pub use key_order::KeyOrder;
 pub use kind::Kind;
 pub use parts::{Container, OfArray, OfMap, Parts, serialize_parts};
-pub use reads_back::{FormReadsBack, NeverBytes, NeverNull, ReadsBack, WritesContent};
+pub use reads_back::{
+    Avoidable, ByteString, FormReadsBack, NeverWrites, Null, ReadsBack, WritesContent,
+};
 pub use serialize::{Serialize, serialize_tagged};
 pub use sink::Sink;
 pub use source::Source;

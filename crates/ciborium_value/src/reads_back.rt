@@ -2,8 +2,7 @@
 
 ghost use Rattle.std.specs.Prelude.{◌≡◌, ℕ};
 ghost use Rattle.ciborium_value.specs.FormsReadBack.{IsFormRead};
-ghost use Rattle.ciborium_value.specs.NeverBytes.{IsNeverBytes};
-ghost use Rattle.ciborium_value.specs.NeverNull.{IsNeverNull};
+ghost use Rattle.ciborium_value.specs.NeverWritten.{Avoided, IsNever, byte_strings, nulls};
 ghost use Rattle.ciborium_value.specs.ReadsBack.{IsNameRead};
 ghost use Rattle.ciborium_value.specs.declared.key_order.KeyOrder.{KeyOrder};
 
@@ -14,7 +13,7 @@ mod contents;
 mod form_numbers;
 mod forms;
 mod maps;
-mod never_bytes;
+mod never_written;
 mod numbers;
 mod options;
 mod parts;
@@ -58,19 +57,31 @@ pub trait FormReadsBack: ReadsBack {
         IsFormRead o (Self.written v) Self.reading.taken (Self.reading.content v) };
 }
 
-/// A type whose values are never written as null or undefined, so that options of it are read back.
-///
-/// They may be written as a null under a tag, which is not read as `None`.
-pub trait NeverNull: Serialize {
-    // What the value names, if it names an item, is neither null nor undefined.
-    ghost never_null: { (v : Self) → IsNeverNull (Self.written v) };
+/// What a type is never written as: `Null` or `ByteString`.
+pub trait Avoidable {
+    // Which of them.
+    ghost avoided: { Avoided };
 }
 
-/// A type whose values are never written as a byte string, so that a tag over them makes no bignum
-/// of them (RFC 8949, section 3.4.3), whatever its number.
-pub trait NeverBytes: Serialize {
-    // What the value names, if it names an item, is no byte string on which a tag folds.
-    ghost never_bytes: { (v : Self) → IsNeverBytes (Self.written v) };
+/// Null or undefined. A null under a tag is none, since it is not read as `None`.
+pub struct Null;
+
+/// A byte string that a tag over it would make a bignum of (RFC 8949, section 3.4.3).
+pub struct ByteString;
+
+impl Avoidable for Null {
+    ghost avoided = { nulls };
+}
+
+impl Avoidable for ByteString {
+    ghost avoided = { byte_strings };
+}
+
+/// A type whose values are never written as such an item. What is never null has options that are
+/// read back, and what is never a byte string may stand under any tag in deterministic form.
+pub trait NeverWrites<I: Avoidable>: Serialize {
+    // What the value names, if it names an item, is none of these.
+    ghost never: { (v : Self) → IsNever I.avoided (Self.written v) };
 }
 
 /// A type whose values are written alike where their contents are equal.

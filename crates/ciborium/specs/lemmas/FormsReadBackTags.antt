@@ -12,8 +12,8 @@ use Rattle.ciborium_value.specs.Folded.{short_bytes, tree_folding_bytes}
 use Rattle.ciborium_value.specs.FormsReadBack.{IsFormRead}
 use Rattle.ciborium_value.specs.lemmas.GivenOutcomes.{mapped_gives, one_given}
 use Rattle.ciborium_value.specs.Meaning.{is_bignum_tag}
-use Rattle.ciborium_value.specs.NeverBytes.{IsNeverBytes, IsNoBytes}
-use Rattle.ciborium_value.specs.ReadsBack.{by_tree, of_ok}
+use Rattle.ciborium_value.specs.NeverWritten.{IsNever, byte_strings}
+use Rattle.ciborium_value.specs.ReadsBack.{by_bytes, by_tree, of_ok}
 use Rattle.ciborium_value.specs.Sinks.{Named, tag_of}
 use Rattle.ciborium_value.specs.TagReadings.{if_tag, is_no_other_tag, is_tag, taken_with_tag}
 use Rattle.ciborium_value.specs.Taken.{Taken, gives, outer_tag, outcome_map, then_take}
@@ -58,7 +58,7 @@ under_form o t v u h form = mapped_gives (trees.tag t) (deterministic_form o v) 
     (sym (ap (λ b. tag_form t b (deterministic_form o v)) (not_folding t v h)) ∙ form)
 
 read-tagged : {C : Type 0} (taken : Taken C) (c : C) (o : KeyOrder) (t : ℕ) (j : Item) →
-    IsNoBytes j → ((u : Tree) → deterministic_form o (written_tree j) ≡ gives u →
+    short_bytes (written_tree j) ≡ None → ((u : Tree) → deterministic_form o (written_tree j) ≡ gives u →
     taken None (item_of u) ≡ gives c) →
     (u : Tree) → deterministic_form o (trees.tag t (written_tree j)) ≡ gives u →
     taken_with_tag taken None (item_of u) ≡ gives (Some t, c)
@@ -68,12 +68,12 @@ read-tagged taken c o t j none h u form =
     (ap (outcome_map (λ v. (Some t, v))) (h w is))
 
 module _ {C : Type 0} {taken : Taken C} {c : C} (o : KeyOrder) where
-  read-captured : (m : Option ℕ) (r : Named) → IsToldApart m r → IsNeverBytes r →
+  read-captured : (m : Option ℕ) (r : Named) → IsToldApart m r → IsNever byte_strings r →
       IsFormRead o r taken c →
       IfOk (captured_of m r) (λ i. (u : Tree) → deterministic_form o (written_tree i) ≡ gives u →
       taken_with_tag taken None (item_of u) ≡ gives (m, c))
   read-captured (Some t) (Ok j) told never h =
-      read-tagged taken c o t j (never j refl) (h.back j refl)
+      read-tagged taken c o t j (never by_bytes j refl) (h.back j refl)
   read-captured (Some t) (Err k) told never h = tt
   read-captured None (Ok i) told never h = λ u form.
       ap (λ p. outcome_map (λ v. (p.0, v)) (taken None p.1))
@@ -81,7 +81,7 @@ module _ {C : Type 0} {taken : Taken C} {c : C} (o : KeyOrder) where
       ap (outcome_map (λ v. (None, v))) (h.back i refl u form)
   read-captured None (Err k) told never h = tt
 
-  pub captured-form : (m : Option ℕ) {r : Named} → IsToldApart m r → IsNeverBytes r →
+  pub captured-form : (m : Option ℕ) {r : Named} → IsToldApart m r → IsNever byte_strings r →
       IsFormRead o r taken c → IsFormRead o (captured_of m r) (taken_with_tag taken) (m, c)
   captured-form m {r = r} told never h = record {
     back = of_ok (captured_of m r) (λ i. (u : Tree) →
@@ -89,7 +89,7 @@ module _ {C : Type 0} {taken : Taken C} {c : C} (o : KeyOrder) where
         taken_with_tag taken None (item_of u) ≡ gives (m, c)) (read-captured m r told never h);
   }
 
-  pub required-form : (t : ℕ) {r : Named} → IsNeverBytes r → IsFormRead o r taken c →
+  pub required-form : (t : ℕ) {r : Named} → IsNever byte_strings r → IsFormRead o r taken c →
       IsFormRead o (tag_of t r) (λ l i. then_take (taken_with_tag taken l i) (if_tag (is_tag t))) c
   required-form t never h = record {
     back = λ i e u form. ap (λ p. then_take p (if_tag (is_tag t)))
@@ -99,7 +99,7 @@ module _ {C : Type 0} {taken : Taken C} {c : C} (o : KeyOrder) where
       same : (t : ℕ) → if_tag (is_tag t) (Some t, c) ≡ gives c
       same t = grind (arith, nat_tests)
 
-  pub accepted-form : (t : ℕ) {r : Named} → IsNeverBytes r → IsFormRead o r taken c →
+  pub accepted-form : (t : ℕ) {r : Named} → IsNever byte_strings r → IsFormRead o r taken c →
       IsFormRead o (tag_of t r)
       (λ l i. then_take (taken_with_tag taken l i) (if_tag (is_no_other_tag t)))
       c
@@ -111,16 +111,3 @@ module _ {C : Type 0} {taken : Taken C} {c : C} (o : KeyOrder) where
     where
       same : (t : ℕ) → if_tag (is_no_other_tag t) (Some t, c) ≡ gives c
       same t = grind (arith, nat_tests)
-
--- ---- what is written under a tag is no byte string
-
-tagged-no_bytes : (t : ℕ) (r : Named) → IfOk (tag_of t r) IsNoBytes
-tagged-no_bytes t (Ok j) = refl
-tagged-no_bytes t (Err k) = tt
-
-pub no_bytes-tag : (t : ℕ) (r : Named) → IsNeverBytes (tag_of t r)
-no_bytes-tag t r i e = of_ok (tag_of t r) IsNoBytes (tagged-no_bytes t r) i e
-
-pub no_bytes-captured : (m : Option ℕ) {r : Named} → IsNeverBytes r → IsNeverBytes (captured_of m r)
-no_bytes-captured (Some t) {r = r} h = no_bytes-tag t r
-no_bytes-captured None h = h

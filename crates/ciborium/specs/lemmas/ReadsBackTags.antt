@@ -7,7 +7,7 @@ use Rattle.ciborium_ll.specs.Item as items
 use Rattle.ciborium_ll.specs.Item.{Item}
 use Rattle.ciborium_value.specs.Encoding.{item_of}
 use Rattle.ciborium_value.specs.Nesting.{Limit, IsWithin}
-use Rattle.ciborium_value.specs.NeverNull.{IsNeverNull}
+use Rattle.ciborium_value.specs.NeverWritten.{Avoided, IsNever, IsOther, byte_strings, nulls}
 use Rattle.ciborium_value.specs.ReadsBack.{IsNameRead, Way, by_bytes, by_tree, met, met-tag, of_ok}
 use Rattle.ciborium_value.specs.Sinks.{Named, tag_of}
 use Rattle.ciborium_value.specs.TagReadings.{if_tag, is_no_other_tag, is_tag, taken_with_tag}
@@ -90,17 +90,17 @@ module _ {C : Type 0} {taken : Taken C} {c : C} {n : ℕ} where
       same : (t : ℕ) → if_tag (is_no_other_tag t) (Some t, c) ≡ gives c
       same t = grind (arith, nat_tests)
 
--- ---- never null: a tag is no null, whatever stands under it
+-- ---- a tag is neither null nor a byte string, whatever stands under it
 
-tag-never_null : (way : Way) (t : ℕ) (r : Named) →
-    IfOk (tag_of t r) (λ i. is_null (met way i) ≡ false)
-tag-never_null way t (Ok j) = ap is_null (met-tag way t j)
-tag-never_null way t (Err k) = tt
+tag-other : (a : Avoided) (way : Way) (t : ℕ) (r : Named) → IfOk (tag_of t r) (IsOther a way)
+tag-other nulls way t (Ok j) = ap is_null (met-tag way t j)
+tag-other byte_strings way t (Ok j) = refl
+tag-other a way t (Err k) = tt
 
-pub tag-never : (t : ℕ) (r : Named) → IsNeverNull (tag_of t r)
-tag-never t r way i e = of_ok (tag_of t r) (λ j. is_null (met way j) ≡ false)
-    (tag-never_null way t r) i e
+pub tag-never : (a : Avoided) (t : ℕ) (r : Named) → IsNever a (tag_of t r)
+tag-never a t r way = of_ok (tag_of t r) (IsOther a way) (tag-other a way t r)
 
-pub captured-never : (o : Option ℕ) {r : Named} → IsNeverNull r → IsNeverNull (captured_of o r)
-captured-never (Some t) {r = r} h = tag-never t r
-captured-never None h = h
+pub captured-never : (a : Avoided) (o : Option ℕ) {r : Named} → IsNever a r →
+    IsNever a (captured_of o r)
+captured-never a (Some t) {r = r} h = tag-never a t r
+captured-never a None h = h

@@ -1,6 +1,8 @@
 //! The deterministic forms of values to bytes (RFC 8949, section 4.2).
 
-ghost use Rattle.std.specs.Prelude.{◌≡◌, IfErr, OnOk};
+ghost use Rattle.std.specs.Prelude.{◌≡◌, IfErr, IfOk, OnOk};
+ghost use Rattle.ciborium_value.specs.Taken.{gives};
+ghost use Rattle.ciborium_value.specs.View.{tree_of};
 ghost use Rattle.ciborium.specs.DeterministicWrites.{IsFormOwed, IsFormWritten, WritesForm};
 ghost use Rattle.ciborium.specs.DeterministicWrites.{named_form};
 ghost use Rattle.ciborium.specs.Writes.{IsWriteIo, cause_of};
@@ -44,13 +46,29 @@ pub fn into_writer_deterministic<T: Serialize, W: Write>(
         IsFormOwed (cause_of e) (named_form order (T.written value.now))) }
     ensures written { OnOk result (IsFormWritten (named_form order (T.written value.now))) }
 {
+    let form = form_of(alloc, value, order)?;
+    into_writer(&form, writer)
+}
+
+// The form of the tree of the item that the value names.
+fn form_of<T: Serialize>(
+    alloc: Global,
+    value: &T,
+    order: KeyOrder,
+) -> Result<Value, Error<io::Error>>
+    ensures ok { IfOk result (λ form.
+        named_form order (T.written value.now) ≡ gives (tree_of form)) }
+    ensures unwritten { IfErr result (λ e. ¬ IsWriteIo e) }
+    ensures refused { IfErr result (λ e.
+        IsFormOwed (cause_of e) (named_form order (T.written value.now))) }
+{
     let mut tree = match Value::serialized(alloc, value) {
         Ok(tree) => tree,
         Err(error::Error::Custom(kind)) => return Err(Error::Value(kind)),
         Err(error::Error::Memory) => return Err(Error::Memory),
     };
     match tree.make_deterministic(order) {
-        Ok(()) => into_writer(&tree, writer),
+        Ok(()) => Ok(tree),
         Err(kind) => Err(Error::Value(kind)),
     }
 }

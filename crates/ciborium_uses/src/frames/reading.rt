@@ -2,12 +2,13 @@
 ghost use Rattle.std.specs.Option.{option_map};
 ghost use Rattle.std.specs.Prelude.{List, None, Option, Some, codes, refl, string_bytes, ◌^◌};
 ghost use Rattle.std.specs.Prelude.{ℕ, ℤ};
-ghost use Rattle.ciborium.specs.NeverNull.{never-number, optional-back};
+ghost use Rattle.ciborium.specs.NeverWritten.{never-number};
 ghost use Rattle.ciborium.specs.Readings.{IsBounded, option_of};
 ghost use Rattle.ciborium.specs.ReadsBack.{string_back};
 ghost use Rattle.ciborium.specs.Sinks.{fields_of};
 ghost use Rattle.ciborium.specs.StructReadings.{field, no_field, optional_field, struct_of};
 ghost use Rattle.ciborium.specs.lemmas.ReadsBackNumbers.{i16_back, u64_back};
+ghost use Rattle.ciborium.specs.lemmas.ReadsBackOptions.{optional-back};
 ghost use Rattle.ciborium.specs.lemmas.ReadsBackStructs.{field_back, field_from_back};
 ghost use Rattle.ciborium.specs.lemmas.ReadsBackStructs.{fields_read_back, left_out_back};
 ghost use Rattle.ciborium.specs.lemmas.ReadsBackStructs.{no_field_back};
@@ -83,7 +84,7 @@ impl ReadsBack for Reading {
         (field_back (codes "sensor") ⟦<String as Deserialize>⟧.reading (string_back r.sensor tt)
         (field_back (codes "at") ⟦<u64 as Deserialize>⟧.reading (u64_back r.at held.0)
         (field_from_back (codes "level") (option_of ⟦<i16 as Deserialize>⟧.reading) (Some None)
-        (optional-back i16_back never-number (Some z) fits)
+        (optional-back i16_back (never-number _) (Some z) fits)
         no_field_back))) refl)
         r.level held.1 };
 }

@@ -11,9 +11,10 @@ use Rattle.ciborium_value.specs.Encoding.{item_of, written_tree}
 use Rattle.ciborium_value.specs.Folded.{tree_folding_bytes}
 use Rattle.ciborium_value.specs.FormsReadBack.{IsFormRead, IsReadFromForm}
 use Rattle.ciborium_value.specs.lemmas.GivenOutcomes.{mapped_gives, meaning_given, one_given}
+use Rattle.ciborium_value.specs.lemmas.ReadsBackOptions.{some-back}
 use Rattle.ciborium_value.specs.Meaning.{big_endian, bignum_meaning, negative_bignum}
 use Rattle.ciborium_value.specs.Meaning.{unsigned_bignum, without_zeros}
-use Rattle.ciborium_value.specs.NeverNull.{IsNeverNull, some-back}
+use Rattle.ciborium_value.specs.NeverWritten.{IsNever, nulls}
 use Rattle.ciborium_value.specs.ReadsBack.{by_tree, of_ok}
 use Rattle.ciborium_value.specs.Sinks.{Named, or_null}
 use Rattle.ciborium_value.specs.Taken.{Outcome, Taken, gives, is_null, then_take}
@@ -74,7 +75,7 @@ form-not_null o (trees.map ps) u h form = let (qs, is, same) =
 -- ---- options
 
 something-form : {C : Type 0} (o : KeyOrder) {r : Named} {taken : Taken C} {c : C} →
-    IsFormRead o r taken c → IsNeverNull r → IsFormRead o r (taken_option taken) (Some c)
+    IsFormRead o r taken c → IsNever nulls r → IsFormRead o r (taken_option taken) (Some c)
 something-form o {taken = taken} {c = c} law never = record {
   back = λ i e t form. some-back taken None (item_of t) c
       (form-not_null o (written_tree i) t (never by_tree i e) form) (law.back i e t form);
@@ -92,7 +93,7 @@ nothing-form o taken = record {
 
 pub option-form : {T C : Type 0} (o : KeyOrder) {IsHeld : T → Type 0} {written : T → Named}
     {taken : Taken C} {content : T → C} → IsReadFromForm o IsHeld written taken content →
-    ((v : T) → IsNeverNull (written v)) →
+    ((v : T) → IsNever nulls (written v)) →
     IsReadFromForm o (λ m. IfSome m IsHeld) (or_null written) (taken_option taken)
     (option_map content)
 option-form o {taken = taken} law never None held = nothing-form o taken

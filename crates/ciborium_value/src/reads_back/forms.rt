@@ -8,7 +8,7 @@ ghost use Rattle.ciborium_value.specs.lemmas.FormsReadBackParts.{list-form, tupl
 ghost use Rattle.ciborium_value.specs.lemmas.FormsReadBackParts.{tuple2-form};
 ghost use Rattle.ciborium_value.specs.lemmas.FormsReadBackParts.{tuple3-form, tuple4-form};
 
-use super::{FormReadsBack, NeverNull};
+use super::{FormReadsBack, NeverWrites, Null};
 use crate::byte_buf::ByteBuf;
 use crate::deserialize::Key;
 use std::collections::BTreeMap;
@@ -33,8 +33,8 @@ impl FormReadsBack for ByteBuf {
     ghost form_reads_back = { bytes-form (λ b. b.0.items) };
 }
 
-impl<T: FormReadsBack + NeverNull> FormReadsBack for Option<T> {
-    ghost form_reads_back = { λ o. option-form o (T.form_reads_back o) T.never_null };
+impl<T: FormReadsBack + NeverWrites<Null>> FormReadsBack for Option<T> {
+    ghost form_reads_back = { λ o. option-form o (T.form_reads_back o) T.never };
 }
 
 impl<T: FormReadsBack> FormReadsBack for Vec<T> {

@@ -1,0 +1,65 @@
+-- Options of what is never written as null or undefined are read back.
+use Rattle.std.proofs.Common.{ap, ◌∙◌}
+use Rattle.std.specs.Option.{option_map}
+use Rattle.std.specs.Prelude.{◌≡◌, ℕ, false, Option, Some, None, IfSome, if◌then◌else◌, refl}
+use Rattle.ciborium_ll.specs.Item as items
+use Rattle.ciborium_ll.specs.Item.{Item}
+use Rattle.ciborium_value.specs.Nesting.{Limit}
+use Rattle.ciborium_value.specs.NeverWritten.{IsNever, nulls}
+use Rattle.ciborium_value.specs.ReadsBack.{IsNameRead, IsReadBack, Way, by_bytes, by_tree, met}
+use Rattle.ciborium_value.specs.ReadsBack.{named, of_ok}
+use Rattle.ciborium_value.specs.Sinks.{Named, or_null}
+use Rattle.ciborium_value.specs.Taken.{Taken, gives, outcome_map, is_null}
+use Rattle.ciborium_value.specs.TakenParts.{taken_option}
+
+-- the levels of what there is
+abbrev pub option_levels : {T : Type 0} → (T → ℕ) → Option T → ℕ
+option_levels levels None = 0
+option_levels levels (Some v) = levels v
+
+null-back : {C : Type 0} (taken : Taken C) (way : Way) (l : Limit) →
+    taken_option taken l (met way (items.simple 22)) ≡ gives None
+null-back taken by_bytes l = refl
+null-back taken by_tree l = refl
+
+nothing-back : {C : Type 0} (taken : Taken C) (n : ℕ) →
+    IsNameRead (named (items.simple 22)) (taken_option taken) None n
+nothing-back taken n = record {
+  back = λ way i e l fits. of_ok (named (items.simple 22))
+      (λ j. taken_option taken l (met way j) ≡ gives None) (null-back taken way l) i e;
+}
+
+pub some-back : {C : Type 0} (taken : Taken C) (l : Limit) (i : Item) (c : C) → is_null i ≡ false →
+    taken l i ≡ gives c → taken_option taken l i ≡ gives (Some c)
+some-back taken l i c never h = ap (λ t. if t then gives None else outcome_map Some (taken l i))
+    never ∙ ap (outcome_map Some) h
+
+something-back : {C : Type 0} (taken : Taken C) {r : Named} {c : C} {n : ℕ} →
+    IsNameRead r taken c n → IsNever nulls r → IsNameRead r (taken_option taken) (Some c) n
+something-back taken {c = c} law never = record {
+  back = λ way i e l fits. some-back taken l (met way i) c (never way i e)
+      (law.back way i e l fits);
+}
+
+pub option-back : {T C : Type 0} {IsHeld : T → Type 0} {written : T → Named} {taken : Taken C}
+    {content : T → C} {levels : T → ℕ} → IsReadBack IsHeld written taken content levels →
+    ((v : T) → IsNever nulls (written v)) →
+    IsReadBack (λ o. IfSome o IsHeld) (or_null written) (taken_option taken) (option_map content)
+    (option_levels levels)
+option-back {taken = taken} back never None held = nothing-back taken 0
+option-back {taken = taken} back never (Some v) held = something-back taken (back v held) (never v)
+
+-- the same, of contents that all take so many levels
+pub optional-back : {T C : Type 0} {IsHeld : T → Type 0} {written : T → Named} {taken : Taken C}
+    {content : T → C} {n : ℕ} → IsReadBack IsHeld written taken content (λ v. n) →
+    ((v : T) → IsNever nulls (written v)) →
+    IsReadBack (λ o. IfSome o IsHeld) (or_null written) (taken_option taken) (option_map content)
+    (λ o. n)
+optional-back {taken = taken} {n = n} back never None held = nothing-back taken n
+optional-back {taken = taken} back never (Some v) held =
+    something-back taken (back v held) (never v)
+
+-- what holds of every value holds of what there is
+pub always : {T : Type 0} (o : Option T) → IfSome o (λ v. Unit {0})
+always None = tt
+always (Some v) = tt
