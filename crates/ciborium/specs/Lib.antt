@@ -56,6 +56,7 @@ pub use Rattle.ciborium_value.specs.Taken
 pub use Rattle.ciborium_value.specs.Ahead
 pub use Rattle.ciborium_value.specs.Sources
 pub use Rattle.ciborium_value.specs.TakenParts
+pub use Rattle.ciborium_value.specs.EnteredSequences
 pub use Rattle.ciborium_value.specs.Readings
 pub use Rattle.ciborium_value.specs.TagReadings
 pub use Rattle.ciborium_value.specs.VariantReadings

@@ -23,6 +23,7 @@ pub mod Taken
 pub mod Ahead
 pub mod Sources
 pub mod TakenParts
+pub mod EnteredSequences
 pub mod Readings
 pub mod TagReadings
 pub mod VariantReadings

@@ -6,16 +6,19 @@ use Rattle.std.specs.Cmp.Lexicographic.{slice_cmp}
 use Rattle.std.specs.Option.{option_cmp, option_map}
 use Rattle.std.specs.declared.cmp.Ordering.{Ordering}
 use Rattle.std.specs.declared.cmp.Ordering.TheVariants.{Equal}
-use Rattle.ciborium_value.specs.lemmas.Steady.{IsSteady, IsNoNesting}
+use Rattle.ciborium_ll.specs.Item.{Item}
+use Rattle.ciborium_value.specs.Nesting.{Limit}
+use Rattle.ciborium_value.specs.lemmas.Steady.{IsSteady, IsSteadyRow, IsNoNesting, after_seq}
+use Rattle.ciborium_value.specs.lemmas.Steady.{steady-seq}
 use Rattle.ciborium_value.specs.lemmas.SteadyParts.{no_nesting-if, no_nesting-below}
 use Rattle.ciborium_value.specs.lemmas.SteadyParts.{no_nesting-within, steady-integer, steady-then}
-use Rattle.ciborium_value.specs.lemmas.SteadyParts.{steady-option, steady-list, steady-tuple1}
-use Rattle.ciborium_value.specs.lemmas.SteadyParts.{steady-tuple2, steady-tuple3, steady-tuple4}
-use Rattle.ciborium_value.specs.lemmas.SteadyParts.{steady-map, steady-value}
+use Rattle.ciborium_value.specs.lemmas.SteadyParts.{steady-option, steady-list, steady-no_part}
+use Rattle.ciborium_value.specs.lemmas.SteadyParts.{steady-part, steady-row, steady-map}
+use Rattle.ciborium_value.specs.lemmas.SteadyParts.{steady-value}
 use Rattle.ciborium_value.specs.Taken.{Outcome, Taken, gives, refuses, taken_integer, number_below}
 use Rattle.ciborium_value.specs.Taken.{number_within, taken_value}
-use Rattle.ciborium_value.specs.TakenParts.{taken_then, taken_option, taken_list, taken_tuple1}
-use Rattle.ciborium_value.specs.TakenParts.{taken_tuple2, taken_tuple3, taken_tuple4, taken_map}
+use Rattle.ciborium_value.specs.TakenParts.{taken_then, taken_option, taken_list, taken_row}
+use Rattle.ciborium_value.specs.TakenParts.{no_part_taken, part_taken, taken_map}
 use Rattle.ciborium_value.specs.Order.{tree_cmp}
 use Rattle.ciborium_value.specs.Tree.{Tree}
 use Rattle.ciborium_value.specs.declared.kind.Kind.{Kind}
@@ -111,7 +114,7 @@ abbrev pub IsBounded : ℕ → ℤ → Type 0
 IsBounded bound (pos n) = n < bound
 IsBounded bound (negsuc n) = n < bound
 
--- ---- options, lists and tuples
+-- ---- options and lists
 
 -- nothing, or what the content is read from
 abbrev pub option_of : {T C : Type 0} → Reading T C → Reading (Option T) (Option C)
@@ -129,31 +132,55 @@ abbrev pub list_of : {L T C : Type 0} → (L → List T) → Reading T C → Rea
 list_of items r = spacious (λ v. map r.content (items v)) (slice_cmp r.order) (taken_list r.taken)
     (steady-list r.taken r.steady)
 
--- a tuple by its parts
+-- ---- parts in a row
+
+-- parts that are read one after another, onto a C
+pub record Row (C : Type 0) : Type 0 where
+  pub taken : Limit → List Item → Outcome C
+  pub steady : IsSteadyRow taken
+
+-- no part more
+abbrev pub no_part : Row (Unit {0})
+no_part = record { taken = no_part_taken; steady = steady-no_part }
+
+-- a part, and those after it; where it is missing the array is refused as Length
+abbrev pub part : {T A C : Type 0} → Reading T A → Row C → Row (A × C)
+part r behind = record {
+  taken = part_taken r.taken behind.taken;
+  steady = steady-part r.taken behind.taken r.steady behind.steady;
+}
+
+-- an array of these parts; what stands after them is read as values, and dropped
+abbrev pub array_of : {T C : Type 0} → (T → C) → Row C → Reading T C
+array_of content row = spacious content unordered (after_seq row.taken)
+    (steady-seq row.taken row.steady)
+
+-- the same, of which a tuple is made
+abbrev tuple_of : {T C D : Type 0} → (T → D) → (D → D → Ordering) → (C → D) → Row C → Reading T D
+tuple_of content order make row = spacious content order (taken_row make row.taken)
+    (steady-row make row.taken row.steady)
+
 abbrev pub tuple1_of : {T A C : Type 0} → (T → A) → Reading A C → Reading T C
-tuple1_of part a = spacious (λ t. a.content (part t)) a.order (taken_tuple1 a.taken)
-    (steady-tuple1 a.taken a.steady)
+tuple1_of alone a = tuple_of (λ t. a.content (alone t)) a.order (λ p. p.0) (part a no_part)
 
 abbrev pub tuple2_of : {A B C D : Type 0} → Reading A C → Reading B D → Reading (A × B) (C × D)
-tuple2_of a b = spacious (λ t. (a.content t.0, b.content t.1))
-    (λ x y. ordering_then (a.order x.0 y.0) (b.order x.1 y.1)) (taken_tuple2 a.taken b.taken)
-    (steady-tuple2 a.taken b.taken a.steady b.steady)
+tuple2_of a b = tuple_of (λ t. (a.content t.0, b.content t.1))
+    (λ x y. ordering_then (a.order x.0 y.0) (b.order x.1 y.1)) (λ p. (p.0, p.1.0))
+    (part a (part b no_part))
 
 abbrev pub tuple3_of : {A B C D E F : Type 0} → Reading A D → Reading B E → Reading C F →
     Reading (A × B × C) (D × E × F)
-tuple3_of a b c =
-    spacious (λ t. (a.content t.0, b.content t.1, c.content t.2))
+tuple3_of a b c = tuple_of (λ t. (a.content t.0, b.content t.1, c.content t.2))
     (λ x y. ordering_then (ordering_then (a.order x.0 y.0) (b.order x.1 y.1)) (c.order x.2 y.2))
-    (taken_tuple3 a.taken b.taken c.taken)
-    (steady-tuple3 a.taken b.taken c.taken a.steady b.steady c.steady)
+    (λ p. (p.0, p.1.0, p.1.1.0)) (part a (part b (part c no_part)))
 
 abbrev pub tuple4_of : {A B C D E F G H : Type 0} → Reading A E → Reading B F → Reading C G →
     Reading D H → Reading (A × B × C × D) (E × F × G × H)
 tuple4_of a b c d =
-    spacious (λ t. (a.content t.0, b.content t.1, c.content t.2, d.content t.3))
+    tuple_of (λ t. (a.content t.0, b.content t.1, c.content t.2, d.content t.3))
     (λ x y. ordering_then (ordering_then (ordering_then (a.order x.0 y.0) (b.order x.1 y.1))
-    (c.order x.2 y.2)) (d.order x.3 y.3)) (taken_tuple4 a.taken b.taken c.taken d.taken)
-    (steady-tuple4 a.taken b.taken c.taken d.taken a.steady b.steady c.steady d.steady)
+    (c.order x.2 y.2)) (d.order x.3 y.3)) (λ p. (p.0, p.1.0, p.1.1.0, p.1.1.1.0))
+    (part a (part b (part c (part d no_part))))
 
 -- ---- maps
 

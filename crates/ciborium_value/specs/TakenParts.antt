@@ -26,49 +26,37 @@ list_items taken l is = take_each (taken l) is
 abbrev pub taken_list : {A : Type 0} → Taken A → Taken (List A)
 taken_list taken = after_seq (list_items taken)
 
--- the first item, and then what follows it
-abbrev pub take_part : {A B : Type 0} → Outcome B → (Item → Outcome A) →
-    (A → List Item → Outcome B) → List Item → Outcome B
-take_part none first k [] = none
-take_part none first k (i ∷ is) = then_take (first i) (λ v. k v is)
+-- ---- items in a row
 
--- a part of a tuple, which must be there
-abbrev pub tuple_part : {A B : Type 0} → Taken A → Limit → (A → List Item → Outcome B) → List Item →
-    Outcome B
-tuple_part taken l k is = take_part (refuses kinds.Length) (taken l) k is
+-- no part more: further items are read as values, and dropped
+abbrev pub no_part_taken : Limit → List Item → Outcome (Unit {0})
+no_part_taken l is = then_take (take_each (taken_value l) is) (λ _. gives tt)
 
--- behind the parts further items are read as values, and dropped
-abbrev pub tuple_rest : {A : Type 0} → Limit → A → List Item → Outcome A
-tuple_rest l v is = then_take (take_each (taken_value l) is) (λ _. gives v)
+-- a part, which must be there, and the parts after it
+abbrev pub part_taken : {A B : Type 0} → Taken A → (Limit → List Item → Outcome B) → Limit →
+    List Item → Outcome (A × B)
+part_taken taken behind l [] = refuses kinds.Length
+part_taken taken behind l (i ∷ is) = then_take (taken l i)
+    (λ v. outcome_map (λ c. (v, c)) (behind l is))
 
-abbrev pub tuple1_items : {A : Type 0} → Taken A → Limit → List Item → Outcome A
-tuple1_items a l = tuple_part a l (tuple_rest l)
-
-abbrev pub tuple2_items : {A B : Type 0} → Taken A → Taken B → Limit → List Item → Outcome (A × B)
-tuple2_items a b l = tuple_part a l (λ x. tuple_part b l (λ y. tuple_rest l (x, y)))
-
-abbrev pub tuple3_items : {A B C : Type 0} → Taken A → Taken B → Taken C → Limit → List Item →
-    Outcome (A × B × C)
-tuple3_items a b c l = tuple_part a l (λ x. tuple_part b l
-    (λ y. tuple_part c l (λ z. tuple_rest l (x, y, z))))
-
-abbrev pub tuple4_items : {A B C D : Type 0} → Taken A → Taken B → Taken C → Taken D → Limit →
-    List Item → Outcome (A × B × C × D)
-tuple4_items a b c d l = tuple_part a l (λ x. tuple_part b l
-    (λ y. tuple_part c l (λ z. tuple_part d l (λ w. tuple_rest l (x, y, z, w)))))
+-- what is made of the parts of a sequence
+abbrev pub taken_row : {A B : Type 0} → (A → B) → (Limit → List Item → Outcome A) → Taken B
+taken_row make parts = taken_then (after_seq parts) (λ c. gives (make c))
 
 abbrev pub taken_tuple1 : {A : Type 0} → Taken A → Taken A
-taken_tuple1 a = after_seq (tuple1_items a)
+taken_tuple1 a = taken_row (λ p. p.0) (part_taken a no_part_taken)
 
 abbrev pub taken_tuple2 : {A B : Type 0} → Taken A → Taken B → Taken (A × B)
-taken_tuple2 a b = after_seq (tuple2_items a b)
+taken_tuple2 a b = taken_row (λ p. (p.0, p.1.0)) (part_taken a (part_taken b no_part_taken))
 
 abbrev pub taken_tuple3 : {A B C : Type 0} → Taken A → Taken B → Taken C → Taken (A × B × C)
-taken_tuple3 a b c = after_seq (tuple3_items a b c)
+taken_tuple3 a b c = taken_row (λ p. (p.0, p.1.0, p.1.1.0))
+    (part_taken a (part_taken b (part_taken c no_part_taken)))
 
 abbrev pub taken_tuple4 : {A B C D : Type 0} → Taken A → Taken B → Taken C → Taken D →
     Taken (A × B × C × D)
-taken_tuple4 a b c d = after_seq (tuple4_items a b c d)
+taken_tuple4 a b c d = taken_row (λ p. (p.0, p.1.0, p.1.1.0, p.1.1.1.0))
+    (part_taken a (part_taken b (part_taken c (part_taken d no_part_taken))))
 
 -- ---- maps
 

@@ -4,7 +4,6 @@ pub mod FoldedCopies
 pub mod TreeHeads
 pub mod Frames
 pub mod OwnForms
-pub mod EnteredContainers
 pub mod SideBySide
 pub mod Stack
 pub mod TreeSinks

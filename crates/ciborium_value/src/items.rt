@@ -1,12 +1,20 @@
-//! Items of a type each, as an array, for implementations of `Serialize`.
+//! Items of a type each, as an array, for implementations of `Serialize` and `Deserialize`.
 
-ghost use Rattle.std.specs.Prelude.{ℕ, ◌+◌, ◌∷◌, ◌⊎◌, []};
+ghost use Rattle.std.specs.Prelude.{ℕ, ◌+◌, ◌≤◌, ◌∷◌, ◌⊎◌, [], IfErr, IfOk, OnErr, OnOk};
+ghost use Rattle.ciborium_value.specs.EnteredSequences.{RefusesRow, TakesRest, TakesRow};
 ghost use Rattle.ciborium_value.specs.Places.{sequence};
 ghost use Rattle.ciborium_value.specs.Progress.{counted_of};
+ghost use Rattle.ciborium_value.specs.Readings.{Row, array_of, no_part};
+ghost use Rattle.ciborium_value.specs.Readings.{part};
+ghost use Rattle.ciborium_value.specs.Sources.{TakesOnly};
 
+use crate::deserialize::Deserialize;
+use crate::kind::Kind;
 use crate::parts::{OfArray, Parts, serialize_parts};
 use crate::serialize::Serialize;
 use crate::sink::Sink;
+use crate::source::Source;
+use std::alloc::Global;
 
 /// An item and the items after it.
 #[derive(Clone, Copy, Debug, Drop)]
@@ -16,11 +24,14 @@ pub struct Item<V, R>(pub V, pub R);
 #[derive(Clone, Copy, Debug, Drop)]
 pub struct NoItem;
 
-/// A definite array of the items (RFC 8949, section 3.1):
+/// An array of the items. It is written as a definite one (RFC 8949, section 3.1):
 ///
 ///     Array(Item(&self.x, Item(&self.y, NoItem))).serialize(sink)
 ///
-/// More than a `usize` counts, which is unreachable in practice, are refused as `Kind::Other`.
+/// More items than a `usize` counts, which is unreachable in practice, are refused as
+/// `Kind::Other`. The same type is read, from an array or from the bytes of a byte string:
+///
+///     let Array(Item(x, Item(y, NoItem))) = Array::deserialize(alloc, source)?;
 #[derive(Clone, Copy, Debug, Drop)]
 pub struct Array<R>(pub R);
 
@@ -65,5 +76,93 @@ impl<R: Parts<OfArray>> Serialize for Array<R> {
 
     fn serialize<S: Sink>(&self, sink: &mut S) -> Result<(), S::Error> {
         serialize_parts(&self.0, sink)
+    }
+}
+
+/// Items in a row that are read: an `Item`, or `NoItem`.
+pub trait WantedItems: Sized + Drop {
+    // What counts of them.
+    ghost Content: { Type 0 };
+
+    ghost content: { Self → Content };
+
+    // What the items of a sequence give.
+    ghost items: { Row Content };
+
+    /// Reads the items that are left of a sequence: each as its type, and those after them as
+    /// values, which are dropped. Where one is missing it is refused as `Length`. A refused call
+    /// has taken a prefix of what was unread and nothing else, and no more is left to read than
+    /// before.
+    fn read_items<S: Source>(
+        alloc: Global,
+        source: &mut S,
+        seq: &mut S::Seq,
+    ) -> Result<Self, S::Error>
+        ensures ok { IfOk result (λ i. TakesRow S.stands_before S.seq_stands
+            source.old source.new seq.old items.taken (content i)) }
+        ensures refused { IfErr result (λ e. RefusesRow S.stands_before S.seq_stands
+            source.old seq.old items.taken (S.cause e)) }
+        ensures took { OnOk result (TakesRest S.is_unread S.owes source.old source.new seq.old) }
+        ensures only { TakesOnly S.has_taken source.old source.new }
+        ensures less { OnOk result (S.left source.new ≤ S.left source.old + S.seq_left seq.old) }
+        ensures no_more { OnErr result (S.left source.new + S.seq_left seq.new
+            ≤ S.left source.old + S.seq_left seq.old) };
+}
+
+impl WantedItems for NoItem {
+    ghost Content = { Unit {0} };
+
+    ghost content = { λ _. tt };
+
+    ghost items = { no_part };
+
+    #[inline(always)]
+    fn read_items<S: Source>(
+        alloc: Global,
+        source: &mut S,
+        seq: &mut S::Seq,
+    ) -> Result<NoItem, S::Error> {
+        while source.next(seq)? {
+            drop(source.value(alloc)?);
+        }
+        Ok(NoItem)
+    }
+}
+
+impl<V: Deserialize, R: WantedItems> WantedItems for Item<V, R> {
+    ghost Content = { V.Content × R.Content };
+
+    ghost content = { λ i. (V.reading.content i.0, R.content i.1) };
+
+    ghost items = { part V.reading R.items };
+
+    #[inline(always)]
+    fn read_items<S: Source>(
+        alloc: Global,
+        source: &mut S,
+        seq: &mut S::Seq,
+    ) -> Result<Item<V, R>, S::Error> {
+        if !source.next(seq)? {
+            return Err(source.refuse(Kind::Length));
+        }
+        let item = V::deserialize(alloc, source)?;
+        let behind = R::read_items(alloc, source, seq)?;
+        Ok(Item(item, behind))
+    }
+}
+
+/// The items of an array, or the bytes of a byte string. Skips tags; fewer items are refused as
+/// `Length`, further ones are read as values and dropped, and another item in place of the array is
+/// refused as `Array`.
+impl<R: WantedItems> Deserialize for Array<R> {
+    ghost Content = { R.Content };
+
+    ghost reading = { array_of (λ a. R.content a.0) R.items };
+
+    #[inline(always)]
+    fn deserialize<S: Source>(alloc: Global, source: &mut S) -> Result<Array<R>, S::Error> {
+        let mut seq = source.begin_seq(alloc)?;
+        let items = R::read_items(alloc, source, &mut seq)?;
+        Ok(Array(items))
     }
 }

@@ -4,13 +4,13 @@ use Rattle.ciborium_ll.specs.Item.{Item}
 use Rattle.ciborium_value.specs.Ahead.{Ahead, Rest, Form, item, after, parts, past, inside, end_of}
 use Rattle.ciborium_value.specs.Nesting.{Limit}
 use Rattle.ciborium_value.specs.Places.{Shape, sequence}
-use Rattle.ciborium_value.specs.inner.EnteredContainers.{DropsRest, RefusesDropping, TakesOwed, TakesRest}
+use Rattle.ciborium_value.specs.EnteredSequences.{RefusesRow, TakesRest, TakesRow}
 use Rattle.ciborium_value.specs.Sources.{Fault, of_kind, of_nesting, of_syntax, of_memory, of_device, of_length}
 use Rattle.ciborium_value.specs.Sources.{IsFaultOf, IsOutsideFault, TakesAhead, RefusesAhead, Enters, GoesOn, Leaves}
 use Rattle.ciborium_value.specs.Sources.{RefusesNext, TakesTo, TakesItem, OwesLess, OwesNothing}
 use Rattle.ciborium_value.specs.Taken.{Outcome, gives, refuses, nests, Taken, then_take, and_take, take_each}
 use Rattle.ciborium_value.specs.Taken.{outcome_map, taken_value}
-use Rattle.ciborium_value.specs.TakenParts.{list_items, taken_list, tuple_rest}
+use Rattle.ciborium_value.specs.TakenParts.{list_items, taken_list, no_part_taken}
 use Rattle.ciborium_value.specs.Tree.{Tree}
 
 -- ---- who is to blame
@@ -157,10 +157,6 @@ one_more_dropped v (gives ws) = refl
 one_more_dropped v (refuses k) = refl
 one_more_dropped v nests = refl
 
--- what the items that are left become where they are dropped
-abbrev pub dropped : Limit → List Item → Outcome (Unit {0})
-dropped l is = tuple_rest l tt is
-
 module _ {S Q : Type 0} (StandsBefore : S → Limit → Ahead → Type 0) (SeqStands : Q → Limit → Rest → Type 0) {A : Type 0}
     (taken : Taken A) where
   pub list_begins : {old new : S} {q : Q} (vs : List A) → vs ≡ [] → Enters StandsBefore SeqStands old new q →
@@ -199,35 +195,39 @@ module _ {S Q : Type 0} (StandsBefore : S → Limit → Ahead → Type 0) (SeqSt
       Follows (IsInside StandsBefore SeqStands old q (list_from taken vs)) (IsPast StandsBefore new vs)
   list_ends vs h = leaves StandsBefore SeqStands (list_from taken vs) vs h (λ m. ap gives (append-nil vs))
 
+-- ---- parts in a row
+
 module _ {S Q : Type 0} (StandsBefore : S → Limit → Ahead → Type 0) (SeqStands : Q → Limit → Rest → Type 0) where
+  pub takes_row : {C : Type 0} {old new : S} {q : Q} (taken : Limit → List Item → Outcome C) {c : C} →
+      Follows (IsInside StandsBefore SeqStands old q taken) (IsPast StandsBefore new c) →
+      TakesRow StandsBefore SeqStands old new q taken c
+  takes_row taken h l form is f st sq = h.at l f _ (form, is, st, sq, refl)
+
+  pub refuses_row : {C : Type 0} {old : S} {q : Q} (taken : Limit → List Item → Outcome C) (fault : Fault) →
+      Follows (IsInside StandsBefore SeqStands old q taken) (IsBlamed fault) →
+      RefusesRow StandsBefore SeqStands old q taken fault
+  refuses_row taken fault h l form is f st sq = h.at l f _ (form, is, st, sq, refl)
+
+  -- no part more: each item that is left is dropped
   pub drop_more : {old ahead new : S} {q q' : Q} {v : Tree} → GoesOn StandsBefore SeqStands old ahead q q' →
-      TakesAhead StandsBefore ahead new taken_value v →
-      Follows (IsInside StandsBefore SeqStands old q dropped) (IsInside StandsBefore SeqStands new q' dropped)
-  drop_more {v = v} h t = so (goes_on StandsBefore SeqStands dropped h)
-      (reads StandsBefore SeqStands dropped dropped t (λ m i is e. ap
+      TakesAhead StandsBefore ahead new taken_value v → Follows (IsInside StandsBefore SeqStands old q no_part_taken)
+      (IsInside StandsBefore SeqStands new q' no_part_taken)
+  drop_more {v = v} h t = so (goes_on StandsBefore SeqStands no_part_taken h)
+      (reads StandsBefore SeqStands no_part_taken no_part_taken t (λ m i is e. ap
       (λ o. then_take (and_take o (take_each (taken_value m) is)) (λ _. gives tt)) e ∙
       one_more_dropped v (take_each (taken_value m) is)))
 
   pub drop_blames : {old ahead : S} {q q' : Q} (fault : Fault) → GoesOn StandsBefore SeqStands old ahead q q' →
       RefusesAhead StandsBefore ahead taken_value fault →
-      Follows (IsInside StandsBefore SeqStands old q dropped) (IsBlamed fault)
-  drop_blames fault h t = so (goes_on StandsBefore SeqStands dropped h)
-      (blames_part StandsBefore SeqStands dropped taken_value fault t
+      Follows (IsInside StandsBefore SeqStands old q no_part_taken) (IsBlamed fault)
+  drop_blames fault h t = so (goes_on StandsBefore SeqStands no_part_taken h)
+      (blames_part StandsBefore SeqStands no_part_taken taken_value fault t
       (λ end m i is e. fault_then _ fault (and_take (taken_value m i) (take_each (taken_value m) is))
       (λ _. gives tt) (fault_and _ fault (taken_value m i) (take_each (taken_value m) is) e)))
 
   pub drop_ends : {old new : S} {q : Q} → Leaves StandsBefore SeqStands old new q →
-      Follows (IsInside StandsBefore SeqStands old q dropped) (IsPast StandsBefore new tt)
-  drop_ends h = leaves StandsBefore SeqStands dropped tt h (λ m. refl)
-
-  pub drops : {old new : S} {q : Q} → Follows (IsInside StandsBefore SeqStands old q dropped)
-      (IsPast StandsBefore new tt) → DropsRest StandsBefore SeqStands old new q
-  drops h l form is f st sq = h.at l f _ (form, is, st, sq, refl)
-
-  pub drop_refused : {old : S} {q : Q} (fault : Fault) →
-      Follows (IsInside StandsBefore SeqStands old q dropped) (IsBlamed fault) →
-      RefusesDropping StandsBefore SeqStands old q fault
-  drop_refused fault h l form is f st sq = h.at l f _ (form, is, st, sq, refl)
+      Follows (IsInside StandsBefore SeqStands old q no_part_taken) (IsPast StandsBefore new tt)
+  drop_ends h = leaves StandsBefore SeqStands no_part_taken tt h (λ m. refl)
 
 -- ---- known bytes
 
@@ -248,18 +248,29 @@ module _ {S Q : Type 0} (IsUnread : S → List ℕ → Type 0) (Owes : Q → Sha
       let (z, un', done) = g c un in
       (z, un', done sequence b ow)
 
-  pub dropped_more : (old mid ahead new : S) (p q q' : Q) → TakesOwed IsUnread Owes old mid p q →
+  -- a part was taken, and less is owed
+  abbrev pub TakesOwed : S → S → Q → Q → Type 0
+  TakesOwed old new q q' = TakesTo IsUnread old new (λ c u. (b : List ℕ) → Owes q sequence b c → Owes q' sequence b u)
+
+  pub dropped_more : (old mid ahead new : S) (p q q' : Q) → TakesOwed old mid p q →
       TakesTo IsUnread mid ahead (OwesLess Owes q q') → TakesItem IsUnread ahead new →
-      TakesOwed IsUnread Owes old new p q'
+      TakesOwed old new p q'
   dropped_more old mid ahead new p q q' h g t b u =
       let (c, un, ow) = h b u in
       let (d, un', less) = g c un in
       let (z, un'', has) = t d un' in
       (z, un'', λ a w. less sequence a z (ow a w) has)
 
-  pub dropped_all : (old mid new : S) (p q : Q) → TakesOwed IsUnread Owes old mid p q →
+  pub dropped_all : (old mid new : S) (p q : Q) → TakesOwed old mid p q →
       TakesTo IsUnread mid new (OwesNothing Owes q) → TakesRest IsUnread Owes old new p
   dropped_all old mid new p q h g a b u w =
       let (c, un, ow) = h b u in
       let (z, un', done) = g c un in
       (z, un', done sequence a (ow a w))
+
+  pub row_taken : {old ahead mid new : S} {q q' : Q} → TakesTo IsUnread old ahead (OwesLess Owes q q') →
+      TakesItem IsUnread ahead mid → TakesRest IsUnread Owes mid new q' → TakesRest IsUnread Owes old new q
+  row_taken g t r b c un ow =
+      let (d, un', less) = g c un in
+      let (z, un'', has) = t d un' in
+      r b z un'' (less sequence b z ow has)

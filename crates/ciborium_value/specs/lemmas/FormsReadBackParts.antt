@@ -14,11 +14,11 @@ use Rattle.ciborium_value.specs.Places.{sequence, items_from}
 use Rattle.ciborium_value.specs.ReadsBack.{of_ok}
 use Rattle.ciborium_value.specs.Sinks.{Named, and_then, all_named, contained, container_of}
 use Rattle.ciborium_value.specs.lemmas.Steady.{after_seq}
-use Rattle.ciborium_value.specs.Taken.{Outcome, Taken, gives, and_take, take_each, then_take}
-use Rattle.ciborium_value.specs.Taken.{unpack}
-use Rattle.ciborium_value.specs.TakenParts.{list_items, taken_list, tuple_part, tuple_rest}
-use Rattle.ciborium_value.specs.TakenParts.{tuple1_items, taken_tuple1, tuple2_items, taken_tuple2}
-use Rattle.ciborium_value.specs.TakenParts.{tuple3_items, taken_tuple3, tuple4_items, taken_tuple4}
+use Rattle.ciborium_value.specs.Taken.{Outcome, Taken, gives, and_take, outcome_map, take_each}
+use Rattle.ciborium_value.specs.Taken.{then_take, unpack}
+use Rattle.ciborium_value.specs.TakenParts.{list_items, taken_list, no_part_taken, part_taken}
+use Rattle.ciborium_value.specs.TakenParts.{taken_then, taken_tuple1, taken_tuple2, taken_tuple3}
+use Rattle.ciborium_value.specs.TakenParts.{taken_tuple4}
 use Rattle.ciborium_value.specs.Tree as trees
 use Rattle.ciborium_value.specs.Tree.{Tree, Trees}
 use Rattle.ciborium_value.specs.declared.key_order.KeyOrder.{KeyOrder}
@@ -103,46 +103,70 @@ module _ (o : KeyOrder) where
     list-form xs held = sequence-form (list_items taken) (all_named (map written xs))
         (map content xs) (each-form xs held)
 
-  -- ---- tuples
+  -- ---- parts in a row
 
-  -- a part, and what follows it
-  part-form : {A C : Type 0} (taken : Taken A) (k : A → List Item → Outcome C) (r : Named)
-      (s : Result (List Item) Kind) (v : A) (c : C) → IsFormRead o r taken v →
-      AreFormsRead s (k v) c → AreFormsRead (and_then r s) (tuple_part taken None k) c
-  part-form taken k r s v c h rest = both (tuple_part taken None k) c r s
+  -- the forms of what the parts name, if they name items, are read as this content
+  pub record IsFormRow {C : Type 0} (s : Result (List Item) Kind)
+      (parts : Limit → List Item → Outcome C) (c : C) : Type 0 where
+    pub back : AreFormsRead s (parts None) c
+
+  both-forms : {A C : Type 0} (taken : Taken A) (behind : Limit → List Item → Outcome C)
+      (r : Named) (s : Result (List Item) Kind) (v : A) (c : C) → IsFormRead o r taken v →
+      AreFormsRead s (behind None) c →
+      AreFormsRead (and_then r s) (part_taken taken behind None) (v, c)
+  both-forms taken behind r s v c h rest = both (part_taken taken behind None) (v, c) r s
       (λ i is named more w ws one forms.
-      ap (λ p. then_take p (λ x. k x (unpack (items_of ws)))) (h.back i named w one) ∙
-      rest-read s (k v) c rest is more ws forms)
+      ap (λ p. then_take p (λ x. outcome_map (λ d. (x, d)) (behind None (unpack (items_of ws)))))
+      (h.back i named w one) ∙
+      ap (outcome_map (λ d. (v, d))) (rest-read s (behind None) c rest is more ws forms))
+
+  module _ {A : Type 0} {r : Named} {taken : Taken A} {a : A} (h : IsFormRead o r taken a) where
+    -- a part, and those after it
+    pub part_form : {C : Type 0} {s : Result (List Item) Kind}
+        {behind : Limit → List Item → Outcome C} {c : C} → IsFormRow s behind c →
+        IsFormRow (and_then r s) (part_taken taken behind) (a, c)
+    part_form {s = s} {behind = behind} {c = c} j = record {
+      back = both-forms taken behind r s a c h j.back;
+    }
+
+    -- the last part
+    pub last_form : IsFormRow (and_then r (Ok [])) (part_taken taken no_part_taken) (a, tt)
+    last_form = record {
+      back = both-forms taken no_part_taken r (Ok []) a tt h
+          (none-read (no_part_taken None) tt refl);
+    }
+
+  -- the array of them
+  pub array_form : {C : Type 0} {s : Result (List Item) Kind}
+      {parts : Limit → List Item → Outcome C} {c : C} → IsFormRow s parts c →
+      IsFormRead o (contained sequence false s) (after_seq parts) c
+  array_form {s = s} {parts = parts} {c = c} h = sequence-form parts s c h.back
+
+  -- what is made of what was read
+  made-form : {C D : Type 0} (make : C → D) {r : Named} {taken : Taken C} {c : C} →
+      IsFormRead o r taken c → IsFormRead o r (taken_then taken (λ d. gives (make d))) (make c)
+  made-form make h = record {
+    back = λ i e t form. ap (λ p. then_take p (λ d. gives (make d))) (h.back i e t form);
+  }
+
+  -- ---- tuples
 
   module _ {A : Type 0} {r : Named} {f : Taken A} {a : A} (h : IsFormRead o r f a) where
     pub tuple1-form : IsFormRead o (container_of sequence (r ∷ [])) (taken_tuple1 f) a
-    tuple1-form = sequence-form (tuple1_items f) (and_then r (Ok [])) a
-        (part-form f (tuple_rest None) r (Ok []) a a h (none-read (tuple_rest None a) a refl))
+    tuple1-form = made-form (λ p. p.0) (array_form (last_form h))
 
     module _ {B : Type 0} {s : Named} {g : Taken B} {b : B} (j : IsFormRead o s g b) where
       pub tuple2-form : IsFormRead o (container_of sequence (r ∷ s ∷ [])) (taken_tuple2 f g) (a, b)
-      tuple2-form =
-          sequence-form (tuple2_items f g) (and_then r (and_then s (Ok []))) (a, b)
-          (part-form f _ r _ a (a, b) h (part-form g _ s (Ok []) b (a, b) j
-          (none-read (tuple_rest None (a, b)) (a, b) refl)))
+      tuple2-form = made-form (λ p. (p.0, p.1.0)) (array_form (part_form h (last_form j)))
 
       module _ {D : Type 0} {t : Named} {p : Taken D} {d : D} (q : IsFormRead o t p d) where
         pub tuple3-form : IsFormRead o (container_of sequence (r ∷ s ∷ t ∷ [])) (taken_tuple3 f g p)
             (a, b, d)
-        tuple3-form =
-            sequence-form (tuple3_items f g p) (and_then r (and_then s (and_then t (Ok []))))
-            (a, b, d)
-            (part-form f _ r _ a (a, b, d) h (part-form g _ s _ b (a, b, d) j
-            (part-form p _ t (Ok []) d (a, b, d) q
-            (none-read (tuple_rest None (a, b, d)) (a, b, d) refl))))
+        tuple3-form = made-form (λ p. (p.0, p.1.0, p.1.1.0))
+            (array_form (part_form h (part_form j (last_form q))))
 
         module _ {E : Type 0} {u : Named} {w : Taken E} {e : E} (x : IsFormRead o u w e) where
           pub tuple4-form : IsFormRead o (container_of sequence (r ∷ s ∷ t ∷ u ∷ []))
               (taken_tuple4 f g p w) (a, b, d, e)
-          tuple4-form =
-              sequence-form (tuple4_items f g p w)
-              (and_then r (and_then s (and_then t (and_then u (Ok []))))) (a, b, d, e)
-              (part-form f _ r _ a (a, b, d, e) h
-              (part-form g _ s _ b (a, b, d, e) j (part-form p _ t _ d (a, b, d, e) q
-              (part-form w _ u (Ok []) e (a, b, d, e) x
-              (none-read (tuple_rest None (a, b, d, e)) (a, b, d, e) refl)))))
+          tuple4-form = made-form (λ p. (p.0, p.1.0, p.1.1.0, p.1.1.1.0))
+              (array_form (part_form h (part_form j (part_form q (last_form x)))))

@@ -16,10 +16,9 @@ use Rattle.ciborium_value.specs.ReadsBack.{if_ok, of_ok}
 use Rattle.ciborium_value.specs.Sinks.{Named, and_then, all_named, contained, container_of}
 use Rattle.ciborium_value.specs.lemmas.Steady.{after_seq}
 use Rattle.ciborium_value.specs.Taken.{Outcome, Taken, gives, refuses, and_take, take_each}
-use Rattle.ciborium_value.specs.Taken.{then_take, unpack}
-use Rattle.ciborium_value.specs.TakenParts.{taken_then, list_items, taken_list, tuple_part}
-use Rattle.ciborium_value.specs.TakenParts.{tuple_rest, tuple1_items, taken_tuple1, tuple2_items}
-use Rattle.ciborium_value.specs.TakenParts.{taken_tuple2, tuple3_items, taken_tuple3, tuple4_items}
+use Rattle.ciborium_value.specs.Taken.{outcome_map, then_take, unpack}
+use Rattle.ciborium_value.specs.TakenParts.{taken_then, list_items, taken_list, no_part_taken}
+use Rattle.ciborium_value.specs.TakenParts.{part_taken, taken_tuple1, taken_tuple2, taken_tuple3}
 use Rattle.ciborium_value.specs.TakenParts.{taken_tuple4}
 use Rattle.ciborium_value.specs.declared.kind.Kind.{Kind}
 
@@ -151,58 +150,77 @@ module _ {T C : Type 0} {IsHeld : T → Type 0} {written : T → Named} {taken :
   list-back xs held = sequence-back (list_items taken) (all_named (map written xs)) (map content xs)
       (greatest levels xs) (each-back xs held)
 
--- ---- tuples
+-- ---- parts in a row
 
--- a part, and what follows it
-part-back : {A C : Type 0} (taken : Taken A) (way : Way) (l : Limit) (k : A → List Item → Outcome C)
-    (r : Named) (s : Result (List Item) Kind) (v : A) (c : C) →
-    IfOk r (λ i. taken l (met way i) ≡ gives v) → IfOk s (λ is. k v (map (met way) is) ≡ gives c) →
-    IfOk (and_then r s) (λ is. tuple_part taken l k (map (met way) is) ≡ gives c)
-part-back taken way l k (Ok i) (Ok is) v c h j =
-    ap (λ o. then_take o (λ x. k x (map (met way) is))) h ∙ j
-part-back taken way l k (Ok i) (Err e) v c h j = tt
-part-back taken way l k (Err e) s v c h j = tt
+-- what the parts name, if they name items, is read as this content where so many levels are left,
+-- both ways
+pub record IsRowRead {C : Type 0} (s : Result (List Item) Kind)
+    (parts : Limit → List Item → Outcome C) (c : C) (n : ℕ) : Type 0 where
+  pub back : (way : Way) (l : Limit) → IsWithin l n →
+      IfOk s (λ is. parts l (map (met way) is) ≡ gives c)
+
+both-read : {A C : Type 0} (taken : Taken A) (behind : Limit → List Item → Outcome C) (way : Way)
+    (l : Limit) (r : Named) (s : Result (List Item) Kind) (v : A) (c : C) →
+    IfOk r (λ i. taken l (met way i) ≡ gives v) →
+    IfOk s (λ is. behind l (map (met way) is) ≡ gives c) →
+    IfOk (and_then r s) (λ is. part_taken taken behind l (map (met way) is) ≡ gives (v, c))
+both-read taken behind way l (Ok i) (Ok is) v c h j =
+    ap (λ o. then_take o (λ x. outcome_map (λ d. (x, d)) (behind l (map (met way) is)))) h ∙
+    ap (outcome_map (λ d. (v, d))) j
+both-read taken behind way l (Ok i) (Err e) v c h j = tt
+both-read taken behind way l (Err e) s v c h j = tt
+
+module _ {A : Type 0} {r : Named} {taken : Taken A} {a : A} {n : ℕ}
+    (h : IsNameRead r taken a n) where
+  -- a part, and those after it
+  pub part_back : {C : Type 0} {s : Result (List Item) Kind}
+      {behind : Limit → List Item → Outcome C} {c : C} {m : ℕ} → IsRowRead s behind c m →
+      IsRowRead (and_then r s) (part_taken taken behind) (a, c) (max n m)
+  part_back {s = s} {behind = behind} {c = c} {m = m} j = record {
+    back = λ way l fits. both-read taken behind way l r s a c
+        (at r taken a n h way l (within-left l n m fits))
+        (j.back way l (within-right l n m fits));
+  }
+
+  -- the last part
+  pub last_back : IsRowRead (and_then r (Ok [])) (part_taken taken no_part_taken) (a, tt) n
+  last_back = record {
+    back = λ way l fits. both-read taken no_part_taken way l r (Ok []) a tt
+        (at r taken a n h way l fits) refl;
+  }
+
+-- the array of them
+pub array_back : {C : Type 0} {s : Result (List Item) Kind} {parts : Limit → List Item → Outcome C}
+    {c : C} {n : ℕ} → IsRowRead s parts c n →
+    IsNameRead (contained sequence false s) (after_seq parts) c (suc n)
+array_back {s = s} {parts = parts} {c = c} {n = n} h = sequence-back parts s c n h.back
+
+-- what is made of what was read
+made-back : {C D : Type 0} (make : C → D) {r : Named} {taken : Taken C} {c : C} {n : ℕ} →
+    IsNameRead r taken c n → IsNameRead r (taken_then taken (λ d. gives (make d))) (make c) n
+made-back make h = record {
+  back = λ way i e l fits. ap (λ o. then_take o (λ d. gives (make d))) (h.back way i e l fits);
+}
+
+-- ---- tuples
 
 module _ {A : Type 0} {r : Named} {f : Taken A} {a : A} {n : ℕ} (h : IsNameRead r f a n) where
   pub tuple1-back : IsNameRead (container_of sequence (r ∷ [])) (taken_tuple1 f) a (suc n)
-  tuple1-back = sequence-back (tuple1_items f) (and_then r (Ok [])) a n
-      (λ way l fits. part-back f way l (tuple_rest l) r (Ok []) a a (at r f a n h way l fits) refl)
+  tuple1-back = made-back (λ p. p.0) (array_back (last_back h))
 
   module _ {B : Type 0} {s : Named} {g : Taken B} {b : B} {m : ℕ} (j : IsNameRead s g b m) where
     pub tuple2-back : IsNameRead (container_of sequence (r ∷ s ∷ [])) (taken_tuple2 f g) (a, b)
         (suc (max n m))
-    tuple2-back =
-        sequence-back (tuple2_items f g) (and_then r (and_then s (Ok []))) (a, b) (max n m)
-        (λ way l fits. part-back f way l _ r _ a (a, b)
-        (at r f a n h way l (within-left l n m fits))
-        (part-back g way l _ s (Ok []) b (a, b) (at s g b m j way l (within-right l n m fits))
-        refl))
+    tuple2-back = made-back (λ p. (p.0, p.1.0)) (array_back (part_back h (last_back j)))
 
     module _ {D : Type 0} {t : Named} {p : Taken D} {d : D} {k : ℕ} (q : IsNameRead t p d k) where
       pub tuple3-back : IsNameRead (container_of sequence (r ∷ s ∷ t ∷ [])) (taken_tuple3 f g p)
           (a, b, d) (suc (max n (max m k)))
-      tuple3-back =
-          sequence-back (tuple3_items f g p) (and_then r (and_then s (and_then t (Ok []))))
-          (a, b, d) (max n (max m k))
-          (λ way l fits. let rest = within-right l n (max m k) fits in
-          part-back f way l _ r _ a (a, b, d) (at r f a n h way l (within-left l n (max m k) fits))
-          (part-back g way l _ s _ b (a, b, d) (at s g b m j way l (within-left l m k rest))
-          (part-back p way l _ t (Ok []) d (a, b, d) (at t p d k q way l (within-right l m k rest))
-          refl)))
+      tuple3-back = made-back (λ p. (p.0, p.1.0, p.1.1.0))
+          (array_back (part_back h (part_back j (last_back q))))
 
       module _ {E : Type 0} {u : Named} {w : Taken E} {e : E} {o : ℕ} (x : IsNameRead u w e o) where
         pub tuple4-back : IsNameRead (container_of sequence (r ∷ s ∷ t ∷ u ∷ []))
             (taken_tuple4 f g p w) (a, b, d, e) (suc (max n (max m (max k o))))
-        tuple4-back =
-            sequence-back (tuple4_items f g p w)
-            (and_then r (and_then s (and_then t (and_then u (Ok []))))) (a, b, d, e)
-            (max n (max m (max k o)))
-            (λ way l fits. let rest = within-right l n (max m (max k o)) fits in let last =
-            within-right l m (max k o) rest in
-            part-back f way l _ r _ a (a, b, d, e)
-            (at r f a n h way l (within-left l n (max m (max k o)) fits))
-            (part-back g way l _ s _ b (a, b, d, e)
-            (at s g b m j way l (within-left l m (max k o) rest))
-            (part-back p way l _ t _ d (a, b, d, e) (at t p d k q way l (within-left l k o last))
-            (part-back w way l _ u (Ok []) e (a, b, d, e)
-            (at u w e o x way l (within-right l k o last)) refl))))
+        tuple4-back = made-back (λ p. (p.0, p.1.0, p.1.1.0, p.1.1.1.0))
+            (array_back (part_back h (part_back j (part_back q (last_back x)))))

@@ -96,6 +96,11 @@ same-level (suc n) o' h = h n
 
 -- ---- containers
 
+-- a limit affects nothing but nesting in what is made of items in a row
+pub record IsSteadyRow {B : Type 0} (k : Limit → List Item → Outcome B) : Type 0 where
+  pub within : (m : ℕ) (is : List Item) → IsSameUnlessNested (k (Some m) is) (k None is)
+  pub without : (is : List Item) → IsNoNesting (k None is)
+
 module _ {B : Type 0} (k : Limit → List Item → Outcome B) where
   abbrev pub after_seq : Taken B
   after_seq l i = then_take (taken_seq l i) (λ p. k p.0 p.1)
@@ -115,11 +120,10 @@ module _ {B : Type 0} (k : Limit → List Item → Outcome B) where
   no_nesting-bare_seq h _ = tt
 
   -- the items of a sequence, read on so
-  pub steady-seq : ((m : ℕ) (is : List Item) → IsSameUnlessNested (k (Some m) is) (k None is)) →
-      ((is : List Item) → IsNoNesting (k None is)) → IsSteady after_seq
-  steady-seq h n = record {
-    within = λ l i. same-bare_seq h l (untagged i);
-    without = λ i. no_nesting-bare_seq n (untagged i);
+  pub steady-seq : IsSteadyRow k → IsSteady after_seq
+  steady-seq h = record {
+    within = λ l i. same-bare_seq h.within l (untagged i);
+    without = λ i. no_nesting-bare_seq h.without (untagged i);
   }
 
 module _ {B : Type 0} (k : Limit → List (Item × Item) → Outcome B) where

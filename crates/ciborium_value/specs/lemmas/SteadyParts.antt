@@ -10,6 +10,7 @@ use Rattle.ciborium_value.specs.Meaning.{big_endian, without_zeros, is_bignum_ta
 use Rattle.ciborium_value.specs.Meaning.{bignum_meaning, simple_meaning}
 use Rattle.ciborium_value.specs.Nesting.{Limit}
 use Rattle.ciborium_value.specs.lemmas.Steady.{IsSameUnlessNested, IsNoNesting, IsSteady, same}
+use Rattle.ciborium_value.specs.lemmas.Steady.{IsSteadyRow, after_seq}
 use Rattle.ciborium_value.specs.lemmas.Steady.{same-then, no_nesting-then, same-each}
 use Rattle.ciborium_value.specs.lemmas.Steady.{no_nesting-each, same-map, no_nesting-map}
 use Rattle.ciborium_value.specs.lemmas.Steady.{same-level, steady-seq, steady-pairs}
@@ -23,10 +24,8 @@ use Rattle.ciborium_value.specs.Taken.{unpack, is_null, is_null_simple, deeper, 
 use Rattle.ciborium_value.specs.Taken.{of_meaning, taken_tag, one_more, one_pair_more, taken_value}
 use Rattle.ciborium_value.specs.Taken.{taken_items, taken_tree_pairs}
 use Rattle.ciborium_value.specs.TakenParts.{taken_then, taken_option, list_items, taken_list}
-use Rattle.ciborium_value.specs.TakenParts.{tuple_part, tuple_rest, tuple1_items, taken_tuple1}
-use Rattle.ciborium_value.specs.TakenParts.{tuple2_items, taken_tuple2, tuple3_items, taken_tuple3}
-use Rattle.ciborium_value.specs.TakenParts.{tuple4_items, taken_tuple4, take_entry, put_all}
-use Rattle.ciborium_value.specs.TakenParts.{map_entries, taken_map}
+use Rattle.ciborium_value.specs.TakenParts.{no_part_taken, part_taken, taken_row, take_entry}
+use Rattle.ciborium_value.specs.TakenParts.{put_all, map_entries, taken_map}
 use Rattle.ciborium_value.specs.Tree as trees
 use Rattle.ciborium_value.specs.Tree.{Tree, Trees, TreePairs}
 use Rattle.ciborium_value.specs.declared.kind.Kind.{Kind}
@@ -266,65 +265,45 @@ steady-option taken h = record {
 }
 
 pub steady-list : {A : Type 0} (taken : Taken A) → IsSteady taken → IsSteady (taken_list taken)
-steady-list taken h = steady-seq (list_items taken)
-    (λ m is. same-each (taken (Some m)) (taken None) (h.within m) is)
-    (λ is. no_nesting-each (taken None) h.without is)
+steady-list taken h = steady-seq (list_items taken) (record {
+  within = λ m is. same-each (taken (Some m)) (taken None) (h.within m) is;
+  without = λ is. no_nesting-each (taken None) h.without is;
+})
 
--- ---- tuples
+-- ---- items in a row
 
-same-part : {A B : Type 0} (taken : Taken A) → IsSteady taken →
-    (m : ℕ) (k' k : A → List Item → Outcome B) →
-    ((v : A) (is : List Item) → IsSameUnlessNested (k' v is) (k v is)) → (is : List Item) →
-    IsSameUnlessNested (tuple_part taken (Some m) k' is) (tuple_part taken None k is)
-same-part taken h m k' k g [] = refl
-same-part taken h m k' k g (i ∷ is) = same-then (taken (Some m) i) (taken None i) (λ v. k' v is)
-    (λ v. k v is) (h.within m i) (λ v. g v is)
+pub steady-no_part : IsSteadyRow no_part_taken
+steady-no_part = record {
+  within = λ m is. same-then (take_each (taken_value (Some m)) is)
+      (take_each (taken_value None) is) (λ _. gives tt) (λ _. gives tt)
+      (same-each (taken_value (Some m)) (taken_value None) (steady-value.within m) is) (λ _. refl);
+  without = λ is. no_nesting-then (take_each (taken_value None) is) (λ _. gives tt)
+      (no_nesting-each (taken_value None) steady-value.without is) (λ _. tt);
+}
 
-no_nesting-part : {A B : Type 0} (taken : Taken A) → IsSteady taken →
-    (k : A → List Item → Outcome B) → ((v : A) (is : List Item) → IsNoNesting (k v is)) →
-    (is : List Item) → IsNoNesting (tuple_part taken None k is)
-no_nesting-part taken h k g [] = tt
-no_nesting-part taken h k g (i ∷ is) = no_nesting-then (taken None i) (λ v. k v is) (h.without i)
-    (λ v. g v is)
+module _ {A B : Type 0} (taken : Taken A) (behind : Limit → List Item → Outcome B)
+    (h : IsSteady taken) (j : IsSteadyRow behind) where
+  same-part : (m : ℕ) (is : List Item) →
+      IsSameUnlessNested (part_taken taken behind (Some m) is) (part_taken taken behind None is)
+  same-part m [] = refl
+  same-part m (i ∷ is) = same-then (taken (Some m) i) (taken None i)
+      (λ v. outcome_map (λ c. (v, c)) (behind (Some m) is))
+      (λ v. outcome_map (λ c. (v, c)) (behind None is)) (h.within m i)
+      (λ v. same-map (λ c. (v, c)) (behind (Some m) is) (behind None is) (j.within m is))
 
-same-rest : {A : Type 0} (m : ℕ) (v : A) (is : List Item) →
-    IsSameUnlessNested (tuple_rest (Some m) v is) (tuple_rest None v is)
-same-rest m v is =
-    same-then (take_each (taken_value (Some m)) is) (take_each (taken_value None) is) (λ _. gives v)
-    (λ _. gives v) (same-each (taken_value (Some m)) (taken_value None) (steady-value.within m)
-    is) (λ _. refl)
+  no_nesting-part : (is : List Item) → IsNoNesting (part_taken taken behind None is)
+  no_nesting-part [] = tt
+  no_nesting-part (i ∷ is) = no_nesting-then (taken None i)
+      (λ v. outcome_map (λ c. (v, c)) (behind None is)) (h.without i)
+      (λ v. no_nesting-map (λ c. (v, c)) (behind None is) (j.without is))
 
-no_nesting-rest : {A : Type 0} (v : A) (is : List Item) → IsNoNesting (tuple_rest None v is)
-no_nesting-rest v is = no_nesting-then (take_each (taken_value None) is) (λ _. gives v)
-    (no_nesting-each (taken_value None) steady-value.without is) (λ _. tt)
+  pub steady-part : IsSteadyRow (part_taken taken behind)
+  steady-part = record { within = same-part; without = no_nesting-part }
 
-pub steady-tuple1 : {A : Type 0} (a : Taken A) → IsSteady a → IsSteady (taken_tuple1 a)
-steady-tuple1 a h = steady-seq (tuple1_items a)
-    (λ m. same-part a h m (tuple_rest (Some m)) (tuple_rest None) (λ v. same-rest m v))
-    (no_nesting-part a h (tuple_rest None) (λ v. no_nesting-rest v))
-
-pub steady-tuple2 : {A B : Type 0} (a : Taken A) (b : Taken B) → IsSteady a → IsSteady b →
-    IsSteady (taken_tuple2 a b)
-steady-tuple2 a b h j = steady-seq (tuple2_items a b)
-    (λ m. same-part a h m _ _ (λ x. same-part b j m _ _ (λ y. same-rest m (x, y))))
-    (no_nesting-part a h _ (λ x. no_nesting-part b j _ (λ y. no_nesting-rest (x, y))))
-
-pub steady-tuple3 : {A B C : Type 0} (a : Taken A) (b : Taken B) (c : Taken C) → IsSteady a →
-    IsSteady b → IsSteady c → IsSteady (taken_tuple3 a b c)
-steady-tuple3 a b c h j n = steady-seq (tuple3_items a b c)
-    (λ m. same-part a h m _ _ (λ x. same-part b j m _ _
-    (λ y. same-part c n m _ _ (λ z. same-rest m (x, y, z)))))
-    (no_nesting-part a h _ (λ x. no_nesting-part b j _
-    (λ y. no_nesting-part c n _ (λ z. no_nesting-rest (x, y, z)))))
-
-pub steady-tuple4 : {A B C D : Type 0} (a : Taken A) (b : Taken B) (c : Taken C) (d : Taken D) →
-    IsSteady a → IsSteady b → IsSteady c → IsSteady d → IsSteady (taken_tuple4 a b c d)
-steady-tuple4 a b c d h j n p = steady-seq (tuple4_items a b c d)
-    (λ m. same-part a h m _ _ (λ x. same-part b j m _ _
-    (λ y. same-part c n m _ _ (λ z. same-part d p m _ _ (λ w. same-rest m (x, y, z, w))))))
-    (no_nesting-part a h _ (λ x. no_nesting-part b j _
-    (λ y. no_nesting-part c n _ (λ z. no_nesting-part d p _
-    (λ w. no_nesting-rest (x, y, z, w))))))
+pub steady-row : {A B : Type 0} (make : A → B) (parts : Limit → List Item → Outcome A) →
+    IsSteadyRow parts → IsSteady (taken_row make parts)
+steady-row make parts h = steady-then (after_seq parts) (λ c. gives (make c)) (steady-seq parts h)
+    (λ c. tt)
 
 -- ---- maps
 

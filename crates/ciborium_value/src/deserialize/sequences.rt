@@ -1,63 +1,14 @@
 //! Lists and tuples.
 
-ghost use Rattle.std.specs.Prelude.{◌+◌, ◌<◌, ◌≤◌, IfErr, IfOk, List, OnErr, OnOk};
+ghost use Rattle.std.specs.Prelude.{List};
 ghost use Rattle.ciborium_value.specs.lemmas.KeyOrders.{ordering_then-same, slice_cmp-map};
 ghost use Rattle.ciborium_value.specs.Readings.{list_of, tuple1_of, tuple2_of, tuple3_of};
 ghost use Rattle.ciborium_value.specs.Readings.{tuple4_of};
-ghost use Rattle.ciborium_value.specs.inner.EnteredContainers.{DropsRest, RefusesDropping};
-ghost use Rattle.ciborium_value.specs.inner.EnteredContainers.{RefusesNextPart};
-ghost use Rattle.ciborium_value.specs.inner.EnteredContainers.{TakesOwed, TakesPart, TakesRest};
-ghost use Rattle.ciborium_value.specs.Sources.{TakesOnly};
 
 use super::{Deserialize, Key};
-use crate::kind::Kind;
+use crate::items::{Array, Item, NoItem};
 use crate::source::Source;
 use std::alloc::Global;
-
-// The next part, which must be there.
-#[inline(always)]
-fn part<T: Deserialize, S: Source>(
-    alloc: Global,
-    source: &mut S,
-    seq: &mut S::Seq,
-) -> Result<T, S::Error>
-    ensures ok { IfOk result (λ v. TakesPart S.stands_before S.seq_stands
-        source.old source.new seq.old seq.new T.reading.taken (T.reading.content v)) }
-    ensures refused { IfErr result (λ e. RefusesNextPart S.stands_before S.seq_stands
-        source.old seq.old T.reading.taken (S.cause e)) }
-    ensures took { OnOk result
-        (TakesOwed S.is_unread S.owes source.old source.new seq.old seq.new) }
-    ensures only { TakesOnly S.has_taken source.old source.new }
-    ensures less { OnOk result (S.left source.new + S.seq_left seq.new
-        < S.left source.old + S.seq_left seq.old) }
-    ensures no_more { OnErr result (S.left source.new + S.seq_left seq.new
-        ≤ S.left source.old + S.seq_left seq.old) }
-{
-    if !source.next(seq)? {
-        return Err(source.refuse(Kind::Length));
-    }
-    let value = T::deserialize(alloc, source)?;
-    Ok(value)
-}
-
-// Reads what is left of a sequence as values, which are dropped.
-#[inline(always)]
-fn drop_rest<S: Source>(alloc: Global, source: &mut S, seq: &mut S::Seq) -> Result<(), S::Error>
-    ensures ok { OnOk result
-        (DropsRest S.stands_before S.seq_stands source.old source.new seq.old) }
-    ensures refused { IfErr result
-        (λ e. RefusesDropping S.stands_before S.seq_stands source.old seq.old (S.cause e)) }
-    ensures took { OnOk result (TakesRest S.is_unread S.owes source.old source.new seq.old) }
-    ensures only { TakesOnly S.has_taken source.old source.new }
-    ensures less { OnOk result (S.left source.new ≤ S.left source.old + S.seq_left seq.old) }
-    ensures no_more { OnErr result (S.left source.new + S.seq_left seq.new
-        ≤ S.left source.old + S.seq_left seq.old) }
-{
-    while source.next(seq)? {
-        drop(source.value(alloc)?);
-    }
-    Ok(())
-}
 
 /// The items of an array, or the bytes of a byte string. Skips tags; another item is refused as
 /// `Array`.
@@ -94,9 +45,7 @@ impl<A: Deserialize> Deserialize for (A,) {
     ghost reading = { tuple1_of (λ t. t.0) A.reading };
 
     fn deserialize<S: Source>(alloc: Global, source: &mut S) -> Result<(A,), S::Error> {
-        let mut seq = source.begin_seq(alloc)?;
-        let first = part::<A, S>(alloc, source, &mut seq)?;
-        drop_rest(alloc, source, &mut seq)?;
+        let Array(Item(first, NoItem)) = Array::deserialize(alloc, source)?;
         Ok((first,))
     }
 }
@@ -114,10 +63,7 @@ impl<A: Deserialize, B: Deserialize> Deserialize for (A, B) {
     ghost reading = { tuple2_of A.reading B.reading };
 
     fn deserialize<S: Source>(alloc: Global, source: &mut S) -> Result<(A, B), S::Error> {
-        let mut seq = source.begin_seq(alloc)?;
-        let first = part::<A, S>(alloc, source, &mut seq)?;
-        let second = part::<B, S>(alloc, source, &mut seq)?;
-        drop_rest(alloc, source, &mut seq)?;
+        let Array(Item(first, Item(second, NoItem))) = Array::deserialize(alloc, source)?;
         Ok((first, second))
     }
 }
@@ -135,11 +81,9 @@ impl<A: Deserialize, B: Deserialize, C: Deserialize> Deserialize for (A, B, C) {
     ghost reading = { tuple3_of A.reading B.reading C.reading };
 
     fn deserialize<S: Source>(alloc: Global, source: &mut S) -> Result<(A, B, C), S::Error> {
-        let mut seq = source.begin_seq(alloc)?;
-        let first = part::<A, S>(alloc, source, &mut seq)?;
-        let second = part::<B, S>(alloc, source, &mut seq)?;
-        let third = part::<C, S>(alloc, source, &mut seq)?;
-        drop_rest(alloc, source, &mut seq)?;
+        let Array(Item(first, Item(second, Item(third, NoItem)))) = Array::deserialize(
+            alloc, source,
+        )?;
         Ok((first, second, third))
     }
 }
@@ -159,12 +103,8 @@ impl<A: Deserialize, B: Deserialize, C: Deserialize, D: Deserialize> Deserialize
     ghost reading = { tuple4_of A.reading B.reading C.reading D.reading };
 
     fn deserialize<S: Source>(alloc: Global, source: &mut S) -> Result<(A, B, C, D), S::Error> {
-        let mut seq = source.begin_seq(alloc)?;
-        let first = part::<A, S>(alloc, source, &mut seq)?;
-        let second = part::<B, S>(alloc, source, &mut seq)?;
-        let third = part::<C, S>(alloc, source, &mut seq)?;
-        let fourth = part::<D, S>(alloc, source, &mut seq)?;
-        drop_rest(alloc, source, &mut seq)?;
+        let Array(Item(first, Item(second, Item(third, Item(fourth, NoItem))))) =
+            Array::deserialize(alloc, source)?;
         Ok((first, second, third, fourth))
     }
 }

@@ -1,0 +1,28 @@
+-- What is read of a sequence that was entered: the parts that are left, in turn.
+use Rattle.std.specs.Prelude.{◌≡◌, ℕ, List}
+use Rattle.ciborium_ll.specs.Item.{Item}
+use Rattle.ciborium_value.specs.Ahead.{Ahead, Rest, Form, after, parts, past, inside, end_of}
+use Rattle.ciborium_value.specs.Nesting.{Limit}
+use Rattle.ciborium_value.specs.Places.{Shape, sequence}
+use Rattle.ciborium_value.specs.Sources.{Fault, IsFaultOf, HasItem}
+use Rattle.ciborium_value.specs.Taken.{Outcome, gives}
+
+module _ {S Q : Type 0} (StandsBefore : S → Limit → Ahead → Type 0)
+    (SeqStands : Q → Limit → Rest → Type 0) where
+  -- the items that were left give this, and the source stands past the sequence
+  abbrev pub TakesRow : {C : Type 0} → S → S → Q → (Limit → List Item → Outcome C) → C → Type 0
+  TakesRow old new q taken c = (l : Limit) (form : Form) (is : List Item) (f : Rest) →
+      StandsBefore old (inside form l) (after (parts form is f)) → SeqStands q l (parts form is f) →
+      (taken (inside form l) is ≡ gives c) × StandsBefore new l (past f)
+
+  -- one of them is to blame, or one is missing
+  abbrev pub RefusesRow : {C : Type 0} → S → Q → (Limit → List Item → Outcome C) → Fault → Type 0
+  RefusesRow old q taken fault = (l : Limit) (form : Form) (is : List Item) (f : Rest) →
+      StandsBefore old (inside form l) (after (parts form is f)) → SeqStands q l (parts form is f) →
+      IsFaultOf (end_of f) fault (taken (inside form l) is)
+
+-- all that was owed was taken
+abbrev pub TakesRest : {S Q : Type 0} → (S → List ℕ → Type 0) →
+    (Q → Shape → List ℕ → List ℕ → Type 0) → S → S → Q → Type 0
+TakesRest IsUnread Owes old new q = (b c : List ℕ) → IsUnread old c → Owes q sequence b c →
+    (z : List ℕ) × IsUnread new z × HasItem b z
