@@ -954,6 +954,7 @@ TYPES = {
     "Ends": ENDS,
     "Form": FORM,
     "Span": Type(read_span, PAIR.write),
+    "Sample": tuple_of(unsigned(64), signed(16), signed(16), signed(16), BOOL),
     "Moment": required(1, unsigned(64)),
     "Two<u8>": two_tags(U8),
     "Two<ByteBuf>": two_tags(BYTE_BUF),

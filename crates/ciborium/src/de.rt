@@ -21,7 +21,8 @@ mod tags;
 use byte_source::ByteSource;
 use ciborium_ll::{Decoder, Header};
 pub use ciborium_value::{
-    Deserialize, Key, Kind, NoField, Source, Wanted, WantedFields, read_fields, required,
+    Array, Deserialize, Item, Key, Kind, NoField, NoItem, Source, Wanted, WantedFields,
+    WantedItems, read_fields, required,
 };
 pub use deterministic::{from_reader_deterministic, from_reader_deterministic_with_order};
 pub use error::Error;

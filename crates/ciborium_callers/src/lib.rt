@@ -2,6 +2,7 @@
 #![tactic(auto)]
 
 pub mod application;
+pub mod array_types;
 pub mod callers;
 pub mod head_callers;
 pub mod key_types;

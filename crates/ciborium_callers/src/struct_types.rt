@@ -3,7 +3,7 @@ ghost use Rattle.std.specs.Prelude.{◌∷◌, List, None, Ok, Option, [], codes
 ghost use Rattle.std.specs.Prelude.{◌<◌, ◌^◌, Bool, Some, false, if◌then◌else◌, refl, true};
 ghost use Rattle.std.specs.Option.{option_map};
 ghost use Rattle.ciborium.specs.Encoding.{boolean_item};
-ghost use Rattle.ciborium.specs.NeverWritten.{never-text};
+ghost use Rattle.ciborium.specs.NeverWritten.{never-text, nulls};
 ghost use Rattle.ciborium.specs.Readings as readings;
 ghost use Rattle.ciborium.specs.ReadsBack.{boolean-back, string_back};
 ghost use Rattle.ciborium.specs.lemmas.ReadsBackNumbers.{u8_back};
@@ -162,7 +162,7 @@ impl ReadsBack for Reply {
         (u8_back r.number held)
         (field_from_back (codes "text") (readings.option_of ⟦<String as Deserialize>⟧.reading)
         (Some None)
-        (optional-back string_back (λ s. never-text _ (string_bytes s))
+        (optional-back string_back (λ s. never-text nulls (string_bytes s))
         r.text (always r.text))
         no_field_back))) refl };
 }

@@ -5,6 +5,7 @@ use ciborium::de::Deserialize;
 use ciborium::ser::Serialize;
 use ciborium::tag::{Accepted, Required};
 use ciborium::value::{ByteBuf, CanonicalValue, Value};
+use ciborium_callers::array_types::Sample;
 use ciborium_callers::own_types::{Figure, Message, Moment, Span};
 use ciborium_callers::struct_types::{Ends, Foo, Reply};
 use ciborium_callers::tag_types::{Parted, Two};
@@ -164,6 +165,7 @@ fn ask_own<J: Job>(alloc: Global, name: &str, job: &J) -> Result<Option<String>,
         "Reply" => job.answer::<Reply>(alloc),
         "Ends" => job.answer::<Ends>(alloc),
         "Form" => job.answer::<Form>(alloc),
+        "Sample" => job.answer::<Sample>(alloc),
         "Span" => job.answer::<Span>(alloc),
         "Moment" => job.answer::<Moment>(alloc),
         "Two<u8>" => job.answer::<Two<u8>>(alloc),

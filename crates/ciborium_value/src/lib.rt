@@ -29,7 +29,7 @@ pub use byte_buf::ByteBuf;
 pub use ciborium_ll::{Integer, OutOfRange};
 pub use deserialize::{Deserialize, Key};
 pub use fields::{Field, NoField};
-pub use items::{Array, Item, NoItem};
+pub use items::{Array, Item, NoItem, WantedItems};
 pub use key_order::KeyOrder;
 pub use kind::Kind;
 pub use parts::{Container, OfArray, OfMap, Parts, serialize_parts};

@@ -2,7 +2,7 @@
 ghost use Rattle.std.specs.Option.{option_map};
 ghost use Rattle.std.specs.Prelude.{List, None, Option, Some, codes, refl, string_bytes, ◌^◌};
 ghost use Rattle.std.specs.Prelude.{ℕ, ℤ};
-ghost use Rattle.ciborium.specs.NeverWritten.{never-number};
+ghost use Rattle.ciborium.specs.NeverWritten.{never-number, nulls};
 ghost use Rattle.ciborium.specs.Readings.{IsBounded, option_of};
 ghost use Rattle.ciborium.specs.ReadsBack.{string_back};
 ghost use Rattle.ciborium.specs.Sinks.{fields_of};
@@ -84,7 +84,7 @@ impl ReadsBack for Reading {
         (field_back (codes "sensor") ⟦<String as Deserialize>⟧.reading (string_back r.sensor tt)
         (field_back (codes "at") ⟦<u64 as Deserialize>⟧.reading (u64_back r.at held.0)
         (field_from_back (codes "level") (option_of ⟦<i16 as Deserialize>⟧.reading) (Some None)
-        (optional-back i16_back (never-number _) (Some z) fits)
+        (optional-back i16_back (never-number nulls) (Some z) fits)
         no_field_back))) refl)
         r.level held.1 };
 }
