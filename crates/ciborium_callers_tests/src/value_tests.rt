@@ -1,10 +1,10 @@
 //! Copies and comparisons of values, and the error of a writer.
 use crate::expectations::expect_all;
-use ciborium::ser::{Array, Error, Item, NoItem};
+use ciborium::ser::Error;
 use ciborium::tag::{Accepted, Captured, Required};
 use ciborium::value::canonical::cmp_value;
 use ciborium::value::{CanonicalValue, Value};
-use ciborium::{from_reader, into_writer};
+use ciborium::from_reader;
 use ciborium_callers::callers::only_item;
 use std::cmp::Ordering;
 use std::io::{self, ErrorKind};
@@ -30,16 +30,6 @@ fn copies(value: &Value) -> Result<(), Fail> {
         back == *value,
         cmp_value(&back, value) == Ordering::Equal,
     ])
-}
-
-// More parts than a tuple has: [1, "a", true, null, 2].
-#[test]
-fn five_items_are_an_array(rt: HostRuntime) -> Result<(), Fail> {
-    let items = Item(1u8, Item("a", Item(true, Item((), Item(2u8, NoItem)))));
-    let mut written = Vec::new(rt.alloc());
-    into_writer(&Array(items), &mut written)?;
-    let wanted = [0x85u8, 0x01, 0x61, 0x61, 0xf5, 0xf6, 0x02];
-    expect_all(&[written.as_slice() == wanted.as_slice()])
 }
 
 // No tag is skipped before the null of an option, which both are written as.
