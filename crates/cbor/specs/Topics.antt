@@ -5,17 +5,26 @@ use Rattle.cbor.specs.declared.command.Topic.TheVariants.{Help, Version}
 
 abbrev pub topic_text : Topic → List ℕ
 topic_text Help =
-    codes "cbor: CBOR (RFC 8949) from the standard input, as lines of hex or, with --binary, as bytes\n" ++
+    codes "cbor: CBOR (RFC 8949) from the standard input, as lines of hex or, " ++
+    codes "with --binary, as bytes\n" ++
     codes "\n" ++
-    codes "  cbor read [--det [--core]] [limit]    each item's shortest encoding: 1800 gives ok 00\n" ++
-    codes "  cbor canon [--core] [limit]           its deterministic one: bf02000100ff gives ok a201000200\n" ++
-    codes "  cbor diag [--indent] [limit]          its diagnostic notation: a1616101 gives {\"a\": 1}\n" ++
+    codes "  cbor read [--det [--core]] [limit]    " ++
+    codes "each item's shortest encoding: 1800 gives ok 00\n" ++
+    codes "  cbor canon [--core] [limit]           " ++
+    codes "its deterministic one: bf02000100ff gives ok a201000200\n" ++
+    codes "  cbor diag [--indent] [limit]          " ++
+    codes "its diagnostic notation: a1616101 gives {\"a\": 1}\n" ++
     codes "  cbor seq                              each line's items: 0102 gives ok 01 02\n" ++
-    codes "  cbor sort [--core]                    all lines' items in order: 6161 and 00 give 00 and 6161\n" ++
-    codes "  cbor diag --binary [--indent] [limit] each item of a file: cbor diag --binary < file.cbor\n" ++
-    codes "  cbor read --binary [limit]            the same in hex: cbor read --binary < file.cbor\n" ++
+    codes "  cbor sort [--core]                    " ++
+    codes "all lines' items in order: 6161 and 00 give 00 and 6161\n" ++
+    codes "  cbor diag --binary [--indent] [limit] " ++
+    codes "each item of a file: cbor diag --binary < file.cbor\n" ++
+    codes "  cbor read --binary [limit]            " ++
+    codes "the same in hex: cbor read --binary < file.cbor\n" ++
     codes "  cbor --help, cbor --version           this page, and the version\n" ++
     codes "\n" ++
-    codes "--det takes deterministic encodings alone, whose keys are length-first or, with --core, bytewise.\n" ++
-    codes "At most 256 levels are nested, or as many as the limit says. Status 1: something was refused.\n"
+    codes "--det takes deterministic encodings alone, whose keys are " ++
+    codes "length-first or, with --core, bytewise.\n" ++
+    codes "At most 256 levels are nested, or as many as the limit says. Status " ++
+    codes "1: something was refused.\n"
 topic_text Version = codes "cbor 0.3.0\n"

@@ -1,5 +1,5 @@
-//! Measures the calls of ciborium over a file: `bench/run` makes the files, runs this program in turn
-//! with others, and prints the tables of docs/BENCHMARKS.md.
+//! Measures the calls of ciborium over a file: `bench/run` makes the files, runs this program in
+//! turn with others, and prints the tables of docs/BENCHMARKS.md.
 //!
 //! `ciborium_bench KIND ROUNDS FILE` prints a line `CALL NANOSECONDS` for each call, the best of so
 //! many rounds. `ciborium_bench deep CALL DEPTH` makes one call on a value that nests so deep.

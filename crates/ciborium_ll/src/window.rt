@@ -147,7 +147,8 @@ impl Window {
     #[inline(always)]
     pub(crate) fn take_into(&mut self, buffer: &mut [u8]) -> usize
         ensures most { result ≤ length buffer.new }
-        ensures some { self.old.count < self.old.lookahead.end → 0 < length buffer.old → 0 < result }
+        ensures some { self.old.count < self.old.lookahead.end → 0 < length buffer.old →
+            0 < result }
         ensures reach { self.new.reach ≡ self.old.reach }
         ensures taken { (o : Option (List ℕ)) →
             TakesHeld o self.old self.new (λ b. b ≡ take result buffer.new) }

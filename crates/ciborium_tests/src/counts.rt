@@ -15,8 +15,8 @@ pub struct CountedReads<'a> {
 }
 
 /// `FRONT; N reads of M gave G; N reads of M gave G`: how many reads were made, how many bytes they
-/// asked for and how many they gave, from a reader that gives all that it is asked for, and from one
-/// of one byte a read.
+/// asked for and how many they gave, from a reader that gives all that it is asked for, and from
+/// one of one byte a read.
 impl Job for CountedReads<'_> {
     fn answer<T: Deserialize + Serialize>(&self, alloc: Global) -> Result<String, AllocError> {
         let (mut text, counts) = count_reads::<T>(alloc, *self, Cut::Most(usize::MAX))?;

@@ -66,8 +66,8 @@ fn size_of_read(drawn: u64) -> usize {
     1 + (drawn / 4 % most) as usize
 }
 
-/// How readers of these bytes cut them: one byte a read, three, and so many as are drawn from a seed
-/// that the bytes decide.
+/// How readers of these bytes cut them: one byte a read, three, and so many as are drawn from a
+/// seed that the bytes decide.
 pub fn cuts_of(bytes: &[u8]) -> [Cut; 3] {
     let mut seed = 0xcbf29ce484222325u64;
     for byte in bytes {

@@ -51,8 +51,8 @@ impl Job for Reading<'_> {
 }
 
 /// What a call gives of the front of the bytes, from the slice and from readers of one byte a read,
-/// of three and of drawn numbers; where the limit is the usual one also with other calls and sizes of
-/// a scratch.
+/// of three and of drawn numbers; where the limit is the usual one also with other calls and sizes
+/// of a scratch.
 /// `differs: A / B` where one of them gives something else than the first.
 ///
 /// # Errors

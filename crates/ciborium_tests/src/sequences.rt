@@ -43,8 +43,8 @@ impl Job for Sequence<'_> {
     }
 }
 
-// The sequence of a slice, and `differs: A / B` where it is another one from a reader of few bytes a
-// read.
+// The sequence of a slice, and `differs: A / B` where it is another one from a reader of few bytes
+// a read.
 fn read_alike<T: Deserialize + Serialize>(
     alloc: Global,
     bytes: &[u8],
@@ -59,8 +59,8 @@ fn read_alike<T: Deserialize + Serialize>(
     Ok(alike.into_text())
 }
 
-// `N times SEQUENCE` where so many rows of these bytes give the items of one so many times, and then
-// end; else what they give.
+// `N times SEQUENCE` where so many rows of these bytes give the items of one so many times, and
+// then end; else what they give.
 fn read_rows<T: Deserialize + Serialize>(
     alloc: Global,
     bytes: &[u8],

@@ -78,7 +78,8 @@ pub(crate) fn fold_number(tag: u64, bytes: &[u8]) -> Result<Option<Integer>, Kin
     requires tag { is_bignum_tag tag ≡ true }
     requires short { length bytes.now ≤ 16 }
     ensures ok { IfOk result (λ number. MatchOption number
-        (bignum_meaning tag bytes.now ≡ Some (trees.tag tag (trees.bytes (without_zeros bytes.now))))
+        (bignum_meaning tag bytes.now
+        ≡ Some (trees.tag tag (trees.bytes (without_zeros bytes.now))))
         (λ z. bignum_meaning tag bytes.now ≡ Some (trees.integer z))) }
     ensures too_large { IfErr result (λ kind.
         (kind ≡ kinds.TooLarge) × (bignum_meaning tag bytes.now ≡ None)) }

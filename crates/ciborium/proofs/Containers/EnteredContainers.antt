@@ -27,8 +27,8 @@ use Rattle.ciborium.specs.declared.de.byte_source.Left.{Left}
 use Rattle.ciborium.specs.declared.de.byte_source.Left.TheVariants as left
 use Rattle.ciborium.specs.inner.ByteSources.{IsUnread, IsUnreadBy, StandsBefore, SeqStands, HoldsItems, HoldsPairs}
 use Rattle.ciborium.specs.inner.ByteSources.{SeqOwes, LeftOwes, OwesParts, EntersItemsUnread, EntersPairsUnread}
-use Rattle.ciborium.specs.inner.ByteSources.{HasBytes, parts_left, due_parts, items_due_behind, pending_count, weight_left}
-use Rattle.ciborium.specs.inner.ByteSources.{reader_of, seq_left}
+use Rattle.ciborium.specs.inner.ByteSources.{HasBytes, parts_left, due_parts, items_due_behind, pending_count}
+use Rattle.ciborium.specs.inner.ByteSources.{weight_left, reader_of, seq_left}
 use Rattle.ciborium.specs.inner.Skips.{under, AreSkipped, IsBare, TakesBare, EntersUnread}
 use Rattle.ciborium.specs.inner.StringContents.{TakesContent}
 use Rattle.ciborium.specs.inner.Unread.{AreSpelled, AreLeft, SpellsPair, IsRest, ending, form_of, HasCount}

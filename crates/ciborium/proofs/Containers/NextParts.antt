@@ -307,7 +307,8 @@ module _ {S : Type 0} (remaining : S → Option (List ℕ)) where
               (subst (λ k. IsRest (reader_of remaining old.decoder) k f) (sym all) rest) lq,
         ),
     λ l form its f (b, u, (s, r, stand, rest, e), lv, none, few) (lq, hold).
-        let (empty, all) = counted-end SpellsPair form its s r b (subst (λ k. HoldsPairs k form its) is hold) stand e in (
+        let held = subst (λ k. HoldsPairs k form its) is hold in
+        let (empty, all) = counted-end SpellsPair form its s r b held stand e in (
           empty,
           stands-past remaining old new l q b f (ap (reader_of remaining) same) levels (same' ∙ none)
               (held-same old new (ap source_of same) (items_due_behind f) (ap (λ d. d.window.count) same) same'

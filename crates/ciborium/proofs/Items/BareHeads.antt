@@ -47,8 +47,9 @@ module _ {S A : Type 0} (remaining : S → Option (List ℕ)) (old : ByteSource 
       -- the payload of the string that it begins was refused
       pub string-denied : TakesOnly (HasTaken remaining) old.decoder mid.decoder → (fault : Fault) →
           DeniesContent (IsUnread remaining mid) (end_at remaining mid) kind len fault → IsDenied fault
-      string-denied only fault content = denies-string (IsUnread remaining) (end_at remaining) (Some old.levels) taken old
-          mid kind len fault (same-end remaining old mid only)
+      string-denied only fault content =
+          denies-string (IsUnread remaining) (end_at remaining) (Some old.levels) taken old mid kind len fault
+          (same-end remaining old mid only)
           (subst (TakesBare (IsUnread remaining) old mid false) is head) content
 
       -- it was taken, and the string gives v

@@ -257,4 +257,5 @@ pub content-denied : {S E : Type 0} (remaining : S → Option (List ℕ)) (d e :
 content-denied remaining d e pending x kind len none refused y b s z payload u hd sp split =
     let left = subst (λ o. IsUnreadBy remaining d o y) none u in
     subst (λ n. IsOutsideFault n (fault_of (from_ll x))) (sym (ap (λ o. known_end o d.window.count) left))
-    (content-outside (left_of remaining e) x kind len d.last d.window.count y b s z payload hd sp split (refused y left))
+    (content-outside (left_of remaining e) x kind len d.last d.window.count y b s z payload hd sp split
+    (refused y left))

@@ -58,7 +58,8 @@ under_form o t v u h form = mapped_gives (trees.tag t) (deterministic_form o v) 
     (sym (ap (λ b. tag_form t b (deterministic_form o v)) (not_folding t v h)) ∙ form)
 
 read-tagged : {C : Type 0} (taken : Taken C) (c : C) (o : KeyOrder) (t : ℕ) (j : Item) →
-    short_bytes (written_tree j) ≡ None → ((u : Tree) → deterministic_form o (written_tree j) ≡ gives u →
+    short_bytes (written_tree j) ≡ None →
+    ((u : Tree) → deterministic_form o (written_tree j) ≡ gives u →
     taken None (item_of u) ≡ gives c) →
     (u : Tree) → deterministic_form o (trees.tag t (written_tree j)) ≡ gives u →
     taken_with_tag taken None (item_of u) ≡ gives (Some t, c)

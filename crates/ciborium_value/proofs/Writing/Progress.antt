@@ -210,7 +210,8 @@ parts_counted shape n count h = by (nat_le n greatest_offset) h
 -- ---- the parts of a definite container
 
 module _ {S : Type 0} (StandsAt : S → Place → Type 0) (out : S → Out) (s : Shape) (number count : ℕ)
-    (parts : List Named) (old : S) (counts : counted number ≡ Some count) (sized : length parts ≡ size_of s number) where
+    (parts : List Named) (old : S) (counts : counted number ≡ Some count)
+    (sized : length parts ≡ size_of s number) where
   fits : length parts ≡ size_of s count
   fits = sized ∙ ap (size_of s) (sym (parts_counted s number count counts).0)
 

@@ -1,7 +1,7 @@
 -- Worked examples of diagnostic notation (RFC 8949, section 8 and appendix A).
 use Prim.Native.String.{String}
 use Rattle.std.specs.Prelude.{◌≡◌, ℕ, ◌-◌, ◌^◌, List, [], ◌∷◌, codes, false, true, negsuc, pos}
-use Rattle.std.specs.Prelude.{replicate}
+use Rattle.std.specs.Prelude.{◌++◌, replicate}
 use Rattle.ciborium_value.specs.Notation.{notation, indented_notation}
 use Rattle.ciborium_value.specs.Tree.{Tree, integer, bytes, text, boolean, null, tag, array, map}
 use Rattle.ciborium_value.specs.View.{trees_from, tree_pairs_from}
@@ -99,7 +99,8 @@ pub record EscapeExamples : Type 0 where
       ≡ codes "\"\\u0000\\u0001\\u0002\\u0003\\u0004\\u0005\\u0006\\u0007\\u000b\\u000e\\u000f\""
   pub high_digits : notation (text (16 ∷ 17 ∷ 18 ∷ 19 ∷ 20 ∷ 21 ∷ 22 ∷ 23 ∷ 24 ∷ 25 ∷ 26 ∷ 27 ∷ 28 ∷
       29 ∷ 30 ∷ 31 ∷ []))
-      ≡ codes "\"\\u0010\\u0011\\u0012\\u0013\\u0014\\u0015\\u0016\\u0017\\u0018\\u0019\\u001a\\u001b\\u001c\\u001d\\u001e\\u001f\""
+      ≡ codes "\"\\u0010\\u0011\\u0012\\u0013\\u0014\\u0015\\u0016\\u0017" ++
+      codes "\\u0018\\u0019\\u001a\\u001b\\u001c\\u001d\\u001e\\u001f\""
   pub unescaped : notation (text (32 ∷ 33 ∷ 35 ∷ 39 ∷ 47 ∷ 91 ∷ 93 ∷ 126 ∷ 127 ∷ [])) ≡ 34 ∷ 32 ∷ 33
       ∷ 35 ∷ 39 ∷ 47 ∷ 91 ∷ 93 ∷ 126 ∷ 127 ∷ 34 ∷ []
   pub between : notation (letters "a\nb") ≡ codes "\"a\\nb\""

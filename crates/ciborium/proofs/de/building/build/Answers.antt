@@ -1,4 +1,5 @@
-use Rattle.std.proofs.Common.{◌∙◌, arith, ◌≤◌, ℕ, List, length, refl, rules, None, Some, Ok, Err, Result, Option, subst, ◌≡◌}
+use Rattle.std.proofs.Common.{◌∙◌, arith, ◌≤◌, ℕ, List, length, refl, rules, None, Some, Ok, Err}
+use Rattle.std.proofs.Common.{Result, Option, subst, ◌≡◌}
 use Rattle.std.proofs.Common.{MatchOption}
 use Rattle.std.proofs.lemmas.Result.{err_from_is_err_and}
 use Rattle.ciborium_ll.specs.declared.decoder.Decoder.{Decoder}
@@ -73,9 +74,10 @@ turns-preserved g c = record {
   reading = turned g.R.Read.remaining c.args.decoder.now c.turns.decoder c.allow_due.new.decoder c.turn.new.decoder
       g.S.Rules.spelling (frames_of c.turns.stack) (frames_of c.turn.new.stack) c.args.levels (Ok None)
       c.allow_due.ensures.pushed c.allow_due.ensures.head_len c.allow_due.ensures.count c.allow_due.ensures.unread
-      c.turns.invariant.reading (subst (λ o. TakesBeforeAny g.R.Read.remaining c.allow_due.new.decoder c.turn.new.decoder
-      (Turns g.S.Rules.spelling (frames_of c.turns.stack) (frames_of c.turn.new.stack) c.args.levels (Ok o))) c.in_default.is
-      c.in_ok-value.ensures.turn);
+      c.turns.invariant.reading (subst (λ o.
+      TakesBeforeAny g.R.Read.remaining c.allow_due.new.decoder c.turn.new.decoder
+      (Turns g.S.Rules.spelling (frames_of c.turns.stack) (frames_of c.turn.new.stack) c.args.levels (Ok o)))
+      c.in_default.is c.in_ok-value.ensures.turn);
 }
 
 pub returns-in-Some-clause-due : goal.returns-in-Some-clause-due
@@ -96,7 +98,8 @@ returns-in-Some-clause-value g c =
 pub returns-in_err-value-clause-value : goal.returns-in_err-value-clause-value
 returns-in_err-value-clause-value g c =
     let exit = err_from_is_err_and c.from_residual.result c.from_residual.ensures.1 in
-    rw (exit.1, exit.2) (turned g.R.Read.remaining c.args.decoder.now c.turns.decoder c.allow_due.new.decoder c.turn.new.decoder
-    g.S.Rules.spelling (frames_of c.turns.stack) (frames_of c.turn.new.stack) c.args.levels (Err c.in_err-value.field-0.0)
+    rw (exit.1, exit.2) (turned g.R.Read.remaining c.args.decoder.now c.turns.decoder c.allow_due.new.decoder
+    c.turn.new.decoder g.S.Rules.spelling (frames_of c.turns.stack) (frames_of c.turn.new.stack) c.args.levels
+    (Err c.in_err-value.field-0.0)
     c.allow_due.ensures.pushed c.allow_due.ensures.head_len c.allow_due.ensures.count c.allow_due.ensures.unread
     c.turns.invariant.reading c.in_err-value.ensures.turn)

@@ -2,8 +2,8 @@
 use Rattle.std.proofs.Common.{◌∷◌}
 use Rattle.std.proofs.lemmas.Result.{on_ok_weaker, on_err_weaker}
 use Rattle.ciborium_value.specs.Places.{dictionary}
-use Rattle.ciborium_value.proofs.Writing.Progress.{on_err, ready_for_one, breaks_at_one, ready_for_value, breaks_at_value}
-use Rattle.ciborium_value.proofs.Writing.Progress.{pair_taken, takes_pair_more, breaks_behind_pair}
+use Rattle.ciborium_value.proofs.Writing.Progress.{on_err, ready_for_one, breaks_at_one, ready_for_value}
+use Rattle.ciborium_value.proofs.Writing.Progress.{breaks_at_value, pair_taken, takes_pair_more, breaks_behind_pair}
 use Rattle.ciborium.proofs.literals.PairPartsOfMap.write_parts.Goals as goal
 
 pub serialize-requires : goal.serialize-requires

@@ -77,8 +77,8 @@ returns-in_ok-bytes-in-Array-clause-ok g c =
     let opened = array-opened g.R.Read.remaining c.args.self.now c.bare_head.new.self c.enter.new.self c.in-Array.count
     c.in_ok-seq-in-Array.seq c.in_ok-header.header c.in_ok-header.offset c.in-Array.is c.in_ok-header.ensures.head
     c.in_ok-header.ensures.reads (enter.decoder, enter.pending, enter.some, enter.levels, enter.left) enter.back in
-    array-takes g.R.Read.remaining c.args.self.now c.enter.new.self c.in_ok-seq-in-Array.seq opened c.read_byte_items.new.self
-    c.in_ok-bytes-in-Array.bytes.items c.in_ok-bytes-in-Array.ensures.ok
+    array-takes g.R.Read.remaining c.args.self.now c.enter.new.self c.in_ok-seq-in-Array.seq opened
+    c.read_byte_items.new.self c.in_ok-bytes-in-Array.bytes.items c.in_ok-bytes-in-Array.ensures.ok
 
 pub returns-in_ok-bytes-in-Array-clause-took : goal.returns-in_ok-bytes-in-Array-clause-took
 returns-in_ok-bytes-in-Array-clause-took g c =
@@ -86,8 +86,8 @@ returns-in_ok-bytes-in-Array-clause-took g c =
     let opened = array-opened g.R.Read.remaining c.args.self.now c.bare_head.new.self c.enter.new.self c.in-Array.count
     c.in_ok-seq-in-Array.seq c.in_ok-header.header c.in_ok-header.offset c.in-Array.is c.in_ok-header.ensures.head
     c.in_ok-header.ensures.reads (enter.decoder, enter.pending, enter.some, enter.levels, enter.left) enter.back in
-    array-took g.R.Read.remaining c.args.self.now c.enter.new.self c.in_ok-seq-in-Array.seq opened c.read_byte_items.new.self
-    c.in_ok-bytes-in-Array.ensures.took
+    array-took g.R.Read.remaining c.args.self.now c.enter.new.self c.in_ok-seq-in-Array.seq opened
+    c.read_byte_items.new.self c.in_ok-bytes-in-Array.ensures.took
 
 pub returns-in_err-bytes-in-Array-clause-refused : goal.returns-in_err-bytes-in-Array-clause-refused
 returns-in_err-bytes-in-Array-clause-refused g c =
