@@ -1,10 +1,10 @@
 //! Copies and comparisons of values, and the error of a writer.
 use crate::expectations::expect_all;
+use ciborium::from_reader;
 use ciborium::ser::Error;
 use ciborium::tag::{Accepted, Captured, Required};
 use ciborium::value::canonical::cmp_value;
 use ciborium::value::{CanonicalValue, Value};
-use ciborium::from_reader;
 use ciborium_callers::callers::only_item;
 use std::cmp::Ordering;
 use std::io::{self, ErrorKind};
