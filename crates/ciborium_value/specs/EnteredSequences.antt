@@ -10,14 +10,14 @@ use Rattle.ciborium_value.specs.Taken.{Outcome, gives}
 module _ {S Q : Type 0} (StandsBefore : S → Limit → Ahead → Type 0)
     (SeqStands : Q → Limit → Rest → Type 0) where
   -- the items that were left give this, and the source stands past the sequence
-  abbrev pub TakesRow : {C : Type 0} → S → S → Q → (Limit → List Item → Outcome C) → C → Type 0
-  TakesRow old new q taken c = (l : Limit) (form : Form) (is : List Item) (f : Rest) →
+  abbrev pub TakesInTurn : {C : Type 0} → S → S → Q → (Limit → List Item → Outcome C) → C → Type 0
+  TakesInTurn old new q taken c = (l : Limit) (form : Form) (is : List Item) (f : Rest) →
       StandsBefore old (inside form l) (after (parts form is f)) → SeqStands q l (parts form is f) →
       (taken (inside form l) is ≡ gives c) × StandsBefore new l (past f)
 
   -- one of them is to blame, or one is missing
-  abbrev pub RefusesRow : {C : Type 0} → S → Q → (Limit → List Item → Outcome C) → Fault → Type 0
-  RefusesRow old q taken fault = (l : Limit) (form : Form) (is : List Item) (f : Rest) →
+  abbrev pub RefusesInTurn : {C : Type 0} → S → Q → (Limit → List Item → Outcome C) → Fault → Type 0
+  RefusesInTurn old q taken fault = (l : Limit) (form : Form) (is : List Item) (f : Rest) →
       StandsBefore old (inside form l) (after (parts form is f)) → SeqStands q l (parts form is f) →
       IsFaultOf (end_of f) fault (taken (inside form l) is)
 

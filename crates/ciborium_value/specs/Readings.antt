@@ -8,16 +8,16 @@ use Rattle.std.specs.declared.cmp.Ordering.{Ordering}
 use Rattle.std.specs.declared.cmp.Ordering.TheVariants.{Equal}
 use Rattle.ciborium_ll.specs.Item.{Item}
 use Rattle.ciborium_value.specs.Nesting.{Limit}
-use Rattle.ciborium_value.specs.lemmas.Steady.{IsSteady, IsSteadyRow, IsNoNesting, after_seq}
+use Rattle.ciborium_value.specs.lemmas.Steady.{IsSteady, AreSteady, IsNoNesting, after_seq}
 use Rattle.ciborium_value.specs.lemmas.Steady.{steady-seq}
 use Rattle.ciborium_value.specs.lemmas.SteadyParts.{no_nesting-if, no_nesting-below}
 use Rattle.ciborium_value.specs.lemmas.SteadyParts.{no_nesting-within, steady-integer, steady-then}
 use Rattle.ciborium_value.specs.lemmas.SteadyParts.{steady-option, steady-list, steady-no_part}
-use Rattle.ciborium_value.specs.lemmas.SteadyParts.{steady-part, steady-row, steady-map}
+use Rattle.ciborium_value.specs.lemmas.SteadyParts.{steady-part, steady-made, steady-map}
 use Rattle.ciborium_value.specs.lemmas.SteadyParts.{steady-value}
 use Rattle.ciborium_value.specs.Taken.{Outcome, Taken, gives, refuses, taken_integer, number_below}
 use Rattle.ciborium_value.specs.Taken.{number_within, taken_value}
-use Rattle.ciborium_value.specs.TakenParts.{taken_then, taken_option, taken_list, taken_row}
+use Rattle.ciborium_value.specs.TakenParts.{taken_then, taken_option, taken_list, taken_made}
 use Rattle.ciborium_value.specs.TakenParts.{no_part_taken, part_taken, taken_map}
 use Rattle.ciborium_value.specs.Order.{tree_cmp}
 use Rattle.ciborium_value.specs.Tree.{Tree}
@@ -135,30 +135,31 @@ list_of items r = spacious (λ v. map r.content (items v)) (slice_cmp r.order) (
 -- ---- parts in a row
 
 -- parts that are read one after another, onto a C
-pub record Row (C : Type 0) : Type 0 where
+pub record ItemsTaken (C : Type 0) : Type 0 where
   pub taken : Limit → List Item → Outcome C
-  pub steady : IsSteadyRow taken
+  pub steady : AreSteady taken
 
 -- no part more
-abbrev pub no_part : Row (Unit {0})
+abbrev pub no_part : ItemsTaken (Unit {0})
 no_part = record { taken = no_part_taken; steady = steady-no_part }
 
 -- a part, and those after it; where it is missing the array is refused as Length
-abbrev pub part : {T A C : Type 0} → Reading T A → Row C → Row (A × C)
+abbrev pub part : {T A C : Type 0} → Reading T A → ItemsTaken C → ItemsTaken (A × C)
 part r behind = record {
   taken = part_taken r.taken behind.taken;
   steady = steady-part r.taken behind.taken r.steady behind.steady;
 }
 
 -- an array of these parts; what stands after them is read as values, and dropped
-abbrev pub array_of : {T C : Type 0} → (T → C) → Row C → Reading T C
-array_of content row = spacious content unordered (after_seq row.taken)
-    (steady-seq row.taken row.steady)
+abbrev pub array_of : {T C : Type 0} → (T → C) → ItemsTaken C → Reading T C
+array_of content parts = spacious content unordered (after_seq parts.taken)
+    (steady-seq parts.taken parts.steady)
 
 -- the same, of which a tuple is made
-abbrev tuple_of : {T C D : Type 0} → (T → D) → (D → D → Ordering) → (C → D) → Row C → Reading T D
-tuple_of content order make row = spacious content order (taken_row make row.taken)
-    (steady-row make row.taken row.steady)
+abbrev tuple_of : {T C D : Type 0} → (T → D) → (D → D → Ordering) → (C → D) → ItemsTaken C →
+    Reading T D
+tuple_of content order make parts = spacious content order (taken_made make parts.taken)
+    (steady-made make parts.taken parts.steady)
 
 abbrev pub tuple1_of : {T A C : Type 0} → (T → A) → Reading A C → Reading T C
 tuple1_of alone a = tuple_of (λ t. a.content (alone t)) a.order (λ p. p.0) (part a no_part)

@@ -40,22 +40,22 @@ part_taken taken behind l (i ∷ is) = then_take (taken l i)
     (λ v. outcome_map (λ c. (v, c)) (behind l is))
 
 -- what is made of the parts of a sequence
-abbrev pub taken_row : {A B : Type 0} → (A → B) → (Limit → List Item → Outcome A) → Taken B
-taken_row make parts = taken_then (after_seq parts) (λ c. gives (make c))
+abbrev pub taken_made : {A B : Type 0} → (A → B) → (Limit → List Item → Outcome A) → Taken B
+taken_made make parts = taken_then (after_seq parts) (λ c. gives (make c))
 
 abbrev pub taken_tuple1 : {A : Type 0} → Taken A → Taken A
-taken_tuple1 a = taken_row (λ p. p.0) (part_taken a no_part_taken)
+taken_tuple1 a = taken_made (λ p. p.0) (part_taken a no_part_taken)
 
 abbrev pub taken_tuple2 : {A B : Type 0} → Taken A → Taken B → Taken (A × B)
-taken_tuple2 a b = taken_row (λ p. (p.0, p.1.0)) (part_taken a (part_taken b no_part_taken))
+taken_tuple2 a b = taken_made (λ p. (p.0, p.1.0)) (part_taken a (part_taken b no_part_taken))
 
 abbrev pub taken_tuple3 : {A B C : Type 0} → Taken A → Taken B → Taken C → Taken (A × B × C)
-taken_tuple3 a b c = taken_row (λ p. (p.0, p.1.0, p.1.1.0))
+taken_tuple3 a b c = taken_made (λ p. (p.0, p.1.0, p.1.1.0))
     (part_taken a (part_taken b (part_taken c no_part_taken)))
 
 abbrev pub taken_tuple4 : {A B C D : Type 0} → Taken A → Taken B → Taken C → Taken D →
     Taken (A × B × C × D)
-taken_tuple4 a b c d = taken_row (λ p. (p.0, p.1.0, p.1.1.0, p.1.1.1.0))
+taken_tuple4 a b c d = taken_made (λ p. (p.0, p.1.0, p.1.1.0, p.1.1.1.0))
     (part_taken a (part_taken b (part_taken c (part_taken d no_part_taken))))
 
 -- ---- maps

@@ -1,10 +1,10 @@
 //! Items of a type each, as an array, for implementations of `Serialize` and `Deserialize`.
 
 ghost use Rattle.std.specs.Prelude.{ℕ, ◌+◌, ◌≤◌, ◌∷◌, ◌⊎◌, [], IfErr, IfOk, OnErr, OnOk};
-ghost use Rattle.ciborium_value.specs.EnteredSequences.{RefusesRow, TakesRest, TakesRow};
+ghost use Rattle.ciborium_value.specs.EnteredSequences.{RefusesInTurn, TakesRest, TakesInTurn};
 ghost use Rattle.ciborium_value.specs.Places.{sequence};
 ghost use Rattle.ciborium_value.specs.Progress.{counted_of};
-ghost use Rattle.ciborium_value.specs.Readings.{Row, array_of, no_part};
+ghost use Rattle.ciborium_value.specs.Readings.{ItemsTaken, array_of, no_part};
 ghost use Rattle.ciborium_value.specs.Readings.{part};
 ghost use Rattle.ciborium_value.specs.Sources.{TakesOnly};
 
@@ -87,7 +87,7 @@ pub trait WantedItems: Sized + Drop {
     ghost content: { Self → Content };
 
     // What the items of a sequence give.
-    ghost items: { Row Content };
+    ghost items: { ItemsTaken Content };
 
     /// Reads the items that are left of a sequence: each as its type, and those after them as
     /// values, which are dropped. Where one is missing it is refused as `Length`. A refused call
@@ -98,9 +98,9 @@ pub trait WantedItems: Sized + Drop {
         source: &mut S,
         seq: &mut S::Seq,
     ) -> Result<Self, S::Error>
-        ensures ok { IfOk result (λ i. TakesRow S.stands_before S.seq_stands
+        ensures ok { IfOk result (λ i. TakesInTurn S.stands_before S.seq_stands
             source.old source.new seq.old items.taken (content i)) }
-        ensures refused { IfErr result (λ e. RefusesRow S.stands_before S.seq_stands
+        ensures refused { IfErr result (λ e. RefusesInTurn S.stands_before S.seq_stands
             source.old seq.old items.taken (S.cause e)) }
         ensures took { OnOk result (TakesRest S.is_unread S.owes source.old source.new seq.old) }
         ensures only { TakesOnly S.has_taken source.old source.new }

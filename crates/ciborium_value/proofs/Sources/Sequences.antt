@@ -4,7 +4,7 @@ use Rattle.ciborium_ll.specs.Item.{Item}
 use Rattle.ciborium_value.specs.Ahead.{Ahead, Rest, Form, item, after, parts, past, inside, end_of}
 use Rattle.ciborium_value.specs.Nesting.{Limit}
 use Rattle.ciborium_value.specs.Places.{Shape, sequence}
-use Rattle.ciborium_value.specs.EnteredSequences.{RefusesRow, TakesRest, TakesRow}
+use Rattle.ciborium_value.specs.EnteredSequences.{RefusesInTurn, TakesRest, TakesInTurn}
 use Rattle.ciborium_value.specs.Sources.{Fault, of_kind, of_nesting, of_syntax, of_memory, of_device, of_length}
 use Rattle.ciborium_value.specs.Sources.{IsFaultOf, IsOutsideFault, TakesAhead, RefusesAhead, Enters, GoesOn, Leaves}
 use Rattle.ciborium_value.specs.Sources.{RefusesNext, TakesTo, TakesItem, OwesLess, OwesNothing}
@@ -198,15 +198,15 @@ module _ {S Q : Type 0} (StandsBefore : S → Limit → Ahead → Type 0) (SeqSt
 -- ---- parts in a row
 
 module _ {S Q : Type 0} (StandsBefore : S → Limit → Ahead → Type 0) (SeqStands : Q → Limit → Rest → Type 0) where
-  pub takes_row : {C : Type 0} {old new : S} {q : Q} (taken : Limit → List Item → Outcome C) {c : C} →
+  pub takes_parts : {C : Type 0} {old new : S} {q : Q} (taken : Limit → List Item → Outcome C) {c : C} →
       Follows (IsInside StandsBefore SeqStands old q taken) (IsPast StandsBefore new c) →
-      TakesRow StandsBefore SeqStands old new q taken c
-  takes_row taken h l form is f st sq = h.at l f _ (form, is, st, sq, refl)
+      TakesInTurn StandsBefore SeqStands old new q taken c
+  takes_parts taken h l form is f st sq = h.at l f _ (form, is, st, sq, refl)
 
-  pub refuses_row : {C : Type 0} {old : S} {q : Q} (taken : Limit → List Item → Outcome C) (fault : Fault) →
+  pub refuses_parts : {C : Type 0} {old : S} {q : Q} (taken : Limit → List Item → Outcome C) (fault : Fault) →
       Follows (IsInside StandsBefore SeqStands old q taken) (IsBlamed fault) →
-      RefusesRow StandsBefore SeqStands old q taken fault
-  refuses_row taken fault h l form is f st sq = h.at l f _ (form, is, st, sq, refl)
+      RefusesInTurn StandsBefore SeqStands old q taken fault
+  refuses_parts taken fault h l form is f st sq = h.at l f _ (form, is, st, sq, refl)
 
   -- no part more: each item that is left is dropped
   pub drop_more : {old ahead new : S} {q q' : Q} {v : Tree} → GoesOn StandsBefore SeqStands old ahead q q' →
@@ -268,9 +268,9 @@ module _ {S Q : Type 0} (IsUnread : S → List ℕ → Type 0) (Owes : Q → Sha
       let (z, un', done) = g c un in
       (z, un', done sequence a (ow a w))
 
-  pub row_taken : {old ahead mid new : S} {q q' : Q} → TakesTo IsUnread old ahead (OwesLess Owes q q') →
+  pub parts_taken : {old ahead mid new : S} {q q' : Q} → TakesTo IsUnread old ahead (OwesLess Owes q q') →
       TakesItem IsUnread ahead mid → TakesRest IsUnread Owes mid new q' → TakesRest IsUnread Owes old new q
-  row_taken g t r b c un ow =
+  parts_taken g t r b c un ow =
       let (d, un', less) = g c un in
       let (z, un'', has) = t d un' in
       r b z un'' (less sequence b z ow has)

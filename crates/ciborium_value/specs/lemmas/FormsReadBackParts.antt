@@ -106,7 +106,7 @@ module _ (o : KeyOrder) where
   -- ---- parts in a row
 
   -- the forms of what the parts name, if they name items, are read as this content
-  pub record IsFormRow {C : Type 0} (s : Result (List Item) Kind)
+  pub record AreFormPartsRead {C : Type 0} (s : Result (List Item) Kind)
       (parts : Limit → List Item → Outcome C) (c : C) : Type 0 where
     pub back : AreFormsRead s (parts None) c
 
@@ -123,14 +123,14 @@ module _ (o : KeyOrder) where
   module _ {A : Type 0} {r : Named} {taken : Taken A} {a : A} (h : IsFormRead o r taken a) where
     -- a part, and those after it
     pub part_form : {C : Type 0} {s : Result (List Item) Kind}
-        {behind : Limit → List Item → Outcome C} {c : C} → IsFormRow s behind c →
-        IsFormRow (and_then r s) (part_taken taken behind) (a, c)
+        {behind : Limit → List Item → Outcome C} {c : C} → AreFormPartsRead s behind c →
+        AreFormPartsRead (and_then r s) (part_taken taken behind) (a, c)
     part_form {s = s} {behind = behind} {c = c} j = record {
       back = both-forms taken behind r s a c h j.back;
     }
 
     -- the last part
-    pub last_form : IsFormRow (and_then r (Ok [])) (part_taken taken no_part_taken) (a, tt)
+    pub last_form : AreFormPartsRead (and_then r (Ok [])) (part_taken taken no_part_taken) (a, tt)
     last_form = record {
       back = both-forms taken no_part_taken r (Ok []) a tt h
           (none-read (no_part_taken None) tt refl);
@@ -138,7 +138,7 @@ module _ (o : KeyOrder) where
 
   -- the array of them
   pub array_form : {C : Type 0} {s : Result (List Item) Kind}
-      {parts : Limit → List Item → Outcome C} {c : C} → IsFormRow s parts c →
+      {parts : Limit → List Item → Outcome C} {c : C} → AreFormPartsRead s parts c →
       IsFormRead o (contained sequence false s) (after_seq parts) c
   array_form {s = s} {parts = parts} {c = c} h = sequence-form parts s c h.back
 

@@ -154,7 +154,7 @@ module _ {T C : Type 0} {IsHeld : T → Type 0} {written : T → Named} {taken :
 
 -- what the parts name, if they name items, is read as this content where so many levels are left,
 -- both ways
-pub record IsRowRead {C : Type 0} (s : Result (List Item) Kind)
+pub record ArePartsRead {C : Type 0} (s : Result (List Item) Kind)
     (parts : Limit → List Item → Outcome C) (c : C) (n : ℕ) : Type 0 where
   pub back : (way : Way) (l : Limit) → IsWithin l n →
       IfOk s (λ is. parts l (map (met way) is) ≡ gives c)
@@ -174,8 +174,8 @@ module _ {A : Type 0} {r : Named} {taken : Taken A} {a : A} {n : ℕ}
     (h : IsNameRead r taken a n) where
   -- a part, and those after it
   pub part_back : {C : Type 0} {s : Result (List Item) Kind}
-      {behind : Limit → List Item → Outcome C} {c : C} {m : ℕ} → IsRowRead s behind c m →
-      IsRowRead (and_then r s) (part_taken taken behind) (a, c) (max n m)
+      {behind : Limit → List Item → Outcome C} {c : C} {m : ℕ} → ArePartsRead s behind c m →
+      ArePartsRead (and_then r s) (part_taken taken behind) (a, c) (max n m)
   part_back {s = s} {behind = behind} {c = c} {m = m} j = record {
     back = λ way l fits. both-read taken behind way l r s a c
         (at r taken a n h way l (within-left l n m fits))
@@ -183,7 +183,7 @@ module _ {A : Type 0} {r : Named} {taken : Taken A} {a : A} {n : ℕ}
   }
 
   -- the last part
-  pub last_back : IsRowRead (and_then r (Ok [])) (part_taken taken no_part_taken) (a, tt) n
+  pub last_back : ArePartsRead (and_then r (Ok [])) (part_taken taken no_part_taken) (a, tt) n
   last_back = record {
     back = λ way l fits. both-read taken no_part_taken way l r (Ok []) a tt
         (at r taken a n h way l fits) refl;
@@ -191,7 +191,7 @@ module _ {A : Type 0} {r : Named} {taken : Taken A} {a : A} {n : ℕ}
 
 -- the array of them
 pub array_back : {C : Type 0} {s : Result (List Item) Kind} {parts : Limit → List Item → Outcome C}
-    {c : C} {n : ℕ} → IsRowRead s parts c n →
+    {c : C} {n : ℕ} → ArePartsRead s parts c n →
     IsNameRead (contained sequence false s) (after_seq parts) c (suc n)
 array_back {s = s} {parts = parts} {c = c} {n = n} h = sequence-back parts s c n h.back
 

@@ -97,7 +97,7 @@ same-level (suc n) o' h = h n
 -- ---- containers
 
 -- a limit affects nothing but nesting in what is made of items in a row
-pub record IsSteadyRow {B : Type 0} (k : Limit → List Item → Outcome B) : Type 0 where
+pub record AreSteady {B : Type 0} (k : Limit → List Item → Outcome B) : Type 0 where
   pub within : (m : ℕ) (is : List Item) → IsSameUnlessNested (k (Some m) is) (k None is)
   pub without : (is : List Item) → IsNoNesting (k None is)
 
@@ -120,7 +120,7 @@ module _ {B : Type 0} (k : Limit → List Item → Outcome B) where
   no_nesting-bare_seq h _ = tt
 
   -- the items of a sequence, read on so
-  pub steady-seq : IsSteadyRow k → IsSteady after_seq
+  pub steady-seq : AreSteady k → IsSteady after_seq
   steady-seq h = record {
     within = λ l i. same-bare_seq h.within l (untagged i);
     without = λ i. no_nesting-bare_seq h.without (untagged i);

@@ -10,7 +10,7 @@ use Rattle.ciborium_value.specs.Meaning.{big_endian, without_zeros, is_bignum_ta
 use Rattle.ciborium_value.specs.Meaning.{bignum_meaning, simple_meaning}
 use Rattle.ciborium_value.specs.Nesting.{Limit}
 use Rattle.ciborium_value.specs.lemmas.Steady.{IsSameUnlessNested, IsNoNesting, IsSteady, same}
-use Rattle.ciborium_value.specs.lemmas.Steady.{IsSteadyRow, after_seq}
+use Rattle.ciborium_value.specs.lemmas.Steady.{AreSteady, after_seq}
 use Rattle.ciborium_value.specs.lemmas.Steady.{same-then, no_nesting-then, same-each}
 use Rattle.ciborium_value.specs.lemmas.Steady.{no_nesting-each, same-map, no_nesting-map}
 use Rattle.ciborium_value.specs.lemmas.Steady.{same-level, steady-seq, steady-pairs}
@@ -24,7 +24,7 @@ use Rattle.ciborium_value.specs.Taken.{unpack, is_null, is_null_simple, deeper, 
 use Rattle.ciborium_value.specs.Taken.{of_meaning, taken_tag, one_more, one_pair_more, taken_value}
 use Rattle.ciborium_value.specs.Taken.{taken_items, taken_tree_pairs}
 use Rattle.ciborium_value.specs.TakenParts.{taken_then, taken_option, list_items, taken_list}
-use Rattle.ciborium_value.specs.TakenParts.{no_part_taken, part_taken, taken_row, take_entry}
+use Rattle.ciborium_value.specs.TakenParts.{no_part_taken, part_taken, taken_made, take_entry}
 use Rattle.ciborium_value.specs.TakenParts.{put_all, map_entries, taken_map}
 use Rattle.ciborium_value.specs.Tree as trees
 use Rattle.ciborium_value.specs.Tree.{Tree, Trees, TreePairs}
@@ -272,7 +272,7 @@ steady-list taken h = steady-seq (list_items taken) (record {
 
 -- ---- items in a row
 
-pub steady-no_part : IsSteadyRow no_part_taken
+pub steady-no_part : AreSteady no_part_taken
 steady-no_part = record {
   within = λ m is. same-then (take_each (taken_value (Some m)) is)
       (take_each (taken_value None) is) (λ _. gives tt) (λ _. gives tt)
@@ -282,7 +282,7 @@ steady-no_part = record {
 }
 
 module _ {A B : Type 0} (taken : Taken A) (behind : Limit → List Item → Outcome B)
-    (h : IsSteady taken) (j : IsSteadyRow behind) where
+    (h : IsSteady taken) (j : AreSteady behind) where
   same-part : (m : ℕ) (is : List Item) →
       IsSameUnlessNested (part_taken taken behind (Some m) is) (part_taken taken behind None is)
   same-part m [] = refl
@@ -297,12 +297,12 @@ module _ {A B : Type 0} (taken : Taken A) (behind : Limit → List Item → Outc
       (λ v. outcome_map (λ c. (v, c)) (behind None is)) (h.without i)
       (λ v. no_nesting-map (λ c. (v, c)) (behind None is) (j.without is))
 
-  pub steady-part : IsSteadyRow (part_taken taken behind)
+  pub steady-part : AreSteady (part_taken taken behind)
   steady-part = record { within = same-part; without = no_nesting-part }
 
-pub steady-row : {A B : Type 0} (make : A → B) (parts : Limit → List Item → Outcome A) →
-    IsSteadyRow parts → IsSteady (taken_row make parts)
-steady-row make parts h = steady-then (after_seq parts) (λ c. gives (make c)) (steady-seq parts h)
+pub steady-made : {A B : Type 0} (make : A → B) (parts : Limit → List Item → Outcome A) →
+    AreSteady parts → IsSteady (taken_made make parts)
+steady-made make parts h = steady-then (after_seq parts) (λ c. gives (make c)) (steady-seq parts h)
     (λ c. tt)
 
 -- ---- maps
