@@ -1,6 +1,6 @@
 -- What words ask for is one thing.
 use Rattle.std.proofs.Common.{◌≡◌, ◌≢◌, ℕ, ◌<◌, ◌≤◌, ◌-◌, ◌==◌, Bool, true, false, List, [], ◌∷◌, get_or, map, sum}
-use Rattle.std.proofs.Common.{length, take, drop, if◌then◌else◌, codes, Option, Some, None, IsSome, MatchOption, refl}
+use Rattle.std.proofs.Common.{length, take, drop, if◌then◌else◌, Option, Some, None, MatchOption, refl}
 use Rattle.std.proofs.Common.{sym, subst, ◌∙◌, ap, ap₂, arith}
 use Rattle.std.proofs.lemmas.List.{take_all}
 use Rattle.std.specs.Bool.{MatchBool}
@@ -13,7 +13,7 @@ use Rattle.cbor.specs.declared.reading.Layout.TheVariants.{OneLine, Indented}
 use Rattle.cbor.specs.declared.reading.Reading.TheVariants as readings
 use Rattle.cbor.specs.declared.reading.Showing.TheVariants as showings
 use Rattle.cbor.specs.declared.reading.Spelling.TheVariants.{Any, Deterministic}
-use Rattle.cbor.specs.Words.{AreWrong, AskFor, NameLimit, NameLimitBehind, command_limit, command_words}
+use Rattle.cbor.specs.Words.{AskFor, NameLimit, NameLimitBehind, command_limit, command_words}
 
 -- ---- words ask for one command
 

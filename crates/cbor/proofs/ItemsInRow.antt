@@ -1,6 +1,6 @@
 -- One more item of a sequence is read, and its hex is put behind the text.
 use Rattle.std.proofs.Common.{◌≡◌, ℕ, ◌+◌, List, [], ◌∷◌, ◌++◌, length, false, ◌==◌, refl, sym, subst, ap, ◌∙◌, arith}
-use Rattle.std.proofs.Common.{length-append, append-nil, codes}
+use Rattle.std.proofs.Common.{length-append, codes}
 use Rattle.std.proofs.lemmas.List.{flat_map_more}
 use Rattle.std.proofs.lemmas.Bool.Decides.{nat_tests}
 use Rattle.ciborium_value.specs.Tree.{Tree}

@@ -1,5 +1,5 @@
 -- What the text of a line says of it.
-use Rattle.std.proofs.Common.{◌≡◌, ℕ, ◌+◌, ◌<◌, List, [], length, true, false, Result, Ok, Err, IsErr, MatchResult}
+use Rattle.std.proofs.Common.{◌≡◌, ℕ, ◌+◌, ◌<◌, List, length, true, false, Result, Ok, Err, IsErr, MatchResult}
 use Rattle.std.proofs.Common.{refl, sym, ap, ◌∙◌, subst}
 use Rattle.hex.specs.Hex.{decode_of}
 use Rattle.hex.specs.declared.error.FromHexError.{FromHexError}
@@ -9,13 +9,13 @@ use Rattle.ciborium_value.specs.Tree.{Tree}
 use Rattle.cbor.specs.declared.answer.Refusal.{Refusal}
 use Rattle.cbor.specs.declared.answer.Refusal.TheVariants.{Hex, Trailing, Io, Syntax, Semantic, Nesting, TooLong}
 use Rattle.cbor.specs.declared.answer.Refusal.TheVariants.{Memory}
-use Rattle.cbor.specs.declared.reading.Reading.TheVariants.{Item, Sequence}
+use Rattle.cbor.specs.declared.reading.Reading.TheVariants.{Item}
 use Rattle.cbor.specs.declared.reading.Spelling.{Spelling}
 use Rattle.cbor.specs.declared.reading.Spelling.TheVariants.{Any}
-use Rattle.cbor.specs.Answer.{IsFrontRefused, IsHexRefused, TellsRefusal, kind_of_reason, refused_text, wants_memory}
+use Rattle.cbor.specs.Answer.{IsFrontRefused, TellsRefusal, kind_of_reason, refused_text, wants_memory}
 use Rattle.cbor.specs.Line.{IsLineAnswer, hex_text, refusal_text}
 use Rattle.cbor.specs.Lines.{IsOkText}
-use Rattle.cbor.specs.Sequence.{AreItemsBefore, AreSequence, HasSequenceAnswer, IsSequenceAnswer, refused}
+use Rattle.cbor.specs.Sequence.{AreItemsBefore, HasSequenceAnswer, IsSequenceAnswer, refused}
 use Rattle.cbor.specs.Sequence.{refused_item_text}
 use Rattle.cbor.specs.Spellings.{RefusesItem}
 use Rattle.cbor.proofs.JudgedLines.{item-answer, refusal_is_answered}

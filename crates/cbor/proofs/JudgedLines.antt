@@ -1,5 +1,5 @@
 -- What a line means, or why it is refused, and the text that answers it.
-use Rattle.std.proofs.Common.{◌≡◌, ◌≢◌, ℕ, List, get_or, Result, Ok, Err, IfErr, IsErr, MatchResult, refl, sym, ap}
+use Rattle.std.proofs.Common.{◌≡◌, ◌≢◌, ℕ, List, get_or, Result, Ok, Err, IsErr, MatchResult, refl, sym, ap}
 use Rattle.std.proofs.Common.{subst, arith}
 use Rattle.hex.specs.Hex.{decode_of}
 use Rattle.hex.specs.declared.error.FromHexError.{FromHexError}

@@ -6,8 +6,8 @@ use Rattle.ciborium_ll.specs.declared.header.Header.{Header}
 use Rattle.ciborium_ll.specs.declared.header.Error.{Error}
 use Rattle.ciborium_ll.specs.declared.header.Error.TheVariants.{Io, Syntax, TooLong, Memory}
 use Rattle.ciborium_ll.specs.Bytes.{greatest_offset}
-use Rattle.ciborium_ll.specs.FirstHeads.{IsEndOrFault, IsFirstTaken, IsHeadIo, PullsFirstTo}
-use Rattle.ciborium_ll.specs.ReaderSteps.{Advances, IsHeadTaken}
+use Rattle.ciborium_ll.specs.FirstHeads.{IsEndOrFault, IsFirstTaken, PullsFirstTo}
+use Rattle.ciborium_ll.specs.ReaderSteps.{Advances}
 use Rattle.ciborium_ll.specs.Refusal.{Refusal, io, syntax, too_long, HeadRefuses, head_refusal}
 use Rattle.ciborium_ll.proofs.Advancing.{Advances-map, Filled}
 use Rattle.ciborium_ll.proofs.Unread.{pulls-head, rest-of}

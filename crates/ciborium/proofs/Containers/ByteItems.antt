@@ -1,6 +1,6 @@
 -- Bytes that are read as the numbers of a sequence.
 use Rattle.std.proofs.Common.{◌≡◌, ◌≢◌, ℕ, ◌+◌, ◌-◌, ◌<◌, ◌≤◌, Bool, false, List, [], ◌∷◌, ◌++◌, Option, Some, None}
-use Rattle.std.proofs.Common.{Result, Ok, Err, IfErr, IfOk, OnErr, OnOk, refl, sym, ap, ◌∙◌, subst, append_assoc}
+use Rattle.std.proofs.Common.{Result, Ok, Err, OnErr, OnOk, refl, sym, ap, ◌∙◌, subst, append_assoc}
 use Rattle.std.proofs.Common.{append-nil}
 use Rattle.ciborium_ll.specs.declared.header.Header.{Header}
 use Rattle.ciborium_ll.specs.declared.header.Header.TheVariants as header
@@ -8,7 +8,7 @@ use Rattle.ciborium_ll.specs.Item.{Item}
 use Rattle.ciborium_ll.specs.StringRefusal.{of_bytes as string_of_bytes}
 use Rattle.ciborium_ll.proofs.UniqueSpelling.{one_at_front}
 use Rattle.ciborium_ll.specs.Decoding.{HasSameReader, allowed_of, source_of}
-use Rattle.ciborium.proofs.Items.Due.{due-past, entered-fewer, held-past, on-both}
+use Rattle.ciborium.proofs.Items.Due.{due-past, entered-fewer, held-past}
 use Rattle.ciborium_value.specs.Ahead.{Rest, Form, after, parts, past, inside, end_of}
 use Rattle.ciborium_value.specs.Nesting.{Limit}
 use Rattle.ciborium_value.specs.Places.{sequence}

@@ -1,6 +1,6 @@
 -- What a source finds at a value.
 use Rattle.std.proofs.Common.{◌≡◌, ℕ, suc, ◌+◌, ◌<◌, ◌≤◌, List, [], ◌∷◌, ◌++◌, map, length, chars, IsUtf8, encode_utf8}
-use Rattle.std.proofs.Common.{slice_get, Option, Some, None, Result, Ok, Err, IfOk, IfErr, OnOk, Vec, Global, refl, sym}
+use Rattle.std.proofs.Common.{slice_get, Option, Some, None, Result, Ok, Err, IfOk, IfErr, Vec, Global, refl, sym}
 use Rattle.std.proofs.Common.{ap, ◌∙◌, arith, subst}
 use Rattle.std.proofs.lemmas.Str.{chars_past_char, chars-nil}
 use Rattle.std.proofs.lemmas.List.{nil_from_length}
@@ -13,11 +13,10 @@ use Rattle.ciborium_value.specs.Taken.{taken_seq, taken_pairs, bare_seq, bare_pa
 use Rattle.ciborium_value.specs.Taken.{bare_bytes, taken_bytes, taken_byte, take_each}
 use Rattle.std.specs.Borrow.{Bor}
 use Rattle.ciborium_value.specs.inner.TreeSources.{IsDueValue, pair_items, value_weight, pending_due}
-use Rattle.ciborium_value.specs.inner.TreeSources.{pending_tree_weight, due_weight, source_weight}
+use Rattle.ciborium_value.specs.inner.TreeSources.{pending_tree_weight, due_weight}
 use Rattle.ciborium_value.specs.TreeAnswers.{value_item}
 use Rattle.ciborium_value.specs.Tree as trees
 use Rattle.ciborium_value.specs.Tree.{Tree}
-use Rattle.ciborium_value.specs.declared.deserialized.TreeSource.{TreeSource}
 use Rattle.ciborium_value.specs.View.{tree_of, trees_of, tree_pairs_of}
 use Rattle.ciborium_value.specs.declared.kind.Kind.TheVariants as kinds
 use Rattle.ciborium_value.specs.declared.tree.Value as value

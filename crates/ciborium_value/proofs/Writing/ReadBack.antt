@@ -2,7 +2,7 @@
 use Rattle.std.proofs.Common.{◌≡◌, ℕ, zero, suc, ◌+◌, ◌-◌, ◌<◌, ◌≤◌, Bool, true, false, List, pos, negsuc, cond, None}
 use Rattle.std.proofs.Common.{option_map, inl, IsUtf8, length, refl, sym, ◌∙◌, ap, subst, arith}
 use Rattle.ciborium_ll.specs.Bytes.{AreBytes, greatest_offset}
-use Rattle.ciborium_ll.specs.Item.{Item, unsigned, negative, bytes, text, array, map, tag, simple, float, Items}
+use Rattle.ciborium_ll.specs.Item.{Item, bytes, array, map, tag, simple, float, Items}
 use Rattle.ciborium_ll.specs.Item.{no_items, item, items_count, Pairs, no_pairs, pair, pairs_count}
 use Rattle.ciborium_ll.specs.Spells.{IsContainer, IsString}
 use Rattle.ciborium_value.specs.Encoding.{item_of, items_of, pairs_of, enclosed, items_bytes, pairs_bytes}
