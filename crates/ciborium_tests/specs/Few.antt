@@ -47,5 +47,7 @@ no_nesting-few taken h (i ∷ is) n = no_nesting-one n (taken None i) (few_items
 
 pub steady-few : {A : Type 0} (n : ℕ) (taken : Taken A) → IsSteady taken →
     IsSteady (taken_few n taken)
-steady-few n taken h = steady-seq (λ l is. few_items taken l is n) (λ m is. same-few taken h m is n)
-    (λ is. no_nesting-few taken h is n)
+steady-few n taken h = steady-seq (λ l is. few_items taken l is n) (record {
+  within = λ m is. same-few taken h m is n;
+  without = λ is. no_nesting-few taken h is n;
+})
