@@ -7,7 +7,7 @@ use Rattle.ciborium_value.specs.Tree.{Tree}
 use Rattle.cbor.specs.declared.reading.Spelling.TheVariants.{Any}
 use Rattle.cbor.specs.declared.answer.Refusal.{Refusal}
 use Rattle.cbor.specs.Answer.{IsFrontRefused, refused_text, wants_memory}
-use Rattle.cbor.specs.Sequence.{AreItemsBefore, HasSequenceAnswer, item_text, refused_item_text, sequence_text, whole}
+use Rattle.cbor.specs.Sequence.{AreItemsBefore, AreNoSequence, AreSequence, item_text, refused_item_text, sequence_text}
 use Rattle.cbor.specs.Spellings.{HasItemBefore}
 use Rattle.cbor.proofs.JudgedAnswers.{item-refused}
 
@@ -39,15 +39,14 @@ one-more-item b rest left text longer number v (trees, a, same, count) item e = 
       omega (arith, more, count)),
 )
 
--- the text of all items answers the bytes
-pub all-items : (b rest text : List ℕ) (number : ℕ) → IsSoFar b rest text number → rest ≡ [] →
-    HasSequenceAnswer b 256 text
+-- the text of all items says that the bytes are a sequence
+pub all-items : (b rest text : List ℕ) (number : ℕ) → IsSoFar b rest text number → rest ≡ [] → AreSequence b 256 text
 all-items b rest text number (trees, a, same, count) none =
-    whole trees (subst (λ (r : List ℕ). AreItemsBefore b 256 trees r) none a) same
+    (trees, subst (λ (r : List ℕ). AreItemsBefore b 256 trees r) none a, same)
 
--- and so does that of the first that is refused
+-- and that of the first that is refused that they are none
 pub first-refused : (b rest text answer : List ℕ) (number : ℕ) (e : Refusal) → IsSoFar b rest text number →
     false ≡ (length rest == 0) → IsFrontRefused Any rest 256 e →
-    (wants_memory e ≡ false) × (answer ≡ refused_item_text number (refused_text e)) → HasSequenceAnswer b 256 answer
+    (wants_memory e ≡ false) × (answer ≡ refused_item_text number (refused_text e)) → AreNoSequence b 256 answer
 first-refused b rest text answer number e (trees, a, same, count) more h is =
     item-refused b trees rest number e answer a (let some = sym more in grind (arith, nat_tests)) count h is

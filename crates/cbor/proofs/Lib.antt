@@ -1,7 +1,6 @@
 pub mod AnsweredLines
 pub mod AskedWords
 pub mod DigitPairs
-pub mod FormAnswers
 pub mod HexDigits
 pub mod ItemsInRow
 pub mod JudgedAnswers

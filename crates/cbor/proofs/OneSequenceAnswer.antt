@@ -11,7 +11,7 @@ use Rattle.ciborium_value.specs.Tree.{Tree}
 use Rattle.cbor.specs.declared.reading.Spelling.TheVariants.{Any}
 use Rattle.cbor.specs.Laws.{IsSequenceAnswered, OneSequenceAnswer}
 use Rattle.cbor.specs.Line.{hex_text, refusal_text}
-use Rattle.cbor.specs.Sequence.{AreItemsBefore, HasSequenceAnswer, refused, refused_item_text, sequence_text, whole}
+use Rattle.cbor.specs.Sequence.{AreItemsBefore, HasSequenceAnswer, refused_item_text, sequence_text}
 use Rattle.cbor.specs.Spellings.{HasItemBefore, IsItem, RefusesItem}
 use Rattle.cbor.proofs.OneLineAnswer.{decoded-bytes}
 use Rattle.cbor.proofs.SpelledItems.{DeterministicLaw, item-or-refused, not-both, one-refusal, one-tree}
@@ -56,14 +56,14 @@ not-empty xs e more = let size : 0 ≡ length xs = ap (λ (ys : List ℕ). lengt
 
 one-of-bytes : DeterministicLaw → (b : List ℕ) (limit : ℕ) (x y : List ℕ) → AreBytes b → HasSequenceAnswer b limit x →
     HasSequenceAnswer b limit y → x ≡ y
-one-of-bytes law b limit x y h (whole ts m e) (whole us n f) =
+one-of-bytes law b limit x y h (inl (ts, m, e)) (inl (us, n, f)) =
     let same = one-row law ts us b [] [] limit io io h m n (nothing limit) (nothing limit) in e ∙
     (ap sequence_text same.0 ∙ sym f)
-one-of-bytes law b limit x y h (whole ts m e) (refused us rest u n more r f) =
+one-of-bytes law b limit x y h (inl (ts, m, e)) (inr (us, rest, u, n, more, r, f)) =
     absurd (not-empty rest (one-row law ts us b [] rest limit io u h m n (nothing limit) r).1 more)
-one-of-bytes law b limit x y h (refused ts rest u m more r e) (whole us n f) =
+one-of-bytes law b limit x y h (inr (ts, rest, u, m, more, r, e)) (inl (us, n, f)) =
     absurd (not-empty rest (one-row law us ts b [] rest limit io u h n m (nothing limit) r).1 more)
-one-of-bytes law b limit x y h (refused ts rest u m more r e) (refused us left v n also s f) =
+one-of-bytes law b limit x y h (inr (ts, rest, u, m, more, r, e)) (inr (us, left, v, n, also, s, f)) =
     let same = one-row law ts us b rest left limit u v h m n r s in
     let reason =
     one-refusal law Any rest limit u v (bytes-behind ts b rest limit h m) r
@@ -105,8 +105,8 @@ bytes-answered : DeterministicLaw → (b : List ℕ) (limit : ℕ) → AreBytes 
 bytes-answered law b limit h =
     let f = found law (length b) b limit (omega arith) h in
     elim f.3 [
-      | inl e ↦ (sequence_text f.0, whole f.0 (subst (λ (r : List ℕ). AreItemsBefore b limit f.0 r) e f.2) refl)
-      | inr r ↦ (refused_item_text (length f.0 + 1) (refusal_text r.1), refused f.0 f.1 r.1 f.2 r.0 r.2 refl)
+      | inl e ↦ (sequence_text f.0, inl (f.0, subst (λ (r : List ℕ). AreItemsBefore b limit f.0 r) e f.2, refl))
+      | inr r ↦ (refused_item_text (length f.0 + 1) (refusal_text r.1), inr (f.0, f.1, r.1, f.2, r.0, r.2, refl))
     ]
 
 answered-by : DeterministicLaw → (d : Result (List ℕ) FromHexError) (limit : ℕ) →

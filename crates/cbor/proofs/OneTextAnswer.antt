@@ -1,5 +1,5 @@
 -- Each line has one answer by the deterministic form of its item, and one by its notation.
-use Rattle.std.proofs.Common.{◌≡◌, ◌≢◌, ◌⊎◌, ℕ, List, [], ◌∷◌, length, inl, inr, Result, Ok, Err, is_err, MatchResult}
+use Rattle.std.proofs.Common.{◌≡◌, ◌⊎◌, ℕ, List, [], ◌∷◌, length, inl, inr, Result, Ok, Err, is_err, MatchResult, false}
 use Rattle.std.proofs.Common.{refl, sym, ap, ◌∙◌, subst, arith, append-nil}
 use Rattle.hex.specs.Hex.{decode_of}
 use Rattle.hex.specs.declared.error.FromHexError.{FromHexError}
@@ -14,14 +14,14 @@ use Rattle.cbor.specs.declared.answer.Reason.{Reason}
 use Rattle.cbor.specs.declared.answer.Reason.TheVariants as reasons
 use Rattle.cbor.specs.declared.answer.Refusal.{Refusal}
 use Rattle.cbor.specs.declared.answer.Refusal.TheVariants.{Hex, Trailing, Io, Syntax, Semantic, Nesting, TooLong}
-use Rattle.cbor.specs.declared.answer.Refusal.TheVariants.{Memory}
 use Rattle.cbor.specs.declared.reading.Layout.{Layout}
 use Rattle.cbor.specs.declared.reading.Spelling.TheVariants.{Any}
-use Rattle.cbor.specs.Answer.{AreRefused, IsMeant, IsRefused, kind_of_reason, refused_text}
-use Rattle.cbor.specs.Forms.{IsFormAnswer, duplicate, formed, formless_text, no_item, too_large}
+use Rattle.cbor.specs.Answer.{AreRefused, IsMeant, IsRefused, TellsRefusal, kind_of_reason, refused_text}
+use Rattle.cbor.specs.Answer.{wants_memory}
+use Rattle.cbor.specs.Forms.{IsFormAnswer, formless_text}
 use Rattle.cbor.specs.Laws.{IsFormAnswered, IsNotationAnswered, OneFormAnswer, OneNotationAnswer}
 use Rattle.cbor.specs.Line.{tree_text}
-use Rattle.cbor.specs.Shown.{IsNotationAnswer, notation_text, shown, unshown}
+use Rattle.cbor.specs.Shown.{notation_text}
 use Rattle.cbor.specs.Spellings.{IsItem, RefusesItem}
 use Rattle.cbor.proofs.JudgedAnswers.{not-memory}
 use Rattle.cbor.proofs.JudgedLines.{refusal_is_answered, refused-by, refused_means_nothing}
@@ -48,21 +48,21 @@ one-meant law line limit v w p q = one-meant-by law (decode_of line) limit v w p
 -- an answer is the text of a tree that the line means, or of a refusal
 abbrev IsTextOrRefusal : (Tree → List ℕ) → List ℕ → ℕ → List ℕ → Type 0
 IsTextOrRefusal text line limit answer =
-    ((v : Tree) × IsMeant Any line limit v × (answer ≡ text v)) ⊎
-    ((e : Refusal) × (e ≢ Memory) × IsRefused Any line limit e × (answer ≡ refused_text e))
+    ((v : Tree) × IsMeant Any line limit v × (answer ≡ text v)) ⊎ TellsRefusal Any line limit answer
 
 one-of : DeterministicLaw → (text : Tree → List ℕ) (line : List ℕ) (limit : ℕ) (a b : List ℕ) →
     IsTextOrRefusal text line limit a →
     IsTextOrRefusal text line limit b → a ≡ b
 one-of law text line limit a b (inl (v, p, e)) (inl (w, q, f)) = e ∙
     (ap text (one-meant law line limit v w p q) ∙ sym f)
-one-of law text line limit a b (inl (v, p, e)) (inr (r, m, h, f)) =
-    absurd (refused_means_nothing law Any line limit r v m h p)
-one-of law text line limit a b (inr (r, m, h, e)) (inl (v, p, f)) =
-    absurd (refused_means_nothing law Any line limit r v m h p)
-one-of law text line limit a b (inr (r, m, h, e)) (inr (s, n, i, f)) =
-    e ∙ (one_answer law Any line limit (refused_text r) (refused_text s) (refusal_is_answered Any line limit r m h)
-    (refusal_is_answered Any line limit s n i) ∙ sym f)
+one-of law text line limit a b (inl (v, p, e)) (inr (r, h, m, f)) =
+    absurd (refused_means_nothing law Any line limit r v (not-memory r m) h p)
+one-of law text line limit a b (inr (r, h, m, e)) (inl (v, p, f)) =
+    absurd (refused_means_nothing law Any line limit r v (not-memory r m) h p)
+one-of law text line limit a b (inr (r, h, m, e)) (inr (s, i, n, f)) =
+    e ∙ (one_answer law Any line limit (refused_text r) (refused_text s)
+    (refusal_is_answered Any line limit r (not-memory r m) h) (refusal_is_answered Any line limit s (not-memory s n) i)
+    ∙ sym f)
 
 -- the text of a tree's form, or why there is none
 abbrev tree_form_text : KeyOrder → Tree → List ℕ
@@ -71,27 +71,19 @@ tree_form_text order v = form_text (deterministic_form order v)
 form-or-refusal : (order : KeyOrder) (line : List ℕ) (limit : ℕ) (answer : List ℕ) →
     IsFormAnswer order line limit answer →
     IsTextOrRefusal (tree_form_text order) line limit answer
-form-or-refusal order line limit answer (formed (v, u, means, form, same)) =
+form-or-refusal order line limit answer (inl (v, u, means, form, same)) =
     inl (v, means, same ∙ ap form_text (sym form))
-form-or-refusal order line limit answer (duplicate v means none same) = inl (v, means, same ∙ ap form_text (sym none))
-form-or-refusal order line limit answer (too_large v means none same) = inl (v, means, same ∙ ap form_text (sym none))
-form-or-refusal order line limit answer (no_item e m h same) = inr (e, m, h, same)
+form-or-refusal order line limit answer (inr (inl (v, k, means, none, same))) =
+    inl (v, means, same ∙ ap form_text (sym none))
+form-or-refusal order line limit answer (inr (inr h)) = inr h
 
 pub one_form_answer : DeterministicLaw → OneFormAnswer
 one_form_answer law order line limit a b p q =
     one-of law (tree_form_text order) line limit a b (form-or-refusal order line limit a p)
     (form-or-refusal order line limit b q)
 
-notation-or-refusal : (layout : Layout) (line : List ℕ) (limit : ℕ) (answer : List ℕ) →
-    IsNotationAnswer layout line limit answer →
-    IsTextOrRefusal (notation_text layout) line limit answer
-notation-or-refusal layout line limit answer (shown h) = inl h
-notation-or-refusal layout line limit answer (unshown e m h same) = inr (e, m, h, same)
-
 pub one_notation_answer : DeterministicLaw → OneNotationAnswer
-one_notation_answer law layout line limit a b p q =
-    one-of law (notation_text layout) line limit a b (notation-or-refusal layout line limit a p)
-    (notation-or-refusal layout line limit b q)
+one_notation_answer law layout line limit a b p q = one-of law (notation_text layout) line limit a b p q
 
 -- ---- each line means a tree or is refused
 
@@ -106,23 +98,23 @@ reason-of refusal.NotFolded = (reasons.NotFolded, refl)
 reason-of refusal.KeyOrder = (reasons.KeyOrder, refl)
 
 -- what refuses some bytes, as the program names it
-named : (b : List ℕ) (limit : ℕ) (e : refusal.Refusal) → RefusesItem Any b limit e → (r : Refusal) × (r ≢ Memory) ×
+named : (b : List ℕ) (limit : ℕ) (e : refusal.Refusal) → RefusesItem Any b limit e → (r : Refusal) × (wants_memory r ≡ false) ×
     AreRefused Any b limit r
-named b limit refusal.io h = (Io, not-memory Io refl, h)
-named b limit (refusal.syntax p) h = (Syntax p, not-memory (Syntax p) refl, h)
-named b limit refusal.too_long h = (TooLong, not-memory TooLong refl, h)
+named b limit refusal.io h = (Io, refl, h)
+named b limit (refusal.syntax p) h = (Syntax p, refl, h)
+named b limit refusal.too_long h = (TooLong, refl, h)
 named b limit (refusal.semantic p k) h =
     let (reason, same) = reason-of k in (
       Semantic p reason,
-      not-memory (Semantic p reason) refl,
+      refl,
       subst (λ (j : refusal.Kind). RefusesItem Any b limit (refusal.semantic p j)) (sym same) h,
     )
-named b limit refusal.recursion_limit_exceeded h = (Nesting, not-memory Nesting refl, h)
+named b limit refusal.recursion_limit_exceeded h = (Nesting, refl, h)
 
 -- a line means a tree, or is refused
 abbrev IsMeantOrRefused : List ℕ → ℕ → Type 0
 IsMeantOrRefused line limit = ((v : Tree) × IsMeant Any line limit v) ⊎
-    ((e : Refusal) × (e ≢ Memory) × IsRefused Any line limit e)
+    ((e : Refusal) × (wants_memory e ≡ false) × IsRefused Any line limit e)
 
 meant-by : (line b : List ℕ) (limit : ℕ) (v : Tree) → decode_of line ≡ Ok b → IsItem Any b limit v →
     IsMeant Any line limit v
@@ -139,7 +131,7 @@ begun line b limit d (v, [], (s, item, e)) =
 begun line b limit d (v, (x ∷ left), before) =
     inr (
       Trailing (length (x ∷ left)),
-      not-memory (Trailing (length (x ∷ left))) refl,
+      refl,
       (b, d, (v, x ∷ left, before, omega arith, refl)),
     )
 
@@ -155,17 +147,17 @@ meant-or-refused law line limit = by (decode_of line) refl
   where
     by : (d : Result (List ℕ) FromHexError) → decode_of line ≡ d → IsMeantOrRefused line limit
     by (Ok b) d = of-bytes law line b limit d
-    by (Err x) d = inr (Hex, not-memory Hex refl, ap is_err d)
+    by (Err x) d = inr (Hex, refl, ap is_err d)
 
 formed-or-not : (order : KeyOrder) (line : List ℕ) (limit : ℕ) (v : Tree) → IsMeant Any line limit v →
     (answer : List ℕ) × IsFormAnswer order line limit answer
 formed-or-not order line limit v means =
     elim (form_or_refused order v) [
-      | inl g ↦ (tree_text g.0, formed (v, g.0, means, g.1, refl))
+      | inl g ↦ (tree_text g.0, inl (v, g.0, means, g.1, refl))
       | inr r ↦
           elim r [
-            | inl e ↦ (formless_text kinds.DuplicateKey, duplicate v means e refl)
-            | inr e ↦ (formless_text kinds.TooLarge, too_large v means e refl)
+            | inl e ↦ (formless_text kinds.DuplicateKey, inr (inl (v, kinds.DuplicateKey, means, e, refl)))
+            | inr e ↦ (formless_text kinds.TooLarge, inr (inl (v, kinds.TooLarge, means, e, refl)))
           ]
     ]
 
@@ -173,12 +165,12 @@ pub is_form_answered : DeterministicLaw → IsFormAnswered
 is_form_answered law order line limit =
     elim (meant-or-refused law line limit) [
       | inl g ↦ formed-or-not order line limit g.0 g.1
-      | inr r ↦ (refused_text r.0, no_item r.0 r.1 r.2 refl)
+      | inr r ↦ (refused_text r.0, inr (inr (r.0, r.2, r.1, refl)))
     ]
 
 pub is_notation_answered : DeterministicLaw → IsNotationAnswered
 is_notation_answered law layout line limit =
     elim (meant-or-refused law line limit) [
-      | inl g ↦ (notation_text layout g.0, shown (g.0, g.1, refl))
-      | inr r ↦ (refused_text r.0, unshown r.0 r.1 r.2 refl)
+      | inl g ↦ (notation_text layout g.0, inl (g.0, g.1, refl))
+      | inr r ↦ (refused_text r.0, inr (r.0, r.2, r.1, refl))
     ]

@@ -1,16 +1,14 @@
 -- What the program answers to a line of hex by the deterministic form of its item (RFC 8949,
 -- section 4.2). Texts are lists of bytes.
-use Rattle.std.specs.Prelude.{◌≡◌, ◌≢◌, ℕ, List, codes}
+use Rattle.std.specs.Prelude.{◌≡◌, ◌⊎◌, ℕ, List, codes}
 use Rattle.ciborium_value.specs.DeterministicForms.{deterministic_form}
 use Rattle.ciborium_value.specs.Taken.{gives, refuses}
 use Rattle.ciborium_value.specs.Tree.{Tree}
 use Rattle.ciborium_value.specs.declared.key_order.KeyOrder.{KeyOrder}
 use Rattle.ciborium_value.specs.declared.kind.Kind.{Kind}
 use Rattle.ciborium_value.specs.declared.kind.Kind.TheVariants as kinds
-use Rattle.cbor.specs.declared.answer.Refusal.{Refusal}
-use Rattle.cbor.specs.declared.answer.Refusal.TheVariants.{Memory}
 use Rattle.cbor.specs.declared.reading.Spelling.TheVariants.{Any}
-use Rattle.cbor.specs.Answer.{IsMeant, IsRefused, refused_text}
+use Rattle.cbor.specs.Answer.{IsMeant, TellsRefusal}
 use Rattle.cbor.specs.Line.{tree_text}
 
 -- why a tree has no form, in a word
@@ -25,23 +23,18 @@ IsFormText order line limit text =
     (v : Tree) × (u : Tree) × IsMeant Any line limit v × (deterministic_form order v ≡ gives u) ×
     (text ≡ tree_text u)
 
+-- a line is such an item, which has no form, and the text is the word for why
+abbrev pub IsFormless : KeyOrder → List ℕ → ℕ → List ℕ → Type 0
+IsFormless order line limit text =
+    (v : Tree) × (k : Kind) × IsMeant Any line limit v × (deterministic_form order v ≡ refuses k) ×
+    (text ≡ formless_text k)
+
+-- the text tells why a line has none: its item has no form, or it is no item
+abbrev pub TellsNoForm : KeyOrder → List ℕ → ℕ → List ℕ → Type 0
+TellsNoForm order line limit text = IsFormless order line limit text ⊎
+    TellsRefusal Any line limit text
+
 -- the text answers a line
-pub data IsFormAnswer (order : KeyOrder) (line : List ℕ) (limit : ℕ) (answer : List ℕ) : Type 0
-  where
-    -- it is an item that has a form
-    formed : IsFormText order line limit answer → IsFormAnswer order line limit answer
-    -- it is an item that has none, since two keys of a map have one form
-    duplicate : (v : Tree) → IsMeant Any line limit v →
-        deterministic_form order v ≡ refuses kinds.DuplicateKey →
-        answer ≡ formless_text kinds.DuplicateKey →
-        IsFormAnswer order line limit answer
-    -- it is an item that has none, since a bignum of at most 16 bytes is negative and no `i128`
-    -- holds
-    -- it
-    too_large : (v : Tree) → IsMeant Any line limit v →
-        deterministic_form order v ≡ refuses kinds.TooLarge →
-        answer ≡ formless_text kinds.TooLarge →
-        IsFormAnswer order line limit answer
-    -- it is no item
-    no_item : (e : Refusal) → e ≢ Memory → IsRefused Any line limit e → answer ≡ refused_text e →
-        IsFormAnswer order line limit answer
+abbrev pub IsFormAnswer : KeyOrder → List ℕ → ℕ → List ℕ → Type 0
+IsFormAnswer order line limit text = IsFormText order line limit text ⊎
+    TellsNoForm order line limit text

@@ -1,18 +1,20 @@
 -- Lines of the input, and what is written where each is an item, a sequence, or an item that has a
 -- form.
-use Rattle.std.specs.Prelude.{◌≡◌, ◌⊎◌, ℕ, ◌<◌, ◌==◌, Bool, List, [], ◌∷◌, ◌++◌, length, codes}
-use Rattle.std.specs.Prelude.{Option, Some}
-use Rattle.std.specs.List.{flat_map, list_any}
+use Rattle.std.specs.Prelude.{◌≡◌, ◌⊎◌, ℕ, ◌<◌, ◌==◌, Bool, false, List, [], ◌∷◌, ◌++◌, length}
+use Rattle.std.specs.Prelude.{codes, Option, Some}
+use Rattle.std.specs.Bool.{MatchBool}
+use Rattle.std.specs.List.{flat_map, list_all, list_any}
 use Rattle.std.specs.Io.BufRead.{first_piece, drop_through, strip_last}
 use Rattle.ciborium_value.specs.Tree.{Tree}
 use Rattle.cbor.specs.declared.reading.Reading.{Reading}
 use Rattle.cbor.specs.declared.reading.Reading.TheVariants.{Item, Sequence, Form, Notation}
 use Rattle.cbor.specs.declared.reading.Spelling.{Spelling}
-use Rattle.cbor.specs.Answer.{IsMeant}
-use Rattle.cbor.specs.Forms.{IsFormAnswer, IsFormText}
-use Rattle.cbor.specs.Line.{IsLineAnswer, tree_text}
-use Rattle.cbor.specs.Sequence.{IsSequenceAnswer, IsSequenceOf, sequence_text}
-use Rattle.cbor.specs.Shown.{IsNotationAnswer, IsNotationText}
+use Rattle.cbor.specs.declared.reading.Spelling.TheVariants.{Any}
+use Rattle.cbor.specs.Answer.{IsMeant, TellsRefusal}
+use Rattle.cbor.specs.Forms.{IsFormText, TellsNoForm}
+use Rattle.cbor.specs.Line.{tree_text}
+use Rattle.cbor.specs.Sequence.{IsSequenceText, TellsNoSequence}
+use Rattle.cbor.specs.Shown.{IsNotationText}
 
 -- the first line of b: what stands before the first line feed, or all of b, without one carriage
 -- return at its end
@@ -34,22 +36,26 @@ abbrev pub AreMeant : Spelling → List ℕ → ℕ → List ℕ → List Tree �
 AreMeant spelling b limit rest trees = AreLines (λ line tree. IsMeant spelling line limit tree) b
     rest trees
 
--- the text answers a line that is read so
-abbrev pub AnswersLine : Reading → List ℕ → List ℕ → Type 0
-AnswersLine (Item spelling limit) line text = IsLineAnswer spelling line limit text
-AnswersLine Sequence line text = IsSequenceAnswer line 256 text
-AnswersLine (Form order limit) line text = IsFormAnswer order line limit text
-AnswersLine (Notation layout limit) line text = IsNotationAnswer layout line limit text
-
 -- a line is an item, a sequence, or an item that has a form, as it is read, and the text is the
 -- answer that says so
 abbrev pub IsOkText : Reading → List ℕ → List ℕ → Type 0
 IsOkText (Item spelling limit) line text = (v : Tree) × IsMeant spelling line limit v ×
     (text ≡ tree_text v)
-IsOkText Sequence line text = (trees : List Tree) × IsSequenceOf line 256 trees ×
-    (text ≡ sequence_text trees)
+IsOkText Sequence line text = IsSequenceText line 256 text
 IsOkText (Form order limit) line text = IsFormText order line limit text
 IsOkText (Notation layout limit) line text = IsNotationText layout line limit text
+
+-- it is not, and the text is the answer that says why
+abbrev pub IsRefusedText : Reading → List ℕ → List ℕ → Type 0
+IsRefusedText (Item spelling limit) line text = TellsRefusal spelling line limit text
+IsRefusedText Sequence line text = TellsNoSequence line 256 text
+IsRefusedText (Form order limit) line text = TellsNoForm order line limit text
+IsRefusedText (Notation layout limit) line text = TellsRefusal Any line limit text
+
+-- the text answers a line that is read so, and says whether it is as it is asked for
+abbrev pub AnswersLine : Reading → List ℕ → Bool → List ℕ → Type 0
+AnswersLine reading line is_ok text =
+    MatchBool is_ok (IsOkText reading line text) (IsRefusedText reading line text)
 
 -- a text, and a line feed
 abbrev pub text_line : List ℕ → List ℕ
@@ -60,23 +66,29 @@ abbrev pub memory_text : List ℕ
 memory_text = codes "memory"
 
 -- the text answers a line that is read so, or says that memory was refused for it
-abbrev pub MayBeAnswer : Reading → List ℕ → List ℕ → Type 0
-MayBeAnswer reading line text = AnswersLine reading line text ⊎ (text ≡ memory_text)
+abbrev pub MayBeAnswer : Reading → List ℕ → Bool → List ℕ → Type 0
+MayBeAnswer reading line is_ok text = AnswersLine reading line is_ok text ⊎
+    ((is_ok ≡ false) × (text ≡ memory_text))
 
--- there is a text for each line of b, in order, Is holds of the line and its text, and the texts
--- are put behind w, a line each
-abbrev pub AreLinesWritten : (List ℕ → List ℕ → Type 0) → List ℕ → List ℕ → Option (List ℕ) → Type 0
-AreLinesWritten Is b w after = (texts : List (List ℕ)) × AreLines Is b [] texts ×
-    (after ≡ Some (w ++ flat_map text_line texts))
+-- so is each line of b up to the rest, in order, by these texts, each with whether its line is as
+-- it is asked for
+abbrev pub AreAnsweredBy : Reading → List ℕ → List ℕ → List (Bool × List ℕ) → Type 0
+AreAnsweredBy reading b rest answers =
+    AreLines (λ line a. MayBeAnswer reading line a.0 a.1) b rest answers
 
--- each line of b is answered, be it refused or not, and the answers are put behind w
-abbrev pub AreAnswered : Reading → List ℕ → List ℕ → Option (List ℕ) → Type 0
-AreAnswered reading b w after = AreLinesWritten (MayBeAnswer reading) b w after
+-- whether each line is as it is asked for, and the texts, a line each
+abbrev pub all_ok : List (Bool × List ℕ) → Bool
+all_ok answers = list_all (λ a. a.0) answers
 
--- each line of b is an item, a sequence, or an item that has a form, as it is read, and the answers
--- that say so are put behind w
-abbrev pub AreOk : Reading → List ℕ → List ℕ → Option (List ℕ) → Type 0
-AreOk reading b w after = AreLinesWritten (IsOkText reading) b w after
+abbrev pub answer_lines : List (Bool × List ℕ) → List ℕ
+answer_lines answers = flat_map (λ a. text_line a.1) answers
+
+-- each line of b is answered, and the answers are put behind w; all says whether each line is as it
+-- is asked for
+abbrev pub AreAnswered : Reading → List ℕ → List ℕ → Bool → Option (List ℕ) → Type 0
+AreAnswered reading b w all after = (answers : List (Bool × List ℕ)) ×
+    AreAnsweredBy reading b [] answers × (all ≡ all_ok answers) ×
+    (after ≡ Some (w ++ answer_lines answers))
 
 -- a line feed stands in b
 abbrev pub holds_line : List ℕ → Bool

@@ -1,8 +1,8 @@
 -- CBOR sequences (RFC 8742, section 2): items one after the other, with nothing between them. And
 -- what the program answers to a line of
 -- hex that is read as one. Texts are lists of bytes.
-use Rattle.std.specs.Prelude.{◌≡◌, ℕ, ◌+◌, ◌<◌, List, [], ◌∷◌, ◌++◌, length, MatchResult, codes}
-use Rattle.std.specs.Prelude.{decimal}
+use Rattle.std.specs.Prelude.{◌≡◌, ◌⊎◌, ℕ, ◌+◌, ◌<◌, List, [], ◌∷◌, ◌++◌, length, MatchResult}
+use Rattle.std.specs.Prelude.{codes, decimal}
 use Rattle.std.specs.List.{flat_map}
 use Rattle.hex.specs.Hex.{decode_of, encode_lower}
 use Rattle.ciborium_ll.specs.Refusal.{Refusal}
@@ -20,11 +20,6 @@ AreItemsBefore b limit [] rest = b ≡ rest
 AreItemsBefore b limit (tree ∷ trees) rest = (left : List ℕ) × HasItemBefore Any b limit tree left ×
     AreItemsBefore left limit trees rest
 
--- a line is the hex of a sequence of items that mean these trees
-abbrev pub IsSequenceOf : List ℕ → ℕ → List Tree → Type 0
-IsSequenceOf line limit trees = MatchResult (decode_of line) (λ b. AreItemsBefore b limit trees [])
-    (λ _. ⊥)
-
 -- a space, and the encoding of a tree in lower-case hex (RFC 8949, section 4.1)
 abbrev pub item_text : Tree → List ℕ
 item_text v = codes " " ++ encode_lower (encoding v)
@@ -37,24 +32,33 @@ sequence_text trees = codes "ok" ++ flat_map item_text trees
 abbrev pub refused_item_text : ℕ → List ℕ → List ℕ
 refused_item_text n reason = codes "item " ++ (decimal n ++ (codes ": " ++ reason))
 
--- the bytes b, read as a sequence, have this answer
-pub data HasSequenceAnswer (b : List ℕ) (limit : ℕ) (answer : List ℕ) : Type 0 where
-  -- all of b is a sequence
-  whole : (trees : List Tree) → AreItemsBefore b limit trees [] → answer ≡ sequence_text trees →
-      HasSequenceAnswer b limit answer
-  -- behind items one after the other more bytes follow, and are refused
-  refused : (trees : List Tree) (rest : List ℕ) (e : Refusal) → AreItemsBefore b limit trees rest →
-      0 < length rest → RefusesItem Any rest limit e →
-      answer ≡ refused_item_text (length trees + 1) (refusal_text e) →
-      HasSequenceAnswer b limit answer
-
--- the text answers a line that is read as a sequence: its bytes, or `hex` where it is not an even
--- number of hex digits
-abbrev pub IsSequenceAnswer : List ℕ → ℕ → List ℕ → Type 0
-IsSequenceAnswer line limit answer = MatchResult (decode_of line)
-    (λ b. HasSequenceAnswer b limit answer) (λ _. answer ≡ hex_text)
-
 -- all of b is a sequence, and the text is the answer that says so
 abbrev pub AreSequence : List ℕ → ℕ → List ℕ → Type 0
 AreSequence b limit text = (trees : List Tree) × AreItemsBefore b limit trees [] ×
     (text ≡ sequence_text trees)
+
+-- behind items one after the other more bytes follow, and are refused, and the text says so
+abbrev pub AreNoSequence : List ℕ → ℕ → List ℕ → Type 0
+AreNoSequence b limit text =
+    (trees : List Tree) × (rest : List ℕ) × (e : Refusal) × AreItemsBefore b limit trees rest ×
+    (0 < length rest) × RefusesItem Any rest limit e ×
+    (text ≡ refused_item_text (length trees + 1) (refusal_text e))
+
+-- the bytes b, read as a sequence, have this answer
+abbrev pub HasSequenceAnswer : List ℕ → ℕ → List ℕ → Type 0
+HasSequenceAnswer b limit text = AreSequence b limit text ⊎ AreNoSequence b limit text
+
+-- the text answers a line that is read as a sequence: its bytes, or `hex` where it is not an even
+-- number of hex digits
+abbrev pub IsSequenceAnswer : List ℕ → ℕ → List ℕ → Type 0
+IsSequenceAnswer line limit text = MatchResult (decode_of line)
+    (λ b. HasSequenceAnswer b limit text) (λ _. text ≡ hex_text)
+
+-- the same where the line is a sequence, and where it is none
+abbrev pub IsSequenceText : List ℕ → ℕ → List ℕ → Type 0
+IsSequenceText line limit text = MatchResult (decode_of line) (λ b. AreSequence b limit text)
+    (λ _. ⊥)
+
+abbrev pub TellsNoSequence : List ℕ → ℕ → List ℕ → Type 0
+TellsNoSequence line limit text = MatchResult (decode_of line) (λ b. AreNoSequence b limit text)
+    (λ _. text ≡ hex_text)

@@ -1,17 +1,15 @@
 -- How items are shown. Texts are lists of bytes.
-use Rattle.std.specs.Prelude.{◌≡◌, ◌≢◌, ℕ, List}
+use Rattle.std.specs.Prelude.{◌≡◌, ◌⊎◌, ℕ, List}
 use Rattle.hex.specs.Hex.{encode_lower}
 use Rattle.ciborium_value.specs.Encoding.{encoding}
 use Rattle.ciborium_value.specs.Notation.{indented_notation, notation}
 use Rattle.ciborium_value.specs.Tree.{Tree}
-use Rattle.cbor.specs.declared.answer.Refusal.{Refusal}
-use Rattle.cbor.specs.declared.answer.Refusal.TheVariants.{Memory}
 use Rattle.cbor.specs.declared.reading.Layout.{Layout}
 use Rattle.cbor.specs.declared.reading.Layout.TheVariants.{OneLine, Indented}
 use Rattle.cbor.specs.declared.reading.Showing.{Showing}
 use Rattle.cbor.specs.declared.reading.Showing.TheVariants.{Encoding, Notation}
 use Rattle.cbor.specs.declared.reading.Spelling.TheVariants.{Any}
-use Rattle.cbor.specs.Answer.{IsMeant, IsRefused, refused_text}
+use Rattle.cbor.specs.Answer.{IsMeant, TellsRefusal}
 
 -- the diagnostic notation of a tree, laid out so (RFC 8949, section 8)
 abbrev pub notation_text : Layout → Tree → List ℕ
@@ -29,10 +27,6 @@ IsNotationText layout line limit text = (v : Tree) × IsMeant Any line limit v �
     (text ≡ notation_text layout v)
 
 -- the text answers a line
-pub data IsNotationAnswer (layout : Layout) (line : List ℕ) (limit : ℕ) (answer : List ℕ) : Type 0
-  where
-    -- it is an item
-    shown : IsNotationText layout line limit answer → IsNotationAnswer layout line limit answer
-    -- it is no item
-    unshown : (e : Refusal) → e ≢ Memory → IsRefused Any line limit e → answer ≡ refused_text e →
-        IsNotationAnswer layout line limit answer
+abbrev pub IsNotationAnswer : Layout → List ℕ → ℕ → List ℕ → Type 0
+IsNotationAnswer layout line limit text = IsNotationText layout line limit text ⊎
+    TellsRefusal Any line limit text

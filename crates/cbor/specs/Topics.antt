@@ -1,5 +1,7 @@
--- What the program tells of itself, by its bytes.
+-- What the program tells of itself and of faults, by its bytes.
 use Rattle.std.specs.Prelude.{ℕ, List, ◌++◌, codes}
+use Rattle.cbor.specs.declared.fault.Fault.{Fault}
+use Rattle.cbor.specs.declared.fault.Fault.TheVariants as faults
 use Rattle.cbor.specs.declared.command.Topic.{Topic}
 use Rattle.cbor.specs.declared.command.Topic.TheVariants.{Help, Version}
 
@@ -9,7 +11,7 @@ topic_text Help =
     codes "with --binary, as bytes\n" ++
     codes "\n" ++
     codes "  cbor read [--det [--core]] [limit]    " ++
-    codes "each item's shortest encoding: 1800 gives ok 00\n" ++
+    codes "each item's shortest definite encoding: 1800 gives ok 00\n" ++
     codes "  cbor canon [--core] [limit]           " ++
     codes "its deterministic one: bf02000100ff gives ok a201000200\n" ++
     codes "  cbor diag [--indent] [limit]          " ++
@@ -25,6 +27,13 @@ topic_text Help =
     codes "\n" ++
     codes "--det takes deterministic encodings alone, whose keys are " ++
     codes "length-first or, with --core, bytewise.\n" ++
+    codes "A bignum of more than 16 bytes is taken and written as it stands, " ++
+    codes "even with zeros at its front.\n" ++
     codes "At most 256 levels are nested, or as many as the limit says. Status " ++
     codes "1: something was refused.\n"
 topic_text Version = codes "cbor 0.3.0\n"
+
+abbrev pub fault_text : Fault → List ℕ
+fault_text faults.Input = codes "input failed\n"
+fault_text faults.Output = codes "output failed\n"
+fault_text faults.Memory = codes "memory\n"

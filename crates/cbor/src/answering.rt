@@ -1,18 +1,17 @@
 //! Lines that are answered, one by one.
 
-ghost use Rattle.std.specs.Prelude.{◌≡◌, ◌⊎◌, ◌++◌, ℕ, IfNone, IfOk, IfSome, IsTrue, List, OnOk};
-ghost use Rattle.std.specs.Prelude.{Some, false};
+ghost use Rattle.std.specs.Prelude.{◌≡◌, ◌⊎◌, ◌++◌, ℕ, IfNone, IfOk, IfSome, List, OnOk, Some, false};
+ghost use Rattle.std.specs.Prelude.{string_bytes};
 ghost use Rattle.std.specs.Io.Buffered.{reader_remaining};
 ghost use Rattle.std.specs.Io.KnownBytes.{append_known};
 ghost use Rattle.ciborium_value.specs.View.{tree_of};
+ghost use Rattle.ciborium_value.specs.declared.key_order.KeyOrder.TheVariants.{LengthFirst};
 ghost use Rattle.ciborium_value.specs.declared.kind.Kind.TheVariants.{DuplicateKey, TooLarge};
 ghost use Rattle.cbor.specs.Answer.{IsMeant, TellsRefusal, refused_text, wants_memory};
-ghost use Rattle.cbor.specs.Forms.{IsFormAnswer, formless_text};
+ghost use Rattle.cbor.specs.Forms.{formless_text};
 ghost use Rattle.cbor.specs.Line.{IsLineAnswer, tree_text};
-ghost use Rattle.cbor.specs.Lines.{AnswersLine, AreAnswered, AreOk, IsOkText, MayBeAnswer};
-ghost use Rattle.cbor.specs.Lines.{text_line};
+ghost use Rattle.cbor.specs.Lines.{AnswersLine, AreAnswered, MayBeAnswer, text_line};
 ghost use Rattle.cbor.specs.Sequence.{IsSequenceAnswer};
-ghost use Rattle.cbor.specs.Shown.{IsNotationAnswer};
 ghost use Rattle.cbor.specs.declared.reading.Reading.TheVariants.{Form, Item, Notation, Sequence};
 ghost use Rattle.cbor.specs.declared.reading.Spelling.TheVariants.{Any, Deterministic};
 
@@ -29,64 +28,74 @@ use ciborium_value::{KeyOrder, Kind, Value};
 use std::alloc::{AllocError, Global};
 use std::io::{BufReader, Read, Write};
 
-/// Makes `rooms.text` the answer to a line, within this many levels: `hex` where it is not an even
-/// number of hex digits of either case; `ok` and the encoding in lower-case hex where its bytes are
-/// one item; `trailing` and the number of bytes after the item where more follow it; and otherwise
-/// why the bytes are refused: `io`, `syntax` and an offset, `semantic`, an offset and a word,
-/// `nesting`, or `toolong`. Says whether the line is an item.
+/// The answer to a line, within this many levels: `hex` where it is not an even number of hex digits
+/// of either case; `ok` and the encoding in lower-case hex where its bytes are one item; `trailing`
+/// and the number of bytes after the item where more follow it; and otherwise why the bytes are
+/// refused: `io`, `syntax` and an offset, `semantic`, an offset and a word, `nesting`, or `toolong`.
 ///
 /// # Errors
 ///
 /// `AllocError` where an allocation fails.
-pub fn answer_line(
-    alloc: Global,
-    line: &[u8],
-    limit: usize,
-    rooms: &mut Rooms,
-) -> Result<bool, AllocError>
-    ensures answer { OnOk result (IsLineAnswer Any line.now limit rooms.new.text.items) }
-    ensures item { IfOk result (λ is_ok. IsTrue is_ok →
-        IsOkText (Item Any limit) line.now rooms.new.text.items) }
+pub fn answer_line(alloc: Global, line: &[u8], limit: usize) -> Result<String, AllocError>
+    ensures { IfOk result (λ text. IsLineAnswer Any line.now limit (string_bytes text)) }
 {
-    answer_item(alloc, line, Spelling::Any, limit, rooms)
+    answer_alone(alloc, line, Spelling::Any, limit)
 }
 
-/// Answers a line as `answer_line` does, but accepts only the deterministic encoding of an item
-/// (RFC 8949, section 4.2), whose maps have their keys in this order. For other bytes the word
-/// after `semantic` may also be `open`, `notshortest`, `notfolded` or `keyorder`.
+/// The answer to a line as `answer_line` gives it, but only the deterministic encoding of an item
+/// is accepted (RFC 8949, section 4.2), whose maps have their keys in the canonical order. For
+/// other bytes the word after `semantic` may also be `open`, `notshortest`, `notfolded` or
+/// `keyorder`.
 ///
 /// # Errors
 ///
 /// `AllocError` where an allocation fails.
-pub fn answer_line_det(
-    alloc: Global,
-    line: &[u8],
-    order: KeyOrder,
-    limit: usize,
-    rooms: &mut Rooms,
-) -> Result<bool, AllocError>
-    ensures answer { OnOk result
-        (IsLineAnswer (Deterministic order) line.now limit rooms.new.text.items) }
-    ensures item { IfOk result (λ is_ok. IsTrue is_ok →
-        IsOkText (Item (Deterministic order) limit) line.now rooms.new.text.items) }
+pub fn answer_line_det(alloc: Global, line: &[u8], limit: usize) -> Result<String, AllocError>
+    ensures { IfOk result (λ text.
+        IsLineAnswer (Deterministic LengthFirst) line.now limit (string_bytes text)) }
 {
-    answer_item(alloc, line, Spelling::Deterministic(order), limit, rooms)
+    answer_alone(
+        alloc,
+        line,
+        Spelling::Deterministic(KeyOrder::LengthFirst),
+        limit,
+    )
 }
 
-/// Makes `rooms.text` the answer to a line that is read as a sequence (RFC 8742), items one after
-/// the other: `hex` where it is not an even number of hex digits; `ok`, and a space and the
-/// encoding in lower-case hex of each item, where its bytes are good items within 256 levels each;
-/// otherwise `item`, the number of the first item that is refused, counted from 1, a colon, and the
-/// reason, as in `answer_line`, with the offset counted inside that item. Says whether the line is
-/// a sequence.
+/// The answer to a line that is read as a sequence (RFC 8742), items one after the other: `hex`
+/// where it is not an even number of hex digits; `ok`, and a space and the encoding in lower-case
+/// hex of each item, where its bytes are good items within 256 levels each; otherwise `item`, the
+/// number of the first item that is refused, counted from 1, a colon, and the reason, as in
+/// `answer_line`, with the offset counted inside that item.
 ///
 /// # Errors
 ///
 /// `AllocError` where an allocation fails.
-pub fn answer_seq(alloc: Global, line: &[u8], rooms: &mut Rooms) -> Result<bool, AllocError>
-    ensures answer { OnOk result (IsSequenceAnswer line.now 256 rooms.new.text.items) }
-    ensures sequence { IfOk result (λ is_ok. IsTrue is_ok →
-        IsOkText Sequence line.now rooms.new.text.items) }
+pub fn answer_seq(alloc: Global, line: &[u8]) -> Result<String, AllocError>
+    ensures { IfOk result (λ text. IsSequenceAnswer line.now 256 (string_bytes text)) }
+{
+    let mut rooms = Rooms::new(alloc);
+    answer_sequence(alloc, line, &mut rooms)?;
+    rooms.into_answer()
+}
+
+// The answer to a line that is read as one item, by buffers of its own.
+fn answer_alone(
+    alloc: Global,
+    line: &[u8],
+    spelling: Spelling,
+    limit: usize,
+) -> Result<String, AllocError>
+    ensures { IfOk result (λ text. IsLineAnswer spelling line.now limit (string_bytes text)) }
+{
+    let mut rooms = Rooms::new(alloc);
+    answer_item(alloc, line, spelling, limit, &mut rooms)?;
+    rooms.into_answer()
+}
+
+// Makes `rooms.text` the answer to a line that is read as a sequence, and says whether it is one.
+fn answer_sequence(alloc: Global, line: &[u8], rooms: &mut Rooms) -> Result<bool, AllocError>
+    ensures { IfOk result (λ is_ok. AnswersLine Sequence line.now is_ok rooms.new.text.items) }
 {
     match decode_line(line, &mut rooms.bytes) {
         Ok(()) => answer_items(alloc, &rooms.bytes, &mut rooms.encoding, &mut rooms.text),
@@ -97,25 +106,20 @@ pub fn answer_seq(alloc: Global, line: &[u8], rooms: &mut Rooms) -> Result<bool,
     }
 }
 
-/// Answers a line as `answer_line` does, but with the deterministic encoding of its item (RFC 8949,
-/// section 4.2), however the line spells it: bignums are folded, and the pairs of each map, inner
-/// maps first, sorted by their keys in this order. An item that has none is answered `duplicate`,
-/// where two keys of a map have the same form, or `toolarge`, where a bignum of at most 16 bytes is
-/// negative and no `i128` holds it. Says whether the line is an item that has such an encoding.
-///
-/// # Errors
-///
-/// `AllocError` where an allocation fails.
-pub fn answer_canon(
+// Answers a line as `answer_item` does, but with the deterministic encoding of its item (RFC 8949,
+// section 4.2), however the line spells it: bignums are folded, and the pairs of each map, inner
+// maps first, sorted by their keys in this order. An item that has none is answered `duplicate`,
+// where two keys of a map have the same form, or `toolarge`, where a bignum of at most 16 bytes is
+// negative and no `i128` holds it. Says whether the line is an item that has such an encoding.
+fn answer_canon(
     alloc: Global,
     line: &[u8],
     order: KeyOrder,
     limit: usize,
     rooms: &mut Rooms,
 ) -> Result<bool, AllocError>
-    ensures answer { OnOk result (IsFormAnswer order line.now limit rooms.new.text.items) }
-    ensures item { IfOk result (λ is_ok. IsTrue is_ok →
-        IsOkText (Form order limit) line.now rooms.new.text.items) }
+    ensures { IfOk result (λ is_ok.
+        AnswersLine (Form order limit) line.now is_ok rooms.new.text.items) }
 {
     let Some(mut value) = read_or_refuse(alloc, line, Spelling::Any, limit, rooms)? else {
         return Ok(false);
@@ -133,22 +137,17 @@ pub fn answer_canon(
     }
 }
 
-/// Answers a line as `answer_line` does, but an item with its diagnostic notation (RFC 8949,
-/// section 8) in this layout, with nothing before it. Says whether the line is an item.
-///
-/// # Errors
-///
-/// `AllocError` where an allocation fails.
-pub fn answer_diag(
+// Answers a line as `answer_item` does, but an item with its diagnostic notation (RFC 8949, section
+// 8) in this layout, with nothing before it. Says whether the line is an item.
+fn answer_diag(
     alloc: Global,
     line: &[u8],
     layout: Layout,
     limit: usize,
     rooms: &mut Rooms,
 ) -> Result<bool, AllocError>
-    ensures answer { OnOk result (IsNotationAnswer layout line.now limit rooms.new.text.items) }
-    ensures item { IfOk result (λ is_ok. IsTrue is_ok →
-        IsOkText (Notation layout limit) line.now rooms.new.text.items) }
+    ensures { IfOk result (λ is_ok.
+        AnswersLine (Notation layout limit) line.now is_ok rooms.new.text.items) }
 {
     let Some(value) = read_or_refuse(alloc, line, Spelling::Any, limit, rooms)? else {
         return Ok(false);
@@ -170,7 +169,7 @@ fn name_want(kind: Kind) -> &'static [u8]
     }
 }
 
-// The answer to a line that is read as one item, and whether it is one.
+// Makes `rooms.text` the answer to a line that is read as one item, and says whether it is one.
 fn answer_item(
     alloc: Global,
     line: &[u8],
@@ -178,9 +177,8 @@ fn answer_item(
     limit: usize,
     rooms: &mut Rooms,
 ) -> Result<bool, AllocError>
-    ensures answer { OnOk result (IsLineAnswer spelling line.now limit rooms.new.text.items) }
-    ensures item { IfOk result (λ is_ok. IsTrue is_ok →
-        IsOkText (Item spelling limit) line.now rooms.new.text.items) }
+    ensures { IfOk result (λ is_ok.
+        AnswersLine (Item spelling limit) line.now is_ok rooms.new.text.items) }
 {
     let Some(value) = read_or_refuse(alloc, line, spelling, limit, rooms)? else {
         return Ok(false);
@@ -243,16 +241,11 @@ fn answer_reading(
     reading: Reading,
     rooms: &mut Rooms,
 ) -> Result<bool, AllocError>
-    ensures answer { OnOk result (AnswersLine reading line.now rooms.new.text.items) }
-    ensures asked { IfOk result (λ is_ok. IsTrue is_ok →
-        IsOkText reading line.now rooms.new.text.items) }
+    ensures { IfOk result (λ is_ok. AnswersLine reading line.now is_ok rooms.new.text.items) }
 {
     match reading {
-        Reading::Item(Spelling::Any, limit) => answer_line(alloc, line, limit, rooms),
-        Reading::Item(Spelling::Deterministic(order), limit) => {
-            answer_line_det(alloc, line, order, limit, rooms)
-        }
-        Reading::Sequence => answer_seq(alloc, line, rooms),
+        Reading::Item(spelling, limit) => answer_item(alloc, line, spelling, limit, rooms),
+        Reading::Sequence => answer_sequence(alloc, line, rooms),
         Reading::Form(order, limit) => answer_canon(alloc, line, order, limit, rooms),
         Reading::Notation(layout, limit) => answer_diag(alloc, line, layout, limit, rooms),
     }
@@ -271,12 +264,8 @@ pub fn answer_lines<R: Read, W: Write>(
     reading: Reading,
     output: &mut W,
 ) -> Result<bool, Fault>
-    ensures answered { (b w : List ℕ) → R.remaining input.old ≡ Some b →
-        W.contents output.old ≡ Some w →
-        OnOk result (AreAnswered reading b w (W.contents output.new)) }
-    ensures ok { (b w : List ℕ) → R.remaining input.old ≡ Some b →
-        W.contents output.old ≡ Some w →
-        IfOk result (λ all. IsTrue all → AreOk reading b w (W.contents output.new)) }
+    ensures { (b w : List ℕ) → R.remaining input.old ≡ Some b → W.contents output.old ≡ Some w →
+        IfOk result (λ all. AreAnswered reading b w all (W.contents output.new)) }
 {
     let Ok(mut reader) = BufReader::new(alloc, input) else {
         return Err(Fault::Memory);
@@ -295,13 +284,9 @@ fn put_answers<R: Read, W: Write>(
     waiting: &mut Vec<u8>,
     output: &mut W,
 ) -> Result<bool, Fault>
-    ensures answered { (b w : List ℕ) → reader_remaining R.remaining reader.old ≡ Some b →
-        append_known (W.contents output.old) waiting.old.items ≡ Some w → OnOk result
-        (AreAnswered reading b w (append_known (W.contents output.new) waiting.new.items)) }
-    ensures ok { (b w : List ℕ) → reader_remaining R.remaining reader.old ≡ Some b →
-        append_known (W.contents output.old) waiting.old.items ≡ Some w →
-        IfOk result (λ all. IsTrue all →
-        AreOk reading b w (append_known (W.contents output.new) waiting.new.items)) }
+    ensures { (b w : List ℕ) → reader_remaining R.remaining reader.old ≡ Some b →
+        append_known (W.contents output.old) waiting.old.items ≡ Some w → IfOk result (λ all.
+        AreAnswered reading b w all (append_known (W.contents output.new) waiting.new.items)) }
 {
     let mut line = Vec::new(alloc);
     let mut rooms = Rooms::new(alloc);
@@ -311,7 +296,7 @@ fn put_answers<R: Read, W: Write>(
             return Ok(all_ok);
         }
         let is_ok = write_answer(alloc, &line, reading, &mut rooms, waiting, output)?;
-        all_ok = all_ok && is_ok;
+        all_ok &= is_ok;
     }
     Err(Fault::Input)
 }
@@ -326,13 +311,8 @@ fn write_answer<W: Write>(
     waiting: &mut Vec<u8>,
     output: &mut W,
 ) -> Result<bool, Fault>
-    ensures answered { (w : List ℕ) →
-        append_known (W.contents output.old) waiting.old.items ≡ Some w → OnOk result
-        ((text : List ℕ) × MayBeAnswer reading line.now text
-        × (append_known (W.contents output.new) waiting.new.items ≡ Some (w ++ text_line text))) }
-    ensures ok { (w : List ℕ) →
-        append_known (W.contents output.old) waiting.old.items ≡ Some w →
-        IfOk result (λ is_ok. IsTrue is_ok → (text : List ℕ) × IsOkText reading line.now text
+    ensures { (w : List ℕ) → append_known (W.contents output.old) waiting.old.items ≡ Some w →
+        IfOk result (λ is_ok. (text : List ℕ) × MayBeAnswer reading line.now is_ok text
         × (append_known (W.contents output.new) waiting.new.items ≡ Some (w ++ text_line text))) }
 {
     match answer_reading(alloc, line, reading, rooms) {

@@ -2,14 +2,13 @@
 
 ghost use Rattle.std.specs.Prelude.{◌≡◌};
 ghost use Rattle.cbor.specs.declared.fault.Fault.TheVariants.{Memory};
+ghost use Rattle.cbor.specs.Topics.{fault_text};
 
 use std::alloc::AllocError;
 
 /// What ends a run early.
 #[derive(Clone, Copy, Debug)]
 pub enum Fault {
-    /// The arguments could not be read.
-    Arguments,
     /// The input could not be read.
     Input,
     /// An answer could not be written.
@@ -28,9 +27,10 @@ impl From<AllocError> for Fault {
 
 impl Fault {
     /// The line that names it.
-    pub fn message(self) -> &'static str {
+    pub fn message(self) -> &'static str
+        ensures { result.now ≡ fault_text self }
+    {
         match self {
-            Fault::Arguments => "arguments failed\n",
             Fault::Input => "input failed\n",
             Fault::Output => "output failed\n",
             Fault::Memory => "memory\n",

@@ -24,7 +24,6 @@ mod test_devices;
 mod topics;
 mod words;
 
-use fault::Fault;
 use std::io::Lock;
 use std::process::ExitCode;
 use std::{env, io};
@@ -38,7 +37,7 @@ fn main(rt: HostRuntime) -> ExitCode {
             &mut rt.stdout().lock(),
             &mut rt.stderr().lock(),
         ),
-        Err(_) => run::report_fault(Fault::Arguments, &mut rt.stderr().lock()),
+        Err(_) => run::refuse_words(&mut rt.stderr().lock()),
     };
     ExitCode::from(status)
 }

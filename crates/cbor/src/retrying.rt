@@ -1,6 +1,9 @@
 //! Reads that a signal interrupts.
 
-ghost use Rattle.std.specs.Prelude.{◌≡◌};
+ghost use Rattle.std.specs.Prelude.{◌≡◌, ◌≢◌, IfErr};
+ghost use Rattle.std.specs.Io.{ReadsAtMost};
+ghost use Rattle.std.specs.Io.KnownBytes.{ReadConsumes};
+ghost use Rattle.std.specs.IoError.{error_kind};
 
 use std::io::{self, ErrorKind, Read};
 
@@ -22,13 +25,19 @@ impl<R: Read> Retrying<R> {
 impl<R: Read> Read for Retrying<R> {
     ghost remaining = { λ reader. R.remaining reader.device };
 
-    fn read(&mut self, buffer: &mut [u8]) -> io::Result<usize> {
+    // No byte is lost where it was interrupted, and no caller is told.
+    fn read(&mut self, buffer: &mut [u8]) -> io::Result<usize>
+        ensures bound { ReadsAtMost result buffer.new }
+        ensures bytes { ReadConsumes (R.remaining self.old.device) (R.remaining self.new.device)
+            result buffer.new }
+        ensures retried { IfErr result (λ e. error_kind e ≢ ErrorKind.Interrupted) }
+    {
         for _ in 0..u64::MAX {
             match self.device.read(buffer) {
                 Err(error) if error.kind() == ErrorKind::Interrupted => {}
                 read => return read,
             }
         }
-        Err(io::Error::from(ErrorKind::Interrupted))
+        Err(io::Error::from(ErrorKind::Other))
     }
 }

@@ -1,8 +1,8 @@
 //! The buffers for a line.
 
-ghost use Rattle.std.specs.Prelude.{◌≡◌, []};
+ghost use Rattle.std.specs.Prelude.{◌≡◌, IfOk, string_bytes};
 
-use std::alloc::Global;
+use std::alloc::{AllocError, Global};
 
 /// The buffers for a line. They are made once and used again for each line, so that they grow to
 /// the longest line and then take no more memory.
@@ -24,5 +24,12 @@ impl Rooms {
             encoding: Vec::new(alloc),
             text: Vec::new(alloc),
         }
+    }
+
+    /// The text of the answer. Each is UTF-8, so the error is unreachable in practice.
+    pub fn into_answer(self) -> Result<String, AllocError>
+        ensures { IfOk result (λ text. string_bytes text ≡ self.text.items) }
+    {
+        String::from_utf8(self.text).map_err(|_| AllocError)
     }
 }

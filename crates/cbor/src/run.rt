@@ -1,11 +1,11 @@
 //! The command line: what is done for which words, and the status.
 
-ghost use Rattle.std.specs.Prelude.{◌≡◌, ◌≤◌, ◌++◌, ℕ, IfOk, IsTrue, List, OnOk, Ok, Some, map};
+ghost use Rattle.std.specs.Prelude.{◌≡◌, ◌≤◌, ◌++◌, ◌↔◌, ℕ, IfOk, IsTrue, List, OnOk, Ok, Some, map};
 ghost use Rattle.std.specs.Prelude.{string_bytes, true};
-ghost use Rattle.std.specs.Io.KnownBytes.{Keeps};
+ghost use Rattle.std.specs.Io.KnownBytes.{Appends, Keeps};
 ghost use Rattle.ciborium_value.specs.declared.key_order.KeyOrder.{KeyOrder};
-ghost use Rattle.cbor.specs.Lines.{AreAnswered, AreOk};
-ghost use Rattle.cbor.specs.SortedLines.{AreSortedLines};
+ghost use Rattle.cbor.specs.Lines.{AreAnswered};
+ghost use Rattle.cbor.specs.SortedLines.{AreSortedLines, AreSortedOrRefused};
 ghost use Rattle.cbor.specs.Streams.{IsStreamShown};
 ghost use Rattle.cbor.specs.Topics.{topic_text};
 ghost use Rattle.cbor.specs.Words.{AreWrong, AskFor};
@@ -20,18 +20,16 @@ use crate::command::{Command, Topic};
 use crate::fault::Fault;
 use crate::sorting::sort_lines;
 use crate::streams::show_items;
-use crate::topics::{HELP, topic_text};
+use crate::topics::topic_text;
 use crate::words::judge_words;
 use ciborium::de::RECURSION_LIMIT;
 use std::alloc::Global;
-use std::io::{Read, Write};
+use std::io::{self, Read, Write};
 
 // What is told of words that ask for nothing.
 const USAGE: &str = "\
-usage: cbor read [--det [--core]] [limit] | cbor canon [--core] [limit] \
-| cbor diag [--indent] [limit] | cbor seq | cbor sort [--core] \
-| cbor diag --binary [--indent] [limit] | cbor read --binary [limit] \
-| cbor --help | cbor --version
+usage: cbor read [--det] [limit] | cbor sort | cbor seq
+cbor --help tells of the other commands
 ";
 
 /// Does what the words say, which are the program's arguments without its name, and returns the
@@ -59,10 +57,9 @@ usage: cbor read [--det [--core]] [limit] | cbor canon [--core] [limit] \
 /// the commands, and `--version` prints the version.
 ///
 /// The status is 0 where every line or item is as it is asked for, and 1 where one is not. It is 2
-/// for any other words: the usage is then written to `errors`, for no words at all what `--help`
-/// prints, and input and output are left alone. Where the input or the output fails, or an
-/// allocation for a line, an item of bytes or the list to sort, the run ends with status 1, and
-/// `errors` names the first such fault.
+/// for any other words, and for none: the usage is then written to `errors`, and input and output
+/// are left alone. Where the input or the output fails, or an allocation for a line, an item of
+/// bytes or the list to sort, the run ends with status 1, and `errors` names the first such fault.
 pub fn run<R: Read, W: Write, E: Write>(
     alloc: Global,
     words: &[String],
@@ -78,7 +75,7 @@ pub fn run<R: Read, W: Write, E: Write>(
     ensures answered { (reading : Reading) (b w : List ℕ) →
         AskFor (map string_bytes words.now) (Answer reading) → R.remaining input.old ≡ Some b →
         W.contents output.old ≡ Some w → result ≡ 0 →
-        AreOk reading b w (W.contents output.new) }
+        AreAnswered reading b w true (W.contents output.new) }
     ensures sorted { (order : KeyOrder) (b w : List ℕ) →
         AskFor (map string_bytes words.now) (Sort order) → R.remaining input.old ≡ Some b →
         W.contents output.old ≡ Some w → result ≡ 0 →
@@ -96,17 +93,26 @@ pub fn run<R: Read, W: Write, E: Write>(
             let done = perform(alloc, command, input, output);
             conclude(done, errors)
         }
-        None => {
-            report(errors, if words.is_empty() { HELP } else { USAGE });
-            2
-        }
+        None => refuse_words(errors),
     }
 }
 
-// A message that is refused has nowhere else to go.
-fn report<E: Write>(errors: &mut E, message: &str) {
-    let _ = errors.write_all(message.as_bytes());
-    let _ = errors.flush();
+/// Tells how the program is used, and returns the exit status for words that are wrong, or that
+/// cannot be read.
+pub fn refuse_words<E: Write>(errors: &mut E) -> u8
+    ensures { result ≡ 2 }
+{
+    // A message that is refused has nowhere else to go.
+    let _ = report(errors, USAGE);
+    2
+}
+
+// Writes a message, and flushes it.
+fn report<E: Write>(errors: &mut E, message: &str) -> io::Result<()>
+    ensures { OnOk result (Appends (E.contents errors.old) (E.contents errors.new) message.now) }
+{
+    errors.write_all(message.as_bytes())?;
+    errors.flush()
 }
 
 // Does what is asked for, flushes the output, and says whether every line or item is as it is asked
@@ -123,13 +129,10 @@ fn perform<R: Read, W: Write>(
 ) -> Result<bool, Fault>
     ensures answered { (reading : Reading) (b w : List ℕ) → command ≡ Answer reading →
         R.remaining input.old ≡ Some b → W.contents output.old ≡ Some w →
-        OnOk result (AreAnswered reading b w (W.contents output.new)) }
-    ensures ok { (reading : Reading) (b w : List ℕ) → command ≡ Answer reading →
-        R.remaining input.old ≡ Some b → W.contents output.old ≡ Some w →
-        IfOk result (λ all. IsTrue all → AreOk reading b w (W.contents output.new)) }
+        IfOk result (λ all. AreAnswered reading b w all (W.contents output.new)) }
     ensures sorted { (order : KeyOrder) (b w : List ℕ) → command ≡ Sort order →
         R.remaining input.old ≡ Some b → W.contents output.old ≡ Some w →
-        IfOk result (λ all. IsTrue all → AreSortedLines order b 256 w (W.contents output.new)) }
+        IfOk result (λ all. AreSortedOrRefused order b 256 w all (W.contents output.new)) }
     ensures shown { (showing : Showing) (limit : ℕ) (b w : List ℕ) →
         command ≡ Show showing limit → R.remaining input.old ≡ Some b →
         W.contents output.old ≡ Some w →
@@ -137,6 +140,7 @@ fn perform<R: Read, W: Write>(
     ensures told { (topic : Topic) (w : List ℕ) → command ≡ Tell topic →
         W.contents output.old ≡ Some w →
         OnOk result (W.contents output.new ≡ Some (w ++ topic_text topic)) }
+    ensures all { (topic : Topic) → command ≡ Tell topic → IfOk result (λ all. IsTrue all) }
 {
     match command {
         Command::Answer(reading) => {
@@ -188,21 +192,16 @@ fn finish<W: Write>(done: Result<bool, Fault>, output: &mut W) -> Result<bool, F
 // fault ended, which it names.
 fn conclude<E: Write>(done: Result<bool, Fault>, errors: &mut E) -> u8
     ensures status { result ≤ 1 }
-    ensures all { result ≡ 0 → done ≡ Ok true }
+    ensures all { (result ≡ 0) ↔ (done ≡ Ok true) }
 {
     match done {
-        Err(fault) => report_fault(fault, errors),
+        Err(fault) => {
+            let _ = report(errors, fault.message());
+            1
+        }
         Ok(true) => 0,
         Ok(false) => 1,
     }
-}
-
-/// Names a fault, and returns the exit status for it.
-pub fn report_fault<E: Write>(fault: Fault, errors: &mut E) -> u8
-    ensures { result ≡ 1 }
-{
-    report(errors, fault.message());
-    1
 }
 
 #[cfg(test)]

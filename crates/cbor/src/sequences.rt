@@ -1,9 +1,10 @@
 //! Lines that are sequences: items one after the other, with nothing between them (RFC 8742).
 
-ghost use Rattle.std.specs.Prelude.{◌≡◌, ◌++◌, IfOk, IsTrue, OnOk, false};
+ghost use Rattle.std.specs.Prelude.{◌≡◌, ◌++◌, IfOk, OnOk, false};
+ghost use Rattle.std.specs.Bool.{MatchBool};
 ghost use Rattle.ciborium_value.specs.View.{tree_of};
 ghost use Rattle.cbor.specs.Answer.{refused_text, wants_memory};
-ghost use Rattle.cbor.specs.Sequence.{AreSequence, HasSequenceAnswer, item_text, refused_item_text};
+ghost use Rattle.cbor.specs.Sequence.{AreNoSequence, AreSequence, item_text, refused_item_text};
 
 use crate::answer::Refusal;
 use crate::items::{push_encoding, read_front};
@@ -26,9 +27,8 @@ pub fn answer_items(
     room: &mut Vec<u8>,
     text: &mut Vec<u8>,
 ) -> Result<bool, AllocError>
-    ensures answer { OnOk result (HasSequenceAnswer bytes.now 256 text.new.items) }
-    ensures sequence { IfOk result (λ is_ok. IsTrue is_ok →
-        AreSequence bytes.now 256 text.new.items) }
+    ensures { IfOk result (λ is_ok. MatchBool is_ok (AreSequence bytes.now 256 text.new.items)
+        (AreNoSequence bytes.now 256 text.new.items)) }
 {
     let mut rest = bytes;
     text.clear();

@@ -1,14 +1,16 @@
 //! Sorting lines: every line is read before anything is written.
 
-ghost use Rattle.std.specs.Prelude.{◌≡◌, ◌++◌, ◌≤◌, ℕ, IfOk, IsOk, IsTrue, List, OnOk, Some, []};
-ghost use Rattle.std.specs.Prelude.{IsPermutation, map, vec_len};
+ghost use Rattle.std.specs.Prelude.{◌≡◌, ◌++◌, ◌≤◌, ℕ, IfOk, IsOk, List, MatchResult, OnOk, Some};
+ghost use Rattle.std.specs.Prelude.{[], IsPermutation, map, vec_len};
 ghost use Rattle.std.specs.Io.KnownBytes.{append_known};
 ghost use Rattle.std.specs.List.{flat_map};
 ghost use Rattle.ciborium_value.specs.View.{tree_of};
 ghost use Rattle.ciborium_value.specs.declared.key_order.KeyOrder.TheVariants.{LengthFirst};
-ghost use Rattle.cbor.specs.Lines.{AreMeant};
+ghost use Rattle.cbor.specs.Answer.{refused_text};
+ghost use Rattle.cbor.specs.Lines.{AreMeant, text_line};
 ghost use Rattle.cbor.specs.Sorted.{AreSorted};
-ghost use Rattle.cbor.specs.SortedLines.{AreSortedLines, hex_line};
+ghost use Rattle.cbor.specs.SortedLines.{AreSortedOrRefused, IsUnsortedFor, hex_line};
+ghost use Rattle.cbor.specs.SortedLines.{refused_line_text};
 ghost use Rattle.cbor.specs.declared.sorting.Unsorted.TheVariants.{Unread};
 ghost use Rattle.cbor.specs.declared.reading.Spelling.TheVariants.{Any};
 
@@ -56,12 +58,11 @@ pub fn sort_lines<R: Read, W: Write>(
     output: &mut W,
 ) -> Result<bool, Fault>
     ensures { (b w : List ℕ) → R.remaining input.old ≡ Some b → W.contents output.old ≡ Some w →
-        IfOk result (λ all. IsTrue all →
-        AreSortedLines order b limit w (W.contents output.new)) }
+        IfOk result (λ all. AreSortedOrRefused order b limit w all (W.contents output.new)) }
 {
     match read_values(alloc, input, limit) {
         Ok(values) => {
-            let sorted = sort_values(alloc, values, order)?;
+            let sorted = sort_by_order(alloc, values, order)?;
             write_values(alloc, &sorted, output)?;
             Ok(true)
         }
@@ -73,16 +74,9 @@ pub fn sort_lines<R: Read, W: Write>(
     }
 }
 
-/// The given values, each as often as given, in this order of their encodings. `LengthFirst` is the
-/// canonical order, that of `cmp_value`; `Bytewise` is that of `cmp_bytewise`. They are moved and
-/// never copied, by O(n log n) comparisons. Length-first, more than 20 are each measured once.
-///
-/// # Errors
-///
-/// `AllocError` where an allocation fails. Only more than 20 values need memory: bytewise room for
-/// as many values again, and length-first for as many with their sizes and for as many of those
-/// again. At the error the values are given up.
-pub fn sort_values(
+// The given values, each as often as given, in this order of their encodings: the canonical one, or
+// that of `cmp_bytewise`, where more than 20 need room for as many values again.
+fn sort_by_order(
     alloc: Global,
     mut values: Vec<Value>,
     order: KeyOrder,
@@ -92,7 +86,7 @@ pub fn sort_values(
     ensures succeeds { vec_len values ≤ 20 → IsOk result }
 {
     match order {
-        KeyOrder::LengthFirst => sort_length_first(alloc, values),
+        KeyOrder::LengthFirst => sort_values(alloc, values),
         KeyOrder::Bytewise => {
             values.sort_by(cmp_bytewise)?;
             Ok(values)
@@ -100,8 +94,14 @@ pub fn sort_values(
     }
 }
 
-// The values in the canonical order. More than 20 are each measured once.
-fn sort_length_first(alloc: Global, mut values: Vec<Value>) -> Result<Vec<Value>, AllocError>
+/// The given values, each as often as given, in the canonical order, that of `cmp_value`. They are
+/// moved and never copied, by O(n log n) comparisons, and more than 20 are each measured once.
+///
+/// # Errors
+///
+/// `AllocError` where an allocation fails. Only more than 20 values need memory: room for as many
+/// with their sizes, and for as many of those again. At the error the values are given up.
+pub fn sort_values(alloc: Global, mut values: Vec<Value>) -> Result<Vec<Value>, AllocError>
     ensures permutation { IfOk result (λ sorted. IsPermutation values.items sorted.items) }
     ensures sorted { IfOk result (λ sorted. AreSorted LengthFirst (map tree_of sorted.items)) }
     ensures succeeds { vec_len values ≤ 20 → IsOk result }
@@ -140,7 +140,8 @@ fn give_values(alloc: Global, measured: Vec<MeasuredValue>) -> Result<Vec<Value>
 // The values of the lines of the input, or why there are none.
 fn read_values<R: Read>(alloc: Global, input: &mut R, limit: usize) -> Result<Vec<Value>, Unsorted>
     ensures { (b : List ℕ) → R.remaining input.old ≡ Some b →
-        IfOk result (λ values. AreMeant Any b limit [] (map tree_of values.items)) }
+        MatchResult result (λ values. AreMeant Any b limit [] (map tree_of values.items))
+        (λ unsorted. IsUnsortedFor b limit unsorted) }
 {
     let Ok(mut reader) = BufReader::new(alloc, input) else {
         return Err(Unsorted::Unread(Fault::Memory));
@@ -198,7 +199,11 @@ fn put_values<W: Write>(
 }
 
 // Writes which line is no item, and why. It takes no memory, since an allocation may have failed.
-fn write_refusal<W: Write>(number: u64, refusal: Refusal, output: &mut W) -> Result<(), Fault> {
+fn write_refusal<W: Write>(number: u64, refusal: Refusal, output: &mut W) -> Result<(), Fault>
+    ensures { (w : List ℕ) → W.contents output.old ≡ Some w →
+        OnOk result (W.contents output.new
+        ≡ Some (w ++ text_line (refused_line_text number (refused_text refusal)))) }
+{
     if writeln!(output, "line {number}: {refusal}").is_err() {
         return Err(Fault::Output);
     }

@@ -9,7 +9,7 @@ use crate::command::Topic;
 pub const HELP: &str = "\
 cbor: CBOR (RFC 8949) from the standard input, as lines of hex or, with --binary, as bytes
 
-  cbor read [--det [--core]] [limit]    each item's shortest encoding: 1800 gives ok 00
+  cbor read [--det [--core]] [limit]    each item's shortest definite encoding: 1800 gives ok 00
   cbor canon [--core] [limit]           its deterministic one: bf02000100ff gives ok a201000200
   cbor diag [--indent] [limit]          its diagnostic notation: a1616101 gives {\"a\": 1}
   cbor seq                              each line's items: 0102 gives ok 01 02
@@ -19,6 +19,7 @@ cbor: CBOR (RFC 8949) from the standard input, as lines of hex or, with --binary
   cbor --help, cbor --version           this page, and the version
 
 --det takes deterministic encodings alone, whose keys are length-first or, with --core, bytewise.
+A bignum of more than 16 bytes is taken and written as it stands, even with zeros at its front.
 At most 256 levels are nested, or as many as the limit says. Status 1: something was refused.
 ";
 

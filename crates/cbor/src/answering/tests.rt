@@ -1,4 +1,4 @@
-// The four answers to a line, where memory is ample.
+// The answers to a line, where memory is ample.
 use super::{answer_canon, answer_line, answer_line_det, answer_seq};
 use crate::rooms::Rooms;
 use ciborium_value::KeyOrder;
@@ -12,76 +12,45 @@ fn expect_answer(rt: &impl Abort, is_ok: bool, rooms: &Rooms, expected: (bool, &
 }
 
 // A line, a limit, and the answer.
-const ITEMS: &[(&str, usize, (bool, &str))] = &[
-    ("1800", 256, (true, "ok 00")),
-    ("9F02ff", 1, (true, "ok 8102")),
-    ("zz", 256, (false, "hex")),
-    ("0001", 256, (false, "trailing 1")),
-    ("8180", 1, (false, "nesting")),
-    ("", 256, (false, "io")),
-    ("1e", 256, (false, "syntax 0")),
-    ("f93c00", 256, (false, "semantic 0 float")),
-    ("5bffffffffffffffff", 256, (false, "toolong")),
+const ITEMS: &[(&str, usize, &str)] = &[
+    ("1800", 256, "ok 00"),
+    ("9F02ff", 1, "ok 8102"),
+    ("zz", 256, "hex"),
+    ("0001", 256, "trailing 1"),
+    ("8180", 1, "nesting"),
+    ("", 256, "io"),
+    ("1e", 256, "syntax 0"),
+    ("f93c00", 256, "semantic 0 float"),
+    ("5bffffffffffffffff", 256, "toolong"),
 ];
 
 #[test]
 fn answers_lines(rt: HostRuntime) -> Result<(), Fail> {
-    let mut rooms = Rooms::new(rt.alloc());
     for &(line, limit, expected) in ITEMS {
-        let is_ok = answer_line(rt.alloc(), line.as_bytes(), limit, &mut rooms)?;
-        expect_answer(&rt, is_ok, &rooms, expected, line);
+        let answer = answer_line(rt.alloc(), line.as_bytes(), limit)?;
+        assert_eq!(rt; answer.as_str(), expected, "{line}");
     }
     Ok(())
 }
 
-// A line, the order of keys, a limit, and the answer.
-const DETERMINISTIC: &[(&str, KeyOrder, usize, (bool, &str))] = &[
-    (
-        "a201020203",
-        KeyOrder::LengthFirst,
-        1,
-        (true, "ok a201020203"),
-    ),
-    (
-        "1800",
-        KeyOrder::LengthFirst,
-        256,
-        (false, "semantic 0 notshortest"),
-    ),
-    (
-        "9f01ff",
-        KeyOrder::Bytewise,
-        256,
-        (false, "semantic 0 open"),
-    ),
-    (
-        "a202030102",
-        KeyOrder::LengthFirst,
-        256,
-        (false, "semantic 3 keyorder"),
-    ),
-    ("0", KeyOrder::Bytewise, 256, (false, "hex")),
-    // The keys 1000 and "a": bytewise 19 stands before 61, and length-first two bytes before three.
-    (
-        "a21903e800616101",
-        KeyOrder::Bytewise,
-        1,
-        (true, "ok a21903e800616101"),
-    ),
-    (
-        "a21903e800616101",
-        KeyOrder::LengthFirst,
-        1,
-        (false, "semantic 5 keyorder"),
-    ),
+// A line, a limit, and the answer.
+const DETERMINISTIC: &[(&str, usize, &str)] = &[
+    ("a201020203", 1, "ok a201020203"),
+    ("1800", 256, "semantic 0 notshortest"),
+    ("9f01ff", 256, "semantic 0 open"),
+    ("c24101", 256, "semantic 0 notfolded"),
+    ("a202030102", 256, "semantic 3 keyorder"),
+    ("0", 256, "hex"),
+    // The keys 1000 and "a": length-first two bytes before three.
+    ("a26161011903e800", 1, "ok a26161011903e800"),
+    ("a21903e800616101", 1, "semantic 5 keyorder"),
 ];
 
 #[test]
 fn answers_deterministic_lines(rt: HostRuntime) -> Result<(), Fail> {
-    let mut rooms = Rooms::new(rt.alloc());
-    for &(line, order, limit, expected) in DETERMINISTIC {
-        let is_ok = answer_line_det(rt.alloc(), line.as_bytes(), order, limit, &mut rooms)?;
-        expect_answer(&rt, is_ok, &rooms, expected, line);
+    for &(line, limit, expected) in DETERMINISTIC {
+        let answer = answer_line_det(rt.alloc(), line.as_bytes(), limit)?;
+        assert_eq!(rt; answer.as_str(), expected, "{line}");
     }
     Ok(())
 }
@@ -135,20 +104,21 @@ fn answers_with_deterministic_encodings(rt: HostRuntime) -> Result<(), Fail> {
     Ok(())
 }
 
-const SEQUENCES: &[(&str, (bool, &str))] = &[
-    ("01026161", (true, "ok 01 02 6161")),
-    ("", (true, "ok")),
-    ("80f97e00", (false, "item 2: semantic 0 float")),
-    ("1e", (false, "item 1: syntax 0")),
-    ("zz", (false, "hex")),
+const SEQUENCES: &[(&str, &str)] = &[
+    ("01026161", "ok 01 02 6161"),
+    ("", "ok"),
+    ("f71801", "ok f6 01"),
+    ("0118", "item 2: io"),
+    ("01ff", "item 2: semantic 0 break"),
+    ("1e", "item 1: syntax 0"),
+    ("zz", "hex"),
 ];
 
 #[test]
 fn answers_sequences(rt: HostRuntime) -> Result<(), Fail> {
-    let mut rooms = Rooms::new(rt.alloc());
     for &(line, expected) in SEQUENCES {
-        let is_ok = answer_seq(rt.alloc(), line.as_bytes(), &mut rooms)?;
-        expect_answer(&rt, is_ok, &rooms, expected, line);
+        let answer = answer_seq(rt.alloc(), line.as_bytes())?;
+        assert_eq!(rt; answer.as_str(), expected, "{line}");
     }
     Ok(())
 }

@@ -1,5 +1,5 @@
 // Lines and their answers, words that are right and wrong, limits, and faults.
-use super::run;
+use super::{refuse_words, run};
 use crate::test_devices::{Asker, Device, Ended, Listener, Source, run_on, run_on_text};
 use crate::topics::HELP;
 use std::alloc::Global;
@@ -8,8 +8,7 @@ use std::io::ErrorKind;
 use std::process::Abort;
 use std::test::Fail;
 
-// The words, what is read, what is written for it, and the status. What `read` answers without a
-// limit are the stored lines of the program.
+// The words, what is read, what is written for it, and the status.
 const RUNS: &[(&[&str], &str, &str, u8)] = &[
     (
         &["read"],
@@ -240,6 +239,124 @@ const RUNS: &[(&[&str], &str, &str, u8)] = &[
     (&["read"], "", "", 0),
 ];
 
+// What `read` answers to a line, within 256 levels.
+const READ_LINES: &[(&str, &str)] = &[
+    // Items of every width, and why others are refused.
+    ("1800", "ok 00"),
+    ("3bffffffffffffffff", "ok 3bffffffffffffffff"),
+    ("6161", "ok 6161"),
+    ("1e", "syntax 0"),
+    ("f93c00", "semantic 0 float"),
+    ("0001", "trailing 1"),
+    ("62c328", "syntax 0"),
+    ("40", "ok 40"),
+    ("60", "ok 60"),
+    ("f4", "ok f4"),
+    ("f7", "ok f6"),
+    ("ff", "semantic 0 break"),
+    ("f814", "syntax 0"),
+    ("f820", "semantic 0 simple"),
+    ("", "io"),
+    ("zz", "hex"),
+    ("000", "hex"),
+    ("F4", "ok f4"),
+    ("C24101", "ok 01"),
+    ("83011f03", "syntax 2"),
+    ("0102", "trailing 1"),
+    ("bf61610161629f0203ffff", "ok a26161016162820203"),
+    (
+        "c35080000000000000000000000000000000",
+        "semantic 0 toolarge",
+    ),
+    ("5bffffffffffffffff", "toolong"),
+    // A carriage return before the line feed is dropped, and one alone; either case of hex is
+    // taken.
+    ("1800\r", "ok 00"),
+    ("6161\r", "ok 6161"),
+    ("1800\r\r", "hex"),
+    ("\r", "io"),
+    ("1801ff0a0bCDef", "trailing 5"),
+    // The items of RFC 8949, appendix A, that hold no float and are in the one shortest definite
+    // encoding.
+    ("00", "ok 00"),
+    ("01", "ok 01"),
+    ("0a", "ok 0a"),
+    ("17", "ok 17"),
+    ("1818", "ok 1818"),
+    ("1819", "ok 1819"),
+    ("1864", "ok 1864"),
+    ("1903e8", "ok 1903e8"),
+    ("1a000f4240", "ok 1a000f4240"),
+    ("1b000000e8d4a51000", "ok 1b000000e8d4a51000"),
+    ("1bffffffffffffffff", "ok 1bffffffffffffffff"),
+    ("c249010000000000000000", "ok c249010000000000000000"),
+    ("3bffffffffffffffff", "ok 3bffffffffffffffff"),
+    ("c349010000000000000000", "ok c349010000000000000000"),
+    ("20", "ok 20"),
+    ("29", "ok 29"),
+    ("3863", "ok 3863"),
+    ("3903e7", "ok 3903e7"),
+    ("f4", "ok f4"),
+    ("f5", "ok f5"),
+    ("f6", "ok f6"),
+    (
+        "c074323031332d30332d32315432303a30343a30305a",
+        "ok c074323031332d30332d32315432303a30343a30305a",
+    ),
+    ("c11a514b67b0", "ok c11a514b67b0"),
+    ("d74401020304", "ok d74401020304"),
+    ("d818456449455446", "ok d818456449455446"),
+    (
+        "d82076687474703a2f2f7777772e6578616d706c652e636f6d",
+        "ok d82076687474703a2f2f7777772e6578616d706c652e636f6d",
+    ),
+    ("40", "ok 40"),
+    ("4401020304", "ok 4401020304"),
+    ("60", "ok 60"),
+    ("6161", "ok 6161"),
+    ("6449455446", "ok 6449455446"),
+    ("62225c", "ok 62225c"),
+    ("62c3bc", "ok 62c3bc"),
+    ("63e6b0b4", "ok 63e6b0b4"),
+    ("64f0908591", "ok 64f0908591"),
+    ("80", "ok 80"),
+    ("83010203", "ok 83010203"),
+    ("8301820203820405", "ok 8301820203820405"),
+    (
+        "98190102030405060708090a0b0c0d0e0f101112131415161718181819",
+        "ok 98190102030405060708090a0b0c0d0e0f101112131415161718181819",
+    ),
+    ("a0", "ok a0"),
+    ("a201020304", "ok a201020304"),
+    ("a26161016162820203", "ok a26161016162820203"),
+    ("826161a161626163", "ok 826161a161626163"),
+    (
+        "a56161614161626142616361436164614461656145",
+        "ok a56161614161626142616361436164614461656145",
+    ),
+    // The others without floats and unassigned simple values.
+    ("f7", "ok f6"),
+    ("5f42010243030405ff", "ok 450102030405"),
+    ("7f657374726561646d696e67ff", "ok 6973747265616d696e67"),
+    ("9fff", "ok 80"),
+    ("9f018202039f0405ffff", "ok 8301820203820405"),
+    ("9f01820203820405ff", "ok 8301820203820405"),
+    ("83018202039f0405ff", "ok 8301820203820405"),
+    ("83019f0203ff820405", "ok 8301820203820405"),
+    (
+        "9f0102030405060708090a0b0c0d0e0f101112131415161718181819ff",
+        "ok 98190102030405060708090a0b0c0d0e0f101112131415161718181819",
+    ),
+    ("bf61610161629f0203ffff", "ok a26161016162820203"),
+    ("826161bf61626163ff", "ok 826161a161626163"),
+    ("bf6346756ef563416d7421ff", "ok a26346756ef563416d7421"),
+    // Those with an unassigned simple value.
+    ("f0", "semantic 0 simple"),
+    ("f8ff", "semantic 0 simple"),
+    // The last line counts without a line feed, and its carriage return is dropped.
+    ("1800\r", "ok 00"),
+];
+
 // The words, an input of bytes, what is written for it, and the status.
 const BYTE_RUNS: &[(&[&str], &[u8], &str, u8)] = &[
     (
@@ -323,6 +440,23 @@ fn writes_what_is_meant(rt: HostRuntime) -> Result<(), Fail> {
 }
 
 #[test]
+fn reads_each_line(rt: HostRuntime) -> Result<(), Fail> {
+    let mut input = String::new(rt.alloc());
+    let mut output = String::new(rt.alloc());
+    for &(line, answer) in READ_LINES {
+        if !input.is_empty() {
+            input.push('\n')?;
+        }
+        input.push_str(line)?;
+        output.push_str(answer)?;
+        output.push('\n')?;
+    }
+    let ended = run_on_text(rt.alloc(), &["read"], input.as_str())?;
+    expect_end(&rt, &ended, 1, output.as_bytes(), "", "lines to read");
+    Ok(())
+}
+
+#[test]
 fn writes_what_bytes_are(rt: HostRuntime) -> Result<(), Fail> {
     for &(words, input, output, status) in BYTE_RUNS {
         for most in [1, 3, usize::MAX] {
@@ -351,13 +485,6 @@ fn tells_its_commands(rt: HostRuntime) -> Result<(), Fail> {
     ] {
         assert!(rt; HELP.contains(words), "{words}");
     }
-    Ok(())
-}
-
-#[test]
-fn tells_its_commands_where_no_words_stand(rt: HostRuntime) -> Result<(), Fail> {
-    let told = run_on_text(rt.alloc(), &[], "00\n")?;
-    expect_end(&rt, &told, 2, b"", HELP, "no words");
     Ok(())
 }
 
@@ -439,7 +566,11 @@ fn answers_before_it_asks(rt: HostRuntime) -> Result<(), Fail> {
     Ok(())
 }
 
+const USAGE: &str = "usage: cbor read [--det] [limit] | cbor sort | cbor seq\n\
+                     cbor --help tells of the other commands\n";
+
 const WRONG_WORDS: &[&[&str]] = &[
+    &[],
     &["write"],
     &["READ"],
     &["read "],
@@ -528,13 +659,18 @@ fn refuses_wrong_words(rt: HostRuntime) -> Result<(), Fail> {
         let mut source = Source::new(b"00\n", 1, None);
         let device = Device::new(rt.alloc(), usize::MAX, false);
         let ended = run_on(rt.alloc(), words, &mut source, device)?;
-        let usage = "usage: cbor read [--det [--core]] [limit] | cbor canon [--core] [limit] \
-                     | cbor diag [--indent] [limit] | cbor seq | cbor sort [--core] \
-                     | cbor diag --binary [--indent] [limit] | cbor read --binary [limit] \
-                     | cbor --help | cbor --version\n";
-        expect_end(&rt, &ended, 2, b"", usage, "wrong words");
+        expect_end(&rt, &ended, 2, b"", USAGE, "wrong words");
         assert_eq!(rt; source.reads(), 0);
     }
+    Ok(())
+}
+
+// What `main` calls for words that cannot be read.
+#[test]
+fn refuses_words_that_cannot_be_read(rt: HostRuntime) -> Result<(), Fail> {
+    let mut errors = Vec::new(rt.alloc());
+    assert_eq!(rt; refuse_words(&mut errors), 2);
+    assert_eq!(rt; errors.as_slice(), USAGE.as_bytes());
     Ok(())
 }
 

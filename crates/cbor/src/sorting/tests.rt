@@ -1,5 +1,5 @@
 // Values and lines that are sorted from any order.
-use super::sort_values;
+use super::{sort_by_order, sort_values};
 use crate::test_devices::run_on_text;
 use ciborium_value::{KeyOrder, Value};
 use std::alloc::{AllocError, Global};
@@ -25,7 +25,7 @@ fn sorts_by_the_bytes(rt: HostRuntime) -> Result<(), Fail> {
         Value::from_text(alloc, "z")?,
         Value::from(false),
     ]?;
-    assert!(rt; sort_values(alloc, values, KeyOrder::Bytewise)? == sorted);
+    assert!(rt; sort_by_order(alloc, values, KeyOrder::Bytewise)? == sorted);
     Ok(())
 }
 
@@ -48,7 +48,7 @@ fn sorts_by_the_size_and_then_the_bytes(rt: HostRuntime) -> Result<(), Fail> {
         Value::from_text(alloc, "z")?,
         Value::from(256u16),
     ]?;
-    assert!(rt; sort_values(alloc, values, KeyOrder::LengthFirst)? == sorted);
+    assert!(rt; sort_values(alloc, values)? == sorted);
     Ok(())
 }
 
@@ -62,7 +62,7 @@ fn sorts_more_than_twenty_values(rt: HostRuntime) -> Result<(), Fail> {
             values.push(Value::from(29 - number))?;
             sorted.push(Value::from(number))?;
         }
-        assert!(rt; sort_values(rt.alloc(), values, order)? == sorted);
+        assert!(rt; sort_by_order(rt.alloc(), values, order)? == sorted);
     }
     Ok(())
 }

@@ -1,8 +1,9 @@
 use Rattle.std.proofs.Common.{◌≡◌, ◌++◌}
-use Rattle.cbor.specs.Lines.{IsOkText, MayBeAnswer}
+use Rattle.cbor.specs.Lines.{AreAnswered}
+use Rattle.cbor.specs.SortedLines.{AreSortedOrRefused}
 use Rattle.cbor.specs.Streams.{IsStreamShown}
 use Rattle.cbor.specs.Topics.{topic_text}
-use Rattle.cbor.proofs.AnsweredLines.{flushed-all, flushed-each, flushed-ok, flushed-told, held-still}
+use Rattle.cbor.proofs.AnsweredLines.{answered-still, flushed-each, flushed-told, still}
 use Rattle.cbor.proofs.MeantLines.{sorted-still}
 use Rattle.cbor.proofs.ShownItems.{shown-still}
 use Rattle.cbor.proofs.run.perform.Goals as goal
@@ -10,23 +11,18 @@ use Rattle.cbor.proofs.run.perform.Goals as goal
 pub returns-in-Answer-clause-answered : goal.returns-in-Answer-clause-answered
 returns-in-Answer-clause-answered g c reading b w same e f =
     let is : c.in-Answer.reading ≡ reading = cc in
-    flushed-all (MayBeAnswer reading) b w _ _ c.answer_lines-answered.result c.finish.result c.finish.ensures.same
-    c.finish.ensures.kept
-    (rw is at c.answer_lines-answered.ensures.answered b w e f)
-
-pub returns-in-Answer-clause-ok : goal.returns-in-Answer-clause-ok
-returns-in-Answer-clause-ok g c reading b w same e f =
-    let is : c.in-Answer.reading ≡ reading = cc in
-    flushed-ok _ _ c.answer_lines-answered.result c.finish.result c.finish.ensures.same
-    (held-still (IsOkText reading) b w _ _ c.finish.ensures.kept)
-    (rw is at c.answer_lines-answered.ensures.ok b w e f)
+    flushed-each (λ all. AreAnswered reading b w all _) (λ all. AreAnswered reading b w all _)
+    c.answer_lines-answered.result c.finish.result c.finish.ensures.same
+    (λ all. answered-still reading b w all _ _ (λ xs. still _ _ xs c.finish.ensures.kept))
+    (rw is at c.answer_lines-answered.ensures b w e f)
 
 pub returns-in-Sort-clause-sorted : goal.returns-in-Sort-clause-sorted
 returns-in-Sort-clause-sorted g c order b w same e f =
     let finish = c.finish-in-Sort in
     let is : c.in-Sort.order ≡ order = cc in
-    flushed-ok _ _ c.sort_lines-sorted.result finish.result finish.ensures.same
-    (sorted-still order b 256 w _ _ finish.ensures.kept)
+    flushed-each (λ all. AreSortedOrRefused order b 256 w all _) (λ all. AreSortedOrRefused order b 256 w all _)
+    c.sort_lines-sorted.result finish.result finish.ensures.same
+    (λ all. sorted-still order b 256 w all _ _ finish.ensures.kept)
     (rw is at c.sort_lines-sorted.ensures b w e f)
 
 pub returns-in-Show-clause-shown : goal.returns-in-Show-clause-shown

@@ -1,4 +1,4 @@
-use Rattle.std.proofs.Common.{map, string_bytes, refl}
+use Rattle.std.proofs.Common.{map, string_bytes}
 use Rattle.cbor.specs.declared.command.Command.TheVariants.{Answer, Show, Sort, Tell}
 use Rattle.cbor.proofs.AskedWords.{asks-for-one}
 use Rattle.cbor.proofs.run.run.Goals as goal
@@ -7,24 +7,22 @@ pub returns-in-Some-clause-answered : goal.returns-in-Some-clause-answered
 returns-in-Some-clause-answered g c reading b w asked e f zero =
     let same = asks-for-one (map string_bytes c.args.words.now) c.in-Some.command (Answer reading) c.in-Some.ensures
     asked in
-    let done = rw (c.conclude.ensures.all zero) at c.perform-done.ensures.ok reading b w same e f in
-    done refl
+    rw (c.conclude.ensures.all.0 zero) at c.perform-done.ensures.answered reading b w same e f
 
 pub returns-in-Some-clause-sorted : goal.returns-in-Some-clause-sorted
 returns-in-Some-clause-sorted g c order b w asked e f zero =
     let same = asks-for-one (map string_bytes c.args.words.now) c.in-Some.command (Sort order) c.in-Some.ensures asked
     in
-    let done = rw (c.conclude.ensures.all zero) at c.perform-done.ensures.sorted order b w same e f in
-    done refl
+    rw (c.conclude.ensures.all.0 zero) at c.perform-done.ensures.sorted order b w same e f
 
 pub returns-in-Some-clause-shown : goal.returns-in-Some-clause-shown
 returns-in-Some-clause-shown g c showing limit b w asked e f zero =
     let same = asks-for-one (map string_bytes c.args.words.now) c.in-Some.command (Show showing limit) c.in-Some.ensures
     asked in
-    rw (c.conclude.ensures.all zero) at c.perform-done.ensures.shown showing limit b w same e f
+    rw (c.conclude.ensures.all.0 zero) at c.perform-done.ensures.shown showing limit b w same e f
 
 pub returns-in-Some-clause-told : goal.returns-in-Some-clause-told
 returns-in-Some-clause-told g c topic w asked e zero =
     let same = asks-for-one (map string_bytes c.args.words.now) c.in-Some.command (Tell topic) c.in-Some.ensures asked
     in
-    rw (c.conclude.ensures.all zero) at c.perform-done.ensures.told topic w same e
+    rw (c.conclude.ensures.all.0 zero) at c.perform-done.ensures.told topic w same e

@@ -4,13 +4,13 @@ use Rattle.cbor.proofs.ItemsInRow.{all-items, first-refused, one-more-item}
 use Rattle.cbor.proofs.ReadBytes.{nothing-left}
 use Rattle.cbor.proofs.sequences.answer_items.Goals as goal
 
-pub returns-then-is_empty-clause-answer : goal.returns-then-is_empty-clause-answer
-returns-then-is_empty-clause-answer c =
+pub returns-then-is_empty : goal.returns-then-is_empty
+returns-then-is_empty c =
     all-items c.args.bytes.now c.items.rest.now c.items.text.items c.items.number c.items.invariant
     (nothing-left c.items.rest.now (sym c.if-is_empty.ensures))
 
-pub returns-in-Err-clause-answer : goal.returns-in-Err-clause-answer
-returns-in-Err-clause-answer c =
+pub returns-in-Err : goal.returns-in-Err
+returns-in-Err c =
     first-refused c.args.bytes.now c.items.rest.now c.items.text.items c.write_refused_item.new.text.items
     c.items.number c.in-Err.refusal c.items.invariant
     c.if-is_empty.ensures c.in-Err.ensures.refused c.in_ok-write_refused_item-in-Err.ensures

@@ -4,7 +4,7 @@ use Rattle.ciborium_value.specs.View.{tree_of}
 use Rattle.cbor.proofs.sorting.sort_lines.Goals as goal
 
 pub returns-in_ok-write_values-in-Ok : goal.returns-in_ok-write_values-in-Ok
-returns-in_ok-write_values-in-Ok g c b w e f all =
+returns-in_ok-write_values-in-Ok g c b w e f =
     let sorted = c.in_ok-sorted-in-Ok in (
       map tree_of c.in-Ok.values.items,
       map tree_of sorted.sorted.items,
