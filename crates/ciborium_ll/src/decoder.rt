@@ -281,8 +281,9 @@ impl<'a, R: Read> Decoder<'a, R> {
     /// The next byte, if it was read ahead. It is not taken.
     #[inline(always)]
     pub fn held_byte(&self) -> Option<u8>
-        ensures { IfSome result (λ x. (b : List ℕ) → left_of R.remaining self.now ≡ Some b →
+        ensures some { IfSome result (λ x. (b : List ℕ) → left_of R.remaining self.now ≡ Some b →
             (rest : List ℕ) × (b ≡ x ∷ rest)) }
+        ensures none { IfNone result (HoldsNothing self.now) }
     {
         self.window.byte()
     }
