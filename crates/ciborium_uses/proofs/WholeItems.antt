@@ -4,7 +4,8 @@ use Rattle.std.proofs.Common.{List, [], ◌∷◌, ◌++◌, length, append-nil}
 use Rattle.ciborium.specs.Bytes.{greatest_offset}
 use Rattle.ciborium.specs.Item.{Item}
 use Rattle.ciborium.specs.Spells.{Spells}
-use Rattle.ciborium.specs.Sources.{Fault, of_device, of_kind, of_length, of_memory, of_nesting, of_syntax, IsFaultOf}
+use Rattle.ciborium.specs.Sources.{Fault, of_device, of_end, of_kind, of_length, of_memory, of_nesting, of_syntax}
+use Rattle.ciborium.specs.Sources.{IsFaultOf}
 use Rattle.ciborium.specs.Taken.{Taken, gives}
 use Rattle.ciborium.specs.TypedAnswers.{TakesGiving}
 use Rattle.ciborium.specs.laws.SpellingLaws.{OneAtFront}
@@ -38,4 +39,5 @@ no_blame taken n i w of_nesting given short e = cc
 no_blame taken n i w of_syntax given short e = e
 no_blame taken n i w of_memory given short e = tt
 no_blame taken n i w of_device given short e = tt
+no_blame taken n i w of_end given short e = e
 no_blame taken n i w of_length given short e = short e
