@@ -33,7 +33,8 @@ pub trait Deserialize: Sized + Drop {
             v)) }
         ensures refused { IfErr result
             (λ e. RefusesAhead S.stands_before source.old reading.taken (S.cause source.new e)) }
-        ensures memory { IfErr result (λ e. IsGrantedFault (S.cause source.new e) reading.needs_memory) }
+        ensures memory { IfErr result
+            (λ e. IsGrantedFault (S.cause source.new e) reading.needs_memory) }
         ensures whole { IfSome reading.whole (λ tree. S.reads source.old source.new
             (read_as (λ v. tree (reading.content v)) result)) }
         ensures took { OnOk result (TakesItem S.is_unread source.old source.new) }

@@ -119,7 +119,8 @@ pub trait Source {
     /// Whether the item ahead is null or undefined, without a tag. It is not taken.
     fn null_ahead(&mut self) -> Result<bool, Self::Error>
         ensures ok { IfOk result (λ b. Tells stands_before self.old self.new b) }
-        ensures refused { IfErr result (λ e. RefusesToTell stands_before self.old (cause self.new e)) }
+        ensures refused { IfErr result
+            (λ e. RefusesToTell stands_before self.old (cause self.new e)) }
         ensures memory { IfErr result (λ e. IsGrantedFault (cause self.new e) false) }
         ensures took { OnOk result (TakesNothing is_unread self.old self.new) }
         ensures only { TakesOnly has_taken self.old self.new }

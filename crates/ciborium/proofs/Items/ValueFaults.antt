@@ -15,8 +15,8 @@ use Rattle.ciborium_ll.specs.Refusal as refusal
 use Rattle.ciborium_ll.specs.Refusal.{Refusal, io, syntax, too_long, semantic, recursion_limit_exceeded, HeadRefuses}
 use Rattle.ciborium_ll.specs.Refusal.{IsUsable, HasHead, IsAtFront, head_refusal}
 use Rattle.ciborium_ll.specs.Spells.{Spells, SpellsItems}
-use Rattle.ciborium_ll.specs.StringRefusal.{StringKind, of_bytes, of_text, string_major, PayloadRefuses, StringRefuses}
-use Rattle.ciborium_ll.specs.StringRefusal.{ChunkRefuses, ChunksRefuse, OpenStringRefuses}
+use Rattle.ciborium_ll.specs.StringRefusal.{StringKind, of_bytes, of_text, string_major, StringRefuses}
+use Rattle.ciborium_ll.specs.StringRefusal.{ChunksRefuse, OpenStringRefuses}
 use Rattle.ciborium_ll.proofs.OneHeader.{one_header_at_front}
 use Rattle.ciborium_ll.proofs.UniqueSpelling.{one_at_front}
 use Rattle.ciborium_value.specs.Meaning.{folding_bytes, bignum_meaning, big_endian}

@@ -144,7 +144,8 @@ pub definite-never : (kind : StringKind) (n p : ℕ) (e : Refusal) (y x s z payl
     SpellsHeader x (head_of kind (Some n)) → Spells s (string_item kind (Some n) payload) → x ++ y ≡ s ++ z →
     PayloadRefuses kind n p y e → ⊥
 definite-never kind n p e y x s z payload hd sp f w =
-    let (size, ok, is) = definite-payload kind n y x s z payload hd sp f in payload-never kind n p y e payload z size ok is w
+    let (size, ok, is) = definite-payload kind n y x s z payload hd sp f in
+    payload-never kind n p y e payload z size ok is w
 
 pub content-only : (kind : StringKind) (len : Option ℕ) (p q : ℕ) (e : Refusal) (y x s z payload : List ℕ) →
     SpellsHeader x (head_of kind len) → Spells s (string_item kind len payload) → x ++ y ≡ s ++ z →

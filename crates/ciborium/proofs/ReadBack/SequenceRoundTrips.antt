@@ -1,5 +1,6 @@
 -- What is written as a sequence is read back.
-use Rattle.std.proofs.Common.{◌≡◌, ℕ, suc, ◌<◌, ◌≤◌, List, [], ◌∷◌, ◌++◌, length, map, All, Option, Some, None, Result, Ok, Err}
+use Rattle.std.proofs.Common.{◌≡◌, ℕ, suc, ◌<◌, ◌≤◌, List, [], ◌∷◌, ◌++◌, length, map, All, Option, Some, None, Result}
+use Rattle.std.proofs.Common.{Ok, Err}
 use Rattle.std.proofs.Common.{refl, sym, ap, ◌∙◌, subst, arith, length-append}
 use Rattle.std.specs.declared.io.Error.{Error as IoError}
 use Rattle.ciborium_ll.specs.Bytes.{greatest_offset}
@@ -23,7 +24,8 @@ use Rattle.ciborium.specs.declared.de.error.Error.TheVariants.{Io, Syntax, Seman
 use Rattle.ciborium.specs.declared.de.error.Error.TheVariants.{TooLong}
 use Rattle.ciborium.specs.Errors.{fault_of}
 use Rattle.ciborium.specs.SequenceReads.{GivesInTurn, GivesThen, TakesSequence}
-use Rattle.ciborium.specs.laws.SequenceRoundTrips.{AnswersSequence, AreContentsReadBack, AreGivenBack, SequenceReadsBack}
+use Rattle.ciborium.specs.laws.SequenceRoundTrips.{AnswersSequence, AreContentsReadBack, AreGivenBack}
+use Rattle.ciborium.specs.laws.SequenceRoundTrips.{SequenceReadsBack}
 use Rattle.ciborium.specs.SequenceWrites.{AllNamed, AreNamedWritten, WritesInTurn}
 use Rattle.ciborium.specs.declared.ser.error.Error.{Error as WriteError}
 use Rattle.ciborium.specs.TypedAnswers.{IsFaultAhead}
@@ -101,13 +103,15 @@ module _ {C : Type 0} (l : Limit) (taken : Taken C) where
       subst (λ b. IsOutsideFault (length b) fault) (sym gave)
       (so (length u) (not-blamed (length u) front (taken l i) c given.0
       (ahead i (written_bytes i) (items_bytes (items_from is)) (written_spells_item i first) (sym gave))))
-  outside-behind front fault so (i ∷ is) (c ∷ cs) (d ∷ ds) u fits (one, given) (j, s, left, spelled, split, gave, more) ahead end
+  outside-behind front fault so (i ∷ is) (c ∷ cs) (d ∷ ds) u fits (one, given) (j, s, left, spelled, split, gave, more)
+      ahead end
       =
       let (behind, same) = same-front i j is s left c d fits one spelled split gave in
       let less : length (items_bytes (items_from is)) ≤ length (items_bytes (items_from (i ∷ is))) =
       omega (arith, length-append (written_bytes i) (items_bytes (items_from is))) in
       outside-further (length (items_bytes (items_from is))) (length (items_bytes (items_from (i ∷ is)))) fault less
-      (outside-behind front fault so is cs ds u fits.1 given (subst (λ b. GivesThen l taken b ds u) (sym behind) more) ahead end)
+      (outside-behind front fault so is cs ds u fits.1 given (subst (λ b. GivesThen l taken b ds u) (sym behind) more)
+      ahead end)
 
 -- ---- values whose items are read as their contents
 
@@ -138,7 +142,8 @@ module _ {T C : Type 0} (IsHeld : T → Type 0) (written : T → Named) (reading
           (given-back (Some l) reading.taken is (map reading.content vs) cs fits given gave, left)
       by (Err e) (taken, refused) =
           let (cs, u, gave, ahead, end) = refused (items_bytes (items_from is)) refl in
-          outside-behind (Some l) reading.taken (fault_of after e) (fault_of None e) (outside-none after e) is (map reading.content vs) cs u fits given gave ahead end
+          outside-behind (Some l) reading.taken (fault_of after e) (fault_of None e) (outside-none after e) is
+          (map reading.content vs) cs u fits given gave ahead end
 
   pub contents_read_back : (vs again : List T) (bytes rest : List ℕ) →
       AreContentsReadBack IsHeld written reading levels vs again bytes rest

@@ -66,7 +66,8 @@ sources_agree {A} taken steady v l after r q proper = by r q
         (append-nil (encoding v) ∙ e) in
         one-value (taken None (item_of v)) x y h (without-gives (taken (Some l) (item_of v)) (taken None (item_of v)) y
         same (ap (taken (Some l)) one.2 ∙ g))
-    by (Ok x) (Err e) h (t, f) = excused _ (taken (Some l) (item_of v)) (taken None (item_of v)) x (fault_of after e) same h
+    by (Ok x) (Err e) h (t, f) = excused _ (taken (Some l) (item_of v)) (taken None (item_of v)) x (fault_of after e)
+        same h
         (f (encoding v) refl (item_of v) (encoding v) [] (encoding-spells v proper) (sym (append-nil (encoding v))))
     by (Err (of_tree.Custom k)) (Ok y) h (t, f) =
         let (j, s, z, sp, e, g, left) = t (encoding v) refl in

@@ -80,7 +80,8 @@ impl<'a, R: Read> ByteSource<'a, R> {
         ensures ok { IfOk result (λ v.
             TakesAhead (StandsBefore R.remaining) self.old self.new taken_bytes v.items) }
         ensures refused { IfErr result (λ e.
-            RefusesAhead (StandsBefore R.remaining) self.old taken_bytes (fault_at R.remaining self.new e)) }
+            RefusesAhead (StandsBefore R.remaining) self.old taken_bytes
+            (fault_at R.remaining self.new e)) }
         ensures took { OnOk result (TakesItem (IsUnread R.remaining) self.old self.new) }
         ensures fewer { OnOk result (weight_left self.new < weight_left self.old) }
     {

@@ -51,7 +51,8 @@ impl<'a, R: Read> ByteSource<'a, R> {
         ensures keeps { PassesItem R.remaining self.old self.new result }
         ensures answer { AnswersItem R.remaining self.old self.new (Some self.old.levels)
             taken_character (λ v. v) result }
-        ensures memory { IfErr result (λ e. IsGrantedFault (fault_at R.remaining self.new e) false) }
+        ensures memory { IfErr result
+            (λ e. IsGrantedFault (fault_at R.remaining self.new e) false) }
     {
         let (header, offset) = self.bare_head(false)?;
         match header {

@@ -136,7 +136,8 @@ impl<'a, R: Read> ByteSource<'a, R> {
         ensures denied { IfErr result
             (λ e. Denies (IsUnread R.remaining) (end_at R.remaining) self.old
             (Some self.old.levels) taken_pairs (fault_at R.remaining self.new e)) }
-        ensures memory { IfErr result (λ e. IsGrantedFault (fault_at R.remaining self.new e) false) }
+        ensures memory { IfErr result
+            (λ e. IsGrantedFault (fault_at R.remaining self.new e) false) }
     {
         let (header, offset) = self.bare_head(false)?;
         let Header::Map(count) = header else {
@@ -172,8 +173,10 @@ impl<'a, R: Read> ByteSource<'a, R> {
             (GoesOn (StandsBefore R.remaining) SeqStands self.old self.new seq.old seq.new)
             (Leaves (StandsBefore R.remaining) SeqStands self.old self.new seq.old)) }
         ensures refused { IfErr result (λ e.
-            RefusesNext (StandsBefore R.remaining) SeqStands self.old seq.old (fault_at R.remaining self.new e)) }
-        ensures memory { IfErr result (λ e. IsGrantedFault (fault_at R.remaining self.new e) false) }
+            RefusesNext (StandsBefore R.remaining) SeqStands self.old seq.old
+            (fault_at R.remaining self.new e)) }
+        ensures memory { IfErr result
+            (λ e. IsGrantedFault (fault_at R.remaining self.new e) false) }
         ensures took { IfOk result (λ b. MatchBool b
             (TakesTo (IsUnread R.remaining) self.old self.new (OwesLess SeqOwes seq.old seq.new))
             (TakesTo (IsUnread R.remaining) self.old self.new (OwesNothing SeqOwes seq.old))) }

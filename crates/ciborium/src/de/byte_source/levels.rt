@@ -69,7 +69,8 @@ impl<'a, R: Read> ByteSource<'a, R> {
         ensures denied { IfErr result
             (λ e. Denies (IsUnread R.remaining) (end_at R.remaining) self.old
             (Some self.old.levels) taken_outer_tag (fault_at R.remaining self.new e)) }
-        ensures memory { IfErr result (λ e. IsGrantedFault (fault_at R.remaining self.new e) false) }
+        ensures memory { IfErr result
+            (λ e. IsGrantedFault (fault_at R.remaining self.new e) false) }
     {
         let (header, offset) = self.next_head()?;
         match header {

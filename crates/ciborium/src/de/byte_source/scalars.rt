@@ -64,7 +64,8 @@ impl<'a, R: Read> ByteSource<'a, R> {
         ensures keeps { PassesItem R.remaining self.old self.new result }
         ensures answer { AnswersItem R.remaining self.old self.new (Some self.old.levels)
             taken_boolean (λ v. v) result }
-        ensures memory { IfErr result (λ e. IsGrantedFault (fault_at R.remaining self.new e) false) }
+        ensures memory { IfErr result
+            (λ e. IsGrantedFault (fault_at R.remaining self.new e) false) }
     {
         let (header, offset) = self.bare_head(false)?;
         match header {
@@ -86,7 +87,8 @@ impl<'a, R: Read> ByteSource<'a, R> {
         ensures keeps { PassesItem R.remaining self.old self.new result }
         ensures answer { AnswersItem R.remaining self.old self.new (Some self.old.levels)
             taken_unit (λ v. v) result }
-        ensures memory { IfErr result (λ e. IsGrantedFault (fault_at R.remaining self.new e) false) }
+        ensures memory { IfErr result
+            (λ e. IsGrantedFault (fault_at R.remaining self.new e) false) }
     {
         let (header, offset) = self.bare_head(false)?;
         match header {

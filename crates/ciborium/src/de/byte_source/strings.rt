@@ -34,7 +34,8 @@ impl<'a, R: Read> ByteSource<'a, R> {
         ensures outside { IfErr result
             (λ e. DeniesJust (IsUnread R.remaining self.old) (end_at R.remaining self.old) (length
             buffer.old) (fault_at R.remaining self.new e)) }
-        ensures memory { IfErr result (λ e. IsGrantedFault (fault_at R.remaining self.new e) false) }
+        ensures memory { IfErr result
+            (λ e. IsGrantedFault (fault_at R.remaining self.new e) false) }
     {
         self.decoder.read_exact_keeping(buffer, &mut self.failure)?;
         Ok(())

@@ -20,7 +20,8 @@ pub returns-in_err-value-clause-refused : goal.returns-in_err-value-clause-refus
 returns-in_err-value-clause-refused g c =
     let e = g.S.Source.cause c.value.new.self c.in_err-value.field-0.0 in
     exits _ c.in_err-value.field-0.0 (λ x. RefusesInTurn g.S.Source.stands_before g.S.Source.seq_stands
-    c.args.source.now c.args.seq.now no_part_taken (g.S.Source.cause c.value.new.self x)) c.from_residual-in_err-value.ensures.1
+    c.args.source.now c.args.seq.now no_part_taken (g.S.Source.cause c.value.new.self x))
+    c.from_residual-in_err-value.ensures.1
     (refuses_parts g.S.Source.stands_before g.S.Source.seq_stands no_part_taken e
     (so c.loop-source.invariant.inside (drop_blames g.S.Source.stands_before g.S.Source.seq_stands e
     (rw c.if-branch.true at c.in_ok-next.ensures.ok) c.in_err-value.ensures.takes.refused)))

@@ -16,7 +16,8 @@ use Rattle.ciborium.proofs.de.byte_source.ByteSource.begin_seq.Goals as goal
 pub returns-in_err-header-clause-denied : goal.returns-in_err-header-clause-denied
 returns-in_err-header-clause-denied g c =
     let exit = err_from_is_err_and c.from_residual.result c.from_residual.ensures.1 in
-    rw (exit.1, exit.2) (head-denied g.R.Read.remaining c.args.self.now taken_seq (fault_at g.R.Read.remaining c.bare_head.new.self c.in_err-header.field-0.0)
+    rw (exit.1, exit.2) (head-denied g.R.Read.remaining c.args.self.now taken_seq
+    (fault_at g.R.Read.remaining c.bare_head.new.self c.in_err-header.field-0.0)
     c.in_err-header.ensures.denied)
 
 pub returns-in_ok-seq-in-Array-clause-ok : goal.returns-in_ok-seq-in-Array-clause-ok
@@ -54,7 +55,8 @@ returns-in_err-seq-in-Bytes-clause-denied g c =
     c.from_residual-in_err-seq-in-Bytes.ensures.1 in
     rw (exit.1, exit.2) (string-denied g.R.Read.remaining c.args.self.now taken_seq c.bare_head.new.self
     c.in_ok-header.header c.in_ok-header.ensures.head of_bytes c.in-Bytes.len c.in-Bytes.is
-    c.in_ok-header.ensures.reads.only (fault_at g.R.Read.remaining c.open_bytes.new.self c.in_err-seq-in-Bytes.field-0.0) c.in_err-seq-in-Bytes.ensures.denied)
+    c.in_ok-header.ensures.reads.only (fault_at g.R.Read.remaining c.open_bytes.new.self
+    c.in_err-seq-in-Bytes.field-0.0) c.in_err-seq-in-Bytes.ensures.denied)
 
 pub returns-in_default-clause-denied : goal.returns-in_default-clause-denied
 returns-in_default-clause-denied g c =

@@ -48,7 +48,8 @@ pub returns-in_err-level-in-Tag-clause-denied : goal.returns-in_err-level-in-Tag
 returns-in_err-level-in-Tag-clause-denied g c =
     let exit = err_from_is_err_and c.from_residual-in_err-level-in-Tag.result
     c.from_residual-in_err-level-in-Tag.ensures.1 in
-    let fault : fault_at g.R.Read.remaining c.take_level.new.self c.in_err-level-in-Tag.field-0.0 ≡ of_nesting = ap (fault_at g.R.Read.remaining c.take_level.new.self) c.in_err-level-in-Tag.ensures.err in
+    let fault : fault_at g.R.Read.remaining c.take_level.new.self c.in_err-level-in-Tag.field-0.0 ≡ of_nesting =
+    ap (fault_at g.R.Read.remaining c.take_level.new.self) c.in_err-level-in-Tag.ensures.err in
     rw (exit.1, exit.2) (subst (Denies (IsUnread g.R.Read.remaining) (end_at g.R.Read.remaining) c.args.self.now
     (Some c.args.self.now.levels) taken_outer_tag) (sym fault)
     (tag-nests (IsUnread g.R.Read.remaining) (end_at g.R.Read.remaining) c.args.self.now c.args.self.now.levels
@@ -58,7 +59,8 @@ pub returns-in_err-level-in_default-clause-denied : goal.returns-in_err-level-in
 returns-in_err-level-in_default-clause-denied g c =
     let exit = err_from_is_err_and c.from_residual-in_err-level-in_default.result
     c.from_residual-in_err-level-in_default.ensures.1 in
-    let fault : fault_at g.R.Read.remaining c.take_level-in_default.new.self c.in_err-level-in_default.field-0.0 ≡ of_nesting =
+    let fault : fault_at g.R.Read.remaining c.take_level-in_default.new.self c.in_err-level-in_default.field-0.0
+    ≡ of_nesting =
     ap (fault_at g.R.Read.remaining c.take_level-in_default.new.self) c.in_err-level-in_default.ensures.err in
     rw (exit.1, exit.2) (subst (Denies (IsUnread g.R.Read.remaining) (end_at g.R.Read.remaining) c.args.self.now
     (Some c.args.self.now.levels) taken_outer_tag) (sym fault)

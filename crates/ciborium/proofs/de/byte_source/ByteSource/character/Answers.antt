@@ -25,7 +25,8 @@ short n h = grind (arith, common_steps)
 pub returns-in_err-header-clause-answer : goal.returns-in_err-header-clause-answer
 returns-in_err-header-clause-answer g c =
     let exit = err_from_is_err_and c.from_residual.result c.from_residual.ensures.1 in
-    rw (exit.1, exit.2) (head-denied g.R.Read.remaining c.args.self.now taken_character (fault_at g.R.Read.remaining c.bare_head.new.self c.in_err-header.field-0.0) c.in_err-header.ensures.denied)
+    rw (exit.1, exit.2) (head-denied g.R.Read.remaining c.args.self.now taken_character
+    (fault_at g.R.Read.remaining c.bare_head.new.self c.in_err-header.field-0.0) c.in_err-header.ensures.denied)
 
 pub returns-then-n-gt-GREATEST_CHARACTER_SIZE-clause-answer :
     goal.returns-then-n-gt-GREATEST_CHARACTER_SIZE-clause-answer
@@ -87,7 +88,8 @@ returns-in_err-character-in-Some-clause-answer g c =
     (same-end g.R.Read.remaining c.args.self.now c.bare_head.new.self c.in_ok-header.ensures.reads.only)
     (payload-denied (end_at g.R.Read.remaining c.bare_head.new.self) (IsUnread g.R.Read.remaining c.bare_head.new.self)
     (IsUnread g.R.Read.remaining c.fill.new.self) n payload fault size
-    (c.in_err-character-in-Some.ensures.refused (g.R.Read.remaining c.fill.new.self.decoder.reader.now) (end_at g.R.Read.remaining c.bare_head.new.self))
+    (c.in_err-character-in-Some.ensures.refused (g.R.Read.remaining c.fill.new.self.decoder.reader.now)
+    (end_at g.R.Read.remaining c.bare_head.new.self))
     c.in_ok-fill-in-Some.ensures.ok))
 
 pub returns-in-None-clause-answer : goal.returns-in-None-clause-answer

@@ -42,4 +42,5 @@ returns-in_err-read_exact_keeping-clause-memory g c =
     let exit = err_from_is_err_and c.from_residual.result c.from_residual.ensures.1 in
     let taken = c.in_err-read_exact_keeping.ensures.taken in
     rw (exit.1, exit.2) (granted-fill (g.R.Read.remaining c.read_exact_keeping.new.self.reader.now)
-    c.in_err-read_exact_keeping.field-0.0 taken.0 c.read_exact_keeping.new.buffer c.args.self.now.decoder.window.count false taken.3)
+    c.in_err-read_exact_keeping.field-0.0 taken.0 c.read_exact_keeping.new.buffer c.args.self.now.decoder.window.count
+    false taken.3)

@@ -38,7 +38,8 @@ pub returns-in_err-header-in-Open-clause-refused : goal.returns-in_err-header-in
 returns-in_err-header-in-Open-clause-refused g c =
     let exit = err_from_is_err_and c.from_residual.result c.from_residual.ensures.1 in
     rw (exit.1, exit.2) (no-next g.R.Read.remaining c.args.self.now c.args.seq.now
-    (fault_at g.R.Read.remaining c.next_head.new.self c.in_err-header-in-Open.field-0.0) c.in-Open.is c.in_err-header-in-Open.ensures.denied)
+    (fault_at g.R.Read.remaining c.next_head.new.self c.in_err-header-in-Open.field-0.0) c.in-Open.is
+    c.in_err-header-in-Open.ensures.denied)
 
 pub returns-in-Break-clause-ok : goal.returns-in-Break-clause-ok
 returns-in-Break-clause-ok g c =

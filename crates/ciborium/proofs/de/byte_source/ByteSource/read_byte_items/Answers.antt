@@ -29,7 +29,8 @@ pub returns-in_err-goes_on-clause-refused : goal.returns-in_err-goes_on-clause-r
 returns-in_err-goes_on-clause-refused g c =
     let exit = err_from_is_err_and c.from_residual.result c.from_residual.ensures.1 in
     rw (exit.1, exit.2) (partly-next-fault g.R.Read.remaining taken_byte c.args.self.now c.args.seq c.items.self
-    c.items.left c.items.bytes.items (fault_at g.R.Read.remaining c.next_part.new.self c.in_err-goes_on.field-0.0) c.items.invariant.read
+    c.items.left c.items.bytes.items (fault_at g.R.Read.remaining c.next_part.new.self c.in_err-goes_on.field-0.0)
+    c.items.invariant.read
     c.in_err-goes_on.ensures.refused)
 
 pub returns-then-not-goes_on-clause-ok : goal.returns-then-not-goes_on-clause-ok

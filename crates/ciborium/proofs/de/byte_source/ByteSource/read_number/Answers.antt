@@ -85,7 +85,8 @@ returns-in_err-number-in-Some-part-clause-denied g c =
     let exit = err_from_is_err_and c.from_residual-in_err-number-in-Some-part.result
     c.from_residual-in_err-number-in-Some-part.ensures.1 in
     let U = IsUnread g.R.Read.remaining in
-    let fault = fault_at g.R.Read.remaining c.read_digits-in-Some-part.new.self c.in_err-number-in-Some-part.field-0.0 in
+    let fault =
+    fault_at g.R.Read.remaining c.read_digits-in-Some-part.new.self c.in_err-number-in-Some-part.field-0.0 in
     let mid = c.next_head.new.self in
     rw (exit.1, exit.2) (subst (λ l. DeniesContent (U c.args.self.now) (end_at g.R.Read.remaining c.args.self.now)
     of_bytes l fault) (sym c.in-None.is)

@@ -94,7 +94,8 @@ returns-in_err-value-in-None-clause-answer g c =
     (taken_value (Some c.args.self.now.levels) i))
     (sym (whole-end g.R.Read.remaining d None b tt
     (subst (λ o. IsUnreadBy g.R.Read.remaining d o b) (sym c.take.ensures.value ∙ c.in-None.is) u)))
-    (subst (λ o. IsFaultOf (d.window.count + length b) (fault_of o error) (taken_value (Some c.args.self.now.levels) i)) held
+    (subst (λ o. IsFaultOf (d.window.count + length b) (fault_of o error)
+    (taken_value (Some c.args.self.now.levels) i)) held
     (whole-faults (left_of g.R.Read.remaining f) error c.args.self.now.levels d.window.count b s z i sp e
     (known-read g.R.Read.remaining Unit d f c.args.self.now.levels (Err error) c.in_err-value-in-None.ensures.value
     b d.window.count ahead))))

@@ -13,4 +13,5 @@ returns-clause-ok g c =
 
 pub returns-clause-refused : goal.returns-clause-refused
 returns-clause-refused g c = err-map c.begin_map.result c.begin_map.ensures.denied
-    (λ e h. refuses-denied g.R.Read.remaining c.args.self.now taken_pairs (fault_at g.R.Read.remaining c.begin_map.new.self e) h)
+    (λ e h. refuses-denied g.R.Read.remaining c.args.self.now taken_pairs
+    (fault_at g.R.Read.remaining c.begin_map.new.self e) h)

@@ -13,4 +13,5 @@ returns-clause-ok g c =
 
 pub returns-clause-refused : goal.returns-clause-refused
 returns-clause-refused g c = err-map c.begin_seq.result c.begin_seq.ensures.denied
-    (λ e h. refuses-denied g.R.Read.remaining c.args.self.now taken_seq (fault_at g.R.Read.remaining c.begin_seq.new.self e) h)
+    (λ e h. refuses-denied g.R.Read.remaining c.args.self.now taken_seq
+    (fault_at g.R.Read.remaining c.begin_seq.new.self e) h)

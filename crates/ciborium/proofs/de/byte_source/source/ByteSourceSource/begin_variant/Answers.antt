@@ -22,4 +22,5 @@ returns-clause-took g c =
 
 pub returns-clause-refused : goal.returns-clause-refused
 returns-clause-refused g c = err-map c.begin_variant.result c.begin_variant.ensures.denied
-    (λ e h. refuses-denied g.R.Read.remaining c.args.self.now taken_variant (fault_at g.R.Read.remaining c.begin_variant.new.self e) h)
+    (λ e h. refuses-denied g.R.Read.remaining c.args.self.now taken_variant
+    (fault_at g.R.Read.remaining c.begin_variant.new.self e) h)

@@ -9,4 +9,5 @@ returns-clause-ok g c = still-next g.R.Read.remaining c.args.self.now c.allow.ne
 
 pub returns-clause-refused : goal.returns-clause-refused
 returns-clause-refused g c = still-refused g.R.Read.remaining c.args.self.now c.allow.new.self c.args.seq.now
-    c.allow.ensures.still _ c.next_part.result (fault_at g.R.Read.remaining c.next_part.new.self) c.next_part.ensures.refused
+    c.allow.ensures.still _ c.next_part.result (fault_at g.R.Read.remaining c.next_part.new.self)
+    c.next_part.ensures.refused

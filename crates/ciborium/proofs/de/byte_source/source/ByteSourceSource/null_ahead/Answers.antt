@@ -10,7 +10,8 @@ use Rattle.ciborium.proofs.de.byte_source.source.ByteSourceSource.null_ahead.Goa
 pub returns-in_err-header-clause-refused : goal.returns-in_err-header-clause-refused
 returns-in_err-header-clause-refused g c =
     let exit = err_from_is_err_and c.from_residual.result c.from_residual.ensures.1 in
-    rw (exit.1, exit.2) (refuses-to-tell g.R.Read.remaining c.args.self.now (fault_at g.R.Read.remaining c.next_head.new.self c.in_err-header.field-0.0)
+    rw (exit.1, exit.2) (refuses-to-tell g.R.Read.remaining c.args.self.now
+    (fault_at g.R.Read.remaining c.next_head.new.self c.in_err-header.field-0.0)
     c.in_err-header.ensures.denied)
 
 pub returns : goal.returns
