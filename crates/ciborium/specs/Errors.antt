@@ -1,11 +1,11 @@
 -- The refusals of the definitions that the errors of reading stand for.
-use Rattle.std.specs.Prelude.{◌≡◌, ℕ, List, [], Option, Some, None}
+use Rattle.std.specs.Prelude.{◌≡◌, ℕ, List, [], ◌∷◌, Option, Some, None}
 use Rattle.ciborium_ll.specs.declared.header.Error.{Error as LlError}
 use Rattle.ciborium_ll.specs.declared.header.Error.TheVariants as ll
 use Rattle.ciborium_ll.specs.Refusal as refusal
 use Rattle.ciborium_ll.specs.Refusal.{Refusal}
-use Rattle.ciborium_value.specs.Sources.{Fault, of_device, of_kind, of_length, of_memory}
-use Rattle.ciborium_value.specs.Sources.{of_nesting, of_syntax}
+use Rattle.ciborium_value.specs.Sources.{Fault, of_device, of_end, of_kind, of_length}
+use Rattle.ciborium_value.specs.Sources.{of_memory, of_nesting, of_syntax}
 use Rattle.ciborium_value.specs.declared.kind.Kind.{Kind}
 use Rattle.ciborium_value.specs.declared.kind.Kind.TheVariants as kinds
 use Rattle.ciborium.specs.declared.de.error.Error.{Error}
@@ -58,10 +58,17 @@ without_reader_error RecursionLimitExceeded = RecursionLimitExceeded
 without_reader_error Memory = Memory
 without_reader_error TooLong = TooLong
 
-abbrev pub fault_of : {E : Type 0} → Error E → Fault
-fault_of (Io e) = of_device
-fault_of (Syntax p) = of_syntax
-fault_of (Semantic p k) = of_kind k
-fault_of RecursionLimitExceeded = of_nesting
-fault_of Memory = of_memory
-fault_of TooLong = of_length
+-- why a reader gave no more that is left with this: it came to its end, or the device failed
+abbrev pub io_fault : Option (List ℕ) → Fault
+io_fault None = of_device
+io_fault (Some []) = of_end
+io_fault (Some (x ∷ b)) = of_device
+
+-- why a call refused that leaves this of the reader
+abbrev pub fault_of : {E : Type 0} → Option (List ℕ) → Error E → Fault
+fault_of left (Io e) = io_fault left
+fault_of left (Syntax p) = of_syntax
+fault_of left (Semantic p k) = of_kind k
+fault_of left RecursionLimitExceeded = of_nesting
+fault_of left Memory = of_memory
+fault_of left TooLong = of_length

@@ -13,6 +13,7 @@ use Rattle.ciborium.specs.declared.de.error.Error.TheVariants.{Io, Syntax, Seman
 use Rattle.ciborium.specs.declared.de.error.Error.TheVariants.{RecursionLimitExceeded, Memory}
 use Rattle.ciborium.specs.declared.de.error.Error.TheVariants.{TooLong}
 use Rattle.ciborium.specs.inner.ByteSources.{HasTakenSince, IsUnread, ReadsValue, StandsBefore}
+use Rattle.ciborium.specs.inner.ByteSources.{fault_at}
 use Rattle.ciborium.specs.Errors.{fault_of}
 use Rattle.ciborium.specs.Spelling.{any}
 use Rattle.ciborium.specs.TypedAnswers.{RefusesTaken, TakesBeginning, TakesGiven}
@@ -52,9 +53,9 @@ pub record ReadsNextAsType {T A E : Type 0} (l : ℕ) (reading : Reading T A)
   pub end : TellsEnd before after r
   pub ok : Otherwise r (λ q. TakesGiven (Some l) reading.taken before after
       (read_as reading.content q))
-  pub refused : Otherwise r (λ q. RefusesTaken 0 (Some l) reading.taken before
+  pub refused : Otherwise r (λ q. RefusesTaken 0 (Some l) reading.taken before after
       (read_as reading.content q))
-  pub memory : IfErr r (λ e. IsGrantedFault (fault_of e) reading.needs_memory)
+  pub memory : IfErr r (λ e. IsGrantedFault (fault_of after e) reading.needs_memory)
   pub taken : TakesBeginning before after
   pub value : Otherwise r (λ q. IfSome reading.whole (λ tree. ReadsWhole any before l after
       (read_as (λ v. tree (reading.content v)) q)))
@@ -85,8 +86,9 @@ IsReadFrom remaining reading old new r = record {
   ok : IfOk r (λ v. TakesAhead (StandsBefore remaining) old new reading.taken (reading.content v));
   took : OnOk r (TakesItem (IsUnread remaining) old new);
   only : TakesOnly (HasTakenSince remaining) old new;
-  refused : IfErr r (λ e. RefusesAhead (StandsBefore remaining) old reading.taken (fault_of e));
-  memory : IfErr r (λ e. IsGrantedFault (fault_of e) reading.needs_memory);
+  refused : IfErr r (λ e. RefusesAhead (StandsBefore remaining) old reading.taken
+      (fault_at remaining new e));
+  memory : IfErr r (λ e. IsGrantedFault (fault_at remaining new e) reading.needs_memory);
   whole : IfSome reading.whole (λ tree. ReadsValue remaining old new
       (read_as (λ v. tree (reading.content v)) r));
 }

@@ -1,10 +1,10 @@
 -- Reading a whole sequence of items (RFC 8742, section 2) as values of one type.
-use Rattle.std.specs.Prelude.{◌≡◌, ℕ, List, [], ◌∷◌, ◌++◌, length, Option, Some, Result, IfOk}
-use Rattle.std.specs.Prelude.{IfErr}
+use Rattle.std.specs.Prelude.{◌≡◌, ℕ, List, [], ◌∷◌, ◌++◌, length, Option, Some, None, Result}
+use Rattle.std.specs.Prelude.{IfErr, IfOk}
 use Rattle.ciborium_ll.specs.Item.{Item}
 use Rattle.ciborium_ll.specs.Spells.{Spells}
 use Rattle.ciborium_value.specs.Nesting.{Limit}
-use Rattle.ciborium_value.specs.Sources.{Fault, IsOutsideFault}
+use Rattle.ciborium_value.specs.Sources.{IsOutsideFault}
 use Rattle.ciborium_value.specs.Taken.{gives, Taken}
 use Rattle.ciborium.specs.declared.de.error.Error.{Error}
 use Rattle.ciborium.specs.Errors.{fault_of}
@@ -21,13 +21,15 @@ GivesThen l taken b (c ∷ cs) u = (i : Item) × (s : List ℕ) × (left : List 
 abbrev pub GivesInTurn : {A : Type 0} → Limit → Taken A → List ℕ → List A → Type 0
 GivesInTurn l taken b cs = GivesThen l taken b cs []
 
--- behind items that give values, what is left is refused: an item at its front as it is, and where
--- nothing is left, for what no item
--- decides
-abbrev pub IsRefusedThen : {A : Type 0} → Limit → Taken A → List ℕ → Fault → Type 0
-IsRefusedThen {A} l taken b fault =
+-- behind items that give values, what is left is refused by a call that leaves `after` of the
+-- reader: an item at its front as it is, and where nothing is left, for what no item decides, as the
+-- device may also fail at the end
+abbrev pub IsRefusedThen : {A E : Type 0} → Limit → Taken A → List ℕ → Option (List ℕ) → Error E →
+    Type 0
+IsRefusedThen {A} l taken b after e =
     (cs : List A) × (u : List ℕ) × GivesThen l taken b cs u ×
-    IsFaultAhead (length u) l taken u fault × (u ≡ [] → IsOutsideFault 0 fault)
+    IsFaultAhead (length u) l taken u (fault_of after e) ×
+    (u ≡ [] → IsOutsideFault 0 (fault_of None e))
 
 -- ---- what the reader held before, what it is left with, and the answer
 
@@ -39,6 +41,6 @@ TakesSequence l taken before after r = (b : List ℕ) → before ≡ Some b →
 
 -- refused only behind items that give values, and as what follows them is
 abbrev pub RefusesSequence : {A E : Type 0} → Limit → Taken A → Option (List ℕ) →
-    Result (List A) (Error E) → Type 0
-RefusesSequence l taken before r = (b : List ℕ) → before ≡ Some b →
-    IfErr r (λ e. IsRefusedThen l taken b (fault_of e))
+    Option (List ℕ) → Result (List A) (Error E) → Type 0
+RefusesSequence l taken before after r = (b : List ℕ) → before ≡ Some b →
+    IfErr r (λ e. IsRefusedThen l taken b after e)

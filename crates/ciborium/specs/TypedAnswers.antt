@@ -10,7 +10,7 @@ use Rattle.ciborium_value.specs.Nesting.{Limit}
 use Rattle.ciborium_value.specs.ProperTrees.{IsProperTree}
 use Rattle.ciborium_value.specs.Readings.{Reading}
 use Rattle.ciborium_value.specs.Sources.{Fault, of_kind, of_nesting, of_syntax, of_memory}
-use Rattle.ciborium_value.specs.Sources.{of_device, of_length, IsFaultOf, IsGrantedFault}
+use Rattle.ciborium_value.specs.Sources.{of_device, of_end, of_length, IsFaultOf, IsGrantedFault}
 use Rattle.ciborium_value.specs.Sources.{read_as}
 use Rattle.ciborium_value.specs.Taken.{gives, Taken}
 use Rattle.ciborium_value.specs.Tree.{Tree}
@@ -41,11 +41,11 @@ TakesGiven l taken before after r = (b : List ℕ) → before ≡ Some b →
     IfOk r (λ v. TakesGiving l taken b v after)
 
 -- an item at the front, at offset p, is refused only as it is: as too long only where what is there
--- passes the greatest offset
+-- passes the greatest offset, and with `Io` only where the device failed, not at the reader's end
 abbrev pub RefusesTaken : {A E : Type 0} → ℕ → Limit → Taken A → Option (List ℕ) →
-    Result A (Error E) → Type 0
-RefusesTaken p l taken before r = (b : List ℕ) → before ≡ Some b →
-    IfErr r (λ e. IsFaultAhead (p + length b) l taken b (fault_of e))
+    Option (List ℕ) → Result A (Error E) → Type 0
+RefusesTaken p l taken before after r = (b : List ℕ) → before ≡ Some b →
+    IfErr r (λ e. IsFaultAhead (p + length b) l taken b (fault_of after e))
 
 -- some bytes were taken, a beginning of those that are known, and nothing else
 abbrev pub TakesBeginning : Option (List ℕ) → Option (List ℕ) → Type 0
@@ -60,8 +60,8 @@ pub record ReadsAsType {T A E : Type 0} (p : ℕ) (l : Limit) (reading : Reading
   -- where an item stands at the front: just it was taken, and the answer is what it gives; or it is
   -- refused as the item is
   pub ok : TakesGiven l reading.taken before after (read_as reading.content r)
-  pub refused : RefusesTaken p l reading.taken before (read_as reading.content r)
-  pub memory : IfErr r (λ e. IsGrantedFault (fault_of e) reading.needs_memory)
+  pub refused : RefusesTaken p l reading.taken before after (read_as reading.content r)
+  pub memory : IfErr r (λ e. IsGrantedFault (fault_of after e) reading.needs_memory)
   -- refused or not
   pub taken : TakesBeginning before after
   pub value : IfSome reading.whole (λ tree. P (read_as (λ v. tree (reading.content v)) r))
@@ -77,7 +77,7 @@ AnswersTree taken i (Err e) = IsErrorOf e (taken None i)
 abbrev pub AnswersBytes : {A E : Type 0} → Taken A → ℕ → List ℕ → Option (List ℕ) →
     Result A (Error E) → Type 0
 AnswersBytes taken l b after r = TakesGiven (Some l) taken (Some b) after r ×
-    RefusesTaken 0 (Some l) taken (Some b) r
+    RefusesTaken 0 (Some l) taken (Some b) after r
 
 -- refused for nesting, for want of memory, as too long or by the device
 abbrev pub IsExcused : Fault → Type 0
@@ -86,6 +86,7 @@ IsExcused of_nesting = Unit {0}
 IsExcused of_syntax = ⊥
 IsExcused of_memory = Unit {0}
 IsExcused of_device = Unit {0}
+IsExcused of_end = ⊥
 IsExcused of_length = Unit {0}
 
 -- refused with this kind, or excused
@@ -95,16 +96,18 @@ IsSameKind k of_nesting = Unit {0}
 IsSameKind k of_syntax = ⊥
 IsSameKind k of_memory = Unit {0}
 IsSameKind k of_device = Unit {0}
+IsSameKind k of_end = ⊥
 IsSameKind k of_length = Unit {0}
 
--- the same value, or both are refused with the same kind; the second may be refused for nesting,
--- and either for want of memory
-abbrev pub AreOneAnswer : {A E : Type 0} → Result A TreeError → Result A (Error E) → Type 0
-AreOneAnswer (Ok v) (Ok w) = v ≡ w
-AreOneAnswer (Ok v) (Err e) = IsExcused (fault_of e)
-AreOneAnswer (Err (of_tree.Custom k)) (Ok w) = ⊥
-AreOneAnswer (Err (of_tree.Custom k)) (Err e) = IsSameKind k (fault_of e)
-AreOneAnswer (Err of_tree.Memory) r = Unit {0}
+-- the same value, or both are refused with the same kind; the second, which leaves this of its
+-- reader, may be refused for nesting, and either for want of memory
+abbrev pub AreOneAnswer : {A E : Type 0} → Option (List ℕ) → Result A TreeError →
+    Result A (Error E) → Type 0
+AreOneAnswer after (Ok v) (Ok w) = v ≡ w
+AreOneAnswer after (Ok v) (Err e) = IsExcused (fault_of after e)
+AreOneAnswer after (Err (of_tree.Custom k)) (Ok w) = ⊥
+AreOneAnswer after (Err (of_tree.Custom k)) (Err e) = IsSameKind k (fault_of after e)
+AreOneAnswer after (Err of_tree.Memory) r = Unit {0}
 
 -- what a tree gives, and what its encoding gives within a limit, are one answer
 abbrev pub SourcesAgree : {A : Type 0} → Taken A → Type 0
@@ -112,4 +115,4 @@ SourcesAgree {A} taken =
     (v : Tree) (l : ℕ) (after : Option (List ℕ)) (r : Result A TreeError)
     (q : Result A (Error IoError)) →
     IsProperTree v → AnswersTree taken (item_of v) r → AnswersBytes taken l (encoding v) after q →
-    AreOneAnswer r q
+    AreOneAnswer after r q

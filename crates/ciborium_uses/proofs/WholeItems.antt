@@ -1,12 +1,16 @@
 -- One item that is all of the bytes.
-use Rattle.std.proofs.Common.{arith, ◌≡◌, refl, sym, ap, subst, ◌∙◌, ℕ, ◌<◌, ◌==◌, true, Some}
+use Rattle.std.proofs.Common.{arith, ◌≡◌, refl, sym, ap, subst, ◌∙◌, ℕ, ◌<◌, ◌==◌, true, Option, Some, None}
 use Rattle.std.proofs.Common.{List, [], ◌∷◌, ◌++◌, length, append-nil}
 use Rattle.ciborium.specs.Bytes.{greatest_offset}
+use Rattle.ciborium.specs.Errors.{fault_of}
 use Rattle.ciborium.specs.Item.{Item}
 use Rattle.ciborium.specs.Spells.{Spells}
-use Rattle.ciborium.specs.Sources.{Fault, of_device, of_kind, of_length, of_memory, of_nesting, of_syntax, IsFaultOf}
+use Rattle.ciborium.specs.Sources.{Fault, of_device, of_end, of_kind, of_length, of_memory, of_nesting, of_syntax}
+use Rattle.ciborium.specs.Sources.{IsFaultOf}
 use Rattle.ciborium.specs.Taken.{Taken, gives}
 use Rattle.ciborium.specs.TypedAnswers.{TakesGiving}
+use Rattle.ciborium.specs.declared.de.error.Error.{Error}
+use Rattle.ciborium.specs.declared.de.error.Error.TheVariants as errors
 use Rattle.ciborium.specs.laws.SpellingLaws.{OneAtFront}
 use Rattle.ciborium_uses.specs.Envelopes.{IsAllOf, IsBlameless}
 
@@ -38,4 +42,15 @@ no_blame taken n i w of_nesting given short e = cc
 no_blame taken n i w of_syntax given short e = e
 no_blame taken n i w of_memory given short e = tt
 no_blame taken n i w of_device given short e = tt
+no_blame taken n i w of_end given short e = e
 no_blame taken n i w of_length given short e = short e
+
+-- the device may fail, whatever is left of the reader
+pub no_blame_at : {E : Type 0} (left : Option (List ℕ)) (e : Error E) → IsBlameless (fault_of left e) →
+    IsBlameless (fault_of None e)
+no_blame_at left (errors.Io x) h = tt
+no_blame_at left (errors.Syntax p) h = h
+no_blame_at left (errors.Semantic p k) h = h
+no_blame_at left errors.RecursionLimitExceeded h = h
+no_blame_at left errors.Memory h = tt
+no_blame_at left errors.TooLong h = h

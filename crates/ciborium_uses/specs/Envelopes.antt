@@ -13,8 +13,8 @@ use Rattle.ciborium.specs.Encoding.{item_of}
 use Rattle.ciborium.specs.Errors.{fault_of}
 use Rattle.ciborium.specs.Order.{tree_cmp}
 use Rattle.ciborium.specs.TreeVariants.{IsMapTree}
-use Rattle.ciborium.specs.Sources.{Fault, of_device, of_kind, of_length, of_memory, of_nesting}
-use Rattle.ciborium.specs.Sources.{of_syntax}
+use Rattle.ciborium.specs.Sources.{Fault, of_device, of_end, of_kind, of_length, of_memory}
+use Rattle.ciborium.specs.Sources.{of_nesting, of_syntax}
 use Rattle.ciborium.specs.TagReadings.{if_tag, is_tag, taken_with_tag}
 use Rattle.ciborium.specs.Taken.{Taken, gives, taken_value}
 use Rattle.ciborium.specs.TakenParts.{taken_map, taken_then}
@@ -47,10 +47,11 @@ IsBlameless of_nesting = ⊥
 IsBlameless of_syntax = ⊥
 IsBlameless of_memory = Unit {0}
 IsBlameless of_device = Unit {0}
+IsBlameless of_end = ⊥
 IsBlameless of_length = ⊥
 
 abbrev pub IsOutside : EnvelopeError → Type 0
-IsOutside (errors.Read part e) = IsBlameless (fault_of e)
+IsOutside (errors.Read part e) = IsBlameless (fault_of None e)
 IsOutside errors.Memory = Unit {0}
 IsOutside _ = ⊥
 

@@ -14,15 +14,15 @@ use Rattle.ciborium_value.specs.declared.kind.Kind.{Kind}
 
 -- ---- why a source refused
 
--- a kind, no level left, bytes that spell no item, want of memory, the device: its failure or its
--- end; or the greatest offset would be
--- passed
+-- a kind, no level left, bytes that spell no item, want of memory, the device failed, the reader
+-- came to its end, or the greatest offset would be passed
 pub data Fault : Type 0 where
   of_kind : Kind → Fault
   of_nesting : Fault
   of_syntax : Fault
   of_memory : Fault
   of_device : Fault
+  of_end : Fault
   of_length : Fault
 
 -- where what is there ends at this offset, an item that gives this outcome is refused for this, or
@@ -34,6 +34,7 @@ IsFaultOf end of_nesting o = o ≡ nests
 IsFaultOf end of_syntax o = ⊥
 IsFaultOf end of_memory o = Unit {0}
 IsFaultOf end of_device o = Unit {0}
+IsFaultOf end of_end o = ⊥
 IsFaultOf end of_length o = greatest_offset < end
 
 -- refused for what no item decides
@@ -43,6 +44,7 @@ IsOutsideFault end of_nesting = ⊥
 IsOutsideFault end of_syntax = ⊥
 IsOutsideFault end of_memory = Unit {0}
 IsOutsideFault end of_device = Unit {0}
+IsOutsideFault end of_end = ⊥
 IsOutsideFault end of_length = greatest_offset < end
 
 -- want of memory comes only from those that take memory
@@ -52,6 +54,7 @@ IsGrantedFault of_nesting takes_memory = Unit {0}
 IsGrantedFault of_syntax takes_memory = Unit {0}
 IsGrantedFault of_memory takes_memory = IsTrue takes_memory
 IsGrantedFault of_device takes_memory = Unit {0}
+IsGrantedFault of_end takes_memory = Unit {0}
 IsGrantedFault of_length takes_memory = Unit {0}
 
 -- an answer by what counts of it
@@ -181,10 +184,10 @@ TakesOnly {S = S} HasTaken old new = (first : S) → HasTaken first old → HasT
 -- what is said of a call for one item: the answer is what the item gives, and just the item was
 -- taken; or it is refused only where the item is, and for that; and no more is left than before
 pub record TakesOneItem {S A V E : Type 0} (StandsBefore : S → Limit → Ahead → Type 0)
-    (IsUnread : S → List ℕ → Type 0) (HasTaken : S → S → Type 0) (left : S → ℕ) (cause : E → Fault)
-    (old new : S) (taken : Taken A) (content : V → A) (result : Result V E) : Type 0 where
+    (IsUnread : S → List ℕ → Type 0) (HasTaken : S → S → Type 0) (left : S → ℕ)
+    (cause : S → E → Fault) (old new : S) (taken : Taken A) (content : V → A) (result : Result V E) : Type 0 where
   pub ok : IfOk result (λ v. TakesAhead StandsBefore old new taken (content v))
-  pub refused : IfErr result (λ e. RefusesAhead StandsBefore old taken (cause e))
+  pub refused : IfErr result (λ e. RefusesAhead StandsBefore old taken (cause new e))
   pub took : OnOk result (TakesItem IsUnread old new)
   pub only : TakesOnly HasTaken old new
   pub less : OnOk result (left new < left old)

@@ -32,8 +32,9 @@ pub trait Deserialize: Sized + Drop {
             (λ v. TakesAhead S.stands_before source.old source.new reading.taken (reading.content
             v)) }
         ensures refused { IfErr result
-            (λ e. RefusesAhead S.stands_before source.old reading.taken (S.cause e)) }
-        ensures memory { IfErr result (λ e. IsGrantedFault (S.cause e) reading.needs_memory) }
+            (λ e. RefusesAhead S.stands_before source.old reading.taken (S.cause source.new e)) }
+        ensures memory { IfErr result
+            (λ e. IsGrantedFault (S.cause source.new e) reading.needs_memory) }
         ensures whole { IfSome reading.whole (λ tree. S.reads source.old source.new
             (read_as (λ v. tree (reading.content v)) result)) }
         ensures took { OnOk result (TakesItem S.is_unread source.old source.new) }

@@ -130,7 +130,7 @@ impl<'a> Source for TreeSource<'a> {
 
     ghost reads = { λ old new answer. Unit {0} };
 
-    ghost cause = { tree_fault };
+    ghost cause = { λ _ e. tree_fault e };
 
     fn integer(&mut self) -> Result<(bool, u128), Error> {
         match self.take() {

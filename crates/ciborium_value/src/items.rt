@@ -101,7 +101,7 @@ pub trait WantedItems: Sized + Drop {
         ensures ok { IfOk result (λ i. TakesInTurn S.stands_before S.seq_stands
             source.old source.new seq.old items.taken (content i)) }
         ensures refused { IfErr result (λ e. RefusesInTurn S.stands_before S.seq_stands
-            source.old seq.old items.taken (S.cause e)) }
+            source.old seq.old items.taken (S.cause source.new e)) }
         ensures took { OnOk result (TakesRest S.is_unread S.owes source.old source.new seq.old) }
         ensures only { TakesOnly S.has_taken source.old source.new }
         ensures less { OnOk result (S.left source.new ≤ S.left source.old + S.seq_left seq.old) }

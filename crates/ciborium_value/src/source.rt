@@ -67,8 +67,8 @@ pub trait Source {
     // What a call of `value` did and answered.
     ghost reads: { Self → Self → Result Tree Self.Error → Type 0 };
 
-    // Why it refused.
-    ghost cause: { Self.Error → Fault };
+    // Why it refused, in the state that the refused call left.
+    ghost cause: { Self → Self.Error → Fault };
 
     /// A number: whether it is negative, and the n of the number n or -1 - n. Skips tags other than
     /// 2 and 3. Takes an integer, or tag 2 or 3 over a byte string, of definite or indefinite
@@ -77,25 +77,25 @@ pub trait Source {
     fn integer(&mut self) -> Result<(bool, u128), Self::Error>
         ensures takes { TakesOneItem stands_before is_unread has_taken left cause self.old self.new
             taken_integer (λ v. v) result }
-        ensures memory { IfErr result (λ e. IsGrantedFault (cause e) false) };
+        ensures memory { IfErr result (λ e. IsGrantedFault (cause self.new e) false) };
 
     /// False or true (section 3.3). Skips tags; another item is refused as `Bool`.
     fn boolean(&mut self) -> Result<bool, Self::Error>
         ensures takes { TakesOneItem stands_before is_unread has_taken left cause self.old self.new
             taken_boolean (λ v. v) result }
-        ensures memory { IfErr result (λ e. IsGrantedFault (cause e) false) };
+        ensures memory { IfErr result (λ e. IsGrantedFault (cause self.new e) false) };
 
     /// Null or undefined (section 3.3). Skips tags; another item is refused as `Unit`.
     fn unit(&mut self) -> Result<(), Self::Error>
         ensures takes { TakesOneItem stands_before is_unread has_taken left cause self.old self.new
             taken_unit (λ v. v) result }
-        ensures memory { IfErr result (λ e. IsGrantedFault (cause e) false) };
+        ensures memory { IfErr result (λ e. IsGrantedFault (cause self.new e) false) };
 
     /// The one character of a definite text. Skips tags; another item is refused as `Char`.
     fn character(&mut self) -> Result<char, Self::Error>
         ensures takes { TakesOneItem stands_before is_unread has_taken left cause self.old self.new
             taken_character (λ v. v) result }
-        ensures memory { IfErr result (λ e. IsGrantedFault (cause e) false) };
+        ensures memory { IfErr result (λ e. IsGrantedFault (cause self.new e) false) };
 
     /// A text, of definite or indefinite length (section 3.1). Skips tags; another item is refused
     /// as `Text`.
@@ -119,8 +119,9 @@ pub trait Source {
     /// Whether the item ahead is null or undefined, without a tag. It is not taken.
     fn null_ahead(&mut self) -> Result<bool, Self::Error>
         ensures ok { IfOk result (λ b. Tells stands_before self.old self.new b) }
-        ensures refused { IfErr result (λ e. RefusesToTell stands_before self.old (cause e)) }
-        ensures memory { IfErr result (λ e. IsGrantedFault (cause e) false) }
+        ensures refused { IfErr result
+            (λ e. RefusesToTell stands_before self.old (cause self.new e)) }
+        ensures memory { IfErr result (λ e. IsGrantedFault (cause self.new e) false) }
         ensures took { OnOk result (TakesNothing is_unread self.old self.new) }
         ensures only { TakesOnly has_taken self.old self.new }
         ensures less { OnOk result (left self.new ≤ left self.old) }
@@ -133,8 +134,8 @@ pub trait Source {
         ensures ok { IfOk result (λ p. Holds stands_before level_stands self.old self.new
             taken_outer_tag p.0 p.1) }
         ensures refused { IfErr result
-            (λ e. RefusesAhead stands_before self.old taken_outer_tag (cause e)) }
-        ensures memory { IfErr result (λ e. IsGrantedFault (cause e) false) }
+            (λ e. RefusesAhead stands_before self.old taken_outer_tag (cause self.new e)) }
+        ensures memory { IfErr result (λ e. IsGrantedFault (cause self.new e) false) }
         ensures took { OnOk result (TakesTo is_unread self.old self.new Completes) }
         ensures only { TakesOnly has_taken self.old self.new }
         ensures less { IfOk result (λ p. left self.new + level_left p.1 ≤ left self.old) }
@@ -155,7 +156,7 @@ pub trait Source {
         ensures ok { IfOk result (λ p. Holds stands_before level_stands self.old self.new
             taken_variant (string_bytes p.0) p.1) }
         ensures refused { IfErr result
-            (λ e. RefusesAhead stands_before self.old taken_variant (cause e)) }
+            (λ e. RefusesAhead stands_before self.old taken_variant (cause self.new e)) }
         ensures took { OnOk result (TakesTo is_unread self.old self.new Completes) }
         ensures only { TakesOnly has_taken self.old self.new }
         ensures less { IfOk result (λ p. left self.new + level_left p.1 ≤ left self.old) }
@@ -173,7 +174,7 @@ pub trait Source {
     fn begin_seq(&mut self, alloc: Global) -> Result<Self::Seq, Self::Error>
         ensures ok { IfOk result (λ q. Enters stands_before seq_stands self.old self.new q) }
         ensures refused { IfErr result
-            (λ e. RefusesAhead stands_before self.old taken_seq (cause e)) }
+            (λ e. RefusesAhead stands_before self.old taken_seq (cause self.new e)) }
         ensures took { IfOk result (λ q. TakesTo is_unread self.old self.new (owes q sequence)) }
         ensures only { TakesOnly has_taken self.old self.new }
         ensures less { IfOk result (λ q. left self.new + seq_left q < left self.old) }
@@ -183,8 +184,8 @@ pub trait Source {
     fn begin_map(&mut self) -> Result<Self::Seq, Self::Error>
         ensures ok { IfOk result (λ q. EntersMap stands_before seq_stands self.old self.new q) }
         ensures refused { IfErr result
-            (λ e. RefusesAhead stands_before self.old taken_pairs (cause e)) }
-        ensures memory { IfErr result (λ e. IsGrantedFault (cause e) false) }
+            (λ e. RefusesAhead stands_before self.old taken_pairs (cause self.new e)) }
+        ensures memory { IfErr result (λ e. IsGrantedFault (cause self.new e) false) }
         ensures took { IfOk result (λ q. TakesTo is_unread self.old self.new (owes q dictionary)) }
         ensures only { TakesOnly has_taken self.old self.new }
         ensures less { IfOk result (λ q. left self.new + seq_left q < left self.old) }
@@ -197,8 +198,8 @@ pub trait Source {
             (GoesOn stands_before seq_stands self.old self.new seq.old seq.new)
             (Leaves stands_before seq_stands self.old self.new seq.old)) }
         ensures refused { IfErr result
-            (λ e. RefusesNext stands_before seq_stands self.old seq.old (cause e)) }
-        ensures memory { IfErr result (λ e. IsGrantedFault (cause e) false) }
+            (λ e. RefusesNext stands_before seq_stands self.old seq.old (cause self.new e)) }
+        ensures memory { IfErr result (λ e. IsGrantedFault (cause self.new e) false) }
         ensures took { IfOk result (λ b. MatchBool b
             (TakesTo is_unread self.old self.new (OwesLess owes seq.old seq.new))
             (TakesTo is_unread self.old self.new (OwesNothing owes seq.old))) }
@@ -216,9 +217,9 @@ pub trait Source {
 
     /// The error with which an implementation of `Deserialize` refuses an item.
     fn refuse(&self, kind: Kind) -> Self::Error
-        ensures { cause result ≡ of_kind kind };
+        ensures { cause self.now result ≡ of_kind kind };
 
     /// The error of an implementation of `Deserialize` in which an allocation failed.
     fn memory(&self) -> Self::Error
-        ensures { cause result ≡ of_memory };
+        ensures { cause self.now result ≡ of_memory };
 }

@@ -48,7 +48,7 @@ pub trait WantedFields: Drop {
         ensures ok { OnOk result (TakesAhead S.stands_before source.old source.new
             ((fields self.old).taken name.now (content self.old)) (content self.new)) }
         ensures refused { IfErr result (λ e. RefusesAhead S.stands_before source.old
-            ((fields self.old).taken name.now (content self.old)) (S.cause e)) }
+            ((fields self.old).taken name.now (content self.old)) (S.cause source.new e)) }
         ensures took { OnOk result (TakesItem S.is_unread source.old source.new) }
         ensures only { TakesOnly S.has_taken source.old source.new }
         ensures less { OnOk result (S.left source.new < S.left source.old) }
@@ -113,7 +113,7 @@ pub fn read_fields<F: WantedFields, S: Source>(
     ensures ok { OnOk result (TakesAhead S.stands_before source.old source.new
         (taken_fields (F.fields fields.old) (F.content fields.old)) (F.content fields.new)) }
     ensures refused { IfErr result (λ e. RefusesAhead S.stands_before source.old
-        (taken_fields (F.fields fields.old) (F.content fields.old)) (S.cause e)) }
+        (taken_fields (F.fields fields.old) (F.content fields.old)) (S.cause source.new e)) }
     ensures took { OnOk result (TakesItem S.is_unread source.old source.new) }
     ensures only { TakesOnly S.has_taken source.old source.new }
     ensures less { OnOk result (S.left source.new < S.left source.old) }
@@ -134,7 +134,7 @@ pub fn read_fields<F: WantedFields, S: Source>(
 /// It is refused as `Other` where nothing was read.
 pub fn required<T: Drop, S: Source>(source: &S, field: Option<T>) -> Result<T, S::Error>
     ensures found { IfOk result (λ v. field ≡ Some v) }
-    ensures missing { IfErr result (λ e. (field ≡ None) × (S.cause e ≡ of_kind Other)) }
+    ensures missing { IfErr result (λ e. (field ≡ None) × (S.cause source.now e ≡ of_kind Other)) }
 {
     match field {
         Some(value) => Ok(value),

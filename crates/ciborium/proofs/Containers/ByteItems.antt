@@ -13,6 +13,7 @@ use Rattle.ciborium_value.specs.Ahead.{Rest, Form, after, parts, past, inside, e
 use Rattle.ciborium_value.specs.Nesting.{Limit}
 use Rattle.ciborium_value.specs.Places.{sequence}
 use Rattle.ciborium_value.specs.Sources.{Fault, IsFaultOf, of_kind, of_nesting, of_syntax, of_memory, of_device}
+use Rattle.ciborium_value.specs.Sources.{of_end}
 use Rattle.ciborium_value.specs.Sources.{of_length, TakesAhead, RefusesAhead, TakesItem, TakesTo, GoesOn, Leaves}
 use Rattle.ciborium_value.specs.Sources.{RefusesNext, OwesLess, OwesNothing, HasItem, TakesOneItem, TakesOnly}
 use Rattle.ciborium_value.specs.Taken.{Outcome, Taken, gives, refuses, nests, deeper, then_take, and_take, take_each}
@@ -22,7 +23,7 @@ use Rattle.ciborium_value.proofs.Sources.Sequences.{fault_outside, fault_then}
 use Rattle.ciborium.specs.declared.de.byte_source.ByteSource.{ByteSource}
 use Rattle.ciborium.specs.declared.de.byte_source.ByteSeq.{ByteSeq}
 use Rattle.ciborium.specs.declared.de.error.Error.{Error}
-use Rattle.ciborium.specs.Errors.{fault_of}
+use Rattle.ciborium.specs.inner.ByteSources.{fault_at}
 use Rattle.ciborium.specs.inner.ByteSources.{AnswersItem, PassesItem, IsUnread, StandsBefore, SeqStands, SeqOwes}
 use Rattle.ciborium.specs.inner.ByteSources.{EntersItemsUnread, ReadsRest, RefusesRest, items_due_behind, pending_count}
 use Rattle.ciborium.specs.inner.ByteSources.{HasTaken, HasTakenSince, ReadsBareHead, end_at, parts_left, reader_of}
@@ -113,6 +114,7 @@ each-fault end of_nesting f (j ∷ done) i rest vs h b =
 each-fault end of_syntax f done i rest vs h b = absurd b
 each-fault end of_memory f done i rest vs h b = tt
 each-fault end of_device f done i rest vs h b = tt
+each-fault end of_end f done i rest vs h b = absurd b
 each-fault end of_length f done i rest vs h b = b
 
 -- some items of what was left were read
@@ -315,8 +317,8 @@ bytes-read remaining old mid new len payload bare content =
 module _ {S T A : Type 0} (remaining : S → Option (List ℕ)) (old new : ByteSource S) (taken : Taken A) (content : T → A)
   where
     abbrev pub TakesOne : Result T (Error (Unit {0})) → Type 0
-    TakesOne = TakesOneItem (StandsBefore remaining) (IsUnread remaining) (HasTakenSince remaining) weight_left fault_of
-        old new taken content
+    TakesOne = TakesOneItem (StandsBefore remaining) (IsUnread remaining) (HasTakenSince remaining) weight_left
+        (fault_at remaining) old new taken content
 
     pub takes-given : (v : T) → IsKept remaining old new → new.levels ≡ old.levels → new.pending ≡ None →
         weight_left new < weight_left old →
@@ -332,10 +334,11 @@ module _ {S T A : Type 0} (remaining : S → Option (List ℕ)) (old new : ByteS
 
     pub takes-denied : (e : Error (Unit {0})) → TakesOnly (HasTaken remaining) old.decoder new.decoder →
         weight_left new ≤ weight_left old →
-        Denies (IsUnread remaining) (end_at remaining) old (Some old.levels) taken (fault_of e) → TakesOne (Err e)
+        Denies (IsUnread remaining) (end_at remaining) old (Some old.levels) taken (fault_at remaining new e) →
+        TakesOne (Err e)
     takes-denied e only no_more h = record {
       ok = tt;
-      refused = refuses-denied remaining old taken (fault_of e) h;
+      refused = refuses-denied remaining old taken (fault_at remaining new e) h;
       took = tt;
       only = λ first t. only first.decoder t;
       less = tt;

@@ -9,8 +9,7 @@ use Rattle.ciborium_value.specs.declared.kind.Kind.{Kind}
 use Rattle.ciborium.specs.declared.de.byte_source.ByteSource.{ByteSource}
 use Rattle.ciborium.specs.declared.de.error.Error.{Error}
 use Rattle.ciborium.specs.declared.de.error.Error.TheVariants.{RecursionLimitExceeded}
-use Rattle.ciborium.specs.Errors.{fault_of}
-use Rattle.ciborium.specs.inner.ByteSources.{HasTaken, IsUnread, end_at}
+use Rattle.ciborium.specs.inner.ByteSources.{HasTaken, IsUnread, end_at, fault_at}
 use Rattle.ciborium.specs.inner.FrontItems.{Denies, DeniesItem, Reads}
 use Rattle.ciborium.specs.inner.Skips.{AreSkipped, TakesBare, under}
 use Rattle.ciborium.specs.inner.StringContents.{DeniesContent, TakesContent, head_of, string_item}
@@ -36,11 +35,11 @@ module _ {S A : Type 0} (remaining : S → Option (List ℕ)) (old : ByteSource 
         (of_kind k) head blames
 
     -- no level is left for what it begins
-    pub nested-denied : (k : Header) → h ≡ k → (e : Error Unit) → e ≡ RecursionLimitExceeded →
+    pub nested-denied : (new : ByteSource S) (k : Header) → h ≡ k → (e : Error Unit) → e ≡ RecursionLimitExceeded →
         ((ts : List ℕ) (i : Item) → AreSkipped false ts → header_of i ≡ k →
-        taken (Some old.levels) (under ts i) ≡ nests) → IsDenied (fault_of e)
-    nested-denied k is e err nested = denies-nested (IsUnread remaining) false k (Some old.levels) taken
-        (end_at remaining) old mid (fault_of e) (ap fault_of err)
+        taken (Some old.levels) (under ts i) ≡ nests) → IsDenied (fault_at remaining new e)
+    nested-denied new k is e err nested = denies-nested (IsUnread remaining) false k (Some old.levels) taken
+        (end_at remaining) old mid (fault_at remaining new e) (ap (fault_at remaining new) err)
         (subst (TakesBare (IsUnread remaining) old mid false) is head) nested
 
     module _ (kind : StringKind) (len : Option ℕ) (is : h ≡ head_of kind len) where

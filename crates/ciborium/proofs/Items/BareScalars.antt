@@ -7,7 +7,7 @@ use Rattle.ciborium_ll.specs.Item.{Item, tag, simple}
 use Rattle.ciborium_value.specs.Meaning.{is_bignum_tag}
 use Rattle.ciborium_value.specs.Nesting.{Limit}
 use Rattle.ciborium_value.specs.Sources.{Fault, IsFaultOf, of_kind, of_nesting, of_syntax, of_memory, of_device}
-use Rattle.ciborium_value.specs.Sources.{of_length}
+use Rattle.ciborium_value.specs.Sources.{of_end, of_length}
 use Rattle.ciborium_value.specs.Taken.{gives, refuses, untagged, number_of, bignum_of, bare_boolean, bare_unit}
 use Rattle.ciborium_value.specs.Taken.{boolean_of, is_null_simple, taken_bignum, taken_boolean, taken_integer}
 use Rattle.ciborium_value.specs.Taken.{taken_unit}
@@ -33,6 +33,7 @@ signed-fault end t i of_nesting e b = rw (e, b) refl
 signed-fault end t i of_syntax e b = absurd b
 signed-fault end t i of_memory e b = tt
 signed-fault end t i of_device e b = tt
+signed-fault end t i of_end e b = absurd b
 signed-fault end t i of_length e b = b
 
 module _ {S : Type 0} (IsUnread : S → List ℕ → Type 0) (t : ℕ) (l : Limit) (is : is_bignum_tag t ≡ true) where

@@ -1,7 +1,7 @@
 -- What stands at the front of unread bytes, where a head is read or refused.
 use Rattle.std.proofs.Common.{◌≡◌, ℕ, suc, ◌+◌, ◌-◌, ◌*◌, add-zero, Ok, ◌/◌, ◌%◌, ◌<◌, ◌≤◌, cond, ltb, Bool, true}
 use Rattle.std.proofs.Common.{false, ◌&&◌, List, [], ◌∷◌, ◌++◌, length, Option, Some, None, refl, sym, ap, ◌∙◌, subst}
-use Rattle.std.proofs.Common.{arith, ne_eqb, ◌⊎◌, inl, inr, length-append, ltb-true, ltb-false}
+use Rattle.std.proofs.Common.{arith, ne_eqb, ◌⊎◌, inl, inr, length-append, ltb-true, ltb-false, le-ltb, Err}
 use Rattle.std.proofs.lemmas.Nat.{div-mul-add, mod-mul-add}
 use Rattle.ciborium_ll.specs.declared.header.Header.{Header}
 use Rattle.ciborium_ll.specs.declared.header.Header.TheVariants as header
@@ -9,40 +9,40 @@ use Rattle.ciborium_ll.specs.declared.header.Error.{Error as LlError}
 use Rattle.ciborium_ll.specs.declared.header.Error.TheVariants as ll
 use Rattle.ciborium_ll.specs.declared.decoder.Decoder.{Decoder}
 use Rattle.ciborium_ll.specs.Bytes.{greatest_offset}
-use Rattle.ciborium_ll.specs.Decoding.{IsAhead, IsAheadBy, PullsTo, Takes, left_of}
+use Rattle.ciborium_ll.specs.Decoding.{IsAhead, IsAheadBy, IsSpent, PullsTo, Takes, left_of}
 use Rattle.ciborium_ll.specs.Head.{initial_byte}
 use Rattle.ciborium_ll.specs.Header.{SpellsHeader, announced_length}
 use Rattle.ciborium_ll.specs.ReaderSteps as reading
-use Rattle.ciborium_ll.specs.ReaderSteps.{IsHeadTaken}
+use Rattle.ciborium_ll.specs.ReaderSteps.{IsFillTaken, IsHeadTaken}
 use Rattle.ciborium_ll.specs.Refusal.{Refusal, io, syntax, too_long, argument_length, payload_length, is_reserved}
 use Rattle.ciborium_ll.specs.Refusal.{is_low_simple, initial_refusal, HeadRefuses, IsUsable, head_refusal}
 use Rattle.ciborium_ll.proofs.HeadAnswers.{header-begins, header-fits, Begins, Facts}
+use Rattle.ciborium_ll.proofs.HeldBytes.{unread-none}
 use Rattle.ciborium_ll.proofs.MoreBytes.{payload_length-more}
 use Rattle.ciborium_ll.proofs.OneHeader.{one_header_at_front}
 use Rattle.ciborium_ll.proofs.UsableHeads.{and_false}
-use Rattle.ciborium_value.specs.Sources.{IsOutsideFault}
+use Rattle.ciborium_value.specs.Sources.{IsGrantedFault, IsOutsideFault}
 use Rattle.ciborium.specs.declared.de.byte_source.ByteSource.{ByteSource}
-use Rattle.ciborium.specs.Errors.{from_ll}
+use Rattle.ciborium.specs.Errors.{fault_of, from_ll, io_fault}
 use Rattle.ciborium.specs.inner.ByteSources.{IsHeadCounted, IsUnreadBy, bytes_weight, pending_head_weight, head_weight}
 use Rattle.ciborium.specs.inner.ByteSources.{weight_left}
-use Rattle.ciborium.specs.Errors.{fault_of}
 
--- ---- a head that is spelled is not refused as ill-formed
+-- ---- a head that is spelled is refused only as too long
 
-initial-never : (t u v w : Bool) (p q : ℕ) → t ≡ false →
-    cond t (Some (syntax p)) (cond u (Some too_long) (cond v (Some io) (cond w (Some too_long) None))) ≡ Some (syntax q)
-    → ⊥
-initial-never true u v w p q e h = cc
-initial-never false true v w p q e h = cc
-initial-never false false true w p q e h = cc
-initial-never false false false true p q e h = cc
-initial-never false false false false p q e h = cc
+initial-only : (t u v w : Bool) (p : ℕ) (e : Refusal) → t ≡ false → v ≡ false →
+    cond t (Some (syntax p)) (cond u (Some too_long) (cond v (Some io) (cond w (Some too_long) None))) ≡ Some e →
+    e ≡ too_long
+initial-only true u v w p e f g h = cc
+initial-only false true v w p e f g h = cc
+initial-only false false true w p e f g h = cc
+initial-only false false false true p e f g h = cc
+initial-only false false false false p e f g h = cc
 
-head-never : (t u : Bool) (r : Option Refusal) (p q : ℕ) → u ≡ false → (r ≡ Some (syntax q) → ⊥) →
-    cond t (cond u (Some (syntax p)) r) (Some too_long) ≡ Some (syntax q) → ⊥
-head-never true true r p q e f h = cc
-head-never true false r p q e f h = f h
-head-never false u r p q e f h = cc
+head-only : (t u : Bool) (r : Option Refusal) (p : ℕ) (e : Refusal) → u ≡ false → (r ≡ Some e → e ≡ too_long) →
+    cond t (cond u (Some (syntax p)) r) (Some too_long) ≡ Some e → e ≡ too_long
+head-only true true r p e f g h = cc
+head-only true false r p e f g h = g h
+head-only false u r p e f g h = cc
 
 low-more : (m a : ℕ) (c y : List ℕ) → a < 32 → length c ≡ argument_length a →
     is_low_simple (initial_byte m a) c ≡ false → is_low_simple (initial_byte m a) (c ++ y) ≡ false
@@ -54,20 +54,23 @@ low-more m a [] (z ∷ y) below size e = ap (λ t. t && ltb z 32)
     not_wide k = let n : 0 ≡ argument_length 24 = size ∙ ap argument_length k in cc
 low-more m a (z ∷ c) y below size e = e
 
-pub never-syntax : (x y : List ℕ) (h : Header) (p q : ℕ) → SpellsHeader x h → HeadRefuses (x ++ y) p (syntax q) → ⊥
-never-syntax x y h p q s r = by (header-begins x h s)
+pub only-long : (x y : List ℕ) (h : Header) (p : ℕ) (e : Refusal) → SpellsHeader x h → HeadRefuses (x ++ y) p e →
+    e ≡ too_long
+only-long x y h p e s r = by (header-begins x h s)
   where
-    by : Begins x (announced_length h) → ⊥
-    by (m, a, c, e, f) =
+    by : Begins x (announced_length h) → e ≡ too_long
+    by (m, a, c, g, f) =
         let i : ℕ = initial_byte m a in
-        let t : head_refusal (i ∷ (c ++ y)) p ≡ Some (syntax q) = ap (λ (z : List ℕ). head_refusal (z ++ y) p) (sym e) ∙
-        r in
-        head-never (ltb p greatest_offset) (ltb (p + 1) greatest_offset && is_low_simple i (c ++ y))
-        (initial_refusal (i / 32) (i % 32) (c ++ y) p) p q
+        let t : head_refusal (i ∷ (c ++ y)) p ≡ Some e = ap (λ (z : List ℕ). head_refusal (z ++ y) p) (sym g) ∙ r in
+        let info : i % 32 ≡ a = mod-mul-add m 32 a f.below in
+        let size : length c ≡ argument_length (i % 32) = f.size ∙ ap argument_length (sym info) in
+        let more = length-append c y in
+        head-only (ltb p greatest_offset) (ltb (p + 1) greatest_offset && is_low_simple i (c ++ y))
+        (initial_refusal (i / 32) (i % 32) (c ++ y) p) p e
         (and_false _ _ (low-more m a c y f.below f.size f.high))
-        (initial-never (is_reserved (i / 32) (i % 32)) _ _ _ p q
-        (ap (λ k. is_reserved k (i % 32)) (div-mul-add m 32 a f.below) ∙
-        ap (is_reserved m) (mod-mul-add m 32 a f.below) ∙ f.fair))
+        (initial-only (is_reserved (i / 32) (i % 32)) _ (ltb (length (c ++ y)) (argument_length (i % 32))) _ p e
+        (ap (λ k. is_reserved k (i % 32)) (div-mul-add m 32 a f.below) ∙ ap (is_reserved m) info ∙ f.fair)
+        (le-ltb (length (c ++ y)) (argument_length (i % 32)) (omega (arith, size, more))))
         t
 
 -- ---- a head that is spelled, with its payload, is refused as too long only where what is there is
@@ -125,16 +128,54 @@ head-passes x y h p s there r = by (header-begins x h s)
                 payload_length-more m a c y (omega (arith, f.size)) ∙ f.payload in
                 omega (arith, far, size, f.size, same, there)
 
+-- ---- why a reader gave no more
+
+pub io-outside : (left : Option (List ℕ)) (end : ℕ) → (left ≡ Some [] → ⊥) → IsOutsideFault end (io_fault left)
+io-outside None end h = tt
+io-outside (Some []) end h = h refl
+io-outside (Some (x ∷ b)) end h = tt
+
+-- it is no want of memory
+granted-io : (left : Option (List ℕ)) (needs : Bool) → IsGrantedFault (io_fault left) needs
+granted-io None needs = tt
+granted-io (Some []) needs = tt
+granted-io (Some (x ∷ b)) needs = tt
+
+-- nothing is held then
+pub spent-fault : {S E : Type 0} (remaining : S → Option (List ℕ)) (d : Decoder S) (e : LlError E) → IsSpent d e →
+    fault_of (left_of remaining d) (from_ll e) ≡ fault_of (remaining d.reader.now) (from_ll e)
+spent-fault remaining d (ll.Io e) h =
+    ap io_fault (unread-none (remaining d.reader.now) d.window.lookahead d.window.count h)
+spent-fault remaining d (ll.Syntax p) h = refl
+spent-fault remaining d ll.TooLong h = refl
+spent-fault remaining d ll.Memory h = refl
+
 -- where a head is spelled, with its payload, pulling is refused for what it does not decide
 pub head-outside : {E : Type 0} (left : Option (List ℕ)) (e : LlError E) (b x y : List ℕ) (p : ℕ) (h : Header) →
     SpellsHeader x h → b ≡ x ++ y → announced_length h ≤ length y → reading.IsRefusalOf left e (HeadRefuses b p) →
-    IsOutsideFault (p + length b) (fault_of (from_ll e))
-head-outside left (ll.Io e) b x y p h s k there r = tt
+    IsOutsideFault (p + length b) (fault_of left (from_ll e))
+head-outside left (ll.Io e) b x y p h s k there r = io-outside left (p + length b) (λ none.
+    let never = only-long x y h p io s (subst (λ (z : List ℕ). HeadRefuses z p io) k (r none)) in cc)
 head-outside left (ll.Syntax q) b x y p h s k there r =
-    absurd (never-syntax x y h p q s (subst (λ (z : List ℕ). HeadRefuses z p (syntax q)) k r))
+    let never = only-long x y h p (syntax q) s (subst (λ (z : List ℕ). HeadRefuses z p (syntax q)) k r) in cc
 head-outside left ll.TooLong b x y p h s k there r = subst (λ (z : List ℕ). greatest_offset < p + length z) (sym k)
     (head-passes x y h p s there (subst (λ (z : List ℕ). HeadRefuses z p too_long) k r))
 head-outside left ll.Memory b x y p h s k there r = tt
+
+-- pulling never wants memory, and filling a buffer does not
+pub granted-head : {E : Type 0} (left : Option (List ℕ)) (x : LlError E) (b : List ℕ) (p : ℕ) (needs : Bool) →
+    IsHeadTaken {E = E} b p (Err x) → IsGrantedFault (fault_of left (from_ll x)) needs
+granted-head left ll.Memory b p needs h = absurd h.answers
+granted-head left (ll.Io e) b p needs h = granted-io left needs
+granted-head left (ll.Syntax at) b p needs h = tt
+granted-head left ll.TooLong b p needs h = tt
+
+pub granted-fill : {E : Type 0} (left : Option (List ℕ)) (x : LlError E) (b buffer : List ℕ) (p : ℕ) (needs : Bool) →
+    IsFillTaken {E = E} b p buffer (Err x) → IsGrantedFault (fault_of left (from_ll x)) needs
+granted-fill left ll.Memory b buffer p needs h = absurd h
+granted-fill left (ll.Io e) b buffer p needs h = granted-io left needs
+granted-fill left (ll.Syntax at) b buffer p needs h = tt
+granted-fill left ll.TooLong b buffer p needs h = tt
 
 -- ---- heads that are counted
 

@@ -42,6 +42,12 @@ taken-none remaining d = (
   ),
 )
 
+-- the reader is the same
+pub taken-name : {S : Type 0} (remaining : S → Option (List ℕ)) (first d : Decoder S) → HasTaken remaining first d →
+    d.reader.ghost_name ≡ first.reader.ghost_name
+unfolding HasTaken
+taken-name remaining first d (named, taken) = named
+
 -- one state behind another
 pub taken-then : {S : Type 0} (remaining : S → Option (List ℕ)) (a b c : Decoder S) → HasTaken remaining a b →
     HasTaken remaining b c → HasTaken remaining a c

@@ -15,15 +15,16 @@ use Rattle.ciborium_ll.specs.Refusal as refusal
 use Rattle.ciborium_ll.specs.Refusal.{Refusal, io, syntax, too_long, semantic, recursion_limit_exceeded, HeadRefuses}
 use Rattle.ciborium_ll.specs.Refusal.{IsUsable, HasHead, IsAtFront, head_refusal}
 use Rattle.ciborium_ll.specs.Spells.{Spells, SpellsItems}
-use Rattle.ciborium_ll.specs.StringRefusal.{StringKind, of_bytes, of_text, string_major, PayloadRefuses, StringRefuses}
-use Rattle.ciborium_ll.specs.StringRefusal.{ChunkRefuses, ChunksRefuse, OpenStringRefuses}
+use Rattle.ciborium_ll.specs.StringRefusal.{StringKind, of_bytes, of_text, string_major, StringRefuses}
+use Rattle.ciborium_ll.specs.StringRefusal.{ChunksRefuse, OpenStringRefuses}
 use Rattle.ciborium_ll.proofs.OneHeader.{one_header_at_front}
 use Rattle.ciborium_ll.proofs.UniqueSpelling.{one_at_front}
 use Rattle.ciborium_value.specs.Meaning.{folding_bytes, bignum_meaning, big_endian}
 use Rattle.ciborium_value.specs.Nesting.{Limit, IsOneLess}
 use Rattle.ciborium_value.specs.Refuses.{AreGood, Due, exactly, items_until_break, keys_until_break, values_until_break}
 use Rattle.ciborium_value.specs.Refuses.{next_due, due_after, IsDue, BeginsContainer, Refuses}
-use Rattle.ciborium_value.specs.Sources.{Fault, of_kind, of_nesting, of_syntax, of_memory, of_device, of_length}
+use Rattle.ciborium_value.specs.Sources.{Fault, of_kind, of_nesting, of_syntax, of_memory, of_device, of_end}
+use Rattle.ciborium_value.specs.Sources.{of_length}
 use Rattle.ciborium_value.specs.Sources.{IsFaultOf, IsOutsideFault}
 use Rattle.ciborium_value.specs.Taken.{Outcome, gives, refuses, nests, deeper, within_level, outcome_map, of_meaning}
 use Rattle.ciborium_value.specs.Taken.{taken_tag, one_more, one_pair_more, taken_value, taken_items, taken_tree_pairs}
@@ -36,9 +37,9 @@ use Rattle.ciborium_value.proofs.Sources.Sequences.{fault_map, fault_outside}
 use Rattle.ciborium_value.proofs.GoodItems.Parts.{flat, flat-Spells, flat-count, ArePairs, after-left, first-good}
 use Rattle.ciborium_value.proofs.GoodItems.Parts.{rest-good}
 use Rattle.ciborium.specs.inner.StringContents.{head_of}
-use Rattle.ciborium.proofs.Items.FrontReads.{head-passes, never-syntax}
+use Rattle.ciborium.proofs.Items.FrontReads.{head-passes, only-long}
 use Rattle.ciborium.proofs.Items.ItemHeads.{header_of, first-head, first-payload, same-head, no-break-head, tag-front}
-use Rattle.ciborium.proofs.Payloads.SpelledStrings.{definite-never, content-long, content-never, payload-long}
+use Rattle.ciborium.proofs.Payloads.SpelledStrings.{definite-never, content-long, content-only}
 use Rattle.ciborium.proofs.Payloads.SpelledStrings.{string-spells}
 use Rattle.ciborium.proofs.Payloads.StringPayloads.{string-only}
 use Rattle.ciborium.proofs.Items.ValuesGiven.{level-taken, some-value}
@@ -58,59 +59,17 @@ kind_fault refusal.KeyOrder = of_kind kinds.KeyOrder
 
 -- the fault that a refusal is
 abbrev pub fault_of : Refusal → Fault
-fault_of io = of_device
+fault_of io = of_end
 fault_of (syntax p) = of_syntax
 fault_of too_long = of_length
 fault_of (semantic p k) = kind_fault k
 fault_of recursion_limit_exceeded = of_nesting
 
--- ---- refusals of ill-formed bytes
+-- ---- refusals of the bytes that spell an item
 
-abbrev IsOfBytes : Refusal → Type 0
-IsOfBytes io = Unit {0}
-IsOfBytes (syntax p) = Unit {0}
-IsOfBytes too_long = Unit {0}
-IsOfBytes (semantic p k) = ⊥
-IsOfBytes recursion_limit_exceeded = ⊥
-
-abbrev IsOfBytesIf : Option Refusal → Type 0
-IsOfBytesIf None = Unit {0}
-IsOfBytesIf (Some e) = IsOfBytes e
-
-initial-of_bytes : (t u v w : Bool) (p : ℕ) → IsOfBytesIf
-    (cond t (Some (syntax p)) (cond u (Some too_long) (cond v (Some io) (cond w (Some too_long) None))))
-initial-of_bytes true u v w p = tt
-initial-of_bytes false true v w p = tt
-initial-of_bytes false false true w p = tt
-initial-of_bytes false false false true p = tt
-initial-of_bytes false false false false p = tt
-
-head-more : (t u : Bool) (r : Option Refusal) (p : ℕ) → IsOfBytesIf r →
-    IsOfBytesIf (cond t (cond u (Some (syntax p)) r) (Some too_long))
-head-more true true r p h = tt
-head-more true false r p h = h
-head-more false u r p h = tt
-
-head-none : (t : Bool) → IsOfBytesIf (cond t (Some io) (Some too_long))
-head-none true = tt
-head-none false = tt
-
-head-of_bytes : (b : List ℕ) (p : ℕ) → IsOfBytesIf (head_refusal b p)
-head-of_bytes [] p = head-none (ltb p greatest_offset)
-head-of_bytes (x ∷ b) p =
-    let n : ℕ = refusal.argument_length (x % 32) in
-    head-more (ltb p greatest_offset) (ltb (p + 1) greatest_offset && refusal.is_low_simple x b)
-    (refusal.initial_refusal (x / 32) (x % 32) b p) p
-    (initial-of_bytes (refusal.is_reserved (x / 32) (x % 32)) (ltb greatest_offset (p + 1 + n)) (ltb (length b) n)
-    (ltb greatest_offset (p + 1 + n + refusal.payload_length (x / 32) (x % 32) b)) p)
-
-of_bytes-faults : {A : Type 0} (end : ℕ) (e : Refusal) (o : Outcome A) → IsOfBytes e → ((q : ℕ) → e ≡ syntax q → ⊥) →
-    (e ≡ too_long → greatest_offset < end) → IsFaultOf end (fault_of e) o
-of_bytes-faults end io o h f long = tt
-of_bytes-faults end (syntax p) o h f long = absurd (f p refl)
-of_bytes-faults end too_long o h f long = long refl
-of_bytes-faults end (semantic p k) o h f long = absurd h
-of_bytes-faults end recursion_limit_exceeded o h f long = absurd h
+long-faults : {A : Type 0} (end : ℕ) (e : Refusal) (o : Outcome A) → e ≡ too_long → greatest_offset < end →
+    IsFaultOf end (fault_of e) o
+long-faults end e o is long = subst (λ k. IsFaultOf end (fault_of k) o) (sym is) long
 
 head-faults : {A : Type 0} (b : List ℕ) (p : ℕ) (e : Refusal) (i : Item) (s z : List ℕ) (o : Outcome A) →
     HeadRefuses b p e → Spells s i → b ≡ s ++ z → IsFaultOf (p + length b) (fault_of e) o
@@ -119,21 +78,11 @@ head-faults b p e i s z o h sp f =
     let there = first-payload s i sp in
     let more = length-append y z in
     let split : b ≡ x ++ (y ++ z) = f ∙ ap (λ (k : List ℕ). k ++ z) g ∙ append_assoc x y z in
-    of_bytes-faults (p + length b) e o (subst IsOfBytesIf h (head-of_bytes b p))
-    (λ q is. never-syntax x (y ++ z) (header_of i) p q hd
-    (subst (λ (k : List ℕ). HeadRefuses k p (syntax q)) split (subst (HeadRefuses b p) is h)))
-    (λ is. subst (λ (k : List ℕ). greatest_offset < p + length k) (sym split)
+    let front : HeadRefuses (x ++ (y ++ z)) p e = subst (λ (k : List ℕ). HeadRefuses k p e) split h in
+    let is = only-long x (y ++ z) (header_of i) p e hd front in
+    long-faults (p + length b) e o is (subst (λ (k : List ℕ). greatest_offset < p + length k) (sym split)
     (head-passes x (y ++ z) (header_of i) p hd (omega (arith, there, more))
-    (subst (λ (k : List ℕ). HeadRefuses k p too_long) split (subst (HeadRefuses b p) is h))))
-
-payload-of_bytes : {kind : StringKind} {n p : ℕ} {r : List ℕ} {e : Refusal} → PayloadRefuses kind n p r e → IsOfBytes e
-payload-of_bytes (PayloadRefuses.ends_early h) = tt
-payload-of_bytes (PayloadRefuses.not_allowed y r l h) = tt
-
-part-of_bytes : {kind : StringKind} {b : List ℕ} {p : ℕ} {e : Refusal} → ChunkRefuses kind b p e → IsOfBytes e
-part-of_bytes {b = b} {p = p} (ChunkRefuses.no_head h) = subst IsOfBytesIf h (head-of_bytes b p)
-part-of_bytes (ChunkRefuses.chunk u (n, k, r, st, w)) = payload-of_bytes w
-part-of_bytes (ChunkRefuses.other u s e) = tt
+    (subst (HeadRefuses (x ++ (y ++ z)) p) is front)))
 
 string-faults : {A : Type 0} (kind : StringKind) (b : List ℕ) (p : ℕ) (e : Refusal) (i : Item) (s z : List ℕ)
     (o : Outcome A) → StringRefuses kind b p e → Spells s i → b ≡ s ++ z → IsFaultOf (p + length b) (fault_of e) o
@@ -141,10 +90,7 @@ string-faults kind b p e i s z o (n, k, r, (h, hd, len, g), w) sp f =
     let spelled : SpellsHeader h (head_of kind (Some n)) = string-spells kind n h hd in
     let (payload, is) = string-only kind (Some n) i (same-head s z h r i (head_of kind (Some n)) sp spelled
     (sym f ∙ g)).0 in
-    of_bytes-faults (p + length b) e o (payload-of_bytes w)
-    (λ q same. definite-never kind n p q r h s z payload spelled (subst (Spells s) is sp) (sym g ∙ f)
-    (subst (PayloadRefuses kind n p r) same w))
-    (λ same. absurd (payload-long kind n p r e same w))
+    absurd (definite-never kind n p e r h s z payload spelled (subst (Spells s) is sp) (sym g ∙ f) w)
 
 open-head : (kind : StringKind) → SpellsHeader (open_byte (string_major kind) ∷ []) (head_of kind None)
 open-head of_bytes = refl
@@ -156,14 +102,12 @@ open-faults kind b p e i s z o (r, g, w) sp f =
     let h : List ℕ = open_byte (string_major kind) ∷ [] in
     let (payload, is) = string-only kind None i (same-head s z h r i (head_of kind None) sp (open-head kind)
     (sym f ∙ g)).0 in
-    let (good, ps, rest, parts, room, split, v) = w in
-    of_bytes-faults (p + length b) e o (part-of_bytes v)
-    (λ q same. content-never kind None p (p + 1) q r h s z payload (open-head kind) (subst (Spells s) is sp)
-    (sym g ∙ f) (subst (ChunksRefuse kind r (p + 1)) same w))
-    (λ same. let long = content-long kind None p (p + 1) r h s z payload (open-head kind) (subst (Spells s) is sp)
+    let same = content-only kind None p (p + 1) e r h s z payload (open-head kind) (subst (Spells s) is sp)
+    (sym g ∙ f) w in
+    let long = content-long kind None p (p + 1) r h s z payload (open-head kind) (subst (Spells s) is sp)
     (sym g ∙ f) (subst (ChunksRefuse kind r (p + 1)) same w) in
     let size : length b ≡ 1 + length r = (let k : length b ≡ suc (length r) = ap length g in omega (arith, k)) in
-    omega (arith, long, size))
+    long-faults (p + length b) e o same (omega (arith, long, size))
 
 -- ---- scalars
 
@@ -342,6 +286,7 @@ first-faults end of_nesting o os b = ap (λ x. one_more x os) b
 first-faults end of_syntax o os b = b
 first-faults end of_memory o os b = tt
 first-faults end of_device o os b = tt
+first-faults end of_end o os b = b
 first-faults end of_length o os b = b
 
 rest-faults : (end : ℕ) (f : Fault) (o : Outcome Tree) (os : Outcome Trees) (v : Tree) → o ≡ gives v →
@@ -351,6 +296,7 @@ rest-faults end of_nesting o os v e b = ap (λ x. one_more x os) e ∙ ap (outco
 rest-faults end of_syntax o os v e b = b
 rest-faults end of_memory o os v e b = tt
 rest-faults end of_device o os v e b = tt
+rest-faults end of_end o os v e b = b
 rest-faults end of_length o os v e b = b
 
 level-faults : {A : Type 0} (end : ℕ) (f : Fault) (l m : Limit) (w : Limit → Outcome A) → IsOneLess l m →
@@ -389,6 +335,7 @@ flat-faults end of_nesting l (pair x y ps) b = nest-pair (taken_value l x) (take
 flat-faults end of_syntax l ps b = b
 flat-faults end of_memory l ps b = tt
 flat-faults end of_device l ps b = tt
+flat-faults end of_end l ps b = b
 flat-faults end of_length l ps b = b
 
 container-faults : (end : ℕ) (i : Item) (is : Items) (f : Fault) (l m : Limit) → IsContainer i is → IsOneLess l m →

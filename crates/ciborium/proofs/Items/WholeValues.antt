@@ -27,7 +27,9 @@ use Rattle.ciborium.specs.declared.de.error.Error.{Error}
 use Rattle.ciborium.specs.declared.de.error.Error.TheVariants as errors
 use Rattle.ciborium.specs.ValueAnswers.{IsTreeRead, IsValueRead}
 use Rattle.ciborium.specs.inner.ByteSources.{MeansTree, is_portable, IsUnreadBy, known_end, reader_of}
-use Rattle.ciborium.specs.Errors.{fault_of}
+use Rattle.ciborium.specs.Errors.{fault_of, io_fault}
+use Rattle.ciborium_value.proofs.Sources.Sequences.{fault_outside}
+use Rattle.ciborium.proofs.Items.FrontReads.{io-outside}
 use Rattle.ciborium.specs.Errors.{IsRefusedBy, IsNamed, refusal_kind_of}
 use Rattle.ciborium.specs.Spelling.{any}
 use Rattle.ciborium.proofs.Turns.Fronts.{ahead-at, front-fits}
@@ -137,8 +139,9 @@ whole-end remaining d (Some h) b real (x, y, hd, split, left, counted) =
 -- an error is what the item there is refused for
 pub whole-faults : {E : Type 0} (left : Option (List ℕ)) (e : Error E) (l p : ℕ) (b s z : List ℕ) (i : Item) →
     Spells s i → b ≡ s ++ z → IsRefusedBy left e (λ r. Refuses b p (Some l) r) →
-    IsFaultOf (p + length b) (fault_of e) (taken_value (Some l) i)
-whole-faults left (errors.Io x) l p b s z i sp f h = tt
+    IsFaultOf (p + length b) (fault_of left e) (taken_value (Some l) i)
+whole-faults left (errors.Io x) l p b s z i sp f h = fault_outside (p + length b) (io_fault left)
+    (taken_value (Some l) i) (io-outside left (p + length b) (λ none. value-faults (h none) i s z sp f))
 whole-faults left (errors.Syntax q) l p b s z i sp f h = value-faults h i s z sp f
 whole-faults left (errors.Semantic None k) l p b s z i sp f h = absurd h
 whole-faults left (errors.Semantic (Some q) k) l p b s z i sp f h = by k h

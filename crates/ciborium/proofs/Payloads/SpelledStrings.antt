@@ -1,11 +1,11 @@
--- Where a string is spelled, no part of it is refused as ill-formed.
+-- Where a string is spelled, no part of it is refused but as too long.
 use Rattle.std.proofs.Common.{◌≡◌, ℕ, ◌+◌, List, [], ◌∷◌, ◌++◌, length, take, drop, Option, Some, None, refl, sym, ap}
 use Rattle.std.proofs.Common.{◌∙◌, subst, append_assoc, inl, inr, ◌<◌, arith, length-append}
 use Rattle.std.proofs.Math.Seq.{take-append_seam, drop-append_seam}
 use Rattle.ciborium_ll.specs.declared.decoder.Decoder.{Decoder}
 use Rattle.ciborium_ll.specs.declared.header.Header.{Header}
 use Rattle.ciborium_ll.specs.declared.header.Header.TheVariants as header
-use Rattle.ciborium_ll.specs.Decoding.{left_of}
+use Rattle.ciborium_ll.specs.Decoding.{IsSpent, left_of}
 use Rattle.ciborium_ll.specs.declared.header.Error.{Error as LlError}
 use Rattle.ciborium_ll.specs.declared.header.Error.TheVariants as ll
 use Rattle.ciborium_ll.specs.Bytes.{greatest_offset}
@@ -18,11 +18,10 @@ use Rattle.ciborium_ll.specs.StringRefusal.{StringKind, of_bytes, of_text, strin
 use Rattle.ciborium_ll.specs.StringRefusal.{ChunkRefuses, ContentRefuses}
 use Rattle.ciborium_ll.proofs.OneHeader.{one_header_at_front}
 use Rattle.ciborium_value.specs.Sources.{IsOutsideFault}
-use Rattle.ciborium.specs.Errors.{fault_of}
-use Rattle.ciborium.specs.Errors.{from_ll}
+use Rattle.ciborium.specs.Errors.{fault_of, from_ll}
 use Rattle.ciborium.specs.inner.ByteSources.{IsUnreadBy, known_end}
 use Rattle.ciborium.specs.inner.StringContents.{DeniesContent, head_of, string_item}
-use Rattle.ciborium.proofs.Items.FrontReads.{head-passes, never-syntax}
+use Rattle.ciborium.proofs.Items.FrontReads.{head-passes, io-outside, only-long, spent-fault}
 
 -- ---- one head, and behind it one payload
 
@@ -62,58 +61,58 @@ opened-up h p s r g a e f = ap (λ (k : List ℕ). k ++ a) (f ∙ ap (λ (k : Li
 pub same-rest : (x : ℕ) (a b : List ℕ) → x ∷ a ≡ x ∷ b → a ≡ b
 same-rest x a b e = cc
 
--- ---- none is refused
+-- ---- none is refused but as too long
 
-payload-never : (kind : StringKind) (n p at : ℕ) (y : List ℕ) (e : Refusal) (payload z : List ℕ) → e ≡ syntax at →
+payload-never : (kind : StringKind) (n p : ℕ) (y : List ℕ) (e : Refusal) (payload z : List ℕ) →
     n ≡ length payload → IsAllowed kind payload → y ≡ payload ++ z → PayloadRefuses kind n p y e → ⊥
-payload-never kind n p at y io payload z is size ok f (PayloadRefuses.ends_early lt) = cc
-payload-never kind n p at y e payload z is size ok f (PayloadRefuses.not_allowed other r len bad) =
+payload-never kind n p y io payload z size ok f (PayloadRefuses.ends_early lt) =
+    let all : length y ≡ length payload + length z = ap length f ∙ length-append payload z in
+    omega (arith, lt, size, all)
+payload-never kind n p y e payload z size ok f (PayloadRefuses.not_allowed other r len bad) =
     let same : other ≡ payload = sym (take-append_seam other r) ∙ ap (λ k. take k (other ++ r)) (len ∙ size) ∙
     ap (take (length payload)) f ∙ take-append_seam payload z in
     bad (subst (IsAllowed kind) (sym same) ok)
 
 -- at a break
-break-never : (kind : StringKind) (p at : ℕ) (r z : List ℕ) (e : Refusal) → e ≡ syntax at → r ≡ break_byte ∷ z →
-    ChunkRefuses kind r p e → ⊥
-break-never kind p at r z e is f (ChunkRefuses.no_head h) =
-    never-syntax (break_byte ∷ []) z header.Break p at refl
-    (subst (λ (k : List ℕ). HeadRefuses k p (syntax at)) f (subst (HeadRefuses r p) is h))
-break-never kind p at r z e is f (ChunkRefuses.chunk u (n, k, r', (h, hd, len, g), w)) =
-    no-break kind n (one_header_at_front h (break_byte ∷ []) r' z (head_of kind (Some n)) header.Break
-    (string-spells kind n h hd) refl (sym g ∙ f)).2
-break-never kind p at r z e is f (ChunkRefuses.other u string end) = end (z, f)
+break-only : (kind : StringKind) (p : ℕ) (r z : List ℕ) (e : Refusal) → r ≡ break_byte ∷ z → ChunkRefuses kind r p e →
+    e ≡ too_long
+break-only kind p r z e f (ChunkRefuses.no_head h) =
+    only-long (break_byte ∷ []) z header.Break p e refl (subst (λ (k : List ℕ). HeadRefuses k p e) f h)
+break-only kind p r z e f (ChunkRefuses.chunk u (n, k, r', (h, hd, len, g), w)) =
+    absurd (no-break kind n (one_header_at_front h (break_byte ∷ []) r' z (head_of kind (Some n)) header.Break
+    (string-spells kind n h hd) refl (sym g ∙ f)).2)
+break-only kind p r z e f (ChunkRefuses.other u string end) = absurd (end (z, f))
 
 -- at a good part
-part-never : (kind : StringKind) (p at : ℕ) (r h payload z : List ℕ) (e : Refusal) → e ≡ syntax at →
+part-only : (kind : StringKind) (p : ℕ) (r h payload z : List ℕ) (e : Refusal) →
     IsHead h (string_major kind) (length payload) → IsAllowed kind payload → r ≡ h ++ (payload ++ z) →
-    ChunkRefuses kind r p e → ⊥
-part-never kind p at r h payload z e is hd ok f (ChunkRefuses.no_head w) =
-    never-syntax h (payload ++ z) (head_of kind (Some (length payload))) p at (string-spells kind (length payload) h hd)
-    (subst (λ (k : List ℕ). HeadRefuses k p (syntax at)) f (subst (HeadRefuses r p) is w))
-part-never kind p at r h payload z e is hd ok f (ChunkRefuses.chunk u (n, k, r', (x, xd, len, g), w)) =
+    ChunkRefuses kind r p e → e ≡ too_long
+part-only kind p r h payload z e hd ok f (ChunkRefuses.no_head w) =
+    only-long h (payload ++ z) (head_of kind (Some (length payload))) p e (string-spells kind (length payload) h hd)
+    (subst (λ (k : List ℕ). HeadRefuses k p e) f w)
+part-only kind p r h payload z e hd ok f (ChunkRefuses.chunk u (n, k, r', (x, xd, len, g), w)) =
     let one = one_header_at_front x h r' (payload ++ z) (head_of kind (Some n)) (head_of kind (Some (length payload)))
     (string-spells kind n x xd) (string-spells kind (length payload) h hd) (sym g ∙ f) in
-    payload-never kind n p at r' e payload z is (same-size kind n (length payload) one.2) ok one.1 w
-part-never kind p at r h payload z e is hd ok f (ChunkRefuses.other u string end) =
-    string (length payload, length h, payload ++ z, (h, hd, refl, f))
+    absurd (payload-never kind n p r' e payload z (same-size kind n (length payload) one.2) ok one.1 w)
+part-only kind p r h payload z e hd ok f (ChunkRefuses.other u string end) =
+    absurd (string (length payload, length h, payload ++ z, (h, hd, refl, f)))
 
-parts-never : (kind : StringKind) (p at : ℕ) (good t r z : List ℕ) (ps qs : List (List ℕ)) (e : Refusal) →
-    e ≡ syntax at → AreChunks (string_major kind) (IsAllowed kind) good ps →
-    AreChunks (string_major kind) (IsAllowed kind) t qs →
-    good ++ r ≡ t ++ (break_byte ∷ z) → ChunkRefuses kind r p e → ⊥
-parts-never kind p at good t r z [] [] e is g h f w = break-never kind p at r z e is
+parts-only : (kind : StringKind) (p : ℕ) (good t r z : List ℕ) (ps qs : List (List ℕ)) (e : Refusal) →
+    AreChunks (string_major kind) (IsAllowed kind) good ps → AreChunks (string_major kind) (IsAllowed kind) t qs →
+    good ++ r ≡ t ++ (break_byte ∷ z) → ChunkRefuses kind r p e → e ≡ too_long
+parts-only kind p good t r z [] [] e g h f w = break-only kind p r z e
     (ap (λ (k : List ℕ). k ++ r) (sym g) ∙ f ∙ ap (λ (k : List ℕ). k ++ (break_byte ∷ z)) h) w
-parts-never kind p at good t r z [] (q ∷ qs) e is g (s, c, (x, hd, ok, i), rest, j) f w =
-    part-never kind p at r x q (c ++ (break_byte ∷ z)) e is hd ok
+parts-only kind p good t r z [] (q ∷ qs) e g (s, c, (x, hd, ok, i), rest, j) f w =
+    part-only kind p r x q (c ++ (break_byte ∷ z)) e hd ok
     (ap (λ (k : List ℕ). k ++ r) (sym g) ∙ f ∙ opened-up x q s c t (break_byte ∷ z) i j) w
-parts-never kind p at good t r z (m ∷ ps) [] e is (s, c, (x, hd, ok, i), rest, j) h f w =
-    string-break kind x m (c ++ r) z hd (sym (opened-up x m s c good r i j) ∙ f ∙
-    ap (λ (k : List ℕ). k ++ (break_byte ∷ z)) h)
-parts-never kind p at good t r z (m ∷ ps) (q ∷ qs) e is (s, c, (x, hd, ok, i), rest, j)
+parts-only kind p good t r z (m ∷ ps) [] e (s, c, (x, hd, ok, i), rest, j) h f w =
+    absurd (string-break kind x m (c ++ r) z hd (sym (opened-up x m s c good r i j) ∙ f ∙
+    ap (λ (k : List ℕ). k ++ (break_byte ∷ z)) h))
+parts-only kind p good t r z (m ∷ ps) (q ∷ qs) e (s, c, (x, hd, ok, i), rest, j)
     (s', c', (x', hd', ok', i'), rest', j') f w =
     let same = same-payload kind x x' m q (c ++ r) (c' ++ (break_byte ∷ z)) hd hd'
     (sym (opened-up x m s c good r i j) ∙ f ∙ opened-up x' q s' c' t (break_byte ∷ z) i' j') in
-    parts-never kind p at c c' r z ps qs e is rest rest' same.1 w
+    parts-only kind p c c' r z ps qs e rest rest' same.1 w
 
 definite-parts : (kind : StringKind) (n : ℕ) (s payload : List ℕ) → Spells s (string_item kind (Some n) payload) →
     (h : List ℕ) × IsHead h (string_major kind) (length payload) × IsAllowed kind payload × (s ≡ h ++ payload)
@@ -141,25 +140,25 @@ definite-payload kind n y x s z payload hd sp e =
     (string-spells kind (length payload) h kd) (e ∙ ap (λ (k : List ℕ). k ++ z) f ∙ append_assoc h payload z) in
     (same-size kind n (length payload) one.2, ok, one.1)
 
-pub definite-never : (kind : StringKind) (n p at : ℕ) (y x s z payload : List ℕ) →
+pub definite-never : (kind : StringKind) (n p : ℕ) (e : Refusal) (y x s z payload : List ℕ) →
     SpellsHeader x (head_of kind (Some n)) → Spells s (string_item kind (Some n) payload) → x ++ y ≡ s ++ z →
-    PayloadRefuses kind n p y (syntax at) → ⊥
-definite-never kind n p at y x s z payload hd sp e w = let (size, ok, f) =
-    definite-payload kind n y x s z payload hd sp e in
-    payload-never kind n p at y (syntax at) payload z refl size ok f w
+    PayloadRefuses kind n p y e → ⊥
+definite-never kind n p e y x s z payload hd sp f w =
+    let (size, ok, is) = definite-payload kind n y x s z payload hd sp f in
+    payload-never kind n p y e payload z size ok is w
 
-pub content-never : (kind : StringKind) (len : Option ℕ) (p q at : ℕ) (y x s z payload : List ℕ) →
+pub content-only : (kind : StringKind) (len : Option ℕ) (p q : ℕ) (e : Refusal) (y x s z payload : List ℕ) →
     SpellsHeader x (head_of kind len) → Spells s (string_item kind len payload) → x ++ y ≡ s ++ z →
-    ContentRefuses kind len p y q (syntax at) → ⊥
-content-never kind (Some n) p q at y x s z payload hd sp e (inl (over, never)) = cc
-content-never kind (Some n) p q at y x s z payload hd sp e (inr (within, w)) =
-    definite-never kind n p at y x s z payload hd sp e w
-content-never kind None p q at y x s z payload hd sp e (good, ps, r, parts, room, split, w) =
-    let (qs, t, are, f) = open-parts kind s payload sp in
+    ContentRefuses kind len p y q e → e ≡ too_long
+content-only kind (Some n) p q e y x s z payload hd sp f (inl (over, same)) = same
+content-only kind (Some n) p q e y x s z payload hd sp f (inr (within, w)) =
+    absurd (definite-never kind n p e y x s z payload hd sp f w)
+content-only kind None p q e y x s z payload hd sp f (good, ps, r, parts, room, split, w) =
+    let (qs, t, are, g) = open-parts kind s payload sp in
     let o : ℕ = open_byte (string_major kind) in
     let behind : y ≡ (t ++ (break_byte ∷ [])) ++ z = same-rest o y ((t ++ (break_byte ∷ [])) ++ z)
-    (ap (λ (k : List ℕ). k ++ y) (sym (open-spells kind x hd)) ∙ e ∙ ap (λ (k : List ℕ). k ++ z) f) in
-    parts-never kind (q + length good) at good t r z ps qs (syntax at) refl parts are
+    (ap (λ (k : List ℕ). k ++ y) (sym (open-spells kind x hd)) ∙ f ∙ ap (λ (k : List ℕ). k ++ z) g) in
+    parts-only kind (q + length good) good t r z ps qs e parts are
     (sym split ∙ behind ∙ append_assoc t (break_byte ∷ []) z) w
 
 -- ---- what is refused as too long is
@@ -239,10 +238,12 @@ content-long kind None p q y x s z payload hd sp e (good, ps, r, parts, room, sp
 content-outside : {E : Type 0} (left : Option (List ℕ)) (e : LlError E) (kind : StringKind) (len : Option ℕ)
     (p q : ℕ) (y x s z payload : List ℕ) → SpellsHeader x (head_of kind len) → Spells s (string_item kind len payload) →
     x ++ y ≡ s ++ z →
-    reading.IsRefusalOf left e (ContentRefuses kind len p y q) → IsOutsideFault (q + length y) (fault_of (from_ll e))
-content-outside left (ll.Io e) kind len p q y x s z payload hd sp f r = tt
+    reading.IsRefusalOf left e (ContentRefuses kind len p y q) →
+    IsOutsideFault (q + length y) (fault_of left (from_ll e))
+content-outside left (ll.Io e) kind len p q y x s z payload hd sp f r = io-outside left (q + length y) (λ none.
+    let never = content-only kind len p q io y x s z payload hd sp f (r none) in cc)
 content-outside left (ll.Syntax at) kind len p q y x s z payload hd sp f r =
-    absurd (content-never kind len p q at y x s z payload hd sp f r)
+    let never = content-only kind len p q (syntax at) y x s z payload hd sp f r in cc
 content-outside left ll.TooLong kind len p q y x s z payload hd sp f r =
     content-long kind len p q y x s z payload hd sp f r
 content-outside left ll.Memory kind len p q y x s z payload hd sp f r = tt
@@ -251,11 +252,13 @@ content-outside left ll.Memory kind len p q y x s z payload hd sp f r = tt
 pub content-denied : {S E : Type 0} (remaining : S → Option (List ℕ)) (d e : Decoder S) (pending : Option (Header × ℕ))
     (x : LlError E) (kind : StringKind) (len : Option ℕ) → pending ≡ None →
     ((y : List ℕ) → left_of remaining d ≡ Some y →
-    reading.IsRefusalOf (left_of remaining e) x (ContentRefuses kind len d.last y d.window.count)) →
+    reading.IsRefusalOf (left_of remaining e) x (ContentRefuses kind len d.last y d.window.count)) → IsSpent e x →
     DeniesContent (IsUnreadBy remaining d pending) (known_end (left_of remaining d) d.window.count) kind len
-    (fault_of (from_ll x))
-content-denied remaining d e pending x kind len none refused y b s z payload u hd sp split =
+    (fault_of (remaining e.reader.now) (from_ll x))
+content-denied remaining d e pending x kind len none refused spent y b s z payload u hd sp split =
     let left = subst (λ o. IsUnreadBy remaining d o y) none u in
-    subst (λ n. IsOutsideFault n (fault_of (from_ll x))) (sym (ap (λ o. known_end o d.window.count) left))
+    subst (λ n. IsOutsideFault n (fault_of (remaining e.reader.now) (from_ll x)))
+    (sym (ap (λ o. known_end o d.window.count) left))
+    (subst (IsOutsideFault (d.window.count + length y)) (spent-fault remaining e x spent)
     (content-outside (left_of remaining e) x kind len d.last d.window.count y b s z payload hd sp split
-    (refused y left))
+    (refused y left)))

@@ -9,7 +9,8 @@ use Rattle.ciborium_value.specs.Nesting.{IsWithin}
 use Rattle.ciborium_value.specs.Readings.{Reading}
 use Rattle.ciborium_value.specs.ReadsBack.{IsReadBack, by_bytes, by_tree}
 use Rattle.ciborium_value.specs.Sinks.{Named}
-use Rattle.ciborium_value.specs.Sources.{Fault, of_kind, of_nesting, of_syntax, of_memory, of_device, of_length}
+use Rattle.ciborium_value.specs.Sources.{Fault, of_kind, of_nesting, of_syntax, of_memory, of_device, of_end}
+use Rattle.ciborium_value.specs.Sources.{of_length}
 use Rattle.ciborium_value.specs.Sources.{IsFaultOf, IsOutsideFault}
 use Rattle.ciborium_value.specs.Taken.{Outcome, gives}
 use Rattle.ciborium_value.specs.WrittenItems.{IsWritten}
@@ -34,6 +35,7 @@ not-blamed end of_nesting o c e h = cc
 not-blamed end of_syntax o c e h = h
 not-blamed end of_memory o c e h = tt
 not-blamed end of_device o c e h = tt
+not-blamed end of_end o c e h = h
 not-blamed end of_length o c e h = h
 
 pub one-content : {C : Type 0} (o : Outcome C) (c d : C) → o ≡ gives c → o ≡ gives d → d ≡ c
@@ -59,8 +61,8 @@ bytes_read_back {T} {C} IsHeld written reading levels law v i l rest after r hel
     by (Err e) (taken, refused) =
         let n : ℕ = length (written_bytes i ++ rest) in
         let none : 0 + n ≡ n = omega arith in
-        subst (λ m. IsOutsideFault m (fault_of e)) none
-        (not-blamed (0 + n) (fault_of e) (reading.taken (Some l) i) (reading.content v) given
+        subst (λ m. IsOutsideFault m (fault_of after e)) none
+        (not-blamed (0 + n) (fault_of after e) (reading.taken (Some l) i) (reading.content v) given
         (refused (written_bytes i ++ rest) refl i (written_bytes i) rest (written_spells_item i fits) refl))
 
 module _ {T C : Type 0} (IsHeld : T → Type 0) (written : T → Named) (reading : Reading T C) (levels : T → ℕ)

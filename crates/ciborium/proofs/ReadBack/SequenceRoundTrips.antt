@@ -1,6 +1,7 @@
 -- What is written as a sequence is read back.
-use Rattle.std.proofs.Common.{◌≡◌, ℕ, suc, ◌<◌, ◌≤◌, List, [], ◌∷◌, ◌++◌, length, map, All, Some, Result, Ok, Err, refl}
-use Rattle.std.proofs.Common.{sym, ap, ◌∙◌, subst, arith, length-append}
+use Rattle.std.proofs.Common.{◌≡◌, ℕ, suc, ◌<◌, ◌≤◌, List, [], ◌∷◌, ◌++◌, length, map, All, Option, Some, None, Result}
+use Rattle.std.proofs.Common.{Ok, Err}
+use Rattle.std.proofs.Common.{refl, sym, ap, ◌∙◌, subst, arith, length-append}
 use Rattle.std.specs.declared.io.Error.{Error as IoError}
 use Rattle.ciborium_ll.specs.Bytes.{greatest_offset}
 use Rattle.ciborium_ll.specs.Item.{Item}
@@ -11,17 +12,20 @@ use Rattle.ciborium_value.specs.Nesting.{Limit, IsWithin}
 use Rattle.ciborium_value.specs.Places.{items_from}
 use Rattle.ciborium_value.specs.Readings.{Reading}
 use Rattle.ciborium_value.specs.Sinks.{Named, all_named}
-use Rattle.ciborium_value.specs.Sources.{Fault, of_kind, of_nesting, of_syntax, of_memory, of_device, of_length}
+use Rattle.ciborium_value.specs.Sources.{Fault, of_kind, of_nesting, of_syntax, of_memory, of_device, of_end}
+use Rattle.ciborium_value.specs.Sources.{of_length}
 use Rattle.ciborium_value.specs.Sources.{IsOutsideFault}
 use Rattle.ciborium_value.specs.Taken.{Taken, gives}
 use Rattle.ciborium_value.specs.WrittenItems.{AreWritten}
 use Rattle.ciborium_value.proofs.Writing.Progress.{and_then_is}
 use Rattle.ciborium_value.proofs.Writing.ReadBack.{written_spells_item}
 use Rattle.ciborium.specs.declared.de.error.Error.{Error}
+use Rattle.ciborium.specs.declared.de.error.Error.TheVariants.{Io, Syntax, Semantic, RecursionLimitExceeded, Memory}
+use Rattle.ciborium.specs.declared.de.error.Error.TheVariants.{TooLong}
 use Rattle.ciborium.specs.Errors.{fault_of}
-use Rattle.ciborium.specs.laws.RoundTrips.{IsGivenBack}
 use Rattle.ciborium.specs.SequenceReads.{GivesInTurn, GivesThen, TakesSequence}
-use Rattle.ciborium.specs.laws.SequenceRoundTrips.{AnswersSequence, AreContentsReadBack, SequenceReadsBack}
+use Rattle.ciborium.specs.laws.SequenceRoundTrips.{AnswersSequence, AreContentsReadBack, AreGivenBack}
+use Rattle.ciborium.specs.laws.SequenceRoundTrips.{SequenceReadsBack}
 use Rattle.ciborium.specs.SequenceWrites.{AllNamed, AreNamedWritten, WritesInTurn}
 use Rattle.ciborium.specs.declared.ser.error.Error.{Error as WriteError}
 use Rattle.ciborium.specs.TypedAnswers.{IsFaultAhead}
@@ -37,7 +41,18 @@ outside-further n m of_nesting le h = h
 outside-further n m of_syntax le h = h
 outside-further n m of_memory le h = tt
 outside-further n m of_device le h = tt
+outside-further n m of_end le h = h
 outside-further n m of_length le h = let past : greatest_offset < n = h in omega arith
+
+-- where a device may fail besides
+outside-none : {E : Type 0} (left : Option (List ℕ)) (e : Error E) (n : ℕ) → IsOutsideFault n (fault_of left e) →
+    IsOutsideFault n (fault_of None e)
+outside-none left (Io x) n h = tt
+outside-none left (Syntax p) n h = h
+outside-none left (Semantic p k) n h = h
+outside-none left RecursionLimitExceeded n h = h
+outside-none left Memory n h = h
+outside-none left TooLong n h = h
 
 -- ---- items that give contents, one by one, in their shortest spelling
 
@@ -73,27 +88,30 @@ module _ {C : Type 0} (l : Limit) (taken : Taken C) where
       ap (λ x. x ∷ ds) same ∙ ap (λ xs. c ∷ xs) (given-back is cs ds fits.1 given
       (subst (λ b. GivesInTurn l taken b ds) (sym behind) more))
 
-  -- behind some of the items the fault is one that no item decides
-  outside-behind : (fault : Fault) (is : List Item) (cs ds : List C) (u : List ℕ) → AreWritten (items_from is) →
+  -- behind some of the items the fault is one that no item decides, where it is so in front of an item and at the end
+  outside-behind : (front fault : Fault) → ((n : ℕ) → IsOutsideFault n front → IsOutsideFault n fault) →
+      (is : List Item) (cs ds : List C) (u : List ℕ) → AreWritten (items_from is) →
       AreGiven l taken is cs → GivesThen l taken (items_bytes (items_from is)) ds u →
-      IsFaultAhead (length u) l taken u fault → (u ≡ [] → IsOutsideFault 0 fault) →
+      IsFaultAhead (length u) l taken u front → (u ≡ [] → IsOutsideFault 0 fault) →
       IsOutsideFault (length (items_bytes (items_from is))) fault
-  outside-behind fault [] [] [] u fits given gave ahead end = end (sym gave)
-  outside-behind fault [] [] (d ∷ ds) u fits given (j, s, left, spelled, split, gave, more) ahead end =
+  outside-behind front fault so [] [] [] u fits given gave ahead end = end (sym gave)
+  outside-behind front fault so [] [] (d ∷ ds) u fits given (j, s, left, spelled, split, gave, more) ahead end =
       absurd (never-empty [] s left j spelled refl split)
-  outside-behind fault [] (c ∷ cs) ds u fits given gave ahead end = absurd given
-  outside-behind fault (i ∷ is) [] ds u fits given gave ahead end = absurd given
-  outside-behind fault (i ∷ is) (c ∷ cs) [] u (first, rest) given gave ahead end =
+  outside-behind front fault so [] (c ∷ cs) ds u fits given gave ahead end = absurd given
+  outside-behind front fault so (i ∷ is) [] ds u fits given gave ahead end = absurd given
+  outside-behind front fault so (i ∷ is) (c ∷ cs) [] u (first, rest) given gave ahead end =
       subst (λ b. IsOutsideFault (length b) fault) (sym gave)
-      (not-blamed (length u) fault (taken l i) c given.0
-      (ahead i (written_bytes i) (items_bytes (items_from is)) (written_spells_item i first) (sym gave)))
-  outside-behind fault (i ∷ is) (c ∷ cs) (d ∷ ds) u fits (one, given) (j, s, left, spelled, split, gave, more) ahead end
+      (so (length u) (not-blamed (length u) front (taken l i) c given.0
+      (ahead i (written_bytes i) (items_bytes (items_from is)) (written_spells_item i first) (sym gave))))
+  outside-behind front fault so (i ∷ is) (c ∷ cs) (d ∷ ds) u fits (one, given) (j, s, left, spelled, split, gave, more)
+      ahead end
       =
       let (behind, same) = same-front i j is s left c d fits one spelled split gave in
       let less : length (items_bytes (items_from is)) ≤ length (items_bytes (items_from (i ∷ is))) =
       omega (arith, length-append (written_bytes i) (items_bytes (items_from is))) in
       outside-further (length (items_bytes (items_from is))) (length (items_bytes (items_from (i ∷ is)))) fault less
-      (outside-behind fault is cs ds u fits.1 given (subst (λ b. GivesThen l taken b ds u) (sym behind) more) ahead end)
+      (outside-behind front fault so is cs ds u fits.1 given (subst (λ b. GivesThen l taken b ds u) (sym behind) more)
+      ahead end)
 
 -- ---- values whose items are read as their contents
 
@@ -119,12 +137,13 @@ module _ {T C : Type 0} (IsHeld : T → Type 0) (written : T → Named) (reading
       given = are-given (Some l) vs is held named within
 
       by : (r : Result (List C) (Error IoError)) → AnswersSequence reading.taken l (items_bytes (items_from is)) after r
-          → IsGivenBack (map reading.content vs) [] (length (items_bytes (items_from is))) after r
+          → AreGivenBack (map reading.content vs) (length (items_bytes (items_from is))) after r
       by (Ok cs) (taken, refused) = let (gave, left) = taken (items_bytes (items_from is)) refl in
           (given-back (Some l) reading.taken is (map reading.content vs) cs fits given gave, left)
       by (Err e) (taken, refused) =
           let (cs, u, gave, ahead, end) = refused (items_bytes (items_from is)) refl in
-          outside-behind (Some l) reading.taken (fault_of e) is (map reading.content vs) cs u fits given gave ahead end
+          outside-behind (Some l) reading.taken (fault_of after e) (fault_of None e) (outside-none after e) is
+          (map reading.content vs) cs u fits given gave ahead end
 
   pub contents_read_back : (vs again : List T) (bytes rest : List ℕ) →
       AreContentsReadBack IsHeld written reading levels vs again bytes rest

@@ -3,7 +3,8 @@ use Rattle.std.proofs.Common.{◌≡◌, ℕ, [], Some, None, Result, Ok, Err, r
 use Rattle.std.specs.declared.io.Error.{Error as IoError}
 use Rattle.ciborium_ll.proofs.UniqueSpelling.{one_at_front}
 use Rattle.ciborium_value.specs.Encoding.{encoding, item_of}
-use Rattle.ciborium_value.specs.Sources.{Fault, of_kind, of_nesting, of_syntax, of_memory, of_device, of_length}
+use Rattle.ciborium_value.specs.Sources.{Fault, of_kind, of_nesting, of_syntax, of_memory, of_device, of_end}
+use Rattle.ciborium_value.specs.Sources.{of_length}
 use Rattle.ciborium_value.specs.Sources.{IsFaultOf}
 use Rattle.ciborium_value.specs.lemmas.Steady.{IsSteady, IsSameUnlessNested}
 use Rattle.ciborium_value.specs.Taken.{Outcome, gives, refuses, Taken}
@@ -38,6 +39,7 @@ excused end o p v of_nesting h e b = tt
 excused end o p v of_syntax h e b = b
 excused end o p v of_memory h e b = tt
 excused end o p v of_device h e b = tt
+excused end o p v of_end h e b = b
 excused end o p v of_length h e b = tt
 
 same-kind : {A : Type 0} (end : ℕ) (o p : Outcome A) (k : Kind) (f : Fault) → IsSameUnlessNested o p → p ≡ refuses k →
@@ -47,6 +49,7 @@ same-kind end o p k of_nesting h e b = tt
 same-kind end o p k of_syntax h e b = b
 same-kind end o p k of_memory h e b = tt
 same-kind end o p k of_device h e b = tt
+same-kind end o p k of_end h e b = b
 same-kind end o p k of_length h e b = tt
 
 pub sources_agree : {A : Type 0} (taken : Taken A) → IsSteady taken → SourcesAgree taken
@@ -56,14 +59,15 @@ sources_agree {A} taken steady v l after r q proper = by r q
     same = steady.within l (item_of v)
 
     by : (r : Result A TreeError) (q : Result A (Error IoError)) → AnswersTree taken (item_of v) r →
-        AnswersBytes taken l (encoding v) after q → AreOneAnswer r q
+        AnswersBytes taken l (encoding v) after q → AreOneAnswer after r q
     by (Ok x) (Ok y) h (t, f) =
         let (j, s, z, sp, e, g, left) = t (encoding v) refl in
         let one = one_at_front (encoding v) s [] z (item_of v) j (encoding-spells v proper) sp
         (append-nil (encoding v) ∙ e) in
         one-value (taken None (item_of v)) x y h (without-gives (taken (Some l) (item_of v)) (taken None (item_of v)) y
         same (ap (taken (Some l)) one.2 ∙ g))
-    by (Ok x) (Err e) h (t, f) = excused _ (taken (Some l) (item_of v)) (taken None (item_of v)) x (fault_of e) same h
+    by (Ok x) (Err e) h (t, f) = excused _ (taken (Some l) (item_of v)) (taken None (item_of v)) x (fault_of after e)
+        same h
         (f (encoding v) refl (item_of v) (encoding v) [] (encoding-spells v proper) (sym (append-nil (encoding v))))
     by (Err (of_tree.Custom k)) (Ok y) h (t, f) =
         let (j, s, z, sp, e, g, left) = t (encoding v) refl in
@@ -72,6 +76,6 @@ sources_agree {A} taken steady v l after r q proper = by r q
         not-both (taken None (item_of v)) y k (without-gives (taken (Some l) (item_of v)) (taken None (item_of v)) y
         same (ap (taken (Some l)) one.2 ∙ g)) h
     by (Err (of_tree.Custom k)) (Err e) h (t, f) = same-kind _ (taken (Some l) (item_of v)) (taken None (item_of v)) k
-        (fault_of e) same h (f (encoding v) refl (item_of v) (encoding v) [] (encoding-spells v proper)
+        (fault_of after e) same h (f (encoding v) refl (item_of v) (encoding v) [] (encoding-spells v proper)
         (sym (append-nil (encoding v))))
     by (Err of_tree.Memory) q h k = tt

@@ -6,7 +6,7 @@ use Rattle.ciborium_ll.specs.Decoding.{HasBegun, IsAheadBy, with_left, left_of, 
 use Rattle.ciborium_ll.proofs.HeldBytes.{begun-left, counted-left, nothing-allowed}
 use Rattle.ciborium_value.specs.Ahead.{bottom}
 use Rattle.ciborium_value.specs.Readings.{Reading}
-use Rattle.ciborium_value.specs.Sources.{Fault, RefusesAhead, TakesAhead, TakesItem, read_as}
+use Rattle.ciborium_value.specs.Sources.{Fault, IsGrantedFault, RefusesAhead, TakesAhead, TakesItem, read_as}
 use Rattle.ciborium_value.specs.Taken.{Taken}
 use Rattle.ciborium_value.specs.Tree.{Tree}
 use Rattle.ciborium.specs.declared.de.byte_source.ByteSource.{ByteSource}
@@ -18,7 +18,7 @@ use Rattle.ciborium.specs.Errors.{fault_of}
 use Rattle.ciborium.specs.NextItems.{IsReadFrom}
 use Rattle.ciborium.specs.TypedAnswers.{IsFaultAhead, ReadsAsType, TakesGiving}
 use Rattle.ciborium.specs.Spelling.{any}
-use Rattle.ciborium.proofs.Items.TakenOnly.{taken-beginning, taken-none}
+use Rattle.ciborium.proofs.Items.TakenOnly.{taken-beginning, taken-name, taken-none}
 use Rattle.ciborium.proofs.Readers.WhateverFollows.{leaves-name, leaves-rest, taken-tree}
 
 module _ {S A : Type 0} (remaining : S → Option (List ℕ)) (old : ByteSource S) (taken : Taken A) (b : List ℕ)
@@ -61,15 +61,37 @@ handed-given E remaining reading old new b front few x back (Ok v) h =
     handed-ok remaining old reading.taken b front few new (reading.content v) x back h.took h.ok
 handed-given E remaining reading old new b front few x back (Err e) h = tt
 
+-- the reader that was lent is what the source is left with
+handed-back : {S T A : Type 0} (E : Type 0) (remaining : S → Option (List ℕ)) (reading : Reading T A)
+    (old new : ByteSource S) (x : S) →
+    (old.decoder.reader.ghost_name ≡ new.decoder.reader.ghost_name → x ≡ new.decoder.reader.now) →
+    (r : Result T (Error E)) → IsReadFrom {E = E} remaining reading old new r → x ≡ new.decoder.reader.now
+handed-back E remaining reading old new x back r h =
+    back (sym (taken-name remaining old.decoder new.decoder (h.only old (taken-none remaining old.decoder))))
+
 pub handed-denied : {S T A : Type 0} (E : Type 0) (remaining : S → Option (List ℕ)) (reading : Reading T A)
     (old new : ByteSource S) (b : List ℕ) (end : ℕ) → IsUnread remaining old b →
-    allowed_of old.decoder + pending_count old.pending ≤ 1 → end_at remaining old ≡ end →
+    allowed_of old.decoder + pending_count old.pending ≤ 1 → end_at remaining old ≡ end → (x : S) →
+    (old.decoder.reader.ghost_name ≡ new.decoder.reader.ghost_name → x ≡ new.decoder.reader.now) →
     (r : Result T (Error E)) → IsReadFrom {E = E} remaining reading old new r →
-    IfErr (read_as reading.content r) (λ e. IsFaultAhead end (Some old.levels) reading.taken b (fault_of e))
-handed-denied E remaining reading old new b end front few ends (Ok v) h = tt
-handed-denied E remaining reading old new b end front few ends (Err e) h =
-    subst (λ n. IsFaultAhead n (Some old.levels) reading.taken b (fault_of e)) ends
-    (handed-refused remaining old reading.taken b front few (fault_of e) h.refused)
+    IfErr (read_as reading.content r)
+    (λ e. IsFaultAhead end (Some old.levels) reading.taken b (fault_of (remaining x) e))
+handed-denied E remaining reading old new b end front few ends x back (Ok v) h = tt
+handed-denied E remaining reading old new b end front few ends x back (Err e) h =
+    let given = handed-back E remaining reading old new x back (Err e) h in
+    subst (λ n. IsFaultAhead n (Some old.levels) reading.taken b (fault_of (remaining x) e)) ends
+    (handed-refused remaining old reading.taken b front few (fault_of (remaining x) e)
+    (subst (λ y. RefusesAhead (StandsBefore remaining) old reading.taken (fault_of (remaining y) e)) (sym given)
+    h.refused))
+
+pub handed-memory : {S T A : Type 0} (E : Type 0) (remaining : S → Option (List ℕ)) (reading : Reading T A)
+    (old new : ByteSource S) (x : S) →
+    (old.decoder.reader.ghost_name ≡ new.decoder.reader.ghost_name → x ≡ new.decoder.reader.now) →
+    (r : Result T (Error E)) → IsReadFrom {E = E} remaining reading old new r →
+    IfErr r (λ e. IsGrantedFault (fault_of (remaining x) e) reading.needs_memory)
+handed-memory E remaining reading old new x back r h =
+    subst (λ y. IfErr r (λ e. IsGrantedFault (fault_of (remaining y) e) reading.needs_memory))
+    (sym (handed-back E remaining reading old new x back r h)) h.memory
 
 -- ---- where reading is one call of `value`
 
@@ -132,8 +154,8 @@ handed-all E remaining reading old new lent x p begins none back r h =
       ok = λ b e. handed-given E remaining reading old new b (front b e) few x back r h;
       refused = λ b e. handed-denied E remaining reading old new b (p + length b) (front b e) few
           (ap (λ o. known_end o old.decoder.window.count) (begun-left remaining old.decoder lent p begins ∙ e) ∙
-          ap (λ n. n + length b) begins.count) r h;
-      memory = h.memory;
+          ap (λ n. n + length b) begins.count) x back r h;
+      memory = handed-memory E remaining reading old new x back r h;
       taken = taken-beginning remaining old.decoder new.decoder lent x p begins back
           (h.only old (taken-none remaining old.decoder));
       value = some-map reading.whole h.whole (λ tree reads. handed-from E remaining old new lent x p

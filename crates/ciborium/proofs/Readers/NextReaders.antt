@@ -1,6 +1,6 @@
 -- From the head that was pulled first, and what is read behind it, to the reader of a sequence.
 use Rattle.std.proofs.Common.{◌≡◌, ℕ, ◌+◌, ◌<◌, ◌≤◌, List, [], ◌++◌, length, Option, Some, None, Result, Ok, Err}
-use Rattle.std.proofs.Common.{Bool, IfErr, IfNone, IfSome, refl, sym, ap, ◌∙◌, subst, append_assoc, arith}
+use Rattle.std.proofs.Common.{IfErr, IfNone, IfSome, refl, sym, ap, ◌∙◌, subst, append_assoc, arith}
 use Rattle.std.proofs.Common.{length-append}
 use Rattle.std.specs.Io.KnownBytes.{Consumes, IsAtEnd}
 use Rattle.std.proofs.KnownBytes.{Consumes-trans}
@@ -32,8 +32,9 @@ use Rattle.ciborium.specs.NextItems.{IfNotEnded, IsReadIo, IsReadFrom, Otherwise
 use Rattle.ciborium.specs.NextItems.{behind_head}
 use Rattle.ciborium.specs.TypedAnswers.{IsFaultAhead, RefusesTaken, TakesGiven}
 use Rattle.ciborium.specs.Spelling.{any}
-use Rattle.ciborium.proofs.Items.FrontReads.{head-outside}
-use Rattle.ciborium.proofs.Readers.HandedReaders.{handed-denied, handed-given, on-ok, some-map}
+use Rattle.ciborium.proofs.Items.FrontReads.{granted-head, head-outside}
+use Rattle.ciborium.proofs.Readers.HandedReaders.{handed-denied, handed-given, handed-memory, on-ok}
+use Rattle.ciborium.proofs.Readers.HandedReaders.{some-map}
 use Rattle.ciborium.proofs.Items.ItemHeads.{first-head, first-payload, header_of}
 use Rattle.ciborium.proofs.Readers.KnownReaders.{whole-of}
 use Rattle.ciborium.proofs.Turns.Pulled.{refused-from, refused-map}
@@ -180,24 +181,26 @@ module _ {S T A : Type 0} (E : Type 0) (remaining : S → Option (List ℕ)) (re
         some-map reading.whole item.whole (λ tree reads. whole-of {E = E} any s.levels (remaining lent) (remaining x)
         (Err e) (joined E remaining d s lent begins kept h taken t x (Err e) back reads))
 
-  next-refused : (first : Option Header) (r : Result (Option T) (Error E)) → First first → End first r →
-      Behind first r → Otherwise r (λ q. RefusesTaken 0 (Some s.levels) reading.taken (remaining lent)
-      (read_as reading.content q))
-  next-refused None r taken (is, same) item = end-says r
-      (λ q. RefusesTaken 0 (Some s.levels) reading.taken (remaining lent) (read_as reading.content q)) is
-  next-refused (Some h) (Ok None) taken none item = absurd item
-  next-refused (Some h) (Ok (Some v)) taken none item = λ b known. tt
-  next-refused (Some h) (Err e) taken none item = λ b known. handed-denied E remaining reading (behind_head s h) t b
-      (0 + length b) (front E remaining d s lent begins kept h taken b known) few
-      (takes-end remaining d s.decoder _ b (begun-left remaining d lent 0 begins ∙ known) taken ∙
-      ap (λ n. n + length b) begins.count) (Err e) item
+    next-refused : (first : Option Header) (r : Result (Option T) (Error E)) → First first → End first r →
+        Behind first r → Otherwise r (λ q. RefusesTaken 0 (Some s.levels) reading.taken (remaining lent) (remaining x)
+        (read_as reading.content q))
+    next-refused None r taken (is, same) item = end-says r
+        (λ q. RefusesTaken 0 (Some s.levels) reading.taken (remaining lent) (remaining x)
+        (read_as reading.content q)) is
+    next-refused (Some h) (Ok None) taken none item = absurd item
+    next-refused (Some h) (Ok (Some v)) taken none item = λ b known. tt
+    next-refused (Some h) (Err e) taken none item = λ b known. handed-denied E remaining reading (behind_head s h) t b
+        (0 + length b) (front E remaining d s lent begins kept h taken b known) few
+        (takes-end remaining d s.decoder _ b (begun-left remaining d lent 0 begins ∙ known) taken ∙
+        ap (λ n. n + length b) begins.count) x back (Err e) item
 
-  next-memory : (first : Option Header) (r : Result (Option T) (Error E)) → End first r → Behind first r →
-      IfErr r (λ e. IsGrantedFault (fault_of e) reading.needs_memory)
-  next-memory None r (is, same) item =
-      subst (λ q. IfErr q (λ e. IsGrantedFault (fault_of e) reading.needs_memory)) (sym is) tt
-  next-memory (Some h) (Ok v) none item = tt
-  next-memory (Some h) (Err e) none item = item.memory
+    next-memory : (first : Option Header) (r : Result (Option T) (Error E)) → End first r → Behind first r →
+        IfErr r (λ e. IsGrantedFault (fault_of (remaining x) e) reading.needs_memory)
+    next-memory None r (is, same) item =
+        subst (λ q. IfErr q (λ e. IsGrantedFault (fault_of (remaining x) e) reading.needs_memory)) (sym is) tt
+    next-memory (Some h) (Ok v) none item = tt
+    next-memory (Some h) (Err e) none item =
+        handed-memory E remaining reading (behind_head s h) t x back (Err e) item
 
   -- all of it
   pub reads-next : (s.decoder.reader.ghost_name ≡ t.decoder.reader.ghost_name → x ≡ t.decoder.reader.now) →
@@ -209,8 +212,8 @@ module _ {S T A : Type 0} (E : Type 0) (remaining : S → Option (List ℕ)) (re
       let same = same-name d s.decoder kept in record {
         end = tells-end back first r taken end empty none item;
         ok = next-ok back first r taken none item;
-        refused = next-refused first r taken none item;
-        memory = next-memory first r none item;
+        refused = next-refused back first r taken none item;
+        memory = next-memory back first r none item;
         taken = taken-beginning remaining d t.decoder lent x 0 begins (λ e. back (same ∙ e))
             (taken-then remaining d s.decoder t.decoder
             (takes-only remaining d s.decoder _ same taken d (taken-none remaining d))
@@ -224,14 +227,6 @@ some-all : {A : Type 0} {P : A → Type 0} (o : Option A) → ((v : A) → P v) 
 some-all (Some v) f = f v
 some-all None f = tt
 
--- never for want of memory
-first-granted : {E : Type 0} (x : LlError E) (b : List ℕ) (p : ℕ) (needs : Bool) → IsHeadTaken {E = E} b p (Err x) →
-    IsGrantedFault (fault_of (from_ll x)) needs
-first-granted ll.Memory b p needs h = absurd h.answers
-first-granted (ll.Io e) b p needs h = tt
-first-granted (ll.Syntax at) b p needs h = tt
-first-granted ll.TooLong b p needs h = tt
-
 first-io : {E : Type 0} (e : LlError E) → first_heads.IsHeadIo e → IsReadIo (from_ll e)
 first-io (ll.Io e) h = tt
 first-io (ll.Syntax p) h = h
@@ -242,17 +237,19 @@ module _ {S : Type 0} (E : Type 0) (remaining : S → Option (List ℕ)) (d e : 
     (begins : HasBegun d lent 0) (same : HasSameReader d e) (x : LlError E)
     (taken : Takes remaining d e (λ b. IsHeadTaken {E = E} b d.window.count (Err x))) where
   first-denied : {A : Type 0} (l : Option ℕ) (given : Taken A) (b : List ℕ) → remaining lent ≡ Some b →
-      IsFaultAhead (0 + length b) l given b (fault_of (from_ll x))
+      IsFaultAhead (0 + length b) l given b (fault_of (remaining e.reader.now) (from_ll x))
   first-denied l given b known i s left spelled split =
       let (y, c, head, whole) = first-head s i spelled in
       let refused = reads-head {E = E} (left_of remaining d) (left_of remaining e) b d.window.count e.window.count
       (Err x) (begun-left remaining d lent 0 begins ∙ known) taken in
       let there = first-payload s i spelled in
       let more = length-append c left in
-      fault_outside _ (fault_of (from_ll x)) (given l i)
-      (subst (λ n. IsOutsideFault (n + length b) (fault_of (from_ll x))) begins.count
-      (head-outside (left_of remaining e) x b y (c ++ left) d.window.count (header_of i) head
-      (split ∙ ap (λ (z : List ℕ). z ++ left) whole ∙ append_assoc y c left) (omega (arith, there, more)) refused))
+      fault_outside _ (fault_of (remaining e.reader.now) (from_ll x)) (given l i)
+      (subst (λ n. IsOutsideFault (n + length b) (fault_of (remaining e.reader.now) (from_ll x))) begins.count
+      (head-outside (remaining e.reader.now) x b y (c ++ left) d.window.count (header_of i) head
+      (split ∙ ap (λ (z : List ℕ). z ++ left) whole ∙ append_assoc y c left) (omega (arith, there, more))
+      (subst (λ o. Rattle.ciborium_ll.specs.ReaderSteps.IsRefusalOf o x (HeadRefuses b d.window.count))
+      (begun-rest remaining d e lent 0 begins same) refused)))
 
   first-taken : (l : ℕ) (back : S) → back ≡ e.reader.now →
       TakesBytes {E = E} any (remaining lent) l (remaining back) (Err (from_ll x))
@@ -281,8 +278,9 @@ module _ {S : Type 0} (E : Type 0) (remaining : S → Option (List ℕ)) (d e : 
   refuses-first l reading back empty given = record {
     end = λ known. first-io x (empty (begun-left remaining d lent 0 begins ∙ known));
     ok = λ b known. tt;
-    refused = λ b known. first-denied (Some l) reading.taken b known;
-    memory = first-granted x taken.0 d.window.count reading.needs_memory taken.3;
+    refused = λ b known. subst (λ y. IsFaultAhead (0 + length b) (Some l) reading.taken b (fault_of (remaining y)
+        (from_ll x))) (sym given) (first-denied (Some l) reading.taken b known);
+    memory = granted-head (remaining back) x taken.0 d.window.count reading.needs_memory taken.3;
     taken = taken-beginning remaining d e lent back 0 begins (λ _. given)
         (takes-only remaining d e _ (same-name d e same) taken d (taken-none remaining d));
     value = some-all reading.whole (λ tree. whole-of {E = E} any l (remaining lent) (remaining back) (Err (from_ll x))

@@ -15,13 +15,14 @@ use Rattle.ciborium.specs.Errors.{IsRefusedBy, without_reader_error}
 use Rattle.ciborium.specs.Spelling.{Spelling, any, RefusesBy}
 use Rattle.ciborium.proofs.Readers.WhateverFollows.{TreeSo}
 
-pub same-cause : {E : Type 0} (e : Error E) → fault_of (without_reader_error e) ≡ fault_of e
-same-cause (errors.Io x) = refl
-same-cause (errors.Syntax p) = refl
-same-cause (errors.Semantic p k) = refl
-same-cause errors.RecursionLimitExceeded = refl
-same-cause errors.Memory = refl
-same-cause errors.TooLong = refl
+pub same-cause : {E : Type 0} (left : Option (List ℕ)) (e : Error E) →
+    fault_of left (without_reader_error e) ≡ fault_of left e
+same-cause left (errors.Io x) = refl
+same-cause left (errors.Syntax p) = refl
+same-cause left (errors.Semantic p k) = refl
+same-cause left errors.RecursionLimitExceeded = refl
+same-cause left errors.Memory = refl
+same-cause left errors.TooLong = refl
 
 pub back-refused : {E : Type 0} (left : Option (List ℕ)) (e : Error E) (P : Refusal → Type 0) →
     IsRefusedBy left (without_reader_error e) P → IsRefusedBy left e P

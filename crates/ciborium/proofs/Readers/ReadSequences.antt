@@ -1,5 +1,6 @@
 -- Values are read one after the other: how far, and what it says of all.
-use Rattle.std.proofs.Common.{◌≡◌, ℕ, ◌+◌, List, [], ◌∷◌, ◌++◌, length, Option, Some, Ok, Err, refl, ap, ◌∙◌, subst}
+use Rattle.std.proofs.Common.{◌≡◌, ℕ, ◌+◌, List, [], ◌∷◌, ◌++◌, length, Option, Some, None, Ok, Err, refl, ap, ◌∙◌}
+use Rattle.std.proofs.Common.{subst}
 use Rattle.std.proofs.Common.{arith}
 use Rattle.std.proofs.KnownBytes.{Consumes-nil, Consumes-trans}
 use Rattle.ciborium_value.specs.Nesting.{Limit}
@@ -24,8 +25,8 @@ more-taken before mid after (b, first) (c, next) = (b ++ c, Consumes-trans befor
 
 -- ---- the values that were read
 
--- io, which no item decides
-outside-io : {E : Type 0} (e : Error E) → IsReadIo e → IsOutsideFault 0 (fault_of e)
+-- io, where a device may fail
+outside-io : {E : Type 0} (e : Error E) → IsReadIo e → IsOutsideFault 0 (fault_of None e)
 outside-io (Io e) h = tt
 outside-io (Syntax p) h = absurd h
 outside-io (Semantic p k) h = absurd h
@@ -56,19 +57,19 @@ module _ {A : Type 0} (l : Limit) (taken : Taken A) (before : Option (List ℕ))
       gives-more b cs u c after all (next u is)
 
   pub refused-behind : (T E : Type 0) (mid after : Option (List ℕ)) (cs : List A) (e : Error E) → HasRead mid cs →
-      RefusesTaken {A = A} {E = E} 0 l taken mid (Err e) → TellsEnd {A = T} {E = E} mid after (Err e) →
-      RefusesSequence {E = E} l taken before (Err e)
+      RefusesTaken {A = A} {E = E} 0 l taken mid after (Err e) → TellsEnd {A = T} {E = E} mid after (Err e) →
+      RefusesSequence {E = E} l taken before after (Err e)
   refused-behind T E mid after cs e read refused end b known =
       let (u, is, all) = read b known in
       let same : 0 + length u ≡ length u = omega arith in (
         cs,
         u,
         all,
-        subst (λ n. IsFaultAhead n l taken u (fault_of e)) same (refused u is),
+        subst (λ n. IsFaultAhead n l taken u (fault_of after e)) same (refused u is),
         λ none. outside-io e (end (is ∙ ap Some none)),
       )
 
   pub no-memory-behind : (E : Type 0) (after : Option (List ℕ)) (cs : List A) → HasRead after cs →
-      RefusesSequence {E = E} l taken before (Err Memory)
+      RefusesSequence {E = E} l taken before after (Err Memory)
   no-memory-behind E after cs read b known = let (u, is, all) = read b known in
       (cs, u, all, λ i s left spelled split. tt, λ none. tt)

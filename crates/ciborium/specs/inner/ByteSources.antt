@@ -97,6 +97,10 @@ reader_of remaining d = (d.reader.ghost_name, known_end (left_of remaining d) d.
 abbrev pub end_at : {S : Type 0} → (S → Option (List ℕ)) → ByteSource S → ℕ
 end_at remaining s = (reader_of remaining s.decoder).1
 
+-- why a call refused that leaves this source
+abbrev pub fault_at : {S E : Type 0} → (S → Option (List ℕ)) → ByteSource S → Error E → Fault
+fault_at remaining s e = fault_of (remaining s.decoder.reader.now) e
+
 -- behind an item no head is pending
 abbrev pub HasNoneBehind : Option (Header × ℕ) → Ahead → Type 0
 HasNoneBehind pending (item i f) = Unit {0}
@@ -308,7 +312,7 @@ pub record ReadsBareHead {S : Type 0} (remaining : S → Option (List ℕ)) (old
   pub levels : new.levels ≡ old.levels
   pub fewer : IfOk result (λ h. bytes_weight new + head_weight h.0 ≤ weight_left old)
   pub bare : IfOk result (λ h. IsBare numbers h.0)
-  pub memory : IfErr result (λ e. IsGrantedFault (fault_of e) false)
+  pub memory : IfErr result (λ e. IsGrantedFault (fault_at remaining new e) false)
 
 -- the item ahead was taken and gives what counts of the answer, or it is refused, and only where
 -- the item is
@@ -316,7 +320,7 @@ abbrev pub AnswersItem : {S A T : Type 0} → (S → Option (List ℕ)) → Byte
     Limit → Taken A → (T → A) → Result T (Error (Unit {0})) → Type 0
 AnswersItem remaining old new l taken content result =
     MatchResult result (λ v. Reads (IsUnread remaining) old new l taken (content v))
-    (λ e. Denies (IsUnread remaining) (end_at remaining) old l taken (fault_of e))
+    (λ e. Denies (IsUnread remaining) (end_at remaining) old l taken (fault_at remaining new e))
 
 -- ---- a value of any shape
 

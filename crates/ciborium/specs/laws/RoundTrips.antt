@@ -26,7 +26,7 @@ use Rattle.ciborium.specs.Writes.{IsNamedWritten, WritesNamed}
 abbrev pub IsGivenBack : {C E : Type 0} → C → List ℕ → ℕ → Option (List ℕ) → Result C (Error E) →
     Type 0
 IsGivenBack c rest end after (Ok d) = (d ≡ c) × (after ≡ Some rest)
-IsGivenBack c rest end after (Err e) = IsOutsideFault end (fault_of e)
+IsGivenBack c rest end after (Err e) = IsOutsideFault end (fault_of after e)
 
 -- reading the bytes of what a value names, where so many levels are left, whatever follows them
 abbrev pub BytesReadBack : {T C : Type 0} → (T → Type 0) → (T → Named) → Reading T C → (T → ℕ) →

@@ -1,5 +1,6 @@
 -- What is written as a sequence is read back (RFC 8742, section 2).
-use Rattle.std.specs.Prelude.{◌≡◌, ℕ, ◌≤◌, List, [], length, map, All, Option, Some, Result, Ok}
+use Rattle.std.specs.Prelude.{◌≡◌, ℕ, ◌≤◌, List, [], length, map, All, Option, Some, None, Result}
+use Rattle.std.specs.Prelude.{Ok, Err}
 use Rattle.std.specs.declared.io.Error.{Error as IoError}
 use Rattle.ciborium_ll.specs.Item.{Item}
 use Rattle.ciborium_value.specs.Encoding.{items_bytes}
@@ -7,10 +8,11 @@ use Rattle.ciborium_value.specs.Nesting.{IsWithin}
 use Rattle.ciborium_value.specs.Places.{items_from}
 use Rattle.ciborium_value.specs.Readings.{Reading}
 use Rattle.ciborium_value.specs.Sinks.{Named, all_named}
+use Rattle.ciborium_value.specs.Sources.{IsOutsideFault}
 use Rattle.ciborium_value.specs.Taken.{Taken}
 use Rattle.ciborium_value.specs.WrittenItems.{AreWritten}
 use Rattle.ciborium.specs.declared.de.error.Error.{Error}
-use Rattle.ciborium.specs.laws.RoundTrips.{IsGivenBack}
+use Rattle.ciborium.specs.Errors.{fault_of}
 use Rattle.ciborium.specs.SequenceReads.{RefusesSequence, TakesSequence}
 use Rattle.ciborium.specs.SequenceWrites.{AreNamedWritten, WritesInTurn}
 use Rattle.ciborium.specs.declared.ser.error.Error.{Error as WriteError}
@@ -19,7 +21,13 @@ use Rattle.ciborium.specs.declared.ser.error.Error.{Error as WriteError}
 abbrev pub AnswersSequence : {A E : Type 0} → Taken A → ℕ → List ℕ → Option (List ℕ) →
     Result (List A) (Error E) → Type 0
 AnswersSequence taken l b after r = TakesSequence (Some l) taken (Some b) after r ×
-    RefusesSequence (Some l) taken (Some b) r
+    RefusesSequence (Some l) taken (Some b) after r
+
+-- the contents are answered and nothing is left; or the call failed, for what no item decides
+abbrev pub AreGivenBack : {C E : Type 0} → List C → ℕ → Option (List ℕ) →
+    Result (List C) (Error E) → Type 0
+AreGivenBack cs end after (Ok ds) = (ds ≡ cs) × (after ≡ Some [])
+AreGivenBack cs end after (Err e) = IsOutsideFault end (fault_of None e)
 
 -- reading the bytes of what values name, where so many levels are left, gives their contents and
 -- leaves nothing, or fails for what no
@@ -32,7 +40,7 @@ SequenceReadsBack {T} {C} IsHeld written reading levels =
     All IsHeld vs → all_named (map written vs) ≡ Ok is → AreWritten (items_from is) →
     All (λ v. IsWithin (Some l) (levels v)) vs →
     AnswersSequence reading.taken l (items_bytes (items_from is)) after r →
-    IsGivenBack (map reading.content vs) [] (length (items_bytes (items_from is))) after r
+    AreGivenBack (map reading.content vs) (length (items_bytes (items_from is))) after r
 
 -- where bytes were written into nothing, of the values of one list, and the others were read of all
 -- of them, the contents are equal

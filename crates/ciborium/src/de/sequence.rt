@@ -31,7 +31,7 @@ pub fn read_sequence<T: Deserialize, R: Read>(
         (R.remaining reader.new) (read_as (λ vs. map T.reading.content vs.items) result) }
     // Behind items that give values, the next one is refused as it is.
     ensures refused { RefusesSequence (Some 256) T.reading.taken (R.remaining reader.old)
-        (read_as (λ vs. map T.reading.content vs.items) result) }
+        (R.remaining reader.new) (read_as (λ vs. map T.reading.content vs.items) result) }
     // Refused or not, a prefix of what was there was taken, and nothing else.
     ensures taken { TakesBeginning (R.remaining reader.old) (R.remaining reader.new) }
 {

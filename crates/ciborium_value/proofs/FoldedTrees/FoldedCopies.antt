@@ -11,7 +11,8 @@ use Rattle.ciborium_value.specs.inner.Frames as frames
 use Rattle.ciborium_value.specs.inner.Frames.{TreeFrame, Placed, done, more, placed}
 use Rattle.ciborium_value.specs.inner.FoldedCopies.{IsUnfolded, path_trees, coming_trees, all_coming}
 use Rattle.ciborium_value.specs.declared.deserialized.folding.Coming.{Coming}
-use Rattle.ciborium_value.specs.Sources.{Fault, of_kind, of_nesting, of_syntax, of_memory, of_device, of_length}
+use Rattle.ciborium_value.specs.Sources.{Fault, of_kind, of_nesting, of_syntax, of_memory, of_device, of_end}
+use Rattle.ciborium_value.specs.Sources.{of_length}
 use Rattle.ciborium_value.specs.Sources.{IsFaultOf}
 use Rattle.ciborium_value.specs.Taken.{gives, refuses, of_meaning, outcome_map, one_more, one_pair_more, taken_tag}
 use Rattle.ciborium_value.specs.Taken.{taken_value, taken_items, taken_tree_pairs}
@@ -311,6 +312,7 @@ refused_as end of_nesting o t h none = elim h [ ]
 refused_as end of_syntax o t h none = elim h [ ]
 refused_as end of_memory o t h none = tt
 refused_as end of_device o t h none = tt
+refused_as end of_end o t h none = elim h [ ]
 refused_as end of_length o t h none = elim h [ ]
 
 -- the entry that was put in last comes first

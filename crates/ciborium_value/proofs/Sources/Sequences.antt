@@ -5,7 +5,8 @@ use Rattle.ciborium_value.specs.Ahead.{Ahead, Rest, Form, item, after, parts, pa
 use Rattle.ciborium_value.specs.Nesting.{Limit}
 use Rattle.ciborium_value.specs.Places.{Shape, sequence}
 use Rattle.ciborium_value.specs.EnteredSequences.{RefusesInTurn, TakesRest, TakesInTurn}
-use Rattle.ciborium_value.specs.Sources.{Fault, of_kind, of_nesting, of_syntax, of_memory, of_device, of_length}
+use Rattle.ciborium_value.specs.Sources.{Fault, of_kind, of_nesting, of_syntax, of_memory, of_device, of_end}
+use Rattle.ciborium_value.specs.Sources.{of_length}
 use Rattle.ciborium_value.specs.Sources.{IsFaultOf, IsOutsideFault, TakesAhead, RefusesAhead, Enters, GoesOn, Leaves}
 use Rattle.ciborium_value.specs.Sources.{RefusesNext, TakesTo, TakesItem, OwesLess, OwesNothing}
 use Rattle.ciborium_value.specs.Taken.{Outcome, gives, refuses, nests, Taken, then_take, and_take, take_each}
@@ -22,6 +23,7 @@ fault_then end of_nesting o f h = ap (λ x. then_take x f) h
 fault_then end of_syntax o f h = h
 fault_then end of_memory o f h = tt
 fault_then end of_device o f h = tt
+fault_then end of_end o f h = h
 fault_then end of_length o f h = h
 
 pub fault_map : {A B : Type 0} (end : ℕ) (fault : Fault) (f : A → B) (o : Outcome A) → IsFaultOf end fault o →
@@ -31,6 +33,7 @@ fault_map end of_nesting f o h = ap (outcome_map f) h
 fault_map end of_syntax f o h = h
 fault_map end of_memory f o h = tt
 fault_map end of_device f o h = tt
+fault_map end of_end f o h = h
 fault_map end of_length f o h = h
 
 pub fault_and : {A : Type 0} (end : ℕ) (fault : Fault) (o : Outcome A) (r : Outcome (List A)) → IsFaultOf end fault o →
@@ -40,6 +43,7 @@ fault_and end of_nesting o r h = ap (λ x. and_take x r) h
 fault_and end of_syntax o r h = h
 fault_and end of_memory o r h = tt
 fault_and end of_device o r h = tt
+fault_and end of_end o r h = h
 fault_and end of_length o r h = h
 
 pub fault_outside : {A : Type 0} (end : ℕ) (fault : Fault) (o : Outcome A) → IsOutsideFault end fault →
@@ -49,6 +53,7 @@ fault_outside end of_nesting o h = absurd h
 fault_outside end of_syntax o h = h
 fault_outside end of_memory o h = tt
 fault_outside end of_device o h = tt
+fault_outside end of_end o h = h
 fault_outside end of_length o h = h
 
 -- ---- from one place to the next

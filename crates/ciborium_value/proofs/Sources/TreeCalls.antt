@@ -26,8 +26,8 @@ fault_of_error end Memory o h = tt
 module _ {A V : Type 0} (taken : Taken A) (content : V → A) (old new : TreeSource)
     (next : new.ahead ≡ pending_due old.due) (none : new.due ≡ None) where
   abbrev pub TakesOneOfTree : Result V Error → Type 0
-  TakesOneOfTree = TakesOneItem IsTreeAt (λ source b. ⊥) (λ first now. Unit {0}) source_weight tree_fault old new taken
-      content
+  TakesOneOfTree = TakesOneItem IsTreeAt (λ source b. ⊥) (λ first now. Unit {0}) source_weight (λ _ e. tree_fault e) old
+      new taken content
 
   found : (v : Bor Value) → pending.Whole v ≡ old.ahead → (i : Item) → IsPending old.ahead i → value_item v.now ≡ i
   found v here i is = subst (λ o. IsPending o i) (sym here) is

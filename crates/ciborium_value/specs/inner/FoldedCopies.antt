@@ -5,7 +5,7 @@ use Rattle.ciborium_value.specs.Counts.{node_count}
 use Rattle.ciborium_value.specs.Folded.{folded}
 use Rattle.ciborium_value.specs.inner.Frames.{TreeFrame, Placed, done, more, placed}
 use Rattle.ciborium_value.specs.Sources.{Fault, of_kind, of_nesting, of_syntax, of_memory}
-use Rattle.ciborium_value.specs.Sources.{of_device, of_length}
+use Rattle.ciborium_value.specs.Sources.{of_device, of_end, of_length}
 use Rattle.ciborium_value.specs.inner.Stack.{begun_frame}
 use Rattle.ciborium_value.specs.Tree.{Tree}
 use Rattle.ciborium_value.specs.View.{tree_of}
@@ -66,4 +66,5 @@ IsUnfolded of_nesting o = ⊥
 IsUnfolded of_syntax o = ⊥
 IsUnfolded of_memory o = Unit {0}
 IsUnfolded of_device o = ⊥
+IsUnfolded of_end o = ⊥
 IsUnfolded of_length o = ⊥

@@ -17,8 +17,9 @@ fn unsigned<S: Source>(source: &mut S, greatest: u128) -> Result<u128, S::Error>
     ensures ok { IfOk result
         (λ n. TakesAhead S.stands_before source.old source.new (below (greatest + 1)).taken n) }
     ensures refused { IfErr result
-        (λ e. RefusesAhead S.stands_before source.old (below (greatest + 1)).taken (S.cause e)) }
-    ensures memory { IfErr result (λ e. IsGrantedFault (S.cause e) false) }
+        (λ e. RefusesAhead S.stands_before source.old (below (greatest + 1)).taken
+        (S.cause source.new e)) }
+    ensures memory { IfErr result (λ e. IsGrantedFault (S.cause source.new e) false) }
     ensures took { OnOk result (TakesItem S.is_unread source.old source.new) }
     ensures only { TakesOnly S.has_taken source.old source.new }
     ensures less { OnOk result (S.left source.new < S.left source.old) }
@@ -39,8 +40,9 @@ fn signed<S: Source>(source: &mut S, greatest: u128) -> Result<i128, S::Error>
     ensures ok { IfOk result
         (λ n. TakesAhead S.stands_before source.old source.new (bounded (greatest + 1)).taken n) }
     ensures refused { IfErr result
-        (λ e. RefusesAhead S.stands_before source.old (bounded (greatest + 1)).taken (S.cause e)) }
-    ensures memory { IfErr result (λ e. IsGrantedFault (S.cause e) false) }
+        (λ e. RefusesAhead S.stands_before source.old (bounded (greatest + 1)).taken
+        (S.cause source.new e)) }
+    ensures memory { IfErr result (λ e. IsGrantedFault (S.cause source.new e) false) }
     ensures took { OnOk result (TakesItem S.is_unread source.old source.new) }
     ensures only { TakesOnly S.has_taken source.old source.new }
     ensures less { OnOk result (S.left source.new < S.left source.old) }

@@ -1,6 +1,7 @@
 //! Bytes, of a byte string or of an array of numbers.
 
-ghost use Rattle.std.specs.Prelude.{◌≡◌, ◌+◌, ◌<◌, ◌≤◌, IfErr, IfOk, List, OnErr, OnOk, Some, ℕ};
+ghost use Rattle.std.specs.Prelude.{◌≡◌, ◌+◌, ◌<◌, ◌≤◌, IfErr, IfOk, List, OnErr, OnOk, Option};
+ghost use Rattle.std.specs.Prelude.{Some, ℕ};
 ghost use Rattle.ciborium_ll.specs.Decoding.{HasSameReader};
 ghost use Rattle.ciborium_value.specs.Places.{sequence};
 ghost use Rattle.ciborium_value.specs.Sources.{HasItem, IsFaultOf, RefusesAhead, TakesAhead};
@@ -10,6 +11,7 @@ ghost use Rattle.ciborium_value.specs.Taken.{taken_bytes};
 ghost use Rattle.ciborium.specs.inner.ByteSources.{HasTaken, IsUnread, ReadsRest, RefusesRest};
 ghost use Rattle.ciborium.specs.inner.ByteSources.{SeqOwes, StandsBefore, seq_left, weight_left};
 ghost use Rattle.ciborium.specs.Errors.{fault_of};
+ghost use Rattle.ciborium.specs.inner.ByteSources.{fault_at};
 
 use crate::de::byte_source::{ByteSeq, ByteSource};
 use crate::de::error::{Error, Refusal};
@@ -23,7 +25,8 @@ use std::io::Read;
 fn to_byte(number: (bool, u128), offset: usize) -> Result<u8, Refusal>
     ensures ok { IfOk result (λ byte. number_below 256 number ≡ gives byte) }
     ensures refused { IfErr result
-        (λ e. (end : ℕ) → IsFaultOf end (fault_of e) (number_below 256 number)) }
+        (λ e. (left : Option (List ℕ)) (end : ℕ) →
+        IsFaultOf end (fault_of left e) (number_below 256 number)) }
     ensures at { IfErr result (λ e. e ≡ Error.Semantic (Some offset) Kind.Range) }
 {
     let (is_negative, n) = number;
@@ -47,7 +50,7 @@ impl<'a, R: Read> ByteSource<'a, R> {
         ensures ok { IfOk result (λ v. ReadsRest R.remaining self.old self.new seq
             (λ l is. take_each (taken_byte l) is) v.items) }
         ensures refused { IfErr result (λ e. RefusesRest R.remaining self.old seq
-            (λ l is. take_each (taken_byte l) is) (fault_of e)) }
+            (λ l is. take_each (taken_byte l) is) (fault_at R.remaining self.new e)) }
         ensures took { OnOk result (TakesTo (IsUnread R.remaining) self.old self.new
             (λ c z. (b : List ℕ) → SeqOwes seq sequence b c → HasItem b z)) }
         ensures fewer { OnOk result
@@ -77,7 +80,8 @@ impl<'a, R: Read> ByteSource<'a, R> {
         ensures ok { IfOk result (λ v.
             TakesAhead (StandsBefore R.remaining) self.old self.new taken_bytes v.items) }
         ensures refused { IfErr result (λ e.
-            RefusesAhead (StandsBefore R.remaining) self.old taken_bytes (fault_of e)) }
+            RefusesAhead (StandsBefore R.remaining) self.old taken_bytes
+            (fault_at R.remaining self.new e)) }
         ensures took { OnOk result (TakesItem (IsUnread R.remaining) self.old self.new) }
         ensures fewer { OnOk result (weight_left self.new < weight_left self.old) }
     {

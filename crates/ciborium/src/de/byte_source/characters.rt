@@ -1,11 +1,12 @@
 //! Characters.
 
-ghost use Rattle.std.specs.Prelude.{◌≡◌, ◌<◌, ◌⊎◌, IfErr, IfOk, IsUtf8, None, OnOk};
-ghost use Rattle.std.specs.Prelude.{Some, chars, false, ℕ};
+ghost use Rattle.std.specs.Prelude.{◌≡◌, ◌<◌, ◌⊎◌, IfErr, IfOk, IsUtf8, List, None, OnOk};
+ghost use Rattle.std.specs.Prelude.{Option, Some, chars, false, ℕ};
 ghost use Rattle.ciborium_value.specs.Sources.{IsFaultOf, IsGrantedFault};
 ghost use Rattle.ciborium_value.specs.Taken.{gives, lone_character, taken_character};
 ghost use Rattle.ciborium.specs.inner.ByteSources.{AnswersItem, PassesItem};
 ghost use Rattle.ciborium.specs.Errors.{fault_of};
+ghost use Rattle.ciborium.specs.inner.ByteSources.{fault_at};
 
 use crate::de::byte_source::ByteSource;
 use crate::de::error::{Error, Refusal};
@@ -22,9 +23,10 @@ fn only_character(payload: &[u8], offset: usize) -> Result<char, Refusal>
     ensures utf8 { OnOk result (IsUtf8 payload.now) }
     ensures ok { IfOk result (λ c. lone_character (chars payload.now) ≡ gives c) }
     ensures refused { IfErr result (λ e.
-        (end : ℕ) → IsUtf8 payload.now →
-        IsFaultOf end (fault_of e) (lone_character (chars payload.now))) }
-    ensures memory { IfErr result (λ e. IsGrantedFault (fault_of e) false) }
+        (left : Option (List ℕ)) (end : ℕ) → IsUtf8 payload.now →
+        IsFaultOf end (fault_of left e) (lone_character (chars payload.now))) }
+    ensures memory { IfErr result (λ e. (left : Option (List ℕ)) →
+        IsGrantedFault (fault_of left e) false) }
     ensures at { IfErr result (λ e.
         (e ≡ Error.Syntax offset) ⊎ (e ≡ Error.Semantic (Some offset) Kind.Char)) }
 {
@@ -49,7 +51,8 @@ impl<'a, R: Read> ByteSource<'a, R> {
         ensures keeps { PassesItem R.remaining self.old self.new result }
         ensures answer { AnswersItem R.remaining self.old self.new (Some self.old.levels)
             taken_character (λ v. v) result }
-        ensures memory { IfErr result (λ e. IsGrantedFault (fault_of e) false) }
+        ensures memory { IfErr result
+            (λ e. IsGrantedFault (fault_at R.remaining self.new e) false) }
     {
         let (header, offset) = self.bare_head(false)?;
         match header {

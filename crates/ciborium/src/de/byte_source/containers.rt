@@ -12,7 +12,7 @@ ghost use Rattle.ciborium.specs.inner.ByteSources.{HasTaken, IsUnread, SeqOwes, 
 ghost use Rattle.ciborium.specs.inner.ByteSources.{StandsBefore, StandsStill, bytes_weight};
 ghost use Rattle.ciborium.specs.inner.ByteSources.{counted_parts, end_at, parts_left, seq_left};
 ghost use Rattle.ciborium.specs.inner.ByteSources.{weight_left, KeepsSource};
-ghost use Rattle.ciborium.specs.Errors.{fault_of};
+ghost use Rattle.ciborium.specs.inner.ByteSources.{fault_at};
 ghost use Rattle.ciborium.specs.inner.FrontItems.{Denies};
 ghost use Rattle.ciborium.specs.inner.StringContents.{DeniesContent, TakesContent};
 
@@ -88,7 +88,7 @@ impl<'a, R: Read> ByteSource<'a, R> {
             (IsUnread R.remaining self.new) of_bytes len)) }
         ensures denied { IfErr result
             (λ e. DeniesContent (IsUnread R.remaining self.old) (end_at R.remaining self.old)
-            of_bytes len (fault_of e)) }
+            of_bytes len (fault_at R.remaining self.new e)) }
     {
         let levels = self.levels;
         let bytes = self.bytes_content(alloc, len)?;
@@ -109,7 +109,7 @@ impl<'a, R: Read> ByteSource<'a, R> {
             (λ l is. gives (l, is))) }
         ensures denied { IfErr result
             (λ e. Denies (IsUnread R.remaining) (end_at R.remaining) self.old
-            (Some self.old.levels) taken_seq (fault_of e)) }
+            (Some self.old.levels) taken_seq (fault_at R.remaining self.new e)) }
     {
         let (header, offset) = self.bare_head(false)?;
         match header {
@@ -135,8 +135,9 @@ impl<'a, R: Read> ByteSource<'a, R> {
             (λ l ps. gives (l, ps))) }
         ensures denied { IfErr result
             (λ e. Denies (IsUnread R.remaining) (end_at R.remaining) self.old
-            (Some self.old.levels) taken_pairs (fault_of e)) }
-        ensures memory { IfErr result (λ e. IsGrantedFault (fault_of e) false) }
+            (Some self.old.levels) taken_pairs (fault_at R.remaining self.new e)) }
+        ensures memory { IfErr result
+            (λ e. IsGrantedFault (fault_at R.remaining self.new e) false) }
     {
         let (header, offset) = self.bare_head(false)?;
         let Header::Map(count) = header else {
@@ -172,8 +173,10 @@ impl<'a, R: Read> ByteSource<'a, R> {
             (GoesOn (StandsBefore R.remaining) SeqStands self.old self.new seq.old seq.new)
             (Leaves (StandsBefore R.remaining) SeqStands self.old self.new seq.old)) }
         ensures refused { IfErr result (λ e.
-            RefusesNext (StandsBefore R.remaining) SeqStands self.old seq.old (fault_of e)) }
-        ensures memory { IfErr result (λ e. IsGrantedFault (fault_of e) false) }
+            RefusesNext (StandsBefore R.remaining) SeqStands self.old seq.old
+            (fault_at R.remaining self.new e)) }
+        ensures memory { IfErr result
+            (λ e. IsGrantedFault (fault_at R.remaining self.new e) false) }
         ensures took { IfOk result (λ b. MatchBool b
             (TakesTo (IsUnread R.remaining) self.old self.new (OwesLess SeqOwes seq.old seq.new))
             (TakesTo (IsUnread R.remaining) self.old self.new (OwesNothing SeqOwes seq.old))) }

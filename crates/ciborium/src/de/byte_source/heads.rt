@@ -5,7 +5,7 @@ ghost use Rattle.ciborium_ll.specs.Decoding.{HasSameReader};
 ghost use Rattle.ciborium_value.specs.Sources.{IsGrantedFault, TakesOnly};
 ghost use Rattle.ciborium.specs.inner.ByteSources.{CountsHead, HasTaken, IsUnread, bytes_weight};
 ghost use Rattle.ciborium.specs.inner.ByteSources.{end_at, head_weight, weight_left, ReadsBareHead};
-ghost use Rattle.ciborium.specs.Errors.{fault_of};
+ghost use Rattle.ciborium.specs.inner.ByteSources.{fault_at};
 ghost use Rattle.ciborium.specs.inner.FrontItems.{DeniesHead, DeniesItem, TakesHead};
 ghost use Rattle.ciborium.specs.inner.Skips.{IsEndTag, TakesBare};
 
@@ -39,8 +39,10 @@ impl<'a, R: Read> ByteSource<'a, R> {
             (λ h. TakesHead (IsUnread R.remaining) self.old self.new h.0) }
         ensures counted { IfOk result (CountsHead (IsUnread R.remaining) self.old self.new) }
         ensures denied { IfErr result
-            (λ e. DeniesHead (IsUnread R.remaining) (end_at R.remaining) self.old (fault_of e)) }
-        ensures memory { IfErr result (λ e. IsGrantedFault (fault_of e) false) }
+            (λ e. DeniesHead (IsUnread R.remaining) (end_at R.remaining) self.old
+            (fault_at R.remaining self.new e)) }
+        ensures memory { IfErr result
+            (λ e. IsGrantedFault (fault_at R.remaining self.new e) false) }
     {
         if let Some((header, offset)) = self.pending {
             self.pending = None;
@@ -58,7 +60,8 @@ impl<'a, R: Read> ByteSource<'a, R> {
         ensures head { IfOk result
             (λ h. TakesBare (IsUnread R.remaining) self.old self.new numbers h.0) }
         ensures denied { IfErr result
-            (λ e. DeniesItem (IsUnread R.remaining) (end_at R.remaining) self.old (fault_of e)) }
+            (λ e. DeniesItem (IsUnread R.remaining) (end_at R.remaining) self.old
+            (fault_at R.remaining self.new e)) }
     {
         'tags: loop {
             let (header, offset) = self.next_head()?;
@@ -82,7 +85,8 @@ impl<'a, R: Read> ByteSource<'a, R> {
         ensures head { IfOk result
             (λ h. TakesBare (IsUnread R.remaining) self.old self.new numbers h.0) }
         ensures denied { IfErr result
-            (λ e. DeniesItem (IsUnread R.remaining) (end_at R.remaining) self.old (fault_of e)) }
+            (λ e. DeniesItem (IsUnread R.remaining) (end_at R.remaining) self.old
+            (fault_at R.remaining self.new e)) }
     {
         let bare = self.behind_tags(numbers)?;
         Ok(bare)
@@ -100,7 +104,8 @@ impl<'a, R: Read> ByteSource<'a, R> {
         ensures head { IfOk result
             (λ h. TakesBare (IsUnread R.remaining) self.old self.new numbers h.0) }
         ensures denied { IfErr result
-            (λ e. DeniesItem (IsUnread R.remaining) (end_at R.remaining) self.old (fault_of e)) }
+            (λ e. DeniesItem (IsUnread R.remaining) (end_at R.remaining) self.old
+            (fault_at R.remaining self.new e)) }
     {
         let (header, offset) = self.next_head()?;
         match header {

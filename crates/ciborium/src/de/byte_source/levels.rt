@@ -7,7 +7,7 @@ ghost use Rattle.ciborium_value.specs.Sources.{GivesBack, IsGrantedFault, TakesO
 ghost use Rattle.ciborium_value.specs.Taken.{taken_outer_tag, taken_variant};
 ghost use Rattle.ciborium.specs.inner.ByteSources.{HasTaken, IsUnread, LevelStands, StandsBefore};
 ghost use Rattle.ciborium.specs.inner.ByteSources.{TakesLevel, end_at, weight_left};
-ghost use Rattle.ciborium.specs.Errors.{fault_of};
+ghost use Rattle.ciborium.specs.inner.ByteSources.{fault_at};
 ghost use Rattle.ciborium.specs.inner.FrontItems.{Denies};
 ghost use Rattle.ciborium.specs.inner.Skips.{EntersLevelUnread};
 
@@ -68,8 +68,9 @@ impl<'a, R: Read> ByteSource<'a, R> {
             (Some self.old.levels) taken_outer_tag p.0) }
         ensures denied { IfErr result
             (λ e. Denies (IsUnread R.remaining) (end_at R.remaining) self.old
-            (Some self.old.levels) taken_outer_tag (fault_of e)) }
-        ensures memory { IfErr result (λ e. IsGrantedFault (fault_of e) false) }
+            (Some self.old.levels) taken_outer_tag (fault_at R.remaining self.new e)) }
+        ensures memory { IfErr result
+            (λ e. IsGrantedFault (fault_at R.remaining self.new e) false) }
     {
         let (header, offset) = self.next_head()?;
         match header {
@@ -99,7 +100,7 @@ impl<'a, R: Read> ByteSource<'a, R> {
             (Some self.old.levels) taken_variant (string_bytes p.0)) }
         ensures denied { IfErr result
             (λ e. Denies (IsUnread R.remaining) (end_at R.remaining) self.old
-            (Some self.old.levels) taken_variant (fault_of e)) }
+            (Some self.old.levels) taken_variant (fault_at R.remaining self.new e)) }
     {
         let (header, offset) = self.bare_head(false)?;
         match header {

@@ -10,7 +10,7 @@ ghost use Rattle.ciborium_value.specs.Taken.{taken_bignum, taken_integer};
 ghost use Rattle.ciborium.specs.inner.ByteSources.{HasTaken, IsUnread, bytes_weight, end_at};
 ghost use Rattle.ciborium.specs.inner.ByteSources.{AnswersItem, KeepsSource, PassesItem};
 ghost use Rattle.ciborium.specs.inner.ByteSources.{weight_left};
-ghost use Rattle.ciborium.specs.Errors.{fault_of};
+ghost use Rattle.ciborium.specs.inner.ByteSources.{fault_at};
 ghost use Rattle.ciborium.specs.inner.StringContents.{DeniesContent, DeniesJust, TakesDigits};
 ghost use Rattle.ciborium.specs.inner.StringContents.{TakesNumber, one_digit_more};
 
@@ -72,8 +72,9 @@ impl<'a, R: Read> ByteSource<'a, R> {
             (IsUnread R.remaining self.new) len start number) }
         ensures outside { IfErr result
             (λ e. DeniesJust (IsUnread R.remaining self.old) (end_at R.remaining self.old) len
-            (fault_of e)) }
-        ensures memory { IfErr result (λ e. IsGrantedFault (fault_of e) false) }
+            (fault_at R.remaining self.new e)) }
+        ensures memory { IfErr result
+            (λ e. IsGrantedFault (fault_at R.remaining self.new e) false) }
     {
         let mut number = start;
         let mut left = len;
@@ -101,8 +102,9 @@ impl<'a, R: Read> ByteSource<'a, R> {
             (IsUnread R.remaining self.new) len number) }
         ensures denied { IfErr result
             (λ e. DeniesContent (IsUnread R.remaining self.old) (end_at R.remaining self.old)
-            of_bytes len (fault_of e)) }
-        ensures memory { IfErr result (λ e. IsGrantedFault (fault_of e) false) }
+            of_bytes len (fault_at R.remaining self.new e)) }
+        ensures memory { IfErr result
+            (λ e. IsGrantedFault (fault_at R.remaining self.new e) false) }
     {
         match len {
             Some(n) => {
@@ -134,7 +136,8 @@ impl<'a, R: Read> ByteSource<'a, R> {
         ensures fewer { OnOk result (weight_left self.new ≤ weight_left self.old) }
         ensures answer { AnswersItem R.remaining self.old self.new None
             taken_bignum (λ v. v) result }
-        ensures memory { IfErr result (λ e. IsGrantedFault (fault_of e) false) }
+        ensures memory { IfErr result
+            (λ e. IsGrantedFault (fault_at R.remaining self.new e) false) }
     {
         let (header, offset) = self.next_head()?;
         match header {
@@ -161,7 +164,8 @@ impl<'a, R: Read> ByteSource<'a, R> {
         ensures offset { IfOk result (λ v. v.1 ≡ offset) }
         ensures answer { AnswersItem R.remaining self.old self.new None
             taken_bignum (λ v. v.0.1) result }
-        ensures memory { IfErr result (λ e. IsGrantedFault (fault_of e) false) }
+        ensures memory { IfErr result
+            (λ e. IsGrantedFault (fault_at R.remaining self.new e) false) }
     {
         let n = self.read_bignum(offset)?;
         Ok(((tag == BIGNEG, n), offset))
@@ -173,7 +177,8 @@ impl<'a, R: Read> ByteSource<'a, R> {
         ensures keeps { PassesItem R.remaining self.old self.new result }
         ensures answer { AnswersItem R.remaining self.old self.new (Some self.old.levels)
             taken_integer (λ v. v.0) result }
-        ensures memory { IfErr result (λ e. IsGrantedFault (fault_of e) false) }
+        ensures memory { IfErr result
+            (λ e. IsGrantedFault (fault_at R.remaining self.new e) false) }
     {
         let (header, offset) = self.bare_head(true)?;
         let negative = is_negative(header);

@@ -5,7 +5,7 @@ ghost use Rattle.ciborium_value.specs.Sources.{IsGrantedFault, Tells};
 ghost use Rattle.ciborium_value.specs.Taken.{is_null_simple, taken_boolean, taken_unit};
 ghost use Rattle.ciborium.specs.inner.ByteSources.{StandsBefore, weight_left, AnswersItem};
 ghost use Rattle.ciborium.specs.inner.ByteSources.{PassesItem, tells_null};
-ghost use Rattle.ciborium.specs.Errors.{fault_of};
+ghost use Rattle.ciborium.specs.inner.ByteSources.{fault_at};
 
 use crate::de::byte_source::ByteSource;
 use crate::de::error::{Error, Refusal};
@@ -64,7 +64,8 @@ impl<'a, R: Read> ByteSource<'a, R> {
         ensures keeps { PassesItem R.remaining self.old self.new result }
         ensures answer { AnswersItem R.remaining self.old self.new (Some self.old.levels)
             taken_boolean (λ v. v) result }
-        ensures memory { IfErr result (λ e. IsGrantedFault (fault_of e) false) }
+        ensures memory { IfErr result
+            (λ e. IsGrantedFault (fault_at R.remaining self.new e) false) }
     {
         let (header, offset) = self.bare_head(false)?;
         match header {
@@ -86,7 +87,8 @@ impl<'a, R: Read> ByteSource<'a, R> {
         ensures keeps { PassesItem R.remaining self.old self.new result }
         ensures answer { AnswersItem R.remaining self.old self.new (Some self.old.levels)
             taken_unit (λ v. v) result }
-        ensures memory { IfErr result (λ e. IsGrantedFault (fault_of e) false) }
+        ensures memory { IfErr result
+            (λ e. IsGrantedFault (fault_at R.remaining self.new e) false) }
     {
         let (header, offset) = self.bare_head(false)?;
         match header {

@@ -1,9 +1,8 @@
 //! The calls of a source.
 
 ghost use Rattle.ciborium.specs.inner.ByteSources.{HasTakenSince, IsUnread, LevelStands, SeqOwes};
-ghost use Rattle.ciborium.specs.inner.ByteSources.{ReadsValue, SeqStands, StandsBefore};
+ghost use Rattle.ciborium.specs.inner.ByteSources.{ReadsValue, SeqStands, StandsBefore, fault_at};
 ghost use Rattle.ciborium.specs.inner.ByteSources.{seq_left, weight_left};
-ghost use Rattle.ciborium.specs.Errors.{fault_of};
 
 use crate::de::byte_source::scalars::is_null_head;
 use crate::de::byte_source::{ByteLevel, ByteSeq, ByteSource};
@@ -39,7 +38,7 @@ impl<'a, R: Read> Source for ByteSource<'a, R> {
 
     ghost reads = { ReadsValue R.remaining };
 
-    ghost cause = { fault_of };
+    ghost cause = { fault_at R.remaining };
 
     #[inline(always)]
     fn integer(&mut self) -> Result<(bool, u128), Refusal> {

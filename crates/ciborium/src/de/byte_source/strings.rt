@@ -8,7 +8,7 @@ ghost use Rattle.ciborium_value.specs.Sources.{IsGrantedFault, TakesOnly};
 ghost use Rattle.ciborium_value.specs.Taken.{taken_text};
 ghost use Rattle.ciborium.specs.inner.ByteSources.{HasTaken, IsUnread, bytes_weight, end_at};
 ghost use Rattle.ciborium.specs.inner.ByteSources.{AnswersItem, PassesItem, weight_left};
-ghost use Rattle.ciborium.specs.Errors.{fault_of};
+ghost use Rattle.ciborium.specs.inner.ByteSources.{fault_at};
 ghost use Rattle.ciborium.specs.inner.StringContents.{DeniesContent, DeniesJust, TakesContent};
 ghost use Rattle.ciborium.specs.inner.StringContents.{TakesJust};
 
@@ -33,8 +33,9 @@ impl<'a, R: Read> ByteSource<'a, R> {
             (TakesJust (IsUnread R.remaining self.old) (IsUnread R.remaining self.new) buffer.new) }
         ensures outside { IfErr result
             (λ e. DeniesJust (IsUnread R.remaining self.old) (end_at R.remaining self.old) (length
-            buffer.old) (fault_of e)) }
-        ensures memory { IfErr result (λ e. IsGrantedFault (fault_of e) false) }
+            buffer.old) (fault_at R.remaining self.new e)) }
+        ensures memory { IfErr result
+            (λ e. IsGrantedFault (fault_at R.remaining self.new e) false) }
     {
         self.decoder.read_exact_keeping(buffer, &mut self.failure)?;
         Ok(())
@@ -59,7 +60,7 @@ impl<'a, R: Read> ByteSource<'a, R> {
             (IsUnread R.remaining self.new) of_bytes len v.items) }
         ensures denied { IfErr result
             (λ e. DeniesContent (IsUnread R.remaining self.old) (end_at R.remaining self.old)
-            of_bytes len (fault_of e)) }
+            of_bytes len (fault_at R.remaining self.new e)) }
     {
         let mut out = Vec::new(alloc);
         self.decoder
@@ -85,7 +86,7 @@ impl<'a, R: Read> ByteSource<'a, R> {
             (IsUnread R.remaining self.new) of_text len (string_bytes v)) }
         ensures denied { IfErr result
             (λ e. DeniesContent (IsUnread R.remaining self.old) (end_at R.remaining self.old)
-            of_text len (fault_of e)) }
+            of_text len (fault_at R.remaining self.new e)) }
     {
         let mut out = String::new(alloc);
         self.decoder

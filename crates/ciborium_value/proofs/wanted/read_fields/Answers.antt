@@ -11,10 +11,10 @@ use Rattle.ciborium_value.proofs.wanted.read_fields.Goals as goal
 
 pub returns-in_err-next-clause-refused : goal.returns-in_err-next-clause-refused
 returns-in_err-next-clause-refused g c =
-    let e = g.S.Source.cause c.in_err-next.field-0.0 in
+    let e = g.S.Source.cause c.next.new.self c.in_err-next.field-0.0 in
     let fields = g.F.WantedFields.fields c.args.fields.now in
     exits _ c.in_err-next.field-0.0 (λ x. RefusesAhead g.S.Source.stands_before c.args.source.now
-    (taken_fields fields (g.F.WantedFields.content c.args.fields.now)) (g.S.Source.cause x))
+    (taken_fields fields (g.F.WantedFields.content c.args.fields.now)) (g.S.Source.cause c.next.new.self x))
     c.from_residual-in_err-next.ensures.1
     (blames g.S.Source.stands_before e (so c.loop-seq.invariant.inside
     (fields_blame_next g.S.Source.stands_before g.S.Source.seq_stands fields
@@ -22,10 +22,10 @@ returns-in_err-next-clause-refused g c =
 
 pub returns-in_err-name-clause-refused : goal.returns-in_err-name-clause-refused
 returns-in_err-name-clause-refused g c =
-    let e = g.S.Source.cause c.in_err-name.field-0.0 in
+    let e = g.S.Source.cause c.name.new.self c.in_err-name.field-0.0 in
     let fields = g.F.WantedFields.fields c.args.fields.now in
     exits _ c.in_err-name.field-0.0 (λ x. RefusesAhead g.S.Source.stands_before c.args.source.now
-    (taken_fields fields (g.F.WantedFields.content c.args.fields.now)) (g.S.Source.cause x))
+    (taken_fields fields (g.F.WantedFields.content c.args.fields.now)) (g.S.Source.cause c.name.new.self x))
     c.from_residual-in_err-name.ensures.1
     (blames g.S.Source.stands_before e (so c.loop-seq.invariant.inside
     (fields_blame_name g.S.Source.stands_before g.S.Source.seq_stands fields
@@ -34,10 +34,10 @@ returns-in_err-name-clause-refused g c =
 
 pub returns-in_err-read_field-clause-refused : goal.returns-in_err-read_field-clause-refused
 returns-in_err-read_field-clause-refused g c =
-    let e = g.S.Source.cause c.in_err-read_field.field-0.0 in
+    let e = g.S.Source.cause c.read_field.new.source c.in_err-read_field.field-0.0 in
     let fields = g.F.WantedFields.fields c.args.fields.now in
     exits _ c.in_err-read_field.field-0.0 (λ x. RefusesAhead g.S.Source.stands_before c.args.source.now
-    (taken_fields fields (g.F.WantedFields.content c.args.fields.now)) (g.S.Source.cause x))
+    (taken_fields fields (g.F.WantedFields.content c.args.fields.now)) (g.S.Source.cause c.read_field.new.source x))
     c.from_residual-in_err-read_field.ensures.1
     (blames g.S.Source.stands_before e (so c.loop-seq.invariant.inside
     (fields_blame_field g.S.Source.stands_before g.S.Source.seq_stands fields

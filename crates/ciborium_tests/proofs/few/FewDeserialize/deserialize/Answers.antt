@@ -12,10 +12,10 @@ use Rattle.ciborium_tests.proofs.few.FewDeserialize.deserialize.Goals as goal
 
 pub returns-in_err-next-clause-refused : goal.returns-in_err-next-clause-refused
 returns-in_err-next-clause-refused g c =
-    let e = g.S.Source.cause c.in_err-next.field-0.0 in
+    let e = g.S.Source.cause c.next.new.self c.in_err-next.field-0.0 in
     let vs = c.loop-numbers.numbers.items in
     exits _ c.in_err-next.field-0.0 (λ x. RefusesAhead g.S.Source.stands_before c.args.source.now
-    (taken_few 5 taken_byte) (g.S.Source.cause x)) c.from_residual-in_err-next.ensures.1
+    (taken_few 5 taken_byte) (g.S.Source.cause c.next.new.self x)) c.from_residual-in_err-next.ensures.1
     (blames g.S.Source.stands_before e (so c.loop-numbers.invariant.inside
     (blames_next g.S.Source.stands_before g.S.Source.seq_stands (few_from taken_byte (5 - length vs) vs) e
     c.in_err-next.ensures.refused)))
@@ -34,14 +34,14 @@ returns-then-len-ge-MOST-clause-refused g c =
 
 pub returns-in_err-number-clause-refused : goal.returns-in_err-number-clause-refused
 returns-in_err-number-clause-refused g c =
-    let e = g.S.Source.cause c.in_err-number.field-0.0 in
+    let e = g.S.Source.cause c.deserialize.new.source c.in_err-number.field-0.0 in
     let vs = c.loop-numbers.numbers.items in
     let room : 5 - length vs ≡ suc (5 - (length vs + 1)) = omega (arith, c.if-len-ge-MOST.false, c.len.ensures) in
     let inside = subst (λ n. Follows (IsBefore g.S.Source.stands_before c.args.source.now (taken_few 5 taken_byte))
     (IsInside g.S.Source.stands_before g.S.Source.seq_stands c.loop-numbers.source c.loop-numbers.seq
     (few_from taken_byte n vs))) room c.loop-numbers.invariant.inside in
     exits _ c.in_err-number.field-0.0 (λ x. RefusesAhead g.S.Source.stands_before c.args.source.now
-    (taken_few 5 taken_byte) (g.S.Source.cause x)) c.from_residual-in_err-number.ensures.1
+    (taken_few 5 taken_byte) (g.S.Source.cause c.deserialize.new.source x)) c.from_residual-in_err-number.ensures.1
     (blames g.S.Source.stands_before e (so inside (few_blames g.S.Source.stands_before g.S.Source.seq_stands taken_byte
     (5 - (length vs + 1)) vs e (rw c.if-branch.true at c.in_ok-next.ensures.ok) c.in_err-number.ensures.refused)))
 

@@ -1,6 +1,7 @@
-use Rattle.std.proofs.Common.{rules, ◌≡◌, append-nil, [], arith, refl, sym, ◌∙◌}
+use Rattle.std.proofs.Common.{rules, ◌≡◌, append-nil, [], arith, refl, sym, ◌∙◌, Some}
 use Rattle.ciborium.specs.Errors.{fault_of}
-use Rattle.ciborium_uses.proofs.WholeItems.{all_taken, no_blame, none_left, same_taken}
+use Rattle.ciborium_uses.proofs.WholeItems.{all_taken, no_blame, no_blame_at, none_left}
+use Rattle.ciborium_uses.proofs.WholeItems.{same_taken}
 use Rattle.ciborium_uses.proofs.envelopes.items.read_all.Goals as goal
 
 pub returns-then-is_empty-clause-ok : goal.returns-then-is_empty-clause-ok
@@ -25,5 +26,6 @@ returns-in-Err-clause-refused g c w h =
     let short = c.well_formed.1.0.1 in
     let all = sym (append-nil c.args.bytes.now) in
     let fault = c.in-Err.ensures.refused c.args.bytes.now refl h.0 c.args.bytes.now [] h.1 all in
-    no_blame g.T.Deserialize.reading.taken _ h.0 w (fault_of c.in-Err.error) h.2
-    (λ long. omega (arith, short, long)) fault
+    let left = Some c.from_reader.new.reader.now in
+    no_blame_at left c.in-Err.error (no_blame g.T.Deserialize.reading.taken _ h.0 w (fault_of left c.in-Err.error) h.2
+    (λ long. omega (arith, short, long)) fault)

@@ -9,18 +9,19 @@ use Rattle.ciborium_value.proofs.items.NoItemWantedItems.read_items.Goals as goa
 
 pub returns-in_err-next-clause-refused : goal.returns-in_err-next-clause-refused
 returns-in_err-next-clause-refused g c =
-    let e = g.S.Source.cause c.in_err-next.field-0.0 in
+    let e = g.S.Source.cause c.next.new.self c.in_err-next.field-0.0 in
     exits _ c.in_err-next.field-0.0 (λ x. RefusesInTurn g.S.Source.stands_before g.S.Source.seq_stands
-    c.args.source.now c.args.seq.now no_part_taken (g.S.Source.cause x)) c.from_residual.ensures.1
+    c.args.source.now c.args.seq.now no_part_taken (g.S.Source.cause c.next.new.self x)) c.from_residual.ensures.1
     (refuses_parts g.S.Source.stands_before g.S.Source.seq_stands no_part_taken e
     (so c.loop-source.invariant.inside (blames_next g.S.Source.stands_before g.S.Source.seq_stands no_part_taken e
     c.in_err-next.ensures.refused)))
 
 pub returns-in_err-value-clause-refused : goal.returns-in_err-value-clause-refused
 returns-in_err-value-clause-refused g c =
-    let e = g.S.Source.cause c.in_err-value.field-0.0 in
+    let e = g.S.Source.cause c.value.new.self c.in_err-value.field-0.0 in
     exits _ c.in_err-value.field-0.0 (λ x. RefusesInTurn g.S.Source.stands_before g.S.Source.seq_stands
-    c.args.source.now c.args.seq.now no_part_taken (g.S.Source.cause x)) c.from_residual-in_err-value.ensures.1
+    c.args.source.now c.args.seq.now no_part_taken (g.S.Source.cause c.value.new.self x))
+    c.from_residual-in_err-value.ensures.1
     (refuses_parts g.S.Source.stands_before g.S.Source.seq_stands no_part_taken e
     (so c.loop-source.invariant.inside (drop_blames g.S.Source.stands_before g.S.Source.seq_stands e
     (rw c.if-branch.true at c.in_ok-next.ensures.ok) c.in_err-value.ensures.takes.refused)))

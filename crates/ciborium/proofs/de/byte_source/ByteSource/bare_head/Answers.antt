@@ -4,7 +4,7 @@ use Rattle.ciborium_ll.specs.declared.header.Header.TheVariants as header
 use Rattle.ciborium_value.specs.declared.kind.Kind.TheVariants as kinds
 use Rattle.ciborium_value.specs.Sources.{of_kind}
 use Rattle.ciborium.specs.inner.ByteSources.{IsUnread, end_at}
-use Rattle.ciborium.specs.Errors.{fault_of}
+use Rattle.ciborium.specs.inner.ByteSources.{fault_at}
 use Rattle.ciborium.specs.inner.FrontItems.{TakesHead}
 use Rattle.ciborium.specs.inner.Skips.{IsEndTag}
 use Rattle.ciborium.proofs.Items.SkippedTags.{bare-head, bare-behind, skips-none, skips-more, denies-item, denies-break}
@@ -16,7 +16,8 @@ pub returns-in_err-header-clause-denied : goal.returns-in_err-header-clause-deni
 returns-in_err-header-clause-denied g c =
     let exit = err_from_is_err_and c.from_residual.result c.from_residual.ensures.1 in
     rw (exit.1, exit.2) (denies-item (IsUnread g.R.Read.remaining) (end_at g.R.Read.remaining) c.args.self.now
-    c.args.self.now c.args.numbers (fault_of c.in_err-header.field-0.0) (λ b u. refl)
+    c.args.self.now c.args.numbers (fault_at g.R.Read.remaining c.next_head.new.self c.in_err-header.field-0.0)
+    (λ b u. refl)
     (skips-none (IsUnread g.R.Read.remaining) c.args.self.now c.args.numbers) c.in_err-header.ensures.denied)
 
 pub returns-then-is_end_tag-clause-head : goal.returns-then-is_end_tag-clause-head
@@ -35,7 +36,8 @@ returns-in_err-bare-in-Tag-clause-denied g c =
     let exit = err_from_is_err_and c.from_residual-in_err-bare-in-Tag.result
     c.from_residual-in_err-bare-in-Tag.ensures.1 in
     rw (exit.1, exit.2) (denies-behind I (end_at g.R.Read.remaining) c.args.self.now c.next_head.new.self c.args.numbers
-    (fault_of c.in_err-bare-in-Tag.field-0.0) (same-end g.R.Read.remaining c.args.self.now c.next_head.new.self
+    (fault_at g.R.Read.remaining c.skip_tags.new.self c.in_err-bare-in-Tag.field-0.0)
+    (same-end g.R.Read.remaining c.args.self.now c.next_head.new.self
     c.in_ok-header.ensures.only) one c.in_err-bare-in-Tag.ensures.denied)
 
 pub returns-in_ok-bare-in-Tag-clause-head : goal.returns-in_ok-bare-in-Tag-clause-head

@@ -4,7 +4,7 @@ use Rattle.ciborium_ll.specs.declared.header.Header.TheVariants as header
 use Rattle.ciborium_value.specs.Taken.{gives, taken_pairs}
 use Rattle.ciborium_value.specs.declared.kind.Kind.TheVariants as kinds
 use Rattle.ciborium.specs.inner.ByteSources.{IsUnread}
-use Rattle.ciborium.specs.Errors.{fault_of}
+use Rattle.ciborium.specs.inner.ByteSources.{fault_at}
 use Rattle.ciborium.specs.inner.Skips.{TakesBare}
 use Rattle.ciborium.proofs.Containers.EnteredContainers.{map-entered, map-nests, map-other, pairs-given}
 use Rattle.ciborium.proofs.Items.BareHeads.{head-denied, nested-denied, other-denied}
@@ -13,8 +13,8 @@ use Rattle.ciborium.proofs.de.byte_source.ByteSource.begin_map.Goals as goal
 pub returns-in_err-header-clause-denied : goal.returns-in_err-header-clause-denied
 returns-in_err-header-clause-denied g c =
     let exit = err_from_is_err_and c.from_residual.result c.from_residual.ensures.1 in
-    rw (exit.1, exit.2) (head-denied g.R.Read.remaining c.args.self.now taken_pairs (fault_of
-    c.in_err-header.field-0.0) c.in_err-header.ensures.denied)
+    rw (exit.1, exit.2) (head-denied g.R.Read.remaining c.args.self.now taken_pairs
+    (fault_at g.R.Read.remaining c.bare_head.new.self c.in_err-header.field-0.0) c.in_err-header.ensures.denied)
 
 pub returns-in_default-clause-denied : goal.returns-in_default-clause-denied
 returns-in_default-clause-denied g c =
@@ -27,7 +27,7 @@ returns-in_err-seq-clause-denied g c =
     let exit = err_from_is_err_and c.from_residual-in_err-seq.result
     c.from_residual-in_err-seq.ensures.1 in
     rw (exit.1, exit.2) (nested-denied g.R.Read.remaining c.args.self.now taken_pairs c.bare_head.new.self
-    c.in_ok-header.header c.in_ok-header.ensures.head (header.Map c.in-Map.count) c.in-Map.is
+    c.in_ok-header.header c.in_ok-header.ensures.head c.enter.new.self (header.Map c.in-Map.count) c.in-Map.is
     c.in_err-seq.field-0.0 c.in_err-seq.ensures.err (map-nests c.args.self.now.levels c.in-Map.count
     (sym c.in_ok-header.ensures.reads.levels ∙ c.in_err-seq.ensures.none)))
 

@@ -6,7 +6,7 @@ use Rattle.ciborium_ll.specs.StringRefusal.{of_bytes}
 use Rattle.ciborium_value.specs.Taken.{bare_seq, gives, taken_seq}
 use Rattle.ciborium_value.specs.declared.kind.Kind.TheVariants as kinds
 use Rattle.ciborium.specs.inner.ByteSources.{IsUnread}
-use Rattle.ciborium.specs.Errors.{fault_of}
+use Rattle.ciborium.specs.inner.ByteSources.{fault_at}
 use Rattle.ciborium.specs.inner.Skips.{TakesBare}
 use Rattle.ciborium.proofs.Containers.EnteredContainers.{array-entered, array-nests, bytes-entered, bytes-had}
 use Rattle.ciborium.proofs.Containers.EnteredContainers.{seq-given, seq-other}
@@ -16,7 +16,8 @@ use Rattle.ciborium.proofs.de.byte_source.ByteSource.begin_seq.Goals as goal
 pub returns-in_err-header-clause-denied : goal.returns-in_err-header-clause-denied
 returns-in_err-header-clause-denied g c =
     let exit = err_from_is_err_and c.from_residual.result c.from_residual.ensures.1 in
-    rw (exit.1, exit.2) (head-denied g.R.Read.remaining c.args.self.now taken_seq (fault_of c.in_err-header.field-0.0)
+    rw (exit.1, exit.2) (head-denied g.R.Read.remaining c.args.self.now taken_seq
+    (fault_at g.R.Read.remaining c.bare_head.new.self c.in_err-header.field-0.0)
     c.in_err-header.ensures.denied)
 
 pub returns-in_ok-seq-in-Array-clause-ok : goal.returns-in_ok-seq-in-Array-clause-ok
@@ -34,7 +35,7 @@ returns-in_err-seq-in-Array-clause-denied g c =
     let exit = err_from_is_err_and c.from_residual-in_err-seq-in-Array.result
     c.from_residual-in_err-seq-in-Array.ensures.1 in
     rw (exit.1, exit.2) (nested-denied g.R.Read.remaining c.args.self.now taken_seq c.bare_head.new.self
-    c.in_ok-header.header c.in_ok-header.ensures.head (header.Array c.in-Array.count) c.in-Array.is
+    c.in_ok-header.header c.in_ok-header.ensures.head c.enter.new.self (header.Array c.in-Array.count) c.in-Array.is
     c.in_err-seq-in-Array.field-0.0 c.in_err-seq-in-Array.ensures.err (array-nests bare_seq (λ o is. refl)
     c.args.self.now.levels c.in-Array.count (sym c.in_ok-header.ensures.reads.levels ∙
     c.in_err-seq-in-Array.ensures.none)))
@@ -54,7 +55,8 @@ returns-in_err-seq-in-Bytes-clause-denied g c =
     c.from_residual-in_err-seq-in-Bytes.ensures.1 in
     rw (exit.1, exit.2) (string-denied g.R.Read.remaining c.args.self.now taken_seq c.bare_head.new.self
     c.in_ok-header.header c.in_ok-header.ensures.head of_bytes c.in-Bytes.len c.in-Bytes.is
-    c.in_ok-header.ensures.reads.only (fault_of c.in_err-seq-in-Bytes.field-0.0) c.in_err-seq-in-Bytes.ensures.denied)
+    c.in_ok-header.ensures.reads.only (fault_at g.R.Read.remaining c.open_bytes.new.self
+    c.in_err-seq-in-Bytes.field-0.0) c.in_err-seq-in-Bytes.ensures.denied)
 
 pub returns-in_default-clause-denied : goal.returns-in_default-clause-denied
 returns-in_default-clause-denied g c =

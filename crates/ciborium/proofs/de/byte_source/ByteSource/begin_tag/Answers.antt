@@ -6,7 +6,7 @@ use Rattle.ciborium_value.specs.Sources.{of_kind, of_nesting}
 use Rattle.ciborium_value.specs.Taken.{taken_outer_tag}
 use Rattle.ciborium_value.specs.declared.kind.Kind.TheVariants as kinds
 use Rattle.ciborium.specs.inner.ByteSources.{HasTaken, IsUnread, IsUnreadBy, end_at}
-use Rattle.ciborium.specs.Errors.{fault_of}
+use Rattle.ciborium.specs.inner.ByteSources.{fault_at}
 use Rattle.ciborium.specs.inner.FrontItems.{Denies, TakesHead}
 use Rattle.ciborium.proofs.Containers.EnteredContainers.{same-unread}
 use Rattle.ciborium.proofs.Containers.HeldLevels.{none-opened, tag-nests, tag-opened}
@@ -18,7 +18,7 @@ pub returns-in_err-header-clause-denied : goal.returns-in_err-header-clause-deni
 returns-in_err-header-clause-denied g c =
     let exit = err_from_is_err_and c.from_residual.result c.from_residual.ensures.1 in
     let U = IsUnread g.R.Read.remaining in
-    let fault = fault_of c.in_err-header.field-0.0 in
+    let fault = fault_at g.R.Read.remaining c.next_head.new.self c.in_err-header.field-0.0 in
     rw (exit.1, exit.2) (denies-of-item U (end_at g.R.Read.remaining) (Some c.args.self.now.levels) taken_outer_tag
     c.args.self.now fault
     (denies-item U (end_at g.R.Read.remaining) c.args.self.now c.args.self.now false fault (λ b u. refl)
@@ -48,7 +48,8 @@ pub returns-in_err-level-in-Tag-clause-denied : goal.returns-in_err-level-in-Tag
 returns-in_err-level-in-Tag-clause-denied g c =
     let exit = err_from_is_err_and c.from_residual-in_err-level-in-Tag.result
     c.from_residual-in_err-level-in-Tag.ensures.1 in
-    let fault : fault_of c.in_err-level-in-Tag.field-0.0 ≡ of_nesting = ap fault_of c.in_err-level-in-Tag.ensures.err in
+    let fault : fault_at g.R.Read.remaining c.take_level.new.self c.in_err-level-in-Tag.field-0.0 ≡ of_nesting =
+    ap (fault_at g.R.Read.remaining c.take_level.new.self) c.in_err-level-in-Tag.ensures.err in
     rw (exit.1, exit.2) (subst (Denies (IsUnread g.R.Read.remaining) (end_at g.R.Read.remaining) c.args.self.now
     (Some c.args.self.now.levels) taken_outer_tag) (sym fault)
     (tag-nests (IsUnread g.R.Read.remaining) (end_at g.R.Read.remaining) c.args.self.now c.args.self.now.levels
@@ -58,8 +59,9 @@ pub returns-in_err-level-in_default-clause-denied : goal.returns-in_err-level-in
 returns-in_err-level-in_default-clause-denied g c =
     let exit = err_from_is_err_and c.from_residual-in_err-level-in_default.result
     c.from_residual-in_err-level-in_default.ensures.1 in
-    let fault : fault_of c.in_err-level-in_default.field-0.0 ≡ of_nesting =
-    ap fault_of c.in_err-level-in_default.ensures.err in
+    let fault : fault_at g.R.Read.remaining c.take_level-in_default.new.self c.in_err-level-in_default.field-0.0
+    ≡ of_nesting =
+    ap (fault_at g.R.Read.remaining c.take_level-in_default.new.self) c.in_err-level-in_default.ensures.err in
     rw (exit.1, exit.2) (subst (Denies (IsUnread g.R.Read.remaining) (end_at g.R.Read.remaining) c.args.self.now
     (Some c.args.self.now.levels) taken_outer_tag) (sym fault)
     (tag-nests (IsUnread g.R.Read.remaining) (end_at g.R.Read.remaining) c.args.self.now c.args.self.now.levels

@@ -6,7 +6,7 @@ use Rattle.ciborium_value.specs.Sources.{IsOutsideFault}
 use Rattle.ciborium_value.specs.Taken.{deeper, taken_name, taken_variant}
 use Rattle.ciborium_value.specs.declared.kind.Kind.TheVariants as kinds
 use Rattle.ciborium.specs.inner.ByteSources.{IsUnread, end_at, reader_of}
-use Rattle.ciborium.specs.Errors.{fault_of}
+use Rattle.ciborium.specs.inner.ByteSources.{fault_at}
 use Rattle.ciborium.specs.inner.FrontItems.{Denies, Reads}
 use Rattle.ciborium.specs.inner.Skips.{TakesBare}
 use Rattle.ciborium.proofs.Containers.EnteredContainers.{deeper-is, same-unread}
@@ -21,15 +21,15 @@ use Rattle.ciborium.proofs.de.byte_source.ByteSource.begin_variant.Goals as goal
 pub returns-in_err-header-clause-denied : goal.returns-in_err-header-clause-denied
 returns-in_err-header-clause-denied g c =
     let exit = err_from_is_err_and c.from_residual.result c.from_residual.ensures.1 in
-    rw (exit.1, exit.2) (head-denied g.R.Read.remaining c.args.self.now taken_variant (fault_of
-    c.in_err-header.field-0.0) c.in_err-header.ensures.denied)
+    rw (exit.1, exit.2) (head-denied g.R.Read.remaining c.args.self.now taken_variant
+    (fault_at g.R.Read.remaining c.bare_head.new.self c.in_err-header.field-0.0) c.in_err-header.ensures.denied)
 
 pub returns-in_err-level-in-Text-clause-denied : goal.returns-in_err-level-in-Text-clause-denied
 returns-in_err-level-in-Text-clause-denied g c =
     let exit = err_from_is_err_and c.from_residual-in_err-level-in-Text.result
     c.from_residual-in_err-level-in-Text.ensures.1 in
     rw (exit.1, exit.2) (nested-denied g.R.Read.remaining c.args.self.now taken_variant c.bare_head.new.self
-    c.in_ok-header.header c.in_ok-header.ensures.head (header.Text c.in-Text.len) c.in-Text.is
+    c.in_ok-header.header c.in_ok-header.ensures.head c.take_level.new.self (header.Text c.in-Text.len) c.in-Text.is
     c.in_err-level-in-Text.field-0.0 c.in_err-level-in-Text.ensures.err (text-nests c.args.self.now.levels
     c.in-Text.len (sym c.in_ok-header.ensures.reads.levels ∙ c.in_err-level-in-Text.ensures.none)))
 
@@ -38,16 +38,16 @@ returns-in_err-level-in-Map-clause-denied g c =
     let exit = err_from_is_err_and c.from_residual-in_err-level-in-Map.result
     c.from_residual-in_err-level-in-Map.ensures.1 in
     rw (exit.1, exit.2) (nested-denied g.R.Read.remaining c.args.self.now taken_variant c.bare_head.new.self
-    c.in_ok-header.header c.in_ok-header.ensures.head (header.Map (Some 1)) (c.in-Map.is ∙ ap header.Map
-    c.if-not-is_one.ensures) c.in_err-level-in-Map.field-0.0 c.in_err-level-in-Map.ensures.err (pair-nests
-    c.args.self.now.levels (sym c.in_ok-header.ensures.reads.levels ∙ c.in_err-level-in-Map.ensures.none)))
+    c.in_ok-header.header c.in_ok-header.ensures.head c.take_level-in-Map.new.self (header.Map (Some 1))
+    (c.in-Map.is ∙ ap header.Map c.if-not-is_one.ensures) c.in_err-level-in-Map.field-0.0
+    c.in_err-level-in-Map.ensures.err (pair-nests c.args.self.now.levels (sym c.in_ok-header.ensures.reads.levels ∙ c.in_err-level-in-Map.ensures.none)))
 
 pub returns-in_err-name-in-Text-clause-denied : goal.returns-in_err-name-in-Text-clause-denied
 returns-in_err-name-in-Text-clause-denied g c =
     let exit = err_from_is_err_and c.from_residual-in_err-name-in-Text.result
     c.from_residual-in_err-name-in-Text.ensures.1 in
     let U = IsUnread g.R.Read.remaining in
-    let fault = fault_of c.in_err-name-in-Text.field-0.0 in
+    let fault = fault_at g.R.Read.remaining c.text_content.new.self c.in_err-name-in-Text.field-0.0 in
     let level = c.in_ok-level-in-Text.ensures in
     rw (exit.1, exit.2) (denies-of-item U (end_at g.R.Read.remaining) (Some c.args.self.now.levels) taken_variant
     c.args.self.now fault
@@ -103,7 +103,7 @@ returns-in_err-name-in-Map-clause-denied g c =
     let exit = err_from_is_err_and c.from_residual-in_err-name-in-Map.result
     c.from_residual-in_err-name-in-Map.ensures.1 in
     let U = IsUnread g.R.Read.remaining in
-    let fault = fault_of c.in_err-name-in-Map.field-0.0 in
+    let fault = fault_at g.R.Read.remaining c.name.new.self c.in_err-name-in-Map.field-0.0 in
     let level = c.in_ok-level-in-Map.ensures in
     let less = level.some.1 in
     let same = c.in_ok-header.ensures.reads.levels in

@@ -3,7 +3,7 @@ use Rattle.std.proofs.lemmas.Result.{err_from_is_err_and}
 use Rattle.ciborium_value.specs.declared.kind.Kind.TheVariants as kinds
 use Rattle.ciborium_value.specs.Sources.{of_kind}
 use Rattle.ciborium.specs.inner.ByteSources.{IsUnread, end_at}
-use Rattle.ciborium.specs.Errors.{fault_of}
+use Rattle.ciborium.specs.inner.ByteSources.{fault_at}
 use Rattle.ciborium.specs.inner.FrontItems.{TakesHead}
 use Rattle.ciborium.specs.inner.Skips.{IsEndTag}
 use Rattle.ciborium.proofs.Items.FrontReads.{weighs-none}
@@ -24,7 +24,7 @@ pub returns-in_err-header-clause-denied : goal.returns-in_err-header-clause-deni
 returns-in_err-header-clause-denied g c =
     let exit = err_from_is_err_and c.from_residual.result c.from_residual.ensures.1 in
     rw (exit.1, exit.2) (denies-item (IsUnread g.R.Read.remaining) (end_at g.R.Read.remaining) c.args.self.now
-    c.tags.self c.args.numbers (fault_of c.in_err-header.field-0.0)
+    c.tags.self c.args.numbers (fault_at g.R.Read.remaining c.next_head.new.self c.in_err-header.field-0.0)
     (same-end g.R.Read.remaining c.args.self.now c.tags.self c.tags.invariant.only) c.tags.invariant.skipped
     c.in_err-header.ensures.denied)
 

@@ -7,7 +7,7 @@ use Rattle.ciborium_value.specs.Sources.{of_kind}
 use Rattle.ciborium_value.specs.Taken.{bare_bytes, taken_bytes}
 use Rattle.ciborium_value.specs.declared.kind.Kind.TheVariants as kinds
 use Rattle.ciborium.specs.inner.ByteSources.{IsUnread, pending_head_weight}
-use Rattle.ciborium.specs.Errors.{fault_of}
+use Rattle.ciborium.specs.inner.ByteSources.{fault_at}
 use Rattle.ciborium.specs.inner.Skips.{TakesBare}
 use Rattle.ciborium.proofs.Containers.ByteItems.{array-opened, array-refuses, array-takes, array-took}
 use Rattle.ciborium.proofs.Containers.ByteItems.{bytes-other, bytes-read, refuses-denied, takes-read, took-read}
@@ -18,9 +18,10 @@ use Rattle.ciborium.proofs.de.byte_source.ByteSource.bytes.Goals as goal
 pub returns-in_err-header-clause-refused : goal.returns-in_err-header-clause-refused
 returns-in_err-header-clause-refused g c =
     let exit = err_from_is_err_and c.from_residual.result c.from_residual.ensures.1 in
-    rw (exit.1, exit.2) (refuses-denied g.R.Read.remaining c.args.self.now taken_bytes (fault_of
-    c.in_err-header.field-0.0) (head-denied g.R.Read.remaining c.args.self.now taken_bytes (fault_of
-    c.in_err-header.field-0.0) c.in_err-header.ensures.denied))
+    rw (exit.1, exit.2) (refuses-denied g.R.Read.remaining c.args.self.now taken_bytes
+    (fault_at g.R.Read.remaining c.bare_head.new.self c.in_err-header.field-0.0)
+    (head-denied g.R.Read.remaining c.args.self.now taken_bytes
+    (fault_at g.R.Read.remaining c.bare_head.new.self c.in_err-header.field-0.0) c.in_err-header.ensures.denied))
 
 -- ---- a byte string
 
@@ -52,7 +53,7 @@ pub returns-in_err-bytes-in-Bytes-clause-refused : goal.returns-in_err-bytes-in-
 returns-in_err-bytes-in-Bytes-clause-refused g c =
     let exit = err_from_is_err_and c.from_residual-in_err-bytes-in-Bytes.result
     c.from_residual-in_err-bytes-in-Bytes.ensures.1 in
-    let fault = fault_of c.in_err-bytes-in-Bytes.field-0.0 in
+    let fault = fault_at g.R.Read.remaining c.bytes_content.new.self c.in_err-bytes-in-Bytes.field-0.0 in
     rw (exit.1, exit.2) (refuses-denied g.R.Read.remaining c.args.self.now taken_bytes fault (string-denied
     g.R.Read.remaining c.args.self.now taken_bytes c.bare_head.new.self c.in_ok-header.header
     c.in_ok-header.ensures.head of_bytes c.in-Bytes.len c.in-Bytes.is c.in_ok-header.ensures.reads.only fault
@@ -64,9 +65,11 @@ pub returns-in_err-seq-in-Array-clause-refused : goal.returns-in_err-seq-in-Arra
 returns-in_err-seq-in-Array-clause-refused g c =
     let exit = err_from_is_err_and c.from_residual-in_err-seq-in-Array.result
     c.from_residual-in_err-seq-in-Array.ensures.1 in
-    rw (exit.1, exit.2) (refuses-denied g.R.Read.remaining c.args.self.now taken_bytes (fault_of
-    c.in_err-seq-in-Array.field-0.0) (nested-denied g.R.Read.remaining c.args.self.now taken_bytes
-    c.bare_head.new.self c.in_ok-header.header c.in_ok-header.ensures.head (header.Array c.in-Array.count)
+    rw (exit.1, exit.2) (refuses-denied g.R.Read.remaining c.args.self.now taken_bytes
+    (fault_at g.R.Read.remaining c.enter.new.self c.in_err-seq-in-Array.field-0.0)
+    (nested-denied g.R.Read.remaining c.args.self.now taken_bytes
+    c.bare_head.new.self c.in_ok-header.header c.in_ok-header.ensures.head c.enter.new.self
+    (header.Array c.in-Array.count)
     c.in-Array.is c.in_err-seq-in-Array.field-0.0 c.in_err-seq-in-Array.ensures.err (array-nests bare_bytes (λ o is.
     refl) c.args.self.now.levels c.in-Array.count (sym c.in_ok-header.ensures.reads.levels ∙
     c.in_err-seq-in-Array.ensures.none))))
@@ -98,7 +101,8 @@ returns-in_err-bytes-in-Array-clause-refused g c =
     c.in_ok-seq-in-Array.seq c.in_ok-header.header c.in_ok-header.offset c.in-Array.is c.in_ok-header.ensures.head
     c.in_ok-header.ensures.reads (enter.decoder, enter.pending, enter.some, enter.levels, enter.left) enter.back in
     rw (exit.1, exit.2) (array-refuses g.R.Read.remaining c.args.self.now c.enter.new.self c.in_ok-seq-in-Array.seq
-    opened (fault_of c.in_err-bytes-in-Array.field-0.0) c.in_err-bytes-in-Array.ensures.refused)
+    opened (fault_at g.R.Read.remaining c.read_byte_items.new.self c.in_err-bytes-in-Array.field-0.0)
+    c.in_err-bytes-in-Array.ensures.refused)
 
 pub returns-in_default-clause-refused : goal.returns-in_default-clause-refused
 returns-in_default-clause-refused g c =

@@ -11,7 +11,7 @@ returns-in_err-bytes_into_keeping-clause-denied g c =
     let exit = err_from_is_err_and c.from_residual.result c.from_residual.ensures.1 in
     rw (exit.1, exit.2) (content-denied g.R.Read.remaining c.args.self.now.decoder c.bytes_into_keeping.new.self
     c.args.self.now.pending c.in_err-bytes_into_keeping.field-0.0 of_bytes c.args.len c.requires
-    c.in_err-bytes_into_keeping.ensures.refused)
+    c.in_err-bytes_into_keeping.ensures.refused c.in_err-bytes_into_keeping.ensures.spent)
 
 pub returns-clause-ok : goal.returns-clause-ok
 returns-clause-ok g c =

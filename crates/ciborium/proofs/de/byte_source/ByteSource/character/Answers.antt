@@ -9,7 +9,7 @@ use Rattle.ciborium_value.specs.Taken.{taken_character, lone_character}
 use Rattle.ciborium_value.specs.declared.kind.Kind.TheVariants as kinds
 use Rattle.ciborium_value.proofs.Sources.Sequences.{fault_outside}
 use Rattle.ciborium.specs.inner.ByteSources.{IsUnread, end_at}
-use Rattle.ciborium.specs.Errors.{fault_of}
+use Rattle.ciborium.specs.inner.ByteSources.{fault_at}
 use Rattle.ciborium.specs.inner.Skips.{TakesBare}
 use Rattle.ciborium.proofs.Payloads.LoneCharacters.{character-given, character-open, character-other, long-denied}
 use Rattle.ciborium.proofs.Payloads.LoneCharacters.{payload-denied, payload-taken, text-denied}
@@ -25,8 +25,8 @@ short n h = grind (arith, common_steps)
 pub returns-in_err-header-clause-answer : goal.returns-in_err-header-clause-answer
 returns-in_err-header-clause-answer g c =
     let exit = err_from_is_err_and c.from_residual.result c.from_residual.ensures.1 in
-    rw (exit.1, exit.2) (head-denied g.R.Read.remaining c.args.self.now taken_character (fault_of
-    c.in_err-header.field-0.0) c.in_err-header.ensures.denied)
+    rw (exit.1, exit.2) (head-denied g.R.Read.remaining c.args.self.now taken_character
+    (fault_at g.R.Read.remaining c.bare_head.new.self c.in_err-header.field-0.0) c.in_err-header.ensures.denied)
 
 pub returns-then-n-gt-GREATEST_CHARACTER_SIZE-clause-answer :
     goal.returns-then-n-gt-GREATEST_CHARACTER_SIZE-clause-answer
@@ -59,7 +59,7 @@ returns-in_err-fill-in-Some-clause-answer g c =
     let exit = err_from_is_err_and c.from_residual-in_err-fill-in-Some.result
     c.from_residual-in_err-fill-in-Some.ensures.1 in
     let n = c.in-Some.n in
-    let fault = fault_of c.in_err-fill-in-Some.field-0.0 in
+    let fault = fault_at g.R.Read.remaining c.fill.new.self c.in_err-fill-in-Some.field-0.0 in
     let end = end_at g.R.Read.remaining c.bare_head.new.self in
     let room = short n c.if-n-gt-GREATEST_CHARACTER_SIZE.false in
     rw (exit.1, exit.2) (text-denied (IsUnread g.R.Read.remaining) (end_at g.R.Read.remaining)
@@ -80,7 +80,7 @@ returns-in_err-character-in-Some-clause-answer g c =
     let n = c.in-Some.n in
     let payload = c.fill.new.buffer in
     let size : length payload ≡ n = c.fill.auto.buffer ∙ short n c.if-n-gt-GREATEST_CHARACTER_SIZE.false in
-    let fault = fault_of c.in_err-character-in-Some.field-0.0 in
+    let fault = fault_at g.R.Read.remaining c.fill.new.self c.in_err-character-in-Some.field-0.0 in
     rw (exit.1, exit.2) (text-denied (IsUnread g.R.Read.remaining) (end_at g.R.Read.remaining) l c.args.self.now
     c.bare_head.new.self n
     (subst (TakesBare (IsUnread g.R.Read.remaining) c.args.self.now c.bare_head.new.self false)
@@ -88,7 +88,8 @@ returns-in_err-character-in-Some-clause-answer g c =
     (same-end g.R.Read.remaining c.args.self.now c.bare_head.new.self c.in_ok-header.ensures.reads.only)
     (payload-denied (end_at g.R.Read.remaining c.bare_head.new.self) (IsUnread g.R.Read.remaining c.bare_head.new.self)
     (IsUnread g.R.Read.remaining c.fill.new.self) n payload fault size
-    (c.in_err-character-in-Some.ensures.refused (end_at g.R.Read.remaining c.bare_head.new.self))
+    (c.in_err-character-in-Some.ensures.refused (g.R.Read.remaining c.fill.new.self.decoder.reader.now)
+    (end_at g.R.Read.remaining c.bare_head.new.self))
     c.in_ok-fill-in-Some.ensures.ok))
 
 pub returns-in-None-clause-answer : goal.returns-in-None-clause-answer

@@ -1,4 +1,5 @@
-use Rattle.std.proofs.Common.{arith, subst}
+use Rattle.std.proofs.Common.{arith, subst, false}
+use Rattle.ciborium.proofs.Items.FrontReads.{granted-fill}
 use Rattle.ciborium.proofs.Payloads.LoneCharacters.{just-taken}
 use Rattle.ciborium.proofs.Payloads.ReadDigits.{fill-fewer, fill-outside}
 use Rattle.ciborium_ll.proofs.HeldBytes.{same-name}
@@ -34,4 +35,12 @@ returns-in_err-read_exact_keeping-clause-outside g c =
     let same = c.read_exact_keeping.auto.buffer in
     fill-outside g.R.Read.remaining d c.read_exact_keeping.new.self c.read_exact_keeping.new.buffer y
     c.in_err-read_exact_keeping.field-0.0 (subst (λ o. IsUnreadBy g.R.Read.remaining d o y) c.requires u)
-    (omega (arith, there, same)) c.in_err-read_exact_keeping.ensures.taken)
+    (omega (arith, there, same)) c.in_err-read_exact_keeping.ensures.taken c.in_err-read_exact_keeping.ensures.spent)
+
+pub returns-in_err-read_exact_keeping-clause-memory : goal.returns-in_err-read_exact_keeping-clause-memory
+returns-in_err-read_exact_keeping-clause-memory g c =
+    let exit = err_from_is_err_and c.from_residual.result c.from_residual.ensures.1 in
+    let taken = c.in_err-read_exact_keeping.ensures.taken in
+    rw (exit.1, exit.2) (granted-fill (g.R.Read.remaining c.read_exact_keeping.new.self.reader.now)
+    c.in_err-read_exact_keeping.field-0.0 taken.0 c.read_exact_keeping.new.buffer c.args.self.now.decoder.window.count
+    false taken.3)

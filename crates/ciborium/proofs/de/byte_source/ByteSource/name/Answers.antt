@@ -6,7 +6,7 @@ use Rattle.ciborium_ll.specs.StringRefusal.{of_bytes, of_text}
 use Rattle.ciborium_value.specs.Taken.{bare_name, taken_name}
 use Rattle.ciborium_value.specs.declared.kind.Kind.TheVariants as kinds
 use Rattle.ciborium.specs.inner.ByteSources.{IsUnread, end_at}
-use Rattle.ciborium.specs.Errors.{fault_of}
+use Rattle.ciborium.specs.inner.ByteSources.{fault_at}
 use Rattle.ciborium.specs.inner.Skips.{TakesBare}
 use Rattle.ciborium.specs.inner.StringContents.{string_item}
 use Rattle.ciborium_value.specs.Places.{is_open}
@@ -18,8 +18,8 @@ use Rattle.ciborium.proofs.de.byte_source.ByteSource.name.Goals as goal
 pub returns-in_err-header-clause-answer : goal.returns-in_err-header-clause-answer
 returns-in_err-header-clause-answer g c =
     let exit = err_from_is_err_and c.from_residual.result c.from_residual.ensures.1 in
-    rw (exit.1, exit.2) (head-denied g.R.Read.remaining c.args.self.now taken_name (fault_of
-    c.in_err-header.field-0.0) c.in_err-header.ensures.denied)
+    rw (exit.1, exit.2) (head-denied g.R.Read.remaining c.args.self.now taken_name
+    (fault_at g.R.Read.remaining c.bare_head.new.self c.in_err-header.field-0.0) c.in_err-header.ensures.denied)
 
 pub returns-in_err-name-in-Text-clause-answer : goal.returns-in_err-name-in-Text-clause-answer
 returns-in_err-name-in-Text-clause-answer g c =
@@ -27,7 +27,8 @@ returns-in_err-name-in-Text-clause-answer g c =
     c.from_residual-in_err-name-in-Text.ensures.1 in
     rw (exit.1, exit.2) (string-denied g.R.Read.remaining c.args.self.now taken_name c.bare_head.new.self
     c.in_ok-header.header c.in_ok-header.ensures.head of_text c.in-Text.len c.in-Text.is
-    c.in_ok-header.ensures.reads.only (fault_of c.in_err-name-in-Text.field-0.0) c.in_err-name-in-Text.ensures.denied)
+    c.in_ok-header.ensures.reads.only (fault_at g.R.Read.remaining c.text_content.new.self
+    c.in_err-name-in-Text.field-0.0) c.in_err-name-in-Text.ensures.denied)
 
 pub returns-in-Text-clause-answer : goal.returns-in-Text-clause-answer
 returns-in-Text-clause-answer g c =
@@ -43,7 +44,8 @@ returns-in_err-bytes-in-Bytes-clause-answer g c =
     c.from_residual-in_err-bytes-in-Bytes.ensures.1 in
     rw (exit.1, exit.2) (string-denied g.R.Read.remaining c.args.self.now taken_name c.bare_head.new.self
     c.in_ok-header.header c.in_ok-header.ensures.head of_bytes c.in-Bytes.len c.in-Bytes.is
-    c.in_ok-header.ensures.reads.only (fault_of c.in_err-bytes-in-Bytes.field-0.0)
+    c.in_ok-header.ensures.reads.only (fault_at g.R.Read.remaining c.bytes_content.new.self
+    c.in_err-bytes-in-Bytes.field-0.0)
     c.in_err-bytes-in-Bytes.ensures.denied)
 
 pub returns-in-Ok-clause-answer : goal.returns-in-Ok-clause-answer

@@ -1,9 +1,9 @@
-use Rattle.std.proofs.Common.{◌∙◌, sym, subst, ◌≡◌, arith, ap}
+use Rattle.std.proofs.Common.{◌∙◌, sym, subst, ◌≡◌, arith, ap, false, length, ◌+◌}
 use Rattle.std.proofs.lemmas.Result.{err_from_is_err_and}
 use Rattle.ciborium.specs.inner.ByteSources.{IsUnreadBy, bytes_weight, weight_left, known_end}
 use Rattle.ciborium.specs.Errors.{fault_of}
 use Rattle.ciborium.proofs.Items.FrontReads.{ahead-unpushed, counted-pending, counted-pulled, fewer-bytes, head-outside}
-use Rattle.ciborium.proofs.Items.FrontReads.{weighs-none}
+use Rattle.ciborium.proofs.Items.FrontReads.{granted-head, spent-fault, weighs-none}
 use Rattle.ciborium_ll.specs.Decoding.{left_of}
 use Rattle.ciborium.proofs.Items.TakenOnly.{takes-only}
 use Rattle.ciborium_ll.proofs.HeldBytes.{same-name}
@@ -15,14 +15,24 @@ pub returns-in_err-header-clause-denied : goal.returns-in_err-header-clause-deni
 returns-in_err-header-clause-denied g c =
     let exit = err_from_is_err_and c.from_residual.result c.from_residual.ensures.1 in
     let d = c.args.self.now.decoder in
-    rw (exit.1, exit.2) (λ b x y h u s e there. subst (λ n. IsOutsideFault n
-    (fault_of (from_ll c.in_err-header.field-0.0)))
+    let e = c.pull_next_keeping.new.self in
+    let error = c.in_err-header.field-0.0 in
+    rw (exit.1, exit.2) (λ b x y h u s f there. subst (λ n. IsOutsideFault n
+    (fault_of (g.R.Read.remaining e.reader.now) (from_ll error)))
     (sym (ap (λ o. known_end o d.window.count) (subst (λ o. IsUnreadBy g.R.Read.remaining d o b) c.in_default.is
     u)))
-    (head-outside (left_of g.R.Read.remaining c.pull_next_keeping.new.self) c.in_err-header.field-0.0 b x y
-    d.window.count h s e there
+    (subst (IsOutsideFault (d.window.count + length b)) (spent-fault g.R.Read.remaining e error
+    c.in_err-header.ensures.spent)
+    (head-outside (left_of g.R.Read.remaining e) error b x y d.window.count h s f there
     (c.in_err-header.ensures.ahead b d.window.count (ahead-unpushed g.R.Read.remaining d b c.args.self.now.unpushed
-    (subst (λ o. IsUnreadBy g.R.Read.remaining d o b) c.in_default.is u)))))
+    (subst (λ o. IsUnreadBy g.R.Read.remaining d o b) c.in_default.is u))))))
+
+pub returns-in_err-header-clause-memory : goal.returns-in_err-header-clause-memory
+returns-in_err-header-clause-memory g c =
+    let exit = err_from_is_err_and c.from_residual.result c.from_residual.ensures.1 in
+    let taken = c.in_err-header.ensures.taken in
+    rw (exit.1, exit.2) (granted-head (g.R.Read.remaining c.pull_next_keeping.new.self.reader.now)
+    c.in_err-header.field-0.0 taken.0 c.args.self.now.decoder.window.count false taken.3)
 
 pub returns-clause-fewer : goal.returns-clause-fewer
 returns-clause-fewer g c =

@@ -6,7 +6,7 @@ use Rattle.ciborium_ll.specs.declared.header.Header.TheVariants as header
 use Rattle.ciborium_ll.specs.Header.{SpellsHeader}
 use Rattle.ciborium.specs.declared.de.byte_source.Left.TheVariants as left
 use Rattle.ciborium.specs.inner.ByteSources.{IsUnread, IsUnreadBy, bytes_weight, head_weight, weight_left}
-use Rattle.ciborium.specs.Errors.{fault_of}
+use Rattle.ciborium.specs.inner.ByteSources.{fault_at}
 use Rattle.ciborium.specs.inner.FrontItems.{TakesHead}
 use Rattle.ciborium.proofs.Containers.NextParts.{aside-unread, goes-bytes, goes-counted, goes-open, leaves-counted}
 use Rattle.ciborium.proofs.Containers.NextParts.{leaves-open, less-bytes, less-counted, less-open, is-none, no-next}
@@ -38,7 +38,8 @@ pub returns-in_err-header-in-Open-clause-refused : goal.returns-in_err-header-in
 returns-in_err-header-in-Open-clause-refused g c =
     let exit = err_from_is_err_and c.from_residual.result c.from_residual.ensures.1 in
     rw (exit.1, exit.2) (no-next g.R.Read.remaining c.args.self.now c.args.seq.now
-    (fault_of c.in_err-header-in-Open.field-0.0) c.in-Open.is c.in_err-header-in-Open.ensures.denied)
+    (fault_at g.R.Read.remaining c.next_head.new.self c.in_err-header-in-Open.field-0.0) c.in-Open.is
+    c.in_err-header-in-Open.ensures.denied)
 
 pub returns-in-Break-clause-ok : goal.returns-in-Break-clause-ok
 returns-in-Break-clause-ok g c =

@@ -3,7 +3,7 @@ use Rattle.std.proofs.lemmas.Result.{err_from_is_err_and}
 use Rattle.ciborium_value.specs.declared.kind.Kind.TheVariants as kinds
 use Rattle.ciborium_value.specs.Sources.{of_kind}
 use Rattle.ciborium.specs.inner.ByteSources.{IsUnread, end_at}
-use Rattle.ciborium.specs.Errors.{fault_of}
+use Rattle.ciborium.specs.inner.ByteSources.{fault_at}
 use Rattle.ciborium.specs.inner.FrontItems.{TakesHead}
 use Rattle.ciborium.specs.inner.StringContents.{TakesNumber}
 use Rattle.ciborium.proofs.Payloads.OpenNumbers.{bignum-reads, bignum-large, bignum-content, bignum-no-head}
@@ -15,14 +15,16 @@ pub returns-in_err-header-clause-answer : goal.returns-in_err-header-clause-answ
 returns-in_err-header-clause-answer g c =
     let exit = err_from_is_err_and c.from_residual.result c.from_residual.ensures.1 in
     rw (exit.1, exit.2) (bignum-no-head (IsUnread g.R.Read.remaining) (end_at g.R.Read.remaining) c.args.self.now
-    c.next_head.new.self (fault_of c.in_err-header.field-0.0) c.in_err-header.ensures.denied)
+    c.next_head.new.self (fault_at g.R.Read.remaining c.next_head.new.self c.in_err-header.field-0.0)
+    c.in_err-header.ensures.denied)
 
 pub returns-in_err-number-in-Bytes-clause-answer : goal.returns-in_err-number-in-Bytes-clause-answer
 returns-in_err-number-in-Bytes-clause-answer g c =
     let exit = err_from_is_err_and c.from_residual-in_err-number-in-Bytes.result
     c.from_residual-in_err-number-in-Bytes.ensures.1 in
     rw (exit.1, exit.2) (bignum-content (IsUnread g.R.Read.remaining) (end_at g.R.Read.remaining) c.args.self.now
-    c.next_head.new.self c.in-Bytes.len (fault_of c.in_err-number-in-Bytes.field-0.0)
+    c.next_head.new.self c.in-Bytes.len (fault_at g.R.Read.remaining c.read_number.new.self
+    c.in_err-number-in-Bytes.field-0.0)
     (same-end g.R.Read.remaining c.args.self.now c.next_head.new.self c.in_ok-header.ensures.only)
     (subst (TakesHead (IsUnread g.R.Read.remaining) c.args.self.now c.next_head.new.self) c.in-Bytes.is
     c.in_ok-header.ensures.head) c.in_err-number-in-Bytes.ensures.denied)

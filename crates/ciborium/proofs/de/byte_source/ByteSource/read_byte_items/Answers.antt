@@ -3,7 +3,7 @@ use Rattle.std.proofs.lemmas.Result.{err_from_is_err_and}
 use Rattle.ciborium_value.specs.Sources.{GoesOn, Leaves, OwesLess, OwesNothing, TakesAhead, TakesTo}
 use Rattle.ciborium_value.specs.Taken.{taken_byte, taken_integer}
 use Rattle.ciborium.specs.inner.ByteSources.{IsUnread, SeqOwes, SeqStands, StandsBefore}
-use Rattle.ciborium.specs.Errors.{fault_of}
+use Rattle.ciborium.specs.inner.ByteSources.{fault_at}
 use Rattle.ciborium.proofs.Containers.ByteItems.{ReadsPartly, byte-refuses, byte-takes, owes-end, owes-more, owes-none}
 use Rattle.ciborium.proofs.Containers.ByteItems.{partly-end, partly-fault, partly-more, partly-next-fault, partly-none}
 use Rattle.ciborium.proofs.Containers.ByteItems.{range-refuses, refuses-denied, takes-read, took-read}
@@ -29,7 +29,8 @@ pub returns-in_err-goes_on-clause-refused : goal.returns-in_err-goes_on-clause-r
 returns-in_err-goes_on-clause-refused g c =
     let exit = err_from_is_err_and c.from_residual.result c.from_residual.ensures.1 in
     rw (exit.1, exit.2) (partly-next-fault g.R.Read.remaining taken_byte c.args.self.now c.args.seq c.items.self
-    c.items.left c.items.bytes.items (fault_of c.in_err-goes_on.field-0.0) c.items.invariant.read
+    c.items.left c.items.bytes.items (fault_at g.R.Read.remaining c.next_part.new.self c.in_err-goes_on.field-0.0)
+    c.items.invariant.read
     c.in_err-goes_on.ensures.refused)
 
 pub returns-then-not-goes_on-clause-ok : goal.returns-then-not-goes_on-clause-ok
@@ -53,7 +54,7 @@ returns-then-not-goes_on-clause-took g c =
 pub returns-in_err-number-clause-refused : goal.returns-in_err-number-clause-refused
 returns-in_err-number-clause-refused g c =
     let exit = err_from_is_err_and c.from_residual-in_err-number.result c.from_residual-in_err-number.ensures.1 in
-    let fault = fault_of c.in_err-number.field-0.0 in
+    let fault = fault_at g.R.Read.remaining c.read_integer.new.self c.in_err-number.field-0.0 in
     let goes = yes (GoesOn (StandsBefore g.R.Read.remaining) SeqStands c.items.self c.next_part.new.self c.items.left
     c.next_part.new.seq) (Leaves (StandsBefore g.R.Read.remaining) SeqStands c.items.self c.next_part.new.self
     c.items.left)
@@ -66,7 +67,7 @@ returns-in_err-number-clause-refused g c =
 pub returns-in_err-byte-clause-refused : goal.returns-in_err-byte-clause-refused
 returns-in_err-byte-clause-refused g c =
     let exit = err_from_is_err_and c.from_residual-in_err-byte.result c.from_residual-in_err-byte.ensures.1 in
-    let fault = fault_of c.in_err-byte.field-0.0 in
+    let fault = fault_at g.R.Read.remaining c.read_integer.new.self c.in_err-byte.field-0.0 in
     let read = c.in_ok-number.ensures in
     let goes = yes (GoesOn (StandsBefore g.R.Read.remaining) SeqStands c.items.self c.next_part.new.self c.items.left
     c.next_part.new.seq) (Leaves (StandsBefore g.R.Read.remaining) SeqStands c.items.self c.next_part.new.self
@@ -75,7 +76,7 @@ returns-in_err-byte-clause-refused g c =
     rw (exit.1, exit.2) (partly-fault g.R.Read.remaining taken_byte c.args.self.now c.args.seq c.items.self
     c.next_part.new.self c.items.left c.next_part.new.seq c.items.bytes.items fault c.items.invariant.read goes
     (range-refuses g.R.Read.remaining c.next_part.new.self c.read_integer.new.self c.in_ok-number.number fault
-    c.in_err-byte.ensures.refused
+    (c.in_err-byte.ensures.refused (g.R.Read.remaining c.read_integer.new.self.decoder.reader.now))
     (takes-read g.R.Read.remaining c.next_part.new.self c.read_integer.new.self taken_integer c.in_ok-number.number
     (read.keeps.same_reader, read.keeps.only) read.keeps.levels read.keeps.pending read.keeps.fewer read.answer)))
 

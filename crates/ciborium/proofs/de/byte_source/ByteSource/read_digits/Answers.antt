@@ -1,6 +1,7 @@
-use Rattle.std.proofs.Common.{sym, ap, ◌∙◌, subst, arith, length, length-append, ◌+◌, ◌≡◌}
+use Rattle.std.proofs.Common.{sym, ap, ◌∙◌, subst, arith, length, length-append, ◌+◌, ◌≡◌, false}
 use Rattle.ciborium.specs.inner.ByteSources.{IsUnreadBy}
 use Rattle.ciborium.specs.Errors.{fault_of}
+use Rattle.ciborium.proofs.Items.FrontReads.{granted-fill}
 use Rattle.ciborium.proofs.Payloads.ReadDigits.{digit-more, fill-fewer, fill-outside}
 use Rattle.ciborium_ll.proofs.HeldBytes.{same-name}
 use Rattle.ciborium.proofs.Items.TakenOnly.{takes-only, same-end}
@@ -47,9 +48,19 @@ returns-in_err-read_exact_keeping-clause-outside g c =
     let (t, z, len, bytes, val, split, un) = c.loop-left.invariant.took y u in
     let more : length y ≡ length t + length z = ap length split ∙ length-append t z in
     let one = c.read_exact_keeping.auto.buffer in
-    subst (λ n. IsOutsideFault n (fault_of (from_ll c.in_err-read_exact_keeping.field-0.0)))
+    subst (λ n. IsOutsideFault n (fault_of (g.R.Read.remaining c.read_exact_keeping.new.self.reader.now)
+    (from_ll c.in_err-read_exact_keeping.field-0.0)))
     (same-end g.R.Read.remaining c.args.self.now c.loop-left.self c.loop-left.invariant.only y u)
     (fill-outside g.R.Read.remaining d c.read_exact_keeping.new.self c.read_exact_keeping.new.buffer z
     c.in_err-read_exact_keeping.field-0.0 (subst (λ o. IsUnreadBy g.R.Read.remaining d o z)
     c.loop-left.invariant.pending un)
-    (omega (arith, there, more, len, one, c.loop-left-test.true)) c.in_err-read_exact_keeping.ensures.taken))
+    (omega (arith, there, more, len, one, c.loop-left-test.true)) c.in_err-read_exact_keeping.ensures.taken
+    c.in_err-read_exact_keeping.ensures.spent))
+
+pub returns-in_err-read_exact_keeping-clause-memory : goal.returns-in_err-read_exact_keeping-clause-memory
+returns-in_err-read_exact_keeping-clause-memory g c =
+    let exit = err_from_is_err_and c.from_residual.result c.from_residual.ensures.1 in
+    let taken = c.in_err-read_exact_keeping.ensures.taken in
+    rw (exit.1, exit.2) (granted-fill (g.R.Read.remaining c.read_exact_keeping.new.self.reader.now)
+    c.in_err-read_exact_keeping.field-0.0 taken.0 c.read_exact_keeping.new.buffer c.loop-left.self.decoder.window.count
+    false taken.3)

@@ -7,7 +7,7 @@ use Rattle.ciborium_value.specs.Sources.{of_kind}
 use Rattle.ciborium_value.specs.Taken.{gives, taken_integer}
 use Rattle.ciborium_value.specs.declared.kind.Kind.TheVariants as kinds
 use Rattle.ciborium.specs.inner.ByteSources.{IsUnread, end_at}
-use Rattle.ciborium.specs.Errors.{fault_of}
+use Rattle.ciborium.specs.inner.ByteSources.{fault_at}
 use Rattle.ciborium.specs.inner.FrontItems.{Reads}
 use Rattle.ciborium.specs.inner.Skips.{TakesBare, IsBare}
 use Rattle.ciborium.proofs.Items.BareScalars.{integer-gives, integer-other, bignum-behind, bignum-denied}
@@ -19,8 +19,8 @@ use Rattle.ciborium.proofs.de.byte_source.ByteSource.read_integer.Goals as goal
 pub returns-in_err-header-clause-answer : goal.returns-in_err-header-clause-answer
 returns-in_err-header-clause-answer g c =
     let exit = err_from_is_err_and c.from_residual.result c.from_residual.ensures.1 in
-    rw (exit.1, exit.2) (head-denied g.R.Read.remaining c.args.self.now taken_integer (fault_of
-    c.in_err-header.field-0.0) c.in_err-header.ensures.denied)
+    rw (exit.1, exit.2) (head-denied g.R.Read.remaining c.args.self.now taken_integer
+    (fault_at g.R.Read.remaining c.bare_head.new.self c.in_err-header.field-0.0) c.in_err-header.ensures.denied)
 
 either-sign : (h : Header) (n : ℕ) (P : Type 0) → (h ≡ header.Positive n) ⊎ (h ≡ header.Negative n) →
     (h ≡ header.Positive n → P) → (h ≡ header.Negative n → P) → P
@@ -67,7 +67,8 @@ returns-in_err-number-in-Tag-clause-answer g c =
     c.from_residual-in_err-number-in-Tag.ensures.1 in
     let bare : IsBare true (header.Tag t) = subst (IsBare true) c.in-Tag.is c.in_ok-header.ensures.reads.bare in
     rw (exit.1, exit.2) (bignum-denied (IsUnread g.R.Read.remaining) t l bare.1 (end_at g.R.Read.remaining)
-    c.args.self.now c.bare_head.new.self (fault_of c.in_err-number-in-Tag.field-0.0)
+    c.args.self.now c.bare_head.new.self (fault_at g.R.Read.remaining c.read_tagged.new.self
+    c.in_err-number-in-Tag.field-0.0)
     (same-end g.R.Read.remaining c.args.self.now c.bare_head.new.self c.in_ok-header.ensures.reads.only)
     (subst (TakesBare (IsUnread g.R.Read.remaining) c.args.self.now c.bare_head.new.self true) c.in-Tag.is
     c.in_ok-header.ensures.head) c.in_err-number-in-Tag.ensures.answer)

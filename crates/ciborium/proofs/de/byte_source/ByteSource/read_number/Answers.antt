@@ -4,7 +4,7 @@ use Rattle.ciborium_ll.specs.declared.header.Header.TheVariants as header
 use Rattle.ciborium_ll.specs.StringRefusal.{of_bytes}
 use Rattle.ciborium_value.specs.Sources.{of_syntax}
 use Rattle.ciborium.specs.inner.ByteSources.{IsUnread, end_at}
-use Rattle.ciborium.specs.Errors.{fault_of}
+use Rattle.ciborium.specs.inner.ByteSources.{fault_at}
 use Rattle.ciborium.specs.inner.FrontItems.{TakesHead}
 use Rattle.ciborium.specs.inner.StringContents.{DeniesContent, TakesNumber}
 use Rattle.ciborium.proofs.Items.FrontReads.{weighs-none}
@@ -18,7 +18,7 @@ returns-in_err-header-in-None-clause-denied g c =
     let exit = err_from_is_err_and c.from_residual-in_err-header-in-None.result
     c.from_residual-in_err-header-in-None.ensures.1 in
     let P = IsUnread g.R.Read.remaining c.args.self.now in
-    let fault = fault_of c.in_err-header-in-None.field-0.0 in
+    let fault = fault_at g.R.Read.remaining c.next_head.new.self c.in_err-header-in-None.field-0.0 in
     rw (exit.1, exit.2) (subst (λ l. DeniesContent P (end_at g.R.Read.remaining c.args.self.now) of_bytes l fault)
     (sym c.in-None.is) (parts-no-head P (IsUnread g.R.Read.remaining c.parts.self) c.parts.number
     c.parts.invariant.took (end_at g.R.Read.remaining c.parts.self) (end_at g.R.Read.remaining c.args.self.now)
@@ -85,7 +85,8 @@ returns-in_err-number-in-Some-part-clause-denied g c =
     let exit = err_from_is_err_and c.from_residual-in_err-number-in-Some-part.result
     c.from_residual-in_err-number-in-Some-part.ensures.1 in
     let U = IsUnread g.R.Read.remaining in
-    let fault = fault_of c.in_err-number-in-Some-part.field-0.0 in
+    let fault =
+    fault_at g.R.Read.remaining c.read_digits-in-Some-part.new.self c.in_err-number-in-Some-part.field-0.0 in
     let mid = c.next_head.new.self in
     rw (exit.1, exit.2) (subst (λ l. DeniesContent (U c.args.self.now) (end_at g.R.Read.remaining c.args.self.now)
     of_bytes l fault) (sym c.in-None.is)

@@ -3,7 +3,7 @@ use Rattle.std.proofs.lemmas.Result.{err_from_is_err_and}
 use Rattle.ciborium_ll.specs.StringRefusal.{of_text}
 use Rattle.ciborium_value.specs.Taken.{bare_text, taken_text}
 use Rattle.ciborium_value.specs.declared.kind.Kind.TheVariants as kinds
-use Rattle.ciborium.specs.Errors.{fault_of}
+use Rattle.ciborium.specs.inner.ByteSources.{fault_at}
 use Rattle.ciborium.specs.inner.StringContents.{string_item}
 use Rattle.ciborium.proofs.Items.SkippedTags.{untagged-under}
 use Rattle.ciborium.proofs.Payloads.StringPayloads.{text-other}
@@ -13,8 +13,8 @@ use Rattle.ciborium.proofs.de.byte_source.ByteSource.text.Goals as goal
 pub returns-in_err-header-clause-answer : goal.returns-in_err-header-clause-answer
 returns-in_err-header-clause-answer g c =
     let exit = err_from_is_err_and c.from_residual.result c.from_residual.ensures.1 in
-    rw (exit.1, exit.2) (head-denied g.R.Read.remaining c.args.self.now taken_text (fault_of
-    c.in_err-header.field-0.0) c.in_err-header.ensures.denied)
+    rw (exit.1, exit.2) (head-denied g.R.Read.remaining c.args.self.now taken_text
+    (fault_at g.R.Read.remaining c.bare_head.new.self c.in_err-header.field-0.0) c.in_err-header.ensures.denied)
 
 pub returns-in_ok-text-in-Text-clause-answer : goal.returns-in_ok-text-in-Text-clause-answer
 returns-in_ok-text-in-Text-clause-answer g c =
@@ -30,7 +30,8 @@ returns-in_err-text-in-Text-clause-answer g c =
     c.from_residual-in_err-text-in-Text.ensures.1 in
     rw (exit.1, exit.2) (string-denied g.R.Read.remaining c.args.self.now taken_text c.bare_head.new.self
     c.in_ok-header.header c.in_ok-header.ensures.head of_text c.in-Text.len c.in-Text.is
-    c.in_ok-header.ensures.reads.only (fault_of c.in_err-text-in-Text.field-0.0) c.in_err-text-in-Text.ensures.denied)
+    c.in_ok-header.ensures.reads.only (fault_at g.R.Read.remaining c.text_content.new.self
+    c.in_err-text-in-Text.field-0.0) c.in_err-text-in-Text.ensures.denied)
 
 pub returns-in_default-clause-answer : goal.returns-in_default-clause-answer
 returns-in_default-clause-answer g c =

@@ -1,10 +1,10 @@
-use Rattle.std.proofs.Common.{None, Some, Ok, Err, refl, sym, ◌∙◌, subst}
+use Rattle.std.proofs.Common.{◌≡◌, ◌+◌, length, None, Some, Ok, Err, refl, sym, ◌∙◌, subst}
 use Rattle.std.proofs.lemmas.Result.{err_from_is_err_and}
 use Rattle.ciborium_ll.specs.Decoding.{next_offset, left_of}
 use Rattle.ciborium_value.specs.View.{tree_of}
 use Rattle.ciborium.specs.inner.ByteSources.{IsUnreadBy}
 use Rattle.ciborium.specs.Errors.{fault_of}
-use Rattle.ciborium_ll.proofs.HeldBytes.{same-name, unread-count, unread-left}
+use Rattle.ciborium_ll.proofs.HeldBytes.{same-name, unread-count, unread-left, unread-none}
 use Rattle.ciborium.proofs.Items.TakenOnly.{takes-none, takes-only}
 use Rattle.ciborium.proofs.Readers.WhateverFollows.{leaves-name}
 use Rattle.ciborium.proofs.Items.WholeValues.{ahead-by, known-read, portable-ahead, portable-reads, pushed-ahead}
@@ -63,13 +63,19 @@ returns-in_err-value-in-None-portable_value-clause-answer g c =
     let ahead = ahead-by g.R.Read.remaining d c.push.new.self pending b c.in-None-portable_value.ensures
     c.push.ensures.pushed c.push.ensures.unread (subst (λ o. IsUnreadBy g.R.Read.remaining d o b)
     (sym c.take.ensures.value ∙ c.in-Some.is) u) in
-    subst (λ n. IsFaultOf n (fault_of error) (taken_value (Some c.args.self.now.levels) i))
+    let held : left_of g.R.Read.remaining f ≡ g.R.Read.remaining f.reader.now =
+    unread-none (g.R.Read.remaining f.reader.now) f.window.lookahead f.window.count
+    c.in_err-value-in-None-portable_value.ensures.reader.1 in
+    subst (λ n. IsFaultOf n (fault_of (g.R.Read.remaining f.reader.now) error)
+    (taken_value (Some c.args.self.now.levels) i))
     (sym (whole-end g.R.Read.remaining d pending b c.in-None-portable_value.ensures
     (subst (λ o. IsUnreadBy g.R.Read.remaining d o b) (sym c.take.ensures.value ∙ c.in-Some.is) u)))
+    (subst (λ o. IsFaultOf (next_offset d.window.count pending + length b) (fault_of o error)
+    (taken_value (Some c.args.self.now.levels) i)) held
     (whole-faults (left_of g.R.Read.remaining f) error c.args.self.now.levels (next_offset d.window.count pending) b s z
     i sp e
     (known-read g.R.Read.remaining Unit c.push.new.self f c.args.self.now.levels (Err error)
-    c.in_err-value-in-None-portable_value.ensures.value b (next_offset d.window.count pending) ahead)))
+    c.in_err-value-in-None-portable_value.ensures.value b (next_offset d.window.count pending) ahead))))
 
 pub returns-in_err-value-in-None-clause-answer : goal.returns-in_err-value-in-None-clause-answer
 returns-in_err-value-in-None-clause-answer g c =
@@ -81,12 +87,18 @@ returns-in_err-value-in-None-clause-answer g c =
     rw (exit.1, exit.2) (λ b s z i u sp e.
     let ahead = ahead-by g.R.Read.remaining d d None b tt c.args.self.now.unpushed (refl, refl)
     (subst (λ o. IsUnreadBy g.R.Read.remaining d o b) (sym c.take.ensures.value ∙ c.in-None.is) u) in
-    subst (λ n. IsFaultOf n (fault_of error) (taken_value (Some c.args.self.now.levels) i))
+    let held : left_of g.R.Read.remaining f ≡ g.R.Read.remaining f.reader.now =
+    unread-none (g.R.Read.remaining f.reader.now) f.window.lookahead f.window.count
+    c.in_err-value-in-None.ensures.reader.1 in
+    subst (λ n. IsFaultOf n (fault_of (g.R.Read.remaining f.reader.now) error)
+    (taken_value (Some c.args.self.now.levels) i))
     (sym (whole-end g.R.Read.remaining d None b tt
     (subst (λ o. IsUnreadBy g.R.Read.remaining d o b) (sym c.take.ensures.value ∙ c.in-None.is) u)))
+    (subst (λ o. IsFaultOf (d.window.count + length b) (fault_of o error)
+    (taken_value (Some c.args.self.now.levels) i)) held
     (whole-faults (left_of g.R.Read.remaining f) error c.args.self.now.levels d.window.count b s z i sp e
     (known-read g.R.Read.remaining Unit d f c.args.self.now.levels (Err error) c.in_err-value-in-None.ensures.value
-    b d.window.count ahead)))
+    b d.window.count ahead))))
 
 pub returns-in-Some-portable_value-clause-reads : goal.returns-in-Some-portable_value-clause-reads
 returns-in-Some-portable_value-clause-reads g c = (

@@ -2,7 +2,7 @@ use Rattle.ciborium.proofs.Payloads.LoneCharacters.{more-characters, one-charact
 use Rattle.ciborium.proofs.de.byte_source.characters.only_character.Goals as goal
 
 pub returns-in-Some-next-clause-refused : goal.returns-in-Some-next-clause-refused
-returns-in-Some-next-clause-refused c end u =
+returns-in-Some-next-clause-refused c left end u =
     more-characters c.args.payload.now c.next.new.self.rest.now c.next-in-Some.new.self.rest.now c.in-Some.first
     c.in-Some-next.field-0 u (let a = c.chars-characters.ensures.rest in let b = c.in-Ok.ensures.cases.0 in let d =
     c.in-Some.ensures.steps in cc) c.in-Some-next.ensures.steps.0

@@ -22,10 +22,10 @@ loop-entries-init g c = record {
 
 pub returns-in_err-next-clause-refused : goal.returns-in_err-next-clause-refused
 returns-in_err-next-clause-refused g c =
-    let e = g.S.Source.cause c.in_err-next.field-0.0 in
+    let e = g.S.Source.cause c.next.new.self c.in_err-next.field-0.0 in
     exits _ c.in_err-next.field-0.0 (λ x. RefusesAhead g.S.Source.stands_before c.args.source.now
     (taken_map g.K.Deserialize.reading.order g.K.Deserialize.reading.taken g.V.Deserialize.reading.taken)
-    (g.S.Source.cause x)) c.from_residual-in_err-next.ensures.1
+    (g.S.Source.cause c.next.new.self x)) c.from_residual-in_err-next.ensures.1
     (blames g.S.Source.stands_before e (so c.loop-entries.invariant.inside
     (map_blames_next g.S.Source.stands_before g.S.Source.seq_stands g.K.Deserialize.reading.order
     g.K.Deserialize.reading.taken g.V.Deserialize.reading.taken
@@ -34,10 +34,10 @@ returns-in_err-next-clause-refused g c =
 
 pub returns-in_err-key-clause-refused : goal.returns-in_err-key-clause-refused
 returns-in_err-key-clause-refused g c =
-    let e = g.S.Source.cause c.in_err-key.field-0.0 in
+    let e = g.S.Source.cause c.deserialize.new.source c.in_err-key.field-0.0 in
     exits _ c.in_err-key.field-0.0 (λ x. RefusesAhead g.S.Source.stands_before c.args.source.now
     (taken_map g.K.Deserialize.reading.order g.K.Deserialize.reading.taken g.V.Deserialize.reading.taken)
-    (g.S.Source.cause x)) c.from_residual-in_err-key.ensures.1
+    (g.S.Source.cause c.deserialize.new.source x)) c.from_residual-in_err-key.ensures.1
     (blames g.S.Source.stands_before e (so c.loop-entries.invariant.inside
     (map_blames_key g.S.Source.stands_before g.S.Source.seq_stands g.K.Deserialize.reading.order
     g.K.Deserialize.reading.taken g.V.Deserialize.reading.taken
@@ -47,10 +47,10 @@ returns-in_err-key-clause-refused g c =
 
 pub returns-in_err-value-clause-refused : goal.returns-in_err-value-clause-refused
 returns-in_err-value-clause-refused g c =
-    let e = g.S.Source.cause c.in_err-value.field-0.0 in
+    let e = g.S.Source.cause c.deserialize-in-loop-entries.new.source c.in_err-value.field-0.0 in
     exits _ c.in_err-value.field-0.0 (λ x. RefusesAhead g.S.Source.stands_before c.args.source.now
     (taken_map g.K.Deserialize.reading.order g.K.Deserialize.reading.taken g.V.Deserialize.reading.taken)
-    (g.S.Source.cause x)) c.from_residual-in_err-value.ensures.1
+    (g.S.Source.cause c.deserialize-in-loop-entries.new.source x)) c.from_residual-in_err-value.ensures.1
     (blames g.S.Source.stands_before e (so c.loop-entries.invariant.inside
     (map_blames_value g.S.Source.stands_before g.S.Source.seq_stands g.K.Deserialize.reading.order
     g.K.Deserialize.reading.taken g.V.Deserialize.reading.taken

@@ -20,9 +20,10 @@ loop-values-init g c = record {
 
 pub returns-in_err-next-clause-refused : goal.returns-in_err-next-clause-refused
 returns-in_err-next-clause-refused g c =
-    let e = g.S.Source.cause c.in_err-next.field-0.0 in
+    let e = g.S.Source.cause c.next.new.self c.in_err-next.field-0.0 in
     exits _ c.in_err-next.field-0.0 (λ x. RefusesAhead g.S.Source.stands_before c.args.source.now
-    (taken_list g.T.Deserialize.reading.taken) (g.S.Source.cause x)) c.from_residual-in_err-next.ensures.1
+    (taken_list g.T.Deserialize.reading.taken) (g.S.Source.cause c.next.new.self x))
+    c.from_residual-in_err-next.ensures.1
     (blames g.S.Source.stands_before e (so c.loop-values.invariant.inside
     (blames_next g.S.Source.stands_before g.S.Source.seq_stands
     (list_from g.T.Deserialize.reading.taken (map g.T.Deserialize.reading.content c.loop-values.values.items)) e
@@ -30,9 +31,10 @@ returns-in_err-next-clause-refused g c =
 
 pub returns-in_err-value-clause-refused : goal.returns-in_err-value-clause-refused
 returns-in_err-value-clause-refused g c =
-    let e = g.S.Source.cause c.in_err-value.field-0.0 in
+    let e = g.S.Source.cause c.deserialize.new.source c.in_err-value.field-0.0 in
     exits _ c.in_err-value.field-0.0 (λ x. RefusesAhead g.S.Source.stands_before c.args.source.now
-    (taken_list g.T.Deserialize.reading.taken) (g.S.Source.cause x)) c.from_residual-in_err-value.ensures.1
+    (taken_list g.T.Deserialize.reading.taken) (g.S.Source.cause c.deserialize.new.source x))
+    c.from_residual-in_err-value.ensures.1
     (blames g.S.Source.stands_before e (so c.loop-values.invariant.inside
     (list_blames g.S.Source.stands_before g.S.Source.seq_stands g.T.Deserialize.reading.taken _ e
     (rw c.if-branch.true at c.in_ok-next.ensures.ok) c.in_err-value.ensures.refused)))

@@ -1,6 +1,6 @@
 use Rattle.ciborium.proofs.Containers.EnteredContainers.{enters}
 use Rattle.ciborium_value.specs.Taken.{taken_seq}
-use Rattle.ciborium.specs.Errors.{fault_of}
+use Rattle.ciborium.specs.inner.ByteSources.{fault_at}
 use Rattle.ciborium.proofs.Containers.ByteItems.{refuses-denied}
 use Rattle.ciborium.proofs.Readers.HandedReaders.{err-map}
 use Rattle.ciborium.proofs.de.byte_source.source.ByteSourceSource.begin_seq.Goals as goal
@@ -13,4 +13,5 @@ returns-clause-ok g c =
 
 pub returns-clause-refused : goal.returns-clause-refused
 returns-clause-refused g c = err-map c.begin_seq.result c.begin_seq.ensures.denied
-    (λ e h. refuses-denied g.R.Read.remaining c.args.self.now taken_seq (fault_of e) h)
+    (λ e h. refuses-denied g.R.Read.remaining c.args.self.now taken_seq
+    (fault_at g.R.Read.remaining c.begin_seq.new.self e) h)

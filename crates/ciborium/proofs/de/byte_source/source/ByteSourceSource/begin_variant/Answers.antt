@@ -2,7 +2,7 @@ use Rattle.std.proofs.Common.{Some, string_bytes}
 use Rattle.ciborium.proofs.Items.Due.{with-ok}
 use Rattle.ciborium_value.specs.Taken.{taken_variant}
 use Rattle.ciborium.proofs.Containers.HeldLevels.{completes-opened, holds-opened, ok-map-two, on-ok-so}
-use Rattle.ciborium.specs.Errors.{fault_of}
+use Rattle.ciborium.specs.inner.ByteSources.{fault_at}
 use Rattle.ciborium.proofs.Containers.ByteItems.{refuses-denied}
 use Rattle.ciborium.proofs.Readers.HandedReaders.{err-map}
 use Rattle.ciborium.proofs.de.byte_source.source.ByteSourceSource.begin_variant.Goals as goal
@@ -22,4 +22,5 @@ returns-clause-took g c =
 
 pub returns-clause-refused : goal.returns-clause-refused
 returns-clause-refused g c = err-map c.begin_variant.result c.begin_variant.ensures.denied
-    (λ e h. refuses-denied g.R.Read.remaining c.args.self.now taken_variant (fault_of e) h)
+    (λ e h. refuses-denied g.R.Read.remaining c.args.self.now taken_variant
+    (fault_at g.R.Read.remaining c.begin_variant.new.self e) h)

@@ -2,7 +2,7 @@ use Rattle.std.proofs.Common.{◌≡◌, ◌∙◌, ◌++◌, Some, arith}
 use Rattle.std.proofs.lemmas.Result.{err_from_is_err_and}
 use Rattle.ciborium_ll.specs.Header.{SpellsHeader}
 use Rattle.ciborium.specs.inner.ByteSources.{IsUnread, IsUnreadBy}
-use Rattle.ciborium.specs.Errors.{fault_of}
+use Rattle.ciborium.specs.inner.ByteSources.{fault_at}
 use Rattle.ciborium.proofs.Containers.NextParts.{aside-unread}
 use Rattle.ciborium.proofs.Containers.NullAhead.{null-head, refuses-to-tell, takes-nothing, tells}
 use Rattle.ciborium.proofs.de.byte_source.source.ByteSourceSource.null_ahead.Goals as goal
@@ -10,7 +10,8 @@ use Rattle.ciborium.proofs.de.byte_source.source.ByteSourceSource.null_ahead.Goa
 pub returns-in_err-header-clause-refused : goal.returns-in_err-header-clause-refused
 returns-in_err-header-clause-refused g c =
     let exit = err_from_is_err_and c.from_residual.result c.from_residual.ensures.1 in
-    rw (exit.1, exit.2) (refuses-to-tell g.R.Read.remaining c.args.self.now (fault_of c.in_err-header.field-0.0)
+    rw (exit.1, exit.2) (refuses-to-tell g.R.Read.remaining c.args.self.now
+    (fault_at g.R.Read.remaining c.next_head.new.self c.in_err-header.field-0.0)
     c.in_err-header.ensures.denied)
 
 pub returns : goal.returns
