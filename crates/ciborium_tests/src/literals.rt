@@ -50,6 +50,7 @@ fn find_literal(alloc: Global, text: &str, bytes: &ByteBuf) -> Made {
         .or_else(|| with_map(alloc, text))
         .or_else(|| with_expressions(alloc, text))
         .or_else(|| with_all(alloc, text, bytes))
+        .or_else(|| between_others(alloc, text))
 }
 
 // Null alone, and as an item, a key and a value.
@@ -158,5 +159,14 @@ fn with_all(alloc: Global, text: &str, bytes: &ByteBuf) -> Made {
         ([null, true, false, 1000000, -500, "text", bytes, [], [2, 3], {}, {2 => 3}])
         ({null => true, false => 1000000, -500 => "text", bytes => [], [2, 3] => {}, {2 => 3} => 1})
         ({{2 => 3} => {}, [2, 3] => [], bytes => "text", -500 => 1000000, false => true, null => 1})
+    )
+}
+
+// Parts of each kind behind others and before others.
+fn between_others(alloc: Global, text: &str) -> Made {
+    find_tree!(alloc, text,
+        ([0, null, [1], {2 => 3}, 4 + 1, 5])
+        ({0 => 1, 2 => null, 3 => [4], 5 => {6 => 7}, 8 => 9 + 1, null => 11, [12] => 13})
+        ({0 => 1, {2 => 3} => 4, [5] => 6, null => 7, 8 => null, 9 => 10})
     )
 }

@@ -1,6 +1,6 @@
 //! Why reading fails.
 
-ghost use Rattle.std.specs.Prelude.{◌≡◌};
+ghost use Rattle.std.specs.Prelude.{◌≡◌, IfSome};
 ghost use Rattle.ciborium.specs.Errors.{from_ll, without_reader_error};
 ghost use Rattle.ciborium.specs.Messages.{read_error_message};
 ghost use Rattle.ciborium.specs.declared.de.error.Error.TheVariants.{Io, Memory};
@@ -102,7 +102,8 @@ pub(crate) type Refusal = Error<()>;
 /// Puts back the error that was kept aside. There is one wherever a call was refused as `Io`.
 #[inline(never)]
 pub(crate) fn put_back(refusal: Refusal, failure: Option<io::Error>) -> Error<io::Error>
-    ensures { refusal ≡ without_reader_error result }
+    ensures refusal { refusal ≡ without_reader_error result }
+    ensures given { IfSome failure (λ e. refusal ≡ Error.Io tt → result ≡ Error.Io e) }
 {
     match refusal {
         Error::Io(()) => match failure {

@@ -15,9 +15,9 @@ use std::io::{self, Write};
 ///
 /// # Errors
 ///
-/// Those of `into_writer` for the first value that is refused; nothing is written after it. `Value`
-/// holds the kind that the first value without an item names. Where each value has an item, only a
-/// strict prefix of all their bytes was written.
+/// Those of `into_writer` for the first value that is refused, at which it stops. `Value` holds the
+/// kind that the first value without an item names; what was written of that one is up to its type.
+/// Where each value has an item, only a strict prefix of all their bytes was written.
 pub fn write_sequence<T: Serialize, W: Write>(
     values: &[T],
     writer: &mut W,

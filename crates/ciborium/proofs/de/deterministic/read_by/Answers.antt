@@ -30,5 +30,5 @@ returns-in-Err g c =
     (back-tree g.S.Rules.spelling g.R.Read.remaining c.new-decoder.result c.read_value.new.decoder c.args.limit
     c.put_back.result
     (subst (λ r. TakesBeforeAny g.R.Read.remaining c.new-decoder.result c.read_value.new.decoder
-    (λ d f. TreeSo {E = Unit} g.S.Rules.spelling c.args.limit d f (Err r))) c.put_back.ensures
+    (λ d f. TreeSo {E = Unit} g.S.Rules.spelling c.args.limit d f (Err r))) c.put_back.ensures.refusal
     c.in-Err.ensures.value)))
