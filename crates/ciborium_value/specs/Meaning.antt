@@ -64,7 +64,7 @@ abbrev pub tag_meaning : ℕ → Option (List ℕ) → Option Tree → Option Tr
 tag_meaning t (Some b) content = bignum_meaning t b
 tag_meaning t None content = option_map (tag t) content
 
--- what a simple value means: null and undefined are both null (section 3.3)
+-- what a simple value means (section 3.3); that undefined is null is ciborium's own rule
 unfoldable pub simple_meaning : ℕ → Option Tree
 simple_meaning n =
     if n == 20 then Some (boolean false)
