@@ -1,8 +1,7 @@
 //! Settings that are saved deterministically (RFC 8949, section 4.2): equal settings are equal
-//! bytes, which can be compared, hashed or signed. Loading takes more than what was saved: a
-//! deterministic encoding may have tags, items behind a setting's two, or a topic again as a map of
-//! its name to null, and the same settings come of it. To refuse these, save what was loaded and
-//! compare the bytes.
+//! bytes, which can be compared, hashed or signed. Loading takes other deterministic encodings too,
+//! with parts that it drops (`load` says which): to refuse these, save what was loaded, and compare
+//! the bytes.
 ghost use Rattle.std.specs.Prelude.{IfOk, map, ◌≡◌};
 ghost use Rattle.ciborium.specs.DeterministicWrites.{WritesForm, named_form};
 ghost use Rattle.ciborium.specs.Sources.{read_as};
@@ -51,9 +50,11 @@ pub fn save<W: Write>(
 }
 
 /// Reads settings from a deterministic encoding, within `LEVELS` levels; what follows it is left in
-/// the reader. Bytes that do not begin with one are refused as `Load`. Of the tree, which need not
-/// be what `save` writes, tags and items behind a setting's two are dropped, and of a topic that is
-/// repeated in another form the last one counts. What gives no settings is refused as `Content`.
+/// the reader. Bytes that do not begin with one are refused as `Load`, and what gives no settings,
+/// as an unknown topic, is refused as `Content`. The encoding need not be one that `save` writes:
+/// tags, and items behind a setting's two, are dropped; a topic may be a map of its name to null,
+/// and of a topic that stands in two forms the last one counts; and a level may be a bignum, which
+/// has more than 16 bytes then.
 pub fn load<R: Read>(alloc: Global, reader: &mut R) -> Result<Settings, SettingsError>
     ensures { LoadsEncoding ⟦<Settings as Deserialize>⟧.reading.taken (R.remaining reader.old)
         (R.remaining reader.new) (read_as settings_content result) }
