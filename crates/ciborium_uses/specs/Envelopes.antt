@@ -1,7 +1,8 @@
 -- Signed messages of COSE (RFC 9052) that hold a CBOR Web Token (RFC 8392): which bytes they are,
 -- and what their
 -- signatures sign.
-use Rattle.std.specs.Prelude.{◌≡◌, ℕ, ℤ, pos, List, [], ◌∷◌, codes, length, map, false}
+use Rattle.std.specs.Prelude.{◌≡◌, ℕ, ℤ, pos, List, [], ◌∷◌, codes, length, map}
+use Rattle.std.specs.Prelude.{Bool, IsTrue, true, false, ◌&&◌}
 use Rattle.std.specs.Prelude.{Option, Some, None, option_map, String, string_bytes}
 use Rattle.std.specs.declared.alloc.Global.{Global}
 use Rattle.std.specs.BTreeMap.{BTreeMap, is_at}
@@ -12,14 +13,13 @@ use Rattle.ciborium.specs.Spells.{Spells}
 use Rattle.ciborium.specs.Encoding.{item_of}
 use Rattle.ciborium.specs.Errors.{fault_of}
 use Rattle.ciborium.specs.Order.{tree_cmp}
-use Rattle.ciborium.specs.TreeVariants.{IsMapTree}
 use Rattle.ciborium.specs.Sources.{Fault, of_device, of_end, of_kind, of_length, of_memory}
 use Rattle.ciborium.specs.Sources.{of_nesting, of_syntax}
 use Rattle.ciborium.specs.TagReadings.{if_tag, is_tag, taken_with_tag}
 use Rattle.ciborium.specs.Taken.{Taken, gives, taken_value}
 use Rattle.ciborium.specs.TakenParts.{taken_map, taken_then}
 use Rattle.ciborium.specs.Tree as trees
-use Rattle.ciborium.specs.Tree.{Tree, tree_pairs_count}
+use Rattle.ciborium.specs.Tree.{Tree, TreePairs, tree_pairs_count}
 use Rattle.ciborium.specs.View.{pair_trees}
 use Rattle.ciborium_value.specs.declared.byte_buf.ByteBuf.{ByteBuf}
 use Rattle.ciborium_value.specs.declared.tree.Value.{Value}
@@ -65,9 +65,24 @@ abbrev pub pair_count : Tree → ℕ
 pair_count (trees.map ps) = tree_pairs_count ps
 pair_count _ = 0
 
--- a map in which no label stands twice: it has as many entries as pairs (RFC 9052, section 3)
+-- a label is an integer, which may be a folded bignum, or a text (RFC 9052, section 1.4; of claims
+-- RFC 8392, section 9.1)
+abbrev pub is_label : Tree → Bool
+is_label (trees.integer z) = true
+is_label (trees.text b) = true
+is_label _ = false
+
+abbrev pub are_labels : TreePairs → Bool
+are_labels trees.no_tree_pairs = true
+are_labels (trees.tree_pair k v ps) = is_label k && are_labels ps
+
+-- a map whose keys are labels
+abbrev pub IsLabelMap : Tree → Type 0
+IsLabelMap t = (ps : TreePairs) × (t ≡ trees.map ps) × IsTrue (are_labels ps)
+
+-- the same where no label stands twice: it has as many entries as pairs (RFC 9052, section 3)
 abbrev pub AreLabels : Tree → List (Tree × Tree) → Type 0
-AreLabels t es = IsMapTree t × (taken_map tree_cmp taken_value taken_value None (item_of t) ≡ gives
+AreLabels t es = IsLabelMap t × (taken_map tree_cmp taken_value taken_value None (item_of t) ≡ gives
     es) ×
     (length es ≡ pair_count t)
 

@@ -54,9 +54,9 @@ pub struct Envelope {
 /// # Errors
 ///
 /// `Read` where the bytes of a part do not begin with its item, `Trailing` where bytes follow that,
-/// `Shape` where the message is no array of four, `NotMap` and `Repeated` where a header or the
-/// claims are no map, or a label stands there twice, `Claim` where a claim has another type, and
-/// `Memory`.
+/// `Shape` where the message is no array of four, `NotMap`, `Label` and `Repeated` where a header or
+/// the claims are no map, or a key there is neither an integer nor a text, or stands there twice,
+/// `Claim` where a claim has another type, and `Memory`.
 pub fn read_envelope(alloc: Global, bytes: &[u8]) -> Result<Envelope, EnvelopeError>
     ensures ok { IfOk result (λ e. IsEnvelope bytes.now e) }
     ensures refused { IfErr result (λ e. (v : Envelope) → IsEnvelope bytes.now v → IsOutside e) }

@@ -12,37 +12,20 @@ ghost use Rattle.ciborium.specs.TypedAnswers.{TakesGiven};
 ghost use Rattle.ciborium.specs.Writes.{WritesNamed};
 ghost use Rattle.ciborium_uses.specs.Readings.{IsReading, content_of};
 
+mod error;
 mod lines;
 pub mod reading;
 
-use anyhow::{Context, bail};
 use ciborium::de::{self, Deserialize};
 use ciborium::laws::are_read_back;
 use ciborium::ser::{self, Serialize};
 use ciborium::{from_reader_next, into_writer, read_sequence, write_sequence};
+pub use error::LogError;
 pub use lines::answer;
 use reading::Reading;
-use std::alloc::{AllocError, Global};
+use std::alloc::Global;
 use std::fs::File;
 use std::io::{self, BufReader, BufWriter, Read, Write};
-use thiserror::Error;
-
-/// Why readings were not written, or not read.
-#[derive(Debug, Drop, Error)]
-pub enum LogError {
-    /// The file cannot be opened or made, or does not take what was written.
-    #[error("the file: {0}")]
-    File(#[from] io::Error),
-    /// What stands there is no sequence of readings.
-    #[error("the log: {0}")]
-    Read(#[from] de::Error<io::Error>),
-    /// A reading cannot be written.
-    #[error("the log: {0}")]
-    Write(#[from] ser::Error<io::Error>),
-    /// An allocation failed.
-    #[error(transparent)]
-    Memory(#[from(alloc)] AllocError),
-}
 
 /// Writes one reading behind what was written before.
 pub fn write_reading<W: Write>(
@@ -122,20 +105,17 @@ pub fn load_log(rt: &HostRuntime, path: &str) -> Result<Vec<Reading>, LogError> 
     Ok(readings)
 }
 
-/// The readings of one sensor in a file, which is read reading by reading. An application that
-/// shows errors, and tells none from another, has `anyhow`.
-pub fn load_sensor(rt: &HostRuntime, path: &str, sensor: &str) -> anyhow::Result<Vec<Reading>> {
-    let file = File::open(rt, path).context("opening the log")?;
-    let mut reader = BufReader::new(rt.alloc(), file)?;
+/// The readings of one sensor in a file, which is read reading by reading.
+pub fn load_sensor(rt: &HostRuntime, path: &str, sensor: &str) -> Result<Vec<Reading>, LogError> {
+    let mut reader = BufReader::new(rt.alloc(), File::open(rt, path)?)?;
     let mut readings = Vec::new(rt.alloc());
     for _ in 0..u64::MAX {
-        let next = read_reading(rt.alloc(), &mut reader).context("reading the log")?;
-        let Some(reading) = next else {
+        let Some(reading) = read_reading(rt.alloc(), &mut reader)? else {
             return Ok(readings);
         };
         if reading.sensor.as_str() == sensor {
             readings.push(reading)?;
         }
     }
-    bail!("more readings than a log can have")
+    Err(LogError::Read(de::Error::TooLong))
 }

@@ -4,6 +4,7 @@ ghost use Rattle.std.specs.Prelude.{IfOk, IsTrue, map, not, ◌≡◌, ◌↔◌
 ghost use Rattle.ciborium.specs.View.{tree_of, tree_pairs_of, trees_of};
 ghost use Rattle.ciborium_uses.specs.Shapes.{HasShape, all_trees, field_fits, field_test, fits};
 ghost use Rattle.ciborium_uses.specs.Shapes.{has_field, is_text_of};
+ghost use Rattle.ciborium_uses.specs.declared.schema.SchemaError.TheVariants.{Read as read};
 
 mod lines;
 
@@ -11,7 +12,7 @@ use ciborium::{Value, de, from_reader};
 pub use lines::answer;
 use std::alloc::Global;
 use std::io::{self, Read};
-use thiserror::Error;
+use std::{error, fmt};
 
 /// What is asked of a tree.
 #[derive(Debug, Drop, PartialEq)]
@@ -33,15 +34,32 @@ pub enum Shape {
 }
 
 /// Why no tree of the wanted shape was read.
-#[derive(Debug, Drop, Error)]
+#[derive(Debug, Drop)]
 pub enum SchemaError {
     /// No tree was read.
-    #[error(transparent)]
-    Read(#[from] de::Error<io::Error>),
+    Read(de::Error<io::Error>),
     /// The tree has another shape.
-    #[error("another shape")]
     Shape,
 }
+
+impl From<de::Error<io::Error>> for SchemaError {
+    ghost from_gives = { λ e f. f ≡ read e };
+
+    fn from(error: de::Error<io::Error>) -> SchemaError {
+        SchemaError::Read(error)
+    }
+}
+
+impl fmt::Display for SchemaError {
+    fn fmt<W: fmt::Write>(&self, f: &mut fmt::Formatter<W>) -> fmt::Result {
+        match self {
+            SchemaError::Read(error) => write!(f, "{error}"),
+            SchemaError::Shape => f.write_str("another shape"),
+        }
+    }
+}
+
+impl error::Error for SchemaError {}
 
 /// Reads a tree that has a shape, and refuses every other one.
 pub fn read_shaped<R: Read>(

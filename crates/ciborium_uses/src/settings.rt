@@ -1,29 +1,31 @@
 //! Settings that are saved deterministically (RFC 8949, section 4.2): equal settings are equal
-//! bytes, which can be compared, hashed or signed. Bytes that are encoded in another way are
-//! refused.
+//! bytes, which can be compared, hashed or signed. Loading takes other deterministic encodings too,
+//! with parts that it drops (`load` says which): to refuse these, save what was loaded, and compare
+//! the bytes.
 ghost use Rattle.std.specs.Prelude.{IfOk, map, ◌≡◌};
 ghost use Rattle.ciborium.specs.DeterministicWrites.{WritesForm, named_form};
 ghost use Rattle.ciborium.specs.Sources.{read_as};
 ghost use Rattle.ciborium_value.specs.declared.key_order.KeyOrder.TheVariants.{LengthFirst};
 ghost use Rattle.ciborium_uses.specs.Settings.{LoadsEncoding, settings_content};
 
+mod error;
 pub mod laws;
 mod lines;
 pub mod setting;
 pub mod topic;
 
-use ciborium::de::{self, Deserialize};
+use ciborium::de::Deserialize;
 use ciborium::laws::ReadsBack;
 use ciborium::ser::{self, Serialize};
-use ciborium::value::{self, KeyOrder};
+use ciborium::value::KeyOrder;
 use ciborium::{from_reader_deterministic, into_writer_deterministic};
+pub use error::SettingsError;
 use laws::{have_one_form, is_form_loaded};
 pub use lines::answer;
 use setting::Setting;
-use std::alloc::{AllocError, Global};
+use std::alloc::Global;
 use std::collections::BTreeMap;
 use std::io::{self, Read, Write};
-use thiserror::Error;
 use topic::Topic;
 
 /// Settings by their topics.
@@ -34,23 +36,6 @@ const ORDER: KeyOrder = KeyOrder::LengthFirst;
 
 /// How deep an encoding may nest.
 const LEVELS: usize = 256;
-
-/// Why settings were not saved, or not loaded.
-#[derive(Debug, Drop, Error)]
-pub enum SettingsError {
-    /// They cannot be written.
-    #[error("saving: {0}")]
-    Save(#[from] ser::Error<io::Error>),
-    /// The bytes are no deterministic encoding.
-    #[error("loading: {0}")]
-    Load(#[from] de::Error<io::Error>),
-    /// What is encoded there are no settings.
-    #[error("loading: {0}")]
-    Content(#[from] value::Error),
-    /// An allocation failed.
-    #[error(transparent)]
-    Memory(#[from(alloc)] AllocError),
-}
 
 /// Writes the one deterministic encoding of settings: the topic with the shorter name comes first.
 pub fn save<W: Write>(
@@ -64,8 +49,12 @@ pub fn save<W: Write>(
     into_writer_deterministic(alloc, settings, ORDER, writer)
 }
 
-/// Reads settings from a deterministic encoding, within `LEVELS` levels. Bytes that are encoded in
-/// another way are refused as `Load`, and what is no settings is refused as `Content`.
+/// Reads settings from a deterministic encoding, within `LEVELS` levels; what follows it is left in
+/// the reader. Bytes that do not begin with one are refused as `Load`, and what gives no settings,
+/// as an unknown topic, is refused as `Content`. The encoding need not be one that `save` writes:
+/// tags, and items behind a setting's two, are dropped; a topic may be a map of its name to null,
+/// and of a topic that stands in two forms the last one counts; and a level may be a bignum, which
+/// has more than 16 bytes then.
 pub fn load<R: Read>(alloc: Global, reader: &mut R) -> Result<Settings, SettingsError>
     ensures { LoadsEncoding ⟦<Settings as Deserialize>⟧.reading.taken (R.remaining reader.old)
         (R.remaining reader.new) (read_as settings_content result) }

@@ -94,7 +94,7 @@ encoded_size v = min (length (encoding v)) (2 ^ 64 - 1)
 
 -- ---- the tree of an item that was written
 
--- false, true, and null for every other simple value
+-- false up to 20, true for 21, and null for every other one; only 20, 21 and 22 are ever written
 abbrev pub simple_tree : ℕ → Tree
 simple_tree n = if nat_lt n 21 then tree.boolean false else if nat_lt n 22 then tree.boolean true
     else tree.null

@@ -64,7 +64,7 @@ abbrev pub tag_meaning : ℕ → Option (List ℕ) → Option Tree → Option Tr
 tag_meaning t (Some b) content = bignum_meaning t b
 tag_meaning t None content = option_map (tag t) content
 
--- what a simple value means: null and undefined are both null (section 3.3)
+-- what a simple value means (section 3.3); that undefined is null is ciborium's own rule
 unfoldable pub simple_meaning : ℕ → Option Tree
 simple_meaning n =
     if n == 20 then Some (boolean false)
@@ -84,8 +84,8 @@ tree_pairs_more (Some k) None ps = None
 tree_pairs_more (Some k) (Some v) ps = option_map (tree_pair k v) ps
 
 abbrev mutual
-  -- an open item means what the definite one means, a map keeps every pair in order, and a float
-  -- has no meaning
+  -- an open item means what the definite one means, but that no tag folds over an open byte
+  -- string; a map keeps every pair in order, and a float has no meaning
   pub meaning : Item → Option Tree
   meaning (item.unsigned n) = Some (integer (pos n))
   meaning (item.negative n) = Some (integer (negsuc n))

@@ -4,9 +4,7 @@ ghost use Rattle.std.specs.Prelude.{Some};
 ghost use Rattle.ciborium_uses.specs.Envelopes.{part_text};
 
 use ciborium::de;
-use std::alloc::AllocError;
-use std::{fmt, io};
-use thiserror::Error;
+use std::{error, fmt, io};
 
 /// A part of an envelope that is an item of its own.
 #[derive(Clone, Copy, Debug, PartialEq, Eq)]
@@ -35,30 +33,44 @@ impl fmt::Display for Part {
 }
 
 /// Why bytes are no envelope.
-#[derive(Debug, Drop, Error)]
+#[derive(Debug, Drop)]
 pub enum EnvelopeError {
     /// The bytes do not begin with the wanted item.
-    #[error("{0}: {1}")]
     Read(Part, de::Error<io::Error>),
     /// Bytes follow the item.
-    #[error("{0}: bytes follow the item")]
     Trailing(Part),
     /// Another tag stands around the message, or one too many.
-    #[error("the message: not the tags of a signed message")]
     Tags,
     /// There are not four parts: a byte string, any item, and two byte strings.
-    #[error("the message: not the array of a signed message")]
     Shape,
     /// The part is no map.
-    #[error("{0}: not a map")]
     NotMap(Part),
+    /// A label is neither an integer nor a text.
+    Label(Part),
     /// A label stands twice in the map.
-    #[error("{0}: a label stands twice")]
     Repeated(Part),
     /// The claim at this key has another type.
-    #[error("the claims: claim {0} has another type")]
     Claim(u8),
     /// An allocation failed.
-    #[error("an allocation failed")]
     Memory,
 }
+
+impl fmt::Display for EnvelopeError {
+    fn fmt<W: fmt::Write>(&self, f: &mut fmt::Formatter<W>) -> fmt::Result {
+        match self {
+            EnvelopeError::Read(part, error) => write!(f, "{part}: {error}"),
+            EnvelopeError::Trailing(part) => write!(f, "{part}: bytes follow the item"),
+            EnvelopeError::Tags => f.write_str("the message: not the tags of a signed message"),
+            EnvelopeError::Shape => f.write_str("the message: not the array of a signed message"),
+            EnvelopeError::NotMap(part) => write!(f, "{part}: not a map"),
+            EnvelopeError::Label(part) => {
+                write!(f, "{part}: a label that is neither an integer nor a text")
+            }
+            EnvelopeError::Repeated(part) => write!(f, "{part}: a label stands twice"),
+            EnvelopeError::Claim(key) => write!(f, "the claims: claim {key} has another type"),
+            EnvelopeError::Memory => f.write_str("an allocation failed"),
+        }
+    }
+}
+
+impl error::Error for EnvelopeError {}

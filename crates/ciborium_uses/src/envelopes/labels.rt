@@ -3,9 +3,9 @@
 ghost use Rattle.std.specs.Prelude.{◌≡◌, IfErr, IfOk, List};
 ghost use Rattle.std.specs.Option.{option_copied, option_map};
 ghost use Rattle.ciborium.specs.Tree.{Tree};
-ghost use Rattle.ciborium.specs.View.{tree_of};
+ghost use Rattle.ciborium.specs.View.{tree_of, tree_pairs_of};
 ghost use Rattle.ciborium_uses.specs.Envelopes.{AreLabelBytes, AreLabels, IsHeader, IsOutside};
-ghost use Rattle.ciborium_uses.specs.Envelopes.{entry_trees, value_at};
+ghost use Rattle.ciborium_uses.specs.Envelopes.{are_labels, entry_trees, is_label, value_at};
 
 use super::error::{EnvelopeError, Part};
 use super::items::read_all;
@@ -14,14 +14,15 @@ use ciborium::value::{Error, Value};
 use std::alloc::Global;
 use std::collections::BTreeMap;
 
-/// Values by their labels, which are mostly numbers and texts (RFC 9052, section 1.5).
+/// Values by their labels, which are integers and texts (RFC 9052, section 1.4).
 pub type Labels = BTreeMap<Value, Value>;
 
-/// The entries of a map in which no label stands twice.
+/// The entries of a map whose keys are labels, none of which stands twice.
 ///
 /// # Errors
 ///
-/// `NotMap`, and `Repeated` where a label stands twice.
+/// `NotMap`, `Label` where a key is neither an integer nor a text, and `Repeated` where a label
+/// stands twice.
 pub fn labels_of(alloc: Global, map: &Value, part: Part) -> Result<Labels, EnvelopeError>
     ensures ok { IfOk result (λ m. AreLabels (tree_of map.now) (entry_trees m)) }
     ensures only { IfOk result (λ m. (es : List (Tree × Tree)) →
@@ -32,6 +33,9 @@ pub fn labels_of(alloc: Global, map: &Value, part: Part) -> Result<Labels, Envel
     let Some(pairs) = map.as_map() else {
         return Err(EnvelopeError::NotMap(part));
     };
+    if !are_labels(pairs) {
+        return Err(EnvelopeError::Label(part));
+    }
     match map.deserialized::<Labels>(alloc) {
         Ok(labels) => {
             if labels.len() == pairs.len() {
@@ -43,6 +47,25 @@ pub fn labels_of(alloc: Global, map: &Value, part: Part) -> Result<Labels, Envel
         Err(Error::Custom(kind)) => Err(EnvelopeError::Read(part, de::Error::semantic(None, kind))),
         Err(Error::Memory) => Err(EnvelopeError::Memory),
     }
+}
+
+// Whether each key is a label.
+fn are_labels(pairs: &[(Value, Value)]) -> bool
+    ensures { result ≡ are_labels (tree_pairs_of pairs.now) }
+{
+    for (key, _) in pairs {
+        if !is_label(key) {
+            return false;
+        }
+    }
+    true
+}
+
+// Whether a key is an integer or a text.
+fn is_label(key: &Value) -> bool
+    ensures { result ≡ is_label (tree_of key.now) }
+{
+    matches!(key, Value::Integer(_) | Value::Text(_))
 }
 
 /// Reads all of the bytes of a part as such a map.

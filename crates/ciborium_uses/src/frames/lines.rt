@@ -25,7 +25,7 @@ pub fn answer(rt: &HostRuntime, line: &str) -> Result<String, AllocError> {
         "save" => save(rt, path, words),
         "grow" => grow(rt, path, words),
         "load" => load(rt, rest),
-        "sensor" => return show_sensor(rt, path, words),
+        "sensor" => sensor(rt, path, words),
         _ => String::from_str(alloc, "no such command").map_err(LogError::from),
     };
     match answer {
@@ -76,11 +76,9 @@ fn load(rt: &HostRuntime, path: &str) -> Result<String, LogError> {
     Ok(show_readings(rt.alloc(), &readings)?)
 }
 
-fn show_sensor(rt: &HostRuntime, path: &str, sensor: &str) -> Result<String, AllocError> {
-    match load_sensor(rt, path, sensor) {
-        Ok(readings) => show_readings(rt.alloc(), &readings),
-        Err(error) => format!(in rt.alloc(); "{error}"),
-    }
+fn sensor(rt: &HostRuntime, path: &str, name: &str) -> Result<String, LogError> {
+    let readings = load_sensor(rt, path, name)?;
+    Ok(show_readings(rt.alloc(), &readings)?)
 }
 
 // The readings of words; a word that is none is passed over.

@@ -12,7 +12,8 @@ use crate::tree::Value;
 
 /// For a value in which folding changes nothing: no tag 2 or 3 in it stands over a byte string that
 /// is read as an integer, or as a bignum without its leading zeros (RFC 8949, section 3.4.3). What
-/// was read is such a value. It takes as many levels as it nests.
+/// was read is such a value unless a tag 2 or 3 stood over a byte string of indefinite length. It
+/// takes as many levels as it nests.
 impl ReadsBack for Value {
     ghost is_held = { λ v. folded (tree_of v) ≡ Some (tree_of v) };
 

@@ -1,4 +1,4 @@
-use Rattle.std.proofs.Common.{ap, sym, ◌∙◌, ◌≡◌, length}
+use Rattle.std.proofs.Common.{ap, rules, sym, ◌∙◌, ◌≡◌, length}
 use Rattle.ciborium.specs.Taken.{gives}
 use Rattle.ciborium.specs.View.{tree_pairs_of}
 use Rattle.ciborium_uses.proofs.LabelMaps.{counted, miscounted}
@@ -9,7 +9,7 @@ pub returns-then-len-clause-ok : goal.returns-then-len-clause-ok
 returns-then-len-clause-ok c =
     let is = c.in-Some.ensures.tree in
     let length_is = c.len-in-Ok.ensures ∙ c.in-Some.pairs.now.ok.0 in (
-      (tree_pairs_of c.in-Some.pairs.now.items, is),
+      (tree_pairs_of c.in-Some.pairs.now.items, is, search rules),
       c.in-Ok.ensures.ok,
       counted _ c.in-Some.pairs.now.items c.in-Ok.labels.entries _ _ is c.len.ensures.len length_is c.if-len.true,
     )
