@@ -68,7 +68,8 @@ pub one-more : (reading : Reading) (b w : List ℕ) (all is_ok : Bool) (left nex
     (line shown : List ℕ) (more : Bool) → IsLeft reading b w all left held →
     LineIsRead left next line more → more ≡ true → IsHeld held kept → shown ≡ line →
     AnswerIsHeld reading shown is_ok kept now → IsLeft reading b w (all && is_ok) next now
-one-more reading b w all is_ok left next held kept now line shown more (rest, answers, e, a, every, f) read m keeps same wrote =
+one-more reading b w all is_ok left next held kept now line shown more (rest, answers, e, a, every, f) read m keeps same
+    wrote =
     let h = line-ahead left next line more rest read m e in
     let t = wrote (w ++ answer_lines answers) (keeps (w ++ answer_lines answers) f) in (
       drop_through 10 rest,

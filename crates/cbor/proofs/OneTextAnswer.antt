@@ -98,8 +98,8 @@ reason-of refusal.NotFolded = (reasons.NotFolded, refl)
 reason-of refusal.KeyOrder = (reasons.KeyOrder, refl)
 
 -- what refuses some bytes, as the program names it
-named : (b : List ℕ) (limit : ℕ) (e : refusal.Refusal) → RefusesItem Any b limit e → (r : Refusal) × (wants_memory r ≡ false) ×
-    AreRefused Any b limit r
+named : (b : List ℕ) (limit : ℕ) (e : refusal.Refusal) → RefusesItem Any b limit e → (r : Refusal) ×
+    (wants_memory r ≡ false) × AreRefused Any b limit r
 named b limit refusal.io h = (Io, refl, h)
 named b limit (refusal.syntax p) h = (Syntax p, refl, h)
 named b limit refusal.too_long h = (TooLong, refl, h)

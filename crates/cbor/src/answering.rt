@@ -1,7 +1,7 @@
 //! Lines that are answered, one by one.
 
-ghost use Rattle.std.specs.Prelude.{◌≡◌, ◌⊎◌, ◌++◌, ℕ, IfNone, IfOk, IfSome, List, OnOk, Some, false};
-ghost use Rattle.std.specs.Prelude.{string_bytes};
+ghost use Rattle.std.specs.Prelude.{◌≡◌, ◌⊎◌, ◌++◌, ℕ, IfNone, IfOk, IfSome, List, OnOk, Some};
+ghost use Rattle.std.specs.Prelude.{false, string_bytes};
 ghost use Rattle.std.specs.Io.Buffered.{reader_remaining};
 ghost use Rattle.std.specs.Io.KnownBytes.{append_known};
 ghost use Rattle.ciborium_value.specs.View.{tree_of};
@@ -28,10 +28,11 @@ use ciborium_value::{KeyOrder, Kind, Value};
 use std::alloc::{AllocError, Global};
 use std::io::{BufReader, Read, Write};
 
-/// The answer to a line, within this many levels: `hex` where it is not an even number of hex digits
-/// of either case; `ok` and the encoding in lower-case hex where its bytes are one item; `trailing`
-/// and the number of bytes after the item where more follow it; and otherwise why the bytes are
-/// refused: `io`, `syntax` and an offset, `semantic`, an offset and a word, `nesting`, or `toolong`.
+/// The answer to a line, within this many levels: `hex` where it is not an even number of hex
+/// digits of either case; `ok` and the encoding in lower-case hex where its bytes are one item;
+/// `trailing` and the number of bytes after the item where more follow it; and otherwise why the
+/// bytes are refused: `io`, `syntax` and an offset, `semantic`, an offset and a word, `nesting`, or
+/// `toolong`.
 ///
 /// # Errors
 ///

@@ -22,8 +22,8 @@ abbrev pub GivesInTurn : {A : Type 0} → Limit → Taken A → List ℕ → Lis
 GivesInTurn l taken b cs = GivesThen l taken b cs []
 
 -- behind items that give values, what is left is refused by a call that leaves `after` of the
--- reader: an item at its front as it is, and where nothing is left, for what no item decides, as the
--- device may also fail at the end
+-- reader: an item at its front as it is, and where nothing is left, for what no item decides: the
+-- device may fail at the end, too
 abbrev pub IsRefusedThen : {A E : Type 0} → Limit → Taken A → List ℕ → Option (List ℕ) → Error E →
     Type 0
 IsRefusedThen {A} l taken b after e =

@@ -185,7 +185,8 @@ TakesOnly {S = S} HasTaken old new = (first : S) → HasTaken first old → HasT
 -- taken; or it is refused only where the item is, and for that; and no more is left than before
 pub record TakesOneItem {S A V E : Type 0} (StandsBefore : S → Limit → Ahead → Type 0)
     (IsUnread : S → List ℕ → Type 0) (HasTaken : S → S → Type 0) (left : S → ℕ)
-    (cause : S → E → Fault) (old new : S) (taken : Taken A) (content : V → A) (result : Result V E) : Type 0 where
+    (cause : S → E → Fault) (old new : S) (taken : Taken A) (content : V → A)
+    (result : Result V E) : Type 0 where
   pub ok : IfOk result (λ v. TakesAhead StandsBefore old new taken (content v))
   pub refused : IfErr result (λ e. RefusesAhead StandsBefore old taken (cause new e))
   pub took : OnOk result (TakesItem IsUnread old new)
