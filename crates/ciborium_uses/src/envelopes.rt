@@ -55,7 +55,7 @@ pub struct Envelope {
 ///
 /// `Read` where the bytes of a part do not begin with its item, `Trailing` where bytes follow that,
 /// `Shape` where the message is no array of four, `NotMap`, `Label` and `Repeated` where a header
-/// or the claims are no map, or a key there is neither an integer nor a text, or stands there twice,
+/// or the claims are no map, or a key there is neither an integer nor a text, or is there twice,
 /// `Claim` where a claim has another type, and `Memory`.
 pub fn read_envelope(alloc: Global, bytes: &[u8]) -> Result<Envelope, EnvelopeError>
     ensures ok { IfOk result (λ e. IsEnvelope bytes.now e) }
