@@ -40,7 +40,8 @@ returns-in_err-level-in-Map-clause-denied g c =
     rw (exit.1, exit.2) (nested-denied g.R.Read.remaining c.args.self.now taken_variant c.bare_head.new.self
     c.in_ok-header.header c.in_ok-header.ensures.head c.take_level-in-Map.new.self (header.Map (Some 1))
     (c.in-Map.is ∙ ap header.Map c.if-not-is_one.ensures) c.in_err-level-in-Map.field-0.0
-    c.in_err-level-in-Map.ensures.err (pair-nests c.args.self.now.levels (sym c.in_ok-header.ensures.reads.levels ∙ c.in_err-level-in-Map.ensures.none)))
+    c.in_err-level-in-Map.ensures.err (pair-nests c.args.self.now.levels
+    (sym c.in_ok-header.ensures.reads.levels ∙ c.in_err-level-in-Map.ensures.none)))
 
 pub returns-in_err-name-in-Text-clause-denied : goal.returns-in_err-name-in-Text-clause-denied
 returns-in_err-name-in-Text-clause-denied g c =
