@@ -5,7 +5,7 @@ pub mod SkippedTags
 pub mod BareScalars
 pub mod FrontReads
 pub mod TakenOnly
-pub mod Due
+pub mod Weights
 pub mod ValuesGiven
 pub mod ValueFaults
 pub mod WholeValues

@@ -4,3 +4,4 @@ pub mod StringPayloads
 pub mod LoneCharacters
 pub mod ReadDigits
 pub mod OpenNumbers
+pub mod ShortNames

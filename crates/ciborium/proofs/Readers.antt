@@ -6,3 +6,4 @@ pub mod PutAside
 pub mod HandedReaders
 pub mod NextReaders
 pub mod ReadSequences
+pub mod WholeSlices

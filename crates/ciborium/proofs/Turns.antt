@@ -8,4 +8,3 @@ pub mod Fronts
 pub mod Contents
 pub mod AfterTag
 pub mod Turned
-pub mod DueParts

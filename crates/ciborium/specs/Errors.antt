@@ -1,7 +1,8 @@
 -- The refusals of the definitions that the errors of reading stand for.
-use Rattle.std.specs.Prelude.{◌≡◌, ℕ, List, [], ◌∷◌, Option, Some, None}
+use Rattle.std.specs.Prelude.{◌≡◌, ℕ, Bool, List, [], ◌∷◌, Option, Some, None}
 use Rattle.ciborium_ll.specs.declared.header.Error.{Error as LlError}
 use Rattle.ciborium_ll.specs.declared.header.Error.TheVariants as ll
+use Rattle.ciborium_ll.specs.Accesses.{IsUsedUp}
 use Rattle.ciborium_ll.specs.Refusal as refusal
 use Rattle.ciborium_ll.specs.Refusal.{Refusal}
 use Rattle.ciborium_value.specs.Sources.{Fault, of_device, of_end, of_kind, of_length}
@@ -48,6 +49,16 @@ IsRefusedBy left (Semantic p k) P = IsNamed p (refusal_kind_of k) P
 IsRefusedBy left RecursionLimitExceeded P = P refusal.recursion_limit_exceeded
 IsRefusedBy left Memory P = Unit {0}
 IsRefusedBy left TooLong P = P refusal.too_long
+
+-- where a call could not be given more, what is left of the reader is nothing, unless it can fail
+-- before its end
+abbrev pub HasEndedBy : {E : Type 0} → Bool → Option (List ℕ) → Error E → Type 0
+HasEndedBy can_fail left (Io e) = IsUsedUp can_fail left
+HasEndedBy can_fail left (Syntax p) = Unit {0}
+HasEndedBy can_fail left (Semantic p k) = Unit {0}
+HasEndedBy can_fail left RecursionLimitExceeded = Unit {0}
+HasEndedBy can_fail left Memory = Unit {0}
+HasEndedBy can_fail left TooLong = Unit {0}
 
 -- what is left of an error where the reader's error is put aside
 abbrev pub without_reader_error : {E : Type 0} → Error E → Error Unit

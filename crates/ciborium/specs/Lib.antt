@@ -8,6 +8,7 @@ pub mod ItemSequences
 pub mod NextItems
 pub mod SequenceWrites
 pub mod SequenceReads
+pub mod SliceAnswers
 pub mod Messages
 pub mod laws
 pub mod lemmas
@@ -23,7 +24,7 @@ pub use Rattle.ciborium_ll.specs.Refusal
 pub use Rattle.ciborium_ll.specs.StringRefusal
 pub use Rattle.ciborium_ll.specs.Header
 pub use Rattle.ciborium_ll.specs.Strings
-pub use Rattle.ciborium_ll.specs.Windows
+pub use Rattle.ciborium_ll.specs.Accesses
 pub use Rattle.ciborium_ll.specs.Decoded
 pub use Rattle.ciborium_ll.specs.Decoding
 pub use Rattle.ciborium_ll.specs.FirstHeads

@@ -1,9 +1,10 @@
 -- Reading the items of a sequence one after the other (RFC 8742, section 2): the next item, or the
 -- end where none follows.
-use Rattle.std.specs.Prelude.{◌≡◌, ℕ, List, [], Option, Some, None, Result, Ok, Err, IfErr, IfOk}
-use Rattle.std.specs.Prelude.{IfSome, OnOk}
+use Rattle.std.specs.Prelude.{◌≡◌, ℕ, Bool, true, List, [], Option, Some, None, Result, Ok, Err}
+use Rattle.std.specs.Prelude.{IfErr, IfOk, IfSome, OnOk}
 use Rattle.std.specs.Io.KnownBytes.{Consumes, IsAtEnd}
 use Rattle.ciborium_ll.specs.declared.header.Header.{Header}
+use Rattle.ciborium_ll.specs.Accesses.{left_at_failure}
 use Rattle.ciborium_value.specs.Readings.{Reading}
 use Rattle.ciborium_value.specs.Sources.{IsGrantedFault, RefusesAhead, TakesAhead, TakesItem}
 use Rattle.ciborium_value.specs.Sources.{TakesOnly, read_as}
@@ -46,19 +47,25 @@ TellsEnd before after (Ok None) = Consumes before after [] × IsAtEnd after
 TellsEnd before after (Ok (Some v)) = ¬ (before ≡ Some [])
 TellsEnd before after (Err e) = before ≡ Some [] → IsReadIo e
 
--- a call that reads the next item within so many levels: the end; or otherwise what a call says
--- that reads one value at offset 0
-pub record ReadsNextAsType {T A E : Type 0} (l : ℕ) (reading : Reading T A)
+-- a call that reads the next item within so many levels, of a reader that can or cannot fail before
+-- its end: the end; or otherwise what a call says that reads one value at offset 0
+pub record ReadsNextAsTypeFrom {T A E : Type 0} (can_fail : Bool) (l : ℕ) (reading : Reading T A)
     (before after : Option (List ℕ)) (r : Result (Option T) (Error E)) : Type 0 where
   pub end : TellsEnd before after r
   pub ok : Otherwise r (λ q. TakesGiven (Some l) reading.taken before after
       (read_as reading.content q))
-  pub refused : Otherwise r (λ q. RefusesTaken 0 (Some l) reading.taken before after
-      (read_as reading.content q))
-  pub memory : IfErr r (λ e. IsGrantedFault (fault_of after e) reading.needs_memory)
+  pub refused : Otherwise r (λ q. RefusesTaken 0 (Some l) reading.taken before
+      (left_at_failure can_fail after) (read_as reading.content q))
+  pub memory : IfErr r (λ e. IsGrantedFault (fault_of (left_at_failure can_fail after) e)
+      reading.needs_memory)
   pub taken : TakesBeginning before after
   pub value : Otherwise r (λ q. IfSome reading.whole (λ tree. ReadsWhole any before l after
       (read_as (λ v. tree (reading.content v)) q)))
+
+-- the same of any reader
+abbrev pub ReadsNextAsType : {T A E : Type 0} → ℕ → Reading T A → Option (List ℕ) →
+    Option (List ℕ) → Result (Option T) (Error E) → Type 0
+ReadsNextAsType l reading before after r = ReadsNextAsTypeFrom true l reading before after r
 
 -- ---- how it is read
 
@@ -69,7 +76,7 @@ IfNotEnded (Ok (Some v)) P = P (Ok v)
 IfNotEnded (Err e) P = P (Err e)
 
 -- the source, where this head was pulled first and is pending
-abbrev pub behind_head : {S : Type 0} → ByteSource S → Header → ByteSource S
+abbrev pub behind_head : {S W : Type 0} → ByteSource S W → Header → ByteSource S W
 behind_head s h = record {
   decoder = s.decoder;
   pending = Some (h, 0);
@@ -80,15 +87,15 @@ behind_head s h = record {
 }
 
 -- a value was read from the source: all that reading a value of the type says
-abbrev pub IsReadFrom : {S T A E : Type 0} → (S → Option (List ℕ)) → Reading T A → ByteSource S →
-    ByteSource S → Result T (Error E) → Type 0
-IsReadFrom remaining reading old new r = record {
+abbrev pub IsReadFrom : {S W T A E : Type 0} → Bool → (S → Option (List ℕ)) → Reading T A →
+    ByteSource S W → ByteSource S W → Result T (Error E) → Type 0
+IsReadFrom can_fail remaining reading old new r = record {
   ok : IfOk r (λ v. TakesAhead (StandsBefore remaining) old new reading.taken (reading.content v));
   took : OnOk r (TakesItem (IsUnread remaining) old new);
   only : TakesOnly (HasTakenSince remaining) old new;
   refused : IfErr r (λ e. RefusesAhead (StandsBefore remaining) old reading.taken
-      (fault_at remaining new e));
-  memory : IfErr r (λ e. IsGrantedFault (fault_at remaining new e) reading.needs_memory);
-  whole : IfSome reading.whole (λ tree. ReadsValue remaining old new
+      (fault_at can_fail remaining new e));
+  memory : IfErr r (λ e. IsGrantedFault (fault_at can_fail remaining new e) reading.needs_memory);
+  whole : IfSome reading.whole (λ tree. ReadsValue can_fail remaining old new
       (read_as (λ v. tree (reading.content v)) r));
 }

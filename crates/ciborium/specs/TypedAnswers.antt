@@ -1,8 +1,9 @@
 -- What reading a value of any type answers, from bytes and from a tree.
-use Rattle.std.specs.Prelude.{◌≡◌, ℕ, ◌+◌, List, ◌++◌, length, Option, Some, None, Result, Ok, Err}
-use Rattle.std.specs.Prelude.{IfOk, IfErr, IfSome}
+use Rattle.std.specs.Prelude.{◌≡◌, ℕ, ◌+◌, Bool, true, List, ◌++◌, length, Option, Some, None}
+use Rattle.std.specs.Prelude.{Result, Ok, Err, IfOk, IfErr, IfSome}
 use Rattle.std.specs.Io.KnownBytes.{Consumes}
 use Rattle.std.specs.declared.io.Error.{Error as IoError}
+use Rattle.ciborium_ll.specs.Accesses.{left_at_failure}
 use Rattle.ciborium_ll.specs.Item.{Item}
 use Rattle.ciborium_ll.specs.Spells.{Spells}
 use Rattle.ciborium_value.specs.Encoding.{encoding, item_of}
@@ -51,20 +52,27 @@ RefusesTaken p l taken before after r = (b : List ℕ) → before ≡ Some b →
 abbrev pub TakesBeginning : Option (List ℕ) → Option (List ℕ) → Type 0
 TakesBeginning before after = (b : List ℕ) × Consumes before after b
 
--- a call that reads one value, whose bytes begin at offset p, within a limit: what the reader held
--- before, what it is left with, what holds of the tree where reading is one call of `value`, and
--- the answer
-pub record ReadsAsType {T A E : Type 0} (p : ℕ) (l : Limit) (reading : Reading T A)
-    (before after : Option (List ℕ)) (P : Result Tree (Error E) → Type 0)
+-- a call that reads one value, whose bytes begin at offset p, within a limit: whether the reader
+-- can fail before its end, what it held before, what it is left with, what holds of the tree where
+-- reading is one call of `value`, and the answer
+pub record ReadsAsTypeFrom {T A E : Type 0} (can_fail : Bool) (p : ℕ) (l : Limit)
+    (reading : Reading T A) (before after : Option (List ℕ)) (P : Result Tree (Error E) → Type 0)
     (r : Result T (Error E)) : Type 0 where
   -- where an item stands at the front: just it was taken, and the answer is what it gives; or it is
   -- refused as the item is
   pub ok : TakesGiven l reading.taken before after (read_as reading.content r)
-  pub refused : RefusesTaken p l reading.taken before after (read_as reading.content r)
-  pub memory : IfErr r (λ e. IsGrantedFault (fault_of after e) reading.needs_memory)
+  pub refused : RefusesTaken p l reading.taken before (left_at_failure can_fail after)
+      (read_as reading.content r)
+  pub memory : IfErr r (λ e. IsGrantedFault (fault_of (left_at_failure can_fail after) e)
+      reading.needs_memory)
   -- refused or not
   pub taken : TakesBeginning before after
   pub value : IfSome reading.whole (λ tree. P (read_as (λ v. tree (reading.content v)) r))
+
+-- the same of any reader
+abbrev pub ReadsAsType : {T A E : Type 0} → ℕ → Limit → Reading T A → Option (List ℕ) →
+    Option (List ℕ) → (Result Tree (Error E) → Type 0) → Result T (Error E) → Type 0
+ReadsAsType p l reading before after P r = ReadsAsTypeFrom true p l reading before after P r
 
 -- ---- from both
 

@@ -22,27 +22,28 @@ use Rattle.ciborium.specs.Spelling.{Spelling, HasKeysInOrder, HasKeyOutOfOrder, 
 
 -- a value within l levels is being read at xs, offset p: this is open, and the decoder stands
 -- inside it
-abbrev pub IsReading : {S : Type 0} → Spelling → (S → Option (List ℕ)) → Decoder S →
+abbrev pub IsReading : {S W : Type 0} → Spelling → (S → Option (List ℕ)) → Decoder S W →
     List TreeFrame → ℕ → List ℕ → ℕ → Type 0
 IsReading spelling remaining d os l xs p =
     (m : ℕ) × (zs : List ℕ) × (r : ℕ) × IsAround spelling l xs p os m zs r ×
     StandsAt spelling remaining d zs r
 
 -- the answer of a call that reads a value, by its tree
-abbrev pub IsTreeRead : {S E : Type 0} → Spelling → (S → Option (List ℕ)) → Decoder S → ℕ → List ℕ →
+abbrev pub IsTreeRead : {S W E : Type 0} → Spelling → (S → Option (List ℕ)) → Decoder S W → ℕ →
+    List ℕ →
     ℕ → Result Tree (Error E) → Type 0
 IsTreeRead spelling remaining d l xs p (Ok v) = (zs : List ℕ) × (r : ℕ) ×
     ReadsItem spelling l xs p v zs r × IsAhead remaining d zs r
 IsTreeRead spelling remaining d l xs p (Err e) =
     IsRefusedBy (left_of remaining d) e (RefusesBy spelling xs p l)
 
-abbrev pub IsValueRead : {S E : Type 0} → Spelling → (S → Option (List ℕ)) → Decoder S → ℕ →
+abbrev pub IsValueRead : {S W E : Type 0} → Spelling → (S → Option (List ℕ)) → Decoder S W → ℕ →
     List ℕ → ℕ → Result Value (Error E) → Type 0
 IsValueRead spelling remaining d l xs p r = IsTreeRead spelling remaining d l xs p
     (read_as tree_of r)
 
 -- the answer of one turn of the loop
-abbrev pub IsTurned : {S E : Type 0} → Spelling → (S → Option (List ℕ)) → Decoder S →
+abbrev pub IsTurned : {S W E : Type 0} → Spelling → (S → Option (List ℕ)) → Decoder S W →
     List TreeFrame → ℕ → List ℕ → ℕ → Result (Option Value) (Error E) → Type 0
 IsTurned spelling remaining d os l xs p (Ok None) = IsReading spelling remaining d os l xs p
 IsTurned spelling remaining d os l xs p (Ok (Some v)) =

@@ -1,5 +1,5 @@
 -- What writing answers, and where the sink over a writer stands.
-use Rattle.std.specs.Prelude.{ℕ, List, Option, Some, None, Result, Ok, Err, IsErr}
+use Rattle.std.specs.Prelude.{◌≡◌, ℕ, List, Option, Some, None, Result, Ok, Err, IsErr}
 use Rattle.std.specs.Borrow.{GName}
 use Rattle.ciborium_ll.specs.Writing.{Writes}
 use Rattle.ciborium_value.specs.Encoding.{written_bytes}
@@ -36,6 +36,17 @@ WritesNamed old new result (Err kind) = IsErr result
 abbrev pub IsNamedWritten : Named → Type 0
 IsNamedWritten (Ok i) = IsWritten i
 IsNamedWritten (Err kind) = ⊥
+
+-- these are just the bytes of the item that a value names, which can be written
+abbrev pub IsWrittenAs : List ℕ → Named → Type 0
+IsWrittenAs b (Ok i) = (b ≡ written_bytes i) × IsWritten i
+IsWrittenAs b (Err kind) = ⊥
+
+-- a value is refused for the kind that it names; or memory was
+abbrev pub RefusesToWrite : {T : Type 0} → Error T → Named → Type 0
+RefusesToWrite (Io e) named = ⊥
+RefusesToWrite (Value kind) named = named ≡ Err kind
+RefusesToWrite Memory named = Unit {0}
 
 -- ---- the sink over a writer
 

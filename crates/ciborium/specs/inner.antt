@@ -1,6 +1,5 @@
 -- What only clauses of functions that no user calls rest on.
 pub mod Around
-pub mod Due
 pub mod FrontItems
 pub mod Parts
 pub mod ValuesInBytes

@@ -1,13 +1,16 @@
 //! Bytes to values.
 
-ghost use Rattle.std.specs.Prelude.{◌≡◌, IfNone, IfSome, None, Ok, Some};
+ghost use Rattle.std.specs.Prelude.{◌≡◌, IfErr, IfNone, IfSome, None, Ok, Some};
 ghost use Rattle.ciborium_value.specs.Sources.{TakesOnly};
-ghost use Rattle.ciborium.specs.NextItems.{IfNotEnded, IsReadFrom, ReadsNextAsType, behind_head};
+ghost use Rattle.ciborium.specs.Errors.{HasEndedBy};
+ghost use Rattle.ciborium.specs.NextItems.{IfNotEnded, IsReadFrom, ReadsNextAsType};
+ghost use Rattle.ciborium.specs.NextItems.{ReadsNextAsTypeFrom, behind_head};
 ghost use Rattle.ciborium.specs.Spelling.{any};
-ghost use Rattle.ciborium.specs.TypedAnswers.{ReadsAsType};
+ghost use Rattle.ciborium.specs.TypedAnswers.{ReadsAsType, ReadsAsTypeFrom};
 ghost use Rattle.ciborium.specs.ValueAnswers.{ReadsWhole, TakesBytesFrom};
 ghost use Rattle.ciborium.specs.inner.ByteSources.{HasTakenSince};
 
+mod buffered;
 mod building;
 mod byte_source;
 mod deterministic;
@@ -15,18 +18,27 @@ mod error;
 mod front;
 mod parts;
 mod sequence;
+mod slice;
 mod spelling;
 mod tags;
 
-use byte_source::ByteSource;
-use ciborium_ll::{Decoder, Header};
-pub use ciborium_value::{
-    Array, Deserialize, Item, Key, Kind, NoField, NoItem, Source, Wanted, WantedFields,
-    WantedItems, read_fields, required,
+pub use buffered::{
+    from_buf_reader, from_buf_reader_next, from_buf_reader_next_with_recursion_limit,
+    from_buf_reader_with_recursion_limit,
 };
-pub use deterministic::{from_reader_deterministic, from_reader_deterministic_with_order};
+use byte_source::ByteSource;
+use ciborium_ll::{Access, Decoder, Header, Plain};
+pub use ciborium_value::{
+    Array, Deserialize, FieldPlace, Item, Key, Kind, Names, NoField, NoItem, Source, Wanted,
+    WantedFields, WantedItems, read_fields, required,
+};
+pub use deterministic::{
+    from_buf_reader_deterministic, from_buf_reader_deterministic_with_order,
+    from_reader_deterministic, from_reader_deterministic_with_order,
+};
 pub use error::Error;
-pub use sequence::read_sequence;
+pub use sequence::{read_buf_sequence, read_sequence};
+pub use slice::{from_slice, from_slice_with_recursion_limit};
 use std::alloc::Global;
 use std::io::{self, Read};
 
@@ -38,11 +50,11 @@ const SCRATCH_SIZE: usize = 1024;
 
 // Reads one value from a source, and puts the reader's error back.
 #[inline(always)]
-fn read_from<T: Deserialize, R: Read>(
+fn read_from<T: Deserialize, R, A: Access<R>>(
     alloc: Global,
-    source: &mut ByteSource<'_, R>,
+    source: &mut ByteSource<'_, R, A>,
 ) -> Result<T, Error<io::Error>>
-    ensures { IsReadFrom R.remaining T.reading source.old source.new result }
+    ensures { IsReadFrom A.can_fail A.remaining T.reading source.old source.new result }
 {
     match T::deserialize(alloc, source) {
         Ok(value) => Ok(value),
@@ -51,19 +63,21 @@ fn read_from<T: Deserialize, R: Read>(
 }
 
 // Reads one value from a source of its own, before which `offset` bytes stand.
-fn read_at<T: Deserialize, R: Read>(
+fn read_at<T: Deserialize, R, A: Access<R>>(
     alloc: Global,
     reader: &mut R,
     offset: usize,
     scratch: &mut [u8],
     limit: usize,
 ) -> Result<T, Error<io::Error>>
-    ensures { ReadsAsType offset (Some limit) T.reading (R.remaining reader.old)
-        (R.remaining reader.new) (TakesBytesFrom any offset (R.remaining reader.old) limit
-        (R.remaining reader.new)) result }
+    ensures reads { ReadsAsTypeFrom A.can_fail offset (Some limit) T.reading
+        (A.remaining reader.old) (A.remaining reader.new) (TakesBytesFrom any offset
+        (A.remaining reader.old) limit (A.remaining reader.new)) result }
+    ensures ended { IfSome T.reading.whole (λ _. IfErr result
+        (λ e. HasEndedBy A.can_fail (A.remaining reader.new) e)) }
 {
     let mut source = ByteSource {
-        decoder: Decoder::at(reader, offset),
+        decoder: Decoder::<R, A>::begin(reader, offset),
         pending: None,
         levels: limit,
         scratch,
@@ -73,17 +87,19 @@ fn read_at<T: Deserialize, R: Read>(
 }
 
 // Reads one value from a source of its own.
-fn read<T: Deserialize, R: Read>(
+fn read<T: Deserialize, R, A: Access<R>>(
     alloc: Global,
     reader: &mut R,
     scratch: &mut [u8],
     limit: usize,
 ) -> Result<T, Error<io::Error>>
-    ensures { ReadsAsType 0 (Some limit) T.reading (R.remaining reader.old)
-        (R.remaining reader.new) (ReadsWhole any (R.remaining reader.old) limit
-        (R.remaining reader.new)) result }
+    ensures reads { ReadsAsTypeFrom A.can_fail 0 (Some limit) T.reading (A.remaining reader.old)
+        (A.remaining reader.new) (ReadsWhole any (A.remaining reader.old) limit
+        (A.remaining reader.new)) result }
+    ensures ended { IfSome T.reading.whole (λ _. IfErr result
+        (λ e. HasEndedBy A.can_fail (A.remaining reader.new) e)) }
 {
-    read_at(alloc, reader, 0, scratch, limit)
+    read_at::<T, R, A>(alloc, reader, 0, scratch, limit)
 }
 
 /// Reads one value of any type that implements `Deserialize`: just the bytes of the item at the
@@ -101,9 +117,7 @@ fn read<T: Deserialize, R: Read>(
 /// tags (in a `Value` a float, a simple value that is not assigned, a break out of place, a bignum
 /// that no `i128` holds); `RecursionLimitExceeded` where an array, map or tag stands where no level
 /// is left; `TooLong` where the item would pass the greatest offset; `Memory` where an allocation
-/// failed. A prefix of the bytes has then been taken from the reader: those that were looked at,
-/// and up to 256 after them, at most one for each part that was left of arrays and maps of
-/// announced length.
+/// failed. A prefix of the bytes has then been taken from the reader: those that were looked at.
 pub fn from_reader<T: Deserialize, R: Read>(
     alloc: Global,
     reader: &mut R,
@@ -113,7 +127,7 @@ pub fn from_reader<T: Deserialize, R: Read>(
         (R.remaining reader.new)) result }
 {
     let mut scratch = [0u8; SCRATCH_SIZE];
-    read(alloc, reader, &mut scratch, RECURSION_LIMIT)
+    read::<T, R, Plain>(alloc, reader, &mut scratch, RECURSION_LIMIT)
 }
 
 /// Reads one value as `from_reader` does, with a scratch of the caller's for strings. It may have
@@ -127,7 +141,7 @@ pub fn from_reader_with_buffer<T: Deserialize, R: Read>(
         (R.remaining reader.new) (ReadsWhole any (R.remaining reader.old) 256
         (R.remaining reader.new)) result }
 {
-    read(alloc, reader, scratch, RECURSION_LIMIT)
+    read::<T, R, Plain>(alloc, reader, scratch, RECURSION_LIMIT)
 }
 
 /// Reads one value as `from_reader` does, within this many levels. At limit 0 no array, map or tag
@@ -145,7 +159,7 @@ pub fn from_reader_with_recursion_limit<T: Deserialize, R: Read>(
         (R.remaining reader.new)) result }
 {
     let mut scratch = [0u8; SCRATCH_SIZE];
-    read(alloc, reader, &mut scratch, limit)
+    read::<T, R, Plain>(alloc, reader, &mut scratch, limit)
 }
 
 /// Reads one value as `from_reader_with_recursion_limit` does, but counts the bytes before it too:
@@ -166,20 +180,20 @@ pub fn from_reader_at<T: Deserialize, R: Read>(
         (R.remaining reader.new)) result }
 {
     let mut scratch = [0u8; SCRATCH_SIZE];
-    read_at(alloc, reader, offset, &mut scratch, limit)
+    read_at::<T, R, Plain>(alloc, reader, offset, &mut scratch, limit)
 }
 
 // Reads the item that a source's first head begins, or answers the end where there is no head.
-fn read_item<T: Deserialize, R: Read>(
+fn read_item<T: Deserialize, R, A: Access<R>>(
     alloc: Global,
-    source: &mut ByteSource<'_, R>,
+    source: &mut ByteSource<'_, R, A>,
     first: Option<Header>,
 ) -> Result<Option<T>, Error<io::Error>>
-    ensures only { TakesOnly (HasTakenSince R.remaining) source.old source.new }
+    ensures only { TakesOnly (HasTakenSince A.remaining) source.old source.new }
     ensures end { IfNone first
         ((result ≡ Ok None) × (source.new.decoder ≡ source.old.decoder)) }
-    ensures item { IfSome first (λ header. IfNotEnded result
-        (λ r. IsReadFrom R.remaining T.reading (behind_head source.old header) source.new r)) }
+    ensures item { IfSome first (λ header. IfNotEnded result (λ r. IsReadFrom A.can_fail
+        A.remaining T.reading (behind_head source.old header) source.new r)) }
 {
     let Some(header) = first else {
         return Ok(None);
@@ -187,6 +201,27 @@ fn read_item<T: Deserialize, R: Read>(
     source.pending = Some((header, 0));
     let value = read_from(alloc, source)?;
     Ok(Some(value))
+}
+
+// Reads the next item of a sequence from a source of its own.
+fn read_next<T: Deserialize, R, A: Access<R>>(
+    alloc: Global,
+    reader: &mut R,
+    scratch: &mut [u8],
+    limit: usize,
+) -> Result<Option<T>, Error<io::Error>>
+    ensures { ReadsNextAsTypeFrom A.can_fail limit T.reading (A.remaining reader.old)
+        (A.remaining reader.new) result }
+{
+    let mut source = ByteSource {
+        decoder: Decoder::<R, A>::begin(reader, 0),
+        pending: None,
+        levels: limit,
+        scratch,
+        failure: None,
+    };
+    let first = source.decoder.pull_first()?;
+    read_item(alloc, &mut source, first)
 }
 
 /// Reads the next item of a CBOR sequence (RFC 8742, section 2) as `from_reader` reads a value, or
@@ -223,13 +258,5 @@ pub fn from_reader_next_with_recursion_limit<T: Deserialize, R: Read>(
         (R.remaining reader.new) result }
 {
     let mut scratch = [0u8; SCRATCH_SIZE];
-    let mut source = ByteSource {
-        decoder: Decoder::new(reader),
-        pending: None,
-        levels: recursion_limit,
-        scratch: &mut scratch,
-        failure: None,
-    };
-    let first = source.decoder.pull_first()?;
-    read_item(alloc, &mut source, first)
+    read_next::<T, R, Plain>(alloc, reader, &mut scratch, recursion_limit)
 }

@@ -1,3 +1,6 @@
 //! Heads, strings and offsets over any reader and writer: the lowest layer, re-exported.
 
-pub use ciborium_ll::{Answered, Decoder, Encoder, Error, Failed, Header, Keep, simple, tag};
+pub use ciborium_ll::{
+    Access, Answered, Buffered, Decoder, Encoder, Error, Failed, Header, Keep, Plain, Slice,
+    simple, tag,
+};

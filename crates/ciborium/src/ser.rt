@@ -1,14 +1,16 @@
 //! Values to bytes.
 
-ghost use Rattle.std.specs.Prelude.{◌≡◌, IfErr, OnOk};
+ghost use Rattle.std.specs.Prelude.{◌≡◌, IfErr, IfOk, OnOk};
 ghost use Rattle.ciborium_value.specs.Sinks.{IsGranted, IsOwed};
-ghost use Rattle.ciborium.specs.Writes.{IsNamedWritten, WritesNamed, cause_of};
+ghost use Rattle.ciborium.specs.Writes.{IsNamedWritten, IsWrittenAs, RefusesToWrite, WritesNamed};
+ghost use Rattle.ciborium.specs.Writes.{cause_of};
 
 use byte_sink::{ByteSink, Refusal};
 pub use ciborium_value::{Array, Field, Item, Kind, NoField, NoItem, Serialize, Sink};
 pub use deterministic::into_writer_deterministic;
 pub use error::Error;
 pub use sequence::write_sequence;
+use std::alloc::Global;
 use std::io::{self, Write};
 
 mod byte_sink;
@@ -45,5 +47,23 @@ pub fn into_writer<T: Serialize, W: Write>(
         Err(Refusal::Io) => Err(Error::Io(sink.take_failure())),
         Err(Refusal::Value(kind)) => Err(Error::Value(kind)),
         Err(Refusal::Memory) => Err(Error::Memory),
+    }
+}
+
+/// The bytes of the item of a value, as `into_writer` writes them.
+///
+/// # Errors
+///
+/// `Value` holds the kind that a value without an item names, and `Memory` comes where an
+/// allocation fails. There is no `Io`.
+pub fn to_vec<T: Serialize>(alloc: Global, value: &T) -> Result<Vec<u8>, Error<io::Error>>
+    ensures bytes { IfOk result (λ out. IsWrittenAs out.items (T.written value.now)) }
+    ensures refused { IfErr result (λ e. RefusesToWrite e (T.written value.now)) }
+{
+    let mut out = Vec::new(alloc);
+    match into_writer(value, &mut out) {
+        Ok(()) => Ok(out),
+        Err(Error::Value(kind)) => Err(Error::Value(kind)),
+        Err(Error::Memory) | Err(Error::Io(_)) => Err(Error::Memory),
     }
 }

@@ -1,19 +1,38 @@
 -- The first head of a reader, from its first read on.
 use Rattle.std.proofs.Common.{◌≡◌, ℕ, zero, suc, ◌<◌, ◌≤◌, List, [], ◌∷◌, ◌++◌, length, take, cond, Option, Some, None}
 use Rattle.std.proofs.Common.{Result, Ok, Err, IfOk, IfNone, refl, sym, ap, ◌∙◌, subst, arith, lt-ltb}
-use Rattle.std.specs.Io.KnownBytes.{IsAtEnd}
+use Rattle.std.specs.Io.KnownBytes.{IsAtEnd, Keeps}
+use Rattle.std.proofs.KnownBytes.{Consumes-kept, Consumes-nil}
 use Rattle.ciborium_ll.specs.declared.header.Header.{Header}
 use Rattle.ciborium_ll.specs.declared.header.Error.{Error}
 use Rattle.ciborium_ll.specs.declared.header.Error.TheVariants.{Io, Syntax, TooLong, Memory}
 use Rattle.ciborium_ll.specs.Bytes.{greatest_offset}
-use Rattle.ciborium_ll.specs.FirstHeads.{IsEndOrFault, IsFirstTaken, PullsFirstTo}
-use Rattle.ciborium_ll.specs.ReaderSteps.{Advances}
+use Rattle.ciborium_ll.specs.FirstHeads.{IsEndOrFault, IsFirstTaken, IsHeadIo, PullsFirstTo}
+use Rattle.ciborium_ll.specs.ReaderSteps.{Advances, IsHeadTaken}
 use Rattle.ciborium_ll.specs.Refusal.{Refusal, io, syntax, too_long, HeadRefuses, head_refusal}
 use Rattle.ciborium_ll.proofs.Advancing.{Advances-map, Filled}
 use Rattle.ciborium_ll.proofs.Unread.{pulls-head, rest-of}
 
 none-refused : (p : ℕ) → p < greatest_offset → HeadRefuses [] p io
 none-refused p h = ap (λ t. cond t (Some io) (Some too_long)) (lt-ltb p greatest_offset h)
+
+-- a reader that failed before anything was taken
+pub none-taken : {E : Type 0} (a b : Option (List ℕ)) (p : ℕ) (r : Result (Option Header) (Error E)) (e f : Error E) →
+    r ≡ Err e → e ≡ f → IsHeadIo f → p < greatest_offset → Keeps a b → Advances a b p p (λ x. IsFirstTaken x p r)
+none-taken a b p r e (Io f) err is by-io room kept = (
+  [],
+  Consumes-kept a a b [] (Consumes-nil a) kept,
+  omega arith,
+  subst (λ (z : Result _ _). IsFirstTaken [] p z) (sym err)
+      (subst (λ (z : Error _). IsHeadTaken [] p (Err z)) (sym is) (first-io p room)),
+  λ k d lt. absurd (omega arith),
+)
+  where
+    first-io : {E : Type 0} {e : E} (p : ℕ) → p < greatest_offset → IsHeadTaken {E = E} [] p (Err (Io e))
+    first-io p room = record { answers = none-refused p room; needed = λ k lt. absurd (omega arith) }
+none-taken a b p r e (Syntax at) err is by-io room kept = absurd by-io
+none-taken a b p r e TooLong err is by-io room kept = absurd by-io
+none-taken a b p r e Memory err is by-io room kept = absurd by-io
 
 one-byte : (n : ℕ) (xs : List ℕ) → n ≤ length xs → length xs ≡ 1 → (n ≡ 0 → ⊥) → take n xs ≡ xs
 one-byte n [] h one some = absurd (omega (arith, one))

@@ -10,6 +10,7 @@ mod HeaderBytes
 pub mod HeadAnswers
 pub mod Advancing
 pub mod HeldBytes
+pub mod Decoders
 pub mod Cursors
 pub mod Payloads
 pub mod OpenStrings

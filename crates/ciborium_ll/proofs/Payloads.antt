@@ -1,99 +1,51 @@
 -- Payloads that are appended piece by piece.
-use Rattle.std.proofs.Common.{◌≡◌, ℕ, ◌+◌, ◌-◌, ◌≤◌, List, [], ◌++◌, append-nil, subst, length, min, take, drop, Option}
-use Rattle.std.proofs.Common.{Err, refl, sym, ap, ◌∙◌, arith, append_assoc, length-append, length-take-le}
+use Rattle.std.proofs.Common.{◌≡◌, ℕ, ◌+◌, ◌-◌, List, [], ◌++◌, append-nil, subst, length}
+use Rattle.std.proofs.Common.{take, drop, Option, Ok, Err, refl, sym, ap, ◌∙◌, arith, append_assoc, length-append}
 use Rattle.std.proofs.lemmas.List.{take_all}
 use Rattle.std.proofs.Math.Seq.{take-append_seam, drop-append_seam}
-use Rattle.std.specs.Io.KnownBytes.{Consumes}
-use Rattle.std.proofs.KnownBytes.{Consumes-nil}
 use Rattle.ciborium_ll.specs.declared.header.Error.{Error}
 use Rattle.ciborium_ll.specs.declared.header.Error.TheVariants.{Io, Syntax, TooLong, Memory}
-use Rattle.ciborium_ll.specs.Bytes.{greatest_offset}
-use Rattle.ciborium_ll.specs.declared.window.Window.{Window}
-use Rattle.ciborium_ll.specs.Windows.{unread}
-use Rattle.ciborium_ll.specs.ReaderSteps.{Advances, IsFillTaken}
+use Rattle.ciborium_ll.specs.ReaderSteps.{Advances}
 use Rattle.ciborium_ll.specs.StringRefusal.{IsAllowed, StringKind}
-use Rattle.ciborium_ll.specs.Strings.{Extends, Grows, IsPayloadTaken, IsPiecesTaken}
-use Rattle.ciborium_ll.proofs.Advancing.{Advances-map, Advances-then, Filled}
+use Rattle.ciborium_ll.specs.Strings.{Extends, Grows, IsPayloadTaken, IsPiecesTaken, IsSomeTaken}
+use Rattle.ciborium_ll.proofs.Advancing.{Advances-map, Advances-then}
 
--- a piece is no longer than what is left
-pub piece-length : (left size : ℕ) (scratch piece : List ℕ) → size ≡ min left (length scratch) →
-    length piece ≡ length (take size scratch) → length piece ≤ left
-piece-length left size scratch piece same len =
-    let fits : size ≤ length scratch = omega arith in
-    let taken : length (take size scratch) ≡ size = length-take-le size scratch fits in
-    omega arith
+-- ---- piece after piece
 
--- a piece has the size that was chosen
-pub piece-size : (left size : ℕ) (scratch piece : List ℕ) → size ≡ min left (length scratch) →
-    length piece ≡ length (take size scratch) → (size ≤ left) × (length piece ≡ size)
-piece-size left size scratch piece same len =
-    let fits : size ≤ length scratch = omega arith in
-    let taken : length (take size scratch) ≡ size = length-take-le size scratch fits in
-    (omega arith, omega arith)
-
--- what has been appended before a piece
+-- what has been appended of n bytes, of which so many are left
 abbrev pub Appended : ℕ → ℕ → List ℕ → List ℕ → List ℕ → Type 0
 Appended n left b old new = (new ≡ old ++ b) × (length b + left ≡ n)
 
-refused : {E : Type 0} (n left q : ℕ) (old new piece x y : List ℕ) (e : Error E) → length piece ≤ left →
-    q + left ≤ greatest_offset → Appended n left x old new →
-    IsFillTaken {E = E} y q piece (Err e) → IsPiecesTaken {E = E} n (x ++ y) (Err e) old new
-refused n left q old new piece x y (Io e) short below s h =
-    (omega (arith, short, s.1, h.0, length-append x y), (x, s.0))
-refused n left q old new piece x y (Syntax at) short below s h = absurd h
-refused n left q old new piece x y TooLong short below s h = absurd (omega (arith, short, below, h.1))
-refused n left q old new piece x y Memory short below s h = absurd h
-
--- a piece was taken and appended
-pub piece-taken : (a b c : Option (List ℕ)) (p q r n left size : ℕ) (old mid new piece : List ℕ) → size ≤ left →
-    length piece ≡ size → new ≡ mid ++ piece →
-    Advances a b p q (λ x. Appended n left x old mid) → Advances b c q r (λ x. Filled x q piece) →
+-- one more
+pub some-appended : (E : Type 0) (a b c : Option (List ℕ)) (p q r n left size : ℕ) (old mid new : List ℕ) →
+    Advances a b p q (λ x. Appended n left x old mid) →
+    Advances b c q r (λ x. IsSomeTaken {E = E} left x (Ok size) mid new) →
     Advances a c p r (λ x. Appended n (left - size) x old new)
-piece-taken a b c p q r n left size old mid new piece short len more before now =
-    Advances-then a b c p q r (λ x. Appended n left x old mid) (λ x. Filled x q piece)
+some-appended E a b c p q r n left size old mid new before now =
+    Advances-then a b c p q r (λ x. Appended n left x old mid) (λ x. IsSomeTaken {E = E} left x (Ok size) mid new)
     (λ x. Appended n (left - size) x old new)
     (λ x y s h. (
-      more ∙ ap (λ l. l ++ piece) s.0 ∙ append_assoc old x piece ∙ ap (λ l. old ++ (x ++ l)) (sym h.0),
-      omega (arith, short, len, s.1, ap length h.0, length-append x y),
+      h.3 ∙ ap (λ l. l ++ y) s.0 ∙ append_assoc old x y,
+      omega (arith, s.1, h.1, h.2, length-append x y),
     )) before now
 
--- the reader refused a piece
-pub piece-refused : {E : Type 0} (a b c : Option (List ℕ)) (p q r n left : ℕ) (old new piece : List ℕ) (e : Error E) →
-    length piece ≤ left → q + left ≤ greatest_offset →
-    Advances a b p q (λ x. Appended n left x old new) → Advances b c q r (λ x. IsFillTaken {E = E} x q piece (Err e)) →
+behind-some : {E : Type 0} (n left : ℕ) (old mid new x y : List ℕ) (e : Error E) → Appended n left x old mid →
+    IsSomeTaken {E = E} left y (Err e) mid new → IsPiecesTaken {E = E} n (x ++ y) (Err e) old new
+behind-some n left old mid new x y (Io e) s h =
+    (omega (arith, s.1, h.0, length-append x y), (x, h.1 ∙ s.0))
+behind-some n left old mid new x y (Syntax at) s h = absurd h
+behind-some n left old mid new x y TooLong s h = absurd h
+behind-some n left old mid new x y Memory s h = (omega (arith, s.1, h.0, length-append x y), (x, h.1 ∙ s.0))
+
+-- a refusal
+pub some-refused : {E : Type 0} (a b c : Option (List ℕ)) (p q r n left : ℕ) (old mid new : List ℕ) (e : Error E) →
+    Advances a b p q (λ x. Appended n left x old mid) →
+    Advances b c q r (λ x. IsSomeTaken {E = E} left x (Err e) mid new) →
     Advances a c p r (λ x. IsPiecesTaken {E = E} n x (Err e) old new)
-piece-refused {E} a b c p q r n left old new piece e short below before now =
-    Advances-then a b c p q r (λ x. Appended n left x old new) (λ x. IsFillTaken {E = E} x q piece (Err e))
+some-refused {E} a b c p q r n left old mid new e before now =
+    Advances-then a b c p q r (λ x. Appended n left x old mid) (λ x. IsSomeTaken {E = E} left x (Err e) mid new)
     (λ x. IsPiecesTaken {E = E} n x (Err e) old new)
-    (λ x y s h. refused {E = E} n left q old new piece x y e short below s h) before now
-
--- the memory for a piece was refused
-pub piece-dropped : (a b c : Option (List ℕ)) (p q r n left : ℕ) (old mid new piece : List ℕ) → length piece ≤ left →
-    new ≡ mid →
-    Advances a b p q (λ x. Appended n left x old mid) → Advances b c q r (λ x. Filled x q piece) →
-    Advances a c p r (λ x. (length x ≤ n) × Extends old new)
-piece-dropped a b c p q r n left old mid new piece short same before now =
-    Advances-then a b c p q r (λ x. Appended n left x old mid) (λ x. Filled x q piece)
-    (λ x. (length x ≤ n) × Extends old new)
-    (λ x y s h. (omega (arith, short, s.1, ap length h.0, length-append x y), (x, same ∙ s.0))) before now
-
--- what was held was appended
-pub held-appended : (a b : Option (List ℕ)) (p q n size : ℕ) (old new : List ℕ) → size ≤ n →
-    Advances a b p q (λ x. (new ≡ old ++ x) × (length x ≡ size)) →
-    Advances a b p q (λ x. (new ≡ old ++ x) × (length x + (n - size) ≡ n))
-held-appended a c p q n size old new less (b, taken, count, (items, len), bytes) =
-    (b, taken, count, (items, omega (arith, len, less)), bytes)
-
--- the memory for it was refused
-pub held-dropped : (o : Option (List ℕ)) (v w : Window) (n : ℕ) (old new : List ℕ) → w ≡ v → new ≡ old →
-    Advances (unread o v) (unread o w) v.count w.count (λ x. (length x ≤ n) × Extends old new)
-held-dropped o v w n old new same items = (
-  [],
-  subst (λ u. Consumes (unread o v) (unread o u) []) (sym same) (Consumes-nil (unread o v)),
-  omega (arith, ap (λ (u : Window). u.count) same),
-  (omega arith, ([], items ∙ sym (append-nil old))),
-  λ k d lt. absurd (omega (arith, lt)),
-)
+    (λ x y s h. behind-some {E = E} n left old mid new x y e s h) before now
 
 -- ---- a payload that was appended whole, or whose pieces are taken off again
 

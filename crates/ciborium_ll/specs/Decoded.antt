@@ -1,10 +1,12 @@
 -- What the calls on a decoder answer, of any reader, and what they leave: each in one record, for a
 -- call and for its twin that keeps the reader's error.
-use Rattle.std.specs.Prelude.{◌≡◌, ℕ, List, Option, Some, None, IfErr, IfNone, IfSome, Result, Ok}
+use Rattle.std.specs.Prelude.{◌≡◌, ℕ, Bool, List, Option, Some, None, IfErr, IfNone, IfSome, Result}
+use Rattle.std.specs.Prelude.{Ok}
 use Rattle.ciborium_ll.specs.declared.header.Header.{Header}
 use Rattle.ciborium_ll.specs.declared.header.Error.{Error}
 use Rattle.ciborium_ll.specs.declared.decoder.Decoder.{Decoder}
-use Rattle.ciborium_ll.specs.Decoding.{HasSameReader, IsAhead, IsSpent, ReadsNothing, MeasuresHead}
+use Rattle.ciborium_ll.specs.Decoding.{HasEndedFor, HasSameReader, IsAhead, ReadsNothing}
+use Rattle.ciborium_ll.specs.Decoding.{MeasuresHead}
 use Rattle.ciborium_ll.specs.Decoding.{Pulls, Takes, count_of, head_len_of, last_of, left_of}
 use Rattle.ciborium_ll.specs.Decoding.{pushed_of}
 use Rattle.ciborium_ll.specs.ReaderSteps.{IsFillTaken, IsHeadTaken, IsRefusalOf}
@@ -12,7 +14,8 @@ use Rattle.ciborium_ll.specs.StringRefusal.{ContentRefuses, StringKind}
 use Rattle.ciborium_ll.specs.Strings.{Grows, IsStringTaken}
 
 -- a head was pulled, or refused
-pub record HasPulled {S E : Type 0} (remaining : S → Option (List ℕ)) (old new : Decoder S)
+pub record HasPulled {S W E : Type 0} (can_fail : Bool) (remaining : S → Option (List ℕ))
+    (old new : Decoder S W)
     (result : Result Header (Error E)) : Type 0 where
   pub same_reader : HasSameReader old new
   pub none_pushed : pushed_of new ≡ None
@@ -26,24 +29,25 @@ pub record HasPulled {S E : Type 0} (remaining : S → Option (List ℕ)) (old n
   pub head_len : MeasuresHead old new result
   -- the same, said of all that is unread
   pub ahead : (b : List ℕ) (p : ℕ) → IsAhead remaining old b p → Pulls remaining new b p result
-  -- where the reader failed or ended, nothing is held
-  pub spent : IfErr result (λ e. IsSpent new e)
+  -- a reader that cannot fail before its end has nothing left at `Io`
+  pub ended : IfErr result (λ e. HasEndedFor can_fail remaining new e)
 
 -- a buffer was filled, or the reader failed or ended before
-pub record HasFilled {S E : Type 0} (remaining : S → Option (List ℕ)) (old new : Decoder S)
+pub record HasFilled {S W E : Type 0} (can_fail : Bool) (remaining : S → Option (List ℕ))
+    (old new : Decoder S W)
     (buffer : List ℕ) (result : Result (Unit {0}) (Error E)) : Type 0 where
   pub same_reader : HasSameReader old new
   pub none_pushed : pushed_of new ≡ None
   pub last : last_of new ≡ last_of old
   pub head_len : head_len_of new ≡ head_len_of old
   pub taken : Takes remaining old new (λ b. IsFillTaken b (count_of old) buffer result)
-  -- where the reader failed or ended, nothing is held
-  pub spent : IfErr result (λ e. IsSpent new e)
+  -- a reader that cannot fail before its end has nothing left at `Io`
+  pub ended : IfErr result (λ e. HasEndedFor can_fail remaining new e)
 
 -- what the last head, that of a string, announces was put behind `before`, whole or up to what is
 -- refused
-pub record HasAppended {S E : Type 0} (kind : StringKind) (len : Option ℕ)
-    (remaining : S → Option (List ℕ)) (old new : Decoder S) (before after : List ℕ)
+pub record HasAppended {S W E : Type 0} (kind : StringKind) (len : Option ℕ) (can_fail : Bool)
+    (remaining : S → Option (List ℕ)) (old new : Decoder S W) (before after : List ℕ)
     (result : Result (Unit {0}) (Error E)) : Type 0 where
   pub same_reader : HasSameReader old new
   pub none_pushed : pushed_of new ≡ None
@@ -55,5 +59,5 @@ pub record HasAppended {S E : Type 0} (kind : StringKind) (len : Option ℕ)
   pub refused : (b : List ℕ) → left_of remaining old ≡ Some b →
       IfErr result (λ e. IsRefusalOf (left_of remaining new) e
       (ContentRefuses kind len (last_of old) b (count_of old)))
-  -- where the reader failed or ended, nothing is held
-  pub spent : IfErr result (λ e. IsSpent new e)
+  -- a reader that cannot fail before its end has nothing left at `Io`
+  pub ended : IfErr result (λ e. HasEndedFor can_fail remaining new e)

@@ -24,10 +24,10 @@ IsFirstTaken {E} b p (Ok (Some header)) = IsHeadTaken {E = E} b p (Ok header)
 IsFirstTaken {E} b p (Err e) = IsHeadTaken {E = E} b p (Err e)
 
 -- a head that is taken is measured; the end, or a refusal, changes nothing
-abbrev pub MeasuresFirst : {S E : Type 0} → Decoder S → Decoder S →
+abbrev pub MeasuresFirst : {S W E : Type 0} → Decoder S W → Decoder S W →
     Result (Option Header) (Error E) → Type 0
 MeasuresFirst old new (Ok None) = new.head_len ≡ old.head_len
-MeasuresFirst old new (Ok (Some header)) = new.window.count ≡ old.window.count + new.head_len
+MeasuresFirst old new (Ok (Some header)) = new.counter.count ≡ old.counter.count + new.head_len
 MeasuresFirst old new (Err e) = new.head_len ≡ old.head_len
 
 -- reading the first head at the front of b, whose first byte is at offset p, answers so: the end
@@ -41,9 +41,9 @@ PullsFirstTo {E} last count left b p (Ok (Some header)) =
 PullsFirstTo {E} last count left b p (Err e) = PullsTo {E = E} last count left b p (Err e)
 
 -- the decoder has read so
-abbrev pub PullsFirst : {S E : Type 0} → (S → Option (List ℕ)) → Decoder S → List ℕ → ℕ →
+abbrev pub PullsFirst : {S W E : Type 0} → (S → Option (List ℕ)) → Decoder S W → List ℕ → ℕ →
     Result (Option Header) (Error E) → Type 0
-PullsFirst remaining d b p result = PullsFirstTo d.last d.window.count (left_of remaining d) b p
+PullsFirst remaining d b p result = PullsFirstTo d.last d.counter.count (left_of remaining d) b p
     result
 
 -- the answer where nothing is left: the end, unless the reader failed

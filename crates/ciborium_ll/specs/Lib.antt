@@ -7,7 +7,7 @@ pub mod Refusal
 pub mod StringRefusal
 pub mod Header
 pub mod Strings
-pub mod Windows
+pub mod Accesses
 pub mod Decoded
 pub mod Decoding
 pub mod FirstHeads

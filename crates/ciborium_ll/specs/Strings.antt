@@ -40,6 +40,15 @@ Extends old new = (added : List ℕ) × (new ≡ old ++ added)
 abbrev pub Grows : List ℕ → List ℕ → (List ℕ → Type 0) → Type 0
 Grows old new P = (added : List ℕ) × (new ≡ old ++ added) × P added
 
+-- b is taken where some of n bytes are appended: at Ok so many, and one at least; refused fewer
+-- were, or memory was refused
+abbrev pub IsSomeTaken : {E : Type 0} → ℕ → List ℕ → Result ℕ (Error E) → List ℕ → List ℕ → Type 0
+IsSomeTaken n b (Ok size) old new = (0 < size) × (size ≤ n) × (length b ≡ size) × (new ≡ old ++ b)
+IsSomeTaken n b (Err (Io e)) old new = (length b < n) × (new ≡ old)
+IsSomeTaken n b (Err (Syntax at)) old new = ⊥
+IsSomeTaken n b (Err TooLong) old new = ⊥
+IsSomeTaken n b (Err Memory) old new = (length b ≤ n) × (new ≡ old)
+
 -- b is taken where n bytes are appended as they come: at Ok they were taken and appended, refused
 -- fewer were, or memory was refused
 abbrev pub IsPiecesTaken : {E : Type 0} → ℕ → List ℕ → Result (Unit {0}) (Error E) → List ℕ →

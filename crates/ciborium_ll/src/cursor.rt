@@ -1,64 +1,44 @@
-//! Where a reader is read: how its bytes are taken, and what is read ahead of it.
+//! Where a reader is read: how its bytes are taken and counted.
 
+use crate::access::{Access, end_of_bytes};
+use crate::counter::Counter;
 use crate::header::Error;
 use crate::keep::Keep;
-use crate::window::Window;
-use std::io::{self, ErrorKind, Read};
+use std::marker::PhantomData;
 
-// A reader, what is held of it and counted, and where an error of its own goes.
+// A reader, how many bytes of it were taken, and where an error of its own goes.
 #[derive(Drop)]
-pub(crate) struct Cursor<'c, R, K> {
+pub(crate) struct Cursor<'c, R, A, K> {
     pub(crate) reader: &'c mut R,
-    pub(crate) window: &'c mut Window,
+    pub(crate) access: PhantomData<A>,
+    pub(crate) counter: &'c mut Counter,
     pub(crate) keep: &'c mut K,
 }
 
-impl<'c, R: Read, K: Keep> Cursor<'c, R, K> {
+impl<'c, R, A: Access<R>, K: Keep> Cursor<'c, R, A, K> {
     ghost use Rattle.std.specs.Prelude.{◌≡◌, ◌+◌, ◌<◌, ◌≤◌, IfErr, IfOk, length};
-    ghost use Rattle.ciborium_ll.specs.inner.Cursors.{CursorHoldsNothing, GivesSome, IsSameCursor};
-    ghost use Rattle.ciborium_ll.specs.inner.Cursors.{IsSpentAt, Moves, count_at};
+    ghost use Rattle.ciborium_ll.specs.Accesses.{IsUsedUp};
+    ghost use Rattle.ciborium_ll.specs.inner.Cursors.{GivesSome, HasEndedAt, IsSameCursor, Moves};
+    ghost use Rattle.ciborium_ll.specs.inner.Cursors.{count_at, left_at};
     ghost use Rattle.ciborium_ll.specs.ReaderSteps.{IsFillTaken};
 
-    // Reads into the buffer, where nothing is held.
+    // Takes bytes into the buffer, which has room for one at least, and answers how many: none at
+    // the reader's end.
     #[inline(always)]
-    fn read_into(&mut self, buffer: &mut [u8]) -> Result<usize, Error<K::Kept>>
-        requires none { self.old.window.now.lookahead.end ≤ self.old.window.now.count }
+    pub(crate) fn read_some(&mut self, buffer: &mut [u8]) -> Result<usize, Error<K::Kept>>
         requires some { 0 < length buffer.old }
         requires room { count_at self.old + length buffer.old ≤ usize.MAX }
         ensures same { IsSameCursor self.old self.new }
-        ensures some { GivesSome R.remaining self.old self.new buffer.new result }
-        ensures spent { CursorHoldsNothing self.new }
+        ensures some { GivesSome A.remaining self.old self.new buffer.new result }
+        ensures ended { IfErr result (λ e. HasEndedAt A.can_fail A.remaining self.new e) }
+        ensures used_up { IfOk result (λ n. n ≡ 0 →
+            IsUsedUp A.can_fail (left_at A.remaining self.new)) }
     {
-        match self.reader.read(buffer) {
+        match A::read(self.reader, buffer) {
             Ok(n) => {
-                self.window.count += n;
+                self.counter.count += n;
                 Ok(n)
             }
-            Err(e) => Err(Error::Io(self.keep.keep(e))),
-        }
-    }
-
-    // Takes bytes into the buffer, which has room for one at least, and answers how many: none at
-    // the reader's end. Where none is held it reads once, the rest of the buffer or what is due,
-    // whichever is more.
-    #[inline(always)]
-    pub(crate) fn take_some(&mut self, buffer: &mut [u8]) -> Result<usize, Error<K::Kept>>
-        requires some { 0 < length buffer.old }
-        requires room { count_at self.old + length buffer.old ≤ usize.MAX }
-        ensures same { IsSameCursor self.old self.new }
-        ensures some { GivesSome R.remaining self.old self.new buffer.new result }
-        ensures spent { IfErr result (λ e. IsSpentAt self.new e) }
-        ensures spent_at_end { IfOk result (λ n. n ≡ 0 → CursorHoldsNothing self.new) }
-    {
-        if !self.window.is_used_up() {
-            return Ok(self.window.take_into(buffer));
-        }
-        if self.window.due() <= buffer.len() {
-            return self.read_into(buffer);
-        }
-        match self.window.refill(self.reader) {
-            Ok(0) => Ok(0),
-            Ok(_) => Ok(self.window.take_into(buffer)),
             Err(e) => Err(Error::Io(self.keep.keep(e))),
         }
     }
@@ -69,16 +49,15 @@ impl<'c, R: Read, K: Keep> Cursor<'c, R, K> {
     fn fill_within(&mut self, buffer: &mut [u8]) -> Result<(), Error<K::Kept>>
         requires { count_at self.old + length buffer.old ≤ usize.MAX }
         ensures same { IsSameCursor self.old self.new }
-        ensures taken { Moves R.remaining self.old self.new
+        ensures taken { Moves A.remaining self.old self.new
             (λ b. IsFillTaken b (count_at self.old) buffer.new result) }
-        ensures spent { IfErr result (λ e. IsSpentAt self.new e) }
+        ensures ended { IfErr result (λ e. HasEndedAt A.can_fail A.remaining self.new e) }
     {
         let mut filled = 0;
         while filled < buffer.len() {
-            let n = self.take_some(&mut buffer[filled..])?;
+            let n = self.read_some(&mut buffer[filled..])?;
             if n == 0 {
-                let end = io::Error::from(ErrorKind::UnexpectedEof);
-                return Err(Error::Io(self.keep.keep(end)));
+                return Err(end_of_bytes(self.keep));
             }
             filled += n;
         }
@@ -89,11 +68,11 @@ impl<'c, R: Read, K: Keep> Cursor<'c, R, K> {
     #[inline(always)]
     pub(crate) fn fill(&mut self, buffer: &mut [u8]) -> Result<(), Error<K::Kept>>
         ensures same { IsSameCursor self.old self.new }
-        ensures taken { Moves R.remaining self.old self.new
+        ensures taken { Moves A.remaining self.old self.new
             (λ b. IsFillTaken b (count_at self.old) buffer.new result) }
-        ensures spent { IfErr result (λ e. IsSpentAt self.new e) }
+        ensures ended { IfErr result (λ e. HasEndedAt A.can_fail A.remaining self.new e) }
     {
-        if usize::MAX - self.window.count < buffer.len() {
+        if usize::MAX - self.counter.count < buffer.len() {
             return Err(Error::TooLong);
         }
         self.fill_within(buffer)

@@ -1,61 +1,76 @@
 //! A reader of heads.
 
+use crate::access::{Access, Plain};
+use crate::counter::Counter;
 use crate::cursor::Cursor;
 use crate::header::{Error, Header};
 use crate::keep::{Answered, Keep};
 use crate::strings::Kind;
-use crate::window::Window;
 use std::io::{self, Read};
+use std::marker::PhantomData;
 use std::mem;
 
 /// Reads heads and payloads from a borrowed reader, and counts the bytes that it takes.
 ///
-/// The reader is called only where a byte is needed that was not read ahead, and then once: for
-/// what is needed, or for the bytes that `allow` announced, whichever is more. No byte is read
-/// whose offset would pass `usize::MAX`. After an error a prefix of what was to be read has been
-/// taken from the reader. Bytes that were read ahead and never taken are lost to its owner.
+/// `A` says how they are taken. No byte is taken before it is needed, nor one whose offset would
+/// pass `usize::MAX`. After an error a prefix of what was to be read has been taken from the
+/// reader.
 #[derive(Drop)]
-pub struct Decoder<'a, R> {
+pub struct Decoder<'a, R, A = Plain> {
     reader: &'a mut R,
-    window: Window,
+    access: PhantomData<A>,
+    counter: Counter,
     pushed: Option<(Header, usize)>,
     last: usize,
     head_len: usize,
 }
 
-impl<'a, R: Read> Decoder<'a, R> {
-    ghost use Rattle.std.specs.Prelude.{[], ◌≡◌, ◌+◌, ◌-◌, ◌<◌, ◌≤◌, ◌∷◌, IfErr, IfNone, IfOk};
-    ghost use Rattle.std.specs.Prelude.{IfSome, List, None, Ok, Some, max, min, string_bytes, ℕ};
-    ghost use Rattle.std.specs.Io.KnownBytes.{IsAtEnd};
-    ghost use Rattle.ciborium_ll.specs.Bytes.{greatest_offset};
-    ghost use Rattle.ciborium_ll.specs.Decoding.{HasBegun, HasSameReader, HoldsNothing, IsAhead};
-    ghost use Rattle.ciborium_ll.specs.Decoding.{IsHeld, IsSpent, MeasuresHead, Pulls};
-    ghost use Rattle.ciborium_ll.specs.Decoding.{ReadsNothing, Takes, allowed_of, count_of};
-    ghost use Rattle.ciborium_ll.specs.Decoding.{head_len_of, last_of, left_of, offset_of};
-    ghost use Rattle.ciborium_ll.specs.Decoding.{pushed_of, reach_of};
-    ghost use Rattle.ciborium_ll.specs.Decoded.{HasAppended, HasFilled, HasPulled};
-    ghost use Rattle.ciborium_ll.specs.FirstHeads.{IsEndOrFault, IsFirstTaken, MeasuresFirst};
-    ghost use Rattle.ciborium_ll.specs.FirstHeads.{PullsFirst};
-    ghost use Rattle.ciborium_ll.specs.ReaderSteps.{IsFillTaken, IsHeadTaken, IsRefusalOf};
-    ghost use Rattle.ciborium_ll.specs.StringRefusal.{ContentRefuses, of_bytes, of_text};
-    ghost use Rattle.ciborium_ll.specs.Strings.{Grows, IsStringTaken};
+impl<'a, R: Read> Decoder<'a, R, Plain> {
+    ghost use Rattle.std.specs.Prelude.{◌≡◌};
+    ghost use Rattle.ciborium_ll.specs.Decoding.{HasBegun};
 
-    /// A decoder whose offsets begin at 0.
-    pub fn new(reader: &'a mut R) -> Decoder<'a, R>
+    /// A decoder of any reader, whose offsets begin at 0. A head takes two reads.
+    pub fn new(reader: &'a mut R) -> Decoder<'a, R, Plain>
         ensures same_reader { result.reader.ghost_name ≡ reader.entry.ghost_name }
         ensures begins { HasBegun result reader.old 0 }
     {
-        Decoder::at(reader, 0)
+        Decoder::begin(reader, 0)
     }
 
-    /// A decoder whose offsets begin at the given offset.
-    pub fn at(reader: &'a mut R, offset: usize) -> Decoder<'a, R>
+    /// A decoder of any reader, whose offsets begin at the given offset.
+    pub fn at(reader: &'a mut R, offset: usize) -> Decoder<'a, R, Plain>
+        ensures same_reader { result.reader.ghost_name ≡ reader.entry.ghost_name }
+        ensures begins { HasBegun result reader.old offset }
+    {
+        Decoder::begin(reader, offset)
+    }
+}
+
+impl<'a, R, A: Access<R>> Decoder<'a, R, A> {
+    ghost use Rattle.std.specs.Prelude.{[], ◌≡◌, ◌<◌, IfErr, IfNone, IfOk, List, None, Some};
+    ghost use Rattle.std.specs.Prelude.{string_bytes, ℕ};
+    ghost use Rattle.std.specs.Io.KnownBytes.{IsAtEnd};
+    ghost use Rattle.ciborium_ll.specs.Bytes.{greatest_offset};
+    ghost use Rattle.ciborium_ll.specs.Decoding.{HasBegun, HasEndedFor, HasSameReader, IsAhead};
+    ghost use Rattle.ciborium_ll.specs.Decoding.{MeasuresHead, Pulls, ReadsNothing, Takes};
+    ghost use Rattle.ciborium_ll.specs.Decoding.{count_of, head_len_of, last_of, left_of};
+    ghost use Rattle.ciborium_ll.specs.Decoding.{offset_of, pushed_of};
+    ghost use Rattle.ciborium_ll.specs.Decoded.{HasAppended, HasFilled, HasPulled};
+    ghost use Rattle.ciborium_ll.specs.FirstHeads.{IsEndOrFault, IsFirstTaken, MeasuresFirst};
+    ghost use Rattle.ciborium_ll.specs.FirstHeads.{PullsFirst};
+    ghost use Rattle.ciborium_ll.specs.ReaderSteps.{IsHeadTaken};
+    ghost use Rattle.ciborium_ll.specs.StringRefusal.{of_bytes, of_text};
+
+    /// A decoder that takes the bytes of its reader as `A` says, whose offsets begin at the given
+    /// offset.
+    pub fn begin(reader: &'a mut R, offset: usize) -> Decoder<'a, R, A>
         ensures same_reader { result.reader.ghost_name ≡ reader.entry.ghost_name }
         ensures begins { HasBegun result reader.old offset }
     {
         Decoder {
             reader,
-            window: Window::new(offset),
+            access: PhantomData,
+            counter: Counter { count: offset },
             pushed: None,
             last: offset,
             head_len: 0,
@@ -70,7 +85,7 @@ impl<'a, R: Read> Decoder<'a, R> {
     {
         match self.pushed {
             Some((_, offset)) => offset,
-            None => self.window.count,
+            None => self.counter.count,
         }
     }
 
@@ -117,21 +132,6 @@ impl<'a, R: Read> Decoder<'a, R> {
         self.pushed = None;
     }
 
-    /// Drops the head that was pushed back, if there is one, and takes the bytes that were read
-    /// ahead. This is for a caller who reads no further.
-    #[inline(always)]
-    pub fn discard(&mut self)
-        ensures same_reader { HasSameReader self.old self.new }
-        ensures nothing { HoldsNothing self.new }
-        ensures taken { Takes R.remaining self.old self.new (λ b. IsHeld self.old b) }
-        ensures last { last_of self.new ≡ last_of self.old }
-        ensures head_len { head_len_of self.new ≡ head_len_of self.old }
-        ensures none_pushed { pushed_of self.new ≡ None }
-    {
-        self.pushed.take();
-        self.window.discard();
-    }
-
     /// The head that was pushed back, or else the next one of the reader (RFC 8949, section 3).
     ///
     /// # Errors
@@ -141,7 +141,7 @@ impl<'a, R: Read> Decoder<'a, R> {
     /// announces, would pass the greatest offset.
     #[inline(always)]
     pub fn pull(&mut self) -> Result<Header, Error<io::Error>>
-        ensures { HasPulled R.remaining self.old self.new result }
+        ensures { HasPulled A.can_fail A.remaining self.old self.new result }
     {
         self.pull_keeping(&mut Answered)
     }
@@ -149,7 +149,7 @@ impl<'a, R: Read> Decoder<'a, R> {
     /// Does what `pull` does; the reader's error goes to `keep`.
     #[inline(always)]
     pub fn pull_keeping<K: Keep>(&mut self, keep: &mut K) -> Result<Header, Error<K::Kept>>
-        ensures { HasPulled R.remaining self.old self.new result }
+        ensures { HasPulled A.can_fail A.remaining self.old self.new result }
     {
         if let Some((header, offset)) = self.pushed {
             self.forget();
@@ -165,28 +165,29 @@ impl<'a, R: Read> Decoder<'a, R> {
         requires { pushed_of self.old ≡ None }
         ensures same_reader { HasSameReader self.old self.new }
         ensures none_pushed { pushed_of self.new ≡ None }
-        ensures taken { Takes R.remaining self.old self.new
+        ensures taken { Takes A.remaining self.old self.new
             (λ b. IsHeadTaken b (count_of self.old) result) }
         ensures last { last_of self.new ≡ count_of self.old }
         ensures head_len { MeasuresHead self.old self.new result }
 
         // The same, said of all that is unread.
-        ensures ahead { (b : List ℕ) (p : ℕ) → IsAhead R.remaining self.old b p →
-            Pulls R.remaining self.new b p result }
+        ensures ahead { (b : List ℕ) (p : ℕ) → IsAhead A.remaining self.old b p →
+            Pulls A.remaining self.new b p result }
 
-        // Where the reader failed or ended, nothing is held.
-        ensures spent { IfErr result (λ e. IsSpent self.new e) }
+        // A reader that cannot fail before its end has nothing left at `Io`.
+        ensures ended { IfErr result (λ e. HasEndedFor A.can_fail A.remaining self.new e) }
     {
-        let start = self.window.count;
+        let start = self.counter.count;
         self.last = start;
         let mut cursor = Cursor {
             reader: self.reader,
-            window: &mut self.window,
+            access: PhantomData::<A>,
+            counter: &mut self.counter,
             keep,
         };
         let pulled = cursor.read_head();
         if pulled.is_ok() {
-            self.head_len = self.window.count - start;
+            self.head_len = self.counter.count - start;
         }
         pulled
     }
@@ -208,84 +209,35 @@ impl<'a, R: Read> Decoder<'a, R> {
         ensures none_pushed { pushed_of self.new ≡ None }
 
         // At the end nothing is taken, and otherwise just the bytes that determine the answer.
-        ensures taken { Takes R.remaining self.old self.new
+        ensures taken { Takes A.remaining self.old self.new
             (λ b. IsFirstTaken b (count_of self.old) result) }
         ensures last { last_of self.new ≡ count_of self.old }
         ensures head_len { MeasuresFirst self.old self.new result }
 
         // Where the reader's bytes are known, the end is where none are left, unless it failed.
-        ensures end { IfOk result (λ o. IfNone o (IsAtEnd (left_of R.remaining self.new))) }
-        ensures empty { left_of R.remaining self.old ≡ Some [] → IsEndOrFault result }
+        ensures end { IfOk result (λ o. IfNone o (IsAtEnd (left_of A.remaining self.new))) }
+        ensures empty { left_of A.remaining self.old ≡ Some [] → IsEndOrFault result }
 
         // The same, said of all that is unread.
-        ensures ahead { (b : List ℕ) (p : ℕ) → IsAhead R.remaining self.old b p →
-            PullsFirst R.remaining self.new b p result }
+        ensures ahead { (b : List ℕ) (p : ℕ) → IsAhead A.remaining self.old b p →
+            PullsFirst A.remaining self.new b p result }
+
+        // A reader that cannot fail before its end has nothing left at `Io`.
+        ensures ended { IfErr result (λ e. HasEndedFor A.can_fail A.remaining self.new e) }
     {
-        let offset = self.window.count;
+        let offset = self.counter.count;
         self.last = offset;
         let mut cursor = Cursor {
             reader: self.reader,
-            window: &mut self.window,
+            access: PhantomData::<A>,
+            counter: &mut self.counter,
             keep: &mut Answered,
         };
         let pulled = cursor.read_first_head();
         if let Ok(Some(_)) = pulled {
-            self.head_len = self.window.count - offset;
+            self.head_len = self.counter.count - offset;
         }
         pulled
-    }
-
-    /// Announces that the caller is sure to take the next `n` bytes, including those that were read
-    /// ahead. A later call that needs a byte, where none was read ahead, may read up to that point,
-    /// 256 bytes at most, in the one read that it makes. This call reads nothing.
-    #[inline(always)]
-    pub fn allow(&mut self, n: usize)
-        ensures name { self.new.reader.ghost_name ≡ self.old.reader.ghost_name }
-        ensures pushed { pushed_of self.new ≡ pushed_of self.old }
-        ensures last { last_of self.new ≡ last_of self.old }
-        ensures head_len { head_len_of self.new ≡ head_len_of self.old }
-        ensures count { count_of self.new ≡ count_of self.old }
-        ensures unread { left_of R.remaining self.new ≡ left_of R.remaining self.old }
-        ensures allowed { allowed_of self.new ≡
-            max (allowed_of self.old) (min n (greatest_offset - count_of self.old)) }
-        ensures reach { reach_of self.new ≡
-            max (reach_of self.old) (min (count_of self.old + n) greatest_offset) }
-    {
-        self.window.allow(n);
-    }
-
-    /// The offset up to which bytes may be read ahead.
-    #[inline(always)]
-    pub fn reach(&self) -> usize
-        ensures { result ≡ reach_of self.now }
-    {
-        self.window.reach()
-    }
-
-    /// Takes back what `allow` announced: no byte from this offset on may be read ahead, and those
-    /// before it may. It has no effect where a byte at this offset or later was already read ahead.
-    #[inline(always)]
-    pub fn forbid_behind(&mut self, reach: usize)
-        ensures name { self.new.reader.ghost_name ≡ self.old.reader.ghost_name }
-        ensures pushed { pushed_of self.new ≡ pushed_of self.old }
-        ensures last { last_of self.new ≡ last_of self.old }
-        ensures head_len { head_len_of self.new ≡ head_len_of self.old }
-        ensures count { count_of self.new ≡ count_of self.old }
-        ensures unread { left_of R.remaining self.new ≡ left_of R.remaining self.old }
-        ensures reach { allowed_of self.old ≤ reach - count_of self.old →
-            reach_of self.new ≡ reach }
-    {
-        self.window.forbid_behind(reach);
-    }
-
-    /// The next byte, if it was read ahead. It is not taken.
-    #[inline(always)]
-    pub fn held_byte(&self) -> Option<u8>
-        ensures some { IfSome result (λ x. (b : List ℕ) → left_of R.remaining self.now ≡ Some b →
-            (rest : List ℕ) × (b ≡ x ∷ rest)) }
-        ensures none { IfNone result (HoldsNothing self.now) }
-    {
-        self.window.byte()
     }
 
     /// Fills the buffer with the next bytes.
@@ -297,7 +249,7 @@ impl<'a, R: Read> Decoder<'a, R> {
     #[inline(always)]
     pub fn read_exact(&mut self, buffer: &mut [u8]) -> Result<(), Error<io::Error>>
         requires { pushed_of self.old ≡ None }
-        ensures { HasFilled R.remaining self.old self.new buffer.new result }
+        ensures { HasFilled A.can_fail A.remaining self.old self.new buffer.new result }
     {
         self.read_exact_keeping(buffer, &mut Answered)
     }
@@ -310,11 +262,12 @@ impl<'a, R: Read> Decoder<'a, R> {
         keep: &mut K,
     ) -> Result<(), Error<K::Kept>>
         requires { pushed_of self.old ≡ None }
-        ensures { HasFilled R.remaining self.old self.new buffer.new result }
+        ensures { HasFilled A.can_fail A.remaining self.old self.new buffer.new result }
     {
         Cursor {
             reader: self.reader,
-            window: &mut self.window,
+            access: PhantomData::<A>,
+            counter: &mut self.counter,
             keep,
         }
         .fill(buffer)
@@ -339,7 +292,7 @@ impl<'a, R: Read> Decoder<'a, R> {
         out: &mut Vec<u8>,
     ) -> Result<(), Error<io::Error>>
         requires { pushed_of self.old ≡ None }
-        ensures { HasAppended of_bytes len R.remaining self.old self.new
+        ensures { HasAppended of_bytes len A.can_fail A.remaining self.old self.new
             out.old.items out.new.items result }
     {
         self.bytes_into_keeping(len, scratch, out, &mut Answered)
@@ -355,13 +308,14 @@ impl<'a, R: Read> Decoder<'a, R> {
         keep: &mut K,
     ) -> Result<(), Error<K::Kept>>
         requires { pushed_of self.old ≡ None }
-        ensures { HasAppended of_bytes len R.remaining self.old self.new
+        ensures { HasAppended of_bytes len A.can_fail A.remaining self.old self.new
             out.old.items out.new.items result }
     {
         let head = self.last;
         Cursor {
             reader: self.reader,
-            window: &mut self.window,
+            access: PhantomData::<A>,
+            counter: &mut self.counter,
             keep,
         }
         .append_string(Kind::Bytes, len, head, scratch, out)
@@ -384,7 +338,7 @@ impl<'a, R: Read> Decoder<'a, R> {
         out: &mut String,
     ) -> Result<(), Error<io::Error>>
         requires { pushed_of self.old ≡ None }
-        ensures { HasAppended of_text len R.remaining self.old self.new
+        ensures { HasAppended of_text len A.can_fail A.remaining self.old self.new
             (string_bytes out.old) (string_bytes out.new) result }
     {
         self.text_into_keeping(len, scratch, out, &mut Answered)
@@ -400,7 +354,7 @@ impl<'a, R: Read> Decoder<'a, R> {
         keep: &mut K,
     ) -> Result<(), Error<K::Kept>>
         requires { pushed_of self.old ≡ None }
-        ensures { HasAppended of_text len R.remaining self.old self.new
+        ensures { HasAppended of_text len A.can_fail A.remaining self.old self.new
             (string_bytes out.old) (string_bytes out.new) result }
     {
         let empty = String::new(*out.allocator());
@@ -408,7 +362,8 @@ impl<'a, R: Read> Decoder<'a, R> {
         let head = self.last;
         let mut cursor = Cursor {
             reader: self.reader,
-            window: &mut self.window,
+            access: PhantomData::<A>,
+            counter: &mut self.counter,
             keep,
         };
         let result = cursor.append_string(Kind::Text, len, head, scratch, &mut bytes);

@@ -2,22 +2,23 @@
 //! the numbers that one head holds.
 #![tactic(auto)]
 
+mod access;
+mod counter;
 mod cursor;
 mod decoder;
 mod encoder;
 mod header;
 mod integer;
 mod keep;
-mod lookahead;
 mod parsing;
 mod reading;
 pub mod simple;
 pub mod spelling_laws;
 mod strings;
 pub mod tag;
-mod window;
 mod writing;
 
+pub use access::{Access, Buffered, Plain, Slice};
 pub use decoder::Decoder;
 pub use encoder::Encoder;
 pub use header::{Error, Header, head_size};

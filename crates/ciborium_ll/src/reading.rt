@@ -1,20 +1,21 @@
-//! Heads, as they come or out of what is held.
+//! Heads, as they come or where they are held.
 //!
 //! An `io::Error` is large, and so is a result that may hold one: inlined, none is moved on the way
 //! of a head.
 
-ghost use Rattle.std.specs.Prelude.{◌≡◌, ◌+◌, ◌≤◌, ◌%◌, ◌∷◌, IfErr, length};
+ghost use Rattle.std.specs.Prelude.{◌≡◌, ◌+◌, ◌<◌, ◌≤◌, ◌%◌, ◌∷◌, IfErr, IfSome, length, take};
+ghost use Rattle.ciborium_ll.specs.Bytes.{AreBytes};
 ghost use Rattle.ciborium_ll.specs.FirstHeads.{IsHeadIo};
 ghost use Rattle.ciborium_ll.specs.Header.{announced_length};
 ghost use Rattle.ciborium_ll.specs.Refusal.{argument_length};
-ghost use Rattle.ciborium_ll.specs.ReaderSteps.{IsHeadTaken};
+ghost use Rattle.ciborium_ll.specs.ReaderSteps.{IsHeadTaken, IsParsed};
 
+use crate::access::Access;
 use crate::cursor::Cursor;
 use crate::header::{Error, Header};
 use crate::keep::Keep;
-use crate::parsing::parse_head;
-use crate::window::Window;
-use std::io::Read;
+use crate::parsing::{parse_head, parse_held};
+use std::marker::PhantomData;
 
 // How many bytes of payload a definite string's head announces.
 #[inline(always)]
@@ -27,15 +28,22 @@ fn payload_size(header: Header) -> usize
     }
 }
 
-// What these bytes are as the head between these offsets.
+// What these bytes are as the head between these offsets, where they are parsed so.
 #[inline(always)]
-fn judge_head<E>(start: usize, end: usize, initial: u8, argument: &[u8]) -> Result<Header, Error<E>>
+fn judge_head<E>(
+    start: usize,
+    end: usize,
+    initial: u8,
+    argument: &[u8],
+    parsed: Option<Header>,
+) -> Result<Header, Error<E>>
     requires whole { length argument.now ≡ argument_length (initial % 32) }
     requires between { end ≡ start + 1 + length argument.now }
+    requires parsed { IsParsed (initial ∷ argument.now) parsed }
     ensures head { IsHeadTaken (initial ∷ argument.now) start result }
     ensures no_io { IfErr result (λ e. ¬ IsHeadIo e) }
 {
-    let Some(header) = parse_head(initial, argument) else {
+    let Some(header) = parsed else {
         return Err(Error::Syntax(start));
     };
     if usize::MAX - end < payload_size(header) {
@@ -60,40 +68,51 @@ fn argument_size(info: u8) -> usize
     }
 }
 
-impl Window {
-    ghost use Rattle.std.specs.Prelude.{IfNone, IfSome, List, Option, ℕ};
-    ghost use Rattle.ciborium_ll.specs.Windows.{TakesHeld};
+// How many bytes a head has, by its additional information from 24 on.
+const SIZES: [usize; 8] = [2, 3, 5, 9, 1, 1, 1, 1];
 
-    // Takes the head at the front, where all of it is held.
-    #[inline(always)]
-    pub(crate) fn take_head<E>(&mut self) -> Option<Result<Header, Error<E>>>
-        ensures reach { self.new.reach ≡ self.old.reach }
-        ensures some { IfSome result (λ r. (o : Option (List ℕ)) →
-            TakesHeld o self.old self.new (λ b. IsHeadTaken b self.old.count r)) }
-        ensures no_io { IfSome result (λ r. IfErr r (λ e. ¬ IsHeadIo e)) }
-        ensures none { IfNone result (self.new ≡ self.old) }
-    {
-        let start = self.count;
-        let held = self.held();
-        if held.is_empty() {
-            return None;
-        }
-        let initial = held[0];
-        let size = argument_size(initial % 32);
-        if held.len() <= size {
-            return None;
-        }
-        let end = start + 1 + size;
-        let head = judge_head(start, end, initial, &held[1..1 + size]);
-        self.count = end;
-        Some(head)
+// How many bytes a head with this additional information has.
+#[inline(always)]
+fn front_size(info: u8) -> usize
+    requires { info < 32 }
+    ensures size { result ≡ 1 + argument_length info }
+    ensures at_most { result ≤ 9 }
+{
+    if info < 24 {
+        return 1;
     }
+    SIZES[(info % 8) as usize]
 }
 
-impl<'c, R: Read, K: Keep> Cursor<'c, R, K> {
-    ghost use Rattle.std.specs.Prelude.{◌<◌, IfNone, IfOk};
+// The head at the front of what is held, where all of it is, and its size. It begins at offset
+// `start`, and no byte of it passes the greatest offset.
+#[inline(always)]
+pub(crate) fn front_head<E>(start: usize, held: &[u8]) -> Option<(Result<Header, Error<E>>, usize)>
+    requires { start + 9 ≤ usize.MAX }
+    ensures within { IfSome result (λ t. t.1 ≤ length held.now) }
+    ensures fits { IfSome result (λ t. start + t.1 ≤ usize.MAX) }
+    ensures head { IfSome result (λ t. IsHeadTaken (take t.1 held.now) start t.0) }
+    ensures no_io { IfSome result (λ t. IfErr t.0 (λ e. ¬ IsHeadIo e)) }
+    ensures bytes { AreBytes held.now }
+{
+    if held.is_empty() {
+        return None;
+    }
+    let initial = held[0];
+    let size = front_size(initial % 32);
+    if held.len() < size {
+        return None;
+    }
+    let argument = &held[1..size];
+    let parsed = parse_held(initial, held, argument);
+    let head = judge_head(start, start + size, initial, argument, parsed);
+    Some((head, size))
+}
+
+impl<'c, R, A: Access<R>, K: Keep> Cursor<'c, R, A, K> {
+    ghost use Rattle.std.specs.Prelude.{IfNone, IfOk};
     ghost use Rattle.std.specs.Io.KnownBytes.{IsAtEnd};
-    ghost use Rattle.ciborium_ll.specs.inner.Cursors.{IsSameCursor, IsSpentAt, Moves, count_at};
+    ghost use Rattle.ciborium_ll.specs.inner.Cursors.{HasEndedAt, IsSameCursor, Moves, count_at};
     ghost use Rattle.ciborium_ll.specs.inner.Cursors.{left_at};
     ghost use Rattle.ciborium_ll.specs.FirstHeads.{IsFirstTaken};
 
@@ -108,12 +127,13 @@ impl<'c, R: Read, K: Keep> Cursor<'c, R, K> {
         requires behind { count_at self.old ≡ start + 1 }
         requires whole { length argument.old ≡ argument_length (initial % 32) }
         ensures same { IsSameCursor self.old self.new }
-        ensures head { Moves R.remaining self.old self.new
+        ensures head { Moves A.remaining self.old self.new
             (λ b. IsHeadTaken (initial ∷ b) start result) }
-        ensures spent { IfErr result (λ e. IsSpentAt self.new e) }
+        ensures ended { IfErr result (λ e. HasEndedAt A.can_fail A.remaining self.new e) }
     {
         self.fill(argument)?;
-        judge_head(start, self.window.count, initial, argument)
+        let parsed = parse_head(initial, argument);
+        judge_head(start, self.counter.count, initial, argument, parsed)
     }
 
     // Reads what follows the initial byte of the head at this offset.
@@ -121,9 +141,9 @@ impl<'c, R: Read, K: Keep> Cursor<'c, R, K> {
     fn read_behind(&mut self, start: usize, initial: u8) -> Result<Header, Error<K::Kept>>
         requires { count_at self.old ≡ start + 1 }
         ensures same { IsSameCursor self.old self.new }
-        ensures head { Moves R.remaining self.old self.new
+        ensures head { Moves A.remaining self.old self.new
             (λ b. IsHeadTaken (initial ∷ b) start result) }
-        ensures spent { IfErr result (λ e. IsSpentAt self.new e) }
+        ensures ended { IfErr result (λ e. HasEndedAt A.can_fail A.remaining self.new e) }
     {
         let size = argument_size(initial % 32);
         if size == 0 {
@@ -133,16 +153,16 @@ impl<'c, R: Read, K: Keep> Cursor<'c, R, K> {
         self.read_argument(start, initial, &mut room[..size])
     }
 
-    // Reads the head at the front, which is not held whole. Out of line: where bytes are read ahead
-    // it is seldom called.
+    // Reads the head at the front, which is not held whole. Out of line: where bytes are held it is
+    // seldom called.
     #[inline(never)]
     fn read_apart(&mut self) -> Result<Header, Error<K::Kept>>
         ensures same { IsSameCursor self.old self.new }
-        ensures head { Moves R.remaining self.old self.new
+        ensures head { Moves A.remaining self.old self.new
             (λ b. IsHeadTaken b (count_at self.old) result) }
-        ensures spent { IfErr result (λ e. IsSpentAt self.new e) }
+        ensures ended { IfErr result (λ e. HasEndedAt A.can_fail A.remaining self.new e) }
     {
-        let start = self.window.count;
+        let start = self.counter.count;
         let mut first = [0u8; 1];
         self.fill(&mut first)?;
         self.read_behind(start, first[0])
@@ -153,19 +173,42 @@ impl<'c, R: Read, K: Keep> Cursor<'c, R, K> {
     #[inline(always)]
     pub(crate) fn read_head(&mut self) -> Result<Header, Error<K::Kept>>
         ensures same { IsSameCursor self.old self.new }
-        ensures head { Moves R.remaining self.old self.new
+        ensures head { Moves A.remaining self.old self.new
             (λ b. IsHeadTaken b (count_at self.old) result) }
-        ensures spent { IfErr result (λ e. IsSpentAt self.new e) }
+        ensures ended { IfErr result (λ e. HasEndedAt A.can_fail A.remaining self.new e) }
     {
-        match self.window.take_head() {
-            Some(head) => head,
+        match A::take_head(self.reader, self.counter.count, self.keep) {
+            Some((head, size)) => {
+                self.counter.count += size;
+                head
+            }
             None => Cursor {
                 reader: self.reader,
-                window: self.window,
+                access: PhantomData::<A>,
+                counter: self.counter,
                 keep: self.keep,
             }
             .read_apart(),
         }
+    }
+
+    // Reads the first head, or none where the reader is at its end; it is not held whole.
+    #[inline(never)]
+    fn read_first_apart(&mut self) -> Result<Option<Header>, Error<K::Kept>>
+        requires { count_at self.old < usize.MAX }
+        ensures same { IsSameCursor self.old self.new }
+        ensures head { Moves A.remaining self.old self.new
+            (λ b. IsFirstTaken b (count_at self.old) result) }
+        ensures end { IfOk result (λ o. IfNone o (IsAtEnd (left_at A.remaining self.new))) }
+        ensures ended { IfErr result (λ e. HasEndedAt A.can_fail A.remaining self.new e) }
+    {
+        let start = self.counter.count;
+        let mut first = [0u8; 1];
+        if self.read_some(&mut first)? == 0 {
+            return Ok(None);
+        }
+        let header = self.read_behind(start, first[0])?;
+        Ok(Some(header))
     }
 
     // Reads the head at the front, or none where the reader is at its end.
@@ -173,16 +216,23 @@ impl<'c, R: Read, K: Keep> Cursor<'c, R, K> {
     pub(crate) fn read_first_head(&mut self) -> Result<Option<Header>, Error<K::Kept>>
         requires { count_at self.old < usize.MAX }
         ensures same { IsSameCursor self.old self.new }
-        ensures head { Moves R.remaining self.old self.new
+        ensures head { Moves A.remaining self.old self.new
             (λ b. IsFirstTaken b (count_at self.old) result) }
-        ensures end { IfOk result (λ o. IfNone o (IsAtEnd (left_at R.remaining self.new))) }
+        ensures end { IfOk result (λ o. IfNone o (IsAtEnd (left_at A.remaining self.new))) }
+        ensures ended { IfErr result (λ e. HasEndedAt A.can_fail A.remaining self.new e) }
     {
-        let start = self.window.count;
-        let mut first = [0u8; 1];
-        if self.take_some(&mut first)? == 0 {
-            return Ok(None);
+        if A::holds_nothing(self.reader, self.keep)? {
+            return self.read_first_apart();
         }
-        let header = self.read_behind(start, first[0])?;
-        Ok(Some(header))
+        match A::take_head(self.reader, self.counter.count, self.keep) {
+            Some((head, size)) => {
+                self.counter.count += size;
+                match head {
+                    Ok(header) => Ok(Some(header)),
+                    Err(e) => Err(e),
+                }
+            }
+            None => self.read_first_apart(),
+        }
     }
 }

@@ -1,14 +1,13 @@
 //! The payloads of strings: appended as they come, tested where they stand.
 
-ghost use Rattle.std.specs.Prelude.{◌≡◌, ◌↔◌, ℕ, List, IsTrue, Option};
+ghost use Rattle.std.specs.Prelude.{◌≡◌, ◌↔◌, IsTrue};
 ghost use Rattle.ciborium_ll.specs.StringRefusal.{IsAllowed};
 ghost use Rattle.ciborium_ll.specs.Strings.{IsChunk, string_kind_of};
 
+use crate::access::{Access, end_of_bytes};
 use crate::cursor::Cursor;
 use crate::header::{Error, Header};
 use crate::keep::Keep;
-use crate::window::Window;
-use std::io::Read;
 
 // What a string holds.
 #[derive(Clone, Copy)]
@@ -49,41 +48,46 @@ fn chunk_of(kind: Kind, header: Header) -> Chunk
     }
 }
 
-impl Window {
-    ghost use Rattle.std.specs.Prelude.{◌≤◌, ◌++◌, IfNone, IfSome, length};
-    ghost use Rattle.ciborium_ll.specs.Windows.{TakesHeld};
-
-    // Appends n bytes, where all of them are held, and answers how many were appended, or `None`
-    // where an allocation fails.
-    #[inline(always)]
-    fn append_held(&mut self, n: usize, out: &mut Vec<u8>) -> Option<usize>
-        ensures reach { self.new.reach ≡ self.old.reach }
-        ensures some { IfSome result (λ size. size ≤ n) }
-        ensures bytes { IfSome result (λ size. (o : Option (List ℕ)) →
-            TakesHeld o self.old self.new
-            (λ b. (out.new.items ≡ out.old.items ++ b) × (length b ≡ size))) }
-        ensures none { IfNone result
-            ((self.new ≡ self.old) × (out.new.items ≡ out.old.items)) }
-    {
-        let held = self.held();
-        if held.len() < n {
-            return Some(0);
-        }
-        if out.extend_from_slice(&held[..n]).is_err() {
-            return None;
-        }
-        self.count += n;
-        Some(n)
-    }
-}
-
-impl<'c, R: Read, K: Keep> Cursor<'c, R, K> {
+impl<'c, R, A: Access<R>, K: Keep> Cursor<'c, R, A, K> {
     ghost use Rattle.std.specs.Prelude.{◌+◌, ◌<◌, ◌≤◌, IfErr, length};
-    ghost use Rattle.ciborium_ll.specs.inner.Cursors.{IsSameCursor, IsSpentAt, Moves, count_at};
+    ghost use Rattle.ciborium_ll.specs.inner.Cursors.{HasEndedAt, IsSameCursor, Moves, count_at};
     ghost use Rattle.ciborium_ll.specs.Strings.{AreChunksTaken, Grows, IsPayloadTaken};
-    ghost use Rattle.ciborium_ll.specs.Strings.{IsPiecesTaken, IsStringTaken};
+    ghost use Rattle.ciborium_ll.specs.Strings.{IsPiecesTaken, IsSomeTaken, IsStringTaken};
 
-    // Appends n bytes, in pieces of at most the length of the scratch.
+    // Appends some of the next n bytes, of which there is one at least, and answers how many: what
+    // is held, or else a piece of at most the length of the scratch.
+    #[inline(always)]
+    fn append_some(
+        &mut self,
+        n: usize,
+        scratch: &mut [u8],
+        out: &mut Vec<u8>,
+    ) -> Result<usize, Error<K::Kept>>
+        requires some { 0 < n }
+        requires room { 0 < length scratch.old }
+        requires below { count_at self.old + n ≤ usize.MAX }
+        ensures same { IsSameCursor self.old self.new }
+        ensures some { Moves A.remaining self.old self.new
+            (λ b. IsSomeTaken n b result out.old.items out.new.items) }
+        ensures ended { IfErr result (λ e. HasEndedAt A.can_fail A.remaining self.new e) }
+    {
+        if let Some(count) = A::append(self.reader, n, out, self.keep)? {
+            if count == 0 {
+                return Err(end_of_bytes(self.keep));
+            }
+            self.counter.count += count;
+            return Ok(count);
+        }
+        let size = n.min(scratch.len());
+        let piece = &mut scratch[..size];
+        self.fill(piece)?;
+        if out.extend_from_slice(piece).is_err() {
+            return Err(Error::Memory);
+        }
+        Ok(size)
+    }
+
+    // Appends n bytes, in pieces.
     #[inline(always)]
     fn append_pieces(
         &mut self,
@@ -94,22 +98,13 @@ impl<'c, R: Read, K: Keep> Cursor<'c, R, K> {
         requires room { 0 < length scratch.old }
         requires below { count_at self.old + n ≤ usize.MAX }
         ensures same { IsSameCursor self.old self.new }
-        ensures bytes { Moves R.remaining self.old self.new
+        ensures bytes { Moves A.remaining self.old self.new
             (λ b. IsPiecesTaken n b result out.old.items out.new.items) }
-        ensures spent { IfErr result (λ e. IsSpentAt self.new e) }
+        ensures ended { IfErr result (λ e. HasEndedAt A.can_fail A.remaining self.new e) }
     {
-        let Some(held) = self.window.append_held(n, out) else {
-            return Err(Error::Memory);
-        };
-        let mut left = n - held;
+        let mut left = n;
         while left > 0 {
-            let size = left.min(scratch.len());
-            let piece = &mut scratch[..size];
-            self.fill(piece)?;
-            if out.extend_from_slice(piece).is_err() {
-                return Err(Error::Memory);
-            }
-            left -= size;
+            left -= self.append_some(left, scratch, out)?;
         }
         Ok(())
     }
@@ -124,13 +119,12 @@ impl<'c, R: Read, K: Keep> Cursor<'c, R, K> {
     ) -> Result<(), Error<K::Kept>>
         requires { count_at self.old + n ≤ usize.MAX }
         ensures same { IsSameCursor self.old self.new }
-        ensures bytes { Moves R.remaining self.old self.new
+        ensures bytes { Moves A.remaining self.old self.new
             (λ b. IsPiecesTaken n b result out.old.items out.new.items) }
-        ensures spent { IfErr result (λ e. IsSpentAt self.new e) }
+        ensures ended { IfErr result (λ e. HasEndedAt A.can_fail A.remaining self.new e) }
     {
         if scratch.is_empty() {
-            let mut own = [0u8; OWN_SCRATCH];
-            return self.append_pieces(n, &mut own, out);
+            return self.append_pieces(n, &mut [0; OWN_SCRATCH], out);
         }
         self.append_pieces(n, scratch, out)
     }
@@ -148,9 +142,9 @@ impl<'c, R: Read, K: Keep> Cursor<'c, R, K> {
     ) -> Result<(), Error<K::Kept>>
         requires { count_at self.old + n ≤ usize.MAX }
         ensures same { IsSameCursor self.old self.new }
-        ensures bytes { Moves R.remaining self.old self.new (λ b. Grows out.old.items out.new.items
+        ensures bytes { Moves A.remaining self.old self.new (λ b. Grows out.old.items out.new.items
             (IsPayloadTaken (string_kind_of kind) n head b result)) }
-        ensures spent { IfErr result (λ e. IsSpentAt self.new e) }
+        ensures ended { IfErr result (λ e. HasEndedAt A.can_fail A.remaining self.new e) }
     {
         let start = out.len();
         if let Err(e) = self.append_bytes(n, scratch, out) {
@@ -173,11 +167,11 @@ impl<'c, R: Read, K: Keep> Cursor<'c, R, K> {
         out: &mut Vec<u8>,
     ) -> Result<(), Error<K::Kept>>
         ensures same { IsSameCursor self.old self.new }
-        ensures bytes { Moves R.remaining self.old self.new (λ b. Grows out.old.items out.new.items
+        ensures bytes { Moves A.remaining self.old self.new (λ b. Grows out.old.items out.new.items
             (AreChunksTaken (string_kind_of kind) b (count_at self.old) result)) }
-        ensures spent { IfErr result (λ e. IsSpentAt self.new e) }
+        ensures ended { IfErr result (λ e. HasEndedAt A.can_fail A.remaining self.new e) }
     {
-        let mut head = self.window.count;
+        let mut head = self.counter.count;
         'chunks: loop {
             let header = self.read_head()?;
             match chunk_of(kind, header) {
@@ -185,7 +179,7 @@ impl<'c, R: Read, K: Keep> Cursor<'c, R, K> {
                 Chunk::Definite(n) => self.append_payload(kind, n, head, scratch, out)?,
                 Chunk::Other => return Err(Error::Syntax(head)),
             }
-            head = self.window.count;
+            head = self.counter.count;
         }
     }
 
@@ -201,13 +195,13 @@ impl<'c, R: Read, K: Keep> Cursor<'c, R, K> {
         out: &mut Vec<u8>,
     ) -> Result<(), Error<K::Kept>>
         ensures same { IsSameCursor self.old self.new }
-        ensures bytes { Moves R.remaining self.old self.new (λ b. Grows out.old.items out.new.items
+        ensures bytes { Moves A.remaining self.old self.new (λ b. Grows out.old.items out.new.items
             (IsStringTaken (string_kind_of kind) len head b (count_at self.old) result)) }
-        ensures spent { IfErr result (λ e. IsSpentAt self.new e) }
+        ensures ended { IfErr result (λ e. HasEndedAt A.can_fail A.remaining self.new e) }
     {
         match len {
             Some(n) => {
-                if usize::MAX - self.window.count < n {
+                if usize::MAX - self.counter.count < n {
                     return Err(Error::TooLong);
                 }
                 self.append_payload(kind, n, head, scratch, out)

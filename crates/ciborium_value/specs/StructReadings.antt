@@ -12,6 +12,8 @@ use Rattle.ciborium_value.specs.Taken.{untagged, taken_name, bare_name, taken_va
 use Rattle.ciborium_value.specs.TakenParts.{taken_then}
 use Rattle.ciborium_value.specs.VariantReadings.{no_nesting-name, same-either}
 use Rattle.ciborium_value.specs.declared.kind.Kind.TheVariants as kinds
+use Rattle.ciborium_value.specs.declared.wanted.FieldPlace.{FieldPlace}
+use Rattle.ciborium_value.specs.declared.wanted.FieldPlace.TheVariants.{First, Behind}
 
 -- ---- fields by their names
 
@@ -56,6 +58,10 @@ field_taken wanted taken h behind = record {
   taken = taken_field wanted taken behind.taken;
   steady = steady-field wanted taken behind h;
 }
+
+-- the place of a name: that of this field, or its place among those behind it
+abbrev pub field_place : {P : Type 0} → List ℕ → (List ℕ → P) → List ℕ → FieldPlace P
+field_place wanted behind name = if bytes_eq name wanted then First else Behind (behind name)
 
 -- ---- a map of them
 

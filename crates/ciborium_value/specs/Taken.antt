@@ -233,6 +233,10 @@ bare_name _ = refuses kinds.Name
 abbrev pub taken_name : Taken (List ℕ)
 taken_name l i = bare_name (untagged i)
 
+-- the place of such a name
+abbrev pub taken_place : {P : Type 0} → (List ℕ → P) → Taken P
+taken_place place l i = outcome_map place (taken_name l i)
+
 -- the outermost tag, if there is one, and what it stands before (section 3.4)
 abbrev pub outer_tag : Item → Option ℕ × Item
 outer_tag (unsigned n) = (None, unsigned n)

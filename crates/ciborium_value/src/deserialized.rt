@@ -11,6 +11,7 @@ ghost use Rattle.ciborium_value.specs.TreeAnswers.{IsErrorOf, tree_fault, value_
 use crate::deserialize::Deserialize;
 use crate::error::Error;
 use crate::kind::Kind;
+use crate::names::Names;
 use crate::source::Source;
 use crate::tree::Value;
 use ciborium_ll::Integer;
@@ -22,8 +23,8 @@ mod parts;
 
 use folding::fold_value;
 use parts::{
-    copy_bytes, copy_name, copy_text, find_boolean, find_character, find_lone_pair, find_null,
-    find_number, skip_tags,
+    copy_bytes, copy_name, copy_text, find_boolean, find_character, find_lone_pair, find_name,
+    find_null, find_number, skip_tags,
 };
 
 impl Value {
@@ -179,6 +180,13 @@ impl<'a> Source for TreeSource<'a> {
     fn name(&mut self, alloc: Global) -> Result<String, Error> {
         match self.take() {
             Pending::Whole(value) => copy_name(alloc, value),
+            _ => Err(Error::Custom(Kind::Name)),
+        }
+    }
+
+    fn place<N: Names>(&mut self, _alloc: Global, names: &N) -> Result<N::Place, Error> {
+        match self.take() {
+            Pending::Whole(value) => Ok(names.find(find_name(value)?)),
             _ => Err(Error::Custom(Kind::Name)),
         }
     }

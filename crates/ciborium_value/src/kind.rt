@@ -57,6 +57,8 @@ pub enum Kind {
     KeyOrder,
     /// Two keys of a map are equal where its pairs are sorted.
     DuplicateKey,
+    /// Bytes follow the item where all of them have to be one.
+    TrailingData,
 }
 
 impl Kind {
@@ -88,6 +90,7 @@ impl Kind {
             Kind::NotFolded => "a bignum that fits in 64 bits, or has leading zeros",
             Kind::KeyOrder => "a key out of order",
             Kind::DuplicateKey => "two equal keys in one map",
+            Kind::TrailingData => "bytes behind the item",
         }
     }
 }

@@ -13,6 +13,7 @@ mod fields;
 mod items;
 mod key_order;
 mod kind;
+mod names;
 mod notation;
 mod parts;
 mod reads_back;
@@ -32,6 +33,7 @@ pub use fields::{Field, NoField};
 pub use items::{Array, Item, NoItem, WantedItems};
 pub use key_order::KeyOrder;
 pub use kind::Kind;
+pub use names::Names;
 pub use parts::{Container, OfArray, OfMap, Parts, serialize_parts};
 pub use reads_back::{
     Avoidable, ByteString, FormReadsBack, NeverWrites, Null, ReadsBack, WritesContent,
@@ -40,4 +42,4 @@ pub use serialize::{Serialize, serialize_tagged};
 pub use sink::Sink;
 pub use source::Source;
 pub use tree::Value;
-pub use wanted::{Wanted, WantedFields, read_fields, required};
+pub use wanted::{FieldPlace, Wanted, WantedFields, read_fields, required};

@@ -13,12 +13,13 @@ ghost use Rattle.ciborium_value.specs.Sources.{TakesOnly, TakesTo, Tells, of_kin
 ghost use Rattle.ciborium_value.specs.Sources.{read_as};
 ghost use Rattle.ciborium_value.specs.Taken.{taken_boolean, taken_bytes, taken_character};
 ghost use Rattle.ciborium_value.specs.Taken.{taken_integer, taken_name, taken_outer_tag};
-ghost use Rattle.ciborium_value.specs.Taken.{taken_pairs, taken_seq, taken_text, taken_unit};
-ghost use Rattle.ciborium_value.specs.Taken.{taken_value, taken_variant};
+ghost use Rattle.ciborium_value.specs.Taken.{taken_pairs, taken_place, taken_seq, taken_text};
+ghost use Rattle.ciborium_value.specs.Taken.{taken_unit, taken_value, taken_variant};
 ghost use Rattle.ciborium_value.specs.Tree.{Tree};
 ghost use Rattle.ciborium_value.specs.View.{tree_of};
 
 use crate::kind::Kind;
+use crate::names::Names;
 use crate::tree::Value;
 use std::alloc::Global;
 
@@ -115,6 +116,13 @@ pub trait Source {
     fn name(&mut self, alloc: Global) -> Result<String, Self::Error>
         ensures takes { TakesOneItem stands_before is_unread has_taken left cause self.old self.new
             taken_name string_bytes result };
+
+    /// The place among these names of a name, which is read as `name` reads it. Memory is taken
+    /// only for a name that the source does not hold in one piece: any other is looked up where it
+    /// stands. Skips tags; another item is refused as `Name`.
+    fn place<N: Names>(&mut self, alloc: Global, names: &N) -> Result<N::Place, Self::Error>
+        ensures takes { TakesOneItem stands_before is_unread has_taken left cause self.old self.new
+            (taken_place (N.place_of names.now)) (λ v. v) result };
 
     /// Whether the item ahead is null or undefined, without a tag. It is not taken.
     fn null_ahead(&mut self) -> Result<bool, Self::Error>

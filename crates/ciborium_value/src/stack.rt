@@ -1,9 +1,9 @@
 //! The containers and tags that are open while a value is put together.
 
 ghost use Rattle.std.specs.Prelude.{◌≡◌, ◌∷◌, ◌++◌, [], IfOk, List, MatchOption, None, OnErr, OnOk};
-ghost use Rattle.std.specs.Prelude.{Some, drop, length, map, min, option_map};
+ghost use Rattle.std.specs.Prelude.{Some, drop, length, map, option_map};
 ghost use Rattle.ciborium_value.specs.inner.Frames.{array, closed, fill, map as open_map, placed};
-ghost use Rattle.ciborium_value.specs.inner.Frames.{tree_ended, parts_due, waiting_keys};
+ghost use Rattle.ciborium_value.specs.inner.Frames.{tree_ended, waiting_keys};
 ghost use Rattle.ciborium_value.specs.inner.Stack.{begun_frame, filled_of, frame_of, frames_of};
 ghost use Rattle.ciborium_value.specs.inner.Stack.{tree_frames, placed_of};
 ghost use Rattle.ciborium_value.specs.View.{pair_trees, tree_of};
@@ -251,34 +251,6 @@ impl Stack {
                 None => None,
             },
             _ => None,
-        }
-    }
-
-    /// How many parts of the innermost container are due for sure, including the one that is read
-    /// now; a pair counts as two. None where no length was announced, under a tag, and where
-    /// nothing is open.
-    #[inline(always)]
-    pub fn due(&self) -> usize
-        ensures { result ≡ min (parts_due (frames_of self.now)) usize.MAX }
-    {
-        let Some(innermost) = self.frames.last() else {
-            return 0;
-        };
-        match innermost {
-            Frame::Array {
-                behind: Some(n),
-                ..
-            } => n.saturating_add(1),
-            Frame::Map {
-                behind: Some(n),
-                key: None,
-                ..
-            } => n.saturating_mul(2).saturating_add(2),
-            Frame::Map {
-                behind: Some(n),
-                ..
-            } => n.saturating_mul(2).saturating_add(1),
-            _ => 0,
         }
     }
 

@@ -1,16 +1,18 @@
 //! A struct from a map by names, for implementations of `Deserialize`.
 
-ghost use Rattle.std.specs.Prelude.{◌≡◌, ◌<◌, ◌≤◌, IfErr, IfOk, None, OnErr, OnOk, Option, Some};
+ghost use Rattle.std.specs.Prelude.{◌≡◌, ◌<◌, ◌≤◌, IfErr, IfOk, List, None, OnErr, OnOk, Option};
+ghost use Rattle.std.specs.Prelude.{Some, ℕ};
 ghost use Rattle.std.specs.Option.{option_map};
 ghost use Rattle.ciborium_value.specs.Sources.{RefusesAhead, TakesAhead, TakesItem, TakesOnly};
 ghost use Rattle.ciborium_value.specs.Sources.{of_kind};
-ghost use Rattle.ciborium_value.specs.StructReadings.{FieldsTaken, field_taken};
+ghost use Rattle.ciborium_value.specs.StructReadings.{FieldsTaken, field_place, field_taken};
 ghost use Rattle.ciborium_value.specs.StructReadings.{no_field_taken, taken_fields};
 ghost use Rattle.ciborium_value.specs.declared.kind.Kind.TheVariants.{Other};
 
 use crate::deserialize::Deserialize;
 use crate::fields::NoField;
 use crate::kind::Kind;
+use crate::names::Names;
 use crate::source::Source;
 use std::alloc::Global;
 
@@ -23,8 +25,15 @@ use std::alloc::Global;
 #[derive(Debug, Drop)]
 pub struct Wanted<'a, V, R>(pub &'a str, pub Option<V>, pub R);
 
+/// The place of a name among those of fields in a row: the first field's, or one behind it.
+#[derive(Clone, Copy, Debug, Drop)]
+pub enum FieldPlace<P> {
+    First,
+    Behind(P),
+}
+
 /// Fields in a row: a `Wanted`, or `NoField`.
-pub trait WantedFields: Drop {
+pub trait WantedFields: Names + Drop {
     // What counts of what was read of them.
     ghost Content: { Type 0 };
 
@@ -33,26 +42,36 @@ pub trait WantedFields: Drop {
     // What an item gives them under a name, onto what was read.
     ghost fields: { Self → FieldsTaken Content };
 
-    /// Reads the item that the source stands before, which is the value under this name: as the
-    /// type of the first field of this name, replacing what was read of it before, or, where there
-    /// is no such field, as a `Value`, which is dropped. It is refused where the item is. Then a
-    /// prefix of what was unread has been taken and nothing else, and no more is left to read than
-    /// before.
+    /// Reads the item that the source stands before, which is the value under a name with this
+    /// place: as the type of the first field of this name, replacing what was read of it before,
+    /// or, where there is no such field, as a `Value`, which is dropped. It is refused where the
+    /// item is. Then a prefix of what was unread has been taken and nothing else, and no more is
+    /// left to read than before.
     fn read_field<S: Source>(
         &mut self,
-        name: &str,
+        place: Self::Place,
         alloc: Global,
         source: &mut S,
     ) -> Result<(), S::Error>
         ensures names { OnOk result (fields self.new ≡ fields self.old) }
-        ensures ok { OnOk result (TakesAhead S.stands_before source.old source.new
-            ((fields self.old).taken name.now (content self.old)) (content self.new)) }
-        ensures refused { IfErr result (λ e. RefusesAhead S.stands_before source.old
-            ((fields self.old).taken name.now (content self.old)) (S.cause source.new e)) }
+        ensures ok { OnOk result ((name : List ℕ) → Self.place_of self.old name ≡ place →
+            TakesAhead S.stands_before source.old source.new
+            ((fields self.old).taken name (content self.old)) (content self.new)) }
+        ensures refused { IfErr result (λ e. (name : List ℕ) → Self.place_of self.old name ≡ place →
+            RefusesAhead S.stands_before source.old
+            ((fields self.old).taken name (content self.old)) (S.cause source.new e)) }
         ensures took { OnOk result (TakesItem S.is_unread source.old source.new) }
         ensures only { TakesOnly S.has_taken source.old source.new }
         ensures less { OnOk result (S.left source.new < S.left source.old) }
         ensures no_more { OnErr result (S.left source.new ≤ S.left source.old) };
+}
+
+impl Names for NoField {
+    type Place = ();
+
+    ghost place_of = { λ _ _. tt };
+
+    fn find(&self, _name: &str) {}
 }
 
 impl WantedFields for NoField {
@@ -64,12 +83,25 @@ impl WantedFields for NoField {
 
     fn read_field<S: Source>(
         &mut self,
-        _name: &str,
+        _place: (),
         alloc: Global,
         source: &mut S,
     ) -> Result<(), S::Error> {
         drop(source.value(alloc)?);
         Ok(())
+    }
+}
+
+impl<V, R: Names> Names for Wanted<'_, V, R> {
+    type Place = FieldPlace<R::Place>;
+
+    ghost place_of = { λ w. field_place w.0.now (R.place_of w.2) };
+
+    fn find(&self, name: &str) -> FieldPlace<R::Place> {
+        if name == self.0 {
+            return FieldPlace::First;
+        }
+        FieldPlace::Behind(self.2.find(name))
     }
 }
 
@@ -82,16 +114,18 @@ impl<V: Deserialize, R: WantedFields> WantedFields for Wanted<'_, V, R> {
 
     fn read_field<S: Source>(
         &mut self,
-        name: &str,
+        place: FieldPlace<R::Place>,
         alloc: Global,
         source: &mut S,
     ) -> Result<(), S::Error> {
-        if name == self.0 {
-            let value = V::deserialize(alloc, source)?;
-            self.1 = Some(value);
-            return Ok(());
+        match place {
+            FieldPlace::First => {
+                let value = V::deserialize(alloc, source)?;
+                self.1 = Some(value);
+                Ok(())
+            }
+            FieldPlace::Behind(behind) => self.2.read_field(behind, alloc, source),
         }
-        self.2.read_field(name, alloc, source)
     }
 }
 
@@ -121,8 +155,8 @@ pub fn read_fields<F: WantedFields, S: Source>(
 {
     let mut seq = source.begin_map()?;
     while source.next(&mut seq)? {
-        let name = source.name(alloc)?;
-        fields.read_field(&name, alloc, source)?;
+        let place = source.place(alloc, fields)?;
+        fields.read_field(place, alloc, source)?;
     }
     Ok(())
 }

@@ -1,5 +1,5 @@
 -- Bytes that are read as the numbers of a sequence.
-use Rattle.std.proofs.Common.{◌≡◌, ◌≢◌, ℕ, ◌+◌, ◌-◌, ◌<◌, ◌≤◌, Bool, false, List, [], ◌∷◌, ◌++◌, Option, Some, None}
+use Rattle.std.proofs.Common.{◌≡◌, ◌≢◌, ℕ, ◌-◌, ◌<◌, ◌≤◌, Bool, false, List, [], ◌∷◌, ◌++◌, Option, Some, None}
 use Rattle.std.proofs.Common.{Result, Ok, Err, OnErr, OnOk, refl, sym, ap, ◌∙◌, subst, append_assoc}
 use Rattle.std.proofs.Common.{append-nil}
 use Rattle.ciborium_ll.specs.declared.header.Header.{Header}
@@ -7,8 +7,9 @@ use Rattle.ciborium_ll.specs.declared.header.Header.TheVariants as header
 use Rattle.ciborium_ll.specs.Item.{Item}
 use Rattle.ciborium_ll.specs.StringRefusal.{of_bytes as string_of_bytes}
 use Rattle.ciborium_ll.proofs.UniqueSpelling.{one_at_front}
-use Rattle.ciborium_ll.specs.Decoding.{HasSameReader, allowed_of, source_of}
-use Rattle.ciborium.proofs.Items.Due.{due-past, entered-fewer, held-past}
+use Rattle.ciborium_ll.specs.declared.decoder.Decoder.{Decoder}
+use Rattle.ciborium_ll.specs.Decoding.{HasSameReader}
+use Rattle.ciborium.proofs.Items.Weights.{entered-fewer}
 use Rattle.ciborium_value.specs.Ahead.{Rest, Form, after, parts, past, inside, end_of}
 use Rattle.ciborium_value.specs.Nesting.{Limit}
 use Rattle.ciborium_value.specs.Places.{sequence}
@@ -25,7 +26,7 @@ use Rattle.ciborium.specs.declared.de.byte_source.ByteSeq.{ByteSeq}
 use Rattle.ciborium.specs.declared.de.error.Error.{Error}
 use Rattle.ciborium.specs.inner.ByteSources.{fault_at}
 use Rattle.ciborium.specs.inner.ByteSources.{AnswersItem, PassesItem, IsUnread, StandsBefore, SeqStands, SeqOwes}
-use Rattle.ciborium.specs.inner.ByteSources.{EntersItemsUnread, ReadsRest, RefusesRest, items_due_behind, pending_count}
+use Rattle.ciborium.specs.inner.ByteSources.{EntersItemsUnread, ReadsRest, RefusesRest}
 use Rattle.ciborium.specs.inner.ByteSources.{HasTaken, HasTakenSince, ReadsBareHead, end_at, parts_left, reader_of}
 use Rattle.ciborium.specs.inner.ByteSources.{weight_left}
 use Rattle.ciborium.specs.inner.FrontItems.{Reads, Denies}
@@ -41,11 +42,11 @@ use Rattle.ciborium.proofs.Items.TakenOnly.{IsKept, kept-reader, rest-end}
 
 -- ---- from the front of unread bytes to where a source stands
 
-module _ {S : Type 0} (remaining : S → Option (List ℕ)) where
-  pub takes-read : {A : Type 0} (old new : ByteSource S) (taken : Taken A) (v : A) → IsKept remaining old new →
-      new.levels ≡ old.levels → new.pending ≡ None → weight_left new < weight_left old →
+module _ {S W : Type 0} (remaining : S → Option (List ℕ)) where
+  pub takes-read : {A : Type 0} (old new : ByteSource S W) (taken : Taken A) (v : A) → IsKept remaining old new →
+      new.levels ≡ old.levels → new.pending ≡ None →
       Reads (IsUnread remaining) old new (Some old.levels) taken v → TakesAhead (StandsBefore remaining) old new taken v
-  takes-read old new taken v kept levels none fewer h l i f (b, u, (s, r, sp, rest, e), is, ahead, few) =
+  takes-read old new taken v kept levels none h l i f (b, u, (s, r, sp, rest, e), is, ahead) =
       let (j, t, z, sq, e', give, un) = h b u in
       let same = one_at_front s t r z i j sp sq (sym e ∙ e') in (
         ap (λ k. taken k i) is ∙ ap (taken (Some old.levels)) same.2 ∙ give,
@@ -57,19 +58,17 @@ module _ {S : Type 0} (remaining : S → Option (List ℕ)) where
               (subst (λ y. IsRest (reader_of remaining old.decoder) y f) same.1 rest)),
           is ∙ ap Some (sym levels),
           none-past new.pending none f,
-          subst (λ n. allowed_of new.decoder + pending_count new.pending ≤ n)
-              (sym (due-past f)) (held-past old new kept.0 (items_due_behind f) none fewer few),
         ),
       )
 
-  pub refuses-denied : {A : Type 0} (old : ByteSource S) (taken : Taken A) (fault : Fault) →
+  pub refuses-denied : {A : Type 0} (old : ByteSource S W) (taken : Taken A) (fault : Fault) →
       Denies (IsUnread remaining) (end_at remaining) old (Some old.levels) taken fault →
       RefusesAhead (StandsBefore remaining) old taken fault
-  refuses-denied old taken fault h l i f (b, u, (s, r, sp, rest, e), is, ahead, few) =
+  refuses-denied old taken fault h l i f (b, u, (s, r, sp, rest, e), is, ahead) =
       subst (λ n. IsFaultOf n fault (taken l i)) (sym (rest-end (reader_of remaining old.decoder) r f rest))
       (subst (λ k. IsFaultOf (end_at remaining old) fault (taken k i)) (sym is) (h b s r i u sp e))
 
-  pub took-read : {A : Type 0} (old new : ByteSource S) (l : Limit) (taken : Taken A) (v : A) →
+  pub took-read : {A : Type 0} (old new : ByteSource S W) (l : Limit) (taken : Taken A) (v : A) →
       Reads (IsUnread remaining) old new l taken v → TakesItem (IsUnread remaining) old new
   took-read old new l taken v h b u = let (j, t, z, sq, e, give, un) = h b u in (z, un, (j, t, sq, e))
 
@@ -118,7 +117,7 @@ each-fault end of_end f done i rest vs h b = absurd b
 each-fault end of_length f done i rest vs h b = b
 
 -- some items of what was left were read
-pub record IsPartlyRead {S A : Type 0} (remaining : S → Option (List ℕ)) (taken : Taken A) (new : ByteSource S)
+pub record IsPartlyRead {S W A : Type 0} (remaining : S → Option (List ℕ)) (taken : Taken A) (new : ByteSource S W)
     (q : ByteSeq) (vs : List A) (l : Limit) (form : Form) (is : List Item) (r : Rest) : Type 0 where
   pub done : List Item
   pub rest : List Item
@@ -127,18 +126,21 @@ pub record IsPartlyRead {S A : Type 0} (remaining : S → Option (List ℕ)) (ta
   pub holds : SeqStands q l (parts form rest r)
   pub read : take_each (taken (inside form l)) done ≡ gives vs
 
-abbrev pub ReadsPartly : {S A : Type 0} → (S → Option (List ℕ)) → Taken A → ByteSource S → ByteSeq → ByteSource S →
+abbrev pub ReadsPartly : {S W A : Type 0} → (S → Option (List ℕ)) → Taken A → ByteSource S W → ByteSeq →
+    ByteSource S W →
     ByteSeq → List A → Type 0
 ReadsPartly remaining taken old q new q' vs = (l : Limit) (form : Form) (is : List Item) (r : Rest) →
     StandsBefore remaining old (inside form l) (after (parts form is r)) → SeqStands q l (parts form is r) →
     IsPartlyRead remaining taken new q' vs l form is r
 
 -- of known bytes those of some items were taken
-abbrev pub OwesPartly : {S : Type 0} → (S → Option (List ℕ)) → ByteSource S → ByteSeq → ByteSource S → ByteSeq → Type 0
+abbrev pub OwesPartly : {S W : Type 0} → (S → Option (List ℕ)) → ByteSource S W → ByteSeq → ByteSource S W → ByteSeq →
+    Type 0
 OwesPartly remaining old q new q' = TakesTo (IsUnread remaining) old new
     (λ c u. (b : List ℕ) → SeqOwes q sequence b c → SeqOwes q' sequence b u)
 
-module _ {S A : Type 0} (remaining : S → Option (List ℕ)) (taken : Taken A) (old : ByteSource S) (start : ByteSeq) where
+module _ {S W A : Type 0} (remaining : S → Option (List ℕ)) (taken : Taken A) (old : ByteSource S W)
+    (start : ByteSeq) where
   pub partly-none : ReadsPartly remaining taken old start old start []
   partly-none l form is r st hold = record {
     done = [];
@@ -149,7 +151,7 @@ module _ {S A : Type 0} (remaining : S → Option (List ℕ)) (taken : Taken A) 
     read = refl;
   }
 
-  pub partly-more : (mid ahead new : ByteSource S) (q q' : ByteSeq) (vs : List A) (v : A) →
+  pub partly-more : (mid ahead new : ByteSource S W) (q q' : ByteSeq) (vs : List A) (v : A) →
       ReadsPartly remaining taken old start mid q vs → GoesOn (StandsBefore remaining) SeqStands mid ahead q q' →
       TakesAhead (StandsBefore remaining) ahead new taken v →
       ReadsPartly remaining taken old start new q' (vs ++ v ∷ [])
@@ -166,7 +168,7 @@ module _ {S A : Type 0} (remaining : S → Option (List ℕ)) (taken : Taken A) 
         read = each-more (taken (inside form l)) n.done e.0 vs v n.read k.0;
       }
 
-  pub partly-end : (mid new : ByteSource S) (q : ByteSeq) (vs : List A) →
+  pub partly-end : (mid new : ByteSource S W) (q : ByteSeq) (vs : List A) →
       ReadsPartly remaining taken old start mid q vs → Leaves (StandsBefore remaining) SeqStands mid new q →
       ReadsRest remaining old new start (λ l is. take_each (taken l) is) vs
   partly-end mid new q vs w g l form is r st hold =
@@ -174,14 +176,14 @@ module _ {S A : Type 0} (remaining : S → Option (List ℕ)) (taken : Taken A) 
       let e = g.0 l form n.rest r n.stands n.holds in
       (ap (take_each (taken (inside form l))) (n.split ∙ ap (λ x. n.done ++ x) e.0 ∙ append-nil n.done) ∙ n.read, e.1)
 
-  pub partly-next-fault : (mid : ByteSource S) (q : ByteSeq) (vs : List A) (fault : Fault) →
+  pub partly-next-fault : (mid : ByteSource S W) (q : ByteSeq) (vs : List A) (fault : Fault) →
       ReadsPartly remaining taken old start mid q vs → RefusesNext (StandsBefore remaining) SeqStands mid q fault →
       RefusesRest remaining old start (λ l is. take_each (taken l) is) fault
   partly-next-fault mid q vs fault w h l form is r st hold =
       let n = w l form is r st hold in
       fault_outside _ fault (take_each (taken (inside form l)) is) (h.0 l form n.rest r n.stands n.holds)
 
-  pub partly-fault : (mid ahead : ByteSource S) (q q' : ByteSeq) (vs : List A) (fault : Fault) →
+  pub partly-fault : (mid ahead : ByteSource S W) (q q' : ByteSeq) (vs : List A) (fault : Fault) →
       ReadsPartly remaining taken old start mid q vs → GoesOn (StandsBefore remaining) SeqStands mid ahead q q' →
       RefusesAhead (StandsBefore remaining) ahead taken fault →
       RefusesRest remaining old start (λ l is. take_each (taken l) is) fault
@@ -196,7 +198,7 @@ module _ {S A : Type 0} (remaining : S → Option (List ℕ)) (taken : Taken A) 
   pub owes-none : OwesPartly remaining old start old start
   owes-none b u = (b, u, λ a owed. owed)
 
-  pub owes-more : (mid ahead new : ByteSource S) (q q' : ByteSeq) → OwesPartly remaining old start mid q →
+  pub owes-more : (mid ahead new : ByteSource S W) (q q' : ByteSeq) → OwesPartly remaining old start mid q →
       TakesTo (IsUnread remaining) mid ahead (OwesLess SeqOwes q q') → TakesItem (IsUnread remaining) ahead new →
       OwesPartly remaining old start new q'
   owes-more mid ahead new q q' h g t b u =
@@ -205,7 +207,7 @@ module _ {S A : Type 0} (remaining : S → Option (List ℕ)) (taken : Taken A) 
       let (z, un'', front) = t d un' in
       (z, un'', λ a owed. less sequence a z (owes a owed) front)
 
-  pub owes-end : (mid new : ByteSource S) (q : ByteSeq) → OwesPartly remaining old start mid q →
+  pub owes-end : (mid new : ByteSource S W) (q : ByteSeq) → OwesPartly remaining old start mid q →
       TakesTo (IsUnread remaining) mid new (OwesNothing SeqOwes q) →
       TakesTo (IsUnread remaining) old new (λ c z. (b : List ℕ) → SeqOwes start sequence b c → HasItem b z)
   owes-end mid new q h g b u =
@@ -214,8 +216,8 @@ module _ {S A : Type 0} (remaining : S → Option (List ℕ)) (taken : Taken A) 
       (z, un', λ a owed. done sequence a (owes a owed))
 
 -- a byte is what its number is
-module _ {S : Type 0} (remaining : S → Option (List ℕ)) (ahead : ByteSource S) where
-  pub byte-takes : (new : ByteSource S) (n : Bool × ℕ) (v : ℕ) → number_below 256 n ≡ gives v →
+module _ {S W : Type 0} (remaining : S → Option (List ℕ)) (ahead : ByteSource S W) where
+  pub byte-takes : (new : ByteSource S W) (n : Bool × ℕ) (v : ℕ) → number_below 256 n ≡ gives v →
       TakesAhead (StandsBefore remaining) ahead new taken_integer n →
       TakesAhead (StandsBefore remaining) ahead new taken_byte v
   byte-takes new n v e t l i f st = let k = t l i f st in (byte-given l i n v k.0 e, k.1)
@@ -225,7 +227,7 @@ module _ {S : Type 0} (remaining : S → Option (List ℕ)) (ahead : ByteSource 
   byte-refuses fault h l i f st = fault_then (end_of f) fault (taken_integer l i) (number_below 256) (h l i f st)
 
   -- a number that is no byte
-  pub range-refuses : (new : ByteSource S) (n : Bool × ℕ) (fault : Fault) →
+  pub range-refuses : (new : ByteSource S W) (n : Bool × ℕ) (fault : Fault) →
       ((end : ℕ) → IsFaultOf end fault (number_below 256 n)) →
       TakesAhead (StandsBefore remaining) ahead new taken_integer n →
       RefusesAhead (StandsBefore remaining) ahead taken_byte fault
@@ -240,7 +242,8 @@ bytes-given m some ts i xs (o, js, is, all) = ap (bare_bytes (Some m)) (untagged
     within-is m _ some ∙ ap (take_each (taken_byte (deeper (Some m)))) all
 
 -- an array was entered whose items are read as bytes
-pub record HasOpenedArray {S : Type 0} (remaining : S → Option (List ℕ)) (old mid : ByteSource S) (q : ByteSeq) : Type 0
+pub record HasOpenedArray {S W : Type 0} (remaining : S → Option (List ℕ)) (old mid : ByteSource S W)
+    (q : ByteSeq) : Type 0
   where
     pub kept : IsKept remaining old mid
     pub levels : q.levels ≡ old.levels
@@ -248,15 +251,17 @@ pub record HasOpenedArray {S : Type 0} (remaining : S → Option (List ℕ)) (ol
     pub fewer : weight_left mid < weight_left old
     pub opens : EntersItemsUnread remaining old mid taken_bytes (λ l is. take_each (taken_byte l) is) q
 
-pub array-opened : {S : Type 0} (remaining : S → Option (List ℕ)) (old mid new : ByteSource S) (count : Option ℕ)
+pub array-opened : {S W : Type 0} (can_fail : Bool) (remaining : S → Option (List ℕ)) (old mid new : ByteSource S W)
+    (count : Option ℕ)
     (q : ByteSeq) (h : Header) (offset : ℕ) → h ≡ header.Array count →
-    TakesBare (IsUnread remaining) old mid false h → ReadsBareHead remaining old mid false (Ok (h, offset)) →
+    TakesBare (IsUnread remaining) old mid false h →
+    ReadsBareHead can_fail remaining old mid false (Ok (h, offset)) →
     ((new.decoder ≡ mid.decoder) × (new.pending ≡ mid.pending) × (mid.levels ≢ 0) ×
     (new.levels ≡ mid.levels - 1) × (q.left ≡ parts_left count)) → q.levels ≡ mid.levels →
     HasOpenedArray remaining old new q
-array-opened remaining old mid new count q h offset is head reads entered back = record {
+array-opened {S = S} {W = W} can_fail remaining old mid new count q h offset is head reads entered back = record {
   kept = (
-    ap source_of entered.0 ∙ reads.same_reader,
+    ap (λ (d : Decoder S W). d.reader.ghost_name) entered.0 ∙ reads.same_reader,
     λ first t. subst (HasTaken remaining first) (sym entered.0) (reads.only first t),
   );
   levels = back ∙ reads.levels;
@@ -267,9 +272,9 @@ array-opened remaining old mid new count q h offset is head reads entered back =
       (bytes-given old.levels (λ z. entered.2 (reads.levels ∙ z)));
 }
 
-module _ {S : Type 0} (remaining : S → Option (List ℕ)) (old mid : ByteSource S) (q : ByteSeq)
+module _ {S W : Type 0} (remaining : S → Option (List ℕ)) (old mid : ByteSource S W) (q : ByteSeq)
     (opened : HasOpenedArray remaining old mid q) where
-  pub array-takes : (new : ByteSource S) (v : List ℕ) →
+  pub array-takes : (new : ByteSource S W) (v : List ℕ) →
       ReadsRest remaining mid new q (λ l is. take_each (taken_byte l) is) v →
       TakesAhead (StandsBefore remaining) old new taken_bytes v
   array-takes new v reads l i f st =
@@ -285,7 +290,7 @@ module _ {S : Type 0} (remaining : S → Option (List ℕ)) (old mid : ByteSourc
       opened.fewer taken_bytes (λ k its. take_each (taken_byte k) its) opened.opens l i f st in
       subst (λ o. IsFaultOf (end_of f) fault o) (sym give) (denied l form is f stands holds)
 
-  pub array-took : (new : ByteSource S) → TakesTo (IsUnread remaining) mid new
+  pub array-took : (new : ByteSource S W) → TakesTo (IsUnread remaining) mid new
       (λ c z. (b : List ℕ) → SeqOwes q sequence b c → HasItem b z) → TakesItem (IsUnread remaining) old new
   array-took new took b u =
       let (w, un, owes, rest) = opened.opens b u in
@@ -302,7 +307,7 @@ bytes-other l h bare p q ts i all e = ap (bare_bytes l) (untagged-under ts i) �
 
 -- ---- the byte string
 
-pub bytes-read : {S : Type 0} (remaining : S → Option (List ℕ)) (old mid new : ByteSource S) (len : Option ℕ)
+pub bytes-read : {S W : Type 0} (remaining : S → Option (List ℕ)) (old mid new : ByteSource S W) (len : Option ℕ)
     (payload : List ℕ) → TakesBare (IsUnread remaining) old mid false (header.Bytes len) →
     TakesContent (IsUnread remaining mid) (IsUnread remaining new) string_of_bytes len payload →
     Reads (IsUnread remaining) old new (Some old.levels) taken_bytes payload
@@ -314,46 +319,46 @@ bytes-read remaining old mid new len payload bare content =
 
 -- ---- what is answered to a call for one item
 
-module _ {S T A : Type 0} (remaining : S → Option (List ℕ)) (old new : ByteSource S) (taken : Taken A) (content : T → A)
-  where
-    abbrev pub TakesOne : Result T (Error (Unit {0})) → Type 0
-    TakesOne = TakesOneItem (StandsBefore remaining) (IsUnread remaining) (HasTakenSince remaining) weight_left
-        (fault_at remaining) old new taken content
+module _ {S W T A : Type 0} (can_fail : Bool) (remaining : S → Option (List ℕ)) (old new : ByteSource S W)
+    (taken : Taken A) (content : T → A) where
+  abbrev pub TakesOne : Result T (Error (Unit {0})) → Type 0
+  TakesOne = TakesOneItem (StandsBefore remaining) (IsUnread remaining) (HasTakenSince remaining) weight_left
+      (fault_at can_fail remaining) old new taken content
 
-    pub takes-given : (v : T) → IsKept remaining old new → new.levels ≡ old.levels → new.pending ≡ None →
-        weight_left new < weight_left old →
-        Reads (IsUnread remaining) old new (Some old.levels) taken (content v) → TakesOne (Ok v)
-    takes-given v kept levels none fewer h = record {
-      ok = takes-read remaining old new taken (content v) kept levels none fewer h;
-      refused = tt;
-      took = took-read remaining old new (Some old.levels) taken (content v) h;
-      only = λ first t. kept.1 first.decoder t;
-      less = fewer;
-      no_more = tt;
-    }
+  pub takes-given : (v : T) → IsKept remaining old new → new.levels ≡ old.levels → new.pending ≡ None →
+      weight_left new < weight_left old →
+      Reads (IsUnread remaining) old new (Some old.levels) taken (content v) → TakesOne (Ok v)
+  takes-given v kept levels none fewer h = record {
+    ok = takes-read remaining old new taken (content v) kept levels none h;
+    refused = tt;
+    took = took-read remaining old new (Some old.levels) taken (content v) h;
+    only = λ first t. kept.1 first.decoder t;
+    less = fewer;
+    no_more = tt;
+  }
 
-    pub takes-denied : (e : Error (Unit {0})) → TakesOnly (HasTaken remaining) old.decoder new.decoder →
-        weight_left new ≤ weight_left old →
-        Denies (IsUnread remaining) (end_at remaining) old (Some old.levels) taken (fault_at remaining new e) →
-        TakesOne (Err e)
-    takes-denied e only no_more h = record {
-      ok = tt;
-      refused = refuses-denied remaining old taken (fault_at remaining new e) h;
-      took = tt;
-      only = λ first t. only first.decoder t;
-      less = tt;
-      no_more = no_more;
-    }
+  pub takes-denied : (e : Error (Unit {0})) → TakesOnly (HasTaken remaining) old.decoder new.decoder →
+      weight_left new ≤ weight_left old →
+      Denies (IsUnread remaining) (end_at remaining) old (Some old.levels) taken (fault_at can_fail remaining new e) →
+      TakesOne (Err e)
+  takes-denied e only no_more h = record {
+    ok = tt;
+    refused = refuses-denied remaining old taken (fault_at can_fail remaining new e) h;
+    took = tt;
+    only = λ first t. only first.decoder t;
+    less = tt;
+    no_more = no_more;
+  }
 
-    pub takes-one : (r : Result T (Error (Unit {0}))) → PassesItem remaining old new r →
-        AnswersItem remaining old new (Some old.levels) taken content r → TakesOne r
-    takes-one (Ok v) keeps h = takes-given v (keeps.same_reader, keeps.only) keeps.levels keeps.pending keeps.fewer h
-    takes-one (Err e) keeps h = takes-denied e keeps.only keeps.no_more h
+  pub takes-one : (r : Result T (Error (Unit {0}))) → PassesItem remaining old new r →
+      AnswersItem can_fail remaining old new (Some old.levels) taken content r → TakesOne r
+  takes-one (Ok v) keeps h = takes-given v (keeps.same_reader, keeps.only) keeps.levels keeps.pending keeps.fewer h
+  takes-one (Err e) keeps h = takes-denied e keeps.only keeps.no_more h
 
-    -- the reader is the same at least behind an answer
-    pub takes-behind : (r : Result T (Error (Unit {0}))) → OnOk r (HasSameReader old.decoder new.decoder) →
-        TakesOnly (HasTaken remaining) old.decoder new.decoder → OnErr r (weight_left new ≤ weight_left old) →
-        new.levels ≡ old.levels → OnOk r (new.pending ≡ None) → OnOk r (weight_left new < weight_left old) →
-        AnswersItem remaining old new (Some old.levels) taken content r → TakesOne r
-    takes-behind (Ok v) same only no_more levels none fewer h = takes-given v (same, only) levels none fewer h
-    takes-behind (Err e) same only no_more levels none fewer h = takes-denied e only no_more h
+  -- the reader is the same at least behind an answer
+  pub takes-behind : (r : Result T (Error (Unit {0}))) → OnOk r (HasSameReader old.decoder new.decoder) →
+      TakesOnly (HasTaken remaining) old.decoder new.decoder → OnErr r (weight_left new ≤ weight_left old) →
+      new.levels ≡ old.levels → OnOk r (new.pending ≡ None) → OnOk r (weight_left new < weight_left old) →
+      AnswersItem can_fail remaining old new (Some old.levels) taken content r → TakesOne r
+  takes-behind (Ok v) same only no_more levels none fewer h = takes-given v (same, only) levels none fewer h
+  takes-behind (Err e) same only no_more levels none fewer h = takes-denied e only no_more h

@@ -1,7 +1,7 @@
 -- Containers that are entered behind skipped tags.
 use Rattle.std.proofs.Common.{◌≡◌, OnOk, IfOk, Err, Ok, Result, ◌<◌, ◌+◌, ◌≢◌, ℕ, zero, suc, ◌-◌, Bool, true, false}
 use Rattle.std.proofs.Common.{List, [], ◌∷◌, ◌++◌, map, Option, Some, None, refl, sym, ap, ◌∙◌, subst, append_assoc}
-use Rattle.std.proofs.Common.{◌≤◌, append-nil, arith, length}
+use Rattle.std.proofs.Common.{append-nil, arith}
 use Rattle.std.specs.Vec.Iter.{into_iter_items}
 use Rattle.ciborium_ll.specs.declared.header.Header.{Header}
 use Rattle.ciborium_ll.specs.declared.header.Header.TheVariants as header
@@ -10,11 +10,9 @@ use Rattle.ciborium_ll.specs.Header.{SpellsHeader}
 use Rattle.ciborium_ll.specs.Item as items
 use Rattle.ciborium_ll.specs.Item.{Item, Items, Pairs, unsigned, negative, bytes, text, array, tag, simple, float}
 use Rattle.ciborium_ll.specs.Spells.{Spells}
-use Rattle.ciborium_ll.specs.Decoding.{allowed_of}
 use Rattle.ciborium_ll.specs.StringRefusal.{of_bytes as bytes_kind}
 use Rattle.ciborium_ll.proofs.UniqueSpelling.{one_at_front}
 use Rattle.ciborium_value.specs.Sources.{Enters, EntersMap}
-use Rattle.ciborium.proofs.Items.Due.{held-past}
 use Rattle.ciborium_value.specs.Ahead.{Form, Rest, parts, after, item, inside, of_bytes, pairs}
 use Rattle.ciborium_value.specs.Nesting.{Limit}
 use Rattle.ciborium_value.specs.Places.{is_open, sequence, dictionary}
@@ -27,7 +25,7 @@ use Rattle.ciborium.specs.declared.de.byte_source.Left.{Left}
 use Rattle.ciborium.specs.declared.de.byte_source.Left.TheVariants as left
 use Rattle.ciborium.specs.inner.ByteSources.{IsUnread, IsUnreadBy, StandsBefore, SeqStands, HoldsItems, HoldsPairs}
 use Rattle.ciborium.specs.inner.ByteSources.{SeqOwes, LeftOwes, OwesParts, EntersItemsUnread, EntersPairsUnread}
-use Rattle.ciborium.specs.inner.ByteSources.{HasBytes, parts_left, due_parts, items_due_behind, pending_count}
+use Rattle.ciborium.specs.inner.ByteSources.{HasBytes, parts_left}
 use Rattle.ciborium.specs.inner.ByteSources.{weight_left, reader_of, seq_left}
 use Rattle.ciborium.specs.inner.Skips.{under, AreSkipped, IsBare, TakesBare, EntersUnread}
 use Rattle.ciborium.specs.inner.StringContents.{TakesContent}
@@ -193,16 +191,18 @@ pairs-held q None e xs h = subst (λ k. HoldsPairs k (form_of None) xs) (sym e) 
 -- ---- arrays, byte strings and maps
 
 -- a container was entered, and its level was taken
-abbrev pub IsEntered : {S : Type 0} → ByteSource S → ByteSource S → Option ℕ → ByteSeq → Type 0
+abbrev pub IsEntered : {S W : Type 0} → ByteSource S W → ByteSource S W → Option ℕ → ByteSeq → Type 0
 IsEntered mid new count q = (new.decoder ≡ mid.decoder) × (new.pending ≡ mid.pending) × (mid.levels ≢ 0) ×
     (new.levels ≡ mid.levels - 1) × (q.left ≡ parts_left count)
 
-pub same-unread : {S : Type 0} (remaining : S → Option (List ℕ)) (mid new : ByteSource S) → new.decoder ≡ mid.decoder →
+pub same-unread : {S W : Type 0} (remaining : S → Option (List ℕ)) (mid new : ByteSource S W) →
+    new.decoder ≡ mid.decoder →
     new.pending ≡ mid.pending → (y : List ℕ) → IsUnread remaining mid y → IsUnread remaining new y
 same-unread remaining mid new e f y u = subst (λ d. IsUnreadBy remaining d new.pending y) (sym e)
     (subst (λ o. IsUnreadBy remaining mid.decoder o y) (sym f) u)
 
-module _ {S : Type 0} (remaining : S → Option (List ℕ)) (old mid new : ByteSource S) (count : Option ℕ) (q : ByteSeq)
+module _ {S W : Type 0} (remaining : S → Option (List ℕ)) (old mid new : ByteSource S W) (count : Option ℕ)
+    (q : ByteSeq)
     (same : mid.levels ≡ old.levels) (is : IsEntered mid new count q) where
   pub array-entered : {A : Type 0} (taken : Taken A) (f : Limit → List Item → Outcome A) →
       TakesBare (IsUnread remaining) old mid false (header.Array count) →
@@ -246,7 +246,8 @@ bytes-had left.Open P h = absurd h
 bytes-had (left.Bytes v) P h = (v, refl, h)
 
 -- the bytes of a byte string that was read whole
-pub bytes-entered : {S : Type 0} (remaining : S → Option (List ℕ)) (old mid new : ByteSource S) (q : ByteSeq) (v : _)
+pub bytes-entered : {S W : Type 0} (remaining : S → Option (List ℕ)) (old mid new : ByteSource S W) (q : ByteSeq)
+    (v : _)
     (len : Option ℕ) (payload : List ℕ) → q.left ≡ left.Bytes v → into_iter_items v ≡ payload →
     new.levels ≡ old.levels →
     TakesBare (IsUnread remaining) old mid false (header.Bytes len) →
@@ -312,7 +313,7 @@ map-other l h bare p ts i all e = ap (bare_pairs l) (untagged-under ts i) ∙
 
 -- ---- where the source then stands
 
-module _ {S : Type 0} (remaining : S → Option (List ℕ)) (old new : ByteSource S) (q : ByteSeq)
+module _ {S W : Type 0} (remaining : S → Option (List ℕ)) (old new : ByteSource S W) (q : ByteSeq)
     (kept : IsKept remaining old new) (levels : q.levels ≡ old.levels) (none : new.pending ≡ None)
     (fewer : weight_left new < weight_left old) where
   -- what was entered, whatever its parts are: f takes them, and the source stands before them
@@ -322,10 +323,9 @@ module _ {S : Type 0} (remaining : S → Option (List ℕ)) (old new : ByteSourc
       (l : Limit) (i : Item) (r : Rest) → StandsBefore remaining old l (item i r) →
       (form : Form) × (xs : List X) × (taken l i ≡ f (inside form l) xs) × ((w : List ℕ) × IsUnread remaining new w ×
       ((c : List ℕ) × (t : List ℕ) × AreLeft SpellsPart form c xs × IsRest (reader_of remaining new.decoder) t r ×
-      (w ≡ c ++ (ending form ++ t))) × (inside form l ≡ Some new.levels) × (new.pending ≡ None) ×
-      (allowed_of new.decoder + pending_count new.pending ≤ due_parts form (length xs) + items_due_behind r)) ×
+      (w ≡ c ++ (ending form ++ t))) × (inside form l ≡ Some new.levels) × (new.pending ≡ None)) ×
       ((l ≡ Some q.levels) × Holds q form xs)
-  parts-stand Owes SpellsPart Holds taken f h l i r (b, u, (s, t, sp, rest, e), is, ahead, few) =
+  parts-stand Owes SpellsPart Holds taken f h l i r (b, u, (s, t, sp, rest, e), is, ahead) =
       let (w, un, owes, opens) = h b u in
       let (form, xs, c, give, lv, stand, split, hold) = opens i s t sp e in (
         form,
@@ -337,7 +337,6 @@ module _ {S : Type 0} (remaining : S → Option (List ℕ)) (old new : ByteSourc
           (c, t, stand, subst (λ n. IsRest n t r) (sym (kept-reader remaining old new kept b u)) rest, split),
           ap (inside form) is ∙ lv,
           none,
-          (let less = held-past old new kept.0 (items_due_behind r) none fewer few in omega (arith, less)),
         ),
         (is ∙ ap Some (sym levels), hold),
       )
@@ -359,7 +358,8 @@ module _ {S : Type 0} (remaining : S → Option (List ℕ)) (old new : ByteSourc
   pairs-stand = parts-stand (λ p. SeqOwes p dictionary) SpellsPair (λ p. HoldsPairs p.left)
 
 -- what is answered where a sequence was entered, and where a map was
-module _ {S : Type 0} (remaining : S → Option (List ℕ)) (old new : ByteSource S) (kept : IsKept remaining old new) where
+module _ {S W : Type 0} (remaining : S → Option (List ℕ)) (old new : ByteSource S W)
+    (kept : IsKept remaining old new) where
   pub enters : (E : Type 0) (r : Result ByteSeq E) → IfOk r (λ q. q.levels ≡ old.levels) → OnOk r (new.pending ≡ None) →
       IfOk r (λ q. weight_left new + seq_left q < weight_left old) →
       IfOk r (EntersItemsUnread remaining old new taken_seq (λ l is. gives (l, is))) →

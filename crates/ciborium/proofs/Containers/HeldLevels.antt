@@ -1,17 +1,15 @@
 -- Tags that are entered, and the levels of tags and variants.
-use Rattle.std.proofs.Common.{◌≡◌, ◌≤◌, ◌≢◌, ℕ, List, ◌++◌, Option, Some, None, Result, Ok, Err, IfOk, OnOk, refl, sym}
+use Rattle.std.proofs.Common.{◌≡◌, ◌≢◌, ℕ, List, ◌++◌, Option, Some, None, Result, Ok, Err, IfOk, OnOk, refl, sym}
 use Rattle.std.proofs.Common.{ap, ◌∙◌, subst, append_assoc, arith}
 use Rattle.ciborium_ll.specs.declared.header.Header.{Header}
 use Rattle.ciborium_ll.specs.declared.header.Header.TheVariants as header
 use Rattle.ciborium_ll.specs.Header.{SpellsHeader}
 use Rattle.ciborium_ll.specs.Item.{Item, tag}
-use Rattle.ciborium.proofs.Items.Due.{held-level}
 use Rattle.ciborium_value.specs.Sources.{Completes, Holds, GivesBack, TakesTo}
 use Rattle.ciborium_value.specs.Taken.{Taken, gives, deeper, within_level, outer_tag, taken_outer_tag}
 use Rattle.ciborium.specs.declared.de.byte_source.ByteSource.{ByteSource}
 use Rattle.ciborium.specs.declared.de.byte_source.ByteLevel.{ByteLevel}
-use Rattle.ciborium.specs.inner.ByteSources.{IsUnread, StandsBefore, LevelStands, TakesLevel, items_due_behind}
-use Rattle.ciborium.specs.inner.ByteSources.{weight_left}
+use Rattle.ciborium.specs.inner.ByteSources.{IsUnread, StandsBefore, LevelStands, TakesLevel}
 use Rattle.ciborium.specs.inner.FrontItems.{TakesHead, Denies}
 use Rattle.ciborium.specs.inner.Skips.{EntersLevelUnread}
 use Rattle.ciborium.specs.inner.Unread.{IsRest}
@@ -21,7 +19,7 @@ use Rattle.ciborium.proofs.Items.TakenOnly.{IsKept, kept-reader}
 
 -- ---- where the source then stands
 
-module _ {S : Type 0} (remaining : S → Option (List ℕ)) (old new : ByteSource S) where
+module _ {S W : Type 0} (remaining : S → Option (List ℕ)) (old new : ByteSource S W) where
   pub completes-opened : {A : Type 0} (l : _) (taken : Taken (A × Item)) (v : A) →
       EntersLevelUnread (IsUnread remaining) old new l taken v → TakesTo (IsUnread remaining) old new Completes
   completes-opened l taken v h b u =
@@ -29,10 +27,10 @@ module _ {S : Type 0} (remaining : S → Option (List ℕ)) (old new : ByteSourc
       (w, un, λ z (i, s, sp, e). let (j, t, sq, f) = leads.outward i s z sp e in (j, t, sq, f))
 
   pub holds-opened : {A : Type 0} (taken : Taken (A × Item)) (v : A) (level : ByteLevel) → IsKept remaining old new →
-      weight_left new ≤ weight_left old → TakesLevel old new level →
+      TakesLevel old new level →
       EntersLevelUnread (IsUnread remaining) old new (Some old.levels) taken v →
       Holds (StandsBefore remaining) LevelStands old new taken v level
-  holds-opened taken v level kept fewer (back, less) h l i f (b, u, (s, r, sp, rest, e), is, ahead, few) =
+  holds-opened taken v level kept (back, less) h l i f (b, u, (s, r, sp, rest, e), is, ahead) =
       let (w, un, leads) = h b u in
       let (j, t, give, sq, split) = leads.inward i s r sp e in (
         j,
@@ -43,7 +41,6 @@ module _ {S : Type 0} (remaining : S → Option (List ℕ)) (old new : ByteSourc
           (t, r, sq, subst (λ n. IsRest n r f) (sym (kept-reader remaining old new kept b u)) rest, split),
           ap deeper is ∙ deeper-is old.levels (λ z. absurd (omega (arith, z, less))) ∙ ap Some (omega (arith, less)),
           tt,
-          held-level old new kept.0 (items_due_behind f) fewer few,
         ),
         is ∙ ap Some (sym back),
       )

@@ -70,7 +70,8 @@ null-head : SpellsHeader (0xf6 ∷ []) (header.Simple 22)
 null-head = inl (omega arith, refl)
 
 -- it is pending, with an offset
-pub null-unread : {S : Type 0} (remaining : S → Option (List ℕ)) (d : Decoder S) (pending : Option (Header × ℕ)) (p : ℕ)
+pub null-unread : {S W : Type 0} (remaining : S → Option (List ℕ)) (d : Decoder S W) (pending : Option (Header × ℕ))
+    (p : ℕ)
     (z : List ℕ) → pending ≡ None → IsUnreadBy remaining d pending z →
     IsUnreadBy remaining d (Some (header.Simple 22, p)) (0xf6 ∷ z)
 null-unread remaining d pending p z none u = (

@@ -1,7 +1,7 @@
 -- The next part of a container that is read, or its end.
-use Rattle.std.proofs.Common.{◌≡◌, ◌≤◌, ◌+◌, ◌≢◌, ℕ, suc, ◌-◌, ◌<◌, Bool, false, is_some, List, [], ◌∷◌, ◌++◌, length}
+use Rattle.std.proofs.Common.{◌≡◌, ◌≤◌, ◌≢◌, ℕ, suc, ◌-◌, ◌<◌, Bool, false, is_some, List, [], ◌∷◌, ◌++◌, length}
 use Rattle.std.proofs.Common.{map, Option, Some, None, refl, sym, ap, ◌∙◌, subst, append_assoc, append-nil, arith, inl}
-use Rattle.std.proofs.Common.{inr, ◌⊎◌, Result, Ok, Err, IfOk, IfErr, MatchBool, true, length-append}
+use Rattle.std.proofs.Common.{inr, ◌⊎◌, length-append}
 use Rattle.std.specs.Vec.Iter.{into_iter_items}
 use Rattle.ciborium_ll.specs.declared.header.Header.{Header}
 use Rattle.ciborium_ll.specs.declared.header.Header.TheVariants as header
@@ -11,8 +11,6 @@ use Rattle.ciborium_ll.specs.Item.{Item, unsigned}
 use Rattle.ciborium_ll.specs.Spells.{Spells}
 use Rattle.ciborium_ll.proofs.OneHeader.{one_header_at_front}
 use Rattle.ciborium_ll.proofs.UniqueSpelling.{one_at_front}
-use Rattle.ciborium.proofs.Items.Due.{due-most, due-next, due-none, due-past, held-byte, held-head, held-pending}
-use Rattle.ciborium.proofs.Items.Due.{held-same}
 use Rattle.ciborium_value.specs.Ahead.{Form, Rest, bottom, parts, pairs, entry, held, item, past, inside}
 use Rattle.ciborium_value.specs.Nesting.{Limit}
 use Rattle.ciborium_value.specs.Places.{Shape, sequence, dictionary}
@@ -23,11 +21,11 @@ use Rattle.ciborium.specs.declared.de.byte_source.ByteSeq.{ByteSeq}
 use Rattle.ciborium.specs.declared.de.byte_source.Left.TheVariants as left
 use Rattle.ciborium.specs.inner.ByteSources.{IsHeadCounted, IsUnread, IsUnreadBy, StandsBefore, SeqStands}
 use Rattle.ciborium.specs.inner.ByteSources.{HasNoneBehind, HoldsItems, HoldsPairs, HoldsParts, SeqOwes, LeftOwes}
-use Rattle.ciborium.specs.inner.ByteSources.{OwesParts, bytes_weight, items_due_behind, due_parts, pending_count}
-use Rattle.ciborium.specs.inner.ByteSources.{head_weight, weight_left, StandsStill, end_at, reader_of}
+use Rattle.ciborium.specs.inner.ByteSources.{OwesParts}
+use Rattle.ciborium.specs.inner.ByteSources.{end_at, reader_of}
 use Rattle.ciborium.specs.inner.FrontItems.{TakesHead, DeniesHead}
 use Rattle.ciborium.specs.inner.Unread.{AreSpelled, AreLeft, SpellsPair, FitsAhead, IsRest, ending, form_of, HasCount}
-use Rattle.ciborium_ll.specs.Decoding.{left_of, allowed_of, source_of}
+use Rattle.ciborium_ll.specs.Decoding.{left_of}
 use Rattle.ciborium.proofs.Items.TakenOnly.{IsKept, kept-reader, rest-end}
 use Rattle.ciborium.proofs.Items.ItemHeads.{header_of, first-head, first-payload, same-head, no-break-head}
 
@@ -171,22 +169,19 @@ module _ {X : Type 0} (SpellsPart : List ℕ → X → Type 0) where
 -- ---- where the source stands before the next part
 
 -- the same decoder, or one that read on; its levels are those of before
-record IsAheadOf {S : Type 0} (remaining : S → Option (List ℕ)) (old new : ByteSource S) (b : List ℕ) : Type 0 where
+record IsAheadOf {S W : Type 0} (remaining : S → Option (List ℕ)) (old new : ByteSource S W) (b : List ℕ) : Type 0 where
   reader : reader_of remaining new.decoder ≡ reader_of remaining old.decoder
   levels : new.levels ≡ old.levels
   unread : IsUnread remaining new b
-  held : (n : ℕ) → allowed_of old.decoder + pending_count old.pending ≤ 1 + n →
-      allowed_of new.decoder + pending_count new.pending ≤ 1 + n
 
-module _ {S : Type 0} (remaining : S → Option (List ℕ)) (old new : ByteSource S) (rest : Option ℕ) (b r : List ℕ)
+module _ {S W : Type 0} (remaining : S → Option (List ℕ)) (old new : ByteSource S W) (rest : Option ℕ) (b r : List ℕ)
     (f : Rest) (ahead : IsAheadOf remaining old new b) (q q' : ByteSeq) (same : q'.levels ≡ q.levels) where
   stands-item : (l : Limit) (form : Form) (xs : List Item) → form ≡ form_of rest → HasNext Spells rest xs b r →
       IsRest (reader_of remaining old.decoder) r f → inside form l ≡ Some old.levels →
-      allowed_of old.decoder + pending_count old.pending ≤ due_parts form (length xs) + items_due_behind f →
       l ≡ Some q.levels → ((ys : List Item) → HasCount rest ys → HoldsItems q'.left form ys) →
       (i : Item) × (js : List Item) × (xs ≡ i ∷ js) × StandsBefore remaining new (inside form l)
       (item i (parts form js f)) × SeqStands q' l (parts form js f)
-  stands-item l form xs is (x, ys, whole, (a, c, sp, left, e), count) behind lv few lq hold = (
+  stands-item l form xs is (x, ys, whole, (a, c, sp, left, e), count) behind lv lq hold = (
     x,
     ys,
     whole,
@@ -208,20 +203,16 @@ module _ {S : Type 0} (remaining : S → Option (List ℕ)) (old new : ByteSourc
       ),
       lv ∙ ap Some (sym ahead.levels),
       tt,
-      ahead.held (due_parts form (length ys) + items_due_behind f)
-          (let len : length xs ≡ 1 + length ys = omega (arith, ap length whole) in let next =
-          due-next form rest is (length ys) in omega (arith, few, ap (due_parts form) len, next)),
     ),
     (lq ∙ ap Some (sym same), hold ys count),
   )
 
   stands-pair : (l : Limit) (form : Form) (xs : List (Item × Item)) → form ≡ form_of rest →
       HasNext SpellsPair rest xs b r → IsRest (reader_of remaining old.decoder) r f → inside form l ≡ Some old.levels →
-      allowed_of old.decoder + pending_count old.pending ≤ due_parts form (length xs) + items_due_behind f →
       l ≡ Some q.levels → ((ys : List (Item × Item)) → HasCount rest ys → HoldsPairs q'.left form ys) →
       (k : Item) × (v : Item) × (qs : List (Item × Item)) × (xs ≡ (k, v) ∷ qs) ×
       StandsBefore remaining new (inside form l) (item k (entry v form qs f)) × SeqStands q' l (pairs form qs f)
-  stands-pair l form xs is (x, ys, whole, (a, c, (s, t, sp, sq, g), left, e), count) behind lv few lq hold = (
+  stands-pair l form xs is (x, ys, whole, (a, c, (s, t, sp, sq, g), left, e), count) behind lv lq hold = (
     x.0,
     x.1,
     ys,
@@ -251,68 +242,59 @@ module _ {S : Type 0} (remaining : S → Option (List ℕ)) (old new : ByteSourc
       ),
       lv ∙ ap Some (sym ahead.levels),
       tt,
-      ahead.held (1 + (due_parts form (length ys) + items_due_behind f))
-          (let len : length xs ≡ 1 + length ys = omega (arith, ap length whole) in let next =
-          due-next form rest is (length ys) in omega (arith, few, ap (due_parts form) len, next)),
     ),
     (lq ∙ ap Some (sym same), hold ys count),
   )
 
 -- behind the last part
-stands-past : {S : Type 0} (remaining : S → Option (List ℕ)) (old new : ByteSource S) (l : Limit) (q : ByteSeq)
+stands-past : {S W : Type 0} (remaining : S → Option (List ℕ)) (old new : ByteSource S W) (l : Limit) (q : ByteSeq)
     (b : List ℕ) (f : Rest) → reader_of remaining new.decoder ≡ reader_of remaining old.decoder →
-    new.levels ≡ q.levels → new.pending ≡ None → allowed_of new.decoder + pending_count new.pending ≤ items_due_behind f
-    →
+    new.levels ≡ q.levels → new.pending ≡ None →
     IsUnread remaining new b → IsRest (reader_of remaining old.decoder) b f → l ≡ Some q.levels →
     StandsBefore remaining new l (past f)
-stands-past remaining old new l q b f name levels none few un rest lq = (
+stands-past remaining old new l q b f name levels none un rest lq = (
   b,
   un,
   subst (λ n. FitsAhead n b (past f)) (sym name) (fits-past (reader_of remaining old.decoder) b f rest),
   lq ∙
       ap Some (sym levels),
   none-past new.pending none f,
-  subst (λ n. allowed_of new.decoder + pending_count new.pending ≤ n) (sym (due-past f)) few,
 )
 
 -- ---- so many parts
 
-module _ {S : Type 0} (remaining : S → Option (List ℕ)) where
-  pub goes-counted : (old : ByteSource S) (q q' : ByteSeq) (n : ℕ) → q.left ≡ left.Counted n → n ≢ 0 →
+module _ {S W : Type 0} (remaining : S → Option (List ℕ)) where
+  pub goes-counted : (old : ByteSource S W) (q q' : ByteSeq) (n : ℕ) → q.left ≡ left.Counted n → n ≢ 0 →
       q'.left ≡ left.Counted (n - 1) → q'.levels ≡ q.levels → GoesOn (StandsBefore remaining) SeqStands old old q q'
   goes-counted old q q' n is some is' levels = (
-    λ l form its f (b, u, (s, r, stand, rest, e), lv, none, few) (lq, hold).
+    λ l form its f (b, u, (s, r, stand, rest, e), lv, none) (lq, hold).
         let held : HoldsParts (Some n) form its = subst (λ k. HoldsItems k form its) is hold in
         stands-item remaining old old (Some (n - 1)) b r f
-        (record { reader = refl; levels = refl; unread = u; held = λ m few. few }) q q' levels l form its held.0
-        (counted-next Spells n form its s r b some held stand e) rest lv few lq
+        (record { reader = refl; levels = refl; unread = u }) q q' levels l form its held.0
+        (counted-next Spells n form its s r b some held stand e) rest lv lq
         (λ ys count. subst (λ k. HoldsItems k form ys) (sym is') (held.0, count)),
-    λ l form its f (b, u, (s, r, stand, rest, e), lv, none, few) (lq, hold).
+    λ l form its f (b, u, (s, r, stand, rest, e), lv, none) (lq, hold).
         let held : HoldsParts (Some n) form its = subst (λ k. HoldsPairs k form its) is hold in
         stands-pair remaining old old (Some (n - 1)) b r f
-        (record { reader = refl; levels = refl; unread = u; held = λ m few. few }) q q' levels l form its held.0
-        (counted-next SpellsPair n form its s r b some held stand e) rest lv few lq
+        (record { reader = refl; levels = refl; unread = u }) q q' levels l form its held.0
+        (counted-next SpellsPair n form its s r b some held stand e) rest lv lq
         (λ ys count. subst (λ k. HoldsPairs k form ys) (sym is') (held.0, count)),
   )
 
-  pub leaves-counted : (old new : ByteSource S) (q : ByteSeq) → q.left ≡ left.Counted 0 → new.decoder ≡ old.decoder →
+  pub leaves-counted : (old new : ByteSource S W) (q : ByteSeq) → q.left ≡ left.Counted 0 → new.decoder ≡ old.decoder →
       new.pending ≡ old.pending → new.levels ≡ q.levels → Leaves (StandsBefore remaining) SeqStands old new q
   leaves-counted old new q is same same' levels = (
-    λ l form its f (b, u, (s, r, stand, rest, e), lv, none, few) (lq, hold).
+    λ l form its f (b, u, (s, r, stand, rest, e), lv, none) (lq, hold).
         let (empty, all) = counted-end Spells form its s r b (subst (λ k. HoldsItems k form its) is hold) stand e in (
           empty,
-          stands-past remaining old new l q b f (ap (reader_of remaining) same) levels (same' ∙ none)
-              (held-same old new (ap source_of same) (items_due_behind f) (ap (λ d. d.window.count) same) same'
-              (let most = due-most form (length its) in omega (arith, few, most, ap length empty))) (into b u)
+          stands-past remaining old new l q b f (ap (reader_of remaining) same) levels (same' ∙ none) (into b u)
               (subst (λ k. IsRest (reader_of remaining old.decoder) k f) (sym all) rest) lq,
         ),
-    λ l form its f (b, u, (s, r, stand, rest, e), lv, none, few) (lq, hold).
+    λ l form its f (b, u, (s, r, stand, rest, e), lv, none) (lq, hold).
         let held = subst (λ k. HoldsPairs k form its) is hold in
         let (empty, all) = counted-end SpellsPair form its s r b held stand e in (
           empty,
-          stands-past remaining old new l q b f (ap (reader_of remaining) same) levels (same' ∙ none)
-              (held-same old new (ap source_of same) (items_due_behind f) (ap (λ d. d.window.count) same) same'
-              (let most = due-most form (length its) in omega (arith, few, most, ap length empty))) (into b u)
+          stands-past remaining old new l q b f (ap (reader_of remaining) same) levels (same' ∙ none) (into b u)
               (subst (λ k. IsRest (reader_of remaining old.decoder) k f) (sym all) rest) lq,
         ),
   )
@@ -374,76 +356,69 @@ nothing-allowed P q is b u = (b, u, λ s a owed. counted-nothing s a b (subst (�
 
 -- ---- up to a break
 
-module _ {S : Type 0} (remaining : S → Option (List ℕ)) where
-  pub leaves-open : (old mid new : ByteSource S) (q : ByteSeq) → q.left ≡ left.Open → IsKept remaining old new →
-      bytes_weight new + head_weight header.Break ≤ weight_left old →
+module _ {S W : Type 0} (remaining : S → Option (List ℕ)) where
+  pub leaves-open : (old mid new : ByteSource S W) (q : ByteSeq) → q.left ≡ left.Open → IsKept remaining old new →
       TakesHead (IsUnread remaining) old mid header.Break → new.levels ≡ q.levels → new.pending ≡ None →
       ((y : List ℕ) → IsUnread remaining mid y → IsUnread remaining new y) →
       Leaves (StandsBefore remaining) SeqStands old new q
-  leaves-open old mid new q is kept fewer took levels none into = (
-    λ l form its f (b, u, (s, r, stand, rest, e), lv, ahead, few) (lq, hold).
+  leaves-open old mid new q is kept took levels none into = (
+    λ l form its f (b, u, (s, r, stand, rest, e), lv, ahead) (lq, hold).
         let (x, y, hd, g, un) = took b u in
         let (empty, all) = open-end Spells item-begins form its s r b x y (subst (λ k. HoldsItems k form its) is hold)
         stand e hd g in (
           empty,
-          stands-past remaining old new l q y f (kept-reader remaining old new kept b u) levels none
-              (held-head old new kept.0 (items_due_behind f) header.Break none fewer
-              (let most = due-most form (length its) in omega (arith, few, most, ap length empty))) (into y un)
+          stands-past remaining old new l q y f (kept-reader remaining old new kept b u) levels none (into y un)
               (subst (λ k. IsRest (reader_of remaining old.decoder) k f) (sym all) rest) lq,
         ),
-    λ l form its f (b, u, (s, r, stand, rest, e), lv, ahead, few) (lq, hold).
+    λ l form its f (b, u, (s, r, stand, rest, e), lv, ahead) (lq, hold).
         let (x, y, hd, g, un) = took b u in
         let (empty, all) = open-end SpellsPair pair-begins form its s r b x y
         (subst (λ k. HoldsPairs k form its) is hold) stand e hd g in (
           empty,
-          stands-past remaining old new l q y f (kept-reader remaining old new kept b u) levels none
-              (held-head old new kept.0 (items_due_behind f) header.Break none fewer
-              (let most = due-most form (length its) in omega (arith, few, most, ap length empty))) (into y un)
+          stands-past remaining old new l q y f (kept-reader remaining old new kept b u) levels none (into y un)
               (subst (λ k. IsRest (reader_of remaining old.decoder) k f) (sym all) rest) lq,
         ),
   )
 
-  pub goes-open : (old mid new : ByteSource S) (q q' : ByteSeq) (h : Header) → q.left ≡ left.Open →
+  pub goes-open : (old mid new : ByteSource S W) (q q' : ByteSeq) (h : Header) → q.left ≡ left.Open →
       q'.left ≡ left.Open → q'.levels ≡ q.levels → IsKept remaining old new →
-      bytes_weight new + head_weight h ≤ weight_left old → new.levels ≡ old.levels →
+      new.levels ≡ old.levels →
       TakesHead (IsUnread remaining) old mid h → h ≢ header.Break →
       ((b x y : List ℕ) → IsUnread remaining old b → SpellsHeader x h → b ≡ x ++ y → IsUnread remaining mid y →
       IsUnread remaining new b) → GoesOn (StandsBefore remaining) SeqStands old new q q'
-  goes-open old mid new q q' h is is' levels same fewer kept took other back = (
-    λ l form its f (b, u, (s, r, stand, rest, e), lv, none, few) (lq, hold).
+  goes-open old mid new q q' h is is' levels same kept took other back = (
+    λ l form its f (b, u, (s, r, stand, rest, e), lv, none) (lq, hold).
         let (x, y, hd, g, un) = took b u in
         let held : HoldsParts None form its = subst (λ k. HoldsItems k form its) is hold in
         stands-item remaining old new None b r f (record {
           reader = kept-reader remaining old new same b u;
           levels = kept;
           unread = back b x y u hd g un;
-          held = λ n. held-pending old new same.0 n h fewer;
         }) q q' levels l form its held.0
-        (open-next Spells item-begins form its s r b x y h held stand e hd other g) rest lv few lq
+        (open-next Spells item-begins form its s r b x y h held stand e hd other g) rest lv lq
         (λ ys count. subst (λ k. HoldsItems k form ys) (sym is') (held.0, count)),
-    λ l form its f (b, u, (s, r, stand, rest, e), lv, none, few) (lq, hold).
+    λ l form its f (b, u, (s, r, stand, rest, e), lv, none) (lq, hold).
         let (x, y, hd, g, un) = took b u in
         let held : HoldsParts None form its = subst (λ k. HoldsPairs k form its) is hold in
         stands-pair remaining old new None b r f (record {
           reader = kept-reader remaining old new same b u;
           levels = kept;
           unread = back b x y u hd g un;
-          held = λ n. held-pending old new same.0 n h fewer;
         }) q q' levels l form its held.0
-        (open-next SpellsPair pair-begins form its s r b x y h held stand e hd other g) rest lv few lq
+        (open-next SpellsPair pair-begins form its s r b x y h held stand e hd other g) rest lv lq
         (λ ys count. subst (λ k. HoldsPairs k form ys) (sym is') (held.0, count)),
   )
 
-  pub no-next : (old : ByteSource S) (q : ByteSeq) (fault : Fault) → q.left ≡ left.Open →
+  pub no-next : (old : ByteSource S W) (q : ByteSeq) (fault : Fault) → q.left ≡ left.Open →
       DeniesHead (IsUnread remaining) (end_at remaining) old fault →
       RefusesNext (StandsBefore remaining) SeqStands old q fault
   no-next old q fault is denied = (
-    λ l form its f (b, u, (s, r, stand, rest, e), lv, ahead, few) (lq, hold).
+    λ l form its f (b, u, (s, r, stand, rest, e), lv, ahead) (lq, hold).
         let (h, x, y, hd, g, there) = open-head Spells item-begins form its s r b
         (subst (λ k. HoldsItems k form its) is hold) stand e in
         subst (λ n. IsOutsideFault n fault) (sym (rest-end (reader_of remaining old.decoder) r f rest))
         (denied b x y h u hd g there),
-    λ l form its f (b, u, (s, r, stand, rest, e), lv, ahead, few) (lq, hold).
+    λ l form its f (b, u, (s, r, stand, rest, e), lv, ahead) (lq, hold).
         let (h, x, y, hd, g, there) = open-head SpellsPair pair-begins form its s r b
         (subst (λ k. HoldsPairs k form its) is hold) stand e in
         subst (λ n. IsOutsideFault n fault) (sym (rest-end (reader_of remaining old.decoder) r f rest))
@@ -475,14 +450,14 @@ wide n = head_in eight_bytes 0 n
 pub wide-head : (n : ℕ) → n < 18446744073709551616 → IsHead (wide n) 0 n
 wide-head n lt = (eight_bytes, lt, refl)
 
-module _ {S : Type 0} (remaining : S → Option (List ℕ)) where
-  pub goes-bytes : (old new : ByteSource S) (q q' : ByteSeq) (v w : _) (n p : ℕ) → q.left ≡ left.Bytes v →
+module _ {S W : Type 0} (remaining : S → Option (List ℕ)) where
+  pub goes-bytes : (old new : ByteSource S W) (q q' : ByteSeq) (v w : _) (n p : ℕ) → q.left ≡ left.Bytes v →
       q'.left ≡ left.Bytes w → q'.levels ≡ q.levels → into_iter_items v ≡ n ∷ into_iter_items w →
       n < 18446744073709551616 →
       new.decoder ≡ old.decoder → new.levels ≡ old.levels → new.pending ≡ Some (header.Positive n, p) →
       GoesOn (StandsBefore remaining) SeqStands old new q q'
   goes-bytes old new q q' v w n p is is' levels first lt same kept pushed = (
-    λ l form its f (b, u, (s, r, stand, rest, e), lv, none, few) (lq, hold).
+    λ l form its f (b, u, (s, r, stand, rest, e), lv, none) (lq, hold).
         let held : HoldsItems (left.Bytes v) form its = subst (λ k. HoldsItems k form its) is hold in
         let known : left_of remaining old.decoder ≡ Some b = subst (λ o. IsUnreadBy remaining old.decoder o b) none u in
         let known' : left_of remaining new.decoder ≡ Some b = ap (λ d. left_of remaining d) same ∙ known in
@@ -511,9 +486,6 @@ module _ {S : Type 0} (remaining : S → Option (List ℕ)) where
             ),
             lv ∙ ap Some (sym kept),
             tt,
-            held-byte old new (due_parts form (length (map unsigned (into_iter_items w))) + items_due_behind f) same
-                (ap pending_count none) (ap pending_count pushed)
-                (let gone = due-none form (length its) held.0 in omega (arith, few, gone)),
           ),
           (
             lq ∙ ap Some (sym levels),
@@ -521,26 +493,25 @@ module _ {S : Type 0} (remaining : S → Option (List ℕ)) where
                 (held.0, refl),
           ),
         ),
-    λ l form its f (b, u, (s, r, stand, rest, e), lv, none, few) (lq, hold). absurd
+    λ l form its f (b, u, (s, r, stand, rest, e), lv, none) (lq, hold). absurd
         (subst (λ k. HoldsPairs k form its) is hold),
   )
 
-module _ {S : Type 0} (remaining : S → Option (List ℕ)) where
-  pub leaves-bytes : (old : ByteSource S) (q : ByteSeq) (v : _) → q.left ≡ left.Bytes v → into_iter_items v ≡ [] →
+module _ {S W : Type 0} (remaining : S → Option (List ℕ)) where
+  pub leaves-bytes : (old : ByteSource S W) (q : ByteSeq) (v : _) → q.left ≡ left.Bytes v → into_iter_items v ≡ [] →
       Leaves (StandsBefore remaining) SeqStands old old q
   leaves-bytes old q v is nothing = (
-    λ l form its f (b, u, (s, r, stand, rest, e), lv, none, few) (lq, hold).
+    λ l form its f (b, u, (s, r, stand, rest, e), lv, none) (lq, hold).
         let held : HoldsItems (left.Bytes v) form its = subst (λ k. HoldsItems k form its) is hold in
         let empty : s ≡ [] = subst (λ k. AreLeft Spells k s its) held.0 stand in
         let all : b ≡ r = e ∙ ap (λ (k : List ℕ). k ++ (ending form ++ r)) empty ∙ ap (λ k. ending k ++ r) held.0 in
         let at : l ≡ Some old.levels = ap (λ k. inside k l) (sym held.0) ∙ lv in
         let levels : old.levels ≡ q.levels = same-level old.levels q.levels (sym at ∙ lq) in (
           sym held.1 ∙ ap (map unsigned) nothing,
-          stands-past remaining old old l q b f refl levels none
-              (let gone = due-none form (length its) held.0 in omega (arith, few, gone)) u
+          stands-past remaining old old l q b f refl levels none u
               (subst (λ k. IsRest (reader_of remaining old.decoder) k f) (sym all) rest) lq,
         ),
-    λ l form its f (b, u, (s, r, stand, rest, e), lv, none, few) (lq, hold). absurd
+    λ l form its f (b, u, (s, r, stand, rest, e), lv, none) (lq, hold). absurd
         (subst (λ k. HoldsPairs k form its) is hold),
   )
     where
@@ -565,8 +536,9 @@ less-bytes P Q q q' v w n is is' lt into b u = (
 
 -- ---- heads that are put aside
 
-pub aside-unread : {S : Type 0} (remaining : S → Option (List ℕ)) (s : _) (pending : Option (Header × ℕ)) (h : Header)
-    (p : ℕ) (b x y : List ℕ) → pending ≡ None → SpellsHeader x h → b ≡ x ++ y → IsHeadCounted {S = S} s (h, p) b x →
+pub aside-unread : {S W : Type 0} (remaining : S → Option (List ℕ)) (s : _) (pending : Option (Header × ℕ)) (h : Header)
+    (p : ℕ) (b x y : List ℕ) → pending ≡ None → SpellsHeader x h → b ≡ x ++ y →
+    IsHeadCounted {S = S} {W = W} s (h, p) b x →
     IsUnreadBy remaining s pending y → IsUnreadBy remaining s (Some (h, p)) b
 aside-unread remaining s pending h p b x y none hd e seen u =
     (x, y, hd, e, subst (λ o. IsUnreadBy remaining s o y) none u, seen)
@@ -574,31 +546,3 @@ aside-unread remaining s pending h p b x y none hd e seen u =
 pub is-none : {A : Type 0} (o : Option A) (t : Bool) → t ≡ false → t ≡ is_some o → o ≡ None
 is-none None t e f = refl
 is-none (Some h) t e f = cc
-
--- ---- what is read ahead before
-
-module _ {S : Type 0} (remaining : S → Option (List ℕ)) (old mid : ByteSource S) (q : ByteSeq)
-    (still : StandsStill remaining old mid q) where
-  pub still-next : (E : Type 0) (r : Result Bool E) (new : ByteSource S) (q' : ByteSeq) →
-      IfOk r (λ b. MatchBool b (GoesOn (StandsBefore remaining) SeqStands mid new q q')
-      (Leaves (StandsBefore remaining) SeqStands mid new q)) →
-      IfOk r (λ b. MatchBool b (GoesOn (StandsBefore remaining) SeqStands old new q q')
-      (Leaves (StandsBefore remaining) SeqStands old new q))
-  still-next E (Ok true) new q' (goes, enters) = (
-    λ l form is f st hold. goes l form is f (still.0 l form is f st hold) hold,
-    λ l form ps f st hold. enters l form ps f (still.1 l form ps f st hold) hold,
-  )
-  still-next E (Ok false) new q' (leaves, ends) = (
-    λ l form is f st hold. leaves l form is f (still.0 l form is f st hold) hold,
-    λ l form ps f st hold. ends l form ps f (still.1 l form ps f st hold) hold,
-  )
-  still-next E (Err e) new q' h = tt
-
-  pub still-refused : (E : Type 0) (r : Result Bool E) (cause : E → Fault) →
-      IfErr r (λ e. RefusesNext (StandsBefore remaining) SeqStands mid q (cause e)) →
-      IfErr r (λ e. RefusesNext (StandsBefore remaining) SeqStands old q (cause e))
-  still-refused E (Ok b) cause h = tt
-  still-refused E (Err e) cause (items, ends) = (
-    λ l form is f st hold. items l form is f (still.0 l form is f st hold) hold,
-    λ l form ps f st hold. ends l form ps f (still.1 l form ps f st hold) hold,
-  )

@@ -1,15 +1,14 @@
 -- A head that is looked at and not taken.
-use Rattle.std.proofs.Common.{◌≡◌, ◌≤◌, ◌+◌, ℕ, Bool, List, ◌++◌, Option, Some, refl, sym, ap, ◌∙◌, subst}
+use Rattle.std.proofs.Common.{◌≡◌, ℕ, Bool, List, ◌++◌, Option, Some, refl, sym, ap, ◌∙◌, subst}
 use Rattle.std.proofs.Common.{append_assoc, arith, length-append}
 use Rattle.ciborium_ll.specs.declared.header.Header.{Header}
 use Rattle.ciborium_ll.specs.Header.{SpellsHeader}
 use Rattle.ciborium_ll.specs.Item.{Item, simple}
-use Rattle.ciborium.proofs.Items.Due.{held-pending}
 use Rattle.ciborium_value.specs.Sources.{Fault, IsOutsideFault, RefusesToTell, TakesNothing, Tells}
 use Rattle.ciborium_value.specs.Taken.{is_null}
 use Rattle.ciborium.specs.declared.de.byte_source.ByteSource.{ByteSource}
-use Rattle.ciborium.specs.inner.ByteSources.{IsUnread, StandsBefore, bytes_weight, items_due_behind, head_weight}
-use Rattle.ciborium.specs.inner.ByteSources.{weight_left, end_at, reader_of, tells_null}
+use Rattle.ciborium.specs.inner.ByteSources.{IsUnread, StandsBefore}
+use Rattle.ciborium.specs.inner.ByteSources.{end_at, reader_of, tells_null}
 use Rattle.ciborium.specs.inner.FrontItems.{TakesHead, DeniesHead}
 use Rattle.ciborium.specs.inner.Unread.{IsRest}
 use Rattle.ciborium.proofs.Items.ItemHeads.{header_of, first-head, first-payload, same-head}
@@ -22,14 +21,14 @@ null-head h i e = subst (λ k. tells_null k ≡ is_null i) e (by i)
     by (simple n) = refl
     by _ = refl
 
-module _ {S : Type 0} (remaining : S → Option (List ℕ)) (old mid new : ByteSource S) (h : Header)
+module _ {S W : Type 0} (remaining : S → Option (List ℕ)) (old mid new : ByteSource S W) (h : Header)
     (took : TakesHead (IsUnread remaining) old mid h)
     (back : (b x y : List ℕ) → IsUnread remaining old b → SpellsHeader x h → b ≡ x ++ y → IsUnread remaining mid y →
     IsUnread remaining new b) where
-  pub tells : (answer : Bool) → IsKept remaining old new → bytes_weight new + head_weight h ≤ weight_left old →
+  pub tells : (answer : Bool) → IsKept remaining old new →
       new.levels ≡ old.levels → ((i : Item) → header_of i ≡ h → answer ≡ is_null i) →
       Tells (StandsBefore remaining) old new answer
-  tells answer kept fewer levels said l i f (b, u, (s, r, sp, rest, e), is, ahead, few) =
+  tells answer kept levels said l i f (b, u, (s, r, sp, rest, e), is, ahead) =
       let (x, y, hd, g, un) = took b u in (
         said i (same-head s r x y i h sp hd (sym e ∙ g)).0,
         (
@@ -45,16 +44,15 @@ module _ {S : Type 0} (remaining : S → Option (List ℕ)) (old mid new : ByteS
           ),
           is ∙ ap Some (sym levels),
           tt,
-          held-pending old new kept.0 (items_due_behind f) h fewer few,
         ),
       )
 
   pub takes-nothing : TakesNothing (IsUnread remaining) old new
   takes-nothing b u = let (x, y, hd, g, un) = took b u in (b, back b x y u hd g un, refl)
 
-pub refuses-to-tell : {S : Type 0} (remaining : S → Option (List ℕ)) (old : ByteSource S) (fault : Fault) →
+pub refuses-to-tell : {S W : Type 0} (remaining : S → Option (List ℕ)) (old : ByteSource S W) (fault : Fault) →
     DeniesHead (IsUnread remaining) (end_at remaining) old fault → RefusesToTell (StandsBefore remaining) old fault
-refuses-to-tell remaining old fault denied l i f (b, u, (s, r, sp, rest, e), is, ahead, few) =
+refuses-to-tell remaining old fault denied l i f (b, u, (s, r, sp, rest, e), is, ahead) =
     let (x, y, hd, g) = first-head s i sp in
     let there = first-payload s i sp in
     let more = length-append y r in

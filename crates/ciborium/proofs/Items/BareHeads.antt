@@ -1,5 +1,5 @@
 -- What an exit says behind the next head that is not a tag.
-use Rattle.std.proofs.Common.{◌≡◌, ℕ, List, Option, Some, false, ap, subst}
+use Rattle.std.proofs.Common.{Bool, ◌≡◌, ℕ, List, Option, Some, false, ap, subst}
 use Rattle.ciborium_ll.specs.declared.header.Header.{Header}
 use Rattle.ciborium_ll.specs.Item.{Item}
 use Rattle.ciborium_ll.specs.StringRefusal.{StringKind}
@@ -18,7 +18,7 @@ use Rattle.ciborium.proofs.Items.SkippedTags.{denies-bare, denies-nested, denies
 use Rattle.ciborium.proofs.Items.TakenOnly.{same-end}
 use Rattle.ciborium.proofs.Payloads.StringPayloads.{denies-string, reads-string}
 
-module _ {S A : Type 0} (remaining : S → Option (List ℕ)) (old : ByteSource S) (taken : Taken A) where
+module _ {S W A : Type 0} (remaining : S → Option (List ℕ)) (old : ByteSource S W) (taken : Taken A) where
   abbrev pub IsDenied : Fault → Type 0
   IsDenied = Denies (IsUnread remaining) (end_at remaining) old (Some old.levels) taken
 
@@ -27,7 +27,7 @@ module _ {S A : Type 0} (remaining : S → Option (List ℕ)) (old : ByteSource 
   head-denied = denies-of-item (IsUnread remaining) (end_at remaining) (Some old.levels) taken old
 
   -- the head was taken, and is this
-  module _ (mid : ByteSource S) (h : Header) (head : TakesBare (IsUnread remaining) old mid false h) where
+  module _ (mid : ByteSource S W) (h : Header) (head : TakesBare (IsUnread remaining) old mid false h) where
     -- no item of the type begins with it
     pub other-denied : (k : Kind) → ((ts : List ℕ) (i : Item) → AreSkipped false ts → header_of i ≡ h →
         taken (Some old.levels) (under ts i) ≡ refuses k) → IsDenied (of_kind k)
@@ -35,11 +35,12 @@ module _ {S A : Type 0} (remaining : S → Option (List ℕ)) (old : ByteSource 
         (of_kind k) head blames
 
     -- no level is left for what it begins
-    pub nested-denied : (new : ByteSource S) (k : Header) → h ≡ k → (e : Error Unit) → e ≡ RecursionLimitExceeded →
+    pub nested-denied : (can_fail : Bool) (new : ByteSource S W) (k : Header) → h ≡ k → (e : Error Unit) →
+        e ≡ RecursionLimitExceeded →
         ((ts : List ℕ) (i : Item) → AreSkipped false ts → header_of i ≡ k →
-        taken (Some old.levels) (under ts i) ≡ nests) → IsDenied (fault_at remaining new e)
-    nested-denied new k is e err nested = denies-nested (IsUnread remaining) false k (Some old.levels) taken
-        (end_at remaining) old mid (fault_at remaining new e) (ap (fault_at remaining new) err)
+        taken (Some old.levels) (under ts i) ≡ nests) → IsDenied (fault_at can_fail remaining new e)
+    nested-denied can_fail new k is e err nested = denies-nested (IsUnread remaining) false k (Some old.levels) taken
+        (end_at remaining) old mid (fault_at can_fail remaining new e) (ap (fault_at can_fail remaining new) err)
         (subst (TakesBare (IsUnread remaining) old mid false) is head) nested
 
     module _ (kind : StringKind) (len : Option ℕ) (is : h ≡ head_of kind len) where
@@ -52,7 +53,7 @@ module _ {S A : Type 0} (remaining : S → Option (List ℕ)) (old : ByteSource 
           (subst (TakesBare (IsUnread remaining) old mid false) is head) content
 
       -- it was taken, and the string gives v
-      pub string-read : (new : ByteSource S) (payload : List ℕ) (v : A) →
+      pub string-read : (new : ByteSource S W) (payload : List ℕ) (v : A) →
           TakesContent (IsUnread remaining mid) (IsUnread remaining new) kind len payload →
           ((ts : List ℕ) → AreSkipped false ts →
           taken (Some old.levels) (under ts (string_item kind len payload)) ≡ gives v) →

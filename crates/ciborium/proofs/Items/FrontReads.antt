@@ -8,8 +8,9 @@ use Rattle.ciborium_ll.specs.declared.header.Header.TheVariants as header
 use Rattle.ciborium_ll.specs.declared.header.Error.{Error as LlError}
 use Rattle.ciborium_ll.specs.declared.header.Error.TheVariants as ll
 use Rattle.ciborium_ll.specs.declared.decoder.Decoder.{Decoder}
+use Rattle.ciborium_ll.specs.Accesses.{HasEnded, IsUsedUp, left_at_failure}
 use Rattle.ciborium_ll.specs.Bytes.{greatest_offset}
-use Rattle.ciborium_ll.specs.Decoding.{IsAhead, IsAheadBy, IsSpent, PullsTo, Takes, left_of}
+use Rattle.ciborium_ll.specs.Decoding.{IsAhead, IsAheadBy, PullsTo, Takes, left_of}
 use Rattle.ciborium_ll.specs.Head.{initial_byte}
 use Rattle.ciborium_ll.specs.Header.{SpellsHeader, announced_length}
 use Rattle.ciborium_ll.specs.ReaderSteps as reading
@@ -17,13 +18,14 @@ use Rattle.ciborium_ll.specs.ReaderSteps.{IsFillTaken, IsHeadTaken}
 use Rattle.ciborium_ll.specs.Refusal.{Refusal, io, syntax, too_long, argument_length, payload_length, is_reserved}
 use Rattle.ciborium_ll.specs.Refusal.{is_low_simple, initial_refusal, HeadRefuses, IsUsable, head_refusal}
 use Rattle.ciborium_ll.proofs.HeadAnswers.{header-begins, header-fits, Begins, Facts}
-use Rattle.ciborium_ll.proofs.HeldBytes.{unread-none}
 use Rattle.ciborium_ll.proofs.MoreBytes.{payload_length-more}
 use Rattle.ciborium_ll.proofs.OneHeader.{one_header_at_front}
 use Rattle.ciborium_ll.proofs.UsableHeads.{and_false}
 use Rattle.ciborium_value.specs.Sources.{IsGrantedFault, IsOutsideFault}
 use Rattle.ciborium.specs.declared.de.byte_source.ByteSource.{ByteSource}
-use Rattle.ciborium.specs.Errors.{fault_of, from_ll, io_fault}
+use Rattle.ciborium.specs.declared.de.error.Error.{Error}
+use Rattle.ciborium.specs.declared.de.error.Error.TheVariants as errors
+use Rattle.ciborium.specs.Errors.{HasEndedBy, fault_of, from_ll, io_fault}
 use Rattle.ciborium.specs.inner.ByteSources.{IsHeadCounted, IsUnreadBy, bytes_weight, pending_head_weight, head_weight}
 use Rattle.ciborium.specs.inner.ByteSources.{weight_left}
 
@@ -141,14 +143,28 @@ granted-io None needs = tt
 granted-io (Some []) needs = tt
 granted-io (Some (x ∷ b)) needs = tt
 
--- nothing is held then
-pub spent-fault : {S E : Type 0} (remaining : S → Option (List ℕ)) (d : Decoder S) (e : LlError E) → IsSpent d e →
-    fault_of (left_of remaining d) (from_ll e) ≡ fault_of (remaining d.reader.now) (from_ll e)
-spent-fault remaining d (ll.Io e) h =
-    ap io_fault (unread-none (remaining d.reader.now) d.window.lookahead d.window.count h)
-spent-fault remaining d (ll.Syntax p) h = refl
-spent-fault remaining d ll.TooLong h = refl
-spent-fault remaining d ll.Memory h = refl
+-- a reader that cannot fail before its end has nothing left then
+pub ended-ll : {E : Type 0} (can_fail : Bool) (left : Option (List ℕ)) (e : LlError E) → HasEnded can_fail left e →
+    HasEndedBy can_fail left (from_ll e)
+ended-ll can_fail left (ll.Io e) h = h
+ended-ll can_fail left (ll.Syntax p) h = h
+ended-ll can_fail left ll.TooLong h = h
+ended-ll can_fail left ll.Memory h = h
+
+pub failed-fault : {E : Type 0} (can_fail : Bool) (left : Option (List ℕ)) (e : Error E) → HasEndedBy can_fail left e →
+    fault_of left e ≡ fault_of (left_at_failure can_fail left) e
+failed-fault true left e h = refl
+failed-fault false left (errors.Io e) h = ap io_fault (h refl)
+failed-fault false left (errors.Syntax p) h = refl
+failed-fault false left (errors.Semantic p k) h = refl
+failed-fault false left errors.RecursionLimitExceeded h = refl
+failed-fault false left errors.Memory h = refl
+failed-fault false left errors.TooLong h = refl
+
+pub failed-end : (can_fail : Bool) (left : Option (List ℕ)) → IsUsedUp can_fail left →
+    left_at_failure can_fail left ≡ Some [] → left ≡ Some []
+failed-end true left h e = e
+failed-end false left h e = h refl
 
 -- where a head is spelled, with its payload, pulling is refused for what it does not decide
 pub head-outside : {E : Type 0} (left : Option (List ℕ)) (e : LlError E) (b x y : List ℕ) (p : ℕ) (h : Header) →
@@ -179,12 +195,12 @@ granted-fill left ll.TooLong b buffer p needs h = tt
 
 -- ---- heads that are counted
 
-pub ahead-unpushed : {S : Type 0} (remaining : S → Option (List ℕ)) (d : Decoder S) (b : List ℕ) → d.pushed ≡ None →
-    left_of remaining d ≡ Some b → IsAhead remaining d b d.window.count
-ahead-unpushed remaining d b none e = subst (λ o. IsAheadBy remaining d b d.window.count o) (sym none) (refl, e)
+pub ahead-unpushed : {S W : Type 0} (remaining : S → Option (List ℕ)) (d : Decoder S W) (b : List ℕ) → d.pushed ≡ None →
+    left_of remaining d ≡ Some b → IsAhead remaining d b d.counter.count
+ahead-unpushed remaining d b none e = subst (λ o. IsAheadBy remaining d b d.counter.count o) (sym none) (refl, e)
 
 -- the head that was pending is counted as it was
-pub counted-pending : {S : Type 0} (remaining : S → Option (List ℕ)) (d : Decoder S) (pending : Option (Header × ℕ))
+pub counted-pending : {S W : Type 0} (remaining : S → Option (List ℕ)) (d : Decoder S W) (pending : Option (Header × ℕ))
     (h : Header × ℕ) (b x y : List ℕ) → pending ≡ Some h → IsUnreadBy remaining d pending b → SpellsHeader x h.0 →
     b ≡ x ++ y → IsHeadCounted d h b x
 counted-pending remaining d pending h b x y is u hd e fixed =
@@ -194,8 +210,8 @@ counted-pending remaining d pending h b x y is u hd e fixed =
     (w.0, w.1 ∙ ap (λ (k : List ℕ). h.1 + length k) one.0)
 
 -- the head that was pulled is counted
-pub counted-pulled : (E : Type 0) {S : Type 0} (left : Option (List ℕ)) (d : Decoder S) (h : Header) (p at last : ℕ)
-    (b x y : List ℕ) → at ≡ p → PullsTo {E = E} last d.window.count left b p (Ok h) → SpellsHeader x h → b ≡ x ++ y →
+pub counted-pulled : (E : Type 0) {S W : Type 0} (left : Option (List ℕ)) (d : Decoder S W) (h : Header) (p at last : ℕ)
+    (b x y : List ℕ) → at ≡ p → PullsTo {E = E} last d.counter.count left b p (Ok h) → SpellsHeader x h → b ≡ x ++ y →
     IsHeadCounted d (h, at) b x
 counted-pulled E left d h p at last b x y is (z, r, hd', usable, e', stood, counted, rest) hd e fixed =
     let one = one_header_at_front z x r y h h hd' hd (sym e' ∙ e) in (
@@ -224,14 +240,14 @@ head-some b h s = by (header-begins b h s)
     by : Begins b (announced_length h) → 0 < length b
     by (m, a, c, e, f) = let len : length b ≡ suc (length c) = ap length e in omega (arith, len)
 
-pub fewer-bytes : (E : Type 0) {S : Type 0} (remaining : S → Option (List ℕ)) (d e : Decoder S) (h : Header) →
-    Takes remaining d e (λ x. IsHeadTaken {E = E} x d.window.count (Ok h)) →
-    3 * (greatest_offset - e.window.count) + head_weight h ≤ 3 * (greatest_offset - d.window.count)
+pub fewer-bytes : (E : Type 0) {S W : Type 0} (remaining : S → Option (List ℕ)) (d e : Decoder S W) (h : Header) →
+    Takes remaining d e (λ x. IsHeadTaken {E = E} x d.counter.count (Ok h)) →
+    3 * (greatest_offset - e.counter.count) + head_weight h ≤ 3 * (greatest_offset - d.counter.count)
 fewer-bytes E remaining d e h (b, t, count, u, bytes) =
     let some = head-some b h u.answers.0 in
-    let fits = header-fits {E = E} b d.window.count h u in
+    let fits = header-fits {E = E} b d.counter.count h u in
     let w = weight-most h in
     omega (arith, some, fits, count, w)
 
-pub weighs-none : {S : Type 0} (s : ByteSource S) → s.pending ≡ None → weight_left s ≡ bytes_weight s
+pub weighs-none : {S W : Type 0} (s : ByteSource S W) → s.pending ≡ None → weight_left s ≡ bytes_weight s
 weighs-none s e = ap (λ o. bytes_weight s + pending_head_weight o) e ∙ add-zero (bytes_weight s)

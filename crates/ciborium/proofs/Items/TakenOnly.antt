@@ -1,17 +1,16 @@
 -- A call takes a beginning of what is unread, and nothing else.
-use Rattle.std.proofs.Common.{◌≡◌, ℕ, ◌+◌, List, [], ◌++◌, length, Option, Some, None, refl, ◌∙◌, sym, ap, subst, arith}
-use Rattle.std.proofs.Common.{append_assoc, length-append}
+use Rattle.std.proofs.Common.{◌≡◌, ℕ, ◌+◌, List, [], length, Option, Some, None, refl, ◌∙◌, sym, ap, subst, arith}
+use Rattle.std.proofs.Common.{length-append}
 use Rattle.std.specs.Borrow.{GName}
-use Rattle.std.specs.Io.KnownBytes.{Consumes, prepend_known}
+use Rattle.std.specs.Io.KnownBytes.{Consumes}
 use Rattle.std.proofs.KnownBytes.{Consumes-nil}
 use Rattle.ciborium_ll.specs.declared.decoder.Decoder.{Decoder}
 use Rattle.ciborium_ll.specs.declared.header.Header.{Header}
 use Rattle.ciborium_ll.specs.Decoding.{HasBegun, HasSameReader, Takes, left_of}
-use Rattle.ciborium_ll.specs.Windows.{held}
 use Rattle.ciborium_ll.proofs.Advancing.{Advances-then}
-use Rattle.ciborium_ll.proofs.HeldBytes.{begun-left, same-name}
+use Rattle.ciborium_ll.proofs.Decoders.{begun-left}
 use Rattle.ciborium_ll.proofs.Unread.{rest-of}
-use Rattle.ciborium_value.specs.Ahead.{Rest, bottom, parts, pairs, entry, held as held_level, end_of}
+use Rattle.ciborium_value.specs.Ahead.{Rest, bottom, parts, pairs, entry, held, end_of}
 use Rattle.ciborium_value.specs.Sources.{TakesOnly}
 use Rattle.ciborium.specs.declared.de.byte_source.ByteSource.{ByteSource}
 use Rattle.ciborium.specs.inner.ByteSources.{HasTaken, IsUnread, IsUnreadBy, end_at, known_end, reader_of}
@@ -19,17 +18,17 @@ use Rattle.ciborium.specs.inner.Unread.{IsRest}
 use Rattle.ciborium.specs.TypedAnswers.{TakesBeginning}
 
 -- whatever holds of the bytes
-pub takes-only : {S : Type 0} (remaining : S → Option (List ℕ)) (old new : Decoder S) (P : List ℕ → Type 0) →
+pub takes-only : {S W : Type 0} (remaining : S → Option (List ℕ)) (old new : Decoder S W) (P : List ℕ → Type 0) →
     new.reader.ghost_name ≡ old.reader.ghost_name → Takes remaining old new P → TakesOnly (HasTaken remaining) old new
 unfolding HasTaken
 takes-only remaining old new P name takes first (named, taken) = (
   name ∙ named,
-  Advances-then (left_of remaining first) (left_of remaining old) (left_of remaining new) first.window.count
-      old.window.count new.window.count (λ _. Unit {0}) P (λ _. Unit {0}) (λ x y p k. tt) taken takes,
+  Advances-then (left_of remaining first) (left_of remaining old) (left_of remaining new) first.counter.count
+      old.counter.count new.counter.count (λ _. Unit {0}) P (λ _. Unit {0}) (λ x y p k. tt) taken takes,
 )
 
 -- no more than that since itself
-pub taken-none : {S : Type 0} (remaining : S → Option (List ℕ)) (d : Decoder S) → HasTaken remaining d d
+pub taken-none : {S W : Type 0} (remaining : S → Option (List ℕ)) (d : Decoder S W) → HasTaken remaining d d
 unfolding HasTaken
 taken-none remaining d = (
   refl,
@@ -43,24 +42,24 @@ taken-none remaining d = (
 )
 
 -- the reader is the same
-pub taken-name : {S : Type 0} (remaining : S → Option (List ℕ)) (first d : Decoder S) → HasTaken remaining first d →
+pub taken-name : {S W : Type 0} (remaining : S → Option (List ℕ)) (first d : Decoder S W) → HasTaken remaining first d →
     d.reader.ghost_name ≡ first.reader.ghost_name
 unfolding HasTaken
 taken-name remaining first d (named, taken) = named
 
 -- one state behind another
-pub taken-then : {S : Type 0} (remaining : S → Option (List ℕ)) (a b c : Decoder S) → HasTaken remaining a b →
+pub taken-then : {S W : Type 0} (remaining : S → Option (List ℕ)) (a b c : Decoder S W) → HasTaken remaining a b →
     HasTaken remaining b c → HasTaken remaining a c
 unfolding HasTaken
 taken-then remaining a b c (named, taken) (name, more) = (
   name ∙ named,
-  Advances-then (left_of remaining a) (left_of remaining b) (left_of remaining c) a.window.count b.window.count
-      c.window.count (λ _. Unit {0}) (λ _. Unit {0}) (λ _. Unit {0}) (λ x y p k. tt) taken more,
+  Advances-then (left_of remaining a) (left_of remaining b) (left_of remaining c) a.counter.count b.counter.count
+      c.counter.count (λ _. Unit {0}) (λ _. Unit {0}) (λ _. Unit {0}) (λ x y p k. tt) taken more,
 )
 
 -- where nothing is taken
-pub takes-none : {S : Type 0} (remaining : S → Option (List ℕ)) (old new : Decoder S) →
-    new.reader.ghost_name ≡ old.reader.ghost_name → new.window.count ≡ old.window.count →
+pub takes-none : {S W : Type 0} (remaining : S → Option (List ℕ)) (old new : Decoder S W) →
+    new.reader.ghost_name ≡ old.reader.ghost_name → new.counter.count ≡ old.counter.count →
     left_of remaining new ≡ left_of remaining old → TakesOnly (HasTaken remaining) old new
 unfolding HasTaken
 takes-none remaining old new name count left first (named, taken) =
@@ -75,44 +74,39 @@ takes-none remaining old new name count left first (named, taken) =
       ),
     )
 
--- from a decoder that was begun on a lent reader to the reader: what was read ahead and not taken is lost to it
-pub taken-beginning : {S : Type 0} (remaining : S → Option (List ℕ)) (old new : Decoder S) (lent x : S) (p : ℕ) →
+-- from a decoder that was begun on a lent reader to the reader
+pub taken-beginning : {S W : Type 0} (remaining : S → Option (List ℕ)) (old new : Decoder S W) (lent x : S) (p : ℕ) →
     HasBegun old lent p → (old.reader.ghost_name ≡ new.reader.ghost_name → x ≡ new.reader.now) →
     HasTaken remaining old new → TakesBeginning (remaining lent) (remaining x)
 unfolding HasTaken
-taken-beginning remaining old new lent x p begins back (name, taken) =
-    let (b, consumes, counted, none, bytes) = taken in
-    let (c, lost) = behind (remaining lent) (remaining new.reader.now) (held new.window) b
-    (subst (λ o. Consumes o (left_of remaining new) b) (begun-left remaining old lent p begins) consumes) in
-    (c, subst (λ o. Consumes (remaining lent) o c) (sym (ap remaining (back (sym name)))) lost)
-  where
-    behind : (before after : Option (List ℕ)) (h b : List ℕ) → Consumes before (prepend_known h after) b →
-        (c : List ℕ) × Consumes before after c
-    behind None after h b t = ([], tt)
-    behind (Some xs) None h b t = absurd t
-    behind (Some xs) (Some ys) h b t = (b ++ h, t ∙ sym (append_assoc b h ys))
+taken-beginning remaining old new lent x p begins back (name, (b, consumes, counted, none, bytes)) = (
+  b,
+  subst (λ o. Consumes (remaining lent) o b) (sym (ap remaining (back (sym name))))
+      (subst (λ o. Consumes o (left_of remaining new) b) (begun-left remaining old lent p begins) consumes),
+)
 
 -- ---- where what is there ends
 
 -- the reader is the one that was held, and of what was unread a beginning was taken
-abbrev pub IsKept : {S : Type 0} → (S → Option (List ℕ)) → ByteSource S → ByteSource S → Type 0
+abbrev pub IsKept : {S W : Type 0} → (S → Option (List ℕ)) → ByteSource S W → ByteSource S W → Type 0
 IsKept remaining old new = HasSameReader old.decoder new.decoder ×
     TakesOnly (HasTaken remaining) old.decoder new.decoder
 
-pub known-unread : {S : Type 0} (remaining : S → Option (List ℕ)) (d : Decoder S) (pending : Option (Header × ℕ))
+pub known-unread : {S W : Type 0} (remaining : S → Option (List ℕ)) (d : Decoder S W) (pending : Option (Header × ℕ))
     (b : List ℕ) → IsUnreadBy remaining d pending b → (u : List ℕ) × (left_of remaining d ≡ Some u)
 known-unread remaining d None b e = (b, e)
 known-unread remaining d (Some h) b (x, y, hd, split, left, counted) = (y, left)
 
 -- behind what was taken it ends where it ended
-pub takes-end : {S : Type 0} (remaining : S → Option (List ℕ)) (d e : Decoder S) (P : List ℕ → Type 0) (w : List ℕ) →
-    left_of remaining d ≡ Some w → Takes remaining d e P → (reader_of remaining e).1 ≡ d.window.count + length w
+pub takes-end : {S W : Type 0} (remaining : S → Option (List ℕ)) (d e : Decoder S W) (P : List ℕ →
+    Type 0) (w : List ℕ) →
+    left_of remaining d ≡ Some w → Takes remaining d e P → (reader_of remaining e).1 ≡ d.counter.count + length w
 takes-end remaining d e P w left (x, consumes, counted, p, bytes) =
     let (r, after, split) = rest-of (left_of remaining d) (left_of remaining e) w x left consumes in
     let size : length w ≡ length x + length r = ap length split ∙ length-append x r in
-    ap (λ o. known_end o e.window.count) after ∙ (omega (arith, counted, size))
+    ap (λ o. known_end o e.counter.count) after ∙ (omega (arith, counted, size))
 
-pub same-end : {S : Type 0} (remaining : S → Option (List ℕ)) (old new : ByteSource S) →
+pub same-end : {S W : Type 0} (remaining : S → Option (List ℕ)) (old new : ByteSource S W) →
     TakesOnly (HasTaken remaining) old.decoder new.decoder → (b : List ℕ) → IsUnread remaining old b →
     end_at remaining new ≡ end_at remaining old
 unfolding HasTaken
@@ -120,12 +114,13 @@ same-end remaining old new only b u =
     let (w, left) = known-unread remaining old.decoder old.pending b u in
     let (name, taken) = only old.decoder (taken-none remaining old.decoder) in
     takes-end remaining old.decoder new.decoder (λ _. Unit {0}) w left taken ∙
-    sym (ap (λ o. known_end o old.decoder.window.count) left)
+    sym (ap (λ o. known_end o old.decoder.counter.count) left)
 
-pub kept-reader : {S : Type 0} (remaining : S → Option (List ℕ)) (old new : ByteSource S) → IsKept remaining old new →
+pub kept-reader : {S W : Type 0} (remaining : S → Option (List ℕ)) (old new : ByteSource S W) →
+    IsKept remaining old new →
     (b : List ℕ) → IsUnread remaining old b → reader_of remaining new.decoder ≡ reader_of remaining old.decoder
 kept-reader remaining old new (same, only) b u =
-    ap (λ n. (n, end_at remaining new)) (same-name old.decoder new.decoder same) ∙
+    ap (λ n. (n, end_at remaining new)) same ∙
     ap (λ n. (old.decoder.reader.ghost_name, n)) (same-end remaining old new only b u)
 
 -- what follows in the containers that are open ends there
@@ -134,4 +129,4 @@ rest-end reader b (bottom m r) h = ap (λ p. p.1) h.1
 rest-end reader b (parts form is f) (s, r, left, rest, e) = rest-end reader r f rest
 rest-end reader b (pairs form ps f) (s, r, left, rest, e) = rest-end reader r f rest
 rest-end reader b (entry v form ps f) (t, c, sp, (s, r, left, rest, g), e) = rest-end reader r f rest
-rest-end reader b (held_level f) h = rest-end reader b f h
+rest-end reader b (held f) h = rest-end reader b f h

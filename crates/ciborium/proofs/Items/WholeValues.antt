@@ -10,7 +10,7 @@ use Rattle.ciborium_ll.specs.Decoding.{ReadsNothing}
 use Rattle.ciborium_ll.specs.Header.{SpellsHeader}
 use Rattle.ciborium_ll.specs.Item.{Item, unsigned, simple}
 use Rattle.ciborium_ll.specs.Spells.{Spells}
-use Rattle.ciborium_ll.proofs.HeldBytes.{unread-left, unread-count}
+use Rattle.ciborium_ll.proofs.Decoders.{unread-left, unread-count}
 use Rattle.ciborium_ll.proofs.Unread.{rest-of}
 use Rattle.ciborium_value.specs.declared.kind.Kind.{Kind}
 use Rattle.ciborium_value.specs.declared.kind.Kind.TheVariants as kinds
@@ -71,10 +71,10 @@ IsReal None = Unit {0}
 IsReal (Some h) = is_portable h.0 ≡ false
 
 -- the head that was pushed, or none, and what is unread with it
-pub ahead-by : {S : Type 0} (remaining : S → Option (List ℕ)) (d e : Decoder S) (pending : Option (Header × ℕ))
+pub ahead-by : {S W : Type 0} (remaining : S → Option (List ℕ)) (d e : Decoder S W) (pending : Option (Header × ℕ))
     (b : List ℕ) → IsReal pending → e.pushed ≡ pending → ReadsNothing d e →
-    IsUnreadBy remaining d pending b → IsAhead remaining e b (next_offset d.window.count pending)
-ahead-by remaining d e None b real pushed same u = subst (λ o. IsAheadBy remaining e b d.window.count o) (sym pushed)
+    IsUnreadBy remaining d pending b → IsAhead remaining e b (next_offset d.counter.count pending)
+ahead-by remaining d e None b real pushed same u = subst (λ o. IsAheadBy remaining e b d.counter.count o) (sym pushed)
     (unread-count d e same, unread-left remaining d e same ∙ u)
 ahead-by remaining d e (Some h) b real pushed same (x, y, hd, f, left, counted) =
     let k = counted real in
@@ -83,31 +83,31 @@ ahead-by remaining d e (Some h) b real pushed same (x, y, hd, f, left, counted) 
 
 -- ---- from a decoder whatever follows what it takes, to one whose bytes are known
 
-module _ {S : Type 0} (remaining : S → Option (List ℕ)) where
-  known-left : (d : Decoder S) (b : List ℕ) (p : ℕ) (o : Option (Header × ℕ)) → IsAheadBy remaining d b p o →
+module _ {S W : Type 0} (remaining : S → Option (List ℕ)) where
+  known-left : (d : Decoder S W) (b : List ℕ) (p : ℕ) (o : Option (Header × ℕ)) → IsAheadBy remaining d b p o →
       (u : List ℕ) × (left_of remaining d ≡ Some u)
   known-left d b p None (count, e) = (b, e)
   known-left d b p (Some h) (at, x, r, sp, usable, split, count, e) = (r, e)
 
-  ahead-from : (d : Decoder S) (u b : List ℕ) (p : ℕ) (o : Option (Header × ℕ)) → left_of remaining d ≡ Some u →
+  ahead-from : (d : Decoder S W) (u b : List ℕ) (p : ℕ) (o : Option (Header × ℕ)) → left_of remaining d ≡ Some u →
       IsAheadBy remaining d b p o → IsAheadBy Some (with_left d u) b p o
   ahead-from d u b p None left (count, e) = (count, sym left ∙ e)
   ahead-from d u b p (Some h) left (at, x, r, sp, usable, split, count, e) =
       (at, x, r, sp, usable, split, count, sym left ∙ e)
 
-  ahead-to : (d : Decoder S) (u b : List ℕ) (p : ℕ) (o : Option (Header × ℕ)) → left_of remaining d ≡ Some u →
+  ahead-to : (d : Decoder S W) (u b : List ℕ) (p : ℕ) (o : Option (Header × ℕ)) → left_of remaining d ≡ Some u →
       IsAheadBy Some (with_left d u) b p o → IsAheadBy remaining d b p o
   ahead-to d u b p None left (count, e) = (count, left ∙ e)
   ahead-to d u b p (Some h) left (at, x, r, sp, usable, split, count, e) =
       (at, x, r, sp, usable, split, count, left ∙ e)
 
-  read-to : (E : Type 0) (e : Decoder S) (c : List ℕ) (l : ℕ) (b : List ℕ) (p : ℕ) (x : Result Value (Error E)) →
+  read-to : (E : Type 0) (e : Decoder S W) (c : List ℕ) (l : ℕ) (b : List ℕ) (p : ℕ) (x : Result Value (Error E)) →
       left_of remaining e ≡ Some c → IsValueRead {S = List ℕ} {E = E} any Some (with_left e c) l b p x →
       IsValueRead {E = E} any remaining e l b p x
   read-to E e c l b p (Ok v) left (zs, r, item, ahead) = (zs, r, item, ahead-to e c zs r e.pushed left ahead)
   read-to E e c l b p (Err x) left h = subst (λ o. IsRefusedBy o x (Refuses b p (Some l))) (sym left) h
 
-  pub known-read : (E : Type 0) (d e : Decoder S) (l : ℕ) (x : Result Value (Error E)) →
+  pub known-read : (E : Type 0) (d e : Decoder S W) (l : ℕ) (x : Result Value (Error E)) →
       TakesBeforeAny remaining d e (λ f g. (xs : List ℕ) (q : ℕ) → IsAhead Some f xs q →
       IsValueRead {S = List ℕ} {E = E} any Some g l xs q x) →
       (b : List ℕ) (p : ℕ) → IsAhead remaining d b p → IsValueRead {E = E} any remaining e l b p x
@@ -117,7 +117,7 @@ module _ {S : Type 0} (remaining : S → Option (List ℕ)) where
       read-to E e c l b p x left (h c b p (ahead-from d (s ++ c) b p d.pushed (known ∙ ap Some split) ahead))
 
 -- the value that was read is what the item there gives
-pub whole-reads : (E : Type 0) {S : Type 0} (remaining : S → Option (List ℕ)) (d : Decoder S) (l p : ℕ) (b : List ℕ)
+pub whole-reads : (E : Type 0) {S W : Type 0} (remaining : S → Option (List ℕ)) (d : Decoder S W) (l p : ℕ) (b : List ℕ)
     (v : Value) → d.pushed ≡ None → IsValueRead {E = E} any remaining d l b p (Ok v) →
     (i : Item) × (s : List ℕ) × (z : List ℕ) × Spells s i × (b ≡ s ++ z) ×
     (taken_value (Some l) i ≡ gives (tree_of v)) × (left_of remaining d ≡ Some z)
@@ -127,14 +127,14 @@ whole-reads E remaining d l p b v none (z, r, item, ahead) =
     (i, item.taken, z, good.0, item.split, value-gives i (Some l) (tree_of v) means good.2, at.1)
 
 -- where what is unread ends, with the head that is pending
-pub whole-end : {S : Type 0} (remaining : S → Option (List ℕ)) (d : Decoder S) (pending : Option (Header × ℕ))
+pub whole-end : {S W : Type 0} (remaining : S → Option (List ℕ)) (d : Decoder S W) (pending : Option (Header × ℕ))
     (b : List ℕ) → IsReal pending → IsUnreadBy remaining d pending b →
-    (reader_of remaining d).1 ≡ next_offset d.window.count pending + length b
-whole-end remaining d None b real left = ap (λ o. known_end o d.window.count) left
+    (reader_of remaining d).1 ≡ next_offset d.counter.count pending + length b
+whole-end remaining d None b real left = ap (λ o. known_end o d.counter.count) left
 whole-end remaining d (Some h) b real (x, y, hd, split, left, counted) =
     let at = (counted real).1 in
     let size : length b ≡ length x + length y = ap length split ∙ length-append x y in
-    ap (λ o. known_end o d.window.count) left ∙ (omega (arith, at, size))
+    ap (λ o. known_end o d.counter.count) left ∙ (omega (arith, at, size))
 
 -- an error is what the item there is refused for
 pub whole-faults : {E : Type 0} (left : Option (List ℕ)) (e : Error E) (l p : ℕ) (b s z : List ℕ) (i : Item) →
@@ -171,6 +171,7 @@ whole-faults left (errors.Semantic (Some q) k) l p b s z i sp f h = by k h
     by kinds.Length h = absurd h
     by kinds.Other h = absurd h
     by kinds.DuplicateKey h = absurd h
+    by kinds.TrailingData h = absurd h
 whole-faults left errors.RecursionLimitExceeded l p b s z i sp f h = value-faults h i s z sp f
 whole-faults left errors.Memory l p b s z i sp f h = tt
 whole-faults left errors.TooLong l p b s z i sp f h = value-faults h i s z sp f
@@ -180,7 +181,7 @@ no-level None n flat = tt
 no-level (Some l) n flat = omega arith
 
 -- a head that stands for an item is that item
-pub portable-reads : {S : Type 0} (remaining : S → Option (List ℕ)) (d : Decoder S) (pending : Option (Header × ℕ))
+pub portable-reads : {S W : Type 0} (remaining : S → Option (List ℕ)) (d : Decoder S W) (pending : Option (Header × ℕ))
     (h : Header) (p : ℕ) (b : List ℕ) (v : Tree) (l : Limit) → pending ≡ Some (h, p) → MeansTree h v →
     IsUnreadBy remaining d pending b →
     (i : Item) × (s : List ℕ) × (z : List ℕ) × Spells s i × (b ≡ s ++ z) × (taken_value l i ≡ gives v) ×
@@ -193,13 +194,13 @@ portable-reads remaining d pending h p b v l is for u =
 -- ---- the value ahead, whatever follows what is taken
 
 -- what the value ahead was read as, where this head was pending
-abbrev pub ReadSo : {E : Type 0} → ℕ → Option (Header × ℕ) → Decoder (List ℕ) → Decoder (List ℕ) →
+abbrev pub ReadSo : {W E : Type 0} → ℕ → Option (Header × ℕ) → Decoder (List ℕ) W → Decoder (List ℕ) W →
     Result Tree (Error E) → Type 0
-ReadSo {E} l pending d e r = (xs : List ℕ) (p : ℕ) → IsAheadBy Some d xs p pending →
+ReadSo {W} {E} l pending d e r = (xs : List ℕ) (p : ℕ) → IsAheadBy Some d xs p pending →
     IsTreeRead {S = List ℕ} {E = E} any Some e l xs p r
 
 -- a head that stands for an item is read without a byte
-pub portable-ahead : (E : Type 0) {S : Type 0} (remaining : S → Option (List ℕ)) (d : Decoder S)
+pub portable-ahead : (E : Type 0) {S W : Type 0} (remaining : S → Option (List ℕ)) (d : Decoder S W)
     (pending : Option (Header × ℕ)) (h : Header) (at l : ℕ) (v : Tree) → d.pushed ≡ None → pending ≡ Some (h, at) →
     MeansTree h v →
     TakesBeforeAny remaining d d (λ f g. ReadSo {E = E} l pending f g (Ok v))
@@ -215,7 +216,7 @@ portable-ahead E remaining d pending h at l v none is stands =
     ))
 
 -- the head was pushed first
-pub pushed-ahead : (E : Type 0) {S : Type 0} (remaining : S → Option (List ℕ)) (d e f : Decoder S)
+pub pushed-ahead : (E : Type 0) {S W : Type 0} (remaining : S → Option (List ℕ)) (d e f : Decoder S W)
     (pending : Option (Header × ℕ)) (l : ℕ) (x : Result Value (Error E)) → e.pushed ≡ pending → ReadsNothing d e →
     TakesBeforeAny remaining e f (λ a b. (xs : List ℕ) (p : ℕ) → IsAhead Some a xs p →
     IsValueRead {S = List ℕ} {E = E} any Some b l xs p x) →

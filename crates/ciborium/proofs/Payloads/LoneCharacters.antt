@@ -124,9 +124,9 @@ payload-denied end P Q n buffer fault size blames took y z payload u len utf8 f 
     subst (λ k. IsFaultOf end fault (lone_character (chars k))) same (blames (subst IsUtf8 (sym same) utf8))
 
 -- the bytes that a decoder read
-pub just-taken : (E : Type 0) {S : Type 0} (remaining : S → Option (List ℕ)) (d e : Decoder S)
+pub just-taken : (E : Type 0) {S W : Type 0} (remaining : S → Option (List ℕ)) (d e : Decoder S W)
     (pending : Option (Header × ℕ)) (buffer : List ℕ) → pending ≡ None →
-    Takes remaining d e (λ b. IsFillTaken {E = E} b d.window.count buffer (Ok tt)) →
+    Takes remaining d e (λ b. IsFillTaken {E = E} b d.counter.count buffer (Ok tt)) →
     TakesJust (IsUnreadBy remaining d pending) (IsUnreadBy remaining e pending) buffer
 just-taken E remaining d e pending buffer none (b, takes, count, taken, small) y u =
     let known : left_of remaining d ≡ Some y = subst (λ o. IsUnreadBy remaining d o y) none u in

@@ -8,10 +8,10 @@ use Rattle.std.proofs.lemmas.List.Elements.{All-append, All-head, All-tail}
 use Rattle.ciborium_ll.specs.declared.decoder.Decoder.{Decoder}
 use Rattle.ciborium_ll.specs.declared.header.Error.{Error as LlError}
 use Rattle.ciborium_ll.specs.declared.header.Error.TheVariants as ll
+use Rattle.ciborium_ll.specs.Accesses.{HasEnded, left_at_failure}
 use Rattle.ciborium_ll.specs.Bytes.{AreBytes, greatest_offset}
-use Rattle.ciborium_ll.specs.Decoding.{IsSpent, Takes, left_of}
+use Rattle.ciborium_ll.specs.Decoding.{Takes, left_of}
 use Rattle.ciborium_ll.specs.ReaderSteps.{IsFillTaken}
-use Rattle.ciborium_ll.proofs.HeldBytes.{unread-none}
 use Rattle.ciborium_ll.proofs.Unread.{rest-of}
 use Rattle.ciborium_value.specs.Meaning.{big_endian_behind, big_endian, without_zeros}
 use Rattle.ciborium_value.specs.Sources.{IsOutsideFault}
@@ -20,7 +20,7 @@ use Rattle.ciborium_value.specs.declared.kind.Kind.TheVariants as kinds
 use Rattle.ciborium.specs.inner.ByteSources.{known_end, reader_of}
 use Rattle.ciborium.specs.Errors.{fault_of, from_ll}
 use Rattle.ciborium.specs.inner.StringContents.{one_digit_more, digits_of}
-use Rattle.ciborium.proofs.Items.FrontReads.{io-outside}
+use Rattle.ciborium.proofs.Items.FrontReads.{failed-end, io-outside}
 
 pub digits-append : (o : Option ℕ) (c d : List ℕ) → digits_of o (c ++ d) ≡ digits_of (digits_of o c) d
 digits-append o [] d = refl
@@ -143,16 +143,16 @@ digits-none bs h e = by (ltb 16 (length (without_zeros bs))) refl
 
 -- ---- one byte more
 
-pub fill-fewer : (E : Type 0) {S : Type 0} (remaining : S → Option (List ℕ)) (d e : Decoder S) (buffer : List ℕ) →
-    Takes remaining d e (λ b. IsFillTaken {E = E} b d.window.count buffer (Ok tt)) →
-    3 * (greatest_offset - e.window.count) ≤ 3 * (greatest_offset - d.window.count)
-fill-fewer E remaining d e buffer (b, takes, count, taken, small) = let fits = e.window.fits in
+pub fill-fewer : (E : Type 0) {S W : Type 0} (remaining : S → Option (List ℕ)) (d e : Decoder S W) (buffer : List ℕ) →
+    Takes remaining d e (λ b. IsFillTaken {E = E} b d.counter.count buffer (Ok tt)) →
+    3 * (greatest_offset - e.counter.count) ≤ 3 * (greatest_offset - d.counter.count)
+fill-fewer E remaining d e buffer (b, takes, count, taken, small) = let fits = e.counter.fits in
     omega (arith, fits, count)
 
-pub digit-more : (E : Type 0) {S : Type 0} (remaining : S → Option (List ℕ)) (d e : Decoder S) (buffer : List ℕ)
+pub digit-more : (E : Type 0) {S W : Type 0} (remaining : S → Option (List ℕ)) (d e : Decoder S W) (buffer : List ℕ)
     (x left n : ℕ) (start value next : Option ℕ) (y : List ℕ) → buffer ≡ x ∷ [] → 0 < left →
     next ≡ one_digit_more value x →
-    Takes remaining d e (λ b. IsFillTaken {E = E} b d.window.count buffer (Ok tt)) →
+    Takes remaining d e (λ b. IsFillTaken {E = E} b d.counter.count buffer (Ok tt)) →
     ((c : List ℕ) × (z : List ℕ) × (length c + left ≡ n) × AreBytes c × (value ≡ digits_of start c) × (y ≡ c ++ z) ×
     (left_of remaining d ≡ Some z)) →
     (c : List ℕ) × (z : List ℕ) × (length c + (left - 1) ≡ n) × AreBytes c × (next ≡ digits_of start c) × (y ≡ c ++ z) ×
@@ -174,23 +174,24 @@ digit-more E remaining d e buffer x left n start value next y one some is (b, ta
     )
 
 -- where so many bytes are there, filling a buffer with them is refused for what they do not decide
-pub fill-outside : {E : Type 0} {S : Type 0} (remaining : S → Option (List ℕ)) (d e : Decoder S) (buffer y : List ℕ)
-    (x : LlError E) → left_of remaining d ≡ Some y → length buffer ≤ length y →
-    Takes remaining d e (λ b. IsFillTaken {E = E} b d.window.count buffer (Err x)) → IsSpent e x →
-    IsOutsideFault (reader_of remaining d).1 (fault_of (remaining e.reader.now) (from_ll x))
-fill-outside remaining d e buffer y (ll.Io x) left there (b, takes, counted, taken, bytes) spent =
-    io-outside (remaining e.reader.now) (reader_of remaining d).1 (λ none.
+pub fill-outside : {E : Type 0} {S W : Type 0} (can_fail : Bool) (remaining : S → Option (List ℕ)) (d e : Decoder S W)
+    (buffer y : List ℕ) (x : LlError E) → left_of remaining d ≡ Some y → length buffer ≤ length y →
+    Takes remaining d e (λ b. IsFillTaken {E = E} b d.counter.count buffer (Err x)) →
+    HasEnded can_fail (left_of remaining e) x →
+    IsOutsideFault (reader_of remaining d).1 (fault_of (left_at_failure can_fail (remaining e.reader.now)) (from_ll x))
+fill-outside can_fail remaining d e buffer y (ll.Io x) left there (b, takes, counted, taken, bytes) ended =
+    io-outside (left_at_failure can_fail (remaining e.reader.now)) (reader_of remaining d).1 (λ none.
     let (r, rest, split) = rest-of (left_of remaining d) (left_of remaining e) y b left takes in
-    let all : Some r ≡ Some [] = sym rest ∙
-    unread-none (remaining e.reader.now) e.window.lookahead e.window.count spent ∙ none in
+    let all : Some r ≡ Some [] = sym rest ∙ failed-end can_fail (remaining e.reader.now) ended none in
     let empty : r ≡ [] = cc in
     let size : length y ≡ length b + length r = ap length split ∙ length-append b r in
     let zero : length r ≡ 0 = ap length empty in
     let short = taken.0 in
     omega (arith, size, zero, short, there))
-fill-outside remaining d e buffer y (ll.Syntax p) left there (b, takes, counted, taken, bytes) spent = absurd taken
-fill-outside remaining d e buffer y ll.TooLong left there (b, takes, counted, taken, bytes) spent =
-    let end : (reader_of remaining d).1 ≡ d.window.count + length y = ap (λ o. known_end o d.window.count) left in
+fill-outside can_fail remaining d e buffer y (ll.Syntax p) left there (b, takes, counted, taken, bytes) ended = absurd
+    taken
+fill-outside can_fail remaining d e buffer y ll.TooLong left there (b, takes, counted, taken, bytes) ended =
+    let end : (reader_of remaining d).1 ≡ d.counter.count + length y = ap (λ o. known_end o d.counter.count) left in
     let past = taken.1 in
     omega (arith, end, past, there)
-fill-outside remaining d e buffer y ll.Memory left there (b, takes, counted, taken, bytes) spent = tt
+fill-outside can_fail remaining d e buffer y ll.Memory left there (b, takes, counted, taken, bytes) ended = tt

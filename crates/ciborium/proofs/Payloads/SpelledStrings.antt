@@ -1,13 +1,15 @@
 -- Where a string is spelled, no part of it is refused but as too long.
-use Rattle.std.proofs.Common.{◌≡◌, ℕ, ◌+◌, List, [], ◌∷◌, ◌++◌, length, take, drop, Option, Some, None, refl, sym, ap}
+use Rattle.std.proofs.Common.{Bool, ◌≡◌, ℕ, ◌+◌, List, [], ◌∷◌, ◌++◌, length, take, drop, Option, Some, None, refl, sym}
+use Rattle.std.proofs.Common.{ap}
 use Rattle.std.proofs.Common.{◌∙◌, subst, append_assoc, inl, inr, ◌<◌, arith, length-append}
 use Rattle.std.proofs.Math.Seq.{take-append_seam, drop-append_seam}
 use Rattle.ciborium_ll.specs.declared.decoder.Decoder.{Decoder}
 use Rattle.ciborium_ll.specs.declared.header.Header.{Header}
 use Rattle.ciborium_ll.specs.declared.header.Header.TheVariants as header
-use Rattle.ciborium_ll.specs.Decoding.{IsSpent, left_of}
+use Rattle.ciborium_ll.specs.Decoding.{left_of}
 use Rattle.ciborium_ll.specs.declared.header.Error.{Error as LlError}
 use Rattle.ciborium_ll.specs.declared.header.Error.TheVariants as ll
+use Rattle.ciborium_ll.specs.Accesses.{HasEnded, left_at_failure}
 use Rattle.ciborium_ll.specs.Bytes.{greatest_offset}
 use Rattle.ciborium_ll.specs.Head.{IsHead, open_byte, break_byte}
 use Rattle.ciborium_ll.specs.Header.{SpellsHeader, announced_length}
@@ -21,7 +23,7 @@ use Rattle.ciborium_value.specs.Sources.{IsOutsideFault}
 use Rattle.ciborium.specs.Errors.{fault_of, from_ll}
 use Rattle.ciborium.specs.inner.ByteSources.{IsUnreadBy, known_end}
 use Rattle.ciborium.specs.inner.StringContents.{DeniesContent, head_of, string_item}
-use Rattle.ciborium.proofs.Items.FrontReads.{head-passes, io-outside, only-long, spent-fault}
+use Rattle.ciborium.proofs.Items.FrontReads.{ended-ll, failed-fault, head-passes, io-outside, only-long}
 
 -- ---- one head, and behind it one payload
 
@@ -249,16 +251,18 @@ content-outside left ll.TooLong kind len p q y x s z payload hd sp f r =
 content-outside left ll.Memory kind len p q y x s z payload hd sp f r = tt
 
 -- the payload of a string whose head was taken is refused for what no string decides
-pub content-denied : {S E : Type 0} (remaining : S → Option (List ℕ)) (d e : Decoder S) (pending : Option (Header × ℕ))
-    (x : LlError E) (kind : StringKind) (len : Option ℕ) → pending ≡ None →
+pub content-denied : {S W E : Type 0} (can_fail : Bool) (remaining : S → Option (List ℕ)) (d e : Decoder S W)
+    (pending : Option (Header × ℕ)) (x : LlError E) (kind : StringKind) (len : Option ℕ) → pending ≡ None →
     ((y : List ℕ) → left_of remaining d ≡ Some y →
-    reading.IsRefusalOf (left_of remaining e) x (ContentRefuses kind len d.last y d.window.count)) → IsSpent e x →
-    DeniesContent (IsUnreadBy remaining d pending) (known_end (left_of remaining d) d.window.count) kind len
-    (fault_of (remaining e.reader.now) (from_ll x))
-content-denied remaining d e pending x kind len none refused spent y b s z payload u hd sp split =
+    reading.IsRefusalOf (left_of remaining e) x (ContentRefuses kind len d.last y d.counter.count)) →
+    HasEnded can_fail (left_of remaining e) x → DeniesContent (IsUnreadBy remaining d pending) (known_end
+    (left_of remaining d) d.counter.count) kind len
+    (fault_of (left_at_failure can_fail (remaining e.reader.now)) (from_ll x))
+content-denied can_fail remaining d e pending x kind len none refused ended y b s z payload u hd sp split =
     let left = subst (λ o. IsUnreadBy remaining d o y) none u in
-    subst (λ n. IsOutsideFault n (fault_of (remaining e.reader.now) (from_ll x)))
-    (sym (ap (λ o. known_end o d.window.count) left))
-    (subst (IsOutsideFault (d.window.count + length y)) (spent-fault remaining e x spent)
-    (content-outside (left_of remaining e) x kind len d.last d.window.count y b s z payload hd sp split
+    subst (λ n. IsOutsideFault n (fault_of (left_at_failure can_fail (remaining e.reader.now)) (from_ll x)))
+    (sym (ap (λ o. known_end o d.counter.count) left))
+    (subst (IsOutsideFault (d.counter.count + length y)) (failed-fault can_fail (left_of remaining e) (from_ll x)
+    (ended-ll can_fail (left_of remaining e) x ended))
+    (content-outside (left_of remaining e) x kind len d.last d.counter.count y b s z payload hd sp split
     (refused y left)))

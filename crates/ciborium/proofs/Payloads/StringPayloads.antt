@@ -45,11 +45,11 @@ content-spelled E of_text None p q added c (ps, s, parts, room, split, same) x h
     (ps, s, parts, same, ap (λ (z : List ℕ). z ++ c) hd ∙ ap (λ (z : List ℕ). open_byte 3 ∷ z) split)
 
 -- a string that was appended to an empty one
-pub content-taken : (E : Type 0) {S : Type 0} (remaining : S → Option (List ℕ)) (d e : Decoder S)
+pub content-taken : (E : Type 0) {S W : Type 0} (remaining : S → Option (List ℕ)) (d e : Decoder S W)
     (pending : Option (Header × ℕ)) (kind : StringKind) (len : Option ℕ) (start out : List ℕ) → pending ≡ None →
     start ≡ [] →
     Takes remaining d e (λ b. (added : List ℕ) × (out ≡ start ++ added) ×
-    IsStringTaken {E = E} kind len d.last b d.window.count (Ok tt) added) →
+    IsStringTaken {E = E} kind len d.last b d.counter.count (Ok tt) added) →
     TakesContent (IsUnreadBy remaining d pending) (IsUnreadBy remaining e pending) kind len out
 content-taken E remaining d e pending kind len start out none empty (b, takes, count, (added, is, taken), small) y u =
     let known : left_of remaining d ≡ Some y = subst (λ o. IsUnreadBy remaining d o y) none u in
@@ -57,7 +57,7 @@ content-taken E remaining d e pending kind len start out none empty (b, takes, c
     let all : added ≡ out = sym (is ∙ ap (λ (s : List ℕ). s ++ added) empty) in (
       b,
       z,
-      subst (IsContent kind len b) all (content-spelled E kind len d.last d.window.count added b taken),
+      subst (IsContent kind len b) all (content-spelled E kind len d.last d.counter.count added b taken),
       split,
       subst (λ o. IsUnreadBy remaining e o z) (sym none) left,
     )
@@ -115,14 +115,15 @@ content-long E kind None p q added c (ps, s, parts, room, split, same) =
     let m : length added ≡ length (joined ps) = ap length same in
     omega (arith, k, l, m)
 
-pub content-fewer : (E : Type 0) {S : Type 0} (remaining : S → Option (List ℕ)) (d e : Decoder S) (kind : StringKind)
+pub content-fewer : (E : Type 0) {S W : Type 0} (remaining : S → Option (List ℕ)) (d e : Decoder S W)
+    (kind : StringKind)
     (len : Option ℕ) (start out : List ℕ) → start ≡ [] →
     Takes remaining d e (λ b. (added : List ℕ) × (out ≡ start ++ added) ×
-    IsStringTaken {E = E} kind len d.last b d.window.count (Ok tt) added) →
-    3 * (greatest_offset - e.window.count) + length out ≤ 3 * (greatest_offset - d.window.count)
+    IsStringTaken {E = E} kind len d.last b d.counter.count (Ok tt) added) →
+    3 * (greatest_offset - e.counter.count) + length out ≤ 3 * (greatest_offset - d.counter.count)
 content-fewer E remaining d e kind len start out empty (b, takes, count, (added, is, taken), small) =
-    let fits = e.window.fits in
-    let k = content-long E kind len d.last d.window.count added b taken in
+    let fits = e.counter.fits in
+    let k = content-long E kind len d.last d.counter.count added b taken in
     let l : length out ≡ length added = ap length (is ∙ ap (λ (s : List ℕ). s ++ added) empty) in
     omega (arith, fits, count, k, l)
 

@@ -1,9 +1,11 @@
 -- From a source that was begun on a lent reader to the reader.
-use Rattle.std.proofs.Common.{◌≡◌, ℕ, ◌+◌, ◌≤◌, List, ◌++◌, Option, Some, None, Result, Ok, Err, IfOk, IfErr, IfSome}
+use Rattle.std.proofs.Common.{◌≡◌, ℕ, ◌+◌, Bool, List, ◌++◌, Option, Some, None, Result, Ok, Err, IfOk, IfErr}
+use Rattle.std.proofs.Common.{IfSome}
 use Rattle.std.proofs.Common.{OnOk, length, refl, sym, ap, ◌∙◌, subst, arith}
 use Rattle.std.specs.Io.KnownBytes.{Consumes}
-use Rattle.ciborium_ll.specs.Decoding.{HasBegun, IsAheadBy, with_left, left_of, allowed_of}
-use Rattle.ciborium_ll.proofs.HeldBytes.{begun-left, counted-left, nothing-allowed}
+use Rattle.ciborium_ll.specs.Decoding.{HasBegun, IsAheadBy, with_left, left_of}
+use Rattle.ciborium_ll.proofs.Decoders.{begun-left}
+use Rattle.ciborium_ll.specs.Accesses.{left_at_failure}
 use Rattle.ciborium_value.specs.Ahead.{bottom}
 use Rattle.ciborium_value.specs.Readings.{Reading}
 use Rattle.ciborium_value.specs.Sources.{Fault, IsGrantedFault, RefusesAhead, TakesAhead, TakesItem, read_as}
@@ -12,27 +14,27 @@ use Rattle.ciborium_value.specs.Tree.{Tree}
 use Rattle.ciborium.specs.declared.de.byte_source.ByteSource.{ByteSource}
 use Rattle.ciborium.specs.declared.de.error.Error.{Error}
 use Rattle.ciborium.specs.ValueAnswers.{TakesBytes, TakesBytesFrom}
-use Rattle.ciborium.specs.inner.ByteSources.{IsUnread, IsUnreadBy, ReadsValue, StandsBefore, end_at, pending_count}
+use Rattle.ciborium.specs.inner.ByteSources.{IsUnread, IsUnreadBy, ReadsValue, StandsBefore, end_at}
 use Rattle.ciborium.specs.inner.ByteSources.{known_end, reader_of}
-use Rattle.ciborium.specs.Errors.{fault_of}
+use Rattle.ciborium.specs.Errors.{HasEndedBy, fault_of}
 use Rattle.ciborium.specs.NextItems.{IsReadFrom}
-use Rattle.ciborium.specs.TypedAnswers.{IsFaultAhead, ReadsAsType, TakesGiving}
+use Rattle.ciborium.specs.TypedAnswers.{IsFaultAhead, ReadsAsTypeFrom, TakesGiving}
 use Rattle.ciborium.specs.Spelling.{any}
 use Rattle.ciborium.proofs.Items.TakenOnly.{taken-beginning, taken-name, taken-none}
-use Rattle.ciborium.proofs.Readers.WhateverFollows.{leaves-name, leaves-rest, taken-tree}
+use Rattle.ciborium.proofs.Readers.WhateverFollows.{taken-tree}
 
-module _ {S A : Type 0} (remaining : S → Option (List ℕ)) (old : ByteSource S) (taken : Taken A) (b : List ℕ)
-    (front : IsUnread remaining old b) (few : allowed_of old.decoder + pending_count old.pending ≤ 1) where
+module _ {S W A : Type 0} (remaining : S → Option (List ℕ)) (old : ByteSource S W) (taken : Taken A) (b : List ℕ)
+    (front : IsUnread remaining old b) where
   -- just the item at the front was taken, and the reader that was lent has what follows it
-  pub handed-ok : (new : ByteSource S) (v : A) (x : S) →
+  pub handed-ok : (new : ByteSource S W) (v : A) (x : S) →
       (old.decoder.reader.ghost_name ≡ new.decoder.reader.ghost_name → x ≡ new.decoder.reader.now) →
       TakesItem (IsUnread remaining) old new → TakesAhead (StandsBefore remaining) old new taken v →
       TakesGiving (Some old.levels) taken b v (remaining x)
   handed-ok new v x back took takes =
       let (z, un, (i, s, sp, e)) = took b front in
-      let (give, (z', un', fits, lv, none, due)) = takes (Some old.levels) i
+      let (give, (z', un', fits, lv, none)) = takes (Some old.levels) i
       (bottom (reader_of remaining old.decoder) z)
-      (b, front, (s, z, sp, (refl, refl), e), refl, tt, omega (arith, few)) in
+      (b, front, (s, z, sp, (refl, refl), e), refl, tt) in
       let left : left_of remaining new.decoder ≡ Some z' =
       subst (λ o. IsUnreadBy remaining new.decoder o z') none un' in (
         i,
@@ -41,57 +43,63 @@ module _ {S A : Type 0} (remaining : S → Option (List ℕ)) (old : ByteSource 
         sp,
         e,
         give,
-        ap remaining (back (ap (λ r. r.0) fits.1)) ∙
-            sym (counted-left remaining new.decoder (omega (arith, due))) ∙ left ∙ ap Some fits.0,
+        ap remaining (back (ap (λ r. r.0) fits.1)) ∙ left ∙ ap Some fits.0,
       )
 
   pub handed-refused : (fault : Fault) → RefusesAhead (StandsBefore remaining) old taken fault →
       IsFaultAhead (end_at remaining old) (Some old.levels) taken b fault
   handed-refused fault h i s z sp e = h (Some old.levels) i (bottom (reader_of remaining old.decoder) z)
-      (b, front, (s, z, sp, (refl, refl), e), refl, tt, omega (arith, few))
+      (b, front, (s, z, sp, (refl, refl), e), refl, tt)
 
 -- the same, of what was read from the source
-pub handed-given : {S T A : Type 0} (E : Type 0) (remaining : S → Option (List ℕ)) (reading : Reading T A)
-    (old new : ByteSource S) (b : List ℕ) → IsUnread remaining old b →
-    allowed_of old.decoder + pending_count old.pending ≤ 1 → (x : S) →
+pub handed-given : {S W T A : Type 0} (E : Type 0) (can_fail : Bool) (remaining : S →
+    Option (List ℕ)) (reading : Reading T A)
+    (old new : ByteSource S W) (b : List ℕ) → IsUnread remaining old b →
+    (x : S) →
     (old.decoder.reader.ghost_name ≡ new.decoder.reader.ghost_name → x ≡ new.decoder.reader.now) →
-    (r : Result T (Error E)) → IsReadFrom {E = E} remaining reading old new r →
+    (r : Result T (Error E)) → IsReadFrom {E = E} can_fail remaining reading old new r →
     IfOk (read_as reading.content r) (λ v. TakesGiving (Some old.levels) reading.taken b v (remaining x))
-handed-given E remaining reading old new b front few x back (Ok v) h =
-    handed-ok remaining old reading.taken b front few new (reading.content v) x back h.took h.ok
-handed-given E remaining reading old new b front few x back (Err e) h = tt
+handed-given E can_fail remaining reading old new b front x back (Ok v) h =
+    handed-ok remaining old reading.taken b front new (reading.content v) x back h.took h.ok
+handed-given E can_fail remaining reading old new b front x back (Err e) h = tt
 
 -- the reader that was lent is what the source is left with
-handed-back : {S T A : Type 0} (E : Type 0) (remaining : S → Option (List ℕ)) (reading : Reading T A)
-    (old new : ByteSource S) (x : S) →
+handed-back : {S W T A : Type 0} (E : Type 0) (can_fail : Bool) (remaining : S →
+    Option (List ℕ)) (reading : Reading T A)
+    (old new : ByteSource S W) (x : S) →
     (old.decoder.reader.ghost_name ≡ new.decoder.reader.ghost_name → x ≡ new.decoder.reader.now) →
-    (r : Result T (Error E)) → IsReadFrom {E = E} remaining reading old new r → x ≡ new.decoder.reader.now
-handed-back E remaining reading old new x back r h =
+    (r : Result T (Error E)) → IsReadFrom {E = E} can_fail remaining reading old new r → x ≡ new.decoder.reader.now
+handed-back E can_fail remaining reading old new x back r h =
     back (sym (taken-name remaining old.decoder new.decoder (h.only old (taken-none remaining old.decoder))))
 
-pub handed-denied : {S T A : Type 0} (E : Type 0) (remaining : S → Option (List ℕ)) (reading : Reading T A)
-    (old new : ByteSource S) (b : List ℕ) (end : ℕ) → IsUnread remaining old b →
-    allowed_of old.decoder + pending_count old.pending ≤ 1 → end_at remaining old ≡ end → (x : S) →
+pub handed-denied : {S W T A : Type 0} (E : Type 0) (can_fail : Bool) (remaining : S →
+    Option (List ℕ)) (reading : Reading T A)
+    (old new : ByteSource S W) (b : List ℕ) (end : ℕ) → IsUnread remaining old b →
+    end_at remaining old ≡ end → (x : S) →
     (old.decoder.reader.ghost_name ≡ new.decoder.reader.ghost_name → x ≡ new.decoder.reader.now) →
-    (r : Result T (Error E)) → IsReadFrom {E = E} remaining reading old new r →
+    (r : Result T (Error E)) → IsReadFrom {E = E} can_fail remaining reading old new r →
     IfErr (read_as reading.content r)
-    (λ e. IsFaultAhead end (Some old.levels) reading.taken b (fault_of (remaining x) e))
-handed-denied E remaining reading old new b end front few ends x back (Ok v) h = tt
-handed-denied E remaining reading old new b end front few ends x back (Err e) h =
-    let given = handed-back E remaining reading old new x back (Err e) h in
-    subst (λ n. IsFaultAhead n (Some old.levels) reading.taken b (fault_of (remaining x) e)) ends
-    (handed-refused remaining old reading.taken b front few (fault_of (remaining x) e)
-    (subst (λ y. RefusesAhead (StandsBefore remaining) old reading.taken (fault_of (remaining y) e)) (sym given)
+    (λ e. IsFaultAhead end (Some old.levels) reading.taken b (fault_of (left_at_failure can_fail (remaining x)) e))
+handed-denied E can_fail remaining reading old new b end front ends x back (Ok v) h = tt
+handed-denied E can_fail remaining reading old new b end front ends x back (Err e) h =
+    let given = handed-back E can_fail remaining reading old new x back (Err e) h in
+    subst (λ n. IsFaultAhead n (Some old.levels) reading.taken b (fault_of (left_at_failure can_fail
+    (remaining x)) e)) ends
+    (handed-refused remaining old reading.taken b front (fault_of (left_at_failure can_fail (remaining x)) e)
+    (subst (λ y. RefusesAhead (StandsBefore remaining) old reading.taken (fault_of (left_at_failure can_fail
+    (remaining y)) e)) (sym given)
     h.refused))
 
-pub handed-memory : {S T A : Type 0} (E : Type 0) (remaining : S → Option (List ℕ)) (reading : Reading T A)
-    (old new : ByteSource S) (x : S) →
+pub handed-memory : {S W T A : Type 0} (E : Type 0) (can_fail : Bool) (remaining : S →
+    Option (List ℕ)) (reading : Reading T A)
+    (old new : ByteSource S W) (x : S) →
     (old.decoder.reader.ghost_name ≡ new.decoder.reader.ghost_name → x ≡ new.decoder.reader.now) →
-    (r : Result T (Error E)) → IsReadFrom {E = E} remaining reading old new r →
-    IfErr r (λ e. IsGrantedFault (fault_of (remaining x) e) reading.needs_memory)
-handed-memory E remaining reading old new x back r h =
-    subst (λ y. IfErr r (λ e. IsGrantedFault (fault_of (remaining y) e) reading.needs_memory))
-    (sym (handed-back E remaining reading old new x back r h)) h.memory
+    (r : Result T (Error E)) → IsReadFrom {E = E} can_fail remaining reading old new r →
+    IfErr r (λ e. IsGrantedFault (fault_of (left_at_failure can_fail (remaining x)) e) reading.needs_memory)
+handed-memory E can_fail remaining reading old new x back r h =
+    subst (λ y. IfErr r (λ e. IsGrantedFault (fault_of (left_at_failure can_fail
+    (remaining y)) e) reading.needs_memory))
+    (sym (handed-back E can_fail remaining reading old new x back r h)) h.memory
 
 -- ---- where reading is one call of `value`
 
@@ -99,18 +107,17 @@ pub on-ok : {T E : Type 0} {P : Type 0} (r : Result T E) → P → OnOk r P
 on-ok (Ok v) p = p
 on-ok (Err e) p = tt
 
-pub handed-from : (E : Type 0) {S : Type 0} (remaining : S → Option (List ℕ)) (old new : ByteSource S) (lent x : S)
+pub handed-from : (E : Type 0) {S W : Type 0} (can_fail : Bool) (remaining : S →
+    Option (List ℕ)) (old new : ByteSource S W) (lent x : S)
     (p : ℕ) (r : Result Tree (Error E)) → HasBegun old.decoder lent p → old.pending ≡ None →
     (old.decoder.reader.ghost_name ≡ new.decoder.reader.ghost_name → x ≡ new.decoder.reader.now) →
-    ReadsValue remaining old new r →
+    ReadsValue can_fail remaining old new r →
     TakesBytesFrom {E = E} any p (remaining lent) old.levels (remaining x) r
-handed-from E {S} remaining old new lent x p r begins none back reads =
-    let (s, taken, count, h, bytes) = reads.1 in
-    let begun : old.decoder.window.count ≡ p = begins.count in
-    let less = new.decoder.window.fits in
-    let after : remaining x ≡ left_of remaining new.decoder =
-    ap remaining (back (sym (leaves-name remaining old.decoder new.decoder r reads.0))) ∙
-    sym (leaves-rest remaining old.decoder new.decoder r lent p begins reads.0) in (
+handed-from E {S} {W} can_fail remaining old new lent x p r begins none back reads =
+    let (same, ended, (s, taken, count, h, bytes)) = reads in
+    let begun : old.decoder.counter.count ≡ p = begins.count in
+    let less = new.decoder.counter.fits in
+    let after : remaining x ≡ left_of remaining new.decoder = ap remaining (back (sym same)) in (
       s,
       subst (λ o. Consumes (remaining lent) o s) (sym after)
           (subst (λ y. Consumes y (left_of remaining new.decoder) s) (begun-left remaining old.decoder lent p begins)
@@ -122,6 +129,26 @@ handed-from E {S} remaining old new lent x p r begins none back reads =
       bytes,
     )
 
+pub some-map : {A : Type 0} {P Q : A → Type 0} (o : Option A) → IfSome o P → ((v : A) → P v → Q v) → IfSome o Q
+some-map (Some v) p f = f v p
+some-map None p f = tt
+
+pub err-read : {T A E : Type 0} (content : T → A) (P : E → Type 0) (r : Result T E) → IfErr (read_as content r) P →
+    IfErr r P
+err-read content P (Ok v) h = tt
+err-read content P (Err e) h = h
+
+-- a reader that cannot fail before its end has nothing left at `Io`
+pub handed-ended : {S W T A : Type 0} (E : Type 0) (can_fail : Bool) (remaining : S → Option (List ℕ))
+    (reading : Reading T A) (old new : ByteSource S W) (x : S) →
+    (old.decoder.reader.ghost_name ≡ new.decoder.reader.ghost_name → x ≡ new.decoder.reader.now) →
+    (r : Result T (Error E)) → IsReadFrom {E = E} can_fail remaining reading old new r →
+    IfSome reading.whole (λ _. IfErr r (λ e. HasEndedBy can_fail (remaining x) e))
+handed-ended E can_fail remaining reading old new x back r h =
+    some-map reading.whole h.whole (λ tree reads. subst (λ y. IfErr r (λ e. HasEndedBy can_fail (remaining y) e))
+    (sym (handed-back E can_fail remaining reading old new x back r h))
+    (err-read (λ v. tree (reading.content v)) (λ e. HasEndedBy can_fail (left_of remaining new.decoder) e) r reads.1))
+
 -- from offset 0 on
 pub from-first : (E : Type 0) (before : Option (List ℕ)) (l : ℕ) (after : Option (List ℕ)) (r : Result Tree (Error E)) →
     TakesBytesFrom {E = E} any 0 before l after r → TakesBytes {E = E} any before l after r
@@ -131,33 +158,26 @@ pub err-map : {T E : Type 0} {P Q : E → Type 0} (r : Result T E) → IfErr r P
 err-map (Ok v) p f = tt
 err-map (Err e) p f = f e p
 
-pub some-map : {A : Type 0} {P Q : A → Type 0} (o : Option A) → IfSome o P → ((v : A) → P v → Q v) → IfSome o Q
-some-map (Some v) p f = f v p
-some-map None p f = tt
-
 -- all that a call says that reads one value from a source of its own
-pub handed-all : {S T A : Type 0} (E : Type 0) (remaining : S → Option (List ℕ)) (reading : Reading T A)
-    (old new : ByteSource S) (lent x : S) (p : ℕ) → HasBegun old.decoder lent p → old.pending ≡ None →
+pub handed-all : {S W T A : Type 0} (E : Type 0) (can_fail : Bool) (remaining : S →
+    Option (List ℕ)) (reading : Reading T A)
+    (old new : ByteSource S W) (lent x : S) (p : ℕ) → HasBegun old.decoder lent p → old.pending ≡ None →
     (old.decoder.reader.ghost_name ≡ new.decoder.reader.ghost_name → x ≡ new.decoder.reader.now) →
-    (r : Result T (Error E)) → IsReadFrom {E = E} remaining reading old new r →
-    ReadsAsType {E = E} p (Some old.levels) reading (remaining lent) (remaining x)
+    (r : Result T (Error E)) → IsReadFrom {E = E} can_fail remaining reading old new r →
+    ReadsAsTypeFrom {E = E} can_fail p (Some old.levels) reading (remaining lent) (remaining x)
     (TakesBytesFrom any p (remaining lent) old.levels (remaining x)) r
-handed-all E remaining reading old new lent x p begins none back r h =
+handed-all E can_fail remaining reading old new lent x p begins none back r h =
     let front : (b : List ℕ) → remaining lent ≡ Some b → IsUnread remaining old b =
     λ b e. subst (λ o. IsUnreadBy remaining old.decoder o b) (sym none)
     (begun-left remaining old.decoder lent p begins ∙ e) in
-    let few : allowed_of old.decoder + pending_count old.pending ≤ 1 =
-    let allowed = nothing-allowed old.decoder begins.nothing in
-    let pending : pending_count old.pending ≡ pending_count None = ap pending_count none in
-    omega (arith, allowed, pending) in
     record {
-      ok = λ b e. handed-given E remaining reading old new b (front b e) few x back r h;
-      refused = λ b e. handed-denied E remaining reading old new b (p + length b) (front b e) few
-          (ap (λ o. known_end o old.decoder.window.count) (begun-left remaining old.decoder lent p begins ∙ e) ∙
+      ok = λ b e. handed-given E can_fail remaining reading old new b (front b e) x back r h;
+      refused = λ b e. handed-denied E can_fail remaining reading old new b (p + length b) (front b e)
+          (ap (λ o. known_end o old.decoder.counter.count) (begun-left remaining old.decoder lent p begins ∙ e) ∙
           ap (λ n. n + length b) begins.count) x back r h;
-      memory = handed-memory E remaining reading old new x back r h;
+      memory = handed-memory E can_fail remaining reading old new x back r h;
       taken = taken-beginning remaining old.decoder new.decoder lent x p begins back
           (h.only old (taken-none remaining old.decoder));
-      value = some-map reading.whole h.whole (λ tree reads. handed-from E remaining old new lent x p
+      value = some-map reading.whole h.whole (λ tree reads. handed-from E can_fail remaining old new lent x p
           (read_as (λ v. tree (reading.content v)) r) begins none back reads);
     }

@@ -1,5 +1,5 @@
 -- From the head that was pulled first, and what is read behind it, to the reader of a sequence.
-use Rattle.std.proofs.Common.{◌≡◌, ℕ, ◌+◌, ◌<◌, ◌≤◌, List, [], ◌++◌, length, Option, Some, None, Result, Ok, Err}
+use Rattle.std.proofs.Common.{◌≡◌, ℕ, ◌+◌, ◌<◌, Bool, List, [], ◌++◌, length, Option, Some, None, Result, Ok, Err}
 use Rattle.std.proofs.Common.{IfErr, IfNone, IfSome, refl, sym, ap, ◌∙◌, subst, append_assoc, arith}
 use Rattle.std.proofs.Common.{length-append}
 use Rattle.std.specs.Io.KnownBytes.{Consumes, IsAtEnd}
@@ -9,13 +9,14 @@ use Rattle.ciborium_ll.specs.declared.header.Header.{Header}
 use Rattle.ciborium_ll.specs.declared.header.Error.{Error as LlError}
 use Rattle.ciborium_ll.specs.declared.header.Error.TheVariants as ll
 use Rattle.ciborium_ll.specs.declared.decoder.Decoder.{Decoder}
-use Rattle.ciborium_ll.specs.Decoding.{HasBegun, IsAheadBy, Takes, with_left, left_of, HasSameReader, allowed_of}
+use Rattle.ciborium_ll.specs.Accesses.{HasEnded, left_at_failure}
+use Rattle.ciborium_ll.specs.Decoding.{HasBegun, IsAheadBy, Takes, with_left, left_of, HasSameReader}
 use Rattle.ciborium_ll.specs.FirstHeads as first_heads
 use Rattle.ciborium_ll.specs.FirstHeads.{IsEndOrFault, IsFirstTaken}
 use Rattle.ciborium_ll.specs.ReaderSteps.{Advances, IsHeadTaken}
 use Rattle.ciborium_ll.specs.Refusal.{HeadRefuses, IsUsable}
 use Rattle.ciborium_ll.proofs.Unread.{reads-head}
-use Rattle.ciborium_ll.proofs.HeldBytes.{begun-count, begun-left, begun-rest, same-name}
+use Rattle.ciborium_ll.proofs.Decoders.{begun-left}
 use Rattle.ciborium_value.specs.Readings.{Reading}
 use Rattle.ciborium_value.specs.Refuses.{Refuses}
 use Rattle.ciborium_value.specs.Sources.{IsGrantedFault, IsOutsideFault, TakesOnly, read_as}
@@ -28,18 +29,18 @@ use Rattle.ciborium.specs.ValueAnswers.{ReadsWhole, TakesBytes}
 use Rattle.ciborium.specs.inner.ByteSources.{HasTakenSince, IsUnread, ReadsValue}
 use Rattle.ciborium.specs.Errors.{fault_of}
 use Rattle.ciborium.specs.Errors.{from_ll}
-use Rattle.ciborium.specs.NextItems.{IfNotEnded, IsReadIo, IsReadFrom, Otherwise, ReadsNextAsType, TellsEnd}
+use Rattle.ciborium.specs.NextItems.{IfNotEnded, IsReadIo, IsReadFrom, Otherwise, ReadsNextAsTypeFrom, TellsEnd}
 use Rattle.ciborium.specs.NextItems.{behind_head}
 use Rattle.ciborium.specs.TypedAnswers.{IsFaultAhead, RefusesTaken, TakesGiven}
 use Rattle.ciborium.specs.Spelling.{any}
-use Rattle.ciborium.proofs.Items.FrontReads.{granted-head, head-outside}
+use Rattle.ciborium.proofs.Items.FrontReads.{ended-ll, failed-fault, granted-head, head-outside}
 use Rattle.ciborium.proofs.Readers.HandedReaders.{handed-denied, handed-given, handed-memory, on-ok}
 use Rattle.ciborium.proofs.Readers.HandedReaders.{some-map}
 use Rattle.ciborium.proofs.Items.ItemHeads.{first-head, first-payload, header_of}
 use Rattle.ciborium.proofs.Readers.KnownReaders.{whole-of}
 use Rattle.ciborium.proofs.Turns.Pulled.{refused-from, refused-map}
 use Rattle.ciborium.proofs.Items.TakenOnly.{taken-beginning, taken-none, taken-then, takes-end, takes-only}
-use Rattle.ciborium.proofs.Readers.WhateverFollows.{leaves-name, leaves-rest, leaves-then, taken-tree}
+use Rattle.ciborium.proofs.Readers.WhateverFollows.{taken-tree}
 
 -- what an answer says where none is the end
 end-says : {A E : Type 0} (r : Result (Option A) E) (P : Result A E → Type 0) → r ≡ Ok None → Otherwise r P
@@ -47,17 +48,18 @@ end-says r P is = subst (λ q. Otherwise q P) (sym is) tt
 
 -- ---- the head that was pulled first: d was begun on the reader that was lent, and has pulled it
 
-module _ {S : Type 0} (E : Type 0) (remaining : S → Option (List ℕ)) (d : Decoder S) (s : ByteSource S) (lent : S)
+module _ {S W : Type 0} (E : Type 0) (can_fail : Bool) (remaining : S → Option (List ℕ)) (d : Decoder S W)
+    (s : ByteSource S W) (lent : S)
     (begins : HasBegun d lent 0) (same : HasSameReader d s.decoder) (h : Header)
-    (taken : Takes remaining d s.decoder (λ b. IsHeadTaken {E = E} b d.window.count (Ok h))) where
-  zero-count : d.window.count ≡ 0
+    (taken : Takes remaining d s.decoder (λ b. IsHeadTaken {E = E} b d.counter.count (Ok h))) where
+  zero-count : d.counter.count ≡ 0
   zero-count = begins.count
 
   -- it is pending
   front : (b : List ℕ) → remaining lent ≡ Some b → IsUnread remaining (behind_head s h) b
   front b known =
       let (x, r, spelled, usable, split, count, left) =
-      reads-head {E = E} (left_of remaining d) (left_of remaining s.decoder) b d.window.count s.decoder.window.count
+      reads-head {E = E} (left_of remaining d) (left_of remaining s.decoder) b d.counter.count s.decoder.counter.count
       (Ok h) (begun-left remaining d lent 0 begins ∙ known) taken in (
         x,
         r,
@@ -76,7 +78,7 @@ module _ {S : Type 0} (E : Type 0) (remaining : S → Option (List ℕ)) (d : De
   front-any u =
       let (x, consumed, count, t, bytes) = taken in
       let (y, r, spelled, usable, split, sum, left) = reads-head {E = E} (Some (x ++ u)) (Some u) (x ++ u)
-      d.window.count s.decoder.window.count (Ok h) refl (x, refl, count, t, bytes) in (
+      d.counter.count s.decoder.counter.count (Ok h) refl (x, refl, count, t, bytes) in (
         refl,
         y,
         r,
@@ -88,18 +90,16 @@ module _ {S : Type 0} (E : Type 0) (remaining : S → Option (List ℕ)) (d : De
       )
 
   -- with the bytes that were taken behind it
-  joined : (t : ByteSource S) (x : S) (r : Result Tree (Error E)) →
+  joined : (t : ByteSource S W) (x : S) (r : Result Tree (Error E)) →
       (s.decoder.reader.ghost_name ≡ t.decoder.reader.ghost_name → x ≡ t.decoder.reader.now) →
-      ReadsValue {E = E} remaining (behind_head s h) t r →
+      ReadsValue {E = E} can_fail remaining (behind_head s h) t r →
       TakesBytes {E = E} any (remaining lent) s.levels (remaining x) r
   joined t x r back reads =
       let (b, consumed, count, head, bytes) = taken in
-      let (c, more, sum, f, low) = reads.1 in
+      let (kept, ended, (c, more, sum, f, low)) = reads in
       let zero = zero-count in
-      let less = t.decoder.window.fits in
-      let after : remaining x ≡ left_of remaining t.decoder =
-      ap remaining (back (sym (leaves-name remaining s.decoder t.decoder r reads.0))) ∙
-      sym (leaves-rest remaining d t.decoder r lent 0 begins (leaves-then d s.decoder t.decoder r same reads.0)) in (
+      let less = t.decoder.counter.fits in
+      let after : remaining x ≡ left_of remaining t.decoder = ap remaining (back (sym kept)) in (
         b ++ c,
         subst (λ o. Consumes (remaining lent) o (b ++ c)) (sym after)
             (Consumes-trans (remaining lent) (left_of remaining s.decoder) (left_of remaining t.decoder) b c
@@ -115,21 +115,19 @@ module _ {S : Type 0} (E : Type 0) (remaining : S → Option (List ℕ)) (d : De
 
 -- ---- the answer of the call, with what was read behind the head
 
-module _ {S T A : Type 0} (E : Type 0) (remaining : S → Option (List ℕ)) (reading : Reading T A) (d : Decoder S)
-    (s t : ByteSource S) (lent x : S) (begins : HasBegun d lent 0) (kept : HasSameReader d s.decoder) where
-  -- nothing is read ahead where the head is pending
-  few : allowed_of s.decoder + 1 ≤ 1
-  few = let none = begun-count d s.decoder lent 0 begins kept in omega (arith, none)
-
+module _ {S W T A : Type 0} (E : Type 0) (can_fail : Bool) (remaining : S →
+    Option (List ℕ)) (reading : Reading T A) (d : Decoder S W)
+    (s t : ByteSource S W) (lent x : S) (begins : HasBegun d lent 0) (kept : HasSameReader d s.decoder) where
   -- what is known of the answer behind the first head
   abbrev pub Behind : Option Header → Result (Option T) (Error E) → Type 0
-  Behind first r = IfSome first (λ h. IfNotEnded r (λ q. IsReadFrom {E = E} remaining reading (behind_head s h) t q))
+  Behind first r = IfSome first (λ h. IfNotEnded r (λ q. IsReadFrom {E = E} can_fail remaining reading
+      (behind_head s h) t q))
 
   abbrev pub End : Option Header → Result (Option T) (Error E) → Type 0
   End first r = IfNone first ((r ≡ Ok None) × (t.decoder ≡ s.decoder))
 
   abbrev pub First : Option Header → Type 0
-  First first = Takes remaining d s.decoder (λ b. IsFirstTaken {E = E} b d.window.count (Ok first))
+  First first = Takes remaining d s.decoder (λ b. IsFirstTaken {E = E} b d.counter.count (Ok first))
 
   module _ (back : s.decoder.reader.ghost_name ≡ t.decoder.reader.ghost_name → x ≡ t.decoder.reader.now) where
     tells-end : (first : Option Header) (r : Result (Option T) (Error E)) → First first →
@@ -137,16 +135,13 @@ module _ {S T A : Type 0} (E : Type 0) (remaining : S → Option (List ℕ)) (re
         (left_of remaining d ≡ Some [] → IsEndOrFault {E = E} (Ok first)) → End first r → Behind first r →
         TellsEnd {E = E} (remaining lent) (remaining x) r
     tells-end None r (b, consumed, count, none, bytes) end empty (is, same) item =
-        let after : x ≡ s.decoder.reader.now = back (ap (λ (u : Decoder S). u.reader.ghost_name) (sym same)) ∙
-        ap (λ (u : Decoder S). u.reader.now) same in
-        let rest : left_of remaining s.decoder ≡ remaining s.decoder.reader.now =
-        begun-rest remaining d s.decoder lent 0 begins kept in
+        let after : x ≡ s.decoder.reader.now = back (ap (λ (u : Decoder S W). u.reader.ghost_name) (sym same)) ∙
+        ap (λ (u : Decoder S W). u.reader.now) same in
         subst (λ q. TellsEnd {E = E} (remaining lent) (remaining x) q) (sym is) (
           subst (λ y. Consumes (remaining lent) (remaining y) []) (sym after)
-              (subst (λ y. Consumes (remaining lent) y []) rest
               (subst (λ y. Consumes y (left_of remaining s.decoder) []) (begun-left remaining d lent 0 begins)
-              (subst (λ z. Consumes (left_of remaining d) (left_of remaining s.decoder) z) none consumed))),
-          subst (λ y. IsAtEnd (remaining y)) (sym after) (subst IsAtEnd rest end),
+              (subst (λ z. Consumes (left_of remaining d) (left_of remaining s.decoder) z) none consumed)),
+          subst (λ y. IsAtEnd (remaining y)) (sym after) end,
         )
     tells-end (Some h) (Ok None) taken end empty none item = absurd item
     tells-end (Some h) (Ok (Some v)) taken end empty none item =
@@ -161,8 +156,9 @@ module _ {S T A : Type 0} (E : Type 0) (remaining : S → Option (List ℕ)) (re
     next-ok None r taken (is, same) item = end-says r (λ q. TakesGiven (Some s.levels) reading.taken (remaining lent)
         (remaining x) (read_as reading.content q)) is
     next-ok (Some h) (Ok None) taken none item = absurd item
-    next-ok (Some h) (Ok (Some v)) taken none item = λ b known. handed-given E remaining reading (behind_head s h) t b
-        (front E remaining d s lent begins kept h taken b known) few x back (Ok v) item
+    next-ok (Some h) (Ok (Some v)) taken none item = λ b known. handed-given E can_fail remaining reading
+        (behind_head s h) t b
+        (front E can_fail remaining d s lent begins kept h taken b known) x back (Ok v) item
     next-ok (Some h) (Err e) taken none item = λ b known. tt
 
     next-value : (first : Option Header) (r : Result (Option T) (Error E)) → First first → End first r →
@@ -175,41 +171,45 @@ module _ {S T A : Type 0} (E : Type 0) (remaining : S → Option (List ℕ)) (re
     next-value (Some h) (Ok None) taken none item = absurd item
     next-value (Some h) (Ok (Some v)) taken none item =
         some-map reading.whole item.whole (λ tree reads. whole-of {E = E} any s.levels (remaining lent) (remaining x)
-        (Ok (tree (reading.content v))) (joined E remaining d s lent begins kept h taken t x
+        (Ok (tree (reading.content v))) (joined E can_fail remaining d s lent begins kept h taken t x
         (Ok (tree (reading.content v))) back reads))
     next-value (Some h) (Err e) taken none item =
         some-map reading.whole item.whole (λ tree reads. whole-of {E = E} any s.levels (remaining lent) (remaining x)
-        (Err e) (joined E remaining d s lent begins kept h taken t x (Err e) back reads))
+        (Err e) (joined E can_fail remaining d s lent begins kept h taken t x (Err e) back reads))
 
     next-refused : (first : Option Header) (r : Result (Option T) (Error E)) → First first → End first r →
-        Behind first r → Otherwise r (λ q. RefusesTaken 0 (Some s.levels) reading.taken (remaining lent) (remaining x)
+        Behind first r → Otherwise r (λ q. RefusesTaken 0 (Some s.levels) reading.taken (remaining lent)
+        (left_at_failure can_fail (remaining x))
         (read_as reading.content q))
     next-refused None r taken (is, same) item = end-says r
-        (λ q. RefusesTaken 0 (Some s.levels) reading.taken (remaining lent) (remaining x)
+        (λ q. RefusesTaken 0 (Some s.levels) reading.taken (remaining lent)
+        (left_at_failure can_fail (remaining x))
         (read_as reading.content q)) is
     next-refused (Some h) (Ok None) taken none item = absurd item
     next-refused (Some h) (Ok (Some v)) taken none item = λ b known. tt
-    next-refused (Some h) (Err e) taken none item = λ b known. handed-denied E remaining reading (behind_head s h) t b
-        (0 + length b) (front E remaining d s lent begins kept h taken b known) few
+    next-refused (Some h) (Err e) taken none item = λ b known. handed-denied E can_fail remaining reading
+        (behind_head s h) t b
+        (0 + length b) (front E can_fail remaining d s lent begins kept h taken b known)
         (takes-end remaining d s.decoder _ b (begun-left remaining d lent 0 begins ∙ known) taken ∙
         ap (λ n. n + length b) begins.count) x back (Err e) item
 
     next-memory : (first : Option Header) (r : Result (Option T) (Error E)) → End first r → Behind first r →
-        IfErr r (λ e. IsGrantedFault (fault_of (remaining x) e) reading.needs_memory)
+        IfErr r (λ e. IsGrantedFault (fault_of (left_at_failure can_fail (remaining x)) e) reading.needs_memory)
     next-memory None r (is, same) item =
-        subst (λ q. IfErr q (λ e. IsGrantedFault (fault_of (remaining x) e) reading.needs_memory)) (sym is) tt
+        subst (λ q. IfErr q (λ e. IsGrantedFault (fault_of (left_at_failure can_fail
+        (remaining x)) e) reading.needs_memory)) (sym is) tt
     next-memory (Some h) (Ok v) none item = tt
     next-memory (Some h) (Err e) none item =
-        handed-memory E remaining reading (behind_head s h) t x back (Err e) item
+        handed-memory E can_fail remaining reading (behind_head s h) t x back (Err e) item
 
   -- all of it
   pub reads-next : (s.decoder.reader.ghost_name ≡ t.decoder.reader.ghost_name → x ≡ t.decoder.reader.now) →
       TakesOnly (HasTakenSince remaining) s t → (first : Option Header) (r : Result (Option T) (Error E)) →
       First first → IfNone first (IsAtEnd (left_of remaining s.decoder)) →
       (left_of remaining d ≡ Some [] → IsEndOrFault {E = E} (Ok first)) → End first r → Behind first r →
-      ReadsNextAsType s.levels reading (remaining lent) (remaining x) r
+      ReadsNextAsTypeFrom can_fail s.levels reading (remaining lent) (remaining x) r
   reads-next back only first r taken end empty none item =
-      let same = same-name d s.decoder kept in record {
+      let same = kept in record {
         end = tells-end back first r taken end empty none item;
         ok = next-ok back first r taken none item;
         refused = next-refused back first r taken none item;
@@ -233,40 +233,40 @@ first-io (ll.Syntax p) h = h
 first-io ll.TooLong h = h
 first-io ll.Memory h = h
 
-module _ {S : Type 0} (E : Type 0) (remaining : S → Option (List ℕ)) (d e : Decoder S) (lent : S)
+module _ {S W : Type 0} (E : Type 0) (can_fail : Bool) (remaining : S → Option (List ℕ)) (d e : Decoder S W) (lent : S)
     (begins : HasBegun d lent 0) (same : HasSameReader d e) (x : LlError E)
-    (taken : Takes remaining d e (λ b. IsHeadTaken {E = E} b d.window.count (Err x))) where
+    (ended : HasEnded can_fail (left_of remaining e) x)
+    (taken : Takes remaining d e (λ b. IsHeadTaken {E = E} b d.counter.count (Err x))) where
   first-denied : {A : Type 0} (l : Option ℕ) (given : Taken A) (b : List ℕ) → remaining lent ≡ Some b →
-      IsFaultAhead (0 + length b) l given b (fault_of (remaining e.reader.now) (from_ll x))
+      IsFaultAhead (0 + length b) l given b (fault_of (left_at_failure can_fail (remaining e.reader.now)) (from_ll x))
   first-denied l given b known i s left spelled split =
       let (y, c, head, whole) = first-head s i spelled in
-      let refused = reads-head {E = E} (left_of remaining d) (left_of remaining e) b d.window.count e.window.count
+      let refused = reads-head {E = E} (left_of remaining d) (left_of remaining e) b d.counter.count e.counter.count
       (Err x) (begun-left remaining d lent 0 begins ∙ known) taken in
       let there = first-payload s i spelled in
       let more = length-append c left in
-      fault_outside _ (fault_of (remaining e.reader.now) (from_ll x)) (given l i)
+      fault_outside _ (fault_of (left_at_failure can_fail (remaining e.reader.now)) (from_ll x)) (given l i)
+      (subst (λ f. IsOutsideFault (0 + length b) f) (failed-fault can_fail (left_of remaining e) (from_ll x)
+      (ended-ll can_fail (left_of remaining e) x ended))
       (subst (λ n. IsOutsideFault (n + length b) (fault_of (remaining e.reader.now) (from_ll x))) begins.count
-      (head-outside (remaining e.reader.now) x b y (c ++ left) d.window.count (header_of i) head
-      (split ∙ ap (λ (z : List ℕ). z ++ left) whole ∙ append_assoc y c left) (omega (arith, there, more))
-      (subst (λ o. Rattle.ciborium_ll.specs.ReaderSteps.IsRefusalOf o x (HeadRefuses b d.window.count))
-      (begun-rest remaining d e lent 0 begins same) refused)))
+      (head-outside (remaining e.reader.now) x b y (c ++ left) d.counter.count (header_of i) head
+      (split ∙ ap (λ (z : List ℕ). z ++ left) whole ∙ append_assoc y c left) (omega (arith, there, more)) refused)))
 
   first-taken : (l : ℕ) (back : S) → back ≡ e.reader.now →
       TakesBytes {E = E} any (remaining lent) l (remaining back) (Err (from_ll x))
   first-taken l back given =
       let (b, consumed, count, head, bytes) = taken in
-      let zero : d.window.count ≡ 0 = begins.count in
-      let less = e.window.fits in (
+      let zero : d.counter.count ≡ 0 = begins.count in
+      let less = e.counter.fits in (
         b,
         subst (λ y. Consumes (remaining lent) (remaining y) b) (sym given)
-            (subst (λ y. Consumes (remaining lent) y b) (begun-rest remaining d e lent 0 begins same)
-            (subst (λ y. Consumes y (left_of remaining e) b) (begun-left remaining d lent 0 begins) consumed)),
+            (subst (λ y. Consumes y (left_of remaining e) b) (begun-left remaining d lent 0 begins) consumed),
         omega (arith, count, zero, less),
         (λ c. refused-map (Some c) (from_ll x) (HeadRefuses (b ++ c) 0) (λ r. Refuses (b ++ c) 0 (Some l) r)
             (λ r h. Refuses.no_head h)
             (refused-from (Some c) x (HeadRefuses (b ++ c) 0)
             (subst (λ n. Rattle.ciborium_ll.specs.ReaderSteps.IsRefusalOf (Some c) x (HeadRefuses (b ++ c) n)) zero
-            (reads-head {E = E} (Some (b ++ c)) (Some c) (b ++ c) d.window.count e.window.count (Err x) refl
+            (reads-head {E = E} (Some (b ++ c)) (Some c) (b ++ c) d.counter.count e.counter.count (Err x) refl
             (b, refl, count, head, bytes))))),
         bytes,
       )
@@ -274,15 +274,17 @@ module _ {S : Type 0} (E : Type 0) (remaining : S → Option (List ℕ)) (d e : 
   -- all of it
   pub refuses-first : {T A : Type 0} (l : ℕ) (reading : Reading T A) (back : S) →
       (left_of remaining d ≡ Some [] → first_heads.IsHeadIo x) → back ≡ e.reader.now →
-      ReadsNextAsType l reading (remaining lent) (remaining back) (Err (from_ll x))
+      ReadsNextAsTypeFrom can_fail l reading (remaining lent) (remaining back) (Err (from_ll x))
   refuses-first l reading back empty given = record {
     end = λ known. first-io x (empty (begun-left remaining d lent 0 begins ∙ known));
     ok = λ b known. tt;
-    refused = λ b known. subst (λ y. IsFaultAhead (0 + length b) (Some l) reading.taken b (fault_of (remaining y)
-        (from_ll x))) (sym given) (first-denied (Some l) reading.taken b known);
-    memory = granted-head (remaining back) x taken.0 d.window.count reading.needs_memory taken.3;
+    refused = λ b known. subst (λ y. IsFaultAhead (0 + length b) (Some l) reading.taken b
+        (fault_of (left_at_failure can_fail (remaining y)) (from_ll x))) (sym given) (first-denied
+        (Some l) reading.taken b known);
+    memory = granted-head (left_at_failure can_fail (remaining back)) x taken.0 d.counter.count reading.needs_memory
+        taken.3;
     taken = taken-beginning remaining d e lent back 0 begins (λ _. given)
-        (takes-only remaining d e _ (same-name d e same) taken d (taken-none remaining d));
+        (takes-only remaining d e _ same taken d (taken-none remaining d));
     value = some-all reading.whole (λ tree. whole-of {E = E} any l (remaining lent) (remaining back) (Err (from_ll x))
         (first-taken l back given));
   }

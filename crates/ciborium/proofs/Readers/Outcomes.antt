@@ -10,7 +10,8 @@ use Rattle.ciborium.specs.ValueAnswers.{IsFailed}
 use Rattle.ciborium.specs.Errors.{IsRefusedBy, IsNamed, refusal_kind_of}
 use Rattle.ciborium.specs.inner.ValuesInBytes.{IsAt}
 
-pub left-at : {S : Type 0} (remaining : S → Option (List ℕ)) (d : Decoder S) (r : ℕ) (zs : List ℕ) → d.pushed ≡ None →
+pub left-at : {S W : Type 0} (remaining : S → Option (List ℕ)) (d : Decoder S W) (r : ℕ) (zs : List ℕ) →
+    d.pushed ≡ None →
     IsAhead remaining d zs r → left_of remaining d ≡ Some zs
 left-at remaining d r zs rests a = let at : IsAt remaining d zs r = subst (λ o. IsAheadBy remaining d zs r o) rests a in
     at.1

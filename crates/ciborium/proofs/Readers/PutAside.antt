@@ -1,7 +1,7 @@
 -- What is said of an answer does not look at what an error holds of the reader.
-use Rattle.std.proofs.Common.{◌≡◌, ℕ, List, Option, Some, Result, Err, refl, sym, subst}
+use Rattle.std.proofs.Common.{◌≡◌, ℕ, Bool, List, Option, Some, Result, Err, IfErr, refl, sym, subst}
 use Rattle.ciborium_ll.specs.declared.decoder.Decoder.{Decoder}
-use Rattle.ciborium_ll.specs.Decoding.{IsAheadBy, TakesBeforeAny}
+use Rattle.ciborium_ll.specs.Decoding.{HasSameReader, IsAheadBy, TakesBeforeAny, left_of}
 use Rattle.ciborium_ll.specs.Refusal.{Refusal}
 use Rattle.ciborium.specs.declared.de.byte_source.ByteSource.{ByteSource}
 use Rattle.ciborium.specs.declared.de.error.Error.{Error}
@@ -10,8 +10,8 @@ use Rattle.ciborium_value.specs.Tree.{Tree}
 use Rattle.ciborium.specs.ValueAnswers.{IsTreeRead}
 use Rattle.ciborium.specs.inner.ByteSources.{ReadsValue}
 use Rattle.ciborium.specs.Errors.{fault_of}
-use Rattle.ciborium.specs.inner.Due.{LeavesReader}
-use Rattle.ciborium.specs.Errors.{IsRefusedBy, without_reader_error}
+use Rattle.ciborium.specs.Errors.{HasEndedBy, IsRefusedBy, without_reader_error}
+use Rattle.ciborium.specs.inner.ValuesInBytes.{HasEndedAfter}
 use Rattle.ciborium.specs.Spelling.{Spelling, any, RefusesBy}
 use Rattle.ciborium.proofs.Readers.WhateverFollows.{TreeSo}
 
@@ -33,31 +33,42 @@ back-refused left errors.RecursionLimitExceeded P h = h
 back-refused left errors.Memory P h = h
 back-refused left errors.TooLong P h = h
 
-pub back-reads : {S E : Type 0} (remaining : S → Option (List ℕ)) (old new : ByteSource S) (e : Error E) →
-    ReadsValue {E = Unit} remaining old new (Err (without_reader_error e)) →
-    ReadsValue {E = E} remaining old new (Err e)
-back-reads remaining old new e reads = (
-  reads.0,
-  (let (s, taken, count, h, bytes) = reads.1 in (
+pub back-ended : {E : Type 0} (can_fail : Bool) (left : Option (List ℕ)) (e : Error E) →
+    HasEndedBy can_fail left (without_reader_error e) → HasEndedBy can_fail left e
+back-ended can_fail left (errors.Io x) h = h
+back-ended can_fail left (errors.Syntax p) h = h
+back-ended can_fail left (errors.Semantic p k) h = h
+back-ended can_fail left errors.RecursionLimitExceeded h = h
+back-ended can_fail left errors.Memory h = h
+back-ended can_fail left errors.TooLong h = h
+
+pub back-reads : {S W E : Type 0} (can_fail : Bool) (remaining : S → Option (List ℕ)) (old new : ByteSource S W)
+    (e : Error E) → ReadsValue {E = Unit} can_fail remaining old new (Err (without_reader_error e)) →
+    ReadsValue {E = E} can_fail remaining old new (Err e)
+back-reads can_fail remaining old new e (same, ended, (s, taken, count, h, bytes)) = (
+  same,
+  back-ended can_fail (left_of remaining new.decoder) e ended,
+  (
     s,
     taken,
     count,
     λ c xs p ahead. back-refused _ e _ (h c xs p ahead),
     bytes,
-  )),
+  ),
 )
 
 -- the decoder stays as it was where the error is put back
-pub same-decoder : {S E : Type 0} (remaining : S → Option (List ℕ)) (old mid new : ByteSource S)
-    (r : Result Tree (Error E)) → new.decoder ≡ mid.decoder → ReadsValue {E = E} remaining old mid r →
-    ReadsValue {E = E} remaining old new r
-same-decoder {S} {E} remaining old mid new r same reads =
-    subst (λ (d : Decoder S). LeavesReader old.decoder d r ×
+pub same-decoder : {S W E : Type 0} (can_fail : Bool) (remaining : S → Option (List ℕ)) (old mid new : ByteSource S W)
+    (r : Result Tree (Error E)) → new.decoder ≡ mid.decoder → ReadsValue {E = E} can_fail remaining old mid r →
+    ReadsValue {E = E} can_fail remaining old new r
+same-decoder {S} {W} {E} can_fail remaining old mid new r same reads =
+    subst (λ (d : Decoder S W). HasSameReader old.decoder d ×
+    IfErr r (λ e. HasEndedAfter can_fail remaining d e) ×
     TakesBeforeAny remaining old.decoder d (λ a b. (xs : List ℕ) (p : ℕ) → IsAheadBy Some a xs p old.pending →
     IsTreeRead {S = List ℕ} {E = E} any Some b old.levels xs p r)) (sym same) reads
 
 -- the same, of what a decoder was read as
-pub back-tree : {S E : Type 0} (spelling : Spelling) (remaining : S → Option (List ℕ)) (a b : Decoder S) (l : ℕ)
+pub back-tree : {S W E : Type 0} (spelling : Spelling) (remaining : S → Option (List ℕ)) (a b : Decoder S W) (l : ℕ)
     (e : Error E) → TakesBeforeAny remaining a b (λ d f. TreeSo {E = Unit} spelling l d f
     (Err (without_reader_error e))) →
     TakesBeforeAny remaining a b (λ d f. TreeSo {E = E} spelling l d f (Err e))

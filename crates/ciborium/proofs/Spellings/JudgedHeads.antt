@@ -70,10 +70,10 @@ long-head m n size kind h is len wrong = by (eqb size (length (shortest_head m n
     )
 
 -- one that was pulled, where nothing is wrong with it
-pub short-front : {S : Type 0} (remaining : S → Option (List ℕ)) (d : Decoder S) (h k : Header) (m n p : ℕ)
+pub short-front : {S W : Type 0} (remaining : S → Option (List ℕ)) (d : Decoder S W) (h k : Header) (m n p : ℕ)
     (xs : List ℕ) → h ≡ k → ((b : List ℕ) → SpellsHeader b k → IsHead b m n) →
     ((size : ℕ) → deterministic_fault k size ≡ long_fault m n size) → deterministic_fault h d.head_len ≡ None →
-    d.window.count ≡ p + d.head_len → (a : IsPulled remaining d h xs p) → HasShortHead m n xs p a.1 (p + length a.0)
+    d.counter.count ≡ p + d.head_len → (a : IsPulled remaining d h xs p) → HasShortHead m n xs p a.1 (p + length a.0)
 short-front remaining d h k m n p xs same is fault none size a =
     let u : Front xs p k a.0 a.1 = front-of remaining d h k xs p same a in
     let count = a.6.0 in
@@ -142,9 +142,9 @@ module _ (order : KeyOrder) where
     head-refuses header.Break is wrong = absurd cc
 
   -- the head that was pulled is wrong
-  pub fault-refuses : (E : Type 0) {S : Type 0} (remaining : S → Option (List ℕ)) (d : Decoder S) (h : Header)
+  pub fault-refuses : (E : Type 0) {S W : Type 0} (remaining : S → Option (List ℕ)) (d : Decoder S W) (h : Header)
       (l p offset : ℕ) (xs : List ℕ) (kind : Kind) → deterministic_fault h d.head_len ≡ Some kind →
-      d.window.count ≡ p + d.head_len → offset ≡ p →
+      d.counter.count ≡ p + d.head_len → offset ≡ p →
       IsPulled remaining d h xs p → IsRefusedBy {E = E} (left_of remaining d) (Semantic (Some offset) kind)
       (DeterministicallyRefuses order xs p l)
   fault-refuses E remaining d h l p offset xs kind wrong size here a =

@@ -27,21 +27,21 @@ use Rattle.ciborium.proofs.Spellings.JudgedHeads.{short-front}
 use Rattle.ciborium_value.specs.declared.key_order.KeyOrder.{KeyOrder}
 
 -- no head is pushed, so none has to be measured
-pub unpushed : {S : Type 0} (d : Decoder S) → d.pushed ≡ None → IsMeasured d
-unpushed d e = subst (λ o. MatchOption o (Unit {0}) (λ head. d.window.count ≡ head.1 + d.head_len)) (sym e) tt
+pub unpushed : {S W : Type 0} (d : Decoder S W) → d.pushed ≡ None → IsMeasured d
+unpushed d e = subst (λ o. MatchOption o (Unit {0}) (λ head. d.counter.count ≡ head.1 + d.head_len)) (sym e) tt
 
 module _ (order : KeyOrder) where
-  pub measured-at : {S : Type 0} (remaining : S → Option (List ℕ)) (d : Decoder S) (p : ℕ) (xs : List ℕ) →
+  pub measured-at : {S W : Type 0} (remaining : S → Option (List ℕ)) (d : Decoder S W) (p : ℕ) (xs : List ℕ) →
       d.pushed ≡ None → IsAt remaining d xs p → StandsAt (deterministic order) remaining d xs p
   measured-at remaining d p xs none at = (ahead-at remaining d p xs none at, unpushed d none)
 
   -- a value that means t stands at xs, and the decoder stands behind it
-  abbrev pub Got : {S : Type 0} → (S → Option (List ℕ)) → Decoder S → ℕ → List ℕ → ℕ → Tree → Type 0
+  abbrev pub Got : {S W : Type 0} → (S → Option (List ℕ)) → Decoder S W → ℕ → List ℕ → ℕ → Tree → Type 0
   Got remaining d l xs p t = (zs : List ℕ) × (r : ℕ) × ReadsItem (deterministic order) l xs p t zs r ×
       StandsAt (deterministic order) remaining d zs r
 
   -- the tree of the head that was pulled
-  pub got-leaf : {S : Type 0} (remaining : S → Option (List ℕ)) (d : Decoder S) (l : ℕ) (xs : List ℕ) (p : ℕ)
+  pub got-leaf : {S W : Type 0} (remaining : S → Option (List ℕ)) (d : Decoder S W) (l : ℕ) (xs : List ℕ) (p : ℕ)
       (h : Header) (m n : ℕ) (t u : Tree) → d.pushed ≡ None → u ≡ t →
       encoding t ≡ shortest_head m n → IsCanonicalTree order t → nesting (item_of t) ≤ l →
       (a : IsPulled remaining d h xs p) → HasShortHead m n xs p a.1 (p + length a.0) → Got remaining d l xs p u
@@ -62,11 +62,11 @@ module _ (order : KeyOrder) where
       )
 
   -- an integer
-  pub got-integer : {S : Type 0} (remaining : S → Option (List ℕ)) (d : Decoder S) (l : ℕ) (xs : List ℕ) (p : ℕ)
+  pub got-integer : {S W : Type 0} (remaining : S → Option (List ℕ)) (d : Decoder S W) (l : ℕ) (xs : List ℕ) (p : ℕ)
       (h k : Header) (m n : ℕ) (t u : Tree) → d.pushed ≡ None → u ≡ t → h ≡ k →
       ((b : List ℕ) → SpellsHeader b k → IsHead b m n) →
       ((size : ℕ) → deterministic_fault k size ≡ long_fault m n size) → deterministic_fault h d.head_len ≡ None →
-      d.window.count ≡ p + d.head_len → encoding t ≡ shortest_head m n → (IsArgument n → IsProperTree t) →
+      d.counter.count ≡ p + d.head_len → encoding t ≡ shortest_head m n → (IsArgument n → IsProperTree t) →
       folded t ≡ Some t → nesting (item_of t) ≡ 0 → HasRisingKeys order t →
       IsPulled remaining d h xs p → Got remaining d l xs p u
   got-integer remaining d l xs p h k m n t u pushed same is spelled fault right size bytes proper folds flat rises a =
@@ -105,7 +105,7 @@ module _ (order : KeyOrder) where
       by false false false true f g h e r = absurd cc
       by false false false false f g h e r = absurd cc
 
-  pub got-simple : {S : Type 0} (remaining : S → Option (List ℕ)) (d : Decoder S) (l : ℕ) (xs : List ℕ) (p : ℕ)
+  pub got-simple : {S W : Type 0} (remaining : S → Option (List ℕ)) (d : Decoder S W) (l : ℕ) (xs : List ℕ) (p : ℕ)
       (h : Header) (n : ℕ) (t : Tree) → d.pushed ≡ None → h ≡ header.Simple n →
       deterministic_fault h d.head_len ≡ None → simple_meaning n ≡ Some t → IsPulled remaining d h xs p →
       Got remaining d l xs p t

@@ -93,9 +93,9 @@ module _ (order : KeyOrder) where
       subst (λ b. ReadsItem (deterministic order) l xs p (string_tree kind b) zs (q + length bs)) (sym same)
       (definite-reads kind l n xs p q r bs zs head size ok split fits)
 
-  short-string : {S : Type 0} (kind : StringKind) (remaining : S → Option (List ℕ)) (d : Decoder S) (h : Header)
+  short-string : {S W : Type 0} (kind : StringKind) (remaining : S → Option (List ℕ)) (d : Decoder S W) (h : Header)
       (n p : ℕ) (xs : List ℕ) → h ≡ header_of kind (Some n) → deterministic_fault h d.head_len ≡ None →
-      d.window.count ≡ p + d.head_len →
+      d.counter.count ≡ p + d.head_len →
       (a : IsPulled remaining d h xs p) → HasShortHead (string_major kind) n xs p a.1 (p + length a.0)
   short-string of_bytes remaining d h n p xs is right size a =
       short-front remaining d h (header.Bytes (Some n)) 2 n p xs is (λ b s. s) (λ k. refl) right size a
@@ -103,13 +103,14 @@ module _ (order : KeyOrder) where
       short-front remaining d h (header.Text (Some n)) 3 n p xs is (λ b s. s) (λ k. refl) right size a
 
   -- no open string is right
-  never-open : {S : Type 0} (kind : StringKind) (d : Decoder S) (h : Header) → h ≡ header_of kind None →
+  never-open : {S W : Type 0} (kind : StringKind) (d : Decoder S W) (h : Header) → h ≡ header_of kind None →
       deterministic_fault h d.head_len ≡ None → ⊥
   never-open of_bytes d h is right = let wrong = sym (ap (λ g. deterministic_fault g d.head_len) is) ∙ right in cc
   never-open of_text d h is right = let wrong = sym (ap (λ g. deterministic_fault g d.head_len) is) ∙ right in cc
 
-  module _ {S : Type 0} (kind : StringKind) (remaining : S → Option (List ℕ)) (d e : Decoder S) (l : ℕ) (xs : List ℕ)
-      (p : ℕ) (h : Header) (right : deterministic_fault h d.head_len ≡ None) (size : d.window.count ≡ p + d.head_len)
+  module _ {S W : Type 0} (kind : StringKind) (remaining : S → Option (List ℕ)) (d e : Decoder S W) (l : ℕ)
+      (xs : List ℕ)
+      (p : ℕ) (h : Header) (right : deterministic_fault h d.head_len ≡ None) (size : d.counter.count ≡ p + d.head_len)
     where
       pub got-string : (E : Type 0) (len : Option ℕ) (v : Value) → e.pushed ≡ None → h ≡ header_of kind len →
           ((ys : List ℕ) (q : ℕ) → IsAt remaining d ys q →
@@ -178,8 +179,8 @@ module _ (order : KeyOrder) where
       none of_array = tt
       none of_map = tt
 
-  module _ {S : Type 0} (remaining : S → Option (List ℕ)) (d : Decoder S) (l : ℕ) (xs : List ℕ) (p : ℕ) (h : Header)
-      (right : deterministic_fault h d.head_len ≡ None) (size : d.window.count ≡ p + d.head_len)
+  module _ {S W : Type 0} (remaining : S → Option (List ℕ)) (d : Decoder S W) (l : ℕ) (xs : List ℕ) (p : ℕ) (h : Header)
+      (right : deterministic_fault h d.head_len ≡ None) (size : d.counter.count ≡ p + d.head_len)
       (pushed : d.pushed ≡ None) where
     fits-behind : (a : IsPulled remaining d h xs p) → p + length a.0 ≤ greatest_offset
     fits-behind a = front-fits xs p h a.0 a.1 (front-of remaining d h h xs p refl a)
@@ -268,7 +269,7 @@ module _ (order : KeyOrder) where
     head-refused left E x f = refused-map left x (HeadRefuses xs p) (DeterministicallyRefuses order xs p l)
         (λ r g. DeterministicallyRefuses.no_head g) f
 
-  module _ {S : Type 0} (remaining : S → Option (List ℕ)) (d : Decoder S) (l : ℕ) (xs : List ℕ) (p : ℕ) (h : Header)
+  module _ {S W : Type 0} (remaining : S → Option (List ℕ)) (d : Decoder S W) (l : ℕ) (xs : List ℕ) (p : ℕ) (h : Header)
     where
       pub simple-refuses : (n : ℕ) → simple_meaning n ≡ None → h ≡ header.Simple n → IsPulled remaining d h xs p →
           DeterministicallyRefuses order xs p l (semantic p refusal.Simple)

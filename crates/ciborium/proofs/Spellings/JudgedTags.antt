@@ -11,7 +11,7 @@ use Rattle.ciborium_ll.specs.Head.{shortest_head}
 use Rattle.ciborium_ll.specs.Refusal.{Refusal, semantic, recursion_limit_exceeded, HeadRefuses, IsUsable}
 use Rattle.ciborium_ll.specs.Refusal as refusal
 use Rattle.ciborium_ll.specs.StringRefusal.{PayloadRefuses}
-use Rattle.ciborium_ll.proofs.HeldBytes.{unread-left, unread-count}
+use Rattle.ciborium_ll.proofs.Decoders.{unread-left, unread-count}
 use Rattle.ciborium_value.specs.declared.kind.Kind.{Kind}
 use Rattle.ciborium_value.specs.declared.stack.Opening.TheVariants as opening
 use Rattle.ciborium_value.specs.declared.tree.Value.{Value}
@@ -46,33 +46,33 @@ use Rattle.ciborium_value.specs.declared.key_order.KeyOrder.{KeyOrder}
 
 module _ (order : KeyOrder) where
   -- what `read_bignum` answers
-  abbrev pub BignumSo : {S E : Type 0} → (S → Option (List ℕ)) → Decoder S → Decoder S → ℕ → ℕ → ℕ →
+  abbrev pub BignumSo : {S W E : Type 0} → (S → Option (List ℕ)) → Decoder S W → Decoder S W → ℕ → ℕ → ℕ →
       Result Value (Error E) → Type 0
   BignumSo remaining d e t n at x = (xs : List ℕ) (p : ℕ) → IsAt remaining d xs p →
       IsBignumRead (deterministic order) remaining e t n at xs p x
 
-  module _ {S : Type 0} (remaining : S → Option (List ℕ)) (d : Decoder S) (t l p q : ℕ) (xs zs : List ℕ)
+  module _ {S W : Type 0} (remaining : S → Option (List ℕ)) (d : Decoder S W) (t l p q : ℕ) (xs zs : List ℕ)
       (pushed : d.pushed ≡ None) (head : HasShortHead 6 t xs p zs q) (at : IsAt remaining d zs q) where
     ahead : IsAhead remaining d zs q
     ahead = ahead-at remaining d q zs pushed at
 
     -- the next head is refused
-    pub tag-refused : (E : Type 0) (e : Decoder S) (x : Error E) → PullsSo remaining d e (Err x) →
+    pub tag-refused : (E : Type 0) (e : Decoder S W) (x : Error E) → PullsSo remaining d e (Err x) →
         IsRefusedBy (left_of remaining e) x (DeterministicallyRefuses order xs p l)
     tag-refused E e x pull =
         refused-map (left_of remaining e) x (HeadRefuses zs q) (DeterministicallyRefuses order xs p l)
         (λ r f. DeterministicallyRefuses.tag_no_head t zs q head f) (pull zs q ahead)
 
-    pub tag-no-level : (E : Type 0) (e : Decoder S) (k : Header) → PullsSo {E = E} remaining d e (Ok k) →
+    pub tag-no-level : (E : Type 0) (e : Decoder S W) (k : Header) → PullsSo {E = E} remaining d e (Ok k) →
         IsFolding t k None → l ≡ 0 → DeterministicallyRefuses order xs p l recursion_limit_exceeded
     tag-no-level E e k pull other none =
         let b = pull zs q ahead in
         subst (λ n. DeterministicallyRefuses order xs p n recursion_limit_exceeded) (sym none)
         (DeterministicallyRefuses.no_tag_level t zs q head b.3 (folds-not t k b.0 zs b.1 other b.2 b.4))
 
-    pub tag-opened : (E : Type 0) (e f : Decoder S) (k : Header) (here : ℕ) → PullsSo {E = E} remaining d e (Ok k) →
+    pub tag-opened : (E : Type 0) (e f : Decoder S W) (k : Header) (here : ℕ) → PullsSo {E = E} remaining d e (Ok k) →
         IsFolding t k None → (l ≡ 0 → ⊥) → here ≡ offset_of d → ReadsNothing e f → f.pushed ≡ Some (k, here) →
-        f.head_len ≡ e.head_len → (IsMeasured d → e.window.count ≡ offset_of d + e.head_len) →
+        f.head_len ≡ e.head_len → (IsMeasured d → e.counter.count ≡ offset_of d + e.head_len) →
         (us : List ℕ) × (r : ℕ) × IsFrameBegun (deterministic order) l xs p (begun_frame (opening.Tag t)) us r ×
         StandsAt (deterministic order) remaining f us r
     tag-opened E e f k here pull other some same stays back kept size =
@@ -90,20 +90,20 @@ module _ (order : KeyOrder) where
           (unread-left remaining e f stays ∙ b.6.1),
         ) in
         let sized = size (unpushed d pushed) in
-        let count : f.window.count ≡ here + f.head_len =
+        let count : f.counter.count ≡ here + f.head_len =
         (let c = unread-count e f stays in omega (arith, c, same, kept, sized)) in (
           zs,
           q,
           (l - 1, less, (head, b.3, folds-not t k b.0 zs b.1 other b.2 b.4)),
           (
             subst (λ o. IsAheadBy remaining f zs q o) (sym back) is,
-            subst (λ o. MatchOption o (Unit {0}) (λ h. f.window.count ≡ h.1 + f.head_len)) (sym back) count,
+            subst (λ o. MatchOption o (Unit {0}) (λ h. f.counter.count ≡ h.1 + f.head_len)) (sym back) count,
           ),
         )
 
     -- ---- a tag that folds
 
-    string-fits : (E : Type 0) (e : Decoder S) (k : Header) (n : ℕ) (pull : PullsSo {E = E} remaining d e (Ok k)) →
+    string-fits : (E : Type 0) (e : Decoder S W) (k : Header) (n : ℕ) (pull : PullsSo {E = E} remaining d e (Ok k)) →
         k ≡ header.Bytes (Some n) → (let b = pull zs q ahead in q + length b.0 + n ≤ greatest_offset)
     string-fits E e k n pull is =
         let b = pull zs q ahead in
@@ -111,9 +111,9 @@ module _ (order : KeyOrder) where
         string-room 2 n q zs b.0 b.1 (inl refl) w.spelled w.usable w.split
 
     -- its head is longer than it has to be
-    pub tag-long : (E : Type 0) (e : Decoder S) (k : Header) (n here : ℕ) (kind : Kind) →
+    pub tag-long : (E : Type 0) (e : Decoder S W) (k : Header) (n here : ℕ) (kind : Kind) →
         PullsSo {E = E} remaining d e (Ok k) → IsFolding t k (Some n) → deterministic_fault k e.head_len ≡ Some kind →
-        (IsMeasured d → e.window.count ≡ offset_of d + e.head_len) → here ≡ offset_of d →
+        (IsMeasured d → e.counter.count ≡ offset_of d + e.head_len) → here ≡ offset_of d →
         IsRefusedBy {E = E} (left_of remaining e) (Semantic (Some here) kind)
         (DeterministicallyRefuses order xs p l)
     tag-long E e k n here kind pull folding wrong size same =
@@ -133,9 +133,9 @@ module _ (order : KeyOrder) where
         (DeterministicallyRefuses.folding_long_head t n zs q head folding.1 folding.2 w.usable
         (e.head_len, b.1, (b.0, w.spelled, len, w.split), long.1)))
 
-    short-string : (E : Type 0) (e : Decoder S) (k : Header) (n : ℕ) (pull : PullsSo {E = E} remaining d e (Ok k)) →
+    short-string : (E : Type 0) (e : Decoder S W) (k : Header) (n : ℕ) (pull : PullsSo {E = E} remaining d e (Ok k)) →
         k ≡ header.Bytes (Some n) → deterministic_fault k e.head_len ≡ None →
-        (IsMeasured d → e.window.count ≡ offset_of d + e.head_len) →
+        (IsMeasured d → e.counter.count ≡ offset_of d + e.head_len) →
         (let b = pull zs q ahead in HasShortHead 2 n zs q b.1 (q + length b.0))
     short-string E e k n pull is right size =
         let b = pull zs q ahead in
@@ -144,9 +144,9 @@ module _ (order : KeyOrder) where
         short-front remaining e k (header.Bytes (Some n)) 2 n q zs is (λ c s. s) (λ j. refl) right
         (omega (arith, sized, place)) b
 
-    pub bignum-refused : (E : Type 0) (e f : Decoder S) (k : Header) (n here : ℕ) (x : Error E) → here ≡ p →
+    pub bignum-refused : (E : Type 0) (e f : Decoder S W) (k : Header) (n here : ℕ) (x : Error E) → here ≡ p →
         PullsSo {E = E} remaining d e (Ok k) → IsFolding t k (Some n) → deterministic_fault k e.head_len ≡ None →
-        (IsMeasured d → e.window.count ≡ offset_of d + e.head_len) → BignumSo {E = E} remaining e f t n here (Err x) →
+        (IsMeasured d → e.counter.count ≡ offset_of d + e.head_len) → BignumSo {E = E} remaining e f t n here (Err x) →
         IsRefusedBy (left_of remaining f) x (DeterministicallyRefuses order xs p l)
     bignum-refused E e f k n here x same pull folding right size read =
         let b = pull zs q ahead in
@@ -229,9 +229,9 @@ module _ (order : KeyOrder) where
         not-large true e = absurd cc
         not-large false e = refl
 
-    pub bignum-read : (E : Type 0) (e f : Decoder S) (k : Header) (n here : ℕ) (v : Value) → f.pushed ≡ None →
+    pub bignum-read : (E : Type 0) (e f : Decoder S W) (k : Header) (n here : ℕ) (v : Value) → f.pushed ≡ None →
         PullsSo {E = E} remaining d e (Ok k) → IsFolding t k (Some n) → deterministic_fault k e.head_len ≡ None →
-        (IsMeasured d → e.window.count ≡ offset_of d + e.head_len) → BignumSo {E = E} remaining e f t n here (Ok v) →
+        (IsMeasured d → e.counter.count ≡ offset_of d + e.head_len) → BignumSo {E = E} remaining e f t n here (Ok v) →
         Got order remaining f l xs p (tree_of v)
     bignum-read E e f k n here v last pull folding right size read =
         let b = pull zs q ahead in
@@ -254,7 +254,7 @@ bignum-unwanted spelling t n at x z xs len low can is = inr (x, z, len, low, sam
     same : (u v : List ℕ) → Some u ≡ Some v → v ≡ u
     same u v e = cc
 
-pub bignum-folded : {E : Type 0} (spelling : Spelling) (d : Decoder (List ℕ)) (t n at p : ℕ) (x z xs : List ℕ)
+pub bignum-folded : {E W : Type 0} (spelling : Spelling) (d : Decoder (List ℕ) W) (t n at p : ℕ) (x z xs : List ℕ)
     (r : Result Value (Error E)) → length x ≡ n → AreBytes x → ¬ IsUnwanted spelling x → Some (x ++ z) ≡ Some xs →
     IsAt Some d z (p + n) → IsFolded t x at r → IsBignumRead spelling Some d t n at xs p r
 bignum-folded spelling d t n at p x z xs (Ok v) len low whole is stands means =

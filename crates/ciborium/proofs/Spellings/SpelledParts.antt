@@ -40,20 +40,20 @@ use Rattle.ciborium.proofs.Spellings.JudgedParts as judged
 
 -- ---- where the decoder stands
 
-pub ahead-of : {S : Type 0} (spelling : Spelling) (remaining : S → Option (List ℕ)) (d : Decoder S) (xs : List ℕ)
+pub ahead-of : {S W : Type 0} (spelling : Spelling) (remaining : S → Option (List ℕ)) (d : Decoder S W) (xs : List ℕ)
     (p : ℕ) → StandsAt spelling remaining d xs p → IsAhead remaining d xs p
 ahead-of any remaining d xs p s = s
 ahead-of (deterministic order) remaining d xs p s = s.0
 
-pub stands-offset : {S : Type 0} (spelling : Spelling) (remaining : S → Option (List ℕ)) (d : Decoder S) (p : ℕ)
+pub stands-offset : {S W : Type 0} (spelling : Spelling) (remaining : S → Option (List ℕ)) (d : Decoder S W) (p : ℕ)
     (xs : List ℕ) → StandsAt spelling remaining d xs p → offset_of d ≡ p
 stands-offset spelling remaining d p xs s = offset-at remaining d p xs (ahead-of spelling remaining d xs p s)
 
 -- ---- the head that was pulled
 
-module _ {S : Type 0} (spelling : Spelling) (remaining : S → Option (List ℕ)) (d e : Decoder S) (u v xs : List ℕ)
+module _ {S W : Type 0} (spelling : Spelling) (remaining : S → Option (List ℕ)) (d e : Decoder S W) (u v xs : List ℕ)
     (p : ℕ) (stands : StandsAt spelling Some (with_left d u) xs p)
-    (size : IsMeasured d → e.window.count ≡ offset_of d + e.head_len) where
+    (size : IsMeasured d → e.counter.count ≡ offset_of d + e.head_len) where
   sized : (s : Spelling) → StandsAt s Some (with_left d u) xs p → IsHeadMeasured s (with_left e v) p
   sized any at = tt
   sized (deterministic order) at = size at.1 ∙ ap (λ n. n + e.head_len) (offset-at Some (with_left d u) p xs at.0)
@@ -77,8 +77,8 @@ module _ {S : Type 0} (spelling : Spelling) (remaining : S → Option (List ℕ)
           size (here ∙ offset-at Some (with_left d u) p xs at.0) pulled
 
 -- what is answered where it is accepted
-module _ {S : Type 0} (spelling : Spelling) (remaining : S → Option (List ℕ)) (d e : Decoder S) (h : Header)
-    (size : IsMeasured d → e.window.count ≡ offset_of d + e.head_len) (right : head_fault spelling h e.head_len ≡ None)
+module _ {S W : Type 0} (spelling : Spelling) (remaining : S → Option (List ℕ)) (d e : Decoder S W) (h : Header)
+    (size : IsMeasured d → e.counter.count ≡ offset_of d + e.head_len) (right : head_fault spelling h e.head_len ≡ None)
     (pull : TakesBeforeAny remaining d e (λ d e. PullsSo {E = Unit {0}} Some d e (Ok h))) where
   -- by the head alone
   pub part-of-head : (P : List ℕ → List ℕ → ℕ → Type 0) →
@@ -95,8 +95,8 @@ module _ {S : Type 0} (spelling : Spelling) (remaining : S → Option (List ℕ)
   )
 
   -- by what was read behind it
-  pub part-behind-head : (f : Decoder S) (P : List ℕ → List ℕ → ℕ → Type 0)
-      (Q : Decoder (List ℕ) → Decoder (List ℕ) → Type 0) → TakesBeforeAny remaining e f Q →
+  pub part-behind-head : (f : Decoder S W) (P : List ℕ → List ℕ → ℕ → Type 0)
+      (Q : Decoder (List ℕ) W → Decoder (List ℕ) W → Type 0) → TakesBeforeAny remaining e f Q →
       ((m z xs : List ℕ) (p : ℕ) → offset_of d ≡ p → IsHeadAccepted spelling Some (with_left e m) h xs p →
       Q (with_left e m) (with_left f z) → P z xs p) →
       Takes remaining d f (λ b. (z xs : List ℕ) (p : ℕ) → StandsAt spelling Some (with_left d (b ++ z)) xs p → P z xs p)
@@ -120,11 +120,11 @@ head-refused {E} (deterministic order) left e xs p l h = judged.head-refused ord
 -- ---- values without parts
 
 -- a value that means t stands at xs, and the decoder stands behind it
-abbrev pub Got : {S : Type 0} → Spelling → (S → Option (List ℕ)) → Decoder S → ℕ → List ℕ → ℕ → Tree → Type 0
+abbrev pub Got : {S W : Type 0} → Spelling → (S → Option (List ℕ)) → Decoder S W → ℕ → List ℕ → ℕ → Tree → Type 0
 Got spelling remaining d l xs p t = (zs : List ℕ) × (r : ℕ) × ReadsItem spelling l xs p t zs r ×
     StandsAt spelling remaining d zs r
 
-module _ {S : Type 0} (remaining : S → Option (List ℕ)) (d : Decoder S) (l : ℕ) (xs : List ℕ) (p : ℕ) (h : Header)
+module _ {S W : Type 0} (remaining : S → Option (List ℕ)) (d : Decoder S W) (l : ℕ) (xs : List ℕ) (p : ℕ) (h : Header)
     (pushed : d.pushed ≡ None) where
   pub got-positive : (spelling : Spelling) (n : ℕ) (t : Tree) → t ≡ trees.integer (pos n) → h ≡ header.Positive n →
       IsHeadAccepted spelling remaining d h xs p → Got spelling remaining d l xs p t
@@ -166,7 +166,7 @@ module _ {S : Type 0} (remaining : S → Option (List ℕ)) (d : Decoder S) (l :
 
 -- ---- strings
 
-module _ {S : Type 0} (kind : StringKind) (remaining : S → Option (List ℕ)) (d e : Decoder S) (l : ℕ) (xs : List ℕ)
+module _ {S W : Type 0} (kind : StringKind) (remaining : S → Option (List ℕ)) (d e : Decoder S W) (l : ℕ) (xs : List ℕ)
     (p : ℕ) (h : Header) where
   pub got-string : (spelling : Spelling) (E : Type 0) (len : Option ℕ) (v : Value) → e.pushed ≡ None →
       h ≡ header_of kind len →
@@ -189,7 +189,8 @@ module _ {S : Type 0} (kind : StringKind) (remaining : S → Option (List ℕ)) 
 
 -- ---- what has no meaning by itself
 
-module _ {S : Type 0} (remaining : S → Option (List ℕ)) (d : Decoder S) (l : ℕ) (xs : List ℕ) (p : ℕ) (h : Header) where
+module _ {S W : Type 0} (remaining : S → Option (List ℕ)) (d : Decoder S W) (l : ℕ) (xs : List ℕ) (p : ℕ)
+    (h : Header) where
   pub simple-refuses : (spelling : Spelling) (n : ℕ) → simple_meaning n ≡ None → h ≡ header.Simple n →
       IsHeadAccepted spelling remaining d h xs p → RefusesPart spelling xs p l (semantic p refusal.Simple)
   simple-refuses any n none is a = fronts.at-head remaining d l xs p h (header.Simple n) (semantic p refusal.Simple) is

@@ -26,12 +26,12 @@ use Rattle.ciborium.proofs.Spellings.SpelledParts.{Got}
 use Rattle.ciborium_value.specs.declared.key_order.KeyOrder.{KeyOrder}
 
 -- what `read_bignum` answers
-abbrev pub BignumSo : {S E : Type 0} → Spelling → (S → Option (List ℕ)) → Decoder S → Decoder S → ℕ → ℕ → ℕ →
+abbrev pub BignumSo : {S W E : Type 0} → Spelling → (S → Option (List ℕ)) → Decoder S W → Decoder S W → ℕ → ℕ → ℕ →
     Result Value (Error E) → Type 0
 BignumSo spelling remaining d e t n at x = (xs : List ℕ) (p : ℕ) → IsAt remaining d xs p →
     IsBignumRead spelling remaining e t n at xs p x
 
-module _ {S : Type 0} (remaining : S → Option (List ℕ)) (d : Decoder S) (t l : ℕ) (xs : List ℕ) (p : ℕ)
+module _ {S W : Type 0} (remaining : S → Option (List ℕ)) (d : Decoder S W) (t l : ℕ) (xs : List ℕ) (p : ℕ)
     (pushed : d.pushed ≡ None) where
   short : (order : KeyOrder) (a : IsHeadAccepted (deterministic order) remaining d (header.Tag t) xs p) →
       HasShortHead 6 t xs p a.pulled.1 (p + length a.pulled.0)
@@ -39,14 +39,14 @@ module _ {S : Type 0} (remaining : S → Option (List ℕ)) (d : Decoder S) (t l
       a.sized a.pulled
 
   -- the next head is refused
-  pub tag-refused : (spelling : Spelling) (E : Type 0) (e : Decoder S) (x : Error E) → PullsSo remaining d e (Err x) →
+  pub tag-refused : (spelling : Spelling) (E : Type 0) (e : Decoder S W) (x : Error E) → PullsSo remaining d e (Err x) →
       IsHeadAccepted spelling remaining d (header.Tag t) xs p →
       IsRefusedBy (left_of remaining e) x (RefusesPart spelling xs p l)
   tag-refused any E e x pull a = after.tag-refused remaining d e t l xs p x pushed pull a.pulled
   tag-refused (deterministic order) E e x pull a = judged.tag-refused order remaining d t l p (p + length a.pulled.0) xs
       a.pulled.1 pushed (short order a) a.pulled.6 E e x pull
 
-  pub tag-no-level : (spelling : Spelling) (E : Type 0) (e : Decoder S) (k : Header) →
+  pub tag-no-level : (spelling : Spelling) (E : Type 0) (e : Decoder S W) (k : Header) →
       PullsSo {E = E} remaining d e (Ok k) → IsFolding t k None → l ≡ 0 →
       IsHeadAccepted spelling remaining d (header.Tag t) xs p →
       RefusesPart spelling xs p l recursion_limit_exceeded
@@ -56,9 +56,10 @@ module _ {S : Type 0} (remaining : S → Option (List ℕ)) (d : Decoder S) (t l
       judged.tag-no-level order remaining d t l p (p + length a.pulled.0) xs a.pulled.1 pushed (short order a)
       a.pulled.6 E e k pull other none
 
-  pub tag-opened : (spelling : Spelling) (E : Type 0) (e f : Decoder S) (k : Header) (here : ℕ) →
+  pub tag-opened : (spelling : Spelling) (E : Type 0) (e f : Decoder S W) (k : Header) (here : ℕ) →
       PullsSo {E = E} remaining d e (Ok k) → IsFolding t k None → (l ≡ 0 → ⊥) → here ≡ offset_of d → ReadsNothing e f →
-      f.pushed ≡ Some (k, here) → f.head_len ≡ e.head_len → (IsMeasured d → e.window.count ≡ offset_of d + e.head_len) →
+      f.pushed ≡ Some (k, here) → f.head_len ≡ e.head_len → (IsMeasured d →
+      e.counter.count ≡ offset_of d + e.head_len) →
       IsHeadAccepted spelling remaining d (header.Tag t) xs p →
       (zs : List ℕ) × (r : ℕ) × IsFrameBegun spelling l xs p (begun_frame (opening.Tag t)) zs r ×
       StandsAt spelling remaining f zs r
@@ -70,8 +71,8 @@ module _ {S : Type 0} (remaining : S → Option (List ℕ)) (d : Decoder S) (t l
 
   -- ---- a tag that folds
 
-  module _ (E : Type 0) (e : Decoder S) (k : Header) (n : ℕ) (pull : PullsSo {E = E} remaining d e (Ok k))
-      (folding : IsFolding t k (Some n)) (size : IsMeasured d → e.window.count ≡ offset_of d + e.head_len) where
+  module _ (E : Type 0) (e : Decoder S W) (k : Header) (n : ℕ) (pull : PullsSo {E = E} remaining d e (Ok k))
+      (folding : IsFolding t k (Some n)) (size : IsMeasured d → e.counter.count ≡ offset_of d + e.head_len) where
     -- the head of its string is not accepted
     pub tag-faulty : (spelling : Spelling) (here : ℕ) (kind : Kind) → head_fault spelling k e.head_len ≡ Some kind →
         here ≡ offset_of d → IsHeadAccepted spelling remaining d (header.Tag t) xs p →
@@ -81,7 +82,7 @@ module _ {S : Type 0} (remaining : S → Option (List ℕ)) (d : Decoder S) (t l
         judged.tag-long order remaining d t l p (p + length a.pulled.0) xs a.pulled.1 pushed (short order a) a.pulled.6
         E e k n here kind pull folding wrong size same
 
-    pub bignum-refused : (spelling : Spelling) (f : Decoder S) (here : ℕ) (x : Error E) → here ≡ p →
+    pub bignum-refused : (spelling : Spelling) (f : Decoder S W) (here : ℕ) (x : Error E) → here ≡ p →
         head_fault spelling k e.head_len ≡ None → BignumSo {E = E} spelling remaining e f t n here (Err x) →
         IsHeadAccepted spelling remaining d (header.Tag t) xs p →
         IsRefusedBy (left_of remaining f) x (RefusesPart spelling xs p l)
@@ -91,7 +92,7 @@ module _ {S : Type 0} (remaining : S → Option (List ℕ)) (d : Decoder S) (t l
         judged.bignum-refused order remaining d t l p (p + length a.pulled.0) xs a.pulled.1 pushed (short order a)
         a.pulled.6 E e f k n here x same pull folding right size read
 
-    pub got-bignum : (spelling : Spelling) (f : Decoder S) (here : ℕ) (v : Value) → f.pushed ≡ None →
+    pub got-bignum : (spelling : Spelling) (f : Decoder S W) (here : ℕ) (v : Value) → f.pushed ≡ None →
         head_fault spelling k e.head_len ≡ None → BignumSo {E = E} spelling remaining e f t n here (Ok v) →
         IsHeadAccepted spelling remaining d (header.Tag t) xs p → Got spelling remaining f l xs p (tree_of v)
     got-bignum any f here v last right read a = after.tag-folded E remaining d e f t l n here xs p k v pushed last pull

@@ -12,7 +12,7 @@ use Rattle.ciborium_ll.specs.Header.{SpellsHeader}
 use Rattle.ciborium_ll.specs.Item as item
 use Rattle.ciborium_ll.specs.Refusal.{Refusal, semantic, TooLarge, recursion_limit_exceeded, HeadRefuses, IsUsable}
 use Rattle.ciborium_ll.specs.Refusal.{HasHead}
-use Rattle.ciborium_ll.proofs.HeldBytes.{unread-left, unread-count}
+use Rattle.ciborium_ll.proofs.Decoders.{unread-left, unread-count}
 use Rattle.ciborium_ll.proofs.OneHeader.{one_header_at_front}
 use Rattle.ciborium_value.specs.declared.tree.Value.{Value}
 use Rattle.ciborium_value.specs.declared.stack.Opening.TheVariants as opening
@@ -35,29 +35,30 @@ use Rattle.ciborium.proofs.Turns.Fronts.{Front, front-of, no-break, Got, Refuses
 use Rattle.ciborium.proofs.Turns.Pulled.{refused-map}
 
 -- what `pull` answers behind the tag
-abbrev pub PullsSo : {S E : Type 0} → (S → Option (List ℕ)) → Decoder S → Decoder S → Result Header (Error E) → Type 0
+abbrev pub PullsSo : {S W E : Type 0} → (S → Option (List ℕ)) → Decoder S W → Decoder S W → Result Header (Error E) →
+    Type 0
 PullsSo remaining d e x = (xs : List ℕ) (p : ℕ) → IsAhead remaining d xs p → IsHeadRead remaining e xs p x
 
 -- what `read_bignum` answers
-abbrev pub FoldsSo : {S E : Type 0} → (S → Option (List ℕ)) → Decoder S → Decoder S → ℕ → ℕ → ℕ →
+abbrev pub FoldsSo : {S W E : Type 0} → (S → Option (List ℕ)) → Decoder S W → Decoder S W → ℕ → ℕ → ℕ →
     Result Value (Error E) → Type 0
 FoldsSo remaining d e t n at x = (xs : List ℕ) (p : ℕ) → IsAt remaining d xs p →
     IsBignumRead any remaining e t n at xs p x
 
-stands : {S : Type 0} (remaining : S → Option (List ℕ)) (d : Decoder S) (t : ℕ) (xs : List ℕ) (p : ℕ)
+stands : {S W : Type 0} (remaining : S → Option (List ℕ)) (d : Decoder S W) (t : ℕ) (xs : List ℕ) (p : ℕ)
     (a : IsPulled remaining d (header.Tag t) xs p) → HasHead xs 6 t (length a.0) a.1
 stands remaining d t xs p a = (a.0, a.2, refl, a.4)
 
-no-break-tag : {S : Type 0} (remaining : S → Option (List ℕ)) (d : Decoder S) (t : ℕ) (xs : List ℕ) (p : ℕ) →
+no-break-tag : {S W : Type 0} (remaining : S → Option (List ℕ)) (d : Decoder S W) (t : ℕ) (xs : List ℕ) (p : ℕ) →
     IsPulled remaining d (header.Tag t) xs p → ¬ IsBreakAt xs p
 no-break-tag remaining d t xs p a = no-break xs p (header.Tag t) a.0 a.1 tt
     (front-of remaining d (header.Tag t) (header.Tag t) xs p refl a)
 
-behind : {S : Type 0} (remaining : S → Option (List ℕ)) (d : Decoder S) (t : ℕ) (xs : List ℕ) (p : ℕ) →
+behind : {S W : Type 0} (remaining : S → Option (List ℕ)) (d : Decoder S W) (t : ℕ) (xs : List ℕ) (p : ℕ) →
     d.pushed ≡ None → (a : IsPulled remaining d (header.Tag t) xs p) → IsAhead remaining d a.1 (p + length a.0)
 behind remaining d t xs p pushed a = ahead-at remaining d (p + length a.0) a.1 pushed a.6
 
-pub tag-refused : {S E : Type 0} (remaining : S → Option (List ℕ)) (d e : Decoder S) (t l : ℕ) (xs : List ℕ) (p : ℕ)
+pub tag-refused : {S W E : Type 0} (remaining : S → Option (List ℕ)) (d e : Decoder S W) (t l : ℕ) (xs : List ℕ) (p : ℕ)
     (x : Error E) → d.pushed ≡ None → PullsSo remaining d e (Err x) → IsPulled remaining d (header.Tag t) xs p →
     RefusesNoBreak (left_of remaining e) x xs p l
 tag-refused remaining d e t l xs p x pushed pull a =
@@ -74,7 +75,8 @@ pub folds-not : (t : ℕ) (k : Header) (h r s : List ℕ) → IsFolding t k None
 folds-not t k h r s none spelled split (big, n, size, z, (y, head, len, is), small) =
     none n (one_header_at_front h y s z k (header.Bytes (Some n)) spelled head (sym split ∙ is)).2 big small
 
-pub tag-no-level : (E : Type 0) {S : Type 0} (remaining : S → Option (List ℕ)) (d e : Decoder S) (t l : ℕ) (xs : List ℕ)
+pub tag-no-level : (E : Type 0) {S W : Type 0} (remaining : S → Option (List ℕ)) (d e : Decoder S W) (t l : ℕ)
+    (xs : List ℕ)
     (p : ℕ) (k : Header) → d.pushed ≡ None → PullsSo {E = E} remaining d e (Ok k) → IsFolding t k None → l ≡ 0 →
     IsPulled remaining d (header.Tag t) xs p → Refuses xs p (Some l) recursion_limit_exceeded × ¬ IsBreakAt xs p
 tag-no-level E remaining d e t l xs p k pushed pull other none a =
@@ -85,7 +87,7 @@ tag-no-level E remaining d e t l xs p k pushed pull other none a =
       no-break-tag remaining d t xs p a,
     )
 
-pub tag-opened : (E : Type 0) {S : Type 0} (remaining : S → Option (List ℕ)) (d e f : Decoder S) (t l at : ℕ)
+pub tag-opened : (E : Type 0) {S W : Type 0} (remaining : S → Option (List ℕ)) (d e f : Decoder S W) (t l at : ℕ)
     (xs : List ℕ) (p : ℕ) (k : Header) → d.pushed ≡ None → PullsSo {E = E} remaining d e (Ok k) → IsFolding t k None →
     (l ≡ 0 → ⊥) →
     at ≡ offset_of d → ReadsNothing e f → f.pushed ≡ Some (k, at) → IsPulled remaining d (header.Tag t) xs p →
@@ -130,7 +132,7 @@ fold-reads t l n xs p h r i s bs zs v u w big short len low e means =
     sym (append_assoc h (i ++ bs) zs)) (omega (arith, length-append h (i ++ bs), length-append i bs, len))
     (string-room 2 n (p + length h) r i s (inl refl) w.spelled w.usable w.split)
 
-pub tag-folded : (E : Type 0) {S : Type 0} (remaining : S → Option (List ℕ)) (d e f : Decoder S) (t l n at : ℕ)
+pub tag-folded : (E : Type 0) {S W : Type 0} (remaining : S → Option (List ℕ)) (d e f : Decoder S W) (t l n at : ℕ)
     (xs : List ℕ) (p : ℕ) (k : Header) (v : Value) → d.pushed ≡ None → f.pushed ≡ None →
     PullsSo {E = E} remaining d e (Ok k) → IsFolding t k (Some n) →
     FoldsSo {E = E} remaining e f t n at (Ok v) → IsPulled remaining d (header.Tag t) xs p →
@@ -193,7 +195,7 @@ fold-refuses t l n at xs p h r i s e here u w big short (inr (bs, zs, len, low, 
 fold-refuses t l n at xs p h r i s e here u w big short (inr (bs, zs, len, low, split, inr (none, is))) =
     too-large-refuses t l n at xs p h r i s bs zs e here u w big short len low split none is
 
-pub tag-unfolded : {S E : Type 0} (remaining : S → Option (List ℕ)) (d e f : Decoder S) (t l n at : ℕ) (xs : List ℕ)
+pub tag-unfolded : {S W E : Type 0} (remaining : S → Option (List ℕ)) (d e f : Decoder S W) (t l n at : ℕ) (xs : List ℕ)
     (p : ℕ) (k : Header) (x : Error E) → d.pushed ≡ None → PullsSo {E = E} remaining d e (Ok k) →
     IsFolding t k (Some n) →
     FoldsSo {E = E} remaining e f t n at (Err x) → at ≡ p → IsPulled remaining d (header.Tag t) xs p →

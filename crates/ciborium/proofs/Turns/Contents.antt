@@ -140,7 +140,7 @@ content-refuses kind None l at xs p b r e here u refuses =
 
 -- ---- answers
 
-pub got-string : (E : Type 0) {S : Type 0} (kind : StringKind) (remaining : S → Option (List ℕ)) (d e : Decoder S)
+pub got-string : (E : Type 0) {S W : Type 0} (kind : StringKind) (remaining : S → Option (List ℕ)) (d e : Decoder S W)
     (l : ℕ) (len : Option ℕ) (xs : List ℕ) (p : ℕ) (h : Header) (v : Value) → e.pushed ≡ None → h ≡ header_of kind len →
     ((ys : List ℕ) (q : ℕ) → IsAt remaining d ys q → IsStringRead {S = S} {E = E} kind remaining e len d.last ys q
     (Ok v)) → IsPulled remaining d h xs p → Got remaining e l xs p (tree_of v)
@@ -155,7 +155,7 @@ got-string E kind remaining d e l len xs p h v pushed is read a =
       ahead-at remaining e q c.2 pushed c.6,
     )
 
-pub string-fault : {S E : Type 0} (kind : StringKind) (remaining : S → Option (List ℕ)) (d e : Decoder S) (l : ℕ)
+pub string-fault : {S W E : Type 0} (kind : StringKind) (remaining : S → Option (List ℕ)) (d e : Decoder S W) (l : ℕ)
     (len : Option ℕ) (xs : List ℕ) (p : ℕ) (h : Header) (x : Error E) → h ≡ header_of kind len →
     ((ys : List ℕ) (q : ℕ) → IsAt remaining d ys q → IsRefusedBy (left_of remaining e) x
     (λ r. ContentRefuses kind len d.last ys q r)) → IsPulled remaining d h xs p →
@@ -171,16 +171,16 @@ string-fault kind remaining d e l len xs p h x is read a =
     (read a.1 (p + length a.0) a.6)
 
 -- a string that was appended to an empty one
-pub string-read : (E : Type 0) {S : Type 0} (kind : StringKind) (remaining : S → Option (List ℕ)) (d e : Decoder S)
+pub string-read : (E : Type 0) {S W : Type 0} (kind : StringKind) (remaining : S → Option (List ℕ)) (d e : Decoder S W)
     (len : Option ℕ) (xs : List ℕ) (p : ℕ) (old new : List ℕ) (v : Value) → old ≡ [] →
     tree_of v ≡ string_tree kind new →
     Takes remaining d e (λ b. (added : List ℕ) × (new ≡ old ++ added) ×
-    IsStringTaken {E = E} kind len d.last b d.window.count (Ok tt) added) → IsAt remaining d xs p →
+    IsStringTaken {E = E} kind len d.last b d.counter.count (Ok tt) added) → IsAt remaining d xs p →
     IsStringRead {S = S} {E = E} kind remaining e len d.last xs p (Ok v)
 string-read E kind remaining d e len xs p old new v none tree (x, taken, count, (added, is, s), bytes) at =
     let k = rest-of (left_of remaining d) (left_of remaining e) xs x at.1 taken in
-    let less = e.window.fits in
-    let start : d.window.count ≡ p = at.0 in (
+    let less = e.counter.fits in
+    let start : d.counter.count ≡ p = at.0 in (
       x,
       added,
       k.0,

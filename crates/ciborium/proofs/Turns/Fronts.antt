@@ -44,7 +44,7 @@ pub record Front (xs : List ℕ) (p : ℕ) (h : Header) (b r : List ℕ) : Type 
   pub usable : IsUsable xs p
   pub split : xs ≡ b ++ r
 
-pub front-of : {S : Type 0} (remaining : S → Option (List ℕ)) (d : Decoder S) (h k : Header) (xs : List ℕ) (p : ℕ) →
+pub front-of : {S W : Type 0} (remaining : S → Option (List ℕ)) (d : Decoder S W) (h k : Header) (xs : List ℕ) (p : ℕ) →
     h ≡ k → (a : IsPulled remaining d h xs p) → Front xs p k a.0 a.1
 front-of remaining d h k xs p e a = record { spelled = subst (SpellsHeader a.0) e a.2; usable = a.3; split = a.4 }
 
@@ -92,18 +92,19 @@ head-refused left e xs p l h = refused-map left e (λ r. HeadRefuses xs p r)
 -- ---- values
 
 -- a value that means t stands at xs, and the decoder stands behind it
-abbrev pub Got : {S : Type 0} → (S → Option (List ℕ)) → Decoder S → ℕ → List ℕ → ℕ → Tree → Type 0
+abbrev pub Got : {S W : Type 0} → (S → Option (List ℕ)) → Decoder S W → ℕ → List ℕ → ℕ → Tree → Type 0
 Got remaining d l xs p t = (zs : List ℕ) × (r : ℕ) × ReadsItem any l xs p t zs r × IsAhead remaining d zs r
 
-pub ahead-at : {S : Type 0} (remaining : S → Option (List ℕ)) (d : Decoder S) (p : ℕ) (xs : List ℕ) → d.pushed ≡ None →
+pub ahead-at : {S W : Type 0} (remaining : S → Option (List ℕ)) (d : Decoder S W) (p : ℕ) (xs : List ℕ) →
+    d.pushed ≡ None →
     IsAt remaining d xs p → IsAhead remaining d xs p
 ahead-at remaining d p xs e a = subst (λ o. IsAheadBy remaining d xs p o) (sym e) a
 
-pub offset-at : {S : Type 0} (remaining : S → Option (List ℕ)) (d : Decoder S) (p : ℕ) (xs : List ℕ) →
+pub offset-at : {S W : Type 0} (remaining : S → Option (List ℕ)) (d : Decoder S W) (p : ℕ) (xs : List ℕ) →
     IsAhead remaining d xs p → offset_of d ≡ p
 offset-at {S} remaining d p xs = by d.pushed
   where
-    by : (o : Option (Header × ℕ)) → IsAheadBy remaining d xs p o → next_offset d.window.count o ≡ p
+    by : (o : Option (Header × ℕ)) → IsAheadBy remaining d xs p o → next_offset d.counter.count o ≡ p
     by None s = s.0
     by (Some k) s = s.0
 
@@ -131,7 +132,7 @@ empty-container of_map l xs p b r lt u = item-read b (item.map false item.no_pai
 
 -- ---- answers
 
-pub got-leaf : {S : Type 0} (remaining : S → Option (List ℕ)) (d : Decoder S) (l : ℕ) (xs : List ℕ) (p : ℕ)
+pub got-leaf : {S W : Type 0} (remaining : S → Option (List ℕ)) (d : Decoder S W) (l : ℕ) (xs : List ℕ) (p : ℕ)
     (h k : Header) (t u : Tree) → d.pushed ≡ None → u ≡ t → h ≡ k →
     ((b r : List ℕ) → Front xs p k b r → ReadsItem any l xs p t r (p + length b)) → IsPulled remaining d h xs p →
     Got remaining d l xs p u
@@ -143,7 +144,7 @@ got-leaf {S} remaining d l xs p h k t u pushed same is reads a = (
   ahead-at remaining d (p + length a.0) a.1 pushed a.6,
 )
 
-pub got-break : {S : Type 0} (remaining : S → Option (List ℕ)) (d : Decoder S) (xs : List ℕ) (p : ℕ) (h : Header) →
+pub got-break : {S W : Type 0} (remaining : S → Option (List ℕ)) (d : Decoder S W) (xs : List ℕ) (p : ℕ) (h : Header) →
     d.pushed ≡ None → h ≡ header.Break → IsPulled remaining d h xs p →
     (zs : List ℕ) × (xs ≡ break_byte ∷ zs) × (p < greatest_offset) × IsAhead remaining d zs (p + 1)
 got-break {S} remaining d xs p h pushed is a =
@@ -157,7 +158,7 @@ got-break {S} remaining d xs p h pushed is a =
     )
 
 -- what the head that was pulled refuses
-pub at-head : {S : Type 0} (remaining : S → Option (List ℕ)) (d : Decoder S) (l : ℕ) (xs : List ℕ) (p : ℕ)
+pub at-head : {S W : Type 0} (remaining : S → Option (List ℕ)) (d : Decoder S W) (l : ℕ) (xs : List ℕ) (p : ℕ)
     (h k : Header) (e : Refusal) → h ≡ k → IsNoBreak k →
     ((b r : List ℕ) → Front xs p k b r → Refuses xs p (Some l) e) → IsPulled remaining d h xs p →
     Refuses xs p (Some l) e × ¬ IsBreakAt xs p
@@ -254,7 +255,7 @@ no-container-break : (kind : ContainerKind) (count : Option ℕ) → IsNoBreak (
 no-container-break of_array count = tt
 no-container-break of_map count = tt
 
-pub container-part : {S E : Type 0} (remaining : S → Option (List ℕ)) (d : Decoder S) (l : ℕ) (xs : List ℕ) (p : ℕ)
+pub container-part : {S W E : Type 0} (remaining : S → Option (List ℕ)) (d : Decoder S W) (l : ℕ) (xs : List ℕ) (p : ℕ)
     (h : Header) (kind : ContainerKind) (count : Option ℕ) (x : Result Part (Error E)) → d.pushed ≡ None →
     h ≡ container_header kind count →
     IsPulled remaining d h xs p → IsContainerBegun kind count l x → IsPartRead any remaining d l xs p x

@@ -1,5 +1,5 @@
 -- Heads that are pulled.
-use Rattle.ciborium_ll.proofs.HeldBytes.{unread-count}
+use Rattle.ciborium_ll.proofs.Decoders.{unread-count}
 use Rattle.std.proofs.Common.{◌≡◌, ℕ, suc, ◌+◌, ◌-◌, ◌<◌, List, ◌++◌, length, Option, Some, None, Result, Ok, IfSome}
 use Rattle.std.proofs.Common.{IfNone, sym, ap, subst, arith}
 use Rattle.ciborium_ll.specs.declared.header.Header.{Header}
@@ -40,9 +40,9 @@ refused-map left errors.RecursionLimitExceeded P Q f a = f _ a
 refused-map left errors.Memory P Q f a = tt
 refused-map left errors.TooLong P Q f a = f _ a
 
-pub head-read : {S : Type 0} (remaining : S → Option (List ℕ)) (d : Decoder S) (xs : List ℕ) (p : ℕ) (h : Header) →
+pub head-read : {S W : Type 0} (remaining : S → Option (List ℕ)) (d : Decoder S W) (xs : List ℕ) (p : ℕ) (h : Header) →
     ((x : List ℕ) × (r : List ℕ) × SpellsHeader x h × IsUsable xs p × (xs ≡ x ++ r) × (d.last ≡ p) ×
-    (d.window.count ≡ p + length x) × (left_of remaining d ≡ Some r)) → IsPulled remaining d h xs p
+    (d.counter.count ≡ p + length x) × (left_of remaining d ≡ Some r)) → IsPulled remaining d h xs p
 head-read remaining d xs p h (x, r, spelled, usable, split, last, count, left) =
     (x, r, spelled, usable, split, last, (count, left))
 
@@ -56,20 +56,20 @@ head-some b h s = by (header-begins b h s)
 abbrev pub answered : (E : Type 0) → Header → Result Header (LlError E)
 answered E h = Ok h
 
-pub fewer-heads : (E : Type 0) {S : Type 0} (remaining : S → Option (List ℕ)) (d e : Decoder S) (h : Header) →
+pub fewer-heads : (E : Type 0) {S W : Type 0} (remaining : S → Option (List ℕ)) (d e : Decoder S W) (h : Header) →
     e.pushed ≡ None →
     IfSome d.pushed (λ head. (answered E h ≡ answered E head.0) × (e.last ≡ head.1) × ReadsNothing d e) →
-    IfNone d.pushed (Takes remaining d e (λ x. IsHeadTaken {E = E} x d.window.count (Ok h))) →
+    IfNone d.pushed (Takes remaining d e (λ x. IsHeadTaken {E = E} x d.counter.count (Ok h))) →
     heads_left e < heads_left d
 fewer-heads E remaining d e h none pushed taken = subst
-    (λ o. heads_by (greatest_offset - e.window.count) o < heads_by (greatest_offset - d.window.count) d.pushed)
+    (λ o. heads_by (greatest_offset - e.counter.count) o < heads_by (greatest_offset - d.counter.count) d.pushed)
     (sym none) (by d.pushed pushed taken)
   where
     by : (o : Option (Header × ℕ)) → IfSome o (λ head. (answered E h ≡ answered E head.0) × (e.last ≡ head.1) ×
-        ReadsNothing d e) → IfNone o (Takes remaining d e (λ x. IsHeadTaken {E = E} x d.window.count (Ok h))) →
-        heads_by (greatest_offset - e.window.count) None < heads_by (greatest_offset - d.window.count) o
+        ReadsNothing d e) → IfNone o (Takes remaining d e (λ x. IsHeadTaken {E = E} x d.counter.count (Ok h))) →
+        heads_by (greatest_offset - e.counter.count) None < heads_by (greatest_offset - d.counter.count) o
     by None a (b, t, count, u, bytes) =
         let some = head-some b h u.answers.0 in
-        let fits = header-fits {E = E} b d.window.count h u in
+        let fits = header-fits {E = E} b d.counter.count h u in
         omega (arith, some, fits, count)
-    by (Some head) a b = let same : e.window.count ≡ d.window.count = unread-count d e a.2 in omega (arith, same)
+    by (Some head) a b = let same : e.counter.count ≡ d.counter.count = unread-count d e a.2 in omega (arith, same)

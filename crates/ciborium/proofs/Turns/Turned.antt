@@ -39,7 +39,7 @@ refused-inside any l xs p os m ys q e a f = refused-turn l xs p os m ys q e a f.
 refused-inside (deterministic order) l xs p os m ys q e a f = refused-around order l xs p os m ys q e a f
 
 -- a value was placed, and its key judged
-turned : {S E : Type 0} (spelling : Spelling) (remaining : S → Option (List ℕ)) (e : Decoder S)
+turned : {S W E : Type 0} (spelling : Spelling) (remaining : S → Option (List ℕ)) (e : Decoder S W)
     (os after : List TreeFrame) (l : ℕ) (xs : List ℕ) (p m : ℕ) (ys : List ℕ) (q : ℕ) (v : Tree) (zs : List ℕ)
     (r end : ℕ) (x : Result (Option Value) (Error E)) →
     end ≡ r → IsAround spelling l xs p os m ys q → ReadsItem spelling m ys q v zs r →
@@ -110,7 +110,7 @@ broken (deterministic order) l xs p os m ys q zs a none is less =
 
 -- ---- what `next` answers, wherever the decoder stands
 
-abbrev pub Answers : {S E : Type 0} → Spelling → (S → Option (List ℕ)) → Decoder S → Decoder S → ℕ →
+abbrev pub Answers : {S W E : Type 0} → Spelling → (S → Option (List ℕ)) → Decoder S W → Decoder S W → ℕ →
     Result Part (Error E) → Type 0
 Answers spelling remaining d e l x = (xs : List ℕ) (p : ℕ) → StandsAt spelling remaining d xs p →
     IsPartRead spelling remaining e l xs p x
@@ -126,7 +126,8 @@ left spelling l xs p os m zs r a = omega (arith, levels-left spelling l xs p os 
 
 -- ---- the answers of a turn
 
-module _ {S E : Type 0} (spelling : Spelling) (remaining : S → Option (List ℕ)) (d e : Decoder S) (os : List TreeFrame)
+module _ {S W E : Type 0} (spelling : Spelling) (remaining : S → Option (List ℕ)) (d e : Decoder S W)
+    (os : List TreeFrame)
     (l : ℕ) (xs : List ℕ) (p : ℕ) (n : ℕ) (depth : n ≡ length os) (x y : Result Part (Error E)) (same : x ≡ y)
     (answers : Answers spelling remaining d e (l - n) x) (s : IsReading spelling remaining d os l xs p) where
   here : IsPartRead spelling remaining e s.0 s.1 s.2 y
@@ -228,7 +229,8 @@ depth-closed (map ps (Some n) key ∷ os) us v l e room = absurd cc
 
 -- ---- the beginning
 
-pub begin : {S : Type 0} (spelling : Spelling) (remaining : S → Option (List ℕ)) (d : Decoder S) (os : List TreeFrame)
+pub begin : {S W : Type 0} (spelling : Spelling) (remaining : S → Option (List ℕ)) (d : Decoder S W)
+    (os : List TreeFrame)
     (l : ℕ) (xs : List ℕ) (p : ℕ) → os ≡ [] → StandsAt spelling remaining d xs p →
     IsReading spelling remaining d os l xs p
 begin spelling remaining d os l xs p none s = (

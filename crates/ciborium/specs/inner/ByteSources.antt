@@ -8,13 +8,13 @@ use Rattle.ciborium_ll.specs.declared.header.Header.{Header}
 use Rattle.ciborium_ll.specs.declared.header.Header.TheVariants as header
 use Rattle.ciborium_ll.specs.declared.decoder.Decoder.{Decoder}
 use Rattle.ciborium_ll.specs.Bytes.{greatest_offset}
-use Rattle.ciborium_ll.specs.Decoding.{HasSameReader, IsAheadBy, Takes, TakesBeforeAny, allowed_of}
-use Rattle.ciborium_ll.specs.Decoding.{left_of}
+use Rattle.ciborium_ll.specs.Accesses.{left_at_failure}
+use Rattle.ciborium_ll.specs.Decoding.{HasSameReader, IsAheadBy, Takes, TakesBeforeAny, left_of}
 use Rattle.ciborium_ll.specs.Header.{SpellsHeader}
 use Rattle.ciborium_ll.specs.Item.{Item, unsigned}
 use Rattle.ciborium_ll.specs.Refusal.{IsUsable}
 use Rattle.ciborium_ll.specs.Spells.{Spells}
-use Rattle.ciborium_value.specs.Ahead.{Ahead, Rest, Form, counted, until_break, bottom, parts}
+use Rattle.ciborium_value.specs.Ahead.{Ahead, Rest, Form, bottom, parts}
 use Rattle.ciborium_value.specs.Ahead.{pairs, entry, held, item, after, of_bytes, past, inside}
 use Rattle.ciborium_value.specs.Ahead.{end_of}
 use Rattle.ciborium_value.specs.Meaning.{meaning}
@@ -30,7 +30,7 @@ use Rattle.ciborium.specs.declared.de.byte_source.ByteSeq.{ByteSeq}
 use Rattle.ciborium.specs.declared.de.byte_source.Left.{Left}
 use Rattle.ciborium.specs.declared.de.byte_source.Left.TheVariants as left
 use Rattle.ciborium.specs.ValueAnswers.{IsTreeRead}
-use Rattle.ciborium.specs.inner.Due.{LeavesReader}
+use Rattle.ciborium.specs.inner.ValuesInBytes.{HasEndedAfter}
 use Rattle.ciborium.specs.Errors.{fault_of}
 use Rattle.ciborium.specs.inner.FrontItems.{Denies, Reads}
 use Rattle.ciborium.specs.inner.Skips.{EntersUnread, IsBare}
@@ -53,33 +53,36 @@ tells_null _ = false
 
 -- the head with this spelling, at the front of b, was pulled: it is usable, and its bytes are
 -- counted
-abbrev pub IsHeadCounted : {S : Type 0} → Decoder S → Header × ℕ → List ℕ → List ℕ → Type 0
-IsHeadCounted d h b x = is_portable h.0 ≡ false → IsUsable b h.1 × (d.window.count ≡ h.1 + length x)
+abbrev pub IsHeadCounted : {S W : Type 0} → Decoder S W → Header × ℕ → List ℕ → List ℕ → Type 0
+IsHeadCounted d h b x = is_portable h.0 ≡ false → IsUsable b h.1 ×
+    (d.counter.count ≡ h.1 + length x)
 
 -- b is unread, the spelling of a head that is pending included
-abbrev pub IsUnreadBy : {S : Type 0} → (S → Option (List ℕ)) → Decoder S → Option (Header × ℕ) →
+abbrev pub IsUnreadBy : {S W : Type 0} → (S → Option (List ℕ)) → Decoder S W → Option (Header × ℕ) →
     List ℕ → Type 0
 IsUnreadBy remaining d None b = left_of remaining d ≡ Some b
 IsUnreadBy remaining d (Some h) b = (x : List ℕ) × (y : List ℕ) × SpellsHeader x h.0 ×
     (b ≡ x ++ y) × (left_of remaining d ≡ Some y) × IsHeadCounted d h b x
 
-abbrev pub IsUnread : {S : Type 0} → (S → Option (List ℕ)) → ByteSource S → List ℕ → Type 0
+abbrev pub IsUnread : {S W : Type 0} → (S → Option (List ℕ)) → ByteSource S W → List ℕ → Type 0
 IsUnread remaining s b = IsUnreadBy remaining s.decoder s.pending b
 
 -- the head that was taken from the front of what was unread is counted
-abbrev pub CountsHead : {S : Type 0} → (ByteSource S → List ℕ → Type 0) → ByteSource S →
-    ByteSource S → Header × ℕ → Type 0
+abbrev pub CountsHead : {S W : Type 0} → (ByteSource S W → List ℕ → Type 0) → ByteSource S W →
+    ByteSource S W → Header × ℕ → Type 0
 CountsHead IsUnread old new h = (b x y : List ℕ) → IsUnread old b → SpellsHeader x h.0 →
     b ≡ x ++ y → IsHeadCounted new.decoder h b x
 
 -- ---- what was taken
 
 -- since the first state a beginning of what was unread was taken and counted, and nothing else
-unfoldable pub HasTaken : {S : Type 0} → (S → Option (List ℕ)) → Decoder S → Decoder S → Type 0
+unfoldable pub HasTaken : {S W : Type 0} → (S → Option (List ℕ)) → Decoder S W → Decoder S W →
+    Type 0
 HasTaken remaining first d = (d.reader.ghost_name ≡ first.reader.ghost_name) ×
     Takes remaining first d (λ _. Unit {0})
 
-abbrev pub HasTakenSince : {S : Type 0} → (S → Option (List ℕ)) → ByteSource S → ByteSource S →
+abbrev pub HasTakenSince : {S W : Type 0} → (S → Option (List ℕ)) → ByteSource S W →
+    ByteSource S W →
     Type 0
 HasTakenSince remaining first s = HasTaken remaining first.decoder s.decoder
 
@@ -91,56 +94,28 @@ known_end None n = n
 known_end (Some b) n = n + length b
 
 -- the reader, by name, and where what is there ends
-abbrev pub reader_of : {S : Type 0} → (S → Option (List ℕ)) → Decoder S → GName × ℕ
-reader_of remaining d = (d.reader.ghost_name, known_end (left_of remaining d) d.window.count)
+abbrev pub reader_of : {S W : Type 0} → (S → Option (List ℕ)) → Decoder S W → GName × ℕ
+reader_of remaining d = (d.reader.ghost_name, known_end (left_of remaining d) d.counter.count)
 
-abbrev pub end_at : {S : Type 0} → (S → Option (List ℕ)) → ByteSource S → ℕ
+abbrev pub end_at : {S W : Type 0} → (S → Option (List ℕ)) → ByteSource S W → ℕ
 end_at remaining s = (reader_of remaining s.decoder).1
 
 -- why a call refused that leaves this source
-abbrev pub fault_at : {S E : Type 0} → (S → Option (List ℕ)) → ByteSource S → Error E → Fault
-fault_at remaining s e = fault_of (remaining s.decoder.reader.now) e
+abbrev pub fault_at : {S W E : Type 0} → Bool → (S → Option (List ℕ)) → ByteSource S W → Error E →
+    Fault
+fault_at can_fail remaining s e =
+    fault_of (left_at_failure can_fail (remaining s.decoder.reader.now)) e
 
 -- behind an item no head is pending
 abbrev pub HasNoneBehind : Option (Header × ℕ) → Ahead → Type 0
 HasNoneBehind pending (item i f) = Unit {0}
 HasNoneBehind pending (after f) = pending ≡ None
 
--- ---- how much may be read ahead
-
--- how many of n parts are still due in the bytes: those of a byte string were read with it
-abbrev pub due_parts : Form → ℕ → ℕ
-due_parts counted n = n
-due_parts until_break n = n
-due_parts of_bytes n = 0
-
--- how many items are due behind an item, at least: of the pairs of a map the keys
-abbrev pub items_due_behind : Rest → ℕ
-items_due_behind (bottom name b) = 0
-items_due_behind (parts form is f) = due_parts form (length is) + items_due_behind f
-items_due_behind (pairs form ps f) = due_parts form (length ps) + items_due_behind f
-items_due_behind (entry v form ps f) = 1 + (due_parts form (length ps) + items_due_behind f)
-items_due_behind (held f) = items_due_behind f
-
--- the same with the item that is ahead
-abbrev pub items_due : Ahead → ℕ
-items_due (item i f) = 1 + items_due_behind f
-items_due (after f) = items_due_behind f
-
--- the head of the item that is ahead, where it was taken
-abbrev pub pending_count : Option (Header × ℕ) → ℕ
-pending_count None = 0
-pending_count (Some h) = 1
-
--- each byte that may be read ahead is one of an item that is due, whose head was not taken
-abbrev pub HoldsDue : {S : Type 0} → ByteSource S → Ahead → Type 0
-HoldsDue s a = allowed_of s.decoder + pending_count s.pending ≤ items_due a
-
-abbrev pub StandsBefore : {S : Type 0} → (S → Option (List ℕ)) → ByteSource S → Limit → Ahead →
+abbrev pub StandsBefore : {S W : Type 0} → (S → Option (List ℕ)) → ByteSource S W → Limit → Ahead →
     Type 0
 StandsBefore remaining s l a = (b : List ℕ) × IsUnread remaining s b ×
     FitsAhead (reader_of remaining s.decoder) b a × (l ≡ Some s.levels) ×
-    HasNoneBehind s.pending a × HoldsDue s a
+    HasNoneBehind s.pending a
 
 -- what is left of a container with this count (None: open)
 abbrev pub parts_left : Option ℕ → Left
@@ -178,27 +153,8 @@ abbrev pub LevelStands : ByteLevel → Limit → Rest → Type 0
 LevelStands level l f = l ≡ Some level.levels
 
 -- a level was taken, which this one gives back
-abbrev pub TakesLevel : {S : Type 0} → ByteSource S → ByteSource S → ByteLevel → Type 0
+abbrev pub TakesLevel : {S W : Type 0} → ByteSource S W → ByteSource S W → ByteLevel → Type 0
 TakesLevel old new level = (level.levels ≡ old.levels) × (old.levels ≡ new.levels + 1)
-
--- as many parts are left for sure
-abbrev pub counted_parts : Left → ℕ
-counted_parts (left.Counted n) = n
-counted_parts left.Open = 0
-counted_parts (left.Bytes v) = 0
-
--- behind a part of a container, of which q is left, it stands where it stood
-abbrev pub StandsStill : {S : Type 0} → (S → Option (List ℕ)) → ByteSource S → ByteSource S →
-    ByteSeq → Type 0
-StandsStill remaining old new q =
-    ((l : Limit) (form : Form) (is : List Item) (f : Rest) →
-    StandsBefore remaining old (inside form l) (after (parts form is f)) →
-    SeqStands q l (parts form is f) → StandsBefore remaining new (inside form l)
-    (after (parts form is f))) ×
-    ((l : Limit) (form : Form) (ps : List (Item × Item)) (f : Rest) →
-    StandsBefore remaining old (inside form l) (after (pairs form ps f)) →
-    SeqStands q l (pairs form ps f) → StandsBefore remaining new (inside form l)
-    (after (pairs form ps f)))
 
 -- ---- what is owed
 
@@ -220,21 +176,21 @@ abbrev pub SeqOwes : ByteSeq → Shape → List ℕ → List ℕ → Type 0
 SeqOwes q s b u = LeftOwes q.left s b u
 
 -- a sequence was entered
-abbrev pub EntersItemsUnread : {S A : Type 0} → (S → Option (List ℕ)) → ByteSource S →
-    ByteSource S → Taken A → (Limit → List Item → Outcome A) → ByteSeq → Type 0
+abbrev pub EntersItemsUnread : {S W A : Type 0} → (S → Option (List ℕ)) → ByteSource S W →
+    ByteSource S W → Taken A → (Limit → List Item → Outcome A) → ByteSeq → Type 0
 EntersItemsUnread remaining old new taken f q =
     EntersUnread (IsUnread remaining) (λ p. SeqOwes p sequence) Spells (λ p. HoldsItems p.left) old
     new (Some old.levels) (Some new.levels) taken f q
 
 -- a map was entered
-abbrev pub EntersPairsUnread : {S A : Type 0} → (S → Option (List ℕ)) → ByteSource S →
-    ByteSource S → Taken A → (Limit → List (Item × Item) → Outcome A) → ByteSeq → Type 0
+abbrev pub EntersPairsUnread : {S W A : Type 0} → (S → Option (List ℕ)) → ByteSource S W →
+    ByteSource S W → Taken A → (Limit → List (Item × Item) → Outcome A) → ByteSeq → Type 0
 EntersPairsUnread remaining old new taken f q =
     EntersUnread (IsUnread remaining) (λ p. SeqOwes p dictionary) SpellsPair
     (λ p. HoldsPairs p.left) old new (Some old.levels) (Some new.levels) taken f q
 
 -- what is left of a sequence was read: f takes this from its items, and the source stands past it
-abbrev pub ReadsRest : {S A : Type 0} → (S → Option (List ℕ)) → ByteSource S → ByteSource S →
+abbrev pub ReadsRest : {S W A : Type 0} → (S → Option (List ℕ)) → ByteSource S W → ByteSource S W →
     ByteSeq → (Limit → List Item → Outcome A) → A → Type 0
 ReadsRest remaining old new q f v = (l : Limit) (form : Form) (is : List Item) (r : Rest) →
     StandsBefore remaining old (inside form l) (after (parts form is r)) →
@@ -242,7 +198,7 @@ ReadsRest remaining old new q f v = (l : Limit) (form : Form) (is : List Item) (
     (f (inside form l) is ≡ gives v) × StandsBefore remaining new l (past r)
 
 -- it is refused only where the items that are left are, and for that
-abbrev pub RefusesRest : {S A : Type 0} → (S → Option (List ℕ)) → ByteSource S → ByteSeq →
+abbrev pub RefusesRest : {S W A : Type 0} → (S → Option (List ℕ)) → ByteSource S W → ByteSeq →
     (Limit → List Item → Outcome A) → Fault → Type 0
 RefusesRest remaining old q f fault = (l : Limit) (form : Form) (is : List Item) (r : Rest) →
     StandsBefore remaining old (inside form l) (after (parts form is r)) →
@@ -261,10 +217,10 @@ abbrev pub pending_head_weight : Option (Header × ℕ) → ℕ
 pending_head_weight None = 0
 pending_head_weight (Some h) = head_weight h.0
 
-abbrev pub bytes_weight : {S : Type 0} → ByteSource S → ℕ
-bytes_weight s = 3 * (greatest_offset - s.decoder.window.count)
+abbrev pub bytes_weight : {S W : Type 0} → ByteSource S W → ℕ
+bytes_weight s = 3 * (greatest_offset - s.decoder.counter.count)
 
-abbrev pub weight_left : {S : Type 0} → ByteSource S → ℕ
+abbrev pub weight_left : {S W : Type 0} → ByteSource S W → ℕ
 weight_left s = bytes_weight s + pending_head_weight s.pending
 
 abbrev pub bytes_left : Left → ℕ
@@ -285,7 +241,8 @@ HasBytes (left.Bytes v) P = P (into_iter_items v)
 
 -- the reader is the same, a beginning of what was unread was taken, no more is left to read, and
 -- behind an answer no head is pending
-pub record KeepsSource {S A E : Type 0} (remaining : S → Option (List ℕ)) (old new : ByteSource S)
+pub record KeepsSource {S W A E : Type 0} (remaining : S →
+    Option (List ℕ)) (old new : ByteSource S W)
     (result : Result A E) : Type 0 where
   pub same_reader : HasSameReader old.decoder new.decoder
   pub only : TakesOnly (HasTaken remaining) old.decoder new.decoder
@@ -293,7 +250,8 @@ pub record KeepsSource {S A E : Type 0} (remaining : S → Option (List ℕ)) (o
   pub pending : OnOk result (new.pending ≡ None)
 
 -- the same where an item is read: the levels stay, and behind an answer less is left
-pub record PassesItem {S A E : Type 0} (remaining : S → Option (List ℕ)) (old new : ByteSource S)
+pub record PassesItem {S W A E : Type 0} (remaining : S →
+    Option (List ℕ)) (old new : ByteSource S W)
     (result : Result A E) : Type 0 where
   pub same_reader : HasSameReader old.decoder new.decoder
   pub only : TakesOnly (HasTaken remaining) old.decoder new.decoder
@@ -303,8 +261,9 @@ pub record PassesItem {S A E : Type 0} (remaining : S → Option (List ℕ)) (ol
   pub fewer : OnOk result (weight_left new < weight_left old)
 
 -- the same of the head behind any number of tags
-pub record ReadsBareHead {S : Type 0} (remaining : S → Option (List ℕ)) (old new : ByteSource S)
-    (numbers : Bool) (result : Result (Header × ℕ) (Error (Unit {0}))) : Type 0 where
+pub record ReadsBareHead {S W : Type 0} (can_fail : Bool) (remaining : S → Option (List ℕ))
+    (old new : ByteSource S W) (numbers : Bool) (result : Result (Header × ℕ) (Error
+    (Unit {0}))) : Type 0 where
   pub same_reader : HasSameReader old.decoder new.decoder
   pub only : TakesOnly (HasTaken remaining) old.decoder new.decoder
   pub no_more : OnErr result (weight_left new ≤ weight_left old)
@@ -312,15 +271,16 @@ pub record ReadsBareHead {S : Type 0} (remaining : S → Option (List ℕ)) (old
   pub levels : new.levels ≡ old.levels
   pub fewer : IfOk result (λ h. bytes_weight new + head_weight h.0 ≤ weight_left old)
   pub bare : IfOk result (λ h. IsBare numbers h.0)
-  pub memory : IfErr result (λ e. IsGrantedFault (fault_at remaining new e) false)
+  pub memory : IfErr result (λ e. IsGrantedFault (fault_at can_fail remaining new e) false)
 
 -- the item ahead was taken and gives what counts of the answer, or it is refused, and only where
 -- the item is
-abbrev pub AnswersItem : {S A T : Type 0} → (S → Option (List ℕ)) → ByteSource S → ByteSource S →
-    Limit → Taken A → (T → A) → Result T (Error (Unit {0})) → Type 0
-AnswersItem remaining old new l taken content result =
+abbrev pub AnswersItem : {S W A T : Type 0} → Bool → (S → Option (List ℕ)) → ByteSource S W →
+    ByteSource S W → Limit → Taken A → (T → A) → Result T (Error (Unit {0})) → Type 0
+AnswersItem can_fail remaining old new l taken content result =
     MatchResult result (λ v. Reads (IsUnread remaining) old new l taken (content v))
-    (λ e. Denies (IsUnread remaining) (end_at remaining) old l taken (fault_at remaining new e))
+    (λ e. Denies (IsUnread remaining) (end_at remaining) old l taken
+    (fault_at can_fail remaining new e))
 
 -- ---- a value of any shape
 
@@ -331,10 +291,11 @@ MeansTree h v = (s : List ℕ) → SpellsHeader s h → (i : Item) × Spells s i
 
 -- the value ahead, the bytes of a head that was pending included, was read so, whatever follows the
 -- bytes that were taken
-abbrev pub ReadsValue : {S E : Type 0} → (S → Option (List ℕ)) → ByteSource S → ByteSource S →
-    Result Tree (Error E) → Type 0
-ReadsValue remaining old new r =
-    LeavesReader old.decoder new.decoder r ×
+abbrev pub ReadsValue : {S W E : Type 0} → Bool → (S → Option (List ℕ)) → ByteSource S W →
+    ByteSource S W → Result Tree (Error E) → Type 0
+ReadsValue can_fail remaining old new r =
+    HasSameReader old.decoder new.decoder ×
+    IfErr r (λ e. HasEndedAfter can_fail remaining new.decoder e) ×
     TakesBeforeAny remaining old.decoder new.decoder
     (λ d e. (xs : List ℕ) (p : ℕ) → IsAheadBy Some d xs p old.pending →
     IsTreeRead any Some e old.levels xs p r)

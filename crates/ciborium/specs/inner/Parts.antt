@@ -1,6 +1,6 @@
 -- What stands at the front of what is ahead, with l levels left.
 use Rattle.std.specs.Prelude.{◌≡◌, ℕ, suc, ◌+◌, ◌<◌, ◌≤◌, ◌⊎◌, List, [], ◌∷◌, ◌++◌, length, Option}
-use Rattle.std.specs.Prelude.{Some, None, MatchOption, Result, Ok, Err, Bool, true, false}
+use Rattle.std.specs.Prelude.{Some, None, Result, Ok, Err, Bool, true, false}
 use Rattle.ciborium_ll.specs.declared.header.Header.{Header}
 use Rattle.ciborium_ll.specs.declared.header.Header.TheVariants as header
 use Rattle.ciborium_ll.specs.declared.decoder.Decoder.{Decoder}
@@ -11,7 +11,7 @@ use Rattle.ciborium_ll.specs.Refusal.{Refusal, HeadRefuses, io, semantic, NotFol
 use Rattle.ciborium_value.specs.declared.kind.Kind.TheVariants as kinds
 use Rattle.ciborium_value.specs.declared.tree.Value.{Value}
 use Rattle.ciborium_value.specs.Meaning.{simple_meaning, bignum_meaning, is_bignum_tag}
-use Rattle.ciborium_value.specs.inner.Frames.{TreeFrame, array, map, parts_due}
+use Rattle.ciborium_value.specs.inner.Frames.{TreeFrame, array, map}
 use Rattle.ciborium_value.specs.Refuses.{Refuses}
 use Rattle.ciborium_value.specs.inner.Stack.{begun_frame}
 use Rattle.ciborium_value.specs.Tree as trees
@@ -80,24 +80,25 @@ RefusesPart (deterministic order) xs p l = DeterministicallyRefuses order xs p l
 
 -- a head was pulled where xs was ahead from offset p on, and is accepted; for the deterministic
 -- spelling the decoder knows its size
-abbrev pub IsHeadMeasured : {S : Type 0} → Spelling → Decoder S → ℕ → Type 0
+abbrev pub IsHeadMeasured : {S W : Type 0} → Spelling → Decoder S W → ℕ → Type 0
 IsHeadMeasured any d p = Unit {0}
-IsHeadMeasured (deterministic order) d p = d.window.count ≡ p + d.head_len
+IsHeadMeasured (deterministic order) d p = d.counter.count ≡ p + d.head_len
 
-pub record IsHeadAccepted {S : Type 0} (spelling : Spelling) (remaining : S → Option (List ℕ))
-    (d : Decoder S) (h : Header) (xs : List ℕ) (p : ℕ) : Type 0 where
+pub record IsHeadAccepted {S W : Type 0} (spelling : Spelling) (remaining : S → Option (List ℕ))
+    (d : Decoder S W) (h : Header) (xs : List ℕ) (p : ℕ) : Type 0 where
   pub pulled : IsPulled remaining d h xs p
   pub right : head_fault spelling h d.head_len ≡ None
   pub sized : IsHeadMeasured spelling d p
 
 -- the answer of a call that pulls a head
-abbrev pub IsHeadRead : {S E : Type 0} → (S → Option (List ℕ)) → Decoder S → List ℕ → ℕ →
+abbrev pub IsHeadRead : {S W E : Type 0} → (S → Option (List ℕ)) → Decoder S W → List ℕ → ℕ →
     Result Header (Error E) → Type 0
 IsHeadRead remaining d xs p (Ok h) = IsPulled remaining d h xs p
 IsHeadRead remaining d xs p (Err e) = IsRefusedBy (left_of remaining d) e (HeadRefuses xs p)
 
 -- the answer of a call that reads a part
-abbrev pub IsPartRead : {S E : Type 0} → Spelling → (S → Option (List ℕ)) → Decoder S → ℕ → List ℕ →
+abbrev pub IsPartRead : {S W E : Type 0} → Spelling → (S → Option (List ℕ)) → Decoder S W → ℕ →
+    List ℕ →
     ℕ → Result Part (Error E) → Type 0
 IsPartRead spelling remaining d l xs p (Ok (Whole v)) =
     (zs : List ℕ) × (r : ℕ) × ReadsItem spelling l xs p (tree_of v) zs r ×
@@ -117,12 +118,10 @@ HasLevel (Whole v) l = Unit {0}
 HasLevel (Opened f) l = 0 < l
 HasLevel Ended l = Unit {0}
 
--- no head is pushed behind a whole value or a break, nor behind what announced how many parts are
--- due
+-- no head is pushed behind a whole value or a break
 abbrev pub IsAtRest : Part → Option (Header × ℕ) → Type 0
 IsAtRest (Whole v) pushed = pushed ≡ None
-IsAtRest (Opened f) pushed = MatchOption pushed (Unit {0})
-    (λ head. parts_due (begun_frame f ∷ []) ≡ 0)
+IsAtRest (Opened f) pushed = Unit {0}
 IsAtRest Ended pushed = pushed ≡ None
 
 -- what the bytes over which a tag at offset p folds are read as
@@ -142,7 +141,8 @@ BignumRefuses spelling t n p xs e =
     ((bignum_meaning t b ≡ None) × (e ≡ semantic p TooLarge))))
 
 -- the answer of a call that reads the n bytes over which a tag at offset at folds
-abbrev pub IsBignumRead : {S E : Type 0} → Spelling → (S → Option (List ℕ)) → Decoder S → ℕ → ℕ →
+abbrev pub IsBignumRead : {S W E : Type 0} → Spelling → (S → Option (List ℕ)) → Decoder S W → ℕ →
+    ℕ →
     ℕ → List ℕ → ℕ → Result Value (Error E) → Type 0
 IsBignumRead spelling remaining d t n at xs p (Ok v) =
     (b : List ℕ) × (r : List ℕ) × (length b ≡ n) × AreBytes b × ¬ IsUnwanted spelling b ×

@@ -24,7 +24,7 @@ string_tree of_bytes b = trees.bytes b
 string_tree of_text b = trees.text b
 
 -- the payload of a string of this length, whose head is at offset at, stands at xs, offset p
-abbrev pub IsStringRead : {S E : Type 0} → StringKind → (S → Option (List ℕ)) → Decoder S →
+abbrev pub IsStringRead : {S W E : Type 0} → StringKind → (S → Option (List ℕ)) → Decoder S W →
     Option ℕ → ℕ → List ℕ → ℕ → Result Value (Error E) → Type 0
 IsStringRead {S} {E} kind remaining d len at xs p (Ok v) =
     (b : List ℕ) × (added : List ℕ) × (r : List ℕ) ×

@@ -46,6 +46,11 @@ module _ (P Q : List ℕ → Type 0) where
   TakesContent kind len payload = (y : List ℕ) → P y → (c : List ℕ) × (z : List ℕ) ×
       IsContent kind len c payload × (y ≡ c ++ z) × Q z
 
+  -- the payload was taken, and its place is this
+  abbrev pub TakesPlace : {X : Type 0} → StringKind → Option ℕ → (List ℕ → X) → X → Type 0
+  TakesPlace kind len place x = (payload : List ℕ) × TakesContent kind len payload ×
+      (x ≡ place payload)
+
   -- n bytes were taken, which make the number start this one
   abbrev pub TakesDigits : ℕ → Option ℕ → Option ℕ → Type 0
   TakesDigits n start v = (y : List ℕ) → P y → (c : List ℕ) × (z : List ℕ) × (length c ≡ n) ×

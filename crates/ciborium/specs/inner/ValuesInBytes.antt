@@ -1,5 +1,6 @@
 -- What reading a value takes from known bytes.
-use Rattle.std.specs.Prelude.{◌≡◌, ℕ, ◌+◌, ◌*◌, ◌-◌, ◌<◌, List, ◌++◌, length, Option, Some, None}
+use Rattle.std.specs.Prelude.{◌≡◌, ℕ, ◌+◌, ◌*◌, ◌-◌, ◌<◌, Bool, List, ◌++◌, length, Option, Some}
+use Rattle.std.specs.Prelude.{None}
 use Rattle.ciborium_ll.specs.declared.header.Header.{Header}
 use Rattle.ciborium_ll.specs.declared.decoder.Decoder.{Decoder}
 use Rattle.ciborium_ll.specs.Bytes.{greatest_offset}
@@ -8,6 +9,8 @@ use Rattle.ciborium_ll.specs.Header.{SpellsHeader}
 use Rattle.ciborium_ll.specs.Refusal.{IsUsable, IsAtFront}
 use Rattle.ciborium_ll.specs.Decoding.{IsAhead, IsMeasured, left_of}
 use Rattle.ciborium_value.specs.Tree.{Tree}
+use Rattle.ciborium.specs.declared.de.error.Error.{Error}
+use Rattle.ciborium.specs.Errors.{HasEndedBy}
 use Rattle.ciborium.specs.Spelling.{Spelling, any, deterministic, IsReadBy}
 
 -- ys, whose first byte is at offset q, begins with an item that is read as v within l levels; zs
@@ -21,17 +24,17 @@ pub record ReadsItem (spelling : Spelling) (l : ℕ) (ys : List ℕ) (q : ℕ) (
 
 -- b is ahead, its first byte at offset p; for the deterministic spelling the decoder knows how many
 -- bytes its last head has
-abbrev pub StandsAt : {S : Type 0} → Spelling → (S → Option (List ℕ)) → Decoder S → List ℕ → ℕ →
+abbrev pub StandsAt : {S W : Type 0} → Spelling → (S → Option (List ℕ)) → Decoder S W → List ℕ → ℕ →
     Type 0
 StandsAt any remaining d b p = IsAhead remaining d b p
 StandsAt (deterministic order) remaining d b p = IsAhead remaining d b p × IsMeasured d
 
 -- no head is pushed, xs is left, and its first byte is at offset p
-abbrev pub IsAt : {S : Type 0} → (S → Option (List ℕ)) → Decoder S → List ℕ → ℕ → Type 0
-IsAt remaining d xs p = (d.window.count ≡ p) × (left_of remaining d ≡ Some xs)
+abbrev pub IsAt : {S W : Type 0} → (S → Option (List ℕ)) → Decoder S W → List ℕ → ℕ → Type 0
+IsAt remaining d xs p = (d.counter.count ≡ p) × (left_of remaining d ≡ Some xs)
 
 -- a head was pulled where xs was ahead from offset p on
-abbrev pub IsPulled : {S : Type 0} → (S → Option (List ℕ)) → Decoder S → Header → List ℕ → ℕ →
+abbrev pub IsPulled : {S W : Type 0} → (S → Option (List ℕ)) → Decoder S W → Header → List ℕ → ℕ →
     Type 0
 IsPulled remaining d header xs p =
     (h : List ℕ) × (r : List ℕ) × SpellsHeader h header × IsUsable xs p × (xs ≡ h ++ r) ×
@@ -46,5 +49,10 @@ heads_by n None = 2 * n
 heads_by n (Some h) = 2 * n + 1
 
 -- a bound on the heads that can still be pulled
-abbrev pub heads_left : {S : Type 0} → Decoder S → ℕ
-heads_left d = heads_by (greatest_offset - d.window.count) d.pushed
+abbrev pub heads_left : {S W : Type 0} → Decoder S W → ℕ
+heads_left d = heads_by (greatest_offset - d.counter.count) d.pushed
+
+-- where a call could not be given more, the reader is at its end, unless it can fail before
+abbrev pub HasEndedAfter : {S W E : Type 0} → Bool → (S → Option (List ℕ)) → Decoder S W →
+    Error E → Type 0
+HasEndedAfter can_fail remaining d e = HasEndedBy can_fail (left_of remaining d) e

@@ -2,24 +2,21 @@
 
 ghost use Rattle.std.specs.Prelude.{◌≡◌, ◌<◌, ◌≤◌, IfErr, IfOk, List, MatchOption, None};
 ghost use Rattle.std.specs.Prelude.{Ok, OnOk, Some, length, ℕ};
-ghost use Rattle.ciborium_ll.specs.Decoding.{HasSameReader, TakesBeforeAny, count_of};
-ghost use Rattle.ciborium_ll.specs.Decoding.{head_len_of, left_of, pushed_of, reach_of};
+ghost use Rattle.ciborium_ll.specs.Decoding.{HasSameReader, TakesBeforeAny, pushed_of};
 ghost use Rattle.ciborium_value.specs.inner.Stack.{frames_of};
 ghost use Rattle.ciborium_value.specs.View.{tree_of};
 ghost use Rattle.ciborium.specs.ValueAnswers.{IsPlacedInOrder, IsReading, IsTurned, IsValueRead};
-ghost use Rattle.ciborium.specs.inner.Due.{AllowsDue, AllowsNoMore, AllowsThen, HoldsNothingAfter};
-ghost use Rattle.ciborium.specs.inner.Due.{LeavesReader};
-ghost use Rattle.ciborium.specs.inner.ValuesInBytes.{StandsAt, heads_left};
+ghost use Rattle.ciborium.specs.inner.ValuesInBytes.{HasEndedAfter, StandsAt, heads_left};
 
 use crate::de::error::{Error, Refusal};
 use crate::de::front::Part;
 use crate::de::parts::next;
 use crate::de::spelling::Rules;
-use ciborium_ll::Decoder;
+use ciborium_ll::{Access, Decoder};
 use ciborium_value::stack::Stack;
 use ciborium_value::{Kind, Value};
 use std::alloc::{AllocError, Global};
-use std::io::{self, Read};
+use std::io;
 
 // Places a value whose last byte stands before offset `end`, and refuses a key out of order.
 #[inline(always)]
@@ -41,9 +38,9 @@ fn place<S: Rules>(stack: &mut Stack, value: Value, end: usize) -> Result<Option
 
 // Reads one part, and answers the value where it is the last.
 #[inline(always)]
-fn turn<S: Rules, R: Read>(
+fn turn<S: Rules, R, A: Access<R>>(
     alloc: Global,
-    decoder: &mut Decoder<'_, R>,
+    decoder: &mut Decoder<'_, R, A>,
     scratch: &mut [u8],
     stack: &mut Stack,
     levels: usize,
@@ -54,18 +51,17 @@ fn turn<S: Rules, R: Read>(
     ensures fewer { OnOk result (heads_left decoder.new < heads_left decoder.old) }
     ensures rests { IfOk result (λ o.
         MatchOption o (Unit {0}) (λ _. pushed_of decoder.new ≡ None)) }
-    ensures due { (reach : ℕ) → AllowsDue reach decoder.old (frames_of stack.old) →
-        IfOk result (AllowsThen reach decoder.new (frames_of stack.new)) }
-    ensures spent { IfErr result (λ e. HoldsNothingAfter decoder.new e) }
+    ensures ended { IfErr result
+        (λ e. HasEndedAfter A.can_fail A.remaining decoder.new e) }
     ensures depth { IfOk result (λ o.
         MatchOption o (length (frames_of stack.new) ≤ levels) (λ _. Unit {0})) }
-    ensures turn { TakesBeforeAny R.remaining decoder.old decoder.new
+    ensures turn { TakesBeforeAny A.remaining decoder.old decoder.new
         (λ d e. (xs : List ℕ) (p : ℕ) →
         IsReading S.spelling Some d (frames_of stack.old) levels xs p →
         IsTurned S.spelling Some e (frames_of stack.new) levels xs p result) }
 {
     let offset = decoder.offset();
-    match next::<S, R>(alloc, decoder, scratch, levels - stack.depth(), failure)? {
+    match next::<S, R, A>(alloc, decoder, scratch, levels - stack.depth(), failure)? {
         Part::Whole(value) => place::<S>(stack, value, decoder.offset()),
         Part::Opened(opening) => match stack.open(opening) {
             Ok(()) => Ok(None),
@@ -78,75 +74,33 @@ fn turn<S: Rules, R: Read>(
     }
 }
 
-// Allows the decoder as many bytes as parts are due, where it holds none.
-#[inline(always)]
-fn allow_due<R: Read>(decoder: &mut Decoder<'_, R>, stack: &Stack)
-    ensures name { decoder.new.reader.ghost_name ≡ decoder.old.reader.ghost_name }
-    ensures pushed { pushed_of decoder.new ≡ pushed_of decoder.old }
-    ensures head_len { head_len_of decoder.new ≡ head_len_of decoder.old }
-    ensures count { count_of decoder.new ≡ count_of decoder.old }
-    ensures unread { left_of R.remaining decoder.new ≡ left_of R.remaining decoder.old }
-    ensures due { (reach : ℕ) → AllowsDue reach decoder.old (frames_of stack.now) →
-        AllowsDue reach decoder.new (frames_of stack.now) }
-{
-    if decoder.held_byte().is_none() {
-        decoder.allow(stack.due());
-    }
-}
-
-// Reads part after part up to the end of the value ahead. What is due is read ahead.
-#[inline(always)]
-fn build<S: Rules, R: Read>(
+/// Reads the value ahead in this spelling, within this many levels, part after part. The reader's
+/// error is kept aside. Behind a refusal no head is pushed back.
+pub(crate) fn read_value<S: Rules, R, A: Access<R>>(
     alloc: Global,
-    decoder: &mut Decoder<'_, R>,
+    decoder: &mut Decoder<'_, R, A>,
     scratch: &mut [u8],
     levels: usize,
     failure: &mut Option<io::Error>,
 ) -> Result<Value, Refusal>
-    ensures name { decoder.new.reader.ghost_name ≡ decoder.old.reader.ghost_name }
-    ensures rests { OnOk result (pushed_of decoder.new ≡ None) }
+    ensures same_reader { HasSameReader decoder.old decoder.new }
+    ensures rests { pushed_of decoder.new ≡ None }
     ensures fewer { OnOk result (heads_left decoder.new < heads_left decoder.old) }
-    ensures due { OnOk result (AllowsNoMore (reach_of decoder.old) decoder.new) }
-    ensures spent { IfErr result (λ e. HoldsNothingAfter decoder.new e) }
-    ensures value { TakesBeforeAny R.remaining decoder.old decoder.new
+    ensures ended { IfErr result
+        (λ e. HasEndedAfter A.can_fail A.remaining decoder.new e) }
+    ensures value { TakesBeforeAny A.remaining decoder.old decoder.new
         (λ d e. (xs : List ℕ) (p : ℕ) → StandsAt S.spelling Some d xs p →
         IsValueRead S.spelling Some e levels xs p result) }
 {
     let mut stack = Stack::new(alloc);
     'turns: loop {
-        allow_due(decoder, &stack);
-        if let Some(value) = turn::<S, R>(alloc, decoder, scratch, &mut stack, levels, failure)? {
-            return Ok(value);
-        }
-    }
-}
-
-/// Reads the value ahead in this spelling, within this many levels. The reader's error is kept
-/// aside. After the value nothing is held that was not allowed to be read ahead before; after a
-/// refusal nothing is held, and no head is pushed back.
-pub(crate) fn read_value<S: Rules, R: Read>(
-    alloc: Global,
-    decoder: &mut Decoder<'_, R>,
-    scratch: &mut [u8],
-    levels: usize,
-    failure: &mut Option<io::Error>,
-) -> Result<Value, Refusal>
-    ensures reader { LeavesReader decoder.old decoder.new result }
-    ensures rests { pushed_of decoder.new ≡ None }
-    ensures fewer { OnOk result (heads_left decoder.new < heads_left decoder.old) }
-    ensures value { TakesBeforeAny R.remaining decoder.old decoder.new
-        (λ d e. (xs : List ℕ) (p : ℕ) → StandsAt S.spelling Some d xs p →
-        IsValueRead S.spelling Some e levels xs p result) }
-{
-    let reach = decoder.reach();
-    match build::<S, R>(alloc, decoder, scratch, levels, failure) {
-        Ok(value) => {
-            decoder.forbid_behind(reach);
-            Ok(value)
-        }
-        Err(refusal) => {
-            decoder.discard();
-            Err(refusal)
+        match turn::<S, R, A>(alloc, decoder, scratch, &mut stack, levels, failure) {
+            Ok(None) => {}
+            Ok(Some(value)) => return Ok(value),
+            Err(refusal) => {
+                decoder.forget();
+                return Err(refusal);
+            }
         }
     }
 }

@@ -23,8 +23,8 @@ mod values;
 // its offset; so is one that stands for what is not in the bytes, as a byte of a byte string that
 // is read as numbers.
 #[derive(Drop)]
-pub(crate) struct ByteSource<'a, R> {
-    pub(crate) decoder: Decoder<'a, R>,
+pub(crate) struct ByteSource<'a, R, A> {
+    pub(crate) decoder: Decoder<'a, R, A>,
     pub(crate) pending: Option<(Header, usize)>,
     pub(crate) levels: usize,
     pub(crate) scratch: &'a mut [u8],

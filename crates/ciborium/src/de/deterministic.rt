@@ -17,12 +17,12 @@ use crate::de::building::read_value;
 use crate::de::error::{Error, put_back};
 use crate::de::spelling::Rules;
 use crate::value::canonical::{Bytewise, EncodingOrder, LengthFirst, cmp_keys, encoded_size};
-use ciborium_ll::{Decoder, Header, head_size, simple};
+use ciborium_ll::{Access, Buffered, Decoder, Header, Plain, head_size, simple};
 use ciborium_value::stack::Stack;
 use ciborium_value::{KeyOrder, Kind, Value};
 use std::alloc::Global;
 use std::cmp::Ordering;
-use std::io::{self, Read};
+use std::io::{self, BufRead, Read};
 use std::marker::PhantomData;
 
 // The number of bytes up to which a bignum is a number of 64 bits.
@@ -126,20 +126,36 @@ impl<O: EncodingOrder> Rules for Deterministic<O> {
 // ---- the calls
 
 // Reads one value by these rules, within this many levels.
-fn read_by<S: Rules, R: Read>(
+fn read_by<S: Rules, R, A: Access<R>>(
     alloc: Global,
     reader: &mut R,
     limit: usize,
 ) -> Result<Value, Error<io::Error>>
-    ensures { ReadsWhole S.spelling (R.remaining reader.old) limit
-        (R.remaining reader.new) (read_as tree_of result) }
+    ensures { ReadsWhole S.spelling (A.remaining reader.old) limit
+        (A.remaining reader.new) (read_as tree_of result) }
 {
     let mut scratch = [0u8; SCRATCH_SIZE];
-    let mut decoder = Decoder::new(reader);
+    let mut decoder = Decoder::<R, A>::begin(reader, 0);
     let mut failure = None;
-    match read_value::<S, R>(alloc, &mut decoder, &mut scratch, limit, &mut failure) {
+    match read_value::<S, R, A>(alloc, &mut decoder, &mut scratch, limit, &mut failure) {
         Ok(value) => Ok(value),
         Err(refusal) => Err(put_back(refusal, failure)),
+    }
+}
+
+// Reads one value deterministically, with keys in this order.
+fn read_in_order<R, A: Access<R>>(
+    alloc: Global,
+    reader: &mut R,
+    limit: usize,
+    order: KeyOrder,
+) -> Result<Value, Error<io::Error>>
+    ensures { ReadsWhole (deterministic order) (A.remaining reader.old) limit
+        (A.remaining reader.new) (read_as tree_of result) }
+{
+    match order {
+        KeyOrder::LengthFirst => read_by::<Deterministic<LengthFirst>, R, A>(alloc, reader, limit),
+        KeyOrder::Bytewise => read_by::<Deterministic<Bytewise>, R, A>(alloc, reader, limit),
     }
 }
 
@@ -167,7 +183,7 @@ pub fn from_reader_deterministic<R: Read>(
     ensures { ReadsWhole (deterministic orders.LengthFirst) (R.remaining reader.old) limit
         (R.remaining reader.new) (read_as tree_of result) }
 {
-    read_by::<Deterministic<LengthFirst>, R>(alloc, reader, limit)
+    read_by::<Deterministic<LengthFirst>, R, Plain>(alloc, reader, limit)
 }
 
 /// Reads one value as `from_reader_deterministic` does, with the keys of each map in the given
@@ -193,8 +209,38 @@ pub fn from_reader_deterministic_with_order<R: Read>(
     ensures { ReadsWhole (deterministic order) (R.remaining reader.old) limit
         (R.remaining reader.new) (read_as tree_of result) }
 {
-    match order {
-        KeyOrder::LengthFirst => read_by::<Deterministic<LengthFirst>, R>(alloc, reader, limit),
-        KeyOrder::Bytewise => read_by::<Deterministic<Bytewise>, R>(alloc, reader, limit),
-    }
+    read_in_order::<R, Plain>(alloc, reader, limit, order)
+}
+
+/// Reads one value as `from_reader_deterministic` does, from a reader with a buffer.
+///
+/// # Errors
+///
+/// Those of `from_reader_deterministic`.
+pub fn from_buf_reader_deterministic<R: BufRead>(
+    alloc: Global,
+    reader: &mut R,
+    limit: usize,
+) -> Result<Value, Error<io::Error>>
+    ensures { ReadsWhole (deterministic orders.LengthFirst) (R.remaining reader.old) limit
+        (R.remaining reader.new) (read_as tree_of result) }
+{
+    read_by::<Deterministic<LengthFirst>, R, Buffered>(alloc, reader, limit)
+}
+
+/// Reads one value as `from_reader_deterministic_with_order` does, from a reader with a buffer.
+///
+/// # Errors
+///
+/// Those of `from_reader_deterministic_with_order`.
+pub fn from_buf_reader_deterministic_with_order<R: BufRead>(
+    alloc: Global,
+    reader: &mut R,
+    limit: usize,
+    order: KeyOrder,
+) -> Result<Value, Error<io::Error>>
+    ensures { ReadsWhole (deterministic order) (R.remaining reader.old) limit
+        (R.remaining reader.new) (read_as tree_of result) }
+{
+    read_in_order::<R, Buffered>(alloc, reader, limit, order)
 }

@@ -3,7 +3,7 @@
 
 ghost use Rattle.std.specs.Prelude.{◌≡◌, ◌+◌, ◌<◌, ◌≤◌, IfErr, IfOk, List, None, OnOk, Some, ℕ};
 ghost use Rattle.ciborium_ll.specs.Decoding.{HasSameReader, TakesBeforeAny, last_of, pushed_of};
-ghost use Rattle.ciborium.specs.inner.Due.{HoldsNothingAfter};
+ghost use Rattle.ciborium.specs.inner.ValuesInBytes.{HasEndedAfter};
 ghost use Rattle.ciborium.specs.inner.Parts.{HasLevel, IsContainerBegun, IsPartRead};
 ghost use Rattle.ciborium.specs.inner.Parts.{container_kind};
 ghost use Rattle.ciborium.specs.inner.Parts.{IsAtRest, IsSimpleRead};
@@ -14,11 +14,11 @@ use crate::de::error::{Error, Refusal};
 use crate::de::front::{Part, pull};
 use crate::de::spelling::Rules;
 use crate::de::tags::read_tag;
-use ciborium_ll::{Decoder, Header, simple};
+use ciborium_ll::{Access, Decoder, Header, simple};
 use ciborium_value::stack::Opening;
 use ciborium_value::{Integer, Kind, Value};
 use std::alloc::Global;
-use std::io::{self, Read};
+use std::io;
 
 // What follows the head of an array or a map with this many parts (`None`: open).
 #[inline(always)]
@@ -65,9 +65,9 @@ pub(super) fn read_simple<E>(number: u8, offset: usize) -> Result<Value, Error<E
 }
 
 // The payload of the string whose head was pulled last: of a text, or of a byte string.
-fn read_string<R: Read>(
+fn read_string<R, A: Access<R>>(
     alloc: Global,
-    decoder: &mut Decoder<'_, R>,
+    decoder: &mut Decoder<'_, R, A>,
     scratch: &mut [u8],
     is_text: bool,
     len: Option<usize>,
@@ -77,8 +77,9 @@ fn read_string<R: Read>(
     ensures same_reader { HasSameReader decoder.old decoder.new }
     ensures pushed { pushed_of decoder.new ≡ None }
     ensures fewer { OnOk result (heads_left decoder.new ≤ heads_left decoder.old) }
-    ensures spent { IfErr result (λ e. HoldsNothingAfter decoder.new e) }
-    ensures content { TakesBeforeAny R.remaining decoder.old decoder.new
+    ensures ended { IfErr result
+        (λ e. HasEndedAfter A.can_fail A.remaining decoder.new e) }
+    ensures content { TakesBeforeAny A.remaining decoder.old decoder.new
         (λ d e. (xs : List ℕ) (p : ℕ) → IsAt Some d xs p →
         IsStringRead (string_kind is_text) Some e len (last_of decoder.old) xs p result) }
 {
@@ -94,9 +95,9 @@ fn read_string<R: Read>(
 
 /// Reads the next part, with this many levels left.
 #[inline(always)]
-pub(crate) fn next<S: Rules, R: Read>(
+pub(crate) fn next<S: Rules, R, A: Access<R>>(
     alloc: Global,
-    decoder: &mut Decoder<'_, R>,
+    decoder: &mut Decoder<'_, R, A>,
     scratch: &mut [u8],
     levels: usize,
     failure: &mut Option<io::Error>,
@@ -105,8 +106,9 @@ pub(crate) fn next<S: Rules, R: Read>(
     ensures fewer { OnOk result (heads_left decoder.new < heads_left decoder.old) }
     ensures rests { IfOk result (λ part. IsAtRest part (pushed_of decoder.new)) }
     ensures room { IfOk result (λ part. HasLevel part levels) }
-    ensures spent { IfErr result (λ e. HoldsNothingAfter decoder.new e) }
-    ensures part { TakesBeforeAny R.remaining decoder.old decoder.new
+    ensures ended { IfErr result
+        (λ e. HasEndedAfter A.can_fail A.remaining decoder.new e) }
+    ensures part { TakesBeforeAny A.remaining decoder.old decoder.new
         (λ d e. (xs : List ℕ) (p : ℕ) → StandsAt S.spelling Some d xs p →
         IsPartRead S.spelling Some e levels xs p result) }
 {
@@ -128,7 +130,7 @@ pub(crate) fn next<S: Rules, R: Read>(
         }
         Header::Array(count) => begin_container(alloc, false, count, levels),
         Header::Map(count) => begin_container(alloc, true, count, levels),
-        Header::Tag(tag) => read_tag::<S, R>(alloc, decoder, tag, offset, levels, failure),
+        Header::Tag(tag) => read_tag::<S, R, A>(alloc, decoder, tag, offset, levels, failure),
         Header::Simple(n) => Ok(Part::Whole(read_simple(n, offset)?)),
         Header::Float(_) => Err(Error::Semantic(Some(offset), Kind::Float)),
         Header::Break => Ok(Part::Ended),

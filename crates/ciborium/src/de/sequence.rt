@@ -1,13 +1,40 @@
 //! Bytes to sequences of values (RFC 8742).
 
 ghost use Rattle.std.specs.Prelude.{Some, map};
+ghost use Rattle.ciborium_ll.specs.Accesses.{left_at_failure};
 ghost use Rattle.ciborium_value.specs.Sources.{read_as};
 ghost use Rattle.ciborium.specs.SequenceReads.{RefusesSequence, TakesSequence};
 ghost use Rattle.ciborium.specs.TypedAnswers.{TakesBeginning};
 
-use super::{Deserialize, Error, from_reader_next};
+use super::{Deserialize, Error, RECURSION_LIMIT, SCRATCH_SIZE, read_next};
+use ciborium_ll::{Access, Buffered, Plain};
 use std::alloc::Global;
-use std::io::{self, Read};
+use std::io::{self, BufRead, Read};
+
+// Reads item after item until the reader gives nothing where one would begin.
+fn read_items<T: Deserialize, R, A: Access<R>>(
+    alloc: Global,
+    reader: &mut R,
+) -> Result<Vec<T>, Error<io::Error>>
+    ensures ok { TakesSequence (Some 256) T.reading.taken (A.remaining reader.old)
+        (A.remaining reader.new) (read_as (λ vs. map T.reading.content vs.items) result) }
+    ensures refused { RefusesSequence (Some 256) T.reading.taken (A.remaining reader.old)
+        (left_at_failure A.can_fail (A.remaining reader.new))
+        (read_as (λ vs. map T.reading.content vs.items) result) }
+    ensures taken { TakesBeginning (A.remaining reader.old) (A.remaining reader.new) }
+{
+    let mut scratch = [0u8; SCRATCH_SIZE];
+    let mut items = Vec::new(alloc);
+    for _ in 0..u64::MAX {
+        let next = read_next::<T, R, A>(alloc, reader, &mut scratch, RECURSION_LIMIT);
+        let Some(item) = next? else {
+            return Ok(items);
+        };
+        items.push(item)?;
+    }
+    // No list holds so many.
+    Err(Error::Memory)
+}
 
 /// Reads all the items of a CBOR sequence (RFC 8742, section 2), one after the other as
 /// `from_reader_next` does, until the reader gives nothing where an item would begin. Where there
@@ -35,13 +62,24 @@ pub fn read_sequence<T: Deserialize, R: Read>(
     // Refused or not, a prefix of what was there was taken, and nothing else.
     ensures taken { TakesBeginning (R.remaining reader.old) (R.remaining reader.new) }
 {
-    let mut items = Vec::new(alloc);
-    for _ in 0..u64::MAX {
-        let Some(item) = from_reader_next(alloc, reader)? else {
-            return Ok(items);
-        };
-        items.push(item)?;
-    }
-    // No list holds so many.
-    Err(Error::Memory)
+    read_items::<T, R, Plain>(alloc, reader)
+}
+
+/// Reads all the items of a CBOR sequence as `read_sequence` does, from a reader with a buffer.
+///
+/// # Errors
+///
+/// Those of `read_sequence`.
+pub fn read_buf_sequence<T: Deserialize, R: BufRead>(
+    alloc: Global,
+    reader: &mut R,
+) -> Result<Vec<T>, Error<io::Error>>
+    // The same as of `read_sequence`.
+    ensures ok { TakesSequence (Some 256) T.reading.taken (R.remaining reader.old)
+        (R.remaining reader.new) (read_as (λ vs. map T.reading.content vs.items) result) }
+    ensures refused { RefusesSequence (Some 256) T.reading.taken (R.remaining reader.old)
+        (R.remaining reader.new) (read_as (λ vs. map T.reading.content vs.items) result) }
+    ensures taken { TakesBeginning (R.remaining reader.old) (R.remaining reader.new) }
+{
+    read_items::<T, R, Buffered>(alloc, reader)
 }

@@ -4,7 +4,7 @@ ghost use Rattle.std.specs.Prelude.{◌≡◌, ◌≤◌, IfErr, IfOk, List, Non
 ghost use Rattle.ciborium_ll.specs.Decoding.{HasSameReader, TakesBeforeAny, pushed_of};
 ghost use Rattle.ciborium_ll.specs.declared.header.Header.TheVariants as header;
 ghost use Rattle.ciborium_value.specs.Meaning.{is_bignum_tag};
-ghost use Rattle.ciborium.specs.inner.Due.{HoldsNothingAfter};
+ghost use Rattle.ciborium.specs.inner.ValuesInBytes.{HasEndedAfter};
 ghost use Rattle.ciborium.specs.inner.Parts.{HasLevel, IsAtRest, IsBignumRead, IsFolded, IsFolding};
 ghost use Rattle.ciborium.specs.inner.Parts.{IsHeadAccepted, IsPartRead};
 ghost use Rattle.ciborium.specs.inner.ValuesInBytes.{IsAt, heads_left};
@@ -13,12 +13,12 @@ use crate::de::error::{Error, Refusal};
 use crate::de::front::{Part, pull};
 use crate::de::spelling::Rules;
 use ciborium_ll::tag::{BIGNEG, BIGPOS};
-use ciborium_ll::{Decoder, Header};
+use ciborium_ll::{Access, Decoder, Header};
 use ciborium_value::bignum::{self, FoldError, GREATEST_FOLDED_SIZE};
 use ciborium_value::stack::Opening;
 use ciborium_value::{Kind, Value};
 use std::alloc::Global;
-use std::io::{self, Read};
+use std::io;
 
 // The length of the byte string over which the tag folds (RFC 8949, section 3.4.3).
 fn find_folding(tag: u64, header: Header) -> Option<usize>
@@ -50,9 +50,9 @@ fn fold<E>(alloc: Global, tag: u64, payload: &[u8], offset: usize) -> Result<Val
 }
 
 // Reads the n bytes over which a tag at this offset folds, and folds it.
-fn read_bignum<S: Rules, R: Read>(
+fn read_bignum<S: Rules, R, A: Access<R>>(
     alloc: Global,
-    decoder: &mut Decoder<'_, R>,
+    decoder: &mut Decoder<'_, R, A>,
     tag: u64,
     n: usize,
     offset: usize,
@@ -64,8 +64,9 @@ fn read_bignum<S: Rules, R: Read>(
     ensures same_reader { HasSameReader decoder.old decoder.new }
     ensures pushed { pushed_of decoder.new ≡ None }
     ensures fewer { OnOk result (heads_left decoder.new ≤ heads_left decoder.old) }
-    ensures spent { IfErr result (λ e. HoldsNothingAfter decoder.new e) }
-    ensures bignum { TakesBeforeAny R.remaining decoder.old decoder.new
+    ensures ended { IfErr result
+        (λ e. HasEndedAfter A.can_fail A.remaining decoder.new e) }
+    ensures bignum { TakesBeforeAny A.remaining decoder.old decoder.new
         (λ d e. (xs : List ℕ) (p : ℕ) → IsAt Some d xs p →
         IsBignumRead S.spelling Some e tag n offset xs p result) }
 {
@@ -80,9 +81,9 @@ fn read_bignum<S: Rules, R: Read>(
 
 /// Reads what follows the head of a tag, which was pulled: the string that it folds over, or the
 /// next head, which is pushed back.
-pub(crate) fn read_tag<S: Rules, R: Read>(
+pub(crate) fn read_tag<S: Rules, R, A: Access<R>>(
     alloc: Global,
-    decoder: &mut Decoder<'_, R>,
+    decoder: &mut Decoder<'_, R, A>,
     tag: u64,
     offset: usize,
     levels: usize,
@@ -93,8 +94,9 @@ pub(crate) fn read_tag<S: Rules, R: Read>(
     ensures fewer { OnOk result (heads_left decoder.new ≤ heads_left decoder.old) }
     ensures rests { IfOk result (λ part. IsAtRest part (pushed_of decoder.new)) }
     ensures room { IfOk result (λ part. HasLevel part levels) }
-    ensures spent { IfErr result (λ e. HoldsNothingAfter decoder.new e) }
-    ensures part { TakesBeforeAny R.remaining decoder.old decoder.new
+    ensures ended { IfErr result
+        (λ e. HasEndedAfter A.can_fail A.remaining decoder.new e) }
+    ensures part { TakesBeforeAny A.remaining decoder.old decoder.new
         (λ d e. (xs : List ℕ) (p : ℕ) →
         IsHeadAccepted S.spelling Some d (header.Tag tag) xs p → offset ≡ p →
         IsPartRead S.spelling Some e levels xs p result) }
@@ -105,7 +107,7 @@ pub(crate) fn read_tag<S: Rules, R: Read>(
         if let Some(kind) = S::find_head_fault(next, decoder.head_len()) {
             return Err(Error::Semantic(Some(at), kind));
         }
-        let value = read_bignum::<S, R>(alloc, decoder, tag, n, offset, failure)?;
+        let value = read_bignum::<S, R, A>(alloc, decoder, tag, n, offset, failure)?;
         return Ok(Part::Whole(value));
     }
     if levels == 0 {

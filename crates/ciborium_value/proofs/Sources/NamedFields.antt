@@ -1,13 +1,38 @@
 -- What is read of a map by the names of fields, pair by pair, from any source.
-use Rattle.std.proofs.Common.{◌≡◌, ℕ, List, ◌∷◌, sym, ◌∙◌, ap, subst}
+use Rattle.std.proofs.Common.{◌≡◌, ℕ, Bool, true, false, if◌then◌else◌, List, ◌∷◌, refl, sym, ◌∙◌, ap, subst}
 use Rattle.ciborium_ll.specs.Item.{Item}
 use Rattle.ciborium_value.specs.Ahead.{Ahead, Rest, Form, item, after, pairs, entry, inside, end_of}
 use Rattle.ciborium_value.specs.Nesting.{Limit}
 use Rattle.ciborium_value.specs.Sources.{Fault, IsFaultOf, TakesAhead, RefusesAhead, GoesOn, Leaves}
 use Rattle.ciborium_value.specs.Sources.{RefusesNext}
 use Rattle.ciborium_value.specs.StructReadings.{FieldsTaken, take_fields, take_named}
-use Rattle.ciborium_value.specs.Taken.{Outcome, then_take, taken_name}
+use Rattle.ciborium_value.specs.Taken.{Outcome, gives, refuses, nests, then_take, outcome_map, taken_name, taken_place}
+use Rattle.ciborium_value.specs.declared.wanted.FieldPlace.TheVariants.{First, Behind}
 use Rattle.ciborium_value.proofs.Sources.Sequences.{fault_then, fault_outside, Follows, so, IsBlamed, IsPast}
+
+-- ---- a name by its place
+
+-- what has a place is a name with this place
+name_at : {A P : Type 0} (place : A → P) {p : P} (o : Outcome A) → outcome_map place o ≡ gives p →
+    (name : A) × (place name ≡ p) × (o ≡ gives name)
+name_at place (gives name) h = (name, cc, refl)
+name_at place (refuses k) h = absurd (cc)
+name_at place nests h = absurd (cc)
+
+-- where the place of a name is to blame, what is made of the name is
+fault_place : {A P B : Type 0} (end : ℕ) (fault : Fault) (place : A → P) (o : Outcome A) (f : A → Outcome B) →
+    IsFaultOf end fault (outcome_map place o) → IsFaultOf end fault (then_take o f)
+fault_place end fault place (gives name) f h = fault_then end fault (gives (place name)) (λ _. f name) h
+fault_place end fault place (refuses k) f h = fault_then end fault (refuses k) (λ _. nests) h
+fault_place end fault place nests f h = fault_then end fault nests (λ _. nests) h
+
+-- behind the first field the place is that among the fields behind it
+pub behind_first : {P : Type 0} (first : Bool) (q p : P) → (if first then First else Behind q) ≡ Behind p →
+    (first ≡ false) × (q ≡ p)
+behind_first true q p h = absurd (cc)
+behind_first false q p h = (refl, cc)
+
+-- ---- a map
 
 module _ {S Q : Type 0} (StandsBefore : S → Limit → Ahead → Type 0) (SeqStands : Q → Limit → Rest → Type 0) {C : Type 0}
     (fields : FieldsTaken C) where
@@ -23,12 +48,6 @@ module _ {S Q : Type 0} (StandsBefore : S → Limit → Ahead → Type 0) (SeqSt
       StandsBefore now (inside form l) (item k (entry v form ps f)) × SeqStands q l (pairs form ps f) ×
       (o ≡ take_fields fields (inside form l) c ((k, v) ∷ ps))
 
-  -- the key was read as this name, and its value is ahead
-  abbrev IsAtField : S → Q → C → List ℕ → Limit → Rest → Outcome C → Type 0
-  IsAtField now q c name l f o = (form : Form) × (v : Item) × (ps : List (Item × Item)) ×
-      StandsBefore now (inside form l) (item v (pairs form ps f)) × SeqStands q l (pairs form ps f) ×
-      (o ≡ then_take (fields.taken name c (inside form l) v) (λ d. take_fields fields (inside form l) d ps))
-
   pub fields_blame_next : {old : S} {q : Q} (c : C) (fault : Fault) → RefusesNext StandsBefore SeqStands old q fault →
       Follows (IsInsideFields old q c) (IsBlamed fault)
   fields_blame_next c fault h = record { at = λ l f o w. fault_outside _ fault o (h.1 l w.0 w.1 f w.2 w.3) }
@@ -41,69 +60,6 @@ module _ {S Q : Type 0} (StandsBefore : S → Limit → Ahead → Type 0) (SeqSt
         (w.0, n.0, n.1, n.2, n.4, n.5, w.4 ∙ ap (take_fields fields (inside w.0 l) c) n.3);
   }
 
-  name_blames : {old : S} {q : Q} (c : C) (fault : Fault) → RefusesAhead StandsBefore old taken_name fault →
-      Follows (IsAtName old q c) (IsBlamed fault)
-  name_blames c fault h = record {
-    at = λ l f o w.
-        let m = inside w.0 l in
-        subst (IsFaultOf (end_of f) fault) (sym w.6)
-        (fault_then _ fault (take_named fields m c (w.1, w.2)) (λ d. take_fields fields m d w.3)
-        (fault_then _ fault (taken_name m w.1) (λ name. fields.taken name c m w.2)
-        (h m w.1 (entry w.2 w.0 w.3 f) w.4)));
-  }
-
-  at_field : {old new : S} {q : Q} (c : C) {name : List ℕ} → TakesAhead StandsBefore old new taken_name name →
-      Follows (IsAtName old q c) (IsAtField new q c name)
-  at_field c h = record {
-    at = λ l f o w.
-        let m = inside w.0 l in
-        let n = h m w.1 (entry w.2 w.0 w.3 f) w.4 in (
-          w.0,
-          w.2,
-          w.3,
-          n.1,
-          w.5,
-          w.6 ∙ ap (λ x. then_take (then_take x (λ name. fields.taken name c m w.2))
-              (λ d. take_fields fields m d w.3)) n.0,
-        );
-  }
-
-  field_blames : {old : S} {q : Q} (c : C) (name : List ℕ) (fault : Fault) →
-      RefusesAhead StandsBefore old (fields.taken name c) fault → Follows (IsAtField old q c name) (IsBlamed fault)
-  field_blames c name fault h = record {
-    at = λ l f o w.
-        let m = inside w.0 l in
-        subst (IsFaultOf (end_of f) fault) (sym w.5)
-        (fault_then _ fault (fields.taken name c m w.1) (λ d. take_fields fields m d w.2)
-        (h m w.1 (pairs w.0 w.2 f) w.3));
-  }
-
-  behind_field : {old new : S} {q : Q} (c : C) (name : List ℕ) {d : C} →
-      TakesAhead StandsBefore old new (fields.taken name c) d →
-      Follows (IsAtField old q c name) (IsInsideFields new q d)
-  behind_field c name h = record {
-    at = λ l f o w.
-        let m = inside w.0 l in
-        let n = h m w.1 (pairs w.0 w.2 f) w.3 in
-        (w.0, w.2, n.1, w.4, w.5 ∙ ap (λ x. then_take x (λ d. take_fields fields m d w.2)) n.0);
-  }
-
-  pub fields_more : {old ahead mid new : S} {q q' : Q} (c : C) {name : List ℕ} {d : C} →
-      GoesOn StandsBefore SeqStands old ahead q q' → TakesAhead StandsBefore ahead mid taken_name name →
-      TakesAhead StandsBefore mid new (fields.taken name c) d →
-      Follows (IsInsideFields old q c) (IsInsideFields new q' d)
-  fields_more c {name} h k v = so (at_name c h) (so (at_field c k) (behind_field c name v))
-
-  pub fields_blame_name : {old ahead : S} {q q' : Q} (c : C) (fault : Fault) →
-      GoesOn StandsBefore SeqStands old ahead q q' → RefusesAhead StandsBefore ahead taken_name fault →
-      Follows (IsInsideFields old q c) (IsBlamed fault)
-  fields_blame_name c fault h k = so (at_name c h) (name_blames c fault k)
-
-  pub fields_blame_field : {old ahead mid : S} {q q' : Q} (c : C) {name : List ℕ} (fault : Fault) →
-      GoesOn StandsBefore SeqStands old ahead q q' → TakesAhead StandsBefore ahead mid taken_name name →
-      RefusesAhead StandsBefore mid (fields.taken name c) fault → Follows (IsInsideFields old q c) (IsBlamed fault)
-  fields_blame_field c {name} fault h k v = so (at_name c h) (so (at_field c k) (field_blames c name fault v))
-
   pub fields_end : {old new : S} {q : Q} (c : C) → Leaves StandsBefore SeqStands old new q →
       Follows (IsInsideFields old q c) (IsPast StandsBefore new c)
   fields_end c h = record {
@@ -111,3 +67,79 @@ module _ {S Q : Type 0} (StandsBefore : S → Limit → Ahead → Type 0) (SeqSt
         let n = h.1 l w.0 w.1 f w.2 w.3 in
         (w.4 ∙ ap (take_fields fields (inside w.0 l) c) n.0, n.1);
   }
+
+  module _ {P : Type 0} (place : List ℕ → P) where
+    -- the key was read as a name with this place, and its value is ahead
+    abbrev IsAtField : S → Q → C → P → Limit → Rest → Outcome C → Type 0
+    IsAtField now q c p l f o = (form : Form) × (v : Item) × (ps : List (Item × Item)) ×
+        StandsBefore now (inside form l) (item v (pairs form ps f)) × SeqStands q l (pairs form ps f) ×
+        (name : List ℕ) × (place name ≡ p) ×
+        (o ≡ then_take (fields.taken name c (inside form l) v) (λ d. take_fields fields (inside form l) d ps))
+
+    name_blames : {old : S} {q : Q} (c : C) (fault : Fault) → RefusesAhead StandsBefore old (taken_place place) fault →
+        Follows (IsAtName old q c) (IsBlamed fault)
+    name_blames c fault h = record {
+      at = λ l f o w.
+          let m = inside w.0 l in
+          subst (IsFaultOf (end_of f) fault) (sym w.6)
+          (fault_then _ fault (take_named fields m c (w.1, w.2)) (λ d. take_fields fields m d w.3)
+          (fault_place _ fault place (taken_name m w.1) (λ name. fields.taken name c m w.2)
+          (h m w.1 (entry w.2 w.0 w.3 f) w.4)));
+    }
+
+    at_field : {old new : S} {q : Q} (c : C) {p : P} → TakesAhead StandsBefore old new (taken_place place) p →
+        Follows (IsAtName old q c) (IsAtField new q c p)
+    at_field c h = record {
+      at = λ l f o w.
+          let m = inside w.0 l in
+          let n = h m w.1 (entry w.2 w.0 w.3 f) w.4 in
+          let named = name_at place (taken_name m w.1) n.0 in (
+            w.0,
+            w.2,
+            w.3,
+            n.1,
+            w.5,
+            named.0,
+            named.1,
+            w.6 ∙ ap (λ x. then_take (then_take x (λ name. fields.taken name c m w.2))
+                (λ d. take_fields fields m d w.3)) named.2,
+          );
+    }
+
+    field_blames : {old : S} {q : Q} (c : C) {p : P} (fault : Fault) →
+        ((name : List ℕ) → place name ≡ p → RefusesAhead StandsBefore old (fields.taken name c) fault) →
+        Follows (IsAtField old q c p) (IsBlamed fault)
+    field_blames c fault h = record {
+      at = λ l f o w.
+          let m = inside w.0 l in
+          subst (IsFaultOf (end_of f) fault) (sym w.7)
+          (fault_then _ fault (fields.taken w.5 c m w.1) (λ d. take_fields fields m d w.2)
+          (h w.5 w.6 m w.1 (pairs w.0 w.2 f) w.3));
+    }
+
+    behind_field : {old new : S} {q : Q} (c : C) {p : P} {d : C} →
+        ((name : List ℕ) → place name ≡ p → TakesAhead StandsBefore old new (fields.taken name c) d) →
+        Follows (IsAtField old q c p) (IsInsideFields new q d)
+    behind_field c h = record {
+      at = λ l f o w.
+          let m = inside w.0 l in
+          let n = h w.5 w.6 m w.1 (pairs w.0 w.2 f) w.3 in
+          (w.0, w.2, n.1, w.4, w.7 ∙ ap (λ x. then_take x (λ d. take_fields fields m d w.2)) n.0);
+    }
+
+    pub fields_more : {old ahead mid new : S} {q q' : Q} (c : C) {p : P} {d : C} →
+        GoesOn StandsBefore SeqStands old ahead q q' → TakesAhead StandsBefore ahead mid (taken_place place) p →
+        ((name : List ℕ) → place name ≡ p → TakesAhead StandsBefore mid new (fields.taken name c) d) →
+        Follows (IsInsideFields old q c) (IsInsideFields new q' d)
+    fields_more c h k v = so (at_name c h) (so (at_field c k) (behind_field c v))
+
+    pub fields_blame_name : {old ahead : S} {q q' : Q} (c : C) (fault : Fault) →
+        GoesOn StandsBefore SeqStands old ahead q q' → RefusesAhead StandsBefore ahead (taken_place place) fault →
+        Follows (IsInsideFields old q c) (IsBlamed fault)
+    fields_blame_name c fault h k = so (at_name c h) (name_blames c fault k)
+
+    pub fields_blame_field : {old ahead mid : S} {q q' : Q} (c : C) {p : P} (fault : Fault) →
+        GoesOn StandsBefore SeqStands old ahead q q' → TakesAhead StandsBefore ahead mid (taken_place place) p →
+        ((name : List ℕ) → place name ≡ p → RefusesAhead StandsBefore mid (fields.taken name c) fault) →
+        Follows (IsInsideFields old q c) (IsBlamed fault)
+    fields_blame_field c fault h k v = so (at_name c h) (so (at_field c k) (field_blames c fault v))

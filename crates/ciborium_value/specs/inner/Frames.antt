@@ -1,6 +1,6 @@
 -- Frames: containers and tags that are unfinished while a tree is put together, the innermost
 -- first.
-use Rattle.std.specs.Prelude.{ℕ, zero, suc, ◌+◌, ◌*◌, List, [], ◌∷◌, ◌++◌, Option, Some, None}
+use Rattle.std.specs.Prelude.{ℕ, zero, suc, List, [], ◌∷◌, ◌++◌, Option, Some, None}
 use Rattle.std.specs.Prelude.{option_map}
 use Rattle.ciborium_value.specs.Tree as trees
 use Rattle.ciborium_value.specs.Tree.{Tree}
@@ -72,24 +72,3 @@ waiting_keys (array vs behind ∷ os) = None
 waiting_keys (map ps behind None ∷ os) = None
 waiting_keys (map ps behind (Some key) ∷ os) = with_last ps key
 waiting_keys (tag n ∷ os) = None
-
--- how many parts of the innermost container are due for sure, the one that is read now included; a
--- pair is two
-abbrev pub parts_due : List TreeFrame → ℕ
-parts_due [] = 0
-parts_due (array vs (Some n) ∷ os) = n + 1
-parts_due (array vs None ∷ os) = 0
-parts_due (map ps (Some n) None ∷ os) = 2 * n + 2
-parts_due (map ps (Some n) (Some k) ∷ os) = 2 * n + 1
-parts_due (map ps None key ∷ os) = 0
-parts_due (tag t ∷ os) = 0
-
--- how many are due for sure behind the part that is read now, in all that is open
-abbrev pub due_behind : List TreeFrame → ℕ
-due_behind [] = 0
-due_behind (array vs (Some n) ∷ os) = n + due_behind os
-due_behind (array vs None ∷ os) = due_behind os
-due_behind (map ps (Some n) None ∷ os) = 2 * n + 1 + due_behind os
-due_behind (map ps (Some n) (Some k) ∷ os) = 2 * n + due_behind os
-due_behind (map ps None key ∷ os) = due_behind os
-due_behind (tag t ∷ os) = due_behind os

@@ -127,20 +127,29 @@ pub(super) fn copy_text(alloc: Global, value: &Value) -> Result<String, Error>
     }
 }
 
+// The name that a value is.
+pub(super) fn find_name(value: &Value) -> Result<&str, Error>
+    ensures ok { IfOk result (λ v. taken_name None (value_item value.now) ≡ gives v.now) }
+    ensures refused { IfErr result
+        (λ e. IsErrorOf e (taken_name None (value_item value.now))) }
+{
+    match skip_tags(value) {
+        Value::Text(text) => Ok(text),
+        Value::Bytes(bytes) => match str::from_utf8(bytes) {
+            Ok(text) => Ok(text),
+            Err(_) => Err(Error::Custom(Kind::Name)),
+        },
+        _ => Err(Error::Custom(Kind::Name)),
+    }
+}
+
 pub(super) fn copy_name(alloc: Global, value: &Value) -> Result<String, Error>
     ensures ok { IfOk result
         (λ v. taken_name None (value_item value.now) ≡ gives (string_bytes v)) }
     ensures refused { IfErr result
         (λ e. IsErrorOf e (taken_name None (value_item value.now))) }
 {
-    match skip_tags(value) {
-        Value::Text(text) => Ok(String::from_str(alloc, text)?),
-        Value::Bytes(bytes) => match str::from_utf8(bytes) {
-            Ok(text) => Ok(String::from_str(alloc, text)?),
-            Err(_) => Err(Error::Custom(Kind::Name)),
-        },
-        _ => Err(Error::Custom(Kind::Name)),
-    }
+    Ok(String::from_str(alloc, find_name(value)?)?)
 }
 
 // The one pair of a map that has just one.

@@ -6,15 +6,15 @@ use Rattle.ciborium.proofs.Readers.HandedReaders.{from-first, some-map}
 use Rattle.ciborium.proofs.Readers.KnownReaders.{whole-of}
 use Rattle.ciborium.proofs.de.read.Goals as goal
 
-pub returns : goal.returns
-returns g c = record {
-  ok = c.read_at.ensures.ok;
-  refused = c.read_at.ensures.refused;
-  memory = c.read_at.ensures.memory;
-  taken = c.read_at.ensures.taken;
-  value = some-map g.T.Deserialize.reading.whole c.read_at.ensures.value
-      (λ tree taken. whole-of {E = Error} any c.args.limit (g.R.Read.remaining c.args.reader.now) _
+pub returns-clause-reads : goal.returns-clause-reads
+returns-clause-reads g c = record {
+  ok = c.read_at.ensures.reads.ok;
+  refused = c.read_at.ensures.reads.refused;
+  memory = c.read_at.ensures.reads.memory;
+  taken = c.read_at.ensures.reads.taken;
+  value = some-map g.T.Deserialize.reading.whole c.read_at.ensures.reads.value
+      (λ tree taken. whole-of {E = Error} any c.args.limit (g.A.Access.remaining c.args.reader.now) _
       (read_as (λ v. tree (g.T.Deserialize.reading.content v)) c.read_at.result)
-      (from-first Error (g.R.Read.remaining c.args.reader.now) c.args.limit _
+      (from-first Error (g.A.Access.remaining c.args.reader.now) c.args.limit _
       (read_as (λ v. tree (g.T.Deserialize.reading.content v)) c.read_at.result) taken));
 }

@@ -7,7 +7,7 @@ use crate::de::byte_source::ByteSource;
 use crate::de::error::{self, Error, Refusal};
 use std::io;
 
-impl<R> ByteSource<'_, R> {
+impl<R, A> ByteSource<'_, R, A> {
     /// Puts back the reader's error, if there is one.
     pub(crate) fn put_back(&mut self, refusal: Refusal) -> Error<io::Error>
         ensures refusal { refusal ≡ without_reader_error result }

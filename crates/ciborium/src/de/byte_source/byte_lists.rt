@@ -15,10 +15,9 @@ ghost use Rattle.ciborium.specs.inner.ByteSources.{fault_at};
 
 use crate::de::byte_source::{ByteSeq, ByteSource};
 use crate::de::error::{Error, Refusal};
-use ciborium_ll::Header;
+use ciborium_ll::{Access, Header};
 use ciborium_value::Kind;
 use std::alloc::Global;
-use std::io::Read;
 
 // The byte that a number at this offset is.
 #[inline(always)]
@@ -39,19 +38,19 @@ fn to_byte(number: (bool, u128), offset: usize) -> Result<u8, Refusal>
     Ok(n as u8)
 }
 
-impl<'a, R: Read> ByteSource<'a, R> {
+impl<'a, R, A: Access<R>> ByteSource<'a, R, A> {
     // The items that are left of a sequence, each a number that is a byte.
     #[inline(never)]
     fn read_byte_items(&mut self, alloc: Global, seq: ByteSeq) -> Result<Vec<u8>, Refusal>
         ensures same_reader { HasSameReader self.old.decoder self.new.decoder }
-        ensures only { TakesOnly (HasTaken R.remaining) self.old.decoder self.new.decoder }
+        ensures only { TakesOnly (HasTaken A.remaining) self.old.decoder self.new.decoder }
         ensures no_more { OnErr result
             (weight_left self.new ≤ weight_left self.old + seq_left seq) }
-        ensures ok { IfOk result (λ v. ReadsRest R.remaining self.old self.new seq
+        ensures ok { IfOk result (λ v. ReadsRest A.remaining self.old self.new seq
             (λ l is. take_each (taken_byte l) is) v.items) }
-        ensures refused { IfErr result (λ e. RefusesRest R.remaining self.old seq
-            (λ l is. take_each (taken_byte l) is) (fault_at R.remaining self.new e)) }
-        ensures took { OnOk result (TakesTo (IsUnread R.remaining) self.old self.new
+        ensures refused { IfErr result (λ e. RefusesRest A.remaining self.old seq
+            (λ l is. take_each (taken_byte l) is) (fault_at A.can_fail A.remaining self.new e)) }
+        ensures took { OnOk result (TakesTo (IsUnread A.remaining) self.old self.new
             (λ c z. (b : List ℕ) → SeqOwes seq sequence b c → HasItem b z)) }
         ensures fewer { OnOk result
             (weight_left self.new ≤ weight_left self.old + seq_left seq) }
@@ -75,14 +74,14 @@ impl<'a, R: Read> ByteSource<'a, R> {
     #[inline(always)]
     pub(crate) fn bytes(&mut self, alloc: Global) -> Result<Vec<u8>, Refusal>
         ensures same_reader { HasSameReader self.old.decoder self.new.decoder }
-        ensures only { TakesOnly (HasTaken R.remaining) self.old.decoder self.new.decoder }
+        ensures only { TakesOnly (HasTaken A.remaining) self.old.decoder self.new.decoder }
         ensures no_more { OnErr result (weight_left self.new ≤ weight_left self.old) }
         ensures ok { IfOk result (λ v.
-            TakesAhead (StandsBefore R.remaining) self.old self.new taken_bytes v.items) }
+            TakesAhead (StandsBefore A.remaining) self.old self.new taken_bytes v.items) }
         ensures refused { IfErr result (λ e.
-            RefusesAhead (StandsBefore R.remaining) self.old taken_bytes
-            (fault_at R.remaining self.new e)) }
-        ensures took { OnOk result (TakesItem (IsUnread R.remaining) self.old self.new) }
+            RefusesAhead (StandsBefore A.remaining) self.old taken_bytes
+            (fault_at A.can_fail A.remaining self.new e)) }
+        ensures took { OnOk result (TakesItem (IsUnread A.remaining) self.old self.new) }
         ensures fewer { OnOk result (weight_left self.new < weight_left self.old) }
     {
         let (header, offset) = self.bare_head(false)?;

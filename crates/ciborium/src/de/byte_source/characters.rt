@@ -10,9 +10,8 @@ ghost use Rattle.ciborium.specs.inner.ByteSources.{fault_at};
 
 use crate::de::byte_source::ByteSource;
 use crate::de::error::{Error, Refusal};
-use ciborium_ll::Header;
+use ciborium_ll::{Access, Header};
 use ciborium_value::Kind;
-use std::io::Read;
 use std::str;
 
 // How many bytes a character takes in UTF-8, at most.
@@ -45,14 +44,14 @@ fn only_character(payload: &[u8], offset: usize) -> Result<char, Refusal>
     }
 }
 
-impl<'a, R: Read> ByteSource<'a, R> {
+impl<'a, R, A: Access<R>> ByteSource<'a, R, A> {
     /// The one character of a definite text. A text that is longer than any character is not read.
     pub(crate) fn character(&mut self) -> Result<char, Refusal>
-        ensures keeps { PassesItem R.remaining self.old self.new result }
-        ensures answer { AnswersItem R.remaining self.old self.new (Some self.old.levels)
+        ensures keeps { PassesItem A.remaining self.old self.new result }
+        ensures answer { AnswersItem A.can_fail A.remaining self.old self.new (Some self.old.levels)
             taken_character (λ v. v) result }
         ensures memory { IfErr result
-            (λ e. IsGrantedFault (fault_at R.remaining self.new e) false) }
+            (λ e. IsGrantedFault (fault_at A.can_fail A.remaining self.new e) false) }
     {
         let (header, offset) = self.bare_head(false)?;
         match header {

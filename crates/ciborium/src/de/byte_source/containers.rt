@@ -9,8 +9,8 @@ ghost use Rattle.ciborium_value.specs.Sources.{OwesNothing, RefusesNext, TakesOn
 ghost use Rattle.ciborium_value.specs.Taken.{gives, taken_pairs, taken_seq};
 ghost use Rattle.ciborium.specs.inner.ByteSources.{EntersItemsUnread, EntersPairsUnread, HasBytes};
 ghost use Rattle.ciborium.specs.inner.ByteSources.{HasTaken, IsUnread, SeqOwes, SeqStands};
-ghost use Rattle.ciborium.specs.inner.ByteSources.{StandsBefore, StandsStill, bytes_weight};
-ghost use Rattle.ciborium.specs.inner.ByteSources.{counted_parts, end_at, parts_left, seq_left};
+ghost use Rattle.ciborium.specs.inner.ByteSources.{StandsBefore, bytes_weight, end_at};
+ghost use Rattle.ciborium.specs.inner.ByteSources.{parts_left, seq_left};
 ghost use Rattle.ciborium.specs.inner.ByteSources.{weight_left, KeepsSource};
 ghost use Rattle.ciborium.specs.inner.ByteSources.{fault_at};
 ghost use Rattle.ciborium.specs.inner.FrontItems.{Denies};
@@ -18,23 +18,11 @@ ghost use Rattle.ciborium.specs.inner.StringContents.{DeniesContent, TakesConten
 
 use crate::de::byte_source::{ByteSeq, ByteSource, Left};
 use crate::de::error::{Error, Refusal};
-use ciborium_ll::Header;
+use ciborium_ll::{Access, Header};
 use ciborium_value::Kind;
 use std::alloc::Global;
-use std::io::Read;
 
-// How many parts are left for sure.
-#[inline(always)]
-fn counted_parts(left: &Left) -> usize
-    ensures { result ≡ counted_parts left.now }
-{
-    match left {
-        Left::Counted(n) => *n,
-        _ => 0,
-    }
-}
-
-impl<'a, R: Read> ByteSource<'a, R> {
+impl<'a, R, A: Access<R>> ByteSource<'a, R, A> {
     /// Takes a level for the container at this offset with this many parts (`None`: indefinite).
     #[inline(always)]
     pub(crate) fn enter(&mut self, count: Option<usize>, offset: usize) -> Result<ByteSeq, Refusal>
@@ -77,18 +65,18 @@ impl<'a, R: Read> ByteSource<'a, R> {
     ) -> Result<ByteSeq, Refusal>
         requires { self.old.pending ≡ None }
         ensures same_reader { HasSameReader self.old.decoder self.new.decoder }
-        ensures only { TakesOnly (HasTaken R.remaining) self.old.decoder self.new.decoder }
+        ensures only { TakesOnly (HasTaken A.remaining) self.old.decoder self.new.decoder }
         ensures no_more { OnErr result (weight_left self.new ≤ weight_left self.old) }
         ensures levels { self.new.levels ≡ self.old.levels }
         ensures back { IfOk result (λ q. q.levels ≡ self.old.levels) }
         ensures pending { self.new.pending ≡ None }
         ensures fewer { IfOk result
             (λ q. bytes_weight self.new + seq_left q ≤ bytes_weight self.old) }
-        ensures ok { IfOk result (λ q. HasBytes q.left (TakesContent (IsUnread R.remaining self.old)
-            (IsUnread R.remaining self.new) of_bytes len)) }
+        ensures ok { IfOk result (λ q. HasBytes q.left (TakesContent (IsUnread A.remaining self.old)
+            (IsUnread A.remaining self.new) of_bytes len)) }
         ensures denied { IfErr result
-            (λ e. DeniesContent (IsUnread R.remaining self.old) (end_at R.remaining self.old)
-            of_bytes len (fault_at R.remaining self.new e)) }
+            (λ e. DeniesContent (IsUnread A.remaining self.old) (end_at A.remaining self.old)
+            of_bytes len (fault_at A.can_fail A.remaining self.new e)) }
     {
         let levels = self.levels;
         let bytes = self.bytes_content(alloc, len)?;
@@ -101,15 +89,15 @@ impl<'a, R: Read> ByteSource<'a, R> {
 
     #[inline(always)]
     pub(crate) fn begin_seq(&mut self, alloc: Global) -> Result<ByteSeq, Refusal>
-        ensures keeps { KeepsSource R.remaining self.old self.new result }
+        ensures keeps { KeepsSource A.remaining self.old self.new result }
         ensures levels { IfOk result (λ q. q.levels ≡ self.old.levels) }
         ensures fewer { IfOk result
             (λ q. weight_left self.new + seq_left q < weight_left self.old) }
-        ensures ok { IfOk result (EntersItemsUnread R.remaining self.old self.new taken_seq
+        ensures ok { IfOk result (EntersItemsUnread A.remaining self.old self.new taken_seq
             (λ l is. gives (l, is))) }
         ensures denied { IfErr result
-            (λ e. Denies (IsUnread R.remaining) (end_at R.remaining) self.old
-            (Some self.old.levels) taken_seq (fault_at R.remaining self.new e)) }
+            (λ e. Denies (IsUnread A.remaining) (end_at A.remaining) self.old
+            (Some self.old.levels) taken_seq (fault_at A.can_fail A.remaining self.new e)) }
     {
         let (header, offset) = self.bare_head(false)?;
         match header {
@@ -127,17 +115,17 @@ impl<'a, R: Read> ByteSource<'a, R> {
 
     #[inline(always)]
     pub(crate) fn begin_map(&mut self) -> Result<ByteSeq, Refusal>
-        ensures keeps { KeepsSource R.remaining self.old self.new result }
+        ensures keeps { KeepsSource A.remaining self.old self.new result }
         ensures levels { IfOk result (λ q. q.levels ≡ self.old.levels) }
         ensures fewer { IfOk result
             (λ q. weight_left self.new + seq_left q < weight_left self.old) }
-        ensures ok { IfOk result (EntersPairsUnread R.remaining self.old self.new taken_pairs
+        ensures ok { IfOk result (EntersPairsUnread A.remaining self.old self.new taken_pairs
             (λ l ps. gives (l, ps))) }
         ensures denied { IfErr result
-            (λ e. Denies (IsUnread R.remaining) (end_at R.remaining) self.old
-            (Some self.old.levels) taken_pairs (fault_at R.remaining self.new e)) }
+            (λ e. Denies (IsUnread A.remaining) (end_at A.remaining) self.old
+            (Some self.old.levels) taken_pairs (fault_at A.can_fail A.remaining self.new e)) }
         ensures memory { IfErr result
-            (λ e. IsGrantedFault (fault_at R.remaining self.new e) false) }
+            (λ e. IsGrantedFault (fault_at A.can_fail A.remaining self.new e) false) }
     {
         let (header, offset) = self.bare_head(false)?;
         let Header::Map(count) = header else {
@@ -147,39 +135,24 @@ impl<'a, R: Read> ByteSource<'a, R> {
         Ok(seq)
     }
 
-    /// Allows a byte to be read ahead for each part of a container that is left for sure: each part
-    /// takes a byte at least. Nothing is read here.
-    #[inline(always)]
-    pub(crate) fn allow(&mut self, seq: &ByteSeq)
-        ensures only { TakesOnly (HasTaken R.remaining) self.old.decoder self.new.decoder }
-        ensures levels { self.new.levels ≡ self.old.levels }
-        ensures pending { self.new.pending ≡ self.old.pending }
-        ensures weight { weight_left self.new ≡ weight_left self.old }
-        ensures unread { (b : List ℕ) → IsUnread R.remaining self.old b →
-            IsUnread R.remaining self.new b }
-        ensures still { StandsStill R.remaining self.old self.new seq.now }
-    {
-        self.decoder.allow(counted_parts(&seq.left));
-    }
-
     /// Whether a further item or pair is ahead; the container is left where none is.
     #[inline(always)]
     pub(crate) fn next_part(&mut self, seq: &mut ByteSeq) -> Result<bool, Refusal>
         ensures same_reader { HasSameReader self.old.decoder self.new.decoder }
-        ensures only { TakesOnly (HasTaken R.remaining) self.old.decoder self.new.decoder }
+        ensures only { TakesOnly (HasTaken A.remaining) self.old.decoder self.new.decoder }
         ensures no_more { OnErr result
             (weight_left self.new + seq_left seq.new ≤ weight_left self.old + seq_left seq.old) }
         ensures ok { IfOk result (λ b. MatchBool b
-            (GoesOn (StandsBefore R.remaining) SeqStands self.old self.new seq.old seq.new)
-            (Leaves (StandsBefore R.remaining) SeqStands self.old self.new seq.old)) }
+            (GoesOn (StandsBefore A.remaining) SeqStands self.old self.new seq.old seq.new)
+            (Leaves (StandsBefore A.remaining) SeqStands self.old self.new seq.old)) }
         ensures refused { IfErr result (λ e.
-            RefusesNext (StandsBefore R.remaining) SeqStands self.old seq.old
-            (fault_at R.remaining self.new e)) }
+            RefusesNext (StandsBefore A.remaining) SeqStands self.old seq.old
+            (fault_at A.can_fail A.remaining self.new e)) }
         ensures memory { IfErr result
-            (λ e. IsGrantedFault (fault_at R.remaining self.new e) false) }
+            (λ e. IsGrantedFault (fault_at A.can_fail A.remaining self.new e) false) }
         ensures took { IfOk result (λ b. MatchBool b
-            (TakesTo (IsUnread R.remaining) self.old self.new (OwesLess SeqOwes seq.old seq.new))
-            (TakesTo (IsUnread R.remaining) self.old self.new (OwesNothing SeqOwes seq.old))) }
+            (TakesTo (IsUnread A.remaining) self.old self.new (OwesLess SeqOwes seq.old seq.new))
+            (TakesTo (IsUnread A.remaining) self.old self.new (OwesNothing SeqOwes seq.old))) }
         ensures fewer { OnOk result
             (weight_left self.new + seq_left seq.new ≤ weight_left self.old + seq_left seq.old) }
     {

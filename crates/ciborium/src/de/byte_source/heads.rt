@@ -11,10 +11,9 @@ ghost use Rattle.ciborium.specs.inner.Skips.{IsEndTag, TakesBare};
 
 use crate::de::byte_source::ByteSource;
 use crate::de::error::{Error, Refusal};
-use ciborium_ll::Header;
 use ciborium_ll::tag::{BIGNEG, BIGPOS};
+use ciborium_ll::{Access, Header};
 use ciborium_value::Kind;
-use std::io::Read;
 
 // Whether a tag is not skipped: that of a bignum, where numbers are wanted.
 #[inline(always)]
@@ -24,25 +23,25 @@ fn is_end_tag(numbers: bool, tag: u64) -> bool
     numbers && (tag == BIGPOS || tag == BIGNEG)
 }
 
-impl<'a, R: Read> ByteSource<'a, R> {
+impl<'a, R, A: Access<R>> ByteSource<'a, R, A> {
     /// The next head, and its offset.
     #[inline(always)]
     pub(crate) fn next_head(&mut self) -> Result<(Header, usize), Refusal>
         ensures same_reader { HasSameReader self.old.decoder self.new.decoder }
-        ensures only { TakesOnly (HasTaken R.remaining) self.old.decoder self.new.decoder }
+        ensures only { TakesOnly (HasTaken A.remaining) self.old.decoder self.new.decoder }
         ensures no_more { OnErr result (weight_left self.new ≤ weight_left self.old) }
         ensures levels { self.new.levels ≡ self.old.levels }
         ensures pending { self.new.pending ≡ None }
         ensures fewer { IfOk result
             (λ h. bytes_weight self.new + head_weight h.0 ≤ weight_left self.old) }
         ensures head { IfOk result
-            (λ h. TakesHead (IsUnread R.remaining) self.old self.new h.0) }
-        ensures counted { IfOk result (CountsHead (IsUnread R.remaining) self.old self.new) }
+            (λ h. TakesHead (IsUnread A.remaining) self.old self.new h.0) }
+        ensures counted { IfOk result (CountsHead (IsUnread A.remaining) self.old self.new) }
         ensures denied { IfErr result
-            (λ e. DeniesHead (IsUnread R.remaining) (end_at R.remaining) self.old
-            (fault_at R.remaining self.new e)) }
+            (λ e. DeniesHead (IsUnread A.remaining) (end_at A.remaining) self.old
+            (fault_at A.can_fail A.remaining self.new e)) }
         ensures memory { IfErr result
-            (λ e. IsGrantedFault (fault_at R.remaining self.new e) false) }
+            (λ e. IsGrantedFault (fault_at A.can_fail A.remaining self.new e) false) }
     {
         if let Some((header, offset)) = self.pending {
             self.pending = None;
@@ -56,12 +55,12 @@ impl<'a, R: Read> ByteSource<'a, R> {
     // The head behind any number of tags. Out of line: where it is called a tag was skipped.
     #[inline(never)]
     fn behind_tags(&mut self, numbers: bool) -> Result<(Header, usize), Refusal>
-        ensures reads { ReadsBareHead R.remaining self.old self.new numbers result }
+        ensures reads { ReadsBareHead A.can_fail A.remaining self.old self.new numbers result }
         ensures head { IfOk result
-            (λ h. TakesBare (IsUnread R.remaining) self.old self.new numbers h.0) }
+            (λ h. TakesBare (IsUnread A.remaining) self.old self.new numbers h.0) }
         ensures denied { IfErr result
-            (λ e. DeniesItem (IsUnread R.remaining) (end_at R.remaining) self.old
-            (fault_at R.remaining self.new e)) }
+            (λ e. DeniesItem (IsUnread A.remaining) (end_at A.remaining) self.old
+            (fault_at A.can_fail A.remaining self.new e)) }
     {
         'tags: loop {
             let (header, offset) = self.next_head()?;
@@ -81,12 +80,12 @@ impl<'a, R: Read> ByteSource<'a, R> {
     // ready only behind a tag.
     #[inline(always)]
     fn skip_tags(&mut self, numbers: bool) -> Result<(Header, usize), Refusal>
-        ensures reads { ReadsBareHead R.remaining self.old self.new numbers result }
+        ensures reads { ReadsBareHead A.can_fail A.remaining self.old self.new numbers result }
         ensures head { IfOk result
-            (λ h. TakesBare (IsUnread R.remaining) self.old self.new numbers h.0) }
+            (λ h. TakesBare (IsUnread A.remaining) self.old self.new numbers h.0) }
         ensures denied { IfErr result
-            (λ e. DeniesItem (IsUnread R.remaining) (end_at R.remaining) self.old
-            (fault_at R.remaining self.new e)) }
+            (λ e. DeniesItem (IsUnread A.remaining) (end_at A.remaining) self.old
+            (fault_at A.can_fail A.remaining self.new e)) }
     {
         let bare = self.behind_tags(numbers)?;
         Ok(bare)
@@ -100,12 +99,12 @@ impl<'a, R: Read> ByteSource<'a, R> {
     /// `Semantic` with `Break` where a break stands there.
     #[inline(always)]
     pub(crate) fn bare_head(&mut self, numbers: bool) -> Result<(Header, usize), Refusal>
-        ensures reads { ReadsBareHead R.remaining self.old self.new numbers result }
+        ensures reads { ReadsBareHead A.can_fail A.remaining self.old self.new numbers result }
         ensures head { IfOk result
-            (λ h. TakesBare (IsUnread R.remaining) self.old self.new numbers h.0) }
+            (λ h. TakesBare (IsUnread A.remaining) self.old self.new numbers h.0) }
         ensures denied { IfErr result
-            (λ e. DeniesItem (IsUnread R.remaining) (end_at R.remaining) self.old
-            (fault_at R.remaining self.new e)) }
+            (λ e. DeniesItem (IsUnread A.remaining) (end_at A.remaining) self.old
+            (fault_at A.can_fail A.remaining self.new e)) }
     {
         let (header, offset) = self.next_head()?;
         match header {

@@ -13,10 +13,9 @@ ghost use Rattle.ciborium.specs.inner.Skips.{EntersLevelUnread};
 
 use crate::de::byte_source::{ByteLevel, ByteSource};
 use crate::de::error::{Error, Refusal};
-use ciborium_ll::{Header, simple};
+use ciborium_ll::{Access, Header, simple};
 use ciborium_value::Kind;
 use std::alloc::Global;
-use std::io::Read;
 
 fn is_one(count: Option<usize>) -> bool
     ensures { MatchBool result (count ≡ Some 1) (count ≢ Some 1) }
@@ -27,7 +26,7 @@ fn is_one(count: Option<usize>) -> bool
     }
 }
 
-impl<'a, R: Read> ByteSource<'a, R> {
+impl<'a, R, A: Access<R>> ByteSource<'a, R, A> {
     // Takes the level of a tag or a variant.
     #[inline(always)]
     fn take_level(&mut self) -> Result<ByteLevel, Refusal>
@@ -51,7 +50,7 @@ impl<'a, R: Read> ByteSource<'a, R> {
         ensures same_reader { HasSameReader self.old.decoder self.new.decoder }
         ensures unread { self.new.decoder ≡ self.old.decoder }
         ensures pending { self.new.pending ≡ self.old.pending }
-        ensures ok { GivesBack (StandsBefore R.remaining) LevelStands self.old self.new level }
+        ensures ok { GivesBack (StandsBefore A.remaining) LevelStands self.old self.new level }
     {
         self.levels = level.levels;
     }
@@ -60,17 +59,17 @@ impl<'a, R: Read> ByteSource<'a, R> {
     #[inline(always)]
     pub(crate) fn begin_tag(&mut self) -> Result<(Option<u64>, ByteLevel), Refusal>
         ensures same_reader { HasSameReader self.old.decoder self.new.decoder }
-        ensures only { TakesOnly (HasTaken R.remaining) self.old.decoder self.new.decoder }
+        ensures only { TakesOnly (HasTaken A.remaining) self.old.decoder self.new.decoder }
         ensures no_more { OnErr result (weight_left self.new ≤ weight_left self.old) }
         ensures level { IfOk result (λ p. TakesLevel self.old self.new p.1) }
         ensures fewer { OnOk result (weight_left self.new ≤ weight_left self.old) }
-        ensures ok { IfOk result (λ p. EntersLevelUnread (IsUnread R.remaining) self.old self.new
+        ensures ok { IfOk result (λ p. EntersLevelUnread (IsUnread A.remaining) self.old self.new
             (Some self.old.levels) taken_outer_tag p.0) }
         ensures denied { IfErr result
-            (λ e. Denies (IsUnread R.remaining) (end_at R.remaining) self.old
-            (Some self.old.levels) taken_outer_tag (fault_at R.remaining self.new e)) }
+            (λ e. Denies (IsUnread A.remaining) (end_at A.remaining) self.old
+            (Some self.old.levels) taken_outer_tag (fault_at A.can_fail A.remaining self.new e)) }
         ensures memory { IfErr result
-            (λ e. IsGrantedFault (fault_at R.remaining self.new e) false) }
+            (λ e. IsGrantedFault (fault_at A.can_fail A.remaining self.new e) false) }
     {
         let (header, offset) = self.next_head()?;
         match header {
@@ -92,15 +91,15 @@ impl<'a, R: Read> ByteSource<'a, R> {
     #[inline(always)]
     pub(crate) fn begin_variant(&mut self, alloc: Global) -> Result<(String, ByteLevel), Refusal>
         ensures same_reader { HasSameReader self.old.decoder self.new.decoder }
-        ensures only { TakesOnly (HasTaken R.remaining) self.old.decoder self.new.decoder }
+        ensures only { TakesOnly (HasTaken A.remaining) self.old.decoder self.new.decoder }
         ensures no_more { OnErr result (weight_left self.new ≤ weight_left self.old) }
         ensures level { IfOk result (λ p. TakesLevel self.old self.new p.1) }
         ensures fewer { OnOk result (weight_left self.new ≤ weight_left self.old) }
-        ensures ok { IfOk result (λ p. EntersLevelUnread (IsUnread R.remaining) self.old self.new
+        ensures ok { IfOk result (λ p. EntersLevelUnread (IsUnread A.remaining) self.old self.new
             (Some self.old.levels) taken_variant (string_bytes p.0)) }
         ensures denied { IfErr result
-            (λ e. Denies (IsUnread R.remaining) (end_at R.remaining) self.old
-            (Some self.old.levels) taken_variant (fault_at R.remaining self.new e)) }
+            (λ e. Denies (IsUnread A.remaining) (end_at A.remaining) self.old
+            (Some self.old.levels) taken_variant (fault_at A.can_fail A.remaining self.new e)) }
     {
         let (header, offset) = self.bare_head(false)?;
         match header {

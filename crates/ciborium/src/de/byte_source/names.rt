@@ -1,22 +1,47 @@
 //! Names.
 
-ghost use Rattle.std.specs.Prelude.{◌≡◌, ◌<◌, OnOk, Some, string_bytes};
-ghost use Rattle.ciborium_value.specs.Taken.{taken_name};
-ghost use Rattle.ciborium.specs.inner.ByteSources.{AnswersItem, PassesItem};
+ghost use Rattle.std.specs.Prelude.{◌≡◌, ◌≤◌, IfErr, IfOk, IfSome, List, None, OnErr, OnOk, Some};
+ghost use Rattle.std.specs.Prelude.{string_bytes, ℕ};
+ghost use Rattle.ciborium_ll.specs.Decoding.{HasSameReader};
+ghost use Rattle.ciborium_ll.specs.StringRefusal.{of_text};
+ghost use Rattle.ciborium_value.specs.Sources.{TakesOnly};
+ghost use Rattle.ciborium_value.specs.Taken.{taken_name, taken_place};
+ghost use Rattle.ciborium.specs.inner.ByteSources.{AnswersItem, HasTaken, IsUnread, PassesItem};
+ghost use Rattle.ciborium.specs.inner.ByteSources.{bytes_weight, end_at, fault_at, weight_left};
+ghost use Rattle.ciborium.specs.inner.StringContents.{DeniesContent, TakesPlace};
 
 use crate::de::byte_source::ByteSource;
 use crate::de::error::{Error, Refusal};
-use ciborium_ll::Header;
-use ciborium_value::Kind;
+use ciborium_ll::{Access, Header};
+use ciborium_value::{Kind, Names};
 use std::alloc::Global;
-use std::io::Read;
+use std::str;
 
-impl<'a, R: Read> ByteSource<'a, R> {
+// The length in bytes up to which a name is looked up without memory.
+const ROOM_SIZE: usize = 64;
+
+// The length of a text that has room.
+#[inline(always)]
+fn short_len(len: Option<usize>) -> Option<usize>
+    ensures { IfSome result (λ n. (len ≡ Some n) × (n ≤ 64)) }
+{
+    match len {
+        Some(n) => {
+            if n <= ROOM_SIZE {
+                return Some(n);
+            }
+            None
+        }
+        None => None,
+    }
+}
+
+impl<'a, R, A: Access<R>> ByteSource<'a, R, A> {
     /// A text, or a byte string that is UTF-8 once its chunks are joined.
     #[inline(always)]
     pub(crate) fn name(&mut self, alloc: Global) -> Result<String, Refusal>
-        ensures keeps { PassesItem R.remaining self.old self.new result }
-        ensures answer { AnswersItem R.remaining self.old self.new (Some self.old.levels)
+        ensures keeps { PassesItem A.remaining self.old self.new result }
+        ensures answer { AnswersItem A.can_fail A.remaining self.old self.new (Some self.old.levels)
             taken_name string_bytes result }
     {
         let (header, offset) = self.bare_head(false)?;
@@ -29,6 +54,92 @@ impl<'a, R: Read> ByteSource<'a, R> {
                 let bytes = self.bytes_content(alloc, len)?;
                 match String::from_utf8(bytes) {
                     Ok(name) => Ok(name),
+                    Err(_) => Err(Error::Semantic(Some(offset), Kind::Name)),
+                }
+            }
+            _ => Err(Error::Semantic(Some(offset), Kind::Name)),
+        }
+    }
+
+    // The place of the text of n bytes whose head, at this offset, was taken last.
+    #[inline(always)]
+    fn short_place<N: Names>(
+        &mut self,
+        n: usize,
+        offset: usize,
+        names: &N,
+    ) -> Result<N::Place, Refusal>
+        requires pending { self.old.pending ≡ None }
+        requires short { n ≤ 64 }
+        ensures same_reader { HasSameReader self.old.decoder self.new.decoder }
+        ensures only { TakesOnly (HasTaken A.remaining) self.old.decoder self.new.decoder }
+        ensures no_more { OnErr result (weight_left self.new ≤ weight_left self.old) }
+        ensures levels { self.new.levels ≡ self.old.levels }
+        ensures pending { self.new.pending ≡ None }
+        ensures fewer { OnOk result (bytes_weight self.new ≤ bytes_weight self.old) }
+        ensures ok { IfOk result (λ place. TakesPlace (IsUnread A.remaining self.old)
+            (IsUnread A.remaining self.new) of_text (Some n) (N.place_of names.now) place) }
+        ensures denied { IfErr result
+            (λ e. DeniesContent (IsUnread A.remaining self.old) (end_at A.remaining self.old)
+            of_text (Some n) (fault_at A.can_fail A.remaining self.new e)) }
+    {
+        let mut room = [0u8; ROOM_SIZE];
+        let payload = &mut room[..n];
+        self.fill(payload)?;
+        match str::from_utf8(payload) {
+            Ok(name) => Ok(names.find(name)),
+            Err(_) => Err(Error::Syntax(offset)),
+        }
+    }
+
+    // The place of the text whose head, at this offset, was taken last. Memory is taken only for a
+    // long one, and one of indefinite length.
+    #[inline(always)]
+    fn text_place<N: Names>(
+        &mut self,
+        alloc: Global,
+        len: Option<usize>,
+        offset: usize,
+        names: &N,
+    ) -> Result<N::Place, Refusal>
+        requires { self.old.pending ≡ None }
+        ensures same_reader { HasSameReader self.old.decoder self.new.decoder }
+        ensures only { TakesOnly (HasTaken A.remaining) self.old.decoder self.new.decoder }
+        ensures no_more { OnErr result (weight_left self.new ≤ weight_left self.old) }
+        ensures levels { self.new.levels ≡ self.old.levels }
+        ensures pending { self.new.pending ≡ None }
+        ensures fewer { OnOk result (bytes_weight self.new ≤ bytes_weight self.old) }
+        ensures ok { IfOk result (λ place. TakesPlace (IsUnread A.remaining self.old)
+            (IsUnread A.remaining self.new) of_text len (N.place_of names.now) place) }
+        ensures denied { IfErr result
+            (λ e. DeniesContent (IsUnread A.remaining self.old) (end_at A.remaining self.old)
+            of_text len (fault_at A.can_fail A.remaining self.new e)) }
+    {
+        if let Some(n) = short_len(len) {
+            let place = self.short_place(n, offset, names)?;
+            return Ok(place);
+        }
+        let name = self.text_content(alloc, len)?;
+        Ok(names.find(&name))
+    }
+
+    /// The place of a name among these, which is read as `name` reads it.
+    #[inline(always)]
+    pub(crate) fn place<N: Names>(&mut self, alloc: Global, names: &N) -> Result<N::Place, Refusal>
+        ensures keeps { PassesItem A.remaining self.old self.new result }
+        ensures answer { AnswersItem A.can_fail A.remaining self.old self.new (Some self.old.levels)
+            (taken_place (N.place_of names.now)) (λ v. v) result }
+    {
+        let (header, offset) = self.bare_head(false)?;
+        match header {
+            Header::Text(len) => {
+                let place = self.text_place(alloc, len, offset, names)?;
+                Ok(place)
+            }
+            Header::Bytes(len) => {
+                let bytes = self.bytes_content(alloc, len)?;
+                match str::from_utf8(&bytes) {
+                    Ok(name) => Ok(names.find(name)),
                     Err(_) => Err(Error::Semantic(Some(offset), Kind::Name)),
                 }
             }

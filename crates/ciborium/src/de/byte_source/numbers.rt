@@ -16,10 +16,9 @@ ghost use Rattle.ciborium.specs.inner.StringContents.{TakesNumber, one_digit_mor
 
 use crate::de::byte_source::ByteSource;
 use crate::de::error::{Error, Refusal};
-use ciborium_ll::Header;
 use ciborium_ll::tag::BIGNEG;
+use ciborium_ll::{Access, Header};
 use ciborium_value::Kind;
-use std::io::Read;
 
 // The number with one byte more, or none where 128 bits do not hold it.
 #[inline(always)]
@@ -58,23 +57,23 @@ fn only_byte(room: &[u8; 1]) -> u8
     room[0]
 }
 
-impl<'a, R: Read> ByteSource<'a, R> {
+impl<'a, R, A: Access<R>> ByteSource<'a, R, A> {
     // The number with the next bytes, `len` of them, as its further digits.
     fn read_digits(&mut self, len: usize, start: Option<u128>) -> Result<Option<u128>, Refusal>
         requires { self.old.pending ≡ None }
         ensures same_reader { HasSameReader self.old.decoder self.new.decoder }
-        ensures only { TakesOnly (HasTaken R.remaining) self.old.decoder self.new.decoder }
+        ensures only { TakesOnly (HasTaken A.remaining) self.old.decoder self.new.decoder }
         ensures no_more { OnErr result (weight_left self.new ≤ weight_left self.old) }
         ensures levels { self.new.levels ≡ self.old.levels }
         ensures pending { self.new.pending ≡ None }
         ensures fewer { OnOk result (bytes_weight self.new ≤ bytes_weight self.old) }
-        ensures ok { IfOk result (λ number. TakesDigits (IsUnread R.remaining self.old)
-            (IsUnread R.remaining self.new) len start number) }
+        ensures ok { IfOk result (λ number. TakesDigits (IsUnread A.remaining self.old)
+            (IsUnread A.remaining self.new) len start number) }
         ensures outside { IfErr result
-            (λ e. DeniesJust (IsUnread R.remaining self.old) (end_at R.remaining self.old) len
-            (fault_at R.remaining self.new e)) }
+            (λ e. DeniesJust (IsUnread A.remaining self.old) (end_at A.remaining self.old) len
+            (fault_at A.can_fail A.remaining self.new e)) }
         ensures memory { IfErr result
-            (λ e. IsGrantedFault (fault_at R.remaining self.new e) false) }
+            (λ e. IsGrantedFault (fault_at A.can_fail A.remaining self.new e) false) }
     {
         let mut number = start;
         let mut left = len;
@@ -93,18 +92,18 @@ impl<'a, R: Read> ByteSource<'a, R> {
     fn read_number(&mut self, len: Option<usize>) -> Result<Option<u128>, Refusal>
         requires { self.old.pending ≡ None }
         ensures same_reader { HasSameReader self.old.decoder self.new.decoder }
-        ensures only { TakesOnly (HasTaken R.remaining) self.old.decoder self.new.decoder }
+        ensures only { TakesOnly (HasTaken A.remaining) self.old.decoder self.new.decoder }
         ensures no_more { OnErr result (weight_left self.new ≤ weight_left self.old) }
         ensures levels { self.new.levels ≡ self.old.levels }
         ensures pending { self.new.pending ≡ None }
         ensures fewer { OnOk result (bytes_weight self.new ≤ bytes_weight self.old) }
-        ensures ok { IfOk result (λ number. TakesNumber (IsUnread R.remaining self.old)
-            (IsUnread R.remaining self.new) len number) }
+        ensures ok { IfOk result (λ number. TakesNumber (IsUnread A.remaining self.old)
+            (IsUnread A.remaining self.new) len number) }
         ensures denied { IfErr result
-            (λ e. DeniesContent (IsUnread R.remaining self.old) (end_at R.remaining self.old)
-            of_bytes len (fault_at R.remaining self.new e)) }
+            (λ e. DeniesContent (IsUnread A.remaining self.old) (end_at A.remaining self.old)
+            of_bytes len (fault_at A.can_fail A.remaining self.new e)) }
         ensures memory { IfErr result
-            (λ e. IsGrantedFault (fault_at R.remaining self.new e) false) }
+            (λ e. IsGrantedFault (fault_at A.can_fail A.remaining self.new e) false) }
     {
         match len {
             Some(n) => {
@@ -131,13 +130,13 @@ impl<'a, R: Read> ByteSource<'a, R> {
     // The number under the tag of a bignum, which was taken last and stands at this offset.
     #[inline(never)]
     fn read_bignum(&mut self, tag_offset: usize) -> Result<u128, Refusal>
-        ensures keeps { KeepsSource R.remaining self.old self.new result }
+        ensures keeps { KeepsSource A.remaining self.old self.new result }
         ensures levels { self.new.levels ≡ self.old.levels }
         ensures fewer { OnOk result (weight_left self.new ≤ weight_left self.old) }
-        ensures answer { AnswersItem R.remaining self.old self.new None
+        ensures answer { AnswersItem A.can_fail A.remaining self.old self.new None
             taken_bignum (λ v. v) result }
         ensures memory { IfErr result
-            (λ e. IsGrantedFault (fault_at R.remaining self.new e) false) }
+            (λ e. IsGrantedFault (fault_at A.can_fail A.remaining self.new e) false) }
     {
         let (header, offset) = self.next_head()?;
         match header {
@@ -157,15 +156,15 @@ impl<'a, R: Read> ByteSource<'a, R> {
     // from `read_integer`, so that the room for an error is made ready only behind a tag.
     #[inline(always)]
     fn read_tagged(&mut self, tag: u64, offset: usize) -> Result<((bool, u128), usize), Refusal>
-        ensures keeps { KeepsSource R.remaining self.old self.new result }
+        ensures keeps { KeepsSource A.remaining self.old self.new result }
         ensures levels { self.new.levels ≡ self.old.levels }
         ensures fewer { OnOk result (weight_left self.new ≤ weight_left self.old) }
         ensures sign { IfOk result (λ v. v.0.0 ≡ (tag == 3)) }
         ensures offset { IfOk result (λ v. v.1 ≡ offset) }
-        ensures answer { AnswersItem R.remaining self.old self.new None
+        ensures answer { AnswersItem A.can_fail A.remaining self.old self.new None
             taken_bignum (λ v. v.0.1) result }
         ensures memory { IfErr result
-            (λ e. IsGrantedFault (fault_at R.remaining self.new e) false) }
+            (λ e. IsGrantedFault (fault_at A.can_fail A.remaining self.new e) false) }
     {
         let n = self.read_bignum(offset)?;
         Ok(((tag == BIGNEG, n), offset))
@@ -174,11 +173,11 @@ impl<'a, R: Read> ByteSource<'a, R> {
     /// A number, and the offset of its head or, for a bignum, of the tag of it.
     #[inline(always)]
     pub(crate) fn read_integer(&mut self) -> Result<((bool, u128), usize), Refusal>
-        ensures keeps { PassesItem R.remaining self.old self.new result }
-        ensures answer { AnswersItem R.remaining self.old self.new (Some self.old.levels)
+        ensures keeps { PassesItem A.remaining self.old self.new result }
+        ensures answer { AnswersItem A.can_fail A.remaining self.old self.new (Some self.old.levels)
             taken_integer (λ v. v.0) result }
         ensures memory { IfErr result
-            (λ e. IsGrantedFault (fault_at R.remaining self.new e) false) }
+            (λ e. IsGrantedFault (fault_at A.can_fail A.remaining self.new e) false) }
     {
         let (header, offset) = self.bare_head(true)?;
         let negative = is_negative(header);

@@ -7,18 +7,18 @@ ghost use Rattle.ciborium.specs.inner.ByteSources.{seq_left, weight_left};
 use crate::de::byte_source::scalars::is_null_head;
 use crate::de::byte_source::{ByteLevel, ByteSeq, ByteSource};
 use crate::de::error::{Error, Refusal};
-use ciborium_value::{Kind, Source, Value};
+use ciborium_ll::Access;
+use ciborium_value::{Kind, Names, Source, Value};
 use std::alloc::Global;
-use std::io::Read;
 
-impl<'a, R: Read> Source for ByteSource<'a, R> {
+impl<'a, R, A: Access<R>> Source for ByteSource<'a, R, A> {
     type Error = Refusal;
 
     type Seq = ByteSeq;
 
     type Level = ByteLevel;
 
-    ghost stands_before = { StandsBefore R.remaining };
+    ghost stands_before = { StandsBefore A.remaining };
 
     ghost seq_stands = { SeqStands };
 
@@ -30,15 +30,15 @@ impl<'a, R: Read> Source for ByteSource<'a, R> {
 
     ghost level_left = { λ level. 0 };
 
-    ghost is_unread = { IsUnread R.remaining };
+    ghost is_unread = { IsUnread A.remaining };
 
-    ghost has_taken = { HasTakenSince R.remaining };
+    ghost has_taken = { HasTakenSince A.remaining };
 
     ghost owes = { SeqOwes };
 
-    ghost reads = { ReadsValue R.remaining };
+    ghost reads = { ReadsValue A.can_fail A.remaining };
 
-    ghost cause = { fault_at R.remaining };
+    ghost cause = { fault_at A.can_fail A.remaining };
 
     #[inline(always)]
     fn integer(&mut self) -> Result<(bool, u128), Refusal> {
@@ -77,10 +77,12 @@ impl<'a, R: Read> Source for ByteSource<'a, R> {
     }
 
     #[inline(always)]
+    fn place<N: Names>(&mut self, alloc: Global, names: &N) -> Result<N::Place, Refusal> {
+        self.place(alloc, names)
+    }
+
+    #[inline(always)]
     fn null_ahead(&mut self) -> Result<bool, Refusal> {
-        if let Some(answer) = self.held_null() {
-            return Ok(answer);
-        }
         let (header, offset) = self.next_head()?;
         let answer = is_null_head(&header);
         self.pending = Some((header, offset));
@@ -119,7 +121,6 @@ impl<'a, R: Read> Source for ByteSource<'a, R> {
 
     #[inline(always)]
     fn next(&mut self, seq: &mut ByteSeq) -> Result<bool, Refusal> {
-        self.allow(seq);
         self.next_part(seq)
     }
 

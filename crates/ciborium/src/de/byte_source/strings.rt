@@ -14,28 +14,27 @@ ghost use Rattle.ciborium.specs.inner.StringContents.{TakesJust};
 
 use crate::de::byte_source::ByteSource;
 use crate::de::error::{Error, Refusal};
-use ciborium_ll::Header;
+use ciborium_ll::{Access, Header};
 use ciborium_value::Kind;
 use std::alloc::Global;
-use std::io::Read;
 
-impl<'a, R: Read> ByteSource<'a, R> {
+impl<'a, R, A: Access<R>> ByteSource<'a, R, A> {
     /// Fills the buffer with the next bytes.
     pub(crate) fn fill(&mut self, buffer: &mut [u8]) -> Result<(), Refusal>
         requires { self.old.pending ≡ None }
         ensures same_reader { HasSameReader self.old.decoder self.new.decoder }
-        ensures only { TakesOnly (HasTaken R.remaining) self.old.decoder self.new.decoder }
+        ensures only { TakesOnly (HasTaken A.remaining) self.old.decoder self.new.decoder }
         ensures no_more { OnErr result (weight_left self.new ≤ weight_left self.old) }
         ensures levels { self.new.levels ≡ self.old.levels }
         ensures pending { self.new.pending ≡ None }
         ensures fewer { OnOk result (bytes_weight self.new ≤ bytes_weight self.old) }
         ensures ok { OnOk result
-            (TakesJust (IsUnread R.remaining self.old) (IsUnread R.remaining self.new) buffer.new) }
+            (TakesJust (IsUnread A.remaining self.old) (IsUnread A.remaining self.new) buffer.new) }
         ensures outside { IfErr result
-            (λ e. DeniesJust (IsUnread R.remaining self.old) (end_at R.remaining self.old) (length
-            buffer.old) (fault_at R.remaining self.new e)) }
+            (λ e. DeniesJust (IsUnread A.remaining self.old) (end_at A.remaining self.old) (length
+            buffer.old) (fault_at A.can_fail A.remaining self.new e)) }
         ensures memory { IfErr result
-            (λ e. IsGrantedFault (fault_at R.remaining self.new e) false) }
+            (λ e. IsGrantedFault (fault_at A.can_fail A.remaining self.new e) false) }
     {
         self.decoder.read_exact_keeping(buffer, &mut self.failure)?;
         Ok(())
@@ -50,17 +49,17 @@ impl<'a, R: Read> ByteSource<'a, R> {
     ) -> Result<Vec<u8>, Refusal>
         requires { self.old.pending ≡ None }
         ensures same_reader { HasSameReader self.old.decoder self.new.decoder }
-        ensures only { TakesOnly (HasTaken R.remaining) self.old.decoder self.new.decoder }
+        ensures only { TakesOnly (HasTaken A.remaining) self.old.decoder self.new.decoder }
         ensures no_more { OnErr result (weight_left self.new ≤ weight_left self.old) }
         ensures levels { self.new.levels ≡ self.old.levels }
         ensures pending { self.new.pending ≡ None }
         ensures fewer { IfOk result
             (λ v. bytes_weight self.new + length v.items ≤ bytes_weight self.old) }
-        ensures ok { IfOk result (λ v. TakesContent (IsUnread R.remaining self.old)
-            (IsUnread R.remaining self.new) of_bytes len v.items) }
+        ensures ok { IfOk result (λ v. TakesContent (IsUnread A.remaining self.old)
+            (IsUnread A.remaining self.new) of_bytes len v.items) }
         ensures denied { IfErr result
-            (λ e. DeniesContent (IsUnread R.remaining self.old) (end_at R.remaining self.old)
-            of_bytes len (fault_at R.remaining self.new e)) }
+            (λ e. DeniesContent (IsUnread A.remaining self.old) (end_at A.remaining self.old)
+            of_bytes len (fault_at A.can_fail A.remaining self.new e)) }
     {
         let mut out = Vec::new(alloc);
         self.decoder
@@ -77,16 +76,16 @@ impl<'a, R: Read> ByteSource<'a, R> {
     ) -> Result<String, Refusal>
         requires { self.old.pending ≡ None }
         ensures same_reader { HasSameReader self.old.decoder self.new.decoder }
-        ensures only { TakesOnly (HasTaken R.remaining) self.old.decoder self.new.decoder }
+        ensures only { TakesOnly (HasTaken A.remaining) self.old.decoder self.new.decoder }
         ensures no_more { OnErr result (weight_left self.new ≤ weight_left self.old) }
         ensures levels { self.new.levels ≡ self.old.levels }
         ensures pending { self.new.pending ≡ None }
         ensures fewer { OnOk result (bytes_weight self.new ≤ bytes_weight self.old) }
-        ensures ok { IfOk result (λ v. TakesContent (IsUnread R.remaining self.old)
-            (IsUnread R.remaining self.new) of_text len (string_bytes v)) }
+        ensures ok { IfOk result (λ v. TakesContent (IsUnread A.remaining self.old)
+            (IsUnread A.remaining self.new) of_text len (string_bytes v)) }
         ensures denied { IfErr result
-            (λ e. DeniesContent (IsUnread R.remaining self.old) (end_at R.remaining self.old)
-            of_text len (fault_at R.remaining self.new e)) }
+            (λ e. DeniesContent (IsUnread A.remaining self.old) (end_at A.remaining self.old)
+            of_text len (fault_at A.can_fail A.remaining self.new e)) }
     {
         let mut out = String::new(alloc);
         self.decoder
@@ -96,8 +95,8 @@ impl<'a, R: Read> ByteSource<'a, R> {
 
     #[inline(always)]
     pub(crate) fn text(&mut self, alloc: Global) -> Result<String, Refusal>
-        ensures keeps { PassesItem R.remaining self.old self.new result }
-        ensures answer { AnswersItem R.remaining self.old self.new (Some self.old.levels)
+        ensures keeps { PassesItem A.remaining self.old self.new result }
+        ensures answer { AnswersItem A.can_fail A.remaining self.old self.new (Some self.old.levels)
             taken_text string_bytes result }
     {
         let (header, offset) = self.bare_head(false)?;

@@ -13,10 +13,10 @@ use crate::de::byte_source::ByteSource;
 use crate::de::byte_source::scalars::is_null;
 use crate::de::error::Refusal;
 use crate::de::spelling::AnySpelling;
-use ciborium_ll::{Decoder, Header};
+use ciborium_ll::{Access, Decoder, Header};
 use ciborium_value::{Integer, Value};
 use std::alloc::Global;
-use std::io::{self, Read};
+use std::io;
 
 // The value of a head that means the same wherever it stands.
 fn portable_value(header: Header) -> Option<Value>
@@ -35,24 +35,25 @@ fn portable_value(header: Header) -> Option<Value>
     }
 }
 
-impl<'a, R: Read> ByteSource<'a, R> {
+impl<'a, R, A: Access<R>> ByteSource<'a, R, A> {
     pub(crate) fn value(&mut self, alloc: Global) -> Result<Value, Refusal>
         ensures same_reader { OnOk result (HasSameReader self.old.decoder self.new.decoder) }
-        ensures only { TakesOnly (HasTaken R.remaining) self.old.decoder self.new.decoder }
+        ensures only { TakesOnly (HasTaken A.remaining) self.old.decoder self.new.decoder }
         ensures no_more { OnErr result (weight_left self.new ≤ weight_left self.old) }
         ensures levels { self.new.levels ≡ self.old.levels }
         ensures pending { OnOk result (self.new.pending ≡ None) }
         ensures fewer { OnOk result (weight_left self.new < weight_left self.old) }
-        ensures answer { AnswersItem R.remaining self.old self.new (Some self.old.levels)
+        ensures answer { AnswersItem A.can_fail A.remaining self.old self.new (Some self.old.levels)
             taken_value tree_of result }
-        ensures reads { ReadsValue R.remaining self.old self.new (read_as tree_of result) }
+        ensures reads { ReadsValue A.can_fail A.remaining self.old self.new
+            (read_as tree_of result) }
     {
         match self.pending.take() {
             Some((header, offset)) => match portable_value(header) {
                 Some(value) => Ok(value),
                 None => {
                     self.decoder.push(header, offset);
-                    let value = read_value::<AnySpelling, R>(
+                    let value = read_value::<AnySpelling, R, A>(
                         alloc,
                         &mut self.decoder,
                         self.scratch,
@@ -63,7 +64,7 @@ impl<'a, R: Read> ByteSource<'a, R> {
                 }
             },
             None => {
-                let value = read_value::<AnySpelling, R>(
+                let value = read_value::<AnySpelling, R, A>(
                     alloc,
                     &mut self.decoder,
                     self.scratch,

@@ -1,5 +1,5 @@
 -- A map is read by names pair by pair.
-use Rattle.std.proofs.Common.{string_bytes, arith, ◌∙◌, subst}
+use Rattle.std.proofs.Common.{arith, ◌∙◌, subst}
 use Rattle.ciborium_value.specs.Sources.{RefusesAhead, TakesAhead}
 use Rattle.ciborium_value.specs.StructReadings.{taken_fields}
 use Rattle.ciborium_value.proofs.Writing.Progress.{exits}
@@ -20,17 +20,17 @@ returns-in_err-next-clause-refused g c =
     (fields_blame_next g.S.Source.stands_before g.S.Source.seq_stands fields
     (g.F.WantedFields.content c.loop-seq.fields) e c.in_err-next.ensures.refused)))
 
-pub returns-in_err-name-clause-refused : goal.returns-in_err-name-clause-refused
-returns-in_err-name-clause-refused g c =
-    let e = g.S.Source.cause c.name.new.self c.in_err-name.field-0.0 in
+pub returns-in_err-place-clause-refused : goal.returns-in_err-place-clause-refused
+returns-in_err-place-clause-refused g c =
+    let e = g.S.Source.cause c.place.new.self c.in_err-place.field-0.0 in
     let fields = g.F.WantedFields.fields c.args.fields.now in
-    exits _ c.in_err-name.field-0.0 (λ x. RefusesAhead g.S.Source.stands_before c.args.source.now
-    (taken_fields fields (g.F.WantedFields.content c.args.fields.now)) (g.S.Source.cause c.name.new.self x))
-    c.from_residual-in_err-name.ensures.1
+    exits _ c.in_err-place.field-0.0 (λ x. RefusesAhead g.S.Source.stands_before c.args.source.now
+    (taken_fields fields (g.F.WantedFields.content c.args.fields.now)) (g.S.Source.cause c.place.new.self x))
+    c.from_residual-in_err-place.ensures.1
     (blames g.S.Source.stands_before e (so c.loop-seq.invariant.inside
     (fields_blame_name g.S.Source.stands_before g.S.Source.seq_stands fields
-    (g.F.WantedFields.content c.loop-seq.fields) e (rw c.if-branch.true at c.in_ok-next.ensures.ok)
-    c.in_err-name.ensures.takes.refused)))
+    (g.F.Names.place_of c.loop-seq.fields) (g.F.WantedFields.content c.loop-seq.fields) e
+    (rw c.if-branch.true at c.in_ok-next.ensures.ok) c.in_err-place.ensures.takes.refused)))
 
 pub returns-in_err-read_field-clause-refused : goal.returns-in_err-read_field-clause-refused
 returns-in_err-read_field-clause-refused g c =
@@ -41,31 +41,31 @@ returns-in_err-read_field-clause-refused g c =
     c.from_residual-in_err-read_field.ensures.1
     (blames g.S.Source.stands_before e (so c.loop-seq.invariant.inside
     (fields_blame_field g.S.Source.stands_before g.S.Source.seq_stands fields
-    (g.F.WantedFields.content c.loop-seq.fields) e (rw c.if-branch.true at c.in_ok-next.ensures.ok)
-    c.in_ok-name.ensures.takes.ok
-    (subst (λ x. RefusesAhead g.S.Source.stands_before c.name.new.self
-    (x.taken (string_bytes c.in_ok-name.name) (g.F.WantedFields.content c.loop-seq.fields)) e)
-    c.loop-seq.invariant.names (rw c.deref.ensures at c.in_err-read_field.ensures.refused)))))
+    (g.F.Names.place_of c.loop-seq.fields) (g.F.WantedFields.content c.loop-seq.fields) e
+    (rw c.if-branch.true at c.in_ok-next.ensures.ok) c.in_ok-place.ensures.takes.ok
+    (λ name at. subst (λ x. RefusesAhead g.S.Source.stands_before c.place.new.self
+    (x.taken name (g.F.WantedFields.content c.loop-seq.fields)) e)
+    c.loop-seq.invariant.names (c.in_err-read_field.ensures.refused name at)))))
 
 pub loop-seq-preserved : goal.loop-seq-preserved
 loop-seq-preserved g c = record {
   names = c.in_ok-read_field.ensures.names ∙ c.loop-seq.invariant.names;
   inside = so c.loop-seq.invariant.inside (fields_more g.S.Source.stands_before g.S.Source.seq_stands
-      (g.F.WantedFields.fields c.args.fields.now) (g.F.WantedFields.content c.loop-seq.fields)
-      (rw c.if-branch.true at c.in_ok-next.ensures.ok) c.in_ok-name.ensures.takes.ok
-      (subst (λ x. TakesAhead g.S.Source.stands_before c.name.new.self c.read_field.new.source
-      (x.taken (string_bytes c.in_ok-name.name) (g.F.WantedFields.content c.loop-seq.fields))
-      (g.F.WantedFields.content c.read_field.new.self)) c.loop-seq.invariant.names
-      (rw c.deref.ensures at c.in_ok-read_field.ensures.ok)));
+      (g.F.WantedFields.fields c.args.fields.now) (g.F.Names.place_of c.loop-seq.fields)
+      (g.F.WantedFields.content c.loop-seq.fields) (rw c.if-branch.true at c.in_ok-next.ensures.ok)
+      c.in_ok-place.ensures.takes.ok
+      (λ name at. subst (λ x. TakesAhead g.S.Source.stands_before c.place.new.self c.read_field.new.source
+      (x.taken name (g.F.WantedFields.content c.loop-seq.fields)) (g.F.WantedFields.content c.read_field.new.self))
+      c.loop-seq.invariant.names (c.in_ok-read_field.ensures.ok name at)));
   owed = owed_pair g.S.Source.is_unread g.S.Source.owes _ _ _ _ _ _ _ c.loop-seq.invariant.owed
-      (rw c.if-branch.true at c.in_ok-next.ensures.took) c.in_ok-name.ensures.takes.took
+      (rw c.if-branch.true at c.in_ok-next.ensures.took) c.in_ok-place.ensures.takes.took
       c.in_ok-read_field.ensures.took;
-  only = λ first h. c.read_field.ensures.only first (c.name.ensures.takes.only first
+  only = λ first h. c.read_field.ensures.only first (c.place.ensures.takes.only first
       (c.next.ensures.only first (c.loop-seq.invariant.only first h)));
   less = omega (
     arith,
     c.in_ok-next.ensures.less,
-    c.in_ok-name.ensures.takes.less,
+    c.in_ok-place.ensures.takes.less,
     c.in_ok-read_field.ensures.less,
     c.loop-seq.invariant.less,
   );

@@ -4,8 +4,6 @@ use Rattle.ciborium_ll.specs.Decoding.{with_left}
 use Rattle.ciborium_value.specs.inner.Stack.{frames_of}
 use Rattle.ciborium_value.specs.View.{tree_of}
 use Rattle.ciborium.specs.declared.de.front.Part.TheVariants.{Whole, Opened, Ended}
-use Rattle.ciborium_ll.proofs.HeldBytes.{same-reach}
-use Rattle.ciborium.proofs.Turns.DueParts.{allowed-opened, allowed-placed, due-closed, rests-as}
 use Rattle.ciborium.proofs.Turns.Turned.{turn-refused, turn-whole, turn-opened, turn-ended, turn-break, depth-placed}
 use Rattle.ciborium.proofs.Turns.Turned.{depth-closed}
 use Rattle.ciborium.proofs.de.building.turn.Goals as goal
@@ -94,31 +92,3 @@ returns-in-None-clause-turn g c =
           c.offset-offset.ensures,
       t.4,
     )
-
-pub returns-in-Whole-clause-due : goal.returns-in-Whole-clause-due
-returns-in-Whole-clause-due g c reach allows =
-    allowed-placed reach c.args.decoder.now c.next.new.decoder (frames_of c.args.stack.now) allows
-    (same-reach c.args.decoder.now c.next.new.decoder c.next.ensures.same_reader) c.in_ok-value.ensures.fewer
-    g.S.Rules.spelling
-    (frames_of c.args.stack.now) (frames_of c.place.new.stack) (tree_of c.in-Whole.value) c.offset.result c.place.result
-    refl (rests-as c.in_ok-value.field-0 (Whole c.in-Whole.value) c.next.new.decoder.pushed c.in-Whole.is
-    c.in_ok-value.ensures.rests) c.place.ensures
-
-pub returns-in-Some-clause-due : goal.returns-in-Some-clause-due
-returns-in-Some-clause-due g c reach allows =
-    allowed-placed reach c.args.decoder.now c.next.new.decoder (frames_of c.args.stack.now) allows
-    (same-reach c.args.decoder.now c.next.new.decoder c.next.ensures.same_reader) c.in_ok-value.ensures.fewer
-    g.S.Rules.spelling
-    (frames_of c.close.new.self) (frames_of c.place-in-Some.new.stack) (tree_of c.in-Some.value) c.offset-in-Some.result
-    c.place-in-Some.result (due-closed (frames_of c.args.stack.now) (frames_of c.close.new.self)
-    (tree_of c.in-Some.value) c.in-Some.ensures)
-    (rests-as c.in_ok-value.field-0 Ended c.next.new.decoder.pushed c.in-Ended.is c.in_ok-value.ensures.rests)
-    c.place-in-Some.ensures
-
-pub returns-in-Ok-clause-due : goal.returns-in-Ok-clause-due
-returns-in-Ok-clause-due g c reach allows =
-    allowed-opened reach c.args.decoder.now c.next.new.decoder (frames_of c.args.stack.now) allows
-    (same-reach c.args.decoder.now c.next.new.decoder c.next.ensures.same_reader) c.in_ok-value.ensures.fewer
-    c.in-Opened.opening
-    (frames_of c.open.new.self) c.in-Ok.ensures.ok (rests-as c.in_ok-value.field-0 (Opened c.in-Opened.opening)
-    c.next.new.decoder.pushed c.in-Opened.is c.in_ok-value.ensures.rests)

@@ -2,7 +2,6 @@
 use Rattle.std.proofs.Common.{Err, Ok, rules, sym, subst, ◌∙◌}
 use Rattle.std.specs.declared.io.Error.{Error}
 use Rattle.ciborium_ll.specs.Decoding.{TakesBeforeAny}
-use Rattle.ciborium_ll.proofs.HeldBytes.{same-name}
 use Rattle.ciborium_value.specs.View.{tree_of}
 use Rattle.ciborium.proofs.Readers.KnownReaders.{whole-of}
 use Rattle.ciborium.proofs.Readers.PutAside.{back-tree}
@@ -11,24 +10,23 @@ use Rattle.ciborium.proofs.de.deterministic.read_by.Goals as goal
 
 pub returns-in-Ok : goal.returns-in-Ok
 returns-in-Ok g c =
-    whole-of {E = Error} g.S.Rules.spelling c.args.limit (g.R.Read.remaining c.args.reader.now) _
+    whole-of {E = Error} g.S.Rules.spelling c.args.limit (g.A.Access.remaining c.args.reader.now) _
     (Ok (tree_of c.in-Ok.value))
-    (taken-lent Error g.S.Rules.spelling g.R.Read.remaining c.new-decoder.result c.read_value.new.decoder
-    c.args.reader.now _ c.args.limit (Ok (tree_of c.in-Ok.value)) c.new-decoder.ensures.begins
-    c.in-Ok.ensures.reader c.read_value.ensures.rests
-    (let name = sym c.new-decoder.ensures.same_reader ∙
-    sym (same-name c.new-decoder.result c.read_value.new.decoder c.in-Ok.ensures.reader) in search rules)
+    (taken-lent Error g.S.Rules.spelling g.A.Access.remaining c.begin-decoder.result c.read_value.new.decoder
+    c.args.reader.now _ c.args.limit (Ok (tree_of c.in-Ok.value)) c.begin-decoder.ensures.begins
+    c.read_value.ensures.rests
+    (let name = sym c.begin-decoder.ensures.same_reader ∙ sym c.read_value.ensures.same_reader in search rules)
     c.in-Ok.ensures.value)
 
 pub returns-in-Err : goal.returns-in-Err
 returns-in-Err g c =
-    whole-of {E = Error} g.S.Rules.spelling c.args.limit (g.R.Read.remaining c.args.reader.now) _
+    whole-of {E = Error} g.S.Rules.spelling c.args.limit (g.A.Access.remaining c.args.reader.now) _
     (Err c.put_back.result)
-    (taken-lent Error g.S.Rules.spelling g.R.Read.remaining c.new-decoder.result c.read_value.new.decoder
-    c.args.reader.now _ c.args.limit (Err c.put_back.result) c.new-decoder.ensures.begins c.in-Err.ensures.reader tt
-    (let name = sym c.new-decoder.ensures.same_reader ∙ sym c.in-Err.ensures.reader.0 in search rules)
-    (back-tree g.S.Rules.spelling g.R.Read.remaining c.new-decoder.result c.read_value.new.decoder c.args.limit
+    (taken-lent Error g.S.Rules.spelling g.A.Access.remaining c.begin-decoder.result c.read_value.new.decoder
+    c.args.reader.now _ c.args.limit (Err c.put_back.result) c.begin-decoder.ensures.begins tt
+    (let name = sym c.begin-decoder.ensures.same_reader ∙ sym c.read_value.ensures.same_reader in search rules)
+    (back-tree g.S.Rules.spelling g.A.Access.remaining c.begin-decoder.result c.read_value.new.decoder c.args.limit
     c.put_back.result
-    (subst (λ r. TakesBeforeAny g.R.Read.remaining c.new-decoder.result c.read_value.new.decoder
+    (subst (λ r. TakesBeforeAny g.A.Access.remaining c.begin-decoder.result c.read_value.new.decoder
     (λ d f. TreeSo {E = Unit} g.S.Rules.spelling c.args.limit d f (Err r))) c.put_back.ensures.refusal
     c.in-Err.ensures.value)))

@@ -37,7 +37,7 @@ returns-in-Some-clause-part g c =
       t.0,
       t.1,
       t.2,
-      λ z xs p s. faulty-head g.S.Rules.spelling g.R.Read.remaining c.args.decoder.now c.pull.new.decoder (t.0 ++ z) z
+      λ z xs p s. faulty-head g.S.Rules.spelling g.A.Access.remaining c.args.decoder.now c.pull.new.decoder (t.0 ++ z) z
           xs p s c.in_ok-header.ensures.measured Unit c.in_ok-header.header c.args.levels c.offset-offset.result
           c.in-Some.kind
           (sym (c.find_head_fault.ensures ∙ ap (head_fault g.S.Rules.spelling c.in_ok-header.header) c.head_len.ensures)
@@ -48,7 +48,7 @@ returns-in-Some-clause-part g c =
 
 pub returns-in-Positive-clause-part : goal.returns-in-Positive-clause-part
 returns-in-Positive-clause-part g c =
-    part-of-head g.S.Rules.spelling g.R.Read.remaining c.args.decoder.now c.pull.new.decoder c.in_ok-header.header
+    part-of-head g.S.Rules.spelling g.A.Access.remaining c.args.decoder.now c.pull.new.decoder c.in_ok-header.header
     c.in_ok-header.ensures.measured
     (sym (c.find_head_fault.ensures ∙ ap (head_fault g.S.Rules.spelling c.in_ok-header.header) c.head_len.ensures) ∙
     c.in_default.is) c.in_ok-header.ensures.head _
@@ -58,7 +58,7 @@ returns-in-Positive-clause-part g c =
 
 pub returns-in-Negative-clause-part : goal.returns-in-Negative-clause-part
 returns-in-Negative-clause-part g c =
-    part-of-head g.S.Rules.spelling g.R.Read.remaining c.args.decoder.now c.pull.new.decoder c.in_ok-header.header
+    part-of-head g.S.Rules.spelling g.A.Access.remaining c.args.decoder.now c.pull.new.decoder c.in_ok-header.header
     c.in_ok-header.ensures.measured
     (sym (c.find_head_fault.ensures ∙ ap (head_fault g.S.Rules.spelling c.in_ok-header.header) c.head_len.ensures) ∙
     c.in_default.is) c.in_ok-header.ensures.head _
@@ -68,7 +68,7 @@ returns-in-Negative-clause-part g c =
 
 pub returns-in_ok-value-in-Bytes-clause-part : goal.returns-in_ok-value-in-Bytes-clause-part
 returns-in_ok-value-in-Bytes-clause-part g c =
-    part-behind-head g.S.Rules.spelling g.R.Read.remaining c.args.decoder.now c.pull.new.decoder c.in_ok-header.header
+    part-behind-head g.S.Rules.spelling g.A.Access.remaining c.args.decoder.now c.pull.new.decoder c.in_ok-header.header
     c.in_ok-header.ensures.measured
     (sym (c.find_head_fault.ensures ∙ ap (head_fault g.S.Rules.spelling c.in_ok-header.header) c.head_len.ensures) ∙
     c.in_default.is) c.in_ok-header.ensures.head c.read_string.new.decoder _
@@ -82,7 +82,7 @@ pub returns-in_err-value-in-Bytes-clause-part : goal.returns-in_err-value-in-Byt
 returns-in_err-value-in-Bytes-clause-part g c =
     let exit = err_from_is_err_and c.from_residual-in_err-value-in-Bytes.result
     c.from_residual-in_err-value-in-Bytes.ensures.1 in
-    rw (exit.1, exit.2) (part-behind-head g.S.Rules.spelling g.R.Read.remaining c.args.decoder.now c.pull.new.decoder
+    rw (exit.1, exit.2) (part-behind-head g.S.Rules.spelling g.A.Access.remaining c.args.decoder.now c.pull.new.decoder
     c.in_ok-header.header c.in_ok-header.ensures.measured
     (sym (c.find_head_fault.ensures ∙ ap (head_fault g.S.Rules.spelling c.in_ok-header.header) c.head_len.ensures) ∙
     c.in_default.is) c.in_ok-header.ensures.head c.read_string.new.decoder _
@@ -94,7 +94,7 @@ returns-in_err-value-in-Bytes-clause-part g c =
 
 pub returns-in_ok-value-in-Text-clause-part : goal.returns-in_ok-value-in-Text-clause-part
 returns-in_ok-value-in-Text-clause-part g c =
-    part-behind-head g.S.Rules.spelling g.R.Read.remaining c.args.decoder.now c.pull.new.decoder c.in_ok-header.header
+    part-behind-head g.S.Rules.spelling g.A.Access.remaining c.args.decoder.now c.pull.new.decoder c.in_ok-header.header
     c.in_ok-header.ensures.measured
     (sym (c.find_head_fault.ensures ∙ ap (head_fault g.S.Rules.spelling c.in_ok-header.header) c.head_len.ensures) ∙
     c.in_default.is) c.in_ok-header.ensures.head c.read_string-in-Text.new.decoder _
@@ -108,7 +108,7 @@ pub returns-in_err-value-in-Text-clause-part : goal.returns-in_err-value-in-Text
 returns-in_err-value-in-Text-clause-part g c =
     let exit = err_from_is_err_and c.from_residual-in_err-value-in-Text.result
     c.from_residual-in_err-value-in-Text.ensures.1 in
-    rw (exit.1, exit.2) (part-behind-head g.S.Rules.spelling g.R.Read.remaining c.args.decoder.now c.pull.new.decoder
+    rw (exit.1, exit.2) (part-behind-head g.S.Rules.spelling g.A.Access.remaining c.args.decoder.now c.pull.new.decoder
     c.in_ok-header.header c.in_ok-header.ensures.measured
     (sym (c.find_head_fault.ensures ∙ ap (head_fault g.S.Rules.spelling c.in_ok-header.header) c.head_len.ensures) ∙
     c.in_default.is) c.in_ok-header.ensures.head c.read_string-in-Text.new.decoder _
@@ -120,7 +120,7 @@ returns-in_err-value-in-Text-clause-part g c =
 
 pub returns-in-Array-clause-part : goal.returns-in-Array-clause-part
 returns-in-Array-clause-part g c =
-    part-of-head g.S.Rules.spelling g.R.Read.remaining c.args.decoder.now c.pull.new.decoder c.in_ok-header.header
+    part-of-head g.S.Rules.spelling g.A.Access.remaining c.args.decoder.now c.pull.new.decoder c.in_ok-header.header
     c.in_ok-header.ensures.measured
     (sym (c.find_head_fault.ensures ∙ ap (head_fault g.S.Rules.spelling c.in_ok-header.header) c.head_len.ensures) ∙
     c.in_default.is) c.in_ok-header.ensures.head _
@@ -130,7 +130,7 @@ returns-in-Array-clause-part g c =
 
 pub returns-in-Map-clause-part : goal.returns-in-Map-clause-part
 returns-in-Map-clause-part g c =
-    part-of-head g.S.Rules.spelling g.R.Read.remaining c.args.decoder.now c.pull.new.decoder c.in_ok-header.header
+    part-of-head g.S.Rules.spelling g.A.Access.remaining c.args.decoder.now c.pull.new.decoder c.in_ok-header.header
     c.in_ok-header.ensures.measured
     (sym (c.find_head_fault.ensures ∙ ap (head_fault g.S.Rules.spelling c.in_ok-header.header) c.head_len.ensures) ∙
     c.in_default.is) c.in_ok-header.ensures.head _
@@ -140,7 +140,7 @@ returns-in-Map-clause-part g c =
 
 pub returns-in_ok-read_simple-in-Simple-clause-part : goal.returns-in_ok-read_simple-in-Simple-clause-part
 returns-in_ok-read_simple-in-Simple-clause-part g c =
-    part-of-head g.S.Rules.spelling g.R.Read.remaining c.args.decoder.now c.pull.new.decoder c.in_ok-header.header
+    part-of-head g.S.Rules.spelling g.A.Access.remaining c.args.decoder.now c.pull.new.decoder c.in_ok-header.header
     c.in_ok-header.ensures.measured
     (sym (c.find_head_fault.ensures ∙ ap (head_fault g.S.Rules.spelling c.in_ok-header.header) c.head_len.ensures) ∙
     c.in_default.is) c.in_ok-header.ensures.head _
@@ -152,7 +152,7 @@ pub returns-in_err-read_simple-in-Simple-clause-part : goal.returns-in_err-read_
 returns-in_err-read_simple-in-Simple-clause-part g c =
     let exit = err_from_is_err_and c.from_residual-in_err-read_simple-in-Simple.result
     c.from_residual-in_err-read_simple-in-Simple.ensures.1 in
-    rw (exit.1, exit.2) (part-of-head g.S.Rules.spelling g.R.Read.remaining c.args.decoder.now c.pull.new.decoder
+    rw (exit.1, exit.2) (part-of-head g.S.Rules.spelling g.A.Access.remaining c.args.decoder.now c.pull.new.decoder
     c.in_ok-header.header c.in_ok-header.ensures.measured
     (sym (c.find_head_fault.ensures ∙ ap (head_fault g.S.Rules.spelling c.in_ok-header.header) c.head_len.ensures) ∙
     c.in_default.is) c.in_ok-header.ensures.head _
@@ -165,7 +165,7 @@ returns-in_err-read_simple-in-Simple-clause-part g c =
 
 pub returns-in-Float-clause-part : goal.returns-in-Float-clause-part
 returns-in-Float-clause-part g c =
-    part-of-head g.S.Rules.spelling g.R.Read.remaining c.args.decoder.now c.pull.new.decoder c.in_ok-header.header
+    part-of-head g.S.Rules.spelling g.A.Access.remaining c.args.decoder.now c.pull.new.decoder c.in_ok-header.header
     c.in_ok-header.ensures.measured
     (sym (c.find_head_fault.ensures ∙ ap (head_fault g.S.Rules.spelling c.in_ok-header.header) c.head_len.ensures) ∙
     c.in_default.is) c.in_ok-header.ensures.head _
@@ -175,7 +175,7 @@ returns-in-Float-clause-part g c =
 
 pub returns-in-Break-clause-part : goal.returns-in-Break-clause-part
 returns-in-Break-clause-part g c =
-    part-of-head g.S.Rules.spelling g.R.Read.remaining c.args.decoder.now c.pull.new.decoder c.in_ok-header.header
+    part-of-head g.S.Rules.spelling g.A.Access.remaining c.args.decoder.now c.pull.new.decoder c.in_ok-header.header
     c.in_ok-header.ensures.measured
     (sym (c.find_head_fault.ensures ∙ ap (head_fault g.S.Rules.spelling c.in_ok-header.header) c.head_len.ensures) ∙
     c.in_default.is) c.in_ok-header.ensures.head _
@@ -184,7 +184,7 @@ returns-in-Break-clause-part g c =
 
 pub returns-in-Tag-clause-part : goal.returns-in-Tag-clause-part
 returns-in-Tag-clause-part g c =
-    part-behind-head g.S.Rules.spelling g.R.Read.remaining c.args.decoder.now c.pull.new.decoder c.in_ok-header.header
+    part-behind-head g.S.Rules.spelling g.A.Access.remaining c.args.decoder.now c.pull.new.decoder c.in_ok-header.header
     c.in_ok-header.ensures.measured
     (sym (c.find_head_fault.ensures ∙ ap (head_fault g.S.Rules.spelling c.in_ok-header.header) c.head_len.ensures) ∙
     c.in_default.is) c.in_ok-header.ensures.head c.read_tag.new.decoder _

@@ -1,7 +1,7 @@
 use Rattle.std.proofs.Common.{◌++◌, Some, Ok, Err, ap, sym, ◌∙◌, subst}
 use Rattle.std.proofs.lemmas.Result.{err_from_is_err_and}
 use Rattle.ciborium_ll.specs.Decoding.{ReadsNothing, with_left}
-use Rattle.ciborium_ll.proofs.HeldBytes.{unread-with}
+use Rattle.ciborium_ll.proofs.Decoders.{unread-with}
 use Rattle.ciborium.specs.inner.Parts.{IsFolding}
 use Rattle.ciborium.specs.Spelling.{head_fault}
 use Rattle.ciborium.proofs.Turns.AfterTag.{PullsSo}
@@ -41,7 +41,7 @@ returns-in-Some-find_head_fault-clause-part g c =
 pub returns-in_err-value-clause-part : goal.returns-in_err-value-clause-part
 returns-in_err-value-clause-part g c =
     let exit = err_from_is_err_and c.from_residual-in_err-value.result c.from_residual-in_err-value.ensures.1 in
-    let t = so-both g.R.Read.remaining c.args.decoder.now c.pull.new.decoder c.read_bignum.new.decoder
+    let t = so-both g.A.Access.remaining c.args.decoder.now c.pull.new.decoder c.read_bignum.new.decoder
     (λ d e. PullsSo {E = Unit} Some d e (Ok c.in_ok-next.next))
     (λ d e. BignumSo {E = Unit} g.S.Rules.spelling Some d e c.args.tag c.in-Some.n c.args.offset
     (Err c.in_err-value.field-0.0)) c.in_ok-next.ensures.head c.in_err-value.ensures.bignum in
@@ -61,7 +61,7 @@ returns-in_err-value-clause-part g c =
 
 pub returns-in-Some-clause-part : goal.returns-in-Some-clause-part
 returns-in-Some-clause-part g c =
-    let t = so-both g.R.Read.remaining c.args.decoder.now c.pull.new.decoder c.read_bignum.new.decoder
+    let t = so-both g.A.Access.remaining c.args.decoder.now c.pull.new.decoder c.read_bignum.new.decoder
     (λ d e. PullsSo {E = Unit} Some d e (Ok c.in_ok-next.next))
     (λ d e. BignumSo {E = Unit} g.S.Rules.spelling Some d e c.args.tag c.in-Some.n c.args.offset
     (Ok c.in_ok-value.value)) c.in_ok-next.ensures.head c.in_ok-value.ensures.bignum in (
@@ -94,9 +94,10 @@ returns-then-levels-eq0-clause-part g c =
 
 pub returns-clause-part : goal.returns-clause-part
 returns-clause-part g c =
-    let t = so-both g.R.Read.remaining c.args.decoder.now c.pull.new.decoder c.push.new.self
+    let t = so-both g.A.Access.remaining c.args.decoder.now c.pull.new.decoder c.push.new.self
     (λ d e. PullsSo {E = Unit} Some d e (Ok c.in_ok-next.next)) (λ d e. ReadsNothing d e)
-    c.in_ok-next.ensures.head (so-unread g.R.Read.remaining c.pull.new.decoder c.push.new.self (λ d e. ReadsNothing d e)
+    c.in_ok-next.ensures.head (so-unread g.A.Access.remaining c.pull.new.decoder c.push.new.self
+    (λ d e. ReadsNothing d e)
     c.push.ensures.unread (λ u. unread-with c.pull.new.decoder c.push.new.self u c.push.ensures.unread)) in (
       t.0,
       t.1,

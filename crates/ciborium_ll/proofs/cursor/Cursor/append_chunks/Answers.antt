@@ -8,7 +8,7 @@ pub chunks-init : goal.chunks-init
 chunks-init g c = record {
   same = search rules;
   head = refl;
-  good = parts-none _ _ _ _ (let fits = c.args.self.now.window.now.fits in omega (arith, fits));
+  good = parts-none _ _ _ _ (let fits = c.args.self.now.counter.now.fits in omega (arith, fits));
 }
 
 pub returns-in_err-header-clause-bytes : goal.returns-in_err-header-clause-bytes
@@ -30,7 +30,7 @@ chunks-preserved g c = record {
   head = refl;
   good = parts-more _ _ _ _ _ _ _ _ _ _ _ _ _ _ c.in-Definite.ensures c.chunks.invariant.good
       c.in_ok-header.ensures.head c.in_ok-append_payload-in-Definite.ensures.bytes
-      (let fits = c.append_payload.new.self.window.now.fits in omega (arith, fits));
+      (let fits = c.append_payload.new.self.counter.now.fits in omega (arith, fits));
 }
 
 pub returns-in_err-append_payload-in-Definite-clause-bytes : goal.returns-in_err-append_payload-in-Definite-clause-bytes

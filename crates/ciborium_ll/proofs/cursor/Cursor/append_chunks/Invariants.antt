@@ -10,7 +10,8 @@ abbrev pub invariant-chunks : goal.invariant-chunks
 invariant-chunks g l = record {
   same : IsSameCursor l.fn.self l.self;
   head : l.head ≡ count_at l.self;
-  good : GoodParts (string_kind_of l.kind) (left_at g.R.Read.remaining l.fn.self) (left_at g.R.Read.remaining l.self)
+  good : GoodParts (string_kind_of l.kind) (left_at g.A.Access.remaining l.fn.self)
+      (left_at g.A.Access.remaining l.self)
       (count_at l.fn.self) (count_at l.self) l.fn.out.items l.out.items;
 }
 

@@ -9,7 +9,7 @@ invariant-loop-left g l = record {
   same : IsSameCursor l.fn.self l.self;
   room : 0 < length l.scratch;
   below : count_at l.self + l.left ≤ greatest_offset;
-  taken : Moves g.R.Read.remaining l.fn.self l.self (λ b. (l.out.items ≡ l.fn.out.items ++ b) ×
+  taken : Moves g.A.Access.remaining l.fn.self l.self (λ b. (l.out.items ≡ l.fn.out.items ++ b) ×
       (length b + l.left ≡ l.n));
 }
 

@@ -31,9 +31,9 @@ loop-filled-preserved g c =
     let room = length c.loop-filled.buffer - from in
     let within = c.loop-filled.invariant.within in
     let (fits, (b, taken, count, is, good), end) = c.in_ok-n.ensures.some in
-    let part = slice_range-put_mid from room n c.loop-filled.buffer c.take_some.new.buffer within fits in
+    let part = slice_range-put_mid from room n c.loop-filled.buffer c.read_some.new.buffer within fits in
     let joined = take-slice_range from (from + n) c.loop-filled.buffer
-    (put_mid from room c.loop-filled.buffer c.take_some.new.buffer) (omega arith)
+    (put_mid from room c.loop-filled.buffer c.read_some.new.buffer) (omega arith)
     (take-put_mid_below _ _ _ _ _ (le_refl _) within) in
     record {
       same = search rules;
@@ -43,7 +43,7 @@ loop-filled-preserved g c =
         c.loop-filled.invariant.counted,
         count,
         ap length is,
-        length-take-le n c.take_some.new.buffer fits,
+        length-take-le n c.read_some.new.buffer fits,
       );
       taken = subst (Consumes _ _) (ap (λ l. take from c.loop-filled.buffer ++ l) (is ∙ sym part) ∙ joined)
           (Consumes-trans _ _ _ _ _ c.loop-filled.invariant.taken taken);

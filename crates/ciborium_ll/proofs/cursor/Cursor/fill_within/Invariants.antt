@@ -10,7 +10,8 @@ invariant-loop-filled g l = record {
   same : IsSameCursor l.fn.self l.self;
   within : l.filled ≤ length l.buffer;
   counted : count_at l.self ≡ count_at l.fn.self + l.filled;
-  taken : Consumes (left_at g.R.Read.remaining l.fn.self) (left_at g.R.Read.remaining l.self) (take l.filled l.buffer);
+  taken : Consumes (left_at g.A.Access.remaining l.fn.self) (left_at g.A.Access.remaining l.self)
+      (take l.filled l.buffer);
   bytes : AreBytes (take l.filled l.buffer);
 }
 

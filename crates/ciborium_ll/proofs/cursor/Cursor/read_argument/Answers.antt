@@ -16,7 +16,11 @@ pub judge_head-requires : goal.judge_head-requires
 judge_head-requires g c =
     let end = argument-end _ _ c.args.start _ _ c.args.initial c.fill.new.buffer c.requires.behind
     c.in_ok-fill.ensures.taken in
-    record { whole = omega (arith, c.fill.auto.buffer, c.requires.whole); between = omega (arith, end) }
+    record {
+      whole = omega (arith, c.fill.auto.buffer, c.requires.whole);
+      between = omega (arith, end);
+      parsed = c.parse_head-parsed.ensures;
+    }
 
 pub returns-clause-head : goal.returns-clause-head
 returns-clause-head g c = argument-whole _ _ c.args.start _ _ c.args.initial c.fill.new.buffer _ _

@@ -12,5 +12,5 @@ returns g c = record {
   taken = search rules;
   refused = λ b known. refused-string of_bytes c.args.len c.args.self.now.last _ _ _ _ _ b _
       c.append_string.ensures.bytes known;
-  spent = search rules;
+  ended = search rules;
 }

@@ -12,12 +12,12 @@ returns-2-clause-empty g c known = first-empty _ _ _ _ _ c.requires.room known c
 
 pub returns-in-Ok-Some-clause-ahead : goal.returns-in-Ok-Some-clause-ahead
 returns-in-Ok-Some-clause-ahead g c b p h =
-    let unread : IsAheadBy g.R.Read.remaining c.args.self.now b p None =
-    subst (IsAheadBy g.R.Read.remaining c.args.self.now b p) c.requires.unpushed h in
+    let unread : IsAheadBy g.A.Access.remaining c.args.self.now b p None =
+    subst (IsAheadBy g.A.Access.remaining c.args.self.now b p) c.requires.unpushed h in
     pulls-first _ _ _ _ b _ p _ unread refl c.read_first_head-pulled.ensures.head c.read_first_head-pulled.ensures.end
 
 pub returns-2-clause-ahead : goal.returns-2-clause-ahead
 returns-2-clause-ahead g c b p h =
-    let unread : IsAheadBy g.R.Read.remaining c.args.self.now b p None =
-    subst (IsAheadBy g.R.Read.remaining c.args.self.now b p) c.requires.unpushed h in
+    let unread : IsAheadBy g.A.Access.remaining c.args.self.now b p None =
+    subst (IsAheadBy g.A.Access.remaining c.args.self.now b p) c.requires.unpushed h in
     pulls-first _ _ _ _ b _ p _ unread refl c.read_first_head-pulled.ensures.head c.read_first_head-pulled.ensures.end

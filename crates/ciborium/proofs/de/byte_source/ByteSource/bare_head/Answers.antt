@@ -15,34 +15,36 @@ use Rattle.ciborium.proofs.de.byte_source.ByteSource.bare_head.Goals as goal
 pub returns-in_err-header-clause-denied : goal.returns-in_err-header-clause-denied
 returns-in_err-header-clause-denied g c =
     let exit = err_from_is_err_and c.from_residual.result c.from_residual.ensures.1 in
-    rw (exit.1, exit.2) (denies-item (IsUnread g.R.Read.remaining) (end_at g.R.Read.remaining) c.args.self.now
-    c.args.self.now c.args.numbers (fault_at g.R.Read.remaining c.next_head.new.self c.in_err-header.field-0.0)
+    rw (exit.1, exit.2) (denies-item (IsUnread g.A.Access.remaining) (end_at g.A.Access.remaining) c.args.self.now
+    c.args.self.now c.args.numbers (fault_at g.A.Access.can_fail g.A.Access.remaining c.next_head.new.self
+    c.in_err-header.field-0.0)
     (λ b u. refl)
-    (skips-none (IsUnread g.R.Read.remaining) c.args.self.now c.args.numbers) c.in_err-header.ensures.denied)
+    (skips-none (IsUnread g.A.Access.remaining) c.args.self.now c.args.numbers) c.in_err-header.ensures.denied)
 
 pub returns-then-is_end_tag-clause-head : goal.returns-then-is_end_tag-clause-head
 returns-then-is_end_tag-clause-head g c =
-    bare-head (IsUnread g.R.Read.remaining) c.args.self.now c.next_head.new.self c.args.numbers
-    (header.Tag c.in-Tag.tag) (subst (TakesHead (IsUnread g.R.Read.remaining) c.args.self.now c.next_head.new.self)
+    bare-head (IsUnread g.A.Access.remaining) c.args.self.now c.next_head.new.self c.args.numbers
+    (header.Tag c.in-Tag.tag) (subst (TakesHead (IsUnread g.A.Access.remaining) c.args.self.now c.next_head.new.self)
     c.in-Tag.is c.in_ok-header.ensures.head)
 
 pub returns-in_err-bare-in-Tag-clause-denied : goal.returns-in_err-bare-in-Tag-clause-denied
 returns-in_err-bare-in-Tag-clause-denied g c =
-    let I = IsUnread g.R.Read.remaining in
+    let I = IsUnread g.A.Access.remaining in
     let one = skips-more I c.args.self.now c.args.self.now c.next_head.new.self c.args.numbers c.in-Tag.tag
     (subst (IsEndTag c.args.numbers c.in-Tag.tag) c.if-is_end_tag.false c.is_end_tag.ensures)
     (skips-none I c.args.self.now c.args.numbers) (subst (TakesHead I c.args.self.now c.next_head.new.self) c.in-Tag.is
     c.in_ok-header.ensures.head) in
     let exit = err_from_is_err_and c.from_residual-in_err-bare-in-Tag.result
     c.from_residual-in_err-bare-in-Tag.ensures.1 in
-    rw (exit.1, exit.2) (denies-behind I (end_at g.R.Read.remaining) c.args.self.now c.next_head.new.self c.args.numbers
-    (fault_at g.R.Read.remaining c.skip_tags.new.self c.in_err-bare-in-Tag.field-0.0)
-    (same-end g.R.Read.remaining c.args.self.now c.next_head.new.self
+    rw (exit.1, exit.2) (denies-behind I (end_at g.A.Access.remaining) c.args.self.now c.next_head.new.self
+    c.args.numbers
+    (fault_at g.A.Access.can_fail g.A.Access.remaining c.skip_tags.new.self c.in_err-bare-in-Tag.field-0.0)
+    (same-end g.A.Access.remaining c.args.self.now c.next_head.new.self
     c.in_ok-header.ensures.only) one c.in_err-bare-in-Tag.ensures.denied)
 
 pub returns-in_ok-bare-in-Tag-clause-head : goal.returns-in_ok-bare-in-Tag-clause-head
 returns-in_ok-bare-in-Tag-clause-head g c =
-    let I = IsUnread g.R.Read.remaining in
+    let I = IsUnread g.A.Access.remaining in
     let one = skips-more I c.args.self.now c.args.self.now c.next_head.new.self c.args.numbers c.in-Tag.tag
     (subst (IsEndTag c.args.numbers c.in-Tag.tag) c.if-is_end_tag.false c.is_end_tag.ensures)
     (skips-none I c.args.self.now c.args.numbers) (subst (TakesHead I c.args.self.now c.next_head.new.self) c.in-Tag.is
@@ -52,13 +54,13 @@ returns-in_ok-bare-in-Tag-clause-head g c =
 
 pub returns-in-Break-clause-denied : goal.returns-in-Break-clause-denied
 returns-in-Break-clause-denied g c =
-    denies-break (IsUnread g.R.Read.remaining) (end_at g.R.Read.remaining) c.args.self.now c.args.self.now
+    denies-break (IsUnread g.A.Access.remaining) (end_at g.A.Access.remaining) c.args.self.now c.args.self.now
     c.next_head.new.self c.args.numbers (of_kind kinds.Break)
-    (skips-none (IsUnread g.R.Read.remaining) c.args.self.now c.args.numbers)
-    (subst (TakesHead (IsUnread g.R.Read.remaining) c.args.self.now c.next_head.new.self) c.in-Break.is
+    (skips-none (IsUnread g.A.Access.remaining) c.args.self.now c.args.numbers)
+    (subst (TakesHead (IsUnread g.A.Access.remaining) c.args.self.now c.next_head.new.self) c.in-Break.is
     c.in_ok-header.ensures.head)
 
 pub returns-in_default-clause-head : goal.returns-in_default-clause-head
 returns-in_default-clause-head g c =
-    bare-head (IsUnread g.R.Read.remaining) c.args.self.now c.next_head.new.self c.args.numbers c.in_ok-header.header
+    bare-head (IsUnread g.A.Access.remaining) c.args.self.now c.next_head.new.self c.args.numbers c.in_ok-header.header
     c.in_ok-header.ensures.head

@@ -21,15 +21,17 @@ use Rattle.ciborium.proofs.de.byte_source.ByteSource.begin_variant.Goals as goal
 pub returns-in_err-header-clause-denied : goal.returns-in_err-header-clause-denied
 returns-in_err-header-clause-denied g c =
     let exit = err_from_is_err_and c.from_residual.result c.from_residual.ensures.1 in
-    rw (exit.1, exit.2) (head-denied g.R.Read.remaining c.args.self.now taken_variant
-    (fault_at g.R.Read.remaining c.bare_head.new.self c.in_err-header.field-0.0) c.in_err-header.ensures.denied)
+    rw (exit.1, exit.2) (head-denied g.A.Access.remaining c.args.self.now taken_variant
+    (fault_at g.A.Access.can_fail g.A.Access.remaining c.bare_head.new.self c.in_err-header.field-0.0)
+    c.in_err-header.ensures.denied)
 
 pub returns-in_err-level-in-Text-clause-denied : goal.returns-in_err-level-in-Text-clause-denied
 returns-in_err-level-in-Text-clause-denied g c =
     let exit = err_from_is_err_and c.from_residual-in_err-level-in-Text.result
     c.from_residual-in_err-level-in-Text.ensures.1 in
-    rw (exit.1, exit.2) (nested-denied g.R.Read.remaining c.args.self.now taken_variant c.bare_head.new.self
-    c.in_ok-header.header c.in_ok-header.ensures.head c.take_level.new.self (header.Text c.in-Text.len) c.in-Text.is
+    rw (exit.1, exit.2) (nested-denied g.A.Access.remaining c.args.self.now taken_variant c.bare_head.new.self
+    c.in_ok-header.header c.in_ok-header.ensures.head g.A.Access.can_fail c.take_level.new.self
+    (header.Text c.in-Text.len) c.in-Text.is
     c.in_err-level-in-Text.field-0.0 c.in_err-level-in-Text.ensures.err (text-nests c.args.self.now.levels
     c.in-Text.len (sym c.in_ok-header.ensures.reads.levels ∙ c.in_err-level-in-Text.ensures.none)))
 
@@ -37,8 +39,9 @@ pub returns-in_err-level-in-Map-clause-denied : goal.returns-in_err-level-in-Map
 returns-in_err-level-in-Map-clause-denied g c =
     let exit = err_from_is_err_and c.from_residual-in_err-level-in-Map.result
     c.from_residual-in_err-level-in-Map.ensures.1 in
-    rw (exit.1, exit.2) (nested-denied g.R.Read.remaining c.args.self.now taken_variant c.bare_head.new.self
-    c.in_ok-header.header c.in_ok-header.ensures.head c.take_level-in-Map.new.self (header.Map (Some 1))
+    rw (exit.1, exit.2) (nested-denied g.A.Access.remaining c.args.self.now taken_variant c.bare_head.new.self
+    c.in_ok-header.header c.in_ok-header.ensures.head g.A.Access.can_fail c.take_level-in-Map.new.self (header.Map
+    (Some 1))
     (c.in-Map.is ∙ ap header.Map c.if-not-is_one.ensures) c.in_err-level-in-Map.field-0.0
     c.in_err-level-in-Map.ensures.err (pair-nests c.args.self.now.levels
     (sym c.in_ok-header.ensures.reads.levels ∙ c.in_err-level-in-Map.ensures.none)))
@@ -47,22 +50,24 @@ pub returns-in_err-name-in-Text-clause-denied : goal.returns-in_err-name-in-Text
 returns-in_err-name-in-Text-clause-denied g c =
     let exit = err_from_is_err_and c.from_residual-in_err-name-in-Text.result
     c.from_residual-in_err-name-in-Text.ensures.1 in
-    let U = IsUnread g.R.Read.remaining in
-    let fault = fault_at g.R.Read.remaining c.text_content.new.self c.in_err-name-in-Text.field-0.0 in
+    let U = IsUnread g.A.Access.remaining in
+    let fault = fault_at g.A.Access.can_fail g.A.Access.remaining c.text_content.new.self
+    c.in_err-name-in-Text.field-0.0 in
     let level = c.in_ok-level-in-Text.ensures in
-    rw (exit.1, exit.2) (denies-of-item U (end_at g.R.Read.remaining) (Some c.args.self.now.levels) taken_variant
+    rw (exit.1, exit.2) (denies-of-item U (end_at g.A.Access.remaining) (Some c.args.self.now.levels) taken_variant
     c.args.self.now fault
-    (denies-content U (end_at g.R.Read.remaining) false c.args.self.now c.bare_head.new.self of_text c.in-Text.len fault
-    (same-end g.R.Read.remaining c.args.self.now c.bare_head.new.self c.in_ok-header.ensures.reads.only)
+    (denies-content U (end_at g.A.Access.remaining) false c.args.self.now c.bare_head.new.self of_text c.in-Text.len
+    fault
+    (same-end g.A.Access.remaining c.args.self.now c.bare_head.new.self c.in_ok-header.ensures.reads.only)
     (subst (TakesBare U c.args.self.now c.bare_head.new.self false) c.in-Text.is c.in_ok-header.ensures.head)
-    (λ y x s z payload u hd sp e. subst (λ d. IsOutsideFault (reader_of g.R.Read.remaining d).1 fault) level.decoder
+    (λ y x s z payload u hd sp e. subst (λ d. IsOutsideFault (reader_of g.A.Access.remaining d).1 fault) level.decoder
     (c.in_err-name-in-Text.ensures.denied y x s z payload
-    (same-unread g.R.Read.remaining c.bare_head.new.self c.take_level.new.self level.decoder level.pending y u) hd
+    (same-unread g.A.Access.remaining c.bare_head.new.self c.take_level.new.self level.decoder level.pending y u) hd
     sp e))))
 
 pub returns-in_ok-name-in-Text-clause-ok : goal.returns-in_ok-name-in-Text-clause-ok
 returns-in_ok-name-in-Text-clause-ok g c =
-    let U = IsUnread g.R.Read.remaining in
+    let U = IsUnread g.A.Access.remaining in
     let new = c.text_content.new.self in
     let level = c.in_ok-level-in-Text.ensures in
     let less = level.some.1 in
@@ -73,18 +78,18 @@ returns-in_ok-name-in-Text-clause-ok g c =
     (subst (TakesBare U c.args.self.now c.bare_head.new.self false) c.in-Text.is c.in_ok-header.ensures.head)
     (λ y u.
     let (d, z, make, f, un) = c.in_ok-name-in-Text.ensures.ok y
-    (same-unread g.R.Read.remaining c.bare_head.new.self c.take_level.new.self level.decoder level.pending y u) in (
+    (same-unread g.A.Access.remaining c.bare_head.new.self c.take_level.new.self level.decoder level.pending y u) in (
       d,
       z,
       make,
       f,
-      null-unread g.R.Read.remaining new.decoder new.pending c.in_ok-header.offset z
+      null-unread g.A.Access.remaining new.decoder new.pending c.in_ok-header.offset z
           c.in_ok-name-in-Text.ensures.pending un,
     ))
 
 pub returns-in_ok-name-in-Map-clause-ok : goal.returns-in_ok-name-in-Map-clause-ok
 returns-in_ok-name-in-Map-clause-ok g c =
-    let U = IsUnread g.R.Read.remaining in
+    let U = IsUnread g.A.Access.remaining in
     let level = c.in_ok-level-in-Map.ensures in
     let less = level.some.1 in
     let same = c.in_ok-header.ensures.reads.levels in
@@ -92,7 +97,7 @@ returns-in_ok-name-in-Map-clause-ok g c =
     let inner : Some c.take_level-in-Map.new.self.levels ≡ deeper (Some c.args.self.now.levels) =
     ap Some (omega (arith, less, same)) ∙ sym (deeper-is c.args.self.now.levels some) in
     pair-opened U c.args.self.now c.bare_head.new.self c.take_level-in-Map.new.self c.name.new.self
-    c.args.self.now.levels some (same-unread g.R.Read.remaining c.bare_head.new.self c.take_level-in-Map.new.self
+    c.args.self.now.levels some (same-unread g.A.Access.remaining c.bare_head.new.self c.take_level-in-Map.new.self
     level.decoder level.pending) (string_bytes c.in_ok-name-in-Map.name)
     (subst (TakesBare U c.args.self.now c.bare_head.new.self false)
     (c.in-Map.is ∙ ap header.Map c.if-not-is_one.ensures) c.in_ok-header.ensures.head)
@@ -103,8 +108,8 @@ pub returns-in_err-name-in-Map-clause-denied : goal.returns-in_err-name-in-Map-c
 returns-in_err-name-in-Map-clause-denied g c =
     let exit = err_from_is_err_and c.from_residual-in_err-name-in-Map.result
     c.from_residual-in_err-name-in-Map.ensures.1 in
-    let U = IsUnread g.R.Read.remaining in
-    let fault = fault_at g.R.Read.remaining c.name.new.self c.in_err-name-in-Map.field-0.0 in
+    let U = IsUnread g.A.Access.remaining in
+    let fault = fault_at g.A.Access.can_fail g.A.Access.remaining c.name.new.self c.in_err-name-in-Map.field-0.0 in
     let level = c.in_ok-level-in-Map.ensures in
     let less = level.some.1 in
     let same = c.in_ok-header.ensures.reads.levels in
@@ -113,23 +118,23 @@ returns-in_err-name-in-Map-clause-denied g c =
     ap Some (omega (arith, less, same)) ∙ sym (deeper-is c.args.self.now.levels some) in
     rw (exit.1, exit.2) (key-denied U c.args.self.now c.bare_head.new.self c.take_level-in-Map.new.self
     c.take_level-in-Map.new.self c.args.self.now.levels some
-    (same-unread g.R.Read.remaining c.bare_head.new.self c.take_level-in-Map.new.self level.decoder level.pending)
-    (end_at g.R.Read.remaining) fault (λ b u. ap (λ d. (reader_of g.R.Read.remaining d).1) level.decoder ∙
-    same-end g.R.Read.remaining c.args.self.now c.bare_head.new.self c.in_ok-header.ensures.reads.only b u)
+    (same-unread g.A.Access.remaining c.bare_head.new.self c.take_level-in-Map.new.self level.decoder level.pending)
+    (end_at g.A.Access.remaining) fault (λ b u. ap (λ d. (reader_of g.A.Access.remaining d).1) level.decoder ∙
+    same-end g.A.Access.remaining c.args.self.now c.bare_head.new.self c.in_ok-header.ensures.reads.only b u)
     (subst (TakesBare U c.args.self.now c.bare_head.new.self false)
     (c.in-Map.is ∙ ap header.Map c.if-not-is_one.ensures) c.in_ok-header.ensures.head)
-    (subst (λ l. Denies U (end_at g.R.Read.remaining) c.take_level-in-Map.new.self l taken_name fault) inner
+    (subst (λ l. Denies U (end_at g.A.Access.remaining) c.take_level-in-Map.new.self l taken_name fault) inner
     c.in_err-name-in-Map.ensures.answer))
 
 pub returns-then-not-is_one-clause-denied : goal.returns-then-not-is_one-clause-denied
 returns-then-not-is_one-clause-denied g c =
-    other-denied g.R.Read.remaining c.args.self.now taken_variant c.bare_head.new.self c.in_ok-header.header
+    other-denied g.A.Access.remaining c.args.self.now taken_variant c.bare_head.new.self c.in_ok-header.header
     c.in_ok-header.ensures.head kinds.Variant (variant-other (Some c.args.self.now.levels) c.in_ok-header.header
     c.in_ok-header.ensures.reads.bare (map-no-text c.in_ok-header.header c.in-Map.count c.in-Map.is) (map-not-one
     c.in_ok-header.header c.in-Map.count c.in-Map.is c.if-not-is_one.ensures))
 
 pub returns-in_default-clause-denied : goal.returns-in_default-clause-denied
 returns-in_default-clause-denied g c =
-    other-denied g.R.Read.remaining c.args.self.now taken_variant c.bare_head.new.self c.in_ok-header.header
+    other-denied g.A.Access.remaining c.args.self.now taken_variant c.bare_head.new.self c.in_ok-header.header
     c.in_ok-header.ensures.head kinds.Variant (variant-other (Some c.args.self.now.levels) c.in_ok-header.header
     c.in_ok-header.ensures.reads.bare c.in_default.not-Text (c.in_default.not-Map (Some 1)))

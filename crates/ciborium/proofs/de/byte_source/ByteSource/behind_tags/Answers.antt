@@ -17,22 +17,23 @@ tags-init g c = record {
   only = λ first h. h;
   levels = refl;
   fewer = omega arith;
-  skipped = skips-none (IsUnread g.R.Read.remaining) c.args.self.now c.args.numbers;
+  skipped = skips-none (IsUnread g.A.Access.remaining) c.args.self.now c.args.numbers;
 }
 
 pub returns-in_err-header-clause-denied : goal.returns-in_err-header-clause-denied
 returns-in_err-header-clause-denied g c =
     let exit = err_from_is_err_and c.from_residual.result c.from_residual.ensures.1 in
-    rw (exit.1, exit.2) (denies-item (IsUnread g.R.Read.remaining) (end_at g.R.Read.remaining) c.args.self.now
-    c.tags.self c.args.numbers (fault_at g.R.Read.remaining c.next_head.new.self c.in_err-header.field-0.0)
-    (same-end g.R.Read.remaining c.args.self.now c.tags.self c.tags.invariant.only) c.tags.invariant.skipped
+    rw (exit.1, exit.2) (denies-item (IsUnread g.A.Access.remaining) (end_at g.A.Access.remaining) c.args.self.now
+    c.tags.self c.args.numbers (fault_at g.A.Access.can_fail g.A.Access.remaining c.next_head.new.self
+    c.in_err-header.field-0.0)
+    (same-end g.A.Access.remaining c.args.self.now c.tags.self c.tags.invariant.only) c.tags.invariant.skipped
     c.in_err-header.ensures.denied)
 
 pub returns-in-Break-clause-denied : goal.returns-in-Break-clause-denied
 returns-in-Break-clause-denied g c =
-    denies-break (IsUnread g.R.Read.remaining) (end_at g.R.Read.remaining) c.args.self.now c.tags.self
+    denies-break (IsUnread g.A.Access.remaining) (end_at g.A.Access.remaining) c.args.self.now c.tags.self
     c.next_head.new.self c.args.numbers (of_kind kinds.Break) c.tags.invariant.skipped
-    (subst (TakesHead (IsUnread g.R.Read.remaining) c.tags.self c.next_head.new.self) c.in-Break.is
+    (subst (TakesHead (IsUnread g.A.Access.remaining) c.tags.self c.next_head.new.self) c.in-Break.is
     c.in_ok-header.ensures.head)
 
 pub tags-preserved : goal.tags-preserved
@@ -42,9 +43,9 @@ tags-preserved g c = record {
   levels = c.in_ok-header.ensures.levels ∙ c.tags.invariant.levels;
   fewer = let none = weighs-none c.next_head.new.self c.in_ok-header.ensures.pending in
       omega (arith, c.in_ok-header.ensures.fewer, none, c.tags.invariant.fewer);
-  skipped = skips-more (IsUnread g.R.Read.remaining) c.args.self.now c.tags.self c.next_head.new.self c.args.numbers
+  skipped = skips-more (IsUnread g.A.Access.remaining) c.args.self.now c.tags.self c.next_head.new.self c.args.numbers
       c.in-Tag.tag (subst (IsEndTag c.args.numbers c.in-Tag.tag) c.if-is_end_tag.false c.is_end_tag.ensures)
       c.tags.invariant.skipped
-      (subst (TakesHead (IsUnread g.R.Read.remaining) c.tags.self c.next_head.new.self) c.in-Tag.is
+      (subst (TakesHead (IsUnread g.A.Access.remaining) c.tags.self c.next_head.new.self) c.in-Tag.is
       c.in_ok-header.ensures.head);
 }

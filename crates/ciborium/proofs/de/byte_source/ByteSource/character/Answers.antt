@@ -2,6 +2,7 @@ use Rattle.std.proofs.Common.{◌≡◌, ◌≤◌, ℕ, [], ◌∷◌, ap, ◌�
 use Rattle.std.proofs.Common.{length-append, chars, ◌+◌}
 use Rattle.std.proofs.lemmas.Grind.{common_steps}
 use Rattle.std.proofs.lemmas.Result.{err_from_is_err_and}
+use Rattle.ciborium_ll.specs.Accesses.{left_at_failure}
 use Rattle.ciborium_ll.specs.StringRefusal.{of_text}
 use Rattle.ciborium_ll.specs.declared.header.Header.TheVariants as header
 use Rattle.ciborium_value.specs.Sources.{of_kind}
@@ -25,17 +26,19 @@ short n h = grind (arith, common_steps)
 pub returns-in_err-header-clause-answer : goal.returns-in_err-header-clause-answer
 returns-in_err-header-clause-answer g c =
     let exit = err_from_is_err_and c.from_residual.result c.from_residual.ensures.1 in
-    rw (exit.1, exit.2) (head-denied g.R.Read.remaining c.args.self.now taken_character
-    (fault_at g.R.Read.remaining c.bare_head.new.self c.in_err-header.field-0.0) c.in_err-header.ensures.denied)
+    rw (exit.1, exit.2) (head-denied g.A.Access.remaining c.args.self.now taken_character
+    (fault_at g.A.Access.can_fail g.A.Access.remaining c.bare_head.new.self c.in_err-header.field-0.0)
+    c.in_err-header.ensures.denied)
 
 pub returns-then-n-gt-GREATEST_CHARACTER_SIZE-clause-answer :
     goal.returns-then-n-gt-GREATEST_CHARACTER_SIZE-clause-answer
 returns-then-n-gt-GREATEST_CHARACTER_SIZE-clause-answer g c =
-    long-denied (IsUnread g.R.Read.remaining) (end_at g.R.Read.remaining) (Some c.args.self.now.levels) c.args.self.now
+    long-denied (IsUnread g.A.Access.remaining) (end_at g.A.Access.remaining)
+    (Some c.args.self.now.levels) c.args.self.now
     c.bare_head.new.self c.in-Some.n
-    (subst (TakesBare (IsUnread g.R.Read.remaining) c.args.self.now c.bare_head.new.self false)
+    (subst (TakesBare (IsUnread g.A.Access.remaining) c.args.self.now c.bare_head.new.self false)
     (c.in-Text.is ∙ ap header.Text c.in-Some.is) c.in_ok-header.ensures.head)
-    (same-end g.R.Read.remaining c.args.self.now c.bare_head.new.self c.in_ok-header.ensures.reads.only)
+    (same-end g.A.Access.remaining c.args.self.now c.bare_head.new.self c.in_ok-header.ensures.reads.only)
     c.if-n-gt-GREATEST_CHARACTER_SIZE.true
 
 pub returns-in_ok-character-in-Some-clause-answer : goal.returns-in_ok-character-in-Some-clause-answer
@@ -44,13 +47,15 @@ returns-in_ok-character-in-Some-clause-answer g c =
     let n = c.in-Some.n in
     let payload = c.fill.new.buffer in
     let size : length payload ≡ n = c.fill.auto.buffer ∙ short n c.if-n-gt-GREATEST_CHARACTER_SIZE.false in
-    reads-bare (IsUnread g.R.Read.remaining) false (header.Text (Some n)) l taken_character c.args.self.now
+    reads-bare (IsUnread g.A.Access.remaining) false (header.Text (Some n)) l taken_character c.args.self.now
     c.bare_head.new.self c.fill.new.self c.in_ok-character-in-Some.character
-    (subst (TakesBare (IsUnread g.R.Read.remaining) c.args.self.now c.bare_head.new.self false)
+    (subst (TakesBare (IsUnread g.A.Access.remaining) c.args.self.now c.bare_head.new.self false)
     (c.in-Text.is ∙ ap header.Text c.in-Some.is) c.in_ok-header.ensures.head)
-    (string-behind (IsUnread g.R.Read.remaining) c.bare_head.new.self c.fill.new.self of_text (Some n) l taken_character
+    (string-behind (IsUnread g.A.Access.remaining) c.bare_head.new.self c.fill.new.self of_text
+    (Some n) l taken_character
     payload c.in_ok-character-in-Some.character
-    (payload-taken (IsUnread g.R.Read.remaining c.bare_head.new.self) (IsUnread g.R.Read.remaining c.fill.new.self) n
+    (payload-taken (IsUnread g.A.Access.remaining c.bare_head.new.self)
+    (IsUnread g.A.Access.remaining c.fill.new.self) n
     payload size c.in_ok-character-in-Some.ensures.utf8 c.in_ok-fill-in-Some.ensures.ok)
     (character-given l payload c.in_ok-character-in-Some.character c.in_ok-character-in-Some.ensures.ok))
 
@@ -59,14 +64,14 @@ returns-in_err-fill-in-Some-clause-answer g c =
     let exit = err_from_is_err_and c.from_residual-in_err-fill-in-Some.result
     c.from_residual-in_err-fill-in-Some.ensures.1 in
     let n = c.in-Some.n in
-    let fault = fault_at g.R.Read.remaining c.fill.new.self c.in_err-fill-in-Some.field-0.0 in
-    let end = end_at g.R.Read.remaining c.bare_head.new.self in
+    let fault = fault_at g.A.Access.can_fail g.A.Access.remaining c.fill.new.self c.in_err-fill-in-Some.field-0.0 in
+    let end = end_at g.A.Access.remaining c.bare_head.new.self in
     let room = short n c.if-n-gt-GREATEST_CHARACTER_SIZE.false in
-    rw (exit.1, exit.2) (text-denied (IsUnread g.R.Read.remaining) (end_at g.R.Read.remaining)
+    rw (exit.1, exit.2) (text-denied (IsUnread g.A.Access.remaining) (end_at g.A.Access.remaining)
     (Some c.args.self.now.levels) c.args.self.now c.bare_head.new.self n
-    (subst (TakesBare (IsUnread g.R.Read.remaining) c.args.self.now c.bare_head.new.self false)
+    (subst (TakesBare (IsUnread g.A.Access.remaining) c.args.self.now c.bare_head.new.self false)
     (c.in-Text.is ∙ ap header.Text c.in-Some.is) c.in_ok-header.ensures.head) fault
-    (same-end g.R.Read.remaining c.args.self.now c.bare_head.new.self c.in_ok-header.ensures.reads.only)
+    (same-end g.A.Access.remaining c.args.self.now c.bare_head.new.self c.in_ok-header.ensures.reads.only)
     (λ y z payload un size utf8 e. let more : length y ≡ length payload + length z = ap length e ∙
     length-append payload z in
     fault_outside end fault (lone_character (chars payload))
@@ -80,28 +85,31 @@ returns-in_err-character-in-Some-clause-answer g c =
     let n = c.in-Some.n in
     let payload = c.fill.new.buffer in
     let size : length payload ≡ n = c.fill.auto.buffer ∙ short n c.if-n-gt-GREATEST_CHARACTER_SIZE.false in
-    let fault = fault_at g.R.Read.remaining c.fill.new.self c.in_err-character-in-Some.field-0.0 in
-    rw (exit.1, exit.2) (text-denied (IsUnread g.R.Read.remaining) (end_at g.R.Read.remaining) l c.args.self.now
+    let fault = fault_at g.A.Access.can_fail g.A.Access.remaining c.fill.new.self c.in_err-character-in-Some.field-0.0
+    in
+    rw (exit.1, exit.2) (text-denied (IsUnread g.A.Access.remaining) (end_at g.A.Access.remaining) l c.args.self.now
     c.bare_head.new.self n
-    (subst (TakesBare (IsUnread g.R.Read.remaining) c.args.self.now c.bare_head.new.self false)
+    (subst (TakesBare (IsUnread g.A.Access.remaining) c.args.self.now c.bare_head.new.self false)
     (c.in-Text.is ∙ ap header.Text c.in-Some.is) c.in_ok-header.ensures.head) fault
-    (same-end g.R.Read.remaining c.args.self.now c.bare_head.new.self c.in_ok-header.ensures.reads.only)
-    (payload-denied (end_at g.R.Read.remaining c.bare_head.new.self) (IsUnread g.R.Read.remaining c.bare_head.new.self)
-    (IsUnread g.R.Read.remaining c.fill.new.self) n payload fault size
-    (c.in_err-character-in-Some.ensures.refused (g.R.Read.remaining c.fill.new.self.decoder.reader.now)
-    (end_at g.R.Read.remaining c.bare_head.new.self))
+    (same-end g.A.Access.remaining c.args.self.now c.bare_head.new.self c.in_ok-header.ensures.reads.only)
+    (payload-denied (end_at g.A.Access.remaining c.bare_head.new.self) (IsUnread g.A.Access.remaining
+    c.bare_head.new.self)
+    (IsUnread g.A.Access.remaining c.fill.new.self) n payload fault size
+    (c.in_err-character-in-Some.ensures.refused
+    (left_at_failure g.A.Access.can_fail (g.A.Access.remaining c.fill.new.self.decoder.reader.now))
+    (end_at g.A.Access.remaining c.bare_head.new.self))
     c.in_ok-fill-in-Some.ensures.ok))
 
 pub returns-in-None-clause-answer : goal.returns-in-None-clause-answer
 returns-in-None-clause-answer g c =
     let l = Some c.args.self.now.levels in
-    denies-bare (IsUnread g.R.Read.remaining) false (header.Text None) l taken_character (end_at g.R.Read.remaining)
+    denies-bare (IsUnread g.A.Access.remaining) false (header.Text None) l taken_character (end_at g.A.Access.remaining)
     c.args.self.now c.bare_head.new.self (of_kind kinds.Char)
-    (subst (TakesBare (IsUnread g.R.Read.remaining) c.args.self.now c.bare_head.new.self false)
+    (subst (TakesBare (IsUnread g.A.Access.remaining) c.args.self.now c.bare_head.new.self false)
     (c.in-Text.is ∙ ap header.Text c.in-None.is) c.in_ok-header.ensures.head) (character-open l)
 
 pub returns-in_default-clause-answer : goal.returns-in_default-clause-answer
 returns-in_default-clause-answer g c =
-    other-denied g.R.Read.remaining c.args.self.now taken_character c.bare_head.new.self c.in_ok-header.header
+    other-denied g.A.Access.remaining c.args.self.now taken_character c.bare_head.new.self c.in_ok-header.header
     c.in_ok-header.ensures.head kinds.Char (character-other (Some c.args.self.now.levels) c.in_ok-header.header
     c.in_ok-header.ensures.reads.bare c.in_default.not-Text)

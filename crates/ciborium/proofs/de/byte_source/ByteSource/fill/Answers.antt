@@ -1,30 +1,30 @@
 use Rattle.std.proofs.Common.{arith, subst, false}
+use Rattle.ciborium_ll.specs.Accesses.{left_at_failure}
 use Rattle.ciborium.proofs.Items.FrontReads.{granted-fill}
 use Rattle.ciborium.proofs.Payloads.LoneCharacters.{just-taken}
 use Rattle.ciborium.proofs.Payloads.ReadDigits.{fill-fewer, fill-outside}
-use Rattle.ciborium_ll.proofs.HeldBytes.{same-name}
 use Rattle.ciborium.proofs.Items.TakenOnly.{takes-only}
 use Rattle.std.proofs.lemmas.Result.{err_from_is_err_and}
 use Rattle.ciborium.specs.inner.ByteSources.{IsUnreadBy}
 use Rattle.ciborium.proofs.de.byte_source.ByteSource.fill.Goals as goal
 
 pub returns-clause-ok : goal.returns-clause-ok
-returns-clause-ok g c = just-taken Unit g.R.Read.remaining c.args.self.now.decoder c.read_exact_keeping.new.self
+returns-clause-ok g c = just-taken Unit g.A.Access.remaining c.args.self.now.decoder c.read_exact_keeping.new.self
     c.args.self.now.pending c.read_exact_keeping.new.buffer c.requires c.in_ok-read_exact_keeping.ensures.taken
 
 pub returns-clause-fewer : goal.returns-clause-fewer
 returns-clause-fewer g c =
-    fill-fewer Unit g.R.Read.remaining c.args.self.now.decoder c.read_exact_keeping.new.self
+    fill-fewer Unit g.A.Access.remaining c.args.self.now.decoder c.read_exact_keeping.new.self
     c.read_exact_keeping.new.buffer c.in_ok-read_exact_keeping.ensures.taken
 
 pub returns-in_err-read_exact_keeping-clause-only : goal.returns-in_err-read_exact_keeping-clause-only
-returns-in_err-read_exact_keeping-clause-only g c = takes-only g.R.Read.remaining c.args.self.now.decoder
-    c.read_exact_keeping.new.self _ (same-name c.args.self.now.decoder c.read_exact_keeping.new.self
-    c.in_err-read_exact_keeping.ensures.same_reader) c.in_err-read_exact_keeping.ensures.taken
+returns-in_err-read_exact_keeping-clause-only g c = takes-only g.A.Access.remaining c.args.self.now.decoder
+    c.read_exact_keeping.new.self _ c.in_err-read_exact_keeping.ensures.same_reader
+    c.in_err-read_exact_keeping.ensures.taken
 
 pub returns-clause-only : goal.returns-clause-only
-returns-clause-only g c = takes-only g.R.Read.remaining c.args.self.now.decoder c.read_exact_keeping.new.self _
-    (same-name c.args.self.now.decoder c.read_exact_keeping.new.self c.in_ok-read_exact_keeping.ensures.same_reader)
+returns-clause-only g c = takes-only g.A.Access.remaining c.args.self.now.decoder c.read_exact_keeping.new.self _
+    c.in_ok-read_exact_keeping.ensures.same_reader
     c.in_ok-read_exact_keeping.ensures.taken
 
 pub returns-in_err-read_exact_keeping-clause-outside : goal.returns-in_err-read_exact_keeping-clause-outside
@@ -33,14 +33,16 @@ returns-in_err-read_exact_keeping-clause-outside g c =
     let d = c.args.self.now.decoder in
     rw (exit.1, exit.2) (λ y u there.
     let same = c.read_exact_keeping.auto.buffer in
-    fill-outside g.R.Read.remaining d c.read_exact_keeping.new.self c.read_exact_keeping.new.buffer y
-    c.in_err-read_exact_keeping.field-0.0 (subst (λ o. IsUnreadBy g.R.Read.remaining d o y) c.requires u)
-    (omega (arith, there, same)) c.in_err-read_exact_keeping.ensures.taken c.in_err-read_exact_keeping.ensures.spent)
+    fill-outside g.A.Access.can_fail g.A.Access.remaining d c.read_exact_keeping.new.self
+    c.read_exact_keeping.new.buffer y
+    c.in_err-read_exact_keeping.field-0.0 (subst (λ o. IsUnreadBy g.A.Access.remaining d o y) c.requires u)
+    (omega (arith, there, same)) c.in_err-read_exact_keeping.ensures.taken c.in_err-read_exact_keeping.ensures.ended)
 
 pub returns-in_err-read_exact_keeping-clause-memory : goal.returns-in_err-read_exact_keeping-clause-memory
 returns-in_err-read_exact_keeping-clause-memory g c =
     let exit = err_from_is_err_and c.from_residual.result c.from_residual.ensures.1 in
     let taken = c.in_err-read_exact_keeping.ensures.taken in
-    rw (exit.1, exit.2) (granted-fill (g.R.Read.remaining c.read_exact_keeping.new.self.reader.now)
-    c.in_err-read_exact_keeping.field-0.0 taken.0 c.read_exact_keeping.new.buffer c.args.self.now.decoder.window.count
+    rw (exit.1, exit.2) (granted-fill
+    (left_at_failure g.A.Access.can_fail (g.A.Access.remaining c.read_exact_keeping.new.self.reader.now))
+    c.in_err-read_exact_keeping.field-0.0 taken.0 c.read_exact_keeping.new.buffer c.args.self.now.decoder.counter.count
     false taken.3)

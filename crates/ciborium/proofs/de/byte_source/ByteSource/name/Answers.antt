@@ -18,22 +18,23 @@ use Rattle.ciborium.proofs.de.byte_source.ByteSource.name.Goals as goal
 pub returns-in_err-header-clause-answer : goal.returns-in_err-header-clause-answer
 returns-in_err-header-clause-answer g c =
     let exit = err_from_is_err_and c.from_residual.result c.from_residual.ensures.1 in
-    rw (exit.1, exit.2) (head-denied g.R.Read.remaining c.args.self.now taken_name
-    (fault_at g.R.Read.remaining c.bare_head.new.self c.in_err-header.field-0.0) c.in_err-header.ensures.denied)
+    rw (exit.1, exit.2) (head-denied g.A.Access.remaining c.args.self.now taken_name
+    (fault_at g.A.Access.can_fail g.A.Access.remaining c.bare_head.new.self c.in_err-header.field-0.0)
+    c.in_err-header.ensures.denied)
 
 pub returns-in_err-name-in-Text-clause-answer : goal.returns-in_err-name-in-Text-clause-answer
 returns-in_err-name-in-Text-clause-answer g c =
     let exit = err_from_is_err_and c.from_residual-in_err-name-in-Text.result
     c.from_residual-in_err-name-in-Text.ensures.1 in
-    rw (exit.1, exit.2) (string-denied g.R.Read.remaining c.args.self.now taken_name c.bare_head.new.self
+    rw (exit.1, exit.2) (string-denied g.A.Access.remaining c.args.self.now taken_name c.bare_head.new.self
     c.in_ok-header.header c.in_ok-header.ensures.head of_text c.in-Text.len c.in-Text.is
-    c.in_ok-header.ensures.reads.only (fault_at g.R.Read.remaining c.text_content.new.self
+    c.in_ok-header.ensures.reads.only (fault_at g.A.Access.can_fail g.A.Access.remaining c.text_content.new.self
     c.in_err-name-in-Text.field-0.0) c.in_err-name-in-Text.ensures.denied)
 
 pub returns-in-Text-clause-answer : goal.returns-in-Text-clause-answer
 returns-in-Text-clause-answer g c =
     let payload = string_bytes c.in_ok-name-in-Text.name in
-    string-read g.R.Read.remaining c.args.self.now taken_name c.bare_head.new.self c.in_ok-header.header
+    string-read g.A.Access.remaining c.args.self.now taken_name c.bare_head.new.self c.in_ok-header.header
     c.in_ok-header.ensures.head of_text c.in-Text.len c.in-Text.is c.text_content.new.self payload payload
     c.in_ok-name-in-Text.ensures.ok (λ ts all. ap bare_name (untagged-under ts (string_item of_text c.in-Text.len
     payload)))
@@ -42,9 +43,9 @@ pub returns-in_err-bytes-in-Bytes-clause-answer : goal.returns-in_err-bytes-in-B
 returns-in_err-bytes-in-Bytes-clause-answer g c =
     let exit = err_from_is_err_and c.from_residual-in_err-bytes-in-Bytes.result
     c.from_residual-in_err-bytes-in-Bytes.ensures.1 in
-    rw (exit.1, exit.2) (string-denied g.R.Read.remaining c.args.self.now taken_name c.bare_head.new.self
+    rw (exit.1, exit.2) (string-denied g.A.Access.remaining c.args.self.now taken_name c.bare_head.new.self
     c.in_ok-header.header c.in_ok-header.ensures.head of_bytes c.in-Bytes.len c.in-Bytes.is
-    c.in_ok-header.ensures.reads.only (fault_at g.R.Read.remaining c.bytes_content.new.self
+    c.in_ok-header.ensures.reads.only (fault_at g.A.Access.can_fail g.A.Access.remaining c.bytes_content.new.self
     c.in_err-bytes-in-Bytes.field-0.0)
     c.in_err-bytes-in-Bytes.ensures.denied)
 
@@ -54,7 +55,7 @@ returns-in-Ok-clause-answer g c =
     let payload = c.in_ok-bytes-in-Bytes.bytes.items in
     let same : string_bytes c.in-Ok.name ≡ payload = ap (λ v. v.items) c.in-Ok.ensures.ok in
     let utf8 : IsUtf8 payload = subst IsUtf8 same (IsUtf8-string_bytes c.in-Ok.name) in
-    string-read g.R.Read.remaining c.args.self.now taken_name c.bare_head.new.self c.in_ok-header.header
+    string-read g.A.Access.remaining c.args.self.now taken_name c.bare_head.new.self c.in_ok-header.header
     c.in_ok-header.ensures.head of_bytes c.in-Bytes.len c.in-Bytes.is c.bytes_content.new.self payload (string_bytes
     c.in-Ok.name) c.in_ok-bytes-in-Bytes.ensures.ok (λ ts all. subst (λ b. taken_name l
     (Rattle.ciborium.specs.inner.Skips.under ts (string_item of_bytes c.in-Bytes.len payload)) ≡
@@ -62,14 +63,14 @@ returns-in-Ok-clause-answer g c =
 
 pub returns-in-Bytes-clause-answer : goal.returns-in-Bytes-clause-answer
 returns-in-Bytes-clause-answer g c =
-    bytes-no-name (IsUnread g.R.Read.remaining) (end_at g.R.Read.remaining) c.args.self.now c.bare_head.new.self
+    bytes-no-name (IsUnread g.A.Access.remaining) (end_at g.A.Access.remaining) c.args.self.now c.bare_head.new.self
     c.bytes_content.new.self c.in-Bytes.len (Some c.args.self.now.levels) c.in_ok-bytes-in-Bytes.bytes.items
     (λ u. let never = c.in-Err.ensures.succeeds u in cc)
-    (subst (TakesBare (IsUnread g.R.Read.remaining) c.args.self.now c.bare_head.new.self false) c.in-Bytes.is
+    (subst (TakesBare (IsUnread g.A.Access.remaining) c.args.self.now c.bare_head.new.self false) c.in-Bytes.is
     c.in_ok-header.ensures.head) c.in_ok-bytes-in-Bytes.ensures.ok
 
 pub returns-clause-answer : goal.returns-clause-answer
 returns-clause-answer g c =
-    other-denied g.R.Read.remaining c.args.self.now taken_name c.bare_head.new.self c.in_ok-header.header
+    other-denied g.A.Access.remaining c.args.self.now taken_name c.bare_head.new.self c.in_ok-header.header
     c.in_ok-header.ensures.head kinds.Name (name-other (Some c.args.self.now.levels) c.in_ok-header.header
     c.in_ok-header.ensures.reads.bare c.in_default.not-Text c.in_default.not-Bytes)

@@ -3,10 +3,10 @@ use Rattle.std.proofs.lemmas.Result.{err_from_is_err_and}
 use Rattle.ciborium.specs.inner.ByteSources.{IsUnreadBy, bytes_weight, weight_left, known_end}
 use Rattle.ciborium.specs.Errors.{fault_of}
 use Rattle.ciborium.proofs.Items.FrontReads.{ahead-unpushed, counted-pending, counted-pulled, fewer-bytes, head-outside}
-use Rattle.ciborium.proofs.Items.FrontReads.{granted-head, spent-fault, weighs-none}
+use Rattle.ciborium.proofs.Items.FrontReads.{ended-ll, failed-fault, granted-head, weighs-none}
+use Rattle.ciborium_ll.specs.Accesses.{left_at_failure}
 use Rattle.ciborium_ll.specs.Decoding.{left_of}
 use Rattle.ciborium.proofs.Items.TakenOnly.{takes-only}
-use Rattle.ciborium_ll.proofs.HeldBytes.{same-name}
 use Rattle.ciborium_value.specs.Sources.{IsOutsideFault}
 use Rattle.ciborium.specs.Errors.{from_ll}
 use Rattle.ciborium.proofs.de.byte_source.ByteSource.next_head.Goals as goal
@@ -18,63 +18,64 @@ returns-in_err-header-clause-denied g c =
     let e = c.pull_next_keeping.new.self in
     let error = c.in_err-header.field-0.0 in
     rw (exit.1, exit.2) (λ b x y h u s f there. subst (λ n. IsOutsideFault n
-    (fault_of (g.R.Read.remaining e.reader.now) (from_ll error)))
-    (sym (ap (λ o. known_end o d.window.count) (subst (λ o. IsUnreadBy g.R.Read.remaining d o b) c.in_default.is
+    (fault_of (left_at_failure g.A.Access.can_fail (g.A.Access.remaining e.reader.now)) (from_ll error)))
+    (sym (ap (λ o. known_end o d.counter.count) (subst (λ o. IsUnreadBy g.A.Access.remaining d o b) c.in_default.is
     u)))
-    (subst (IsOutsideFault (d.window.count + length b)) (spent-fault g.R.Read.remaining e error
-    c.in_err-header.ensures.spent)
-    (head-outside (left_of g.R.Read.remaining e) error b x y d.window.count h s f there
-    (c.in_err-header.ensures.ahead b d.window.count (ahead-unpushed g.R.Read.remaining d b c.args.self.now.unpushed
-    (subst (λ o. IsUnreadBy g.R.Read.remaining d o b) c.in_default.is u))))))
+    (subst (IsOutsideFault (d.counter.count + length b)) (failed-fault g.A.Access.can_fail
+    (left_of g.A.Access.remaining e) (from_ll error) (ended-ll g.A.Access.can_fail (left_of g.A.Access.remaining e)
+    error c.in_err-header.ensures.ended))
+    (head-outside (left_of g.A.Access.remaining e) error b x y d.counter.count h s f there
+    (c.in_err-header.ensures.ahead b d.counter.count (ahead-unpushed g.A.Access.remaining d b c.args.self.now.unpushed
+    (subst (λ o. IsUnreadBy g.A.Access.remaining d o b) c.in_default.is u))))))
 
 pub returns-in_err-header-clause-memory : goal.returns-in_err-header-clause-memory
 returns-in_err-header-clause-memory g c =
     let exit = err_from_is_err_and c.from_residual.result c.from_residual.ensures.1 in
     let taken = c.in_err-header.ensures.taken in
-    rw (exit.1, exit.2) (granted-head (g.R.Read.remaining c.pull_next_keeping.new.self.reader.now)
-    c.in_err-header.field-0.0 taken.0 c.args.self.now.decoder.window.count false taken.3)
+    rw (exit.1, exit.2) (granted-head
+    (left_at_failure g.A.Access.can_fail (g.A.Access.remaining c.pull_next_keeping.new.self.reader.now))
+    c.in_err-header.field-0.0 taken.0 c.args.self.now.decoder.counter.count false taken.3)
 
 pub returns-clause-fewer : goal.returns-clause-fewer
 returns-clause-fewer g c =
-    let fewer = fewer-bytes Unit g.R.Read.remaining c.args.self.now.decoder c.pull_next_keeping.new.self
+    let fewer = fewer-bytes Unit g.A.Access.remaining c.args.self.now.decoder c.pull_next_keeping.new.self
     c.in_ok-header.header c.in_ok-header.ensures.taken in
     let none : weight_left c.args.self.now ≡ bytes_weight c.args.self.now =
     weighs-none c.args.self.now c.in_default.is in
     omega (arith, fewer, none)
 
 pub returns-in-Some-clause-counted : goal.returns-in-Some-clause-counted
-returns-in-Some-clause-counted g c b x y u = counted-pending g.R.Read.remaining c.args.self.now.decoder
+returns-in-Some-clause-counted g c b x y u = counted-pending g.A.Access.remaining c.args.self.now.decoder
     c.args.self.now.pending (c.in-Some.header, c.in-Some.offset) b x y c.in-Some.is u
 
 pub returns-clause-counted : goal.returns-clause-counted
 returns-clause-counted g c b x y u =
     let d = c.args.self.now.decoder in
-    counted-pulled Unit (left_of g.R.Read.remaining c.pull_next_keeping.new.self) c.pull_next_keeping.new.self
-    c.in_ok-header.header d.window.count c.last_offset-offset.result c.pull_next_keeping.new.self.last b x y
+    counted-pulled Unit (left_of g.A.Access.remaining c.pull_next_keeping.new.self) c.pull_next_keeping.new.self
+    c.in_ok-header.header d.counter.count c.last_offset-offset.result c.pull_next_keeping.new.self.last b x y
     (c.last_offset-offset.ensures ∙ c.in_ok-header.ensures.last)
-    (c.in_ok-header.ensures.ahead b d.window.count (ahead-unpushed g.R.Read.remaining d b c.args.self.now.unpushed
-    (subst (λ o. IsUnreadBy g.R.Read.remaining d o b) c.in_default.is u)))
+    (c.in_ok-header.ensures.ahead b d.counter.count (ahead-unpushed g.A.Access.remaining d b c.args.self.now.unpushed
+    (subst (λ o. IsUnreadBy g.A.Access.remaining d o b) c.in_default.is u)))
 
 pub returns-clause-head : goal.returns-clause-head
 returns-clause-head g c b u =
     let d = c.args.self.now.decoder in
-    let (x, y, hd, usable, e, stood, counted, rest) = c.in_ok-header.ensures.ahead b d.window.count
-    (ahead-unpushed g.R.Read.remaining d b c.args.self.now.unpushed
-    (subst (λ o. IsUnreadBy g.R.Read.remaining d o b) c.in_default.is u)) in (
+    let (x, y, hd, usable, e, stood, counted, rest) = c.in_ok-header.ensures.ahead b d.counter.count
+    (ahead-unpushed g.A.Access.remaining d b c.args.self.now.unpushed
+    (subst (λ o. IsUnreadBy g.A.Access.remaining d o b) c.in_default.is u)) in (
       x,
       y,
       hd,
       e,
-      subst (λ o. IsUnreadBy g.R.Read.remaining c.pull_next_keeping.new.self o y) (sym c.in_default.is)
+      subst (λ o. IsUnreadBy g.A.Access.remaining c.pull_next_keeping.new.self o y) (sym c.in_default.is)
           rest,
     )
 
 pub returns-in_err-header-clause-only : goal.returns-in_err-header-clause-only
-returns-in_err-header-clause-only g c = takes-only g.R.Read.remaining c.args.self.now.decoder
-    c.pull_next_keeping.new.self _ (same-name c.args.self.now.decoder c.pull_next_keeping.new.self
-    c.in_err-header.ensures.same_reader) c.in_err-header.ensures.taken
+returns-in_err-header-clause-only g c = takes-only g.A.Access.remaining c.args.self.now.decoder
+    c.pull_next_keeping.new.self _ c.in_err-header.ensures.same_reader c.in_err-header.ensures.taken
 
 pub returns-clause-only : goal.returns-clause-only
-returns-clause-only g c = takes-only g.R.Read.remaining c.args.self.now.decoder c.pull_next_keeping.new.self _
-    (same-name c.args.self.now.decoder c.pull_next_keeping.new.self c.in_ok-header.ensures.same_reader)
+returns-clause-only g c = takes-only g.A.Access.remaining c.args.self.now.decoder c.pull_next_keeping.new.self _
+    c.in_ok-header.ensures.same_reader
     c.in_ok-header.ensures.taken

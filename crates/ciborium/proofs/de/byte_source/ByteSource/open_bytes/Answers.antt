@@ -6,8 +6,8 @@ use Rattle.ciborium.proofs.de.byte_source.ByteSource.open_bytes.Goals as goal
 
 pub returns-clause-ok : goal.returns-clause-ok
 returns-clause-ok g c =
-    subst (TakesContent (IsUnread g.R.Read.remaining c.args.self.now)
-    (IsUnread g.R.Read.remaining c.bytes_content.new.self) of_bytes c.args.len) (sym c.into_iter.ensures.rest)
+    subst (TakesContent (IsUnread g.A.Access.remaining c.args.self.now)
+    (IsUnread g.A.Access.remaining c.bytes_content.new.self) of_bytes c.args.len) (sym c.into_iter.ensures.rest)
     c.in_ok-bytes.ensures.ok
 
 pub returns-clause-fewer : goal.returns-clause-fewer

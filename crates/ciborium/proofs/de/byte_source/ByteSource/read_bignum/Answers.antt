@@ -14,25 +14,26 @@ use Rattle.ciborium.proofs.de.byte_source.ByteSource.read_bignum.Goals as goal
 pub returns-in_err-header-clause-answer : goal.returns-in_err-header-clause-answer
 returns-in_err-header-clause-answer g c =
     let exit = err_from_is_err_and c.from_residual.result c.from_residual.ensures.1 in
-    rw (exit.1, exit.2) (bignum-no-head (IsUnread g.R.Read.remaining) (end_at g.R.Read.remaining) c.args.self.now
-    c.next_head.new.self (fault_at g.R.Read.remaining c.next_head.new.self c.in_err-header.field-0.0)
+    rw (exit.1, exit.2) (bignum-no-head (IsUnread g.A.Access.remaining) (end_at g.A.Access.remaining) c.args.self.now
+    c.next_head.new.self (fault_at g.A.Access.can_fail g.A.Access.remaining c.next_head.new.self
+    c.in_err-header.field-0.0)
     c.in_err-header.ensures.denied)
 
 pub returns-in_err-number-in-Bytes-clause-answer : goal.returns-in_err-number-in-Bytes-clause-answer
 returns-in_err-number-in-Bytes-clause-answer g c =
     let exit = err_from_is_err_and c.from_residual-in_err-number-in-Bytes.result
     c.from_residual-in_err-number-in-Bytes.ensures.1 in
-    rw (exit.1, exit.2) (bignum-content (IsUnread g.R.Read.remaining) (end_at g.R.Read.remaining) c.args.self.now
-    c.next_head.new.self c.in-Bytes.len (fault_at g.R.Read.remaining c.read_number.new.self
+    rw (exit.1, exit.2) (bignum-content (IsUnread g.A.Access.remaining) (end_at g.A.Access.remaining) c.args.self.now
+    c.next_head.new.self c.in-Bytes.len (fault_at g.A.Access.can_fail g.A.Access.remaining c.read_number.new.self
     c.in_err-number-in-Bytes.field-0.0)
-    (same-end g.R.Read.remaining c.args.self.now c.next_head.new.self c.in_ok-header.ensures.only)
-    (subst (TakesHead (IsUnread g.R.Read.remaining) c.args.self.now c.next_head.new.self) c.in-Bytes.is
+    (same-end g.A.Access.remaining c.args.self.now c.next_head.new.self c.in_ok-header.ensures.only)
+    (subst (TakesHead (IsUnread g.A.Access.remaining) c.args.self.now c.next_head.new.self) c.in-Bytes.is
     c.in_ok-header.ensures.head) c.in_err-number-in-Bytes.ensures.denied)
 
 pub returns-in-Some-clause-answer : goal.returns-in-Some-clause-answer
 returns-in-Some-clause-answer g c =
-    let U = IsUnread g.R.Read.remaining in
-    bignum-reads U (end_at g.R.Read.remaining) c.args.self.now c.next_head.new.self c.read_number.new.self
+    let U = IsUnread g.A.Access.remaining in
+    bignum-reads U (end_at g.A.Access.remaining) c.args.self.now c.next_head.new.self c.read_number.new.self
     c.in-Bytes.len c.in-Some.n (subst (TakesHead U c.args.self.now c.next_head.new.self) c.in-Bytes.is
     c.in_ok-header.ensures.head)
     (subst (TakesNumber (U c.next_head.new.self) (U c.read_number.new.self) c.in-Bytes.len) c.in-Some.is
@@ -40,8 +41,8 @@ returns-in-Some-clause-answer g c =
 
 pub returns-in-None-clause-answer : goal.returns-in-None-clause-answer
 returns-in-None-clause-answer g c =
-    let U = IsUnread g.R.Read.remaining in
-    bignum-large U (end_at g.R.Read.remaining) c.args.self.now c.next_head.new.self (U c.read_number.new.self)
+    let U = IsUnread g.A.Access.remaining in
+    bignum-large U (end_at g.A.Access.remaining) c.args.self.now c.next_head.new.self (U c.read_number.new.self)
     c.in-Bytes.len (subst (TakesHead U c.args.self.now c.next_head.new.self) c.in-Bytes.is
     c.in_ok-header.ensures.head)
     (subst (TakesNumber (U c.next_head.new.self) (U c.read_number.new.self) c.in-Bytes.len) c.in-None.is
@@ -49,11 +50,11 @@ returns-in-None-clause-answer g c =
 
 pub returns-in-Break-clause-answer : goal.returns-in-Break-clause-answer
 returns-in-Break-clause-answer g c =
-    let U = IsUnread g.R.Read.remaining in
-    bignum-break U (end_at g.R.Read.remaining) c.args.self.now c.next_head.new.self (of_kind kinds.Break)
+    let U = IsUnread g.A.Access.remaining in
+    bignum-break U (end_at g.A.Access.remaining) c.args.self.now c.next_head.new.self (of_kind kinds.Break)
     (subst (TakesHead U c.args.self.now c.next_head.new.self) c.in-Break.is c.in_ok-header.ensures.head)
 
 pub returns-in_default-clause-answer : goal.returns-in_default-clause-answer
 returns-in_default-clause-answer g c =
-    bignum-other (IsUnread g.R.Read.remaining) (end_at g.R.Read.remaining) c.args.self.now c.next_head.new.self
+    bignum-other (IsUnread g.A.Access.remaining) (end_at g.A.Access.remaining) c.args.self.now c.next_head.new.self
     c.in_ok-header.header c.in_ok-header.ensures.head c.in_default.not-Bytes

@@ -9,10 +9,10 @@ use Rattle.ciborium.proofs.de.byte_source.ByteSource.read_byte_items.Given as go
 abbrev pub invariant-items : goal.invariant-items
 invariant-items g l = record {
   same_reader : HasSameReader l.fn.self.decoder l.self.decoder;
-  only : TakesOnly (HasTaken g.R.Read.remaining) l.fn.self.decoder l.self.decoder;
+  only : TakesOnly (HasTaken g.A.Access.remaining) l.fn.self.decoder l.self.decoder;
   fewer : weight_left l.self + seq_left l.left ≤ weight_left l.fn.self + seq_left l.fn.seq;
-  read : ReadsPartly g.R.Read.remaining taken_byte l.fn.self l.fn.seq l.self l.left l.bytes.items;
-  owes : OwesPartly g.R.Read.remaining l.fn.self l.fn.seq l.self l.left;
+  read : ReadsPartly g.A.Access.remaining taken_byte l.fn.self l.fn.seq l.self l.left l.bytes.items;
+  owes : OwesPartly g.A.Access.remaining l.fn.self l.fn.seq l.self l.left;
 }
 
 abbrev pub decreases-items : goal.decreases-items

@@ -1,9 +1,9 @@
 use Rattle.std.proofs.Common.{sym, ap, ◌∙◌, subst, arith, length, length-append, ◌+◌, ◌≡◌, false}
+use Rattle.ciborium_ll.specs.Accesses.{left_at_failure}
 use Rattle.ciborium.specs.inner.ByteSources.{IsUnreadBy}
 use Rattle.ciborium.specs.Errors.{fault_of}
 use Rattle.ciborium.proofs.Items.FrontReads.{granted-fill}
 use Rattle.ciborium.proofs.Payloads.ReadDigits.{digit-more, fill-fewer, fill-outside}
-use Rattle.ciborium_ll.proofs.HeldBytes.{same-name}
 use Rattle.ciborium.proofs.Items.TakenOnly.{takes-only, same-end}
 use Rattle.std.proofs.lemmas.Result.{err_from_is_err_and}
 use Rattle.ciborium.specs.Errors.{from_ll}
@@ -16,10 +16,10 @@ loop-left-preserved g c =
     let e = c.read_exact_keeping.new.self in
     let none = c.loop-left.invariant.pending in
     let buffer = c.read_exact_keeping.new.buffer in
-    let fewer = fill-fewer Unit g.R.Read.remaining d e buffer c.in_ok-read_exact_keeping.ensures.taken in record {
+    let fewer = fill-fewer Unit g.A.Access.remaining d e buffer c.in_ok-read_exact_keeping.ensures.taken in record {
       same_reader = c.in_ok-read_exact_keeping.ensures.same_reader ∙ c.loop-left.invariant.same_reader;
-      only = λ first h. takes-only g.R.Read.remaining d e _
-          (same-name d e c.in_ok-read_exact_keeping.ensures.same_reader) c.in_ok-read_exact_keeping.ensures.taken first
+      only = λ first h. takes-only g.A.Access.remaining d e _
+          c.in_ok-read_exact_keeping.ensures.same_reader c.in_ok-read_exact_keeping.ensures.taken first
           (c.loop-left.invariant.only first h);
       levels = c.loop-left.invariant.levels;
       pending = none;
@@ -27,17 +27,17 @@ loop-left-preserved g c =
       took = λ y u.
           let (t, z, len, bytes, val, split, un) = c.loop-left.invariant.took y u in
           let (t', z', len', bytes', val', split', left') =
-          digit-more Unit g.R.Read.remaining d e buffer c.only_byte.result c.loop-left.left c.args.len c.args.start
+          digit-more Unit g.A.Access.remaining d e buffer c.only_byte.result c.loop-left.left c.args.len c.args.start
           c.loop-left.number c.with_digit-number.result y c.only_byte.ensures c.loop-left-test.true
           c.with_digit-number.ensures c.in_ok-read_exact_keeping.ensures.taken
-          (t, z, len, bytes, val, split, subst (λ o. IsUnreadBy g.R.Read.remaining d o z) none un) in
-          (t', z', len', bytes', val', split', subst (λ o. IsUnreadBy g.R.Read.remaining e o z') (sym none) left');
+          (t, z, len, bytes, val, split, subst (λ o. IsUnreadBy g.A.Access.remaining d o z) none un) in
+          (t', z', len', bytes', val', split', subst (λ o. IsUnreadBy g.A.Access.remaining e o z') (sym none) left');
     }
 
 pub returns-in_err-read_exact_keeping-clause-only : goal.returns-in_err-read_exact_keeping-clause-only
 returns-in_err-read_exact_keeping-clause-only g c first h =
-    takes-only g.R.Read.remaining c.loop-left.self.decoder c.read_exact_keeping.new.self _
-    (same-name c.loop-left.self.decoder c.read_exact_keeping.new.self c.in_err-read_exact_keeping.ensures.same_reader)
+    takes-only g.A.Access.remaining c.loop-left.self.decoder c.read_exact_keeping.new.self _
+    c.in_err-read_exact_keeping.ensures.same_reader
     c.in_err-read_exact_keeping.ensures.taken first (c.loop-left.invariant.only first h)
 
 pub returns-in_err-read_exact_keeping-clause-outside : goal.returns-in_err-read_exact_keeping-clause-outside
@@ -48,19 +48,22 @@ returns-in_err-read_exact_keeping-clause-outside g c =
     let (t, z, len, bytes, val, split, un) = c.loop-left.invariant.took y u in
     let more : length y ≡ length t + length z = ap length split ∙ length-append t z in
     let one = c.read_exact_keeping.auto.buffer in
-    subst (λ n. IsOutsideFault n (fault_of (g.R.Read.remaining c.read_exact_keeping.new.self.reader.now)
+    subst (λ n. IsOutsideFault n (fault_of
+    (left_at_failure g.A.Access.can_fail (g.A.Access.remaining c.read_exact_keeping.new.self.reader.now))
     (from_ll c.in_err-read_exact_keeping.field-0.0)))
-    (same-end g.R.Read.remaining c.args.self.now c.loop-left.self c.loop-left.invariant.only y u)
-    (fill-outside g.R.Read.remaining d c.read_exact_keeping.new.self c.read_exact_keeping.new.buffer z
-    c.in_err-read_exact_keeping.field-0.0 (subst (λ o. IsUnreadBy g.R.Read.remaining d o z)
+    (same-end g.A.Access.remaining c.args.self.now c.loop-left.self c.loop-left.invariant.only y u)
+    (fill-outside g.A.Access.can_fail g.A.Access.remaining d c.read_exact_keeping.new.self
+    c.read_exact_keeping.new.buffer z
+    c.in_err-read_exact_keeping.field-0.0 (subst (λ o. IsUnreadBy g.A.Access.remaining d o z)
     c.loop-left.invariant.pending un)
     (omega (arith, there, more, len, one, c.loop-left-test.true)) c.in_err-read_exact_keeping.ensures.taken
-    c.in_err-read_exact_keeping.ensures.spent))
+    c.in_err-read_exact_keeping.ensures.ended))
 
 pub returns-in_err-read_exact_keeping-clause-memory : goal.returns-in_err-read_exact_keeping-clause-memory
 returns-in_err-read_exact_keeping-clause-memory g c =
     let exit = err_from_is_err_and c.from_residual.result c.from_residual.ensures.1 in
     let taken = c.in_err-read_exact_keeping.ensures.taken in
-    rw (exit.1, exit.2) (granted-fill (g.R.Read.remaining c.read_exact_keeping.new.self.reader.now)
-    c.in_err-read_exact_keeping.field-0.0 taken.0 c.read_exact_keeping.new.buffer c.loop-left.self.decoder.window.count
+    rw (exit.1, exit.2) (granted-fill
+    (left_at_failure g.A.Access.can_fail (g.A.Access.remaining c.read_exact_keeping.new.self.reader.now))
+    c.in_err-read_exact_keeping.field-0.0 taken.0 c.read_exact_keeping.new.buffer c.loop-left.self.decoder.counter.count
     false taken.3)

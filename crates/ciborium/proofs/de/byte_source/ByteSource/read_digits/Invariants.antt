@@ -9,13 +9,13 @@ use Rattle.ciborium.proofs.de.byte_source.ByteSource.read_digits.Given as goal
 abbrev pub invariant-loop-left : goal.invariant-loop-left
 invariant-loop-left g l = record {
   same_reader : HasSameReader l.fn.self.decoder l.self.decoder;
-  only : TakesOnly (HasTaken g.R.Read.remaining) l.fn.self.decoder l.self.decoder;
+  only : TakesOnly (HasTaken g.A.Access.remaining) l.fn.self.decoder l.self.decoder;
   levels : l.self.levels ≡ l.fn.self.levels;
   pending : l.self.pending ≡ None;
   fewer : bytes_weight l.self ≤ bytes_weight l.fn.self;
-  took : (y : List ℕ) → IsUnread g.R.Read.remaining l.fn.self y → (c : List ℕ) × (z : List ℕ) ×
+  took : (y : List ℕ) → IsUnread g.A.Access.remaining l.fn.self y → (c : List ℕ) × (z : List ℕ) ×
       (length c + l.left ≡ l.len) × AreBytes c × (l.number ≡ digits_of l.fn.start c) × (y ≡ c ++ z) ×
-      IsUnread g.R.Read.remaining l.self z;
+      IsUnread g.A.Access.remaining l.self z;
 }
 
 abbrev pub decreases-loop-left : goal.decreases-loop-left

@@ -19,8 +19,9 @@ use Rattle.ciborium.proofs.de.byte_source.ByteSource.read_integer.Goals as goal
 pub returns-in_err-header-clause-answer : goal.returns-in_err-header-clause-answer
 returns-in_err-header-clause-answer g c =
     let exit = err_from_is_err_and c.from_residual.result c.from_residual.ensures.1 in
-    rw (exit.1, exit.2) (head-denied g.R.Read.remaining c.args.self.now taken_integer
-    (fault_at g.R.Read.remaining c.bare_head.new.self c.in_err-header.field-0.0) c.in_err-header.ensures.denied)
+    rw (exit.1, exit.2) (head-denied g.A.Access.remaining c.args.self.now taken_integer
+    (fault_at g.A.Access.can_fail g.A.Access.remaining c.bare_head.new.self c.in_err-header.field-0.0)
+    c.in_err-header.ensures.denied)
 
 either-sign : (h : Header) (n : ℕ) (P : Type 0) → (h ≡ header.Positive n) ⊎ (h ≡ header.Negative n) →
     (h ≡ header.Positive n → P) → (h ≡ header.Negative n → P) → P
@@ -29,7 +30,7 @@ either-sign h n P (inr is) positive below = below is
 
 pub returns-in-Positive-clause-answer : goal.returns-in-Positive-clause-answer
 returns-in-Positive-clause-answer g c =
-    let U = IsUnread g.R.Read.remaining in
+    let U = IsUnread g.A.Access.remaining in
     let l = Some c.args.self.now.levels in
     let n = c.in-Positive.n in
     let v : Bool × ℕ = (c.is_negative-negative.result, c.from.result) in
@@ -50,13 +51,13 @@ returns-in_ok-number-in-Tag-clause-answer g c =
     let t = c.in-Tag.tag in
     let bare : IsBare true (header.Tag t) = subst (IsBare true) c.in-Tag.is c.in_ok-header.ensures.reads.bare in
     let v = c.in_ok-number-in-Tag.number.0 in
-    subst (λ negative. Reads (IsUnread g.R.Read.remaining) c.args.self.now c.read_tagged.new.self l taken_integer
+    subst (λ negative. Reads (IsUnread g.A.Access.remaining) c.args.self.now c.read_tagged.new.self l taken_integer
     (negative, v.1)) (sym c.in_ok-number-in-Tag.ensures.sign)
-    (reads-bare (IsUnread g.R.Read.remaining) true (header.Tag t) l taken_integer c.args.self.now c.bare_head.new.self
+    (reads-bare (IsUnread g.A.Access.remaining) true (header.Tag t) l taken_integer c.args.self.now c.bare_head.new.self
     c.read_tagged.new.self (t == 3, v.1)
-    (subst (TakesBare (IsUnread g.R.Read.remaining) c.args.self.now c.bare_head.new.self true) c.in-Tag.is
+    (subst (TakesBare (IsUnread g.A.Access.remaining) c.args.self.now c.bare_head.new.self true) c.in-Tag.is
     c.in_ok-header.ensures.head)
-    (bignum-behind (IsUnread g.R.Read.remaining) t l bare.1 c.bare_head.new.self c.read_tagged.new.self v.1
+    (bignum-behind (IsUnread g.A.Access.remaining) t l bare.1 c.bare_head.new.self c.read_tagged.new.self v.1
     c.in_ok-number-in-Tag.ensures.answer))
 
 pub returns-in_err-number-in-Tag-clause-answer : goal.returns-in_err-number-in-Tag-clause-answer
@@ -66,16 +67,16 @@ returns-in_err-number-in-Tag-clause-answer g c =
     let exit = err_from_is_err_and c.from_residual-in_err-number-in-Tag.result
     c.from_residual-in_err-number-in-Tag.ensures.1 in
     let bare : IsBare true (header.Tag t) = subst (IsBare true) c.in-Tag.is c.in_ok-header.ensures.reads.bare in
-    rw (exit.1, exit.2) (bignum-denied (IsUnread g.R.Read.remaining) t l bare.1 (end_at g.R.Read.remaining)
-    c.args.self.now c.bare_head.new.self (fault_at g.R.Read.remaining c.read_tagged.new.self
+    rw (exit.1, exit.2) (bignum-denied (IsUnread g.A.Access.remaining) t l bare.1 (end_at g.A.Access.remaining)
+    c.args.self.now c.bare_head.new.self (fault_at g.A.Access.can_fail g.A.Access.remaining c.read_tagged.new.self
     c.in_err-number-in-Tag.field-0.0)
-    (same-end g.R.Read.remaining c.args.self.now c.bare_head.new.self c.in_ok-header.ensures.reads.only)
-    (subst (TakesBare (IsUnread g.R.Read.remaining) c.args.self.now c.bare_head.new.self true) c.in-Tag.is
+    (same-end g.A.Access.remaining c.args.self.now c.bare_head.new.self c.in_ok-header.ensures.reads.only)
+    (subst (TakesBare (IsUnread g.A.Access.remaining) c.args.self.now c.bare_head.new.self true) c.in-Tag.is
     c.in_ok-header.ensures.head) c.in_err-number-in-Tag.ensures.answer)
 
 pub returns-in_default-clause-answer : goal.returns-in_default-clause-answer
 returns-in_default-clause-answer g c =
     let l = Some c.args.self.now.levels in
-    denies-bare (IsUnread g.R.Read.remaining) true c.in_ok-header.header l taken_integer (end_at g.R.Read.remaining)
+    denies-bare (IsUnread g.A.Access.remaining) true c.in_ok-header.header l taken_integer (end_at g.A.Access.remaining)
     c.args.self.now c.bare_head.new.self (of_kind kinds.Integer) c.in_ok-header.ensures.head
     (integer-other l c.in_ok-header.header c.in_default.not-Positive c.in_default.not-Negative c.in_default.not-Tag)

@@ -17,26 +17,27 @@ pub returns-in_err-header-in-None-clause-denied : goal.returns-in_err-header-in-
 returns-in_err-header-in-None-clause-denied g c =
     let exit = err_from_is_err_and c.from_residual-in_err-header-in-None.result
     c.from_residual-in_err-header-in-None.ensures.1 in
-    let P = IsUnread g.R.Read.remaining c.args.self.now in
-    let fault = fault_at g.R.Read.remaining c.next_head.new.self c.in_err-header-in-None.field-0.0 in
-    rw (exit.1, exit.2) (subst (λ l. DeniesContent P (end_at g.R.Read.remaining c.args.self.now) of_bytes l fault)
-    (sym c.in-None.is) (parts-no-head P (IsUnread g.R.Read.remaining c.parts.self) c.parts.number
-    c.parts.invariant.took (end_at g.R.Read.remaining c.parts.self) (end_at g.R.Read.remaining c.args.self.now)
-    fault (same-end g.R.Read.remaining c.args.self.now c.parts.self c.parts.invariant.only)
+    let P = IsUnread g.A.Access.remaining c.args.self.now in
+    let fault = fault_at g.A.Access.can_fail g.A.Access.remaining c.next_head.new.self c.in_err-header-in-None.field-0.0
+    in
+    rw (exit.1, exit.2) (subst (λ l. DeniesContent P (end_at g.A.Access.remaining c.args.self.now) of_bytes l fault)
+    (sym c.in-None.is) (parts-no-head P (IsUnread g.A.Access.remaining c.parts.self) c.parts.number
+    c.parts.invariant.took (end_at g.A.Access.remaining c.parts.self) (end_at g.A.Access.remaining c.args.self.now)
+    fault (same-end g.A.Access.remaining c.args.self.now c.parts.self c.parts.invariant.only)
     c.in_err-header-in-None.ensures.denied))
 
 pub returns-in-Break-clause-ok : goal.returns-in-Break-clause-ok
 returns-in-Break-clause-ok g c =
-    let P = IsUnread g.R.Read.remaining c.args.self.now in
-    let Q = IsUnread g.R.Read.remaining c.next_head.new.self in
+    let P = IsUnread g.A.Access.remaining c.args.self.now in
+    let Q = IsUnread g.A.Access.remaining c.next_head.new.self in
     subst (λ l. TakesNumber P Q l c.parts.number) (sym c.in-None.is)
-    (parts-end P (IsUnread g.R.Read.remaining c.parts.self) Q c.parts.number c.parts.invariant.took
-    (subst (TakesHead (IsUnread g.R.Read.remaining) c.parts.self c.next_head.new.self) c.in-Break.is
+    (parts-end P (IsUnread g.A.Access.remaining c.parts.self) Q c.parts.number c.parts.invariant.took
+    (subst (TakesHead (IsUnread g.A.Access.remaining) c.parts.self c.next_head.new.self) c.in-Break.is
     c.in_ok-header-in-None.ensures.head))
 
 pub parts-preserved : goal.parts-preserved
 parts-preserved g c =
-    let U = IsUnread g.R.Read.remaining in
+    let U = IsUnread g.A.Access.remaining in
     let none = weighs-none c.parts.self c.parts.invariant.pending in record {
       same_reader = c.in_ok-number-in-Some-part.ensures.same_reader ∙ c.in_ok-header-in-None.ensures.same_reader ∙
           c.parts.invariant.same_reader;
@@ -61,22 +62,22 @@ parts-preserved g c =
 
 pub returns-in-None-part-clause-denied : goal.returns-in-None-part-clause-denied
 returns-in-None-part-clause-denied g c =
-    let P = IsUnread g.R.Read.remaining c.args.self.now in
+    let P = IsUnread g.A.Access.remaining c.args.self.now in
     let h = c.in_ok-header-in-None.header in
-    subst (λ l. DeniesContent P (end_at g.R.Read.remaining c.args.self.now) of_bytes l of_syntax) (sym c.in-None.is)
-    (parts-other P (IsUnread g.R.Read.remaining c.parts.self) c.parts.number c.parts.invariant.took
-    (end_at g.R.Read.remaining c.args.self.now) of_syntax h
+    subst (λ l. DeniesContent P (end_at g.A.Access.remaining c.args.self.now) of_bytes l of_syntax) (sym c.in-None.is)
+    (parts-other P (IsUnread g.A.Access.remaining c.parts.self) c.parts.number c.parts.invariant.took
+    (end_at g.A.Access.remaining c.args.self.now) of_syntax h
     (λ y u. let (x, r, hd, e, un) = c.in_ok-header-in-None.ensures.head y u in (x, r, hd, e))
     (no-break h (c.in-Bytes.is ∙ ap header.Bytes c.in-None-part.is))
     (no-definite h (c.in-Bytes.is ∙ ap header.Bytes c.in-None-part.is)))
 
 pub returns-in_default-clause-denied : goal.returns-in_default-clause-denied
 returns-in_default-clause-denied g c =
-    let P = IsUnread g.R.Read.remaining c.args.self.now in
+    let P = IsUnread g.A.Access.remaining c.args.self.now in
     let h = c.in_ok-header-in-None.header in
-    subst (λ l. DeniesContent P (end_at g.R.Read.remaining c.args.self.now) of_bytes l of_syntax) (sym c.in-None.is)
-    (parts-other P (IsUnread g.R.Read.remaining c.parts.self) c.parts.number c.parts.invariant.took
-    (end_at g.R.Read.remaining c.args.self.now) of_syntax h
+    subst (λ l. DeniesContent P (end_at g.A.Access.remaining c.args.self.now) of_bytes l of_syntax) (sym c.in-None.is)
+    (parts-other P (IsUnread g.A.Access.remaining c.parts.self) c.parts.number c.parts.invariant.took
+    (end_at g.A.Access.remaining c.args.self.now) of_syntax h
     (λ y u. let (x, r, hd, e, un) = c.in_ok-header-in-None.ensures.head y u in (x, r, hd, e)) c.in_default.not-Break
     (λ n. c.in_default.not-Bytes (Some n)))
 
@@ -84,15 +85,16 @@ pub returns-in_err-number-in-Some-part-clause-denied : goal.returns-in_err-numbe
 returns-in_err-number-in-Some-part-clause-denied g c =
     let exit = err_from_is_err_and c.from_residual-in_err-number-in-Some-part.result
     c.from_residual-in_err-number-in-Some-part.ensures.1 in
-    let U = IsUnread g.R.Read.remaining in
+    let U = IsUnread g.A.Access.remaining in
     let fault =
-    fault_at g.R.Read.remaining c.read_digits-in-Some-part.new.self c.in_err-number-in-Some-part.field-0.0 in
+    fault_at g.A.Access.can_fail g.A.Access.remaining c.read_digits-in-Some-part.new.self
+    c.in_err-number-in-Some-part.field-0.0 in
     let mid = c.next_head.new.self in
-    rw (exit.1, exit.2) (subst (λ l. DeniesContent (U c.args.self.now) (end_at g.R.Read.remaining c.args.self.now)
+    rw (exit.1, exit.2) (subst (λ l. DeniesContent (U c.args.self.now) (end_at g.A.Access.remaining c.args.self.now)
     of_bytes l fault) (sym c.in-None.is)
     (parts-cut (U c.args.self.now) (U c.parts.self) c.parts.number c.parts.invariant.took (U mid)
-    (end_at g.R.Read.remaining mid) (end_at g.R.Read.remaining c.args.self.now) c.in-Some-part.n fault
-    (same-end g.R.Read.remaining c.args.self.now mid (λ first h. c.in_ok-header-in-None.ensures.only first
+    (end_at g.A.Access.remaining mid) (end_at g.A.Access.remaining c.args.self.now) c.in-Some-part.n fault
+    (same-end g.A.Access.remaining c.args.self.now mid (λ first h. c.in_ok-header-in-None.ensures.only first
     (c.parts.invariant.only first h)))
     (subst (TakesHead U c.parts.self mid) (c.in-Bytes.is ∙ ap header.Bytes c.in-Some-part.is)
     c.in_ok-header-in-None.ensures.head) c.in_err-number-in-Some-part.ensures.outside))

@@ -13,13 +13,14 @@ use Rattle.ciborium.proofs.de.byte_source.ByteSource.text.Goals as goal
 pub returns-in_err-header-clause-answer : goal.returns-in_err-header-clause-answer
 returns-in_err-header-clause-answer g c =
     let exit = err_from_is_err_and c.from_residual.result c.from_residual.ensures.1 in
-    rw (exit.1, exit.2) (head-denied g.R.Read.remaining c.args.self.now taken_text
-    (fault_at g.R.Read.remaining c.bare_head.new.self c.in_err-header.field-0.0) c.in_err-header.ensures.denied)
+    rw (exit.1, exit.2) (head-denied g.A.Access.remaining c.args.self.now taken_text
+    (fault_at g.A.Access.can_fail g.A.Access.remaining c.bare_head.new.self c.in_err-header.field-0.0)
+    c.in_err-header.ensures.denied)
 
 pub returns-in_ok-text-in-Text-clause-answer : goal.returns-in_ok-text-in-Text-clause-answer
 returns-in_ok-text-in-Text-clause-answer g c =
     let payload = string_bytes c.in_ok-text-in-Text.text in
-    string-read g.R.Read.remaining c.args.self.now taken_text c.bare_head.new.self c.in_ok-header.header
+    string-read g.A.Access.remaining c.args.self.now taken_text c.bare_head.new.self c.in_ok-header.header
     c.in_ok-header.ensures.head of_text c.in-Text.len c.in-Text.is c.text_content.new.self payload payload
     c.in_ok-text-in-Text.ensures.ok (λ ts all. ap bare_text (untagged-under ts (string_item of_text c.in-Text.len
     payload)))
@@ -28,13 +29,13 @@ pub returns-in_err-text-in-Text-clause-answer : goal.returns-in_err-text-in-Text
 returns-in_err-text-in-Text-clause-answer g c =
     let exit = err_from_is_err_and c.from_residual-in_err-text-in-Text.result
     c.from_residual-in_err-text-in-Text.ensures.1 in
-    rw (exit.1, exit.2) (string-denied g.R.Read.remaining c.args.self.now taken_text c.bare_head.new.self
+    rw (exit.1, exit.2) (string-denied g.A.Access.remaining c.args.self.now taken_text c.bare_head.new.self
     c.in_ok-header.header c.in_ok-header.ensures.head of_text c.in-Text.len c.in-Text.is
-    c.in_ok-header.ensures.reads.only (fault_at g.R.Read.remaining c.text_content.new.self
+    c.in_ok-header.ensures.reads.only (fault_at g.A.Access.can_fail g.A.Access.remaining c.text_content.new.self
     c.in_err-text-in-Text.field-0.0) c.in_err-text-in-Text.ensures.denied)
 
 pub returns-in_default-clause-answer : goal.returns-in_default-clause-answer
 returns-in_default-clause-answer g c =
-    other-denied g.R.Read.remaining c.args.self.now taken_text c.bare_head.new.self c.in_ok-header.header
+    other-denied g.A.Access.remaining c.args.self.now taken_text c.bare_head.new.self c.in_ok-header.header
     c.in_ok-header.ensures.head kinds.Text (text-other (Some c.args.self.now.levels) c.in_ok-header.header
     c.in_ok-header.ensures.reads.bare c.in_default.not-Text)

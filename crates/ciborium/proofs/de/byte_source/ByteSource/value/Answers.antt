@@ -1,12 +1,13 @@
-use Rattle.std.proofs.Common.{◌≡◌, ◌+◌, length, None, Some, Ok, Err, refl, sym, ◌∙◌, subst}
+use Rattle.std.proofs.Common.{◌+◌, length, None, Some, Ok, Err, refl, sym, ◌∙◌, subst}
 use Rattle.std.proofs.lemmas.Result.{err_from_is_err_and}
+use Rattle.ciborium_ll.specs.Accesses.{left_at_failure}
 use Rattle.ciborium_ll.specs.Decoding.{next_offset, left_of}
 use Rattle.ciborium_value.specs.View.{tree_of}
 use Rattle.ciborium.specs.inner.ByteSources.{IsUnreadBy}
 use Rattle.ciborium.specs.Errors.{fault_of}
-use Rattle.ciborium_ll.proofs.HeldBytes.{same-name, unread-count, unread-left, unread-none}
+use Rattle.ciborium_ll.proofs.Decoders.{unread-count, unread-left}
 use Rattle.ciborium.proofs.Items.TakenOnly.{takes-none, takes-only}
-use Rattle.ciborium.proofs.Readers.WhateverFollows.{leaves-name}
+use Rattle.ciborium.proofs.Items.FrontReads.{failed-fault}
 use Rattle.ciborium.proofs.Items.WholeValues.{ahead-by, known-read, portable-ahead, portable-reads, pushed-ahead}
 use Rattle.ciborium.proofs.Items.WholeValues.{whole-faults, whole-reads, whole-end}
 use Rattle.ciborium_value.specs.Sources.{IsFaultOf}
@@ -16,10 +17,10 @@ use Rattle.ciborium.proofs.de.byte_source.ByteSource.value.Goals as goal
 pub returns-in-Some-portable_value-clause-answer : goal.returns-in-Some-portable_value-clause-answer
 returns-in-Some-portable_value-clause-answer g c b u =
     let d = c.args.self.now.decoder in
-    let (i, s, z, sp, e, give, left) = portable-reads g.R.Read.remaining d c.args.self.now.pending c.in-Some.header
+    let (i, s, z, sp, e, give, left) = portable-reads g.A.Access.remaining d c.args.self.now.pending c.in-Some.header
     c.in-Some.offset b (tree_of c.in-Some-portable_value.value) (Some c.args.self.now.levels)
     (sym c.take.ensures.value ∙ c.in-Some.is) c.in-Some-portable_value.ensures u in
-    (i, s, z, sp, e, give, subst (λ o. IsUnreadBy g.R.Read.remaining d o z) (sym c.take.ensures.after) left)
+    (i, s, z, sp, e, give, subst (λ o. IsUnreadBy g.A.Access.remaining d o z) (sym c.take.ensures.after) left)
 
 pub returns-in_ok-value-in-None-portable_value-clause-answer :
     goal.returns-in_ok-value-in-None-portable_value-clause-answer
@@ -29,14 +30,14 @@ returns-in_ok-value-in-None-portable_value-clause-answer g c b u =
     let pending = Some (c.in-Some.header, c.in-Some.offset) in
     let value = c.in_ok-value-in-None-portable_value.value in
     let done = c.in_ok-value-in-None-portable_value.ensures in
-    let ahead = ahead-by g.R.Read.remaining d c.push.new.self pending b c.in-None-portable_value.ensures
-    c.push.ensures.pushed c.push.ensures.unread (subst (λ o. IsUnreadBy g.R.Read.remaining d o b)
+    let ahead = ahead-by g.A.Access.remaining d c.push.new.self pending b c.in-None-portable_value.ensures
+    c.push.ensures.pushed c.push.ensures.unread (subst (λ o. IsUnreadBy g.A.Access.remaining d o b)
     (sym c.take.ensures.value ∙ c.in-Some.is) u) in
-    let (i, s, z, sp, e, give, left) = whole-reads Unit g.R.Read.remaining f c.args.self.now.levels
-    (next_offset d.window.count pending) b value done.rests
-    (known-read g.R.Read.remaining Unit c.push.new.self f c.args.self.now.levels (Ok value) done.value b
-    (next_offset d.window.count pending) ahead) in
-    (i, s, z, sp, e, give, subst (λ o. IsUnreadBy g.R.Read.remaining f o z) (sym c.take.ensures.after) left)
+    let (i, s, z, sp, e, give, left) = whole-reads Unit g.A.Access.remaining f c.args.self.now.levels
+    (next_offset d.counter.count pending) b value done.rests
+    (known-read g.A.Access.remaining Unit c.push.new.self f c.args.self.now.levels (Ok value) done.value b
+    (next_offset d.counter.count pending) ahead) in
+    (i, s, z, sp, e, give, subst (λ o. IsUnreadBy g.A.Access.remaining f o z) (sym c.take.ensures.after) left)
 
 pub returns-in_ok-value-in-None-clause-answer : goal.returns-in_ok-value-in-None-clause-answer
 returns-in_ok-value-in-None-clause-answer g c b u =
@@ -44,12 +45,12 @@ returns-in_ok-value-in-None-clause-answer g c b u =
     let f = c.read_value-in-None.new.decoder in
     let value = c.in_ok-value-in-None.value in
     let done = c.in_ok-value-in-None.ensures in
-    let ahead = ahead-by g.R.Read.remaining d d None b tt c.args.self.now.unpushed (refl, refl)
-    (subst (λ o. IsUnreadBy g.R.Read.remaining d o b) (sym c.take.ensures.value ∙ c.in-None.is) u) in
-    let (i, s, z, sp, e, give, left) = whole-reads Unit g.R.Read.remaining f c.args.self.now.levels d.window.count b
-    value done.rests (known-read g.R.Read.remaining Unit d f c.args.self.now.levels (Ok value) done.value b
-    d.window.count ahead) in
-    (i, s, z, sp, e, give, subst (λ o. IsUnreadBy g.R.Read.remaining f o z) (sym c.take.ensures.after) left)
+    let ahead = ahead-by g.A.Access.remaining d d None b tt c.args.self.now.unpushed (refl, refl)
+    (subst (λ o. IsUnreadBy g.A.Access.remaining d o b) (sym c.take.ensures.value ∙ c.in-None.is) u) in
+    let (i, s, z, sp, e, give, left) = whole-reads Unit g.A.Access.remaining f c.args.self.now.levels d.counter.count b
+    value done.rests (known-read g.A.Access.remaining Unit d f c.args.self.now.levels (Ok value) done.value b
+    d.counter.count ahead) in
+    (i, s, z, sp, e, give, subst (λ o. IsUnreadBy g.A.Access.remaining f o z) (sym c.take.ensures.after) left)
 
 pub returns-in_err-value-in-None-portable_value-clause-answer :
     goal.returns-in_err-value-in-None-portable_value-clause-answer
@@ -60,22 +61,22 @@ returns-in_err-value-in-None-portable_value-clause-answer g c =
     let pending = Some (c.in-Some.header, c.in-Some.offset) in
     let error = c.in_err-value-in-None-portable_value.field-0.0 in
     rw (exit.1, exit.2) (λ b s z i u sp e.
-    let ahead = ahead-by g.R.Read.remaining d c.push.new.self pending b c.in-None-portable_value.ensures
-    c.push.ensures.pushed c.push.ensures.unread (subst (λ o. IsUnreadBy g.R.Read.remaining d o b)
+    let ahead = ahead-by g.A.Access.remaining d c.push.new.self pending b c.in-None-portable_value.ensures
+    c.push.ensures.pushed c.push.ensures.unread (subst (λ o. IsUnreadBy g.A.Access.remaining d o b)
     (sym c.take.ensures.value ∙ c.in-Some.is) u) in
-    let held : left_of g.R.Read.remaining f ≡ g.R.Read.remaining f.reader.now =
-    unread-none (g.R.Read.remaining f.reader.now) f.window.lookahead f.window.count
-    c.in_err-value-in-None-portable_value.ensures.reader.1 in
-    subst (λ n. IsFaultOf n (fault_of (g.R.Read.remaining f.reader.now) error)
+    subst (λ n. IsFaultOf n (fault_of (left_at_failure g.A.Access.can_fail (g.A.Access.remaining f.reader.now)) error)
     (taken_value (Some c.args.self.now.levels) i))
-    (sym (whole-end g.R.Read.remaining d pending b c.in-None-portable_value.ensures
-    (subst (λ o. IsUnreadBy g.R.Read.remaining d o b) (sym c.take.ensures.value ∙ c.in-Some.is) u)))
-    (subst (λ o. IsFaultOf (next_offset d.window.count pending + length b) (fault_of o error)
-    (taken_value (Some c.args.self.now.levels) i)) held
-    (whole-faults (left_of g.R.Read.remaining f) error c.args.self.now.levels (next_offset d.window.count pending) b s z
+    (sym (whole-end g.A.Access.remaining d pending b c.in-None-portable_value.ensures
+    (subst (λ o. IsUnreadBy g.A.Access.remaining d o b) (sym c.take.ensures.value ∙ c.in-Some.is) u)))
+    (subst (λ o. IsFaultOf (next_offset d.counter.count pending + length b) o
+    (taken_value (Some c.args.self.now.levels) i)) (failed-fault g.A.Access.can_fail
+    (left_of g.A.Access.remaining f) error
+    c.in_err-value-in-None-portable_value.ensures.ended)
+    (whole-faults (left_of g.A.Access.remaining f) error c.args.self.now.levels
+    (next_offset d.counter.count pending) b s z
     i sp e
-    (known-read g.R.Read.remaining Unit c.push.new.self f c.args.self.now.levels (Err error)
-    c.in_err-value-in-None-portable_value.ensures.value b (next_offset d.window.count pending) ahead))))
+    (known-read g.A.Access.remaining Unit c.push.new.self f c.args.self.now.levels (Err error)
+    c.in_err-value-in-None-portable_value.ensures.value b (next_offset d.counter.count pending) ahead))))
 
 pub returns-in_err-value-in-None-clause-answer : goal.returns-in_err-value-in-None-clause-answer
 returns-in_err-value-in-None-clause-answer g c =
@@ -85,25 +86,25 @@ returns-in_err-value-in-None-clause-answer g c =
     let f = c.read_value-in-None.new.decoder in
     let error = c.in_err-value-in-None.field-0.0 in
     rw (exit.1, exit.2) (λ b s z i u sp e.
-    let ahead = ahead-by g.R.Read.remaining d d None b tt c.args.self.now.unpushed (refl, refl)
-    (subst (λ o. IsUnreadBy g.R.Read.remaining d o b) (sym c.take.ensures.value ∙ c.in-None.is) u) in
-    let held : left_of g.R.Read.remaining f ≡ g.R.Read.remaining f.reader.now =
-    unread-none (g.R.Read.remaining f.reader.now) f.window.lookahead f.window.count
-    c.in_err-value-in-None.ensures.reader.1 in
-    subst (λ n. IsFaultOf n (fault_of (g.R.Read.remaining f.reader.now) error)
+    let ahead = ahead-by g.A.Access.remaining d d None b tt c.args.self.now.unpushed (refl, refl)
+    (subst (λ o. IsUnreadBy g.A.Access.remaining d o b) (sym c.take.ensures.value ∙ c.in-None.is) u) in
+    subst (λ n. IsFaultOf n (fault_of (left_at_failure g.A.Access.can_fail (g.A.Access.remaining f.reader.now)) error)
     (taken_value (Some c.args.self.now.levels) i))
-    (sym (whole-end g.R.Read.remaining d None b tt
-    (subst (λ o. IsUnreadBy g.R.Read.remaining d o b) (sym c.take.ensures.value ∙ c.in-None.is) u)))
-    (subst (λ o. IsFaultOf (d.window.count + length b) (fault_of o error)
-    (taken_value (Some c.args.self.now.levels) i)) held
-    (whole-faults (left_of g.R.Read.remaining f) error c.args.self.now.levels d.window.count b s z i sp e
-    (known-read g.R.Read.remaining Unit d f c.args.self.now.levels (Err error) c.in_err-value-in-None.ensures.value
-    b d.window.count ahead))))
+    (sym (whole-end g.A.Access.remaining d None b tt
+    (subst (λ o. IsUnreadBy g.A.Access.remaining d o b) (sym c.take.ensures.value ∙ c.in-None.is) u)))
+    (subst (λ o. IsFaultOf (d.counter.count + length b) o
+    (taken_value (Some c.args.self.now.levels) i)) (failed-fault g.A.Access.can_fail
+    (left_of g.A.Access.remaining f) error
+    c.in_err-value-in-None.ensures.ended)
+    (whole-faults (left_of g.A.Access.remaining f) error c.args.self.now.levels d.counter.count b s z i sp e
+    (known-read g.A.Access.remaining Unit d f c.args.self.now.levels (Err error) c.in_err-value-in-None.ensures.value
+    b d.counter.count ahead))))
 
 pub returns-in-Some-portable_value-clause-reads : goal.returns-in-Some-portable_value-clause-reads
 returns-in-Some-portable_value-clause-reads g c = (
   refl,
-  portable-ahead Unit g.R.Read.remaining c.args.self.now.decoder c.args.self.now.pending c.in-Some.header
+  tt,
+  portable-ahead Unit g.A.Access.remaining c.args.self.now.decoder c.args.self.now.pending c.in-Some.header
       c.in-Some.offset c.args.self.now.levels (tree_of c.in-Some-portable_value.value) c.args.self.now.unpushed
       (sym c.take.ensures.value ∙ c.in-Some.is)
       c.in-Some-portable_value.ensures,
@@ -113,8 +114,9 @@ pub returns-in_ok-value-in-None-portable_value-clause-reads :
     goal.returns-in_ok-value-in-None-portable_value-clause-reads
 returns-in_ok-value-in-None-portable_value-clause-reads g c =
     let done = c.in_ok-value-in-None-portable_value.ensures in (
-      done.reader ∙ c.push.ensures.same_reader,
-      pushed-ahead Unit g.R.Read.remaining c.args.self.now.decoder c.push.new.self c.read_value.new.decoder
+      done.same_reader ∙ c.push.ensures.same_reader,
+      tt,
+      pushed-ahead Unit g.A.Access.remaining c.args.self.now.decoder c.push.new.self c.read_value.new.decoder
           c.args.self.now.pending c.args.self.now.levels (Ok c.in_ok-value-in-None-portable_value.value)
           (c.push.ensures.pushed ∙ sym (sym c.take.ensures.value ∙ c.in-Some.is)) c.push.ensures.unread done.value,
     )
@@ -126,10 +128,10 @@ returns-in_err-value-in-None-portable_value-clause-only g c first h =
     let e = c.push.new.self in
     let f = c.read_value.new.decoder in
     let same = c.push.ensures.unread in
-    takes-only g.R.Read.remaining e f _ (leaves-name g.R.Read.remaining e f c.read_value.result
-    c.read_value.ensures.reader) c.in_err-value-in-None-portable_value.ensures.value first
-    (takes-none g.R.Read.remaining d e (same-name d e c.push.ensures.same_reader) (unread-count d e same)
-    (unread-left g.R.Read.remaining d e same) first h)
+    takes-only g.A.Access.remaining e f _ c.read_value.ensures.same_reader
+    c.in_err-value-in-None-portable_value.ensures.value first
+    (takes-none g.A.Access.remaining d e c.push.ensures.same_reader (unread-count d e same)
+    (unread-left g.A.Access.remaining d e same) first h)
 
 pub returns-in_ok-value-in-None-portable_value-clause-only : goal.returns-in_ok-value-in-None-portable_value-clause-only
 returns-in_ok-value-in-None-portable_value-clause-only g c first h =
@@ -137,21 +139,19 @@ returns-in_ok-value-in-None-portable_value-clause-only g c first h =
     let e = c.push.new.self in
     let f = c.read_value.new.decoder in
     let same = c.push.ensures.unread in
-    takes-only g.R.Read.remaining e f _ (leaves-name g.R.Read.remaining e f c.read_value.result
-    c.read_value.ensures.reader) c.in_ok-value-in-None-portable_value.ensures.value first
-    (takes-none g.R.Read.remaining d e (same-name d e c.push.ensures.same_reader) (unread-count d e same)
-    (unread-left g.R.Read.remaining d e same) first h)
+    takes-only g.A.Access.remaining e f _ c.read_value.ensures.same_reader
+    c.in_ok-value-in-None-portable_value.ensures.value first
+    (takes-none g.A.Access.remaining d e c.push.ensures.same_reader (unread-count d e same)
+    (unread-left g.A.Access.remaining d e same) first h)
 
 pub returns-in_err-value-in-None-clause-only : goal.returns-in_err-value-in-None-clause-only
 returns-in_err-value-in-None-clause-only g c =
     let d = c.args.self.now.decoder in
     let f = c.read_value-in-None.new.decoder in
-    takes-only g.R.Read.remaining d f _ (leaves-name g.R.Read.remaining d f c.read_value-in-None.result
-    c.read_value-in-None.ensures.reader) c.in_err-value-in-None.ensures.value
+    takes-only g.A.Access.remaining d f _ c.read_value-in-None.ensures.same_reader c.in_err-value-in-None.ensures.value
 
 pub returns-in_ok-value-in-None-clause-only : goal.returns-in_ok-value-in-None-clause-only
 returns-in_ok-value-in-None-clause-only g c =
     let d = c.args.self.now.decoder in
     let f = c.read_value-in-None.new.decoder in
-    takes-only g.R.Read.remaining d f _ (leaves-name g.R.Read.remaining d f c.read_value-in-None.result
-    c.read_value-in-None.ensures.reader) c.in_ok-value-in-None.ensures.value
+    takes-only g.A.Access.remaining d f _ c.read_value-in-None.ensures.same_reader c.in_ok-value-in-None.ensures.value

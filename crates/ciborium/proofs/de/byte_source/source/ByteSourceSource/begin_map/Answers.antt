@@ -7,11 +7,11 @@ use Rattle.ciborium.proofs.de.byte_source.source.ByteSourceSource.begin_map.Goal
 
 pub returns-clause-ok : goal.returns-clause-ok
 returns-clause-ok g c =
-    enters-map g.R.Read.remaining c.args.self.now c.begin_map.new.self
+    enters-map g.A.Access.remaining c.args.self.now c.begin_map.new.self
     (c.begin_map.ensures.keeps.same_reader, c.begin_map.ensures.keeps.only) _ c.begin_map.result
     c.begin_map.ensures.levels c.begin_map.ensures.keeps.pending c.begin_map.ensures.fewer c.begin_map.ensures.ok
 
 pub returns-clause-refused : goal.returns-clause-refused
 returns-clause-refused g c = err-map c.begin_map.result c.begin_map.ensures.denied
-    (λ e h. refuses-denied g.R.Read.remaining c.args.self.now taken_pairs
-    (fault_at g.R.Read.remaining c.begin_map.new.self e) h)
+    (λ e h. refuses-denied g.A.Access.remaining c.args.self.now taken_pairs
+    (fault_at g.A.Access.can_fail g.A.Access.remaining c.begin_map.new.self e) h)

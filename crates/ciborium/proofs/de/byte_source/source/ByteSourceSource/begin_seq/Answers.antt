@@ -7,11 +7,11 @@ use Rattle.ciborium.proofs.de.byte_source.source.ByteSourceSource.begin_seq.Goal
 
 pub returns-clause-ok : goal.returns-clause-ok
 returns-clause-ok g c =
-    enters g.R.Read.remaining c.args.self.now c.begin_seq.new.self
+    enters g.A.Access.remaining c.args.self.now c.begin_seq.new.self
     (c.begin_seq.ensures.keeps.same_reader, c.begin_seq.ensures.keeps.only) _ c.begin_seq.result
     c.begin_seq.ensures.levels c.begin_seq.ensures.keeps.pending c.begin_seq.ensures.fewer c.begin_seq.ensures.ok
 
 pub returns-clause-refused : goal.returns-clause-refused
 returns-clause-refused g c = err-map c.begin_seq.result c.begin_seq.ensures.denied
-    (λ e h. refuses-denied g.R.Read.remaining c.args.self.now taken_seq
-    (fault_at g.R.Read.remaining c.begin_seq.new.self e) h)
+    (λ e h. refuses-denied g.A.Access.remaining c.args.self.now taken_seq
+    (fault_at g.A.Access.can_fail g.A.Access.remaining c.begin_seq.new.self e) h)

@@ -1,5 +1,4 @@
 use Rattle.std.proofs.Common.{Some, string_bytes}
-use Rattle.ciborium.proofs.Items.Due.{with-ok}
 use Rattle.ciborium_value.specs.Taken.{taken_variant}
 use Rattle.ciborium.proofs.Containers.HeldLevels.{completes-opened, holds-opened, ok-map-two, on-ok-so}
 use Rattle.ciborium.specs.inner.ByteSources.{fault_at}
@@ -9,18 +8,17 @@ use Rattle.ciborium.proofs.de.byte_source.source.ByteSourceSource.begin_variant.
 
 pub returns-clause-ok : goal.returns-clause-ok
 returns-clause-ok g c =
-    ok-map-two c.begin_variant.result (with-ok _ _ c.begin_variant.result c.begin_variant.ensures.fewer
-    c.begin_variant.ensures.level) c.begin_variant.ensures.ok
-    (λ p level k. holds-opened g.R.Read.remaining c.args.self.now c.begin_variant.new.self taken_variant
-    (string_bytes p.0) p.1 (c.begin_variant.ensures.same_reader, c.begin_variant.ensures.only) level.0 level.1 k)
+    ok-map-two c.begin_variant.result c.begin_variant.ensures.level c.begin_variant.ensures.ok
+    (λ p level k. holds-opened g.A.Access.remaining c.args.self.now c.begin_variant.new.self taken_variant
+    (string_bytes p.0) p.1 (c.begin_variant.ensures.same_reader, c.begin_variant.ensures.only) level k)
 
 pub returns-clause-took : goal.returns-clause-took
 returns-clause-took g c =
     on-ok-so c.begin_variant.result c.begin_variant.ensures.ok
-    (λ p k. completes-opened g.R.Read.remaining c.args.self.now c.begin_variant.new.self
+    (λ p k. completes-opened g.A.Access.remaining c.args.self.now c.begin_variant.new.self
     (Some c.args.self.now.levels) taken_variant (string_bytes p.0) k)
 
 pub returns-clause-refused : goal.returns-clause-refused
 returns-clause-refused g c = err-map c.begin_variant.result c.begin_variant.ensures.denied
-    (λ e h. refuses-denied g.R.Read.remaining c.args.self.now taken_variant
-    (fault_at g.R.Read.remaining c.begin_variant.new.self e) h)
+    (λ e h. refuses-denied g.A.Access.remaining c.args.self.now taken_variant
+    (fault_at g.A.Access.can_fail g.A.Access.remaining c.begin_variant.new.self e) h)

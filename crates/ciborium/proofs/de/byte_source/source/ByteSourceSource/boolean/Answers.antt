@@ -3,5 +3,6 @@ use Rattle.ciborium.proofs.Containers.ByteItems.{takes-one}
 use Rattle.ciborium.proofs.de.byte_source.source.ByteSourceSource.boolean.Goals as goal
 
 pub returns-clause-takes : goal.returns-clause-takes
-returns-clause-takes g c = takes-one g.R.Read.remaining c.args.self.now c.boolean.new.self taken_boolean
+returns-clause-takes g c = takes-one g.A.Access.can_fail g.A.Access.remaining c.args.self.now c.boolean.new.self
+    taken_boolean
     (λ v. v) c.boolean.result c.boolean.ensures.keeps c.boolean.ensures.answer

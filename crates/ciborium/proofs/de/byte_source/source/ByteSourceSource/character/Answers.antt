@@ -3,5 +3,6 @@ use Rattle.ciborium.proofs.Containers.ByteItems.{takes-one}
 use Rattle.ciborium.proofs.de.byte_source.source.ByteSourceSource.character.Goals as goal
 
 pub returns-clause-takes : goal.returns-clause-takes
-returns-clause-takes g c = takes-one g.R.Read.remaining c.args.self.now c.character.new.self taken_character
+returns-clause-takes g c = takes-one g.A.Access.can_fail g.A.Access.remaining c.args.self.now c.character.new.self
+    taken_character
     (λ v. v) c.character.result c.character.ensures.keeps c.character.ensures.answer

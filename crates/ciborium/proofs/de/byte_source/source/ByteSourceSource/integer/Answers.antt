@@ -6,12 +6,14 @@ use Rattle.ciborium.proofs.de.byte_source.source.ByteSourceSource.integer.Goals 
 pub returns-clause-takes : goal.returns-clause-takes
 returns-clause-takes g c =
     let read = c.in_ok-number.ensures in
-    takes-given g.R.Read.remaining c.args.self.now c.read_integer.new.self taken_integer (λ v. v) c.in_ok-number.number
+    takes-given g.A.Access.can_fail g.A.Access.remaining c.args.self.now c.read_integer.new.self taken_integer
+    (λ v. v) c.in_ok-number.number
     (read.keeps.same_reader, read.keeps.only) read.keeps.levels read.keeps.pending read.keeps.fewer read.answer
 
 pub returns-in_err-number-clause-takes : goal.returns-in_err-number-clause-takes
 returns-in_err-number-clause-takes g c =
     let exit = err_from_is_err_and c.from_residual.result c.from_residual.ensures.1 in
     let read = c.in_err-number.ensures in
-    rw (exit.1, exit.2) (takes-denied g.R.Read.remaining c.args.self.now c.read_integer.new.self taken_integer
+    rw (exit.1, exit.2) (takes-denied g.A.Access.can_fail g.A.Access.remaining c.args.self.now c.read_integer.new.self
+    taken_integer
     (λ v. v) c.in_err-number.field-0.0 read.keeps.only read.keeps.no_more read.answer)

@@ -5,6 +5,7 @@ use Rattle.ciborium.proofs.de.byte_source.source.ByteSourceSource.name.Goals as 
 
 pub returns : goal.returns
 returns g c = record {
-  takes = takes-one g.R.Read.remaining c.args.self.now c.name.new.self taken_name string_bytes c.name.result
+  takes = takes-one g.A.Access.can_fail g.A.Access.remaining c.args.self.now c.name.new.self taken_name string_bytes
+      c.name.result
       c.name.ensures.keeps c.name.ensures.answer;
 }

@@ -10,8 +10,8 @@ use Rattle.ciborium.proofs.de.byte_source.source.ByteSourceSource.null_ahead.Goa
 pub returns-in_err-header-clause-refused : goal.returns-in_err-header-clause-refused
 returns-in_err-header-clause-refused g c =
     let exit = err_from_is_err_and c.from_residual.result c.from_residual.ensures.1 in
-    rw (exit.1, exit.2) (refuses-to-tell g.R.Read.remaining c.args.self.now
-    (fault_at g.R.Read.remaining c.next_head.new.self c.in_err-header.field-0.0)
+    rw (exit.1, exit.2) (refuses-to-tell g.A.Access.remaining c.args.self.now
+    (fault_at g.A.Access.can_fail g.A.Access.remaining c.next_head.new.self c.in_err-header.field-0.0)
     c.in_err-header.ensures.denied)
 
 pub returns : goal.returns
@@ -19,17 +19,17 @@ returns g c =
     let h = c.in_ok-header.header in
     let mid = c.next_head.new.self in
     let head = c.in_ok-header.ensures in
-    let aside : (b x y : _) → IsUnread g.R.Read.remaining c.args.self.now b → SpellsHeader x h → b ≡ x ++ y →
-    IsUnread g.R.Read.remaining mid y → IsUnreadBy g.R.Read.remaining mid.decoder (Some (h, c.in_ok-header.offset))
+    let aside : (b x y : _) → IsUnread g.A.Access.remaining c.args.self.now b → SpellsHeader x h → b ≡ x ++ y →
+    IsUnread g.A.Access.remaining mid y → IsUnreadBy g.A.Access.remaining mid.decoder (Some (h, c.in_ok-header.offset))
     b
-    = λ b x y w hd e u. aside-unread g.R.Read.remaining mid.decoder mid.pending h c.in_ok-header.offset b x y
+    = λ b x y w hd e u. aside-unread g.A.Access.remaining mid.decoder mid.pending h c.in_ok-header.offset b x y
     head.pending hd e (head.counted b x y w hd e) u in record {
-      ok = tells g.R.Read.remaining c.args.self.now mid (record mid { pending = Some (h, c.in_ok-header.offset) }) h
-          head.head aside c.is_null_head-answer.result (head.same_reader, head.only) head.fewer head.levels
+      ok = tells g.A.Access.remaining c.args.self.now mid (record mid { pending = Some (h, c.in_ok-header.offset) }) h
+          head.head aside c.is_null_head-answer.result (head.same_reader, head.only) head.levels
           (λ i e. c.is_null_head-answer.ensures ∙ null-head h i e);
       refused = tt;
       memory = tt;
-      took = takes-nothing g.R.Read.remaining c.args.self.now mid
+      took = takes-nothing g.A.Access.remaining c.args.self.now mid
           (record mid { pending = Some (h, c.in_ok-header.offset) }) h head.head aside;
       only = λ first. head.only first.decoder;
       less = omega (arith, head.fewer);

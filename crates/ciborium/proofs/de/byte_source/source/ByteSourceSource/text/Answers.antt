@@ -5,6 +5,7 @@ use Rattle.ciborium.proofs.de.byte_source.source.ByteSourceSource.text.Goals as 
 
 pub returns : goal.returns
 returns g c = record {
-  takes = takes-one g.R.Read.remaining c.args.self.now c.text.new.self taken_text string_bytes c.text.result
+  takes = takes-one g.A.Access.can_fail g.A.Access.remaining c.args.self.now c.text.new.self taken_text string_bytes
+      c.text.result
       c.text.ensures.keeps c.text.ensures.answer;
 }

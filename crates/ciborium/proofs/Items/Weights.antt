@@ -1,0 +1,27 @@
+-- What heads weigh.
+use Rattle.std.proofs.Common.{◌≡◌, ◌+◌, ◌<◌, ◌≤◌, None, ap, arith}
+use Rattle.ciborium_ll.specs.declared.header.Header.{Header}
+use Rattle.ciborium_ll.specs.declared.header.Header.TheVariants as header
+use Rattle.ciborium.specs.declared.de.byte_source.ByteSource.{ByteSource}
+use Rattle.ciborium.specs.inner.ByteSources.{bytes_weight, head_weight, pending_head_weight, weight_left}
+
+weight-bounds : (h : Header) → (1 ≤ head_weight h) × (head_weight h ≤ 2)
+weight-bounds (header.Positive n) = (omega arith, omega arith)
+weight-bounds (header.Negative n) = (omega arith, omega arith)
+weight-bounds (header.Bytes n) = (omega arith, omega arith)
+weight-bounds (header.Text n) = (omega arith, omega arith)
+weight-bounds (header.Array n) = (omega arith, omega arith)
+weight-bounds (header.Map n) = (omega arith, omega arith)
+weight-bounds (header.Tag n) = (omega arith, omega arith)
+weight-bounds (header.Simple n) = (omega arith, omega arith)
+weight-bounds (header.Float n) = (omega arith, omega arith)
+weight-bounds header.Break = (omega arith, omega arith)
+
+-- a container was entered
+pub entered-fewer : {S W : Type 0} (old mid new : ByteSource S W) (h : Header) → new.decoder ≡ mid.decoder →
+    new.pending ≡ None → bytes_weight mid + head_weight h ≤ weight_left old → weight_left new < weight_left old
+entered-fewer old mid new h same none fewer =
+    let (some, two) = weight-bounds h in
+    let count = ap (λ d. d.counter.count) same in
+    let no-weight : pending_head_weight new.pending ≡ 0 = ap pending_head_weight none in
+    omega (arith, fewer, some, count, no-weight)

@@ -1,0 +1,170 @@
+-- From the item at the front of a slice to all of its bytes.
+use Rattle.std.proofs.Common.{◌≡◌, ◌≢◌, ℕ, ◌+◌, ◌-◌, ◌≤◌, inl, inr, false, List, [], ◌∷◌, ◌++◌, length, Option}
+use Rattle.std.proofs.Common.{Some, None, Ok, Err, IfSome, refl, sym, ap, ◌∙◌, subst, arith, append-nil, length-append}
+use Rattle.ciborium_ll.specs.Bytes.{greatest_offset}
+use Rattle.ciborium_ll.specs.Refusal.{Refusal}
+use Rattle.ciborium_ll.specs.Spells.{Spells}
+use Rattle.ciborium_ll.proofs.UniqueSpelling.{one_at_front, one_item}
+use Rattle.ciborium_value.specs.Readings.{Reading}
+use Rattle.ciborium_value.specs.Sources.{IsOutsideFault}
+use Rattle.ciborium_value.specs.Taken.{Outcome, gives}
+use Rattle.ciborium_value.specs.declared.kind.Kind.TheVariants.{TrailingData}
+use Rattle.ciborium.specs.Errors.{HasEndedBy, IsRefusedBy, fault_of}
+use Rattle.ciborium.specs.SliceAnswers.{ReadsAll}
+use Rattle.ciborium.specs.Spelling.{any, IsReadBy}
+use Rattle.ciborium.specs.TypedAnswers.{IsFaultAhead, ReadsAsTypeFrom, TakesGiving}
+use Rattle.ciborium.specs.ValueAnswers.{IsFailed, ReadsWhole}
+use Rattle.ciborium.specs.declared.de.error.Error.{Error}
+use Rattle.ciborium.specs.declared.de.error.Error.TheVariants as errors
+
+both : {A : Type 0} {P Q R : A → Type 0} (o : Option A) → IfSome o P → IfSome o Q → ((v : A) → P v → Q v → R v) →
+    IfSome o R
+both None p q f = tt
+both (Some v) p q f = f v p q
+
+each : {A : Type 0} {P R : A → Type 0} (o : Option A) → IfSome o P → ((v : A) → P v → R v) → IfSome o R
+each None p f = tt
+each (Some v) p f = f v p
+
+same-rest : (u v : List ℕ) → Some u ≡ Some v → u ≡ v
+same-rest u v e = cc
+
+same-given : {A : Type 0} (v w : A) → gives v ≡ gives w → v ≡ w
+same-given v w e = cc
+
+nothing-in : (xs : List ℕ) → length xs ≡ 0 → xs ≡ []
+nothing-in [] h = refl
+nothing-in (x ∷ xs) h = absurd (omega (arith, h))
+
+whole-of : (b s left : List ℕ) → b ≡ s ++ left → left ≡ [] → s ≡ b
+whole-of b s left split none = sym (split ∙ ap (λ (z : List ℕ). s ++ z) none ∙ append-nil s)
+
+-- what a slice that fits in memory is refused for, where an item that gives a value stands at its front
+only-memory : {E : Type 0} (end : ℕ) (e : Error E) → end ≤ greatest_offset →
+    IsOutsideFault end (fault_of (Some []) e) → e ≡ errors.Memory
+only-memory end (errors.Io x) fits h = absurd h
+only-memory end (errors.Syntax p) fits h = absurd h
+only-memory end (errors.Semantic p k) fits h = absurd h
+only-memory end errors.RecursionLimitExceeded fits h = absurd h
+only-memory end errors.Memory fits h = refl
+only-memory end errors.TooLong fits h = absurd (omega (arith, fits, h))
+
+-- at `Io` nothing is left
+refused-at-end : {E : Type 0} (rest : List ℕ) (e : Error E) (P : Refusal → Type 0) → IsRefusedBy (Some rest) e P →
+    HasEndedBy false (Some rest) e → IsRefusedBy (Some []) e P
+refused-at-end rest (errors.Io x) P h ended = λ _. h (ended refl)
+refused-at-end rest (errors.Syntax p) P h ended = h
+refused-at-end rest (errors.Semantic p k) P h ended = h
+refused-at-end rest errors.RecursionLimitExceeded P h ended = h
+refused-at-end rest errors.Memory P h ended = h
+refused-at-end rest errors.TooLong P h ended = h
+
+failed-for-memory : {E : Type 0} (rest : List ℕ) (e : Error E) → IsFailed (Some rest) e →
+    HasEndedBy false (Some rest) e → e ≡ errors.Memory
+failed-for-memory rest (errors.Io x) h ended = absurd (h (ended refl))
+failed-for-memory rest (errors.Syntax p) h ended = absurd h
+failed-for-memory rest (errors.Semantic p k) h ended = absurd h
+failed-for-memory rest errors.RecursionLimitExceeded h ended = absurd h
+failed-for-memory rest errors.Memory h ended = refl
+failed-for-memory rest errors.TooLong h ended = absurd h
+
+module _ {T A : Type 0} (E : Type 0) (l : ℕ) (reading : Reading T A) (b rest : List ℕ) where
+  -- what reading the item at the front says
+  abbrev pub Reads : Rattle.std.specs.Prelude.Result T (Error E) → Type 0
+  Reads r = ReadsAsTypeFrom {E = E} false 0 (Some l) reading (Some b) (Some rest)
+      (ReadsWhole any (Some b) l (Some rest)) r
+
+  ahead : (e : Error E) → Reads (Err e) → IsFaultAhead (length b) (Some l) reading.taken b (fault_of (Some []) e)
+  ahead e reads = let same : 0 + length b ≡ length b = omega arith in
+      subst (λ n. IsFaultAhead n (Some l) reading.taken b (fault_of (Some []) e)) same (reads.refused b refl)
+
+  -- it was refused
+  pub all-refused : length b ≤ greatest_offset → (e : Error E) → Reads (Err e) →
+      IfSome reading.whole (λ _. HasEndedBy false (Some rest) e) → ReadsAll {E = E} l reading b (Err e)
+  all-refused fits e reads ended = record {
+    ok = tt;
+    exact = λ i v sp give. inr (ap Err (only-memory (length b) e fits (outside (fault_of (Some []) e)
+        (reading.taken (Some l) i) v give (ahead e reads i b [] sp (sym (append-nil b))))));
+    refused = λ i s left sp split. inl (ahead e reads i s left sp split);
+    memory = reads.memory;
+    value = both reading.whole reads.value ended
+        (λ tree h k. inl (refused-at-end rest e (Rattle.ciborium.specs.Spelling.RefusesBy any b 0 l)
+        (h.refused b refl) k));
+    whole = both reading.whole reads.value ended (λ tree h k v good. inr (ap Err
+        (failed-for-memory rest e (h.exact b b [] v refl good (sym (append-nil b))) k)));
+  }
+    where
+      outside : (f : _) (o : Outcome A) (v : A) → o ≡ gives v →
+          Rattle.ciborium_value.specs.Sources.IsFaultOf (length b) f o → IsOutsideFault (length b) f
+      outside f o v give h = given f (subst (Rattle.ciborium_value.specs.Sources.IsFaultOf (length b) f) give h)
+        where
+          given : (f : Rattle.ciborium_value.specs.Sources.Fault) →
+              Rattle.ciborium_value.specs.Sources.IsFaultOf (length b) f (gives v) → IsOutsideFault (length b) f
+          given (Rattle.ciborium_value.specs.Sources.of_kind k) h = cc
+          given Rattle.ciborium_value.specs.Sources.of_nesting h = cc
+          given Rattle.ciborium_value.specs.Sources.of_syntax h = h
+          given Rattle.ciborium_value.specs.Sources.of_memory h = h
+          given Rattle.ciborium_value.specs.Sources.of_device h = h
+          given Rattle.ciborium_value.specs.Sources.of_end h = h
+          given Rattle.ciborium_value.specs.Sources.of_length h = h
+
+  module _ (v : T) (reads : Reads (Ok v)) where
+    front : TakesGiving (Some l) reading.taken b (reading.content v) (Some rest)
+    front = reads.ok b refl
+
+    -- it is all
+    pub all-given : length rest ≡ 0 → ReadsAll {E = E} l reading b (Ok v)
+    all-given zero =
+        let none = nothing-in rest zero in
+        let (i, s, left, sp, split, give, after) = front in
+        let empty : left ≡ [] = sym (same-rest rest left after) ∙ none in
+        let spells : Spells b i = subst (λ z. Spells z i) (whole-of b s left split empty) sp in record {
+          ok = (i, spells, give);
+          exact = λ j w sq taken. inl (ap Ok (same-given (reading.content v) w (sym give ∙
+              ap (reading.taken (Some l)) (one_item b i j spells sq) ∙ taken)));
+          refused = tt;
+          memory = tt;
+          value = each reading.whole reads.value (λ tree h.
+              let (t, u, good, parts, rests) = h.ok b refl in
+              subst (λ z. IsReadBy any z 0 l (tree (reading.content v)))
+              (whole-of b t u parts (sym (same-rest rest u rests) ∙ none)) good);
+          whole = each reading.whole reads.value (λ tree h w good.
+              inl (ap Ok (sym (h.exact b b [] w refl good (sym (append-nil b))).0)));
+        }
+
+    -- bytes follow it
+    pub all-trailing : (n : ℕ) → rest ≢ [] → n ≡ length b - length rest →
+        ReadsAll {E = E} l reading b (Err (errors.Semantic (Some n) TrailingData))
+    all-trailing n some at =
+        let (i, s, left, sp, split, give, after) = front in
+        let same : rest ≡ left = same-rest rest left after in
+        let size : n ≡ length s = trailing s left split same in record {
+          ok = tt;
+          exact = λ j w sq taken. absurd (some (same ∙ sym (one_at_front b s [] left j i sq sp
+              (append-nil b ∙ split)).1));
+          refused = λ j t u sq parts. inr (let one = one_at_front t s u left j i sq sp (sym parts ∙ split) in (
+            λ none. some (same ∙ sym one.1 ∙ none),
+            (reading.content v, ap (reading.taken (Some l)) one.2 ∙ give),
+            ap (λ k. errors.Semantic (Some k) TrailingData) (size ∙ ap length (sym one.0)),
+          ));
+          memory = tt;
+          value = each reading.whole reads.value (λ tree h.
+              let (t, u, good, parts, rests) = h.ok b refl in
+              let kept = same-rest rest u rests in
+              inr (
+                tree (reading.content v),
+                t,
+                u,
+                good,
+                parts,
+                λ none. some (kept ∙ none),
+                ap (λ k. errors.Semantic (Some k) TrailingData) (trailing t u parts kept),
+              ));
+          whole = each reading.whole reads.value (λ tree h w good.
+              absurd (some (same-rest rest [] (h.exact b b [] w refl good (sym (append-nil b))).1)));
+        }
+      where
+        trailing : (s left : List ℕ) → b ≡ s ++ left → rest ≡ left → n ≡ length s
+        trailing s left split same =
+            let sum : length b ≡ length s + length left = ap length split ∙ length-append s left in
+            omega (arith, at, sum, ap length same)

@@ -1,0 +1,67 @@
+-- What reading answers where all of the bytes are at hand, and have to be one item.
+use Rattle.std.specs.Prelude.{◌≡◌, ◌≢◌, ℕ, ◌⊎◌, List, [], ◌++◌, length, Some, Result, Ok}
+use Rattle.std.specs.Prelude.{Err}
+use Rattle.std.specs.Prelude.{IfErr, IfOk, IfSome}
+use Rattle.ciborium_ll.specs.Item.{Item}
+use Rattle.ciborium_ll.specs.Spells.{Spells}
+use Rattle.ciborium_value.specs.Readings.{Reading}
+use Rattle.ciborium_value.specs.Sources.{IsFaultOf, IsGrantedFault, read_as}
+use Rattle.ciborium_value.specs.Taken.{Taken, gives}
+use Rattle.ciborium_value.specs.Tree.{Tree}
+use Rattle.ciborium_value.specs.declared.kind.Kind.TheVariants.{TrailingData}
+use Rattle.ciborium.specs.Errors.{IsRefusedBy, fault_of}
+use Rattle.ciborium.specs.Spelling.{any, IsReadBy, RefusesBy}
+use Rattle.ciborium.specs.declared.de.error.Error.{Error}
+use Rattle.ciborium.specs.declared.de.error.Error.TheVariants.{Memory, Semantic}
+
+-- ---- by what an item gives
+
+-- at Ok all of the bytes are one item, which gives the answer
+abbrev pub IsAllTaken : {A E : Type 0} → ℕ → Taken A → List ℕ → Result A (Error E) → Type 0
+IsAllTaken l taken b r = IfOk r (λ v. (i : Item) × Spells b i × (taken (Some l) i ≡ gives v))
+
+-- bytes that are one item, which gives a value, answer it, unless memory was refused
+abbrev pub GivesAll : {A E : Type 0} → ℕ → Taken A → List ℕ → Result A (Error E) → Type 0
+GivesAll {A} l taken b r = (i : Item) (v : A) → Spells b i → taken (Some l) i ≡ gives v →
+    (r ≡ Ok v) ⊎ (r ≡ Err Memory)
+
+-- an item at the front is refused as it is; or it gives a value, bytes follow it, and they are
+-- refused where they begin
+abbrev pub RefusesAll : {A E : Type 0} → ℕ → Taken A → List ℕ → Result A (Error E) → Type 0
+RefusesAll {A} l taken b r = IfErr r (λ e. (i : Item) (s left : List ℕ) → Spells s i →
+    b ≡ s ++ left → IsFaultOf (length b) (fault_of (Some []) e) (taken (Some l) i) ⊎
+    ((left ≢ []) × ((v : A) × (taken (Some l) i ≡ gives v)) ×
+    (e ≡ Semantic (Some (length s)) TrailingData)))
+
+-- ---- by the tree of a value
+
+-- bytes that are read as a value within l levels are followed by others, and these are refused
+-- where they begin
+abbrev pub RefusesTrailing : {E : Type 0} → ℕ → List ℕ → Error E → Type 0
+RefusesTrailing l b e = (v : Tree) × (s : List ℕ) × (left : List ℕ) × IsReadBy any s 0 l v ×
+    (b ≡ s ++ left) × (left ≢ []) × (e ≡ Semantic (Some (length s)) TrailingData)
+
+-- all of the bytes are read as the answer; or they are refused as the definitions refuse them
+abbrev pub AreAllRead : {E : Type 0} → ℕ → List ℕ → Result Tree (Error E) → Type 0
+AreAllRead l b (Ok v) = IsReadBy any b 0 l v
+AreAllRead l b (Err e) = IsRefusedBy (Some []) e (RefusesBy any b 0 l) ⊎ RefusesTrailing l b e
+
+-- bytes that are read as a value answer it, unless memory was refused
+abbrev pub AnswersAll : {E : Type 0} → ℕ → List ℕ → Result Tree (Error E) → Type 0
+AnswersAll l b r = (v : Tree) → IsReadBy any b 0 l v → (r ≡ Ok v) ⊎ (r ≡ Err Memory)
+
+-- ---- all of this
+
+-- a call that reads all of the bytes as a value of a type, within l levels; it has no reader that
+-- could fail, so `Io` is the end of the bytes
+pub record ReadsAll {T A E : Type 0} (l : ℕ) (reading : Reading T A) (b : List ℕ)
+    (r : Result T (Error E)) : Type 0 where
+  pub ok : IsAllTaken l reading.taken b (read_as reading.content r)
+  pub exact : GivesAll l reading.taken b (read_as reading.content r)
+  pub refused : RefusesAll l reading.taken b (read_as reading.content r)
+  pub memory : IfErr r (λ e. IsGrantedFault (fault_of (Some []) e) reading.needs_memory)
+  -- where reading is one call of `value`
+  pub value : IfSome reading.whole (λ tree. AreAllRead l b
+      (read_as (λ v. tree (reading.content v)) r))
+  pub whole : IfSome reading.whole (λ tree. AnswersAll l b
+      (read_as (λ v. tree (reading.content v)) r))
