@@ -1,16 +1,22 @@
 -- From what reading a value answers to what holds of the bytes.
-use Rattle.std.proofs.Common.{◌≡◌, ℕ, List, [], length, ◌==◌, Bool, true, IsTrue, Option, Some, None, IfSome, unwrap_or}
+use Rattle.std.proofs.Common.{◌≡◌, ℕ, List, [], length, ◌==◌, Bool, true, IsTrue, Option, Some, None, IfSome, Err}
+use Rattle.std.proofs.Common.{unwrap_or}
+use Rattle.std.proofs.Common.{inl, inr, refl, ◌≢◌}
 use Rattle.std.proofs.Common.{sym, subst, arith}
 use Rattle.std.proofs.lemmas.List.{nil_from_length}
 use Rattle.std.proofs.lemmas.Bool.Decides.{nat_tests}
+use Rattle.ciborium_value.specs.declared.kind.Kind.TheVariants.{TrailingData}
 use Rattle.ciborium_ll.specs.Refusal.{Refusal, Kind}
 use Rattle.ciborium.specs.declared.de.error.Error.{Error}
 use Rattle.ciborium.specs.declared.de.error.Error.TheVariants as errors
 use Rattle.ciborium.specs.Errors.{IsNamed, IsRefusedBy, refusal_kind_of}
+use Rattle.ciborium.specs.SliceAnswers.{AreAllRead}
 use Rattle.cbor.specs.declared.answer.Refusal.{Refusal as Reason}
+use Rattle.cbor.specs.declared.answer.Refusal.TheVariants as reasons
 use Rattle.cbor.specs.declared.answer.Refusal.TheVariants.{Memory}
 use Rattle.cbor.specs.declared.reading.Spelling.{Spelling}
-use Rattle.cbor.specs.Answer.{IsFrontRefused, StandsFor}
+use Rattle.cbor.specs.declared.reading.Spelling.TheVariants.{Any}
+use Rattle.cbor.specs.Answer.{AreRefused, IsFrontRefused, StandsFor}
 use Rattle.cbor.specs.Spellings.{RefusesItem}
 
 -- a list that is found to be empty
@@ -41,3 +47,29 @@ front-refused (Some r) answer e is_end spelling b limit left same h ends refuses
     subst (λ (a : Reason). IsFrontRefused spelling b limit a) (sym same) (h spelling b limit left ends refuses)
 front-refused None answer e is_end spelling b limit left same h ends refuses =
     subst (λ (a : Reason). IsFrontRefused spelling b limit a) (sym same) tt
+
+-- what refuses the front refuses the bytes
+front-refuses-all : (spelling : Spelling) (b : List ℕ) (limit : ℕ) (answer : Reason) →
+    IsFrontRefused spelling b limit answer → AreRefused spelling b limit answer
+front-refuses-all spelling b limit reasons.Hex h = h
+front-refuses-all spelling b limit (reasons.Trailing n) h = absurd {A = _} h
+front-refuses-all spelling b limit reasons.Io h = h
+front-refuses-all spelling b limit (reasons.Syntax p) h = h
+front-refuses-all spelling b limit (reasons.Semantic p k) h = h
+front-refuses-all spelling b limit reasons.Nesting h = h
+front-refuses-all spelling b limit reasons.TooLong h = h
+front-refuses-all spelling b limit Memory h = h
+
+-- an error of reading all of the bytes refuses what is at their front, where no bytes are refused behind it
+pub front-of-all : {E : Type 0} (e : Error E) (b : List ℕ) (limit : ℕ) →
+    ((end : ℕ) → e ≢ errors.Semantic (Some end) TrailingData) → AreAllRead limit b (Err e) →
+    IsRefusedBy (Some []) e (RefusesItem Any b limit)
+front-of-all e b limit other (inl refuses) = refuses
+front-of-all e b limit other (inr trailing) = absurd {A = _} (other _ trailing.6)
+
+-- what such an error stands for refuses them
+pub slice-refused : {E : Type 0} (named : Option Reason) (answer : Reason) (e : Error E) (b : List ℕ) (limit : ℕ) →
+    answer ≡ unwrap_or named Memory → IfSome named (λ r. StandsFor e true r) →
+    IsRefusedBy (Some []) e (RefusesItem Any b limit) → AreRefused Any b limit answer
+slice-refused named answer e b limit same h refuses = front-refuses-all Any b limit answer
+    (front-refused named answer e true Any b limit (Some []) same h (λ _. refl) refuses)

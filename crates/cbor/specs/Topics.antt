@@ -31,7 +31,7 @@ topic_text Help =
     codes "even with zeros at its front.\n" ++
     codes "At most 256 levels are nested, or as many as the limit says. Status " ++
     codes "1: something was refused.\n"
-topic_text Version = codes "cbor 0.3.0\n"
+topic_text Version = codes "cbor 0.4.0\n"
 
 abbrev pub fault_text : Fault → List ℕ
 fault_text faults.Input = codes "input failed\n"

@@ -1,20 +1,26 @@
 //! From a line of hex to the value of its item, and from a value to the hex of its encoding.
 
-ghost use Rattle.std.specs.Prelude.{◌≡◌, ◌++◌, IfErr, IfNone, IfOk, IfSome, IsSome, None, OnOk};
+ghost use Rattle.std.specs.Prelude.{◌≡◌, ◌≢◌, ◌++◌, ℕ, IfErr, IfNone, IfOk, IfSome, IsSome, None, OnOk};
 ghost use Rattle.std.specs.Prelude.{Some, false};
 ghost use Rattle.hex.specs.Hex.{encode_lower};
 ghost use Rattle.ciborium_value.specs.Encoding.{encoding};
 ghost use Rattle.ciborium_value.specs.View.{tree_of};
+ghost use Rattle.ciborium_value.specs.declared.kind.Kind.TheVariants.{TrailingData};
+ghost use Rattle.ciborium.specs.declared.de.error.Error.TheVariants.{Semantic};
 ghost use Rattle.ciborium.specs.Errors.{IsRefusedBy, refusal_kind_of};
 ghost use Rattle.ciborium.specs.NextItems.{IsReadIo};
 ghost use Rattle.cbor.specs.Answer.{AreRefused, IsFrontRefused, IsMeant, IsRefused, StandsFor};
 ghost use Rattle.cbor.specs.Answer.{kind_of_reason};
 ghost use Rattle.cbor.specs.Spellings.{HasItemBefore, IsItem, RefusesItem};
+ghost use Rattle.cbor.specs.declared.reading.Spelling.TheVariants.{Any};
 
 use crate::answer::{Reason, Refusal};
 use crate::digits::{decode_line, push_digits};
 use crate::reading::Spelling;
-use ciborium::de::{Error, from_reader_deterministic_with_order, from_reader_with_recursion_limit};
+use ciborium::de::{
+    Error, from_buf_reader_deterministic_with_order, from_buf_reader_with_recursion_limit,
+    from_slice_with_recursion_limit,
+};
 use ciborium::ser::into_writer;
 use ciborium_value::{Kind, Value};
 use std::alloc::{AllocError, Global};
@@ -50,12 +56,43 @@ fn read_bytes(
     ensures item { IfOk result (λ value. IsItem spelling bytes.now limit (tree_of value)) }
     ensures refused { IfErr result (λ refusal. AreRefused spelling bytes.now limit refusal) }
 {
-    let mut rest = bytes;
-    let value = read_front(alloc, &mut rest, spelling, limit)?;
-    if !rest.is_empty() {
-        return Err(Refusal::Trailing(rest.len()));
+    match spelling {
+        Spelling::Any => read_slice(alloc, bytes, limit),
+        Spelling::Deterministic(_) => {
+            let mut rest = bytes;
+            let value = read_front(alloc, &mut rest, spelling, limit)?;
+            if !rest.is_empty() {
+                return Err(Refusal::Trailing(rest.len()));
+            }
+            Ok(value)
+        }
     }
-    Ok(value)
+}
+
+// The value of the bytes in any spelling.
+fn read_slice(alloc: Global, bytes: &[u8], limit: usize) -> Result<Value, Refusal>
+    ensures item { IfOk result (λ value. IsItem Any bytes.now limit (tree_of value)) }
+    ensures refused { IfErr result (λ refusal. AreRefused Any bytes.now limit refusal) }
+{
+    match from_slice_with_recursion_limit(alloc, bytes, limit) {
+        Ok(value) => Ok(value),
+        Err(error) => match find_end(&error) {
+            Some(end) => Err(Refusal::Trailing(bytes.len().saturating_sub(end))),
+            // A slice has nothing left where `Io` is answered.
+            None => Err(name_refusal(error, true).unwrap_or(Refusal::Memory)),
+        },
+    }
+}
+
+// Where the item ends, if bytes are refused since others follow it.
+fn find_end(error: &Error<io::Error>) -> Option<usize>
+    ensures end { IfSome result (λ end. error.now ≡ Semantic (Some end) TrailingData) }
+    ensures other { IfNone result ((end : ℕ) → error.now ≢ Semantic (Some end) TrailingData) }
+{
+    match error {
+        Error::Semantic(Some(end), Kind::TrailingData) => Some(*end),
+        _ => None,
+    }
 }
 
 /// Reads the value of the item at the front of the bytes, and leaves what follows it.
@@ -116,9 +153,9 @@ fn read_value(
         IsRefusedBy (Some rest.new.now) e (RefusesItem spelling rest.old.now limit)) }
 {
     match spelling {
-        Spelling::Any => from_reader_with_recursion_limit(alloc, rest, limit),
+        Spelling::Any => from_buf_reader_with_recursion_limit(alloc, rest, limit),
         Spelling::Deterministic(order) => {
-            from_reader_deterministic_with_order(alloc, rest, limit, order)
+            from_buf_reader_deterministic_with_order(alloc, rest, limit, order)
         }
     }
 }

@@ -18,7 +18,7 @@ use crate::reading::Showing;
 use crate::retrying::Retrying;
 use crate::sequences::write_refused_item;
 use crate::showing::push_shown;
-use ciborium::de::{Error, from_reader_with_recursion_limit};
+use ciborium::de::{Error, from_buf_reader_with_recursion_limit};
 use ciborium_value::Value;
 use std::alloc::Global;
 use std::io::{self, BufRead, BufReader, ErrorKind, Read, Write};
@@ -101,7 +101,7 @@ fn read_next<R: Read>(
     ensures { (b : List ℕ) → reader_remaining R.remaining reader.old ≡ Some b →
         IfOk result (λ next. IsReadNext b limit (reader_remaining R.remaining reader.new) next) }
 {
-    match from_reader_with_recursion_limit::<Value, _>(alloc, reader, limit) {
+    match from_buf_reader_with_recursion_limit::<Value, _>(alloc, reader, limit) {
         Ok(value) => Ok(Ok(value)),
         Err(error) => {
             let is_cut = is_cut_short(&error, reader)?;

@@ -24,7 +24,7 @@ At most 256 levels are nested, or as many as the limit says. Status 1: something
 ";
 
 /// The version.
-pub const VERSION: &str = "cbor 0.3.0\n";
+pub const VERSION: &str = "cbor 0.4.0\n";
 
 /// What is printed about a topic.
 pub fn topic_text(topic: Topic) -> &'static str

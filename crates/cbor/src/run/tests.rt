@@ -416,7 +416,7 @@ const BYTE_RUNS: &[(&[&str], &[u8], &str, u8)] = &[
         "item 1: semantic 0 break\n",
         1,
     ),
-    (&["--version"], b"\xff", "cbor 0.3.0\n", 0),
+    (&["--version"], b"\xff", "cbor 0.4.0\n", 0),
 ];
 
 // Holds a run to its status, and to what it wrote.
@@ -708,7 +708,7 @@ fn tells_a_fault_of_the_input(rt: HostRuntime) -> Result<(), Fail> {
 // A command, what it reads, what it would write, and the room for that; the last flush fails.
 const NO_ROOM: [(&str, &str, &str, [usize; 4]); 7] = [
     ("diag", "8100\n820102\n", "[0]\n[1, 2]\n", [0, 3, 6, 20]),
-    ("--version", "", "cbor 0.3.0\n", [0, 4, 10, 20]),
+    ("--version", "", "cbor 0.4.0\n", [0, 4, 10, 20]),
     (
         "canon",
         "1800\na202000100\n",

@@ -1,4 +1,3 @@
-use Rattle.std.proofs.Common.{rules}
 use Rattle.std.proofs.lemmas.Result.{IfOk-weaker}
 use Rattle.cbor.proofs.JudgedAnswers.{item-answers}
 use Rattle.cbor.proofs.answering.answer_alone.Goals as goal
