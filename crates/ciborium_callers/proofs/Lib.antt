@@ -1,3 +1,4 @@
 mod LoneValue
+mod MemoryAlone
 mod OwnTypes
 mod WrittenInRow

@@ -6,7 +6,7 @@ ghost use Rattle.ciborium_callers.specs.declared.application.CopyError.TheVarian
 ghost use Rattle.ciborium_callers.specs.declared.application.CopyError.TheVariants.{Write as write};
 
 use crate::own_types::Message;
-use ciborium::{de, from_reader_next, ser, write_sequence};
+use ciborium::{de, from_buf_reader_next, ser, write_sequence};
 use std::fs::File;
 use std::io::{self, BufReader, BufWriter, Write};
 use std::{error, fmt};
@@ -67,7 +67,7 @@ pub fn read_version(
     let mut reader = BufReader::new(rt.alloc(), File::open(rt, path)?)?;
     let mut messages = Vec::new(rt.alloc());
     for _ in 0..u64::MAX {
-        let Some(message) = from_reader_next::<Message, _>(rt.alloc(), &mut reader)? else {
+        let Some(message) = from_buf_reader_next::<Message, _>(rt.alloc(), &mut reader)? else {
             return Ok(messages);
         };
         if message.version == version {

@@ -23,7 +23,7 @@ use crate::own_types::Message;
 use ciborium::laws::{canonical_keys_rise, written_reads_back};
 use ciborium::ser::Error;
 use ciborium::value::CanonicalValue;
-use ciborium::{Value, de, from_reader, from_reader_with_recursion_limit, into_writer};
+use ciborium::{Value, de, from_reader_with_recursion_limit, from_slice, into_writer, to_vec};
 use std::alloc::Global;
 use std::collections::BTreeMap;
 use std::convert::TryFrom;
@@ -55,18 +55,14 @@ pub fn read_value<R: Read>(
 pub fn only_item(alloc: Global, bytes: &[u8]) -> Option<Value>
     ensures { IfSome result (λ v. IsReadAs bytes.now 0 (Some 256) (tree_of v)) }
 {
-    let mut rest = bytes;
-    let value = from_reader(alloc, &mut rest).ok()?;
-    if rest.is_empty() { Some(value) } else { None }
+    from_slice(alloc, bytes).ok()
 }
 
 /// The bytes of a value.
 pub fn bytes_of(alloc: Global, value: &Value) -> Option<Vec<u8>>
     ensures { IfSome result (λ bytes. bytes.items ≡ encoding (tree_of value.now)) }
 {
-    let mut bytes = Vec::new(alloc);
-    into_writer(value, &mut bytes).ok()?;
-    Some(bytes)
+    to_vec(alloc, value).ok()
 }
 
 /// Writes a value: its encoding or a proper beginning of it, and the only error is the writer's.
@@ -87,9 +83,7 @@ pub fn bytes_of_message(alloc: Global, message: &Message) -> Option<Vec<u8>>
         (item.pair (item.text false (codes "body"))
         (item.text false (string_bytes message.now.body)) item.no_pairs)))) }
 {
-    let mut bytes = Vec::new(alloc);
-    into_writer(message, &mut bytes).ok()?;
-    Some(bytes)
+    to_vec(alloc, message).ok()
 }
 
 /// Writes a store, whose keys then strictly rise in the canonical order.

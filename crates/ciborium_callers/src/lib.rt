@@ -13,6 +13,7 @@ pub mod own_types;
 pub mod readme;
 pub mod round_trips;
 pub mod sequence_callers;
+pub mod slice_callers;
 pub mod struct_types;
 pub mod tag_types;
 pub mod tree_types;

@@ -9,7 +9,7 @@ ghost use Rattle.ciborium.specs.TypedAnswers.{TakesGiven};
 
 use crate::own_types::{Figure, Message, Moment};
 use ciborium::de::{self, Deserialize};
-use ciborium::{from_reader, into_writer};
+use ciborium::{from_reader, to_vec};
 use std::alloc::Global;
 use std::io::{self, Read};
 
@@ -28,9 +28,7 @@ pub fn bytes_of_circle(alloc: Global, radius: u8) -> Option<Vec<u8>>
         (item.pair (item.text false (codes "Circle")) (number_item (pos radius))
         item.no_pairs))) }
 {
-    let mut bytes = Vec::new(alloc);
-    into_writer(&Figure::Circle(radius), &mut bytes).ok()?;
-    Some(bytes)
+    to_vec(alloc, &Figure::Circle(radius)).ok()
 }
 
 /// The figure that a reader begins with, by the name of its variant.
@@ -46,9 +44,7 @@ pub fn bytes_of_moment(alloc: Global, moment: &Moment) -> Option<Vec<u8>>
     ensures { IfSome result (λ bytes. bytes.items
         ≡ written_bytes (item.tag 1 (number_item (pos moment.now.seconds)))) }
 {
-    let mut bytes = Vec::new(alloc);
-    into_writer(moment, &mut bytes).ok()?;
-    Some(bytes)
+    to_vec(alloc, moment).ok()
 }
 
 /// The moment that a reader begins with; it stands under its tag.

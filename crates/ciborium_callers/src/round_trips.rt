@@ -1,26 +1,28 @@
 //! Callers that write a value and read it again: it is the value. And one that writes two values of
 //! one content: the bytes are the same.
-ghost use Rattle.std.specs.Prelude.{◌<◌, ◌^◌, ◌≡◌, ◌≤◌, IfOk, IfSome, List, string_bytes, ℕ};
+ghost use Rattle.std.specs.Prelude.{◌<◌, ◌^◌, ◌≡◌, ◌≤◌, IfErr, IfOk, IfSome, List};
+ghost use Rattle.std.specs.Prelude.{string_bytes, ℕ};
 ghost use Rattle.std.specs.Io.KnownBytes.{Appends, Consumes};
 ghost use Rattle.ciborium.specs.Taken.{gives};
 ghost use Rattle.ciborium.specs.View.{tree_of};
 ghost use Rattle.ciborium.specs.DeterministicWrites.{named_form};
+ghost use Rattle.ciborium.specs.declared.de.error.Error.TheVariants.{Memory};
 ghost use Rattle.ciborium.specs.laws.FormRoundTrips.{IsOwnForm};
 ghost use Rattle.ciborium.specs.laws.Loaded.{AreCanonicalParts, entry_trees};
 
 use crate::own_types::Message;
-use ciborium::de::{from_reader_deterministic, from_reader_deterministic_with_order};
+use ciborium::de::{self, from_reader_deterministic, from_reader_deterministic_with_order};
 use ciborium::laws::{
     FormReadsBack, ReadsBack, WritesContent, equal_contents_equal_bytes, form_gives_content,
     is_form_read_back, is_loaded, is_read_back, store_is_deterministic,
-    written_deterministically_is_read_back, written_is_read_back,
+    written_deterministically_is_read_back, written_is_read_back, written_reads_back,
 };
-use ciborium::ser::Serialize;
+use ciborium::ser::{self, Serialize};
 use ciborium::value::{CanonicalValue, Error, KeyOrder, Value};
-use ciborium::{from_reader, into_writer, into_writer_deterministic};
+use ciborium::{from_reader, from_slice, into_writer, into_writer_deterministic, to_vec};
 use std::alloc::Global;
 use std::collections::BTreeMap;
-use std::io::{Read, Write};
+use std::io::{self, Read, Write};
 
 /// Through bytes.
 pub fn through_bytes<T: ReadsBack>(alloc: Global, value: &T) -> Option<T>
@@ -40,6 +42,22 @@ pub fn through_bytes<T: ReadsBack>(alloc: Global, value: &T) -> Option<T>
     };
     is_read_back(value, &again, 256, whole, reader);
     Some(again)
+}
+
+/// Through a list of bytes, all of which are read again. A value that has an item is refused for
+/// want of memory alone.
+pub fn through_vec<T: ReadsBack>(alloc: Global, value: &T) -> Result<T, de::Error<io::Error>>
+    requires held { T.is_held value.now }
+    requires levels { T.levels value.now ≤ 256 }
+    ensures ok { IfOk result (λ again. T.reading.content again ≡ T.reading.content value.now) }
+    ensures refused { IfOk (T.written value.now) (λ i. IfErr result (λ e. e ≡ Memory)) }
+{
+    written_reads_back();
+    match to_vec(alloc, value) {
+        Ok(bytes) => from_slice(alloc, &bytes),
+        Err(ser::Error::Value(kind)) => Err(de::Error::semantic(None, kind)),
+        Err(_) => Err(de::Error::Memory),
+    }
 }
 
 /// Through a `Value`.

@@ -7,9 +7,9 @@ ghost use Rattle.ciborium.specs.Sinks.{container_of, number_item, or_null};
 ghost use Rattle.ciborium.specs.TagReadings.{with_tag};
 
 use ciborium::de::{Deserialize, Source};
-use ciborium::into_writer;
 use ciborium::ser::{Serialize, Sink};
 use ciborium::tag::{Captured, Required};
+use ciborium::to_vec;
 use std::alloc::Global;
 
 /// A value, and the two tags around it where there are any.
@@ -77,7 +77,5 @@ pub fn bytes_under_a_tag(alloc: Global, number: u64) -> Option<Vec<u8>>
     ensures { IfSome result (λ bytes.
         bytes.items ≡ written_bytes (item.tag 255 (number_item (pos number)))) }
 {
-    let mut bytes = Vec::new(alloc);
-    into_writer(&Required::<u64, 255>(number), &mut bytes).ok()?;
-    Some(bytes)
+    to_vec(alloc, &Required::<u64, 255>(number)).ok()
 }

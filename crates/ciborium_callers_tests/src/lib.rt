@@ -7,6 +7,8 @@ mod ample_memory;
 #[cfg(test)]
 mod application_tests;
 #[cfg(test)]
+mod buffered_tests;
+#[cfg(test)]
 mod caller_tests;
 #[cfg(test)]
 mod deterministic_tests;
@@ -30,6 +32,10 @@ mod readme_tests;
 mod round_trip_tests;
 #[cfg(test)]
 mod sequence_tests;
+#[cfg(test)]
+mod shown;
+#[cfg(test)]
+mod slice_tests;
 #[cfg(test)]
 mod tree_tests;
 #[cfg(test)]

@@ -6,7 +6,7 @@ use ciborium::value::canonical::cmp_value;
 use ciborium::value::{CanonicalValue, Integer, KeyOrder, OutOfRange};
 use ciborium::{
     Value, cbor, from_reader, from_reader_deterministic, from_reader_with_recursion_limit,
-    into_writer, into_writer_deterministic,
+    from_slice, into_writer, into_writer_deterministic, to_vec,
 };
 use ciborium_callers::readme::{read_file, sum_file};
 use std::cmp::Ordering;
@@ -16,11 +16,14 @@ use std::test::Fail;
 #[test]
 fn reading(rt: HostRuntime) -> Result<(), Fail> {
     let alloc = rt.alloc();
+    let stored: &[u8] = &[0x82, 0x01, 0x61, 0x61];
+    let whole: (u8, String) = from_slice(alloc, stored)?; // (1, "a"): all of the bytes
     let mut reader: &[u8] = &[0x82, 0x01, 0x61, 0x61, 0x00];
     let value: Value = from_reader(alloc, &mut reader)?; // Array([1, "a"]); 00 is left
     let pair: (u8, String) = value.deserialized(alloc)?; // (1, "a"), as from bytes
     let last: u8 = from_reader_with_recursion_limit(alloc, &mut reader, 9)?; // within 9 levels
 
+    expect(whole == pair, "a pair")?;
     expect(pair.0 == 1 && pair.1.as_str() == "a" && last == 0, "parts")?;
     let again = Value::serialized(alloc, &(1u8, "a"))?; // Array([1, "a"])
     expect_same(value, again, "an array")
@@ -45,12 +48,14 @@ fn reading_a_head(rt: HostRuntime) -> Result<(), Fail> {
 #[test]
 fn writing(rt: HostRuntime) -> Result<(), Fail> {
     let alloc = rt.alloc();
+    let bytes = to_vec(alloc, &(1u8, "a"))?; // 82 01 61 61
     let mut writer = Vec::new(alloc);
     into_writer(&Value::from(-200i16), &mut writer)?; // 38 c7, without memory of its own
     into_writer(&(1u8, "a", Some(true)), &mut writer)?; // 83 01 61 61 f5
     into_writer(&Required::<u64, 1>(7), &mut writer)?; // c1 07: read back only under tag 1
     Encoder::new(&mut writer).push(Header::Bytes(Some(0)))?; // 40
 
+    expect_bytes(alloc, Some(bytes), "82016161")?;
     expect_bytes(alloc, Some(writer), "38c783016161f5c10740")
 }
 

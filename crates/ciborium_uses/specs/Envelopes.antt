@@ -11,10 +11,7 @@ use Rattle.ciborium.specs.Item as item
 use Rattle.ciborium.specs.Item.{Item}
 use Rattle.ciborium.specs.Spells.{Spells}
 use Rattle.ciborium.specs.Encoding.{item_of}
-use Rattle.ciborium.specs.Errors.{fault_of}
 use Rattle.ciborium.specs.Order.{tree_cmp}
-use Rattle.ciborium.specs.Sources.{Fault, of_device, of_end, of_kind, of_length, of_memory}
-use Rattle.ciborium.specs.Sources.{of_nesting, of_syntax}
 use Rattle.ciborium.specs.TagReadings.{if_tag, is_tag, taken_with_tag}
 use Rattle.ciborium.specs.Taken.{Taken, gives, taken_value}
 use Rattle.ciborium.specs.TakenParts.{taken_map, taken_then}
@@ -39,19 +36,8 @@ use Rattle.ciborium_uses.specs.declared.envelopes.wrapping.Wrapping.TheVariants.
 abbrev pub IsAllOf : {A : Type 0} → Taken A → List ℕ → A → Type 0
 IsAllOf taken bs v = (i : Item) × Spells bs i × (taken (Some 256) i ≡ gives v)
 
--- no bytes are to blame: memory was refused, or the reader failed, which one over bytes in memory
--- never does
-abbrev pub IsBlameless : Fault → Type 0
-IsBlameless (of_kind k) = ⊥
-IsBlameless of_nesting = ⊥
-IsBlameless of_syntax = ⊥
-IsBlameless of_memory = Unit {0}
-IsBlameless of_device = Unit {0}
-IsBlameless of_end = ⊥
-IsBlameless of_length = ⊥
-
+-- no bytes are to blame: memory was refused
 abbrev pub IsOutside : EnvelopeError → Type 0
-IsOutside (errors.Read part e) = IsBlameless (fault_of None e)
 IsOutside errors.Memory = Unit {0}
 IsOutside _ = ⊥
 

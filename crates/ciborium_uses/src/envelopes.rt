@@ -22,7 +22,7 @@ mod wrapping;
 pub use answer::answer;
 use ciborium::tag::{Captured, Required};
 use ciborium::value::{ByteBuf, Value};
-use ciborium::{into_writer, ser};
+use ciborium::{ser, to_vec};
 pub use claims::Claims;
 pub use error::{EnvelopeError, Part};
 use items::read_all;
@@ -53,10 +53,10 @@ pub struct Envelope {
 ///
 /// # Errors
 ///
-/// `Read` where the bytes of a part do not begin with its item, `Trailing` where bytes follow that,
-/// `Shape` where the message is no array of four, `NotMap`, `Label` and `Repeated` where a header
-/// or the claims are no map, or a key there is neither an integer nor a text, or is there twice,
-/// `Claim` where a claim has another type, and `Memory`.
+/// `Read` where the bytes of a part are not its item, `Shape` where the message is no array of
+/// four, `NotMap`, `Label` and `Repeated` where a header or the claims are no map, or a key there
+/// is neither an integer nor a text, or is there twice, `Claim` where a claim has another type, and
+/// `Memory`.
 pub fn read_envelope(alloc: Global, bytes: &[u8]) -> Result<Envelope, EnvelopeError>
     ensures ok { IfOk result (λ e. IsEnvelope bytes.now e) }
     ensures refused { IfErr result (λ e. (v : Envelope) → IsEnvelope bytes.now v → IsOutside e) }
@@ -134,10 +134,5 @@ pub fn signed_bytes(
     } else {
         &envelope.protected
     };
-    let mut bytes = Vec::new(alloc);
-    into_writer(
-        &("Signature1", header, external, &envelope.payload),
-        &mut bytes,
-    )?;
-    Ok(bytes)
+    to_vec(alloc, &("Signature1", header, external, &envelope.payload))
 }

@@ -19,13 +19,13 @@ pub mod reading;
 use ciborium::de::{self, Deserialize};
 use ciborium::laws::are_read_back;
 use ciborium::ser::{self, Serialize};
-use ciborium::{from_reader_next, into_writer, read_sequence, write_sequence};
+use ciborium::{from_buf_reader_next, into_writer, read_buf_sequence, write_sequence};
 pub use error::LogError;
 pub use lines::answer;
 use reading::Reading;
 use std::alloc::Global;
 use std::fs::File;
-use std::io::{self, BufReader, BufWriter, Read, Write};
+use std::io::{self, BufRead, BufReader, BufWriter, Write};
 
 /// Writes one reading behind what was written before.
 pub fn write_reading<W: Write>(
@@ -39,7 +39,7 @@ pub fn write_reading<W: Write>(
 }
 
 /// Reads the next reading, or `None` at the end. A reading that is cut short is an error.
-pub fn read_reading<R: Read>(
+pub fn read_reading<R: BufRead>(
     alloc: Global,
     reader: &mut R,
 ) -> Result<Option<Reading>, de::Error<io::Error>>
@@ -48,7 +48,7 @@ pub fn read_reading<R: Read>(
         ⟦<Reading as Deserialize>⟧.reading.taken (R.remaining reader.old)
         (R.remaining reader.new) (read_as content_of r)) }
 {
-    from_reader_next(alloc, reader)
+    from_buf_reader_next(alloc, reader)
 }
 
 /// Writes readings one after another. At `Ok` just their items have gone out, in order.
@@ -64,7 +64,7 @@ pub fn write_log<W: Write>(
 }
 
 /// Reads all readings to the end. At `Ok` what was there are just items that give them, in order.
-pub fn read_log<R: Read>(
+pub fn read_log<R: BufRead>(
     alloc: Global,
     reader: &mut R,
 ) -> Result<Vec<Reading>, de::Error<io::Error>>
@@ -72,7 +72,7 @@ pub fn read_log<R: Read>(
         (R.remaining reader.old) (R.remaining reader.new)
         (read_as (λ readings. map content_of readings.items) result) }
 {
-    read_sequence(alloc, reader)
+    read_buf_sequence(alloc, reader)
 }
 
 /// Writes readings into memory, and reads them from there: they are the readings that were
@@ -85,7 +85,7 @@ pub fn through_memory(alloc: Global, readings: &[Reading]) -> Result<Vec<Reading
     write_sequence(readings, &mut log)?;
     let bytes: &[u8] = &log;
     let mut rest = bytes;
-    let again = read_sequence::<Reading, _>(alloc, &mut rest)?;
+    let again = read_buf_sequence::<Reading, _>(alloc, &mut rest)?;
     are_read_back(readings, &again, bytes, rest);
     Ok(again)
 }

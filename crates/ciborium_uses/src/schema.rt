@@ -1,18 +1,20 @@
 //! A check of trees against a schema, before anything is made of them.
 ghost use Rattle.std.specs.List.{list_all};
-ghost use Rattle.std.specs.Prelude.{IfOk, IsTrue, map, not, ◌≡◌, ◌↔◌};
+ghost use Rattle.std.specs.Prelude.{IfErr, IfOk, IsTrue, Some, map, not, ◌≡◌, ◌↔◌};
+ghost use Rattle.ciborium.specs.Refuses.{IsReadAs};
+ghost use Rattle.ciborium.specs.Tree.{Tree};
 ghost use Rattle.ciborium.specs.View.{tree_of, tree_pairs_of, trees_of};
+ghost use Rattle.ciborium.specs.declared.de.error.Error.TheVariants.{Memory};
 ghost use Rattle.ciborium_uses.specs.Shapes.{HasShape, all_trees, field_fits, field_test, fits};
 ghost use Rattle.ciborium_uses.specs.Shapes.{has_field, is_text_of};
 ghost use Rattle.ciborium_uses.specs.declared.schema.SchemaError.TheVariants.{Read as read};
 
 mod lines;
 
-use ciborium::{Value, de, from_reader};
+use ciborium::{Value, de, from_slice};
 pub use lines::answer;
 use std::alloc::Global;
-use std::io::{self, Read};
-use std::{error, fmt};
+use std::{error, fmt, io};
 
 /// What is asked of a tree.
 #[derive(Debug, Drop, PartialEq)]
@@ -61,15 +63,15 @@ impl fmt::Display for SchemaError {
 
 impl error::Error for SchemaError {}
 
-/// Reads a tree that has a shape, and refuses every other one.
-pub fn read_shaped<R: Read>(
-    alloc: Global,
-    reader: &mut R,
-    shape: &Shape,
-) -> Result<Value, SchemaError>
-    ensures { IfOk result (λ value. HasShape shape.now (tree_of value)) }
+/// Reads all of the bytes as a tree that has a shape, and refuses every other one. Bytes that are
+/// such a tree within 256 levels are never refused but for want of memory.
+pub fn read_shaped(alloc: Global, bytes: &[u8], shape: &Shape) -> Result<Value, SchemaError>
+    ensures shape { IfOk result (λ value. HasShape shape.now (tree_of value)) }
+    ensures bytes { IfOk result (λ value. IsReadAs bytes.now 0 (Some 256) (tree_of value)) }
+    ensures refused { IfErr result (λ e. (t : Tree) → IsReadAs bytes.now 0 (Some 256) t →
+        HasShape shape.now t → e ≡ read Memory) }
 {
-    let value: Value = from_reader(alloc, reader)?;
+    let value: Value = from_slice(alloc, bytes)?;
     if has_shape(shape, &value) {
         Ok(value)
     } else {

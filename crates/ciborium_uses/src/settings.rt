@@ -18,14 +18,14 @@ use ciborium::de::Deserialize;
 use ciborium::laws::ReadsBack;
 use ciborium::ser::{self, Serialize};
 use ciborium::value::KeyOrder;
-use ciborium::{from_reader_deterministic, into_writer_deterministic};
+use ciborium::{from_buf_reader_deterministic, into_writer_deterministic};
 pub use error::SettingsError;
 use laws::{have_one_form, is_form_loaded};
 pub use lines::answer;
 use setting::Setting;
 use std::alloc::Global;
 use std::collections::BTreeMap;
-use std::io::{self, Read, Write};
+use std::io::{self, BufRead, Write};
 use topic::Topic;
 
 /// Settings by their topics.
@@ -55,11 +55,11 @@ pub fn save<W: Write>(
 /// tags, and items behind a setting's two, are dropped; a topic may be a map of its name to null,
 /// and of a topic that stands in two forms the last one counts; and a level may be a bignum, which
 /// has more than 16 bytes then.
-pub fn load<R: Read>(alloc: Global, reader: &mut R) -> Result<Settings, SettingsError>
+pub fn load<R: BufRead>(alloc: Global, reader: &mut R) -> Result<Settings, SettingsError>
     ensures { LoadsEncoding ⟦<Settings as Deserialize>⟧.reading.taken (R.remaining reader.old)
         (R.remaining reader.new) (read_as settings_content result) }
 {
-    let tree = from_reader_deterministic(alloc, reader, LEVELS)?;
+    let tree = from_buf_reader_deterministic(alloc, reader, LEVELS)?;
     let settings = tree.deserialized::<Settings>(alloc)?;
     Ok(settings)
 }
@@ -73,7 +73,7 @@ pub fn through_memory(alloc: Global, settings: &Settings) -> Result<Settings, Se
     into_writer_deterministic(alloc, settings, ORDER, &mut saved)?;
     let bytes: &[u8] = &saved;
     let mut rest = bytes;
-    let tree = from_reader_deterministic(alloc, &mut rest, LEVELS)?;
+    let tree = from_buf_reader_deterministic(alloc, &mut rest, LEVELS)?;
     let again = tree.deserialized::<Settings>(alloc)?;
     is_form_loaded(settings, &tree, &again, ORDER, LEVELS, bytes, rest);
     Ok(again)

@@ -35,10 +35,8 @@ impl fmt::Display for Part {
 /// Why bytes are no envelope.
 #[derive(Debug, Drop)]
 pub enum EnvelopeError {
-    /// The bytes do not begin with the wanted item.
+    /// The bytes are not the wanted item.
     Read(Part, de::Error<io::Error>),
-    /// Bytes follow the item.
-    Trailing(Part),
     /// Another tag stands around the message, or one too many.
     Tags,
     /// There are not four parts: a byte string, any item, and two byte strings.
@@ -59,7 +57,6 @@ impl fmt::Display for EnvelopeError {
     fn fmt<W: fmt::Write>(&self, f: &mut fmt::Formatter<W>) -> fmt::Result {
         match self {
             EnvelopeError::Read(part, error) => write!(f, "{part}: {error}"),
-            EnvelopeError::Trailing(part) => write!(f, "{part}: bytes follow the item"),
             EnvelopeError::Tags => f.write_str("the message: not the tags of a signed message"),
             EnvelopeError::Shape => f.write_str("the message: not the array of a signed message"),
             EnvelopeError::NotMap(part) => write!(f, "{part}: not a map"),

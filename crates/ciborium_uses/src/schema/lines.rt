@@ -17,8 +17,7 @@ pub fn answer(alloc: Global, line: &str) -> Result<String, AllocError> {
     let Ok(bytes) = hex::decode(alloc, digits) else {
         return String::from_str(alloc, "no hex");
     };
-    let mut reader: &[u8] = &bytes;
-    match read_shaped(alloc, &mut reader, &shape) {
+    match read_shaped(alloc, &bytes, &shape) {
         Ok(value) => value.to_string(alloc),
         Err(error) => format!(in alloc; "{error}"),
     }
