@@ -1,12 +1,9 @@
-"""A model of how a reader is asked where a `Value` is read, written apart from the library.
+"""A model of how a plain reader is asked where a `Value` is read, written apart from the library.
 
-A byte is asked for only where it is needed and none is held. One read asks for the rest of what is needed, or for what
-is due, whichever is more, and for 256 bytes at most where it is due. Due is a byte for each part that is left of a
-container whose length was announced, told before a part of it where none is held; a pair is two parts. Strings are
-taken into a room of 1,024 bytes.
+A byte is asked for only where it is needed: one read asks for an initial byte, one for the argument behind it, and one
+for each piece of a payload, which is taken into a room of 1,024 bytes. What a read does not give is asked for again.
 """
 
-MOST_AHEAD = 256
 ROOM = 1024
 
 
@@ -17,40 +14,18 @@ class Reader:
         self.content, self.cut = content, cut
         self.place = self.reads = self.asked = 0
 
-    def read(self, size):
-        self.reads += 1
-        self.asked += size
-        given = self.content[self.place : self.place + min(size, self.cut)]
-        self.place += len(given)
-        return given
-
-
-class Window:
-    """What is held of a reader, and the offset up to which bytes are due."""
-
-    def __init__(self, reader):
-        self.reader, self.held, self.count, self.reach = reader, b"", 0, 0
-
-    def allow(self, parts):
-        self.reach = max(self.reach, self.count + parts)
-
     def take(self, size):
-        content = b""
-        while len(content) < size:
-            need = size - len(content)
-            if not self.held:
-                due = min(self.reach - self.count, MOST_AHEAD)
-                self.held = self.reader.read(max(need, due))
-                if not self.held:
-                    raise EOFError
-            taken, self.held = self.held[:need], self.held[need:]
-            self.count += len(taken)
-            content += taken
-        return content
+        end = self.place + size
+        while self.place < end:
+            if self.place == len(self.content):
+                raise EOFError
+            self.reads += 1
+            self.asked += end - self.place
+            self.place = min(self.place + self.cut, end, len(self.content))
+        return self.content[end - size : end]
 
     def take_head(self):
-        initial = self.take(1)[0]
-        major, information = divmod(initial, 32)
+        major, information = divmod(self.take(1)[0], 32)
         if information < 24:
             return major, information
         if information < 28:
@@ -58,31 +33,29 @@ class Window:
         return major, None
 
 
-def read_value(window):
+def read_value(reader):
     """Reads a well-formed value without open strings. What is open: the parts left of each container, None where it is
-    open, and 1 of a tag, which is allowed nothing."""
-    stack = []
+    open, and 1 of a tag."""
+    left = []
     while True:
-        if not window.held and stack and stack[-1][0] and stack[-1][1] is not None:
-            window.allow(stack[-1][1])
-        major, argument = window.take_head()
+        major, argument = reader.take_head()
         if major in (2, 3):
             for start in range(0, argument, ROOM):
-                window.take(min(ROOM, argument - start))
+                reader.take(min(ROOM, argument - start))
         if major in (4, 5) and argument != 0:
-            stack.append([True, argument and argument * (major - 3)])
+            left.append(argument and argument * (major - 3))
             continue
         if major == 6:
-            stack.append([False, 1])
+            left.append(1)
             continue
         if major == 7 and argument is None:
-            stack.pop()
-        while stack and stack[-1][1] is not None:
-            stack[-1][1] -= 1
-            if stack[-1][1] > 0:
+            left.pop()
+        while left and left[-1] is not None:
+            left[-1] -= 1
+            if left[-1] > 0:
                 break
-            stack.pop()
-        if not stack:
+            left.pop()
+        if not left:
             return
 
 
@@ -91,6 +64,6 @@ def count_reads(content):
     counts = []
     for cut in (len(content), 1):
         reader = Reader(content, cut)
-        read_value(Window(reader))
+        read_value(reader)
         counts.append("%d reads of %d gave %d" % (reader.reads, reader.asked, reader.place))
     return "; ".join(counts)

@@ -2,7 +2,6 @@
 apart from the library. `line_model` has the other forms of lines."""
 
 GREATEST = 2**64 - 1
-MOST_AHEAD = 256
 BYTES_A_WRITE = 3
 NAMES = ("positive", "negative", "bytes", "text", "array", "map", "tag")
 OPEN = 31
@@ -166,18 +165,6 @@ def answer_faults(data, is_first):
     except Refusal:
         return None
     return "io at %d reads, then %s" % (max(decoder.taken, 1), text)
-
-
-def answer_ahead(offset, due, data):
-    """One read for what is due, with the first byte of a head; what the head needs beyond it is read behind it."""
-    decoder = Decoder(data, offset)
-    try:
-        decoder.pull()
-        answer = "pulled"
-    except Refusal as refusal:
-        answer = str(refusal)
-    read = max(decoder.taken, min(due, MOST_AHEAD, GREATEST - offset, len(data)))
-    return "%s left %d" % (answer, len(data) - read)
 
 
 def answer_payload(data):

@@ -486,11 +486,6 @@ def at_offset(answer):
     return answer_at
 
 
-def answer_ahead(rest):
-    offset, count, digits = split(rest, 3)
-    return heads.answer_ahead(parse_limit(offset), parse_limit(count), parse_pieces(digits))
-
-
 def parse_integer(text):
     """A number of 128 bits, with its sign or without one."""
     if SIGNED.match(text) is None or not -(2**127) <= int(text) < 2**128:
@@ -585,7 +580,6 @@ FORMS = {
     "first": lambda rest: heads.answer_first(parse_pieces(rest)),
     "head-faults": answer_head_faults,
     "first-faults": lambda rest: answer_head_faults(rest, is_first=True),
-    "ahead": answer_ahead,
     "payload": lambda rest: heads.answer_payload(parse_pieces(rest)),
     "integer": lambda rest: heads.answer_integer(parse_integer(rest)),
     "canonical": answer_canonical,

@@ -1,7 +1,7 @@
 //! A reader and a writer of few bytes at a time, that may fail.
 
-use std::alloc::Global;
-use std::io::{self, ErrorKind, Read, Write};
+use std::alloc::{AllocError, Global};
+use std::io::{self, BufReader, ErrorKind, Read, Write};
 
 /// How a device fails.
 #[derive(Clone, Copy, Debug)]
@@ -129,6 +129,27 @@ impl<'a> Read for Source<'a> {
         self.bytes = &self.bytes[taken..];
         Ok(taken)
     }
+}
+
+/// A buffer of so many bytes over a source.
+///
+/// # Errors
+///
+/// `AllocError` where memory is refused for the buffer.
+pub fn buffer<'a>(
+    alloc: Global,
+    capacity: usize,
+    source: Source<'a>,
+) -> Result<BufReader<Source<'a>>, AllocError> {
+    BufReader::with_capacity(alloc, capacity, source).map_err(|_| AllocError)
+}
+
+/// How many bytes are left of a source and of what its buffer holds.
+pub fn left_behind(reader: &BufReader<Source<'_>>) -> usize {
+    reader
+        .buffer()
+        .len()
+        .saturating_add(reader.get_ref().left())
 }
 
 /// Holds what is written, at most so many bytes a write, and may fail at one of its writes.

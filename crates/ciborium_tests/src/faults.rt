@@ -1,14 +1,14 @@
 //! What a call that reads answers where each read of its reader fails in turn.
 
 use crate::alike::Alike;
-use crate::devices::{Cut, FAILURES, Failure, Source, cuts_of};
-use crate::fronts::{Call, ask_call, describe_front};
+use crate::devices::{Cut, FAILURES, Failure, Source, buffer, cuts_of, left_behind};
+use crate::fronts::{Call, ask_buffer, ask_call, describe_front};
 use crate::refusals::name_io;
 use crate::types::Job;
 use ciborium::de::Deserialize;
 use ciborium::ser::Serialize;
 use std::alloc::{AllocError, Global};
-use std::io::ErrorKind;
+use std::io::{BufReader, ErrorKind};
 
 /// What the call answers where each read fails in turn.
 #[derive(Clone, Copy)]
@@ -26,7 +26,7 @@ impl Job for FailedReads<'_> {
 /// `io at N reads, then FRONT` where each of N reads of one byte, failing, makes the call answer
 /// just that failure, and the answer is FRONT where the read behind the last one would fail. Where
 /// it is otherwise `read K: ANSWER`, of the first such read; and where the ways to fail differ, or
-/// other cuts into reads end at another FRONT, `differs: A / B`.
+/// other cuts into reads, or buffers over them, end at another FRONT, `differs: A / B`.
 ///
 /// # Errors
 ///
@@ -63,6 +63,11 @@ fn fail_cut_reads<T: Deserialize + Serialize>(
         for failure in FAILURES {
             let text = fail_each_read::<T>(alloc, call, bytes, (cut, failure))?;
             alike.compare(alloc, front_of(alloc, text.as_str()))?;
+            for capacity in [1, 3] {
+                let way = (cut, failure);
+                let text = fail_each_fill::<T>(alloc, call, bytes, way, capacity)?;
+                alike.compare(alloc, front_of(alloc, text.as_str()))?;
+            }
         }
     }
     Ok(alike.into_text())
@@ -86,6 +91,27 @@ fn fail_each_read<T: Deserialize + Serialize>(
 ) -> Result<String, AllocError> {
     for at in 0..bytes.len().saturating_add(2) {
         if let Some(end) = fail_read::<T>(alloc, call, (bytes, cut), (at, failure))? {
+            return Ok(end);
+        }
+    }
+    String::from_str(alloc, "reads without end")
+}
+
+// The same where the reader stands behind a buffer of so many bytes.
+fn fail_each_fill<T: Deserialize + Serialize>(
+    alloc: Global,
+    call: Call,
+    bytes: &[u8],
+    (cut, failure): (Cut, Failure),
+    capacity: usize,
+) -> Result<String, AllocError> {
+    for at in 0..bytes.len().saturating_add(2) {
+        let fault = (at, failure);
+        let mut reader = buffer(alloc, capacity, Source::new(bytes, cut, Some(fault)))?;
+        let front = ask_buffer::<T, BufReader<Source<'_>>>(alloc, call, &mut reader)?;
+        let text = describe_front(alloc, front, left_behind(&reader))?;
+        let failed = reader.get_ref().failed;
+        if let Some(end) = judge_fault(alloc, text.as_str(), failed, fault)? {
             return Ok(end);
         }
     }

@@ -1,19 +1,20 @@
 //! What the bytes of a line give at their front, read in several ways.
 
 use crate::alike::Alike;
-use crate::devices::{Cut, Source, cuts_of};
+use crate::devices::{Cut, Source, buffer, cuts_of, left_behind};
 use crate::refusals::{describe_read, describe_tree};
 use crate::types::Job;
 use crate::writes::read_whole;
 use ciborium::de::{self, Deserialize};
 use ciborium::ser::Serialize;
-use ciborium::value::{self, Value};
+use ciborium::value::{self, Kind, Value};
 use ciborium::{
+    from_buf_reader, from_buf_reader_deterministic, from_buf_reader_with_recursion_limit,
     from_reader, from_reader_deterministic, from_reader_with_buffer,
-    from_reader_with_recursion_limit, into_writer,
+    from_reader_with_recursion_limit, from_slice_with_recursion_limit, into_writer,
 };
 use std::alloc::{AllocError, Global};
-use std::io::{self, Read};
+use std::io::{self, BufRead, BufReader, Read};
 
 /// The limit of `from_reader`.
 pub const USUAL_LIMIT: usize = 256;
@@ -26,7 +27,7 @@ pub enum Call {
     /// `from_reader_with_recursion_limit`, with this limit.
     Limited(usize),
     /// `from_reader_with_buffer`, with a scratch of so many bytes.
-    Buffered(usize),
+    Scratch(usize),
     /// `from_reader_deterministic`, with this limit.
     Strict(usize),
 }
@@ -50,10 +51,11 @@ impl Job for Reading<'_> {
     }
 }
 
-/// What a call gives of the front of the bytes, from the slice and from readers of one byte a read,
-/// of three and of drawn numbers; where the limit is the usual one also with other calls and sizes
-/// of a scratch.
-/// `differs: A / B` where one of them gives something else than the first.
+/// What a call gives of the front of the bytes, from the slice as a plain reader and from readers of
+/// one byte a read, of three and of drawn numbers; also from buffers of one byte and of three over
+/// these, from the slice as a reader with a buffer, and from the slice of the item alone; where the
+/// limit is the usual one also with other calls and sizes of a scratch. `differs: A / B` where one
+/// of them gives something else than the first.
 ///
 /// # Errors
 ///
@@ -67,6 +69,14 @@ pub fn read_alike<T: Deserialize + Serialize>(
     let mut alike = Alike::new(text);
     for cut in cuts_of(bytes) {
         alike.compare(alloc, read_slowly::<T>(alloc, call, bytes, cut))?;
+        for capacity in [1, 3] {
+            let answer = read_buffer::<T>(alloc, call, bytes, (cut, capacity));
+            alike.compare(alloc, answer)?;
+        }
+    }
+    alike.compare(alloc, read_held::<T>(alloc, call, bytes))?;
+    if let Call::Limited(limit) = call {
+        alike.compare(alloc, read_alone::<T>(alloc, limit, bytes))?;
     }
     if matches!(call, Call::Limited(USUAL_LIMIT)) {
         compare_others::<T>(alloc, bytes, &mut alike)?;
@@ -82,9 +92,9 @@ fn compare_others<T: Deserialize + Serialize>(
 ) -> Result<(), AllocError> {
     for call in [
         Call::Plain,
-        Call::Buffered(0),
-        Call::Buffered(1),
-        Call::Buffered(4096),
+        Call::Scratch(0),
+        Call::Scratch(1),
+        Call::Scratch(4096),
     ] {
         alike.compare(alloc, read_slice::<T>(alloc, call, bytes))?;
         alike.compare(alloc, read_slowly::<T>(alloc, call, bytes, Cut::Most(1)))?;
@@ -115,6 +125,72 @@ fn read_slowly<T: Deserialize + Serialize>(
     describe_front(alloc, front, source.left())
 }
 
+// The same of a buffer of so many bytes over such a reader.
+fn read_buffer<T: Deserialize + Serialize>(
+    alloc: Global,
+    call: Call,
+    bytes: &[u8],
+    (cut, capacity): (Cut, usize),
+) -> Result<String, AllocError> {
+    let source = Source::new(bytes, cut, None);
+    let mut reader = buffer(alloc, capacity, source)?;
+    let front = ask_buffer::<T, BufReader<Source<'_>>>(alloc, call, &mut reader)?;
+    describe_front(alloc, front, left_behind(&reader))
+}
+
+// The same of the slice as a reader with a buffer.
+fn read_held<T: Deserialize + Serialize>(
+    alloc: Global,
+    call: Call,
+    bytes: &[u8],
+) -> Result<String, AllocError> {
+    let mut rest = bytes;
+    let front = ask_buffer::<T, &[u8]>(alloc, call, &mut rest)?;
+    describe_front(alloc, front, rest.len())
+}
+
+// The same of the slice of the item alone: where bytes behind it are refused, up to there.
+fn read_alone<T: Deserialize + Serialize>(
+    alloc: Global,
+    limit: usize,
+    bytes: &[u8],
+) -> Result<String, AllocError> {
+    let (item, behind) = match from_slice_with_recursion_limit::<T>(alloc, bytes, limit) {
+        Err(de::Error::Semantic(Some(end), Kind::TrailingData)) if end < bytes.len() => {
+            bytes.split_at(end)
+        }
+        answer => {
+            let front = show_front(alloc, answer)?;
+            return describe_front(alloc, front, 0);
+        }
+    };
+    let answer = from_slice_with_recursion_limit::<T>(alloc, item, limit);
+    let front = show_front(alloc, answer)?;
+    describe_front(alloc, front, behind.len())
+}
+
+/// What the call for a reader with a buffer gives, whatever the scratch.
+///
+/// # Errors
+///
+/// `AllocError` where memory is refused for the text.
+pub fn ask_buffer<T: Deserialize + Serialize, R: BufRead>(
+    alloc: Global,
+    call: Call,
+    reader: &mut R,
+) -> Result<Front, AllocError> {
+    match call {
+        Call::Plain | Call::Scratch(_) => show_front::<T>(alloc, from_buf_reader(alloc, reader)),
+        Call::Limited(limit) => {
+            let answer = from_buf_reader_with_recursion_limit(alloc, reader, limit);
+            show_front::<T>(alloc, answer)
+        }
+        Call::Strict(limit) => {
+            show_front(alloc, from_buf_reader_deterministic(alloc, reader, limit))
+        }
+    }
+}
+
 /// What the call gives. The strict one reads a `Value`, whatever the type.
 ///
 /// # Errors
@@ -133,13 +209,13 @@ pub fn ask_call<T: Deserialize + Serialize, R: Read>(
                 from_reader_with_recursion_limit(alloc, reader, limit),
             )
         }
-        Call::Buffered(size) => ask_buffered::<T, R>(alloc, size, reader),
+        Call::Scratch(size) => ask_with_scratch::<T, R>(alloc, size, reader),
         Call::Strict(limit) => show_front(alloc, from_reader_deterministic(alloc, reader, limit)),
     }
 }
 
 // What the call with a scratch of so many bytes gives.
-fn ask_buffered<T: Deserialize + Serialize, R: Read>(
+fn ask_with_scratch<T: Deserialize + Serialize, R: Read>(
     alloc: Global,
     size: usize,
     reader: &mut R,

@@ -1,10 +1,10 @@
 //! Lines on the lowest layer: heads, payloads and integers.
 
 use crate::growth::{find_call, make_call, name_outcome};
-use crate::heads::{Question, ask_alike, ask_failing, count_left};
+use crate::heads::{Question, ask_alike, ask_failing};
 use crate::integers::{compare_in_row, describe_number};
 use crate::payloads::write_failing;
-use crate::pieces::{decode_pieces, parse_limited, split_number};
+use crate::pieces::{decode_pieces, parse_limited};
 use std::alloc::{AllocError, Global};
 
 /// The answer to a line whose first word is this one, or none where the line is of another form.
@@ -12,7 +12,6 @@ use std::alloc::{AllocError, Global};
 /// - `head OFFSET HEX`, `heads OFFSET HEX`: the first head at that offset, with its payload and as
 ///   it is written again, or each of the heads, with its offset and length
 /// - `first HEX`: what `pull_first` gives
-/// - `ahead OFFSET NUMBER HEX`: how many bytes are left behind a head where so many are due
 /// - `head-faults HEX`, `first-faults HEX`: the same where each read in turn fails
 /// - `payload HEX`: what `write_all` puts out where each write in turn fails
 /// - `growth CALL`: what comes of that call
@@ -29,7 +28,6 @@ pub fn answer_head_line(
     match word {
         "head" => read_at(alloc, Question::Head, rest),
         "heads" => read_at(alloc, Question::Heads, rest),
-        "ahead" => read_due(alloc, rest),
         "integer" => describe_number(alloc, rest),
         "growth" => make_named(alloc, rest),
         "canonical" => compare_in_row(alloc, rest),
@@ -56,17 +54,6 @@ fn answer_bytes(alloc: Global, word: &str, rest: &str) -> Result<Option<String>,
 fn read_at(alloc: Global, question: Question, rest: &str) -> Result<Option<String>, AllocError> {
     match parse_limited(alloc, rest)? {
         Some((offset, bytes)) => Ok(Some(ask_alike(alloc, question, offset, &bytes)?)),
-        None => Ok(None),
-    }
-}
-
-// The answer to `OFFSET NUMBER HEX`.
-fn read_due(alloc: Global, rest: &str) -> Result<Option<String>, AllocError> {
-    let Some((offset, behind)) = split_number(rest) else {
-        return Ok(None);
-    };
-    match parse_limited(alloc, behind)? {
-        Some((due, bytes)) => Ok(Some(count_left(alloc, offset, due, &bytes)?)),
         None => Ok(None),
     }
 }

@@ -4,7 +4,9 @@ use crate::outcome::{Failure, expect, judge_read, judge_tree};
 use ciborium::de::Deserialize;
 use ciborium::tag::Captured;
 use ciborium::value::Value;
-use ciborium::{from_reader, from_reader_next, from_reader_with_buffer};
+use ciborium::{
+    from_buf_reader, from_reader, from_reader_next, from_reader_with_buffer, from_slice,
+};
 use ciborium_callers::own_types::Span;
 use std::alloc::Global;
 
@@ -114,7 +116,12 @@ fn read_bytes<T: Deserialize + PartialEq>(
     expect(value == *expected && reader.is_empty())?;
     let mut reader = bytes;
     let value: Option<T> = from_reader_next(alloc, &mut reader).map_err(judge_read)?;
-    expect(value.is_some_and(|read| read == *expected) && reader.is_empty())
+    expect(value.is_some_and(|read| read == *expected) && reader.is_empty())?;
+    let mut reader = bytes;
+    let value: T = from_buf_reader(alloc, &mut reader).map_err(judge_read)?;
+    expect(value == *expected && reader.is_empty())?;
+    let value: T = from_slice(alloc, bytes).map_err(judge_read)?;
+    expect(value == *expected)
 }
 
 // Fails unless the tree gives this value.

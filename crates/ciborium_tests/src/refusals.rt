@@ -88,5 +88,6 @@ fn name_kind(kind: Kind) -> &'static str {
         Kind::NotFolded => "notfolded",
         Kind::KeyOrder => "keyorder",
         Kind::DuplicateKey => "duplicatekey",
+        Kind::TrailingData => "trailingdata",
     }
 }

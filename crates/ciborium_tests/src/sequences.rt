@@ -1,15 +1,15 @@
 //! Sequences of items, read one by one.
 
 use crate::alike::Alike;
-use crate::devices::{Cut, FAILURES, Failure, Source, cuts_of};
+use crate::devices::{Cut, FAILURES, Failure, Source, buffer, cuts_of};
 use crate::fronts::show_front;
 use crate::refusals::name_io;
 use crate::types::Job;
-use ciborium::de::Deserialize;
-use ciborium::from_reader_next;
+use ciborium::de::{self, Deserialize};
 use ciborium::ser::Serialize;
+use ciborium::{from_buf_reader_next, from_reader_next};
 use std::alloc::{AllocError, Global};
-use std::io::{ErrorKind, Read};
+use std::io::{self, BufRead, BufReader, ErrorKind, Read};
 
 /// What is asked of a sequence.
 #[derive(Clone, Copy, Debug)]
@@ -44,7 +44,8 @@ impl Job for Sequence<'_> {
 }
 
 // The sequence of a slice, and `differs: A / B` where it is another one from a reader of few bytes
-// a read.
+// a read, from a buffer of one byte or of three over it, or from the slice as a reader with a
+// buffer.
 fn read_alike<T: Deserialize + Serialize>(
     alloc: Global,
     bytes: &[u8],
@@ -55,7 +56,16 @@ fn read_alike<T: Deserialize + Serialize>(
     for cut in cuts_of(bytes) {
         let mut source = Source::new(bytes, cut, None);
         alike.compare(alloc, read_all::<T, Source>(alloc, &mut source, goes_on))?;
+        for capacity in [1, 3] {
+            let mut reader = buffer(alloc, capacity, Source::new(bytes, cut, None))?;
+            alike.compare(
+                alloc,
+                read_held::<T, BufReader<Source<'_>>>(alloc, &mut reader, goes_on),
+            )?;
+        }
     }
+    let mut rest = bytes;
+    alike.compare(alloc, read_held::<T, &[u8]>(alloc, &mut rest, goes_on))?;
     Ok(alike.into_text())
 }
 
@@ -112,27 +122,59 @@ fn read_all<T: Deserialize + Serialize, R: Read>(
 ) -> Result<String, AllocError> {
     let mut text = String::new(alloc);
     for _ in 0..u64::MAX {
-        let answer = match from_reader_next::<T, R>(alloc, reader) {
-            Ok(Some(value)) => show_front(alloc, Ok(value))?,
-            Ok(None) => break,
-            Err(error) => show_front::<T>(alloc, Err(error))?,
-        };
-        match answer {
-            Ok(digits) => {
-                text.push_str("ok ")?;
-                text.push_str(digits.as_str())?;
-            }
-            Err(refusal) => {
-                text.push_str(refusal.as_str())?;
-                if !goes_on {
-                    return Ok(text);
-                }
+        let next = from_reader_next::<T, R>(alloc, reader);
+        if !push_item(alloc, next, goes_on, &mut text)? {
+            return Ok(text);
+        }
+    }
+    Ok(text)
+}
+
+// The same of a reader with a buffer.
+fn read_held<T: Deserialize + Serialize, R: BufRead>(
+    alloc: Global,
+    reader: &mut R,
+    goes_on: bool,
+) -> Result<String, AllocError> {
+    let mut text = String::new(alloc);
+    for _ in 0..u64::MAX {
+        let next = from_buf_reader_next::<T, R>(alloc, reader);
+        if !push_item(alloc, next, goes_on, &mut text)? {
+            return Ok(text);
+        }
+    }
+    Ok(text)
+}
+
+// Puts an item, the end or why the next one is refused behind the text, and says whether to go on.
+fn push_item<T: Serialize + Drop>(
+    alloc: Global,
+    next: Result<Option<T>, de::Error<io::Error>>,
+    goes_on: bool,
+    text: &mut String,
+) -> Result<bool, AllocError> {
+    let answer = match next {
+        Ok(Some(value)) => show_front(alloc, Ok(value))?,
+        Ok(None) => {
+            text.push_str("end")?;
+            return Ok(false);
+        }
+        Err(error) => show_front::<T>(alloc, Err(error))?,
+    };
+    match answer {
+        Ok(digits) => {
+            text.push_str("ok ")?;
+            text.push_str(digits.as_str())?;
+        }
+        Err(refusal) => {
+            text.push_str(refusal.as_str())?;
+            if !goes_on {
+                return Ok(false);
             }
         }
-        text.push_str("; ")?;
     }
-    text.push_str("end")?;
-    Ok(text)
+    text.push_str("; ")?;
+    Ok(true)
 }
 
 // `io after 0 1 1 items, then SEQUENCE` where each read of one byte, failing, ends the sequence as
@@ -147,6 +189,9 @@ fn fail_reads<T: Deserialize + Serialize>(
     let mut alike = Alike::new(text);
     for failure in FAILURES {
         alike.compare(alloc, fail_each_read::<T>(alloc, bytes, failure))?;
+        if let Failure::Kind(_) = failure {
+            alike.compare(alloc, fail_each_fill::<T>(alloc, bytes, failure))?;
+        }
     }
     Ok(alike.into_text())
 }
@@ -171,6 +216,42 @@ fn fail_each_read<T: Deserialize + Serialize>(
     String::from_str(alloc, "reads without end")
 }
 
+// The same where the reader stands behind a buffer of one byte. Where the sequence may end such a
+// one asks twice, and only the first of these reads is made to fail.
+fn fail_each_fill<T: Deserialize + Serialize>(
+    alloc: Global,
+    bytes: &[u8],
+    failure: Failure,
+) -> Result<String, AllocError> {
+    let whole = read_slice::<T>(alloc, bytes, false)?;
+    let mut counts = Counts {
+        failure,
+        last: None,
+        answer: String::from_str(alloc, "io after")?,
+    };
+    for number in 0..bytes.len().saturating_add(2) {
+        let at = if number > bytes.len() {
+            usize::MAX
+        } else {
+            number
+        };
+        let source = Source::new(bytes, Cut::Most(1), Some((at, failure)));
+        let mut reader = buffer(alloc, 1, source)?;
+        let text = read_held::<T, BufReader<Source<'_>>>(alloc, &mut reader, false)?;
+        let failed = reader.get_ref().failed;
+        if push_read(
+            alloc,
+            (whole.as_str(), text.as_str()),
+            at,
+            failed,
+            &mut counts,
+        )? {
+            return Ok(counts.answer);
+        }
+    }
+    String::from_str(alloc, "reads without end")
+}
+
 // How reads fail, how many items stood before the last that did, and the answer so far.
 #[derive(Drop)]
 struct Counts {
@@ -189,11 +270,22 @@ fn fail_read<T: Deserialize + Serialize>(
 ) -> Result<bool, AllocError> {
     let mut source = Source::new(bytes, Cut::Most(1), Some((at, counts.failure)));
     let text = read_all::<T, Source>(alloc, &mut source, false)?;
-    if source.failed {
-        return push_count(alloc, whole, text.as_str(), at, counts);
+    push_read(alloc, (whole, text.as_str()), at, source.failed, counts)
+}
+
+// The same of what was read, where the read has failed or not.
+fn push_read(
+    alloc: Global,
+    (whole, text): (&str, &str),
+    at: usize,
+    failed: bool,
+    counts: &mut Counts,
+) -> Result<bool, AllocError> {
+    if failed {
+        return push_count(alloc, whole, text, at, counts);
     }
     counts.answer.push_str(" items, then ")?;
-    counts.answer.push_str(text.as_str())?;
+    counts.answer.push_str(text)?;
     Ok(true)
 }
 
