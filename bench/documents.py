@@ -56,6 +56,10 @@ def nested(r, count):
     return [head(4, count)] + [b"\x81" * 199 + b"\x80"] * count
 
 
+def message(place):
+    return head(5, 2) + string("version") + head(0, place % 256) + string("body") + string(f"message {place}")
+
+
 def words(r, count):
     keys = sorted({text(r, LETTERS[:36], 12, 12) for _ in range(count)})
     return [head(5, len(keys))] + [k + head(0, r.randrange(1 << 40)) for k in keys]
@@ -76,6 +80,7 @@ DOCUMENTS = {
     "records": ("records", 200_000, array(record)),
     "map": ("map", 100_000, words),
     "texts": ("texts", 200_000, array(lambda r: text(r, LETTERS, 20, 20))),
+    "structs": ("structs", 100_000, lambda r, count: [head(4, count)] + [message(place) for place in range(count)]),
     "keys": ("sort", 200_000, array(key)),
     "messages": ("messages", 200_000, lambda r, count: [record(r) for _ in range(count)]),
 }

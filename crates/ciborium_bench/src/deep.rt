@@ -1,6 +1,6 @@
 //! One call on a value that nests deep, to see how much stack it takes.
 
-use crate::measure::Fault;
+use crate::fault::Fault;
 use ciborium::value::KeyOrder;
 use ciborium::value::canonical::cmp_bytewise;
 use ciborium::{Value, from_reader_with_recursion_limit, into_writer, into_writer_deterministic};

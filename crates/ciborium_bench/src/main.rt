@@ -2,33 +2,46 @@
 //! turn with others, and prints the tables of docs/BENCHMARKS.md.
 //!
 //! `ciborium_bench KIND ROUNDS FILE` prints a line `CALL NANOSECONDS` for each call, the best of so
-//! many rounds. `ciborium_bench deep CALL DEPTH` makes one call on a value that nests so deep.
+//! many rounds; with a fourth word `CALL` only that one. `ciborium_bench deep CALL DEPTH` makes one
+//! call on a value that nests so deep.
 #![tactic(auto)]
 
 mod deep;
+mod fault;
 mod measure;
 mod messages;
+mod run;
+mod structs;
 mod values;
+mod ways;
 
-use measure::{Fault, measure};
+use fault::Fault;
+use measure::measure;
+use run::Run;
 use std::collections::BTreeMap;
+use std::env;
 use std::process::ExitCode;
-use std::{env, fs};
+use structs::Message;
 
-const USAGE: &str = "usage: ciborium_bench KIND ROUNDS FILE
+const USAGE: &str = "usage: ciborium_bench KIND ROUNDS FILE [CALL]
        ciborium_bench deep CALL DEPTH
-KIND: value ints options records map texts sort messages
-CALL: read write form clone compare show drop
+KIND: value ints options records map texts structs
+CALL: read slice buffered plain_file write drop
+      and of value: form strict strict_slice
+KIND: messages
+CALL: typed value typed_next value_next typed_slice value_slice
+KIND: sort
+CALL of deep: read write form clone compare show drop
 ";
 
 fn main(rt: HostRuntime) -> ExitCode {
-    match run(&rt) {
+    match run_words(&rt) {
         Ok(()) => ExitCode::from(0),
         Err(_) => ExitCode::from(1),
     }
 }
 
-fn run(rt: &HostRuntime) -> Result<(), Fault> {
+fn run_words(rt: &HostRuntime) -> Result<(), Fault> {
     let words: Vec<String> = env::args(rt)?.skip(1).collect(rt.alloc())?;
     if words.len() < 3 {
         rt.print(USAGE)?;
@@ -39,16 +52,24 @@ fn run(rt: &HostRuntime) -> Result<(), Fault> {
         return deep::call(rt, words[1].as_str(), number(words[2].as_str()));
     }
     let rounds = number(words[1].as_str());
-    let bytes = fs::read(rt, words[2].as_str())?;
+    let call = match words.get(3) {
+        Some(call) => Some(call.clone()?),
+        None => None,
+    };
+    measure_kind(rt, kind, &Run::open(rt, words[2].clone()?, rounds, call)?)
+}
+
+fn measure_kind(rt: &HostRuntime, kind: &str, run: &Run) -> Result<(), Fault> {
     match kind {
-        "value" => values::measure_values(rt, &bytes, rounds),
-        "sort" => values::measure_sorts(rt, &bytes, rounds),
-        "messages" => messages::measure_messages(rt, &bytes, rounds),
-        "ints" => measure::<Vec<i64>>(rt, &bytes, rounds),
-        "options" => measure::<Vec<Option<u32>>>(rt, &bytes, rounds),
-        "records" => measure::<Vec<(u32, String, bool)>>(rt, &bytes, rounds),
-        "map" => measure::<BTreeMap<String, u64>>(rt, &bytes, rounds),
-        "texts" => measure::<Vec<String>>(rt, &bytes, rounds),
+        "value" => values::measure_values(rt, run),
+        "sort" => values::measure_sorts(rt, run),
+        "messages" => messages::measure_messages(rt, run),
+        "ints" => measure::<Vec<i64>>(rt, run),
+        "options" => measure::<Vec<Option<u32>>>(rt, run),
+        "records" => measure::<Vec<(u32, String, bool)>>(rt, run),
+        "map" => measure::<BTreeMap<String, u64>>(rt, run),
+        "texts" => measure::<Vec<String>>(rt, run),
+        "structs" => measure::<Vec<Message>>(rt, run),
         _ => Err(Fault),
     }
 }

@@ -1,88 +1,72 @@
-//! One type: how long reading, writing and dropping take.
+//! One type: how long reading in each way, writing and dropping take.
 
-ghost use Rattle.std.specs.Prelude.{◌≡◌};
-
-use ciborium::de::{self, Deserialize};
-use ciborium::ser::{self, Serialize};
-use ciborium::{from_reader, into_writer};
-use std::alloc::{AllocError, AllocFailed};
-use std::io;
+use crate::fault::Fault;
+use crate::run::Run;
+use crate::ways::{Buffered, Plain, PlainFile, Slice, Way};
+use ciborium::de::Deserialize;
+use ciborium::ser::Serialize;
+use ciborium::{from_slice, into_writer};
+use std::mem::forget;
 use std::time::{Duration, Instant};
 
-/// A device, an allocation or a call that is measured failed.
-#[derive(Debug, Drop)]
-pub struct Fault;
-
-impl From<io::Error> for Fault {
-    ghost from_gives = { λ e f. f ≡ record {} };
-
-    fn from(_: io::Error) -> Fault {
-        Fault
-    }
+/// Reads the document as a value of the type in each way, writes it into a `Vec` that grows, and
+/// drops it.
+pub fn measure<T: Deserialize + Serialize>(rt: &HostRuntime, run: &Run) -> Result<(), Fault> {
+    measure_reads::<T, Plain>(rt, run, "read")?;
+    measure_reads::<T, Slice>(rt, run, "slice")?;
+    measure_reads::<T, Buffered>(rt, run, "buffered")?;
+    measure_reads::<T, PlainFile>(rt, run, "plain_file")?;
+    measure_writes::<T>(rt, run)?;
+    measure_drops::<T>(rt, run)
 }
 
-impl From<AllocError> for Fault {
-    ghost from_gives = { λ e f. f ≡ record {} };
-
-    fn from(_: AllocError) -> Fault {
-        Fault
-    }
-}
-
-impl<T: Drop> From<AllocFailed<T>> for Fault {
-    ghost from_gives = { λ e f. f ≡ record {} };
-
-    fn from(_: AllocFailed<T>) -> Fault {
-        Fault
-    }
-}
-
-impl From<de::Error<io::Error>> for Fault {
-    ghost from_gives = { λ e f. f ≡ record {} };
-
-    fn from(_: de::Error<io::Error>) -> Fault {
-        Fault
-    }
-}
-
-impl From<ser::Error<io::Error>> for Fault {
-    ghost from_gives = { λ e f. f ≡ record {} };
-
-    fn from(_: ser::Error<io::Error>) -> Fault {
-        Fault
-    }
-}
-
-/// Prints what the best round of a call took.
-pub fn tell(rt: &HostRuntime, call: &str, best: Duration) -> Result<(), Fault> {
-    println!(rt; "{call} {}", best.as_nanos())?;
-    Ok(())
-}
-
-/// Reads the bytes as a value of the type, writes it into a `Vec` that grows, and drops it.
-pub fn measure<T: Deserialize + Serialize>(
+// The last value is not dropped: a run of one round more than none reads once more and does nothing
+// else.
+fn measure_reads<T: Deserialize, W: Way>(
     rt: &HostRuntime,
-    bytes: &[u8],
-    rounds: u32,
+    run: &Run,
+    call: &str,
 ) -> Result<(), Fault> {
-    let alloc = rt.alloc();
-    let mut read = Duration::MAX;
-    let mut write = Duration::MAX;
-    let mut free = Duration::MAX;
-    for _ in 0..rounds {
-        let mut reader = bytes;
-        let start = Instant::now(rt)?;
-        let value = from_reader::<T, _>(alloc, &mut reader)?;
-        read = read.min(start.elapsed(rt)?);
-        let mut out = Vec::new(alloc);
+    if !run.wants(call) {
+        return Ok(());
+    }
+    let mut best = Duration::MAX;
+    let mut last: Option<T> = None;
+    for _ in 0..run.rounds {
+        drop(last.take());
+        let (value, took) = W::read::<T>(rt, run)?;
+        best = best.min(took);
+        last = Some(value);
+    }
+    forget(last);
+    run.tell(rt, call, best)
+}
+
+fn measure_writes<T: Deserialize + Serialize>(rt: &HostRuntime, run: &Run) -> Result<(), Fault> {
+    if !run.wants("write") {
+        return Ok(());
+    }
+    let value: T = from_slice(rt.alloc(), run.bytes.as_slice())?;
+    let mut best = Duration::MAX;
+    for _ in 0..run.rounds {
+        let mut out = Vec::new(rt.alloc());
         let start = Instant::now(rt)?;
         into_writer(&value, &mut out)?;
-        write = write.min(start.elapsed(rt)?);
+        best = best.min(start.elapsed(rt)?);
+    }
+    run.tell(rt, "write", best)
+}
+
+fn measure_drops<T: Deserialize>(rt: &HostRuntime, run: &Run) -> Result<(), Fault> {
+    if !run.wants("drop") {
+        return Ok(());
+    }
+    let mut best = Duration::MAX;
+    for _ in 0..run.rounds {
+        let value: T = from_slice(rt.alloc(), run.bytes.as_slice())?;
         let start = Instant::now(rt)?;
         drop(value);
-        free = free.min(start.elapsed(rt)?);
+        best = best.min(start.elapsed(rt)?);
     }
-    tell(rt, "read", read)?;
-    tell(rt, "write", write)?;
-    tell(rt, "drop", free)
+    run.tell(rt, "drop", best)
 }

@@ -1,63 +1,94 @@
 //! Values: reading, also deterministically, writing, also in their form, and sorting.
 
-use crate::measure::{Fault, measure, tell};
+use crate::fault::Fault;
+use crate::measure::measure;
+use crate::run::Run;
 use ciborium::value::KeyOrder;
 use ciborium::value::canonical::{cmp_bytewise, cmp_value};
-use ciborium::{Value, from_reader, from_reader_deterministic, into_writer_deterministic};
+use ciborium::{
+    Value, from_buf_reader_deterministic, from_reader_deterministic, from_slice,
+    into_writer_deterministic,
+};
 use std::time::{Duration, Instant};
 
 /// Reads, writes and drops a `Value`, and writes its deterministic form. Where the bytes are
-/// deterministic, reads them as such. In 0 rounds it is read once, for its memory.
-pub fn measure_values(rt: &HostRuntime, bytes: &[u8], rounds: u32) -> Result<(), Fault> {
-    let alloc = rt.alloc();
-    let mut reader = bytes;
-    let value: Value = from_reader(alloc, &mut reader)?;
-    if rounds == 0 {
+/// deterministic, reads them as such.
+pub fn measure_values(rt: &HostRuntime, run: &Run) -> Result<(), Fault> {
+    measure::<Value>(rt, run)?;
+    measure_forms(rt, run)?;
+    measure_strict(rt, run)?;
+    measure_strict_slice(rt, run)
+}
+
+fn measure_forms(rt: &HostRuntime, run: &Run) -> Result<(), Fault> {
+    if !run.wants("form") {
         return Ok(());
     }
-    measure::<Value>(rt, bytes, rounds)?;
-    let mut form = Duration::MAX;
-    for _ in 0..rounds {
-        let mut out = Vec::new(alloc);
+    let value: Value = from_slice(rt.alloc(), run.bytes.as_slice())?;
+    let mut best = Duration::MAX;
+    for _ in 0..run.rounds {
+        let mut out = Vec::new(rt.alloc());
         let start = Instant::now(rt)?;
-        into_writer_deterministic(alloc, &value, KeyOrder::LengthFirst, &mut out)?;
-        form = form.min(start.elapsed(rt)?);
+        into_writer_deterministic(rt.alloc(), &value, KeyOrder::LengthFirst, &mut out)?;
+        best = best.min(start.elapsed(rt)?);
     }
-    tell(rt, "form", form)?;
-    let mut strict = Duration::MAX;
-    for _ in 0..rounds {
-        let mut reader = bytes;
+    run.tell(rt, "form", best)
+}
+
+fn measure_strict(rt: &HostRuntime, run: &Run) -> Result<(), Fault> {
+    if !run.wants("strict") {
+        return Ok(());
+    }
+    let mut best = Duration::MAX;
+    for _ in 0..run.rounds {
+        let mut reader = run.bytes.as_slice();
         let start = Instant::now(rt)?;
-        if from_reader_deterministic(alloc, &mut reader, 256).is_err() {
+        let Ok(value) = from_reader_deterministic(rt.alloc(), &mut reader, 256) else {
             return Ok(());
-        }
-        strict = strict.min(start.elapsed(rt)?);
+        };
+        best = best.min(start.elapsed(rt)?);
+        drop(value);
     }
-    tell(rt, "strict", strict)
+    run.tell(rt, "strict", best)
+}
+
+fn measure_strict_slice(rt: &HostRuntime, run: &Run) -> Result<(), Fault> {
+    if !run.wants("strict_slice") {
+        return Ok(());
+    }
+    let mut best = Duration::MAX;
+    for _ in 0..run.rounds {
+        let mut reader = run.bytes.as_slice();
+        let start = Instant::now(rt)?;
+        let Ok(value) = from_buf_reader_deterministic(rt.alloc(), &mut reader, 256) else {
+            return Ok(());
+        };
+        best = best.min(start.elapsed(rt)?);
+        drop(value);
+    }
+    run.tell(rt, "strict_slice", best)
 }
 
 /// Sorts the items of an array in each order.
-pub fn measure_sorts(rt: &HostRuntime, bytes: &[u8], rounds: u32) -> Result<(), Fault> {
-    let alloc = rt.alloc();
+pub fn measure_sorts(rt: &HostRuntime, run: &Run) -> Result<(), Fault> {
     let mut canonical = Duration::MAX;
     let mut bytewise = Duration::MAX;
-    for _ in 0..rounds {
-        let mut values = items(rt, bytes)?;
+    for _ in 0..run.rounds {
+        let mut values = items(rt, run)?;
         let start = Instant::now(rt)?;
         values.sort_by(cmp_value)?;
         canonical = canonical.min(start.elapsed(rt)?);
-        let mut values = items(rt, bytes)?;
+        let mut values = items(rt, run)?;
         let start = Instant::now(rt)?;
         values.sort_by(cmp_bytewise)?;
         bytewise = bytewise.min(start.elapsed(rt)?);
     }
-    tell(rt, "length-first", canonical)?;
-    tell(rt, "bytewise", bytewise)
+    run.tell(rt, "length-first", canonical)?;
+    run.tell(rt, "bytewise", bytewise)
 }
 
 // The items of the array that the bytes are.
-fn items(rt: &HostRuntime, bytes: &[u8]) -> Result<Vec<Value>, Fault> {
-    let mut reader = bytes;
-    let value: Value = from_reader(rt.alloc(), &mut reader)?;
+fn items(rt: &HostRuntime, run: &Run) -> Result<Vec<Value>, Fault> {
+    let value: Value = from_slice(rt.alloc(), run.bytes.as_slice())?;
     value.into_array().map_err(|_| Fault)
 }
