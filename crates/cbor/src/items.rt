@@ -1,7 +1,7 @@
 //! From a line of hex to the value of its item, and from a value to the hex of its encoding.
 
-ghost use Rattle.std.specs.Prelude.{◌≡◌, ◌≢◌, ◌++◌, ℕ, IfErr, IfNone, IfOk, IfSome, IsSome, None, OnOk};
-ghost use Rattle.std.specs.Prelude.{Some, false};
+ghost use Rattle.std.specs.Prelude.{◌≡◌, ◌≢◌, ◌++◌, ℕ, IfErr, IfNone, IfOk, IfSome, IsSome, None};
+ghost use Rattle.std.specs.Prelude.{OnOk, Some, false};
 ghost use Rattle.hex.specs.Hex.{encode_lower};
 ghost use Rattle.ciborium_value.specs.Encoding.{encoding};
 ghost use Rattle.ciborium_value.specs.View.{tree_of};

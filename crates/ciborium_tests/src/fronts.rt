@@ -51,11 +51,11 @@ impl Job for Reading<'_> {
     }
 }
 
-/// What a call gives of the front of the bytes, from the slice as a plain reader and from readers of
-/// one byte a read, of three and of drawn numbers; also from buffers of one byte and of three over
-/// these, from the slice as a reader with a buffer, and from the slice of the item alone; where the
-/// limit is the usual one also with other calls and sizes of a scratch. `differs: A / B` where one
-/// of them gives something else than the first.
+/// What a call gives of the front of the bytes, from the slice as a plain reader and from readers
+/// of one byte a read, of three and of drawn numbers; also from buffers of one byte and of three
+/// over these, from the slice as a reader with a buffer, and from the slice of the item alone;
+/// where the limit is the usual one also with other calls and sizes of a scratch. `differs: A / B`
+/// where one of them gives something else than the first.
 ///
 /// # Errors
 ///
