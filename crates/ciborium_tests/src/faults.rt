@@ -63,12 +63,14 @@ fn fail_cut_reads<T: Deserialize + Serialize>(
         for failure in FAILURES {
             let text = fail_each_read::<T>(alloc, call, bytes, (cut, failure))?;
             alike.compare(alloc, front_of(alloc, text.as_str()))?;
-            for capacity in [1, 3] {
-                let way = (cut, failure);
-                let text = fail_each_fill::<T>(alloc, call, bytes, way, capacity)?;
-                alike.compare(alloc, front_of(alloc, text.as_str()))?;
-            }
         }
+    }
+    for failure in FAILURES {
+        let whole = (Cut::Most(usize::MAX), failure);
+        let text = fail_each_fill::<T>(alloc, call, bytes, whole, 1)?;
+        alike.compare(alloc, front_of(alloc, text.as_str()))?;
+        let text = fail_each_fill::<T>(alloc, call, bytes, (drawn, failure), 3)?;
+        alike.compare(alloc, front_of(alloc, text.as_str()))?;
     }
     Ok(alike.into_text())
 }
