@@ -1,5 +1,5 @@
 -- What the text of a line says of it.
-use Rattle.std.proofs.Common.{◌≡◌, ℕ, ◌+◌, ◌<◌, List, length, Bool, true, false, Result, Ok, Err, IsErr, MatchResult}
+use Rattle.std.proofs.Common.{◌≡◌, ℕ, ◌+◌, ◌<◌, List, length, Bool, true, false, Result, Ok, Err, MatchResult}
 use Rattle.std.proofs.Common.{inl, inr, refl, sym, ap, ◌∙◌, subst}
 use Rattle.std.specs.Bool.{MatchBool}
 use Rattle.hex.specs.Hex.{decode_of}
@@ -74,12 +74,6 @@ of-bytes line b true text d h = subst (λ (r : Result (List ℕ) FromHexError). 
     (λ c. AreSequence c 256 text) (λ _. ⊥)) (sym d) h
 of-bytes line b false text d h = subst (λ (r : Result (List ℕ) FromHexError). MatchResult r
     (λ c. AreNoSequence c 256 text) (λ _. text ≡ hex_text)) (sym d) h
-
--- a line that is no hex
-pub of-hex : (d : Result (List ℕ) FromHexError) (text : List ℕ) → IsErr d → text ≡ hex_text →
-    MatchResult d (λ b. AreNoSequence b 256 text) (λ _. text ≡ hex_text)
-of-hex (Ok b) text h same = absurd cc
-of-hex (Err e) text h same = same
 
 sequence-by : (d : Result (List ℕ) FromHexError) (is_ok : Bool) (text : List ℕ) →
     MatchBool is_ok (MatchResult d (λ b. AreSequence b 256 text) (λ _. ⊥))

@@ -14,7 +14,6 @@ use Rattle.cbor.specs.Laws.{ItemIsAnswered, RefusalIsAnswered, RefusedMeansNothi
 use Rattle.cbor.specs.Line.{HasAnswer, IsLineAnswer, good, hex_text, refused, trailing, trailing_text, tree_text}
 use Rattle.cbor.specs.Spellings.{IsItem}
 use Rattle.cbor.proofs.OneLineAnswer.{one_answer}
-use Rattle.cbor.proofs.SpelledItems.{DeterministicLaw}
 
 -- what refuses the front of some bytes refuses them
 pub front-refused : (spelling : Spelling) (b : List ℕ) (limit : ℕ) (e : Refusal) → IsFrontRefused spelling b limit e →
@@ -104,8 +103,8 @@ other-text v Nesting same = let f : 111 ≡ 110 = ap first same in omega (arith,
 other-text v TooLong same = let f : 111 ≡ 116 = ap first same in omega (arith, f)
 other-text v Memory same = let f : 111 ≡ 109 = ap first same in omega (arith, f)
 
-pub refused_means_nothing : DeterministicLaw → RefusedMeansNothing
-refused_means_nothing law spelling line limit e v m h means =
-    other-text v e (one_answer law spelling line limit (tree_text v) (refused_text e)
+pub refused_means_nothing : RefusedMeansNothing
+refused_means_nothing spelling line limit e v m h means =
+    other-text v e (one_answer spelling line limit (tree_text v) (refused_text e)
     (item_is_answered spelling line limit v means)
     (refusal_is_answered spelling line limit e m h))

@@ -11,7 +11,7 @@ use Rattle.cbor.specs.declared.reading.Spelling.{Spelling}
 use Rattle.cbor.specs.Laws.{IsAnswered, OneAnswerToLine}
 use Rattle.cbor.specs.Line.{HasAnswer, good, trailing, refused, tree_text, trailing_text, refusal_text, hex_text}
 use Rattle.cbor.specs.Spellings.{HasItemBefore, IsItem}
-use Rattle.cbor.proofs.SpelledItems.{DeterministicLaw, HasItem, item-or-refused, not-both, one-refusal, one-tree}
+use Rattle.cbor.proofs.SpelledItems.{HasItem, item-or-refused, not-both, one-refusal, one-tree}
 
 -- hex stands for bytes
 pub decoded-bytes : (line b : List ℕ) → decode_of line ≡ Ok b → AreBytes b
@@ -30,71 +30,71 @@ begun spelling b limit (v, (x ∷ left), before) = (
   trailing v (x ∷ left) before (omega arith) refl,
 )
 
-bytes-answered : DeterministicLaw → (spelling : Spelling) (b : List ℕ) (limit : ℕ) → AreBytes b → (answer : List ℕ) ×
+bytes-answered : (spelling : Spelling) (b : List ℕ) (limit : ℕ) → AreBytes b → (answer : List ℕ) ×
     HasAnswer spelling b limit answer
-bytes-answered law spelling b limit h =
-    elim (item-or-refused law spelling b limit h) [
+bytes-answered spelling b limit h =
+    elim (item-or-refused spelling b limit h) [
       | inl g ↦ begun spelling b limit g
       | inr r ↦ (refusal_text r.0, refused r.0 r.1 refl)
     ]
 
-answered-by : DeterministicLaw → (spelling : Spelling) (d : Result (List ℕ) FromHexError) (limit : ℕ) →
+answered-by : (spelling : Spelling) (d : Result (List ℕ) FromHexError) (limit : ℕ) →
     ((b : List ℕ) → d ≡ Ok b → AreBytes b) →
     (answer : List ℕ) × MatchResult d (λ b. HasAnswer spelling b limit answer) (λ _. answer ≡ hex_text)
-answered-by law spelling (Ok b) limit h = bytes-answered law spelling b limit (h b refl)
-answered-by law spelling (Err e) limit h = (hex_text, refl)
+answered-by spelling (Ok b) limit h = bytes-answered spelling b limit (h b refl)
+answered-by spelling (Err e) limit h = (hex_text, refl)
 
-pub is_answered : DeterministicLaw → IsAnswered
-is_answered law spelling line limit = answered-by law spelling (decode_of line) limit (λ b e. decoded-bytes line b e)
+pub is_answered : IsAnswered
+is_answered spelling line limit = answered-by spelling (decode_of line) limit (λ b e. decoded-bytes line b e)
 
 -- all of b is at its front
 whole : (spelling : Spelling) (b : List ℕ) (limit : ℕ) (v : Tree) → IsItem spelling b limit v → HasItem spelling b limit
 whole spelling b limit v item = (v, [], (b, item, sym (append-nil b)))
 
 -- nothing stands behind all of b
-none-behind : DeterministicLaw → (spelling : Spelling) (b left : List ℕ) (limit : ℕ) (v w : Tree) →
+none-behind : (spelling : Spelling) (b left : List ℕ) (limit : ℕ) (v w : Tree) →
     IsItem spelling b limit v →
     HasItemBefore spelling b limit w left → 0 < length left → ⊥
-none-behind law spelling b left limit v w item (s, other, e) more =
-    let same = one-tree law spelling b s [] left limit v w item other (append-nil b ∙ e) in
+none-behind spelling b left limit v w item (s, other, e) more =
+    let same = one-tree spelling b s [] left limit v w item other (append-nil b ∙ e) in
     let size : 0 ≡ length left = ap (λ (xs : List ℕ). length xs) same.1 in
     omega arith
 
 -- what stands behind an item
-one-rest : DeterministicLaw → (spelling : Spelling) (b x y : List ℕ) (limit : ℕ) (v w : Tree) →
+one-rest : (spelling : Spelling) (b x y : List ℕ) (limit : ℕ) (v w : Tree) →
     HasItemBefore spelling b limit v x →
     HasItemBefore spelling b limit w y → x ≡ y
-one-rest law spelling b x y limit v w (s, p, e) (t, q, f) = (one-tree law spelling s t x y limit v w p q (sym e ∙ f)).1
+one-rest spelling b x y limit v w (s, p, e) (t, q, f) = (one-tree spelling s t x y limit v w p q (sym e ∙ f)).1
 
-one-of-bytes : DeterministicLaw → (spelling : Spelling) (b : List ℕ) (limit : ℕ) (x y : List ℕ) → AreBytes b →
+one-of-bytes : (spelling : Spelling) (b : List ℕ) (limit : ℕ) (x y : List ℕ) → AreBytes b →
     HasAnswer spelling b limit x →
     HasAnswer spelling b limit y → x ≡ y
-one-of-bytes law spelling b limit x y h (good v p e) (good w q f) = e ∙
-    (ap tree_text (one-tree law spelling b b [] [] limit v w p q refl).0 ∙ sym f)
-one-of-bytes law spelling b limit x y h (good v p e) (trailing w left q more f) =
-    absurd (none-behind law spelling b left limit v w p q more)
-one-of-bytes law spelling b limit x y h (good v p e) (refused u ref f) =
-    absurd (not-both law spelling b limit u h (whole spelling b limit v p) ref)
-one-of-bytes law spelling b limit x y h (trailing v left p more e) (good w q f) =
-    absurd (none-behind law spelling b left limit w v q p more)
-one-of-bytes law spelling b limit x y h (trailing v left p more e) (trailing w rest q also f) =
-    e ∙ (ap (λ (z : List ℕ). trailing_text (length z)) (one-rest law spelling b left rest limit v w p q) ∙ sym f)
-one-of-bytes law spelling b limit x y h (trailing v left p more e) (refused u ref f) =
-    absurd (not-both law spelling b limit u h (v, left, p) ref)
-one-of-bytes law spelling b limit x y h (refused t ref e) (good w q f) =
-    absurd (not-both law spelling b limit t h (whole spelling b limit w q) ref)
-one-of-bytes law spelling b limit x y h (refused t ref e) (trailing w left q more f) =
-    absurd (not-both law spelling b limit t h (w, left, q) ref)
-one-of-bytes law spelling b limit x y h (refused t ref e) (refused u fer f) = e ∙
-    (ap refusal_text (one-refusal law spelling b limit t u h ref fer) ∙ sym f)
+one-of-bytes spelling b limit x y h (good v p e) (good w q f) = e ∙
+    (ap tree_text (one-tree spelling b b [] [] limit v w p q refl).0 ∙ sym f)
+one-of-bytes spelling b limit x y h (good v p e) (trailing w left q more f) =
+    absurd (none-behind spelling b left limit v w p q more)
+one-of-bytes spelling b limit x y h (good v p e) (refused u ref f) =
+    absurd (not-both spelling b limit u h (whole spelling b limit v p) ref)
+one-of-bytes spelling b limit x y h (trailing v left p more e) (good w q f) =
+    absurd (none-behind spelling b left limit w v q p more)
+one-of-bytes spelling b limit x y h (trailing v left p more e) (trailing w rest q also f) =
+    e ∙ (ap (λ (z : List ℕ). trailing_text (length z)) (one-rest spelling b left rest limit v w p q) ∙ sym f)
+one-of-bytes spelling b limit x y h (trailing v left p more e) (refused u ref f) =
+    absurd (not-both spelling b limit u h (v, left, p) ref)
+one-of-bytes spelling b limit x y h (refused t ref e) (good w q f) =
+    absurd (not-both spelling b limit t h (whole spelling b limit w q) ref)
+one-of-bytes spelling b limit x y h (refused t ref e) (trailing w left q more f) =
+    absurd (not-both spelling b limit t h (w, left, q) ref)
+one-of-bytes spelling b limit x y h (refused t ref e) (refused u fer f) = e ∙
+    (ap refusal_text (one-refusal spelling b limit t u h ref fer) ∙ sym f)
 
-one-by : DeterministicLaw → (spelling : Spelling) (d : Result (List ℕ) FromHexError) (limit : ℕ) (x y : List ℕ) →
+one-by : (spelling : Spelling) (d : Result (List ℕ) FromHexError) (limit : ℕ) (x y : List ℕ) →
     ((b : List ℕ) → d ≡ Ok b → AreBytes b) →
     MatchResult d (λ b. HasAnswer spelling b limit x) (λ _. x ≡ hex_text) →
     MatchResult d (λ b. HasAnswer spelling b limit y) (λ _. y ≡ hex_text) → x ≡ y
-one-by law spelling (Ok b) limit x y h p q = one-of-bytes law spelling b limit x y (h b refl) p q
-one-by law spelling (Err e) limit x y h p q = p ∙ sym q
+one-by spelling (Ok b) limit x y h p q = one-of-bytes spelling b limit x y (h b refl) p q
+one-by spelling (Err e) limit x y h p q = p ∙ sym q
 
-pub one_answer : DeterministicLaw → OneAnswerToLine
-one_answer law spelling line limit a b p q = one-by law spelling (decode_of line) limit a b
+pub one_answer : OneAnswerToLine
+one_answer spelling line limit a b p q = one-by spelling (decode_of line) limit a b
     (λ s e. decoded-bytes line s e) p q

@@ -15,8 +15,7 @@ use Rattle.cbor.specs.declared.answer.Reason.TheVariants as reasons
 use Rattle.cbor.specs.declared.answer.Refusal.{Refusal}
 use Rattle.cbor.specs.declared.answer.Refusal.TheVariants.{Hex, Trailing, Io, Syntax, Semantic, Nesting, TooLong}
 use Rattle.cbor.specs.declared.reading.Spelling.TheVariants.{Any}
-use Rattle.cbor.specs.Answer.{AreRefused, IsMeant, IsRefused, TellsRefusal, kind_of_reason, refused_text}
-use Rattle.cbor.specs.Answer.{wants_memory}
+use Rattle.cbor.specs.Answer.{AreRefused, IsMeant, IsRefused, TellsRefusal, kind_of_reason, refused_text, wants_memory}
 use Rattle.cbor.specs.Forms.{IsFormAnswer, formless_text}
 use Rattle.cbor.specs.Laws.{IsFormAnswered, IsNotationAnswered, OneFormAnswer, OneNotationAnswer}
 use Rattle.cbor.specs.Line.{tree_text}
@@ -25,7 +24,7 @@ use Rattle.cbor.specs.Spellings.{IsItem, RefusesItem}
 use Rattle.cbor.proofs.JudgedAnswers.{not-memory}
 use Rattle.cbor.proofs.JudgedLines.{refusal_is_answered, refused-by, refused_means_nothing}
 use Rattle.cbor.proofs.OneLineAnswer.{decoded-bytes, one_answer}
-use Rattle.cbor.proofs.SpelledItems.{DeterministicLaw, HasItem, item-or-refused, one-tree}
+use Rattle.cbor.proofs.SpelledItems.{HasItem, item-or-refused, one-tree}
 
 -- the text of what a form is, or why there is none; nesting is no answer
 abbrev form_text : Outcome Tree → List ℕ
@@ -34,32 +33,32 @@ form_text (refuses k) = formless_text k
 form_text nests = []
 
 -- a line means one tree
-one-meant-by : DeterministicLaw → (d : Result (List ℕ) FromHexError) (limit : ℕ) (v w : Tree) →
+one-meant-by : (d : Result (List ℕ) FromHexError) (limit : ℕ) (v w : Tree) →
     MatchResult d (λ b. IsItem Any b limit v) (λ _. ⊥) →
     MatchResult d (λ b. IsItem Any b limit w) (λ _. ⊥) → v ≡ w
-one-meant-by law (Ok b) limit v w p q = (one-tree law Any b b [] [] limit v w p q refl).0
-one-meant-by law (Err e) limit v w p q = absurd p
+one-meant-by (Ok b) limit v w p q = (one-tree Any b b [] [] limit v w p q refl).0
+one-meant-by (Err e) limit v w p q = absurd p
 
-one-meant : DeterministicLaw → (line : List ℕ) (limit : ℕ) (v w : Tree) → IsMeant Any line limit v →
+one-meant : (line : List ℕ) (limit : ℕ) (v w : Tree) → IsMeant Any line limit v →
     IsMeant Any line limit w → v ≡ w
-one-meant law line limit v w p q = one-meant-by law (decode_of line) limit v w p q
+one-meant line limit v w p q = one-meant-by (decode_of line) limit v w p q
 
 -- an answer is the text of a tree that the line means, or of a refusal
 abbrev IsTextOrRefusal : (Tree → List ℕ) → List ℕ → ℕ → List ℕ → Type 0
 IsTextOrRefusal text line limit answer =
     ((v : Tree) × IsMeant Any line limit v × (answer ≡ text v)) ⊎ TellsRefusal Any line limit answer
 
-one-of : DeterministicLaw → (text : Tree → List ℕ) (line : List ℕ) (limit : ℕ) (a b : List ℕ) →
+one-of : (text : Tree → List ℕ) (line : List ℕ) (limit : ℕ) (a b : List ℕ) →
     IsTextOrRefusal text line limit a →
     IsTextOrRefusal text line limit b → a ≡ b
-one-of law text line limit a b (inl (v, p, e)) (inl (w, q, f)) = e ∙
-    (ap text (one-meant law line limit v w p q) ∙ sym f)
-one-of law text line limit a b (inl (v, p, e)) (inr (r, h, m, f)) =
-    absurd (refused_means_nothing law Any line limit r v (not-memory r m) h p)
-one-of law text line limit a b (inr (r, h, m, e)) (inl (v, p, f)) =
-    absurd (refused_means_nothing law Any line limit r v (not-memory r m) h p)
-one-of law text line limit a b (inr (r, h, m, e)) (inr (s, i, n, f)) =
-    e ∙ (one_answer law Any line limit (refused_text r) (refused_text s)
+one-of text line limit a b (inl (v, p, e)) (inl (w, q, f)) = e ∙
+    (ap text (one-meant line limit v w p q) ∙ sym f)
+one-of text line limit a b (inl (v, p, e)) (inr (r, h, m, f)) =
+    absurd (refused_means_nothing Any line limit r v (not-memory r m) h p)
+one-of text line limit a b (inr (r, h, m, e)) (inl (v, p, f)) =
+    absurd (refused_means_nothing Any line limit r v (not-memory r m) h p)
+one-of text line limit a b (inr (r, h, m, e)) (inr (s, i, n, f)) =
+    e ∙ (one_answer Any line limit (refused_text r) (refused_text s)
     (refusal_is_answered Any line limit r (not-memory r m) h) (refusal_is_answered Any line limit s (not-memory s n) i)
     ∙ sym f)
 
@@ -76,13 +75,13 @@ form-or-refusal order line limit answer (inr (inl (v, k, means, none, same))) =
     inl (v, means, same ∙ ap form_text (sym none))
 form-or-refusal order line limit answer (inr (inr h)) = inr h
 
-pub one_form_answer : DeterministicLaw → OneFormAnswer
-one_form_answer law order line limit a b p q =
-    one-of law (tree_form_text order) line limit a b (form-or-refusal order line limit a p)
+pub one_form_answer : OneFormAnswer
+one_form_answer order line limit a b p q =
+    one-of (tree_form_text order) line limit a b (form-or-refusal order line limit a p)
     (form-or-refusal order line limit b q)
 
-pub one_notation_answer : DeterministicLaw → OneNotationAnswer
-one_notation_answer law layout line limit a b p q = one-of law (notation_text layout) line limit a b p q
+pub one_notation_answer : OneNotationAnswer
+one_notation_answer layout line limit a b p q = one-of (notation_text layout) line limit a b p q
 
 -- ---- each line means a tree or is refused
 
@@ -134,18 +133,18 @@ begun line b limit d (v, (x ∷ left), before) =
       (b, d, (v, x ∷ left, before, omega arith, refl)),
     )
 
-of-bytes : DeterministicLaw → (line b : List ℕ) (limit : ℕ) → decode_of line ≡ Ok b → IsMeantOrRefused line limit
-of-bytes law line b limit d =
-    elim (item-or-refused law Any b limit (decoded-bytes line b d)) [
+of-bytes : (line b : List ℕ) (limit : ℕ) → decode_of line ≡ Ok b → IsMeantOrRefused line limit
+of-bytes line b limit d =
+    elim (item-or-refused Any b limit (decoded-bytes line b d)) [
       | inl g ↦ begun line b limit d g
       | inr r ↦ (let (e, m, h) = named b limit r.0 r.1 in inr (e, m, refused-by Any line limit b e d h))
     ]
 
-meant-or-refused : DeterministicLaw → (line : List ℕ) (limit : ℕ) → IsMeantOrRefused line limit
-meant-or-refused law line limit = by (decode_of line) refl
+meant-or-refused : (line : List ℕ) (limit : ℕ) → IsMeantOrRefused line limit
+meant-or-refused line limit = by (decode_of line) refl
   where
     by : (d : Result (List ℕ) FromHexError) → decode_of line ≡ d → IsMeantOrRefused line limit
-    by (Ok b) d = of-bytes law line b limit d
+    by (Ok b) d = of-bytes line b limit d
     by (Err x) d = inr (Hex, refl, ap is_err d)
 
 formed-or-not : (order : KeyOrder) (line : List ℕ) (limit : ℕ) (v : Tree) → IsMeant Any line limit v →
@@ -160,16 +159,16 @@ formed-or-not order line limit v means =
           ]
     ]
 
-pub is_form_answered : DeterministicLaw → IsFormAnswered
-is_form_answered law order line limit =
-    elim (meant-or-refused law line limit) [
+pub is_form_answered : IsFormAnswered
+is_form_answered order line limit =
+    elim (meant-or-refused line limit) [
       | inl g ↦ formed-or-not order line limit g.0 g.1
       | inr r ↦ (refused_text r.0, inr (inr (r.0, r.2, r.1, refl)))
     ]
 
-pub is_notation_answered : DeterministicLaw → IsNotationAnswered
-is_notation_answered law layout line limit =
-    elim (meant-or-refused law line limit) [
+pub is_notation_answered : IsNotationAnswered
+is_notation_answered layout line limit =
+    elim (meant-or-refused line limit) [
       | inl g ↦ (notation_text layout g.0, inl (g.0, g.1, refl))
       | inr r ↦ (refused_text r.0, inr (r.0, r.2, r.1, refl))
     ]

@@ -1,15 +1,13 @@
 -- From what reading a value answers to what holds of the bytes.
 use Rattle.std.proofs.Common.{◌≡◌, ℕ, List, [], length, ◌==◌, Bool, true, IsTrue, Option, Some, None, IfSome, Err}
-use Rattle.std.proofs.Common.{unwrap_or}
-use Rattle.std.proofs.Common.{inl, inr, refl, ◌≢◌}
-use Rattle.std.proofs.Common.{sym, subst, arith}
+use Rattle.std.proofs.Common.{unwrap_or, inl, inr, refl, ◌≢◌, sym, subst, arith}
 use Rattle.std.proofs.lemmas.List.{nil_from_length}
 use Rattle.std.proofs.lemmas.Bool.Decides.{nat_tests}
 use Rattle.ciborium_value.specs.declared.kind.Kind.TheVariants.{TrailingData}
 use Rattle.ciborium_ll.specs.Refusal.{Refusal, Kind}
 use Rattle.ciborium.specs.declared.de.error.Error.{Error}
 use Rattle.ciborium.specs.declared.de.error.Error.TheVariants as errors
-use Rattle.ciborium.specs.Errors.{IsNamed, IsRefusedBy, refusal_kind_of}
+use Rattle.ciborium.specs.ValueAnswers.{IsNamed, IsRefusedBy, refusal_kind_of}
 use Rattle.ciborium.specs.SliceAnswers.{AreAllRead}
 use Rattle.cbor.specs.declared.answer.Refusal.{Refusal as Reason}
 use Rattle.cbor.specs.declared.answer.Refusal.TheVariants as reasons

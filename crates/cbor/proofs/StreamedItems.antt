@@ -1,7 +1,6 @@
 -- Items of a stream are read and shown one by one.
 use Rattle.std.proofs.Common.{◌≡◌, ℕ, ◌<◌, ◌+◌, Bool, true, false, List, [], ◌∷◌, ◌++◌, length, flat_map, length-append}
-use Rattle.std.proofs.Common.{arith, Option, Some, None, Result, Ok, Err, IfOk, OnOk, IsTrue, refl, ap}
-use Rattle.std.proofs.Common.{subst, ◌∙◌}
+use Rattle.std.proofs.Common.{arith, Option, Some, None, Result, Ok, Err, IfOk, OnOk, IsTrue, refl, ap, subst, ◌∙◌}
 use Rattle.std.proofs.lemmas.List.{flat_map_more}
 use Rattle.std.specs.Bool.{MatchBool}
 use Rattle.std.specs.Io.KnownBytes.{Consumes}

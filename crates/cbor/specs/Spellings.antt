@@ -2,18 +2,21 @@
 -- 4.2).
 use Rattle.std.specs.Prelude.{◌≡◌, ℕ, List, ◌++◌, Some}
 use Rattle.ciborium_ll.specs.Refusal.{Refusal}
-use Rattle.ciborium_value.specs.Refuses.{IsReadAs, Refuses}
+use Rattle.ciborium_value.specs.Refuses.{Refuses}
+use Rattle.ciborium_value.specs.Spelling as reading
+use Rattle.ciborium_value.specs.Spelling.{any, deterministic, IsReadAs}
 use Rattle.ciborium_value.specs.Tree.{Tree}
-use Rattle.ciborium_value.specs.Deterministic.{IsDeterministicAt}
-use Rattle.ciborium.specs.DeterministicRefusals.{DeterministicallyRefuses}
 use Rattle.cbor.specs.declared.reading.Spelling.{Spelling}
 use Rattle.cbor.specs.declared.reading.Spelling.TheVariants.{Any, Deterministic}
 
--- b is one item within so many levels, which means v: any good one, or the deterministic encoding
--- of v by an order of keys
+-- the spelling that is asked for
+abbrev pub spelling_of : Spelling → reading.Spelling
+spelling_of Any = any
+spelling_of (Deterministic order) = deterministic order
+
+-- b is one item within so many levels, which is read as v
 abbrev pub IsItem : Spelling → List ℕ → ℕ → Tree → Type 0
-IsItem Any b limit v = IsReadAs b 0 (Some limit) v
-IsItem (Deterministic order) b limit v = IsDeterministicAt order b 0 limit v
+IsItem spelling b limit v = IsReadAs (spelling_of spelling) b 0 (Some limit) v
 
 -- such an item is at the front of b, and left follows it
 abbrev pub HasItemBefore : Spelling → List ℕ → ℕ → Tree → List ℕ → Type 0
@@ -21,5 +24,4 @@ HasItemBefore spelling b limit v left = (s : List ℕ) × IsItem spelling s limi
 
 -- b begins with no such item, for this reason
 abbrev pub RefusesItem : Spelling → List ℕ → ℕ → Refusal → Type 0
-RefusesItem Any b limit e = Refuses b 0 (Some limit) e
-RefusesItem (Deterministic order) b limit e = DeterministicallyRefuses order b 0 limit e
+RefusesItem spelling b limit e = Refuses (spelling_of spelling) b 0 (Some limit) e

@@ -7,7 +7,7 @@ ghost use Rattle.ciborium_value.specs.Encoding.{encoding};
 ghost use Rattle.ciborium_value.specs.View.{tree_of};
 ghost use Rattle.ciborium_value.specs.declared.kind.Kind.TheVariants.{TrailingData};
 ghost use Rattle.ciborium.specs.declared.de.error.Error.TheVariants.{Semantic};
-ghost use Rattle.ciborium.specs.Errors.{IsRefusedBy, refusal_kind_of};
+ghost use Rattle.ciborium.specs.ValueAnswers.{IsRefusedBy, refusal_kind_of};
 ghost use Rattle.ciborium.specs.NextItems.{IsReadIo};
 ghost use Rattle.cbor.specs.Answer.{AreRefused, IsFrontRefused, IsMeant, IsRefused, StandsFor};
 ghost use Rattle.cbor.specs.Answer.{kind_of_reason};

@@ -6,8 +6,6 @@ ghost use Rattle.cbor.specs.Laws.{IsSequenceAnswered, ItemIsAnswered, OneAnswerT
 ghost use Rattle.cbor.specs.Laws.{OneFormAnswer, OneNotationAnswer, OneSequenceAnswer};
 ghost use Rattle.cbor.specs.Laws.{RefusalIsAnswered, RefusedMeansNothing};
 
-use ciborium::laws::deterministic_or_refused;
-
 /// Each line has an answer, within any number of levels, and one answer alone, whether items may be
 /// spelled in any way, or in the deterministic one alone, by either order of keys. The answer to a
 /// line that means a tree is the tree's text, and the answer to a line that is refused is the
@@ -18,33 +16,25 @@ pub fn line_answer()
     ensures item { ItemIsAnswered }
     ensures refusal { RefusalIsAnswered }
     ensures nothing { RefusedMeansNothing }
-{
-    deterministic_or_refused();
-}
+{}
 
 /// Each line that is read as a sequence (RFC 8742) has an answer, within any number of levels for
 /// each item, and one answer alone.
 pub fn sequence_answer()
     ensures answered { IsSequenceAnswered }
     ensures one { OneSequenceAnswer }
-{
-    deterministic_or_refused();
-}
+{}
 
 /// Each line has an answer by the deterministic form of its item (RFC 8949, section 4.2), by either
 /// order of keys and within any number of levels, and one answer alone.
 pub fn form_answer()
     ensures answered { IsFormAnswered }
     ensures one { OneFormAnswer }
-{
-    deterministic_or_refused();
-}
+{}
 
 /// Each line has an answer by the diagnostic notation of its item (RFC 8949, section 8), in either
 /// layout and within any number of levels, and one answer alone.
 pub fn notation_answer()
     ensures answered { IsNotationAnswered }
     ensures one { OneNotationAnswer }
-{
-    deterministic_or_refused();
-}
+{}

@@ -1,5 +1,3 @@
-mod Strict
-mod Spellings
 mod Turns
 mod Readers
 pub mod ReadBack

@@ -1,14 +1,10 @@
--- The refusals of the definitions that the errors of reading stand for.
-use Rattle.std.specs.Prelude.{◌≡◌, ℕ, Bool, List, [], ◌∷◌, Option, Some, None}
+-- What the errors of reading stand for, to the contract of `Source` and to private functions.
+use Rattle.std.specs.Prelude.{ℕ, Bool, List, [], ◌∷◌, Option, Some, None}
 use Rattle.ciborium_ll.specs.declared.header.Error.{Error as LlError}
 use Rattle.ciborium_ll.specs.declared.header.Error.TheVariants as ll
 use Rattle.ciborium_ll.specs.Accesses.{IsUsedUp}
-use Rattle.ciborium_ll.specs.Refusal as refusal
-use Rattle.ciborium_ll.specs.Refusal.{Refusal}
 use Rattle.ciborium_value.specs.Sources.{Fault, of_device, of_end, of_kind, of_length}
 use Rattle.ciborium_value.specs.Sources.{of_memory, of_nesting, of_syntax}
-use Rattle.ciborium_value.specs.declared.kind.Kind.{Kind}
-use Rattle.ciborium_value.specs.declared.kind.Kind.TheVariants as kinds
 use Rattle.ciborium.specs.declared.de.error.Error.{Error}
 use Rattle.ciborium.specs.declared.de.error.Error.TheVariants.{Io, Syntax, Semantic}
 use Rattle.ciborium.specs.declared.de.error.Error.TheVariants.{RecursionLimitExceeded, Memory}
@@ -20,35 +16,6 @@ from_ll (ll.Io e) = Io e
 from_ll (ll.Syntax p) = Syntax p
 from_ll ll.TooLong = TooLong
 from_ll ll.Memory = Memory
-
--- the kinds that reading a value names
-abbrev pub refusal_kind_of : Kind → Option refusal.Kind
-refusal_kind_of kinds.Float = Some refusal.Float
-refusal_kind_of kinds.Simple = Some refusal.Simple
-refusal_kind_of kinds.Break = Some refusal.Break
-refusal_kind_of kinds.TooLarge = Some refusal.TooLarge
-refusal_kind_of kinds.NotShortest = Some refusal.NotShortest
-refusal_kind_of kinds.Open = Some refusal.Open
-refusal_kind_of kinds.NotFolded = Some refusal.NotFolded
-refusal_kind_of kinds.KeyOrder = Some refusal.KeyOrder
-refusal_kind_of _ = None
-
--- P holds of a refusal of a kind at an offset, and both are named
-abbrev pub IsNamed : Option ℕ → Option refusal.Kind → (Refusal → Type 0) → Type 0
-IsNamed (Some p) (Some k) P = P (refusal.semantic p k)
-IsNamed (Some p) None P = ⊥
-IsNamed None k P = ⊥
-
--- an error other than `Memory`, of a call that leaves this of the reader, is a refusal of which P
--- holds; `Io` is one where the reader
--- came to its end
-abbrev pub IsRefusedBy : {E : Type 0} → Option (List ℕ) → Error E → (Refusal → Type 0) → Type 0
-IsRefusedBy left (Io e) P = left ≡ Some [] → P refusal.io
-IsRefusedBy left (Syntax p) P = P (refusal.syntax p)
-IsRefusedBy left (Semantic p k) P = IsNamed p (refusal_kind_of k) P
-IsRefusedBy left RecursionLimitExceeded P = P refusal.recursion_limit_exceeded
-IsRefusedBy left Memory P = Unit {0}
-IsRefusedBy left TooLong P = P refusal.too_long
 
 -- where a call could not be given more, what is left of the reader is nothing, unless it can fail
 -- before its end

@@ -1,9 +1,7 @@
-pub mod Spelling
 pub mod Errors
 pub mod Writes
 pub mod DeterministicWrites
 pub mod Tags
-pub mod DeterministicRefusals
 pub mod ItemSequences
 pub mod NextItems
 pub mod SequenceWrites
@@ -15,6 +13,7 @@ pub mod lemmas
 pub mod inner
 pub mod TypedAnswers
 pub mod ValueAnswers
+pub mod ValueClauses
 pub use Rattle.ciborium_ll.specs.Bytes
 pub use Rattle.ciborium_ll.specs.Head
 pub use Rattle.ciborium_ll.specs.Item
@@ -37,6 +36,7 @@ pub use Rattle.ciborium_value.specs.Meaning
 pub use Rattle.ciborium_value.specs.Number
 pub use Rattle.ciborium_value.specs.Nesting
 pub use Rattle.ciborium_value.specs.Folded
+pub use Rattle.ciborium_value.specs.Spelling
 pub use Rattle.ciborium_value.specs.Refuses
 pub use Rattle.ciborium_value.specs.Encoding
 pub use Rattle.ciborium_value.specs.Canonical
@@ -67,6 +67,7 @@ pub use Rattle.ciborium_value.specs.NeverWritten
 pub use Rattle.ciborium_value.specs.WrittenContents
 pub use Rattle.ciborium_value.specs.Visits
 pub use Rattle.ciborium_value.specs.Deterministic
+pub use Rattle.ciborium_value.specs.CanonicalTrees
 pub use Rattle.ciborium_value.specs.DeterministicForms
 pub use Rattle.ciborium_value.specs.SameContents
 pub use Rattle.ciborium_value.specs.FormsReadBack

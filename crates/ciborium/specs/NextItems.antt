@@ -7,7 +7,8 @@ use Rattle.ciborium_ll.specs.declared.header.Header.{Header}
 use Rattle.ciborium_ll.specs.Accesses.{left_at_failure}
 use Rattle.ciborium_value.specs.Readings.{Reading}
 use Rattle.ciborium_value.specs.Sources.{IsGrantedFault, RefusesAhead, TakesAhead, TakesItem}
-use Rattle.ciborium_value.specs.Sources.{TakesOnly, read_as}
+use Rattle.ciborium_value.specs.Sources.{TakesOnly}
+use Rattle.ciborium_value.specs.View.{read_as}
 use Rattle.ciborium.specs.declared.de.byte_source.ByteSource.{ByteSource}
 use Rattle.ciborium.specs.declared.de.error.Error.{Error}
 use Rattle.ciborium.specs.declared.de.error.Error.TheVariants.{Io, Syntax, Semantic}
@@ -16,9 +17,9 @@ use Rattle.ciborium.specs.declared.de.error.Error.TheVariants.{TooLong}
 use Rattle.ciborium.specs.inner.ByteSources.{HasTakenSince, IsUnread, ReadsValue, StandsBefore}
 use Rattle.ciborium.specs.inner.ByteSources.{fault_at}
 use Rattle.ciborium.specs.Errors.{fault_of}
-use Rattle.ciborium.specs.Spelling.{any}
+use Rattle.ciborium_value.specs.Spelling.{any}
 use Rattle.ciborium.specs.TypedAnswers.{RefusesTaken, TakesBeginning, TakesGiven}
-use Rattle.ciborium.specs.ValueAnswers.{ReadsWhole}
+use Rattle.ciborium.specs.ValueClauses.{ReadsWhole}
 
 -- ---- the clauses of a call that reads the next item: what the reader held before it, what it is
 -- left with, and the answer

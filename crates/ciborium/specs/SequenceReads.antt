@@ -1,11 +1,10 @@
 -- Reading a whole sequence of items (RFC 8742, section 2) as values of one type.
-use Rattle.std.specs.Prelude.{◌≡◌, ℕ, List, [], ◌∷◌, ◌++◌, length, Option, Some, None, Result}
-use Rattle.std.specs.Prelude.{IfErr, IfOk}
+use Rattle.std.specs.Prelude.{◌≡◌, ℕ, List, [], ◌∷◌, ◌++◌, Option, Some, None, Result, IfErr, IfOk}
 use Rattle.ciborium_ll.specs.Item.{Item}
 use Rattle.ciborium_ll.specs.Spells.{Spells}
 use Rattle.ciborium_value.specs.Nesting.{Limit}
 use Rattle.ciborium_value.specs.Sources.{IsOutsideFault}
-use Rattle.ciborium_value.specs.Taken.{gives, Taken}
+use Rattle.ciborium_value.specs.Taken.{Taken, gives, outcome}
 use Rattle.ciborium.specs.declared.de.error.Error.{Error}
 use Rattle.ciborium.specs.Errors.{fault_of}
 use Rattle.ciborium.specs.TypedAnswers.{IsFaultAhead}
@@ -15,7 +14,7 @@ use Rattle.ciborium.specs.TypedAnswers.{IsFaultAhead}
 abbrev pub GivesThen : {A : Type 0} → Limit → Taken A → List ℕ → List A → List ℕ → Type 0
 GivesThen l taken b [] u = b ≡ u
 GivesThen l taken b (c ∷ cs) u = (i : Item) × (s : List ℕ) × (left : List ℕ) × Spells s i ×
-    (b ≡ s ++ left) × (taken l i ≡ gives c) × GivesThen l taken left cs u
+    (b ≡ s ++ left) × (outcome l (taken i) ≡ gives c) × GivesThen l taken left cs u
 
 -- b is a sequence of items that give these values, and nothing else
 abbrev pub GivesInTurn : {A : Type 0} → Limit → Taken A → List ℕ → List A → Type 0
@@ -28,7 +27,7 @@ abbrev pub IsRefusedThen : {A E : Type 0} → Limit → Taken A → List ℕ →
     Type 0
 IsRefusedThen {A} l taken b after e =
     (cs : List A) × (u : List ℕ) × GivesThen l taken b cs u ×
-    IsFaultAhead (length u) l taken u (fault_of after e) ×
+    IsFaultAhead 0 l taken u (fault_of after e) ×
     (u ≡ [] → IsOutsideFault 0 (fault_of None e))
 
 -- ---- what the reader held before, what it is left with, and the answer

@@ -1,16 +1,18 @@
 -- What reading answers where all of the bytes are at hand, and have to be one item.
-use Rattle.std.specs.Prelude.{◌≡◌, ◌≢◌, ℕ, ◌⊎◌, List, [], ◌++◌, length, Some, Result, Ok}
-use Rattle.std.specs.Prelude.{Err}
+use Rattle.std.specs.Prelude.{◌≡◌, ◌≢◌, ℕ, ◌⊎◌, List, [], ◌++◌, length, Some, Result, Ok, Err}
 use Rattle.std.specs.Prelude.{IfErr, IfOk, IfSome}
 use Rattle.ciborium_ll.specs.Item.{Item}
 use Rattle.ciborium_ll.specs.Spells.{Spells}
 use Rattle.ciborium_value.specs.Readings.{Reading}
-use Rattle.ciborium_value.specs.Sources.{IsFaultOf, IsGrantedFault, read_as}
-use Rattle.ciborium_value.specs.Taken.{Taken, gives}
+use Rattle.ciborium_value.specs.Sources.{IsFaultOf, IsGrantedFault}
+use Rattle.ciborium_value.specs.View.{read_as}
+use Rattle.ciborium_value.specs.Taken.{Taken, gives, outcome}
 use Rattle.ciborium_value.specs.Tree.{Tree}
 use Rattle.ciborium_value.specs.declared.kind.Kind.TheVariants.{TrailingData}
-use Rattle.ciborium.specs.Errors.{IsRefusedBy, fault_of}
-use Rattle.ciborium.specs.Spelling.{any, IsReadBy, RefusesBy}
+use Rattle.ciborium.specs.Errors.{fault_of}
+use Rattle.ciborium.specs.ValueAnswers.{IsRefusedBy}
+use Rattle.ciborium_value.specs.Spelling.{any, IsReadAs}
+use Rattle.ciborium_value.specs.Refuses.{Refuses}
 use Rattle.ciborium.specs.declared.de.error.Error.{Error}
 use Rattle.ciborium.specs.declared.de.error.Error.TheVariants.{Memory, Semantic}
 
@@ -18,19 +20,20 @@ use Rattle.ciborium.specs.declared.de.error.Error.TheVariants.{Memory, Semantic}
 
 -- at Ok all of the bytes are one item, which gives the answer
 abbrev pub IsAllTaken : {A E : Type 0} → ℕ → Taken A → List ℕ → Result A (Error E) → Type 0
-IsAllTaken l taken b r = IfOk r (λ v. (i : Item) × Spells b i × (taken (Some l) i ≡ gives v))
+IsAllTaken l taken b r = IfOk r (λ v. (i : Item) × Spells b i ×
+    (outcome (Some l) (taken i) ≡ gives v))
 
 -- bytes that are one item, which gives a value, answer it, unless memory was refused
 abbrev pub GivesAll : {A E : Type 0} → ℕ → Taken A → List ℕ → Result A (Error E) → Type 0
-GivesAll {A} l taken b r = (i : Item) (v : A) → Spells b i → taken (Some l) i ≡ gives v →
+GivesAll {A} l taken b r = (i : Item) (v : A) → Spells b i → outcome (Some l) (taken i) ≡ gives v →
     (r ≡ Ok v) ⊎ (r ≡ Err Memory)
 
 -- an item at the front is refused as it is; or it gives a value, bytes follow it, and they are
 -- refused where they begin
 abbrev pub RefusesAll : {A E : Type 0} → ℕ → Taken A → List ℕ → Result A (Error E) → Type 0
 RefusesAll {A} l taken b r = IfErr r (λ e. (i : Item) (s left : List ℕ) → Spells s i →
-    b ≡ s ++ left → IsFaultOf (length b) (fault_of (Some []) e) (taken (Some l) i) ⊎
-    ((left ≢ []) × ((v : A) × (taken (Some l) i ≡ gives v)) ×
+    b ≡ s ++ left → IsFaultOf (length s) (fault_of (Some []) e) (outcome (Some l) (taken i)) ⊎
+    ((left ≢ []) × ((v : A) × (outcome (Some l) (taken i) ≡ gives v)) ×
     (e ≡ Semantic (Some (length s)) TrailingData)))
 
 -- ---- by the tree of a value
@@ -38,17 +41,17 @@ RefusesAll {A} l taken b r = IfErr r (λ e. (i : Item) (s left : List ℕ) → S
 -- bytes that are read as a value within l levels are followed by others, and these are refused
 -- where they begin
 abbrev pub RefusesTrailing : {E : Type 0} → ℕ → List ℕ → Error E → Type 0
-RefusesTrailing l b e = (v : Tree) × (s : List ℕ) × (left : List ℕ) × IsReadBy any s 0 l v ×
+RefusesTrailing l b e = (v : Tree) × (s : List ℕ) × (left : List ℕ) × IsReadAs any s 0 (Some l) v ×
     (b ≡ s ++ left) × (left ≢ []) × (e ≡ Semantic (Some (length s)) TrailingData)
 
 -- all of the bytes are read as the answer; or they are refused as the definitions refuse them
 abbrev pub AreAllRead : {E : Type 0} → ℕ → List ℕ → Result Tree (Error E) → Type 0
-AreAllRead l b (Ok v) = IsReadBy any b 0 l v
-AreAllRead l b (Err e) = IsRefusedBy (Some []) e (RefusesBy any b 0 l) ⊎ RefusesTrailing l b e
+AreAllRead l b (Ok v) = IsReadAs any b 0 (Some l) v
+AreAllRead l b (Err e) = IsRefusedBy (Some []) e (Refuses any b 0 (Some l)) ⊎ RefusesTrailing l b e
 
 -- bytes that are read as a value answer it, unless memory was refused
 abbrev pub AnswersAll : {E : Type 0} → ℕ → List ℕ → Result Tree (Error E) → Type 0
-AnswersAll l b r = (v : Tree) → IsReadBy any b 0 l v → (r ≡ Ok v) ⊎ (r ≡ Err Memory)
+AnswersAll l b r = (v : Tree) → IsReadAs any b 0 (Some l) v → (r ≡ Ok v) ⊎ (r ≡ Err Memory)
 
 -- ---- all of this
 

@@ -12,8 +12,8 @@ use Rattle.ciborium_value.specs.ProperTrees.{IsProperTree}
 use Rattle.ciborium_value.specs.Readings.{Reading}
 use Rattle.ciborium_value.specs.Sources.{Fault, of_kind, of_nesting, of_syntax, of_memory}
 use Rattle.ciborium_value.specs.Sources.{of_device, of_end, of_length, IsFaultOf, IsGrantedFault}
-use Rattle.ciborium_value.specs.Sources.{read_as}
-use Rattle.ciborium_value.specs.Taken.{gives, Taken}
+use Rattle.ciborium_value.specs.View.{read_as}
+use Rattle.ciborium_value.specs.Taken.{Taken, gives, outcome}
 use Rattle.ciborium_value.specs.Tree.{Tree}
 use Rattle.ciborium_value.specs.TreeAnswers.{IsErrorOf}
 use Rattle.ciborium_value.specs.declared.kind.Kind.{Kind}
@@ -27,13 +27,13 @@ use Rattle.ciborium.specs.declared.de.error.Error.{Error}
 -- an item stood at the front that gives v within the limit, and just that item was taken
 abbrev pub TakesGiving : {A : Type 0} → Limit → Taken A → List ℕ → A → Option (List ℕ) → Type 0
 TakesGiving l taken b v after = (i : Item) × (s : List ℕ) × (left : List ℕ) × Spells s i ×
-    (b ≡ s ++ left) × (taken l i ≡ gives v) × (after ≡ Some left)
+    (b ≡ s ++ left) × (outcome l (taken i) ≡ gives v) × (after ≡ Some left)
 
--- where an item stands at the front, and what is there ends at this offset, it is refused so, or
--- for what no item decides
+-- where an item stands at the front, at offset p, it is refused so, or for what no item decides: as
+-- too long only where its own bytes pass the greatest offset
 abbrev pub IsFaultAhead : {A : Type 0} → ℕ → Limit → Taken A → List ℕ → Fault → Type 0
-IsFaultAhead end l taken b fault = (i : Item) (s left : List ℕ) → Spells s i → b ≡ s ++ left →
-    IsFaultOf end fault (taken l i)
+IsFaultAhead p l taken b fault = (i : Item) (s left : List ℕ) → Spells s i → b ≡ s ++ left →
+    IsFaultOf (p + length s) fault (outcome l (taken i))
 
 -- at Ok just an item was taken, and the answer is what it gives
 abbrev pub TakesGiven : {A E : Type 0} → Limit → Taken A → Option (List ℕ) → Option (List ℕ) →
@@ -41,12 +41,12 @@ abbrev pub TakesGiven : {A E : Type 0} → Limit → Taken A → Option (List �
 TakesGiven l taken before after r = (b : List ℕ) → before ≡ Some b →
     IfOk r (λ v. TakesGiving l taken b v after)
 
--- an item at the front, at offset p, is refused only as it is: as too long only where what is there
--- passes the greatest offset, and with `Io` only where the device failed, not at the reader's end
+-- an item at the front, at offset p, is refused only as it is, and with `Io` only where the device
+-- failed, not at the reader's end
 abbrev pub RefusesTaken : {A E : Type 0} → ℕ → Limit → Taken A → Option (List ℕ) →
     Option (List ℕ) → Result A (Error E) → Type 0
 RefusesTaken p l taken before after r = (b : List ℕ) → before ≡ Some b →
-    IfErr r (λ e. IsFaultAhead (p + length b) l taken b (fault_of after e))
+    IfErr r (λ e. IsFaultAhead p l taken b (fault_of after e))
 
 -- some bytes were taken, a beginning of those that are known, and nothing else
 abbrev pub TakesBeginning : Option (List ℕ) → Option (List ℕ) → Type 0
@@ -78,8 +78,8 @@ ReadsAsType p l reading before after P r = ReadsAsTypeFrom true p l reading befo
 
 -- the answer of a source over a tree whose item is i, where there is no limit
 abbrev pub AnswersTree : {A : Type 0} → Taken A → Item → Result A TreeError → Type 0
-AnswersTree taken i (Ok v) = taken None i ≡ gives v
-AnswersTree taken i (Err e) = IsErrorOf e (taken None i)
+AnswersTree taken i (Ok v) = outcome None (taken i) ≡ gives v
+AnswersTree taken i (Err e) = IsErrorOf e (outcome None (taken i))
 
 -- the answer of a reader over these bytes within a limit
 abbrev pub AnswersBytes : {A E : Type 0} → Taken A → ℕ → List ℕ → Option (List ℕ) →

@@ -2,6 +2,8 @@
 pub mod Around
 pub mod FrontItems
 pub mod Parts
+pub mod Rules
+pub mod Turns
 pub mod ValuesInBytes
 pub mod Skips
 pub mod StringContents

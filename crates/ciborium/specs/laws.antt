@@ -2,7 +2,6 @@
 -- of what is read back.
 pub mod AnswerLaws
 pub mod OrdersOfValues
-pub mod DeterministicLaws
 pub mod EncodingLaws
 pub mod RoundTrips
 pub mod FormRoundTrips

@@ -2,8 +2,6 @@
 pub mod ReadsBackTags
 pub mod FormsReadBackTags
 pub mod WrittenTags
-pub use Rattle.ciborium_value.specs.lemmas.Steady
-pub use Rattle.ciborium_value.specs.lemmas.SteadyParts
 pub use Rattle.ciborium_value.specs.lemmas.KeyOrders
 pub use Rattle.ciborium_value.specs.lemmas.DerivedOrder
 pub use Rattle.ciborium_value.specs.lemmas.ItemsOfTrees

@@ -5,9 +5,10 @@ ghost use Rattle.ciborium_value.specs.Sources.{TakesOnly};
 ghost use Rattle.ciborium.specs.Errors.{HasEndedBy};
 ghost use Rattle.ciborium.specs.NextItems.{IfNotEnded, IsReadFrom, ReadsNextAsType};
 ghost use Rattle.ciborium.specs.NextItems.{ReadsNextAsTypeFrom, behind_head};
-ghost use Rattle.ciborium.specs.Spelling.{any};
+ghost use Rattle.ciborium_value.specs.Spelling.{any};
 ghost use Rattle.ciborium.specs.TypedAnswers.{ReadsAsType, ReadsAsTypeFrom};
-ghost use Rattle.ciborium.specs.ValueAnswers.{ReadsWhole, TakesBytesFrom};
+ghost use Rattle.ciborium.specs.ValueAnswers.{TakesBytes};
+ghost use Rattle.ciborium.specs.ValueClauses.{ReadsWhole};
 ghost use Rattle.ciborium.specs.inner.ByteSources.{HasTakenSince};
 
 mod buffered;
@@ -71,7 +72,7 @@ fn read_at<T: Deserialize, R, A: Access<R>>(
     limit: usize,
 ) -> Result<T, Error<io::Error>>
     ensures reads { ReadsAsTypeFrom A.can_fail offset (Some limit) T.reading
-        (A.remaining reader.old) (A.remaining reader.new) (TakesBytesFrom any offset
+        (A.remaining reader.old) (A.remaining reader.new) (TakesBytes any offset
         (A.remaining reader.old) limit (A.remaining reader.new)) result }
     ensures ended { IfSome T.reading.whole (λ _. IfErr result
         (λ e. HasEndedBy A.can_fail (A.remaining reader.new) e)) }
@@ -176,7 +177,7 @@ pub fn from_reader_at<T: Deserialize, R: Read>(
     limit: usize,
 ) -> Result<T, Error<io::Error>>
     ensures { ReadsAsType offset (Some limit) T.reading (R.remaining reader.old)
-        (R.remaining reader.new) (TakesBytesFrom any offset (R.remaining reader.old) limit
+        (R.remaining reader.new) (TakesBytes any offset (R.remaining reader.old) limit
         (R.remaining reader.new)) result }
 {
     let mut scratch = [0u8; SCRATCH_SIZE];

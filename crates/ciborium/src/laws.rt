@@ -2,6 +2,8 @@
 
 ghost use Rattle.std.specs.Prelude.{◌≡◌, length};
 ghost use Rattle.ciborium_value.specs.Places.{dictionary};
+ghost use Rattle.ciborium_value.specs.View.{read_as, tree_of};
+ghost use Rattle.ciborium_value.specs.Spelling.{any, deterministic};
 ghost use Rattle.ciborium_value.specs.Sinks.{container_of, in_turn, named_value};
 ghost use Rattle.ciborium_value.specs.declared.key_order.KeyOrder.{KeyOrder};
 ghost use Rattle.ciborium_value.specs.declared.key_order.KeyOrder.TheVariants.{Bytewise};
@@ -9,10 +11,6 @@ ghost use Rattle.ciborium_value.specs.declared.key_order.KeyOrder.TheVariants.{L
 ghost use Rattle.ciborium.specs.laws.AnswerLaws.{OneAnswer};
 ghost use Rattle.ciborium.specs.laws.OrdersOfValues.{IsOrderOfTrees, IsTotal, KeysRise};
 ghost use Rattle.ciborium.specs.laws.OrdersOfValues.{TiesEqualOnes};
-ghost use Rattle.ciborium.specs.laws.DeterministicLaws.{DeterministicOrRefused};
-ghost use Rattle.ciborium.specs.laws.DeterministicLaws.{NeverBothDeterministically};
-ghost use Rattle.ciborium.specs.laws.DeterministicLaws.{OneDeterministicRefusal};
-ghost use Rattle.ciborium.specs.laws.DeterministicLaws.{OneDeterministicTree};
 ghost use Rattle.ciborium.specs.laws.EncodingLaws.{EncodingSpells, HeadsRise, OneTree};
 ghost use Rattle.ciborium.specs.laws.EncodingLaws.{OthersAreLonger};
 ghost use Rattle.ciborium.specs.laws.FormRoundTrips.{FormIsReadBack, IsFormContentGiven};
@@ -28,8 +26,10 @@ ghost use Rattle.ciborium.specs.laws.RoundTrips.{TreeGivesContent};
 ghost use Rattle.ciborium.specs.laws.RoundTrips.{TreeReadBack, TreeWrittenAgain, WriteSameBytes};
 ghost use Rattle.ciborium.specs.laws.SequenceRoundTrips.{AreContentsReadBack, SequenceReadsBack};
 ghost use Rattle.ciborium.specs.TypedAnswers.{SourcesAgree};
+ghost use Rattle.ciborium.specs.ValueAnswers.{AnswersGoodItem, TakesBytes};
 ghost use Rattle.ciborium.specs.Writes.{IsNamedWritten};
 
+use crate::de;
 use crate::value::{BytewiseValue, CanonicalValue};
 pub use ciborium_ll::spelling_laws::{
     header_bytes_spell, one_header, shortest_head, unique_spelling,
@@ -42,7 +42,43 @@ pub use ciborium_value::{
     Avoidable, ByteString, FormReadsBack, NeverWrites, Null, ReadsBack, WritesContent,
 };
 use ciborium_value::{Deserialize, KeyOrder, Serialize, Value};
+use std::alloc::Global;
 use std::collections::BTreeMap;
+use std::io::{self, Read};
+
+/// What reading a `Value` promises, whatever the bytes and the limit. Some bytes are taken: at `Ok`
+/// they are just one item, which means the answer, nests within the limit and ends within the
+/// greatest offset; else they are refused so, whatever follows them. And where such an item stands
+/// at the front, it is taken and answered, unless the reader failed or memory was refused. The
+/// other reading calls promise the same of a `Value`.
+pub fn value_is_read<R: Read>(
+    alloc: Global,
+    reader: &mut R,
+    limit: usize,
+) -> Result<Value, de::Error<io::Error>>
+    ensures taken { TakesBytes any 0 (R.remaining reader.old) limit (R.remaining reader.new)
+        (read_as tree_of result) }
+    ensures exact { AnswersGoodItem any (R.remaining reader.old) limit (R.remaining reader.new)
+        (read_as tree_of result) }
+{
+    de::from_reader_with_recursion_limit(alloc, reader, limit)
+}
+
+/// The same of the deterministic spelling by an order of keys: the item is then the one shortest
+/// definite encoding of the answer, in whose maps the keys strictly rise.
+pub fn value_is_read_deterministically<R: Read>(
+    alloc: Global,
+    reader: &mut R,
+    limit: usize,
+    order: KeyOrder,
+) -> Result<Value, de::Error<io::Error>>
+    ensures taken { TakesBytes (deterministic order) 0 (R.remaining reader.old) limit
+        (R.remaining reader.new) (read_as tree_of result) }
+    ensures exact { AnswersGoodItem (deterministic order) (R.remaining reader.old) limit
+        (R.remaining reader.new) (read_as tree_of result) }
+{
+    de::from_reader_deterministic_with_order(alloc, reader, limit, order)
+}
 
 /// The clauses of the reading calls leave one answer for the same bytes and limit: the same tree
 /// with the same bytes left, or the same refusal, unless the reader or an allocation failed. At
@@ -210,8 +246,8 @@ pub fn order_of_bytewise_values()
 /// Each type is read as one function of the item: `deserialized` from a value, and `from_reader`
 /// from its encoding, give the same value or are refused with the same kind. Failures of
 /// allocations and of the reader apart, reading bytes may also be refused for nesting, which
-/// reading a tree never is, or as too long. It rests on what the type's `reading` proves of itself:
-/// a limit affects nothing but nesting.
+/// reading a tree never is, or as too long: a limit decides nothing but nesting, since a `reading`
+/// has no other use of it.
 pub fn sources_agree<T: Deserialize>()
     ensures { SourcesAgree T.reading.taken }
 {}
@@ -219,7 +255,7 @@ pub fn sources_agree<T: Deserialize>()
 /// What is written is read back: the bytes that `into_writer` writes of a value, whatever follows
 /// them, give its content where as many levels are left as reading it takes, and what follows is
 /// left. Reading fails only for reasons that are independent of the item: the reader or an
-/// allocation fails, or the bytes pass the greatest offset. What `Value::serialized` makes of a
+/// allocation fails, or its bytes pass the greatest offset. What `Value::serialized` makes of a
 /// value gives its content by `deserialized`, which fails only where an allocation fails. It rests
 /// on the type's own law (`ReadsBack`).
 pub fn written_is_read_back<T: ReadsBack>()
@@ -241,8 +277,8 @@ pub fn is_read_back<T: ReadsBack>(value: &T, again: &T, limit: usize, bytes: &[u
 /// A sequence is read back: the bytes that `write_sequence` writes of values give their contents,
 /// in order and no others, where each value takes no more levels than are left, and nothing stays
 /// unread. Reading fails only for reasons that are independent of the items: the reader or an
-/// allocation fails, or the bytes pass the greatest offset. It rests on the type's own law
-/// (`ReadsBack`).
+/// allocation fails, or the bytes of one item pass the greatest offset. It rests on the type's own
+/// law (`ReadsBack`).
 pub fn sequence_is_read_back<T: ReadsBack>()
     ensures { SequenceReadsBack T.is_held T.written T.reading T.levels }
 {}
@@ -272,16 +308,6 @@ pub fn equal_contents_equal_bytes<T: WritesContent>()
 pub fn read_back_is_written_again<T: ReadsBack + WritesContent>()
     ensures bytes { BytesWrittenAgain T.is_held T.written T.reading T.levels }
     ensures tree { TreeWrittenAgain T.is_held T.written T.reading }
-{}
-
-/// In either order of keys, all bytes, at every offset and under every limit of levels, either
-/// begin with the deterministic encoding of a tree, or are refused by a deterministic reader, never
-/// both, and there is one tree alone, or one refusal alone (RFC 8949, section 4.2).
-pub fn deterministic_or_refused()
-    ensures one_of { DeterministicOrRefused }
-    ensures never_both { NeverBothDeterministically }
-    ensures one_refusal { OneDeterministicRefusal }
-    ensures one_tree { OneDeterministicTree }
 {}
 
 /// No bytes are two sequences (RFC 8742, section 2): the items need nothing between them that says

@@ -3,7 +3,7 @@ use Rattle.std.proofs.Common.{◌≡◌, ◌⊎◌, inl, inr, refl, sym, subst, 
 use Rattle.ciborium.specs.ReadsBack.{IsNameRead, by_bytes}
 use Rattle.ciborium.specs.Sinks.{Named}
 use Rattle.ciborium.specs.SliceAnswers.{GivesAll}
-use Rattle.ciborium.specs.Sources.{read_as}
+use Rattle.ciborium.specs.View.{read_as}
 use Rattle.ciborium.specs.Spells.{Spells}
 use Rattle.ciborium.specs.Taken.{Taken}
 use Rattle.ciborium.specs.Writes.{IsWrittenAs}

@@ -1,25 +1,27 @@
 //! Small callers of the library, as a user writes them, each with a contract of its own.
-ghost use Rattle.std.specs.Prelude.{◌≡◌, Any, IfErr, IfSome, OnOk, Some, Vec, codes, false, pos};
-ghost use Rattle.std.specs.Prelude.{string_bytes};
+ghost use Rattle.std.specs.Prelude.{◌≡◌, ◌≢◌, ◌+◌, ◌≤◌, ◌++◌, Any, IfErr, IfSome, List, OnOk, Some};
+ghost use Rattle.std.specs.Prelude.{Vec, codes, false, length, pos, string_bytes, ℕ};
 ghost use Rattle.std.specs.declared.alloc.Global.{Global};
 ghost use Rattle.ciborium.specs.Item as item;
 ghost use Rattle.ciborium.specs.Encoding.{encoding, written_bytes};
 ghost use Rattle.ciborium.specs.Writing.{Writes};
 ghost use Rattle.ciborium.specs.ProperTrees.{IsProperTree};
-ghost use Rattle.ciborium.specs.Refuses.{IsReadAs};
 ghost use Rattle.ciborium.specs.Sinks.{number_item};
-ghost use Rattle.ciborium.specs.Sources.{read_as};
+ghost use Rattle.ciborium.specs.View.{read_as, tree_of};
+ghost use Rattle.ciborium.specs.Spells.{Spells};
 ghost use Rattle.ciborium.specs.Tree.{integer, text};
-ghost use Rattle.ciborium.specs.View.{tree_of};
 ghost use Rattle.ciborium_value.specs.declared.key_order.KeyOrder.TheVariants.{LengthFirst};
 ghost use Rattle.ciborium_value.specs.declared.tree.Value as value;
-ghost use Rattle.ciborium.specs.ValueAnswers.{AnswersGoodItem, AnswersProper, HoldsNoMore};
-ghost use Rattle.ciborium.specs.ValueAnswers.{RefusesBytes, TakesBytes, TakesJustItem, TakesWithin};
+ghost use Rattle.ciborium.specs.declared.de.error.Error.TheVariants.{TooLong};
+ghost use Rattle.ciborium.specs.ValueAnswers.{AnswersGoodItem, TakesBytes};
+ghost use Rattle.ciborium.specs.ValueClauses.{AnswersProper, HoldsNoMore};
+ghost use Rattle.ciborium.specs.ValueClauses.{RefusesBytes, TakesJustItem, TakesWithin};
 ghost use Rattle.ciborium.specs.laws.OrdersOfValues.{KeysRise};
-ghost use Rattle.ciborium.specs.Spelling.{any};
+ghost use Rattle.ciborium.specs.Spelling.{IsReadAs, any};
 ghost use Rattle.ciborium.specs.Writes.{IsWriteIo};
 
 use crate::own_types::Message;
+use ciborium::de::Deserialize;
 use ciborium::laws::{canonical_keys_rise, written_reads_back};
 use ciborium::ser::Error;
 use ciborium::value::CanonicalValue;
@@ -35,7 +37,7 @@ pub fn read_value<R: Read>(
     reader: &mut R,
     limit: usize,
 ) -> Result<Value, de::Error<io::Error>>
-    ensures taken { TakesBytes any (R.remaining reader.old) limit (R.remaining reader.new)
+    ensures taken { TakesBytes any 0 (R.remaining reader.old) limit (R.remaining reader.new)
         (read_as tree_of result) }
     ensures ok { TakesJustItem any (R.remaining reader.old) limit (R.remaining reader.new)
         (read_as tree_of result) }
@@ -51,9 +53,22 @@ pub fn read_value<R: Read>(
     from_reader_with_recursion_limit(alloc, reader, limit)
 }
 
+/// Reads a value before which `offset` bytes stand. An item that ends within the greatest offset is
+/// never too long, whatever follows it.
+pub fn read_behind<T: Deserialize, R: Read>(
+    alloc: Global,
+    reader: &mut R,
+    offset: usize,
+) -> Result<T, de::Error<io::Error>>
+    ensures { (i : item.Item) (s left : List ℕ) → Spells s i → offset + length s ≤ usize.MAX →
+        R.remaining reader.old ≡ Some (s ++ left) → IfErr result (λ e. e ≢ TooLong) }
+{
+    de::from_reader_at(alloc, reader, offset, 256)
+}
+
 /// The one item that all of the bytes are.
 pub fn only_item(alloc: Global, bytes: &[u8]) -> Option<Value>
-    ensures { IfSome result (λ v. IsReadAs bytes.now 0 (Some 256) (tree_of v)) }
+    ensures { IfSome result (λ v. IsReadAs any bytes.now 0 (Some 256) (tree_of v)) }
 {
     from_slice(alloc, bytes).ok()
 }

@@ -4,7 +4,7 @@ ghost use Rattle.std.specs.Prelude.{◌≡◌, IfSome, Some, codes, false, pos, 
 ghost use Rattle.ciborium.specs.Item as item;
 ghost use Rattle.ciborium.specs.Encoding.{written_bytes};
 ghost use Rattle.ciborium.specs.Sinks.{number_item};
-ghost use Rattle.ciborium.specs.Sources.{read_as};
+ghost use Rattle.ciborium.specs.View.{read_as};
 ghost use Rattle.ciborium.specs.TypedAnswers.{TakesGiven};
 
 use crate::own_types::{Figure, Message, Moment};

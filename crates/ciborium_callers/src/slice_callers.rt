@@ -5,13 +5,12 @@ ghost use Rattle.ciborium.specs.Item as item;
 ghost use Rattle.ciborium.specs.Item.{Item};
 ghost use Rattle.ciborium.specs.ItemSequences.{IsSequence};
 ghost use Rattle.ciborium.specs.Meaning.{meaning};
-ghost use Rattle.ciborium.specs.Refuses.{IsReadAs};
 ghost use Rattle.ciborium.specs.SliceAnswers.{GivesAll, IsAllTaken};
-ghost use Rattle.ciborium.specs.Sources.{read_as};
+ghost use Rattle.ciborium.specs.View.{read_as, tree_of};
+ghost use Rattle.ciborium.specs.Spelling.{IsReadAs, any};
 ghost use Rattle.ciborium.specs.Spells.{Spells};
-ghost use Rattle.ciborium.specs.Taken.{gives};
+ghost use Rattle.ciborium.specs.Taken.{gives, outcome};
 ghost use Rattle.ciborium.specs.Tree.{Tree};
-ghost use Rattle.ciborium.specs.View.{tree_of};
 ghost use Rattle.ciborium.specs.declared.de.error.Error.TheVariants.{Memory};
 
 use crate::own_types::Message;
@@ -23,9 +22,9 @@ use std::io;
 /// Loads a value that all of the bytes are. Bytes that are one good item within 256 levels are
 /// never refused but for want of memory.
 pub fn load_value(alloc: Global, bytes: &[u8]) -> Result<Value, de::Error<io::Error>>
-    ensures ok { IfOk result (λ v. IsReadAs bytes.now 0 (Some 256) (tree_of v)) }
+    ensures ok { IfOk result (λ v. IsReadAs any bytes.now 0 (Some 256) (tree_of v)) }
     ensures refused { IfErr result
-        (λ e. (t : Tree) → IsReadAs bytes.now 0 (Some 256) t → e ≡ Memory) }
+        (λ e. (t : Tree) → IsReadAs any bytes.now 0 (Some 256) t → e ≡ Memory) }
 {
     from_slice(alloc, bytes)
 }
@@ -33,9 +32,9 @@ pub fn load_value(alloc: Global, bytes: &[u8]) -> Result<Value, de::Error<io::Er
 /// Whether all of the bytes are one good item within 256 levels.
 pub fn is_item(alloc: Global, bytes: &[u8]) -> Result<bool, AllocError>
     ensures yes { IfOk result
-        (λ yes. IsTrue yes → (t : Tree) × IsReadAs bytes.now 0 (Some 256) t) }
+        (λ yes. IsTrue yes → (t : Tree) × IsReadAs any bytes.now 0 (Some 256) t) }
     ensures no { IfOk result
-        (λ yes. IsFalse yes → (t : Tree) → ¬ IsReadAs bytes.now 0 (Some 256) t) }
+        (λ yes. IsFalse yes → (t : Tree) → ¬ IsReadAs any bytes.now 0 (Some 256) t) }
 {
     let Err(error) = load_value(alloc, bytes) else {
         return Ok(true);
@@ -50,7 +49,7 @@ pub fn is_item(alloc: Global, bytes: &[u8]) -> Result<bool, AllocError>
 /// text.
 pub fn load_pair(alloc: Global, bytes: &[u8]) -> Result<(u8, String), de::Error<io::Error>>
     ensures { IfOk result (λ pair. (i : Item) × Spells bytes.now i ×
-        (⟦<(u8, String) as Deserialize>⟧.reading.taken (Some 256) i
+        (outcome (Some 256) (⟦<(u8, String) as Deserialize>⟧.reading.taken i)
         ≡ gives (pair.0, string_bytes pair.1))) }
 {
     from_slice(alloc, bytes)
@@ -70,7 +69,7 @@ pub fn load_message(alloc: Global, bytes: &[u8]) -> Result<Message, de::Error<io
 /// The value at the front of the bytes, and what follows it.
 pub fn split_value(alloc: Global, bytes: &[u8]) -> Option<(Value, &[u8])>
     ensures { IfSome result (λ parts. (s : List ℕ) × (bytes.now ≡ s ++ parts.1.now) ×
-        IsReadAs s 0 (Some 256) (tree_of parts.0)) }
+        IsReadAs any s 0 (Some 256) (tree_of parts.0)) }
 {
     let mut rest = bytes;
     let value = from_buf_reader(alloc, &mut rest).ok()?;

@@ -1,14 +1,15 @@
 //! The callers with contracts are run.
 use crate::expectations::{expect, expect_all, expect_bytes, expect_same, is_refused, is_there};
 use ciborium::laws::{
-    equal_contents_equal_bytes, read_back_is_written_again, sources_agree, written_is_read_back,
+    equal_contents_equal_bytes, read_back_is_written_again, sources_agree, value_is_read,
+    value_is_read_deterministically, written_is_read_back,
 };
 use ciborium::ser::Serialize;
 use ciborium::tag::{Accepted, Captured, Required};
-use ciborium::value::{CanonicalValue, Value};
-use ciborium::{from_reader, into_writer};
+use ciborium::value::{CanonicalValue, KeyOrder, Kind, Value};
+use ciborium::{de, from_reader, into_writer};
 use ciborium_callers::callers::{
-    bytes_of, bytes_of_message, only_item, read_value, save, version, write_value,
+    bytes_of, bytes_of_message, only_item, read_behind, read_value, save, version, write_value,
 };
 use ciborium_callers::key_types::Release;
 use ciborium_callers::own_callers::{
@@ -73,6 +74,21 @@ fn version_of(alloc: Global, bytes: &[u8]) -> Result<Option<u8>, Fail> {
         Some(message) => Ok(version(&message)),
         None => Err(Fail::new("no item")),
     }
+}
+
+// A number that ends at the greatest offset, and bytes that no offset counts.
+#[test]
+fn what_follows_is_not_counted(rt: HostRuntime) -> Result<(), Fail> {
+    let alloc = rt.alloc();
+    let bytes = hex::decode(alloc, "050000")?;
+    let mut rest = bytes.as_slice();
+    let number = read_behind::<u8, _>(alloc, &mut rest, usize::MAX - 1)?;
+    let mut all = bytes.as_slice();
+    let is_too_long = match read_behind::<u8, _>(alloc, &mut all, usize::MAX) {
+        Ok(_) => false,
+        Err(error) => matches!(error, de::Error::TooLong),
+    };
+    expect_all(&[number == 5, rest.len() == 2, is_too_long])
 }
 
 #[test]
@@ -188,6 +204,25 @@ fn a_value_is_read_with_every_clause(rt: HostRuntime) -> Result<(), Fail> {
     written_is_read_back::<Figure>();
     sources_agree::<Span>();
     expect(reader == &[2u8][..], "another rest")
+}
+
+// An open array and a definite one, each before 2: the deterministic spelling has the second alone.
+#[test]
+fn values_are_read_as_promised(rt: HostRuntime) -> Result<(), Fail> {
+    let alloc = rt.alloc();
+    let mut open: &[u8] = &[0x9f, 0xff, 0x02];
+    let value = value_is_read(alloc, &mut open, 1)?;
+    expect_same(value, Value::Array(Vec::new(alloc)), "another value")?;
+    let mut definite: &[u8] = &[0x80, 0x02];
+    let value = value_is_read_deterministically(alloc, &mut definite, 1, KeyOrder::Bytewise)?;
+    expect_same(value, Value::Array(Vec::new(alloc)), "another value")?;
+    let mut again: &[u8] = &[0x9f, 0xff];
+    let answer = value_is_read_deterministically(alloc, &mut again, 1, KeyOrder::Bytewise);
+    let is_open = match answer {
+        Ok(_) => false,
+        Err(error) => matches!(error, de::Error::Semantic(Some(0), Kind::Open)),
+    };
+    expect_all(&[open == &[2u8][..], definite == &[2u8][..], is_open])
 }
 
 // A text and its copy, and two moments, are written alike.

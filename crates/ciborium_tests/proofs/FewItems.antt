@@ -1,23 +1,20 @@
 -- What is read of a sequence of few items, part by part, from any source.
 use Rattle.std.proofs.Common.{◌≡◌, ℕ, zero, suc, List, [], ◌∷◌, ◌++◌, refl, sym, ◌∙◌, ap, append_assoc, append-nil}
 use Rattle.ciborium_ll.specs.Item.{Item}
-use Rattle.ciborium_value.specs.Ahead.{Ahead, Rest, inside}
+use Rattle.ciborium_value.specs.Ahead.{Ahead, Rest}
 use Rattle.ciborium_value.specs.Nesting.{Limit}
-use Rattle.ciborium_value.specs.Sources.{Fault, of_kind, TakesAhead, RefusesAhead, Enters, GoesOn, Leaves}
-use Rattle.ciborium_value.specs.Taken.{Outcome, gives, refuses, nests, Taken, then_take, and_take, outcome_map}
+use Rattle.ciborium_value.specs.Sources.{Fault, of_kind, TakesAhead, RefusesAhead, GoesOn, Leaves}
+use Rattle.ciborium_value.specs.lemmas.GivenOutcomes.{and_take}
+use Rattle.ciborium_value.specs.Taken.{Outcome, Steps, Taken, gives, mapped, nests, outcome, outcome_map}
+use Rattle.ciborium_value.specs.Taken.{refuses}
 use Rattle.ciborium_value.specs.declared.kind.Kind.TheVariants as kinds
-use Rattle.ciborium_value.proofs.Sources.Sequences.{so, Follows, IsBefore, IsPast, IsInside, IsBlamed, goes_on, reads}
-use Rattle.ciborium_value.proofs.Sources.Sequences.{blames_part, leaves, fault_map, fault_and}
-use Rattle.ciborium_tests.specs.Few.{few_items, taken_few}
+use Rattle.ciborium_value.proofs.Sources.Sequences.{so, Follows, IsPast, IsInside, IsBlamed, goes_on, reads}
+use Rattle.ciborium_value.proofs.Sources.Sequences.{blames_part, leaves, fault_map, fault_then}
+use Rattle.ciborium_tests.specs.Few.{few_items}
 
 -- what such a sequence becomes of which these items were read, and n more have room
-abbrev pub few_from : {A : Type 0} → Taken A → ℕ → List A → Limit → List Item → Outcome (List A)
-few_from taken n vs l is = outcome_map (λ ws. vs ++ ws) (few_items taken l is n)
-
-none_read : {A : Type 0} (o : Outcome (List A)) → o ≡ outcome_map (λ ws. [] ++ ws) o
-none_read (gives ws) = refl
-none_read (refuses k) = refl
-none_read nests = refl
+abbrev pub few_from : {A : Type 0} → Taken A → ℕ → List A → List Item → Steps (List A)
+few_from taken n vs is = mapped (λ ws. vs ++ ws) (few_items taken is n)
 
 one_more_read : {A : Type 0} (vs : List A) (v : A) (r : Outcome (List A)) →
     outcome_map (λ ws. vs ++ ws) (and_take (gives v) r) ≡ outcome_map (λ ws. (vs ++ v ∷ []) ++ ws) r
@@ -32,17 +29,16 @@ module _ {S Q : Type 0} (StandsBefore : S → Limit → Ahead → Type 0) (SeqSt
       Follows (IsInside StandsBefore SeqStands old q (few_from taken (suc n) vs))
       (IsInside StandsBefore SeqStands new q' (few_from taken n (vs ++ v ∷ [])))
   few_more {v = v} n vs h t = so (goes_on StandsBefore SeqStands (few_from taken (suc n) vs) h)
-      (reads StandsBefore SeqStands (few_from taken (suc n) vs) (few_from taken n (vs ++ v ∷ [])) t
-      (λ m i is e. ap (λ o. outcome_map (λ ws. vs ++ ws) (and_take o (few_items taken m is n))) e ∙
-      one_more_read vs v (few_items taken m is n)))
+      (reads StandsBefore SeqStands (few_from taken (suc n) vs) taken (few_from taken n (vs ++ v ∷ [])) t
+      (λ m i is e. ap (λ o. outcome_map (λ ws. vs ++ ws) (and_take o (outcome m (few_items taken is n)))) e ∙
+      one_more_read vs v (outcome m (few_items taken is n))))
 
   pub few_blames : {old ahead : S} {q q' : Q} (n : ℕ) (vs : List A) (fault : Fault) →
       GoesOn StandsBefore SeqStands old ahead q q' → RefusesAhead StandsBefore ahead taken fault →
       Follows (IsInside StandsBefore SeqStands old q (few_from taken (suc n) vs)) (IsBlamed fault)
   few_blames n vs fault h t = so (goes_on StandsBefore SeqStands (few_from taken (suc n) vs) h)
       (blames_part StandsBefore SeqStands (few_from taken (suc n) vs) taken fault t
-      (λ end m i is e. fault_map _ fault (λ ws. vs ++ ws) (and_take (taken m i) (few_items taken m is n))
-      (fault_and _ fault (taken m i) (few_items taken m is n) e)))
+      (λ end m i is e. fault_map _ fault (λ ws. vs ++ ws) _ (fault_then _ fault (outcome m (taken i)) _ e)))
 
   -- one that has no room is refused
   pub few_refuses : {old ahead : S} {q q' : Q} (vs : List A) → GoesOn StandsBefore SeqStands old ahead q q' →

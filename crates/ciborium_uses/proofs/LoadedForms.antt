@@ -4,7 +4,7 @@ use Rattle.ciborium.specs.DeterministicWrites.{named_form}
 use Rattle.ciborium.specs.Encoding.{item_of}
 use Rattle.ciborium.specs.FormsReadBack.{IsFormRead}
 use Rattle.ciborium.specs.Sinks.{Named}
-use Rattle.ciborium.specs.Taken.{Outcome, Taken, gives}
+use Rattle.ciborium.specs.Taken.{Outcome, Taken, gives, outcome}
 use Rattle.ciborium.specs.Tree.{Tree}
 use Rattle.ciborium_value.specs.declared.key_order.KeyOrder.{KeyOrder}
 
@@ -13,6 +13,8 @@ one_content : {C : Type 0} (o : Outcome C) (c d : C) → o ≡ gives c → o ≡
 one_content o c d first second = cc
 
 pub made_again : {C : Type 0} (o : KeyOrder) (named : Named) (taken : Taken C) (c d : C) (t : Tree) →
-    IsFormRead o named taken c → named_form o named ≡ gives t → taken None (item_of t) ≡ gives d → d ≡ c
-made_again o (Ok i) taken c d t law form made = one_content (taken None (item_of t)) c d (law.back i refl t form) made
+    IsFormRead o named taken c → named_form o named ≡ gives t →
+    outcome None (taken (item_of t)) ≡ gives d → d ≡ c
+made_again o (Ok i) taken c d t law form made =
+    one_content (outcome None (taken (item_of t))) c d (law.back i refl t form) made
 made_again o (Err kind) taken c d t law form made = cc

@@ -13,7 +13,7 @@ use Rattle.ciborium.specs.Spells.{Spells}
 use Rattle.ciborium.specs.Encoding.{item_of}
 use Rattle.ciborium.specs.Order.{tree_cmp}
 use Rattle.ciborium.specs.TagReadings.{if_tag, is_tag, taken_with_tag}
-use Rattle.ciborium.specs.Taken.{Taken, gives, taken_value}
+use Rattle.ciborium.specs.Taken.{Taken, gives, outcome, taken_value}
 use Rattle.ciborium.specs.TakenParts.{taken_map, taken_then}
 use Rattle.ciborium.specs.Tree as trees
 use Rattle.ciborium.specs.Tree.{Tree, TreePairs, tree_pairs_count}
@@ -34,7 +34,7 @@ use Rattle.ciborium_uses.specs.declared.envelopes.wrapping.Wrapping.TheVariants.
 
 -- all of the bytes are one item, which gives v within 256 levels
 abbrev pub IsAllOf : {A : Type 0} → Taken A → List ℕ → A → Type 0
-IsAllOf taken bs v = (i : Item) × Spells bs i × (taken (Some 256) i ≡ gives v)
+IsAllOf taken bs v = (i : Item) × Spells bs i × (outcome (Some 256) (taken i) ≡ gives v)
 
 -- no bytes are to blame: memory was refused
 abbrev pub IsOutside : EnvelopeError → Type 0
@@ -68,8 +68,8 @@ IsLabelMap t = (ps : TreePairs) × (t ≡ trees.map ps) × IsTrue (are_labels ps
 
 -- the same where no label stands twice: it has as many entries as pairs (RFC 9052, section 3)
 abbrev pub AreLabels : Tree → List (Tree × Tree) → Type 0
-AreLabels t es = IsLabelMap t × (taken_map tree_cmp taken_value taken_value None (item_of t) ≡ gives
-    es) ×
+AreLabels t es = IsLabelMap t × (outcome None (taken_map tree_cmp taken_value taken_value
+    (item_of t)) ≡ gives es) ×
     (length es ≡ pair_count t)
 
 -- the bytes are one item, such a map

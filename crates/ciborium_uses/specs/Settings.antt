@@ -3,9 +3,9 @@ use Rattle.std.specs.Prelude.{◌≡◌, ℕ, Bool, List, Option, Some, None, Re
 use Rattle.std.specs.BTreeMap.{BTreeMap}
 use Rattle.ciborium.specs.Encoding.{item_of}
 use Rattle.ciborium.specs.Spelling.{deterministic}
-use Rattle.ciborium.specs.Taken.{Taken, gives}
+use Rattle.ciborium.specs.Taken.{Taken, gives, outcome}
 use Rattle.ciborium.specs.Tree.{Tree}
-use Rattle.ciborium.specs.ValueAnswers.{TakesValue}
+use Rattle.ciborium.specs.ValueClauses.{TakesValue}
 use Rattle.ciborium_value.specs.declared.key_order.KeyOrder.TheVariants.{LengthFirst}
 use Rattle.ciborium_uses.specs.declared.settings.setting.Setting.{Setting}
 use Rattle.ciborium_uses.specs.declared.settings.topic.Topic.{Topic}
@@ -26,4 +26,4 @@ abbrev pub LoadsEncoding : {C E : Type 0} → Taken C → Option (List ℕ) → 
 LoadsEncoding taken before after r =
     (b : List ℕ) → before ≡ Some b → IfOk r (λ c.
     (t : Tree) × TakesValue (deterministic LengthFirst) b 256 t after ×
-    (taken None (item_of t) ≡ gives c))
+    (outcome None (taken (item_of t)) ≡ gives c))

@@ -7,7 +7,7 @@ ghost use Rattle.ciborium.specs.NextItems.{Otherwise, TellsEnd};
 ghost use Rattle.ciborium.specs.Places.{items_from};
 ghost use Rattle.ciborium.specs.SequenceReads.{TakesSequence};
 ghost use Rattle.ciborium.specs.Sinks.{all_named};
-ghost use Rattle.ciborium.specs.Sources.{read_as};
+ghost use Rattle.ciborium.specs.View.{read_as};
 ghost use Rattle.ciborium.specs.TypedAnswers.{TakesGiven};
 ghost use Rattle.ciborium.specs.Writes.{WritesNamed};
 ghost use Rattle.ciborium_uses.specs.Readings.{IsReading, content_of};

@@ -1,7 +1,7 @@
 //! A check of trees against a schema, before anything is made of them.
 ghost use Rattle.std.specs.List.{list_all};
 ghost use Rattle.std.specs.Prelude.{IfErr, IfOk, IsTrue, Some, map, not, ◌≡◌, ◌↔◌};
-ghost use Rattle.ciborium.specs.Refuses.{IsReadAs};
+ghost use Rattle.ciborium.specs.Spelling.{IsReadAs, any};
 ghost use Rattle.ciborium.specs.Tree.{Tree};
 ghost use Rattle.ciborium.specs.View.{tree_of, tree_pairs_of, trees_of};
 ghost use Rattle.ciborium.specs.declared.de.error.Error.TheVariants.{Memory};
@@ -67,8 +67,8 @@ impl error::Error for SchemaError {}
 /// such a tree within 256 levels are never refused but for want of memory.
 pub fn read_shaped(alloc: Global, bytes: &[u8], shape: &Shape) -> Result<Value, SchemaError>
     ensures shape { IfOk result (λ value. HasShape shape.now (tree_of value)) }
-    ensures bytes { IfOk result (λ value. IsReadAs bytes.now 0 (Some 256) (tree_of value)) }
-    ensures refused { IfErr result (λ e. (t : Tree) → IsReadAs bytes.now 0 (Some 256) t →
+    ensures bytes { IfOk result (λ value. IsReadAs any bytes.now 0 (Some 256) (tree_of value)) }
+    ensures refused { IfErr result (λ e. (t : Tree) → IsReadAs any bytes.now 0 (Some 256) t →
         HasShape shape.now t → e ≡ read Memory) }
 {
     let value: Value = from_slice(alloc, bytes)?;

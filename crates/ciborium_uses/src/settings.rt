@@ -4,7 +4,7 @@
 //! the bytes.
 ghost use Rattle.std.specs.Prelude.{IfOk, map, ◌≡◌};
 ghost use Rattle.ciborium.specs.DeterministicWrites.{WritesForm, named_form};
-ghost use Rattle.ciborium.specs.Sources.{read_as};
+ghost use Rattle.ciborium.specs.View.{read_as};
 ghost use Rattle.ciborium_value.specs.declared.key_order.KeyOrder.TheVariants.{LengthFirst};
 ghost use Rattle.ciborium_uses.specs.Settings.{LoadsEncoding, settings_content};
 

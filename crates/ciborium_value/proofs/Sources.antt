@@ -2,6 +2,7 @@
 pub mod Sequences
 pub mod Dictionaries
 pub mod NamedFields
+pub mod Limits
 pub mod TreeReading
 pub mod TreeCalls
 pub mod TreeFaults

@@ -1,10 +1,10 @@
 -- Where a source stands: before an item or after one, and what follows in the containers that are
 -- open around it.
-use Rattle.std.specs.Prelude.{ℕ, List}
+use Rattle.std.specs.Prelude.{ℕ, Bool, true, false, List}
 use Rattle.std.specs.Borrow.{GName}
 use Rattle.ciborium_ll.specs.Item.{Item}
 use Rattle.ciborium_value.specs.Nesting.{Limit}
-use Rattle.ciborium_value.specs.Taken.{deeper}
+use Rattle.ciborium_value.specs.Taken.{deeper_if}
 
 -- how the parts of a container come: so many, up to a break, or as the bytes of a byte string
 pub data Form : Type 0 where
@@ -14,7 +14,7 @@ pub data Form : Type 0 where
 
 -- what follows an item
 pub data Rest : Type 0 where
-  -- what the reader of this name has left, up to this offset
+  -- what the reader of this name has left, from this offset on
   bottom : GName × ℕ → List ℕ → Rest
   -- the items left of an array or byte string
   parts : Form → List Item → Rest → Rest
@@ -25,7 +25,7 @@ pub data Rest : Type 0 where
   -- a level is to be given back: that of a tag or a variant
   held : Rest → Rest
 
--- the offset at which what is there ends
+-- the offset at which the outermost item ends
 abbrev pub end_of : Rest → ℕ
 end_of (bottom reader b) = reader.1
 end_of (parts form is f) = end_of f
@@ -46,8 +46,12 @@ past (pairs form ps f) = after (pairs form ps f)
 past (entry v form ps f) = item v (pairs form ps f)
 past (held f) = after (held f)
 
--- the levels left inside a container of this form: a byte string costs none
+-- whether a container of this form takes a level: a byte string takes none
+abbrev pub takes_level : Form → Bool
+takes_level counted = true
+takes_level until_break = true
+takes_level of_bytes = false
+
+-- the levels left inside it
 abbrev pub inside : Form → Limit → Limit
-inside counted l = deeper l
-inside until_break l = deeper l
-inside of_bytes l = l
+inside form l = deeper_if (takes_level form) l

@@ -6,8 +6,8 @@ use Rattle.std.specs.declared.cmp.Ordering.TheVariants.{Less, Equal, Greater}
 use Rattle.ciborium_value.specs.Canonical.{key_order}
 use Rattle.ciborium_value.specs.Folded.{tree_folding_bytes}
 use Rattle.ciborium_value.specs.Meaning.{bignum_meaning}
-use Rattle.ciborium_value.specs.Taken.{Outcome, gives, refuses, then_take, outcome_map, of_meaning}
-use Rattle.ciborium_value.specs.Taken.{one_more, one_pair_more}
+use Rattle.ciborium_value.specs.Taken.{Outcome, gives, nests, of_meaning, outcome_map, refuses}
+use Rattle.ciborium_value.specs.Taken.{then_take}
 use Rattle.ciborium_value.specs.Tree.{Tree, integer, bytes, text, boolean, null, tag, array, map}
 use Rattle.ciborium_value.specs.Tree.{Trees, no_trees, tree, TreePairs, no_tree_pairs, tree_pair}
 use Rattle.ciborium_value.specs.declared.key_order.KeyOrder.{KeyOrder}
@@ -34,6 +34,20 @@ sorted_pairs o no_tree_pairs = gives no_tree_pairs
 sorted_pairs o (tree_pair k v ps) = then_take (sorted_pairs o ps) (inserted o k v)
 
 -- ---- forms
+
+-- the first reason why a tree or one of those after it has no form, or all forms
+abbrev pub one_more : Outcome Tree → Outcome Trees → Outcome Trees
+one_more (gives v) o = outcome_map (tree v) o
+one_more (refuses k) o = refuses k
+one_more nests o = nests
+
+-- the same of a pair and those after it
+abbrev pub one_pair_more : Outcome Tree → Outcome Tree → Outcome TreePairs → Outcome TreePairs
+one_pair_more (gives k) (gives v) o = outcome_map (tree_pair k v) o
+one_pair_more (gives k) (refuses j) o = refuses j
+one_pair_more (gives k) nests o = nests
+one_pair_more (refuses j) v o = refuses j
+one_pair_more nests v o = nests
 
 -- a tag: what the bytes mean over which it folds, else the tag over the form of its content
 abbrev pub tag_form : ℕ → Option (List ℕ) → Outcome Tree → Outcome Tree

@@ -5,21 +5,21 @@ use Rattle.ciborium_value.specs.Ahead.{Ahead, Rest, Form, after, parts, past, in
 use Rattle.ciborium_value.specs.Nesting.{Limit}
 use Rattle.ciborium_value.specs.Places.{Shape, sequence}
 use Rattle.ciborium_value.specs.Sources.{Fault, IsFaultOf, HasItem}
-use Rattle.ciborium_value.specs.Taken.{Outcome, gives}
+use Rattle.ciborium_value.specs.Taken.{Steps, gives, outcome}
 
 module _ {S Q : Type 0} (StandsBefore : S → Limit → Ahead → Type 0)
     (SeqStands : Q → Limit → Rest → Type 0) where
   -- the items that were left give this, and the source stands past the sequence
-  abbrev pub TakesInTurn : {C : Type 0} → S → S → Q → (Limit → List Item → Outcome C) → C → Type 0
+  abbrev pub TakesInTurn : {C : Type 0} → S → S → Q → (List Item → Steps C) → C → Type 0
   TakesInTurn old new q taken c = (l : Limit) (form : Form) (is : List Item) (f : Rest) →
       StandsBefore old (inside form l) (after (parts form is f)) → SeqStands q l (parts form is f) →
-      (taken (inside form l) is ≡ gives c) × StandsBefore new l (past f)
+      (outcome (inside form l) (taken is) ≡ gives c) × StandsBefore new l (past f)
 
   -- one of them is to blame, or one is missing
-  abbrev pub RefusesInTurn : {C : Type 0} → S → Q → (Limit → List Item → Outcome C) → Fault → Type 0
+  abbrev pub RefusesInTurn : {C : Type 0} → S → Q → (List Item → Steps C) → Fault → Type 0
   RefusesInTurn old q taken fault = (l : Limit) (form : Form) (is : List Item) (f : Rest) →
       StandsBefore old (inside form l) (after (parts form is f)) → SeqStands q l (parts form is f) →
-      IsFaultOf (end_of f) fault (taken (inside form l) is)
+      IsFaultOf (end_of f) fault (outcome (inside form l) (taken is))
 
 -- all that was owed was taken
 abbrev pub TakesRest : {S Q : Type 0} → (S → List ℕ → Type 0) →

@@ -13,8 +13,8 @@ use Rattle.ciborium_value.specs.lemmas.GivenOutcomes.{one_given}
 use Rattle.ciborium_value.specs.ReadsBack.{IsReadBack, boolean-back, by_tree, bytes-back}
 use Rattle.ciborium_value.specs.ReadsBack.{character-back, named, of_ok, string_back, unit-back}
 use Rattle.ciborium_value.specs.Sinks.{Named}
-use Rattle.ciborium_value.specs.Taken.{Taken, gives, taken_boolean, taken_bytes, taken_character}
-use Rattle.ciborium_value.specs.Taken.{taken_text, taken_unit}
+use Rattle.ciborium_value.specs.Taken.{Taken, gives, outcome, taken_boolean, taken_bytes}
+use Rattle.ciborium_value.specs.Taken.{taken_character, taken_text, taken_unit}
 use Rattle.ciborium_value.specs.Tree.{Tree}
 use Rattle.ciborium_value.specs.declared.key_order.KeyOrder.{KeyOrder}
 
@@ -24,7 +24,7 @@ pub record IsFormRead {C : Type 0} (o : KeyOrder) (r : Named) (taken : Taken C) 
   where
     pub back : (i : Item) → r ≡ Ok i → (t : Tree) →
         deterministic_form o (written_tree i) ≡ gives t →
-        taken None (item_of t) ≡ gives c
+        outcome None (taken (item_of t)) ≡ gives c
 
 -- the deterministic form of what a value names is read as what counts of the value
 abbrev pub IsReadFromForm : {T C : Type 0} → KeyOrder → (T → Type 0) → (T → Named) → Taken C →
@@ -45,8 +45,9 @@ pub own-form_read : {T C : Type 0} (o : KeyOrder) {IsHeld : T → Type 0} {writt
     IsReadFromForm o IsHeld (λ v. named (written v)) taken content
 own-form_read o {written = written} {taken = taken} {content = content} law own v held = record {
   back = of_ok (named (written v)) (λ i. (t : Tree) →
-      deterministic_form o (written_tree i) ≡ gives t → taken None (item_of t) ≡ gives (content v))
-      (λ t form. subst (λ u. taken None (item_of u) ≡ gives (content v))
+      deterministic_form o (written_tree i) ≡ gives t → outcome None (taken (item_of t)) ≡
+      gives (content v))
+      (λ t form. subst (λ u. outcome None (taken (item_of u)) ≡ gives (content v))
       (one_given (written_tree (written v)) t (sym (own v held) ∙ form))
       ((law v held).back by_tree (written v) refl None tt));
 }

@@ -3,6 +3,7 @@ pub mod Meaning
 pub mod Number
 pub mod Nesting
 pub mod Folded
+pub mod Spelling
 pub mod Refuses
 pub mod Encoding
 pub mod Canonical
@@ -33,6 +34,7 @@ pub mod NeverWritten
 pub mod WrittenContents
 pub mod Visits
 pub mod Deterministic
+pub mod CanonicalTrees
 pub mod DeterministicForms
 pub mod SameContents
 pub mod FormsReadBack

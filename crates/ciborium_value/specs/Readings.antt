@@ -1,34 +1,25 @@
 -- How types are read: what counts of a value, what an item gives, and what reading takes.
 use Rattle.std.specs.Prelude.{ℕ, ℤ, pos, negsuc, ◌<◌, Bool, true, false, List, map, Option, Some}
-use Rattle.std.specs.Prelude.{None, if◌then◌else◌}
+use Rattle.std.specs.Prelude.{None}
 use Rattle.std.specs.Ordering.{nat_cmp, int_cmp, ordering_then}
 use Rattle.std.specs.Cmp.Lexicographic.{slice_cmp}
 use Rattle.std.specs.Option.{option_cmp, option_map}
 use Rattle.std.specs.declared.cmp.Ordering.{Ordering}
 use Rattle.std.specs.declared.cmp.Ordering.TheVariants.{Equal}
 use Rattle.ciborium_ll.specs.Item.{Item}
-use Rattle.ciborium_value.specs.Nesting.{Limit}
-use Rattle.ciborium_value.specs.lemmas.Steady.{IsSteady, AreSteady, IsNoNesting, after_seq}
-use Rattle.ciborium_value.specs.lemmas.Steady.{steady-seq}
-use Rattle.ciborium_value.specs.lemmas.SteadyParts.{no_nesting-if, no_nesting-below}
-use Rattle.ciborium_value.specs.lemmas.SteadyParts.{no_nesting-within, steady-integer, steady-then}
-use Rattle.ciborium_value.specs.lemmas.SteadyParts.{steady-option, steady-list, steady-no_part}
-use Rattle.ciborium_value.specs.lemmas.SteadyParts.{steady-part, steady-made, steady-map}
-use Rattle.ciborium_value.specs.lemmas.SteadyParts.{steady-value}
-use Rattle.ciborium_value.specs.Taken.{Outcome, Taken, gives, refuses, taken_integer, number_below}
-use Rattle.ciborium_value.specs.Taken.{number_within, taken_value}
-use Rattle.ciborium_value.specs.TakenParts.{taken_then, taken_option, taken_list, taken_made}
-use Rattle.ciborium_value.specs.TakenParts.{no_part_taken, part_taken, taken_map}
+use Rattle.ciborium_value.specs.Taken.{Steps, Taken, chosen, give, number_below, number_within}
+use Rattle.ciborium_value.specs.Taken.{refuse, taken_integer, taken_value}
+use Rattle.ciborium_value.specs.TakenParts.{after_seq, no_part_taken, part_taken, taken_list}
+use Rattle.ciborium_value.specs.TakenParts.{taken_made, taken_map, taken_option, taken_then}
 use Rattle.ciborium_value.specs.Order.{tree_cmp}
 use Rattle.ciborium_value.specs.Tree.{Tree}
 use Rattle.ciborium_value.specs.declared.kind.Kind.{Kind}
 
 -- how values of the type T are read, of which C is what counts: capacities do not
-pub record Reading (T C : Type 0) : Type 0 where
+pub record Reading (T C : Type 0) : Type 1 where
   pub content : T → C
-  -- what an item gives within a limit
+  -- what is taken from an item
   pub taken : Taken C
-  pub steady : IsSteady taken
   -- how contents compare, where the type is a key of maps
   pub order : C → C → Ordering
   -- whether reading takes memory
@@ -43,24 +34,20 @@ abbrev pub unordered : {C : Type 0} → C → C → Ordering
 unordered x y = Equal
 
 -- what is read by one call that takes no memory
-abbrev pub plain : {T C : Type 0} → (T → C) → (C → C → Ordering) → (taken : Taken C) →
-    IsSteady taken → Reading T C
-plain content order taken steady = record {
+abbrev pub plain : {T C : Type 0} → (T → C) → (C → C → Ordering) → Taken C → Reading T C
+plain content order taken = record {
   content = content;
   taken = taken;
-  steady = steady;
   order = order;
   needs_memory = false;
   whole = None;
 }
 
 -- what is read by one call that may take memory
-abbrev pub spacious : {T C : Type 0} → (T → C) → (C → C → Ordering) → (taken : Taken C) →
-    IsSteady taken → Reading T C
-spacious content order taken steady = record {
+abbrev pub spacious : {T C : Type 0} → (T → C) → (C → C → Ordering) → Taken C → Reading T C
+spacious content order taken = record {
   content = content;
   taken = taken;
-  steady = steady;
   order = order;
   needs_memory = true;
   whole = None;
@@ -68,11 +55,10 @@ spacious content order taken steady = record {
 
 -- what another type reads, looked at once more: it gives a content or is refused
 abbrev pub checked : {T U A C : Type 0} → (T → C) → (C → C → Ordering) → Reading U A →
-    (f : A → Outcome C) → ((v : A) → IsNoNesting (f v)) → Reading T C
-checked content order r f h = record {
+    (A → Steps C) → Reading T C
+checked content order r f = record {
   content = content;
   taken = taken_then r.taken f;
-  steady = steady-then r.taken f r.steady h;
   order = order;
   needs_memory = r.needs_memory;
   whole = None;
@@ -81,15 +67,13 @@ checked content order r f h = record {
 -- what another type reads, where this test holds of it, else refused with the kind
 abbrev pub such_that : {T U A : Type 0} → (T → A) → Reading U A → (A → Bool) → Kind → Reading T A
 such_that content r test kind = checked content r.order r
-    (λ v. if test v then gives v else refuses kind)
-    (λ v. no_nesting-if (test v) (gives v) (refuses kind) tt tt)
+    (λ v. chosen (test v) (give v) (refuse kind))
 
 -- the same, where contents compare so: for a type that is a key of maps
 abbrev pub ordered_by : {T C : Type 0} → (C → C → Ordering) → Reading T C → Reading T C
 ordered_by order r = record {
   content = r.content;
   taken = r.taken;
-  steady = r.steady;
   order = order;
   needs_memory = r.needs_memory;
   whole = r.whole;
@@ -99,15 +83,15 @@ ordered_by order r = record {
 
 -- a number of either sign, of any size
 abbrev pub any_number : Reading (Bool × ℕ) (Bool × ℕ)
-any_number = plain (λ n. n) unordered taken_integer steady-integer
+any_number = plain (λ n. n) unordered taken_integer
 
 -- a number from 0 on, below the bound
 abbrev pub below : ℕ → Reading ℕ ℕ
-below bound = checked (λ n. n) nat_cmp any_number (number_below bound) (no_nesting-below bound)
+below bound = checked (λ n. n) nat_cmp any_number (number_below bound)
 
 -- n or -1 - n, for n below the bound
 abbrev pub bounded : ℕ → Reading ℤ ℤ
-bounded bound = checked (λ n. n) int_cmp any_number (number_within bound) (no_nesting-within bound)
+bounded bound = checked (λ n. n) int_cmp any_number (number_within bound)
 
 -- such a number
 abbrev pub IsBounded : ℕ → ℤ → Type 0
@@ -121,7 +105,6 @@ abbrev pub option_of : {T C : Type 0} → Reading T C → Reading (Option T) (Op
 option_of r = record {
   content = option_map r.content;
   taken = taken_option r.taken;
-  steady = steady-option r.taken r.steady;
   order = option_cmp r.order;
   needs_memory = r.needs_memory;
   whole = None;
@@ -130,36 +113,29 @@ option_of r = record {
 -- a list by its items
 abbrev pub list_of : {L T C : Type 0} → (L → List T) → Reading T C → Reading L (List C)
 list_of items r = spacious (λ v. map r.content (items v)) (slice_cmp r.order) (taken_list r.taken)
-    (steady-list r.taken r.steady)
 
 -- ---- parts in a row
 
 -- parts that are read one after another, onto a C
-pub record ItemsTaken (C : Type 0) : Type 0 where
-  pub taken : Limit → List Item → Outcome C
-  pub steady : AreSteady taken
+abbrev pub ItemsTaken : Type 0 → Type 1
+ItemsTaken C = List Item → Steps C
 
 -- no part more
 abbrev pub no_part : ItemsTaken (Unit {0})
-no_part = record { taken = no_part_taken; steady = steady-no_part }
+no_part = no_part_taken
 
 -- a part, and those after it; where it is missing the array is refused as Length
 abbrev pub part : {T A C : Type 0} → Reading T A → ItemsTaken C → ItemsTaken (A × C)
-part r behind = record {
-  taken = part_taken r.taken behind.taken;
-  steady = steady-part r.taken behind.taken r.steady behind.steady;
-}
+part r behind = part_taken r.taken behind
 
 -- an array of these parts; what stands after them is read as values, and dropped
 abbrev pub array_of : {T C : Type 0} → (T → C) → ItemsTaken C → Reading T C
-array_of content parts = spacious content unordered (after_seq parts.taken)
-    (steady-seq parts.taken parts.steady)
+array_of content parts = spacious content unordered (after_seq parts)
 
 -- the same, of which a tuple is made
 abbrev tuple_of : {T C D : Type 0} → (T → D) → (D → D → Ordering) → (C → D) → ItemsTaken C →
     Reading T D
-tuple_of content order make parts = spacious content order (taken_made make parts.taken)
-    (steady-made make parts.taken parts.steady)
+tuple_of content order make parts = spacious content order (taken_made make parts)
 
 abbrev pub tuple1_of : {T A C : Type 0} → (T → A) → Reading A C → Reading T C
 tuple1_of alone a = tuple_of (λ t. a.content (alone t)) a.order (λ p. p.0) (part a no_part)
@@ -190,7 +166,7 @@ abbrev pub map_of : {M K V C D : Type 0} → (M → List (K × V)) → Reading K
     Reading M (List (C × D))
 map_of entries k v = spacious (λ m. map (λ e. (k.content e.0, v.content e.1)) (entries m))
     (slice_cmp (λ x y. ordering_then (k.order x.0 y.0) (v.order x.1 y.1)))
-    (taken_map k.order k.taken v.taken) (steady-map k.order k.taken v.taken k.steady v.steady)
+    (taken_map k.order k.taken v.taken)
 
 -- ---- whatever is ahead
 
@@ -199,7 +175,6 @@ abbrev pub whole_by : {T : Type 0} → (Tree → Tree → Ordering) → (T → T
 whole_by order tree = record {
   content = tree;
   taken = taken_value;
-  steady = steady-value;
   order = order;
   needs_memory = true;
   whole = Some (λ v. v);

@@ -10,8 +10,9 @@ use Rattle.ciborium_ll.specs.Item.{Item}
 use Rattle.ciborium_value.specs.Encoding.{boolean_item, item_of, written_tree}
 use Rattle.ciborium_value.specs.Nesting.{Limit, IsWithin}
 use Rattle.ciborium_value.specs.Sinks.{Named}
-use Rattle.ciborium_value.specs.Taken.{Taken, gives, lone_character, taken_boolean, taken_unit}
-use Rattle.ciborium_value.specs.Taken.{taken_character, taken_text, taken_bytes}
+use Rattle.ciborium_value.specs.Taken.{Taken, gives, lone_character, outcome, settled}
+use Rattle.ciborium_value.specs.Taken.{taken_boolean}
+use Rattle.ciborium_value.specs.Taken.{taken_bytes, taken_character, taken_text, taken_unit}
 
 -- how what was written is read: from its bytes, or from the tree that `Value::serialized` makes of
 -- it
@@ -29,7 +30,7 @@ met by_tree i = item_of (written_tree i)
 -- both ways
 pub record IsNameRead {C : Type 0} (r : Named) (taken : Taken C) (c : C) (n : ℕ) : Type 0 where
   pub back : (way : Way) (i : Item) → r ≡ Ok i → (l : Limit) → IsWithin l n →
-      taken l (met way i) ≡ gives c
+      outcome l (taken (met way i)) ≡ gives c
 
 -- what a value names is read as what counts of it, where so many levels are left
 abbrev pub IsReadBack : {T C : Type 0} → (T → Type 0) → (T → Named) → Taken C → (T → C) → (T → ℕ) →
@@ -70,18 +71,20 @@ named i = Ok i
 
 pub back-by_item : {T C : Type 0} (IsHeld : T → Type 0) (written : T → Item) (taken : Taken C)
     (content : T → C) → ((v : T) → IsDefinite (written v)) →
-    ((v : T) → IsHeld v → (l : Limit) → taken l (written v) ≡ gives (content v)) →
+    ((v : T) → IsHeld v → (l : Limit) → outcome l (taken (written v)) ≡ gives (content v)) →
     IsReadBack IsHeld (λ v. named (written v)) taken content (λ v. 0)
 back-by_item IsHeld written taken content definite h v held = record {
-  back = λ way i e l fits. of_ok (named (written v)) (λ j. taken l (met way j) ≡ gives (content v))
-      (ap (taken l) (met-definite way (written v) (definite v)) ∙ h v held l) i e;
+  back = λ way i e l fits. of_ok (named (written v))
+      (λ j. outcome l (taken (met way j)) ≡ gives (content v))
+      (ap (λ j. outcome l (taken j)) (met-definite way (written v) (definite v)) ∙ h v held l) i e;
 }
 
 definite-boolean : (b : Bool) → IsDefinite (boolean_item b)
 definite-boolean false = refl
 definite-boolean true = refl
 
-boolean-taken : (b : Bool) → Unit {0} → (l : Limit) → taken_boolean l (boolean_item b) ≡ gives b
+boolean-taken : (b : Bool) → Unit {0} → (l : Limit) → outcome l (taken_boolean (boolean_item b)) ≡
+    gives b
 boolean-taken false h l = refl
 boolean-taken true h l = refl
 
@@ -95,14 +98,14 @@ pub unit-back : IsReadBack (λ u. Unit {0}) (λ u. named (items.simple 22)) take
 unit-back = back-by_item (λ u. Unit {0}) (λ u. items.simple 22) taken_unit (λ u. u) (λ u. refl)
     (λ u h l. refl)
 
-lone-encoded : (c : ℕ) → IsScalar c → lone_character (chars (encode_utf8 c)) ≡ gives c
+lone-encoded : (c : ℕ) → IsScalar c → lone_character (chars (encode_utf8 c)) ≡ Ok c
 lone-encoded c h = ap lone_character (chars_past_char (encode_utf8 c) [] c (IsUtf8-encode c h)
     (sym (append-nil (encode_utf8 c))) ∙ ap (λ cs. c ∷ cs) chars-nil)
 
 pub character-back : IsReadBack IsScalar (λ c. named (items.text false (encode_utf8 c)))
     taken_character (λ c. c) (λ c. 0)
 character-back = back-by_item IsScalar (λ c. items.text false (encode_utf8 c)) taken_character
-    (λ c. c) (λ c. refl) (λ c h l. lone-encoded c h)
+    (λ c. c) (λ c. refl) (λ c h l. ap settled (lone-encoded c h))
 
 text-back : {T : Type 0} (content : T → List ℕ) →
     IsReadBack (λ s. Unit {0}) (λ s. named (items.text false (content s))) taken_text content

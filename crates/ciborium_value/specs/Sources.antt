@@ -1,15 +1,15 @@
 -- The words of the contracts of `Source` and `Deserialize`.
-use Rattle.std.specs.Prelude.{◌≡◌, ℕ, ◌<◌, ◌≤◌, Bool, List, [], ◌∷◌, ◌++◌, IsTrue, Result, Ok, Err}
+use Rattle.std.specs.Prelude.{◌≡◌, ℕ, ◌<◌, ◌≤◌, Bool, List, [], ◌∷◌, ◌++◌, IsTrue, Result}
 use Rattle.std.specs.Prelude.{IfErr, IfOk, OnErr, OnOk}
 use Rattle.ciborium_ll.specs.Bytes.{greatest_offset}
 use Rattle.ciborium_ll.specs.Item.{Item}
 use Rattle.ciborium_ll.specs.Spells.{Spells}
 use Rattle.ciborium_value.specs.Ahead.{Ahead, Rest, Form, item, after, parts, pairs, entry, held}
-use Rattle.ciborium_value.specs.Ahead.{past, inside, end_of}
+use Rattle.ciborium_value.specs.Ahead.{past, inside, takes_level, end_of}
 use Rattle.ciborium_value.specs.Nesting.{Limit}
 use Rattle.ciborium_value.specs.Places.{Shape, sequence, dictionary}
 use Rattle.ciborium_value.specs.Taken.{Outcome, gives, refuses, nests, Taken, taken_seq}
-use Rattle.ciborium_value.specs.Taken.{taken_pairs, is_null, deeper}
+use Rattle.ciborium_value.specs.Taken.{taken_pairs, is_null, deeper, outcome}
 use Rattle.ciborium_value.specs.declared.kind.Kind.{Kind}
 
 -- ---- why a source refused
@@ -25,9 +25,8 @@ pub data Fault : Type 0 where
   of_end : Fault
   of_length : Fault
 
--- where what is there ends at this offset, an item that gives this outcome is refused for this, or
--- for what it does not decide: as too
--- long only where what is there is
+-- where the outermost item ends at this offset, an item in it that gives this outcome is refused
+-- for this, or for what it does not decide: as too long only where that passes the greatest offset
 abbrev pub IsFaultOf : {A : Type 0} → ℕ → Fault → Outcome A → Type 0
 IsFaultOf end (of_kind k) o = o ≡ refuses k
 IsFaultOf end of_nesting o = o ≡ nests
@@ -57,23 +56,18 @@ IsGrantedFault of_device takes_memory = Unit {0}
 IsGrantedFault of_end takes_memory = Unit {0}
 IsGrantedFault of_length takes_memory = Unit {0}
 
--- an answer by what counts of it
-abbrev pub read_as : {A B E : Type 0} → (A → B) → Result A E → Result B E
-read_as f (Ok v) = Ok (f v)
-read_as f (Err e) = Err e
-
 -- ---- what a call does at an item
 
 module _ {S : Type 0} (StandsBefore : S → Limit → Ahead → Type 0) where
   -- the answer is what the item gives, and the source stands past it
   abbrev pub TakesAhead : {A : Type 0} → S → S → Taken A → A → Type 0
   TakesAhead old new taken v = (l : Limit) (i : Item) (f : Rest) → StandsBefore old l (item i f) →
-      (taken l i ≡ gives v) × StandsBefore new l (past f)
+      (outcome l (taken i) ≡ gives v) × StandsBefore new l (past f)
 
   -- it is refused only where the item is, and for that
   abbrev pub RefusesAhead : {A : Type 0} → S → Taken A → Fault → Type 0
   RefusesAhead old taken fault = (l : Limit) (i : Item) (f : Rest) → StandsBefore old l (item i f) →
-      IsFaultOf (end_of f) fault (taken l i)
+      IsFaultOf (end_of f) fault (outcome l (taken i))
 
   -- the answer says whether the item is null, and the source stands before it still
   abbrev pub Tells : S → S → Bool → Type 0
@@ -92,14 +86,16 @@ module _ {S Q : Type 0} (StandsBefore : S → Limit → Ahead → Type 0)
   -- a sequence was entered
   abbrev pub Enters : S → S → Q → Type 0
   Enters old new q = (l : Limit) (i : Item) (f : Rest) → StandsBefore old l (item i f) →
-      (form : Form) × (is : List Item) × (taken_seq l i ≡ gives (inside form l, is)) ×
+      (form : Form) × (is : List Item) ×
+      (outcome l (taken_seq i) ≡ gives (takes_level form, is)) ×
       StandsBefore new (inside form l) (after (parts form is f)) ×
       SeqStands q l (parts form is f)
 
   -- a map was entered
   abbrev pub EntersMap : S → S → Q → Type 0
   EntersMap old new q = (l : Limit) (i : Item) (f : Rest) → StandsBefore old l (item i f) →
-      (form : Form) × (ps : List (Item × Item)) × (taken_pairs l i ≡ gives (inside form l, ps)) ×
+      (form : Form) × (ps : List (Item × Item)) ×
+      (outcome l (taken_pairs i) ≡ gives (takes_level form, ps)) ×
       StandsBefore new (inside form l) (after (pairs form ps f)) ×
       SeqStands q l (pairs form ps f)
 
@@ -144,7 +140,8 @@ module _ {S V : Type 0} (StandsBefore : S → Limit → Ahead → Type 0)
   -- back
   abbrev pub Holds : {A : Type 0} → S → S → Taken (A × Item) → A → V → Type 0
   Holds old new taken v level = (l : Limit) (i : Item) (f : Rest) → StandsBefore old l (item i f) →
-      (j : Item) × (taken l i ≡ gives (v, j)) × StandsBefore new (deeper l) (item j (held f)) ×
+      (j : Item) × (outcome l (taken i) ≡ gives (v, j)) ×
+      StandsBefore new (deeper l) (item j (held f)) ×
       LevelStands level l f
 
   -- the level was given back behind that item

@@ -1,8 +1,9 @@
--- What the calls of a source take from an item within a limit: a value, a refusal of a kind, or
--- nesting where no level is left.
+-- What the calls of a source take from an item: a value, or a refusal of a kind; or within a limit
+-- nesting, where no level is left.
+use Rattle.std.specs.Option.{ok_or}
 use Rattle.std.specs.Prelude.{ℕ, zero, suc, ℤ, pos, negsuc, Bool, true, false, List, [], ◌∷◌}
 use Rattle.std.specs.Prelude.{length, map, chars, Option, Some, None, if◌then◌else◌, ◌||◌, ◌==◌}
-use Rattle.std.specs.Prelude.{nat_le, nat_lt}
+use Rattle.std.specs.Prelude.{nat_le, nat_lt, Result, Ok, Err}
 use Rattle.std.specs.Int.{complement_if}
 use Rattle.std.specs.Str.{is_utf8}
 use Rattle.ciborium_ll.specs.Item as items
@@ -16,17 +17,47 @@ use Rattle.ciborium_value.specs.Tree.{Tree, Trees, TreePairs}
 use Rattle.ciborium_value.specs.declared.kind.Kind.{Kind}
 use Rattle.ciborium_value.specs.declared.kind.Kind.TheVariants as kinds
 
--- what reading an item gives
+-- what reading an item gives within a limit
 pub data Outcome (A : Type 0) : Type 0 where
   gives : A → Outcome A
   refuses : Kind → Outcome A
   nests : Outcome A
 
--- a function of the levels that are left and an item
-abbrev pub Taken : Type 0 → Type 0
-Taken A = Limit → Item → Outcome A
+-- how an item is read, step by step: a limit has a say only where a level is taken
+pub data Steps : Type 0 → Type 1 where
+  -- a value, or a refusal of a kind
+  decided : {A : Type 0} → Result A Kind → Steps A
+  -- these inside a level, which has to be left
+  leveled : {A : Type 0} → Steps A → Steps A
+  -- what is made of the value of these
+  mapped : {A B : Type 0} → (A → B) → Steps A → Steps B
+  -- the first where the test is true, else the second
+  chosen : {A : Type 0} → Bool → Steps A → Steps A → Steps A
+  -- one after the other
+  then_read : {A B : Type 0} → Steps A → (A → Steps B) → Steps B
+  -- the others inside the level that the first took, where the test of its value is true
+  then_inside : {A B : Type 0} → (A → Bool) → Steps A → (A → Steps B) → Steps B
 
--- ---- outcomes one after the other
+-- what reading an item takes
+abbrev pub Taken : Type 0 → Type 1
+Taken A = Item → Steps A
+
+abbrev pub give : {A : Type 0} → A → Steps A
+give v = decided (Ok v)
+
+abbrev pub refuse : {A : Type 0} → Kind → Steps A
+refuse k = decided (Err k)
+
+-- each part in turn; the first that does not give a value decides
+abbrev pub take_each : {X A : Type 0} → (X → Steps A) → List X → Steps (List A)
+take_each f [] = give []
+take_each f (x ∷ xs) = then_read (f x) (λ v. mapped (λ vs. v ∷ vs) (take_each f xs))
+
+-- ---- outcomes within a limit
+
+abbrev pub settled : {A : Type 0} → Result A Kind → Outcome A
+settled (Ok v) = gives v
+settled (Err k) = refuses k
 
 abbrev pub then_take : {A B : Type 0} → Outcome A → (A → Outcome B) → Outcome B
 then_take (gives v) f = f v
@@ -38,20 +69,9 @@ outcome_map f (gives v) = gives (f v)
 outcome_map f (refuses k) = refuses k
 outcome_map f nests = nests
 
--- one before others
-abbrev pub and_take : {A : Type 0} → Outcome A → Outcome (List A) → Outcome (List A)
-and_take (gives v) (gives vs) = gives (v ∷ vs)
-and_take (gives v) (refuses k) = refuses k
-and_take (gives v) nests = nests
-and_take (refuses k) rest = refuses k
-and_take nests rest = nests
-
--- each part in turn; the first that does not give a value decides
-abbrev pub take_each : {X A : Type 0} → (X → Outcome A) → List X → Outcome (List A)
-take_each f [] = gives []
-take_each f (x ∷ xs) = and_take (f x) (take_each f xs)
-
--- ---- levels
+-- what there is, else a refusal of the kind
+abbrev pub of_meaning : {A : Type 0} → Kind → Option A → Outcome A
+of_meaning k o = settled (ok_or o k)
 
 -- a container is entered where a level is left
 abbrev pub within_level : {A : Type 0} → Limit → Outcome A → Outcome A
@@ -64,6 +84,21 @@ abbrev pub deeper : Limit → Limit
 deeper None = None
 deeper (Some zero) = Some zero
 deeper (Some (suc n)) = Some n
+
+-- those left inside what takes a level or none
+abbrev pub deeper_if : Bool → Limit → Limit
+deeper_if true l = deeper l
+deeper_if false l = l
+
+-- what steps give within a limit, which decides nothing but nesting
+abbrev pub outcome : {A : Type 0} → Limit → Steps A → Outcome A
+outcome l (decided r) = settled r
+outcome l (leveled s) = within_level l (outcome (deeper l) s)
+outcome l (mapped f s) = outcome_map f (outcome l s)
+outcome l (chosen b s t) = if b then outcome l s else outcome l t
+outcome l (then_read s f) = then_take (outcome l s) (λ v. outcome l (f v))
+outcome l (then_inside test s f) = then_take (outcome l s)
+    (λ v. outcome (deeper_if (test v) l) (f v))
 
 -- ---- an item without its leading tags
 
@@ -82,72 +117,70 @@ untagged (float raw) = float raw
 
 -- the number of a byte string under tag 2 or 3: at most 16 bytes behind the leading zeros (RFC
 -- 8949, section 3.4.3)
-abbrev pub magnitude : List ℕ → Outcome ℕ
-magnitude b = if nat_le (length (without_zeros b)) 16 then gives (big_endian b) else refuses
-    kinds.TooLarge
+abbrev pub magnitude : List ℕ → Result ℕ Kind
+magnitude b = if nat_le (length (without_zeros b)) 16 then Ok (big_endian b) else Err kinds.TooLarge
 
 -- the same of an item, which must be a byte string, definite or open
-abbrev pub bignum_of : Item → Outcome ℕ
+abbrev pub bignum_of : Item → Result ℕ Kind
 bignum_of (bytes open_ b) = magnitude b
-bignum_of _ = refuses kinds.Bytes
+bignum_of _ = Err kinds.Bytes
 
 abbrev pub taken_bignum : Taken ℕ
-taken_bignum l i = bignum_of i
+taken_bignum i = decided (bignum_of i)
 
-abbrev pub with_sign : Bool → Outcome ℕ → Outcome (Bool × ℕ)
-with_sign s (gives n) = gives (s, n)
-with_sign s (refuses k) = refuses k
-with_sign s nests = nests
+abbrev pub with_sign : Bool → Result ℕ Kind → Result (Bool × ℕ) Kind
+with_sign s (Ok n) = Ok (s, n)
+with_sign s (Err k) = Err k
 
 -- tags 2 and 3 make a bignum, others are skipped
-abbrev pub number_under : ℕ → Item → Outcome (Bool × ℕ) → Outcome (Bool × ℕ)
-number_under t i o = if is_bignum_tag t then with_sign (t == 3) (bignum_of i) else o
+abbrev pub number_under : ℕ → Item → Result (Bool × ℕ) Kind → Result (Bool × ℕ) Kind
+number_under t i r = if is_bignum_tag t then with_sign (t == 3) (bignum_of i) else r
 
 -- the number of an item, n as (false, n) and -1 - n as (true, n) (sections 3.1 and 3.4.3)
-abbrev pub number_of : Item → Outcome (Bool × ℕ)
-number_of (unsigned n) = gives (false, n)
-number_of (negative n) = gives (true, n)
+abbrev pub number_of : Item → Result (Bool × ℕ) Kind
+number_of (unsigned n) = Ok (false, n)
+number_of (negative n) = Ok (true, n)
 number_of (tag t i) = number_under t i (number_of i)
-number_of _ = refuses kinds.Integer
+number_of _ = Err kinds.Integer
 
 abbrev pub taken_integer : Taken (Bool × ℕ)
-taken_integer l i = number_of i
+taken_integer i = decided (number_of i)
 
 -- a number from 0 on that is below the bound
-abbrev pub number_below : ℕ → Bool × ℕ → Outcome ℕ
-number_below bound (true, n) = refuses kinds.Range
-number_below bound (false, n) = if nat_lt n bound then gives n else refuses kinds.Range
+abbrev pub number_below : ℕ → Bool × ℕ → Steps ℕ
+number_below bound (true, n) = refuse kinds.Range
+number_below bound (false, n) = chosen (nat_lt n bound) (give n) (refuse kinds.Range)
 
 -- a number n or -1 - n, where n is below the bound
-abbrev pub number_within : ℕ → Bool × ℕ → Outcome ℤ
-number_within bound p = if nat_lt p.1 bound then gives (complement_if p.0 p.1) else refuses
-    kinds.Range
+abbrev pub number_within : ℕ → Bool × ℕ → Steps ℤ
+number_within bound p = chosen (nat_lt p.1 bound) (give (complement_if p.0 p.1))
+    (refuse kinds.Range)
 
 -- ---- booleans, null, characters
 
-abbrev pub boolean_of : ℕ → Outcome Bool
-boolean_of n = if n == 20 then gives false else if n == 21 then gives true else refuses kinds.Bool
+abbrev pub boolean_of : ℕ → Result Bool Kind
+boolean_of n = if n == 20 then Ok false else if n == 21 then Ok true else Err kinds.Bool
 
-abbrev pub bare_boolean : Item → Outcome Bool
+abbrev pub bare_boolean : Item → Result Bool Kind
 bare_boolean (simple n) = boolean_of n
-bare_boolean _ = refuses kinds.Bool
+bare_boolean _ = Err kinds.Bool
 
 abbrev pub taken_boolean : Taken Bool
-taken_boolean l i = bare_boolean (untagged i)
+taken_boolean i = decided (bare_boolean (untagged i))
 
 -- null and undefined (section 3.3)
 abbrev pub is_null_simple : ℕ → Bool
 is_null_simple n = (n == 22) || (n == 23)
 
-abbrev pub unit_of : ℕ → Outcome (Unit {0})
-unit_of n = if is_null_simple n then gives tt else refuses kinds.Unit
+abbrev pub unit_of : ℕ → Result (Unit {0}) Kind
+unit_of n = if is_null_simple n then Ok tt else Err kinds.Unit
 
-abbrev pub bare_unit : Item → Outcome (Unit {0})
+abbrev pub bare_unit : Item → Result (Unit {0}) Kind
 bare_unit (simple n) = unit_of n
-bare_unit _ = refuses kinds.Unit
+bare_unit _ = Err kinds.Unit
 
 abbrev pub taken_unit : Taken (Unit {0})
-taken_unit l i = bare_unit (untagged i)
+taken_unit i = decided (bare_unit (untagged i))
 
 -- null or undefined, under no tag
 abbrev pub is_null : Item → Bool
@@ -155,31 +188,31 @@ is_null (simple n) = is_null_simple n
 is_null _ = false
 
 -- the one character of a text
-abbrev pub lone_character : List ℕ → Outcome ℕ
-lone_character [] = refuses kinds.Char
-lone_character (c ∷ []) = gives c
-lone_character (c ∷ d ∷ cs) = refuses kinds.Char
+abbrev pub lone_character : List ℕ → Result ℕ Kind
+lone_character [] = Err kinds.Char
+lone_character (c ∷ []) = Ok c
+lone_character (c ∷ d ∷ cs) = Err kinds.Char
 
-abbrev pub definite_character : Bool → List ℕ → Outcome ℕ
+abbrev pub definite_character : Bool → List ℕ → Result ℕ Kind
 definite_character false b = lone_character (chars b)
-definite_character true b = refuses kinds.Char
+definite_character true b = Err kinds.Char
 
-abbrev pub bare_character : Item → Outcome ℕ
+abbrev pub bare_character : Item → Result ℕ Kind
 bare_character (text open_ b) = definite_character open_ b
-bare_character _ = refuses kinds.Char
+bare_character _ = Err kinds.Char
 
 abbrev pub taken_character : Taken ℕ
-taken_character l i = bare_character (untagged i)
+taken_character i = decided (bare_character (untagged i))
 
 -- ---- strings
 
-abbrev pub bare_text : Item → Outcome (List ℕ)
-bare_text (text open_ b) = gives b
-bare_text _ = refuses kinds.Text
+abbrev pub bare_text : Item → Result (List ℕ) Kind
+bare_text (text open_ b) = Ok b
+bare_text _ = Err kinds.Text
 
 -- a text, definite or open, by the bytes of its UTF-8
 abbrev pub taken_text : Taken (List ℕ)
-taken_text l i = bare_text (untagged i)
+taken_text i = decided (bare_text (untagged i))
 
 abbrev pub unpack : Items → List Item
 unpack items.no_items = []
@@ -187,55 +220,59 @@ unpack (items.item i is) = i ∷ unpack is
 
 -- a number from 0 to 255
 abbrev pub taken_byte : Taken ℕ
-taken_byte l i = then_take (taken_integer l i) (number_below 256)
+taken_byte i = then_read (taken_integer i) (number_below 256)
 
-abbrev pub bare_bytes : Limit → Item → Outcome (List ℕ)
-bare_bytes l (bytes open_ b) = gives b
-bare_bytes l (array open_ is) = within_level l (take_each (taken_byte (deeper l)) (unpack is))
-bare_bytes l _ = refuses kinds.Bytes
+abbrev pub bare_bytes : Taken (List ℕ)
+bare_bytes (bytes open_ b) = give b
+bare_bytes (array open_ is) = leveled (take_each taken_byte (unpack is))
+bare_bytes _ = refuse kinds.Bytes
 
 -- a byte string, definite or open; or, with a level, an array of numbers from 0 to 255
 abbrev pub taken_bytes : Taken (List ℕ)
-taken_bytes l i = bare_bytes l (untagged i)
+taken_bytes i = bare_bytes (untagged i)
 
 -- ---- containers
 
-abbrev pub bare_seq : Limit → Item → Outcome (Limit × List Item)
-bare_seq l (bytes open_ b) = gives (l, map unsigned b)
-bare_seq l (array open_ is) = within_level l (gives (deeper l, unpack is))
-bare_seq l _ = refuses kinds.Array
+abbrev pub bare_seq : Taken (Bool × List Item)
+bare_seq (bytes open_ b) = give (false, map unsigned b)
+bare_seq (array open_ is) = leveled (give (true, unpack is))
+bare_seq _ = refuse kinds.Array
 
--- the items of an array, with a level, or the bytes of a byte string, without one; and the levels
--- left for them
-abbrev pub taken_seq : Taken (Limit × List Item)
-taken_seq l i = bare_seq l (untagged i)
+-- the items of an array, with a level, or the bytes of a byte string, without one; and whether they
+-- took a level
+abbrev pub taken_seq : Taken (Bool × List Item)
+taken_seq i = bare_seq (untagged i)
 
 abbrev pub unpack_pairs : Pairs → List (Item × Item)
 unpack_pairs items.no_pairs = []
 unpack_pairs (items.pair k v ps) = (k, v) ∷ unpack_pairs ps
 
-abbrev pub bare_pairs : Limit → Item → Outcome (Limit × List (Item × Item))
-bare_pairs l (items.map open_ ps) = within_level l (gives (deeper l, unpack_pairs ps))
-bare_pairs l _ = refuses kinds.Map
+abbrev pub bare_pairs : Taken (Bool × List (Item × Item))
+bare_pairs (items.map open_ ps) = leveled (give (true, unpack_pairs ps))
+bare_pairs _ = refuse kinds.Map
 
--- the pairs of a map, with a level; and the levels left for them
-abbrev pub taken_pairs : Taken (Limit × List (Item × Item))
-taken_pairs l i = bare_pairs l (untagged i)
+-- the pairs of a map, which took a level
+abbrev pub taken_pairs : Taken (Bool × List (Item × Item))
+taken_pairs i = bare_pairs (untagged i)
+
+-- what is read of the parts of a container, inside the level that it took
+abbrev pub read_inside : {X A : Type 0} → Taken (Bool × X) → (X → Steps A) → Taken A
+read_inside entered f i = then_inside (λ p. p.0) (entered i) (λ p. f p.1)
 
 -- ---- names, tags and variants
 
-abbrev pub bare_name : Item → Outcome (List ℕ)
-bare_name (bytes open_ b) = if is_utf8 b then gives b else refuses kinds.Name
-bare_name (text open_ b) = gives b
-bare_name _ = refuses kinds.Name
+abbrev pub bare_name : Item → Result (List ℕ) Kind
+bare_name (bytes open_ b) = if is_utf8 b then Ok b else Err kinds.Name
+bare_name (text open_ b) = Ok b
+bare_name _ = Err kinds.Name
 
 -- a text, or a byte string that is UTF-8 once its parts are joined, by its bytes
 abbrev pub taken_name : Taken (List ℕ)
-taken_name l i = bare_name (untagged i)
+taken_name i = decided (bare_name (untagged i))
 
 -- the place of such a name
 abbrev pub taken_place : {P : Type 0} → (List ℕ → P) → Taken P
-taken_place place l i = outcome_map place (taken_name l i)
+taken_place place i = mapped place (taken_name i)
 
 -- the outermost tag, if there is one, and what it stands before (section 3.4)
 abbrev pub outer_tag : Item → Option ℕ × Item
@@ -251,74 +288,55 @@ outer_tag (float raw) = (None, float raw)
 
 -- the same, with a level, tag or none
 abbrev pub taken_outer_tag : Taken (Option ℕ × Item)
-taken_outer_tag l i = within_level l (gives (outer_tag i))
+taken_outer_tag i = leveled (give (outer_tag i))
 
 -- one pair: its key as a name, with a level, and its value
-abbrev pub lone_pair : Limit → Pairs → Outcome (List ℕ × Item)
-lone_pair l items.no_pairs = refuses kinds.Variant
-lone_pair l (items.pair k v items.no_pairs) =
-    within_level l (outcome_map (λ name. (name, v)) (taken_name (deeper l) k))
-lone_pair l (items.pair k v (items.pair k' v' ps)) = refuses kinds.Variant
+abbrev pub lone_pair : Pairs → Steps (List ℕ × Item)
+lone_pair items.no_pairs = refuse kinds.Variant
+lone_pair (items.pair k v items.no_pairs) = leveled (mapped (λ name. (name, v)) (taken_name k))
+lone_pair (items.pair k v (items.pair k' v' ps)) = refuse kinds.Variant
 
-abbrev pub definite_pair : Limit → Bool → Pairs → Outcome (List ℕ × Item)
-definite_pair l false ps = lone_pair l ps
-definite_pair l true ps = refuses kinds.Variant
+abbrev pub definite_pair : Bool → Pairs → Steps (List ℕ × Item)
+definite_pair false ps = lone_pair ps
+definite_pair true ps = refuse kinds.Variant
 
-abbrev pub bare_variant : Limit → Item → Outcome (List ℕ × Item)
-bare_variant l (text open_ b) = within_level l (gives (b, simple 22))
-bare_variant l (items.map open_ ps) = definite_pair l open_ ps
-bare_variant l _ = refuses kinds.Variant
+abbrev pub bare_variant : Taken (List ℕ × Item)
+bare_variant (text open_ b) = leveled (give (b, simple 22))
+bare_variant (items.map open_ ps) = definite_pair open_ ps
+bare_variant _ = refuse kinds.Variant
 
 -- a text, which names a variant and stands for null as its data; or a definite map of one pair, a
 -- name and the data
 abbrev pub taken_variant : Taken (List ℕ × Item)
-taken_variant l i = bare_variant l (untagged i)
+taken_variant i = bare_variant (untagged i)
 
 -- ---- whatever is ahead, as a tree
 
--- what there is, else a refusal of the kind
-abbrev pub of_meaning : {A : Type 0} → Kind → Option A → Outcome A
-of_meaning k (Some v) = gives v
-of_meaning k None = refuses k
-
 -- a tag: a number over the bytes on which it folds, else with a level the tag over what its item
 -- gives
-abbrev pub taken_tag : ℕ → Limit → Option (List ℕ) → Outcome Tree → Outcome Tree
-taken_tag t l (Some b) o = of_meaning kinds.TooLarge (bignum_meaning t b)
-taken_tag t l None o = within_level l (outcome_map (trees.tag t) o)
-
-abbrev pub one_more : Outcome Tree → Outcome Trees → Outcome Trees
-one_more (gives v) o = outcome_map (trees.tree v) o
-one_more (refuses k) o = refuses k
-one_more nests o = nests
-
-abbrev pub one_pair_more : Outcome Tree → Outcome Tree → Outcome TreePairs → Outcome TreePairs
-one_pair_more (gives k) (gives v) o = outcome_map (trees.tree_pair k v) o
-one_pair_more (gives k) (refuses j) o = refuses j
-one_pair_more (gives k) nests o = nests
-one_pair_more (refuses j) v o = refuses j
-one_pair_more nests v o = nests
+abbrev pub taken_tag : ℕ → Option (List ℕ) → Steps Tree → Steps Tree
+taken_tag t (Some b) s = decided (ok_or (bignum_meaning t b) kinds.TooLarge)
+taken_tag t None s = leveled (mapped (trees.tag t) s)
 
 abbrev mutual
   -- the meaning of an item within the levels, or in order the first reason why it has none
-  pub taken_value : Limit → Item → Outcome Tree
-  taken_value l (items.unsigned n) = gives (trees.integer (pos n))
-  taken_value l (items.negative n) = gives (trees.integer (negsuc n))
-  taken_value l (items.bytes open_ b) = gives (trees.bytes b)
-  taken_value l (items.text open_ b) = gives (trees.text b)
-  taken_value l (items.array open_ is) = within_level l
-      (outcome_map trees.array (taken_items (deeper l) is))
-  taken_value l (items.map open_ ps) = within_level l
-      (outcome_map trees.map (taken_tree_pairs (deeper l) ps))
-  taken_value l (items.tag t i) = taken_tag t l (folding_bytes t i) (taken_value (deeper l) i)
-  taken_value l (items.simple n) = of_meaning kinds.Simple (simple_meaning n)
-  taken_value l (items.float raw) = refuses kinds.Float
+  pub taken_value : Item → Steps Tree
+  taken_value (items.unsigned n) = give (trees.integer (pos n))
+  taken_value (items.negative n) = give (trees.integer (negsuc n))
+  taken_value (items.bytes open_ b) = give (trees.bytes b)
+  taken_value (items.text open_ b) = give (trees.text b)
+  taken_value (items.array open_ is) = leveled (mapped trees.array (taken_items is))
+  taken_value (items.map open_ ps) = leveled (mapped trees.map (taken_tree_pairs ps))
+  taken_value (items.tag t i) = taken_tag t (folding_bytes t i) (taken_value i)
+  taken_value (items.simple n) = decided (ok_or (simple_meaning n) kinds.Simple)
+  taken_value (items.float raw) = refuse kinds.Float
 
-  pub taken_items : Limit → Items → Outcome Trees
-  taken_items l items.no_items = gives trees.no_trees
-  taken_items l (items.item i is) = one_more (taken_value l i) (taken_items l is)
+  pub taken_items : Items → Steps Trees
+  taken_items items.no_items = give trees.no_trees
+  taken_items (items.item i is) = then_read (taken_value i)
+      (λ v. mapped (trees.tree v) (taken_items is))
 
-  pub taken_tree_pairs : Limit → Pairs → Outcome TreePairs
-  taken_tree_pairs l items.no_pairs = gives trees.no_tree_pairs
-  taken_tree_pairs l (items.pair k v ps) = one_pair_more (taken_value l k) (taken_value l v)
-      (taken_tree_pairs l ps)
+  pub taken_tree_pairs : Pairs → Steps TreePairs
+  taken_tree_pairs items.no_pairs = give trees.no_tree_pairs
+  taken_tree_pairs (items.pair k v ps) = then_read (taken_value k) (λ x. then_read (taken_value v)
+      (λ y. mapped (trees.tree_pair x y) (taken_tree_pairs ps)))

@@ -1,47 +1,45 @@
 -- What types that are made of others take from an item.
-use Rattle.std.specs.Prelude.{List, [], ◌∷◌, Option, Some, None, if◌then◌else◌}
+use Rattle.std.specs.Prelude.{List, [], ◌∷◌, Option, Some, None}
 use Rattle.std.specs.declared.cmp.Ordering.{Ordering}
 use Rattle.std.specs.BTreeMap.{insert_entry}
 use Rattle.ciborium_ll.specs.Item.{Item}
-use Rattle.ciborium_value.specs.Nesting.{Limit}
-use Rattle.ciborium_value.specs.Taken.{Outcome, gives, refuses, Taken, then_take, take_each}
-use Rattle.ciborium_value.specs.Taken.{outcome_map, is_null, taken_value}
-use Rattle.ciborium_value.specs.lemmas.Steady.{after_seq, after_pairs}
+use Rattle.ciborium_value.specs.Taken.{Steps, Taken, chosen, give, is_null, mapped, read_inside}
+use Rattle.ciborium_value.specs.Taken.{refuse, take_each, taken_pairs, taken_seq, taken_value}
+use Rattle.ciborium_value.specs.Taken.{then_read}
 use Rattle.ciborium_value.specs.declared.kind.Kind.TheVariants as kinds
 
 -- what was taken, looked at once more
-abbrev pub taken_then : {A B : Type 0} → Taken A → (A → Outcome B) → Taken B
-taken_then taken f l i = then_take (taken l i) f
+abbrev pub taken_then : {A B : Type 0} → Taken A → (A → Steps B) → Taken B
+taken_then taken f i = then_read (taken i) f
 
 -- null, or what the content takes; no tag is skipped before the null
 abbrev pub taken_option : {A : Type 0} → Taken A → Taken (Option A)
-taken_option taken l i = if is_null i then gives None else outcome_map Some (taken l i)
+taken_option taken i = chosen (is_null i) (give None) (mapped Some (taken i))
 
 -- ---- sequences
 
-abbrev pub list_items : {A : Type 0} → Taken A → Limit → List Item → Outcome (List A)
-list_items taken l is = take_each (taken l) is
+-- the items of a sequence, read on so
+abbrev pub after_seq : {A : Type 0} → (List Item → Steps A) → Taken A
+after_seq parts = read_inside taken_seq parts
 
 -- each item of a sequence
 abbrev pub taken_list : {A : Type 0} → Taken A → Taken (List A)
-taken_list taken = after_seq (list_items taken)
+taken_list taken = after_seq (take_each taken)
 
 -- ---- items in a row
 
 -- no part more: further items are read as values, and dropped
-abbrev pub no_part_taken : Limit → List Item → Outcome (Unit {0})
-no_part_taken l is = then_take (take_each (taken_value l) is) (λ _. gives tt)
+abbrev pub no_part_taken : List Item → Steps (Unit {0})
+no_part_taken is = then_read (take_each taken_value is) (λ _. give tt)
 
 -- a part, which must be there, and the parts after it
-abbrev pub part_taken : {A B : Type 0} → Taken A → (Limit → List Item → Outcome B) → Limit →
-    List Item → Outcome (A × B)
-part_taken taken behind l [] = refuses kinds.Length
-part_taken taken behind l (i ∷ is) = then_take (taken l i)
-    (λ v. outcome_map (λ c. (v, c)) (behind l is))
+abbrev pub part_taken : {A B : Type 0} → Taken A → (List Item → Steps B) → List Item → Steps (A × B)
+part_taken taken behind [] = refuse kinds.Length
+part_taken taken behind (i ∷ is) = then_read (taken i) (λ v. mapped (λ c. (v, c)) (behind is))
 
 -- what is made of the parts of a sequence
-abbrev pub taken_made : {A B : Type 0} → (A → B) → (Limit → List Item → Outcome A) → Taken B
-taken_made make parts = taken_then (after_seq parts) (λ c. gives (make c))
+abbrev pub taken_made : {A B : Type 0} → (A → B) → (List Item → Steps A) → Taken B
+taken_made make parts = taken_then (after_seq parts) (λ c. give (make c))
 
 abbrev pub taken_tuple1 : {A : Type 0} → Taken A → Taken A
 taken_tuple1 a = taken_made (λ p. p.0) (part_taken a no_part_taken)
@@ -60,9 +58,12 @@ taken_tuple4 a b c d = taken_made (λ p. (p.0, p.1.0, p.1.1.0, p.1.1.1.0))
 
 -- ---- maps
 
-abbrev pub take_entry : {A B : Type 0} → (Item → Outcome A) → (Item → Outcome B) → Item × Item →
-    Outcome (A × B)
-take_entry f g p = then_take (f p.0) (λ a. then_take (g p.1) (λ b. gives (a, b)))
+-- the pairs of a map, read on so
+abbrev pub after_pairs : {A : Type 0} → (List (Item × Item) → Steps A) → Taken A
+after_pairs parts = read_inside taken_pairs parts
+
+abbrev pub take_entry : {A B : Type 0} → Taken A → Taken B → Item × Item → Steps (A × B)
+take_entry f g p = then_read (f p.0) (λ a. then_read (g p.1) (λ b. give (a, b)))
 
 -- the entries with these pairs put in, in turn: a later pair replaces the value at an equal key
 abbrev pub put_all : {K V : Type 0} → (K → K → Ordering) → List (K × V) → List (K × V) →
@@ -70,9 +71,9 @@ abbrev pub put_all : {K V : Type 0} → (K → K → Ordering) → List (K × V)
 put_all order es [] = es
 put_all order es (p ∷ ps) = put_all order (insert_entry order es p.0 p.1) ps
 
-abbrev pub map_entries : {K V : Type 0} → (K → K → Ordering) → Taken K → Taken V → Limit →
-    List (Item × Item) → Outcome (List (K × V))
-map_entries order k v l ps = outcome_map (put_all order []) (take_each (take_entry (k l) (v l)) ps)
+abbrev pub map_entries : {K V : Type 0} → (K → K → Ordering) → Taken K → Taken V →
+    List (Item × Item) → Steps (List (K × V))
+map_entries order k v ps = mapped (put_all order []) (take_each (take_entry k v) ps)
 
 -- a map, whose entries stand in the keys' order
 abbrev pub taken_map : {K V : Type 0} → (K → K → Ordering) → Taken K → Taken V →

@@ -1,5 +1,5 @@
 -- The tree of a `Value`: its content, without the capacities of lists and texts.
-use Rattle.std.specs.Prelude.{List, [], ◌∷◌, map, string_bytes, box_value}
+use Rattle.std.specs.Prelude.{List, [], ◌∷◌, map, string_bytes, box_value, Result, Ok, Err}
 use Rattle.ciborium_value.specs.Tree as trees
 use Rattle.ciborium_value.specs.Tree.{Tree, Trees, TreePairs}
 use Rattle.ciborium_value.specs.declared.tree.Value.{Value, fold-Value}
@@ -41,3 +41,8 @@ pair_trees p = (tree_of p.0, tree_of p.1)
 -- the trees of a list of pairs
 abbrev pub tree_pairs_of : List (Value × Value) → TreePairs
 tree_pairs_of ps = tree_pairs_from (map pair_trees ps)
+
+-- an answer by what counts of it
+abbrev pub read_as : {A B E : Type 0} → (A → B) → Result A E → Result B E
+read_as f (Ok v) = Ok (f v)
+read_as f (Err e) = Err e

@@ -4,6 +4,7 @@ pub mod FoldedCopies
 pub mod TreeHeads
 pub mod Frames
 pub mod OwnForms
+pub mod ReadItems
 pub mod SideBySide
 pub mod Stack
 pub mod TreeSinks

@@ -1,7 +1,5 @@
--- Lemmas that ghost members of traits need: what is proved of readings, of orders, and of what is
+-- Lemmas that ghost members of traits need: what is proved of orders, and of what is
 -- read back.
-pub mod Steady
-pub mod SteadyParts
 pub mod KeyOrders
 pub mod DerivedOrder
 pub mod ItemsOfTrees

@@ -2,11 +2,11 @@
 //! the most significant first (RFC 8949, section 3.4.3).
 
 ghost use Rattle.std.specs.Prelude.{◌≡◌, ◌^◌, ◌≤◌, IfErr, IfNone, IfOk, MatchOption, None, Some};
-ghost use Rattle.std.specs.Prelude.{length, true};
+ghost use Rattle.std.specs.Prelude.{Err, Ok, length, true};
 ghost use Rattle.ciborium_value.specs.Folded.{tree_folding_bytes};
 ghost use Rattle.ciborium_value.specs.Meaning.{big_endian, bignum_meaning, is_bignum_tag};
 ghost use Rattle.ciborium_value.specs.Meaning.{without_zeros};
-ghost use Rattle.ciborium_value.specs.Taken.{gives, magnitude, refuses};
+ghost use Rattle.ciborium_value.specs.Taken.{magnitude};
 ghost use Rattle.ciborium_value.specs.Tree as trees;
 ghost use Rattle.ciborium_value.specs.View.{tree_of};
 ghost use Rattle.ciborium_value.specs.declared.kind.Kind.TheVariants as kinds;
@@ -123,8 +123,8 @@ pub fn fold(alloc: Global, tag: u64, bytes: &[u8]) -> Result<Value, FoldError>
 
 /// The number of the bytes, or `None` where more than 16 follow the leading zeros.
 pub fn find_magnitude(bytes: &[u8]) -> Option<u128>
-    ensures { MatchOption result (magnitude bytes.now ≡ refuses kinds.TooLarge)
-        (λ n. magnitude bytes.now ≡ gives n) }
+    ensures { MatchOption result (magnitude bytes.now ≡ Err kinds.TooLarge)
+        (λ n. magnitude bytes.now ≡ Ok n) }
 {
     let significant = without_leading_zeros(bytes);
     if significant.len() > GREATEST_FOLDED_SIZE {

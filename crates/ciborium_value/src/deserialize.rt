@@ -3,7 +3,8 @@
 ghost use Rattle.std.specs.Prelude.{◌≡◌, ◌<◌, ◌≤◌, IfErr, IfOk, IfSome, OnErr, OnOk};
 ghost use Rattle.ciborium_value.specs.Readings.{Reading};
 ghost use Rattle.ciborium_value.specs.Sources.{IsGrantedFault, RefusesAhead, TakesAhead, TakesItem};
-ghost use Rattle.ciborium_value.specs.Sources.{TakesOnly, read_as};
+ghost use Rattle.ciborium_value.specs.Sources.{TakesOnly};
+ghost use Rattle.ciborium_value.specs.View.{read_as};
 
 use crate::source::Source;
 use std::alloc::Global;

@@ -2,7 +2,7 @@
 
 ghost use Rattle.std.specs.Prelude.{◌≡◌, IfErr, IfOk, None};
 ghost use Rattle.ciborium_value.specs.Sources.{IsGrantedFault};
-ghost use Rattle.ciborium_value.specs.Taken.{gives};
+ghost use Rattle.ciborium_value.specs.Taken.{gives, outcome};
 ghost use Rattle.ciborium_value.specs.inner.TreeSources.{IsTreeAt, IsTreeLevelAt, IsTreeSeqAt};
 ghost use Rattle.ciborium_value.specs.inner.TreeSources.{level_weight, pending_due, seq_weight};
 ghost use Rattle.ciborium_value.specs.inner.TreeSources.{source_weight};
@@ -37,9 +37,10 @@ impl Value {
     /// The value is left as it was.
     pub fn deserialized<T: Deserialize>(&self, alloc: Global) -> Result<T, Error>
         ensures ok { IfOk result
-            (λ v. T.reading.taken None (value_item self.now) ≡ gives (T.reading.content v)) }
+            (λ v. outcome None (T.reading.taken (value_item self.now))
+            ≡ gives (T.reading.content v)) }
         ensures refused { IfErr result
-            (λ e. IsErrorOf e (T.reading.taken None (value_item self.now))) }
+            (λ e. IsErrorOf e (outcome None (T.reading.taken (value_item self.now)))) }
         ensures memory { IfErr result (λ e. IsGrantedFault (tree_fault e) T.reading.needs_memory) }
     {
         let mut source = TreeSource {

@@ -2,11 +2,12 @@
 
 ghost use Rattle.std.specs.Prelude.{◌≡◌, ◌↔◌, ◌≤◌, ◌⊎◌, IfErr, IfOk, IsTrue, List, MatchOption};
 ghost use Rattle.std.specs.Prelude.{None, Some, length, true, ℕ};
-ghost use Rattle.ciborium_value.specs.Deterministic.{AreApart, AreRising, keys_of};
+ghost use Rattle.ciborium_value.specs.Deterministic.{AreRising, keys_of};
+ghost use Rattle.ciborium_value.specs.inner.OwnForms.{AreApart, AreFormed, IsFormed};
+ghost use Rattle.ciborium_value.specs.inner.OwnForms.{PairsAreFormed};
 ghost use Rattle.ciborium_value.specs.DeterministicForms.{deterministic_form, deterministic_forms};
 ghost use Rattle.ciborium_value.specs.DeterministicForms.{pair_forms, sorted_pairs};
 ghost use Rattle.ciborium_value.specs.Meaning.{bignum_meaning, is_bignum_tag, without_zeros};
-ghost use Rattle.ciborium_value.specs.inner.OwnForms.{AreFormed, IsFormed, PairsAreFormed};
 ghost use Rattle.ciborium_value.specs.SameContents.{AreAlike, IsAlike, PairsAreAlike};
 ghost use Rattle.ciborium_value.specs.Taken.{gives, refuses};
 ghost use Rattle.ciborium_value.specs.Tree as trees;

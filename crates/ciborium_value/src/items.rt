@@ -99,9 +99,9 @@ pub trait WantedItems: Sized + Drop {
         seq: &mut S::Seq,
     ) -> Result<Self, S::Error>
         ensures ok { IfOk result (λ i. TakesInTurn S.stands_before S.seq_stands
-            source.old source.new seq.old items.taken (content i)) }
+            source.old source.new seq.old items (content i)) }
         ensures refused { IfErr result (λ e. RefusesInTurn S.stands_before S.seq_stands
-            source.old seq.old items.taken (S.cause source.new e)) }
+            source.old seq.old items (S.cause source.new e)) }
         ensures took { OnOk result (TakesRest S.is_unread S.owes source.old source.new seq.old) }
         ensures only { TakesOnly S.has_taken source.old source.new }
         ensures less { OnOk result (S.left source.new ≤ S.left source.old + S.seq_left seq.old) }

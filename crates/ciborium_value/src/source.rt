@@ -10,13 +10,12 @@ ghost use Rattle.ciborium_value.specs.Sources.{GoesOn, Holds, IsGrantedFault, Le
 ghost use Rattle.ciborium_value.specs.Sources.{OwesNothing, RefusesAhead, RefusesNext};
 ghost use Rattle.ciborium_value.specs.Sources.{RefusesToTell, TakesNothing, TakesOneItem};
 ghost use Rattle.ciborium_value.specs.Sources.{TakesOnly, TakesTo, Tells, of_kind, of_memory};
-ghost use Rattle.ciborium_value.specs.Sources.{read_as};
+ghost use Rattle.ciborium_value.specs.View.{read_as, tree_of};
 ghost use Rattle.ciborium_value.specs.Taken.{taken_boolean, taken_bytes, taken_character};
 ghost use Rattle.ciborium_value.specs.Taken.{taken_integer, taken_name, taken_outer_tag};
 ghost use Rattle.ciborium_value.specs.Taken.{taken_pairs, taken_place, taken_seq, taken_text};
 ghost use Rattle.ciborium_value.specs.Taken.{taken_unit, taken_value, taken_variant};
 ghost use Rattle.ciborium_value.specs.Tree.{Tree};
-ghost use Rattle.ciborium_value.specs.View.{tree_of};
 
 use crate::kind::Kind;
 use crate::names::Names;

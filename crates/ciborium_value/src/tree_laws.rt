@@ -10,7 +10,9 @@ ghost use Rattle.ciborium_value.specs.laws.FormLaws.{AcceptedWhereOwnForm, Alike
 ghost use Rattle.ciborium_value.specs.laws.FormLaws.{FormOrRefused, RefusedByDuplicates};
 ghost use Rattle.ciborium_value.specs.laws.FormLaws.{FormIsAlike, FormIsItsOwn, FormIsProper};
 ghost use Rattle.ciborium_value.specs.laws.FormLaws.{OneFormWhereAlike};
-ghost use Rattle.ciborium_value.specs.laws.RefusalLaws.{GoodOrRefused, NeverBoth, OneRefusal};
+ghost use Rattle.ciborium_value.specs.laws.RefusalLaws.{DeterministicReading, GoodOrRefused};
+ghost use Rattle.ciborium_value.specs.laws.RefusalLaws.{NeverBoth, OneReading};
+ghost use Rattle.ciborium_value.specs.laws.RefusalLaws.{OneRefusal};
 ghost use Rattle.ciborium_value.specs.laws.NotationExamples.{EscapeExamples, IndentedExamples};
 ghost use Rattle.ciborium_value.specs.laws.NotationExamples.{NotationExamples};
 ghost use Rattle.ciborium_value.specs.Number.{BytesHoldNumber, NoLeadingZeros};
@@ -22,12 +24,16 @@ ghost use Rattle.ciborium_value.specs.laws.OrderLaws.{ValuesAreOrdered};
 ghost use Rattle.ciborium_value.specs.WrittenItems.{TreeIsWrittenAsItself, WrittenSpells};
 ghost use Rattle.ciborium_value.specs.WrittenItems.{WrittenTreeFolds, WrittenTreeIsProper};
 
-/// All bytes, at every offset and under every limit of levels, either begin with a good item or are
-/// refused, never both, and there is one refusal alone.
+/// In every spelling, all bytes, at every offset and under every limit of levels, either begin with
+/// what is read as a tree or are refused, never both; and there is one tree alone, of the same
+/// bytes, or one refusal alone (RFC 8949, sections 4.2 and 5.3). What is read in a deterministic
+/// spelling is the deterministic encoding of a tree that a program can hold.
 pub fn good_or_refused()
     ensures one_of { GoodOrRefused }
     ensures never_both { NeverBoth }
     ensures one_refusal { OneRefusal }
+    ensures one_reading { OneReading }
+    ensures deterministic { DeterministicReading }
 {}
 
 /// What is written for a tree means the folded tree, and folding twice is folding once. So a tree

@@ -3,10 +3,13 @@
 ghost use Rattle.std.specs.Prelude.{◌≡◌, ◌<◌, ◌≤◌, IfErr, IfOk, List, None, OnErr, OnOk, Option};
 ghost use Rattle.std.specs.Prelude.{Some, ℕ};
 ghost use Rattle.std.specs.Option.{option_map};
+ghost use Rattle.ciborium_ll.specs.Item.{Item};
+ghost use Rattle.ciborium_value.specs.Nesting.{Limit};
 ghost use Rattle.ciborium_value.specs.Sources.{RefusesAhead, TakesAhead, TakesItem, TakesOnly};
 ghost use Rattle.ciborium_value.specs.Sources.{of_kind};
 ghost use Rattle.ciborium_value.specs.StructReadings.{FieldsTaken, field_place, field_taken};
 ghost use Rattle.ciborium_value.specs.StructReadings.{no_field_taken, taken_fields};
+ghost use Rattle.ciborium_value.specs.Taken.{outcome};
 ghost use Rattle.ciborium_value.specs.declared.kind.Kind.TheVariants.{Other};
 
 use crate::deserialize::Deserialize;
@@ -53,13 +56,14 @@ pub trait WantedFields: Names + Drop {
         alloc: Global,
         source: &mut S,
     ) -> Result<(), S::Error>
-        ensures names { OnOk result (fields self.new ≡ fields self.old) }
+        ensures names { OnOk result ((name : List ℕ) (c : Content) (l : Limit) (i : Item) →
+            outcome l (fields self.new name c i) ≡ outcome l (fields self.old name c i)) }
         ensures ok { OnOk result ((name : List ℕ) → Self.place_of self.old name ≡ place →
             TakesAhead S.stands_before source.old source.new
-            ((fields self.old).taken name (content self.old)) (content self.new)) }
+            (fields self.old name (content self.old)) (content self.new)) }
         ensures refused { IfErr result (λ e. (name : List ℕ) → Self.place_of self.old name ≡ place →
             RefusesAhead S.stands_before source.old
-            ((fields self.old).taken name (content self.old)) (S.cause source.new e)) }
+            (fields self.old name (content self.old)) (S.cause source.new e)) }
         ensures took { OnOk result (TakesItem S.is_unread source.old source.new) }
         ensures only { TakesOnly S.has_taken source.old source.new }
         ensures less { OnOk result (S.left source.new < S.left source.old) }
@@ -110,7 +114,7 @@ impl<V: Deserialize, R: WantedFields> WantedFields for Wanted<'_, V, R> {
 
     ghost content = { λ w. (option_map V.reading.content w.1, R.content w.2) };
 
-    ghost fields = { λ w. field_taken w.0.now V.reading.taken V.reading.steady (R.fields w.2) };
+    ghost fields = { λ w. field_taken w.0.now V.reading.taken (R.fields w.2) };
 
     fn read_field<S: Source>(
         &mut self,

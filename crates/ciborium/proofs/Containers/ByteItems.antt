@@ -1,7 +1,6 @@
 -- Bytes that are read as the numbers of a sequence.
-use Rattle.std.proofs.Common.{◌≡◌, ◌≢◌, ℕ, ◌-◌, ◌<◌, ◌≤◌, Bool, false, List, [], ◌∷◌, ◌++◌, Option, Some, None}
-use Rattle.std.proofs.Common.{Result, Ok, Err, OnErr, OnOk, refl, sym, ap, ◌∙◌, subst, append_assoc}
-use Rattle.std.proofs.Common.{append-nil}
+use Rattle.std.proofs.Common.{◌≡◌, ◌≢◌, ℕ, ◌-◌, ◌<◌, ◌≤◌, Bool, false, List, [], ◌∷◌, ◌++◌, Option, Some, None, Result}
+use Rattle.std.proofs.Common.{Ok, Err, OnErr, OnOk, refl, sym, ap, ◌∙◌, subst, append_assoc, append-nil}
 use Rattle.ciborium_ll.specs.declared.header.Header.{Header}
 use Rattle.ciborium_ll.specs.declared.header.Header.TheVariants as header
 use Rattle.ciborium_ll.specs.Item.{Item}
@@ -13,22 +12,20 @@ use Rattle.ciborium.proofs.Items.Weights.{entered-fewer}
 use Rattle.ciborium_value.specs.Ahead.{Rest, Form, after, parts, past, inside, end_of}
 use Rattle.ciborium_value.specs.Nesting.{Limit}
 use Rattle.ciborium_value.specs.Places.{sequence}
-use Rattle.ciborium_value.specs.Sources.{Fault, IsFaultOf, of_kind, of_nesting, of_syntax, of_memory, of_device}
-use Rattle.ciborium_value.specs.Sources.{of_end}
-use Rattle.ciborium_value.specs.Sources.{of_length, TakesAhead, RefusesAhead, TakesItem, TakesTo, GoesOn, Leaves}
+use Rattle.ciborium_value.specs.Sources.{Fault, IsFaultOf, TakesAhead, RefusesAhead, TakesItem, TakesTo, GoesOn, Leaves}
 use Rattle.ciborium_value.specs.Sources.{RefusesNext, OwesLess, OwesNothing, HasItem, TakesOneItem, TakesOnly}
-use Rattle.ciborium_value.specs.Taken.{Outcome, Taken, gives, refuses, nests, deeper, then_take, and_take, take_each}
+use Rattle.ciborium_value.specs.lemmas.GivenOutcomes.{and_take}
+use Rattle.ciborium_value.specs.Taken.{Outcome, Steps, Taken, deeper, gives, nests, outcome, refuses, take_each}
+use Rattle.ciborium_value.specs.Taken.{then_take}
 use Rattle.ciborium_value.specs.Taken.{number_below, taken_integer, taken_byte, taken_bytes, bare_bytes, untagged}
 use Rattle.ciborium_value.specs.declared.kind.Kind.TheVariants as kinds
-use Rattle.ciborium_value.proofs.Sources.Sequences.{fault_outside, fault_then}
+use Rattle.ciborium_value.proofs.Sources.Sequences.{fault_map, fault_outside, fault_then}
 use Rattle.ciborium.specs.declared.de.byte_source.ByteSource.{ByteSource}
 use Rattle.ciborium.specs.declared.de.byte_source.ByteSeq.{ByteSeq}
 use Rattle.ciborium.specs.declared.de.error.Error.{Error}
-use Rattle.ciborium.specs.inner.ByteSources.{fault_at}
-use Rattle.ciborium.specs.inner.ByteSources.{AnswersItem, PassesItem, IsUnread, StandsBefore, SeqStands, SeqOwes}
-use Rattle.ciborium.specs.inner.ByteSources.{EntersItemsUnread, ReadsRest, RefusesRest}
-use Rattle.ciborium.specs.inner.ByteSources.{HasTaken, HasTakenSince, ReadsBareHead, end_at, parts_left, reader_of}
-use Rattle.ciborium.specs.inner.ByteSources.{weight_left}
+use Rattle.ciborium.specs.inner.ByteSources.{fault_at, AnswersItem, PassesItem, IsUnread, StandsBefore, SeqStands}
+use Rattle.ciborium.specs.inner.ByteSources.{SeqOwes, EntersItemsUnread, ReadsRest, RefusesRest, HasTaken}
+use Rattle.ciborium.specs.inner.ByteSources.{HasTakenSince, ReadsBareHead, end_at, parts_left, reader_of, weight_left}
 use Rattle.ciborium.specs.inner.FrontItems.{Reads, Denies}
 use Rattle.ciborium.specs.inner.Skips.{under, AreSkipped, IsBare, TakesBare}
 use Rattle.ciborium.specs.inner.StringContents.{string_item, TakesContent}
@@ -49,7 +46,7 @@ module _ {S W : Type 0} (remaining : S → Option (List ℕ)) where
   takes-read old new taken v kept levels none h l i f (b, u, (s, r, sp, rest, e), is, ahead) =
       let (j, t, z, sq, e', give, un) = h b u in
       let same = one_at_front s t r z i j sp sq (sym e ∙ e') in (
-        ap (λ k. taken k i) is ∙ ap (taken (Some old.levels)) same.2 ∙ give,
+        ap (λ k. outcome k (taken i)) is ∙ ap (λ j. outcome (Some old.levels) (taken j)) same.2 ∙ give,
         (
           z,
           un,
@@ -65,8 +62,8 @@ module _ {S W : Type 0} (remaining : S → Option (List ℕ)) where
       Denies (IsUnread remaining) (end_at remaining) old (Some old.levels) taken fault →
       RefusesAhead (StandsBefore remaining) old taken fault
   refuses-denied old taken fault h l i f (b, u, (s, r, sp, rest, e), is, ahead) =
-      subst (λ n. IsFaultOf n fault (taken l i)) (sym (rest-end (reader_of remaining old.decoder) r f rest))
-      (subst (λ k. IsFaultOf (end_at remaining old) fault (taken k i)) (sym is) (h b s r i u sp e))
+      subst (λ k. IsFaultOf (end_of f) fault (outcome k (taken i))) (sym is)
+      (h b s r i (end_of f) u sp e (rest-end (reader_of remaining old.decoder) r f rest))
 
   pub took-read : {A : Type 0} (old new : ByteSource S W) (l : Limit) (taken : Taken A) (v : A) →
       Reads (IsUnread remaining) old new l taken v → TakesItem (IsUnread remaining) old new
@@ -74,9 +71,9 @@ module _ {S W : Type 0} (remaining : S → Option (List ℕ)) where
 
 -- ---- a byte
 
-byte-given : (l : Limit) (i : Item) (n : Bool × ℕ) (v : ℕ) → taken_integer l i ≡ gives n →
-    number_below 256 n ≡ gives v → taken_byte l i ≡ gives v
-byte-given l i n v e f = ap (λ o. then_take o (number_below 256)) e ∙ f
+byte-given : (l : Limit) (i : Item) (n : Bool × ℕ) (v : ℕ) → outcome l (taken_integer i) ≡ gives n →
+    outcome l (number_below 256 n) ≡ gives v → outcome l (taken_byte i) ≡ gives v
+byte-given l i n v e f = ap (λ o. then_take o (λ m. outcome l (number_below 256 m))) e ∙ f
 
 -- ---- items in turn
 
@@ -88,33 +85,25 @@ and_take-gives (gives v) nests vs h = cc
 and_take-gives (refuses k) b vs h = cc
 and_take-gives nests b vs h = cc
 
-each-more : {X A : Type 0} (f : X → Outcome A) (done : List X) (i : X) (vs : List A) (v : A) →
-    take_each f done ≡ gives vs → f i ≡ gives v → take_each f (done ++ i ∷ []) ≡ gives (vs ++ v ∷ [])
-each-more f [] i vs v h k = let e : vs ≡ [] = cc in rw (k, e) refl
-each-more f (j ∷ done) i vs v h k =
-    let w = and_take-gives (f j) (take_each f done) vs h in
-    let e = each-more f done i w.1 v w.3 k in
-    ap (λ r. and_take (f j) r) e ∙ ap (λ r. and_take r (gives (w.1 ++ v ∷ []))) w.2 ∙
+each-more : {X A : Type 0} (l : Limit) (f : X → Steps A) (done : List X) (i : X) (vs : List A) (v : A) →
+    outcome l (take_each f done) ≡ gives vs → outcome l (f i) ≡ gives v →
+    outcome l (take_each f (done ++ i ∷ [])) ≡ gives (vs ++ v ∷ [])
+each-more l f [] i vs v h k = let e : vs ≡ [] = cc in rw (k, e) refl
+each-more l f (j ∷ done) i vs v h k =
+    let w = and_take-gives (outcome l (f j)) (outcome l (take_each f done)) vs h in
+    let e = each-more l f done i w.1 v w.3 k in
+    ap (λ r. and_take (outcome l (f j)) r) e ∙ ap (λ r. and_take r (gives (w.1 ++ v ∷ []))) w.2 ∙
     ap (λ d. gives (d ++ v ∷ [])) (sym w.4)
 
-each-fault : {X A : Type 0} (end : ℕ) (fault : Fault) (f : X → Outcome A) (done : List X) (i : X) (rest : List X)
-    (vs : List A) → take_each f done ≡ gives vs → IsFaultOf end fault (f i) →
-    IsFaultOf end fault (take_each f (done ++ i ∷ rest))
-each-fault end (of_kind k) f [] i rest vs h b = ap (λ o. and_take o (take_each f rest)) b
-each-fault end (of_kind k) f (j ∷ done) i rest vs h b =
-    let w = and_take-gives (f j) (take_each f done) vs h in
-    ap (λ o. and_take o (take_each f (done ++ i ∷ rest))) w.2 ∙
-    ap (λ o. and_take (gives w.0) o) (each-fault end (of_kind k) f done i rest w.1 w.3 b)
-each-fault end of_nesting f [] i rest vs h b = ap (λ o. and_take o (take_each f rest)) b
-each-fault end of_nesting f (j ∷ done) i rest vs h b =
-    let w = and_take-gives (f j) (take_each f done) vs h in
-    ap (λ o. and_take o (take_each f (done ++ i ∷ rest))) w.2 ∙
-    ap (λ o. and_take (gives w.0) o) (each-fault end of_nesting f done i rest w.1 w.3 b)
-each-fault end of_syntax f done i rest vs h b = absurd b
-each-fault end of_memory f done i rest vs h b = tt
-each-fault end of_device f done i rest vs h b = tt
-each-fault end of_end f done i rest vs h b = absurd b
-each-fault end of_length f done i rest vs h b = b
+each-fault : {X A : Type 0} (end : ℕ) (fault : Fault) (l : Limit) (f : X → Steps A) (done : List X) (i : X)
+    (rest : List X) (vs : List A) → outcome l (take_each f done) ≡ gives vs → IsFaultOf end fault (outcome l (f i)) →
+    IsFaultOf end fault (outcome l (take_each f (done ++ i ∷ rest)))
+each-fault end fault l f [] i rest vs h b = fault_then end fault (outcome l (f i)) _ b
+each-fault end fault l f (j ∷ done) i rest vs h b =
+    let w = and_take-gives (outcome l (f j)) (outcome l (take_each f done)) vs h in
+    let behind = outcome l (take_each f (done ++ i ∷ rest)) in
+    subst (λ o. IsFaultOf end fault (and_take o behind)) (sym w.2)
+    (fault_map end fault (λ ws. w.0 ∷ ws) behind (each-fault end fault l f done i rest w.1 w.3 b))
 
 -- some items of what was left were read
 pub record IsPartlyRead {S W A : Type 0} (remaining : S → Option (List ℕ)) (taken : Taken A) (new : ByteSource S W)
@@ -124,7 +113,7 @@ pub record IsPartlyRead {S W A : Type 0} (remaining : S → Option (List ℕ)) (
   pub split : is ≡ done ++ rest
   pub stands : StandsBefore remaining new (inside form l) (after (parts form rest r))
   pub holds : SeqStands q l (parts form rest r)
-  pub read : take_each (taken (inside form l)) done ≡ gives vs
+  pub read : outcome (inside form l) (take_each taken done) ≡ gives vs
 
 abbrev pub ReadsPartly : {S W A : Type 0} → (S → Option (List ℕ)) → Taken A → ByteSource S W → ByteSeq →
     ByteSource S W →
@@ -165,35 +154,38 @@ module _ {S W A : Type 0} (remaining : S → Option (List ℕ)) (taken : Taken A
         split = n.split ∙ ap (λ x. n.done ++ x) e.2 ∙ sym (append_assoc n.done (e.0 ∷ []) e.1);
         stands = k.1;
         holds = e.4;
-        read = each-more (taken (inside form l)) n.done e.0 vs v n.read k.0;
+        read = each-more (inside form l) taken n.done e.0 vs v n.read k.0;
       }
 
   pub partly-end : (mid new : ByteSource S W) (q : ByteSeq) (vs : List A) →
       ReadsPartly remaining taken old start mid q vs → Leaves (StandsBefore remaining) SeqStands mid new q →
-      ReadsRest remaining old new start (λ l is. take_each (taken l) is) vs
+      ReadsRest remaining old new start (take_each taken) vs
   partly-end mid new q vs w g l form is r st hold =
       let n = w l form is r st hold in
-      let e = g.0 l form n.rest r n.stands n.holds in
-      (ap (take_each (taken (inside form l))) (n.split ∙ ap (λ x. n.done ++ x) e.0 ∙ append-nil n.done) ∙ n.read, e.1)
+      let e = g.0 l form n.rest r n.stands n.holds in (
+        ap (λ js. outcome (inside form l) (take_each taken js))
+            (n.split ∙ ap (λ x. n.done ++ x) e.0 ∙ append-nil n.done) ∙ n.read,
+        e.1,
+      )
 
   pub partly-next-fault : (mid : ByteSource S W) (q : ByteSeq) (vs : List A) (fault : Fault) →
       ReadsPartly remaining taken old start mid q vs → RefusesNext (StandsBefore remaining) SeqStands mid q fault →
-      RefusesRest remaining old start (λ l is. take_each (taken l) is) fault
+      RefusesRest remaining old start (take_each taken) fault
   partly-next-fault mid q vs fault w h l form is r st hold =
       let n = w l form is r st hold in
-      fault_outside _ fault (take_each (taken (inside form l)) is) (h.0 l form n.rest r n.stands n.holds)
+      fault_outside _ fault (outcome (inside form l) (take_each taken is)) (h.0 l form n.rest r n.stands n.holds)
 
   pub partly-fault : (mid ahead : ByteSource S W) (q q' : ByteSeq) (vs : List A) (fault : Fault) →
       ReadsPartly remaining taken old start mid q vs → GoesOn (StandsBefore remaining) SeqStands mid ahead q q' →
       RefusesAhead (StandsBefore remaining) ahead taken fault →
-      RefusesRest remaining old start (λ l is. take_each (taken l) is) fault
+      RefusesRest remaining old start (take_each taken) fault
   partly-fault mid ahead q q' vs fault w g h l form is r st hold =
       let n = w l form is r st hold in
       let e = g.0 l form n.rest r n.stands n.holds in
       let b = h (inside form l) e.0 (parts form e.1 r) e.3 in
-      subst (λ o. IsFaultOf (end_of r) fault (take_each (taken (inside form l)) o))
-      (sym (n.split ∙ ap (λ x. n.done ++ x) e.2)) (each-fault (end_of r) fault (taken (inside form l)) n.done e.0
-      e.1 vs n.read b)
+      subst (λ o. IsFaultOf (end_of r) fault (outcome (inside form l) (take_each taken o)))
+      (sym (n.split ∙ ap (λ x. n.done ++ x) e.2)) (each-fault (end_of r) fault (inside form l) taken n.done
+      e.0 e.1 vs n.read b)
 
   pub owes-none : OwesPartly remaining old start old start
   owes-none b u = (b, u, λ a owed. owed)
@@ -217,29 +209,33 @@ module _ {S W A : Type 0} (remaining : S → Option (List ℕ)) (taken : Taken A
 
 -- a byte is what its number is
 module _ {S W : Type 0} (remaining : S → Option (List ℕ)) (ahead : ByteSource S W) where
-  pub byte-takes : (new : ByteSource S W) (n : Bool × ℕ) (v : ℕ) → number_below 256 n ≡ gives v →
+  pub byte-takes : (new : ByteSource S W) (n : Bool × ℕ) (v : ℕ) →
+      ((l : Limit) → outcome l (number_below 256 n) ≡ gives v) →
       TakesAhead (StandsBefore remaining) ahead new taken_integer n →
       TakesAhead (StandsBefore remaining) ahead new taken_byte v
-  byte-takes new n v e t l i f st = let k = t l i f st in (byte-given l i n v k.0 e, k.1)
+  byte-takes new n v e t l i f st = let k = t l i f st in (byte-given l i n v k.0 (e l), k.1)
 
   pub byte-refuses : (fault : Fault) → RefusesAhead (StandsBefore remaining) ahead taken_integer fault →
       RefusesAhead (StandsBefore remaining) ahead taken_byte fault
-  byte-refuses fault h l i f st = fault_then (end_of f) fault (taken_integer l i) (number_below 256) (h l i f st)
+  byte-refuses fault h l i f st = fault_then (end_of f) fault (outcome l (taken_integer i))
+      (λ n. outcome l (number_below 256 n)) (h l i f st)
 
   -- a number that is no byte
   pub range-refuses : (new : ByteSource S W) (n : Bool × ℕ) (fault : Fault) →
-      ((end : ℕ) → IsFaultOf end fault (number_below 256 n)) →
+      ((end : ℕ) (l : Limit) → IsFaultOf end fault (outcome l (number_below 256 n))) →
       TakesAhead (StandsBefore remaining) ahead new taken_integer n →
       RefusesAhead (StandsBefore remaining) ahead taken_byte fault
   range-refuses new n fault b t l i f st = let k = t l i f st in
-      subst (λ o. IsFaultOf (end_of f) fault (then_take o (number_below 256))) (sym k.0) (b (end_of f))
+      subst (λ o. IsFaultOf (end_of f) fault (then_take o (λ m. outcome l (number_below 256 m)))) (sym k.0)
+      (b (end_of f) l)
 
 -- ---- the array
 
 pub bytes-given : (m : ℕ) → m ≢ 0 → (ts : List ℕ) (i : Item) (xs : List Item) → HasItems i xs →
-    taken_bytes (Some m) (under ts i) ≡ take_each (taken_byte (deeper (Some m))) xs
-bytes-given m some ts i xs (o, js, is, all) = ap (bare_bytes (Some m)) (untagged-under ts i ∙ ap untagged is) ∙
-    within-is m _ some ∙ ap (take_each (taken_byte (deeper (Some m)))) all
+    outcome (Some m) (taken_bytes (under ts i)) ≡ outcome (deeper (Some m)) (take_each taken_byte xs)
+bytes-given m some ts i xs (o, js, is, all) =
+    ap (λ j. outcome (Some m) (bare_bytes j)) (untagged-under ts i ∙ ap untagged is) ∙ within-is m _ some ∙
+    ap (λ ys. outcome (deeper (Some m)) (take_each taken_byte ys)) all
 
 -- an array was entered whose items are read as bytes
 pub record HasOpenedArray {S W : Type 0} (remaining : S → Option (List ℕ)) (old mid : ByteSource S W)
@@ -249,7 +245,7 @@ pub record HasOpenedArray {S W : Type 0} (remaining : S → Option (List ℕ)) (
     pub levels : q.levels ≡ old.levels
     pub none : mid.pending ≡ None
     pub fewer : weight_left mid < weight_left old
-    pub opens : EntersItemsUnread remaining old mid taken_bytes (λ l is. take_each (taken_byte l) is) q
+    pub opens : EntersItemsUnread remaining old mid taken_bytes (λ form is. take_each taken_byte is) q
 
 pub array-opened : {S W : Type 0} (can_fail : Bool) (remaining : S → Option (List ℕ)) (old mid new : ByteSource S W)
     (count : Option ℕ)
@@ -268,26 +264,26 @@ array-opened {S = S} {W = W} can_fail remaining old mid new count q h offset is 
   none = entered.1 ∙ reads.pending;
   fewer = entered-fewer old mid new h entered.0 (entered.1 ∙ reads.pending) reads.fewer;
   opens = array-entered remaining old mid new count q reads.levels entered taken_bytes
-      (λ l is. take_each (taken_byte l) is) (subst (TakesBare (IsUnread remaining) old mid false) is head)
+      (λ form is. take_each taken_byte is) (subst (TakesBare (IsUnread remaining) old mid false) is head)
       (bytes-given old.levels (λ z. entered.2 (reads.levels ∙ z)));
 }
 
 module _ {S W : Type 0} (remaining : S → Option (List ℕ)) (old mid : ByteSource S W) (q : ByteSeq)
     (opened : HasOpenedArray remaining old mid q) where
   pub array-takes : (new : ByteSource S W) (v : List ℕ) →
-      ReadsRest remaining mid new q (λ l is. take_each (taken_byte l) is) v →
+      ReadsRest remaining mid new q (take_each taken_byte) v →
       TakesAhead (StandsBefore remaining) old new taken_bytes v
   array-takes new v reads l i f st =
       let (form, is, give, stands, holds) = items-stand remaining old mid q opened.kept opened.levels opened.none
-      opened.fewer taken_bytes (λ k its. take_each (taken_byte k) its) opened.opens l i f st in
+      opened.fewer taken_bytes (λ form its. take_each taken_byte its) opened.opens l i f st in
       let (e, past) = reads l form is f stands holds in
       (give ∙ e, past)
 
-  pub array-refuses : (fault : Fault) → RefusesRest remaining mid q (λ l is. take_each (taken_byte l) is) fault →
+  pub array-refuses : (fault : Fault) → RefusesRest remaining mid q (take_each taken_byte) fault →
       RefusesAhead (StandsBefore remaining) old taken_bytes fault
   array-refuses fault denied l i f st =
       let (form, is, give, stands, holds) = items-stand remaining old mid q opened.kept opened.levels opened.none
-      opened.fewer taken_bytes (λ k its. take_each (taken_byte k) its) opened.opens l i f st in
+      opened.fewer taken_bytes (λ form its. take_each taken_byte its) opened.opens l i f st in
       subst (λ o. IsFaultOf (end_of f) fault o) (sym give) (denied l form is f stands holds)
 
   pub array-took : (new : ByteSource S W) → TakesTo (IsUnread remaining) mid new
@@ -299,9 +295,9 @@ module _ {S W : Type 0} (remaining : S → Option (List ℕ)) (old mid : ByteSou
 
 pub bytes-other : (l : Limit) (h : Header) → IsBare false h → ((n : Option ℕ) → h ≡ header.Array n → ⊥) →
     ((n : Option ℕ) → h ≡ header.Bytes n → ⊥) → (ts : List ℕ) (i : Item) → AreSkipped false ts → header_of i ≡ h →
-    taken_bytes l (under ts i) ≡ refuses kinds.Bytes
-bytes-other l h bare p q ts i all e = ap (bare_bytes l) (untagged-under ts i) ∙
-    by-shape (λ j. bare_bytes l (untagged j) ≡ refuses kinds.Bytes) h (λ n k. refl) (λ n k. refl)
+    outcome l (taken_bytes (under ts i)) ≡ refuses kinds.Bytes
+bytes-other l h bare p q ts i all e = ap (λ j. outcome l (bare_bytes j)) (untagged-under ts i) ∙
+    by-shape (λ j. outcome l (bare_bytes (untagged j)) ≡ refuses kinds.Bytes) h (λ n k. refl) (λ n k. refl)
     (λ o b k. absurd (q _ k)) (λ o b k. refl) (λ o is k. absurd (p _ k)) (λ o ps k. refl) (λ n k. refl)
     (λ raw k. refl) (λ t j k. no-bare-tag h t bare k) i e
 
@@ -314,7 +310,7 @@ pub bytes-read : {S W : Type 0} (remaining : S → Option (List ℕ)) (old mid n
 bytes-read remaining old mid new len payload bare content =
     reads-bare (IsUnread remaining) false (header.Bytes len) (Some old.levels) taken_bytes old mid new payload bare
     (string-behind (IsUnread remaining) mid new string_of_bytes len (Some old.levels) taken_bytes payload payload
-    content (λ ts all. ap (bare_bytes (Some old.levels))
+    content (λ ts all. ap (λ j. outcome (Some old.levels) (bare_bytes j))
     (untagged-under ts (string_item string_of_bytes len payload))))
 
 -- ---- what is answered to a call for one item

@@ -13,11 +13,11 @@ use Rattle.ciborium_ll.specs.Spells.{Spells}
 use Rattle.ciborium_ll.specs.StringRefusal.{of_bytes as bytes_kind}
 use Rattle.ciborium_ll.proofs.UniqueSpelling.{one_at_front}
 use Rattle.ciborium_value.specs.Sources.{Enters, EntersMap}
-use Rattle.ciborium_value.specs.Ahead.{Form, Rest, parts, after, item, inside, of_bytes, pairs}
+use Rattle.ciborium_value.specs.Ahead.{Form, Rest, parts, after, item, inside, of_bytes, pairs, takes_level}
 use Rattle.ciborium_value.specs.Nesting.{Limit}
 use Rattle.ciborium_value.specs.Places.{is_open, sequence, dictionary}
-use Rattle.ciborium_value.specs.Taken.{Outcome, Taken, gives, refuses, nests, untagged, deeper, within_level, unpack}
-use Rattle.ciborium_value.specs.Taken.{unpack_pairs, bare_seq, bare_pairs, taken_seq, taken_pairs}
+use Rattle.ciborium_value.specs.Taken.{Outcome, Steps, Taken, deeper, give, gives, nests, outcome, refuses, untagged}
+use Rattle.ciborium_value.specs.Taken.{bare_pairs, bare_seq, taken_pairs, taken_seq, unpack, unpack_pairs, within_level}
 use Rattle.ciborium_value.specs.declared.kind.Kind.TheVariants as kinds
 use Rattle.ciborium.specs.declared.de.byte_source.ByteSource.{ByteSource}
 use Rattle.ciborium.specs.declared.de.byte_source.ByteSeq.{ByteSeq}
@@ -25,8 +25,7 @@ use Rattle.ciborium.specs.declared.de.byte_source.Left.{Left}
 use Rattle.ciborium.specs.declared.de.byte_source.Left.TheVariants as left
 use Rattle.ciborium.specs.inner.ByteSources.{IsUnread, IsUnreadBy, StandsBefore, SeqStands, HoldsItems, HoldsPairs}
 use Rattle.ciborium.specs.inner.ByteSources.{SeqOwes, LeftOwes, OwesParts, EntersItemsUnread, EntersPairsUnread}
-use Rattle.ciborium.specs.inner.ByteSources.{HasBytes, parts_left}
-use Rattle.ciborium.specs.inner.ByteSources.{weight_left, reader_of, seq_left}
+use Rattle.ciborium.specs.inner.ByteSources.{HasBytes, parts_left, weight_left, reader_of, seq_left}
 use Rattle.ciborium.specs.inner.Skips.{under, AreSkipped, IsBare, TakesBare, EntersUnread}
 use Rattle.ciborium.specs.inner.StringContents.{TakesContent}
 use Rattle.ciborium.specs.inner.Unread.{AreSpelled, AreLeft, SpellsPair, IsRest, ending, form_of, HasCount}
@@ -135,12 +134,13 @@ left-spelled SpellsPart None c xs sp = sp
 module _ {S X A : Type 0} (SpellsPart : List ℕ → X → Type 0) (head_with : Option ℕ → Header)
     (HasParts : Item → List X → Type 0) (is_container : IsContainer SpellsPart head_with HasParts)
     (Owed : ByteSeq → List ℕ → List ℕ → Type 0) (Held : ByteSeq → Form → List X → Type 0)
-    (IsUnread : S → List ℕ → Type 0) (taken : Taken A) (f : Limit → List X → Outcome A) where
+    (IsUnread : S → List ℕ → Type 0) (taken : Taken A) (f : Form → List X → Steps A) where
   entered : (old mid new : S) (m : ℕ) (count : Option ℕ) (q : ByteSeq) → m ≢ 0 →
       TakesBare IsUnread old mid false (head_with count) → ((y : List ℕ) → IsUnread mid y → IsUnread new y) →
       ((b u : List ℕ) → OwesParts SpellsPart count b u → Owed q b u) →
       ((xs : List X) → HasCount count xs → Held q (form_of count) xs) →
-      ((ts : List ℕ) (i : Item) (xs : List X) → HasParts i xs → taken (Some m) (under ts i) ≡ f (deeper (Some m)) xs) →
+      ((ts : List ℕ) (i : Item) (xs : List X) → HasParts i xs →
+      outcome (Some m) (taken (under ts i)) ≡ outcome (deeper (Some m)) (f (form_of count) xs)) →
       EntersUnread IsUnread Owed SpellsPart Held old new (Some m) (Some (m - 1)) taken f q
   entered old mid new m count q some bare into owes holds give b u =
       let (ts, w, x, y, tagged, all, hd, e, un) = bare b u in
@@ -160,7 +160,8 @@ module _ {S X A : Type 0} (SpellsPart : List ℕ → X → Type 0) (head_with : 
               form_of count,
               xs,
               c,
-              ap (taken (Some m)) is ∙ give ts i xs has ∙ ap (λ l. f l xs) (sym (inside-form count (Some m))),
+              ap (λ j. outcome (Some m) (taken j)) is ∙ give ts i xs has ∙
+                  ap (λ l. outcome l (f (form_of count) xs)) (sym (inside-form count (Some m))),
               inside-form count (Some m) ∙ deeper-is m some,
               left-spelled SpellsPart count c xs sps,
               h,
@@ -204,10 +205,10 @@ same-unread remaining mid new e f y u = subst (λ d. IsUnreadBy remaining d new.
 module _ {S W : Type 0} (remaining : S → Option (List ℕ)) (old mid new : ByteSource S W) (count : Option ℕ)
     (q : ByteSeq)
     (same : mid.levels ≡ old.levels) (is : IsEntered mid new count q) where
-  pub array-entered : {A : Type 0} (taken : Taken A) (f : Limit → List Item → Outcome A) →
+  pub array-entered : {A : Type 0} (taken : Taken A) (f : Form → List Item → Steps A) →
       TakesBare (IsUnread remaining) old mid false (header.Array count) →
       ((ts : List ℕ) (i : Item) (xs : List Item) → HasItems i xs →
-      taken (Some old.levels) (under ts i) ≡ f (deeper (Some old.levels)) xs) →
+      outcome (Some old.levels) (taken (under ts i)) ≡ outcome (deeper (Some old.levels)) (f (form_of count) xs)) →
       EntersItemsUnread remaining old new taken f q
   array-entered taken f bare give =
       let some : old.levels ≢ 0 = λ z. is.2 (same ∙ z) in
@@ -217,10 +218,10 @@ module _ {S W : Type 0} (remaining : S → Option (List ℕ)) (old mid new : Byt
       (IsUnread remaining) taken f old mid new old.levels count q some bare
       (same-unread remaining mid new is.0 is.1) (items-owed q count is.4) (items-held q count is.4) give)
 
-  pub map-entered : {A : Type 0} (taken : Taken A) (f : Limit → List (Item × Item) → Outcome A) →
+  pub map-entered : {A : Type 0} (taken : Taken A) (f : Form → List (Item × Item) → Steps A) →
       TakesBare (IsUnread remaining) old mid false (header.Map count) →
       ((ts : List ℕ) (i : Item) (xs : List (Item × Item)) → HasPairs i xs →
-      taken (Some old.levels) (under ts i) ≡ f (deeper (Some old.levels)) xs) →
+      outcome (Some old.levels) (taken (under ts i)) ≡ outcome (deeper (Some old.levels)) (f (form_of count) xs)) →
       EntersPairsUnread remaining old new taken f q
   map-entered taken f bare give =
       let some : old.levels ≢ 0 = λ z. is.2 (same ∙ z) in
@@ -230,15 +231,22 @@ module _ {S W : Type 0} (remaining : S → Option (List ℕ)) (old mid new : Byt
       (IsUnread remaining) taken f old mid new old.levels count q some bare
       (same-unread remaining mid new is.0 is.1) (pairs-owed q count is.4) (pairs-held q count is.4) give)
 
-pub seq-given : (m : ℕ) → m ≢ 0 → (ts : List ℕ) (i : Item) (xs : List Item) → HasItems i xs →
-    taken_seq (Some m) (under ts i) ≡ gives (deeper (Some m), xs)
-seq-given m some ts i xs (o, js, is, all) = ap (bare_seq (Some m)) (untagged-under ts i ∙ ap untagged is) ∙
-    within-is m _ some ∙ ap (λ z. gives (deeper (Some m), z)) all
+-- a container of counted parts, or up to a break, takes a level
+level-form : (count : Option ℕ) → true ≡ takes_level (form_of count)
+level-form (Some n) = refl
+level-form None = refl
 
-pub pairs-given : (m : ℕ) → m ≢ 0 → (ts : List ℕ) (i : Item) (xs : List (Item × Item)) → HasPairs i xs →
-    taken_pairs (Some m) (under ts i) ≡ gives (deeper (Some m), xs)
-pairs-given m some ts i xs (o, js, is, all) = ap (bare_pairs (Some m)) (untagged-under ts i ∙ ap untagged is) ∙
-    within-is m _ some ∙ ap (λ z. gives (deeper (Some m), z)) all
+pub seq-given : (m : ℕ) → m ≢ 0 → (count : Option ℕ) (ts : List ℕ) (i : Item) (xs : List Item) → HasItems i xs →
+    outcome (Some m) (taken_seq (under ts i)) ≡ gives (takes_level (form_of count), xs)
+seq-given m some count ts i xs (o, js, is, all) =
+    ap (λ j. outcome (Some m) (bare_seq j)) (untagged-under ts i ∙ ap untagged is) ∙ within-is m _ some ∙
+    ap (λ z. gives (true, z)) all ∙ ap (λ b. gives (b, xs)) (level-form count)
+
+pub pairs-given : (m : ℕ) → m ≢ 0 → (count : Option ℕ) (ts : List ℕ) (i : Item) (xs : List (Item × Item)) →
+    HasPairs i xs → outcome (Some m) (taken_pairs (under ts i)) ≡ gives (takes_level (form_of count), xs)
+pairs-given m some count ts i xs (o, js, is, all) =
+    ap (λ j. outcome (Some m) (bare_pairs j)) (untagged-under ts i ∙ ap untagged is) ∙ within-is m _ some ∙
+    ap (λ z. gives (true, z)) all ∙ ap (λ b. gives (b, xs)) (level-form count)
 
 pub bytes-had : (k : Left) (P : List ℕ → Type 0) → HasBytes k P → (v : _) × (k ≡ left.Bytes v) × P (into_iter_items v)
 bytes-had (left.Counted n) P h = absurd h
@@ -252,7 +260,7 @@ pub bytes-entered : {S W : Type 0} (remaining : S → Option (List ℕ)) (old mi
     new.levels ≡ old.levels →
     TakesBare (IsUnread remaining) old mid false (header.Bytes len) →
     TakesContent (IsUnread remaining mid) (IsUnread remaining new) bytes_kind len payload →
-    EntersItemsUnread remaining old new taken_seq (λ l is. gives (l, is)) q
+    EntersItemsUnread remaining old new taken_seq (λ form is. give (takes_level form, is)) q
 bytes-entered remaining old mid new q v len payload is same levels bare content b u =
     let (ts, w, x, y, tagged, all, hd, e, un) = bare b u in
     let (c, z, make, f, un') = content y un in
@@ -269,7 +277,7 @@ bytes-entered remaining old mid new q v len payload is same levels bare content 
             of_bytes,
             map unsigned payload,
             [],
-            ap (bare_seq (Some old.levels)) (ap untagged io ∙ untagged-under ts i ∙ ap untagged one.2),
+            ap (λ j. outcome (Some old.levels) (bare_seq j)) (ap untagged io ∙ untagged-under ts i ∙ ap untagged one.2),
             ap Some (sym levels),
             refl,
             sym one.1,
@@ -280,35 +288,36 @@ bytes-entered remaining old mid new q v len payload is same levels bare content 
 -- ---- what is refused
 
 -- what an array is read as, behind tags, where no level is left
-pub array-nests : {A : Type 0} (bare : Limit → Item → Outcome A) →
-    ((o : Bool) (is : Items) → bare (Some 0) (array o is) ≡ nests) → (m : ℕ) (count : Option ℕ) → m ≡ 0 →
+pub array-nests : {A : Type 0} (bare : Taken A) →
+    ((o : Bool) (is : Items) → outcome (Some 0) (bare (array o is)) ≡ nests) → (m : ℕ) (count : Option ℕ) → m ≡ 0 →
     (ts : List ℕ) (i : Item) → AreSkipped false ts → header_of i ≡ header.Array count →
-    bare (Some m) (untagged (under ts i)) ≡ nests
-array-nests bare none m count z ts i all e = ap (λ n. bare (Some n) (untagged (under ts i))) z ∙
-    ap (bare (Some 0)) (untagged-under ts i) ∙
-    by-shape (λ j. bare (Some 0) (untagged j) ≡ nests) (header.Array count) (λ n k. cc) (λ n k. cc) (λ o b k. cc)
-    (λ o b k. cc) (λ o is k. none o is) (λ o ps k. cc) (λ n k. cc) (λ raw k. cc) (λ t j k. cc) i e
+    outcome (Some m) (bare (untagged (under ts i))) ≡ nests
+array-nests bare none m count z ts i all e = ap (λ n. outcome (Some n) (bare (untagged (under ts i)))) z ∙
+    ap (λ j. outcome (Some 0) (bare j)) (untagged-under ts i) ∙
+    by-shape (λ j. outcome (Some 0) (bare (untagged j)) ≡ nests) (header.Array count) (λ n k. cc) (λ n k. cc)
+    (λ o b k. cc) (λ o b k. cc) (λ o is k. none o is) (λ o ps k. cc) (λ n k. cc) (λ raw k. cc) (λ t j k. cc) i e
 
 pub map-nests : (m : ℕ) (count : Option ℕ) → m ≡ 0 → (ts : List ℕ) (i : Item) → AreSkipped false ts →
-    header_of i ≡ header.Map count → taken_pairs (Some m) (under ts i) ≡ nests
-map-nests m count z ts i all e = ap (λ n. taken_pairs (Some n) (under ts i)) z ∙
-    ap (bare_pairs (Some 0)) (untagged-under ts i) ∙
-    by-shape (λ j. bare_pairs (Some 0) (untagged j) ≡ nests) (header.Map count) (λ n k. cc) (λ n k. cc) (λ o b k. cc)
-    (λ o b k. cc) (λ o is k. cc) (λ o ps k. refl) (λ n k. cc) (λ raw k. cc) (λ t j k. cc) i e
+    header_of i ≡ header.Map count → outcome (Some m) (taken_pairs (under ts i)) ≡ nests
+map-nests m count z ts i all e = ap (λ n. outcome (Some n) (taken_pairs (under ts i))) z ∙
+    ap (λ j. outcome (Some 0) (bare_pairs j)) (untagged-under ts i) ∙
+    by-shape (λ j. outcome (Some 0) (bare_pairs (untagged j)) ≡ nests) (header.Map count) (λ n k. cc) (λ n k. cc)
+    (λ o b k. cc) (λ o b k. cc) (λ o is k. cc) (λ o ps k. refl) (λ n k. cc) (λ raw k. cc) (λ t j k. cc) i e
 
 pub seq-other : (l : Limit) (h : Header) → IsBare false h → ((n : Option ℕ) → h ≡ header.Array n → ⊥) →
     ((n : Option ℕ) → h ≡ header.Bytes n → ⊥) → (ts : List ℕ) (i : Item) → AreSkipped false ts → header_of i ≡ h →
-    taken_seq l (under ts i) ≡ refuses kinds.Array
-seq-other l h bare p q ts i all e = ap (bare_seq l) (untagged-under ts i) ∙
-    by-shape (λ j. bare_seq l (untagged j) ≡ refuses kinds.Array) h (λ n k. refl) (λ n k. refl)
+    outcome l (taken_seq (under ts i)) ≡ refuses kinds.Array
+seq-other l h bare p q ts i all e = ap (λ j. outcome l (bare_seq j)) (untagged-under ts i) ∙
+    by-shape (λ j. outcome l (bare_seq (untagged j)) ≡ refuses kinds.Array) h (λ n k. refl) (λ n k. refl)
     (λ o b k. absurd (q _ k)) (λ o b k. refl) (λ o is k. absurd (p _ k)) (λ o ps k. refl) (λ n k. refl)
     (λ raw k. refl) (λ t j k. no-bare-tag h t bare k) i e
 
 pub map-other : (l : Limit) (h : Header) → IsBare false h → ((n : Option ℕ) → h ≡ header.Map n → ⊥) →
-    (ts : List ℕ) (i : Item) → AreSkipped false ts → header_of i ≡ h → taken_pairs l (under ts i) ≡ refuses kinds.Map
-map-other l h bare p ts i all e = ap (bare_pairs l) (untagged-under ts i) ∙
-    by-shape (λ j. bare_pairs l (untagged j) ≡ refuses kinds.Map) h (λ n k. refl) (λ n k. refl) (λ o b k. refl)
-    (λ o b k. refl) (λ o is k. refl) (λ o ps k. absurd (p _ k)) (λ n k. refl) (λ raw k. refl)
+    (ts : List ℕ) (i : Item) → AreSkipped false ts → header_of i ≡ h →
+    outcome l (taken_pairs (under ts i)) ≡ refuses kinds.Map
+map-other l h bare p ts i all e = ap (λ j. outcome l (bare_pairs j)) (untagged-under ts i) ∙
+    by-shape (λ j. outcome l (bare_pairs (untagged j)) ≡ refuses kinds.Map) h (λ n k. refl) (λ n k. refl)
+    (λ o b k. refl) (λ o b k. refl) (λ o is k. refl) (λ o ps k. absurd (p _ k)) (λ n k. refl) (λ raw k. refl)
     (λ t j k. no-bare-tag h t bare k) i e
 
 -- ---- where the source then stands
@@ -318,10 +327,11 @@ module _ {S W : Type 0} (remaining : S → Option (List ℕ)) (old new : ByteSou
     (fewer : weight_left new < weight_left old) where
   -- what was entered, whatever its parts are: f takes them, and the source stands before them
   parts-stand : {A X : Type 0} (Owes : ByteSeq → List ℕ → List ℕ → Type 0) (SpellsPart : List ℕ → X → Type 0)
-      (Holds : ByteSeq → Form → List X → Type 0) (taken : Taken A) (f : Limit → List X → Outcome A) →
+      (Holds : ByteSeq → Form → List X → Type 0) (taken : Taken A) (f : Form → List X → Steps A) →
       EntersUnread (IsUnread remaining) Owes SpellsPart Holds old new (Some old.levels) (Some new.levels) taken f q →
       (l : Limit) (i : Item) (r : Rest) → StandsBefore remaining old l (item i r) →
-      (form : Form) × (xs : List X) × (taken l i ≡ f (inside form l) xs) × ((w : List ℕ) × IsUnread remaining new w ×
+      (form : Form) × (xs : List X) × (outcome l (taken i) ≡ outcome (inside form l) (f form xs)) ×
+      ((w : List ℕ) × IsUnread remaining new w ×
       ((c : List ℕ) × (t : List ℕ) × AreLeft SpellsPart form c xs × IsRest (reader_of remaining new.decoder) t r ×
       (w ≡ c ++ (ending form ++ t))) × (inside form l ≡ Some new.levels) × (new.pending ≡ None)) ×
       ((l ≡ Some q.levels) × Holds q form xs)
@@ -330,7 +340,7 @@ module _ {S W : Type 0} (remaining : S → Option (List ℕ)) (old new : ByteSou
       let (form, xs, c, give, lv, stand, split, hold) = opens i s t sp e in (
         form,
         xs,
-        ap (λ k. taken k i) is ∙ give ∙ ap (λ k. f (inside form k) xs) (sym is),
+        ap (λ k. outcome k (taken i)) is ∙ give ∙ ap (λ k. outcome (inside form k) (f form xs)) (sym is),
         (
           w,
           un,
@@ -342,18 +352,18 @@ module _ {S W : Type 0} (remaining : S → Option (List ℕ)) (old new : ByteSou
       )
 
   -- the items of what was entered
-  pub items-stand : {A : Type 0} (taken : Taken A) (f : Limit → List Item → Outcome A) →
+  pub items-stand : {A : Type 0} (taken : Taken A) (f : Form → List Item → Steps A) →
       EntersItemsUnread remaining old new taken f q → (l : Limit) (i : Item) (r : Rest) →
       StandsBefore remaining old l (item i r) →
-      (form : Form) × (is : List Item) × (taken l i ≡ f (inside form l) is) ×
+      (form : Form) × (is : List Item) × (outcome l (taken i) ≡ outcome (inside form l) (f form is)) ×
       StandsBefore remaining new (inside form l) (after (parts form is r)) × SeqStands q l (parts form is r)
   items-stand = parts-stand (λ p. SeqOwes p sequence) Spells (λ p. HoldsItems p.left)
 
   -- the pairs
-  pub pairs-stand : {A : Type 0} (taken : Taken A) (f : Limit → List (Item × Item) → Outcome A) →
+  pub pairs-stand : {A : Type 0} (taken : Taken A) (f : Form → List (Item × Item) → Steps A) →
       EntersPairsUnread remaining old new taken f q → (l : Limit) (i : Item) (r : Rest) →
       StandsBefore remaining old l (item i r) →
-      (form : Form) × (ps : List (Item × Item)) × (taken l i ≡ f (inside form l) ps) ×
+      (form : Form) × (ps : List (Item × Item)) × (outcome l (taken i) ≡ outcome (inside form l) (f form ps)) ×
       StandsBefore remaining new (inside form l) (after (pairs form ps r)) × SeqStands q l (pairs form ps r)
   pairs-stand = parts-stand (λ p. SeqOwes p dictionary) SpellsPair (λ p. HoldsPairs p.left)
 
@@ -362,16 +372,16 @@ module _ {S W : Type 0} (remaining : S → Option (List ℕ)) (old new : ByteSou
     (kept : IsKept remaining old new) where
   pub enters : (E : Type 0) (r : Result ByteSeq E) → IfOk r (λ q. q.levels ≡ old.levels) → OnOk r (new.pending ≡ None) →
       IfOk r (λ q. weight_left new + seq_left q < weight_left old) →
-      IfOk r (EntersItemsUnread remaining old new taken_seq (λ l is. gives (l, is))) →
+      IfOk r (EntersItemsUnread remaining old new taken_seq (λ form is. give (takes_level form, is))) →
       IfOk r (λ q. Enters (StandsBefore remaining) SeqStands old new q)
   enters E (Ok q) levels none fewer opens = items-stand remaining old new q kept levels none (omega (arith, fewer))
-      taken_seq (λ l is. gives (l, is)) opens
+      taken_seq (λ form is. give (takes_level form, is)) opens
   enters E (Err e) levels none fewer opens = tt
 
   pub enters-map : (E : Type 0) (r : Result ByteSeq E) → IfOk r (λ q. q.levels ≡ old.levels) →
       OnOk r (new.pending ≡ None) → IfOk r (λ q. weight_left new + seq_left q < weight_left old) →
-      IfOk r (EntersPairsUnread remaining old new taken_pairs (λ l ps. gives (l, ps))) →
+      IfOk r (EntersPairsUnread remaining old new taken_pairs (λ form ps. give (takes_level form, ps))) →
       IfOk r (λ q. EntersMap (StandsBefore remaining) SeqStands old new q)
   enters-map E (Ok q) levels none fewer opens = pairs-stand remaining old new q kept levels none (omega (arith, fewer))
-      taken_pairs (λ l ps. gives (l, ps)) opens
+      taken_pairs (λ form ps. give (takes_level form, ps)) opens
   enters-map E (Err e) levels none fewer opens = tt

@@ -6,7 +6,7 @@ use Rattle.ciborium_ll.specs.declared.header.Header.TheVariants as header
 use Rattle.ciborium_ll.specs.Header.{SpellsHeader}
 use Rattle.ciborium_ll.specs.Item.{Item, tag}
 use Rattle.ciborium_value.specs.Sources.{Completes, Holds, GivesBack, TakesTo}
-use Rattle.ciborium_value.specs.Taken.{Taken, gives, deeper, within_level, outer_tag, taken_outer_tag}
+use Rattle.ciborium_value.specs.Taken.{Taken, gives, deeper, outcome, within_level, outer_tag, taken_outer_tag}
 use Rattle.ciborium.specs.declared.de.byte_source.ByteSource.{ByteSource}
 use Rattle.ciborium.specs.declared.de.byte_source.ByteLevel.{ByteLevel}
 use Rattle.ciborium.specs.inner.ByteSources.{IsUnread, StandsBefore, LevelStands, TakesLevel}
@@ -34,7 +34,7 @@ module _ {S W : Type 0} (remaining : S → Option (List ℕ)) (old new : ByteSou
       let (w, un, leads) = h b u in
       let (j, t, give, sq, split) = leads.inward i s r sp e in (
         j,
-        ap (λ k. taken k i) is ∙ give,
+        ap (λ k. outcome k (taken i)) is ∙ give,
         (
           w,
           un,
@@ -100,7 +100,7 @@ module _ {S : Type 0} (IsUnread : S → List ℕ → Type 0) (old mid new : S) (
 -- no level is left for it
 pub tag-nests : {S : Type 0} (IsUnread : S → List ℕ → Type 0) (End : S → ℕ) (old : S) (m : ℕ) → m ≡ 0 →
     Denies IsUnread End old (Some m) taken_outer_tag Rattle.ciborium_value.specs.Sources.of_nesting
-tag-nests IsUnread End old m none b s z i u sp e = ap (λ n. within_level (Some n) (gives (outer_tag i))) none
+tag-nests IsUnread End old m none b s z i end u sp e fits = ap (λ n. within_level (Some n) (gives (outer_tag i))) none
 
 pub ok-map-two : {T E : Type 0} {N P Q : T → Type 0} (r : Result T E) → IfOk r N → IfOk r P →
     ((v : T) → N v → P v → Q v) → IfOk r Q

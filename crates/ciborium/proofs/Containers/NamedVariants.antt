@@ -1,6 +1,6 @@
 -- Names, and variants that are entered by theirs.
 use Rattle.std.proofs.Common.{◌≡◌, ◌≢◌, ℕ, Bool, true, false, List, [], ◌∷◌, ◌++◌, Option, Some, None, refl, sym, ap}
-use Rattle.std.proofs.Common.{◌∙◌, subst, append_assoc, append-nil, arith, inl}
+use Rattle.std.proofs.Common.{◌∙◌, subst, append_assoc, append-nil, arith, inl, length-append}
 use Rattle.std.specs.Str.{is_utf8, IsUtf8}
 use Rattle.std.proofs.lemmas.Str.{IsUtf8-from_is_utf8, is_utf8-from_IsUtf8}
 use Rattle.ciborium_ll.specs.declared.header.Header.{Header}
@@ -17,7 +17,7 @@ use Rattle.ciborium_ll.proofs.OneHeader.{one_header_at_front}
 use Rattle.ciborium_value.specs.Nesting.{Limit}
 use Rattle.ciborium_value.specs.Sources.{Fault, IsFaultOf, of_kind}
 use Rattle.ciborium_value.specs.Taken.{gives, refuses, nests, deeper, untagged, outcome_map, taken_name, bare_name}
-use Rattle.ciborium_value.specs.Taken.{taken_variant, bare_variant}
+use Rattle.ciborium_value.specs.Taken.{taken_variant, bare_variant, outcome, settled}
 use Rattle.ciborium_value.specs.declared.kind.Kind.TheVariants as kinds
 use Rattle.ciborium_value.proofs.Sources.Sequences.{fault_map}
 use Rattle.ciborium.specs.inner.ByteSources.{IsUnreadBy}
@@ -33,9 +33,9 @@ use Rattle.ciborium.proofs.Items.SkippedTags.{untagged-under}
 
 -- a byte string that is UTF-8 is a name
 pub bytes-name : (ts : List ℕ) (l : Limit) (open_ : Bool) (b : List ℕ) → IsUtf8 b →
-    taken_name l (under ts (bytes open_ b)) ≡ gives b
-bytes-name ts l open_ b u = let t = is_utf8-from_IsUtf8 b u in ap bare_name (untagged-under ts (bytes open_ b)) ∙
-    (rw t refl)
+    outcome l (taken_name (under ts (bytes open_ b))) ≡ gives b
+bytes-name ts l open_ b u = let t = is_utf8-from_IsUtf8 b u in
+    ap (λ j. settled (bare_name j)) (untagged-under ts (bytes open_ b)) ∙ (rw t refl)
 
 utf8-not : (b : List ℕ) → (IsUtf8 b → ⊥) → (t : Bool) → is_utf8 b ≡ t → is_utf8 b ≡ false
 utf8-not b n true e = absurd (n (IsUtf8-from_is_utf8 b e))
@@ -46,21 +46,21 @@ pub bytes-no-name : {S : Type 0} (IsUnread : S → List ℕ → Type 0) (End : S
     (l : Limit) (payload : List ℕ) → (IsUtf8 payload → ⊥) → TakesBare IsUnread old mid false (header.Bytes len) →
     TakesContent (IsUnread mid) (IsUnread new) of_bytes len payload →
     Denies IsUnread End old l taken_name (of_kind kinds.Name)
-bytes-no-name IsUnread End old mid new len l payload not bare content b s z j u sp e =
+bytes-no-name IsUnread End old mid new len l payload not bare content b s z j end u sp e fits =
     let bad = utf8-not payload not (is_utf8 payload) refl in
     let (ts, w, x, y, tagged, all, hd, g, un) = bare b u in
     let (c, r, make, f, un') = content y un in
     let (i, t, io, sq, k) = tagged.inward j s z sp e in
     let one = one_at_front t (x ++ c) z r i (bytes (is_open len) payload) sq (make x hd)
     (sym k ∙ g ∙ ap (λ (q : List ℕ). x ++ q) f ∙ sym (append_assoc x c r)) in
-    ap bare_name (ap untagged io ∙ untagged-under ts i ∙ ap untagged one.2) ∙ (rw bad refl)
+    ap (λ j. settled (bare_name j)) (ap untagged io ∙ untagged-under ts i ∙ ap untagged one.2) ∙ (rw bad refl)
 
 pub name-other : (l : Limit) (h : Header) → IsBare false h → ((n : Option ℕ) → h ≡ header.Text n → ⊥) →
     ((n : Option ℕ) → h ≡ header.Bytes n → ⊥) → (ts : List ℕ) (i : Item) → AreSkipped false ts → header_of i ≡ h →
-    taken_name l (under ts i) ≡ refuses kinds.Name
-name-other l h bare p q ts i all e = ap bare_name (untagged-under ts i) ∙
-    by-shape (λ j. bare_name (untagged j) ≡ refuses kinds.Name) h (λ n k. refl) (λ n k. refl) (λ o b k. absurd (q _ k))
-    (λ o b k. absurd (p _ k)) (λ o is k. refl) (λ o ps k. refl) (λ n k. refl) (λ raw k. refl)
+    outcome l (taken_name (under ts i)) ≡ refuses kinds.Name
+name-other l h bare p q ts i all e = ap (λ j. settled (bare_name j)) (untagged-under ts i) ∙
+    by-shape (λ j. settled (bare_name (untagged j)) ≡ refuses kinds.Name) h (λ n k. refl) (λ n k. refl)
+    (λ o b k. absurd (q _ k)) (λ o b k. absurd (p _ k)) (λ o is k. refl) (λ o ps k. refl) (λ n k. refl) (λ raw k. refl)
     (λ t j k. no-bare-tag h t bare k) i e
 
 -- ---- variants
@@ -96,7 +96,7 @@ module _ {S : Type 0} (IsUnread : S → List ℕ → Type 0) (old mid new : S) (
       let spelled : Spells (x ++ c) what = make x hd in
       let split : w ≡ (x ++ c) ++ z = e ∙ ap (λ (r : List ℕ). x ++ r) f ∙ sym (append_assoc x c z) in
       let null : Spells (0xf6 ∷ []) (simple 22) = null-head in
-      let gave : bare_variant (Some m) (untagged what) ≡ gives (name, simple 22) =
+      let gave : outcome (Some m) (bare_variant (untagged what)) ≡ gives (name, simple 22) =
       within-is m (gives (name, simple 22)) some in (
         0xf6 ∷ z,
         un',
@@ -110,7 +110,7 @@ module _ {S : Type 0} (IsUnread : S → List ℕ → Type 0) (old mid new : S) (
               let one = one_at_front s (x ++ c) r z i what sq spelled (sym k ∙ split) in (
                 simple 22,
                 0xf6 ∷ [],
-                ap (bare_variant (Some m))
+                ap (λ j. outcome (Some m) (bare_variant j))
                     (ap untagged io ∙ untagged-under ts i ∙ ap untagged one.2) ∙ gave,
                 null,
                 ap (λ (q : List ℕ). 0xf6 ∷ q) (sym one.1),
@@ -151,7 +151,7 @@ module _ {S : Type 0} (IsUnread : S → List ℕ → Type 0) (old mid inner new 
   pair-opened name bare key b u =
       let (ts, w, x, y, tagged, all, hd, e, un) = bare b u in
       let (k, a, z, ska, f, give, un') = key y (keeps y un) in
-      let gave : (v : Item) → bare_variant (Some m) (items.map false (pair k v no_pairs)) ≡ gives (name, v) =
+      let gave : (v : Item) → outcome (Some m) (bare_variant (items.map false (pair k v no_pairs))) ≡ gives (name, v) =
       λ v. within-is m _ some ∙ ap (outcome_map (λ n. (n, v))) give in (
         z,
         un',
@@ -168,7 +168,7 @@ module _ {S : Type 0} (IsUnread : S → List ℕ → Type 0) (old mid inner new 
               let one = one_at_front a' a (d ++ r) z k' k ska' ska (sym p ∙ f) in (
                 v,
                 d,
-                ap (bare_variant (Some m)) (ap untagged io ∙ untagged-under ts i ∙ ap untagged im ∙
+                ap (λ j. outcome (Some m) (bare_variant j)) (ap untagged io ∙ untagged-under ts i ∙ ap untagged im ∙
                     ap (λ n. items.map false (pair n v no_pairs)) one.2) ∙ gave v,
                 sdv,
                 sym one.1,
@@ -181,53 +181,53 @@ module _ {S : Type 0} (IsUnread : S → List ℕ → Type 0) (old mid inner new 
       TakesBare IsUnread old mid false (header.Map (Some 1)) →
       Denies IsUnread End inner (deeper (Some m)) taken_name fault →
       Denies IsUnread End old (Some m) taken_variant fault
-  key-denied End fault same bare denied b s z j u sp e =
+  key-denied End fault same bare denied b s z j end u sp e fits =
       let (ts, w, x, y, tagged, all, hd, f, un) = bare b u in
       let (i, t, io, sq, g) = tagged.inward j s z sp e in
       let (k, v, a, c, im, ska, scv, p) = pair-front t z x y i sq hd (sym g ∙ f) in
-      let blamed : IsFaultOf (End old) fault (taken_name (deeper (Some m)) k) =
-      subst (λ n. IsFaultOf n fault (taken_name (deeper (Some m)) k)) (same b u)
-      (denied y a (c ++ z) k (keeps y un) ska p) in
-      subst (IsFaultOf (End old) fault) (sym (ap (bare_variant (Some m))
+      let more = length-append c z in
+      let all = same b u in
+      let blamed = denied y a (c ++ z) k end (keeps y un) ska p (omega (arith, all, more, fits)) in
+      subst (IsFaultOf end fault) (sym (ap (λ j. outcome (Some m) (bare_variant j))
       (ap untagged io ∙ untagged-under ts i ∙ ap untagged im) ∙ within-is m _ some))
-      (fault_map _ fault (λ n. (n, v)) (taken_name (deeper (Some m)) k) blamed)
+      (fault_map end fault (λ n. (n, v)) (outcome (deeper (Some m)) (taken_name k)) blamed)
 
 -- ---- what is refused
 
 pair-only : (o : Bool) (ps : Pairs) → ◌≡◌ {A = Header} (header.Map (Some 1)) (header.Map (size_of o (pairs_count ps))) →
-    bare_variant (Some 0) (items.map o ps) ≡ nests
+    outcome (Some 0) (bare_variant (items.map o ps)) ≡ nests
 pair-only true ps e = cc
 pair-only false no_pairs e = cc
 pair-only false (pair k v no_pairs) e = refl
 pair-only false (pair k v (pair k' v' ps)) e = cc
 
 other-pairs : (l : Limit) (h : Header) → (h ≡ header.Map (Some 1) → ⊥) → (o : Bool) (ps : Pairs) →
-    h ≡ header.Map (size_of o (pairs_count ps)) → bare_variant l (items.map o ps) ≡ refuses kinds.Variant
+    h ≡ header.Map (size_of o (pairs_count ps)) → outcome l (bare_variant (items.map o ps)) ≡ refuses kinds.Variant
 other-pairs l h q true ps e = refl
 other-pairs l h q false no_pairs e = refl
 other-pairs l h q false (pair k v no_pairs) e = absurd (q e)
 other-pairs l h q false (pair k v (pair k' v' ps)) e = refl
 
 pub text-nests : (m : ℕ) (len : Option ℕ) → m ≡ 0 → (ts : List ℕ) (i : Item) → AreSkipped false ts →
-    header_of i ≡ header.Text len → taken_variant (Some m) (under ts i) ≡ nests
-text-nests m len z ts i all e = ap (λ n. taken_variant (Some n) (under ts i)) z ∙
-    ap (bare_variant (Some 0)) (untagged-under ts i) ∙
-    by-shape (λ j. bare_variant (Some 0) (untagged j) ≡ nests) (header.Text len) (λ n k. cc) (λ n k. cc) (λ o b k. cc)
-    (λ o b k. refl) (λ o is k. cc) (λ o ps k. cc) (λ n k. cc) (λ raw k. cc) (λ t j k. cc) i e
+    header_of i ≡ header.Text len → outcome (Some m) (taken_variant (under ts i)) ≡ nests
+text-nests m len z ts i all e = ap (λ n. outcome (Some n) (taken_variant (under ts i))) z ∙
+    ap (λ j. outcome (Some 0) (bare_variant j)) (untagged-under ts i) ∙
+    by-shape (λ j. outcome (Some 0) (bare_variant (untagged j)) ≡ nests) (header.Text len) (λ n k. cc) (λ n k. cc)
+    (λ o b k. cc) (λ o b k. refl) (λ o is k. cc) (λ o ps k. cc) (λ n k. cc) (λ raw k. cc) (λ t j k. cc) i e
 
 pub pair-nests : (m : ℕ) → m ≡ 0 → (ts : List ℕ) (i : Item) → AreSkipped false ts → header_of i ≡ header.Map (Some 1) →
-    taken_variant (Some m) (under ts i) ≡ nests
-pair-nests m z ts i all e = ap (λ n. taken_variant (Some n) (under ts i)) z ∙
-    ap (bare_variant (Some 0)) (untagged-under ts i) ∙
-    by-shape (λ j. bare_variant (Some 0) (untagged j) ≡ nests) (header.Map (Some 1)) (λ n k. cc) (λ n k. cc)
+    outcome (Some m) (taken_variant (under ts i)) ≡ nests
+pair-nests m z ts i all e = ap (λ n. outcome (Some n) (taken_variant (under ts i))) z ∙
+    ap (λ j. outcome (Some 0) (bare_variant j)) (untagged-under ts i) ∙
+    by-shape (λ j. outcome (Some 0) (bare_variant (untagged j)) ≡ nests) (header.Map (Some 1)) (λ n k. cc) (λ n k. cc)
     (λ o b k. cc) (λ o b k. cc) (λ o is k. cc) pair-only (λ n k. cc) (λ raw k. cc) (λ t j k. cc) i e
 
 pub variant-other : (l : Limit) (h : Header) → IsBare false h → ((n : Option ℕ) → h ≡ header.Text n → ⊥) →
     (h ≡ header.Map (Some 1) → ⊥) → (ts : List ℕ) (i : Item) → AreSkipped false ts → header_of i ≡ h →
-    taken_variant l (under ts i) ≡ refuses kinds.Variant
-variant-other l h bare p q ts i all e = ap (bare_variant l) (untagged-under ts i) ∙
-    by-shape (λ j. bare_variant l (untagged j) ≡ refuses kinds.Variant) h (λ n k. refl) (λ n k. refl) (λ o b k. refl)
-    (λ o b k. absurd (p _ k)) (λ o is k. refl) (other-pairs l h q) (λ n k. refl) (λ raw k. refl)
+    outcome l (taken_variant (under ts i)) ≡ refuses kinds.Variant
+variant-other l h bare p q ts i all e = ap (λ j. outcome l (bare_variant j)) (untagged-under ts i) ∙
+    by-shape (λ j. outcome l (bare_variant (untagged j)) ≡ refuses kinds.Variant) h (λ n k. refl) (λ n k. refl)
+    (λ o b k. refl) (λ o b k. absurd (p _ k)) (λ o is k. refl) (other-pairs l h q) (λ n k. refl) (λ raw k. refl)
     (λ t j k. no-bare-tag h t bare k) i e
 
 pub map-no-text : (h : Header) (count : Option ℕ) → h ≡ header.Map count → (n : Option ℕ) → h ≡ header.Text n → ⊥

@@ -1,5 +1,5 @@
 -- The next part of a container that is read, or its end.
-use Rattle.std.proofs.Common.{◌≡◌, ◌≤◌, ◌≢◌, ℕ, suc, ◌-◌, ◌<◌, Bool, false, is_some, List, [], ◌∷◌, ◌++◌, length}
+use Rattle.std.proofs.Common.{◌≡◌, ◌≤◌, ◌≢◌, ℕ, suc, ◌+◌, ◌-◌, ◌<◌, Bool, false, is_some, List, [], ◌∷◌, ◌++◌, length}
 use Rattle.std.proofs.Common.{map, Option, Some, None, refl, sym, ap, ◌∙◌, subst, append_assoc, append-nil, arith, inl}
 use Rattle.std.proofs.Common.{inr, ◌⊎◌, length-append}
 use Rattle.std.specs.Vec.Iter.{into_iter_items}
@@ -11,18 +11,16 @@ use Rattle.ciborium_ll.specs.Item.{Item, unsigned}
 use Rattle.ciborium_ll.specs.Spells.{Spells}
 use Rattle.ciborium_ll.proofs.OneHeader.{one_header_at_front}
 use Rattle.ciborium_ll.proofs.UniqueSpelling.{one_at_front}
-use Rattle.ciborium_value.specs.Ahead.{Form, Rest, bottom, parts, pairs, entry, held, item, past, inside}
+use Rattle.ciborium_value.specs.Ahead.{Form, Rest, bottom, parts, pairs, entry, held, item, past, inside, end_of}
 use Rattle.ciborium_value.specs.Nesting.{Limit}
 use Rattle.ciborium_value.specs.Places.{Shape, sequence, dictionary}
-use Rattle.ciborium_value.specs.Sources.{Fault, IsOutsideFault, HasItem, HasPart, GoesOn, Leaves, RefusesNext, OwesLess}
-use Rattle.ciborium_value.specs.Sources.{OwesNothing}
+use Rattle.ciborium_value.specs.Sources.{Fault, HasItem, HasPart, GoesOn, Leaves, RefusesNext, OwesLess, OwesNothing}
 use Rattle.ciborium.specs.declared.de.byte_source.ByteSource.{ByteSource}
 use Rattle.ciborium.specs.declared.de.byte_source.ByteSeq.{ByteSeq}
 use Rattle.ciborium.specs.declared.de.byte_source.Left.TheVariants as left
 use Rattle.ciborium.specs.inner.ByteSources.{IsHeadCounted, IsUnread, IsUnreadBy, StandsBefore, SeqStands}
 use Rattle.ciborium.specs.inner.ByteSources.{HasNoneBehind, HoldsItems, HoldsPairs, HoldsParts, SeqOwes, LeftOwes}
-use Rattle.ciborium.specs.inner.ByteSources.{OwesParts}
-use Rattle.ciborium.specs.inner.ByteSources.{end_at, reader_of}
+use Rattle.ciborium.specs.inner.ByteSources.{OwesParts, end_at, reader_of}
 use Rattle.ciborium.specs.inner.FrontItems.{TakesHead, DeniesHead}
 use Rattle.ciborium.specs.inner.Unread.{AreSpelled, AreLeft, SpellsPair, FitsAhead, IsRest, ending, form_of, HasCount}
 use Rattle.ciborium_ll.specs.Decoding.{left_of}
@@ -64,6 +62,12 @@ HasNext {X} SpellsPart rest xs b r =
     (x : X) × (ys : List X) × (xs ≡ x ∷ ys) × ((a : List ℕ) × (c : List ℕ) × SpellsPart a x ×
     AreLeft SpellsPart (form_of rest) c ys × (b ≡ a ++ (c ++ (ending (form_of rest) ++ r)))) × HasCount rest ys
 
+-- of the parts left up to a break none is next, and the break stands at the front of b; or one is, which begins with an
+-- item, and r stands somewhere behind that
+abbrev IsFront : {X : Type 0} → (List ℕ → X → Type 0) → List X → List ℕ → List ℕ → Type 0
+IsFront SpellsPart xs b r = ((xs ≡ []) × (b ≡ break_byte ∷ r)) ⊎ (HasNext SpellsPart None xs b r ×
+    ((i : Item) × (t : List ℕ) × (z : List ℕ) × Spells t i × (b ≡ t ++ z) × (length r ≤ length z)))
+
 module _ {X : Type 0} (SpellsPart : List ℕ → X → Type 0) where
   counted-next : (n : ℕ) (form : Form) (xs : List X) (s r b : List ℕ) → n ≢ 0 → HoldsParts (Some n) form xs →
       AreLeft SpellsPart form s xs → b ≡ s ++ (ending form ++ r) → HasNext SpellsPart (Some (n - 1)) xs b r
@@ -93,21 +97,19 @@ module _ {X : Type 0} (SpellsPart : List ℕ → X → Type 0) where
   module _ (begins : BeginsWithItem SpellsPart) where
     -- what stands at the front where parts are left up to a break: the break, or a head that is another one
     open-front : (form : Form) (xs : List X) (s r b : List ℕ) → HoldsParts None form xs → AreLeft SpellsPart form s xs →
-        b ≡ s ++ (ending form ++ r) →
-        ((xs ≡ []) × (b ≡ break_byte ∷ r)) ⊎ (HasNext SpellsPart None xs b r ×
-        ((i : Item) × (t : List ℕ) × (z : List ℕ) × Spells t i × (b ≡ t ++ z)))
+        b ≡ s ++ (ending form ++ r) → IsFront SpellsPart xs b r
     unfolding BeginsWithItem
     open-front form xs s r b (is, any) left e = by xs (subst (λ k. AreLeft SpellsPart k s xs) is left)
         (e ∙ ap (λ k. s ++ (ending k ++ r)) is)
       where
-        by : (xs : List X) → AreSpelled SpellsPart s xs → b ≡ s ++ (break_byte ∷ r) →
-            ((xs ≡ []) × (b ≡ break_byte ∷ r)) ⊎ (HasNext SpellsPart None xs b r ×
-            ((i : Item) × (t : List ℕ) × (z : List ℕ) × Spells t i × (b ≡ t ++ z)))
+        by : (xs : List X) → AreSpelled SpellsPart s xs → b ≡ s ++ (break_byte ∷ r) → IsFront SpellsPart xs b r
         by [] left e = inl (refl, e ∙ ap (λ (z : List ℕ). z ++ (break_byte ∷ r)) left)
         by (x ∷ ys) (a, c, sp, sps, g) e =
             let split : b ≡ a ++ (c ++ (break_byte ∷ r)) = e ∙ ap (λ (z : List ℕ). z ++ (break_byte ∷ r)) g ∙
             append_assoc a c (break_byte ∷ r) in
             let (i, t, u, sq, h) = begins a x sp in
+            let all = length-append u (c ++ (break_byte ∷ r)) in
+            let more : length (c ++ (break_byte ∷ r)) ≡ length c + suc (length r) = length-append c (break_byte ∷ r) in
             inr (
               (x, ys, refl, (a, c, sp, sps, split), tt),
               (
@@ -117,6 +119,7 @@ module _ {X : Type 0} (SpellsPart : List ℕ → X → Type 0) where
                 sq,
                 split ∙ ap (λ (z : List ℕ). z ++ (c ++ (break_byte ∷ r))) h ∙
                     append_assoc t u (c ++ (break_byte ∷ r)),
+                omega (arith, all, more),
               ),
             )
 
@@ -125,14 +128,13 @@ module _ {X : Type 0} (SpellsPart : List ℕ → X → Type 0) where
         (xs ≡ []) × (y ≡ r)
     open-end form xs s r b x y hold left e hd f = by (open-front form xs s r b hold left e)
       where
-        by : ((xs ≡ []) × (b ≡ break_byte ∷ r)) ⊎ (HasNext SpellsPart None xs b r ×
-            ((i : Item) × (t : List ℕ) × (z : List ℕ) × Spells t i × (b ≡ t ++ z))) → (xs ≡ []) × (y ≡ r)
+        by : IsFront SpellsPart xs b r → (xs ≡ []) × (y ≡ r)
         by (inl (none, g)) = (
           none,
           (one_header_at_front x (break_byte ∷ []) y r header.Break header.Break hd refl
               (sym f ∙ g)).1,
         )
-        by (inr (next, (i, t, z, sp, g))) = absurd (no-break-head i
+        by (inr (next, (i, t, z, sp, g, less))) = absurd (no-break-head i
             (same-head t z x y i header.Break sp hd (sym g ∙ f)).0)
 
     open-next : (form : Form) (xs : List X) (s r b x y : List ℕ) (h : Header) → HoldsParts None form xs →
@@ -140,8 +142,7 @@ module _ {X : Type 0} (SpellsPart : List ℕ → X → Type 0) where
         HasNext SpellsPart None xs b r
     open-next form xs s r b x y h hold left e hd other f = by (open-front form xs s r b hold left e)
       where
-        by : ((xs ≡ []) × (b ≡ break_byte ∷ r)) ⊎ (HasNext SpellsPart None xs b r ×
-            ((i : Item) × (t : List ℕ) × (z : List ℕ) × Spells t i × (b ≡ t ++ z))) → HasNext SpellsPart None xs b r
+        by : IsFront SpellsPart xs b r → HasNext SpellsPart None xs b r
         by (inl (none, g)) = absurd (other (one_header_at_front x (break_byte ∷ []) y r h header.Break hd refl
             (sym f ∙ g)).2)
         by (inr (next, first)) = next
@@ -149,21 +150,21 @@ module _ {X : Type 0} (SpellsPart : List ℕ → X → Type 0) where
     -- some head stands there
     open-head : (form : Form) (xs : List X) (s r b : List ℕ) → HoldsParts None form xs → AreLeft SpellsPart form s xs →
         b ≡ s ++ (ending form ++ r) → (h : Header) × (x : List ℕ) × (y : List ℕ) × SpellsHeader x h × (b ≡ x ++ y) ×
-        (announced_length h ≤ length y)
+        (announced_length h + length r ≤ length y)
     open-head form xs s r b hold left e = by (open-front form xs s r b hold left e)
       where
-        by : ((xs ≡ []) × (b ≡ break_byte ∷ r)) ⊎ (HasNext SpellsPart None xs b r ×
-            ((i : Item) × (t : List ℕ) × (z : List ℕ) × Spells t i × (b ≡ t ++ z))) → (h : Header) × (x : List ℕ) ×
-            (y : List ℕ) × SpellsHeader x h × (b ≡ x ++ y) × (announced_length h ≤ length y)
+        by : IsFront SpellsPart xs b r → (h : Header) × (x : List ℕ) × (y : List ℕ) × SpellsHeader x h ×
+            (b ≡ x ++ y) × (announced_length h + length r ≤ length y)
         by (inl (none, g)) = (header.Break, break_byte ∷ [], r, refl, g, omega arith)
-        by (inr (next, (i, t, z, sp, g))) =
+        by (inr (next, (i, t, z, sp, g, less))) =
             let (x, y, hd, w) = first-head t i sp in (
               header_of i,
               x,
               y ++ z,
               hd,
               g ∙ ap (λ (k : List ℕ). k ++ z) w ∙ append_assoc x y z,
-              (let there = first-payload t i sp in let more = length-append y z in omega (arith, there, more)),
+              (let there = first-payload t i sp in let more = length-append y z in
+                  omega (arith, there, more, less)),
             )
 
 -- ---- where the source stands before the next part
@@ -416,13 +417,11 @@ module _ {S W : Type 0} (remaining : S → Option (List ℕ)) where
     λ l form its f (b, u, (s, r, stand, rest, e), lv, ahead) (lq, hold).
         let (h, x, y, hd, g, there) = open-head Spells item-begins form its s r b
         (subst (λ k. HoldsItems k form its) is hold) stand e in
-        subst (λ n. IsOutsideFault n fault) (sym (rest-end (reader_of remaining old.decoder) r f rest))
-        (denied b x y h u hd g there),
+        denied b x y h (length r) (end_of f) u hd g there (rest-end (reader_of remaining old.decoder) r f rest),
     λ l form its f (b, u, (s, r, stand, rest, e), lv, ahead) (lq, hold).
         let (h, x, y, hd, g, there) = open-head SpellsPair pair-begins form its s r b
         (subst (λ k. HoldsPairs k form its) is hold) stand e in
-        subst (λ n. IsOutsideFault n fault) (sym (rest-end (reader_of remaining old.decoder) r f rest))
-        (denied b x y h u hd g there),
+        denied b x y h (length r) (end_of f) u hd g there (rest-end (reader_of remaining old.decoder) r f rest),
   )
 
 pub less-open : (P Q : List ℕ → Type 0) (q q' : ByteSeq) → q.left ≡ left.Open → q'.left ≡ left.Open →

@@ -1,14 +1,14 @@
 -- A head that is looked at and not taken.
 use Rattle.std.proofs.Common.{◌≡◌, ℕ, Bool, List, ◌++◌, Option, Some, refl, sym, ap, ◌∙◌, subst}
-use Rattle.std.proofs.Common.{append_assoc, arith, length-append}
+use Rattle.std.proofs.Common.{append_assoc, arith, length, length-append}
 use Rattle.ciborium_ll.specs.declared.header.Header.{Header}
 use Rattle.ciborium_ll.specs.Header.{SpellsHeader}
 use Rattle.ciborium_ll.specs.Item.{Item, simple}
-use Rattle.ciborium_value.specs.Sources.{Fault, IsOutsideFault, RefusesToTell, TakesNothing, Tells}
+use Rattle.ciborium_value.specs.Ahead.{end_of}
+use Rattle.ciborium_value.specs.Sources.{Fault, RefusesToTell, TakesNothing, Tells}
 use Rattle.ciborium_value.specs.Taken.{is_null}
 use Rattle.ciborium.specs.declared.de.byte_source.ByteSource.{ByteSource}
-use Rattle.ciborium.specs.inner.ByteSources.{IsUnread, StandsBefore}
-use Rattle.ciborium.specs.inner.ByteSources.{end_at, reader_of, tells_null}
+use Rattle.ciborium.specs.inner.ByteSources.{IsUnread, StandsBefore, end_at, reader_of, tells_null}
 use Rattle.ciborium.specs.inner.FrontItems.{TakesHead, DeniesHead}
 use Rattle.ciborium.specs.inner.Unread.{IsRest}
 use Rattle.ciborium.proofs.Items.ItemHeads.{header_of, first-head, first-payload, same-head}
@@ -56,6 +56,6 @@ refuses-to-tell remaining old fault denied l i f (b, u, (s, r, sp, rest, e), is,
     let (x, y, hd, g) = first-head s i sp in
     let there = first-payload s i sp in
     let more = length-append y r in
-    subst (λ n. IsOutsideFault n fault) (sym (rest-end (reader_of remaining old.decoder) r f rest))
-    (denied b x (y ++ r) (header_of i) u hd (e ∙ ap (λ (k : List ℕ). k ++ r) g ∙ append_assoc x y r)
-    (omega (arith, there, more)))
+    denied b x (y ++ r) (header_of i) (length r) (end_of f) u hd
+    (e ∙ ap (λ (k : List ℕ). k ++ r) g ∙ append_assoc x y r) (omega (arith, there, more))
+    (rest-end (reader_of remaining old.decoder) r f rest)

@@ -4,17 +4,14 @@ use Rattle.std.proofs.Common.{inr, refl}
 use Rattle.std.specs.declared.io.Error.{Error as IoError}
 use Rattle.ciborium_ll.specs.Refusal as refusal
 use Rattle.ciborium_ll.specs.Refusal.{Refusal}
-use Rattle.ciborium_ll.proofs.UniqueSpelling.{one_at_front}
-use Rattle.ciborium_value.specs.Meaning.{meaning}
 use Rattle.ciborium_value.specs.Refuses.{Refuses}
-use Rattle.ciborium_value.specs.Tree.{Tree}
+use Rattle.ciborium_value.specs.Spelling.{any}
 use Rattle.ciborium_value.specs.View.{tree_of}
-use Rattle.ciborium_value.proofs.GoodItems.Outcome.{never_both, one_refusal}
+use Rattle.ciborium_value.proofs.GoodItems.Outcome.{never_both, one_reading, one_refusal}
 use Rattle.ciborium.specs.declared.de.error.Error.{Error}
 use Rattle.ciborium.specs.declared.de.error.Error.TheVariants as errors
 use Rattle.ciborium.specs.laws.AnswerLaws.{refusal_of, OneAnswer}
-use Rattle.ciborium.specs.ValueAnswers.{IsFailed}
-use Rattle.ciborium.specs.Errors.{IsRefusedBy, IsNamed, refusal_kind_of}
+use Rattle.ciborium.specs.ValueAnswers.{IsFailed, IsRefusedBy, IsNamed, refusal_kind_of}
 use Rattle.ciborium.proofs.Readers.Outcomes.{only-fails}
 
 -- an error is a failure, or names a refusal of which P holds
@@ -38,25 +35,24 @@ names left errors.RecursionLimitExceeded P h = inr (refusal.recursion_limit_exce
 names left errors.Memory P h = inl tt
 names left errors.TooLong P h = inr (refusal.too_long, refl, h)
 
-some-tree : (v w : Tree) → Some v ≡ Some w → v ≡ w
-some-tree v w e = cc e
-
 pub one_answer : OneAnswer
-one_answer b l left right (Ok v) (Ok w) bytes (s, zs, (i, good, means), split, at) (t, ys, (j, fine, same), whole, here)
-    =
-    let one = one_at_front s t zs ys i j good.0 fine.0 (sym split ∙ whole) in
-    (some-tree (tree_of v) (tree_of w) (sym means ∙ ap meaning one.2 ∙ same), at ∙ ap (λ z. Some z) one.1 ∙ sym here)
-one_answer b l left right (Ok v) (Err f) bytes (s, zs, (i, good, means), split, at) h =
-    only-fails right f (λ r. Refuses b 0 (Some l) r) (λ r. never_both b 0 (Some l) r bytes (s, i, zs, good, split)) h
-one_answer b l left right (Err e) (Ok w) bytes h (t, ys, (j, fine, same), whole, here) =
-    only-fails left e (λ r. Refuses b 0 (Some l) r) (λ r. never_both b 0 (Some l) r bytes (t, j, ys, fine, whole)) h
-one_answer b l left right (Err e) (Err f) bytes h k = by (names left e (λ r. Refuses b 0 (Some l) r) h)
-    (names right f (λ r. Refuses b 0 (Some l) r) k)
+one_answer b l left right (Ok v) (Ok w) bytes (s, zs, good, split, at) (t, ys, fine, whole, here) =
+    let one = one_reading any s t zs ys 0 (Some l) (tree_of v) (tree_of w) good fine (sym split ∙ whole) in
+    (one.0, at ∙ ap (λ z. Some z) one.2 ∙ sym here)
+one_answer b l left right (Ok v) (Err f) bytes (s, zs, good, split, at) h =
+    only-fails right f (λ r. Refuses any b 0 (Some l) r)
+    (λ r. never_both any b 0 (Some l) r bytes (s, tree_of v, zs, good, split)) h
+one_answer b l left right (Err e) (Ok w) bytes h (t, ys, fine, whole, here) =
+    only-fails left e (λ r. Refuses any b 0 (Some l) r)
+    (λ r. never_both any b 0 (Some l) r bytes (t, tree_of w, ys, fine, whole)) h
+one_answer b l left right (Err e) (Err f) bytes h k = by (names left e (λ r. Refuses any b 0 (Some l) r) h)
+    (names right f (λ r. Refuses any b 0 (Some l) r) k)
   where
-    by : IsFailed left e ⊎ ((r : Refusal) × (refusal_of e ≡ Some r) × Refuses b 0 (Some l) r) →
-        IsFailed right f ⊎ ((r : Refusal) × (refusal_of f ≡ Some r) × Refuses b 0 (Some l) r) →
+    by : IsFailed left e ⊎ ((r : Refusal) × (refusal_of e ≡ Some r) × Refuses any b 0 (Some l) r) →
+        IsFailed right f ⊎ ((r : Refusal) × (refusal_of f ≡ Some r) × Refuses any b 0 (Some l) r) →
         IsFailed left e ⊎ IsFailed right f ⊎ (refusal_of e ≡ refusal_of f)
     by (inl x) y = inl x
     by (inr x) (inl y) = inr (inl y)
-    by (inr (r, is, x)) (inr (s, at, y)) = inr (inr (is ∙ ap (λ z. Some z) (one_refusal b 0 (Some l) r s bytes x y) ∙
+    by (inr (r, is, x)) (inr (s, at, y)) = inr (inr (is ∙ ap (λ z. Some z) (one_refusal any b 0 (Some l) r s bytes x y)
+        ∙
         sym at))

@@ -4,7 +4,7 @@ use Rattle.ciborium_ll.specs.declared.header.Header.{Header}
 use Rattle.ciborium_ll.specs.Item.{Item}
 use Rattle.ciborium_ll.specs.StringRefusal.{StringKind}
 use Rattle.ciborium_value.specs.Sources.{Fault, TakesOnly, of_kind}
-use Rattle.ciborium_value.specs.Taken.{Taken, gives, nests, refuses}
+use Rattle.ciborium_value.specs.Taken.{Taken, gives, nests, outcome, refuses}
 use Rattle.ciborium_value.specs.declared.kind.Kind.{Kind}
 use Rattle.ciborium.specs.declared.de.byte_source.ByteSource.{ByteSource}
 use Rattle.ciborium.specs.declared.de.error.Error.{Error}
@@ -30,15 +30,15 @@ module _ {S W A : Type 0} (remaining : S → Option (List ℕ)) (old : ByteSourc
   module _ (mid : ByteSource S W) (h : Header) (head : TakesBare (IsUnread remaining) old mid false h) where
     -- no item of the type begins with it
     pub other-denied : (k : Kind) → ((ts : List ℕ) (i : Item) → AreSkipped false ts → header_of i ≡ h →
-        taken (Some old.levels) (under ts i) ≡ refuses k) → IsDenied (of_kind k)
+        outcome (Some old.levels) (taken (under ts i)) ≡ refuses k) → IsDenied (of_kind k)
     other-denied k blames = denies-bare (IsUnread remaining) false h (Some old.levels) taken (end_at remaining) old mid
-        (of_kind k) head blames
+        (of_kind k) head (λ end. blames)
 
     -- no level is left for what it begins
     pub nested-denied : (can_fail : Bool) (new : ByteSource S W) (k : Header) → h ≡ k → (e : Error Unit) →
         e ≡ RecursionLimitExceeded →
         ((ts : List ℕ) (i : Item) → AreSkipped false ts → header_of i ≡ k →
-        taken (Some old.levels) (under ts i) ≡ nests) → IsDenied (fault_at can_fail remaining new e)
+        outcome (Some old.levels) (taken (under ts i)) ≡ nests) → IsDenied (fault_at can_fail remaining new e)
     nested-denied can_fail new k is e err nested = denies-nested (IsUnread remaining) false k (Some old.levels) taken
         (end_at remaining) old mid (fault_at can_fail remaining new e) (ap (fault_at can_fail remaining new) err)
         (subst (TakesBare (IsUnread remaining) old mid false) is head) nested
@@ -56,7 +56,7 @@ module _ {S W A : Type 0} (remaining : S → Option (List ℕ)) (old : ByteSourc
       pub string-read : (new : ByteSource S W) (payload : List ℕ) (v : A) →
           TakesContent (IsUnread remaining mid) (IsUnread remaining new) kind len payload →
           ((ts : List ℕ) → AreSkipped false ts →
-          taken (Some old.levels) (under ts (string_item kind len payload)) ≡ gives v) →
+          outcome (Some old.levels) (taken (under ts (string_item kind len payload))) ≡ gives v) →
           Reads (IsUnread remaining) old new (Some old.levels) taken v
       string-read new payload v content give = reads-string (IsUnread remaining) old mid new kind len (Some old.levels)
           taken payload v (subst (TakesBare (IsUnread remaining) old mid false) is head) content give

@@ -75,7 +75,7 @@ only-long x y h p e s r = by (header-begins x h s)
         (le-ltb (length (c ++ y)) (argument_length (i % 32)) (omega (arith, size, more))))
         t
 
--- ---- a head that is spelled, with its payload, is refused as too long only where what is there is
+-- ---- a head that is spelled is refused as too long only where it is, with its payload
 
 initial-long : (t u v w : Bool) (p : ℕ) → t ≡ false → cond t (Some (syntax p))
     (cond u (Some too_long) (cond v (Some io) (cond w (Some too_long) None))) ≡ Some too_long → (u ≡ true) ⊎ (w ≡ true)
@@ -91,26 +91,24 @@ head-long true true r p e h = cc
 head-long true false r p e h = inr h
 head-long false u r p e h = inl refl
 
-pub head-passes : (x y : List ℕ) (h : Header) (p : ℕ) → SpellsHeader x h → announced_length h ≤ length y →
-    HeadRefuses (x ++ y) p too_long → greatest_offset < p + length (x ++ y)
-head-passes x y h p s there r = by (header-begins x h s)
+pub head-passes : (x y : List ℕ) (h : Header) (p : ℕ) → SpellsHeader x h → HeadRefuses (x ++ y) p too_long →
+    greatest_offset < p + length x + announced_length h
+head-passes x y h p s r = by (header-begins x h s)
   where
-    by : Begins x (announced_length h) → greatest_offset < p + length (x ++ y)
+    by : Begins x (announced_length h) → greatest_offset < p + length x + announced_length h
     by (m, a, c, e, f) =
         let i : ℕ = initial_byte m a in
         let one : length x ≡ suc (length c) = ap length e in
-        let size : length (x ++ y) ≡ 1 + length c + length y =
-        (let both = length-append x y in omega (arith, both, one)) in
         let t : head_refusal (i ∷ (c ++ y)) p ≡ Some too_long = ap (λ (z : List ℕ). head_refusal (z ++ y) p) (sym e) ∙
         r in
-        from m a c f size (head-long (ltb p greatest_offset) (ltb (p + 1) greatest_offset && is_low_simple i (c ++ y))
+        from m a c f one (head-long (ltb p greatest_offset) (ltb (p + 1) greatest_offset && is_low_simple i (c ++ y))
         (initial_refusal (i / 32) (i % 32) (c ++ y) p) p
         (and_false _ _ (low-more m a c y f.below f.size f.high)) t)
       where
         from : (m a : ℕ) (c : List ℕ) (f : Facts m a c (announced_length h)) →
-            length (x ++ y) ≡ 1 + length c + length y →
+            length x ≡ suc (length c) →
             (ltb p greatest_offset ≡ false) ⊎ (initial_refusal (initial_byte m a / 32) (initial_byte m a % 32) (c ++ y)
-            p ≡ Some too_long) → greatest_offset < p + length (x ++ y)
+            p ≡ Some too_long) → greatest_offset < p + length x + announced_length h
         from m a c f size (inl past) = let over = ltb-false p greatest_offset past in omega (arith, over, size)
         from m a c f size (inr late) =
             let plain : initial_refusal m a (c ++ y) p ≡ Some too_long =
@@ -121,14 +119,14 @@ head-passes x y h p s there r = by (header-begins x h s)
           where
             over : (ltb greatest_offset (p + 1 + argument_length a) ≡ true) ⊎
                 (ltb greatest_offset (p + 1 + argument_length a + payload_length m a (c ++ y)) ≡ true) →
-                greatest_offset < p + length (x ++ y)
+                greatest_offset < p + length x + announced_length h
             over (inl k) = let far = ltb-true greatest_offset (p + 1 + argument_length a) k in
                 omega (arith, far, size, f.size)
             over (inr k) =
                 let far = ltb-true greatest_offset (p + 1 + argument_length a + payload_length m a (c ++ y)) k in
                 let same : payload_length m a (c ++ y) ≡ announced_length h =
                 payload_length-more m a c y (omega (arith, f.size)) ∙ f.payload in
-                omega (arith, far, size, f.size, same, there)
+                omega (arith, far, size, f.size, same)
 
 -- ---- why a reader gave no more
 
@@ -167,16 +165,18 @@ failed-end true left h e = e
 failed-end false left h e = h refl
 
 -- where a head is spelled, with its payload, pulling is refused for what it does not decide
-pub head-outside : {E : Type 0} (left : Option (List ℕ)) (e : LlError E) (b x y : List ℕ) (p : ℕ) (h : Header) →
-    SpellsHeader x h → b ≡ x ++ y → announced_length h ≤ length y → reading.IsRefusalOf left e (HeadRefuses b p) →
-    IsOutsideFault (p + length b) (fault_of left (from_ll e))
-head-outside left (ll.Io e) b x y p h s k there r = io-outside left (p + length b) (λ none.
+pub head-outside : {E : Type 0} (left : Option (List ℕ)) (e : LlError E) (b x y : List ℕ) (p n end : ℕ) (h : Header) →
+    SpellsHeader x h → b ≡ x ++ y → announced_length h + n ≤ length y → p + length b ≤ end + n →
+    reading.IsRefusalOf left e (HeadRefuses b p) → IsOutsideFault end (fault_of left (from_ll e))
+head-outside left (ll.Io e) b x y p n end h s k there fits r = io-outside left end (λ none.
     let never = only-long x y h p io s (subst (λ (z : List ℕ). HeadRefuses z p io) k (r none)) in cc)
-head-outside left (ll.Syntax q) b x y p h s k there r =
+head-outside left (ll.Syntax q) b x y p n end h s k there fits r =
     let never = only-long x y h p (syntax q) s (subst (λ (z : List ℕ). HeadRefuses z p (syntax q)) k r) in cc
-head-outside left ll.TooLong b x y p h s k there r = subst (λ (z : List ℕ). greatest_offset < p + length z) (sym k)
-    (head-passes x y h p s there (subst (λ (z : List ℕ). HeadRefuses z p too_long) k r))
-head-outside left ll.Memory b x y p h s k there r = tt
+head-outside left ll.TooLong b x y p n end h s k there fits r =
+    let past = head-passes x y h p s (subst (λ (z : List ℕ). HeadRefuses z p too_long) k r) in
+    let size : length b ≡ length x + length y = ap length k ∙ length-append x y in
+    omega (arith, past, size, there, fits)
+head-outside left ll.Memory b x y p n end h s k there fits r = tt
 
 -- pulling never wants memory, and filling a buffer does not
 pub granted-head : {E : Type 0} (left : Option (List ℕ)) (x : LlError E) (b : List ℕ) (p : ℕ) (needs : Bool) →

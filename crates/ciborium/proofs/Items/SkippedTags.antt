@@ -1,6 +1,6 @@
 -- Tags that are skipped, and what is read behind them.
 use Rattle.std.proofs.Common.{◌≡◌, ℕ, Bool, true, false, List, [], ◌∷◌, ◌++◌, refl, sym, ap, ◌∙◌, subst, append_assoc}
-use Rattle.std.proofs.Common.{append-nil, arith, length-append}
+use Rattle.std.proofs.Common.{append-nil, arith, length, length-append, ◌+◌, ◌≤◌}
 use Rattle.ciborium_ll.specs.declared.header.Header.{Header}
 use Rattle.ciborium_ll.specs.declared.header.Header.TheVariants as header
 use Rattle.ciborium_ll.specs.Header.{SpellsHeader}
@@ -8,8 +8,8 @@ use Rattle.ciborium_ll.specs.Item.{Item, tag}
 use Rattle.ciborium_ll.specs.Spells.{Spells}
 use Rattle.ciborium_value.specs.Meaning.{is_bignum_tag}
 use Rattle.ciborium_value.specs.Nesting.{Limit}
-use Rattle.ciborium_value.specs.Sources.{Fault, IsFaultOf, IsOutsideFault, of_nesting}
-use Rattle.ciborium_value.specs.Taken.{Taken, gives, untagged, number_of, number_under, nests}
+use Rattle.ciborium_value.specs.Sources.{Fault, IsFaultOf, of_nesting}
+use Rattle.ciborium_value.specs.Taken.{Taken, gives, nests, number_of, number_under, outcome, untagged}
 use Rattle.ciborium_value.proofs.Sources.Sequences.{fault_outside}
 use Rattle.ciborium.specs.inner.FrontItems.{TakesHead, DeniesHead, DeniesItem, Reads, Denies}
 use Rattle.ciborium.specs.inner.Skips.{under, IsSkipped, AreSkipped, IsTagged, Skips, TakesBare}
@@ -78,19 +78,19 @@ module _ {S : Type 0} (IsUnread : S → List ℕ → Type 0) where
   pub denies-item : (End : S → ℕ) (old mid : S) (numbers : Bool) (fault : Fault) →
       ((b : List ℕ) → IsUnread old b → End mid ≡ End old) → Skips IsUnread old mid numbers →
       DeniesHead IsUnread End mid fault → DeniesItem IsUnread End old fault
-  denies-item End old mid numbers fault same sk k b s z i u sp e =
+  denies-item End old mid numbers fault same sk k b s z i end u sp e fits =
       let (ts, c, tagged, all, un) = sk b u in
       let (j, t, is, sq, f) = tagged.inward i s z sp e in
       let (x, y, hd, g) = first-head t j sq in
       let there = first-payload t j sq in
       let more = length-append y z in
-      subst (λ n. IsOutsideFault n fault) (same b u) (k c x (y ++ z) (header_of j) un hd
-      (f ∙ ap (λ (w : List ℕ). w ++ z) g ∙ append_assoc x y z) (omega (arith, there, more)))
+      k c x (y ++ z) (header_of j) (length z) end un hd (f ∙ ap (λ (w : List ℕ). w ++ z) g ∙ append_assoc x y z)
+      (omega (arith, there, more)) (subst (λ n. n ≤ end + length z) (sym (same b u)) fits)
 
   -- where a break stands no item does
   pub denies-break : (End : S → ℕ) (old mid new : S) (numbers : Bool) (fault : Fault) → Skips IsUnread old mid numbers →
       TakesHead IsUnread mid new header.Break → DeniesItem IsUnread End old fault
-  denies-break End old mid new numbers fault sk k b s z i u sp e =
+  denies-break End old mid new numbers fault sk k b s z i end u sp e fits =
       let (ts, c, tagged, all, un) = sk b u in
       let (j, t, is, sq, f) = tagged.inward i s z sp e in
       let (x, y, hd, g, un') = k c un in
@@ -98,7 +98,8 @@ module _ {S : Type 0} (IsUnread : S → List ℕ → Type 0) where
 
   pub denies-of-item : {A : Type 0} (End : S → ℕ) (l : Limit) (taken : Taken A) (old : S) (fault : Fault) →
       DeniesItem IsUnread End old fault → Denies IsUnread End old l taken fault
-  denies-of-item End l taken old fault h b s z i u sp e = fault_outside _ fault (taken l i) (h b s z i u sp e)
+  denies-of-item End l taken old fault h b s z i end u sp e fits =
+      fault_outside end fault (outcome l (taken i)) (h b s z i end u sp e fits)
 
   -- a head that is taken as it comes, and is not skipped
   pub bare-head : (old new : S) (numbers : Bool) (h : Header) → TakesHead IsUnread old new h →
@@ -118,10 +119,10 @@ module _ {S : Type 0} (IsUnread : S → List ℕ → Type 0) where
   pub denies-behind : (End : S → ℕ) (old mid : S) (numbers : Bool) (fault : Fault) →
       ((b : List ℕ) → IsUnread old b → End mid ≡ End old) → Skips IsUnread old mid numbers →
       DeniesItem IsUnread End mid fault → DeniesItem IsUnread End old fault
-  denies-behind End old mid numbers fault same sk k b s z i u sp e =
+  denies-behind End old mid numbers fault same sk k b s z i end u sp e fits =
       let (us, c, outer, some, un) = sk b u in
       let (j, t, is, sq, f) = outer.inward i s z sp e in
-      subst (λ n. IsOutsideFault n fault) (same b u) (k c t z j un sq f)
+      k c t z j end un sq f (subst (λ n. n ≤ end + length z) (sym (same b u)) fits)
 
 -- ---- what is read behind tags
 
@@ -130,7 +131,7 @@ abbrev pub ReadsBehind : {S A : Type 0} → (S → List ℕ → Type 0) → S �
     Type 0
 ReadsBehind IsUnread new numbers h l taken v y =
     (i : Item) × (c : List ℕ) × (z : List ℕ) × ((x : List ℕ) → SpellsHeader x h → Spells (x ++ c) i) × (y ≡ c ++ z) ×
-    ((ts : List ℕ) → AreSkipped numbers ts → taken l (under ts i) ≡ gives v) × IsUnread new z
+    ((ts : List ℕ) → AreSkipped numbers ts → outcome l (taken (under ts i)) ≡ gives v) × IsUnread new z
 
 module _ {S A : Type 0} (IsUnread : S → List ℕ → Type 0) (numbers : Bool) (h : Header) (l : Limit) (taken : Taken A)
   where
@@ -147,7 +148,8 @@ module _ {S A : Type 0} (IsUnread : S → List ℕ → Type 0) (numbers : Bool) 
     -- a head that is a whole item
     pub reads-whole : (old mid : S) (v : A) (i : Item) → TakesBare IsUnread old mid numbers h →
         ((x : List ℕ) → SpellsHeader x h → Spells x i) →
-        ((ts : List ℕ) → AreSkipped numbers ts → taken l (under ts i) ≡ gives v) → Reads IsUnread old mid l taken v
+        ((ts : List ℕ) → AreSkipped numbers ts → outcome l (taken (under ts i)) ≡ gives v) →
+        Reads IsUnread old mid l taken v
     reads-whole old mid v i bare make give = reads-bare old mid mid v bare
         (λ y un. (
           i,
@@ -160,17 +162,17 @@ module _ {S A : Type 0} (IsUnread : S → List ℕ → Type 0) (numbers : Bool) 
         ))
 
     pub denies-bare : (End : S → ℕ) (old mid : S) (fault : Fault) → TakesBare IsUnread old mid numbers h →
-        ((ts : List ℕ) (i : Item) → AreSkipped numbers ts → header_of i ≡ h →
-        IsFaultOf (End old) fault (taken l (under ts i))) → Denies IsUnread End old l taken fault
-    denies-bare End old mid fault bare blames b s z j u sp e =
+        ((end : ℕ) (ts : List ℕ) (i : Item) → AreSkipped numbers ts → header_of i ≡ h →
+        IsFaultOf end fault (outcome l (taken (under ts i)))) → Denies IsUnread End old l taken fault
+    denies-bare End old mid fault bare blames b s z j end u sp e fits =
         let (ts, w, x, y, tagged, all, hd, f, un) = bare b u in
         let (i, t, is, sq, g) = tagged.inward j s z sp e in
-        subst (λ k. IsFaultOf (End old) fault (taken l k)) (sym is)
-        (blames ts i all (same-head t z x y i h sq hd (sym g ∙ f)).0)
+        subst (λ k. IsFaultOf end fault (outcome l (taken k))) (sym is)
+        (blames end ts i all (same-head t z x y i h sq hd (sym g ∙ f)).0)
 
     -- no level is left for it
     pub denies-nested : (End : S → ℕ) (old mid : S) (fault : Fault) → fault ≡ of_nesting →
         TakesBare IsUnread old mid numbers h → ((ts : List ℕ) (i : Item) → AreSkipped numbers ts → header_of i ≡ h →
-        taken l (under ts i) ≡ nests) → Denies IsUnread End old l taken fault
+        outcome l (taken (under ts i)) ≡ nests) → Denies IsUnread End old l taken fault
     denies-nested End old mid fault is bare nested = subst (Denies IsUnread End old l taken) (sym is)
-        (denies-bare End old mid of_nesting bare nested)
+        (denies-bare End old mid of_nesting bare (λ end. nested))

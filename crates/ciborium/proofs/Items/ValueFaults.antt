@@ -1,48 +1,46 @@
 -- What refuses where an item stands is what the item refuses.
-use Rattle.std.proofs.Common.{◌≡◌, ◌⊎◌, ℕ, ◌+◌, ◌-◌, ◌*◌, ◌^◌, ◌<◌, ◌≤◌, cond, ◌/◌, ◌%◌, ltb, Bool, true, false, not}
-use Rattle.std.proofs.Common.{◌&&◌, List, [], ◌∷◌, ◌++◌, length, Option, Some, None, is_some, refl, sym, ap, ◌∙◌, subst}
-use Rattle.std.proofs.Common.{append_assoc, append-nil, length-append, arith, inl, inr, ltb-true, ltb-false, le-leb}
-use Rattle.std.proofs.Common.{suc}
+use Rattle.std.proofs.Common.{◌≡◌, ◌⊎◌, ℕ, ◌+◌, ◌*◌, ◌^◌, ◌<◌, ◌≤◌, cond, ◌/◌, ◌%◌, ltb, Bool, true, false}
+use Rattle.std.proofs.Common.{◌&&◌, List, [], ◌∷◌, ◌++◌, length, Option, Some, None, refl, sym, ap, ◌∙◌, subst}
+use Rattle.std.proofs.Common.{append_assoc, append-nil, length-append, arith, inl, inr, ltb-true, ltb-false}
+use Rattle.std.proofs.Common.{option_and_then, suc, zero}
 use Rattle.ciborium_ll.specs.declared.header.Header.{Header}
 use Rattle.ciborium_ll.specs.declared.header.Header.TheVariants as header
 use Rattle.ciborium_ll.specs.Bytes.{greatest_offset}
 use Rattle.ciborium_ll.specs.Head.{IsHead, within, one_byte, two_bytes, four_bytes, eight_bytes, open_byte, break_byte}
 use Rattle.ciborium_ll.specs.Header.{SpellsHeader}
-use Rattle.ciborium_ll.specs.Item as items
 use Rattle.ciborium_ll.specs.Item.{Item, Items, Pairs, no_items, item, no_pairs, pair, unsigned, negative, bytes, text}
+use Rattle.ciborium_ll.specs.Item as maps
 use Rattle.ciborium_ll.specs.Item.{array, tag, simple, float, items_count, pairs_count}
 use Rattle.ciborium_ll.specs.Refusal as refusal
 use Rattle.ciborium_ll.specs.Refusal.{Refusal, io, syntax, too_long, semantic, recursion_limit_exceeded, HeadRefuses}
 use Rattle.ciborium_ll.specs.Refusal.{IsUsable, HasHead, IsAtFront, head_refusal}
-use Rattle.ciborium_ll.specs.Spells.{Spells, SpellsItems}
+use Rattle.ciborium_ll.specs.Spells.{Spells, SpellsItems, SpellsPairs}
 use Rattle.ciborium_ll.specs.StringRefusal.{StringKind, of_bytes, of_text, string_major, StringRefuses}
 use Rattle.ciborium_ll.specs.StringRefusal.{ChunksRefuse, OpenStringRefuses}
 use Rattle.ciborium_ll.proofs.OneHeader.{one_header_at_front}
 use Rattle.ciborium_ll.proofs.UniqueSpelling.{one_at_front}
-use Rattle.ciborium_value.specs.Meaning.{folding_bytes, bignum_meaning, big_endian}
+use Rattle.ciborium_value.specs.Meaning.{folding_bytes, big_endian, meaning}
 use Rattle.ciborium_value.specs.Nesting.{Limit, IsOneLess}
-use Rattle.ciborium_value.specs.Refuses.{AreGood, Due, exactly, items_until_break, keys_until_break, values_until_break}
-use Rattle.ciborium_value.specs.Refuses.{next_due, due_after, IsDue, BeginsContainer, Refuses}
+use Rattle.ciborium_value.specs.Refuses.{AreReadAs, Due, items, keys, values, next_due, due_after, IsDue}
+use Rattle.ciborium_value.specs.Refuses.{BeginsContainer, IsTagAt, Refuses}
 use Rattle.ciborium_value.specs.Sources.{Fault, of_kind, of_nesting, of_syntax, of_memory, of_device, of_end}
-use Rattle.ciborium_value.specs.Sources.{of_length}
-use Rattle.ciborium_value.specs.Sources.{IsFaultOf, IsOutsideFault}
-use Rattle.ciborium_value.specs.Taken.{Outcome, gives, refuses, nests, deeper, within_level, outcome_map, of_meaning}
-use Rattle.ciborium_value.specs.Taken.{taken_tag, one_more, one_pair_more, taken_value, taken_items, taken_tree_pairs}
+use Rattle.ciborium_value.specs.Sources.{of_length, IsFaultOf, IsOutsideFault}
+use Rattle.ciborium_value.specs.Taken.{Outcome, Steps, gives, leveled, mapped, nests, of_meaning, outcome, outcome_map}
+use Rattle.ciborium_value.specs.Taken.{refuses, taken_items, taken_tag, taken_tree_pairs, taken_value}
+use Rattle.ciborium_value.specs.Spelling.{any}
 use Rattle.ciborium_value.specs.Tree as trees
 use Rattle.ciborium_value.specs.Tree.{Tree, Trees, TreePairs}
 use Rattle.ciborium_value.specs.declared.kind.Kind.TheVariants as kinds
-use Rattle.ciborium_value.proofs.GoodItems.Answered.{folds-none}
-use Rattle.ciborium_value.proofs.GoodItems.Found.{bignum_meaning-some}
-use Rattle.ciborium_value.proofs.Sources.Sequences.{fault_map, fault_outside}
-use Rattle.ciborium_value.proofs.GoodItems.Parts.{flat, flat-Spells, flat-count, ArePairs, after-left, first-good}
-use Rattle.ciborium_value.proofs.GoodItems.Parts.{rest-good}
+use Rattle.ciborium_value.proofs.GoodItems.Bignums.{large-none}
+use Rattle.ciborium_value.proofs.GoodItems.Spelled.{folding-over, folding-string, folds-none}
+use Rattle.ciborium_value.proofs.Sources.Sequences.{fault_map, fault_outside, fault_then}
 use Rattle.ciborium.specs.inner.StringContents.{head_of}
 use Rattle.ciborium.proofs.Items.FrontReads.{head-passes, only-long}
 use Rattle.ciborium.proofs.Items.ItemHeads.{header_of, first-head, first-payload, same-head, no-break-head, tag-front}
-use Rattle.ciborium.proofs.Payloads.SpelledStrings.{definite-never, content-long, content-only}
-use Rattle.ciborium.proofs.Payloads.SpelledStrings.{string-spells}
+use Rattle.ciborium.proofs.Payloads.SpelledStrings.{definite-never, content-long, content-only, string-spells}
 use Rattle.ciborium.proofs.Payloads.StringPayloads.{string-only}
-use Rattle.ciborium.proofs.Items.ValuesGiven.{level-taken, some-value}
+use Rattle.ciborium_value.specs.lemmas.GivenOutcomes.{pair_first, tree_first}
+use Rattle.ciborium.proofs.Items.ValuesGiven.{level-taken, value-gives}
 
 not-break : (s r y : List ℕ) (i : Item) → Spells s i → s ++ r ≡ break_byte ∷ y → ⊥
 not-break s r y i sp e = no-break-head i (same-head s r (break_byte ∷ []) y i header.Break sp refl e).0
@@ -71,22 +69,22 @@ long-faults : {A : Type 0} (end : ℕ) (e : Refusal) (o : Outcome A) → e ≡ t
     IsFaultOf end (fault_of e) o
 long-faults end e o is long = subst (λ k. IsFaultOf end (fault_of k) o) (sym is) long
 
-head-faults : {A : Type 0} (b : List ℕ) (p : ℕ) (e : Refusal) (i : Item) (s z : List ℕ) (o : Outcome A) →
-    HeadRefuses b p e → Spells s i → b ≡ s ++ z → IsFaultOf (p + length b) (fault_of e) o
-head-faults b p e i s z o h sp f =
+head-faults : {A : Type 0} (b : List ℕ) (p end : ℕ) (e : Refusal) (i : Item) (s z : List ℕ) (o : Outcome A) →
+    HeadRefuses b p e → Spells s i → b ≡ s ++ z → p + length b ≤ end + length z → IsFaultOf end (fault_of e) o
+head-faults b p end e i s z o h sp f fits =
     let (x, y, hd, g) = first-head s i sp in
     let there = first-payload s i sp in
     let more = length-append y z in
     let split : b ≡ x ++ (y ++ z) = f ∙ ap (λ (k : List ℕ). k ++ z) g ∙ append_assoc x y z in
     let front : HeadRefuses (x ++ (y ++ z)) p e = subst (λ (k : List ℕ). HeadRefuses k p e) split h in
     let is = only-long x (y ++ z) (header_of i) p e hd front in
-    long-faults (p + length b) e o is (subst (λ (k : List ℕ). greatest_offset < p + length k) (sym split)
-    (head-passes x (y ++ z) (header_of i) p hd (omega (arith, there, more))
-    (subst (HeadRefuses (x ++ (y ++ z)) p) is front)))
+    let past = head-passes x (y ++ z) (header_of i) p hd (subst (HeadRefuses (x ++ (y ++ z)) p) is front) in
+    let size : length b ≡ length x + length (y ++ z) = ap length split ∙ length-append x (y ++ z) in
+    long-faults end e o is (omega (arith, past, there, more, size, fits))
 
-string-faults : {A : Type 0} (kind : StringKind) (b : List ℕ) (p : ℕ) (e : Refusal) (i : Item) (s z : List ℕ)
-    (o : Outcome A) → StringRefuses kind b p e → Spells s i → b ≡ s ++ z → IsFaultOf (p + length b) (fault_of e) o
-string-faults kind b p e i s z o (n, k, r, (h, hd, len, g), w) sp f =
+string-faults : {A : Type 0} (kind : StringKind) (b : List ℕ) (p end : ℕ) (e : Refusal) (i : Item) (s z : List ℕ)
+    (o : Outcome A) → StringRefuses kind b p e → Spells s i → b ≡ s ++ z → IsFaultOf end (fault_of e) o
+string-faults kind b p end e i s z o (n, k, r, (h, hd, len, g), w) sp f =
     let spelled : SpellsHeader h (head_of kind (Some n)) = string-spells kind n h hd in
     let (payload, is) = string-only kind (Some n) i (same-head s z h r i (head_of kind (Some n)) sp spelled
     (sym f ∙ g)).0 in
@@ -96,9 +94,10 @@ open-head : (kind : StringKind) → SpellsHeader (open_byte (string_major kind) 
 open-head of_bytes = refl
 open-head of_text = refl
 
-open-faults : {A : Type 0} (kind : StringKind) (b : List ℕ) (p : ℕ) (e : Refusal) (i : Item) (s z : List ℕ)
-    (o : Outcome A) → OpenStringRefuses kind b p e → Spells s i → b ≡ s ++ z → IsFaultOf (p + length b) (fault_of e) o
-open-faults kind b p e i s z o (r, g, w) sp f =
+open-faults : {A : Type 0} (kind : StringKind) (b : List ℕ) (p end : ℕ) (e : Refusal) (i : Item) (s z : List ℕ)
+    (o : Outcome A) → OpenStringRefuses kind b p e → Spells s i → b ≡ s ++ z → p + length b ≤ end + length z →
+    IsFaultOf end (fault_of e) o
+open-faults kind b p end e i s z o (r, g, w) sp f fits =
     let h : List ℕ = open_byte (string_major kind) ∷ [] in
     let (payload, is) = string-only kind None i (same-head s z h r i (head_of kind None) sp (open-head kind)
     (sym f ∙ g)).0 in
@@ -107,7 +106,7 @@ open-faults kind b p e i s z o (r, g, w) sp f =
     let long = content-long kind None p (p + 1) r h s z payload (open-head kind) (subst (Spells s) is sp)
     (sym g ∙ f) (subst (ChunksRefuse kind r (p + 1)) same w) in
     let size : length b ≡ 1 + length r = (let k : length b ≡ suc (length r) = ap length g in omega (arith, k)) in
-    long-faults (p + length b) e o same (omega (arith, long, size))
+    long-faults end e o same (omega (arith, long, size, fits))
 
 -- ---- scalars
 
@@ -145,9 +144,9 @@ float-only x b s z (array false is) (r, sps, (h, hd, g)) e lo hi = let k =
     low-head x 4 (items_count is) b s h r z e hd g in let never : ⊥ = omega (arith, k, lo) in absurd never
 float-only x b s z (array true is) (r, sps, g) e lo hi = let k = same-first x 159 b s (r ++ (break_byte ∷ [])) z e g in
     let never : ⊥ = omega (arith, k, lo) in absurd never
-float-only x b s z (items.map false ps) (r, sps, (h, hd, g)) e lo hi = let k =
+float-only x b s z (maps.map false ps) (r, sps, (h, hd, g)) e lo hi = let k =
     low-head x 5 (pairs_count ps) b s h r z e hd g in let never : ⊥ = omega (arith, k, lo) in absurd never
-float-only x b s z (items.map true ps) (r, sps, g) e lo hi = let k =
+float-only x b s z (maps.map true ps) (r, sps, g) e lo hi = let k =
     same-first x 191 b s (r ++ (break_byte ∷ [])) z e g in let never : ⊥ = omega (arith, k, lo) in absurd never
 float-only x b s z (tag t j) (h, r, hd, sp, g) e lo hi = let k = low-head x 6 t b s h r z e hd g in let never : ⊥ =
     omega (arith, k, lo) in absurd never
@@ -163,6 +162,14 @@ simple-only _ n e = cc
 
 -- ---- containers
 
+abbrev flat : Pairs → Items
+flat no_pairs = no_items
+flat (pair k v ps) = item k (item v (flat ps))
+
+flat-spells : (ps : Pairs) (b : List ℕ) → SpellsPairs b ps → SpellsItems b (flat ps)
+flat-spells no_pairs b h = h
+flat-spells (pair k v ps) b h = (h.0, h.1 ++ h.2, h.3, (h.1, h.2, h.4, flat-spells ps h.2 h.5, refl), h.6)
+
 -- the items of an array, or of a map its keys and values in order
 abbrev IsContainer : Item → Items → Type 0
 IsContainer (unsigned n) is = ⊥
@@ -170,17 +177,21 @@ IsContainer (negative n) is = ⊥
 IsContainer (bytes o b) is = ⊥
 IsContainer (text o b) is = ⊥
 IsContainer (array o js) is = js ≡ is
-IsContainer (items.map o ps) is = flat ps ≡ is
+IsContainer (maps.map o ps) is = flat ps ≡ is
 IsContainer (tag t i) is = ⊥
 IsContainer (simple n) is = ⊥
 IsContainer (float raw) is = ⊥
 
+-- so many are due, or as many as come before the break, and this ends them
+abbrev IsEnd : Option ℕ → ℕ → List ℕ → Type 0
+IsEnd (Some n) count end = (count ≡ n) × (end ≡ [])
+IsEnd None count end = end ≡ break_byte ∷ []
+
 -- these items are all that is due, and this ends them
 abbrev IsAll : Due → Items → List ℕ → Type 0
-IsAll (exactly n) is end = (items_count is ≡ n) × (end ≡ [])
-IsAll items_until_break is end = end ≡ break_byte ∷ []
-IsAll keys_until_break is end = ArePairs is × (end ≡ break_byte ∷ [])
-IsAll values_until_break is end = (v : Item) × (js : Items) × (is ≡ item v js) × ArePairs js × (end ≡ break_byte ∷ [])
+IsAll (items n) is end = IsEnd n (items_count is) end
+IsAll (keys n) is end = (ps : Pairs) × (flat ps ≡ is) × IsEnd n (pairs_count ps) end
+IsAll (values n) is end = (v : Item) × (ps : Pairs) × (item v (flat ps) ≡ is) × IsEnd n (pairs_count ps) end
 
 record Holds (i : Item) (w : Due) (r z : List ℕ) : Type 0 where
   is : Items
@@ -193,10 +204,8 @@ record Holds (i : Item) (w : Due) (r z : List ℕ) : Type 0 where
 
 -- what is due behind such a head
 abbrev IsOpening : Header → Due → Type 0
-IsOpening (header.Array (Some n)) w = w ≡ exactly n
-IsOpening (header.Array None) w = w ≡ items_until_break
-IsOpening (header.Map (Some n)) w = w ≡ exactly (2 * n)
-IsOpening (header.Map None) w = w ≡ keys_until_break
+IsOpening (header.Array n) w = w ≡ items n
+IsOpening (header.Map n) w = w ≡ keys n
 IsOpening _ w = ⊥
 
 holds-of : (i : Item) (w : Due) (x r s z : List ℕ) → Spells s i → SpellsHeader x (header_of i) → s ++ z ≡ x ++ r →
@@ -231,7 +240,7 @@ holds-of (array true js) w x r s z (c, k, f) hd e o =
       all = subst (λ d. IsAll d js (break_byte ∷ [])) (sym o) refl;
       holds = refl;
     }
-holds-of (items.map false ps) w x r s z (c, k, (a, g, f)) hd e o =
+holds-of (maps.map false ps) w x r s z (c, k, (a, g, f)) hd e o =
     let one = one_header_at_front a x (c ++ z) r (header.Map (Some (pairs_count ps)))
     (header.Map (Some (pairs_count ps))) g hd (sym (append_assoc a c z) ∙ ap (λ (y : List ℕ). y ++ z) (sym f) ∙ e)
     in
@@ -239,23 +248,22 @@ holds-of (items.map false ps) w x r s z (c, k, (a, g, f)) hd e o =
       is = flat ps;
       inside = c;
       end = [];
-      spelled = flat-Spells ps c k;
+      spelled = flat-spells ps c k;
       split = sym one.1;
-      all = subst (λ d. IsAll d (flat ps) []) (sym o) (flat-count ps, refl);
+      all = subst (λ d. IsAll d (flat ps) []) (sym o) (ps, refl, (refl, refl));
       holds = refl;
     }
-holds-of (items.map true ps) w x r s z (c, k, f) hd e o =
+holds-of (maps.map true ps) w x r s z (c, k, f) hd e o =
     let one = one_header_at_front (open_byte 5 ∷ []) x ((c ++ (break_byte ∷ [])) ++ z) r (header.Map None)
     (header.Map None) refl hd (ap (λ (y : List ℕ). y ++ z) (sym f) ∙ e) in
     record {
       is = flat ps;
       inside = c;
       end = break_byte ∷ [];
-      spelled = flat-Spells ps c k;
+      spelled = flat-spells ps c k;
       split = sym one.1 ∙
           append_assoc c (break_byte ∷ []) z;
-      all = subst (λ d. IsAll d (flat ps) (break_byte ∷ [])) (sym o)
-          ((ps, refl), refl);
+      all = subst (λ d. IsAll d (flat ps) (break_byte ∷ [])) (sym o) (ps, refl, refl);
       holds = refl;
     }
 holds-of (tag t i) w x r s z sp hd e o = absurd o
@@ -271,40 +279,25 @@ holds-by h i w x r s z sp hd e o =
 opens-at : {b r : List ℕ} {k : ℕ} {w : Due} → BeginsContainer b k r w → (i : Item) (s z : List ℕ) → Spells s i →
     b ≡ s ++ z → Holds i w r z
 opens-at {r = r} (BeginsContainer.array n (h, hd, len, g)) i s z sp f =
-    holds-by (header.Array (Some n)) i (exactly n) h r s z sp hd (sym f ∙ g) refl
+    holds-by (header.Array (Some n)) i (items (Some n)) h r s z sp hd (sym f ∙ g) refl
 opens-at {r = r} (BeginsContainer.open_array e g) i s z sp f =
-    holds-by (header.Array None) i items_until_break (open_byte 4 ∷ []) r s z sp refl (sym f ∙ g) refl
+    holds-by (header.Array None) i (items None) (open_byte 4 ∷ []) r s z sp refl (sym f ∙ g) refl
 opens-at {r = r} (BeginsContainer.map n (h, hd, len, g)) i s z sp f =
-    holds-by (header.Map (Some n)) i (exactly (2 * n)) h r s z sp hd (sym f ∙ g) refl
+    holds-by (header.Map (Some n)) i (keys (Some n)) h r s z sp hd (sym f ∙ g) refl
 opens-at {r = r} (BeginsContainer.open_map e g) i s z sp f =
-    holds-by (header.Map None) i keys_until_break (open_byte 5 ∷ []) r s z sp refl (sym f ∙ g) refl
-
-first-faults : (end : ℕ) (f : Fault) (o : Outcome Tree) (os : Outcome Trees) → IsFaultOf end f o →
-    IsFaultOf end f (one_more o os)
-first-faults end (of_kind k) o os b = ap (λ x. one_more x os) b
-first-faults end of_nesting o os b = ap (λ x. one_more x os) b
-first-faults end of_syntax o os b = b
-first-faults end of_memory o os b = tt
-first-faults end of_device o os b = tt
-first-faults end of_end o os b = b
-first-faults end of_length o os b = b
+    holds-by (header.Map None) i (keys None) (open_byte 5 ∷ []) r s z sp refl (sym f ∙ g) refl
 
 rest-faults : (end : ℕ) (f : Fault) (o : Outcome Tree) (os : Outcome Trees) (v : Tree) → o ≡ gives v →
-    IsFaultOf end f os → IsFaultOf end f (one_more o os)
-rest-faults end (of_kind k) o os v e b = ap (λ x. one_more x os) e ∙ ap (outcome_map (trees.tree v)) b
-rest-faults end of_nesting o os v e b = ap (λ x. one_more x os) e ∙ ap (outcome_map (trees.tree v)) b
-rest-faults end of_syntax o os v e b = b
-rest-faults end of_memory o os v e b = tt
-rest-faults end of_device o os v e b = tt
-rest-faults end of_end o os v e b = b
-rest-faults end of_length o os v e b = b
+    IsFaultOf end f os → IsFaultOf end f (tree_first o os)
+rest-faults end f o os v e b = subst (λ x. IsFaultOf end f (tree_first x os)) (sym e)
+    (fault_map end f (trees.tree v) os b)
 
-level-faults : {A : Type 0} (end : ℕ) (f : Fault) (l m : Limit) (w : Limit → Outcome A) → IsOneLess l m →
-    IsFaultOf end f (w m) → IsFaultOf end f (within_level l (w (deeper l)))
-level-faults end f l m w one b = subst (IsFaultOf end f) (sym (level-taken l m w one)) b
+level-faults : {A : Type 0} (end : ℕ) (f : Fault) (l m : Limit) (s : Steps A) → IsOneLess l m →
+    IsFaultOf end f (outcome m s) → IsFaultOf end f (outcome l (leveled s))
+level-faults end f l m s one b = subst (IsFaultOf end f) (sym (level-taken l m s one)) b
 
 kind-pair : (k : _) (x y : Outcome Tree) (r : Outcome Trees) (q : Outcome TreePairs) → (r ≡ refuses k → q ≡ refuses k) →
-    one_more x (one_more y r) ≡ refuses k → one_pair_more x y q ≡ refuses k
+    tree_first x (tree_first y r) ≡ refuses k → pair_first x y q ≡ refuses k
 kind-pair k (gives a) (gives v) (gives vs) q rec h = cc
 kind-pair k (gives a) (gives v) (refuses j) q rec h = ap (outcome_map (trees.tree_pair a v))
     (rec (let e : j ≡ k = cc in ap refuses e))
@@ -315,7 +308,7 @@ kind-pair k (refuses j) y r q rec h = let e : j ≡ k = cc in ap refuses e
 kind-pair k nests y r q rec h = cc
 
 nest-pair : (x y : Outcome Tree) (r : Outcome Trees) (q : Outcome TreePairs) → (r ≡ nests → q ≡ nests) →
-    one_more x (one_more y r) ≡ nests → one_pair_more x y q ≡ nests
+    tree_first x (tree_first y r) ≡ nests → pair_first x y q ≡ nests
 nest-pair (gives a) (gives v) (gives vs) q rec h = cc
 nest-pair (gives a) (gives v) (refuses j) q rec h = cc
 nest-pair (gives a) (gives v) nests q rec h = ap (outcome_map (trees.tree_pair a v)) (rec refl)
@@ -324,14 +317,14 @@ nest-pair (gives a) nests r q rec h = refl
 nest-pair (refuses j) y r q rec h = cc
 nest-pair nests y r q rec h = refl
 
-flat-faults : (end : ℕ) (f : Fault) (l : Limit) (ps : Pairs) → IsFaultOf end f (taken_items l (flat ps)) →
-    IsFaultOf end f (taken_tree_pairs l ps)
+flat-faults : (end : ℕ) (f : Fault) (l : Limit) (ps : Pairs) → IsFaultOf end f (outcome l (taken_items (flat ps))) →
+    IsFaultOf end f (outcome l (taken_tree_pairs ps))
 flat-faults end (of_kind k) l no_pairs b = cc
-flat-faults end (of_kind k) l (pair x y ps) b = kind-pair k (taken_value l x) (taken_value l y)
-    (taken_items l (flat ps)) (taken_tree_pairs l ps) (flat-faults end (of_kind k) l ps) b
+flat-faults end (of_kind k) l (pair x y ps) b = kind-pair k (outcome l (taken_value x)) (outcome l (taken_value y))
+    (outcome l (taken_items (flat ps))) (outcome l (taken_tree_pairs ps)) (flat-faults end (of_kind k) l ps) b
 flat-faults end of_nesting l no_pairs b = cc
-flat-faults end of_nesting l (pair x y ps) b = nest-pair (taken_value l x) (taken_value l y) (taken_items l (flat ps))
-    (taken_tree_pairs l ps) (flat-faults end of_nesting l ps) b
+flat-faults end of_nesting l (pair x y ps) b = nest-pair (outcome l (taken_value x)) (outcome l (taken_value y))
+    (outcome l (taken_items (flat ps))) (outcome l (taken_tree_pairs ps)) (flat-faults end of_nesting l ps) b
 flat-faults end of_syntax l ps b = b
 flat-faults end of_memory l ps b = tt
 flat-faults end of_device l ps b = tt
@@ -339,104 +332,132 @@ flat-faults end of_end l ps b = b
 flat-faults end of_length l ps b = b
 
 container-faults : (end : ℕ) (i : Item) (is : Items) (f : Fault) (l m : Limit) → IsContainer i is → IsOneLess l m →
-    IsFaultOf end f (taken_items m is) → IsFaultOf end f (taken_value l i)
+    IsFaultOf end f (outcome m (taken_items is)) → IsFaultOf end f (outcome l (taken_value i))
 container-faults end (array o js) is f l m h one b = level-faults end f l m
-    (λ k. outcome_map trees.array (taken_items k js)) one
-    (fault_map end f trees.array (taken_items m js) (subst (λ ks. IsFaultOf end f (taken_items m ks)) (sym h) b))
-container-faults end (items.map o ps) is f l m h one b =
-    level-faults end f l m (λ k. outcome_map trees.map (taken_tree_pairs k ps)) one
-    (fault_map end f trees.map (taken_tree_pairs m ps)
-    (flat-faults end f m ps (subst (λ ks. IsFaultOf end f (taken_items m ks)) (sym h) b)))
+    (mapped trees.array (taken_items js)) one (fault_map end f trees.array (outcome m (taken_items js))
+    (subst (λ ks. IsFaultOf end f (outcome m (taken_items ks))) (sym h) b))
+container-faults end (maps.map o ps) is f l m h one b =
+    level-faults end f l m (mapped trees.map (taken_tree_pairs ps)) one
+    (fault_map end f trees.map (outcome m (taken_tree_pairs ps))
+    (flat-faults end f m ps (subst (λ ks. IsFaultOf end f (outcome m (taken_items ks))) (sym h) b)))
 container-faults end _ is f l m h one b = absurd h
 
-container-nests : (i : Item) (is : Items) → IsContainer i is → taken_value (Some 0) i ≡ nests
+container-nests : (i : Item) (is : Items) → IsContainer i is → outcome (Some 0) (taken_value i) ≡ nests
 container-nests (array o js) is h = refl
-container-nests (items.map o ps) is h = refl
+container-nests (maps.map o ps) is h = refl
 container-nests _ is h = absurd h
 
-all-next : (w : Due) (i : Item) (is : Items) (end : List ℕ) → IsAll w (item i is) end → IsAll (next_due w) is end
-all-next (exactly n) i is end (e, f) = (omega (arith, e), f)
-all-next items_until_break i is end h = h
-all-next keys_until_break i is end ((no_pairs, e), f) = cc
-all-next keys_until_break i is end ((pair k v ps, e), f) = (v, flat ps, rest e, (ps, refl), f)
-  where
-    rest : item k (item v (flat ps)) ≡ item i is → is ≡ item v (flat ps)
-    rest e = cc
-all-next values_until_break i is end (v, js, e, (ps, g), f) = ((ps, g ∙ rest e), f)
-  where
-    rest : item i is ≡ item v js → js ≡ is
-    rest e = cc
+-- behind the first of all the parts, the others are all
+all-next : (w : Due) (i : Item) (is : Items) (end : List ℕ) → IsAll w (item i is) end → (n : Due) ×
+    (next_due w ≡ Some n) × IsAll n is end
+all-next (items None) i is end h = (items None, refl, h)
+all-next (items (Some zero)) i is end (e, f) = let never : ⊥ = omega (arith, e) in absurd never
+all-next (items (Some (suc n))) i is end (e, f) = (items (Some n), refl, (omega (arith, e), f))
+all-next (keys n) i is end (no_pairs, e, f) = cc
+all-next (keys None) i is end (pair k v ps, e, f) = (values None, refl, (v, ps, cc, f))
+all-next (keys (Some zero)) i is end (pair k v ps, e, (f, g)) = let never : ⊥ = omega (arith, f) in absurd never
+all-next (keys (Some (suc n))) i is end (pair k v ps, e, (f, g)) =
+    (values (Some n), refl, (v, ps, cc, (omega (arith, f), g)))
+all-next (values n) i is end (v, ps, e, f) = (keys n, refl, (ps, cc, f))
+
+ended : (r end z : List ℕ) → r ≡ end ++ z → end ≡ break_byte ∷ [] → r ≡ break_byte ∷ z
+ended r end z h g = h ∙ ap (λ (k : List ℕ). k ++ z) g
 
 -- where the parts ended, none is due
 none-due : (w : Due) (end r z : List ℕ) (p end-offset : ℕ) (f : Fault) → IsAll w no_items end → r ≡ end ++ z →
-    IsDue w r p → ((y : List ℕ) → r ≡ break_byte ∷ y → (p < greatest_offset → ⊥) → IsOutsideFault end-offset f) →
+    IsDue w r p → (r ≡ break_byte ∷ z → (p < greatest_offset → ⊥) → IsOutsideFault end-offset f) →
     IsOutsideFault end-offset f
-none-due (exactly n) end r z p o f (e, g) h due br = let never : ⊥ = omega (arith, e, due) in absurd never
-none-due items_until_break end r z p o f g h due br = let e : r ≡ break_byte ∷ z = h ∙ ap (λ (k : List ℕ). k ++ z) g in
-    br z e (λ lt. due lt (z, e))
-none-due keys_until_break end r z p o f (a, g) h due br = let e : r ≡ break_byte ∷ z = h ∙
-    ap (λ (k : List ℕ). k ++ z) g in br z e (λ lt. due lt (z, e))
-none-due values_until_break end r z p o f (v, js, e, a, g) h due br = cc
+none-due (items (Some n)) end r z p o f (e, g) h due br = let never : ⊥ = omega (arith, e, due) in absurd never
+none-due (items None) end r z p o f g h due br = let e = ended r end z h g in br e (λ lt. due lt (z, e))
+none-due (keys n) end r z p o f (pair k v ps, e, g) h due br = cc
+none-due (keys (Some n)) end r z p o f (no_pairs, q, (e, g)) h due br =
+    let never : ⊥ = omega (arith, e, due) in absurd never
+none-due (keys None) end r z p o f (no_pairs, q, g) h due br =
+    let e = ended r end z h g in br e (λ lt. due lt (z, e))
+none-due (values n) end r z p o f (v, ps, e, g) h due br = cc
 
--- no good item stands where the parts ended
-none-good : (w : Due) (i : Item) (is : Items) (s t end z r : List ℕ) (p : ℕ) → IsAll w no_items end → Spells s i →
-    s ++ t ≡ end ++ z → IsDue (due_after w (item i is)) r p → ⊥
-none-good (exactly n) i is s t end z r p (e, g) sp h due = let k : 0 < n - items_count (item i is) =
-    subst (λ w. IsDue w r p) (after-left (item i is) n) due in omega (arith, k, e)
-none-good items_until_break i is s t end z r p g sp h due = not-break s t z i sp (h ∙ ap (λ (k : List ℕ). k ++ z) g)
-none-good keys_until_break i is s t end z r p (a, g) sp h due = not-break s t z i sp (h ∙ ap (λ (k : List ℕ). k ++ z) g)
-none-good values_until_break i is s t end z r p (v, js, e, a, g) sp h due = cc
+-- no item stands where the parts ended
+none-more : (w n : Due) (i : Item) (s t end z : List ℕ) → IsAll w no_items end → next_due w ≡ Some n → Spells s i →
+    s ++ t ≡ end ++ z → ⊥
+none-more (items None) n i s t end z g next sp h = not-break s t z i sp (ended _ end z h g)
+none-more (items (Some zero)) n i s t end z g next sp h = cc
+none-more (items (Some (suc m))) n i s t end z (e, g) next sp h = let never : ⊥ = omega (arith, e) in never
+none-more (keys m) n i s t end z (pair k v ps, e, g) next sp h = cc
+none-more (keys None) n i s t end z (no_pairs, e, g) next sp h = not-break s t z i sp (ended _ end z h g)
+none-more (keys (Some zero)) n i s t end z (no_pairs, e, g) next sp h = cc
+none-more (keys (Some (suc m))) n i s t end z (no_pairs, q, (e, g)) next sp h =
+    let never : ⊥ = omega (arith, e) in never
+none-more (values m) n i s t end z (v, ps, e, g) next sp h = cc
+
+-- the parts behind the first
+due-behind : (w now : Due) (v : Tree) (vs : List Tree) → due_after w (v ∷ vs) ≡ Some now → (n : Due) ×
+    (next_due w ≡ Some n) × (due_after n vs ≡ Some now)
+due-behind w now v vs h = by (next_due w) refl h
+  where
+    by : (o : Option Due) → next_due w ≡ o → option_and_then (λ n. due_after n vs) o ≡ Some now → (n : Due) ×
+        (next_due w ≡ Some n) × (due_after n vs ≡ Some now)
+    by None e k = cc
+    by (Some n) e k = (n, e, k)
 
 -- behind good items the next one refuses, and so do all
-items-faults : (o : ℕ) (gs is : Items) (w : Due) (c good r end z : List ℕ) (p : ℕ) (l : Limit) (f : Fault) →
-    SpellsItems c is → AreGood gs l good p → good ++ r ≡ c ++ (end ++ z) → IsAll w is end →
-    IsDue (due_after w gs) r (p + length good) →
-    ((j : Item) (s y : List ℕ) → Spells s j → r ≡ s ++ y → IsFaultOf o f (taken_value l j)) →
-    ((y : List ℕ) → r ≡ break_byte ∷ y → (p + length good < greatest_offset → ⊥) → IsOutsideFault o f) →
-    IsFaultOf o f (taken_items l is)
-items-faults o no_items no_items w c good r end z p l f sp g e all due rec br =
-    fault_outside o f (taken_items l no_items) (none-due w end r z (p + length good) o f all
-    (ap (λ (k : List ℕ). k ++ r) (sym g.0) ∙ e ∙ ap (λ (k : List ℕ). k ++ (end ++ z)) sp) due br)
-items-faults o no_items (item i is) w c good r end z p l f (s, t, si, ts, ce) g e all due rec br =
-    first-faults o f (taken_value l i) (taken_items l is)
-    (rec i s (t ++ (end ++ z)) si (ap (λ (k : List ℕ). k ++ r) (sym g.0) ∙ e ∙
-    ap (λ (k : List ℕ). k ++ (end ++ z)) ce ∙ append_assoc s t (end ++ z)))
-items-faults o (item j gs) no_items w c good r end z p l f sp g e all due rec br =
-    let (s, t, sj, ts, ge) = g.0 in
-    absurd (none-good w j gs s (t ++ r) end z r (p + length good) all sj
-    (sym (append_assoc s t r) ∙ ap (λ (k : List ℕ). k ++ r) (sym ge) ∙ e ∙ ap (λ (k : List ℕ). k ++ (end ++ z)) sp)
-    due)
-items-faults o (item j gs) (item i is) w c good r end z p l f (s', t', si, ts', ce) g e all due rec br =
-    let (s, t, sj, ts, ge) = g.0 in
+items-faults : (o : ℕ) (vs : List Tree) (is : Items) (w now : Due) (c good r end z : List ℕ) (p : ℕ) (l : Limit)
+    (f : Fault) → SpellsItems c is → AreReadAs any good p l vs → good ++ r ≡ c ++ (end ++ z) → IsAll w is end →
+    due_after w vs ≡ Some now → IsDue now r (p + length good) →
+    ((j : Item) (s y : List ℕ) → Spells s j → r ≡ s ++ y → length z ≤ length y →
+    IsFaultOf o f (outcome l (taken_value j))) →
+    (r ≡ break_byte ∷ z → (p + length good < greatest_offset → ⊥) → IsOutsideFault o f) →
+    IsFaultOf o f (outcome l (taken_items is))
+items-faults o [] no_items w now c good r end z p l f sp g e all next due rec br =
+    let same : w ≡ now = cc in
+    fault_outside o f (outcome l (taken_items no_items)) (none-due w end r z (p + length good) o f all
+    (ap (λ (k : List ℕ). k ++ r) (sym g) ∙ e ∙ ap (λ (k : List ℕ). k ++ (end ++ z)) sp)
+    (subst (λ d. IsDue d r (p + length good)) (sym same) due) br)
+items-faults o [] (item i is) w now c good r end z p l f (s, t, si, ts, ce) g e all next due rec br =
+    let behind = length-append t (end ++ z) in
+    let more = length-append end z in
+    fault_then o f (outcome l (taken_value i)) _
+    (rec i s (t ++ (end ++ z)) si (ap (λ (k : List ℕ). k ++ r) (sym g) ∙ e ∙
+    ap (λ (k : List ℕ). k ++ (end ++ z)) ce ∙ append_assoc s t (end ++ z)) (omega (arith, behind, more)))
+items-faults o (v ∷ vs) no_items w now c good r end z p l f sp
+    (s, t, (j, sj, means, nests-in, fits, so), ts, ge) e all next due rec br =
+    absurd (none-more w (due-behind w now v vs next).0 j s (t ++ r) end z all (due-behind w now v vs next).1 sj
+    (sym (append_assoc s t r) ∙ ap (λ (k : List ℕ). k ++ r) (sym ge) ∙ e ∙
+    ap (λ (k : List ℕ). k ++ (end ++ z)) sp))
+items-faults o (v ∷ vs) (item i is) w now c good r end z p l f (s', t', si, ts', ce)
+    (s, t, (j, sj, means, nests-in, fits, so), ts, ge) e all next due rec br =
     let one = one_at_front s s' (t ++ r) (t' ++ (end ++ z)) j i sj si
     (sym (append_assoc s t r) ∙ ap (λ (k : List ℕ). k ++ r) (sym ge) ∙ e ∙ ap (λ (k : List ℕ). k ++ (end ++ z)) ce ∙
     append_assoc s' t' (end ++ z)) in
-    let g2 : AreGood (item j gs) l (s ++ t) p = subst (λ k. AreGood (item j gs) l k p) ge g in
-    let fine = first-good j gs l p s t sj g2 in
-    let (v, give) = some-value j l fine.1 fine.2 in
-    let at : p + length good ≡ p + length s + length t = let n : length good ≡ length s + length t = ap length ge ∙
-    length-append s t in omega (arith, n) in
-    rest-faults o f (taken_value l i) (taken_items l is) v (ap (taken_value l) (sym one.2) ∙ give)
-    (items-faults o gs is (next_due w) t' t r end z (p + length s) l f ts' (rest-good j gs l p s t ts g2) one.1
-    (all-next w i is end all) (subst (IsDue (due_after (next_due w) gs) r) at due) rec
-    (λ y h past. br y h (λ lt. past (subst (λ n. n < greatest_offset) at lt))))
+    let (n, is-next, then) = due-behind w now v vs next in
+    let (m, also, rest) = all-next w i is end all in
+    let same : n ≡ m = cc in
+    let at : p + length good ≡ p + length s + length t = let size : length good ≡ length s + length t = ap length ge ∙
+    length-append s t in omega (arith, size) in
+    rest-faults o f (outcome l (taken_value i)) (outcome l (taken_items is)) v
+    (ap (λ j. outcome l (taken_value j)) (sym one.2) ∙ value-gives j l v means nests-in)
+    (items-faults o vs is n now t' t r end z (p + length s) l f ts' ts one.1
+    (subst (λ d. IsAll d is end) (sym same) rest) then (subst (IsDue now r) at due) rec
+    (λ h past. br h (λ lt. past (subst (λ k. k < greatest_offset) at lt))))
 
 -- ---- where no byte may be read
 
-usable-or-not : {b : List ℕ} {p : ℕ} {l : Limit} {e : Refusal} → Refuses b p l e → HeadRefuses b p e ⊎ IsUsable b p
+usable-or-not : {b : List ℕ} {p : ℕ} {l : Limit} {e : Refusal} → Refuses any b p l e → HeadRefuses b p e ⊎ IsUsable b p
 usable-or-not (Refuses.no_head h) = inl h
-usable-or-not (Refuses.string kind u w) = inr u
-usable-or-not (Refuses.open_string kind u w) = inr u
+usable-or-not (Refuses.bad_head kind u bad) = inr u
+usable-or-not (Refuses.string kind u w) = inr u.0
+usable-or-not (Refuses.open_string kind u w) = inr u.0
 usable-or-not (Refuses.float u lo hi) = inr u
 usable-or-not (Refuses.simple s n r u si none g) = inr u
 usable-or-not (Refuses.break u) = inr u
-usable-or-not (Refuses.no_level k r w u o) = inr u
-usable-or-not (Refuses.part k w good is r below u o one g due sub) = inr u
-usable-or-not (Refuses.tag_no_head t k r u st h) = inr u
-usable-or-not (Refuses.folding t k r u st ur fo sr) = inr u
-usable-or-not (Refuses.too_large k s payload r u st ur str small large) = inr u
-usable-or-not (Refuses.no_tag_level t k r u st ur nf) = inr u
-usable-or-not (Refuses.tagged t k r below u st ur nf one sub) = inr u
+usable-or-not (Refuses.no_level k r w u o) = inr u.0
+usable-or-not (Refuses.part vs r q w below i due sub) = inr i.head.0
+usable-or-not (Refuses.key_order vs r s t key q w below i due read g bad) = inr i.head.0
+usable-or-not (Refuses.tag_no_head t k r u st h) = inr u.0
+usable-or-not (Refuses.folding t r q a fo sub) = inr a.head.0
+usable-or-not (Refuses.too_large r s t payload q a fo read g large) = inr a.head.0
+usable-or-not (Refuses.not_folded n r s t payload q a fo read g bad) = inr a.head.0
+usable-or-not (Refuses.no_tag_level t r q a nf) = inr a.head.0
+usable-or-not (Refuses.tagged t r q below a nf one sub) = inr a.head.0
 
 at-end : (x : ℕ) (y : List ℕ) (p : ℕ) → (p < greatest_offset → ⊥) → head_refusal (x ∷ y) p ≡ Some too_long
 at-end x y p past = by (ltb p greatest_offset) refl
@@ -447,9 +468,9 @@ at-end x y p past = by (ltb p greatest_offset) refl
     by true e = absurd (past (ltb-true p greatest_offset e))
     by false e = refl
 
-end-long : (r y : List ℕ) (x p : ℕ) (l : Limit) (e : Refusal) → Refuses r p l e → r ≡ x ∷ y →
-    (p < greatest_offset → ⊥) → IsOutsideFault (p + length r) (fault_of e)
-end-long r y x p l e sub g past = by (usable-or-not sub)
+end-long : (r y : List ℕ) (x p end : ℕ) (l : Limit) (e : Refusal) → Refuses any r p l e → r ≡ x ∷ y →
+    (p < greatest_offset → ⊥) → p + length r ≤ end + length y → IsOutsideFault end (fault_of e)
+end-long r y x p end l e sub g past fits = by (usable-or-not sub)
   where
     late : head_refusal r p ≡ Some too_long
     late = ap (λ k. head_refusal k p) g ∙ at-end x y p past
@@ -457,16 +478,16 @@ end-long r y x p l e sub g past = by (usable-or-not sub)
     size : length r ≡ suc (length y)
     size = ap length g
 
-    by : HeadRefuses r p e ⊎ IsUsable r p → IsOutsideFault (p + length r) (fault_of e)
-    by (inl h) = subst (λ k. IsOutsideFault (p + length r) (fault_of k)) (sym (some-same e too_long (sym h ∙ late)))
+    by : HeadRefuses r p e ⊎ IsUsable r p → IsOutsideFault end (fault_of e)
+    by (inl h) = subst (λ k. IsOutsideFault end (fault_of k)) (sym (some-same e too_long (sym h ∙ late)))
         (further (ltb p greatest_offset) refl)
       where
         some-same : (a b : Refusal) → Some a ≡ Some b → a ≡ b
         some-same a b h = cc
 
-        further : (t : Bool) → ltb p greatest_offset ≡ t → greatest_offset < p + length r
+        further : (t : Bool) → ltb p greatest_offset ≡ t → greatest_offset < end
         further true k = absurd (past (ltb-true p greatest_offset k))
-        further false k = let over = ltb-false p greatest_offset k in omega (arith, over, size)
+        further false k = let over = ltb-false p greatest_offset k in omega (arith, over, size, fits)
     by (inr h) = let k : None ≡ Some too_long = sym h ∙ late in cc
 
 -- ---- how long the bytes are behind a head
@@ -486,74 +507,116 @@ opening-size {b = b} {r = r} {k = k} (BeginsContainer.open_map e g) = let size :
 -- ---- tags
 
 tag-faults : (end : ℕ) (t : ℕ) (i : Item) (f : Fault) (l m : Limit) → folding_bytes t i ≡ None → IsOneLess l m →
-    IsFaultOf end f (taken_value m i) → IsFaultOf end f (taken_value l (tag t i))
+    IsFaultOf end f (outcome m (taken_value i)) → IsFaultOf end f (outcome l (taken_value (tag t i)))
 tag-faults end t i f l m none one b =
-    subst (λ o. IsFaultOf end f (taken_tag t l o (taken_value (deeper l) i))) (sym none)
-    (level-faults end f l m (λ k. outcome_map (trees.tag t) (taken_value k i)) one
-    (fault_map end f (trees.tag t) (taken_value m i) b))
+    subst (λ o. IsFaultOf end f (outcome l (taken_tag t o (taken_value i)))) (sym none)
+    (level-faults end f l m (mapped (trees.tag t) (taken_value i)) one
+    (fault_map end f (trees.tag t) (outcome m (taken_value i)) b))
 
-no-tree : (o : Option Tree) → is_some o ≡ false → o ≡ None
-no-tree None h = refl
-no-tree (Some v) h = cc
+-- the string of a tag that folds is there
+given-outside : (end : ℕ) (f : Fault) (v : Tree) → IsFaultOf end f (gives v) → IsOutsideFault end f
+given-outside end (of_kind k) v h = cc
+given-outside end of_nesting v h = cc
+given-outside end of_syntax v h = h
+given-outside end of_memory v h = tt
+given-outside end of_device v h = tt
+given-outside end of_end v h = h
+given-outside end of_length v h = h
 
 large-refuses : (l : Limit) (y : List ℕ) → length y ≤ 16 → 2 ^ 127 ≤ big_endian y →
-    taken_value l (tag 3 (bytes false y)) ≡ refuses kinds.TooLarge
+    outcome l (taken_value (tag 3 (bytes false y))) ≡ refuses kinds.TooLarge
 large-refuses l y small large =
-    let over : folding_bytes 3 (bytes false y) ≡ Some y = ap (λ v. cond v (Some y) None) (le-leb (length y) 16 small) in
-    let none : bignum_meaning 3 y ≡ None = no-tree _ (bignum_meaning-some 3 y refl ∙
-    ap not (le-leb (2 ^ 127) (big_endian y) large)) in
-    ap (λ o. taken_tag 3 l o (taken_value (deeper l) (bytes false y))) over ∙ ap (of_meaning kinds.TooLarge) none
+    ap (λ o. outcome l (taken_tag 3 o (taken_value (bytes false y)))) (folding-over 3 y refl small) ∙
+    ap (of_meaning kinds.TooLarge) (large-none y large)
 
 -- ---- every refusal
 
-behind-head : (b r : List ℕ) (p k : ℕ) → length b ≡ k + length r → p + k + length r ≡ p + length b
-behind-head b r p k size = omega (arith, size)
+behind-head : (b r : List ℕ) (p k m : ℕ) → length b ≡ k + length r → p + length b ≤ m → p + k + length r ≤ m
+behind-head b r p k m size fits = omega (arith, size, fits)
 
-pub value-faults : {b : List ℕ} {p : ℕ} {l : Limit} {e : Refusal} → Refuses b p l e → (i : Item) (s z : List ℕ) →
-    Spells s i → b ≡ s ++ z → IsFaultOf (p + length b) (fault_of e) (taken_value l i)
-value-faults {b} {p} {l} {e} (Refuses.no_head h) i s z sp f = head-faults b p e i s z (taken_value l i) h sp f
-value-faults {b} {p} {l} {e} (Refuses.string kind u w) i s z sp f =
-    string-faults kind b p e i s z (taken_value l i) w sp f
-value-faults {b} {p} {l} {e} (Refuses.open_string kind u w) i s z sp f =
-    open-faults kind b p e i s z (taken_value l i) w sp f
-value-faults {l = l} (Refuses.float {x} {b = b} u lo hi) i s z sp f = let (raw, is) = float-only x b s z i sp f lo hi in
-    ap (taken_value l) is
-value-faults {l = l} (Refuses.simple t n r u si none g) i s z sp f =
-    ap (taken_value l) (simple-only i n (same-head s z t r i (header.Simple n) sp si (sym f ∙ g)).0) ∙
+-- what tag t of the bytes b encloses, which end at `end` as b does
+record Enclosed (t : ℕ) (i : Item) (r z : List ℕ) (q end : ℕ) : Type 0 where
+  within : Item
+  spelling : List ℕ
+  is : i ≡ tag t within
+  spelled : Spells spelling within
+  split : r ≡ spelling ++ z
+  fits : q + length r ≤ end + length z
+
+enclosed : {b : List ℕ} {p t : ℕ} {r : List ℕ} {q : ℕ} → IsTagAt any b p t r q → (i : Item) (s z : List ℕ) (end : ℕ) →
+    Spells s i → b ≡ s ++ z → p + length b ≤ end + length z → Enclosed t i r z q end
+enclosed {b} {p} {t} {r} {q} a i s z end sp f fits =
+    let (x, hd, len, g) = a.tag in
+    let (j, c, is, sj, h) = tag-front s z x r i t sp hd (sym f ∙ g) in
+    let size = head-size b r 6 t a.size a.tag in
+    let at = a.at in
+    record {
+      within = j;
+      spelling = c;
+      is = is;
+      spelled = sj;
+      split = h;
+      fits = omega (arith, size, at, fits);
+    }
+
+pub value-faults : {b : List ℕ} {p : ℕ} {l : Limit} {e : Refusal} → Refuses any b p l e → (i : Item) (s z : List ℕ)
+    (end : ℕ) → Spells s i → b ≡ s ++ z → p + length b ≤ end + length z →
+    IsFaultOf end (fault_of e) (outcome l (taken_value i))
+value-faults {b} {p} {l} {e} (Refuses.no_head h) i s z end sp f fits =
+    head-faults b p end e i s z (outcome l (taken_value i)) h sp f fits
+value-faults (Refuses.bad_head kind u bad) i s z end sp f fits = cc
+value-faults {b} {p} {l} {e} (Refuses.string kind u w) i s z end sp f fits =
+    string-faults kind b p end e i s z (outcome l (taken_value i)) w sp f
+value-faults {b} {p} {l} {e} (Refuses.open_string kind u w) i s z end sp f fits =
+    open-faults kind b p end e i s z (outcome l (taken_value i)) w sp f fits
+value-faults {l = l} (Refuses.float {x} {b = b} u lo hi) i s z end sp f fits =
+    let (raw, is) = float-only x b s z i sp f lo hi in
+    ap (λ j. outcome l (taken_value j)) is
+value-faults {l = l} (Refuses.simple t n r u si none g) i s z end sp f fits =
+    ap (λ j. outcome l (taken_value j)) (simple-only i n (same-head s z t r i (header.Simple n) sp si (sym f ∙ g)).0) ∙
     ap (of_meaning kinds.Simple) none
-value-faults (Refuses.break {b = b} u) i s z sp f = absurd (not-break s z b i sp (sym f))
-value-faults (Refuses.no_level k r w u o) i s z sp f = let h = opens-at o i s z sp f in container-nests i h.is h.holds
-value-faults {b = b} {p = p} {l = l} {e = e} (Refuses.part k w good gs r below u o one g due sub) i s z sp f =
-    let h = opens-at o i s z sp f in
-    let all = opening-size o in
-    let both = length-append good r in
-    let same : p + k + length good + length r ≡ p + length b = omega (arith, all, both) in
-    subst (λ n. IsFaultOf n (fault_of e) (taken_value l i)) same
-    (container-faults (p + k + length good + length r) i h.is (fault_of e) l below h.holds one
-    (items-faults (p + k + length good + length r) gs h.is w h.inside good r h.end z (p + k) below (fault_of e)
-    h.spelled g h.split h.all due (λ j t y sj q. value-faults sub j t y sj q)
-    (λ y q past. end-long r y break_byte (p + k + length good) below e sub q past)))
-value-faults {b = b} {p = p} {l = l} {e = e} (Refuses.tag_no_head t k r u (x, hd, len, g) h) i s z sp f =
+value-faults (Refuses.break {b = b} u) i s z end sp f fits = absurd (not-break s z b i sp (sym f))
+value-faults (Refuses.no_level k r w u o) i s z end sp f fits =
+    let h = opens-at o i s z sp f in container-nests i h.is h.holds
+value-faults {b = b} {p = p} {l = l} {e = e} (Refuses.part vs r q w below a due sub) i s z end sp f fits =
+    let h = opens-at a.begins i s z sp f in
+    let all = opening-size a.begins in
+    let both = length-append a.good r in
+    let at = a.at in
+    let rest : q + length r ≤ end + length z = omega (arith, all, both, at, fits) in
+    container-faults end i h.is (fault_of e) l below h.holds a.level
+    (items-faults end vs h.is a.start w h.inside a.good r h.end z (p + a.size) below (fault_of e)
+    h.spelled a.parts h.split h.all a.due (subst (IsDue w r) at due)
+    (λ j t y sj g less. value-faults sub j t y end sj g (omega (arith, rest, less)))
+    (λ g past. end-long r z break_byte q end below e sub g (λ lt. past (subst (λ n. n < greatest_offset) at lt)) rest))
+value-faults (Refuses.key_order vs r s t key q w below a due read g bad) i s' z end sp f fits = absurd (bad tt)
+value-faults {b = b} {p = p} {l = l} {e = e} (Refuses.tag_no_head t k r u (x, hd, len, g) h) i s z end sp f fits =
     let (j, c, is, sj, q) = tag-front s z x r i t sp hd (sym f ∙ g) in
-    subst (λ n. IsFaultOf n (fault_of e) (taken_value l i))
-    (behind-head b r p k (head-size b r 6 t k (x, hd, len, g)))
-    (head-faults r (p + k) e j c z (taken_value l i) h sj q)
-value-faults {b = b} {p = p} {l = l} {e = e} (Refuses.folding t k r u (x, hd, len, g) ur fo w) i s z sp f =
-    let (j, c, is, sj, q) = tag-front s z x r i t sp hd (sym f ∙ g) in
-    subst (λ n. IsFaultOf n (fault_of e) (taken_value l i))
-    (behind-head b r p k (head-size b r 6 t k (x, hd, len, g)))
-    (string-faults of_bytes r (p + k) e j c z (taken_value l i) w sj q)
-value-faults {l = l} (Refuses.too_large k t payload r u (x, hd, len, g) ur str small large) i s z sp f =
-    let (j, c, is, sj, q) = tag-front s z x (t ++ r) i 3 sp hd (sym f ∙ g) in
-    let one = one_at_front t c r z (bytes false payload) j str sj q in
-    ap (taken_value l) (is ∙ ap (tag 3) (sym one.2)) ∙ large-refuses l payload small large
-value-faults (Refuses.no_tag_level t k r u (x, hd, len, g) ur nf) i s z sp f =
-    let (j, c, is, sj, q) = tag-front s z x r i t sp hd (sym f ∙ g) in
-    ap (taken_value (Some 0)) is ∙ ap (λ o. taken_tag t (Some 0) o (taken_value (deeper (Some 0)) j))
-    (folds-none t j c z r sj q nf)
-value-faults {b = b} {p = p} {l = l} {e = e} (Refuses.tagged t k r below u (x, hd, len, g) ur nf one sub) i s z sp f =
-    let (j, c, is, sj, q) = tag-front s z x r i t sp hd (sym f ∙ g) in
-    subst (λ n. IsFaultOf n (fault_of e) (taken_value l i)) (behind-head b r p k (head-size b r 6 t k (x, hd, len, g)))
-    (subst (λ m. IsFaultOf (p + k + length r) (fault_of e) (taken_value l m)) (sym is)
-    (tag-faults (p + k + length r) t j (fault_of e) l below (folds-none t j c z r sj q nf) one
-    (value-faults sub j c z sj q)))
+    head-faults r (p + k) end e j c z (outcome l (taken_value i)) h sj q
+    (behind-head b r p k (end + length z) (head-size b r 6 t k (x, hd, len, g)) fits)
+value-faults {l = l} {e = e} (Refuses.folding t r q a fo sub) i s z end sp f fits =
+    let w = enclosed a i s z end sp f fits in
+    let (y, is, few) = folding-string t w.within w.spelling z r w.spelled w.split fo in
+    fault_outside end (fault_of e) (outcome l (taken_value i)) (given-outside end (fault_of e) (trees.bytes y)
+    (subst (λ j. IsFaultOf end (fault_of e) (outcome l (taken_value j))) is
+    (value-faults sub w.within w.spelling z end w.spelled w.split w.fits)))
+value-faults {l = l} (Refuses.too_large r s t payload q a fo (j, sj, means, nests-in, low, so) g large) i s' z end sp f
+    fits =
+    let w = enclosed a i s' z end sp f fits in
+    let (y, is, few) = folding-string 3 w.within w.spelling z r w.spelled w.split fo in
+    let one = one_at_front s w.spelling t z j w.within sj w.spelled (sym g ∙ w.split) in
+    let says : Some (trees.bytes payload) ≡ Some (trees.bytes y) = sym means ∙ ap meaning (one.2 ∙ is) in
+    let same : payload ≡ y = cc in
+    ap (λ j. outcome l (taken_value j)) (w.is ∙ ap (tag 3) is) ∙
+    large-refuses l y few (subst (λ (k : List ℕ). 2 ^ 127 ≤ big_endian k) same large)
+value-faults (Refuses.not_folded n r s t payload q a fo read g bad) i s' z end sp f fits = absurd bad
+value-faults (Refuses.no_tag_level t r q a nf) i s z end sp f fits =
+    let w = enclosed a i s z end sp f fits in
+    ap (λ j. outcome (Some zero) (taken_value j)) w.is ∙ ap (λ o. outcome (Some zero)
+    (taken_tag t o (taken_value w.within)))
+    (folds-none t w.within w.spelling z r w.spelled w.split nf)
+value-faults {l = l} {e = e} (Refuses.tagged t r q below a nf one sub) i s z end sp f fits =
+    let w = enclosed a i s z end sp f fits in
+    subst (λ m. IsFaultOf end (fault_of e) (outcome l (taken_value m))) (sym w.is)
+    (tag-faults end t w.within (fault_of e) l below (folds-none t w.within w.spelling z r w.spelled w.split nf) one
+    (value-faults sub w.within w.spelling z end w.spelled w.split w.fits))

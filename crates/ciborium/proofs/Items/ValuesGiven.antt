@@ -1,31 +1,31 @@
 -- What an item gives as a value.
-use Rattle.std.proofs.Common.{◌≡◌, ℕ, zero, suc, max, List, Option, Some, None, IsSome, option_map, refl, ap, ◌∙◌}
+use Rattle.std.proofs.Common.{◌≡◌, ℕ, zero, suc, max, List, Option, Some, None, option_map, refl, ap, ◌∙◌}
 use Rattle.std.proofs.Common.{arith}
 use Rattle.ciborium_ll.specs.Item as items
 use Rattle.ciborium_ll.specs.Item.{Item, Items, Pairs, no_items, no_pairs, pair}
 use Rattle.ciborium_value.specs.Meaning.{meaning, items_meaning, pairs_meaning, trees_more, tree_pairs_more}
 use Rattle.ciborium_value.specs.Meaning.{folding_bytes, tag_meaning}
 use Rattle.ciborium_value.specs.Nesting.{Limit, IsWithin, IsOneLess, nesting, items_nesting, pairs_nesting, tag_nesting}
-use Rattle.ciborium_value.specs.Taken.{Outcome, gives, deeper, within_level, outcome_map, of_meaning, taken_tag}
-use Rattle.ciborium_value.specs.Taken.{one_more, one_pair_more, taken_value, taken_items, taken_tree_pairs}
+use Rattle.ciborium_value.specs.Taken.{Steps, gives, leveled, mapped, of_meaning, outcome}
+use Rattle.ciborium_value.specs.Taken.{outcome_map, taken_items, taken_tag, taken_tree_pairs, taken_value}
 use Rattle.ciborium_value.specs.Tree as trees
 use Rattle.ciborium_value.specs.Tree.{Tree, Trees, TreePairs}
 use Rattle.ciborium_value.specs.declared.kind.Kind.TheVariants as kinds
+use Rattle.ciborium_value.specs.lemmas.GivenOutcomes.{pair_first, tree_first}
 use Rattle.ciborium_value.proofs.GoodItems.Parts.{within-left, within-right, lower}
 
 -- with a level, what is inside decides
-pub level-taken : {A : Type 0} (l m : Limit) (w : Limit → Outcome A) → IsOneLess l m →
-    within_level l (w (deeper l)) ≡ w m
-level-taken None None w h = refl
-level-taken None (Some m) w h = absurd h
-level-taken (Some l) None w h = absurd h
-level-taken (Some zero) (Some m) w h = cc
-level-taken (Some (suc l)) (Some m) w h = let e : l ≡ m = omega arith in ap (λ k. w (Some k)) e
+pub level-taken : {A : Type 0} (l m : Limit) (s : Steps A) → IsOneLess l m → outcome l (leveled s) ≡ outcome m s
+level-taken None None s h = refl
+level-taken None (Some m) s h = absurd h
+level-taken (Some l) None s h = absurd h
+level-taken (Some zero) (Some m) s h = cc
+level-taken (Some (suc l)) (Some m) s h = let e : l ≡ m = omega arith in ap (λ k. outcome (Some k) s) e
 
-mapped : {A B : Type 0} (f : A → B) (o : Option A) (v : B) → option_map f o ≡ Some v → (a : A) × (o ≡ Some a) ×
+mapped-some : {A B : Type 0} (f : A → B) (o : Option A) (v : B) → option_map f o ≡ Some v → (a : A) × (o ≡ Some a) ×
     (f a ≡ v)
-mapped f None v h = cc
-mapped f (Some a) v h = (a, refl, cc)
+mapped-some f None v h = cc
+mapped-some f (Some a) v h = (a, refl, cc)
 
 more : (o : Option Tree) (os : Option Trees) (vs : Trees) → trees_more o os ≡ Some vs → (w : Tree) × (ws : Trees) ×
     (o ≡ Some w) × (os ≡ Some ws) × (trees.tree w ws ≡ vs)
@@ -41,59 +41,53 @@ more-pairs (Some k) None os vs h = cc
 more-pairs (Some k) (Some w) None vs h = cc
 more-pairs (Some k) (Some w) (Some ws) vs h = (k, w, ws, refl, refl, refl, cc)
 
-container-gives : {A : Type 0} (f : A → Tree) (o : Option A) (n : ℕ) (l : Limit) (w : Limit → Outcome A) (v : Tree) →
-    option_map f o ≡ Some v → IsWithin l (suc n) → ((m : Limit) (a : A) → o ≡ Some a → IsWithin m n → w m ≡ gives a) →
-    within_level l (outcome_map f (w (deeper l))) ≡ gives v
-container-gives f o n l w v h k rec =
-    let (a, e, g) = mapped f o v h in
+container-gives : {A : Type 0} (f : A → Tree) (o : Option A) (n : ℕ) (l : Limit) (s : Steps A) (v : Tree) →
+    option_map f o ≡ Some v → IsWithin l (suc n) →
+    ((m : Limit) (a : A) → o ≡ Some a → IsWithin m n → outcome m s ≡ gives a) →
+    outcome l (leveled (mapped f s)) ≡ gives v
+container-gives f o n l s v h k rec =
+    let (a, e, g) = mapped-some f o v h in
     let (m, within, one) = lower l n k in
-    level-taken l m (λ j. outcome_map f (w j)) one ∙ ap (outcome_map f) (rec m a e within) ∙ ap gives g
+    level-taken l m (mapped f s) one ∙ ap (outcome_map f) (rec m a e within) ∙ ap gives g
 
-tag-gives : (t : ℕ) (o : Option (List ℕ)) (c : Option Tree) (n : ℕ) (l : Limit) (w : Limit → Outcome Tree) (v : Tree) →
+tag-gives : (t : ℕ) (o : Option (List ℕ)) (c : Option Tree) (n : ℕ) (l : Limit) (s : Steps Tree) (v : Tree) →
     tag_meaning t o c ≡ Some v → IsWithin l (tag_nesting o n) →
-    ((m : Limit) (a : Tree) → c ≡ Some a → IsWithin m n → w m ≡ gives a) →
-    taken_tag t l o (w (deeper l)) ≡ gives v
-tag-gives t (Some b) c n l w v h k rec = ap (of_meaning kinds.TooLarge) h
-tag-gives t None c n l w v h k rec = container-gives (trees.tag t) c n l w v h k rec
+    ((m : Limit) (a : Tree) → c ≡ Some a → IsWithin m n → outcome m s ≡ gives a) →
+    outcome l (taken_tag t o s) ≡ gives v
+tag-gives t (Some b) c n l s v h k rec = ap (of_meaning kinds.TooLarge) h
+tag-gives t None c n l s v h k rec = container-gives (trees.tag t) c n l s v h k rec
 
 mutual
   pub value-gives : (i : Item) (l : Limit) (v : Tree) → meaning i ≡ Some v → IsWithin l (nesting i) →
-      taken_value l i ≡ gives v
+      outcome l (taken_value i) ≡ gives v
   value-gives (items.array o is) l v h k = container-gives trees.array (items_meaning is) (items_nesting is) l
-      (λ m. taken_items m is) v h k (λ m a. values-give is m a)
+      (taken_items is) v h k (λ m a. values-give is m a)
   value-gives (items.map o ps) l v h k = container-gives trees.map (pairs_meaning ps) (pairs_nesting ps) l
-      (λ m. taken_tree_pairs m ps) v h k (λ m a. pairs-give ps m a)
-  value-gives (items.tag t i) l v h k = tag-gives t (folding_bytes t i) (meaning i) (nesting i) l (λ m. taken_value m i)
+      (taken_tree_pairs ps) v h k (λ m a. pairs-give ps m a)
+  value-gives (items.tag t i) l v h k = tag-gives t (folding_bytes t i) (meaning i) (nesting i) l (taken_value i)
       v h k (λ m a. value-gives i m a)
   value-gives (items.simple n) l v h k = ap (of_meaning kinds.Simple) h
   value-gives _ l v h k = cc
 
   values-give : (is : Items) (l : Limit) (vs : Trees) → items_meaning is ≡ Some vs → IsWithin l (items_nesting is) →
-      taken_items l is ≡ gives vs
+      outcome l (taken_items is) ≡ gives vs
   values-give items.no_items l vs h k = cc
   values-give (items.item i is) l vs h k =
       let (w, ws, e, f, g) = more (meaning i) (items_meaning is) vs h in
-      ap (λ o. one_more o (taken_items l is)) (value-gives i l w e (within-left l (nesting i) (items_nesting is) k)) ∙
+      ap (λ o. tree_first o (outcome l (taken_items is)))
+      (value-gives i l w e (within-left l (nesting i) (items_nesting is) k)) ∙
       ap (outcome_map (trees.tree w)) (values-give is l ws f (within-right l (nesting i) (items_nesting is) k)) ∙
       ap gives g
 
   pairs-give : (ps : Pairs) (l : Limit) (vs : TreePairs) → pairs_meaning ps ≡ Some vs → IsWithin l (pairs_nesting ps) →
-      taken_tree_pairs l ps ≡ gives vs
+      outcome l (taken_tree_pairs ps) ≡ gives vs
   pairs-give items.no_pairs l vs h k = cc
   pairs-give (items.pair x y ps) l vs h k =
       let (a, w, ws, e, f, g, is) = more-pairs (meaning x) (meaning y) (pairs_meaning ps) vs h in
       let both = within-left l (max (nesting x) (nesting y)) (pairs_nesting ps) k in
-      ap (λ o. one_pair_more o (taken_value l y) (taken_tree_pairs l ps))
+      ap (λ o. pair_first o (outcome l (taken_value y)) (outcome l (taken_tree_pairs ps)))
       (value-gives x l a e (within-left l (nesting x) (nesting y) both)) ∙
-      ap (λ o. one_pair_more (gives a) o (taken_tree_pairs l ps))
+      ap (λ o. pair_first (gives a) o (outcome l (taken_tree_pairs ps)))
       (value-gives y l w f (within-right l (nesting x) (nesting y) both)) ∙
       ap (outcome_map (trees.tree_pair a w)) (pairs-give ps l ws g
       (within-right l (max (nesting x) (nesting y)) (pairs_nesting ps) k)) ∙ ap gives is
-
-pub some-value : (i : Item) (l : Limit) → IsSome (meaning i) → IsWithin l (nesting i) → (v : Tree) ×
-    (taken_value l i ≡ gives v)
-some-value i l some k = by (meaning i) refl some
-  where
-    by : (o : Option Tree) → meaning i ≡ o → IsSome o → (v : Tree) × (taken_value l i ≡ gives v)
-    by None e some = absurd cc
-    by (Some v) e some = (v, value-gives i l v e k)

@@ -1,6 +1,6 @@
 -- The value ahead, read whole.
 use Rattle.std.proofs.Common.{◌≡◌, ℕ, ◌+◌, Bool, true, false, List, ◌++◌, length, Option, Some, None, Result, Ok, Err}
-use Rattle.std.proofs.Common.{refl, sym, ap, ◌∙◌, subst, arith, eqb, eqb-true, ◌||◌, ℤ, pos, length-append}
+use Rattle.std.proofs.Common.{refl, sym, ap, ◌∙◌, subst, arith, eqb, eqb-true, ◌||◌, ◌≤◌, ℤ, pos, length-append}
 use Rattle.std.specs.Io.KnownBytes.{Consumes}
 use Rattle.ciborium_ll.specs.declared.header.Header.{Header}
 use Rattle.ciborium_ll.specs.declared.header.Header.TheVariants as header
@@ -18,22 +18,21 @@ use Rattle.ciborium_value.specs.declared.tree.Value.{Value}
 use Rattle.ciborium_value.specs.Meaning.{simple_meaning}
 use Rattle.ciborium_value.specs.Nesting.{Limit, IsWithin, nesting}
 use Rattle.ciborium_value.specs.Refuses.{Refuses}
-use Rattle.ciborium_value.specs.Sources.{IsFaultOf, of_kind, read_as}
-use Rattle.ciborium_value.specs.Taken.{gives, taken_value}
+use Rattle.ciborium_value.specs.Sources.{IsFaultOf, of_kind}
+use Rattle.ciborium_value.specs.View.{read_as, tree_of}
+use Rattle.ciborium_value.specs.Taken.{gives, taken_value, outcome}
 use Rattle.ciborium_value.specs.Tree as trees
 use Rattle.ciborium_value.specs.Tree.{Tree}
-use Rattle.ciborium_value.specs.View.{tree_of}
 use Rattle.ciborium.specs.declared.de.error.Error.{Error}
 use Rattle.ciborium.specs.declared.de.error.Error.TheVariants as errors
-use Rattle.ciborium.specs.ValueAnswers.{IsTreeRead, IsValueRead}
+use Rattle.ciborium.specs.inner.Turns.{IsTreeRead, IsValueRead}
 use Rattle.ciborium.specs.inner.ByteSources.{MeansTree, is_portable, IsUnreadBy, known_end, reader_of}
 use Rattle.ciborium.specs.Errors.{fault_of, io_fault}
 use Rattle.ciborium_value.proofs.Sources.Sequences.{fault_outside}
 use Rattle.ciborium.proofs.Items.FrontReads.{io-outside}
-use Rattle.ciborium.specs.Errors.{IsRefusedBy, IsNamed, refusal_kind_of}
-use Rattle.ciborium.specs.Spelling.{any}
+use Rattle.ciborium.specs.ValueAnswers.{IsRefusedBy, IsNamed, refusal_kind_of}
+use Rattle.ciborium_value.specs.Spelling.{any}
 use Rattle.ciborium.proofs.Turns.Fronts.{ahead-at, front-fits}
-use Rattle.ciborium.proofs.Turns.ItemsRead.{item-read}
 use Rattle.ciborium.proofs.Readers.WhateverFollows.{ahead-same, so-unread}
 use Rattle.ciborium.proofs.Items.ValueFaults.{value-faults}
 use Rattle.ciborium.proofs.Items.ValuesGiven.{value-gives}
@@ -105,7 +104,7 @@ module _ {S W : Type 0} (remaining : S → Option (List ℕ)) where
       left_of remaining e ≡ Some c → IsValueRead {S = List ℕ} {E = E} any Some (with_left e c) l b p x →
       IsValueRead {E = E} any remaining e l b p x
   read-to E e c l b p (Ok v) left (zs, r, item, ahead) = (zs, r, item, ahead-to e c zs r e.pushed left ahead)
-  read-to E e c l b p (Err x) left h = subst (λ o. IsRefusedBy o x (Refuses b p (Some l))) (sym left) h
+  read-to E e c l b p (Err x) left h = subst (λ o. IsRefusedBy o x (Refuses any b p (Some l))) (sym left) h
 
   pub known-read : (E : Type 0) (d e : Decoder S W) (l : ℕ) (x : Result Value (Error E)) →
       TakesBeforeAny remaining d e (λ f g. (xs : List ℕ) (q : ℕ) → IsAhead Some f xs q →
@@ -120,11 +119,11 @@ module _ {S W : Type 0} (remaining : S → Option (List ℕ)) where
 pub whole-reads : (E : Type 0) {S W : Type 0} (remaining : S → Option (List ℕ)) (d : Decoder S W) (l p : ℕ) (b : List ℕ)
     (v : Value) → d.pushed ≡ None → IsValueRead {E = E} any remaining d l b p (Ok v) →
     (i : Item) × (s : List ℕ) × (z : List ℕ) × Spells s i × (b ≡ s ++ z) ×
-    (taken_value (Some l) i ≡ gives (tree_of v)) × (left_of remaining d ≡ Some z)
+    (outcome (Some l) (taken_value i) ≡ gives (tree_of v)) × (left_of remaining d ≡ Some z)
 whole-reads E remaining d l p b v none (z, r, item, ahead) =
     let at : IsAheadBy remaining d z r None = subst (λ o. IsAheadBy remaining d z r o) none ahead in
-    let (i, good, means) = item.read in
-    (i, item.taken, z, good.0, item.split, value-gives i (Some l) (tree_of v) means good.2, at.1)
+    let (i, spelled, means, nests, fits, so) = item.read in
+    (i, item.taken, z, spelled, item.split, value-gives i (Some l) (tree_of v) means nests, at.1)
 
 -- where what is unread ends, with the head that is pending
 pub whole-end : {S W : Type 0} (remaining : S → Option (List ℕ)) (d : Decoder S W) (pending : Option (Header × ℕ))
@@ -137,25 +136,25 @@ whole-end remaining d (Some h) b real (x, y, hd, split, left, counted) =
     ap (λ o. known_end o d.counter.count) left ∙ (omega (arith, at, size))
 
 -- an error is what the item there is refused for
-pub whole-faults : {E : Type 0} (left : Option (List ℕ)) (e : Error E) (l p : ℕ) (b s z : List ℕ) (i : Item) →
-    Spells s i → b ≡ s ++ z → IsRefusedBy left e (λ r. Refuses b p (Some l) r) →
-    IsFaultOf (p + length b) (fault_of left e) (taken_value (Some l) i)
-whole-faults left (errors.Io x) l p b s z i sp f h = fault_outside (p + length b) (io_fault left)
-    (taken_value (Some l) i) (io-outside left (p + length b) (λ none. value-faults (h none) i s z sp f))
-whole-faults left (errors.Syntax q) l p b s z i sp f h = value-faults h i s z sp f
-whole-faults left (errors.Semantic None k) l p b s z i sp f h = absurd h
-whole-faults left (errors.Semantic (Some q) k) l p b s z i sp f h = by k h
+pub whole-faults : {E : Type 0} (left : Option (List ℕ)) (e : Error E) (l p end : ℕ) (b s z : List ℕ) (i : Item) →
+    Spells s i → b ≡ s ++ z → p + length b ≤ end + length z → IsRefusedBy left e (λ r. Refuses any b p (Some l) r) →
+    IsFaultOf end (fault_of left e) (outcome (Some l) (taken_value i))
+whole-faults left (errors.Io x) l p end b s z i sp f fits h = fault_outside end (io_fault left)
+    (outcome (Some l) (taken_value i)) (io-outside left end (λ none. value-faults (h none) i s z end sp f fits))
+whole-faults left (errors.Syntax q) l p end b s z i sp f fits h = value-faults h i s z end sp f fits
+whole-faults left (errors.Semantic None k) l p end b s z i sp f fits h = absurd h
+whole-faults left (errors.Semantic (Some q) k) l p end b s z i sp f fits h = by k h
   where
-    by : (k : Kind) → IsNamed (Some q) (refusal_kind_of k) (λ r. Refuses b p (Some l) r) →
-        IsFaultOf (p + length b) (of_kind k) (taken_value (Some l) i)
-    by kinds.Float h = value-faults h i s z sp f
-    by kinds.Simple h = value-faults h i s z sp f
-    by kinds.Break h = value-faults h i s z sp f
-    by kinds.TooLarge h = value-faults h i s z sp f
-    by kinds.NotShortest h = value-faults h i s z sp f
-    by kinds.Open h = value-faults h i s z sp f
-    by kinds.NotFolded h = value-faults h i s z sp f
-    by kinds.KeyOrder h = value-faults h i s z sp f
+    by : (k : Kind) → IsNamed (Some q) (refusal_kind_of k) (λ r. Refuses any b p (Some l) r) →
+        IsFaultOf end (of_kind k) (outcome (Some l) (taken_value i))
+    by kinds.Float h = value-faults h i s z end sp f fits
+    by kinds.Simple h = value-faults h i s z end sp f fits
+    by kinds.Break h = value-faults h i s z end sp f fits
+    by kinds.TooLarge h = value-faults h i s z end sp f fits
+    by kinds.NotShortest h = value-faults h i s z end sp f fits
+    by kinds.Open h = value-faults h i s z end sp f fits
+    by kinds.NotFolded h = value-faults h i s z end sp f fits
+    by kinds.KeyOrder h = value-faults h i s z end sp f fits
     by kinds.Integer h = absurd h
     by kinds.Bool h = absurd h
     by kinds.Unit h = absurd h
@@ -172,9 +171,9 @@ whole-faults left (errors.Semantic (Some q) k) l p b s z i sp f h = by k h
     by kinds.Other h = absurd h
     by kinds.DuplicateKey h = absurd h
     by kinds.TrailingData h = absurd h
-whole-faults left errors.RecursionLimitExceeded l p b s z i sp f h = value-faults h i s z sp f
-whole-faults left errors.Memory l p b s z i sp f h = tt
-whole-faults left errors.TooLong l p b s z i sp f h = value-faults h i s z sp f
+whole-faults left errors.RecursionLimitExceeded l p end b s z i sp f fits h = value-faults h i s z end sp f fits
+whole-faults left errors.Memory l p end b s z i sp f fits h = tt
+whole-faults left errors.TooLong l p end b s z i sp f fits h = value-faults h i s z end sp f fits
 
 no-level : (l : Limit) (n : ℕ) → n ≡ 0 → IsWithin l n
 no-level None n flat = tt
@@ -184,7 +183,7 @@ no-level (Some l) n flat = omega arith
 pub portable-reads : {S W : Type 0} (remaining : S → Option (List ℕ)) (d : Decoder S W) (pending : Option (Header × ℕ))
     (h : Header) (p : ℕ) (b : List ℕ) (v : Tree) (l : Limit) → pending ≡ Some (h, p) → MeansTree h v →
     IsUnreadBy remaining d pending b →
-    (i : Item) × (s : List ℕ) × (z : List ℕ) × Spells s i × (b ≡ s ++ z) × (taken_value l i ≡ gives v) ×
+    (i : Item) × (s : List ℕ) × (z : List ℕ) × Spells s i × (b ≡ s ++ z) × (outcome l (taken_value i) ≡ gives v) ×
     (left_of remaining d ≡ Some z)
 portable-reads remaining d pending h p b v l is for u =
     let (x, y, hd, e, left, counted) = subst (λ o. IsUnreadBy remaining d o b) is u in
@@ -211,7 +210,12 @@ portable-ahead E remaining d pending h at l v none is stands =
     let fits = front-fits xs p h x r (record { spelled = sp; usable = usable; split = split }) in (
       r,
       p + length x,
-      item-read x i spelled means (omega (arith, flat)) split refl fits,
+      record {
+        taken = x;
+        read = (i, spelled, means, omega (arith, flat), fits, tt);
+        split = split;
+        at = refl;
+      },
       ahead-at Some (with_left d u) (p + length x) r none (count, left),
     ))
 

@@ -1,6 +1,6 @@
 -- Numbers in byte strings, part by part, and bignums.
 use Rattle.std.proofs.Common.{◌≡◌, ◌≢◌, ℕ, List, [], ◌∷◌, ◌++◌, length, ◌<◌, true, Option, Some, None, refl, sym, ap}
-use Rattle.std.proofs.Common.{◌∙◌, subst, append_assoc, inl, inr, ◌⊎◌, ◌≤◌, arith, length-append}
+use Rattle.std.proofs.Common.{Err, ◌∙◌, subst, append_assoc, inl, inr, ◌⊎◌, ◌+◌, ◌≤◌, arith, length-append, suc}
 use Rattle.std.proofs.lemmas.List.Elements.{All-append}
 use Rattle.ciborium_ll.specs.declared.header.Header.{Header}
 use Rattle.ciborium_ll.specs.declared.header.Header.TheVariants as header
@@ -14,7 +14,7 @@ use Rattle.ciborium_ll.proofs.OneHeader.{one_header_at_front}
 use Rattle.ciborium_ll.proofs.OpenStrings.{AreParts-more, joined-more}
 use Rattle.ciborium_ll.proofs.UniqueSpelling.{one_at_front}
 use Rattle.ciborium_value.specs.Sources.{Fault, IsOutsideFault, of_kind}
-use Rattle.ciborium_value.specs.Taken.{taken_bignum, bignum_of, refuses}
+use Rattle.ciborium_value.specs.Taken.{bignum_of, settled, taken_bignum}
 use Rattle.ciborium_value.specs.declared.kind.Kind.TheVariants as kinds
 use Rattle.ciborium_value.proofs.Sources.Sequences.{fault_outside}
 use Rattle.ciborium.specs.inner.FrontItems.{TakesHead, DeniesHead, Reads, Denies}
@@ -69,7 +69,7 @@ parts-end P M Q v parts head y u =
 -- the break, or a further part
 abbrev HasNext : List ℕ → List ℕ → Type 0
 HasNext r z = (r ≡ break_byte ∷ z) ⊎ ((h : List ℕ) × (n : ℕ) × (a : List ℕ) × IsHead h 2 n × (r ≡ h ++ a) ×
-    (n ≤ length a))
+    (n + length z ≤ length a))
 
 parts-front : (good t r z : List ℕ) (ps qs : List (List ℕ)) → AreChunks 2 AreBytes good ps → AreChunks 2 AreBytes t qs →
     good ++ r ≡ t ++ (break_byte ∷ z) → HasNext r z
@@ -84,7 +84,8 @@ parts-front good t r z [] (q ∷ qs) g (s, c, (x, hd, ok, i), rest, j) f =
       ap (λ (k : List ℕ). k ++ r) (sym g) ∙ f ∙
           opened-up x q s c t (break_byte ∷ z) i j,
       (let more = length-append q (c ++ (break_byte ∷ z)) in
-          omega (arith, more)),
+          let rest : length (c ++ (break_byte ∷ z)) ≡ length c + suc (length z) = length-append c (break_byte ∷ z) in
+          omega (arith, more, rest)),
     )
 parts-front good t r z (m ∷ ps) [] (s, c, (x, hd, ok, i), rest, j) h f =
     absurd (string-break of_bytes x m (c ++ r) z hd (sym (opened-up x m s c good r i j) ∙ f ∙
@@ -111,25 +112,26 @@ module _ (P M : List ℕ → Type 0) (v : Option ℕ) (parts : TakesParts P M v)
       (r, un, parts-front c t r z ps qs are are' (sym split ∙ behind ∙ append_assoc t (break_byte ∷ []) z))
 
   pub parts-no-head : (mid end : ℕ) (fault : Fault) → ((y : List ℕ) → P y → mid ≡ end) →
-      ((b x y : List ℕ) (h : Header) → M b → SpellsHeader x h → b ≡ x ++ y → announced_length h ≤ length y →
-      IsOutsideFault mid fault) → DeniesContent P end of_bytes None fault
-  parts-no-head mid end fault same none y x s z payload u hd sp e =
+      ((b x y : List ℕ) (h : Header) (n o : ℕ) → M b → SpellsHeader x h → b ≡ x ++ y →
+      announced_length h + n ≤ length y → mid ≤ o + n → IsOutsideFault o fault) →
+      DeniesContent P end of_bytes None fault
+  parts-no-head mid end fault same none y x s z payload o u hd sp e fits =
       let (r, un, w) = front y x s z payload u hd sp e in
-      subst (λ n. IsOutsideFault n fault) (same y u) (by r un w)
+      by r un w (subst (λ n. n ≤ o + length z) (sym (same y u)) fits)
     where
-      by : (r : List ℕ) → M r → HasNext r z → IsOutsideFault mid fault
-      by r un (inl k) = none r (break_byte ∷ []) z header.Break un refl k (omega arith)
-      by r un (inr (h, n, a, w, k, there)) = none r h a (header.Bytes (Some n)) un w k there
+      by : (r : List ℕ) → M r → HasNext r z → mid ≤ o + length z → IsOutsideFault o fault
+      by r un (inl k) = none r (break_byte ∷ []) z header.Break (length z) o un refl k (omega arith)
+      by r un (inr (h, n, a, w, k, there)) = none r h a (header.Bytes (Some n)) (length z) o un w k there
 
   pub parts-other : (end : ℕ) (fault : Fault) (h : Header) →
       ((y : List ℕ) → M y → (x : List ℕ) × (r : List ℕ) × SpellsHeader x h × (y ≡ x ++ r)) → h ≢ header.Break →
       ((n : ℕ) → h ≢ header.Bytes (Some n)) → DeniesContent P end of_bytes None fault
-  parts-other end fault h head p q y x s z payload u hd sp e =
+  parts-other end fault h head p q y x s z payload o u hd sp e fits =
       let (r, un, w) = front y x s z payload u hd sp e in
       let (a, b, ad, f) = head r un in
       by r a b ad f w
     where
-      by : (r a b : List ℕ) → SpellsHeader a h → r ≡ a ++ b → HasNext r z → IsOutsideFault end fault
+      by : (r a b : List ℕ) → SpellsHeader a h → r ≡ a ++ b → HasNext r z → IsOutsideFault o fault
       by r a b ad f (inl k) = absurd (p (one_header_at_front a (break_byte ∷ []) b z h header.Break ad refl
           (sym f ∙ k)).2)
       by r a b ad f (inr (k, n, d, w, m, there)) = absurd
@@ -139,12 +141,13 @@ module _ (P M : List ℕ → Type 0) (v : Option ℕ) (parts : TakesParts P M v)
   pub parts-cut : (Q : List ℕ → Type 0) (mid end n : ℕ) (fault : Fault) → ((y : List ℕ) → P y → mid ≡ end) →
       ((y : List ℕ) → M y → (x : List ℕ) × (r : List ℕ) × SpellsHeader x (header.Bytes (Some n)) × (y ≡ x ++ r) × Q r) →
       DeniesJust Q mid n fault → DeniesContent P end of_bytes None fault
-  parts-cut Q mid end n fault same head denied y x s z payload u hd sp e =
+  parts-cut Q mid end n fault same head denied y x s z payload o u hd sp e fits =
       let (r, un, w) = front y x s z payload u hd sp e in
       let (a, b, ad, f, un') = head r un in
-      subst (λ k. IsOutsideFault k fault) (same y u) (denied b un' (by r a b ad f w))
+      denied b (length z) o un' (by r a b ad f w) (subst (λ n. n ≤ o + length z) (sym (same y u)) fits)
     where
-      by : (r a b : List ℕ) → SpellsHeader a (header.Bytes (Some n)) → r ≡ a ++ b → HasNext r z → n ≤ length b
+      by : (r a b : List ℕ) → SpellsHeader a (header.Bytes (Some n)) → r ≡ a ++ b → HasNext r z →
+          n + length z ≤ length b
       by r a b ad f (inl k) = absurd (no-break-bytes n
           (one_header_at_front a (break_byte ∷ []) b z (header.Bytes (Some n)) header.Break ad refl (sym f ∙ k)).2)
       by r a b ad f (inr (k, m, d, w, g, there)) =
@@ -162,9 +165,9 @@ no-definite h e n f = cc
 -- ---- bignums
 
 other-bignum : (i : Item) (h : Header) → header_of i ≡ h → ((n : Option ℕ) → h ≡ header.Bytes n → ⊥) →
-    bignum_of i ≡ refuses kinds.Bytes
+    bignum_of i ≡ Err kinds.Bytes
 other-bignum i h e p =
-    by-shape (λ j. bignum_of j ≡ refuses kinds.Bytes) h (λ n k. refl) (λ n k. refl) (λ o b k. absurd (p _ k))
+    by-shape (λ j. bignum_of j ≡ Err kinds.Bytes) h (λ n k. refl) (λ n k. refl) (λ o b k. absurd (p _ k))
     (λ o b k. refl) (λ o is k. refl) (λ o ps k. refl) (λ n k. refl) (λ raw k. refl) (λ t j k. refl) i e
 
 module _ {S : Type 0} (IsUnread : S → List ℕ → Type 0) (End : S → ℕ) (old mid : S) where
@@ -178,45 +181,46 @@ module _ {S : Type 0} (IsUnread : S → List ℕ → Type 0) (End : S → ℕ) (
         z,
         make x hd,
         e ∙ ap (λ (k : List ℕ). x ++ k) f ∙ sym (append_assoc x c z),
-        digits-some payload v small val,
+        ap settled (digits-some payload v small val),
         un',
       )
 
   pub bignum-large : (Q : List ℕ → Type 0) (len : Option ℕ) → TakesHead IsUnread old mid (header.Bytes len) →
       TakesNumber (IsUnread mid) Q len None → Denies IsUnread End old None taken_bignum (of_kind kinds.TooLarge)
-  bignum-large Q len took number b s z i u sp e =
+  bignum-large Q len took number b s z i end u sp e fits =
       let (x, y, hd, f, un) = took b u in
       let (payload, c, r, make, val, small, g, un') = number y un in
       let one = one_at_front s (x ++ c) z r i (bytes (is_open len) payload) sp (make x hd)
       (sym e ∙ f ∙ ap (λ (k : List ℕ). x ++ k) g ∙ sym (append_assoc x c r)) in
-      ap bignum_of one.2 ∙ digits-none payload small val
+      ap settled (ap bignum_of one.2 ∙ digits-none payload small val)
 
   pub bignum-content : (len : Option ℕ) (fault : Fault) → ((b : List ℕ) → IsUnread old b → End mid ≡ End old) →
       TakesHead IsUnread old mid (header.Bytes len) → DeniesContent (IsUnread mid) (End mid) of_bytes len fault →
       Denies IsUnread End old None taken_bignum fault
-  bignum-content len fault same took none b s z i u sp e =
+  bignum-content len fault same took none b s z i end u sp e fits =
       let (x, y, hd, f, un) = took b u in
       let (payload, io) = string-only of_bytes len i (same-head s z x y i (header.Bytes len) sp hd (sym e ∙ f)).0 in
-      fault_outside _ fault (bignum_of i) (subst (λ n. IsOutsideFault n fault) (same b u)
-      (none y x s z payload un hd (subst (Spells s) io sp) (sym f ∙ e)))
+      fault_outside end fault (settled (bignum_of i)) (none y x s z payload end un hd (subst (Spells s) io sp)
+      (sym f ∙ e)
+      (subst (λ n. n ≤ end + length z) (sym (same b u)) fits))
 
   pub bignum-no-head : (fault : Fault) → DeniesHead IsUnread End old fault →
       Denies IsUnread End old None taken_bignum fault
-  bignum-no-head fault none b s z i u sp e =
+  bignum-no-head fault none b s z i end u sp e fits =
       let (x, y, hd, f) = first-head s i sp in
       let there = first-payload s i sp in
       let more = length-append y z in
-      fault_outside _ fault (bignum_of i) (none b x (y ++ z) (header_of i) u hd
-      (e ∙ ap (λ (k : List ℕ). k ++ z) f ∙ append_assoc x y z) (omega (arith, there, more)))
+      fault_outside end fault (settled (bignum_of i)) (none b x (y ++ z) (header_of i) (length z) end u hd
+      (e ∙ ap (λ (k : List ℕ). k ++ z) f ∙ append_assoc x y z) (omega (arith, there, more)) fits)
 
   pub bignum-other : (h : Header) → TakesHead IsUnread old mid h → ((n : Option ℕ) → h ≡ header.Bytes n → ⊥) →
       Denies IsUnread End old None taken_bignum (of_kind kinds.Bytes)
-  bignum-other h took p b s z i u sp e =
+  bignum-other h took p b s z i end u sp e fits =
       let (x, y, hd, f, un) = took b u in
-      other-bignum i h (same-head s z x y i h sp hd (sym e ∙ f)).0 p
+      ap settled (other-bignum i h (same-head s z x y i h sp hd (sym e ∙ f)).0 p)
 
   pub bignum-break : (fault : Fault) → TakesHead IsUnread old mid header.Break →
       Denies IsUnread End old None taken_bignum fault
-  bignum-break fault took b s z i u sp e =
+  bignum-break fault took b s z i end u sp e fits =
       let (x, y, hd, f, un) = took b u in
       absurd (no-break-head i (same-head s z x y i header.Break sp hd (sym e ∙ f)).0)

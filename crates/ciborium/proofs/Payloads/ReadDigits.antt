@@ -15,7 +15,7 @@ use Rattle.ciborium_ll.specs.ReaderSteps.{IsFillTaken}
 use Rattle.ciborium_ll.proofs.Unread.{rest-of}
 use Rattle.ciborium_value.specs.Meaning.{big_endian_behind, big_endian, without_zeros}
 use Rattle.ciborium_value.specs.Sources.{IsOutsideFault}
-use Rattle.ciborium_value.specs.Taken.{magnitude, gives, refuses}
+use Rattle.ciborium_value.specs.Taken.{magnitude}
 use Rattle.ciborium_value.specs.declared.kind.Kind.TheVariants as kinds
 use Rattle.ciborium.specs.inner.ByteSources.{known_end, reader_of}
 use Rattle.ciborium.specs.Errors.{fault_of, from_ll}
@@ -121,10 +121,10 @@ number-of [] h = (λ fits. refl, λ over. absurd (omega (arith, over)))
 number-of (zero ∷ bs) h = number-of bs (other-bytes 0 bs h)
 number-of (suc x ∷ bs) h = number-some (suc x) bs h (λ e. omega (arith, e))
 
-pub digits-some : (bs : List ℕ) (v : ℕ) → AreBytes bs → Some v ≡ digits_of (Some 0) bs → magnitude bs ≡ gives v
+pub digits-some : (bs : List ℕ) (v : ℕ) → AreBytes bs → Some v ≡ digits_of (Some 0) bs → magnitude bs ≡ Ok v
 digits-some bs v h e = by (ltb 16 (length (without_zeros bs))) refl
   where
-    by : (t : Bool) → ltb 16 (length (without_zeros bs)) ≡ t → magnitude bs ≡ gives v
+    by : (t : Bool) → ltb 16 (length (without_zeros bs)) ≡ t → magnitude bs ≡ Ok v
     by true k = let over : 16 < length (without_zeros bs) = grind (arith, nat_tests) in let n : Some v ≡ None = e ∙
         (number-of bs h).1 over in cc
     by false k =
@@ -133,10 +133,10 @@ digits-some bs v h e = by (ltb 16 (length (without_zeros bs))) refl
         let m : v ≡ big_endian bs = cc in
         rw m (grind (arith, nat_tests))
 
-pub digits-none : (bs : List ℕ) → AreBytes bs → None ≡ digits_of (Some 0) bs → magnitude bs ≡ refuses kinds.TooLarge
+pub digits-none : (bs : List ℕ) → AreBytes bs → None ≡ digits_of (Some 0) bs → magnitude bs ≡ Err kinds.TooLarge
 digits-none bs h e = by (ltb 16 (length (without_zeros bs))) refl
   where
-    by : (t : Bool) → ltb 16 (length (without_zeros bs)) ≡ t → magnitude bs ≡ refuses kinds.TooLarge
+    by : (t : Bool) → ltb 16 (length (without_zeros bs)) ≡ t → magnitude bs ≡ Err kinds.TooLarge
     by true k = grind (arith, nat_tests)
     by false k = let fits : length (without_zeros bs) ≤ 16 = grind (arith, nat_tests) in
         let n : None ≡ Some (big_endian bs) = e ∙ (number-of bs h).0 fits in cc
@@ -175,12 +175,13 @@ digit-more E remaining d e buffer x left n start value next y one some is (b, ta
 
 -- where so many bytes are there, filling a buffer with them is refused for what they do not decide
 pub fill-outside : {E : Type 0} {S W : Type 0} (can_fail : Bool) (remaining : S → Option (List ℕ)) (d e : Decoder S W)
-    (buffer y : List ℕ) (x : LlError E) → left_of remaining d ≡ Some y → length buffer ≤ length y →
+    (buffer y : List ℕ) (m end : ℕ) (x : LlError E) → left_of remaining d ≡ Some y →
+    length buffer + m ≤ length y → (reader_of remaining d).1 ≤ end + m →
     Takes remaining d e (λ b. IsFillTaken {E = E} b d.counter.count buffer (Err x)) →
     HasEnded can_fail (left_of remaining e) x →
-    IsOutsideFault (reader_of remaining d).1 (fault_of (left_at_failure can_fail (remaining e.reader.now)) (from_ll x))
-fill-outside can_fail remaining d e buffer y (ll.Io x) left there (b, takes, counted, taken, bytes) ended =
-    io-outside (left_at_failure can_fail (remaining e.reader.now)) (reader_of remaining d).1 (λ none.
+    IsOutsideFault end (fault_of (left_at_failure can_fail (remaining e.reader.now)) (from_ll x))
+fill-outside can_fail remaining d e buffer y m end (ll.Io x) left there fits (b, takes, counted, taken, bytes) ended =
+    io-outside (left_at_failure can_fail (remaining e.reader.now)) end (λ none.
     let (r, rest, split) = rest-of (left_of remaining d) (left_of remaining e) y b left takes in
     let all : Some r ≡ Some [] = sym rest ∙ failed-end can_fail (remaining e.reader.now) ended none in
     let empty : r ≡ [] = cc in
@@ -188,10 +189,9 @@ fill-outside can_fail remaining d e buffer y (ll.Io x) left there (b, takes, cou
     let zero : length r ≡ 0 = ap length empty in
     let short = taken.0 in
     omega (arith, size, zero, short, there))
-fill-outside can_fail remaining d e buffer y (ll.Syntax p) left there (b, takes, counted, taken, bytes) ended = absurd
-    taken
-fill-outside can_fail remaining d e buffer y ll.TooLong left there (b, takes, counted, taken, bytes) ended =
-    let end : (reader_of remaining d).1 ≡ d.counter.count + length y = ap (λ o. known_end o d.counter.count) left in
+fill-outside can_fail remaining d e buffer y m end (ll.Syntax p) left there fits took ended = absurd took.3
+fill-outside can_fail remaining d e buffer y m end ll.TooLong left there fits (b, takes, counted, taken, bytes) ended =
+    let all : (reader_of remaining d).1 ≡ d.counter.count + length y = ap (λ o. known_end o d.counter.count) left in
     let past = taken.1 in
-    omega (arith, end, past, there)
-fill-outside can_fail remaining d e buffer y ll.Memory left there (b, takes, counted, taken, bytes) ended = tt
+    omega (arith, all, past, there, fits)
+fill-outside can_fail remaining d e buffer y m end ll.Memory left there fits took ended = tt

@@ -1,7 +1,6 @@
 -- Where a string is spelled, no part of it is refused but as too long.
 use Rattle.std.proofs.Common.{Bool, ◌≡◌, ℕ, ◌+◌, List, [], ◌∷◌, ◌++◌, length, take, drop, Option, Some, None, refl, sym}
-use Rattle.std.proofs.Common.{ap}
-use Rattle.std.proofs.Common.{◌∙◌, subst, append_assoc, inl, inr, ◌<◌, arith, length-append}
+use Rattle.std.proofs.Common.{ap, ◌∙◌, subst, append_assoc, inl, inr, ◌<◌, ◌≤◌, arith, length-append, suc}
 use Rattle.std.proofs.Math.Seq.{take-append_seam, drop-append_seam}
 use Rattle.ciborium_ll.specs.declared.decoder.Decoder.{Decoder}
 use Rattle.ciborium_ll.specs.declared.header.Header.{Header}
@@ -174,13 +173,14 @@ announced-string : (kind : StringKind) (n : ℕ) → announced_length (head_of k
 announced-string of_bytes n = refl
 announced-string of_text n = refl
 
--- at a break
+-- at a break, which z follows
 break-long : (kind : StringKind) (p : ℕ) (r z : List ℕ) (e : Refusal) → e ≡ too_long → r ≡ break_byte ∷ z →
-    ChunkRefuses kind r p e → greatest_offset < p + length r
+    ChunkRefuses kind r p e → greatest_offset + length z < p + length r
 break-long kind p r z e is f (ChunkRefuses.no_head h) =
-    subst (λ (k : List ℕ). greatest_offset < p + length k) (sym f)
-    (head-passes (break_byte ∷ []) z header.Break p refl (omega arith)
-    (subst (λ (k : List ℕ). HeadRefuses k p too_long) f (subst (HeadRefuses r p) is h)))
+    let past : greatest_offset < p + 1 + 0 = head-passes (break_byte ∷ []) z header.Break p refl
+    (subst (λ (k : List ℕ). HeadRefuses k p too_long) f (subst (HeadRefuses r p) is h)) in
+    let size : length r ≡ suc (length z) = ap length f in
+    omega (arith, past, size)
 break-long kind p r z e is f (ChunkRefuses.chunk u (n, k, r', (h, hd, len, g), w)) =
     absurd (payload-long kind n p r' e is w)
 break-long kind p r z e is f (ChunkRefuses.other u string end) = cc
@@ -188,26 +188,29 @@ break-long kind p r z e is f (ChunkRefuses.other u string end) = cc
 -- at a good part
 part-long : (kind : StringKind) (p : ℕ) (r h payload z : List ℕ) (e : Refusal) → e ≡ too_long →
     IsHead h (string_major kind) (length payload) → r ≡ h ++ (payload ++ z) → ChunkRefuses kind r p e →
-    greatest_offset < p + length r
+    greatest_offset + length z < p + length r
 part-long kind p r h payload z e is hd f (ChunkRefuses.no_head w) =
     let there = announced-string kind (length payload) in
     let more = length-append payload z in
-    subst (λ (k : List ℕ). greatest_offset < p + length k) (sym f)
-    (head-passes h (payload ++ z) (head_of kind (Some (length payload))) p (string-spells kind (length payload) h hd)
-    (omega (arith, there, more)) (subst (λ (k : List ℕ). HeadRefuses k p too_long) f
-    (subst (HeadRefuses r p) is w)))
+    let size : length r ≡ length h + length (payload ++ z) = ap length f ∙ length-append h (payload ++ z) in
+    let past = head-passes h (payload ++ z) (head_of kind (Some (length payload))) p
+    (string-spells kind (length payload) h hd)
+    (subst (λ (k : List ℕ). HeadRefuses k p too_long) f (subst (HeadRefuses r p) is w)) in
+    omega (arith, past, there, more, size)
 part-long kind p r h payload z e is hd f (ChunkRefuses.chunk u (n, k, r', (x, xd, len, g), w)) =
     absurd (payload-long kind n p r' e is w)
 part-long kind p r h payload z e is hd f (ChunkRefuses.other u string end) = cc
 
 parts-long : (kind : StringKind) (p : ℕ) (good t r z : List ℕ) (ps qs : List (List ℕ)) (e : Refusal) → e ≡ too_long →
     AreChunks (string_major kind) (IsAllowed kind) good ps → AreChunks (string_major kind) (IsAllowed kind) t qs →
-    good ++ r ≡ t ++ (break_byte ∷ z) → ChunkRefuses kind r p e → greatest_offset < p + length r
+    good ++ r ≡ t ++ (break_byte ∷ z) → ChunkRefuses kind r p e → greatest_offset + length z < p + length r
 parts-long kind p good t r z [] [] e is g h f w = break-long kind p r z e is
     (ap (λ (k : List ℕ). k ++ r) (sym g) ∙ f ∙ ap (λ (k : List ℕ). k ++ (break_byte ∷ z)) h) w
 parts-long kind p good t r z [] (q ∷ qs) e is g (s, c, (x, hd, ok, i), rest, j) f w =
-    part-long kind p r x q (c ++ (break_byte ∷ z)) e is hd
-    (ap (λ (k : List ℕ). k ++ r) (sym g) ∙ f ∙ opened-up x q s c t (break_byte ∷ z) i j) w
+    let long = part-long kind p r x q (c ++ (break_byte ∷ z)) e is hd
+    (ap (λ (k : List ℕ). k ++ r) (sym g) ∙ f ∙ opened-up x q s c t (break_byte ∷ z) i j) w in
+    let more : length (c ++ (break_byte ∷ z)) ≡ length c + suc (length z) = length-append c (break_byte ∷ z) in
+    omega (arith, long, more)
 parts-long kind p good t r z (m ∷ ps) [] e is (s, c, (x, hd, ok, i), rest, j) h f w =
     absurd (string-break kind x m (c ++ r) z hd (sym (opened-up x m s c good r i j) ∙ f ∙
     ap (λ (k : List ℕ). k ++ (break_byte ∷ z)) h))
@@ -217,10 +220,10 @@ parts-long kind p good t r z (m ∷ ps) (q ∷ qs) e is (s, c, (x, hd, ok, i), r
     (sym (opened-up x m s c good r i j) ∙ f ∙ opened-up x' q s' c' t (break_byte ∷ z) i' j') in
     parts-long kind p c c' r z ps qs e is rest rest' same.1 w
 
--- where a string is spelled, what follows its head is refused as too long only where what is there is
+-- where a string is spelled, and z behind it, what follows its head is refused as too long only where it is
 pub content-long : (kind : StringKind) (len : Option ℕ) (p q : ℕ) (y x s z payload : List ℕ) →
     SpellsHeader x (head_of kind len) → Spells s (string_item kind len payload) → x ++ y ≡ s ++ z →
-    ContentRefuses kind len p y q too_long → greatest_offset < q + length y
+    ContentRefuses kind len p y q too_long → greatest_offset + length z < q + length y
 content-long kind (Some n) p q y x s z payload hd sp e (inl (over, same)) =
     let (size, ok, f) = definite-payload kind n y x s z payload hd sp e in
     let long : length y ≡ length payload + length z = ap length f ∙ length-append payload z in
@@ -238,17 +241,16 @@ content-long kind None p q y x s z payload hd sp e (good, ps, r, parts, room, sp
     omega (arith, long, size)
 
 content-outside : {E : Type 0} (left : Option (List ℕ)) (e : LlError E) (kind : StringKind) (len : Option ℕ)
-    (p q : ℕ) (y x s z payload : List ℕ) → SpellsHeader x (head_of kind len) → Spells s (string_item kind len payload) →
-    x ++ y ≡ s ++ z →
-    reading.IsRefusalOf left e (ContentRefuses kind len p y q) →
-    IsOutsideFault (q + length y) (fault_of left (from_ll e))
-content-outside left (ll.Io e) kind len p q y x s z payload hd sp f r = io-outside left (q + length y) (λ none.
+    (p q end : ℕ) (y x s z payload : List ℕ) → SpellsHeader x (head_of kind len) →
+    Spells s (string_item kind len payload) → x ++ y ≡ s ++ z → q + length y ≤ end + length z →
+    reading.IsRefusalOf left e (ContentRefuses kind len p y q) → IsOutsideFault end (fault_of left (from_ll e))
+content-outside left (ll.Io e) kind len p q end y x s z payload hd sp f fits r = io-outside left end (λ none.
     let never = content-only kind len p q io y x s z payload hd sp f (r none) in cc)
-content-outside left (ll.Syntax at) kind len p q y x s z payload hd sp f r =
+content-outside left (ll.Syntax at) kind len p q end y x s z payload hd sp f fits r =
     let never = content-only kind len p q (syntax at) y x s z payload hd sp f r in cc
-content-outside left ll.TooLong kind len p q y x s z payload hd sp f r =
-    content-long kind len p q y x s z payload hd sp f r
-content-outside left ll.Memory kind len p q y x s z payload hd sp f r = tt
+content-outside left ll.TooLong kind len p q end y x s z payload hd sp f fits r =
+    let long = content-long kind len p q y x s z payload hd sp f r in omega (arith, long, fits)
+content-outside left ll.Memory kind len p q end y x s z payload hd sp f fits r = tt
 
 -- the payload of a string whose head was taken is refused for what no string decides
 pub content-denied : {S W E : Type 0} (can_fail : Bool) (remaining : S → Option (List ℕ)) (d e : Decoder S W)
@@ -258,11 +260,9 @@ pub content-denied : {S W E : Type 0} (can_fail : Bool) (remaining : S → Optio
     HasEnded can_fail (left_of remaining e) x → DeniesContent (IsUnreadBy remaining d pending) (known_end
     (left_of remaining d) d.counter.count) kind len
     (fault_of (left_at_failure can_fail (remaining e.reader.now)) (from_ll x))
-content-denied can_fail remaining d e pending x kind len none refused ended y b s z payload u hd sp split =
+content-denied can_fail remaining d e pending x kind len none refused ended y b s z payload end u hd sp split fits =
     let left = subst (λ o. IsUnreadBy remaining d o y) none u in
-    subst (λ n. IsOutsideFault n (fault_of (left_at_failure can_fail (remaining e.reader.now)) (from_ll x)))
-    (sym (ap (λ o. known_end o d.counter.count) left))
-    (subst (IsOutsideFault (d.counter.count + length y)) (failed-fault can_fail (left_of remaining e) (from_ll x)
+    subst (IsOutsideFault end) (failed-fault can_fail (left_of remaining e) (from_ll x)
     (ended-ll can_fail (left_of remaining e) x ended))
-    (content-outside (left_of remaining e) x kind len d.last d.counter.count y b s z payload hd sp split
-    (refused y left)))
+    (content-outside (left_of remaining e) x kind len d.last d.counter.count end y b s z payload hd sp split
+    (subst (λ o. known_end o d.counter.count ≤ end + length z) left fits) (refused y left))

@@ -13,8 +13,8 @@ use Rattle.ciborium_ll.specs.StringRefusal.{StringKind, of_bytes, of_text, strin
 use Rattle.ciborium_ll.specs.Strings.{IsStringTaken}
 use Rattle.ciborium_ll.proofs.Unread.{rest-of}
 use Rattle.ciborium_value.specs.Nesting.{Limit}
-use Rattle.ciborium_value.specs.Sources.{Fault, IsOutsideFault}
-use Rattle.ciborium_value.specs.Taken.{Taken, gives, refuses, untagged, bare_text, taken_text}
+use Rattle.ciborium_value.specs.Sources.{Fault}
+use Rattle.ciborium_value.specs.Taken.{Taken, bare_text, gives, outcome, refuses, settled, taken_text, untagged}
 use Rattle.ciborium_value.specs.declared.kind.Kind.TheVariants as kinds
 use Rattle.ciborium.specs.inner.ByteSources.{IsUnreadBy}
 use Rattle.ciborium.specs.inner.FrontItems.{DeniesItem, Denies, Reads}
@@ -76,11 +76,12 @@ pub denies-content : {S : Type 0} (IsUnread : S → List ℕ → Type 0) (End : 
     (kind : StringKind) (len : Option ℕ) (fault : Fault) → ((b : List ℕ) → IsUnread old b → End mid ≡ End old) →
     TakesBare IsUnread old mid numbers (head_of kind len) → DeniesContent (IsUnread mid) (End mid) kind len fault →
     DeniesItem IsUnread End old fault
-denies-content IsUnread End numbers old mid kind len fault same bare none b s z j u sp e =
+denies-content IsUnread End numbers old mid kind len fault same bare none b s z j end u sp e fits =
     let (ts, w, x, y, tagged, all, hd, f, un) = bare b u in
     let (i, t, is, sq, g) = tagged.inward j s z sp e in
     let (payload, io) = string-only kind len i (same-head t z x y i (head_of kind len) sq hd (sym g ∙ f)).0 in
-    subst (λ n. IsOutsideFault n fault) (same b u) (none y x t z payload un hd (subst (Spells t) io sq) (sym f ∙ g))
+    none y x t z payload end un hd (subst (Spells t) io sq) (sym f ∙ g)
+    (subst (λ n. n ≤ end + length z) (sym (same b u)) fits)
 
 -- so the item that the string is in is refused
 pub denies-string : {S A : Type 0} (IsUnread : S → List ℕ → Type 0) (End : S → ℕ) (l : Limit) (taken : Taken A)
@@ -133,7 +134,8 @@ content-fewer E remaining d e kind len start out empty (b, takes, count, (added,
 pub string-behind : {S A : Type 0} (IsUnread : S → List ℕ → Type 0) (mid new : S) (kind : StringKind) (len : Option ℕ)
     (l : Limit) (taken : Taken A) (payload : List ℕ) (v : A) →
     TakesContent (IsUnread mid) (IsUnread new) kind len payload →
-    ((ts : List ℕ) → AreSkipped false ts → taken l (under ts (string_item kind len payload)) ≡ gives v) → (y : List ℕ) →
+    ((ts : List ℕ) → AreSkipped false ts → outcome l (taken (under ts (string_item kind len payload))) ≡ gives v) →
+    (y : List ℕ) →
     IsUnread mid y → ReadsBehind IsUnread new false (head_of kind len) l taken v y
 string-behind IsUnread mid new kind len l taken payload v content give y un =
     let (c, z, make, f, un') = content y un in
@@ -143,15 +145,16 @@ pub reads-string : {S A : Type 0} (IsUnread : S → List ℕ → Type 0) (old mi
     (len : Option ℕ) (l : Limit) (taken : Taken A) (payload : List ℕ) (v : A) →
     TakesBare IsUnread old mid false (head_of kind len) →
     TakesContent (IsUnread mid) (IsUnread new) kind len payload →
-    ((ts : List ℕ) → AreSkipped false ts → taken l (under ts (string_item kind len payload)) ≡ gives v) →
+    ((ts : List ℕ) → AreSkipped false ts → outcome l (taken (under ts (string_item kind len payload))) ≡ gives v) →
     Reads IsUnread old new l taken v
 reads-string IsUnread old mid new kind len l taken payload v bare content give =
     reads-bare IsUnread false (head_of kind len) l taken old mid new v bare
     (string-behind IsUnread mid new kind len l taken payload v content give)
 
 pub text-other : (l : Limit) (h : Header) → IsBare false h → ((n : Option ℕ) → h ≡ header.Text n → ⊥) →
-    (ts : List ℕ) (i : Item) → AreSkipped false ts → header_of i ≡ h → taken_text l (under ts i) ≡ refuses kinds.Text
-text-other l h bare p ts i all e = ap bare_text (untagged-under ts i) ∙
-    by-shape (λ j. bare_text (untagged j) ≡ refuses kinds.Text) h (λ n k. refl) (λ n k. refl) (λ o b k. refl)
+    (ts : List ℕ) (i : Item) → AreSkipped false ts → header_of i ≡ h →
+    outcome l (taken_text (under ts i)) ≡ refuses kinds.Text
+text-other l h bare p ts i all e = ap (λ j. settled (bare_text j)) (untagged-under ts i) ∙
+    by-shape (λ j. settled (bare_text (untagged j)) ≡ refuses kinds.Text) h (λ n k. refl) (λ n k. refl) (λ o b k. refl)
     (λ o b k. absurd (p _ k)) (λ o is k. refl) (λ o ps k. refl) (λ n k. refl) (λ raw k. refl)
     (λ t j k. no-bare-tag h t bare k) i e

@@ -6,7 +6,7 @@ use Rattle.ciborium_value.specs.Encoding.{written_bytes}
 use Rattle.ciborium_value.specs.Readings.{Reading}
 use Rattle.ciborium_value.specs.ReadsBack.{IsReadBack, by_bytes}
 use Rattle.ciborium_value.specs.Sinks.{Named}
-use Rattle.ciborium_value.specs.Taken.{gives}
+use Rattle.ciborium_value.specs.Taken.{gives, outcome}
 use Rattle.ciborium_value.specs.WrittenContents.{IsWrittenByContent}
 use Rattle.ciborium_value.proofs.Writing.ReadBack.{written_spells_item}
 use Rattle.ciborium.specs.laws.RoundTrips.{AreRefusedAlike, BytesWrittenAgain, LeaveSameBytes, TreeWrittenAgain}
@@ -46,10 +46,12 @@ module _ {T C : Type 0} (IsHeld : T → Type 0) (written : T → Named) (reading
   pub bytes_written_again : BytesWrittenAgain IsHeld written reading levels
   bytes_written_again v w i l rest after held names fits within (j, s, left, sp, e, give, is) =
       let one = one_at_front (written_bytes i) s rest left i j (written_spells_item i fits) sp e in
-      let given : reading.taken (Some l) i ≡ gives (reading.content v) =
+      let given : outcome (Some l) (reading.taken i) ≡ gives (reading.content v) =
       (law v held).back by_bytes i names (Some l) within in
-      let taken : reading.taken (Some l) i ≡ gives (reading.content w) = ap (reading.taken (Some l)) one.2 ∙ give in
-      alike w v (one-content (reading.taken (Some l) i) (reading.content v) (reading.content w) given taken) ∙ names
+      let taken : outcome (Some l) (reading.taken i) ≡ gives (reading.content w) =
+      ap (λ j. outcome (Some l) (reading.taken j)) one.2 ∙ give in
+      alike w v (one-content (outcome (Some l) (reading.taken i)) (reading.content v) (reading.content w) given taken) ∙
+      names
 
   pub tree_written_again : TreeWrittenAgain IsHeld written reading
   tree_written_again v w made held is give = alike w v

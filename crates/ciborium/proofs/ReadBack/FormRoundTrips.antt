@@ -9,8 +9,7 @@ use Rattle.ciborium_value.specs.lemmas.ItemsOfTrees.{tree_is_written_as_itself}
 use Rattle.ciborium_value.specs.Readings.{Reading}
 use Rattle.ciborium_value.specs.ReadsBack.{IsReadBack, by_tree}
 use Rattle.ciborium_value.specs.Sinks.{Named}
-use Rattle.ciborium_value.specs.lemmas.Steady.{IsSameUnlessNested}
-use Rattle.ciborium_value.specs.Taken.{Outcome, Taken, gives}
+use Rattle.ciborium_value.specs.Taken.{Outcome, Taken, gives, outcome}
 use Rattle.ciborium_value.specs.Tree.{Tree}
 use Rattle.ciborium_value.specs.View.{tree_of}
 use Rattle.ciborium_value.specs.WrittenItems.{IsWritten}
@@ -19,14 +18,16 @@ use Rattle.ciborium_value.specs.declared.tree.Value.{Value}
 use Rattle.ciborium_value.proofs.Forms.OwnForms.{accepted_where_own_form, form_is_its_own}
 use Rattle.ciborium_value.proofs.Forms.ProperForms.{form_is_proper}
 use Rattle.ciborium_value.proofs.Writing.ReadBack.{written_spells_item}
-use Rattle.ciborium.specs.ValueAnswers.{TakesValue}
+use Rattle.ciborium.specs.ValueClauses.{TakesValue}
 use Rattle.ciborium.specs.DeterministicWrites.{named_form}
 use Rattle.ciborium.specs.laws.FormRoundTrips.{FormIsReadBack, IsFormContentGiven, IsFormContentReadBack}
 use Rattle.ciborium.specs.laws.FormRoundTrips.{IsFormReadAlike, IsFormReadBack, IsOwnForm}
-use Rattle.ciborium.specs.Spelling.{deterministic}
+use Rattle.ciborium_value.specs.Spelling.{deterministic}
 use Rattle.ciborium.specs.TypedAnswers.{TakesGiving}
 use Rattle.ciborium.proofs.ReadBack.RoundTrips.{one-content}
-use Rattle.ciborium.proofs.Strict.StrictOutcome.{spells}
+use Rattle.ciborium_value.proofs.GoodItems.Accepted.{written-item}
+use Rattle.ciborium.proofs.ReadBack.SourcesAgree.{without-gives}
+use Rattle.ciborium_value.proofs.Sources.Limits.{same-within}
 
 -- the encoding of the form stands at the front, and is the one that is accepted
 pub form_is_read_back : FormIsReadBack
@@ -48,7 +49,7 @@ read-tree : (o : KeyOrder) (t w : Tree) (bytes : List ℕ) (l : ℕ) (after : Op
     bytes ≡ encoding t → TakesValue (deterministic o) bytes l w after → t ≡ w
 read-tree o t w bytes l after fits same (s, left, accepted, e, is) =
     let one = one_at_front (encoding t) s [] left (item_of t) (item_of w) (written_spells_item (item_of t) fits)
-    (spells o s 0 l w accepted) (append-nil (encoding t) ∙ sym same ∙ e) in
+    (written-item o s 0 (Some l) w accepted) (append-nil (encoding t) ∙ sym same ∙ e) in
     sym (tree_is_written_as_itself t) ∙ ap written_tree one.2 ∙ tree_is_written_as_itself w
 
 pub form_read_back : (o : KeyOrder) (named : Named) (l : ℕ) (w : Value) (bytes rest : List ℕ) →
@@ -61,34 +62,30 @@ form_read_back o named l w bytes rest old new (t, form, out) (u, own, fits) read
 
 -- ---- as any type
 
--- what is given within a limit is given without one
-given-without : {C : Type 0} (within without : Outcome C) (c : C) → IsSameUnlessNested within without →
-    within ≡ gives c → without ≡ gives c
-given-without within without c h e = subst (λ o. IsSameUnlessNested o without) e h
-
 own-alike : {C : Type 0} (taken : Taken C) (o : KeyOrder) (named : Named) → IsOwnForm o named →
     IsFormReadAlike taken o named
-own-alike taken o (Ok i) own = λ t form. ap (λ v. taken None (item_of v))
+own-alike taken o (Ok i) own = λ t form. ap (λ v. outcome None (taken (item_of v)))
     (one-form (deterministic_form o (written_tree i)) t (written_tree i) form own)
 own-alike taken o (Err k) own = own
 
 module _ {T C : Type 0} (written : T → Named) (reading : Reading T C) where
   -- what is read at the front of its encoding is the content
   read-content : (t : Tree) (l : ℕ) (bytes : List ℕ) (after : Option (List ℕ)) (c d : C) → IsWritten (item_of t) →
-      bytes ≡ encoding t → reading.taken None (item_of t) ≡ gives d → TakesGiving (Some l) reading.taken bytes c after →
-      c ≡ d
+      bytes ≡ encoding t → outcome None (reading.taken (item_of t)) ≡ gives d →
+      TakesGiving (Some l) reading.taken bytes c after → c ≡ d
   read-content t l bytes after c d fits same given (j, s, left, sp, e, give, is) =
       let one = one_at_front (encoding t) s [] left (item_of t) j (written_spells_item (item_of t) fits) sp
       (append-nil (encoding t) ∙ sym same ∙ e) in
-      let here : reading.taken (Some l) (item_of t) ≡ gives c = ap (reading.taken (Some l)) one.2 ∙ give in
-      one-content (reading.taken None (item_of t)) d c given
-      (given-without (reading.taken (Some l) (item_of t)) (reading.taken None (item_of t)) c
-      (reading.steady.within l (item_of t)) here)
+      let here : outcome (Some l) (reading.taken (item_of t)) ≡ gives c =
+      ap (λ j. outcome (Some l) (reading.taken j)) one.2 ∙ give in
+      one-content (outcome None (reading.taken (item_of t))) d c given
+      (without-gives (outcome (Some l) (reading.taken (item_of t))) (outcome None (reading.taken (item_of t))) c
+      (same-within (reading.taken (item_of t)) l) here)
 
   -- where reading takes the content from the form, the bytes that were written give it
   content-read_back : (o : KeyOrder) (l : ℕ) (v again : T) (bytes rest : List ℕ) →
-      ((t : Tree) → named_form o (written v) ≡ gives t → reading.taken None (item_of t) ≡ gives (reading.content v)) →
-      IsFormContentGiven (λ w. Unit {0}) written reading o l v again bytes rest
+      ((t : Tree) → named_form o (written v) ≡ gives t → outcome None (reading.taken (item_of t)) ≡
+      gives (reading.content v)) → IsFormContentGiven (λ w. Unit {0}) written reading o l v again bytes rest
   content-read_back o l v again bytes rest given old new held (t, form, out) (u, own, fits) takes none same =
       let one : u ≡ t = one-form (named_form o (written v)) u t own form in
       let t-fits : IsWritten (item_of t) = subst (λ w. IsWritten (item_of w)) one fits in
@@ -99,7 +96,7 @@ module _ {T C : Type 0} (written : T → Named) (reading : Reading T C) where
 module _ {T C : Type 0} (IsHeld : T → Type 0) (written : T → Named) (reading : Reading T C)
     (law : (o : KeyOrder) → IsReadFromForm o IsHeld written reading.taken reading.content) where
   from-form : (o : KeyOrder) (v : T) → IsHeld v → (n : Named) → written v ≡ n → (t : Tree) → named_form o n ≡ gives t →
-      reading.taken None (item_of t) ≡ gives (reading.content v)
+      outcome None (reading.taken (item_of t)) ≡ gives (reading.content v)
   from-form o v held (Ok i) names t form = (law o v held).back i names t form
   from-form o v held (Err k) names t form = absurd cc
 
@@ -113,7 +110,7 @@ module _ {T C : Type 0} (IsHeld : T → Type 0) (written : T → Named) (reading
     (law : IsReadBack IsHeld written reading.taken reading.content levels) where
   -- reading takes the content from the form of what is named
   form-content : (o : KeyOrder) (v : T) → IsHeld v → (n : Named) → written v ≡ n → IsFormReadAlike reading.taken o n →
-      (t : Tree) → named_form o n ≡ gives t → reading.taken None (item_of t) ≡ gives (reading.content v)
+      (t : Tree) → named_form o n ≡ gives t → outcome None (reading.taken (item_of t)) ≡ gives (reading.content v)
   form-content o v held (Ok i) names alike t form = alike t form ∙ (law v held).back by_tree i names None tt
   form-content o v held (Err k) names alike t form = absurd alike
 

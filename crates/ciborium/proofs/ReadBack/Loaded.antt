@@ -19,7 +19,7 @@ use Rattle.ciborium_value.specs.Places.{dictionary, pairs_from}
 use Rattle.ciborium_value.specs.Readings.{Reading}
 use Rattle.ciborium_value.specs.ReadsBack.{IsReadBack, by_bytes}
 use Rattle.ciborium_value.specs.Sinks.{Named, all_named, and_then, contained, container_of, in_turn, named_value}
-use Rattle.ciborium_value.specs.Taken.{gives}
+use Rattle.ciborium_value.specs.Taken.{gives, outcome}
 use Rattle.ciborium_value.specs.Tree as trees
 use Rattle.ciborium_value.specs.Tree.{Tree, TreePairs}
 use Rattle.ciborium_value.specs.View.{tree_of, tree_pairs_of}
@@ -29,68 +29,72 @@ use Rattle.ciborium_value.specs.WrittenItems.{IsWritten}
 use Rattle.ciborium_value.specs.declared.tree.Value.{Value}
 use Rattle.ciborium_value.proofs.Writing.ReadBack.{written_spells_item, written_tree_is_proper}
 use Rattle.ciborium.specs.declared.de.error.Error.{Error}
-use Rattle.ciborium.specs.ValueAnswers.{AnswersGoodItem, GivesTree, TakesValue}
+use Rattle.ciborium.specs.ValueAnswers.{AnswersGoodItem, GivesTree}
+use Rattle.ciborium.specs.ValueClauses.{TakesValue}
 use Rattle.ciborium_value.specs.Deterministic as rising
-use Rattle.ciborium_value.specs.Deterministic.{AreRising, HasRisingKeys, IsAccepted, IsCanonicalTree}
-use Rattle.ciborium_value.specs.Deterministic.{PairsHaveRisingKeys}
+use Rattle.ciborium_value.specs.Deterministic.{AreRising, HasRisingKeys, PairsHaveRisingKeys}
+use Rattle.ciborium_value.specs.CanonicalTrees.{IsCanonicalTree}
 use Rattle.ciborium.specs.laws.Loaded.{AreCanonicalParts, IsContentLoaded, IsDeterministicStore, IsLoaded, IsStoreHeld}
 use Rattle.ciborium.specs.laws.Loaded.{LoadedAsSaved, LoadingGivesContent, store_tree}
-use Rattle.ciborium.specs.Spelling.{deterministic}
+use Rattle.ciborium_value.specs.Spelling.{deterministic}
 use Rattle.ciborium.specs.declared.ser.error.Error.{Error as WriteError}
 use Rattle.ciborium.specs.Writes.{IsNamedWritten, WritesNamed}
 use Rattle.ciborium.proofs.Encodings.RisingKeys.{keys-rise}
 use Rattle.ciborium.proofs.ReadBack.RoundTrips.{one-content}
-use Rattle.ciborium.proofs.Strict.StrictOutcome.{spells}
+use Rattle.ciborium_value.proofs.GoodItems.Accepted.{accepted, written-item}
 
 -- ---- any type
 
 pub loaded_as_saved : {T C : Type 0} (IsHeld : T → Type 0) (written : T → Named) (reading : Reading T C)
     (levels : T → ℕ) → IsReadBack IsHeld written reading.taken reading.content levels →
     LoadedAsSaved IsHeld written reading
-loaded_as_saved {T} {C} IsHeld written reading levels law v t l rest after r held names accepted fits answers =
-    by r (answers (encoding t ++ rest) (encoding t) rest t refl ((refl, accepted.0), accepted.1, omega (arith, fits))
+loaded_as_saved {T} {C} IsHeld written reading levels law v t l rest after r held names canonical nests fits answers =
+    by r (answers (encoding t ++ rest) (encoding t) rest t refl
+    (accepted LengthFirst (encoding t) 0 (Some l) t (refl, canonical) nests (omega (arith, fits)))
     refl)
   where
     by : (r : Result Tree (Error IoError)) → GivesTree t rest after r →
         IsLoaded reading.taken (reading.content v) rest after r
     by (Ok w) (same, left) = (
       left,
-      ap (λ u. reading.taken None (item_of u)) (sym same) ∙
+      ap (λ u. outcome None (reading.taken (item_of u))) (sym same) ∙
           (law v held).back by_bytes (item_of t) names None tt,
     )
     by (Err e) failed = failed
 
 pub loading_gives_content : {T C : Type 0} (IsHeld : T → Type 0) (written : T → Named) (reading : Reading T C) →
     LoadedAsSaved IsHeld written reading → LoadingGivesContent IsHeld written reading
-loading_gives_content IsHeld written reading law v t w l old new bytes after c held names accepted fits appends answers
+loading_gives_content IsHeld written reading law v t w l old new bytes after c held names canonical nests fits appends
+    answers
     give none same =
     let out : new ≡ old ++ encoding t = subst (λ n. WritesNamed {E = WriteError IoError} (Some old) (Some new) (Ok tt)
     n) names appends in
     let whole : bytes ≡ encoding t = same ∙ out ∙ ap (λ (b : List ℕ). b ++ encoding t) none in
     let all : bytes ≡ encoding t ++ [] = whole ∙ sym (append-nil (encoding t)) in
-    let loaded = law v t l [] after (Ok w) held names accepted
+    let loaded = law v t l [] after (Ok w) held names canonical nests
     (subst (λ (b : List ℕ). length b ≤ greatest_offset) whole fits)
     (subst (λ b. AnswersGoodItem {E = IoError} (deterministic LengthFirst) (Some b) l after (Ok w)) all answers) in
-    one-content (reading.taken None (item_of w)) (reading.content v) c loaded.1 give
+    one-content (outcome None (reading.taken (item_of w))) (reading.content v) c loaded.1 give
 
 module _ {T C : Type 0} (IsHeld : T → Type 0) (written : T → Named) (reading : Reading T C) (levels : T → ℕ)
     (law : IsReadBack IsHeld written reading.taken reading.content levels) where
   -- an item that is named was written whole: a tree that is read at its front has just that item
   front-content : (o : KeyOrder) (v : T) (l : ℕ) (w : Tree) (bytes : List ℕ) (after : Option (List ℕ)) (c : C) →
       IsHeld v → (i : Item) → written v ≡ Ok i → IsWritten i → bytes ≡ written_bytes i →
-      TakesValue (deterministic o) bytes l w after → reading.taken None (item_of w) ≡ gives c → c ≡ reading.content v
-  front-content o v l w bytes after c held i names fits same (s, left, accepted, e, is) give =
+      TakesValue (deterministic o) bytes l w after → outcome None (reading.taken (item_of w)) ≡ gives c → c ≡
+      reading.content v
+  front-content o v l w bytes after c held i names fits same (s, left, good, e, is) give =
       let one = one_at_front (written_bytes i) s [] left i (item_of w) (written_spells_item i fits)
-      (spells o s 0 l w accepted) (append-nil (written_bytes i) ∙ sym same ∙ e) in
-      one-content (reading.taken None i) (reading.content v) c ((law v held).back by_bytes i names None tt)
-      (ap (reading.taken None) one.2 ∙ give)
+      (written-item o s 0 (Some l) w good) (append-nil (written_bytes i) ∙ sym same ∙ e) in
+      one-content (outcome None (reading.taken i)) (reading.content v) c ((law v held).back by_bytes i names None tt)
+      (ap (λ j. outcome None (reading.taken j)) one.2 ∙ give)
 
   -- the same, by cases on what is named
   by-name : (o : KeyOrder) (v : T) (l : ℕ) (w : Tree) (old new bytes : List ℕ) (after : Option (List ℕ)) (c : C) →
       IsHeld v → (n : Named) → written v ≡ n → WritesNamed {E = WriteError IoError} (Some old) (Some new) (Ok tt) n →
       IsNamedWritten n →
-      TakesValue (deterministic o) bytes l w after → reading.taken None (item_of w) ≡ gives c → old ≡ [] → bytes ≡ new →
-      c ≡ reading.content v
+      TakesValue (deterministic o) bytes l w after → outcome None (reading.taken (item_of w)) ≡ gives c → old ≡ [] →
+      bytes ≡ new → c ≡ reading.content v
   by-name o v l w old new bytes after c held (Ok i) names appends fits takes give none same =
       let all : new ≡ written_bytes i = appends ∙ ap (λ (b : List ℕ). b ++ written_bytes i) none in
       front-content o v l w bytes after c held i names fits (same ∙ all) takes give

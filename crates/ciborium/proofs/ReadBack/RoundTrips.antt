@@ -10,16 +10,14 @@ use Rattle.ciborium_value.specs.Readings.{Reading}
 use Rattle.ciborium_value.specs.ReadsBack.{IsReadBack, by_bytes, by_tree}
 use Rattle.ciborium_value.specs.Sinks.{Named}
 use Rattle.ciborium_value.specs.Sources.{Fault, of_kind, of_nesting, of_syntax, of_memory, of_device, of_end}
-use Rattle.ciborium_value.specs.Sources.{of_length}
-use Rattle.ciborium_value.specs.Sources.{IsFaultOf, IsOutsideFault}
-use Rattle.ciborium_value.specs.Taken.{Outcome, gives}
+use Rattle.ciborium_value.specs.Sources.{of_length, IsFaultOf, IsOutsideFault}
+use Rattle.ciborium_value.specs.Taken.{Outcome, gives, outcome}
 use Rattle.ciborium_value.specs.WrittenItems.{IsWritten}
 use Rattle.ciborium_value.proofs.Writing.ReadBack.{written_spells_item}
 use Rattle.ciborium.specs.declared.de.error.Error.{Error}
 use Rattle.ciborium.specs.Errors.{fault_of}
 use Rattle.ciborium_value.specs.declared.error.Error.TheVariants as of_tree
-use Rattle.ciborium_value.specs.TreeAnswers.{IsTreeOf}
-use Rattle.ciborium_value.specs.TreeAnswers.{value_item}
+use Rattle.ciborium_value.specs.TreeAnswers.{IsTreeOf, value_item}
 use Rattle.ciborium_value.specs.declared.tree.Value.{Value}
 use Rattle.ciborium.specs.declared.ser.error.Error.{Error as WriteError}
 use Rattle.ciborium.specs.laws.RoundTrips.{BytesReadBack, IsContentReadBack, IsGivenBack, TreeGivesContent}
@@ -47,22 +45,23 @@ pub bytes_read_back : {T C : Type 0} (IsHeld : T → Type 0) (written : T → Na
 bytes_read_back {T} {C} IsHeld written reading levels law v i l rest after r held names fits within answers =
     by r answers
   where
-    given : reading.taken (Some l) i ≡ gives (reading.content v)
+    given : outcome (Some l) (reading.taken i) ≡ gives (reading.content v)
     given = (law v held).back by_bytes i names (Some l) within
 
     by : (r : Result C (Error IoError)) → AnswersBytes reading.taken l (written_bytes i ++ rest) after r →
-        IsGivenBack (reading.content v) rest (length (written_bytes i ++ rest)) after r
+        IsGivenBack (reading.content v) rest (length (written_bytes i)) after r
     by (Ok c) (taken, refused) =
         let (j, s, left, sp, e, give, is) = taken (written_bytes i ++ rest) refl in
         let one = one_at_front (written_bytes i) s rest left i j (written_spells_item i fits) sp e in (
-          one-content (reading.taken (Some l) i) (reading.content v) c given (ap (reading.taken (Some l)) one.2 ∙ give),
+          one-content (outcome (Some l) (reading.taken i)) (reading.content v) c given
+              (ap (λ j. outcome (Some l) (reading.taken j)) one.2 ∙ give),
           is ∙ ap Some (sym one.1),
         )
     by (Err e) (taken, refused) =
-        let n : ℕ = length (written_bytes i ++ rest) in
+        let n : ℕ = length (written_bytes i) in
         let none : 0 + n ≡ n = omega arith in
         subst (λ m. IsOutsideFault m (fault_of after e)) none
-        (not-blamed (0 + n) (fault_of after e) (reading.taken (Some l) i) (reading.content v) given
+        (not-blamed (0 + n) (fault_of after e) (outcome (Some l) (reading.taken i)) (reading.content v) given
         (refused (written_bytes i ++ rest) refl i (written_bytes i) rest (written_spells_item i fits) refl))
 
 module _ {T C : Type 0} (IsHeld : T → Type 0) (written : T → Named) (reading : Reading T C) (levels : T → ℕ)
@@ -74,8 +73,8 @@ module _ {T C : Type 0} (IsHeld : T → Type 0) (written : T → Named) (reading
   taken-content v l bytes after c held within i names fits same (j, s, left, sp, e, give, is) =
       let one = one_at_front (written_bytes i) s [] left i j (written_spells_item i fits) sp
       (append-nil (written_bytes i) ∙ sym same ∙ e) in
-      one-content (reading.taken (Some l) i) (reading.content v) c ((law v held).back by_bytes i names (Some l) within)
-      (ap (reading.taken (Some l)) one.2 ∙ give)
+      one-content (outcome (Some l) (reading.taken i)) (reading.content v) c
+      ((law v held).back by_bytes i names (Some l) within) (ap (λ j. outcome (Some l) (reading.taken j)) one.2 ∙ give)
 
   -- the same, by cases on what is named
   by-name : (v : T) (l : ℕ) (old new bytes : List ℕ) (after : Option (List ℕ)) (c : C) → IsHeld v →
@@ -94,14 +93,14 @@ module _ {T C : Type 0} (IsHeld : T → Type 0) (written : T → Named) (reading
       (takes bytes refl) none same
 
   made-content : (v : T) (made : Value) → IsHeld v → (n : Named) → written v ≡ n → IsTreeOf n made →
-      reading.taken None (value_item made) ≡ gives (reading.content v)
-  made-content v made held (Ok i) names is = ap (λ t. reading.taken None (item_of t)) is ∙
+      outcome None (reading.taken (value_item made)) ≡ gives (reading.content v)
+  made-content v made held (Ok i) names is = ap (λ t. outcome None (reading.taken (item_of t))) is ∙
       (law v held).back by_tree i names None tt
   made-content v made held (Err k) names is = absurd is
 
   pub tree_gives_content : TreeGivesContent IsHeld written reading
-  tree_gives_content v made c held is give = one-content (reading.taken None (value_item made)) (reading.content v) c
-      (made-content v made held (written v) refl is) give
+  tree_gives_content v made c held is give = one-content (outcome None (reading.taken (value_item made)))
+      (reading.content v) c (made-content v made held (written v) refl is) give
 
   pub tree_read_back : TreeReadBack IsHeld written reading
   tree_read_back v made (Ok d) held is answers = tree_gives_content v made d held is answers

@@ -1,7 +1,7 @@
 -- What is written as a sequence is read back.
 use Rattle.std.proofs.Common.{◌≡◌, ℕ, suc, ◌<◌, ◌≤◌, List, [], ◌∷◌, ◌++◌, length, map, All, Option, Some, None, Result}
-use Rattle.std.proofs.Common.{Ok, Err}
-use Rattle.std.proofs.Common.{refl, sym, ap, ◌∙◌, subst, arith, length-append}
+use Rattle.std.proofs.Common.{Ok, Err, ◌+◌, refl, sym, ap, ◌∙◌, subst, arith}
+use Rattle.std.proofs.Math.Nat.{le-max_left, le-max_right}
 use Rattle.std.specs.declared.io.Error.{Error as IoError}
 use Rattle.ciborium_ll.specs.Bytes.{greatest_offset}
 use Rattle.ciborium_ll.specs.Item.{Item}
@@ -12,10 +12,9 @@ use Rattle.ciborium_value.specs.Nesting.{Limit, IsWithin}
 use Rattle.ciborium_value.specs.Places.{items_from}
 use Rattle.ciborium_value.specs.Readings.{Reading}
 use Rattle.ciborium_value.specs.Sinks.{Named, all_named}
-use Rattle.ciborium_value.specs.Sources.{Fault, of_kind, of_nesting, of_syntax, of_memory, of_device, of_end}
-use Rattle.ciborium_value.specs.Sources.{of_length}
+use Rattle.ciborium_value.specs.Sources.{Fault, of_kind, of_nesting, of_syntax, of_memory, of_device, of_end, of_length}
 use Rattle.ciborium_value.specs.Sources.{IsOutsideFault}
-use Rattle.ciborium_value.specs.Taken.{Taken, gives}
+use Rattle.ciborium_value.specs.Taken.{Taken, gives, outcome}
 use Rattle.ciborium_value.specs.WrittenItems.{AreWritten}
 use Rattle.ciborium_value.proofs.Writing.Progress.{and_then_is}
 use Rattle.ciborium_value.proofs.Writing.ReadBack.{written_spells_item}
@@ -25,7 +24,7 @@ use Rattle.ciborium.specs.declared.de.error.Error.TheVariants.{TooLong}
 use Rattle.ciborium.specs.Errors.{fault_of}
 use Rattle.ciborium.specs.SequenceReads.{GivesInTurn, GivesThen, TakesSequence}
 use Rattle.ciborium.specs.laws.SequenceRoundTrips.{AnswersSequence, AreContentsReadBack, AreGivenBack}
-use Rattle.ciborium.specs.laws.SequenceRoundTrips.{SequenceReadsBack}
+use Rattle.ciborium.specs.laws.SequenceRoundTrips.{SequenceReadsBack, longest}
 use Rattle.ciborium.specs.SequenceWrites.{AllNamed, AreNamedWritten, WritesInTurn}
 use Rattle.ciborium.specs.declared.ser.error.Error.{Error as WriteError}
 use Rattle.ciborium.specs.TypedAnswers.{IsFaultAhead}
@@ -34,7 +33,7 @@ use Rattle.ciborium.proofs.Encodings.Sequences.{never-empty}
 
 -- ---- faults that no item decides
 
--- what passes the greatest offset does so behind more bytes too
+-- what passes the greatest offset does so further on too
 outside-further : (n m : ℕ) (f : Fault) → n ≤ m → IsOutsideFault n f → IsOutsideFault m f
 outside-further n m (of_kind k) le h = h
 outside-further n m of_nesting le h = h
@@ -61,17 +60,17 @@ abbrev pub AreGiven : {C : Type 0} → Limit → Taken C → List Item → List 
 AreGiven l taken [] [] = Unit {0}
 AreGiven l taken [] (c ∷ cs) = ⊥
 AreGiven l taken (i ∷ is) [] = ⊥
-AreGiven l taken (i ∷ is) (c ∷ cs) = (taken l i ≡ gives c) × AreGiven l taken is cs
+AreGiven l taken (i ∷ is) (c ∷ cs) = (outcome l (taken i) ≡ gives c) × AreGiven l taken is cs
 
 module _ {C : Type 0} (l : Limit) (taken : Taken C) where
   -- the same item stands at the front of its bytes and others, and gives its content alone
   same-front : (i j : Item) (is : List Item) (s left : List ℕ) (c d : C) → AreWritten (items_from (i ∷ is)) →
-      taken l i ≡ gives c → Spells s j → items_bytes (items_from (i ∷ is)) ≡ s ++ left → taken l j ≡ gives d →
-      (items_bytes (items_from is) ≡ left) × (d ≡ c)
+      outcome l (taken i) ≡ gives c → Spells s j → items_bytes (items_from (i ∷ is)) ≡ s ++ left → outcome l (taken j) ≡
+      gives d → (items_bytes (items_from is) ≡ left) × (d ≡ c)
   same-front i j is s left c d (first, more) given spelled split gave =
       let one = one_at_front (written_bytes i) s (items_bytes (items_from is)) left i j (written_spells_item i first)
       spelled split in
-      (one.1, one-content (taken l i) c d given (ap (taken l) one.2 ∙ gave))
+      (one.1, one-content (outcome l (taken i)) c d given (ap (λ j. outcome l (taken j)) one.2 ∙ gave))
 
   given-back : (is : List Item) (cs ds : List C) → AreWritten (items_from is) → AreGiven l taken is cs →
       GivesInTurn l taken (items_bytes (items_from is)) ds → ds ≡ cs
@@ -92,24 +91,24 @@ module _ {C : Type 0} (l : Limit) (taken : Taken C) where
   outside-behind : (front fault : Fault) → ((n : ℕ) → IsOutsideFault n front → IsOutsideFault n fault) →
       (is : List Item) (cs ds : List C) (u : List ℕ) → AreWritten (items_from is) →
       AreGiven l taken is cs → GivesThen l taken (items_bytes (items_from is)) ds u →
-      IsFaultAhead (length u) l taken u front → (u ≡ [] → IsOutsideFault 0 fault) →
-      IsOutsideFault (length (items_bytes (items_from is))) fault
+      IsFaultAhead 0 l taken u front → (u ≡ [] → IsOutsideFault 0 fault) →
+      IsOutsideFault (longest is) fault
   outside-behind front fault so [] [] [] u fits given gave ahead end = end (sym gave)
   outside-behind front fault so [] [] (d ∷ ds) u fits given (j, s, left, spelled, split, gave, more) ahead end =
       absurd (never-empty [] s left j spelled refl split)
   outside-behind front fault so [] (c ∷ cs) ds u fits given gave ahead end = absurd given
   outside-behind front fault so (i ∷ is) [] ds u fits given gave ahead end = absurd given
   outside-behind front fault so (i ∷ is) (c ∷ cs) [] u (first, rest) given gave ahead end =
-      subst (λ b. IsOutsideFault (length b) fault) (sym gave)
-      (so (length u) (not-blamed (length u) front (taken l i) c given.0
+      let less = le-max_left (length (written_bytes i)) (longest is) in
+      outside-further (0 + length (written_bytes i)) (longest (i ∷ is)) fault (omega (arith, less))
+      (so (0 + length (written_bytes i)) (not-blamed (0 + length (written_bytes i)) front (outcome l (taken i)) c
+      given.0
       (ahead i (written_bytes i) (items_bytes (items_from is)) (written_spells_item i first) (sym gave))))
   outside-behind front fault so (i ∷ is) (c ∷ cs) (d ∷ ds) u fits (one, given) (j, s, left, spelled, split, gave, more)
       ahead end
       =
       let (behind, same) = same-front i j is s left c d fits one spelled split gave in
-      let less : length (items_bytes (items_from is)) ≤ length (items_bytes (items_from (i ∷ is))) =
-      omega (arith, length-append (written_bytes i) (items_bytes (items_from is))) in
-      outside-further (length (items_bytes (items_from is))) (length (items_bytes (items_from (i ∷ is)))) fault less
+      outside-further (longest is) (longest (i ∷ is)) fault (le-max_right (length (written_bytes i)) (longest is))
       (outside-behind front fault so is cs ds u fits.1 given (subst (λ b. GivesThen l taken b ds u) (sym behind) more)
       ahead end)
 
@@ -117,7 +116,7 @@ module _ {C : Type 0} (l : Limit) (taken : Taken C) where
 
 module _ {T C : Type 0} (IsHeld : T → Type 0) (written : T → Named) (reading : Reading T C) (levels : T → ℕ)
     (law : (v : T) → IsHeld v → (i : Item) → written v ≡ Ok i → (l : Limit) → IsWithin l (levels v) →
-    reading.taken l i ≡ gives (reading.content v)) where
+    outcome l (reading.taken i) ≡ gives (reading.content v)) where
   are-given : (l : Limit) (vs : List T) (is : List Item) → All IsHeld vs → all_named (map written vs) ≡ Ok is →
       All (λ v. IsWithin l (levels v)) vs → AreGiven l reading.taken is (map reading.content vs)
   are-given l [] is held named within = let none : [] ≡ is = cc in subst (λ js. AreGiven l reading.taken js []) none tt
@@ -137,7 +136,7 @@ module _ {T C : Type 0} (IsHeld : T → Type 0) (written : T → Named) (reading
       given = are-given (Some l) vs is held named within
 
       by : (r : Result (List C) (Error IoError)) → AnswersSequence reading.taken l (items_bytes (items_from is)) after r
-          → AreGivenBack (map reading.content vs) (length (items_bytes (items_from is))) after r
+          → AreGivenBack (map reading.content vs) (longest is) after r
       by (Ok cs) (taken, refused) = let (gave, left) = taken (items_bytes (items_from is)) refl in
           (given-back (Some l) reading.taken is (map reading.content vs) cs fits given gave, left)
       by (Err e) (taken, refused) =

@@ -1,30 +1,37 @@
 -- From a source that was begun on a lent reader to the reader.
 use Rattle.std.proofs.Common.{◌≡◌, ℕ, ◌+◌, Bool, List, ◌++◌, Option, Some, None, Result, Ok, Err, IfOk, IfErr}
-use Rattle.std.proofs.Common.{IfSome}
-use Rattle.std.proofs.Common.{OnOk, length, refl, sym, ap, ◌∙◌, subst, arith}
+use Rattle.std.proofs.Common.{IfSome, OnOk, length, length-append, refl, sym, ap, ◌∙◌, subst, arith}
 use Rattle.std.specs.Io.KnownBytes.{Consumes}
 use Rattle.ciborium_ll.specs.Decoding.{HasBegun, IsAheadBy, with_left, left_of}
 use Rattle.ciborium_ll.proofs.Decoders.{begun-left}
 use Rattle.ciborium_ll.specs.Accesses.{left_at_failure}
-use Rattle.ciborium_value.specs.Ahead.{bottom}
+use Rattle.ciborium_ll.specs.Item.{Item}
+use Rattle.ciborium_ll.specs.Spells.{Spells}
+use Rattle.ciborium_value.specs.Ahead.{bottom, item}
 use Rattle.ciborium_value.specs.Readings.{Reading}
-use Rattle.ciborium_value.specs.Sources.{Fault, IsGrantedFault, RefusesAhead, TakesAhead, TakesItem, read_as}
+use Rattle.ciborium_value.specs.Sources.{Fault, IsGrantedFault, RefusesAhead, TakesAhead, TakesItem}
+use Rattle.ciborium_value.specs.View.{read_as}
 use Rattle.ciborium_value.specs.Taken.{Taken}
 use Rattle.ciborium_value.specs.Tree.{Tree}
 use Rattle.ciborium.specs.declared.de.byte_source.ByteSource.{ByteSource}
 use Rattle.ciborium.specs.declared.de.error.Error.{Error}
-use Rattle.ciborium.specs.ValueAnswers.{TakesBytes, TakesBytesFrom}
-use Rattle.ciborium.specs.inner.ByteSources.{IsUnread, IsUnreadBy, ReadsValue, StandsBefore, end_at}
-use Rattle.ciborium.specs.inner.ByteSources.{known_end, reader_of}
+use Rattle.ciborium.specs.ValueAnswers.{TakesBytes}
+use Rattle.ciborium.specs.inner.ByteSources.{IsUnread, IsUnreadBy, ReadsValue, StandsBefore, end_at, known_end}
 use Rattle.ciborium.specs.Errors.{HasEndedBy, fault_of}
 use Rattle.ciborium.specs.NextItems.{IsReadFrom}
 use Rattle.ciborium.specs.TypedAnswers.{IsFaultAhead, ReadsAsTypeFrom, TakesGiving}
-use Rattle.ciborium.specs.Spelling.{any}
+use Rattle.ciborium_value.specs.Spelling.{any}
 use Rattle.ciborium.proofs.Items.TakenOnly.{taken-beginning, taken-name, taken-none}
 use Rattle.ciborium.proofs.Readers.WhateverFollows.{taken-tree}
 
 module _ {S W A : Type 0} (remaining : S → Option (List ℕ)) (old : ByteSource S W) (taken : Taken A) (b : List ℕ)
-    (front : IsUnread remaining old b) where
+    (front : IsUnread remaining old b) (p : ℕ) (ends : end_at remaining old ≡ p + length b) where
+  -- before an item at the front, at offset p, the source stands
+  ahead : (i : Item) (s z : List ℕ) → Spells s i → b ≡ s ++ z → StandsBefore remaining old (Some old.levels)
+      (item i (bottom (old.decoder.reader.ghost_name, p + length s) z))
+  ahead i s z sp e = let size = ap length e ∙ length-append s z in
+      (b, front, (s, z, sp, (refl, refl, omega (arith, ends, size)), e), refl, tt)
+
   -- just the item at the front was taken, and the reader that was lent has what follows it
   pub handed-ok : (new : ByteSource S W) (v : A) (x : S) →
       (old.decoder.reader.ghost_name ≡ new.decoder.reader.ghost_name → x ≡ new.decoder.reader.now) →
@@ -33,8 +40,7 @@ module _ {S W A : Type 0} (remaining : S → Option (List ℕ)) (old : ByteSourc
   handed-ok new v x back took takes =
       let (z, un, (i, s, sp, e)) = took b front in
       let (give, (z', un', fits, lv, none)) = takes (Some old.levels) i
-      (bottom (reader_of remaining old.decoder) z)
-      (b, front, (s, z, sp, (refl, refl), e), refl, tt) in
+      (bottom (old.decoder.reader.ghost_name, p + length s) z) (ahead i s z sp e) in
       let left : left_of remaining new.decoder ≡ Some z' =
       subst (λ o. IsUnreadBy remaining new.decoder o z') none un' in (
         i,
@@ -43,25 +49,25 @@ module _ {S W A : Type 0} (remaining : S → Option (List ℕ)) (old : ByteSourc
         sp,
         e,
         give,
-        ap remaining (back (ap (λ r. r.0) fits.1)) ∙ left ∙ ap Some fits.0,
+        ap remaining (back fits.1) ∙ left ∙ ap Some fits.0,
       )
 
   pub handed-refused : (fault : Fault) → RefusesAhead (StandsBefore remaining) old taken fault →
-      IsFaultAhead (end_at remaining old) (Some old.levels) taken b fault
-  handed-refused fault h i s z sp e = h (Some old.levels) i (bottom (reader_of remaining old.decoder) z)
-      (b, front, (s, z, sp, (refl, refl), e), refl, tt)
+      IsFaultAhead p (Some old.levels) taken b fault
+  handed-refused fault h i s z sp e = h (Some old.levels) i
+      (bottom (old.decoder.reader.ghost_name, p + length s) z) (ahead i s z sp e)
 
 -- the same, of what was read from the source
 pub handed-given : {S W T A : Type 0} (E : Type 0) (can_fail : Bool) (remaining : S →
     Option (List ℕ)) (reading : Reading T A)
-    (old new : ByteSource S W) (b : List ℕ) → IsUnread remaining old b →
-    (x : S) →
+    (old new : ByteSource S W) (b : List ℕ) (p : ℕ) → IsUnread remaining old b →
+    end_at remaining old ≡ p + length b → (x : S) →
     (old.decoder.reader.ghost_name ≡ new.decoder.reader.ghost_name → x ≡ new.decoder.reader.now) →
     (r : Result T (Error E)) → IsReadFrom {E = E} can_fail remaining reading old new r →
     IfOk (read_as reading.content r) (λ v. TakesGiving (Some old.levels) reading.taken b v (remaining x))
-handed-given E can_fail remaining reading old new b front x back (Ok v) h =
-    handed-ok remaining old reading.taken b front new (reading.content v) x back h.took h.ok
-handed-given E can_fail remaining reading old new b front x back (Err e) h = tt
+handed-given E can_fail remaining reading old new b p front ends x back (Ok v) h =
+    handed-ok remaining old reading.taken b front p ends new (reading.content v) x back h.took h.ok
+handed-given E can_fail remaining reading old new b p front ends x back (Err e) h = tt
 
 -- the reader that was lent is what the source is left with
 handed-back : {S W T A : Type 0} (E : Type 0) (can_fail : Bool) (remaining : S →
@@ -74,21 +80,18 @@ handed-back E can_fail remaining reading old new x back r h =
 
 pub handed-denied : {S W T A : Type 0} (E : Type 0) (can_fail : Bool) (remaining : S →
     Option (List ℕ)) (reading : Reading T A)
-    (old new : ByteSource S W) (b : List ℕ) (end : ℕ) → IsUnread remaining old b →
-    end_at remaining old ≡ end → (x : S) →
+    (old new : ByteSource S W) (b : List ℕ) (p : ℕ) → IsUnread remaining old b →
+    end_at remaining old ≡ p + length b → (x : S) →
     (old.decoder.reader.ghost_name ≡ new.decoder.reader.ghost_name → x ≡ new.decoder.reader.now) →
     (r : Result T (Error E)) → IsReadFrom {E = E} can_fail remaining reading old new r →
     IfErr (read_as reading.content r)
-    (λ e. IsFaultAhead end (Some old.levels) reading.taken b (fault_of (left_at_failure can_fail (remaining x)) e))
-handed-denied E can_fail remaining reading old new b end front ends x back (Ok v) h = tt
-handed-denied E can_fail remaining reading old new b end front ends x back (Err e) h =
+    (λ e. IsFaultAhead p (Some old.levels) reading.taken b (fault_of (left_at_failure can_fail (remaining x)) e))
+handed-denied E can_fail remaining reading old new b p front ends x back (Ok v) h = tt
+handed-denied E can_fail remaining reading old new b p front ends x back (Err e) h =
     let given = handed-back E can_fail remaining reading old new x back (Err e) h in
-    subst (λ n. IsFaultAhead n (Some old.levels) reading.taken b (fault_of (left_at_failure can_fail
-    (remaining x)) e)) ends
-    (handed-refused remaining old reading.taken b front (fault_of (left_at_failure can_fail (remaining x)) e)
+    handed-refused remaining old reading.taken b front p ends (fault_of (left_at_failure can_fail (remaining x)) e)
     (subst (λ y. RefusesAhead (StandsBefore remaining) old reading.taken (fault_of (left_at_failure can_fail
-    (remaining y)) e)) (sym given)
-    h.refused))
+    (remaining y)) e)) (sym given) h.refused)
 
 pub handed-memory : {S W T A : Type 0} (E : Type 0) (can_fail : Bool) (remaining : S →
     Option (List ℕ)) (reading : Reading T A)
@@ -112,7 +115,7 @@ pub handed-from : (E : Type 0) {S W : Type 0} (can_fail : Bool) (remaining : S �
     (p : ℕ) (r : Result Tree (Error E)) → HasBegun old.decoder lent p → old.pending ≡ None →
     (old.decoder.reader.ghost_name ≡ new.decoder.reader.ghost_name → x ≡ new.decoder.reader.now) →
     ReadsValue can_fail remaining old new r →
-    TakesBytesFrom {E = E} any p (remaining lent) old.levels (remaining x) r
+    TakesBytes {E = E} any p (remaining lent) old.levels (remaining x) r
 handed-from E {S} {W} can_fail remaining old new lent x p r begins none back reads =
     let (same, ended, (s, taken, count, h, bytes)) = reads in
     let begun : old.decoder.counter.count ≡ p = begins.count in
@@ -149,11 +152,6 @@ handed-ended E can_fail remaining reading old new x back r h =
     (sym (handed-back E can_fail remaining reading old new x back r h))
     (err-read (λ v. tree (reading.content v)) (λ e. HasEndedBy can_fail (left_of remaining new.decoder) e) r reads.1))
 
--- from offset 0 on
-pub from-first : (E : Type 0) (before : Option (List ℕ)) (l : ℕ) (after : Option (List ℕ)) (r : Result Tree (Error E)) →
-    TakesBytesFrom {E = E} any 0 before l after r → TakesBytes {E = E} any before l after r
-from-first E before l after r (s, consumes, fits, taken, bytes) = (s, consumes, omega (arith, fits), taken, bytes)
-
 pub err-map : {T E : Type 0} {P Q : E → Type 0} (r : Result T E) → IfErr r P → ((v : E) → P v → Q v) → IfErr r Q
 err-map (Ok v) p f = tt
 err-map (Err e) p f = f e p
@@ -165,16 +163,17 @@ pub handed-all : {S W T A : Type 0} (E : Type 0) (can_fail : Bool) (remaining : 
     (old.decoder.reader.ghost_name ≡ new.decoder.reader.ghost_name → x ≡ new.decoder.reader.now) →
     (r : Result T (Error E)) → IsReadFrom {E = E} can_fail remaining reading old new r →
     ReadsAsTypeFrom {E = E} can_fail p (Some old.levels) reading (remaining lent) (remaining x)
-    (TakesBytesFrom any p (remaining lent) old.levels (remaining x)) r
+    (TakesBytes any p (remaining lent) old.levels (remaining x)) r
 handed-all E can_fail remaining reading old new lent x p begins none back r h =
     let front : (b : List ℕ) → remaining lent ≡ Some b → IsUnread remaining old b =
     λ b e. subst (λ o. IsUnreadBy remaining old.decoder o b) (sym none)
     (begun-left remaining old.decoder lent p begins ∙ e) in
+    let ends : (b : List ℕ) → remaining lent ≡ Some b → end_at remaining old ≡ p + length b =
+    λ b e. ap (λ o. known_end o old.decoder.counter.count) (begun-left remaining old.decoder lent p begins ∙ e) ∙
+    ap (λ n. n + length b) begins.count in
     record {
-      ok = λ b e. handed-given E can_fail remaining reading old new b (front b e) x back r h;
-      refused = λ b e. handed-denied E can_fail remaining reading old new b (p + length b) (front b e)
-          (ap (λ o. known_end o old.decoder.counter.count) (begun-left remaining old.decoder lent p begins ∙ e) ∙
-          ap (λ n. n + length b) begins.count) x back r h;
+      ok = λ b e. handed-given E can_fail remaining reading old new b p (front b e) (ends b e) x back r h;
+      refused = λ b e. handed-denied E can_fail remaining reading old new b p (front b e) (ends b e) x back r h;
       memory = handed-memory E can_fail remaining reading old new x back r h;
       taken = taken-beginning remaining old.decoder new.decoder lent x p begins back
           (h.only old (taken-none remaining old.decoder));

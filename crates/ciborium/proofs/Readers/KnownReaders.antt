@@ -1,79 +1,50 @@
 -- What is known of a reader whose bytes are known, from what holds of every reader.
-use Rattle.std.proofs.Common.{◌≡◌, ℕ, ◌+◌, ◌≤◌, List, [], ◌∷◌, ◌++◌, length, Option, Some, is_some, Result, Ok, Err}
+use Rattle.std.proofs.Common.{◌≡◌, ℕ, ◌+◌, ◌≤◌, List, [], ◌∷◌, ◌++◌, length, Option, Some, Result, Ok, Err}
 use Rattle.std.proofs.Common.{IfOk, IfErr, refl, sym, ap, ◌∙◌, subst, arith, length-append, append-nil, inl, inr, ◌⊎◌}
 use Rattle.ciborium_ll.specs.Bytes.{AreBytes, greatest_offset}
 use Rattle.ciborium_ll.specs.Refusal as refusal
 use Rattle.ciborium_ll.specs.Refusal.{Refusal}
-use Rattle.ciborium_ll.specs.Spells.{Spells}
 use Rattle.ciborium_ll.proofs.Unread.{rest-of}
-use Rattle.ciborium_ll.proofs.UniqueSpelling.{one_at_front}
 use Rattle.ciborium_value.specs.Counts.{node_count, payload_size}
-use Rattle.ciborium_value.specs.Encoding.{encoding, item_of}
-use Rattle.ciborium_value.specs.Meaning.{meaning}
 use Rattle.ciborium_value.specs.ProperTrees.{IsProperTree}
 use Rattle.ciborium_value.specs.Tree.{Tree}
 use Rattle.ciborium_value.proofs.GoodItems.Bounded.{bounded}
-use Rattle.ciborium_value.proofs.FoldedTrees.Folding.{written_means_folded}
-use Rattle.ciborium_value.proofs.GoodItems.GoodBytes.{good_bytes}
-use Rattle.ciborium_value.proofs.GoodItems.Outcome as outcome
+use Rattle.ciborium_value.proofs.GoodItems.Accepted.{anyway}
+use Rattle.ciborium_value.proofs.GoodItems.Outcome.{never_both, one_reading, read_bytes}
 use Rattle.ciborium_value.proofs.GoodItems.ProperMeanings.{proper_meaning}
 use Rattle.ciborium.specs.declared.de.error.Error.{Error}
 use Rattle.ciborium.specs.declared.de.error.Error.TheVariants as errors
-use Rattle.ciborium.specs.ValueAnswers.{GivesTree, IsFailed, ReadsWhole, TakesBytes, TakesValue}
-use Rattle.ciborium.specs.Errors.{IsRefusedBy}
-use Rattle.ciborium.specs.Spelling.{Spelling, any, deterministic, IsReadBy, RefusesBy}
+use Rattle.ciborium.specs.ValueAnswers.{GivesTree, IsFailed, TakesBytes, IsRefusedBy}
+use Rattle.ciborium.specs.ValueClauses.{ReadsWhole, TakesValue}
+use Rattle.ciborium_value.specs.Spelling.{Spelling, IsReadAs}
+use Rattle.ciborium_value.specs.Refuses.{Refuses}
 use Rattle.ciborium.proofs.Readers.Outcomes.{only-fails}
-use Rattle.ciborium.proofs.Strict.StrictOutcome as strict
-use Rattle.ciborium.proofs.Strict.StrictOutcome.{one_tree}
-use Rattle.ciborium_value.proofs.Orders.TreeEncodings.{encoding-spells}
 
 -- ---- what holds of the bytes that are read in a spelling
 
-some-tree : (v w : Tree) → Some v ≡ Some w → v ≡ w
-some-tree v w e = cc
-
 module _ (l : ℕ) where
   -- they are refused in no way
-  never-refused : (spelling : Spelling) (s x z : List ℕ) (v : Tree) (r : Refusal) → IsReadBy spelling s 0 l v →
-      z ≡ s ++ x → AreBytes z → RefusesBy spelling z 0 l r → ⊥
-  never-refused any s x z v r (i, good, means) split bytes =
-      outcome.never_both z 0 (Some l) r bytes (s, i, x, good, split)
-  never-refused (deterministic order) s x z v r good split bytes =
-      strict.never_both order z 0 l r bytes (s, v, x, good, split)
+  never-refused : (spelling : Spelling) (s x z : List ℕ) (v : Tree) (r : Refusal) →
+      IsReadAs spelling s 0 (Some l) v → z ≡ s ++ x → AreBytes z → Refuses spelling z 0 (Some l) r → ⊥
+  never-refused spelling s x z v r good split bytes = never_both spelling z 0 (Some l) r bytes (s, v, x, good, split)
 
   -- they are read in one way
-  one-way : (spelling : Spelling) (s t x y : List ℕ) (v w : Tree) → IsReadBy spelling s 0 l v →
-      IsReadBy spelling t 0 l w → s ++ x ≡ t ++ y → (v ≡ w) × (x ≡ y)
-  one-way any s t x y v w (i, good, means) (j, fine, same) e =
-      let one = one_at_front s t x y i j good.0 fine.0 e in
-      (some-tree v w (sym means ∙ ap meaning one.2 ∙ same), one.1)
-  one-way (deterministic order) s t x y v w good fine e = one_tree order s t x y 0 l v w good fine e
-
-  read-bytes : (spelling : Spelling) (s : List ℕ) (v : Tree) → IsReadBy spelling s 0 l v → AreBytes s
-  read-bytes any s v (i, good, means) = good_bytes i s (Some l) 0 good
-  read-bytes (deterministic order) s v good =
-      good_bytes (item_of v) s (Some l) 0 (
-        subst (λ b. Spells b (item_of v)) (sym good.0.0)
-            (encoding-spells v good.0.1.proper),
-        ap is_some (written_means_folded v ∙ good.0.1.folds),
-        good.1,
-        good.2,
-      )
+  one-way : (spelling : Spelling) (s t x y : List ℕ) (v w : Tree) → IsReadAs spelling s 0 (Some l) v →
+      IsReadAs spelling t 0 (Some l) w → s ++ x ≡ t ++ y → (v ≡ w) × (x ≡ y)
+  one-way spelling s t x y v w good fine e =
+      let one = one_reading spelling s t x y 0 (Some l) v w good fine e in
+      (one.0, one.2)
 
   -- they mean a tree that memory can hold
-  read-proper : (spelling : Spelling) (s : List ℕ) (v : Tree) → IsReadBy spelling s 0 l v → AreBytes s →
+  read-proper : (spelling : Spelling) (s : List ℕ) (v : Tree) → IsReadAs spelling s 0 (Some l) v → AreBytes s →
       length s ≤ greatest_offset → IsProperTree v
-  read-proper any s v (i, good, means) bytes fits = proper_meaning i s v good.0 bytes fits means
-  read-proper (deterministic order) s v good bytes fits = good.0.1.proper
+  read-proper spelling s v good bytes fits =
+      let a = anyway spelling s 0 (Some l) v good in proper_meaning a.0 s v a.1 bytes fits a.2
 
   -- which is no larger than they are many
-  read-bounded : (spelling : Spelling) (s : List ℕ) (v : Tree) → IsReadBy spelling s 0 l v →
+  read-bounded : (spelling : Spelling) (s : List ℕ) (v : Tree) → IsReadAs spelling s 0 (Some l) v →
       node_count v + payload_size v ≤ length s
-  read-bounded any s v (i, good, means) = bounded i s v good.0 means
-  read-bounded (deterministic order) s v good =
-      let means : meaning (item_of v) ≡ Some v = written_means_folded v ∙ good.0.1.folds in
-      let len : length s ≡ length (encoding v) = ap length good.0.0 in
-      omega (arith, bounded (item_of v) (encoding v) v (encoding-spells v good.0.1.proper) means, len)
+  read-bounded spelling s v good = let a = anyway spelling s 0 (Some l) v good in bounded a.0 s v a.1 a.2
 
 -- ---- beginnings
 
@@ -103,48 +74,49 @@ module _ {E : Type 0} (spelling : Spelling) (l : ℕ) where
   -- an error of bytes t that cannot be refused, neither with c behind them nor where the reader ends behind them, is a
   -- failure
   fails : (after : Option (List ℕ)) (t c : List ℕ) (e : Error E) →
-      ((z : List ℕ) → IsRefusedBy (Some z) e (RefusesBy spelling (t ++ z) 0 l)) →
-      ((r : Refusal) → RefusesBy spelling (t ++ c) 0 l r → ⊥) →
-      (after ≡ Some [] → RefusesBy spelling (t ++ []) 0 l refusal.io → ⊥) → IsFailed after e
+      ((z : List ℕ) → IsRefusedBy (Some z) e (Refuses spelling (t ++ z) 0 (Some l))) →
+      ((r : Refusal) → Refuses spelling (t ++ c) 0 (Some l) r → ⊥) →
+      (after ≡ Some [] → Refuses spelling (t ++ []) 0 (Some l) refusal.io → ⊥) → IsFailed after e
   fails after t c (errors.Io x) h never ended = λ end. ended end (h [] refl)
   fails after t c (errors.Syntax p) h never ended = only-fails {E = E} (Some c) (errors.Syntax p)
-      (RefusesBy spelling (t ++ c) 0 l) never (h c)
+      (Refuses spelling (t ++ c) 0 (Some l)) never (h c)
   fails after t c (errors.Semantic p k) h never ended =
-      only-fails {E = E} (Some c) (errors.Semantic p k) (RefusesBy spelling (t ++ c) 0 l) never (h c)
+      only-fails {E = E} (Some c) (errors.Semantic p k) (Refuses spelling (t ++ c) 0 (Some l)) never (h c)
   fails after t c errors.RecursionLimitExceeded h never ended =
-      only-fails {E = E} (Some c) errors.RecursionLimitExceeded (RefusesBy spelling (t ++ c) 0 l) never (h c)
+      only-fails {E = E} (Some c) errors.RecursionLimitExceeded (Refuses spelling (t ++ c) 0 (Some l)) never (h c)
   fails after t c errors.Memory h never ended = tt
   fails after t c errors.TooLong h never ended = only-fails {E = E} (Some c) errors.TooLong
-      (RefusesBy spelling (t ++ c) 0 l) never (h c)
+      (Refuses spelling (t ++ c) 0 (Some l)) never (h c)
 
-  proper-of : (old new : Option (List ℕ)) (x : Result Tree (Error E)) → TakesBytes {E = E} spelling old l new x →
+  proper-of : (old new : Option (List ℕ)) (x : Result Tree (Error E)) → TakesBytes {E = E} spelling 0 old l new x →
       IfOk x (λ v. IsProperTree v)
-  proper-of old new (Ok v) (s, taken, fits, read, bytes) = read-proper l spelling s v read bytes fits
+  proper-of old new (Ok v) (s, taken, fits, read, bytes) = read-proper l spelling s v read bytes (omega (arith, fits))
   proper-of old new (Err e) t = tt
 
   module _ (old new : Option (List ℕ)) (b : List ℕ) (known : old ≡ Some b) where
-    ok-of : (x : Result Tree (Error E)) → TakesBytes {E = E} spelling old l new x →
+    ok-of : (x : Result Tree (Error E)) → TakesBytes {E = E} spelling 0 old l new x →
         IfOk x (λ v. TakesValue spelling b l v new)
     ok-of (Ok v) (s, taken, fits, read, bytes) = let k = rest-of old new b s known taken in (s, k.0, read, k.2, k.1)
     ok-of (Err e) t = tt
 
-    refused-of : (x : Result Tree (Error E)) → TakesBytes {E = E} spelling old l new x →
-        IfErr x (λ e. IsRefusedBy new e (RefusesBy spelling b 0 l))
+    refused-of : (x : Result Tree (Error E)) → TakesBytes {E = E} spelling 0 old l new x →
+        IfErr x (λ e. IsRefusedBy new e (Refuses spelling b 0 (Some l)))
     refused-of (Ok v) t = tt
     refused-of (Err e) (s, taken, fits, h, bytes) =
         let k = rest-of old new b s known taken in
-        subst (λ o. IsRefusedBy o e (RefusesBy spelling b 0 l)) (sym k.1)
-        (subst (λ z. IsRefusedBy (Some k.0) e (RefusesBy spelling z 0 l)) (sym k.2) (h k.0))
+        subst (λ o. IsRefusedBy o e (Refuses spelling b 0 (Some l))) (sym k.1)
+        (subst (λ z. IsRefusedBy (Some k.0) e (Refuses spelling z 0 (Some l))) (sym k.2) (h k.0))
 
     within-of : (left : List ℕ) (x : Result Tree (Error E)) → new ≡ Some left →
-        TakesBytes {E = E} spelling old l new x → length b ≤ length left + greatest_offset
+        TakesBytes {E = E} spelling 0 old l new x → length b ≤ length left + greatest_offset
     within-of left x e (s, taken, fits, h, bytes) =
         let k = rest-of old new b s known taken in
         let same : k.0 ≡ left = inside k.0 left (sym k.1 ∙ e) in
         omega (arith, fits, ap length k.2, length-append s k.0, ap length same)
 
-    exact-of : (x : Result Tree (Error E)) (s left : List ℕ) (v : Tree) → IsReadBy spelling s 0 l v → b ≡ s ++ left →
-        TakesBytes {E = E} spelling old l new x → GivesTree v left new x
+    exact-of : (x : Result Tree (Error E)) (s left : List ℕ) (v : Tree) → IsReadAs spelling s 0 (Some l) v →
+        b ≡ s ++ left →
+        TakesBytes {E = E} spelling 0 old l new x → GivesTree v left new x
     exact-of (Ok w) s left v good split (t, taken, fits, fine, bytes) =
         let k = rest-of old new b t known taken in
         let same = one-way l spelling s t left k.0 v w good fine (sym split ∙ k.2) in
@@ -155,7 +127,7 @@ module _ {E : Type 0} (spelling : Spelling) (l : ℕ) where
         k = rest-of old new b t known taken
 
         -- where the reader came to its end, all of b was taken
-        ended : new ≡ Some [] → RefusesBy spelling (t ++ []) 0 l refusal.io → ⊥
+        ended : new ≡ Some [] → Refuses spelling (t ++ []) 0 (Some l) refusal.io → ⊥
         ended end =
             never-refused l spelling s left (t ++ []) v refusal.io good
             (ap (λ (z : List ℕ). t ++ z) (sym (inside k.0 [] (sym k.1 ∙ end))) ∙ sym k.2 ∙ split)
@@ -163,12 +135,12 @@ module _ {E : Type 0} (spelling : Spelling) (l : ℕ) where
 
         by : ((r : List ℕ) × (s ≡ t ++ r)) ⊎ ((r : List ℕ) × (t ≡ s ++ r)) → IsFailed new e
         by (inl (r, is)) = fails new t r e h (λ f. never-refused l spelling s [] (t ++ r) v f good
-            (sym is ∙ sym (append-nil s)) (subst AreBytes is (read-bytes l spelling s v good))) ended
+            (sym is ∙ sym (append-nil s)) (subst AreBytes is (read_bytes spelling s 0 (Some l) v good))) ended
         by (inr (r, is)) = fails new t [] e h (λ f. never-refused l spelling s r (t ++ []) v f good (append-nil t ∙ is)
             (subst AreBytes (sym (append-nil t)) bytes)) ended
 
     bounded-of : (left : List ℕ) (x : Result Tree (Error E)) → new ≡ Some left →
-        TakesBytes {E = E} spelling old l new x → IfOk x (λ v. node_count v + payload_size v + length left ≤ length b)
+        TakesBytes {E = E} spelling 0 old l new x → IfOk x (λ v. node_count v + payload_size v + length left ≤ length b)
     bounded-of left (Err x) e t = tt
     bounded-of left (Ok v) e (s, taken, fits, read, bytes) =
         let k = rest-of old new b s known taken in
@@ -177,7 +149,7 @@ module _ {E : Type 0} (spelling : Spelling) (l : ℕ) where
 
 -- all that is said of a call follows from what it takes
 pub whole-of : {E : Type 0} (spelling : Spelling) (l : ℕ) (old new : Option (List ℕ)) (x : Result Tree (Error E)) →
-    TakesBytes {E = E} spelling old l new x → ReadsWhole spelling old l new x
+    TakesBytes {E = E} spelling 0 old l new x → ReadsWhole spelling old l new x
 whole-of {E} spelling l old new x t = record {
   taken = t;
   ok = λ b e. ok-of spelling l old new b e x t;

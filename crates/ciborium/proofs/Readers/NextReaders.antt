@@ -1,7 +1,6 @@
 -- From the head that was pulled first, and what is read behind it, to the reader of a sequence.
 use Rattle.std.proofs.Common.{◌≡◌, ℕ, ◌+◌, ◌<◌, Bool, List, [], ◌++◌, length, Option, Some, None, Result, Ok, Err}
-use Rattle.std.proofs.Common.{IfErr, IfNone, IfSome, refl, sym, ap, ◌∙◌, subst, append_assoc, arith}
-use Rattle.std.proofs.Common.{length-append}
+use Rattle.std.proofs.Common.{IfErr, IfNone, IfSome, refl, sym, ap, ◌∙◌, subst, append_assoc, arith, length-append}
 use Rattle.std.specs.Io.KnownBytes.{Consumes, IsAtEnd}
 use Rattle.std.proofs.KnownBytes.{Consumes-trans}
 use Rattle.std.proofs.lemmas.List.Elements.{All-append}
@@ -19,23 +18,23 @@ use Rattle.ciborium_ll.proofs.Unread.{reads-head}
 use Rattle.ciborium_ll.proofs.Decoders.{begun-left}
 use Rattle.ciborium_value.specs.Readings.{Reading}
 use Rattle.ciborium_value.specs.Refuses.{Refuses}
-use Rattle.ciborium_value.specs.Sources.{IsGrantedFault, IsOutsideFault, TakesOnly, read_as}
-use Rattle.ciborium_value.specs.Taken.{Taken}
+use Rattle.ciborium_value.specs.Sources.{IsGrantedFault, IsOutsideFault, TakesOnly}
+use Rattle.ciborium_value.specs.View.{read_as}
+use Rattle.ciborium_value.specs.Taken.{Taken, outcome}
 use Rattle.ciborium_value.specs.Tree.{Tree}
 use Rattle.ciborium_value.proofs.Sources.Sequences.{fault_outside}
 use Rattle.ciborium.specs.declared.de.byte_source.ByteSource.{ByteSource}
 use Rattle.ciborium.specs.declared.de.error.Error.{Error}
-use Rattle.ciborium.specs.ValueAnswers.{ReadsWhole, TakesBytes}
-use Rattle.ciborium.specs.inner.ByteSources.{HasTakenSince, IsUnread, ReadsValue}
-use Rattle.ciborium.specs.Errors.{fault_of}
-use Rattle.ciborium.specs.Errors.{from_ll}
+use Rattle.ciborium.specs.ValueAnswers.{TakesBytes}
+use Rattle.ciborium.specs.ValueClauses.{ReadsWhole}
+use Rattle.ciborium.specs.inner.ByteSources.{HasTakenSince, IsUnread, ReadsValue, end_at}
+use Rattle.ciborium.specs.Errors.{fault_of, from_ll}
 use Rattle.ciborium.specs.NextItems.{IfNotEnded, IsReadIo, IsReadFrom, Otherwise, ReadsNextAsTypeFrom, TellsEnd}
 use Rattle.ciborium.specs.NextItems.{behind_head}
 use Rattle.ciborium.specs.TypedAnswers.{IsFaultAhead, RefusesTaken, TakesGiven}
-use Rattle.ciborium.specs.Spelling.{any}
+use Rattle.ciborium_value.specs.Spelling.{any}
 use Rattle.ciborium.proofs.Items.FrontReads.{ended-ll, failed-fault, granted-head, head-outside}
-use Rattle.ciborium.proofs.Readers.HandedReaders.{handed-denied, handed-given, handed-memory, on-ok}
-use Rattle.ciborium.proofs.Readers.HandedReaders.{some-map}
+use Rattle.ciborium.proofs.Readers.HandedReaders.{handed-denied, handed-given, handed-memory, on-ok, some-map}
 use Rattle.ciborium.proofs.Items.ItemHeads.{first-head, first-payload, header_of}
 use Rattle.ciborium.proofs.Readers.KnownReaders.{whole-of}
 use Rattle.ciborium.proofs.Turns.Pulled.{refused-from, refused-map}
@@ -93,7 +92,7 @@ module _ {S W : Type 0} (E : Type 0) (can_fail : Bool) (remaining : S → Option
   joined : (t : ByteSource S W) (x : S) (r : Result Tree (Error E)) →
       (s.decoder.reader.ghost_name ≡ t.decoder.reader.ghost_name → x ≡ t.decoder.reader.now) →
       ReadsValue {E = E} can_fail remaining (behind_head s h) t r →
-      TakesBytes {E = E} any (remaining lent) s.levels (remaining x) r
+      TakesBytes {E = E} any 0 (remaining lent) s.levels (remaining x) r
   joined t x r back reads =
       let (b, consumed, count, head, bytes) = taken in
       let (kept, ended, (c, more, sum, f, low)) = reads in
@@ -107,7 +106,7 @@ module _ {S W : Type 0} (E : Type 0) (can_fail : Bool) (remaining : S → Option
             more),
         omega (arith, count, sum, zero, less, length-append b c),
         taken-tree E any t.decoder s.levels 0 (b ++ c) r (on-ok r t.unpushed)
-            (λ z. subst (λ u. Rattle.ciborium.specs.ValueAnswers.IsTreeRead {S = List ℕ} {E = E} any Some
+            (λ z. subst (λ u. Rattle.ciborium.specs.inner.Turns.IsTreeRead {S = List ℕ} {E = E} any Some
             (with_left t.decoder z) s.levels u 0 r) (sym (append_assoc b c z))
             (f z (b ++ (c ++ z)) 0 (front-any (c ++ z)))),
         All-append (λ n. n < 256) b c bytes low,
@@ -128,6 +127,10 @@ module _ {S W T A : Type 0} (E : Type 0) (can_fail : Bool) (remaining : S →
 
   abbrev pub First : Option Header → Type 0
   First first = Takes remaining d s.decoder (λ b. IsFirstTaken {E = E} b d.counter.count (Ok first))
+
+  ends : (b : List ℕ) → remaining lent ≡ Some b → (h : Header) → First (Some h) → end_at remaining s ≡ 0 + length b
+  ends b known h taken = takes-end remaining d s.decoder _ b (begun-left remaining d lent 0 begins ∙ known) taken ∙
+      ap (λ n. n + length b) begins.count
 
   module _ (back : s.decoder.reader.ghost_name ≡ t.decoder.reader.ghost_name → x ≡ t.decoder.reader.now) where
     tells-end : (first : Option Header) (r : Result (Option T) (Error E)) → First first →
@@ -157,8 +160,8 @@ module _ {S W T A : Type 0} (E : Type 0) (can_fail : Bool) (remaining : S →
         (remaining x) (read_as reading.content q)) is
     next-ok (Some h) (Ok None) taken none item = absurd item
     next-ok (Some h) (Ok (Some v)) taken none item = λ b known. handed-given E can_fail remaining reading
-        (behind_head s h) t b
-        (front E can_fail remaining d s lent begins kept h taken b known) x back (Ok v) item
+        (behind_head s h) t b 0 (front E can_fail remaining d s lent begins kept h taken b known)
+        (ends b known h taken) x back (Ok v) item
     next-ok (Some h) (Err e) taken none item = λ b known. tt
 
     next-value : (first : Option Header) (r : Result (Option T) (Error E)) → First first → End first r →
@@ -188,10 +191,8 @@ module _ {S W T A : Type 0} (E : Type 0) (can_fail : Bool) (remaining : S →
     next-refused (Some h) (Ok None) taken none item = absurd item
     next-refused (Some h) (Ok (Some v)) taken none item = λ b known. tt
     next-refused (Some h) (Err e) taken none item = λ b known. handed-denied E can_fail remaining reading
-        (behind_head s h) t b
-        (0 + length b) (front E can_fail remaining d s lent begins kept h taken b known)
-        (takes-end remaining d s.decoder _ b (begun-left remaining d lent 0 begins ∙ known) taken ∙
-        ap (λ n. n + length b) begins.count) x back (Err e) item
+        (behind_head s h) t b 0 (front E can_fail remaining d s lent begins kept h taken b known)
+        (ends b known h taken) x back (Err e) item
 
     next-memory : (first : Option Header) (r : Result (Option T) (Error E)) → End first r → Behind first r →
         IfErr r (λ e. IsGrantedFault (fault_of (left_at_failure can_fail (remaining x)) e) reading.needs_memory)
@@ -238,22 +239,24 @@ module _ {S W : Type 0} (E : Type 0) (can_fail : Bool) (remaining : S → Option
     (ended : HasEnded can_fail (left_of remaining e) x)
     (taken : Takes remaining d e (λ b. IsHeadTaken {E = E} b d.counter.count (Err x))) where
   first-denied : {A : Type 0} (l : Option ℕ) (given : Taken A) (b : List ℕ) → remaining lent ≡ Some b →
-      IsFaultAhead (0 + length b) l given b (fault_of (left_at_failure can_fail (remaining e.reader.now)) (from_ll x))
+      IsFaultAhead 0 l given b (fault_of (left_at_failure can_fail (remaining e.reader.now)) (from_ll x))
   first-denied l given b known i s left spelled split =
       let (y, c, head, whole) = first-head s i spelled in
       let refused = reads-head {E = E} (left_of remaining d) (left_of remaining e) b d.counter.count e.counter.count
       (Err x) (begun-left remaining d lent 0 begins ∙ known) taken in
       let there = first-payload s i spelled in
       let more = length-append c left in
-      fault_outside _ (fault_of (left_at_failure can_fail (remaining e.reader.now)) (from_ll x)) (given l i)
-      (subst (λ f. IsOutsideFault (0 + length b) f) (failed-fault can_fail (left_of remaining e) (from_ll x)
+      let all : length b ≡ length s + length left = ap length split ∙ length-append s left in
+      let zero = begins.count in
+      fault_outside _ (fault_of (left_at_failure can_fail (remaining e.reader.now)) (from_ll x)) (outcome l (given i))
+      (subst (λ f. IsOutsideFault (0 + length s) f) (failed-fault can_fail (left_of remaining e) (from_ll x)
       (ended-ll can_fail (left_of remaining e) x ended))
-      (subst (λ n. IsOutsideFault (n + length b) (fault_of (remaining e.reader.now) (from_ll x))) begins.count
-      (head-outside (remaining e.reader.now) x b y (c ++ left) d.counter.count (header_of i) head
-      (split ∙ ap (λ (z : List ℕ). z ++ left) whole ∙ append_assoc y c left) (omega (arith, there, more)) refused)))
+      (head-outside (remaining e.reader.now) x b y (c ++ left) d.counter.count (length left) (0 + length s)
+      (header_of i) head (split ∙ ap (λ (z : List ℕ). z ++ left) whole ∙ append_assoc y c left)
+      (omega (arith, there, more)) (omega (arith, all, zero)) refused))
 
   first-taken : (l : ℕ) (back : S) → back ≡ e.reader.now →
-      TakesBytes {E = E} any (remaining lent) l (remaining back) (Err (from_ll x))
+      TakesBytes {E = E} any 0 (remaining lent) l (remaining back) (Err (from_ll x))
   first-taken l back given =
       let (b, consumed, count, head, bytes) = taken in
       let zero : d.counter.count ≡ 0 = begins.count in
@@ -262,7 +265,7 @@ module _ {S W : Type 0} (E : Type 0) (can_fail : Bool) (remaining : S → Option
         subst (λ y. Consumes (remaining lent) (remaining y) b) (sym given)
             (subst (λ y. Consumes y (left_of remaining e) b) (begun-left remaining d lent 0 begins) consumed),
         omega (arith, count, zero, less),
-        (λ c. refused-map (Some c) (from_ll x) (HeadRefuses (b ++ c) 0) (λ r. Refuses (b ++ c) 0 (Some l) r)
+        (λ c. refused-map (Some c) (from_ll x) (HeadRefuses (b ++ c) 0) (λ r. Refuses any (b ++ c) 0 (Some l) r)
             (λ r h. Refuses.no_head h)
             (refused-from (Some c) x (HeadRefuses (b ++ c) 0)
             (subst (λ n. Rattle.ciborium_ll.specs.ReaderSteps.IsRefusalOf (Some c) x (HeadRefuses (b ++ c) n)) zero
@@ -278,7 +281,7 @@ module _ {S W : Type 0} (E : Type 0) (can_fail : Bool) (remaining : S → Option
   refuses-first l reading back empty given = record {
     end = λ known. first-io x (empty (begun-left remaining d lent 0 begins ∙ known));
     ok = λ b known. tt;
-    refused = λ b known. subst (λ y. IsFaultAhead (0 + length b) (Some l) reading.taken b
+    refused = λ b known. subst (λ y. IsFaultAhead 0 (Some l) reading.taken b
         (fault_of (left_at_failure can_fail (remaining y)) (from_ll x))) (sym given) (first-denied
         (Some l) reading.taken b known);
     memory = granted-head (left_at_failure can_fail (remaining back)) x taken.0 d.counter.count reading.needs_memory

@@ -6,8 +6,7 @@ use Rattle.ciborium_ll.specs.Refusal as refusal
 use Rattle.ciborium_ll.specs.Refusal.{Refusal}
 use Rattle.ciborium.specs.declared.de.error.Error.{Error}
 use Rattle.ciborium.specs.declared.de.error.Error.TheVariants as errors
-use Rattle.ciborium.specs.ValueAnswers.{IsFailed}
-use Rattle.ciborium.specs.Errors.{IsRefusedBy, IsNamed, refusal_kind_of}
+use Rattle.ciborium.specs.ValueAnswers.{IsFailed, IsRefusedBy, IsNamed, refusal_kind_of}
 use Rattle.ciborium.specs.inner.ValuesInBytes.{IsAt}
 
 pub left-at : {S W : Type 0} (remaining : S → Option (List ℕ)) (d : Decoder S W) (r : ℕ) (zs : List ℕ) →

@@ -7,12 +7,13 @@ use Rattle.ciborium.specs.declared.de.byte_source.ByteSource.{ByteSource}
 use Rattle.ciborium.specs.declared.de.error.Error.{Error}
 use Rattle.ciborium.specs.declared.de.error.Error.TheVariants as errors
 use Rattle.ciborium_value.specs.Tree.{Tree}
-use Rattle.ciborium.specs.ValueAnswers.{IsTreeRead}
+use Rattle.ciborium.specs.inner.Turns.{IsTreeRead}
 use Rattle.ciborium.specs.inner.ByteSources.{ReadsValue}
-use Rattle.ciborium.specs.Errors.{fault_of}
-use Rattle.ciborium.specs.Errors.{HasEndedBy, IsRefusedBy, without_reader_error}
+use Rattle.ciborium.specs.Errors.{fault_of, HasEndedBy, without_reader_error}
+use Rattle.ciborium.specs.ValueAnswers.{IsRefusedBy}
 use Rattle.ciborium.specs.inner.ValuesInBytes.{HasEndedAfter}
-use Rattle.ciborium.specs.Spelling.{Spelling, any, RefusesBy}
+use Rattle.ciborium_value.specs.Spelling.{Spelling, any}
+use Rattle.ciborium_value.specs.Refuses.{Refuses}
 use Rattle.ciborium.proofs.Readers.WhateverFollows.{TreeSo}
 
 pub same-cause : {E : Type 0} (left : Option (List ℕ)) (e : Error E) →
@@ -72,5 +73,10 @@ pub back-tree : {S W E : Type 0} (spelling : Spelling) (remaining : S → Option
     (e : Error E) → TakesBeforeAny remaining a b (λ d f. TreeSo {E = Unit} spelling l d f
     (Err (without_reader_error e))) →
     TakesBeforeAny remaining a b (λ d f. TreeSo {E = E} spelling l d f (Err e))
-back-tree spelling remaining a b l e (s, taken, count, h, bytes) =
-    (s, taken, count, λ c xs p stands. back-refused (Some c) e (RefusesBy spelling xs p l) (h c xs p stands), bytes)
+back-tree spelling remaining a b l e (s, taken, count, h, bytes) = (
+  s,
+  taken,
+  count,
+  λ c xs p stands. back-refused (Some c) e (Refuses spelling xs p (Some l)) (h c xs p stands),
+  bytes,
+)

@@ -1,7 +1,5 @@
 -- Values are read one after the other: how far, and what it says of all.
-use Rattle.std.proofs.Common.{◌≡◌, ℕ, ◌+◌, List, [], ◌∷◌, ◌++◌, length, Option, Some, None, Ok, Err, refl, ap, ◌∙◌}
-use Rattle.std.proofs.Common.{subst}
-use Rattle.std.proofs.Common.{arith}
+use Rattle.std.proofs.Common.{◌≡◌, ℕ, List, [], ◌∷◌, ◌++◌, Option, Some, None, Ok, Err, refl, ap, ◌∙◌}
 use Rattle.std.proofs.KnownBytes.{Consumes-nil, Consumes-trans}
 use Rattle.ciborium_value.specs.Nesting.{Limit}
 use Rattle.ciborium_value.specs.Sources.{IsOutsideFault}
@@ -12,7 +10,7 @@ use Rattle.ciborium.specs.declared.de.error.Error.TheVariants.{TooLong}
 use Rattle.ciborium.specs.Errors.{fault_of}
 use Rattle.ciborium.specs.NextItems.{IsReadIo, TellsEnd}
 use Rattle.ciborium.specs.SequenceReads.{GivesThen, RefusesSequence}
-use Rattle.ciborium.specs.TypedAnswers.{IsFaultAhead, RefusesTaken, TakesBeginning, TakesGiven, TakesGiving}
+use Rattle.ciborium.specs.TypedAnswers.{RefusesTaken, TakesBeginning, TakesGiven, TakesGiving}
 
 -- ---- a beginning was taken, and nothing else
 
@@ -60,12 +58,11 @@ module _ {A : Type 0} (l : Limit) (taken : Taken A) (before : Option (List ℕ))
       RefusesTaken {A = A} {E = E} 0 l taken mid after (Err e) → TellsEnd {A = T} {E = E} mid after (Err e) →
       RefusesSequence {E = E} l taken before after (Err e)
   refused-behind T E mid after cs e read refused end b known =
-      let (u, is, all) = read b known in
-      let same : 0 + length u ≡ length u = omega arith in (
+      let (u, is, all) = read b known in (
         cs,
         u,
         all,
-        subst (λ n. IsFaultAhead n l taken u (fault_of after e)) same (refused u is),
+        refused u is,
         λ none. outside-io e (end (is ∙ ap Some none)),
       )
 

@@ -1,7 +1,7 @@
 -- What is said of a decoder whatever follows the bytes that it takes.
 use Rattle.std.proofs.Common.{◌≡◌, ℕ, ◌+◌, ◌<◌, List, [], ◌++◌, Option, Some, None, Result, Ok, Err, OnOk, IfSome}
 use Rattle.std.proofs.Common.{IfNone, MatchOption, refl, sym, ap, ◌∙◌, subst, arith, append_assoc, append-nil}
-use Rattle.std.proofs.Common.{length-append}
+use Rattle.std.proofs.Common.{length-append, length}
 use Rattle.std.specs.Io.KnownBytes.{Consumes}
 use Rattle.std.proofs.KnownBytes.{Consumes-nil, Consumes-trans}
 use Rattle.std.proofs.lemmas.List.Elements.{All-append}
@@ -16,17 +16,18 @@ use Rattle.ciborium_ll.specs.ReaderSteps.{IsHeadTaken}
 use Rattle.ciborium_ll.specs.StringRefusal.{StringKind, ContentRefuses}
 use Rattle.ciborium_ll.specs.Strings.{IsStringTaken}
 use Rattle.ciborium_ll.proofs.Decoders.{unread-left, begun-left, unread-count}
-use Rattle.ciborium_ll.proofs.Unread.{pulls-head, reads-string}
+use Rattle.ciborium_ll.proofs.Unread.{pulls-head, reads-string, rest-of}
 use Rattle.ciborium_value.specs.Tree.{Tree}
 use Rattle.ciborium_value.specs.View.{tree_of}
 use Rattle.ciborium_value.specs.declared.tree.Value.{Value}
 use Rattle.ciborium.specs.declared.de.error.Error.{Error}
-use Rattle.ciborium.specs.ValueAnswers.{IsTakenFrom, IsTreeRead, TakesBytes}
+use Rattle.ciborium.specs.ValueAnswers.{IsTakenFrom, TakesBytes}
+use Rattle.ciborium.specs.inner.Turns.{IsTreeRead}
 use Rattle.ciborium.specs.Errors.{from_ll}
 use Rattle.ciborium.specs.inner.ValuesInBytes.{IsAt, StandsAt}
-use Rattle.ciborium.specs.inner.StringAnswers.{IsStringRead, string_tree}
-use Rattle.ciborium.specs.Spelling.{Spelling, any, deterministic, IsReadBy}
-use Rattle.ciborium.proofs.Turns.Contents.{string-read}
+use Rattle.ciborium.specs.inner.StringAnswers.{IsStringRead}
+use Rattle.ciborium_value.specs.inner.ReadItems.{string_tree}
+use Rattle.ciborium_value.specs.Spelling.{Spelling, any, deterministic, IsReadAs}
 use Rattle.ciborium.proofs.Turns.Fronts.{ahead-at}
 use Rattle.ciborium.proofs.Readers.Outcomes.{left-at}
 use Rattle.ciborium.proofs.Turns.Pulled.{refused-from}
@@ -115,6 +116,26 @@ abbrev pub StringSo : {W E : Type 0} → StringKind → Option ℕ → ℕ → D
 StringSo {W} {E} kind len at d e x = (xs : List ℕ) (p : ℕ) → IsAt Some d xs p →
     IsStringRead {S = List ℕ} {E = E} kind Some e len at xs p x
 
+string-read : (E : Type 0) {S W : Type 0} (kind : StringKind) (remaining : S → Option (List ℕ)) (d e : Decoder S W)
+    (len : Option ℕ) (xs : List ℕ) (p : ℕ) (old new : List ℕ) (v : Value) → old ≡ [] →
+    tree_of v ≡ string_tree kind new →
+    Takes remaining d e (λ b. (added : List ℕ) × (new ≡ old ++ added) ×
+    IsStringTaken {E = E} kind len d.last b d.counter.count (Ok tt) added) → IsAt remaining d xs p →
+    IsStringRead {S = S} {E = E} kind remaining e len d.last xs p (Ok v)
+string-read E kind remaining d e len xs p old new v none tree (x, taken, count, (added, is, s), bytes) at =
+    let k = rest-of (left_of remaining d) (left_of remaining e) xs x at.1 taken in
+    let less = e.counter.fits in
+    let start : d.counter.count ≡ p = at.0 in (
+      x,
+      added,
+      k.0,
+      subst (λ q. IsStringTaken {E = E} kind len d.last x q (Ok tt) added) start s,
+      tree ∙ ap (string_tree kind) (is ∙ ap (λ (z : List ℕ). z ++ added) none),
+      k.2,
+      (count ∙ ap (λ q. q + length x) start, k.1),
+      omega (arith, less, count, start),
+    )
+
 -- a string that was appended to an empty one
 pub string-taken : (E : Type 0) {S W : Type 0} (remaining : S → Option (List ℕ)) (a b : Decoder S W) (kind : StringKind)
     (len : Option ℕ) (old new : List ℕ) (v : Value) → old ≡ [] → tree_of v ≡ string_tree kind new →
@@ -178,14 +199,14 @@ taken-tree E spelling d l p s (Ok v) none f =
     let left : [] ≡ zs = same-rest [] zs (left-at Some (with_left d []) q zs none at) in
     let whole : item.taken ≡ s = sym (append-nil item.taken) ∙ ap (λ (z : List ℕ). item.taken ++ z) left ∙
     sym item.split ∙ append-nil s in
-    subst (λ z. IsReadBy spelling z p l v) whole item.read
+    subst (λ z. IsReadAs spelling z p (Some l) v) whole item.read
 taken-tree E spelling d l p s (Err e) none f = f
 
 -- what was taken of a reader that was lent
 pub taken-lent : (E : Type 0) {S W : Type 0} (spelling : Spelling) (remaining : S → Option (List ℕ)) (a b : Decoder S W)
     (lent back : S) (l : ℕ) (x : Result Tree (Error E)) → HasBegun a lent 0 → OnOk x (b.pushed ≡ None) →
     back ≡ b.reader.now → TakesBeforeAny remaining a b (λ d e. TreeSo {E = E} spelling l d e x) →
-    TakesBytes {E = E} spelling (remaining lent) l (remaining back) x
+    TakesBytes {E = E} spelling 0 (remaining lent) l (remaining back) x
 taken-lent E {S} {W} spelling remaining a b lent back l x begins rests given (s, taken, count, h, bytes) =
     let zero : a.counter.count ≡ 0 = begins.count in
     let less = b.counter.fits in (

@@ -6,16 +6,18 @@ use Rattle.ciborium_ll.specs.Refusal.{Refusal}
 use Rattle.ciborium_ll.specs.Spells.{Spells}
 use Rattle.ciborium_ll.proofs.UniqueSpelling.{one_at_front, one_item}
 use Rattle.ciborium_value.specs.Readings.{Reading}
-use Rattle.ciborium_value.specs.Sources.{IsOutsideFault}
-use Rattle.ciborium_value.specs.Taken.{Outcome, gives}
+use Rattle.ciborium_value.specs.Sources.{IsFaultOf, IsOutsideFault}
+use Rattle.ciborium_value.specs.Taken.{gives, outcome}
 use Rattle.ciborium_value.specs.declared.kind.Kind.TheVariants.{TrailingData}
-use Rattle.ciborium.specs.Errors.{HasEndedBy, IsRefusedBy, fault_of}
+use Rattle.ciborium.specs.Errors.{HasEndedBy, fault_of}
+use Rattle.ciborium.specs.ValueAnswers.{IsRefusedBy, IsFailed}
 use Rattle.ciborium.specs.SliceAnswers.{ReadsAll}
-use Rattle.ciborium.specs.Spelling.{any, IsReadBy}
+use Rattle.ciborium_value.specs.Spelling.{any, IsReadAs}
 use Rattle.ciborium.specs.TypedAnswers.{IsFaultAhead, ReadsAsTypeFrom, TakesGiving}
-use Rattle.ciborium.specs.ValueAnswers.{IsFailed, ReadsWhole}
+use Rattle.ciborium.specs.ValueClauses.{ReadsWhole}
 use Rattle.ciborium.specs.declared.de.error.Error.{Error}
 use Rattle.ciborium.specs.declared.de.error.Error.TheVariants as errors
+use Rattle.ciborium.proofs.ReadBack.RoundTrips.{not-blamed}
 
 both : {A : Type 0} {P Q R : A → Type 0} (o : Option A) → IfSome o P → IfSome o Q → ((v : A) → P v → Q v → R v) →
     IfSome o R
@@ -74,39 +76,27 @@ module _ {T A : Type 0} (E : Type 0) (l : ℕ) (reading : Reading T A) (b rest :
   Reads r = ReadsAsTypeFrom {E = E} false 0 (Some l) reading (Some b) (Some rest)
       (ReadsWhole any (Some b) l (Some rest)) r
 
-  ahead : (e : Error E) → Reads (Err e) → IsFaultAhead (length b) (Some l) reading.taken b (fault_of (Some []) e)
-  ahead e reads = let same : 0 + length b ≡ length b = omega arith in
-      subst (λ n. IsFaultAhead n (Some l) reading.taken b (fault_of (Some []) e)) same (reads.refused b refl)
+  ahead : (e : Error E) → Reads (Err e) → IsFaultAhead 0 (Some l) reading.taken b (fault_of (Some []) e)
+  ahead e reads = reads.refused b refl
 
   -- it was refused
   pub all-refused : length b ≤ greatest_offset → (e : Error E) → Reads (Err e) →
       IfSome reading.whole (λ _. HasEndedBy false (Some rest) e) → ReadsAll {E = E} l reading b (Err e)
   all-refused fits e reads ended = record {
     ok = tt;
-    exact = λ i v sp give. inr (ap Err (only-memory (length b) e fits (outside (fault_of (Some []) e)
-        (reading.taken (Some l) i) v give (ahead e reads i b [] sp (sym (append-nil b))))));
-    refused = λ i s left sp split. inl (ahead e reads i s left sp split);
+    exact = λ i v sp give. inr (ap Err (only-memory (0 + length b) e (omega (arith, fits)) (not-blamed (0 + length b)
+        (fault_of (Some []) e) (outcome (Some l) (reading.taken i)) v give
+        (ahead e reads i b [] sp (sym (append-nil b))))));
+    refused = λ i s left sp split. inl (let same : 0 + length s ≡ length s = omega arith in
+        subst (λ n. IsFaultOf n (fault_of (Some []) e) (outcome (Some l) (reading.taken i))) same
+        (ahead e reads i s left sp split));
     memory = reads.memory;
     value = both reading.whole reads.value ended
-        (λ tree h k. inl (refused-at-end rest e (Rattle.ciborium.specs.Spelling.RefusesBy any b 0 l)
+        (λ tree h k. inl (refused-at-end rest e (Rattle.ciborium_value.specs.Refuses.Refuses any b 0 (Some l))
         (h.refused b refl) k));
     whole = both reading.whole reads.value ended (λ tree h k v good. inr (ap Err
         (failed-for-memory rest e (h.exact b b [] v refl good (sym (append-nil b))) k)));
   }
-    where
-      outside : (f : _) (o : Outcome A) (v : A) → o ≡ gives v →
-          Rattle.ciborium_value.specs.Sources.IsFaultOf (length b) f o → IsOutsideFault (length b) f
-      outside f o v give h = given f (subst (Rattle.ciborium_value.specs.Sources.IsFaultOf (length b) f) give h)
-        where
-          given : (f : Rattle.ciborium_value.specs.Sources.Fault) →
-              Rattle.ciborium_value.specs.Sources.IsFaultOf (length b) f (gives v) → IsOutsideFault (length b) f
-          given (Rattle.ciborium_value.specs.Sources.of_kind k) h = cc
-          given Rattle.ciborium_value.specs.Sources.of_nesting h = cc
-          given Rattle.ciborium_value.specs.Sources.of_syntax h = h
-          given Rattle.ciborium_value.specs.Sources.of_memory h = h
-          given Rattle.ciborium_value.specs.Sources.of_device h = h
-          given Rattle.ciborium_value.specs.Sources.of_end h = h
-          given Rattle.ciborium_value.specs.Sources.of_length h = h
 
   module _ (v : T) (reads : Reads (Ok v)) where
     front : TakesGiving (Some l) reading.taken b (reading.content v) (Some rest)
@@ -121,12 +111,12 @@ module _ {T A : Type 0} (E : Type 0) (l : ℕ) (reading : Reading T A) (b rest :
         let spells : Spells b i = subst (λ z. Spells z i) (whole-of b s left split empty) sp in record {
           ok = (i, spells, give);
           exact = λ j w sq taken. inl (ap Ok (same-given (reading.content v) w (sym give ∙
-              ap (reading.taken (Some l)) (one_item b i j spells sq) ∙ taken)));
+              ap (λ j. outcome (Some l) (reading.taken j)) (one_item b i j spells sq) ∙ taken)));
           refused = tt;
           memory = tt;
           value = each reading.whole reads.value (λ tree h.
               let (t, u, good, parts, rests) = h.ok b refl in
-              subst (λ z. IsReadBy any z 0 l (tree (reading.content v)))
+              subst (λ z. IsReadAs any z 0 (Some l) (tree (reading.content v)))
               (whole-of b t u parts (sym (same-rest rest u rests) ∙ none)) good);
           whole = each reading.whole reads.value (λ tree h w good.
               inl (ap Ok (sym (h.exact b b [] w refl good (sym (append-nil b))).0)));
@@ -144,7 +134,7 @@ module _ {T A : Type 0} (E : Type 0) (l : ℕ) (reading : Reading T A) (b rest :
               (append-nil b ∙ split)).1));
           refused = λ j t u sq parts. inr (let one = one_at_front t s u left j i sq sp (sym parts ∙ split) in (
             λ none. some (same ∙ sym one.1 ∙ none),
-            (reading.content v, ap (reading.taken (Some l)) one.2 ∙ give),
+            (reading.content v, ap (λ j. outcome (Some l) (reading.taken j)) one.2 ∙ give),
             ap (λ k. errors.Semantic (Some k) TrailingData) (size ∙ ap length (sym one.0)),
           ));
           memory = tt;

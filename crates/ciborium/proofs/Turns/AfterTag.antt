@@ -1,214 +1,275 @@
--- What stands behind the head of a tag.
-use Rattle.std.proofs.Common.{◌≡◌, ℕ, suc, ◌+◌, ◌-◌, ◌^◌, ◌≤◌, cond, leb, eqb, Bool, true, false, not, ◌&&◌, List, ◌++◌}
-use Rattle.std.proofs.Common.{length, Option, Some, None, is_some, Result, Ok, Err, refl, sym, ap, ◌∙◌, subst, arith}
-use Rattle.std.proofs.Common.{append_assoc, length-append, eqb-true, leb-true, le-leb, inl, inr}
+-- What stands behind the head of a tag, in each spelling.
+use Rattle.std.proofs.Common.{◌≡◌, ℕ, suc, ◌+◌, ◌-◌, ◌≤◌, List, ◌++◌, length, Option, Some, None, MatchOption}
+use Rattle.std.proofs.Common.{Result, Ok, Err, refl, sym, ap, ◌∙◌, subst, arith, inl, inr}
+use Rattle.ciborium_ll.specs.declared.decoder.Decoder.{Decoder}
 use Rattle.ciborium_ll.specs.declared.header.Header.{Header}
 use Rattle.ciborium_ll.specs.declared.header.Header.TheVariants as header
-use Rattle.ciborium_ll.specs.declared.decoder.Decoder.{Decoder}
-use Rattle.ciborium_ll.specs.Bytes.{AreBytes}
-use Rattle.ciborium_ll.specs.Decoding.{IsAhead, IsAheadBy, ReadsNothing, offset_of, left_of}
-use Rattle.ciborium_ll.specs.Head.{IsHead}
+use Rattle.ciborium_ll.specs.Bytes.{AreBytes, greatest_offset}
+use Rattle.ciborium_ll.specs.Decoding.{IsAhead, IsAheadBy, IsMeasured, ReadsNothing, offset_of, left_of}
 use Rattle.ciborium_ll.specs.Header.{SpellsHeader}
-use Rattle.ciborium_ll.specs.Item as item
-use Rattle.ciborium_ll.specs.Refusal.{Refusal, semantic, TooLarge, recursion_limit_exceeded, HeadRefuses, IsUsable}
-use Rattle.ciborium_ll.specs.Refusal.{HasHead}
+use Rattle.ciborium_ll.specs.Refusal.{Refusal, semantic, recursion_limit_exceeded, HeadRefuses, IsUsable}
+use Rattle.ciborium_ll.specs.Refusal as refusal
+use Rattle.ciborium_ll.specs.StringRefusal.{of_bytes, PayloadRefuses}
 use Rattle.ciborium_ll.proofs.Decoders.{unread-left, unread-count}
 use Rattle.ciborium_ll.proofs.OneHeader.{one_header_at_front}
-use Rattle.ciborium_value.specs.declared.tree.Value.{Value}
+use Rattle.ciborium_value.specs.declared.kind.Kind.{Kind}
 use Rattle.ciborium_value.specs.declared.stack.Opening.TheVariants as opening
-use Rattle.ciborium_value.specs.Meaning.{meaning, tag_meaning, folding_bytes, bignum_meaning, is_bignum_tag, big_endian}
-use Rattle.ciborium_value.specs.Nesting.{nesting, tag_nesting}
-use Rattle.ciborium_value.specs.Refuses.{Refuses, IsFoldingAt}
-use Rattle.ciborium_value.specs.inner.Stack.{begun_frame}
-use Rattle.ciborium_value.specs.Tree.{Tree}
+use Rattle.ciborium_value.specs.declared.tree.Value.{Value}
+use Rattle.ciborium_value.specs.Refuses.{HasGoodHead, IsTagAt, IsFoldingAt, Refuses}
+use Rattle.ciborium_value.specs.Spelling.{Spelling, any, deterministic, IsUnwanted}
+use Rattle.ciborium_value.specs.Tree as trees
 use Rattle.ciborium_value.specs.View.{tree_of}
-use Rattle.ciborium_value.proofs.GoodItems.Found.{bignum_meaning-some}
-use Rattle.ciborium.proofs.Turns.ItemsRead.{item-read}
+use Rattle.ciborium_value.specs.inner.ReadItems.{ReadsItem}
+use Rattle.ciborium_value.specs.inner.Stack.{begun_frame}
+use Rattle.ciborium_value.proofs.GoodItems.Bignums.{none-large}
+use Rattle.ciborium_value.proofs.GoodItems.Introduced.{reads-string, reads-folded}
 use Rattle.ciborium.specs.declared.de.error.Error.{Error}
-use Rattle.ciborium.specs.inner.Around.{IsInTag}
-use Rattle.ciborium_ll.specs.StringRefusal.{PayloadRefuses}
-use Rattle.ciborium.specs.inner.Parts.{IsHeadRead, IsBignumRead, BignumRefuses, IsFolding, IsFrameBegun}
-use Rattle.ciborium.specs.inner.ValuesInBytes.{ReadsItem, IsAt, IsPulled, IsBreakAt}
-use Rattle.ciborium.specs.Spelling.{any}
-use Rattle.ciborium.proofs.Turns.Contents.{string-room}
-use Rattle.ciborium.proofs.Turns.Fronts.{Front, front-of, no-break, Got, RefusesNoBreak, ahead-at, offset-at}
+use Rattle.ciborium.specs.declared.de.error.Error.TheVariants.{Semantic}
+use Rattle.ciborium.specs.ValueAnswers.{IsRefusedBy}
+use Rattle.ciborium.specs.inner.Parts.{BignumRefuses, IsBignumRead, IsFolded, IsFolding, IsFrameBegun, IsHeadAccepted}
+use Rattle.ciborium.specs.inner.Parts.{IsHeadMeasured, RefusesPart}
+use Rattle.ciborium.specs.inner.Rules.{head_fault}
+use Rattle.ciborium.specs.inner.ValuesInBytes.{IsAt, IsPulled, IsBreakAt, StandsAt}
+use Rattle.ciborium.proofs.Turns.Fronts.{Front, front-of, string-room, no-break, ahead-at, offset-at, PullsSo}
+use Rattle.ciborium.proofs.Turns.Heads.{Got, got, good-head, good-at, bad-at, unpushed}
 use Rattle.ciborium.proofs.Turns.Pulled.{refused-map}
 
--- what `pull` answers behind the tag
-abbrev pub PullsSo : {S W E : Type 0} → (S → Option (List ℕ)) → Decoder S W → Decoder S W → Result Header (Error E) →
-    Type 0
-PullsSo remaining d e x = (xs : List ℕ) (p : ℕ) → IsAhead remaining d xs p → IsHeadRead remaining e xs p x
-
 -- what `read_bignum` answers
-abbrev pub FoldsSo : {S W E : Type 0} → (S → Option (List ℕ)) → Decoder S W → Decoder S W → ℕ → ℕ → ℕ →
+abbrev pub BignumSo : {S W E : Type 0} → Spelling → (S → Option (List ℕ)) → Decoder S W → Decoder S W → ℕ → ℕ → ℕ →
     Result Value (Error E) → Type 0
-FoldsSo remaining d e t n at x = (xs : List ℕ) (p : ℕ) → IsAt remaining d xs p →
-    IsBignumRead any remaining e t n at xs p x
-
-stands : {S W : Type 0} (remaining : S → Option (List ℕ)) (d : Decoder S W) (t : ℕ) (xs : List ℕ) (p : ℕ)
-    (a : IsPulled remaining d (header.Tag t) xs p) → HasHead xs 6 t (length a.0) a.1
-stands remaining d t xs p a = (a.0, a.2, refl, a.4)
-
-no-break-tag : {S W : Type 0} (remaining : S → Option (List ℕ)) (d : Decoder S W) (t : ℕ) (xs : List ℕ) (p : ℕ) →
-    IsPulled remaining d (header.Tag t) xs p → ¬ IsBreakAt xs p
-no-break-tag remaining d t xs p a = no-break xs p (header.Tag t) a.0 a.1 tt
-    (front-of remaining d (header.Tag t) (header.Tag t) xs p refl a)
-
-behind : {S W : Type 0} (remaining : S → Option (List ℕ)) (d : Decoder S W) (t : ℕ) (xs : List ℕ) (p : ℕ) →
-    d.pushed ≡ None → (a : IsPulled remaining d (header.Tag t) xs p) → IsAhead remaining d a.1 (p + length a.0)
-behind remaining d t xs p pushed a = ahead-at remaining d (p + length a.0) a.1 pushed a.6
-
-pub tag-refused : {S W E : Type 0} (remaining : S → Option (List ℕ)) (d e : Decoder S W) (t l : ℕ) (xs : List ℕ) (p : ℕ)
-    (x : Error E) → d.pushed ≡ None → PullsSo remaining d e (Err x) → IsPulled remaining d (header.Tag t) xs p →
-    RefusesNoBreak (left_of remaining e) x xs p l
-tag-refused remaining d e t l xs p x pushed pull a =
-    refused-map (left_of remaining e) x (λ r. HeadRefuses a.1 (p + length a.0) r)
-    (λ r. Refuses xs p (Some l) r × ¬ IsBreakAt xs p)
-    (λ r f. (
-      Refuses.tag_no_head t (length a.0) a.1 a.3 (stands remaining d t xs p a) f,
-      no-break-tag remaining d t xs p a,
-    )) (pull a.1 (p + length a.0) (behind remaining d t xs p pushed a))
+BignumSo spelling remaining d e t n at x = (xs : List ℕ) (p : ℕ) → IsAt remaining d xs p →
+    IsBignumRead spelling remaining e t n at xs p x
 
 -- where another header stands, the tag does not fold
-pub folds-not : (t : ℕ) (k : Header) (h r s : List ℕ) → IsFolding t k None → SpellsHeader h k → r ≡ h ++ s →
-    ¬ IsFoldingAt t r
+folds-not : (t : ℕ) (k : Header) (h r s : List ℕ) → IsFolding t k None → SpellsHeader h k → r ≡ h ++ s →
+    IsFoldingAt t r → ⊥
 folds-not t k h r s none spelled split (big, n, size, z, (y, head, len, is), small) =
     none n (one_header_at_front h y s z k (header.Bytes (Some n)) spelled head (sym split ∙ is)).2 big small
 
-pub tag-no-level : (E : Type 0) {S W : Type 0} (remaining : S → Option (List ℕ)) (d e : Decoder S W) (t l : ℕ)
-    (xs : List ℕ)
-    (p : ℕ) (k : Header) → d.pushed ≡ None → PullsSo {E = E} remaining d e (Ok k) → IsFolding t k None → l ≡ 0 →
-    IsPulled remaining d (header.Tag t) xs p → Refuses xs p (Some l) recursion_limit_exceeded × ¬ IsBreakAt xs p
-tag-no-level E remaining d e t l xs p k pushed pull other none a =
-    let b = pull a.1 (p + length a.0) (behind remaining d t xs p pushed a) in (
-      subst (λ n. Refuses xs p (Some n) recursion_limit_exceeded) (sym none)
-          (Refuses.no_tag_level t (length a.0) a.1 a.3 (stands remaining d t xs p a) b.3
-          (folds-not t k b.0 a.1 b.1 other b.2 b.4)),
-      no-break-tag remaining d t xs p a,
-    )
+module _ {S W : Type 0} (remaining : S → Option (List ℕ)) (d : Decoder S W) (t l : ℕ) (xs : List ℕ) (p : ℕ)
+    (pushed : d.pushed ≡ None) where
+  module _ (spelling : Spelling) (a : IsHeadAccepted spelling remaining d (header.Tag t) xs p) where
+    abbrev rest : List ℕ
+    rest = a.pulled.1
 
-pub tag-opened : (E : Type 0) {S W : Type 0} (remaining : S → Option (List ℕ)) (d e f : Decoder S W) (t l at : ℕ)
-    (xs : List ℕ) (p : ℕ) (k : Header) → d.pushed ≡ None → PullsSo {E = E} remaining d e (Ok k) → IsFolding t k None →
-    (l ≡ 0 → ⊥) →
-    at ≡ offset_of d → ReadsNothing e f → f.pushed ≡ Some (k, at) → IsPulled remaining d (header.Tag t) xs p →
-    (zs : List ℕ) × (r : ℕ) × IsFrameBegun any l xs p (begun_frame (opening.Tag t)) zs r × IsAhead remaining f zs r
-tag-opened E remaining d e f t l at xs p k pushed pull other some here stays back a =
-    let ahead = behind remaining d t xs p pushed a in
-    let b = pull a.1 (p + length a.0) ahead in
-    let r : ℕ = p + length a.0 in
-    let place : at ≡ r = here ∙ offset-at remaining d r a.1 ahead in
-    let less : l ≡ suc (l - 1) = omega (arith, some) in
-    let tag : IsInTag xs p t a.1 r = record {
-      size = length a.0;
-      usable = a.3;
-      head = stands remaining d t xs p a;
-      next_usable = b.3;
-      folds_not = folds-not t k b.0 a.1 b.1 other b.2 b.4;
+    abbrev next : ℕ
+    next = p + length a.pulled.0
+
+    ahead : IsAhead remaining d rest next
+    ahead = ahead-at remaining d next rest pushed a.pulled.6
+
+    no-tag-break : ¬ IsBreakAt xs p
+    no-tag-break = no-break xs p (header.Tag t) a.pulled.0 rest tt
+        (front-of remaining d (header.Tag t) (header.Tag t) xs p refl a.pulled)
+
+    tag-at : IsUsable rest next → IsTagAt spelling xs p t rest next
+    tag-at usable = record {
+      size = length a.pulled.0;
+      head = good-head spelling remaining d (header.Tag t) xs p a;
+      tag = (a.pulled.0, a.pulled.2, refl, a.pulled.4);
+      usable = usable;
       at = refl;
     }
-    in
-    let is : IsAheadBy remaining f a.1 r (Some (k, at)) =
-    (place, b.0, b.1, b.2, b.3, b.4, (unread-count e f stays ∙ b.6.0), (unread-left remaining e f stays ∙ b.6.1)) in
-    (a.1, r, (l - 1, less, tag), subst (λ o. IsAheadBy remaining f a.1 r o) (sym back) is)
 
--- ---- a tag that folds
+  -- the next head is refused
+  pub tag-refused : (spelling : Spelling) (E : Type 0) (e : Decoder S W) (x : Error E) → PullsSo remaining d e (Err x) →
+      IsHeadAccepted spelling remaining d (header.Tag t) xs p →
+      IsRefusedBy (left_of remaining e) x (RefusesPart spelling xs p l)
+  tag-refused spelling E e x pull a =
+      refused-map (left_of remaining e) x (HeadRefuses (rest spelling a) (next spelling a))
+      (RefusesPart spelling xs p l)
+      (λ r f. (
+        Refuses.tag_no_head t (length a.pulled.0) (rest spelling a)
+            (good-head spelling remaining d (header.Tag t) xs p a)
+            (a.pulled.0, a.pulled.2, refl, a.pulled.4) f,
+        no-tag-break spelling a,
+      )) (pull (rest spelling a) (next spelling a) (ahead spelling a))
 
-pub folds-is : (t : ℕ) (bs : List ℕ) → is_bignum_tag t ≡ true → length bs ≤ 16 →
-    folding_bytes t (item.bytes false bs) ≡ Some bs
-folds-is t bs e lt = ap (λ x. cond x (cond (leb (length bs) 16) (Some bs) None) None) e ∙
-    ap (λ x. cond x (Some bs) None) (le-leb (length bs) 16 lt)
+  pub tag-no-level : (spelling : Spelling) (E : Type 0) (e : Decoder S W) (k : Header) →
+      PullsSo {E = E} remaining d e (Ok k) → IsFolding t k None → l ≡ 0 →
+      IsHeadAccepted spelling remaining d (header.Tag t) xs p →
+      RefusesPart spelling xs p l recursion_limit_exceeded
+  tag-no-level spelling E e k pull other none a =
+      let r : List ℕ = rest spelling a in
+      let q : ℕ = next spelling a in
+      let b = pull r q (ahead spelling a) in (
+        subst (λ n. Refuses spelling xs p (Some n) recursion_limit_exceeded) (sym none)
+            (Refuses.no_tag_level t r q (tag-at spelling a b.3) (folds-not t k b.0 r b.1 other b.2 b.4)),
+        no-tag-break spelling a,
+      )
 
-fold-reads : (t l n : ℕ) (xs : List ℕ) (p : ℕ) (h r i s bs zs : List ℕ) (v : Tree) → Front xs p (header.Tag t) h r →
-    Front r (p + length h) (header.Bytes (Some n)) i s → is_bignum_tag t ≡ true → n ≤ 16 → length bs ≡ n → AreBytes bs →
-    s ≡ bs ++ zs →
-    bignum_meaning t bs ≡ Some v → ReadsItem any l xs p v zs (p + length h + length i + n)
-fold-reads t l n xs p h r i s bs zs v u w big short len low e means =
-    let folding : folding_bytes t (item.bytes false bs) ≡ Some bs = folds-is t bs big (omega arith) in
-    let flat : nesting (item.tag t (item.bytes false bs)) ≡ 0 = ap (λ f. tag_nesting f 0) folding in
-    item-read (h ++ (i ++ bs)) (item.tag t (item.bytes false bs))
-    ((h, i ++ bs, u.spelled, (i, subst (IsHead i 2) (sym len) w.spelled, low, refl), refl))
-    (ap (λ f. tag_meaning t f (meaning (item.bytes false bs))) folding ∙ means) (omega (arith, flat))
-    (u.split ∙ ap (λ (z : List ℕ). h ++ z) (w.split ∙ ap (λ (z : List ℕ). i ++ z) e ∙ sym (append_assoc i bs zs)) ∙
-    sym (append_assoc h (i ++ bs) zs)) (omega (arith, length-append h (i ++ bs), length-append i bs, len))
-    (string-room 2 n (p + length h) r i s (inl refl) w.spelled w.usable w.split)
+  pub tag-opened : (spelling : Spelling) (E : Type 0) (e f : Decoder S W) (k : Header) (here : ℕ) →
+      PullsSo {E = E} remaining d e (Ok k) → IsFolding t k None → (l ≡ 0 → ⊥) → here ≡ offset_of d → ReadsNothing e f →
+      f.pushed ≡ Some (k, here) → f.head_len ≡ e.head_len → (IsMeasured d →
+      e.counter.count ≡ offset_of d + e.head_len) →
+      IsHeadAccepted spelling remaining d (header.Tag t) xs p →
+      (zs : List ℕ) × (r : ℕ) × IsFrameBegun spelling l xs p (begun_frame (opening.Tag t)) zs r ×
+      StandsAt spelling remaining f zs r
+  tag-opened spelling E e f k here pull other some same stays back kept size a =
+      let r : List ℕ = rest spelling a in
+      let q : ℕ = next spelling a in
+      let b = pull r q (ahead spelling a) in
+      let place : here ≡ q = same ∙ offset-at remaining d q r (ahead spelling a) in
+      let less : l ≡ suc (l - 1) = omega (arith, some) in
+      let is : IsAheadBy remaining f r q (Some (k, here)) = (
+        place,
+        b.0,
+        b.1,
+        b.2,
+        b.3,
+        b.4,
+        (unread-count e f stays ∙ b.6.0),
+        (unread-left remaining e f stays ∙ b.6.1),
+      ) in
+      let sized = size (unpushed d pushed) in
+      let count : f.counter.count ≡ here + f.head_len =
+      (let c = unread-count e f stays in omega (arith, c, same, kept, sized)) in (
+        r,
+        q,
+        (l - 1, less, (tag-at spelling a b.3, folds-not t k b.0 r b.1 other b.2 b.4)),
+        stands spelling r q (subst (λ o. IsAheadBy remaining f r q o) (sym back) is)
+            (subst (λ o. MatchOption o (Unit {0}) (λ h. f.counter.count ≡ h.1 + f.head_len)) (sym back) count),
+      )
+    where
+      stands : (s : Spelling) (r : List ℕ) (q : ℕ) → IsAhead remaining f r q → IsMeasured f → StandsAt s remaining f r q
+      stands any r q ahead measured = ahead
+      stands (deterministic order) r q ahead measured = (ahead, measured)
 
-pub tag-folded : (E : Type 0) {S W : Type 0} (remaining : S → Option (List ℕ)) (d e f : Decoder S W) (t l n at : ℕ)
-    (xs : List ℕ) (p : ℕ) (k : Header) (v : Value) → d.pushed ≡ None → f.pushed ≡ None →
-    PullsSo {E = E} remaining d e (Ok k) → IsFolding t k (Some n) →
-    FoldsSo {E = E} remaining e f t n at (Ok v) → IsPulled remaining d (header.Tag t) xs p →
-    Got remaining f l xs p (tree_of v)
-tag-folded E remaining d e f t l n at xs p k v pushed last pull folding read a =
-    let b = pull a.1 (p + length a.0) (behind remaining d t xs p pushed a) in
-    let u : Front xs p (header.Tag t) a.0 a.1 = front-of remaining d (header.Tag t) (header.Tag t) xs p refl a in
-    let w : Front a.1 (p + length a.0) (header.Bytes (Some n)) b.0 b.1 =
-    front-of remaining e k (header.Bytes (Some n)) a.1 (p + length a.0) folding.0 b in
-    let c = read b.1 (p + length a.0 + length b.0) b.6 in
-    let q : ℕ = p + length a.0 + length b.0 + n in (
-      c.1,
-      q,
-      fold-reads t l n xs p a.0 a.1 b.0 b.1 c.0 c.1 (tree_of v) u w folding.1 folding.2 c.2 c.3 c.6 c.5,
-      ahead-at remaining f q c.1 last c.7,
-    )
+  -- ---- a tag that folds
 
-both-true : (t u : Bool) → (t && u) ≡ true → (t ≡ true) × (u ≡ true)
-both-true true u h = (refl, h)
-both-true false u h = absurd cc
+  module _ (E : Type 0) (e : Decoder S W) (k : Header) (n : ℕ) (pull : PullsSo {E = E} remaining d e (Ok k))
+      (folding : IsFolding t k (Some n)) (size : IsMeasured d → e.counter.count ≡ offset_of d + e.head_len) where
+    module _ (spelling : Spelling) (a : IsHeadAccepted spelling remaining d (header.Tag t) xs p) where
+      abbrev r : List ℕ
+      r = rest spelling a
 
-not-false : (t : Bool) → false ≡ not t → t ≡ true
-not-false true e = refl
-not-false false e = absurd cc
+      abbrev q : ℕ
+      q = next spelling a
 
--- only tag 3 has numbers that are too large
-pub too-large : (t : ℕ) (b : List ℕ) → is_bignum_tag t ≡ true → bignum_meaning t b ≡ None → (t ≡ 3) ×
-    (2 ^ 127 ≤ big_endian b)
-too-large t b big none =
-    let large : (eqb t 3 && leb (2 ^ 127) (big_endian b)) ≡ true =
-    not-false _ (sym (ap is_some none) ∙ bignum_meaning-some t b big) in
-    let both = both-true _ _ large in
-    (eqb-true t 3 both.0, leb-true (2 ^ 127) (big_endian b) both.1)
+      string : IsPulled remaining e k r q
+      string = pull r q (ahead spelling a)
 
-too-large-refuses : (t l n at : ℕ) (xs : List ℕ) (p : ℕ) (h r i s bs zs : List ℕ) (e : Refusal) → at ≡ p →
-    Front xs p (header.Tag t) h r → Front r (p + length h) (header.Bytes (Some n)) i s → is_bignum_tag t ≡ true →
-    n ≤ 16 → length bs ≡ n →
-    AreBytes bs → s ≡ bs ++ zs → bignum_meaning t bs ≡ None → e ≡ semantic at TooLarge → Refuses xs p (Some l) e
-too-large-refuses t l n at xs p h r i s bs zs e here u w big short len low is none same =
-    let large = too-large t bs big none in
-    let split : r ≡ (i ++ bs) ++ zs = w.split ∙ ap (λ (z : List ℕ). i ++ z) is ∙ sym (append_assoc i bs zs) in
-    let tag : HasHead xs 6 3 (length h) ((i ++ bs) ++ zs) =
-    subst (λ k. HasHead xs 6 k (length h) ((i ++ bs) ++ zs)) large.0
-    (subst (λ z. HasHead xs 6 t (length h) z) split (h, u.spelled, refl, u.split)) in
-    subst (λ f. Refuses xs p (Some l) f) (sym (same ∙ ap (λ k. semantic k TooLarge) here))
-    (Refuses.too_large (length h) (i ++ bs) bs zs u.usable tag (subst (λ z. IsUsable z (p + length h)) split w.usable)
-    (i, subst (IsHead i 2) (sym len) w.spelled, low, refl) (omega (arith, len, short)) large.1)
+      string-front : Front r q (header.Bytes (Some n)) string.0 string.1
+      string-front = front-of remaining e k (header.Bytes (Some n)) r q folding.0 string
 
--- what refuses the bytes over which a tag folds refuses the tag
-fold-refuses : (t l n at : ℕ) (xs : List ℕ) (p : ℕ) (h r i s : List ℕ) (e : Refusal) → at ≡ p →
-    Front xs p (header.Tag t) h r → Front r (p + length h) (header.Bytes (Some n)) i s → is_bignum_tag t ≡ true →
-    n ≤ 16 →
-    BignumRefuses any t n at s e → Refuses xs p (Some l) e
-fold-refuses t l n at xs p h r i s e here u w big short (inl (early, is)) =
-    let string : HasHead r 2 n (length i) s = (i, w.spelled, refl, w.split) in
-    subst (λ f. Refuses xs p (Some l) f) (sym is)
-    (Refuses.folding t (length h) r u.usable (h, u.spelled, refl, u.split) w.usable (big, n, length i, s, string, short)
-    (n, length i, s, string, PayloadRefuses.ends_early early))
-fold-refuses t l n at xs p h r i s e here u w big short (inr (bs, zs, len, low, split, inl (never, is))) = absurd never
-fold-refuses t l n at xs p h r i s e here u w big short (inr (bs, zs, len, low, split, inr (none, is))) =
-    too-large-refuses t l n at xs p h r i s bs zs e here u w big short len low split none is
+      folds : IsFoldingAt t r
+      folds = let w = string-front in
+          (folding.1, n, length string.0, string.1, (string.0, w.spelled, refl, w.split), folding.2)
 
-pub tag-unfolded : {S W E : Type 0} (remaining : S → Option (List ℕ)) (d e f : Decoder S W) (t l n at : ℕ) (xs : List ℕ)
-    (p : ℕ) (k : Header) (x : Error E) → d.pushed ≡ None → PullsSo {E = E} remaining d e (Ok k) →
-    IsFolding t k (Some n) →
-    FoldsSo {E = E} remaining e f t n at (Err x) → at ≡ p → IsPulled remaining d (header.Tag t) xs p →
-    RefusesNoBreak (left_of remaining f) x xs p l
-tag-unfolded remaining d e f t l n at xs p k x pushed pull folding read here a =
-    let b = pull a.1 (p + length a.0) (behind remaining d t xs p pushed a) in
-    let u : Front xs p (header.Tag t) a.0 a.1 = front-of remaining d (header.Tag t) (header.Tag t) xs p refl a in
-    let w : Front a.1 (p + length a.0) (header.Bytes (Some n)) b.0 b.1 =
-    front-of remaining e k (header.Bytes (Some n)) a.1 (p + length a.0) folding.0 b in
-    refused-map (left_of remaining f) x (BignumRefuses any t n at b.1) (λ r. Refuses xs p (Some l) r × ¬ IsBreakAt xs p)
-    (λ r c. (
-      fold-refuses t l n at xs p a.0 a.1 b.0 b.1 r here u w folding.1 folding.2 c,
-      no-break-tag remaining d t xs p a,
-    ))
-    (read b.1 (p + length a.0 + length b.0) b.6 (string-room 2 n (p + length a.0) a.1 b.0 b.1 (inl refl) w.spelled
-    w.usable w.split))
+      at : IsTagAt spelling xs p t r q
+      at = tag-at spelling a string.3
+
+      measured : IsHeadMeasured spelling e q
+      measured = by spelling (offset-at remaining d q r (ahead spelling a))
+        where
+          by : (s : Spelling) → offset_of d ≡ q → IsHeadMeasured s e q
+          by any same = tt
+          by (deterministic order) same = size (unpushed d pushed) ∙ ap (λ n. n + e.head_len) same
+
+    -- the head of its string is not accepted
+    pub tag-faulty : (spelling : Spelling) (here : ℕ) (kind : Kind) → head_fault spelling k e.head_len ≡ Some kind →
+        here ≡ offset_of d → IsHeadAccepted spelling remaining d (header.Tag t) xs p →
+        IsRefusedBy {E = E} (left_of remaining e) (Semantic (Some here) kind) (RefusesPart spelling xs p l)
+    tag-faulty spelling here kind wrong same a =
+        refused-map {E = E} (left_of remaining e) (Semantic (Some here) kind) (RefusesPart spelling (r spelling a)
+        (q spelling a) l) (RefusesPart spelling xs p l)
+        (λ f g. (
+          Refuses.folding t (r spelling a) (q spelling a) (at spelling a) (folds spelling a) g.0,
+          no-tag-break spelling a,
+        ))
+        (bad-at remaining e k (r spelling a) (q spelling a) (string spelling a) spelling E l here kind
+        (left_of remaining e) wrong (measured spelling a)
+        (same ∙ offset-at remaining d (q spelling a) (r spelling a) (ahead spelling a)))
+
+    module _ (spelling : Spelling) (a : IsHeadAccepted spelling remaining d (header.Tag t) xs p)
+        (right : head_fault spelling k e.head_len ≡ None) where
+      fits : q spelling a + length (string spelling a).0 + n ≤ greatest_offset
+      fits = let w = string-front spelling a in string-room 2 n (q spelling a) (r spelling a) (string spelling a).0
+          (string spelling a).1 (inl refl) w.spelled w.usable w.split
+
+      good : HasGoodHead spelling (r spelling a) (q spelling a)
+      good = (
+        (string spelling a).3,
+        good-at remaining e k (r spelling a) (q spelling a) (string spelling a) spelling right (measured spelling a),
+      )
+
+      payload : (y s : List ℕ) → length y ≡ n → AreBytes y → (string spelling a).1 ≡ y ++ s →
+          ReadsItem spelling (Some l) (r spelling a) (q spelling a) (trees.bytes y) s
+          (q spelling a + length (string spelling a).0 + n)
+      payload y s len low split = let w = string-front spelling a in
+          reads-string spelling of_bytes (r spelling a) (q spelling a) n (length (string spelling a).0) (Some l) y s
+          ((string spelling a).0, w.spelled, refl, w.split ∙ ap (λ (z : List ℕ). (string spelling a).0 ++ z) split) len
+          low good.1 fits
+
+      refuses : (here : ℕ) (f : Refusal) → here ≡ p → BignumRefuses spelling t n here (string spelling a).1 f →
+          Refuses spelling xs p (Some l) f
+      refuses here f same (inl (early, is)) = let w = string-front spelling a in
+          subst (Refuses spelling xs p (Some l)) (sym is) (Refuses.folding t (r spelling a) (q spelling a)
+          (at spelling a)
+          (folds spelling a) (Refuses.string of_bytes good (
+            n,
+            length (string spelling a).0,
+            (string spelling a).1,
+            ((string spelling a).0, w.spelled, refl, w.split),
+            PayloadRefuses.ends_early early,
+          )))
+      refuses here f same (inr (y, s, len, low, split, inl (can, is))) =
+          let i = payload y s len low split in
+          subst (Refuses spelling xs p (Some l)) (sym (is ∙ ap (λ j. semantic j refusal.NotFolded) same))
+          (Refuses.not_folded t (r spelling a) i.taken s y (q spelling a) (at spelling a) (folds spelling a) i.read
+          i.split
+          can)
+      refuses here f same (inr (y, s, len, low, split, inr (none, is))) =
+          let i = payload y s len low split in
+          let large = none-large t y folding.1 none in
+          subst (Refuses spelling xs p (Some l)) (sym (is ∙ ap (λ j. semantic j refusal.TooLarge) same))
+          (Refuses.too_large (r spelling a) i.taken s y (q spelling a)
+          (subst (λ j. IsTagAt spelling xs p j (r spelling a) (q spelling a)) large.0 (at spelling a))
+          (subst (λ j. IsFoldingAt j (r spelling a)) large.0 (folds spelling a)) i.read i.split large.1)
+
+    pub bignum-refused : (spelling : Spelling) (f : Decoder S W) (here : ℕ) (x : Error E) → here ≡ p →
+        head_fault spelling k e.head_len ≡ None → BignumSo {E = E} spelling remaining e f t n here (Err x) →
+        IsHeadAccepted spelling remaining d (header.Tag t) xs p →
+        IsRefusedBy (left_of remaining f) x (RefusesPart spelling xs p l)
+    bignum-refused spelling f here x same right read a =
+        let b = string spelling a in
+        refused-map (left_of remaining f) x (BignumRefuses spelling t n here b.1) (RefusesPart spelling xs p l)
+        (λ g c. (refuses spelling a right here g same c, no-tag-break spelling a))
+        (read b.1 (q spelling a + length b.0) b.6 (fits spelling a right))
+
+    pub got-bignum : (spelling : Spelling) (f : Decoder S W) (here : ℕ) (v : Value) → f.pushed ≡ None →
+        head_fault spelling k e.head_len ≡ None → BignumSo {E = E} spelling remaining e f t n here (Ok v) →
+        IsHeadAccepted spelling remaining d (header.Tag t) xs p → Got spelling remaining f l xs p (tree_of v)
+    got-bignum spelling f here v last right read a =
+        let b = string spelling a in
+        let u : ℕ = q spelling a + length b.0 in
+        let c = read b.1 u b.6 in
+        got spelling remaining f l xs p (tree_of v) (tree_of v) c.1 (u + n) last refl
+        (reads-folded spelling xs p t (Some l) (r spelling a) c.1 (q spelling a) (u + n) c.0 (tree_of v) (at spelling a)
+        (folds spelling a) (payload spelling a right c.0 c.1 c.2 c.3 c.6) c.4 c.5) c.7
+
+-- ---- the bytes of a bignum, as they were read
+
+pub bignum-unwanted : (spelling : Spelling) (t n at : ℕ) (x z xs : List ℕ) → length x ≡ n → AreBytes x →
+    IsUnwanted spelling x → Some (x ++ z) ≡ Some xs → BignumRefuses spelling t n at xs (semantic at refusal.NotFolded)
+bignum-unwanted spelling t n at x z xs len low can is = inr (x, z, len, low, same (x ++ z) xs is, inl (can, refl))
+  where
+    same : (u v : List ℕ) → Some u ≡ Some v → v ≡ u
+    same u v e = cc
+
+pub bignum-folded : {E W : Type 0} (spelling : Spelling) (d : Decoder (List ℕ) W) (t n at p : ℕ) (x z xs : List ℕ)
+    (r : Result Value (Error E)) → length x ≡ n → AreBytes x → ¬ IsUnwanted spelling x → Some (x ++ z) ≡ Some xs →
+    IsAt Some d z (p + n) → IsFolded t x at r → IsBignumRead spelling Some d t n at xs p r
+bignum-folded spelling d t n at p x z xs (Ok v) len low whole is stands means =
+    (x, z, len, low, whole, means, same (x ++ z) xs is, stands)
+  where
+    same : (u v : List ℕ) → Some u ≡ Some v → v ≡ u
+    same u v e = cc
+bignum-folded spelling d t n at p x z xs (Err e) len low whole is stands (inl memory) =
+    λ fits. subst (λ f. IsRefusedBy (left_of Some d) f (BignumRefuses spelling t n at xs)) (sym memory) tt
+bignum-folded spelling d t n at p x z xs (Err e) len low whole is stands (inr (none, large)) = λ fits.
+    subst (λ f. IsRefusedBy (left_of Some d) f (BignumRefuses spelling t n at xs)) (sym large)
+    (inr (x, z, len, low, same (x ++ z) xs is, inr (none, refl)))
+  where
+    same : (u v : List ℕ) → Some u ≡ Some v → v ≡ u
+    same u v e = cc

@@ -15,7 +15,8 @@ use Rattle.ciborium_ll.specs.Refusal.{Refusal, HeadRefuses, IsUsable, IsAtFront,
 use Rattle.ciborium_ll.proofs.HeadAnswers.{header-fits, header-begins}
 use Rattle.ciborium.specs.declared.de.error.Error.{Error}
 use Rattle.ciborium.specs.declared.de.error.Error.TheVariants as errors
-use Rattle.ciborium.specs.Errors.{from_ll, IsRefusedBy, IsNamed, refusal_kind_of}
+use Rattle.ciborium.specs.Errors.{from_ll}
+use Rattle.ciborium.specs.ValueAnswers.{IsRefusedBy, IsNamed, refusal_kind_of}
 use Rattle.ciborium.specs.inner.ValuesInBytes.{IsPulled, heads_by, heads_left}
 
 -- the error that an error of the lowest layer becomes refuses as it does

@@ -5,11 +5,13 @@ use Rattle.ciborium_ll.specs.Bytes.{greatest_offset}
 use Rattle.ciborium_ll.specs.declared.decoder.Decoder.{Decoder}
 use Rattle.ciborium_ll.specs.Decoding.{offset_of, left_of}
 use Rattle.ciborium_ll.specs.Head.{break_byte}
-use Rattle.ciborium_ll.specs.Refusal.{Refusal, semantic, Break}
+use Rattle.ciborium_ll.specs.Refusal.{semantic, Break}
 use Rattle.ciborium_value.specs.declared.tree.Value.{Value}
 use Rattle.ciborium_value.specs.declared.stack.Opening.{Opening}
 use Rattle.ciborium_value.specs.inner.Frames.{TreeFrame, array, map, tag, Placed, more, placed, closed}
 use Rattle.ciborium_value.specs.Refuses.{Refuses}
+use Rattle.ciborium_value.specs.Spelling.{Spelling}
+use Rattle.ciborium_value.specs.inner.ReadItems.{ReadsItem}
 use Rattle.ciborium_value.specs.inner.Stack.{begun_frame}
 use Rattle.ciborium_value.specs.Tree as trees
 use Rattle.ciborium_value.specs.Tree.{Tree}
@@ -18,77 +20,39 @@ use Rattle.ciborium_value.proofs.GoodItems.Steps.{opened-has}
 use Rattle.ciborium.specs.declared.de.error.Error.{Error}
 use Rattle.ciborium.specs.declared.de.front.Part.{Part}
 use Rattle.ciborium.specs.declared.de.front.Part.TheVariants.{Whole, Opened, Ended}
-use Rattle.ciborium.specs.ValueAnswers.{IsPlacedInOrder, IsReading, IsTurned}
+use Rattle.ciborium.specs.inner.Turns.{IsPlacedInOrder, IsReading, IsTurned}
 use Rattle.ciborium.specs.inner.Around.{IsAround}
-use Rattle.ciborium.specs.DeterministicRefusals.{DeterministicallyRefuses}
-use Rattle.ciborium.specs.Errors.{IsRefusedBy}
+use Rattle.ciborium.specs.ValueAnswers.{IsRefusedBy}
 use Rattle.ciborium.specs.inner.Parts.{IsPartRead, RefusesPart}
-use Rattle.ciborium.specs.inner.ValuesInBytes.{ReadsItem, StandsAt}
-use Rattle.ciborium.specs.Spelling.{Spelling, any, deterministic, RefusesBy}
-use Rattle.ciborium.proofs.Spellings.JudgedTurns.{Lands, LandsIn, disordered, kept, landed, refused-around}
+use Rattle.ciborium.specs.inner.ValuesInBytes.{StandsAt}
+use Rattle.ciborium.proofs.Turns.Heads.{ahead-of, stands-offset}
 use Rattle.ciborium.proofs.Turns.Pulled.{refused-map}
-use Rattle.ciborium.proofs.Spellings.SpelledParts.{stands-offset}
-use Rattle.ciborium.proofs.Turns.Turning.{EndsHere, IsPlaced, closed-item, placed-turn, refused-turn}
-
--- ---- what the spelling decides
-
--- what refuses inside refuses around
-refused-inside : (spelling : Spelling) (l : ℕ) (xs : List ℕ) (p : ℕ) (os : List TreeFrame) (m : ℕ) (ys : List ℕ) (q : ℕ)
-    (e : Refusal) → IsAround spelling l xs p os m ys q → RefusesPart spelling ys q m e → RefusesBy spelling xs p l e
-refused-inside any l xs p os m ys q e a f = refused-turn l xs p os m ys q e a f.0 (λ _. f.1)
-refused-inside (deterministic order) l xs p os m ys q e a f = refused-around order l xs p os m ys q e a f
+use Rattle.ciborium.proofs.Turns.Turning.{EndsHere, Lands, LandsIn, landed, kept, disordered, closed-item, refused-turn}
 
 -- a value was placed, and its key judged
 turned : {S W E : Type 0} (spelling : Spelling) (remaining : S → Option (List ℕ)) (e : Decoder S W)
     (os after : List TreeFrame) (l : ℕ) (xs : List ℕ) (p m : ℕ) (ys : List ℕ) (q : ℕ) (v : Tree) (zs : List ℕ)
     (r end : ℕ) (x : Result (Option Value) (Error E)) →
-    end ≡ r → IsAround spelling l xs p os m ys q → ReadsItem spelling m ys q v zs r →
+    end ≡ r → IsAround spelling l xs p os m ys q → ReadsItem spelling (Some m) ys q v zs r →
     StandsAt spelling remaining e zs r → IsPlacedInOrder spelling os v end after x →
     IsTurned spelling remaining e after l xs p x
-turned any remaining e os after l xs p m ys q v zs r end (Ok None) same a i stands (is, rises) =
-    let b : IsPlaced l xs p (more after) zs r = subst (λ (x : Placed). IsPlaced l xs p x zs r) (sym is)
-    (placed-turn l xs p os m ys q v zs r a i) in
-    (b.0, zs, r, b.1, stands)
-turned any remaining e os after l xs p m ys q v zs r end (Ok (Some w)) same a i stands is =
-    (zs, r, subst (λ (x : Placed). IsPlaced l xs p x zs r) (sym is) (placed-turn l xs p os m ys q v zs r a i), stands)
-turned any remaining e os after l xs p m ys q v zs r end (Err x) same a i stands (inl memory) =
-    subst (λ f. IsRefusedBy (left_of remaining e) f (Refuses xs p (Some l))) (sym memory) tt
-turned any remaining e os after l xs p m ys q v zs r end (Err x) same a i stands (inr (is, (at, never, error))) =
-    absurd never
-turned (deterministic order) remaining e os after l xs p m ys q v zs r end (Ok None) same a i stands (is, rises) =
-    let k = kept order l xs p after zs r (subst (λ (w : Placed). Lands order w l xs p zs r) (sym is)
-    (landed order l xs p os m ys q v zs r a i)) rises in
+turned spelling remaining e os after l xs p m ys q v zs r end (Ok None) same a i stands (is, rises) =
+    let k = kept spelling l xs p after zs r (subst (λ (w : Placed). Lands spelling w l xs p zs r) (sym is)
+    (landed spelling l xs p os m ys q v zs r a i)) rises in
     (k.0, zs, r, k.1, stands)
-turned (deterministic order) remaining e os after l xs p m ys q v zs r end (Ok (Some w)) same a i stands is = (
+turned spelling remaining e os after l xs p m ys q v zs r end (Ok (Some w)) same a i stands is = (
   zs,
   r,
-  subst (λ (u : Placed). Lands order u l xs p zs r) (sym is) (landed order l xs p os m ys q v zs r a i),
-  stands.0,
+  subst (λ (u : Placed). Lands spelling u l xs p zs r) (sym is) (landed spelling l xs p os m ys q v zs r a i),
+  ahead-of spelling remaining e zs r stands,
 )
-turned (deterministic order) remaining e os after l xs p m ys q v zs r end (Err x) same a i stands (inl memory) =
-    subst (λ f. IsRefusedBy (left_of remaining e) f (DeterministicallyRefuses order xs p l)) (sym memory) tt
-turned (deterministic order) remaining e os after l xs p m ys q v zs r end (Err x) same a i stands
-    (inr (is, (at, never, error))) =
-    subst (λ f. IsRefusedBy (left_of remaining e) f (DeterministicallyRefuses order xs p l)) (sym error)
-    (disordered order l xs p after zs end at (subst (λ n. LandsIn order after l xs p zs n) (sym same)
-    (subst (λ (w : Placed). Lands order w l xs p zs r) (sym is) (landed order l xs p os m ys q v zs r a i))) never)
-
--- the container that a break ends, with what is open around it
-Closes : Spelling → ℕ → List ℕ → ℕ → List TreeFrame → Tree → List ℕ → ℕ → Type 0
-Closes spelling l xs p os v zs r = (m : ℕ) × (ys : List ℕ) × (q : ℕ) × IsAround spelling l xs p os m ys q ×
-    ReadsItem spelling m ys q v zs r
-
-closing : (spelling : Spelling) (l : ℕ) (xs : List ℕ) (p : ℕ) (os us : List TreeFrame) (m : ℕ) (ys : List ℕ) (q : ℕ)
-    (v : Tree) (zs : List ℕ) → IsAround spelling l xs p os m ys q → closed os ≡ Some (v, us) → ys ≡ break_byte ∷ zs →
-    q < greatest_offset → Closes spelling l xs p us v zs (q + 1)
-unfolding Closes
-closing any l xs p os us m ys q v zs a e f g = closed-item l xs p os us m ys q v zs a e f g
-closing (deterministic order) l xs p [] us m ys q v zs a e f g = absurd cc
-closing (deterministic order) l xs p (array vs None ∷ os) us m ys q v zs (bs, b, around, c) e f g = absurd c
-closing (deterministic order) l xs p (array vs (Some n) ∷ os) us m ys q v zs a e f g = absurd cc
-closing (deterministic order) l xs p (tag t ∷ os) us m ys q v zs a e f g = absurd cc
-closing (deterministic order) l xs p (map ps None key ∷ os) us m ys q v zs (bs, b, around, c) e f g = absurd c
-closing (deterministic order) l xs p (map ps (Some n) key ∷ os) us m ys q v zs a e f g = absurd cc
+turned spelling remaining e os after l xs p m ys q v zs r end (Err x) same a i stands (inl memory) =
+    subst (λ f. IsRefusedBy (left_of remaining e) f (Refuses spelling xs p (Some l))) (sym memory) tt
+turned spelling remaining e os after l xs p m ys q v zs r end (Err x) same a i stands (inr (is, (at, never, error))) =
+    subst (λ f. IsRefusedBy (left_of remaining e) f (Refuses spelling xs p (Some l))) (sym error)
+    (disordered spelling l xs p after zs end at (subst (λ n. LandsIn spelling after l xs p zs n) (sym same)
+    (subst (λ (w : Placed). Lands spelling w l xs p zs r) (sym is) (landed spelling l xs p os m ys q v zs r a i)))
+    never)
 
 ends-not : (os : List TreeFrame) → closed os ≡ None → EndsHere os → ⊥
 ends-not os e h = let no = subst (λ o. IsSome o) e h in absurd cc
@@ -96,17 +60,12 @@ ends-not os e h = let no = subst (λ o. IsSome o) e h in absurd cc
 -- a break that ends nothing
 broken : (spelling : Spelling) (l : ℕ) (xs : List ℕ) (p : ℕ) (os : List TreeFrame) (m : ℕ) (ys : List ℕ) (q : ℕ)
     (zs : List ℕ) → IsAround spelling l xs p os m ys q → closed os ≡ None → ys ≡ break_byte ∷ zs → q < greatest_offset →
-    RefusesBy spelling xs p l (semantic q Break)
-broken any l xs p os m ys q zs a none is less =
-    let refuses : Refuses ys q (Some m) (semantic q Break) =
-    subst (λ z. Refuses z q (Some m) (semantic q Break)) (sym is)
+    Refuses spelling xs p (Some l) (semantic q Break)
+broken spelling l xs p os m ys q zs a none is less =
+    let refuses : Refuses spelling ys q (Some m) (semantic q Break) =
+    subst (λ z. Refuses spelling z q (Some m) (semantic q Break)) (sym is)
     (Refuses.break {p = q} {b = zs} (opened-has 7 q zs refl less)) in
-    refused-turn l xs p os m ys q (semantic q Break) a refuses (λ h. absurd (ends-not os none h))
-broken (deterministic order) l xs p os m ys q zs a none is less =
-    let refuses : DeterministicallyRefuses order ys q m (semantic q Break) =
-    subst (λ z. DeterministicallyRefuses order z q m (semantic q Break)) (sym is)
-    (DeterministicallyRefuses.break {p = q} {l = m} {b = zs} (opened-has 7 q zs refl less)) in
-    refused-around order l xs p os m ys q (semantic q Break) a refuses
+    refused-turn spelling l xs p os m ys q (semantic q Break) a refuses (λ h. absurd (ends-not os none h))
 
 -- ---- what `next` answers, wherever the decoder stands
 
@@ -136,10 +95,10 @@ module _ {S W E : Type 0} (spelling : Spelling) (remaining : S → Option (List 
       (subst (λ m. IsPartRead spelling remaining e m s.1 s.2 x)
       (ap (λ k. l - k) depth ∙ left spelling l xs p os s.0 s.1 s.2 s.3) (answers s.1 s.2 s.4))
 
-  pub turn-refused : (f : Error E) → y ≡ Err f → IsRefusedBy (left_of remaining e) f (RefusesBy spelling xs p l)
+  pub turn-refused : (f : Error E) → y ≡ Err f → IsRefusedBy (left_of remaining e) f (Refuses spelling xs p (Some l))
   turn-refused f is =
-      refused-map (left_of remaining e) f (RefusesPart spelling s.1 s.2 s.0) (RefusesBy spelling xs p l)
-      (λ r h. refused-inside spelling l xs p os s.0 s.1 s.2 r s.3 h)
+      refused-map (left_of remaining e) f (RefusesPart spelling s.1 s.2 s.0) (Refuses spelling xs p (Some l))
+      (λ r h. refused-turn spelling l xs p os s.0 s.1 s.2 r s.3 h.0 (λ _. h.1))
       (subst (λ z. IsPartRead spelling remaining e s.0 s.1 s.2 z) is here)
 
   pub turn-whole : (v : Value) (after : List TreeFrame) (end : ℕ) (z : Result (Option Value) (Error E)) →
@@ -166,19 +125,19 @@ module _ {S W E : Type 0} (spelling : Spelling) (remaining : S → Option (List 
   pub turn-ended : (v : Value) (between after : List TreeFrame) (end : ℕ) (z : Result (Option Value) (Error E)) →
       y ≡ Ok Ended → closed os ≡ Some (tree_of v, between) → end ≡ offset_of e →
       IsPlacedInOrder spelling between (tree_of v) end after z → IsTurned spelling remaining e after l xs p z
-  unfolding Closes
   turn-ended v between after end z is ends at placed =
       let a = subst (λ z. IsPartRead {E = E} spelling remaining e s.0 s.1 s.2 z) is here in
-      let (m, ys, q, around, item) = closing spelling l xs p os between s.0 s.1 s.2 (tree_of v) a.0 s.3 ends a.1 a.2 in
+      let (m, ys, q, around, item) = closed-item spelling l xs p os between s.0 s.1 s.2 (tree_of v) a.0 s.3 ends a.1 a.2
+      in
       turned spelling remaining e between after l xs p m ys q (tree_of v) a.0 (s.2 + 1) end z
       (at ∙ stands-offset spelling remaining e (s.2 + 1) a.0 a.3) around item a.3 placed
 
   pub turn-break : (offset : ℕ) → y ≡ Ok Ended → closed os ≡ None → offset ≡ offset_of d →
-      RefusesBy spelling xs p l (semantic offset Break)
+      Refuses spelling xs p (Some l) (semantic offset Break)
   turn-break offset is none at =
       let a = subst (λ z. IsPartRead {E = E} spelling remaining e s.0 s.1 s.2 z) is here in
       let place : offset ≡ s.2 = at ∙ stands-offset spelling remaining d s.2 s.1 s.4 in
-      subst (λ k. RefusesBy spelling xs p l (semantic k Break)) (sym place)
+      subst (λ k. Refuses spelling xs p (Some l) (semantic k Break)) (sym place)
       (broken spelling l xs p os s.0 s.1 s.2 a.0 s.3 none a.1 a.2)
 
 -- ---- how many are open

@@ -14,14 +14,13 @@ use Rattle.ciborium_ll.specs.Header.{SpellsHeader}
 use Rattle.ciborium_ll.specs.Item.{Item, unsigned}
 use Rattle.ciborium_ll.specs.Refusal.{IsUsable}
 use Rattle.ciborium_ll.specs.Spells.{Spells}
-use Rattle.ciborium_value.specs.Ahead.{Ahead, Rest, Form, bottom, parts}
-use Rattle.ciborium_value.specs.Ahead.{pairs, entry, held, item, after, of_bytes, past, inside}
-use Rattle.ciborium_value.specs.Ahead.{end_of}
+use Rattle.ciborium_value.specs.Ahead.{Ahead, Rest, Form, bottom, parts, pairs, entry, held, item}
+use Rattle.ciborium_value.specs.Ahead.{after, of_bytes, past, inside, end_of}
 use Rattle.ciborium_value.specs.Meaning.{meaning}
 use Rattle.ciborium_value.specs.Nesting.{Limit, nesting}
 use Rattle.ciborium_value.specs.Places.{Shape, sequence, dictionary}
 use Rattle.ciborium_value.specs.Sources.{Fault, HasItem, IsFaultOf, IsGrantedFault, TakesOnly}
-use Rattle.ciborium_value.specs.Taken.{Outcome, Taken, gives, is_null_simple}
+use Rattle.ciborium_value.specs.Taken.{Steps, Taken, gives, is_null_simple, outcome}
 use Rattle.ciborium_value.specs.Tree.{Tree}
 use Rattle.ciborium.specs.declared.de.error.Error.{Error}
 use Rattle.ciborium.specs.declared.de.byte_source.ByteSource.{ByteSource}
@@ -29,12 +28,12 @@ use Rattle.ciborium.specs.declared.de.byte_source.ByteLevel.{ByteLevel}
 use Rattle.ciborium.specs.declared.de.byte_source.ByteSeq.{ByteSeq}
 use Rattle.ciborium.specs.declared.de.byte_source.Left.{Left}
 use Rattle.ciborium.specs.declared.de.byte_source.Left.TheVariants as left
-use Rattle.ciborium.specs.ValueAnswers.{IsTreeRead}
+use Rattle.ciborium.specs.inner.Turns.{IsTreeRead}
 use Rattle.ciborium.specs.inner.ValuesInBytes.{HasEndedAfter}
 use Rattle.ciborium.specs.Errors.{fault_of}
 use Rattle.ciborium.specs.inner.FrontItems.{Denies, Reads}
 use Rattle.ciborium.specs.inner.Skips.{EntersUnread, IsBare}
-use Rattle.ciborium.specs.Spelling.{any}
+use Rattle.ciborium_value.specs.Spelling.{any}
 use Rattle.ciborium.specs.inner.Unread.{SpellsPair, AreSpelled, FitsAhead, ending, form_of}
 use Rattle.ciborium.specs.inner.Unread.{HasCount}
 
@@ -177,33 +176,33 @@ SeqOwes q s b u = LeftOwes q.left s b u
 
 -- a sequence was entered
 abbrev pub EntersItemsUnread : {S W A : Type 0} → (S → Option (List ℕ)) → ByteSource S W →
-    ByteSource S W → Taken A → (Limit → List Item → Outcome A) → ByteSeq → Type 0
+    ByteSource S W → Taken A → (Form → List Item → Steps A) → ByteSeq → Type 0
 EntersItemsUnread remaining old new taken f q =
     EntersUnread (IsUnread remaining) (λ p. SeqOwes p sequence) Spells (λ p. HoldsItems p.left) old
     new (Some old.levels) (Some new.levels) taken f q
 
 -- a map was entered
 abbrev pub EntersPairsUnread : {S W A : Type 0} → (S → Option (List ℕ)) → ByteSource S W →
-    ByteSource S W → Taken A → (Limit → List (Item × Item) → Outcome A) → ByteSeq → Type 0
+    ByteSource S W → Taken A → (Form → List (Item × Item) → Steps A) → ByteSeq → Type 0
 EntersPairsUnread remaining old new taken f q =
     EntersUnread (IsUnread remaining) (λ p. SeqOwes p dictionary) SpellsPair
     (λ p. HoldsPairs p.left) old new (Some old.levels) (Some new.levels) taken f q
 
 -- what is left of a sequence was read: f takes this from its items, and the source stands past it
 abbrev pub ReadsRest : {S W A : Type 0} → (S → Option (List ℕ)) → ByteSource S W → ByteSource S W →
-    ByteSeq → (Limit → List Item → Outcome A) → A → Type 0
+    ByteSeq → (List Item → Steps A) → A → Type 0
 ReadsRest remaining old new q f v = (l : Limit) (form : Form) (is : List Item) (r : Rest) →
     StandsBefore remaining old (inside form l) (after (parts form is r)) →
     SeqStands q l (parts form is r) →
-    (f (inside form l) is ≡ gives v) × StandsBefore remaining new l (past r)
+    (outcome (inside form l) (f is) ≡ gives v) × StandsBefore remaining new l (past r)
 
 -- it is refused only where the items that are left are, and for that
 abbrev pub RefusesRest : {S W A : Type 0} → (S → Option (List ℕ)) → ByteSource S W → ByteSeq →
-    (Limit → List Item → Outcome A) → Fault → Type 0
+    (List Item → Steps A) → Fault → Type 0
 RefusesRest remaining old q f fault = (l : Limit) (form : Form) (is : List Item) (r : Rest) →
     StandsBefore remaining old (inside form l) (after (parts form is r)) →
     SeqStands q l (parts form is r) →
-    IsFaultOf (end_of r) fault (f (inside form l) is)
+    IsFaultOf (end_of r) fault (outcome (inside form l) (f is))
 
 -- ---- how much can still be read
 

@@ -22,12 +22,12 @@ use Rattle.ciborium.specs.declared.de.error.Error.TheVariants.{Semantic, Recursi
 use Rattle.ciborium.specs.declared.de.error.Error.TheVariants.{Memory}
 use Rattle.ciborium.specs.declared.de.front.Part.{Part}
 use Rattle.ciborium.specs.declared.de.front.Part.TheVariants.{Whole, Opened, Ended}
-use Rattle.ciborium.specs.inner.Around.{IsInside}
-use Rattle.ciborium.specs.Errors.{IsRefusedBy}
-use Rattle.ciborium.specs.DeterministicRefusals.{ContainerKind, of_array, of_map}
-use Rattle.ciborium.specs.DeterministicRefusals.{DeterministicallyRefuses}
-use Rattle.ciborium.specs.inner.ValuesInBytes.{ReadsItem, IsAt, IsPulled, IsBreakAt, StandsAt}
-use Rattle.ciborium.specs.Spelling.{Spelling, any, deterministic, head_fault, IsUnwanted}
+use Rattle.ciborium.specs.inner.Around.{IsOpen}
+use Rattle.ciborium.specs.ValueAnswers.{IsRefusedBy}
+use Rattle.ciborium_value.specs.inner.ReadItems.{ReadsItem}
+use Rattle.ciborium.specs.inner.ValuesInBytes.{IsAt, IsPulled, IsBreakAt, StandsAt}
+use Rattle.ciborium_value.specs.Spelling.{Spelling, any, deterministic, IsUnwanted}
+use Rattle.ciborium.specs.inner.Rules.{head_fault}
 
 -- how many places follow the first one, of so many in all (None: as many as come before a break)
 abbrev pub IsBehind : Option ℕ → Option ℕ → Type 0
@@ -36,33 +36,28 @@ IsBehind (Some n) None = ⊥
 IsBehind None (Some k) = ⊥
 IsBehind None None = Unit {0}
 
-abbrev pub container_kind : Bool → ContainerKind
-container_kind true = of_map
-container_kind false = of_array
+-- the head of an array or, if so, a map with this count (None: open), its tree where it has no
+-- parts, and its frame before the first part
+abbrev pub container_header : Bool → Option ℕ → Header
+container_header false count = header.Array count
+container_header true count = header.Map count
 
--- the head of a container with this count (None: open), its tree where it has no parts, and its
--- frame before the first part
-abbrev pub container_header : ContainerKind → Option ℕ → Header
-container_header of_array count = header.Array count
-container_header of_map count = header.Map count
+abbrev pub empty_container : Bool → Tree
+empty_container false = trees.array trees.no_trees
+empty_container true = trees.map trees.no_tree_pairs
 
-abbrev pub empty_container : ContainerKind → Tree
-empty_container of_array = trees.array trees.no_trees
-empty_container of_map = trees.map trees.no_tree_pairs
-
-abbrev pub begun_container : ContainerKind → Option ℕ → TreeFrame
-begun_container of_array behind = array [] behind
-begun_container of_map behind = map [] behind None
+abbrev pub begun_container : Bool → Option ℕ → TreeFrame
+begun_container false behind = array [] behind
+begun_container true behind = map [] behind None
 
 -- what follows that head
-abbrev pub IsContainerBegun : {E : Type 0} → ContainerKind → Option ℕ → ℕ → Result Part (Error E) →
-    Type 0
-IsContainerBegun kind count l (Ok (Whole v)) = (count ≡ Some 0) × (0 < l) ×
-    (tree_of v ≡ empty_container kind)
-IsContainerBegun kind count l (Ok (Opened f)) = (0 < l) × (behind : Option ℕ) ×
-    (begun_frame f ≡ begun_container kind behind) × IsBehind count behind
-IsContainerBegun kind count l (Ok Ended) = ⊥
-IsContainerBegun kind count l (Err e) = (l ≡ 0) × (e ≡ RecursionLimitExceeded)
+abbrev pub IsContainerBegun : {E : Type 0} → Bool → Option ℕ → ℕ → Result Part (Error E) → Type 0
+IsContainerBegun is_map count l (Ok (Whole v)) = (count ≡ Some 0) × (0 < l) ×
+    (tree_of v ≡ empty_container is_map)
+IsContainerBegun is_map count l (Ok (Opened f)) = (0 < l) × (behind : Option ℕ) ×
+    (begun_frame f ≡ begun_container is_map behind) × IsBehind count behind
+IsContainerBegun is_map count l (Ok Ended) = ⊥
+IsContainerBegun is_map count l (Err e) = (l ≡ 0) × (e ≡ RecursionLimitExceeded)
 
 -- what a simple value at offset p is read as
 abbrev pub IsSimpleRead : {E : Type 0} → ℕ → ℕ → Result Value (Error E) → Type 0
@@ -71,12 +66,11 @@ IsSimpleRead n p (Err e) = (simple_meaning n ≡ None) × (e ≡ Semantic (Some 
 
 -- a container or tag that is open at zs begins at ys
 abbrev pub IsFrameBegun : Spelling → ℕ → List ℕ → ℕ → TreeFrame → List ℕ → ℕ → Type 0
-IsFrameBegun spelling l ys q o zs r = (m : ℕ) × (l ≡ suc m) × IsInside spelling o m ys q zs r
+IsFrameBegun spelling l ys q o zs r = (m : ℕ) × (l ≡ suc m) × IsOpen spelling o m ys q zs r
 
 -- xs refuses so, and is no break that may end what is open
 abbrev pub RefusesPart : Spelling → List ℕ → ℕ → ℕ → Refusal → Type 0
-RefusesPart any xs p l = λ r. Refuses xs p (Some l) r × ¬ IsBreakAt xs p
-RefusesPart (deterministic order) xs p l = DeterministicallyRefuses order xs p l
+RefusesPart spelling xs p l = λ r. Refuses spelling xs p (Some l) r × ¬ IsBreakAt xs p
 
 -- a head was pulled where xs was ahead from offset p on, and is accepted; for the deterministic
 -- spelling the decoder knows its size
@@ -101,7 +95,7 @@ abbrev pub IsPartRead : {S W E : Type 0} → Spelling → (S → Option (List �
     List ℕ →
     ℕ → Result Part (Error E) → Type 0
 IsPartRead spelling remaining d l xs p (Ok (Whole v)) =
-    (zs : List ℕ) × (r : ℕ) × ReadsItem spelling l xs p (tree_of v) zs r ×
+    (zs : List ℕ) × (r : ℕ) × ReadsItem spelling (Some l) xs p (tree_of v) zs r ×
     StandsAt spelling remaining d zs r
 IsPartRead spelling remaining d l xs p (Ok (Opened f)) =
     (zs : List ℕ) × (r : ℕ) × IsFrameBegun spelling l xs p (begun_frame f) zs r ×

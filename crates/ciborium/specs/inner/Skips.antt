@@ -9,7 +9,7 @@ use Rattle.ciborium_ll.specs.Spells.{Spells}
 use Rattle.ciborium_value.specs.Ahead.{Form, inside}
 use Rattle.ciborium_value.specs.Meaning.{is_bignum_tag}
 use Rattle.ciborium_value.specs.Nesting.{Limit}
-use Rattle.ciborium_value.specs.Taken.{Outcome, Taken, gives}
+use Rattle.ciborium_value.specs.Taken.{Steps, Taken, gives, outcome}
 use Rattle.ciborium.specs.inner.Unread.{AreLeft, ending}
 
 -- an item under tags, the innermost first
@@ -52,7 +52,7 @@ pub record Leads {A : Type 0} (l : Limit) (taken : Taken (A × Item)) (v : A) (b
     pub outward : (i : Item) (s z : List ℕ) → Spells s i → u ≡ s ++ z → (j : Item) × (t : List ℕ) ×
         Spells t j × (b ≡ t ++ z)
     pub inward : (j : Item) (t z : List ℕ) → Spells t j → b ≡ t ++ z → (i : Item) × (s : List ℕ) ×
-        (taken l j ≡ gives (v, i)) × Spells s i × (u ≡ s ++ z)
+        (outcome l (taken j) ≡ gives (v, i)) × Spells s i × (u ≡ s ++ z)
 
 module _ {S : Type 0} (IsUnread : S → List ℕ → Type 0) where
   -- tags were skipped
@@ -69,11 +69,12 @@ module _ {S : Type 0} (IsUnread : S → List ℕ → Type 0) where
   -- a container was entered: what is owed is known, and which parts it has, of which f is taken
   abbrev pub EntersUnread : {Q X A : Type 0} → (Q → List ℕ → List ℕ → Type 0) →
       (List ℕ → X → Type 0) → (Q → Form → List X → Type 0) → S → S → Limit → Limit → Taken A →
-      (Limit → List X → Outcome A) → Q → Type 0
+      (Form → List X → Steps A) → Q → Type 0
   EntersUnread {X = X} Owes SpellsPart Holds old new l below taken f q =
       (b : List ℕ) → IsUnread old b → (u : List ℕ) × IsUnread new u × Owes q b u ×
       ((j : Item) (t z : List ℕ) → Spells t j → b ≡ t ++ z →
-      (form : Form) × (xs : List X) × (c : List ℕ) × (taken l j ≡ f (inside form l) xs) ×
+      (form : Form) × (xs : List X) × (c : List ℕ) ×
+      (outcome l (taken j) ≡ outcome (inside form l) (f form xs)) ×
       (inside form l ≡ below) × AreLeft SpellsPart form c xs × (u ≡ c ++ (ending form ++ z)) ×
       Holds q form xs)
 

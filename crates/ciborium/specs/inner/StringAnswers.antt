@@ -7,21 +7,15 @@ use Rattle.ciborium_ll.specs.Decoding.{left_of}
 use Rattle.ciborium_ll.specs.StringRefusal.{StringKind, of_bytes, of_text, ContentRefuses}
 use Rattle.ciborium_ll.specs.Strings.{IsStringTaken}
 use Rattle.ciborium_value.specs.declared.tree.Value.{Value}
-use Rattle.ciborium_value.specs.Tree as trees
-use Rattle.ciborium_value.specs.Tree.{Tree}
 use Rattle.ciborium_value.specs.View.{tree_of}
+use Rattle.ciborium_value.specs.inner.ReadItems.{string_tree}
 use Rattle.ciborium.specs.declared.de.error.Error.{Error}
-use Rattle.ciborium.specs.Errors.{IsRefusedBy}
+use Rattle.ciborium.specs.ValueAnswers.{IsRefusedBy}
 use Rattle.ciborium.specs.inner.ValuesInBytes.{IsAt}
 
 abbrev pub string_kind : Bool → StringKind
 string_kind true = of_text
 string_kind false = of_bytes
-
--- the tree of a string
-abbrev pub string_tree : StringKind → List ℕ → Tree
-string_tree of_bytes b = trees.bytes b
-string_tree of_text b = trees.text b
 
 -- the payload of a string of this length, whose head is at offset at, stands at xs, offset p
 abbrev pub IsStringRead : {S W E : Type 0} → StringKind → (S → Option (List ℕ)) → Decoder S W →

@@ -71,12 +71,14 @@ module _ (P Q : List ℕ → Type 0) where
       (y ≡ c ++ z) × Q z
 
 -- where a string with this head is spelled, and what is there ends at this offset, it is refused
--- for what the string does not decide
+-- for what the string does not decide: as too long only where the string ends too far
 abbrev pub DeniesContent : (List ℕ → Type 0) → ℕ → StringKind → Option ℕ → Fault → Type 0
-DeniesContent P end kind len fault =
-    (y x s z payload : List ℕ) → P y → SpellsHeader x (head_of kind len) →
-    Spells s (string_item kind len payload) → x ++ y ≡ s ++ z → IsOutsideFault end fault
+DeniesContent P all kind len fault =
+    (y x s z payload : List ℕ) (end : ℕ) → P y → SpellsHeader x (head_of kind len) →
+    Spells s (string_item kind len payload) → x ++ y ≡ s ++ z → all ≤ end + length z →
+    IsOutsideFault end fault
 
--- where n bytes are there
+-- where n bytes are there, and m more
 abbrev pub DeniesJust : (List ℕ → Type 0) → ℕ → ℕ → Fault → Type 0
-DeniesJust P end n fault = (y : List ℕ) → P y → n ≤ length y → IsOutsideFault end fault
+DeniesJust P all n fault = (y : List ℕ) (m end : ℕ) → P y → n + m ≤ length y → all ≤ end + m →
+    IsOutsideFault end fault

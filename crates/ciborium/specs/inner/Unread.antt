@@ -1,5 +1,5 @@
 -- How the bytes that a source has unread spell what it stands before.
-use Rattle.std.specs.Prelude.{◌≡◌, ℕ, List, [], ◌∷◌, ◌++◌, length, Option, Some, None}
+use Rattle.std.specs.Prelude.{◌≡◌, ℕ, ◌+◌, List, [], ◌∷◌, ◌++◌, length, Option, Some, None}
 use Rattle.std.specs.Borrow.{GName}
 use Rattle.ciborium_ll.specs.Head.{break_byte}
 use Rattle.ciborium_ll.specs.Item.{Item}
@@ -44,7 +44,7 @@ module _ {X : Type 0} (SpellsPart : List ℕ → X → Type 0) where
 module _ (reader : GName × ℕ) where
   -- b is this rest, in the reader of this name, up to this offset
   abbrev pub IsRest : List ℕ → Rest → Type 0
-  IsRest b (bottom m r) = (b ≡ r) × (m ≡ reader)
+  IsRest b (bottom m r) = (b ≡ r) × (m.0 ≡ reader.0) × (m.1 + length r ≡ reader.1)
   IsRest b (parts form is f) = (s : List ℕ) × (r : List ℕ) × AreLeft Spells form s is × IsRest r f ×
       (b ≡ s ++ (ending form ++ r))
   IsRest b (pairs form ps f) = (s : List ℕ) × (r : List ℕ) × AreLeft SpellsPair form s ps ×

@@ -8,19 +8,9 @@ use Rattle.ciborium_ll.specs.Head.{break_byte}
 use Rattle.ciborium_ll.specs.Header.{SpellsHeader}
 use Rattle.ciborium_ll.specs.Refusal.{IsUsable, IsAtFront}
 use Rattle.ciborium_ll.specs.Decoding.{IsAhead, IsMeasured, left_of}
-use Rattle.ciborium_value.specs.Tree.{Tree}
 use Rattle.ciborium.specs.declared.de.error.Error.{Error}
 use Rattle.ciborium.specs.Errors.{HasEndedBy}
-use Rattle.ciborium.specs.Spelling.{Spelling, any, deterministic, IsReadBy}
-
--- ys, whose first byte is at offset q, begins with an item that is read as v within l levels; zs
--- follows it, at offset r
-pub record ReadsItem (spelling : Spelling) (l : ℕ) (ys : List ℕ) (q : ℕ) (v : Tree) (zs : List ℕ)
-    (r : ℕ) : Type 0 where
-  pub taken : List ℕ
-  pub read : IsReadBy spelling taken q l v
-  pub split : ys ≡ taken ++ zs
-  pub at : r ≡ q + length taken
+use Rattle.ciborium_value.specs.Spelling.{Spelling, any, deterministic}
 
 -- b is ahead, its first byte at offset p; for the deterministic spelling the decoder knows how many
 -- bytes its last head has

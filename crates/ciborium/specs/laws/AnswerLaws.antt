@@ -13,15 +13,15 @@ use Rattle.ciborium.specs.declared.de.error.Error.{Error}
 use Rattle.ciborium.specs.declared.de.error.Error.TheVariants.{Io, Syntax, Semantic}
 use Rattle.ciborium.specs.declared.de.error.Error.TheVariants.{RecursionLimitExceeded, Memory}
 use Rattle.ciborium.specs.declared.de.error.Error.TheVariants.{TooLong}
-use Rattle.ciborium.specs.ValueAnswers.{TakesValue, IsFailed}
-use Rattle.ciborium.specs.Errors.{IsRefusedBy, refusal_kind_of}
-use Rattle.ciborium.specs.Spelling.{any}
+use Rattle.ciborium.specs.ValueAnswers.{IsFailed, IsRefusedBy, refusal_kind_of}
+use Rattle.ciborium.specs.ValueClauses.{TakesValue}
+use Rattle.ciborium_value.specs.Spelling.{any}
 
 -- what the clauses of a call say of its answer: b were the known bytes, within l levels, and this
 -- is left of them
 abbrev pub IsReadAnswer : List ℕ → ℕ → Option (List ℕ) → Result Value (Error IoError) → Type 0
 IsReadAnswer b l left (Ok v) = TakesValue any b l (tree_of v) left
-IsReadAnswer b l left (Err e) = IsRefusedBy left e (λ r. Refuses b 0 (Some l) r)
+IsReadAnswer b l left (Err e) = IsRefusedBy left e (λ r. Refuses any b 0 (Some l) r)
 
 -- the refusal of a kind at an offset
 abbrev pub semantic_of : Option ℕ → Kind → Option Refusal

@@ -9,15 +9,16 @@ use Rattle.ciborium_value.specs.Nesting.{nesting}
 use Rattle.ciborium_value.specs.ProperTrees.{IsProperTree}
 use Rattle.ciborium_value.specs.Readings.{Reading}
 use Rattle.ciborium_value.specs.Sinks.{Named}
-use Rattle.ciborium_value.specs.Taken.{Taken, gives}
+use Rattle.ciborium_value.specs.Taken.{Taken, gives, outcome}
 use Rattle.ciborium_value.specs.Tree.{Tree}
 use Rattle.ciborium_value.specs.View.{tree_of}
 use Rattle.ciborium_value.specs.declared.key_order.KeyOrder.{KeyOrder}
 use Rattle.ciborium_value.specs.declared.tree.Value.{Value}
 use Rattle.ciborium.specs.declared.de.error.Error.{Error}
-use Rattle.ciborium.specs.ValueAnswers.{AnswersGoodItem, GivesTree, ReadsWhole}
+use Rattle.ciborium.specs.ValueAnswers.{AnswersGoodItem, GivesTree}
+use Rattle.ciborium.specs.ValueClauses.{ReadsWhole}
 use Rattle.ciborium.specs.DeterministicWrites.{IsFormWritten, WritesForm, named_form}
-use Rattle.ciborium.specs.Spelling.{deterministic}
+use Rattle.ciborium_value.specs.Spelling.{deterministic}
 use Rattle.ciborium.specs.TypedAnswers.{TakesGiven}
 
 -- of a tree that a program can hold the encoding of its form, whatever follows it, is read by the
@@ -52,7 +53,7 @@ IsOwnForm o (Err kind) = ⊥
 -- itself: the order of pairs and folding make no difference to it
 abbrev pub IsFormReadAlike : {C : Type 0} → Taken C → KeyOrder → Named → Type 0
 IsFormReadAlike taken o (Ok i) = (t : Tree) → deterministic_form o (written_tree i) ≡ gives t →
-    taken None (item_of t) ≡ taken None (item_of (written_tree i))
+    outcome None (taken (item_of t)) ≡ outcome None (taken (item_of (written_tree i)))
 IsFormReadAlike taken o (Err kind) = ⊥
 
 -- where the form of what the one value names was written into nothing, and the other was read at

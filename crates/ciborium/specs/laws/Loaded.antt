@@ -8,12 +8,13 @@ use Rattle.std.specs.declared.io.Error.{Error as IoError}
 use Rattle.ciborium_ll.specs.Bytes.{greatest_offset}
 use Rattle.ciborium_value.specs.OrderedValues.{ordered_value_cmp}
 use Rattle.ciborium_value.specs.Encoding.{encoding, item_of}
+use Rattle.ciborium_value.specs.Nesting.{nesting}
 use Rattle.ciborium_value.specs.Folded.{folded}
 use Rattle.ciborium_value.specs.Places.{dictionary}
 use Rattle.ciborium_value.specs.Readings.{Reading}
 use Rattle.ciborium_value.specs.lemmas.ReadsBackMaps.{IsMapHeld}
 use Rattle.ciborium_value.specs.Sinks.{Named, container_of, in_turn, named_value}
-use Rattle.ciborium_value.specs.Taken.{Taken, gives}
+use Rattle.ciborium_value.specs.Taken.{Taken, gives, outcome}
 use Rattle.ciborium_value.specs.Tree as trees
 use Rattle.ciborium_value.specs.Tree.{Tree}
 use Rattle.ciborium_value.specs.TreeAnswers.{value_item}
@@ -22,9 +23,10 @@ use Rattle.ciborium_value.specs.declared.key_order.KeyOrder.{KeyOrder}
 use Rattle.ciborium_value.specs.declared.key_order.KeyOrder.TheVariants.{LengthFirst}
 use Rattle.ciborium_value.specs.declared.tree.Value.{Value}
 use Rattle.ciborium.specs.declared.de.error.Error.{Error}
-use Rattle.ciborium.specs.ValueAnswers.{AnswersGoodItem, IsFailed, ReadsWhole}
-use Rattle.ciborium_value.specs.Deterministic.{IsAccepted, IsCanonicalTree}
-use Rattle.ciborium.specs.Spelling.{deterministic}
+use Rattle.ciborium.specs.ValueAnswers.{AnswersGoodItem, IsFailed}
+use Rattle.ciborium.specs.ValueClauses.{ReadsWhole}
+use Rattle.ciborium_value.specs.CanonicalTrees.{IsCanonicalTree}
+use Rattle.ciborium_value.specs.Spelling.{deterministic}
 use Rattle.ciborium.specs.declared.ser.error.Error.{Error as WriteError}
 use Rattle.ciborium.specs.Writes.{IsNamedWritten, WritesNamed}
 
@@ -32,7 +34,8 @@ use Rattle.ciborium.specs.Writes.{IsNamedWritten, WritesNamed}
 -- reader failed, or memory was refused
 abbrev pub IsLoaded : {C E : Type 0} → Taken C → C → List ℕ → Option (List ℕ) →
     Result Tree (Error E) → Type 0
-IsLoaded taken c rest after (Ok t) = (after ≡ Some rest) × (taken None (item_of t) ≡ gives c)
+IsLoaded taken c rest after (Ok t) = (after ≡ Some rest) ×
+    (outcome None (taken (item_of t)) ≡ gives c)
 IsLoaded taken c rest after (Err e) = IsFailed after e
 
 -- a value names the item of a tree that the deterministic reader accepts within l levels: what is
@@ -41,7 +44,8 @@ abbrev pub LoadedAsSaved : {T C : Type 0} → (T → Type 0) → (T → Named) �
 LoadedAsSaved {T} IsHeld written reading =
     (v : T) (t : Tree) (l : ℕ) (rest : List ℕ) (after : Option (List ℕ))
     (r : Result Tree (Error IoError)) →
-    IsHeld v → written v ≡ Ok (item_of t) → IsAccepted LengthFirst l t →
+    IsHeld v → written v ≡ Ok (item_of t) → IsCanonicalTree LengthFirst t →
+    nesting (item_of t) ≤ l →
     length (encoding t) ≤ greatest_offset →
     AnswersGoodItem (deterministic LengthFirst) (Some (encoding t ++ rest)) l after r →
     IsLoaded reading.taken (reading.content v) rest after r
@@ -51,11 +55,13 @@ LoadedAsSaved {T} IsHeld written reading =
 abbrev pub LoadingGivesContent : {T C : Type 0} → (T → Type 0) → (T → Named) → Reading T C → Type 0
 LoadingGivesContent {T} {C} IsHeld written reading =
     (v : T) (t w : Tree) (l : ℕ) (old new bytes : List ℕ) (after : Option (List ℕ)) (c : C) →
-    IsHeld v → written v ≡ Ok (item_of t) → IsAccepted LengthFirst l t →
+    IsHeld v → written v ≡ Ok (item_of t) → IsCanonicalTree LengthFirst t →
+    nesting (item_of t) ≤ l →
     length bytes ≤ greatest_offset →
     WritesNamed {E = WriteError IoError} (Some old) (Some new) (Ok tt) (written v) →
     AnswersGoodItem {E = IoError} (deterministic LengthFirst) (Some bytes) l after (Ok w) →
-    reading.taken None (item_of w) ≡ gives c → old ≡ [] → bytes ≡ new → c ≡ reading.content v
+    outcome None (reading.taken (item_of w)) ≡ gives c → old ≡ [] → bytes ≡ new → c ≡
+    reading.content v
 
 -- where bytes were written into nothing, of the one value, the deterministic reader of an order of
 -- keys read w at their front within l levels, and the other
@@ -66,8 +72,8 @@ IsContentLoaded o IsHeld written reading l v w again bytes rest =
     (old new : List ℕ) → IsHeld v → WritesNamed {E = WriteError IoError} (Some old) (Some new)
     (Ok tt) (written v) → IsNamedWritten (written v) →
     ReadsWhole {E = IoError} (deterministic o) (Some bytes) l (Some rest) (Ok (tree_of w)) →
-    reading.taken None (value_item w) ≡ gives (reading.content again) → old ≡ [] → bytes ≡ new →
-    reading.content again ≡ reading.content v
+    outcome None (reading.taken (value_item w)) ≡ gives (reading.content again) → old ≡ [] → bytes ≡
+    new → reading.content again ≡ reading.content v
 
 -- the tree of a store
 abbrev pub store_tree : List (Value × Value) → Tree

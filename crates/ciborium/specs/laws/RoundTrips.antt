@@ -8,9 +8,8 @@ use Rattle.ciborium_value.specs.Nesting.{IsWithin}
 use Rattle.ciborium_value.specs.Readings.{Reading}
 use Rattle.ciborium_value.specs.Sinks.{Named}
 use Rattle.ciborium_value.specs.Sources.{IsOutsideFault}
-use Rattle.ciborium_value.specs.Taken.{gives}
-use Rattle.ciborium_value.specs.TreeAnswers.{IsTreeOf}
-use Rattle.ciborium_value.specs.TreeAnswers.{value_item}
+use Rattle.ciborium_value.specs.Taken.{gives, outcome}
+use Rattle.ciborium_value.specs.TreeAnswers.{IsTreeOf, value_item}
 use Rattle.ciborium_value.specs.WrittenItems.{IsWritten}
 use Rattle.ciborium_value.specs.declared.kind.Kind.{Kind}
 use Rattle.ciborium_value.specs.declared.error.Error.{Error as TreeError}
@@ -36,7 +35,7 @@ BytesReadBack {T} {C} IsHeld written reading levels =
     (r : Result C (Error IoError)) →
     IsHeld v → written v ≡ Ok i → IsWritten i → IsWithin (Some l) (levels v) →
     AnswersBytes reading.taken l (written_bytes i ++ rest) after r →
-    IsGivenBack (reading.content v) rest (length (written_bytes i ++ rest)) after r
+    IsGivenBack (reading.content v) rest (length (written_bytes i)) after r
 
 -- where bytes were written into nothing, of the one value, and the other was read at their front
 -- within l levels, the contents are equal
@@ -67,7 +66,7 @@ TreeReadBack {T} {C} IsHeld written reading =
 abbrev pub TreeGivesContent : {T C : Type 0} → (T → Type 0) → (T → Named) → Reading T C → Type 0
 TreeGivesContent {T} {C} IsHeld written reading =
     (v : T) (made : Value) (c : C) → IsHeld v → IsTreeOf (written v) made →
-    reading.taken None (value_item made) ≡ gives c → c ≡ reading.content v
+    outcome None (reading.taken (value_item made)) ≡ gives c → c ≡ reading.content v
 
 -- ---- equal contents
 
@@ -102,4 +101,5 @@ BytesWrittenAgain {T} {C} IsHeld written reading levels =
 abbrev pub TreeWrittenAgain : {T C : Type 0} → (T → Type 0) → (T → Named) → Reading T C → Type 0
 TreeWrittenAgain {T} {C} IsHeld written reading =
     (v w : T) (made : Value) → IsHeld v → IsTreeOf (written v) made →
-    reading.taken None (value_item made) ≡ gives (reading.content w) → written w ≡ written v
+    outcome None (reading.taken (value_item made)) ≡ gives (reading.content w) → written w ≡
+    written v

@@ -1,9 +1,9 @@
 -- What is written as a sequence is read back (RFC 8742, section 2).
-use Rattle.std.specs.Prelude.{◌≡◌, ℕ, ◌≤◌, List, [], length, map, All, Option, Some, None, Result}
-use Rattle.std.specs.Prelude.{Ok, Err}
+use Rattle.std.specs.Prelude.{◌≡◌, ℕ, ◌≤◌, max, List, [], ◌∷◌, length, map, All, Option, Some, None}
+use Rattle.std.specs.Prelude.{Result, Ok, Err}
 use Rattle.std.specs.declared.io.Error.{Error as IoError}
 use Rattle.ciborium_ll.specs.Item.{Item}
-use Rattle.ciborium_value.specs.Encoding.{items_bytes}
+use Rattle.ciborium_value.specs.Encoding.{items_bytes, written_bytes}
 use Rattle.ciborium_value.specs.Nesting.{IsWithin}
 use Rattle.ciborium_value.specs.Places.{items_from}
 use Rattle.ciborium_value.specs.Readings.{Reading}
@@ -29,6 +29,11 @@ abbrev pub AreGivenBack : {C E : Type 0} → List C → ℕ → Option (List ℕ
 AreGivenBack cs end after (Ok ds) = (ds ≡ cs) × (after ≡ Some [])
 AreGivenBack cs end after (Err e) = IsOutsideFault end (fault_of None e)
 
+-- how long the longest of these is, written
+abbrev pub longest : List Item → ℕ
+longest [] = 0
+longest (i ∷ is) = max (length (written_bytes i)) (longest is)
+
 -- reading the bytes of what values name, where so many levels are left, gives their contents and
 -- leaves nothing, or fails for what no
 -- item decides
@@ -40,7 +45,7 @@ SequenceReadsBack {T} {C} IsHeld written reading levels =
     All IsHeld vs → all_named (map written vs) ≡ Ok is → AreWritten (items_from is) →
     All (λ v. IsWithin (Some l) (levels v)) vs →
     AnswersSequence reading.taken l (items_bytes (items_from is)) after r →
-    AreGivenBack (map reading.content vs) (length (items_bytes (items_from is))) after r
+    AreGivenBack (map reading.content vs) (longest is) after r
 
 -- where bytes were written into nothing, of the values of one list, and the others were read of all
 -- of them, the contents are equal

@@ -16,7 +16,8 @@ use Rattle.ciborium_value.specs.NeverWritten.{IsNever, byte_strings}
 use Rattle.ciborium_value.specs.ReadsBack.{by_bytes, by_tree, of_ok}
 use Rattle.ciborium_value.specs.Sinks.{Named, tag_of}
 use Rattle.ciborium_value.specs.TagReadings.{if_tag, is_no_other_tag, is_tag, taken_with_tag}
-use Rattle.ciborium_value.specs.Taken.{Taken, gives, outer_tag, outcome_map, then_take}
+use Rattle.ciborium_value.specs.Taken.{Taken, gives, outcome, outcome_map, outer_tag, then_take}
+use Rattle.ciborium_value.specs.TakenParts.{taken_then}
 use Rattle.ciborium_value.specs.Tree as trees
 use Rattle.ciborium_value.specs.Tree.{Tree}
 use Rattle.ciborium_value.specs.declared.key_order.KeyOrder.{KeyOrder}
@@ -60,24 +61,24 @@ under_form o t v u h form = mapped_gives (trees.tag t) (deterministic_form o v) 
 read-tagged : {C : Type 0} (taken : Taken C) (c : C) (o : KeyOrder) (t : ℕ) (j : Item) →
     short_bytes (written_tree j) ≡ None →
     ((u : Tree) → deterministic_form o (written_tree j) ≡ gives u →
-    taken None (item_of u) ≡ gives c) →
+    outcome None (taken (item_of u)) ≡ gives c) →
     (u : Tree) → deterministic_form o (trees.tag t (written_tree j)) ≡ gives u →
-    taken_with_tag taken None (item_of u) ≡ gives (Some t, c)
+    outcome None (taken_with_tag taken (item_of u)) ≡ gives (Some t, c)
 read-tagged taken c o t j none h u form =
     let (w, is, same) = under_form o t (written_tree j) u none form in
-    subst (λ x. taken_with_tag taken None (item_of x) ≡ gives (Some t, c)) same
+    subst (λ x. outcome None (taken_with_tag taken (item_of x)) ≡ gives (Some t, c)) same
     (ap (outcome_map (λ v. (Some t, v))) (h w is))
 
 module _ {C : Type 0} {taken : Taken C} {c : C} (o : KeyOrder) where
   read-captured : (m : Option ℕ) (r : Named) → IsToldApart m r → IsNever byte_strings r →
       IsFormRead o r taken c →
       IfOk (captured_of m r) (λ i. (u : Tree) → deterministic_form o (written_tree i) ≡ gives u →
-      taken_with_tag taken None (item_of u) ≡ gives (m, c))
+      outcome None (taken_with_tag taken (item_of u)) ≡ gives (m, c))
   read-captured (Some t) (Ok j) told never h =
       read-tagged taken c o t j (never by_bytes j refl) (h.back j refl)
   read-captured (Some t) (Err k) told never h = tt
   read-captured None (Ok i) told never h = λ u form.
-      ap (λ p. outcome_map (λ v. (p.0, v)) (taken None p.1))
+      ap (λ p. outcome_map (λ v. (p.0, v)) (outcome None (taken p.1)))
       (form-untagged o (written_tree i) u (met-untagged by_tree i told) form) ∙
       ap (outcome_map (λ v. (None, v))) (h.back i refl u form)
   read-captured None (Err k) told never h = tt
@@ -87,28 +88,27 @@ module _ {C : Type 0} {taken : Taken C} {c : C} (o : KeyOrder) where
   captured-form m {r = r} told never h = record {
     back = of_ok (captured_of m r) (λ i. (u : Tree) →
         deterministic_form o (written_tree i) ≡ gives u →
-        taken_with_tag taken None (item_of u) ≡ gives (m, c)) (read-captured m r told never h);
+        outcome None (taken_with_tag taken (item_of u)) ≡ gives (m, c))
+        (read-captured m r told never h);
   }
 
   pub required-form : (t : ℕ) {r : Named} → IsNever byte_strings r → IsFormRead o r taken c →
-      IsFormRead o (tag_of t r) (λ l i. then_take (taken_with_tag taken l i) (if_tag (is_tag t))) c
+      IsFormRead o (tag_of t r) (taken_then (taken_with_tag taken) (if_tag (is_tag t))) c
   required-form t never h = record {
-    back = λ i e u form. ap (λ p. then_take p (if_tag (is_tag t)))
+    back = λ i e u form. ap (λ p. then_take p (λ q. outcome None (if_tag (is_tag t) q)))
         ((captured-form (Some t) tt never h).back i e u form) ∙ same t;
   }
     where
-      same : (t : ℕ) → if_tag (is_tag t) (Some t, c) ≡ gives c
+      same : (t : ℕ) → outcome None (if_tag (is_tag t) (Some t, c)) ≡ gives c
       same t = grind (arith, nat_tests)
 
   pub accepted-form : (t : ℕ) {r : Named} → IsNever byte_strings r → IsFormRead o r taken c →
-      IsFormRead o (tag_of t r)
-      (λ l i. then_take (taken_with_tag taken l i) (if_tag (is_no_other_tag t)))
-      c
+      IsFormRead o (tag_of t r) (taken_then (taken_with_tag taken) (if_tag (is_no_other_tag t))) c
   accepted-form t never h = record {
     back = λ i e u form. ap
-        (λ p. then_take p (if_tag (is_no_other_tag t)))
+        (λ p. then_take p (λ q. outcome None (if_tag (is_no_other_tag t) q)))
         ((captured-form (Some t) tt never h).back i e u form) ∙ same t;
   }
     where
-      same : (t : ℕ) → if_tag (is_no_other_tag t) (Some t, c) ≡ gives c
+      same : (t : ℕ) → outcome None (if_tag (is_no_other_tag t) (Some t, c)) ≡ gives c
       same t = grind (arith, nat_tests)

@@ -2,9 +2,9 @@
 
 ghost use Rattle.std.specs.Prelude.{Some};
 ghost use Rattle.ciborium.specs.NextItems.{ReadsNextAsType};
-ghost use Rattle.ciborium.specs.Spelling.{any};
+ghost use Rattle.ciborium_value.specs.Spelling.{any};
 ghost use Rattle.ciborium.specs.TypedAnswers.{ReadsAsType};
-ghost use Rattle.ciborium.specs.ValueAnswers.{ReadsWhole};
+ghost use Rattle.ciborium.specs.ValueClauses.{ReadsWhole};
 
 use super::{Deserialize, Error, RECURSION_LIMIT, SCRATCH_SIZE, read, read_next};
 use ciborium_ll::Buffered;

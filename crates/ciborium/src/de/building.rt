@@ -5,7 +5,7 @@ ghost use Rattle.std.specs.Prelude.{Ok, OnOk, Some, length, ℕ};
 ghost use Rattle.ciborium_ll.specs.Decoding.{HasSameReader, TakesBeforeAny, pushed_of};
 ghost use Rattle.ciborium_value.specs.inner.Stack.{frames_of};
 ghost use Rattle.ciborium_value.specs.View.{tree_of};
-ghost use Rattle.ciborium.specs.ValueAnswers.{IsPlacedInOrder, IsReading, IsTurned, IsValueRead};
+ghost use Rattle.ciborium.specs.inner.Turns.{IsPlacedInOrder, IsReading, IsTurned, IsValueRead};
 ghost use Rattle.ciborium.specs.inner.ValuesInBytes.{HasEndedAfter, StandsAt, heads_left};
 
 use crate::de::error::{Error, Refusal};

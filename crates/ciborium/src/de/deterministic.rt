@@ -3,14 +3,13 @@
 ghost use Rattle.std.specs.Prelude.{◌≡◌, IsFalse, IsTrue, MatchOption, ℕ};
 ghost use Rattle.std.specs.declared.cmp.Ordering.TheVariants.{Less};
 ghost use Rattle.ciborium_value.specs.Canonical.{key_order};
-ghost use Rattle.ciborium_value.specs.Sources.{read_as};
+ghost use Rattle.ciborium_value.specs.View.{read_as, tree_of};
 ghost use Rattle.ciborium_value.specs.inner.Stack.{frames_of};
-ghost use Rattle.ciborium_value.specs.View.{tree_of};
 ghost use Rattle.ciborium_value.specs.declared.key_order.KeyOrder.TheVariants as orders;
-ghost use Rattle.ciborium.specs.ValueAnswers.{ReadsWhole};
-ghost use Rattle.ciborium.specs.DeterministicRefusals.{IsFoldable};
-ghost use Rattle.ciborium.specs.Spelling.{IsKeyInOrder, IsKeyOutOfOrder, counted_fault};
-ghost use Rattle.ciborium.specs.Spelling.{deterministic, deterministic_fault, long_fault};
+ghost use Rattle.ciborium.specs.ValueClauses.{ReadsWhole};
+ghost use Rattle.ciborium.specs.inner.Rules.{IsKeyInOrder, IsKeyOutOfOrder, counted_fault};
+ghost use Rattle.ciborium_value.specs.Spelling.{IsFoldable, deterministic};
+ghost use Rattle.ciborium.specs.inner.Rules.{deterministic_fault, long_fault};
 
 use crate::de::SCRATCH_SIZE;
 use crate::de::building::read_value;

@@ -5,7 +5,6 @@ ghost use Rattle.std.specs.Prelude.{◌≡◌, ◌+◌, ◌<◌, ◌≤◌, IfEr
 ghost use Rattle.ciborium_ll.specs.Decoding.{HasSameReader, TakesBeforeAny, last_of, pushed_of};
 ghost use Rattle.ciborium.specs.inner.ValuesInBytes.{HasEndedAfter};
 ghost use Rattle.ciborium.specs.inner.Parts.{HasLevel, IsContainerBegun, IsPartRead};
-ghost use Rattle.ciborium.specs.inner.Parts.{container_kind};
 ghost use Rattle.ciborium.specs.inner.Parts.{IsAtRest, IsSimpleRead};
 ghost use Rattle.ciborium.specs.inner.ValuesInBytes.{IsAt, StandsAt, heads_left};
 ghost use Rattle.ciborium.specs.inner.StringAnswers.{IsStringRead, string_kind};
@@ -28,7 +27,7 @@ fn begin_container<E>(
     count: Option<usize>,
     levels: usize,
 ) -> Result<Part, Error<E>>
-    ensures { IsContainerBegun (container_kind is_map) count levels result }
+    ensures { IsContainerBegun is_map count levels result }
 {
     if levels == 0 {
         return Err(Error::RecursionLimitExceeded);

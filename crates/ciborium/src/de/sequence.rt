@@ -2,7 +2,7 @@
 
 ghost use Rattle.std.specs.Prelude.{Some, map};
 ghost use Rattle.ciborium_ll.specs.Accesses.{left_at_failure};
-ghost use Rattle.ciborium_value.specs.Sources.{read_as};
+ghost use Rattle.ciborium_value.specs.View.{read_as};
 ghost use Rattle.ciborium.specs.SequenceReads.{RefusesSequence, TakesSequence};
 ghost use Rattle.ciborium.specs.TypedAnswers.{TakesBeginning};
 

@@ -3,7 +3,8 @@
 ghost use Rattle.std.specs.Prelude.{◌≡◌, IsFalse, IsTrue, MatchOption};
 ghost use Rattle.ciborium_value.specs.inner.Stack.{frames_of};
 ghost use Rattle.ciborium.specs.Spelling as spellings;
-ghost use Rattle.ciborium.specs.Spelling.{HasKeyOutOfOrder, HasKeysInOrder, IsUnwanted, head_fault};
+ghost use Rattle.ciborium_value.specs.Spelling.{IsUnwanted};
+ghost use Rattle.ciborium.specs.inner.Rules.{HasKeyOutOfOrder, HasKeysInOrder, head_fault};
 
 use ciborium_ll::Header;
 use ciborium_value::Kind;

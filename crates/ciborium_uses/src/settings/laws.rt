@@ -4,9 +4,9 @@ ghost use Rattle.std.specs.Prelude.{List, None, Ok, Some, [], ◌≡◌, ℕ};
 ghost use Rattle.std.specs.declared.io.Error.{Error as IoError};
 ghost use Rattle.ciborium.specs.DeterministicWrites.{IsFormWritten, WritesForm, named_form};
 ghost use Rattle.ciborium.specs.Spelling.{deterministic};
-ghost use Rattle.ciborium.specs.Taken.{gives};
+ghost use Rattle.ciborium.specs.Taken.{gives, outcome};
 ghost use Rattle.ciborium.specs.TreeAnswers.{value_item};
-ghost use Rattle.ciborium.specs.ValueAnswers.{ReadsWhole};
+ghost use Rattle.ciborium.specs.ValueClauses.{ReadsWhole};
 ghost use Rattle.ciborium.specs.View.{tree_of};
 
 use ciborium::Value;
@@ -32,7 +32,7 @@ pub fn is_form_loaded<T: FormReadsBack>(
         IsFormWritten (named_form order (T.written value.now)) →
         ReadsWhole {E = IoError} (deterministic order) (Some bytes.now) limit (Some rest.now)
         (Ok (tree_of tree.now)) →
-        T.reading.taken None (value_item tree.now) ≡ gives (T.reading.content again.now) →
+        outcome None (T.reading.taken (value_item tree.now)) ≡ gives (T.reading.content again.now) →
         old ≡ [] → bytes.now ≡ new →
         T.reading.content again.now ≡ T.reading.content value.now }
 {

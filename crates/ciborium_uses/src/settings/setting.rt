@@ -40,7 +40,7 @@ impl Deserialize for Setting {
     ghost Content = { Bool × ℕ };
 
     ghost reading = { spacious setting_content unordered
-        ⟦<(bool, u8) as Deserialize>⟧.reading.taken ⟦<(bool, u8) as Deserialize>⟧.reading.steady };
+        ⟦<(bool, u8) as Deserialize>⟧.reading.taken };
 
     fn deserialize<S: Source>(alloc: Global, source: &mut S) -> Result<Setting, S::Error> {
         let (enabled, level) = <(bool, u8)>::deserialize(alloc, source)?;

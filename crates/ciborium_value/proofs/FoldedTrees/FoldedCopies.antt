@@ -11,11 +11,10 @@ use Rattle.ciborium_value.specs.inner.Frames as frames
 use Rattle.ciborium_value.specs.inner.Frames.{TreeFrame, Placed, done, more, placed}
 use Rattle.ciborium_value.specs.inner.FoldedCopies.{IsUnfolded, path_trees, coming_trees, all_coming}
 use Rattle.ciborium_value.specs.declared.deserialized.folding.Coming.{Coming}
-use Rattle.ciborium_value.specs.Sources.{Fault, of_kind, of_nesting, of_syntax, of_memory, of_device, of_end}
-use Rattle.ciborium_value.specs.Sources.{of_length}
+use Rattle.ciborium_value.specs.Sources.{Fault, of_kind, of_nesting, of_syntax, of_memory, of_device, of_end, of_length}
 use Rattle.ciborium_value.specs.Sources.{IsFaultOf}
-use Rattle.ciborium_value.specs.Taken.{gives, refuses, of_meaning, outcome_map, one_more, one_pair_more, taken_tag}
-use Rattle.ciborium_value.specs.Taken.{taken_value, taken_items, taken_tree_pairs}
+use Rattle.ciborium_value.specs.Taken.{Steps, gives, refuses, of_meaning, outcome, outcome_map}
+use Rattle.ciborium_value.specs.Taken.{taken_tag, taken_value, taken_items, taken_tree_pairs}
 use Rattle.ciborium_value.specs.Tree as trees
 use Rattle.ciborium_value.specs.Tree.{Tree, Trees, TreePairs}
 use Rattle.ciborium_value.specs.View.{tree_of, trees_of, tree_pairs_of, trees_from, tree_pairs_from}
@@ -24,18 +23,19 @@ use Rattle.ciborium_value.specs.declared.kind.Kind.TheVariants as kinds
 use Rattle.ciborium_value.specs.declared.tree.Value as value
 use Rattle.ciborium_value.specs.declared.tree.Value.{Value}
 use Rattle.ciborium_value.specs.lemmas.ItemsOfTrees.{short_string-item_of}
+use Rattle.ciborium_value.specs.lemmas.GivenOutcomes.{pair_first, tree_first}
 use Rattle.ciborium_value.proofs.Trees.Views.{tree_of-Array, tree_of-Map}
 
 -- ---- what the item of a tree gives is the folded tree
 
 more-meaning : (k : Kind) (o : Option Tree) (r : Option Trees) →
-    one_more (of_meaning k o) (of_meaning k r) ≡ of_meaning k (trees_more o r)
+    tree_first (of_meaning k o) (of_meaning k r) ≡ of_meaning k (trees_more o r)
 more-meaning k None r = refl
 more-meaning k (Some v) None = refl
 more-meaning k (Some v) (Some vs) = refl
 
 pair-meaning : (k : Kind) (o p : Option Tree) (r : Option TreePairs) →
-    one_pair_more (of_meaning k o) (of_meaning k p) (of_meaning k r) ≡ of_meaning k (tree_pairs_more o p r)
+    pair_first (of_meaning k o) (of_meaning k p) (of_meaning k r) ≡ of_meaning k (tree_pairs_more o p r)
 pair-meaning k None p r = refl
 pair-meaning k (Some v) None r = refl
 pair-meaning k (Some v) (Some w) None = refl
@@ -46,44 +46,46 @@ map-meaning : {A B : Type 0} (k : Kind) (f : A → B) (o : Option A) →
 map-meaning k f None = refl
 map-meaning k f (Some v) = refl
 
-tag-meaning : (t : ℕ) (b : Option (List ℕ)) (o : Option Tree) →
-    taken_tag t None b (of_meaning kinds.TooLarge o) ≡ of_meaning kinds.TooLarge (tag_meaning t b o)
-tag-meaning t (Some b) o = refl
-tag-meaning t None o = map-meaning kinds.TooLarge (trees.tag t) o
+tag-meaning : (t : ℕ) (b : Option (List ℕ)) (s : Steps Tree) (o : Option Tree) →
+    outcome None s ≡ of_meaning kinds.TooLarge o →
+    outcome None (taken_tag t b s) ≡ of_meaning kinds.TooLarge (tag_meaning t b o)
+tag-meaning t (Some b) s o e = refl
+tag-meaning t None s o e = ap (outcome_map (trees.tag t)) e ∙ map-meaning kinds.TooLarge (trees.tag t) o
 
 mutual
   unfolding simple_meaning
 
-  pub taken-folded : (t : Tree) → taken_value None (item_of t) ≡ of_meaning kinds.TooLarge (folded t)
+  pub taken-folded : (t : Tree) → outcome None (taken_value (item_of t)) ≡ of_meaning kinds.TooLarge (folded t)
   taken-folded (trees.integer (pos n)) = refl
   taken-folded (trees.integer (negsuc n)) = refl
   taken-folded (trees.boolean false) = refl
   taken-folded (trees.boolean true) = refl
   taken-folded (trees.tag t v) =
-      ap (λ o. taken_tag t None (cond (is_bignum_tag t) o None) (taken_value None (item_of v))) (short_string-item_of v)
-      ∙ (ap (taken_tag t None (tree_folding_bytes t v)) (taken-folded v) ∙
-      tag-meaning t (tree_folding_bytes t v) (folded v))
+      ap (λ o. outcome None (taken_tag t (cond (is_bignum_tag t) o None) (taken_value (item_of v))))
+      (short_string-item_of v) ∙
+      tag-meaning t (tree_folding_bytes t v) (taken_value (item_of v)) (folded v) (taken-folded v)
   taken-folded (trees.array vs) = ap (outcome_map trees.array) (items-folded vs) ∙
       map-meaning kinds.TooLarge trees.array (trees_folded vs)
   taken-folded (trees.map ps) = ap (outcome_map trees.map) (pairs-folded ps) ∙
       map-meaning kinds.TooLarge trees.map (tree_pairs_folded ps)
   taken-folded _ = refl
 
-  items-folded : (vs : Trees) → taken_items None (items_of vs) ≡ of_meaning kinds.TooLarge (trees_folded vs)
+  items-folded : (vs : Trees) → outcome None (taken_items (items_of vs)) ≡ of_meaning kinds.TooLarge (trees_folded vs)
   items-folded trees.no_trees = refl
   items-folded (trees.tree v vs) =
-      ap (λ o. one_more o (taken_items None (items_of vs))) (taken-folded v) ∙
-      (ap (one_more (of_meaning kinds.TooLarge (folded v))) (items-folded vs) ∙
+      ap (λ o. tree_first o (outcome None (taken_items (items_of vs)))) (taken-folded v) ∙
+      (ap (tree_first (of_meaning kinds.TooLarge (folded v))) (items-folded vs) ∙
       more-meaning kinds.TooLarge (folded v) (trees_folded vs))
 
-  pairs-folded : (ps : TreePairs) → taken_tree_pairs None (pairs_of ps) ≡ of_meaning kinds.TooLarge
+  pairs-folded : (ps : TreePairs) → outcome None (taken_tree_pairs (pairs_of ps)) ≡ of_meaning kinds.TooLarge
       (tree_pairs_folded ps)
   pairs-folded trees.no_tree_pairs = refl
   pairs-folded (trees.tree_pair k v ps) =
-      ap (λ o. one_pair_more o (taken_value None (item_of v)) (taken_tree_pairs None (pairs_of ps))) (taken-folded k) ∙
-      (ap (λ o. one_pair_more (of_meaning kinds.TooLarge (folded k)) o (taken_tree_pairs None (pairs_of ps)))
+      ap (λ o. pair_first o (outcome None (taken_value (item_of v))) (outcome None (taken_tree_pairs (pairs_of ps))))
+      (taken-folded k) ∙
+      (ap (λ o. pair_first (of_meaning kinds.TooLarge (folded k)) o (outcome None (taken_tree_pairs (pairs_of ps))))
       (taken-folded v) ∙
-      (ap (one_pair_more (of_meaning kinds.TooLarge (folded k)) (of_meaning kinds.TooLarge (folded v)))
+      (ap (pair_first (of_meaning kinds.TooLarge (folded k)) (of_meaning kinds.TooLarge (folded v)))
       (pairs-folded ps) ∙ pair-meaning kinds.TooLarge (folded k) (folded v) (tree_pairs_folded ps)))
 
 -- ---- the end of the walk
@@ -93,7 +95,8 @@ whole-none : (o : Option Tree) → where_folded o (λ v. Some (done v)) ≡ None
 whole-none None h = refl
 whole-none (Some v) h = cc
 
-pub copied-none : (t : Tree) → copied (more []) (t ∷ []) ≡ None → taken_value None (item_of t) ≡ refuses kinds.TooLarge
+pub copied-none : (t : Tree) → copied (more []) (t ∷ []) ≡ None → outcome None (taken_value (item_of t)) ≡
+    refuses kinds.TooLarge
 copied-none t h = taken-folded t ∙ whole-none (folded t) h
 
 whole-some : (o : Option Tree) (w : Tree) → where_folded o (λ v. Some (done v)) ≡ Some (done w) →
@@ -101,7 +104,8 @@ whole-some : (o : Option Tree) (w : Tree) → where_folded o (λ v. Some (done v
 whole-some None w h = cc
 whole-some (Some v) w h = cc
 
-pub copied-done : (t w : Tree) → copied (more []) (t ∷ []) ≡ Some (done w) → taken_value None (item_of t) ≡ gives w
+pub copied-done : (t w : Tree) → copied (more []) (t ∷ []) ≡ Some (done w) → outcome None (taken_value (item_of t)) ≡
+    gives w
 copied-done t w h = taken-folded t ∙ whole-some (folded t) w h
 
 -- ---- containers
@@ -306,7 +310,7 @@ nodes-append (x ∷ xs) ys = let h = nodes-append xs ys in omega (arith, h)
 
 -- a part that does not fold, and so the whole
 pub refused_as : (end : ℕ) (f : Fault) (o : Option Tree) (t : Tree) → IsUnfolded f o →
-    (o ≡ None → copied (more []) (t ∷ []) ≡ None) → IsFaultOf end f (taken_value None (item_of t))
+    (o ≡ None → copied (more []) (t ∷ []) ≡ None) → IsFaultOf end f (outcome None (taken_value (item_of t)))
 refused_as end (of_kind k) o t h none = copied-none t (none h.1) ∙ ap refuses (sym h.0)
 refused_as end of_nesting o t h none = elim h [ ]
 refused_as end of_syntax o t h none = elim h [ ]

@@ -4,13 +4,12 @@ use Rattle.std.proofs.Common.{Option, Some, None, refl, sym, ap, ◌∙◌, arit
 use Rattle.std.proofs.Common.{get_or-set_other, below_more}
 use Rattle.std.proofs.lemmas.List.{drop_all, take_all}
 use Rattle.ciborium_value.specs.DeterministicForms.{deterministic_form, deterministic_forms, pair_forms, sorted_pairs}
-use Rattle.ciborium_value.specs.DeterministicForms.{tag_form}
+use Rattle.ciborium_value.specs.DeterministicForms.{one_more, one_pair_more, tag_form}
 use Rattle.ciborium_value.specs.Folded.{tree_folding_bytes}
 use Rattle.ciborium_value.specs.Meaning.{bignum_meaning}
 use Rattle.ciborium_value.specs.SameContents as same
 use Rattle.ciborium_value.specs.SameContents.{IsAlike, AreAlike, PairsAreAlike}
-use Rattle.ciborium_value.specs.Taken.{Outcome, gives, refuses, then_take, outcome_map, of_meaning, one_more}
-use Rattle.ciborium_value.specs.Taken.{one_pair_more}
+use Rattle.ciborium_value.specs.Taken.{Outcome, gives, refuses, then_take, outcome_map, of_meaning}
 use Rattle.ciborium_value.specs.Tree as trees
 use Rattle.ciborium_value.specs.Tree.{Tree, Trees, TreePairs}
 use Rattle.ciborium_value.specs.View.{tree_of, trees_of, tree_pairs_of}

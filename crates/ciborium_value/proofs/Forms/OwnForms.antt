@@ -1,18 +1,21 @@
 -- Trees that are their own deterministic form.
 use Rattle.std.proofs.Common.{◌≡◌, ℕ, cond, List, Option, Some, None, MatchOption, refl, sym, ap, ◌∙◌, subst}
+use Rattle.ciborium_value.specs.Encoding.{encoding}
 use Rattle.std.proofs.Common.{option_map, ◌↔◌}
-use Rattle.ciborium_value.specs.Deterministic.{HasRisingKeys, HaveRisingKeys, PairsHaveRisingKeys, IsCanonicalTree}
+use Rattle.ciborium_value.specs.Deterministic.{HasRisingKeys, HaveRisingKeys, PairsHaveRisingKeys}
+use Rattle.ciborium_value.specs.CanonicalTrees.{IsCanonicalTree}
 use Rattle.ciborium_value.specs.DeterministicForms.{sorted_pairs, tag_form, deterministic_form, deterministic_forms}
-use Rattle.ciborium_value.specs.DeterministicForms.{pair_forms}
+use Rattle.ciborium_value.specs.DeterministicForms.{one_more, one_pair_more, pair_forms}
 use Rattle.ciborium_value.specs.Folded.{short_bytes, tree_folding_bytes, folded, trees_folded, tree_pairs_folded}
 use Rattle.ciborium_value.specs.laws.FormLaws.{FormIsItsOwn, AcceptedWhereOwnForm}
 use Rattle.ciborium_value.specs.inner.OwnForms.{IsFormed, AreFormed, PairsAreFormed}
 use Rattle.ciborium_value.specs.Meaning.{is_bignum_tag, bignum_meaning, tag_meaning, trees_more, tree_pairs_more}
-use Rattle.ciborium_value.specs.Taken.{gives, then_take, outcome_map, of_meaning, one_more, one_pair_more}
+use Rattle.ciborium_value.specs.Taken.{gives, then_take, outcome_map, of_meaning}
 use Rattle.ciborium_value.specs.Tree.{Tree, integer, bytes, text, boolean, null, tag, array, map, Trees, no_trees, tree}
 use Rattle.ciborium_value.specs.Tree.{TreePairs, no_tree_pairs, tree_pair}
 use Rattle.ciborium_value.specs.declared.key_order.KeyOrder.{KeyOrder}
 use Rattle.ciborium_value.specs.declared.kind.Kind.TheVariants as kinds
+use Rattle.ciborium_value.proofs.GoodItems.Accepted.{accepted, canonical}
 use Rattle.ciborium_value.proofs.Forms.BignumShapes.{rises_where_short, short_where_folding, bignum-no_bytes}
 use Rattle.ciborium_value.proofs.Forms.BignumShapes.{bignum-rises}
 use Rattle.ciborium_value.proofs.FoldedTrees.Folding.{folds_once}
@@ -269,11 +272,11 @@ own_where_formed o t = (own_form o t, formed o t t)
 -- the encoding of a tree that a program can hold is accepted just where the tree is its own form
 pub accepted_where_own_form : AcceptedWhereOwnForm
 accepted_where_own_form o v p l proper = (
-  (λ h. let c : IsCanonicalTree o v = h.0.1 in (own_form o v (formed_where_canonical o v c.folds c.rises), h.1, h.2)),
   (λ h.
-      let f : IsFormed o v = formed o v v h.0 in (
-        (refl, record { proper = proper; folds = folded_where_formed o v f; rises = rises_where_formed o v f }),
-        h.1,
-        h.2,
-      )),
+      let a = canonical o (encoding v) p (Some l) v h in
+      let c : IsCanonicalTree o v = a.0.1 in (own_form o v (formed_where_canonical o v c.folds c.rises), a.1, a.2)),
+  (λ h.
+      let f : IsFormed o v = formed o v v h.0 in
+      accepted o (encoding v) p (Some l) v
+      (refl, record { proper = proper; folds = folded_where_formed o v f; rises = rises_where_formed o v f }) h.1 h.2),
 )

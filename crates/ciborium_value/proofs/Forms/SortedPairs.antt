@@ -5,7 +5,8 @@ use Rattle.std.specs.FinMap.{nat_cmp-IsAntisymmetric, slice_cmp-IsAntisymmetric}
 use Rattle.std.specs.Ordering.{nat_cmp, ordering_reverse, ordering_then}
 use Rattle.std.proofs.lemmas.Cmp.{nat_cmp_total, tied_itself}
 use Rattle.ciborium_value.specs.Canonical.{bytewise_order, key_order}
-use Rattle.ciborium_value.specs.Deterministic.{AreApart, AreRising, keys_of}
+use Rattle.ciborium_value.specs.Deterministic.{AreRising, keys_of}
+use Rattle.ciborium_value.specs.inner.OwnForms.{AreApart}
 use Rattle.ciborium_value.specs.DeterministicForms.{placed_pair, inserted, sorted_pairs}
 use Rattle.ciborium_value.specs.Encoding.{encoded_size, encoding}
 use Rattle.ciborium_value.specs.Visits.{saturated}

@@ -14,7 +14,7 @@ use Rattle.ciborium_value.specs.Meaning.{negative_bignum, without_zeros, folding
 use Rattle.ciborium_value.specs.Counts.{node_count, payload_size, trees_node_count, trees_payload_size}
 use Rattle.ciborium_value.specs.Counts.{tree_pairs_node_count, tree_pairs_payload_size}
 use Rattle.ciborium_ll.proofs.FrontHeads.{head-length}
-use Rattle.ciborium_value.proofs.GoodItems.Found.{spells-pos}
+use Rattle.ciborium_value.proofs.GoodItems.Spelled.{spells-pos}
 
 -- ---- what fits into n bytes: a tree, trees, pairs of trees, and the payload of a string with its head
 

@@ -13,10 +13,11 @@ use Rattle.ciborium_ll.specs.Spells.{IsContainer, Spells, SpellsItems}
 use Rattle.std.proofs.lemmas.List.Elements.{All-from_recursion}
 use Rattle.ciborium_ll.specs.Bytes.{AreBytes}
 use Rattle.ciborium_ll.proofs.UsableHeads.{EachIsByte}
-use Rattle.ciborium_value.proofs.GoodItems.Refused.{bytes_again}
+use Rattle.ciborium_value.proofs.GoodItems.Spelled.{bytes_again}
 use Rattle.ciborium_value.specs.Nesting.{Limit}
 use Rattle.ciborium_value.specs.Meaning.{big_endian_behind, bignum_meaning, simple_meaning}
 use Rattle.ciborium_value.specs.Refuses.{Refuses}
+use Rattle.ciborium_value.specs.Spelling.{any}
 use Rattle.ciborium_value.specs.laws.Examples.{hex, SpelledExamples, FoldingExamples, RefusedExamples, CornerExamples}
 use Rattle.ciborium_value.specs.laws.Examples.{WrittenExamples, CountedExamples}
 use Rattle.ciborium_value.proofs.GoodItems.Reader.{refused, read}
@@ -47,9 +48,9 @@ low : (b : List ℕ) → are_bytes b ≡ true → AreBytes b
 low b h = All-from_recursion (λ n. n < 256) b (bytes_again b (bytes-tested b h))
 
 refused-by-reading : {b : List ℕ} {p : ℕ} {l : Limit} {e : Refusal} → are_bytes b ≡ true →
-    read (enough b) b p l ≡ refused e → Refuses b p l e
-refused-by-reading {b} {p} {l} t h = subst (Meets b p l) h
-    (read-meets (enough b) b p l (bytes-tested b t) (omega arith))
+    read any (enough b) b p l ≡ refused e → Refuses any b p l e
+refused-by-reading {b} {p} {l} t h = subst (Meets any b p l) h
+    (read-meets any (enough b) b p l (bytes-tested b t) (omega arith))
 
 letter : (c : ℕ) → is_utf8 (c ∷ []) ≡ true → IsUtf8 (c ∷ [])
 letter c h = IsUtf8-from_is_utf8 (c ∷ []) h
@@ -172,55 +173,47 @@ folding_examples =
     record {
       empty_is_zero = (
         item.tag 2 (item.bytes false ([])),
-        (
-          (hex "c2", hex "40", (within, lit< tt, refl), (hex "40", (within, lit< tt, refl), low [] refl, refl), refl),
-          refl,
-          lit≤ tt,
-          lit≤ tt,
-        ),
+        (hex "c2", hex "40", (within, lit< tt, refl), (hex "40", (within, lit< tt, refl), low [] refl, refl), refl),
         refl,
+        lit≤ tt,
+        lit≤ tt,
+        tt,
       );
       empty_is_minus_one = (
         item.tag 3 (item.bytes false ([])),
-        (
-          (hex "c3", hex "40", (within, lit< tt, refl), (hex "40", (within, lit< tt, refl), low [] refl, refl), refl),
-          refl,
-          lit≤ tt,
-          lit≤ tt,
-        ),
+        (hex "c3", hex "40", (within, lit< tt, refl), (hex "40", (within, lit< tt, refl), low [] refl, refl), refl),
         refl,
+        lit≤ tt,
+        lit≤ tt,
+        tt,
       );
       one = (
         item.tag 2 (item.bytes false (hex "01")),
         (
-          (
-            hex "c2",
-            hex "4101",
-            (within, lit< tt, refl),
-            (hex "41", (within, lit< tt, refl), low (hex "01") refl, refl),
-            refl,
-          ),
+          hex "c2",
+          hex "4101",
+          (within, lit< tt, refl),
+          (hex "41", (within, lit< tt, refl), low (hex "01") refl, refl),
           refl,
-          lit≤ tt,
-          lit≤ tt,
         ),
         refl,
+        lit≤ tt,
+        lit≤ tt,
+        tt,
       );
       zeros_are_dropped = (
         item.tag 2 (item.bytes false (hex "00010000000000000000")),
         (
-          (
-            hex "c2",
-            hex "4a00010000000000000000",
-            (within, lit< tt, refl),
-            (hex "4a", (within, lit< tt, refl), low (hex "00010000000000000000") refl, refl),
-            refl,
-          ),
+          hex "c2",
+          hex "4a00010000000000000000",
+          (within, lit< tt, refl),
+          (hex "4a", (within, lit< tt, refl), low (hex "00010000000000000000") refl, refl),
           refl,
-          lit≤ tt,
-          lit≤ tt,
         ),
         refl,
+        lit≤ tt,
+        lit≤ tt,
+        tt,
       );
       open_stays = (
         item.tag 2 (item.bytes true (hex "01")),
@@ -284,13 +277,19 @@ corner_examples =
       empty_at_the_greatest = refused-by-reading refl refl;
       empty_array_at_the_last = (
         item.array false item.no_items,
-        (([], refl, (hex "80", (within, lit< tt, refl), refl)), refl, lit≤ tt, lit≤ tt),
+        ([], refl, (hex "80", (within, lit< tt, refl), refl)),
         refl,
+        lit≤ tt,
+        lit≤ tt,
+        tt,
       );
       empty_bytes_at_the_last = (
         item.bytes false ([]),
-        ((hex "40", (within, lit< tt, refl), low [] refl, refl), refl, lit≤ tt, lit≤ tt),
+        (hex "40", (within, lit< tt, refl), low [] refl, refl),
         refl,
+        lit≤ tt,
+        lit≤ tt,
+        tt,
       );
       low_simple_over = refused-by-reading refl refl;
       low_simple_fits = refused-by-reading refl refl;
@@ -298,8 +297,11 @@ corner_examples =
       break_over = refused-by-reading refl refl;
       break_fits = (
         item.array true (item.item (item.unsigned 1) item.no_items),
-        ((hex "01", (hex "01", [], (within, lit< tt, refl), refl, refl), refl), refl, lit≤ tt, lit≤ tt),
+        (hex "01", (hex "01", [], (within, lit< tt, refl), refl, refl), refl),
         refl,
+        lit≤ tt,
+        lit≤ tt,
+        tt,
       );
       tag_at_the_last = refused-by-reading refl refl;
       large_bignum_over = refused-by-reading refl refl;

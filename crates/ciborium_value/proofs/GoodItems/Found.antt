@@ -1,547 +1,706 @@
--- A good item at the front is read.
-use Rattle.std.proofs.Common.{◌≡◌, ℕ, zero, suc, ◌+◌, ◌*◌, ◌^◌, ◌<◌, ◌≤◌, cond, ltb, leb, eqb, Bool, true, false, not}
-use Rattle.std.proofs.Common.{◌&&◌, ◌||◌, List, [], ◌∷◌, ◌++◌, length, Option, Some, None, IsSome, is_some, refl, sym}
-use Rattle.std.proofs.Common.{ap, ◌∙◌, subst, arith, inl, inr, ◌⊎◌, length-append, append_assoc, lt-ltb, eqb-true}
-use Rattle.std.proofs.Common.{ltb-true, IsUtf8}
-use Rattle.std.proofs.Math.Seq.{take-append_seam}
+-- What is read at the front, in any spelling, is what the reader answers.
+use Rattle.std.proofs.Common.{◌≡◌, ℕ, zero, suc, ◌+◌, ◌*◌, ◌<◌, ◌≤◌, cond, ltb, eqb, Bool, true, false, ◌&&◌}
+use Rattle.std.proofs.Common.{List, [], ◌∷◌, ◌++◌, length, Option, Some, None, option_map, pos, negsuc, refl, sym, ap}
+use Rattle.std.proofs.Common.{◌∙◌, subst, arith, inl, inr, length-append, append_assoc, append-nil, lt-ltb, eqb-true}
 use Rattle.std.proofs.lemmas.Bool.Decides.{nat_tests}
 use Rattle.std.proofs.lemmas.Str.{is_utf8-from_IsUtf8}
+use Rattle.ciborium_ll.specs.Bytes.{greatest_offset}
+use Rattle.ciborium_ll.specs.Head.{IsHead, IsSimple, shortest_head}
+use Rattle.ciborium_ll.specs.Item as item
+use Rattle.ciborium_ll.specs.Item.{Item}
+use Rattle.ciborium_ll.specs.Refusal.{is_reserved, semantic, Break, Simple, TooLarge, IsUsable, HasHead}
+use Rattle.ciborium_ll.specs.Spells.{AreChunks, joined, IsString, Spells}
+use Rattle.ciborium_ll.specs.StringRefusal.{StringKind, of_bytes, of_text, string_major, IsAllowed}
+use Rattle.ciborium_ll.proofs.FrontHeads.{plain, front, front-simple}
+use Rattle.ciborium_ll.proofs.UsableHeads.{stands-usable, stands-length, IsStringMajor, pass}
+use Rattle.ciborium_value.specs.Deterministic.{AreRising}
+use Rattle.ciborium_value.specs.CanonicalTrees.{IsCanonicalTree}
+use Rattle.ciborium_value.specs.ProperTrees.{IsProperTree}
+use Rattle.ciborium_value.specs.lemmas.ItemsOfTrees.{short_string-item_of, tree_is_written_as_itself}
+use Rattle.ciborium_ll.specs.ProperItems.{IsArgument}
+use Rattle.ciborium_ll.proofs.ShortestHead.{shortest_is_head}
+use Rattle.ciborium_value.proofs.Writing.Written.{written_spells, IsProperItem-item_of, items_count-items_of}
+use Rattle.ciborium_value.proofs.Writing.Written.{pairs_count-pairs_of}
+use Rattle.ciborium_value.specs.Encoding.{written_tree, encoding, item_of, items_of, pairs_of, items_bytes, pairs_bytes}
+use Rattle.ciborium_value.specs.Folded.{folded, tree_folding_bytes}
+use Rattle.ciborium_value.specs.Meaning.{meaning, items_meaning, pairs_meaning, simple_meaning, bignum_meaning}
+use Rattle.ciborium_value.specs.Meaning.{is_bignum_tag, folding_bytes, tag_meaning}
+use Rattle.ciborium_value.specs.Nesting.{nesting, tag_nesting, items_nesting, pairs_nesting, Limit, IsWithin, IsOneLess}
+use Rattle.ciborium_value.specs.Refuses.{HasGoodHead, Due, items, keys, values, next_due, due_after, keys_among}
+use Rattle.ciborium_value.specs.Refuses.{keys_in, BeginsContainer, AreReadAs, IsInside, IsTagAt}
+use Rattle.ciborium_value.specs.Spelling.{Spelling, any, deterministic, IsReadAs, spelling_fault, IsUnwanted}
+use Rattle.ciborium_value.specs.Spelling.{AreInOrder}
 use Rattle.ciborium_value.specs.Tree as trees
-use Rattle.ciborium_ll.specs.Head.{IsHead, IsSimple}
-use Rattle.ciborium_ll.specs.Item.{Item, unsigned, negative, bytes, text, array, map, tag, simple, float, Items}
-use Rattle.ciborium_ll.specs.Item.{no_items, item, items_count, pairs_count}
-use Rattle.ciborium_value.specs.Tree.{Tree}
-use Rattle.ciborium_ll.specs.Spells.{IsString, IsContainer, Spells, SpellsItems}
-use Rattle.ciborium_value.specs.Meaning.{meaning, items_meaning, pairs_meaning, simple_meaning, big_endian}
-use Rattle.ciborium_value.specs.Meaning.{is_bignum_tag, bignum_meaning, unsigned_bignum, negative_bignum, without_zeros}
-use Rattle.ciborium_value.specs.Meaning.{folding_bytes, short_string, tag_meaning}
-use Rattle.ciborium_value.specs.Nesting.{nesting, items_nesting, pairs_nesting, tag_nesting, Limit, IsWithin, IsOneLess}
-use Rattle.ciborium_ll.specs.Refusal.{is_reserved, semantic, Break, IsUsable, HasHead}
-use Rattle.ciborium_ll.specs.Bytes.{AreBytes, greatest_offset}
-use Rattle.ciborium_value.specs.Refuses.{IsGood, AreGood, Due, exactly, items_until_break, keys_until_break}
-use Rattle.ciborium_value.specs.Refuses.{values_until_break, next_due, due_after}
-use Rattle.ciborium_ll.proofs.FrontHeads.{counted, plain, front, front_open, front-simple, front-head, head-length}
-use Rattle.ciborium_ll.proofs.UsableHeads.{stands-usable, stands-front, stands-length, IsStringMajor, pass}
-use Rattle.ciborium_value.proofs.GoodItems.Reader.{Answer, ends, refused, and_then, past, allowed, string, pieces}
-use Rattle.ciborium_value.proofs.GoodItems.Reader.{levels, break_at, end_at, or_end, short, folding, payload}
-use Rattle.ciborium_value.proofs.GoodItems.Reader.{is_too_large, bignum, tagged, counted_item, opened_item, read, parts}
-use Rattle.ciborium_value.proofs.GoodItems.Parts.{first-good, rest-good, mapped-some, within-zero, flat, flat-Spells}
-use Rattle.ciborium_value.proofs.GoodItems.Parts.{flat-meaning, flat-nesting, flat-count, flat-after, after-left}
-use Rattle.ciborium_value.proofs.GoodItems.Parts.{after-items, lower, levels-below}
-use Rattle.ciborium_value.proofs.GoodItems.Steps.{hold, opened-has, simple-has, checked-none, read-head, read-counted}
-use Rattle.ciborium_value.proofs.GoodItems.Steps.{read-opened, ended-has, string-good, pieces-run, pieces-break}
+use Rattle.ciborium_value.specs.Tree.{Tree, Trees, TreePairs, trees_count, tree_pairs_count}
+use Rattle.ciborium_value.specs.View.{trees_from}
+use Rattle.ciborium_value.specs.inner.ReadItems.{string_tree, IsComplete, pairs_in, container_of}
+use Rattle.ciborium_value.specs.declared.key_order.KeyOrder.{KeyOrder}
+use Rattle.ciborium_value.proofs.GoodItems.Bignums.{foldable-is, kept-whole}
+use Rattle.ciborium_value.proofs.GoodItems.Faults.{short-fault, fault-simple}
+use Rattle.ciborium_value.proofs.GoodItems.Accepted.{anyway, accepted, canonical}
+use Rattle.ciborium_value.proofs.GoodItems.Parts.{within-zero, lower, levels-below, due-first, is-in_order}
+use Rattle.ciborium_value.proofs.GoodItems.Parts.{order-before, elements, turns, elements-in, turns-in, elements-due}
+use Rattle.ciborium_value.proofs.GoodItems.Parts.{turns-due, open-elements-due, open-turns-due, keys-turns, read-items}
+use Rattle.ciborium_value.proofs.GoodItems.Parts.{read-pairs, written-trees, written-pairs}
+use Rattle.ciborium_value.proofs.GoodItems.Reader.{Answer, ends, refused, and_then, made, given, past, allowed, string}
+use Rattle.ciborium_value.proofs.GoodItems.Reader.{pieces, break_at, end_at, or_end, is_unwanted, bignum, counted_item}
+use Rattle.ciborium_value.proofs.GoodItems.Reader.{opened_item, next_part, read, parts}
+use Rattle.ciborium_value.proofs.GoodItems.Spelled.{spells-pos, folds-front, folds-some, none-folds, not_so}
+use Rattle.ciborium_value.proofs.GoodItems.Spelled.{each_is_byte}
+use Rattle.ciborium_value.proofs.GoodItems.Steps.{hold, opened-has, simple-has, read-head, read-counted, read-opened}
+use Rattle.ciborium_value.proofs.GoodItems.Steps.{ended-has, opens-read, tag-at, string-good, pieces-run, pieces-break}
 
-string_of-pos : (o : Bool) (m : ℕ) (IsAllowed : List ℕ → Type 0) (s y : List ℕ) → IsString o m IsAllowed s y →
-    0 < length s
-string_of-pos false m IsAllowed s y h =
-    let l : length s ≡ length h.0 + length y = ap length h.3 ∙ length-append h.0 y in
-    omega (arith, l, head-length h.0 m (length y) h.1)
-string_of-pos true m IsAllowed s y h = let l : length s ≡ suc (length (h.1 ++ (255 ∷ []))) = ap length h.4 in
-    omega (arith, l)
+pub kind_allowed : (c : StringKind) (t : List ℕ) → IsAllowed c t → allowed (string_major c) t ≡ true
+kind_allowed of_bytes t h = refl
+kind_allowed of_text t h = is_utf8-from_IsUtf8 t h
 
-encloses-pos : (o : Bool) (m n : ℕ) (s r : List ℕ) → IsContainer o m n s r → 0 < length s
-encloses-pos false m n s r h =
-    let l : length s ≡ length h.0 + length r = ap length h.2 ∙ length-append h.0 r in
-    omega (arith, l, head-length h.0 m n h.1)
-encloses-pos true m n s r h = let l : length s ≡ suc (length (r ++ (255 ∷ []))) = ap length h in omega (arith, l)
+pub kind_major : (c : StringKind) → IsStringMajor (string_major c)
+kind_major of_bytes = inl refl
+kind_major of_text = inr refl
 
-pub spells-pos : (i : Item) (s : List ℕ) → Spells s i → 0 < length s
-spells-pos (unsigned n) s h = head-length s 0 n h
-spells-pos (negative n) s h = head-length s 1 n h
-spells-pos (bytes o y) s h = string_of-pos o 2 AreBytes s y h
-spells-pos (text o y) s h = string_of-pos o 3 IsUtf8 s y h
-spells-pos (array o is) s h = encloses-pos o 4 (items_count is) s h.0 h.2
-spells-pos (map o ps) s h = encloses-pos o 5 (pairs_count ps) s h.0 h.2
-spells-pos (tag n i) s h =
-    let l : length s ≡ length h.0 + length h.1 = ap length h.4 ∙ length-append h.0 h.1 in
-    omega (arith, l, head-length h.0 6 n h.2)
-spells-pos (simple n) s (inl h) = let l : length s ≡ 1 = ap length h.1 in omega (arith, l)
-spells-pos (simple n) s (inr h) = let l : length s ≡ 2 = ap length h.2 in omega (arith, l)
-spells-pos (float r) s (inl h) = let l : length s ≡ suc (length r) = ap length h.1 in omega (arith, l)
-spells-pos (float r) s (inr (inl h)) = let l : length s ≡ suc (length r) = ap length h.1 in omega (arith, l)
-spells-pos (float r) s (inr (inr h)) = let l : length s ≡ suc (length r) = ap length h.1 in omega (arith, l)
+pub kind_below : (c : StringKind) → string_major c < 7
+kind_below of_bytes = omega arith
+kind_below of_text = omega arith
 
--- ---- a head before r stands before what follows too
-
-stands-on : (s h r x b : List ℕ) (m n : ℕ) → IsHead h m n → s ≡ h ++ r → b ≡ s ++ x → HasHead b m n (length h) (r ++ x)
-stands-on s h r x b m n k e f = (h, k, refl, f ∙ ap (λ (c : List ℕ). c ++ x) e ∙ append_assoc h r x)
-
-opens-on : (s r x b : List ℕ) (m : ℕ) → s ≡ (m * 32 + 31) ∷ (r ++ (255 ∷ [])) → b ≡ s ++ x →
-    b ≡ (m * 32 + 31) ∷ (r ++ (255 ∷ x))
-opens-on s r x b m e f = f ∙ ap (λ (c : List ℕ). c ++ x) e ∙
-    ap (λ (c : List ℕ). (m * 32 + 31) ∷ c) (append_assoc r (255 ∷ []) x)
+pub simple-front : (s : List ℕ) (n : ℕ) (r : List ℕ) → IsSimple s n → front (s ++ r) ≡ plain n r
+simple-front s n r (inl h) = ap (λ (c : List ℕ). front (c ++ r)) h.1 ∙ front-simple n r h.0
+simple-front s n r (inr h) = ap (λ (c : List ℕ). front (c ++ r)) h.2
 
 simple_high : (n : ℕ) → 32 ≤ n → simple_meaning n ≡ None
 unfolding simple_meaning
 simple_high n h = grind (arith, nat_tests)
 
--- ---- scalars and strings
+complete-end : (now : Due) (b r : List ℕ) (p q : ℕ) → IsComplete now b p r q → end_at now b p ≡ Some (r, q)
+complete-end (items None) b r p q (e, at, fits) =
+    ap (λ (c : List ℕ). break_at c p) e ∙ ap (λ t. cond (t && true) (Some (r, p + 1)) None)
+    (lt-ltb p greatest_offset (omega (arith, at, fits))) ∙ ap (λ u. Some (r, u)) at
+complete-end (items (Some zero)) b r p q (z, e, at) = ap (λ c. Some (c, p)) e ∙ ap (λ u. Some (r, u)) at
+complete-end (items (Some (suc n))) b r p q (z, e, at) = let never : ⊥ = omega (arith, z) in absurd never
+complete-end (keys None) b r p q (e, at, fits) =
+    ap (λ (c : List ℕ). break_at c p) e ∙ ap (λ t. cond (t && true) (Some (r, p + 1)) None)
+    (lt-ltb p greatest_offset (omega (arith, at, fits))) ∙ ap (λ u. Some (r, u)) at
+complete-end (keys (Some zero)) b r p q (z, e, at) = ap (λ c. Some (c, p)) e ∙ ap (λ u. Some (r, u)) at
+complete-end (keys (Some (suc n))) b r p q (z, e, at) = let never : ⊥ = omega (arith, z) in absurd never
+complete-end (values n) b r p q h = absurd h
 
-heads-good : (d p q : ℕ) (s x b : List ℕ) (l : Limit) (m n : ℕ) → m < 2 → IsHead s m n → b ≡ s ++ x → q ≡ p + length s →
-    q ≤ greatest_offset → read (suc d) b p l ≡ ends x q
-heads-good d p q s x b l zero n lt h e k room =
-    let st : HasHead b 0 n (length s) x = (s, h, refl, e) in
-    read-counted d p q b l 0 n (length s) x (omega arith) st
-    (stands-usable b 0 n (length s) p x (omega arith) st (omega arith) (λ z. absurd (none z))) k
-  where
-    none : IsStringMajor 0 → ⊥
-    none (inl e) = omega arith
-    none (inr e) = omega arith
-heads-good d p q s x b l (suc zero) n lt h e k room =
-    let st : HasHead b 1 n (length s) x = (s, h, refl, e) in
-    read-counted d p q b l 1 n (length s) x (omega arith) st
-    (stands-usable b 1 n (length s) p x (omega arith) st (omega arith) (λ z. absurd (none z))) k
-  where
-    none : IsStringMajor 1 → ⊥
-    none (inl e) = omega arith
-    none (inr e) = omega arith
-heads-good d p q s x b l (suc (suc m)) n lt h e k room = let never : ⊥ = omega arith in absurd never
+module _ (spelling : Spelling) where
+  -- a break cannot be read
+  not-break : (d p q : ℕ) (b r : List ℕ) (v : Tree) (l : Limit) → read spelling d b p l ≡ ends v r q →
+      break_at b p ≡ None
+  not-break zero p q b r v l h = absurd cc
+  not-break (suc d) p q [] r v l h = refl
+  not-break (suc d) p q (x ∷ b) r v l h = by (ltb p greatest_offset) (eqb x 255)
+      (λ e f. broken (eqb-true x 255 f))
+    where
+      broken : x ≡ 255 → ⊥
+      broken e =
+          let s : x ∷ b ≡ 255 ∷ b = ap (λ y. y ∷ b) e in
+          let has = ended-has spelling (suc d) p q (x ∷ b) r v l h in
+          let g : ends v r q ≡ refused (semantic p Break) = sym h ∙ read-opened spelling d p (x ∷ b) l 7 b s has in
+          cc
 
-pub utf8_allowed : (t : List ℕ) → IsUtf8 t → allowed 3 t ≡ true
-utf8_allowed t h = is_utf8-from_IsUtf8 t h
+      by : (t u : Bool) → (t ≡ true → u ≡ true → ⊥) → ◌≡◌ {A = Option (List ℕ × ℕ)}
+          (cond (t && u) (Some (b, p + 1)) None) None
+      by true true f = absurd (f refl refl)
+      by true false f = refl
+      by false u f = refl
 
-pub string_read : (m : ℕ) (IsAllowed : List ℕ → Type 0) → IsStringMajor m →
-    ((t : List ℕ) → IsAllowed t → allowed m t ≡ true) →
-    (d p q : ℕ) (o : Bool) (y s x b : List ℕ) (l : Limit) → IsString o m IsAllowed s y → b ≡ s ++ x → q ≡ p + length s →
-    q ≤ greatest_offset → length b < suc d → read (suc d) b p l ≡ ends x q
-string_read m IsAllowed is ok d p q false y s x b l h e k room fuel =
-    let st : HasHead b m (length y) (length h.0) (y ++ x) = stands-on s h.0 y x b m (length y) h.1 h.3 e in
-    let ls : length s ≡ length h.0 + length y = ap length h.3 ∙ length-append h.0 y in
-    let has : IsUsable b p = stands-usable b m (length y) (length h.0) p (y ++ x) (less is) st (omega arith)
-    (λ z. omega arith) in
-    let at : past p b (y ++ x) + length y ≡ q = omega (
-      arith,
-      stands-length b m (length y) (length h.0) (y ++ x) st,
-      ls,
-      k,
-    ) in
-    read-counted d p (past p b (y ++ x)) b l m (length y) (length h.0) (y ++ x) (less is) st has
-    (omega (arith, stands-length b m (length y) (length h.0) (y ++ x) st)) ∙
-    chosen is (past p b (y ++ x)) ∙ string-good m (length y) p (past p b (y ++ x)) y (y ++ x) x refl refl (ok y h.2) ∙
-    ap (ends x) at
-  where
-    less : IsStringMajor m → m < 7
-    less (inl e) = omega arith
-    less (inr e) = omega arith
+  open-on : (d p q : ℕ) (now next : Due) (b r : List ℕ) (v : Tree) (l : Limit) → next_due now ≡ Some next →
+      read spelling d b p l ≡ ends v r q → end_at now b p ≡ None
+  open-on d p q (items None) next b r v l h e = not-break d p q b r v l e
+  open-on d p q (items (Some zero)) next b r v l h e = absurd cc
+  open-on d p q (items (Some (suc n))) next b r v l h e = refl
+  open-on d p q (keys None) next b r v l h e = not-break d p q b r v l e
+  open-on d p q (keys (Some zero)) next b r v l h e = absurd cc
+  open-on d p q (keys (Some (suc n))) next b r v l h e = refl
+  open-on d p q (values n) next b r v l h e = refl
 
-    chosen : IsStringMajor m → (u : ℕ) → counted_item (read d) (parts d) m (length y) (y ++ x) p u l ≡ string m
-        (length y) (y ++ x) p u
-    chosen (inl e) u = ap (λ k. counted_item (read d) (parts d) k (length y) (y ++ x) p u l) e ∙
-        ap (λ k. string k (length y) (y ++ x) p u) (sym e)
-    chosen (inr e) u = ap (λ k. counted_item (read d) (parts d) k (length y) (y ++ x) p u l) e ∙
-        ap (λ k. string k (length y) (y ++ x) p u) (sym e)
-string_read m IsAllowed is ok d p q true y s x b l h e k room fuel =
-    let r : List ℕ = h.1 in
-    let w : b ≡ (m * 32 + 31) ∷ (r ++ (255 ∷ x)) = opens-on s r x b m h.4 e in
-    let ls : length s ≡ suc (length (r ++ (255 ∷ []))) = ap length h.4 in
-    let lr : length (r ++ (255 ∷ [])) ≡ length r + 1 = length-append r (255 ∷ []) in
-    let lb : length b ≡ suc (length (r ++ (255 ∷ x))) = ap length w in
-    let has : IsUsable b p = subst (λ c. IsUsable c p) (sym w) (opened-has m p (r ++ (255 ∷ x)) (free is) (omega arith))
-    in
-    read-opened d p b l m (r ++ (255 ∷ x)) w has ∙ chosen is ∙
-    pieces-run m IsAllowed (less is) ok d h.0 r (255 ∷ x) (r ++ (255 ∷ x)) (p + 1) (p + 1 + length r) (ends x q) h.2
-    refl refl (omega arith) (omega arith)
-    (λ c lt. pieces-break m c (p + 1 + length r) q x (omega arith) (omega arith) (omega arith))
-  where
-    less : IsStringMajor m → m < 7
-    less (inl e) = omega arith
-    less (inr e) = omega arith
+  parts-end : (d : ℕ) (start now : Due) (vs : List Tree) (b r : List ℕ) (p q : ℕ) (l : Limit) → 0 < d →
+      end_at now b p ≡ Some (r, q) → parts spelling d start (Some now) vs b p l ≡ ends (container_of now vs) r q
+  parts-end zero start now vs b r p q l h e = let never : ⊥ = omega (arith, h) in absurd never
+  parts-end (suc d) start now vs b r p q l h e = ap (λ o. or_end o (container_of now vs)
+      (and_then (next_part spelling (parts spelling d start) start now vs p l) (read spelling d b p l))) e
 
-    free : IsStringMajor m → is_reserved m 31 ≡ false
-    free (inl e) = ap (λ k. is_reserved k 31) e
-    free (inr e) = ap (λ k. is_reserved k 31) e
+  abbrev pub ReadsAt : ℕ → Type 0
+  ReadsAt d = (v : Tree) (s x b : List ℕ) (p q : ℕ) (l : Limit) → IsReadAs spelling s p l v → b ≡ s ++ x →
+      q ≡ p + length s → 2 * length b < d → read spelling d b p l ≡ ends v x q
 
-    chosen : IsStringMajor m → opened_item (parts d) (pieces d) m (h.1 ++ (255 ∷ x)) p l ≡ pieces d m (h.1 ++ (255 ∷ x))
-        (p + 1)
-    chosen (inl e) = ap (λ k. opened_item (parts d) (pieces d) k (h.1 ++ (255 ∷ x)) p l) e ∙
-        ap (λ k. pieces d k (h.1 ++ (255 ∷ x)) (p + 1)) (sym e)
-    chosen (inr e) = ap (λ k. opened_item (parts d) (pieces d) k (h.1 ++ (255 ∷ x)) p l) e ∙
-        ap (λ k. pieces d k (h.1 ++ (255 ∷ x)) (p + 1)) (sym e)
+  abbrev pub RunsAt : ℕ → Type 0
+  RunsAt d = (start now next : Due) (vs ws : List Tree) (s x b : List ℕ) (p q : ℕ) (l : Limit) (a : Answer Tree) →
+      AreReadAs spelling s p l ws → due_after now ws ≡ Some next → AreInOrder spelling (keys_among start (vs ++ ws)) →
+      b ≡ s ++ x → q ≡ p + length s → 2 * length b + 1 < d →
+      ((c : ℕ) → 2 * length x + 1 < c → parts spelling c start (Some next) (vs ++ ws) x q l ≡ a) →
+      parts spelling d start (Some now) vs b p l ≡ a
 
--- ---- what folds
+  -- an array or map that is complete
+  container-read : (d : ℕ) → RunsAt d → (b : List ℕ) (p : ℕ) (l below : Limit) (vs : List Tree) (r s : List ℕ)
+      (q u : ℕ) (now : Due) → IsInside spelling b p l vs r q now below → IsComplete now r q s u →
+      2 * length b < suc d → read spelling (suc d) b p l ≡ ends (container_of now vs) s u
+  container-read d run b p l below vs r s q u now i done fuel =
+      let z = opens-read spelling d p i.size b (i.good ++ r) i.start l i.head i.begins in
+      let at = i.at in
+      z.0 ∙ levels-below l below (parts spelling d i.start (Some i.start) [] (i.good ++ r) (p + i.size)) i.level ∙
+      run i.start i.start now [] vs i.good r (i.good ++ r) (p + i.size) q below (ends (container_of now vs) s u)
+      i.parts i.due i.in_order refl at (omega (arith, z.1, z.2, fuel))
+      (λ c lc. parts-end c i.start now vs r s q u below (omega (arith, lc)) (complete-end now r s q u done))
 
--- the string that a tag folds over is seen at the front
-short-front : (i : Item) (s x b : List ℕ) → Spells s i → b ≡ s ++ x → (y : List ℕ) → short_string i ≡ Some y →
-    (short (front b) ≡ true) × (payload (front b) ≡ y)
-short-front (unsigned n) s x b h e y f = absurd cc
-short-front (negative n) s x b h e y f = absurd cc
-short-front (bytes false z) s x b h e y f =
-    let st : HasHead b 2 (length z) (length h.0) (z ++ x) = stands-on s h.0 z x b 2 (length z) h.1 h.3 e in
-    let g : front b ≡ counted 2 (length z) (z ++ x) = stands-front b 2 (length z) (length h.0) (z ++ x) (omega arith) st
-    in
-    let k = taken (leb (length z) 16) f in
-    (ap short g ∙ k.0, ap payload g ∙ take-append_seam z x ∙ k.1)
-  where
-    taken : (t : Bool) → cond t (Some z) None ≡ Some y → (t ≡ true) × (z ≡ y)
-    taken true e = (refl, cc)
-    taken false e = absurd cc
-short-front (bytes true z) s x b h e y f = absurd cc
-short-front (text o z) s x b h e y f = absurd cc
-short-front (array o is) s x b h e y f = absurd cc
-short-front (map o ps) s x b h e y f = absurd cc
-short-front (tag n i) s x b h e y f = absurd cc
-short-front (simple n) s x b h e y f = absurd cc
-short-front (float r) s x b h e y f = absurd cc
+  -- ---- heads
 
-short-counted : (s h r x b : List ℕ) (m n : ℕ) → m < 7 → IsHead h m n → s ≡ h ++ r → b ≡ s ++ x →
-    short (front b) ≡ (eqb m 2 && leb n 16)
-short-counted s h r x b m n lt k e f = ap short (stands-front b m n (length h) (r ++ x) lt
-    (stands-on s h r x b m n k e f))
+  good-head : (b : List ℕ) (m n k p : ℕ) (r : List ℕ) → m < 7 → HasHead b m n k r → spelling_fault spelling b ≡ None →
+      p + k ≤ greatest_offset → (IsStringMajor m → p + k + n ≤ greatest_offset) → HasGoodHead spelling b p
+  good-head b m n k p r lt st fine fits room = (stands-usable b m n k p r lt st fits room, fine)
 
-short-opened : (s r x b : List ℕ) (m : ℕ) → s ≡ (m * 32 + 31) ∷ (r ++ (255 ∷ [])) → b ≡ s ++ x → short (front b) ≡ false
-short-opened s r x b m e f = ap (λ c. short (front c)) (opens-on s r x b m e f) ∙
-    ap short (front_open m (r ++ (255 ∷ x)))
+  no-string : (m : ℕ) → (m ≡ 2 → ⊥) → (m ≡ 3 → ⊥) → IsStringMajor m → ⊥
+  no-string m f g (inl e) = f e
+  no-string m f g (inr e) = g e
 
-pub short-none : (i : Item) (s x b : List ℕ) → Spells s i → b ≡ s ++ x → short_string i ≡ None → short (front b) ≡ false
-short-none (unsigned n) s x b h e f = ap (λ c. short (front c)) e ∙ ap short (front-head s 0 n x (omega arith) h)
-short-none (negative n) s x b h e f = ap (λ c. short (front c)) e ∙ ap short (front-head s 1 n x (omega arith) h)
-short-none (bytes false z) s x b h e f = short-counted s h.0 z x b 2 (length z) (omega arith) h.1 h.3 e ∙
-    untaken (leb (length z) 16) f
-  where
-    untaken : (t : Bool) → cond t (Some z) None ≡ None → t ≡ false
-    untaken true e = absurd cc
-    untaken false e = refl
-short-none (bytes true z) s x b h e f = short-opened s h.1 x b 2 h.4 e
-short-none (text false z) s x b h e f = short-counted s h.0 z x b 3 (length z) (omega arith) h.1 h.3 e
-short-none (text true z) s x b h e f = short-opened s h.1 x b 3 h.4 e
-short-none (array false is) s x b h e f = short-counted s h.2.0 h.0 x b 4 (items_count is) (omega arith) h.2.1 h.2.2 e
-short-none (array true is) s x b h e f = short-opened s h.0 x b 4 h.2 e
-short-none (map false ps) s x b h e f = short-counted s h.2.0 h.0 x b 5 (pairs_count ps) (omega arith) h.2.1 h.2.2 e
-short-none (map true ps) s x b h e f = short-opened s h.0 x b 5 h.2 e
-short-none (tag n i) s x b h e f = short-counted s h.0 h.1 x b 6 n (omega arith) h.2 h.4 e
-short-none (simple n) s x b (inl h) e f = ap (λ c. short (front c)) (e ∙ ap (λ (c : List ℕ). c ++ x) h.1) ∙
-    ap short (front-simple n x h.0)
-short-none (simple n) s x b (inr h) e f = ap (λ c. short (front c)) (e ∙ ap (λ (c : List ℕ). c ++ x) h.2)
-short-none (float r) s x b (inl h) e f = ap (λ c. short (front c)) (e ∙ ap (λ (c : List ℕ). c ++ x) h.1)
-short-none (float r) s x b (inr (inl h)) e f = ap (λ c. short (front c)) (e ∙ ap (λ (c : List ℕ). c ++ x) h.1)
-short-none (float r) s x b (inr (inr h)) e f = ap (λ c. short (front c)) (e ∙ ap (λ (c : List ℕ). c ++ x) h.1)
+  positive-read : (d p q n : ℕ) (s x b : List ℕ) (l : Limit) → IsHead s 0 n → spelling_fault spelling b ≡ None →
+      b ≡ s ++ x → q ≡ p + length s → q ≤ greatest_offset →
+      read spelling (suc d) b p l ≡ ends (trees.integer (pos n)) x q
+  positive-read d p q n s x b l h fine e k room =
+      let st : HasHead b 0 n (length s) x = (s, h, refl, e) in
+      read-counted spelling d p q b l 0 n (length s) x (omega arith) st
+      (good-head b 0 n (length s) p x (omega arith) st fine (omega (arith, k, room))
+      (λ z. absurd (no-string 0 (λ i. omega (arith, i)) (λ i. omega (arith, i)) z))) k
 
--- a folding tag has a meaning where the number is not too large
-three_some : (n : ℕ) (z : List ℕ) → is_some (negative_bignum n z) ≡ not (leb (2 ^ 127) n)
-three_some n z = grind (arith, nat_tests)
+  negative-read : (d p q n : ℕ) (s x b : List ℕ) (l : Limit) → IsHead s 1 n → spelling_fault spelling b ≡ None →
+      b ≡ s ++ x → q ≡ p + length s → q ≤ greatest_offset →
+      read spelling (suc d) b p l ≡ ends (trees.integer (negsuc n)) x q
+  negative-read d p q n s x b l h fine e k room =
+      let st : HasHead b 1 n (length s) x = (s, h, refl, e) in
+      read-counted spelling d p q b l 1 n (length s) x (omega arith) st
+      (good-head b 1 n (length s) p x (omega arith) st fine (omega (arith, k, room))
+      (λ z. absurd (no-string 1 (λ i. omega (arith, i)) (λ i. omega (arith, i)) z))) k
 
-two_some : (n : ℕ) (z : List ℕ) → is_some (unsigned_bignum n z) ≡ true
-two_some n z = grind (arith, nat_tests)
+  string-read : (kind : StringKind) (d p q : ℕ) (h y x b : List ℕ) (l : Limit) →
+      IsHead h (string_major kind) (length y) →
+      IsAllowed kind y → spelling_fault spelling b ≡ None → b ≡ (h ++ y) ++ x → q ≡ p + length (h ++ y) →
+      q ≤ greatest_offset → read spelling (suc d) b p l ≡ ends (string_tree kind y) x q
+  string-read kind d p q h y x b l is ok fine e k room =
+      let m : ℕ = string_major kind in
+      let n : ℕ = length y in
+      let st : HasHead b m n (length h) (y ++ x) = (h, is, refl, e ∙ append_assoc h y x) in
+      let both : length (h ++ y) ≡ length h + n = length-append h y in
+      let u : ℕ = p + length h in
+      read-counted spelling d p u b l m n (length h) (y ++ x) (kind_below kind) st
+      (good-head b m n (length h) p (y ++ x) (kind_below kind) st fine (omega (arith, both, k, room))
+      (λ z. omega (arith, both, k, room))) refl ∙
+      chosen kind u ∙ ap (made (string_tree kind)) (string-good m n p u y (y ++ x) x refl refl (kind_allowed kind y ok))
+      ∙
+      ap (ends (string_tree kind y) x) (omega (arith, both, k))
+    where
+      chosen : (c : StringKind) (u : ℕ) → counted_item spelling (read spelling d)
+          (λ w. parts spelling d w (Some w) []) (string_major c) (length y) (y ++ x) p u l ≡ made (string_tree c)
+          (string (string_major c) (length y) (y ++ x) p u)
+      chosen of_bytes u = refl
+      chosen of_text u = refl
 
-folded_2-some : (y : List ℕ) → is_some (bignum_meaning 2 y) ≡ not (is_too_large 2 y)
-unfolding bignum_meaning
-folded_2-some y = two_some (big_endian y) (without_zeros y)
+  open_string-read : (kind : StringKind) (d p q : ℕ) (c : List ℕ) (ys : List (List ℕ)) (x b : List ℕ) (l : Limit) →
+      AreChunks (string_major kind) (IsAllowed kind) c ys → spelling_fault spelling b ≡ None →
+      b ≡ (string_major kind * 32 + 31) ∷ ((c ++ (255 ∷ [])) ++ x) → q ≡ p + length c + 2 → q ≤ greatest_offset →
+      length b < suc d → read spelling (suc d) b p l ≡ ends (string_tree kind (joined ys)) x q
+  open_string-read kind d p q c ys x b l chunks fine e k room fuel =
+      let m : ℕ = string_major kind in
+      let r : List ℕ = c ++ (255 ∷ x) in
+      let is : b ≡ (m * 32 + 31) ∷ r = e ∙ ap (λ (z : List ℕ). (m * 32 + 31) ∷ z) (append_assoc c (255 ∷ []) x) in
+      let lb : length b ≡ suc (length r) = ap length is in
+      let lr : length r ≡ length c + suc (length x) = length-append c (255 ∷ x) in
+      let has : IsUsable b p = subst (λ z. IsUsable z p) (sym is) (opened-has m p r (free kind)
+      (omega (arith, k, room))) in
+      read-opened spelling d p b l m r is (has, fine) ∙ chosen kind ∙
+      ap (made (string_tree kind)) (pieces-run m (IsAllowed kind) (kind_below kind) (kind_allowed kind) d ys c (255 ∷ x)
+      r
+      (p + 1) (p + 1 + length c) (ends [] x q) chunks refl refl (omega (arith, k, room)) (omega (arith, lb, fuel))
+      (λ z lt. pieces-break m z (p + 1 + length c) q x (omega (arith, lt)) (omega (arith, k, room))
+      (omega (arith, k)))) ∙
+      ap (λ (z : List ℕ). ends (string_tree kind z) x q) (append-nil (joined ys))
+    where
+      free : (k : StringKind) → is_reserved (string_major k) 31 ≡ false
+      free of_bytes = refl
+      free of_text = refl
 
-folded_3-some : (y : List ℕ) → is_some (bignum_meaning 3 y) ≡ not (is_too_large 3 y)
-unfolding bignum_meaning
-folded_3-some y = three_some (big_endian y) (without_zeros y)
+      chosen : (k : StringKind) → opened_item spelling (λ w. parts spelling d w (Some w) []) (pieces d)
+          (string_major k) (c ++ (255 ∷ x)) p l ≡ made (string_tree k) (pieces d (string_major k) (c ++ (255 ∷ x))
+          (p + 1))
+      chosen of_bytes = refl
+      chosen of_text = refl
 
-pub bignum-tag : (t : ℕ) → is_bignum_tag t ≡ true → (t ≡ 2) ⊎ (t ≡ 3)
-bignum-tag t h = by (eqb t 2) (eqb t 3) h (λ e. eqb-true t 2 e) (λ e. eqb-true t 3 e)
-  where
-    by : (u v : Bool) → (u || v) ≡ true → (u ≡ true → t ≡ 2) → (v ≡ true → t ≡ 3) → (t ≡ 2) ⊎ (t ≡ 3)
-    by true v h f g = inl (f refl)
-    by false v h f g = inr (g h)
+  simple-read : (d p q n : ℕ) (s x b : List ℕ) (l : Limit) (v : Tree) → IsSimple s n → simple_meaning n ≡ Some v →
+      spelling_fault spelling b ≡ None → b ≡ s ++ x → q ≡ p + length s → q ≤ greatest_offset →
+      read spelling (suc d) b p l ≡ ends v x q
+  simple-read d p q n s x b l v (inl h) means fine e k room =
+      let is : b ≡ (224 + n) ∷ x = e ∙ ap (λ (c : List ℕ). c ++ x) h.1 in
+      let ls : length s ≡ 1 = ap length h.1 in
+      let lb : length b ≡ suc (length x) = ap length is in
+      let has : IsUsable b p = subst (λ c. IsUsable c p) (sym is) (simple-has n p x h.0 (omega (arith, ls, k, room))) in
+      read-head spelling d p b l (plain n x) (has, fine) (ap front is ∙ front-simple n x h.0) ∙
+      ap (λ o. given (semantic p Simple) o x (past p b x)) means ∙ ap (ends v x) (omega (arith, lb, ls, k))
+  simple-read d p q n s x b l v (inr h) means fine e k room =
+      let none : Some v ≡ None = sym means ∙ simple_high n h.0 in absurd cc
 
-pub bignum_meaning-some : (t : ℕ) (y : List ℕ) → is_bignum_tag t ≡ true →
-    is_some (bignum_meaning t y) ≡ not (is_too_large t y)
-bignum_meaning-some t y h = by (bignum-tag t h)
-  where
-    by : (t ≡ 2) ⊎ (t ≡ 3) → is_some (bignum_meaning t y) ≡ not (is_too_large t y)
-    by (inl e) = subst (λ u. is_some (bignum_meaning u y) ≡ not (is_too_large u y)) (sym e) (folded_2-some y)
-    by (inr e) = subst (λ u. is_some (bignum_meaning u y) ≡ not (is_too_large u y)) (sym e) (folded_3-some y)
+  -- ---- tags
 
--- ---- the reader
+  module _ (d : ℕ) (rd : ReadsAt d) (h r x b : List ℕ) (p t q : ℕ) (l : Limit) (i : Item) (head : IsHead h 6 t)
+      (split : b ≡ h ++ (r ++ x)) (fine : spelling_fault spelling b ≡ None) (spelled : Spells r i)
+      (at : q ≡ p + length h + length r) (fuel : 2 * length b < suc d) where
+    lengths : (length b ≡ length h + length (r ++ x)) × (0 < length h)
+    lengths = stands-length b 6 t (length h) (r ++ x) (h, head, refl, split)
 
--- a container's or a tag's own levels
-room_for : (is : Items) (n : ℕ) (l : Limit) → items_nesting is ≡ n → IsWithin l (suc n) → (m : Limit) ×
-    IsWithin m (items_nesting is) × IsOneLess l m
-room_for is n l e h = let w = lower l n h in (w.0, subst (IsWithin w.0) (sym e) w.1, w.2)
+    content : (m : Limit) (v : Tree) → IsReadAs spelling r (p + length h) m v →
+        read spelling d (r ++ x) (p + length h) m ≡ ends v x q
+    content m v item =
+        let z = lengths in rd v r x (r ++ x) (p + length h) q m item refl at (omega (arith, z.0, z.1, fuel))
 
--- how many items a definite container still has to hold at least
-abbrev pub IsRoom : Due → Items → Type 0
-IsRoom (exactly n) is = items_count is ≤ n
-IsRoom items_until_break is = Unit {0}
-IsRoom keys_until_break is = Unit {0}
-IsRoom values_until_break is = Unit {0}
+    begun : (m : Limit) (v : Tree) → IsReadAs spelling r (p + length h) m v →
+        IsTagAt spelling b p t (r ++ x) (p + length h)
+    begun m v item =
+        let room = (anyway spelling r (p + length h) m v item).4 in
+        let st : HasHead b 6 t (length h) (r ++ x) = (h, head, refl, split) in
+        record {
+          size = length h;
+          head = (
+            stands-usable b 6 t (length h) p (r ++ x) (omega arith) st (omega (arith, room))
+                (λ z. absurd (no-string 6 (λ i. omega (arith, i)) (λ i. omega (arith, i)) z)),
+            fine,
+          );
+          tag = st;
+          usable = (ended-has spelling d (p + length h) q (r ++ x) x v m (content m v item)).0;
+          at = refl;
+        }
 
-room-next : (w : Due) (i : Item) (is : Items) → IsRoom w (item i is) → IsRoom (next_due w) is
-room-next (exactly n) i is h = omega arith
-room-next items_until_break i is h = tt
-room-next keys_until_break i is h = tt
-room-next values_until_break i is h = tt
+    -- with its item
+    pub tag-read : (below : Limit) (v : Tree) → folding_bytes t i ≡ None → IsOneLess l below →
+        IsReadAs spelling r (p + length h) below v → read spelling (suc d) b p l ≡ ends (trees.tag t v) x q
+    tag-read below v none level item =
+        tag-at spelling d p t b (r ++ x) (p + length h) l (begun below v item) ∙
+        pass _ _ _ (none-folds t i r x (r ++ x) spelled refl none) ∙
+        levels-below l below (λ m. made (trees.tag t) (read spelling d (r ++ x) (p + length h) m)) level ∙
+        ap (made (trees.tag t)) (content below v item)
 
-not-break : (d p q : ℕ) (b r : List ℕ) (l : Limit) → read d b p l ≡ ends r q → break_at b p ≡ None
-not-break zero p q b r l h = absurd cc
-not-break (suc d) p q [] r l h = refl
-not-break (suc d) p q (x ∷ b) r l h = by (ltb p greatest_offset) (eqb x 255)
-    (λ e f. broken (eqb-true x 255 f) (ltb-true p greatest_offset e))
-  where
-    broke : Bool → Option (List ℕ × ℕ)
-    broke t = cond t (Some (b, p + 1)) None
+    wanted : (s : Spelling) (y : List ℕ) → (IsUnwanted s y → ⊥) → is_unwanted s y ≡ false
+    wanted any y f = refl
+    wanted (deterministic order) y f = not_so _ (λ e. f (foldable-is y e))
 
-    broken : x ≡ 255 → p < greatest_offset → ⊥
-    broken e k =
-        let s : x ∷ b ≡ 255 ∷ b = ap (λ y. y ∷ b) e in
-        let has : IsUsable (x ∷ b) p = subst (λ c. IsUsable c p) (sym s) (opened-has 7 p b refl k) in
-        let g : ends r q ≡ refused (semantic p Break) = sym h ∙ read-opened d p (x ∷ b) l 7 b s has in
-        cc
+    -- folded
+    pub folded-read : (y : List ℕ) (v : Tree) → folding_bytes t i ≡ Some y →
+        IsReadAs spelling r (p + length h) l (trees.bytes y) → (IsUnwanted spelling y → ⊥) →
+        bignum_meaning t y ≡ Some v → read spelling (suc d) b p l ≡ ends v x q
+    folded-read y v some item fold means =
+        tag-at spelling d p t b (r ++ x) (p + length h) l (begun l (trees.bytes y) item) ∙
+        hold _ _ _ (folds-front t (r ++ x) (folds-some t i r x (r ++ x) y spelled refl some).0) ∙
+        ap (and_then (bignum spelling t p)) (content l (trees.bytes y) item) ∙
+        pass _ _ _ (wanted spelling y fold) ∙ ap (λ o. given (semantic p TooLarge) o x q) means
 
-    by : (t u : Bool) → (t ≡ true → u ≡ true → ⊥) → broke (t && u) ≡ None
-    by true true f = absurd (f refl refl)
-    by true false f = refl
-    by false u f = refl
+  -- ---- containers
 
-open-on : (d p q : ℕ) (w : Due) (i : Item) (is : Items) (b r : List ℕ) (l : Limit) → IsRoom w (item i is) →
-    read d b p l ≡ ends r q → end_at w b p ≡ None
-open-on d p q (exactly zero) i is b r l h e = let never : ⊥ = omega arith in absurd never
-open-on d p q (exactly (suc n)) i is b r l h e = refl
-open-on d p q items_until_break i is b r l h e = not-break d p q b r l e
-open-on d p q keys_until_break i is b r l h e = not-break d p q b r l e
-open-on d p q values_until_break i is b r l h e = refl
+  array-read : (d : ℕ) → RunsAt d → (b : List ℕ) (p n k q : ℕ) (l below : Limit) (vs : List Tree) (g x : List ℕ) →
+      HasHead b 4 n k (g ++ x) → spelling_fault spelling b ≡ None → IsOneLess l below →
+      AreReadAs spelling g (p + k) below vs → due_after (items (Some n)) vs ≡ Some (items (Some 0)) →
+      q ≡ p + k + length g → q ≤ greatest_offset → 2 * length b < suc d →
+      read spelling (suc d) b p l ≡ ends (trees.array (trees_from vs)) x q
+  array-read d run b p n k q l below vs g x st fine level read due at fits fuel =
+      container-read d run b p l below vs x x q q (items (Some 0)) (record {
+        size = k;
+        good = g;
+        start = items (Some n);
+        head = good-head b 4 n k p (g ++ x) (omega arith) st fine (omega (arith, at, fits))
+            (λ z. absurd (no-string 4 (λ i. omega (arith, i)) (λ i. omega (arith, i)) z));
+        begins = BeginsContainer.array n st;
+        level = level;
+        parts = read;
+        in_order = no_keys spelling;
+        due = due;
+        at = at;
+        fits = fits;
+      }) (refl, refl, refl) fuel
+    where
+      no_keys : (s : Spelling) → AreInOrder s []
+      no_keys any = tt
+      no_keys (deterministic order) = tt
 
-end-left : (w : Due) (b : List ℕ) (p : ℕ) → w ≡ exactly 0 → end_at w b p ≡ Some (b, p)
-end-left w b p e = ap (λ v. end_at v b p) e
+  map-read : (d : ℕ) → RunsAt d → (b : List ℕ) (p n k q : ℕ) (l below : Limit) (vs : List Tree) (g x : List ℕ) →
+      HasHead b 5 n k (g ++ x) → spelling_fault spelling b ≡ None → IsOneLess l below →
+      AreReadAs spelling g (p + k) below vs → AreInOrder spelling (keys_in vs) →
+      due_after (keys (Some n)) vs ≡ Some (keys (Some 0)) →
+      q ≡ p + k + length g → q ≤ greatest_offset → 2 * length b < suc d →
+      read spelling (suc d) b p l ≡ ends (trees.map (pairs_in vs)) x q
+  map-read d run b p n k q l below vs g x st fine level read order due at fits fuel =
+      container-read d run b p l below vs x x q q (keys (Some 0)) (record {
+        size = k;
+        good = g;
+        start = keys (Some n);
+        head = good-head b 5 n k p (g ++ x) (omega arith) st fine (omega (arith, at, fits))
+            (λ z. absurd (no-string 5 (λ i. omega (arith, i)) (λ i. omega (arith, i)) z));
+        begins = BeginsContainer.map n st;
+        level = level;
+        parts = read;
+        in_order = order;
+        due = due;
+        at = at;
+        fits = fits;
+      }) (refl, refl, refl) fuel
 
-end-break : (x : List ℕ) (p : ℕ) → p < greatest_offset → break_at (255 ∷ x) p ≡ Some (x, p + 1)
-end-break x p h = ap (λ t. cond (t && true) (Some (x, p + 1)) None) (lt-ltb p greatest_offset h)
+  -- parts in a row
+  parts-read : (d : ℕ) → ReadsAt d → RunsAt d → RunsAt (suc d)
+  parts-read d rd run start now next vs [] s x b p q l a read due order e k fuel then =
+      let same : now ≡ next = cc in
+      let none : length s ≡ 0 = ap length read in
+      let is : b ≡ x = e ∙ ap (λ (c : List ℕ). c ++ x) read in
+      let lb : length b ≡ length x = ap length is in
+      ap (λ w. parts spelling (suc d) start (Some w) vs b p l) same ∙
+      ap (λ (c : List ℕ). parts spelling (suc d) start (Some next) vs c p l) is ∙
+      ap (λ z. parts spelling (suc d) start (Some next) vs x z l) (omega (arith, k, none)) ∙
+      ap (λ (us : List Tree). parts spelling (suc d) start (Some next) us x q l) (sym (append-nil vs)) ∙
+      then (suc d) (omega (arith, lb, fuel))
+  parts-read d rd run start now next vs (v ∷ ws) s x b p q l a (c, t, first, rest, f) due order e k fuel then =
+      let one = due-first now v ws next due in
+      let is : b ≡ c ++ (t ++ x) = e ∙ ap (λ (z : List ℕ). z ++ x) f ∙ append_assoc c t x in
+      let lb : length b ≡ length c + length (t ++ x) = ap length is ∙ length-append c (t ++ x) in
+      let ls : length s ≡ length c + length t = ap length f ∙ length-append c t in
+      let item = anyway spelling c p l v first in
+      let some : 0 < length c = spells-pos item.0 c item.1 in
+      let done : read spelling d b p l ≡ ends v (t ++ x) (p + length c) =
+      rd v c (t ++ x) b p (p + length c) l first is refl (omega (arith, fuel)) in
+      let again : vs ++ (v ∷ ws) ≡ (vs ++ (v ∷ [])) ++ ws = sym (append_assoc vs (v ∷ []) ws) in
+      let more : AreInOrder spelling (keys_among start ((vs ++ (v ∷ [])) ++ ws)) =
+      subst (λ us. AreInOrder spelling (keys_among start us)) again order in
+      ap (λ o. or_end o (container_of now vs)
+      (and_then (next_part spelling (parts spelling d start) start now vs p l) (read spelling d b p l)))
+      (open-on d p (p + length c) now one.0 b (t ++ x) v l one.1 done) ∙
+      ap (and_then (next_part spelling (parts spelling d start) start now vs p l)) done ∙
+      hold _ _ _ (is-in_order spelling (keys_among start (vs ++ (v ∷ [])))
+      (order-before spelling start (vs ++ (v ∷ [])) ws more)) ∙
+      ap (λ o. parts spelling d start o (vs ++ (v ∷ [])) (t ++ x) (p + length c) l) one.1 ∙
+      run start one.0 next (vs ++ (v ∷ [])) ws t x (t ++ x) (p + length c) q l a rest one.2 more refl
+      (omega (arith, k, ls)) (omega (arith, lb, some, fuel))
+      (λ z lt. ap (λ (us : List Tree). parts spelling z start (Some next) us x q l) (sym again) ∙ then z lt)
 
-parts-end : (d p q u : ℕ) (w : Due) (b x : List ℕ) (l : Limit) → 0 < d → end_at w b p ≡ Some (x, u) → u ≡ q →
-    parts d w b p l ≡ ends x q
-parts-end zero p q u w b x l h e f = let never : ⊥ = omega arith in absurd never
-parts-end (suc d) p q u w b x l h e f = ap (λ o. or_end o (and_then (λ r v. parts d (next_due w) r v l) (read d b p l)))
-    e ∙ ap (ends x) f
+open-usable : (m : ℕ) (g x b : List ℕ) (p : ℕ) → is_reserved m 31 ≡ false → b ≡ (m * 32 + 31) ∷ (g ++ (255 ∷ x)) →
+    p < greatest_offset → IsUsable b p
+open-usable m g x b p free e room = subst (λ c. IsUsable c p) (sym e) (opened-has m p (g ++ (255 ∷ x)) free room)
 
-abbrev RunsAt : ℕ → Type 0
-RunsAt d = (is : Items) (w : Due) (s x b : List ℕ) (p q : ℕ) (l : Limit) (a : Answer) → AreGood is l s p → b ≡ s ++ x →
-    q ≡ p + length s → IsRoom w is →
-    2 * length b + 1 < d → ((c : ℕ) → 2 * length x + 1 < c → parts c (due_after w is) x q l ≡ a) → parts d w b p l ≡ a
+-- ---- any spelling
 
-counted-container : (d : ℕ) → RunsAt d → (p q : ℕ) (b s x h r : List ℕ) (l m : Limit) (j k n : ℕ) (is : Items) → j < 7 →
-    (IsStringMajor j → ⊥) → IsHead h j k → s ≡ h ++ r → SpellsItems r is → IsSome (items_meaning is) →
-    IsWithin m (items_nesting is) → IsOneLess l m → items_count is ≡ n →
-    ((u : ℕ) → counted_item (read d) (parts d) j k (r ++ x) p u l ≡ levels l (parts d (exactly n) (r ++ x) u)) →
-    b ≡ s ++ x → q ≡ p + length s → q ≤ greatest_offset → 2 * length b < suc d → read (suc d) b p l ≡ ends x q
-counted-container d run p q b s x h r l m j k n is lt nos hd e all some within onel count chosen f g room fuel =
-    let st : HasHead b j k (length h) (r ++ x) = stands-on s h r x b j k hd e f in
-    let ls : length s ≡ length h + length r = ap length e ∙ length-append h r in
-    let lb = stands-length b j k (length h) (r ++ x) st in
-    let u : ℕ = p + length h in
-    let has : IsUsable b p = stands-usable b j k (length h) p (r ++ x) lt st (omega arith) (λ z. absurd (nos z)) in
-    read-counted d p u b l j k (length h) (r ++ x) lt st has refl ∙ chosen u ∙
-    levels-below l m (parts d (exactly n) (r ++ x) u) onel ∙
-    run is (exactly n) r x (r ++ x) u q m (ends x q) (all, some, within, omega arith) refl (omega arith) (omega arith)
-    (omega arith)
-    (λ c lc. parts-end c q q q (due_after (exactly n) is) x x m (omega arith)
-    (end-left _ x q (after-left is n ∙ ap exactly (omega arith))) refl)
+module _ (d : ℕ) (rd : ReadsAt any d) (run : RunsAt any d) (x b : List ℕ) (p q : ℕ) (l : Limit) where
+  any-string : (kind : StringKind) (o : Bool) (y s : List ℕ) → IsString o (string_major kind) (IsAllowed kind) s y →
+      b ≡ s ++ x → q ≡ p + length s → q ≤ greatest_offset → 2 * length b < suc d →
+      read any (suc d) b p l ≡ ends (string_tree kind y) x q
+  any-string kind false y s (h, is, ok, e) f k room fuel =
+      string-read any kind d p q h y x b l is ok refl (f ∙ ap (λ (c : List ℕ). c ++ x) e)
+      (k ∙ ap (λ (c : List ℕ). p + length c) e) room
+  any-string kind true y s (ys, c, chunks, same, e) f k room fuel =
+      let ls : length s ≡ suc (length (c ++ (255 ∷ []))) = ap length e in
+      let lc : length (c ++ (255 ∷ [])) ≡ length c + 1 = length-append c (255 ∷ []) in
+      open_string-read any kind d p q c ys x b l chunks refl (f ∙ ap (λ (z : List ℕ). z ++ x) e)
+      (omega (arith, k, ls, lc)) room (omega (arith, fuel)) ∙
+      ap (λ (z : List ℕ). ends (string_tree kind z) x q) (sym same)
 
-opened-container : (d : ℕ) → RunsAt d → (p q : ℕ) (b s x r : List ℕ) (l m : Limit) (j : ℕ) (w : Due) (is : Items) →
-    is_reserved j 31 ≡ false → s ≡ (j * 32 + 31) ∷ (r ++ (255 ∷ [])) → SpellsItems r is → IsSome (items_meaning is) →
-    IsWithin m (items_nesting is) → IsOneLess l m → IsRoom w is →
-    ((z : List ℕ) (u : ℕ) → end_at (due_after w is) z u ≡ break_at z u) →
-    (opened_item (parts d) (pieces d) j (r ++ (255 ∷ x)) p l ≡ levels l (parts d w (r ++ (255 ∷ x)) (p + 1))) →
-    b ≡ s ++ x → q ≡ p + length s → q ≤ greatest_offset → 2 * length b < suc d → read (suc d) b p l ≡ ends x q
-opened-container d run p q b s x r l m j w is free e all some within onel isroom ended chosen f g room fuel =
-    let wh : b ≡ (j * 32 + 31) ∷ (r ++ (255 ∷ x)) = opens-on s r x b j e f in
-    let ls : length s ≡ suc (length (r ++ (255 ∷ []))) = ap length e in
-    let lr : length (r ++ (255 ∷ [])) ≡ length r + 1 = length-append r (255 ∷ []) in
-    let lb : length b ≡ suc (length (r ++ (255 ∷ x))) = ap length wh in
-    let u : ℕ = p + 1 + length r in
-    let has : IsUsable b p = subst (λ c. IsUsable c p) (sym wh) (opened-has j p (r ++ (255 ∷ x)) free (omega arith)) in
-    read-opened d p b l j (r ++ (255 ∷ x)) wh has ∙ chosen ∙
-    levels-below l m (parts d w (r ++ (255 ∷ x)) (p + 1)) onel ∙
-    run is w r (255 ∷ x) (r ++ (255 ∷ x)) (p + 1) u m (ends x q) (all, some, within, omega arith) refl refl isroom
-    (omega arith)
-    (λ c lc. parts-end c u q (u + 1) (due_after w is) (255 ∷ x) x m (omega arith)
-    (ended (255 ∷ x) u ∙ end-break x u (omega arith)) (omega arith))
+  any-array : (o : Bool) (is : item.Items) (ts : Trees) (s : List ℕ) → Spells s (item.array o is) →
+      items_meaning is ≡ Some ts → IsWithin l (suc (items_nesting is)) → b ≡ s ++ x → q ≡ p + length s →
+      q ≤ greatest_offset → 2 * length b < suc d → read any (suc d) b p l ≡ ends (trees.array ts) x q
+  any-array false is ts s (g, spelled, (h, head, e)) means nests f k room fuel =
+      let w = lower l (items_nesting is) nests in
+      let ls : length s ≡ length h + length g = ap length e ∙ length-append h g in
+      let r = read-items is ts g (p + length h) w.0 spelled means w.1 (omega (arith, k, ls, room)) in
+      array-read any d run b p (item.items_count is) (length h) q l w.0 (elements ts) g x
+      (h, head, refl, f ∙ ap (λ (c : List ℕ). c ++ x) e ∙ append_assoc h g x) refl w.2 r.0
+      (ap (λ n. due_after (items (Some n)) (elements ts)) r.1 ∙ elements-due ts) (omega (arith, k, ls)) room fuel ∙
+      ap (λ us. ends (trees.array us) x q) (elements-in ts)
+  any-array true is ts s (g, spelled, e) means nests f k room fuel =
+      let w = lower l (items_nesting is) nests in
+      let split : b ≡ 159 ∷ (g ++ (255 ∷ x)) = f ∙ ap (λ (c : List ℕ). c ++ x) e ∙
+      ap (λ (c : List ℕ). 159 ∷ c) (append_assoc g (255 ∷ []) x) in
+      let ls : length s ≡ suc (length (g ++ (255 ∷ []))) = ap length e in
+      let lg : length (g ++ (255 ∷ [])) ≡ length g + 1 = length-append g (255 ∷ []) in
+      let r = read-items is ts g (p + 1) w.0 spelled means w.1 (omega (arith, k, ls, lg, room)) in
+      container-read any d run b p l w.0 (elements ts) (255 ∷ x) x (p + 1 + length g) q (items None) (record {
+        size = 1;
+        good = g;
+        start = items None;
+        head = (open-usable 4 g x b p refl split (omega (arith, k, ls, lg, room)), refl);
+        begins = BeginsContainer.open_array refl split;
+        level = w.2;
+        parts = r.0;
+        in_order = tt;
+        due = open-elements-due ts;
+        at = refl;
+        fits = omega (arith, k, ls, lg, room);
+      }) (refl, omega (arith, k, ls, lg), room) fuel ∙
+      ap (λ us. ends (trees.array us) x q) (elements-in ts)
 
-short-good : (i : Item) (y : List ℕ) → short_string i ≡ Some y → IsSome (meaning i) × (nesting i ≡ 0)
-short-good (unsigned n) y f = absurd cc
-short-good (negative n) y f = absurd cc
-short-good (bytes false z) y f = (refl, refl)
-short-good (bytes true z) y f = absurd cc
-short-good (text o z) y f = absurd cc
-short-good (array o is) y f = absurd cc
-short-good (map o ps) y f = absurd cc
-short-good (tag n i) y f = absurd cc
-short-good (simple n) y f = absurd cc
-short-good (float r) y f = absurd cc
+  any-map : (o : Bool) (ps : item.Pairs) (ts : TreePairs) (s : List ℕ) → Spells s (item.map o ps) →
+      pairs_meaning ps ≡ Some ts → IsWithin l (suc (pairs_nesting ps)) → b ≡ s ++ x → q ≡ p + length s →
+      q ≤ greatest_offset → 2 * length b < suc d → read any (suc d) b p l ≡ ends (trees.map ts) x q
+  any-map false ps ts s (g, spelled, (h, head, e)) means nests f k room fuel =
+      let w = lower l (pairs_nesting ps) nests in
+      let ls : length s ≡ length h + length g = ap length e ∙ length-append h g in
+      let r = read-pairs ps ts g (p + length h) w.0 spelled means w.1 (omega (arith, k, ls, room)) in
+      map-read any d run b p (item.pairs_count ps) (length h) q l w.0 (turns ts) g x
+      (h, head, refl, f ∙ ap (λ (c : List ℕ). c ++ x) e ∙ append_assoc h g x) refl w.2 r.0 tt
+      (ap (λ n. due_after (keys (Some n)) (turns ts)) r.1 ∙ turns-due ts) (omega (arith, k, ls)) room fuel ∙
+      ap (λ us. ends (trees.map us) x q) (turns-in ts)
+  any-map true ps ts s (g, spelled, e) means nests f k room fuel =
+      let w = lower l (pairs_nesting ps) nests in
+      let split : b ≡ 191 ∷ (g ++ (255 ∷ x)) = f ∙ ap (λ (c : List ℕ). c ++ x) e ∙
+      ap (λ (c : List ℕ). 191 ∷ c) (append_assoc g (255 ∷ []) x) in
+      let ls : length s ≡ suc (length (g ++ (255 ∷ []))) = ap length e in
+      let lg : length (g ++ (255 ∷ [])) ≡ length g + 1 = length-append g (255 ∷ []) in
+      let r = read-pairs ps ts g (p + 1) w.0 spelled means w.1 (omega (arith, k, ls, lg, room)) in
+      container-read any d run b p l w.0 (turns ts) (255 ∷ x) x (p + 1 + length g) q (keys None) (record {
+        size = 1;
+        good = g;
+        start = keys None;
+        head = (open-usable 5 g x b p refl split (omega (arith, k, ls, lg, room)), refl);
+        begins = BeginsContainer.open_map refl split;
+        level = w.2;
+        parts = r.0;
+        in_order = tt;
+        due = open-turns-due ts;
+        at = refl;
+        fits = omega (arith, k, ls, lg, room);
+      }) (refl, omega (arith, k, ls, lg), room) fuel ∙
+      ap (λ us. ends (trees.map us) x q) (turns-in ts)
 
-bytes_or : (t : Bool) (o : Option (List ℕ)) (y : List ℕ) → cond t o None ≡ Some y → (t ≡ true) × (o ≡ Some y)
-bytes_or true o y e = (refl, e)
-bytes_or false o y e = absurd cc
+  any-tag : (t : ℕ) (i : Item) (v : Tree) (s : List ℕ) → Spells s (item.tag t i) →
+      tag_meaning t (folding_bytes t i) (meaning i) ≡ Some v →
+      IsWithin l (tag_nesting (folding_bytes t i) (nesting i)) →
+      b ≡ s ++ x → q ≡ p + length s → q ≤ greatest_offset → 2 * length b < suc d → read any (suc d) b p l ≡ ends v x q
+  any-tag t i v s (h, r, head, spelled, e) means nests f k room fuel = by (folding_bytes t i) refl means nests
+    where
+      split : b ≡ h ++ (r ++ x)
+      split = f ∙ ap (λ (c : List ℕ). c ++ x) e ∙ append_assoc h r x
 
-bytes_nor : (t : Bool) (o : Option (List ℕ)) → cond t o None ≡ None → (t ≡ false) ⊎ (o ≡ None)
-bytes_nor true o e = inr e
-bytes_nor false o e = inl refl
+      len : length s ≡ length h + length r
+      len = ap length e ∙ length-append h r
 
-not_true : (t : Bool) → not t ≡ true → t ≡ false
-not_true true e = sym e
-not_true false e = refl
+      by : (o : Option (List ℕ)) → folding_bytes t i ≡ o → tag_meaning t o (meaning i) ≡ Some v →
+          IsWithin l (tag_nesting o (nesting i)) → read any (suc d) b p l ≡ ends v x q
+      by (Some y) z m n =
+          let w = folds-some t i r x (r ++ x) y spelled refl z in
+          folded-read any d rd h r x b p t q l i head split refl spelled (omega (arith, k, len)) fuel y v z (
+            i,
+            spelled,
+            ap meaning w.1,
+            subst (λ j. IsWithin l (nesting j)) (sym w.1) (within-zero l),
+            omega (arith, k, len, room),
+            tt,
+          ) (λ u. u) m
+      by None z m n = of (meaning i) refl m
+        where
+          of : (o : Option Tree) → meaning i ≡ o → option_map (trees.tag t) o ≡ Some v →
+              read any (suc d) b p l ≡ ends v x q
+          of None y u = absurd cc
+          of (Some w) y u =
+              let below = lower l (nesting i) n in
+              let same : trees.tag t w ≡ v = cc in
+              tag-read any d rd h r x b p t q l i head split refl spelled (omega (arith, k, len)) fuel below.0 w z
+              below.2 (i, spelled, y, below.1, omega (arith, k, len, room), tt) ∙ ap (λ z. ends z x q) same
 
-and_false-left : (t u : Bool) → t ≡ false → (t && u) ≡ false
-and_false-left true u e = absurd cc
-and_false-left false u e = refl
+  any-item : (i : Item) (v : Tree) (s : List ℕ) → Spells s i → meaning i ≡ Some v → IsWithin l (nesting i) →
+      b ≡ s ++ x → q ≡ p + length s → q ≤ greatest_offset → 2 * length b < suc d → read any (suc d) b p l ≡ ends v x q
+  any-item (item.unsigned n) v s h means nests f k room fuel = let same : trees.integer (pos n) ≡ v = cc in
+      positive-read any d p q n s x b l h refl f k room ∙ ap (λ w. ends w x q) same
+  any-item (item.negative n) v s h means nests f k room fuel = let same : trees.integer (negsuc n) ≡ v = cc in
+      negative-read any d p q n s x b l h refl f k room ∙ ap (λ w. ends w x q) same
+  any-item (item.bytes o y) v s h means nests f k room fuel = let same : trees.bytes y ≡ v = cc in
+      any-string of_bytes o y s h f k room fuel ∙ ap (λ w. ends w x q) same
+  any-item (item.text o y) v s h means nests f k room fuel = let same : trees.text y ≡ v = cc in
+      any-string of_text o y s h f k room fuel ∙ ap (λ w. ends w x q) same
+  any-item (item.array o is) v s h means nests f k room fuel = by (items_meaning is) refl means
+    where
+      by : (m : Option Trees) → items_meaning is ≡ m → option_map trees.array m ≡ Some v →
+          read any (suc d) b p l ≡ ends v x q
+      by None e g = absurd cc
+      by (Some ts) e g = let same : trees.array ts ≡ v = cc in
+          any-array o is ts s h e nests f k room fuel ∙ ap (λ w. ends w x q) same
+  any-item (item.map o ps) v s h means nests f k room fuel = by (pairs_meaning ps) refl means
+    where
+      by : (m : Option TreePairs) → pairs_meaning ps ≡ m → option_map trees.map m ≡ Some v →
+          read any (suc d) b p l ≡ ends v x q
+      by None e g = absurd cc
+      by (Some ts) e g = let same : trees.map ts ≡ v = cc in
+          any-map o ps ts s h e nests f k room fuel ∙ ap (λ w. ends w x q) same
+  any-item (item.tag t i) v s h means nests f k room fuel = any-tag t i v s h means nests f k room fuel
+  any-item (item.simple n) v s h means nests f k room fuel = simple-read any d p q n s x b l v h means refl f k room
+  any-item (item.float raw) v s h means nests f k room fuel = absurd cc
 
-and_false-right : (t u : Bool) → u ≡ false → (t && u) ≡ false
-and_false-right true u e = e
-and_false-right false u e = refl
+-- ---- the deterministic spelling
 
-and_both : (t u : Bool) → t ≡ true → u ≡ true → (t && u) ≡ true
-and_both t u e f = ap (λ v. v && u) e ∙ f
+module _ (order : KeyOrder) (d : ℕ) (rd : ReadsAt (deterministic order) d) (run : RunsAt (deterministic order) d)
+    (x b : List ℕ) (p q : ℕ) (l : Limit) where
+  abbrev det : Spelling
+  det = deterministic order
 
-simple-read : (d n p q : ℕ) (s x b : List ℕ) (l : Limit) → IsSimple s n → IsSome (simple_meaning n) → b ≡ s ++ x →
-    q ≡ p + length s → q ≤ greatest_offset → read (suc d) b p l ≡ ends x q
-simple-read d n p q s x b l (inl h) some e k room =
-    let is : b ≡ (224 + n) ∷ x = e ∙ ap (λ (c : List ℕ). c ++ x) h.1 in
-    let ls : length s ≡ 1 = ap length h.1 in
-    let lb : length b ≡ suc (length x) = ap length is in
-    let has : IsUsable b p = subst (λ c. IsUsable c p) (sym is) (simple-has n p x h.0 (omega arith)) in
-    read-head d p b l (plain n x) has (ap front is ∙ front-simple n x h.0) ∙ hold _ _ _ some ∙ ap (ends x) (omega arith)
-simple-read d n p q s x b l (inr h) some e k room = absurd (none (simple_meaning n) (simple_high n h.0) some)
-  where
-    none : (o : Option Tree) → o ≡ None → IsSome o → ⊥
-    none None f g = cc
-    none (Some v) f g = cc
+  -- the shortest head stands at the front
+  short : (m n : ℕ) (r : List ℕ) → m < 7 → IsArgument n → b ≡ shortest_head m n ++ r →
+      HasHead b m n (length (shortest_head m n)) r × (spelling_fault det b ≡ None)
+  short m n r lt few e =
+      let st : HasHead b m n (length (shortest_head m n)) r = (
+        shortest_head m n,
+        shortest_is_head m n few,
+        refl,
+        e,
+      ) in
+      (st, short-fault det b m n (length (shortest_head m n)) r lt st (omega arith))
 
--- a tag, whose item is read alike
-abbrev ReadsAt : ℕ → Type 0
-ReadsAt d = (i : Item) (s x b : List ℕ) (p q : ℕ) (l : Limit) → IsGood i l s p → b ≡ s ++ x → q ≡ p + length s →
-    2 * length b < d → read d b p l ≡ ends x q
+  det-array : (ts : Trees) → IsCanonicalTree order (trees.array ts) → IsWithin l (nesting (item_of (trees.array ts))) →
+      b ≡ encoding (trees.array ts) ++ x → q ≡ p + length (encoding (trees.array ts)) → q ≤ greatest_offset →
+      2 * length b < suc d → read det (suc d) b p l ≡ ends (trees.array ts) x q
+  det-array ts c nests f k room fuel =
+      let n : ℕ = item.items_count (items_of ts) in
+      let h : List ℕ = shortest_head 4 n in
+      let g : List ℕ = items_bytes (items_of ts) in
+      let len : length (h ++ g) ≡ length h + length g = length-append h g in
+      let few : trees_count ts ≤ greatest_offset = c.proper.0 in
+      let count = items_count-items_of ts in
+      let st = short 4 n (g ++ x) (omega arith) (omega (arith, few, count)) (f ∙ append_assoc h g x) in
+      let w = lower l (items_nesting (items_of ts)) nests in
+      array-read det d run b p n (length h) q l w.0 (elements ts) g x st.0 st.1 w.2
+      (written-trees order ts (p + length h) w.0 (c.proper.1, array-some _ _ c.folds, c.rises, w.1)
+      (omega (arith, k, len, room)))
+      (ap (λ j. due_after (items (Some j)) (elements ts)) count ∙ elements-due ts) (omega (arith, k, len)) room fuel ∙
+      ap (λ us. ends (trees.array us) x q) (elements-in ts)
+    where
+      array-some : (o : Option Trees) (us : Trees) → option_map trees.array o ≡ Some (trees.array us) → o ≡ Some us
+      array-some None us e = absurd cc
+      array-some (Some ws) us e = cc
 
-tag-read : (d : ℕ) → ReadsAt d → (t : ℕ) (i : Item) (s x b : List ℕ) (p q : ℕ) (l : Limit) → IsGood (tag t i) l s p →
-    b ≡ s ++ x → q ≡ p + length s → 2 * length b < suc d → read (suc d) b p l ≡ ends x q
-tag-read d rd t i s x b p q l g e k fuel = by (folding_bytes t i) refl
-  where
-    h : List ℕ
-    h = g.0.0
+  det-map : (ps : TreePairs) → IsCanonicalTree order (trees.map ps) → IsWithin l (nesting (item_of (trees.map ps))) →
+      b ≡ encoding (trees.map ps) ++ x → q ≡ p + length (encoding (trees.map ps)) → q ≤ greatest_offset →
+      2 * length b < suc d → read det (suc d) b p l ≡ ends (trees.map ps) x q
+  det-map ps c nests f k room fuel =
+      let n : ℕ = item.pairs_count (pairs_of ps) in
+      let h : List ℕ = shortest_head 5 n in
+      let g : List ℕ = pairs_bytes (pairs_of ps) in
+      let len : length (h ++ g) ≡ length h + length g = length-append h g in
+      let few : tree_pairs_count ps ≤ greatest_offset = c.proper.0 in
+      let count = pairs_count-pairs_of ps in
+      let st = short 5 n (g ++ x) (omega arith) (omega (arith, few, count)) (f ∙ append_assoc h g x) in
+      let w = lower l (pairs_nesting (pairs_of ps)) nests in
+      map-read det d run b p n (length h) q l w.0 (turns ps) g x st.0 st.1 w.2
+      (written-pairs order ps (p + length h) w.0 (c.proper.1, map-some _ _ c.folds, c.rises.1, w.1)
+      (omega (arith, k, len, room)))
+      (subst (AreRising order) (sym (keys-turns ps)) c.rises.0)
+      (ap (λ j. due_after (keys (Some j)) (turns ps)) count ∙ turns-due ps) (omega (arith, k, len)) room fuel ∙
+      ap (λ us. ends (trees.map us) x q) (turns-in ps)
+    where
+      map-some : (o : Option TreePairs) (us : TreePairs) → option_map trees.map o ≡ Some (trees.map us) → o ≡ Some us
+      map-some None us e = absurd cc
+      map-some (Some ws) us e = cc
 
-    r : List ℕ
-    r = g.0.1
+  det-string : (kind : StringKind) (y : List ℕ) → IsAllowed kind y → length y ≤ greatest_offset →
+      b ≡ (shortest_head (string_major kind) (length y) ++ y) ++ x →
+      q ≡ p + length (shortest_head (string_major kind) (length y) ++ y) → q ≤ greatest_offset →
+      read det (suc d) b p l ≡ ends (string_tree kind y) x q
+  det-string kind y ok few f k room =
+      let m : ℕ = string_major kind in
+      let h : List ℕ = shortest_head m (length y) in
+      let st = short m (length y) (y ++ x) (kind_below kind) (omega (arith, few)) (f ∙ append_assoc h y x) in
+      string-read det kind d p q h y x b l (shortest_is_head m (length y) (omega (arith, few))) ok st.1 f k room
 
-    u : ℕ
-    u = p + length g.0.0
+  det-simple : (n : ℕ) (v : Tree) → n < 23 → simple_meaning n ≡ Some v → b ≡ ((224 + n) ∷ []) ++ x → q ≡ p + 1 →
+      q ≤ greatest_offset → read det (suc d) b p l ≡ ends v x q
+  det-simple n v lt means f k room =
+      let is : IsSimple ((224 + n) ∷ []) n = inl (omega (arith, lt), refl) in
+      simple-read det d p q n ((224 + n) ∷ []) x b l v is means
+      (ap (spelling_fault det) f ∙ fault-simple det ((224 + n) ∷ []) n x is (λ e. omega (arith, lt, e))) f k room
 
-    st : HasHead b 6 t (length g.0.0) (g.0.1 ++ x)
-    st = stands-on s g.0.0 g.0.1 x b 6 t g.0.2 g.0.4 e
+  det-tag : (t : ℕ) (w : Tree) → IsCanonicalTree order (trees.tag t w) →
+      IsWithin l (nesting (item_of (trees.tag t w))) → b ≡ encoding (trees.tag t w) ++ x →
+      q ≡ p + length (encoding (trees.tag t w)) → q ≤ greatest_offset → 2 * length b < suc d →
+      read det (suc d) b p l ≡ ends (trees.tag t w) x q
+  det-tag t w c nests f k room fuel = by (folding_bytes t (item_of w)) refl nests
+    where
+      h : List ℕ
+      h = shortest_head 6 t
 
-    ls : length s ≡ length g.0.0 + length g.0.1
-    ls = ap length g.0.4 ∙ length-append g.0.0 g.0.1
+      spelled : Spells (encoding w) (item_of w)
+      spelled = written_spells (item_of w) (IsProperItem-item_of w c.proper.1)
 
-    lb : (length b ≡ length g.0.0 + length (g.0.1 ++ x)) × (0 < length g.0.0)
-    lb = stands-length b 6 t (length g.0.0) (g.0.1 ++ x) st
+      split : b ≡ shortest_head 6 t ++ (encoding w ++ x)
+      split = f ∙ append_assoc (shortest_head 6 t) (encoding w) x
 
-    nos : IsStringMajor 6 → ⊥
-    nos (inl z) = omega arith
-    nos (inr z) = omega arith
+      fine : spelling_fault det b ≡ None
+      fine = (short 6 t (encoding w ++ x) (omega arith) c.proper.0 split).1
 
-    room : p + length s ≤ greatest_offset
-    room = g.3
+      len : length (encoding (trees.tag t w)) ≡ length (shortest_head 6 t) + length (encoding w)
+      len = length-append (shortest_head 6 t) (encoding w)
 
-    fits : p + length g.0.0 ≤ greatest_offset
-    fits = omega (arith, ls, room)
+      over : tree_folding_bytes t w ≡ folding_bytes t (item_of w)
+      over = ap (λ o. cond (is_bignum_tag t) o None) (sym (short_string-item_of w))
 
-    begin : read (suc d) b p l ≡ tagged (read d) t (g.0.1 ++ x) p (p + length g.0.0) l
-    begin = read-counted d p (p + length g.0.0) b l 6 t (length g.0.0) (g.0.1 ++ x) (omega arith) st
-        (stands-usable b 6 t (length g.0.0) p (g.0.1 ++ x) (omega arith) st fits (λ z. absurd (nos z))) refl
+      folds : tag_meaning t (folding_bytes t (item_of w)) (folded w) ≡ Some (trees.tag t w)
+      folds = ap (λ o. tag_meaning t o (folded w)) (sym over) ∙ c.folds
 
-    by : (o : Option (List ℕ)) → folding_bytes t i ≡ o → read (suc d) b p l ≡ ends x q
-    by (Some y) f =
-        let w = bytes_or (is_bignum_tag t) (short_string i) y f in
-        let v = short-good i y w.1 in
-        let good : IsGood i l g.0.1 (p + length g.0.0) =
-        (g.0.3, v.0, subst (IsWithin l) (sym v.1) (within-zero l), omega (arith, ls, room)) in
-        let done : read d (g.0.1 ++ x) (p + length g.0.0) l ≡ ends x q =
-        rd i g.0.1 x (g.0.1 ++ x) (p + length g.0.0) q l good refl (omega (arith, ls)) (omega (arith, lb)) in
-        let sf = short-front i g.0.1 x (g.0.1 ++ x) g.0.3 refl y w.1 in
-        let some : is_some (bignum_meaning t y) ≡ true = ap (λ z. is_some (tag_meaning t z (meaning i))) (sym f) ∙
-        g.1 in
-        let small : is_too_large t y ≡ false = not_true _ (sym (bignum_meaning-some t y w.0) ∙ some) in
-        begin ∙ checked-none (g.0.1 ++ x) (p + length g.0.0) _ (ended-has d (p + length g.0.0) q (g.0.1 ++ x) x l done)
-        ∙
-        hold _ _ _ (and_both _ _ w.0 sf.0) ∙ ap (bignum t (payload (front (g.0.1 ++ x))) p) done ∙
-        pass _ _ _ (ap (is_too_large t) sf.1 ∙ small)
-    by None f =
-        let within : IsWithin l (suc (nesting i)) = subst (λ z. IsWithin l (tag_nesting z (nesting i))) f g.2 in
-        let some : IsSome (meaning i) = mapped-some (trees.tag t) (meaning i)
-        (ap (λ z. is_some (tag_meaning t z (meaning i))) (sym f) ∙ g.1) in
-        let w = lower l (nesting i) within in
-        let good : IsGood i w.0 g.0.1 (p + length g.0.0) = (g.0.3, some, w.1, omega (arith, ls, room)) in
-        let done : read d (g.0.1 ++ x) (p + length g.0.0) w.0 ≡ ends x q =
-        rd i g.0.1 x (g.0.1 ++ x) (p + length g.0.0) q w.0 good refl (omega (arith, ls)) (omega (arith, lb)) in
-        begin ∙ checked-none (g.0.1 ++ x) (p + length g.0.0) _
-        (ended-has d (p + length g.0.0) q (g.0.1 ++ x) x w.0 done) ∙
-        pass _ _ _ (open_tag (bytes_nor (is_bignum_tag t) (short_string i) f)) ∙
-        levels-below l w.0 (read d (g.0.1 ++ x) (p + length g.0.0)) w.2 ∙ done
-      where
-        open_tag : (is_bignum_tag t ≡ false) ⊎ (short_string i ≡ None) → folding t (front (g.0.1 ++ x)) ≡ false
-        open_tag (inl z) = and_false-left _ _ z
-        open_tag (inr z) = and_false-right _ _ (short-none i g.0.1 x (g.0.1 ++ x) g.0.3 refl z)
+      kept : (o : Option Tree) → option_map (trees.tag t) o ≡ Some (trees.tag t w) → o ≡ Some w
+      kept None e = absurd cc
+      kept (Some v) e = cc
 
-no-string-4 : IsStringMajor 4 → ⊥
-no-string-4 (inl e) = omega arith
-no-string-4 (inr e) = omega arith
+      by : (o : Option (List ℕ)) → folding_bytes t (item_of w) ≡ o → IsWithin l (tag_nesting o (nesting (item_of w))) →
+          read det (suc d) b p l ≡ ends (trees.tag t w) x q
+      by (Some y) z n =
+          let a = folds-some t (item_of w) (encoding w) x (encoding w ++ x) y spelled refl z in
+          let means : bignum_meaning t y ≡ Some (trees.tag t w) =
+          ap (λ o. tag_meaning t o (folded w)) (sym z) ∙ folds in
+          let same : w ≡ trees.bytes y = sym (tree_is_written_as_itself w) ∙ ap written_tree a.1 in
+          let proper : IsProperTree (trees.bytes y) = subst IsProperTree same c.proper.1 in
+          let keeps : bignum_meaning t y ≡ Some (trees.tag t (trees.bytes y)) = means ∙
+          ap (λ v. Some (trees.tag t v)) same in
+          folded-read det d rd h (encoding w) x b p t q l (item_of w) (shortest_is_head 6 t c.proper.0) split fine
+          spelled (omega (arith, k, len)) fuel y (trees.tag t w) z (accepted order (encoding w) (p + length h) l
+          (trees.bytes y) (ap encoding same, record { proper = proper; folds = refl; rises = tt }) (within-zero l)
+          (omega (arith, k, len, room))) (kept-whole t y a.0.0 (each_is_byte y proper.0) keeps) means
+      by None z n =
+          let below = lower l (nesting (item_of w)) n in
+          tag-read det d rd h (encoding w) x b p t q l (item_of w) (shortest_is_head 6 t c.proper.0) split fine spelled
+          (omega (arith, k, len)) fuel below.0 w z below.2 (accepted order (encoding w) (p + length h) below.0 w (
+            refl,
+            record {
+              proper = c.proper.1;
+              folds = kept (folded w) (ap (λ o. tag_meaning t o (folded w)) (sym z) ∙ folds);
+              rises = c.rises;
+            },
+          ) below.1 (omega (arith, k, len, room)))
 
-no-string-5 : IsStringMajor 5 → ⊥
-no-string-5 (inl e) = omega arith
-no-string-5 (inr e) = omega arith
+  det-tree : (v : Tree) → IsCanonicalTree order v → IsWithin l (nesting (item_of v)) → b ≡ encoding v ++ x →
+      q ≡ p + length (encoding v) → q ≤ greatest_offset → 2 * length b < suc d →
+      read det (suc d) b p l ≡ ends v x q
+  unfolding simple_meaning
+  det-tree (trees.integer (pos n)) c nests f k room fuel =
+      positive-read det d p q n (shortest_head 0 n) x b l (shortest_is_head 0 n c.proper)
+      (short 0 n x (omega arith) c.proper f).1 f k room
+  det-tree (trees.integer (negsuc n)) c nests f k room fuel =
+      negative-read det d p q n (shortest_head 1 n) x b l (shortest_is_head 1 n c.proper)
+      (short 1 n x (omega arith) c.proper f).1 f k room
+  det-tree (trees.bytes y) c nests f k room fuel = det-string of_bytes y c.proper.0 c.proper.1 f k room
+  det-tree (trees.text y) c nests f k room fuel = det-string of_text y c.proper.0 c.proper.1.1 f k room
+  det-tree (trees.boolean false) c nests f k room fuel = det-simple 20 (trees.boolean false) (omega arith) refl f k room
+  det-tree (trees.boolean true) c nests f k room fuel = det-simple 21 (trees.boolean true) (omega arith) refl f k room
+  det-tree trees.null c nests f k room fuel = det-simple 22 trees.null (omega arith) refl f k
+      room
+  det-tree (trees.tag t w) c nests f k room fuel = det-tag t w c nests f k room fuel
+  det-tree (trees.array ts) c nests f k room fuel = det-array ts c nests f k room fuel
+  det-tree (trees.map ps) c nests f k room fuel = det-map ps c nests f k room fuel
+
+-- ---- every item
+
+front-read : (spelling : Spelling) (d : ℕ) → ReadsAt spelling d → RunsAt spelling d → ReadsAt spelling (suc d)
+front-read any d rd run v s x b p q l (i, spelled, means, nests, fits, so) e k fuel =
+    any-item d rd run x b p q l i v s spelled means nests e k (omega (arith, k, fits)) fuel
+front-read (deterministic order) d rd run v s x b p q l h e k fuel =
+    let ((bytes, c), nests, fits) = canonical order s p l v h in
+    det-tree order d rd run x b p q l v c nests (e ∙ ap (λ (z : List ℕ). z ++ x) bytes)
+    (k ∙ ap (λ (z : List ℕ). p + length z) bytes) (omega (arith, k, fits)) fuel
 
 mutual
-  pub read-good : (d : ℕ) (i : Item) (s x b : List ℕ) (p q : ℕ) (l : Limit) → IsGood i l s p → b ≡ s ++ x →
-      q ≡ p + length s → 2 * length b < d → read d b p l ≡ ends x q
-  read-good zero i s x b p q l g e k fuel = let never : ⊥ = omega arith in absurd never
-  read-good (suc d) (unsigned n) s x b p q l g e k fuel =
-      heads-good d p q s x b l 0 n (omega arith) g.0 e k (omega (arith, g.3))
-  read-good (suc d) (negative n) s x b p q l g e k fuel =
-      heads-good d p q s x b l 1 n (omega arith) g.0 e k (omega (arith, g.3))
-  read-good (suc d) (bytes o y) s x b p q l g e k fuel =
-      string_read 2 AreBytes (inl refl) (λ t h. refl) d p q o y s x b l g.0 e k (omega (arith, g.3)) (omega arith)
-  read-good (suc d) (text o y) s x b p q l g e k fuel =
-      string_read 3 IsUtf8 (inr refl) utf8_allowed d p q o y s x b l g.0 e k (omega (arith, g.3)) (omega arith)
-  read-good (suc d) (array false is) s x b p q l g e k fuel =
-      let w = lower l (items_nesting is) g.2 in
-      counted-container d (parts-run d) p q b s x g.0.2.0 g.0.0 l w.0 4 (items_count is) (items_count is) is
-      (omega arith) no-string-4 g.0.2.1 g.0.2.2 g.0.1 (mapped-some trees.array (items_meaning is) g.1) w.1 w.2 refl
-      (λ u. refl) e k (omega (arith, g.3)) fuel
-  read-good (suc d) (array true is) s x b p q l g e k fuel =
-      let w = lower l (items_nesting is) g.2 in
-      opened-container d (parts-run d) p q b s x g.0.0 l w.0 4 items_until_break is refl g.0.2 g.0.1
-      (mapped-some trees.array (items_meaning is) g.1) w.1 w.2 tt (λ z u. ap (λ v. end_at v z u) (after-items is))
-      refl e k (omega (arith, g.3)) fuel
-  read-good (suc d) (map false ps) s x b p q l g e k fuel =
-      let w = room_for (flat ps) (pairs_nesting ps) l (flat-nesting ps) g.2 in
-      counted-container d (parts-run d) p q b s x g.0.2.0 g.0.0 l w.0 5 (pairs_count ps) (2 * pairs_count ps) (flat ps)
-      (omega arith) no-string-5 g.0.2.1 g.0.2.2 (flat-Spells ps g.0.0 g.0.1)
-      (flat-meaning ps (mapped-some trees.map (pairs_meaning ps) g.1)) w.1 w.2 (flat-count ps) (λ u. refl) e k
-      (omega (arith, g.3)) fuel
-  read-good (suc d) (map true ps) s x b p q l g e k fuel =
-      let w = room_for (flat ps) (pairs_nesting ps) l (flat-nesting ps) g.2 in
-      opened-container d (parts-run d) p q b s x g.0.0 l w.0 5 keys_until_break (flat ps) refl g.0.2
-      (flat-Spells ps g.0.0 g.0.1) (flat-meaning ps (mapped-some trees.map (pairs_meaning ps) g.1)) w.1 w.2 tt
-      (λ z u. ap (λ v. end_at v z u) (flat-after ps)) refl e k (omega (arith, g.3)) fuel
-  read-good (suc d) (tag t i) s x b p q l g e k fuel = tag-read d (read-good d) t i s x b p q l g e k fuel
-  read-good (suc d) (simple n) s x b p q l g e k fuel = simple-read d n p q s x b l g.0 g.1 e k (omega (arith, g.3))
-  read-good (suc d) (float r) s x b p q l g e k fuel = absurd (no g.1)
-    where
-      no : IsSome (meaning (float r)) → ⊥
-      no h = cc
+  pub read-good : (spelling : Spelling) (d : ℕ) → ReadsAt spelling d
+  read-good spelling zero v s x b p q l h e k fuel = let never : ⊥ = omega (arith, fuel) in absurd never
+  read-good spelling (suc d) v s x b p q l h e k fuel =
+      front-read spelling d (read-good spelling d) (parts-run spelling d) v s x b p q l h e k fuel
 
-  pub parts-run : (d : ℕ) (is : Items) (w : Due) (s x b : List ℕ) (p q : ℕ) (l : Limit) (a : Answer) →
-      AreGood is l s p → b ≡ s ++ x → q ≡ p + length s → IsRoom w is →
-      2 * length b + 1 < d → ((c : ℕ) → 2 * length x + 1 < c → parts c (due_after w is) x q l ≡ a) → parts d w b p l ≡ a
-  parts-run zero is w s x b p q l a g e k room fuel then = let never : ⊥ = omega arith in absurd never
-  parts-run (suc d) no_items w s x b p q l a g e k room fuel then =
-      let same : b ≡ x = e ∙ ap (λ (c : List ℕ). c ++ x) g.0 in
-      let none : length s ≡ 0 = ap length g.0 in
-      ap (λ (c : List ℕ). parts (suc d) w c p l) same ∙ ap (λ z. parts (suc d) w x z l) (omega arith) ∙
-      then (suc d) (omega (arith, ap length same))
-  parts-run (suc d) (item i is) w s x b p q l a g e k room fuel then =
-      let u : List ℕ = g.0.0 in
-      let v : List ℕ = g.0.1 in
-      let g2 : AreGood (item i is) l (u ++ v) p = subst (λ c. AreGood (item i is) l c p) g.0.4 g in
-      let is1 : b ≡ u ++ (v ++ x) = e ∙ ap (λ (c : List ℕ). c ++ x) g.0.4 ∙ append_assoc u v x in
-      let l1 : length b ≡ length u + length (v ++ x) = ap length is1 ∙ length-append u (v ++ x) in
-      let l2 : length s ≡ length u + length v = ap length g.0.4 ∙ length-append u v in
-      let pos = spells-pos i u g.0.2 in
-      let done : read d b p l ≡ ends (v ++ x) (p + length u) =
-      read-good d i u (v ++ x) b p (p + length u) l (first-good i is l p u v g.0.2 g2) is1 refl (omega arith) in
-      ap (λ o. or_end o (and_then (λ r z. parts d (next_due w) r z l) (read d b p l)))
-      (open-on d p (p + length u) w i is b (v ++ x) l room done) ∙
-      ap (and_then (λ r z. parts d (next_due w) r z l)) done ∙
-      parts-run d is (next_due w) v x (v ++ x) (p + length u) q l a (rest-good i is l p u v g.0.3 g2) refl (omega arith)
-      (room-next w i is room) (omega arith) then
+  pub parts-run : (spelling : Spelling) (d : ℕ) → RunsAt spelling d
+  parts-run spelling zero start now next vs ws s x b p q l a read due order e k fuel then =
+      let never : ⊥ = omega (arith, fuel) in absurd never
+  parts-run spelling (suc d) start now next vs ws s x b p q l a read due order e k fuel then =
+      parts-read spelling d (read-good spelling d) (parts-run spelling d) start now next vs ws s x b p q l a read due
+      order e k fuel then

@@ -13,8 +13,6 @@ use Rattle.ciborium_ll.specs.Item.{Item, Items, Pairs, items_count, pairs_count}
 use Rattle.ciborium_ll.specs.Spells.{AreChunks, IsString, IsContainer, Spells, SpellsItems, SpellsPairs}
 use Rattle.ciborium_value.specs.Meaning.{meaning, items_meaning, pairs_meaning, tag_meaning, is_bignum_tag, trees_more}
 use Rattle.ciborium_value.specs.Meaning.{tree_pairs_more}
-use Rattle.ciborium_value.specs.Nesting.{Limit}
-use Rattle.ciborium_value.specs.Refuses.{IsGood}
 use Rattle.ciborium_value.specs.Tree.{Tree, Trees, TreePairs, tag, array, map}
 
 -- ---- heads
@@ -180,7 +178,7 @@ some-pairs (Some k) (Some v) None h = absurd cc
 some-pairs (Some k) (Some v) (Some ps) h = (refl, refl, refl)
 
 mutual
-  item_bytes : (i : Item) (s : List ℕ) → Spells s i → IsSome (meaning i) → AreBytes s
+  pub item_bytes : (i : Item) (s : List ℕ) → Spells s i → IsSome (meaning i) → AreBytes s
   item_bytes (item.unsigned n) s h m = head_bytes s 0 n (omega arith) h
   item_bytes (item.negative n) s h m = head_bytes s 1 n (omega arith) h
   item_bytes (item.bytes o y) s h m = string_bytes o 2 AreBytes (omega arith) (λ z k. k) s y h
@@ -207,6 +205,3 @@ mutual
       let each = some-pairs (meaning k) (meaning v) (pairs_meaning ps) m in
       subst AreBytes (sym e) (All-append (λ x. x < 256) a (b ++ c) (item_bytes k a f each.0)
       (All-append (λ x. x < 256) b c (item_bytes v b g each.1) (pairs_bytes ps c h each.2)))
-
-pub good_bytes : (i : Item) (s : List ℕ) (l : Limit) (p : ℕ) → IsGood i l s p → AreBytes s
-good_bytes i s l p good = item_bytes i s good.0 good.1

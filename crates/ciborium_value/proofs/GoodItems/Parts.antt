@@ -1,50 +1,31 @@
--- Items in a row, pairs as items, and limits.
-use Rattle.std.proofs.Common.{◌≡◌, ℕ, zero, suc, ◌+◌, ◌-◌, ◌*◌, ◌≤◌, max, List, [], ◌++◌, length, Option, Some, None}
-use Rattle.std.proofs.Common.{IsSome, refl, sym, ap, ◌∙◌, subst, arith, length-append, append_assoc, append-nil}
-use Rattle.std.proofs.Common.{option_map}
-use Rattle.ciborium_ll.specs.Item.{Item, Items, no_items, item, Pairs, no_pairs, pair, items_count, pairs_count}
-use Rattle.ciborium_value.specs.Tree.{Tree, Trees, TreePairs}
-use Rattle.ciborium_ll.specs.Spells.{Spells, SpellsItems, SpellsPairs}
-use Rattle.ciborium_value.specs.Meaning.{items_meaning, pairs_meaning, trees_more, tree_pairs_more}
-use Rattle.ciborium_value.specs.Nesting.{items_nesting, pairs_nesting, Limit, IsWithin, IsOneLess}
+-- The parts of containers: what is due, limits, and lists of what is read as items and as encodings.
+use Rattle.std.proofs.Common.{◌≡◌, ℕ, zero, suc, ◌+◌, ◌≤◌, max, List, [], ◌∷◌, ◌++◌, length, Option, Some, None}
+use Rattle.std.proofs.Common.{option_and_then, refl, sym, ap, ◌∙◌, subst, arith, length-append, append_assoc}
+use Rattle.std.proofs.Common.{append-nil, true, ◌&&◌}
+use Rattle.std.specs.declared.cmp.Ordering.{Ordering}
+use Rattle.std.specs.declared.cmp.Ordering.TheVariants.{Less, Equal, Greater}
 use Rattle.ciborium_ll.specs.Bytes.{greatest_offset}
-use Rattle.ciborium_value.specs.Refuses.{AreGood, IsGood, Due, exactly, items_until_break, keys_until_break, next_due}
-use Rattle.ciborium_value.specs.Refuses.{due_after}
-use Rattle.ciborium_value.proofs.GoodItems.Reader.{Answer, levels}
+use Rattle.ciborium_ll.specs.Item.{Items, no_items, item, Pairs, no_pairs, pair, items_count, pairs_count}
+use Rattle.ciborium_ll.specs.Spells.{SpellsItems, SpellsPairs}
+use Rattle.ciborium_value.specs.Canonical.{key_order}
+use Rattle.ciborium_value.specs.Deterministic.{AreRising, HaveRisingKeys, PairsHaveRisingKeys, keys_of}
+use Rattle.ciborium_value.specs.Encoding.{encoding, items_of, pairs_of, items_bytes, pairs_bytes}
+use Rattle.ciborium_value.specs.Folded.{folded, trees_folded, tree_pairs_folded}
+use Rattle.ciborium_value.specs.Meaning.{meaning, items_meaning, pairs_meaning, trees_more, tree_pairs_more}
+use Rattle.ciborium_value.specs.Nesting.{items_nesting, pairs_nesting, Limit, IsWithin, IsOneLess}
+use Rattle.ciborium_value.specs.ProperTrees.{AreProperTrees, AreProperTreePairs}
+use Rattle.ciborium_value.specs.Refuses.{Due, items, keys, values, next_due, due_after, keys_among, keys_in, AreReadAs}
+use Rattle.ciborium_value.specs.Spelling.{Spelling, any, deterministic, IsReadAs, AreInOrder}
+use Rattle.ciborium_value.specs.Tree.{Tree, Trees, no_trees, tree, TreePairs, no_tree_pairs, tree_pair}
+use Rattle.ciborium_value.specs.Tree.{trees_count, tree_pairs_count}
+use Rattle.ciborium_value.specs.View.{trees_from}
+use Rattle.ciborium_value.specs.inner.ReadItems.{pairs_in}
+use Rattle.ciborium_value.specs.declared.key_order.KeyOrder.{KeyOrder}
+use Rattle.ciborium_value.proofs.GoodItems.Accepted.{accepted, canonical}
+use Rattle.ciborium_value.proofs.GoodItems.Reader.{Answer, levels, is_less, rising, in_order}
+use Rattle.ciborium_value.proofs.GoodItems.Spelled.{and_true}
 
--- ---- meanings
-
-more-some : (m : Option Tree) (ms : Option Trees) → IsSome (trees_more m ms) → IsSome m × IsSome ms
-more-some None ms h = absurd cc
-more-some (Some v) None h = absurd cc
-more-some (Some v) (Some vs) h = (refl, refl)
-
-some-more : (m : Option Tree) (ms : Option Trees) → IsSome m → IsSome ms → IsSome (trees_more m ms)
-some-more None ms h k = absurd cc
-some-more (Some v) None h k = absurd cc
-some-more (Some v) (Some vs) h k = refl
-
-more_pairs-some : (m n : Option Tree) (ms : Option TreePairs) → IsSome (tree_pairs_more m n ms) → IsSome m × IsSome n ×
-    IsSome ms
-more_pairs-some None n ms h = absurd cc
-more_pairs-some (Some k) None ms h = absurd cc
-more_pairs-some (Some k) (Some v) None h = absurd cc
-more_pairs-some (Some k) (Some v) (Some ms) h = (refl, refl, refl)
-
-some-more_pairs : (m n : Option Tree) (ms : Option TreePairs) → IsSome m → IsSome n → IsSome ms →
-    IsSome (tree_pairs_more m n ms)
-some-more_pairs None n ms h k j = absurd cc
-some-more_pairs (Some k) None ms h i j = absurd cc
-some-more_pairs (Some k) (Some v) None h i j = absurd cc
-some-more_pairs (Some k) (Some v) (Some ms) h i j = refl
-
-pub mapped-some : {A B : Type 0} (f : A → B) (o : Option A) → IsSome (option_map f o) → IsSome o
-mapped-some f None h = absurd cc
-mapped-some f (Some a) h = refl
-
-pub some-mapped : {A B : Type 0} (f : A → B) (o : Option A) → IsSome o → IsSome (option_map f o)
-some-mapped f None h = absurd cc
-some-mapped f (Some a) h = refl
+-- ---- limits
 
 pub within-left : (l : Limit) (m n : ℕ) → IsWithin l (max m n) → IsWithin l m
 within-left None m n h = tt
@@ -62,97 +43,6 @@ pub within-zero : (l : Limit) → IsWithin l 0
 within-zero None = tt
 within-zero (Some l) = omega arith
 
--- ---- good items
-
-pub first-good : (i : Item) (is : Items) (l : Limit) (p : ℕ) (s t : List ℕ) → Spells s i →
-    AreGood (item i is) l (s ++ t) p → IsGood i l s p
-first-good i is l p s t h g =
-    (h, (more-some _ _ g.1).0, within-left l _ _ g.2, omega (arith, length-append s t, g.3))
-
-pub rest-good : (i : Item) (is : Items) (l : Limit) (p : ℕ) (s t : List ℕ) → SpellsItems t is →
-    AreGood (item i is) l (s ++ t) p → AreGood is l t (p + length s)
-rest-good i is l p s t h g =
-    (h, (more-some _ _ g.1).1, within-right l _ _ g.2, omega (arith, length-append s t, g.3))
-
-pub more-good : (i : Item) (is : Items) (l : Limit) (p : ℕ) (s t : List ℕ) → IsGood i l s p →
-    AreGood is l t (p + length s) → AreGood (item i is) l (s ++ t) p
-more-good i is l p s t g h =
-    ((s, t, g.0, h.0, refl), some-more _ _ g.1 h.1, within-max l _ _ g.2 h.2, omega (arith, length-append s t, h.3))
-
-pub none-good : (l : Limit) (p : ℕ) → p ≤ greatest_offset → AreGood no_items l [] p
-none-good l p h = (refl, refl, within-zero l, omega arith)
-
--- ---- pairs as items
-
-abbrev pub flat : Pairs → Items
-flat no_pairs = no_items
-flat (pair k v ps) = item k (item v (flat ps))
-
-pub flat-Spells : (ps : Pairs) (b : List ℕ) → SpellsPairs b ps → SpellsItems b (flat ps)
-flat-Spells no_pairs b h = h
-flat-Spells (pair k v ps) b h = (h.0, h.1 ++ h.2, h.3, (h.1, h.2, h.4, flat-Spells ps h.2 h.5, refl), h.6)
-
-pub Spells-flat : (ps : Pairs) (b : List ℕ) → SpellsItems b (flat ps) → SpellsPairs b ps
-Spells-flat no_pairs b h = h
-Spells-flat (pair k v ps) b h = (
-  h.0,
-  h.3.0,
-  h.3.1,
-  h.2,
-  h.3.2,
-  Spells-flat ps h.3.1 h.3.3,
-  h.4 ∙
-      ap (λ (c : List ℕ). h.0 ++ c) h.3.4,
-)
-
-pub flat-meaning : (ps : Pairs) → IsSome (pairs_meaning ps) → IsSome (items_meaning (flat ps))
-flat-meaning no_pairs h = refl
-flat-meaning (pair k v ps) h =
-    let m = more_pairs-some _ _ _ h in some-more _ _ m.0 (some-more _ _ m.1 (flat-meaning ps m.2))
-
-pub meaning-flat : (ps : Pairs) → IsSome (items_meaning (flat ps)) → IsSome (pairs_meaning ps)
-meaning-flat no_pairs h = refl
-meaning-flat (pair k v ps) h =
-    let m = more-some _ _ h in let n = more-some _ _ m.1 in some-more_pairs _ _ _ m.0 n.0 (meaning-flat ps n.1)
-
-pub flat-nesting : (ps : Pairs) → items_nesting (flat ps) ≡ pairs_nesting ps
-flat-nesting no_pairs = refl
-flat-nesting (pair k v ps) = let e = flat-nesting ps in omega (arith, e)
-
-pub flat-count : (ps : Pairs) → items_count (flat ps) ≡ 2 * pairs_count ps
-flat-count no_pairs = refl
-flat-count (pair k v ps) = let e = flat-count ps in omega (arith, e)
-
-pub flat-after : (ps : Pairs) → due_after keys_until_break (flat ps) ≡ keys_until_break
-flat-after no_pairs = refl
-flat-after (pair k v ps) = flat-after ps
-
-pub after-left : (is : Items) (n : ℕ) → due_after (exactly n) is ≡ exactly (n - items_count is)
-after-left no_items n = ap exactly (omega arith)
-after-left (item i is) n = after-left is (n - 1) ∙ ap exactly (omega arith)
-
-pub after-items : (is : Items) → due_after items_until_break is ≡ items_until_break
-after-items no_items = refl
-after-items (item i is) = after-items is
-
--- the items are pairs
-abbrev pub ArePairs : Items → Type 0
-ArePairs is = (ps : Pairs) × (flat ps ≡ is)
-
--- an open map is at a key's place again
-pub pairs-open : (is : Items) → due_after keys_until_break is ≡ keys_until_break → ArePairs is
-pairs-open no_items h = (no_pairs, refl)
-pairs-open (item k no_items) h = absurd cc
-pairs-open (item k (item v is)) h = let q = pairs-open is h in (pair k v q.0, ap (λ js. item k (item v js)) q.1)
-
-pub pairs-counted : (is : Items) (n : ℕ) → items_count is ≡ 2 * n → ArePairs is
-pairs-counted no_items n h = (no_pairs, refl)
-pairs-counted (item k no_items) n h = let never : ⊥ = omega arith in absurd never
-pairs-counted (item k (item v is)) n h = let q = pairs-counted is (n - 1) (omega arith) in
-    (pair k v q.0, ap (λ js. item k (item v js)) q.1)
-
--- ---- limits
-
 -- the limit below, for what nests one level
 pub lower : (l : Limit) (n : ℕ) → IsWithin l (suc n) → (m : Limit) × IsWithin m n × IsOneLess l m
 lower None n h = (None, tt, tt)
@@ -164,42 +54,371 @@ raise None m n h k = tt
 raise (Some l) None n h k = absurd h
 raise (Some l) (Some m) n h k = omega arith
 
-pub levels-below : (l m : Limit) (f : Limit → Answer) → IsOneLess l m → levels l f ≡ f m
+pub levels-below : {A : Type 0} (l m : Limit) (f : Limit → Answer A) → IsOneLess l m → levels l f ≡ f m
 levels-below None None f h = refl
 levels-below None (Some m) f h = absurd h
 levels-below (Some l) None f h = absurd h
 levels-below (Some zero) (Some m) f h = let never : ⊥ = omega arith in absurd never
 levels-below (Some (suc l)) (Some m) f h = let e : l ≡ m = omega arith in ap (λ k. f (Some k)) e
 
--- ---- one more item at the end, for a loop over a container's parts
+-- ---- what is due
 
-abbrev pub then : Items → Item → Items
-then no_items j = item j no_items
-then (item i is) j = item i (then is j)
+-- some parts are due where more than none follow
+pub due-first : (now : Due) (v : Tree) (vs : List Tree) (next : Due) → due_after now (v ∷ vs) ≡ Some next → (w : Due) ×
+    (next_due now ≡ Some w) × (due_after w vs ≡ Some next)
+due-first now v vs next h = by (next_due now) h
+  where
+    by : (o : Option Due) → option_and_then (λ w. due_after w vs) o ≡ Some next → (w : Due) × (o ≡ Some w) ×
+        (due_after w vs ≡ Some next)
+    by None k = absurd cc
+    by (Some w) k = (w, refl, k)
 
-pub then-after : (is : Items) (j : Item) (w : Due) → due_after w (then is j) ≡ next_due (due_after w is)
-then-after no_items j w = refl
-then-after (item i is) j w = then-after is j (next_due w)
+-- one part more
+pub due-more : (start : Due) (vs : List Tree) (v : Tree) (now next : Due) → due_after start vs ≡ Some now →
+    next_due now ≡ Some next → due_after start (vs ++ (v ∷ [])) ≡ Some next
+due-more start [] v now next h e =
+    let same : start ≡ now = cc in ap (λ w. option_and_then (λ n. Some n) (next_due w)) same ∙
+    ap (option_and_then (λ n. Some n)) e
+due-more start (u ∷ vs) v now next h e = by (next_due start) (λ w k. due-more w vs v now next k e) h
+  where
+    by : (o : Option Due) →
+        ((w : Due) → due_after w vs ≡ Some now → due_after w (vs ++ (v ∷ [])) ≡ Some next) →
+        option_and_then (λ n. due_after n vs) o ≡ Some now →
+        option_and_then (λ n. due_after n (vs ++ (v ∷ []))) o ≡ Some next
+    by None f k = absurd cc
+    by (Some w) f k = f w k
 
-pub then-count : (is : Items) (j : Item) → items_count (then is j) ≡ suc (items_count is)
-then-count no_items j = refl
-then-count (item i is) j = ap suc (then-count is j)
+pub counted-items : (vs : List Tree) (n : ℕ) → due_after (items (Some n)) vs ≡ Some (items (Some 0)) → length vs ≡ n
+counted-items [] n h = let same : n ≡ 0 = cc in sym same
+counted-items (v ∷ vs) zero h = absurd cc
+counted-items (v ∷ vs) (suc n) h = ap suc (counted-items vs n h)
 
-pub then-good : (is : Items) (j : Item) (l : Limit) (p : ℕ) (s t : List ℕ) → AreGood is l s p →
-    IsGood j l t (p + length s) → AreGood (then is j) l (s ++ t) p
-then-good no_items j l p s t g h =
-    let e : s ++ t ≡ t = ap (λ (c : List ℕ). c ++ t) g.0 in
-    let n : length s ≡ 0 = ap length g.0 in
-    subst (λ c. AreGood (item j no_items) l c p) (append-nil t ∙ sym e)
-    (more-good j no_items l p t [] (h.0, h.1, h.2, omega (arith, h.3))
-    (none-good l (p + length t) (omega (arith, h.3, n))))
-then-good (item i is) j l p s t g h =
-    let u : List ℕ = g.0.0 in
-    let v : List ℕ = g.0.1 in
-    let g2 : AreGood (item i is) l (u ++ v) p = subst (λ c. AreGood (item i is) l c p) g.0.4 g in
-    let ls : length s ≡ length u + length v = ap length g.0.4 ∙ length-append u v in
-    let at : p + length s ≡ p + length u + length v = omega (arith, ls) in
-    let rest : AreGood (then is j) l (v ++ t) (p + length u) =
-    then-good is j l (p + length u) v t (rest-good i is l p u v g.0.3 g2) (subst (IsGood j l t) at h) in
-    subst (λ c. AreGood (item i (then is j)) l c p) (sym (append_assoc u v t) ∙ ap (λ (c : List ℕ). c ++ t) (sym g.0.4))
-    (more-good i (then is j) l p u (v ++ t) (first-good i is l p u v g.0.2 g2) rest)
+-- keys and values in turn, a value last
+abbrev pub ArePaired : List Tree → Type 0
+ArePaired [] = Unit {0}
+ArePaired (k ∷ []) = ⊥
+ArePaired (k ∷ (v ∷ vs)) = ArePaired vs
+
+pub open-pairs : (vs : List Tree) → due_after (keys None) vs ≡ Some (keys None) → ArePaired vs
+open-pairs [] h = tt
+open-pairs (k ∷ []) h = absurd cc
+open-pairs (k ∷ (v ∷ vs)) h = open-pairs vs h
+
+pub counted-pairs : (vs : List Tree) (n : ℕ) → due_after (keys (Some n)) vs ≡ Some (keys (Some 0)) → ArePaired vs ×
+    (tree_pairs_count (pairs_in vs) ≡ n)
+counted-pairs [] n h = let same : n ≡ 0 = cc in (tt, sym same)
+counted-pairs (k ∷ vs) zero h = absurd cc
+counted-pairs (k ∷ []) (suc n) h = absurd cc
+counted-pairs (k ∷ (v ∷ vs)) (suc n) h = let r = counted-pairs vs n h in (r.0, ap suc r.1)
+
+-- ---- trees as their parts
+
+abbrev pub elements : Trees → List Tree
+elements no_trees = []
+elements (tree v vs) = v ∷ elements vs
+
+abbrev pub turns : TreePairs → List Tree
+turns no_tree_pairs = []
+turns (tree_pair k v ps) = k ∷ (v ∷ turns ps)
+
+pub elements-in : (ts : Trees) → trees_from (elements ts) ≡ ts
+elements-in no_trees = refl
+elements-in (tree v vs) = ap (tree v) (elements-in vs)
+
+pub turns-in : (ps : TreePairs) → pairs_in (turns ps) ≡ ps
+turns-in no_tree_pairs = refl
+turns-in (tree_pair k v ps) = ap (tree_pair k v) (turns-in ps)
+
+pub elements-due : (ts : Trees) → due_after (items (Some (trees_count ts))) (elements ts) ≡ Some (items (Some 0))
+elements-due no_trees = refl
+elements-due (tree v vs) = elements-due vs
+
+pub open-elements-due : (ts : Trees) → due_after (items None) (elements ts) ≡ Some (items None)
+open-elements-due no_trees = refl
+open-elements-due (tree v vs) = open-elements-due vs
+
+pub turns-due : (ps : TreePairs) → due_after (keys (Some (tree_pairs_count ps))) (turns ps) ≡ Some (keys (Some 0))
+turns-due no_tree_pairs = refl
+turns-due (tree_pair k v ps) = turns-due ps
+
+pub open-turns-due : (ps : TreePairs) → due_after (keys None) (turns ps) ≡ Some (keys None)
+open-turns-due no_tree_pairs = refl
+open-turns-due (tree_pair k v ps) = open-turns-due ps
+
+pub keys-turns : (ps : TreePairs) → keys_in (turns ps) ≡ keys_of ps
+keys-turns no_tree_pairs = refl
+keys-turns (tree_pair k v ps) = ap (λ (ks : List Tree). k ∷ ks) (keys-turns ps)
+
+pub keys-paired : (vs : List Tree) → ArePaired vs → keys_of (pairs_in vs) ≡ keys_in vs
+keys-paired [] h = refl
+keys-paired (k ∷ []) h = absurd h
+keys-paired (k ∷ (v ∷ vs)) h = ap (λ (ks : List Tree). k ∷ ks) (keys-paired vs h)
+
+-- a value changes no keys
+keys_in-value : (m n : Option ℕ) (vs : List Tree) (v : Tree) → due_after (keys m) vs ≡ Some (values n) →
+    keys_in (vs ++ (v ∷ [])) ≡ keys_in vs
+keys_in-value m n [] v h = absurd cc
+keys_in-value m n (k ∷ []) v h = refl
+keys_in-value None n (k ∷ (u ∷ vs)) v h = ap (λ (ks : List Tree). k ∷ ks) (keys_in-value None n vs v h)
+keys_in-value (Some zero) n (k ∷ (u ∷ vs)) v h = absurd cc
+keys_in-value (Some (suc m)) n (k ∷ (u ∷ vs)) v h = ap (λ (ks : List Tree). k ∷ ks) (keys_in-value (Some m) n vs v h)
+
+pub keys-value : (start : Due) (vs : List Tree) (v : Tree) (n : Option ℕ) → due_after start vs ≡ Some (values n) →
+    keys_among start (vs ++ (v ∷ [])) ≡ keys_among start vs
+keys-value (items m) vs v n h = refl
+keys-value (keys m) vs v n h = keys_in-value m n vs v h
+keys-value (values m) [] v n h = refl
+keys-value (values m) (u ∷ vs) v n h = keys_in-value m n vs v h
+
+-- ---- order of keys
+
+less-is : (o : Ordering) → is_less o ≡ true → o ≡ Less
+less-is Less h = refl
+less-is Equal h = absurd cc
+less-is Greater h = absurd cc
+
+pub in_order-is : (spelling : Spelling) (ks : List Tree) → in_order spelling ks ≡ true → AreInOrder spelling ks
+in_order-is any ks h = tt
+in_order-is (deterministic order) [] h = tt
+in_order-is (deterministic order) (k ∷ []) h = tt
+in_order-is (deterministic order) (k ∷ (j ∷ ks)) h = let a = and_true _ _ h in
+    (less-is (key_order order k j) a.0, in_order-is (deterministic order) (j ∷ ks) a.1)
+
+pub is-in_order : (spelling : Spelling) (ks : List Tree) → AreInOrder spelling ks → in_order spelling ks ≡ true
+is-in_order any ks h = refl
+is-in_order (deterministic order) [] h = refl
+is-in_order (deterministic order) (k ∷ []) h = refl
+is-in_order (deterministic order) (k ∷ (j ∷ ks)) h = ap (λ o. is_less o && rising order (j ∷ ks)) h.0 ∙
+    is-in_order (deterministic order) (j ∷ ks) h.1
+
+rising-before : (order : KeyOrder) (vs ws : List Tree) → AreRising order (keys_in (vs ++ ws)) →
+    AreRising order (keys_in vs)
+rising-before order [] ws h = tt
+rising-before order (k ∷ []) ws h = tt
+rising-before order (k ∷ (v ∷ [])) ws h = tt
+rising-before order (k ∷ (v ∷ (j ∷ vs))) ws h = (h.0, rising-before order (j ∷ vs) ws h.1)
+
+-- the parts before others are in order
+pub order-before : (spelling : Spelling) (start : Due) (vs ws : List Tree) →
+    AreInOrder spelling (keys_among start (vs ++ ws)) → AreInOrder spelling (keys_among start vs)
+order-before any start vs ws h = tt
+order-before (deterministic order) (items n) vs ws h = tt
+order-before (deterministic order) (keys n) vs ws h = rising-before order vs ws h
+order-before (deterministic order) (values n) [] ws h = tt
+order-before (deterministic order) (values n) (v ∷ vs) ws h = rising-before order vs ws h
+
+-- ---- lists of what is read, one more
+
+pub read-more : (spelling : Spelling) (vs : List Tree) (s t : List ℕ) (v : Tree) (p : ℕ) (l : Limit) →
+    AreReadAs spelling s p l vs → IsReadAs spelling t (p + length s) l v →
+    AreReadAs spelling (s ++ t) p l (vs ++ (v ∷ []))
+read-more spelling [] s t v p l h k =
+    let none : length s ≡ 0 = ap length h in (
+      t,
+      [],
+      subst (λ q. IsReadAs spelling t q l v) (omega (arith, none)) k,
+      refl,
+      ap (λ (c : List ℕ). c ++ t) h ∙ sym (append-nil t),
+    )
+read-more spelling (w ∷ vs) s t v p l (a, b, first, rest, e) k =
+    let len : length s ≡ length a + length b = ap length e ∙ length-append a b in (
+      a,
+      b ++ t,
+      first,
+      read-more spelling vs b t v (p + length a) l rest (subst (λ q. IsReadAs spelling t q l v) (omega (arith, len)) k),
+      ap (λ (c : List ℕ). c ++ t) e ∙ append_assoc a b t,
+    )
+
+-- ---- as items
+
+pub items-read : (vs : List Tree) (s : List ℕ) (p : ℕ) (l : Limit) → AreReadAs any s p l vs → (is : Items) ×
+    SpellsItems s is × (items_meaning is ≡ Some (trees_from vs)) × IsWithin l (items_nesting is) ×
+    (items_count is ≡ length vs)
+items-read [] s p l h = (no_items, h, refl, within-zero l, refl)
+items-read (v ∷ vs) s p l (a, b, (i, spelled, means, nests, fits, so), rest, e) =
+    let r = items-read vs b (p + length a) l rest in (
+      item i r.0,
+      (a, b, spelled, r.1, e),
+      ap (λ o. trees_more o (items_meaning r.0)) means ∙ ap (trees_more (Some v)) r.2,
+      within-max l _ _ nests r.3,
+      ap suc r.4,
+    )
+
+pub pairs-read : (vs : List Tree) (s : List ℕ) (p : ℕ) (l : Limit) → ArePaired vs → AreReadAs any s p l vs →
+    (ps : Pairs) × SpellsPairs s ps × (pairs_meaning ps ≡ Some (pairs_in vs)) × IsWithin l (pairs_nesting ps) ×
+    (pairs_count ps ≡ tree_pairs_count (pairs_in vs))
+pairs-read [] s p l even h = (no_pairs, h, refl, within-zero l, refl)
+pairs-read (k ∷ []) s p l even h = absurd even
+pairs-read (k ∷ (v ∷ vs)) s p l even (a, b, (i, s1, m1, n1, f1, so), (c, d, (j, s2, m2, n2, f2, then), rest, f), e) =
+    let r = pairs-read vs d (p + length a + length c) l even rest in (
+      pair i j r.0,
+      (a, c, d, s1, s2, r.1, e ∙ ap (λ (z : List ℕ). a ++ z) f),
+      ap (λ o. tree_pairs_more o (meaning j) (pairs_meaning r.0)) m1 ∙
+          ap (λ o. tree_pairs_more (Some k) o (pairs_meaning r.0)) m2 ∙ ap (tree_pairs_more (Some k) (Some v)) r.2,
+      within-max l _ _ (within-max l _ _ n1 n2) r.3,
+      ap suc r.4,
+    )
+
+trees-some : (m : Option Tree) (ms : Option Trees) (ts : Trees) → trees_more m ms ≡ Some ts → (v : Tree) ×
+    (vs : Trees) × (m ≡ Some v) × (ms ≡ Some vs) × (ts ≡ tree v vs)
+trees-some None ms ts e = absurd cc
+trees-some (Some v) None ts e = absurd cc
+trees-some (Some v) (Some vs) ts e = (v, vs, refl, refl, cc)
+
+pairs-some : (m n : Option Tree) (ms : Option TreePairs) (ts : TreePairs) → tree_pairs_more m n ms ≡ Some ts →
+    (k : Tree) × (v : Tree) × (ps : TreePairs) × (m ≡ Some k) × (n ≡ Some v) × (ms ≡ Some ps) ×
+    (ts ≡ tree_pair k v ps)
+pairs-some None n ms ts e = absurd cc
+pairs-some (Some k) None ms ts e = absurd cc
+pairs-some (Some k) (Some v) None ts e = absurd cc
+pairs-some (Some k) (Some v) (Some ps) ts e = (k, v, ps, refl, refl, refl, cc)
+
+pub read-items : (is : Items) (ts : Trees) (s : List ℕ) (p : ℕ) (l : Limit) → SpellsItems s is →
+    items_meaning is ≡ Some ts → IsWithin l (items_nesting is) → p + length s ≤ greatest_offset →
+    AreReadAs any s p l (elements ts) × (items_count is ≡ trees_count ts)
+read-items no_items ts s p l h means nests fits =
+    let none : no_trees ≡ ts = cc in
+    subst (λ us. AreReadAs any s p l (elements us) × (0 ≡ trees_count us)) none (h, refl)
+read-items (item i is) ts s p l (a, b, spelled, rest, e) means nests fits =
+    let m = trees-some (meaning i) (items_meaning is) ts means in
+    let len : length s ≡ length a + length b = ap length e ∙ length-append a b in
+    let r = read-items is m.1 b (p + length a) l rest m.3 (within-right l _ _ nests) (omega (arith, len, fits)) in
+    subst (λ us. AreReadAs any s p l (elements us) × (suc (items_count is) ≡ trees_count us)) (sym m.4)
+    ((a, b, (i, spelled, m.2, within-left l _ _ nests, omega (arith, len, fits), tt), r.0, e), ap suc r.1)
+
+pub read-pairs : (ps : Pairs) (ts : TreePairs) (s : List ℕ) (p : ℕ) (l : Limit) → SpellsPairs s ps →
+    pairs_meaning ps ≡ Some ts → IsWithin l (pairs_nesting ps) → p + length s ≤ greatest_offset →
+    AreReadAs any s p l (turns ts) × (pairs_count ps ≡ tree_pairs_count ts)
+read-pairs no_pairs ts s p l h means nests fits =
+    let none : no_tree_pairs ≡ ts = cc in
+    subst (λ us. AreReadAs any s p l (turns us) × (0 ≡ tree_pairs_count us)) none (h, refl)
+read-pairs (pair i j ps) ts s p l (a, b, c, s1, s2, rest, e) means nests fits =
+    let m = pairs-some (meaning i) (meaning j) (pairs_meaning ps) ts means in
+    let l1 : length s ≡ length a + length (b ++ c) = ap length e ∙ length-append a (b ++ c) in
+    let l2 : length (b ++ c) ≡ length b + length c = length-append b c in
+    let both = within-left l _ _ nests in
+    let r = read-pairs ps m.2 c (p + length a + length b) l rest m.5 (within-right l _ _ nests)
+    (omega (arith, l1, l2, fits)) in
+    subst (λ us. AreReadAs any s p l (turns us) × (suc (pairs_count ps) ≡ tree_pairs_count us)) (sym m.6) (
+      (
+        a,
+        b ++ c,
+        (i, s1, m.3, within-left l _ _ both, omega (arith, l1, fits), tt),
+        (b, c, (j, s2, m.4, within-right l _ _ both, omega (arith, l1, l2, fits), tt), r.0, refl),
+        e,
+      ),
+      ap suc r.1,
+    )
+
+-- ---- as encodings
+
+module _ (order : KeyOrder) where
+  -- what the trees of deterministic encodings in a row have in common
+  abbrev pub AreAllowed : Limit → Trees → Type 0
+  AreAllowed l ts = AreProperTrees ts × (trees_folded ts ≡ Some ts) × HaveRisingKeys order ts ×
+      IsWithin l (items_nesting (items_of ts))
+
+  abbrev pub PairsAreAllowed : Limit → TreePairs → Type 0
+  PairsAreAllowed l ps = AreProperTreePairs ps × (tree_pairs_folded ps ≡ Some ps) × PairsHaveRisingKeys order ps ×
+      IsWithin l (pairs_nesting (pairs_of ps))
+
+  pub trees-written : (vs : List Tree) (s : List ℕ) (p : ℕ) (l : Limit) → AreReadAs (deterministic order) s p l vs →
+      (s ≡ items_bytes (items_of (trees_from vs))) × AreAllowed l (trees_from vs) ×
+      (items_count (items_of (trees_from vs)) ≡ length vs) × (trees_count (trees_from vs) ≡ length vs)
+  trees-written [] s p l h = (h, (tt, refl, tt, within-zero l), refl, refl)
+  trees-written (v ∷ vs) s p l (a, b, first, rest, e) =
+      let ((bytes, c), nests, fits) = canonical order a p l v first in
+      let r = trees-written vs b (p + length a) l rest in
+      let w = r.1 in (
+        e ∙ ap (λ (z : List ℕ). z ++ b) bytes ∙ ap (λ (z : List ℕ). encoding v ++ z) r.0,
+        (
+          (c.proper, w.0),
+          ap (λ o. trees_more o (trees_folded (trees_from vs))) c.folds ∙ ap (trees_more (Some v)) w.1,
+          (c.rises, w.2),
+          within-max l _ _ nests w.3,
+        ),
+        ap suc r.2,
+        ap suc r.3,
+      )
+
+  pub pairs-written : (vs : List Tree) (s : List ℕ) (p : ℕ) (l : Limit) → ArePaired vs →
+      AreReadAs (deterministic order) s p l vs → (s ≡ pairs_bytes (pairs_of (pairs_in vs))) ×
+      PairsAreAllowed l (pairs_in vs) × (pairs_count (pairs_of (pairs_in vs)) ≡ tree_pairs_count (pairs_in vs))
+  pairs-written [] s p l even h = (h, (tt, refl, tt, within-zero l), refl)
+  pairs-written (k ∷ []) s p l even h = absurd even
+  pairs-written (k ∷ (v ∷ vs)) s p l even (a, b, first, (c, d, second, rest, f), e) =
+      let ((b1, t1), n1, f1) = canonical order a p l k first in
+      let ((b2, t2), n2, f2) = canonical order c (p + length a) l v second in
+      let r = pairs-written vs d (p + length a + length c) l even rest in
+      let w = r.1 in
+      let ps : TreePairs = pairs_in vs in (
+        e ∙ ap (λ (z : List ℕ). z ++ b) b1 ∙ ap (λ (z : List ℕ). encoding k ++ z)
+            (f ∙ ap (λ (z : List ℕ). z ++ d) b2 ∙ ap (λ (z : List ℕ). encoding v ++ z) r.0),
+        (
+          (t1.proper, t2.proper, w.0),
+          ap (λ o. tree_pairs_more o (folded v) (tree_pairs_folded ps)) t1.folds ∙
+              ap (λ o. tree_pairs_more (Some k) o (tree_pairs_folded ps)) t2.folds ∙
+              ap (tree_pairs_more (Some k) (Some v)) w.1,
+          (t1.rises, t2.rises, w.2),
+          within-max l _ _ (within-max l _ _ n1 n2) w.3,
+        ),
+        ap suc r.2,
+      )
+
+  more-folds : (m : Option Tree) (ms : Option Trees) (v : Tree) (vs : Trees) → trees_more m ms ≡ Some (tree v vs) →
+      (m ≡ Some v) × (ms ≡ Some vs)
+  more-folds None ms v vs e = absurd cc
+  more-folds (Some w) None v vs e = absurd cc
+  more-folds (Some w) (Some ws) v vs e = (cc, cc)
+
+  pairs-fold : (m n : Option Tree) (ms : Option TreePairs) (k v : Tree) (ps : TreePairs) →
+      tree_pairs_more m n ms ≡ Some (tree_pair k v ps) → (m ≡ Some k) × (n ≡ Some v) × (ms ≡ Some ps)
+  pairs-fold None n ms k v ps e = absurd cc
+  pairs-fold (Some j) None ms k v ps e = absurd cc
+  pairs-fold (Some j) (Some w) None k v ps e = absurd cc
+  pairs-fold (Some j) (Some w) (Some qs) k v ps e = (cc, cc, cc)
+
+  pub written-trees : (ts : Trees) (p : ℕ) (l : Limit) → AreAllowed l ts →
+      p + length (items_bytes (items_of ts)) ≤ greatest_offset →
+      AreReadAs (deterministic order) (items_bytes (items_of ts)) p l (elements ts)
+  written-trees no_trees p l h fits = refl
+  written-trees (tree v ts) p l (proper, folds, rises, nests) fits =
+      let m = more-folds (folded v) (trees_folded ts) v ts folds in
+      let b : List ℕ = items_bytes (items_of ts) in
+      let len : length (encoding v ++ b) ≡ length (encoding v) + length b = length-append (encoding v) b in (
+        encoding v,
+        b,
+        accepted order (encoding v) p l v (refl, record { proper = proper.0; folds = m.0; rises = rises.0 })
+            (within-left l _ _ nests) (omega (arith, len, fits)),
+        written-trees ts (p + length (encoding v)) l
+            (proper.1, m.1, rises.1, within-right l _ _ nests) (omega (arith, len, fits)),
+        refl,
+      )
+
+  pub written-pairs : (ps : TreePairs) (p : ℕ) (l : Limit) → PairsAreAllowed l ps →
+      p + length (pairs_bytes (pairs_of ps)) ≤ greatest_offset →
+      AreReadAs (deterministic order) (pairs_bytes (pairs_of ps)) p l (turns ps)
+  written-pairs no_tree_pairs p l h fits = refl
+  written-pairs (tree_pair k v ps) p l (proper, folds, rises, nests) fits =
+      let m = pairs-fold (folded k) (folded v) (tree_pairs_folded ps) k v ps folds in
+      let b : List ℕ = pairs_bytes (pairs_of ps) in
+      let l1 : length (encoding k ++ (encoding v ++ b)) ≡ length (encoding k) + length (encoding v ++ b) =
+      length-append (encoding k) (encoding v ++ b) in
+      let l2 : length (encoding v ++ b) ≡ length (encoding v) + length b = length-append (encoding v) b in
+      let both = within-left l _ _ nests in (
+        encoding k,
+        encoding v ++ b,
+        accepted order (encoding k) p l k (refl, record { proper = proper.0; folds = m.0; rises = rises.0 })
+            (within-left l _ _ both) (omega (arith, l1, fits)),
+        (
+          encoding v,
+          b,
+          accepted order (encoding v) (p + length (encoding k)) l v
+              (refl, record { proper = proper.1; folds = m.1; rises = rises.1 }) (within-right l _ _ both)
+              (omega (arith, l1, l2, fits)),
+          written-pairs ps (p + length (encoding k) + length (encoding v)) l
+              (proper.2, m.2, rises.2, within-right l _ _ nests) (omega (arith, l1, l2, fits)),
+          refl,
+        ),
+        refl,
+      )

@@ -17,7 +17,7 @@ use Rattle.ciborium_value.specs.ProperTrees.{IsProperTree, AreProperTrees, ArePr
 use Rattle.ciborium_value.specs.Tree as trees
 use Rattle.ciborium_value.specs.Tree.{Tree, Trees, TreePairs, trees_count, tree_pairs_count}
 use Rattle.ciborium_value.proofs.GoodItems.Bounded.{enclosed-shorter, string-longer, zeros-shorter}
-use Rattle.ciborium_value.proofs.GoodItems.Found.{spells-pos}
+use Rattle.ciborium_value.proofs.GoodItems.Spelled.{spells-pos}
 
 -- ---- proper, where there is one
 

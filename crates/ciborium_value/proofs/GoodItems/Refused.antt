@@ -1,262 +1,83 @@
 -- What refuses at the front is what the reader answers.
-use Rattle.std.proofs.Common.{◌≡◌, ℕ, zero, suc, ◌+◌, ◌-◌, ◌*◌, ◌^◌, ◌<◌, ◌≤◌, cond, ltb, leb, eqb, Bool, true, false}
-use Rattle.std.proofs.Common.{◌&&◌, List, [], ◌∷◌, ◌++◌, length, Option, Some, None, is_some, refl, sym, ap, ◌∙◌, subst}
-use Rattle.std.proofs.Common.{arith, inl, inr, length-append, append_assoc, lt-ltb, le-ltb, eq-eqb, eqb-true, ltb-true}
-use Rattle.std.proofs.Common.{le-leb, leb-true}
-use Rattle.std.proofs.Common.{take}
+use Rattle.std.proofs.Common.{◌≡◌, ℕ, zero, suc, ◌+◌, ◌-◌, ◌*◌, ◌^◌, ◌<◌, ◌≤◌, cond, ltb, eqb, Bool, true, false, ◌&&◌}
+use Rattle.std.proofs.Common.{List, [], ◌∷◌, ◌++◌, length, take, Option, Some, None, refl, sym, ap, ◌∙◌, subst}
+use Rattle.std.proofs.Common.{arith, length-append, lt-ltb, le-ltb, eq-eqb, eqb-true, ltb-true}
 use Rattle.std.proofs.Math.Seq.{take-append_seam}
-use Rattle.std.proofs.lemmas.Str.{IsUtf8-from_is_utf8}
-use Rattle.ciborium_ll.specs.Item.{Items, items_count}
-use Rattle.ciborium_ll.specs.Spells.{IsDefiniteString}
-use Rattle.ciborium_ll.specs.Head.{IsSimple}
-use Rattle.ciborium_value.specs.Meaning.{big_endian, is_bignum_tag}
-use Rattle.ciborium_ll.specs.Refusal.{Refusal, syntax, semantic, Float, TooLarge, IsUsable, HeadRefuses, HasHead}
-use Rattle.ciborium_ll.specs.Refusal.{IsAtFront}
-use Rattle.std.specs.List.{AllByRecursion}
-use Rattle.std.proofs.lemmas.List.Elements.{All-from_recursion}
 use Rattle.ciborium_ll.specs.Bytes.{AreBytes, greatest_offset}
-use Rattle.ciborium_value.specs.Nesting.{Limit}
+use Rattle.ciborium_ll.specs.Head.{IsSimple}
+use Rattle.ciborium_ll.specs.Refusal.{Kind, Refusal, syntax, semantic, Float, Simple, Break, TooLarge, NotFolded}
+use Rattle.ciborium_ll.specs.Refusal.{recursion_limit_exceeded, IsUsable, HeadRefuses, HasHead, IsAtFront}
+use Rattle.ciborium_ll.specs.Refusal as refusal
 use Rattle.ciborium_ll.specs.StringRefusal.{StringKind, of_bytes, of_text, string_major, IsAllowed, PayloadRefuses}
 use Rattle.ciborium_ll.specs.StringRefusal.{StringRefuses, ChunkRefuses, OpenStringRefuses, HasStringHead}
-use Rattle.ciborium_value.specs.Refuses.{Due, exactly, items_until_break, keys_until_break, values_until_break}
-use Rattle.ciborium_value.specs.Refuses.{next_due, due_after, BeginsContainer, IsDue, IsFoldingAt, Refuses}
-use Rattle.ciborium_ll.proofs.FrontHeads.{Front, nothing, counted, opened, plain, raw, front, front-simple}
-use Rattle.ciborium_ll.proofs.UsableHeads.{EachIsByte, bytes_after, stands-front, stands-length, IsStringMajor, pass}
+use Rattle.ciborium_ll.proofs.FrontHeads.{Front, nothing, counted, opened, plain, raw, front}
 use Rattle.ciborium_ll.proofs.ReadHeads.{Face, faces}
-use Rattle.ciborium_value.proofs.GoodItems.Reader.{Answer, ends, refused, and_then, past, allowed, string, piece}
-use Rattle.ciborium_value.proofs.GoodItems.Reader.{pieces, levels, break_at, end_at, or_end, short, folding, payload}
-use Rattle.ciborium_value.proofs.GoodItems.Reader.{is_too_large, bignum, tagged, counted_item, opened_item, item_at}
-use Rattle.ciborium_value.proofs.GoodItems.Reader.{read, parts}
-use Rattle.ciborium_value.proofs.GoodItems.Parts.{after-left, levels-below}
-use Rattle.ciborium_value.proofs.GoodItems.Steps.{hold, checked-none, checked-some, read-head, read-counted}
-use Rattle.ciborium_value.proofs.GoodItems.Steps.{read-opened, string-good, pieces-run}
-use Rattle.ciborium_value.proofs.GoodItems.Found.{IsRoom, parts-run, utf8_allowed}
+use Rattle.ciborium_ll.proofs.UsableHeads.{EachIsByte, bytes_after, stands-front, stands-length, pass}
+use Rattle.ciborium_value.specs.Meaning.{simple_meaning, big_endian}
+use Rattle.ciborium_value.specs.Nesting.{Limit}
+use Rattle.ciborium_value.specs.Refuses.{HasGoodHead, Due, items, keys, values, keys_among, IsDue}
+use Rattle.ciborium_value.specs.Refuses.{BeginsContainer, IsInside, IsTagAt, IsFoldingAt, Refuses}
+use Rattle.ciborium_value.specs.Spelling.{Spelling, any, deterministic, IsReadAs, spelling_fault, IsUnwanted}
+use Rattle.ciborium_value.specs.Tree as trees
+use Rattle.ciborium_value.specs.Tree.{Tree}
+use Rattle.ciborium_value.specs.inner.ReadItems.{string_tree, container_of}
+use Rattle.ciborium_value.proofs.GoodItems.Answered.{kind_ok, rest-bytes}
+use Rattle.ciborium_value.proofs.GoodItems.Bignums.{foldable-small, foldable-is, is-foldable, large-none}
+use Rattle.ciborium_value.proofs.GoodItems.Faults.{fault-break, fault-float, fault-simple}
+use Rattle.ciborium_value.proofs.GoodItems.Found.{kind_allowed, kind_below, simple-front, read-good, parts-run}
+use Rattle.ciborium_value.proofs.GoodItems.Introduced.{folding-reads}
+use Rattle.ciborium_value.proofs.GoodItems.Parts.{levels-below, in_order-is}
+use Rattle.ciborium_value.proofs.GoodItems.Reader.{Answer, ends, refused, and_then, made, given, past, allowed, string}
+use Rattle.ciborium_value.proofs.GoodItems.Reader.{chunk, piece, pieces, levels, break_at, end_at, or_end, is_unwanted}
+use Rattle.ciborium_value.proofs.GoodItems.Reader.{bignum, counted_item, opened_item, next_part, read, parts}
+use Rattle.ciborium_value.proofs.GoodItems.Spelled.{folds-front, seen-folds, not_so, each_is_byte}
+use Rattle.ciborium_value.proofs.GoodItems.Steps.{hold, checked-none, checked-some, read-head, read-fault, read-counted}
+use Rattle.ciborium_value.proofs.GoodItems.Steps.{read-opened, opens-read, tag-at, pieces-run}
 
-pub counted-at : (d p q : ℕ) (b : List ℕ) (l : Limit) (m n k : ℕ) (r : List ℕ) → 0 < d → m < 7 → HasHead b m n k r →
-    IsUsable b p → q ≡ p + k →
-    read d b p l ≡ counted_item (read (d - 1)) (parts (d - 1)) m n r p q l
-counted-at zero p q b l m n k r pos lt s h e = let never : ⊥ = omega arith in absurd never
-counted-at (suc d) p q b l m n k r pos lt s h e =
-    read-counted d p q b l m n k r lt s h e ∙ ap (λ c. counted_item (read c) (parts c) m n r p q l) (omega arith)
-
-opened-at : (d p : ℕ) (b : List ℕ) (l : Limit) (m : ℕ) (r : List ℕ) → 0 < d → b ≡ (m * 32 + 31) ∷ r → IsUsable b p →
-    read d b p l ≡ opened_item (parts (d - 1)) (pieces (d - 1)) m r p l
-opened-at zero p b l m r pos e h = let never : ⊥ = omega arith in absurd never
-opened-at (suc d) p b l m r pos e h = read-opened d p b l m r e h ∙
-    ap (λ c. opened_item (parts c) (pieces c) m r p l) (omega arith)
-
-head-at : (d p : ℕ) (b : List ℕ) (l : Limit) (f : Front) → 0 < d → IsUsable b p → front b ≡ f →
-    read d b p l ≡ item_at (read (d - 1)) (parts (d - 1)) (pieces (d - 1)) b p l f
-head-at zero p b l f pos h e = let never : ⊥ = omega arith in absurd never
-head-at (suc d) p b l f pos h e = read-head d p b l f h e ∙
-    ap (λ c. item_at (read c) (parts c) (pieces c) b p l f) (omega arith)
-
-head-refused : (d p : ℕ) (b : List ℕ) (l : Limit) (e : Refusal) → 0 < d → HeadRefuses b p e → read d b p l ≡ refused e
-head-refused zero p b l e pos h = let never : ⊥ = omega arith in absurd never
-head-refused (suc d) p b l e pos h = checked-some b p _ e h
-
--- ---- strings
-
-pub rest-bytes : (b h r : List ℕ) → b ≡ h ++ r → EachIsByte b → EachIsByte r
-rest-bytes b h r e x = bytes_after h r (subst EachIsByte e x)
-
--- the head of a string that refuses, and what reading it answers
-abbrev Refusing : ℕ → List ℕ → ℕ → Refusal → Type 0
-Refusing m b p e = (n : ℕ) × (k : ℕ) × (r : List ℕ) × HasHead b m n k r × ((u : ℕ) → string m n r p u ≡ refused e)
-
-not_ok : (t : Bool) → (t ≡ true → ⊥) → t ≡ false
-not_ok true h = absurd (h refl)
-not_ok false h = refl
-
-pub bytes_again : (b : List ℕ) → EachIsByte b → AllByRecursion (λ n. n < 256) b
-bytes_again [] h = tt
-bytes_again (x ∷ b) h = (h.0, bytes_again b h.1)
-
-pub front_bytes : (s r : List ℕ) → EachIsByte (s ++ r) → EachIsByte s
+front_bytes : (s r : List ℕ) → EachIsByte (s ++ r) → EachIsByte s
 front_bytes [] r h = tt
 front_bytes (x ∷ s) r h = (h.0, front_bytes s r h.1)
 
-pub kind_ok : (c : StringKind) (t : List ℕ) → EachIsByte t → allowed (string_major c) t ≡ true → IsAllowed c t
-kind_ok of_bytes t bytes h = All-from_recursion (λ n. n < 256) t (bytes_again t bytes)
-kind_ok of_text t bytes h = IsUtf8-from_is_utf8 t h
-
-pub kind_allowed : (c : StringKind) (t : List ℕ) → IsAllowed c t → allowed (string_major c) t ≡ true
-kind_allowed of_bytes t h = refl
-kind_allowed of_text t h = utf8_allowed t h
-
-pub kind_major : (c : StringKind) → IsStringMajor (string_major c)
-kind_major of_bytes = inl refl
-kind_major of_text = inr refl
-
-pub kind_below : (c : StringKind) → string_major c < 7
-kind_below of_bytes = omega arith
-kind_below of_text = omega arith
+-- ---- strings
 
 payload-refused : (c : StringKind) {n p : ℕ} {r : List ℕ} {e : Refusal} → PayloadRefuses c n p r e → EachIsByte r →
     (u : ℕ) → string (string_major c) n r p u ≡ refused e
 payload-refused c {n} {r = r} (PayloadRefuses.ends_early h) bytes u = hold _ _ _ (lt-ltb (length r) n h)
 payload-refused c {n} {p} (PayloadRefuses.not_allowed y r l h) bytes u =
-    pass _ _ _ (le-ltb (length (y ++ r)) n (omega (arith, l, length-append y r))) ∙
+    pass _ _ _ (le-ltb (length (y ++ r)) n (let k : length (y ++ r) ≡ length y + length r = length-append y r in
+    omega (arith, l, k))) ∙
     pass _ _ _ (ap (λ k. allowed (string_major c) (take k (y ++ r))) (sym l) ∙
     ap (allowed (string_major c)) (take-append_seam y r) ∙
-    not_ok _ (λ t. h (kind_ok c y (front_bytes y r bytes) t)))
+    not_so _ (λ t. h (kind_ok c y (front_bytes y r bytes) t)))
 
-string-refusing : (c : StringKind) {b : List ℕ} {p : ℕ} {e : Refusal} → StringRefuses c b p e → EachIsByte b →
-    Refusing (string_major c) b p e
-string-refusing c {b} (n, k, r, s, f) bytes = (n, k, r, s, payload-refused c f (rest-bytes b s.0 r s.3 bytes))
-
-string-at : (d p : ℕ) (b : List ℕ) (l : Limit) (m : ℕ) (e : Refusal) → IsStringMajor m → 0 < d → IsUsable b p →
-    Refusing m b p e → read d b p l ≡ refused e
-string-at d p b l m e (inl j) pos h s =
-    counted-at d p (p + s.1) b l m s.0 s.1 s.2 pos (omega arith) s.3 h refl ∙
-    ap (λ k. counted_item (read (d - 1)) (parts (d - 1)) k s.0 s.2 p (p + s.1) l) j ∙
-    ap (λ k. string k s.0 s.2 p (p + s.1)) (sym j) ∙ s.4 (p + s.1)
-string-at d p b l m e (inr j) pos h s =
-    counted-at d p (p + s.1) b l m s.0 s.1 s.2 pos (omega arith) s.3 h refl ∙
-    ap (λ k. counted_item (read (d - 1)) (parts (d - 1)) k s.0 s.2 p (p + s.1) l) j ∙
-    ap (λ k. string k s.0 s.2 p (p + s.1)) (sym j) ∙ s.4 (p + s.1)
-
-other-refused : (c : StringKind) (b : List ℕ) (q : ℕ) (more : List ℕ → ℕ → Answer) → (HasStringHead c b → ⊥) →
+other-refused : (c : StringKind) (b : List ℕ) (q : ℕ) (more : List ℕ → ℕ → Answer (List ℕ)) → (HasStringHead c b → ⊥) →
     (IsAtFront 255 b → ⊥) → (f : Front) → Face b q f → piece more (string_major c) b q f ≡ refused (syntax q)
 other-refused c b q more x y nothing f = absurd f
 other-refused c b q more x y (counted k n r) f = pass _ _ _
-    (not_ok _ (λ t. x (n, f.1, r, subst (λ j. HasHead b j n f.1 r) (eqb-true k (string_major c) t) f.2)))
+    (not_so _ (λ t. x (n, f.1, r, subst (λ j. HasHead b j n f.1 r) (eqb-true k (string_major c) t) f.2)))
 other-refused c b q more x y (opened k r) f = pass _ _ _
-    (not_ok _ (λ t. y (r, f.0 ∙ ap (λ j. (j * 32 + 31) ∷ r) (eqb-true k 7 t))))
+    (not_so _ (λ t. y (r, f.0 ∙ ap (λ j. (j * 32 + 31) ∷ r) (eqb-true k 7 t))))
 other-refused c b q more x y (plain n r) f = refl
 other-refused c b q more x y (raw w r) f = refl
 
 part-refused : (k : StringKind) (c : ℕ) → 0 < c → {b : List ℕ} {q : ℕ} {e : Refusal} → ChunkRefuses k b q e →
     EachIsByte b → pieces c (string_major k) b q ≡ refused e
-part-refused k zero pos f bytes = let never : ⊥ = omega arith in absurd never
+part-refused k zero pos f bytes = let never : ⊥ = omega (arith, pos) in absurd never
 part-refused k (suc c) pos {b} {q} {e} (ChunkRefuses.no_head h) bytes = checked-some b q _ e h
-part-refused k (suc c) pos {b} {q} {e} (ChunkRefuses.chunk h s) bytes =
-    let t = string-refusing k s bytes in
+part-refused k (suc c) pos {b} {q} {e} (ChunkRefuses.chunk h (n, j, r, st, f)) bytes =
     checked-none b q _ h ∙ ap (piece (pieces c (string_major k)) (string_major k) b q)
-    (stands-front b (string_major k) t.0 t.1 t.2 (kind_below k) t.3) ∙
+    (stands-front b (string_major k) n j r (kind_below k) st) ∙
     hold _ _ _ (eq-eqb (string_major k) (string_major k) refl) ∙
-    ap (and_then (pieces c (string_major k))) (t.4 (past q b t.2))
+    ap (and_then (chunk (pieces c (string_major k)))) (payload-refused k f (rest-bytes b st.0 r st.3 bytes)
+    (past q b r))
 part-refused k (suc c) pos {b} {q} {e} (ChunkRefuses.other h x y) bytes =
     checked-none b q _ h ∙ other-refused k b q (pieces c (string_major k)) x y (front b) (faces b q bytes h)
 
-open-refused : (k : StringKind) (d p : ℕ) (b : List ℕ) (l : Limit) (e : Refusal) → IsUsable b p →
-    OpenStringRefuses k b p e → EachIsByte b → 2 * length b < d → read d b p l ≡ refused e
-open-refused k d p b l e h (q, at, (good, payloads, r, parts_of, room, split, f)) bytes fuel =
-    let m : ℕ = string_major k in
-    let wh : b ≡ (m * 32 + 31) ∷ (good ++ r) = at ∙ ap (λ (c : List ℕ). (m * 32 + 31) ∷ c) split in
-    let lb : length b ≡ suc (length (good ++ r)) = ap length wh in
-    let br : EachIsByte (((m * 32 + 31) ∷ good) ++ r) = subst EachIsByte wh bytes in
-    opened-at d p b l m (good ++ r) (omega arith) wh h ∙ chosen k ∙
-    pieces-run m (IsAllowed k) (kind_below k) (kind_allowed k) (d - 1) payloads good r (good ++ r) (p + 1)
-    (p + 1 + length good) (refused e) parts_of refl refl room (omega arith)
-    (λ c lc. part-refused k c (omega arith) f (bytes_after ((m * 32 + 31) ∷ good) r br))
-  where
-    chosen : (c : StringKind) → opened_item (parts (d - 1)) (pieces (d - 1)) (string_major c) (good ++ r) p l ≡ pieces
-        (d - 1) (string_major c) (good ++ r) (p + 1)
-    chosen of_bytes = refl
-    chosen of_text = refl
+undefined : (n : ℕ) → simple_meaning n ≡ None → n ≡ 23 → ⊥
+unfolding simple_meaning
+undefined n none e = let no : simple_meaning 23 ≡ None = ap simple_meaning (sym e) ∙ none in absurd cc
 
--- ---- scalars
-
-pub float-front : (j : ℕ) (b : List ℕ) → j < 3 → (w : ℕ) × (front ((249 + j) ∷ b) ≡ raw w b)
-float-front zero b h = (2, refl)
-float-front (suc zero) b h = (4, refl)
-float-front (suc (suc zero)) b h = (8, refl)
-float-front (suc (suc (suc j))) b h = let never : ⊥ = omega arith in absurd never
-
-float-refused : (d p x : ℕ) (b : List ℕ) (l : Limit) → 0 < d → IsUsable (x ∷ b) p → 249 ≤ x → x ≤ 251 →
-    read d (x ∷ b) p l ≡ refused (semantic p Float)
-float-refused d p x b l pos h lo hi =
-    let f = float-front (x - 249) b (omega arith) in
-    let e : x ≡ 249 + (x - 249) = omega arith in
-    head-at d p (x ∷ b) l (raw f.0 b) pos h (ap (λ y. front (y ∷ b)) e ∙ f.1)
-
-pub simple-front : (s : List ℕ) (n : ℕ) (r : List ℕ) → IsSimple s n → front (s ++ r) ≡ plain n r
-simple-front s n r (inl h) = ap (λ (c : List ℕ). front (c ++ r)) h.1 ∙ front-simple n r h.0
-simple-front s n r (inr h) = ap (λ (c : List ℕ). front (c ++ r)) h.2
-
--- ---- containers
-
-opens-read : (d p k : ℕ) (b r : List ℕ) (w : Due) (l : Limit) → 0 < d → IsUsable b p → BeginsContainer b k r w →
-    (read d b p l ≡ levels l (parts (d - 1) w r (p + k))) × (length b ≡ k + length r) × (0 < k)
-opens-read d p k b r w l pos h (BeginsContainer.array n s) = let z = stands-length b 4 n k r s in
-    (counted-at d p (p + k) b l 4 n k r pos (omega arith) s h refl, z.0, z.1)
-opens-read d p k b r w l pos h (BeginsContainer.open_array e f) = (
-  opened-at d p b l 4 r pos f h ∙ ap (λ u. levels l (parts (d - 1) items_until_break r u)) (omega arith),
-  ap length f ∙ omega arith,
-  omega arith,
-)
-opens-read d p k b r w l pos h (BeginsContainer.map n s) = let z = stands-length b 5 n k r s in
-    (counted-at d p (p + k) b l 5 n k r pos (omega arith) s h refl, z.0, z.1)
-opens-read d p k b r w l pos h (BeginsContainer.open_map e f) = (
-  opened-at d p b l 5 r pos f h ∙ ap (λ u. levels l (parts (d - 1) keys_until_break r u)) (omega arith),
-  ap length f ∙ omega arith,
-  omega arith,
-)
-
-no-break : (b : List ℕ) (p : ℕ) → (p < greatest_offset → IsAtFront 255 b → ⊥) → break_at b p ≡ None
-no-break [] p h = refl
-no-break (x ∷ b) p h = by (ltb p greatest_offset) (eqb x 255)
-    (λ e f. h (ltb-true p greatest_offset e) (b, ap (λ y. y ∷ b) (eqb-true x 255 f)))
-  where
-    broke : Bool → Option (List ℕ × ℕ)
-    broke t = cond t (Some (b, p + 1)) None
-
-    by : (t u : Bool) → (t ≡ true → u ≡ true → ⊥) → broke (t && u) ≡ None
-    by true true f = absurd (f refl refl)
-    by true false f = refl
-    by false u f = refl
-
-pub to_come-end : (w : Due) (b : List ℕ) (p : ℕ) → IsDue w b p → end_at w b p ≡ None
-to_come-end (exactly zero) b p h = let never : ⊥ = omega arith in absurd never
-to_come-end (exactly (suc n)) b p h = refl
-to_come-end items_until_break b p h = no-break b p h
-to_come-end keys_until_break b p h = no-break b p h
-to_come-end values_until_break b p h = refl
-
-to_come-room : (w : Due) (is : Items) (b : List ℕ) (p : ℕ) → IsDue (due_after w is) b p → IsRoom w is
-to_come-room (exactly n) is b p h = let k : 0 < n - items_count is = subst (λ w. IsDue w b p) (after-left is n) h in
-    omega arith
-to_come-room items_until_break is b p h = tt
-to_come-room keys_until_break is b p h = tt
-to_come-room values_until_break is b p h = tt
-
-parts-refused : (c : ℕ) (w : Due) (b : List ℕ) (p : ℕ) (l : Limit) (e : Refusal) → 0 < c → end_at w b p ≡ None →
-    read (c - 1) b p l ≡ refused e → parts c w b p l ≡ refused e
-parts-refused zero w b p l e pos h f = let never : ⊥ = omega arith in absurd never
-parts-refused (suc c) w b p l e pos h f =
-    let k : c ≡ suc c - 1 = omega arith in
-    ap (λ o. or_end o (and_then (λ r q. parts c (next_due w) r q l) (read c b p l))) h ∙
-    ap (λ j. and_then (λ r q. parts c (next_due w) r q l) (read j b p l)) k ∙
-    ap (and_then (λ r q. parts c (next_due w) r q l)) f
-
--- ---- tags
-
-pub folds-front : (t : ℕ) (r : List ℕ) → IsFoldingAt t r → folding t (front r) ≡ true
-folds-front t r f =
-    ap (λ g. folding t g) (stands-front r 2 f.1 f.2 f.3 (omega arith) f.4) ∙ ap (λ u. u && leb f.1 16) f.0 ∙
-    le-leb f.1 16 f.5
-
-and_true : (t u : Bool) → (t && u) ≡ true → (t ≡ true) × (u ≡ true)
-and_true true u h = (refl, h)
-and_true false u h = absurd cc
-
-pub not_folds : (t : ℕ) (r : List ℕ) (p : ℕ) → EachIsByte r → IsUsable r p → (IsFoldingAt t r → ⊥) →
-    folding t (front r) ≡ false
-not_folds t r p bytes h x = not_ok _ (λ e. let a = and_true _ _ e in x (of (front r) (faces r p bytes h) a.0 a.1))
-  where
-    of : (f : Front) → Face r p f → is_bignum_tag t ≡ true → short f ≡ true → IsFoldingAt t r
-    of nothing f b s = absurd f
-    of (counted m n z) f b s = let a = and_true _ _ s in
-        (b, n, f.1, z, subst (λ j. HasHead r j n f.1 z) (eqb-true m 2 a.0) f.2, leb-true n 16 a.1)
-    of (opened m z) f b s = absurd cc
-    of (plain n z) f b s = absurd cc
-    of (raw w z) f b s = absurd cc
-
--- what a tag's item is read from
-tag-at : (d p t k : ℕ) (b r : List ℕ) (l : Limit) → 0 < d → IsUsable b p → HasHead b 6 t k r →
-    read d b p l ≡ tagged (read (d - 1)) t r p (p + k) l
-tag-at d p t k b r l pos h s = counted-at d p (p + k) b l 6 t k r pos (omega arith) s h refl
+-- ---- parts
 
 opens-bytes : (b r : List ℕ) (k : ℕ) (w : Due) → BeginsContainer b k r w → EachIsByte b → EachIsByte r
 opens-bytes b r k w (BeginsContainer.array n s) x = rest-bytes b s.0 r s.3 x
@@ -264,60 +85,193 @@ opens-bytes b r k w (BeginsContainer.open_array e f) x = rest-bytes b (159 ∷ [
 opens-bytes b r k w (BeginsContainer.map n s) x = rest-bytes b s.0 r s.3 x
 opens-bytes b r k w (BeginsContainer.open_map e f) x = rest-bytes b (191 ∷ []) r f x
 
-large-refused : (d p k : ℕ) (b s y r : List ℕ) (l : Limit) → 0 < d → 1 < d → IsUsable b p → HasHead b 6 3 k (s ++ r) →
-    IsUsable (s ++ r) (p + k) → IsDefiniteString 2 AreBytes s y → length y ≤ 16 → 2 ^ 127 ≤ big_endian y →
-    read d b p l ≡ refused (semantic p TooLarge)
-large-refused d p k b s y r l pos pos2 h st i str small large =
-    let j : ℕ = length str.0 in
-    let is : HasHead (s ++ r) 2 (length y) j (y ++ r) =
-    (str.0, str.1, refl, ap (λ (c : List ℕ). c ++ r) str.3 ∙ append_assoc str.0 y r) in
-    let fr : front (s ++ r) ≡ counted 2 (length y) (y ++ r) =
-    stands-front (s ++ r) 2 (length y) j (y ++ r) (omega arith) is in
-    let done : read (d - 1) (s ++ r) (p + k) l ≡ ends r (p + k + j + length y) =
-    counted-at (d - 1) (p + k) (p + k + j) (s ++ r) l 2 (length y) j (y ++ r) (omega arith) (omega arith) is i refl ∙
-    string-good 2 (length y) (p + k) (p + k + j) y (y ++ r) r refl refl refl in
-    tag-at d p 3 k b (s ++ r) l pos h st ∙ checked-none (s ++ r) (p + k) _ i ∙
-    hold _ _ _ (ap (λ g. folding 3 g) fr ∙ le-leb (length y) 16 small) ∙
-    ap (bignum 3 (payload (front (s ++ r))) p) done ∙
-    hold _ _ _ (ap (λ g. is_too_large 3 (payload g)) fr ∙ ap (is_too_large 3) (take-append_seam y r) ∙
-    le-leb (2 ^ 127) (big_endian y) large)
+no-break : (b : List ℕ) (p : ℕ) → (p < greatest_offset → IsAtFront 255 b → ⊥) → break_at b p ≡ None
+no-break [] p h = refl
+no-break (x ∷ b) p h = by (ltb p greatest_offset) (eqb x 255)
+    (λ e f. h (ltb-true p greatest_offset e) (b, ap (λ y. y ∷ b) (eqb-true x 255 f)))
+  where
+    by : (t u : Bool) → (t ≡ true → u ≡ true → ⊥) → ◌≡◌ {A = Option (List ℕ × ℕ)}
+        (cond (t && u) (Some (b, p + 1)) None) None
+    by true true f = absurd (f refl refl)
+    by true false f = refl
+    by false u f = refl
 
-pub refusal-read : {b : List ℕ} {p : ℕ} {l : Limit} {e : Refusal} → Refuses b p l e → EachIsByte b → (d : ℕ) →
-    2 * length b < d → read d b p l ≡ refused e
-refusal-read {b} {p} {l} {e} (Refuses.no_head h) bytes d fuel = head-refused d p b l e (omega arith) h
-refusal-read {b} {p} {l} {e} (Refuses.string c h s) bytes d fuel =
-    string-at d p b l (string_major c) e (kind_major c) (omega arith) h (string-refusing c s bytes)
-refusal-read {b} {p} {l} {e} (Refuses.open_string c h s) bytes d fuel = open-refused c d p b l e h s bytes fuel
-refusal-read {p} {l} (Refuses.float {x} {b = b} h lo hi) bytes d fuel = float-refused d p x b l (omega arith) h lo hi
-refusal-read {b} {p} {l} {e} (Refuses.simple s n r h is none f) bytes d fuel =
-    head-at d p b l (plain n r) (omega arith) h (ap front f ∙ simple-front s n r is) ∙ pass _ _ _ (ap is_some none)
-refusal-read {p} {l} (Refuses.break {b = b} h) bytes d fuel = opened-at d p (255 ∷ b) l 7 b (omega arith) refl h
-refusal-read {b} {p} {l} {e} (Refuses.no_level k r w h o) bytes d fuel =
-    (opens-read d p k b r w (Some 0) (omega arith) h o).0
-refusal-read {b} {p} {l} {e} (Refuses.part k w good is r below h o one g c f) bytes d fuel =
-    let z = opens-read d p k b (good ++ r) w l (omega arith) h o in
-    let lr : length (good ++ r) ≡ length good + length r = length-append good r in
-    let br : EachIsByte r = bytes_after good r (opens-bytes b (good ++ r) k w o bytes) in
-    z.0 ∙ levels-below l below (parts (d - 1) w (good ++ r) (p + k)) one ∙
-    parts-run (d - 1) is w good r (good ++ r) (p + k) (p + k + length good) below (refused e) g refl refl
-    (to_come-room w is r (p + k + length good) c) (omega (arith, z.1, z.2))
-    (λ j lj. parts-refused j (due_after w is) r (p + k + length good) below e (omega arith)
-    (to_come-end (due_after w is) r (p + k + length good) c) (refusal-read f br (j - 1) (omega arith)))
-refusal-read {b} {p} {l} {e} (Refuses.tag_no_head t k r h s f) bytes d fuel =
-    tag-at d p t k b r l (omega arith) h s ∙ checked-some r (p + k) _ e f
-refusal-read {b} {p} {l} {e} (Refuses.folding t k r h s i fo f) bytes d fuel =
-    let z = stands-length b 6 t k r s in
-    tag-at d p t k b r l (omega arith) h s ∙ checked-none r (p + k) _ i ∙ hold _ _ _ (folds-front t r fo) ∙
-    ap (bignum t (payload (front r)) p) (string-at (d - 1) (p + k) r l 2 e (inl refl) (omega (arith, z)) i
-    (string-refusing of_bytes f (rest-bytes b s.0 r s.3 bytes)))
-refusal-read {b} {p} {l} {e} (Refuses.too_large k s y r h st i str small large) bytes d fuel =
-    let z = stands-length b 6 3 k (s ++ r) st in large-refused d p k b s y r l (omega arith) (omega (arith, z)) h st i
-    str small large
-refusal-read {b} {p} {l} {e} (Refuses.no_tag_level t k r h s i x) bytes d fuel =
-    tag-at d p t k b r (Some 0) (omega arith) h s ∙ checked-none r (p + k) _ i ∙
-    pass _ _ _ (not_folds t r (p + k) (rest-bytes b s.0 r s.3 bytes) i x)
-refusal-read {b} {p} {l} {e} (Refuses.tagged t k r below h s i x one f) bytes d fuel =
-    let z = stands-length b 6 t k r s in
-    let br : EachIsByte r = rest-bytes b s.0 r s.3 bytes in
-    tag-at d p t k b r l (omega arith) h s ∙ checked-none r (p + k) _ i ∙ pass _ _ _ (not_folds t r (p + k) br i x) ∙
-    levels-below l below (read (d - 1) r (p + k)) one ∙ refusal-read f br (d - 1) (omega (arith, z))
+due-open : (now : Due) (b : List ℕ) (p : ℕ) → IsDue now b p → end_at now b p ≡ None
+due-open (items None) b p h = no-break b p h
+due-open (items (Some zero)) b p h = let never : ⊥ = omega (arith, h) in absurd never
+due-open (items (Some (suc n))) b p h = refl
+due-open (keys None) b p h = no-break b p h
+due-open (keys (Some zero)) b p h = let never : ⊥ = omega (arith, h) in absurd never
+due-open (keys (Some (suc n))) b p h = refl
+due-open (values n) b p h = refl
+
+module _ (spelling : Spelling) where
+  -- a head refuses by itself
+  string-refused : (d p : ℕ) (b : List ℕ) (l : Limit) (kind : StringKind) (e : Refusal) → HasGoodHead spelling b p →
+      StringRefuses kind b p e → EachIsByte b → read spelling (suc d) b p l ≡ refused e
+  string-refused d p b l kind e h (n, k, r, st, f) bytes =
+      read-counted spelling d p (p + k) b l (string_major kind) n k r (kind_below kind) st h refl ∙ chosen kind ∙
+      ap (made (λ z. string_tree kind z)) (payload-refused kind f (rest-bytes b st.0 r st.3 bytes) (p + k))
+    where
+      chosen : (c : StringKind) → counted_item spelling (read spelling d) (λ w. parts spelling d w (Some w) [])
+          (string_major c) n r p (p + k) l ≡ made (string_tree c) (string (string_major c) n r p (p + k))
+      chosen of_bytes = refl
+      chosen of_text = refl
+
+  open-refused : (k : StringKind) (d p : ℕ) (b : List ℕ) (l : Limit) (e : Refusal) → HasGoodHead spelling b p →
+      OpenStringRefuses k b p e → EachIsByte b → 2 * length b < suc d → read spelling (suc d) b p l ≡ refused e
+  open-refused k d p b l e h (q, at, (good, payloads, r, parts_of, room, split, f)) bytes fuel =
+      let m : ℕ = string_major k in
+      let wh : b ≡ (m * 32 + 31) ∷ (good ++ r) = at ∙ ap (λ (c : List ℕ). (m * 32 + 31) ∷ c) split in
+      let lb : length b ≡ suc (length (good ++ r)) = ap length wh in
+      let br : EachIsByte (((m * 32 + 31) ∷ good) ++ r) = subst EachIsByte wh bytes in
+      read-opened spelling d p b l m (good ++ r) wh h ∙ chosen k ∙
+      ap (made (string_tree k)) (pieces-run m (IsAllowed k) (kind_below k) (kind_allowed k) d payloads good r
+      (good ++ r)
+      (p + 1) (p + 1 + length good) (refused e) parts_of refl refl room (omega (arith, lb, fuel))
+      (λ c lc. part-refused k c (omega (arith, lc)) f (bytes_after ((m * 32 + 31) ∷ good) r br)))
+    where
+      chosen : (c : StringKind) → opened_item spelling (λ w. parts spelling d w (Some w) []) (pieces d)
+          (string_major c) (good ++ r) p l ≡ made (string_tree c) (pieces d (string_major c) (good ++ r) (p + 1))
+      chosen of_bytes = refl
+      chosen of_text = refl
+
+  float-refused : (d p x : ℕ) (b : List ℕ) (l : Limit) → IsUsable (x ∷ b) p → 249 ≤ x → x ≤ 251 →
+      read spelling (suc d) (x ∷ b) p l ≡ refused (semantic p Float)
+  float-refused d p x b l h lo hi =
+      let f = float-front (x - 249) b (omega (arith, hi)) in
+      let e : x ≡ 249 + (x - 249) = omega (arith, lo) in
+      let fine : spelling_fault spelling (x ∷ b) ≡ None = ap (λ y. spelling_fault spelling (y ∷ b)) e ∙
+      fault-float spelling (x - 249) b (omega (arith, hi)) in
+      read-head spelling d p (x ∷ b) l (raw f.0 b) (h, fine) (ap (λ y. front (y ∷ b)) e ∙ f.1)
+    where
+      float-front : (j : ℕ) (b : List ℕ) → j < 3 → (w : ℕ) × (front ((249 + j) ∷ b) ≡ raw w b)
+      float-front zero b h = (2, refl)
+      float-front (suc zero) b h = (4, refl)
+      float-front (suc (suc zero)) b h = (8, refl)
+      float-front (suc (suc (suc j))) b h = let never : ⊥ = omega (arith, h) in absurd never
+
+  simple-refused : (d p n : ℕ) (s b r : List ℕ) (l : Limit) → IsUsable b p → IsSimple s n → simple_meaning n ≡ None →
+      b ≡ s ++ r → read spelling (suc d) b p l ≡ refused (semantic p Simple)
+  simple-refused d p n s b r l h is none e =
+      let fine : spelling_fault spelling b ≡ None = ap (spelling_fault spelling) e ∙
+      fault-simple spelling s n r is (undefined n none) in
+      read-head spelling d p b l (plain n r) (h, fine) (ap front e ∙ simple-front s n r is) ∙
+      ap (λ o. given (semantic p Simple) o r (past p b r)) none
+
+  -- parts stand before what refuses, and with it
+  part-run : (d : ℕ) (b : List ℕ) (p : ℕ) (l below : Limit) (vs : List Tree) (r : List ℕ) (q : ℕ) (now : Due)
+      (a : Answer Tree) (i : IsInside spelling b p l vs r q now below) → IsDue now r q → 2 * length b < suc d →
+      ((c : ℕ) → 2 * length r < c →
+      and_then (next_part spelling (parts spelling c i.start) i.start now vs q below) (read spelling c r q below) ≡ a) →
+      read spelling (suc d) b p l ≡ a
+  part-run d b p l below vs r q now a i due fuel then =
+      let z = opens-read spelling d p i.size b (i.good ++ r) i.start l i.head i.begins in
+      let at = i.at in
+      z.0 ∙ levels-below l below (parts spelling d i.start (Some i.start) [] (i.good ++ r) (p + i.size)) i.level ∙
+      parts-run spelling d i.start i.start now [] vs i.good r (i.good ++ r) (p + i.size) q below a i.parts i.due
+      i.in_order refl at (omega (arith, z.1, z.2, fuel)) (λ c lc. at-part c lc)
+    where
+      at-part : (c : ℕ) → 2 * length r + 1 < c → parts spelling c i.start (Some now) vs r q below ≡ a
+      at-part zero lc = let never : ⊥ = omega (arith, lc) in absurd never
+      at-part (suc c) lc =
+          ap (λ o. or_end o (container_of now vs)
+          (and_then (next_part spelling (parts spelling c i.start) i.start now vs q below) (read spelling c r q below)))
+          (due-open now r q due) ∙ then c (omega (arith, lc))
+
+  inside-bytes : (b : List ℕ) (p : ℕ) (l below : Limit) (vs : List Tree) (r : List ℕ) (q : ℕ) (now : Due) →
+      IsInside spelling b p l vs r q now below → EachIsByte b → EachIsByte r
+  inside-bytes b p l below vs r q now i bytes = bytes_after i.good r
+      (opens-bytes b (i.good ++ r) i.size i.start i.begins
+      bytes)
+
+  -- ---- tags
+
+  module _ (d : ℕ) (b r : List ℕ) (p t q : ℕ) (l : Limit) (a : IsTagAt spelling b p t r q) where
+    tag-bytes : EachIsByte b → EachIsByte r
+    tag-bytes bytes = let s = a.tag in rest-bytes b s.0 r s.3 bytes
+
+    tag-length : (length b ≡ a.size + length r) × (0 < a.size)
+    tag-length = stands-length b 6 t a.size r a.tag
+
+    folding-at : IsFoldingAt t r → (c : Answer Tree) → read spelling d r q l ≡ c →
+        read spelling (suc d) b p l ≡ and_then (bignum spelling t p) c
+    folding-at f c e = tag-at spelling d p t b r q l a ∙ hold _ _ _ (folds-front t r f) ∙
+        ap (and_then (bignum spelling t p)) e
+
+    opening-at : (IsFoldingAt t r → ⊥) → EachIsByte b →
+        read spelling (suc d) b p l ≡ levels l (λ m. made (trees.tag t) (read spelling d r q m))
+    opening-at never bytes = tag-at spelling d p t b r q l a ∙
+        pass _ _ _ (not_so _ (λ e. never (seen-folds t r q (tag-bytes bytes) a.usable e)))
+
+  -- a folding tag over a string that was read
+  over-string : (d : ℕ) (b r s x y : List ℕ) (p t q : ℕ) (l : Limit) → IsTagAt spelling b p t r q → IsFoldingAt t r →
+      IsReadAs spelling s q l (trees.bytes y) → r ≡ s ++ x → 2 * length b < suc d →
+      (read spelling (suc d) b p l ≡ bignum spelling t p (trees.bytes y) x (q + length s)) × (length y ≤ 16) ×
+      AreBytes y
+  over-string d b r s x y p t q l a f item e fuel =
+      let z = tag-length d b r p t q l a in
+      let w = folding-reads spelling t l r x q (q + length s) (trees.bytes y)
+      (record { taken = s; read = item; split = e; at = refl }) f in
+      let same : w.0 ≡ y = (let k = w.1 in cc) in (
+        folding-at d b r p t q l a f (ends (trees.bytes y) x (q + length s))
+            (read-good spelling d (trees.bytes y) s x r q (q + length s) l item e refl (omega (arith, z.0, z.1, fuel))),
+        subst (λ (c : List ℕ). length c ≤ 16) same w.2,
+        subst AreBytes same w.3,
+      )
+
+  small-wanted : (s : Spelling) (y : List ℕ) → EachIsByte y → length y ≤ 16 → 2 ^ 127 ≤ big_endian y →
+      is_unwanted s y ≡ false
+  small-wanted any y bytes few large = refl
+  small-wanted (deterministic order) y bytes few large =
+      not_so _ (λ e. let less = foldable-small y bytes few (foldable-is y e) in omega (arith, less, large))
+
+  unwanted-is : (s : Spelling) (y : List ℕ) → IsUnwanted s y → is_unwanted s y ≡ true
+  unwanted-is any y h = absurd h
+  unwanted-is (deterministic order) y h = is-foldable y h
+
+  -- ---- every refusal
+
+  pub refusal-read : (d : ℕ) {b : List ℕ} {p : ℕ} {l : Limit} {e : Refusal} → Refuses spelling b p l e → EachIsByte b →
+      2 * length b < d → read spelling d b p l ≡ refused e
+  refusal-read zero f bytes fuel = let never : ⊥ = omega (arith, fuel) in absurd never
+  refusal-read (suc d) {b} {p} {l} {e} (Refuses.no_head h) bytes fuel = checked-some b p _ e h
+  refusal-read (suc d) {b} {p} {l} {e} (Refuses.bad_head kind h f) bytes fuel = read-fault spelling d p b l kind h f
+  refusal-read (suc d) {b} {p} {l} {e} (Refuses.string kind h f) bytes fuel = string-refused d p b l kind e h f bytes
+  refusal-read (suc d) {b} {p} {l} {e} (Refuses.open_string kind h f) bytes fuel =
+      open-refused kind d p b l e h f bytes fuel
+  refusal-read (suc d) {p = p} {l = l} (Refuses.float {x} {b = b} h lo hi) bytes fuel = float-refused d p x b l h lo hi
+  refusal-read (suc d) {b} {p} {l} (Refuses.simple s n r h is none f) bytes fuel =
+      simple-refused d p n s b r l h is none f
+  refusal-read (suc d) {p = p} {l = l} (Refuses.break {b = b} h) bytes fuel =
+      read-opened spelling d p (255 ∷ b) l 7 b refl (h, fault-break spelling b)
+  refusal-read (suc d) {b} {p} {l} (Refuses.no_level k r w h o) bytes fuel = (opens-read spelling d p k b r w (Some 0) h
+      o).0
+  refusal-read (suc d) {b} {p} {l} {e} (Refuses.part vs r q w below i due f) bytes fuel =
+      part-run d b p l below vs r q w (refused e) i due fuel
+      (λ c lc. ap (and_then (next_part spelling (parts spelling c i.start) i.start w vs q below))
+      (refusal-read c f (inside-bytes b p l below vs r q w i bytes) lc))
+  refusal-read (suc d) {b} {p} {l} (Refuses.key_order vs r s t key q w below i due item at bad) bytes fuel =
+      part-run d b p l below vs r q w (refused (semantic q refusal.KeyOrder)) i due fuel
+      (λ c lc. ap (and_then (next_part spelling (parts spelling c i.start) i.start w vs q below))
+      (read-good spelling c key s t r q (q + length s) below item at refl lc) ∙
+      pass _ _ _ (not_so _ (λ z. bad (in_order-is spelling (keys_among i.start (vs ++ (key ∷ []))) z))))
+  refusal-read (suc d) {b} {p} {l} {e} (Refuses.tag_no_head t k r h st f) bytes fuel =
+      read-counted spelling d p (p + k) b l 6 t k r (omega arith) st h refl ∙ checked-some r (p + k) _ e f
+  refusal-read (suc d) {b} {p} {l} {e} (Refuses.folding t r q a g f) bytes fuel =
+      let z = tag-length d b r p t q l a in
+      folding-at d b r p t q l a g (refused e)
+      (refusal-read d f (tag-bytes d b r p t q l a bytes) (omega (arith, z.0, z.1, fuel)))
+  refusal-read (suc d) {b} {p} {l} (Refuses.too_large r s x y q a g item at large) bytes fuel =
+      let z = over-string d b r s x y p 3 q l a g item at fuel in
+      z.0 ∙ pass _ _ _ (small-wanted spelling y (each_is_byte y z.2) z.1 large) ∙
+      ap (λ o. given (semantic p TooLarge) o x (q + length s)) (large-none y large)
+  refusal-read (suc d) {b} {p} {l} (Refuses.not_folded n r s x y q a g item at bad) bytes fuel =
+      (over-string d b r s x y p n q l a g item at fuel).0 ∙ hold _ _ _ (unwanted-is spelling y bad)
+  refusal-read (suc d) {b} {p} {l} (Refuses.no_tag_level t r q a never) bytes fuel =
+      opening-at d b r p t q (Some 0) a never bytes
+  refusal-read (suc d) {b} {p} {l} {e} (Refuses.tagged t r q below a never level f) bytes fuel =
+      let z = tag-length d b r p t q l a in
+      opening-at d b r p t q l a never bytes ∙ levels-below l below (λ m. made (trees.tag t) (read spelling d r q m))
+      level ∙ ap (made (trees.tag t)) (refusal-read d f (tag-bytes d b r p t q l a bytes)
+      (omega (arith, z.0, z.1, fuel)))

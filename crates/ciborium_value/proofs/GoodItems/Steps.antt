@@ -1,19 +1,24 @@
 -- One step of the reader, by the head at the front.
-use Rattle.std.proofs.Common.{◌≡◌, ℕ, zero, suc, ◌+◌, ◌*◌, ◌%◌, ◌<◌, ◌≤◌, cond, ltb, eqb, Bool, true, false, ◌&&◌, ◌||◌}
-use Rattle.std.proofs.Common.{List, [], ◌∷◌, ◌++◌, length, take, drop, Option, Some, None, refl, sym, ap, ◌∙◌, subst}
-use Rattle.std.proofs.Common.{arith, length-append, append_assoc, le-ltb, eq-eqb, ne_eqb}
+use Rattle.std.proofs.Common.{◌≡◌, ℕ, zero, suc, ◌+◌, ◌*◌, ◌%◌, ◌<◌, ◌≤◌, cond, ltb, eqb, Bool, true, false, ◌&&◌}
+use Rattle.std.proofs.Common.{◌||◌, List, [], ◌∷◌, ◌++◌, length, take, drop, Option, Some, None, option_map, refl, sym}
+use Rattle.std.proofs.Common.{ap, ◌∙◌, subst, arith, length-append, append_assoc, le-ltb, eq-eqb, ne_eqb}
 use Rattle.std.proofs.Math.Seq.{take-append_seam, drop-append_seam}
 use Rattle.std.proofs.lemmas.Nat.{div-mul-add, mod-mul-add}
 use Rattle.std.proofs.lemmas.Bool.Decides.{nat_tests}
-use Rattle.ciborium_ll.specs.Spells.{AreChunks}
-use Rattle.ciborium_ll.specs.Refusal.{Refusal, head_refusal, IsUsable, HeadRefuses, HasHead, argument_length}
-use Rattle.ciborium_ll.specs.Refusal.{is_reserved, is_low_simple, payload_length}
+use Rattle.ciborium_ll.specs.Spells.{AreChunks, joined}
+use Rattle.ciborium_ll.specs.Refusal.{Kind, Refusal, semantic, head_refusal, IsUsable, HeadRefuses, HasHead}
+use Rattle.ciborium_ll.specs.Refusal.{argument_length, is_reserved, is_low_simple, payload_length}
 use Rattle.ciborium_ll.specs.Bytes.{greatest_offset}
-use Rattle.ciborium_value.specs.Nesting.{Limit}
 use Rattle.ciborium_ll.proofs.FrontHeads.{Front, counted, opened, front, front_open}
 use Rattle.ciborium_ll.proofs.UsableHeads.{HeadFits, low, fits-usable, stands-usable, stands-front, stands-length, pass}
-use Rattle.ciborium_value.proofs.GoodItems.Reader.{Answer, ends, refused, checked, and_then, past, allowed, string}
-use Rattle.ciborium_value.proofs.GoodItems.Reader.{piece, pieces, counted_item, opened_item, item_at, read, parts}
+use Rattle.ciborium_value.specs.Nesting.{Limit}
+use Rattle.ciborium_value.specs.Refuses.{HasGoodHead, Due, items, keys, BeginsContainer, IsTagAt}
+use Rattle.ciborium_value.specs.Spelling.{Spelling, spelling_fault}
+use Rattle.ciborium_value.specs.Tree as trees
+use Rattle.ciborium_value.specs.Tree.{Tree}
+use Rattle.ciborium_value.proofs.GoodItems.Reader.{Answer, ends, refused, checked, and_then, made, past, allowed}
+use Rattle.ciborium_value.proofs.GoodItems.Reader.{string, chunk, piece, pieces, levels, folding, bignum, counted_item}
+use Rattle.ciborium_value.proofs.GoodItems.Reader.{opened_item, item_at, read, parts}
 
 pub hold : {A : Type 0} (t : Bool) (x y : A) → t ≡ true → cond t x y ≡ x
 hold t x y e = ap (λ u. cond u x y) e
@@ -63,60 +68,122 @@ simple-has n p r h k =
 
 -- ---- steps
 
-pub checked-none : (b : List ℕ) (p : ℕ) (a : Answer) → IsUsable b p → checked (head_refusal b p) a ≡ a
+pub checked-none : {A : Type 0} (b : List ℕ) (p : ℕ) (a : Answer A) → IsUsable b p → checked (head_refusal b p) a ≡ a
 checked-none b p a h = ap (λ o. checked o a) h
 
-pub checked-some : (b : List ℕ) (p : ℕ) (a : Answer) (e : Refusal) → HeadRefuses b p e →
+pub checked-some : {A : Type 0} (b : List ℕ) (p : ℕ) (a : Answer A) (e : Refusal) → HeadRefuses b p e →
     checked (head_refusal b p) a ≡ refused e
 checked-some b p a e h = ap (λ o. checked o a) h
 
-pub read-head : (d p : ℕ) (b : List ℕ) (l : Limit) (f : Front) → IsUsable b p → front b ≡ f →
-    read (suc d) b p l ≡ item_at (read d) (parts d) (pieces d) b p l f
-read-head d p b l f h e = checked-none b p _ h ∙ ap (item_at (read d) (parts d) (pieces d) b p l) e
-
 pub past-stands : (b : List ℕ) (m n k p q : ℕ) (r : List ℕ) → HasHead b m n k r → q ≡ p + k → past p b r ≡ q
-past-stands b m n k p q r s e = omega (arith, stands-length b m n k r s)
+past-stands b m n k p q r s e = let l = stands-length b m n k r s in omega (arith, l.0, l.1, e)
 
--- a usable head with an argument
-pub read-counted : (d p q : ℕ) (b : List ℕ) (l : Limit) (m n k : ℕ) (r : List ℕ) → m < 7 → HasHead b m n k r →
-    IsUsable b p → q ≡ p + k →
-    read (suc d) b p l ≡ counted_item (read d) (parts d) m n r p q l
-read-counted d p q b l m n k r lt s h e =
-    read-head d p b l (counted m n r) h (stands-front b m n k r lt s) ∙
-    ap (λ z. counted_item (read d) (parts d) m n r p z l) (past-stands b m n k p q r s e)
+module _ (spelling : Spelling) where
+  pub read-head : (d p : ℕ) (b : List ℕ) (l : Limit) (f : Front) → HasGoodHead spelling b p → front b ≡ f →
+      read spelling (suc d) b p l ≡ item_at spelling (read spelling d) (λ w. parts spelling d w (Some w) []) (pieces d)
+      b p l f
+  read-head d p b l f h e =
+      checked-none b p _ h.0 ∙
+      ap (λ o. checked (option_map (semantic p) o) (item_at spelling (read spelling d)
+      (λ w. parts spelling d w (Some w) []) (pieces d) b p l (front b))) h.1 ∙
+      ap (item_at spelling (read spelling d) (λ w. parts spelling d w (Some w) []) (pieces d) b p l) e
 
-pub read-opened : (d p : ℕ) (b : List ℕ) (l : Limit) (m : ℕ) (r : List ℕ) → b ≡ (m * 32 + 31) ∷ r → IsUsable b p →
-    read (suc d) b p l ≡ opened_item (parts d) (pieces d) m r p l
-read-opened d p b l m r e h = read-head d p b l (opened m r) h (ap front e ∙ front_open m r)
+  -- a head that the spelling does not accept
+  pub read-fault : (d p : ℕ) (b : List ℕ) (l : Limit) (kind : Kind) → IsUsable b p →
+      spelling_fault spelling b ≡ Some kind → read spelling (suc d) b p l ≡ refused (semantic p kind)
+  read-fault d p b l kind h e =
+      checked-none b p _ h ∙
+      ap (λ o. checked (option_map (semantic p) o) (item_at spelling (read spelling d)
+      (λ w. parts spelling d w (Some w) []) (pieces d) b p l (front b))) e
 
-pub ended-has : (d p q : ℕ) (b r : List ℕ) (l : Limit) → read d b p l ≡ ends r q → IsUsable b p
-ended-has zero p q b r l e = absurd cc
-ended-has (suc d) p q b r l e = has (head_refusal b p) _ e
-  where
-    has : (o : Option Refusal) (a : Answer) → checked o a ≡ ends r q → o ≡ None
-    has None a h = refl
-    has (Some f) a h = absurd cc
+  -- a good head with an argument
+  pub read-counted : (d p q : ℕ) (b : List ℕ) (l : Limit) (m n k : ℕ) (r : List ℕ) → m < 7 → HasHead b m n k r →
+      HasGoodHead spelling b p → q ≡ p + k →
+      read spelling (suc d) b p l ≡ counted_item spelling (read spelling d) (λ w. parts spelling d w (Some w) []) m n r
+      p q l
+  read-counted d p q b l m n k r lt s h e =
+      read-head d p b l (counted m n r) h (stands-front b m n k r lt s) ∙
+      ap (λ z. counted_item spelling (read spelling d) (λ w. parts spelling d w (Some w) []) m n r p z l)
+      (past-stands b m n k p q r s e)
+
+  pub read-opened : (d p : ℕ) (b : List ℕ) (l : Limit) (m : ℕ) (r : List ℕ) → b ≡ (m * 32 + 31) ∷ r →
+      HasGoodHead spelling b p →
+      read spelling (suc d) b p l ≡ opened_item spelling (λ w. parts spelling d w (Some w) []) (pieces d) m r p l
+  read-opened d p b l m r e h = read-head d p b l (opened m r) h (ap front e ∙ front_open m r)
+
+  pub ended-has : (d p q : ℕ) (b r : List ℕ) (v : Tree) (l : Limit) → read spelling d b p l ≡ ends v r q →
+      HasGoodHead spelling b p
+  ended-has zero p q b r v l e = absurd cc
+  ended-has (suc d) p q b r v l e =
+      let one = has (head_refusal b p) _ e in (one.0, fine (spelling_fault spelling b) _ one.1)
+    where
+      has : (o : Option Refusal) (a : Answer Tree) → checked o a ≡ ends v r q → (o ≡ None) × (a ≡ ends v r q)
+      has None a h = (refl, h)
+      has (Some f) a h = absurd cc
+
+      fine : (o : Option Kind) (a : Answer Tree) → checked (option_map (semantic p) o) a ≡ ends v r q → o ≡ None
+      fine None a h = refl
+      fine (Some f) a h = absurd cc
+
+-- ---- what has parts
+
+module _ (spelling : Spelling) where
+  -- the head of an array or map
+  pub opens-read : (d p k : ℕ) (b r : List ℕ) (w : Due) (l : Limit) → HasGoodHead spelling b p →
+      BeginsContainer b k r w →
+      (read spelling (suc d) b p l ≡ levels l (parts spelling d w (Some w) [] r (p + k))) × (length b ≡ k + length r) ×
+      (0 < k)
+  opens-read d p k b r w l h (BeginsContainer.array n s) = let z = stands-length b 4 n k r s in
+      (read-counted spelling d p (p + k) b l 4 n k r (omega arith) s h refl, z.0, z.1)
+  opens-read d p k b r w l h (BeginsContainer.open_array e f) = (
+    read-opened spelling d p b l 4 r f h ∙
+        ap (λ u. levels l (parts spelling d (items None) (Some (items None)) [] r u)) (omega (arith, e)),
+    ap length f ∙ omega (arith, e),
+    omega (arith, e),
+  )
+  opens-read d p k b r w l h (BeginsContainer.map n s) = let z = stands-length b 5 n k r s in
+      (read-counted spelling d p (p + k) b l 5 n k r (omega arith) s h refl, z.0, z.1)
+  opens-read d p k b r w l h (BeginsContainer.open_map e f) = (
+    read-opened spelling d p b l 5 r f h ∙
+        ap (λ u. levels l (parts spelling d (keys None) (Some (keys None)) [] r u)) (omega (arith, e)),
+    ap length f ∙ omega (arith, e),
+    omega (arith, e),
+  )
+
+  -- the head of a tag
+  pub tag-at : (d p t : ℕ) (b r : List ℕ) (q : ℕ) (l : Limit) → IsTagAt spelling b p t r q →
+      read spelling (suc d) b p l ≡ cond (folding t (front r)) (and_then (bignum spelling t p) (read spelling d r q l))
+      (levels l (λ m. made (trees.tag t) (read spelling d r q m)))
+  tag-at d p t b r q l a =
+      let at = a.at in
+      read-counted spelling d p q b l 6 t a.size r (omega arith) a.tag a.head (omega (arith, at)) ∙
+      checked-none r q _ a.usable
 
 pub string-good : (m n p q : ℕ) (y r x : List ℕ) → r ≡ y ++ x → n ≡ length y → allowed m y ≡ true →
-    string m n r p q ≡ ends x (q + n)
+    string m n r p q ≡ ends y x (q + n)
 string-good m n p q y r x e k h =
     let room : length r ≡ length y + length x = ap length e ∙ length-append y x in
     let t : take n r ≡ y = ap (λ j. take j r) k ∙ ap (take (length y)) e ∙ take-append_seam y x in
     let u : drop n r ≡ x = ap (λ j. drop j r) k ∙ ap (drop (length y)) e ∙ drop-append_seam y x in
     pass _ _ _ (le-ltb (length r) n (omega arith)) ∙ hold _ _ _ (ap (allowed m) t ∙ h) ∙
-    ap (λ (c : List ℕ). ends c (q + n)) u
+    ap (λ (c : List ℕ). ends c (drop n r) (q + n)) t ∙ ap (λ (c : List ℕ). ends y c (q + n)) u
 
 -- the good parts of an open string, and what is answered after them
 pub pieces-run : (m : ℕ) (IsAllowed : List ℕ → Type 0) → m < 7 → ((t : List ℕ) → IsAllowed t → allowed m t ≡ true) →
-    (d : ℕ) (ps : List (List ℕ)) (s x b : List ℕ) (q u : ℕ) (a : Answer) → AreChunks m IsAllowed s ps → b ≡ s ++ x →
-    u ≡ q + length s → u ≤ greatest_offset → length b < d →
-    ((c : ℕ) → length x < c → pieces c m x u ≡ a) → pieces d m b q ≡ a
+    (d : ℕ) (ps : List (List ℕ)) (s x b : List ℕ) (q u : ℕ) (a : Answer (List ℕ)) → AreChunks m IsAllowed s ps →
+    b ≡ s ++ x → u ≡ q + length s → u ≤ greatest_offset → length b < d →
+    ((c : ℕ) → length x < c → pieces c m x u ≡ a) → pieces d m b q ≡ made (λ (z : List ℕ). joined ps ++ z) a
 pieces-run m IsAllowed lt ok d [] s x b q u a g e k room fuel then =
     let same : b ≡ x = e ∙ ap (λ (c : List ℕ). c ++ x) g in
     let l : length b ≡ length x = ap length same in
     let none : length s ≡ 0 = ap length g in
-    ap (λ (c : List ℕ). pieces d m c q) same ∙ ap (pieces d m x) (omega arith) ∙ then d (omega arith)
-pieces-run m IsAllowed lt ok zero (y ∷ ps) s x b q u a g e k room fuel then = let never : ⊥ = omega arith in
+    ap (λ (c : List ℕ). pieces d m c q) same ∙ ap (pieces d m x) (omega (arith, k, none)) ∙
+    then d (omega (arith, l, fuel)) ∙ itself a
+  where
+    itself : (a : Answer (List ℕ)) → a ≡ made (λ (z : List ℕ). z) a
+    itself (ends y r q) = refl
+    itself (refused e) = refl
+pieces-run m IsAllowed lt ok zero (y ∷ ps) s x b q u a g e k room fuel then = let never : ⊥ = omega (arith, fuel) in
     absurd never
 pieces-run m IsAllowed lt ok (suc d) (y ∷ ps) s x b q u a g e k room fuel then =
     let w = g.2 in
@@ -129,17 +196,24 @@ pieces-run m IsAllowed lt ok (suc d) (y ∷ ps) s x b q u a g e k room fuel then
     let l2 : length g.0 ≡ length h + length y = ap length w.3 ∙ length-append h y in
     let l3 = stands-length b m (length y) (length h) r st in
     let l4 : length r ≡ length y + length (g.1 ++ x) = length-append y (g.1 ++ x) in
-    let has : IsUsable b q = stands-usable b m (length y) (length h) q r lt st (omega arith) (λ z. omega arith) in
+    let has : IsUsable b q = stands-usable b m (length y) (length h) q r lt st
+    (omega (arith, l1, l2, k, room)) (λ z. omega (arith, l1, l2, k, room)) in
+    let at : past q b r ≡ q + length h = omega (arith, l3.0) in
     checked-none b q _ has ∙ ap (piece (pieces d m) m b q) (stands-front b m (length y) (length h) r lt st) ∙
     hold _ _ _ (eq-eqb m m refl) ∙
-    ap (and_then (pieces d m)) (string-good m (length y) q (past q b r) y r (g.1 ++ x) refl refl (ok y w.2)) ∙
-    pieces-run m IsAllowed lt ok d ps g.1 x (g.1 ++ x) (past q b r + length y) u a g.3 refl (omega arith) room
-    (omega arith) then
+    ap (and_then (chunk (pieces d m))) (string-good m (length y) q (past q b r) y r (g.1 ++ x) refl refl (ok y w.2)) ∙
+    ap (made (λ (z : List ℕ). y ++ z)) (pieces-run m IsAllowed lt ok d ps g.1 x (g.1 ++ x) (past q b r + length y) u a
+    g.3 refl (omega (arith, at, l1, l2, k)) room (omega (arith, l3.0, l3.1, l4, fuel)) then) ∙ both a
+  where
+    both : (a : Answer (List ℕ)) → made (λ (z : List ℕ). y ++ z) (made (λ (z : List ℕ). joined ps ++ z) a) ≡ made
+        (λ (z : List ℕ). (y ++ joined ps) ++ z) a
+    both (ends t r q) = ap (λ (c : List ℕ). ends c r q) (sym (append_assoc y (joined ps) t))
+    both (refused e) = refl
 
 -- the break that ends an open string
 pub pieces-break : (m d q u : ℕ) (x : List ℕ) → 0 < d → q < greatest_offset → u ≡ q + 1 →
-    pieces d m (255 ∷ x) q ≡ ends x u
-pieces-break m zero q u x h lt e = let never : ⊥ = omega arith in absurd never
+    pieces d m (255 ∷ x) q ≡ ends [] x u
+pieces-break m zero q u x h lt e = let never : ⊥ = omega (arith, h) in absurd never
 pieces-break m (suc d) q u x h lt e =
     checked-none (255 ∷ x) q _ (opened-has 7 q x refl lt) ∙ ap (piece (pieces d m) m (255 ∷ x) q) (front_open 7 x) ∙
-    ap (ends x) (sym e)
+    ap (ends [] x) (sym e)

@@ -8,24 +8,25 @@ use Rattle.ciborium_value.specs.Nesting.{Limit}
 use Rattle.ciborium_value.specs.Places.{Shape, dictionary}
 use Rattle.ciborium_value.specs.Sources.{Fault, IsFaultOf, TakesAhead, RefusesAhead, EntersMap, GoesOn, Leaves}
 use Rattle.ciborium_value.specs.Sources.{RefusesNext, TakesTo, TakesItem, OwesLess, OwesNothing}
-use Rattle.ciborium_value.specs.Taken.{Outcome, gives, refuses, nests, Taken, then_take, and_take, take_each}
-use Rattle.ciborium_value.specs.Taken.{outcome_map}
+use Rattle.ciborium_value.specs.lemmas.GivenOutcomes.{and_take}
+use Rattle.ciborium_value.specs.Taken.{Outcome, Steps, Taken, deeper_if, gives, mapped, nests, outcome, outcome_map}
+use Rattle.ciborium_value.specs.Taken.{refuses, take_each, then_take}
 use Rattle.ciborium_value.specs.TakenParts.{take_entry, put_all, map_entries, taken_map}
-use Rattle.ciborium_value.proofs.Sources.Sequences.{fault_then, fault_and, fault_map, fault_outside, Follows, so}
+use Rattle.ciborium_value.proofs.Sources.Sequences.{fault_then, fault_map, fault_outside, Follows, so}
 use Rattle.ciborium_value.proofs.Sources.Sequences.{IsBlamed, IsBefore, IsPast}
 
 -- ---- one more pair
 
 module _ {A B : Type 0} (order : A → A → Ordering) where
   -- what a map becomes that has these entries
-  abbrev pub map_from : Taken A → Taken B → List (A × B) → Limit → List (Item × Item) → Outcome (List (A × B))
-  map_from key value es l ps = outcome_map (put_all order es) (take_each (take_entry (key l) (value l)) ps)
+  abbrev pub map_from : Taken A → Taken B → List (A × B) → List (Item × Item) → Steps (List (A × B))
+  map_from key value es ps = mapped (put_all order es) (take_each (take_entry key value) ps)
 
   -- the same, where this key was read
   abbrev pub value_from : Taken A → Taken B → List (A × B) → A → Limit → Item → List (Item × Item) →
       Outcome (List (A × B))
   value_from key value es a l v ps = outcome_map (put_all order es)
-      (and_take (then_take (value l v) (λ b. gives (a, b))) (take_each (take_entry (key l) (value l)) ps))
+      (and_take (then_take (outcome l (value v)) (λ b. gives (a, b))) (outcome l (take_each (take_entry key value) ps)))
 
   put_more : (es : List (A × B)) (p : A × B) (r : Outcome (List (A × B))) →
       outcome_map (put_all order es) (and_take (gives p) r) ≡ outcome_map
@@ -65,13 +66,13 @@ module _ {S Q : Type 0} (StandsBefore : S → Limit → Ahead → Type 0) (SeqSt
   abbrev pub IsInsideMap : S → Q → List (A × B) → Limit → Rest → Outcome (List (A × B)) → Type 0
   IsInsideMap now q es l f o = (form : Form) × (ps : List (Item × Item)) ×
       StandsBefore now (inside form l) (after (pairs form ps f)) × SeqStands q l (pairs form ps f) ×
-      (o ≡ map_from order key value es (inside form l) ps)
+      (o ≡ outcome (inside form l) (map_from order key value es ps))
 
   -- a key is ahead
   abbrev IsAtKey : S → Q → List (A × B) → Limit → Rest → Outcome (List (A × B)) → Type 0
   IsAtKey now q es l f o = (form : Form) × (k : Item) × (v : Item) × (ps : List (Item × Item)) ×
       StandsBefore now (inside form l) (item k (entry v form ps f)) × SeqStands q l (pairs form ps f) ×
-      (o ≡ map_from order key value es (inside form l) ((k, v) ∷ ps))
+      (o ≡ outcome (inside form l) (map_from order key value es ((k, v) ∷ ps)))
 
   -- the key was read, and its value is ahead
   abbrev IsAtValue : S → Q → List (A × B) → A → Limit → Rest → Outcome (List (A × B)) → Type 0
@@ -88,8 +89,8 @@ module _ {S Q : Type 0} (StandsBefore : S → Limit → Ahead → Type 0) (SeqSt
           n.1,
           n.3,
           n.4,
-          w.2 ∙ ap (λ p. then_take p (λ x. map_entries order key value x.0 x.1)) n.2 ∙
-              ap (λ x. map_from order key value x (inside n.0 l) n.1) (sym none),
+          w.2 ∙ ap (λ p. then_take p (λ x. outcome (deeper_if x.0 l) (map_entries order key value x.1))) n.2 ∙
+              ap (λ x. outcome (inside n.0 l) (map_from order key value x n.1)) (sym none),
         );
   }
 
@@ -102,7 +103,7 @@ module _ {S Q : Type 0} (StandsBefore : S → Limit → Ahead → Type 0) (SeqSt
   at_key es h = record {
     at = λ l f o w.
         let n = h.1 l w.0 w.1 f w.2 w.3 in
-        (w.0, n.0, n.1, n.2, n.4, n.5, w.4 ∙ ap (map_from order key value es (inside w.0 l)) n.3);
+        (w.0, n.0, n.1, n.2, n.4, n.5, w.4 ∙ ap (λ ps. outcome (inside w.0 l) (map_from order key value es ps)) n.3);
   }
 
   key_blames : {old : S} {q : Q} (es : List (A × B)) (fault : Fault) → RefusesAhead StandsBefore old key fault →
@@ -111,8 +112,8 @@ module _ {S Q : Type 0} (StandsBefore : S → Limit → Ahead → Type 0) (SeqSt
     at = λ l f o w.
         let m = inside w.0 l in
         subst (IsFaultOf (end_of f) fault) (sym w.6)
-        (fault_map _ fault (put_all order es) _ (fault_and _ fault _ (take_each (take_entry (key m) (value m)) w.3)
-        (fault_then _ fault (key m w.1) (λ a. then_take (value m w.2) (λ b. gives (a, b)))
+        (fault_map _ fault (put_all order es) _ (fault_then _ fault _ _
+        (fault_then _ fault (outcome m (key w.1)) (λ a. then_take (outcome m (value w.2)) (λ b. gives (a, b)))
         (h m w.1 (entry w.2 w.0 w.3 f) w.4))));
   }
 
@@ -128,8 +129,8 @@ module _ {S Q : Type 0} (StandsBefore : S → Limit → Ahead → Type 0) (SeqSt
           n.1,
           w.5,
           w.6 ∙ ap (λ x. outcome_map (put_all order es)
-              (and_take (then_take x (λ a. then_take (value m w.2) (λ b. gives (a, b))))
-              (take_each (take_entry (key m) (value m)) w.3))) n.0,
+              (and_take (then_take x (λ a. then_take (outcome m (value w.2)) (λ b. gives (a, b))))
+              (outcome m (take_each (take_entry key value) w.3)))) n.0,
         );
   }
 
@@ -139,8 +140,8 @@ module _ {S Q : Type 0} (StandsBefore : S → Limit → Ahead → Type 0) (SeqSt
     at = λ l f o w.
         let m = inside w.0 l in
         subst (IsFaultOf (end_of f) fault) (sym w.5)
-        (fault_map _ fault (put_all order es) _ (fault_and _ fault _ (take_each (take_entry (key m) (value m)) w.2)
-        (fault_then _ fault (value m w.1) (λ b. gives (a, b)) (h m w.1 (pairs w.0 w.2 f) w.3))));
+        (fault_map _ fault (put_all order es) _ (fault_then _ fault _ _
+        (fault_then _ fault (outcome m (value w.1)) (λ b. gives (a, b)) (h m w.1 (pairs w.0 w.2 f) w.3))));
   }
 
   behind_value : {old new : S} {q : Q} (es : List (A × B)) (a : A) {b : B} → TakesAhead StandsBefore old new value b →
@@ -149,7 +150,7 @@ module _ {S Q : Type 0} (StandsBefore : S → Limit → Ahead → Type 0) (SeqSt
     at = λ l f o w.
         let m = inside w.0 l in
         let n = h m w.1 (pairs w.0 w.2 f) w.3 in
-        let r = take_each (take_entry (key m) (value m)) w.2 in (
+        let r = outcome m (take_each (take_entry key value) w.2) in (
           w.0,
           w.2,
           n.1,
@@ -180,7 +181,7 @@ module _ {S Q : Type 0} (StandsBefore : S → Limit → Ahead → Type 0) (SeqSt
   map_ends es h = record {
     at = λ l f o w.
         let n = h.1 l w.0 w.1 f w.2 w.3 in
-        (w.4 ∙ ap (map_from order key value es (inside w.0 l)) n.0, n.1);
+        (w.4 ∙ ap (λ ps. outcome (inside w.0 l) (map_from order key value es ps)) n.0, n.1);
   }
 
 -- ---- known bytes

@@ -3,10 +3,10 @@ use Rattle.std.proofs.Common.{◌≡◌, ℕ, Bool, true, false, if◌then◌els
 use Rattle.ciborium_ll.specs.Item.{Item}
 use Rattle.ciborium_value.specs.Ahead.{Ahead, Rest, Form, item, after, pairs, entry, inside, end_of}
 use Rattle.ciborium_value.specs.Nesting.{Limit}
-use Rattle.ciborium_value.specs.Sources.{Fault, IsFaultOf, TakesAhead, RefusesAhead, GoesOn, Leaves}
-use Rattle.ciborium_value.specs.Sources.{RefusesNext}
+use Rattle.ciborium_value.specs.Sources.{Fault, IsFaultOf, TakesAhead, RefusesAhead, GoesOn, Leaves, RefusesNext}
 use Rattle.ciborium_value.specs.StructReadings.{FieldsTaken, take_fields, take_named}
-use Rattle.ciborium_value.specs.Taken.{Outcome, gives, refuses, nests, then_take, outcome_map, taken_name, taken_place}
+use Rattle.ciborium_value.specs.Taken.{Outcome, gives, nests, outcome, outcome_map, refuses, taken_name, taken_place}
+use Rattle.ciborium_value.specs.Taken.{then_read, then_take}
 use Rattle.ciborium_value.specs.declared.wanted.FieldPlace.TheVariants.{First, Behind}
 use Rattle.ciborium_value.proofs.Sources.Sequences.{fault_then, fault_outside, Follows, so, IsBlamed, IsPast}
 
@@ -40,13 +40,13 @@ module _ {S Q : Type 0} (StandsBefore : S → Limit → Ahead → Type 0) (SeqSt
   abbrev pub IsInsideFields : S → Q → C → Limit → Rest → Outcome C → Type 0
   IsInsideFields now q c l f o = (form : Form) × (ps : List (Item × Item)) ×
       StandsBefore now (inside form l) (after (pairs form ps f)) × SeqStands q l (pairs form ps f) ×
-      (o ≡ take_fields fields (inside form l) c ps)
+      (o ≡ outcome (inside form l) (take_fields fields c ps))
 
   -- a key is ahead
   abbrev IsAtName : S → Q → C → Limit → Rest → Outcome C → Type 0
   IsAtName now q c l f o = (form : Form) × (k : Item) × (v : Item) × (ps : List (Item × Item)) ×
       StandsBefore now (inside form l) (item k (entry v form ps f)) × SeqStands q l (pairs form ps f) ×
-      (o ≡ take_fields fields (inside form l) c ((k, v) ∷ ps))
+      (o ≡ outcome (inside form l) (take_fields fields c ((k, v) ∷ ps)))
 
   pub fields_blame_next : {old : S} {q : Q} (c : C) (fault : Fault) → RefusesNext StandsBefore SeqStands old q fault →
       Follows (IsInsideFields old q c) (IsBlamed fault)
@@ -57,7 +57,7 @@ module _ {S Q : Type 0} (StandsBefore : S → Limit → Ahead → Type 0) (SeqSt
   at_name c h = record {
     at = λ l f o w.
         let n = h.1 l w.0 w.1 f w.2 w.3 in
-        (w.0, n.0, n.1, n.2, n.4, n.5, w.4 ∙ ap (take_fields fields (inside w.0 l) c) n.3);
+        (w.0, n.0, n.1, n.2, n.4, n.5, w.4 ∙ ap (λ ps. outcome (inside w.0 l) (take_fields fields c ps)) n.3);
   }
 
   pub fields_end : {old new : S} {q : Q} (c : C) → Leaves StandsBefore SeqStands old new q →
@@ -65,7 +65,7 @@ module _ {S Q : Type 0} (StandsBefore : S → Limit → Ahead → Type 0) (SeqSt
   fields_end c h = record {
     at = λ l f o w.
         let n = h.1 l w.0 w.1 f w.2 w.3 in
-        (w.4 ∙ ap (take_fields fields (inside w.0 l) c) n.0, n.1);
+        (w.4 ∙ ap (λ ps. outcome (inside w.0 l) (take_fields fields c ps)) n.0, n.1);
   }
 
   module _ {P : Type 0} (place : List ℕ → P) where
@@ -74,7 +74,7 @@ module _ {S Q : Type 0} (StandsBefore : S → Limit → Ahead → Type 0) (SeqSt
     IsAtField now q c p l f o = (form : Form) × (v : Item) × (ps : List (Item × Item)) ×
         StandsBefore now (inside form l) (item v (pairs form ps f)) × SeqStands q l (pairs form ps f) ×
         (name : List ℕ) × (place name ≡ p) ×
-        (o ≡ then_take (fields.taken name c (inside form l) v) (λ d. take_fields fields (inside form l) d ps))
+        (o ≡ outcome (inside form l) (then_read (fields name c v) (λ d. take_fields fields d ps)))
 
     name_blames : {old : S} {q : Q} (c : C) (fault : Fault) → RefusesAhead StandsBefore old (taken_place place) fault →
         Follows (IsAtName old q c) (IsBlamed fault)
@@ -82,8 +82,8 @@ module _ {S Q : Type 0} (StandsBefore : S → Limit → Ahead → Type 0) (SeqSt
       at = λ l f o w.
           let m = inside w.0 l in
           subst (IsFaultOf (end_of f) fault) (sym w.6)
-          (fault_then _ fault (take_named fields m c (w.1, w.2)) (λ d. take_fields fields m d w.3)
-          (fault_place _ fault place (taken_name m w.1) (λ name. fields.taken name c m w.2)
+          (fault_then _ fault (outcome m (take_named fields c (w.1, w.2))) (λ d. outcome m (take_fields fields d w.3))
+          (fault_place _ fault place (outcome m (taken_name w.1)) (λ name. outcome m (fields name c w.2))
           (h m w.1 (entry w.2 w.0 w.3 f) w.4)));
     }
 
@@ -93,7 +93,7 @@ module _ {S Q : Type 0} (StandsBefore : S → Limit → Ahead → Type 0) (SeqSt
       at = λ l f o w.
           let m = inside w.0 l in
           let n = h m w.1 (entry w.2 w.0 w.3 f) w.4 in
-          let named = name_at place (taken_name m w.1) n.0 in (
+          let named = name_at place (outcome m (taken_name w.1)) n.0 in (
             w.0,
             w.2,
             w.3,
@@ -101,35 +101,35 @@ module _ {S Q : Type 0} (StandsBefore : S → Limit → Ahead → Type 0) (SeqSt
             w.5,
             named.0,
             named.1,
-            w.6 ∙ ap (λ x. then_take (then_take x (λ name. fields.taken name c m w.2))
-                (λ d. take_fields fields m d w.3)) named.2,
+            w.6 ∙ ap (λ x. then_take (then_take x (λ name. outcome m (fields name c w.2)))
+                (λ d. outcome m (take_fields fields d w.3))) named.2,
           );
     }
 
     field_blames : {old : S} {q : Q} (c : C) {p : P} (fault : Fault) →
-        ((name : List ℕ) → place name ≡ p → RefusesAhead StandsBefore old (fields.taken name c) fault) →
+        ((name : List ℕ) → place name ≡ p → RefusesAhead StandsBefore old (fields name c) fault) →
         Follows (IsAtField old q c p) (IsBlamed fault)
     field_blames c fault h = record {
       at = λ l f o w.
           let m = inside w.0 l in
           subst (IsFaultOf (end_of f) fault) (sym w.7)
-          (fault_then _ fault (fields.taken w.5 c m w.1) (λ d. take_fields fields m d w.2)
+          (fault_then _ fault (outcome m (fields w.5 c w.1)) (λ d. outcome m (take_fields fields d w.2))
           (h w.5 w.6 m w.1 (pairs w.0 w.2 f) w.3));
     }
 
     behind_field : {old new : S} {q : Q} (c : C) {p : P} {d : C} →
-        ((name : List ℕ) → place name ≡ p → TakesAhead StandsBefore old new (fields.taken name c) d) →
+        ((name : List ℕ) → place name ≡ p → TakesAhead StandsBefore old new (fields name c) d) →
         Follows (IsAtField old q c p) (IsInsideFields new q d)
     behind_field c h = record {
       at = λ l f o w.
           let m = inside w.0 l in
           let n = h w.5 w.6 m w.1 (pairs w.0 w.2 f) w.3 in
-          (w.0, w.2, n.1, w.4, w.7 ∙ ap (λ x. then_take x (λ d. take_fields fields m d w.2)) n.0);
+          (w.0, w.2, n.1, w.4, w.7 ∙ ap (λ x. then_take x (λ d. outcome m (take_fields fields d w.2))) n.0);
     }
 
     pub fields_more : {old ahead mid new : S} {q q' : Q} (c : C) {p : P} {d : C} →
         GoesOn StandsBefore SeqStands old ahead q q' → TakesAhead StandsBefore ahead mid (taken_place place) p →
-        ((name : List ℕ) → place name ≡ p → TakesAhead StandsBefore mid new (fields.taken name c) d) →
+        ((name : List ℕ) → place name ≡ p → TakesAhead StandsBefore mid new (fields name c) d) →
         Follows (IsInsideFields old q c) (IsInsideFields new q' d)
     fields_more c h k v = so (at_name c h) (so (at_field c k) (behind_field c v))
 
@@ -140,6 +140,6 @@ module _ {S Q : Type 0} (StandsBefore : S → Limit → Ahead → Type 0) (SeqSt
 
     pub fields_blame_field : {old ahead mid : S} {q q' : Q} (c : C) {p : P} (fault : Fault) →
         GoesOn StandsBefore SeqStands old ahead q q' → TakesAhead StandsBefore ahead mid (taken_place place) p →
-        ((name : List ℕ) → place name ≡ p → RefusesAhead StandsBefore mid (fields.taken name c) fault) →
+        ((name : List ℕ) → place name ≡ p → RefusesAhead StandsBefore mid (fields name c) fault) →
         Follows (IsInsideFields old q c) (IsBlamed fault)
     fields_blame_field c fault h k v = so (at_name c h) (so (at_field c k) (field_blames c fault v))

@@ -5,13 +5,13 @@ use Rattle.ciborium_value.specs.Ahead.{Ahead, Rest, Form, item, after, parts, pa
 use Rattle.ciborium_value.specs.Nesting.{Limit}
 use Rattle.ciborium_value.specs.Places.{Shape, sequence}
 use Rattle.ciborium_value.specs.EnteredSequences.{RefusesInTurn, TakesRest, TakesInTurn}
-use Rattle.ciborium_value.specs.Sources.{Fault, of_kind, of_nesting, of_syntax, of_memory, of_device, of_end}
-use Rattle.ciborium_value.specs.Sources.{of_length}
+use Rattle.ciborium_value.specs.Sources.{Fault, of_kind, of_nesting, of_syntax, of_memory, of_device, of_end, of_length}
 use Rattle.ciborium_value.specs.Sources.{IsFaultOf, IsOutsideFault, TakesAhead, RefusesAhead, Enters, GoesOn, Leaves}
 use Rattle.ciborium_value.specs.Sources.{RefusesNext, TakesTo, TakesItem, OwesLess, OwesNothing}
-use Rattle.ciborium_value.specs.Taken.{Outcome, gives, refuses, nests, Taken, then_take, and_take, take_each}
-use Rattle.ciborium_value.specs.Taken.{outcome_map, taken_value}
-use Rattle.ciborium_value.specs.TakenParts.{list_items, taken_list, no_part_taken}
+use Rattle.ciborium_value.specs.lemmas.GivenOutcomes.{and_take}
+use Rattle.ciborium_value.specs.Taken.{Outcome, Steps, Taken, deeper_if, gives, mapped, nests, outcome, outcome_map}
+use Rattle.ciborium_value.specs.Taken.{refuses, take_each, taken_value, then_take}
+use Rattle.ciborium_value.specs.TakenParts.{taken_list, no_part_taken}
 use Rattle.ciborium_value.specs.Tree.{Tree}
 
 -- ---- who is to blame
@@ -35,16 +35,6 @@ fault_map end of_memory f o h = tt
 fault_map end of_device f o h = tt
 fault_map end of_end f o h = h
 fault_map end of_length f o h = h
-
-pub fault_and : {A : Type 0} (end : ℕ) (fault : Fault) (o : Outcome A) (r : Outcome (List A)) → IsFaultOf end fault o →
-    IsFaultOf end fault (and_take o r)
-fault_and end (of_kind k) o r h = ap (λ x. and_take x r) h
-fault_and end of_nesting o r h = ap (λ x. and_take x r) h
-fault_and end of_syntax o r h = h
-fault_and end of_memory o r h = tt
-fault_and end of_device o r h = tt
-fault_and end of_end o r h = h
-fault_and end of_length o r h = h
 
 pub fault_outside : {A : Type 0} (end : ℕ) (fault : Fault) (o : Outcome A) → IsOutsideFault end fault →
     IsFaultOf end fault o
@@ -72,40 +62,40 @@ IsBlamed fault l f o = IsFaultOf (end_of f) fault o
 module _ {S : Type 0} (StandsBefore : S → Limit → Ahead → Type 0) where
   -- an item is ahead, which gives the outcome
   abbrev pub IsBefore : {C : Type 0} → S → Taken C → Limit → Rest → Outcome C → Type 0
-  IsBefore now taken l f o = (i : Item) × StandsBefore now l (item i f) × (o ≡ taken l i)
+  IsBefore now taken l f o = (i : Item) × StandsBefore now l (item i f) × (o ≡ outcome l (taken i))
 
   -- the outcome is this, and the item was taken
   abbrev pub IsPast : {C : Type 0} → S → C → Limit → Rest → Outcome C → Type 0
   IsPast now v l f o = (o ≡ gives v) × StandsBefore now l (past f)
 
-  pub takes : {C : Type 0} {old new : S} {taken : Taken C} {v : C} → Follows (IsBefore old taken) (IsPast new v) →
+  pub takes : {C : Type 0} {old new : S} (taken : Taken C) {v : C} → Follows (IsBefore old taken) (IsPast new v) →
       TakesAhead StandsBefore old new taken v
-  takes h l i f st = h.at l f _ (i, st, refl)
+  takes taken h l i f st = h.at l f _ (i, st, refl)
 
-  pub blames : {C : Type 0} {old : S} {taken : Taken C} (fault : Fault) →
+  pub blames : {C : Type 0} {old : S} (taken : Taken C) (fault : Fault) →
       Follows (IsBefore old taken) (IsBlamed fault) → RefusesAhead StandsBefore old taken fault
-  blames fault h l i f st = h.at l f _ (i, st, refl)
+  blames taken fault h l i f st = h.at l f _ (i, st, refl)
 
 module _ {S Q : Type 0} (StandsBefore : S → Limit → Ahead → Type 0) (SeqStands : Q → Limit → Rest → Type 0) where
   -- items of a sequence are left, of which k makes the outcome
-  abbrev pub IsInside : {C : Type 0} → S → Q → (Limit → List Item → Outcome C) → Limit → Rest → Outcome C → Type 0
+  abbrev pub IsInside : {C : Type 0} → S → Q → (List Item → Steps C) → Limit → Rest → Outcome C → Type 0
   IsInside now q k l f o = (form : Form) × (is : List Item) ×
       StandsBefore now (inside form l) (after (parts form is f)) × SeqStands q l (parts form is f) ×
-      (o ≡ k (inside form l) is)
+      (o ≡ outcome (inside form l) (k is))
 
   -- one of them is ahead
-  abbrev pub IsAtPart : {C : Type 0} → S → Q → (Limit → List Item → Outcome C) → Limit → Rest → Outcome C → Type 0
+  abbrev pub IsAtPart : {C : Type 0} → S → Q → (List Item → Steps C) → Limit → Rest → Outcome C → Type 0
   IsAtPart now q k l f o = (form : Form) × (i : Item) × (is : List Item) ×
       StandsBefore now (inside form l) (item i (parts form is f)) × SeqStands q l (parts form is f) ×
-      (o ≡ k (inside form l) (i ∷ is))
+      (o ≡ outcome (inside form l) (k (i ∷ is)))
 
-  module _ {C : Type 0} (k : Limit → List Item → Outcome C) where
+  module _ {C : Type 0} (k : List Item → Steps C) where
     pub goes_on : {old new : S} {q q' : Q} → GoesOn StandsBefore SeqStands old new q q' →
         Follows (IsInside old q k) (IsAtPart new q' k)
     goes_on h = record {
       at = λ l f o w.
           let n = h.0 l w.0 w.1 f w.2 w.3 in
-          (w.0, n.0, n.1, n.3, n.4, w.4 ∙ ap (k (inside w.0 l)) n.2);
+          (w.0, n.0, n.1, n.3, n.4, w.4 ∙ ap (λ is. outcome (inside w.0 l) (k is)) n.2);
     }
 
     pub blames_next : {old : S} {q : Q} (fault : Fault) → RefusesNext StandsBefore SeqStands old q fault →
@@ -113,10 +103,11 @@ module _ {S Q : Type 0} (StandsBefore : S → Limit → Ahead → Type 0) (SeqSt
     blames_next fault h = record { at = λ l f o w. fault_outside _ fault o (h.0 l w.0 w.1 f w.2 w.3) }
 
     -- the part gives v, and k makes of it what k' makes of the rest
-    pub reads : {A : Type 0} {old new : S} {q : Q} {first : Taken A} {v : A} (k' : Limit → List Item → Outcome C) →
-        TakesAhead StandsBefore old new first v → ((m : Limit) (i : Item) (is : List Item) → first m i ≡ gives v →
-        k m (i ∷ is) ≡ k' m is) → Follows (IsAtPart old q k) (IsInside new q k')
-    reads k' h step = record {
+    pub reads : {A : Type 0} {old new : S} {q : Q} (first : Taken A) {v : A} (k' : List Item → Steps C) →
+        TakesAhead StandsBefore old new first v → ((m : Limit) (i : Item) (is : List Item) →
+        outcome m (first i) ≡ gives v → outcome m (k (i ∷ is)) ≡ outcome m (k' is)) →
+        Follows (IsAtPart old q k) (IsInside new q k')
+    reads first k' h step = record {
       at = λ l f o w.
           let n = h (inside w.0 l) w.1 (parts w.0 w.2 f) w.3 in
           (w.0, w.2, n.1, w.4, w.5 ∙ step (inside w.0 l) w.1 w.2 n.0);
@@ -124,7 +115,7 @@ module _ {S Q : Type 0} (StandsBefore : S → Limit → Ahead → Type 0) (SeqSt
 
     pub blames_part : {A : Type 0} {old : S} {q : Q} (first : Taken A) (fault : Fault) →
         RefusesAhead StandsBefore old first fault → ((end : ℕ) (m : Limit) (i : Item) (is : List Item) →
-        IsFaultOf end fault (first m i) → IsFaultOf end fault (k m (i ∷ is))) →
+        IsFaultOf end fault (outcome m (first i)) → IsFaultOf end fault (outcome m (k (i ∷ is)))) →
         Follows (IsAtPart old q k) (IsBlamed fault)
     blames_part first fault h step = record {
       at = λ l f o w. subst (IsFaultOf (end_of f) fault) (sym w.5)
@@ -132,18 +123,18 @@ module _ {S Q : Type 0} (StandsBefore : S → Limit → Ahead → Type 0) (SeqSt
     }
 
     pub leaves : {old new : S} {q : Q} (v : C) → Leaves StandsBefore SeqStands old new q →
-        ((m : Limit) → k m [] ≡ gives v) → Follows (IsInside old q k) (IsPast StandsBefore new v)
+        ((m : Limit) → outcome m (k []) ≡ gives v) → Follows (IsInside old q k) (IsPast StandsBefore new v)
     leaves v h none = record {
       at = λ l f o w.
           let n = h.0 l w.0 w.1 f w.2 w.3 in
-          (w.4 ∙ ap (k (inside w.0 l)) n.0 ∙ none (inside w.0 l), n.1);
+          (w.4 ∙ ap (λ is. outcome (inside w.0 l) (k is)) n.0 ∙ none (inside w.0 l), n.1);
     }
 
 -- ---- lists
 
 -- what a list becomes of which these items were read
-abbrev pub list_from : {A : Type 0} → Taken A → List A → Limit → List Item → Outcome (List A)
-list_from taken vs l is = outcome_map (λ ws. vs ++ ws) (list_items taken l is)
+abbrev pub list_from : {A : Type 0} → Taken A → List A → List Item → Steps (List A)
+list_from taken vs is = mapped (λ ws. vs ++ ws) (take_each taken is)
 
 none_listed : {A : Type 0} (o : Outcome (List A)) → o ≡ outcome_map (λ ws. [] ++ ws) o
 none_listed (gives ws) = refl
@@ -170,12 +161,12 @@ module _ {S Q : Type 0} (StandsBefore : S → Limit → Ahead → Type 0) (SeqSt
   list_begins vs none h = record {
     at = λ l f o w.
         let n = h l w.0 f w.1 in
-        let r = list_items taken (inside n.0 l) n.1 in (
+        let r = outcome (inside n.0 l) (take_each taken n.1) in (
           n.0,
           n.1,
           n.3,
           n.4,
-          w.2 ∙ ap (λ p. then_take p (λ x. list_items taken x.0 x.1)) n.2 ∙ none_listed r ∙
+          w.2 ∙ ap (λ p. then_take p (λ x. outcome (deeper_if x.0 l) (take_each taken x.1))) n.2 ∙ none_listed r ∙
               ap (λ x. outcome_map (λ ws. x ++ ws) r) (sym none),
         );
   }
@@ -184,17 +175,16 @@ module _ {S Q : Type 0} (StandsBefore : S → Limit → Ahead → Type 0) (SeqSt
       TakesAhead StandsBefore ahead new taken v → Follows (IsInside StandsBefore SeqStands old q (list_from taken vs))
       (IsInside StandsBefore SeqStands new q' (list_from taken (vs ++ v ∷ [])))
   list_more {v = v} vs h t = so (goes_on StandsBefore SeqStands (list_from taken vs) h)
-      (reads StandsBefore SeqStands (list_from taken vs) (list_from taken (vs ++ v ∷ [])) t
-      (λ m i is e. ap (λ o. outcome_map (λ ws. vs ++ ws) (and_take o (list_items taken m is))) e ∙
-      one_more_listed vs v (list_items taken m is)))
+      (reads StandsBefore SeqStands (list_from taken vs) taken (list_from taken (vs ++ v ∷ [])) t
+      (λ m i is e. ap (λ o. outcome_map (λ ws. vs ++ ws) (and_take o (outcome m (take_each taken is)))) e ∙
+      one_more_listed vs v (outcome m (take_each taken is))))
 
   pub list_blames : {old ahead : S} {q q' : Q} (vs : List A) (fault : Fault) →
       GoesOn StandsBefore SeqStands old ahead q q' → RefusesAhead StandsBefore ahead taken fault →
       Follows (IsInside StandsBefore SeqStands old q (list_from taken vs)) (IsBlamed fault)
   list_blames vs fault h t = so (goes_on StandsBefore SeqStands (list_from taken vs) h)
       (blames_part StandsBefore SeqStands (list_from taken vs) taken fault t
-      (λ end m i is e. fault_map _ fault (λ ws. vs ++ ws) (and_take (taken m i) (list_items taken m is))
-      (fault_and _ fault (taken m i) (list_items taken m is) e)))
+      (λ end m i is e. fault_map _ fault (λ ws. vs ++ ws) _ (fault_then _ fault (outcome m (taken i)) _ e)))
 
   pub list_ends : {old new : S} {q : Q} (vs : List A) → Leaves StandsBefore SeqStands old new q →
       Follows (IsInside StandsBefore SeqStands old q (list_from taken vs)) (IsPast StandsBefore new vs)
@@ -203,12 +193,12 @@ module _ {S Q : Type 0} (StandsBefore : S → Limit → Ahead → Type 0) (SeqSt
 -- ---- parts in a row
 
 module _ {S Q : Type 0} (StandsBefore : S → Limit → Ahead → Type 0) (SeqStands : Q → Limit → Rest → Type 0) where
-  pub takes_parts : {C : Type 0} {old new : S} {q : Q} (taken : Limit → List Item → Outcome C) {c : C} →
+  pub takes_parts : {C : Type 0} {old new : S} {q : Q} (taken : List Item → Steps C) {c : C} →
       Follows (IsInside StandsBefore SeqStands old q taken) (IsPast StandsBefore new c) →
       TakesInTurn StandsBefore SeqStands old new q taken c
   takes_parts taken h l form is f st sq = h.at l f _ (form, is, st, sq, refl)
 
-  pub refuses_parts : {C : Type 0} {old : S} {q : Q} (taken : Limit → List Item → Outcome C) (fault : Fault) →
+  pub refuses_parts : {C : Type 0} {old : S} {q : Q} (taken : List Item → Steps C) (fault : Fault) →
       Follows (IsInside StandsBefore SeqStands old q taken) (IsBlamed fault) →
       RefusesInTurn StandsBefore SeqStands old q taken fault
   refuses_parts taken fault h l form is f st sq = h.at l f _ (form, is, st, sq, refl)
@@ -218,17 +208,16 @@ module _ {S Q : Type 0} (StandsBefore : S → Limit → Ahead → Type 0) (SeqSt
       TakesAhead StandsBefore ahead new taken_value v → Follows (IsInside StandsBefore SeqStands old q no_part_taken)
       (IsInside StandsBefore SeqStands new q' no_part_taken)
   drop_more {v = v} h t = so (goes_on StandsBefore SeqStands no_part_taken h)
-      (reads StandsBefore SeqStands no_part_taken no_part_taken t (λ m i is e. ap
-      (λ o. then_take (and_take o (take_each (taken_value m) is)) (λ _. gives tt)) e ∙
-      one_more_dropped v (take_each (taken_value m) is)))
+      (reads StandsBefore SeqStands no_part_taken taken_value no_part_taken t (λ m i is e. ap
+      (λ o. then_take (and_take o (outcome m (take_each taken_value is))) (λ _. gives tt)) e ∙
+      one_more_dropped v (outcome m (take_each taken_value is))))
 
   pub drop_blames : {old ahead : S} {q q' : Q} (fault : Fault) → GoesOn StandsBefore SeqStands old ahead q q' →
       RefusesAhead StandsBefore ahead taken_value fault →
       Follows (IsInside StandsBefore SeqStands old q no_part_taken) (IsBlamed fault)
   drop_blames fault h t = so (goes_on StandsBefore SeqStands no_part_taken h)
       (blames_part StandsBefore SeqStands no_part_taken taken_value fault t
-      (λ end m i is e. fault_then _ fault (and_take (taken_value m i) (take_each (taken_value m) is))
-      (λ _. gives tt) (fault_and _ fault (taken_value m i) (take_each (taken_value m) is) e)))
+      (λ end m i is e. fault_then _ fault _ (λ _. gives tt) (fault_then _ fault (outcome m (taken_value i)) _ e)))
 
   pub drop_ends : {old new : S} {q : Q} → Leaves StandsBefore SeqStands old new q →
       Follows (IsInside StandsBefore SeqStands old q no_part_taken) (IsPast StandsBefore new tt)

@@ -3,7 +3,7 @@ use Rattle.std.proofs.Common.{◌≡◌, ◌<◌, ℕ, None, Result, Ok, Err, If
 use Rattle.std.specs.Borrow.{Bor}
 use Rattle.ciborium_ll.specs.Item.{Item}
 use Rattle.ciborium_value.specs.Sources.{IsFaultOf, TakesOneItem}
-use Rattle.ciborium_value.specs.Taken.{Outcome, Taken, gives}
+use Rattle.ciborium_value.specs.Taken.{Outcome, Taken, gives, outcome}
 use Rattle.ciborium_value.specs.Ahead.{end_of}
 use Rattle.ciborium_value.specs.TreeAnswers.{IsErrorOf, tree_fault, value_item}
 use Rattle.ciborium_value.specs.declared.deserialized.Pending.TheVariants as pending
@@ -44,10 +44,10 @@ module _ {A V : Type 0} (taken : Taken A) (content : V → A) (old new : TreeSou
 
   -- the answer is what the item ahead gives
   pub given-there : 0 < pending_tree_weight old.ahead → (v : V) →
-      ((i : Item) → IsPending old.ahead i → taken None i ≡ gives (content v)) → TakesOneOfTree (Ok v)
+      ((i : Item) → IsPending old.ahead i → outcome None (taken i) ≡ gives (content v)) → TakesOneOfTree (Ok v)
   given-there some v give = record {
     ok = λ l i f st. (
-      ap (λ k. taken k i) st.0 ∙ give i st.1.0,
+      ap (λ k. outcome k (taken i)) st.0 ∙ give i st.1.0,
       (st.0, due_is_ahead new old.due f st.1.1 next),
     );
     refused = tt;
@@ -59,15 +59,15 @@ module _ {A V : Type 0} (taken : Taken A) (content : V → A) (old new : TreeSou
 
   -- a value was ahead, and it is answered what its item gives, or refused as that is
   pub taken-there : (v : Bor Value) → pending.Whole v ≡ old.ahead → (r : Result V Error) →
-      IfOk r (λ x. taken None (value_item v.now) ≡ gives (content x)) →
-      IfErr r (λ e. IsErrorOf e (taken None (value_item v.now))) → TakesOneOfTree r
+      IfOk r (λ x. outcome None (taken (value_item v.now)) ≡ gives (content x)) →
+      IfErr r (λ e. IsErrorOf e (outcome None (taken (value_item v.now)))) → TakesOneOfTree r
   taken-there v here (Ok x) give refuse = given-there (some_ahead v here) x
-      (λ i is. subst (λ j. taken None j ≡ gives (content x)) (found v here i is) give)
+      (λ i is. subst (λ j. outcome None (taken j) ≡ gives (content x)) (found v here i is) give)
   taken-there v here (Err e) give refuse = record {
     ok = tt;
-    refused = λ l i f st. subst (λ k. IsFaultOf (end_of f) (tree_fault e) (taken k i)) (sym st.0)
-        (fault_of_error (end_of f) e (taken None i)
-        (subst (λ j. IsErrorOf e (taken None j)) (found v here i st.1.0) refuse));
+    refused = λ l i f st. subst (λ k. IsFaultOf (end_of f) (tree_fault e) (outcome k (taken i))) (sym st.0)
+        (fault_of_error (end_of f) e (outcome None (taken i))
+        (subst (λ j. IsErrorOf e (outcome None (taken j))) (found v here i st.1.0) refuse));
     took = tt;
     only = λ first h. tt;
     less = tt;

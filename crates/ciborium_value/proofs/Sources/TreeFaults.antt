@@ -2,8 +2,7 @@
 use Rattle.std.proofs.Common.{ℕ}
 use Rattle.ciborium_value.specs.Sources.{IsFaultOf}
 use Rattle.ciborium_value.specs.Taken.{Outcome}
-use Rattle.ciborium_value.specs.TreeAnswers.{IsErrorOf}
-use Rattle.ciborium_value.specs.TreeAnswers.{tree_fault}
+use Rattle.ciborium_value.specs.TreeAnswers.{IsErrorOf, tree_fault}
 use Rattle.ciborium_value.specs.declared.error.Error.{Error}
 use Rattle.ciborium_value.specs.declared.error.Error.TheVariants.{Custom, Memory}
 

@@ -6,7 +6,7 @@ use Rattle.std.proofs.lemmas.Str.{IsUtf8-from_is_utf8, is_utf8-from_IsUtf8}
 use Rattle.ciborium_ll.specs.Item.{Item}
 use Rattle.ciborium_value.specs.Encoding.{item_of, pairs_of}
 use Rattle.ciborium_value.specs.Taken.{gives, refuses, taken_name, bare_name, lone_pair, taken_variant, bare_variant}
-use Rattle.ciborium_value.specs.Taken.{untagged}
+use Rattle.ciborium_value.specs.Taken.{outcome, settled, untagged}
 use Rattle.std.specs.Borrow.{Bor}
 use Rattle.ciborium_value.specs.Ahead.{Rest, bottom, parts, pairs, entry, held, past}
 use Rattle.ciborium_value.specs.inner.TreeSources.{IsTreeAhead, IsDueValue, IsPending, pending_due}
@@ -22,33 +22,34 @@ use Rattle.ciborium_value.proofs.Trees.Views.{tree_of-Bytes, tree_of-Map}
 
 -- the name that a byte string is, behind the tags of an item
 pub name_of_bytes : (v : Value) (bs : Vec ℕ Global) (i : Item) (b : List ℕ) → v ≡ value.Bytes bs →
-    value_item v ≡ untagged i → b ≡ bs.items → IsUtf8 b → taken_name None i ≡ gives b
+    value_item v ≡ untagged i → b ≡ bs.items → IsUtf8 b → outcome None (taken_name i) ≡ gives b
 name_of_bytes v bs i b is h e u =
     let t = is_utf8-from_IsUtf8 b u in
-    ap bare_name (sym h ∙ ap item_of (ap tree_of is ∙ tree_of-Bytes bs)) ∙ (rw (sym e, t) refl)
+    ap (λ j. settled (bare_name j)) (sym h ∙ ap item_of (ap tree_of is ∙ tree_of-Bytes bs)) ∙ (rw (sym e, t) refl)
 
 utf8_not : (b : List ℕ) → (IsUtf8 b → ⊥) → (t : Bool) → is_utf8 b ≡ t → is_utf8 b ≡ false
 utf8_not b n true e = absurd (n (IsUtf8-from_is_utf8 b e))
 utf8_not b n false e = e
 
 pub no_name_of_bytes : (v : Value) (bs : Vec ℕ Global) (i : Item) (b : List ℕ) → v ≡ value.Bytes bs →
-    value_item v ≡ untagged i → b ≡ bs.items → (IsUtf8 b → ⊥) → taken_name None i ≡ refuses kinds.Name
+    value_item v ≡ untagged i → b ≡ bs.items → (IsUtf8 b → ⊥) → outcome None (taken_name i) ≡ refuses kinds.Name
 no_name_of_bytes v bs i b is h e n =
     let t = utf8_not b n (is_utf8 b) refl in
-    ap bare_name (sym h ∙ ap item_of (ap tree_of is ∙ tree_of-Bytes bs)) ∙ (rw (sym e, t) refl)
+    ap (λ j. settled (bare_name j)) (sym h ∙ ap item_of (ap tree_of is ∙ tree_of-Bytes bs)) ∙ (rw (sym e, t) refl)
 
 -- ---- variants
 
 pub more_pairs : (ps : List (Value × Value)) (p : Value × Value) (rest : List (Value × Value)) → ps ≡ p ∷ rest →
-    (length rest == 0) ≡ false → lone_pair None (pairs_of (tree_pairs_of ps)) ≡ refuses kinds.Variant
+    (length rest == 0) ≡ false → outcome None (lone_pair (pairs_of (tree_pairs_of ps))) ≡ refuses kinds.Variant
 more_pairs ps p [] e n = absurd (let k = n in cc)
 more_pairs ps p (q ∷ qs) e n = rw e refl
 
 -- a map, behind the tags of an item, is a variant as its lone pair is
 pub variant_of_map : (v : Value) (ps : Vec (Value × Value) Global) (qs : List (Value × Value)) (i : Item) →
     v ≡ value.Map ps → value_item v ≡ untagged i → qs ≡ ps.items →
-    taken_variant None i ≡ lone_pair None (pairs_of (tree_pairs_of qs))
-variant_of_map v ps qs i is h e = ap (bare_variant None) (sym h ∙ ap item_of (ap tree_of is ∙ tree_of-Map ps)) ∙
+    outcome None (taken_variant i) ≡ outcome None (lone_pair (pairs_of (tree_pairs_of qs)))
+variant_of_map v ps qs i is h e =
+    ap (λ j. outcome None (bare_variant j)) (sym h ∙ ap item_of (ap tree_of is ∙ tree_of-Map ps)) ∙
     (rw (sym e) refl)
 
 -- ---- what is due

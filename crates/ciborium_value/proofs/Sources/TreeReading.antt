@@ -1,14 +1,14 @@
 -- What a source finds at a value.
 use Rattle.std.proofs.Common.{◌≡◌, ℕ, suc, ◌+◌, ◌<◌, ◌≤◌, List, [], ◌∷◌, ◌++◌, map, length, chars, IsUtf8, encode_utf8}
 use Rattle.std.proofs.Common.{slice_get, Option, Some, None, Result, Ok, Err, IfOk, IfErr, Vec, Global, refl, sym}
-use Rattle.std.proofs.Common.{ap, ◌∙◌, arith, subst}
+use Rattle.std.proofs.Common.{Bool, true, false, ap, ◌∙◌, arith, subst}
 use Rattle.std.proofs.lemmas.Str.{chars_past_char, chars-nil}
 use Rattle.std.proofs.lemmas.List.{nil_from_length}
 use Rattle.ciborium_ll.specs.Item.{Item, unsigned}
-use Rattle.ciborium_value.specs.Ahead.{Form, Rest, counted, inside}
+use Rattle.ciborium_value.specs.Ahead.{Form, Rest, counted, inside, of_bytes, takes_level, until_break}
 use Rattle.ciborium_value.specs.Encoding.{item_of, items_of, pairs_of}
 use Rattle.ciborium_value.specs.Nesting.{Limit}
-use Rattle.ciborium_value.specs.Taken.{Outcome, Taken, deeper, gives, refuses, outcome_map, unpack, unpack_pairs}
+use Rattle.ciborium_value.specs.Taken.{Outcome, Taken, gives, outcome, outcome_map, unpack, unpack_pairs}
 use Rattle.ciborium_value.specs.Taken.{taken_seq, taken_pairs, bare_seq, bare_pairs, untagged, lone_character}
 use Rattle.ciborium_value.specs.Taken.{bare_bytes, taken_bytes, taken_byte, take_each}
 use Rattle.std.specs.Borrow.{Bor}
@@ -21,8 +21,7 @@ use Rattle.ciborium_value.specs.View.{tree_of, trees_of, tree_pairs_of}
 use Rattle.ciborium_value.specs.declared.kind.Kind.TheVariants as kinds
 use Rattle.ciborium_value.specs.declared.tree.Value as value
 use Rattle.ciborium_value.specs.declared.tree.Value.{Value}
-use Rattle.ciborium_value.specs.Counts.{node_count, payload_size}
-use Rattle.ciborium_value.specs.Counts.{tree_pairs_node_count, tree_pairs_payload_size}
+use Rattle.ciborium_value.specs.Counts.{node_count, payload_size, tree_pairs_node_count, tree_pairs_payload_size}
 use Rattle.ciborium_value.proofs.Writing.TreeSinkSteps.{some_is}
 use Rattle.ciborium_value.proofs.Trees.Views.{tree_of-Array, tree_of-Map, tree_of-Bytes}
 
@@ -38,32 +37,37 @@ unpack-tree_pairs (p ∷ ps) = ap (λ qs. pair_items p ∷ qs) (unpack-tree_pair
 
 -- a value, behind the tags of an item, is an array
 pub seq_of : (v : Value) (vs : Vec Value Global) (i : Item) → v ≡ value.Array vs → value_item v ≡ untagged i →
-    taken_seq None i ≡ gives (None, map value_item vs.items)
-seq_of v vs i is h = ap (bare_seq None) (sym h ∙ ap item_of (ap tree_of is ∙ tree_of-Array vs)) ∙
-    ap (λ js. gives (None, js)) (unpack-trees vs.items)
+    outcome None (taken_seq i) ≡ gives (true, map value_item vs.items)
+seq_of v vs i is h = ap (λ j. outcome None (bare_seq j)) (sym h ∙ ap item_of (ap tree_of is ∙ tree_of-Array vs)) ∙
+    ap (λ js. gives (true, js)) (unpack-trees vs.items)
 
 -- a byte string
 pub bytes_of : (v : Value) (bs : Vec ℕ Global) (i : Item) → v ≡ value.Bytes bs → value_item v ≡ untagged i →
-    taken_seq None i ≡ gives (None, map unsigned bs.items)
-bytes_of v bs i is h = ap (bare_seq None) (sym h ∙ ap item_of (ap tree_of is ∙ tree_of-Bytes bs))
+    outcome None (taken_seq i) ≡ gives (false, map unsigned bs.items)
+bytes_of v bs i is h = ap (λ j. outcome None (bare_seq j)) (sym h ∙ ap item_of (ap tree_of is ∙ tree_of-Bytes bs))
 
 -- a map
 pub map_of : (v : Value) (ps : Vec (Value × Value) Global) (i : Item) → v ≡ value.Map ps → value_item v ≡ untagged i →
-    taken_pairs None i ≡ gives (None, map pair_items ps.items)
-map_of v ps i is h = ap (bare_pairs None) (sym h ∙ ap item_of (ap tree_of is ∙ tree_of-Map ps)) ∙
-    ap (λ qs. gives (None, qs)) (unpack-tree_pairs ps.items)
+    outcome None (taken_pairs i) ≡ gives (true, map pair_items ps.items)
+map_of v ps i is h = ap (λ j. outcome None (bare_pairs j)) (sym h ∙ ap item_of (ap tree_of is ∙ tree_of-Map ps)) ∙
+    ap (λ qs. gives (true, qs)) (unpack-tree_pairs ps.items)
+
+no_limit : (form : Form) → inside form None ≡ None
+no_limit counted = refl
+no_limit until_break = refl
+no_limit of_bytes = refl
 
 -- a source that stood before a container stands before its parts, and what is due behind it is kept
-pub opened : {V X : Type 0} (taken : Taken (Limit × List X)) (part : V → X) (all left : List V) → left ≡ all →
-    (old new : Option (Bor Value)) → new ≡ old → (l : Limit) (i : Item) (f : Rest) → l ≡ None → IsDueValue old f →
-    taken None i ≡ gives (None, map part all) →
-    (form : Form) × (xs : List X) × (taken l i ≡ gives (inside form l, xs)) × ((inside form l ≡ None) × Unit {0}) ×
-    ((l ≡ None) × (map part left ≡ xs) × IsDueValue new f)
-opened taken part all left same old new due l i f none at give = (
-  counted,
+pub opened : {V X : Type 0} (taken : Taken (Bool × List X)) (form : Form) (part : V → X) (all left : List V) →
+    left ≡ all → (old new : Option (Bor Value)) → new ≡ old → (l : Limit) (i : Item) (f : Rest) → l ≡ None →
+    IsDueValue old f → outcome None (taken i) ≡ gives (takes_level form, map part all) →
+    (form : Form) × (xs : List X) × (outcome l (taken i) ≡ gives (takes_level form, xs)) ×
+    ((inside form l ≡ None) × Unit {0}) × ((l ≡ None) × (map part left ≡ xs) × IsDueValue new f)
+opened taken form part all left same old new due l i f none at give = (
+  form,
   map part all,
-  ap (λ k. taken k i) none ∙ give ∙ ap (λ k. gives (deeper k, map part all)) (sym none),
-  (ap deeper none, tt),
+  ap (λ k. outcome k (taken i)) none ∙ give,
+  (ap (inside form) none ∙ no_limit form, tt),
   (none, ap (map part) same, subst (λ o. IsDueValue o f) (sym due) at),
 )
 
@@ -77,7 +81,7 @@ pairs_weigh_less v ps n is h =
 -- ---- characters
 
 pub lone : (b rest : List ℕ) (c : ℕ) → IsUtf8 b → b ≡ encode_utf8 c ++ rest → length rest ≡ 0 →
-    lone_character (chars b) ≡ gives c
+    lone_character (chars b) ≡ Ok c
 lone b rest c u h none = ap lone_character (chars_past_char b rest c u h ∙
     ap (λ cs. c ∷ cs) (ap chars (nil_from_length rest none) ∙ chars-nil))
 
@@ -86,7 +90,7 @@ first_of [] d h = cc
 first_of (c ∷ cs) d h = (cs, ap (λ x. x ∷ cs) (some_is c d (sym h)))
 
 pub not_lone : (b rest : List ℕ) (c d : ℕ) → IsUtf8 b → b ≡ encode_utf8 c ++ rest → Some d ≡ slice_get (chars rest) 0 →
-    lone_character (chars b) ≡ refuses kinds.Char
+    lone_character (chars b) ≡ Err kinds.Char
 not_lone b rest c d u h s =
     let more = first_of (chars rest) d s in ap lone_character (chars_past_char b rest c u h ∙ ap (λ ds. c ∷ ds) more.1)
 
@@ -98,9 +102,10 @@ behind_these done o = outcome_map (λ vs. done ++ vs) o
 
 -- the numbers of an array
 pub numbers_of : (v : Value) (vs : Vec Value Global) (i : Item) → v ≡ value.Array vs → value_item v ≡ untagged i →
-    taken_bytes None i ≡ take_each (taken_byte None) (map value_item vs.items)
-numbers_of v vs i is h = ap (bare_bytes None) (sym h ∙ ap item_of (ap tree_of is ∙ tree_of-Array vs)) ∙
-    ap (take_each (taken_byte None)) (unpack-trees vs.items)
+    outcome None (taken_bytes i) ≡ outcome None (take_each taken_byte (map value_item vs.items))
+numbers_of v vs i is h =
+    ap (λ j. outcome None (bare_bytes j)) (sym h ∙ ap item_of (ap tree_of is ∙ tree_of-Array vs)) ∙
+    ap (λ js. outcome None (take_each taken_byte js)) (unpack-trees vs.items)
 
 -- ---- answers
 

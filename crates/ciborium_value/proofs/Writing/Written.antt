@@ -1,5 +1,5 @@
 -- What is written for an item spells it.
-use Rattle.std.proofs.Common.{◌≡◌, ℕ, suc, ◌<◌, ◌≤◌, Bool, true, false, List, [], ◌∷◌, ◌++◌, length, is_some, refl, sym}
+use Rattle.std.proofs.Common.{◌≡◌, ℕ, suc, ◌<◌, ◌≤◌, Bool, true, false, List, [], ◌∷◌, ◌++◌, length, refl, sym}
 use Rattle.std.proofs.Common.{ap, ◌∙◌, lit<, arith, ◌⊎◌, inl, inr, pos, negsuc, IsUtf8, append-nil}
 use Rattle.std.proofs.lemmas.Bool.Decides.{nat_tests}
 use Rattle.ciborium_ll.specs.Bytes.{AreBytes, greatest_offset}
@@ -142,8 +142,10 @@ mutual
 
 pub encoding_is_good : EncodingIsGood
 encoding_is_good v w l proper folds within fits = (
+  item_of v,
   written_spells (item_of v) (IsProperItem-item_of v proper),
-  ap is_some (written_means_folded v ∙ folds),
+  written_means_folded v ∙ folds,
   within,
   omega (arith, fits),
+  tt,
 )

@@ -1,6 +1,8 @@
 -- Trees that are their own deterministic form: each bignum is what it folds to, and the keys of
 -- each map rise (RFC 8949, sections 3.4.3 and 4.2).
-use Rattle.std.specs.Prelude.{◌≡◌, Some, MatchOption}
+use Rattle.std.specs.Prelude.{◌≡◌, List, [], ◌∷◌, Some, false, MatchOption}
+use Rattle.std.specs.Ordering.{is_eq}
+use Rattle.ciborium_value.specs.Canonical.{bytewise_order}
 use Rattle.ciborium_value.specs.Deterministic.{AreRising, keys_of}
 use Rattle.ciborium_value.specs.Folded.{tree_folding_bytes}
 use Rattle.ciborium_value.specs.Meaning.{bignum_meaning}
@@ -30,3 +32,9 @@ abbrev mutual
   pub PairsAreFormed : KeyOrder → TreePairs → Type 0
   PairsAreFormed o no_tree_pairs = Unit {0}
   PairsAreFormed o (tree_pair k v ps) = IsFormed o k × IsFormed o v × PairsAreFormed o ps
+
+-- no two in a row have one encoding
+abbrev pub AreApart : List Tree → Type 0
+AreApart [] = Unit {0}
+AreApart (k ∷ []) = Unit {0}
+AreApart (k ∷ (j ∷ ks)) = (is_eq (bytewise_order k j) ≡ false) × AreApart (j ∷ ks)

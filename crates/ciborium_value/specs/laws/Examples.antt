@@ -17,7 +17,8 @@ use Rattle.ciborium_value.specs.Folded.{folded}
 use Rattle.ciborium_value.specs.Encoding.{encoding, encoded_size, written_bytes, written_tree}
 use Rattle.ciborium_value.specs.Counts.{node_count, payload_size}
 use Rattle.ciborium_value.specs.Canonical.{canonical_order}
-use Rattle.ciborium_value.specs.Refuses.{IsReadAs, Refuses}
+use Rattle.ciborium_value.specs.Refuses.{Refuses}
+use Rattle.ciborium_value.specs.Spelling.{any, IsReadAs}
 
 -- ---- bytes in hexadecimal
 
@@ -107,10 +108,10 @@ pub record SpelledExamples : Type 0 where
 
 -- bignums (RFC 8949, section 3.4.3)
 pub record FoldingExamples : Type 0 where
-  pub empty_is_zero : IsReadAs (hex "c240") 0 (Some 0) (unsigned_tree 0)
-  pub empty_is_minus_one : IsReadAs (hex "c340") 0 (Some 0) (negative_tree 0)
-  pub one : IsReadAs (hex "c24101") 0 (Some 0) (unsigned_tree 1)
-  pub zeros_are_dropped : IsReadAs (hex "c24a00010000000000000000") 0 (Some 0)
+  pub empty_is_zero : IsReadAs any (hex "c240") 0 (Some 0) (unsigned_tree 0)
+  pub empty_is_minus_one : IsReadAs any (hex "c340") 0 (Some 0) (negative_tree 0)
+  pub one : IsReadAs any (hex "c24101") 0 (Some 0) (unsigned_tree 1)
+  pub zeros_are_dropped : IsReadAs any (hex "c24a00010000000000000000") 0 (Some 0)
       (tag 2 (bytes (0x01 ∷ replicate 8 0)))
   pub open_stays : HasMeaning (hex "c25f4101ff") (tag 2 (bytes (0x01 ∷ [])))
   pub too_large_has_none : meaning (item.tag 3 (item.bytes false two_to_127)) ≡ None
@@ -121,53 +122,54 @@ pub record FoldingExamples : Type 0 where
 
 -- refusals under the default limit or none at all (RFC 8949, appendix F)
 pub record RefusedExamples : Type 0 where
-  pub empty : Refuses [] 0 (Some default_limit) io
-  pub reserved : Refuses (hex "1e") 0 (Some default_limit) (syntax 0)
-  pub low_simple : Refuses (hex "f814") 0 (Some default_limit) (syntax 0)
-  pub open_number : Refuses (hex "83011f03") 0 (Some default_limit) (syntax 2)
-  pub bytes_in_text : Refuses (hex "7f61614101ff") 0 (Some default_limit) (syntax 3)
-  pub part_not_utf8 : Refuses (hex "7f62c328ff") 0 (Some default_limit) (syntax 1)
-  pub character_across_parts : Refuses (hex "7f61c361bcff") 0 (Some default_limit) (syntax 1)
-  pub unassigned : Refuses (hex "f820") 0 (Some default_limit) (semantic 0 Simple)
-  pub half_float : Refuses (hex "f93c00") 0 (Some default_limit) (semantic 0 Float)
-  pub break_for_a_value : Refuses (hex "bf01ff") 0 (Some default_limit) (semantic 2 Break)
-  pub break_alone : Refuses (hex "ff") 0 (Some default_limit) (semantic 0 Break)
-  pub long_string : Refuses (hex "5bffffffffffffffff") 0 (Some default_limit) too_long
-  pub large_bignum : Refuses (0xc3 ∷ 0x50 ∷ replicate 16 0xff) 0 (Some default_limit)
+  pub empty : Refuses any [] 0 (Some default_limit) io
+  pub reserved : Refuses any (hex "1e") 0 (Some default_limit) (syntax 0)
+  pub low_simple : Refuses any (hex "f814") 0 (Some default_limit) (syntax 0)
+  pub open_number : Refuses any (hex "83011f03") 0 (Some default_limit) (syntax 2)
+  pub bytes_in_text : Refuses any (hex "7f61614101ff") 0 (Some default_limit) (syntax 3)
+  pub part_not_utf8 : Refuses any (hex "7f62c328ff") 0 (Some default_limit) (syntax 1)
+  pub character_across_parts : Refuses any (hex "7f61c361bcff") 0 (Some default_limit) (syntax 1)
+  pub unassigned : Refuses any (hex "f820") 0 (Some default_limit) (semantic 0 Simple)
+  pub half_float : Refuses any (hex "f93c00") 0 (Some default_limit) (semantic 0 Float)
+  pub break_for_a_value : Refuses any (hex "bf01ff") 0 (Some default_limit) (semantic 2 Break)
+  pub break_alone : Refuses any (hex "ff") 0 (Some default_limit) (semantic 0 Break)
+  pub long_string : Refuses any (hex "5bffffffffffffffff") 0 (Some default_limit) too_long
+  pub large_bignum : Refuses any (0xc3 ∷ 0x50 ∷ replicate 16 0xff) 0 (Some default_limit)
       (semantic 0 TooLarge)
-  pub no_level_for_a_tag : Refuses (hex "c101") 0 (Some 0) recursion_limit_exceeded
-  pub no_level_for_an_array : Refuses (hex "80") 0 (Some 0) recursion_limit_exceeded
-  pub head_before_the_limit : Refuses (hex "c11e") 0 (Some 0) (syntax 1)
-  pub payload_before_the_limit : Refuses (hex "c15bffffffffffffffff") 0 (Some 0) too_long
+  pub no_level_for_a_tag : Refuses any (hex "c101") 0 (Some 0) recursion_limit_exceeded
+  pub no_level_for_an_array : Refuses any (hex "80") 0 (Some 0) recursion_limit_exceeded
+  pub head_before_the_limit : Refuses any (hex "c11e") 0 (Some 0) (syntax 1)
+  pub payload_before_the_limit : Refuses any (hex "c15bffffffffffffffff") 0 (Some 0) too_long
 
 -- the order of faults, and the greatest offset
 pub record CornerExamples : Type 0 where
   -- a head's length is judged before its place
-  pub text_in_bytes_too_long : Refuses (hex "5f7bffffffffffffffff") 0 (Some default_limit) too_long
-  pub text_in_bytes_ends : Refuses (hex "5f78") 0 (Some default_limit) io
+  pub text_in_bytes_too_long : Refuses any (hex "5f7bffffffffffffffff") 0 (Some default_limit)
+      too_long
+  pub text_in_bytes_ends : Refuses any (hex "5f78") 0 (Some default_limit) io
   -- a payload is read whole before it is tested, and a head before the limit is judged
-  pub text_ends : Refuses (hex "62c3") 0 (Some default_limit) io
-  pub head_ends : Refuses (hex "819a") 0 (Some 1) io
+  pub text_ends : Refuses any (hex "62c3") 0 (Some default_limit) io
+  pub head_ends : Refuses any (hex "819a") 0 (Some 1) io
   -- with no byte left, nothing is read
-  pub empty_at_the_greatest : Refuses [] greatest_offset (Some default_limit) too_long
+  pub empty_at_the_greatest : Refuses any [] greatest_offset (Some default_limit) too_long
   -- the second byte of a simple value is not read past the greatest offset
-  pub low_simple_over : Refuses (hex "f814") (greatest_offset - 1) (Some default_limit) too_long
-  pub low_simple_fits : Refuses (hex "f814") (greatest_offset - 2) (Some default_limit)
+  pub low_simple_over : Refuses any (hex "f814") (greatest_offset - 1) (Some default_limit) too_long
+  pub low_simple_fits : Refuses any (hex "f814") (greatest_offset - 2) (Some default_limit)
       (syntax (greatest_offset - 2))
-  pub reserved_at_the_last : Refuses (hex "1e") (greatest_offset - 1) (Some default_limit)
+  pub reserved_at_the_last : Refuses any (hex "1e") (greatest_offset - 1) (Some default_limit)
       (syntax (greatest_offset - 1))
   -- a break is read as far as it fits
-  pub break_over : Refuses (hex "9f01ff") (greatest_offset - 2) (Some default_limit) too_long
-  pub break_fits : IsReadAs (hex "9f01ff") (greatest_offset - 3) (Some default_limit)
+  pub break_over : Refuses any (hex "9f01ff") (greatest_offset - 2) (Some default_limit) too_long
+  pub break_fits : IsReadAs any (hex "9f01ff") (greatest_offset - 3) (Some default_limit)
       (array_of_one (unsigned_tree 1))
   -- what is empty ends at the greatest offset; a tag needs one byte more
-  pub empty_array_at_the_last : IsReadAs (hex "80") (greatest_offset - 1) (Some default_limit)
+  pub empty_array_at_the_last : IsReadAs any (hex "80") (greatest_offset - 1) (Some default_limit)
       (array no_trees)
-  pub empty_bytes_at_the_last : IsReadAs (hex "40") (greatest_offset - 1) (Some default_limit)
+  pub empty_bytes_at_the_last : IsReadAs any (hex "40") (greatest_offset - 1) (Some default_limit)
       (bytes [])
-  pub tag_at_the_last : Refuses (hex "c1") (greatest_offset - 1) (Some default_limit) too_long
+  pub tag_at_the_last : Refuses any (hex "c1") (greatest_offset - 1) (Some default_limit) too_long
   -- a bignum's payload is judged before its number
-  pub large_bignum_over : Refuses (0xc3 ∷ 0x50 ∷ two_to_127) (greatest_offset - 17)
+  pub large_bignum_over : Refuses any (0xc3 ∷ 0x50 ∷ two_to_127) (greatest_offset - 17)
       (Some default_limit) too_long
 
 -- shortest heads (RFC 8949, section 4.1), and trees in canonical order (section 4.2.3)

@@ -6,7 +6,7 @@ use Rattle.ciborium_value.specs.Folded.{folded}
 use Rattle.ciborium_value.specs.Meaning.{meaning}
 use Rattle.ciborium_value.specs.Nesting.{Limit, IsWithin, nesting}
 use Rattle.ciborium_value.specs.ProperTrees.{IsProperTree}
-use Rattle.ciborium_value.specs.Refuses.{IsGood}
+use Rattle.ciborium_value.specs.Spelling.{any, IsReadAs}
 use Rattle.ciborium_value.specs.Tree.{Tree}
 
 -- the item of a tree means the folded tree, and nothing where the tree does not fold
@@ -17,10 +17,10 @@ WrittenMeansFolded = (v : Tree) → meaning (item_of v) ≡ folded v
 abbrev pub FoldsOnce : Type 0
 FoldsOnce = (v w : Tree) → folded v ≡ Some w → folded w ≡ Some w
 
--- the encoding of a proper tree that folds is a good item, where it nests within the limit and ends
--- within the greatest offset
+-- the encoding of a proper tree that folds is read as the folded tree, where it nests within the
+-- limit and ends within the greatest offset
 abbrev pub EncodingIsGood : Type 0
 EncodingIsGood =
     (v w : Tree) (l : Limit) → IsProperTree v → folded v ≡ Some w →
     IsWithin l (nesting (item_of v)) →
-    length (encoding v) ≤ greatest_offset → IsGood (item_of v) l (encoding v) 0
+    length (encoding v) ≤ greatest_offset → IsReadAs any (encoding v) 0 l w

@@ -1,13 +1,13 @@
 -- What holds of deterministic forms (RFC 8949, section 4.2).
 use Rattle.std.specs.Prelude.{◌≡◌, ◌↔◌, ◌⊎◌, ℕ, ◌+◌, ◌≤◌, length, Some}
 use Rattle.ciborium_ll.specs.Bytes.{greatest_offset}
-use Rattle.ciborium_value.specs.Deterministic.{IsDeterministicAt}
 use Rattle.ciborium_value.specs.DeterministicForms.{deterministic_form}
 use Rattle.ciborium_value.specs.Encoding.{encoding, item_of}
 use Rattle.ciborium_value.specs.Folded.{folded}
 use Rattle.ciborium_value.specs.Nesting.{nesting}
 use Rattle.ciborium_value.specs.ProperTrees.{IsProperTree}
 use Rattle.ciborium_value.specs.SameContents.{IsAlike}
+use Rattle.ciborium_value.specs.Spelling.{deterministic, IsReadAs}
 use Rattle.ciborium_value.specs.Taken.{gives, refuses}
 use Rattle.ciborium_value.specs.Tree.{Tree}
 use Rattle.ciborium_value.specs.declared.key_order.KeyOrder.{KeyOrder}
@@ -25,7 +25,7 @@ FormIsItsOwn = (o : KeyOrder) (v u : Tree) → deterministic_form o v ≡ gives 
 abbrev pub AcceptedWhereOwnForm : Type 0
 AcceptedWhereOwnForm =
     (o : KeyOrder) (v : Tree) (p l : ℕ) → IsProperTree v →
-    IsDeterministicAt o (encoding v) p l v ↔ ((deterministic_form o v ≡ gives v) ×
+    IsReadAs (deterministic o) (encoding v) p (Some l) v ↔ ((deterministic_form o v ≡ gives v) ×
     (nesting (item_of v) ≤ l) × (p + length (encoding v) ≤ greatest_offset))
 
 -- trees that are equal but for the order of pairs and folding have the same form, if one of them

@@ -1,26 +1,44 @@
--- What holds of good items and refusals.
-use Rattle.std.specs.Prelude.{◌≡◌, ℕ, ◌⊎◌, List, ◌++◌}
-use Rattle.ciborium_ll.specs.Bytes.{AreBytes}
-use Rattle.ciborium_ll.specs.Item.{Item}
+-- What holds of what is read and of refusals, in every spelling.
+use Rattle.std.specs.Prelude.{◌≡◌, ◌↔◌, ℕ, ◌+◌, ◌≤◌, ◌⊎◌, List, ◌++◌, length}
+use Rattle.ciborium_ll.specs.Bytes.{AreBytes, greatest_offset}
 use Rattle.ciborium_ll.specs.Refusal.{Refusal}
-use Rattle.ciborium_value.specs.Nesting.{Limit}
-use Rattle.ciborium_value.specs.Refuses.{IsGood, Refuses}
+use Rattle.ciborium_value.specs.CanonicalTrees.{IsDeterministic}
+use Rattle.ciborium_value.specs.Encoding.{item_of}
+use Rattle.ciborium_value.specs.Nesting.{Limit, IsWithin, nesting}
+use Rattle.ciborium_value.specs.Refuses.{Refuses}
+use Rattle.ciborium_value.specs.Spelling.{Spelling, deterministic, IsReadAs}
+use Rattle.ciborium_value.specs.Tree.{Tree}
+use Rattle.ciborium_value.specs.declared.key_order.KeyOrder.{KeyOrder}
 
--- some beginning of b, whose first byte is at offset p, is a good item
-abbrev pub HasGoodItem : List ℕ → ℕ → Limit → Type 0
-HasGoodItem b p l = (s : List ℕ) × (i : Item) × (r : List ℕ) × IsGood i l s p × (b ≡ s ++ r)
+-- some beginning of b, whose first byte is at offset p, is read as a tree
+abbrev pub HasGoodItem : Spelling → List ℕ → ℕ → Limit → Type 0
+HasGoodItem spelling b p l = (s : List ℕ) × (v : Tree) × (r : List ℕ) × IsReadAs spelling s p l v ×
+    (b ≡ s ++ r)
 
--- all bytes begin with a good item, or something refuses them
+-- all bytes begin with what is read, or something refuses them
 abbrev pub GoodOrRefused : Type 0
-GoodOrRefused = (b : List ℕ) (p : ℕ) (l : Limit) → AreBytes b →
-    HasGoodItem b p l ⊎ ((e : Refusal) × Refuses b p l e)
+GoodOrRefused = (spelling : Spelling) (b : List ℕ) (p : ℕ) (l : Limit) → AreBytes b →
+    HasGoodItem spelling b p l ⊎ ((e : Refusal) × Refuses spelling b p l e)
 
 -- never both
 abbrev pub NeverBoth : Type 0
-NeverBoth = (b : List ℕ) (p : ℕ) (l : Limit) (e : Refusal) → AreBytes b → HasGoodItem b p l →
-    ¬ Refuses b p l e
+NeverBoth = (spelling : Spelling) (b : List ℕ) (p : ℕ) (l : Limit) (e : Refusal) → AreBytes b →
+    HasGoodItem spelling b p l → ¬ Refuses spelling b p l e
 
--- and with one refusal alone
+-- with one refusal alone
 abbrev pub OneRefusal : Type 0
-OneRefusal = (b : List ℕ) (p : ℕ) (l : Limit) (e f : Refusal) → AreBytes b → Refuses b p l e →
-    Refuses b p l f → e ≡ f
+OneRefusal = (spelling : Spelling) (b : List ℕ) (p : ℕ) (l : Limit) (e f : Refusal) → AreBytes b →
+    Refuses spelling b p l e → Refuses spelling b p l f → e ≡ f
+
+-- and as one tree alone, of the same bytes
+abbrev pub OneReading : Type 0
+OneReading = (spelling : Spelling) (s t q r : List ℕ) (p : ℕ) (l : Limit) (v w : Tree) →
+    IsReadAs spelling s p l v → IsReadAs spelling t p l w → s ++ q ≡ t ++ r →
+    (v ≡ w) × (s ≡ t) × (q ≡ r)
+
+-- what is read in the deterministic spelling is the deterministic encoding of a tree that a program
+-- can hold, and that folding does not change
+abbrev pub DeterministicReading : Type 0
+DeterministicReading = (order : KeyOrder) (s : List ℕ) (p : ℕ) (l : Limit) (v : Tree) →
+    IsReadAs (deterministic order) s p l v ↔ (IsDeterministic order s v ×
+    IsWithin l (nesting (item_of v)) × (p + length s ≤ greatest_offset))

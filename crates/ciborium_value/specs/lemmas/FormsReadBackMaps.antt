@@ -17,14 +17,14 @@ use Rattle.ciborium_value.specs.DeterministicForms.{deterministic_form, inserted
 use Rattle.ciborium_value.specs.DeterministicForms.{placed_pair, sorted_pairs}
 use Rattle.ciborium_value.specs.Encoding.{item_of, pairs_of, written_pairs, written_tree}
 use Rattle.ciborium_value.specs.FormsReadBack.{IsFormRead, IsReadFromForm}
-use Rattle.ciborium_value.specs.lemmas.GivenOutcomes.{mapped_gives, one_given, pair_gives}
-use Rattle.ciborium_value.specs.lemmas.GivenOutcomes.{then_gives}
+use Rattle.ciborium_value.specs.lemmas.GivenOutcomes.{and_take, mapped_gives, one_given}
+use Rattle.ciborium_value.specs.lemmas.GivenOutcomes.{pair_gives, then_gives}
 use Rattle.ciborium_value.specs.Places.{dictionary, pairs_from}
 use Rattle.ciborium_value.specs.ReadsBack.{of_ok}
 use Rattle.ciborium_value.specs.lemmas.ReadsBackMaps.{IsMapHeld, put-contents}
 use Rattle.ciborium_value.specs.WrittenContents.{contents}
 use Rattle.ciborium_value.specs.Sinks.{Named, and_then, all_named, contained, container_of, in_turn}
-use Rattle.ciborium_value.specs.Taken.{Outcome, Taken, gives, and_take, outcome_map, take_each}
+use Rattle.ciborium_value.specs.Taken.{Steps, Taken, gives, outcome, outcome_map, take_each}
 use Rattle.ciborium_value.specs.Taken.{then_take, unpack_pairs}
 use Rattle.ciborium_value.specs.TakenParts.{put_all, take_entry, taken_map}
 use Rattle.ciborium_value.specs.Tree as trees
@@ -236,24 +236,24 @@ module _ {K V : Type 0} (cmp : K → K → Ordering) (total : IsTotalOrder cmp) 
 -- ---- the pairs of a form
 
 -- a test of a pair's items: they are read as what counts of an entry
-module _ {K V A B : Type 0} (key : K → A) (value : V → B) (take : Item × Item → Outcome (A × B))
+module _ {K V A B : Type 0} (key : K → A) (value : V → B) (take : Item × Item → Steps (A × B))
   where
     -- of each pair, and as many
     abbrev AreRead : TreePairs → List (K × V) → Type 0
     AreRead no_tree_pairs [] = Unit {0}
     AreRead no_tree_pairs (e ∷ es) = ⊥
     AreRead (tree_pair k v ps) [] = ⊥
-    AreRead (tree_pair k v ps) (e ∷ es) = (take (item_of k, item_of v) ≡ gives (key e.0, value e.1))
-        ×
-        AreRead ps es
+    AreRead (tree_pair k v ps) (e ∷ es) = (outcome None (take (item_of k, item_of v)) ≡ gives
+        (key e.0, value e.1)) × AreRead ps es
 
     each-read : (ps : TreePairs) (es : List (K × V)) → AreRead ps es →
-        take_each take (unpack_pairs (pairs_of ps)) ≡ gives (contents key value es)
+        outcome None (take_each take (unpack_pairs (pairs_of ps))) ≡ gives
+        (contents key value es)
     each-read no_tree_pairs [] h = refl
     each-read no_tree_pairs (e ∷ es) h = absurd h
     each-read (tree_pair k v ps) [] h = absurd h
     each-read (tree_pair k v ps) (e ∷ es) h =
-        ap (λ o. and_take o (take_each take (unpack_pairs (pairs_of ps)))) h.0 ∙
+        ap (λ o. and_take o (outcome None (take_each take (unpack_pairs (pairs_of ps))))) h.0 ∙
         ap (and_take (gives (key e.0, value e.1))) (each-read ps es h.1)
 
     -- these pairs are read as those entries, in some order
@@ -262,7 +262,7 @@ module _ {K V A B : Type 0} (key : K → A) (value : V → B) (take : Item × It
 
     inserted-read : (o : KeyOrder) (k v : Tree) (e : K × V) (ps qs : TreePairs) (es : List (K × V))
         →
-        take (item_of k, item_of v) ≡ gives (key e.0, value e.1) → AreRead ps es →
+        outcome None (take (item_of k, item_of v)) ≡ gives (key e.0, value e.1) → AreRead ps es →
         inserted o k v ps ≡ gives qs → AreReadInSomeOrder qs (e ∷ es)
     inserted-read o k v e no_tree_pairs qs [] here h put_entry = (
       e ∷ [],
@@ -310,16 +310,18 @@ module _ (o : KeyOrder) where
   -- the forms of the keys and values that are named, if there are such, are read as these entries,
   -- as they stand
   module _ {K V A B : Type 0} (key : K → A) (value : V → B) (f : Taken A) (g : Taken B) where
-    abbrev take : Item × Item → Outcome (A × B)
-    take p = take_entry (f None) (g None) p
+    abbrev take : Item × Item → Steps (A × B)
+    take p = take_entry f g p
 
     abbrev AreEntriesRead : Result (List Item) Kind → List (K × V) → Type 0
     AreEntriesRead s es = IfOk s (λ is. (ps : TreePairs) →
         pair_forms o (written_pairs (pairs_from is)) ≡ gives ps → AreRead key value take ps es)
 
-    entry-read : (i j : Item) (e : K × V) → f None i ≡ gives (key e.0) →
-        g None j ≡ gives (value e.1) → take (i, j) ≡ gives (key e.0, value e.1)
-    entry-read i j e h m = ap (λ r. then_take r (λ a. then_take (g None j) (λ b. gives (a, b)))) h ∙
+    entry-read : (i j : Item) (e : K × V) → outcome None (f i) ≡ gives (key e.0) →
+        outcome None (g j) ≡ gives (value e.1) → outcome None (take (i, j)) ≡ gives
+        (key e.0, value e.1)
+    entry-read i j e h m =
+        ap (λ r. then_take r (λ a. then_take (outcome None (g j)) (λ b. gives (a, b)))) h ∙
         ap (λ r. then_take r (λ b. gives (key e.0, b))) m
 
     pair-form : (r s : Named) (t : Result (List Item) Kind) (e : K × V) (es : List (K × V)) →
@@ -343,14 +345,15 @@ module _ (o : KeyOrder) where
         put_all order [] (contents key value fs) ≡ contents key value es) → AreEntriesRead s es →
         IfOk (contained dictionary false s) (λ i. (t : Tree) →
         deterministic_form o (written_tree i) ≡ gives t →
-        taken_map order f g None (item_of t) ≡ gives (contents key value es))
+        outcome None (taken_map order f g (item_of t)) ≡ gives (contents key value es))
     inside order (Ok is) es h each = λ t form.
         let (qs, there, same) = mapped_gives trees.map
         (then_take (pair_forms o (written_pairs (pairs_from is))) (sorted_pairs o)) t form in
         let (ps, forms, sorted) = then_gives (pair_forms o (written_pairs (pairs_from is)))
         (sorted_pairs o) qs there in
         let (fs, r, all) = sorted-read key value take o ps qs es (each ps forms) sorted in
-        subst (λ u. taken_map order f g None (item_of u) ≡ gives (contents key value es)) same
+        subst (λ u. outcome None (taken_map order f g (item_of u)) ≡
+        gives (contents key value es)) same
         (ap (outcome_map (put_all order [])) (each-read key value take qs fs all) ∙
         ap gives (h fs r))
     inside order (Err k) es h each = tt
@@ -382,7 +385,7 @@ module _ (o : KeyOrder) where
           let parts = all_named (in_turn key_written value_written m.entries) in record {
             back = of_ok (contained dictionary false parts)
                 (λ i. (t : Tree) → deterministic_form o (written_tree i) ≡ gives t →
-                taken_map order key_taken value_taken None (item_of t) ≡ gives
+                outcome None (taken_map order key_taken value_taken (item_of t)) ≡ gives
                 (contents key value m.entries))
                 (inside key value key_taken value_taken order parts m.entries
                 (λ fs r. reordered-contents cmp total order key value orders m.entries fs r

@@ -17,7 +17,7 @@ use Rattle.ciborium_value.specs.Meaning.{unsigned_bignum, without_zeros}
 use Rattle.ciborium_value.specs.NeverWritten.{IsNever, nulls}
 use Rattle.ciborium_value.specs.ReadsBack.{by_tree, of_ok}
 use Rattle.ciborium_value.specs.Sinks.{Named, or_null}
-use Rattle.ciborium_value.specs.Taken.{Outcome, Taken, gives, is_null, then_take}
+use Rattle.ciborium_value.specs.Taken.{Outcome, Taken, gives, is_null, outcome, then_take}
 use Rattle.ciborium_value.specs.TakenParts.{taken_option}
 use Rattle.ciborium_value.specs.Tree as trees
 use Rattle.ciborium_value.specs.Tree.{Tree}
@@ -86,8 +86,8 @@ nothing-form : {C : Type 0} (o : KeyOrder) (taken : Taken C) →
 nothing-form o taken = record {
   back = of_ok {X = items.Item} (Ok (items.simple 22))
       (λ i. (t : Tree) → deterministic_form o (written_tree i) ≡ gives t →
-      taken_option taken None (item_of t) ≡ gives None)
-      (λ t form. subst (λ u. taken_option taken None (item_of u) ≡ gives None)
+      outcome None (taken_option taken (item_of t)) ≡ gives None)
+      (λ t form. subst (λ u. outcome None (taken_option taken (item_of u)) ≡ gives None)
       (one_given trees.null t form) refl);
 }
 

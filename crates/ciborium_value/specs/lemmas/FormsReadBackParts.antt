@@ -8,15 +8,13 @@ use Rattle.ciborium_ll.specs.Item.{Item}
 use Rattle.ciborium_value.specs.DeterministicForms.{deterministic_form, deterministic_forms}
 use Rattle.ciborium_value.specs.Encoding.{item_of, items_of, written_tree, written_trees}
 use Rattle.ciborium_value.specs.FormsReadBack.{IsFormRead, IsReadFromForm}
-use Rattle.ciborium_value.specs.lemmas.GivenOutcomes.{mapped_gives, more_gives, one_given}
-use Rattle.ciborium_value.specs.Nesting.{Limit}
+use Rattle.ciborium_value.specs.lemmas.GivenOutcomes.{and_take, mapped_gives, more_gives, one_given}
 use Rattle.ciborium_value.specs.Places.{sequence, items_from}
 use Rattle.ciborium_value.specs.ReadsBack.{of_ok}
 use Rattle.ciborium_value.specs.Sinks.{Named, and_then, all_named, contained, container_of}
-use Rattle.ciborium_value.specs.lemmas.Steady.{after_seq}
-use Rattle.ciborium_value.specs.Taken.{Outcome, Taken, gives, and_take, outcome_map, take_each}
+use Rattle.ciborium_value.specs.Taken.{Steps, Taken, give, gives, outcome, outcome_map, take_each}
 use Rattle.ciborium_value.specs.Taken.{then_take, unpack}
-use Rattle.ciborium_value.specs.TakenParts.{list_items, taken_list, no_part_taken, part_taken}
+use Rattle.ciborium_value.specs.TakenParts.{after_seq, taken_list, no_part_taken, part_taken}
 use Rattle.ciborium_value.specs.TakenParts.{taken_then, taken_tuple1, taken_tuple2, taken_tuple3}
 use Rattle.ciborium_value.specs.TakenParts.{taken_tuple4}
 use Rattle.ciborium_value.specs.Tree as trees
@@ -26,104 +24,107 @@ use Rattle.ciborium_value.specs.declared.kind.Kind.{Kind}
 
 module _ (o : KeyOrder) where
   -- the forms of all that is named, if there are such, are read as this content
-  abbrev AreFormsRead : {C : Type 0} → Result (List Item) Kind → (List Item → Outcome C) → C →
+  abbrev AreFormsRead : {C : Type 0} → Result (List Item) Kind → (List Item → Steps C) → C →
       Type 0
   AreFormsRead s k c = IfOk s (λ is. (ts : Trees) →
       deterministic_forms o (written_trees (items_from is)) ≡ gives ts →
-      k (unpack (items_of ts)) ≡ gives c)
+      outcome None (k (unpack (items_of ts))) ≡ gives c)
 
-  inside : {C : Type 0} (k : Limit → List Item → Outcome C) (s : Result (List Item) Kind) (c : C) →
-      AreFormsRead s (k None) c →
+  inside : {C : Type 0} (k : List Item → Steps C) (s : Result (List Item) Kind) (c : C) →
+      AreFormsRead s k c →
       IfOk (contained sequence false s) (λ i. (t : Tree) →
-      deterministic_form o (written_tree i) ≡ gives t → after_seq k None (item_of t) ≡ gives c)
+      deterministic_form o (written_tree i) ≡ gives t → outcome None (after_seq k (item_of t)) ≡
+      gives c)
   inside k (Ok is) c h = λ t form.
       let (ts, forms, same) = mapped_gives trees.array
       (deterministic_forms o (written_trees (items_from is))) t form in
-      subst (λ u. after_seq k None (item_of u) ≡ gives c) same (h ts forms)
+      subst (λ u. outcome None (after_seq k (item_of u)) ≡ gives c) same (h ts forms)
   inside k (Err e) c h = tt
 
-  sequence-form : {C : Type 0} (k : Limit → List Item → Outcome C) (s : Result (List Item) Kind)
-      (c : C) → AreFormsRead s (k None) c → IsFormRead o (contained sequence false s) (after_seq k)
+  sequence-form : {C : Type 0} (k : List Item → Steps C) (s : Result (List Item) Kind)
+      (c : C) → AreFormsRead s k c → IsFormRead o (contained sequence false s) (after_seq k)
       c
   sequence-form k s c h = record {
     back = of_ok (contained sequence false s)
         (λ i. (t : Tree) → deterministic_form o (written_tree i) ≡ gives t →
-        after_seq k None (item_of t) ≡ gives c) (inside k s c h);
+        outcome None (after_seq k (item_of t)) ≡ gives c) (inside k s c h);
   }
 
   -- the form of one before those of others
-  module _ {C : Type 0} (k : List Item → Outcome C) (c : C) where
+  module _ {C : Type 0} (k : List Item → Steps C) (c : C) where
     both : (r : Named) (s : Result (List Item) Kind) →
         ((i : Item) (is : List Item) → r ≡ Ok i → s ≡ Ok is → (w : Tree) (ws : Trees) →
         deterministic_form o (written_tree i) ≡ gives w →
         deterministic_forms o (written_trees (items_from is)) ≡ gives ws →
-        k (item_of w ∷ unpack (items_of ws)) ≡ gives c) →
+        outcome None (k (item_of w ∷ unpack (items_of ws))) ≡ gives c) →
         AreFormsRead (and_then r s) k c
     both (Ok i) (Ok is) h = λ ts forms.
         let (w, ws, one, rest, same) = more_gives (deterministic_form o (written_tree i))
         (deterministic_forms o (written_trees (items_from is))) ts forms in
-        subst (λ us. k (unpack (items_of us)) ≡ gives c) same (h i is refl refl w ws one rest)
+        subst (λ us. outcome None (k (unpack (items_of us))) ≡ gives c) same
+        (h i is refl refl w ws one rest)
     both (Ok i) (Err e) h = tt
     both (Err e) s h = tt
 
-  rest-read : {C : Type 0} (s : Result (List Item) Kind) (k : List Item → Outcome C) (c : C) →
+  rest-read : {C : Type 0} (s : Result (List Item) Kind) (k : List Item → Steps C) (c : C) →
       AreFormsRead s k c → (is : List Item) → s ≡ Ok is → (ts : Trees) →
       deterministic_forms o (written_trees (items_from is)) ≡ gives ts →
-      k (unpack (items_of ts)) ≡ gives c
+      outcome None (k (unpack (items_of ts))) ≡ gives c
   rest-read s k c h = of_ok s (λ is. (ts : Trees) →
       deterministic_forms o (written_trees (items_from is)) ≡ gives ts →
-      k (unpack (items_of ts)) ≡ gives c) h
+      outcome None (k (unpack (items_of ts))) ≡ gives c) h
 
-  none-read : {C : Type 0} (k : List Item → Outcome C) (c : C) → k [] ≡ gives c →
+  none-read : {C : Type 0} (k : List Item → Steps C) (c : C) → outcome None (k []) ≡ gives c →
       AreFormsRead (Ok []) k c
-  none-read k c h = λ ts forms. subst (λ us. k (unpack (items_of us)) ≡ gives c)
+  none-read k c h = λ ts forms. subst (λ us. outcome None (k (unpack (items_of us))) ≡ gives c)
       (one_given trees.no_trees ts forms) h
 
   -- ---- lists
 
   and-form : {C : Type 0} (taken : Taken C) (r : Named) (s : Result (List Item) Kind) (c : C)
-      (cs : List C) → IsFormRead o r taken c → AreFormsRead s (take_each (taken None)) cs →
-      AreFormsRead (and_then r s) (take_each (taken None)) (c ∷ cs)
-  and-form taken r s c cs h rest = both (take_each (taken None)) (c ∷ cs) r s
+      (cs : List C) → IsFormRead o r taken c → AreFormsRead s (take_each taken) cs →
+      AreFormsRead (and_then r s) (take_each taken) (c ∷ cs)
+  and-form taken r s c cs h rest = both (take_each taken) (c ∷ cs) r s
       (λ i is named more w ws one forms.
-      ap (λ p. and_take p (take_each (taken None) (unpack (items_of ws)))) (h.back i named w one) ∙
-      ap (and_take (gives c)) (rest-read s (take_each (taken None)) cs rest is more ws forms))
+      ap (λ p. and_take p (outcome None (take_each taken (unpack (items_of ws)))))
+      (h.back i named w one) ∙
+      ap (and_take (gives c)) (rest-read s (take_each taken) cs rest is more ws forms))
 
   module _ {T C : Type 0} {IsHeld : T → Type 0} {written : T → Named} {taken : Taken C}
       {content : T → C} (law : IsReadFromForm o IsHeld written taken content) where
     each-form : (xs : List T) → All IsHeld xs →
-        AreFormsRead (all_named (map written xs)) (take_each (taken None)) (map content xs)
-    each-form [] held = none-read (take_each (taken None)) [] refl
+        AreFormsRead (all_named (map written xs)) (take_each taken) (map content xs)
+    each-form [] held = none-read (take_each taken) [] refl
     each-form (x ∷ xs) held =
         and-form taken (written x) (all_named (map written xs)) (content x) (map content xs)
         (law x (All-head IsHeld x xs held)) (each-form xs (All-tail IsHeld x xs held))
 
     pub list-form : (xs : List T) → All IsHeld xs →
         IsFormRead o (container_of sequence (map written xs)) (taken_list taken) (map content xs)
-    list-form xs held = sequence-form (list_items taken) (all_named (map written xs))
+    list-form xs held = sequence-form (take_each taken) (all_named (map written xs))
         (map content xs) (each-form xs held)
 
   -- ---- parts in a row
 
   -- the forms of what the parts name, if they name items, are read as this content
   pub record AreFormPartsRead {C : Type 0} (s : Result (List Item) Kind)
-      (parts : Limit → List Item → Outcome C) (c : C) : Type 0 where
-    pub back : AreFormsRead s (parts None) c
+      (parts : List Item → Steps C) (c : C) : Type 0 where
+    pub back : AreFormsRead s parts c
 
-  both-forms : {A C : Type 0} (taken : Taken A) (behind : Limit → List Item → Outcome C)
+  both-forms : {A C : Type 0} (taken : Taken A) (behind : List Item → Steps C)
       (r : Named) (s : Result (List Item) Kind) (v : A) (c : C) → IsFormRead o r taken v →
-      AreFormsRead s (behind None) c →
-      AreFormsRead (and_then r s) (part_taken taken behind None) (v, c)
-  both-forms taken behind r s v c h rest = both (part_taken taken behind None) (v, c) r s
+      AreFormsRead s behind c →
+      AreFormsRead (and_then r s) (part_taken taken behind) (v, c)
+  both-forms taken behind r s v c h rest = both (part_taken taken behind) (v, c) r s
       (λ i is named more w ws one forms.
-      ap (λ p. then_take p (λ x. outcome_map (λ d. (x, d)) (behind None (unpack (items_of ws)))))
-      (h.back i named w one) ∙
-      ap (outcome_map (λ d. (v, d))) (rest-read s (behind None) c rest is more ws forms))
+      ap (λ p. then_take p (λ x. outcome_map (λ d. (x, d))
+      (outcome None (behind (unpack (items_of ws)))))) (h.back i named w one) ∙
+      ap (outcome_map (λ d. (v, d))) (rest-read s behind c rest is more ws forms))
 
   module _ {A : Type 0} {r : Named} {taken : Taken A} {a : A} (h : IsFormRead o r taken a) where
     -- a part, and those after it
     pub part_form : {C : Type 0} {s : Result (List Item) Kind}
-        {behind : Limit → List Item → Outcome C} {c : C} → AreFormPartsRead s behind c →
+        {behind : List Item → Steps C} {c : C} → AreFormPartsRead s behind c →
         AreFormPartsRead (and_then r s) (part_taken taken behind) (a, c)
     part_form {s = s} {behind = behind} {c = c} j = record {
       back = both-forms taken behind r s a c h j.back;
@@ -133,18 +134,18 @@ module _ (o : KeyOrder) where
     pub last_form : AreFormPartsRead (and_then r (Ok [])) (part_taken taken no_part_taken) (a, tt)
     last_form = record {
       back = both-forms taken no_part_taken r (Ok []) a tt h
-          (none-read (no_part_taken None) tt refl);
+          (none-read no_part_taken tt refl);
     }
 
   -- the array of them
   pub array_form : {C : Type 0} {s : Result (List Item) Kind}
-      {parts : Limit → List Item → Outcome C} {c : C} → AreFormPartsRead s parts c →
+      {parts : List Item → Steps C} {c : C} → AreFormPartsRead s parts c →
       IsFormRead o (contained sequence false s) (after_seq parts) c
   array_form {s = s} {parts = parts} {c = c} h = sequence-form parts s c h.back
 
   -- what is made of what was read
   made-form : {C D : Type 0} (make : C → D) {r : Named} {taken : Taken C} {c : C} →
-      IsFormRead o r taken c → IsFormRead o r (taken_then taken (λ d. gives (make d))) (make c)
+      IsFormRead o r taken c → IsFormRead o r (taken_then taken (λ d. give (make d))) (make c)
   made-form make h = record {
     back = λ i e t form. ap (λ p. then_take p (λ d. gives (make d))) (h.back i e t form);
   }

@@ -1,9 +1,21 @@
 -- Outcomes that give a value: what they are made of.
-use Rattle.std.proofs.Common.{◌≡◌, Option, Some, None, refl, ap}
+use Rattle.std.proofs.Common.{◌≡◌, List, ◌∷◌, Option, Some, None, refl, ap}
+use Rattle.ciborium_value.specs.DeterministicForms.{one_more, one_pair_more}
 use Rattle.ciborium_value.specs.Taken.{Outcome, gives, refuses, nests, then_take, outcome_map}
-use Rattle.ciborium_value.specs.Taken.{of_meaning, one_more, one_pair_more}
+use Rattle.ciborium_value.specs.Taken.{of_meaning}
 use Rattle.ciborium_value.specs.Tree.{Tree, Trees, tree, TreePairs, tree_pair}
 use Rattle.ciborium_value.specs.declared.kind.Kind.{Kind}
+
+-- one before others
+abbrev pub and_take : {A : Type 0} → Outcome A → Outcome (List A) → Outcome (List A)
+and_take o os = then_take o (λ v. outcome_map (λ vs. v ∷ vs) os)
+
+-- a tree before others, and a pair before others
+abbrev pub tree_first : Outcome Tree → Outcome Trees → Outcome Trees
+tree_first o os = then_take o (λ v. outcome_map (tree v) os)
+
+abbrev pub pair_first : Outcome Tree → Outcome Tree → Outcome TreePairs → Outcome TreePairs
+pair_first k v os = then_take k (λ x. then_take v (λ y. outcome_map (tree_pair x y) os))
 
 pub one_given : {A : Type 0} (x y : A) → gives x ≡ gives y → x ≡ y
 one_given x y e = cc

@@ -5,11 +5,11 @@ use Rattle.std.proofs.Math.Nat.{add-mul, mul_assoc, mul_left_comm, mod-one, mod-
 use Rattle.std.proofs.lemmas.Bool.Decides.{nat_tests}
 use Rattle.std.specs.Int.{byte_at, bytes_high_first}
 use Rattle.std.specs.Prelude.{◌≡◌, ℕ, ◌+◌, ◌*◌, ◌/◌, ◌%◌, ◌^◌, ◌==◌, ◌<◌, ◌≤◌, List, [], ◌∷◌, false}
-use Rattle.std.specs.Prelude.{refl}
+use Rattle.std.specs.Prelude.{Ok, refl}
 use Rattle.ciborium_ll.proofs.HeadOrder.{byte_at-is, power_above}
 use Rattle.ciborium_value.specs.Meaning.{big_endian_behind, big_endian, without_zeros}
 use Rattle.ciborium_value.specs.Number.{shortest_bytes}
-use Rattle.ciborium_value.specs.Taken.{gives, magnitude}
+use Rattle.ciborium_value.specs.Taken.{magnitude}
 
 -- ---- leading zeros
 
@@ -77,10 +77,10 @@ pub without_zeros-shortest : (n : ℕ) → without_zeros (shortest_bytes n) ≡ 
 unfolding shortest_bytes
 without_zeros-shortest n = none_left (bytes_high_first 16 n)
 
-pub magnitude-shortest : (n : ℕ) → n < 2 ^ 128 → magnitude (shortest_bytes n) ≡ gives n
+pub magnitude-shortest : (n : ℕ) → n < 2 ^ 128 → magnitude (shortest_bytes n) ≡ Ok n
 magnitude-shortest n h =
     let fits : length (without_zeros (shortest_bytes n)) ≤ 16 =
     omega (arith, length-without_zeros (shortest_bytes n), length-shortest n) in
-    let read : magnitude (shortest_bytes n) ≡ gives (big_endian (shortest_bytes n)) =
+    let read : magnitude (shortest_bytes n) ≡ Ok (big_endian (shortest_bytes n)) =
     grind (arith, nat_tests) in
-    read ∙ ap gives (big_endian-shortest n h)
+    read ∙ ap Ok (big_endian-shortest n h)

@@ -18,10 +18,11 @@ use Rattle.ciborium_value.specs.ReadsBack.{IsNameRead, IsReadBack, Way, met, of_
 use Rattle.ciborium_value.specs.lemmas.ReadsBackParts.{at, greatest, met-container, within-left}
 use Rattle.ciborium_value.specs.lemmas.ReadsBackParts.{within-right}
 use Rattle.ciborium_value.specs.Sinks.{Named, and_then, all_named, contained, container_of, in_turn}
-use Rattle.ciborium_value.specs.lemmas.Steady.{after_pairs}
-use Rattle.ciborium_value.specs.Taken.{Outcome, Taken, gives, and_take, take_each, then_take}
-use Rattle.ciborium_value.specs.Taken.{outcome_map, unpack_pairs}
-use Rattle.ciborium_value.specs.TakenParts.{map_entries, put_all, take_entry, taken_map}
+use Rattle.ciborium_value.specs.lemmas.GivenOutcomes.{and_take}
+use Rattle.ciborium_value.specs.Taken.{Steps, Taken, gives, outcome, outcome_map, take_each}
+use Rattle.ciborium_value.specs.Taken.{then_take, unpack_pairs}
+use Rattle.ciborium_value.specs.TakenParts.{after_pairs, map_entries, put_all, take_entry}
+use Rattle.ciborium_value.specs.TakenParts.{taken_map}
 use Rattle.ciborium_value.specs.declared.kind.Kind.{Kind}
 use Rattle.ciborium_value.specs.WrittenContents.{contents}
 
@@ -103,35 +104,37 @@ module _ {K V A B : Type 0} (cmp : K → K → Ordering) (order : A → A → Or
 -- ---- maps
 
 -- what the parts name is read inside, with a level less
-module _ {C : Type 0} (way : Way) (k : Limit → List (Item × Item) → Outcome C) where
+module _ {C : Type 0} (way : Way) (k : List (Item × Item) → Steps C) where
   inside : (s : Result (List Item) Kind) (c : C) (n : ℕ) →
-      ((l : Limit) → IsWithin l n → IfOk s (λ is. k l (unpack_pairs (pairs_from (map (met way) is)))
-      ≡ gives c)) →
+      ((l : Limit) → IsWithin l n → IfOk s (λ is. outcome l (k (unpack_pairs (pairs_from
+      (map (met way) is)))) ≡ gives c)) →
       (l : Limit) → IsWithin l (suc n) → IfOk (contained dictionary false s)
-      (λ i. after_pairs k l (met way i) ≡ gives c)
-  inside (Ok is) c n h None fits = ap (after_pairs k None) (met-container way dictionary is) ∙
-      h None tt
+      (λ i. outcome l (after_pairs k (met way i)) ≡ gives c)
+  inside (Ok is) c n h None fits = ap (λ i. outcome None (after_pairs k i))
+      (met-container way dictionary is) ∙ h None tt
   inside (Ok is) c n h (Some zero) fits = absurd (omega (arith, fits))
-  inside (Ok is) c n h (Some (suc m)) fits = ap (after_pairs k (Some (suc m)))
+  inside (Ok is) c n h (Some (suc m)) fits = ap (λ i. outcome (Some (suc m)) (after_pairs k i))
       (met-container way dictionary is) ∙ h (Some m) (omega (arith, fits))
   inside (Err e) c n h l fits = tt
 
 -- a key and its value, and what follows them
-module _ {A B : Type 0} (f : Item → Outcome A) (h : Item → Outcome B) (g : Item → Item) where
-  abbrev entries : List Item → Outcome (List (A × B))
+module _ {A B : Type 0} (f : Taken A) (h : Taken B) (g : Item → Item) where
+  abbrev entries : List Item → Steps (List (A × B))
   entries is = take_each (take_entry f h) (unpack_pairs (pairs_from (map g is)))
 
-  pair-back : (r s : Named) (t : Result (List Item) Kind) (a : A) (b : B) (ps : List (A × B)) →
-      IfOk r (λ i. f (g i) ≡ gives a) → IfOk s (λ i. h (g i) ≡ gives b) →
-      IfOk t (λ is. entries is ≡ gives ps) → IfOk (and_then r (and_then s t))
-      (λ is. entries is ≡ gives ((a, b) ∷ ps))
-  pair-back (Ok i) (Ok j) (Ok is) a b ps p q m =
-      ap (λ o. and_take (then_take o (λ x. then_take (h (g j)) (λ y. gives (x, y)))) (entries is)) p
-      ∙ ap (λ o. and_take (then_take o (λ y. gives (a, y))) (entries is)) q ∙
-      ap (and_take (gives (a, b))) m
-  pair-back (Ok i) (Ok j) (Err e) a b ps p q m = tt
-  pair-back (Ok i) (Err e) t a b ps p q m = tt
-  pair-back (Err e) s t a b ps p q m = tt
+  pair-back : (l : Limit) (r s : Named) (t : Result (List Item) Kind) (a : A) (b : B)
+      (ps : List (A × B)) → IfOk r (λ i. outcome l (f (g i)) ≡ gives a) →
+      IfOk s (λ i. outcome l (h (g i)) ≡ gives b) →
+      IfOk t (λ is. outcome l (entries is) ≡ gives ps) → IfOk (and_then r (and_then s t))
+      (λ is. outcome l (entries is) ≡ gives ((a, b) ∷ ps))
+  pair-back l (Ok i) (Ok j) (Ok is) a b ps p q m =
+      let rest = outcome l (entries is) in
+      ap (λ o. and_take (then_take o (λ x. then_take (outcome l (h (g j))) (λ y. gives (x, y))))
+      rest) p
+      ∙ ap (λ o. and_take (then_take o (λ y. gives (a, y))) rest) q ∙ ap (and_take (gives (a, b))) m
+  pair-back l (Ok i) (Ok j) (Err e) a b ps p q m = tt
+  pair-back l (Ok i) (Err e) t a b ps p q m = tt
+  pair-back l (Err e) s t a b ps p q m = tt
 
 -- what the entries are: their keys rise, and each key and value is held
 abbrev pub IsMapHeld : {K V : Type 0} → (K → K → Ordering) → (K → Type 0) → (V → Type 0) →
@@ -152,14 +155,14 @@ module _ {K A : Type 0} {IsKeyHeld : K → Type 0} {key_written : K → Named} {
     entries-back : (es : List (K × V)) → All (λ e. IsKeyHeld e.0 × IsValueHeld e.1) es →
         (way : Way) (l : Limit) → IsWithin l (greatest (entry_levels key_levels value_levels) es) →
         IfOk (all_named (in_turn key_written value_written es))
-        (λ is. entries (key_taken l) (value_taken l) (met way) is ≡ gives
+        (λ is. outcome l (entries key_taken value_taken (met way) is) ≡ gives
         (contents key value es))
     entries-back [] held way l fits = refl
     entries-back (e ∷ es) held way l fits =
         let levels = entry_levels key_levels value_levels in
         let first = All-head (λ e. IsKeyHeld e.0 × IsValueHeld e.1) e es held in
         let here = within-left l (levels e) (greatest levels es) fits in
-        pair-back (key_taken l) (value_taken l) (met way) (key_written e.0) (value_written e.1)
+        pair-back key_taken value_taken (met way) l (key_written e.0) (value_written e.1)
         (all_named (in_turn key_written value_written es)) (key e.0) (value e.1)
         (contents key value es)
         (at (key_written e.0) key_taken (key e.0) (key_levels e.0) (key_back e.0 first.0) way l
@@ -172,10 +175,10 @@ module _ {K A : Type 0} {IsKeyHeld : K → Type 0} {key_written : K → Named} {
     put-back : (order : A → A → Ordering) (es : List (K × V)) →
         put_all order [] (contents key value es) ≡ contents key value es →
         (way : Way) (l : Limit) (r : Result (List Item) Kind) →
-        IfOk r (λ is. entries (key_taken l) (value_taken l) (met way) is ≡ gives
+        IfOk r (λ is. outcome l (entries key_taken value_taken (met way) is) ≡ gives
         (contents key value es)) →
-        IfOk r (λ is. map_entries order key_taken value_taken l
-        (unpack_pairs (pairs_from (map (met way) is))) ≡ gives (contents key value es))
+        IfOk r (λ is. outcome l (map_entries order key_taken value_taken
+        (unpack_pairs (pairs_from (map (met way) is)))) ≡ gives (contents key value es))
     put-back order es h way l (Ok is) k = ap (outcome_map (put_all order [])) k ∙ ap gives h
     put-back order es h way l (Err e) k = tt
 
@@ -189,7 +192,7 @@ module _ {K A : Type 0} {IsKeyHeld : K → Type 0} {key_written : K → Named} {
         let parts = all_named (in_turn key_written value_written m.entries) in
         let same = put-contents cmp order key value total orders m.entries held.0 in record {
           back = λ way i e l fits. of_ok (contained dictionary false parts)
-              (λ j. taken_map order key_taken value_taken l (met way j) ≡ gives
+              (λ j. outcome l (taken_map order key_taken value_taken (met way j)) ≡ gives
               (contents key value m.entries))
               (inside way (map_entries order key_taken value_taken) parts
               (contents key value m.entries)

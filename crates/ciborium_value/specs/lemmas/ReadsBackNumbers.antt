@@ -4,7 +4,7 @@ use Rattle.std.proofs.Math.Nat.{pow-le-pow_right}
 use Rattle.std.proofs.lemmas.Bool.Decides.{nat_tests}
 use Rattle.std.specs.Int.{complement_if}
 use Rattle.std.specs.Prelude.{◌≡◌, ℕ, ◌^◌, ◌<◌, ◌≤◌, ℤ, pos, negsuc, Bool, true, false}
-use Rattle.std.specs.Prelude.{if◌then◌else◌, nat_lt, refl}
+use Rattle.std.specs.Prelude.{Ok, Result, if◌then◌else◌, nat_lt, refl}
 use Rattle.ciborium_ll.specs.Item as items
 use Rattle.ciborium_ll.specs.Item.{Item}
 use Rattle.ciborium_value.specs.Nesting.{Limit}
@@ -13,8 +13,9 @@ use Rattle.ciborium_value.specs.Readings.{below, bounded}
 use Rattle.ciborium_value.specs.ReadsBack.{IsDefinite, IsReadBack, back-by_item, named}
 use Rattle.ciborium_value.specs.lemmas.ReadsBackBignums.{magnitude-shortest}
 use Rattle.ciborium_value.specs.Sinks.{bignum_item, number_item}
-use Rattle.ciborium_value.specs.Taken.{Outcome, gives, then_take, with_sign, number_of}
-use Rattle.ciborium_value.specs.Taken.{number_below, number_within}
+use Rattle.ciborium_value.specs.Taken.{gives, number_below, number_of, number_within, outcome}
+use Rattle.ciborium_value.specs.Taken.{settled, then_take, with_sign}
+use Rattle.ciborium_value.specs.declared.kind.Kind.{Kind}
 
 -- ---- numbers of either sign
 
@@ -27,13 +28,13 @@ abbrev size : ℤ → ℕ
 size (pos n) = n
 size (negsuc n) = n
 
-either : (t : Bool) (i j : Item) (o : Outcome (Bool × ℕ)) → number_of i ≡ o → number_of j ≡ o →
+either : (t : Bool) (i j : Item) (o : Result (Bool × ℕ) Kind) → number_of i ≡ o → number_of j ≡ o →
     number_of (if t then i else j) ≡ o
 either true i j o h k = h
 either false i j o h k = k
 
 number_of-item : (z : ℤ) → size z < 2 ^ 128 →
-    number_of (number_item z) ≡ gives (is_negative z, size z)
+    number_of (number_item z) ≡ Ok (is_negative z, size z)
 number_of-item (pos n) h = either (nat_lt n (2 ^ 64)) (items.unsigned n) (bignum_item 2 n) _ refl
     (ap (with_sign false) (magnitude-shortest n h))
 number_of-item (negsuc n) h = either (nat_lt n (2 ^ 64)) (items.negative n) (bignum_item 3 n) _ refl
@@ -55,12 +56,13 @@ below-power n k h fits = let le : 2 ^ k ≤ 2 ^ 128 =
     pow-le-pow_right {n = 2} (lit< tt) {i = k} {j = 128} (omega (arith, fits)) in
     omega (arith, le, h)
 
-is_below : (n bound : ℕ) → n < bound → number_below bound (false, n) ≡ gives n
-is_below n bound h = grind (arith, nat_tests)
+is_below : (l : Limit) (n bound : ℕ) → n < bound →
+    outcome l (number_below bound (false, n)) ≡ gives n
+is_below l n bound h = grind (arith, nat_tests)
 
-is_within : (s : Bool) (n bound : ℕ) → n < bound →
-    number_within bound (s, n) ≡ gives (complement_if s n)
-is_within s n bound h = grind (arith, nat_tests)
+is_within : (l : Limit) (s : Bool) (n bound : ℕ) → n < bound →
+    outcome l (number_within bound (s, n)) ≡ gives (complement_if s n)
+is_within l s n bound h = grind (arith, nat_tests)
 
 -- a type of numbers from 0 on of so many bits is read back
 abbrev pub IsUnsignedBack : ℕ → Type 0
@@ -71,15 +73,17 @@ unsigned-back : (k : ℕ) → k < 129 → IsUnsignedBack k
 unsigned-back k fits =
     back-by_item (λ n. n < 2 ^ k) (λ n. number_item (pos n)) (below (2 ^ k)).taken (λ n. n)
     (λ n. definite-number (pos n))
-    (λ n h l. ap (λ o. then_take o (number_below (2 ^ k)))
-    (number_of-item (pos n) (below-power n k h fits)) ∙ is_below n (2 ^ k) h)
+    (λ n h l. ap (λ r. then_take (settled r) (λ v. outcome l (number_below (2 ^ k) v)))
+    (number_of-item (pos n) (below-power n k h fits)) ∙ is_below l n (2 ^ k) h)
 
 signed-taken : (k : ℕ) → k < 129 → (z : ℤ) → readings.IsBounded (2 ^ k) z → (l : Limit) →
-    (bounded (2 ^ k)).taken l (number_item z) ≡ gives z
-signed-taken k fits (pos n) h l = ap (λ o. then_take o (number_within (2 ^ k)))
-    (number_of-item (pos n) (below-power n k h fits)) ∙ is_within false n (2 ^ k) h
-signed-taken k fits (negsuc n) h l = ap (λ o. then_take o (number_within (2 ^ k)))
-    (number_of-item (negsuc n) (below-power n k h fits)) ∙ is_within true n (2 ^ k) h
+    outcome l ((bounded (2 ^ k)).taken (number_item z)) ≡ gives z
+signed-taken k fits (pos n) h l = ap (λ r. then_take (settled r)
+    (λ v. outcome l (number_within (2 ^ k) v)))
+    (number_of-item (pos n) (below-power n k h fits)) ∙ is_within l false n (2 ^ k) h
+signed-taken k fits (negsuc n) h l = ap (λ r. then_take (settled r)
+    (λ v. outcome l (number_within (2 ^ k) v)))
+    (number_of-item (negsuc n) (below-power n k h fits)) ∙ is_within l true n (2 ^ k) h
 
 -- a type of numbers n and -1 - n, for n of so many bits
 abbrev pub IsSignedBack : ℕ → Type 0

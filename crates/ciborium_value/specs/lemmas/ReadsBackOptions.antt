@@ -9,7 +9,7 @@ use Rattle.ciborium_value.specs.NeverWritten.{IsNever, nulls}
 use Rattle.ciborium_value.specs.ReadsBack.{IsNameRead, IsReadBack, Way, by_bytes, by_tree, met}
 use Rattle.ciborium_value.specs.ReadsBack.{named, of_ok}
 use Rattle.ciborium_value.specs.Sinks.{Named, or_null}
-use Rattle.ciborium_value.specs.Taken.{Taken, gives, outcome_map, is_null}
+use Rattle.ciborium_value.specs.Taken.{Taken, gives, is_null, outcome, outcome_map}
 use Rattle.ciborium_value.specs.TakenParts.{taken_option}
 
 -- the levels of what there is
@@ -18,7 +18,7 @@ option_levels levels None = 0
 option_levels levels (Some v) = levels v
 
 null-back : {C : Type 0} (taken : Taken C) (way : Way) (l : Limit) →
-    taken_option taken l (met way (items.simple 22)) ≡ gives None
+    outcome l (taken_option taken (met way (items.simple 22))) ≡ gives None
 null-back taken by_bytes l = refl
 null-back taken by_tree l = refl
 
@@ -26,13 +26,14 @@ nothing-back : {C : Type 0} (taken : Taken C) (n : ℕ) →
     IsNameRead (named (items.simple 22)) (taken_option taken) None n
 nothing-back taken n = record {
   back = λ way i e l fits. of_ok (named (items.simple 22))
-      (λ j. taken_option taken l (met way j) ≡ gives None) (null-back taken way l) i e;
+      (λ j. outcome l (taken_option taken (met way j)) ≡ gives None) (null-back taken way l) i e;
 }
 
 pub some-back : {C : Type 0} (taken : Taken C) (l : Limit) (i : Item) (c : C) → is_null i ≡ false →
-    taken l i ≡ gives c → taken_option taken l i ≡ gives (Some c)
-some-back taken l i c never h = ap (λ t. if t then gives None else outcome_map Some (taken l i))
-    never ∙ ap (outcome_map Some) h
+    outcome l (taken i) ≡ gives c → outcome l (taken_option taken i) ≡ gives (Some c)
+some-back taken l i c never h =
+    ap (λ t. if t then gives None else outcome_map Some (outcome l (taken i))) never ∙
+    ap (outcome_map Some) h
 
 something-back : {C : Type 0} (taken : Taken C) {r : Named} {c : C} {n : ℕ} →
     IsNameRead r taken c n → IsNever nulls r → IsNameRead r (taken_option taken) (Some c) n

@@ -14,10 +14,10 @@ use Rattle.ciborium_value.specs.Places.{pairs_from}
 use Rattle.ciborium_value.specs.ReadsBack.{IsNameRead, IsReadBack, Way, by_bytes, by_tree, met}
 use Rattle.ciborium_value.specs.ReadsBack.{if_ok, of_ok}
 use Rattle.ciborium_value.specs.Sinks.{Named, and_then, all_named, contained, container_of}
-use Rattle.ciborium_value.specs.lemmas.Steady.{after_seq}
-use Rattle.ciborium_value.specs.Taken.{Outcome, Taken, gives, refuses, and_take, take_each}
-use Rattle.ciborium_value.specs.Taken.{outcome_map, then_take, unpack}
-use Rattle.ciborium_value.specs.TakenParts.{taken_then, list_items, taken_list, no_part_taken}
+use Rattle.ciborium_value.specs.lemmas.GivenOutcomes.{and_take}
+use Rattle.ciborium_value.specs.Taken.{Steps, Taken, chosen, give, gives, outcome}
+use Rattle.ciborium_value.specs.Taken.{outcome_map, refuse, refuses, take_each, then_take, unpack}
+use Rattle.ciborium_value.specs.TakenParts.{after_seq, taken_then, taken_list, no_part_taken}
 use Rattle.ciborium_value.specs.TakenParts.{part_taken, taken_tuple1, taken_tuple2, taken_tuple3}
 use Rattle.ciborium_value.specs.TakenParts.{taken_tuple4}
 use Rattle.ciborium_value.specs.declared.kind.Kind.{Kind}
@@ -68,36 +68,37 @@ unpack-items (i ∷ is) = ap (λ js. i ∷ js) (unpack-items is)
 
 -- within a limit what is named is read so
 pub at : {C : Type 0} (r : Named) (taken : Taken C) (c : C) (n : ℕ) → IsNameRead r taken c n →
-    (way : Way) (l : Limit) → IsWithin l n → IfOk r (λ i. taken l (met way i) ≡ gives c)
-at r taken c n h way l fits = if_ok r (λ i. taken l (met way i) ≡ gives c)
+    (way : Way) (l : Limit) → IsWithin l n → IfOk r (λ i. outcome l (taken (met way i)) ≡ gives c)
+at r taken c n h way l fits = if_ok r (λ i. outcome l (taken (met way i)) ≡ gives c)
     (λ i e. h.back way i e l fits)
 
 -- what the parts name is read inside, with a level less
-module _ {C : Type 0} (way : Way) (k : Limit → List Item → Outcome C) where
+module _ {C : Type 0} (way : Way) (k : List Item → Steps C) where
   entered : (c : C) (is : List Item) (l m : Limit) →
-      after_seq k l (array false (items_from (map (met way) is))) ≡ k m
-      (unpack (items_from (map (met way) is))) → k m (map (met way) is) ≡ gives c →
-      after_seq k l (met way (array false (items_from is))) ≡ gives c
-  entered c is l m e h = ap (after_seq k l) (met-container way sequence is) ∙ e ∙
-      ap (k m) (unpack-items (map (met way) is)) ∙ h
+      outcome l (after_seq k (array false (items_from (map (met way) is)))) ≡ outcome m
+      (k (unpack (items_from (map (met way) is)))) →
+      outcome m (k (map (met way) is)) ≡ gives c →
+      outcome l (after_seq k (met way (array false (items_from is)))) ≡ gives c
+  entered c is l m e h = ap (λ i. outcome l (after_seq k i)) (met-container way sequence is) ∙ e ∙
+      ap (λ js. outcome m (k js)) (unpack-items (map (met way) is)) ∙ h
 
   inside : (s : Result (List Item) Kind) (c : C) (n : ℕ) →
-      ((l : Limit) → IsWithin l n → IfOk s (λ is. k l (map (met way) is) ≡ gives c)) → (l : Limit) →
-      IsWithin l (suc n) → IfOk (contained sequence false s)
-      (λ i. after_seq k l (met way i) ≡ gives c)
+      ((l : Limit) → IsWithin l n → IfOk s (λ is. outcome l (k (map (met way) is)) ≡ gives c)) →
+      (l : Limit) → IsWithin l (suc n) → IfOk (contained sequence false s)
+      (λ i. outcome l (after_seq k (met way i)) ≡ gives c)
   inside (Ok is) c n h None fits = entered c is None None refl (h None tt)
   inside (Ok is) c n h (Some zero) fits = absurd (omega (arith, fits))
   inside (Ok is) c n h (Some (suc m)) fits = entered c is (Some (suc m)) (Some m) refl
       (h (Some m) (omega (arith, fits)))
   inside (Err e) c n h l fits = tt
 
-sequence-back : {C : Type 0} (k : Limit → List Item → Outcome C) (s : Result (List Item) Kind)
+sequence-back : {C : Type 0} (k : List Item → Steps C) (s : Result (List Item) Kind)
     (c : C) (n : ℕ) → ((way : Way) (l : Limit) → IsWithin l n →
-    IfOk s (λ is. k l (map (met way) is) ≡ gives c)) →
+    IfOk s (λ is. outcome l (k (map (met way) is)) ≡ gives c)) →
     IsNameRead (contained sequence false s) (after_seq k) c (suc n)
 sequence-back k s c n h = record {
   back = λ way i e l fits. of_ok (contained sequence false s)
-      (λ j. after_seq k l (met way j) ≡ gives c) (inside way k s c n (h way) l fits) i e;
+      (λ j. outcome l (after_seq k (met way j)) ≡ gives c) (inside way k s c n (h way) l fits) i e;
 }
 
 -- ---- tests
@@ -105,7 +106,7 @@ sequence-back k s c n h = record {
 -- what passes the test of a type is read as what it is a test of (`such_that`)
 pub such_that_back : {C : Type 0} (test : C → Bool) (kind : Kind) {w : Named} {taken : Taken C}
     {c : C} {n : ℕ} → IsNameRead w taken c n → test c ≡ true →
-    IsNameRead w (taken_then taken (λ v. if test v then gives v else refuses kind)) c n
+    IsNameRead w (taken_then taken (λ v. chosen (test v) (give v) (refuse kind))) c n
 such_that_back test kind {taken = taken} {c = c} law passes = record {
   back = λ way i e l fits. ap (λ o. then_take o (λ v. if test v then gives v else refuses kind))
       (law.back way i e l fits) ∙ ap (λ t. if t then gives c else refuses kind) passes;
@@ -121,23 +122,24 @@ either_back content false h k = k
 
 -- ---- lists
 
-and-back : {C : Type 0} (f : Item → Outcome C) (g : Item → Item) (r : Named)
-    (s : Result (List Item) Kind) (c : C) (cs : List C) → IfOk r (λ i. f (g i) ≡ gives c) →
-    IfOk s (λ is. take_each f (map g is) ≡ gives cs) →
-    IfOk (and_then r s) (λ is. take_each f (map g is) ≡ gives (c ∷ cs))
-and-back f g (Ok i) (Ok is) c cs h k = ap (λ o. and_take o (take_each f (map g is))) h ∙
-    ap (and_take (gives c)) k
-and-back f g (Ok i) (Err e) c cs h k = tt
-and-back f g (Err e) s c cs h k = tt
+and-back : {C : Type 0} (f : Taken C) (g : Item → Item) (l : Limit) (r : Named)
+    (s : Result (List Item) Kind) (c : C) (cs : List C) →
+    IfOk r (λ i. outcome l (f (g i)) ≡ gives c) →
+    IfOk s (λ is. outcome l (take_each f (map g is)) ≡ gives cs) →
+    IfOk (and_then r s) (λ is. outcome l (take_each f (map g is)) ≡ gives (c ∷ cs))
+and-back f g l (Ok i) (Ok is) c cs h k =
+    ap (λ o. and_take o (outcome l (take_each f (map g is)))) h ∙ ap (and_take (gives c)) k
+and-back f g l (Ok i) (Err e) c cs h k = tt
+and-back f g l (Err e) s c cs h k = tt
 
 module _ {T C : Type 0} {IsHeld : T → Type 0} {written : T → Named} {taken : Taken C}
     {content : T → C} {levels : T → ℕ} (back : IsReadBack IsHeld written taken content levels) where
   each-back : (xs : List T) → All IsHeld xs → (way : Way) (l : Limit) →
       IsWithin l (greatest levels xs) → IfOk (all_named (map written xs))
-      (λ is. take_each (taken l) (map (met way) is) ≡ gives (map content xs))
+      (λ is. outcome l (take_each taken (map (met way) is)) ≡ gives (map content xs))
   each-back [] held way l fits = refl
   each-back (x ∷ xs) held way l fits =
-      and-back (taken l) (met way) (written x) (all_named (map written xs)) (content x)
+      and-back taken (met way) l (written x) (all_named (map written xs)) (content x)
       (map content xs)
       (at (written x) taken (content x) (levels x) (back x (All-head IsHeld x xs held)) way l
       (within-left l (levels x) (greatest levels xs) fits))
@@ -147,7 +149,7 @@ module _ {T C : Type 0} {IsHeld : T → Type 0} {written : T → Named} {taken :
   pub list-back : (xs : List T) → All IsHeld xs →
       IsNameRead (container_of sequence (map written xs)) (taken_list taken) (map content xs)
       (suc (greatest levels xs))
-  list-back xs held = sequence-back (list_items taken) (all_named (map written xs)) (map content xs)
+  list-back xs held = sequence-back (take_each taken) (all_named (map written xs)) (map content xs)
       (greatest levels xs) (each-back xs held)
 
 -- ---- parts in a row
@@ -155,17 +157,19 @@ module _ {T C : Type 0} {IsHeld : T → Type 0} {written : T → Named} {taken :
 -- what the parts name, if they name items, is read as this content where so many levels are left,
 -- both ways
 pub record ArePartsRead {C : Type 0} (s : Result (List Item) Kind)
-    (parts : Limit → List Item → Outcome C) (c : C) (n : ℕ) : Type 0 where
+    (parts : List Item → Steps C) (c : C) (n : ℕ) : Type 0 where
   pub back : (way : Way) (l : Limit) → IsWithin l n →
-      IfOk s (λ is. parts l (map (met way) is) ≡ gives c)
+      IfOk s (λ is. outcome l (parts (map (met way) is)) ≡ gives c)
 
-both-read : {A C : Type 0} (taken : Taken A) (behind : Limit → List Item → Outcome C) (way : Way)
+both-read : {A C : Type 0} (taken : Taken A) (behind : List Item → Steps C) (way : Way)
     (l : Limit) (r : Named) (s : Result (List Item) Kind) (v : A) (c : C) →
-    IfOk r (λ i. taken l (met way i) ≡ gives v) →
-    IfOk s (λ is. behind l (map (met way) is) ≡ gives c) →
-    IfOk (and_then r s) (λ is. part_taken taken behind l (map (met way) is) ≡ gives (v, c))
+    IfOk r (λ i. outcome l (taken (met way i)) ≡ gives v) →
+    IfOk s (λ is. outcome l (behind (map (met way) is)) ≡ gives c) →
+    IfOk (and_then r s) (λ is. outcome l (part_taken taken behind (map (met way) is)) ≡
+    gives (v, c))
 both-read taken behind way l (Ok i) (Ok is) v c h j =
-    ap (λ o. then_take o (λ x. outcome_map (λ d. (x, d)) (behind l (map (met way) is)))) h ∙
+    ap (λ o. then_take o (λ x. outcome_map (λ d. (x, d)) (outcome l (behind (map (met way) is)))))
+    h ∙
     ap (outcome_map (λ d. (v, d))) j
 both-read taken behind way l (Ok i) (Err e) v c h j = tt
 both-read taken behind way l (Err e) s v c h j = tt
@@ -174,7 +178,7 @@ module _ {A : Type 0} {r : Named} {taken : Taken A} {a : A} {n : ℕ}
     (h : IsNameRead r taken a n) where
   -- a part, and those after it
   pub part_back : {C : Type 0} {s : Result (List Item) Kind}
-      {behind : Limit → List Item → Outcome C} {c : C} {m : ℕ} → ArePartsRead s behind c m →
+      {behind : List Item → Steps C} {c : C} {m : ℕ} → ArePartsRead s behind c m →
       ArePartsRead (and_then r s) (part_taken taken behind) (a, c) (max n m)
   part_back {s = s} {behind = behind} {c = c} {m = m} j = record {
     back = λ way l fits. both-read taken behind way l r s a c
@@ -190,14 +194,14 @@ module _ {A : Type 0} {r : Named} {taken : Taken A} {a : A} {n : ℕ}
   }
 
 -- the array of them
-pub array_back : {C : Type 0} {s : Result (List Item) Kind} {parts : Limit → List Item → Outcome C}
+pub array_back : {C : Type 0} {s : Result (List Item) Kind} {parts : List Item → Steps C}
     {c : C} {n : ℕ} → ArePartsRead s parts c n →
     IsNameRead (contained sequence false s) (after_seq parts) c (suc n)
 array_back {s = s} {parts = parts} {c = c} {n = n} h = sequence-back parts s c n h.back
 
 -- what is made of what was read
 made-back : {C D : Type 0} (make : C → D) {r : Named} {taken : Taken C} {c : C} {n : ℕ} →
-    IsNameRead r taken c n → IsNameRead r (taken_then taken (λ d. gives (make d))) (make c) n
+    IsNameRead r taken c n → IsNameRead r (taken_then taken (λ d. give (make d))) (make c) n
 made-back make h = record {
   back = λ way i e l fits. ap (λ o. then_take o (λ d. gives (make d))) (h.back way i e l fits);
 }

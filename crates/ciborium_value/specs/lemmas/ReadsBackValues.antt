@@ -13,16 +13,17 @@ use Rattle.ciborium_value.specs.Nesting.{Limit, IsWithin, items_nesting, nesting
 use Rattle.ciborium_value.specs.Nesting.{tag_nesting}
 use Rattle.ciborium_value.specs.ReadsBack.{IsNameRead, met, met-definite, named, of_ok}
 use Rattle.ciborium_value.specs.lemmas.ReadsBackParts.{within-left, within-right}
-use Rattle.ciborium_value.specs.Taken.{Outcome, gives, deeper, of_meaning, one_more, one_pair_more}
-use Rattle.ciborium_value.specs.Taken.{outcome_map, taken_items, taken_tag, taken_tree_pairs}
-use Rattle.ciborium_value.specs.Taken.{taken_value, within_level}
+use Rattle.ciborium_value.specs.Taken.{Outcome, Steps, gives, leveled, mapped, of_meaning}
+use Rattle.ciborium_value.specs.Taken.{outcome, outcome_map, taken_items, taken_tag}
+use Rattle.ciborium_value.specs.Taken.{taken_tree_pairs, taken_value, then_read}
 use Rattle.ciborium_value.specs.Tree as trees
 use Rattle.ciborium_value.specs.Tree.{Tree, Trees, TreePairs}
+use Rattle.ciborium_value.specs.lemmas.GivenOutcomes.{pair_first, tree_first}
 use Rattle.ciborium_value.specs.declared.kind.Kind.TheVariants as kinds
 
 -- within as many levels this gives what there is
-abbrev IsGiven : {A : Type 0} → Option A → ℕ → (Limit → Outcome A) → Type 0
-IsGiven {A = A} o n x = (l : Limit) (w : A) → o ≡ Some w → IsWithin l n → x l ≡ gives w
+abbrev IsGiven : {A : Type 0} → Option A → ℕ → Steps A → Type 0
+IsGiven {A = A} o n s = (l : Limit) (w : A) → o ≡ Some w → IsWithin l n → outcome l s ≡ gives w
 
 -- ---- parts
 
@@ -33,38 +34,38 @@ map-given f (Some v) x w h e = let given = h v refl in ap (outcome_map f) given 
 map-given f None x w h e = cc
 
 -- a level is taken
-level-given : {A B : Type 0} (f : A → B) (o : Option A) (n : ℕ) (x : Limit → Outcome A) →
-    IsGiven o n x → IsGiven (option_map f o) (suc n)
-    (λ l. within_level l (outcome_map f (x (deeper l))))
-level-given f o n x h None w e fits = map-given f o (x None) w (λ v same. h None v same tt) e
+level-given : {A B : Type 0} (f : A → B) (o : Option A) (n : ℕ) (x : Steps A) →
+    IsGiven o n x → IsGiven (option_map f o) (suc n) (leveled (mapped f x))
+level-given f o n x h None w e fits = map-given f o (outcome None x) w
+    (λ v same. h None v same tt) e
 level-given f o n x h (Some zero) w e fits = absurd (omega (arith, fits))
 level-given f o n x h (Some (suc m)) w e fits =
-    map-given f o (x (Some m)) w (λ v same. h (Some m) v same (omega (arith, fits))) e
+    map-given f o (outcome (Some m) x) w (λ v same. h (Some m) v same (omega (arith, fits))) e
 
-tag-given : (t : ℕ) (b : Option (List ℕ)) (o : Option Tree) (n : ℕ) (x : Limit → Outcome Tree) →
-    IsGiven o n x → IsGiven (tag_meaning t b o) (tag_nesting b n)
-    (λ l. taken_tag t l b (x (deeper l)))
+tag-given : (t : ℕ) (b : Option (List ℕ)) (o : Option Tree) (n : ℕ) (x : Steps Tree) →
+    IsGiven o n x → IsGiven (tag_meaning t b o) (tag_nesting b n) (taken_tag t b x)
 tag-given t (Some b) o n x h l w e fits = ap (of_meaning kinds.TooLarge) e
 tag-given t None o n x h l w e fits = level-given (trees.tag t) o n x h l w e fits
 
-more-given : (o : Option Tree) (r : Option Trees) (n m : ℕ) (x : Limit → Outcome Tree)
-    (y : Limit → Outcome Trees) → IsGiven o n x → IsGiven r m y →
-    IsGiven (trees_more o r) (max n m) (λ l. one_more (x l) (y l))
+more-given : (o : Option Tree) (r : Option Trees) (n m : ℕ) (x : Steps Tree) (y : Steps Trees) →
+    IsGiven o n x → IsGiven r m y → IsGiven (trees_more o r) (max n m)
+    (then_read x (λ v. mapped (trees.tree v) y))
 more-given None r n m x y h k l w e fits = cc
 more-given (Some v) r n m x y h k l w e fits =
-    ap (λ p. one_more p (y l)) (h l v refl (within-left l n m fits)) ∙
-    map-given (trees.tree v) r (y l) w (λ vs same. k l vs same (within-right l n m fits)) e
+    ap (λ p. tree_first p (outcome l y)) (h l v refl (within-left l n m fits)) ∙
+    map-given (trees.tree v) r (outcome l y) w (λ vs same. k l vs same (within-right l n m fits)) e
 
-pair-given : (o p : Option Tree) (r : Option TreePairs) (n m k : ℕ) (x y : Limit → Outcome Tree)
-    (z : Limit → Outcome TreePairs) → IsGiven o n x → IsGiven p m y → IsGiven r k z →
-    IsGiven (tree_pairs_more o p r) (max (max n m) k) (λ l. one_pair_more (x l) (y l) (z l))
+pair-given : (o p : Option Tree) (r : Option TreePairs) (n m k : ℕ) (x y : Steps Tree)
+    (z : Steps TreePairs) → IsGiven o n x → IsGiven p m y → IsGiven r k z →
+    IsGiven (tree_pairs_more o p r) (max (max n m) k)
+    (then_read x (λ u. then_read y (λ v. mapped (trees.tree_pair u v) z)))
 pair-given None p r n m k x y z f g h l w e fits = cc
 pair-given (Some u) None r n m k x y z f g h l w e fits = cc
 pair-given (Some u) (Some v) r n m k x y z f g h l w e fits =
     let here = within-left l (max n m) k fits in
-    ap (λ p. one_pair_more p (y l) (z l)) (f l u refl (within-left l n m here)) ∙
-    ap (λ p. one_pair_more (gives u) p (z l)) (g l v refl (within-right l n m here))
-    ∙ map-given (trees.tree_pair u v) r (z l) w
+    ap (λ p. pair_first p (outcome l y) (outcome l z)) (f l u refl (within-left l n m here)) ∙
+    ap (λ p. pair_first (gives u) p (outcome l z)) (g l v refl (within-right l n m here))
+    ∙ map-given (trees.tree_pair u v) r (outcome l z) w
     (λ ps same. h l ps same (within-right l (max n m) k fits)) e
 
 one : {A : Type 0} (v w : A) → Some v ≡ Some w → gives v ≡ gives w
@@ -75,8 +76,7 @@ one v w e = let same : v ≡ w = cc in ap gives same
 mutual
   unfolding simple_meaning
 
-  value-given : (t : Tree) → IsGiven (folded t) (nesting (item_of t))
-      (λ l. taken_value l (item_of t))
+  value-given : (t : Tree) → IsGiven (folded t) (nesting (item_of t)) (taken_value (item_of t))
   value-given (trees.integer (pos n)) l w e fits = one (trees.integer (pos n)) w e
   value-given (trees.integer (negsuc n)) l w e fits = one (trees.integer (negsuc n)) w e
   value-given (trees.bytes b) l w e fits = one (trees.bytes b) w e
@@ -86,38 +86,39 @@ mutual
   value-given trees.null l w e fits = one trees.null w e
   value-given (trees.tag t v) l w e fits =
       tag-given t (folding_bytes t (item_of v)) (folded v) (nesting (item_of v))
-      (λ m. taken_value m (item_of v)) (value-given v) l w
+      (taken_value (item_of v)) (value-given v) l w
       (ap (λ s. tag_meaning t (if is_bignum_tag t then s else None) (folded v))
       (short_string-item_of v) ∙ e) fits
   value-given (trees.array vs) l w e fits = level-given trees.array (trees_folded vs)
-      (items_nesting (items_of vs)) (λ m. taken_items m (items_of vs)) (values-given vs) l w e fits
+      (items_nesting (items_of vs)) (taken_items (items_of vs)) (values-given vs) l w e fits
   value-given (trees.map ps) l w e fits = level-given trees.map (tree_pairs_folded ps)
-      (pairs_nesting (pairs_of ps)) (λ m. taken_tree_pairs m (pairs_of ps)) (pairs-given ps) l w e
+      (pairs_nesting (pairs_of ps)) (taken_tree_pairs (pairs_of ps)) (pairs-given ps) l w e
       fits
 
   values-given : (vs : Trees) → IsGiven (trees_folded vs) (items_nesting (items_of vs))
-      (λ l. taken_items l (items_of vs))
+      (taken_items (items_of vs))
   values-given trees.no_trees l w e fits = one trees.no_trees w e
   values-given (trees.tree v vs) l w e fits =
       more-given (folded v) (trees_folded vs) (nesting (item_of v)) (items_nesting (items_of vs))
-      (λ m. taken_value m (item_of v)) (λ m. taken_items m (items_of vs)) (value-given v)
+      (taken_value (item_of v)) (taken_items (items_of vs)) (value-given v)
       (values-given vs) l w e fits
 
   pairs-given : (ps : TreePairs) → IsGiven (tree_pairs_folded ps) (pairs_nesting (pairs_of ps))
-      (λ l. taken_tree_pairs l (pairs_of ps))
+      (taken_tree_pairs (pairs_of ps))
   pairs-given trees.no_tree_pairs l w e fits = one trees.no_tree_pairs w e
   pairs-given (trees.tree_pair k v ps) l w e fits =
       pair-given (folded k) (folded v) (tree_pairs_folded ps) (nesting (item_of k))
       (nesting (item_of v)) (pairs_nesting (pairs_of ps))
-      (λ m. taken_value m (item_of k)) (λ m. taken_value m (item_of v))
-      (λ m. taken_tree_pairs m (pairs_of ps)) (value-given k) (value-given v) (pairs-given ps) l
+      (taken_value (item_of k)) (taken_value (item_of v))
+      (taken_tree_pairs (pairs_of ps)) (value-given k) (value-given v) (pairs-given ps) l
       w e fits
 
 -- what is written of a tree is read as the tree, where folding changes nothing in it
 pub value-back : (t : Tree) → folded t ≡ Some t →
     IsNameRead (named (item_of t)) taken_value t (nesting (item_of t))
 value-back t same = record {
-  back = λ way i e l fits. of_ok (named (item_of t)) (λ j. taken_value l (met way j) ≡ gives t)
-      (ap (taken_value l) (met-definite way (item_of t) (ap item_of (tree_is_written_as_itself t)))
-      ∙ value-given t l t same fits) i e;
+  back = λ way i e l fits. of_ok (named (item_of t))
+      (λ j. outcome l (taken_value (met way j)) ≡ gives t)
+      (ap (λ j. outcome l (taken_value j)) (met-definite way (item_of t)
+      (ap item_of (tree_is_written_as_itself t))) ∙ value-given t l t same fits) i e;
 }

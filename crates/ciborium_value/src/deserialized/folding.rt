@@ -3,7 +3,7 @@
 ghost use Rattle.std.specs.Prelude.{◌≡◌, ◌∷◌, ◌++◌, [], IfErr, IfOk, MatchOption, None, OnOk, Some};
 ghost use Rattle.ciborium_value.specs.Folded.{folded, tree_folding_bytes};
 ghost use Rattle.ciborium_value.specs.inner.FoldedCopies.{IsCopyBegun, IsUnfolded, path_trees};
-ghost use Rattle.ciborium_value.specs.Taken.{gives, taken_value};
+ghost use Rattle.ciborium_value.specs.Taken.{gives, outcome, taken_value};
 ghost use Rattle.ciborium_value.specs.Tree as trees;
 ghost use Rattle.ciborium_value.specs.TreeAnswers.{IsErrorOf, tree_fault, value_item};
 ghost use Rattle.ciborium_value.specs.View.{tree_of};
@@ -112,9 +112,10 @@ fn next<'a>(path: &mut Vec<Coming<'a>>) -> Result<Option<&'a Value>, AllocError>
 /// A copy in which each tag 2 or 3 that folds is folded (RFC 8949, section 3.4.3). The walk keeps
 /// what is open on a stack of its own.
 pub(super) fn fold_value(alloc: Global, value: &Value) -> Result<Value, Error>
-    ensures ok { IfOk result (λ v. taken_value None (value_item value.now) ≡ gives (tree_of v)) }
+    ensures ok { IfOk result
+        (λ v. outcome None (taken_value (value_item value.now)) ≡ gives (tree_of v)) }
     ensures refused { IfErr result
-        (λ e. IsErrorOf e (taken_value None (value_item value.now))) }
+        (λ e. IsErrorOf e (outcome None (taken_value (value_item value.now)))) }
 {
     let mut stack = Stack::new(alloc);
     let mut path = Vec::new(alloc);

@@ -1,15 +1,15 @@
 //! What is found at a value, behind its tags.
 
 ghost use Rattle.std.specs.Prelude.{◌≡◌, ◌+◌, ◌<◌, ◌≤◌, IfErr, IfNone, IfOk, IfSome, MatchOption};
-ghost use Rattle.std.specs.Prelude.{None, chars, false, map, string_bytes};
+ghost use Rattle.std.specs.Prelude.{Err, None, Ok, chars, false, map, string_bytes};
 ghost use Rattle.ciborium_value.specs.Counts.{tree_pairs_node_count, tree_pairs_payload_size};
 ghost use Rattle.ciborium_value.specs.Encoding.{pairs_of};
 ghost use Rattle.ciborium_value.specs.Sources.{IsGrantedFault};
 ghost use Rattle.ciborium_value.specs.Taken as taken;
-ghost use Rattle.ciborium_value.specs.Taken.{bignum_of, gives, outcome_map, refuses, take_each};
-ghost use Rattle.ciborium_value.specs.Taken.{taken_boolean, taken_byte, taken_bytes};
-ghost use Rattle.ciborium_value.specs.Taken.{taken_character, taken_integer, taken_name};
-ghost use Rattle.ciborium_value.specs.Taken.{taken_text, taken_unit};
+ghost use Rattle.ciborium_value.specs.Taken.{bignum_of, gives, outcome, outcome_map, refuses};
+ghost use Rattle.ciborium_value.specs.Taken.{settled, take_each, taken_boolean, taken_byte};
+ghost use Rattle.ciborium_value.specs.Taken.{taken_bytes, taken_character, taken_integer};
+ghost use Rattle.ciborium_value.specs.Taken.{taken_name, taken_text, taken_unit};
 ghost use Rattle.ciborium_value.specs.inner.TreeSources.{value_weight};
 ghost use Rattle.ciborium_value.specs.TreeAnswers.{IsErrorOf, tree_fault, value_item};
 ghost use Rattle.ciborium_value.specs.View.{tree_pairs_of};
@@ -36,9 +36,9 @@ pub(super) fn skip_tags(value: &Value) -> &Value
 
 // The number of a bignum's bytes.
 fn find_bignum(value: &Value) -> Result<u128, Error>
-    ensures ok { IfOk result (λ n. bignum_of (value_item value.now) ≡ gives n) }
+    ensures ok { IfOk result (λ n. bignum_of (value_item value.now) ≡ Ok n) }
     ensures refused { IfErr result
-        (λ e. IsErrorOf e (bignum_of (value_item value.now))) }
+        (λ e. IsErrorOf e (settled (bignum_of (value_item value.now)))) }
     ensures memory { IfErr result (λ e. IsGrantedFault (tree_fault e) false) }
 {
     match value {
@@ -52,9 +52,9 @@ fn find_bignum(value: &Value) -> Result<u128, Error>
 
 // The number of a value.
 pub(super) fn find_number(value: &Value) -> Result<(bool, u128), Error>
-    ensures ok { IfOk result (λ v. taken_integer None (value_item value.now) ≡ gives v) }
+    ensures ok { IfOk result (λ v. outcome None (taken_integer (value_item value.now)) ≡ gives v) }
     ensures refused { IfErr result
-        (λ e. IsErrorOf e (taken_integer None (value_item value.now))) }
+        (λ e. IsErrorOf e (outcome None (taken_integer (value_item value.now)))) }
     ensures memory { IfErr result (λ e. IsGrantedFault (tree_fault e) false) }
 {
     let mut inner = value;
@@ -77,9 +77,9 @@ pub(super) fn find_number(value: &Value) -> Result<(bool, u128), Error>
 }
 
 pub(super) fn find_boolean(value: &Value) -> Result<bool, Error>
-    ensures ok { IfOk result (λ v. taken_boolean None (value_item value.now) ≡ gives v) }
+    ensures ok { IfOk result (λ v. outcome None (taken_boolean (value_item value.now)) ≡ gives v) }
     ensures refused { IfErr result
-        (λ e. IsErrorOf e (taken_boolean None (value_item value.now))) }
+        (λ e. IsErrorOf e (outcome None (taken_boolean (value_item value.now)))) }
     ensures memory { IfErr result (λ e. IsGrantedFault (tree_fault e) false) }
 {
     match skip_tags(value) {
@@ -89,9 +89,9 @@ pub(super) fn find_boolean(value: &Value) -> Result<bool, Error>
 }
 
 pub(super) fn find_null(value: &Value) -> Result<(), Error>
-    ensures ok { IfOk result (λ v. taken_unit None (value_item value.now) ≡ gives v) }
+    ensures ok { IfOk result (λ v. outcome None (taken_unit (value_item value.now)) ≡ gives v) }
     ensures refused { IfErr result
-        (λ e. IsErrorOf e (taken_unit None (value_item value.now))) }
+        (λ e. IsErrorOf e (outcome None (taken_unit (value_item value.now)))) }
     ensures memory { IfErr result (λ e. IsGrantedFault (tree_fault e) false) }
 {
     match skip_tags(value) {
@@ -101,9 +101,10 @@ pub(super) fn find_null(value: &Value) -> Result<(), Error>
 }
 
 pub(super) fn find_character(value: &Value) -> Result<char, Error>
-    ensures ok { IfOk result (λ v. taken_character None (value_item value.now) ≡ gives v) }
+    ensures ok { IfOk result
+        (λ v. outcome None (taken_character (value_item value.now)) ≡ gives v) }
     ensures refused { IfErr result
-        (λ e. IsErrorOf e (taken_character None (value_item value.now))) }
+        (λ e. IsErrorOf e (outcome None (taken_character (value_item value.now)))) }
     ensures memory { IfErr result (λ e. IsGrantedFault (tree_fault e) false) }
 {
     let Value::Text(text) = skip_tags(value) else {
@@ -117,9 +118,9 @@ pub(super) fn find_character(value: &Value) -> Result<char, Error>
 
 pub(super) fn copy_text(alloc: Global, value: &Value) -> Result<String, Error>
     ensures ok { IfOk result
-        (λ v. taken_text None (value_item value.now) ≡ gives (string_bytes v)) }
+        (λ v. outcome None (taken_text (value_item value.now)) ≡ gives (string_bytes v)) }
     ensures refused { IfErr result
-        (λ e. IsErrorOf e (taken_text None (value_item value.now))) }
+        (λ e. IsErrorOf e (outcome None (taken_text (value_item value.now)))) }
 {
     match skip_tags(value) {
         Value::Text(text) => Ok(String::from_str(alloc, text)?),
@@ -129,9 +130,9 @@ pub(super) fn copy_text(alloc: Global, value: &Value) -> Result<String, Error>
 
 // The name that a value is.
 pub(super) fn find_name(value: &Value) -> Result<&str, Error>
-    ensures ok { IfOk result (λ v. taken_name None (value_item value.now) ≡ gives v.now) }
+    ensures ok { IfOk result (λ v. outcome None (taken_name (value_item value.now)) ≡ gives v.now) }
     ensures refused { IfErr result
-        (λ e. IsErrorOf e (taken_name None (value_item value.now))) }
+        (λ e. IsErrorOf e (outcome None (taken_name (value_item value.now)))) }
 {
     match skip_tags(value) {
         Value::Text(text) => Ok(text),
@@ -145,19 +146,22 @@ pub(super) fn find_name(value: &Value) -> Result<&str, Error>
 
 pub(super) fn copy_name(alloc: Global, value: &Value) -> Result<String, Error>
     ensures ok { IfOk result
-        (λ v. taken_name None (value_item value.now) ≡ gives (string_bytes v)) }
+        (λ v. outcome None (taken_name (value_item value.now)) ≡ gives (string_bytes v)) }
     ensures refused { IfErr result
-        (λ e. IsErrorOf e (taken_name None (value_item value.now))) }
+        (λ e. IsErrorOf e (outcome None (taken_name (value_item value.now)))) }
 {
     Ok(String::from_str(alloc, find_name(value)?)?)
 }
 
 // The one pair of a map that has just one.
 pub(super) fn find_lone_pair(pairs: &[(Value, Value)]) -> Option<(&Value, &Value)>
-    ensures none { IfNone result (taken.lone_pair None (pairs_of (tree_pairs_of pairs.now))
+    ensures none { IfNone result
+        (outcome None (taken.lone_pair (pairs_of (tree_pairs_of pairs.now)))
         ≡ refuses kinds.Variant) }
-    ensures some { IfSome result (λ p. taken.lone_pair None (pairs_of (tree_pairs_of pairs.now))
-        ≡ outcome_map (λ name. (name, value_item p.1.now)) (taken_name None (value_item p.0.now))) }
+    ensures some { IfSome result
+        (λ p. outcome None (taken.lone_pair (pairs_of (tree_pairs_of pairs.now)))
+        ≡ outcome_map (λ name. (name, value_item p.1.now))
+        (outcome None (taken_name (value_item p.0.now)))) }
     ensures less { IfSome result (λ p. value_weight p.1.now
         < tree_pairs_node_count (tree_pairs_of pairs.now)
         + tree_pairs_payload_size (tree_pairs_of pairs.now)) }
@@ -172,9 +176,9 @@ pub(super) fn find_lone_pair(pairs: &[(Value, Value)]) -> Option<(&Value, &Value
 
 // A number from 0 to 255.
 fn find_byte(value: &Value) -> Result<u8, Error>
-    ensures ok { IfOk result (λ v. taken_byte None (value_item value.now) ≡ gives v) }
+    ensures ok { IfOk result (λ v. outcome None (taken_byte (value_item value.now)) ≡ gives v) }
     ensures refused { IfErr result
-        (λ e. IsErrorOf e (taken_byte None (value_item value.now))) }
+        (λ e. IsErrorOf e (outcome None (taken_byte (value_item value.now)))) }
 {
     let (negative, number) = find_number(value)?;
     if negative || number > 255 {
@@ -185,9 +189,9 @@ fn find_byte(value: &Value) -> Result<u8, Error>
 
 fn copy_bytes_of(alloc: Global, values: &[Value]) -> Result<Vec<u8>, Error>
     ensures ok { IfOk result
-        (λ v. take_each (taken_byte None) (map value_item values.now) ≡ gives v.items) }
+        (λ v. outcome None (take_each taken_byte (map value_item values.now)) ≡ gives v.items) }
     ensures refused { IfErr result
-        (λ e. IsErrorOf e (take_each (taken_byte None) (map value_item values.now))) }
+        (λ e. IsErrorOf e (outcome None (take_each taken_byte (map value_item values.now)))) }
 {
     let mut bytes = Vec::new(alloc);
     for value in values {
@@ -201,9 +205,10 @@ fn copy_bytes_of(alloc: Global, values: &[Value]) -> Result<Vec<u8>, Error>
 }
 
 pub(super) fn copy_bytes(alloc: Global, value: &Value) -> Result<Vec<u8>, Error>
-    ensures ok { IfOk result (λ v. taken_bytes None (value_item value.now) ≡ gives v.items) }
+    ensures ok { IfOk result
+        (λ v. outcome None (taken_bytes (value_item value.now)) ≡ gives v.items) }
     ensures refused { IfErr result
-        (λ e. IsErrorOf e (taken_bytes None (value_item value.now))) }
+        (λ e. IsErrorOf e (outcome None (taken_bytes (value_item value.now)))) }
 {
     match skip_tags(value) {
         Value::Bytes(bytes) => Ok(Vec::from_slice(alloc, bytes)?),
@@ -214,8 +219,8 @@ pub(super) fn copy_bytes(alloc: Global, value: &Value) -> Result<Vec<u8>, Error>
 
 // The character of a text that has just one.
 fn lone_character(text: &str) -> Option<char>
-    ensures { MatchOption result (taken.lone_character (chars text.now) ≡ refuses kinds.Char)
-        (λ c. taken.lone_character (chars text.now) ≡ gives c) }
+    ensures { MatchOption result (taken.lone_character (chars text.now) ≡ Err kinds.Char)
+        (λ c. taken.lone_character (chars text.now) ≡ Ok c) }
 {
     let mut characters = text.chars();
     match characters.next() {

@@ -1,8 +1,8 @@
 -- The bytes begin at offset 0.
 use Rattle.std.specs.declared.io.Error.{Error}
-use Rattle.ciborium_value.specs.Sources.{read_as}
-use Rattle.ciborium.specs.Spelling.{any}
-use Rattle.ciborium.proofs.Readers.HandedReaders.{from-first, some-map}
+use Rattle.ciborium_value.specs.View.{read_as}
+use Rattle.ciborium_value.specs.Spelling.{any}
+use Rattle.ciborium.proofs.Readers.HandedReaders.{some-map}
 use Rattle.ciborium.proofs.Readers.KnownReaders.{whole-of}
 use Rattle.ciborium.proofs.de.read.Goals as goal
 
@@ -14,7 +14,5 @@ returns-clause-reads g c = record {
   taken = c.read_at.ensures.reads.taken;
   value = some-map g.T.Deserialize.reading.whole c.read_at.ensures.reads.value
       (λ tree taken. whole-of {E = Error} any c.args.limit (g.A.Access.remaining c.args.reader.now) _
-      (read_as (λ v. tree (g.T.Deserialize.reading.content v)) c.read_at.result)
-      (from-first Error (g.A.Access.remaining c.args.reader.now) c.args.limit _
-      (read_as (λ v. tree (g.T.Deserialize.reading.content v)) c.read_at.result) taken));
+      (read_as (λ v. tree (g.T.Deserialize.reading.content v)) c.read_at.result) taken);
 }

@@ -3,11 +3,12 @@
 ghost use Rattle.std.specs.Prelude.{◌≡◌, ◌+◌, ◌<◌, ◌≤◌, IfErr, IfOk, List, OnErr, OnOk, Option};
 ghost use Rattle.std.specs.Prelude.{Some, ℕ};
 ghost use Rattle.ciborium_ll.specs.Decoding.{HasSameReader};
+ghost use Rattle.ciborium_value.specs.Nesting.{Limit};
 ghost use Rattle.ciborium_value.specs.Places.{sequence};
 ghost use Rattle.ciborium_value.specs.Sources.{HasItem, IsFaultOf, RefusesAhead, TakesAhead};
 ghost use Rattle.ciborium_value.specs.Sources.{TakesItem, TakesOnly, TakesTo};
-ghost use Rattle.ciborium_value.specs.Taken.{gives, number_below, take_each, taken_byte};
-ghost use Rattle.ciborium_value.specs.Taken.{taken_bytes};
+ghost use Rattle.ciborium_value.specs.Taken.{gives, number_below, outcome, take_each};
+ghost use Rattle.ciborium_value.specs.Taken.{taken_byte, taken_bytes};
 ghost use Rattle.ciborium.specs.inner.ByteSources.{HasTaken, IsUnread, ReadsRest, RefusesRest};
 ghost use Rattle.ciborium.specs.inner.ByteSources.{SeqOwes, StandsBefore, seq_left, weight_left};
 ghost use Rattle.ciborium.specs.Errors.{fault_of};
@@ -22,10 +23,11 @@ use std::alloc::Global;
 // The byte that a number at this offset is.
 #[inline(always)]
 fn to_byte(number: (bool, u128), offset: usize) -> Result<u8, Refusal>
-    ensures ok { IfOk result (λ byte. number_below 256 number ≡ gives byte) }
+    ensures ok { IfOk result
+        (λ byte. (l : Limit) → outcome l (number_below 256 number) ≡ gives byte) }
     ensures refused { IfErr result
-        (λ e. (left : Option (List ℕ)) (end : ℕ) →
-        IsFaultOf end (fault_of left e) (number_below 256 number)) }
+        (λ e. (left : Option (List ℕ)) (end : ℕ) (l : Limit) →
+        IsFaultOf end (fault_of left e) (outcome l (number_below 256 number))) }
     ensures at { IfErr result (λ e. e ≡ Error.Semantic (Some offset) Kind.Range) }
 {
     let (is_negative, n) = number;
@@ -47,9 +49,9 @@ impl<'a, R, A: Access<R>> ByteSource<'a, R, A> {
         ensures no_more { OnErr result
             (weight_left self.new ≤ weight_left self.old + seq_left seq) }
         ensures ok { IfOk result (λ v. ReadsRest A.remaining self.old self.new seq
-            (λ l is. take_each (taken_byte l) is) v.items) }
+            (take_each taken_byte) v.items) }
         ensures refused { IfErr result (λ e. RefusesRest A.remaining self.old seq
-            (λ l is. take_each (taken_byte l) is) (fault_at A.can_fail A.remaining self.new e)) }
+            (take_each taken_byte) (fault_at A.can_fail A.remaining self.new e)) }
         ensures took { OnOk result (TakesTo (IsUnread A.remaining) self.old self.new
             (λ c z. (b : List ℕ) → SeqOwes seq sequence b c → HasItem b z)) }
         ensures fewer { OnOk result

@@ -1,9 +1,9 @@
 //! Characters.
 
-ghost use Rattle.std.specs.Prelude.{◌≡◌, ◌<◌, ◌⊎◌, IfErr, IfOk, IsUtf8, List, None, OnOk};
+ghost use Rattle.std.specs.Prelude.{◌≡◌, ◌<◌, ◌⊎◌, IfErr, IfOk, IsUtf8, List, None, Ok, OnOk};
 ghost use Rattle.std.specs.Prelude.{Option, Some, chars, false, ℕ};
 ghost use Rattle.ciborium_value.specs.Sources.{IsFaultOf, IsGrantedFault};
-ghost use Rattle.ciborium_value.specs.Taken.{gives, lone_character, taken_character};
+ghost use Rattle.ciborium_value.specs.Taken.{lone_character, settled, taken_character};
 ghost use Rattle.ciborium.specs.inner.ByteSources.{AnswersItem, PassesItem};
 ghost use Rattle.ciborium.specs.Errors.{fault_of};
 ghost use Rattle.ciborium.specs.inner.ByteSources.{fault_at};
@@ -20,10 +20,10 @@ const GREATEST_CHARACTER_SIZE: usize = 4;
 // The one character of the payload of a text at this offset.
 fn only_character(payload: &[u8], offset: usize) -> Result<char, Refusal>
     ensures utf8 { OnOk result (IsUtf8 payload.now) }
-    ensures ok { IfOk result (λ c. lone_character (chars payload.now) ≡ gives c) }
+    ensures ok { IfOk result (λ c. lone_character (chars payload.now) ≡ Ok c) }
     ensures refused { IfErr result (λ e.
         (left : Option (List ℕ)) (end : ℕ) → IsUtf8 payload.now →
-        IsFaultOf end (fault_of left e) (lone_character (chars payload.now))) }
+        IsFaultOf end (fault_of left e) (settled (lone_character (chars payload.now)))) }
     ensures memory { IfErr result (λ e. (left : Option (List ℕ)) →
         IsGrantedFault (fault_of left e) false) }
     ensures at { IfErr result (λ e.

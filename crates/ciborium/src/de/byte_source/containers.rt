@@ -4,9 +4,10 @@ ghost use Rattle.std.specs.Prelude.{◌≡◌, ◌≢◌, ℕ, List, ◌+◌, �
 ghost use Rattle.std.specs.Prelude.{None, OnErr, OnOk, Some, false};
 ghost use Rattle.ciborium_ll.specs.Decoding.{HasSameReader};
 ghost use Rattle.ciborium_ll.specs.StringRefusal.{of_bytes};
+ghost use Rattle.ciborium_value.specs.Ahead.{takes_level};
 ghost use Rattle.ciborium_value.specs.Sources.{GoesOn, IsGrantedFault, Leaves, OwesLess};
 ghost use Rattle.ciborium_value.specs.Sources.{OwesNothing, RefusesNext, TakesOnly, TakesTo};
-ghost use Rattle.ciborium_value.specs.Taken.{gives, taken_pairs, taken_seq};
+ghost use Rattle.ciborium_value.specs.Taken.{give, taken_pairs, taken_seq};
 ghost use Rattle.ciborium.specs.inner.ByteSources.{EntersItemsUnread, EntersPairsUnread, HasBytes};
 ghost use Rattle.ciborium.specs.inner.ByteSources.{HasTaken, IsUnread, SeqOwes, SeqStands};
 ghost use Rattle.ciborium.specs.inner.ByteSources.{StandsBefore, bytes_weight, end_at};
@@ -94,7 +95,7 @@ impl<'a, R, A: Access<R>> ByteSource<'a, R, A> {
         ensures fewer { IfOk result
             (λ q. weight_left self.new + seq_left q < weight_left self.old) }
         ensures ok { IfOk result (EntersItemsUnread A.remaining self.old self.new taken_seq
-            (λ l is. gives (l, is))) }
+            (λ form is. give (takes_level form, is))) }
         ensures denied { IfErr result
             (λ e. Denies (IsUnread A.remaining) (end_at A.remaining) self.old
             (Some self.old.levels) taken_seq (fault_at A.can_fail A.remaining self.new e)) }
@@ -120,7 +121,7 @@ impl<'a, R, A: Access<R>> ByteSource<'a, R, A> {
         ensures fewer { IfOk result
             (λ q. weight_left self.new + seq_left q < weight_left self.old) }
         ensures ok { IfOk result (EntersPairsUnread A.remaining self.old self.new taken_pairs
-            (λ l ps. gives (l, ps))) }
+            (λ form ps. give (takes_level form, ps))) }
         ensures denied { IfErr result
             (λ e. Denies (IsUnread A.remaining) (end_at A.remaining) self.old
             (Some self.old.levels) taken_pairs (fault_at A.can_fail A.remaining self.new e)) }

@@ -2,9 +2,9 @@
 
 ghost use Rattle.std.specs.Prelude.{◌≡◌, ◌<◌, ◌≤◌, MatchOption, None, OnErr, OnOk, Some, false};
 ghost use Rattle.ciborium_ll.specs.Decoding.{HasSameReader};
-ghost use Rattle.ciborium_value.specs.Sources.{TakesOnly, read_as};
+ghost use Rattle.ciborium_value.specs.Sources.{TakesOnly};
+ghost use Rattle.ciborium_value.specs.View.{read_as, tree_of};
 ghost use Rattle.ciborium_value.specs.Taken.{taken_value};
-ghost use Rattle.ciborium_value.specs.View.{tree_of};
 ghost use Rattle.ciborium.specs.inner.ByteSources.{HasTaken, MeansTree, ReadsValue, is_portable};
 ghost use Rattle.ciborium.specs.inner.ByteSources.{weight_left, AnswersItem};
 

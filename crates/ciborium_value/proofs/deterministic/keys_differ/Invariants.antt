@@ -1,5 +1,6 @@
 use Rattle.std.proofs.Common.{◌↔◌, length}
-use Rattle.ciborium_value.specs.Deterministic.{AreApart, keys_of}
+use Rattle.ciborium_value.specs.Deterministic.{keys_of}
+use Rattle.ciborium_value.specs.inner.OwnForms.{AreApart}
 use Rattle.ciborium_value.specs.View.{tree_pairs_of}
 use Rattle.ciborium_value.proofs.deterministic.keys_differ.Given as goal
 

@@ -1,6 +1,7 @@
 -- A map is read by names pair by pair.
-use Rattle.std.proofs.Common.{arith, ◌∙◌, subst}
-use Rattle.ciborium_value.specs.Sources.{RefusesAhead, TakesAhead}
+use Rattle.std.proofs.Common.{arith, ◌∙◌, subst, sym}
+use Rattle.ciborium_value.specs.Ahead.{end_of}
+use Rattle.ciborium_value.specs.Sources.{IsFaultOf, RefusesAhead}
 use Rattle.ciborium_value.specs.StructReadings.{taken_fields}
 use Rattle.ciborium_value.proofs.Writing.Progress.{exits}
 use Rattle.ciborium_value.proofs.Sources.Sequences.{so, takes, blames}
@@ -16,7 +17,8 @@ returns-in_err-next-clause-refused g c =
     exits _ c.in_err-next.field-0.0 (λ x. RefusesAhead g.S.Source.stands_before c.args.source.now
     (taken_fields fields (g.F.WantedFields.content c.args.fields.now)) (g.S.Source.cause c.next.new.self x))
     c.from_residual-in_err-next.ensures.1
-    (blames g.S.Source.stands_before e (so c.loop-seq.invariant.inside
+    (blames g.S.Source.stands_before (taken_fields fields (g.F.WantedFields.content c.args.fields.now)) e
+    (so c.loop-seq.invariant.inside
     (fields_blame_next g.S.Source.stands_before g.S.Source.seq_stands fields
     (g.F.WantedFields.content c.loop-seq.fields) e c.in_err-next.ensures.refused)))
 
@@ -27,7 +29,8 @@ returns-in_err-place-clause-refused g c =
     exits _ c.in_err-place.field-0.0 (λ x. RefusesAhead g.S.Source.stands_before c.args.source.now
     (taken_fields fields (g.F.WantedFields.content c.args.fields.now)) (g.S.Source.cause c.place.new.self x))
     c.from_residual-in_err-place.ensures.1
-    (blames g.S.Source.stands_before e (so c.loop-seq.invariant.inside
+    (blames g.S.Source.stands_before (taken_fields fields (g.F.WantedFields.content c.args.fields.now)) e
+    (so c.loop-seq.invariant.inside
     (fields_blame_name g.S.Source.stands_before g.S.Source.seq_stands fields
     (g.F.Names.place_of c.loop-seq.fields) (g.F.WantedFields.content c.loop-seq.fields) e
     (rw c.if-branch.true at c.in_ok-next.ensures.ok) c.in_err-place.ensures.takes.refused)))
@@ -39,24 +42,24 @@ returns-in_err-read_field-clause-refused g c =
     exits _ c.in_err-read_field.field-0.0 (λ x. RefusesAhead g.S.Source.stands_before c.args.source.now
     (taken_fields fields (g.F.WantedFields.content c.args.fields.now)) (g.S.Source.cause c.read_field.new.source x))
     c.from_residual-in_err-read_field.ensures.1
-    (blames g.S.Source.stands_before e (so c.loop-seq.invariant.inside
+    (blames g.S.Source.stands_before (taken_fields fields (g.F.WantedFields.content c.args.fields.now)) e
+    (so c.loop-seq.invariant.inside
     (fields_blame_field g.S.Source.stands_before g.S.Source.seq_stands fields
     (g.F.Names.place_of c.loop-seq.fields) (g.F.WantedFields.content c.loop-seq.fields) e
     (rw c.if-branch.true at c.in_ok-next.ensures.ok) c.in_ok-place.ensures.takes.ok
-    (λ name at. subst (λ x. RefusesAhead g.S.Source.stands_before c.place.new.self
-    (x.taken name (g.F.WantedFields.content c.loop-seq.fields)) e)
-    c.loop-seq.invariant.names (c.in_err-read_field.ensures.refused name at)))))
+    (λ name at l i f st. subst (IsFaultOf (end_of f) e)
+    (c.loop-seq.invariant.names name (g.F.WantedFields.content c.loop-seq.fields) l i)
+    (c.in_err-read_field.ensures.refused name at l i f st)))))
 
 pub loop-seq-preserved : goal.loop-seq-preserved
 loop-seq-preserved g c = record {
-  names = c.in_ok-read_field.ensures.names ∙ c.loop-seq.invariant.names;
+  names = λ name d l i. c.in_ok-read_field.ensures.names name d l i ∙ c.loop-seq.invariant.names name d l i;
   inside = so c.loop-seq.invariant.inside (fields_more g.S.Source.stands_before g.S.Source.seq_stands
       (g.F.WantedFields.fields c.args.fields.now) (g.F.Names.place_of c.loop-seq.fields)
       (g.F.WantedFields.content c.loop-seq.fields) (rw c.if-branch.true at c.in_ok-next.ensures.ok)
       c.in_ok-place.ensures.takes.ok
-      (λ name at. subst (λ x. TakesAhead g.S.Source.stands_before c.place.new.self c.read_field.new.source
-      (x.taken name (g.F.WantedFields.content c.loop-seq.fields)) (g.F.WantedFields.content c.read_field.new.self))
-      c.loop-seq.invariant.names (c.in_ok-read_field.ensures.ok name at)));
+      (λ name at l i f st. let there = c.in_ok-read_field.ensures.ok name at l i f st in
+      (sym (c.loop-seq.invariant.names name (g.F.WantedFields.content c.loop-seq.fields) l i) ∙ there.0, there.1)));
   owed = owed_pair g.S.Source.is_unread g.S.Source.owes _ _ _ _ _ _ _ c.loop-seq.invariant.owed
       (rw c.if-branch.true at c.in_ok-next.ensures.took) c.in_ok-place.ensures.takes.took
       c.in_ok-read_field.ensures.took;
@@ -73,6 +76,7 @@ loop-seq-preserved g c = record {
 
 pub returns-clause-ok : goal.returns-clause-ok
 returns-clause-ok g c =
-    takes g.S.Source.stands_before (so c.loop-seq.invariant.inside
+    takes g.S.Source.stands_before (taken_fields (g.F.WantedFields.fields c.args.fields.now)
+    (g.F.WantedFields.content c.args.fields.now)) (so c.loop-seq.invariant.inside
     (fields_end g.S.Source.stands_before g.S.Source.seq_stands (g.F.WantedFields.fields c.args.fields.now)
     (g.F.WantedFields.content c.loop-seq.fields) (rw c.if-branch.false at c.in_ok-next.ensures.ok)))

@@ -1,4 +1,7 @@
-use Rattle.std.proofs.Common.{◌≡◌, ◌+◌, ◌<◌}
+use Rattle.std.proofs.Common.{◌≡◌, ◌+◌, ◌<◌, ℕ, List}
+use Rattle.ciborium_ll.specs.Item.{Item}
+use Rattle.ciborium_value.specs.Nesting.{Limit}
+use Rattle.ciborium_value.specs.Taken.{outcome}
 use Rattle.ciborium_value.specs.Places.{dictionary}
 use Rattle.ciborium_value.specs.Sources.{TakesTo, TakesOnly}
 use Rattle.ciborium_value.specs.StructReadings.{taken_fields}
@@ -9,7 +12,8 @@ use Rattle.ciborium_value.proofs.wanted.read_fields.Given as goal
 -- the pairs that were read are in the fields, and the others are left
 abbrev pub invariant-loop-seq : goal.invariant-loop-seq
 invariant-loop-seq g l = record {
-  names : g.F.WantedFields.fields l.fields ≡ g.F.WantedFields.fields l.fn.fields;
+  names : (name : List ℕ) (c : g.F.WantedFields.Content) (m : Limit) (i : Item) →
+      outcome m (g.F.WantedFields.fields l.fields name c i) ≡ outcome m (g.F.WantedFields.fields l.fn.fields name c i);
   inside : Follows (IsBefore g.S.Source.stands_before l.fn.source
       (taken_fields (g.F.WantedFields.fields l.fn.fields) (g.F.WantedFields.content l.fn.fields)))
       (IsInsideFields g.S.Source.stands_before g.S.Source.seq_stands (g.F.WantedFields.fields l.fn.fields) l.source

@@ -6,10 +6,11 @@ use Rattle.ciborium_value.specs.declared.tree.Value.{Value}
 use Rattle.ciborium_value.specs.inner.Frames.{TreeFrame}
 use Rattle.ciborium_value.specs.inner.Stack.{frames_of}
 use Rattle.ciborium.specs.declared.de.error.Error.{Error}
-use Rattle.ciborium.specs.Errors.{IsRefusedBy}
-use Rattle.ciborium.specs.ValueAnswers.{IsReading, IsTurned, IsValueRead}
+use Rattle.ciborium.specs.ValueAnswers.{IsRefusedBy}
+use Rattle.ciborium.specs.inner.Turns.{IsReading, IsTurned, IsValueRead}
 use Rattle.ciborium.specs.inner.ValuesInBytes.{StandsAt}
-use Rattle.ciborium.specs.Spelling.{RefusesBy, Spelling}
+use Rattle.ciborium_value.specs.Spelling.{Spelling}
+use Rattle.ciborium_value.specs.Refuses.{Refuses}
 use Rattle.ciborium.proofs.Turns.Turned.{begin}
 use Rattle.ciborium.proofs.Readers.WhateverFollows.{so-then, so-unread}
 use Rattle.ciborium.proofs.de.building.read_value.Goals as goal
@@ -76,7 +77,7 @@ returns-in-Err-clause-value g c =
     (λ d e. (xs : List ℕ) (p : ℕ) → StandsAt g.S.Rules.spelling Some d xs p →
     IsValueRead g.S.Rules.spelling Some e c.args.levels xs p (Err c.in-Err.refusal))
     (λ u v w h k xs p s. subst (λ o. IsRefusedBy o c.in-Err.refusal
-    (RefusesBy g.S.Rules.spelling xs p c.args.levels)) (sym k) (h xs p s))
+    (Refuses g.S.Rules.spelling xs p (Some c.args.levels))) (sym k) (h xs p s))
     (turned g.A.Access.remaining c.args.decoder.now c.turns.decoder c.turn.new.decoder g.S.Rules.spelling
     (frames_of c.turns.stack) (frames_of c.turn.new.stack) c.args.levels (Err c.in-Err.refusal)
     c.turns.invariant.reading c.in-Err.ensures.turn)

@@ -3,7 +3,7 @@ use Rattle.std.proofs.lemmas.Result.{err_from_is_err_and}
 use Rattle.ciborium_ll.specs.Refusal.{HeadRefuses}
 use Rattle.ciborium.specs.Errors.{from_ll}
 use Rattle.ciborium_ll.specs.Decoding.{with_left}
-use Rattle.ciborium.proofs.Turns.AfterTag.{PullsSo}
+use Rattle.ciborium.proofs.Turns.Fronts.{PullsSo}
 use Rattle.ciborium.proofs.Readers.WhateverFollows.{so-map, head-pulled, PullsAll}
 use Rattle.ciborium.proofs.Turns.Pulled.{refused-from, head-read, fewer-heads}
 use Rattle.ciborium.proofs.de.front.pull.Goals as goal

@@ -1,4 +1,4 @@
-use Rattle.std.proofs.Common.{◌≡◌, ℕ, List, ◌++◌, ap, sym, ◌∙◌, Some, Ok, Err, subst}
+use Rattle.std.proofs.Common.{◌≡◌, ℕ, List, ◌++◌, ap, sym, ◌∙◌, Some, Ok, Err, subst, false, true}
 use Rattle.std.proofs.lemmas.Result.{err_from_is_err_and}
 use Rattle.ciborium_ll.specs.declared.header.Header.TheVariants as header
 use Rattle.ciborium_ll.specs.Decoding.{with_left}
@@ -8,13 +8,13 @@ use Rattle.ciborium_ll.specs.StringRefusal.{of_bytes, of_text}
 use Rattle.ciborium_value.specs.Tree as trees
 use Rattle.ciborium_value.specs.View.{tree_of}
 use Rattle.ciborium_value.proofs.Trees.Views.{tree_of-Integer}
-use Rattle.ciborium.specs.DeterministicRefusals.{of_array, of_map}
-use Rattle.ciborium.specs.Errors.{IsRefusedBy}
+use Rattle.ciborium.specs.ValueAnswers.{IsRefusedBy}
 use Rattle.ciborium.specs.inner.Parts.{IsHeadAccepted, IsPartRead, RefusesPart}
-use Rattle.ciborium.specs.Spelling.{head_fault}
-use Rattle.ciborium.proofs.Spellings.SpelledParts.{ahead-of, container-part, faulty-head, float-refuses, got-end}
-use Rattle.ciborium.proofs.Spellings.SpelledParts.{got-negative, got-positive, got-simple, got-string, head-refused}
-use Rattle.ciborium.proofs.Spellings.SpelledParts.{part-behind-head, part-of-head, simple-refuses, string-fault}
+use Rattle.ciborium.specs.inner.Rules.{head_fault}
+use Rattle.ciborium.proofs.Turns.Contents.{got-string, string-fault}
+use Rattle.ciborium.proofs.Turns.Heads.{ahead-of, faulty-head, head-refused, part-behind-head, part-of-head}
+use Rattle.ciborium.proofs.Turns.Leaves.{container-part, float-refuses, got-end, got-negative, got-positive, got-simple}
+use Rattle.ciborium.proofs.Turns.Leaves.{simple-refuses}
 use Rattle.ciborium.proofs.Readers.WhateverFollows.{StringSo}
 use Rattle.ciborium.proofs.de.parts.next.Goals as goal
 
@@ -125,7 +125,7 @@ returns-in-Array-clause-part g c =
     (sym (c.find_head_fault.ensures ∙ ap (head_fault g.S.Rules.spelling c.in_ok-header.header) c.head_len.ensures) ∙
     c.in_default.is) c.in_ok-header.ensures.head _
     (λ z xs p at a. container-part Some (with_left c.pull.new.decoder z) c.args.levels xs p c.in_ok-header.header
-    c.pull.ensures.pushed g.S.Rules.spelling Unit of_array c.in-Array.count c.begin_container.result c.in-Array.is a
+    c.pull.ensures.pushed g.S.Rules.spelling Unit false c.in-Array.count c.begin_container.result c.in-Array.is a
     c.begin_container.ensures)
 
 pub returns-in-Map-clause-part : goal.returns-in-Map-clause-part
@@ -135,7 +135,7 @@ returns-in-Map-clause-part g c =
     (sym (c.find_head_fault.ensures ∙ ap (head_fault g.S.Rules.spelling c.in_ok-header.header) c.head_len.ensures) ∙
     c.in_default.is) c.in_ok-header.ensures.head _
     (λ z xs p at a. container-part Some (with_left c.pull.new.decoder z) c.args.levels xs p c.in_ok-header.header
-    c.pull.ensures.pushed g.S.Rules.spelling Unit of_map c.in-Map.count c.begin_container-in-Map.result c.in-Map.is
+    c.pull.ensures.pushed g.S.Rules.spelling Unit true c.in-Map.count c.begin_container-in-Map.result c.in-Map.is
     a c.begin_container-in-Map.ensures)
 
 pub returns-in_ok-read_simple-in-Simple-clause-part : goal.returns-in_ok-read_simple-in-Simple-clause-part

@@ -3,10 +3,10 @@ use Rattle.std.proofs.lemmas.Result.{err_from_is_err_and}
 use Rattle.ciborium_ll.specs.Decoding.{ReadsNothing, with_left}
 use Rattle.ciborium_ll.proofs.Decoders.{unread-with}
 use Rattle.ciborium.specs.inner.Parts.{IsFolding}
-use Rattle.ciborium.specs.Spelling.{head_fault}
-use Rattle.ciborium.proofs.Turns.AfterTag.{PullsSo}
-use Rattle.ciborium.proofs.Spellings.SpelledTags.{BignumSo, bignum-refused, got-bignum, tag-faulty, tag-no-level}
-use Rattle.ciborium.proofs.Spellings.SpelledTags.{tag-opened, tag-refused}
+use Rattle.ciborium.specs.inner.Rules.{head_fault}
+use Rattle.ciborium.proofs.Turns.AfterTag.{BignumSo, bignum-refused, got-bignum, tag-faulty, tag-no-level, tag-opened}
+use Rattle.ciborium.proofs.Turns.AfterTag.{tag-refused}
+use Rattle.ciborium.proofs.Turns.Fronts.{PullsSo}
 use Rattle.ciborium.proofs.Readers.WhateverFollows.{so-both, so-unread}
 use Rattle.ciborium.proofs.de.tags.read_tag.Goals as goal
 

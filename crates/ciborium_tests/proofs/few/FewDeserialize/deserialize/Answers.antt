@@ -16,7 +16,7 @@ returns-in_err-next-clause-refused g c =
     let vs = c.loop-numbers.numbers.items in
     exits _ c.in_err-next.field-0.0 (λ x. RefusesAhead g.S.Source.stands_before c.args.source.now
     (taken_few 5 taken_byte) (g.S.Source.cause c.next.new.self x)) c.from_residual-in_err-next.ensures.1
-    (blames g.S.Source.stands_before e (so c.loop-numbers.invariant.inside
+    (blames g.S.Source.stands_before (taken_few 5 taken_byte) e (so c.loop-numbers.invariant.inside
     (blames_next g.S.Source.stands_before g.S.Source.seq_stands (few_from taken_byte (5 - length vs) vs) e
     c.in_err-next.ensures.refused)))
 
@@ -28,7 +28,7 @@ returns-then-len-ge-MOST-clause-refused g c =
     (IsInside g.S.Source.stands_before g.S.Source.seq_stands c.loop-numbers.source c.loop-numbers.seq
     (few_from taken_byte n vs))) full c.loop-numbers.invariant.inside in
     subst (RefusesAhead g.S.Source.stands_before c.args.source.now (taken_few 5 taken_byte)) (sym c.refuse.ensures)
-    (blames g.S.Source.stands_before (of_kind kinds.Length)
+    (blames g.S.Source.stands_before (taken_few 5 taken_byte) (of_kind kinds.Length)
     (so inside (few_refuses g.S.Source.stands_before g.S.Source.seq_stands taken_byte vs
     (rw c.if-branch.true at c.in_ok-next.ensures.ok))))
 
@@ -42,7 +42,8 @@ returns-in_err-number-clause-refused g c =
     (few_from taken_byte n vs))) room c.loop-numbers.invariant.inside in
     exits _ c.in_err-number.field-0.0 (λ x. RefusesAhead g.S.Source.stands_before c.args.source.now
     (taken_few 5 taken_byte) (g.S.Source.cause c.deserialize.new.source x)) c.from_residual-in_err-number.ensures.1
-    (blames g.S.Source.stands_before e (so inside (few_blames g.S.Source.stands_before g.S.Source.seq_stands taken_byte
+    (blames g.S.Source.stands_before (taken_few 5 taken_byte) e
+    (so inside (few_blames g.S.Source.stands_before g.S.Source.seq_stands taken_byte
     (5 - (length vs + 1)) vs e (rw c.if-branch.true at c.in_ok-next.ensures.ok) c.in_err-number.ensures.refused)))
 
 pub loop-numbers-preserved : goal.loop-numbers-preserved
@@ -73,6 +74,6 @@ loop-numbers-preserved g c =
 pub returns-clause-ok : goal.returns-clause-ok
 returns-clause-ok g c =
     let vs = c.loop-numbers.numbers.items in
-    takes g.S.Source.stands_before (so c.loop-numbers.invariant.inside
+    takes g.S.Source.stands_before (taken_few 5 taken_byte) (so c.loop-numbers.invariant.inside
     (few_ends g.S.Source.stands_before g.S.Source.seq_stands taken_byte (5 - length vs) vs
     (rw c.if-branch.false at c.in_ok-next.ensures.ok)))

@@ -1,5 +1,6 @@
 -- The pairs of the map are ahead.
 use Rattle.std.proofs.Common.{◌≡◌, ◌+◌, sym, ap, ◌∙◌, subst, arith}
+use Rattle.ciborium_value.specs.Ahead.{counted}
 use Rattle.ciborium_value.specs.Taken.{taken_pairs, untagged}
 use Rattle.ciborium_value.specs.inner.TreeSources.{IsPending, pair_items, value_weight, pending_tree_weight}
 use Rattle.ciborium_value.specs.inner.TreeSources.{pending_due, due_weight, left_weight}
@@ -13,8 +14,8 @@ use Rattle.ciborium_value.proofs.deserialized.TreeSourceSource.begin_map.Goals a
 pub returns-in-Map-clause-ok : goal.returns-in-Map-clause-ok
 returns-in-Map-clause-ok c l i f st =
     let here : value_item c.in-Whole.value.now ≡ i = subst (λ o. IsPending o i) (sym c.in-Whole.ensures.ahead) st.1.0 in
-    opened taken_pairs pair_items c.in-Map.pairs.items _ c.deref.ensures.value _ _ c.take-due.ensures.value l i f
-    st.0 st.1.1 (map_of c.skip_tags.result.now c.in-Map.pairs i c.in-Map.is
+    opened taken_pairs counted pair_items c.in-Map.pairs.items _ c.deref.ensures.value _ _ c.take-due.ensures.value l i
+    f st.0 st.1.1 (map_of c.skip_tags.result.now c.in-Map.pairs i c.in-Map.is
     (c.skip_tags.ensures.item ∙ ap untagged here))
 
 pub returns-in-Map-clause-less : goal.returns-in-Map-clause-less

@@ -2,11 +2,10 @@
 use Rattle.std.proofs.Common.{◌≡◌, ◌+◌, None, refl, sym, ap, ◌∙◌, subst, arith}
 use Rattle.ciborium_value.specs.Ahead.{end_of}
 use Rattle.ciborium_value.specs.Sources.{RefusesAhead, IsFaultOf}
-use Rattle.ciborium_value.specs.Taken.{taken_variant, taken_name, untagged, deeper, outcome_map}
+use Rattle.ciborium_value.specs.Taken.{taken_variant, taken_name, untagged, deeper, outcome, outcome_map}
 use Rattle.ciborium_value.specs.inner.TreeSources.{IsTreeAt, IsPending, IsDueValue, value_weight, pending_tree_weight}
 use Rattle.ciborium_value.specs.inner.TreeSources.{due_weight}
-use Rattle.ciborium_value.specs.TreeAnswers.{tree_fault}
-use Rattle.ciborium_value.specs.TreeAnswers.{value_item}
+use Rattle.ciborium_value.specs.TreeAnswers.{tree_fault, value_item}
 use Rattle.ciborium_value.proofs.Writing.Progress.{exits}
 use Rattle.ciborium_value.proofs.Sources.Sequences.{fault_map}
 use Rattle.ciborium_value.specs.Counts.{tree_pairs_node_count, tree_pairs_payload_size}
@@ -24,18 +23,19 @@ returns-in_err-name-in-Some-clause-refused c =
     (λ l i f st.
     let here : value_item c.in-Whole.value.now ≡ i = subst (λ o. IsPending o i) c.in-Whole.is st.1.0 in
     subst (IsFaultOf (end_of f) (tree_fault e))
-    (sym (ap (λ x. taken_variant x i) st.0 ∙ variant_of_map c.skip_tags.result.now c.in-Map.pairs
+    (sym (ap (λ x. outcome x (taken_variant i)) st.0 ∙ variant_of_map c.skip_tags.result.now c.in-Map.pairs
     c.deref-in-Map.result.now i c.in-Map.is (c.skip_tags.ensures.item ∙ ap untagged here)
     c.deref-in-Map.ensures.value ∙ c.in-Some.ensures.some))
     (fault_map _ (tree_fault e) (λ n. (n, value_item c.in-Some.data.now))
-    (taken_name None (value_item c.in-Some.key.now))
+    (outcome None (taken_name (value_item c.in-Some.key.now)))
     (fault_error e _ (end_of f) c.in_err-name-in-Some.ensures.refused)))
 
 pub returns-in_ok-name-in-Some-clause-ok : goal.returns-in_ok-name-in-Some-clause-ok
 returns-in_ok-name-in-Some-clause-ok c l i f st =
     let here : value_item c.in-Whole.value.now ≡ i = subst (λ o. IsPending o i) c.in-Whole.is st.1.0 in (
       value_item c.in-Some.data.now,
-      ap (λ x. taken_variant x i) st.0 ∙ variant_of_map c.skip_tags.result.now c.in-Map.pairs c.deref-in-Map.result.now
+      ap (λ x. outcome x (taken_variant i)) st.0 ∙ variant_of_map c.skip_tags.result.now c.in-Map.pairs
+          c.deref-in-Map.result.now
           i c.in-Map.is (c.skip_tags.ensures.item ∙ ap untagged here) c.deref-in-Map.ensures.value ∙
           c.in-Some.ensures.some
           ∙ ap (outcome_map (λ n. (n, value_item c.in-Some.data.now))) c.in_ok-name-in-Some.ensures.ok,
@@ -46,7 +46,8 @@ returns-in_ok-name-in-Some-clause-ok c l i f st =
 pub returns-in-None-clause-refused : goal.returns-in-None-clause-refused
 returns-in-None-clause-refused c l i f st =
     let here : value_item c.in-Whole.value.now ≡ i = subst (λ o. IsPending o i) c.in-Whole.is st.1.0 in
-    ap (λ x. taken_variant x i) st.0 ∙ variant_of_map c.skip_tags.result.now c.in-Map.pairs c.deref-in-Map.result.now i
+    ap (λ x. outcome x (taken_variant i)) st.0 ∙ variant_of_map c.skip_tags.result.now c.in-Map.pairs
+    c.deref-in-Map.result.now i
     c.in-Map.is (c.skip_tags.ensures.item ∙ ap untagged here) c.deref-in-Map.ensures.value ∙ c.in-None.ensures.none
 
 pub returns-in_ok-name-in-Some-clause-less : goal.returns-in_ok-name-in-Some-clause-less

@@ -1,6 +1,6 @@
-use Rattle.std.proofs.Common.{◌≡◌, sym, ap, ◌∙◌, subst, arith}
+use Rattle.std.proofs.Common.{◌≡◌, None, sym, ap, ◌∙◌, subst, arith}
 use Rattle.ciborium_ll.specs.Item.{simple}
-use Rattle.ciborium_value.specs.Taken.{gives, taken_value}
+use Rattle.ciborium_value.specs.Taken.{gives, outcome, taken_value}
 use Rattle.ciborium_value.specs.inner.TreeSources.{IsPending, pending_tree_weight}
 use Rattle.ciborium_value.specs.View.{tree_of}
 use Rattle.ciborium_value.specs.declared.tree.Value as value
@@ -20,4 +20,4 @@ returns-in-Null-clause-takes c =
     given-there taken_value tree_of c.args.self.now c.take.new.self c.take.ensures.next c.take.ensures.due
     (omega (arith, here)) value.Null (λ i is.
     let null : simple 22 ≡ i = subst (λ o. IsPending o i) (sym c.in-Null.ensures.ahead) is in
-    ap (taken_value _) (sym null) ∙ ap gives (sym tree_of-Null))
+    ap (λ j. outcome None (taken_value j)) (sym null) ∙ ap gives (sym tree_of-Null))

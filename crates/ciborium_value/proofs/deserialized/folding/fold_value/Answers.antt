@@ -7,10 +7,8 @@ use Rattle.ciborium_value.specs.declared.deserialized.folding.Part.TheVariants a
 use Rattle.ciborium_value.specs.Counts.{node_count}
 use Rattle.ciborium_value.specs.inner.Frames.{more, placed, done}
 use Rattle.ciborium_value.specs.inner.Stack.{frames_of}
-use Rattle.ciborium_value.specs.Taken.{taken_value}
-use Rattle.ciborium_value.specs.TreeAnswers.{IsErrorOf}
-use Rattle.ciborium_value.specs.TreeAnswers.{tree_fault}
-use Rattle.ciborium_value.specs.TreeAnswers.{value_item}
+use Rattle.ciborium_value.specs.Taken.{outcome, taken_value}
+use Rattle.ciborium_value.specs.TreeAnswers.{IsErrorOf, tree_fault, value_item}
 use Rattle.ciborium_value.specs.View.{tree_of}
 use Rattle.ciborium_value.proofs.FoldedTrees.FoldedCopies.{copied-done, refused_as, path_last, nodes-append}
 use Rattle.ciborium_value.proofs.Sources.TreeFaults.{error_fault}
@@ -25,7 +23,7 @@ returns-in_err-whole-clause-refused c =
     λ h. sym c.values.invariant ∙ (ap (copied (more (frames_of c.values.stack))) ahead ∙
     ap (λ o. where_folded o (λ v. copied (placed (frames_of c.values.stack) v) (path_trees c.next.new.path.items)))
     h) in
-    exits _ c.in_err-whole.field-0.0 (λ e. IsErrorOf e (taken_value None (value_item c.args.value.now)))
+    exits _ c.in_err-whole.field-0.0 (λ e. IsErrorOf e (outcome None (taken_value (value_item c.args.value.now))))
     c.from_residual-in_err-whole.ensures.1
     (error_fault c.in_err-whole.field-0.0 _ 0 (refused_as 0 (tree_fault c.in_err-whole.field-0.0)
     (folded (tree_of c.in-Some.value.now)) (tree_of c.args.value.now) c.in_err-whole.ensures.refused none))

@@ -1,13 +1,13 @@
 use Rattle.std.proofs.Common.{Some, false, sym, subst, ◌∙◌}
 use Rattle.std.proofs.lemmas.Result.{err_from_is_err_and}
 use Rattle.ciborium_ll.specs.declared.header.Header.TheVariants as header
-use Rattle.ciborium_value.specs.Taken.{gives, taken_pairs}
+use Rattle.ciborium_value.specs.Taken.{taken_pairs, give}
 use Rattle.ciborium_value.specs.declared.kind.Kind.TheVariants as kinds
-use Rattle.ciborium.specs.inner.ByteSources.{IsUnread}
-use Rattle.ciborium.specs.inner.ByteSources.{fault_at}
+use Rattle.ciborium.specs.inner.ByteSources.{IsUnread, fault_at}
 use Rattle.ciborium.specs.inner.Skips.{TakesBare}
 use Rattle.ciborium.proofs.Containers.EnteredContainers.{map-entered, map-nests, map-other, pairs-given}
 use Rattle.ciborium.proofs.Items.BareHeads.{head-denied, nested-denied, other-denied}
+use Rattle.ciborium_value.specs.Ahead.{takes_level}
 use Rattle.ciborium.proofs.de.byte_source.ByteSource.begin_map.Goals as goal
 
 pub returns-in_err-header-clause-denied : goal.returns-in_err-header-clause-denied
@@ -39,6 +39,6 @@ returns-clause-ok g c =
     let same = c.in_ok-header.ensures.reads.levels in
     map-entered g.A.Access.remaining c.args.self.now c.bare_head.new.self c.enter.new.self c.in-Map.count
     c.in_ok-seq.seq same (enter.decoder, enter.pending, enter.some, enter.levels, enter.left) taken_pairs
-    (λ l ps. gives (l, ps))
+    (λ form ps. give (takes_level form, ps))
     (subst (TakesBare (IsUnread g.A.Access.remaining) c.args.self.now c.bare_head.new.self false) c.in-Map.is
-    c.in_ok-header.ensures.head) (pairs-given c.args.self.now.levels (λ z. enter.some (same ∙ z)))
+    c.in_ok-header.ensures.head) (pairs-given c.args.self.now.levels (λ z. enter.some (same ∙ z)) c.in-Map.count)

@@ -3,14 +3,14 @@ use Rattle.std.proofs.lemmas.Result.{err_from_is_err_and}
 use Rattle.std.specs.Vec.Iter.{into_iter_items}
 use Rattle.ciborium_ll.specs.declared.header.Header.TheVariants as header
 use Rattle.ciborium_ll.specs.StringRefusal.{of_bytes}
-use Rattle.ciborium_value.specs.Taken.{bare_seq, gives, taken_seq}
+use Rattle.ciborium_value.specs.Taken.{bare_seq, taken_seq, give}
 use Rattle.ciborium_value.specs.declared.kind.Kind.TheVariants as kinds
-use Rattle.ciborium.specs.inner.ByteSources.{IsUnread}
-use Rattle.ciborium.specs.inner.ByteSources.{fault_at}
+use Rattle.ciborium.specs.inner.ByteSources.{IsUnread, fault_at}
 use Rattle.ciborium.specs.inner.Skips.{TakesBare}
 use Rattle.ciborium.proofs.Containers.EnteredContainers.{array-entered, array-nests, bytes-entered, bytes-had}
 use Rattle.ciborium.proofs.Containers.EnteredContainers.{seq-given, seq-other}
 use Rattle.ciborium.proofs.Items.BareHeads.{head-denied, nested-denied, other-denied, string-denied}
+use Rattle.ciborium_value.specs.Ahead.{takes_level}
 use Rattle.ciborium.proofs.de.byte_source.ByteSource.begin_seq.Goals as goal
 
 pub returns-in_err-header-clause-denied : goal.returns-in_err-header-clause-denied
@@ -26,9 +26,10 @@ returns-in_ok-seq-in-Array-clause-ok g c =
     let same = c.in_ok-header.ensures.reads.levels in
     array-entered g.A.Access.remaining c.args.self.now c.bare_head.new.self c.enter.new.self c.in-Array.count
     c.in_ok-seq-in-Array.seq same (enter.decoder, enter.pending, enter.some, enter.levels, enter.left) taken_seq
-    (λ l is. gives (l, is))
+    (λ form is. give (takes_level form, is))
     (subst (TakesBare (IsUnread g.A.Access.remaining) c.args.self.now c.bare_head.new.self false) c.in-Array.is
-    c.in_ok-header.ensures.head) (seq-given c.args.self.now.levels (λ z. enter.some (same ∙ z)))
+    c.in_ok-header.ensures.head) (seq-given c.args.self.now.levels (λ z. enter.some (same ∙ z))
+    c.in-Array.count)
 
 pub returns-in_err-seq-in-Array-clause-denied : goal.returns-in_err-seq-in-Array-clause-denied
 returns-in_err-seq-in-Array-clause-denied g c =

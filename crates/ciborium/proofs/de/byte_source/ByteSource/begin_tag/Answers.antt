@@ -4,8 +4,7 @@ use Rattle.ciborium_ll.specs.Header.{SpellsHeader}
 use Rattle.ciborium_value.specs.Sources.{of_kind, of_nesting}
 use Rattle.ciborium_value.specs.Taken.{taken_outer_tag}
 use Rattle.ciborium_value.specs.declared.kind.Kind.TheVariants as kinds
-use Rattle.ciborium.specs.inner.ByteSources.{HasTaken, IsUnread, IsUnreadBy, end_at}
-use Rattle.ciborium.specs.inner.ByteSources.{fault_at}
+use Rattle.ciborium.specs.inner.ByteSources.{HasTaken, IsUnread, IsUnreadBy, end_at, fault_at}
 use Rattle.ciborium.specs.inner.FrontItems.{Denies, TakesHead}
 use Rattle.ciborium.proofs.Containers.EnteredContainers.{same-unread}
 use Rattle.ciborium.proofs.Containers.HeldLevels.{none-opened, tag-nests, tag-opened}

@@ -1,12 +1,10 @@
-use Rattle.std.proofs.Common.{◌≡◌, ◌≢◌, ap, ◌∙◌, sym, Some, false, subst, arith, string_bytes}
+use Rattle.std.proofs.Common.{◌≡◌, ◌≢◌, ◌≤◌, ◌+◌, length, ap, ◌∙◌, sym, Some, false, subst, arith, string_bytes}
 use Rattle.std.proofs.lemmas.Result.{err_from_is_err_and}
 use Rattle.ciborium_ll.specs.declared.header.Header.TheVariants as header
 use Rattle.ciborium_ll.specs.StringRefusal.{of_text}
-use Rattle.ciborium_value.specs.Sources.{IsOutsideFault}
 use Rattle.ciborium_value.specs.Taken.{deeper, taken_name, taken_variant}
 use Rattle.ciborium_value.specs.declared.kind.Kind.TheVariants as kinds
-use Rattle.ciborium.specs.inner.ByteSources.{IsUnread, end_at, reader_of}
-use Rattle.ciborium.specs.inner.ByteSources.{fault_at}
+use Rattle.ciborium.specs.inner.ByteSources.{IsUnread, end_at, reader_of, fault_at}
 use Rattle.ciborium.specs.inner.FrontItems.{Denies, Reads}
 use Rattle.ciborium.specs.inner.Skips.{TakesBare}
 use Rattle.ciborium.proofs.Containers.EnteredContainers.{deeper-is, same-unread}
@@ -60,10 +58,9 @@ returns-in_err-name-in-Text-clause-denied g c =
     fault
     (same-end g.A.Access.remaining c.args.self.now c.bare_head.new.self c.in_ok-header.ensures.reads.only)
     (subst (TakesBare U c.args.self.now c.bare_head.new.self false) c.in-Text.is c.in_ok-header.ensures.head)
-    (λ y x s z payload u hd sp e. subst (λ d. IsOutsideFault (reader_of g.A.Access.remaining d).1 fault) level.decoder
-    (c.in_err-name-in-Text.ensures.denied y x s z payload
+    (λ y x s z payload end u hd sp e fits. c.in_err-name-in-Text.ensures.denied y x s z payload end
     (same-unread g.A.Access.remaining c.bare_head.new.self c.take_level.new.self level.decoder level.pending y u) hd
-    sp e))))
+    sp e (subst (λ d. (reader_of g.A.Access.remaining d).1 ≤ end + length z) (sym level.decoder) fits))))
 
 pub returns-in_ok-name-in-Text-clause-ok : goal.returns-in_ok-name-in-Text-clause-ok
 returns-in_ok-name-in-Text-clause-ok g c =

@@ -2,8 +2,7 @@ use Rattle.std.proofs.Common.{refl, ◌∙◌, arith, subst}
 use Rattle.std.proofs.lemmas.Result.{err_from_is_err_and}
 use Rattle.ciborium_value.specs.declared.kind.Kind.TheVariants as kinds
 use Rattle.ciborium_value.specs.Sources.{of_kind}
-use Rattle.ciborium.specs.inner.ByteSources.{IsUnread, end_at}
-use Rattle.ciborium.specs.inner.ByteSources.{fault_at}
+use Rattle.ciborium.specs.inner.ByteSources.{IsUnread, end_at, fault_at}
 use Rattle.ciborium.specs.inner.FrontItems.{TakesHead}
 use Rattle.ciborium.specs.inner.Skips.{IsEndTag}
 use Rattle.ciborium.proofs.Items.FrontReads.{weighs-none}

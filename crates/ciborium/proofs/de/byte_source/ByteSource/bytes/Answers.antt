@@ -5,8 +5,7 @@ use Rattle.ciborium_ll.specs.StringRefusal.{of_bytes}
 use Rattle.ciborium_value.specs.Sources.{of_kind}
 use Rattle.ciborium_value.specs.Taken.{bare_bytes, taken_bytes}
 use Rattle.ciborium_value.specs.declared.kind.Kind.TheVariants as kinds
-use Rattle.ciborium.specs.inner.ByteSources.{IsUnread}
-use Rattle.ciborium.specs.inner.ByteSources.{fault_at}
+use Rattle.ciborium.specs.inner.ByteSources.{IsUnread, fault_at}
 use Rattle.ciborium.specs.inner.Skips.{TakesBare}
 use Rattle.ciborium.proofs.Containers.ByteItems.{array-opened, array-refuses, array-takes, array-took}
 use Rattle.ciborium.proofs.Containers.ByteItems.{bytes-other, bytes-read, refuses-denied, takes-read, took-read}

@@ -6,11 +6,10 @@ use Rattle.ciborium_ll.specs.Accesses.{left_at_failure}
 use Rattle.ciborium_ll.specs.StringRefusal.{of_text}
 use Rattle.ciborium_ll.specs.declared.header.Header.TheVariants as header
 use Rattle.ciborium_value.specs.Sources.{of_kind}
-use Rattle.ciborium_value.specs.Taken.{taken_character, lone_character}
+use Rattle.ciborium_value.specs.Taken.{taken_character, lone_character, settled}
 use Rattle.ciborium_value.specs.declared.kind.Kind.TheVariants as kinds
 use Rattle.ciborium_value.proofs.Sources.Sequences.{fault_outside}
-use Rattle.ciborium.specs.inner.ByteSources.{IsUnread, end_at}
-use Rattle.ciborium.specs.inner.ByteSources.{fault_at}
+use Rattle.ciborium.specs.inner.ByteSources.{IsUnread, end_at, fault_at}
 use Rattle.ciborium.specs.inner.Skips.{TakesBare}
 use Rattle.ciborium.proofs.Payloads.LoneCharacters.{character-given, character-open, character-other, long-denied}
 use Rattle.ciborium.proofs.Payloads.LoneCharacters.{payload-denied, payload-taken, text-denied}
@@ -65,17 +64,16 @@ returns-in_err-fill-in-Some-clause-answer g c =
     c.from_residual-in_err-fill-in-Some.ensures.1 in
     let n = c.in-Some.n in
     let fault = fault_at g.A.Access.can_fail g.A.Access.remaining c.fill.new.self c.in_err-fill-in-Some.field-0.0 in
-    let end = end_at g.A.Access.remaining c.bare_head.new.self in
     let room = short n c.if-n-gt-GREATEST_CHARACTER_SIZE.false in
     rw (exit.1, exit.2) (text-denied (IsUnread g.A.Access.remaining) (end_at g.A.Access.remaining)
     (Some c.args.self.now.levels) c.args.self.now c.bare_head.new.self n
     (subst (TakesBare (IsUnread g.A.Access.remaining) c.args.self.now c.bare_head.new.self false)
     (c.in-Text.is ∙ ap header.Text c.in-Some.is) c.in_ok-header.ensures.head) fault
     (same-end g.A.Access.remaining c.args.self.now c.bare_head.new.self c.in_ok-header.ensures.reads.only)
-    (λ y z payload un size utf8 e. let more : length y ≡ length payload + length z = ap length e ∙
+    (λ y z payload end un size utf8 e fits. let more : length y ≡ length payload + length z = ap length e ∙
     length-append payload z in
-    fault_outside end fault (lone_character (chars payload))
-    (c.in_err-fill-in-Some.ensures.outside y un (omega (arith, room, size, more)))))
+    fault_outside end fault (settled (lone_character (chars payload)))
+    (c.in_err-fill-in-Some.ensures.outside y (length z) end un (omega (arith, room, size, more)) fits)))
 
 pub returns-in_err-character-in-Some-clause-answer : goal.returns-in_err-character-in-Some-clause-answer
 returns-in_err-character-in-Some-clause-answer g c =
@@ -96,8 +94,7 @@ returns-in_err-character-in-Some-clause-answer g c =
     c.bare_head.new.self)
     (IsUnread g.A.Access.remaining c.fill.new.self) n payload fault size
     (c.in_err-character-in-Some.ensures.refused
-    (left_at_failure g.A.Access.can_fail (g.A.Access.remaining c.fill.new.self.decoder.reader.now))
-    (end_at g.A.Access.remaining c.bare_head.new.self))
+    (left_at_failure g.A.Access.can_fail (g.A.Access.remaining c.fill.new.self.decoder.reader.now)))
     c.in_ok-fill-in-Some.ensures.ok))
 
 pub returns-in-None-clause-answer : goal.returns-in-None-clause-answer
@@ -106,7 +103,7 @@ returns-in-None-clause-answer g c =
     denies-bare (IsUnread g.A.Access.remaining) false (header.Text None) l taken_character (end_at g.A.Access.remaining)
     c.args.self.now c.bare_head.new.self (of_kind kinds.Char)
     (subst (TakesBare (IsUnread g.A.Access.remaining) c.args.self.now c.bare_head.new.self false)
-    (c.in-Text.is ∙ ap header.Text c.in-None.is) c.in_ok-header.ensures.head) (character-open l)
+    (c.in-Text.is ∙ ap header.Text c.in-None.is) c.in_ok-header.ensures.head) (λ end. character-open l)
 
 pub returns-in_default-clause-answer : goal.returns-in_default-clause-answer
 returns-in_default-clause-answer g c =

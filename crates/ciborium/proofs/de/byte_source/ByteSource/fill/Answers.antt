@@ -31,12 +31,13 @@ pub returns-in_err-read_exact_keeping-clause-outside : goal.returns-in_err-read_
 returns-in_err-read_exact_keeping-clause-outside g c =
     let exit = err_from_is_err_and c.from_residual.result c.from_residual.ensures.1 in
     let d = c.args.self.now.decoder in
-    rw (exit.1, exit.2) (λ y u there.
+    rw (exit.1, exit.2) (λ y m end u there fits.
     let same = c.read_exact_keeping.auto.buffer in
     fill-outside g.A.Access.can_fail g.A.Access.remaining d c.read_exact_keeping.new.self
-    c.read_exact_keeping.new.buffer y
+    c.read_exact_keeping.new.buffer y m end
     c.in_err-read_exact_keeping.field-0.0 (subst (λ o. IsUnreadBy g.A.Access.remaining d o y) c.requires u)
-    (omega (arith, there, same)) c.in_err-read_exact_keeping.ensures.taken c.in_err-read_exact_keeping.ensures.ended)
+    (omega (arith, there, same)) fits c.in_err-read_exact_keeping.ensures.taken
+    c.in_err-read_exact_keeping.ensures.ended)
 
 pub returns-in_err-read_exact_keeping-clause-memory : goal.returns-in_err-read_exact_keeping-clause-memory
 returns-in_err-read_exact_keeping-clause-memory g c =

@@ -3,10 +3,9 @@ use Rattle.std.proofs.lemmas.Result.{err_from_is_err_and}
 use Rattle.std.proofs.lemmas.Str.{IsUtf8-string_bytes}
 use Rattle.std.specs.Str.{IsUtf8}
 use Rattle.ciborium_ll.specs.StringRefusal.{of_bytes, of_text}
-use Rattle.ciborium_value.specs.Taken.{bare_name, taken_name}
+use Rattle.ciborium_value.specs.Taken.{bare_name, taken_name, outcome, settled}
 use Rattle.ciborium_value.specs.declared.kind.Kind.TheVariants as kinds
-use Rattle.ciborium.specs.inner.ByteSources.{IsUnread, end_at}
-use Rattle.ciborium.specs.inner.ByteSources.{fault_at}
+use Rattle.ciborium.specs.inner.ByteSources.{IsUnread, end_at, fault_at}
 use Rattle.ciborium.specs.inner.Skips.{TakesBare}
 use Rattle.ciborium.specs.inner.StringContents.{string_item}
 use Rattle.ciborium_value.specs.Places.{is_open}
@@ -36,8 +35,8 @@ returns-in-Text-clause-answer g c =
     let payload = string_bytes c.in_ok-name-in-Text.name in
     string-read g.A.Access.remaining c.args.self.now taken_name c.bare_head.new.self c.in_ok-header.header
     c.in_ok-header.ensures.head of_text c.in-Text.len c.in-Text.is c.text_content.new.self payload payload
-    c.in_ok-name-in-Text.ensures.ok (λ ts all. ap bare_name (untagged-under ts (string_item of_text c.in-Text.len
-    payload)))
+    c.in_ok-name-in-Text.ensures.ok (λ ts all. ap (λ j. settled (bare_name j))
+    (untagged-under ts (string_item of_text c.in-Text.len payload)))
 
 pub returns-in_err-bytes-in-Bytes-clause-answer : goal.returns-in_err-bytes-in-Bytes-clause-answer
 returns-in_err-bytes-in-Bytes-clause-answer g c =
@@ -57,8 +56,8 @@ returns-in-Ok-clause-answer g c =
     let utf8 : IsUtf8 payload = subst IsUtf8 same (IsUtf8-string_bytes c.in-Ok.name) in
     string-read g.A.Access.remaining c.args.self.now taken_name c.bare_head.new.self c.in_ok-header.header
     c.in_ok-header.ensures.head of_bytes c.in-Bytes.len c.in-Bytes.is c.bytes_content.new.self payload (string_bytes
-    c.in-Ok.name) c.in_ok-bytes-in-Bytes.ensures.ok (λ ts all. subst (λ b. taken_name l
-    (Rattle.ciborium.specs.inner.Skips.under ts (string_item of_bytes c.in-Bytes.len payload)) ≡
+    c.in-Ok.name) c.in_ok-bytes-in-Bytes.ensures.ok (λ ts all. subst (λ b. outcome l
+    (taken_name (Rattle.ciborium.specs.inner.Skips.under ts (string_item of_bytes c.in-Bytes.len payload))) ≡
     Rattle.ciborium_value.specs.Taken.gives b) (sym same) (bytes-name ts l (is_open c.in-Bytes.len) payload utf8))
 
 pub returns-in-Bytes-clause-answer : goal.returns-in-Bytes-clause-answer

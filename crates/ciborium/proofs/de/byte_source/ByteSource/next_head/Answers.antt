@@ -1,7 +1,6 @@
-use Rattle.std.proofs.Common.{◌∙◌, sym, subst, ◌≡◌, arith, ap, false, length, ◌+◌}
+use Rattle.std.proofs.Common.{◌∙◌, sym, subst, ◌≡◌, ◌≤◌, arith, false, ◌+◌}
 use Rattle.std.proofs.lemmas.Result.{err_from_is_err_and}
 use Rattle.ciborium.specs.inner.ByteSources.{IsUnreadBy, bytes_weight, weight_left, known_end}
-use Rattle.ciborium.specs.Errors.{fault_of}
 use Rattle.ciborium.proofs.Items.FrontReads.{ahead-unpushed, counted-pending, counted-pulled, fewer-bytes, head-outside}
 use Rattle.ciborium.proofs.Items.FrontReads.{ended-ll, failed-fault, granted-head, weighs-none}
 use Rattle.ciborium_ll.specs.Accesses.{left_at_failure}
@@ -17,16 +16,15 @@ returns-in_err-header-clause-denied g c =
     let d = c.args.self.now.decoder in
     let e = c.pull_next_keeping.new.self in
     let error = c.in_err-header.field-0.0 in
-    rw (exit.1, exit.2) (λ b x y h u s f there. subst (λ n. IsOutsideFault n
-    (fault_of (left_at_failure g.A.Access.can_fail (g.A.Access.remaining e.reader.now)) (from_ll error)))
-    (sym (ap (λ o. known_end o d.counter.count) (subst (λ o. IsUnreadBy g.A.Access.remaining d o b) c.in_default.is
-    u)))
-    (subst (IsOutsideFault (d.counter.count + length b)) (failed-fault g.A.Access.can_fail
+    rw (exit.1, exit.2) (λ b x y h n end u s f there fits.
+    let left = subst (λ o. IsUnreadBy g.A.Access.remaining d o b) c.in_default.is u in
+    subst (IsOutsideFault end) (failed-fault g.A.Access.can_fail
     (left_of g.A.Access.remaining e) (from_ll error) (ended-ll g.A.Access.can_fail (left_of g.A.Access.remaining e)
     error c.in_err-header.ensures.ended))
-    (head-outside (left_of g.A.Access.remaining e) error b x y d.counter.count h s f there
+    (head-outside (left_of g.A.Access.remaining e) error b x y d.counter.count n end h s f there
+    (subst (λ o. known_end o d.counter.count ≤ end + n) left fits)
     (c.in_err-header.ensures.ahead b d.counter.count (ahead-unpushed g.A.Access.remaining d b c.args.self.now.unpushed
-    (subst (λ o. IsUnreadBy g.A.Access.remaining d o b) c.in_default.is u))))))
+    left))))
 
 pub returns-in_err-header-clause-memory : goal.returns-in_err-header-clause-memory
 returns-in_err-header-clause-memory g c =

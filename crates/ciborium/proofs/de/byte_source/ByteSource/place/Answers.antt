@@ -2,12 +2,11 @@ use Rattle.std.proofs.Common.{◌≡◌, ◌∙◌, ap, sym, Some, false, subst}
 use Rattle.std.proofs.lemmas.Result.{err_from_is_err_and}
 use Rattle.std.specs.Str.{IsUtf8}
 use Rattle.ciborium_ll.specs.StringRefusal.{of_bytes, of_text}
-use Rattle.ciborium_value.specs.Taken.{bare_name, gives, outcome_map, taken_name, taken_place}
+use Rattle.ciborium_value.specs.Taken.{bare_name, gives, outcome_map, taken_name, taken_place, outcome, settled}
 use Rattle.ciborium_value.specs.Sources.{of_kind}
 use Rattle.ciborium_value.specs.declared.kind.Kind.TheVariants as kinds
 use Rattle.ciborium_value.proofs.Sources.Sequences.{fault_map}
-use Rattle.ciborium.specs.inner.ByteSources.{IsUnread, end_at}
-use Rattle.ciborium.specs.inner.ByteSources.{fault_at}
+use Rattle.ciborium.specs.inner.ByteSources.{IsUnread, end_at, fault_at}
 use Rattle.ciborium.specs.inner.Skips.{TakesBare}
 use Rattle.ciborium.specs.inner.StringContents.{string_item}
 use Rattle.ciborium_value.specs.Places.{is_open}
@@ -40,7 +39,7 @@ returns-in-Text-clause-answer g c =
     let (payload, content, is) = c.in_ok-place-in-Text.ensures.ok in
     string-read g.A.Access.remaining c.args.self.now (taken_place place) c.bare_head.new.self c.in_ok-header.header
     c.in_ok-header.ensures.head of_text c.in-Text.len c.in-Text.is c.text_place.new.self payload
-    c.in_ok-place-in-Text.place content (λ ts all. ap (λ x. outcome_map place (bare_name x))
+    c.in_ok-place-in-Text.place content (λ ts all. ap (λ x. outcome_map place (settled (bare_name x)))
     (untagged-under ts (string_item of_text c.in-Text.len payload)) ∙ ap gives (sym is))
 
 pub returns-in_err-bytes-in-Bytes-clause-answer : goal.returns-in_err-bytes-in-Bytes-clause-answer
@@ -67,14 +66,14 @@ returns-in-Ok-clause-answer g c =
     ap (λ b. gives (place b)) (sym same) ∙ ap gives (sym c.find.ensures))
 
 pub returns-in-Bytes-clause-answer : goal.returns-in-Bytes-clause-answer
-returns-in-Bytes-clause-answer g c b s z i u sp e =
-    fault_map (end_at g.A.Access.remaining c.args.self.now) (of_kind kinds.Name)
-    (g.N.Names.place_of c.args.names.now) (taken_name (Some c.args.self.now.levels) i)
+returns-in-Bytes-clause-answer g c b s z i end u sp e fits =
+    fault_map end (of_kind kinds.Name)
+    (g.N.Names.place_of c.args.names.now) (outcome (Some c.args.self.now.levels) (taken_name i))
     (bytes-no-name (IsUnread g.A.Access.remaining) (end_at g.A.Access.remaining) c.args.self.now c.bare_head.new.self
     c.bytes_content.new.self c.in-Bytes.len (Some c.args.self.now.levels) c.in_ok-bytes-in-Bytes.bytes.items
     (λ u. c.in-Err.ensures.cases.0 (subst IsUtf8 (sym c.deref.ensures.value) u))
     (subst (TakesBare (IsUnread g.A.Access.remaining) c.args.self.now c.bare_head.new.self false) c.in-Bytes.is
-    c.in_ok-header.ensures.head) c.in_ok-bytes-in-Bytes.ensures.ok b s z i u sp e)
+    c.in_ok-header.ensures.head) c.in_ok-bytes-in-Bytes.ensures.ok b s z i end u sp e fits)
 
 pub returns-clause-answer : goal.returns-clause-answer
 returns-clause-answer g c =

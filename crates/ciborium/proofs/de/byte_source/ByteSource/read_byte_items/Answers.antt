@@ -3,8 +3,7 @@ use Rattle.std.proofs.lemmas.Result.{err_from_is_err_and}
 use Rattle.ciborium_ll.specs.Accesses.{left_at_failure}
 use Rattle.ciborium_value.specs.Sources.{GoesOn, Leaves, OwesLess, OwesNothing, TakesAhead, TakesTo}
 use Rattle.ciborium_value.specs.Taken.{taken_byte, taken_integer}
-use Rattle.ciborium.specs.inner.ByteSources.{IsUnread, SeqOwes, SeqStands, StandsBefore}
-use Rattle.ciborium.specs.inner.ByteSources.{fault_at}
+use Rattle.ciborium.specs.inner.ByteSources.{IsUnread, SeqOwes, SeqStands, StandsBefore, fault_at}
 use Rattle.ciborium.proofs.Containers.ByteItems.{ReadsPartly, byte-refuses, byte-takes, owes-end, owes-more, owes-none}
 use Rattle.ciborium.proofs.Containers.ByteItems.{partly-end, partly-fault, partly-more, partly-next-fault, partly-none}
 use Rattle.ciborium.proofs.Containers.ByteItems.{range-refuses, refuses-denied, takes-read, took-read}

@@ -1,13 +1,10 @@
-use Rattle.std.proofs.Common.{sym, ap, ◌∙◌, subst, arith, length, length-append, ◌+◌, ◌≡◌, false}
+use Rattle.std.proofs.Common.{sym, ap, ◌∙◌, subst, arith, length, length-append, ◌+◌, ◌≡◌, ◌≤◌, false}
 use Rattle.ciborium_ll.specs.Accesses.{left_at_failure}
 use Rattle.ciborium.specs.inner.ByteSources.{IsUnreadBy}
-use Rattle.ciborium.specs.Errors.{fault_of}
 use Rattle.ciborium.proofs.Items.FrontReads.{granted-fill}
 use Rattle.ciborium.proofs.Payloads.ReadDigits.{digit-more, fill-fewer, fill-outside}
 use Rattle.ciborium.proofs.Items.TakenOnly.{takes-only, same-end}
 use Rattle.std.proofs.lemmas.Result.{err_from_is_err_and}
-use Rattle.ciborium.specs.Errors.{from_ll}
-use Rattle.ciborium_value.specs.Sources.{IsOutsideFault}
 use Rattle.ciborium.proofs.de.byte_source.ByteSource.read_digits.Goals as goal
 
 pub loop-left-preserved : goal.loop-left-preserved
@@ -44,20 +41,17 @@ pub returns-in_err-read_exact_keeping-clause-outside : goal.returns-in_err-read_
 returns-in_err-read_exact_keeping-clause-outside g c =
     let exit = err_from_is_err_and c.from_residual.result c.from_residual.ensures.1 in
     let d = c.loop-left.self.decoder in
-    rw (exit.1, exit.2) (λ y u there.
+    rw (exit.1, exit.2) (λ y m end u there fits.
     let (t, z, len, bytes, val, split, un) = c.loop-left.invariant.took y u in
     let more : length y ≡ length t + length z = ap length split ∙ length-append t z in
     let one = c.read_exact_keeping.auto.buffer in
-    subst (λ n. IsOutsideFault n (fault_of
-    (left_at_failure g.A.Access.can_fail (g.A.Access.remaining c.read_exact_keeping.new.self.reader.now))
-    (from_ll c.in_err-read_exact_keeping.field-0.0)))
-    (same-end g.A.Access.remaining c.args.self.now c.loop-left.self c.loop-left.invariant.only y u)
-    (fill-outside g.A.Access.can_fail g.A.Access.remaining d c.read_exact_keeping.new.self
-    c.read_exact_keeping.new.buffer z
+    fill-outside g.A.Access.can_fail g.A.Access.remaining d c.read_exact_keeping.new.self
+    c.read_exact_keeping.new.buffer z m end
     c.in_err-read_exact_keeping.field-0.0 (subst (λ o. IsUnreadBy g.A.Access.remaining d o z)
     c.loop-left.invariant.pending un)
-    (omega (arith, there, more, len, one, c.loop-left-test.true)) c.in_err-read_exact_keeping.ensures.taken
-    c.in_err-read_exact_keeping.ensures.ended))
+    (omega (arith, there, more, len, one, c.loop-left-test.true)) (subst (λ n. n ≤ end + m)
+    (sym (same-end g.A.Access.remaining c.args.self.now c.loop-left.self c.loop-left.invariant.only y u)) fits)
+    c.in_err-read_exact_keeping.ensures.taken c.in_err-read_exact_keeping.ensures.ended)
 
 pub returns-in_err-read_exact_keeping-clause-memory : goal.returns-in_err-read_exact_keeping-clause-memory
 returns-in_err-read_exact_keeping-clause-memory g c =

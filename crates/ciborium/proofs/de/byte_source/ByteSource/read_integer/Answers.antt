@@ -1,13 +1,12 @@
-use Rattle.std.proofs.Common.{◌≡◌, ◌⊎◌, Bool, ℕ, inl, inr, sym, ap, ◌∙◌, subst, Some, true, ◌==◌}
+use Rattle.std.proofs.Common.{◌≡◌, ◌⊎◌, Bool, Ok, ℕ, inl, inr, sym, ap, ◌∙◌, subst, Some, true, ◌==◌}
 use Rattle.ciborium_ll.specs.declared.header.Header.{Header}
 use Rattle.std.proofs.lemmas.Result.{err_from_is_err_and}
 use Rattle.ciborium_ll.specs.Item.{unsigned, negative}
 use Rattle.ciborium_ll.specs.declared.header.Header.TheVariants as header
 use Rattle.ciborium_value.specs.Sources.{of_kind}
-use Rattle.ciborium_value.specs.Taken.{gives, taken_integer}
+use Rattle.ciborium_value.specs.Taken.{taken_integer}
 use Rattle.ciborium_value.specs.declared.kind.Kind.TheVariants as kinds
-use Rattle.ciborium.specs.inner.ByteSources.{IsUnread, end_at}
-use Rattle.ciborium.specs.inner.ByteSources.{fault_at}
+use Rattle.ciborium.specs.inner.ByteSources.{IsUnread, end_at, fault_at}
 use Rattle.ciborium.specs.inner.FrontItems.{Reads}
 use Rattle.ciborium.specs.inner.Skips.{TakesBare, IsBare}
 use Rattle.ciborium.proofs.Items.BareScalars.{integer-gives, integer-other, bignum-behind, bignum-denied}
@@ -38,12 +37,12 @@ returns-in-Positive-clause-answer g c =
     c.in-Positive.is
     (λ is. reads-whole U true (header.Positive n) l taken_integer c.args.self.now c.bare_head.new.self v (unsigned n)
     (subst (TakesBare U c.args.self.now c.bare_head.new.self true) is c.in_ok-header.ensures.head) (λ x hd. hd)
-    (integer-gives l (unsigned n) v (ap (λ s. gives (s, n)) (sym (c.is_negative-negative.ensures.positive n is)) ∙
-    ap (λ m. gives (c.is_negative-negative.result, m)) (sym c.from.ensures))))
+    (integer-gives l (unsigned n) v (ap (λ s. Ok (s, n)) (sym (c.is_negative-negative.ensures.positive n is)) ∙
+    ap (λ m. Ok (c.is_negative-negative.result, m)) (sym c.from.ensures))))
     (λ is. reads-whole U true (header.Negative n) l taken_integer c.args.self.now c.bare_head.new.self v (negative n)
     (subst (TakesBare U c.args.self.now c.bare_head.new.self true) is c.in_ok-header.ensures.head) (λ x hd. hd)
-    (integer-gives l (negative n) v (ap (λ s. gives (s, n)) (sym (c.is_negative-negative.ensures.negative n is)) ∙
-    ap (λ m. gives (c.is_negative-negative.result, m)) (sym c.from.ensures))))
+    (integer-gives l (negative n) v (ap (λ s. Ok (s, n)) (sym (c.is_negative-negative.ensures.negative n is)) ∙
+    ap (λ m. Ok (c.is_negative-negative.result, m)) (sym c.from.ensures))))
 
 pub returns-in_ok-number-in-Tag-clause-answer : goal.returns-in_ok-number-in-Tag-clause-answer
 returns-in_ok-number-in-Tag-clause-answer g c =
@@ -79,4 +78,5 @@ returns-in_default-clause-answer g c =
     let l = Some c.args.self.now.levels in
     denies-bare (IsUnread g.A.Access.remaining) true c.in_ok-header.header l taken_integer (end_at g.A.Access.remaining)
     c.args.self.now c.bare_head.new.self (of_kind kinds.Integer) c.in_ok-header.ensures.head
-    (integer-other l c.in_ok-header.header c.in_default.not-Positive c.in_default.not-Negative c.in_default.not-Tag)
+    (λ end. integer-other l c.in_ok-header.header c.in_default.not-Positive c.in_default.not-Negative
+    c.in_default.not-Tag)

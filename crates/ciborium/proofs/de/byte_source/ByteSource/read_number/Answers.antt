@@ -3,15 +3,25 @@ use Rattle.std.proofs.lemmas.Result.{err_from_is_err_and}
 use Rattle.ciborium_ll.specs.declared.header.Header.TheVariants as header
 use Rattle.ciborium_ll.specs.StringRefusal.{of_bytes}
 use Rattle.ciborium_value.specs.Sources.{of_syntax}
-use Rattle.ciborium.specs.inner.ByteSources.{IsUnread, end_at}
-use Rattle.ciborium.specs.inner.ByteSources.{fault_at}
+use Rattle.ciborium.specs.inner.ByteSources.{IsUnread, end_at, fault_at}
 use Rattle.ciborium.specs.inner.FrontItems.{TakesHead}
 use Rattle.ciborium.specs.inner.StringContents.{DeniesContent, TakesNumber}
 use Rattle.ciborium.proofs.Items.FrontReads.{weighs-none}
 use Rattle.ciborium.proofs.Payloads.OpenNumbers.{parts-more, parts-end, parts-no-head, parts-other, no-break}
 use Rattle.ciborium.proofs.Payloads.OpenNumbers.{no-definite, parts-cut}
+use Rattle.ciborium.proofs.Payloads.ShortNames.{just-denied}
 use Rattle.ciborium.proofs.Items.TakenOnly.{same-end}
 use Rattle.ciborium.proofs.de.byte_source.ByteSource.read_number.Goals as goal
+
+pub returns-in_err-number-in-Some-clause-denied : goal.returns-in_err-number-in-Some-clause-denied
+returns-in_err-number-in-Some-clause-denied g c =
+    let exit = err_from_is_err_and c.from_residual.result c.from_residual.ensures.1 in
+    let P = IsUnread g.A.Access.remaining c.args.self.now in
+    let end = end_at g.A.Access.remaining c.args.self.now in
+    let at = fault_at g.A.Access.can_fail g.A.Access.remaining c.read_digits.new.self in
+    let fault = at c.in_err-number-in-Some.field-0.0 in
+    rw (exit.1, exit.2) (subst (λ l. DeniesContent P end of_bytes l fault) (sym c.in-Some.is)
+    (just-denied P end c.in-Some.n fault of_bytes c.in_err-number-in-Some.ensures.outside))
 
 pub returns-in_err-header-in-None-clause-denied : goal.returns-in_err-header-in-None-clause-denied
 returns-in_err-header-in-None-clause-denied g c =

@@ -1,7 +1,7 @@
 use Rattle.std.proofs.Common.{ap, Some, string_bytes}
 use Rattle.std.proofs.lemmas.Result.{err_from_is_err_and}
 use Rattle.ciborium_ll.specs.StringRefusal.{of_text}
-use Rattle.ciborium_value.specs.Taken.{bare_text, taken_text}
+use Rattle.ciborium_value.specs.Taken.{bare_text, taken_text, settled}
 use Rattle.ciborium_value.specs.declared.kind.Kind.TheVariants as kinds
 use Rattle.ciborium.specs.inner.ByteSources.{fault_at}
 use Rattle.ciborium.specs.inner.StringContents.{string_item}
@@ -22,8 +22,8 @@ returns-in_ok-text-in-Text-clause-answer g c =
     let payload = string_bytes c.in_ok-text-in-Text.text in
     string-read g.A.Access.remaining c.args.self.now taken_text c.bare_head.new.self c.in_ok-header.header
     c.in_ok-header.ensures.head of_text c.in-Text.len c.in-Text.is c.text_content.new.self payload payload
-    c.in_ok-text-in-Text.ensures.ok (λ ts all. ap bare_text (untagged-under ts (string_item of_text c.in-Text.len
-    payload)))
+    c.in_ok-text-in-Text.ensures.ok (λ ts all. ap (λ j. settled (bare_text j))
+    (untagged-under ts (string_item of_text c.in-Text.len payload)))
 
 pub returns-in_err-text-in-Text-clause-answer : goal.returns-in_err-text-in-Text-clause-answer
 returns-in_err-text-in-Text-clause-answer g c =

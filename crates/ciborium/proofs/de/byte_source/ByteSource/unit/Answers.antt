@@ -4,8 +4,7 @@ use Rattle.ciborium_ll.specs.Item.{simple}
 use Rattle.ciborium_ll.specs.declared.header.Header.TheVariants as header
 use Rattle.ciborium_value.specs.Taken.{taken_unit}
 use Rattle.ciborium_value.specs.declared.kind.Kind.TheVariants as kinds
-use Rattle.ciborium.specs.inner.ByteSources.{IsUnread}
-use Rattle.ciborium.specs.inner.ByteSources.{fault_at}
+use Rattle.ciborium.specs.inner.ByteSources.{IsUnread, fault_at}
 use Rattle.ciborium.specs.inner.Skips.{TakesBare}
 use Rattle.ciborium.proofs.Items.BareScalars.{unit-gives, unit-none, unit-other}
 use Rattle.ciborium.proofs.Items.SkippedTags.{reads-whole}

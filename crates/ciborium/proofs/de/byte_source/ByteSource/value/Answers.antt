@@ -1,17 +1,15 @@
-use Rattle.std.proofs.Common.{◌+◌, length, None, Some, Ok, Err, refl, sym, ◌∙◌, subst}
+use Rattle.std.proofs.Common.{◌+◌, ◌≤◌, length, None, Some, Ok, Err, refl, sym, ◌∙◌, subst}
 use Rattle.std.proofs.lemmas.Result.{err_from_is_err_and}
-use Rattle.ciborium_ll.specs.Accesses.{left_at_failure}
 use Rattle.ciborium_ll.specs.Decoding.{next_offset, left_of}
 use Rattle.ciborium_value.specs.View.{tree_of}
 use Rattle.ciborium.specs.inner.ByteSources.{IsUnreadBy}
-use Rattle.ciborium.specs.Errors.{fault_of}
 use Rattle.ciborium_ll.proofs.Decoders.{unread-count, unread-left}
 use Rattle.ciborium.proofs.Items.TakenOnly.{takes-none, takes-only}
 use Rattle.ciborium.proofs.Items.FrontReads.{failed-fault}
 use Rattle.ciborium.proofs.Items.WholeValues.{ahead-by, known-read, portable-ahead, portable-reads, pushed-ahead}
 use Rattle.ciborium.proofs.Items.WholeValues.{whole-faults, whole-reads, whole-end}
 use Rattle.ciborium_value.specs.Sources.{IsFaultOf}
-use Rattle.ciborium_value.specs.Taken.{taken_value}
+use Rattle.ciborium_value.specs.Taken.{taken_value, outcome}
 use Rattle.ciborium.proofs.de.byte_source.ByteSource.value.Goals as goal
 
 pub returns-in-Some-portable_value-clause-answer : goal.returns-in-Some-portable_value-clause-answer
@@ -60,23 +58,18 @@ returns-in_err-value-in-None-portable_value-clause-answer g c =
     let f = c.read_value.new.decoder in
     let pending = Some (c.in-Some.header, c.in-Some.offset) in
     let error = c.in_err-value-in-None-portable_value.field-0.0 in
-    rw (exit.1, exit.2) (λ b s z i u sp e.
+    rw (exit.1, exit.2) (λ b s z i end u sp e fits.
+    let unread = subst (λ o. IsUnreadBy g.A.Access.remaining d o b) (sym c.take.ensures.value ∙ c.in-Some.is) u in
     let ahead = ahead-by g.A.Access.remaining d c.push.new.self pending b c.in-None-portable_value.ensures
-    c.push.ensures.pushed c.push.ensures.unread (subst (λ o. IsUnreadBy g.A.Access.remaining d o b)
-    (sym c.take.ensures.value ∙ c.in-Some.is) u) in
-    subst (λ n. IsFaultOf n (fault_of (left_at_failure g.A.Access.can_fail (g.A.Access.remaining f.reader.now)) error)
-    (taken_value (Some c.args.self.now.levels) i))
-    (sym (whole-end g.A.Access.remaining d pending b c.in-None-portable_value.ensures
-    (subst (λ o. IsUnreadBy g.A.Access.remaining d o b) (sym c.take.ensures.value ∙ c.in-Some.is) u)))
-    (subst (λ o. IsFaultOf (next_offset d.counter.count pending + length b) o
-    (taken_value (Some c.args.self.now.levels) i)) (failed-fault g.A.Access.can_fail
-    (left_of g.A.Access.remaining f) error
-    c.in_err-value-in-None-portable_value.ensures.ended)
+    c.push.ensures.pushed c.push.ensures.unread unread in
+    subst (λ o. IsFaultOf end o (outcome (Some c.args.self.now.levels) (taken_value i)))
+    (failed-fault g.A.Access.can_fail
+    (left_of g.A.Access.remaining f) error c.in_err-value-in-None-portable_value.ensures.ended)
     (whole-faults (left_of g.A.Access.remaining f) error c.args.self.now.levels
-    (next_offset d.counter.count pending) b s z
-    i sp e
+    (next_offset d.counter.count pending) end b s z i sp e (subst (λ n. n ≤ end + length z)
+    (whole-end g.A.Access.remaining d pending b c.in-None-portable_value.ensures unread) fits)
     (known-read g.A.Access.remaining Unit c.push.new.self f c.args.self.now.levels (Err error)
-    c.in_err-value-in-None-portable_value.ensures.value b (next_offset d.counter.count pending) ahead))))
+    c.in_err-value-in-None-portable_value.ensures.value b (next_offset d.counter.count pending) ahead)))
 
 pub returns-in_err-value-in-None-clause-answer : goal.returns-in_err-value-in-None-clause-answer
 returns-in_err-value-in-None-clause-answer g c =
@@ -85,20 +78,16 @@ returns-in_err-value-in-None-clause-answer g c =
     let d = c.args.self.now.decoder in
     let f = c.read_value-in-None.new.decoder in
     let error = c.in_err-value-in-None.field-0.0 in
-    rw (exit.1, exit.2) (λ b s z i u sp e.
-    let ahead = ahead-by g.A.Access.remaining d d None b tt c.args.self.now.unpushed (refl, refl)
-    (subst (λ o. IsUnreadBy g.A.Access.remaining d o b) (sym c.take.ensures.value ∙ c.in-None.is) u) in
-    subst (λ n. IsFaultOf n (fault_of (left_at_failure g.A.Access.can_fail (g.A.Access.remaining f.reader.now)) error)
-    (taken_value (Some c.args.self.now.levels) i))
-    (sym (whole-end g.A.Access.remaining d None b tt
-    (subst (λ o. IsUnreadBy g.A.Access.remaining d o b) (sym c.take.ensures.value ∙ c.in-None.is) u)))
-    (subst (λ o. IsFaultOf (d.counter.count + length b) o
-    (taken_value (Some c.args.self.now.levels) i)) (failed-fault g.A.Access.can_fail
-    (left_of g.A.Access.remaining f) error
-    c.in_err-value-in-None.ensures.ended)
-    (whole-faults (left_of g.A.Access.remaining f) error c.args.self.now.levels d.counter.count b s z i sp e
+    rw (exit.1, exit.2) (λ b s z i end u sp e fits.
+    let unread = subst (λ o. IsUnreadBy g.A.Access.remaining d o b) (sym c.take.ensures.value ∙ c.in-None.is) u in
+    let ahead = ahead-by g.A.Access.remaining d d None b tt c.args.self.now.unpushed (refl, refl) unread in
+    subst (λ o. IsFaultOf end o (outcome (Some c.args.self.now.levels) (taken_value i)))
+    (failed-fault g.A.Access.can_fail
+    (left_of g.A.Access.remaining f) error c.in_err-value-in-None.ensures.ended)
+    (whole-faults (left_of g.A.Access.remaining f) error c.args.self.now.levels d.counter.count end b s z i sp e
+    (subst (λ n. n ≤ end + length z) (whole-end g.A.Access.remaining d None b tt unread) fits)
     (known-read g.A.Access.remaining Unit d f c.args.self.now.levels (Err error) c.in_err-value-in-None.ensures.value
-    b d.counter.count ahead))))
+    b d.counter.count ahead)))
 
 pub returns-in-Some-portable_value-clause-reads : goal.returns-in-Some-portable_value-clause-reads
 returns-in-Some-portable_value-clause-reads g c = (

@@ -26,7 +26,9 @@ returns-in_err-next-clause-refused g c =
     exits _ c.in_err-next.field-0.0 (λ x. RefusesAhead g.S.Source.stands_before c.args.source.now
     (taken_map g.K.Deserialize.reading.order g.K.Deserialize.reading.taken g.V.Deserialize.reading.taken)
     (g.S.Source.cause c.next.new.self x)) c.from_residual-in_err-next.ensures.1
-    (blames g.S.Source.stands_before e (so c.loop-entries.invariant.inside
+    (blames g.S.Source.stands_before
+    (taken_map g.K.Deserialize.reading.order g.K.Deserialize.reading.taken g.V.Deserialize.reading.taken) e
+    (so c.loop-entries.invariant.inside
     (map_blames_next g.S.Source.stands_before g.S.Source.seq_stands g.K.Deserialize.reading.order
     g.K.Deserialize.reading.taken g.V.Deserialize.reading.taken
     (map (λ e. (g.K.Deserialize.reading.content e.0, g.V.Deserialize.reading.content e.1))
@@ -38,7 +40,9 @@ returns-in_err-key-clause-refused g c =
     exits _ c.in_err-key.field-0.0 (λ x. RefusesAhead g.S.Source.stands_before c.args.source.now
     (taken_map g.K.Deserialize.reading.order g.K.Deserialize.reading.taken g.V.Deserialize.reading.taken)
     (g.S.Source.cause c.deserialize.new.source x)) c.from_residual-in_err-key.ensures.1
-    (blames g.S.Source.stands_before e (so c.loop-entries.invariant.inside
+    (blames g.S.Source.stands_before
+    (taken_map g.K.Deserialize.reading.order g.K.Deserialize.reading.taken g.V.Deserialize.reading.taken) e
+    (so c.loop-entries.invariant.inside
     (map_blames_key g.S.Source.stands_before g.S.Source.seq_stands g.K.Deserialize.reading.order
     g.K.Deserialize.reading.taken g.V.Deserialize.reading.taken
     (map (λ e. (g.K.Deserialize.reading.content e.0, g.V.Deserialize.reading.content e.1))
@@ -51,7 +55,9 @@ returns-in_err-value-clause-refused g c =
     exits _ c.in_err-value.field-0.0 (λ x. RefusesAhead g.S.Source.stands_before c.args.source.now
     (taken_map g.K.Deserialize.reading.order g.K.Deserialize.reading.taken g.V.Deserialize.reading.taken)
     (g.S.Source.cause c.deserialize-in-loop-entries.new.source x)) c.from_residual-in_err-value.ensures.1
-    (blames g.S.Source.stands_before e (so c.loop-entries.invariant.inside
+    (blames g.S.Source.stands_before
+    (taken_map g.K.Deserialize.reading.order g.K.Deserialize.reading.taken g.V.Deserialize.reading.taken) e
+    (so c.loop-entries.invariant.inside
     (map_blames_value g.S.Source.stands_before g.S.Source.seq_stands g.K.Deserialize.reading.order
     g.K.Deserialize.reading.taken g.V.Deserialize.reading.taken
     (map (λ e. (g.K.Deserialize.reading.content e.0, g.V.Deserialize.reading.content e.1))
@@ -89,7 +95,9 @@ loop-entries-preserved g c = record {
 
 pub returns-clause-ok : goal.returns-clause-ok
 returns-clause-ok g c =
-    takes g.S.Source.stands_before (so c.loop-entries.invariant.inside
+    takes g.S.Source.stands_before
+    (taken_map g.K.Deserialize.reading.order g.K.Deserialize.reading.taken g.V.Deserialize.reading.taken)
+    (so c.loop-entries.invariant.inside
     (map_ends g.S.Source.stands_before g.S.Source.seq_stands g.K.Deserialize.reading.order
     g.K.Deserialize.reading.taken g.V.Deserialize.reading.taken
     (map (λ e. (g.K.Deserialize.reading.content e.0, g.V.Deserialize.reading.content e.1))

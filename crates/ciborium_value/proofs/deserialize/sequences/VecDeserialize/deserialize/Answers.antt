@@ -24,7 +24,7 @@ returns-in_err-next-clause-refused g c =
     exits _ c.in_err-next.field-0.0 (λ x. RefusesAhead g.S.Source.stands_before c.args.source.now
     (taken_list g.T.Deserialize.reading.taken) (g.S.Source.cause c.next.new.self x))
     c.from_residual-in_err-next.ensures.1
-    (blames g.S.Source.stands_before e (so c.loop-values.invariant.inside
+    (blames g.S.Source.stands_before (taken_list g.T.Deserialize.reading.taken) e (so c.loop-values.invariant.inside
     (blames_next g.S.Source.stands_before g.S.Source.seq_stands
     (list_from g.T.Deserialize.reading.taken (map g.T.Deserialize.reading.content c.loop-values.values.items)) e
     c.in_err-next.ensures.refused)))
@@ -35,7 +35,7 @@ returns-in_err-value-clause-refused g c =
     exits _ c.in_err-value.field-0.0 (λ x. RefusesAhead g.S.Source.stands_before c.args.source.now
     (taken_list g.T.Deserialize.reading.taken) (g.S.Source.cause c.deserialize.new.source x))
     c.from_residual-in_err-value.ensures.1
-    (blames g.S.Source.stands_before e (so c.loop-values.invariant.inside
+    (blames g.S.Source.stands_before (taken_list g.T.Deserialize.reading.taken) e (so c.loop-values.invariant.inside
     (list_blames g.S.Source.stands_before g.S.Source.seq_stands g.T.Deserialize.reading.taken _ e
     (rw c.if-branch.true at c.in_ok-next.ensures.ok) c.in_err-value.ensures.refused)))
 
@@ -56,7 +56,7 @@ loop-values-preserved g c = record {
 
 pub returns-clause-ok : goal.returns-clause-ok
 returns-clause-ok g c =
-    takes g.S.Source.stands_before (so c.loop-values.invariant.inside
+    takes g.S.Source.stands_before (taken_list g.T.Deserialize.reading.taken) (so c.loop-values.invariant.inside
     (list_ends g.S.Source.stands_before g.S.Source.seq_stands g.T.Deserialize.reading.taken _
     (rw c.if-branch.false at c.in_ok-next.ensures.ok)))
 

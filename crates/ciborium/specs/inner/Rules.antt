@@ -1,36 +1,18 @@
--- The spellings that a value is read by: any (RFC 8949, section 3), and the deterministic one by
--- each order of keys (section 4.2).
-use Rattle.std.specs.Prelude.{◌≡◌, ℕ, ◌-◌, List, length, if◌then◌else◌, ◌==◌, Option, Some, None}
-use Rattle.std.specs.Prelude.{MatchOption}
+-- What a reader in a spelling asks of a head that was pulled, and of a key that waits.
+use Rattle.std.specs.Prelude.{◌≡◌, ℕ, ◌-◌, length, if◌then◌else◌, ◌==◌, Option, Some, None}
+use Rattle.std.specs.Prelude.{List, MatchOption}
 use Rattle.std.specs.declared.cmp.Ordering.TheVariants.{Less}
 use Rattle.ciborium_ll.specs.declared.header.Header.{Header}
 use Rattle.ciborium_ll.specs.declared.header.Header.TheVariants as header
 use Rattle.ciborium_ll.specs.Head.{shortest_head}
-use Rattle.ciborium_ll.specs.Refusal.{Refusal}
 use Rattle.ciborium_value.specs.declared.key_order.KeyOrder.{KeyOrder}
 use Rattle.ciborium_value.specs.declared.kind.Kind.{Kind}
 use Rattle.ciborium_value.specs.declared.kind.Kind.TheVariants as kinds
 use Rattle.ciborium_value.specs.Canonical.{key_order}
 use Rattle.ciborium_value.specs.Encoding.{encoded_size}
-use Rattle.ciborium_value.specs.inner.Frames.{TreeFrame, waiting_keys}
-use Rattle.ciborium_value.specs.Refuses.{IsReadAs, Refuses}
+use Rattle.ciborium_value.specs.Spelling.{Spelling, any, deterministic}
 use Rattle.ciborium_value.specs.Tree.{Tree}
-use Rattle.ciborium_value.specs.Deterministic.{IsDeterministicAt}
-use Rattle.ciborium.specs.DeterministicRefusals.{DeterministicallyRefuses, IsFoldable}
-
-pub data Spelling : Type 0 where
-  any : Spelling
-  deterministic : KeyOrder → Spelling
-
--- the bytes b, whose first is at offset p, are read as this tree within l levels
-abbrev pub IsReadBy : Spelling → List ℕ → ℕ → ℕ → Tree → Type 0
-IsReadBy any b p l = IsReadAs b p (Some l)
-IsReadBy (deterministic order) b p l = IsDeterministicAt order b p l
-
--- the bytes b, which are all that is left, are refused so where l levels are left
-abbrev pub RefusesBy : Spelling → List ℕ → ℕ → ℕ → Refusal → Type 0
-RefusesBy any b p l = Refuses b p (Some l)
-RefusesBy (deterministic order) b p l = DeterministicallyRefuses order b p l
+use Rattle.ciborium_value.specs.inner.Frames.{TreeFrame, waiting_keys}
 
 -- ---- heads
 
@@ -59,13 +41,6 @@ deterministic_fault header.Break size = None
 abbrev pub head_fault : Spelling → Header → ℕ → Option Kind
 head_fault any h size = None
 head_fault (deterministic order) h size = deterministic_fault h size
-
--- ---- bignums
-
--- a bignum of these bytes is not accepted
-abbrev pub IsUnwanted : Spelling → List ℕ → Type 0
-IsUnwanted any payload = ⊥
-IsUnwanted (deterministic order) payload = IsFoldable payload
 
 -- ---- keys in order
 

@@ -1,22 +1,15 @@
--- Which strings a bignum's tag keeps: those of more than 8 bytes, with no zero first, whose number is not too large.
+-- What a bignum's tag makes of a string: a number of 64 bits, the tag itself, or nothing.
 use Rattle.std.proofs.Common.{◌≡◌, ℕ, zero, suc, ◌+◌, ◌*◌, ◌^◌, ◌<◌, ◌≤◌, ◌⊎◌, inl, inr, cond, ltb, leb, eqb, Bool}
-use Rattle.std.proofs.Common.{true, false, ◌&&◌, ◌||◌, List, [], ◌∷◌, length, Option, Some, None, pos}
-use Rattle.std.proofs.Common.{negsuc, refl, sym, ap, ◌∙◌, subst, lit<, arith, le-ltb, lt-ltb, ltb-true, ltb-false}
-use Rattle.std.proofs.Common.{leb-true, le-leb, eqb-true}
+use Rattle.std.proofs.Common.{true, false, ◌||◌, List, [], ◌∷◌, length, Option, Some, None, pos, negsuc, refl, sym, ap}
+use Rattle.std.proofs.Common.{◌∙◌, subst, lit<, arith, le-ltb, ltb-true, ltb-false, leb-true, le-leb, eqb-true}
 use Rattle.std.proofs.Math.Nat.{pow-le-pow_right, pow-succ', add-mul, mul_assoc, mul_left_comm, mul-le-mul_right}
 use Rattle.ciborium_ll.proofs.UsableHeads.{EachIsByte, pass}
 use Rattle.ciborium_value.specs.Meaning.{big_endian_behind, big_endian, without_zeros, bignum_meaning, is_bignum_tag}
+use Rattle.ciborium_value.specs.Spelling.{IsFoldable}
 use Rattle.ciborium_value.specs.Tree.{Tree, integer, bytes, tag}
 use Rattle.ciborium_value.proofs.FoldedTrees.Bignums.{stays}
 use Rattle.ciborium_value.proofs.GoodItems.Bounded.{zeros-shorter}
-use Rattle.ciborium_value.proofs.GoodItems.Reader.{is_too_large}
-use Rattle.ciborium_value.proofs.GoodItems.Steps.{hold}
-use Rattle.ciborium.specs.DeterministicRefusals.{IsFoldable}
-use Rattle.ciborium.proofs.Strict.StrictReader.{begins_zero, is_foldable}
-
-pub not_so : (t : Bool) → (t ≡ true → ⊥) → t ≡ false
-not_so true h = absurd (h refl)
-not_so false h = refl
+use Rattle.ciborium_value.proofs.GoodItems.Reader.{begins_zero, is_foldable}
 
 -- ---- the bounds of a number
 
@@ -107,17 +100,14 @@ IsKept t y = bignum_meaning t y ≡ Some (tag t (bytes y))
 abbrev IsGreat : List ℕ → Type 0
 IsGreat y = (without_zeros y ≡ y) × (2 ^ 64 ≤ big_endian y)
 
-great-whole : (y : List ℕ) → EachIsByte y → IsGreat y → is_foldable y ≡ false
-great-whole y h g = not_so (is_foldable y) (λ e. no (foldable-is y e))
-  where
-    no : IsFoldable y → ⊥
-    no (inl few) = let less = below y 8 h few in let e : 256 ^ 8 ≡ 2 ^ 64 = refl in let much = g.1 in
-        omega (arith, less, e, much)
-    no (inr (s, is)) =
-        let l : length y ≡ suc (length s) = ap length is in
-        let e : length (without_zeros s) ≡ length y = ap (λ (c : List ℕ). length (without_zeros c)) (sym is) ∙
-        ap length g.0 in
-        omega (arith, l, e, zeros-shorter s)
+great-whole : (y : List ℕ) → EachIsByte y → IsGreat y → IsFoldable y → ⊥
+great-whole y h g (inl few) = let less = below y 8 h few in let e : 256 ^ 8 ≡ 2 ^ 64 = refl in let much = g.1 in
+    omega (arith, less, e, much)
+great-whole y h g (inr (s, is)) =
+    let l : length y ≡ suc (length s) = ap length is in
+    let e : length (without_zeros s) ≡ length y = ap (λ (c : List ℕ). length (without_zeros c)) (sym is) ∙
+    ap length g.0 in
+    omega (arith, l, e, zeros-shorter s)
 
 great-first : (x : ℕ) (s : List ℕ) → 8 ≤ length s → 2 ^ 64 ≤ big_endian (suc x ∷ s)
 unfolding big_endian_behind
@@ -130,21 +120,17 @@ great-first x s h =
     let e : 256 ^ 8 ≡ 2 ^ 64 = refl in
     omega (arith, much, more, once, e)
 
-whole-great : (y : List ℕ) → is_foldable y ≡ false → IsGreat y
-whole-great [] e = absurd cc
-whole-great (zero ∷ s) e = let no : true ≡ false = sym (is-foldable (0 ∷ s) (inr (s, refl))) ∙ e in absurd cc
-whole-great (suc x ∷ s) e = (stays x s, great-first x s (long (leb (length (suc x ∷ s)) 8) refl))
+whole-great : (y : List ℕ) → (IsFoldable y → ⊥) → IsGreat y
+whole-great [] f = absurd (f (inl (omega arith)))
+whole-great (zero ∷ s) f = absurd (f (inr (s, refl)))
+whole-great (suc x ∷ s) f = (stays x s, great-first x s (long (leb (length (suc x ∷ s)) 8) refl))
   where
     long : (t : Bool) → leb (length (suc x ∷ s)) 8 ≡ t → 8 ≤ length s
-    long true f = let no : true ≡ false = sym (is-foldable (suc x ∷ s) (inl (leb-true (length (suc x ∷ s)) 8 f))) ∙ e in
-        absurd cc
-    long false f = more_than f
-      where
-        more_than : leb (length (suc x ∷ s)) 8 ≡ false → 8 ≤ length s
-        more_than f = grind (arith, f)
+    long true e = absurd (f (inl (leb-true (length (suc x ∷ s)) 8 e)))
+    long false e = grind (arith, e)
 
-two_or_three : (t : ℕ) → is_bignum_tag t ≡ true → (t ≡ 2) ⊎ (t ≡ 3)
-two_or_three t h = by (or_true (eqb t 2) (eqb t 3) h)
+pub bignum-tag : (t : ℕ) → is_bignum_tag t ≡ true → (t ≡ 2) ⊎ (t ≡ 3)
+bignum-tag t h = by (or_true (eqb t 2) (eqb t 3) h)
   where
     by : (eqb t 2 ≡ true) ⊎ (eqb t 3 ≡ true) → (t ≡ 2) ⊎ (t ≡ 3)
     by (inl e) = inl (eqb-true t 2 e)
@@ -172,57 +158,70 @@ kept-great_3 y = by (ltb (big_endian y) (2 ^ 64)) (ltb (big_endian y) (2 ^ 127))
     by false false e f h = absurd cc
     by false true e f h = ((cc, ltb-false _ _ e), ltb-true _ _ f)
 
-pub kept-judged : (t : ℕ) (y : List ℕ) → is_bignum_tag t ≡ true → EachIsByte y → IsKept t y →
-    (is_too_large t y ≡ false) × (is_foldable y ≡ false)
-kept-judged t y is h kept = by (two_or_three t is)
+-- what a tag keeps is not foldable
+pub kept-whole : (t : ℕ) (y : List ℕ) → is_bignum_tag t ≡ true → EachIsByte y → IsKept t y → IsFoldable y → ⊥
+kept-whole t y is h kept f = by (bignum-tag t is)
   where
-    by : (t ≡ 2) ⊎ (t ≡ 3) → (is_too_large t y ≡ false) × (is_foldable y ≡ false)
-    by (inl e) =
-        let k : IsKept 2 y = subst (λ u. IsKept u y) e kept in
-        (ap (λ u. is_too_large u y) e, great-whole y h (kept-great_2 y k))
-    by (inr e) =
-        let k : IsKept 3 y = subst (λ u. IsKept u y) e kept in
-        let g = kept-great_3 y k in
-        let less : big_endian y < 2 ^ 127 = g.1 in (
-          ap (λ u. is_too_large u y) e ∙ not_so (leb (2 ^ 127) (big_endian y))
-              (λ f. let more = leb-true (2 ^ 127) (big_endian y) f in omega (arith, less, more)),
-          great-whole y h g.0,
-        )
+    by : (t ≡ 2) ⊎ (t ≡ 3) → ⊥
+    by (inl e) = great-whole y h (kept-great_2 y (subst (λ u. IsKept u y) e kept)) f
+    by (inr e) = great-whole y h (kept-great_3 y (subst (λ u. IsKept u y) e kept)).0 f
 
-pub small-judged : (t : ℕ) (y : List ℕ) → big_endian y < 2 ^ 127 → is_too_large t y ≡ false
-small-judged t y h = by (eqb t 3)
-  where
-    by : (c : Bool) → (c && leb (2 ^ 127) (big_endian y)) ≡ false
-    by false = refl
-    by true = not_so (leb (2 ^ 127) (big_endian y)) (λ f. let more = leb-true (2 ^ 127) (big_endian y) f in
-        omega (arith, h, more))
-
-great-kept_2 : (y : List ℕ) → IsGreat y → IsKept 2 y
+whole-kept_2 : (y : List ℕ) (v : Tree) → IsGreat y → bignum_meaning 2 y ≡ Some v → v ≡ tag 2 (bytes y)
 unfolding bignum_meaning
-great-kept_2 y g = pass _ _ _ (le-ltb (big_endian y) (2 ^ 64) g.1) ∙ ap (λ (c : List ℕ). Some (tag 2 (bytes c))) g.0
+whole-kept_2 y v g h = let e : Some v ≡ Some (tag 2 (bytes y)) = sym h ∙ pass _ _ _ (le-ltb (big_endian y) (2 ^ 64) g.1)
+    ∙ ap (λ (c : List ℕ). Some (tag 2 (bytes c))) g.0 in cc
 
-great-kept_3 : (y : List ℕ) → IsGreat y → big_endian y < 2 ^ 127 → IsKept 3 y
+whole-kept_3 : (y : List ℕ) (v : Tree) → IsGreat y → bignum_meaning 3 y ≡ Some v → v ≡ tag 3 (bytes y)
 unfolding bignum_meaning
-great-kept_3 y g h = pass _ _ _ (le-ltb (big_endian y) (2 ^ 64) g.1) ∙ hold _ _ _ (lt-ltb (big_endian y) (2 ^ 127) h) ∙
-    ap (λ (c : List ℕ). Some (tag 3 (bytes c))) g.0
-
-pub judged-kept : (t : ℕ) (y : List ℕ) → is_bignum_tag t ≡ true → is_too_large t y ≡ false → is_foldable y ≡ false →
-    IsKept t y
-judged-kept t y is large whole = by (two_or_three t is)
+whole-kept_3 y v g h = by (ltb (big_endian y) (2 ^ 127)) (sym (pass _ _ _ (le-ltb (big_endian y) (2 ^ 64) g.1)) ∙ h)
   where
-    less : is_too_large 3 y ≡ false → big_endian y < 2 ^ 127
-    less f = grind (arith, f)
+    by : (d : Bool) → ◌≡◌ {A = Option Tree} (cond d (Some (tag 3 (bytes (without_zeros y)))) None) (Some v) →
+        v ≡ tag 3 (bytes y)
+    by true e = let f : v ≡ tag 3 (bytes (without_zeros y)) = cc in f ∙ ap (λ (c : List ℕ). tag 3 (bytes c)) g.0
+    by false e = absurd cc
 
-    by : (t ≡ 2) ⊎ (t ≡ 3) → IsKept t y
-    by (inl e) = subst (λ u. IsKept u y) (sym e) (great-kept_2 y (whole-great y whole))
-    by (inr e) = subst (λ u. IsKept u y) (sym e) (great-kept_3 y (whole-great y whole)
-        (less (ap (λ u. is_too_large u y) (sym e) ∙ large)))
-
--- what is too large
-pub large-is : (t : ℕ) (y : List ℕ) → is_too_large t y ≡ true → (t ≡ 3) × (2 ^ 127 ≤ big_endian y)
-large-is t y h = by (eqb t 3) (leb (2 ^ 127) (big_endian y)) h (eqb-true t 3) (leb-true (2 ^ 127) (big_endian y))
+-- and what is not foldable is kept, if it has a meaning
+pub whole-kept : (t : ℕ) (y : List ℕ) (v : Tree) → is_bignum_tag t ≡ true → (IsFoldable y → ⊥) →
+    bignum_meaning t y ≡ Some v → v ≡ tag t (bytes y)
+whole-kept t y v is f h = by (bignum-tag t is)
   where
-    by : (a b : Bool) → (a && b) ≡ true → (a ≡ true → t ≡ 3) → (b ≡ true → 2 ^ 127 ≤ big_endian y) → (t ≡ 3) ×
-        (2 ^ 127 ≤ big_endian y)
-    by true b e f g = (f refl, g e)
-    by false b e f g = absurd cc
+    by : (t ≡ 2) ⊎ (t ≡ 3) → v ≡ tag t (bytes y)
+    by (inl e) = whole-kept_2 y v (whole-great y f) (subst (λ u. bignum_meaning u y ≡ Some v) e h) ∙
+        ap (λ u. tag u (bytes y)) (sym e)
+    by (inr e) = whole-kept_3 y v (whole-great y f) (subst (λ u. bignum_meaning u y ≡ Some v) e h) ∙
+        ap (λ u. tag u (bytes y)) (sym e)
+
+-- ---- what has no meaning
+
+pub large-none : (y : List ℕ) → 2 ^ 127 ≤ big_endian y → bignum_meaning 3 y ≡ None
+unfolding bignum_meaning
+large-none y h = let e : 2 ^ 64 < 2 ^ 127 = lit< tt in
+    pass _ _ _ (le-ltb (big_endian y) (2 ^ 64) (omega (arith, h, e))) ∙ pass _ _ _ (le-ltb (big_endian y) (2 ^ 127) h)
+
+none-large_2 : (y : List ℕ) → bignum_meaning 2 y ≡ None → ⊥
+unfolding bignum_meaning
+none-large_2 y = by (ltb (big_endian y) (2 ^ 64))
+  where
+    by : (c : Bool) → ◌≡◌ {A = Option Tree} (cond c (Some (integer (pos (big_endian y))))
+        (Some (tag 2 (bytes (without_zeros y))))) None → ⊥
+    by true e = cc
+    by false e = cc
+
+none-large_3 : (y : List ℕ) → bignum_meaning 3 y ≡ None → 2 ^ 127 ≤ big_endian y
+unfolding bignum_meaning
+none-large_3 y = by (ltb (big_endian y) (2 ^ 64)) (ltb (big_endian y) (2 ^ 127)) refl
+  where
+    by : (c d : Bool) → ltb (big_endian y) (2 ^ 127) ≡ d →
+        ◌≡◌ {A = Option Tree} (cond c (Some (integer (negsuc (big_endian y))))
+        (cond d (Some (tag 3 (bytes (without_zeros y)))) None)) None → 2 ^ 127 ≤ big_endian y
+    by true d e f = absurd cc
+    by false true e f = absurd cc
+    by false false e f = ltb-false _ _ e
+
+pub none-large : (t : ℕ) (y : List ℕ) → is_bignum_tag t ≡ true → bignum_meaning t y ≡ None → (t ≡ 3) ×
+    (2 ^ 127 ≤ big_endian y)
+none-large t y is h = by (bignum-tag t is)
+  where
+    by : (t ≡ 2) ⊎ (t ≡ 3) → (t ≡ 3) × (2 ^ 127 ≤ big_endian y)
+    by (inl e) = absurd (none-large_2 y (subst (λ u. bignum_meaning u y ≡ None) e h))
+    by (inr e) = (e, none-large_3 y (subst (λ u. bignum_meaning u y ≡ None) e h))

@@ -1,0 +1,247 @@
+-- The head that was pulled, in each spelling: it is accepted, or has a fault.
+use Rattle.std.proofs.Common.{◌≡◌, ℕ, ◌+◌, ◌<◌, ◌≤◌, cond, eqb, Bool, true, false, List, [], ◌∷◌, ◌++◌, length, Option}
+use Rattle.std.proofs.Common.{Some, None, MatchOption, Ok, refl, sym, ap, ◌∙◌, subst, arith, eqb-true, lt-ltb, inl, inr}
+use Rattle.std.proofs.lemmas.Bool.{eqb-false}
+use Rattle.ciborium_ll.specs.declared.decoder.Decoder.{Decoder}
+use Rattle.ciborium_ll.specs.declared.header.Header.{Header}
+use Rattle.ciborium_ll.specs.declared.header.Header.TheVariants as header
+use Rattle.ciborium_ll.specs.Decoding.{IsAhead, IsMeasured, Takes, TakesBeforeAny, offset_of, with_left}
+use Rattle.ciborium_ll.specs.Head.{IsHead, IsSimple, shortest_head}
+use Rattle.ciborium_ll.specs.Header.{SpellsHeader, IsCounted}
+use Rattle.ciborium_ll.specs.Refusal as refusal
+use Rattle.ciborium_ll.specs.Refusal.{HeadRefuses, IsUsable}
+use Rattle.ciborium_ll.proofs.ShortestHead.{none_is_shorter}
+use Rattle.ciborium_value.specs.declared.key_order.KeyOrder.{KeyOrder}
+use Rattle.ciborium_value.specs.declared.kind.Kind.{Kind}
+use Rattle.ciborium_value.specs.declared.kind.Kind.TheVariants as kinds
+use Rattle.ciborium_value.specs.Refuses.{HasGoodHead, Refuses}
+use Rattle.ciborium_value.specs.Spelling.{Spelling, any, deterministic, spelling_fault}
+use Rattle.ciborium_value.specs.Tree.{Tree}
+use Rattle.ciborium_value.specs.inner.ReadItems.{ReadsItem}
+use Rattle.ciborium_value.proofs.GoodItems.Faults.{short-fault, fault-head, fault-open, fault-break, fault-float}
+use Rattle.ciborium_value.proofs.GoodItems.Faults.{fault-simple, fault-undefined}
+use Rattle.ciborium.specs.declared.de.error.Error.{Error}
+use Rattle.ciborium.specs.declared.de.error.Error.TheVariants.{Semantic}
+use Rattle.ciborium.specs.ValueAnswers.{IsNamed, IsRefusedBy, refusal_kind_of}
+use Rattle.ciborium.specs.inner.Parts.{IsHeadAccepted, IsHeadMeasured, RefusesPart}
+use Rattle.ciborium.specs.inner.Rules.{long_fault, counted_fault, deterministic_fault, head_fault}
+use Rattle.ciborium.specs.inner.ValuesInBytes.{IsAt, IsPulled, StandsAt}
+use Rattle.ciborium.proofs.Readers.WhateverFollows.{so-both}
+use Rattle.ciborium.proofs.Turns.Fronts.{front-of, IsNoBreak, no-break, head-no-break, ahead-at, offset-at, PullsSo}
+use Rattle.ciborium.proofs.Turns.Pulled.{refused-map}
+
+-- ---- where the decoder stands
+
+pub ahead-of : {S W : Type 0} (spelling : Spelling) (remaining : S → Option (List ℕ)) (d : Decoder S W) (xs : List ℕ)
+    (p : ℕ) → StandsAt spelling remaining d xs p → IsAhead remaining d xs p
+ahead-of any remaining d xs p s = s
+ahead-of (deterministic order) remaining d xs p s = s.0
+
+pub stands-offset : {S W : Type 0} (spelling : Spelling) (remaining : S → Option (List ℕ)) (d : Decoder S W) (p : ℕ)
+    (xs : List ℕ) → StandsAt spelling remaining d xs p → offset_of d ≡ p
+stands-offset spelling remaining d p xs s = offset-at remaining d p xs (ahead-of spelling remaining d xs p s)
+
+-- no head is pushed, so none has to be measured
+pub unpushed : {S W : Type 0} (d : Decoder S W) → d.pushed ≡ None → IsMeasured d
+unpushed d e = subst (λ o. MatchOption o (Unit {0}) (λ head. d.counter.count ≡ head.1 + d.head_len)) (sym e) tt
+
+pub stands-at : {S W : Type 0} (spelling : Spelling) (remaining : S → Option (List ℕ)) (d : Decoder S W) (p : ℕ)
+    (xs : List ℕ) → d.pushed ≡ None → IsAt remaining d xs p → StandsAt spelling remaining d xs p
+stands-at any remaining d p xs none at = ahead-at remaining d p xs none at
+stands-at (deterministic order) remaining d p xs none at = (ahead-at remaining d p xs none at, unpushed d none)
+
+-- a value that means t stands at xs, and the decoder stands behind it
+abbrev pub Got : {S W : Type 0} → Spelling → (S → Option (List ℕ)) → Decoder S W → ℕ → List ℕ → ℕ → Tree → Type 0
+Got spelling remaining d l xs p t = (zs : List ℕ) × (r : ℕ) × ReadsItem spelling (Some l) xs p t zs r ×
+    StandsAt spelling remaining d zs r
+
+pub got : {S W : Type 0} (spelling : Spelling) (remaining : S → Option (List ℕ)) (d : Decoder S W) (l : ℕ) (xs : List ℕ)
+    (p : ℕ) (t u : Tree) (zs : List ℕ) (r : ℕ) → d.pushed ≡ None → u ≡ t → ReadsItem spelling (Some l) xs p t zs r →
+    IsAt remaining d zs r → Got spelling remaining d l xs p u
+got spelling remaining d l xs p t u zs r pushed same item at = (
+  zs,
+  r,
+  subst (λ v. ReadsItem spelling (Some l) xs p v zs r) (sym same) item,
+  stands-at spelling remaining d r zs
+      pushed at,
+)
+
+-- ---- what a deterministic spelling finds
+
+-- the fault of a head is that of its bytes
+abbrev IsFaultAt : KeyOrder → List ℕ → Option Kind → Type 0
+IsFaultAt order b None = spelling_fault (deterministic order) b ≡ None
+IsFaultAt order b (Some kind) = (k : refusal.Kind) × (spelling_fault (deterministic order) b ≡ Some k) ×
+    (refusal_kind_of kind ≡ Some k)
+
+module _ (order : KeyOrder) (b r : List ℕ) (size : ℕ) (len : length b ≡ size) where
+  long-found : (m n : ℕ) → m < 7 → IsHead b m n → IsFaultAt order (b ++ r) (long_fault m n size)
+  long-found m n lt is = by (eqb size (length (shortest_head m n))) (eqb-true size (length (shortest_head m n)))
+      (eqb-false size (length (shortest_head m n)))
+    where
+      by : (t : Bool) → (t ≡ true → size ≡ length (shortest_head m n)) →
+          (t ≡ false → size ≡ length (shortest_head m n) → ⊥) → IsFaultAt order (b ++ r)
+          (cond t None (Some kinds.NotShortest))
+      by true f g = let same = f refl in
+          short-fault (deterministic order) (b ++ r) m n size r lt (b, is, len, refl) (omega (arith, same))
+      by false f g =
+          let differ = g refl in
+          let least = none_is_shorter b m n is in (
+            refusal.NotShortest,
+            fault-head order (b ++ r) m n size r lt (b, is, len, refl) ∙
+                ap (λ t. cond t (Some refusal.NotShortest) None)
+                (lt-ltb (length (shortest_head m n)) size (omega (arith, differ, least, len))),
+            refl,
+          )
+
+  counted-found : (m : ℕ) (count : Option ℕ) → 2 ≤ m → m ≤ 5 → IsCounted b m count →
+      IsFaultAt order (b ++ r) (counted_fault m count size)
+  counted-found m (Some n) low high is = long-found m n (omega (arith, high)) is
+  counted-found m None low high is = (
+    refusal.Open,
+    ap (λ (c : List ℕ). spelling_fault (deterministic order) (c ++ r)) is ∙ fault-open order m r low high,
+    refl,
+  )
+
+  simple-found : (n : ℕ) → IsSimple b n → IsFaultAt order (b ++ r) (cond (eqb n 23) (Some kinds.NotShortest) None)
+  simple-found n is = by (eqb n 23) (eqb-true n 23) (eqb-false n 23)
+    where
+      undefined : n ≡ 23 → IsSimple b n → b ≡ 247 ∷ []
+      undefined e (inl s) = s.1 ∙ ap (λ k. (224 + k) ∷ []) e
+      undefined e (inr s) = let low = s.0 in absurd (omega (arith, low, e))
+
+      by : (t : Bool) → (t ≡ true → n ≡ 23) → (t ≡ false → n ≡ 23 → ⊥) → IsFaultAt order (b ++ r)
+          (cond t (Some kinds.NotShortest) None)
+      by true f g = (
+        refusal.NotShortest,
+        ap (λ (c : List ℕ). spelling_fault (deterministic order) (c ++ r)) (undefined (f refl) is) ∙
+            fault-undefined order r,
+        refl,
+      )
+      by false f g = fault-simple (deterministic order) b n r is (g refl)
+
+  float-found : (j : ℕ) (raw : List ℕ) → j < 3 → b ≡ (249 + j) ∷ raw → spelling_fault (deterministic order) (b ++ r) ≡
+      None
+  float-found j raw h e = ap (λ (c : List ℕ). spelling_fault (deterministic order) (c ++ r)) e ∙
+      fault-float (deterministic order) j (raw ++ r) h
+
+  head-found : (h : Header) → SpellsHeader b h → IsFaultAt order (b ++ r) (deterministic_fault h size)
+  head-found (header.Positive n) is = long-found 0 n (omega arith) is
+  head-found (header.Negative n) is = long-found 1 n (omega arith) is
+  head-found (header.Bytes n) is = counted-found 2 n (omega arith) (omega arith) is
+  head-found (header.Text n) is = counted-found 3 n (omega arith) (omega arith) is
+  head-found (header.Array n) is = counted-found 4 n (omega arith) (omega arith) is
+  head-found (header.Map n) is = counted-found 5 n (omega arith) (omega arith) is
+  head-found (header.Tag n) is = long-found 6 n (omega arith) is
+  head-found (header.Simple n) is = simple-found n is
+  head-found (header.Float n) (raw, (inl s), k) = float-found 0 raw (omega arith) s.1
+  head-found (header.Float n) (raw, (inr (inl s)), k) = float-found 1 raw (omega arith) s.1
+  head-found (header.Float n) (raw, (inr (inr s)), k) = float-found 2 raw (omega arith) s.1
+  head-found header.Break is = ap (λ (c : List ℕ). spelling_fault (deterministic order) (c ++ r)) is ∙
+      fault-break (deterministic order) r
+
+-- ---- the head that was pulled
+
+module _ {S W : Type 0} (remaining : S → Option (List ℕ)) (d : Decoder S W) (h : Header) (xs : List ℕ) (p : ℕ)
+    (a : IsPulled remaining d h xs p) where
+  found-at : (order : KeyOrder) → d.counter.count ≡ p + d.head_len → IsFaultAt order xs
+      (deterministic_fault h d.head_len)
+  found-at order size =
+      let count = a.6.0 in
+      subst (λ z. IsFaultAt order z (deterministic_fault h d.head_len)) (sym a.4)
+      (head-found order a.0 a.1 d.head_len (omega (arith, size, count)) h a.2)
+
+  pub good-at : (spelling : Spelling) → head_fault spelling h d.head_len ≡ None → IsHeadMeasured spelling d p →
+      spelling_fault spelling xs ≡ None
+  good-at any right size = refl
+  good-at (deterministic order) right size = subst (IsFaultAt order xs) right (found-at order size)
+
+  pub bad-at : (spelling : Spelling) (E : Type 0) (l offset : ℕ) (kind : Kind) (left : Option (List ℕ)) →
+      head_fault spelling h d.head_len ≡ Some kind → IsHeadMeasured spelling d p → offset ≡ p →
+      IsRefusedBy {E = E} left (Semantic (Some offset) kind) (RefusesPart spelling xs p l)
+  bad-at any E l offset kind left wrong size here = absurd cc
+  bad-at (deterministic order) E l offset kind left wrong size here =
+      let f = subst (IsFaultAt order xs) wrong (found-at order size) in
+      subst (λ n. IsRefusedBy {E = E} left (Semantic (Some n) kind) (RefusesPart (deterministic order) xs p l))
+      (sym here)
+      (subst (λ k. IsNamed (Some p) k (RefusesPart (deterministic order) xs p l)) (sym f.2)
+      (Refuses.bad_head f.0 a.3 f.1, other))
+    where
+      other : ¬ Rattle.ciborium.specs.inner.ValuesInBytes.IsBreakAt xs p
+      other = no-break xs p h a.0 a.1 (faulty h wrong) (front-of remaining d h h xs p refl a)
+        where
+          faulty : (k : Header) → deterministic_fault k d.head_len ≡ Some kind → IsNoBreak k
+          faulty header.Break e = absurd cc
+          faulty (header.Positive n) e = tt
+          faulty (header.Negative n) e = tt
+          faulty (header.Bytes n) e = tt
+          faulty (header.Text n) e = tt
+          faulty (header.Array n) e = tt
+          faulty (header.Map n) e = tt
+          faulty (header.Tag n) e = tt
+          faulty (header.Simple n) e = tt
+          faulty (header.Float n) e = tt
+
+pub good-head : {S W : Type 0} (spelling : Spelling) (remaining : S → Option (List ℕ)) (d : Decoder S W) (h : Header)
+    (xs : List ℕ) (p : ℕ) → IsHeadAccepted spelling remaining d h xs p → HasGoodHead spelling xs p
+good-head spelling remaining d h xs p a = (a.pulled.3, good-at remaining d h xs p a.pulled spelling a.right a.sized)
+
+module _ {S W : Type 0} (spelling : Spelling) (remaining : S → Option (List ℕ)) (d e : Decoder S W) (u v xs : List ℕ)
+    (p : ℕ) (stands : StandsAt spelling Some (with_left d u) xs p)
+    (size : IsMeasured d → e.counter.count ≡ offset_of d + e.head_len) where
+  sized : (s : Spelling) → StandsAt s Some (with_left d u) xs p → IsHeadMeasured s (with_left e v) p
+  sized any at = tt
+  sized (deterministic order) at = size at.1 ∙ ap (λ n. n + e.head_len) (offset-at Some (with_left d u) p xs at.0)
+
+  -- it is accepted
+  pub accepted-head : (h : Header) → head_fault spelling h e.head_len ≡ None → IsPulled Some (with_left e v) h xs p →
+      IsHeadAccepted spelling Some (with_left e v) h xs p
+  accepted-head h right pulled = record { pulled = pulled; right = right; sized = sized spelling stands }
+
+  -- it is not
+  pub faulty-head : (E : Type 0) (h : Header) (l offset : ℕ) (kind : Kind) →
+      head_fault spelling h e.head_len ≡ Some kind → offset ≡ offset_of d → IsPulled Some (with_left e v) h xs p →
+      IsRefusedBy {E = E} (Some v) (Semantic (Some offset) kind) (RefusesPart spelling xs p l)
+  faulty-head E h l offset kind wrong here pulled = bad-at Some (with_left e v) h xs p pulled spelling E l offset kind
+      (Some v) wrong (sized spelling stands) (here ∙ stands-offset spelling Some (with_left d u) p xs stands)
+
+-- what is answered where it is accepted
+module _ {S W : Type 0} (spelling : Spelling) (remaining : S → Option (List ℕ)) (d e : Decoder S W) (h : Header)
+    (size : IsMeasured d → e.counter.count ≡ offset_of d + e.head_len) (right : head_fault spelling h e.head_len ≡ None)
+    (pull : TakesBeforeAny remaining d e (λ d e. PullsSo {E = Unit {0}} Some d e (Ok h))) where
+  -- by the head alone
+  pub part-of-head : (P : List ℕ → List ℕ → ℕ → Type 0) →
+      ((z xs : List ℕ) (p : ℕ) → offset_of d ≡ p → IsHeadAccepted spelling Some (with_left e z) h xs p → P z xs p) →
+      Takes remaining d e (λ b. (z xs : List ℕ) (p : ℕ) → StandsAt spelling Some (with_left d (b ++ z)) xs p → P z xs p)
+  part-of-head P f = (
+    pull.0,
+    pull.1,
+    pull.2,
+    λ z xs p s. f z xs p (stands-offset spelling Some (with_left d (pull.0 ++ z)) p xs s)
+        (accepted-head spelling remaining d e (pull.0 ++ z) z xs p s size h right
+        (pull.3 z xs p (ahead-of spelling Some (with_left d (pull.0 ++ z)) xs p s))),
+    pull.4,
+  )
+
+  -- by what was read behind it
+  pub part-behind-head : (f : Decoder S W) (P : List ℕ → List ℕ → ℕ → Type 0)
+      (Q : Decoder (List ℕ) W → Decoder (List ℕ) W → Type 0) → TakesBeforeAny remaining e f Q →
+      ((m z xs : List ℕ) (p : ℕ) → offset_of d ≡ p → IsHeadAccepted spelling Some (with_left e m) h xs p →
+      Q (with_left e m) (with_left f z) → P z xs p) →
+      Takes remaining d f (λ b. (z xs : List ℕ) (p : ℕ) → StandsAt spelling Some (with_left d (b ++ z)) xs p → P z xs p)
+  part-behind-head f P Q read g =
+      let t = so-both remaining d e f (λ d e. PullsSo {E = Unit {0}} Some d e (Ok h)) Q pull read in (
+        t.0,
+        t.1,
+        t.2,
+        λ z xs p s. let m = t.3 z in
+            g m.0 z xs p (stands-offset spelling Some (with_left d (t.0 ++ z)) p xs s)
+            (accepted-head spelling remaining d e (t.0 ++ z) m.0 xs p s size h right
+            (m.1 xs p (ahead-of spelling Some (with_left d (t.0 ++ z)) xs p s))) m.2,
+        t.4,
+      )
+
+pub head-refused : {E : Type 0} (spelling : Spelling) (left : Option (List ℕ)) (e : Error E) (xs : List ℕ) (p l : ℕ) →
+    IsRefusedBy left e (HeadRefuses xs p) → IsRefusedBy left e (RefusesPart spelling xs p l)
+head-refused spelling left e xs p l h = refused-map left e (HeadRefuses xs p) (RefusesPart spelling xs p l)
+    (λ r f. (Refuses.no_head f, head-no-break xs p r f)) h

@@ -1,0 +1,204 @@
+-- What a head gives or refuses by itself, in each spelling.
+use Rattle.std.proofs.Common.{◌≡◌, ℕ, suc, ◌+◌, ◌-◌, ◌<◌, ◌≤◌, Bool, true, false, List, [], ◌∷◌, ◌++◌, length, Option}
+use Rattle.std.proofs.Common.{Some, None, Result, Ok, Err, pos, negsuc, refl, sym, ap, ◌∙◌, subst, arith, inl, inr}
+use Rattle.ciborium_ll.specs.declared.decoder.Decoder.{Decoder}
+use Rattle.ciborium_ll.specs.declared.header.Header.{Header}
+use Rattle.ciborium_ll.specs.declared.header.Header.TheVariants as header
+use Rattle.ciborium_ll.specs.Bytes.{greatest_offset}
+use Rattle.ciborium_ll.specs.Decoding.{left_of}
+use Rattle.ciborium_ll.specs.Head.{break_byte}
+use Rattle.ciborium_ll.specs.Header.{SpellsHeader}
+use Rattle.ciborium_ll.specs.Refusal.{Refusal, semantic, recursion_limit_exceeded, IsUsable}
+use Rattle.ciborium_ll.specs.Refusal as refusal
+use Rattle.ciborium_value.specs.Meaning.{simple_meaning}
+use Rattle.ciborium_value.specs.Refuses.{Due, items, keys, BeginsContainer, IsInside, Refuses}
+use Rattle.ciborium_value.specs.Spelling.{Spelling}
+use Rattle.ciborium_value.specs.Tree as trees
+use Rattle.ciborium_value.specs.Tree.{Tree}
+use Rattle.ciborium_value.specs.View.{tree_of}
+use Rattle.ciborium_value.specs.inner.ReadItems.{ReadsItem}
+use Rattle.ciborium_value.proofs.GoodItems.Introduced.{reads-positive, reads-negative, reads-simple, inside-begun}
+use Rattle.ciborium_value.proofs.GoodItems.Introduced.{reads-container}
+use Rattle.ciborium.specs.declared.de.error.Error.{Error}
+use Rattle.ciborium.specs.declared.de.front.Part.{Part}
+use Rattle.ciborium.specs.declared.de.front.Part.TheVariants.{Whole, Opened, Ended}
+use Rattle.ciborium.specs.ValueAnswers.{IsRefusedBy}
+use Rattle.ciborium.specs.inner.Around.{IsOpen}
+use Rattle.ciborium.specs.inner.Parts.{IsHeadAccepted, IsPartRead, RefusesPart, IsContainerBegun, IsBehind}
+use Rattle.ciborium.specs.inner.Parts.{container_header, empty_container, begun_container}
+use Rattle.ciborium.specs.inner.ValuesInBytes.{StandsAt}
+use Rattle.ciborium.proofs.Turns.Fronts.{Front, front-of, front-fits, IsNoBreak, no-break}
+use Rattle.ciborium.proofs.Turns.Heads.{Got, got, good-head, stands-at}
+
+module _ {S W : Type 0} (remaining : S → Option (List ℕ)) (d : Decoder S W) (l : ℕ) (xs : List ℕ) (p : ℕ) (h : Header)
+    (pushed : d.pushed ≡ None) where
+  pub got-positive : (spelling : Spelling) (n : ℕ) (t : Tree) → t ≡ trees.integer (pos n) → h ≡ header.Positive n →
+      IsHeadAccepted spelling remaining d h xs p → Got spelling remaining d l xs p t
+  got-positive spelling n t same is a =
+      let u : Front xs p (header.Positive n) a.pulled.0 a.pulled.1 =
+      front-of remaining d h (header.Positive n) xs p is a.pulled in
+      let k : ℕ = length a.pulled.0 in
+      got spelling remaining d l xs p (trees.integer (pos n)) t a.pulled.1 (p + k) pushed same
+      (reads-positive spelling xs p n k (Some l) a.pulled.1 (a.pulled.0, u.spelled, refl, u.split)
+      (good-head spelling remaining d h xs p a).1 (front-fits xs p (header.Positive n) a.pulled.0 a.pulled.1 u))
+      a.pulled.6
+
+  pub got-negative : (spelling : Spelling) (n : ℕ) (t : Tree) → t ≡ trees.integer (negsuc n) → h ≡ header.Negative n →
+      IsHeadAccepted spelling remaining d h xs p → Got spelling remaining d l xs p t
+  got-negative spelling n t same is a =
+      let u : Front xs p (header.Negative n) a.pulled.0 a.pulled.1 =
+      front-of remaining d h (header.Negative n) xs p is a.pulled in
+      let k : ℕ = length a.pulled.0 in
+      got spelling remaining d l xs p (trees.integer (negsuc n)) t a.pulled.1 (p + k) pushed same
+      (reads-negative spelling xs p n k (Some l) a.pulled.1 (a.pulled.0, u.spelled, refl, u.split)
+      (good-head spelling remaining d h xs p a).1 (front-fits xs p (header.Negative n) a.pulled.0 a.pulled.1 u))
+      a.pulled.6
+
+  pub got-simple : (spelling : Spelling) (n : ℕ) (t : Tree) → simple_meaning n ≡ Some t → h ≡ header.Simple n →
+      IsHeadAccepted spelling remaining d h xs p → Got spelling remaining d l xs p t
+  got-simple spelling n t means is a =
+      let u : Front xs p (header.Simple n) a.pulled.0 a.pulled.1 =
+      front-of remaining d h (header.Simple n) xs p is a.pulled in
+      got spelling remaining d l xs p t t a.pulled.1 (p + length a.pulled.0) pushed refl
+      (reads-simple spelling xs p (Some l) a.pulled.0 n a.pulled.1 t u.spelled u.split means
+      (good-head spelling remaining d h xs p a).1 (front-fits xs p (header.Simple n) a.pulled.0 a.pulled.1 u))
+      a.pulled.6
+
+  pub got-end : (spelling : Spelling) → h ≡ header.Break → IsHeadAccepted spelling remaining d h xs p → (zs : List ℕ) ×
+      (xs ≡ break_byte ∷ zs) × (p < greatest_offset) × StandsAt spelling remaining d zs (p + 1)
+  got-end spelling is a =
+      let r : List ℕ = a.pulled.1 in
+      let u : Front xs p header.Break a.pulled.0 r = front-of remaining d h header.Break xs p is a.pulled in
+      let size : length a.pulled.0 ≡ 1 = ap length u.spelled in
+      let fit = front-fits xs p header.Break a.pulled.0 r u in (
+        r,
+        u.split ∙ ap (λ (z : List ℕ). z ++ r) u.spelled,
+        omega (arith, size, fit),
+        subst (λ n. StandsAt spelling remaining d r (p + n)) size
+            (stands-at spelling remaining d (p + length a.pulled.0) r pushed a.pulled.6),
+      )
+
+  -- ---- arrays and maps
+
+  abbrev due_of : Bool → Option ℕ → Due
+  due_of false count = items count
+  due_of true count = keys count
+
+  opens : (is_map : Bool) (count : Option ℕ) (b r : List ℕ) → Front xs p (container_header is_map count) b r →
+      BeginsContainer xs (length b) r (due_of is_map count)
+  opens false (Some n) b r u = BeginsContainer.array n (b, u.spelled, refl, u.split)
+  opens true (Some n) b r u = BeginsContainer.map n (b, u.spelled, refl, u.split)
+  opens false None b r u = BeginsContainer.open_array (ap length u.spelled)
+      (u.split ∙ ap (λ (z : List ℕ). z ++ r) u.spelled)
+  opens true None b r u = BeginsContainer.open_map (ap length u.spelled)
+      (u.split ∙ ap (λ (z : List ℕ). z ++ r) u.spelled)
+
+  begun-open : (spelling : Spelling) (is_map : Bool) (count behind : Option ℕ) (m : ℕ) (r : List ℕ) (q : ℕ) →
+      IsBehind count behind → IsInside spelling xs p (Some (suc m)) [] r q (due_of is_map count) (Some m) →
+      IsOpen spelling (begun_container is_map behind) m xs p r q
+  begun-open spelling is_map (Some n) None m r q e i = absurd e
+  begun-open spelling is_map None (Some k) m r q e i = absurd e
+  begun-open spelling false None None m r q e i = i
+  begun-open spelling true None None m r q e i = i
+  begun-open spelling false (Some n) (Some k) m r q e i =
+      subst (λ c. IsInside spelling xs p (Some (suc m)) [] r q (items (Some c)) (Some m)) e i
+  begun-open spelling true (Some n) (Some k) m r q e i =
+      subst (λ c. IsInside spelling xs p (Some (suc m)) [] r q (keys (Some c)) (Some m)) e i
+
+  no-container-break : (is_map : Bool) (count : Option ℕ) → IsNoBreak (container_header is_map count)
+  no-container-break false count = tt
+  no-container-break true count = tt
+
+  -- an array or map without parts
+  empty-item : (spelling : Spelling) (is_map : Bool) (m : ℕ) (r : List ℕ) (q : ℕ) →
+      IsInside spelling xs p (Some (suc m)) [] r q (due_of is_map (Some 0)) (Some m) →
+      ReadsItem spelling (Some (suc m)) xs p (empty_container is_map) r q
+  empty-item spelling false m r q i =
+      reads-container spelling xs p (Some (suc m)) (Some m) [] r r q q (items (Some 0)) i (refl, refl, refl)
+  empty-item spelling true m r q i =
+      reads-container spelling xs p (Some (suc m)) (Some m) [] r r q q (keys (Some 0)) i (refl, refl, refl)
+
+  pub container-part : (spelling : Spelling) (E : Type 0) (is_map : Bool) (count : Option ℕ)
+      (x : Result Part (Error E)) → h ≡ container_header is_map count → IsHeadAccepted spelling remaining d h xs p →
+      IsContainerBegun is_map count l x → IsPartRead spelling remaining d l xs p x
+  container-part spelling E is_map count x is a s = by x s
+    where
+      r : List ℕ
+      r = a.pulled.1
+
+      q : ℕ
+      q = p + length a.pulled.0
+
+      u : Front xs p (container_header is_map count) a.pulled.0 a.pulled.1
+      u = front-of remaining d h (container_header is_map count) xs p is a.pulled
+
+      inside : (m : ℕ) → IsInside spelling xs p (Some (suc m)) [] a.pulled.1 (p + length a.pulled.0)
+          (due_of is_map count) (Some m)
+      inside m = (inside-begun spelling xs p (length a.pulled.0) (Some (suc m)) (Some m) a.pulled.1
+          (due_of is_map count) (good-head spelling remaining d h xs p a)
+          (opens is_map count a.pulled.0 a.pulled.1 u) refl
+          (front-fits xs p (container_header is_map count) a.pulled.0 a.pulled.1 u)).0
+
+      by : (x : Result Part (Error E)) → IsContainerBegun is_map count l x → IsPartRead spelling remaining d l xs p x
+      by (Ok (Whole v)) (none, some, same) =
+          let less : l ≡ suc (l - 1) = omega (arith, some) in
+          got spelling remaining d l xs p (empty_container is_map) (tree_of v) r q pushed same
+          (subst (λ n. ReadsItem spelling (Some n) xs p (empty_container is_map) r q) (sym less)
+          (empty-item spelling is_map (l - 1) r q
+          (subst (λ c. IsInside spelling xs p (Some (suc (l - 1))) [] r q (due_of is_map c) (Some (l - 1))) none
+          (inside (l - 1))))) a.pulled.6
+      by (Ok (Opened f)) (some, behind, same, left) =
+          let less : l ≡ suc (l - 1) = omega (arith, some) in (
+            r,
+            q,
+            (
+              l - 1,
+              less,
+              subst (λ o. IsOpen spelling o (l - 1) xs p r q) (sym same)
+                  (begun-open spelling is_map count behind (l - 1) r q left (inside (l - 1))),
+            ),
+            stands-at spelling remaining d q r pushed a.pulled.6,
+          )
+      by (Ok Ended) s = absurd s
+      by (Err e) (none, same) =
+          subst (λ z. IsRefusedBy (left_of remaining d) z (RefusesPart spelling xs p l)) (sym same) (
+            subst (λ n. Refuses spelling xs p (Some n) recursion_limit_exceeded) (sym none)
+                (Refuses.no_level (length a.pulled.0) r (due_of is_map count) (good-head spelling remaining d h xs p a)
+                (opens is_map count a.pulled.0 r u)),
+            no-break xs p (container_header is_map count) a.pulled.0 r (no-container-break is_map count) u,
+          )
+
+-- ---- what has no meaning by itself
+
+module _ {S W : Type 0} (remaining : S → Option (List ℕ)) (d : Decoder S W) (l : ℕ) (xs : List ℕ) (p : ℕ)
+    (h : Header) where
+  pub simple-refuses : (spelling : Spelling) (n : ℕ) → simple_meaning n ≡ None → h ≡ header.Simple n →
+      IsHeadAccepted spelling remaining d h xs p → RefusesPart spelling xs p l (semantic p refusal.Simple)
+  simple-refuses spelling n none is a =
+      let u : Front xs p (header.Simple n) a.pulled.0 a.pulled.1 =
+      front-of remaining d h (header.Simple n) xs p is a.pulled in (
+        Refuses.simple a.pulled.0 n a.pulled.1 u.usable u.spelled none u.split,
+        no-break xs p (header.Simple n) a.pulled.0 a.pulled.1 tt u,
+      )
+
+  pub float-refuses : (spelling : Spelling) (n : ℕ) → h ≡ header.Float n → IsHeadAccepted spelling remaining d h xs p →
+      RefusesPart spelling xs p l (semantic p refusal.Float)
+  float-refuses spelling n is a =
+      (by a.pulled.0 u.spelled u.split, no-break xs p (header.Float n) a.pulled.0 a.pulled.1 tt u)
+    where
+      u : Front xs p (header.Float n) a.pulled.0 a.pulled.1
+      u = front-of remaining d h (header.Float n) xs p is a.pulled
+
+      at : (x : ℕ) (raw : List ℕ) → xs ≡ (x ∷ raw) ++ a.pulled.1 → 0xf9 ≤ x → x ≤ 0xfb →
+          Refuses spelling xs p (Some l) (semantic p refusal.Float)
+      at x raw e low high =
+          subst (λ z. Refuses spelling z p (Some l) (semantic p refusal.Float)) (sym e)
+          (Refuses.float {x = x} {p = p} {b = raw ++ a.pulled.1} (subst (λ z. IsUsable z p) e u.usable) low high)
+
+      by : (b : List ℕ) → SpellsHeader b (header.Float n) → xs ≡ b ++ a.pulled.1 →
+          Refuses spelling xs p (Some l) (semantic p refusal.Float)
+      by b (raw, (inl s), k) e = at 0xf9 raw (e ∙ ap (λ (z : List ℕ). z ++ a.pulled.1) s.1) (omega arith) (omega arith)
+      by b (raw, (inr (inl s)), k) e = at 0xfa raw (e ∙ ap (λ (z : List ℕ). z ++ a.pulled.1) s.1) (omega arith)
+          (omega arith)
+      by b (raw, (inr (inr s)), k) e = at 0xfb raw (e ∙ ap (λ (z : List ℕ). z ++ a.pulled.1) s.1) (omega arith)
+          (omega arith)
