@@ -21,7 +21,7 @@ use Rattle.ciborium_value.specs.Tree.{trees_count, tree_pairs_count}
 use Rattle.ciborium_value.specs.View.{trees_from}
 use Rattle.ciborium_value.specs.inner.ReadItems.{pairs_in}
 use Rattle.ciborium_value.specs.declared.key_order.KeyOrder.{KeyOrder}
-use Rattle.ciborium_value.proofs.GoodItems.Accepted.{accepted, canonical}
+use Rattle.ciborium_value.proofs.GoodItems.Accepted.{accepted}
 use Rattle.ciborium_value.proofs.GoodItems.Reader.{Answer, levels, is_less, rising, in_order}
 use Rattle.ciborium_value.proofs.GoodItems.Spelled.{and_true}
 
@@ -231,12 +231,12 @@ read-more spelling (w ∷ vs) s t v p l (a, b, first, rest, e) k =
 
 -- ---- as items
 
-pub items-read : (vs : List Tree) (s : List ℕ) (p : ℕ) (l : Limit) → AreReadAs any s p l vs → (is : Items) ×
-    SpellsItems s is × (items_meaning is ≡ Some (trees_from vs)) × IsWithin l (items_nesting is) ×
-    (items_count is ≡ length vs)
-items-read [] s p l h = (no_items, h, refl, within-zero l, refl)
-items-read (v ∷ vs) s p l (a, b, (i, spelled, means, nests, fits, so), rest, e) =
-    let r = items-read vs b (p + length a) l rest in (
+pub items-read : (spelling : Spelling) (vs : List Tree) (s : List ℕ) (p : ℕ) (l : Limit) →
+    AreReadAs spelling s p l vs → (is : Items) × SpellsItems s is × (items_meaning is ≡ Some (trees_from vs)) ×
+    IsWithin l (items_nesting is) × (items_count is ≡ length vs)
+items-read spelling [] s p l h = (no_items, h, refl, within-zero l, refl)
+items-read spelling (v ∷ vs) s p l (a, b, (i, spelled, means, nests, fits, so), rest, e) =
+    let r = items-read spelling vs b (p + length a) l rest in (
       item i r.0,
       (a, b, spelled, r.1, e),
       ap (λ o. trees_more o (items_meaning r.0)) means ∙ ap (trees_more (Some v)) r.2,
@@ -244,13 +244,14 @@ items-read (v ∷ vs) s p l (a, b, (i, spelled, means, nests, fits, so), rest, e
       ap suc r.4,
     )
 
-pub pairs-read : (vs : List Tree) (s : List ℕ) (p : ℕ) (l : Limit) → ArePaired vs → AreReadAs any s p l vs →
-    (ps : Pairs) × SpellsPairs s ps × (pairs_meaning ps ≡ Some (pairs_in vs)) × IsWithin l (pairs_nesting ps) ×
-    (pairs_count ps ≡ tree_pairs_count (pairs_in vs))
-pairs-read [] s p l even h = (no_pairs, h, refl, within-zero l, refl)
-pairs-read (k ∷ []) s p l even h = absurd even
-pairs-read (k ∷ (v ∷ vs)) s p l even (a, b, (i, s1, m1, n1, f1, so), (c, d, (j, s2, m2, n2, f2, then), rest, f), e) =
-    let r = pairs-read vs d (p + length a + length c) l even rest in (
+pub pairs-read : (spelling : Spelling) (vs : List Tree) (s : List ℕ) (p : ℕ) (l : Limit) → ArePaired vs →
+    AreReadAs spelling s p l vs → (ps : Pairs) × SpellsPairs s ps × (pairs_meaning ps ≡ Some (pairs_in vs)) ×
+    IsWithin l (pairs_nesting ps) × (pairs_count ps ≡ tree_pairs_count (pairs_in vs))
+pairs-read spelling [] s p l even h = (no_pairs, h, refl, within-zero l, refl)
+pairs-read spelling (k ∷ []) s p l even h = absurd even
+pairs-read spelling (k ∷ (v ∷ vs)) s p l even
+    (a, b, (i, s1, m1, n1, f1, so), (c, d, (j, s2, m2, n2, f2, then), rest, f), e) =
+    let r = pairs-read spelling vs d (p + length a + length c) l even rest in (
       pair i j r.0,
       (a, c, d, s1, s2, r.1, e ∙ ap (λ (z : List ℕ). a ++ z) f),
       ap (λ o. tree_pairs_more o (meaning j) (pairs_meaning r.0)) m1 ∙
@@ -323,45 +324,28 @@ module _ (order : KeyOrder) where
       IsWithin l (pairs_nesting (pairs_of ps))
 
   pub trees-written : (vs : List Tree) (s : List ℕ) (p : ℕ) (l : Limit) → AreReadAs (deterministic order) s p l vs →
-      (s ≡ items_bytes (items_of (trees_from vs))) × AreAllowed l (trees_from vs) ×
-      (items_count (items_of (trees_from vs)) ≡ length vs) × (trees_count (trees_from vs) ≡ length vs)
-  trees-written [] s p l h = (h, (tt, refl, tt, within-zero l), refl, refl)
-  trees-written (v ∷ vs) s p l (a, b, first, rest, e) =
-      let ((bytes, c), nests, fits) = canonical order a p l v first in
-      let r = trees-written vs b (p + length a) l rest in
-      let w = r.1 in (
+      (s ≡ items_bytes (items_of (trees_from vs))) × HaveRisingKeys order (trees_from vs) ×
+      (items_count (items_of (trees_from vs)) ≡ length vs)
+  trees-written [] s p l h = (h, tt, refl)
+  trees-written (v ∷ vs) s p l (a, b, (i, spelled, means, nests, fits, (bytes, rises)), rest, e) =
+      let r = trees-written vs b (p + length a) l rest in (
         e ∙ ap (λ (z : List ℕ). z ++ b) bytes ∙ ap (λ (z : List ℕ). encoding v ++ z) r.0,
-        (
-          (c.proper, w.0),
-          ap (λ o. trees_more o (trees_folded (trees_from vs))) c.folds ∙ ap (trees_more (Some v)) w.1,
-          (c.rises, w.2),
-          within-max l _ _ nests w.3,
-        ),
+        (rises, r.1),
         ap suc r.2,
-        ap suc r.3,
       )
 
   pub pairs-written : (vs : List Tree) (s : List ℕ) (p : ℕ) (l : Limit) → ArePaired vs →
       AreReadAs (deterministic order) s p l vs → (s ≡ pairs_bytes (pairs_of (pairs_in vs))) ×
-      PairsAreAllowed l (pairs_in vs) × (pairs_count (pairs_of (pairs_in vs)) ≡ tree_pairs_count (pairs_in vs))
-  pairs-written [] s p l even h = (h, (tt, refl, tt, within-zero l), refl)
+      PairsHaveRisingKeys order (pairs_in vs) ×
+      (pairs_count (pairs_of (pairs_in vs)) ≡ tree_pairs_count (pairs_in vs))
+  pairs-written [] s p l even h = (h, tt, refl)
   pairs-written (k ∷ []) s p l even h = absurd even
-  pairs-written (k ∷ (v ∷ vs)) s p l even (a, b, first, (c, d, second, rest, f), e) =
-      let ((b1, t1), n1, f1) = canonical order a p l k first in
-      let ((b2, t2), n2, f2) = canonical order c (p + length a) l v second in
-      let r = pairs-written vs d (p + length a + length c) l even rest in
-      let w = r.1 in
-      let ps : TreePairs = pairs_in vs in (
+  pairs-written (k ∷ (v ∷ vs)) s p l even
+      (a, b, (i, s1, m1, n1, f1, (b1, r1)), (c, d, (j, s2, m2, n2, f2, (b2, r2)), rest, f), e) =
+      let r = pairs-written vs d (p + length a + length c) l even rest in (
         e ∙ ap (λ (z : List ℕ). z ++ b) b1 ∙ ap (λ (z : List ℕ). encoding k ++ z)
             (f ∙ ap (λ (z : List ℕ). z ++ d) b2 ∙ ap (λ (z : List ℕ). encoding v ++ z) r.0),
-        (
-          (t1.proper, t2.proper, w.0),
-          ap (λ o. tree_pairs_more o (folded v) (tree_pairs_folded ps)) t1.folds ∙
-              ap (λ o. tree_pairs_more (Some k) o (tree_pairs_folded ps)) t2.folds ∙
-              ap (tree_pairs_more (Some k) (Some v)) w.1,
-          (t1.rises, t2.rises, w.2),
-          within-max l _ _ (within-max l _ _ n1 n2) w.3,
-        ),
+        (r1, r2, r.1),
         ap suc r.2,
       )
 
