@@ -1,9 +1,8 @@
 //! What is read.
 
-ghost use Rattle.std.specs.Prelude.{◌≡◌, ◌<◌, ◌≤◌, IfErr, IfOk, IfSome, OnErr, OnOk};
+ghost use Rattle.std.specs.Prelude.{◌≡◌, IfErr, IfSome};
 ghost use Rattle.ciborium_value.specs.Readings.{Reading};
-ghost use Rattle.ciborium_value.specs.Sources.{IsGrantedFault, RefusesAhead, TakesAhead, TakesItem};
-ghost use Rattle.ciborium_value.specs.Sources.{TakesOnly};
+ghost use Rattle.ciborium_value.specs.Sources.{IsGrantedFault, TakesOneItem};
 ghost use Rattle.ciborium_value.specs.View.{read_as};
 
 use crate::source::Source;
@@ -29,19 +28,12 @@ pub trait Deserialize: Sized + Drop {
     /// kind, or for nesting, only where the item is. A refused call has taken a prefix of what was
     /// unread and nothing else, and no more is left to read than before.
     fn deserialize<S: Source>(alloc: Global, source: &mut S) -> Result<Self, S::Error>
-        ensures ok { IfOk result
-            (λ v. TakesAhead S.stands_before source.old source.new reading.taken (reading.content
-            v)) }
-        ensures refused { IfErr result
-            (λ e. RefusesAhead S.stands_before source.old reading.taken (S.cause source.new e)) }
+        ensures takes { TakesOneItem S.stands_before S.is_unread S.has_taken S.left S.cause
+            source.old source.new reading.taken reading.content result }
         ensures memory { IfErr result
             (λ e. IsGrantedFault (S.cause source.new e) reading.needs_memory) }
         ensures whole { IfSome reading.whole (λ tree. S.reads source.old source.new
-            (read_as (λ v. tree (reading.content v)) result)) }
-        ensures took { OnOk result (TakesItem S.is_unread source.old source.new) }
-        ensures only { TakesOnly S.has_taken source.old source.new }
-        ensures less { OnOk result (S.left source.new < S.left source.old) }
-        ensures no_more { OnErr result (S.left source.new ≤ S.left source.old) };
+            (read_as (λ v. tree (reading.content v)) result)) };
 }
 
 /// A type whose values can be the keys of a map that is read: they compare as their contents do.

@@ -5,8 +5,8 @@ ghost use Rattle.std.specs.Prelude.{Some, ℕ};
 ghost use Rattle.std.specs.Option.{option_map};
 ghost use Rattle.ciborium_ll.specs.Item.{Item};
 ghost use Rattle.ciborium_value.specs.Nesting.{Limit};
-ghost use Rattle.ciborium_value.specs.Sources.{RefusesAhead, TakesAhead, TakesItem, TakesOnly};
-ghost use Rattle.ciborium_value.specs.Sources.{of_kind};
+ghost use Rattle.ciborium_value.specs.Sources.{RefusesAhead, TakesAhead, TakesItem, TakesOneItem};
+ghost use Rattle.ciborium_value.specs.Sources.{TakesOnly, of_kind};
 ghost use Rattle.ciborium_value.specs.StructReadings.{FieldsTaken, field_place, field_taken};
 ghost use Rattle.ciborium_value.specs.StructReadings.{no_field_taken, taken_fields};
 ghost use Rattle.ciborium_value.specs.Taken.{outcome};
@@ -148,14 +148,9 @@ pub fn read_fields<F: WantedFields, S: Source>(
     source: &mut S,
     fields: &mut F,
 ) -> Result<(), S::Error>
-    ensures ok { OnOk result (TakesAhead S.stands_before source.old source.new
-        (taken_fields (F.fields fields.old) (F.content fields.old)) (F.content fields.new)) }
-    ensures refused { IfErr result (λ e. RefusesAhead S.stands_before source.old
-        (taken_fields (F.fields fields.old) (F.content fields.old)) (S.cause source.new e)) }
-    ensures took { OnOk result (TakesItem S.is_unread source.old source.new) }
-    ensures only { TakesOnly S.has_taken source.old source.new }
-    ensures less { OnOk result (S.left source.new < S.left source.old) }
-    ensures no_more { OnErr result (S.left source.new ≤ S.left source.old) }
+    ensures { TakesOneItem S.stands_before S.is_unread S.has_taken S.left S.cause source.old
+        source.new (taken_fields (F.fields fields.old) (F.content fields.old))
+        (λ _. F.content fields.new) result }
 {
     let mut seq = source.begin_map()?;
     while source.next(&mut seq)? {

@@ -1,5 +1,6 @@
 -- What is read of a sequence, part by part, from any source.
-use Rattle.std.proofs.Common.{◌≡◌, ℕ, List, [], ◌∷◌, ◌++◌, refl, sym, ◌∙◌, ap, subst, append_assoc, append-nil}
+use Rattle.std.proofs.Common.{◌≡◌, ℕ, ◌≤◌, List, [], ◌∷◌, ◌++◌, refl, sym, ◌∙◌, ap, subst, append_assoc}
+use Rattle.std.proofs.Common.{append-nil, Result, Ok, Err, IsErrAnd}
 use Rattle.ciborium_ll.specs.Item.{Item}
 use Rattle.ciborium_value.specs.Ahead.{Ahead, Rest, Form, item, after, parts, past, inside, end_of}
 use Rattle.ciborium_value.specs.Nesting.{Limit}
@@ -7,7 +8,8 @@ use Rattle.ciborium_value.specs.Places.{Shape, sequence}
 use Rattle.ciborium_value.specs.EnteredSequences.{RefusesInTurn, TakesRest, TakesInTurn}
 use Rattle.ciborium_value.specs.Sources.{Fault, of_kind, of_nesting, of_syntax, of_memory, of_device, of_end, of_length}
 use Rattle.ciborium_value.specs.Sources.{IsFaultOf, IsOutsideFault, TakesAhead, RefusesAhead, Enters, GoesOn, Leaves}
-use Rattle.ciborium_value.specs.Sources.{RefusesNext, TakesTo, TakesItem, OwesLess, OwesNothing}
+use Rattle.ciborium_value.specs.Sources.{RefusesNext, TakesTo, TakesItem, OwesLess, OwesNothing, TakesOnly}
+use Rattle.ciborium_value.specs.Sources.{TakesOneItem}
 use Rattle.ciborium_value.specs.lemmas.GivenOutcomes.{and_take}
 use Rattle.ciborium_value.specs.Taken.{Outcome, Steps, Taken, deeper_if, gives, mapped, nests, outcome, outcome_map}
 use Rattle.ciborium_value.specs.Taken.{refuses, take_each, taken_value, then_take}
@@ -75,6 +77,23 @@ module _ {S : Type 0} (StandsBefore : S → Limit → Ahead → Type 0) where
   pub blames : {C : Type 0} {old : S} (taken : Taken C) (fault : Fault) →
       Follows (IsBefore old taken) (IsBlamed fault) → RefusesAhead StandsBefore old taken fault
   blames taken fault h l i f st = h.at l f _ (i, st, refl)
+
+-- what is said of a call for one item that passes an error on
+pub passes_on : {S A V E : Type 0} {StandsBefore : S → Limit → Ahead → Type 0} {IsUnread : S → List ℕ → Type 0}
+    {HasTaken : S → S → Type 0} {left : S → ℕ} {cause : S → E → Fault} {old new : S} {taken : Taken A}
+    {content : V → A} (r : Result V E) (e : E) → IsErrAnd r (λ y. y ≡ e) →
+    RefusesAhead StandsBefore old taken (cause new e) → TakesOnly HasTaken old new → left new ≤ left old →
+    TakesOneItem StandsBefore IsUnread HasTaken left cause old new taken content r
+passes_on (Ok v) e h refused only no_more = absurd h
+passes_on {StandsBefore = StandsBefore} {cause = cause} {old = old} {new = new} {taken = taken} (Err y) e h refused only
+    no_more = record {
+      ok = tt;
+      refused = subst (λ x. RefusesAhead StandsBefore old taken (cause new x)) (sym h) refused;
+      took = tt;
+      only = only;
+      less = tt;
+      no_more = no_more;
+    }
 
 module _ {S Q : Type 0} (StandsBefore : S → Limit → Ahead → Type 0) (SeqStands : Q → Limit → Rest → Type 0) where
   -- items of a sequence are left, of which k makes the outcome

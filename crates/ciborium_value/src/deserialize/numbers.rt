@@ -1,10 +1,9 @@
 //! Numbers.
 
-ghost use Rattle.std.specs.Prelude.{◌+◌, ◌<◌, ◌^◌, ◌≤◌, IfErr, IfOk, OnErr, OnOk, false};
+ghost use Rattle.std.specs.Prelude.{◌+◌, ◌<◌, ◌^◌, ◌≤◌, IfErr, IfOk, false};
 ghost use Rattle.std.specs.Prelude.{refl, ℕ, ℤ};
 ghost use Rattle.ciborium_value.specs.Readings.{IsBounded, below, bounded};
-ghost use Rattle.ciborium_value.specs.Sources.{IsGrantedFault, RefusesAhead, TakesAhead, TakesItem};
-ghost use Rattle.ciborium_value.specs.Sources.{TakesOnly};
+ghost use Rattle.ciborium_value.specs.Sources.{IsGrantedFault, TakesOneItem};
 
 use super::{Deserialize, Key};
 use crate::kind::Kind;
@@ -14,16 +13,9 @@ use std::alloc::Global;
 // A number from 0 to the greatest.
 #[inline(always)]
 fn unsigned<S: Source>(source: &mut S, greatest: u128) -> Result<u128, S::Error>
-    ensures ok { IfOk result
-        (λ n. TakesAhead S.stands_before source.old source.new (below (greatest + 1)).taken n) }
-    ensures refused { IfErr result
-        (λ e. RefusesAhead S.stands_before source.old (below (greatest + 1)).taken
-        (S.cause source.new e)) }
+    ensures takes { TakesOneItem S.stands_before S.is_unread S.has_taken S.left S.cause source.old
+        source.new (below (greatest + 1)).taken (λ n. n) result }
     ensures memory { IfErr result (λ e. IsGrantedFault (S.cause source.new e) false) }
-    ensures took { OnOk result (TakesItem S.is_unread source.old source.new) }
-    ensures only { TakesOnly S.has_taken source.old source.new }
-    ensures less { OnOk result (S.left source.new < S.left source.old) }
-    ensures no_more { OnErr result (S.left source.new ≤ S.left source.old) }
     ensures fits { IfOk result (λ n. n ≤ greatest) }
 {
     let (negative, n) = source.integer()?;
@@ -37,16 +29,9 @@ fn unsigned<S: Source>(source: &mut S, greatest: u128) -> Result<u128, S::Error>
 #[inline(always)]
 fn signed<S: Source>(source: &mut S, greatest: u128) -> Result<i128, S::Error>
     requires { greatest < 2 ^ 127 }
-    ensures ok { IfOk result
-        (λ n. TakesAhead S.stands_before source.old source.new (bounded (greatest + 1)).taken n) }
-    ensures refused { IfErr result
-        (λ e. RefusesAhead S.stands_before source.old (bounded (greatest + 1)).taken
-        (S.cause source.new e)) }
+    ensures takes { TakesOneItem S.stands_before S.is_unread S.has_taken S.left S.cause source.old
+        source.new (bounded (greatest + 1)).taken (λ n. n) result }
     ensures memory { IfErr result (λ e. IsGrantedFault (S.cause source.new e) false) }
-    ensures took { OnOk result (TakesItem S.is_unread source.old source.new) }
-    ensures only { TakesOnly S.has_taken source.old source.new }
-    ensures less { OnOk result (S.left source.new < S.left source.old) }
-    ensures no_more { OnErr result (S.left source.new ≤ S.left source.old) }
     ensures fits { IfOk result (IsBounded (greatest + 1)) }
 {
     let (negative, n) = source.integer()?;

@@ -21,9 +21,9 @@ returns-in-Err g c =
       ok = tt;
       took = tt;
       only = λ first h. subst (HasTaken g.A.Access.remaining first.decoder) (sym c.put_back.ensures.decoder)
-          (c.in-Err.ensures.only first h);
+          (c.in-Err.ensures.takes.only first h);
       refused = subst (RefusesAhead (StandsBefore g.A.Access.remaining) c.args.source.now g.T.Deserialize.reading.taken)
-          same c.in-Err.ensures.refused;
+          same c.in-Err.ensures.takes.refused;
       memory = subst (λ f. IsGrantedFault f g.T.Deserialize.reading.needs_memory) same c.in-Err.ensures.memory;
       whole = some-map g.T.Deserialize.reading.whole c.in-Err.ensures.whole
           (λ tree reads. same-decoder g.A.Access.can_fail g.A.Access.remaining c.args.source.now source

@@ -1,47 +1,49 @@
 -- A map is read by names pair by pair.
 use Rattle.std.proofs.Common.{arith, ◌∙◌, subst, sym}
 use Rattle.ciborium_value.specs.Ahead.{end_of}
-use Rattle.ciborium_value.specs.Sources.{IsFaultOf, RefusesAhead}
+use Rattle.ciborium_value.specs.Sources.{IsFaultOf}
 use Rattle.ciborium_value.specs.StructReadings.{taken_fields}
-use Rattle.ciborium_value.proofs.Writing.Progress.{exits}
-use Rattle.ciborium_value.proofs.Sources.Sequences.{so, takes, blames}
-use Rattle.ciborium_value.proofs.Sources.Dictionaries.{owed_pair}
+use Rattle.ciborium_value.proofs.Sources.Sequences.{so, takes, blames, passes_on}
+use Rattle.ciborium_value.proofs.Sources.Dictionaries.{owed_pair, owed_pairs}
 use Rattle.ciborium_value.proofs.Sources.NamedFields.{fields_more, fields_blame_next, fields_blame_name}
 use Rattle.ciborium_value.proofs.Sources.NamedFields.{fields_blame_field, fields_end}
 use Rattle.ciborium_value.proofs.wanted.read_fields.Goals as goal
 
-pub returns-in_err-next-clause-refused : goal.returns-in_err-next-clause-refused
-returns-in_err-next-clause-refused g c =
+pub returns-in_err-next : goal.returns-in_err-next
+returns-in_err-next g c =
     let e = g.S.Source.cause c.next.new.self c.in_err-next.field-0.0 in
     let fields = g.F.WantedFields.fields c.args.fields.now in
-    exits _ c.in_err-next.field-0.0 (λ x. RefusesAhead g.S.Source.stands_before c.args.source.now
-    (taken_fields fields (g.F.WantedFields.content c.args.fields.now)) (g.S.Source.cause c.next.new.self x))
-    c.from_residual-in_err-next.ensures.1
+    passes_on _ c.in_err-next.field-0.0 c.from_residual-in_err-next.ensures.1
     (blames g.S.Source.stands_before (taken_fields fields (g.F.WantedFields.content c.args.fields.now)) e
     (so c.loop-seq.invariant.inside
     (fields_blame_next g.S.Source.stands_before g.S.Source.seq_stands fields
     (g.F.WantedFields.content c.loop-seq.fields) e c.in_err-next.ensures.refused)))
+    (λ first h. c.next.ensures.only first (c.loop-seq.invariant.only first h))
+    (omega (arith, c.in_err-next.ensures.no_more, c.loop-seq.invariant.less))
 
-pub returns-in_err-place-clause-refused : goal.returns-in_err-place-clause-refused
-returns-in_err-place-clause-refused g c =
+pub returns-in_err-place : goal.returns-in_err-place
+returns-in_err-place g c =
     let e = g.S.Source.cause c.place.new.self c.in_err-place.field-0.0 in
     let fields = g.F.WantedFields.fields c.args.fields.now in
-    exits _ c.in_err-place.field-0.0 (λ x. RefusesAhead g.S.Source.stands_before c.args.source.now
-    (taken_fields fields (g.F.WantedFields.content c.args.fields.now)) (g.S.Source.cause c.place.new.self x))
-    c.from_residual-in_err-place.ensures.1
+    passes_on _ c.in_err-place.field-0.0 c.from_residual-in_err-place.ensures.1
     (blames g.S.Source.stands_before (taken_fields fields (g.F.WantedFields.content c.args.fields.now)) e
     (so c.loop-seq.invariant.inside
     (fields_blame_name g.S.Source.stands_before g.S.Source.seq_stands fields
     (g.F.Names.place_of c.loop-seq.fields) (g.F.WantedFields.content c.loop-seq.fields) e
     (rw c.if-branch.true at c.in_ok-next.ensures.ok) c.in_err-place.ensures.takes.refused)))
+    (λ first h. c.place.ensures.takes.only first (c.next.ensures.only first (c.loop-seq.invariant.only first h)))
+    (omega (
+      arith,
+      c.in_ok-next.ensures.less,
+      c.in_err-place.ensures.takes.no_more,
+      c.loop-seq.invariant.less,
+    ))
 
-pub returns-in_err-read_field-clause-refused : goal.returns-in_err-read_field-clause-refused
-returns-in_err-read_field-clause-refused g c =
+pub returns-in_err-read_field : goal.returns-in_err-read_field
+returns-in_err-read_field g c =
     let e = g.S.Source.cause c.read_field.new.source c.in_err-read_field.field-0.0 in
     let fields = g.F.WantedFields.fields c.args.fields.now in
-    exits _ c.in_err-read_field.field-0.0 (λ x. RefusesAhead g.S.Source.stands_before c.args.source.now
-    (taken_fields fields (g.F.WantedFields.content c.args.fields.now)) (g.S.Source.cause c.read_field.new.source x))
-    c.from_residual-in_err-read_field.ensures.1
+    passes_on _ c.in_err-read_field.field-0.0 c.from_residual-in_err-read_field.ensures.1
     (blames g.S.Source.stands_before (taken_fields fields (g.F.WantedFields.content c.args.fields.now)) e
     (so c.loop-seq.invariant.inside
     (fields_blame_field g.S.Source.stands_before g.S.Source.seq_stands fields
@@ -50,6 +52,15 @@ returns-in_err-read_field-clause-refused g c =
     (λ name at l i f st. subst (IsFaultOf (end_of f) e)
     (c.loop-seq.invariant.names name (g.F.WantedFields.content c.loop-seq.fields) l i)
     (c.in_err-read_field.ensures.refused name at l i f st)))))
+    (λ first h. c.read_field.ensures.only first (c.place.ensures.takes.only first
+    (c.next.ensures.only first (c.loop-seq.invariant.only first h))))
+    (omega (
+      arith,
+      c.in_ok-next.ensures.less,
+      c.in_ok-place.ensures.takes.less,
+      c.in_err-read_field.ensures.no_more,
+      c.loop-seq.invariant.less,
+    ))
 
 pub loop-seq-preserved : goal.loop-seq-preserved
 loop-seq-preserved g c = record {
@@ -74,9 +85,16 @@ loop-seq-preserved g c = record {
   );
 }
 
-pub returns-clause-ok : goal.returns-clause-ok
-returns-clause-ok g c =
-    takes g.S.Source.stands_before (taken_fields (g.F.WantedFields.fields c.args.fields.now)
-    (g.F.WantedFields.content c.args.fields.now)) (so c.loop-seq.invariant.inside
-    (fields_end g.S.Source.stands_before g.S.Source.seq_stands (g.F.WantedFields.fields c.args.fields.now)
-    (g.F.WantedFields.content c.loop-seq.fields) (rw c.if-branch.false at c.in_ok-next.ensures.ok)))
+pub returns : goal.returns
+returns g c = record {
+  ok = takes g.S.Source.stands_before (taken_fields (g.F.WantedFields.fields c.args.fields.now)
+      (g.F.WantedFields.content c.args.fields.now)) (so c.loop-seq.invariant.inside
+      (fields_end g.S.Source.stands_before g.S.Source.seq_stands (g.F.WantedFields.fields c.args.fields.now)
+      (g.F.WantedFields.content c.loop-seq.fields) (rw c.if-branch.false at c.in_ok-next.ensures.ok)));
+  refused = tt;
+  took = owed_pairs g.S.Source.is_unread g.S.Source.owes _ _ _ _ c.loop-seq.invariant.owed
+      (rw c.if-branch.false at c.in_ok-next.ensures.took);
+  only = λ first h. c.next.ensures.only first (c.loop-seq.invariant.only first h);
+  less = omega (arith, c.in_ok-next.ensures.less, c.loop-seq.invariant.less);
+  no_more = tt;
+}

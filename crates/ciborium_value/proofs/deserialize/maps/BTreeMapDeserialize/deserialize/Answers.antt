@@ -1,9 +1,7 @@
 -- A map is read pair by pair.
 use Rattle.std.proofs.Common.{arith, map, sym, ap, ◌∙◌, subst}
-use Rattle.ciborium_value.specs.Sources.{RefusesAhead}
 use Rattle.ciborium_value.specs.TakenParts.{taken_map}
-use Rattle.ciborium_value.proofs.Writing.Progress.{exits}
-use Rattle.ciborium_value.proofs.Sources.Sequences.{so, Follows, IsBefore, takes, blames}
+use Rattle.ciborium_value.proofs.Sources.Sequences.{so, Follows, IsBefore, takes, blames, passes_on}
 use Rattle.ciborium_value.proofs.Sources.Dictionaries.{IsInsideMap, map_begins, map_more, map_blames_next}
 use Rattle.ciborium_value.proofs.Sources.Dictionaries.{map_blames_key, map_blames_value, map_ends, contents-insert}
 use Rattle.ciborium_value.proofs.Sources.Dictionaries.{owed_pair, owed_pairs}
@@ -20,12 +18,10 @@ loop-entries-init g c = record {
   less = c.in_ok-seq.ensures.less;
 }
 
-pub returns-in_err-next-clause-refused : goal.returns-in_err-next-clause-refused
-returns-in_err-next-clause-refused g c =
+pub returns-in_err-next-clause-takes : goal.returns-in_err-next-clause-takes
+returns-in_err-next-clause-takes g c =
     let e = g.S.Source.cause c.next.new.self c.in_err-next.field-0.0 in
-    exits _ c.in_err-next.field-0.0 (λ x. RefusesAhead g.S.Source.stands_before c.args.source.now
-    (taken_map g.K.Deserialize.reading.order g.K.Deserialize.reading.taken g.V.Deserialize.reading.taken)
-    (g.S.Source.cause c.next.new.self x)) c.from_residual-in_err-next.ensures.1
+    passes_on _ c.in_err-next.field-0.0 c.from_residual-in_err-next.ensures.1
     (blames g.S.Source.stands_before
     (taken_map g.K.Deserialize.reading.order g.K.Deserialize.reading.taken g.V.Deserialize.reading.taken) e
     (so c.loop-entries.invariant.inside
@@ -33,13 +29,17 @@ returns-in_err-next-clause-refused g c =
     g.K.Deserialize.reading.taken g.V.Deserialize.reading.taken
     (map (λ e. (g.K.Deserialize.reading.content e.0, g.V.Deserialize.reading.content e.1))
     c.loop-entries.entries.entries) e c.in_err-next.ensures.refused)))
+    (λ first h. c.next.ensures.only first (c.loop-entries.invariant.only first h))
+    (omega (
+      arith,
+      c.in_err-next.ensures.no_more,
+      c.loop-entries.invariant.less,
+    ))
 
-pub returns-in_err-key-clause-refused : goal.returns-in_err-key-clause-refused
-returns-in_err-key-clause-refused g c =
+pub returns-in_err-key-clause-takes : goal.returns-in_err-key-clause-takes
+returns-in_err-key-clause-takes g c =
     let e = g.S.Source.cause c.deserialize.new.source c.in_err-key.field-0.0 in
-    exits _ c.in_err-key.field-0.0 (λ x. RefusesAhead g.S.Source.stands_before c.args.source.now
-    (taken_map g.K.Deserialize.reading.order g.K.Deserialize.reading.taken g.V.Deserialize.reading.taken)
-    (g.S.Source.cause c.deserialize.new.source x)) c.from_residual-in_err-key.ensures.1
+    passes_on _ c.in_err-key.field-0.0 c.from_residual-in_err-key.ensures.1
     (blames g.S.Source.stands_before
     (taken_map g.K.Deserialize.reading.order g.K.Deserialize.reading.taken g.V.Deserialize.reading.taken) e
     (so c.loop-entries.invariant.inside
@@ -47,22 +47,37 @@ returns-in_err-key-clause-refused g c =
     g.K.Deserialize.reading.taken g.V.Deserialize.reading.taken
     (map (λ e. (g.K.Deserialize.reading.content e.0, g.V.Deserialize.reading.content e.1))
     c.loop-entries.entries.entries) e (rw c.if-branch.true at c.in_ok-next.ensures.ok)
-    c.in_err-key.ensures.refused)))
+    c.in_err-key.ensures.takes.refused)))
+    (λ first h. c.deserialize.ensures.takes.only first
+    (c.next.ensures.only first (c.loop-entries.invariant.only first h)))
+    (omega (
+      arith,
+      c.in_ok-next.ensures.less,
+      c.in_err-key.ensures.takes.no_more,
+      c.loop-entries.invariant.less,
+    ))
 
-pub returns-in_err-value-clause-refused : goal.returns-in_err-value-clause-refused
-returns-in_err-value-clause-refused g c =
+pub returns-in_err-value-clause-takes : goal.returns-in_err-value-clause-takes
+returns-in_err-value-clause-takes g c =
     let e = g.S.Source.cause c.deserialize-in-loop-entries.new.source c.in_err-value.field-0.0 in
-    exits _ c.in_err-value.field-0.0 (λ x. RefusesAhead g.S.Source.stands_before c.args.source.now
-    (taken_map g.K.Deserialize.reading.order g.K.Deserialize.reading.taken g.V.Deserialize.reading.taken)
-    (g.S.Source.cause c.deserialize-in-loop-entries.new.source x)) c.from_residual-in_err-value.ensures.1
+    passes_on _ c.in_err-value.field-0.0 c.from_residual-in_err-value.ensures.1
     (blames g.S.Source.stands_before
     (taken_map g.K.Deserialize.reading.order g.K.Deserialize.reading.taken g.V.Deserialize.reading.taken) e
     (so c.loop-entries.invariant.inside
     (map_blames_value g.S.Source.stands_before g.S.Source.seq_stands g.K.Deserialize.reading.order
     g.K.Deserialize.reading.taken g.V.Deserialize.reading.taken
     (map (λ e. (g.K.Deserialize.reading.content e.0, g.V.Deserialize.reading.content e.1))
-    c.loop-entries.entries.entries) e (rw c.if-branch.true at c.in_ok-next.ensures.ok) c.in_ok-key.ensures.ok
-    c.in_err-value.ensures.refused)))
+    c.loop-entries.entries.entries) e (rw c.if-branch.true at c.in_ok-next.ensures.ok)
+    c.in_ok-key.ensures.takes.ok c.in_err-value.ensures.takes.refused)))
+    (λ first h. c.deserialize-in-loop-entries.ensures.takes.only first
+    (c.deserialize.ensures.takes.only first (c.next.ensures.only first (c.loop-entries.invariant.only first h))))
+    (omega (
+      arith,
+      c.in_ok-next.ensures.less,
+      c.in_ok-key.ensures.takes.less,
+      c.in_err-value.ensures.takes.no_more,
+      c.loop-entries.invariant.less,
+    ))
 
 pub loop-entries-preserved : goal.loop-entries-preserved
 loop-entries-preserved g c = record {
@@ -78,31 +93,34 @@ loop-entries-preserved g c = record {
       (so c.loop-entries.invariant.inside (map_more g.S.Source.stands_before g.S.Source.seq_stands
       g.K.Deserialize.reading.order g.K.Deserialize.reading.taken g.V.Deserialize.reading.taken
       (map (λ e. (g.K.Deserialize.reading.content e.0, g.V.Deserialize.reading.content e.1))
-      c.loop-entries.entries.entries) (rw c.if-branch.true at c.in_ok-next.ensures.ok) c.in_ok-key.ensures.ok
-      c.in_ok-value.ensures.ok));
+      c.loop-entries.entries.entries) (rw c.if-branch.true at c.in_ok-next.ensures.ok) c.in_ok-key.ensures.takes.ok
+      c.in_ok-value.ensures.takes.ok));
   owed = owed_pair g.S.Source.is_unread g.S.Source.owes _ _ _ _ _ _ _ c.loop-entries.invariant.owed
-      (rw c.if-branch.true at c.in_ok-next.ensures.took) c.in_ok-key.ensures.took c.in_ok-value.ensures.took;
-  only = λ first h. c.deserialize-in-loop-entries.ensures.only first
-      (c.deserialize.ensures.only first (c.next.ensures.only first (c.loop-entries.invariant.only first h)));
+      (rw c.if-branch.true at c.in_ok-next.ensures.took) c.in_ok-key.ensures.takes.took c.in_ok-value.ensures.takes.took;
+  only = λ first h. c.deserialize-in-loop-entries.ensures.takes.only first
+      (c.deserialize.ensures.takes.only first (c.next.ensures.only first (c.loop-entries.invariant.only first h)));
   less = omega (
     arith,
     c.in_ok-next.ensures.less,
-    c.in_ok-key.ensures.less,
-    c.in_ok-value.ensures.less,
+    c.in_ok-key.ensures.takes.less,
+    c.in_ok-value.ensures.takes.less,
     c.loop-entries.invariant.less,
   );
 }
 
-pub returns-clause-ok : goal.returns-clause-ok
-returns-clause-ok g c =
-    takes g.S.Source.stands_before
-    (taken_map g.K.Deserialize.reading.order g.K.Deserialize.reading.taken g.V.Deserialize.reading.taken)
-    (so c.loop-entries.invariant.inside
-    (map_ends g.S.Source.stands_before g.S.Source.seq_stands g.K.Deserialize.reading.order
-    g.K.Deserialize.reading.taken g.V.Deserialize.reading.taken
-    (map (λ e. (g.K.Deserialize.reading.content e.0, g.V.Deserialize.reading.content e.1))
-    c.loop-entries.entries.entries) (rw c.if-branch.false at c.in_ok-next.ensures.ok)))
-
-pub returns-clause-took : goal.returns-clause-took
-returns-clause-took g c = owed_pairs g.S.Source.is_unread g.S.Source.owes _ _ _ _ c.loop-entries.invariant.owed
-    (rw c.if-branch.false at c.in_ok-next.ensures.took)
+pub returns-clause-takes : goal.returns-clause-takes
+returns-clause-takes g c = record {
+  ok = takes g.S.Source.stands_before
+      (taken_map g.K.Deserialize.reading.order g.K.Deserialize.reading.taken g.V.Deserialize.reading.taken)
+      (so c.loop-entries.invariant.inside
+      (map_ends g.S.Source.stands_before g.S.Source.seq_stands g.K.Deserialize.reading.order
+      g.K.Deserialize.reading.taken g.V.Deserialize.reading.taken
+      (map (λ e. (g.K.Deserialize.reading.content e.0, g.V.Deserialize.reading.content e.1))
+      c.loop-entries.entries.entries) (rw c.if-branch.false at c.in_ok-next.ensures.ok)));
+  refused = tt;
+  took = owed_pairs g.S.Source.is_unread g.S.Source.owes _ _ _ _ c.loop-entries.invariant.owed
+      (rw c.if-branch.false at c.in_ok-next.ensures.took);
+  only = λ first h. c.next.ensures.only first (c.loop-entries.invariant.only first h);
+  less = omega (arith, c.in_ok-next.ensures.less, c.loop-entries.invariant.less);
+  no_more = tt;
+}
