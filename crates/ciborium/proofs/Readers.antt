@@ -7,3 +7,4 @@ pub mod HandedReaders
 pub mod NextReaders
 pub mod ReadSequences
 pub mod WholeSlices
+pub mod Loading

@@ -7,6 +7,7 @@ pub mod NextItems
 pub mod SequenceWrites
 pub mod SequenceReads
 pub mod SliceAnswers
+pub mod LoadedAnswers
 pub mod Messages
 pub mod laws
 pub mod lemmas

@@ -17,6 +17,7 @@ mod byte_source;
 mod deterministic;
 mod error;
 mod front;
+mod loading;
 mod parts;
 mod sequence;
 mod slice;
@@ -38,6 +39,7 @@ pub use deterministic::{
     from_reader_deterministic, from_reader_deterministic_with_order,
 };
 pub use error::Error;
+pub use loading::from_slice_deterministic;
 pub use sequence::{read_buf_sequence, read_sequence};
 pub use slice::{from_slice, from_slice_with_recursion_limit};
 use std::alloc::Global;

@@ -41,6 +41,10 @@ const KINDS: [(Kind, &str); 24] = [
     (Kind::KeyOrder, "a key out of order"),
     (Kind::DuplicateKey, "two equal keys in one map"),
     (Kind::TrailingData, "bytes behind the item"),
+    (
+        Kind::NotDeterministic,
+        "another encoding than the deterministic one of the value",
+    ),
 ];
 
 #[test]

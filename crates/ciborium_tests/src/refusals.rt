@@ -89,5 +89,6 @@ fn name_kind(kind: Kind) -> &'static str {
         Kind::KeyOrder => "keyorder",
         Kind::DuplicateKey => "duplicatekey",
         Kind::TrailingData => "trailingdata",
+        Kind::NotDeterministic => "notdeterministic",
     }
 }

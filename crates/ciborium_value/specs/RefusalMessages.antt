@@ -34,6 +34,8 @@ kind_message kinds.NotFolded = codes "a bignum that fits in 64 bits, or has lead
 kind_message kinds.KeyOrder = codes "a key out of order"
 kind_message kinds.DuplicateKey = codes "two equal keys in one map"
 kind_message kinds.TrailingData = codes "bytes behind the item"
+kind_message kinds.NotDeterministic =
+    codes "another encoding than the deterministic one of the value"
 
 -- the message of an error of trees
 abbrev pub tree_error_message : Error → List ℕ

@@ -59,6 +59,9 @@ pub enum Kind {
     DuplicateKey,
     /// Bytes follow the item where all of them have to be one.
     TrailingData,
+    /// The bytes are not the deterministic encoding of the value that they give, where they have to
+    /// be.
+    NotDeterministic,
 }
 
 impl Kind {
@@ -91,6 +94,7 @@ impl Kind {
             Kind::KeyOrder => "a key out of order",
             Kind::DuplicateKey => "two equal keys in one map",
             Kind::TrailingData => "bytes behind the item",
+            Kind::NotDeterministic => "another encoding than the deterministic one of the value",
         }
     }
 }

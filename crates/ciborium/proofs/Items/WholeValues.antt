@@ -171,6 +171,7 @@ whole-faults left (errors.Semantic (Some q) k) l p end b s z i sp f fits h = by 
     by kinds.Other h = absurd h
     by kinds.DuplicateKey h = absurd h
     by kinds.TrailingData h = absurd h
+    by kinds.NotDeterministic h = absurd h
 whole-faults left errors.RecursionLimitExceeded l p end b s z i sp f fits h = value-faults h i s z end sp f fits
 whole-faults left errors.Memory l p end b s z i sp f fits h = tt
 whole-faults left errors.TooLong l p end b s z i sp f fits h = value-faults h i s z end sp f fits

@@ -143,7 +143,7 @@ fn read_by<S: Rules, R, A: Access<R>>(
 }
 
 // Reads one value deterministically, with keys in this order.
-fn read_in_order<R, A: Access<R>>(
+pub(super) fn read_in_order<R, A: Access<R>>(
     alloc: Global,
     reader: &mut R,
     limit: usize,
