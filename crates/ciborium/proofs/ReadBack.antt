@@ -5,3 +5,4 @@ pub mod Loaded
 pub mod EqualContents
 pub mod FormRoundTrips
 pub mod SequenceRoundTrips
+pub mod LoadedWhole

@@ -13,13 +13,15 @@ ghost use Rattle.ciborium.specs.laws.OrdersOfValues.{IsOrderOfTrees, IsTotal, Ke
 ghost use Rattle.ciborium.specs.laws.OrdersOfValues.{TiesEqualOnes};
 ghost use Rattle.ciborium.specs.laws.EncodingLaws.{EncodingSpells, HeadsRise, OneTree};
 ghost use Rattle.ciborium.specs.laws.EncodingLaws.{OthersAreLonger};
+ghost use Rattle.ciborium.specs.DeterministicWrites.{named_form};
 ghost use Rattle.ciborium.specs.laws.FormRoundTrips.{FormIsReadBack, IsFormContentGiven};
 ghost use Rattle.ciborium.specs.laws.FormRoundTrips.{IsFormContentReadBack, IsFormReadAlike};
 ghost use Rattle.ciborium.specs.laws.FormRoundTrips.{IsFormReadBack, IsOwnForm};
 ghost use Rattle.ciborium.specs.ItemSequences.{OneSequence};
 ghost use Rattle.ciborium.specs.laws.Loaded.{AreCanonicalParts, IsContentLoaded};
 ghost use Rattle.ciborium.specs.laws.Loaded.{IsDeterministicStore, IsStoreHeld};
-ghost use Rattle.ciborium.specs.laws.Loaded.{LoadedAsSaved, LoadingGivesContent};
+ghost use Rattle.ciborium.specs.laws.Loaded.{IsSavedLoaded, LoadedAsSaved, LoadingGivesContent};
+ghost use Rattle.ciborium.specs.laws.Loaded.{OneEncoding, SavedIsLoaded};
 ghost use Rattle.ciborium.specs.laws.RoundTrips.{AreRefusedAlike, BytesReadBack, BytesWrittenAgain};
 ghost use Rattle.ciborium.specs.laws.RoundTrips.{IsContentReadBack, LeaveSameBytes};
 ghost use Rattle.ciborium.specs.laws.RoundTrips.{TreeGivesContent};
@@ -162,6 +164,42 @@ pub fn is_loaded<T: ReadsBack>(
     // The same of `from_reader_deterministic_with_order`, whatever the order that it was given.
     ensures either { (order : KeyOrder) → IsContentLoaded order T.is_held T.written T.reading limit
         value.now tree.now again.now bytes.now rest.now }
+{}
+
+/// What `from_slice_deterministic` loads has one encoding: bytes that it loads with equal contents,
+/// by the same order of keys, are equal. It rests on the type's own law (`WritesContent`).
+pub fn one_encoding<T: WritesContent>()
+    ensures { OneEncoding T.written T.reading }
+{}
+
+/// What was saved is loaded: of the bytes that `into_writer_deterministic` writes of a value, into
+/// nothing, `from_slice_deterministic` by the same order of keys gives the value's content, unless
+/// memory is refused, or so many levels are not enough (RFC 8949, section 4.2). It rests on the
+/// type's own laws (`FormReadsBack` and `WritesContent`).
+pub fn saved_is_loaded<T: FormReadsBack + WritesContent>()
+    ensures { SavedIsLoaded T.is_held T.written T.reading }
+{}
+
+/// The same for one value that was saved and loaded. Where `bytes` are what
+/// `into_writer_deterministic` wrote of `value` in this order, into an empty list, and `again` is
+/// what `from_slice_deterministic` loaded of them, the contents of `value` and `again` are equal. A
+/// caller that saves and loads calls this after its other calls, and needs no proof file.
+pub fn is_saved_loaded<T: FormReadsBack>(
+    value: &T,
+    again: &T,
+    order: KeyOrder,
+    limit: usize,
+    bytes: &[u8],
+)
+    ensures { IsSavedLoaded T.is_held T.written T.reading order limit
+        value.now again.now bytes.now }
+{}
+
+/// Values with equal contents have the same deterministic form, and so are saved as the same bytes.
+/// It rests on the type's own law (`WritesContent`).
+pub fn have_one_form<T: WritesContent>(left: &T, right: &T, order: KeyOrder)
+    ensures { T.reading.content left.now ≡ T.reading.content right.now →
+        named_form order (T.written left.now) ≡ named_form order (T.written right.now) }
 {}
 
 /// What is written in its deterministic form is read back: where a program can hold a tree that has

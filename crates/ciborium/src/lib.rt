@@ -17,7 +17,7 @@ pub use de::{
     from_buf_reader_with_recursion_limit, from_reader, from_reader_deterministic,
     from_reader_deterministic_with_order, from_reader_next, from_reader_next_with_recursion_limit,
     from_reader_with_buffer, from_reader_with_recursion_limit, from_slice,
-    from_slice_with_recursion_limit, read_buf_sequence, read_sequence,
+    from_slice_deterministic, from_slice_with_recursion_limit, read_buf_sequence, read_sequence,
 };
 pub use ser::{into_writer, into_writer_deterministic, to_vec, write_sequence};
 pub use value::Value;

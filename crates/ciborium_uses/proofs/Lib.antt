@@ -1,4 +1,3 @@
 mod Exits
 mod LabelMaps
-mod LoadedForms
 mod WholeItems

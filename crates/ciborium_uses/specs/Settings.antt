@@ -1,12 +1,14 @@
 -- Settings by their topics: what counts of them, and what is saved (RFC 8949, section 4.2).
-use Rattle.std.specs.Prelude.{◌≡◌, ℕ, Bool, List, Option, Some, None, Result, IfOk, map}
+use Rattle.std.specs.Prelude.{◌≡◌, ℕ, Bool, List, Result, Ok, Err, map}
 use Rattle.std.specs.BTreeMap.{BTreeMap}
-use Rattle.ciborium.specs.Encoding.{item_of}
-use Rattle.ciborium.specs.Spelling.{deterministic}
-use Rattle.ciborium.specs.Taken.{Taken, gives, outcome}
-use Rattle.ciborium.specs.Tree.{Tree}
-use Rattle.ciborium.specs.ValueClauses.{TakesValue}
+use Rattle.std.specs.declared.io.Error.{Error as IoError}
+use Rattle.ciborium.specs.LoadedAnswers.{LoadsAll}
+use Rattle.ciborium.specs.Readings.{Reading}
+use Rattle.ciborium.specs.Sinks.{Named}
+use Rattle.ciborium.specs.declared.de.error.Error.{Error}
 use Rattle.ciborium_value.specs.declared.key_order.KeyOrder.TheVariants.{LengthFirst}
+use Rattle.ciborium_uses.specs.declared.settings.error.SettingsError.{SettingsError}
+use Rattle.ciborium_uses.specs.declared.settings.error.SettingsError.TheVariants.{Load}
 use Rattle.ciborium_uses.specs.declared.settings.setting.Setting.{Setting}
 use Rattle.ciborium_uses.specs.declared.settings.topic.Topic.{Topic}
 
@@ -18,12 +20,12 @@ setting_content s = (s.enabled, s.level)
 abbrev pub settings_content : BTreeMap Topic Setting → List (Topic × (Bool × ℕ))
 settings_content m = map (λ e. (e.0, setting_content e.1)) m.entries
 
--- where the bytes are known, at Ok they begin with the deterministic encoding of a tree, which was
--- taken, and the tree
--- gives the answer
-abbrev pub LoadsEncoding : {C E : Type 0} → Taken C → Option (List ℕ) → Option (List ℕ) →
-    Result C E → Type 0
-LoadsEncoding taken before after r =
-    (b : List ℕ) → before ≡ Some b → IfOk r (λ c.
-    (t : Tree) × TakesValue (deterministic LengthFirst) b 256 t after ×
-    (outcome None (taken (item_of t)) ≡ gives c))
+-- at Ok all of the bytes give the settings, and are the deterministic encoding of what they write;
+-- else they are refused so
+abbrev pub LoadsSettings : {C : Type 0} → Reading (BTreeMap Topic Setting) C →
+    (BTreeMap Topic Setting → Named) → List ℕ → Result (BTreeMap Topic Setting) SettingsError →
+    Type 0
+LoadsSettings reading written b (Ok s) = LoadsAll {E = IoError} LengthFirst 256 reading written b
+    (Ok s)
+LoadsSettings reading written b (Err e) = (f : Error IoError) × (e ≡ Load f) ×
+    LoadsAll LengthFirst 256 reading written b (Err f)

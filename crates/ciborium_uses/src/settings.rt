@@ -1,31 +1,26 @@
-//! Settings that are saved deterministically (RFC 8949, section 4.2): equal settings are equal
-//! bytes, which can be compared, hashed or signed. Loading takes other deterministic encodings too,
-//! with parts that it drops (`load` says which): to refuse these, save what was loaded, and compare
-//! the bytes.
+//! Settings that are saved deterministically (RFC 8949, section 4.2), and loaded only from the bytes
+//! that saving writes: equal settings are equal bytes, which can be compared, hashed or signed.
 ghost use Rattle.std.specs.Prelude.{IfOk, map, ◌≡◌};
 ghost use Rattle.ciborium.specs.DeterministicWrites.{WritesForm, named_form};
-ghost use Rattle.ciborium.specs.View.{read_as};
 ghost use Rattle.ciborium_value.specs.declared.key_order.KeyOrder.TheVariants.{LengthFirst};
-ghost use Rattle.ciborium_uses.specs.Settings.{LoadsEncoding, settings_content};
+ghost use Rattle.ciborium_uses.specs.Settings.{LoadsSettings, settings_content};
 
 mod error;
-pub mod laws;
 mod lines;
 pub mod setting;
 pub mod topic;
 
 use ciborium::de::Deserialize;
-use ciborium::laws::ReadsBack;
+use ciborium::laws::{ReadsBack, have_one_form, is_saved_loaded};
 use ciborium::ser::{self, Serialize};
 use ciborium::value::KeyOrder;
-use ciborium::{from_buf_reader_deterministic, into_writer_deterministic};
+use ciborium::{from_slice_deterministic, into_writer_deterministic};
 pub use error::SettingsError;
-use laws::{have_one_form, is_form_loaded};
 pub use lines::answer;
 use setting::Setting;
 use std::alloc::Global;
 use std::collections::BTreeMap;
-use std::io::{self, BufRead, Write};
+use std::io::{self, Write};
 use topic::Topic;
 
 /// Settings by their topics.
@@ -49,18 +44,14 @@ pub fn save<W: Write>(
     into_writer_deterministic(alloc, settings, ORDER, writer)
 }
 
-/// Reads settings from a deterministic encoding, within `LEVELS` levels; what follows it is left in
-/// the reader. Bytes that do not begin with one are refused as `Load`, and what gives no settings,
-/// as an unknown topic, is refused as `Content`. The encoding need not be one that `save` writes:
-/// tags, and items behind a setting's two, are dropped; a topic may be a map of its name to null,
-/// and of a topic that stands in two forms the last one counts; and a level may be a bignum, which
-/// has more than 16 bytes then.
-pub fn load<R: BufRead>(alloc: Global, reader: &mut R) -> Result<Settings, SettingsError>
-    ensures { LoadsEncoding ⟦<Settings as Deserialize>⟧.reading.taken (R.remaining reader.old)
-        (R.remaining reader.new) (read_as settings_content result) }
+/// Loads settings from bytes that are all of what `save` writes of them, within `LEVELS` levels.
+/// Bytes that are no settings, or any other encoding of them, are refused as `Load`: nothing else
+/// stands in what is loaded.
+pub fn load(alloc: Global, bytes: &[u8]) -> Result<Settings, SettingsError>
+    ensures { LoadsSettings ⟦<Settings as Deserialize>⟧.reading ⟦<Settings as Serialize>⟧.written
+        bytes.now result }
 {
-    let tree = from_buf_reader_deterministic(alloc, reader, LEVELS)?;
-    let settings = tree.deserialized::<Settings>(alloc)?;
+    let settings = from_slice_deterministic::<Settings>(alloc, bytes, ORDER, LEVELS)?;
     Ok(settings)
 }
 
@@ -71,11 +62,8 @@ pub fn through_memory(alloc: Global, settings: &Settings) -> Result<Settings, Se
 {
     let mut saved = Vec::new(alloc);
     into_writer_deterministic(alloc, settings, ORDER, &mut saved)?;
-    let bytes: &[u8] = &saved;
-    let mut rest = bytes;
-    let tree = from_buf_reader_deterministic(alloc, &mut rest, LEVELS)?;
-    let again = tree.deserialized::<Settings>(alloc)?;
-    is_form_loaded(settings, &tree, &again, ORDER, LEVELS, bytes, rest);
+    let again = from_slice_deterministic::<Settings>(alloc, &saved, ORDER, LEVELS)?;
+    is_saved_loaded(settings, &again, ORDER, LEVELS, &saved);
     Ok(again)
 }
 

@@ -41,7 +41,7 @@ form-bytes : (t : Tree) (old new bytes : List ℕ) → new ≡ old ++ encoding t
 form-bytes t old new bytes out none same = same ∙ out ∙ ap (λ (b : List ℕ). b ++ encoding t) none
 
 -- two outcomes that give a form give the same one
-one-form : (form : Outcome Tree) (t u : Tree) → form ≡ gives t → form ≡ gives u → t ≡ u
+pub one-form : (form : Outcome Tree) (t u : Tree) → form ≡ gives t → form ≡ gives u → t ≡ u
 one-form form t u g h = cc
 
 -- what a deterministic reader read at the front of an encoding is the tree that it encodes
@@ -70,7 +70,7 @@ own-alike taken o (Err k) own = own
 
 module _ {T C : Type 0} (written : T → Named) (reading : Reading T C) where
   -- what is read at the front of its encoding is the content
-  read-content : (t : Tree) (l : ℕ) (bytes : List ℕ) (after : Option (List ℕ)) (c d : C) → IsWritten (item_of t) →
+  pub read-content : (t : Tree) (l : ℕ) (bytes : List ℕ) (after : Option (List ℕ)) (c d : C) → IsWritten (item_of t) →
       bytes ≡ encoding t → outcome None (reading.taken (item_of t)) ≡ gives d →
       TakesGiving (Some l) reading.taken bytes c after → c ≡ d
   read-content t l bytes after c d fits same given (j, s, left, sp, e, give, is) =
@@ -95,7 +95,7 @@ module _ {T C : Type 0} (written : T → Named) (reading : Reading T C) where
 -- of a type to which the order of pairs and folding make no difference
 module _ {T C : Type 0} (IsHeld : T → Type 0) (written : T → Named) (reading : Reading T C)
     (law : (o : KeyOrder) → IsReadFromForm o IsHeld written reading.taken reading.content) where
-  from-form : (o : KeyOrder) (v : T) → IsHeld v → (n : Named) → written v ≡ n → (t : Tree) → named_form o n ≡ gives t →
+  pub from-form : (o : KeyOrder) (v : T) → IsHeld v → (n : Named) → written v ≡ n → (t : Tree) → named_form o n ≡ gives t →
       outcome None (reading.taken (item_of t)) ≡ gives (reading.content v)
   from-form o v held (Ok i) names t form = (law o v held).back i names t form
   from-form o v held (Err k) names t form = absurd cc

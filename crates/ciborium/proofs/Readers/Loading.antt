@@ -31,8 +31,11 @@ use Rattle.ciborium.specs.declared.ser.error.Error.{Error as WriteError}
 
 pub differ-byte : (b c : List ℕ) (k : ℕ) → take k b ≡ take k c → k < length b → k < length c →
     (get_or b k 0 ≡ get_or c k 0 → ⊥) → DifferAt b c k
-differ-byte b c k same left right other = (same, λ e. other (last (take k b) (take k c) _ _ same
-    (sym (take-suc b k 0 left) ∙ e ∙ take-suc c k 0 right)))
+differ-byte b c k same left right other = (
+  same,
+  λ e. other (last (take k b) (take k c) _ _ same
+      (sym (take-suc b k 0 left) ∙ e ∙ take-suc c k 0 right)),
+)
   where
     head-same : (x y : ℕ) (ys : List ℕ) → x ∷ [] ≡ y ∷ ys → x ≡ y
     head-same x y ys e = cc

@@ -1,7 +1,7 @@
 -- What is written of a value whose tree has an accepted spelling is read back by the deterministic
 -- reader (RFC 8949, section 4.2).
-use Rattle.std.specs.Prelude.{◌≡◌, ℕ, ◌≤◌, List, [], ◌++◌, length, map, Option, Some, None, Result}
-use Rattle.std.specs.Prelude.{Ok, Err}
+use Rattle.std.specs.Prelude.{◌≡◌, ℕ, ◌≤◌, ◌⊎◌, List, [], ◌++◌, length, map, Option, Some, None}
+use Rattle.std.specs.Prelude.{Result, Ok, Err}
 use Rattle.std.specs.List.{All}
 use Rattle.std.specs.BTreeMap.{BTreeMap}
 use Rattle.std.specs.declared.io.Error.{Error as IoError}
@@ -23,6 +23,9 @@ use Rattle.ciborium_value.specs.declared.key_order.KeyOrder.{KeyOrder}
 use Rattle.ciborium_value.specs.declared.key_order.KeyOrder.TheVariants.{LengthFirst}
 use Rattle.ciborium_value.specs.declared.tree.Value.{Value}
 use Rattle.ciborium.specs.declared.de.error.Error.{Error}
+use Rattle.ciborium.specs.declared.de.error.Error.TheVariants.{Memory, RecursionLimitExceeded}
+use Rattle.ciborium.specs.DeterministicWrites.{IsFormWritten, WritesForm, named_form}
+use Rattle.ciborium.specs.LoadedAnswers.{LoadsAll}
 use Rattle.ciborium.specs.ValueAnswers.{AnswersGoodItem, IsFailed}
 use Rattle.ciborium.specs.ValueClauses.{ReadsWhole}
 use Rattle.ciborium_value.specs.CanonicalTrees.{IsCanonicalTree}
@@ -74,6 +77,43 @@ IsContentLoaded o IsHeld written reading l v w again bytes rest =
     ReadsWhole {E = IoError} (deterministic o) (Some bytes) l (Some rest) (Ok (tree_of w)) →
     outcome None (reading.taken (value_item w)) ≡ gives (reading.content again) → old ≡ [] → bytes ≡
     new → reading.content again ≡ reading.content v
+
+-- ---- of all of the bytes
+
+-- bytes that are loaded with equal contents are equal, by the same order of keys
+abbrev pub OneEncoding : {T C : Type 0} → (T → Named) → Reading T C → Type 0
+OneEncoding {T} written reading =
+    (o : KeyOrder) (l m : ℕ) (b c : List ℕ) (v w : T) →
+    LoadsAll {E = IoError} o l reading written b (Ok v) →
+    LoadsAll {E = IoError} o m reading written c (Ok w) → reading.content v ≡ reading.content w →
+    b ≡ c
+
+-- the content is loaded; or memory was refused, or so many levels are not enough
+abbrev pub IsSavedContent : {T C : Type 0} → Reading T C → C → Result T (Error IoError) → Type 0
+IsSavedContent reading c (Ok w) = reading.content w ≡ c
+IsSavedContent reading c (Err e) = (e ≡ Memory) ⊎ (e ≡ RecursionLimitExceeded)
+
+-- where the deterministic form of a value was written into nothing, loading the bytes gives its
+-- content
+abbrev pub SavedIsLoaded : {T C : Type 0} → (T → Type 0) → (T → Named) → Reading T C → Type 0
+SavedIsLoaded {T} IsHeld written reading =
+    (o : KeyOrder) (l : ℕ) (v : T) (old new bytes : List ℕ) (r : Result T (Error IoError)) →
+    IsHeld v → WritesForm {E = IoError} (Some old) (Some new) (Ok tt) (named_form o (written v)) →
+    IsFormWritten (named_form o (written v)) → length bytes ≤ greatest_offset →
+    LoadsAll o l reading written bytes r → old ≡ [] → bytes ≡ new →
+    IsSavedContent reading (reading.content v) r
+
+-- the same of what was loaded, as a caller has it after its calls
+abbrev pub IsSavedLoaded : {T C : Type 0} → (T → Type 0) → (T → Named) → Reading T C → KeyOrder →
+    ℕ → T → T → List ℕ → Type 0
+IsSavedLoaded IsHeld written reading o l v again bytes =
+    (old new : List ℕ) → IsHeld v →
+    WritesForm {E = IoError} (Some old) (Some new) (Ok tt) (named_form o (written v)) →
+    IsFormWritten (named_form o (written v)) →
+    LoadsAll {E = IoError} o l reading written bytes (Ok again) → old ≡ [] → bytes ≡ new →
+    reading.content again ≡ reading.content v
+
+-- ---- stores
 
 -- the tree of a store
 abbrev pub store_tree : List (Value × Value) → Tree

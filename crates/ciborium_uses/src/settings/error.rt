@@ -2,7 +2,7 @@
 ghost use Rattle.std.specs.Prelude.{◌≡◌};
 ghost use Rattle.ciborium_uses.specs.declared.settings.error.SettingsError.TheVariants as errors;
 
-use ciborium::{de, ser, value};
+use ciborium::{de, ser};
 use std::alloc::AllocError;
 use std::{error, fmt, io};
 
@@ -11,10 +11,8 @@ use std::{error, fmt, io};
 pub enum SettingsError {
     /// They cannot be written.
     Save(ser::Error<io::Error>),
-    /// The bytes do not begin with a deterministic encoding.
+    /// The bytes are not the one encoding of settings.
     Load(de::Error<io::Error>),
-    /// What is encoded there are no settings.
-    Content(value::Error),
     /// An allocation failed.
     Memory,
 }
@@ -35,14 +33,6 @@ impl From<de::Error<io::Error>> for SettingsError {
     }
 }
 
-impl From<value::Error> for SettingsError {
-    ghost from_gives = { λ e f. f ≡ errors.Content e };
-
-    fn from(error: value::Error) -> SettingsError {
-        SettingsError::Content(error)
-    }
-}
-
 impl From<AllocError> for SettingsError {
     ghost from_gives = { λ _ f. f ≡ errors.Memory };
 
@@ -56,7 +46,6 @@ impl fmt::Display for SettingsError {
         match self {
             SettingsError::Save(error) => write!(f, "saving: {error}"),
             SettingsError::Load(error) => write!(f, "loading: {error}"),
-            SettingsError::Content(error) => write!(f, "loading: {error}"),
             SettingsError::Memory => f.write_str("an allocation failed"),
         }
     }

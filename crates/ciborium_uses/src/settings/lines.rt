@@ -37,8 +37,7 @@ fn answer_load(alloc: Global, digits: &str) -> Result<String, SettingsError> {
     let Ok(bytes) = hex::decode(alloc, digits) else {
         return Ok(String::from_str(alloc, "no hex")?);
     };
-    let mut reader: &[u8] = &bytes;
-    let settings = load(alloc, &mut reader)?;
+    let settings = load(alloc, &bytes)?;
     Ok(show_settings(alloc, &settings)?)
 }
 
