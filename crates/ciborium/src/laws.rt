@@ -32,7 +32,8 @@ ghost use Rattle.ciborium.specs.ValueAnswers.{AnswersGoodItem, TakesBytes};
 ghost use Rattle.ciborium.specs.Writes.{IsNamedWritten};
 
 use crate::de;
-use crate::value::{BytewiseValue, CanonicalValue};
+use crate::value::encoding_order::EncodingOrder;
+use crate::value::{BytewiseValue, CanonicalValue, OrderedValue};
 pub use ciborium_ll::spelling_laws::{
     header_bytes_spell, one_header, shortest_head, unique_spelling,
 };
@@ -122,21 +123,23 @@ pub fn bytewise_keys_rise<V: Serialize>(map: &BTreeMap<BytewiseValue, V>) -> usi
     map.len()
 }
 
-/// A map that is keyed by `CanonicalValue` is written deterministically (RFC 8949, section 4.2),
-/// wherever it is written at all, if each of its keys and values is: it names the item of its tree,
-/// whose encoding is the one accepted spelling. The call counts the entries, which takes no memory.
-pub fn store_is_deterministic(store: &BTreeMap<CanonicalValue, Value>) -> usize
+/// A map that is keyed by `CanonicalValue` or by `BytewiseValue` is written deterministically, in
+/// that order of keys (RFC 8949, section 4.2), wherever it is written at all, if each of its keys
+/// and values is: it names the item of its tree, whose encoding is the one accepted spelling. The
+/// call counts the entries, which takes no memory.
+pub fn store_is_deterministic<O: EncodingOrder>(store: &BTreeMap<OrderedValue<O>, Value>) -> usize
     ensures accepted { IsNamedWritten (container_of dictionary
         (in_turn named_value named_value store.now.entries)) →
-        AreCanonicalParts store.now.entries → IsDeterministicStore store.now.entries }
-    ensures held { AreCanonicalParts store.now.entries → IsStoreHeld store.now }
+        AreCanonicalParts O.order store.now.entries →
+        IsDeterministicStore O.order store.now.entries }
+    ensures held { AreCanonicalParts O.order store.now.entries → IsStoreHeld O.order store.now }
     ensures count { result ≡ length store.now.entries }
 {
     store.len()
 }
 
-/// What is saved is loaded: where a value names the item of a tree that has an accepted spelling,
-/// the deterministic reader takes just its bytes, whatever follows them, and `deserialized` makes
+/// What is saved is loaded: where a value names the item of a tree that has an accepted spelling by
+/// an order of keys, the deterministic reader of that order takes just its bytes, whatever follows them, and `deserialized` makes
 /// the value's content from the result, unless the reader or an allocation failed (RFC 8949,
 /// section 4.2). It rests on the type's own law (`ReadsBack`).
 pub fn loaded_as_saved<T: ReadsBack>()

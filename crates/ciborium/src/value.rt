@@ -1,7 +1,7 @@
 //! Values, re-exported, and their canonical order.
 
 pub mod canonical;
-mod encoding_order;
+pub(crate) mod encoding_order;
 
 pub use canonical::{BytewiseValue, CanonicalValue, KeyOrder, MeasuredValue, OrderedValue};
 pub use ciborium_value::error::Error;

@@ -6,6 +6,7 @@ ghost use Rattle.std.specs.Io.KnownBytes.{Appends, Consumes};
 ghost use Rattle.ciborium.specs.Taken.{gives};
 ghost use Rattle.ciborium.specs.View.{tree_of};
 ghost use Rattle.ciborium.specs.DeterministicWrites.{named_form};
+ghost use Rattle.ciborium_value.specs.declared.key_order.KeyOrder.TheVariants.{LengthFirst};
 ghost use Rattle.ciborium.specs.declared.de.error.Error.TheVariants.{Memory};
 ghost use Rattle.ciborium.specs.laws.FormRoundTrips.{IsOwnForm};
 ghost use Rattle.ciborium.specs.laws.Loaded.{AreCanonicalParts, entry_trees};
@@ -76,7 +77,7 @@ pub fn through_store(
     alloc: Global,
     store: &BTreeMap<CanonicalValue, Value>,
 ) -> Option<BTreeMap<CanonicalValue, Value>>
-    requires parts { AreCanonicalParts store.now.entries }
+    requires parts { AreCanonicalParts LengthFirst store.now.entries }
     ensures { IfSome result
         (λ again. entry_trees again.entries ≡ entry_trees store.now.entries) }
 {

@@ -10,7 +10,7 @@ use Rattle.ciborium_ll.specs.Bytes.{greatest_offset}
 use Rattle.ciborium_ll.specs.Item as items
 use Rattle.ciborium_ll.specs.Item.{Item}
 use Rattle.ciborium_ll.proofs.UniqueSpelling.{one_at_front}
-use Rattle.ciborium_value.specs.Canonical.{canonical_order}
+use Rattle.ciborium_value.specs.Canonical.{key_order}
 use Rattle.ciborium_value.specs.OrderedValues.{ordered_value_cmp}
 use Rattle.ciborium_value.specs.Encoding.{encoding, item_of, pairs_of, written_bytes}
 use Rattle.ciborium_value.specs.Folded.{folded, tree_pairs_folded}
@@ -24,7 +24,6 @@ use Rattle.ciborium_value.specs.Tree as trees
 use Rattle.ciborium_value.specs.Tree.{Tree, TreePairs}
 use Rattle.ciborium_value.specs.View.{tree_of, tree_pairs_of}
 use Rattle.ciborium_value.specs.declared.key_order.KeyOrder.{KeyOrder}
-use Rattle.ciborium_value.specs.declared.key_order.KeyOrder.TheVariants.{LengthFirst}
 use Rattle.ciborium_value.specs.WrittenItems.{IsWritten}
 use Rattle.ciborium_value.specs.declared.tree.Value.{Value}
 use Rattle.ciborium_value.proofs.Writing.ReadBack.{written_spells_item, written_tree_is_proper}
@@ -48,9 +47,9 @@ use Rattle.ciborium_value.proofs.GoodItems.Accepted.{accepted, written-item}
 pub loaded_as_saved : {T C : Type 0} (IsHeld : T → Type 0) (written : T → Named) (reading : Reading T C)
     (levels : T → ℕ) → IsReadBack IsHeld written reading.taken reading.content levels →
     LoadedAsSaved IsHeld written reading
-loaded_as_saved {T} {C} IsHeld written reading levels law v t l rest after r held names canonical nests fits answers =
+loaded_as_saved {T} {C} IsHeld written reading levels law o v t l rest after r held names canonical nests fits answers =
     by r (answers (encoding t ++ rest) (encoding t) rest t refl
-    (accepted LengthFirst (encoding t) 0 (Some l) t (refl, canonical) nests (omega (arith, fits)))
+    (accepted o (encoding t) 0 (Some l) t (refl, canonical) nests (omega (arith, fits)))
     refl)
   where
     by : (r : Result Tree (Error IoError)) → GivesTree t rest after r →
@@ -64,16 +63,16 @@ loaded_as_saved {T} {C} IsHeld written reading levels law v t l rest after r hel
 
 pub loading_gives_content : {T C : Type 0} (IsHeld : T → Type 0) (written : T → Named) (reading : Reading T C) →
     LoadedAsSaved IsHeld written reading → LoadingGivesContent IsHeld written reading
-loading_gives_content IsHeld written reading law v t w l old new bytes after c held names canonical nests fits appends
+loading_gives_content IsHeld written reading law o v t w l old new bytes after c held names canonical nests fits appends
     answers
     give none same =
     let out : new ≡ old ++ encoding t = subst (λ n. WritesNamed {E = WriteError IoError} (Some old) (Some new) (Ok tt)
     n) names appends in
     let whole : bytes ≡ encoding t = same ∙ out ∙ ap (λ (b : List ℕ). b ++ encoding t) none in
     let all : bytes ≡ encoding t ++ [] = whole ∙ sym (append-nil (encoding t)) in
-    let loaded = law v t l [] after (Ok w) held names canonical nests
+    let loaded = law o v t l [] after (Ok w) held names canonical nests
     (subst (λ (b : List ℕ). length b ≤ greatest_offset) whole fits)
-    (subst (λ b. AnswersGoodItem {E = IoError} (deterministic LengthFirst) (Some b) l after (Ok w)) all answers) in
+    (subst (λ b. AnswersGoodItem {E = IoError} (deterministic o) (Some b) l after (Ok w)) all answers) in
     one-content (outcome None (reading.taken (item_of w))) (reading.content v) c loaded.1 give
 
 module _ {T C : Type 0} (IsHeld : T → Type 0) (written : T → Named) (reading : Reading T C) (levels : T → ℕ)
@@ -124,62 +123,62 @@ pub store-named : (es : List (Value × Value)) → container_of dictionary (in_t
 store-named es = let (is, named, same) = store-items es in ap (contained dictionary false) named ∙
     ap (λ ps. Ok (items.map false ps)) same
 
-store-folds : (es : List (Value × Value)) → AreCanonicalParts es →
+store-folds : (o : KeyOrder) (es : List (Value × Value)) → AreCanonicalParts o es →
     tree_pairs_folded (tree_pairs_of es) ≡ Some (tree_pairs_of es)
-store-folds [] h = refl
-store-folds (e ∷ es) h =
-    let here = All-head (λ e. IsCanonicalTree LengthFirst (tree_of e.0) × IsCanonicalTree LengthFirst (tree_of e.1)) e
+store-folds o [] h = refl
+store-folds o (e ∷ es) h =
+    let here = All-head (λ e. IsCanonicalTree o (tree_of e.0) × IsCanonicalTree o (tree_of e.1)) e
     es h in
     ap (λ o. tree_pairs_more o (folded (tree_of e.1)) (tree_pairs_folded (tree_pairs_of es))) here.0.folds
     ∙ ap (λ o. tree_pairs_more (Some (tree_of e.0)) o (tree_pairs_folded (tree_pairs_of es))) here.1.folds
     ∙ ap (tree_pairs_more (Some (tree_of e.0)) (Some (tree_of e.1)))
-    (store-folds es (All-tail (λ e. IsCanonicalTree LengthFirst (tree_of e.0) ×
-    IsCanonicalTree LengthFirst (tree_of e.1)) e es h))
+    (store-folds o es (All-tail (λ e. IsCanonicalTree o (tree_of e.0) ×
+    IsCanonicalTree o (tree_of e.1)) e es h))
 
-parts-rise : (es : List (Value × Value)) → AreCanonicalParts es → PairsHaveRisingKeys LengthFirst (tree_pairs_of es)
-parts-rise [] h = tt
-parts-rise (e ∷ es) h =
-    let here = All-head (λ e. IsCanonicalTree LengthFirst (tree_of e.0) × IsCanonicalTree LengthFirst (tree_of e.1)) e
+parts-rise : (o : KeyOrder) (es : List (Value × Value)) → AreCanonicalParts o es → PairsHaveRisingKeys o (tree_pairs_of es)
+parts-rise o [] h = tt
+parts-rise o (e ∷ es) h =
+    let here = All-head (λ e. IsCanonicalTree o (tree_of e.0) × IsCanonicalTree o (tree_of e.1)) e
     es h in (
       here.0.rises,
       here.1.rises,
-      parts-rise es (All-tail
-          (λ e. IsCanonicalTree LengthFirst (tree_of e.0) × IsCanonicalTree LengthFirst (tree_of e.1)) e es h),
+      parts-rise o es (All-tail
+          (λ e. IsCanonicalTree o (tree_of e.0) × IsCanonicalTree o (tree_of e.1)) e es h),
     )
 
 tree_keys : (es : List (Value × Value)) → map tree_of (keys_of es) ≡ rising.keys_of (tree_pairs_of es)
 tree_keys [] = refl
 tree_keys (e ∷ es) = ap (λ ks. tree_of e.0 ∷ ks) (tree_keys es)
 
-neighbours-rise : (ts : List Tree) → IsStrictlySortedBy canonical_order ts → AreRising LengthFirst ts
+neighbours-rise : (o : KeyOrder) (ts : List Tree) → IsStrictlySortedBy (key_order o) ts → AreRising o ts
 unfolding IsStrictlySortedBy
-neighbours-rise [] h = tt
-neighbours-rise (k ∷ []) h = tt
-neighbours-rise (k ∷ j ∷ ts) h = (h.0.0, neighbours-rise (j ∷ ts) h.1)
+neighbours-rise o [] h = tt
+neighbours-rise o (k ∷ []) h = tt
+neighbours-rise o (k ∷ j ∷ ts) h = (h.0.0, neighbours-rise o (j ∷ ts) h.1)
 
-pub deterministic_store : (es : List (Value × Value)) →
-    IsStrictlySortedBy (ordered_value_cmp LengthFirst) (keys_of es) →
-    IsNamedWritten (container_of dictionary (in_turn named_value named_value es)) → AreCanonicalParts es →
-    IsDeterministicStore es
-deterministic_store es sorted written parts = (
+pub deterministic_store : (o : KeyOrder) (es : List (Value × Value)) →
+    IsStrictlySortedBy (ordered_value_cmp o) (keys_of es) →
+    IsNamedWritten (container_of dictionary (in_turn named_value named_value es)) → AreCanonicalParts o es →
+    IsDeterministicStore o es
+deterministic_store o es sorted written parts = (
   store-named es,
   record {
     proper = written_tree_is_proper (store_tree es) (subst IsNamedWritten (store-named es) written);
-    folds = ap (option_map trees.map) (store-folds es parts);
+    folds = ap (option_map trees.map) (store-folds o es parts);
     rises = (
-      neighbours-rise (rising.keys_of (tree_pairs_of es))
-          (subst (IsStrictlySortedBy canonical_order) (tree_keys es)
-          (keys-rise LengthFirst named_value es sorted written)),
-      parts-rise es parts,
+      neighbours-rise o (rising.keys_of (tree_pairs_of es))
+          (subst (IsStrictlySortedBy (key_order o)) (tree_keys es)
+          (keys-rise o named_value es sorted written)),
+      parts-rise o es parts,
     );
   },
 )
 
-pub store_held : (m : BTreeMap Value Value) → IsOrdered (ordered_value_cmp LengthFirst) m →
-    AreCanonicalParts m.entries → IsStoreHeld m
-store_held m ordered parts = (
+pub store_held : (o : KeyOrder) (m : BTreeMap Value Value) → IsOrdered (ordered_value_cmp o) m →
+    AreCanonicalParts o m.entries → IsStoreHeld o m
+store_held o m ordered parts = (
   ordered,
-  All-weaker (λ e. IsCanonicalTree LengthFirst (tree_of e.0) × IsCanonicalTree LengthFirst (tree_of e.1))
+  All-weaker (λ e. IsCanonicalTree o (tree_of e.0) × IsCanonicalTree o (tree_of e.1))
       (λ e. (folded (tree_of e.0) ≡ Some (tree_of e.0)) × (folded (tree_of e.1) ≡ Some (tree_of e.1)))
       (λ e h. (h.0.folds, h.1.folds)) m.entries parts,
 )

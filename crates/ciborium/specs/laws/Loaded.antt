@@ -20,7 +20,6 @@ use Rattle.ciborium_value.specs.Tree.{Tree}
 use Rattle.ciborium_value.specs.TreeAnswers.{value_item}
 use Rattle.ciborium_value.specs.View.{tree_of, tree_pairs_of}
 use Rattle.ciborium_value.specs.declared.key_order.KeyOrder.{KeyOrder}
-use Rattle.ciborium_value.specs.declared.key_order.KeyOrder.TheVariants.{LengthFirst}
 use Rattle.ciborium_value.specs.declared.tree.Value.{Value}
 use Rattle.ciborium.specs.declared.de.error.Error.{Error}
 use Rattle.ciborium.specs.declared.de.error.Error.TheVariants.{Memory, RecursionLimitExceeded}
@@ -41,28 +40,27 @@ IsLoaded taken c rest after (Ok t) = (after ≡ Some rest) ×
     (outcome None (taken (item_of t)) ≡ gives c)
 IsLoaded taken c rest after (Err e) = IsFailed after e
 
--- a value names the item of a tree that the deterministic reader accepts within l levels: what is
--- read of its bytes, whatever follows them
+-- a value names the item of a tree that the deterministic reader of an order of keys accepts within
+-- l levels: what is read of its bytes, whatever follows them
 abbrev pub LoadedAsSaved : {T C : Type 0} → (T → Type 0) → (T → Named) → Reading T C → Type 0
 LoadedAsSaved {T} IsHeld written reading =
-    (v : T) (t : Tree) (l : ℕ) (rest : List ℕ) (after : Option (List ℕ))
+    (o : KeyOrder) (v : T) (t : Tree) (l : ℕ) (rest : List ℕ) (after : Option (List ℕ))
     (r : Result Tree (Error IoError)) →
-    IsHeld v → written v ≡ Ok (item_of t) → IsCanonicalTree LengthFirst t →
-    nesting (item_of t) ≤ l →
+    IsHeld v → written v ≡ Ok (item_of t) → IsCanonicalTree o t → nesting (item_of t) ≤ l →
     length (encoding t) ≤ greatest_offset →
-    AnswersGoodItem (deterministic LengthFirst) (Some (encoding t ++ rest)) l after r →
+    AnswersGoodItem (deterministic o) (Some (encoding t ++ rest)) l after r →
     IsLoaded reading.taken (reading.content v) rest after r
 
 -- of bytes that were written into nothing, read so, and made into the type again, the content is
 -- that of the value
 abbrev pub LoadingGivesContent : {T C : Type 0} → (T → Type 0) → (T → Named) → Reading T C → Type 0
 LoadingGivesContent {T} {C} IsHeld written reading =
-    (v : T) (t w : Tree) (l : ℕ) (old new bytes : List ℕ) (after : Option (List ℕ)) (c : C) →
-    IsHeld v → written v ≡ Ok (item_of t) → IsCanonicalTree LengthFirst t →
-    nesting (item_of t) ≤ l →
+    (o : KeyOrder) (v : T) (t w : Tree) (l : ℕ) (old new bytes : List ℕ)
+    (after : Option (List ℕ)) (c : C) →
+    IsHeld v → written v ≡ Ok (item_of t) → IsCanonicalTree o t → nesting (item_of t) ≤ l →
     length bytes ≤ greatest_offset →
     WritesNamed {E = WriteError IoError} (Some old) (Some new) (Ok tt) (written v) →
-    AnswersGoodItem {E = IoError} (deterministic LengthFirst) (Some bytes) l after (Ok w) →
+    AnswersGoodItem {E = IoError} (deterministic o) (Some bytes) l after (Ok w) →
     outcome None (reading.taken (item_of w)) ≡ gives c → old ≡ [] → bytes ≡ new → c ≡
     reading.content v
 
@@ -124,16 +122,16 @@ abbrev pub entry_trees : List (Value × Value) → List (Tree × Tree)
 entry_trees es = map (λ e. (tree_of e.0, tree_of e.1)) es
 
 -- each key and each value of a store has an accepted spelling of its own
-abbrev pub AreCanonicalParts : List (Value × Value) → Type 0
-AreCanonicalParts es = All (λ e. IsCanonicalTree LengthFirst (tree_of e.0) ×
-    IsCanonicalTree LengthFirst (tree_of e.1)) es
+abbrev pub AreCanonicalParts : KeyOrder → List (Value × Value) → Type 0
+AreCanonicalParts o es = All (λ e. IsCanonicalTree o (tree_of e.0) × IsCanonicalTree o (tree_of
+    e.1)) es
 
 -- a store names the item of its tree, and that has an accepted spelling
-abbrev pub IsDeterministicStore : List (Value × Value) → Type 0
-IsDeterministicStore es = (container_of dictionary (in_turn named_value named_value es) ≡ Ok
-    (item_of (store_tree es))) × IsCanonicalTree LengthFirst (store_tree es)
+abbrev pub IsDeterministicStore : KeyOrder → List (Value × Value) → Type 0
+IsDeterministicStore o es = (container_of dictionary (in_turn named_value named_value es) ≡ Ok
+    (item_of (store_tree es))) × IsCanonicalTree o (store_tree es)
 
 -- a store is one of which what is written is read back
-abbrev pub IsStoreHeld : BTreeMap Value Value → Type 0
-IsStoreHeld m = IsMapHeld (ordered_value_cmp LengthFirst)
+abbrev pub IsStoreHeld : KeyOrder → BTreeMap Value Value → Type 0
+IsStoreHeld o m = IsMapHeld (ordered_value_cmp o)
     (λ v. folded (tree_of v) ≡ Some (tree_of v)) (λ v. folded (tree_of v) ≡ Some (tree_of v)) m
