@@ -7,6 +7,7 @@ use crate::fronts::{Call, Reading, read_alike};
 use crate::head_lines::answer_head_line;
 use crate::lines::read_line;
 use crate::literals::write_literal;
+use crate::loads::Loading;
 use crate::notations::{Lines, answer_notation};
 use crate::offsets::read_at_offset;
 use crate::orders::{answer_sort, answer_visits};
@@ -102,6 +103,8 @@ fn answer_reading(alloc: Global, word: &str, rest: &str) -> Result<Option<String
     match word {
         "at" => read_at_offset(alloc, rest),
         "again" => read_again(alloc, rest),
+        "loaded" => load(alloc, rest, KeyOrder::LengthFirst),
+        "loaded-core" => load(alloc, rest, KeyOrder::Bytewise),
         "asked" => count_reading(alloc, rest),
         "faults" => fail_reading(alloc, rest),
         "det" => read_strictly(alloc, rest),
@@ -147,6 +150,19 @@ fn read_again(alloc: Global, rest: &str) -> Result<Option<String>, AllocError> {
         return Ok(Some(String::from_str(alloc, "again")?));
     }
     Ok(Some(text))
+}
+
+// `loaded TYPE LIMIT HEX`, and `loaded-core` by the other order of keys: what the bytes load.
+fn load(alloc: Global, rest: &str, order: KeyOrder) -> Result<Option<String>, AllocError> {
+    let Some((name, limit, bytes)) = parse_typed(alloc, rest)? else {
+        return Ok(None);
+    };
+    let loading = Loading {
+        order,
+        limit,
+        bytes: &bytes,
+    };
+    ask_type(alloc, name, &loading)
 }
 
 // `asked TYPE LIMIT HEX`: what the bytes give, and how often their reader is asked.

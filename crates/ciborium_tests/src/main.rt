@@ -19,6 +19,7 @@ mod heads;
 mod integers;
 mod lines;
 mod literals;
+mod loads;
 mod notations;
 mod offsets;
 mod orders;
