@@ -6,7 +6,7 @@ use ciborium::value::canonical::cmp_value;
 use ciborium::value::{CanonicalValue, Integer, KeyOrder, OutOfRange};
 use ciborium::{
     Value, cbor, from_reader, from_reader_deterministic, from_reader_with_recursion_limit,
-    from_slice, into_writer, into_writer_deterministic, to_vec,
+    from_slice, from_slice_deterministic, into_writer, into_writer_deterministic, to_vec,
 };
 use ciborium_callers::readme::{read_file, sum_file};
 use std::cmp::Ordering;
@@ -18,12 +18,14 @@ fn reading(rt: HostRuntime) -> Result<(), Fail> {
     let alloc = rt.alloc();
     let stored: &[u8] = &[0x82, 0x01, 0x61, 0x61];
     let whole: (u8, String) = from_slice(alloc, stored)?; // (1, "a"): all of the bytes
+    // and they are its one encoding
+    let same: (u8, String) = from_slice_deterministic(alloc, stored, KeyOrder::LengthFirst, 9)?;
     let mut reader: &[u8] = &[0x82, 0x01, 0x61, 0x61, 0x00];
     let value: Value = from_reader(alloc, &mut reader)?; // Array([1, "a"]); 00 is left
     let pair: (u8, String) = value.deserialized(alloc)?; // (1, "a"), as from bytes
     let last: u8 = from_reader_with_recursion_limit(alloc, &mut reader, 9)?; // within 9 levels
 
-    expect(whole == pair, "a pair")?;
+    expect(whole == pair && same == pair, "a pair")?;
     expect(pair.0 == 1 && pair.1.as_str() == "a" && last == 0, "parts")?;
     let again = Value::serialized(alloc, &(1u8, "a"))?; // Array([1, "a"])
     expect_same(value, again, "an array")

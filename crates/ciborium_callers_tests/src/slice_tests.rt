@@ -3,15 +3,20 @@ use crate::expectations::{
     expect, expect_bytes, expect_same, expect_text, expect_written, is_refused, is_there,
 };
 use ciborium::de::{self, Deserialize};
+use ciborium::laws::{one_encoding, saved_is_loaded, store_is_deterministic};
 use ciborium::tag::Required;
-use ciborium::value::{Kind, Value};
-use ciborium::{cbor, from_slice, from_slice_with_recursion_limit, to_vec};
+use ciborium::value::{BytewiseValue, KeyOrder, Kind, Value};
+use ciborium::{
+    cbor, from_slice, from_slice_deterministic, from_slice_with_recursion_limit,
+    into_writer_deterministic, to_vec,
+};
 use ciborium_callers::own_types::{Figure, Message};
 use ciborium_callers::round_trips::through_vec;
 use ciborium_callers::slice_callers::{
     both_values, is_item, load_message, load_pair, load_value, split_value,
 };
 use std::alloc::Global;
+use std::collections::BTreeMap;
 use std::io::{self, ErrorKind};
 use std::test::Fail;
 
@@ -141,4 +146,35 @@ fn what_is_kept_in_a_vector_comes_back(rt: HostRuntime) -> Result<(), Fail> {
         Figure::Circle(255),
         "a circle",
     )
+}
+
+#[test]
+fn what_was_saved_is_loaded(rt: HostRuntime) -> Result<(), Fail> {
+    let alloc = rt.alloc();
+    let pair = (500u16, true);
+    let mut saved = Vec::new(alloc);
+    into_writer_deterministic(alloc, &pair, KeyOrder::Bytewise, &mut saved)?;
+    let again = from_slice_deterministic::<(u16, bool)>(alloc, &saved, KeyOrder::Bytewise, 1)?;
+    one_encoding::<(u16, bool)>();
+    saved_is_loaded::<(u16, bool)>();
+    expect_same(again, pair, "the pair")
+}
+
+#[test]
+fn another_encoding_is_not_loaded(rt: HostRuntime) -> Result<(), Fail> {
+    let alloc = rt.alloc();
+    // 500 and true, and a third item that the tuple does not need.
+    let longer: &[u8] = &[0x83, 0x19, 0x01, 0xf4, 0xf5, 0x00];
+    match from_slice_deterministic::<(u16, bool)>(alloc, longer, KeyOrder::LengthFirst, 9) {
+        Err(de::Error::Semantic(Some(0), Kind::NotDeterministic)) => Ok(()),
+        _ => Err(Fail::new("another encoding")),
+    }
+}
+
+#[test]
+fn a_bytewise_store_is_deterministic(rt: HostRuntime) -> Result<(), Fail> {
+    let mut store = BTreeMap::new(rt.alloc());
+    store.insert(BytewiseValue::from(Value::from(10u8)), Value::Null)?;
+    store.insert(BytewiseValue::from(Value::from(-1i8)), Value::Null)?;
+    expect(store_is_deterministic(&store) == 2, "two entries")
 }
