@@ -16,3 +16,5 @@ pub mod FormsReadBackNumbers
 pub mod FormsReadBackParts
 pub mod FormsReadBackMaps
 pub mod FormsReadBackOptions
+pub mod FormedPairs
+pub mod FormsReadBackStructs

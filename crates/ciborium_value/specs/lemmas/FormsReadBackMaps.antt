@@ -12,11 +12,12 @@ use Rattle.std.specs.Prelude.{◌≡◌, false, List, [], ◌∷◌, None, Resul
 use Rattle.std.specs.declared.cmp.Ordering.{Ordering}
 use Rattle.std.specs.declared.cmp.Ordering.TheVariants.{Less, Equal, Greater}
 use Rattle.ciborium_ll.specs.Item.{Item}
-use Rattle.ciborium_value.specs.Canonical.{key_order}
-use Rattle.ciborium_value.specs.DeterministicForms.{deterministic_form, inserted, pair_forms}
-use Rattle.ciborium_value.specs.DeterministicForms.{placed_pair, sorted_pairs}
+use Rattle.ciborium_value.specs.DeterministicForms.{deterministic_form, pair_forms, sorted_pairs}
 use Rattle.ciborium_value.specs.Encoding.{item_of, pairs_of, written_pairs, written_tree}
 use Rattle.ciborium_value.specs.FormsReadBack.{IsFormRead, IsReadFromForm}
+use Rattle.ciborium_value.specs.lemmas.FormedPairs.{AreRead, AreReordered, all-reordered}
+use Rattle.ciborium_value.specs.lemmas.FormedPairs.{as_they_are, first_stays, neighbours, then_again}
+use Rattle.ciborium_value.specs.lemmas.FormedPairs.{sorted-read}
 use Rattle.ciborium_value.specs.lemmas.GivenOutcomes.{and_take, mapped_gives, one_given}
 use Rattle.ciborium_value.specs.lemmas.GivenOutcomes.{pair_gives, then_gives}
 use Rattle.ciborium_value.specs.Places.{dictionary, pairs_from}
@@ -31,21 +32,6 @@ use Rattle.ciborium_value.specs.Tree as trees
 use Rattle.ciborium_value.specs.Tree.{Tree, TreePairs, no_tree_pairs, tree_pair}
 use Rattle.ciborium_value.specs.declared.key_order.KeyOrder.{KeyOrder}
 use Rattle.ciborium_value.specs.declared.kind.Kind.{Kind}
-
--- ---- the same entries in another order
-
-data AreReordered {X : Type 0} : List X → List X → Type 0 where
-  as_they_are : {xs : List X} → AreReordered xs xs
-  behind : {x : X} {xs ys : List X} → AreReordered xs ys → AreReordered (x ∷ xs) (x ∷ ys)
-  neighbours : {x y : X} {xs : List X} → AreReordered (x ∷ y ∷ xs) (y ∷ x ∷ xs)
-  then_again : {xs ys zs : List X} → AreReordered xs ys → AreReordered ys zs → AreReordered xs zs
-
-all-reordered : {X : Type 0} (P : X → Type 0) {xs ys : List X} → AreReordered xs ys →
-    AllByRecursion P xs → AllByRecursion P ys
-all-reordered P as_they_are h = h
-all-reordered P (behind r) h = (h.0, all-reordered P r h.1)
-all-reordered P neighbours h = (h.1.0, (h.0, h.1.1))
-all-reordered P (then_again r s) h = all-reordered P s (all-reordered P r h)
 
 -- ---- entries whose keys are apart are put in alike, whatever their order
 
@@ -168,14 +154,14 @@ module _ {K V : Type 0} (cmp : K → K → Ordering) (total : IsTotalOrder cmp) 
 
   apart-reordered : {ds es : List (K × V)} → AreReordered ds es → AreKeysApart ds → AreKeysApart es
   apart-reordered as_they_are h = h
-  apart-reordered (behind {x} r) h = (all-reordered (IsApart x) r h.0, apart-reordered r h.1)
+  apart-reordered (first_stays {x} r) h = (all-reordered (IsApart x) r h.0, apart-reordered r h.1)
   apart-reordered (neighbours {x} {y}) h = ((apart-turned x y h.0.0, h.1.0), (h.0.1, h.1.1))
   apart-reordered (then_again r s) h = apart-reordered s (apart-reordered r h)
 
   put-reordered : {ds es : List (K × V)} → AreReordered ds es → AreKeysApart ds →
       (xs : List (K × V)) → put_all cmp xs ds ≡ put_all cmp xs es
   put-reordered as_they_are h xs = refl
-  put-reordered (behind {x} r) h xs = put-reordered r h.1 (put_entry xs x)
+  put-reordered (first_stays {x} r) h xs = put-reordered r h.1 (put_entry xs x)
   put-reordered (neighbours {x} {y} {xs = zs}) h xs =
       ap (λ ys. put_all cmp ys zs) (commutes y x xs (apart-turned x y h.0.0))
   put-reordered (then_again r s) h xs = put-reordered r h xs ∙
@@ -235,18 +221,13 @@ module _ {K V : Type 0} (cmp : K → K → Ordering) (total : IsTotalOrder cmp) 
 
 -- ---- the pairs of a form
 
--- a test of a pair's items: they are read as what counts of an entry
 module _ {K V A B : Type 0} (key : K → A) (value : V → B) (take : Item × Item → Steps (A × B))
   where
-    -- of each pair, and as many
-    abbrev AreRead : TreePairs → List (K × V) → Type 0
-    AreRead no_tree_pairs [] = Unit {0}
-    AreRead no_tree_pairs (e ∷ es) = ⊥
-    AreRead (tree_pair k v ps) [] = ⊥
-    AreRead (tree_pair k v ps) (e ∷ es) = (outcome None (take (item_of k, item_of v)) ≡ gives
-        (key e.0, value e.1)) × AreRead ps es
+    -- a pair's items are read as what counts of an entry
+    abbrev IsEntryRead : Tree → Tree → K × V → Type 0
+    IsEntryRead k v e = outcome None (take (item_of k, item_of v)) ≡ gives (key e.0, value e.1)
 
-    each-read : (ps : TreePairs) (es : List (K × V)) → AreRead ps es →
+    each-read : (ps : TreePairs) (es : List (K × V)) → AreRead IsEntryRead ps es →
         outcome None (take_each take (unpack_pairs (pairs_of ps))) ≡ gives
         (contents key value es)
     each-read no_tree_pairs [] h = refl
@@ -255,54 +236,6 @@ module _ {K V A B : Type 0} (key : K → A) (value : V → B) (take : Item × It
     each-read (tree_pair k v ps) (e ∷ es) h =
         ap (λ o. and_take o (outcome None (take_each take (unpack_pairs (pairs_of ps))))) h.0 ∙
         ap (and_take (gives (key e.0, value e.1))) (each-read ps es h.1)
-
-    -- these pairs are read as those entries, in some order
-    abbrev AreReadInSomeOrder : TreePairs → List (K × V) → Type 0
-    AreReadInSomeOrder ps es = (fs : List (K × V)) × AreReordered es fs × AreRead ps fs
-
-    inserted-read : (o : KeyOrder) (k v : Tree) (e : K × V) (ps qs : TreePairs) (es : List (K × V))
-        →
-        outcome None (take (item_of k, item_of v)) ≡ gives (key e.0, value e.1) → AreRead ps es →
-        inserted o k v ps ≡ gives qs → AreReadInSomeOrder qs (e ∷ es)
-    inserted-read o k v e no_tree_pairs qs [] here h put_entry = (
-      e ∷ [],
-      as_they_are,
-      subst (λ rs. AreRead rs (e ∷ []))
-          (one_given (tree_pair k v no_tree_pairs) qs put_entry) (here, tt),
-    )
-    inserted-read o k v e no_tree_pairs qs (d ∷ es) here h put_entry = absurd h
-    inserted-read o k v e (tree_pair l w ps) qs [] here h put_entry = absurd h
-    inserted-read o k v e (tree_pair l w ps) qs (d ∷ es) here h put_entry =
-        by (λ rs is. inserted-read o k v e ps rs es here h.1 is) (key_order o k l) put_entry
-      where
-        by : ((rs : TreePairs) → inserted o k v ps ≡ gives rs → AreReadInSomeOrder rs (e ∷ es)) →
-            (a : Ordering) → placed_pair a k v l w ps (inserted o k v ps) ≡ gives qs →
-            AreReadInSomeOrder qs (e ∷ d ∷ es)
-        by more Less is = (
-          e ∷ d ∷ es,
-          as_they_are,
-          subst (λ rs. AreRead rs (e ∷ d ∷ es)) (one_given (tree_pair k v (tree_pair l w ps)) qs is)
-              (here, h),
-        )
-        by more Equal is = absurd cc
-        by more Greater is =
-            let (rs, there, same) = mapped_gives (tree_pair l w) (inserted o k v ps) qs is in
-            let (fs, r, each) = more rs there in (
-              d ∷ fs,
-              then_again neighbours (behind r),
-              subst (λ us. AreRead us (d ∷ fs)) same (h.0, each),
-            )
-
-    sorted-read : (o : KeyOrder) (ps qs : TreePairs) (es : List (K × V)) → AreRead ps es →
-        sorted_pairs o ps ≡ gives qs → AreReadInSomeOrder qs es
-    sorted-read o no_tree_pairs qs es h sorted =
-        (es, as_they_are, subst (λ rs. AreRead rs es) (one_given no_tree_pairs qs sorted) h)
-    sorted-read o (tree_pair k v ps) qs [] h sorted = absurd h
-    sorted-read o (tree_pair k v ps) qs (e ∷ es) h sorted =
-        let (rs, is, put_entry) = then_gives (sorted_pairs o ps) (inserted o k v) qs sorted in
-        let (fs, r, each) = sorted-read o ps rs es h.1 is in
-        let (gs, s, all) = inserted-read o k v e rs qs fs h.0 each put_entry in
-        (gs, then_again (behind r) s, all)
 
 -- ---- maps
 
@@ -315,7 +248,7 @@ module _ (o : KeyOrder) where
 
     abbrev AreEntriesRead : Result (List Item) Kind → List (K × V) → Type 0
     AreEntriesRead s es = IfOk s (λ is. (ps : TreePairs) →
-        pair_forms o (written_pairs (pairs_from is)) ≡ gives ps → AreRead key value take ps es)
+        pair_forms o (written_pairs (pairs_from is)) ≡ gives ps → AreRead (IsEntryRead key value take) ps es)
 
     entry-read : (i j : Item) (e : K × V) → outcome None (f i) ≡ gives (key e.0) →
         outcome None (g j) ≡ gives (value e.1) → outcome None (take (i, j)) ≡ gives
@@ -332,7 +265,7 @@ module _ (o : KeyOrder) where
         pair_gives (deterministic_form o (written_tree i))
         (deterministic_form o (written_tree j)) (pair_forms o (written_pairs (pairs_from is)))
         ps forms in
-        subst (λ us. AreRead key value take us (e ∷ es)) same (
+        subst (λ us. AreRead (IsEntryRead key value take) us (e ∷ es)) same (
           entry-read (item_of k) (item_of v) e (h.back i refl k one) (m.back j refl v other),
           rest qs more,
         )
@@ -351,7 +284,7 @@ module _ (o : KeyOrder) where
         (then_take (pair_forms o (written_pairs (pairs_from is))) (sorted_pairs o)) t form in
         let (ps, forms, sorted) = then_gives (pair_forms o (written_pairs (pairs_from is)))
         (sorted_pairs o) qs there in
-        let (fs, r, all) = sorted-read key value take o ps qs es (each ps forms) sorted in
+        let (fs, r, all) = sorted-read (IsEntryRead key value take) o ps qs es (each ps forms) sorted in
         subst (λ u. outcome None (taken_map order f g (item_of u)) ≡
         gives (contents key value es)) same
         (ap (outcome_map (put_all order [])) (each-read key value take qs fs all) ∙
@@ -367,7 +300,7 @@ module _ (o : KeyOrder) where
           AreEntriesRead key value key_taken value_taken
           (all_named (in_turn key_written value_written es)) es
       entries-form [] held = λ ps forms. subst
-          (λ us. AreRead key value (take key value key_taken value_taken) us [])
+          (λ us. AreRead (IsEntryRead key value (take key value key_taken value_taken)) us [])
           (one_given no_tree_pairs ps forms) tt
       entries-form (e ∷ es) held =
           let first = All-head (λ e. IsKeyHeld e.0 × IsValueHeld e.1) e es held in

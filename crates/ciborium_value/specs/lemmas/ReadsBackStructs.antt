@@ -31,11 +31,11 @@ abbrev pub are_apart : {A : Type 0} → List (List ℕ × A) → Bool
 are_apart [] = true
 are_apart (f ∷ fs) = if is_named f.0 fs then false else are_apart fs
 
-neither : (s t : Bool) → (if s then true else t) ≡ false → (s ≡ false) × (t ≡ false)
+pub neither : (s t : Bool) → (if s then true else t) ≡ false → (s ≡ false) × (t ≡ false)
 neither true t h = cc
 neither false t h = (refl, h)
 
-first-apart : (s t : Bool) → (if s then false else t) ≡ true → (s ≡ false) × (t ≡ true)
+pub first-apart : (s t : Bool) → (if s then false else t) ≡ true → (s ≡ false) × (t ≡ true)
 first-apart true t h = cc
 first-apart false t h = (refl, h)
 
@@ -103,7 +103,7 @@ pub record FieldsReadBack {C D : Type 0} (fields : Fields C D) (fs : List (List 
 pub no_field_back : FieldsReadBack no_field [] tt 0
 no_field_back = record { back = λ apart way l fits. refl }
 
-same-name : (name : List ℕ) → bytes_eq name name ≡ true
+pub same-name : (name : List ℕ) → bytes_eq name name ≡ true
 same-name name = (bytes_eq-Decides name name).1 refl
 
 -- the fields behind are read as these
