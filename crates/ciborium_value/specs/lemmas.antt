@@ -18,3 +18,4 @@ pub mod FormsReadBackMaps
 pub mod FormsReadBackOptions
 pub mod FormedPairs
 pub mod FormsReadBackStructs
+pub mod FormsReadBackVariants
