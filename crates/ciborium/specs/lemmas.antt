@@ -18,3 +18,5 @@ pub use Rattle.ciborium_value.specs.lemmas.FormsReadBackNumbers
 pub use Rattle.ciborium_value.specs.lemmas.FormsReadBackParts
 pub use Rattle.ciborium_value.specs.lemmas.FormsReadBackMaps
 pub use Rattle.ciborium_value.specs.lemmas.FormsReadBackOptions
+pub use Rattle.ciborium_value.specs.lemmas.FormsReadBackStructs
+pub use Rattle.ciborium_value.specs.lemmas.FormsReadBackVariants

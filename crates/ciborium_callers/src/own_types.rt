@@ -5,6 +5,10 @@ ghost use Rattle.std.specs.Prelude.{◌<◌, ◌≡◌, ◌^◌, List, nat_le, r
 ghost use Rattle.ciborium.specs.Places.{dictionary, sequence};
 ghost use Rattle.ciborium.specs.Readings.{below, such_that, tuple2_of};
 ghost use Rattle.ciborium.specs.ReadsBack.{string_back};
+ghost use Rattle.ciborium.specs.FormsReadBack.{string-form};
+ghost use Rattle.ciborium.specs.lemmas.FormsReadBackNumbers.{u8_form};
+ghost use Rattle.ciborium.specs.lemmas.FormsReadBackStructs.{field_form, fields_form};
+ghost use Rattle.ciborium.specs.lemmas.FormsReadBackStructs.{no_field_form};
 ghost use Rattle.ciborium.specs.lemmas.ReadsBackNumbers.{u64_back, u8_back};
 ghost use Rattle.ciborium.specs.lemmas.ReadsBackParts.{such_that_back, tuple2-back};
 ghost use Rattle.ciborium.specs.lemmas.ReadsBackStructs.{field_back, fields_read_back};
@@ -23,7 +27,7 @@ ghost use Rattle.ciborium_callers.specs.declared.own_types.Figure.{Figure};
 ghost use Rattle.ciborium_callers.specs.declared.own_types.Figure.TheVariants.{Circle, Point};
 
 use ciborium::de::{Deserialize, Source, Wanted, read_fields, required};
-use ciborium::laws::{ReadsBack, WritesContent};
+use ciborium::laws::{FormReadsBack, ReadsBack, WritesContent};
 use ciborium::ser::{Field, NoField, Serialize, Sink};
 use ciborium::tag::Required;
 use ciborium::value::Kind;
@@ -76,6 +80,14 @@ impl ReadsBack for Message {
         (u8_back m.version held)
         (field_back (codes "body") ⟦<String as Deserialize>⟧.reading
         (string_back m.body tt) no_field_back)) refl };
+}
+
+impl FormReadsBack for Message {
+    ghost form_reads_back = { λ order m held. fields_form order
+        (field_form order (codes "version") ⟦<u8 as Deserialize>⟧.reading
+        (u8_form order m.version held)
+        (field_form order (codes "body") ⟦<String as Deserialize>⟧.reading
+        (string-form order m.body tt) (no_field_form order))) refl };
 }
 
 impl WritesContent for Message {

@@ -6,6 +6,12 @@ ghost use Rattle.ciborium.specs.Encoding.{boolean_item};
 ghost use Rattle.ciborium.specs.NeverWritten.{never-text, nulls};
 ghost use Rattle.ciborium.specs.Readings as readings;
 ghost use Rattle.ciborium.specs.ReadsBack.{boolean-back, string_back};
+ghost use Rattle.ciborium.specs.FormsReadBack.{boolean-form, string-form};
+ghost use Rattle.ciborium.specs.lemmas.FormsReadBackNumbers.{u8_form};
+ghost use Rattle.ciborium.specs.lemmas.FormsReadBackOptions.{option-form};
+ghost use Rattle.ciborium.specs.lemmas.FormsReadBackStructs.{either_form, field_form};
+ghost use Rattle.ciborium.specs.lemmas.FormsReadBackStructs.{field_from_form, fields_form};
+ghost use Rattle.ciborium.specs.lemmas.FormsReadBackStructs.{left_out_form, no_field_form};
 ghost use Rattle.ciborium.specs.lemmas.ReadsBackNumbers.{u8_back};
 ghost use Rattle.ciborium.specs.lemmas.ReadsBackOptions.{always, optional-back};
 ghost use Rattle.ciborium.specs.lemmas.ReadsBackParts.{either_back};
@@ -19,7 +25,7 @@ ghost use Rattle.ciborium.specs.WrittenContents.{field_alike, fields_alike, no_f
 ghost use Rattle.ciborium.specs.WrittenContents.{option-alike, string-alike, unsigned-alike};
 
 use ciborium::de::{Deserialize, Source, Wanted, read_fields, required};
-use ciborium::laws::{ReadsBack, WritesContent};
+use ciborium::laws::{FormReadsBack, ReadsBack, WritesContent};
 use ciborium::ser::{Field, NoField, Serialize, Sink};
 use std::alloc::Global;
 
@@ -107,6 +113,14 @@ impl ReadsBack for Ends {
         no_field_back)) refl };
 }
 
+impl FormReadsBack for Ends {
+    ghost form_reads_back = { λ order e held. fields_form order
+        (field_form order (codes "first") ⟦<u8 as Deserialize>⟧.reading
+        (u8_form order e.first held.0)
+        (field_form order (codes "second") ⟦<u8 as Deserialize>⟧.reading
+        (u8_form order e.second held.1) (no_field_form order))) refl };
+}
+
 /// A struct with fields that may be missing: the number is then 200, and there is no text.
 #[derive(Debug, Drop, PartialEq)]
 pub struct Reply {
@@ -165,6 +179,19 @@ impl ReadsBack for Reply {
         (optional-back string_back (λ s. never-text nulls (string_bytes s))
         r.text (always r.text))
         no_field_back))) refl };
+}
+
+impl FormReadsBack for Reply {
+    ghost form_reads_back = { λ order r held. fields_form order
+        (field_form order (codes "title") ⟦<String as Deserialize>⟧.reading
+        (string-form order r.title tt)
+        (field_from_form order (codes "number") ⟦<u8 as Deserialize>⟧.reading (Some 200)
+        (u8_form order r.number held)
+        (field_from_form order (codes "text")
+        (readings.option_of ⟦<String as Deserialize>⟧.reading) (Some None)
+        (option-form order (string-form order) (λ s. never-text nulls (string_bytes s))
+        r.text (always r.text))
+        (no_field_form order)))) refl };
 }
 
 impl WritesContent for Reply {
@@ -232,4 +259,19 @@ impl ReadsBack for Notice {
         (field_back (codes "title") ⟦<String as Deserialize>⟧.reading (string_back n.title tt)
         (left_out_back (codes "urgent") ⟦<bool as Deserialize>⟧.reading false refl
         no_field_back)) refl) };
+}
+
+impl FormReadsBack for Notice {
+    ghost form_reads_back = { λ order n held. either_form order
+        (λ urgent. (string_bytes n.title, (urgent, tt))) n.urgent
+        (fields_form order
+        (field_form order (codes "title") ⟦<String as Deserialize>⟧.reading
+        (string-form order n.title tt)
+        (field_from_form order (codes "urgent") ⟦<bool as Deserialize>⟧.reading (Some false)
+        (boolean-form order true tt) (no_field_form order))) refl)
+        (fields_form order
+        (field_form order (codes "title") ⟦<String as Deserialize>⟧.reading
+        (string-form order n.title tt)
+        (left_out_form order (codes "urgent") ⟦<bool as Deserialize>⟧.reading false refl
+        (no_field_form order))) refl) };
 }

@@ -3,6 +3,12 @@ ghost use Rattle.std.specs.Prelude.{◌∷◌, ◌<◌, ◌^◌, List, None, Ok,
 ghost use Rattle.std.specs.Prelude.{refl, string_bytes, ℕ};
 ghost use Rattle.ciborium.specs.Places.{sequence};
 ghost use Rattle.ciborium.specs.Readings.{below, ordered_by, tuple2_of};
+ghost use Rattle.ciborium.specs.lemmas.FormsReadBackNumbers.{u8_form};
+ghost use Rattle.ciborium.specs.lemmas.FormsReadBackParts.{tuple2-form};
+ghost use Rattle.ciborium.specs.lemmas.FormsReadBackStructs.{field_form, fields_form};
+ghost use Rattle.ciborium.specs.lemmas.FormsReadBackStructs.{no_field_form};
+ghost use Rattle.ciborium.specs.lemmas.FormsReadBackVariants.{data_variant_form};
+ghost use Rattle.ciborium.specs.lemmas.FormsReadBackVariants.{unit_variant_form};
 ghost use Rattle.ciborium.specs.lemmas.ReadsBackNumbers.{u8_back};
 ghost use Rattle.ciborium.specs.lemmas.ReadsBackParts.{tuple2-back};
 ghost use Rattle.ciborium.specs.lemmas.ReadsBackStructs.{field_back, fields_read_back};
@@ -20,7 +26,7 @@ ghost use Rattle.ciborium_callers.specs.declared.variant_types.Remark.TheVariant
 
 use crate::struct_types::Ends;
 use ciborium::de::{Deserialize, Key, Source};
-use ciborium::laws::{ReadsBack, WritesContent};
+use ciborium::laws::{FormReadsBack, ReadsBack, WritesContent};
 use ciborium::ser::{Field, NoField, Serialize, Sink};
 use ciborium::value::Kind;
 use std::alloc::Global;
@@ -81,6 +87,15 @@ impl ReadsBack for Letter {
           | A ↦ λ held. unit_variant_back variants (codes "A") (λ l. refl)
           | B n ↦ λ held. data_variant_back variants (codes "B") B (below 256)
               (λ l i. refl) (u8_back n held)
+        ] };
+}
+
+impl FormReadsBack for Letter {
+    ghost form_reads_back = { λ order. let variants = unit_variant (codes "A") A
+        ∷ data_variant (codes "B") B (below 256) ∷ [] in elim [
+          | A ↦ λ held. unit_variant_form order variants (codes "A") refl
+          | B n ↦ λ held. data_variant_form order variants (codes "B") B (below 256)
+              (λ i. refl) (u8_form order n held)
         ] };
 }
 
@@ -244,5 +259,27 @@ impl ReadsBack for Form {
               (field_back (codes "first") ⟦<u8 as Deserialize>⟧.reading (u8_back a held.0)
               (field_back (codes "second") ⟦<u8 as Deserialize>⟧.reading (u8_back b held.1)
               no_field_back)) refl)
+        ] };
+}
+
+impl FormReadsBack for Form {
+    ghost form_reads_back = { λ order. let variants = unit_variant (codes "Unit") form.Unit
+        ∷ data_variant (codes "Newtype") form.Newtype (below 256)
+        ∷ data_variant (codes "Tuple") (λ p. form.Tuple p.0 p.1) (tuple2_of (below 256) (below 256))
+        ∷ data_variant (codes "Struct") (λ p. form.Struct p.0 p.1.0)
+        ⟦<Ends as Deserialize>⟧.reading ∷ [] in elim [
+          | form.Unit ↦ λ held. unit_variant_form order variants (codes "Unit") refl
+          | form.Newtype n ↦ λ held. data_variant_form order variants (codes "Newtype")
+              form.Newtype (below 256) (λ i. refl) (u8_form order n held)
+          | form.Tuple a b ↦ λ held. data_variant_form order variants (codes "Tuple")
+              (λ p. form.Tuple p.0 p.1) (tuple2_of (below 256) (below 256)) (λ i. refl)
+              (tuple2-form order (u8_form order a held.0) (u8_form order b held.1))
+          | form.Struct a b ↦ λ held. data_variant_form order variants (codes "Struct")
+              (λ p. form.Struct p.0 p.1.0) ⟦<Ends as Deserialize>⟧.reading (λ i. refl)
+              (fields_form order
+              (field_form order (codes "first") ⟦<u8 as Deserialize>⟧.reading
+              (u8_form order a held.0)
+              (field_form order (codes "second") ⟦<u8 as Deserialize>⟧.reading
+              (u8_form order b held.1) (no_field_form order))) refl)
         ] };
 }

@@ -264,3 +264,10 @@ module _ (o : KeyOrder) where
         outcome None (taken_all fields (item_of t)) ≡ gives d)
         (inside fields (parts_of fs) d law.acts law.free (law.read apart) law.complete);
   }
+
+  -- where a test decides what is written, a field that is left out or not
+  pub either_form : {C : Type 0} (content : Bool → C) (t : Bool) {r s : Named} {taken : Taken C} →
+      IsFormRead o r taken (content true) → IsFormRead o s taken (content false) →
+      IsFormRead o (if t then r else s) taken (content t)
+  either_form content true h k = h
+  either_form content false h k = k
